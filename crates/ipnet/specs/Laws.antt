@@ -1,0 +1,55 @@
+-- The laws of blocks, as statements.
+use Rattle.std.specs.Prelude.{◌≡◌, ◌<◌, ◌≤◌, ◌⊎◌, ◌↔◌, Bool, IsTrue, List, length, zero}
+use Rattle.ipnet_addr.specs.Addresses.{Address}
+use Rattle.ipnet.specs.Blocks.{Block, IsBlock, HasAddress, IsInside, IsBefore, IsAscending, is_inside, bit_string, Begins, IsEarlier, parent}
+use Rattle.ipnet.specs.Maximal.{IsWithin, IsMaximalBlock, IsMaximal, IsUnion, maximal_of}
+
+-- two blocks with a common address are nested
+abbrev pub AreNested : Type 0
+AreNested = (a b : Block) (x : Address) → IsBlock a → IsBlock b → HasAddress a x → HasAddress b x → IsInside a b ⊎ IsInside b a
+
+-- inclusion, by numbers
+abbrev pub InsideByNumbers : Type 0
+InsideByNumbers = (a b : Block) → IsBlock a → IsBlock b → IsInside a b ↔ IsTrue (is_inside a b)
+
+-- the bit string of b begins that of a exactly where a is inside b, within a family
+abbrev pub BeginsIsInside : Type 0
+BeginsIsInside = (a b : Block) → IsBlock a → IsBlock b → a.family ≡ b.family → Begins (bit_string b) (bit_string a) ↔ IsInside a b
+
+-- the order is total and strict
+abbrev pub OrderIsTotal : Type 0
+OrderIsTotal = (a b : Block) → IsBefore a b ⊎ (a ≡ b) ⊎ IsBefore b a
+
+abbrev pub OrderIsStrict : Type 0
+OrderIsStrict = (a b : Block) → IsBefore a b → IsBefore b a → ⊥
+
+abbrev pub OrderIsTransitive : Type 0
+OrderIsTransitive = (a b c : Block) → IsBefore a b → IsBefore b c → IsBefore a c
+
+-- a set has at most one list of its maximal blocks
+abbrev pub MaximalIsUnique : Type 0
+MaximalIsUnique = (s : Address → Bool) (bs cs : List Block) → IsMaximal (λ x. IsTrue (s x)) bs → IsMaximal (λ x. IsTrue (s x)) cs → bs ≡ cs
+
+-- no list of blocks with the same union is shorter
+abbrev pub MaximalIsShortest : Type 0
+MaximalIsShortest = (s : Address → Bool) (bs cs : List Block) → IsMaximal (λ x. IsTrue (s x)) bs → IsUnion (λ x. IsTrue (s x)) cs → length bs ≤ length cs
+
+-- an ascending list with the same union and no more blocks is the same list
+abbrev pub ShortestIsMaximal : Type 0
+ShortestIsMaximal = (s : Address → Bool) (bs cs : List Block) → IsMaximal (λ x. IsTrue (s x)) bs → IsUnion (λ x. IsTrue (s x)) cs → IsAscending cs → length cs ≤ length bs → bs ≡ cs
+
+-- it is enough to look at the block one bit shorter
+abbrev pub ParentIsEnough : Type 0
+ParentIsEnough = (s : Address → Bool) (b : Block) → IsWithin (λ x. IsTrue (s x)) b → zero < b.len → (IsWithin (λ x. IsTrue (s x)) (parent b) → ⊥) ↔ IsMaximalBlock (λ x. IsTrue (s x)) b
+
+-- the union of the maximal blocks of a set is the set
+abbrev pub MaximalIsUnion : Type 0
+MaximalIsUnion = (s : Address → Bool) (bs : List Block) → IsMaximal (λ x. IsTrue (s x)) bs → IsUnion (λ x. IsTrue (s x)) bs
+
+-- each set has such a list, and a search finds it
+abbrev pub SearchIsMaximal : Type 0
+SearchIsMaximal = (s : Address → Bool) → IsMaximal (λ x. IsTrue (s x)) (maximal_of s)
+
+-- within a family the order is that of the bit strings
+abbrev pub OrderIsOfStrings : Type 0
+OrderIsOfStrings = (a b : Block) → IsBlock a → IsBlock b → a.family ≡ b.family → IsBefore a b ↔ IsEarlier (bit_string a) (bit_string b)

@@ -1,0 +1,5 @@
+pub mod Members
+pub mod Ascending
+pub mod Numbers
+pub mod Decimals
+pub mod Ipv4Text

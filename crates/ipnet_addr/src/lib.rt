@@ -1,0 +1,6 @@
+//! Addresses as numbers, and their texts: the lowest layer of `ipnet`.
+#![tactic(auto)]
+
+pub mod laws;
+pub mod parser;
+pub mod printer;
