@@ -6,3 +6,6 @@ pub mod Cover
 pub mod Parents
 pub mod Maximals
 pub mod Search
+pub mod NetworkBlocks
+pub mod NetworkReader
+pub mod Ipv4Networks
