@@ -1,11 +1,10 @@
 -- IPv4 networks: the reader reads the grammar, and what is printed reads as what was printed.
-use Rattle.std.proofs.Common.{◌≡◌, ℕ, zero, suc, ◌<◌, ◌≤◌, ◌^◌, List, ◌∷◌, ◌++◌, length, get_or, Option, Some, None, decimal, codes, refl, sym, ap, ◌∙◌, arith, lit≤, MatchOption}
+use Rattle.std.proofs.Common.{◌≡◌, ℕ, zero, suc, ◌<◌, ◌≤◌, ◌^◌, List, ◌∷◌, ◌++◌, get_or, Option, Some, None, refl, sym, ◌∙◌, arith, lit≤, MatchOption}
 use Rattle.std.proofs.lemmas.Option.{none-some}
 use Rattle.std.proofs.NetLemmas.Options.{and_then_some}
 use Rattle.std.specs.Int.{w32, to_be_bytes}
 use Rattle.std.specs.Int.Digits.{number_from_digits}
 use Rattle.std.specs.Net.Addr.{ipv4_octets, ipv4_bits}
-use Rattle.std.specs.Net.Text.{ipv4_text}
 use Rattle.std.specs.declared.net.ipv4_addr.Ipv4Addr.{Ipv4Addr}
 use Rattle.ipnet_addr.specs.AddressText.{IsIpv4}
 use Rattle.ipnet_addr.specs.Reader.{read_ipv4}
@@ -14,7 +13,7 @@ use Rattle.ipnet_addr.proofs.Numbers.{octets_number, parts_number}
 use Rattle.ipnet.specs.Networks.{Network}
 use Rattle.ipnet.specs.NetworkText.{SpellsIpv4, ReadsIpv4, ipv4_net_text}
 use Rattle.ipnet.specs.Reader.{read_network, ipv4_net_of}
-use Rattle.ipnet.proofs.NetworkReader.{read_network_complete, read_network_sound, network_unique}
+use Rattle.ipnet.proofs.NetworkReader.{read_network_complete, read_network_sound}
 
 at_slash : (text octets rest : List ℕ) → IsIpv4 text octets → read_ipv4 (text ++ 47 ∷ rest) ≡ Some (octets, 47 ∷ rest)
 at_slash text octets rest h = read_ipv4_complete text octets (47 ∷ rest) h (lit≤ tt)

@@ -1,5 +1,5 @@
 pub mod BlockLaws
-pub mod Tests
+pub mod BlockTests
 pub mod Strings
 pub mod Order
 pub mod Cover

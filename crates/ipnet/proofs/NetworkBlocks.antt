@@ -1,9 +1,9 @@
 -- Networks and their blocks.
-use Rattle.std.proofs.Common.{◌≡◌, ℕ, ◌+◌, ◌-◌, ◌*◌, ◌/◌, ◌^◌, ◌<◌, ◌≤◌, ◌↔◌, ◌==◌, nat_le, IsTrue, refl, sym, ap, ◌∙◌, subst, arith, shr_lt}
+use Rattle.std.proofs.Common.{◌≡◌, ℕ, ◌+◌, ◌-◌, ◌/◌, ◌^◌, ◌<◌, ◌≤◌, ◌↔◌, ◌==◌, nat_le, IsTrue, refl, sym, ◌∙◌, subst, arith, shr_lt}
 use Rattle.std.proofs.Math.Pow.{shl-shr}
 use Rattle.std.proofs.lemmas.Bool.Decides.{nat_tests}
 use Rattle.ipnet_addr.specs.Addresses.{Family, width}
-use Rattle.ipnet.specs.Blocks.{Block, IsBlock, IsInside, free_bits, first}
+use Rattle.ipnet.specs.Blocks.{Block, IsBlock, IsInside, free_bits}
 use Rattle.ipnet.specs.Networks.{Network, IsNetwork, block_of, net_of}
 use Rattle.ipnet.proofs.BlockLaws.{free_split, inside_from_numbers, numbers_from_inside, longer_inside}
 

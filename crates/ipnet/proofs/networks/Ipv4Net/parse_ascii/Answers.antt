@@ -1,4 +1,4 @@
-use Rattle.std.proofs.Common.{◌∙◌, sym}
+use Rattle.std.proofs.Common.{sym}
 use Rattle.ipnet.proofs.Ipv4Networks.{v4_read, v4_not_read}
 use Rattle.ipnet.proofs.networks.Ipv4Net.parse_ascii.Goals as goal
 
