@@ -76,3 +76,11 @@ v4_read text a len e =
 
 pub v4_not_read : (text : List ℕ) → read_network (read_ipv4 text) 2 32 ≡ None → (n : Network) → ReadsIpv4 text n → ⊥
 v4_not_read text e n h = none-some _ (sym e ∙ parts_complete text h.octets n.len h.spelled)
+
+-- a text that spells no network
+pub v4_none : (text : List ℕ) → ((n : Network) → ReadsIpv4 text n → ⊥) → ipv4_net_of text ≡ None
+v4_none text h = go (ipv4_net_of text) refl
+  where
+    go : (r : Option Network) → ipv4_net_of text ≡ r → ipv4_net_of text ≡ None
+    go None e = e
+    go (Some n) e = absurd (h n (v4_sound text n e))

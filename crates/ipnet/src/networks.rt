@@ -4,7 +4,7 @@ ghost use Rattle.std.specs.Net.Addr.{ipv4_bits};
 ghost use Rattle.std.specs.Net.Grammar.{Parses};
 ghost use Rattle.ipnet_addr.specs.Addresses.{Ipv4};
 ghost use Rattle.ipnet.specs.Blocks.{IsInside};
-ghost use Rattle.ipnet.specs.Networks.{block_of, net_of};
+ghost use Rattle.ipnet.specs.Networks.{IsNetwork, block_of, net_of};
 ghost use Rattle.ipnet.specs.NetworkText.{ReadsIpv4, ipv4_net_text};
 
 use crate::contains::Contains;
@@ -94,7 +94,8 @@ impl Ipv4Net {
 
     /// The network with the same addresses and no host bits.
     pub fn trunc(&self) -> Ipv4Net
-        ensures { result ≡ net_of (block_of Ipv4 self.now) }
+        ensures value { result ≡ net_of (block_of Ipv4 self.now) }
+        ensures network { IsNetwork Ipv4 self.now }
     {
         let free = 32 - self.len;
         Ipv4Net {
