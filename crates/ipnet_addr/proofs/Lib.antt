@@ -3,3 +3,4 @@ pub mod Ascending
 pub mod Numbers
 pub mod Decimals
 pub mod Ipv4Text
+pub mod Ipv6Text
