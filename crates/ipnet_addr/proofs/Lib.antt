@@ -4,3 +4,4 @@ pub mod Numbers
 pub mod Decimals
 pub mod Ipv4Text
 pub mod Ipv6Text
+pub mod Powers

@@ -4,5 +4,6 @@
 pub mod bits;
 pub mod ipext;
 pub mod laws;
+pub mod mask;
 pub mod parser;
 pub mod printer;
