@@ -1,0 +1,15 @@
+-- The texts of networks of either family.
+use Rattle.std.specs.Prelude.{ℕ, List}
+use Rattle.ipnet.specs.NetworkText.{ReadsIpv4, ReadsIpv6, ipv4_net_text, ipv6_net_text}
+use Rattle.ipnet.specs.declared.ip_net.IpNet.{IpNet}
+use Rattle.ipnet.specs.declared.ip_net.IpNet.TheVariants.{V4, V6}
+
+-- the text spells this network, host bits too
+abbrev pub Reads : List ℕ → IpNet → Type 0
+Reads text (V4 n) = ReadsIpv4 text n
+Reads text (V6 n) = ReadsIpv6 text n
+
+-- the one printed text
+abbrev pub net_text : IpNet → List ℕ
+net_text (V4 n) = ipv4_net_text n
+net_text (V6 n) = ipv6_net_text n
