@@ -11,3 +11,5 @@ pub mod NetworkReader
 pub mod Ipv4Networks
 pub mod Ipv6Networks
 pub mod IpNetworks
+pub mod NoSpace
+pub mod Longest

@@ -1,7 +1,8 @@
 -- Networks of either family.
-use Rattle.ipnet_addr.specs.Addresses.{Family, Ipv4, Ipv6}
+use Rattle.std.specs.Prelude.{◌≡◌, ◌<◌, ◌⊎◌}
+use Rattle.ipnet_addr.specs.Addresses.{Family, Ipv4, Ipv6, rank}
 use Rattle.ipnet.specs.Blocks.{Block}
-use Rattle.ipnet.specs.Networks.{Network, block_of}
+use Rattle.ipnet.specs.Networks.{Network, block_of, ComesBefore}
 use Rattle.ipnet.specs.declared.ip_net.IpNet.{IpNet}
 use Rattle.ipnet.specs.declared.ip_net.IpNet.TheVariants.{V4, V6}
 
@@ -23,3 +24,7 @@ block n = block_of (family n) (parts n)
 abbrev pub net_in : Family → Network → IpNet
 net_in Ipv4 n = V4 n
 net_in Ipv6 n = V6 n
+
+-- IPv4 before IPv6, then by the number of the address, then by length
+abbrev pub IsSooner : IpNet → IpNet → Type 0
+IsSooner m n = (rank (family m) < rank (family n)) ⊎ ((rank (family m) ≡ rank (family n)) × ComesBefore (parts m) (parts n))
