@@ -13,3 +13,4 @@ pub mod Ipv6Networks
 pub mod IpNetworks
 pub mod NoSpace
 pub mod Longest
+pub mod Netmasks
