@@ -4,7 +4,7 @@ use Rattle.std.specs.Prelude.{ℕ, ◌-◌, ◌++◌, true, false, replicate, bi
 use Rattle.ipnet_addr.specs.Addresses.{Address}
 use Rattle.ipnet_addr.specs.Addresses.{IsAddress, width}
 use Rattle.ipnet_addr.specs.Masks.{IsMask}
-use Rattle.ipnet.specs.Blocks.{digits, first, last}
+use Rattle.ipnet.specs.Blocks.{IsLarger, digits, first, last}
 use Rattle.ipnet.specs.Blocks.{Block, IsBlock, HasAddress, IsInside, IsBefore, IsAscending, is_inside, bit_string, Begins, IsEarlier, parent}
 use Rattle.ipnet.specs.Maximal.{IsWithin, IsMaximalBlock, IsMaximal, IsUnion, maximal_of}
 
@@ -57,6 +57,14 @@ SearchIsMaximal = (s : Address → Bool) → IsMaximal (λ x. IsTrue (s x)) (max
 -- within a family the order is that of the bit strings
 abbrev pub OrderIsOfStrings : Type 0
 OrderIsOfStrings = (a b : Block) → IsBlock a → IsBlock b → a.family ≡ b.family → IsBefore a b ↔ IsEarlier (bit_string a) (bit_string b)
+
+-- a block is its addresses
+abbrev pub BlockIsItsAddresses : Type 0
+BlockIsItsAddresses = (a b : Block) → IsBlock a → IsBlock b → IsInside a b → IsInside b a → a ≡ b
+
+-- the parent of a block is the smallest larger block
+abbrev pub ParentIsNext : Type 0
+ParentIsNext = (b : Block) → IsBlock b → zero < b.len → IsBlock (parent b) × IsLarger (parent b) b × ((c : Block) → IsBlock c → IsLarger c b → IsInside (parent b) c)
 
 -- the addresses of a block are those from its first to its last
 abbrev pub BlockIsInterval : Type 0
