@@ -58,7 +58,7 @@ impl Ipv4Net {
         ensures { result ≡ record { number = ipv4_bits addr; len = prefix_len } }
     {
         Ipv4Net {
-            number: addr.to_bits(),
+            number: u32::from(addr),
             len: prefix_len,
         }
     }
@@ -233,7 +233,7 @@ impl Ipv6Net {
         ensures { result ≡ record { number = ipv6_bits addr; len = prefix_len } }
     {
         Ipv6Net {
-            number: addr.to_bits(),
+            number: u128::from(addr),
             len: prefix_len,
         }
     }

@@ -7,3 +7,5 @@ pub mod laws;
 pub mod mask;
 pub mod parser;
 pub mod printer;
+#[cfg(test)]
+mod tests;
