@@ -9,3 +9,8 @@ pub mod Search
 pub mod NetworkBlocks
 pub mod NetworkReader
 pub mod Ipv4Networks
+pub mod Ipv6Networks
+pub mod IpNetworks
+pub mod NoSpace
+pub mod Longest
+pub mod Netmasks

@@ -3,3 +3,5 @@ pub mod Ascending
 pub mod Numbers
 pub mod Decimals
 pub mod Ipv4Text
+pub mod Ipv6Text
+pub mod Powers

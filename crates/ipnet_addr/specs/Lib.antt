@@ -1,3 +1,4 @@
 pub mod Addresses
+pub mod Masks
 pub mod AddressText
 pub mod Reader
