@@ -1,3 +1,4 @@
 pub mod Addresses
 pub mod AddressText
 pub mod Reader
+pub mod Ranges

@@ -4,3 +4,4 @@
 pub mod laws;
 pub mod parser;
 pub mod printer;
+mod ranges;
