@@ -10,6 +10,7 @@ ghost use Rattle.ipnet.specs.NetworkText.{ReadsIpv4, ipv4_net_text};
 use crate::contains::Contains;
 use crate::parser::read_ipv4_network;
 use arrayvec::ArrayVec;
+use ipnet_addr::bits::ipv4_of;
 use ipnet_addr::printer::{push_decimal, push_ipv4};
 use std::marker::Model;
 use std::net::Ipv4Addr;
@@ -74,7 +75,7 @@ impl Ipv4Net {
     pub fn addr(&self) -> Ipv4Addr
         ensures { ipv4_bits result ≡ self.now.number }
     {
-        Ipv4Addr::from_bits(self.number)
+        ipv4_of(self.number)
     }
 
     /// Its prefix length, 0 to 32.

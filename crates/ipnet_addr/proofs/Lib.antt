@@ -6,3 +6,4 @@ pub mod Ipv4Text
 pub mod RangeEnds
 pub mod RangeCalls
 pub mod Progress
+pub mod Ipv6Text

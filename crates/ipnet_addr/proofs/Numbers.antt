@@ -1,11 +1,13 @@
 -- The number of an address, and its octets.
-use Rattle.std.proofs.Common.{◌≡◌, ℕ, ◌^◌, ◌<◌, List, [], ◌∷◌, refl, sym, subst, ap, ◌∙◌, arith}
-use Rattle.std.proofs.NetLemmas.Arrays.{four_items}
+use Rattle.std.proofs.Common.{◌≡◌, ℕ, ◌+◌, ◌*◌, ◌/◌, ◌%◌, ◌^◌, ◌<◌, List, [], ◌∷◌, length, refl, sym, subst, ap, ◌∙◌, arith}
+use Rattle.std.proofs.Math.Nat as nat
+use Rattle.std.proofs.NetLemmas.Arrays.{four_items, eight_items}
 use Rattle.std.proofs.lemmas.Nat.{from_be_bytes-to_be_bytes_4, be_bytes_4}
-use Rattle.std.specs.Int.{w32, from_be_bytes, to_be_bytes}
+use Rattle.std.specs.Int.{w32, w128, from_be_bytes, to_be_bytes}
 use Rattle.std.specs.Int.Digits.{number_from_digits}
-use Rattle.std.specs.Net.Addr.{ipv4_octets, ipv4_bits, IsIpv4Addr, IsIpv4OfBits}
+use Rattle.std.specs.Net.Addr.{ipv4_octets, ipv6_segments, ipv4_bits, ipv6_bits, segments_of, octets_of, IsIpv4Addr, IsIpv6Addr, IsIpv4OfBits, IsIpv6OfBits}
 use Rattle.std.specs.declared.net.ipv4_addr.Ipv4Addr.{Ipv4Addr}
+use Rattle.std.specs.declared.net.ipv6_addr.Ipv6Addr.{Ipv6Addr}
 
 four : (a b c d : ℕ) → from_be_bytes w32 (a ∷ b ∷ c ∷ d ∷ []) ≡ number_from_digits 256 (a ∷ b ∷ c ∷ d ∷ [])
 four a b c d = omega arith
@@ -20,9 +22,9 @@ pub octets_number : (n : ℕ) → n < 2 ^ 32 → number_from_digits 256 (to_be_b
 octets_number n fits = sym (four _ _ _ _) ∙ from_be_bytes-to_be_bytes_4 n fits
 
 -- the address made of a number has that number
-pub bits_of_bits : (a : Ipv4Addr) (n : ℕ) → IsIpv4OfBits a n → n < 2 ^ 32 → ipv4_bits a ≡ n
+pub ipv4_bits_of_bits : (a : Ipv4Addr) (n : ℕ) → IsIpv4OfBits a n → n < 2 ^ 32 → ipv4_bits a ≡ n
 unfolding ipv4_bits IsIpv4OfBits
-bits_of_bits a n h fits = ap (from_be_bytes w32) h ∙ from_be_bytes-to_be_bytes_4 n fits
+ipv4_bits_of_bits a n h fits = ap (from_be_bytes w32) h ∙ from_be_bytes-to_be_bytes_4 n fits
 
 -- four octets that are read make the number that they write
 pub parts_number : (a : Ipv4Addr) (w x y z : ℕ) → ipv4_octets a ≡ w ∷ x ∷ y ∷ z ∷ [] → ipv4_bits a ≡ number_from_digits 256 (ipv4_octets a)
@@ -33,3 +35,32 @@ parts_number a w x y z e = subst (λ (o : List ℕ). from_be_bytes w32 o ≡ num
 pub octets_of_bits : (a : Ipv4Addr) → IsIpv4Addr a → ipv4_octets a ≡ to_be_bytes w32 (ipv4_bits a)
 unfolding ipv4_bits
 octets_of_bits a h = sym (be_bytes_4 (ipv4_octets a) _ h.0 h.1 refl)
+
+eight : (a b c d e f g h : ℕ) → from_be_bytes w128 (octets_of (a ∷ b ∷ c ∷ d ∷ e ∷ f ∷ g ∷ h ∷ [])) ≡ number_from_digits 65536 (a ∷ b ∷ c ∷ d ∷ e ∷ f ∷ g ∷ h ∷ [])
+eight a b c d e f g h = omega arith
+
+-- eight units write the number whose octets they hold
+units_number : (units : List ℕ) → length units ≡ 8 → from_be_bytes w128 (octets_of units) ≡ number_from_digits 65536 units
+units_number units l = subst (λ (o : List ℕ). from_be_bytes w128 (octets_of o) ≡ number_from_digits 65536 o) (sym (eight_items units l)) (eight _ _ _ _ _ _ _ _)
+
+-- the number of an IPv6 address is the one that its units write in base 65536
+pub ipv6_number : (a : Ipv6Addr) → IsIpv6Addr a → ipv6_bits a ≡ number_from_digits 65536 (ipv6_segments a)
+unfolding ipv6_bits
+ipv6_number a h = units_number (ipv6_segments a) h.0
+
+-- one unit of a number, after those above it
+unit_step : (n p : ℕ) → n / (p * 65536) * 65536 + (n / (p * 256) % 256 * 256 + n / p % 256) ≡ n / p
+unit_step n p = omega (arith, nat.div-div-eq-div-mul n p 256, nat.div-div-eq-div-mul n p 65536)
+
+joined : (a b c d e f g h n p q r s t u v : ℕ) → 0 * 65536 + a ≡ p → p * 65536 + b ≡ q → q * 65536 + c ≡ r → r * 65536 + d ≡ s
+    → s * 65536 + e ≡ t → t * 65536 + f ≡ u → u * 65536 + g ≡ v → v * 65536 + h ≡ n → number_from_digits 65536 (a ∷ b ∷ c ∷ d ∷ e ∷ f ∷ g ∷ h ∷ []) ≡ n
+joined a b c d e f g h n p q r s t u v at_a at_b at_c at_d at_e at_f at_g at_h = rw (at_a, at_b, at_c, at_d, at_e, at_f, at_g) at_h
+
+-- the units of a number write it
+pub segments_number : (n : ℕ) → n < 2 ^ 128 → number_from_digits 65536 (segments_of (to_be_bytes w128 n)) ≡ n
+segments_number n fits = joined _ _ _ _ _ _ _ _ n _ _ _ _ _ _ _
+    (omega arith) (unit_step n (2 ^ 96)) (unit_step n (2 ^ 80)) (unit_step n (2 ^ 64)) (unit_step n (2 ^ 48)) (unit_step n (2 ^ 32)) (unit_step n (2 ^ 16)) (omega arith)
+
+pub ipv6_bits_of_bits : (a : Ipv6Addr) (n : ℕ) → IsIpv6OfBits a n → n < 2 ^ 128 → ipv6_bits a ≡ n
+unfolding ipv6_bits IsIpv6OfBits
+ipv6_bits_of_bits a n h fits = ap (λ o. from_be_bytes w128 (octets_of o)) h ∙ units_number (segments_of (to_be_bytes w128 n)) refl ∙ segments_number n fits

@@ -1,6 +1,8 @@
 //! Addresses as numbers, and their texts: the lowest layer of `ipnet`.
 #![tactic(auto)]
 
+pub mod bits;
+pub mod ipext;
 pub mod laws;
 pub mod parser;
 pub mod printer;

@@ -1,10 +1,10 @@
 //! Readers of the parts of a text. Each reads at the front of a slice, and answers the value and the rest.
-ghost use Rattle.std.specs.Prelude.{◌≡◌, ◌<◌, ◌≤◌, length, IfSome, option_copied};
-ghost use Rattle.std.specs.Net.Addr.{ipv4_octets};
+ghost use Rattle.std.specs.Prelude.{◌≡◌, ◌<◌, ◌≤◌, true, length, take, drop, IfSome, option_copied};
+ghost use Rattle.std.specs.Net.Addr.{ipv4_octets, ipv6_segments, segments_of};
 ghost use Rattle.std.specs.Net.Reader as Std;
 ghost use Rattle.ipnet_addr.specs.Reader as Reader;
 
-use std::net::Ipv4Addr;
+use std::net::{Ipv4Addr, Ipv6Addr};
 
 /// The text after this byte, where it begins with it.
 pub fn read_byte(s: &[u8], byte: u8) -> Option<&[u8]>
@@ -71,4 +71,81 @@ pub fn read_ipv4(s: &[u8]) -> Option<(Ipv4Addr, &[u8])>
     let (c, s) = read_octet(read_byte(s, b'.')?)?;
     let (d, s) = read_octet(read_byte(s, b'.')?)?;
     Some((Ipv4Addr::new(a, b, c, d), s))
+}
+
+fn read_group(s: &[u8]) -> Option<(u16, &[u8])>
+    ensures { Std.read_view (λ n. n) result ≡ Reader.read_group s.now }
+{
+    let (value, rest) = read_short(s, 16, 4, 0xffff)?;
+    Some((value as u16, rest))
+}
+
+// The colon before each group but the first.
+fn read_separator(s: &[u8], first: bool) -> Option<&[u8]>
+    ensures { option_copied result ≡ Std.read_separator first s.now }
+{
+    if first { Some(s) } else { read_byte(s, b':') }
+}
+
+fn read_ipv4_if(s: &[u8], fits: bool) -> Option<(Ipv4Addr, &[u8])>
+    ensures { Std.read_view ipv4_octets result ≡ Reader.read_ipv4_if fits s.now }
+{
+    if fits { read_ipv4(s) } else { None }
+}
+
+// The address as the last two units of an IPv6 address.
+fn halves(ip: Ipv4Addr) -> [u16; 2]
+    ensures { result ≡ segments_of (ipv4_octets ip) }
+{
+    let [a, b, c, d] = ip.octets();
+    [a as u16 * 256 + b as u16, c as u16 * 256 + d as u16]
+}
+
+// Fills the front of `units` from units with `:` between them, of which the last two may be an IPv4 address.
+// Gives how many it filled, whether it ended in an IPv4 address, and the rest.
+fn read_units<'a>(text: &'a [u8], units: &mut [u16]) -> (usize, bool, &'a [u8])
+    ensures value { Reader.read_units (length units.old) true text.now
+        ≡ (take result.0 units.new, result.1, result.2.now) }
+    ensures within { result.0 ≤ length units.old }
+    ensures others { drop result.0 units.new ≡ drop result.0 units.old }
+{
+    let room = units.len();
+    let mut s = text;
+    for i in 0..room {
+        let Some(group) = read_separator(s, i == 0) else {
+            return (i, false, s);
+        };
+        if let Some((ip, rest)) = read_ipv4_if(group, i + 1 < room) {
+            let [high, low] = halves(ip);
+            units[i] = high;
+            units[i + 1] = low;
+            return (i + 2, true, rest);
+        }
+        let Some((unit, rest)) = read_group(group) else {
+            return (i, false, s);
+        };
+        units[i] = unit;
+        s = rest;
+    }
+    (room, false, s)
+}
+
+/// An IPv6 address: eight units with colons between them, or some with `::` in the place of those that are zero; the last two
+/// may be a dotted IPv4 address (RFC 4291, section 2.2, where `::` may stand for no unit, as in the Rust crate ipnet 2.12.2).
+pub fn read_ipv6(s: &[u8]) -> Option<(Ipv6Addr, &[u8])>
+    ensures { Std.read_view ipv6_segments result ≡ Reader.read_ipv6 s.now }
+{
+    let mut head = [0; 8];
+    let (head_len, ends_in_ipv4, s) = read_units(s, &mut head);
+    if head_len == 8 {
+        return Some((Ipv6Addr::from_segments(head), s));
+    }
+    if ends_in_ipv4 {
+        return None;
+    }
+    let s = read_byte(read_byte(s, b':')?, b':')?;
+    let mut tail = [0; 8];
+    let (tail_len, _, s) = read_units(s, &mut tail[..8 - head_len]);
+    head[8 - tail_len..].copy_from_slice(&tail[..tail_len]);
+    Some((Ipv6Addr::from_segments(head), s))
 }
