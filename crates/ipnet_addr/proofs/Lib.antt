@@ -7,3 +7,4 @@ pub mod RangeEnds
 pub mod RangeCalls
 pub mod Progress
 pub mod Ipv6Text
+pub mod EachOnce

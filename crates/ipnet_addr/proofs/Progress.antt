@@ -1,5 +1,5 @@
 -- An iterator whose state shows the list of what is left makes progress.
-use Rattle.std.proofs.Common.{◌≡◌, ℕ, ◌+◌, ◌<◌, arith, ap, List, [], ◌∷◌, ◌++◌, length, length-append, Option, Some, None}
+use Rattle.std.proofs.Common.{arith, ap, List, [], ◌∷◌, length, length-append, Option, Some, None}
 use Rattle.std.specs.Bool.{⊤}
 use Rattle.std.specs.Iterator.{YieldsFirstBy, YieldsLastBy, item_count, MakesProgress}
 

@@ -1,11 +1,13 @@
 -- What calls of a range give, in the words of iterators.
-use Rattle.std.proofs.Common.{◌≡◌, ◌≢◌, ℕ, zero, suc, ◌+◌, ◌-◌, ◌<◌, ◌≤◌, ◌⊎◌, inl, inr, refl, sym, ◌∙◌, ap, subst, arith, List, [], ◌∷◌, ◌++◌, length, reverse, Option, Some, None, option_map, slice_get, AllPairs, Contains, All}
-use Rattle.std.specs.List.{range_with_len, cons_option}
-use Rattle.std.specs.Iterator.{YieldsFirstBy, YieldsLastBy}
+use Rattle.std.proofs.Common.{◌≡◌, ℕ, zero, suc, ◌+◌, ◌-◌, ◌<◌, ◌≤◌, ◌⊎◌, inl, inr, refl, sym, ◌∙◌, ap, subst, arith, [], ◌∷◌, ◌++◌, reverse, Option, Some, None, option_map, slice_get, Contains, All}
+use Rattle.std.specs.List.{range_with_len}
+use Rattle.std.specs.Bool.{⊤}
+use Rattle.std.specs.Iterator.{YieldsFirstBy, YieldsLastBy, item_count, MakesProgress}
 use Rattle.std.proofs.lemmas.Bool.{cases_lt, cases_eq}
 use Rattle.std.proofs.lemmas.List.FromFn.{get_or-range_with_len}
 use Rattle.std.proofs.lemmas.Option.{none-some}
 use Rattle.ipnet_addr.specs.Ranges.{Ends, numbers, after_front, after_back, times, IsLeast, IsGreatest}
+use Rattle.ipnet_addr.proofs.Progress.{progress_first, progress_last}
 use Rattle.ipnet_addr.proofs.RangeEnds.{ends, once, fronts_none, fronts_all, fronts_some, backs_none, backs_all, backs_some, front_at, front_past, back_at, back_past, count_is}
 
 none_left : (s e : ℕ) → e < s → numbers (ends s e) ≡ []
@@ -47,8 +49,14 @@ back_is s e f h = elim (cases_lt e s) [
 no_answer : {A : Type 0} (view : A → ℕ) (a : A) → (y : Option ℕ) → Some (view a) ≡ y → None ≡ y → ⊥
 no_answer view a y h g = none-some (view a) (g ∙ sym h)
 
-some_answer : (a b : ℕ) (y : Option ℕ) → Some a ≡ y → Some b ≡ y → a ≡ b
+pub some_answer : (a b : ℕ) (y : Option ℕ) → Some a ≡ y → Some b ≡ y → a ≡ b
 some_answer a b y h g = let e = h ∙ sym g in cc
+
+pub front_once : (e f : Ends) → f ≡ times (0 + 1) after_front e → f ≡ after_front e
+front_once e f h = h ∙ once after_front e (after_front e) refl
+
+pub back_once : (e f : Ends) → f ≡ times (0 + 1) after_back e → f ≡ after_back e
+back_once e f h = h ∙ once after_back e (after_back e) refl
 
 module _ {A : Type 0} (view : A → ℕ) where
   pub front_taken : (e f : Ends) (r : Option A) → option_map view r ≡ slice_get (numbers e) 0 → f ≡ times (0 + 1) after_front e → YieldsFirstBy view numbers e r f
@@ -70,6 +78,12 @@ module _ {A : Type 0} (view : A → ℕ) where
     | inl w ↦ absurd (no_answer view x _ a (back_past e.start e.end 0 (let l = w.0 in omega arith)))
     | inr w ↦ w.1 ∙ ap (λ n. numbers f ++ n ∷ []) (some_answer e.end (view x) _ (back_at e.start e.end 0 e.end w.0 (omega arith) (omega arith)) a)
   ]
+
+  pub front_goes : (e f : Ends) (r : Option A) → option_map view r ≡ slice_get (numbers e) 0 → f ≡ times (0 + 1) after_front e → MakesProgress {S = Ends} {A = A} (λ _. ⊤) (item_count numbers) e r f
+  front_goes e f r a h = progress_first view numbers e r f (front_taken e f r a h)
+
+  pub back_goes : (e f : Ends) (r : Option A) → option_map view r ≡ slice_get (reverse (numbers e)) 0 → f ≡ times (0 + 1) after_back e → MakesProgress {S = Ends} {A = A} (λ _. ⊤) (item_count numbers) e r f
+  back_goes e f r a h = progress_last view numbers e r f (back_taken e f r a h)
 
 has_number : (s e k : ℕ) → s ≤ e → k ≤ e - s → Contains (numbers (ends s e)) (s + k)
 has_number s e k le h = let c = count_is s e in (k, omega arith, get_or-range_with_len s (e + 1 - s) k (s + k) (omega arith))
@@ -100,12 +114,3 @@ greatest_is e (Some n) h = elim (cases_lt e.end e.start) [
       let is : e.start + (e.end - e.start) ≡ n = some_answer (e.start + (e.end - e.start)) n _ (back_at e.start e.end 0 (e.start + (e.end - e.start)) le (omega arith) (omega arith)) h in
       (subst (Contains (numbers e)) is (has_number e.start e.end (e.end - e.start) le (omega arith)), all_numbers (λ x. x ≤ n) e.start e.end (λ x l m. omega arith))
 ]
-
--- a number within the ends
-abbrev Within : Ends → ℕ → Type 0
-Within e n = (e.start ≤ n) × (n ≤ e.end)
-
--- a call takes a number that is not left, and leaves only numbers that were there
-record Takes (e f : Ends) (r : Option ℕ) : Type 0 where
-  took : (n : ℕ) → r ≡ Some n → Within e n × (Within f n → ⊥)
-  left : (n : ℕ) → Within f n → Within e n

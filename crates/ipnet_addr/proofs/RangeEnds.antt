@@ -1,7 +1,6 @@
 -- The numbers of a range, and the ends that its calls leave.
-use Rattle.std.proofs.Common.{◌≡◌, ◌≢◌, ℕ, zero, suc, ◌+◌, ◌-◌, ◌<◌, ◌≤◌, ◌⊎◌, inl, inr, refl, sym, ◌∙◌, ap, arith, add-one, List, [], ◌∷◌, ◌++◌, length, get_or, reverse, Option, Some, None, nat_lt, ◌==◌, cond, slice_get, MatchOption, AllPairs, ⊎_elim}
-use Rattle.std.specs.List.{range_with_len, cons_option}
-use Rattle.std.proofs.lemmas.Bool.{cases_lt, cases_eq, lt-ltb, le-ltb, eq-eqb, ne_eqb, cond-true, cond-false}
+use Rattle.std.proofs.Common.{◌≡◌, ℕ, zero, suc, ◌+◌, ◌-◌, ◌<◌, ◌≤◌, inl, inr, refl, sym, ◌∙◌, ap, arith, add-one, List, [], ◌∷◌, length, get_or, reverse, Some, None, nat_lt, ◌==◌, slice_get}
+use Rattle.std.proofs.lemmas.Bool.{cases_eq, lt-ltb, le-ltb, eq-eqb, ne_eqb, cond-true, cond-false}
 use Rattle.std.proofs.lemmas.List.FromFn.{length-range_with_len, get_or-range_with_len}
 use Rattle.std.proofs.lemmas.Option.{slice_get-get_or}
 use Rattle.std.proofs.lemmas.List.{length-reverse, get_or-reverse}

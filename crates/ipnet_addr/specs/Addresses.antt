@@ -1,5 +1,10 @@
 -- Addresses of two families, as numbers.
 use Rattle.std.specs.Prelude.{ℕ, ◌^◌, ◌<◌, Bool, ◌==◌}
+use Rattle.std.specs.Net.Addr.{ipv4_bits, ipv6_bits}
+use Rattle.std.specs.declared.net.ipv4_addr.Ipv4Addr.{Ipv4Addr}
+use Rattle.std.specs.declared.net.ipv6_addr.Ipv6Addr.{Ipv6Addr}
+use Rattle.std.specs.declared.net.ip_addr.IpAddr.{IpAddr}
+use Rattle.std.specs.declared.net.ip_addr.IpAddr.TheVariants.{V4, V6}
 
 -- the two families of addresses
 pub data Family : Type 0 where
@@ -27,3 +32,14 @@ pub record Address : Type 0 where
 -- the number is one of the family's
 abbrev pub IsAddress : Address → Type 0
 IsAddress x = x.number < 2 ^ width x.family
+
+-- std's addresses, as family and number
+abbrev pub ipv4_address : Ipv4Addr → Address
+ipv4_address a = record { family = Ipv4; number = ipv4_bits a }
+
+abbrev pub ipv6_address : Ipv6Addr → Address
+ipv6_address a = record { family = Ipv6; number = ipv6_bits a }
+
+abbrev pub address_of : IpAddr → Address
+address_of (V4 a) = ipv4_address a
+address_of (V6 a) = ipv6_address a

@@ -2,3 +2,4 @@ pub mod Addresses
 pub mod AddressText
 pub mod Reader
 pub mod Ranges
+pub mod IpRanges

@@ -6,4 +6,4 @@ pub mod ipext;
 pub mod laws;
 pub mod parser;
 pub mod printer;
-mod ranges;
+pub mod ranges;
