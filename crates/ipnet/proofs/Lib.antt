@@ -9,3 +9,5 @@ pub mod Search
 pub mod NetworkBlocks
 pub mod NetworkReader
 pub mod Ipv4Networks
+pub mod FreeBits
+pub mod Cuts

@@ -9,5 +9,6 @@ mod contains;
 pub mod laws;
 mod networks;
 mod parser;
+mod subnets;
 #[cfg(test)]
 mod tests;
