@@ -8,3 +8,4 @@ pub mod RangeCalls
 pub mod Progress
 pub mod Ipv6Text
 pub mod EachOnce
+pub mod Powers

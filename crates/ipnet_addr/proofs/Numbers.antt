@@ -1,10 +1,10 @@
 -- The number of an address, and its octets.
-use Rattle.std.proofs.Common.{◌≡◌, ℕ, ◌+◌, ◌*◌, ◌/◌, ◌%◌, ◌^◌, ◌<◌, List, [], ◌∷◌, length, refl, sym, subst, ap, ◌∙◌, arith}
+use Rattle.std.proofs.Common.{◌≡◌, ℕ, zero, suc, get_or, ◌+◌, ◌*◌, ◌/◌, ◌%◌, ◌^◌, ◌<◌, List, [], ◌∷◌, length, refl, sym, subst, ap, ◌∙◌, arith}
 use Rattle.std.proofs.Math.Nat as nat
 use Rattle.std.proofs.NetLemmas.Arrays.{four_items, eight_items}
-use Rattle.std.proofs.lemmas.Nat.{from_be_bytes-to_be_bytes_4, be_bytes_4}
+use Rattle.std.proofs.lemmas.Nat.{from_be_bytes-to_be_bytes_4, be_bytes_4, mod-mul-add, div-mul-add}
 use Rattle.std.specs.Int.{w32, w128, from_be_bytes, to_be_bytes}
-use Rattle.std.specs.Int.Digits.{number_from_digits}
+use Rattle.std.specs.Int.Digits.{number_from_digits, number_from_digits_after}
 use Rattle.std.specs.Net.Addr.{ipv4_octets, ipv6_segments, ipv4_bits, ipv6_bits, segments_of, octets_of, IsIpv4Addr, IsIpv6Addr, IsIpv4OfBits, IsIpv6OfBits}
 use Rattle.std.specs.declared.net.ipv4_addr.Ipv4Addr.{Ipv4Addr}
 use Rattle.std.specs.declared.net.ipv6_addr.Ipv6Addr.{Ipv6Addr}
@@ -64,3 +64,47 @@ segments_number n fits = joined _ _ _ _ _ _ _ _ n _ _ _ _ _ _ _
 pub ipv6_bits_of_bits : (a : Ipv6Addr) (n : ℕ) → IsIpv6OfBits a n → n < 2 ^ 128 → ipv6_bits a ≡ n
 unfolding ipv6_bits IsIpv6OfBits
 ipv6_bits_of_bits a n h fits = ap (λ o. from_be_bytes w128 (octets_of o)) h ∙ units_number (segments_of (to_be_bytes w128 n)) refl ∙ segments_number n fits
+
+digit_apart : (b m n x y : ℕ) → x < b → y < b → m * b + x ≡ n * b + y → (m ≡ n) × (x ≡ y)
+digit_apart b m n x y small tiny e =
+    let quotient : m ≡ n = sym (div-mul-add m b x small) ∙ ap (λ k. k / b) e ∙ div-mul-add n b y tiny in
+    let rest : x ≡ y = sym (mod-mul-add m b x small) ∙ ap (λ k. k % b) e ∙ mod-mul-add n b y tiny in
+    (quotient, rest)
+
+-- as many digits that write the same number are the same
+digits_apart : (b m n : ℕ) (xs ys : List ℕ) → length xs ≡ length ys → ((k : ℕ) → get_or xs k 0 < b) → ((k : ℕ) → get_or ys k 0 < b)
+    → number_from_digits_after b m xs ≡ number_from_digits_after b n ys → (m ≡ n) × (xs ≡ ys)
+digits_apart b m n [] [] l small tiny e = (e, refl)
+digits_apart b m n [] (y ∷ ys) l small tiny e = absurd (omega arith)
+digits_apart b m n (x ∷ xs) [] l small tiny e = absurd (omega arith)
+digits_apart b m n (x ∷ xs) (y ∷ ys) l small tiny e =
+    let later = digits_apart b (m * b + x) (n * b + y) xs ys (omega arith) (λ k. small (suc k)) (λ k. tiny (suc k)) e in
+    let here = digit_apart b m n x y (small 0) (tiny 0) later.0 in
+    (here.0, λ i. here.1 i ∷ later.1 i)
+
+segments_small : (n k : ℕ) → get_or (segments_of (to_be_bytes w128 n)) k 0 < 2 ^ 16
+segments_small n zero = omega arith
+segments_small n (suc zero) = omega arith
+segments_small n (suc (suc zero)) = omega arith
+segments_small n (suc (suc (suc zero))) = omega arith
+segments_small n (suc (suc (suc (suc zero)))) = omega arith
+segments_small n (suc (suc (suc (suc (suc zero))))) = omega arith
+segments_small n (suc (suc (suc (suc (suc (suc zero)))))) = omega arith
+segments_small n (suc (suc (suc (suc (suc (suc (suc zero))))))) = omega arith
+segments_small n (suc (suc (suc (suc (suc (suc (suc (suc k)))))))) = omega arith
+
+-- the units of an address are those of its number
+pub segments_of_bits : (a : Ipv6Addr) (n : ℕ) → IsIpv6Addr a → ipv6_bits a ≡ n → n < 2 ^ 128 → ipv6_segments a ≡ segments_of (to_be_bytes w128 n)
+segments_of_bits a n h is fits =
+    (digits_apart 65536 0 0 (ipv6_segments a) (segments_of (to_be_bytes w128 n)) h.0 h.1 (segments_small n) (sym (ipv6_number a h) ∙ is ∙ sym (segments_number n fits))).1
+
+-- no two addresses have one number
+pub same_ipv4 : (a b : Ipv4Addr) → IsIpv4Addr a → IsIpv4Addr b → ipv4_bits a ≡ ipv4_bits b → a ≡ b
+same_ipv4 a b h k e =
+    let octets = (digits_apart 256 0 0 (ipv4_octets a) (ipv4_octets b) (h.0 ∙ sym k.0) h.1 k.1 (sym (ipv4_number a h) ∙ e ∙ ipv4_number b k)).1 in
+    λ i. record { octets = octets i }
+
+pub same_ipv6 : (a b : Ipv6Addr) → IsIpv6Addr a → IsIpv6Addr b → ipv6_bits a ≡ ipv6_bits b → a ≡ b
+same_ipv6 a b h k e =
+    let units = (digits_apart 65536 0 0 (ipv6_segments a) (ipv6_segments b) (h.0 ∙ sym k.0) h.1 k.1 (sym (ipv6_number a h) ∙ e ∙ ipv6_number b k)).1 in
+    λ i. record { segments = units i }

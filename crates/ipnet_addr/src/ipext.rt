@@ -1,6 +1,6 @@
 //! Arithmetic of addresses by their numbers, as in the Rust crate ipnet 2.12.2. Nothing wraps: a result past the greatest
 //! or the least number is that number.
-ghost use Rattle.std.specs.Prelude.{◌≡◌, ℕ, ◌+◌, ◌-◌, ◌^◌, min};
+ghost use Rattle.std.specs.Prelude.{◌≡◌, ℕ, ◌+◌, ◌-◌, ◌^◌, min, bit_and, bit_or};
 ghost use Rattle.std.specs.Net.Addr.{ipv4_bits, ipv6_bits};
 
 use crate::bits::{ipv4_of, ipv6_of};
@@ -82,5 +82,193 @@ impl IpStep for Ipv6Addr {
 
     fn sub_one(&self) -> Ipv6Addr {
         ipv6_of(self.to_bits().saturating_sub(1))
+    }
+}
+
+/// The sum with a number, at most the greatest address.
+pub trait IpAdd<RHS> {
+    type Output;
+
+    /// Whether this is the sum.
+    ghost added: { Self → RHS → Self.Output → Type 0 };
+
+    /// The sum, or the greatest address where it is past that.
+    fn saturating_add(self, rhs: RHS) -> Self::Output
+        ensures { added self rhs result };
+}
+
+/// The difference to a number or an address, at least 0.
+pub trait IpSub<RHS> {
+    type Output;
+
+    /// Whether this is the difference.
+    ghost subtracted: { Self → RHS → Self.Output → Type 0 };
+
+    /// The difference, or 0 where it is below that.
+    fn saturating_sub(self, rhs: RHS) -> Self::Output
+        ensures { subtracted self rhs result };
+}
+
+/// The bits that both have.
+pub trait IpBitAnd<RHS> {
+    type Output;
+
+    /// Whether these are the bits.
+    ghost common: { Self → RHS → Self.Output → Type 0 };
+
+    /// The address of the bits that both have.
+    fn bitand(self, rhs: RHS) -> Self::Output
+        ensures { common self rhs result };
+}
+
+/// The bits that one of both has.
+pub trait IpBitOr<RHS> {
+    type Output;
+
+    /// Whether these are the bits.
+    ghost either: { Self → RHS → Self.Output → Type 0 };
+
+    /// The address of the bits that one of both has.
+    fn bitor(self, rhs: RHS) -> Self::Output
+        ensures { either self rhs result };
+}
+
+impl IpAdd<u32> for Ipv4Addr {
+    type Output = Ipv4Addr;
+
+    ghost added = { λ a n sum. ipv4_bits sum ≡ min (ipv4_bits a + n) (2 ^ 32 - 1) };
+
+    fn saturating_add(self, rhs: u32) -> Ipv4Addr {
+        ipv4_of(self.to_bits().saturating_add(rhs))
+    }
+}
+
+impl IpAdd<u128> for Ipv6Addr {
+    type Output = Ipv6Addr;
+
+    ghost added = { λ a n sum. ipv6_bits sum ≡ min (ipv6_bits a + n) (2 ^ 128 - 1) };
+
+    fn saturating_add(self, rhs: u128) -> Ipv6Addr {
+        ipv6_of(self.to_bits().saturating_add(rhs))
+    }
+}
+
+impl IpSub<u32> for Ipv4Addr {
+    type Output = Ipv4Addr;
+
+    ghost subtracted = { λ a n difference. ipv4_bits difference ≡ ipv4_bits a - n };
+
+    fn saturating_sub(self, rhs: u32) -> Ipv4Addr {
+        ipv4_of(self.to_bits().saturating_sub(rhs))
+    }
+}
+
+impl IpSub<u128> for Ipv6Addr {
+    type Output = Ipv6Addr;
+
+    ghost subtracted = { λ a n difference. ipv6_bits difference ≡ ipv6_bits a - n };
+
+    fn saturating_sub(self, rhs: u128) -> Ipv6Addr {
+        ipv6_of(self.to_bits().saturating_sub(rhs))
+    }
+}
+
+impl IpSub<Ipv4Addr> for Ipv4Addr {
+    type Output = u32;
+
+    ghost subtracted = { λ a b difference. difference ≡ ipv4_bits a - ipv4_bits b };
+
+    fn saturating_sub(self, rhs: Ipv4Addr) -> u32 {
+        self.to_bits().saturating_sub(rhs.to_bits())
+    }
+}
+
+impl IpSub<Ipv6Addr> for Ipv6Addr {
+    type Output = u128;
+
+    ghost subtracted = { λ a b difference. difference ≡ ipv6_bits a - ipv6_bits b };
+
+    fn saturating_sub(self, rhs: Ipv6Addr) -> u128 {
+        self.to_bits().saturating_sub(rhs.to_bits())
+    }
+}
+
+impl IpBitAnd<u32> for Ipv4Addr {
+    type Output = Ipv4Addr;
+
+    ghost common = { λ a n both. ipv4_bits both ≡ bit_and (ipv4_bits a) n };
+
+    fn bitand(self, rhs: u32) -> Ipv4Addr {
+        ipv4_of(self.to_bits() & rhs)
+    }
+}
+
+impl IpBitAnd<u128> for Ipv6Addr {
+    type Output = Ipv6Addr;
+
+    ghost common = { λ a n both. ipv6_bits both ≡ bit_and (ipv6_bits a) n };
+
+    fn bitand(self, rhs: u128) -> Ipv6Addr {
+        ipv6_of(self.to_bits() & rhs)
+    }
+}
+
+impl IpBitAnd<Ipv4Addr> for Ipv4Addr {
+    type Output = Ipv4Addr;
+
+    ghost common = { λ a b both. ipv4_bits both ≡ bit_and (ipv4_bits a) (ipv4_bits b) };
+
+    fn bitand(self, rhs: Ipv4Addr) -> Ipv4Addr {
+        ipv4_of(self.to_bits() & rhs.to_bits())
+    }
+}
+
+impl IpBitAnd<Ipv6Addr> for Ipv6Addr {
+    type Output = Ipv6Addr;
+
+    ghost common = { λ a b both. ipv6_bits both ≡ bit_and (ipv6_bits a) (ipv6_bits b) };
+
+    fn bitand(self, rhs: Ipv6Addr) -> Ipv6Addr {
+        ipv6_of(self.to_bits() & rhs.to_bits())
+    }
+}
+
+impl IpBitOr<u32> for Ipv4Addr {
+    type Output = Ipv4Addr;
+
+    ghost either = { λ a n any. ipv4_bits any ≡ bit_or (ipv4_bits a) n };
+
+    fn bitor(self, rhs: u32) -> Ipv4Addr {
+        ipv4_of(self.to_bits() | rhs)
+    }
+}
+
+impl IpBitOr<u128> for Ipv6Addr {
+    type Output = Ipv6Addr;
+
+    ghost either = { λ a n any. ipv6_bits any ≡ bit_or (ipv6_bits a) n };
+
+    fn bitor(self, rhs: u128) -> Ipv6Addr {
+        ipv6_of(self.to_bits() | rhs)
+    }
+}
+
+impl IpBitOr<Ipv4Addr> for Ipv4Addr {
+    type Output = Ipv4Addr;
+
+    ghost either = { λ a b any. ipv4_bits any ≡ bit_or (ipv4_bits a) (ipv4_bits b) };
+
+    fn bitor(self, rhs: Ipv4Addr) -> Ipv4Addr {
+        ipv4_of(self.to_bits() | rhs.to_bits())
+    }
+}
+
+impl IpBitOr<Ipv6Addr> for Ipv6Addr {
+    type Output = Ipv6Addr;
+
+    ghost either = { λ a b any. ipv6_bits any ≡ bit_or (ipv6_bits a) (ipv6_bits b) };
+
+    fn bitor(self, rhs: Ipv6Addr) -> Ipv6Addr {
+        ipv6_of(self.to_bits() | rhs.to_bits())
     }
 }

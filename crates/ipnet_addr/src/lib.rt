@@ -4,6 +4,7 @@
 pub mod bits;
 pub mod ipext;
 pub mod laws;
+pub mod mask;
 pub mod parser;
 pub mod printer;
 pub mod ranges;

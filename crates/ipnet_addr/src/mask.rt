@@ -1,0 +1,77 @@
+//! Network masks: ones and then zeros.
+ghost use Rattle.std.specs.Prelude.{◌≡◌, ◌≢◌, ℕ, ◌^◌, ◌<◌, ◌≤◌, MatchOption, MatchResult};
+ghost use Rattle.ipnet_addr.specs.Addresses.{ipv4_address, ipv6_address, address_of};
+ghost use Rattle.ipnet_addr.specs.Masks.{mask_bits, IsMask};
+
+use crate::bits::{bit_len, ones};
+use std::net::{IpAddr, Ipv4Addr, Ipv6Addr};
+use thiserror::Error;
+
+/// A prefix length is above the width of the address, or a mask isn't ones followed by zeros.
+#[derive(Clone, Debug, PartialEq, Eq, Drop, Error)]
+#[error("invalid IP prefix length")]
+pub struct PrefixLenError;
+
+/// The number that is `len` ones and then zeros, `width` bits in all.
+pub fn mask_number(width: u8, len: u8) -> u128
+    requires in_width { len ≤ width }
+    requires bits { width ≤ 128 }
+    ensures value { result ≡ mask_bits width len }
+    ensures within { result < 2 ^ width }
+{
+    ones(width) - ones(width - len)
+}
+
+// The number of ones of a mask of `width` bits.
+fn mask_len(width: u8, mask: u128) -> Option<u8>
+    requires bits { width ≤ 128 }
+    requires within { mask < 2 ^ width }
+    ensures { MatchOption result ((len : ℕ) → len ≤ width → mask ≢ mask_bits width len) (λ len. (len ≤ width) × (mask ≡ mask_bits width len)) }
+{
+    let host = ones(width) - mask;
+    let free = bit_len(host);
+    if host == ones(free) {
+        Some(width - free)
+    } else {
+        None
+    }
+}
+
+/// The number of ones of an IPv4 mask.
+///
+/// # Errors
+/// `PrefixLenError` exactly where the mask isn't ones followed by zeros.
+pub fn ipv4_mask_to_prefix(mask: Ipv4Addr) -> Result<u8, PrefixLenError>
+    ensures { MatchResult result (IsMask (ipv4_address mask)) (λ _. (len : ℕ) → IsMask (ipv4_address mask) len → ⊥) }
+{
+    match mask_len(32, mask.to_bits().into()) {
+        Some(len) => Ok(len),
+        None => Err(PrefixLenError),
+    }
+}
+
+/// The number of ones of an IPv6 mask.
+///
+/// # Errors
+/// `PrefixLenError` exactly where the mask isn't ones followed by zeros.
+pub fn ipv6_mask_to_prefix(mask: Ipv6Addr) -> Result<u8, PrefixLenError>
+    ensures { MatchResult result (IsMask (ipv6_address mask)) (λ _. (len : ℕ) → IsMask (ipv6_address mask) len → ⊥) }
+{
+    match mask_len(128, mask.to_bits()) {
+        Some(len) => Ok(len),
+        None => Err(PrefixLenError),
+    }
+}
+
+/// The number of ones of a mask of either family.
+///
+/// # Errors
+/// `PrefixLenError` exactly where the mask isn't ones followed by zeros.
+pub fn ip_mask_to_prefix(mask: IpAddr) -> Result<u8, PrefixLenError>
+    ensures { MatchResult result (IsMask (address_of mask)) (λ _. (len : ℕ) → IsMask (address_of mask) len → ⊥) }
+{
+    match mask {
+        IpAddr::V4(mask) => ipv4_mask_to_prefix(mask),
+        IpAddr::V6(mask) => ipv6_mask_to_prefix(mask),
+    }
+}
