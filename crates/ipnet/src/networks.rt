@@ -65,10 +65,18 @@ impl Ipv4Net {
         if prefix_len > 32 {
             return Err(PrefixLenError);
         }
-        Ok(Ipv4Net {
+        Ok(Ipv4Net::new_assert(addr, prefix_len))
+    }
+
+    /// The network of this address and prefix length, at most 32; host bits are kept.
+    pub fn new_assert(addr: Ipv4Addr, prefix_len: u8) -> Ipv4Net
+        requires { prefix_len ≤ 32 }
+        ensures { result ≡ record { number = ipv4_bits addr; len = prefix_len } }
+    {
+        Ipv4Net {
             number: addr.to_bits(),
             len: prefix_len,
-        })
+        }
     }
 
     /// Its address, host bits too.

@@ -2,6 +2,8 @@
 ghost use Rattle.std.specs.Prelude.{◌≡◌, ◌+◌, ◌-◌, ◌^◌, ◌<◌, ◌≤◌};
 ghost use Rattle.ipnet.specs.Cuts.{most_free, first_free, after_first};
 
+use ipnet_addr::bits::ones;
+
 /// The most free bits, at most `most`, of a block that begins at `start` and ends at most at `end`.
 fn free_bits(start: u128, end: u128, most: u8) -> u8
     requires order { start ≤ end }
@@ -14,18 +16,6 @@ fn free_bits(start: u128, end: u128, most: u8) -> u8
         None => 128,
     };
     start.trailing_zeros().min(by_room).min(most as u32) as u8
-}
-
-/// The greatest number of so many bits.
-fn ones(bits: u8) -> u128
-    requires { bits ≤ 128 }
-    ensures { result + 1 ≡ 2 ^ bits }
-{
-    if bits == 0 {
-        0
-    } else {
-        u128::MAX >> (128 - bits)
-    }
 }
 
 /// The length of a block, and the ends of the range after it.

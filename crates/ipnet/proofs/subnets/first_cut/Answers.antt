@@ -1,14 +1,16 @@
 use Rattle.std.proofs.Common.{◌≡◌, ◌+◌, ◌-◌, ◌^◌, ◌<◌, ◌≤◌, ap, sym, ◌∙◌, arith, ℕ}
+use Rattle.std.proofs.lemmas.Nat.{pow_pos}
 use Rattle.std.proofs.Math.Nat.{pow-le-pow_right}
 use Rattle.ipnet.specs.Cuts.{first_free}
 use Rattle.ipnet.proofs.Cuts.{next_fits, after_greatest, after_last, after_more}
 use Rattle.ipnet.proofs.subnets.first_cut.Goals as goal
 
 -- the block ends in the family
-room : (w s e m free ones : ℕ) → s ≤ e → e < 2 ^ w → free ≡ first_free w (record { start = s; end = e; shortest = m }) → ones + 1 ≡ 2 ^ free
+room : (w s e m free ones : ℕ) → s ≤ e → e < 2 ^ w → free ≡ first_free w (record { start = s; end = e; shortest = m }) → ones ≡ 2 ^ free - 1
     → (s + ones + 1 ≡ s + 2 ^ first_free w (record { start = s; end = e; shortest = m })) × (s + ones + 1 ≤ 2 ^ w)
 room w s e m free ones le top is h =
     let p = ap (λ n. 2 ^ n) is in
+    let some = pow_pos free in
     let fits = next_fits w (record { start = s; end = e; shortest = m }) le top in
     (omega arith, omega arith)
 
