@@ -8,7 +8,7 @@ use Rattle.ipnet_addr.specs.Addresses.{Family, Ipv4, Ipv6, width, rank, Address}
 use Rattle.ipnet.specs.Blocks.{Block, IsBlock, free_bits, HasAddress, IsInside, IsBefore, first, first_of}
 use Rattle.ipnet.specs.Maximal.{IsWithin, IsCutBlock, IsCut}
 use Rattle.ipnet.specs.Cuts.{Limits, most_free, first_free, block_at, cut_within, cut, subnets, after_first}
-use Rattle.ipnet.specs.Networks.{net_of}
+use Rattle.ipnet.specs.Networks.{Network, net_of}
 use Rattle.ipnet_addr.proofs.Ascending.{In-from_Contains, Contains-from_In, All-from_In}
 use Rattle.ipnet.proofs.BlockLaws.{has_first, common, same_sets}
 use Rattle.ipnet.proofs.Parents.{decide_inside}
@@ -300,3 +300,17 @@ subnets_next f l le top =
 
 pub subnets_none : (f : Family) (l : Limits) → l.end < l.start → subnets f l ≡ []
 subnets_none f l lt = ap (map net_of) (cut_end f l lt)
+
+-- a call of `next`, where the limits stand in the fields
+pub next_none : (f : Family) (l : Limits) → l.end < l.start → ((subnets f l ≡ []) × (subnets f l ≡ [])) × (l ≡ after_first (width f) l)
+next_none f l lt = ((subnets_none f l lt, subnets_none f l lt), sym (after_none (width f) l lt))
+
+pub next_some : (f : Family) (l : Limits) (s e : ℕ) (n : Network) (new : Limits) → l.end < 2 ^ width f → l.start ≤ l.end → s ≡ l.start → e ≡ l.end
+    → n ≡ record { number = l.start; len = width f - first_free (width f) (record { start = s; end = e; shortest = l.shortest }) }
+    → new ≡ after_first (width f) (record { start = s; end = e; shortest = l.shortest })
+    → (subnets f l ≡ n ∷ subnets f new) × (new ≡ after_first (width f) l)
+next_some f l s e n new top le p q is stored =
+    let same : record { start = s; end = e; shortest = l.shortest } ≡ l = λ i. record { start = p i; end = q i; shortest = l.shortest } in
+    let left = stored ∙ ap (after_first (width f)) same in
+    let item : n ≡ record { number = l.start; len = width f - first_free (width f) l } = is ∙ ap (λ k. record { number = l.start; len = width f - first_free (width f) k }) same in
+    (subnets_next f l le top ∙ (λ i. sym item i ∷ subnets f (sym left i)), left)

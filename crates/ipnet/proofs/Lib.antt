@@ -11,3 +11,5 @@ pub mod NetworkReader
 pub mod Ipv4Networks
 pub mod FreeBits
 pub mod Cuts
+pub mod Lists
+pub mod Joins

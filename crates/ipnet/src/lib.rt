@@ -5,6 +5,7 @@ pub use contains::Contains;
 pub use networks::{AddrParseError, Ipv4Net, PrefixLenError};
 pub use std::net::Ipv4Addr;
 
+mod aggregate;
 mod contains;
 pub mod laws;
 mod networks;

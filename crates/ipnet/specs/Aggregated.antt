@@ -1,0 +1,20 @@
+-- The fewest blocks with the addresses of some others.
+use Rattle.std.specs.Prelude.{◌≡◌, ℕ, ◌+◌, ◌<◌, ◌≤◌, List, length, Any}
+use Rattle.ipnet_addr.specs.Addresses.{Address}
+use Rattle.ipnet.specs.Blocks.{Block, HasAddress, IsAscending}
+use Rattle.ipnet.specs.Maximal.{IsMaximal, IsUnion}
+
+-- an address of one of the blocks
+abbrev pub InSome : List Block → Address → Type 0
+InSome bs x = Any (λ b. HasAddress b x) bs
+
+-- `bs` lists the maximal blocks of the union of `given`; no list with that union is shorter, and an ascending one as short is `bs`
+pub record IsAggregated (given bs : List Block) : Type 0 where
+  pub maximal : IsMaximal (InSome given) bs
+  pub union : IsUnion (InSome given) bs
+  pub shortest : (cs : List Block) → IsUnion (InSome given) cs → length bs ≤ length cs
+  pub only : (cs : List Block) → IsUnion (InSome given) cs → IsAscending cs → length cs ≤ length bs → bs ≡ cs
+
+-- aggregated again, they stay what they are
+abbrev pub AggregatedIsStable : Type 0
+AggregatedIsStable = (given bs cs : List Block) → IsAggregated given bs → IsAggregated bs cs → cs ≡ bs
