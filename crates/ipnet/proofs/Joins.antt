@@ -1,5 +1,6 @@
 -- Joining spans of numbers, one after another.
-use Rattle.std.proofs.Common.{◌≡◌, ℕ, zero, suc, ◌+◌, ◌-◌, ◌<◌, ◌≤◌, ◌⊎◌, inl, inr, ⊎_elim, refl, sym, ◌∙◌, ap, subst, arith, max, List, [], ◌∷◌, ◌++◌, length, take, All, Any}
+use Rattle.std.proofs.Common.{◌≡◌, ◌+◌, ◌-◌, ◌<◌, ◌≤◌, inl, inr, ⊎_elim, refl, sym, ap, subst, arith, max, List, [], ◌∷◌, ◌++◌, length, take, drop, get_or}
+use Rattle.std.proofs.lemmas.List.{take_rest}
 use Rattle.std.specs.List.Sorted.{IsPermutation}
 use Rattle.std.proofs.lemmas.Bool.{cases_lt}
 use Rattle.std.proofs.lemmas.List.Sorted.{IsPermutation-sym}
@@ -27,31 +28,31 @@ module _ (given out : List Span) (o n : Span) (m : AreJoined given (out ++ o ∷
       record {
         same = λ x. (
           (λ h. elim (any_cases (IsIn x) given (n ∷ []) h) [
-          | inl g ↦ elim (any_cases (IsIn x) out (o ∷ []) ((m.same x).0 g)) [
-            | inl a ↦ any_left (IsIn x) out (wide ∷ []) a
-            | inr b ↦ let i = one_any (IsIn x) o b in any_right (IsIn x) out (wide ∷ []) (any_one (IsIn x) wide (omega arith, omega arith))
-          ]
-          | inr b ↦ let i = one_any (IsIn x) n b in any_right (IsIn x) out (wide ∷ []) (any_one (IsIn x) wide (omega arith, omega arith))
+            | inl g ↦ elim (any_cases (IsIn x) out (o ∷ []) ((m.same x).0 g)) [
+              | inl a ↦ any_left (IsIn x) out (wide ∷ []) a
+              | inr b ↦ let i = one_any (IsIn x) o b in any_right (IsIn x) out (wide ∷ []) (any_one (IsIn x) wide (omega arith, omega arith))
+            ]
+            | inr b ↦ let i = one_any (IsIn x) n b in any_right (IsIn x) out (wide ∷ []) (any_one (IsIn x) wide (omega arith, omega arith))
           ]),
           (λ h. elim (any_cases (IsIn x) out (wide ∷ []) h) [
-          | inl a ↦ any_left (IsIn x) given (n ∷ []) ((m.same x).1 (any_left (IsIn x) out (o ∷ []) a))
-          | inr b ↦
-            let i = one_any (IsIn x) wide b in
-            elim (cases_lt o.last x) [
-            | inl past ↦ any_right (IsIn x) given (n ∷ []) (any_one (IsIn x) n (omega arith, omega arith))
-            | inr in_open ↦ any_left (IsIn x) given (n ∷ []) ((m.same x).1 (any_right (IsIn x) out (o ∷ []) (any_one (IsIn x) o (omega arith, omega arith))))
-            ]
+            | inl a ↦ any_left (IsIn x) given (n ∷ []) ((m.same x).1 (any_left (IsIn x) out (o ∷ []) a))
+            | inr b ↦
+                let i = one_any (IsIn x) wide b in
+                elim (cases_lt o.last x) [
+                  | inl past ↦ any_right (IsIn x) given (n ∷ []) (any_one (IsIn x) n (omega arith, omega arith))
+                  | inr in_open ↦ any_left (IsIn x) given (n ∷ []) ((m.same x).1 (any_right (IsIn x) out (o ∷ []) (any_one (IsIn x) o (omega arith, omega arith))))
+                ]
           ]),
         );
         apart = pairs_from_Rising IsApart (out ++ wide ∷ [])
-          (rising_append IsApart out (wide ∷ []) (rising_front IsApart out (o ∷ []) up) ((λ y i. absurd i), tt) (λ x y i j. ⊎_elim
-          (λ e. let a = rising_cross IsApart out (o ∷ []) up x o i (inl refl) in subst (IsApart x) (sym e) a)
-          (λ no_more. absurd no_more)
-          j));
+            (rising_append IsApart out (wide ∷ []) (rising_front IsApart out (o ∷ []) up) ((λ y i. absurd i), tt) (λ x y i j. ⊎_elim
+            (λ e. let a = rising_cross IsApart out (o ∷ []) up x o i (inl refl) in subst (IsApart x) (sym e) a)
+            (λ no_more. absurd no_more)
+            j));
         some = All-from_In HasNumber (out ++ wide ∷ []) (λ s i. ⊎_elim
-        (λ j. some s (In-left s out (o ∷ []) j))
-        (λ j. ⊎_elim (λ e. subst HasNumber (sym e) (omega arith)) (λ no_more. absurd no_more) j)
-        (In-cases s out (wide ∷ []) i));
+            (λ j. some s (In-left s out (o ∷ []) j))
+            (λ j. ⊎_elim (λ e. subst HasNumber (sym e) (omega arith)) (λ no_more. absurd no_more) j)
+            (In-cases s out (wide ∷ []) i));
       }
 
   -- numbers lie between the open one and the next
@@ -65,17 +66,17 @@ module _ (given out : List Span) (o n : Span) (m : AreJoined given (out ++ o ∷
           (λ h. elim (any_cases (IsIn x) all (n ∷ []) h) [ inl g ↦ any_left (IsIn x) given (n ∷ []) ((m.same x).1 g) | inr b ↦ any_right (IsIn x) given (n ∷ []) b ]),
         );
         apart = pairs_from_Rising IsApart (all ++ n ∷ [])
-          (rising_append IsApart all (n ∷ []) up ((λ y i. absurd i), tt) (λ x y i j. ⊎_elim
-          (λ e. subst (IsApart x) (sym e) (⊎_elim
-          (λ k. let a = rising_cross IsApart out (o ∷ []) up x o k (inl refl) in omega arith)
-          (λ k. ⊎_elim (λ q. subst (λ (s : Span). IsApart s n) (sym q) far) (λ no_more. absurd no_more) k)
-          (In-cases x out (o ∷ []) i)))
-          (λ no_more. absurd no_more)
-          j));
+            (rising_append IsApart all (n ∷ []) up ((λ y i. absurd i), tt) (λ x y i j. ⊎_elim
+            (λ e. subst (IsApart x) (sym e) (⊎_elim
+            (λ k. let a = rising_cross IsApart out (o ∷ []) up x o k (inl refl) in omega arith)
+            (λ k. ⊎_elim (λ q. subst (λ (s : Span). IsApart s n) (sym q) far) (λ no_more. absurd no_more) k)
+            (In-cases x out (o ∷ []) i)))
+            (λ no_more. absurd no_more)
+            j));
         some = All-from_In HasNumber (all ++ n ∷ []) (λ s i. ⊎_elim
-        (λ j. some s j)
-        (λ j. ⊎_elim (λ e. subst HasNumber (sym e) has) (λ no_more. absurd no_more) j)
-        (In-cases s all (n ∷ []) i));
+            (λ j. some s j)
+            (λ j. ⊎_elim (λ e. subst HasNumber (sym e) has) (λ no_more. absurd no_more) j)
+            (In-cases s all (n ∷ []) i));
       }
 
 pub join_one : (s : Span) → HasNumber s → AreJoined (s ∷ []) (s ∷ [])
@@ -102,3 +103,8 @@ joined_permutation xs ys out p m = record {
   apart = m.apart;
   some = m.some;
 }
+
+-- a list by its first element
+pub split_is : (xs : List Span) (d : Span) → 0 < length xs → xs ≡ get_or xs 0 d ∷ take (length xs - 1) (drop 1 xs)
+split_is [] d h = absurd (omega arith)
+split_is (x ∷ xs) d h = ap (λ r. x ∷ r) (sym (take_rest (x ∷ xs) 1))

@@ -1,5 +1,5 @@
 -- `Any` and ascending lists along `++`.
-use Rattle.std.proofs.Common.{◌≡◌, ℕ, ◌⊎◌, inl, inr, ⊎_elim, refl, sym, subst, List, [], ◌∷◌, ◌++◌, Any}
+use Rattle.std.proofs.Common.{◌⊎◌, inl, inr, ⊎_elim, refl, sym, subst, List, [], ◌∷◌, ◌++◌, Any}
 use Rattle.std.specs.List.Sorted.{IsPermutation}
 use Rattle.std.proofs.lemmas.List.Sorted.{Contains-permutation}
 use Rattle.ipnet_addr.proofs.Members.{In, In-left, In-right, In-cases}

@@ -1,5 +1,5 @@
 -- The fewest blocks with the addresses of some others.
-use Rattle.std.specs.Prelude.{◌≡◌, ℕ, ◌+◌, ◌<◌, ◌≤◌, List, length, Any}
+use Rattle.std.specs.Prelude.{◌≡◌, ◌≤◌, List, length, Any}
 use Rattle.ipnet_addr.specs.Addresses.{Address}
 use Rattle.ipnet.specs.Blocks.{Block, HasAddress, IsAscending}
 use Rattle.ipnet.specs.Maximal.{IsMaximal, IsUnion}

@@ -1,5 +1,5 @@
 -- Spans of numbers.
-use Rattle.std.specs.Prelude.{◌≡◌, ℕ, ◌+◌, ◌<◌, ◌≤◌, ◌↔◌, List, All, AllPairs, Any}
+use Rattle.std.specs.Prelude.{ℕ, ◌+◌, ◌<◌, ◌≤◌, ◌↔◌, List, All, AllPairs, Any}
 use Rattle.ipnet.specs.declared.aggregate.Span.{Span}
 
 -- the number is one of the span's
