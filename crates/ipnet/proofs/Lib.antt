@@ -13,3 +13,7 @@ pub mod FreeBits
 pub mod Cuts
 pub mod Lists
 pub mod Joins
+pub mod Ipv6Networks
+pub mod IpNetworks
+pub mod NoSpace
+pub mod Longest

@@ -1,12 +1,15 @@
 -- `read_network` reads a network, whatever the address is.
-use Rattle.std.proofs.Common.{◌≡◌, ℕ, List, [], ◌∷◌, ◌++◌, length, Some, refl, sym, ap, ◌∙◌, arith, append_assoc, append-nil, lit≤, eqb-true}
+use Rattle.std.proofs.Common.{◌≡◌, ℕ, List, [], ◌∷◌, ◌++◌, length, Option, Some, None, MatchOption, refl, sym, ap, ◌∙◌, arith, append_assoc, append-nil, lit≤, eqb-true}
+use Rattle.std.proofs.lemmas.Option.{none-some}
+use Rattle.std.specs.Int.Digits.{number_from_digits}
 use Rattle.std.specs.Net.Reader.{Read, read_byte}
 use Rattle.std.proofs.NetLemmas.Options.{cond_some, and_then_some, same_parts}
 use Rattle.std.proofs.NetLemmas.Ipv4.{read_byte_sound}
 use Rattle.ipnet_addr.specs.AddressText.{IsShort}
-use Rattle.ipnet.specs.NetworkText.{SpellsParts}
+use Rattle.ipnet.specs.NetworkText.{SpellsParts, Spells}
 use Rattle.ipnet_addr.specs.Reader.{read_short}
-use Rattle.ipnet.specs.Reader.{read_network}
+use Rattle.ipnet.specs.Networks.{Network}
+use Rattle.ipnet.specs.Reader.{read_network, network_of}
 use Rattle.ipnet_addr.proofs.Ipv4Text.{read_short_complete, read_short_sound}
 
 empty : (xs : List ℕ) → length xs ≡ 0 → xs ≡ []
@@ -42,6 +45,31 @@ module _ (Address : List ℕ → List ℕ → Type 0) (digits max : ℕ) (read :
         prefix = rw (← len_is) short;
       }
 
-  -- a text spells one network at most
-  pub network_unique : (text x y : List ℕ) (m n : ℕ) → SpellsParts Address (IsShort 10 digits max) text x m → SpellsParts Address (IsShort 10 digits max) text y n → (x ≡ y) × (m ≡ n)
-  network_unique text x y m n h k = same_parts _ _ _ _ (sym (read_network_complete text x m h) ∙ read_network_complete text y n k)
+  module _ (base : ℕ) where
+    pub spells_complete : (text : List ℕ) (n : Network) → Spells Address base digits max text n → network_of base (read_network (read text) digits max) ≡ Some n
+    spells_complete text n h = rw (read_network_complete text h.parts n.len h.spelled) (λ i. Some (record { number = sym h.number i; len = n.len }))
+
+    pub spells_sound : (text : List ℕ) (n : Network) → network_of base (read_network (read text) digits max) ≡ Some n → Spells Address base digits max text n
+    spells_sound text n e = and_then_some _ (read_network (read text) digits max) _ e λ p is_read same.
+        let number : n.number ≡ number_from_digits base p.0 = cc in
+        let len : p.1 ≡ n.len = cc in
+        record { parts = p.0; spelled = rw (← len) (read_network_sound text p.0 p.1 is_read); number = number }
+
+    -- a text spells one network at most
+    pub spells_unique : (text : List ℕ) (m n : Network) → Spells Address base digits max text m → Spells Address base digits max text n → m ≡ n
+    spells_unique text m n h k = let e : Some m ≡ Some n = sym (spells_complete text m h) ∙ spells_complete text n k in cc
+
+    -- what a text spells, by the function that computes it
+    pub spells_found : (text : List ℕ) → MatchOption (network_of base (read_network (read text) digits max)) ((n : Network) → Spells Address base digits max text n → ⊥) (Spells Address base digits max text)
+    spells_found text = go (network_of base (read_network (read text) digits max)) refl
+      where
+        go : (r : Option Network) → network_of base (read_network (read text) digits max) ≡ r → MatchOption r ((n : Network) → Spells Address base digits max text n → ⊥) (Spells Address base digits max text)
+        go None e = λ n h. none-some _ (sym e ∙ spells_complete text n h)
+        go (Some n) e = spells_sound text n e
+
+    -- the network with the parts that are read
+    pub spells_read : (text parts : List ℕ) (number len : ℕ) → number ≡ number_from_digits base parts → read_network (read text) digits max ≡ Some (parts, len) → Spells Address base digits max text (record { number = number; len = len })
+    spells_read text parts number len is e = record { parts = parts; spelled = read_network_sound text parts len e; number = is }
+
+    pub spells_not_read : (text : List ℕ) → read_network (read text) digits max ≡ None → (n : Network) → Spells Address base digits max text n → ⊥
+    spells_not_read text e n h = none-some _ (sym e ∙ read_network_complete text h.parts n.len h.spelled)

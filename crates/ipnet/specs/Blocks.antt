@@ -36,6 +36,10 @@ is_inside a b = same_family a.family b.family && nat_le b.len a.len && (a.quotie
 abbrev pub first : Block → ℕ
 first b = b.quotient * 2 ^ free_bits b
 
+-- the greatest number of an address of the block
+abbrev pub last : Block → ℕ
+last b = first b + (2 ^ free_bits b - 1)
+
 -- the block of one address
 abbrev pub host : Address → Block
 host x = record { family = x.family; len = width x.family; quotient = x.number }
@@ -99,3 +103,7 @@ IsEarlier (false ∷ s) (true ∷ t) = Unit {0}
 IsEarlier (true ∷ s) (false ∷ t) = ⊥
 IsEarlier (false ∷ s) (false ∷ t) = IsEarlier s t
 IsEarlier (true ∷ s) (true ∷ t) = IsEarlier s t
+
+-- two blocks of one length, and not the longest: the parent of the one holds the other
+abbrev pub AreSiblings : Block → Block → Type 0
+AreSiblings a b = (0 < a.len) × (a.len ≡ b.len) × IsInside b (parent a)

@@ -1,9 +1,10 @@
 -- The texts of networks: which spell a network, and the one that is printed.
 use Rattle.std.specs.Prelude.{◌≡◌, ℕ, List, ◌++◌, codes, decimal}
-use Rattle.std.specs.Int.{w32, to_be_bytes}
+use Rattle.std.specs.Int.{w32, w128, to_be_bytes}
 use Rattle.std.specs.Int.Digits.{number_from_digits}
-use Rattle.std.specs.Net.Text.{ipv4_text}
-use Rattle.ipnet_addr.specs.AddressText.{IsShort, IsIpv4}
+use Rattle.std.specs.Net.Addr.{segments_of}
+use Rattle.std.specs.Net.Text.{ipv4_text, ipv6_text}
+use Rattle.ipnet_addr.specs.AddressText.{IsShort, IsIpv4, IsIpv6}
 use Rattle.ipnet.specs.Networks.{Network}
 
 -- An address, a slash and a length, and nothing before or after them. `Address` says what the address spells, `Length` the length.
@@ -14,16 +15,25 @@ pub record SpellsParts (Address : List ℕ → List ℕ → Type 0) (Length : Li
   pub address : Address address_text parts
   pub prefix : Length length_text len
 
--- four octets and a length of one or two digits, at most 32
-abbrev pub SpellsIpv4 : List ℕ → List ℕ → ℕ → Type 0
-SpellsIpv4 = SpellsParts IsIpv4 (IsShort 10 2 32)
+-- The text spells this network, host bits too: the parts of the address write its number in this base, and the length has at most so
+-- many digits and is at most `max`.
+pub record Spells (Address : List ℕ → List ℕ → Type 0) (base digits max : ℕ) (text : List ℕ) (n : Network) : Type 0 where
+  pub parts : List ℕ
+  pub spelled : SpellsParts Address (IsShort 10 digits max) text parts n.len
+  pub number : n.number ≡ number_from_digits base parts
 
--- the text spells this IPv4 network, host bits too: the octets write the number of its address
-pub record ReadsIpv4 (text : List ℕ) (n : Network) : Type 0 where
-  pub octets : List ℕ
-  pub spelled : SpellsIpv4 text octets n.len
-  pub number : n.number ≡ number_from_digits 256 octets
+-- an IPv4 network: four octets, and a length of one or two digits, at most 32
+abbrev pub ReadsIpv4 : List ℕ → Network → Type 0
+ReadsIpv4 = Spells IsIpv4 256 2 32
+
+-- an IPv6 network: eight units, and a length of one to three digits, at most 128
+abbrev pub ReadsIpv6 : List ℕ → Network → Type 0
+ReadsIpv6 = Spells IsIpv6 65536 3 128
 
 -- the one printed text: the octets of the number in decimal, a slash and the length
 abbrev pub ipv4_net_text : Network → List ℕ
 ipv4_net_text n = ipv4_text (to_be_bytes w32 n.number) ++ codes "/" ++ decimal n.len
+
+-- the same of an IPv6 network: the units of the number as RFC 5952 writes them
+abbrev pub ipv6_net_text : Network → List ℕ
+ipv6_net_text n = ipv6_text (segments_of (to_be_bytes w128 n.number)) ++ codes "/" ++ decimal n.len

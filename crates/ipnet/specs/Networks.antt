@@ -1,5 +1,5 @@
 -- Networks: an address of some family, host bits kept, and a prefix length.
-use Rattle.std.specs.Prelude.{◌≡◌, ℕ, ◌-◌, ◌/◌, ◌^◌, ◌<◌, ◌≤◌}
+use Rattle.std.specs.Prelude.{◌≡◌, ℕ, ◌-◌, ◌/◌, ◌^◌, ◌<◌, ◌≤◌, ◌⊎◌}
 use Rattle.ipnet_addr.specs.Addresses.{Family, width}
 use Rattle.ipnet.specs.Blocks.{Block, first}
 
@@ -24,3 +24,7 @@ net_of b = record { number = first b; len = b.len }
 -- the network has no host bits: it is the one of its block
 abbrev pub IsTruncated : Family → Network → Type 0
 IsTruncated family n = n ≡ net_of (block_of family n)
+
+-- by the number of the address, then by length
+abbrev pub ComesBefore : Network → Network → Type 0
+ComesBefore m n = (m.number < n.number) ⊎ ((m.number ≡ n.number) × (m.len < n.len))

@@ -2,7 +2,7 @@
 use Rattle.std.specs.Prelude.{ℕ, List, Option, Some, None, ◌==◌, length, if◌then◌else◌, option_and_then}
 use Rattle.std.specs.Int.Digits.{number_from_digits}
 use Rattle.std.specs.Net.Reader.{Read, read_byte}
-use Rattle.ipnet_addr.specs.Reader.{read_short, read_ipv4}
+use Rattle.ipnet_addr.specs.Reader.{read_short, read_ipv4, read_ipv6}
 use Rattle.ipnet.specs.Networks.{Network}
 
 infixl 10 ◌>>=◌
@@ -17,8 +17,16 @@ read_network address digits max = do
   len ← read_short 10 digits max after_slash
   if length len.1 == 0 then Some (parts.0, len.0) else None
 
+-- the network whose address has these parts as digits in this base
+abbrev pub network_of : ℕ → Option (List ℕ × ℕ) → Option Network
+network_of base read = do
+  parts ← read
+  Some (record { number = number_from_digits base parts.0; len = parts.1 })
+
 -- the IPv4 network that a text spells, if it spells one
 unfoldable pub ipv4_net_of : List ℕ → Option Network
-ipv4_net_of text = do
-  parts ← read_network (read_ipv4 text) 2 32
-  Some (record { number = number_from_digits 256 parts.0; len = parts.1 })
+ipv4_net_of text = network_of 256 (read_network (read_ipv4 text) 2 32)
+
+-- the IPv6 network that a text spells, if it spells one
+unfoldable pub ipv6_net_of : List ℕ → Option Network
+ipv6_net_of text = network_of 65536 (read_network (read_ipv6 text) 3 128)

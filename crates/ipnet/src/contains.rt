@@ -1,5 +1,13 @@
 //! Inclusion of networks and addresses.
-ghost use Rattle.std.specs.Prelude.{◌↔◌, IsTrue};
+ghost use Rattle.std.specs.Prelude.{◌≡◌, ◌^◌, ◌<◌, ◌≤◌, ◌↔◌, IsTrue};
+ghost use Rattle.ipnet_addr.specs.Addresses.{Family, Ipv4, Ipv6, width, ipv4_address, ipv6_address};
+ghost use Rattle.ipnet.specs.Blocks.{HasAddress, IsInside};
+ghost use Rattle.ipnet.specs.Networks.{block_of};
+
+use crate::ip_net::IpNet;
+use crate::networks::{Ipv4Net, Ipv6Net};
+use ipnet_addr::bits::quotient;
+use std::net::{IpAddr, Ipv4Addr, Ipv6Addr};
 
 /// Whether a network holds all addresses of another value, a network or an address.
 pub trait Contains<T> {
@@ -8,4 +16,98 @@ pub trait Contains<T> {
     /// Whether each address of `other` is one of `self`.
     fn contains(&self, other: T) -> bool
         ensures { IsTrue result ↔ contained self.now other };
+}
+
+// Whether the block of the network of this address number and length is inside that of the other, at this width.
+fn is_inside(bits: u8, number: u128, len: u8, other: u128, other_len: u8) -> bool
+    requires narrow { bits ≤ 128 }
+    requires fits { (number < 2 ^ bits) × (other < 2 ^ bits) }
+    requires in_width { (len ≤ bits) × (other_len ≤ bits) }
+    ensures { (f : Family) → bits ≡ width f → IsTrue result ↔ IsInside (block_of f (record { number = number; len = len })) (block_of f (record { number = other; len = other_len })) }
+{
+    let free = bits - other_len;
+    other_len <= len && quotient(other, free) == quotient(number, free)
+}
+
+/// Each address of `other` is one of `self`.
+impl Contains<&Ipv4Net> for Ipv4Net {
+    ghost contained = { λ n m. IsInside (block_of Ipv4 m.now) (block_of Ipv4 n) };
+
+    fn contains(&self, other: &Ipv4Net) -> bool {
+        is_inside(
+            32,
+            other.number(),
+            other.prefix_len(),
+            self.number(),
+            self.prefix_len(),
+        )
+    }
+}
+
+/// Each address of `other` is one of `self`.
+impl Contains<&Ipv6Net> for Ipv6Net {
+    ghost contained = { λ n m. IsInside (block_of Ipv6 m.now) (block_of Ipv6 n) };
+
+    fn contains(&self, other: &Ipv6Net) -> bool {
+        is_inside(
+            128,
+            other.number(),
+            other.prefix_len(),
+            self.number(),
+            self.prefix_len(),
+        )
+    }
+}
+
+/// The address is one of `self`.
+impl Contains<&Ipv4Addr> for Ipv4Net {
+    ghost contained = { λ n a. HasAddress (block_of Ipv4 n) (ipv4_address a.now) };
+
+    fn contains(&self, other: &Ipv4Addr) -> bool {
+        let free = 32 - self.prefix_len();
+        quotient(self.number(), free) == quotient(other.to_bits().into(), free)
+    }
+}
+
+/// The address is one of `self`.
+impl Contains<&Ipv6Addr> for Ipv6Net {
+    ghost contained = { λ n a. HasAddress (block_of Ipv6 n) (ipv6_address a.now) };
+
+    fn contains(&self, other: &Ipv6Addr) -> bool {
+        let free = 128 - self.prefix_len();
+        quotient(self.number(), free) == quotient(other.to_bits(), free)
+    }
+}
+
+/// Each address of `other` is one of `self`; false between families.
+impl Contains<&IpNet> for IpNet {
+    ghost use Rattle.ipnet.specs.Blocks.{IsInside};
+    ghost use Rattle.ipnet.specs.IpNets.{block};
+
+    ghost contained = { λ n m. IsInside (block m.now) (block n) };
+
+    fn contains(&self, other: &IpNet) -> bool {
+        match (self, other) {
+            (IpNet::V4(net), IpNet::V4(other)) => net.contains(other),
+            (IpNet::V6(net), IpNet::V6(other)) => net.contains(other),
+            _ => false,
+        }
+    }
+}
+
+/// The address is one of `self`; false between families.
+impl Contains<&IpAddr> for IpNet {
+    ghost use Rattle.ipnet_addr.specs.Addresses.{address_of};
+    ghost use Rattle.ipnet.specs.Blocks.{HasAddress};
+    ghost use Rattle.ipnet.specs.IpNets.{block};
+
+    ghost contained = { λ n a. HasAddress (block n) (address_of a.now) };
+
+    fn contains(&self, other: &IpAddr) -> bool {
+        match (self, other) {
+            (IpNet::V4(net), IpAddr::V4(addr)) => net.contains(addr),
+            (IpNet::V6(net), IpAddr::V6(addr)) => net.contains(addr),
+            _ => false,
+        }
+    }
 }

@@ -3,9 +3,19 @@
 ghost use Rattle.std.specs.Prelude.{◌≡◌, ℕ, List, MatchOption};
 ghost use Rattle.ipnet.specs.Blocks.{Block};
 ghost use Rattle.ipnet.specs.Networks.{Network, block_of, net_of};
-ghost use Rattle.ipnet.specs.NetworkText.{ReadsIpv4};
-ghost use Rattle.ipnet.specs.Reader.{ipv4_net_of};
+ghost use Rattle.std.specs.Prelude.{◌≢◌, ◌≤◌, ◌⊎◌, ◌↔◌, IsTrue, All, length};
+ghost use Rattle.std.specs.Ordering.{MatchOrdering};
+ghost use Rattle.ipnet.specs.NetworkText.{ReadsIpv4, ReadsIpv6};
+ghost use Rattle.ipnet.specs.Reader.{ipv4_net_of, ipv6_net_of};
+ghost use Rattle.ipnet.specs.Networks.{ComesBefore};
+ghost use Rattle.ipnet.specs.IpNets.{IsSooner};
+ghost use Rattle.ipnet.specs.IpNetText.{Reads, ip_net_of};
+ghost use Rattle.ipnet.specs.declared.ip_net.IpNet.{IpNet as AnyNet};
 ghost use Rattle.ipnet.specs.Laws.{AreNested, InsideByNumbers, BeginsIsInside, OrderIsTotal, OrderIsStrict, OrderIsTransitive, MaximalIsUnique, MaximalIsShortest, ShortestIsMaximal, ParentIsEnough, MaximalIsUnion, SearchIsMaximal, OrderIsOfStrings};
+
+use crate::ip_net::IpNet;
+use crate::networks::{Ipv4Net, Ipv6Net};
+use std::hash::Hash;
 
 /// Two blocks with a common address are nested.
 #[tactic(auto, using(crate::proofs::BlockLaws::nested))]
@@ -52,8 +62,37 @@ pub fn networks_of_blocks()
     ensures { (b : Block) → block_of b.family (net_of b) ≡ b }
 {}
 
-/// No text spells two networks, and `ipv4_net_of` finds the one that a text spells.
+/// Networks are ordered by family, number and length.
+pub fn network_order()
+    ensures v4 { (m n : Network) → MatchOrdering (⟦<Ipv4Net as Ord>⟧.cmp m n) (ComesBefore m n) (m ≡ n) (ComesBefore n m) }
+    ensures v6 { (m n : Network) → MatchOrdering (⟦<Ipv6Net as Ord>⟧.cmp m n) (ComesBefore m n) (m ≡ n) (ComesBefore n m) }
+    ensures either { (m n : AnyNet) → MatchOrdering (⟦<IpNet as Ord>⟧.cmp m n) (IsSooner m n) (m ≡ n) (IsSooner n m) }
+{}
+
+/// `==` holds of one network alone, and equal networks hash alike.
+pub fn network_equality()
+    ensures v4 { (m n : Network) → IsTrue (⟦<Ipv4Net as PartialEq>⟧.eq m n) ↔ (m ≡ n) }
+    ensures v6 { (m n : Network) → IsTrue (⟦<Ipv6Net as PartialEq>⟧.eq m n) ↔ (m ≡ n) }
+    ensures either { (m n : AnyNet) → IsTrue (⟦<IpNet as PartialEq>⟧.eq m n) ↔ (m ≡ n) }
+    ensures hash_v4 { (m n : Network) → IsTrue (⟦<Ipv4Net as PartialEq>⟧.eq m n) → ⟦<Ipv4Net as Hash>⟧.hash_input m ≡ ⟦<Ipv4Net as Hash>⟧.hash_input n }
+    ensures hash_v6 { (m n : Network) → IsTrue (⟦<Ipv6Net as PartialEq>⟧.eq m n) → ⟦<Ipv6Net as Hash>⟧.hash_input m ≡ ⟦<Ipv6Net as Hash>⟧.hash_input n }
+    ensures hash_either { (m n : AnyNet) → IsTrue (⟦<IpNet as PartialEq>⟧.eq m n) → ⟦<IpNet as Hash>⟧.hash_input m ≡ ⟦<IpNet as Hash>⟧.hash_input n }
+{}
+
+/// No text spells two networks; none is a network of both families. The functions find the one that a text spells.
 pub fn network_texts()
-    ensures unique { (text : List ℕ) (m n : Network) → ReadsIpv4 text m → ReadsIpv4 text n → m ≡ n }
-    ensures found { (text : List ℕ) → MatchOption (ipv4_net_of text) ((n : Network) → ReadsIpv4 text n → ⊥) (ReadsIpv4 text) }
+    ensures v4 { (text : List ℕ) (m n : Network) → ReadsIpv4 text m → ReadsIpv4 text n → m ≡ n }
+    ensures v6 { (text : List ℕ) (m n : Network) → ReadsIpv6 text m → ReadsIpv6 text n → m ≡ n }
+    ensures either { (text : List ℕ) (m n : AnyNet) → Reads text m → Reads text n → m ≡ n }
+    ensures not_both { (text : List ℕ) (m n : Network) → ReadsIpv4 text m → ReadsIpv6 text n → ⊥ }
+    ensures found_v4 { (text : List ℕ) → MatchOption (ipv4_net_of text) ((n : Network) → ReadsIpv4 text n → ⊥) (ReadsIpv4 text) }
+    ensures found_v6 { (text : List ℕ) → MatchOption (ipv6_net_of text) ((n : Network) → ReadsIpv6 text n → ⊥) (ReadsIpv6 text) }
+    ensures found { (text : List ℕ) → MatchOption (ip_net_of text) ((n : AnyNet) → Reads text n → ⊥) (Reads text) }
+{}
+
+/// No text of a network has a space or a line end, and none has more than 51 bytes.
+pub fn network_bytes()
+    ensures no_space { (text : List ℕ) (n : AnyNet) → Reads text n → All (λ c. c ≢ 32) text }
+    ensures no_line_end { (text : List ℕ) (n : AnyNet) → Reads text n → All (λ c. c ≢ 10) text }
+    ensures short { (text : List ℕ) (n : AnyNet) → Reads text n → length text ≤ 51 }
 {}

@@ -2,14 +2,22 @@
 #![tactic(auto)]
 
 pub use contains::Contains;
-pub use networks::{AddrParseError, Ipv4Net, PrefixLenError};
-pub use std::net::Ipv4Addr;
+pub use ip_net::IpNet;
+pub use ipnet_addr::ipext::{IpAdd, IpBitAnd, IpBitOr, IpStep, IpSub};
+pub use ipnet_addr::mask::{
+    PrefixLenError, ip_mask_to_prefix, ipv4_mask_to_prefix, ipv6_mask_to_prefix,
+};
+pub use networks::{Ipv4Net, Ipv6Net};
+pub use std::net::{IpAddr, Ipv4Addr, Ipv6Addr};
+pub use text::AddrParseError;
 
 mod aggregate;
 mod contains;
+mod ip_net;
 pub mod laws;
 mod networks;
 mod parser;
 mod subnets;
 #[cfg(test)]
 mod tests;
+mod text;

@@ -1,6 +1,7 @@
 -- `read_units` and `read_ipv6` read their part of the grammar, and nothing else.
-use Rattle.std.proofs.Common.{◌≡◌, ◌≢◌, ℕ, zero, suc, ◌-◌, ◌^◌, ◌<◌, ◌≤◌, decimal, nat_lt, Bool, true, false, List, [], ◌∷◌, ◌++◌, length, get_or, drop, Option, Some, None, refl, sym, ap, ◌∙◌, subst, arith, inl, inr, append_assoc, lit≤, lt-ltb, ne_eqb, eq-eqb, true≢false}
+use Rattle.std.proofs.Common.{◌≡◌, ◌≢◌, ℕ, zero, suc, ◌-◌, ◌^◌, ◌<◌, ◌≤◌, decimal, nat_lt, Bool, true, false, List, [], ◌∷◌, ◌++◌, length, length-append, replicate, get_or, drop, Option, Some, None, refl, sym, ap, ◌∙◌, subst, arith, inl, inr, append_assoc, lit≤, lt-ltb, ne_eqb, eq-eqb, true≢false}
 use Rattle.std.proofs.lemmas.Bool.{cases_eq}
+use Rattle.std.proofs.lemmas.List.{length-replicate}
 use Rattle.std.proofs.lemmas.Option.{none-some}
 use Rattle.std.specs.Char.{digit_value}
 use Rattle.std.specs.Net.Addr.{segments_of}
@@ -277,3 +278,10 @@ IsIpv6-from_std text units (inr h) = inr (record {
 -- what is printed reads as what was printed
 pub IsIpv6-ipv6_text : (units : List ℕ) → length units ≡ 8 → ((k : ℕ) → get_or units k 0 < 2 ^ 16) → IsIpv6 (ipv6_text units) units
 IsIpv6-ipv6_text units eight fits = IsIpv6-from_std _ units (IsColonHex-ipv6_text units eight fits)
+
+-- an address has eight units
+pub ipv6_units : (text units : List ℕ) → IsIpv6 text units → length units ≡ 8
+ipv6_units text units (inl h) = h.1
+ipv6_units text units (inr h) =
+    let gap = 8 - length h.head - length h.tail in
+    omega (arith, h.room, ap length h.value, length-append (h.head ++ replicate gap 0) h.tail, length-append h.head (replicate gap 0), length-replicate {A = ℕ} gap 0)

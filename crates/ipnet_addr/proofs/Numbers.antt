@@ -44,9 +44,12 @@ units_number : (units : List ℕ) → length units ≡ 8 → from_be_bytes w128 
 units_number units l = subst (λ (o : List ℕ). from_be_bytes w128 (octets_of o) ≡ number_from_digits 65536 o) (sym (eight_items units l)) (eight _ _ _ _ _ _ _ _)
 
 -- the number of an IPv6 address is the one that its units write in base 65536
-pub ipv6_number : (a : Ipv6Addr) → IsIpv6Addr a → ipv6_bits a ≡ number_from_digits 65536 (ipv6_segments a)
+pub units_bits : (a : Ipv6Addr) → length (ipv6_segments a) ≡ 8 → ipv6_bits a ≡ number_from_digits 65536 (ipv6_segments a)
 unfolding ipv6_bits
-ipv6_number a h = units_number (ipv6_segments a) h.0
+units_bits a l = units_number (ipv6_segments a) l
+
+pub ipv6_number : (a : Ipv6Addr) → IsIpv6Addr a → ipv6_bits a ≡ number_from_digits 65536 (ipv6_segments a)
+ipv6_number a h = units_bits a h.0
 
 -- one unit of a number, after those above it
 unit_step : (n p : ℕ) → n / (p * 65536) * 65536 + (n / (p * 256) % 256 * 256 + n / p % 256) ≡ n / p
@@ -82,7 +85,7 @@ digits_apart b m n (x ∷ xs) (y ∷ ys) l small tiny e =
     let here = digit_apart b m n x y (small 0) (tiny 0) later.0 in
     (here.0, λ i. here.1 i ∷ later.1 i)
 
-segments_small : (n k : ℕ) → get_or (segments_of (to_be_bytes w128 n)) k 0 < 2 ^ 16
+pub segments_small : (n k : ℕ) → get_or (segments_of (to_be_bytes w128 n)) k 0 < 2 ^ 16
 segments_small n zero = omega arith
 segments_small n (suc zero) = omega arith
 segments_small n (suc (suc zero)) = omega arith

@@ -1,6 +1,6 @@
 -- Masks and the last bits of a number, by powers of two.
 use Rattle.std.proofs.Common.{◌≡◌, ℕ, suc, ◌+◌, ◌-◌, ◌*◌, ◌/◌, ◌^◌, ◌<◌, ◌≤◌, inl, inr, sym, ap, ◌∙◌, subst, arith, shr_lt}
-use Rattle.std.proofs.lemmas.Nat.{pow-add, pow_pos}
+use Rattle.std.proofs.lemmas.Nat.{pow-add, pow_pos, pow_below}
 use Rattle.std.proofs.lemmas.Bool.{cases_lt}
 use Rattle.std.proofs.Math.Nat.{pow-le-pow_right, pow-suc, mul-le-mul_right}
 use Rattle.ipnet_addr.specs.Masks.{mask_bits}
@@ -50,3 +50,15 @@ filled_fits number free width l h =
     let w : 2 ^ (width - free) * 2 ^ free ≡ 2 ^ width = sym (pow-add 2 (width - free) free) ∙ ap (λ n. 2 ^ n) e in
     let some : 0 < 2 ^ free = pow_pos free in
     omega arith
+
+-- a mask has one length
+pub mask_unique : (bits len other : ℕ) → len ≤ bits → other ≤ bits → mask_bits bits len ≡ mask_bits bits other → len ≡ other
+mask_unique bits len other l k e =
+    let p : 2 ^ (bits - len) ≡ 2 ^ (bits - other) = omega (arith, mask_and_free bits len l, mask_and_free bits other k) in
+    elim (cases_lt (bits - len) (bits - other)) [
+      | inl less ↦ absurd (omega (arith, pow_below (bits - len) (bits - other) less))
+      | inr more ↦ elim (cases_lt (bits - other) (bits - len)) [
+        | inl less ↦ absurd (omega (arith, pow_below (bits - other) (bits - len) less))
+        | inr same ↦ omega arith
+      ]
+    ]

@@ -1,0 +1,221 @@
+//! Networks of either family.
+ghost use Rattle.std.specs.Prelude.{◌≡◌, ℕ, ◌-◌, ◌^◌, ◌<◌, ◌≤◌, ◌↔◌, IsTrue, IsOk, IfOk, MatchOption, MatchResult};
+ghost use Rattle.ipnet_addr.specs.Addresses.{address_of, width};
+ghost use Rattle.ipnet_addr.specs.Masks.{IsMask};
+ghost use Rattle.ipnet.specs.Blocks.{AreSiblings, first, last, parent};
+ghost use Rattle.ipnet.specs.Networks.{net_of};
+ghost use Rattle.ipnet.specs.IpNets.{family, parts, block, net_in};
+
+use crate::networks::{Ipv4Net, Ipv6Net};
+use ipnet_addr::mask::{PrefixLenError, ip_mask_to_prefix};
+use std::net::{IpAddr, Ipv4Addr, Ipv6Addr};
+
+/// A network of either family. IPv4 networks come before IPv6 ones.
+#[derive(Clone, Copy, PartialEq, Eq, PartialOrd, Ord, Hash)]
+pub enum IpNet {
+    V4(Ipv4Net),
+    V6(Ipv6Net),
+}
+
+impl IpNet {
+    /// The network of this address and prefix length; host bits are kept.
+    ///
+    /// # Errors
+    /// `PrefixLenError` exactly where `prefix_len` is above the width of the address, 32 or 128.
+    pub fn new(addr: IpAddr, prefix_len: u8) -> Result<IpNet, PrefixLenError>
+        ensures variant { IsOk result ↔ (prefix_len ≤ width (address_of addr).family) }
+        ensures parts { IfOk result (λ n. n ≡ net_in (address_of addr).family (record { number = (address_of addr).number; len = prefix_len })) }
+    {
+        match addr {
+            IpAddr::V4(addr) => Ok(IpNet::V4(Ipv4Net::new(addr, prefix_len)?)),
+            IpAddr::V6(addr) => Ok(IpNet::V6(Ipv6Net::new(addr, prefix_len)?)),
+        }
+    }
+
+    /// The network of this address and prefix length, at most the width of the address; host bits are kept.
+    pub fn new_assert(addr: IpAddr, prefix_len: u8) -> IpNet
+        requires { prefix_len ≤ width (address_of addr).family }
+        ensures { result ≡ net_in (address_of addr).family (record { number = (address_of addr).number; len = prefix_len }) }
+    {
+        match addr {
+            IpAddr::V4(addr) => IpNet::V4(Ipv4Net::new_assert(addr, prefix_len)),
+            IpAddr::V6(addr) => IpNet::V6(Ipv6Net::new_assert(addr, prefix_len)),
+        }
+    }
+
+    /// The network of this address whose prefix length is the number of ones of the mask; host bits are kept. The families of address and
+    /// mask may differ, as in the Rust crate ipnet 2.12.2.
+    ///
+    /// # Errors
+    /// `PrefixLenError` exactly where the mask isn't ones followed by zeros, or has more ones than the address has bits.
+    pub fn with_netmask(addr: IpAddr, netmask: IpAddr) -> Result<IpNet, PrefixLenError>
+        ensures { MatchResult result
+            (λ n. (family n ≡ (address_of addr).family) × ((parts n).number ≡ (address_of addr).number) × IsMask (address_of netmask) (parts n).len)
+            (λ _. (len : ℕ) → IsMask (address_of netmask) len → width (address_of addr).family < len) }
+    {
+        match ip_mask_to_prefix(netmask) {
+            Ok(len) => IpNet::new(addr, len),
+            Err(error) => Err(error),
+        }
+    }
+
+    /// Its address, host bits too.
+    pub fn addr(&self) -> IpAddr
+        ensures family { (address_of result).family ≡ family self.now }
+        ensures number { (address_of result).number ≡ (parts self.now).number }
+    {
+        match self {
+            IpNet::V4(net) => IpAddr::V4(net.addr()),
+            IpNet::V6(net) => IpAddr::V6(net.addr()),
+        }
+    }
+
+    /// Its prefix length, 0 to the width of its family.
+    pub fn prefix_len(&self) -> u8
+        ensures value { result ≡ (parts self.now).len }
+        ensures within { result ≤ width (family self.now) }
+    {
+        match self {
+            IpNet::V4(net) => net.prefix_len(),
+            IpNet::V6(net) => net.prefix_len(),
+        }
+    }
+
+    /// The greatest prefix length of its family, 32 or 128.
+    pub fn max_prefix_len(&self) -> u8
+        ensures { result ≡ width (family self.now) }
+    {
+        match self {
+            IpNet::V4(net) => net.max_prefix_len(),
+            IpNet::V6(net) => net.max_prefix_len(),
+        }
+    }
+
+    /// The mask of its prefix length: so many ones, and then zeros.
+    pub fn netmask(&self) -> IpAddr
+        ensures family { (address_of result).family ≡ family self.now }
+        ensures mask { IsMask (address_of result) (parts self.now).len }
+    {
+        match self {
+            IpNet::V4(net) => IpAddr::V4(net.netmask()),
+            IpNet::V6(net) => IpAddr::V6(net.netmask()),
+        }
+    }
+
+    /// The complement of the mask: zeros, and then a one for each host bit.
+    pub fn hostmask(&self) -> IpAddr
+        ensures family { (address_of result).family ≡ family self.now }
+        ensures number { (address_of result).number ≡ 2 ^ (width (family self.now) - (parts self.now).len) - 1 }
+    {
+        match self {
+            IpNet::V4(net) => IpAddr::V4(net.hostmask()),
+            IpNet::V6(net) => IpAddr::V6(net.hostmask()),
+        }
+    }
+
+    /// Its least address.
+    pub fn network(&self) -> IpAddr
+        ensures family { (address_of result).family ≡ family self.now }
+        ensures number { (address_of result).number ≡ first (block self.now) }
+    {
+        match self {
+            IpNet::V4(net) => IpAddr::V4(net.network()),
+            IpNet::V6(net) => IpAddr::V6(net.network()),
+        }
+    }
+
+    /// Its greatest address.
+    pub fn broadcast(&self) -> IpAddr
+        ensures family { (address_of result).family ≡ family self.now }
+        ensures number { (address_of result).number ≡ last (block self.now) }
+    {
+        match self {
+            IpNet::V4(net) => IpAddr::V4(net.broadcast()),
+            IpNet::V6(net) => IpAddr::V6(net.broadcast()),
+        }
+    }
+
+    /// The network with the same addresses and no host bits.
+    pub fn trunc(&self) -> IpNet
+        ensures { result ≡ net_in (family self.now) (net_of (block self.now)) }
+    {
+        match self {
+            IpNet::V4(net) => IpNet::V4(net.trunc()),
+            IpNet::V6(net) => IpNet::V6(net.trunc()),
+        }
+    }
+
+    /// The network one bit shorter that holds it, without host bits; None exactly at length 0.
+    pub fn supernet(&self) -> Option<IpNet>
+        ensures { MatchOption result ((parts self.now).len ≡ 0) (λ n. (0 < (parts self.now).len) × (n ≡ net_in (family self.now) (net_of (parent (block self.now))))) }
+    {
+        match self {
+            IpNet::V4(net) => Some(IpNet::V4(net.supernet()?)),
+            IpNet::V6(net) => Some(IpNet::V6(net.supernet()?)),
+        }
+    }
+
+    /// Whether both are of one family and of one length, above 0, and the supernet of one holds the other.
+    pub fn is_sibling(&self, other: &IpNet) -> bool
+        ensures { IsTrue result ↔ AreSiblings (block self.now) (block other.now) }
+    {
+        match (self, other) {
+            (IpNet::V4(net), IpNet::V4(other)) => net.is_sibling(other),
+            (IpNet::V6(net), IpNet::V6(other)) => net.is_sibling(other),
+            _ => false,
+        }
+    }
+}
+
+/// All of IPv4, `0.0.0.0/0`.
+impl Default for IpNet {
+    ghost use Rattle.std.specs.Prelude.{◌≡◌};
+    ghost use Rattle.ipnet_addr.specs.Addresses.{Ipv4};
+    ghost use Rattle.ipnet.specs.IpNets.{net_in};
+
+    ghost is_default = { λ n. n ≡ net_in Ipv4 (record { number = 0; len = 0 }) };
+
+    fn default() -> IpNet {
+        IpNet::V4(Ipv4Net::default())
+    }
+}
+
+/// The network of this address alone.
+impl From<IpAddr> for IpNet {
+    ghost use Rattle.std.specs.Prelude.{◌≡◌};
+    ghost use Rattle.ipnet_addr.specs.Addresses.{address_of, width};
+    ghost use Rattle.ipnet.specs.IpNets.{net_in};
+
+    ghost from_gives = { λ a n. n ≡ net_in (address_of a).family (record { number = (address_of a).number; len = width (address_of a).family }) };
+
+    fn from(addr: IpAddr) -> IpNet {
+        match addr {
+            IpAddr::V4(addr) => IpNet::V4(addr.into()),
+            IpAddr::V6(addr) => IpNet::V6(addr.into()),
+        }
+    }
+}
+
+impl From<Ipv4Net> for IpNet {
+    ghost use Rattle.std.specs.Prelude.{◌≡◌};
+    ghost use Rattle.ipnet_addr.specs.Addresses.{Ipv4};
+    ghost use Rattle.ipnet.specs.IpNets.{net_in};
+
+    ghost from_gives = { λ n m. m ≡ net_in Ipv4 n };
+
+    fn from(net: Ipv4Net) -> IpNet {
+        IpNet::V4(net)
+    }
+}
+
+impl From<Ipv6Net> for IpNet {
+    ghost use Rattle.std.specs.Prelude.{◌≡◌};
+    ghost use Rattle.ipnet_addr.specs.Addresses.{Ipv6};
+    ghost use Rattle.ipnet.specs.IpNets.{net_in};
+
+    ghost from_gives = { λ n m. m ≡ net_in Ipv6 n };
+
+    fn from(net: Ipv6Net) -> IpNet {
+        IpNet::V6(net)
+    }
+}
