@@ -17,3 +17,4 @@ pub mod Ipv6Networks
 pub mod IpNetworks
 pub mod NoSpace
 pub mod Longest
+pub mod Unions
