@@ -18,3 +18,4 @@ pub mod IpNetworks
 pub mod NoSpace
 pub mod Longest
 pub mod Unions
+pub mod Aggregates

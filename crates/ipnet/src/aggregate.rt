@@ -1,8 +1,16 @@
 //! The fewest networks with the addresses of some others.
 ghost use Rattle.std.specs.Prelude.{◌≡◌, ℕ, ◌+◌, ◌-◌, ◌^◌, ◌<◌, ◌≤◌, ◌++◌, map, All, IfOk, OnOk};
 ghost use Rattle.std.specs.List.Sorted.{IsPermutation, IsNonDecreasingBy};
-ghost use Rattle.ipnet.specs.Spans.{HasNumber, AreJoined};
+ghost use Rattle.std.specs.List.{flat_map};
+ghost use Rattle.ipnet_addr.specs.Addresses.{Family, Ipv4, Ipv6, width};
+ghost use Rattle.ipnet.specs.Aggregated.{AreAggregated};
+ghost use Rattle.ipnet.specs.Cuts.{subnets};
+ghost use Rattle.ipnet.specs.Networks.{Network};
+ghost use Rattle.ipnet.specs.Spans.{HasNumber, AreJoined, span_of, limits_of};
 
+use crate::networks::Ipv4Net;
+use crate::subnets::Ipv4Subnets;
+use ipnet_addr::bits::ipv4_of;
 use std::alloc::{AllocError, Global};
 
 /// The numbers from `first` to `last`.
@@ -42,4 +50,85 @@ fn joined(alloc: Global, spans: Vec<Span>) -> Result<Vec<Span>, AllocError>
     }
     joined.push(open)?;
     Ok(joined)
+}
+
+/// What `aggregate` needs of the networks of one family.
+trait OfFamily: Copy {
+    ghost family: { Family };
+
+    ghost parts: { Self → Network };
+
+    /// The numbers of its addresses.
+    fn span(&self) -> Span
+        ensures span { result ≡ span_of family (parts self.now) }
+        ensures fits { result.last < 2 ^ width family };
+
+    /// Appends the largest blocks of the span, ascending.
+    fn push_blocks(blocks: &mut Vec<Self>, span: &Span) -> Result<(), AllocError>
+        requires some { HasNumber span.now }
+        requires fits { span.now.last < 2 ^ width family }
+        ensures { OnOk result (map parts blocks.new.items ≡ map parts blocks.old.items ++ subnets family (limits_of span.now)) };
+}
+
+fn spans_of<N: OfFamily>(alloc: Global, networks: &Vec<N>) -> Result<Vec<Span>, AllocError>
+    ensures spans { IfOk result (λ v. v.items ≡ map (λ n. span_of N.family (N.parts n)) networks.now.items) }
+    ensures fit { IfOk result (λ v. All (λ s. s.last < 2 ^ width N.family) v.items) }
+{
+    let mut spans = Vec::new(alloc);
+    for network in networks {
+        spans.push(network.span())?;
+    }
+    Ok(spans)
+}
+
+fn blocks_of<N: OfFamily>(alloc: Global, spans: &Vec<Span>) -> Result<Vec<N>, AllocError>
+    requires some { All HasNumber spans.now.items }
+    requires fit { All (λ s. s.last < 2 ^ width N.family) spans.now.items }
+    ensures { IfOk result (λ v. map N.parts v.items ≡ flat_map (λ s. subnets N.family (limits_of s)) spans.now.items) }
+{
+    let mut blocks = Vec::new(alloc);
+    for span in spans {
+        N::push_blocks(&mut blocks, span)?;
+    }
+    Ok(blocks)
+}
+
+fn of_family<N: OfFamily>(alloc: Global, networks: &Vec<N>) -> Result<Vec<N>, AllocError>
+    ensures { IfOk result (λ v. AreAggregated N.family (map N.parts networks.now.items) (map N.parts v.items)) }
+{
+    let spans = joined(alloc, spans_of(alloc, networks)?)?;
+    blocks_of(alloc, &spans)
+}
+
+impl OfFamily for Ipv4Net {
+    ghost family = { Ipv4 };
+
+    ghost parts = { λ n. n };
+
+    fn span(&self) -> Span {
+        Span {
+            first: self.network().to_bits().into(),
+            last: self.broadcast().to_bits().into(),
+        }
+    }
+
+    fn push_blocks(blocks: &mut Vec<Ipv4Net>, span: &Span) -> Result<(), AllocError> {
+        let Span { first, last } = *span;
+        for block in Ipv4Subnets::new(ipv4_of(first as u32), ipv4_of(last as u32), 0) {
+            blocks.push(block)?;
+        }
+        Ok(())
+    }
+}
+
+impl Ipv4Net {
+    /// The fewest networks with the addresses of these, ascending, each without host bits; takes time n log n.
+    ///
+    /// # Errors
+    /// `AllocError` where memory is refused.
+    pub fn aggregate(alloc: Global, networks: &Vec<Ipv4Net>) -> Result<Vec<Ipv4Net>, AllocError>
+        ensures { IfOk result (λ v. AreAggregated Ipv4 networks.now.items v.items) }
+    {
+        of_family(alloc, networks)
+    }
 }
