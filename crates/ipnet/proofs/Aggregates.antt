@@ -21,7 +21,7 @@ use Rattle.ipnet.proofs.Cuts.{Between, cut_is_exact, span_of_has, has_of_span}
 use Rattle.ipnet.proofs.Lists.{any_left, any_right, any_cases, any_one, one_any}
 use Rattle.ipnet.proofs.Unions.{IsFarBefore, maximal_join, maximal_same, maximal_none}
 
-abbrev InSpans : Family → List Span → Address → Type 0
+abbrev pub InSpans : Family → List Span → Address → Type 0
 InSpans f spans x = (x.family ≡ f) × Any (IsIn x.number) spans
 
 abbrev cuts : Family → List Span → List Block
@@ -61,7 +61,7 @@ in_span f n x h = let r = span_of_has (block_of f n) x h in let p = pow_pos (fre
 of_span : (f : Family) (n : Network) (x : Address) → x.family ≡ f → IsIn x.number (span_of f n) → HasAddress (block_of f n) x
 of_span f n x e i = let p = pow_pos (free_bits (block_of f n)) in has_of_span (block_of f n) x e i.0 (let h = i.1 in omega arith)
 
-some_to_spans : (f : Family) (ns : List Network) (x : Address) → InSome (map (block_of f) ns) x → InSpans f (map (span_of f) ns) x
+pub some_to_spans : (f : Family) (ns : List Network) (x : Address) → InSome (map (block_of f) ns) x → InSpans f (map (span_of f) ns) x
 some_to_spans f [] x h = let a = In-from_Any (λ b. HasAddress b x) [] h in absurd a.1
 some_to_spans f (n ∷ ns) x h = ⊎_elim
     (λ o. let i = in_span f n x (one_any (λ b. HasAddress b x) (block_of f n) o) in (i.0, any_left (IsIn x.number) (span_of f n ∷ []) (map (span_of f) ns) (any_one (IsIn x.number) (span_of f n) i.1)))

@@ -19,3 +19,4 @@ pub mod NoSpace
 pub mod Longest
 pub mod Unions
 pub mod Aggregates
+pub mod IpAggregates

@@ -3,14 +3,17 @@ ghost use Rattle.std.specs.Prelude.{◌≡◌, ℕ, ◌+◌, ◌-◌, ◌^◌, �
 ghost use Rattle.std.specs.List.Sorted.{IsPermutation, IsNonDecreasingBy};
 ghost use Rattle.std.specs.List.{flat_map};
 ghost use Rattle.ipnet_addr.specs.Addresses.{Family, Ipv4, Ipv6, width};
-ghost use Rattle.ipnet.specs.Aggregated.{AreAggregated};
+ghost use Rattle.ipnet.specs.Aggregated.{AreAggregated, IsAggregated};
 ghost use Rattle.ipnet.specs.Cuts.{subnets};
-ghost use Rattle.ipnet.specs.Networks.{Network};
+ghost use Rattle.ipnet.specs.IpAggregated.{only_ipv4, only_ipv6};
+ghost use Rattle.ipnet.specs.IpNets.{block, family, parts};
+ghost use Rattle.ipnet.specs.Networks.{Network, IsTruncated};
 ghost use Rattle.ipnet.specs.Spans.{HasNumber, AreJoined, span_of, limits_of};
 
-use crate::networks::Ipv4Net;
-use crate::subnets::Ipv4Subnets;
-use ipnet_addr::bits::ipv4_of;
+use crate::ip_net::IpNet;
+use crate::networks::{Ipv4Net, Ipv6Net};
+use crate::subnets::{Ipv4Subnets, Ipv6Subnets};
+use ipnet_addr::bits::{ipv4_of, ipv6_of};
 use std::alloc::{AllocError, Global};
 
 /// The numbers from `first` to `last`.
@@ -131,4 +134,93 @@ impl Ipv4Net {
     {
         of_family(alloc, networks)
     }
+}
+
+impl OfFamily for Ipv6Net {
+    ghost family = { Ipv6 };
+
+    ghost parts = { λ n. n };
+
+    fn span(&self) -> Span {
+        Span {
+            first: self.network().to_bits(),
+            last: self.broadcast().to_bits(),
+        }
+    }
+
+    fn push_blocks(blocks: &mut Vec<Ipv6Net>, span: &Span) -> Result<(), AllocError> {
+        let Span { first, last } = *span;
+        for block in Ipv6Subnets::new(ipv6_of(first), ipv6_of(last), 0) {
+            blocks.push(block)?;
+        }
+        Ok(())
+    }
+}
+
+impl Ipv6Net {
+    /// The fewest networks with the addresses of these, ascending, each without host bits; takes time n log n.
+    ///
+    /// # Errors
+    /// `AllocError` where memory is refused.
+    pub fn aggregate(alloc: Global, networks: &Vec<Ipv6Net>) -> Result<Vec<Ipv6Net>, AllocError>
+        ensures { IfOk result (λ v. AreAggregated Ipv6 networks.now.items v.items) }
+    {
+        of_family(alloc, networks)
+    }
+}
+
+impl IpNet {
+    /// The fewest networks with the addresses of these, ascending, IPv4 first, each without host bits; takes time n log n.
+    ///
+    /// # Errors
+    /// `AllocError` where memory is refused.
+    pub fn aggregate(alloc: Global, networks: &Vec<IpNet>) -> Result<Vec<IpNet>, AllocError>
+        ensures blocks { IfOk result (λ v. IsAggregated (map block networks.now.items) (map block v.items)) }
+        ensures truncated { IfOk result (λ v. All (λ n. IsTruncated (family n) (parts n)) v.items) }
+    {
+        let (ipv4, ipv6) = by_family(alloc, networks)?;
+        let ipv4 = Ipv4Net::aggregate(alloc, &ipv4)?;
+        let ipv6 = Ipv6Net::aggregate(alloc, &ipv6)?;
+        let mut blocks = Vec::new(alloc);
+        push_ipv4(&mut blocks, &ipv4)?;
+        push_ipv6(&mut blocks, &ipv6)?;
+        Ok(blocks)
+    }
+}
+
+/// The networks of each family.
+fn by_family(
+    alloc: Global,
+    networks: &Vec<IpNet>,
+) -> Result<(Vec<Ipv4Net>, Vec<Ipv6Net>), AllocError>
+    ensures ipv4 { IfOk result (λ p. p.0.items ≡ only_ipv4 networks.now.items) }
+    ensures ipv6 { IfOk result (λ p. p.1.items ≡ only_ipv6 networks.now.items) }
+{
+    let mut ipv4 = Vec::new(alloc);
+    let mut ipv6 = Vec::new(alloc);
+    for network in networks {
+        match network {
+            IpNet::V4(network) => ipv4.push(*network)?,
+            IpNet::V6(network) => ipv6.push(*network)?,
+        }
+    }
+    Ok((ipv4, ipv6))
+}
+
+fn push_ipv4(blocks: &mut Vec<IpNet>, networks: &Vec<Ipv4Net>) -> Result<(), AllocError>
+    ensures { OnOk result (blocks.new.items ≡ blocks.old.items ++ map IpNet.V4 networks.now.items) }
+{
+    for network in networks {
+        blocks.push(IpNet::V4(*network))?;
+    }
+    Ok(())
+}
+
+fn push_ipv6(blocks: &mut Vec<IpNet>, networks: &Vec<Ipv6Net>) -> Result<(), AllocError>
+    ensures { OnOk result (blocks.new.items ≡ blocks.old.items ++ map IpNet.V6 networks.now.items) }
+{
+    for network in networks {
+        blocks.push(IpNet::V6(*network))?;
+    }
+    Ok(())
 }

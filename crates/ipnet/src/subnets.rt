@@ -1,15 +1,17 @@
 //! Subnet iterators: the largest blocks between two addresses, one after another.
 ghost use Rattle.std.specs.Prelude.{◌≡◌, ℕ, ◌+◌, ◌-◌, ◌^◌, ◌<◌, ◌≤◌};
 ghost use Rattle.std.specs.Iterator.{YieldsFirst, item_count};
-ghost use Rattle.std.specs.Net.Addr.{ipv4_bits};
-ghost use Rattle.ipnet_addr.specs.Addresses.{Ipv4};
+ghost use Rattle.std.specs.Net.Addr.{ipv4_bits, ipv6_bits};
+ghost use Rattle.ipnet_addr.specs.Addresses.{Ipv4, Ipv6};
 ghost use Rattle.ipnet.specs.Cuts.{most_free, first_free, cut, subnets, after_first};
+ghost use Rattle.ipnet.specs.IpSubnets.{ip_subnets, after_first_of};
 ghost use Rattle.ipnet.specs.Maximal.{IsCut};
 
-use crate::networks::Ipv4Net;
-use ipnet_addr::bits::{ipv4_of, ones};
+use crate::ip_net::IpNet;
+use crate::networks::{Ipv4Net, Ipv6Net};
+use ipnet_addr::bits::{ipv4_of, ipv6_of, ones};
 use std::marker::Model;
-use std::net::Ipv4Addr;
+use std::net::{Ipv4Addr, Ipv6Addr};
 
 /// The blocks of length at least a minimum between two IPv4 addresses that lie in no larger such block, ascending.
 ///
@@ -30,6 +32,31 @@ impl Model for Ipv4Subnets {
     ghost view = { λ s. record { start = s.start; end = s.end; shortest = s.min_prefix_len } };
 
     ghost invariant = { λ s. AreLimits Ipv4 (record { start = s.start; end = s.end; shortest = s.min_prefix_len }) };
+
+    ghost inverse = { λ l. record { start = l.start; end = l.end; min_prefix_len = l.shortest } };
+
+    ghost inverse_ok = { λ l h i. l };
+}
+
+/// The blocks of length at least a minimum between two IPv6 addresses that lie in no larger such block, ascending.
+///
+/// Contracts see it as the numbers of the two addresses and the minimum. Ordered by start, end and minimum.
+#[derive(Clone, Copy, Debug, PartialEq, Eq, PartialOrd, Ord, Hash)]
+pub struct Ipv6Subnets {
+    start: u128,
+    end: u128,
+    min_prefix_len: u8,
+}
+
+impl Model for Ipv6Subnets {
+    ghost use Rattle.ipnet_addr.specs.Addresses.{Ipv6};
+    ghost use Rattle.ipnet.specs.Cuts.{Limits, AreLimits};
+
+    ghost Value = { Limits };
+
+    ghost view = { λ s. record { start = s.start; end = s.end; shortest = s.min_prefix_len } };
+
+    ghost invariant = { λ s. AreLimits Ipv6 (record { start = s.start; end = s.end; shortest = s.min_prefix_len }) };
 
     ghost inverse = { λ l. record { start = l.start; end = l.end; min_prefix_len = l.shortest } };
 
@@ -121,5 +148,84 @@ impl Iterator for Ipv4Subnets {
         self.start = cut.start as u32;
         self.end = cut.end as u32;
         Some(Ipv4Net::new_assert(addr, cut.len))
+    }
+}
+
+impl Ipv6Subnets {
+    /// The blocks of length at least `min_prefix_len`, at most 128, from `start` to `end`; none where `start` is above `end`.
+    #[tactic(auto, using(crate::proofs::Cuts::cut_is_exact))]
+    pub fn new(start: Ipv6Addr, end: Ipv6Addr, min_prefix_len: u8) -> Ipv6Subnets
+        requires { min_prefix_len ≤ 128 }
+        ensures limits { result ≡ record { start = ipv6_bits start; end = ipv6_bits end; shortest = min_prefix_len } }
+        ensures blocks { IsCut Ipv6 (ipv6_bits start) (ipv6_bits end) min_prefix_len (cut Ipv6 result) }
+    {
+        Ipv6Subnets {
+            start: start.to_bits(),
+            end: end.to_bits(),
+            min_prefix_len,
+        }
+    }
+}
+
+/// After each block the stored start is the address after it. After the block of the greatest address it is that address,
+/// and the end is 0; after a block of the last address alone the end is 0 too.
+impl Iterator for Ipv6Subnets {
+    type Item = Ipv6Net;
+
+    ghost next_gives = { λ s n t. YieldsFirst (subnets Ipv6) s n t × (t ≡ after_first 128 s) };
+
+    ghost remaining = { item_count (subnets Ipv6) };
+
+    fn next(&mut self) -> Option<Ipv6Net> {
+        if self.start > self.end {
+            return None;
+        }
+        let addr = ipv6_of(self.start);
+        let cut = first_cut(128, self.start, self.end, self.min_prefix_len);
+        self.start = cut.start;
+        self.end = cut.end;
+        Some(Ipv6Net::new_assert(addr, cut.len))
+    }
+}
+
+/// A subnet iterator of either family. Ordered by family, IPv4 first, then as its family's.
+#[derive(Clone, Copy, Debug, PartialEq, Eq, PartialOrd, Ord, Hash)]
+pub enum IpSubnets {
+    V4(Ipv4Subnets),
+    V6(Ipv6Subnets),
+}
+
+impl From<Ipv4Subnets> for IpSubnets {
+    ghost use Rattle.ipnet.specs.declared.subnets.IpSubnets.TheVariants.{V4};
+
+    ghost from_gives = { λ s t. t ≡ V4 s };
+
+    fn from(subnets: Ipv4Subnets) -> IpSubnets {
+        IpSubnets::V4(subnets)
+    }
+}
+
+impl From<Ipv6Subnets> for IpSubnets {
+    ghost use Rattle.ipnet.specs.declared.subnets.IpSubnets.TheVariants.{V6};
+
+    ghost from_gives = { λ s t. t ≡ V6 s };
+
+    fn from(subnets: Ipv6Subnets) -> IpSubnets {
+        IpSubnets::V6(subnets)
+    }
+}
+
+impl Iterator for IpSubnets {
+    type Item = IpNet;
+
+    ghost next_gives = { λ s n t. YieldsFirst ip_subnets s n t × (t ≡ after_first_of s) };
+
+    ghost remaining = { item_count ip_subnets };
+
+    fn next(&mut self) -> Option<IpNet> {
+        match self {
+            IpSubnets::V4(subnets) => Some(IpNet::V4(subnets.next()?)),
+            IpSubnets::V6(subnets) => Some(IpNet::V6(subnets.next()?)),
+        }
     }
 }

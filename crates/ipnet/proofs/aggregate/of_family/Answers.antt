@@ -18,4 +18,4 @@ returns g c =
     let f = g.N.OfFamily.family in
     let given = c.in_ok-spans_of.ensures.spans ∙ sym (map-map (span_of f) g.N.OfFamily.parts c.args.networks.now.items) in
     let j = rw given at c.in_ok-spans.ensures in
-    IfOk-weaker c.blocks_of.result _ _ (λ v is. joined_aggregated f _ _ _ j (In-from_All (λ s. s.last < 2 ^ width f) _ (blocks_of-requires-clause-fit g c)) is) c.blocks_of.ensures
+    IfOk-weaker c.blocks_of.result _ _ (λ v is. joined_aggregated f _ _ _ j (In-from_All (λ s. s.last < 2 ^ width f) _ (joined_fit (2 ^ width f) _ _ c.in_ok-spans.ensures c.in_ok-spans_of.ensures.fit)) is) c.blocks_of.ensures
