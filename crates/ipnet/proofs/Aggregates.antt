@@ -1,22 +1,22 @@
 -- The blocks of joined spans are the maximal blocks of what the spans came from.
-use Rattle.std.proofs.Common.{◌≡◌, ℕ, zero, suc, ◌+◌, ◌-◌, ◌^◌, ◌<◌, ◌≤◌, ◌⊎◌, inl, inr, ⊎_elim, refl, sym, ◌∙◌, ap, subst, arith, true, false, Bool, List, [], ◌∷◌, ◌++◌, length, map, All, Any}
+use Rattle.std.proofs.Common.{◌≡◌, ℕ, ◌^◌, ◌<◌, ◌⊎◌, inl, inr, ⊎_elim, refl, sym, ◌∙◌, ap, subst, arith, true, false, Bool, List, [], ◌∷◌, ◌++◌, map, All, Any}
 use Rattle.std.specs.List.{flat_map}
 use Rattle.std.proofs.lemmas.Nat.{pow_pos}
 use Rattle.std.proofs.lemmas.List.Elements.{All-map}
-use Rattle.ipnet_addr.specs.Addresses.{Family, width, rank, Address}
-use Rattle.ipnet.specs.Blocks.{Block, free_bits, HasAddress, first, last, first_of, has_address}
-use Rattle.ipnet.specs.Maximal.{IsMaximal, IsUnion}
+use Rattle.ipnet_addr.specs.Addresses.{Family, width, Address}
+use Rattle.ipnet.specs.Blocks.{Block, free_bits, HasAddress, first_of, has_address}
+use Rattle.ipnet.specs.Maximal.{IsMaximal}
 use Rattle.ipnet.specs.Networks.{Network, block_of, net_of, IsTruncated}
-use Rattle.ipnet.specs.Cuts.{Limits, cut, subnets}
+use Rattle.ipnet.specs.Cuts.{cut, subnets}
 use Rattle.ipnet.specs.declared.aggregate.Span.{Span}
 use Rattle.ipnet.specs.Spans.{IsIn, HasNumber, IsApart, AreJoined, span_of, limits_of}
-use Rattle.ipnet.specs.Aggregated.{InSome, IsAggregated, AreAggregated, AggregatedIsStable}
+use Rattle.ipnet.specs.Aggregated.{InSome, IsAggregated, AreAggregated}
 use Rattle.ipnet_addr.proofs.Members.{In}
 use Rattle.ipnet_addr.proofs.Ascending.{In-from_All, All-from_In, In-from_Any, Any-from_In, Contains-from_In, Rising, Rising-from_pairs}
 use Rattle.ipnet.proofs.BlockLaws.{has_first}
 use Rattle.ipnet.proofs.BlockTests.{has_from_test, test_from_has}
 use Rattle.ipnet.proofs.NetworkBlocks.{block_round_trip}
-use Rattle.ipnet.proofs.Maximals.{maximal_is_unique, maximal_is_shortest, shortest_is_maximal, maximal_is_union}
+use Rattle.ipnet.proofs.Maximals.{maximal_is_shortest, shortest_is_maximal, maximal_is_union}
 use Rattle.ipnet.proofs.Cuts.{Between, cut_is_exact, span_of_has, has_of_span}
 use Rattle.ipnet.proofs.Lists.{any_left, any_right, any_cases, any_one, one_any}
 use Rattle.ipnet.proofs.Unions.{IsFarBefore, maximal_join, maximal_same, maximal_none}
@@ -43,11 +43,11 @@ cuts_are_maximal f [] up has top = maximal_none (InSpans f []) (λ x h. let a = 
 cuts_are_maximal f (s ∷ spans) up has top =
     let rest = cuts_are_maximal f spans up.1 (λ t i. has t (inr i)) (λ t i. top t (inr i)) in
     let far : (x y : Address) → Between f s.first s.last x → InSpans f spans y → IsFarBefore x y = λ x y h k.
-      let a = In-from_Any (IsIn y.number) spans k.1 in
-      let gap = up.0 a.0 a.1 in
-      let up_to = h.2 in
-      let from = a.2.0 in
-      inr (h.0 ∙ sym k.0, omega arith) in
+    let a = In-from_Any (IsIn y.number) spans k.1 in
+    let gap = up.0 a.0 a.1 in
+    let up_to = h.2 in
+    let from = a.2.0 in
+    inr (h.0 ∙ sym k.0, omega arith) in
     maximal_same (λ x. Between f s.first s.last x ⊎ InSpans f spans x) (InSpans f (s ∷ spans))
     (λ x h. ⊎_elim (λ b. (b.0, any_left (IsIn x.number) (s ∷ []) spans (any_one (IsIn x.number) s (b.1, b.2)))) (λ r. (r.0, any_right (IsIn x.number) (s ∷ []) spans r.1)) h)
     (λ x h. ⊎_elim (λ b. let i = one_any (IsIn x.number) s b in inl (h.0, i.0, i.1)) (λ r. inr (h.0, r)) (any_cases (IsIn x.number) (s ∷ []) spans h.1))
@@ -132,9 +132,9 @@ joined_aggregated f ns vs spans j top is =
     let one : (b : Block) → In b bs → b.family ≡ f = λ b i. (((m.exact b).0 (Contains-from_In bs b i)).within.all (first_of b) (has_first b)).0 in
     let nets = is ∙ networks_of_cuts f spans in
     let whole = maximal_same (InSpans f spans) (InSome (map (block_of f) ns))
-      (λ x h. spans_to_some f ns x (h.0, (j.same x.number).1 h.1))
-      (λ x h. let k = some_to_spans f ns x h in (k.0, (j.same x.number).0 k.1))
-      bs m in
+    (λ x h. spans_to_some f ns x (h.0, (j.same x.number).1 h.1))
+    (λ x h. let k = some_to_spans f ns x h in (k.0, (j.same x.number).0 k.1))
+    bs m in
     record {
       blocks = subst (λ cs. IsAggregated (map (block_of f) ns) cs) (sym (ap (map (block_of f)) nets ∙ networks_back f bs one)) (aggregated_of_maximal (map (block_of f) ns) bs whole);
       truncated = subst (All (IsTruncated f)) (sym nets) (All-from_In (IsTruncated f) (map net_of bs) (networks_truncated f bs one));

@@ -1,8 +1,8 @@
 -- The blocks of both families together.
-use Rattle.std.proofs.Common.{◌≡◌, ◌<◌, ◌⊎◌, inl, inr, ⊎_elim, refl, sym, ◌∙◌, ap, subst, arith, List, [], ◌∷◌, ◌++◌, map, All, Any}
+use Rattle.std.proofs.Common.{◌≡◌, ◌⊎◌, inl, inr, ⊎_elim, refl, sym, ap, subst, arith, List, [], ◌∷◌, ◌++◌, map, All}
 use Rattle.std.proofs.lemmas.List.Elements.{All-append, All-map}
 use Rattle.ipnet_addr.specs.Addresses.{Ipv4, Ipv6, rank, Address}
-use Rattle.ipnet.specs.Blocks.{Block, HasAddress}
+use Rattle.ipnet.specs.Blocks.{HasAddress}
 use Rattle.ipnet.specs.Maximal.{IsMaximal}
 use Rattle.ipnet.specs.Networks.{Network, block_of, IsTruncated}
 use Rattle.ipnet.specs.declared.ip_net.IpNet.{IpNet}
@@ -18,6 +18,7 @@ use Rattle.ipnet.proofs.Unions.{IsFarBefore, maximal_join, maximal_same}
 module _ (x : Address) where
   Some4 : List IpNet → Type 0
   Some4 ns = InSome (map (block_of Ipv4) (only_ipv4 ns)) x
+
   Some6 : List IpNet → Type 0
   Some6 ns = InSome (map (block_of Ipv6) (only_ipv6 ns)) x
 
@@ -63,12 +64,12 @@ pub both_aggregated : (ns : List IpNet) (us vs : List Network) → AreAggregated
 unfolding Some4 Some6
 both_aggregated ns us vs h g =
     let far : (x y : Address) → Some4 x ns → Some6 y ns → IsFarBefore x y = λ x y s t.
-      let p = ap rank (some_to_spans Ipv4 (only_ipv4 ns) x s).0 in
-      let q = ap rank (some_to_spans Ipv6 (only_ipv6 ns) y t).0 in
-      inl (omega arith) in
+    let p = ap rank (some_to_spans Ipv4 (only_ipv4 ns) x s).0 in
+    let q = ap rank (some_to_spans Ipv6 (only_ipv6 ns) y t).0 in
+    inl (omega arith) in
     let m = maximal_same (λ x. Some4 x ns ⊎ Some6 x ns) (InSome (map block ns))
-      (λ x k. ⊎_elim (from_ipv4 x ns) (from_ipv6 x ns) k) (λ x k. to_families x ns k) _
-      (maximal_join (λ x. Some4 x ns) (λ x. Some6 x ns) far _ _ h.blocks.maximal g.blocks.maximal) in
+    (λ x k. ⊎_elim (from_ipv4 x ns) (from_ipv6 x ns) k) (λ x k. to_families x ns k) _
+    (maximal_join (λ x. Some4 x ns) (λ x. Some6 x ns) far _ _ h.blocks.maximal g.blocks.maximal) in
     aggregated_of_maximal (map block ns) _ (subst (λ bs. IsMaximal (InSome (map block ns)) bs) (sym (blocks_both us vs)) m)
 
 pub both_truncated : (us vs : List Network) → All (IsTruncated Ipv4) us → All (IsTruncated Ipv6) vs → All (λ n. IsTruncated (family n) (parts n)) (map V4 us ++ map V6 vs)

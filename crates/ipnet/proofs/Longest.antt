@@ -1,5 +1,5 @@
 -- The longest text of a network has 51 bytes.
-use Rattle.std.proofs.Common.{◌≡◌, ℕ, ◌+◌, ◌*◌, ◌-◌, ◌<◌, ◌≤◌, Bool, true, false, List, [], ◌∷◌, ◌++◌, length, inl, inr, arith, codes, ap, sym, true≢false, ◌∙◌, length-append}
+use Rattle.std.proofs.Common.{◌≡◌, ℕ, ◌+◌, ◌*◌, ◌-◌, ◌≤◌, Bool, true, false, List, [], ◌∷◌, ◌++◌, length, inl, inr, arith, codes, ap, sym, true≢false, length-append}
 use Rattle.ipnet_addr.specs.AddressText.{IsShort, IsIpv4, IsUnitsAfter, IsIpv6}
 use Rattle.std.specs.Net.Addr.{segments_of}
 use Rattle.ipnet.specs.IpNetText.{Reads}
@@ -37,10 +37,17 @@ groups lead text (u ∷ us) few (inr h) = absurd (true≢false (sym h.2))
 
 ipv6 : (text us : List ℕ) → IsIpv6 text us → Short text 47
 ipv6 text us (inl h) = record { le = omega (arith, units true [] text us h.0, h.1) }
-ipv6 text us (inr h) = record { le = omega (
-  arith, ap length h.spelled, length-append (h.head_text ++ codes "::") h.tail_text, length-append h.head_text (codes "::"),
-  groups [] h.head_text h.head (omega arith) h.head_units, units true [] h.tail_text h.tail h.tail_units, h.room
-) }
+ipv6 text us (inr h) = record {
+  le = omega (
+    arith,
+    ap length h.spelled,
+    length-append (h.head_text ++ codes "::") h.tail_text,
+    length-append h.head_text (codes "::"),
+    groups [] h.head_text h.head (omega arith) h.head_units,
+    units true [] h.tail_text h.tail h.tail_units,
+    h.room,
+  );
+}
 
 pub longest : (text : List ℕ) (n : IpNet) → Reads text n → length text ≤ 51
 longest text (V4 n) h = let s : Short text 18 = rw h.spelled.spelled (and (and (ipv4 h.spelled.address) (one 47)) (number h.spelled.prefix)) in omega (arith, s.le)

@@ -1,12 +1,11 @@
 -- The maximal blocks of a union of sets with addresses between them.
-use Rattle.std.proofs.Common.{◌≡◌, ℕ, zero, suc, ◌+◌, ◌-◌, ◌*◌, ◌/◌, ◌^◌, ◌<◌, ◌≤◌, ◌⊎◌, inl, inr, ⊎_elim, refl, sym, ◌∙◌, ap, subst, arith, List, [], ◌∷◌, ◌++◌}
-use Rattle.std.proofs.lemmas.Nat.{pow_pos}
+use Rattle.std.proofs.Common.{◌≡◌, ℕ, zero, suc, ◌+◌, ◌-◌, ◌^◌, ◌<◌, ◌≤◌, ◌⊎◌, inl, inr, ⊎_elim, refl, sym, ap, subst, arith, List, [], ◌++◌}
 use Rattle.std.proofs.Math.Pow.{high}
-use Rattle.ipnet_addr.specs.Addresses.{Family, rank, Address}
+use Rattle.ipnet_addr.specs.Addresses.{rank, Address}
 use Rattle.ipnet.specs.Blocks.{Block, free_bits, HasAddress, IsBefore, first, first_of}
 use Rattle.ipnet.specs.Maximal.{IsWithin, IsMaximalBlock, IsMaximal}
 use Rattle.ipnet_addr.proofs.Members.{In, In-left, In-right, In-cases}
-use Rattle.ipnet_addr.proofs.Ascending.{In-from_Contains, Contains-from_In, Rising, Rising-from_pairs, pairs_from_Rising}
+use Rattle.ipnet_addr.proofs.Ascending.{In-from_Contains, Contains-from_In, Rising-from_pairs, pairs_from_Rising}
 use Rattle.ipnet.proofs.BlockLaws.{has_first}
 use Rattle.ipnet.proofs.Cuts.{span_of_has}
 use Rattle.ipnet.proofs.Lists.{rising_append}
@@ -48,9 +47,9 @@ module _ (S T : Address → Type 0) (apart : (x y : Address) → S x → T y →
       (λ t. inr (record {
         block = w.block;
         all = λ x h. ⊎_elim
-        (λ s. let r = span_of_has c x h in absurd (not_far x (first_of c) (ap rank h.0) (omega arith) (apart x (first_of c) s t)))
-        (λ u. u)
-        (w.all x h);
+            (λ s. let r = span_of_has c x h in absurd (not_far x (first_of c) (ap rank h.0) (omega arith) (apart x (first_of c) s t)))
+            (λ u. u)
+            (w.all x h);
       }))
       (w.all (first_of c) (has_first c))
 
@@ -58,18 +57,18 @@ module _ (S T : Address → Type 0) (apart : (x y : Address) → S x → T y →
   left_maximal b m = record {
     within = record { block = m.within.block; all = λ x h. inl (m.within.all x h) };
     largest = λ c w l. ⊎_elim
-    (λ s. m.largest c s l)
-    (λ t. not_far (first_of b) (first_of b) refl (omega arith) (apart (first_of b) (first_of b) (m.within.all (first_of b) (has_first b)) (t.all (first_of b) (l.0 (first_of b) (has_first b)))))
-    (in_one c w);
+        (λ s. m.largest c s l)
+        (λ t. not_far (first_of b) (first_of b) refl (omega arith) (apart (first_of b) (first_of b) (m.within.all (first_of b) (has_first b)) (t.all (first_of b) (l.0 (first_of b) (has_first b)))))
+        (in_one c w);
   }
 
   right_maximal : (b : Block) → IsMaximalBlock T b → IsMaximalBlock (λ x. S x ⊎ T x) b
   right_maximal b m = record {
     within = record { block = m.within.block; all = λ x h. inr (m.within.all x h) };
     largest = λ c w l. ⊎_elim
-    (λ s. not_far (first_of b) (first_of b) refl (omega arith) (apart (first_of b) (first_of b) (s.all (first_of b) (l.0 (first_of b) (has_first b))) (m.within.all (first_of b) (has_first b))))
-    (λ t. m.largest c t l)
-    (in_one c w);
+        (λ s. not_far (first_of b) (first_of b) refl (omega arith) (apart (first_of b) (first_of b) (s.all (first_of b) (l.0 (first_of b) (has_first b))) (m.within.all (first_of b) (has_first b))))
+        (λ t. m.largest c t l)
+        (in_one c w);
   }
 
   before : (bs cs : List Block) → IsMaximal S bs → IsMaximal T cs → (b c : Block) → In b bs → In c cs → IsBefore b c
@@ -83,13 +82,13 @@ module _ (S T : Address → Type 0) (apart : (x y : Address) → S x → T y →
     ascending = pairs_from_Rising IsBefore (bs ++ cs) (rising_append IsBefore bs cs (Rising-from_pairs IsBefore bs h.ascending) (Rising-from_pairs IsBefore cs g.ascending) (before bs cs h g));
     exact = λ b. (
       (λ i. ⊎_elim
-      (λ p. left_maximal b ((h.exact b).0 (Contains-from_In bs b p)))
-      (λ q. right_maximal b ((g.exact b).0 (Contains-from_In cs b q)))
-      (In-cases b bs cs (In-from_Contains (bs ++ cs) b i))),
+          (λ p. left_maximal b ((h.exact b).0 (Contains-from_In bs b p)))
+          (λ q. right_maximal b ((g.exact b).0 (Contains-from_In cs b q)))
+          (In-cases b bs cs (In-from_Contains (bs ++ cs) b i))),
       (λ m. Contains-from_In (bs ++ cs) b (⊎_elim
-      (λ s. In-left b bs cs (In-from_Contains bs b ((h.exact b).1 (record { within = s; largest = λ c w l. m.largest c (record { block = w.block; all = λ x k. inl (w.all x k) }) l }))))
-      (λ t. In-right b bs cs (In-from_Contains cs b ((g.exact b).1 (record { within = t; largest = λ c w l. m.largest c (record { block = w.block; all = λ x k. inr (w.all x k) }) l }))))
-      (in_one b m.within))),
+          (λ s. In-left b bs cs (In-from_Contains bs b ((h.exact b).1 (record { within = s; largest = λ c w l. m.largest c (record { block = w.block; all = λ x k. inl (w.all x k) }) l }))))
+          (λ t. In-right b bs cs (In-from_Contains cs b ((g.exact b).1 (record { within = t; largest = λ c w l. m.largest c (record { block = w.block; all = λ x k. inr (w.all x k) }) l }))))
+          (in_one b m.within))),
     );
   }
 

@@ -1,6 +1,6 @@
 -- Subnet iterators of either family.
 use Rattle.std.specs.Prelude.{List, map}
-use Rattle.ipnet_addr.specs.Addresses.{Ipv4, Ipv6, width}
+use Rattle.ipnet_addr.specs.Addresses.{Ipv4, Ipv6}
 use Rattle.ipnet.specs.Cuts.{subnets, after_first}
 use Rattle.ipnet.specs.declared.ip_net.IpNet.{IpNet}
 use Rattle.ipnet.specs.declared.ip_net.IpNet.TheVariants as net

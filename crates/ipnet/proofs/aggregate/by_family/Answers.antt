@@ -20,12 +20,12 @@ loop-network-preserved c =
     let lt = c.loop-network-test.true in
     let h = c.loop-network.invariant in
     elim c.match-network.branch [
-    | in-V4+in_ok-push-in-V4 w ↦ (
-      ap (λ v. v.items) w.ipv4-is ∙ w.in_ok-push-in-V4.ensures.items ∙ ap (λ ys. ys ++ (w.in-V4.network ∷ [])) h.0 ∙ sym (more as_ipv4 ns i c.network-item.result (V4 w.in-V4.network) lt c.network-item.is w.in-V4.is),
-      ap (λ v. v.items) w.ipv6-is ∙ h.1 ∙ sym (more as_ipv6 ns i c.network-item.result (V4 w.in-V4.network) lt c.network-item.is w.in-V4.is ∙ append-nil (only_ipv6 (take i ns))),
-    )
-    | in-V6+in_ok-push-in-V6 w ↦ (
-      ap (λ v. v.items) w.ipv4-is ∙ h.0 ∙ sym (more as_ipv4 ns i c.network-item.result (V6 w.in-V6.network) lt c.network-item.is w.in-V6.is ∙ append-nil (only_ipv4 (take i ns))),
-      ap (λ v. v.items) w.ipv6-is ∙ w.in_ok-push-in-V6.ensures.items ∙ ap (λ ys. ys ++ (w.in-V6.network ∷ [])) h.1 ∙ sym (more as_ipv6 ns i c.network-item.result (V6 w.in-V6.network) lt c.network-item.is w.in-V6.is),
-    )
+      | in-V4+in_ok-push-in-V4 w ↦ (
+        ap (λ v. v.items) w.ipv4-is ∙ w.in_ok-push-in-V4.ensures.items ∙ ap (λ ys. ys ++ (w.in-V4.network ∷ [])) h.0 ∙ sym (more as_ipv4 ns i c.network-item.result (V4 w.in-V4.network) lt c.network-item.is w.in-V4.is),
+        ap (λ v. v.items) w.ipv6-is ∙ h.1 ∙ sym (more as_ipv6 ns i c.network-item.result (V4 w.in-V4.network) lt c.network-item.is w.in-V4.is ∙ append-nil (only_ipv6 (take i ns))),
+      )
+      | in-V6+in_ok-push-in-V6 w ↦ (
+        ap (λ v. v.items) w.ipv4-is ∙ h.0 ∙ sym (more as_ipv4 ns i c.network-item.result (V6 w.in-V6.network) lt c.network-item.is w.in-V6.is ∙ append-nil (only_ipv4 (take i ns))),
+        ap (λ v. v.items) w.ipv6-is ∙ w.in_ok-push-in-V6.ensures.items ∙ ap (λ ys. ys ++ (w.in-V6.network ∷ [])) h.1 ∙ sym (more as_ipv6 ns i c.network-item.result (V6 w.in-V6.network) lt c.network-item.is w.in-V6.is),
+      )
     ]

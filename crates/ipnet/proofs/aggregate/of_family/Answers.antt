@@ -1,9 +1,9 @@
-use Rattle.std.proofs.Common.{ℕ, ◌^◌, ◌<◌, map, sym, ◌∙◌}
+use Rattle.std.proofs.Common.{◌^◌, ◌<◌, sym, ◌∙◌}
 use Rattle.std.proofs.lemmas.Result.{IfOk-weaker}
 use Rattle.std.proofs.lemmas.Simd.{map-map}
 use Rattle.ipnet_addr.specs.Addresses.{width}
 use Rattle.ipnet_addr.proofs.Ascending.{In-from_All}
-use Rattle.ipnet.specs.Spans.{AreJoined, span_of}
+use Rattle.ipnet.specs.Spans.{span_of}
 use Rattle.ipnet.proofs.Aggregates.{spans_have, joined_fit, joined_aggregated}
 use Rattle.ipnet.proofs.aggregate.of_family.Goals as goal
 

@@ -1,4 +1,4 @@
-use Rattle.std.proofs.Common.{rules, ◌≡◌, ◌<◌, ◌⊎◌, Ordering, Less, Equal, Greater, inl, inr, ap, refl, arith}
+use Rattle.std.proofs.Common.{rules, ◌≡◌, Ordering, Less, Equal, Greater, inl, inr, ap, refl, arith}
 use Rattle.std.specs.Ordering.{MatchOrdering}
 use Rattle.ipnet.specs.Networks.{Network, ComesBefore}
 use Rattle.ipnet.specs.IpNets.{IsSooner}

@@ -1,7 +1,4 @@
-use Rattle.std.proofs.Common.{map}
 use Rattle.std.proofs.lemmas.Result.{IfOk-weaker}
-use Rattle.ipnet_addr.specs.Addresses.{Ipv6}
-use Rattle.ipnet.specs.Aggregated.{AreAggregated}
 use Rattle.ipnet.proofs.Aggregates.{map_same}
 use Rattle.ipnet.proofs.networks.Ipv6Net.aggregate.Goals as goal
 
