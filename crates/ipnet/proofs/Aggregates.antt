@@ -10,13 +10,13 @@ use Rattle.ipnet.specs.Networks.{Network, block_of, net_of, IsTruncated}
 use Rattle.ipnet.specs.Cuts.{cut, subnets}
 use Rattle.ipnet.specs.declared.aggregate.Span.{Span}
 use Rattle.ipnet.specs.Spans.{IsIn, HasNumber, IsApart, AreJoined, span_of, limits_of}
-use Rattle.ipnet.specs.Aggregated.{InSome, IsAggregated, AreAggregated}
+use Rattle.ipnet.specs.Aggregated.{InSome, IsAggregated, AreAggregated, AggregatedIsStable}
 use Rattle.ipnet_addr.proofs.Members.{In}
 use Rattle.ipnet_addr.proofs.Ascending.{In-from_All, All-from_In, In-from_Any, Any-from_In, Contains-from_In, Rising, Rising-from_pairs}
 use Rattle.ipnet.proofs.BlockLaws.{has_first}
 use Rattle.ipnet.proofs.BlockTests.{has_from_test, test_from_has}
 use Rattle.ipnet.proofs.NetworkBlocks.{block_round_trip}
-use Rattle.ipnet.proofs.Maximals.{maximal_is_shortest, shortest_is_maximal, maximal_is_union}
+use Rattle.ipnet.proofs.Maximals.{maximal_is_unique, maximal_is_shortest, shortest_is_maximal, maximal_is_union}
 use Rattle.ipnet.proofs.Cuts.{Between, cut_is_exact, span_of_has, has_of_span}
 use Rattle.ipnet.proofs.Lists.{any_left, any_right, any_cases, any_one, one_any}
 use Rattle.ipnet.proofs.Unions.{IsFarBefore, maximal_join, maximal_same, maximal_none}
@@ -49,8 +49,8 @@ cuts_are_maximal f (s ∷ spans) up has top =
     let from = a.2.0 in
     inr (h.0 ∙ sym k.0, omega arith) in
     maximal_same (λ x. Between f s.first s.last x ⊎ InSpans f spans x) (InSpans f (s ∷ spans))
-    (λ x h. ⊎_elim (λ b. (b.0, any_left (IsIn x.number) (s ∷ []) spans (any_one (IsIn x.number) s (b.1, b.2)))) (λ r. (r.0, any_right (IsIn x.number) (s ∷ []) spans r.1)) h)
-    (λ x h. ⊎_elim (λ b. let i = one_any (IsIn x.number) s b in inl (h.0, i.0, i.1)) (λ r. inr (h.0, r)) (any_cases (IsIn x.number) (s ∷ []) spans h.1))
+    (λ x _ h. ⊎_elim (λ b. (b.0, any_left (IsIn x.number) (s ∷ []) spans (any_one (IsIn x.number) s (b.1, b.2)))) (λ r. (r.0, any_right (IsIn x.number) (s ∷ []) spans r.1)) h)
+    (λ x _ h. ⊎_elim (λ b. let i = one_any (IsIn x.number) s b in inl (h.0, i.0, i.1)) (λ r. inr (h.0, r)) (any_cases (IsIn x.number) (s ∷ []) spans h.1))
     _
     (maximal_join (Between f s.first s.last) (InSpans f spans) far _ _ (cut_is_maximal f s (top s (inl refl))) rest)
 
@@ -132,19 +132,17 @@ joined_aggregated f ns vs spans j top is =
     let one : (b : Block) → In b bs → b.family ≡ f = λ b i. (((m.exact b).0 (Contains-from_In bs b i)).within.all (first_of b) (has_first b)).0 in
     let nets = is ∙ networks_of_cuts f spans in
     let whole = maximal_same (InSpans f spans) (InSome (map (block_of f) ns))
-    (λ x h. spans_to_some f ns x (h.0, (j.same x.number).1 h.1))
-    (λ x h. let k = some_to_spans f ns x h in (k.0, (j.same x.number).0 k.1))
+    (λ x _ h. spans_to_some f ns x (h.0, (j.same x.number).1 h.1))
+    (λ x _ h. let k = some_to_spans f ns x h in (k.0, (j.same x.number).0 k.1))
     bs m in
     record {
       blocks = subst (λ cs. IsAggregated (map (block_of f) ns) cs) (sym (ap (map (block_of f)) nets ∙ networks_back f bs one)) (aggregated_of_maximal (map (block_of f) ns) bs whole);
       truncated = subst (All (IsTruncated f)) (sym nets) (All-from_In (IsTruncated f) (map net_of bs) (networks_truncated f bs one));
     }
 
--- an address of the one is an address of the other
-union_to : (given bs : List Block) → IsAggregated given bs → (x : Address) → InSome bs x → InSome given x
-union_to given bs h x i =
-    let a = In-from_Any (λ b. HasAddress b x) bs i in
-    ((h.maximal.exact a.0).0 (Contains-from_In bs a.0 a.1)).within.all x a.2
+pub aggregated_is_stable : AggregatedIsStable
+aggregated_is_stable given bs cs h g =
+    maximal_is_unique (InSome bs) cs bs g.maximal (maximal_same (InSome given) (InSome bs) (λ x a. (h.union.exact x a).0) (λ x a. (h.union.exact x a).1) bs h.maximal)
 
 -- spans of networks have numbers, and joined spans end where some of them ends
 pub spans_have : {N : Type 0} (f : Family) (parts : N → Network) (ns : List N) → All HasNumber (map (λ n. span_of f (parts n)) ns)

@@ -68,7 +68,7 @@ both_aggregated ns us vs h g =
     let q = ap rank (some_to_spans Ipv6 (only_ipv6 ns) y t).0 in
     inl (omega arith) in
     let m = maximal_same (λ x. Some4 x ns ⊎ Some6 x ns) (InSome (map block ns))
-    (λ x k. ⊎_elim (from_ipv4 x ns) (from_ipv6 x ns) k) (λ x k. to_families x ns k) _
+    (λ x _ k. ⊎_elim (from_ipv4 x ns) (from_ipv6 x ns) k) (λ x _ k. to_families x ns k) _
     (maximal_join (λ x. Some4 x ns) (λ x. Some6 x ns) far _ _ h.blocks.maximal g.blocks.maximal) in
     aggregated_of_maximal (map block ns) _ (subst (λ bs. IsMaximal (InSome (map block ns)) bs) (sym (blocks_both us vs)) m)
 

@@ -20,3 +20,4 @@ pub mod Longest
 pub mod Unions
 pub mod Aggregates
 pub mod IpAggregates
+pub mod SubnetBlocks

@@ -1,12 +1,13 @@
 -- The maximal blocks of a union of sets with addresses between them.
 use Rattle.std.proofs.Common.{◌≡◌, ℕ, zero, suc, ◌+◌, ◌-◌, ◌^◌, ◌<◌, ◌≤◌, ◌⊎◌, inl, inr, ⊎_elim, refl, sym, ap, subst, arith, List, [], ◌++◌}
 use Rattle.std.proofs.Math.Pow.{high}
-use Rattle.ipnet_addr.specs.Addresses.{rank, Address}
+use Rattle.ipnet_addr.specs.Addresses.{rank, Address, IsAddress}
 use Rattle.ipnet.specs.Blocks.{Block, free_bits, HasAddress, IsBefore, first, first_of}
 use Rattle.ipnet.specs.Maximal.{IsWithin, IsMaximalBlock, IsMaximal}
 use Rattle.ipnet_addr.proofs.Members.{In, In-left, In-right, In-cases}
 use Rattle.ipnet_addr.proofs.Ascending.{In-from_Contains, Contains-from_In, Rising-from_pairs, pairs_from_Rising}
 use Rattle.ipnet.proofs.BlockLaws.{has_first}
+use Rattle.ipnet.proofs.Maximals.{member_is_address}
 use Rattle.ipnet.proofs.Cuts.{span_of_has}
 use Rattle.ipnet.proofs.Lists.{rising_append}
 
@@ -93,20 +94,17 @@ module _ (S T : Address → Type 0) (apart : (x y : Address) → S x → T y →
   }
 
 -- sets with the same addresses have the same maximal blocks
-pub maximal_same : (S T : Address → Type 0) → ((x : Address) → S x → T x) → ((x : Address) → T x → S x) → (bs : List Block) → IsMaximal S bs → IsMaximal T bs
-maximal_same S T to from bs h = record {
-  ascending = h.ascending;
-  exact = λ b. (
-    (λ i. let m = (h.exact b).0 i in record {
-      within = record { block = m.within.block; all = λ x k. to x (m.within.all x k) };
-      largest = λ c w l. m.largest c (record { block = w.block; all = λ x k. from x (w.all x k) }) l;
-    }),
-    (λ m. (h.exact b).1 (record {
-      within = record { block = m.within.block; all = λ x k. from x (m.within.all x k) };
-      largest = λ c w l. m.largest c (record { block = w.block; all = λ x k. to x (w.all x k) }) l;
-    })),
-  );
-}
+pub maximal_same : (S T : Address → Type 0) → ((x : Address) → IsAddress x → S x → T x) → ((x : Address) → IsAddress x → T x → S x) → (bs : List Block) → IsMaximal S bs → IsMaximal T bs
+maximal_same S T to from bs h =
+    let go : (b : Block) → IsWithin S b → IsWithin T b = λ b w. record { block = w.block; all = λ x k. to x (member_is_address b x w.block k) (w.all x k) } in
+    let back : (b : Block) → IsWithin T b → IsWithin S b = λ b w. record { block = w.block; all = λ x k. from x (member_is_address b x w.block k) (w.all x k) } in
+    record {
+      ascending = h.ascending;
+      exact = λ b. (
+        (λ i. let m = (h.exact b).0 i in record { within = go b m.within; largest = λ c w l. m.largest c (back c w) l }),
+        (λ m. (h.exact b).1 (record { within = back b m.within; largest = λ c w l. m.largest c (go c w) l })),
+      );
+    }
 
 pub maximal_none : (S : Address → Type 0) → ((x : Address) → S x → ⊥) → IsMaximal S []
 maximal_none S none = record {

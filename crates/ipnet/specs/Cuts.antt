@@ -1,7 +1,8 @@
 -- The blocks that a subnet iterator gives, one after another, and what it stores.
-use Rattle.std.specs.Prelude.{ℕ, zero, suc, ◌+◌, ◌-◌, ◌/◌, ◌%◌, ◌^◌, ◌<◌, ◌≤◌, ◌&&◌, nat_le, nat_lt, ◌==◌, if◌then◌else◌, List, [], ◌∷◌, map}
+use Rattle.std.specs.Prelude.{ℕ, zero, suc, ◌+◌, ◌-◌, ◌/◌, ◌%◌, ◌^◌, ◌<◌, ◌≤◌, ◌&&◌, nat_le, nat_lt, ◌==◌, if◌then◌else◌, ◌↔◌, List, [], ◌∷◌, map, Contains, ◌≡◌}
 use Rattle.ipnet_addr.specs.Addresses.{Family, width}
-use Rattle.ipnet.specs.Blocks.{Block}
+use Rattle.ipnet.specs.Blocks.{Block, IsBlock, IsInside, IsAscending}
+use Rattle.ipnet.specs.Maximal.{IsCut}
 use Rattle.ipnet.specs.Networks.{Network, net_of}
 
 -- the ends of a range of addresses, and the least length of a block
@@ -49,3 +50,12 @@ after_first w l =
     let next = l.start + 2 ^ first_free w l in
     if nat_lt l.end l.start then l
     else (if nat_le (2 ^ w) next then record l { start = 2 ^ w - 1; end = 0 } else record l { start = next; end = if l.start == l.end then 0 else l.end })
+
+-- the blocks of length n inside b, ascending
+pub record AreSubnets (b : Block) (n : ℕ) (bs : List Block) : Type 0 where
+  pub ascending : IsAscending bs
+  pub exact : (c : Block) → Contains bs c ↔ IsBlock c × (c.len ≡ n) × IsInside c b
+
+-- the list of a subnet iterator has the blocks of its limits
+abbrev pub CutIsExact : Type 0
+CutIsExact = (f : Family) (l : Limits) → AreLimits f l → IsCut f l.start l.end l.shortest (cut f l)

@@ -1,15 +1,22 @@
 //! Subnet iterators: the largest blocks between two addresses, one after another.
-ghost use Rattle.std.specs.Prelude.{◌≡◌, ℕ, ◌+◌, ◌-◌, ◌^◌, ◌<◌, ◌≤◌};
+ghost use Rattle.std.specs.Prelude.{◌≡◌, ℕ, ◌+◌, ◌-◌, ◌^◌, ◌<◌, ◌≤◌, ◌↔◌, IsOk, IfOk};
 ghost use Rattle.std.specs.Iterator.{YieldsFirst, item_count};
 ghost use Rattle.std.specs.Net.Addr.{ipv4_bits, ipv6_bits};
-ghost use Rattle.ipnet_addr.specs.Addresses.{Ipv4, Ipv6};
-ghost use Rattle.ipnet.specs.Cuts.{most_free, first_free, cut, subnets, after_first};
-ghost use Rattle.ipnet.specs.IpSubnets.{ip_subnets, after_first_of};
+ghost use Rattle.ipnet_addr.specs.Addresses.{Ipv4, Ipv6, width};
+ghost use Rattle.ipnet_addr.specs.IpRanges.{ends_of, family_of};
+ghost use Rattle.ipnet.specs.Blocks.{first, last};
+ghost use Rattle.ipnet.specs.Cuts.{AreSubnets, most_free, first_free, cut, subnets, after_first};
+ghost use Rattle.ipnet.specs.Hosts.{host_ends};
+ghost use Rattle.ipnet.specs.IpNets.{block, family, parts};
+ghost use Rattle.ipnet.specs.IpSubnets.{ip_cut, ip_limits, ip_subnets, after_first_of};
+ghost use Rattle.ipnet.specs.Networks.{block_of};
 ghost use Rattle.ipnet.specs.Maximal.{IsCut};
 
 use crate::ip_net::IpNet;
 use crate::networks::{Ipv4Net, Ipv6Net};
 use ipnet_addr::bits::{ipv4_of, ipv6_of, ones};
+use ipnet_addr::mask::PrefixLenError;
+use ipnet_addr::ranges::{IpAddrRange, Ipv4AddrRange, Ipv6AddrRange};
 use std::marker::Model;
 use std::net::{Ipv4Addr, Ipv6Addr};
 
@@ -226,6 +233,88 @@ impl Iterator for IpSubnets {
         match self {
             IpSubnets::V4(subnets) => Some(IpNet::V4(subnets.next()?)),
             IpSubnets::V6(subnets) => Some(IpNet::V6(subnets.next()?)),
+        }
+    }
+}
+
+impl Ipv4Net {
+    /// The addresses of its hosts: below length 31 all but `network` and `broadcast`, else all.
+    pub fn hosts(&self) -> Ipv4AddrRange
+        ensures { result ≡ host_ends (block_of Ipv4 self.now) }
+    {
+        let first = self.network().to_bits();
+        let last = self.broadcast().to_bits();
+        if self.prefix_len() < 31 {
+            Ipv4AddrRange::new(ipv4_of(first + 1), ipv4_of(last - 1))
+        } else {
+            Ipv4AddrRange::new(self.network(), self.broadcast())
+        }
+    }
+
+    /// The networks of this prefix length inside it, ascending.
+    ///
+    /// # Errors
+    /// `PrefixLenError` exactly where the length is below its own or above 32.
+    pub fn subnets(&self, new_prefix_len: u8) -> Result<Ipv4Subnets, PrefixLenError>
+        ensures variant { IsOk result ↔ ((self.now.len ≤ new_prefix_len) × (new_prefix_len ≤ 32)) }
+        ensures limits { IfOk result (λ s. s ≡ record { start = first (block_of Ipv4 self.now); end = last (block_of Ipv4 self.now); shortest = new_prefix_len }) }
+        ensures blocks { IfOk result (λ s. AreSubnets (block_of Ipv4 self.now) new_prefix_len (cut Ipv4 s)) }
+    {
+        if new_prefix_len < self.prefix_len() || new_prefix_len > 32 {
+            return Err(PrefixLenError);
+        }
+        Ok(Ipv4Subnets::new(self.network(), self.broadcast(), new_prefix_len))
+    }
+}
+
+impl Ipv6Net {
+    /// The addresses of its hosts: all of its addresses.
+    pub fn hosts(&self) -> Ipv6AddrRange
+        ensures { result ≡ host_ends (block_of Ipv6 self.now) }
+    {
+        Ipv6AddrRange::new(self.network(), self.broadcast())
+    }
+
+    /// The networks of this prefix length inside it, ascending.
+    ///
+    /// # Errors
+    /// `PrefixLenError` exactly where the length is below its own or above 128.
+    pub fn subnets(&self, new_prefix_len: u8) -> Result<Ipv6Subnets, PrefixLenError>
+        ensures variant { IsOk result ↔ ((self.now.len ≤ new_prefix_len) × (new_prefix_len ≤ 128)) }
+        ensures limits { IfOk result (λ s. s ≡ record { start = first (block_of Ipv6 self.now); end = last (block_of Ipv6 self.now); shortest = new_prefix_len }) }
+        ensures blocks { IfOk result (λ s. AreSubnets (block_of Ipv6 self.now) new_prefix_len (cut Ipv6 s)) }
+    {
+        if new_prefix_len < self.prefix_len() || new_prefix_len > 128 {
+            return Err(PrefixLenError);
+        }
+        Ok(Ipv6Subnets::new(self.network(), self.broadcast(), new_prefix_len))
+    }
+}
+
+impl IpNet {
+    /// The addresses of its hosts: of IPv4 below length 31 all but `network` and `broadcast`, else all.
+    pub fn hosts(&self) -> IpAddrRange
+        ensures family { family_of result ≡ family self.now }
+        ensures ends { ends_of result ≡ host_ends (block self.now) }
+    {
+        match self {
+            IpNet::V4(network) => IpAddrRange::V4(network.hosts()),
+            IpNet::V6(network) => IpAddrRange::V6(network.hosts()),
+        }
+    }
+
+    /// The networks of this prefix length inside it, ascending.
+    ///
+    /// # Errors
+    /// `PrefixLenError` exactly where the length is below its own or above the width of its family.
+    pub fn subnets(&self, new_prefix_len: u8) -> Result<IpSubnets, PrefixLenError>
+        ensures variant { IsOk result ↔ (((parts self.now).len ≤ new_prefix_len) × (new_prefix_len ≤ width (family self.now))) }
+        ensures limits { IfOk result (λ s. s ≡ ip_limits (family self.now) (record { start = first (block self.now); end = last (block self.now); shortest = new_prefix_len })) }
+        ensures blocks { IfOk result (λ s. AreSubnets (block self.now) new_prefix_len (ip_cut s)) }
+    {
+        match self {
+            IpNet::V4(network) => Ok(IpSubnets::V4(network.subnets(new_prefix_len)?)),
+            IpNet::V6(network) => Ok(IpSubnets::V6(network.subnets(new_prefix_len)?)),
         }
     }
 }

@@ -85,7 +85,7 @@ module _ {A : Type 0} (view : A → ℕ) where
   pub back_goes : (e f : Ends) (r : Option A) → option_map view r ≡ slice_get (reverse (numbers e)) 0 → f ≡ times (0 + 1) after_back e → MakesProgress {S = Ends} {A = A} (λ _. ⊤) (item_count numbers) e r f
   back_goes e f r a h = progress_last view numbers e r f (back_taken e f r a h)
 
-has_number : (s e k : ℕ) → s ≤ e → k ≤ e - s → Contains (numbers (ends s e)) (s + k)
+pub has_number : (s e k : ℕ) → s ≤ e → k ≤ e - s → Contains (numbers (ends s e)) (s + k)
 has_number s e k le h = let c = count_is s e in (k, omega arith, get_or-range_with_len s (e + 1 - s) k (s + k) (omega arith))
 
 all_numbers : (P : ℕ → Type 0) (s e : ℕ) → ((n : ℕ) → s ≤ n → n ≤ e → P n) → All P (numbers (ends s e))
