@@ -15,6 +15,8 @@ pub use text::AddrParseError;
 
 mod aggregate;
 mod contains;
+#[cfg(test)]
+mod cut_tests;
 mod ip_net;
 pub mod laws;
 mod networks;
