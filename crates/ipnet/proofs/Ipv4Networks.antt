@@ -10,7 +10,7 @@ use Rattle.ipnet_addr.proofs.Numbers.{octets_number, parts_number}
 use Rattle.ipnet.specs.Networks.{Network}
 use Rattle.ipnet.specs.NetworkText.{ReadsIpv4, ipv4_net_text}
 use Rattle.ipnet.specs.Reader.{read_network, ipv4_net_of}
-use Rattle.ipnet.proofs.NetworkReader.{read_network_sound, spells_complete, spells_unique, spells_found, spells_read, spells_not_read}
+use Rattle.ipnet.proofs.NetworkReader.{read_network_sound, spells_complete, spells_sound, spells_none, spells_unique, spells_found, spells_read, spells_not_read}
 
 at_slash : (text octets rest : List ℕ) → IsIpv4 text octets → read_ipv4 (text ++ 47 ∷ rest) ≡ Some (octets, 47 ∷ rest)
 at_slash text octets rest h = read_ipv4_complete text octets (47 ∷ rest) h (lit≤ tt)
@@ -18,6 +18,15 @@ at_slash text octets rest h = read_ipv4_complete text octets (47 ∷ rest) h (li
 pub v4_complete : (text : List ℕ) (n : Network) → ReadsIpv4 text n → ipv4_net_of text ≡ Some n
 unfolding ipv4_net_of
 v4_complete = spells_complete IsIpv4 2 32 read_ipv4 read_ipv4_sound at_slash 256
+
+pub v4_sound : (text : List ℕ) (n : Network) → ipv4_net_of text ≡ Some n → ReadsIpv4 text n
+unfolding ipv4_net_of
+v4_sound = spells_sound IsIpv4 2 32 read_ipv4 read_ipv4_sound at_slash 256
+
+-- a text that spells no network
+pub v4_none : (text : List ℕ) → ((n : Network) → ReadsIpv4 text n → ⊥) → ipv4_net_of text ≡ None
+unfolding ipv4_net_of
+v4_none = spells_none IsIpv4 2 32 read_ipv4 read_ipv4_sound at_slash 256
 
 pub v4_unique : (text : List ℕ) (m n : Network) → ReadsIpv4 text m → ReadsIpv4 text n → m ≡ n
 v4_unique = spells_unique IsIpv4 2 32 read_ipv4 read_ipv4_sound at_slash 256

@@ -21,3 +21,4 @@ pub mod Unions
 pub mod Aggregates
 pub mod IpAggregates
 pub mod SubnetBlocks
+pub mod Netmasks

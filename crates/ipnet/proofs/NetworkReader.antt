@@ -55,6 +55,14 @@ module _ (Address : List ℕ → List ℕ → Type 0) (digits max : ℕ) (read :
         let len : p.1 ≡ n.len = cc in
         record { parts = p.0; spelled = rw (← len) (read_network_sound text p.0 p.1 is_read); number = number }
 
+    -- a text that spells no network
+    pub spells_none : (text : List ℕ) → ((n : Network) → Spells Address base digits max text n → ⊥) → network_of base (read_network (read text) digits max) ≡ None
+    spells_none text h = go (network_of base (read_network (read text) digits max)) refl
+      where
+        go : (r : Option Network) → network_of base (read_network (read text) digits max) ≡ r → network_of base (read_network (read text) digits max) ≡ None
+        go None e = e
+        go (Some n) e = absurd (h n (spells_sound text n e))
+
     -- a text spells one network at most
     pub spells_unique : (text : List ℕ) (m n : Network) → Spells Address base digits max text m → Spells Address base digits max text n → m ≡ n
     spells_unique text m n h k = let e : Some m ≡ Some n = sym (spells_complete text m h) ∙ spells_complete text n k in cc

@@ -1,6 +1,10 @@
 -- The laws of blocks, as statements.
 use Rattle.std.specs.Prelude.{◌≡◌, ◌<◌, ◌≤◌, ◌⊎◌, ◌↔◌, Bool, IsTrue, List, length, zero}
+use Rattle.std.specs.Prelude.{ℕ, ◌-◌, ◌++◌, true, false, replicate, bit_and}
 use Rattle.ipnet_addr.specs.Addresses.{Address}
+use Rattle.ipnet_addr.specs.Addresses.{IsAddress, width}
+use Rattle.ipnet_addr.specs.Masks.{IsMask}
+use Rattle.ipnet.specs.Blocks.{IsLarger, digits, first, last}
 use Rattle.ipnet.specs.Blocks.{Block, IsBlock, HasAddress, IsInside, IsBefore, IsAscending, is_inside, bit_string, Begins, IsEarlier, parent}
 use Rattle.ipnet.specs.Maximal.{IsWithin, IsMaximalBlock, IsMaximal, IsUnion, maximal_of}
 
@@ -53,3 +57,24 @@ SearchIsMaximal = (s : Address → Bool) → IsMaximal (λ x. IsTrue (s x)) (max
 -- within a family the order is that of the bit strings
 abbrev pub OrderIsOfStrings : Type 0
 OrderIsOfStrings = (a b : Block) → IsBlock a → IsBlock b → a.family ≡ b.family → IsBefore a b ↔ IsEarlier (bit_string a) (bit_string b)
+
+-- a block is its addresses
+abbrev pub BlockIsItsAddresses : Type 0
+BlockIsItsAddresses = (a b : Block) → IsBlock a → IsBlock b → IsInside a b → IsInside b a → a ≡ b
+
+-- the parent of a block is the smallest larger block
+abbrev pub ParentIsNext : Type 0
+ParentIsNext = (b : Block) → IsBlock b → zero < b.len → IsBlock (parent b) × IsLarger (parent b) b × ((c : Block) → IsBlock c → IsLarger c b → IsInside (parent b) c)
+
+-- the addresses of a block are those from its first to its last
+abbrev pub BlockIsInterval : Type 0
+BlockIsInterval = (b : Block) (x : Address) → HasAddress b x ↔ ((x.family ≡ b.family) × (first b ≤ x.number) × (x.number ≤ last b))
+
+-- the digits of a mask are ones and then zeros
+abbrev pub MaskIsOnesThenZeros : Type 0
+MaskIsOnesThenZeros = (m : Address) (len : ℕ) → IsAddress m
+    → IsMask m len ↔ ((len ≤ width m.family) × (digits (width m.family) m.number ≡ replicate len true ++ replicate (width m.family - len) false))
+
+-- the bits that an address shares with the mask of a block are those of the block, if it is one of the block's
+abbrev pub MaskFindsBlock : Type 0
+MaskFindsBlock = (b : Block) (x m : Address) → IsAddress x → x.family ≡ b.family → m.family ≡ b.family → IsMask m b.len → HasAddress b x ↔ (bit_and x.number m.number ≡ first b)

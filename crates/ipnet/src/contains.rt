@@ -111,3 +111,36 @@ impl Contains<&IpAddr> for IpNet {
         }
     }
 }
+
+impl Ipv4Net {
+    /// Whether each address of `other`, a network or an address, is one of the network's.
+    pub fn contains<T>(&self, other: T) -> bool
+    where
+        Ipv4Net: Contains<T>,
+        ensures { IsTrue result ↔ ⟦<Ipv4Net as Contains<T>>⟧.contained self.now other }
+    {
+        Contains::contains(self, other)
+    }
+}
+
+impl Ipv6Net {
+    /// Whether each address of `other`, a network or an address, is one of the network's.
+    pub fn contains<T>(&self, other: T) -> bool
+    where
+        Ipv6Net: Contains<T>,
+        ensures { IsTrue result ↔ ⟦<Ipv6Net as Contains<T>>⟧.contained self.now other }
+    {
+        Contains::contains(self, other)
+    }
+}
+
+impl IpNet {
+    /// Whether each address of `other`, a network or an address, is one of the network's; false between families.
+    pub fn contains<T>(&self, other: T) -> bool
+    where
+        IpNet: Contains<T>,
+        ensures { IsTrue result ↔ ⟦<IpNet as Contains<T>>⟧.contained self.now other }
+    {
+        Contains::contains(self, other)
+    }
+}

@@ -3,7 +3,7 @@ ghost use Rattle.std.specs.Prelude.{◌≡◌, ℕ, ◌-◌, ◌^◌, ◌<◌, �
 ghost use Rattle.ipnet_addr.specs.Addresses.{address_of, width};
 ghost use Rattle.ipnet_addr.specs.Masks.{IsMask};
 ghost use Rattle.ipnet.specs.Blocks.{AreSiblings, first, last, parent};
-ghost use Rattle.ipnet.specs.Networks.{net_of};
+ghost use Rattle.ipnet.specs.Networks.{IsNetwork, net_of};
 ghost use Rattle.ipnet.specs.IpNets.{family, parts, block, net_in};
 
 use crate::networks::{Ipv4Net, Ipv6Net};
@@ -137,7 +137,8 @@ impl IpNet {
 
     /// The network with the same addresses and no host bits.
     pub fn trunc(&self) -> IpNet
-        ensures { result ≡ net_in (family self.now) (net_of (block self.now)) }
+        ensures value { result ≡ net_in (family self.now) (net_of (block self.now)) }
+        ensures network { IsNetwork (family self.now) (parts self.now) }
     {
         match self {
             IpNet::V4(net) => IpNet::V4(net.trunc()),

@@ -11,6 +11,7 @@ ghost use Rattle.std.specs.Ordering.{MatchOrdering};
 ghost use Rattle.ipnet.specs.NetworkText.{ReadsIpv4, ReadsIpv6};
 ghost use Rattle.ipnet.specs.Reader.{ipv4_net_of, ipv6_net_of};
 ghost use Rattle.ipnet.specs.Networks.{ComesBefore};
+ghost use Rattle.ipnet.specs.Laws.{BlockIsItsAddresses, ParentIsNext, BlockIsInterval, MaskIsOnesThenZeros, MaskFindsBlock};
 ghost use Rattle.ipnet.specs.IpNets.{IsSooner};
 ghost use Rattle.ipnet.specs.IpNetText.{Reads, ip_net_of};
 ghost use Rattle.ipnet.specs.declared.ip_net.IpNet.{IpNet as AnyNet};
@@ -63,6 +64,19 @@ pub fn search()
 #[tactic(auto, using(crate::proofs::NetworkBlocks::block_round_trip))]
 pub fn networks_of_blocks()
     ensures { (b : Block) → block_of b.family (net_of b) ≡ b }
+{}
+
+/// A block is its addresses, and its parent is the smallest larger block.
+pub fn blocks()
+    ensures addresses { BlockIsItsAddresses }
+    ensures parent { ParentIsNext }
+{}
+
+/// A block is an interval, and its mask, ones and then zeros, finds it.
+pub fn masks()
+    ensures interval { BlockIsInterval }
+    ensures digits { MaskIsOnesThenZeros }
+    ensures finds { MaskFindsBlock }
 {}
 
 /// Networks are ordered by family, number and length.

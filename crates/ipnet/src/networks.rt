@@ -4,7 +4,7 @@ ghost use Rattle.std.specs.Net.Addr.{ipv4_bits, ipv6_bits};
 ghost use Rattle.ipnet_addr.specs.Addresses.{Ipv4, Ipv6, ipv4_address, ipv6_address};
 ghost use Rattle.ipnet_addr.specs.Masks.{IsMask};
 ghost use Rattle.ipnet.specs.Blocks.{AreSiblings, first, last, parent};
-ghost use Rattle.ipnet.specs.Networks.{block_of, net_of};
+ghost use Rattle.ipnet.specs.Networks.{IsNetwork, block_of, net_of};
 
 use crate::contains::Contains;
 use ipnet_addr::bits::{cleared, filled, ipv4_of, ipv6_of, ones};
@@ -58,7 +58,7 @@ impl Ipv4Net {
         ensures { result ≡ record { number = ipv4_bits addr; len = prefix_len } }
     {
         Ipv4Net {
-            number: addr.to_bits(),
+            number: u32::from(addr),
             len: prefix_len,
         }
     }
@@ -137,7 +137,8 @@ impl Ipv4Net {
 
     /// The network with the same addresses and no host bits.
     pub fn trunc(&self) -> Ipv4Net
-        ensures { result ≡ net_of (block_of Ipv4 self.now) }
+        ensures value { result ≡ net_of (block_of Ipv4 self.now) }
+        ensures network { IsNetwork Ipv4 self.now }
     {
         Ipv4Net {
             number: cleared(self.number.into(), 32 - self.len) as u32,
@@ -233,7 +234,7 @@ impl Ipv6Net {
         ensures { result ≡ record { number = ipv6_bits addr; len = prefix_len } }
     {
         Ipv6Net {
-            number: addr.to_bits(),
+            number: u128::from(addr),
             len: prefix_len,
         }
     }
@@ -312,7 +313,8 @@ impl Ipv6Net {
 
     /// The network with the same addresses and no host bits.
     pub fn trunc(&self) -> Ipv6Net
-        ensures { result ≡ net_of (block_of Ipv6 self.now) }
+        ensures value { result ≡ net_of (block_of Ipv6 self.now) }
+        ensures network { IsNetwork Ipv6 self.now }
     {
         Ipv6Net {
             number: cleared(self.number, 128 - self.len),

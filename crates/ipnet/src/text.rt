@@ -60,6 +60,8 @@ impl FromStr for Ipv4Net {
 impl fmt::Display for Ipv4Net {
     ghost output = { λ n. Some (ipv4_net_text n) };
 
+    ghost styled_output = { λ n _. Some (ipv4_net_text n) };
+
     fn fmt<W: fmt::Write>(&self, f: &mut fmt::Formatter<W>) -> fmt::Result {
         let text = self.to_text();
         f.write_str(str::from_utf8(text.as_slice()).map_err(|_| fmt::Error)?)
@@ -68,6 +70,8 @@ impl fmt::Display for Ipv4Net {
 
 /// The text of `Display`.
 impl fmt::Debug for Ipv4Net {
+    ghost debug_output = { λ n. Some (ipv4_net_text n) };
+
     fn fmt<W: fmt::Write>(&self, f: &mut fmt::Formatter<W>) -> fmt::Result {
         fmt::Display::fmt(self, f)
     }
@@ -115,6 +119,8 @@ impl FromStr for Ipv6Net {
 impl fmt::Display for Ipv6Net {
     ghost output = { λ n. Some (ipv6_net_text n) };
 
+    ghost styled_output = { λ n _. Some (ipv6_net_text n) };
+
     fn fmt<W: fmt::Write>(&self, f: &mut fmt::Formatter<W>) -> fmt::Result {
         let text = self.to_text();
         f.write_str(str::from_utf8(text.as_slice()).map_err(|_| fmt::Error)?)
@@ -123,6 +129,8 @@ impl fmt::Display for Ipv6Net {
 
 /// The text of `Display`.
 impl fmt::Debug for Ipv6Net {
+    ghost debug_output = { λ n. Some (ipv6_net_text n) };
+
     fn fmt<W: fmt::Write>(&self, f: &mut fmt::Formatter<W>) -> fmt::Result {
         fmt::Display::fmt(self, f)
     }
@@ -172,6 +180,8 @@ impl FromStr for IpNet {
 impl fmt::Display for IpNet {
     ghost output = { λ n. Some (net_text n) };
 
+    ghost styled_output = { λ n _. Some (net_text n) };
+
     fn fmt<W: fmt::Write>(&self, f: &mut fmt::Formatter<W>) -> fmt::Result {
         let text = self.to_text();
         f.write_str(str::from_utf8(text.as_slice()).map_err(|_| fmt::Error)?)
@@ -180,6 +190,8 @@ impl fmt::Display for IpNet {
 
 /// The text of `Display`.
 impl fmt::Debug for IpNet {
+    ghost debug_output = { λ n. Some (net_text n) };
+
     fn fmt<W: fmt::Write>(&self, f: &mut fmt::Formatter<W>) -> fmt::Result {
         fmt::Display::fmt(self, f)
     }

@@ -179,7 +179,7 @@ impl IpSub<Ipv4Addr> for Ipv4Addr {
     ghost subtracted = { λ a b difference. difference ≡ ipv4_bits a - ipv4_bits b };
 
     fn saturating_sub(self, rhs: Ipv4Addr) -> u32 {
-        self.to_bits().saturating_sub(rhs.to_bits())
+        u32::from(self).saturating_sub(u32::from(rhs))
     }
 }
 
@@ -189,7 +189,7 @@ impl IpSub<Ipv6Addr> for Ipv6Addr {
     ghost subtracted = { λ a b difference. difference ≡ ipv6_bits a - ipv6_bits b };
 
     fn saturating_sub(self, rhs: Ipv6Addr) -> u128 {
-        self.to_bits().saturating_sub(rhs.to_bits())
+        u128::from(self).saturating_sub(u128::from(rhs))
     }
 }
 

@@ -8,3 +8,5 @@ pub mod mask;
 pub mod parser;
 pub mod printer;
 pub mod ranges;
+#[cfg(test)]
+mod tests;
