@@ -2,8 +2,8 @@
 use Rattle.std.specs.Prelude.{List, map}
 use Rattle.ipnet_addr.specs.Addresses.{Family, Ipv4, Ipv6, Address}
 use Rattle.ipnet_addr.specs.Ranges.{Ends, numbers}
-use Rattle.ipnet_addr.specs.declared.ranges.IpAddrRange.{IpAddrRange}
-use Rattle.ipnet_addr.specs.declared.ranges.IpAddrRange.TheVariants.{V4, V6}
+use Rattle.ipnet_addr.specs.declared.ip_range.IpAddrRange.{IpAddrRange}
+use Rattle.ipnet_addr.specs.declared.ip_range.IpAddrRange.TheVariants.{V4, V6}
 
 abbrev pub family_of : IpAddrRange → Family
 family_of (V4 e) = Ipv4

@@ -2,7 +2,10 @@
 #![tactic(auto)]
 
 pub mod bits;
+mod ip_range;
 pub mod ipext;
+mod ipv4_range;
+mod ipv6_range;
 pub mod laws;
 pub mod mask;
 pub mod parser;
