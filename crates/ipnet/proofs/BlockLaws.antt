@@ -73,7 +73,7 @@ same_sets a b p q h k =
     let e : a.quotient / 2 ^ (a.len - b.len) ≡ a.quotient = ap (λ i. a.quotient / 2 ^ i) z ∙ div-one a.quotient in
     block_path a b m.family l (sym e ∙ m.quotient)
 
-common : (a b : Block) (x : Address) → IsBlock a → HasAddress a x → HasAddress b x → b.len ≤ a.len → IsInside a b
+pub common : (a b : Block) (x : Address) → IsBlock a → HasAddress a x → HasAddress b x → b.len ≤ a.len → IsInside a b
 common a b x ok h k l =
     let f : a.family ≡ b.family = sym h.0 ∙ k.0 in
     let fit : a.len ≤ width b.family = subst (λ g. a.len ≤ width g) f ok.in_width in

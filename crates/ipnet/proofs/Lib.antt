@@ -9,8 +9,16 @@ pub mod Search
 pub mod NetworkBlocks
 pub mod NetworkReader
 pub mod Ipv4Networks
+pub mod FreeBits
+pub mod Cuts
+pub mod Lists
+pub mod Joins
 pub mod Ipv6Networks
 pub mod IpNetworks
 pub mod NoSpace
 pub mod Longest
+pub mod Unions
+pub mod Aggregates
+pub mod IpAggregates
+pub mod SubnetBlocks
 pub mod Netmasks

@@ -1,6 +1,9 @@
 //! Laws of blocks, networks, their texts and maximal blocks: public functions without a body, whose contracts are the laws.
 
 ghost use Rattle.std.specs.Prelude.{◌≡◌, ℕ, List, MatchOption};
+ghost use Rattle.ipnet.specs.Aggregated.{AggregatedIsStable};
+ghost use Rattle.ipnet.specs.Cuts.{CutIsExact};
+ghost use Rattle.ipnet.specs.Hosts.{HostsAreExact};
 ghost use Rattle.ipnet.specs.Blocks.{Block};
 ghost use Rattle.ipnet.specs.Networks.{Network, block_of, net_of};
 ghost use Rattle.std.specs.Prelude.{◌≢◌, ◌≤◌, ◌⊎◌, ◌↔◌, IsTrue, All, length};
@@ -109,4 +112,19 @@ pub fn network_bytes()
     ensures no_space { (text : List ℕ) (n : AnyNet) → Reads text n → All (λ c. c ≢ 32) text }
     ensures no_line_end { (text : List ℕ) (n : AnyNet) → Reads text n → All (λ c. c ≢ 10) text }
     ensures short { (text : List ℕ) (n : AnyNet) → Reads text n → length text ≤ 51 }
+{}
+
+/// A subnet iterator gives the blocks within its limits that lie in no larger such block.
+pub fn cuts()
+    ensures { CutIsExact }
+{}
+
+/// The hosts of a network are the addresses from the first to the last of them.
+pub fn hosts()
+    ensures { HostsAreExact }
+{}
+
+/// `aggregate` of its own answer is that answer, whatever order, repeats and host bits its input had.
+pub fn aggregated()
+    ensures { AggregatedIsStable }
 {}

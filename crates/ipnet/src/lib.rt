@@ -7,15 +7,21 @@ pub use ipnet_addr::ipext::{IpAdd, IpBitAnd, IpBitOr, IpStep, IpSub};
 pub use ipnet_addr::mask::{
     PrefixLenError, ip_mask_to_prefix, ipv4_mask_to_prefix, ipv6_mask_to_prefix,
 };
+pub use ipnet_addr::ranges::{IpAddrRange, Ipv4AddrRange, Ipv6AddrRange};
 pub use networks::{Ipv4Net, Ipv6Net};
 pub use std::net::{IpAddr, Ipv4Addr, Ipv6Addr};
+pub use subnets::{IpSubnets, Ipv4Subnets, Ipv6Subnets};
 pub use text::AddrParseError;
 
+mod aggregate;
 mod contains;
+#[cfg(test)]
+mod cut_tests;
 mod ip_net;
 pub mod laws;
 mod networks;
 mod parser;
+mod subnets;
 #[cfg(test)]
 mod tests;
 mod text;

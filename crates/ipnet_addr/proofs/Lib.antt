@@ -3,5 +3,9 @@ pub mod Ascending
 pub mod Numbers
 pub mod Decimals
 pub mod Ipv4Text
+pub mod RangeEnds
+pub mod RangeCalls
+pub mod Progress
 pub mod Ipv6Text
+pub mod EachOnce
 pub mod Powers

@@ -1,0 +1,226 @@
+//! The fewest networks with the addresses of some others.
+ghost use Rattle.std.specs.Prelude.{◌≡◌, ℕ, ◌+◌, ◌-◌, ◌^◌, ◌<◌, ◌≤◌, ◌++◌, map, All, IfOk, OnOk};
+ghost use Rattle.std.specs.List.Sorted.{IsPermutation, IsNonDecreasingBy};
+ghost use Rattle.std.specs.List.{flat_map};
+ghost use Rattle.ipnet_addr.specs.Addresses.{Family, Ipv4, Ipv6, width};
+ghost use Rattle.ipnet.specs.Aggregated.{AreAggregated, IsAggregated};
+ghost use Rattle.ipnet.specs.Cuts.{subnets};
+ghost use Rattle.ipnet.specs.IpAggregated.{only_ipv4, only_ipv6};
+ghost use Rattle.ipnet.specs.IpNets.{block, family, parts};
+ghost use Rattle.ipnet.specs.Networks.{Network, IsTruncated};
+ghost use Rattle.ipnet.specs.Spans.{HasNumber, AreJoined, span_of, limits_of};
+
+use crate::ip_net::IpNet;
+use crate::networks::{Ipv4Net, Ipv6Net};
+use crate::subnets::{Ipv4Subnets, Ipv6Subnets};
+use ipnet_addr::bits::{ipv4_of, ipv6_of};
+use std::alloc::{AllocError, Global};
+
+/// The numbers from `first` to `last`.
+#[derive(Clone, Copy)]
+struct Span {
+    first: u128,
+    last: u128,
+}
+
+/// The spans by their first numbers.
+fn sorted(mut spans: Vec<Span>) -> Vec<Span>
+    ensures permutation { IsPermutation spans.items result.items }
+    ensures order { IsNonDecreasingBy (λ s. s.first) result.items }
+{
+    spans.sort_unstable_by_key(|span| span.first);
+    spans
+}
+
+/// The spans, those that overlap or touch as one, ascending.
+fn joined(alloc: Global, spans: Vec<Span>) -> Result<Vec<Span>, AllocError>
+    requires { All HasNumber spans.items }
+    ensures { IfOk result (λ v. AreJoined spans.items v.items) }
+{
+    let spans = sorted(spans);
+    let mut joined = Vec::new(alloc);
+    let [head, rest @ ..] = spans.as_slice() else {
+        return Ok(joined);
+    };
+    let mut open = *head;
+    for span in rest {
+        if span.first.saturating_sub(1) <= open.last {
+            open.last = open.last.max(span.last);
+        } else {
+            joined.push(open)?;
+            open = *span;
+        }
+    }
+    joined.push(open)?;
+    Ok(joined)
+}
+
+/// What `aggregate` needs of the networks of one family.
+trait OfFamily: Copy {
+    ghost family: { Family };
+
+    ghost parts: { Self → Network };
+
+    /// The numbers of its addresses.
+    fn span(&self) -> Span
+        ensures span { result ≡ span_of family (parts self.now) }
+        ensures fits { result.last < 2 ^ width family };
+
+    /// Appends the largest blocks of the span, ascending.
+    fn push_blocks(blocks: &mut Vec<Self>, span: &Span) -> Result<(), AllocError>
+        requires some { HasNumber span.now }
+        requires fits { span.now.last < 2 ^ width family }
+        ensures { OnOk result (map parts blocks.new.items ≡ map parts blocks.old.items ++ subnets family (limits_of span.now)) };
+}
+
+fn spans_of<N: OfFamily>(alloc: Global, networks: &Vec<N>) -> Result<Vec<Span>, AllocError>
+    ensures spans { IfOk result (λ v. v.items ≡ map (λ n. span_of N.family (N.parts n)) networks.now.items) }
+    ensures fit { IfOk result (λ v. All (λ s. s.last < 2 ^ width N.family) v.items) }
+{
+    let mut spans = Vec::new(alloc);
+    for network in networks {
+        spans.push(network.span())?;
+    }
+    Ok(spans)
+}
+
+fn blocks_of<N: OfFamily>(alloc: Global, spans: &Vec<Span>) -> Result<Vec<N>, AllocError>
+    requires some { All HasNumber spans.now.items }
+    requires fit { All (λ s. s.last < 2 ^ width N.family) spans.now.items }
+    ensures { IfOk result (λ v. map N.parts v.items ≡ flat_map (λ s. subnets N.family (limits_of s)) spans.now.items) }
+{
+    let mut blocks = Vec::new(alloc);
+    for span in spans {
+        N::push_blocks(&mut blocks, span)?;
+    }
+    Ok(blocks)
+}
+
+fn of_family<N: OfFamily>(alloc: Global, networks: &Vec<N>) -> Result<Vec<N>, AllocError>
+    ensures { IfOk result (λ v. AreAggregated N.family (map N.parts networks.now.items) (map N.parts v.items)) }
+{
+    let spans = joined(alloc, spans_of(alloc, networks)?)?;
+    blocks_of(alloc, &spans)
+}
+
+impl OfFamily for Ipv4Net {
+    ghost family = { Ipv4 };
+
+    ghost parts = { λ n. n };
+
+    fn span(&self) -> Span {
+        Span {
+            first: self.network().to_bits().into(),
+            last: self.broadcast().to_bits().into(),
+        }
+    }
+
+    fn push_blocks(blocks: &mut Vec<Ipv4Net>, span: &Span) -> Result<(), AllocError> {
+        let Span { first, last } = *span;
+        for block in Ipv4Subnets::new(ipv4_of(first as u32), ipv4_of(last as u32), 0) {
+            blocks.push(block)?;
+        }
+        Ok(())
+    }
+}
+
+impl Ipv4Net {
+    /// The fewest networks with the addresses of these, ascending, each without host bits; takes time n log n.
+    ///
+    /// # Errors
+    /// `AllocError` where memory is refused.
+    pub fn aggregate(alloc: Global, networks: &Vec<Ipv4Net>) -> Result<Vec<Ipv4Net>, AllocError>
+        ensures { IfOk result (λ v. AreAggregated Ipv4 networks.now.items v.items) }
+    {
+        of_family(alloc, networks)
+    }
+}
+
+impl OfFamily for Ipv6Net {
+    ghost family = { Ipv6 };
+
+    ghost parts = { λ n. n };
+
+    fn span(&self) -> Span {
+        Span {
+            first: self.network().to_bits(),
+            last: self.broadcast().to_bits(),
+        }
+    }
+
+    fn push_blocks(blocks: &mut Vec<Ipv6Net>, span: &Span) -> Result<(), AllocError> {
+        let Span { first, last } = *span;
+        for block in Ipv6Subnets::new(ipv6_of(first), ipv6_of(last), 0) {
+            blocks.push(block)?;
+        }
+        Ok(())
+    }
+}
+
+impl Ipv6Net {
+    /// The fewest networks with the addresses of these, ascending, each without host bits; takes time n log n.
+    ///
+    /// # Errors
+    /// `AllocError` where memory is refused.
+    pub fn aggregate(alloc: Global, networks: &Vec<Ipv6Net>) -> Result<Vec<Ipv6Net>, AllocError>
+        ensures { IfOk result (λ v. AreAggregated Ipv6 networks.now.items v.items) }
+    {
+        of_family(alloc, networks)
+    }
+}
+
+impl IpNet {
+    /// The fewest networks with the addresses of these, ascending, IPv4 first, each without host bits; takes time n log n.
+    ///
+    /// # Errors
+    /// `AllocError` where memory is refused.
+    pub fn aggregate(alloc: Global, networks: &Vec<IpNet>) -> Result<Vec<IpNet>, AllocError>
+        ensures blocks { IfOk result (λ v. IsAggregated (map block networks.now.items) (map block v.items)) }
+        ensures truncated { IfOk result (λ v. All (λ n. IsTruncated (family n) (parts n)) v.items) }
+    {
+        let (ipv4, ipv6) = by_family(alloc, networks)?;
+        let ipv4 = Ipv4Net::aggregate(alloc, &ipv4)?;
+        let ipv6 = Ipv6Net::aggregate(alloc, &ipv6)?;
+        let mut blocks = Vec::new(alloc);
+        push_ipv4(&mut blocks, &ipv4)?;
+        push_ipv6(&mut blocks, &ipv6)?;
+        Ok(blocks)
+    }
+}
+
+/// The networks of each family.
+fn by_family(
+    alloc: Global,
+    networks: &Vec<IpNet>,
+) -> Result<(Vec<Ipv4Net>, Vec<Ipv6Net>), AllocError>
+    ensures ipv4 { IfOk result (λ p. p.0.items ≡ only_ipv4 networks.now.items) }
+    ensures ipv6 { IfOk result (λ p. p.1.items ≡ only_ipv6 networks.now.items) }
+{
+    let mut ipv4 = Vec::new(alloc);
+    let mut ipv6 = Vec::new(alloc);
+    for network in networks {
+        match network {
+            IpNet::V4(network) => ipv4.push(*network)?,
+            IpNet::V6(network) => ipv6.push(*network)?,
+        }
+    }
+    Ok((ipv4, ipv6))
+}
+
+fn push_ipv4(blocks: &mut Vec<IpNet>, networks: &Vec<Ipv4Net>) -> Result<(), AllocError>
+    ensures { OnOk result (blocks.new.items ≡ blocks.old.items ++ map IpNet.V4 networks.now.items) }
+{
+    for network in networks {
+        blocks.push(IpNet::V4(*network))?;
+    }
+    Ok(())
+}
+
+fn push_ipv6(blocks: &mut Vec<IpNet>, networks: &Vec<Ipv6Net>) -> Result<(), AllocError>
+    ensures { OnOk result (blocks.new.items ≡ blocks.old.items ++ map IpNet.V6 networks.now.items) }
+{
+    for network in networks {
+        blocks.push(IpNet::V6(*network))?;
+    }
+    Ok(())
+}

@@ -1,0 +1,139 @@
+//! Ranges of addresses of either family, from both ends.
+ghost use Rattle.std.specs.Prelude.{◌≡◌, ◌+◌, ◌<◌, ◌^◌, length, slice_get, reverse, IfSome, option_map};
+ghost use Rattle.std.specs.Iterator.{YieldsFirstBy, YieldsLastBy, item_count, UpTo};
+ghost use Rattle.std.specs.Iterator.SizeHint.{IsExactHint, IsWithinCount};
+ghost use Rattle.ipnet_addr.specs.Addresses.{address_of};
+ghost use Rattle.ipnet_addr.specs.IpRanges.{addresses, ends_of, family_of, with_ends};
+ghost use Rattle.ipnet_addr.specs.Ranges.{numbers, after_front, after_back, times, IsLeast, IsGreatest};
+
+use crate::ipv4_range::Ipv4AddrRange;
+use crate::ipv6_range::Ipv6AddrRange;
+use std::net::IpAddr;
+
+/// A range of either family. Ordered by family, IPv4 first, then by its ends.
+#[derive(Clone, Copy, Debug, PartialEq, Eq, PartialOrd, Ord, Hash)]
+pub enum IpAddrRange {
+    V4(Ipv4AddrRange),
+    V6(Ipv6AddrRange),
+}
+
+impl From<Ipv4AddrRange> for IpAddrRange {
+    ghost use Rattle.ipnet_addr.specs.declared.ip_range.IpAddrRange.TheVariants.{V4};
+
+    ghost from_gives = { λ r s. s ≡ V4 r };
+
+    fn from(range: Ipv4AddrRange) -> IpAddrRange {
+        IpAddrRange::V4(range)
+    }
+}
+
+impl From<Ipv6AddrRange> for IpAddrRange {
+    ghost use Rattle.ipnet_addr.specs.declared.ip_range.IpAddrRange.TheVariants.{V6};
+
+    ghost from_gives = { λ r s. s ≡ V6 r };
+
+    fn from(range: Ipv6AddrRange) -> IpAddrRange {
+        IpAddrRange::V6(range)
+    }
+}
+
+impl IpAddrRange {
+    /// The address that n + 1 calls of `next` answer last; it leaves what they leave. In constant time.
+    pub fn nth(&mut self, n: usize) -> Option<IpAddr>
+        ensures answer { option_map address_of result ≡ slice_get (addresses self.old) n }
+        ensures ends { self.new ≡ with_ends (times (n + 1) after_front) self.old }
+    {
+        match self {
+            IpAddrRange::V4(range) => Some(IpAddr::V4(range.nth(n)?)),
+            IpAddrRange::V6(range) => Some(IpAddr::V6(range.nth(n)?)),
+        }
+    }
+
+    /// The address that n + 1 calls of `next_back` answer last; it leaves what they leave. In constant time.
+    pub fn nth_back(&mut self, n: usize) -> Option<IpAddr>
+        ensures answer { option_map address_of result ≡ slice_get (reverse (addresses self.old)) n }
+        ensures ends { self.new ≡ with_ends (times (n + 1) after_back) self.old }
+    {
+        match self {
+            IpAddrRange::V4(range) => Some(IpAddr::V4(range.nth_back(n)?)),
+            IpAddrRange::V6(range) => Some(IpAddr::V6(range.nth_back(n)?)),
+        }
+    }
+
+    /// How many addresses there are. In constant time.
+    pub fn count(self) -> usize
+        requires { length (addresses self) < 2 ^ 64 }
+        ensures { result ≡ length (addresses self) }
+    {
+        match self {
+            IpAddrRange::V4(range) => range.count(),
+            IpAddrRange::V6(range) => range.count(),
+        }
+    }
+
+    /// The last address, `None` where there is none. In constant time.
+    pub fn last(mut self) -> Option<IpAddr>
+        ensures { option_map address_of result ≡ slice_get (reverse (addresses self)) 0 }
+    {
+        self.nth_back(0)
+    }
+
+    /// The least address, `None` where there is none. In constant time.
+    pub fn min(self) -> Option<IpAddr>
+        ensures least { IsLeast (numbers (ends_of self)) (option_map (λ a. (address_of a).number) result) }
+        ensures family { IfSome result (λ a. (address_of a).family ≡ family_of self) }
+    {
+        match self {
+            IpAddrRange::V4(range) => Some(IpAddr::V4(range.min()?)),
+            IpAddrRange::V6(range) => Some(IpAddr::V6(range.min()?)),
+        }
+    }
+
+    /// The greatest address, `None` where there is none. In constant time.
+    pub fn max(self) -> Option<IpAddr>
+        ensures greatest { IsGreatest (numbers (ends_of self)) (option_map (λ a. (address_of a).number) result) }
+        ensures family { IfSome result (λ a. (address_of a).family ≡ family_of self) }
+    {
+        match self {
+            IpAddrRange::V4(range) => Some(IpAddr::V4(range.max()?)),
+            IpAddrRange::V6(range) => Some(IpAddr::V6(range.max()?)),
+        }
+    }
+}
+
+impl Iterator for IpAddrRange {
+    type Item = IpAddr;
+
+    ghost next_gives = { λ r a s. YieldsFirstBy address_of addresses r a s × (s ≡ with_ends after_front r) };
+
+    ghost remaining = { item_count addresses };
+
+    fn next(&mut self) -> Option<IpAddr> {
+        match self {
+            IpAddrRange::V4(range) => Some(IpAddr::V4(range.next()?)),
+            IpAddrRange::V6(range) => Some(IpAddr::V6(range.next()?)),
+        }
+    }
+
+    fn size_hint(&self) -> (usize, Option<usize>)
+        ensures lower { IsWithinCount result.0 (item_count addresses self.now) }
+        ensures upper { IfSome result.1 (UpTo (item_count addresses self.now)) }
+        ensures exact { IsExactHint result (length (addresses self.now)) }
+    {
+        match self {
+            IpAddrRange::V4(range) => range.size_hint(),
+            IpAddrRange::V6(range) => range.size_hint(),
+        }
+    }
+}
+
+impl DoubleEndedIterator for IpAddrRange {
+    ghost next_back_gives = { λ r a s. YieldsLastBy address_of addresses r a s × (s ≡ with_ends after_back r) };
+
+    fn next_back(&mut self) -> Option<IpAddr> {
+        match self {
+            IpAddrRange::V4(range) => Some(IpAddr::V4(range.next_back()?)),
+            IpAddrRange::V6(range) => Some(IpAddr::V6(range.next_back()?)),
+        }
+    }
+}

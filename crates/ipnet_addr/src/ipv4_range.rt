@@ -1,0 +1,130 @@
+//! Ranges of IPv4 addresses, from both ends.
+ghost use Rattle.std.specs.Prelude.{◌≡◌, ◌+◌, ◌<◌, ◌^◌, length, slice_get, reverse, IfSome, option_map};
+ghost use Rattle.std.specs.Iterator.{YieldsFirstBy, YieldsLastBy, item_count, UpTo};
+ghost use Rattle.std.specs.Iterator.SizeHint.{IsExactHint, IsWithinCount};
+ghost use Rattle.std.specs.Net.Addr.{ipv4_bits};
+ghost use Rattle.ipnet_addr.specs.Ranges.{numbers, after_front, after_back, times, IsLeast, IsGreatest};
+
+use crate::bits::ipv4_of;
+use crate::ranges::{count_numbers, hint_numbers, nth_back_number, nth_number};
+use std::marker::Model;
+use std::net::Ipv4Addr;
+
+/// The IPv4 addresses from one to another; none where the first is above the last.
+///
+/// Contracts see it as the numbers of its two ends. Ordered by its start, then by its end.
+#[derive(Clone, Copy, Debug, PartialEq, Eq, PartialOrd, Ord, Hash)]
+pub struct Ipv4AddrRange {
+    start: u32,
+    end: u32,
+}
+
+impl Model for Ipv4AddrRange {
+    ghost use Rattle.ipnet_addr.specs.Addresses.{Ipv4};
+    ghost use Rattle.ipnet_addr.specs.Ranges.{Ends, AreEnds};
+
+    ghost Value = { Ends };
+
+    ghost view = { λ r. record { start = r.start; end = r.end } };
+
+    ghost invariant = { λ r. AreEnds Ipv4 (record { start = r.start; end = r.end }) };
+
+    ghost inverse = { λ e. record { start = e.start; end = e.end } };
+
+    ghost inverse_ok = { λ e h i. e };
+}
+
+impl Ipv4AddrRange {
+    /// The addresses from `start` to `end`, none where `start` is above `end`.
+    pub fn new(start: Ipv4Addr, end: Ipv4Addr) -> Ipv4AddrRange
+        ensures { result ≡ record { start = ipv4_bits start; end = ipv4_bits end } }
+    {
+        Ipv4AddrRange {
+            start: start.to_bits(),
+            end: end.to_bits(),
+        }
+    }
+
+    /// The address that n + 1 calls of `next` answer last; it leaves what they leave. In constant time.
+    pub fn nth(&mut self, n: usize) -> Option<Ipv4Addr>
+        ensures answer { option_map ipv4_bits result ≡ slice_get (numbers self.old) n }
+        ensures ends { self.new ≡ times (n + 1) after_front self.old }
+    {
+        let step = nth_number(self.start.into(), self.end.into(), n as u128);
+        self.start = step.start as u32;
+        self.end = step.end as u32;
+        Some(ipv4_of(step.answer? as u32))
+    }
+
+    /// The address that n + 1 calls of `next_back` answer last; it leaves what they leave. In constant time.
+    pub fn nth_back(&mut self, n: usize) -> Option<Ipv4Addr>
+        ensures answer { option_map ipv4_bits result ≡ slice_get (reverse (numbers self.old)) n }
+        ensures ends { self.new ≡ times (n + 1) after_back self.old }
+    {
+        let step = nth_back_number(self.start.into(), self.end.into(), n as u128);
+        self.start = step.start as u32;
+        self.end = step.end as u32;
+        Some(ipv4_of(step.answer? as u32))
+    }
+
+    /// How many addresses there are. In constant time.
+    pub fn count(self) -> usize
+        requires { length (numbers self) < 2 ^ 64 }
+        ensures { result ≡ length (numbers self) }
+    {
+        count_numbers(self.start.into(), self.end.into())
+    }
+
+    /// The last address, `None` where there is none. In constant time.
+    pub fn last(mut self) -> Option<Ipv4Addr>
+        ensures { option_map ipv4_bits result ≡ slice_get (reverse (numbers self)) 0 }
+    {
+        self.nth_back(0)
+    }
+
+    #[tactic(auto, using(crate::proofs::RangeCalls::least_is))]
+    /// The least address, `None` where there is none. In constant time.
+    pub fn min(mut self) -> Option<Ipv4Addr>
+        ensures { IsLeast (numbers self) (option_map ipv4_bits result) }
+    {
+        self.nth(0)
+    }
+
+    #[tactic(auto, using(crate::proofs::RangeCalls::greatest_is))]
+    /// The greatest address, `None` where there is none. In constant time.
+    pub fn max(self) -> Option<Ipv4Addr>
+        ensures { IsGreatest (numbers self) (option_map ipv4_bits result) }
+    {
+        self.last()
+    }
+}
+
+impl Iterator for Ipv4AddrRange {
+    type Item = Ipv4Addr;
+
+    ghost next_gives = { λ r a s. YieldsFirstBy ipv4_bits numbers r a s × (s ≡ after_front r) };
+
+    ghost remaining = { item_count numbers };
+
+    #[tactic(auto, using(crate::proofs::RangeCalls::front_taken, crate::proofs::RangeCalls::front_goes, crate::proofs::RangeCalls::front_once))]
+    fn next(&mut self) -> Option<Ipv4Addr> {
+        Ipv4AddrRange::nth(self, 0)
+    }
+
+    fn size_hint(&self) -> (usize, Option<usize>)
+        ensures lower { IsWithinCount result.0 (item_count numbers self.now) }
+        ensures upper { IfSome result.1 (UpTo (item_count numbers self.now)) }
+        ensures exact { IsExactHint result (length (numbers self.now)) }
+    {
+        hint_numbers(self.start.into(), self.end.into())
+    }
+}
+
+impl DoubleEndedIterator for Ipv4AddrRange {
+    ghost next_back_gives = { λ r a s. YieldsLastBy ipv4_bits numbers r a s × (s ≡ after_back r) };
+
+    #[tactic(auto, using(crate::proofs::RangeCalls::back_taken, crate::proofs::RangeCalls::back_goes, crate::proofs::RangeCalls::back_once))]
+    fn next_back(&mut self) -> Option<Ipv4Addr> {
+        Ipv4AddrRange::nth_back(self, 0)
+    }
+}
