@@ -14,3 +14,6 @@ pub mod IpNetworks
 pub mod NoSpace
 pub mod Longest
 pub mod Netmasks
+pub mod SixteenOctets
+pub mod StringValues
+pub mod FormLaws

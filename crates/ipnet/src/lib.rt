@@ -12,10 +12,14 @@ pub use std::net::{IpAddr, Ipv4Addr, Ipv6Addr};
 pub use text::AddrParseError;
 
 mod contains;
+#[cfg(test)]
+mod form_tests;
 mod ip_net;
 pub mod laws;
 mod networks;
+mod octets;
 mod parser;
 #[cfg(test)]
 mod tests;
 mod text;
+mod value;
