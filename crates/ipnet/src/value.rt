@@ -23,7 +23,7 @@ impl Ipv4Net {
     pub fn to_value(&self, alloc: Global) -> Result<Value, AllocError>
         ensures { IfOk result (λ v. view v ≡ string (ipv4_net_text self.now)) }
     {
-        Ok(Value::String(format!(in alloc; "{self}")?))
+        IpNet::V4(*self).to_value(alloc)
     }
 
     /// The network that a string value spells.
@@ -48,7 +48,7 @@ impl Ipv6Net {
     pub fn to_value(&self, alloc: Global) -> Result<Value, AllocError>
         ensures { IfOk result (λ v. view v ≡ string (ipv6_net_text self.now)) }
     {
-        Ok(Value::String(format!(in alloc; "{self}")?))
+        IpNet::V6(*self).to_value(alloc)
     }
 
     /// The network that a string value spells.
