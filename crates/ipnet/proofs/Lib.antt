@@ -22,3 +22,6 @@ pub mod Aggregates
 pub mod IpAggregates
 pub mod SubnetBlocks
 pub mod Netmasks
+pub mod SixteenOctets
+pub mod StringValues
+pub mod FormLaws

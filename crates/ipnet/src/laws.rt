@@ -5,13 +5,16 @@ ghost use Rattle.ipnet.specs.Aggregated.{AggregatedIsStable};
 ghost use Rattle.ipnet.specs.Cuts.{CutIsExact};
 ghost use Rattle.ipnet.specs.Hosts.{HostsAreExact};
 ghost use Rattle.ipnet.specs.Blocks.{Block};
-ghost use Rattle.ipnet.specs.Networks.{Network, block_of, net_of};
+ghost use Rattle.ipnet.specs.Networks.{Network, IsNetwork, block_of, net_of};
 ghost use Rattle.std.specs.Prelude.{◌≢◌, ◌≤◌, ◌⊎◌, ◌↔◌, IsTrue, All, length};
 ghost use Rattle.std.specs.Ordering.{MatchOrdering};
-ghost use Rattle.ipnet.specs.NetworkText.{ReadsIpv4, ReadsIpv6};
+ghost use Rattle.ipnet_addr.specs.Addresses.{Ipv4, Ipv6};
+ghost use Rattle.ipnet.specs.NetworkText.{ReadsIpv4, ReadsIpv6, ipv4_net_text, ipv6_net_text};
 ghost use Rattle.ipnet.specs.Reader.{ipv4_net_of, ipv6_net_of};
 ghost use Rattle.ipnet.specs.Networks.{ComesBefore};
 ghost use Rattle.ipnet.specs.Laws.{BlockIsItsAddresses, ParentIsNext, BlockIsInterval, MaskIsOnesThenZeros, MaskFindsBlock};
+ghost use Rattle.serde_json.specs.Data.{Data, string};
+ghost use Rattle.ipnet.specs.Forms.{HoldsIpv4, HoldsIpv6, Holds, IsStringOf};
 ghost use Rattle.ipnet.specs.IpNets.{IsSooner};
 ghost use Rattle.ipnet.specs.IpNetText.{Reads, ip_net_of};
 ghost use Rattle.ipnet.specs.declared.ip_net.IpNet.{IpNet as AnyNet};
@@ -127,4 +130,21 @@ pub fn hosts()
 /// `aggregate` of its own answer is that answer, whatever order, repeats and host bits its input had.
 pub fn aggregated()
     ensures { AggregatedIsStable }
+{}
+
+/// No bytes are those of two networks, so that `from_bytes` reads what `to_bytes` gave.
+pub fn byte_forms()
+    ensures v4 { (bytes : List ℕ) (m n : Network) → HoldsIpv4 bytes m → HoldsIpv4 bytes n → m ≡ n }
+    ensures v6 { (bytes : List ℕ) (m n : Network) → HoldsIpv6 bytes m → HoldsIpv6 bytes n → m ≡ n }
+    ensures either { (bytes : List ℕ) (m n : AnyNet) → Holds bytes m → Holds bytes n → m ≡ n }
+{}
+
+/// No value spells two networks, and the string of a network's text spells it, so that `from_value`
+/// reads what `to_value` gave.
+pub fn json_values()
+    ensures v4 { (value : Data) (m n : Network) → IsStringOf ReadsIpv4 value m → IsStringOf ReadsIpv4 value n → m ≡ n }
+    ensures v6 { (value : Data) (m n : Network) → IsStringOf ReadsIpv6 value m → IsStringOf ReadsIpv6 value n → m ≡ n }
+    ensures either { (value : Data) (m n : AnyNet) → IsStringOf Reads value m → IsStringOf Reads value n → m ≡ n }
+    ensures back_v4 { (n : Network) → IsNetwork Ipv4 n → IsStringOf ReadsIpv4 (string (ipv4_net_text n)) n }
+    ensures back_v6 { (n : Network) → IsNetwork Ipv6 n → IsStringOf ReadsIpv6 (string (ipv6_net_text n)) n }
 {}

@@ -17,11 +17,15 @@ mod aggregate;
 mod contains;
 #[cfg(test)]
 mod cut_tests;
+#[cfg(test)]
+mod form_tests;
 mod ip_net;
 pub mod laws;
 mod networks;
+mod octets;
 mod parser;
 mod subnets;
 #[cfg(test)]
 mod tests;
 mod text;
+mod value;

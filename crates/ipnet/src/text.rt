@@ -16,7 +16,7 @@ use thiserror::Error;
 /// The text spells no network.
 #[derive(Clone, Debug, PartialEq, Eq, Drop, Error)]
 #[error("invalid IP address syntax")]
-pub struct AddrParseError(());
+pub struct AddrParseError(pub(crate) ());
 
 impl Ipv4Net {
     /// The text that `Display` writes, at most 18 bytes. Takes no memory.

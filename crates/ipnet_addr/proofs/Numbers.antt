@@ -75,7 +75,7 @@ digit_apart b m n x y small tiny e =
     (quotient, rest)
 
 -- as many digits that write the same number are the same
-digits_apart : (b m n : ℕ) (xs ys : List ℕ) → length xs ≡ length ys → ((k : ℕ) → get_or xs k 0 < b) → ((k : ℕ) → get_or ys k 0 < b)
+pub digits_apart : (b m n : ℕ) (xs ys : List ℕ) → length xs ≡ length ys → ((k : ℕ) → get_or xs k 0 < b) → ((k : ℕ) → get_or ys k 0 < b)
     → number_from_digits_after b m xs ≡ number_from_digits_after b n ys → (m ≡ n) × (xs ≡ ys)
 digits_apart b m n [] [] l small tiny e = (e, refl)
 digits_apart b m n [] (y ∷ ys) l small tiny e = absurd (omega arith)
