@@ -1,18 +1,15 @@
 //! Laws of blocks, networks, their texts and maximal blocks: public functions without a body, whose contracts are the laws.
 
-ghost use Rattle.std.specs.Prelude.{◌≡◌, ℕ, List, MatchOption};
+ghost use Rattle.std.specs.Prelude.{◌≡◌, ◌≢◌, ◌≤◌, ◌⊎◌, ◌↔◌, ℕ, IsTrue, List, All, MatchOption, length};
 ghost use Rattle.ipnet.specs.Blocks.{Block};
-ghost use Rattle.ipnet.specs.Networks.{Network, block_of, net_of};
-ghost use Rattle.std.specs.Prelude.{◌≢◌, ◌≤◌, ◌⊎◌, ◌↔◌, IsTrue, All, length};
+ghost use Rattle.ipnet.specs.Networks.{ComesBefore, Network, block_of, net_of};
 ghost use Rattle.std.specs.Ordering.{MatchOrdering};
 ghost use Rattle.ipnet.specs.NetworkText.{ReadsIpv4, ReadsIpv6};
 ghost use Rattle.ipnet.specs.Reader.{ipv4_net_of, ipv6_net_of};
-ghost use Rattle.ipnet.specs.Networks.{ComesBefore};
-ghost use Rattle.ipnet.specs.Laws.{BlockIsItsAddresses, ParentIsNext, BlockIsInterval, MaskIsOnesThenZeros, MaskFindsBlock};
 ghost use Rattle.ipnet.specs.IpNets.{IsSooner};
 ghost use Rattle.ipnet.specs.IpNetText.{Reads, ip_net_of};
 ghost use Rattle.ipnet.specs.declared.ip_net.IpNet.{IpNet as AnyNet};
-ghost use Rattle.ipnet.specs.Laws.{AreNested, InsideByNumbers, BeginsIsInside, OrderIsTotal, OrderIsStrict, OrderIsTransitive, MaximalIsUnique, MaximalIsShortest, ShortestIsMaximal, ParentIsEnough, MaximalIsUnion, SearchIsMaximal, OrderIsOfStrings};
+ghost use Rattle.ipnet.specs.Laws.{AreNested, InsideByNumbers, BeginsIsInside, OrderIsTotal, OrderIsStrict, OrderIsTransitive, MaximalIsUnique, MaximalIsShortest, ShortestIsMaximal, ParentIsEnough, MaximalIsUnion, SearchIsMaximal, OrderIsOfStrings, BlockIsItsAddresses, ParentIsNext, BlockIsInterval, MaskIsOnesThenZeros, MaskFindsBlock};
 
 use crate::ip_net::IpNet;
 use crate::networks::{Ipv4Net, Ipv6Net};
