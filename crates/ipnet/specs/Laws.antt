@@ -1,11 +1,8 @@
 -- The laws of blocks, as statements.
-use Rattle.std.specs.Prelude.{◌≡◌, ◌<◌, ◌≤◌, ◌⊎◌, ◌↔◌, Bool, IsTrue, List, length, zero}
-use Rattle.std.specs.Prelude.{ℕ, ◌-◌, ◌++◌, true, false, replicate, bit_and}
-use Rattle.ipnet_addr.specs.Addresses.{Address}
-use Rattle.ipnet_addr.specs.Addresses.{IsAddress, width}
+use Rattle.std.specs.Prelude.{◌≡◌, ℕ, ◌-◌, ◌<◌, ◌≤◌, ◌⊎◌, ◌↔◌, ◌++◌, Bool, true, false, IsTrue, List, length, replicate, zero, bit_and}
+use Rattle.ipnet_addr.specs.Addresses.{Address, IsAddress, width}
 use Rattle.ipnet_addr.specs.Masks.{IsMask}
-use Rattle.ipnet.specs.Blocks.{IsLarger, digits, first, last}
-use Rattle.ipnet.specs.Blocks.{Block, IsBlock, HasAddress, IsInside, IsBefore, IsAscending, is_inside, bit_string, Begins, IsEarlier, parent}
+use Rattle.ipnet.specs.Blocks.{Block, IsBlock, HasAddress, IsInside, IsLarger, IsBefore, IsAscending, is_inside, bit_string, digits, Begins, IsEarlier, first, last, parent}
 use Rattle.ipnet.specs.Maximal.{IsWithin, IsMaximalBlock, IsMaximal, IsUnion, maximal_of}
 
 -- two blocks with a common address are nested

@@ -13,7 +13,9 @@ use std::net::{IpAddr, Ipv4Addr, Ipv6Addr};
 /// A network of either family. IPv4 networks come before IPv6 ones.
 #[derive(Clone, Copy, PartialEq, Eq, PartialOrd, Ord, Hash)]
 pub enum IpNet {
+    /// An IPv4 network.
     V4(Ipv4Net),
+    /// An IPv6 network.
     V6(Ipv6Net),
 }
 
@@ -197,6 +199,7 @@ impl From<IpAddr> for IpNet {
     }
 }
 
+/// The same network.
 impl From<Ipv4Net> for IpNet {
     ghost use Rattle.std.specs.Prelude.{◌≡◌};
     ghost use Rattle.ipnet_addr.specs.Addresses.{Ipv4};
@@ -209,6 +212,7 @@ impl From<Ipv4Net> for IpNet {
     }
 }
 
+/// The same network.
 impl From<Ipv6Net> for IpNet {
     ghost use Rattle.std.specs.Prelude.{◌≡◌};
     ghost use Rattle.ipnet_addr.specs.Addresses.{Ipv6};

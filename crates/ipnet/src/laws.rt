@@ -1,24 +1,21 @@
 //! Laws of blocks, networks, their texts and maximal blocks: public functions without a body, whose contracts are the laws.
 
-ghost use Rattle.std.specs.Prelude.{◌≡◌, ℕ, List, MatchOption};
-ghost use Rattle.ipnet.specs.Aggregated.{AggregatedIsStable};
-ghost use Rattle.ipnet.specs.Cuts.{CutIsExact};
-ghost use Rattle.ipnet.specs.Hosts.{HostsAreExact};
-ghost use Rattle.ipnet.specs.Blocks.{Block};
-ghost use Rattle.ipnet.specs.Networks.{Network, IsNetwork, block_of, net_of};
-ghost use Rattle.std.specs.Prelude.{◌≢◌, ◌≤◌, ◌⊎◌, ◌↔◌, IsTrue, All, length};
+ghost use Rattle.std.specs.Prelude.{◌≡◌, ◌≢◌, ◌≤◌, ◌⊎◌, ◌↔◌, ℕ, IsTrue, List, All, MatchOption, length};
 ghost use Rattle.std.specs.Ordering.{MatchOrdering};
-ghost use Rattle.ipnet_addr.specs.Addresses.{Ipv4, Ipv6};
-ghost use Rattle.ipnet.specs.NetworkText.{ReadsIpv4, ReadsIpv6, ipv4_net_text, ipv6_net_text};
-ghost use Rattle.ipnet.specs.Reader.{ipv4_net_of, ipv6_net_of};
-ghost use Rattle.ipnet.specs.Networks.{ComesBefore};
-ghost use Rattle.ipnet.specs.Laws.{BlockIsItsAddresses, ParentIsNext, BlockIsInterval, MaskIsOnesThenZeros, MaskFindsBlock};
 ghost use Rattle.serde_json.specs.Data.{Data, string};
+ghost use Rattle.ipnet_addr.specs.Addresses.{Ipv4, Ipv6};
+ghost use Rattle.ipnet.specs.Aggregated.{AggregatedIsStable};
+ghost use Rattle.ipnet.specs.Blocks.{Block};
+ghost use Rattle.ipnet.specs.Cuts.{CutIsExact};
 ghost use Rattle.ipnet.specs.Forms.{HoldsIpv4, HoldsIpv6, Holds, IsStringOf};
+ghost use Rattle.ipnet.specs.Hosts.{HostsAreExact};
 ghost use Rattle.ipnet.specs.IpNets.{IsSooner};
 ghost use Rattle.ipnet.specs.IpNetText.{Reads, ip_net_of};
+ghost use Rattle.ipnet.specs.Laws.{AreNested, InsideByNumbers, BeginsIsInside, OrderIsTotal, OrderIsStrict, OrderIsTransitive, MaximalIsUnique, MaximalIsShortest, ShortestIsMaximal, ParentIsEnough, MaximalIsUnion, SearchIsMaximal, OrderIsOfStrings, BlockIsItsAddresses, ParentIsNext, BlockIsInterval, MaskIsOnesThenZeros, MaskFindsBlock};
+ghost use Rattle.ipnet.specs.Networks.{ComesBefore, Network, IsNetwork, block_of, net_of};
+ghost use Rattle.ipnet.specs.NetworkText.{ReadsIpv4, ReadsIpv6, ipv4_net_text, ipv6_net_text};
+ghost use Rattle.ipnet.specs.Reader.{ipv4_net_of, ipv6_net_of};
 ghost use Rattle.ipnet.specs.declared.ip_net.IpNet.{IpNet as AnyNet};
-ghost use Rattle.ipnet.specs.Laws.{AreNested, InsideByNumbers, BeginsIsInside, OrderIsTotal, OrderIsStrict, OrderIsTransitive, MaximalIsUnique, MaximalIsShortest, ShortestIsMaximal, ParentIsEnough, MaximalIsUnion, SearchIsMaximal, OrderIsOfStrings};
 
 use crate::ip_net::IpNet;
 use crate::networks::{Ipv4Net, Ipv6Net};
