@@ -82,16 +82,16 @@ impl Ipv6AddrRange {
         self.nth_back(0)
     }
 
-    #[tactic(auto, using(crate::proofs::RangeCalls::least_is))]
     /// The least address, `None` where there is none. In constant time.
+    #[tactic(auto, using(crate::proofs::RangeCalls::least_is))]
     pub fn min(mut self) -> Option<Ipv6Addr>
         ensures { IsLeast (numbers self) (option_map ipv6_bits result) }
     {
         self.nth(0)
     }
 
-    #[tactic(auto, using(crate::proofs::RangeCalls::greatest_is))]
     /// The greatest address, `None` where there is none. In constant time.
+    #[tactic(auto, using(crate::proofs::RangeCalls::greatest_is))]
     pub fn max(self) -> Option<Ipv6Addr>
         ensures { IsGreatest (numbers self) (option_map ipv6_bits result) }
     {
