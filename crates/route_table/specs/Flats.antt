@@ -1,0 +1,50 @@
+-- The shortest list of blocks of one hop.
+use Rattle.std.specs.Prelude.{◌≡◌, ◌==◌, ℕ, zero, suc, ◌↔◌, if◌then◌else◌, List, [], ◌∷◌, ◌++◌, Option, Some, None, IsSome, All, Any, AllPairs, Contains, map}
+use Rattle.ipnet_addr.specs.Addresses.{Address, IsAddress, width, Ipv4, Ipv6}
+use Rattle.ipnet.specs.Blocks.{Block, IsBlock, HasAddress, IsBefore, first_of, left, right, whole}
+use Rattle.ipnet.specs.Maximal.{IsMaximalBlock}
+
+-- a block with its one hop
+pub record Piece : Type 0 where
+  pub block : Block
+  pub number : ℕ
+
+-- the ascending list of the pairs of a number and a maximal block of the addresses with that hop
+pub record IsFlat (h : Address → Option ℕ) (ps : List Piece) : Type 0 where
+  pub ascending : AllPairs (λ p q. IsBefore p.block q.block) ps
+  pub exact : (p : Piece) → Contains ps p ↔ IsMaximalBlock (λ x. h x ≡ Some p.number) p.block
+
+abbrev pub blocks_of : List Piece → List Block
+blocks_of ps = map (λ p. p.block) ps
+
+-- all addresses of the block have one hop
+pub record HasOneHop (h : Address → Option ℕ) (b : Block) : Type 0 where
+  pub block : IsBlock b
+  pub number : ℕ
+  pub all : (x : Address) → HasAddress b x → h x ≡ Some number
+
+-- blocks of one hop that cover every address with a hop
+pub record IsAdmissible (h : Address → Option ℕ) (bs : List Block) : Type 0 where
+  pub one_hop : All (HasOneHop h) bs
+  pub covers : (x : Address) → IsAddress x → IsSome (h x) → Any (λ b. HasAddress b x) bs
+
+-- the flat list by search: `k` is the number of free bits of the block that is searched
+abbrev pub common : Option ℕ → Option ℕ → Option ℕ
+common None o = None
+common (Some j) None = None
+common (Some j) (Some k) = if j == k then Some j else None
+
+unfoldable pub one_hop_in : (Address → Option ℕ) → ℕ → Block → Option ℕ
+one_hop_in h zero b = h (first_of b)
+one_hop_in h (suc k) b = common (one_hop_in h k (left b)) (one_hop_in h k (right b))
+
+abbrev pub piece_or : Block → Option ℕ → List Piece → List Piece
+piece_or b None ps = ps
+piece_or b (Some n) ps = record { block = b; number = n } ∷ []
+
+unfoldable pub flat_in : (Address → Option ℕ) → ℕ → Block → List Piece
+flat_in h zero b = piece_or b (h (first_of b)) []
+flat_in h (suc k) b = piece_or b (one_hop_in h (suc k) b) (flat_in h k (left b) ++ flat_in h k (right b))
+
+unfoldable pub flat_of : (Address → Option ℕ) → List Piece
+flat_of h = flat_in h (width Ipv4) (whole Ipv4) ++ flat_in h (width Ipv6) (whole Ipv6)

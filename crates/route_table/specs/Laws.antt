@@ -1,0 +1,61 @@
+-- The laws of tables, as statements.
+use Rattle.std.specs.Prelude.{◌≡◌, ℕ, ◌≤◌, ◌↔◌, ◌==◌, ◌+◌, List, Option, Some, Contains, length, sum_by, filter}
+use Rattle.ipnet_addr.specs.Addresses.{Address, IsAddress}
+use Rattle.ipnet.specs.Blocks.{Block, IsBlock, HasAddress, IsAscending, host}
+use Rattle.ipnet.specs.Maximal.{IsMaximal, maximal_of}
+use Rattle.route_table.specs.Tables.{Route, IsTable, IsMatch, IsHop, match_of, match_number, hop_at, number_of, Governed, Changed, with_route, without_block}
+use Rattle.route_table.specs.Flats.{Piece, IsFlat, IsAdmissible, blocks_of, flat_of}
+use Rattle.route_table.specs.Changes.{changed}
+use Rattle.route_table.specs.Bounds.{excess}
+
+-- what `match_of` finds
+abbrev pub MatchIsLongest : Type 0
+MatchIsLongest = (M : List Route) (n : Block) → IsTable M → IsBlock n → (r : Route) → (match_of M n ≡ Some r) ↔ IsMatch M n r
+
+-- the match of an address in what n governs is the match of n
+abbrev pub GovernedMatch : Type 0
+GovernedMatch = (M : List Route) (n : Block) (x : Address) → IsTable M → IsBlock n → IsAddress x → Governed M n x → match_of M (host x) ≡ match_of M n
+
+-- no admissible list is shorter, and an ascending one as short is the flat list
+abbrev pub FlatIsShortest : Type 0
+FlatIsShortest = (h : Address → Option ℕ) (ps : List Piece) (bs : List Block) → IsFlat h ps → IsAdmissible h bs → length ps ≤ length bs
+
+abbrev pub ShortestIsFlat : Type 0
+ShortestIsFlat = (h : Address → Option ℕ) (ps : List Piece) (bs : List Block) → IsFlat h ps → IsAdmissible h bs → IsAscending bs → length bs ≤ length ps → blocks_of ps ≡ bs
+
+abbrev pub FlatIsAdmissible : Type 0
+FlatIsAdmissible = (h : Address → Option ℕ) (ps : List Piece) → IsFlat h ps → IsAdmissible h (blocks_of ps)
+
+-- two flat lists are the same exactly when each address has the same hop or none
+abbrev pub SameFlat : Type 0
+SameFlat = (g h : Address → Option ℕ) (ps qs : List Piece) → IsFlat g ps → IsFlat h qs → (ps ≡ qs) ↔ ((x : Address) → IsAddress x → g x ≡ h x)
+
+-- a search of the bit tree finds the flat list
+abbrev pub SearchIsFlat : Type 0
+SearchIsFlat = (h : Address → Option ℕ) → IsFlat h (flat_of h)
+
+-- the blocks of one number in the flat list are the maximal blocks of the addresses with that hop
+abbrev pub OwnIsMaximal : Type 0
+OwnIsMaximal = (h : Address → Option ℕ) (ps : List Piece) (k : ℕ) → IsFlat h ps → IsMaximal (λ x. h x ≡ Some k) (blocks_of (filter (λ p. p.number == k) ps))
+
+-- the bound on the blocks that n governs
+abbrev pub GovernedBound : Type 0
+GovernedBound = (M : List Route) (n : Block) (bs : List Block) → IsTable M → IsBlock n → IsMaximal (Governed M n) bs → length bs ≤ 1 + sum_by (λ r. excess n r.block) M
+
+-- a table with a route in it or a block out of it is a table
+abbrev pub StaysTable : Type 0
+StaysTable = (M : List Route) → IsTable M → ((r : Route) → IsBlock r.block → IsHop r.hop → IsTable (with_route M r)) × ((n : Block) → IsTable (without_block M n))
+
+-- a search finds the maximal blocks of the changed addresses
+abbrev pub ChangedIsMaximal : Type 0
+ChangedIsMaximal = (M N : List Route) → IsMaximal (Changed M N) (maximal_of (changed M N))
+
+-- the addresses that a new route changes have its hop
+abbrev pub AddedHaveOneHop : Type 0
+AddedHaveOneHop = (M : List Route) (r : Route) → IsTable M → IsBlock r.block → IsHop r.hop → (b : Block) → Contains (maximal_of (changed M (with_route M r))) b →
+    (x : Address) → HasAddress b x → hop_at (with_route M r) x ≡ number_of r.hop
+
+-- the addresses that a route taken out changes have the hop of the longest match that is left
+abbrev pub LeftHaveOneHop : Type 0
+LeftHaveOneHop = (M : List Route) (n : Block) → IsTable M → IsBlock n → (b : Block) → Contains (maximal_of (changed M (without_block M n))) b →
+    (x : Address) → HasAddress b x → hop_at (without_block M n) x ≡ match_number (match_of (without_block M n) n)

@@ -1,0 +1,5 @@
+pub mod Tables
+pub mod Flats
+pub mod Changes
+pub mod Bounds
+pub mod Laws

@@ -1,0 +1,72 @@
+-- A table as a finite map from blocks to hops, its matches and its hops.
+use Rattle.std.specs.Prelude.{◌≢◌, ℕ, ◌<◌, ◌≤◌, ◌^◌, not, nat_lt, if◌then◌else◌, List, [], ◌∷◌, ◌++◌, Option, Some, None, All, AllPairs, Contains, filter}
+use Rattle.ipnet_addr.specs.Addresses.{Address}
+use Rattle.ipnet.specs.Blocks.{Block, IsBlock, HasAddress, IsInside, IsLarger, IsBefore, is_inside, is_before, same_block, host}
+use Rattle.route_table.specs.declared.hop.Hop.{Hop}
+use Rattle.route_table.specs.declared.hop.Hop.TheVariants.{Number, Drop}
+
+pub record Route : Type 0 where
+  pub block : Block
+  pub hop : Hop
+
+abbrev pub IsHop : Hop → Type 0
+IsHop (Number k) = k < 2 ^ 32
+IsHop Drop = Unit {0}
+
+-- a table is the list of its routes, ascending, one for each block
+pub record IsTable (M : List Route) : Type 0 where
+  pub blocks : All (λ r. IsBlock r.block) M
+  pub hops : All (λ r. IsHop r.hop) M
+  pub ascending : AllPairs (λ r s. IsBefore r.block s.block) M
+
+-- the members that contain the block
+abbrev pub covering : List Route → Block → List Route
+covering M n = filter (λ r. is_inside n r.block) M
+
+-- a route of greatest length
+abbrev pub longer : Route → Option Route → Route
+longer r None = r
+longer r (Some s) = if nat_lt r.block.len s.block.len then s else r
+
+abbrev pub longest : List Route → Option Route
+longest [] = None
+longest (r ∷ rs) = Some (longer r (longest rs))
+
+-- the longest match: the member of greatest length that contains the block
+abbrev pub match_of : List Route → Block → Option Route
+match_of M n = longest (covering M n)
+
+abbrev pub number_of : Hop → Option ℕ
+number_of (Number k) = Some k
+number_of Drop = None
+
+abbrev pub match_number : Option Route → Option ℕ
+match_number None = None
+match_number (Some r) = number_of r.hop
+
+-- the hop of an address: the number at the match of its host block
+abbrev pub hop_at : List Route → Address → Option ℕ
+hop_at M x = match_number (match_of M (host x))
+
+-- the addresses whose hop differs
+abbrev pub Changed : List Route → List Route → Address → Type 0
+Changed M N x = hop_at M x ≢ hop_at N x
+
+-- the addresses of n that lie in no member of M strictly inside n
+pub record Governed (M : List Route) (n : Block) (x : Address) : Type 0 where
+  pub inside : HasAddress n x
+  pub free : (r : Route) → Contains M r → IsLarger n r.block → HasAddress r.block x → ⊥
+
+-- the table with the route in the place of any other of its block
+abbrev pub with_route : List Route → Route → List Route
+with_route M r = filter (λ s. is_before s.block r.block) M ++ r ∷ filter (λ s. is_before r.block s.block) M
+
+-- the table without the block
+abbrev pub without_block : List Route → Block → List Route
+without_block M n = filter (λ s. not (same_block s.block n)) M
+
+-- what `match_of` finds, as a relation
+pub record IsMatch (M : List Route) (n : Block) (r : Route) : Type 0 where
+  pub member : Contains M r
+  pub holds : IsInside n r.block
+  pub longest : (s : Route) → Contains M s → IsInside n s.block → s.block.len ≤ r.block.len
