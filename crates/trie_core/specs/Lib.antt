@@ -1,0 +1,4 @@
+pub mod Bits
+pub mod Places
+pub mod Nodes
+pub mod Count
