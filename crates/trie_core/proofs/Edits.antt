@@ -98,15 +98,15 @@ module _ {X : Type 0} where
   without_none n (e ∷ es) f = without_none_by n e es (without_none n es) (eq_by_cmp nat_cmp n e.0) f
 
 module _ {X : Type 0} where
-  at_none : (w n bits : ℕ) → at_places {X = X} w n bits [] ≡ []
+  pub at_none : (w n bits : ℕ) → at_places {X = X} w n bits [] ≡ []
   at_none zero n bits = refl
   at_none (suc w) n bits = refl
 
-  at_step : (w n bits : ℕ) (xs : List X) → bits % 2 ≡ 0 → at_places (suc w) n bits xs ≡ at_places w (suc n) (bits / 2) xs
+  pub at_step : (w n bits : ℕ) (xs : List X) → bits % 2 ≡ 0 → at_places (suc w) n bits xs ≡ at_places w (suc n) (bits / 2) xs
   at_step w n bits [] h = sym (at_none w (suc n) (bits / 2))
   at_step w n bits (x ∷ xs) h = let e : eqb (bits % 2) 1 ≡ false = grind (arith, nat_tests) in ap (λ b. cond b ((n, x) ∷ at_places w (suc n) (bits / 2) xs) (at_places w (suc n) (bits / 2) (x ∷ xs))) e
 
-  at_first : (w n bits : ℕ) (x : X) (xs : List X) → bits % 2 ≡ 1 → at_places (suc w) n bits (x ∷ xs) ≡ (n, x) ∷ at_places w (suc n) (bits / 2) xs
+  pub at_first : (w n bits : ℕ) (x : X) (xs : List X) → bits % 2 ≡ 1 → at_places (suc w) n bits (x ∷ xs) ≡ (n, x) ∷ at_places w (suc n) (bits / 2) xs
   at_first w n bits x xs h = let e : eqb (bits % 2) 1 ≡ true = grind (arith, nat_tests) in ap (λ b. cond b ((n, x) ∷ at_places w (suc n) (bits / 2) xs) (at_places w (suc n) (bits / 2) (x ∷ xs))) e
 
   below_cons : (m n : ℕ) (x : X) (es : List (ℕ × X)) → m < n → T (below_all nat_cmp m es) → T (below_all nat_cmp m ((n, x) ∷ es))

@@ -5,3 +5,6 @@ pub mod Visits
 pub mod Places
 pub mod Edits
 pub mod Taken
+pub mod Numbers
+pub mod Named
+pub mod Aligned

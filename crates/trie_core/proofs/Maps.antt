@@ -78,7 +78,7 @@ append_none (x ∷ xs) = ap (λ ys. x ∷ ys) (append_none xs)
 pub front : (q : List Bool) → 5 ≤ length q → (length (take 5 q) ≡ 5) × (take 5 q ++ drop 5 q ≡ q)
 front q h = (omega (arith, length-take 5 q), take-append-drop 5 q)
 
-take_front : (bs k : List Bool) (n : ℕ) → length bs ≡ n → take n (bs ++ k) ≡ bs
+pub take_front : (bs k : List Bool) (n : ℕ) → length bs ≡ n → take n (bs ++ k) ≡ bs
 take_front [] k zero e = refl
 take_front [] k (suc n) e = absurd (omega arith)
 take_front (b ∷ bs) k zero e = absurd (omega arith)

@@ -2,3 +2,4 @@ pub mod Bits
 pub mod Places
 pub mod Nodes
 pub mod Count
+pub mod Paths

@@ -53,6 +53,7 @@ pub record HasSlots {X Y : Type 0} (value_bits : ℕ) (values : List X) (child_b
   pub values_counted : count_ones value_bits ≡ length values
   pub values_below : value_bits < 2 ^ 31
   pub children_counted : count_ones child_bits ≡ length children
+  pub children_below : child_bits < 2 ^ 32
 
 -- the levels of the deepest of these nodes
 abbrev pub node_height : {X : Type 0} → List (Seen X) → ℕ

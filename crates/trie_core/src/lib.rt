@@ -2,3 +2,6 @@
 #![tactic(auto)]
 
 mod slots;
+mod path;
+
+pub use path::Path;
