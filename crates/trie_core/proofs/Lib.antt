@@ -8,3 +8,5 @@ pub mod Taken
 pub mod Numbers
 pub mod Named
 pub mod Aligned
+pub mod Seen
+pub mod Begins

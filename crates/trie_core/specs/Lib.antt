@@ -3,3 +3,5 @@ pub mod Places
 pub mod Nodes
 pub mod Count
 pub mod Paths
+pub mod Search
+pub mod Lending

@@ -1,6 +1,6 @@
 -- What a node is seen as: the map from bit strings to values, and the shape below it.
 use Rattle.std.specs.Prelude.{ℕ, suc, ◌+◌, ◌<◌, ◌≤◌, ◌≡◌, ◌^◌, length, take, max, Bool, T, List, [], ◌∷◌, ◌++◌, Option, Some, None, refl, count_ones}
-use Rattle.std.specs.FinMap.{FinMap, is_sorted, entries, from_entries, empty, get, code as map_code}
+use Rattle.std.specs.FinMap.{FinMap, is_sorted, entries, from_entries, empty, code as map_code}
 use Rattle.std.specs.Coded.{Coded, code_by, coded×, coded_ℕ, coded_list, coded_bool}
 use Rattle.std.proofs.Common.{arith}
 use denote.Param.Weighed.{most}
@@ -72,23 +72,3 @@ most_le-node_height w h cs = omega (arith, most_le w h cs)
 abbrev pub child_map : {X : Type 0} → Option (Seen X) → BitMap X
 child_map None = empty
 child_map (Some m) = m.0
-
--- no beginning of q with at least low and at most high bits is a key
-abbrev pub NoneBetween : {X : Type 0} → BitMap X → List Bool → ℕ → ℕ → Type 0
-NoneBetween m q low high = (k : ℕ) → low ≤ k → k ≤ high → get m (take k q) ≡ None
-
--- no beginning of q, q itself included, is a key
-abbrev pub NoBeginning : {X : Type 0} → BitMap X → List Bool → Type 0
-NoBeginning m q = (k : ℕ) → k ≤ length q → get m (take k q) ≡ None
-
--- of the beginnings of q that are keys, q itself included, the longest has n bits and the value v
-pub record IsLongest {X : Type 0} (m : BitMap X) (q : List Bool) (n : ℕ) (v : X) : Type 0 where
-  pub within : n ≤ length q
-  pub found : get m (take n q) ≡ Some v
-  pub longest : (k : ℕ) → n < k → k ≤ length q → get m (take k q) ≡ None
-
--- of the beginnings of q that are keys, q itself included, the shortest has n bits and the value v
-pub record IsShortest {X : Type 0} (m : BitMap X) (q : List Bool) (n : ℕ) (v : X) : Type 0 where
-  pub within : n ≤ length q
-  pub found : get m (take n q) ≡ Some v
-  pub shortest : (k : ℕ) → k < n → get m (take k q) ≡ None

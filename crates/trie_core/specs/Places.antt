@@ -39,3 +39,14 @@ IsSlot i bits k = (bits / 2 ^ i % 2 ≡ 1) × (k ≡ count_ones (bits % 2 ^ i))
 -- m has the bits of the places of the strings that begin q, and no other place's
 abbrev pub IsBeginMask : List Bool → ℕ → Type 0
 IsBeginMask q m = (p : List Bool) → length p < 5 → bit_at m (place_of p) ≡ cond (begins p q) 1 0
+
+-- the greatest place that is taken, and the least
+pub record IsLastPlace (bits place : ℕ) : Type 0 where
+  pub within : place < 32
+  pub taken : bit_at bits place ≡ 1
+  pub above : (i : ℕ) → place < i → bit_at bits i ≡ 0
+
+pub record IsFirstPlace (bits place : ℕ) : Type 0 where
+  pub within : place < 32
+  pub taken : bit_at bits place ≡ 1
+  pub under : (i : ℕ) → i < place → bit_at bits i ≡ 0

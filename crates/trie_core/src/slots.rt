@@ -1,9 +1,9 @@
 //! Things numbered below 32: a word says which numbers are taken, and a list has the things in the order of their numbers.
-ghost use Rattle.std.specs.Prelude.{◌≡◌, ◌<◌, ◌≤◌, ◌%◌, ◌^◌, None, length, count_ones, IfOk, IfErr, OnErr, OnOk, IsTrue, MatchOption};
+ghost use Rattle.std.specs.Prelude.{ℕ, vec_len, vec_capacity, IsOk, ◌≡◌, ◌<◌, ◌≤◌, ◌%◌, ◌^◌, None, length, count_ones, IfOk, IfErr, OnErr, OnOk, IsTrue, MatchOption};
 ghost use Rattle.std.specs.Option.{option_copied};
 ghost use Rattle.std.specs.Ordering.{nat_cmp};
 ghost use Rattle.std.specs.FinMap.{find, put as put_entry};
-ghost use Rattle.trie_core.specs.Places.{at_places, without, IsUnset, IsSlot};
+ghost use Rattle.trie_core.specs.Places.{at_places, without, IsUnset, IsSlot, IsLastPlace, IsFirstPlace};
 
 use std::alloc::AllocFailed;
 use std::mem;
@@ -66,6 +66,8 @@ pub(crate) fn put_at<X>(
     ensures old { IfOk result (λ old. old ≡ find nat_cmp place (at_places 32 0 taken.old items.old.items)) }
     ensures items { OnOk result (at_places 32 0 taken.new items.new.items ≡ put_entry nat_cmp place thing (at_places 32 0 taken.old items.old.items)) }
     ensures counted { count_ones taken.new ≡ length items.new.items }
+    ensures below { (w : ℕ) → place < w → taken.old < 2 ^ w → taken.new < 2 ^ w }
+    ensures succeeds { IsTrue may_grow → vec_len items.old < vec_capacity items.old → IsOk result }
     ensures grows { IfOk result (λ r. r ≡ None → IsTrue may_grow) }
     ensures same_word { OnErr result (taken.new ≡ taken.old) }
     ensures same_items { OnErr result (items.new.items ≡ items.old.items) }
@@ -100,10 +102,29 @@ pub(crate) fn take_at<X>(taken: &mut u32, items: &mut Vec<X>, place: u8) -> Opti
     ensures value { result ≡ find nat_cmp place (at_places 32 0 taken.old items.old.items) }
     ensures items { at_places 32 0 taken.new items.new.items ≡ without place (at_places 32 0 taken.old items.old.items) }
     ensures counted { count_ones taken.new ≡ length items.new.items }
+    ensures below { taken.new ≤ taken.old }
 {
     let word = *taken;
     let at = slot(word, place)?;
     let thing = items.remove(at);
     *taken = word - bit(place);
     Some(thing)
+}
+
+/// The greatest place that is taken.
+#[inline]
+pub(crate) fn last_place(taken: u32) -> u8
+    requires { 0 < taken }
+    ensures { IsLastPlace taken result }
+{
+    31 - taken.leading_zeros() as u8
+}
+
+/// The least place that is taken.
+#[inline]
+pub(crate) fn first_place(taken: u32) -> u8
+    requires { 0 < taken }
+    ensures { IsFirstPlace taken result }
+{
+    taken.trailing_zeros() as u8
 }

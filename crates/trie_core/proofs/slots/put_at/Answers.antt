@@ -5,6 +5,7 @@ use Rattle.std.specs.FinMap.{put}
 use Rattle.std.proofs.Math.Facts.{Fits-of_lt}
 use Rattle.trie_core.specs.Places.{at_places}
 use Rattle.trie_core.proofs.Taken.{free, taken, missing, put_in}
+use Rattle.trie_core.proofs.Edits.{set_fits}
 use Rattle.trie_core.proofs.slots.put_at.Goals as goal
 
 pub index_mut-item-requires : goal.index_mut-item-requires
@@ -50,3 +51,6 @@ returns-in-Ok-clause-counted g c =
 
 pub returns-in-Err-clause-absent : goal.returns-in-Err-clause-absent
 returns-in-Err-clause-absent g c = sym (missing c.args.place c.args.taken.now c.args.items.now.items c.in-None.ensures)
+
+pub returns-in-Ok-clause-below : goal.returns-in-Ok-clause-below
+returns-in-Ok-clause-below g c = λ w l b. omega (arith, set_fits w c.args.place c.args.taken.now l b c.in-None.ensures, c.bit.ensures)
