@@ -10,3 +10,4 @@ pub mod Named
 pub mod Aligned
 pub mod Seen
 pub mod Begins
+pub mod Searches

@@ -1,13 +1,14 @@
 //! A node of the trie: five levels of bits, with the values at strings of fewer than five bits and the children at five.
-ghost use Rattle.std.specs.Prelude.{◌≡◌, ◌+◌, ◌*◌, ◌/◌, ◌<◌, ◌≤◌, ◌^◌, length, None, IfOk, IfErr, OnErr, OnOk, IsTrue, ◌↔◌, MatchOption, max, count_ones};
+ghost use Rattle.std.specs.Prelude.{◌≡◌, ◌+◌, ◌*◌, ◌/◌, ◌<◌, ◌≤◌, ◌^◌, length, None, Some, IfOk, IfErr, OnErr, OnOk, IsTrue, ◌↔◌, MatchOption, max, count_ones};
 ghost use Rattle.std.specs.Option.{IsSome, option_copied};
 ghost use Rattle.std.specs.FinMap as map;
 ghost use Rattle.trie_core.specs.Nodes.{HasSlots};
 ghost use Rattle.trie_core.specs.Count.{all_nodes, visit_count};
-ghost use Rattle.trie_core.specs.Search.{IsChild, HasNoChild};
+ghost use Rattle.trie_core.specs.Search.{IsChild, HasNoChild, NoneBelow, IsLongestBelow, NoBeginning, IsLongest, IsShortest};
 
 use crate::path::Path;
-use crate::slots::{bit, get_at, put_at, slot, take_at};
+use crate::slots::{bit, first_place, get_at, last_place, put_at, slot, take_at, taken_below};
+use crate::tables::place_length;
 use std::alloc::Global;
 use std::marker::Model;
 
@@ -40,6 +41,22 @@ impl<T> Model for Node<T> {
     ghost size = { λ s. s.2 };
 
     ghost size_decreases = { λ a h. most_le-node_height _ (λ c. Prim.omega arith) a.children.items };
+}
+
+/// What is found at a depth, and else the best so far.
+#[inline]
+fn deeper<'a, T>(
+    best: Option<(u8, &'a T)>,
+    depth: u8,
+    found: Option<(u8, &'a T)>,
+) -> Option<(u8, &'a T)>
+    requires { MatchOption found (Unit {0}) (λ r. depth + r.0 < 256) }
+    ensures { MatchOption found.entry (result ≡ best.entry) (λ r. result ≡ Some (depth + r.0, r.1)) }
+{
+    match found {
+        None => best,
+        Some((len, value)) => Some((depth + len, value)),
+    }
 }
 
 impl<T> Node<T> {
@@ -81,7 +98,7 @@ impl<T> Node<T> {
     {
         let mut node = self;
         let mut path = path;
-        while !path.is_short() {
+        'way: while !path.is_short() {
             match node.child(&path) {
                 None => return None,
                 Some(child) => node = child,
@@ -89,6 +106,77 @@ impl<T> Node<T> {
             path = path.rest();
         }
         node.value(&path)
+    }
+
+    /// The longest beginning of the path of fewer than five bits that is a key.
+    #[inline]
+    fn longest_here(&self, path: &Path) -> Option<(u8, &T)>
+        ensures { MatchOption result (NoneBelow self.now.0 path.now 5) (λ r. IsLongestBelow self.now.0 path.now 5 r.0 r.1.now) }
+    {
+        let found = self.value_bits & path.beginnings();
+        if found == 0 {
+            return None;
+        }
+        let place = last_place(found);
+        let at = taken_below(self.value_bits, place);
+        Some((place_length(place), &self.values[at]))
+    }
+
+    /// The shortest beginning of the path of fewer than five bits that is a key.
+    #[inline]
+    fn shortest_here(&self, path: &Path) -> Option<(u8, &T)>
+        ensures { MatchOption result (NoneBelow self.now.0 path.now 5) (λ r. (r.0 < 5) × IsShortest self.now.0 path.now r.0 r.1.now) }
+    {
+        let found = self.value_bits & path.beginnings();
+        if found == 0 {
+            return None;
+        }
+        let place = first_place(found);
+        let at = taken_below(self.value_bits, place);
+        Some((place_length(place), &self.values[at]))
+    }
+
+    /// The longest beginning of the path that is a key, the path itself included.
+    pub fn longest(&self, path: Path) -> Option<(u8, &T)>
+        requires { length path ≤ 128 }
+        ensures { MatchOption result (NoBeginning self.now.0 path) (λ r. IsLongest self.now.0 path r.0 r.1.now) }
+    {
+        let mut node = self;
+        let mut path = path;
+        let mut depth = 0;
+        let mut best = None;
+        'way: while !path.is_short() {
+            best = deeper(best, depth, node.longest_here(&path));
+            match node.child(&path) {
+                None => return best,
+                Some(child) => node = child,
+            }
+            path = path.rest();
+            depth += 5;
+        }
+        deeper(best, depth, node.longest_here(&path))
+    }
+
+    /// The shortest beginning of the path that is a key, the path itself included.
+    pub fn shortest(&self, path: Path) -> Option<(u8, &T)>
+        requires { length path ≤ 128 }
+        ensures { MatchOption result (NoBeginning self.now.0 path) (λ r. IsShortest self.now.0 path r.0 r.1.now) }
+    {
+        let mut node = self;
+        let mut path = path;
+        let mut depth = 0;
+        'way: while !path.is_short() {
+            if let Some((len, value)) = node.shortest_here(&path) {
+                return Some((depth + len, value));
+            }
+            match node.child(&path) {
+                None => return None,
+                Some(child) => node = child,
+            }
+            path = path.rest();
+            depth += 5;
+        }
+        deeper(None, depth, node.shortest_here(&path))
     }
 
     /// How many nodes a search for the path enters.
@@ -100,7 +188,7 @@ impl<T> Node<T> {
         let mut node = self;
         let mut path = path;
         let mut visits = 1;
-        while !path.is_short() {
+        'way: while !path.is_short() {
             match node.child(&path) {
                 None => return visits,
                 Some(child) => node = child,

@@ -2,7 +2,10 @@
 ghost use Rattle.std.specs.Prelude.{◌≡◌, ◌-◌, ◌/◌, ◌^◌, ◌<◌, ◌≤◌, length, drop, nat_lt};
 ghost use Rattle.ipnet.specs.Blocks.{digits};
 ghost use Rattle.trie_core.specs.Bits.{place_of, child_of};
+ghost use Rattle.trie_core.specs.Places.{IsBeginMask};
 
+use crate::slots::bit;
+use crate::tables::beginnings;
 use std::marker::Model;
 
 /// A bit string: the first `len` of the 128 bits, which are zero after them.
@@ -83,6 +86,18 @@ impl Path {
     {
         let five = self.five();
         five + self.len - five.count_ones() as u8
+    }
+
+    /// The places of its beginnings of fewer than five bits.
+    #[inline]
+    pub(crate) fn beginnings(&self) -> u32
+        ensures { IsBeginMask self.now result }
+    {
+        let all = beginnings(self.five());
+        if self.is_short() {
+            return all % (2 * bit(self.place()));
+        }
+        all
     }
 
     /// What follows the first five bits.
