@@ -11,3 +11,4 @@ pub mod Aligned
 pub mod Seen
 pub mod Begins
 pub mod Searches
+pub mod Changes

@@ -35,17 +35,17 @@ no_items (y ∷ ys) e = absurd (omega arith)
 module _ {X : Type 0} where
   -- ---- sums and heights of children
 
-  total-set : (f : Seen X → ℕ) (cs : List (Seen X)) (i : ℕ) (c d : Seen X) → i < length cs → total f (set cs i c) + f (get_or cs i d) ≡ total f cs + f c
+  pub total-set : (f : Seen X → ℕ) (cs : List (Seen X)) (i : ℕ) (c d : Seen X) → i < length cs → total f (set cs i c) + f (get_or cs i d) ≡ total f cs + f c
   total-set f [] i c d h = absurd (omega arith)
   total-set f (e ∷ cs) zero c d h = omega arith
   total-set f (e ∷ cs) (suc i) c d h = omega (arith, total-set f cs i c d (omega arith))
 
-  height-set : (cs : List (Seen X)) (i : ℕ) (c : Seen X) → node_height (set cs i c) ≤ max (node_height cs) c.2
+  pub height-set : (cs : List (Seen X)) (i : ℕ) (c : Seen X) → node_height (set cs i c) ≤ max (node_height cs) c.2
   height-set [] i c = omega arith
   height-set (e ∷ cs) zero c = omega arith
   height-set (e ∷ cs) (suc i) c = omega (arith, height-set cs i c)
 
-  height-read : (cs : List (Seen X)) (i : ℕ) (d : Seen X) → i < length cs → (get_or cs i d).2 ≤ node_height cs
+  pub height-read : (cs : List (Seen X)) (i : ℕ) (d : Seen X) → i < length cs → (get_or cs i d).2 ≤ node_height cs
   height-read [] i d h = absurd (omega arith)
   height-read (e ∷ cs) zero d h = omega arith
   height-read (e ∷ cs) (suc i) d h = omega (arith, height-read cs i d (omega arith))

@@ -301,7 +301,7 @@ impl<T: Drop> Node<T> {
         ensures value { result ≡ map.get self.old.0 path }
         ensures map { self.new.0 ≡ map.remove self.old.0 path }
         ensures count { all_nodes self.new ≡ all_nodes self.old }
-        ensures levels { self.new.2 ≡ self.old.2 }
+        ensures levels { self.new.2 ≤ self.old.2 }
     {
         if path.is_short() {
             return take_at(&mut self.value_bits, &mut self.values, path.place());
