@@ -14,7 +14,7 @@ use Rattle.trie_core.specs.Places.{at_places, without, named, value_list, child_
 use Rattle.trie_core.specs.Nodes.{BitMap, Seen, node_map, node_height, child_map, HasSlots}
 use Rattle.trie_core.specs.Count.{nodes, all_nodes, total, spares_below, spare_of, spare_if}
 use Rattle.trie_core.proofs.Maps.{same-Decides, get_none, value_put, value_taken, child_put, child_taken, insert_changes, remove_absent, ListChanges}
-use Rattle.trie_core.proofs.Count.{things}
+use Rattle.trie_core.proofs.Count.{things, nodes_empty}
 use Rattle.trie_core.proofs.Numbers.{number_bound}
 use Rattle.trie_core.proofs.Taken.{IsTaken, taken, missing}
 use Rattle.trie_core.proofs.Named.{is_node, child_things, child_found, value_put_in, value_taken_out, child_put_in, child_taken_out}
@@ -80,6 +80,9 @@ module _ {X : Type 0} where
   -- a child that is not bare, where none below it is spare
   pub spare_kept : (d : Seen X) (b : Bool) → d.1 ≡ 0 → ((d.0 ≡ empty) × (d.1 ≡ 0) → b ≡ true) → b ≡ false → spare_of d ≡ 0
   spare_kept d b s h f = omega (arith, s, spare_kept_by d b s h f (len d.0) refl)
+
+  pub new_nodes : (m : Seen X) → m.0 ≡ empty → m.1 ≡ 0 → all_nodes m ≡ 1
+  new_nodes m e z = omega (arith, ap nodes e, nodes_empty X, z)
 
   -- ---- values
 

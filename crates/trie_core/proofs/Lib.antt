@@ -12,3 +12,4 @@ pub mod Seen
 pub mod Begins
 pub mod Searches
 pub mod Changes
+pub mod Lent

@@ -1,6 +1,7 @@
 //! Nodes of a trie over bit strings, and the bit strings as paths down it.
 #![tactic(auto)]
 
+mod lend;
 mod node;
 mod path;
 mod slots;

@@ -15,10 +15,10 @@ use std::marker::Model;
 /// A finite map from bit strings to values, and a number of spare nodes, which hold nothing and lead to nothing.
 #[derive(Drop)]
 pub struct Node<T> {
-    value_bits: u32,
-    child_bits: u32,
-    values: Vec<T>,
-    children: Vec<Node<T>>,
+    pub(crate) value_bits: u32,
+    pub(crate) child_bits: u32,
+    pub(crate) values: Vec<T>,
+    pub(crate) children: Vec<Node<T>>,
 }
 
 impl<T> Model for Node<T> {

@@ -1,6 +1,5 @@
 use Rattle.std.proofs.Common.{◌≡◌, ◌∙◌, ℕ, sym, length, arith}
 use Rattle.std.proofs.lemmas.Bool.Decides.{nat_tests}
-use Rattle.trie_core.proofs.Maps.{no_false}
 use Rattle.trie_core.proofs.Seen.{seen, bare, left_bare, no_bits}
 use Rattle.trie_core.proofs.node.Node.is_bare.Goals as goal
 
@@ -25,7 +24,7 @@ returns-then-self-eq0-clause-count g c = λ h.
 
 pub returns-else-self-eq0-clause-bare : goal.returns-else-self-eq0-clause-bare
 returns-else-self-eq0-clause-bare g c = (
-  λ h. absurd (no_false c.if-self-eq0.false h),
+  λ h. let z : ⊥ = grind (arith, nat_tests) in absurd z,
   λ k.
       let b = left_bare (seen c.self.invariant c.self.view_is) k.0 k.1 in
       let w = (no_bits c.self.inside.value_bits _ c.self.invariant.values_counted).1 b.0 in
