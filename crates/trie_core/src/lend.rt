@@ -11,7 +11,7 @@ use crate::slots::slot;
 use std::marker::PhantomData;
 
 /// A way down a node with as many steps as the type says. What a recursion or a loop lends is not proved; a type for each depth is.
-trait Descent {
+pub(crate) trait Descent {
     ghost levels: { ℕ };
 
     fn value_mut<'a, T>(node: &'a mut Node<T>, path: &Path) -> &'a mut T
@@ -22,7 +22,7 @@ trait Descent {
 }
 
 /// The node itself.
-struct Here {}
+pub(crate) struct Here {}
 
 impl Descent for Here {
     ghost levels = { 0 };
@@ -33,7 +33,7 @@ impl Descent for Here {
 }
 
 /// One step more.
-struct Below<D: Descent> {
+pub(crate) struct Below<D: Descent> {
     way: PhantomData<D>,
 }
 
