@@ -20,7 +20,7 @@ pub has_first : (b : Block) → HasAddress b (first_of b)
 has_first b = (refl, shl-shr b.quotient (free_bits b))
 
 -- a quotient by more bits is that quotient's quotient
-free_split : (w la lb x : ℕ) → la ≤ w → lb ≤ la → x / 2 ^ (w - lb) ≡ x / 2 ^ (w - la) / 2 ^ (la - lb)
+pub free_split : (w la lb x : ℕ) → la ≤ w → lb ≤ la → x / 2 ^ (w - lb) ≡ x / 2 ^ (w - la) / 2 ^ (la - lb)
 free_split w la lb x h k =
     let e : w - lb ≡ (w - la) + (la - lb) = omega arith in
     ap (λ n. x / 2 ^ n) e ∙ sym (shr-shr x (w - la) (la - lb))
@@ -32,7 +32,7 @@ inside_from_numbers a b ok f l q y h =
     (h.0 ∙ f, free_split (width b.family) a.len b.len y.number fit l ∙ ap (λ n. n / 2 ^ (a.len - b.len)) here ∙ q)
 
 -- the least address of a larger one, one block further, is not in the smaller
-longer_inside : (a b : Block) → IsBlock b → a.family ≡ b.family → IsInside a b → b.len ≤ a.len
+pub longer_inside : (a b : Block) → IsBlock b → a.family ≡ b.family → IsInside a b → b.len ≤ a.len
 longer_inside a b ok f h = go (dec_le b.len a.len)
   where
     go : Dec (b.len ≤ a.len) → b.len ≤ a.len

@@ -1,8 +1,11 @@
 pub mod BlockLaws
-pub mod Tests
+pub mod BlockTests
 pub mod Strings
 pub mod Order
 pub mod Cover
 pub mod Parents
 pub mod Maximals
 pub mod Search
+pub mod NetworkBlocks
+pub mod NetworkReader
+pub mod Ipv4Networks

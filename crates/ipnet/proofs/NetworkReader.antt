@@ -1,0 +1,47 @@
+-- `read_network` reads a network, whatever the address is.
+use Rattle.std.proofs.Common.{◌≡◌, ℕ, List, [], ◌∷◌, ◌++◌, length, Some, refl, sym, ap, ◌∙◌, arith, append_assoc, append-nil, lit≤, eqb-true}
+use Rattle.std.specs.Net.Reader.{Read, read_byte}
+use Rattle.std.proofs.NetLemmas.Options.{cond_some, and_then_some, same_parts}
+use Rattle.std.proofs.NetLemmas.Ipv4.{read_byte_sound}
+use Rattle.ipnet_addr.specs.AddressText.{IsShort}
+use Rattle.ipnet.specs.NetworkText.{SpellsParts}
+use Rattle.ipnet_addr.specs.Reader.{read_short}
+use Rattle.ipnet.specs.Reader.{read_network}
+use Rattle.ipnet_addr.proofs.Ipv4Text.{read_short_complete, read_short_sound}
+
+empty : (xs : List ℕ) → length xs ≡ 0 → xs ≡ []
+empty [] e = refl
+empty (x ∷ xs) e = absurd (omega arith)
+
+-- `read` reads addresses at the front of a text that is followed by a slash
+module _ (Address : List ℕ → List ℕ → Type 0) (digits max : ℕ) (read : List ℕ → Read (List ℕ))
+    (sound : (text parts rest : List ℕ) → read text ≡ Some (parts, rest) → (front : List ℕ) × (text ≡ front ++ rest) × Address front parts)
+    (complete : (text parts rest : List ℕ) → Address text parts → read (text ++ 47 ∷ rest) ≡ Some (parts, 47 ∷ rest)) where
+  pub read_network_complete : (text parts : List ℕ) (len : ℕ) → SpellsParts Address (IsShort 10 digits max) text parts len → read_network (read text) digits max ≡ Some (parts, len)
+  unfolding read_network
+  read_network_complete text parts len h =
+      let short : read_short 10 digits max h.length_text ≡ Some (len, []) = rw append-nil at (read_short_complete 10 digits max h.length_text [] len h.prefix (lit≤ tt)) in
+      rw (h.spelled, append_assoc h.address_text (47 ∷ []) h.length_text, complete h.address_text parts h.length_text h.address, short)
+
+  pub read_network_sound : (text parts : List ℕ) (len : ℕ) → read_network (read text) digits max ≡ Some (parts, len) → SpellsParts Address (IsShort 10 digits max) text parts len
+  unfolding read_network
+  read_network_sound text parts len e =
+      and_then_some _ (read text) _ e λ a read_a e₁.
+      and_then_some _ (read_byte 47 a.1) _ e₁ λ after slash e₂.
+      and_then_some _ (read_short 10 digits max after) _ e₂ λ n read_n e₃.
+      let (test, some) = cond_some _ _ _ e₃ in
+      let (parts_is, len_is) = same_parts _ parts _ len (ap Some some) in
+      let (front, split, address) = sound text a.0 a.1 read_a in
+      let (digits_text, split_n, short, _) = read_short_sound 10 digits max after n.1 n.0 (lit≤ tt) read_n in
+      let nothing = empty n.1 (eqb-true _ _ test) in
+      record {
+        address_text = front;
+        length_text = digits_text;
+        spelled = split ∙ ap (λ t. front ++ t) (read_byte_sound 47 a.1 after slash ∙ ap (λ t. 47 ∷ t) (split_n ∙ ap (λ t. digits_text ++ t) nothing ∙ append-nil digits_text)) ∙ sym (append_assoc front (47 ∷ []) digits_text);
+        address = rw (← parts_is) address;
+        prefix = rw (← len_is) short;
+      }
+
+  -- a text spells one network at most
+  pub network_unique : (text x y : List ℕ) (m n : ℕ) → SpellsParts Address (IsShort 10 digits max) text x m → SpellsParts Address (IsShort 10 digits max) text y n → (x ≡ y) × (m ≡ n)
+  network_unique text x y m n h k = same_parts _ _ _ _ (sym (read_network_complete text x m h) ∙ read_network_complete text y n k)

@@ -1,0 +1,39 @@
+-- Writes one after another.
+use Rattle.std.proofs.Common.{◌≡◌, ℕ, ◌<◌, List, [], ◌∷◌, ◌++◌, length, take, drop, get_or, suc, Option, Result, Ok, Err, refl, sym, ap, ◌∙◌, append_assoc, take-append-drop}
+use Rattle.std.proofs.Math.Seq.{drop-cons}
+use Rattle.std.proofs.lemmas.Grind.{flat_map-append}
+use Rattle.std.specs.List.{flat_map}
+use Rattle.std.proofs.KnownBytes.{Appends-nil, Appends-trans}
+use Rattle.route_feed.specs.declared.error.RunError.{RunError}
+use Rattle.route_feed.specs.declared.counted.Counted.{Counted}
+use Rattle.route_feed.specs.Run.{Written, Torn, Writes}
+
+module _ {W : Type 0} (contents : W → Option (List ℕ)) where
+  pub Written-nil : (w : Counted W) → Written contents w w []
+  Written-nil w = record { appended = Appends-nil (contents w.device); faults = refl }
+
+  pub Written-trans : (a b c : Counted W) (s t : List ℕ) → Written contents a b s → Written contents b c t → Written contents a c (s ++ t)
+  Written-trans a b c s t p q = record { appended = Appends-trans _ _ _ s t p.appended q.appended; faults = q.faults ∙ p.faults }
+
+  pub Torn-after : (a b c : Counted W) (s t : List ℕ) → Written contents a b s → Torn contents b c t → Torn contents a c (s ++ t)
+  Torn-after a b c s t p q = record {
+    front = s ++ q.front;
+    back = q.back;
+    whole = ap (λ l. s ++ l) q.whole ∙ sym (append_assoc s q.front q.back);
+    appended = Appends-trans _ _ _ s q.front p.appended q.appended;
+    failed = rw p.faults at q.failed;
+  }
+
+  -- what is torn in a text is torn in a longer one
+  pub Torn-longer : (a b : Counted W) (s t : List ℕ) → Torn contents a b s → Torn contents a b (s ++ t)
+  Torn-longer a b s t p = record {
+    front = p.front;
+    back = p.back ++ t;
+    whole = ap (λ l. l ++ t) p.whole ∙ append_assoc p.front p.back t;
+    appended = p.appended;
+    failed = p.failed;
+  }
+
+  pub Writes-after : {T : Type 0} (a b c : Counted W) (r : Result T RunError) (s t : List ℕ) → Written contents a b s → Writes contents b c r t → Writes contents a c r (s ++ t)
+  Writes-after a b c (Ok x) s t p q = Written-trans a b c s t p q
+  Writes-after a b c (Err e) s t p q = (q.0, Torn-after a b c s t p q.1)

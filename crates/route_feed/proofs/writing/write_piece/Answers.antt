@@ -1,0 +1,16 @@
+use Rattle.std.proofs.Common.{◌≡◌, ℕ, ◌-◌, false, eqb, List, ◌++◌, length, take, drop, sym, ap, ◌∙◌, append_assoc, take-append-drop, ne_eqb}
+use Rattle.std.proofs.lemmas.List.{take_rest}
+use Rattle.std.proofs.KnownBytes.{Appends-trans}
+use Rattle.route_feed.proofs.writing.write_piece.Goals as goal
+
+moves_front : (all done rest : List ℕ) (n : ℕ) → all ≡ done ++ rest → all ≡ (done ++ take n rest) ++ take (length rest - n) (drop n rest)
+moves_front all done rest n e =
+    e ∙ ap (λ l. done ++ l) (sym (take-append-drop n rest)) ∙ sym (append_assoc done (take n rest) (drop n rest)) ∙ ap (λ l. (done ++ take n rest) ++ l) (sym (take_rest rest n))
+
+pub loop-left-preserved : goal.loop-left-preserved
+loop-left-preserved g c =
+    let (done, split, written) = c.loop-left.invariant in
+    let left = c.loop-left.left.now in
+    let n = c.in-Ok.n in
+    let took : eqb n 0 ≡ false = ne_eqb n 0 c.if-n-eq0.false in
+    (done ++ take n left, moves_front _ done left n split, record { appended = Appends-trans _ _ _ _ _ written.appended c.in-Ok.ensures.bytes; faults = (rw took at c.in-Ok.ensures.faults) ∙ written.faults })

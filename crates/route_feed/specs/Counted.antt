@@ -1,0 +1,26 @@
+-- What a counted device counts.
+use Rattle.std.specs.Prelude.{ℕ, ◌+◌, ◌-◌, ◌^◌, ◌==◌, min, nat_lt, Bool, true, false, ◌&&◌, if◌then◌else◌, Result, Ok, Err}
+use Rattle.route_feed.specs.declared.counted.Counted.{Counted}
+
+-- one more, up to the greatest u64
+abbrev pub one_more : ℕ → ℕ
+one_more n = min (n + 1) (2 ^ 64 - 1)
+
+-- one more where there was a fault
+abbrev pub more_if : Bool → ℕ → ℕ
+more_if fault n = if fault then one_more n else n
+
+-- a `write` of a piece of this length failed, or took nothing of a nonempty one
+abbrev pub took_none : {E : Type 0} → Result ℕ E → ℕ → Bool
+took_none (Ok n) length = (n == 0) && nat_lt 0 length
+took_none (Err e) length = true
+
+-- the device, how often it was read, and how often it failed
+abbrev pub inner : {D : Type 0} → Counted D → D
+inner c = c.device
+
+abbrev pub reads_of : {D : Type 0} → Counted D → ℕ
+reads_of c = c.reads
+
+abbrev pub faults_of : {D : Type 0} → Counted D → ℕ
+faults_of c = c.faults

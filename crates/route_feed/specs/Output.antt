@@ -1,0 +1,50 @@
+-- The whole output, as a function of the bytes and of the refusals.
+use Rattle.std.specs.Prelude.{ℕ, drop, Bool, false, List, [], ◌∷◌, ◌++◌, if◌then◌else◌, Option, None, map}
+use Rattle.ipnet.specs.Blocks.{Block}
+use Rattle.route_lines.specs.Bytes.{rest}
+use Rattle.route_lines.specs.Lines.{lines_of}
+use Rattle.route_lines.specs.declared.cutter.Line.{Line}
+use Rattle.route_feed.specs.declared.command.Command.{Command}
+use Rattle.route_feed.specs.declared.reply.Reply.{Reply}
+use Rattle.route_feed.specs.Commands.{command_in}
+use Rattle.route_feed.specs.Replies.{printed}
+use Rattle.route_feed.specs.Steps as turn
+
+-- the first value, or false where there is none
+abbrev pub first_or_false : List Bool → Bool
+first_or_false [] = false
+first_or_false (r ∷ rs) = r
+
+-- the refusals for the commands after this one: it takes one value, where it may be refused
+abbrev pub refusals_after : List Block → Option Command → List Bool → List Bool
+refusals_after M command refusals = if turn.may_refuse M command then drop 1 refusals else refusals
+
+-- the reply lines to the commands, in order; None is a line that spells no command
+abbrev pub replies : List Block → List (Option Command) → List Bool → List Reply
+replies M [] refusals = []
+replies M (command ∷ commands) refusals =
+    turn.lines_of (turn.step M command (first_or_false refusals))
+    ++ replies (turn.step M command (first_or_false refusals)).next commands (refusals_after M command refusals)
+
+-- the list after the commands
+abbrev pub list_after : List Block → List (Option Command) → List Bool → List Block
+list_after M [] refusals = M
+list_after M (command ∷ commands) refusals =
+    list_after (turn.step M command (first_or_false refusals)).next commands (refusals_after M command refusals)
+
+-- the commands of the whole lines
+abbrev pub whole_commands : List ℕ → List (Option Command)
+whole_commands bytes = map command_in (lines_of bytes)
+
+-- a rest that is not empty is one more line, outside the grammar
+abbrev pub at_end : List ℕ → List (Option Command)
+at_end [] = []
+at_end (b ∷ bs) = None ∷ []
+
+-- the printed replies to the whole lines, from the empty list
+abbrev pub whole : List ℕ → List Bool → List ℕ
+whole bytes refusals = printed (replies [] (whole_commands bytes) refusals)
+
+-- and to the rest
+abbrev pub output : List ℕ → List Bool → List ℕ
+output bytes refusals = printed (replies [] (whole_commands bytes ++ at_end (rest bytes)) refusals)

@@ -1,0 +1,19 @@
+//! Why a run ended early.
+use thiserror::Error;
+
+/// Why a run ended before it had answered all of its input.
+#[derive(Clone, Copy, Debug, PartialEq, Eq, Error)]
+pub enum RunError {
+    /// No memory was found for the start.
+    #[error("no memory")]
+    Memory,
+    /// A `read` failed, or the last of the reads that a run makes did not reach the end.
+    #[error("read fault")]
+    Read,
+    /// A `write` or a `flush` failed, or a `write` took nothing.
+    #[error("write fault")]
+    Write,
+    /// The input has a line that is no reply line.
+    #[error("not a reply line")]
+    Line,
+}

@@ -1,0 +1,7 @@
+-- What a line cutter stands for.
+use Rattle.std.specs.Prelude.{ℕ, Bool, List}
+
+-- the first 80 of the bytes since the last line end, and whether there were more
+pub record Kept : Type 0 where
+  pub first : List ℕ
+  pub more : Bool

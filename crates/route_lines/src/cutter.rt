@@ -1,0 +1,89 @@
+//! Bytes cut into lines.
+ghost use Rattle.std.specs.Prelude.{◌≡◌, []};
+
+use arrayvec::ArrayVec;
+use std::marker::Model;
+use std::mem;
+
+/// A line without its line end: its bytes, at most 80, or that it has more.
+#[derive(Drop)]
+pub enum Line {
+    /// The bytes before the line end.
+    Text(ArrayVec<u8, 80>),
+    /// More than 80 bytes stood before the line end.
+    TooLong,
+}
+
+/// What stands after the last line end.
+#[derive(Clone, Copy, Debug, PartialEq, Eq)]
+pub enum Rest {
+    /// No byte.
+    Empty,
+    /// At least one byte.
+    Held,
+}
+
+/// Cuts a stream of bytes into lines, byte by byte, however the bytes were read.
+///
+/// A line ends at byte 0x0A, and is answered there and never before; a carriage return is an ordinary
+/// byte. Contracts see the first 80 of the bytes since the last line end, and whether there were more.
+#[derive(Drop)]
+pub struct LineCutter {
+    held: ArrayVec<u8, 80>,
+    more: bool,
+}
+
+impl Model for LineCutter {
+    ghost use Rattle.route_lines.specs.Kept.{Kept};
+
+    ghost Value = { Kept };
+
+    ghost view = { λ c. record { first = c.held.items; more = c.more } };
+}
+
+impl LineCutter {
+    ghost use Rattle.route_lines.specs.Lines.{kept_of, fed_answer, fed, rest_in};
+
+    /// A cutter that has been fed nothing.
+    pub fn new() -> LineCutter
+        ensures { result ≡ kept_of [] }
+    {
+        LineCutter {
+            held: ArrayVec::new(),
+            more: false,
+        }
+    }
+
+    /// Takes the next byte, and answers the line that it ends, if it ends one. Takes no memory.
+    pub fn feed(&mut self, byte: u8) -> Option<Line>
+        ensures line { result ≡ fed_answer self.old byte }
+        ensures kept { self.new ≡ fed self.old byte }
+    {
+        if byte == b'\n' {
+            let held = mem::replace(&mut self.held, ArrayVec::new());
+            let more = mem::replace(&mut self.more, false);
+            return Some(if more {
+                Line::TooLong
+            } else {
+                Line::Text(held)
+            });
+        }
+        if self.held.is_full() {
+            self.more = true;
+        } else {
+            self.held.push(byte);
+        }
+        None
+    }
+
+    /// Whether a byte stands after the last line end.
+    pub fn rest(&self) -> Rest
+        ensures { result ≡ rest_in self.now }
+    {
+        if self.held.is_empty() {
+            Rest::Empty
+        } else {
+            Rest::Held
+        }
+    }
+}

@@ -1,0 +1,20 @@
+//! Laws of lines: public functions without a body, whose contracts are the laws.
+ghost use Rattle.std.specs.Prelude.{◌≡◌, ℕ, List, [], ◌∷◌, ◌++◌};
+ghost use Rattle.std.specs.List.{flat_map};
+ghost use Rattle.route_lines.specs.Bytes.{lines, rest};
+ghost use Rattle.route_lines.specs.Lines.{kept_of, answers, fed_all, rest_in, rest_of, lines_of};
+
+/// Over any bytes fed to a new cutter, its answers are, in order, `Text` of each piece of at most 80
+/// bytes and `TooLong` for each longer one, and `rest` tells whether anything stands after the last
+/// line end; so they are a function of the bytes, however these were cut into reads.
+pub fn cutting()
+    ensures answers { (bytes : List ℕ) → answers (kept_of []) bytes ≡ lines_of bytes }
+    ensures kept { (bytes : List ℕ) → fed_all (kept_of []) bytes ≡ kept_of (rest bytes) }
+    ensures rest { (bytes : List ℕ) → rest_in (fed_all (kept_of []) bytes) ≡ rest_of (rest bytes) }
+{}
+
+/// The pieces, each with its line end, and then the rest are the bytes.
+#[tactic(auto, using(crate::proofs::Cutting::pieces_make))]
+pub fn pieces_make_bytes()
+    ensures { (bytes : List ℕ) → bytes ≡ flat_map (λ piece. piece ++ 10 ∷ []) (lines bytes) ++ rest bytes }
+{}

@@ -1,0 +1,29 @@
+//! The cutter on bytes from outside, fed one by one.
+use crate::{Line, LineCutter, Rest};
+use std::test::Fail;
+
+#[test]
+fn cuts(rt: HostRuntime) -> Result<(), Fail> {
+    let mut bytes = Vec::new(rt.alloc());
+    bytes.extend_from_slice(b"ok\r\n\n")?;
+    for count in [80, 81] {
+        for _ in 0..count {
+            bytes.push(b'x')?;
+        }
+        bytes.push(b'\n')?;
+    }
+    bytes.extend_from_slice(b"fl")?;
+    let mut cutter = LineCutter::new();
+    let mut lengths = Vec::new(rt.alloc());
+    assert_eq!(rt; cutter.rest(), Rest::Empty);
+    for byte in &bytes {
+        match cutter.feed(*byte) {
+            None => {}
+            Some(Line::Text(text)) => lengths.push(text.len())?,
+            Some(Line::TooLong) => lengths.push(1000)?,
+        }
+    }
+    assert_eq!(rt; lengths.as_slice(), [3, 0, 80, 1000].as_slice());
+    assert_eq!(rt; cutter.rest(), Rest::Held);
+    Ok(())
+}
