@@ -13,3 +13,4 @@ pub mod Begins
 pub mod Searches
 pub mod Changes
 pub mod Lent
+pub mod Masked

@@ -50,7 +50,7 @@ both_true : (a b : Bool) → (a && b) ≡ true → (a ≡ true) × (b ≡ true)
 both_true true b e = (refl, e)
 both_true false b e = cc
 
-begins_take : (p q : List Bool) → begins p q ≡ true → (length p ≤ length q) × (take (length p) q ≡ p)
+pub begins_take : (p q : List Bool) → begins p q ≡ true → (length p ≤ length q) × (take (length p) q ≡ p)
 begins_take [] q e = (omega arith, refl)
 begins_take (x ∷ p) [] e = cc
 begins_take (x ∷ p) (y ∷ q) e =
@@ -62,7 +62,7 @@ begins_refl_bit : (x : Bool) → cond x x (not x) ≡ true
 begins_refl_bit true = refl
 begins_refl_bit false = refl
 
-take_begins : (k : ℕ) (q : List Bool) → begins (take k q) q ≡ true
+pub take_begins : (k : ℕ) (q : List Bool) → begins (take k q) q ≡ true
 take_begins zero q = refl
 take_begins (suc k) [] = refl
 take_begins (suc k) (x ∷ q) = ap (λ b. b && begins (take k q) q) (begins_refl_bit x) ∙ take_begins k q

@@ -5,3 +5,4 @@ pub mod Count
 pub mod Paths
 pub mod Search
 pub mod Lending
+pub mod Prefixes
