@@ -1,5 +1,5 @@
 //! The map.
-ghost use Rattle.std.specs.Prelude.{◌≡◌, ◌+◌, ◌/◌, ◌≤◌, length, take, None, Some, IfOk, IfErr, IsTrue, ◌↔◌, OnErr, OnOk, MatchOption, option_map};
+ghost use Rattle.std.specs.Prelude.{◌≡◌, ◌+◌, ◌/◌, ◌≤◌, length, take, None, Some, IfOk, IfErr, IsTrue, ◌↔◌, OnErr, OnOk, MatchOption, option_map, ⊤};
 ghost use Rattle.std.specs.Borrow.{sem};
 ghost use Rattle.std.specs.Option.{IsSome, option_copied, option_copied_mut};
 ghost use Rattle.std.specs.FinMap as map;
@@ -105,7 +105,7 @@ impl<P: Prefix, T> PrefixMap<P, T> {
     pub fn get_key_value(&self, prefix: &P) -> Option<(P, &T)>
         requires { length (P.bits prefix.now) ≤ P.R.width }
         ensures value { option_map (λ r. r.1.now) result ≡ map.get self.now.0 (P.bits prefix.now) }
-        ensures key { MatchOption result (⊤) (λ r. r.0 ≡ P.of_bits (P.bits prefix.now)) }
+        ensures key { MatchOption result ⊤ (λ r. r.0 ≡ P.of_bits (P.bits prefix.now)) }
     {
         match self.get(prefix) {
             None => None,
@@ -182,7 +182,7 @@ impl<P: Prefix, T> PrefixMap<P, T> {
     /// The value at this very key, lent to be written: what is left there is the key's value afterwards.
     pub fn get_mut(&mut self, prefix: &P) -> Option<&mut T>
         requires { length (P.bits prefix.now) ≤ P.R.width }
-        ensures* writes_back { sem 𝓛 (lends_get P.row T.row self.entry (P.bits prefix.now) result) }
+        ensures* writes_back { sem 𝓛 (lends_get P.row T.row P.R.row ⟦<P as Prefix>⟧ ⟦<P::R as Key>⟧ self.entry (P.bits prefix.now) result) }
         ensures value { option_copied_mut result ≡ map.get self.old.0 (P.bits prefix.now) }
     {
         if self.get(prefix).is_none() {
@@ -196,7 +196,7 @@ impl<P: Prefix, T> PrefixMap<P, T> {
     fn value_mut(&mut self, path: &Path) -> &mut T
         requires within { length path.now ≤ 128 }
         requires stored { IsSome (map.get self.old.0 path.now) }
-        ensures* writes_back { sem 𝓛 (lends_value P.row T.row self.entry path.now result) }
+        ensures* writes_back { sem 𝓛 (lends_value P.row T.row P.R.row ⟦<P as Prefix>⟧ ⟦<P::R as Key>⟧ self.entry path.now result) }
         ensures value { map.get self.old.0 path.now ≡ Some result.now }
     {
         self.root.value_mut(path)
