@@ -213,21 +213,21 @@ module _ {X : Type 0} where
       let F = entries (begun (node_map vs cs)) in
       same_entries bits_cmp bits_total bits_same _ _ (entries_sorted (begun (node_map vs (c ∷ cs))))
       (T-and _ _
-        (below_append b (under b E) F
-          (subst (λ w. T (below_all bits_cmp w (under b E))) (append_none b) (below_under b [] E (not_none c.1.0)))
-          (subst (λ w. T (below_all bits_cmp w F)) (append_none b) (after_child n a [])))
-        (sorted_under b E F (entries_sorted (begun c.1.0)) (entries_sorted (begun (node_map vs cs))) (after_child n a)))
+      (below_append b (under b E) F
+      (subst (λ w. T (below_all bits_cmp w (under b E))) (append_none b) (below_under b [] E (not_none c.1.0)))
+      (subst (λ w. T (below_all bits_cmp w F)) (append_none b) (after_child n a [])))
+      (sorted_under b E F (entries_sorted (begun c.1.0)) (entries_sorted (begun (node_map vs cs))) (after_child n a)))
       (λ q. same_option _ _ (
-        has-begun (node_map vs (c ∷ cs)) q
-        ∙ ap (λ es. has q (fives_of es)) (walk_child n h)
-        ∙ ap (has q) (fives_of-append (under b (entries c.1.0)) (entries (node_map vs cs)))
-        ∙ has-append q (fives_of (under b (entries c.1.0))) (fives_of (entries (node_map vs cs)))
-        ∙ (λ i. (has_under b q (entries c.1.0) five i || sym (has-begun (node_map vs cs) q) i))
-        ∙ ap (λ t. (t && same q b || has q (under b (fives_of (entries c.1.0)))) || has q F) e
-        ∙ ap (λ t. (same q b || t) || has q F) (has_under_by b q (fives_of (entries c.1.0)) E five (λ x. sym (has-begun c.1.0 x)) (same (take 5 q) b) refl)
-        ∙ or_three (same q b) (has q (under b E)) (has q F)
-        ∙ ap (λ t. same q b || t) (sym (has-append q (under b E) F))
-        ∙ sym (some_cond (same q b) tt (find bits_cmp q (under b E ++ F)))
+      has-begun (node_map vs (c ∷ cs)) q
+      ∙ ap (λ es. has q (fives_of es)) (walk_child n h)
+      ∙ ap (has q) (fives_of-append (under b (entries c.1.0)) (entries (node_map vs cs)))
+      ∙ has-append q (fives_of (under b (entries c.1.0))) (fives_of (entries (node_map vs cs)))
+      ∙ (λ i. (has_under b q (entries c.1.0) five i || sym (has-begun (node_map vs cs) q) i))
+      ∙ ap (λ t. (t && same q b || has q (under b (fives_of (entries c.1.0)))) || has q F) e
+      ∙ ap (λ t. (same q b || t) || has q F) (has_under_by b q (fives_of (entries c.1.0)) E five (λ x. sym (has-begun c.1.0 x)) (same (take 5 q) b) refl)
+      ∙ or_three (same q b) (has q (under b E)) (has q F)
+      ∙ ap (λ t. same q b || t) (sym (has-append q (under b E) F))
+      ∙ sym (some_cond (same q b) tt (find bits_cmp q (under b E ++ F)))
       ))
 
   some_length : (es : List (List Bool × X)) → some_entry es ≡ true → 1 ≤ length es

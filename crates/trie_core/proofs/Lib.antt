@@ -14,3 +14,4 @@ pub mod Searches
 pub mod Changes
 pub mod Lent
 pub mod Masked
+pub mod Kept

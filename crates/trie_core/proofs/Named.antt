@@ -23,14 +23,18 @@ pub record IsNaming (f : ℕ → List Bool) (w : ℕ) : Type 0 where
   pub rises : (n m : ℕ) → n < m → m < w → bits_cmp (f n) (f m) ≡ Less
 
 pub places_named : IsNaming place_string 31
-places_named = record { rises = λ n m h l.
-  let a = place_strings n (omega (arith, h, l)) in
-  let b = place_strings m l in
-  place_less 5 (place_string n) (place_string m) a.short b.short (omega (arith, a.place, b.place, h)) }
+places_named = record {
+  rises = λ n m h l.
+      let a = place_strings n (omega (arith, h, l)) in
+      let b = place_strings m l in
+      place_less 5 (place_string n) (place_string m) a.short b.short (omega (arith, a.place, b.place, h));
+}
 
 pub children_named : IsNaming child_string 32
-children_named = record { rises = λ n m h l.
-  number_less 5 (child_string n) (child_string m) (length-child_string n) (length-child_string m) (omega (arith, child_of-string n (omega (arith, h, l)), child_of-string m l, h)) }
+children_named = record {
+  rises = λ n m h l.
+      number_less 5 (child_string n) (child_string m) (length-child_string n) (length-child_string m) (omega (arith, child_of-string n (omega (arith, h, l)), child_of-string m l, h));
+}
 
 less_differs : (xs ys : List Bool) → bits_cmp xs ys ≡ Less → xs ≡ ys → ⊥
 less_differs xs ys e p = let z : Less ≡ bits_cmp ys ys = sym e ∙ ap (λ x. bits_cmp x ys) p in let t = ap is_eq z ∙ same-refl ys in cc

@@ -145,8 +145,8 @@ module _ {X : Type 0} where
   pub walk_value : {vs : List (List Bool × X)} {cs : List (List Bool × Seen X)} {e : List Bool × X} → IsNode (e ∷ vs) cs → StartsAfter e.0 cs → entries (node_map (e ∷ vs) cs) ≡ (e.0, e.1) ∷ entries (node_map vs cs)
   walk_value {vs} {cs} {e} n h =
       let b : (q : List Bool) → is_some (find bits_cmp q (entries (node_map vs cs))) ≡ true → bits_cmp e.0 q ≡ Less = λ q s.
-          ap (λ x. bits_cmp x q) (sym (append_none e.0))
-          ∙ above_by (without_value n) e.0 [] (λ _. refl) (omega (arith, n.values_short.0)) (tail_rises e vs n.values_rise).1 (starts_above e.0 cs h n.children_rise) q (found_get (node_map vs cs) q s) (nat_lt (length q) 5) refl (nat_lt (length e.0) 5) refl in
+      ap (λ x. bits_cmp x q) (sym (append_none e.0))
+      ∙ above_by (without_value n) e.0 [] (λ _. refl) (omega (arith, n.values_short.0)) (tail_rises e vs n.values_rise).1 (starts_above e.0 cs h n.children_rise) q (found_get (node_map vs cs) q s) (nat_lt (length q) 5) refl (nat_lt (length e.0) 5) refl in
       same_entries bits_cmp bits_total bits_same _ _ (entries_sorted (node_map (e ∷ vs) cs))
       (T-and _ _ (below_found e.0 (entries (node_map vs cs)) b) (entries_sorted (node_map vs cs)))
       (λ q. sym (get-entries (node_map (e ∷ vs) cs) q) ∙ more_value_by n q (nat_lt (length q) 5) refl ∙ ap (cond (same q e.0) (Some e.1)) (get-entries (node_map vs cs) q))

@@ -154,16 +154,18 @@ module _ {X : Type 0} where
   pub shortest_here : {vb : ℕ} {vs : List X} {cb : ℕ} {cs : List (Seen X)} {m : Seen X} (q : List Bool) (mask n at len : ℕ) (v : X) → IsSeen vb vs cb cs m → IsBeginMask q mask → IsFirstPlace (bit_and vb mask) n → at ≡ count_ones (vb % 2 ^ n) → len ≡ length (place_string n) → v ≡ get_or vs at v
       → (len < 5) × IsShortest m.0 q len v
   shortest_here {vb} {vs} {m = m} q mask n at len v s f e a l r =
-      let t = met_place vb mask q s.slots.values_below f n e.taken in
-      (omega (arith, l, t.short), record {
-        within = omega (arith, l, t.within);
-        found = ap (λ i. get m.0 (take i q)) l ∙ found_here q n at v s t a r;
-        shortest = λ k h.
-            let j : k < 5 = omega (arith, l, t.short, h) in
-            let i : k ≤ length q = omega (arith, l, t.within, h) in
-            let p : place_of (take k q) < n = omega (arith, sym t.place, ap place_of t.begins, place_rises 5 (length (place_string n)) k q (omega (arith, l, h)) t.within t.short) in
-            unset_none q k s j (sym (met_beginning vb mask q f k j i) ∙ e.under (place_of (take k q)) p);
-      })
+      let t = met_place vb mask q s.slots.values_below f n e.taken in (
+        omega (arith, l, t.short),
+        record {
+          within = omega (arith, l, t.within);
+          found = ap (λ i. get m.0 (take i q)) l ∙ found_here q n at v s t a r;
+          shortest = λ k h.
+              let j : k < 5 = omega (arith, l, t.short, h) in
+              let i : k ≤ length q = omega (arith, l, t.within, h) in
+              let p : place_of (take k q) < n = omega (arith, sym t.place, ap place_of t.begins, place_rises 5 (length (place_string n)) k q (omega (arith, l, h)) t.within t.short) in
+              unset_none q k s j (sym (met_beginning vb mask q f k j i) ∙ e.under (place_of (take k q)) p);
+        },
+      )
 
 -- ---- from node to node
 

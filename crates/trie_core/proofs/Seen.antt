@@ -109,8 +109,8 @@ module _ {X : Type 0} where
       let g : find bits_cmp (take 5 q) (child_list cb cs) ≡ Some c = child_found q cb cs h s.slots.children_below ∙ e in
       let t = child_things cb cs s.slots.children_below s.slots.children_counted in
       let v : (r : List Bool) → m.1 ≡ 0 → (c.1 ≡ 0) × (visit_count m.0 (take 5 q ++ r) ≡ visit_count c.0 r + 1) = λ r z.
-          let w = visits_some (take 5 q ++ r) s.node (omega (arith, length-append (take 5 q) r, f)) (ap (λ b. find bits_cmp b (child_list cb cs)) (take_first (take 5 q) r f) ∙ g) (ap spares_below t ∙ s.spares ∙ z) in
-          (w.0, sym (ap (λ k. visit_count k (take 5 q ++ r)) s.map) ∙ w.1 ∙ ap (λ k. visit_count c.0 k + 1) (drop_first (take 5 q) r f)) in
+      let w = visits_some (take 5 q ++ r) s.node (omega (arith, length-append (take 5 q) r, f)) (ap (λ b. find bits_cmp b (child_list cb cs)) (take_first (take 5 q) r f) ∙ g) (ap spares_below t ∙ s.spares ∙ z) in
+      (w.0, sym (ap (λ k. visit_count k (take 5 q ++ r)) s.map) ∙ w.1 ∙ ap (λ k. visit_count c.0 k + 1) (drop_first (take 5 q) r f)) in
       record {
         gets = λ r. fronted q r s h ∙ ap (λ o. child_get o r) g;
         smaller = omega (arith, found_height (take 5 q) c (child_list cb cs) g, ap node_height t, s.height);

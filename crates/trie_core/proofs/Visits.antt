@@ -136,12 +136,12 @@ module _ {X : Type 0} where
       let M = begun (node_map vs cs) in
       let E = begun w.0 in
       let G : (x : List Bool) → is_some (get M (take 5 q ++ x)) ≡ (same (take 5 q ++ x) (take 5 q) || is_some (get E x)) = λ x.
-          ap is_some (get-entries M (take 5 q ++ x)) ∙ begun_by (length vs + length cs) vs cs (take 5 q) w x (omega arith) n five some g
-          ∙ (λ i. same (take 5 q ++ x) (take 5 q) || sym (ap is_some (get-entries E x)) i) in
+      ap is_some (get-entries M (take 5 q ++ x)) ∙ begun_by (length vs + length cs) vs cs (take 5 q) w x (omega arith) n five some g
+      ∙ (λ i. same (take 5 q ++ x) (take 5 q) || sym (ap is_some (get-entries E x)) i) in
       let L : (x : List Bool) → 5 ≤ length x → is_some (get M (take 5 q ++ x)) ≡ is_some (get E x) = λ x d.
-          G x ∙ ap (λ t. t || is_some (get E x)) (same_false (take 5 q ++ x) (take 5 q) (λ e. omega (arith, ap length e, length-append (take 5 q) x, d))) in
+      G x ∙ ap (λ t. t || is_some (get E x)) (same_false (take 5 q ++ x) (take 5 q) (λ e. omega (arith, ap length e, length-append (take 5 q) x, d))) in
       let B : is_some (get M (take 5 q)) ≡ true =
-          ap (λ y. is_some (get M y)) (sym (append_none (take 5 q))) ∙ G [] ∙ ap (λ t. t || is_some (get E [])) ((same-Decides (take 5 q ++ []) (take 5 q)).1 (append_none (take 5 q))) in
+      ap (λ y. is_some (get M y)) (sym (append_none (take 5 q))) ∙ G [] ∙ ap (λ t. t || is_some (get E [])) ((same-Decides (take 5 q ++ []) (take 5 q)).1 (append_none (take 5 q))) in
       let e1 = ap (λ es. found_in M es) (ap fives (sym (front q h).1) ∙ fives_child (take 5 q) (drop 5 q) five) in
       let e2 : counted (is_some (get M (take 5 q))) ≡ 1 = ap counted B in
       let e3 = found_fives 0 (length (drop 5 q) / 5) (take 5 q) (drop 5 q) M E (omega arith) L in

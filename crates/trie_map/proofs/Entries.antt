@@ -43,3 +43,6 @@ module _ {X : Type 0} where
 
   pub keys_empty : (n : ℕ) (m : BitMap X) → m ≡ empty → KeysUpTo n m
   keys_empty n m e x s = let z = ap is_some (ap (λ w. get w x) e ∙ get-empty bits_cmp x) in cc
+
+  pub keys_kept : (n : ℕ) (m : BitMap X) (q : List Bool) (v : X) → KeysUpTo n m → IsSome (get m q) → KeysUpTo n (insert m q v)
+  keys_kept n m q v k h = keys_insert n m (insert m q v) q v k (k q (some_is (get m q) h)) refl

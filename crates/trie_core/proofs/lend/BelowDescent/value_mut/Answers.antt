@@ -29,8 +29,10 @@ returns g c =
     let s = seen c.node.invariant c.node.view_is in
     let t = way c.args.path.now s c.five.ensures.value c.in-Some.ensures in
     let v = was c.args.path.now c.index_mut-child.result.now s h t c.index_mut-child.ensures.value in
-    let e = ap (get c.index_mut-child.result.now.0) c.rest.ensures ∙ v in
-    ((refl, λ w. lent_below c.args.path.now c.rest.result c.index_mut-child.result.now w s h c.rest.ensures t c.index_mut-child.ensures.value (subst (λ o. IsSome o) (sym e) c.requires.stored)), record {
-      writes_back = tt;
-      value = sym e ∙ c.value_mut.ensures.value;
-    })
+    let e = ap (get c.index_mut-child.result.now.0) c.rest.ensures ∙ v in (
+      (refl, λ w. lent_below c.args.path.now c.rest.result c.index_mut-child.result.now w s h c.rest.ensures t c.index_mut-child.ensures.value (subst (λ o. IsSome o) (sym e) c.requires.stored)),
+      record {
+        writes_back = tt;
+        value = sym e ∙ c.value_mut.ensures.value;
+      },
+    )

@@ -13,8 +13,10 @@ index_mut-requires g c = omega (arith, (value_slot c.args.path.now (seen c.self.
 pub returns : goal.returns
 returns g c =
     let s = seen c.self.invariant c.self.view_is in
-    let t = value_slot c.args.path.now s c.requires.short c.place.ensures.value c.in-Some.ensures in
-    ((refl, λ w. lent_here c.args.path.now w s c.requires.short c.place.ensures.value t), record {
-      writes_back = tt;
-      value = value_here c.args.path.now c.index_mut.result.now s c.requires.short c.place.ensures.value t c.index_mut.ensures.value;
-    })
+    let t = value_slot c.args.path.now s c.requires.short c.place.ensures.value c.in-Some.ensures in (
+      (refl, λ w. lent_here c.args.path.now w s c.requires.short c.place.ensures.value t),
+      record {
+        writes_back = tt;
+        value = value_here c.args.path.now c.index_mut.result.now s c.requires.short c.place.ensures.value t c.index_mut.ensures.value;
+      },
+    )

@@ -7,8 +7,7 @@ use Rattle.trie_map.proofs.map.PrefixMap.is_empty.Goals as goal
 
 pub returns : goal.returns
 returns g c =
-    let l = c.self.invariant.0 ∙ ap (λ m. len m.0) c.self.view_is in
-    (
+    let l = c.self.invariant.0 ∙ ap (λ m. len m.0) c.self.view_is in (
       λ h. let z : c.self.inside.len ≡ 0 = grind (arith, nat_tests) in empty_of_len _ (sym l ∙ z),
       λ e. let z : c.self.inside.len ≡ 0 = l ∙ ap len e ∙ len-empty bits_cmp _ in grind (arith, nat_tests),
     )

@@ -10,8 +10,7 @@ overflow_sub-self g c =
 
 pub invariant_of-self : goal.invariant_of-self
 invariant_of-self g c =
-    let n = one_less c.self.inside.root.0 c.path_of.result c.remove_keep_tree-value.result true c.remove_keep_tree-value.ensures.value (sym c.is_some.ensures ∙ c.if-is_some.true) in
-    (
+    let n = one_less c.self.inside.root.0 c.path_of.result c.remove_keep_tree-value.result true c.remove_keep_tree-value.ensures.value (sym c.is_some.ensures ∙ c.if-is_some.true) in (
       omega (arith, c.self.invariant.0, n, ap len c.remove_keep_tree-value.ensures.map),
       omega (arith, c.self.invariant.1, c.remove_keep_tree-value.ensures.count),
       omega (arith, c.self.invariant.2, c.remove_keep_tree-value.ensures.levels),
@@ -20,8 +19,7 @@ invariant_of-self g c =
 
 pub invariant_of-self-else-is_some : goal.invariant_of-self-else-is_some
 invariant_of-self-else-is_some g c =
-    let n = one_less c.self.inside.root.0 c.path_of.result c.remove_keep_tree-value.result false c.remove_keep_tree-value.ensures.value (sym c.is_some.ensures ∙ c.if-is_some.false) in
-    (
+    let n = one_less c.self.inside.root.0 c.path_of.result c.remove_keep_tree-value.result false c.remove_keep_tree-value.ensures.value (sym c.is_some.ensures ∙ c.if-is_some.false) in (
       omega (arith, c.self.invariant.0, n, ap len c.remove_keep_tree-value.ensures.map),
       omega (arith, c.self.invariant.1, c.remove_keep_tree-value.ensures.count),
       omega (arith, c.self.invariant.2, c.remove_keep_tree-value.ensures.levels),
