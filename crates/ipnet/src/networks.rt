@@ -158,6 +158,8 @@ impl FromStr for Ipv4Net {
 impl fmt::Display for Ipv4Net {
     ghost output = { λ n. Some (ipv4_net_text n) };
 
+    ghost styled_output = { λ n _. Some (ipv4_net_text n) };
+
     fn fmt<W: fmt::Write>(&self, f: &mut fmt::Formatter<W>) -> fmt::Result {
         let text = self.to_text();
         f.write_str(str::from_utf8(text.as_slice()).map_err(|_| fmt::Error)?)
@@ -166,6 +168,8 @@ impl fmt::Display for Ipv4Net {
 
 /// The text of `Display`.
 impl fmt::Debug for Ipv4Net {
+    ghost debug_output = { λ n. Some (ipv4_net_text n) };
+
     fn fmt<W: fmt::Write>(&self, f: &mut fmt::Formatter<W>) -> fmt::Result {
         fmt::Display::fmt(self, f)
     }

@@ -1,5 +1,5 @@
 -- Deny lists stay ascending.
-use Rattle.std.proofs.Common.{◌≡◌, ◌⊎◌, inl, inr, ⊎_elim, Bool, true, false, not, cond, List, [], ◌∷◌, ◌++◌, take, drop, suc, ℕ, filter, All, refl, sym, ap, subst, take-append-drop}
+use Rattle.std.proofs.Common.{◌≡◌, inl, inr, ⊎_elim, Bool, true, false, not, cond, List, [], ◌∷◌, ◌++◌, take, drop, suc, ℕ, filter, All, refl, sym, subst, take-append-drop}
 use Rattle.ipnet_addr.proofs.Members.{In, In-left, In-right, In-cases}
 use Rattle.ipnet_addr.proofs.Ascending.{In-from_All, All-from_In, Rising, Rising-from_pairs, pairs_from_Rising}
 use Rattle.ipnet.specs.Blocks.{Block, IsBefore, IsAscending, is_before, same_block}

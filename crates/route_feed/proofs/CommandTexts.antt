@@ -1,10 +1,9 @@
 -- The command that a text spells, and the function that finds it.
-use Rattle.std.proofs.Common.{◌≡◌, ℕ, ◌+◌, ◌-◌, Bool, true, false, cond, List, [], ◌∷◌, ◌++◌, length, take, drop, codes, bytes_eq, Option, Some, None, MatchOption, refl, sym, ap, ◌∙◌, subst, arith, take-append-drop, take_at, drop_at, length-append}
+use Rattle.std.proofs.Common.{◌≡◌, ℕ, ◌-◌, Bool, true, false, cond, List, ◌++◌, length, take, drop, codes, bytes_eq, Option, Some, None, MatchOption, refl, sym, ap, ◌∙◌, subst, arith, take-append-drop, take_at, drop_at, length-append}
 use Rattle.std.specs.Option.{option_map, option_and_then}
 use Rattle.std.proofs.lemmas.Slice.Eq.{bytes_eq-Decides}
 use Rattle.ipnet_addr.specs.Addresses.{Ipv4}
 use Rattle.ipnet.specs.Networks.{Network, block_of, net_of}
-use Rattle.ipnet.specs.NetworkText.{ReadsIpv4}
 use Rattle.ipnet.specs.Reader.{ipv4_net_of}
 use Rattle.ipnet.proofs.Ipv4Networks.{v4_complete, v4_sound}
 use Rattle.route_feed.specs.declared.command.Command.{Command}

@@ -1,5 +1,5 @@
 -- A leader that takes bytes: what it writes and what it goes on as, whatever follows.
-use Rattle.std.proofs.Common.{◌≡◌, ℕ, Bool, true, false, ◌&&◌, cond, List, [], ◌∷◌, ◌++◌, take, drop, suc, get_or, length, map, ◌<◌, Option, Some, None, Result, Ok, Err, refl, sym, ap, ◌∙◌, append_assoc, append-nil, take-append-drop}
+use Rattle.std.proofs.Common.{◌≡◌, ℕ, Bool, true, false, List, [], ◌∷◌, ◌++◌, take, drop, suc, get_or, length, map, ◌<◌, Option, Some, None, Result, Ok, Err, refl, sym, ap, ◌∙◌, append_assoc, append-nil, take-append-drop}
 use Rattle.std.specs.Option.{option_to_list}
 use Rattle.std.proofs.Math.Seq.{drop-cons}
 use Rattle.std.proofs.lemmas.Grind.{flat_map-append}
@@ -14,7 +14,7 @@ use Rattle.route_feed.specs.declared.leader.Leader.{Leader}
 use Rattle.route_feed.specs.Commands.{command_in}
 use Rattle.route_feed.specs.Replies.{reply_line, printed}
 use Rattle.route_feed.specs.Steps.{step, may_refuse, lines_of}
-use Rattle.route_feed.specs.Output.{replies, refusals_after, first_or_false}
+use Rattle.route_feed.specs.Output.{replies}
 use Rattle.route_feed.specs.Run.{Answers, list_of, replies_from, Moves, Begins, Took, Failed, Takes}
 use Rattle.route_feed.proofs.Written.{Written-nil, Written-trans, Torn-after}
 

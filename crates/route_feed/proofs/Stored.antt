@@ -1,7 +1,7 @@
 -- The stored networks as a deny list: a search by the order of networks, an insertion, a removal.
-use Rattle.std.proofs.Common.{◌≡◌, ◌≢◌, ℕ, suc, ◌+◌, ◌<◌, ◌≤◌, ◌⊎◌, ◌↔◌, inl, inr, ⊎_elim, Bool, true, false, not, List, [], ◌∷◌, ◌++◌, length, take, drop, map, filter, slice_index_or, nat_cmp, Ordering, Less, Equal, Greater, IsTrue, All, AllPairs, refl, sym, ap, ◌∙◌, subst, arith}
+use Rattle.std.proofs.Common.{◌≡◌, ◌≢◌, ℕ, suc, ◌<◌, ◌≤◌, ◌⊎◌, inl, inr, ⊎_elim, Bool, true, false, not, List, ◌∷◌, ◌++◌, length, take, drop, map, filter, slice_index_or, nat_cmp, Ordering, Less, Equal, Greater, refl, sym, ap, ◌∙◌, subst, arith}
 use Rattle.std.specs.Ordering.{ordering_then, ordering_index}
-use Rattle.std.specs.List.{list_any, AllWithin, HoldsAt}
+use Rattle.std.specs.List.{HoldsAt}
 use Rattle.std.specs.List.Sorted.{IsNonDecreasingBy, IsPartitionPoint}
 use Rattle.std.proofs.lemmas.Bool.{cases_lt}
 use Rattle.std.proofs.lemmas.Bool.Decides.{nat_tests}
@@ -10,12 +10,12 @@ use Rattle.std.proofs.lemmas.List.Folds.{list_any_none, list_any_at}
 use Rattle.ipnet_addr.specs.Addresses.{Ipv4}
 use Rattle.ipnet.specs.Blocks.{Block, IsBefore, IsAscending, is_before, same_block, first}
 use Rattle.ipnet.specs.Networks.{Network, IsNetwork, IsTruncated, block_of, net_of}
-use Rattle.ipnet.proofs.BlockLaws.{strict, transitive}
+use Rattle.ipnet.proofs.BlockLaws.{strict}
 use Rattle.ipnet.proofs.BlockTests.{test_from_before, before_from_test, same_from_test, test_from_same}
 use Rattle.ipnet.proofs.NetworkBlocks.{block_round_trip, truncated_is_network}
 use Rattle.route_feed.specs.DenyList.{blocks_of, AreStored, is_stored, with_block, without_block}
 use Rattle.route_feed.proofs.Ascents.{ascending_with, ascending_without, All-insert, All-remove}
-use Rattle.route_feed.proofs.Cuts.{PassBelow, PassFrom, filter_below, filter_from, filter_all, filter_but, at_place}
+use Rattle.route_feed.proofs.Cuts.{filter_below, filter_from, filter_all, filter_but, at_place}
 
 -- the order of networks: by number, then by length
 abbrev pub order : Network → Network → Ordering
@@ -158,7 +158,6 @@ module _ (nets : List Network) (stored : AreStored nets) where
         ∙ sym (filter_but (λ y. not (same_block y x)) M i
         (λ k c ne m. ap not (not_same (slice_index_or M k c) x (either k c ne m)))
         (λ c m. ap not (test_from_same _ x (itself c))))
-
       where
         either : (k : ℕ) (c : Block) → k ≢ i → k < length M → IsBefore (slice_index_or M k c) (block_of Ipv4 n) ⊎ IsBefore (block_of Ipv4 n) (slice_index_or M k c)
         either k c ne m = ⊎_elim (λ l. inl (sooner k c l m)) (λ l. inr (later k c (omega arith) m)) (cases_lt k i)

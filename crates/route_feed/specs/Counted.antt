@@ -1,5 +1,5 @@
 -- What a counted device counts.
-use Rattle.std.specs.Prelude.{ℕ, ◌+◌, ◌-◌, ◌^◌, ◌==◌, min, nat_lt, Bool, true, false, ◌&&◌, if◌then◌else◌, Result, Ok, Err}
+use Rattle.std.specs.Prelude.{ℕ, ◌+◌, ◌-◌, ◌^◌, ◌==◌, min, nat_lt, Bool, true, ◌&&◌, if◌then◌else◌, Result, Ok, Err}
 use Rattle.route_feed.specs.declared.counted.Counted.{Counted}
 
 -- one more, up to the greatest u64

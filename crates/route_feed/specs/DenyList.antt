@@ -1,5 +1,5 @@
 -- A deny list: the blocks whose addresses are dropped, ascending, each once.
-use Rattle.std.specs.Prelude.{ℕ, not, nat_lt, if◌then◌else◌, Bool, List, [], ◌∷◌, ◌++◌, Option, Some, None, All, map, filter}
+use Rattle.std.specs.Prelude.{not, nat_lt, if◌then◌else◌, Bool, List, [], ◌∷◌, ◌++◌, Option, Some, None, All, map, filter}
 use Rattle.std.specs.List.{list_any}
 use Rattle.ipnet_addr.specs.Addresses.{Ipv4}
 use Rattle.ipnet.specs.Blocks.{Block, IsAscending, is_inside, is_before, same_block}

@@ -3,7 +3,6 @@ use Rattle.std.specs.Prelude.{ℕ, drop, Bool, false, List, [], ◌∷◌, ◌++
 use Rattle.ipnet.specs.Blocks.{Block}
 use Rattle.route_lines.specs.Bytes.{rest}
 use Rattle.route_lines.specs.Lines.{lines_of}
-use Rattle.route_lines.specs.declared.cutter.Line.{Line}
 use Rattle.route_feed.specs.declared.command.Command.{Command}
 use Rattle.route_feed.specs.declared.reply.Reply.{Reply}
 use Rattle.route_feed.specs.Commands.{command_in}

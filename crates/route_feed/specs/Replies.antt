@@ -1,5 +1,5 @@
 -- Reply lines and their texts.
-use Rattle.std.specs.Prelude.{ℕ, List, [], ◌∷◌, ◌++◌, codes}
+use Rattle.std.specs.Prelude.{ℕ, List, ◌++◌, codes}
 use Rattle.std.specs.List.{flat_map}
 use Rattle.ipnet.specs.NetworkText.{ipv4_net_text}
 use Rattle.route_feed.specs.declared.reply.Closing.{Closing}

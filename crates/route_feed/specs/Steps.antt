@@ -1,5 +1,5 @@
 -- What a leader answers to each command, and the list that it has then.
-use Rattle.std.specs.Prelude.{ℕ, not, ◌&&◌, Bool, true, false, List, [], ◌∷◌, ◌++◌, if◌then◌else◌, Option, Some, None}
+use Rattle.std.specs.Prelude.{not, ◌&&◌, Bool, false, List, [], ◌∷◌, ◌++◌, if◌then◌else◌, Option, Some, None}
 use Rattle.ipnet_addr.specs.Addresses.{Ipv4}
 use Rattle.ipnet.specs.Blocks.{Block}
 use Rattle.ipnet.specs.Networks.{block_of, net_of}

@@ -1,0 +1,172 @@
+//! Rows from outside, and readers and writers that cut and fail.
+ghost use Rattle.std.specs.Prelude.{◌≡◌, List, Bool, IfOk};
+ghost use Rattle.route_feed.specs.Output.{output};
+
+use crate::{Counted, RunError, lead};
+use std::alloc::Global;
+use std::io;
+use std::io::{Read, Write};
+use std::test::Fail;
+
+// A run over memory: what a caller whose bytes are known has of `lead`.
+fn led(alloc: Global, input: &[u8]) -> Result<Vec<u8>, RunError>
+    ensures { IfOk result (λ out. (refusals : List Bool) × (out.items ≡ output input.now refusals)) }
+{
+    let mut reader = Counted::new(input);
+    let mut writer = Counted::new(Vec::new(alloc));
+    lead(alloc, &mut reader, &mut writer)?;
+    Ok(writer.into_inner())
+}
+
+// Gives one byte a call, and fails where it has none left.
+#[derive(Drop)]
+struct Dripping<'a> {
+    left: &'a [u8],
+    fails: bool,
+}
+
+impl Read for Dripping<'_> {
+    fn read(&mut self, buf: &mut [u8]) -> io::Result<usize> {
+        let all: &[u8] = self.left;
+        if all.is_empty() && self.fails {
+            return Err(io::Error::from(io::ErrorKind::Interrupted));
+        }
+        if all.is_empty() || buf.is_empty() {
+            return Ok(0);
+        }
+        buf[0] = all[0];
+        self.left = &all[1..];
+        Ok(1)
+    }
+}
+
+// Takes one byte a call while it has room, then none; its `flush` may fail.
+#[derive(Drop)]
+struct Narrow {
+    held: Vec<u8>,
+    room: usize,
+    flushes: bool,
+}
+
+impl Write for Narrow {
+    fn write(&mut self, buf: &[u8]) -> io::Result<usize> {
+        if self.room == 0 || buf.is_empty() {
+            return Ok(0);
+        }
+        self.held.push(buf[0])?;
+        self.room -= 1;
+        Ok(1)
+    }
+
+    fn flush(&mut self) -> io::Result<()> {
+        if self.flushes {
+            Ok(())
+        } else {
+            Err(io::Error::from(io::ErrorKind::BrokenPipe))
+        }
+    }
+}
+
+const ROWS: [(&[u8], &[u8]); 7] = [
+    (b"", b""),
+    (
+        b"add 10.0.0.0/8 drop\nget 10.1.0.0/16\ndel 10.0.0.0/8\ndel 10.0.0.0/8\n",
+        b"ok\nroute 10.0.0.0/8 drop\nok\nok\nnone\n",
+    ),
+    (
+        b"del 10.0.0.0/8\nadd 10.0.0.0 drop\nadd 10.0.0.0/33 drop\nadd 10.0.0.0/8 1\nflat\n",
+        b"none\nbad\nbad\nbad\nbad\n",
+    ),
+    (
+        b"add 10.1.2.3/16 drop\nadd 10.1.0.0/16 drop\nget 10.1.9.9/32\ndel 10.1.7.7/16\nget 10.1.9.9/32\n",
+        b"ok\nok\nroute 10.1.0.0/16 drop\nok\nok\nnone\n",
+    ),
+    (
+        b"\n123456789012345678901234567890123456789012345678901234567890123456789012345678901\nflat",
+        b"bad\nbad\nbad\n",
+    ),
+    (
+        b"add 10.0.0.0/8 drop\nadd 10.1.1.0/24 drop\nadd 10.1.0.0/16 drop\nget 10.1.1.1/32\nget 10.1.0.0/16\nget 11.0.0.0/8\nget 0.0.0.0/0\n",
+        b"ok\nok\nok\nroute 10.1.1.0/24 drop\nok\nroute 10.1.0.0/16 drop\nok\nnone\nnone\n",
+    ),
+    (
+        b"add  10.0.0.0/8 drop\nadd 10.0.0.0/8 drop \nADD 10.0.0.0/8 drop\nget 10.0.0.0/8\r\nget 255.255.255.255/32",
+        b"bad\nbad\nbad\nbad\nbad\n",
+    ),
+];
+
+#[test]
+fn rows(rt: HostRuntime) -> Result<(), Fail> {
+    for (input, wanted) in ROWS {
+        let out = led(rt.alloc(), input)?;
+        assert_eq!(rt; out.as_slice(), wanted);
+    }
+    Ok(())
+}
+
+#[test]
+fn rows_byte_by_byte(rt: HostRuntime) -> Result<(), Fail> {
+    for (input, wanted) in ROWS {
+        let mut reader = Counted::new(Dripping {
+            left: input,
+            fails: false,
+        });
+        let mut writer = Counted::new(Vec::new(rt.alloc()));
+        lead(rt.alloc(), &mut reader, &mut writer)?;
+        assert_eq!(rt; reader.faults(), 0);
+        let out = writer.into_inner();
+        assert_eq!(rt; out.as_slice(), wanted);
+    }
+    Ok(())
+}
+
+// An error of the reader, an interrupted call too, ends the run after the whole lines before it.
+#[test]
+fn read_fault(rt: HostRuntime) {
+    let mut reader = Counted::new(Dripping {
+        left: b"add 10.0.0.0/8 drop\nfl",
+        fails: true,
+    });
+    let mut writer = Counted::new(Vec::new(rt.alloc()));
+    let result = lead(rt.alloc(), &mut reader, &mut writer);
+    assert_eq!(rt; result, Err(RunError::Read));
+    assert_eq!(rt; reader.reads(), 23);
+    assert_eq!(rt; reader.faults(), 1);
+    let out = writer.into_inner();
+    assert_eq!(rt; out.as_slice(), b"ok\n".as_slice());
+}
+
+// A writer that takes nothing, and one whose `flush` fails: nothing more is written.
+#[test]
+fn write_faults(rt: HostRuntime) {
+    for (room, flushes, wanted) in [
+        (1, true, b"o".as_slice()),
+        (0, true, b"".as_slice()),
+        (9, false, b"ok\n".as_slice()),
+    ] {
+        let mut reader = Counted::new(b"add 10.0.0.0/8 drop\nget 10.0.0.0/8\n".as_slice());
+        let mut writer = Counted::new(Narrow {
+            held: Vec::new(rt.alloc()),
+            room,
+            flushes,
+        });
+        let result = lead(rt.alloc(), &mut reader, &mut writer);
+        assert_eq!(rt; result, Err(RunError::Write));
+        assert_eq!(rt; writer.faults(), 1);
+        let narrow = writer.into_inner();
+        assert_eq!(rt; narrow.held.as_slice(), wanted);
+    }
+}
+
+#[test]
+fn errors(rt: HostRuntime) -> Result<(), Fail> {
+    for (error, wanted) in [
+        (RunError::Memory, "no memory"),
+        (RunError::Read, "read fault"),
+        (RunError::Write, "write fault"),
+        (RunError::Line, "not a reply line"),
+    ] {
+        assert_eq!(rt; format!(in rt.alloc(); "{error}")?.as_str(), wanted);
+    }
+    Ok(())
+}

@@ -1,5 +1,5 @@
 -- What a line cutter keeps and answers.
-use Rattle.std.specs.Prelude.{ℕ, ◌==◌, nat_lt, length, take, map, Bool, true, false, List, [], ◌∷◌, ◌++◌, if◌then◌else◌, Option, None, Some}
+use Rattle.std.specs.Prelude.{ℕ, ◌==◌, nat_lt, length, take, map, true, List, [], ◌∷◌, ◌++◌, if◌then◌else◌, Option, None, Some}
 use Rattle.std.specs.Option.{option_to_list}
 use Rattle.route_lines.specs.declared.cutter.Line.{Line}
 use Rattle.route_lines.specs.declared.cutter.Line.TheVariants.{Text, TooLong}

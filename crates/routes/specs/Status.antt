@@ -1,6 +1,5 @@
 -- The exit statuses of the program.
 use Rattle.std.specs.Prelude.{ℕ}
-use Rattle.route_feed.specs.declared.error.RunError.{RunError}
 use Rattle.route_feed.specs.declared.error.RunError.TheVariants as run
 use Rattle.routes.specs.declared.Fault.{Fault}
 use Rattle.routes.specs.declared.Fault.TheVariants.{Arguments, Usage, Run}

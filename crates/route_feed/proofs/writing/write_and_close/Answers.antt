@@ -1,4 +1,4 @@
-use Rattle.std.proofs.Common.{◌≡◌, List, ℕ, ◌++◌, ◌∷◌, [], append-nil, sym, ap, subst, ◌∙◌}
+use Rattle.std.proofs.Common.{◌∷◌, [], append-nil, sym, subst, ◌∙◌}
 use Rattle.std.proofs.lemmas.Result.{err_from_is_err_and}
 use Rattle.route_feed.specs.declared.reply.Reply.TheVariants.{Close}
 use Rattle.route_feed.specs.Replies.{reply_line, printed}

@@ -1,4 +1,4 @@
-use Rattle.std.proofs.Common.{IsTrue, true≢false, sym, ◌∙◌}
+use Rattle.std.proofs.Common.{true≢false, sym, ◌∙◌}
 use Rattle.route_feed.proofs.Stored.{missed, found}
 use Rattle.route_feed.proofs.deny_list.DenyList.add.Goals as goal
 

@@ -1,4 +1,4 @@
-use Rattle.std.proofs.Common.{◌≡◌, ◌+◌, ◌∙◌, IsTrue, Some, take, sym, ap, subst, arith, take_all}
+use Rattle.std.proofs.Common.{◌∙◌, Some, sym, ap, subst, take_all}
 use Rattle.ipnet_addr.specs.Addresses.{Ipv4}
 use Rattle.std.specs.Option.{option_map}
 use Rattle.ipnet.specs.Networks.{block_of, net_of}
