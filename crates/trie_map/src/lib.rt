@@ -3,6 +3,8 @@
 
 mod map;
 mod refused;
+#[cfg(test)]
+mod tests;
 
 pub use map::PrefixMap;
 pub use refused::Refused;
