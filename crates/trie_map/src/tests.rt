@@ -27,7 +27,9 @@ fn four_hosts(rt: HostRuntime) {
     assert!(rt; map.insert(net(&rt, "1.2.3.3/32"), 4).is_ok());
     assert_eq!(rt; map.node_count(), 7);
     let (found, visits) = map.get_lpm_visits(&net(&rt, "1.2.3.2/32"));
-    let (key, value) = found.expect(&rt, "a match");
+    let Some((key, value)) = found else {
+        panic!(&rt; "no match")
+    };
     assert_eq!(rt; key.to_text().as_slice(), "1.2.3.2/32".as_bytes());
     assert_eq!(rt; *value, 3);
     assert_eq!(rt; visits, 7);
@@ -39,21 +41,27 @@ fn longest_and_shortest(rt: HostRuntime) {
     assert!(rt; map.insert(net(&rt, "10.9.9.9/8"), 1).is_ok());
     assert!(rt; map.insert(net(&rt, "10.1.0.0/16"), 2).is_ok());
     let asked = net(&rt, "10.1.2.3/32");
-    let (key, value) = map.get_lpm(&asked).expect(&rt, "a match");
+    let Some((key, value)) = map.get_lpm(&asked) else {
+        panic!(&rt; "no match")
+    };
     assert_eq!(rt; key.to_text().as_slice(), "10.1.0.0/16".as_bytes());
     assert_eq!(rt; *value, 2);
     let key = map
         .get_lpm_prefix(&net(&rt, "10.2.3.4/32"))
         .expect(&rt, "a match");
     assert_eq!(rt; key.to_text().as_slice(), "10.0.0.0/8".as_bytes());
-    let (key, value) = map.get_spm(&asked).expect(&rt, "a match");
+    let Some((key, value)) = map.get_spm(&asked) else {
+        panic!(&rt; "no match")
+    };
     assert_eq!(rt; key.to_text().as_slice(), "10.0.0.0/8".as_bytes());
     assert_eq!(rt; *value, 1);
-    let key = map.get_spm_prefix(&asked).expect(&rt, "a match");
+    let Some(key) = map.get_spm_prefix(&asked) else {
+        panic!(&rt; "no match")
+    };
     assert_eq!(rt; key.to_text().as_slice(), "10.0.0.0/8".as_bytes());
-    let (key, value) = map
-        .get_key_value(&net(&rt, "10.1.7.7/16"))
-        .expect(&rt, "a key");
+    let Some((key, value)) = map.get_key_value(&net(&rt, "10.1.7.7/16")) else {
+        panic!(&rt; "no key")
+    };
     assert_eq!(rt; key.to_text().as_slice(), "10.1.0.0/16".as_bytes());
     assert_eq!(rt; *value, 2);
     assert!(rt; map.is_covered(&asked));
