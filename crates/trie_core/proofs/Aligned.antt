@@ -1,14 +1,14 @@
 -- Bit strings at the top of a word.
-use Rattle.std.proofs.Common.{◌≡◌, ℕ, zero, suc, ◌+◌, ◌-◌, ◌*◌, ◌/◌, ◌%◌, ◌^◌, ◌<◌, ◌≤◌, Bool, true, false, List, [], ◌∷◌, length, drop, refl, sym, ap, subst, ◌∙◌, arith}
+use Rattle.std.proofs.Common.{◌≡◌, ℕ, ◌+◌, ◌-◌, ◌*◌, ◌/◌, ◌%◌, ◌^◌, ◌<◌, ◌≤◌, Bool, true, false, List, length, drop, refl, sym, ap, subst, ◌∙◌, arith}
 use Rattle.std.specs.Prelude.{nat_lt}
 use Rattle.std.proofs.lemmas.Bool.Decides.{nat_tests}
 use Rattle.std.proofs.lemmas.Nat.{pow_pos, pow-add, mod-pow-add, shl-shr, shr-shr, shr_below, shr_split, mod_below}
 use Rattle.std.proofs.Math.Nat.{mul-mod_left, mod-mod, mul_assoc, mod-eq_of_lt}
 use Rattle.ipnet.specs.Blocks.{digits}
 use Rattle.ipnet.proofs.Strings.{length-digits}
-use Rattle.trie_core.specs.Bits.{child_of, number_from}
+use Rattle.trie_core.specs.Bits.{child_of}
 use Rattle.trie_core.specs.Paths.{IsAligned}
-use Rattle.trie_core.proofs.Numbers.{number-digits, number-long, number_apart, one_power, drop-digits}
+use Rattle.trie_core.proofs.Numbers.{number-digits, number-long, number_apart, drop-digits}
 
 -- a multiple of a power, at a greater power
 mod_up : (q m k : ℕ) → q * 2 ^ k % 2 ^ (m + k) ≡ q % 2 ^ m * 2 ^ k

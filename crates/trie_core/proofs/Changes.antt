@@ -1,24 +1,24 @@
 -- What a change of a node's words and lists makes of it.
-use Rattle.std.proofs.Common.{◌≡◌, ℕ, zero, suc, ◌+◌, ◌-◌, ◌*◌, ◌/◌, ◌^◌, ◌<◌, ◌≤◌, Bool, true, false, cond, List, [], ◌∷◌, ◌++◌, length, take, drop, get_or, set, refl, sym, ap, subst, ◌∙◌, arith}
-use Rattle.std.specs.Prelude.{max, Option, Some, None, count_ones}
+use Rattle.std.proofs.Common.{◌≡◌, ℕ, zero, suc, ◌+◌, ◌-◌, ◌/◌, ◌^◌, ◌<◌, ◌≤◌, Bool, true, false, cond, List, [], ◌∷◌, length, take, drop, get_or, set, refl, sym, ap, subst, ◌∙◌, arith}
+use Rattle.std.specs.Prelude.{max, Some, None, count_ones}
 use Rattle.std.specs.List.{remove}
 use Rattle.std.specs.declared.cmp.Ordering.{Ordering}
 use Rattle.std.specs.declared.cmp.Ordering.TheVariants.{Less, Equal, Greater}
-use Rattle.std.specs.Ordering.{nat_cmp, eq_by_cmp, is_eq}
+use Rattle.std.specs.Ordering.{nat_cmp, is_eq}
 use Rattle.std.specs.FinMap.{find, get, put, empty, len, empty_of_len}
 use Rattle.std.specs.FinMap as map
 use Rattle.std.specs.FinMap.Entries.{by_order}
 use Rattle.std.proofs.Math.ListN.{length-drop}
 use Rattle.trie_core.specs.Bits.{bits_cmp, place_of, child_of, child_string}
-use Rattle.trie_core.specs.Places.{at_places, without, named, value_list, child_list, IsSlot, IsUnset}
-use Rattle.trie_core.specs.Nodes.{BitMap, Seen, node_map, node_height, child_map, HasSlots}
+use Rattle.trie_core.specs.Places.{at_places, without, named, child_list, IsSlot, IsUnset}
+use Rattle.trie_core.specs.Nodes.{BitMap, Seen, node_height, child_map, HasSlots}
 use Rattle.trie_core.specs.Count.{nodes, all_nodes, total, spares_below, spare_of, spare_if}
-use Rattle.trie_core.proofs.Maps.{same-Decides, get_none, value_put, value_taken, child_put, child_taken, insert_changes, remove_absent, ListChanges}
+use Rattle.trie_core.proofs.Maps.{same-Decides, get_none, value_put, value_taken, child_put, child_taken, insert_changes}
 use Rattle.trie_core.proofs.Count.{things, nodes_empty}
 use Rattle.trie_core.proofs.Numbers.{number_bound}
 use Rattle.trie_core.proofs.Taken.{IsTaken, taken, missing}
 use Rattle.trie_core.proofs.Named.{is_node, child_things, child_found, value_put_in, value_taken_out, child_put_in, child_taken_out}
-use Rattle.trie_core.proofs.Seen.{IsSeen, map_of, counted, total-set, height-set, height-read, value_at, below_at, has_no_child}
+use Rattle.trie_core.proofs.Seen.{IsSeen, map_of, counted, total-set, height-set, height-read, below_at, has_no_child}
 use Rattle.trie_core.proofs.Searches.{no_child_get}
 
 set_removed : {Y : Type 0} (xs : List Y) (i : ℕ) (y : Y) → remove (set xs i y) i ≡ remove xs i

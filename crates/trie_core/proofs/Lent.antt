@@ -1,6 +1,6 @@
 -- What a node becomes as what it lends is written.
 use Rattle.std.proofs.Common.{◌≡◌, ◌<◌, ◌≤◌, ◌+◌, ◌∙◌, ℕ, List, Bool, length, drop, get_or, set, zero, suc, cond, true, [], ◌∷◌, refl, sym, ap, arith}
-use Rattle.std.specs.Prelude.{Option, Some, None, is_some, max}
+use Rattle.std.specs.Prelude.{Option, Some, None, is_some}
 use Rattle.std.specs.Option.{IsSome}
 use Rattle.std.specs.Ordering.{nat_cmp}
 use Rattle.std.specs.FinMap.{find, get, insert, len, len-insert}

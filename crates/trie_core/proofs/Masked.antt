@@ -1,8 +1,7 @@
 -- Numbers of some bits as strings of their first bits.
-use Rattle.std.proofs.Common.{◌≡◌, ℕ, zero, suc, ◌+◌, ◌-◌, ◌*◌, ◌/◌, ◌%◌, ◌^◌, ◌<◌, ◌≤◌, Bool, true, false, cond, List, [], ◌∷◌, length, take, refl, sym, ap, subst, ◌∙◌, arith}
-use Rattle.std.specs.Prelude.{◌↔◌, IsTrue, nat_eq}
+use Rattle.std.proofs.Common.{◌≡◌, ℕ, zero, suc, ◌+◌, ◌-◌, ◌*◌, ◌/◌, ◌%◌, ◌^◌, ◌<◌, ◌≤◌, Bool, true, false, List, [], ◌∷◌, length, take, refl, sym, ap, subst, ◌∙◌, arith}
 use Rattle.std.proofs.lemmas.Nat.{pow_pos, pow-add, shl-shr, shr-shr, shr_below, shr_split}
-use Rattle.std.proofs.Math.Nat.{mod-eq_of_lt, mul_assoc, pow-le-pow_right, mul-lt-mul_of_pos_right}
+use Rattle.std.proofs.Math.Nat.{mod-eq_of_lt, pow-le-pow_right, mul-lt-mul_of_pos_right}
 use Rattle.std.proofs.Math.ListN.{length-take}
 use Rattle.ipnet.specs.Blocks.{digits}
 use Rattle.ipnet.proofs.Strings.{length-digits}

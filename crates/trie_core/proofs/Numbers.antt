@@ -1,16 +1,15 @@
 -- The numbers of places and children: they rise in the order of a walk, and each gives its string back.
-use Rattle.std.proofs.Common.{◌≡◌, ℕ, zero, suc, ◌+◌, ◌-◌, ◌*◌, ◌/◌, ◌%◌, ◌^◌, ◌<◌, ◌≤◌, Bool, true, false, cond, ◌==◌, List, [], ◌∷◌, ◌++◌, length, take, drop, refl, sym, ap, subst, ◌∙◌, arith}
-use Rattle.std.specs.Prelude.{T, nat_lt, nat_eq, if◌then◌else◌, count_ones}
-use Rattle.std.specs.declared.cmp.Ordering.{Ordering}
-use Rattle.std.specs.declared.cmp.Ordering.TheVariants.{Less, Equal, Greater}
+use Rattle.std.proofs.Common.{◌≡◌, ℕ, zero, suc, ◌+◌, ◌-◌, ◌*◌, ◌/◌, ◌%◌, ◌^◌, ◌<◌, ◌≤◌, Bool, true, false, cond, ◌==◌, List, [], ◌∷◌, ◌++◌, length, take, drop, refl, sym, ap, ◌∙◌, arith}
+use Rattle.std.specs.Prelude.{nat_lt, if◌then◌else◌, count_ones}
+use Rattle.std.specs.declared.cmp.Ordering.TheVariants.{Less}
 use Rattle.std.proofs.lemmas.Bool.Decides.{nat_tests}
-use Rattle.std.proofs.lemmas.Nat.{pow_pos, pow-add, mod-pow-add, ones_cat, shr-shr, mod_below}
+use Rattle.std.proofs.lemmas.Nat.{pow_pos, pow-add, mod-pow-add, ones_cat, shr-shr}
 use Rattle.std.proofs.Math.ListN.{length-take}
 use Rattle.std.proofs.Math.Nat.{add-mul, one-mul, zero-mul, zero-add}
-use Rattle.ipnet.specs.Blocks.{digits, Begins}
+use Rattle.ipnet.specs.Blocks.{digits}
 use Rattle.ipnet.proofs.Strings.{length-digits, digits_front}
 use Rattle.trie_core.specs.Bits.{bits_cmp, place_from, place_of, number_from, child_of, place_at, place_string, child_string}
-use Rattle.trie_core.proofs.Maps.{same-Decides, take_front}
+use Rattle.trie_core.proofs.Maps.{take_front}
 use Rattle.trie_core.proofs.Places.{ones_bit}
 
 double : (i : ℕ) → 2 ^ suc i ≡ 2 * 2 ^ i

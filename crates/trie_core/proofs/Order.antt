@@ -1,17 +1,16 @@
 -- The entries of a node, one after another.
-use Rattle.std.proofs.Common.{◌≡◌, ℕ, zero, suc, ◌+◌, ◌<◌, ◌≤◌, Bool, true, false, cond, ◌&&◌, List, [], ◌∷◌, ◌++◌, length, take, drop, refl, sym, ap, subst, ◌∙◌, arith}
+use Rattle.std.proofs.Common.{◌≡◌, ◌<◌, ◌≤◌, Bool, true, false, cond, ◌&&◌, List, [], ◌∷◌, ◌++◌, length, take, drop, refl, sym, ap, subst, ◌∙◌, arith}
 use Rattle.std.specs.Prelude.{T, nat_lt, Option, Some, None, is_some}
 use Rattle.std.specs.declared.cmp.Ordering.{Ordering}
 use Rattle.std.specs.declared.cmp.Ordering.TheVariants.{Less, Equal, Greater}
 use Rattle.std.specs.Ordering.{is_lt}
 use Rattle.std.specs.FinMap.{entries, find, get, is_sorted, entries_sorted, get-entries, empty}
 use Rattle.std.specs.FinMap.Entries.{below_all, same_entries}
-use Rattle.std.specs.Cmp.{IsTotalOrder}
 use Rattle.std.proofs.lemmas.Bool.Decides.{nat_tests}
 use Rattle.std.proofs.Math.ListN.{length-append}
 use Rattle.trie_core.specs.Bits.{bits_cmp}
 use Rattle.trie_core.specs.Nodes.{BitMap, Seen, under, node_map, IsNode}
-use Rattle.trie_core.proofs.Maps.{both, append_none, bits_total, bits_same, same, same-refl, same-Decides, no_false, other_length, front, tail_rises, less-T, find_before, or_else, find-append_all, find-apart, find-child, child_get, get-short, get-long, get_none, node_map-none}
+use Rattle.trie_core.proofs.Maps.{both, append_none, bits_total, bits_same, same, same-refl, same-Decides, other_length, front, tail_rises, less-T, or_else, find-append_all, find-apart, find-child, child_get, get-short, get-long, get_none, node_map-none}
 
 -- ---- the order of strings
 

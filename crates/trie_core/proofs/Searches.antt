@@ -1,6 +1,6 @@
 -- Searches along a string: by masks within a node, and from node to node.
-use Rattle.std.proofs.Common.{◌≡◌, ℕ, zero, suc, ◌+◌, ◌-◌, ◌*◌, ◌/◌, ◌%◌, ◌^◌, ◌<◌, ◌≤◌, Bool, true, false, cond, not, ◌&&◌, List, [], ◌∷◌, ◌++◌, length, take, drop, get_or, refl, sym, ap, subst, ◌∙◌, arith, inl, inr}
-use Rattle.std.specs.Prelude.{Option, Some, None, MatchOption, bit_and, min, nat_lt, ◌⊎◌, count_ones}
+use Rattle.std.proofs.Common.{◌≡◌, ℕ, zero, suc, ◌+◌, ◌-◌, ◌*◌, ◌/◌, ◌%◌, ◌^◌, ◌<◌, ◌≤◌, Bool, true, false, cond, not, ◌&&◌, List, [], ◌∷◌, ◌++◌, length, take, drop, get_or, refl, sym, ap, subst, ◌∙◌, arith}
+use Rattle.std.specs.Prelude.{Option, Some, None, MatchOption, bit_and, min, nat_lt, count_ones}
 use Rattle.std.specs.Int.{bit_at, w32, leading_zeros}
 use Rattle.std.specs.Ordering.{nat_cmp}
 use Rattle.std.specs.FinMap.{find, get}
@@ -9,15 +9,14 @@ use Rattle.std.proofs.lemmas.List.{take-append-drop}
 use Rattle.std.proofs.lemmas.Nat.{leading_top}
 use Rattle.std.proofs.lemmas.Nat.Bits.{bit_at_and, bit_at-lt, bit_at_above, bit_at-zero}
 use Rattle.std.proofs.Math.Nat.{div-eq_of_lt-le}
-use Rattle.std.proofs.Math.ListN.{length-take, length-drop, length-append}
+use Rattle.std.proofs.Math.ListN.{length-take, length-drop}
 use Rattle.trie_core.specs.Bits.{begins, place_from, place_of, place_string}
-use Rattle.trie_core.specs.Places.{at_places, IsBeginMask, IsLastPlace, IsFirstPlace, IsSlot}
+use Rattle.trie_core.specs.Places.{at_places, IsBeginMask, IsLastPlace, IsFirstPlace}
 use Rattle.trie_core.specs.Nodes.{BitMap, Seen}
 use Rattle.trie_core.specs.Count.{visit_count}
 use Rattle.trie_core.specs.Search.{NoBeginning, IsLongest, IsShortest, NoneBelow, IsLongestBelow, IsChild, HasNoChild}
-use Rattle.trie_core.proofs.Maps.{take_front}
-use Rattle.trie_core.proofs.Numbers.{place_bound, place_strings, place_string-place_of}
-use Rattle.trie_core.proofs.Taken.{IsTaken, taken, missing}
+use Rattle.trie_core.proofs.Numbers.{place_strings}
+use Rattle.trie_core.proofs.Taken.{taken, missing}
 use Rattle.trie_core.proofs.Seen.{IsSeen, value_at}
 
 -- ---- the ends of a word

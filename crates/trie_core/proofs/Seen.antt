@@ -1,23 +1,20 @@
 -- What a node is seen as, from its words and lists, and what a change of them makes of it.
-use Rattle.std.proofs.Common.{◌≡◌, ℕ, zero, suc, ◌+◌, ◌-◌, ◌/◌, ◌^◌, ◌<◌, ◌≤◌, Bool, true, false, cond, List, [], ◌∷◌, ◌++◌, length, take, drop, get_or, set, refl, sym, ap, subst, ◌∙◌, arith}
-use Rattle.std.specs.Prelude.{count_ones, max, Option, Some, None}
-use Rattle.std.specs.List.{remove}
+use Rattle.std.proofs.Common.{◌≡◌, ℕ, zero, suc, ◌+◌, ◌<◌, ◌≤◌, Bool, true, false, cond, List, [], ◌∷◌, ◌++◌, length, take, drop, get_or, set, refl, sym, ap, ◌∙◌, arith}
+use Rattle.std.specs.Prelude.{count_ones, max, Some, None}
 use Rattle.std.specs.Ordering.{nat_cmp}
-use Rattle.std.specs.FinMap.{find, get, put, empty, len, empty_of_len, insert, same_map}
-use Rattle.std.specs.FinMap as map
+use Rattle.std.specs.FinMap.{find, get, empty}
 use Rattle.std.proofs.lemmas.Nat.{zero_from_ones}
-use Rattle.std.proofs.Math.ListN.{length-append, length-drop}
+use Rattle.std.proofs.Math.ListN.{length-append}
 use Rattle.trie_core.specs.Bits.{bits_cmp, place_of, child_of}
-use Rattle.trie_core.specs.Places.{at_places, without, value_list, child_list, IsSlot}
-use Rattle.trie_core.specs.Nodes.{BitMap, Seen, node_map, node_height, child_map, IsNode, HasSlots}
-use Rattle.trie_core.specs.Count.{nodes, all_nodes, total, spares_below, spare_of, spare_if, visit_count}
+use Rattle.trie_core.specs.Places.{at_places, value_list, child_list}
+use Rattle.trie_core.specs.Nodes.{BitMap, Seen, node_map, node_height, IsNode, HasSlots}
+use Rattle.trie_core.specs.Count.{nodes, all_nodes, total, spares_below, visit_count}
 use Rattle.trie_core.specs.Search.{IsChild, HasNoChild}
-use Rattle.trie_core.proofs.Maps.{node_map-none, same, same-refl, same-Decides, take_first, front, child_get, get_none, get-short, get-long, value_put, value_taken, child_put, child_taken, insert_changes, remove_absent, ListChanges}
-use Rattle.trie_core.proofs.Count.{things, all_of_node, bare_lists, nodes_empty}
+use Rattle.trie_core.proofs.Maps.{node_map-none, same, take_first, front, child_get, get_none, get-short, get-long}
+use Rattle.trie_core.proofs.Count.{things, all_of_node, bare_lists}
 use Rattle.trie_core.proofs.Visits.{visits_none, visits_some}
-use Rattle.trie_core.proofs.Taken.{IsTaken, taken}
 use Rattle.trie_core.proofs.Places.{ones_bit}
-use Rattle.trie_core.proofs.Named.{is_node, value_things, child_things, value_found, child_found, value_put_in, value_taken_out, child_put_in, child_taken_out}
+use Rattle.trie_core.proofs.Named.{is_node, value_things, child_things, value_found, child_found}
 
 drop_first : (b k : List Bool) → length b ≡ 5 → drop 5 (b ++ k) ≡ k
 drop_first (a ∷ b ∷ c ∷ d ∷ e ∷ []) k h = refl

@@ -1,6 +1,6 @@
 -- The strings that begin both a string and a key, and so the nodes that a search visits.
 use Rattle.std.proofs.Common.{◌≡◌, ℕ, zero, suc, ◌+◌, ◌*◌, ◌/◌, ◌<◌, ◌≤◌, Bool, true, false, cond, ◌||◌, List, [], ◌∷◌, ◌++◌, length, take, drop, refl, sym, ap, ◌∙◌, arith}
-use Rattle.std.specs.Prelude.{T, Option, Some, None, is_some}
+use Rattle.std.specs.Prelude.{T, Some, None, is_some}
 use Rattle.std.specs.Ordering.{is_eq}
 use Rattle.std.specs.FinMap.{entries, find, get, get-entries, len, len-entries}
 use Rattle.std.specs.FinMap.Entries.{below_all}

@@ -1,5 +1,5 @@
 -- What a node is seen as: the map from bit strings to values, and the shape below it.
-use Rattle.std.specs.Prelude.{ℕ, suc, ◌+◌, ◌<◌, ◌≤◌, ◌≡◌, ◌^◌, length, take, max, Bool, T, List, [], ◌∷◌, ◌++◌, Option, Some, None, refl, count_ones}
+use Rattle.std.specs.Prelude.{ℕ, ◌+◌, ◌<◌, ◌≤◌, ◌≡◌, ◌^◌, length, max, Bool, T, List, [], ◌∷◌, ◌++◌, Option, Some, None, refl, count_ones}
 use Rattle.std.specs.FinMap.{FinMap, is_sorted, entries, from_entries, empty, code as map_code}
 use Rattle.std.specs.Coded.{Coded, code_by, coded×, coded_ℕ, coded_list, coded_bool}
 use Rattle.std.proofs.Common.{arith}

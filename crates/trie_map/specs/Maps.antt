@@ -1,5 +1,5 @@
 -- What searches of a map hand out.
-use Rattle.std.specs.Prelude.{ℕ, ◌≤◌, ◌≡◌, length, take, Bool, List, Some, None, is_some, true}
+use Rattle.std.specs.Prelude.{ℕ, ◌≤◌, ◌≡◌, length, take, Bool, List, is_some, true}
 use Rattle.std.specs.FinMap.{get}
 use Rattle.trie_core.specs.Nodes.{BitMap}
 use Rattle.trie_core.specs.Search.{IsLongest, IsShortest}

@@ -1,5 +1,4 @@
-use Rattle.std.proofs.Common.{◌≡◌, ◌∙◌, ap, sym, subst, ◌<◌, ◌≤◌, ◌^◌, ℕ, arith}
-use Rattle.trie_core.specs.Prefixes.{IsMasked}
+use Rattle.std.proofs.Common.{◌∙◌, ap, sym, subst, ◌<◌, ◌^◌}
 use Rattle.trie_core.proofs.Masked.{is_cut, is_masked, masked_bits, number-prefix}
 use Rattle.trie_core.proofs.prefix.masked_key.Goals as goal
 

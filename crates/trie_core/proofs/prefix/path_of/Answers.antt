@@ -1,4 +1,4 @@
-use Rattle.std.proofs.Common.{◌≡◌, ◌≤◌, ◌<◌, ◌-◌, ◌*◌, ◌/◌, ◌%◌, ◌^◌, ◌∙◌, ℕ, ap, sym, subst, length, List, Bool, arith}
+use Rattle.std.proofs.Common.{◌≡◌, ◌≤◌, ◌<◌, ◌-◌, ◌*◌, ◌/◌, ◌%◌, ◌^◌, ◌∙◌, ℕ, ap, subst, length, List, Bool, arith}
 use Rattle.ipnet.specs.Blocks.{digits}
 use Rattle.trie_core.specs.Prefixes.{prefix_bits}
 use Rattle.trie_core.proofs.Masked.{at_top}

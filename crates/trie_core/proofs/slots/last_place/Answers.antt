@@ -1,5 +1,4 @@
-use Rattle.std.proofs.Common.{◌≡◌, ◌<◌, ◌≤◌, ◌-◌, ◌^◌, ℕ, suc, arith, ap, ◌∙◌, sym, subst}
-use Rattle.trie_core.specs.Places.{IsLastPlace}
+use Rattle.std.proofs.Common.{arith}
 use Rattle.trie_core.proofs.Searches.{last_place}
 use Rattle.trie_core.proofs.slots.last_place.Goals as goal
 

@@ -1,7 +1,5 @@
-use Rattle.std.proofs.Common.{◌≡◌, ◌<◌, ◌≤◌, ◌+◌, ◌^◌, ◌∙◌, ap, sym, length, arith, set}
-use Rattle.std.specs.Prelude.{Some, count_ones, vec_len}
-use Rattle.std.specs.Ordering.{nat_cmp}
-use Rattle.std.specs.FinMap.{put}
+use Rattle.std.proofs.Common.{◌∙◌, ap, sym, arith, set}
+use Rattle.std.specs.Prelude.{Some}
 use Rattle.std.proofs.Math.Facts.{Fits-of_lt}
 use Rattle.trie_core.specs.Places.{at_places}
 use Rattle.trie_core.proofs.Taken.{free, taken, missing, put_in}

@@ -1,6 +1,5 @@
-use Rattle.std.proofs.Common.{◌≡◌, ◌<◌, ◌≤◌, ◌-◌, ◌^◌, ◌∙◌, ap, sym, length, arith}
-use Rattle.std.specs.Prelude.{Some, count_ones, vec_len}
-use Rattle.trie_core.specs.Places.{at_places}
+use Rattle.std.proofs.Common.{◌∙◌, ap, sym, arith}
+use Rattle.std.specs.Prelude.{Some}
 use Rattle.trie_core.proofs.Edits.{without_none}
 use Rattle.trie_core.proofs.Taken.{taken, missing, taken_out}
 use Rattle.trie_core.proofs.slots.take_at.Goals as goal

@@ -1,4 +1,4 @@
-use Rattle.std.proofs.Common.{◌≡◌, ◌+◌, ◌%◌, ◌^◌, get_or, subst, ap, ℕ}
+use Rattle.std.proofs.Common.{◌+◌, ◌%◌, ◌^◌, get_or, subst}
 use Rattle.trie_core.specs.Bits.{place_of}
 use Rattle.trie_core.specs.Places.{IsBeginMask}
 use Rattle.trie_core.proofs.Begins.{masks, long_mask, short_mask}

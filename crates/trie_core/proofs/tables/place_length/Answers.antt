@@ -1,4 +1,4 @@
-use Rattle.std.proofs.Common.{◌≡◌, ◌<◌, arith}
+use Rattle.std.proofs.Common.{arith}
 use Rattle.trie_core.proofs.Begins.{length_of_place}
 use Rattle.trie_core.proofs.Numbers.{place_strings}
 use Rattle.trie_core.proofs.tables.place_length.Goals as goal

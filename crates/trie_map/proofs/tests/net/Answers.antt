@@ -1,4 +1,4 @@
-use Rattle.std.proofs.Common.{◌≤◌, ◌/◌, ◌^◌, ◌-◌, arith}
+use Rattle.std.proofs.Common.{◌/◌, ◌^◌, ◌-◌, arith}
 use Rattle.ipnet.proofs.Strings.{length-digits}
 use Rattle.trie_map.proofs.tests.net.Goals as goal
 

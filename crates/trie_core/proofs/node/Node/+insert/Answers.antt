@@ -1,10 +1,9 @@
-use Rattle.std.proofs.Common.{◌≡◌, ◌<◌, ◌≤◌, ◌+◌, ◌/◌, ◌^◌, ◌∙◌, refl, sym, ap, length, drop, get_or, ℕ, List, arith}
-use Rattle.std.specs.Prelude.{vec_len, max, Result, Ok, Err, OnOk, OnErr, IfOk}
+use Rattle.std.proofs.Common.{◌<◌, ◌≤◌, ◌+◌, ◌/◌, ◌∙◌, sym, ap, length, arith}
+use Rattle.std.specs.Prelude.{Result, Ok, Err, OnOk, OnErr}
 use Rattle.std.specs.Ordering.{nat_cmp}
 use Rattle.std.specs.FinMap.{find, get, insert}
 use Rattle.std.proofs.lemmas.Result.{IfOk-weaker}
 use Rattle.std.proofs.lemmas.Bool.Decides.{nat_tests}
-use Rattle.std.proofs.Math.ListN.{length-drop}
 use Rattle.trie_core.specs.Places.{at_places}
 use Rattle.trie_core.proofs.Seen.{seen, value_at}
 use Rattle.trie_core.proofs.Changes.{value_slots, value_put_map, value_count, way, was, set_put, set_count, set_spares, set_height, was_lower, spare_insert, absent, hung, depth_rest, new_nodes}

@@ -1,10 +1,7 @@
-use Rattle.std.proofs.Common.{◌≡◌, ◌<◌, ◌≤◌, ◌+◌, ◌*◌, ◌^◌, ◌∙◌, refl, sym, ap, length, drop, get_or, ℕ, List, arith}
-use Rattle.std.specs.Prelude.{vec_len, max}
+use Rattle.std.proofs.Common.{◌<◌, ◌≤◌, ◌^◌, ◌∙◌, refl, sym, ap, length, arith}
 use Rattle.std.specs.Ordering.{nat_cmp}
 use Rattle.std.specs.FinMap.{find, get, remove}
 use Rattle.std.proofs.lemmas.Bool.Decides.{nat_tests}
-use Rattle.std.proofs.Math.Facts.{Fits-of_lt}
-use Rattle.std.proofs.Math.ListN.{length-drop}
 use Rattle.trie_core.specs.Places.{at_places}
 use Rattle.trie_core.proofs.Maps.{remove_absent}
 use Rattle.trie_core.proofs.Seen.{seen, value_at}

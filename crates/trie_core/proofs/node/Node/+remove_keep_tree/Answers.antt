@@ -1,5 +1,4 @@
-use Rattle.std.proofs.Common.{◌≡◌, ◌<◌, ◌≤◌, ◌+◌, ◌^◌, ◌∙◌, sym, ap, length, drop, get_or, ℕ, List, arith}
-use Rattle.std.specs.Prelude.{vec_len, max}
+use Rattle.std.proofs.Common.{◌<◌, ◌≤◌, ◌∙◌, sym, ap, length, arith}
 use Rattle.std.specs.Ordering.{nat_cmp}
 use Rattle.std.specs.FinMap.{find, get, remove}
 use Rattle.std.proofs.lemmas.Bool.Decides.{nat_tests}

@@ -1,4 +1,4 @@
-use Rattle.std.proofs.Common.{◌≡◌, ◌∙◌, sym}
+use Rattle.std.proofs.Common.{◌∙◌, sym}
 use Rattle.trie_core.proofs.Searches.{no_child_get}
 use Rattle.trie_core.proofs.node.Node.get.Goals as goal
 

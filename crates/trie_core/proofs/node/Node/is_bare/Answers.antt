@@ -1,4 +1,4 @@
-use Rattle.std.proofs.Common.{◌≡◌, ◌∙◌, ℕ, sym, length, arith}
+use Rattle.std.proofs.Common.{arith}
 use Rattle.std.proofs.lemmas.Bool.Decides.{nat_tests}
 use Rattle.trie_core.proofs.Seen.{seen, bare, left_bare, no_bits}
 use Rattle.trie_core.proofs.node.Node.is_bare.Goals as goal

@@ -1,8 +1,5 @@
-use Rattle.std.proofs.Common.{◌≡◌, ◌<◌, ◌≤◌, ◌+◌, ℕ, length, arith, subst, sym}
-use Rattle.std.specs.Prelude.{Option, Some, None, MatchOption}
+use Rattle.std.proofs.Common.{◌<◌, ◌≤◌, length, arith}
 use Rattle.std.proofs.lemmas.Bool.Decides.{nat_tests}
-use Rattle.trie_core.specs.Nodes.{BitMap}
-use Rattle.trie_core.specs.Search.{NoneBelow, NoBeginning, IsShortest}
 use Rattle.trie_core.proofs.Searches.{at_child, none_deeper, shortest_deeper, none_stop, shortest_whole, way_left}
 use Rattle.trie_core.proofs.node.Node.shortest.Goals as goal
 

@@ -1,5 +1,5 @@
-use Rattle.std.proofs.Common.{◌≡◌, ◌<◌, arith}
-use Rattle.std.specs.Prelude.{bit_and, vec_len}
+use Rattle.std.proofs.Common.{◌≡◌, arith}
+use Rattle.std.specs.Prelude.{bit_and}
 use Rattle.std.proofs.lemmas.Bool.Decides.{nat_tests}
 use Rattle.trie_core.proofs.Seen.{seen}
 use Rattle.trie_core.proofs.Searches.{none_here, index_here, shortest_here}

@@ -1,5 +1,4 @@
-use Rattle.std.proofs.Common.{◌≡◌, ◌<◌, ◌∙◌, refl, ap, length, arith}
-use Rattle.std.specs.Prelude.{vec_len}
+use Rattle.std.proofs.Common.{refl, arith}
 use Rattle.trie_core.proofs.Seen.{seen}
 use Rattle.trie_core.proofs.Lent.{stored_here, value_slot, value_here, lent_here}
 use Rattle.trie_core.proofs.node.Node.value_here.Goals as goal

@@ -1,4 +1,4 @@
-use Rattle.std.proofs.Common.{◌≡◌, ◌-◌, ◌/◌, ◌^◌, ◌*◌, ◌<◌, ap, ◌∙◌, arith}
+use Rattle.std.proofs.Common.{◌-◌, ◌/◌, ◌^◌, ap, ◌∙◌, arith}
 use Rattle.std.proofs.lemmas.Nat.{shl-shr}
 use Rattle.ipnet.specs.Blocks.{digits}
 use Rattle.trie_core.proofs.Aligned.{cleared}

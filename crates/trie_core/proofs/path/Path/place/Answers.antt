@@ -1,4 +1,4 @@
-use Rattle.std.proofs.Common.{◌≡◌, ◌+◌, ap, arith}
+use Rattle.std.proofs.Common.{ap, arith}
 use Rattle.std.specs.Prelude.{count_ones}
 use Rattle.trie_core.proofs.Aligned.{path_length}
 use Rattle.trie_core.proofs.Numbers.{place_from_number, place_bound}

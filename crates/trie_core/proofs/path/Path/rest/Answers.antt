@@ -1,4 +1,4 @@
-use Rattle.std.proofs.Common.{◌≡◌, ◌≤◌, arith}
+use Rattle.std.proofs.Common.{arith}
 use Rattle.trie_core.proofs.Aligned.{path_length, rest, rest_aligned}
 use Rattle.trie_core.proofs.path.Path.rest.Goals as goal
 

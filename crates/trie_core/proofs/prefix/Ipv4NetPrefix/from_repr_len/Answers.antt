@@ -1,8 +1,8 @@
-use Rattle.std.proofs.Common.{◌≡◌, ◌∙◌, ◌<◌, ◌^◌, ap, sym, arith}
+use Rattle.std.proofs.Common.{◌∙◌, ap, sym, arith}
 use Rattle.ipnet_addr.specs.Addresses.{Ipv4}
 use Rattle.ipnet_addr.proofs.Numbers.{bits_of_bits}
 use Rattle.ipnet.specs.Blocks.{bit_string}
-use Rattle.ipnet.specs.Networks.{Network, block_of}
+use Rattle.ipnet.specs.Networks.{block_of}
 use Rattle.trie_core.proofs.Masked.{masked_number, length-prefix_bits}
 use Rattle.trie_core.proofs.prefix.Ipv4NetPrefix.from_repr_len.Goals as goal
 

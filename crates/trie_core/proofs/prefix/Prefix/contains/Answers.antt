@@ -1,5 +1,5 @@
-use Rattle.std.proofs.Common.{◌≡◌, ◌∙◌, ◌≤◌, ◌<◌, ◌^◌, ap, sym, take, length, ℕ, List, Bool, true, arith}
-use Rattle.std.specs.Prelude.{IsTrue, nat_eq, nat_le, ◌↔◌}
+use Rattle.std.proofs.Common.{◌≡◌, ◌∙◌, ◌≤◌, ap, sym, take, length, ℕ, Bool, true, arith}
+use Rattle.std.specs.Prelude.{IsTrue, nat_eq, ◌↔◌}
 use Rattle.std.proofs.lemmas.Bool.Decides.{nat_tests}
 use Rattle.trie_core.specs.Bits.{number_from, begins}
 use Rattle.trie_core.specs.Prefixes.{prefix_bits}

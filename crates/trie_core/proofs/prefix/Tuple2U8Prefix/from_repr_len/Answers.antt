@@ -1,4 +1,4 @@
-use Rattle.std.proofs.Common.{◌≡◌, ◌∙◌, sym, ap}
+use Rattle.std.proofs.Common.{◌∙◌, sym, ap}
 use Rattle.trie_core.proofs.Masked.{masked_number, length-prefix_bits}
 use Rattle.trie_core.proofs.prefix.Tuple2U8Prefix.from_repr_len.Goals as goal
 

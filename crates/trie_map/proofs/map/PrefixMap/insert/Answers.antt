@@ -1,4 +1,4 @@
-use Rattle.std.proofs.Common.{◌≡◌, ◌∙◌, ◌≤◌, ◌+◌, ap, sym, false, true, ℕ, not, length, arith}
+use Rattle.std.proofs.Common.{◌∙◌, ap, false, true, not, length, arith}
 use Rattle.std.specs.FinMap.{len}
 use Rattle.trie_map.proofs.Entries.{one_more, keys_insert}
 use Rattle.trie_map.proofs.map.PrefixMap.insert.Goals as goal

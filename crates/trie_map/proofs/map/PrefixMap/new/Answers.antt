@@ -1,4 +1,4 @@
-use Rattle.std.proofs.Common.{◌≡◌, ◌∙◌, ◌≤◌, ap, sym, arith}
+use Rattle.std.proofs.Common.{◌∙◌, ap, sym, arith}
 use Rattle.std.specs.FinMap.{len, len-empty}
 use Rattle.trie_core.specs.Bits.{bits_cmp}
 use Rattle.trie_core.proofs.Changes.{new_nodes}

@@ -1,7 +1,6 @@
-use Rattle.std.proofs.Common.{◌≡◌, ◌+◌, ◌∙◌, sym, ap, subst, List, Bool}
+use Rattle.std.proofs.Common.{◌+◌, ◌∙◌, sym, ap, subst}
 use Rattle.std.specs.FinMap.{get}
 use Rattle.std.specs.Option.{IsSome}
-use Rattle.trie_core.specs.Nodes.{Seen}
 use Rattle.trie_core.proofs.Kept.{nodes_kept}
 use Rattle.trie_map.proofs.Entries.{len_kept, keys_kept}
 use Rattle.trie_map.proofs.map.PrefixMap.value_mut.Goals as goal
