@@ -1,0 +1,299 @@
+-- The nodes that a node's map needs are its own and those that its children's maps need.
+use Rattle.std.proofs.Common.{◌≡◌, ℕ, zero, suc, ◌+◌, ◌*◌, ◌/◌, ◌<◌, ◌≤◌, Bool, true, false, cond, ◌||◌, ◌&&◌, List, [], ◌∷◌, ◌++◌, length, take, drop, refl, sym, ap, subst, ◌∙◌, arith}
+use Rattle.std.specs.Prelude.{T, Option, Some, None, is_some}
+use Rattle.std.specs.declared.cmp.Ordering.TheVariants.{Less}
+use Rattle.std.specs.FinMap.{entries, find, get, entries_sorted, get-entries, get-from_entries, from_entries, len, len-entries, len-empty, empty_of_len, empty}
+use Rattle.std.specs.FinMap.Entries.{below_all, same_entries}
+use Rattle.std.proofs.Math.ListN.{length-append, length-take}
+use Rattle.std.proofs.lemmas.List.{take-append-drop}
+use Rattle.trie_core.specs.Bits.{bits_cmp}
+use Rattle.trie_core.specs.Nodes.{BitMap, Seen, under, node_map, IsNode}
+use Rattle.trie_core.specs.Count.{fives_from, fives, fives_of, begun, nodes, nodes_if, spare_if, spares_below, all_nodes, total}
+use Rattle.trie_core.proofs.Maps.{bits_total, bits_same, tail_rises, same, same-Decides, same-refl, append_none, take_first, or_else, find-append_all, find-under, find-apart, node_map-none, front, get-short, get_none}
+use Rattle.trie_core.proofs.Order.{StartsAfter, T-and, below_under, below_append, less_right, less_left, found_above, below_found, found_long, found_get, sorted_under, walk_value, walk_child, walk_none, without_value, without_child, first_value, starts_after, values_after}
+
+take_more : (b k : List Bool) (n : ℕ) → length b ≡ 5 → take (5 + n) (b ++ k) ≡ b ++ take n k
+take_more (a ∷ b ∷ c ∷ d ∷ e ∷ []) k n h = let z : 5 + n ≡ suc (suc (suc (suc (suc n)))) = omega arith in rw z refl
+take_more [] k n h = absurd (omega arith)
+take_more (a ∷ []) k n h = absurd (omega arith)
+take_more (a ∷ b ∷ []) k n h = absurd (omega arith)
+take_more (a ∷ b ∷ c ∷ []) k n h = absurd (omega arith)
+take_more (a ∷ b ∷ c ∷ d ∷ []) k n h = absurd (omega arith)
+take_more (a ∷ b ∷ c ∷ d ∷ e ∷ f ∷ bs) k n h = absurd (omega arith)
+
+pub take_take : {Y : Type 0} (xs : List Y) (j k : ℕ) → take j (take (j + k) xs) ≡ take j xs
+take_take xs zero k = refl
+take_take [] (suc j) k = let e : suc j + k ≡ suc (j + k) = omega arith in rw e refl
+take_take (x ∷ xs) (suc j) k = let e : suc j + k ≡ suc (j + k) = omega arith in rw e (ap (λ ys. x ∷ ys) (take_take xs j k))
+
+fives_later : (i n : ℕ) (b k : List Bool) → length b ≡ 5 → fives_from (suc i) n (b ++ k) ≡ under b (fives_from i n k)
+fives_later i zero b k h = refl
+fives_later i (suc n) b k h =
+    let z : 5 * suc i + 5 ≡ 5 + (5 * i + 5) = omega arith in
+    λ j. ((ap (λ m. take m (b ++ k)) z ∙ take_more b k (5 * i + 5) h) j, tt) ∷ fives_later (suc i) n b k h j
+
+pub fives_child : (b k : List Bool) → length b ≡ 5 → fives (b ++ k) ≡ (b, tt) ∷ under b (fives k)
+fives_child b k h =
+    let z : length (b ++ k) / 5 ≡ suc (length k / 5) = omega (arith, length-append b k, h) in
+    ap (λ n. fives_from 0 n (b ++ k)) z ∙ (λ j. (take_first b k h j, tt) ∷ fives_later 0 (length k / 5) b k h j)
+
+pub fives_short : (q : List Bool) → length q < 5 → fives q ≡ []
+fives_short q h = let z : length q / 5 ≡ 0 = omega arith in ap (λ n. fives_from 0 n q) z
+
+under-append : {X : Type 0} (bs : List Bool) (es fs : List (List Bool × X)) → under bs (es ++ fs) ≡ under bs es ++ under bs fs
+under-append bs [] fs = refl
+under-append bs (e ∷ es) fs = ap (λ ws. (bs ++ e.0, e.1) ∷ ws) (under-append bs es fs)
+
+-- ---- whether a string is in a list
+
+abbrev pub has : {Y : Type 0} → List Bool → List (List Bool × Y) → Bool
+has q es = is_some (find bits_cmp q es)
+
+some_else : {Y : Type 0} (o p : Option Y) → is_some (or_else o p) ≡ (is_some o || is_some p)
+some_else None p = refl
+some_else (Some y) p = refl
+
+pub has-append : {Y : Type 0} (q : List Bool) (es fs : List (List Bool × Y)) → has q (es ++ fs) ≡ (has q es || has q fs)
+has-append q es fs = ap is_some (find-append_all q es fs) ∙ some_else (find bits_cmp q es) (find bits_cmp q fs)
+
+pub some_cond : {Y : Type 0} (b : Bool) (y : Y) (o : Option Y) → is_some (cond b (Some y) o) ≡ (b || is_some o)
+some_cond true y o = refl
+some_cond false y o = refl
+
+same_option : (o p : Option (Unit {0})) → is_some o ≡ is_some p → o ≡ p
+same_option None None e = refl
+same_option (Some x) (Some y) e = refl
+same_option None (Some y) e = cc
+same_option (Some x) None e = cc
+
+or_twice : (s u v w : Bool) → (s || (u || (w && s || v))) ≡ (s || (u || v))
+or_twice true u v w = refl
+or_twice false true v w = refl
+or_twice false false v true = refl
+or_twice false false v false = refl
+
+module _ {X : Type 0} where
+  abbrev pub some_entry : List (List Bool × X) → Bool
+  some_entry [] = false
+  some_entry (e ∷ es) = true
+
+  has_under : (b q : List Bool) (es : List (List Bool × X)) → length b ≡ 5 → has q (fives_of (under b es)) ≡ (some_entry es && same q b || has q (under b (fives_of es)))
+  has_under b q [] h = refl
+  has_under b q (e ∷ es) h =
+      ap (has q) (ap (λ fs. fs ++ fives_of (under b es)) (fives_child b e.0 h))
+      ∙ some_cond (same q b) tt (find bits_cmp q (under b (fives e.0) ++ fives_of (under b es)))
+      ∙ ap (λ x. same q b || x) (has-append q (under b (fives e.0)) (fives_of (under b es)) ∙ ap (λ x. has q (under b (fives e.0)) || x) (has_under b q es h))
+      ∙ or_twice (same q b) (has q (under b (fives e.0))) (has q (under b (fives_of es))) (some_entry es)
+      ∙ ap (λ x. same q b || x) (sym (ap (has q) (under-append b (fives e.0) (fives_of es)) ∙ has-append q (under b (fives e.0)) (under b (fives_of es))))
+
+  fives_of-append : (es fs : List (List Bool × X)) → fives_of (es ++ fs) ≡ fives_of es ++ fives_of fs
+  fives_of-append [] fs = refl
+  fives_of-append (e ∷ es) fs = ap (λ ws. fives e.0 ++ ws) (fives_of-append es fs) ∙ sym (append_twice (fives e.0) (fives_of es) (fives_of fs))
+    where
+      append_twice : {Y : Type 0} (xs ys zs : List Y) → (xs ++ ys) ++ zs ≡ xs ++ (ys ++ zs)
+      append_twice [] ys zs = refl
+      append_twice (x ∷ xs) ys zs = ap (λ ws. x ∷ ws) (append_twice xs ys zs)
+
+  pub has-begun : (m : BitMap X) (q : List Bool) → has q (entries (begun m)) ≡ has q (fives_of (entries m))
+  unfolding begun
+  has-begun m q = ap is_some (sym (get-entries (begun m) q) ∙ get-from_entries bits_total (fives_of (entries m)) q)
+
+fives_found_by : (i n : ℕ) (q k : List Bool) → 5 * i + 5 + 5 * n ≤ length k → (has q (fives_from (suc i) n k) ≡ true → (take 5 q ≡ take 5 k) × (5 ≤ length q)) → (b : Bool) → same q (take (5 * i + 5) k) ≡ b → (b || has q (fives_from (suc i) n k)) ≡ true → (take 5 q ≡ take 5 k) × (5 ≤ length q)
+fives_found_by i n q k h f true e s =
+    let p : q ≡ take (5 * i + 5) k = (same-Decides q (take (5 * i + 5) k)).0 e in
+    let z : 5 * i + 5 ≡ 5 + 5 * i = omega arith in
+    (ap (take 5) p ∙ ap (λ m. take 5 (take m k)) z ∙ take_take k 5 (5 * i), omega (arith, ap length p, length-take (5 * i + 5) k, h))
+fives_found_by i n q k h f false e s = f s
+
+fives_found : (i n : ℕ) (q k : List Bool) → 5 * i + 5 * n ≤ length k → has q (fives_from i n k) ≡ true → (take 5 q ≡ take 5 k) × (5 ≤ length q)
+fives_found i zero q k h s = cc
+fives_found i (suc n) q k h s =
+    fives_found_by i n q k (omega (arith, h)) (λ t. fives_found (suc i) n q k (omega (arith, h)) t) (same q (take (5 * i + 5) k)) refl
+    (sym (some_cond (same q (take (5 * i + 5) k)) tt (find bits_cmp q (fives_from (suc i) n k))) ∙ s)
+
+or_cases : (a b : Bool) {P : Type 0} → (a || b) ≡ true → (a ≡ true → P) → (b ≡ true → P) → P
+or_cases true b e f g = f refl
+or_cases false b e f g = g e
+
+module _ {X : Type 0} where
+  -- k is a key that begins with the first five bits of q
+  pub record IsBegunBy (q : List Bool) (es : List (List Bool × X)) : Type 0 where
+    pub key : List Bool
+    pub found : has key es ≡ true
+    pub first : take 5 q ≡ take 5 key
+    pub long : 5 ≤ length q
+
+  later : {q : List Bool} (e : List Bool × X) {es : List (List Bool × X)} → IsBegunBy q es → IsBegunBy q (e ∷ es)
+  later {q} e {es} b = record { key = b.key; found = some_cond (same b.key e.0) e.1 (find bits_cmp b.key es) ∙ ap (λ x. same b.key e.0 || x) b.found ∙ or_true (same b.key e.0); first = b.first; long = b.long }
+    where
+      or_true : (a : Bool) → (a || true) ≡ true
+      or_true true = refl
+      or_true false = refl
+
+  pub begun_by_key : (q : List Bool) (es : List (List Bool × X)) → has q (fives_of es) ≡ true → IsBegunBy q es
+  begun_by_key q [] s = cc
+  begun_by_key q (e ∷ es) s =
+      or_cases (has q (fives e.0)) (has q (fives_of es)) (sym (has-append q (fives e.0) (fives_of es)) ∙ s)
+      (λ t. let f = fives_found 0 (length e.0 / 5) q e.0 (omega arith) t in record { key = e.0; found = some_cond (same e.0 e.0) e.1 (find bits_cmp e.0 es) ∙ ap (λ b. b || has e.0 es) (same-refl e.0); first = f.0; long = f.1 })
+      (λ t. later e (begun_by_key q es t))
+
+  -- no beginning is empty
+  not_none : (m : BitMap X) → T (below_all bits_cmp [] (entries (begun m)))
+  not_none m = below_found [] (entries (begun m)) (λ q s. nonempty q (begun_by_key q (entries m) (sym (has-begun m q) ∙ s)).long)
+    where
+      nonempty : (q : List Bool) → 5 ≤ length q → bits_cmp [] q ≡ Less
+      nonempty [] h = absurd (omega arith)
+      nonempty (b ∷ q) h = refl
+
+  -- the beginnings of the keys of what follows a child come after what is under it
+  pub after_child : {vs : List (List Bool × X)} {cs : List (List Bool × Seen X)} {c : List Bool × Seen X} → IsNode vs (c ∷ cs) → T (below_all bits_cmp c.0 cs) → (x : List Bool) → T (below_all bits_cmp (c.0 ++ x) (entries (begun (node_map vs cs))))
+  after_child {vs} {cs} {c} n a x = below_found (c.0 ++ x) (entries (begun (node_map vs cs))) (λ q s.
+      let b = begun_by_key q (entries (node_map vs cs)) (sym (has-begun (node_map vs cs) q) ∙ s) in
+      let w = front q b.long in
+      let k : 5 ≤ length b.key = omega (arith, ap length b.first, length-take 5 q, length-take 5 b.key, b.long) in
+      let f = found_above c.0 (take 5 b.key) cs a (found_long (without_child n) b.key k (found_get (node_map vs cs) b.key b.found)) in
+      let l = ap (bits_cmp c.0) b.first ∙ f in
+      ap (bits_cmp (c.0 ++ x)) (sym w.1) ∙ less_right (c.0 ++ x) (take 5 q) (drop 5 q) (less_left c.0 (take 5 q) x (omega (arith, n.children_long.0, w.0)) l))
+
+has_under_by : {Y Z : Type 0} (b q : List Bool) (es : List (List Bool × Y)) (fs : List (List Bool × Z)) → length b ≡ 5 → ((x : List Bool) → has x es ≡ has x fs) → (d : Bool) → same (take 5 q) b ≡ d → has q (under b es) ≡ has q (under b fs)
+has_under_by b q es fs h f true e =
+    let p : b ++ drop 5 q ≡ q = ap (λ w. w ++ drop 5 q) (sym ((same-Decides (take 5 q) b).0 e)) ∙ take-append-drop 5 q in
+    ap (λ w. has w (under b es)) (sym p) ∙ ap is_some (find-under b (drop 5 q) es) ∙ f (drop 5 q) ∙ sym (ap is_some (find-under b (drop 5 q) fs)) ∙ ap (λ w. has w (under b fs)) p
+has_under_by b q es fs h f false e =
+    let no : (k : List Bool) → q ≡ b ++ k → ⊥ = λ k p. let z : same (take 5 q) b ≡ true = (same-Decides (take 5 q) b).1 (ap (take 5) p ∙ take_first b k h) in cc in
+    ap is_some (find-apart b q no es) ∙ sym (ap is_some (find-apart b q no fs))
+
+or_three : (a b c : Bool) → ((a || b) || c) ≡ (a || (b || c))
+or_three true b c = refl
+or_three false b c = refl
+
+length-under : {Y : Type 0} (b : List Bool) (es : List (List Bool × Y)) → length (under b es) ≡ length es
+length-under b [] = refl
+length-under b (e ∷ es) = ap suc (length-under b es)
+
+pub spare_pos : (n : ℕ) → spare_if n ≡ 0 → 1 ≤ n
+spare_pos zero e = absurd (omega (arith, e))
+spare_pos (suc n) e = omega arith
+
+count_none : (X : Type 0) → len (begun (node_map {X = X} [] [])) ≡ 0
+unfolding begun
+count_none X = ap (λ es. len (from_entries {R = bits_cmp} (fives_of es))) (walk_none {X = X}) ∙ len-empty bits_cmp (Unit {0})
+
+pub nodes_empty : (X : Type 0) → nodes (empty {X = X} {R = bits_cmp}) ≡ 1
+nodes_empty X = ap nodes (sym (node_map-none {X = X})) ∙ ap (λ k. k + 1) (count_none X)
+
+-- the children alone, without their five bits
+abbrev pub things : {Y : Type 0} → List (List Bool × Y) → List Y
+things [] = []
+things (c ∷ cs) = c.1 ∷ things cs
+
+module _ {X : Type 0} where
+  -- the nodes of the children whose maps are not empty
+  abbrev nodes_below : List (Seen X) → ℕ
+  nodes_below cs = total (λ c. nodes_if (len c.0) c.0) cs
+
+  pub nothing : (es : List (List Bool × X)) → some_entry es ≡ false → es ≡ []
+  nothing [] e = refl
+  nothing (x ∷ es) e = cc
+
+  pub begun_value : {vs : List (List Bool × X)} {cs : List (List Bool × Seen X)} {e : List Bool × X} → IsNode (e ∷ vs) cs → StartsAfter e.0 cs → begun (node_map (e ∷ vs) cs) ≡ begun (node_map vs cs)
+  unfolding begun
+  begun_value {vs} {cs} {e} n h = ap (λ es. from_entries (fives_of es)) (walk_value n h) ∙ ap (λ fs. from_entries (fs ++ fives_of (entries (node_map vs cs)))) (fives_short e.0 n.values_short.0)
+
+  pub begun_none : {vs : List (List Bool × X)} {cs : List (List Bool × Seen X)} {c : List Bool × Seen X} → IsNode vs (c ∷ cs) → StartsAfter c.0 vs → entries c.1.0 ≡ [] → begun (node_map vs (c ∷ cs)) ≡ begun (node_map vs cs)
+  unfolding begun
+  begun_none {vs} {cs} {c} n h e = ap (λ es. from_entries (fives_of es)) (walk_child n h ∙ ap (λ es. under c.0 es ++ entries (node_map vs cs)) e)
+
+  pub begun_child : {vs : List (List Bool × X)} {cs : List (List Bool × Seen X)} {c : List Bool × Seen X} → IsNode vs (c ∷ cs) → T (below_all bits_cmp c.0 cs) → StartsAfter c.0 vs → some_entry (entries c.1.0) ≡ true
+      → entries (begun (node_map vs (c ∷ cs))) ≡ (c.0, tt) ∷ under c.0 (entries (begun c.1.0)) ++ entries (begun (node_map vs cs))
+  begun_child {vs} {cs} {c} n a h e =
+      let b = c.0 in
+      let five : length c.0 ≡ 5 = n.children_long.0 in
+      let E = entries (begun c.1.0) in
+      let F = entries (begun (node_map vs cs)) in
+      same_entries bits_cmp bits_total bits_same _ _ (entries_sorted (begun (node_map vs (c ∷ cs))))
+      (T-and _ _
+      (below_append b (under b E) F
+      (subst (λ w. T (below_all bits_cmp w (under b E))) (append_none b) (below_under b [] E (not_none c.1.0)))
+      (subst (λ w. T (below_all bits_cmp w F)) (append_none b) (after_child n a [])))
+      (sorted_under b E F (entries_sorted (begun c.1.0)) (entries_sorted (begun (node_map vs cs))) (after_child n a)))
+      (λ q. same_option _ _ (
+      has-begun (node_map vs (c ∷ cs)) q
+      ∙ ap (λ es. has q (fives_of es)) (walk_child n h)
+      ∙ ap (has q) (fives_of-append (under b (entries c.1.0)) (entries (node_map vs cs)))
+      ∙ has-append q (fives_of (under b (entries c.1.0))) (fives_of (entries (node_map vs cs)))
+      ∙ (λ i. (has_under b q (entries c.1.0) five i || sym (has-begun (node_map vs cs) q) i))
+      ∙ ap (λ t. (t && same q b || has q (under b (fives_of (entries c.1.0)))) || has q F) e
+      ∙ ap (λ t. (same q b || t) || has q F) (has_under_by b q (fives_of (entries c.1.0)) E five (λ x. sym (has-begun c.1.0 x)) (same (take 5 q) b) refl)
+      ∙ or_three (same q b) (has q (under b E)) (has q F)
+      ∙ ap (λ t. same q b || t) (sym (has-append q (under b E) F))
+      ∙ sym (some_cond (same q b) tt (find bits_cmp q (under b E ++ F)))
+      ))
+
+  some_length : (es : List (List Bool × X)) → some_entry es ≡ true → 1 ≤ length es
+  some_length [] e = cc
+  some_length (x ∷ es) e = omega arith
+
+  nodes_if_some : (n : ℕ) (m : BitMap X) → 1 ≤ n → nodes_if n m ≡ nodes m
+  nodes_if_some zero m h = absurd (omega arith)
+  nodes_if_some (suc n) m h = refl
+
+  count_child_by : {vs : List (List Bool × X)} {cs : List (List Bool × Seen X)} {c : List Bool × Seen X} → IsNode vs (c ∷ cs) → StartsAfter c.0 vs → (b : Bool) → some_entry (entries c.1.0) ≡ b → len (begun (node_map vs (c ∷ cs))) ≡ nodes_if (len c.1.0) c.1.0 + len (begun (node_map vs cs))
+  count_child_by {vs} {cs} {c} n h true e =
+      let l = ap length (begun_child n (tail_rises c cs n.children_rise).1 h e) in
+      let p = length-append (under c.0 (entries (begun c.1.0))) (entries (begun (node_map vs cs))) in
+      let u = length-under c.0 (entries (begun c.1.0)) in
+      let k = nodes_if_some (len c.1.0) c.1.0 (omega (arith, len-entries c.1.0, some_length (entries c.1.0) e)) in
+      omega (arith, l, p, u, k, len-entries (begun (node_map vs (c ∷ cs))), len-entries (begun c.1.0), len-entries (begun (node_map vs cs)))
+  count_child_by {vs} {cs} {c} n h false e =
+      let z : entries c.1.0 ≡ [] = nothing (entries c.1.0) e in
+      let k : nodes_if (len c.1.0) c.1.0 ≡ 0 = ap (λ l. nodes_if l c.1.0) (len-entries c.1.0 ∙ ap length z) in
+      omega (arith, k, ap len (begun_none n h z))
+
+  count_either : (e : List Bool × X) (vs : List (List Bool × X)) (c : List Bool × Seen X) (cs : List (List Bool × Seen X))
+      → (IsNode vs (c ∷ cs) → len (begun (node_map vs (c ∷ cs))) ≡ nodes_below (things (c ∷ cs))) → (IsNode (e ∷ vs) cs → len (begun (node_map (e ∷ vs) cs)) ≡ nodes_below (things cs))
+      → IsNode (e ∷ vs) (c ∷ cs) → (b : Bool) → first_value (e ∷ vs) (c ∷ cs) ≡ b → len (begun (node_map (e ∷ vs) (c ∷ cs))) ≡ nodes_below (things (c ∷ cs))
+  count_either e vs c cs f g n true b = ap len (begun_value n (starts_after e vs (c ∷ cs) b)) ∙ f (without_value n)
+  count_either e vs c cs f g n false b = omega (arith, count_child_by n (values_after (e ∷ vs) c cs n b) (some_entry (entries c.1.0)) refl, g (without_child n))
+
+  count_by : (k : ℕ) (vs : List (List Bool × X)) (cs : List (List Bool × Seen X)) → length vs + length cs ≤ k → IsNode vs cs → len (begun (node_map vs cs)) ≡ nodes_below (things cs)
+  count_by k [] [] h n = count_none X
+  count_by zero (e ∷ vs) cs h n = absurd (omega arith)
+  count_by zero [] (c ∷ cs) h n = absurd (omega arith)
+  count_by (suc k) [] (c ∷ cs) h n = omega (arith, count_child_by n tt (some_entry (entries c.1.0)) refl, count_by k [] cs (omega arith) (without_child n))
+  count_by (suc k) (e ∷ vs) [] h n = ap len (begun_value n tt) ∙ count_by k vs [] (omega arith) (without_value n)
+  count_by (suc k) (e ∷ vs) (c ∷ cs) h n = count_either e vs c cs (λ m. count_by k vs (c ∷ cs) (omega arith) m) (λ m. count_by k (e ∷ vs) cs (omega arith) m) n (first_value (e ∷ vs) (c ∷ cs)) refl
+
+  -- the nodes that a map needs: one, and those that the children's maps need
+  nodes_of_node : {vs : List (List Bool × X)} {cs : List (List Bool × Seen X)} → IsNode vs cs → nodes (node_map vs cs) ≡ nodes_below (things cs) + 1
+  nodes_of_node {vs} {cs} n = ap (λ k. k + 1) (count_by (length vs + length cs) vs cs (omega arith) n)
+
+  one_child_nodes : (n : ℕ) (m : BitMap X) (k : ℕ) → len m ≡ n → nodes_if n m + (spare_if n + k) ≡ nodes m + k
+  one_child_nodes zero m k e = omega (arith, ap nodes (empty_of_len m e), nodes_empty X)
+  one_child_nodes (suc n) m k e = omega arith
+
+  -- the nodes that the children need and the spare ones are all nodes
+  all_nodes_below : (cs : List (Seen X)) → nodes_below cs + spares_below cs ≡ total all_nodes cs
+  all_nodes_below [] = omega arith
+  all_nodes_below (c ∷ cs) = omega (arith, one_child_nodes (len c.0) c.0 c.1 refl, all_nodes_below cs)
+
+  -- all nodes of a node, by its lists
+  pub all_of_node : {vs : List (List Bool × X)} {cs : List (List Bool × Seen X)} → IsNode vs cs → nodes (node_map vs cs) + spares_below (things cs) ≡ total all_nodes (things cs) + 1
+  all_of_node {vs} {cs} n = omega (arith, all_nodes_below (things cs), nodes_of_node n)
+
+  found_first : (v : List Bool × X) (vs : List (List Bool × X)) → find bits_cmp v.0 (v ∷ vs) ≡ Some v.1
+  found_first v vs = ap (λ b. cond b (Some v.1) (find bits_cmp v.0 vs)) (same-refl v.0)
+
+  -- a node with no key and no spare node has neither values nor children
+  pub bare_lists : (vs : List (List Bool × X)) (cs : List (List Bool × Seen X)) → IsNode vs cs → node_map vs cs ≡ empty → spares_below (things cs) ≡ 0 → (length vs ≡ 0) × (length (things cs) ≡ 0)
+  bare_lists [] [] n e z = (refl, refl)
+  bare_lists (v ∷ vs) cs n e z =
+      let f : get (node_map (v ∷ vs) cs) v.0 ≡ Some v.1 = get-short n v.0 n.values_short.0 ∙ found_first v vs in
+      let z : None ≡ Some v.1 = sym (ap (λ m. get m v.0) e ∙ get_none v.0) ∙ f in
+      cc
+  bare_lists [] (c ∷ cs) n e z =
+      let w = walk_child n tt in
+      let b = under c.0 (entries c.1.0) in
+      let r = entries (node_map [] cs) in
+      let l : 1 ≤ len c.1.0 = spare_pos (len c.1.0) (omega (arith, z)) in
+      absurd (omega (arith, ap length w, length-append b r, length-under c.0 (entries c.1.0), len-entries c.1.0, len-entries (node_map [] (c ∷ cs)), ap len e, len-empty bits_cmp X, l))

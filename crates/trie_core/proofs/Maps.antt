@@ -1,0 +1,284 @@
+-- What a node's map has at a bit string, and how it changes.
+use Rattle.std.proofs.Common.{◌≡◌, ℕ, zero, suc, ◌<◌, ◌≤◌, Bool, true, false, cond, ◌&&◌, List, [], ◌∷◌, ◌++◌, length, take, drop, refl, sym, ap, subst, ◌∙◌, arith}
+use Rattle.std.specs.Prelude.{T, nat_lt, Option, Some, None}
+use Rattle.std.specs.declared.cmp.Ordering.{Ordering}
+use Rattle.std.specs.declared.cmp.Ordering.TheVariants.{Less, Equal, Greater}
+use Rattle.std.specs.Bool.{Decides}
+use Rattle.std.specs.Ordering.{bool_cmp, eq_by_cmp, is_eq, is_lt}
+use Rattle.std.specs.Cmp.{IsTotalOrder, bool_cmp_total}
+use Rattle.std.specs.Cmp.Lexicographic.{lists_total}
+use Rattle.std.specs.FinMap.{IsAntisymmetric, slice_cmp-IsAntisymmetric, entries, find, get, empty, is_sorted, get-entries, get-empty, get-from_entries, get-insert, get-remove, same_map}
+use Rattle.std.specs.FinMap as map
+use Rattle.std.specs.FinMap.Entries.{below_all}
+use Rattle.std.proofs.lemmas.Bool.Decides.{nat_tests}
+use Rattle.std.proofs.lemmas.List.{take-append-drop}
+use Rattle.std.proofs.Math.ListN.{length-take, length-append}
+use Rattle.trie_core.specs.Bits.{bits_cmp}
+use Rattle.trie_core.specs.Nodes.{BitMap, Seen, AreShort, AreLong, under, child_entries, child_map, node_map, IsNode}
+
+-- ---- equal bit strings
+
+bool_same : IsAntisymmetric bool_cmp
+bool_same true true e = refl
+bool_same false false e = refl
+bool_same true false e = cc
+bool_same false true e = cc
+
+pub bits_total : IsTotalOrder bits_cmp
+bits_total = lists_total bool_cmp_total
+
+pub bits_same : IsAntisymmetric bits_cmp
+bits_same = slice_cmp-IsAntisymmetric bool_same
+
+abbrev pub same : List Bool → List Bool → Bool
+same xs ys = eq_by_cmp bits_cmp xs ys
+
+tied : (r : Ordering) → is_eq r ≡ true → r ≡ Equal
+tied Less e = cc
+tied Equal e = refl
+tied Greater e = cc
+
+pub same-refl : (xs : List Bool) → same xs xs ≡ true
+same-refl [] = refl
+same-refl (true ∷ xs) = same-refl xs
+same-refl (false ∷ xs) = same-refl xs
+
+pub same-Decides : (xs ys : List Bool) → Decides (same xs ys) (xs ≡ ys)
+same-Decides xs ys = (λ e. bits_same xs ys (tied (bits_cmp xs ys) e), λ e. subst (λ zs. same xs zs ≡ true) e (same-refl xs))
+
+not_true : (b : Bool) → (b ≡ true → ⊥) → b ≡ false
+not_true true f = absurd (f refl)
+not_true false f = refl
+
+pub same_false : (xs ys : List Bool) → (xs ≡ ys → ⊥) → same xs ys ≡ false
+same_false xs ys f = not_true _ (λ e. f ((same-Decides xs ys).0 e))
+
+pub no_false : {b : Bool} → b ≡ false → b ≡ true → ⊥
+no_false e f = cc
+
+pub not_same : {xs ys : List Bool} → same xs ys ≡ false → xs ≡ ys → ⊥
+not_same {xs} {ys} e f = no_false e ((same-Decides xs ys).1 f)
+
+same-under : (bs xs ys : List Bool) → same (bs ++ xs) (bs ++ ys) ≡ same xs ys
+same-under [] xs ys = refl
+same-under (true ∷ bs) xs ys = same-under bs xs ys
+same-under (false ∷ bs) xs ys = same-under bs xs ys
+
+pub other_length : (x q : List Bool) → (length x ≡ length q → ⊥) → same x q ≡ false
+other_length x q f = same_false x q (λ e. f (ap length e))
+
+pub both : (a b : Bool) → T (a && b) → T a × T b
+both true b h = (tt, h)
+both false b h = absurd h
+
+pub append_none : {Y : Type 0} (xs : List Y) → xs ++ [] ≡ xs
+append_none [] = refl
+append_none (x ∷ xs) = ap (λ ys. x ∷ ys) (append_none xs)
+
+pub front : (q : List Bool) → 5 ≤ length q → (length (take 5 q) ≡ 5) × (take 5 q ++ drop 5 q ≡ q)
+front q h = (omega (arith, length-take 5 q), take-append-drop 5 q)
+
+pub take_front : (bs k : List Bool) (n : ℕ) → length bs ≡ n → take n (bs ++ k) ≡ bs
+take_front [] k zero e = refl
+take_front [] k (suc n) e = absurd (omega arith)
+take_front (b ∷ bs) k zero e = absurd (omega arith)
+take_front (b ∷ bs) k (suc n) e = ap (λ xs. b ∷ xs) (take_front bs k n (omega arith))
+
+pub take_first : (b k : List Bool) → length b ≡ 5 → take 5 (b ++ k) ≡ b
+take_first b k h = take_front b k 5 h
+
+-- ---- lists of entries
+
+differs : (q b : List Bool) → length b ≡ 5 → (take 5 q ≡ b → ⊥) → (k : List Bool) → q ≡ b ++ k → ⊥
+differs q b l n k e = n (ap (take 5) e ∙ take_first b k l)
+
+pub tail_rises : {Y : Type 0} (e : List Bool × Y) (es : List (List Bool × Y)) → T (is_sorted bits_cmp (e ∷ es)) → T (is_sorted bits_cmp es) × T (below_all bits_cmp e.0 es)
+tail_rises e es h = let p = both _ _ h in (p.1, p.0)
+
+pub less-T : (o : Ordering) → T (is_lt o) → o ≡ Less
+less-T Less p = refl
+less-T Equal p = absurd p
+less-T Greater p = absurd p
+
+-- a string before all others is not among them
+pub find_before : {Y : Type 0} (q : List Bool) (es : List (List Bool × Y)) → T (below_all bits_cmp q es) → find bits_cmp q es ≡ None
+find_before q [] h = refl
+find_before q (e ∷ es) h = let p = both _ _ h in ap (λ o. cond (is_eq o) (Some e.1) (find bits_cmp q es)) (less-T _ p.0) ∙ find_before q es p.1
+
+module _ {X : Type 0} where
+  abbrev pub or_else : Option X → Option X → Option X
+  or_else None p = p
+  or_else (Some x) p = Some x
+
+  find-cases : (b : Bool) (x : X) (o p : Option X) → cond b (Some x) (or_else o p) ≡ or_else (cond b (Some x) o) p
+  find-cases true x o p = refl
+  find-cases false x o p = refl
+
+  pub find-append_all : (q : List Bool) (es fs : List (List Bool × X)) → find bits_cmp q (es ++ fs) ≡ or_else (find bits_cmp q es) (find bits_cmp q fs)
+  find-append_all q [] fs = refl
+  find-append_all q (e ∷ es) fs = ap (cond (same q e.0) (Some e.1)) (find-append_all q es fs) ∙ find-cases (same q e.0) e.1 (find bits_cmp q es) (find bits_cmp q fs)
+
+  pub find-under : (bs q : List Bool) (es : List (List Bool × X)) → find bits_cmp (bs ++ q) (under bs es) ≡ find bits_cmp q es
+  find-under bs q [] = refl
+  find-under bs q (e ∷ es) = λ i. cond (same-under bs q e.0 i) (Some e.1) (find-under bs q es i)
+
+  pub find-apart : (bs q : List Bool) → ((k : List Bool) → q ≡ bs ++ k → ⊥) → (es : List (List Bool × X)) → find bits_cmp q (under bs es) ≡ None
+  find-apart bs q f [] = refl
+  find-apart bs q f (e ∷ es) = ap (λ b. cond b (Some e.1) (find bits_cmp q (under bs es))) (same_false q (bs ++ e.0) (f e.0)) ∙ find-apart bs q f es
+
+  find-long : (q : List Bool) (vs : List (List Bool × X)) → 5 ≤ length q → AreShort vs → find bits_cmp q vs ≡ None
+  find-long q [] h a = refl
+  find-long q (e ∷ vs) h a =
+      ap (λ b. cond b (Some e.1) (find bits_cmp q vs)) (other_length q e.0 (λ s. omega (arith, s, a.0, h))) ∙ find-long q vs h a.1
+
+  find-children_none : (q : List Bool) (cs : List (List Bool × Seen X)) → length q < 5 → AreLong cs → find bits_cmp q (child_entries cs) ≡ None
+  find-children_none q [] h a = refl
+  find-children_none q (c ∷ cs) h a =
+      find-append_all q (under c.0 (entries c.1.0)) (child_entries cs)
+      ∙ ap (λ o. or_else o (find bits_cmp q (child_entries cs))) (find-apart c.0 q (λ k e. omega (arith, ap length e, length-append c.0 k, a.0, h)) (entries c.1.0))
+      ∙ find-children_none q cs h a.1
+
+  -- what the child that may be there has at r
+  abbrev pub child_get : Option (Seen X) → List Bool → Option X
+  child_get o r = get (child_map o) r
+
+  pub get_none : (r : List Bool) → get (child_map {X = X} None) r ≡ None
+  get_none r = get-empty bits_cmp r
+
+  else_none : (o p : Option X) → p ≡ None → or_else o p ≡ o
+  else_none None p e = e
+  else_none (Some x) p e = refl
+
+  pub find-child : (q : List Bool) (c : List Bool × Seen X) (cs : List (List Bool × Seen X)) → 5 ≤ length q → length c.0 ≡ 5 → T (below_all bits_cmp c.0 cs) → (b : Bool) → same (take 5 q) c.0 ≡ b
+      → or_else (find bits_cmp q (under c.0 (entries c.1.0))) (child_get (find bits_cmp (take 5 q) cs) (drop 5 q)) ≡ child_get (cond b (Some c.1) (find bits_cmp (take 5 q) cs)) (drop 5 q)
+  find-child q c cs h l s true e =
+      let m = (same-Decides _ _).0 e in
+      let w : q ≡ c.0 ++ drop 5 q = sym (front q h).1 ∙ ap (λ bs. bs ++ drop 5 q) m in
+      let z : find bits_cmp (take 5 q) cs ≡ None = ap (λ x. find bits_cmp x cs) m ∙ find_before c.0 cs s in
+      else_none _ _ (ap (λ o. child_get o (drop 5 q)) z ∙ get_none (drop 5 q))
+      ∙ ap (λ x. find bits_cmp x (under c.0 (entries c.1.0))) w
+      ∙ find-under c.0 (drop 5 q) (entries c.1.0)
+      ∙ sym (get-entries c.1.0 (drop 5 q))
+  find-child q c cs h l s false e =
+      ap (λ o. or_else o (child_get (find bits_cmp (take 5 q) cs) (drop 5 q))) (find-apart c.0 q (differs q c.0 l (not_same e)) (entries c.1.0))
+
+  find-children : (q : List Bool) (cs : List (List Bool × Seen X)) → 5 ≤ length q → AreLong cs → T (is_sorted bits_cmp cs) → find bits_cmp q (child_entries cs) ≡ child_get (find bits_cmp (take 5 q) cs) (drop 5 q)
+  find-children q [] h a s = sym (get_none (drop 5 q))
+  find-children q (c ∷ cs) h a s =
+      find-append_all q (under c.0 (entries c.1.0)) (child_entries cs)
+      ∙ ap (or_else (find bits_cmp q (under c.0 (entries c.1.0)))) (find-children q cs h a.1 (tail_rises c cs s).0)
+      ∙ find-child q c cs h a.0 (tail_rises c cs s).1 (same (take 5 q) c.0) refl
+
+  -- ---- what a node has
+
+  pub get-short : {vs : List (List Bool × X)} {cs : List (List Bool × Seen X)} → IsNode vs cs → (q : List Bool) → length q < 5 → get (node_map vs cs) q ≡ find bits_cmp q vs
+  unfolding node_map
+  get-short {vs} {cs} n q h =
+      get-from_entries bits_total (vs ++ child_entries cs) q
+      ∙ find-append_all q vs (child_entries cs)
+      ∙ else_none _ _ (find-children_none q cs h n.children_long)
+
+  pub get-long : {vs : List (List Bool × X)} {cs : List (List Bool × Seen X)} → IsNode vs cs → (q : List Bool) → 5 ≤ length q → get (node_map vs cs) q ≡ child_get (find bits_cmp (take 5 q) cs) (drop 5 q)
+  unfolding node_map
+  get-long {vs} {cs} n q h =
+      get-from_entries bits_total (vs ++ child_entries cs) q
+      ∙ find-append_all q vs (child_entries cs)
+      ∙ ap (λ o. or_else o (find bits_cmp q (child_entries cs))) (find-long q vs h n.values_short)
+      ∙ find-children q cs h n.children_long n.children_rise
+
+  pub node_map-none : node_map {X = X} [] [] ≡ empty
+  unfolding node_map
+  node_map-none = refl
+
+  pub IsNode-none : IsNode {X = X} [] []
+  IsNode-none = record { values_rise = tt; values_short = tt; children_rise = tt; children_long = tt }
+
+-- ---- changes
+
+-- fs is es with o at q
+abbrev pub ListChanges : {Y : Type 0} → List (List Bool × Y) → List Bool → Option Y → List (List Bool × Y) → Type 0
+ListChanges es q o fs = (p : List Bool) → find bits_cmp p fs ≡ cond (same p q) o (find bits_cmp p es)
+
+same_in_child : (x q : List Bool) → 5 ≤ length x → 5 ≤ length q → take 5 x ≡ take 5 q → same x q ≡ same (drop 5 x) (drop 5 q)
+same_in_child x q h l e =
+    (λ i. same (sym (front x h).1 i) (sym (front q l).1 i)) ∙ ap (λ b. same (b ++ drop 5 x) (take 5 q ++ drop 5 q)) e ∙ same-under (take 5 q) (drop 5 x) (drop 5 q)
+
+module _ {X : Type 0} where
+  -- n is m with w at q
+  abbrev pub Changes : BitMap X → List Bool → Option X → BitMap X → Type 0
+  Changes m q w n = (x : List Bool) → get n x ≡ cond (same x q) w (get m x)
+
+  changed_short_by : {vs us : List (List Bool × X)} {cs : List (List Bool × Seen X)} (q : List Bool) (w : Option X) → IsNode vs cs → IsNode us cs → length q < 5
+      → ListChanges vs q w us → (x : List Bool) (b : Bool) → nat_lt (length x) 5 ≡ b → get (node_map us cs) x ≡ cond (same x q) w (get (node_map vs cs) x)
+  changed_short_by q w n k h f x true e =
+      let l : length x < 5 = grind (arith, nat_tests) in
+      get-short k x l ∙ f x ∙ ap (λ o. cond (same x q) w o) (sym (get-short n x l))
+  changed_short_by {vs} {us} {cs} q w n k h f x false e =
+      let l : 5 ≤ length x = grind (arith, nat_tests) in
+      get-long k x l ∙ sym (get-long n x l) ∙ ap (λ b. cond b w (get (node_map vs cs) x)) (sym (other_length x q (λ s. omega arith)))
+
+  changed_short : {vs us : List (List Bool × X)} {cs : List (List Bool × Seen X)} (q : List Bool) (w : Option X) → IsNode vs cs → IsNode us cs → length q < 5
+      → ListChanges vs q w us → Changes (node_map vs cs) q w (node_map us cs)
+  changed_short q w n k h f x = changed_short_by q w n k h f x (nat_lt (length x) 5) refl
+
+  -- with o in place of the child on the way to q
+  changed_child : (cs : List (List Bool × Seen X)) (q : List Bool) (w : Option X) (o : Option (Seen X)) → 5 ≤ length q
+      → ((r : List Bool) → child_get o r ≡ cond (same r (drop 5 q)) w (child_get (find bits_cmp (take 5 q) cs) r)) → (x : List Bool) → 5 ≤ length x → (b : Bool) → same (take 5 x) (take 5 q) ≡ b
+      → child_get (cond b o (find bits_cmp (take 5 x) cs)) (drop 5 x) ≡ cond (same x q) w (child_get (find bits_cmp (take 5 x) cs) (drop 5 x))
+  changed_child cs q w o h f x l true e =
+      let n = (same-Decides _ _).0 e in
+      f (drop 5 x) ∙ (λ i. cond (sym (same_in_child x q l h n) i) w (child_get (find bits_cmp (sym n i) cs) (drop 5 x)))
+  changed_child cs q w o h f x l false e =
+      ap (λ b. cond b w (child_get (find bits_cmp (take 5 x) cs) (drop 5 x))) (sym (same_false x q (λ s. not_same e (ap (take 5) s))))
+
+  changed_long_by : {vs : List (List Bool × X)} {cs ds : List (List Bool × Seen X)} (q : List Bool) (w : Option X) (o : Option (Seen X)) → IsNode vs cs → IsNode vs ds → 5 ≤ length q
+      → ListChanges cs (take 5 q) o ds
+      → ((r : List Bool) → child_get o r ≡ cond (same r (drop 5 q)) w (child_get (find bits_cmp (take 5 q) cs) r)) → (x : List Bool) (b : Bool) → nat_lt (length x) 5 ≡ b → get (node_map vs ds) x ≡ cond (same x q) w (get (node_map vs cs) x)
+  changed_long_by {vs} {cs} {ds} q w o n k h f g x true e =
+      let l : length x < 5 = grind (arith, nat_tests) in
+      get-short k x l ∙ sym (get-short n x l) ∙ ap (λ b. cond b w (get (node_map vs cs) x)) (sym (other_length x q (λ s. omega arith)))
+  changed_long_by {vs} {cs} {ds} q w o n k h f g x false e =
+      let l : 5 ≤ length x = grind (arith, nat_tests) in
+      get-long k x l ∙ ap (λ o. child_get o (drop 5 x)) (f (take 5 x)) ∙ changed_child cs q w o h g x l _ refl ∙ ap (λ o. cond (same x q) w o) (sym (get-long n x l))
+
+  changed_long : {vs : List (List Bool × X)} {cs ds : List (List Bool × Seen X)} (q : List Bool) (w : Option X) (o : Option (Seen X)) → IsNode vs cs → IsNode vs ds → 5 ≤ length q
+      → ListChanges cs (take 5 q) o ds
+      → ((r : List Bool) → child_get o r ≡ cond (same r (drop 5 q)) w (child_get (find bits_cmp (take 5 q) cs) r)) → Changes (node_map vs cs) q w (node_map vs ds)
+  changed_long q w o n k h f g x = changed_long_by q w o n k h f g x (nat_lt (length x) 5) refl
+
+  pub insert_changes : (m : BitMap X) (q : List Bool) (v : X) → Changes m q (Some v) (map.insert m q v)
+  insert_changes m q v x = get-insert bits_total m q v x
+
+  pub remove_changes : (m : BitMap X) (q : List Bool) → Changes m q None (map.remove m q)
+  remove_changes m q x = get-remove bits_total m q x
+
+  changes_same : (m : BitMap X) (q : List Bool) (w : Option X) {n k : BitMap X} → Changes m q w n → Changes m q w k → n ≡ k
+  changes_same m q w f g = same_map bits_total bits_same _ _ (λ x. f x ∙ sym (g x))
+
+  -- ---- what each change of a list makes of the map
+
+  pub value_put : {vs us : List (List Bool × X)} {cs : List (List Bool × Seen X)} (q : List Bool) (v : X) → IsNode vs cs → IsNode us cs → length q < 5 → ListChanges vs q (Some v) us → node_map us cs ≡ map.insert (node_map vs cs) q v
+  value_put q v n k h f = changes_same _ _ _ (changed_short q (Some v) n k h f) (insert_changes _ q v)
+
+  pub value_taken : {vs us : List (List Bool × X)} {cs : List (List Bool × Seen X)} (q : List Bool) → IsNode vs cs → IsNode us cs → length q < 5 → ListChanges vs q None us → node_map us cs ≡ map.remove (node_map vs cs) q
+  value_taken q n k h f = changes_same _ _ _ (changed_short q None n k h f) (remove_changes _ q)
+
+  -- the child on the way gets a key
+  pub child_put : {vs : List (List Bool × X)} {cs ds : List (List Bool × Seen X)} (q : List Bool) (v : X) (d : Seen X) → IsNode vs cs → IsNode vs ds → 5 ≤ length q → ListChanges cs (take 5 q) (Some d) ds
+      → d.0 ≡ map.insert (child_map (find bits_cmp (take 5 q) cs)) (drop 5 q) v → node_map vs ds ≡ map.insert (node_map vs cs) q v
+  child_put q v d n k h f e =
+      changes_same _ _ _ (changed_long q (Some v) (Some d) n k h f (λ r. ap (λ m. get m r) e ∙ insert_changes _ (drop 5 q) v r)) (insert_changes _ q v)
+
+  -- a key of the child on the way goes
+  pub child_taken : {vs : List (List Bool × X)} {cs ds : List (List Bool × Seen X)} (q : List Bool) (o : Option (Seen X)) → IsNode vs cs → IsNode vs ds → 5 ≤ length q → ListChanges cs (take 5 q) o ds
+      → child_map o ≡ map.remove (child_map (find bits_cmp (take 5 q) cs)) (drop 5 q) → node_map vs ds ≡ map.remove (node_map vs cs) q
+  child_taken q o n k h f e =
+      changes_same _ _ _ (changed_long q None o n k h f (λ r. ap (λ m. get m r) e ∙ remove_changes _ (drop 5 q) r)) (remove_changes _ q)
+
+  absent_by : (m : BitMap X) (q : List Bool) → get m q ≡ None → (x : List Bool) (b : Bool) → same x q ≡ b → cond b None (get m x) ≡ get m x
+  absent_by m q e x true s = sym (ap (get m) ((same-Decides x q).0 s) ∙ e)
+  absent_by m q e x false s = refl
+
+  -- a key that is not there
+  pub remove_absent : (m : BitMap X) (q : List Bool) → get m q ≡ None → map.remove m q ≡ m
+  remove_absent m q e = same_map bits_total bits_same _ _ (λ x. remove_changes m q x ∙ absent_by m q e x (same x q) refl)

@@ -1,0 +1,311 @@
+-- Searches along a string: by masks within a node, and from node to node.
+use Rattle.std.proofs.Common.{◌≡◌, ℕ, zero, suc, ◌+◌, ◌-◌, ◌*◌, ◌/◌, ◌%◌, ◌^◌, ◌<◌, ◌≤◌, Bool, true, false, cond, not, ◌&&◌, List, [], ◌∷◌, ◌++◌, length, take, drop, get_or, refl, sym, ap, subst, ◌∙◌, arith}
+use Rattle.std.specs.Prelude.{Option, Some, None, MatchOption, bit_and, min, nat_lt, count_ones}
+use Rattle.std.specs.Int.{bit_at, w32, leading_zeros}
+use Rattle.std.specs.Ordering.{nat_cmp}
+use Rattle.std.specs.FinMap.{find, get}
+use Rattle.std.proofs.lemmas.Bool.Decides.{nat_tests}
+use Rattle.std.proofs.lemmas.List.{take-append-drop}
+use Rattle.std.proofs.lemmas.Nat.{leading_top}
+use Rattle.std.proofs.lemmas.Nat.Bits.{bit_at_and, bit_at-lt, bit_at_above, bit_at-zero}
+use Rattle.std.proofs.Math.Nat.{div-eq_of_lt-le}
+use Rattle.std.proofs.Math.ListN.{length-take, length-drop}
+use Rattle.trie_core.specs.Bits.{begins, place_from, place_of, place_string}
+use Rattle.trie_core.specs.Places.{at_places, IsBeginMask, IsLastPlace, IsFirstPlace}
+use Rattle.trie_core.specs.Nodes.{BitMap, Seen}
+use Rattle.trie_core.specs.Count.{visit_count}
+use Rattle.trie_core.specs.Search.{NoBeginning, IsLongest, IsShortest, NoneBelow, IsLongestBelow, IsChild, HasNoChild}
+use Rattle.trie_core.proofs.Numbers.{place_strings}
+use Rattle.trie_core.proofs.Taken.{taken, missing}
+use Rattle.trie_core.proofs.Seen.{IsSeen, value_at}
+
+-- ---- the ends of a word
+
+pub last_place : (a : ℕ) → 0 < a → a < 2 ^ 32 → IsLastPlace a (31 - leading_zeros w32 a)
+last_place a h b =
+    let t = leading_top 32 a h b in
+    let e : 31 - leading_zeros w32 a ≡ t.0 = omega (arith, t.1) in
+    subst (IsLastPlace a) (sym e) (record {
+      within = omega (arith, t.1);
+      taken = top_bit a t.0 t.2 t.3;
+      above = λ i l. bit_at_above a (suc t.0) i t.3 (omega (arith, l));
+    })
+  where
+    top_bit : (a j : ℕ) → 2 ^ j ≤ a → a < 2 ^ suc j → bit_at a j ≡ 1
+    top_bit a j l m =
+        let d : 2 ^ suc j ≡ 2 * 2 ^ j = omega arith in
+        let o : a / 2 ^ j ≡ 1 = div-eq_of_lt-le (2 ^ j) (omega (arith, l)) (omega (arith, d, m)) in
+        ap (λ n. n % 2) o
+
+-- ---- beginnings
+
+same_bit : (x y : Bool) → cond x y (not y) ≡ true → x ≡ y
+same_bit true true e = refl
+same_bit true false e = cc
+same_bit false true e = cc
+same_bit false false e = refl
+
+both_true : (a b : Bool) → (a && b) ≡ true → (a ≡ true) × (b ≡ true)
+both_true true b e = (refl, e)
+both_true false b e = cc
+
+pub begins_take : (p q : List Bool) → begins p q ≡ true → (length p ≤ length q) × (take (length p) q ≡ p)
+begins_take [] q e = (omega arith, refl)
+begins_take (x ∷ p) [] e = cc
+begins_take (x ∷ p) (y ∷ q) e =
+    let t = both_true (cond x y (not y)) (begins p q) e in
+    let r = begins_take p q t.1 in
+    (omega (arith, r.0), λ i. sym (same_bit x y t.0) i ∷ r.1 i)
+
+begins_refl_bit : (x : Bool) → cond x x (not x) ≡ true
+begins_refl_bit true = refl
+begins_refl_bit false = refl
+
+pub take_begins : (k : ℕ) (q : List Bool) → begins (take k q) q ≡ true
+take_begins zero q = refl
+take_begins (suc k) [] = refl
+take_begins (suc k) (x ∷ q) = ap (λ b. b && begins (take k q) q) (begins_refl_bit x) ∙ take_begins k q
+
+-- a longer beginning has a higher place
+place_rises : (k : ℕ) (j n : ℕ) (q : List Bool) → n < j → j ≤ length q → j < k → place_from k (take n q) < place_from k (take j q)
+place_rises zero j n q h l m = absurd (omega (arith, m))
+place_rises (suc k) zero n q h l m = absurd (omega (arith, h))
+place_rises (suc k) (suc j) n [] h l m = absurd (omega (arith, l))
+place_rises (suc k) (suc j) zero (b ∷ q) h l m = omega arith
+place_rises (suc k) (suc j) (suc n) (b ∷ q) h l m = omega (arith, place_rises k j n q (omega (arith, h)) (omega (arith, l)) (omega (arith, m)))
+
+min_one : (a b : ℕ) → min a b ≡ 1 → a < 2 → b < 2 → (a ≡ 1) × (b ≡ 1)
+min_one a b e l m = (omega (arith, e, l, m), omega (arith, e, l, m))
+
+min_with_one : (a b : ℕ) → a < 2 → b ≡ 1 → min a b ≡ a
+min_with_one a b l e = omega (arith, e, l)
+
+below_31 : (vb n : ℕ) → vb < 2 ^ 31 → bit_at vb n ≡ 1 → (b : Bool) → nat_lt n 31 ≡ b → n < 31
+below_31 vb n h e true l = grind (arith, nat_tests)
+below_31 vb n h e false l = let k : 31 ≤ n = grind (arith, nat_tests) in let z = bit_at_above vb 31 n h k in absurd (omega (arith, z, e))
+
+abbrev bit_if : Bool → ℕ
+bit_if b = cond b 1 0
+
+one_if : (b : Bool) → bit_if b ≡ 1 → b ≡ true
+one_if true e = refl
+one_if false e = absurd (omega (arith, e))
+
+-- ---- within a node
+
+-- the word and the mask of the beginnings of q have the same bit where one of them stands
+met_beginning : (vb mask : ℕ) (q : List Bool) → IsBeginMask q mask → (k : ℕ) → k < 5 → k ≤ length q → bit_at (bit_and vb mask) (place_of (take k q)) ≡ bit_at vb (place_of (take k q))
+met_beginning vb mask q f k h l =
+    let n = place_of (take k q) in
+    bit_at_and vb mask n ∙ min_with_one (bit_at vb n) (bit_at mask n) (bit_at-lt vb n) (f (take k q) (omega (arith, length-take k q, h)) ∙ ap (λ b. cond b 1 0) (take_begins k q))
+
+-- where both have a bit a beginning stands
+record IsMet (vb n : ℕ) (q : List Bool) : Type 0 where
+  below : n < 31
+  stored : bit_at vb n ≡ 1
+  within : length (place_string n) ≤ length q
+  begins : take (length (place_string n)) q ≡ place_string n
+  short : length (place_string n) < 5
+  place : place_of (place_string n) ≡ n
+
+met_place : (vb mask : ℕ) (q : List Bool) → vb < 2 ^ 31 → IsBeginMask q mask → (n : ℕ) → bit_at (bit_and vb mask) n ≡ 1 → IsMet vb n q
+met_place vb mask q h f n e =
+    let t = min_one (bit_at vb n) (bit_at mask n) (sym (bit_at_and vb mask n) ∙ e) (bit_at-lt vb n) (bit_at-lt mask n) in
+    let l = below_31 vb n h t.0 (nat_lt n 31) refl in
+    let p = place_strings n l in
+    let b = begins_take (place_string n) q (one_if _ (sym (f (place_string n) p.short) ∙ ap (bit_at mask) p.place ∙ t.1)) in
+    record { below = l; stored = t.0; within = b.0; begins = b.1; short = p.short; place = p.place }
+
+module _ {X : Type 0} where
+  unset_none : {vb : ℕ} {vs : List X} {cb : ℕ} {cs : List (Seen X)} {m : Seen X} (q : List Bool) (k : ℕ) → IsSeen vb vs cb cs m → k < 5 → bit_at vb (place_of (take k q)) ≡ 0 → get m.0 (take k q) ≡ None
+  unset_none {vb} {vs} q k s h z = sym (value_at (take k q) s (omega (arith, length-take k q, h))) ∙ sym (missing (place_of (take k q)) vb vs z)
+
+  -- no beginning of fewer than five bits is a key
+  pub none_here : {vb : ℕ} {vs : List X} {cb : ℕ} {cs : List (Seen X)} {m : Seen X} (q : List Bool) (mask : ℕ) → IsSeen vb vs cb cs m → IsBeginMask q mask → bit_and vb mask ≡ 0 → NoneBelow m.0 q 5
+  none_here {vb} q mask s f z k h l = unset_none q k s h (sym (met_beginning vb mask q f k h l) ∙ ap (λ n. bit_at n (place_of (take k q))) z ∙ bit_at-zero (place_of (take k q)))
+
+  found_here : {vb : ℕ} {vs : List X} {cb : ℕ} {cs : List (Seen X)} {m : Seen X} (q : List Bool) (n at : ℕ) (v : X) → IsSeen vb vs cb cs m → IsMet vb n q → at ≡ count_ones (vb % 2 ^ n) → v ≡ get_or vs at v → get m.0 (take (length (place_string n)) q) ≡ Some v
+  found_here {vb} {vs} {m = m} q n at v s e a r =
+      let t = taken n at vb vs (omega (arith, e.below)) (e.stored, a) s.slots.values_counted in
+      ap (get m.0) e.begins
+      ∙ sym (value_at (place_string n) s e.short)
+      ∙ ap (λ i. find nat_cmp i (at_places 32 0 vb vs)) e.place
+      ∙ t.read v ∙ ap Some (sym r)
+
+  pub index_here : {vb : ℕ} {vs : List X} {cb : ℕ} {cs : List (Seen X)} {m : Seen X} (q : List Bool) (mask n at : ℕ) → IsSeen vb vs cb cs m → IsBeginMask q mask → bit_at (bit_and vb mask) n ≡ 1 → at ≡ count_ones (vb % 2 ^ n) → (at < length vs) × (n < 31)
+  index_here {vb} {vs} q mask n at s f e a =
+      let t = met_place vb mask q s.slots.values_below f n e in
+      ((taken n at vb vs (omega (arith, t.below)) (t.stored, a) s.slots.values_counted).within, t.below)
+
+  pub longest_here : {vb : ℕ} {vs : List X} {cb : ℕ} {cs : List (Seen X)} {m : Seen X} (q : List Bool) (mask n at len : ℕ) (v : X) → IsSeen vb vs cb cs m → IsBeginMask q mask → IsLastPlace (bit_and vb mask) n → at ≡ count_ones (vb % 2 ^ n) → len ≡ length (place_string n) → v ≡ get_or vs at v
+      → IsLongestBelow m.0 q 5 len v
+  longest_here {vb} {vs} {m = m} q mask n at len v s f e a l r =
+      let t = met_place vb mask q s.slots.values_below f n e.taken in
+      record {
+        below = omega (arith, l, t.short);
+        within = omega (arith, l, t.within);
+        found = ap (λ i. get m.0 (take i q)) l ∙ found_here q n at v s t a r;
+        longest = λ k h j i.
+            let p : n < place_of (take k q) = omega (arith, sym t.place, ap place_of t.begins, place_rises 5 k (length (place_string n)) q (omega (arith, l, h)) i j) in
+            unset_none q k s j (sym (met_beginning vb mask q f k j i) ∙ e.above (place_of (take k q)) p);
+      }
+
+  pub shortest_here : {vb : ℕ} {vs : List X} {cb : ℕ} {cs : List (Seen X)} {m : Seen X} (q : List Bool) (mask n at len : ℕ) (v : X) → IsSeen vb vs cb cs m → IsBeginMask q mask → IsFirstPlace (bit_and vb mask) n → at ≡ count_ones (vb % 2 ^ n) → len ≡ length (place_string n) → v ≡ get_or vs at v
+      → (len < 5) × IsShortest m.0 q len v
+  shortest_here {vb} {vs} {m = m} q mask n at len v s f e a l r =
+      let t = met_place vb mask q s.slots.values_below f n e.taken in (
+        omega (arith, l, t.short),
+        record {
+          within = omega (arith, l, t.within);
+          found = ap (λ i. get m.0 (take i q)) l ∙ found_here q n at v s t a r;
+          shortest = λ k h.
+              let j : k < 5 = omega (arith, l, t.short, h) in
+              let i : k ≤ length q = omega (arith, l, t.within, h) in
+              let p : place_of (take k q) < n = omega (arith, sym t.place, ap place_of t.begins, place_rises 5 (length (place_string n)) k q (omega (arith, l, h)) t.within t.short) in
+              unset_none q k s j (sym (met_beginning vb mask q f k j i) ∙ e.under (place_of (take k q)) p);
+        },
+      )
+
+-- ---- from node to node
+
+take_split : (j k : ℕ) (q : List Bool) → take (j + k) q ≡ take j q ++ take k (drop j q)
+take_split zero k q = let e : 0 + k ≡ k = omega arith in ap (λ i. take i q) e
+take_split (suc j) zero [] = let e : suc j + 0 ≡ suc (j + 0) = omega arith in rw e refl
+take_split (suc j) (suc k) [] = let e : suc j + suc k ≡ suc (j + suc k) = omega arith in rw e refl
+take_split (suc j) k (x ∷ q) = let e : suc j + k ≡ suc (j + k) = omega arith in rw e (ap (λ p. x ∷ p) (take_split j k q))
+
+append_twice : (xs ys zs : List Bool) → (xs ++ ys) ++ zs ≡ xs ++ (ys ++ zs)
+append_twice [] ys zs = refl
+append_twice (x ∷ xs) ys zs = ap (λ ws. x ∷ ws) (append_twice xs ys zs)
+
+drop_drop : (j k : ℕ) (q : List Bool) → drop k (drop j q) ≡ drop (j + k) q
+drop_drop zero k q = let e : 0 + k ≡ k = omega arith in rw e refl
+drop_drop (suc j) zero [] = let e : suc j + 0 ≡ suc (j + 0) = omega arith in rw e refl
+drop_drop (suc j) (suc k) [] = let e : suc j + suc k ≡ suc (j + suc k) = omega arith in rw e refl
+drop_drop (suc j) k (x ∷ q) = let e : suc j + k ≡ suc (j + k) = omega arith in rw e (drop_drop j k q)
+
+module _ {X : Type 0} where
+  -- n is the node at depth d on the way to q in m, and p what is left of the way
+  pub record IsAt (m : Seen X) (q : List Bool) (d : ℕ) (n : Seen X) (p : List Bool) : Type 0 where
+    pub within : d ≤ length q
+    pub rest : p ≡ drop d q
+    pub gets : (r : List Bool) → get n.0 r ≡ get m.0 (take d q ++ r)
+
+  pub at_start : (m : Seen X) (q : List Bool) → IsAt m q 0 m q
+  at_start m q = record { within = omega arith; rest = refl; gets = λ r. refl }
+
+  pub at_child : {m n c : Seen X} {q p r : List Bool} (d : ℕ) → IsAt m q d n p → 5 ≤ length p → IsChild p n c → r ≡ drop 5 p → IsAt m q (d + 5) c r
+  at_child {m} {n} {c} {q} {p} {r} d a h e f = record {
+    within = omega (arith, ap length a.rest, length-drop d q, h);
+    rest = f ∙ ap (drop 5) a.rest ∙ drop_drop d 5 q;
+    gets = λ k.
+        sym (e.gets k) ∙ a.gets (take 5 p ++ k)
+        ∙ ap (λ w. get m.0 (take d q ++ (take 5 w ++ k))) a.rest
+        ∙ ap (get m.0) (sym (append_twice (take d q) (take 5 (drop d q)) k) ∙ ap (λ w. w ++ k) (sym (take_split d 5 q)));
+  }
+
+  -- the beginnings of q from depth d on are those of p
+  later : {m n : Seen X} {q p : List Bool} (d k : ℕ) → IsAt m q d n p → get m.0 (take (d + k) q) ≡ get n.0 (take k p)
+  later {m} {n} {q} {p} d k a = ap (get m.0) (take_split d k q ∙ ap (λ w. take d q ++ take k w) (sym a.rest)) ∙ sym (a.gets (take k p))
+
+  pub way_left : {m n : Seen X} {q p : List Bool} (d : ℕ) → IsAt m q d n p → length q ≡ d + length p
+  way_left {q = q} d a = omega (arith, ap length a.rest, length-drop d q, a.within)
+
+  none_by : {m n : Seen X} {q p : List Bool} (d high k : ℕ) → IsAt m q d n p → NoneBelow m.0 q d → NoneBelow n.0 p high → k < d + high → k ≤ length q → (b : Bool) → nat_lt k d ≡ b → get m.0 (take k q) ≡ None
+  none_by d high k a f g h l true e = f k (grind (arith, nat_tests)) l
+  none_by {m} {n} {q} {p} d high k a f g h l false e =
+      let i : d ≤ k = grind (arith, nat_tests) in
+      let z : d + (k - d) ≡ k = omega arith in
+      ap (λ j. get m.0 (take j q)) (sym z) ∙ later d (k - d) a ∙ g (k - d) (omega (arith, i, h)) (omega (arith, way_left d a, i, l))
+
+  pub none_deeper : {m n : Seen X} {q p : List Bool} (d high : ℕ) → IsAt m q d n p → NoneBelow m.0 q d → NoneBelow n.0 p high → NoneBelow m.0 q (d + high)
+  none_deeper d high a f g k h l = none_by d high k a f g h l (nat_lt k d) refl
+
+  longer_by : {m n : Seen X} {q p : List Bool} (d high len k : ℕ) {v : X} → IsAt m q d n p → IsLongestBelow m.0 q d len v → NoneBelow n.0 p high → len < k → k < d + high → k ≤ length q → (b : Bool) → nat_lt k d ≡ b → get m.0 (take k q) ≡ None
+  longer_by d high len k a f g i h l true e = f.longest k i (grind (arith, nat_tests)) l
+  longer_by {m} {n} {q} {p} d high len k a f g i h l false e =
+      let j : d ≤ k = grind (arith, nat_tests) in
+      let z : d + (k - d) ≡ k = omega arith in
+      ap (λ j. get m.0 (take j q)) (sym z) ∙ later d (k - d) a ∙ g (k - d) (omega (arith, j, h)) (omega (arith, way_left d a, j, l))
+
+  found_deeper : {m n : Seen X} {q p : List Bool} (d len : ℕ) {v : X} → IsAt m q d n p → IsLongestBelow n.0 p 5 len v → IsLongestBelow m.0 q (d + 5) (d + len) v
+  found_deeper {m} {n} {q} {p} d len a f = record {
+    below = omega (arith, f.below);
+    within = omega (arith, f.within, way_left d a);
+    found = later d len a ∙ f.found;
+    longest = λ k h j i.
+        let z : d + (k - d) ≡ k = omega (arith, h) in
+        ap (λ j. get m.0 (take j q)) (sym z) ∙ later d (k - d) a ∙ f.longest (k - d) (omega (arith, h)) (omega (arith, h, j)) (omega (arith, way_left d a, h, i));
+  }
+
+  module _ {S : Type 0} (v : S → X) where
+    -- the best of the beginnings of q of fewer than high bits
+    abbrev pub IsBest : BitMap X → List Bool → ℕ → Option (ℕ × S) → Type 0
+    IsBest m q high o = MatchOption o (NoneBelow m q high) (λ r. IsLongestBelow m q high r.0 (v r.1))
+
+    pub best_deeper : {m n : Seen X} {q p : List Bool} (d : ℕ) (best found after : Option (ℕ × S)) → IsAt m q d n p → IsBest m.0 q d best → IsBest n.0 p 5 found → MatchOption found (after ≡ best) (λ r. after ≡ Some (d + r.0, r.1)) → IsBest m.0 q (d + 5) after
+    best_deeper {m} {n} {q} {p} d None None after a f g e = subst (IsBest m.0 q (d + 5)) (sym e) (none_deeper d 5 a f g)
+    best_deeper {m} {n} {q} {p} d (Some b) None after a f g e = subst (IsBest m.0 q (d + 5)) (sym e) (record {
+      below = omega (arith, f.below);
+      within = f.within;
+      found = f.found;
+      longest = λ k h j i. longer_by d 5 b.0 k a f g h j i (nat_lt k d) refl;
+    })
+    best_deeper {m} {n} {q} {p} d best (Some r) after a f g e = subst (IsBest m.0 q (d + 5)) (sym e) (found_deeper d r.0 a g)
+
+    pub best_whole : (m : BitMap X) (q : List Bool) (high : ℕ) (o : Option (ℕ × S)) → length q < high → IsBest m q high o → MatchOption o (NoBeginning m q) (λ r. IsLongest m q r.0 (v r.1))
+    best_whole m q high None h f = λ k l. f k (omega (arith, h, l)) l
+    best_whole m q high (Some r) h f = record { within = f.within; found = f.found; longest = λ k i l. f.longest k i (omega (arith, h, l)) l }
+
+    -- where no node is below, the best so far is the best
+    pub best_stop : {m n : Seen X} {q p : List Bool} (d : ℕ) (o : Option (ℕ × S)) → IsAt m q d n p → 5 ≤ length p → HasNoChild p n → IsBest m.0 q (d + 5) o → MatchOption o (NoBeginning m.0 q) (λ r. IsLongest m.0 q r.0 (v r.1))
+    best_stop {m} {n} {q} {p} d o a h e f = best_whole m.0 q (length q + 1) o (omega arith) (stopped o f)
+      where
+        beyond : (k : ℕ) → d + 5 ≤ k → get m.0 (take k q) ≡ None
+        beyond k l =
+            let z : d + (5 + (k - d - 5)) ≡ k = omega (arith, l) in
+            ap (λ j. get m.0 (take j q)) (sym z) ∙ later d (5 + (k - d - 5)) a ∙ ap (get n.0) (take_split 5 (k - d - 5) p) ∙ e.gets (take (k - d - 5) (drop 5 p))
+
+        either : (k : ℕ) → (k < d + 5 → get m.0 (take k q) ≡ None) → (b : Bool) → nat_lt k (d + 5) ≡ b → get m.0 (take k q) ≡ None
+        either k f true t = f (grind (arith, nat_tests))
+        either k f false t = beyond k (grind (arith, nat_tests))
+
+        stopped : (o : Option (ℕ × S)) → IsBest m.0 q (d + 5) o → IsBest m.0 q (length q + 1) o
+        stopped None f = λ k h l. either k (λ i. f k i l) (nat_lt k (d + 5)) refl
+        stopped (Some r) f = record { below = omega (arith, f.within); within = f.within; found = f.found; longest = λ k i h l. either k (λ j. f.longest k i j l) (nat_lt k (d + 5)) refl }
+
+  -- ---- the shortest
+
+  pub shortest_deeper : {m n : Seen X} {q p : List Bool} (d len : ℕ) {v : X} → IsAt m q d n p → NoneBelow m.0 q d → IsShortest n.0 p len v → IsShortest m.0 q (d + len) v
+  shortest_deeper {m} {n} {q} {p} d len a f g = record {
+    within = omega (arith, g.within, way_left d a);
+    found = later d len a ∙ g.found;
+    shortest = λ k h. shorter k h (nat_lt k d) refl;
+  }
+    where
+      shorter : (k : ℕ) → k < d + len → (b : Bool) → nat_lt k d ≡ b → get m.0 (take k q) ≡ None
+      shorter k h true e = f k (grind (arith, nat_tests)) (omega (arith, h, g.within, way_left d a))
+      shorter k h false e =
+          let j : d ≤ k = grind (arith, nat_tests) in
+          let z : d + (k - d) ≡ k = omega arith in
+          ap (λ j. get m.0 (take j q)) (sym z) ∙ later d (k - d) a ∙ g.shortest (k - d) (omega (arith, j, h))
+
+  -- ---- one string
+
+  pub child_get : {n c : Seen X} {q r : List Bool} → IsChild q n c → r ≡ drop 5 q → get c.0 r ≡ get n.0 q
+  child_get {n} {c} {q} e f = ap (get c.0) f ∙ sym (e.gets (drop 5 q)) ∙ ap (get n.0) (take-append-drop 5 q)
+
+  pub no_child_get : {n : Seen X} {q : List Bool} → HasNoChild q n → get n.0 q ≡ None
+  no_child_get {n} {q} e = ap (get n.0) (sym (take-append-drop 5 q)) ∙ e.gets (drop 5 q)
+
+  pub child_visits : {n c : Seen X} {q r : List Bool} → IsChild q n c → r ≡ drop 5 q → n.1 ≡ 0 → visit_count n.0 q ≡ visit_count c.0 r + 1
+  child_visits {n} {c} {q} e f z = ap (visit_count n.0) (sym (take-append-drop 5 q)) ∙ e.visits z (drop 5 q) ∙ ap (λ w. visit_count c.0 w + 1) (sym f)
+
+  pub none_stop : {m n : Seen X} {q p : List Bool} (d : ℕ) → IsAt m q d n p → 5 ≤ length p → HasNoChild p n → NoneBelow m.0 q (d + 5) → NoBeginning m.0 q
+  none_stop d a h e f = best_stop {S = X} (λ s. s) d None a h e f
+
+  module _ {S : Type 0} (v : S → X) where
+    pub shortest_whole : {m n : Seen X} {q p : List Bool} (d : ℕ) (found after : Option (ℕ × S)) → IsAt m q d n p → length q < d + 5 → NoneBelow m.0 q d → MatchOption found (NoneBelow n.0 p 5) (λ r. (r.0 < 5) × IsShortest n.0 p r.0 (v r.1)) → MatchOption found (after ≡ None) (λ r. after ≡ Some (d + r.0, r.1))
+        → MatchOption after (NoBeginning m.0 q) (λ r. IsShortest m.0 q r.0 (v r.1))
+    shortest_whole {m} {n} {q} {p} d None after a h f g e = subst (λ o. MatchOption o (NoBeginning m.0 q) (λ r. IsShortest m.0 q r.0 (v r.1))) (sym e) (λ k l. none_deeper d 5 a f g k (omega (arith, h, l)) l)
+    shortest_whole {m} {n} {q} {p} d (Some r) after a h f g e = subst (λ o. MatchOption o (NoBeginning m.0 q) (λ r. IsShortest m.0 q r.0 (v r.1))) (sym e) (shortest_deeper d r.0 a f g.1)

@@ -1,0 +1,153 @@
+-- What a node is seen as, from its words and lists, and what a change of them makes of it.
+use Rattle.std.proofs.Common.{◌≡◌, ℕ, zero, suc, ◌+◌, ◌<◌, ◌≤◌, Bool, true, false, cond, List, [], ◌∷◌, ◌++◌, length, take, drop, get_or, set, refl, sym, ap, ◌∙◌, arith}
+use Rattle.std.specs.Prelude.{count_ones, max, Some, None}
+use Rattle.std.specs.Ordering.{nat_cmp}
+use Rattle.std.specs.FinMap.{find, get, empty}
+use Rattle.std.proofs.lemmas.Nat.{zero_from_ones}
+use Rattle.std.proofs.Math.ListN.{length-append}
+use Rattle.trie_core.specs.Bits.{bits_cmp, place_of, child_of}
+use Rattle.trie_core.specs.Places.{at_places, value_list, child_list}
+use Rattle.trie_core.specs.Nodes.{BitMap, Seen, node_map, node_height, IsNode, HasSlots}
+use Rattle.trie_core.specs.Count.{nodes, all_nodes, total, spares_below, visit_count}
+use Rattle.trie_core.specs.Search.{IsChild, HasNoChild}
+use Rattle.trie_core.proofs.Maps.{node_map-none, same, take_first, front, child_get, get_none, get-short, get-long}
+use Rattle.trie_core.proofs.Count.{things, all_of_node, bare_lists}
+use Rattle.trie_core.proofs.Visits.{visits_none, visits_some}
+use Rattle.trie_core.proofs.Places.{ones_bit}
+use Rattle.trie_core.proofs.Named.{is_node, value_things, child_things, value_found, child_found}
+
+drop_first : (b k : List Bool) → length b ≡ 5 → drop 5 (b ++ k) ≡ k
+drop_first (a ∷ b ∷ c ∷ d ∷ e ∷ []) k h = refl
+drop_first [] k h = absurd (omega arith)
+drop_first (a ∷ []) k h = absurd (omega arith)
+drop_first (a ∷ b ∷ []) k h = absurd (omega arith)
+drop_first (a ∷ b ∷ c ∷ []) k h = absurd (omega arith)
+drop_first (a ∷ b ∷ c ∷ d ∷ []) k h = absurd (omega arith)
+drop_first (a ∷ b ∷ c ∷ d ∷ e ∷ f ∷ bs) k h = absurd (omega arith)
+
+no_items : {Y : Type 0} (ys : List Y) → length ys ≡ 0 → ys ≡ []
+no_items [] e = refl
+no_items (y ∷ ys) e = absurd (omega arith)
+
+module _ {X : Type 0} where
+  -- ---- sums and heights of children
+
+  pub total-set : (f : Seen X → ℕ) (cs : List (Seen X)) (i : ℕ) (c d : Seen X) → i < length cs → total f (set cs i c) + f (get_or cs i d) ≡ total f cs + f c
+  total-set f [] i c d h = absurd (omega arith)
+  total-set f (e ∷ cs) zero c d h = omega arith
+  total-set f (e ∷ cs) (suc i) c d h = omega (arith, total-set f cs i c d (omega arith))
+
+  pub height-set : (cs : List (Seen X)) (i : ℕ) (c : Seen X) → node_height (set cs i c) ≤ max (node_height cs) c.2
+  height-set [] i c = omega arith
+  height-set (e ∷ cs) zero c = omega arith
+  height-set (e ∷ cs) (suc i) c = omega (arith, height-set cs i c)
+
+  pub height-read : (cs : List (Seen X)) (i : ℕ) (d : Seen X) → i < length cs → (get_or cs i d).2 ≤ node_height cs
+  height-read [] i d h = absurd (omega arith)
+  height-read (e ∷ cs) zero d h = omega arith
+  height-read (e ∷ cs) (suc i) d h = omega (arith, height-read cs i d (omega arith))
+
+  found_height_by : (n : List Bool) (m : Seen X) (c : List Bool × Seen X) (cs : List (List Bool × Seen X)) → (find bits_cmp n cs ≡ Some m → m.2 ≤ node_height (things cs)) → (b : Bool) → cond b (Some c.1) (find bits_cmp n cs) ≡ Some m → m.2 ≤ max c.1.2 (node_height (things cs))
+  found_height_by n m c cs r true e = let p : c.1 ≡ m = cc in omega (arith, ap (λ x. x.2) p)
+  found_height_by n m c cs r false e = omega (arith, r e)
+
+  found_height : (n : List Bool) (m : Seen X) (cs : List (List Bool × Seen X)) → find bits_cmp n cs ≡ Some m → m.2 ≤ node_height (things cs)
+  found_height n m [] e = cc
+  found_height n m (c ∷ cs) e = found_height_by n m c cs (found_height n m cs) (same n c.0) e
+
+  -- ---- a node
+
+  abbrev pub map_of : ℕ → List X → ℕ → List (Seen X) → BitMap X
+  map_of vb vs cb cs = node_map (value_list vb vs) (child_list cb cs)
+
+  -- a node with these words and lists is seen as m
+  pub record IsSeen (vb : ℕ) (vs : List X) (cb : ℕ) (cs : List (Seen X)) (m : Seen X) : Type 0 where
+    pub slots : HasSlots vb vs cb cs
+    pub node : IsNode (value_list vb vs) (child_list cb cs)
+    pub map : map_of vb vs cb cs ≡ m.0
+    pub spares : spares_below cs ≡ m.1
+    pub count : total all_nodes cs + 1 ≡ all_nodes m
+    pub height : node_height cs + 1 ≡ m.2
+
+  -- all nodes of a node, by its words and lists
+  pub counted : (vb : ℕ) (vs : List X) (cb : ℕ) (cs : List (Seen X)) → HasSlots vb vs cb cs → nodes (map_of vb vs cb cs) + spares_below cs ≡ total all_nodes cs + 1
+  counted vb vs cb cs s =
+      let t = child_things cb cs s.children_below s.children_counted in
+      omega (arith, all_of_node (is_node vb vs cb cs s.values_below s.children_below), ap spares_below t, ap (total all_nodes) t)
+
+  pub seen : {vb : ℕ} {vs : List X} {cb : ℕ} {cs : List (Seen X)} {m : Seen X} → HasSlots vb vs cb cs → ◌≡◌ {A = Seen X} (map_of vb vs cb cs, spares_below cs, node_height cs + 1) m → IsSeen vb vs cb cs m
+  seen {vb} {vs} {cb} {cs} {m} s v = record {
+    slots = s;
+    node = is_node vb vs cb cs s.values_below s.children_below;
+    map = ap (λ m. m.0) v;
+    spares = ap (λ m. m.1) v;
+    count = omega (arith, counted vb vs cb cs s, ap (λ m. all_nodes m) v);
+    height = ap (λ m. m.2) v;
+  }
+
+  -- what a node has at a string, by its number
+  pub value_at : {vb : ℕ} {vs : List X} {cb : ℕ} {cs : List (Seen X)} {m : Seen X} (q : List Bool) → IsSeen vb vs cb cs m → length q < 5 → find nat_cmp (place_of q) (at_places 32 0 vb vs) ≡ get m.0 q
+  value_at {vb} {vs} q s h = sym (value_found q vb vs h s.slots.values_below) ∙ sym (get-short s.node q h) ∙ ap (λ m. get m q) s.map
+
+  pub below_at : {vb : ℕ} {vs : List X} {cb : ℕ} {cs : List (Seen X)} {m : Seen X} (q : List Bool) → IsSeen vb vs cb cs m → 5 ≤ length q → child_get (find nat_cmp (child_of q) (at_places 32 0 cb cs)) (drop 5 q) ≡ get m.0 q
+  below_at {cb = cb} {cs = cs} q s h = ap (λ o. child_get o (drop 5 q)) (sym (child_found q cb cs h s.slots.children_below)) ∙ sym (get-long s.node q h) ∙ ap (λ m. get m q) s.map
+
+  -- a string with the first five bits of q
+  fronted : {vb : ℕ} {vs : List X} {cb : ℕ} {cs : List (Seen X)} {m : Seen X} (q r : List Bool) → IsSeen vb vs cb cs m → 5 ≤ length q → get m.0 (take 5 q ++ r) ≡ child_get (find bits_cmp (take 5 q) (child_list cb cs)) r
+  fronted {cb = cb} {cs = cs} q r s h =
+      let f = (front q h).0 in
+      sym (ap (λ m. get m (take 5 q ++ r)) s.map)
+      ∙ get-long s.node (take 5 q ++ r) (omega (arith, length-append (take 5 q) r, f))
+      ∙ (λ i. child_get (find bits_cmp (take_first (take 5 q) r f i) (child_list cb cs)) (drop_first (take 5 q) r f i))
+
+  pub is_child : {vb : ℕ} {vs : List X} {cb : ℕ} {cs : List (Seen X)} {m : Seen X} (q : List Bool) (c : Seen X) → IsSeen vb vs cb cs m → 5 ≤ length q → find nat_cmp (child_of q) (at_places 32 0 cb cs) ≡ Some c → IsChild q m c
+  is_child {vb} {vs} {cb} {cs} {m} q c s h e =
+      let f = (front q h).0 in
+      let g : find bits_cmp (take 5 q) (child_list cb cs) ≡ Some c = child_found q cb cs h s.slots.children_below ∙ e in
+      let t = child_things cb cs s.slots.children_below s.slots.children_counted in
+      let v : (r : List Bool) → m.1 ≡ 0 → (c.1 ≡ 0) × (visit_count m.0 (take 5 q ++ r) ≡ visit_count c.0 r + 1) = λ r z.
+      let w = visits_some (take 5 q ++ r) s.node (omega (arith, length-append (take 5 q) r, f)) (ap (λ b. find bits_cmp b (child_list cb cs)) (take_first (take 5 q) r f) ∙ g) (ap spares_below t ∙ s.spares ∙ z) in
+      (w.0, sym (ap (λ k. visit_count k (take 5 q ++ r)) s.map) ∙ w.1 ∙ ap (λ k. visit_count c.0 k + 1) (drop_first (take 5 q) r f)) in
+      record {
+        gets = λ r. fronted q r s h ∙ ap (λ o. child_get o r) g;
+        smaller = omega (arith, found_height (take 5 q) c (child_list cb cs) g, ap node_height t, s.height);
+        tidy = λ z. (v [] z).0;
+        visits = λ z r. (v r z).1;
+      }
+
+  pub has_no_child : {vb : ℕ} {vs : List X} {cb : ℕ} {cs : List (Seen X)} {m : Seen X} (q : List Bool) → IsSeen vb vs cb cs m → 5 ≤ length q → find nat_cmp (child_of q) (at_places 32 0 cb cs) ≡ None → HasNoChild q m
+  has_no_child {vb} {vs} {cb} {cs} {m} q s h e =
+      let g : find bits_cmp (take 5 q) (child_list cb cs) ≡ None = child_found q cb cs h s.slots.children_below ∙ e in
+      record {
+        gets = λ r. fronted q r s h ∙ ap (λ o. child_get o r) g ∙ get_none r;
+        visits = sym (ap (λ k. visit_count k q) s.map) ∙ visits_none q s.node h g;
+      }
+
+  -- ---- no values and no children
+
+  empty_lists : (vb cb : ℕ) → map_of vb [] cb [] ≡ empty
+  unfolding value_list child_list
+  empty_lists vb cb = node_map-none
+
+  pub new_map : (vb cb : ℕ) (vs : List X) (cs : List (Seen X)) → vs ≡ [] → cs ≡ [] → map_of vb vs cb cs ≡ empty
+  new_map vb cb vs cs e f = (λ i. map_of vb (e i) cb (f i)) ∙ empty_lists vb cb
+
+  pub bare : {vb : ℕ} {vs : List X} {cb : ℕ} {cs : List (Seen X)} {m : Seen X} → IsSeen vb vs cb cs m → length vs ≡ 0 → length cs ≡ 0 → (m.0 ≡ empty) × (m.1 ≡ 0) × (all_nodes m ≡ 1)
+  bare {vb} {vs} {cb} {cs} s e f =
+      (sym s.map ∙ new_map vb cb vs cs (no_items vs e) (no_items cs f), sym s.spares ∙ ap spares_below (no_items cs f), sym s.count ∙ ap (λ x. total all_nodes x + 1) (no_items cs f))
+
+  -- a node with no key and no spare node
+  pub left_bare : {vb : ℕ} {vs : List X} {cb : ℕ} {cs : List (Seen X)} {m : Seen X} → IsSeen vb vs cb cs m → m.0 ≡ empty → m.1 ≡ 0 → (length vs ≡ 0) × (length cs ≡ 0)
+  left_bare {vb} {vs} {cb} {cs} s e z =
+      let t = child_things cb cs s.slots.children_below s.slots.children_counted in
+      let u = value_things vb vs s.slots.values_below s.slots.values_counted in
+      let b = bare_lists (value_list vb vs) (child_list cb cs) s.node (s.map ∙ e) (ap spares_below t ∙ s.spares ∙ z) in
+      (sym (ap length u) ∙ same_length (value_list vb vs) ∙ b.0, sym (ap length t) ∙ b.1)
+    where
+      same_length : {Y : Type 0} (es : List (List Bool × Y)) → length (things es) ≡ length es
+      same_length [] = refl
+      same_length (e ∷ es) = ap suc (same_length es)
+
+-- a word with no bit set is 0
+pub no_bits : (bits n : ℕ) → count_ones bits ≡ n → (bits ≡ 0 → n ≡ 0) × (n ≡ 0 → bits ≡ 0)
+no_bits bits n e = (λ z. sym e ∙ ap count_ones z ∙ ones_bit 0 (omega arith), λ z. zero_from_ones bits (e ∙ z))

@@ -1,0 +1,86 @@
+-- The places of a bitmap: one that is free, and one that is taken.
+use Rattle.std.proofs.Common.{◌≡◌, ℕ, zero, suc, ◌+◌, ◌-◌, ◌/◌, ◌%◌, ◌^◌, ◌<◌, ◌≤◌, List, [], ◌∷◌, length, get_or, set, refl, sym, ap, ◌∙◌, arith}
+use Rattle.std.specs.Prelude.{Some, None, count_ones}
+use Rattle.std.specs.List.{insert, remove}
+use Rattle.std.specs.Ordering.{nat_cmp}
+use Rattle.std.specs.FinMap.{find, put}
+use Rattle.std.proofs.lemmas.Nat.{ones_cat, shr_split, pow_pos}
+use Rattle.trie_core.specs.Places.{at_places, without, IsUnset, IsSlot}
+use Rattle.trie_core.proofs.Places.{at_set, at_unset, ones_below_lt}
+use Rattle.trie_core.proofs.Edits.{set_is_put, insert_is_put, remove_is_without, set_fits, ones_set, ones_clear, bit_within}
+
+pub ones_below_le : (i n : ℕ) → count_ones (n % 2 ^ i) ≤ count_ones n
+ones_below_le i n =
+    let e = ap count_ones (sym (shr_split n i)) ∙ ones_cat i (n / 2 ^ i) (n % 2 ^ i) (Prim.grind (arith, pow_pos i)) in
+    omega (arith, e)
+
+from_zero : (i : ℕ) → 0 + i ≡ i
+from_zero i = omega arith
+
+module _ {X : Type 0} where
+  length_insert : (xs : List X) (k : ℕ) (v : X) → k ≤ length xs → length (insert xs k v) ≡ length xs + 1
+  length_insert xs zero v h = omega arith
+  length_insert [] (suc k) v h = absurd (omega (arith, h))
+  length_insert (x ∷ xs) (suc k) v h = omega (arith, length_insert xs k v (omega (arith, h)))
+
+  length_remove : (xs : List X) (k : ℕ) → k < length xs → length (remove xs k) + 1 ≡ length xs
+  length_remove [] k h = absurd (omega (arith, h))
+  length_remove (x ∷ xs) zero h = omega arith
+  length_remove (x ∷ xs) (suc k) h = omega (arith, length_remove xs k (omega (arith, h)))
+
+  length_set : (xs : List X) (k : ℕ) (v : X) → length (set xs k v) ≡ length xs
+  length_set [] k v = refl
+  length_set (x ∷ xs) zero v = refl
+  length_set (x ∷ xs) (suc k) v = omega (arith, length_set xs k v)
+
+  -- nothing stands at place i, and k things before it
+  pub record IsFree (i k bits : ℕ) (xs : List X) : Type 0 where
+    pub within : k ≤ length xs
+    pub fits : bits + 2 ^ i < 2 ^ 32
+    pub absent : find nat_cmp i (at_places 32 0 bits xs) ≡ None
+    pub ones : (v : X) → count_ones (bits + 2 ^ i) ≡ length (insert xs k v)
+    pub stored : (v : X) → at_places 32 0 (bits + 2 ^ i) (insert xs k v) ≡ put nat_cmp i v (at_places 32 0 bits xs)
+
+  -- the k-th thing stands at place i
+  pub record IsTaken (i k bits : ℕ) (xs : List X) : Type 0 where
+    pub within : k < length xs
+    pub fits : 2 ^ i ≤ bits
+    pub read : (d : X) → find nat_cmp i (at_places 32 0 bits xs) ≡ Some (get_or xs k d)
+    pub same_ones : (v : X) → count_ones bits ≡ length (set xs k v)
+    pub written : (v : X) → at_places 32 0 bits (set xs k v) ≡ put nat_cmp i v (at_places 32 0 bits xs)
+    pub ones : count_ones (bits - 2 ^ i) ≡ length (remove xs k)
+    pub removed : at_places 32 0 (bits - 2 ^ i) (remove xs k) ≡ without i (at_places 32 0 bits xs)
+
+  pub free : (i k bits : ℕ) (xs : List X) → i < 32 → bits < 2 ^ 32 → IsUnset i bits → k ≡ count_ones (bits % 2 ^ i) → count_ones bits ≡ length xs → IsFree i k bits xs
+  free i k bits xs l b h c e =
+      let m : k ≤ length xs = omega (arith, ones_below_le i bits, e, c) in
+      record {
+        within = m;
+        fits = set_fits 32 i bits l b h;
+        absent = ap (λ j. find nat_cmp j (at_places 32 0 bits xs)) (sym (from_zero i)) ∙ at_unset 32 0 i bits xs h;
+        ones = λ v. ones_set i bits h ∙ omega (arith, e, length_insert xs k v m);
+        stored = λ v. insert_is_put 32 0 i bits xs k v l h c m ∙ ap (λ j. put nat_cmp j v (at_places 32 0 bits xs)) (from_zero i);
+      }
+
+  pub taken : (i k bits : ℕ) (xs : List X) → i < 32 → IsSlot i bits k → count_ones bits ≡ length xs → IsTaken i k bits xs
+  taken i k bits xs l h e =
+      let m : k < length xs = omega (arith, ones_below_lt i bits h.0, e, h.1) in
+      record {
+        within = m;
+        fits = bit_within bits i h.0;
+        read = λ d. ap (λ j. find nat_cmp j (at_places 32 0 bits xs)) (sym (from_zero i)) ∙ at_set 32 0 i bits xs d l h.0 (omega (arith, m, h.1)) ∙ ap (λ j. Some (get_or xs j d)) (sym h.1);
+        same_ones = λ v. e ∙ sym (length_set xs k v);
+        written = λ v. set_is_put 32 0 i bits xs k v l h.0 h.1 m ∙ ap (λ j. put nat_cmp j v (at_places 32 0 bits xs)) (from_zero i);
+        ones = omega (arith, ones_clear i bits h.0, e, length_remove xs k m);
+        removed = remove_is_without 32 0 i bits xs k l h.0 h.1 m ∙ ap (λ j. without j (at_places 32 0 bits xs)) (from_zero i);
+      }
+
+  pub missing : (i bits : ℕ) (xs : List X) → IsUnset i bits → None ≡ find nat_cmp i (at_places 32 0 bits xs)
+  missing i bits xs h = sym (at_unset 32 0 i bits xs h) ∙ ap (λ k. find nat_cmp k (at_places 32 0 bits xs)) (from_zero i)
+
+  -- the word and the list after the thing is taken out, and after one is put in
+  pub taken_out : (i k bits b : ℕ) (xs ys : List X) → IsTaken i k bits xs → b ≡ 2 ^ i → ys ≡ remove xs k → (at_places 32 0 (bits - b) ys ≡ without i (at_places 32 0 bits xs)) × (count_ones (bits - b) ≡ length ys)
+  taken_out i k bits b xs ys t e f = rw (e, f) (t.removed, t.ones)
+
+  pub put_in : (i k bits b : ℕ) (v : X) (xs ys : List X) → IsFree i k bits xs → b ≡ 2 ^ i → ys ≡ insert xs k v → (at_places 32 0 (bits + b) ys ≡ put nat_cmp i v (at_places 32 0 bits xs)) × (count_ones (bits + b) ≡ length ys)
+  put_in i k bits b v xs ys t e f = rw (e, f) (t.stored v, t.ones v)

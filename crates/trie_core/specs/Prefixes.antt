@@ -1,0 +1,12 @@
+-- The bits of a prefix.
+use Rattle.std.specs.Prelude.{◌≡◌, ℕ, ◌-◌, ◌*◌, ◌/◌, ◌^◌, ◌<◌, List, Bool}
+use Rattle.ipnet.specs.Blocks.{digits}
+
+-- the first n bits of a number of w bits
+abbrev pub prefix_bits : ℕ → ℕ → ℕ → List Bool
+prefix_bits w r n = digits n (r / 2 ^ (w - n))
+
+-- a number of w bits that has zeros after the first n
+pub record IsMasked (w r n : ℕ) : Type 0 where
+  pub below : r < 2 ^ w
+  pub clear : r / 2 ^ (w - n) * 2 ^ (w - n) ≡ r

@@ -1,0 +1,83 @@
+//! The value at a key, lent to be written.
+ghost use Rattle.std.specs.Prelude.{◌≡◌, ℕ, ◌+◌, ◌*◌, ◌<◌, ◌≤◌, length, Some};
+ghost use Rattle.std.specs.Borrow.{sem};
+ghost use Rattle.std.specs.Option.{IsSome};
+ghost use Rattle.std.specs.FinMap as map;
+ghost use Rattle.trie_core.specs.Lending.{lends_value};
+
+use crate::node::Node;
+use crate::path::Path;
+use crate::slots::slot;
+use std::marker::PhantomData;
+
+/// A way down a node with as many steps as the type says. What a recursion or a loop lends is not proved; a type for each depth is.
+pub(crate) trait Descent {
+    ghost levels: { ℕ };
+
+    fn value_mut<'a, T>(node: &'a mut Node<T>, path: &Path) -> &'a mut T
+        requires within { length path.now < 5 * levels + 5 }
+        requires stored { IsSome (map.get node.old.0 path.now) }
+        ensures* writes_back { sem 𝓛 (lends_value T.row node.entry path.now result) }
+        ensures value { map.get node.old.0 path.now ≡ Some result.now };
+}
+
+/// The node itself.
+pub(crate) struct Here {}
+
+impl Descent for Here {
+    ghost levels = { 0 };
+
+    fn value_mut<'a, T>(node: &'a mut Node<T>, path: &Path) -> &'a mut T {
+        node.value_here(path)
+    }
+}
+
+/// One step more.
+pub(crate) struct Below<D: Descent> {
+    way: PhantomData<D>,
+}
+
+impl<D: Descent> Descent for Below<D> {
+    ghost levels = { D.levels + 1 };
+
+    fn value_mut<'a, T>(node: &'a mut Node<T>, path: &Path) -> &'a mut T {
+        if path.is_short() {
+            return node.value_here(path);
+        }
+        let Some(at) = slot(node.child_bits, path.five()) else {
+            unreachable!()
+        };
+        let child = &mut node.children[at];
+        D::value_mut(child, &path.rest())
+    }
+}
+
+type Five<D> = Below<Below<Below<Below<Below<D>>>>>;
+
+/// 25 steps, for 128 bits.
+type Whole = Five<Five<Five<Five<Five<Here>>>>>;
+
+impl<T> Node<T> {
+    /// Lends the value at a key that it has; what is written there is the value of that key from then on.
+    pub fn value_mut(&mut self, path: &Path) -> &mut T
+        requires within { length path.now ≤ 128 }
+        requires stored { IsSome (map.get self.old.0 path.now) }
+        ensures* writes_back { sem 𝓛 (lends_value T.row self.entry path.now result) }
+        ensures value { map.get self.old.0 path.now ≡ Some result.now }
+    {
+        Whole::value_mut(self, path)
+    }
+
+    /// The value at a stored key of fewer than five bits.
+    fn value_here(&mut self, path: &Path) -> &mut T
+        requires short { length path.now < 5 }
+        requires stored { IsSome (map.get self.old.0 path.now) }
+        ensures* writes_back { sem 𝓛 (lends_value T.row self.entry path.now result) }
+        ensures value { map.get self.old.0 path.now ≡ Some result.now }
+    {
+        let Some(at) = slot(self.value_bits, path.place()) else {
+            unreachable!()
+        };
+        &mut self.values[at]
+    }
+}

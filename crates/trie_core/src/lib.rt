@@ -1,0 +1,15 @@
+//! Nodes of a trie over bit strings, and the bit strings as paths down it.
+#![tactic(auto)]
+
+mod key;
+mod lend;
+mod node;
+mod path;
+mod prefix;
+mod slots;
+mod tables;
+
+pub use key::Key;
+pub use node::Node;
+pub use path::Path;
+pub use prefix::{Prefix, path_of, shortened};

@@ -1,0 +1,313 @@
+//! A node of the trie: five levels of bits, with the values at strings of fewer than five bits and the children at five.
+ghost use Rattle.std.specs.Prelude.{◌≡◌, ◌+◌, ◌*◌, ◌/◌, ◌<◌, ◌≤◌, ◌^◌, length, None, Some, IfOk, IfErr, OnErr, OnOk, IsTrue, ◌↔◌, MatchOption, max, count_ones};
+ghost use Rattle.std.specs.Option.{IsSome, option_copied};
+ghost use Rattle.std.specs.FinMap as map;
+ghost use Rattle.trie_core.specs.Nodes.{HasSlots};
+ghost use Rattle.trie_core.specs.Count.{all_nodes, visit_count};
+ghost use Rattle.trie_core.specs.Search.{IsChild, HasNoChild, NoneBelow, IsLongestBelow, NoBeginning, IsLongest, IsShortest};
+
+use crate::path::Path;
+use crate::slots::{bit, first_place, get_at, last_place, put_at, slot, take_at, taken_below};
+use crate::tables::place_length;
+use std::alloc::Global;
+use std::marker::Model;
+
+/// A finite map from bit strings to values, and a number of spare nodes, which hold nothing and lead to nothing.
+#[derive(Drop)]
+pub struct Node<T> {
+    pub(crate) value_bits: u32,
+    pub(crate) child_bits: u32,
+    pub(crate) values: Vec<T>,
+    pub(crate) children: Vec<Node<T>>,
+}
+
+impl<T> Model for Node<T> {
+    ghost use Rattle.std.specs.Prelude.{ℕ, ◌+◌};
+    ghost use Rattle.std.specs.FinMap as map;
+    ghost use Rattle.std.proofs.Common.{arith};
+    ghost use Rattle.trie_core.specs.Bits.{bits_cmp};
+    ghost use Rattle.trie_core.specs.Places.{value_list, child_list};
+    ghost use Rattle.trie_core.specs.Nodes.{node_map, node_height, HasSlots, code, most_le-node_height};
+    ghost use Rattle.trie_core.specs.Count.{spares_below};
+
+    ghost Value = { map.FinMap bits_cmp T × ℕ × ℕ };
+
+    ghost coded = { code T.code };
+
+    ghost view = { λ a. (node_map (value_list a.value_bits a.values.items) (child_list a.child_bits a.children.items), spares_below a.children.items, node_height a.children.items + 1) };
+
+    ghost invariant = { λ a. HasSlots a.value_bits a.values.items a.child_bits a.children.items };
+
+    ghost size = { λ s. s.2 };
+
+    ghost size_decreases = { λ a h. most_le-node_height _ (λ c. Prim.omega arith) a.children.items };
+}
+
+/// What is found at a depth, and else the best so far.
+#[inline]
+fn deeper<'a, T>(
+    best: Option<(u8, &'a T)>,
+    depth: u8,
+    found: Option<(u8, &'a T)>,
+) -> Option<(u8, &'a T)>
+    requires { MatchOption found (Unit {0}) (λ r. depth + r.0 < 256) }
+    ensures { MatchOption found.entry (result ≡ best.entry) (λ r. result ≡ Some (depth + r.0, r.1)) }
+{
+    match found {
+        None => best,
+        Some((len, value)) => Some((depth + len, value)),
+    }
+}
+
+impl<T> Node<T> {
+    /// The node of the empty map.
+    pub fn new(alloc: Global) -> Node<T>
+        ensures map { result.0 ≡ map.empty }
+        ensures spares { result.1 ≡ 0 }
+        ensures levels { result.2 ≡ 1 }
+    {
+        Node {
+            value_bits: 0,
+            child_bits: 0,
+            values: Vec::new(alloc),
+            children: Vec::new(alloc),
+        }
+    }
+
+    /// The value at a string of fewer than five bits.
+    #[inline]
+    fn value(&self, path: &Path) -> Option<&T>
+        requires { length path.now < 5 }
+        ensures { option_copied result ≡ map.get self.now.0 path.now }
+    {
+        get_at(self.value_bits, self.values.as_slice(), path.place())
+    }
+
+    /// The node below the first five bits.
+    #[inline]
+    fn child(&self, path: &Path) -> Option<&Node<T>>
+        requires { 5 ≤ length path.now }
+        ensures { MatchOption result (HasNoChild path.now self.now) (λ c. IsChild path.now self.now c.now) }
+    {
+        get_at(self.child_bits, self.children.as_slice(), path.five())
+    }
+
+    /// The value at the path.
+    pub fn get(&self, path: Path) -> Option<&T>
+        ensures { option_copied result ≡ map.get self.now.0 path }
+    {
+        let mut node = self;
+        let mut path = path;
+        'way: while !path.is_short() {
+            match node.child(&path) {
+                None => return None,
+                Some(child) => node = child,
+            }
+            path = path.rest();
+        }
+        node.value(&path)
+    }
+
+    /// The longest beginning of the path of fewer than five bits that is a key.
+    #[inline]
+    fn longest_here(&self, path: &Path) -> Option<(u8, &T)>
+        ensures { MatchOption result (NoneBelow self.now.0 path.now 5) (λ r. IsLongestBelow self.now.0 path.now 5 r.0 r.1.now) }
+    {
+        let found = self.value_bits & path.beginnings();
+        if found == 0 {
+            return None;
+        }
+        let place = last_place(found);
+        let at = taken_below(self.value_bits, place);
+        Some((place_length(place), &self.values[at]))
+    }
+
+    /// The shortest beginning of the path of fewer than five bits that is a key.
+    #[inline]
+    fn shortest_here(&self, path: &Path) -> Option<(u8, &T)>
+        ensures { MatchOption result (NoneBelow self.now.0 path.now 5) (λ r. (r.0 < 5) × IsShortest self.now.0 path.now r.0 r.1.now) }
+    {
+        let found = self.value_bits & path.beginnings();
+        if found == 0 {
+            return None;
+        }
+        let place = first_place(found);
+        let at = taken_below(self.value_bits, place);
+        Some((place_length(place), &self.values[at]))
+    }
+
+    /// The longest beginning of the path that is a key, the path itself included.
+    pub fn longest(&self, path: Path) -> Option<(u8, &T)>
+        requires { length path ≤ 128 }
+        ensures { MatchOption result (NoBeginning self.now.0 path) (λ r. IsLongest self.now.0 path r.0 r.1.now) }
+    {
+        let mut node = self;
+        let mut path = path;
+        let mut depth = 0;
+        let mut best = None;
+        'way: while !path.is_short() {
+            best = deeper(best, depth, node.longest_here(&path));
+            match node.child(&path) {
+                None => return best,
+                Some(child) => node = child,
+            }
+            path = path.rest();
+            depth += 5;
+        }
+        deeper(best, depth, node.longest_here(&path))
+    }
+
+    /// The shortest beginning of the path that is a key, the path itself included.
+    pub fn shortest(&self, path: Path) -> Option<(u8, &T)>
+        requires { length path ≤ 128 }
+        ensures { MatchOption result (NoBeginning self.now.0 path) (λ r. IsShortest self.now.0 path r.0 r.1.now) }
+    {
+        let mut node = self;
+        let mut path = path;
+        let mut depth = 0;
+        'way: while !path.is_short() {
+            if let Some((len, value)) = node.shortest_here(&path) {
+                return Some((depth + len, value));
+            }
+            match node.child(&path) {
+                None => return None,
+                Some(child) => node = child,
+            }
+            path = path.rest();
+            depth += 5;
+        }
+        deeper(None, depth, node.shortest_here(&path))
+    }
+
+    /// How many nodes a search for the path enters.
+    pub fn visits(&self, path: Path) -> u8
+        requires { length path ≤ 128 }
+        ensures bound { result ≤ length path / 5 + 1 }
+        ensures tidy { self.now.1 ≡ 0 → result ≡ visit_count self.now.0 path }
+    {
+        let mut node = self;
+        let mut path = path;
+        let mut visits = 1;
+        'way: while !path.is_short() {
+            match node.child(&path) {
+                None => return visits,
+                Some(child) => node = child,
+            }
+            path = path.rest();
+            visits += 1;
+        }
+        visits
+    }
+
+    /// Whether it has neither values nor children.
+    pub fn is_bare(&self) -> bool
+        ensures bare { IsTrue result ↔ ((self.now.0 ≡ map.empty) × (self.now.1 ≡ 0)) }
+        ensures count { IsTrue result → all_nodes self.now ≡ 1 }
+    {
+        self.value_bits == 0 && self.child_bits == 0
+    }
+}
+
+impl<T: Drop> Node<T> {
+    /// Stores the value, and answers the old one and the number of nodes made.
+    ///
+    /// A new entry is taken in only where there `may` be one more, and with at most `room` new nodes. The memory
+    /// for a new node is requested before the node is made, and the nodes below it are made before it is hung in.
+    pub fn insert(
+        &mut self,
+        path: Path,
+        value: T,
+        may_grow: bool,
+        room: usize,
+    ) -> Result<(Option<T>, usize), T>
+        ensures old { IfOk result (λ r. r.0 ≡ map.get self.old.0 path) }
+        ensures map { OnOk result (self.new.0 ≡ map.insert self.old.0 path value) }
+        ensures spares { OnOk result (self.new.1 ≤ self.old.1) }
+        ensures count { IfOk result (λ r. all_nodes self.new ≡ all_nodes self.old + r.1) }
+        ensures levels { OnOk result (self.new.2 ≤ max self.old.2 (length path / 5 + 1)) }
+        ensures within { IfOk result (λ r. r.1 ≤ room) }
+        ensures grows { IfOk result (λ r. r.0 ≡ None → IsTrue may_grow) }
+        ensures unchanged { OnErr result (self.new ≡ self.old) }
+        ensures absent { OnErr result (map.get self.old.0 path ≡ None) }
+        ensures value_returned { IfErr result (λ v. v ≡ value) }
+    {
+        if path.is_short() {
+            let old = put_at(
+                &mut self.value_bits,
+                &mut self.values,
+                path.place(),
+                value,
+                may_grow,
+            )?;
+            return Ok((old, 0));
+        }
+        let number = path.five();
+        if let Some(at) = slot(self.child_bits, number) {
+            let child = &mut self.children[at];
+            return child.insert(path.rest(), value, may_grow, room);
+        }
+        if !may_grow || room == 0 || self.children.reserve(1).is_err() {
+            return Err(value);
+        }
+        let mut child = Node::new(*self.children.allocator());
+        let (_, made) = child.insert(path.rest(), value, true, room - 1)?;
+        let Ok(_) = put_at(
+            &mut self.child_bits,
+            &mut self.children,
+            number,
+            child,
+            true,
+        ) else {
+            unreachable!()
+        };
+        Ok((None, made + 1))
+    }
+
+    /// Takes the entry out, and with it the nodes below this one on its path that are left bare.
+    ///
+    /// Answers the value and how many nodes went.
+    pub fn remove(&mut self, path: Path) -> (Option<T>, u8)
+        requires { length path ≤ 128 }
+        ensures value { result.0 ≡ map.get self.old.0 path }
+        ensures map { self.new.0 ≡ map.remove self.old.0 path }
+        ensures tidy { self.old.1 ≡ 0 → self.new.1 ≡ 0 }
+        ensures count { all_nodes self.new + result.1 ≡ all_nodes self.old }
+        ensures levels { self.new.2 ≤ self.old.2 }
+        ensures within { 5 * result.1 ≤ length path }
+    {
+        if path.is_short() {
+            let value = take_at(&mut self.value_bits, &mut self.values, path.place());
+            return (value, 0);
+        }
+        let number = path.five();
+        match slot(self.child_bits, number) {
+            None => (None, 0),
+            Some(at) => {
+                let child = &mut self.children[at];
+                let (value, gone) = child.remove(path.rest());
+                if child.is_bare() {
+                    let _ = self.children.remove(at);
+                    self.child_bits -= bit(number);
+                    (value, gone + 1)
+                } else {
+                    (value, gone)
+                }
+            }
+        }
+    }
+
+    /// Takes the entry out, and leaves every node.
+    pub fn remove_keep_tree(&mut self, path: Path) -> Option<T>
+        ensures value { result ≡ map.get self.old.0 path }
+        ensures map { self.new.0 ≡ map.remove self.old.0 path }
+        ensures count { all_nodes self.new ≡ all_nodes self.old }
+        ensures levels { self.new.2 ≤ self.old.2 }
+    {
+        if path.is_short() {
+            return take_at(&mut self.value_bits, &mut self.values, path.place());
+        }
+        let at = slot(self.child_bits, path.five())?;
+        let child = &mut self.children[at];
+        child.remove_keep_tree(path.rest())
+    }
+}

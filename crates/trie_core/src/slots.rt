@@ -1,0 +1,130 @@
+//! Things numbered below 32: a word says which numbers are taken, and a list has the things in the order of their numbers.
+ghost use Rattle.std.specs.Prelude.{ℕ, vec_len, vec_capacity, IsOk, ◌≡◌, ◌<◌, ◌≤◌, ◌%◌, ◌^◌, None, length, count_ones, IfOk, IfErr, OnErr, OnOk, IsTrue, MatchOption};
+ghost use Rattle.std.specs.Option.{option_copied};
+ghost use Rattle.std.specs.Ordering.{nat_cmp};
+ghost use Rattle.std.specs.FinMap.{find, put as put_entry};
+ghost use Rattle.trie_core.specs.Places.{at_places, without, IsUnset, IsSlot, IsLastPlace, IsFirstPlace};
+
+use std::alloc::AllocFailed;
+use std::mem;
+
+/// The bit of a place in a word.
+#[inline]
+pub(crate) fn bit(place: u8) -> u32
+    requires { place < 32 }
+    ensures { result ≡ 2 ^ place }
+{
+    1u32 << place
+}
+
+/// How many places below this one are taken.
+#[inline]
+pub(crate) fn taken_below(taken: u32, place: u8) -> usize
+    requires { place < 32 }
+    ensures { result ≡ count_ones (taken % 2 ^ place) }
+{
+    (taken % bit(place)).count_ones() as usize
+}
+
+/// Where the thing at a taken place stands in the list.
+#[inline]
+pub(crate) fn slot(taken: u32, place: u8) -> Option<usize>
+    requires { place < 32 }
+    ensures { MatchOption result (IsUnset place taken) (IsSlot place taken) }
+{
+    if (taken >> place) % 2 == 0 {
+        return None;
+    }
+    Some(taken_below(taken, place))
+}
+
+/// What stands at the place.
+#[inline]
+pub(crate) fn get_at<X>(taken: u32, items: &[X], place: u8) -> Option<&X>
+    requires below { place < 32 }
+    requires counted { count_ones taken ≡ length items.now }
+    ensures { option_copied result ≡ find nat_cmp place (at_places 32 0 taken items.now) }
+{
+    match slot(taken, place) {
+        None => None,
+        Some(at) => Some(&items[at]),
+    }
+}
+
+/// Stores the thing at the place, and answers what stood there.
+///
+/// A free place is taken only where there may be one more, and needs memory; at a taken one it needs none.
+pub(crate) fn put_at<X>(
+    taken: &mut u32,
+    items: &mut Vec<X>,
+    place: u8,
+    thing: X,
+    may_grow: bool,
+) -> Result<Option<X>, X>
+    requires below { place < 32 }
+    requires counted { count_ones taken.old ≡ length items.old.items }
+    ensures old { IfOk result (λ old. old ≡ find nat_cmp place (at_places 32 0 taken.old items.old.items)) }
+    ensures items { OnOk result (at_places 32 0 taken.new items.new.items ≡ put_entry nat_cmp place thing (at_places 32 0 taken.old items.old.items)) }
+    ensures counted { count_ones taken.new ≡ length items.new.items }
+    ensures below { (w : ℕ) → place < w → taken.old < 2 ^ w → taken.new < 2 ^ w }
+    ensures succeeds { IsTrue may_grow → vec_len items.old < vec_capacity items.old → IsOk result }
+    ensures grows { IfOk result (λ r. r ≡ None → IsTrue may_grow) }
+    ensures same_word { OnErr result (taken.new ≡ taken.old) }
+    ensures same_items { OnErr result (items.new.items ≡ items.old.items) }
+    ensures absent { OnErr result (find nat_cmp place (at_places 32 0 taken.old items.old.items) ≡ None) }
+    ensures value_returned { IfErr result (λ t. t ≡ thing) }
+{
+    let word = *taken;
+    match slot(word, place) {
+        Some(at) => {
+            let item = &mut items[at];
+            Ok(Some(mem::replace(item, thing)))
+        }
+        None => {
+            if !may_grow {
+                return Err(thing);
+            }
+            match items.insert(taken_below(word, place), thing) {
+                Ok(()) => {
+                    *taken = word + bit(place);
+                    Ok(None)
+                }
+                Err(AllocFailed { value, .. }) => Err(value),
+            }
+        }
+    }
+}
+
+/// Takes out what stands at the place.
+pub(crate) fn take_at<X>(taken: &mut u32, items: &mut Vec<X>, place: u8) -> Option<X>
+    requires below { place < 32 }
+    requires counted { count_ones taken.old ≡ length items.old.items }
+    ensures value { result ≡ find nat_cmp place (at_places 32 0 taken.old items.old.items) }
+    ensures items { at_places 32 0 taken.new items.new.items ≡ without place (at_places 32 0 taken.old items.old.items) }
+    ensures counted { count_ones taken.new ≡ length items.new.items }
+    ensures below { taken.new ≤ taken.old }
+{
+    let word = *taken;
+    let at = slot(word, place)?;
+    let thing = items.remove(at);
+    *taken = word - bit(place);
+    Some(thing)
+}
+
+/// The greatest place that is taken.
+#[inline]
+pub(crate) fn last_place(taken: u32) -> u8
+    requires { 0 < taken }
+    ensures { IsLastPlace taken result }
+{
+    31 - taken.leading_zeros() as u8
+}
+
+/// The least place that is taken.
+#[inline]
+pub(crate) fn first_place(taken: u32) -> u8
+    requires { 0 < taken }
+    ensures { IsFirstPlace taken result }
+{
+    taken.trailing_zeros() as u8
+}

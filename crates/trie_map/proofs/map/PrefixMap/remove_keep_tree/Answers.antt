@@ -1,0 +1,27 @@
+use Rattle.std.proofs.Common.{◌∙◌, ap, sym, true, false, length, arith}
+use Rattle.std.specs.FinMap.{len}
+use Rattle.trie_map.proofs.Entries.{one_less, not_empty, keys_remove}
+use Rattle.trie_map.proofs.map.PrefixMap.remove_keep_tree.Goals as goal
+
+pub overflow_sub-self : goal.overflow_sub-self
+overflow_sub-self g c =
+    let n = not_empty c.self.inside.root.0 c.path_of.result c.remove_keep_tree-value.result c.remove_keep_tree-value.ensures.value (sym c.is_some.ensures ∙ c.if-is_some.true) in
+    omega (arith, n, c.self.invariant.0)
+
+pub invariant_of-self : goal.invariant_of-self
+invariant_of-self g c =
+    let n = one_less c.self.inside.root.0 c.path_of.result c.remove_keep_tree-value.result true c.remove_keep_tree-value.ensures.value (sym c.is_some.ensures ∙ c.if-is_some.true) in (
+      omega (arith, c.self.invariant.0, n, ap len c.remove_keep_tree-value.ensures.map),
+      omega (arith, c.self.invariant.1, c.remove_keep_tree-value.ensures.count),
+      omega (arith, c.self.invariant.2, c.remove_keep_tree-value.ensures.levels),
+      keys_remove g.P.R.Key.width c.self.inside.root.0 _ c.path_of.result c.self.invariant.3 (omega (arith, ap length c.path_of.ensures.value, c.requires)) c.remove_keep_tree-value.ensures.map,
+    )
+
+pub invariant_of-self-else-is_some : goal.invariant_of-self-else-is_some
+invariant_of-self-else-is_some g c =
+    let n = one_less c.self.inside.root.0 c.path_of.result c.remove_keep_tree-value.result false c.remove_keep_tree-value.ensures.value (sym c.is_some.ensures ∙ c.if-is_some.false) in (
+      omega (arith, c.self.invariant.0, n, ap len c.remove_keep_tree-value.ensures.map),
+      omega (arith, c.self.invariant.1, c.remove_keep_tree-value.ensures.count),
+      omega (arith, c.self.invariant.2, c.remove_keep_tree-value.ensures.levels),
+      keys_remove g.P.R.Key.width c.self.inside.root.0 _ c.path_of.result c.self.invariant.3 (omega (arith, ap length c.path_of.ensures.value, c.requires)) c.remove_keep_tree-value.ensures.map,
+    )

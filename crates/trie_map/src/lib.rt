@@ -1,0 +1,11 @@
+//! A map from prefixes to values, searched by the longest or the shortest prefix that contains an asked one.
+#![tactic(auto)]
+
+mod map;
+mod refused;
+#[cfg(test)]
+mod tests;
+
+pub use map::PrefixMap;
+pub use refused::Refused;
+pub use trie_core::{Key, Prefix};

@@ -1,0 +1,268 @@
+//! The map.
+ghost use Rattle.std.specs.Prelude.{◌≡◌, ◌+◌, ◌/◌, ◌≤◌, length, take, None, Some, IfOk, IfErr, IsTrue, ◌↔◌, OnErr, OnOk, MatchOption, option_map, ⊤};
+ghost use Rattle.std.specs.Borrow.{sem};
+ghost use Rattle.std.specs.Option.{IsSome, option_copied, option_copied_mut};
+ghost use Rattle.std.specs.FinMap as map;
+ghost use Rattle.trie_core.specs.Count.{nodes, visit_count};
+ghost use Rattle.trie_core.specs.Search.{NoBeginning};
+ghost use Rattle.trie_map.specs.Maps.{IsLongestKey, IsShortestKey};
+ghost use Rattle.trie_map.specs.Refusals.{no_room};
+ghost use Rattle.trie_map.specs.Lending.{lends_value, lends_get};
+ghost use Rattle.trie_map.specs.declared.refused.Refused.TheVariants.{Memory, Full};
+
+use crate::refused::Refused;
+use std::alloc::Global;
+use std::marker::{Model, PhantomData};
+use trie_core::{Key, Node, Path, Prefix, path_of, shortened};
+
+/// A map from prefixes to values: two prefixes are one key where the same bits count.
+///
+/// As in the Rust crate prefix-trie 0.10.1 a key is stored by its bits alone: the keys that are handed out have
+/// zeros after them. A map that has no node without use is tidy; every call but `remove_keep_tree` keeps it so.
+#[derive(Drop)]
+pub struct PrefixMap<P: Prefix, T> {
+    root: Node<T>,
+    len: usize,
+    nodes: usize,
+    keys: PhantomData<P>,
+}
+
+impl<P: Prefix, T> Model for PrefixMap<P, T> {
+    ghost use Rattle.std.specs.Prelude.{◌≡◌, ◌≤◌, ℕ};
+    ghost use Rattle.std.specs.FinMap as map;
+    ghost use Rattle.trie_core.specs.Bits.{bits_cmp};
+    ghost use Rattle.trie_core.specs.Count.{all_nodes};
+    ghost use Rattle.trie_core.specs.Nodes.{code};
+    ghost use Rattle.trie_map.specs.Maps.{KeysUpTo};
+
+    ghost Value = { map.FinMap bits_cmp T × ℕ × ℕ };
+
+    ghost coded = { code T.code };
+
+    ghost view = { λ a. a.root };
+
+    ghost invariant = { λ a. (a.len ≡ map.len a.root.0) × (a.nodes ≡ all_nodes a.root) × (a.root.2 ≤ 26) × KeysUpTo P.R.width a.root.0 };
+}
+
+impl<P: Prefix, T> PrefixMap<P, T> {
+    /// The empty map. It takes no memory.
+    ///
+    /// # Errors
+    /// None: the `Result` is for the maps that need memory at once.
+    pub fn new(alloc: Global) -> Result<PrefixMap<P, T>, Refused>
+        ensures map { IfOk result (λ m. m.0 ≡ map.empty) }
+        ensures tidy { IfOk result (λ m. m.1 ≡ 0) }
+        ensures err { IfErr result (λ e. e ≡ Memory) }
+    {
+        Ok(PrefixMap {
+            root: Node::new(alloc),
+            len: 0,
+            nodes: 1,
+            keys: PhantomData,
+        })
+    }
+
+    /// The number of entries.
+    pub fn len(&self) -> usize
+        ensures { result ≡ map.len self.now.0 }
+    {
+        self.len
+    }
+
+    /// Whether it has no entry.
+    pub fn is_empty(&self) -> bool
+        ensures { IsTrue result ↔ (self.now.0 ≡ map.empty) }
+    {
+        self.len == 0
+    }
+
+    /// The number of nodes, the root included: of a tidy map one, and one for each distinct bit string of positive
+    /// length divisible by five that begins a key; of another map the spare nodes too.
+    pub fn node_count(&self) -> usize
+        ensures all { result ≡ nodes self.now.0 + self.now.1 }
+        ensures tidy { self.now.1 ≡ 0 → result ≡ nodes self.now.0 }
+    {
+        self.nodes
+    }
+
+    /// The value at this very key.
+    pub fn get(&self, prefix: &P) -> Option<&T>
+        requires { length (P.bits prefix.now) ≤ P.R.width }
+        ensures { option_copied result ≡ map.get self.now.0 (P.bits prefix.now) }
+    {
+        self.root.get(path_of(prefix))
+    }
+
+    /// Whether this very key is stored.
+    pub fn contains_key(&self, prefix: &P) -> bool
+        requires { length (P.bits prefix.now) ≤ P.R.width }
+        ensures { IsTrue result ↔ IsSome (map.get self.now.0 (P.bits prefix.now)) }
+    {
+        self.get(prefix).is_some()
+    }
+
+    /// The key, with zeros after the bits that count, and its value.
+    pub fn get_key_value(&self, prefix: &P) -> Option<(P, &T)>
+        requires { length (P.bits prefix.now) ≤ P.R.width }
+        ensures value { option_map (λ r. r.1.now) result ≡ map.get self.now.0 (P.bits prefix.now) }
+        ensures key { MatchOption result ⊤ (λ r. r.0 ≡ P.of_bits (P.bits prefix.now)) }
+    {
+        match self.get(prefix) {
+            None => None,
+            Some(value) => Some((shortened(prefix, prefix.prefix_len()), value)),
+        }
+    }
+
+    /// The longest key that contains the asked prefix, which itself counts, and its value.
+    pub fn get_lpm(&self, prefix: &P) -> Option<(P, &T)>
+        requires { length (P.bits prefix.now) ≤ P.R.width }
+        ensures { MatchOption result (NoBeginning self.now.0 (P.bits prefix.now)) (λ r. IsLongestKey P.bits P.of_bits self.now.0 (P.bits prefix.now) r.0 r.1.now) }
+    {
+        match self.root.longest(path_of(prefix)) {
+            None => None,
+            Some((len, value)) => Some((shortened(prefix, len), value)),
+        }
+    }
+
+    /// The longest key that contains the asked prefix.
+    pub fn get_lpm_prefix(&self, prefix: &P) -> Option<P>
+        requires { length (P.bits prefix.now) ≤ P.R.width }
+        ensures { MatchOption result (NoBeginning self.now.0 (P.bits prefix.now)) (λ k. (v : T) × IsLongestKey P.bits P.of_bits self.now.0 (P.bits prefix.now) k v) }
+    {
+        match self.root.longest(path_of(prefix)) {
+            None => None,
+            Some((len, _)) => Some(shortened(prefix, len)),
+        }
+    }
+
+    /// The shortest key that contains the asked prefix, which itself counts, and its value.
+    pub fn get_spm(&self, prefix: &P) -> Option<(P, &T)>
+        requires { length (P.bits prefix.now) ≤ P.R.width }
+        ensures { MatchOption result (NoBeginning self.now.0 (P.bits prefix.now)) (λ r. IsShortestKey P.bits P.of_bits self.now.0 (P.bits prefix.now) r.0 r.1.now) }
+    {
+        match self.root.shortest(path_of(prefix)) {
+            None => None,
+            Some((len, value)) => Some((shortened(prefix, len), value)),
+        }
+    }
+
+    /// The shortest key that contains the asked prefix.
+    pub fn get_spm_prefix(&self, prefix: &P) -> Option<P>
+        requires { length (P.bits prefix.now) ≤ P.R.width }
+        ensures { MatchOption result (NoBeginning self.now.0 (P.bits prefix.now)) (λ k. (v : T) × IsShortestKey P.bits P.of_bits self.now.0 (P.bits prefix.now) k v) }
+    {
+        match self.root.shortest(path_of(prefix)) {
+            None => None,
+            Some((len, _)) => Some(shortened(prefix, len)),
+        }
+    }
+
+    /// Whether a key contains the asked prefix.
+    pub fn is_covered(&self, prefix: &P) -> bool
+        requires { length (P.bits prefix.now) ≤ P.R.width }
+        ensures { IsTrue result ↔ (NoBeginning self.now.0 (P.bits prefix.now) → ⊥) }
+    {
+        self.root.shortest(path_of(prefix)).is_some()
+    }
+
+    /// What `get_lpm` answers, and how many nodes the search visited: in a tidy map one, and one for each bit
+    /// string of positive length divisible by five that begins both the asked prefix and a key.
+    pub fn get_lpm_visits(&self, prefix: &P) -> (Option<(P, &T)>, u32)
+        requires { length (P.bits prefix.now) ≤ P.R.width }
+        ensures found { MatchOption result.0 (NoBeginning self.now.0 (P.bits prefix.now)) (λ r. IsLongestKey P.bits P.of_bits self.now.0 (P.bits prefix.now) r.0 r.1.now) }
+        ensures visits { result.1 ≤ length (P.bits prefix.now) / 5 + 1 }
+        ensures tidy { self.now.1 ≡ 0 → result.1 ≡ visit_count self.now.0 (P.bits prefix.now) }
+    {
+        (
+            self.get_lpm(prefix),
+            u32::from(self.root.visits(path_of(prefix))),
+        )
+    }
+
+    /// The value at this very key, lent to be written: what is left there is the key's value afterwards.
+    pub fn get_mut(&mut self, prefix: &P) -> Option<&mut T>
+        requires { length (P.bits prefix.now) ≤ P.R.width }
+        ensures* writes_back { sem 𝓛 (lends_get P.row T.row P.R.row ⟦<P as Prefix>⟧ ⟦<P::R as Key>⟧ self.entry (P.bits prefix.now) result) }
+        ensures value { option_copied_mut result ≡ map.get self.old.0 (P.bits prefix.now) }
+    {
+        if self.get(prefix).is_none() {
+            return None;
+        }
+        let path = path_of(prefix);
+        Some(self.value_mut(&path))
+    }
+
+    /// The value at a stored key, lent to be written.
+    fn value_mut(&mut self, path: &Path) -> &mut T
+        requires within { length path.now ≤ 128 }
+        requires stored { IsSome (map.get self.old.0 path.now) }
+        ensures* writes_back { sem 𝓛 (lends_value P.row T.row P.R.row ⟦<P as Prefix>⟧ ⟦<P::R as Key>⟧ self.entry path.now result) }
+        ensures value { map.get self.old.0 path.now ≡ Some result.now }
+    {
+        self.root.value_mut(path)
+    }
+}
+
+impl<P: Prefix + Drop, T: Drop> PrefixMap<P, T> {
+    /// Stores the value at the key, and answers the value that stood there. On a stored key it takes no memory and
+    /// is never refused.
+    ///
+    /// # Errors
+    /// `Memory` where there is none for the key, or one more entry or node could not be counted. The map is as it
+    /// was, and the value comes back.
+    pub fn insert(&mut self, prefix: P, value: T) -> Result<Option<T>, (Refused, T)>
+        requires { length (P.bits prefix) ≤ P.R.width }
+        ensures old { IfOk result (λ old. old ≡ map.get self.old.0 (P.bits prefix)) }
+        ensures map { OnOk result (self.new.0 ≡ map.insert self.old.0 (P.bits prefix) value) }
+        ensures tidy { OnOk result (self.new.1 ≤ self.old.1) }
+        ensures unchanged { OnErr result (self.new ≡ self.old) }
+        ensures absent { OnErr result (map.get self.old.0 (P.bits prefix) ≡ None) }
+        ensures full { IfErr result (λ e. e.0 ≡ Full → no_room self.old) }
+        ensures value_returned { IfErr result (λ e. e.1 ≡ value) }
+    {
+        let may_grow = self.len < usize::MAX;
+        match self
+            .root
+            .insert(path_of(&prefix), value, may_grow, usize::MAX - self.nodes)
+        {
+            Ok((old, made)) => {
+                self.nodes += made;
+                if old.is_none() {
+                    self.len += 1;
+                }
+                Ok(old)
+            }
+            Err(value) => Err((Refused::Memory, value)),
+        }
+    }
+
+    /// Takes the entry out and answers its value. Then the node of the key goes, and each node above it, while it
+    /// has neither value nor child and is not the root; also where the key is not stored. It takes no memory.
+    pub fn remove(&mut self, prefix: &P) -> Option<T>
+        requires { length (P.bits prefix.now) ≤ P.R.width }
+        ensures value { result ≡ map.get self.old.0 (P.bits prefix.now) }
+        ensures map { self.new.0 ≡ map.remove self.old.0 (P.bits prefix.now) }
+        ensures tidy { self.old.1 ≡ 0 → self.new.1 ≡ 0 }
+    {
+        let (value, gone) = self.root.remove(path_of(prefix));
+        self.nodes -= usize::from(gone);
+        if value.is_some() {
+            self.len -= 1;
+        }
+        value
+    }
+
+    /// Takes the entry out and answers its value; every node stays. It takes no memory.
+    pub fn remove_keep_tree(&mut self, prefix: &P) -> Option<T>
+        requires { length (P.bits prefix.now) ≤ P.R.width }
+        ensures value { result ≡ map.get self.old.0 (P.bits prefix.now) }
+        ensures map { self.new.0 ≡ map.remove self.old.0 (P.bits prefix.now) }
+        ensures count { nodes self.new.0 + self.new.1 ≡ nodes self.old.0 + self.old.1 }
+    {
+        let value = self.root.remove_keep_tree(path_of(prefix));
+        if value.is_some() {
+            self.len -= 1;
+        }
+        value
+    }
+}

@@ -1,0 +1,157 @@
+//! What no contract says: that calls succeed, each through its bound at concrete types, with values from outside.
+ghost use Rattle.std.specs.Prelude.{◌≤◌, length};
+ghost use Rattle.ipnet_addr.specs.Addresses.{Ipv4};
+ghost use Rattle.ipnet.specs.Blocks.{bit_string};
+ghost use Rattle.ipnet.specs.Networks.{block_of};
+
+use crate::{PrefixMap, Refused};
+use ipnet::Ipv4Net;
+use std::process::Abort;
+use std::str::FromStr;
+
+/// An IPv4 network, which is never longer than its family allows.
+fn net(rt: &impl Abort, text: &str) -> Ipv4Net
+    ensures { length (bit_string (block_of Ipv4 result)) ≤ 32 }
+{
+    let net = Ipv4Net::from_str(text).expect(rt, "a network");
+    let _within = net.prefix_len();
+    net
+}
+
+#[test]
+fn four_hosts(rt: HostRuntime) {
+    let mut map: PrefixMap<Ipv4Net, u32> = PrefixMap::new(rt.alloc()).expect(&rt, "a map");
+    assert!(rt; map.insert(net(&rt, "1.2.3.0/32"), 1).is_ok());
+    assert!(rt; map.insert(net(&rt, "1.2.3.1/32"), 2).is_ok());
+    assert!(rt; map.insert(net(&rt, "1.2.3.2/32"), 3).is_ok());
+    assert!(rt; map.insert(net(&rt, "1.2.3.3/32"), 4).is_ok());
+    assert_eq!(rt; map.node_count(), 7);
+    let (found, visits) = map.get_lpm_visits(&net(&rt, "1.2.3.2/32"));
+    let Some((key, value)) = found else {
+        panic!(&rt; "no match")
+    };
+    assert_eq!(rt; key.to_text().as_slice(), "1.2.3.2/32".as_bytes());
+    assert_eq!(rt; *value, 3);
+    assert_eq!(rt; visits, 7);
+}
+
+#[test]
+fn longest_and_shortest(rt: HostRuntime) {
+    let mut map: PrefixMap<Ipv4Net, u32> = PrefixMap::new(rt.alloc()).expect(&rt, "a map");
+    assert!(rt; map.insert(net(&rt, "10.9.9.9/8"), 1).is_ok());
+    assert!(rt; map.insert(net(&rt, "10.1.0.0/16"), 2).is_ok());
+    let asked = net(&rt, "10.1.2.3/32");
+    let Some((key, value)) = map.get_lpm(&asked) else {
+        panic!(&rt; "no match")
+    };
+    assert_eq!(rt; key.to_text().as_slice(), "10.1.0.0/16".as_bytes());
+    assert_eq!(rt; *value, 2);
+    let key = map
+        .get_lpm_prefix(&net(&rt, "10.2.3.4/32"))
+        .expect(&rt, "a match");
+    assert_eq!(rt; key.to_text().as_slice(), "10.0.0.0/8".as_bytes());
+    let Some((key, value)) = map.get_spm(&asked) else {
+        panic!(&rt; "no match")
+    };
+    assert_eq!(rt; key.to_text().as_slice(), "10.0.0.0/8".as_bytes());
+    assert_eq!(rt; *value, 1);
+    let Some(key) = map.get_spm_prefix(&asked) else {
+        panic!(&rt; "no match")
+    };
+    assert_eq!(rt; key.to_text().as_slice(), "10.0.0.0/8".as_bytes());
+    let Some((key, value)) = map.get_key_value(&net(&rt, "10.1.7.7/16")) else {
+        panic!(&rt; "no key")
+    };
+    assert_eq!(rt; key.to_text().as_slice(), "10.1.0.0/16".as_bytes());
+    assert_eq!(rt; *value, 2);
+    assert!(rt; map.is_covered(&asked));
+    assert!(rt; !map.is_covered(&net(&rt, "11.0.0.0/8")));
+    assert!(rt; map.get_lpm(&net(&rt, "11.0.0.0/8")).is_none());
+    assert!(rt; map.contains_key(&net(&rt, "10.0.0.0/8")));
+    assert!(rt; !map.contains_key(&net(&rt, "10.0.0.0/9")));
+    assert_eq!(rt; map.len(), 2);
+    assert_eq!(rt; map.remove(&net(&rt, "10.1.0.0/16")), Some(2));
+    assert_eq!(rt; map.remove(&net(&rt, "10.0.0.0/8")), Some(1));
+    assert!(rt; map.is_empty());
+    assert_eq!(rt; map.node_count(), 1);
+}
+
+#[test]
+fn replaced(rt: HostRuntime) {
+    let mut map: PrefixMap<Ipv4Net, u32> = PrefixMap::new(rt.alloc()).expect(&rt, "a map");
+    assert!(rt; matches!(map.insert(net(&rt, "192.168.1.0/24"), 2), Ok(None)));
+    assert!(rt; matches!(map.insert(net(&rt, "192.168.1.77/24"), 3), Ok(Some(2))));
+    if let Some(value) = map.get_mut(&net(&rt, "192.168.1.0/24")) {
+        *value = 7;
+    }
+    assert_eq!(rt; map.get(&net(&rt, "192.168.1.0/24")).copied(), Some(7));
+    assert_eq!(rt; map.len(), 1);
+}
+
+#[test]
+fn two_of_eight_bits(rt: HostRuntime) {
+    let mut map: PrefixMap<(u8, u8), u32> = PrefixMap::new(rt.alloc()).expect(&rt, "a map");
+    assert!(rt; map.insert((0xfe, 8), 1).is_ok());
+    assert!(rt; map.insert((0xff, 8), 2).is_ok());
+    assert_eq!(rt; map.len(), 2);
+    assert_eq!(rt; map.node_count(), 2);
+    let (found, visits) = map.get_lpm_visits(&(0xff, 8));
+    assert!(rt; matches!(found, Some((_, 2))));
+    assert_eq!(rt; visits, 2);
+}
+
+#[test]
+fn one_of_128_bits(rt: HostRuntime) {
+    let mut map: PrefixMap<(u128, u8), u32> = PrefixMap::new(rt.alloc()).expect(&rt, "a map");
+    assert!(rt; map.insert((1, 128), 5).is_ok());
+    assert_eq!(rt; map.node_count(), 26);
+    assert_eq!(rt; map.get_lpm_visits(&(1, 128)).1, 26);
+    assert_eq!(rt; map.remove_keep_tree(&(1, 128)), Some(5));
+    assert_eq!(rt; map.node_count(), 26);
+    let (found, visits) = map.get_lpm_visits(&(1, 128));
+    assert!(rt; found.is_none());
+    assert_eq!(rt; visits, 26);
+    assert_eq!(rt; map.remove(&(1, 128)), None);
+    assert_eq!(rt; map.node_count(), 1);
+}
+
+#[test]
+fn eleven_bits(rt: HostRuntime) {
+    let mut map: PrefixMap<(u32, u8), u32> = PrefixMap::new(rt.alloc()).expect(&rt, "a map");
+    assert!(rt; map.insert((0, 11), 1).is_ok());
+    assert_eq!(rt; map.node_count(), 3);
+}
+
+#[test]
+fn other_widths(rt: HostRuntime) {
+    let mut small: PrefixMap<(u16, u8), u32> = PrefixMap::new(rt.alloc()).expect(&rt, "a map");
+    assert!(rt; small.insert((0xabcd, 12), 1).is_ok());
+    assert!(rt; matches!(small.get_lpm(&(0xabcf, 16)), Some(((0xabc0, 12), 1))));
+    let mut large: PrefixMap<(u64, u8), u32> = PrefixMap::new(rt.alloc()).expect(&rt, "a map");
+    assert!(rt; large.insert((0xabcd_ef01_2345_6789, 63), 1).is_ok());
+    assert!(rt;
+        matches!(
+            large.get_lpm(&(0xabcd_ef01_2345_6789, 64)),
+            Some(((0xabcd_ef01_2345_6788, 63), 1))
+        )
+    );
+    assert!(rt; large.get_lpm(&(0xabcd_ef01_2345_6787, 64)).is_none());
+}
+
+/// Six nodes are made for a key of 32 bits: each request for memory may be refused.
+#[test]
+fn refused(rt: HostRuntime) {
+    let mut map: PrefixMap<(u32, u8), u32> = PrefixMap::new(rt.alloc()).expect(&rt, "a map");
+    match map.insert((0x0102_0300, 32), 5) {
+        Ok(old) => assert_eq!(rt; old, None),
+        Err((refused, value)) => {
+            assert_eq!(rt; refused, Refused::Memory);
+            assert_eq!(rt; value, 5);
+            assert_eq!(rt; map.len(), 0);
+            assert_eq!(rt; map.node_count(), 1);
+            assert!(rt; map.insert((0x0102_0300, 32), 6).is_ok());
+        }
+    }
+    assert_eq!(rt; map.node_count(), 7);
+    assert_eq!(rt; map.len(), 1);
+}
