@@ -1,6 +1,6 @@
 //! Prefixes, as the strings of their bits.
 ghost use Rattle.std.specs.Prelude.{◌≡◌, ℕ, ◌<◌, ◌≤◌, ◌^◌, ◌/◌, ◌-◌, List, Bool, length, take, IsTrue, ◌↔◌};
-ghost use Rattle.ipnet_addr.specs.Addresses.{Ipv4};
+ghost use Rattle.ipnet_addr.specs.Addresses.{Ipv4, Ipv6};
 ghost use Rattle.ipnet.specs.Blocks.{bit_string};
 ghost use Rattle.ipnet.specs.Networks.{block_of};
 ghost use Rattle.trie_core.specs.Bits.{number_from, begins};
@@ -8,7 +8,8 @@ ghost use Rattle.trie_core.specs.Prefixes.{prefix_bits, IsMasked};
 
 use crate::key::Key;
 use crate::path::Path;
-use ipnet::{Ipv4Addr, Ipv4Net};
+use ipnet::{Ipv4Net, Ipv6Net};
+use ipnet_addr::bits::{ipv4_of, ipv6_of};
 
 /// A key and how many of its first bits count, as in the Rust crate prefix-trie 0.10.1.
 pub trait Prefix {
@@ -144,9 +145,29 @@ impl Prefix for Ipv4Net {
 
     #[inline]
     fn from_repr_len(repr: u32, len: u8) -> Ipv4Net {
-        match Ipv4Net::new(Ipv4Addr::from_bits(repr), len) {
-            Ok(net) => net,
-            Err(_) => unreachable!(),
-        }
+        Ipv4Net::new_assert(ipv4_of(repr), len)
+    }
+}
+
+impl Prefix for Ipv6Net {
+    type R = u128;
+
+    ghost bits = { λ n. bit_string (block_of Ipv6 n) };
+
+    ghost of_bits = { λ s. record { number = number_from 128 s; len = length s } };
+
+    #[inline]
+    fn repr(&self) -> u128 {
+        self.addr().to_bits()
+    }
+
+    #[inline]
+    fn prefix_len(&self) -> u8 {
+        Ipv6Net::prefix_len(self)
+    }
+
+    #[inline]
+    fn from_repr_len(repr: u128, len: u8) -> Ipv6Net {
+        Ipv6Net::new_assert(ipv6_of(repr), len)
     }
 }

@@ -1,11 +1,11 @@
 //! What no contract says: that calls succeed, each through its bound at concrete types, with values from outside.
 ghost use Rattle.std.specs.Prelude.{◌≤◌, length};
-ghost use Rattle.ipnet_addr.specs.Addresses.{Ipv4};
+ghost use Rattle.ipnet_addr.specs.Addresses.{Ipv4, Ipv6};
 ghost use Rattle.ipnet.specs.Blocks.{bit_string};
 ghost use Rattle.ipnet.specs.Networks.{block_of};
 
 use crate::{PrefixMap, Refused};
-use ipnet::Ipv4Net;
+use ipnet::{Ipv4Net, Ipv6Net};
 use std::process::Abort;
 use std::str::FromStr;
 
@@ -14,6 +14,15 @@ fn net(rt: &impl Abort, text: &str) -> Ipv4Net
     ensures { length (bit_string (block_of Ipv4 result)) ≤ 32 }
 {
     let net = Ipv4Net::from_str(text).expect(rt, "a network");
+    let _within = net.prefix_len();
+    net
+}
+
+/// The same of an IPv6 network.
+fn wide_net(rt: &impl Abort, text: &str) -> Ipv6Net
+    ensures { length (bit_string (block_of Ipv6 result)) ≤ 128 }
+{
+    let net = Ipv6Net::from_str(text).expect(rt, "a network");
     let _within = net.prefix_len();
     net
 }
@@ -73,6 +82,28 @@ fn longest_and_shortest(rt: HostRuntime) {
     assert_eq!(rt; map.remove(&net(&rt, "10.1.0.0/16")), Some(2));
     assert_eq!(rt; map.remove(&net(&rt, "10.0.0.0/8")), Some(1));
     assert!(rt; map.is_empty());
+    assert_eq!(rt; map.node_count(), 1);
+}
+
+#[test]
+fn ipv6_networks(rt: HostRuntime) {
+    let mut map: PrefixMap<Ipv6Net, u32> = PrefixMap::new(rt.alloc()).expect(&rt, "a map");
+    assert!(rt; map.insert(wide_net(&rt, "2001:db8::5/32"), 1).is_ok());
+    assert!(rt; map.insert(wide_net(&rt, "2001:db8:1::/48"), 2).is_ok());
+    let asked = wide_net(&rt, "2001:db8:1::7/128");
+    let Some((key, value)) = map.get_lpm(&asked) else {
+        panic!(&rt; "no match")
+    };
+    assert_eq!(rt; key.to_text().as_slice(), "2001:db8:1::/48".as_bytes());
+    assert_eq!(rt; *value, 2);
+    let Some((key, value)) = map.get_spm(&asked) else {
+        panic!(&rt; "no match")
+    };
+    assert_eq!(rt; key.to_text().as_slice(), "2001:db8::/32".as_bytes());
+    assert_eq!(rt; *value, 1);
+    assert!(rt; !map.is_covered(&wide_net(&rt, "2001:db9::/32")));
+    assert_eq!(rt; map.remove(&wide_net(&rt, "2001:db8:1::/48")), Some(2));
+    assert_eq!(rt; map.remove(&wide_net(&rt, "2001:db8::/32")), Some(1));
     assert_eq!(rt; map.node_count(), 1);
 }
 

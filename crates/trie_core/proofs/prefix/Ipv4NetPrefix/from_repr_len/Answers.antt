@@ -1,6 +1,5 @@
-use Rattle.std.proofs.Common.{◌∙◌, ap, sym, arith}
+use Rattle.std.proofs.Common.{◌∙◌, ap, sym}
 use Rattle.ipnet_addr.specs.Addresses.{Ipv4}
-use Rattle.ipnet_addr.proofs.Numbers.{bits_of_bits}
 use Rattle.ipnet.specs.Blocks.{bit_string}
 use Rattle.ipnet.specs.Networks.{block_of}
 use Rattle.trie_core.proofs.Masked.{masked_number, length-prefix_bits}
@@ -8,11 +7,10 @@ use Rattle.trie_core.proofs.prefix.Ipv4NetPrefix.from_repr_len.Goals as goal
 
 pub returns-clause-bits : goal.returns-clause-bits
 returns-clause-bits c =
-    ap (λ n. bit_string (block_of Ipv4 n)) c.in-Ok.ensures.parts ∙ ap (λ r. bit_string (block_of Ipv4 (record { number = r; len = c.args.len }))) (bits_of_bits c.from_bits.result c.args.repr c.from_bits.ensures (omega arith))
+    ap (λ n. bit_string (block_of Ipv4 n)) c.new_assert.ensures ∙ ap (λ r. bit_string (block_of Ipv4 (record { number = r; len = c.args.len }))) c.ipv4_of.ensures
 
 pub returns-clause-masked : goal.returns-clause-masked
 returns-clause-masked c = λ m.
-    let a = bits_of_bits c.from_bits.result c.args.repr c.from_bits.ensures (omega arith) in
     let k = masked_number 32 c.args.repr c.args.len c.requires m in
     let l = length-prefix_bits 32 c.args.repr c.args.len in
-    c.in-Ok.ensures.parts ∙ (λ i. record { number = (a ∙ sym k) i; len = sym l i })
+    c.new_assert.ensures ∙ (λ i. record { number = (c.ipv4_of.ensures ∙ sym k) i; len = sym l i })

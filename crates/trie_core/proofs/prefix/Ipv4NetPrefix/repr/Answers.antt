@@ -8,5 +8,5 @@ use Rattle.trie_core.proofs.prefix.Ipv4NetPrefix.repr.Goals as goal
 
 pub returns : goal.returns
 returns c =
-    ap (λ r. prefix_bits 32 r (length (bit_string (block_of Ipv4 c.args.self.now)))) (c.to_bits.ensures ∙ c.addr.ensures)
+    ap (λ r. prefix_bits 32 r (length (bit_string (block_of Ipv4 c.args.self.now)))) (c.to_bits.ensures ∙ c.addr.ensures.value)
     ∙ ap (prefix_bits 32 c.args.self.now.number) (length-digits c.args.self.now.len (c.args.self.now.number / 2 ^ (32 - c.args.self.now.len)))
