@@ -11,7 +11,7 @@ use Rattle.trie_core.specs.Paths.{IsAligned}
 use Rattle.trie_core.proofs.Numbers.{number-digits, number-long, number_apart, drop-digits}
 
 -- a multiple of a power, at a greater power
-mod_up : (q m k : ℕ) → q * 2 ^ k % 2 ^ (m + k) ≡ q % 2 ^ m * 2 ^ k
+pub mod_up : (q m k : ℕ) → q * 2 ^ k % 2 ^ (m + k) ≡ q % 2 ^ m * 2 ^ k
 mod_up q m k = mod-pow-add (q * 2 ^ k) m k ∙ omega (arith, ap (λ n. n % 2 ^ m * 2 ^ k) (shl-shr q k), mul-mod_left q (2 ^ k))
 
 -- the digits of a number are those of its low part

@@ -15,3 +15,4 @@ pub mod Changes
 pub mod Lent
 pub mod Masked
 pub mod Kept
+pub mod Shifts

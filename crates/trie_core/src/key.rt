@@ -1,5 +1,5 @@
 //! The numbers that prefixes are made of.
-ghost use Rattle.std.specs.Prelude.{◌≡◌, ℕ, ◌<◌, ◌≤◌, ◌^◌, refl};
+ghost use Rattle.std.specs.Prelude.{◌≡◌, ℕ, ◌-◌, ◌*◌, ◌/◌, ◌%◌, ◌<◌, ◌≤◌, ◌^◌, refl};
 
 /// An unsigned number of 8, 16, 32, 64 or 128 bits.
 pub trait Key: Copy + Drop {
@@ -27,6 +27,46 @@ pub trait Key: Copy + Drop {
     fn from_bits(bits: u128) -> Self
         requires { bits < 2 ^ width }
         ensures { result ≡ of_number bits };
+
+    /// The key whose first `len` bits are set.
+    #[inline]
+    fn mask(len: u8) -> Self
+        requires { len ≤ width }
+        ensures { number result ≡ 2 ^ width - 2 ^ (width - len) }
+    {
+        let whole = u128::MAX >> (128 - Self::width());
+        if len == 128 {
+            return Self::from_bits(whole);
+        }
+        Self::from_bits(whole - (whole >> len))
+    }
+
+    /// The key with its bits moved up by `count`: the first ones fall off, and zeros follow.
+    #[inline]
+    fn shifted_left(self, count: u8) -> Self
+        requires { count ≤ width }
+        ensures { number result ≡ number self * 2 ^ count % 2 ^ width }
+    {
+        let free = 128 - Self::width();
+        let bits = self.to_bits();
+        if count == 128 {
+            return Self::from_bits(0);
+        }
+        Self::from_bits(bits << free << count >> free)
+    }
+
+    /// The key with its bits moved down by `count`: the last ones fall off, and zeros come before.
+    #[inline]
+    fn shifted_right(self, count: u8) -> Self
+        requires { count ≤ width }
+        ensures { number result ≡ number self / 2 ^ count }
+    {
+        let bits = self.to_bits();
+        if count == Self::width() {
+            return Self::from_bits(0);
+        }
+        Self::from_bits(bits >> count)
+    }
 
     /// A key has its number.
     ghost numbered: { (n : ℕ) → n < 2 ^ width → number (of_number n) ≡ n };

@@ -1,5 +1,5 @@
 //! The map.
-ghost use Rattle.std.specs.Prelude.{◌≡◌, ◌+◌, ◌/◌, ◌≤◌, length, take, None, Some, IfOk, IfErr, IsTrue, ◌↔◌, OnErr, OnOk, MatchOption, option_map, ⊤};
+ghost use Rattle.std.specs.Prelude.{◌≡◌, ◌+◌, ◌/◌, ◌≤◌, length, take, None, Some, IfOk, IfErr, IsOk, IsTrue, ◌↔◌, OnErr, OnOk, MatchOption, option_map, ⊤};
 ghost use Rattle.std.specs.Borrow.{sem};
 ghost use Rattle.std.specs.Option.{IsSome, option_copied, option_copied_mut};
 ghost use Rattle.std.specs.FinMap as map;
@@ -8,7 +8,7 @@ ghost use Rattle.trie_core.specs.Search.{NoBeginning};
 ghost use Rattle.trie_map.specs.Maps.{IsLongestKey, IsShortestKey};
 ghost use Rattle.trie_map.specs.Refusals.{no_room};
 ghost use Rattle.trie_map.specs.Lending.{lends_value, lends_get};
-ghost use Rattle.trie_map.specs.declared.refused.Refused.TheVariants.{Memory, Full};
+ghost use Rattle.trie_map.specs.declared.refused.Refused.TheVariants.{Full};
 
 use crate::refused::Refused;
 use std::alloc::Global;
@@ -52,7 +52,7 @@ impl<P: Prefix, T> PrefixMap<P, T> {
     pub fn new(alloc: Global) -> Result<PrefixMap<P, T>, Refused>
         ensures map { IfOk result (λ m. m.0 ≡ map.empty) }
         ensures tidy { IfOk result (λ m. m.1 ≡ 0) }
-        ensures err { IfErr result (λ e. e ≡ Memory) }
+        ensures ok { IsOk result }
     {
         Ok(PrefixMap {
             root: Node::new(alloc),
