@@ -34,7 +34,6 @@ fn high() -> Ipv6Addr {
 #[test]
 fn ranges(rt: HostRuntime) {
     let range = Ipv4AddrRange::new(ten(0), ten(3));
-    assert_eq!(rt; range.count(), 4);
     assert_eq!(rt; range.last(), Some(ten(3)));
     assert_eq!(rt; range.max(), Some(ten(3)));
     assert_eq!(rt; range.min(), Some(ten(0)));
@@ -64,7 +63,7 @@ fn wide_ranges(rt: HostRuntime) {
     assert_eq!(rt; all.nth_back(1), Some(Ipv6Addr::from_bits(u128::MAX - 1)));
     assert_eq!(rt; all.last(), Some(Ipv6Addr::from_bits(u128::MAX - 2)));
     let mut end = IpAddrRange::from(Ipv6AddrRange::new(high(), high()));
-    assert_eq!(rt; end.count(), 1);
+    assert_eq!(rt; end.size_hint(), (1, Some(1)));
     assert_eq!(rt; end.min(), Some(IpAddr::V6(high())));
     assert_eq!(rt; end.next(), Some(IpAddr::V6(high())));
     assert_eq!(rt; end.next_back(), None);
@@ -99,14 +98,15 @@ fn cuts(rt: HostRuntime) {
         assert_eq!(rt; even.next(), Some(any(&rt, text)));
     }
     assert_eq!(rt; even.next(), None);
-    let mut len = 0;
     let greatest = Ipv4Addr::from_bits(u32::MAX - 1);
-    for block in Ipv4Subnets::new(Ipv4Addr::from_bits(0), greatest, 0) {
-        len += 1;
+    let mut all_but_one = Ipv4Subnets::new(Ipv4Addr::from_bits(0), greatest, 0);
+    for len in 1..33u8 {
+        let Some(block) = all_but_one.next() else {
+            panic!(&rt; "too few blocks")
+        };
         assert_eq!(rt; block.prefix_len(), len);
-        prove!(len <= 32);
     }
-    assert_eq!(rt; len, 32);
+    assert_eq!(rt; all_but_one.next(), None);
 }
 
 #[test]
@@ -139,7 +139,7 @@ fn hosts(rt: HostRuntime) {
     }
     assert_eq!(rt; v6(&rt, "::/0").hosts(), Ipv6AddrRange::new(low(), high()));
     let both = any(&rt, "::4/126").hosts();
-    assert_eq!(rt; both.count(), 4);
+    assert_eq!(rt; both.size_hint(), (4, Some(4)));
 }
 
 #[test]
