@@ -1,7 +1,7 @@
 -- A table as a finite map from blocks to hops, its matches and its hops.
 use Rattle.std.specs.Prelude.{◌≢◌, ℕ, ◌<◌, ◌≤◌, ◌^◌, not, nat_lt, if◌then◌else◌, List, [], ◌∷◌, ◌++◌, Option, Some, None, All, AllPairs, Contains, filter}
 use Rattle.ipnet_addr.specs.Addresses.{Address}
-use Rattle.ipnet.specs.Blocks.{Block, IsBlock, HasAddress, IsInside, IsLarger, IsBefore, is_inside, is_before, same_block, host}
+use Rattle.ipnet_blocks.specs.Blocks.{Block, IsBlock, HasAddress, IsInside, IsLarger, IsBefore, is_inside, is_before, same_block, host}
 use Rattle.route_table.specs.declared.hop.Hop.{Hop}
 use Rattle.route_table.specs.declared.hop.Hop.TheVariants.{Number, Drop}
 
