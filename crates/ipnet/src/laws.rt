@@ -12,13 +12,12 @@ ghost use Rattle.ipnet.specs.NetworkText.{ReadsIpv4, ReadsIpv6, ipv4_net_text, i
 ghost use Rattle.ipnet.specs.Reader.{ipv4_net_of, ipv6_net_of};
 ghost use Rattle.ipnet.specs.declared.ip_net.IpNet.{IpNet as AnyNet};
 
+use crate::ip_net::IpNet;
+use crate::networks::{Ipv4Net, Ipv6Net};
 pub use ipnet_blocks::laws::{
     aggregated, begins_is_inside, blocks, cuts, hosts, inside_by_numbers, masks, maximal, nested,
     networks_of_blocks, order, search,
 };
-
-use crate::ip_net::IpNet;
-use crate::networks::{Ipv4Net, Ipv6Net};
 use std::hash::Hash;
 
 /// Networks are ordered by family, number and length.
