@@ -80,7 +80,8 @@ impl Contains<&IpNet> for IpNet {
         match (self, other) {
             (IpNet::V4(net), IpNet::V4(other)) => net.contains(other),
             (IpNet::V6(net), IpNet::V6(other)) => net.contains(other),
-            _ => false,
+            (IpNet::V4(_), IpNet::V6(_)) => false,
+            (IpNet::V6(_), IpNet::V4(_)) => false,
         }
     }
 }

@@ -165,7 +165,8 @@ impl IpNet {
         match (self, other) {
             (IpNet::V4(net), IpNet::V4(other)) => net.is_sibling(other),
             (IpNet::V6(net), IpNet::V6(other)) => net.is_sibling(other),
-            _ => false,
+            (IpNet::V4(_), IpNet::V6(_)) => false,
+            (IpNet::V6(_), IpNet::V4(_)) => false,
         }
     }
 }
