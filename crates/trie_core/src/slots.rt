@@ -7,15 +7,7 @@ ghost use Rattle.trie_core.specs.Places.{at_places, without, IsUnset, IsSlot, Is
 
 use std::alloc::AllocFailed;
 use std::mem;
-
-/// The bit of a place in a word.
-#[inline]
-pub(crate) fn bit(place: u8) -> u32
-    requires { place < 32 }
-    ensures { result ≡ 2 ^ place }
-{
-    1u32 << place
-}
+use trie_keys::bit;
 
 /// How many places below this one are taken.
 #[inline]

@@ -30,7 +30,7 @@ pub struct PrefixMap<P: Prefix, T> {
 impl<P: Prefix, T> Model for PrefixMap<P, T> {
     ghost use Rattle.std.specs.Prelude.{◌≡◌, ◌≤◌, ℕ};
     ghost use Rattle.std.specs.FinMap as map;
-    ghost use Rattle.trie_core.specs.Bits.{bits_cmp};
+    ghost use Rattle.trie_keys.specs.Bits.{bits_cmp};
     ghost use Rattle.trie_core.specs.Count.{all_nodes};
     ghost use Rattle.trie_core.specs.Nodes.{code};
     ghost use Rattle.trie_map.specs.Maps.{KeysUpTo};
