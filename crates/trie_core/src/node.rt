@@ -6,7 +6,7 @@ ghost use Rattle.trie_core.specs.Nodes.{HasSlots};
 ghost use Rattle.trie_core.specs.Count.{all_nodes, visit_count};
 ghost use Rattle.trie_core.specs.Search.{IsChild, HasNoChild, NoneBelow, IsLongestBelow, NoBeginning, IsLongest, IsShortest};
 
-use crate::slots::{first_place, get_at, last_place, put_at, slot, take_at, taken_below};
+use crate::slots::{first_place, get_at, last_place, put_at, reserve_one, slot, take_at, taken_below};
 use std::alloc::Global;
 use std::marker::Model;
 use trie_keys::{Path, bit, place_length};
@@ -245,7 +245,7 @@ impl<T: Drop> Node<T> {
             let child = &mut self.children[at];
             return child.insert(path.rest(), value, may_grow, room);
         }
-        if !may_grow || room == 0 || self.children.reserve(1).is_err() {
+        if !may_grow || room == 0 || reserve_one(&mut self.children).is_err() {
             return Err(value);
         }
         let mut child = Node::new(*self.children.allocator());

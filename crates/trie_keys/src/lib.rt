@@ -5,6 +5,8 @@ mod key;
 mod path;
 mod prefix;
 mod tables;
+#[cfg(test)]
+mod tests;
 
 pub use key::Key;
 pub use path::Path;
