@@ -9,13 +9,14 @@ use Rattle.std.specs.FinMap.{find, get, put, empty, len, empty_of_len}
 use Rattle.std.specs.FinMap as map
 use Rattle.std.specs.FinMap.Entries.{by_order}
 use Rattle.std.proofs.Math.ListN.{length-drop}
-use Rattle.trie_core.specs.Bits.{bits_cmp, place_of, child_of, child_string}
+use Rattle.trie_keys.specs.Bits.{bits_cmp, place_of, child_of, child_string}
 use Rattle.trie_core.specs.Places.{at_places, without, named, child_list, IsSlot, IsUnset}
 use Rattle.trie_core.specs.Nodes.{BitMap, Seen, node_height, child_map, HasSlots}
 use Rattle.trie_core.specs.Count.{nodes, all_nodes, total, spares_below, spare_of, spare_if}
-use Rattle.trie_core.proofs.Maps.{same-Decides, get_none, value_put, value_taken, child_put, child_taken, insert_changes}
+use Rattle.trie_keys.proofs.Strings.{same-Decides}
+use Rattle.trie_core.proofs.Maps.{get_none, value_put, value_taken, child_put, child_taken, insert_changes}
 use Rattle.trie_core.proofs.Count.{things, nodes_empty}
-use Rattle.trie_core.proofs.Numbers.{number_bound}
+use Rattle.trie_keys.proofs.Numbers.{number_bound}
 use Rattle.trie_core.proofs.Taken.{IsTaken, taken, missing}
 use Rattle.trie_core.proofs.Named.{is_node, child_things, child_found, value_put_in, value_taken_out, child_put_in, child_taken_out}
 use Rattle.trie_core.proofs.Seen.{IsSeen, map_of, counted, total-set, height-set, height-read, below_at, has_no_child}

@@ -8,8 +8,9 @@ use Rattle.std.specs.FinMap.Entries.{below_all}
 use Rattle.std.proofs.lemmas.Nat.{shr-shr}
 use Rattle.std.proofs.lemmas.Bool.Decides.{nat_tests}
 use Rattle.trie_core.specs.Places.{at_places, without}
-use Rattle.trie_core.proofs.Places.{ones_half, ones_below_suc, ones_bit}
-use Rattle.trie_core.proofs.Maps.{both}
+use Rattle.trie_keys.proofs.Numbers.{ones_bit}
+use Rattle.trie_core.proofs.Places.{ones_half, ones_below_suc}
+use Rattle.trie_keys.proofs.Strings.{both}
 
 pub low_bit : (b : ℕ) → (b % 2 ≡ 0) ⊎ (b % 2 ≡ 1)
 low_bit b = elim (eqb (b % 2) 1) as (λ t. eqb (b % 2) 1 ≡ t → (b % 2 ≡ 0) ⊎ (b % 2 ≡ 1)) [

@@ -4,14 +4,14 @@ use Rattle.std.specs.Prelude.{Option, Some, None, is_some}
 use Rattle.std.specs.Option.{IsSome}
 use Rattle.std.specs.Ordering.{nat_cmp}
 use Rattle.std.specs.FinMap.{find, get, insert, len, len-insert}
-use Rattle.trie_core.specs.Bits.{place_of, child_of}
+use Rattle.trie_keys.specs.Bits.{place_of, child_of}
 use Rattle.trie_core.specs.Places.{at_places, IsSlot, IsUnset}
 use Rattle.trie_core.specs.Nodes.{Seen, node_height, HasSlots}
 use Rattle.trie_core.specs.Count.{spares_below, spare_of, spare_if}
 use Rattle.trie_core.specs.Lending.{with_value}
-use Rattle.trie_core.proofs.Numbers.{place_bound}
+use Rattle.trie_keys.proofs.Numbers.{place_bound}
 use Rattle.trie_core.proofs.Taken.{IsTaken, taken, missing}
-use Rattle.trie_core.proofs.Maps.{bits_total}
+use Rattle.trie_keys.proofs.Strings.{bits_total}
 use Rattle.trie_core.proofs.Seen.{IsSeen, map_of, value_at, total-set}
 use Rattle.trie_core.proofs.Changes.{value_slots, value_put_map, set_put, absent}
 

@@ -5,14 +5,9 @@ pub mod Visits
 pub mod Places
 pub mod Edits
 pub mod Taken
-pub mod Numbers
 pub mod Named
-pub mod Aligned
 pub mod Seen
-pub mod Begins
 pub mod Searches
 pub mod Changes
 pub mod Lent
-pub mod Masked
 pub mod Kept
-pub mod Shifts

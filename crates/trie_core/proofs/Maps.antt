@@ -1,91 +1,15 @@
 -- What a node's map has at a bit string, and how it changes.
-use Rattle.std.proofs.Common.{◌≡◌, ℕ, zero, suc, ◌<◌, ◌≤◌, Bool, true, false, cond, ◌&&◌, List, [], ◌∷◌, ◌++◌, length, take, drop, refl, sym, ap, subst, ◌∙◌, arith}
+use Rattle.std.proofs.Common.{◌≡◌, ◌<◌, ◌≤◌, Bool, true, false, cond, List, [], ◌∷◌, ◌++◌, length, take, drop, refl, sym, ap, ◌∙◌, arith}
 use Rattle.std.specs.Prelude.{T, nat_lt, Option, Some, None}
-use Rattle.std.specs.declared.cmp.Ordering.{Ordering}
-use Rattle.std.specs.declared.cmp.Ordering.TheVariants.{Less, Equal, Greater}
-use Rattle.std.specs.Bool.{Decides}
-use Rattle.std.specs.Ordering.{bool_cmp, eq_by_cmp, is_eq, is_lt}
-use Rattle.std.specs.Cmp.{IsTotalOrder, bool_cmp_total}
-use Rattle.std.specs.Cmp.Lexicographic.{lists_total}
-use Rattle.std.specs.FinMap.{IsAntisymmetric, slice_cmp-IsAntisymmetric, entries, find, get, empty, is_sorted, get-entries, get-empty, get-from_entries, get-insert, get-remove, same_map}
+use Rattle.std.specs.Ordering.{is_eq}
+use Rattle.std.specs.FinMap.{entries, find, get, empty, is_sorted, get-entries, get-empty, get-from_entries, get-insert, get-remove, same_map}
 use Rattle.std.specs.FinMap as map
 use Rattle.std.specs.FinMap.Entries.{below_all}
 use Rattle.std.proofs.lemmas.Bool.Decides.{nat_tests}
-use Rattle.std.proofs.lemmas.List.{take-append-drop}
-use Rattle.std.proofs.Math.ListN.{length-take, length-append}
-use Rattle.trie_core.specs.Bits.{bits_cmp}
+use Rattle.std.proofs.Math.ListN.{length-append}
+use Rattle.trie_keys.specs.Bits.{bits_cmp}
+use Rattle.trie_keys.proofs.Strings.{bits_total, bits_same, same, same-Decides, same_false, same-under, other_length, both, front, take_first, less-T, not_same}
 use Rattle.trie_core.specs.Nodes.{BitMap, Seen, AreShort, AreLong, under, child_entries, child_map, node_map, IsNode}
-
--- ---- equal bit strings
-
-bool_same : IsAntisymmetric bool_cmp
-bool_same true true e = refl
-bool_same false false e = refl
-bool_same true false e = cc
-bool_same false true e = cc
-
-pub bits_total : IsTotalOrder bits_cmp
-bits_total = lists_total bool_cmp_total
-
-pub bits_same : IsAntisymmetric bits_cmp
-bits_same = slice_cmp-IsAntisymmetric bool_same
-
-abbrev pub same : List Bool → List Bool → Bool
-same xs ys = eq_by_cmp bits_cmp xs ys
-
-tied : (r : Ordering) → is_eq r ≡ true → r ≡ Equal
-tied Less e = cc
-tied Equal e = refl
-tied Greater e = cc
-
-pub same-refl : (xs : List Bool) → same xs xs ≡ true
-same-refl [] = refl
-same-refl (true ∷ xs) = same-refl xs
-same-refl (false ∷ xs) = same-refl xs
-
-pub same-Decides : (xs ys : List Bool) → Decides (same xs ys) (xs ≡ ys)
-same-Decides xs ys = (λ e. bits_same xs ys (tied (bits_cmp xs ys) e), λ e. subst (λ zs. same xs zs ≡ true) e (same-refl xs))
-
-not_true : (b : Bool) → (b ≡ true → ⊥) → b ≡ false
-not_true true f = absurd (f refl)
-not_true false f = refl
-
-pub same_false : (xs ys : List Bool) → (xs ≡ ys → ⊥) → same xs ys ≡ false
-same_false xs ys f = not_true _ (λ e. f ((same-Decides xs ys).0 e))
-
-pub no_false : {b : Bool} → b ≡ false → b ≡ true → ⊥
-no_false e f = cc
-
-pub not_same : {xs ys : List Bool} → same xs ys ≡ false → xs ≡ ys → ⊥
-not_same {xs} {ys} e f = no_false e ((same-Decides xs ys).1 f)
-
-same-under : (bs xs ys : List Bool) → same (bs ++ xs) (bs ++ ys) ≡ same xs ys
-same-under [] xs ys = refl
-same-under (true ∷ bs) xs ys = same-under bs xs ys
-same-under (false ∷ bs) xs ys = same-under bs xs ys
-
-pub other_length : (x q : List Bool) → (length x ≡ length q → ⊥) → same x q ≡ false
-other_length x q f = same_false x q (λ e. f (ap length e))
-
-pub both : (a b : Bool) → T (a && b) → T a × T b
-both true b h = (tt, h)
-both false b h = absurd h
-
-pub append_none : {Y : Type 0} (xs : List Y) → xs ++ [] ≡ xs
-append_none [] = refl
-append_none (x ∷ xs) = ap (λ ys. x ∷ ys) (append_none xs)
-
-pub front : (q : List Bool) → 5 ≤ length q → (length (take 5 q) ≡ 5) × (take 5 q ++ drop 5 q ≡ q)
-front q h = (omega (arith, length-take 5 q), take-append-drop 5 q)
-
-pub take_front : (bs k : List Bool) (n : ℕ) → length bs ≡ n → take n (bs ++ k) ≡ bs
-take_front [] k zero e = refl
-take_front [] k (suc n) e = absurd (omega arith)
-take_front (b ∷ bs) k zero e = absurd (omega arith)
-take_front (b ∷ bs) k (suc n) e = ap (λ xs. b ∷ xs) (take_front bs k n (omega arith))
-
-pub take_first : (b k : List Bool) → length b ≡ 5 → take 5 (b ++ k) ≡ b
-take_first b k h = take_front b k 5 h
 
 -- ---- lists of entries
 
@@ -94,11 +18,6 @@ differs q b l n k e = n (ap (take 5) e ∙ take_first b k l)
 
 pub tail_rises : {Y : Type 0} (e : List Bool × Y) (es : List (List Bool × Y)) → T (is_sorted bits_cmp (e ∷ es)) → T (is_sorted bits_cmp es) × T (below_all bits_cmp e.0 es)
 tail_rises e es h = let p = both _ _ h in (p.1, p.0)
-
-pub less-T : (o : Ordering) → T (is_lt o) → o ≡ Less
-less-T Less p = refl
-less-T Equal p = absurd p
-less-T Greater p = absurd p
 
 -- a string before all others is not among them
 pub find_before : {Y : Type 0} (q : List Bool) (es : List (List Bool × Y)) → T (below_all bits_cmp q es) → find bits_cmp q es ≡ None

@@ -8,9 +8,10 @@ use Rattle.std.specs.FinMap.{entries, find, get, is_sorted, entries_sorted, get-
 use Rattle.std.specs.FinMap.Entries.{below_all, same_entries}
 use Rattle.std.proofs.lemmas.Bool.Decides.{nat_tests}
 use Rattle.std.proofs.Math.ListN.{length-append}
-use Rattle.trie_core.specs.Bits.{bits_cmp}
+use Rattle.trie_keys.specs.Bits.{bits_cmp}
 use Rattle.trie_core.specs.Nodes.{BitMap, Seen, under, node_map, IsNode}
-use Rattle.trie_core.proofs.Maps.{both, append_none, bits_total, bits_same, same, same-refl, same-Decides, other_length, front, tail_rises, less-T, or_else, find-append_all, find-apart, find-child, child_get, get-short, get-long, get_none, node_map-none}
+use Rattle.trie_keys.proofs.Strings.{both, append_none, bits_total, bits_same, same, same-refl, same-Decides, other_length, front, less-T}
+use Rattle.trie_core.proofs.Maps.{tail_rises, or_else, find-append_all, find-apart, find-child, child_get, get-short, get-long, get_none, node_map-none}
 
 -- ---- the order of strings
 

@@ -6,12 +6,7 @@ use Rattle.std.specs.FinMap.{find}
 use Rattle.std.proofs.lemmas.Nat.{mod-pow-add, shr-shr, ones_cat, shr_split, pow_pos}
 use Rattle.std.proofs.lemmas.Bool.Decides.{nat_tests}
 use Rattle.trie_core.specs.Places.{at_places}
-
-pub ones_bit : (b : ℕ) → b < 2 → count_ones b ≡ b
-unfolding lib.Count.ones
-ones_bit zero h = refl
-ones_bit (suc zero) h = refl
-ones_bit (suc (suc b)) h = absurd (omega (arith, h))
+use Rattle.trie_keys.proofs.Numbers.{ones_bit}
 
 -- the lowest bit is counted, and the others
 pub ones_low : (a b : ℕ) → b < 2 → count_ones (a * 2 + b) ≡ count_ones a + b

@@ -1,5 +1,5 @@
 -- Searches along a string: by masks within a node, and from node to node.
-use Rattle.std.proofs.Common.{◌≡◌, ℕ, zero, suc, ◌+◌, ◌-◌, ◌*◌, ◌/◌, ◌%◌, ◌^◌, ◌<◌, ◌≤◌, Bool, true, false, cond, not, ◌&&◌, List, [], ◌∷◌, ◌++◌, length, take, drop, get_or, refl, sym, ap, subst, ◌∙◌, arith}
+use Rattle.std.proofs.Common.{◌≡◌, ℕ, zero, suc, ◌+◌, ◌-◌, ◌*◌, ◌/◌, ◌%◌, ◌^◌, ◌<◌, ◌≤◌, Bool, true, false, cond, List, [], ◌∷◌, ◌++◌, length, take, drop, get_or, refl, sym, ap, subst, ◌∙◌, arith}
 use Rattle.std.specs.Prelude.{Option, Some, None, MatchOption, bit_and, min, nat_lt, count_ones}
 use Rattle.std.specs.Int.{bit_at, w32, leading_zeros}
 use Rattle.std.specs.Ordering.{nat_cmp}
@@ -10,12 +10,13 @@ use Rattle.std.proofs.lemmas.Nat.{leading_top}
 use Rattle.std.proofs.lemmas.Nat.Bits.{bit_at_and, bit_at-lt, bit_at_above, bit_at-zero}
 use Rattle.std.proofs.Math.Nat.{div-eq_of_lt-le}
 use Rattle.std.proofs.Math.ListN.{length-take, length-drop}
-use Rattle.trie_core.specs.Bits.{begins, place_from, place_of, place_string}
-use Rattle.trie_core.specs.Places.{at_places, IsBeginMask, IsLastPlace, IsFirstPlace}
+use Rattle.trie_keys.specs.Bits.{place_from, place_of, place_string, IsBeginMask}
+use Rattle.trie_core.specs.Places.{at_places, IsLastPlace, IsFirstPlace}
 use Rattle.trie_core.specs.Nodes.{BitMap, Seen}
 use Rattle.trie_core.specs.Count.{visit_count}
 use Rattle.trie_core.specs.Search.{NoBeginning, IsLongest, IsShortest, NoneBelow, IsLongestBelow, IsChild, HasNoChild}
-use Rattle.trie_core.proofs.Numbers.{place_strings}
+use Rattle.trie_keys.proofs.Numbers.{place_strings}
+use Rattle.trie_keys.proofs.Strings.{begins_take, take_begins}
 use Rattle.trie_core.proofs.Taken.{taken, missing}
 use Rattle.trie_core.proofs.Seen.{IsSeen, value_at}
 
@@ -38,33 +39,6 @@ last_place a h b =
         ap (λ n. n % 2) o
 
 -- ---- beginnings
-
-same_bit : (x y : Bool) → cond x y (not y) ≡ true → x ≡ y
-same_bit true true e = refl
-same_bit true false e = cc
-same_bit false true e = cc
-same_bit false false e = refl
-
-both_true : (a b : Bool) → (a && b) ≡ true → (a ≡ true) × (b ≡ true)
-both_true true b e = (refl, e)
-both_true false b e = cc
-
-pub begins_take : (p q : List Bool) → begins p q ≡ true → (length p ≤ length q) × (take (length p) q ≡ p)
-begins_take [] q e = (omega arith, refl)
-begins_take (x ∷ p) [] e = cc
-begins_take (x ∷ p) (y ∷ q) e =
-    let t = both_true (cond x y (not y)) (begins p q) e in
-    let r = begins_take p q t.1 in
-    (omega (arith, r.0), λ i. sym (same_bit x y t.0) i ∷ r.1 i)
-
-begins_refl_bit : (x : Bool) → cond x x (not x) ≡ true
-begins_refl_bit true = refl
-begins_refl_bit false = refl
-
-pub take_begins : (k : ℕ) (q : List Bool) → begins (take k q) q ≡ true
-take_begins zero q = refl
-take_begins (suc k) [] = refl
-take_begins (suc k) (x ∷ q) = ap (λ b. b && begins (take k q) q) (begins_refl_bit x) ∙ take_begins k q
 
 -- a longer beginning has a higher place
 place_rises : (k : ℕ) (j n : ℕ) (q : List Bool) → n < j → j ≤ length q → j < k → place_from k (take n q) < place_from k (take j q)

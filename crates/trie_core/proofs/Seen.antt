@@ -5,15 +5,16 @@ use Rattle.std.specs.Ordering.{nat_cmp}
 use Rattle.std.specs.FinMap.{find, get, empty}
 use Rattle.std.proofs.lemmas.Nat.{zero_from_ones}
 use Rattle.std.proofs.Math.ListN.{length-append}
-use Rattle.trie_core.specs.Bits.{bits_cmp, place_of, child_of}
+use Rattle.trie_keys.specs.Bits.{bits_cmp, place_of, child_of}
 use Rattle.trie_core.specs.Places.{at_places, value_list, child_list}
 use Rattle.trie_core.specs.Nodes.{BitMap, Seen, node_map, node_height, IsNode, HasSlots}
 use Rattle.trie_core.specs.Count.{nodes, all_nodes, total, spares_below, visit_count}
 use Rattle.trie_core.specs.Search.{IsChild, HasNoChild}
-use Rattle.trie_core.proofs.Maps.{node_map-none, same, take_first, front, child_get, get_none, get-short, get-long}
+use Rattle.trie_keys.proofs.Strings.{same, take_first, front}
+use Rattle.trie_core.proofs.Maps.{node_map-none, child_get, get_none, get-short, get-long}
 use Rattle.trie_core.proofs.Count.{things, all_of_node, bare_lists}
 use Rattle.trie_core.proofs.Visits.{visits_none, visits_some}
-use Rattle.trie_core.proofs.Places.{ones_bit}
+use Rattle.trie_keys.proofs.Numbers.{ones_bit}
 use Rattle.trie_core.proofs.Named.{is_node, value_things, child_things, value_found, child_found}
 
 drop_first : (b k : List Bool) → length b ≡ 5 → drop 5 (b ++ k) ≡ k

@@ -4,7 +4,7 @@ use Rattle.std.specs.FinMap.{FinMap, is_sorted, entries, from_entries, empty, co
 use Rattle.std.specs.Coded.{Coded, code_by, coded×, coded_ℕ, coded_list, coded_bool}
 use Rattle.std.proofs.Common.{arith}
 use denote.Param.Weighed.{most}
-use Rattle.trie_core.specs.Bits.{bits_cmp}
+use Rattle.trie_keys.specs.Bits.{bits_cmp}
 
 -- a finite map from bit strings, in the order of a walk
 abbrev pub BitMap : Type 0 → Type 0

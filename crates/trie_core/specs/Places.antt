@@ -1,9 +1,9 @@
 -- Things at the places that a bitmap names.
-use Rattle.std.specs.Prelude.{◌≡◌, ℕ, zero, suc, ◌/◌, ◌%◌, ◌^◌, ◌<◌, Bool, cond, eqb, not, List, [], ◌∷◌, length, count_ones}
+use Rattle.std.specs.Prelude.{◌≡◌, ℕ, zero, suc, ◌/◌, ◌%◌, ◌^◌, ◌<◌, Bool, cond, eqb, not, List, [], ◌∷◌, count_ones}
 use Rattle.std.specs.Ordering.{nat_cmp, eq_by_cmp}
 use Rattle.std.specs.FinMap.Entries.{where_key}
 use Rattle.std.specs.Int.{bit_at}
-use Rattle.trie_core.specs.Bits.{begins, place_of, place_string, child_string}
+use Rattle.trie_keys.specs.Bits.{place_string, child_string}
 
 -- the first thing at the lowest set bit of the w lowest, whose places go from n on, and the others at the set bits above it
 abbrev pub at_places : {X : Type 0} → ℕ → ℕ → ℕ → List X → List (ℕ × X)
@@ -35,10 +35,6 @@ IsUnset i bits = bits / 2 ^ i % 2 ≡ 0
 -- something stands at place i, after k others
 abbrev pub IsSlot : ℕ → ℕ → ℕ → Type 0
 IsSlot i bits k = (bits / 2 ^ i % 2 ≡ 1) × (k ≡ count_ones (bits % 2 ^ i))
-
--- m has the bits of the places of the strings that begin q, and no other place's
-abbrev pub IsBeginMask : List Bool → ℕ → Type 0
-IsBeginMask q m = (p : List Bool) → length p < 5 → bit_at m (place_of p) ≡ cond (begins p q) 1 0
 
 -- the greatest place that is taken, and the least
 pub record IsLastPlace (bits place : ℕ) : Type 0 where

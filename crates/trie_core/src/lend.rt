@@ -6,9 +6,9 @@ ghost use Rattle.std.specs.FinMap as map;
 ghost use Rattle.trie_core.specs.Lending.{lends_value};
 
 use crate::node::Node;
-use crate::path::Path;
 use crate::slots::slot;
 use std::marker::PhantomData;
+use trie_keys::Path;
 
 /// A way down a node with as many steps as the type says. What a recursion or a loop lends is not proved; a type for each depth is.
 pub(crate) trait Descent {

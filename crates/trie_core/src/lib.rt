@@ -1,15 +1,9 @@
-//! Nodes of a trie over bit strings, and the bit strings as paths down it.
+//! Nodes of a trie over bit strings.
 #![tactic(auto)]
 
-mod key;
 mod lend;
 mod node;
-mod path;
-mod prefix;
 mod slots;
-mod tables;
 
-pub use key::Key;
 pub use node::Node;
-pub use path::Path;
-pub use prefix::{Prefix, path_of, shortened};
+pub use trie_keys::{Key, Path, Prefix, path_of, shortened};

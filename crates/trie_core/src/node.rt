@@ -6,11 +6,10 @@ ghost use Rattle.trie_core.specs.Nodes.{HasSlots};
 ghost use Rattle.trie_core.specs.Count.{all_nodes, visit_count};
 ghost use Rattle.trie_core.specs.Search.{IsChild, HasNoChild, NoneBelow, IsLongestBelow, NoBeginning, IsLongest, IsShortest};
 
-use crate::path::Path;
-use crate::slots::{bit, first_place, get_at, last_place, put_at, slot, take_at, taken_below};
-use crate::tables::place_length;
+use crate::slots::{first_place, get_at, last_place, put_at, reserve_one, slot, take_at, taken_below};
 use std::alloc::Global;
 use std::marker::Model;
+use trie_keys::{Path, bit, place_length};
 
 /// A finite map from bit strings to values, and a number of spare nodes, which hold nothing and lead to nothing.
 #[derive(Drop)]
@@ -25,7 +24,7 @@ impl<T> Model for Node<T> {
     ghost use Rattle.std.specs.Prelude.{ℕ, ◌+◌};
     ghost use Rattle.std.specs.FinMap as map;
     ghost use Rattle.std.proofs.Common.{arith};
-    ghost use Rattle.trie_core.specs.Bits.{bits_cmp};
+    ghost use Rattle.trie_keys.specs.Bits.{bits_cmp};
     ghost use Rattle.trie_core.specs.Places.{value_list, child_list};
     ghost use Rattle.trie_core.specs.Nodes.{node_map, node_height, HasSlots, code, most_le-node_height};
     ghost use Rattle.trie_core.specs.Count.{spares_below};
@@ -246,7 +245,7 @@ impl<T: Drop> Node<T> {
             let child = &mut self.children[at];
             return child.insert(path.rest(), value, may_grow, room);
         }
-        if !may_grow || room == 0 || self.children.reserve(1).is_err() {
+        if !may_grow || room == 0 || reserve_one(&mut self.children).is_err() {
             return Err(value);
         }
         let mut child = Node::new(*self.children.allocator());

@@ -5,17 +5,9 @@ ghost use Rattle.std.specs.Ordering.{nat_cmp};
 ghost use Rattle.std.specs.FinMap.{find, put as put_entry};
 ghost use Rattle.trie_core.specs.Places.{at_places, without, IsUnset, IsSlot, IsLastPlace, IsFirstPlace};
 
-use std::alloc::AllocFailed;
+use std::alloc::{AllocError, AllocFailed};
 use std::mem;
-
-/// The bit of a place in a word.
-#[inline]
-pub(crate) fn bit(place: u8) -> u32
-    requires { place < 32 }
-    ensures { result ≡ 2 ^ place }
-{
-    1u32 << place
-}
+use trie_keys::bit;
 
 /// How many places below this one are taken.
 #[inline]
@@ -49,6 +41,19 @@ pub(crate) fn get_at<X>(taken: u32, items: &[X], place: u8) -> Option<&X>
         None => None,
         Some(at) => Some(&items[at]),
     }
+}
+
+/// Makes room for one thing more: at first for one alone, since most lists stay that short, and then for more at once.
+#[inline]
+pub(crate) fn reserve_one<X>(items: &mut Vec<X>) -> Result<(), AllocError>
+    ensures items { items.new.items ≡ items.old.items }
+    ensures ok { OnOk result (vec_len items.new < vec_capacity items.new) }
+    ensures succeeds { vec_len items.old < vec_capacity items.old → IsOk result }
+{
+    if items.is_empty() {
+        return items.reserve_exact(1);
+    }
+    items.reserve(1)
 }
 
 /// Stores the thing at the place, and answers what stood there.

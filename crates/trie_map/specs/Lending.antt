@@ -3,8 +3,8 @@ use Rattle.std.specs.Prelude.{List, Bool, Option}
 use Rattle.std.specs.Borrow.{Fml, RattleType, MutBor, Lends, LendsIf}
 use Rattle.trie_core.specs.Nodes.{Seen}
 use Rattle.trie_core.specs.Lending.{with_value}
-use Rattle.trie_core.specs.declared.key.Key as key
-use Rattle.trie_core.specs.declared.prefix.Prefix as prefix
+use Rattle.trie_keys.specs.declared.key.Key as key
+use Rattle.trie_keys.specs.declared.prefix.Prefix as prefix
 use Rattle.trie_map.specs.contracts.map.PrefixMap.{the_row}
 
 module _ (P T R : RattleType) (g : prefix.Ghosts P.Denot R.Denot) (k : key.Ghosts R.Denot) (m : MutBor (Seen T.Denot)) (q : List Bool) where

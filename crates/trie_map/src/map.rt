@@ -30,7 +30,7 @@ pub struct PrefixMap<P: Prefix, T> {
 impl<P: Prefix, T> Model for PrefixMap<P, T> {
     ghost use Rattle.std.specs.Prelude.{◌≡◌, ◌≤◌, ℕ};
     ghost use Rattle.std.specs.FinMap as map;
-    ghost use Rattle.trie_core.specs.Bits.{bits_cmp};
+    ghost use Rattle.trie_keys.specs.Bits.{bits_cmp};
     ghost use Rattle.trie_core.specs.Count.{all_nodes};
     ghost use Rattle.trie_core.specs.Nodes.{code};
     ghost use Rattle.trie_map.specs.Maps.{KeysUpTo};
@@ -243,6 +243,7 @@ impl<P: Prefix + Drop, T: Drop> PrefixMap<P, T> {
         ensures value { result ≡ map.get self.old.0 (P.bits prefix.now) }
         ensures map { self.new.0 ≡ map.remove self.old.0 (P.bits prefix.now) }
         ensures tidy { self.old.1 ≡ 0 → self.new.1 ≡ 0 }
+        ensures count { nodes self.new.0 + self.new.1 ≤ nodes self.old.0 + self.old.1 }
     {
         let (value, gone) = self.root.remove(path_of(prefix));
         self.nodes -= usize::from(gone);

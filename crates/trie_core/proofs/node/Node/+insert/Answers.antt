@@ -116,32 +116,32 @@ returns-clause-old g t c =
 pub invariant_of-self-2 : goal.invariant_of-self-2
 invariant_of-self-2 g t c =
     let h : 5 ≤ length c.args.path = grind (arith, nat_tests) in
-    (hung c.args.path c.args.value c.insert-2.new.self (seen c.self.invariant c.self.view_is) h c.five-number.ensures.value c.in_default.ensures c.reserve.ensures.items c.in-Ok.ensures.items c.in-Ok.ensures.counted (c.in-Ok.ensures.below 32 c.five-number.ensures.below c.self.invariant.children_below)
+    (hung c.args.path c.args.value c.insert-2.new.self (seen c.self.invariant c.self.view_is) h c.five-number.ensures.value c.in_default.ensures c.reserve_one.ensures.items c.in-Ok.ensures.items c.in-Ok.ensures.counted (c.in-Ok.ensures.below 32 c.five-number.ensures.below c.self.invariant.children_below)
     (c.in_ok-made.ensures.map ∙ (λ i. insert (c.new-child.ensures.map i) (c.rest-2.ensures i) c.args.value)) (omega (arith, c.in_ok-made.ensures.spares, c.new-child.ensures.spares))).slots
 
 pub returns-clause-map : goal.returns-clause-map
 returns-clause-map g t c =
     let h : 5 ≤ length c.args.path = grind (arith, nat_tests) in
-    (hung c.args.path c.args.value c.insert-2.new.self (seen c.self.invariant c.self.view_is) h c.five-number.ensures.value c.in_default.ensures c.reserve.ensures.items c.in-Ok.ensures.items c.in-Ok.ensures.counted (c.in-Ok.ensures.below 32 c.five-number.ensures.below c.self.invariant.children_below)
+    (hung c.args.path c.args.value c.insert-2.new.self (seen c.self.invariant c.self.view_is) h c.five-number.ensures.value c.in_default.ensures c.reserve_one.ensures.items c.in-Ok.ensures.items c.in-Ok.ensures.counted (c.in-Ok.ensures.below 32 c.five-number.ensures.below c.self.invariant.children_below)
     (c.in_ok-made.ensures.map ∙ (λ i. insert (c.new-child.ensures.map i) (c.rest-2.ensures i) c.args.value)) (omega (arith, c.in_ok-made.ensures.spares, c.new-child.ensures.spares))).map
 
 pub returns-clause-spares : goal.returns-clause-spares
 returns-clause-spares g t c =
     let h : 5 ≤ length c.args.path = grind (arith, nat_tests) in
-    let k = hung c.args.path c.args.value c.insert-2.new.self (seen c.self.invariant c.self.view_is) h c.five-number.ensures.value c.in_default.ensures c.reserve.ensures.items c.in-Ok.ensures.items c.in-Ok.ensures.counted (c.in-Ok.ensures.below 32 c.five-number.ensures.below c.self.invariant.children_below)
+    let k = hung c.args.path c.args.value c.insert-2.new.self (seen c.self.invariant c.self.view_is) h c.five-number.ensures.value c.in_default.ensures c.reserve_one.ensures.items c.in-Ok.ensures.items c.in-Ok.ensures.counted (c.in-Ok.ensures.below 32 c.five-number.ensures.below c.self.invariant.children_below)
     (c.in_ok-made.ensures.map ∙ (λ i. insert (c.new-child.ensures.map i) (c.rest-2.ensures i) c.args.value)) (omega (arith, c.in_ok-made.ensures.spares, c.new-child.ensures.spares)) in
     omega (arith, k.spares)
 
 pub returns-clause-count : goal.returns-clause-count
 returns-clause-count g t c =
     let h : 5 ≤ length c.args.path = grind (arith, nat_tests) in
-    let k = hung c.args.path c.args.value c.insert-2.new.self (seen c.self.invariant c.self.view_is) h c.five-number.ensures.value c.in_default.ensures c.reserve.ensures.items c.in-Ok.ensures.items c.in-Ok.ensures.counted (c.in-Ok.ensures.below 32 c.five-number.ensures.below c.self.invariant.children_below)
+    let k = hung c.args.path c.args.value c.insert-2.new.self (seen c.self.invariant c.self.view_is) h c.five-number.ensures.value c.in_default.ensures c.reserve_one.ensures.items c.in-Ok.ensures.items c.in-Ok.ensures.counted (c.in-Ok.ensures.below 32 c.five-number.ensures.below c.self.invariant.children_below)
     (c.in_ok-made.ensures.map ∙ (λ i. insert (c.new-child.ensures.map i) (c.rest-2.ensures i) c.args.value)) (omega (arith, c.in_ok-made.ensures.spares, c.new-child.ensures.spares)) in
     omega (arith, k.count, c.in_ok-made.ensures.count, new_nodes c.new-child.result c.new-child.ensures.map c.new-child.ensures.spares)
 
 pub returns-clause-levels : goal.returns-clause-levels
 returns-clause-levels g t c =
     let h : 5 ≤ length c.args.path = grind (arith, nat_tests) in
-    let k = hung c.args.path c.args.value c.insert-2.new.self (seen c.self.invariant c.self.view_is) h c.five-number.ensures.value c.in_default.ensures c.reserve.ensures.items c.in-Ok.ensures.items c.in-Ok.ensures.counted (c.in-Ok.ensures.below 32 c.five-number.ensures.below c.self.invariant.children_below)
+    let k = hung c.args.path c.args.value c.insert-2.new.self (seen c.self.invariant c.self.view_is) h c.five-number.ensures.value c.in_default.ensures c.reserve_one.ensures.items c.in-Ok.ensures.items c.in-Ok.ensures.counted (c.in-Ok.ensures.below 32 c.five-number.ensures.below c.self.invariant.children_below)
     (c.in_ok-made.ensures.map ∙ (λ i. insert (c.new-child.ensures.map i) (c.rest-2.ensures i) c.args.value)) (omega (arith, c.in_ok-made.ensures.spares, c.new-child.ensures.spares)) in
     omega (arith, k.height, c.in_ok-made.ensures.levels, c.new-child.ensures.levels, ap (λ q. length q / 5 + 1) c.rest-2.ensures, depth_rest c.args.path h)

@@ -2,7 +2,7 @@ use Rattle.std.proofs.Common.{◌≡◌, ◌∙◌, ap, sym}
 use Rattle.std.specs.FinMap.{len, len-empty, empty_of_len}
 use Rattle.std.proofs.lemmas.Bool.Decides.{nat_tests}
 use Rattle.std.proofs.Common.{arith}
-use Rattle.trie_core.specs.Bits.{bits_cmp}
+use Rattle.trie_keys.specs.Bits.{bits_cmp}
 use Rattle.trie_map.proofs.map.PrefixMap.is_empty.Goals as goal
 
 pub returns : goal.returns

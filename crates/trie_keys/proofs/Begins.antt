@@ -1,0 +1,76 @@
+-- The tables of places, each item tested against its rule.
+use Rattle.std.proofs.Common.{◌≡◌, ℕ, zero, suc, ◌+◌, ◌%◌, ◌^◌, ◌<◌, ◌≤◌, Bool, true, false, cond, not, ◌&&◌, List, [], ◌∷◌, length, take, get_or, refl, sym, ap, ◌∙◌, arith}
+use Rattle.std.specs.Prelude.{T, eqb}
+use Rattle.std.specs.Int.{bit_at}
+use Rattle.std.proofs.lemmas.Bool.Decides.{nat_tests}
+use Rattle.std.proofs.Math.ListN.{length-take}
+use Rattle.trie_keys.specs.Bits.{begins, place_from, place_of, number_from, child_of, place_string, IsBeginMask}
+use Rattle.trie_keys.proofs.Strings.{both}
+use Rattle.trie_keys.proofs.Numbers.{place_strings, number-take}
+
+T-true : (b : Bool) → T b → b ≡ true
+T-true true h = refl
+T-true false h = absurd h
+
+-- a test of all strings of fewer than k bits
+abbrev every : ℕ → (List Bool → Bool) → Bool
+every zero t = true
+every (suc k) t = t [] && (every k (λ bs. t (true ∷ bs)) && every k (λ bs. t (false ∷ bs)))
+
+every_holds : (k : ℕ) (t : List Bool → Bool) → T (every k t) → (bs : List Bool) → length bs < k → t bs ≡ true
+every_holds zero t h bs l = absurd (omega (arith, l))
+every_holds (suc k) t h [] l = T-true _ (both (t []) (every k (λ bs. t (true ∷ bs)) && every k (λ bs. t (false ∷ bs))) h).0
+every_holds (suc k) t h (true ∷ bs) l = every_holds k (λ bs. t (true ∷ bs)) (both (every k (λ bs. t (true ∷ bs))) (every k (λ bs. t (false ∷ bs))) (both (t []) (every k (λ bs. t (true ∷ bs)) && every k (λ bs. t (false ∷ bs))) h).1).0 bs (omega (arith, l))
+every_holds (suc k) t h (false ∷ bs) l = every_holds k (λ bs. t (false ∷ bs)) (both (every k (λ bs. t (true ∷ bs))) (every k (λ bs. t (false ∷ bs))) (both (t []) (every k (λ bs. t (true ∷ bs)) && every k (λ bs. t (false ∷ bs))) h).1).1 bs (omega (arith, l))
+
+-- a test of all strings of k bits
+abbrev each_of : ℕ → (List Bool → Bool) → Bool
+each_of zero t = t []
+each_of (suc k) t = each_of k (λ bs. t (true ∷ bs)) && each_of k (λ bs. t (false ∷ bs))
+
+each_holds : (k : ℕ) (t : List Bool → Bool) → T (each_of k t) → (bs : List Bool) → length bs ≡ k → t bs ≡ true
+each_holds zero t h [] l = T-true _ h
+each_holds zero t h (b ∷ bs) l = absurd (omega (arith, l))
+each_holds (suc k) t h [] l = absurd (omega (arith, l))
+each_holds (suc k) t h (true ∷ bs) l = each_holds k (λ bs. t (true ∷ bs)) (both (each_of k (λ bs. t (true ∷ bs))) (each_of k (λ bs. t (false ∷ bs))) h).0 bs (omega (arith, l))
+each_holds (suc k) t h (false ∷ bs) l = each_holds k (λ bs. t (false ∷ bs)) (both (each_of k (λ bs. t (true ∷ bs))) (each_of k (λ bs. t (false ∷ bs))) h).1 bs (omega (arith, l))
+
+eqb_same : (a b : ℕ) → eqb a b ≡ true → a ≡ b
+eqb_same a b h = grind (arith, nat_tests)
+
+abbrev pub masks : List ℕ
+masks = 31 ∷ 31 ∷ 47 ∷ 47 ∷ 199 ∷ 199 ∷ 327 ∷ 327 ∷ 3587 ∷ 3587 ∷ 5635 ∷ 5635 ∷ 25091 ∷ 25091 ∷ 41475 ∷ 41475 ∷ 983041 ∷ 983041 ∷ 1507329 ∷ 1507329 ∷ 6488065 ∷ 6488065 ∷ 10682369 ∷ 10682369 ∷ 117506049 ∷ 117506049 ∷ 184614913 ∷ 184614913 ∷ 822149121 ∷ 822149121 ∷ 1359020033 ∷ 1359020033 ∷ []
+
+abbrev lengths : List ℕ
+lengths = 0 ∷ 1 ∷ 2 ∷ 3 ∷ 4 ∷ 4 ∷ 3 ∷ 4 ∷ 4 ∷ 2 ∷ 3 ∷ 4 ∷ 4 ∷ 3 ∷ 4 ∷ 4 ∷ 1 ∷ 2 ∷ 3 ∷ 4 ∷ 4 ∷ 3 ∷ 4 ∷ 4 ∷ 2 ∷ 3 ∷ 4 ∷ 4 ∷ 3 ∷ 4 ∷ 4 ∷ []
+
+-- the mask has the bits of the places that begin q
+abbrev mask_test : List Bool → ℕ → Bool
+mask_test q m = every 5 (λ p. eqb (bit_at m (place_from 5 p)) (cond (begins p q) 1 0))
+
+mask_holds : (q : List Bool) (m : ℕ) → mask_test q m ≡ true → IsBeginMask q m
+mask_holds q m h p l = eqb_same _ _ (every_holds 5 (λ p. eqb (bit_at m (place_from 5 p)) (cond (begins p q) 1 0)) (rw h tt) p l)
+
+five_masks : (q : List Bool) → length q ≡ 5 → IsBeginMask q (get_or masks (child_of q) 0)
+five_masks q l = mask_holds q (get_or masks (child_of q) 0) (each_holds 5 (λ q. mask_test q (get_or masks (number_from 5 q) 0)) tt q l)
+
+-- fewer than k bits begin a string where they begin its first k
+begins_front : (k : ℕ) (p q : List Bool) → length p ≤ k → begins p (take k q) ≡ begins p q
+begins_front k [] q h = refl
+begins_front zero (x ∷ p) q h = absurd (omega (arith, h))
+begins_front (suc k) (x ∷ p) [] h = refl
+begins_front (suc k) (x ∷ p) (y ∷ q) h = ap (λ b. cond x y (not y) && b) (begins_front k p q (omega (arith, h)))
+
+pub long_mask : (q : List Bool) → 5 ≤ length q → IsBeginMask q (get_or masks (child_of q) 0)
+long_mask q h p l =
+    ap (λ n. bit_at (get_or masks n 0) (place_of p)) (sym (number-take 5 q))
+    ∙ five_masks (take 5 q) (omega (arith, length-take 5 q, h)) p l
+    ∙ ap (λ b. cond b 1 0) (begins_front 5 p q (omega (arith, l)))
+
+pub short_mask : (q : List Bool) → length q < 5 → IsBeginMask q (get_or masks (child_of q) 0 % 2 ^ (place_of q + 1))
+short_mask q h = mask_holds q (get_or masks (child_of q) 0 % 2 ^ (place_of q + 1)) (every_holds 5 (λ q. mask_test q (get_or masks (number_from 5 q) 0 % 2 ^ (place_from 5 q + 1))) tt q h)
+
+pub length_of_place : (n : ℕ) → n < 31 → get_or lengths n 0 ≡ length (place_string n)
+length_of_place n h =
+    let s = place_strings n h in
+    ap (λ i. get_or lengths i 0) (sym s.place) ∙ eqb_same _ _ (every_holds 5 (λ q. eqb (get_or lengths (place_from 5 q) 0) (length q)) tt (place_string n) s.short)

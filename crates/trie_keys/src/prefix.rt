@@ -1,0 +1,173 @@
+//! Prefixes, as the strings of their bits.
+ghost use Rattle.std.specs.Prelude.{◌≡◌, ℕ, ◌<◌, ◌≤◌, ◌^◌, ◌/◌, ◌-◌, List, Bool, length, take, IsTrue, ◌↔◌};
+ghost use Rattle.ipnet_addr.specs.Addresses.{Ipv4, Ipv6};
+ghost use Rattle.ipnet_blocks.specs.Blocks.{bit_string};
+ghost use Rattle.ipnet_blocks.specs.Networks.{block_of};
+ghost use Rattle.trie_keys.specs.Bits.{number_from, begins};
+ghost use Rattle.trie_keys.specs.Prefixes.{prefix_bits, IsMasked};
+
+use crate::key::Key;
+use crate::path::Path;
+use ipnet::{Ipv4Net, Ipv6Net};
+use ipnet_addr::bits::{ipv4_of, ipv6_of};
+
+/// A key and how many of its first bits count, as in the Rust crate prefix-trie 0.10.1.
+pub trait Prefix {
+    type R: Key;
+
+    /// The bits that count, highest first.
+    ghost bits: { Self → List Bool };
+
+    /// The prefix of these bits that has zeros after them.
+    ghost of_bits: { List Bool → Self };
+
+    /// The key, whose first bits count.
+    fn repr(&self) -> Self::R
+        requires { length (bits self.now) ≤ Self.R.width }
+        ensures { prefix_bits Self.R.width (Self.R.number result) (length (bits self.now)) ≡ bits self.now };
+
+    /// How many bits count.
+    fn prefix_len(&self) -> u8
+        ensures { result ≡ length (bits self.now) };
+
+    /// The prefix of the first `len` bits of a key.
+    fn from_repr_len(repr: Self::R, len: u8) -> Self
+        requires { len ≤ Self.R.width }
+        ensures bits { bits result ≡ prefix_bits Self.R.width (Self.R.number repr) len }
+        ensures masked { IsMasked Self.R.width (Self.R.number repr) len → result ≡ of_bits (prefix_bits Self.R.width (Self.R.number repr) len) };
+
+    /// How many bits a key has.
+    fn num_bits() -> u32
+        ensures { result ≡ Self.R.width }
+    {
+        <Self::R as Key>::width() as u32
+    }
+
+    /// The key with zeros after the bits that count.
+    fn mask(&self) -> Self::R
+        requires { length (bits self.now) ≤ Self.R.width }
+        ensures number { Self.R.number result ≡ number_from Self.R.width (bits self.now) }
+    {
+        masked_key(self.repr(), self.prefix_len())
+    }
+
+    /// Whether its bits begin the other's.
+    fn contains(&self, other: &Self) -> bool
+        requires within { length (bits self.now) ≤ Self.R.width }
+        requires other_within { length (bits other.now) ≤ Self.R.width }
+        ensures { IsTrue result ↔ IsTrue (begins (bits self.now) (bits other.now)) }
+    {
+        let len = self.prefix_len();
+        len <= other.prefix_len()
+            && masked_key(other.repr(), len).to_bits() == self.mask().to_bits()
+    }
+}
+
+/// A key with zeros after its first `len` bits.
+#[inline]
+pub fn masked_key<R: Key>(key: R, len: u8) -> R
+    requires { len ≤ R.width }
+    ensures number { R.number result ≡ number_from R.width (prefix_bits R.width (R.number key) len) }
+    ensures masked { IsMasked R.width (R.number result) len }
+    ensures bits { prefix_bits R.width (R.number result) len ≡ prefix_bits R.width (R.number key) len }
+{
+    if len == 0 {
+        return R::from_bits(0);
+    }
+    let free = R::width() - len;
+    R::from_bits(key.to_bits() >> free << free)
+}
+
+/// The prefix of the first `len` bits, with zeros after them.
+#[inline]
+pub fn shortened<P: Prefix>(prefix: &P, len: u8) -> P
+    requires whole { length (P.bits prefix.now) ≤ P.R.width }
+    requires within { len ≤ length (P.bits prefix.now) }
+    ensures key { result ≡ P.of_bits (take len (P.bits prefix.now)) }
+    ensures bits { P.bits result ≡ take len (P.bits prefix.now) }
+{
+    P::from_repr_len(masked_key(prefix.repr(), len), len)
+}
+
+/// The way to a prefix.
+#[inline]
+pub fn path_of<P: Prefix>(prefix: &P) -> Path
+    requires { length (P.bits prefix.now) ≤ P.R.width }
+    ensures value { result ≡ P.bits prefix.now }
+    ensures within { length result ≤ 128 }
+{
+    let width = <P::R as Key>::width();
+    Path::new(
+        prefix.repr().to_bits() << (128 - width),
+        prefix.prefix_len(),
+    )
+}
+
+impl<R: Key> Prefix for (R, u8) {
+    type R = R;
+
+    ghost bits = { λ p. prefix_bits R.width (R.number p.0) p.1 };
+
+    ghost of_bits = { λ s. (R.of_number (number_from R.width s), length s) };
+
+    #[inline]
+    fn repr(&self) -> R {
+        self.0
+    }
+
+    #[inline]
+    fn prefix_len(&self) -> u8 {
+        self.1
+    }
+
+    #[inline]
+    fn from_repr_len(repr: R, len: u8) -> (R, u8) {
+        (repr, len)
+    }
+}
+
+impl Prefix for Ipv4Net {
+    type R = u32;
+
+    ghost bits = { λ n. bit_string (block_of Ipv4 n) };
+
+    ghost of_bits = { λ s. record { number = number_from 32 s; len = length s } };
+
+    #[inline]
+    fn repr(&self) -> u32 {
+        self.addr().to_bits()
+    }
+
+    #[inline]
+    fn prefix_len(&self) -> u8 {
+        Ipv4Net::prefix_len(self)
+    }
+
+    #[inline]
+    fn from_repr_len(repr: u32, len: u8) -> Ipv4Net {
+        Ipv4Net::new_assert(ipv4_of(repr), len)
+    }
+}
+
+impl Prefix for Ipv6Net {
+    type R = u128;
+
+    ghost bits = { λ n. bit_string (block_of Ipv6 n) };
+
+    ghost of_bits = { λ s. record { number = number_from 128 s; len = length s } };
+
+    #[inline]
+    fn repr(&self) -> u128 {
+        self.addr().to_bits()
+    }
+
+    #[inline]
+    fn prefix_len(&self) -> u8 {
+        Ipv6Net::prefix_len(self)
+    }
+
+    #[inline]
+    fn from_repr_len(repr: u128, len: u8) -> Ipv6Net {
+        Ipv6Net::new_assert(ipv6_of(repr), len)
+    }
+}

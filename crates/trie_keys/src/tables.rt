@@ -1,0 +1,46 @@
+//! The places of a node: which begin a string, how long the string at a place is, and the bit of a place.
+ghost use Rattle.std.specs.Prelude.{◌≡◌, ◌<◌, ◌≤◌, ◌^◌, ◌+◌, ◌%◌, List, Bool, length};
+ghost use Rattle.trie_keys.specs.Bits.{place_of, child_of, place_string, IsBeginMask};
+
+/// For each five bits the places of their beginnings of fewer than five bits.
+const BEGINNINGS: [u32; 32] = [
+    31, 31, 47, 47, 199, 199, 327, 327, 3587, 3587, 5635, 5635, 25091, 25091, 41475, 41475, 983041,
+    983041, 1507329, 1507329, 6488065, 6488065, 10682369, 10682369, 117506049, 117506049,
+    184614913, 184614913, 822149121, 822149121, 1359020033, 1359020033,
+];
+
+/// For each place the length of its string.
+const LENGTHS: [u8; 31] = [
+    0, 1, 2, 3, 4, 4, 3, 4, 4, 2, 3, 4, 4, 3, 4, 4, 1, 2, 3, 4, 4, 3, 4, 4, 2, 3, 4, 4, 3, 4, 4,
+];
+
+/// The places of the strings that begin a path whose first five bits, with zeros after them, form the number.
+///
+/// Where the path is shorter than five bits these are the ones up to its own place.
+#[inline]
+pub(crate) fn beginnings(five: u8) -> u32
+    requires { five < 32 }
+    ensures long { (q : List Bool) → 5 ≤ length q → child_of q ≡ five → IsBeginMask q result }
+    ensures short { (q : List Bool) → length q < 5 → child_of q ≡ five → IsBeginMask q (result % 2 ^ (place_of q + 1)) }
+{
+    BEGINNINGS[five as usize]
+}
+
+/// How many bits the string at a place has.
+#[inline]
+pub fn place_length(place: u8) -> u8
+    requires { place < 31 }
+    ensures value { result ≡ length (place_string place) }
+    ensures below { result < 5 }
+{
+    LENGTHS[place as usize]
+}
+
+/// The bit of a place in a word.
+#[inline]
+pub fn bit(place: u8) -> u32
+    requires { place < 32 }
+    ensures { result ≡ 2 ^ place }
+{
+    1u32 << place
+}

@@ -1,0 +1,132 @@
+//! Each generic function at concrete types, called through its bound.
+ghost use Rattle.std.specs.Prelude.{◌≤◌, length};
+ghost use Rattle.ipnet_addr.specs.Addresses.{Ipv4, Ipv6};
+ghost use Rattle.ipnet_blocks.specs.Blocks.{bit_string};
+ghost use Rattle.ipnet_blocks.specs.Networks.{block_of};
+
+use crate::{Key, Path, Prefix, path_of, shortened};
+use ipnet::{Ipv4Net, Ipv6Net};
+use std::process::Abort;
+use std::str::FromStr;
+
+/// A mask, and a key moved up and down.
+fn moved<K: Key>(key: K, count: u8) -> (u128, u128, u128)
+    requires { count ≤ K.width }
+{
+    (
+        K::mask(count).to_bits(),
+        key.shifted_left(count).to_bits(),
+        key.shifted_right(count).to_bits(),
+    )
+}
+
+#[test]
+fn keys(rt: HostRuntime) {
+    assert_eq!(rt; moved(0x93_u8, 3), (0xe0, 0x98, 0x12));
+    assert_eq!(rt; moved(0x93_u8, 8), (0xff, 0, 0));
+    assert_eq!(rt; moved(0x8001_u16, 1), (0x8000, 2, 0x4000));
+    assert_eq!(rt; moved(0x8000_0001_u32, 0), (0, 0x8000_0001, 0x8000_0001));
+    assert_eq!(rt; moved(0x8000_0001_u32, 32), (0xffff_ffff, 0, 0));
+    assert_eq!(rt;
+        moved(0xff_u64, 60),
+        (0xffff_ffff_ffff_fff0, 0xf000_0000_0000_0000, 0)
+    );
+    assert_eq!(rt; moved(u128::MAX, 127), (u128::MAX - 1, 1 << 127, 1));
+    assert_eq!(rt; moved(u128::MAX, 128), (u128::MAX, 0, 0));
+}
+
+/// The width, the key with zeros after the bits that count, and whether the other prefix is contained.
+fn parts<P: Prefix>(prefix: &P, other: &P) -> (u32, u128, bool)
+    requires within { length (P.bits prefix.now) ≤ P.R.width }
+    requires other_within { length (P.bits other.now) ≤ P.R.width }
+{
+    (
+        P::num_bits(),
+        prefix.mask().to_bits(),
+        prefix.contains(other),
+    )
+}
+
+/// The key and the length of a beginning.
+fn beginning<P: Prefix + Drop>(prefix: &P, len: u8) -> (u128, u8)
+    requires whole { length (P.bits prefix.now) ≤ P.R.width }
+    requires within { len ≤ length (P.bits prefix.now) }
+{
+    let shorter = shortened(prefix, len);
+    (shorter.repr().to_bits(), shorter.prefix_len())
+}
+
+/// An IPv4 network, which is never longer than its family allows.
+fn net(rt: &impl Abort, text: &str) -> Ipv4Net
+    ensures { length (bit_string (block_of Ipv4 result)) ≤ 32 }
+{
+    let net = Ipv4Net::from_str(text).expect(rt, "a network");
+    let _within = net.prefix_len();
+    net
+}
+
+/// The same of an IPv6 network.
+fn wide_net(rt: &impl Abort, text: &str) -> Ipv6Net
+    ensures { length (bit_string (block_of Ipv6 result)) ≤ 128 }
+{
+    let net = Ipv6Net::from_str(text).expect(rt, "a network");
+    let _within = net.prefix_len();
+    net
+}
+
+#[test]
+fn prefixes(rt: HostRuntime) {
+    assert_eq!(rt; parts(&(0x93_u8, 3), &(0x9f_u8, 5)), (8, 0x80, true));
+    assert_eq!(rt; parts(&(0x93_u8, 5), &(0x9f_u8, 5)), (8, 0x90, false));
+    assert_eq!(rt; parts(&(0x9f_u8, 5), &(0x9f_u8, 3)), (8, 0x98, false));
+    assert_eq!(rt; parts(&(0x9f_u8, 0), &(0x00_u8, 0)), (8, 0, true));
+    assert_eq!(rt;
+        parts(&(u128::MAX, 127), &(u128::MAX, 128)),
+        (128, u128::MAX - 1, true)
+    );
+    assert_eq!(rt;
+        parts(&(u128::MAX, 128), &(u128::MAX - 1, 128)),
+        (128, u128::MAX, false)
+    );
+    let short = net(&rt, "10.1.2.3/16");
+    assert_eq!(rt;
+        parts(&short, &net(&rt, "10.1.9.9/32")),
+        (32, 0x0a01_0000, true)
+    );
+    assert_eq!(rt;
+        parts(&short, &net(&rt, "10.2.2.3/16")),
+        (32, 0x0a01_0000, false)
+    );
+    let wide = wide_net(&rt, "2001:db8::1/32");
+    let top = 0x2001_0db8_u128 << 96;
+    assert_eq!(rt;
+        parts(&wide, &wide_net(&rt, "2001:db8:ffff::/48")),
+        (128, top, true)
+    );
+    assert_eq!(rt;
+        parts(&wide, &wide_net(&rt, "2001:db8::/31")),
+        (128, top, false)
+    );
+}
+
+#[test]
+fn beginnings(rt: HostRuntime) {
+    assert_eq!(rt; beginning(&(0x93_u8, 8), 4), (0x90, 4));
+    assert_eq!(rt; beginning(&(u128::MAX, 128), 1), (1 << 127, 1));
+    assert_eq!(rt; net(&rt, "10.1.2.3/16").mask(), 0x0a01_0000);
+    assert_eq!(rt; wide_net(&rt, "8000::1/1").mask(), 1 << 127);
+}
+
+/// Nineteen in five bits, then 011: the place of 011 stands after those of the empty string, 0, 00 to 0011, 01 to 0101.
+#[test]
+fn paths(rt: HostRuntime) {
+    let path: Path = path_of(&(0x9b_u8, 8));
+    assert_eq!(rt; path.len(), 8);
+    assert_eq!(rt; path.depth(), 1);
+    assert!(rt; !path.is_short());
+    assert_eq!(rt; path.five(), 19);
+    let rest = path.rest();
+    assert!(rt; rest.is_short());
+    assert_eq!(rt; rest.place(), 13);
+    assert_eq!(rt; rest.beginnings(), 1 + 2 + 512 + 8192);
+}
