@@ -16,3 +16,7 @@ pub mod Lent
 pub mod Masked
 pub mod Kept
 pub mod Shifts
+pub mod Splits
+pub mod Longer
+pub mod Frames
+pub mod Walks

@@ -6,3 +6,5 @@ pub mod Paths
 pub mod Search
 pub mod Lending
 pub mod Prefixes
+pub mod Walks
+pub mod Steps

@@ -2,6 +2,7 @@
 ghost use Rattle.std.specs.Prelude.{◌≡◌, ◌<◌, ◌≤◌, ◌^◌, ◌+◌, ◌%◌, List, Bool, length};
 ghost use Rattle.trie_core.specs.Bits.{place_of, child_of, place_string};
 ghost use Rattle.trie_core.specs.Places.{IsBeginMask};
+ghost use Rattle.trie_core.specs.Prefixes.{prefix_bits, IsMasked};
 
 /// For each five bits the places of their beginnings of fewer than five bits.
 const BEGINNINGS: [u32; 32] = [
@@ -13,6 +14,12 @@ const BEGINNINGS: [u32; 32] = [
 /// For each place the length of its string.
 const LENGTHS: [u8; 31] = [
     0, 1, 2, 3, 4, 4, 3, 4, 4, 2, 3, 4, 4, 3, 4, 4, 1, 2, 3, 4, 4, 3, 4, 4, 2, 3, 4, 4, 3, 4, 4,
+];
+
+/// For each place the number that its string forms, with zeros after it up to five bits.
+const NUMBERS: [u8; 31] = [
+    0, 0, 0, 0, 0, 2, 4, 4, 6, 8, 8, 8, 10, 12, 12, 14, 16, 16, 16, 16, 18, 20, 20, 22, 24, 24, 24,
+    26, 28, 28, 30,
 ];
 
 /// The places of the strings that begin a path whose first five bits, with zeros after them, form the number.
@@ -35,4 +42,16 @@ pub(crate) fn place_length(place: u8) -> u8
     ensures below { result < 5 }
 {
     LENGTHS[place as usize]
+}
+
+/// The number that the string at a place forms, with zeros after it: that of the first child below the place.
+#[inline]
+pub(crate) fn first_child(place: u8) -> u8
+    requires { place < 31 }
+    ensures value { result ≡ child_of (place_string place) }
+    ensures bits { prefix_bits 5 result (length (place_string place)) ≡ place_string place }
+    ensures masked { IsMasked 5 result (length (place_string place)) }
+    ensures below { result < 32 }
+{
+    NUMBERS[place as usize]
 }
