@@ -11,7 +11,8 @@ use Rattle.trie_core.specs.Nodes.{BitMap, Seen, under, node_map, IsNode}
 use Rattle.trie_core.specs.Count.{fives_from, fives, fives_of, begun, nodes, nodes_if, spare_if, spares_below, all_nodes, total}
 use Rattle.trie_keys.proofs.Strings.{bits_total, bits_same, same, same-Decides, same-refl, append_none, take_first, front}
 use Rattle.trie_core.proofs.Maps.{tail_rises, or_else, find-append_all, find-under, find-apart, node_map-none, get-short, get_none}
-use Rattle.trie_core.proofs.Order.{StartsAfter, T-and, below_under, below_append, less_right, less_left, found_above, below_found, found_long, found_get, sorted_under, walk_value, walk_child, walk_none, without_value, without_child, first_value, starts_after, values_after}
+use Rattle.trie_core.specs.Walks.{first_value}
+use Rattle.trie_core.proofs.Order.{StartsAfter, T-and, below_under, below_append, less_right, less_left, found_above, below_found, found_long, found_get, sorted_under, walk_value, walk_child, walk_none, without_value, without_child, starts_after, values_after}
 
 take_more : (b k : List Bool) (n : ℕ) → length b ≡ 5 → take (5 + n) (b ++ k) ≡ b ++ take n k
 take_more (a ∷ b ∷ c ∷ d ∷ e ∷ []) k n h = let z : 5 + n ≡ suc (suc (suc (suc (suc n)))) = omega arith in rw z refl

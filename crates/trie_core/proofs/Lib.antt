@@ -11,3 +11,7 @@ pub mod Searches
 pub mod Changes
 pub mod Lent
 pub mod Kept
+pub mod Splits
+pub mod Longer
+pub mod Frames
+pub mod Walks

@@ -8,7 +8,7 @@ use Rattle.std.specs.FinMap.{find, put, is_sorted}
 use Rattle.std.specs.FinMap.Entries.{below_all, by_order}
 use Rattle.std.proofs.lemmas.Bool.Decides.{nat_tests}
 use Rattle.trie_keys.specs.Bits.{bits_cmp, place_of, child_of, place_string, child_string}
-use Rattle.trie_core.specs.Places.{at_places, without, named, value_list, child_list}
+use Rattle.trie_core.specs.Places.{at_places, AllBelow, without, named, value_list, child_list}
 use Rattle.trie_core.specs.Nodes.{Seen, AreShort, AreLong, IsNode}
 use Rattle.trie_keys.proofs.Strings.{same, same-refl, same-Decides, no_false, both, less-T, same_false}
 use Rattle.trie_core.proofs.Maps.{ListChanges}
@@ -54,11 +54,6 @@ apart_by {f} a n m h l d false e p =
 
 names_apart : {f : ℕ → List Bool} {w : ℕ} → IsNaming f w → (n m : ℕ) → n < w → m < w → (n ≡ m → ⊥) → f n ≡ f m → ⊥
 names_apart a n m h l d = apart_by a n m h l d (nat_lt n m) refl
-
--- each number is below w
-abbrev pub AllBelow : {X : Type 0} → ℕ → List (ℕ × X) → Type 0
-AllBelow w [] = Unit {0}
-AllBelow w (e ∷ es) = (e.0 < w) × AllBelow w es
 
 differs : (n m : ℕ) → eq_by_cmp nat_cmp n m ≡ false → n ≡ m → ⊥
 differs n m e p = let z : eq_by_cmp nat_cmp n m ≡ true = grind (arith, nat_tests) in no_false e z
@@ -184,18 +179,18 @@ module _ {X : Type 0} where
   unfolding child_list
   child_things bits xs b e = things_at child_string 32 0 bits xs b e
 
-  values_short : (es : List (ℕ × X)) → AllBelow 31 es → AreShort (named place_string es)
+  pub values_short : (es : List (ℕ × X)) → AllBelow 31 es → AreShort (named place_string es)
   values_short [] b = tt
   values_short (e ∷ es) b = ((place_strings e.0 b.0).short, values_short es b.1)
 
-  children_long : (es : List (ℕ × X)) → AreLong (named child_string es)
+  pub children_long : (es : List (ℕ × X)) → AreLong (named child_string es)
   children_long [] = tt
   children_long (e ∷ es) = (length-child_string e.0, children_long es)
 
-  values_below : (bits : ℕ) (xs : List X) → bits < 2 ^ 31 → AllBelow 31 (at_places 32 0 bits xs)
+  pub values_below : (bits : ℕ) (xs : List X) → bits < 2 ^ 31 → AllBelow 31 (at_places 32 0 bits xs)
   values_below bits xs b = at_below 32 0 31 bits xs b
 
-  children_below : (bits : ℕ) (xs : List X) → bits < 2 ^ 32 → AllBelow 32 (at_places 32 0 bits xs)
+  pub children_below : (bits : ℕ) (xs : List X) → bits < 2 ^ 32 → AllBelow 32 (at_places 32 0 bits xs)
   children_below bits xs b = at_below 32 0 32 bits xs b
 
   -- what is found at a string, by its number

@@ -9,6 +9,7 @@ use Rattle.std.specs.FinMap.Entries.{below_all, same_entries}
 use Rattle.std.proofs.lemmas.Bool.Decides.{nat_tests}
 use Rattle.std.proofs.Math.ListN.{length-append}
 use Rattle.trie_keys.specs.Bits.{bits_cmp}
+use Rattle.trie_core.specs.Walks.{first_value}
 use Rattle.trie_core.specs.Nodes.{BitMap, Seen, under, node_map, IsNode}
 use Rattle.trie_keys.proofs.Strings.{both, append_none, bits_total, bits_same, same, same-refl, same-Decides, other_length, front, less-T}
 use Rattle.trie_core.proofs.Maps.{tail_rises, or_else, find-append_all, find-apart, find-child, child_get, get-short, get-long, get_none, node_map-none}
@@ -191,11 +192,6 @@ module _ {X : Type 0} where
   walk_none = ap entries node_map-none ∙ same_entries bits_cmp bits_total bits_same (entries empty) [] (entries_sorted empty) tt (λ q. sym (get-entries empty q) ∙ get_none {X = X} q)
 
 -- ---- whether a walk gives the first value next, or the first child's entries
-
-abbrev pub first_value : {X Y : Type 0} → List (List Bool × X) → List (List Bool × Y) → Bool
-first_value [] cs = false
-first_value (e ∷ vs) [] = true
-first_value (e ∷ vs) (c ∷ cs) = is_lt (bits_cmp e.0 c.0)
 
 is_less : (o : Ordering) → is_lt o ≡ true → o ≡ Less
 is_less Less e = refl

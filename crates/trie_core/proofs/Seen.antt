@@ -26,7 +26,7 @@ drop_first (a ∷ b ∷ c ∷ []) k h = absurd (omega arith)
 drop_first (a ∷ b ∷ c ∷ d ∷ []) k h = absurd (omega arith)
 drop_first (a ∷ b ∷ c ∷ d ∷ e ∷ f ∷ bs) k h = absurd (omega arith)
 
-no_items : {Y : Type 0} (ys : List Y) → length ys ≡ 0 → ys ≡ []
+pub no_items : {Y : Type 0} (ys : List Y) → length ys ≡ 0 → ys ≡ []
 no_items [] e = refl
 no_items (y ∷ ys) e = absurd (omega arith)
 

@@ -3,3 +3,5 @@ pub mod Nodes
 pub mod Count
 pub mod Search
 pub mod Lending
+pub mod Walks
+pub mod Steps

@@ -1,5 +1,5 @@
 -- Things at the places that a bitmap names.
-use Rattle.std.specs.Prelude.{◌≡◌, ℕ, zero, suc, ◌/◌, ◌%◌, ◌^◌, ◌<◌, Bool, cond, eqb, not, List, [], ◌∷◌, count_ones}
+use Rattle.std.specs.Prelude.{◌≡◌, ℕ, zero, suc, ◌/◌, ◌%◌, ◌^◌, ◌<◌, Bool, cond, eqb, not, List, [], ◌∷◌, length, count_ones, Option, Some, None}
 use Rattle.std.specs.Ordering.{nat_cmp, eq_by_cmp}
 use Rattle.std.specs.FinMap.Entries.{where_key}
 use Rattle.std.specs.Int.{bit_at}
@@ -10,6 +10,20 @@ abbrev pub at_places : {X : Type 0} → ℕ → ℕ → ℕ → List X → List 
 at_places zero n bits xs = []
 at_places (suc w) n bits [] = []
 at_places (suc w) n bits (x ∷ xs) = cond (eqb (bits % 2) 1) ((n, x) ∷ at_places w (suc n) (bits / 2) xs) (at_places w (suc n) (bits / 2) (x ∷ xs))
+
+-- the things at the places of a word of 32 bits
+unfoldable pub placed : {X : Type 0} → ℕ → List X → List (ℕ × X)
+placed bits xs = at_places 32 0 bits xs
+
+-- each place is below w
+abbrev pub AllBelow : {X : Type 0} → ℕ → List (ℕ × X) → Type 0
+AllBelow w [] = Unit {0}
+AllBelow w (e ∷ es) = (e.0 < w) × AllBelow w es
+
+-- the first place
+abbrev pub first_place_of : {X : Type 0} → List (ℕ × X) → Option ℕ
+first_place_of [] = None
+first_place_of (e ∷ es) = Some e.0
 
 -- the list without the number n
 abbrev pub without : {X : Type 0} → ℕ → List (ℕ × X) → List (ℕ × X)

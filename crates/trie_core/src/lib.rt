@@ -1,9 +1,13 @@
 //! Nodes of a trie over bit strings.
 #![tactic(auto)]
 
+mod frame;
 mod lend;
 mod node;
+mod pairs;
 mod slots;
+mod walk;
 
 pub use node::Node;
 pub use trie_keys::{Key, Path, Prefix, path_of, shortened};
+pub use walk::Walk;

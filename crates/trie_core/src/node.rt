@@ -84,7 +84,7 @@ impl<T> Node<T> {
 
     /// The node below the first five bits.
     #[inline]
-    fn child(&self, path: &Path) -> Option<&Node<T>>
+    pub(crate) fn child(&self, path: &Path) -> Option<&Node<T>>
         requires { 5 ≤ length path.now }
         ensures { MatchOption result (HasNoChild path.now self.now) (λ c. IsChild path.now self.now c.now) }
     {

@@ -1,10 +1,11 @@
 -- The tables of places, each item tested against its rule.
-use Rattle.std.proofs.Common.{◌≡◌, ℕ, zero, suc, ◌+◌, ◌%◌, ◌^◌, ◌<◌, ◌≤◌, Bool, true, false, cond, not, ◌&&◌, List, [], ◌∷◌, length, take, get_or, refl, sym, ap, ◌∙◌, arith}
-use Rattle.std.specs.Prelude.{T, eqb}
+use Rattle.std.proofs.Common.{◌≡◌, ℕ, zero, suc, ◌+◌, ◌/◌, ◌%◌, ◌^◌, leb, subst, ◌<◌, ◌≤◌, Bool, true, false, cond, not, ◌&&◌, List, [], ◌∷◌, length, take, get_or, refl, sym, ap, ◌∙◌, arith}
+use Rattle.std.specs.Prelude.{T, eqb, nat_lt}
+use Rattle.std.specs.Ordering.{is_lt}
 use Rattle.std.specs.Int.{bit_at}
 use Rattle.std.proofs.lemmas.Bool.Decides.{nat_tests}
 use Rattle.std.proofs.Math.ListN.{length-take}
-use Rattle.trie_keys.specs.Bits.{begins, place_from, place_of, number_from, child_of, place_string, IsBeginMask}
+use Rattle.trie_keys.specs.Bits.{bits_cmp, begins, place_from, place_of, number_from, child_of, place_string, IsBeginMask}
 use Rattle.trie_keys.proofs.Strings.{both}
 use Rattle.trie_keys.proofs.Numbers.{place_strings, number-take}
 
@@ -13,29 +14,29 @@ T-true true h = refl
 T-true false h = absurd h
 
 -- a test of all strings of fewer than k bits
-abbrev every : ℕ → (List Bool → Bool) → Bool
+abbrev pub every : ℕ → (List Bool → Bool) → Bool
 every zero t = true
 every (suc k) t = t [] && (every k (λ bs. t (true ∷ bs)) && every k (λ bs. t (false ∷ bs)))
 
-every_holds : (k : ℕ) (t : List Bool → Bool) → T (every k t) → (bs : List Bool) → length bs < k → t bs ≡ true
+pub every_holds : (k : ℕ) (t : List Bool → Bool) → T (every k t) → (bs : List Bool) → length bs < k → t bs ≡ true
 every_holds zero t h bs l = absurd (omega (arith, l))
 every_holds (suc k) t h [] l = T-true _ (both (t []) (every k (λ bs. t (true ∷ bs)) && every k (λ bs. t (false ∷ bs))) h).0
 every_holds (suc k) t h (true ∷ bs) l = every_holds k (λ bs. t (true ∷ bs)) (both (every k (λ bs. t (true ∷ bs))) (every k (λ bs. t (false ∷ bs))) (both (t []) (every k (λ bs. t (true ∷ bs)) && every k (λ bs. t (false ∷ bs))) h).1).0 bs (omega (arith, l))
 every_holds (suc k) t h (false ∷ bs) l = every_holds k (λ bs. t (false ∷ bs)) (both (every k (λ bs. t (true ∷ bs))) (every k (λ bs. t (false ∷ bs))) (both (t []) (every k (λ bs. t (true ∷ bs)) && every k (λ bs. t (false ∷ bs))) h).1).1 bs (omega (arith, l))
 
 -- a test of all strings of k bits
-abbrev each_of : ℕ → (List Bool → Bool) → Bool
+abbrev pub each_of : ℕ → (List Bool → Bool) → Bool
 each_of zero t = t []
 each_of (suc k) t = each_of k (λ bs. t (true ∷ bs)) && each_of k (λ bs. t (false ∷ bs))
 
-each_holds : (k : ℕ) (t : List Bool → Bool) → T (each_of k t) → (bs : List Bool) → length bs ≡ k → t bs ≡ true
+pub each_holds : (k : ℕ) (t : List Bool → Bool) → T (each_of k t) → (bs : List Bool) → length bs ≡ k → t bs ≡ true
 each_holds zero t h [] l = T-true _ h
 each_holds zero t h (b ∷ bs) l = absurd (omega (arith, l))
 each_holds (suc k) t h [] l = absurd (omega (arith, l))
 each_holds (suc k) t h (true ∷ bs) l = each_holds k (λ bs. t (true ∷ bs)) (both (each_of k (λ bs. t (true ∷ bs))) (each_of k (λ bs. t (false ∷ bs))) h).0 bs (omega (arith, l))
 each_holds (suc k) t h (false ∷ bs) l = each_holds k (λ bs. t (false ∷ bs)) (both (each_of k (λ bs. t (true ∷ bs))) (each_of k (λ bs. t (false ∷ bs))) h).1 bs (omega (arith, l))
 
-eqb_same : (a b : ℕ) → eqb a b ≡ true → a ≡ b
+pub eqb_same : (a b : ℕ) → eqb a b ≡ true → a ≡ b
 eqb_same a b h = grind (arith, nat_tests)
 
 abbrev pub masks : List ℕ
@@ -55,7 +56,7 @@ five_masks : (q : List Bool) → length q ≡ 5 → IsBeginMask q (get_or masks 
 five_masks q l = mask_holds q (get_or masks (child_of q) 0) (each_holds 5 (λ q. mask_test q (get_or masks (number_from 5 q) 0)) tt q l)
 
 -- fewer than k bits begin a string where they begin its first k
-begins_front : (k : ℕ) (p q : List Bool) → length p ≤ k → begins p (take k q) ≡ begins p q
+pub begins_front : (k : ℕ) (p q : List Bool) → length p ≤ k → begins p (take k q) ≡ begins p q
 begins_front k [] q h = refl
 begins_front zero (x ∷ p) q h = absurd (omega (arith, h))
 begins_front (suc k) (x ∷ p) [] h = refl
@@ -74,3 +75,47 @@ pub length_of_place : (n : ℕ) → n < 31 → get_or lengths n 0 ≡ length (pl
 length_of_place n h =
     let s = place_strings n h in
     ap (λ i. get_or lengths i 0) (sym s.place) ∙ eqb_same _ _ (every_holds 5 (λ q. eqb (get_or lengths (place_from 5 q) 0) (length q)) tt (place_string n) s.short)
+
+abbrev firsts : List ℕ
+firsts = 0 ∷ 0 ∷ 0 ∷ 0 ∷ 0 ∷ 2 ∷ 4 ∷ 4 ∷ 6 ∷ 8 ∷ 8 ∷ 8 ∷ 10 ∷ 12 ∷ 12 ∷ 14 ∷ 16 ∷ 16 ∷ 16 ∷ 16 ∷ 18 ∷ 20 ∷ 20 ∷ 22 ∷ 24 ∷ 24 ∷ 24 ∷ 26 ∷ 28 ∷ 28 ∷ 30 ∷ []
+
+pub number_of_place : (n : ℕ) → n < 31 → get_or firsts n 0 ≡ child_of (place_string n)
+number_of_place n h =
+    let s = place_strings n h in
+    ap (λ i. get_or firsts i 0) (sym s.place) ∙ eqb_same _ _ (every_holds 5 (λ q. eqb (get_or firsts (place_from 5 q) 0) (number_from 5 q)) tt (place_string n) s.short)
+
+-- a test of two strings, where the one is short and the other has five bits, or both are short
+both_hold : (t : List Bool → List Bool → Bool) → T (every 5 (λ q. every 5 (t q))) → (q r : List Bool) → length q < 5 → length r < 5 → t q r ≡ true
+both_hold t h q r l m = every_holds 5 (t q) (subst T (sym (every_holds 5 (λ q. every 5 (t q)) h q l)) tt) r m
+
+long_hold : (t : List Bool → List Bool → Bool) → T (every 5 (λ q. each_of 5 (t q))) → (q r : List Bool) → length q < 5 → length r ≡ 5 → t q r ≡ true
+long_hold t h q r l m = each_holds 5 (t q) (subst T (sym (every_holds 5 (λ q. each_of 5 (t q)) h q l)) tt) r m
+
+abbrev alike : Bool → Bool → Bool
+alike a b = cond a b (not b)
+
+alike_same : (a b : Bool) → alike a b ≡ true → a ≡ b
+alike_same true true e = refl
+alike_same true false e = cc
+alike_same false true e = cc
+alike_same false false e = refl
+
+-- a value comes before a child whose number is not less
+pub value_before : (q c : List Bool) → length q < 5 → length c ≡ 5 → leb (child_of q) (child_of c) ≡ is_lt (bits_cmp q c)
+value_before q c l m = alike_same _ _ (long_hold (λ q c. alike (leb (number_from 5 q) (number_from 5 c)) (is_lt (bits_cmp q c))) tt q c l m)
+
+-- the strings that begin with q have a range of places, and one of children
+pub inside_short : (q r : List Bool) → length q < 5 → length r < 5 → begins q r ≡ (not (nat_lt (place_of r) (place_of q)) && nat_lt (place_of r) (place_of q + 31 / 2 ^ length q))
+inside_short q r l m = alike_same _ _ (both_hold (λ q r. alike (begins q r) (not (nat_lt (place_from 5 r) (place_from 5 q)) && nat_lt (place_from 5 r) (place_from 5 q + 31 / 2 ^ length q))) tt q r l m)
+
+pub inside_long : (q r : List Bool) → length q < 5 → 5 ≤ length r → begins q r ≡ (not (nat_lt (child_of r) (child_of q)) && nat_lt (child_of r) (child_of q + 32 / 2 ^ length q))
+inside_long q r l m =
+    sym (begins_front 5 q r (omega (arith, l)))
+    ∙ alike_same _ _ (long_hold (λ q r. alike (begins q r) (not (nat_lt (number_from 5 r) (number_from 5 q)) && nat_lt (number_from 5 r) (number_from 5 q + 32 / 2 ^ length q))) tt q (take 5 r) l (omega (arith, length-take 5 r, m)))
+    ∙ ap (λ n. not (nat_lt n (child_of q)) && nat_lt n (child_of q + 32 / 2 ^ length q)) (number-take 5 r)
+
+pub inside_ends : (q : List Bool) → length q < 5 → (place_of q + 31 / 2 ^ length q ≤ 32) × (child_of q + 32 / 2 ^ length q ≤ 32)
+inside_ends q l =
+    let a : nat_lt (place_of q + 31 / 2 ^ length q) 33 ≡ true = every_holds 5 (λ q. nat_lt (place_from 5 q + 31 / 2 ^ length q) 33) tt q l in
+    let b : nat_lt (child_of q + 32 / 2 ^ length q) 33 ≡ true = every_holds 5 (λ q. nat_lt (number_from 5 q + 32 / 2 ^ length q) 33) tt q l in
+    (grind (arith, nat_tests), grind (arith, nat_tests))

@@ -11,4 +11,4 @@ mod tests;
 pub use key::Key;
 pub use path::Path;
 pub use prefix::{Prefix, path_of, shortened};
-pub use tables::{bit, place_length};
+pub use tables::{bit, first_child, place_length};

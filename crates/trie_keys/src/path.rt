@@ -1,7 +1,8 @@
 //! A bit string of at most 128 bits, taken apart from its front.
-ghost use Rattle.std.specs.Prelude.{◌≡◌, ◌-◌, ◌/◌, ◌^◌, ◌<◌, ◌≤◌, length, drop, nat_lt};
+ghost use Rattle.std.specs.Prelude.{◌≡◌, ◌+◌, ◌-◌, ◌/◌, ◌^◌, ◌<◌, ◌≤◌, ◌++◌, length, drop, nat_lt};
 ghost use Rattle.ipnet_blocks.specs.Blocks.{digits};
 ghost use Rattle.trie_keys.specs.Bits.{place_of, child_of, IsBeginMask};
+ghost use Rattle.trie_keys.specs.Prefixes.{prefix_bits, IsMasked};
 
 use crate::tables::{beginnings, bit};
 use std::marker::Model;
@@ -96,6 +97,30 @@ impl Path {
             return all % (2 * bit(self.place()));
         }
         all
+    }
+
+    /// The string, and then the first `len` of five bits, which are zero after them.
+    #[inline]
+    pub fn with(&self, five: u8, len: u8) -> Path
+        requires five { IsMasked 5 five len }
+        requires len { len ≤ 5 }
+        requires room { length self.now < 128 }
+        requires within { length self.now + len ≤ 128 }
+        ensures { result ≡ self.now ++ prefix_bits 5 five len }
+    {
+        Path {
+            bits: self.bits + (u128::from(five) << 123 >> self.len),
+            len: self.len + len,
+        }
+    }
+
+    /// The string at the top of 128 bits, with zeros after it.
+    #[inline]
+    pub fn to_bits(&self) -> u128
+        ensures bits { prefix_bits 128 result (length self.now) ≡ self.now }
+        ensures masked { IsMasked 128 result (length self.now) }
+    {
+        self.bits
     }
 
     /// What follows the first five bits.

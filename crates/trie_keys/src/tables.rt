@@ -1,6 +1,7 @@
 //! The places of a node: which begin a string, how long the string at a place is, and the bit of a place.
 ghost use Rattle.std.specs.Prelude.{◌≡◌, ◌<◌, ◌≤◌, ◌^◌, ◌+◌, ◌%◌, List, Bool, length};
 ghost use Rattle.trie_keys.specs.Bits.{place_of, child_of, place_string, IsBeginMask};
+ghost use Rattle.trie_keys.specs.Prefixes.{prefix_bits, IsMasked};
 
 /// For each five bits the places of their beginnings of fewer than five bits.
 const BEGINNINGS: [u32; 32] = [
@@ -12,6 +13,12 @@ const BEGINNINGS: [u32; 32] = [
 /// For each place the length of its string.
 const LENGTHS: [u8; 31] = [
     0, 1, 2, 3, 4, 4, 3, 4, 4, 2, 3, 4, 4, 3, 4, 4, 1, 2, 3, 4, 4, 3, 4, 4, 2, 3, 4, 4, 3, 4, 4,
+];
+
+/// For each place the number that its string forms, with zeros after it up to five bits.
+const NUMBERS: [u8; 31] = [
+    0, 0, 0, 0, 0, 2, 4, 4, 6, 8, 8, 8, 10, 12, 12, 14, 16, 16, 16, 16, 18, 20, 20, 22, 24, 24, 24,
+    26, 28, 28, 30,
 ];
 
 /// The places of the strings that begin a path whose first five bits, with zeros after them, form the number.
@@ -43,4 +50,16 @@ pub fn bit(place: u8) -> u32
     ensures { result ≡ 2 ^ place }
 {
     1u32 << place
+}
+
+/// The number that the string at a place forms, with zeros after it: that of the first child below the place.
+#[inline]
+pub fn first_child(place: u8) -> u8
+    requires { place < 31 }
+    ensures value { result ≡ child_of (place_string place) }
+    ensures bits { prefix_bits 5 result (length (place_string place)) ≡ place_string place }
+    ensures masked { IsMasked 5 result (length (place_string place)) }
+    ensures below { result < 32 }
+{
+    NUMBERS[place as usize]
 }

@@ -1,11 +1,13 @@
 //! A map from prefixes to values, searched by the longest or the shortest prefix that contains an asked one.
 #![tactic(auto)]
 
+mod iter;
 mod map;
 mod refused;
 #[cfg(test)]
 mod tests;
 
+pub use iter::Iter;
 pub use map::PrefixMap;
 pub use refused::Refused;
 pub use trie_core::{Key, Prefix};

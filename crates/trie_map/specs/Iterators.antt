@@ -1,0 +1,8 @@
+-- What iterators give.
+use Rattle.std.specs.Prelude.{◌≡◌, List, [], ◌∷◌, Bool, Option, MatchOption}
+use Rattle.std.specs.Borrow.{Bor}
+
+module _ {K X : Type 0} (bits : K → List Bool) (of_bits : List Bool → K) where
+  -- the first entry was given, with the key that is made of its bits; or nothing was left
+  abbrev pub GivesEntry : List (List Bool × X) → Option (K × Bor X) → List (List Bool × X) → Type 0
+  GivesEntry es r fs = MatchOption r ((es ≡ []) × (fs ≡ [])) (λ p. (es ≡ (bits p.0, p.1.now) ∷ fs) × (p.0 ≡ of_bits (bits p.0)))

@@ -1,0 +1,104 @@
+//! Iterators over the entries of a map. They take no memory.
+//!
+//! All go in the order of a walk: a prefix comes before the longer ones inside it, and the bit 0 before 1. The keys
+//! that they give have zeros after the bits that count.
+ghost use Rattle.std.specs.Prelude.{◌≡◌, ◌≤◌, length};
+ghost use Rattle.std.specs.FinMap.{entries};
+ghost use Rattle.std.specs.FinMap.Entries.{where_key};
+ghost use Rattle.std.specs.Iterator.{item_count};
+ghost use Rattle.trie_keys.specs.Bits.{bits_cmp, begins};
+ghost use Rattle.trie_core.specs.Walks.{KeysWithin};
+ghost use Rattle.trie_map.specs.Iterators.{GivesEntry};
+
+use crate::map::PrefixMap;
+use std::marker::{Model, PhantomData};
+use trie_core::{Key, Node, Path, Prefix, Walk, path_of};
+
+/// The prefix of the bits of a path, with zeros after them.
+fn key_of<P: Prefix>(path: &Path) -> P
+    requires { length path.now ≤ P.R.width }
+    ensures bits { P.bits result ≡ path.now }
+    ensures key { result ≡ P.of_bits path.now }
+{
+    let free = 128 - <P::R as Key>::width();
+    P::from_repr_len(
+        <P::R as Key>::from_bits(path.to_bits() >> free),
+        path.len(),
+    )
+}
+
+/// The entries that are left: what `iter`, `iter_from` and `children` give.
+#[derive(Drop)]
+pub struct Iter<'a, P: Prefix, T> {
+    walk: Walk<'a, T>,
+    keys: PhantomData<P>,
+}
+
+impl<'a, P: Prefix, T> Model for Iter<'a, P, T> {
+    ghost use Rattle.std.specs.Prelude.{List, Bool};
+    ghost use Rattle.std.specs.Coded.{coded×, coded_list, coded_bool};
+    ghost use Rattle.trie_core.specs.Walks.{KeysWithin};
+
+    ghost Value = { List (List Bool × T) };
+
+    ghost coded = { coded_list (coded× (coded_list coded_bool) T.code) };
+
+    ghost view = { λ a. a.walk.0 };
+
+    ghost invariant = { λ a. KeysWithin P.R.width a.walk.0 };
+}
+
+impl<'a, P: Prefix, T> Iter<'a, P, T> {
+    fn new(walk: Walk<'a, T>) -> Iter<'a, P, T>
+        requires { KeysWithin P.R.width walk.0 }
+        ensures { result ≡ walk.entry.0 }
+    {
+        Iter {
+            walk,
+            keys: PhantomData,
+        }
+    }
+}
+
+impl<'a, P: Prefix, T> Iterator for Iter<'a, P, T> {
+    type Item = (P, &'a T);
+
+    ghost next_gives = { GivesEntry P.bits P.of_bits };
+
+    ghost remaining = { item_count (λ it. it) };
+
+    fn next(&mut self) -> Option<(P, &'a T)> {
+        match self.walk.next() {
+            None => None,
+            Some((path, value)) => Some((key_of(&path), value)),
+        }
+    }
+}
+
+impl<P: Prefix, T> PrefixMap<P, T> {
+    /// The node that walks start at.
+    fn walked(&self) -> &Node<T>
+        ensures node { result.now ≡ self.now }
+        ensures levels { result.now.2 ≤ 26 }
+        ensures keys { KeysWithin P.R.width (entries result.now.0) }
+        ensures within { KeysWithin 128 (entries result.now.0) }
+    {
+        let _width = <P::R as Key>::width();
+        &self.root
+    }
+
+    /// All entries.
+    pub fn iter(&self) -> Iter<'_, P, T>
+        ensures { result ≡ entries self.now.0 }
+    {
+        Iter::new(Walk::new(self.walked()))
+    }
+
+    /// The entries whose keys the prefix contains, itself included.
+    pub fn children(&self, prefix: &P) -> Iter<'_, P, T>
+        requires { length (P.bits prefix.now) ≤ P.R.width }
+        ensures { result ≡ where_key bits_cmp (begins (P.bits prefix.now)) (entries self.now.0) }
+    {
+        Iter::new(Walk::inside(self.walked(), path_of(prefix)))
+    }
+}
