@@ -12,6 +12,5 @@ pub mod Changes
 pub mod Lent
 pub mod Kept
 pub mod Splits
-pub mod Longer
 pub mod Frames
 pub mod Walks

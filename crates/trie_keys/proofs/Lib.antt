@@ -4,3 +4,4 @@ pub mod Aligned
 pub mod Begins
 pub mod Masked
 pub mod Shifts
+pub mod Longer

@@ -2,7 +2,7 @@ use Rattle.std.proofs.Common.{◌≤◌, ◌∙◌, ap, length, subst, sym, arit
 use Rattle.trie_keys.specs.Bits.{child_of, place_string}
 use Rattle.trie_keys.specs.Prefixes.{prefix_bits, IsMasked}
 use Rattle.trie_keys.proofs.Begins.{number_of_place}
-use Rattle.trie_core.proofs.Longer.{numbered}
+use Rattle.trie_keys.proofs.Longer.{numbered}
 use Rattle.trie_keys.proofs.Numbers.{place_strings, number_bound}
 use Rattle.trie_keys.proofs.tables.first_child.Goals as goal
 

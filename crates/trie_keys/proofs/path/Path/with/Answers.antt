@@ -2,7 +2,7 @@ use Rattle.std.proofs.Common.{◌≡◌, ◌≤◌, ◌+◌, ◌∙◌, ap, ◌+
 use Rattle.std.proofs.Math.Facts.{Fits-of_lt}
 use Rattle.trie_keys.specs.Prefixes.{prefix_bits}
 use Rattle.trie_keys.proofs.Aligned.{path_length}
-use Rattle.trie_core.proofs.Longer.{longer}
+use Rattle.trie_keys.proofs.Longer.{longer}
 use Rattle.trie_keys.proofs.path.Path.with.Goals as goal
 
 pub overflow_add-result : goal.overflow_add-result

@@ -68,11 +68,12 @@ longer bits n five m a k h l =
     })
 
 -- a string is the digits of its number
-own_digits : (s : List Bool) → digits (length s) (number_from (length s) s) ≡ s
+pub own_digits : (s : List Bool) → digits (length s) (number_from (length s) s) ≡ s
 own_digits s =
     let n = length s in
     let q = number_from (length s) s in
-    number_apart n (digits n q) s (length-digits n q) refl
+    let l = length-digits n q in
+    number_apart n (digits n q) s l (omega (arith, l))
     (number-digits n n q (omega arith) ∙ own n q (number_bound n s))
   where
     own : (n q : ℕ) → q < 2 ^ n → q % 2 ^ n * 2 ^ (n - n) ≡ q
