@@ -3,7 +3,7 @@ use Rattle.std.proofs.Common.{◌≡◌, ℕ, List, take, drop, get_or, sym, ap,
 use Rattle.std.specs.Int.Digits.{number_from_digits}
 use Rattle.serde_json.specs.Data.{Data, string}
 use Rattle.ipnet_addr.proofs.Numbers.{octets_number}
-use Rattle.ipnet.specs.Networks.{Network}
+use Rattle.ipnet_blocks.specs.Networks.{Network}
 use Rattle.ipnet.specs.Forms.{HoldsIpv4, HoldsIpv6, Holds, ipv4_net_bytes, ipv6_net_bytes, IsStringOf}
 use Rattle.ipnet.specs.declared.ip_net.IpNet.{IpNet}
 use Rattle.ipnet.specs.declared.ip_net.IpNet.TheVariants.{V4, V6}

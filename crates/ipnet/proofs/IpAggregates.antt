@@ -2,18 +2,18 @@
 use Rattle.std.proofs.Common.{◌≡◌, ◌⊎◌, inl, inr, ⊎_elim, refl, sym, ap, subst, arith, List, [], ◌∷◌, ◌++◌, map, All}
 use Rattle.std.proofs.lemmas.List.Elements.{All-append, All-map}
 use Rattle.ipnet_addr.specs.Addresses.{Ipv4, Ipv6, rank, Address}
-use Rattle.ipnet.specs.Blocks.{HasAddress}
-use Rattle.ipnet.specs.Maximal.{IsMaximal}
-use Rattle.ipnet.specs.Networks.{Network, block_of, IsTruncated}
+use Rattle.ipnet_blocks.specs.Blocks.{HasAddress}
+use Rattle.ipnet_blocks.specs.Maximal.{IsMaximal}
+use Rattle.ipnet_blocks.specs.Networks.{Network, block_of, IsTruncated}
 use Rattle.ipnet.specs.declared.ip_net.IpNet.{IpNet}
 use Rattle.ipnet.specs.declared.ip_net.IpNet.TheVariants.{V4, V6}
 use Rattle.ipnet.specs.IpNets.{block, family, parts}
 use Rattle.ipnet.specs.IpAggregated.{only_ipv4, only_ipv6}
-use Rattle.ipnet.specs.Aggregated.{InSome, IsAggregated, AreAggregated}
+use Rattle.ipnet_blocks.specs.Aggregated.{InSome, IsAggregated, AreAggregated}
 use Rattle.ipnet_addr.proofs.Ascending.{In-from_Any}
-use Rattle.ipnet.proofs.Lists.{any_left, any_right, any_cases}
-use Rattle.ipnet.proofs.Aggregates.{some_to_spans, aggregated_of_maximal}
-use Rattle.ipnet.proofs.Unions.{IsFarBefore, maximal_join, maximal_same}
+use Rattle.ipnet_blocks.proofs.Lists.{any_left, any_right, any_cases}
+use Rattle.ipnet_blocks.proofs.Aggregates.{some_to_spans, aggregated_of_maximal}
+use Rattle.ipnet_blocks.proofs.Unions.{IsFarBefore, maximal_join, maximal_same}
 
 module _ (x : Address) where
   Some4 : List IpNet → Type 0

@@ -5,7 +5,7 @@ use Rattle.std.proofs.lemmas.Bool.{cases_lt}
 use Rattle.ipnet_addr.specs.Addresses.{Family, Ipv4, Ipv6, Address, width}
 use Rattle.ipnet_addr.specs.Masks.{IsMask}
 use Rattle.ipnet_addr.proofs.Powers.{mask_unique}
-use Rattle.ipnet.specs.Networks.{Network}
+use Rattle.ipnet_blocks.specs.Networks.{Network}
 use Rattle.ipnet.specs.NetworkText.{ReadsIpv4, ReadsIpv6}
 use Rattle.ipnet.specs.Reader.{ipv4_net_of, ipv6_net_of}
 use Rattle.ipnet.specs.IpNets.{family, parts, net_in}

@@ -7,7 +7,7 @@ use Rattle.ipnet_addr.specs.AddressText.{IsIpv4}
 use Rattle.ipnet_addr.specs.Reader.{read_ipv4}
 use Rattle.ipnet_addr.proofs.Ipv4Text.{read_ipv4_sound, read_ipv4_complete, decimal_short, IsIpv4-ipv4_text}
 use Rattle.ipnet_addr.proofs.Numbers.{octets_number, parts_number}
-use Rattle.ipnet.specs.Networks.{Network}
+use Rattle.ipnet_blocks.specs.Networks.{Network}
 use Rattle.ipnet.specs.NetworkText.{ReadsIpv4, ipv4_net_text}
 use Rattle.ipnet.specs.Reader.{read_network, ipv4_net_of}
 use Rattle.ipnet.proofs.NetworkReader.{read_network_sound, spells_complete, spells_sound, spells_none, spells_unique, spells_found, spells_read, spells_not_read}

@@ -8,7 +8,7 @@ use Rattle.ipnet_addr.specs.Reader.{read_ipv6}
 use Rattle.ipnet_addr.proofs.Ipv4Text.{decimal_short}
 use Rattle.ipnet_addr.proofs.Ipv6Text.{EndsGroups, read_ipv6_sound, read_ipv6_complete, IsIpv6-ipv6_text, ipv4-not_ipv6, ipv6_units}
 use Rattle.ipnet_addr.proofs.Numbers.{segments_number, segments_small, units_bits}
-use Rattle.ipnet.specs.Networks.{Network}
+use Rattle.ipnet_blocks.specs.Networks.{Network}
 use Rattle.ipnet.specs.NetworkText.{ReadsIpv4, ReadsIpv6, ipv6_net_text}
 use Rattle.ipnet.specs.Reader.{read_network, ipv6_net_of}
 use Rattle.ipnet.proofs.NetworkReader.{read_network_sound, spells_complete, spells_sound, spells_none, spells_unique, spells_found, spells_read, spells_not_read}

@@ -8,7 +8,7 @@ use Rattle.std.proofs.NetLemmas.Ipv4.{read_byte_sound}
 use Rattle.ipnet_addr.specs.AddressText.{IsShort}
 use Rattle.ipnet.specs.NetworkText.{SpellsParts, Spells}
 use Rattle.ipnet_addr.specs.Reader.{read_short}
-use Rattle.ipnet.specs.Networks.{Network}
+use Rattle.ipnet_blocks.specs.Networks.{Network}
 use Rattle.ipnet.specs.Reader.{read_network, network_of}
 use Rattle.ipnet_addr.proofs.Ipv4Text.{read_short_complete, read_short_sound}
 

@@ -6,7 +6,7 @@ use Rattle.std.proofs.NetLemmas.Arrays.{sixteen_items}
 use Rattle.std.specs.Int.{w128, from_be_bytes, to_be_bytes}
 use Rattle.std.specs.Int.Digits.{number_from_digits}
 use Rattle.std.specs.Net.Addr.{segments_of}
-use Rattle.ipnet.specs.Networks.{Network}
+use Rattle.ipnet_blocks.specs.Networks.{Network}
 use Rattle.ipnet.specs.Forms.{HoldsIpv6}
 use Rattle.ipnet_addr.proofs.Numbers.{segments_number, digits_apart}
 

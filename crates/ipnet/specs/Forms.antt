@@ -3,7 +3,7 @@ use Rattle.std.specs.Prelude.{◌≡◌, ℕ, List, [], ◌∷◌, ◌++◌}
 use Rattle.std.specs.Int.{w32, w128, to_be_bytes}
 use Rattle.serde_json.specs.Data.{Data, string}
 use Rattle.ipnet_addr.specs.Addresses.{Ipv4, Ipv6}
-use Rattle.ipnet.specs.Networks.{Network, IsNetwork}
+use Rattle.ipnet_blocks.specs.Networks.{Network, IsNetwork}
 use Rattle.ipnet.specs.IpNets.{family, parts}
 use Rattle.ipnet.specs.declared.ip_net.IpNet.{IpNet}
 use Rattle.ipnet.specs.declared.ip_net.IpNet.TheVariants.{V4, V6}

@@ -1,8 +1,8 @@
 -- Networks of either family.
 use Rattle.std.specs.Prelude.{◌≡◌, ◌<◌, ◌⊎◌}
 use Rattle.ipnet_addr.specs.Addresses.{Family, Ipv4, Ipv6, rank}
-use Rattle.ipnet.specs.Blocks.{Block}
-use Rattle.ipnet.specs.Networks.{Network, block_of, ComesBefore}
+use Rattle.ipnet_blocks.specs.Blocks.{Block}
+use Rattle.ipnet_blocks.specs.Networks.{Network, block_of, ComesBefore}
 use Rattle.ipnet.specs.declared.ip_net.IpNet.{IpNet}
 use Rattle.ipnet.specs.declared.ip_net.IpNet.TheVariants.{V4, V6}
 

@@ -1,8 +1,8 @@
 -- Subnet iterators of either family.
 use Rattle.std.specs.Prelude.{List, map}
 use Rattle.ipnet_addr.specs.Addresses.{Family, Ipv4, Ipv6}
-use Rattle.ipnet.specs.Blocks.{Block}
-use Rattle.ipnet.specs.Cuts.{Limits, cut, subnets, after_first}
+use Rattle.ipnet_blocks.specs.Blocks.{Block}
+use Rattle.ipnet_blocks.specs.Cuts.{Limits, cut, subnets, after_first}
 use Rattle.ipnet.specs.declared.ip_net.IpNet.{IpNet}
 use Rattle.ipnet.specs.declared.ip_net.IpNet.TheVariants as net
 use Rattle.ipnet.specs.declared.subnets.IpSubnets.{IpSubnets}

@@ -5,7 +5,7 @@ use Rattle.std.specs.Int.Digits.{number_from_digits}
 use Rattle.std.specs.Net.Addr.{segments_of}
 use Rattle.std.specs.Net.Text.{ipv4_text, ipv6_text}
 use Rattle.ipnet_addr.specs.AddressText.{IsShort, IsIpv4, IsIpv6}
-use Rattle.ipnet.specs.Networks.{Network}
+use Rattle.ipnet_blocks.specs.Networks.{Network}
 
 -- An address, a slash and a length, and nothing before or after them. `Address` says what the address spells, `Length` the length.
 pub record SpellsParts (Address : List ℕ → List ℕ → Type 0) (Length : List ℕ → ℕ → Type 0) (text parts : List ℕ) (len : ℕ) : Type 0 where

@@ -1,12 +1,13 @@
 //! Inclusion of networks and addresses.
 ghost use Rattle.std.specs.Prelude.{◌≡◌, ◌^◌, ◌<◌, ◌≤◌, ◌↔◌, IsTrue};
 ghost use Rattle.ipnet_addr.specs.Addresses.{Family, Ipv4, Ipv6, width, ipv4_address, ipv6_address};
-ghost use Rattle.ipnet.specs.Blocks.{HasAddress, IsInside};
-ghost use Rattle.ipnet.specs.Networks.{block_of};
+ghost use Rattle.ipnet_blocks.specs.Blocks.{HasAddress, IsInside};
+ghost use Rattle.ipnet_blocks.specs.Networks.{block_of};
 
 use crate::ip_net::IpNet;
 use crate::networks::{Ipv4Net, Ipv6Net};
 use ipnet_addr::bits::quotient;
+use ipnet_blocks::contains::is_inside;
 use std::net::{IpAddr, Ipv4Addr, Ipv6Addr};
 
 /// Whether a network holds all addresses of another value, a network or an address.
@@ -16,17 +17,6 @@ pub trait Contains<T> {
     /// Whether each address of `other` is one of `self`.
     fn contains(&self, other: T) -> bool
         ensures { IsTrue result ↔ contained self.now other };
-}
-
-// Whether the block of the network of this address number and length is inside that of the other, at this width.
-fn is_inside(bits: u8, number: u128, len: u8, other: u128, other_len: u8) -> bool
-    requires narrow { bits ≤ 128 }
-    requires fits { (number < 2 ^ bits) × (other < 2 ^ bits) }
-    requires in_width { (len ≤ bits) × (other_len ≤ bits) }
-    ensures { (f : Family) → bits ≡ width f → IsTrue result ↔ IsInside (block_of f (record { number = number; len = len })) (block_of f (record { number = other; len = other_len })) }
-{
-    let free = bits - other_len;
-    other_len <= len && quotient(other, free) == quotient(number, free)
 }
 
 /// Each address of `other` is one of `self`.
@@ -81,7 +71,7 @@ impl Contains<&Ipv6Addr> for Ipv6Net {
 
 /// Each address of `other` is one of `self`; false between families.
 impl Contains<&IpNet> for IpNet {
-    ghost use Rattle.ipnet.specs.Blocks.{IsInside};
+    ghost use Rattle.ipnet_blocks.specs.Blocks.{IsInside};
     ghost use Rattle.ipnet.specs.IpNets.{block};
 
     ghost contained = { λ n m. IsInside (block m.now) (block n) };
@@ -98,7 +88,7 @@ impl Contains<&IpNet> for IpNet {
 /// The address is one of `self`; false between families.
 impl Contains<&IpAddr> for IpNet {
     ghost use Rattle.ipnet_addr.specs.Addresses.{address_of};
-    ghost use Rattle.ipnet.specs.Blocks.{HasAddress};
+    ghost use Rattle.ipnet_blocks.specs.Blocks.{HasAddress};
     ghost use Rattle.ipnet.specs.IpNets.{block};
 
     ghost contained = { λ n a. HasAddress (block n) (address_of a.now) };

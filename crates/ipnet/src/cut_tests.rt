@@ -38,6 +38,7 @@ fn ranges(rt: HostRuntime) {
     assert_eq!(rt; range.max(), Some(ten(3)));
     assert_eq!(rt; range.min(), Some(ten(0)));
     assert_eq!(rt; range.size_hint(), (4, Some(4)));
+    assert_eq!(rt; range.count(), 4);
     let mut rest = range;
     assert_eq!(rt; rest.nth(2), Some(ten(2)));
     assert_eq!(rt; rest.next_back(), Some(ten(3)));
@@ -48,6 +49,9 @@ fn ranges(rt: HostRuntime) {
     assert_eq!(rt; rest, spent);
     assert_eq!(rt; rest.min(), None);
     assert_eq!(rt; rest.last(), None);
+    assert_eq!(rt; rest.count(), 0);
+    let all = Ipv4AddrRange::new(Ipv4Addr::UNSPECIFIED, Ipv4Addr::BROADCAST);
+    assert_eq!(rt; all.count(), 4_294_967_296);
     assert!(rt; spent < range);
     let mut back = range;
     assert_eq!(rt; back.nth_back(1), Some(ten(2)));

@@ -2,8 +2,8 @@
 ghost use Rattle.std.specs.Prelude.{◌≡◌, ℕ, ◌-◌, ◌^◌, ◌<◌, ◌≤◌, ◌↔◌, IsTrue, IsOk, IfOk, MatchOption, MatchResult};
 ghost use Rattle.ipnet_addr.specs.Addresses.{address_of, width};
 ghost use Rattle.ipnet_addr.specs.Masks.{IsMask};
-ghost use Rattle.ipnet.specs.Blocks.{AreSiblings, first, last, parent};
-ghost use Rattle.ipnet.specs.Networks.{IsNetwork, net_of};
+ghost use Rattle.ipnet_blocks.specs.Blocks.{AreSiblings, first, last, parent};
+ghost use Rattle.ipnet_blocks.specs.Networks.{IsNetwork, net_of};
 ghost use Rattle.ipnet.specs.IpNets.{family, parts, block, net_in};
 
 use crate::networks::{Ipv4Net, Ipv6Net};

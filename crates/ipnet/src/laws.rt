@@ -1,83 +1,24 @@
-//! Laws of blocks, networks, their texts and maximal blocks: public functions without a body, whose contracts are the laws.
+//! Laws of networks and their texts, and those of blocks and maximal blocks: public functions without a body, whose contracts are the laws.
 
 ghost use Rattle.std.specs.Prelude.{◌≡◌, ◌≢◌, ◌≤◌, ◌⊎◌, ◌↔◌, ℕ, IsTrue, List, All, MatchOption, length};
 ghost use Rattle.std.specs.Ordering.{MatchOrdering};
 ghost use Rattle.serde_json.specs.Data.{Data, string};
 ghost use Rattle.ipnet_addr.specs.Addresses.{Ipv4, Ipv6};
-ghost use Rattle.ipnet.specs.Aggregated.{AggregatedIsStable};
-ghost use Rattle.ipnet.specs.Blocks.{Block};
-ghost use Rattle.ipnet.specs.Cuts.{CutIsExact};
 ghost use Rattle.ipnet.specs.Forms.{HoldsIpv4, HoldsIpv6, Holds, IsStringOf};
-ghost use Rattle.ipnet.specs.Hosts.{HostsAreExact};
 ghost use Rattle.ipnet.specs.IpNets.{IsSooner};
 ghost use Rattle.ipnet.specs.IpNetText.{Reads, ip_net_of};
-ghost use Rattle.ipnet.specs.Laws.{AreNested, InsideByNumbers, BeginsIsInside, OrderIsTotal, OrderIsStrict, OrderIsTransitive, MaximalIsUnique, MaximalIsShortest, ShortestIsMaximal, ParentIsEnough, MaximalIsUnion, SearchIsMaximal, OrderIsOfStrings, BlockIsItsAddresses, ParentIsNext, BlockIsInterval, MaskIsOnesThenZeros, MaskFindsBlock};
-ghost use Rattle.ipnet.specs.Networks.{ComesBefore, Network, IsNetwork, block_of, net_of};
+ghost use Rattle.ipnet_blocks.specs.Networks.{ComesBefore, Network, IsNetwork};
 ghost use Rattle.ipnet.specs.NetworkText.{ReadsIpv4, ReadsIpv6, ipv4_net_text, ipv6_net_text};
 ghost use Rattle.ipnet.specs.Reader.{ipv4_net_of, ipv6_net_of};
 ghost use Rattle.ipnet.specs.declared.ip_net.IpNet.{IpNet as AnyNet};
 
 use crate::ip_net::IpNet;
 use crate::networks::{Ipv4Net, Ipv6Net};
+pub use ipnet_blocks::laws::{
+    aggregated, begins_is_inside, blocks, cuts, hosts, inside_by_numbers, masks, maximal, nested,
+    networks_of_blocks, order, search,
+};
 use std::hash::Hash;
-
-/// Two blocks with a common address are nested.
-#[tactic(auto, using(crate::proofs::BlockLaws::nested))]
-pub fn nested()
-    ensures { AreNested }
-{}
-
-/// Inclusion as a test on numbers.
-pub fn inside_by_numbers()
-    ensures { InsideByNumbers }
-{}
-
-/// The bit string of a block begins those of the blocks inside it.
-pub fn begins_is_inside()
-    ensures { BeginsIsInside }
-{}
-
-/// The ascending order is total, strict and transitive.
-pub fn order()
-    ensures total { OrderIsTotal }
-    ensures strict { OrderIsStrict }
-    ensures transitive { OrderIsTransitive }
-    ensures strings { OrderIsOfStrings }
-{}
-
-/// A set has one list of maximal blocks; no list of blocks with the same union is shorter, and it is the one ascending list as short.
-pub fn maximal()
-    ensures unique { MaximalIsUnique }
-    ensures union { MaximalIsUnion }
-    ensures shortest { MaximalIsShortest }
-    ensures only { ShortestIsMaximal }
-    ensures parent { ParentIsEnough }
-{}
-
-/// A search of the bit tree finds the list of maximal blocks.
-#[tactic(auto, using(crate::proofs::Search::search_is_maximal))]
-pub fn search()
-    ensures { SearchIsMaximal }
-{}
-
-/// The network of a block has that block: it is its one network without host bits.
-#[tactic(auto, using(crate::proofs::NetworkBlocks::block_round_trip))]
-pub fn networks_of_blocks()
-    ensures { (b : Block) → block_of b.family (net_of b) ≡ b }
-{}
-
-/// A block is its addresses, and its parent is the smallest larger block.
-pub fn blocks()
-    ensures addresses { BlockIsItsAddresses }
-    ensures parent { ParentIsNext }
-{}
-
-/// A block is an interval, and its mask, ones and then zeros, finds it.
-pub fn masks()
-    ensures interval { BlockIsInterval }
-    ensures digits { MaskIsOnesThenZeros }
-    ensures finds { MaskFindsBlock }
-{}
 
 /// Networks are ordered by family, number and length.
 pub fn network_order()
@@ -112,21 +53,6 @@ pub fn network_bytes()
     ensures no_space { (text : List ℕ) (n : AnyNet) → Reads text n → All (λ c. c ≢ 32) text }
     ensures no_line_end { (text : List ℕ) (n : AnyNet) → Reads text n → All (λ c. c ≢ 10) text }
     ensures short { (text : List ℕ) (n : AnyNet) → Reads text n → length text ≤ 51 }
-{}
-
-/// A subnet iterator gives the blocks within its limits that lie in no larger such block.
-pub fn cuts()
-    ensures { CutIsExact }
-{}
-
-/// The hosts of a network are the addresses from the first to the last of them.
-pub fn hosts()
-    ensures { HostsAreExact }
-{}
-
-/// `aggregate` of its own answer is that answer, whatever order, repeats and host bits its input had.
-pub fn aggregated()
-    ensures { AggregatedIsStable }
 {}
 
 /// No bytes are those of two networks, so that `from_bytes` reads what `to_bytes` gave.

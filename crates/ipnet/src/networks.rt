@@ -3,8 +3,8 @@ ghost use Rattle.std.specs.Prelude.{◌≡◌, ℕ, ◌-◌, ◌^◌, ◌<◌, �
 ghost use Rattle.std.specs.Net.Addr.{ipv4_bits, ipv6_bits};
 ghost use Rattle.ipnet_addr.specs.Addresses.{Ipv4, Ipv6, ipv4_address, ipv6_address};
 ghost use Rattle.ipnet_addr.specs.Masks.{IsMask};
-ghost use Rattle.ipnet.specs.Blocks.{AreSiblings, first, last, parent};
-ghost use Rattle.ipnet.specs.Networks.{IsNetwork, block_of, net_of};
+ghost use Rattle.ipnet_blocks.specs.Blocks.{AreSiblings, first, last, parent};
+ghost use Rattle.ipnet_blocks.specs.Networks.{IsNetwork, block_of, net_of};
 
 use crate::contains::Contains;
 use ipnet_addr::bits::{cleared, filled, ipv4_of, ipv6_of, ones};
@@ -24,7 +24,7 @@ pub struct Ipv4Net {
 
 impl Model for Ipv4Net {
     ghost use Rattle.ipnet_addr.specs.Addresses.{Ipv4};
-    ghost use Rattle.ipnet.specs.Networks.{Network, IsNetwork};
+    ghost use Rattle.ipnet_blocks.specs.Networks.{Network, IsNetwork};
 
     ghost Value = { Network };
 
@@ -200,7 +200,7 @@ pub struct Ipv6Net {
 
 impl Model for Ipv6Net {
     ghost use Rattle.ipnet_addr.specs.Addresses.{Ipv6};
-    ghost use Rattle.ipnet.specs.Networks.{Network, IsNetwork};
+    ghost use Rattle.ipnet_blocks.specs.Networks.{Network, IsNetwork};
 
     ghost Value = { Network };
 

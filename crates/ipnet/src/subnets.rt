@@ -4,19 +4,20 @@ ghost use Rattle.std.specs.Iterator.{YieldsFirst, item_count};
 ghost use Rattle.std.specs.Net.Addr.{ipv4_bits, ipv6_bits};
 ghost use Rattle.ipnet_addr.specs.Addresses.{Ipv4, Ipv6, width};
 ghost use Rattle.ipnet_addr.specs.IpRanges.{ends_of, family_of};
-ghost use Rattle.ipnet.specs.Blocks.{first, last};
-ghost use Rattle.ipnet.specs.Cuts.{AreSubnets, most_free, first_free, cut, subnets, after_first};
-ghost use Rattle.ipnet.specs.Hosts.{host_ends};
+ghost use Rattle.ipnet_blocks.specs.Blocks.{first, last};
+ghost use Rattle.ipnet_blocks.specs.Cuts.{AreSubnets, cut, subnets, after_first};
+ghost use Rattle.ipnet_blocks.specs.Hosts.{host_ends};
 ghost use Rattle.ipnet.specs.IpNets.{block, family, parts};
 ghost use Rattle.ipnet.specs.IpSubnets.{ip_cut, ip_limits, ip_subnets, after_first_of};
-ghost use Rattle.ipnet.specs.Networks.{block_of};
-ghost use Rattle.ipnet.specs.Maximal.{IsCut};
+ghost use Rattle.ipnet_blocks.specs.Networks.{block_of};
+ghost use Rattle.ipnet_blocks.specs.Maximal.{IsCut};
 
 use crate::ip_net::IpNet;
 use crate::networks::{Ipv4Net, Ipv6Net};
-use ipnet_addr::bits::{ipv4_of, ipv6_of, ones};
+use ipnet_addr::bits::{ipv4_of, ipv6_of};
 use ipnet_addr::mask::PrefixLenError;
 use ipnet_addr::ranges::{IpAddrRange, Ipv4AddrRange, Ipv6AddrRange};
+use ipnet_blocks::cut::first_cut;
 use std::marker::Model;
 use std::net::{Ipv4Addr, Ipv6Addr};
 
@@ -32,7 +33,7 @@ pub struct Ipv4Subnets {
 
 impl Model for Ipv4Subnets {
     ghost use Rattle.ipnet_addr.specs.Addresses.{Ipv4};
-    ghost use Rattle.ipnet.specs.Cuts.{Limits, AreLimits};
+    ghost use Rattle.ipnet_blocks.specs.Cuts.{Limits, AreLimits};
 
     ghost Value = { Limits };
 
@@ -57,7 +58,7 @@ pub struct Ipv6Subnets {
 
 impl Model for Ipv6Subnets {
     ghost use Rattle.ipnet_addr.specs.Addresses.{Ipv6};
-    ghost use Rattle.ipnet.specs.Cuts.{Limits, AreLimits};
+    ghost use Rattle.ipnet_blocks.specs.Cuts.{Limits, AreLimits};
 
     ghost Value = { Limits };
 
@@ -70,60 +71,9 @@ impl Model for Ipv6Subnets {
     ghost inverse_ok = { λ l h i. l };
 }
 
-/// The most free bits, at most `most`, of a block that begins at `start` and ends at most at `end`.
-fn free_bits(start: u128, end: u128, most: u8) -> u8
-    requires order { start ≤ end }
-    requires in_width { most ≤ 128 }
-    ensures greatest { result ≡ most_free most start end }
-    ensures bounded { result ≤ most }
-{
-    let by_room = match (end - start).checked_add(1) {
-        Some(count) => 127 - count.leading_zeros(),
-        None => 128,
-    };
-    start.trailing_zeros().min(by_room).min(most as u32) as u8
-}
-
-/// The length of a block, and the ends of the range after it.
-#[derive(Clone, Copy)]
-struct Cut {
-    len: u8,
-    start: u128,
-    end: u128,
-}
-
-/// The first block of the limits, where an address has `width` bits.
-fn first_cut(width: u8, start: u128, end: u128, shortest: u8) -> Cut
-    requires order { start ≤ end }
-    requires end_fits { end < 2 ^ width }
-    requires in_width { shortest ≤ width }
-    requires wide { width ≤ 128 }
-    ensures len { result.len ≡ width - first_free width (record { start = start; end = end; shortest = shortest }) }
-    ensures len_fits { result.len ≤ width }
-    ensures limits { record { start = result.start; end = result.end; shortest = shortest } ≡ after_first width (record { start = start; end = end; shortest = shortest }) }
-    ensures start_fits { result.start < 2 ^ width }
-    ensures next_end_fits { result.end ≤ end }
-{
-    let free = free_bits(start, end, width - shortest);
-    let last = start + ones(free);
-    let greatest = ones(width);
-    if last == greatest {
-        return Cut {
-            len: width - free,
-            start: greatest,
-            end: 0,
-        };
-    }
-    Cut {
-        len: width - free,
-        start: last + 1,
-        end: if start == end { 0 } else { end },
-    }
-}
-
 impl Ipv4Subnets {
     /// The blocks of length at least `min_prefix_len`, at most 32, from `start` to `end`; none where `start` is above `end`.
-    #[tactic(auto, using(crate::proofs::Cuts::cut_is_exact))]
+    #[tactic(auto, using(ipnet_blocks::proofs::Cuts::cut_is_exact))]
     pub fn new(start: Ipv4Addr, end: Ipv4Addr, min_prefix_len: u8) -> Ipv4Subnets
         requires { min_prefix_len ≤ 32 }
         ensures limits { result ≡ record { start = ipv4_bits start; end = ipv4_bits end; shortest = min_prefix_len } }
@@ -160,7 +110,7 @@ impl Iterator for Ipv4Subnets {
 
 impl Ipv6Subnets {
     /// The blocks of length at least `min_prefix_len`, at most 128, from `start` to `end`; none where `start` is above `end`.
-    #[tactic(auto, using(crate::proofs::Cuts::cut_is_exact))]
+    #[tactic(auto, using(ipnet_blocks::proofs::Cuts::cut_is_exact))]
     pub fn new(start: Ipv6Addr, end: Ipv6Addr, min_prefix_len: u8) -> Ipv6Subnets
         requires { min_prefix_len ≤ 128 }
         ensures limits { result ≡ record { start = ipv6_bits start; end = ipv6_bits end; shortest = min_prefix_len } }

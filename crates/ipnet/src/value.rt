@@ -4,7 +4,7 @@ ghost use Rattle.serde_json.specs.Data.{string};
 ghost use Rattle.serde_json.specs.View.{view};
 ghost use Rattle.ipnet.specs.NetworkText.{ReadsIpv4, ReadsIpv6, ipv4_net_text, ipv6_net_text};
 ghost use Rattle.ipnet.specs.IpNetText.{Reads, net_text};
-ghost use Rattle.ipnet.specs.Networks.{Network};
+ghost use Rattle.ipnet_blocks.specs.Networks.{Network};
 ghost use Rattle.ipnet.specs.declared.ip_net.IpNet.{IpNet as Net};
 ghost use Rattle.ipnet.specs.Forms.{IsStringOf};
 

@@ -67,9 +67,8 @@ impl Ipv4AddrRange {
         Some(ipv4_of(step.answer? as u32))
     }
 
-    /// How many addresses there are. In constant time.
+    /// How many addresses there are, at most 2^32. In constant time.
     pub fn count(self) -> usize
-        requires { length (numbers self) < 2 ^ 64 }
         ensures { result ≡ length (numbers self) }
     {
         count_numbers(self.start.into(), self.end.into())

@@ -2,9 +2,9 @@
 use Rattle.std.proofs.Common.{◌≡◌, inl, inr, ⊎_elim, Bool, true, false, not, cond, List, [], ◌∷◌, ◌++◌, take, drop, suc, ℕ, filter, All, refl, sym, subst, take-append-drop}
 use Rattle.ipnet_addr.proofs.Members.{In, In-left, In-right, In-cases}
 use Rattle.ipnet_addr.proofs.Ascending.{In-from_All, All-from_In, Rising, Rising-from_pairs, pairs_from_Rising}
-use Rattle.ipnet.specs.Blocks.{Block, IsBefore, IsAscending, is_before, same_block}
-use Rattle.ipnet.proofs.BlockLaws.{transitive}
-use Rattle.ipnet.proofs.BlockTests.{before_from_test}
+use Rattle.ipnet_blocks.specs.Blocks.{Block, IsBefore, IsAscending, is_before, same_block}
+use Rattle.ipnet_blocks.proofs.BlockLaws.{transitive}
+use Rattle.ipnet_blocks.proofs.BlockTests.{before_from_test}
 use Rattle.route_feed.specs.DenyList.{with_block, without_block}
 
 In-filter_cons : {A : Type 0} (c : Bool) (a b : A) (xs : List A) → In b (cond c (a ∷ xs) xs) → In b (a ∷ xs)

@@ -3,7 +3,7 @@ use Rattle.std.proofs.Common.{◌≡◌, ℕ, ◌-◌, Bool, true, false, cond, 
 use Rattle.std.specs.Option.{option_map, option_and_then}
 use Rattle.std.proofs.lemmas.Slice.Eq.{bytes_eq-Decides}
 use Rattle.ipnet_addr.specs.Addresses.{Ipv4}
-use Rattle.ipnet.specs.Networks.{Network, block_of, net_of}
+use Rattle.ipnet_blocks.specs.Networks.{Network, block_of, net_of}
 use Rattle.ipnet.specs.Reader.{ipv4_net_of}
 use Rattle.ipnet.proofs.Ipv4Networks.{v4_complete, v4_sound}
 use Rattle.route_feed.specs.declared.command.Command.{Command}

@@ -5,10 +5,10 @@ use Rattle.std.proofs.lemmas.Bool.Decides.{nat_tests}
 use Rattle.std.proofs.lemmas.List.{map-append, take_more}
 use Rattle.std.proofs.lemmas.List.Elements.{filter-append}
 use Rattle.ipnet_addr.specs.Addresses.{Ipv4}
-use Rattle.ipnet.specs.Blocks.{Block, IsBlock, IsInside, is_inside}
-use Rattle.ipnet.specs.Networks.{Network, IsNetwork, IsTruncated, block_of, net_of}
-use Rattle.ipnet.proofs.BlockLaws.{inside_by_numbers}
-use Rattle.ipnet.proofs.NetworkBlocks.{block_is}
+use Rattle.ipnet_blocks.specs.Blocks.{Block, IsBlock, IsInside, is_inside}
+use Rattle.ipnet_blocks.specs.Networks.{Network, IsNetwork, IsTruncated, block_of, net_of}
+use Rattle.ipnet_blocks.proofs.BlockLaws.{inside_by_numbers}
+use Rattle.ipnet_blocks.proofs.NetworkBlocks.{block_is}
 use Rattle.route_feed.specs.DenyList.{covering, longer, longest, longer_net, match_of, blocks_of, AreStored}
 
 -- the longer of the one so far and the next

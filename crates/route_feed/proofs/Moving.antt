@@ -3,7 +3,7 @@ use Rattle.std.proofs.Common.{◌≡◌, ℕ, Bool, true, false, List, [], ◌�
 use Rattle.std.specs.Option.{option_to_list}
 use Rattle.std.proofs.Math.Seq.{drop-cons}
 use Rattle.std.proofs.lemmas.Grind.{flat_map-append}
-use Rattle.ipnet.specs.Blocks.{Block}
+use Rattle.ipnet_blocks.specs.Blocks.{Block}
 use Rattle.route_lines.specs.Kept.{Kept}
 use Rattle.route_lines.specs.Lines.{answers, fed_answer, fed, fed_all}
 use Rattle.route_lines.specs.declared.cutter.Line.{Line}

@@ -4,7 +4,7 @@ use Rattle.std.specs.Result.{OnOk, IsErrOf}
 use Rattle.std.specs.Io.KnownBytes.{Appends, IsAtEnd}
 use Rattle.std.proofs.KnownBytes.{Appends-trans, Consumes-nil, Consumes-trans, Consumes-whole}
 use Rattle.std.proofs.lemmas.Grind.{flat_map-append}
-use Rattle.ipnet.specs.Blocks.{Block}
+use Rattle.ipnet_blocks.specs.Blocks.{Block}
 use Rattle.route_lines.specs.Bytes.{rest}
 use Rattle.route_lines.specs.Lines.{fed_all, rest_in, rest_of, kept_of, answers}
 use Rattle.route_lines.proofs.Cutting.{new_answers, new_rest_in}

@@ -8,11 +8,11 @@ use Rattle.std.proofs.lemmas.Bool.Decides.{nat_tests}
 use Rattle.std.proofs.lemmas.List.{get_or-map, map-append, length-map, take-map, drop-map}
 use Rattle.std.proofs.lemmas.List.Folds.{list_any_none, list_any_at}
 use Rattle.ipnet_addr.specs.Addresses.{Ipv4}
-use Rattle.ipnet.specs.Blocks.{Block, IsBefore, IsAscending, is_before, same_block, first}
-use Rattle.ipnet.specs.Networks.{Network, IsNetwork, IsTruncated, block_of, net_of}
-use Rattle.ipnet.proofs.BlockLaws.{strict}
-use Rattle.ipnet.proofs.BlockTests.{test_from_before, before_from_test, same_from_test, test_from_same}
-use Rattle.ipnet.proofs.NetworkBlocks.{block_round_trip, truncated_is_network}
+use Rattle.ipnet_blocks.specs.Blocks.{Block, IsBefore, IsAscending, is_before, same_block, first}
+use Rattle.ipnet_blocks.specs.Networks.{Network, IsNetwork, IsTruncated, block_of, net_of}
+use Rattle.ipnet_blocks.proofs.BlockLaws.{strict}
+use Rattle.ipnet_blocks.proofs.BlockTests.{test_from_before, before_from_test, same_from_test, test_from_same}
+use Rattle.ipnet_blocks.proofs.NetworkBlocks.{block_round_trip, truncated_is_network}
 use Rattle.route_feed.specs.DenyList.{blocks_of, AreStored, is_stored, with_block, without_block}
 use Rattle.route_feed.proofs.Ascents.{ascending_with, ascending_without, All-insert, All-remove}
 use Rattle.route_feed.proofs.Cuts.{filter_below, filter_from, filter_all, filter_but, at_place}

@@ -2,7 +2,7 @@
 use Rattle.std.specs.Prelude.{◌≡◌, ℕ, ◌-◌, List, ◌++◌, length, take, drop, codes, if◌then◌else◌, Option, Some, None, option_map, option_and_then}
 use Rattle.std.specs.Str.{bytes_eq}
 use Rattle.ipnet_addr.specs.Addresses.{Ipv4}
-use Rattle.ipnet.specs.Networks.{Network, block_of, net_of}
+use Rattle.ipnet_blocks.specs.Networks.{Network, block_of, net_of}
 use Rattle.ipnet.specs.NetworkText.{ReadsIpv4}
 use Rattle.ipnet.specs.Reader.{ipv4_net_of}
 use Rattle.route_lines.specs.declared.cutter.Line.{Line}

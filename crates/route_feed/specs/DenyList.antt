@@ -2,8 +2,8 @@
 use Rattle.std.specs.Prelude.{not, nat_lt, if◌then◌else◌, Bool, List, [], ◌∷◌, ◌++◌, Option, Some, None, All, map, filter}
 use Rattle.std.specs.List.{list_any}
 use Rattle.ipnet_addr.specs.Addresses.{Ipv4}
-use Rattle.ipnet.specs.Blocks.{Block, IsAscending, is_inside, is_before, same_block}
-use Rattle.ipnet.specs.Networks.{Network, IsNetwork, IsTruncated, block_of}
+use Rattle.ipnet_blocks.specs.Blocks.{Block, IsAscending, is_inside, is_before, same_block}
+use Rattle.ipnet_blocks.specs.Networks.{Network, IsNetwork, IsTruncated, block_of}
 
 -- the members that contain the block
 abbrev pub covering : List Block → Block → List Block

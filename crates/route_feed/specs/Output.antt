@@ -1,6 +1,6 @@
 -- The whole output, as a function of the bytes and of the refusals.
 use Rattle.std.specs.Prelude.{ℕ, drop, Bool, false, List, [], ◌∷◌, ◌++◌, if◌then◌else◌, Option, None, map}
-use Rattle.ipnet.specs.Blocks.{Block}
+use Rattle.ipnet_blocks.specs.Blocks.{Block}
 use Rattle.route_lines.specs.Bytes.{rest}
 use Rattle.route_lines.specs.Lines.{lines_of}
 use Rattle.route_feed.specs.declared.command.Command.{Command}

@@ -1,7 +1,7 @@
 -- The states of a run, and what its parts do.
 use Rattle.std.specs.Prelude.{◌≡◌, ℕ, ◌<◌, Bool, List, [], ◌++◌, Option, Result, Ok, Err, OnOk, map}
 use Rattle.std.specs.Io.KnownBytes.{Appends, Consumes}
-use Rattle.ipnet.specs.Blocks.{Block}
+use Rattle.ipnet_blocks.specs.Blocks.{Block}
 use Rattle.route_lines.specs.Lines.{answers, fed_all, rest_in}
 use Rattle.route_lines.specs.declared.cutter.Rest.{Rest}
 use Rattle.route_lines.specs.declared.cutter.Rest.TheVariants.{Empty, Held}

@@ -1,8 +1,8 @@
 -- What a leader answers to each command, and the list that it has then.
 use Rattle.std.specs.Prelude.{not, ◌&&◌, Bool, false, List, [], ◌∷◌, ◌++◌, if◌then◌else◌, Option, Some, None}
 use Rattle.ipnet_addr.specs.Addresses.{Ipv4}
-use Rattle.ipnet.specs.Blocks.{Block}
-use Rattle.ipnet.specs.Networks.{block_of, net_of}
+use Rattle.ipnet_blocks.specs.Blocks.{Block}
+use Rattle.ipnet_blocks.specs.Networks.{block_of, net_of}
 use Rattle.route_feed.specs.declared.command.Command.{Command}
 use Rattle.route_feed.specs.declared.command.Command.TheVariants.{Add, Del, Get}
 use Rattle.route_feed.specs.declared.reply.Closing.{Closing}

@@ -1,7 +1,7 @@
 //! A deny list: the networks whose addresses are dropped.
 ghost use Rattle.std.specs.Prelude.{◌≡◌, [], if◌then◌else◌, IsTrue, IsOk, OnOk, OnErr, option_map};
 ghost use Rattle.ipnet_addr.specs.Addresses.{Ipv4};
-ghost use Rattle.ipnet.specs.Networks.{block_of, net_of};
+ghost use Rattle.ipnet_blocks.specs.Networks.{block_of, net_of};
 ghost use Rattle.route_feed.specs.DenyList.{longer_net};
 
 use ipnet::{Contains, Ipv4Net};
@@ -16,7 +16,7 @@ pub struct DenyList {
 
 impl Model for DenyList {
     ghost use Rattle.std.specs.Prelude.{List};
-    ghost use Rattle.ipnet.specs.Blocks.{Block};
+    ghost use Rattle.ipnet_blocks.specs.Blocks.{Block};
     ghost use Rattle.route_feed.specs.DenyList.{blocks_of, AreStored};
 
     ghost Value = { List Block };

@@ -4,15 +4,15 @@ use Rattle.std.specs.List.{flat_map}
 use Rattle.std.proofs.lemmas.List.Sums.{sum_by-cons}
 use Rattle.std.proofs.lemmas.Bool.Decides.{nat_tests}
 use Rattle.ipnet_addr.specs.Addresses.{width, Address, IsAddress}
-use Rattle.ipnet.specs.Blocks.{Block, IsBlock, free_bits, HasAddress, IsInside, IsLarger, IsBefore, is_inside, has_address, first_of, parent}
-use Rattle.ipnet.specs.Maximal.{IsWithin, IsMaximalBlock, IsMaximal, IsUnion, maximal_of}
+use Rattle.ipnet_blocks.specs.Blocks.{Block, IsBlock, free_bits, HasAddress, IsInside, IsLarger, IsBefore, is_inside, has_address, first_of, parent}
+use Rattle.ipnet_blocks.specs.Maximal.{IsWithin, IsMaximalBlock, IsMaximal, IsUnion, maximal_of}
 use Rattle.ipnet_addr.proofs.Members.{In, Distinct, In-left, In-right, In-cases}
 use Rattle.ipnet_addr.proofs.Ascending.{In-from_Contains, Contains-from_In, All-from_In, In-from_Any, Any-from_In, Rising-from_pairs, Distinct-from_Rising}
-use Rattle.ipnet.proofs.BlockLaws.{block_path, nested, has_first, strict, numbers_from_inside, inside_from_numbers}
-use Rattle.ipnet.proofs.Parents.{larger_is_shorter, parent_is_block, inside_parent}
-use Rattle.ipnet.proofs.Maximals.{maximal_is_union, maximal_is_unique, maximal_is_shortest, maximal_is_top, decide_test}
-use Rattle.ipnet.proofs.Search.{search_is_maximal}
-use Rattle.ipnet.proofs.BlockTests.{has_from_test, test_from_has}
+use Rattle.ipnet_blocks.proofs.BlockLaws.{block_path, nested, has_first, strict, numbers_from_inside, inside_from_numbers}
+use Rattle.ipnet_blocks.proofs.Parents.{larger_is_shorter, parent_is_block, inside_parent}
+use Rattle.ipnet_blocks.proofs.Maximals.{maximal_is_union, maximal_is_unique, maximal_is_shortest, maximal_is_top, decide_test}
+use Rattle.ipnet_blocks.proofs.Search.{search_is_maximal}
+use Rattle.ipnet_blocks.proofs.BlockTests.{has_from_test, test_from_has}
 use Rattle.route_table.specs.Tables.{Route, IsTable, Governed}
 use Rattle.route_table.specs.Bounds.{excess}
 use Rattle.route_table.proofs.Matches.{inside_from_test, test_from_inside, block_in}

@@ -6,12 +6,12 @@ use Rattle.std.specs.Option.{option_map}
 use Rattle.std.specs.FinMap.{get, entries, from_entries, same_map, get-entries, get-from_entries}
 use Rattle.std.proofs.lemmas.List.Elements.{filter-append}
 use Rattle.ipnet_addr.specs.Addresses.{Family, Ipv4, Ipv6, width, same_family}
-use Rattle.ipnet.specs.Blocks.{Block, IsBlock, bit_string, same_block}
-use Rattle.ipnet.specs.Networks.{Network, IsNetwork, block_of, net_of}
+use Rattle.ipnet_blocks.specs.Blocks.{Block, IsBlock, bit_string, same_block}
+use Rattle.ipnet_blocks.specs.Networks.{Network, IsNetwork, block_of, net_of}
 use Rattle.ipnet.specs.IpNets.{net_in}
-use Rattle.ipnet.proofs.BlockTests.{same_from_test, test_from_same}
-use Rattle.ipnet.proofs.NetworkBlocks.{block_is, block_round_trip}
-use Rattle.ipnet.proofs.Strings.{length-digits}
+use Rattle.ipnet_blocks.proofs.BlockTests.{same_from_test, test_from_same}
+use Rattle.ipnet_blocks.proofs.NetworkBlocks.{block_is, block_round_trip}
+use Rattle.ipnet_blocks.proofs.Strings.{length-digits}
 use Rattle.ipnet_addr.proofs.Members.{In}
 use Rattle.trie_core.specs.Bits.{bits_cmp, number_from}
 use Rattle.trie_core.specs.Nodes.{BitMap}

@@ -2,8 +2,8 @@
 use Rattle.std.proofs.Common.{◌≡◌, ◌≢◌, ℕ, Bool, true, false, not, List, Option, Some, None, refl, ap, subst, arith}
 use Rattle.std.proofs.lemmas.Bool.Decides.{nat_tests}
 use Rattle.ipnet_addr.specs.Addresses.{Address}
-use Rattle.ipnet.specs.Maximal.{IsMaximal, maximal_of}
-use Rattle.ipnet.proofs.Search.{search_is_maximal}
+use Rattle.ipnet_blocks.specs.Maximal.{IsMaximal, maximal_of}
+use Rattle.ipnet_blocks.proofs.Search.{search_is_maximal}
 use Rattle.route_table.specs.Tables.{Route, hop_at, Changed}
 use Rattle.route_table.specs.Changes.{changed, same_number}
 use Rattle.route_table.proofs.Flats.{maximal_same}

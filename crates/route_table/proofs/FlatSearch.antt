@@ -2,13 +2,13 @@
 use Rattle.std.proofs.Common.{◌≡◌, ◌==◌, ℕ, zero, suc, ◌+◌, ◌-◌, ◌*◌, ◌/◌, ◌<◌, ◌⊎◌, inl, inr, ⊎_elim, Bool, true, false, cond, List, [], ◌∷◌, ◌++◌, Option, Some, None, refl, sym, ap, ◌∙◌, subst, arith}
 use Rattle.std.proofs.lemmas.Bool.Decides.{nat_tests}
 use Rattle.ipnet_addr.specs.Addresses.{Family, Ipv4, Ipv6, width, rank, Address}
-use Rattle.ipnet.specs.Blocks.{Block, IsBlock, free_bits, HasAddress, IsInside, IsLarger, first_of, whole, left, right, parent}
-use Rattle.ipnet.specs.Maximal.{IsMaximalBlock}
+use Rattle.ipnet_blocks.specs.Blocks.{Block, IsBlock, free_bits, HasAddress, IsInside, IsLarger, first_of, whole, left, right, parent}
+use Rattle.ipnet_blocks.specs.Maximal.{IsMaximalBlock}
 use Rattle.ipnet_addr.proofs.Members.{In, In-left, In-right, In-cases}
 use Rattle.ipnet_addr.proofs.Ascending.{In-from_Contains, Contains-from_In, Rising, pairs_from_Rising}
-use Rattle.ipnet.proofs.BlockLaws.{numbers_from_inside, same_sets, has_first}
-use Rattle.ipnet.proofs.Parents.{decide_inside, larger_is_shorter, parent_in_larger}
-use Rattle.ipnet.proofs.Search.{left_is_block, right_is_block, left_inside, right_inside, in_a_half, address_in_a_half, halves_in_order, whole_is_block, inside_whole, leaf_address}
+use Rattle.ipnet_blocks.proofs.BlockLaws.{numbers_from_inside, same_sets, has_first}
+use Rattle.ipnet_blocks.proofs.Parents.{decide_inside, larger_is_shorter, parent_in_larger}
+use Rattle.ipnet_blocks.proofs.Search.{left_is_block, right_is_block, left_inside, right_inside, in_a_half, address_in_a_half, halves_in_order, whole_is_block, inside_whole, leaf_address}
 use Rattle.route_table.specs.Flats.{Piece, IsFlat, HasOneHop, common, one_hop_in, piece_or, flat_in, flat_of}
 use Rattle.route_table.proofs.Flats.{Sooner, top_of, one_hop}
 

@@ -2,14 +2,14 @@
 use Rattle.std.proofs.Common.{◌≡◌, ℕ, ◌≤◌, ◌⊎◌, ◌↔◌, inl, inr, ⊎_elim, List, [], ◌∷◌, length, Any, Option, Some, None, IsSome, refl, sym, ap, ◌∙◌, subst, arith}
 use native.Mathlib.Decide.{ℕ_discrete}
 use Rattle.ipnet_addr.specs.Addresses.{width, Address, IsAddress}
-use Rattle.ipnet.specs.Blocks.{Block, HasAddress, IsInside, IsBefore, IsAscending, host, first_of}
-use Rattle.ipnet.specs.Maximal.{IsWithin, IsMaximalBlock}
+use Rattle.ipnet_blocks.specs.Blocks.{Block, HasAddress, IsInside, IsBefore, IsAscending, host, first_of}
+use Rattle.ipnet_blocks.specs.Maximal.{IsWithin, IsMaximalBlock}
 use Rattle.ipnet_addr.proofs.Members.{In, Distinct}
 use Rattle.ipnet_addr.proofs.Ascending.{In-from_Contains, Contains-from_In, In-from_All, All-from_In, In-from_Any, Any-from_In, Rising, Rising-from_pairs, Distinct-from_Rising, same_rising}
-use Rattle.ipnet.proofs.Cover.{Top, Covers, least, cover_in, in_cover}
-use Rattle.ipnet.proofs.BlockLaws.{same_sets, nested, has_first, strict}
-use Rattle.ipnet.proofs.Parents.{climb}
-use Rattle.ipnet.proofs.Maximals.{host_is_block, in_host, has_host, member_is_address, maximal_is_top}
+use Rattle.ipnet_blocks.proofs.Cover.{Top, Covers, least, cover_in, in_cover}
+use Rattle.ipnet_blocks.proofs.BlockLaws.{same_sets, nested, has_first, strict}
+use Rattle.ipnet_blocks.proofs.Parents.{climb}
+use Rattle.ipnet_blocks.proofs.Maximals.{host_is_block, in_host, has_host, member_is_address, maximal_is_top}
 use Rattle.route_table.specs.Flats.{Piece, IsFlat, blocks_of, HasOneHop, IsAdmissible}
 
 pub In-map : (p : Piece) (ps : List Piece) → In p ps → In (Piece.block p) (blocks_of ps)

@@ -2,12 +2,12 @@
 use Rattle.std.proofs.Common.{◌≡◌, ◌<◌, ◌≤◌, ◌-◌, ◌/◌, ◌^◌, ◌⊎◌, inl, inr, ⊎_elim, Bool, true, false, cond, nat_lt, List, [], ◌∷◌, filter, Option, Some, None, MatchOption, refl, sym, ap, ◌∙◌, subst, arith}
 use Rattle.std.proofs.lemmas.Bool.Decides.{nat_tests}
 use Rattle.ipnet_addr.specs.Addresses.{Address, IsAddress, width}
-use Rattle.ipnet.specs.Blocks.{Block, IsBlock, free_bits, HasAddress, IsInside, IsBefore, is_inside, host, first_of}
+use Rattle.ipnet_blocks.specs.Blocks.{Block, IsBlock, free_bits, HasAddress, IsInside, IsBefore, is_inside, host, first_of}
 use Rattle.ipnet_addr.proofs.Members.{In}
 use Rattle.ipnet_addr.proofs.Ascending.{In-from_Contains, Contains-from_In, In-from_All, Rising, Rising-from_pairs}
-use Rattle.ipnet.proofs.BlockLaws.{block_path, nested, has_first, strict, inside_by_numbers}
-use Rattle.ipnet.proofs.Parents.{decide_inside}
-use Rattle.ipnet.proofs.Maximals.{host_is_block, in_host, has_host}
+use Rattle.ipnet_blocks.proofs.BlockLaws.{block_path, nested, has_first, strict, inside_by_numbers}
+use Rattle.ipnet_blocks.proofs.Parents.{decide_inside}
+use Rattle.ipnet_blocks.proofs.Maximals.{host_is_block, in_host, has_host}
 use Rattle.route_table.specs.Tables.{Route, IsTable, IsMatch, covering, longer, longest, match_of, Governed}
 
 module _ {A : Type 0} (p : A → Bool) where

@@ -2,8 +2,8 @@
 use Rattle.std.proofs.Common.{◌≡◌, ℕ, ◌==◌, Bool, true, false, cond, List, [], ◌∷◌, filter, Option, Some, sym, subst, arith}
 use Rattle.std.proofs.lemmas.Bool.Decides.{nat_tests}
 use Rattle.ipnet_addr.specs.Addresses.{Address}
-use Rattle.ipnet.specs.Blocks.{Block, IsBefore}
-use Rattle.ipnet.specs.Maximal.{IsMaximalBlock, IsMaximal}
+use Rattle.ipnet_blocks.specs.Blocks.{Block, IsBefore}
+use Rattle.ipnet_blocks.specs.Maximal.{IsMaximalBlock, IsMaximal}
 use Rattle.ipnet_addr.proofs.Members.{In}
 use Rattle.ipnet_addr.proofs.Ascending.{In-from_Contains, Contains-from_In, Rising, Rising-from_pairs, pairs_from_Rising}
 use Rattle.route_table.specs.Flats.{Piece, IsFlat, blocks_of}

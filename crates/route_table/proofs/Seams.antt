@@ -2,11 +2,11 @@
 use Rattle.std.proofs.Common.{◌≡◌, ℕ, ◌⊎◌, inl, inr, ⊎_elim, Bool, List, [], ◌∷◌, ◌++◌, length, ◌≤◌, ◌<◌, map, Some, None, refl, sym, ap, ◌∙◌, subst, arith}
 use Rattle.std.specs.FinMap.{FinMap, empty, entries, entries_sorted, get, get-empty}
 use Rattle.ipnet_addr.specs.Addresses.{Family, Ipv4, Ipv6, width, rank}
-use Rattle.ipnet.specs.Blocks.{Block, IsBlock, IsBefore, IsEarlier, bit_string}
+use Rattle.ipnet_blocks.specs.Blocks.{Block, IsBlock, IsBefore, IsEarlier, bit_string}
 use Rattle.ipnet_addr.proofs.Members.{In, In-left, In-right, In-cases}
 use Rattle.ipnet_addr.proofs.Ascending.{Rising, All-from_In, pairs_from_Rising, same_rising, Rising-from_pairs}
-use Rattle.ipnet.proofs.BlockLaws.{strict}
-use Rattle.ipnet.proofs.Order.{order_of_strings}
+use Rattle.ipnet_blocks.proofs.BlockLaws.{strict}
+use Rattle.ipnet_blocks.proofs.Order.{order_of_strings}
 use Rattle.route_table.specs.Tables.{Route, IsTable, IsHop}
 use Rattle.route_table.specs.declared.hop.Hop.{Hop}
 use Rattle.route_table.proofs.Updates.{Sooner, Rising-append}

@@ -4,11 +4,11 @@ use Rattle.std.specs.FinMap.{get}
 use Rattle.std.specs.Prelude.{Bool, MatchOption}
 use native.Mathlib.Decide.{dec_le}
 use Rattle.ipnet_addr.specs.Addresses.{Family, Ipv4, Ipv6, width}
-use Rattle.ipnet.specs.Blocks.{Block, IsBlock, IsInside, Begins, digits, bit_string}
+use Rattle.ipnet_blocks.specs.Blocks.{Block, IsBlock, IsInside, Begins, digits, bit_string}
 use Rattle.ipnet_addr.proofs.Members.{In}
 use Rattle.ipnet_addr.proofs.Ascending.{In-from_Contains, Contains-from_In}
-use Rattle.ipnet.proofs.BlockLaws.{Numbers, numbers_from_inside}
-use Rattle.ipnet.proofs.Strings.{length-digits, begins_from_inside, inside_from_begins}
+use Rattle.ipnet_blocks.proofs.BlockLaws.{Numbers, numbers_from_inside}
+use Rattle.ipnet_blocks.proofs.Strings.{length-digits, begins_from_inside, inside_from_begins}
 use Rattle.route_table.specs.Tables.{Route, IsMatch, match_of}
 use Rattle.route_table.specs.declared.hop.Hop.{Hop}
 use Rattle.route_table.proofs.Matches.{match_meets, match_from}

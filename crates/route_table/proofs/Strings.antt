@@ -3,10 +3,10 @@ use Rattle.std.proofs.Common.{◌≡◌, ℕ, suc, ◌+◌, ◌-◌, ◌*◌, �
 use Rattle.std.proofs.Math.Nat.{mod-eq_of_lt}
 use Rattle.std.specs.declared.cmp.Ordering.TheVariants.{Less, Equal, Greater}
 use Rattle.ipnet_addr.specs.Addresses.{Family, width}
-use Rattle.ipnet.specs.Blocks.{Block, IsBlock, digits, bit_string, IsEarlier}
-use Rattle.ipnet.specs.Networks.{Network, net_of}
-use Rattle.ipnet.proofs.BlockLaws.{block_path}
-use Rattle.ipnet.proofs.Strings.{length-digits, digits_apart}
+use Rattle.ipnet_blocks.specs.Blocks.{Block, IsBlock, digits, bit_string, IsEarlier}
+use Rattle.ipnet_blocks.specs.Networks.{Network, net_of}
+use Rattle.ipnet_blocks.proofs.BlockLaws.{block_path}
+use Rattle.ipnet_blocks.proofs.Strings.{length-digits, digits_apart}
 use Rattle.trie_core.specs.Bits.{bits_cmp, number_from}
 use Rattle.trie_core.proofs.Numbers.{number_bound, number_apart, number-digits, one_power}
 use Rattle.route_table.specs.Stored.{block_at}

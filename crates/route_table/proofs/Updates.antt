@@ -1,13 +1,13 @@
 -- A table with one route more or less: its members, and the hops that change.
 use Rattle.std.proofs.Common.{◌≡◌, ◌⊎◌, inl, inr, ⊎_elim, Bool, true, false, not, cond, List, [], ◌∷◌, ◌++◌, filter, Option, Some, None, refl, sym, ap, ◌∙◌, subst, arith}
 use Rattle.ipnet_addr.specs.Addresses.{Address, IsAddress}
-use Rattle.ipnet.specs.Blocks.{Block, IsBlock, HasAddress, IsInside, IsBefore, is_before, same_block, host}
+use Rattle.ipnet_blocks.specs.Blocks.{Block, IsBlock, HasAddress, IsInside, IsBefore, is_before, same_block, host}
 use Rattle.ipnet_addr.proofs.Members.{In, In-left, In-right, In-cases}
 use Rattle.ipnet_addr.proofs.Ascending.{In-from_Contains, Contains-from_In, In-from_All, All-from_In, Rising, Rising-from_pairs, pairs_from_Rising}
-use Rattle.ipnet.proofs.BlockLaws.{strict, total, transitive}
-use Rattle.ipnet.proofs.Parents.{larger_is_shorter}
-use Rattle.ipnet.proofs.Maximals.{host_is_block, in_host, has_host}
-use Rattle.ipnet.proofs.BlockTests.{before_from_test, test_from_before, same_from_test, test_from_same}
+use Rattle.ipnet_blocks.proofs.BlockLaws.{strict, total, transitive}
+use Rattle.ipnet_blocks.proofs.Parents.{larger_is_shorter}
+use Rattle.ipnet_blocks.proofs.Maximals.{host_is_block, in_host, has_host}
+use Rattle.ipnet_blocks.proofs.BlockTests.{before_from_test, test_from_before, same_from_test, test_from_same}
 use Rattle.route_table.specs.Tables.{Route, IsHop, IsTable, IsMatch, match_of, match_number, number_of, hop_at, with_route, without_block}
 use Rattle.route_table.proofs.Matches.{In-from_filter, In-filter, block_in, no_match, match_meets, match_from, governed_match}
 

@@ -1,6 +1,6 @@
 -- What a stored route adds to the number of blocks that another governs.
 use Rattle.std.specs.Prelude.{ℕ, ◌-◌, ◌&&◌, nat_lt, if◌then◌else◌}
-use Rattle.ipnet.specs.Blocks.{Block, is_inside}
+use Rattle.ipnet_blocks.specs.Blocks.{Block, is_inside}
 
 -- what a stored block m strictly inside n adds to the number of blocks that n governs, at most
 abbrev pub excess : Block → Block → ℕ

@@ -1,8 +1,8 @@
 -- The shortest list of blocks of one hop.
 use Rattle.std.specs.Prelude.{◌≡◌, ◌==◌, ℕ, zero, suc, ◌↔◌, if◌then◌else◌, List, [], ◌∷◌, ◌++◌, Option, Some, None, IsSome, All, Any, AllPairs, Contains, map}
 use Rattle.ipnet_addr.specs.Addresses.{Address, IsAddress, width, Ipv4, Ipv6}
-use Rattle.ipnet.specs.Blocks.{Block, IsBlock, HasAddress, IsBefore, first_of, left, right, whole}
-use Rattle.ipnet.specs.Maximal.{IsMaximalBlock}
+use Rattle.ipnet_blocks.specs.Blocks.{Block, IsBlock, HasAddress, IsBefore, first_of, left, right, whole}
+use Rattle.ipnet_blocks.specs.Maximal.{IsMaximalBlock}
 
 -- a block with its one hop
 pub record Piece : Type 0 where

@@ -1,8 +1,8 @@
 -- The laws of tables, as statements.
 use Rattle.std.specs.Prelude.{◌≡◌, ℕ, ◌≤◌, ◌↔◌, ◌==◌, ◌+◌, List, Option, Some, Contains, length, sum_by, filter}
 use Rattle.ipnet_addr.specs.Addresses.{Address, IsAddress}
-use Rattle.ipnet.specs.Blocks.{Block, IsBlock, HasAddress, IsAscending, host}
-use Rattle.ipnet.specs.Maximal.{IsMaximal, maximal_of}
+use Rattle.ipnet_blocks.specs.Blocks.{Block, IsBlock, HasAddress, IsAscending, host}
+use Rattle.ipnet_blocks.specs.Maximal.{IsMaximal, maximal_of}
 use Rattle.route_table.specs.Tables.{Route, IsTable, IsMatch, IsHop, match_of, match_number, hop_at, number_of, Governed, Changed, with_route, without_block}
 use Rattle.route_table.specs.Flats.{Piece, IsFlat, IsAdmissible, blocks_of, flat_of}
 use Rattle.route_table.specs.Changes.{changed}

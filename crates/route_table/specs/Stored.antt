@@ -2,8 +2,8 @@
 use Rattle.std.specs.Prelude.{◌≡◌, ℕ, ◌≤◌, Bool, List, ◌++◌, Option, Some, length, map, filter}
 use Rattle.std.specs.FinMap.{get, entries, from_entries}
 use Rattle.ipnet_addr.specs.Addresses.{Family, Ipv4, Ipv6, width, same_family}
-use Rattle.ipnet.specs.Blocks.{Block, bit_string}
-use Rattle.ipnet.specs.Networks.{net_of}
+use Rattle.ipnet_blocks.specs.Blocks.{Block, bit_string}
+use Rattle.ipnet_blocks.specs.Networks.{net_of}
 use Rattle.ipnet.specs.IpNets.{block, net_in}
 use Rattle.ipnet.specs.declared.ip_net.IpNet.{IpNet}
 use Rattle.trie_core.specs.Bits.{bits_cmp, number_from}

@@ -2,9 +2,9 @@
 ghost use Rattle.std.specs.Prelude.{◌≡◌, ◌≤◌, ◌+◌, ◌/◌, [], IfOk, IfErr, IfSome, IsTrue, OnOk, OnErr, false, is_some};
 ghost use Rattle.std.specs.Option.{option_map};
 ghost use Rattle.ipnet_addr.specs.Addresses.{Ipv4, Ipv6};
-ghost use Rattle.ipnet.specs.Blocks.{bit_string};
+ghost use Rattle.ipnet_blocks.specs.Blocks.{bit_string};
 ghost use Rattle.ipnet.specs.IpNets.{block, family, parts};
-ghost use Rattle.ipnet.specs.Networks.{block_of};
+ghost use Rattle.ipnet_blocks.specs.Networks.{block_of};
 ghost use Rattle.trie_core.specs.Count.{nodes, visit_count};
 ghost use Rattle.trie_map.specs.declared.refused.Refused.TheVariants.{Memory};
 ghost use Rattle.route_table.specs.Stored.{item_of, map_of, route_of};

@@ -4,8 +4,8 @@ use Rattle.std.specs.Prelude.{nat_lt}
 use Rattle.std.proofs.lemmas.Bool.Decides.{nat_tests}
 use Rattle.std.proofs.lemmas.Nat.{pow_pos, pow-add, mod-pow-add, shl-shr, shr-shr, shr_below, shr_split, mod_below}
 use Rattle.std.proofs.Math.Nat.{mul-mod_left, mod-mod, mul_assoc, mod-eq_of_lt}
-use Rattle.ipnet.specs.Blocks.{digits}
-use Rattle.ipnet.proofs.Strings.{length-digits}
+use Rattle.ipnet_blocks.specs.Blocks.{digits}
+use Rattle.ipnet_blocks.proofs.Strings.{length-digits}
 use Rattle.trie_core.specs.Bits.{child_of}
 use Rattle.trie_core.specs.Paths.{IsAligned}
 use Rattle.trie_core.proofs.Numbers.{number-digits, number-long, number_apart, drop-digits}

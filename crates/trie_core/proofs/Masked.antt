@@ -3,8 +3,8 @@ use Rattle.std.proofs.Common.{◌≡◌, ℕ, zero, suc, ◌+◌, ◌-◌, ◌*�
 use Rattle.std.proofs.lemmas.Nat.{pow_pos, pow-add, shl-shr, shr-shr, shr_below, shr_split}
 use Rattle.std.proofs.Math.Nat.{mod-eq_of_lt, pow-le-pow_right, mul-lt-mul_of_pos_right}
 use Rattle.std.proofs.Math.ListN.{length-take}
-use Rattle.ipnet.specs.Blocks.{digits}
-use Rattle.ipnet.proofs.Strings.{length-digits}
+use Rattle.ipnet_blocks.specs.Blocks.{digits}
+use Rattle.ipnet_blocks.proofs.Strings.{length-digits}
 use Rattle.trie_core.specs.Bits.{number_from, begins}
 use Rattle.trie_core.specs.Prefixes.{prefix_bits, IsMasked}
 use Rattle.trie_core.proofs.Numbers.{take-digits, number-digits, number_bound}

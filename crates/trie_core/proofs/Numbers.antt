@@ -6,8 +6,8 @@ use Rattle.std.proofs.lemmas.Bool.Decides.{nat_tests}
 use Rattle.std.proofs.lemmas.Nat.{pow_pos, pow-add, mod-pow-add, ones_cat, shr-shr}
 use Rattle.std.proofs.Math.ListN.{length-take}
 use Rattle.std.proofs.Math.Nat.{add-mul, one-mul, zero-mul, zero-add}
-use Rattle.ipnet.specs.Blocks.{digits}
-use Rattle.ipnet.proofs.Strings.{length-digits, digits_front}
+use Rattle.ipnet_blocks.specs.Blocks.{digits}
+use Rattle.ipnet_blocks.proofs.Strings.{length-digits, digits_front}
 use Rattle.trie_core.specs.Bits.{bits_cmp, place_from, place_of, number_from, child_of, place_at, place_string, child_string}
 use Rattle.trie_core.proofs.Maps.{take_front}
 use Rattle.trie_core.proofs.Places.{ones_bit}

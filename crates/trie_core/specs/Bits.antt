@@ -3,7 +3,7 @@ use Rattle.std.specs.Prelude.{ℕ, zero, suc, ◌+◌, ◌-◌, ◌^◌, Bool, t
 use Rattle.std.specs.declared.cmp.Ordering.{Ordering}
 use Rattle.std.specs.Ordering.{bool_cmp}
 use Rattle.std.specs.Cmp.Lexicographic.{slice_cmp}
-use Rattle.ipnet.specs.Blocks.{digits}
+use Rattle.ipnet_blocks.specs.Blocks.{digits}
 
 -- a beginning comes before what it begins, and 0 before 1
 abbrev pub bits_cmp : List Bool → List Bool → Ordering

@@ -1,6 +1,6 @@
 -- The bits of a prefix.
 use Rattle.std.specs.Prelude.{◌≡◌, ℕ, ◌-◌, ◌*◌, ◌/◌, ◌^◌, ◌<◌, List, Bool}
-use Rattle.ipnet.specs.Blocks.{digits}
+use Rattle.ipnet_blocks.specs.Blocks.{digits}
 
 -- the first n bits of a number of w bits
 abbrev pub prefix_bits : ℕ → ℕ → ℕ → List Bool

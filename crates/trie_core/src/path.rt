@@ -1,6 +1,6 @@
 //! A bit string of at most 128 bits, taken apart from its front.
 ghost use Rattle.std.specs.Prelude.{◌≡◌, ◌-◌, ◌/◌, ◌^◌, ◌<◌, ◌≤◌, length, drop, nat_lt};
-ghost use Rattle.ipnet.specs.Blocks.{digits};
+ghost use Rattle.ipnet_blocks.specs.Blocks.{digits};
 ghost use Rattle.trie_core.specs.Bits.{place_of, child_of};
 ghost use Rattle.trie_core.specs.Places.{IsBeginMask};
 
@@ -17,7 +17,7 @@ pub struct Path {
 
 impl Model for Path {
     ghost use Rattle.std.specs.Prelude.{List, Bool, ◌-◌, ◌/◌, ◌^◌};
-    ghost use Rattle.ipnet.specs.Blocks.{digits};
+    ghost use Rattle.ipnet_blocks.specs.Blocks.{digits};
     ghost use Rattle.trie_core.specs.Paths.{IsAligned};
 
     ghost Value = { List Bool };

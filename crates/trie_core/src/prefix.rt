@@ -1,8 +1,8 @@
 //! Prefixes, as the strings of their bits.
 ghost use Rattle.std.specs.Prelude.{◌≡◌, ℕ, ◌<◌, ◌≤◌, ◌^◌, ◌/◌, ◌-◌, List, Bool, length, take, IsTrue, ◌↔◌};
 ghost use Rattle.ipnet_addr.specs.Addresses.{Ipv4, Ipv6};
-ghost use Rattle.ipnet.specs.Blocks.{bit_string};
-ghost use Rattle.ipnet.specs.Networks.{block_of};
+ghost use Rattle.ipnet_blocks.specs.Blocks.{bit_string};
+ghost use Rattle.ipnet_blocks.specs.Networks.{block_of};
 ghost use Rattle.trie_core.specs.Bits.{number_from, begins};
 ghost use Rattle.trie_core.specs.Prefixes.{prefix_bits, IsMasked};
 

@@ -1,8 +1,8 @@
 //! What no contract says: that calls succeed, each through its bound at concrete types, with values from outside.
 ghost use Rattle.std.specs.Prelude.{◌≤◌, length};
 ghost use Rattle.ipnet_addr.specs.Addresses.{Ipv4, Ipv6};
-ghost use Rattle.ipnet.specs.Blocks.{bit_string};
-ghost use Rattle.ipnet.specs.Networks.{block_of};
+ghost use Rattle.ipnet_blocks.specs.Blocks.{bit_string};
+ghost use Rattle.ipnet_blocks.specs.Networks.{block_of};
 
 use crate::{PrefixMap, Refused};
 use ipnet::{Ipv4Net, Ipv6Net};

@@ -1,6 +1,6 @@
 use Rattle.std.proofs.Common.{rules, ◌≡◌, Ordering, Less, Equal, Greater, inl, inr, ap, refl, arith}
 use Rattle.std.specs.Ordering.{MatchOrdering}
-use Rattle.ipnet.specs.Networks.{Network, ComesBefore}
+use Rattle.ipnet_blocks.specs.Networks.{Network, ComesBefore}
 use Rattle.ipnet.specs.IpNets.{IsSooner}
 use Rattle.ipnet.specs.declared.ip_net.IpNet.{IpNet}
 use Rattle.ipnet.specs.declared.ip_net.IpNet.TheVariants.{V4, V6}

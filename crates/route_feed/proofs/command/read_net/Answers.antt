@@ -1,6 +1,6 @@
 use Rattle.std.proofs.Common.{Some, sym, ap, ◌∙◌}
 use Rattle.ipnet_addr.specs.Addresses.{Ipv4}
-use Rattle.ipnet.specs.Networks.{block_of, net_of}
+use Rattle.ipnet_blocks.specs.Networks.{block_of, net_of}
 use Rattle.std.specs.Option.{option_map}
 use Rattle.ipnet.proofs.Ipv4Networks.{v4_complete, v4_none}
 use Rattle.route_feed.proofs.command.read_net.Goals as goal

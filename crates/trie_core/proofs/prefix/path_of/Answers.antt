@@ -1,5 +1,5 @@
 use Rattle.std.proofs.Common.{◌≡◌, ◌≤◌, ◌<◌, ◌-◌, ◌*◌, ◌/◌, ◌%◌, ◌^◌, ◌∙◌, ℕ, ap, subst, length, List, Bool, arith}
-use Rattle.ipnet.specs.Blocks.{digits}
+use Rattle.ipnet_blocks.specs.Blocks.{digits}
 use Rattle.trie_core.specs.Prefixes.{prefix_bits}
 use Rattle.trie_core.proofs.Masked.{at_top}
 use Rattle.trie_core.proofs.prefix.path_of.Goals as goal

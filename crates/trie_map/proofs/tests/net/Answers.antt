@@ -1,5 +1,5 @@
 use Rattle.std.proofs.Common.{◌/◌, ◌^◌, ◌-◌, arith}
-use Rattle.ipnet.proofs.Strings.{length-digits}
+use Rattle.ipnet_blocks.proofs.Strings.{length-digits}
 use Rattle.trie_map.proofs.tests.net.Goals as goal
 
 pub returns : goal.returns

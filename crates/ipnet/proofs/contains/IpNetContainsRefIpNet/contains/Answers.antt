@@ -1,5 +1,5 @@
 use Rattle.std.proofs.Common.{arith}
-use Rattle.ipnet.proofs.NetworkBlocks.{not_inside_other}
+use Rattle.ipnet_blocks.proofs.NetworkBlocks.{not_inside_other}
 use Rattle.ipnet.proofs.contains.IpNetContainsRefIpNet.contains.Goals as goal
 
 pub returns-in-V4-V4 : goal.returns-in-V4-V4

@@ -1,5 +1,5 @@
 use Rattle.std.proofs.Common.{arith}
-use Rattle.ipnet.proofs.NetworkBlocks.{not_siblings}
+use Rattle.ipnet_blocks.proofs.NetworkBlocks.{not_siblings}
 use Rattle.ipnet.proofs.ip_net.IpNet.is_sibling.Goals as goal
 
 pub returns-in-V4-V4 : goal.returns-in-V4-V4

@@ -1,5 +1,5 @@
 use Rattle.std.proofs.Common.{arith}
-use Rattle.ipnet.proofs.SubnetBlocks.{two_at_least}
+use Rattle.ipnet_blocks.proofs.SubnetBlocks.{two_at_least}
 use Rattle.ipnet.proofs.networks.Ipv4Net.hosts.Goals as goal
 
 pub overflow_add-first : goal.overflow_add-first

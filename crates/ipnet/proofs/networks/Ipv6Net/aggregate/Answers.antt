@@ -1,6 +1,6 @@
 use Rattle.std.proofs.lemmas.Result.{IfOk-weaker}
-use Rattle.ipnet.proofs.Aggregates.{map_same}
+use Rattle.ipnet_blocks.proofs.Aggregates.{map_same}
 use Rattle.ipnet.proofs.networks.Ipv6Net.aggregate.Goals as goal
 
 pub returns : goal.returns
-returns c = IfOk-weaker c.of_family.result _ _ (λ v h. rw (map_same c.args.networks.now.items, map_same v.items) at h) c.of_family.ensures
+returns c = IfOk-weaker c.aggregated.result _ _ (λ v h. rw (map_same c.args.networks.now.items, map_same v.items) at h) c.aggregated.ensures

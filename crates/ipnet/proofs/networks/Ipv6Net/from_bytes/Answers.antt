@@ -1,5 +1,5 @@
 use Rattle.std.proofs.Common.{ap, ◌∙◌, arith}
-use Rattle.ipnet.specs.Networks.{Network}
+use Rattle.ipnet_blocks.specs.Networks.{Network}
 use Rattle.ipnet.proofs.SixteenOctets.{read_net}
 use Rattle.ipnet.proofs.networks.Ipv6Net.from_bytes.Goals as goal
 

@@ -1,6 +1,6 @@
 use Rattle.std.proofs.Common.{arith}
 use Rattle.ipnet_addr.specs.Addresses.{Ipv6}
-use Rattle.ipnet.proofs.NetworkBlocks.{siblings}
+use Rattle.ipnet_blocks.proofs.NetworkBlocks.{siblings}
 use Rattle.ipnet.proofs.networks.Ipv6Net.is_sibling.Goals as goal
 
 pub returns-then-prefix_len : goal.returns-then-prefix_len

@@ -1,7 +1,7 @@
 use Rattle.std.proofs.Common.{arith}
-use Rattle.ipnet.specs.Networks.{block_of}
+use Rattle.ipnet_blocks.specs.Networks.{block_of}
 use Rattle.ipnet_addr.specs.Addresses.{Ipv6}
-use Rattle.ipnet.proofs.SubnetBlocks.{subnets_are}
+use Rattle.ipnet_blocks.proofs.SubnetBlocks.{subnets_are}
 use Rattle.ipnet.proofs.networks.Ipv6Net.subnets.Goals as goal
 
 pub returns-clause-blocks : goal.returns-clause-blocks

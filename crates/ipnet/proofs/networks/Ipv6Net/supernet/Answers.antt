@@ -1,6 +1,6 @@
 use Rattle.std.proofs.Common.{◌<◌, arith}
 use Rattle.ipnet_addr.specs.Addresses.{Ipv6}
-use Rattle.ipnet.proofs.NetworkBlocks.{supernet_is}
+use Rattle.ipnet_blocks.proofs.NetworkBlocks.{supernet_is}
 use Rattle.ipnet.proofs.networks.Ipv6Net.supernet.Goals as goal
 
 pub returns : goal.returns

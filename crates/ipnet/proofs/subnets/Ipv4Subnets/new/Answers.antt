@@ -1,6 +1,6 @@
 use Rattle.std.proofs.Common.{arith}
 use Rattle.ipnet_addr.specs.Addresses.{Ipv4}
-use Rattle.ipnet.proofs.Cuts.{cut_is_exact}
+use Rattle.ipnet_blocks.proofs.Cuts.{cut_is_exact}
 use Rattle.ipnet.proofs.subnets.Ipv4Subnets.new.Goals as goal
 
 pub returns-clause-blocks : goal.returns-clause-blocks

@@ -1,9 +1,9 @@
 use Rattle.std.proofs.Common.{◌∙◌, refl, Some}
 use Rattle.ipnet_addr.specs.Addresses.{Ipv6}
-use Rattle.ipnet.specs.Cuts.{subnets}
-use Rattle.ipnet.specs.Networks.{Network}
+use Rattle.ipnet_blocks.specs.Cuts.{subnets}
+use Rattle.ipnet_blocks.specs.Networks.{Network}
 use Rattle.ipnet_addr.proofs.Progress.{progress_first}
-use Rattle.ipnet.proofs.Cuts.{next_none, next_some}
+use Rattle.ipnet_blocks.proofs.Cuts.{next_none, next_some}
 use Rattle.ipnet.proofs.subnets.Ipv6SubnetsIterator.next.Goals as goal
 
 pub returns-then-self-clause-steps : goal.returns-then-self-clause-steps

@@ -1,8 +1,8 @@
 use Rattle.std.proofs.Common.{◌∙◌, Some, sym, ap, subst, take_all}
 use Rattle.ipnet_addr.specs.Addresses.{Ipv4}
 use Rattle.std.specs.Option.{option_map}
-use Rattle.ipnet.specs.Networks.{block_of, net_of}
-use Rattle.ipnet.proofs.NetworkBlocks.{block_is}
+use Rattle.ipnet_blocks.specs.Networks.{block_of, net_of}
+use Rattle.ipnet_blocks.proofs.NetworkBlocks.{block_is}
 use Rattle.route_feed.specs.DenyList.{AreStored, longer_net, match_of, blocks_of}
 use Rattle.route_feed.proofs.Longest.{longest_in, taken, passed}
 use Rattle.route_feed.proofs.Stored.{same_block_of, cut_is_network}

@@ -1,6 +1,6 @@
 use Rattle.std.proofs.Common.{◌≡◌, take}
 use Rattle.ipnet_addr.specs.Addresses.{Ipv4}
-use Rattle.ipnet.specs.Networks.{block_of}
+use Rattle.ipnet_blocks.specs.Networks.{block_of}
 use Rattle.route_feed.proofs.Longest.{longest_in}
 use Rattle.route_feed.proofs.deny_list.DenyList.get.Given as goal
 

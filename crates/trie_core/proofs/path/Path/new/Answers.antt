@@ -1,6 +1,6 @@
 use Rattle.std.proofs.Common.{◌-◌, ◌/◌, ◌^◌, ap, ◌∙◌, arith}
 use Rattle.std.proofs.lemmas.Nat.{shl-shr}
-use Rattle.ipnet.specs.Blocks.{digits}
+use Rattle.ipnet_blocks.specs.Blocks.{digits}
 use Rattle.trie_core.proofs.Aligned.{cleared}
 use Rattle.trie_core.proofs.path.Path.new.Goals as goal
 

@@ -1,5 +1,5 @@
 use Rattle.std.proofs.Common.{◌∙◌, ◌/◌, ◌^◌, ◌-◌, sym}
-use Rattle.ipnet.proofs.Strings.{length-digits}
+use Rattle.ipnet_blocks.proofs.Strings.{length-digits}
 use Rattle.trie_core.proofs.prefix.Ipv4NetPrefix.prefix_len.Goals as goal
 
 pub returns : goal.returns

@@ -1,8 +1,8 @@
 use Rattle.std.proofs.Common.{◌∙◌, ◌/◌, ◌^◌, ◌-◌, length, ap}
-use Rattle.ipnet.proofs.Strings.{length-digits}
+use Rattle.ipnet_blocks.proofs.Strings.{length-digits}
 use Rattle.ipnet_addr.specs.Addresses.{Ipv4}
-use Rattle.ipnet.specs.Blocks.{bit_string}
-use Rattle.ipnet.specs.Networks.{block_of}
+use Rattle.ipnet_blocks.specs.Blocks.{bit_string}
+use Rattle.ipnet_blocks.specs.Networks.{block_of}
 use Rattle.trie_core.specs.Prefixes.{prefix_bits}
 use Rattle.trie_core.proofs.prefix.Ipv4NetPrefix.repr.Goals as goal
 

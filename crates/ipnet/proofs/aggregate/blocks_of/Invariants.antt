@@ -1,9 +1,0 @@
-use Rattle.std.proofs.Common.{◌≡◌, map, take}
-use Rattle.std.specs.List.{flat_map}
-use Rattle.ipnet.specs.Cuts.{subnets}
-use Rattle.ipnet.specs.Spans.{limits_of}
-use Rattle.ipnet.proofs.aggregate.blocks_of.Given as goal
-
-abbrev pub invariant-loop-span : goal.invariant-loop-span
-invariant-loop-span g l =
-    map g.N.OfFamily.parts l.blocks.items ≡ flat_map (λ s. subnets g.N.OfFamily.family (limits_of s)) (take l.span-index l.span-items)

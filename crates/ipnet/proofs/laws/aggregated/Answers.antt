@@ -1,5 +1,0 @@
-use Rattle.ipnet.proofs.Aggregates.{aggregated_is_stable}
-use Rattle.ipnet.proofs.laws.aggregated.Goals as goal
-
-pub returns : goal.returns
-returns c = aggregated_is_stable

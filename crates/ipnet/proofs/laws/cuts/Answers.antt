@@ -1,5 +1,0 @@
-use Rattle.ipnet.proofs.Cuts.{cut_is_exact}
-use Rattle.ipnet.proofs.laws.cuts.Goals as goal
-
-pub returns : goal.returns
-returns c f l h = cut_is_exact f l h.end_in_range h.in_width

@@ -1,5 +1,0 @@
-use Rattle.ipnet.proofs.laws.inside_by_numbers.Goals as goal
-use Rattle.ipnet.proofs.BlockLaws.{inside_by_numbers}
-
-pub returns : goal.returns
-returns c = inside_by_numbers

@@ -1,6 +1,0 @@
-use Rattle.ipnet.proofs.laws.order.Goals as goal
-use Rattle.ipnet.proofs.BlockLaws.{total, strict, transitive}
-use Rattle.ipnet.proofs.Order.{order_of_strings}
-
-pub returns : goal.returns
-returns c = record { total = total; strict = strict; transitive = transitive; strings = order_of_strings }

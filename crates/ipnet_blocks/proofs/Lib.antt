@@ -1,0 +1,17 @@
+pub mod BlockLaws
+pub mod BlockTests
+pub mod Strings
+pub mod Order
+pub mod Cover
+pub mod Parents
+pub mod Maximals
+pub mod Search
+pub mod NetworkBlocks
+pub mod FreeBits
+pub mod Cuts
+pub mod Lists
+pub mod Joins
+pub mod Unions
+pub mod Aggregates
+pub mod SubnetBlocks
+pub mod Netmasks

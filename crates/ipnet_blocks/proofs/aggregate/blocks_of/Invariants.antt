@@ -1,0 +1,9 @@
+use Rattle.std.proofs.Common.{◌≡◌, map, take}
+use Rattle.std.specs.List.{flat_map}
+use Rattle.ipnet_blocks.specs.Cuts.{subnets}
+use Rattle.ipnet_blocks.specs.Spans.{limits_of}
+use Rattle.ipnet_blocks.proofs.aggregate.blocks_of.Given as goal
+
+abbrev pub invariant-loop-span : goal.invariant-loop-span
+invariant-loop-span g l =
+    map g.N.OfFamily.parts l.blocks.items ≡ flat_map (λ s. subnets g.N.OfFamily.family (limits_of s)) (take l.span-index l.span-items)

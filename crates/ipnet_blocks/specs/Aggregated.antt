@@ -1,0 +1,26 @@
+-- The fewest blocks with the addresses of some others.
+use Rattle.std.specs.Prelude.{◌≡◌, ◌≤◌, List, length, map, All, Any}
+use Rattle.ipnet_addr.specs.Addresses.{Family, Address}
+use Rattle.ipnet_blocks.specs.Blocks.{Block, HasAddress, IsAscending}
+use Rattle.ipnet_blocks.specs.Networks.{Network, block_of, IsTruncated}
+use Rattle.ipnet_blocks.specs.Maximal.{IsMaximal, IsUnion}
+
+-- an address of one of the blocks
+abbrev pub InSome : List Block → Address → Type 0
+InSome bs x = Any (λ b. HasAddress b x) bs
+
+-- `bs` lists the maximal blocks of the union of `given`; no list with that union is shorter, and an ascending one as short is `bs`
+pub record IsAggregated (given bs : List Block) : Type 0 where
+  pub maximal : IsMaximal (InSome given) bs
+  pub union : IsUnion (InSome given) bs
+  pub shortest : (cs : List Block) → IsUnion (InSome given) cs → length bs ≤ length cs
+  pub only : (cs : List Block) → IsUnion (InSome given) cs → IsAscending cs → length cs ≤ length bs → bs ≡ cs
+
+-- the same for networks of one family: the answer has no host bits
+pub record AreAggregated (family : Family) (given networks : List Network) : Type 0 where
+  pub blocks : IsAggregated (map (block_of family) given) (map (block_of family) networks)
+  pub truncated : All (IsTruncated family) networks
+
+-- aggregated again, they stay what they are
+abbrev pub AggregatedIsStable : Type 0
+AggregatedIsStable = (given bs cs : List Block) → IsAggregated given bs → IsAggregated bs cs → cs ≡ bs

@@ -1,0 +1,77 @@
+-- The laws of blocks, as statements.
+use Rattle.std.specs.Prelude.{◌≡◌, ℕ, ◌-◌, ◌<◌, ◌≤◌, ◌⊎◌, ◌↔◌, ◌++◌, Bool, true, false, IsTrue, List, length, replicate, zero, bit_and}
+use Rattle.ipnet_addr.specs.Addresses.{Address, IsAddress, width}
+use Rattle.ipnet_addr.specs.Masks.{IsMask}
+use Rattle.ipnet_blocks.specs.Blocks.{Block, IsBlock, HasAddress, IsInside, IsLarger, IsBefore, IsAscending, is_inside, bit_string, digits, Begins, IsEarlier, first, last, parent}
+use Rattle.ipnet_blocks.specs.Maximal.{IsWithin, IsMaximalBlock, IsMaximal, IsUnion, maximal_of}
+
+-- two blocks with a common address are nested
+abbrev pub AreNested : Type 0
+AreNested = (a b : Block) (x : Address) → IsBlock a → IsBlock b → HasAddress a x → HasAddress b x → IsInside a b ⊎ IsInside b a
+
+-- inclusion, by numbers
+abbrev pub InsideByNumbers : Type 0
+InsideByNumbers = (a b : Block) → IsBlock a → IsBlock b → IsInside a b ↔ IsTrue (is_inside a b)
+
+-- the bit string of b begins that of a exactly where a is inside b, within a family
+abbrev pub BeginsIsInside : Type 0
+BeginsIsInside = (a b : Block) → IsBlock a → IsBlock b → a.family ≡ b.family → Begins (bit_string b) (bit_string a) ↔ IsInside a b
+
+-- the order is total and strict
+abbrev pub OrderIsTotal : Type 0
+OrderIsTotal = (a b : Block) → IsBefore a b ⊎ (a ≡ b) ⊎ IsBefore b a
+
+abbrev pub OrderIsStrict : Type 0
+OrderIsStrict = (a b : Block) → IsBefore a b → IsBefore b a → ⊥
+
+abbrev pub OrderIsTransitive : Type 0
+OrderIsTransitive = (a b c : Block) → IsBefore a b → IsBefore b c → IsBefore a c
+
+-- a set has at most one list of its maximal blocks
+abbrev pub MaximalIsUnique : Type 0
+MaximalIsUnique = (s : Address → Bool) (bs cs : List Block) → IsMaximal (λ x. IsTrue (s x)) bs → IsMaximal (λ x. IsTrue (s x)) cs → bs ≡ cs
+
+-- no list of blocks with the same union is shorter
+abbrev pub MaximalIsShortest : Type 0
+MaximalIsShortest = (s : Address → Bool) (bs cs : List Block) → IsMaximal (λ x. IsTrue (s x)) bs → IsUnion (λ x. IsTrue (s x)) cs → length bs ≤ length cs
+
+-- an ascending list with the same union and no more blocks is the same list
+abbrev pub ShortestIsMaximal : Type 0
+ShortestIsMaximal = (s : Address → Bool) (bs cs : List Block) → IsMaximal (λ x. IsTrue (s x)) bs → IsUnion (λ x. IsTrue (s x)) cs → IsAscending cs → length cs ≤ length bs → bs ≡ cs
+
+-- it is enough to look at the block one bit shorter
+abbrev pub ParentIsEnough : Type 0
+ParentIsEnough = (s : Address → Bool) (b : Block) → IsWithin (λ x. IsTrue (s x)) b → zero < b.len → (IsWithin (λ x. IsTrue (s x)) (parent b) → ⊥) ↔ IsMaximalBlock (λ x. IsTrue (s x)) b
+
+-- the union of the maximal blocks of a set is the set
+abbrev pub MaximalIsUnion : Type 0
+MaximalIsUnion = (s : Address → Bool) (bs : List Block) → IsMaximal (λ x. IsTrue (s x)) bs → IsUnion (λ x. IsTrue (s x)) bs
+
+-- each set has such a list, and a search finds it
+abbrev pub SearchIsMaximal : Type 0
+SearchIsMaximal = (s : Address → Bool) → IsMaximal (λ x. IsTrue (s x)) (maximal_of s)
+
+-- within a family the order is that of the bit strings
+abbrev pub OrderIsOfStrings : Type 0
+OrderIsOfStrings = (a b : Block) → IsBlock a → IsBlock b → a.family ≡ b.family → IsBefore a b ↔ IsEarlier (bit_string a) (bit_string b)
+
+-- a block is its addresses
+abbrev pub BlockIsItsAddresses : Type 0
+BlockIsItsAddresses = (a b : Block) → IsBlock a → IsBlock b → IsInside a b → IsInside b a → a ≡ b
+
+-- the parent of a block is the smallest larger block
+abbrev pub ParentIsNext : Type 0
+ParentIsNext = (b : Block) → IsBlock b → zero < b.len → IsBlock (parent b) × IsLarger (parent b) b × ((c : Block) → IsBlock c → IsLarger c b → IsInside (parent b) c)
+
+-- the addresses of a block are those from its first to its last
+abbrev pub BlockIsInterval : Type 0
+BlockIsInterval = (b : Block) (x : Address) → HasAddress b x ↔ ((x.family ≡ b.family) × (first b ≤ x.number) × (x.number ≤ last b))
+
+-- the digits of a mask are ones and then zeros
+abbrev pub MaskIsOnesThenZeros : Type 0
+MaskIsOnesThenZeros = (m : Address) (len : ℕ) → IsAddress m
+    → IsMask m len ↔ ((len ≤ width m.family) × (digits (width m.family) m.number ≡ replicate len true ++ replicate (width m.family - len) false))
+
+-- the bits that an address shares with the mask of a block are those of the block, if it is one of the block's
+abbrev pub MaskFindsBlock : Type 0
+MaskFindsBlock = (b : Block) (x m : Address) → IsAddress x → x.family ≡ b.family → m.family ≡ b.family → IsMask m b.len → HasAddress b x ↔ (bit_and x.number m.number ≡ first b)

@@ -1,0 +1,30 @@
+-- Networks: an address of some family, host bits kept, and a prefix length.
+use Rattle.std.specs.Prelude.{◌≡◌, ℕ, ◌-◌, ◌/◌, ◌^◌, ◌<◌, ◌≤◌, ◌⊎◌}
+use Rattle.ipnet_addr.specs.Addresses.{Family, width}
+use Rattle.ipnet_blocks.specs.Blocks.{Block, first}
+
+-- the number of its address, host bits too, and its prefix length
+pub record Network : Type 0 where
+  pub number : ℕ
+  pub len : ℕ
+
+-- the parts are those of a network of this family
+pub record IsNetwork (family : Family) (n : Network) : Type 0 where
+  pub in_width : n.len ≤ width family
+  pub in_range : n.number < 2 ^ width family
+
+-- the block with the same addresses: those that begin with the first `len` bits of its address
+abbrev pub block_of : Family → Network → Block
+block_of family n = record { family = family; len = n.len; quotient = n.number / 2 ^ (width family - n.len) }
+
+-- a block as a network: its least address, and its length
+abbrev pub net_of : Block → Network
+net_of b = record { number = first b; len = b.len }
+
+-- the network has no host bits: it is the one of its block
+abbrev pub IsTruncated : Family → Network → Type 0
+IsTruncated family n = n ≡ net_of (block_of family n)
+
+-- by the number of the address, then by length
+abbrev pub ComesBefore : Network → Network → Type 0
+ComesBefore m n = (m.number < n.number) ⊎ ((m.number ≡ n.number) × (m.len < n.len))

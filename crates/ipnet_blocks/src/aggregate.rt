@@ -1,0 +1,106 @@
+//! The fewest blocks with the addresses of some networks of one family: spans of numbers, sorted, joined and cut.
+ghost use Rattle.std.specs.Prelude.{◌≡◌, ℕ, ◌+◌, ◌-◌, ◌^◌, ◌<◌, ◌≤◌, ◌++◌, map, All, IfOk, OnOk};
+ghost use Rattle.std.specs.List.Sorted.{IsPermutation, IsNonDecreasingBy};
+ghost use Rattle.std.specs.List.{flat_map};
+ghost use Rattle.ipnet_addr.specs.Addresses.{Family, width};
+ghost use Rattle.ipnet_blocks.specs.Aggregated.{AreAggregated};
+ghost use Rattle.ipnet_blocks.specs.Cuts.{subnets};
+ghost use Rattle.ipnet_blocks.specs.Networks.{Network};
+ghost use Rattle.ipnet_blocks.specs.Spans.{HasNumber, AreJoined, span_of, limits_of};
+
+use std::alloc::{AllocError, Global};
+
+/// The numbers from `first` to `last`.
+#[derive(Clone, Copy)]
+pub struct Span {
+    pub first: u128,
+    pub last: u128,
+}
+
+/// The spans by their first numbers.
+fn sorted(mut spans: Vec<Span>) -> Vec<Span>
+    ensures permutation { IsPermutation spans.items result.items }
+    ensures order { IsNonDecreasingBy (λ s. s.first) result.items }
+{
+    spans.sort_unstable_by_key(|span| span.first);
+    spans
+}
+
+/// The spans, those that overlap or touch as one, ascending.
+fn joined(alloc: Global, spans: Vec<Span>) -> Result<Vec<Span>, AllocError>
+    requires { All HasNumber spans.items }
+    ensures { IfOk result (λ v. AreJoined spans.items v.items) }
+{
+    let spans = sorted(spans);
+    let mut joined = Vec::new(alloc);
+    let [head, rest @ ..] = spans.as_slice() else {
+        return Ok(joined);
+    };
+    let mut open = *head;
+    for span in rest {
+        if span.first.saturating_sub(1) <= open.last {
+            open.last = open.last.max(span.last);
+        } else {
+            joined.push(open)?;
+            open = *span;
+        }
+    }
+    joined.push(open)?;
+    Ok(joined)
+}
+
+/// What `aggregated` needs of the networks of one family.
+pub trait OfFamily: Copy {
+    /// Their family.
+    ghost family: { Family };
+
+    /// The number of the address of a network, and its length.
+    ghost parts: { Self → Network };
+
+    /// The numbers of its addresses.
+    fn span(&self) -> Span
+        ensures span { result ≡ span_of family (parts self.now) }
+        ensures fits { result.last < 2 ^ width family };
+
+    /// Appends the largest blocks of the span, ascending.
+    fn push_blocks(blocks: &mut Vec<Self>, span: &Span) -> Result<(), AllocError>
+        requires some { HasNumber span.now }
+        requires fits { span.now.last < 2 ^ width family }
+        ensures { OnOk result (map parts blocks.new.items ≡ map parts blocks.old.items ++ subnets family (limits_of span.now)) };
+}
+
+/// The numbers of each network's addresses.
+fn spans_of<N: OfFamily>(alloc: Global, networks: &Vec<N>) -> Result<Vec<Span>, AllocError>
+    ensures spans { IfOk result (λ v. v.items ≡ map (λ n. span_of N.family (N.parts n)) networks.now.items) }
+    ensures fit { IfOk result (λ v. All (λ s. s.last < 2 ^ width N.family) v.items) }
+{
+    let mut spans = Vec::new(alloc);
+    for network in networks {
+        spans.push(network.span())?;
+    }
+    Ok(spans)
+}
+
+/// The largest blocks of each span, one span after another.
+fn blocks_of<N: OfFamily>(alloc: Global, spans: &Vec<Span>) -> Result<Vec<N>, AllocError>
+    requires some { All HasNumber spans.now.items }
+    requires fit { All (λ s. s.last < 2 ^ width N.family) spans.now.items }
+    ensures { IfOk result (λ v. map N.parts v.items ≡ flat_map (λ s. subnets N.family (limits_of s)) spans.now.items) }
+{
+    let mut blocks = Vec::new(alloc);
+    for span in spans {
+        N::push_blocks(&mut blocks, span)?;
+    }
+    Ok(blocks)
+}
+
+/// The fewest networks with the addresses of these, ascending, each without host bits; takes time n log n.
+///
+/// # Errors
+/// `AllocError` where memory is refused.
+pub fn aggregated<N: OfFamily>(alloc: Global, networks: &Vec<N>) -> Result<Vec<N>, AllocError>
+    ensures { IfOk result (λ v. AreAggregated N.family (map N.parts networks.now.items) (map N.parts v.items)) }
+{
+    let spans = joined(alloc, spans_of(alloc, networks)?)?;
+    blocks_of(alloc, &spans)
+}
