@@ -1,6 +1,6 @@
 -- What calls of the tries answer, as answers of the table.
 use Rattle.std.proofs.Common.{◌≡◌, ℕ, ◌+◌, ◌-◌, ◌/◌, ◌^◌, ◌≤◌, ◌<◌, ◌⊎◌, inl, inr, ⊎_elim, Bool, true, false, cond, ◌||◌, List, [], ◌∷◌, ◌++◌, length, take, map, filter, Option, Some, None, refl, sym, ap, ◌∙◌, subst, arith, append-nil}
-use Rattle.std.specs.Prelude.{is_some}
+use Rattle.std.specs.Prelude.{is_some, MatchOption}
 use Rattle.std.specs.List.{list_any}
 use Rattle.std.specs.Option.{option_map}
 use Rattle.std.specs.FinMap.{get, entries, from_entries, same_map, get-entries, get-from_entries}
@@ -41,11 +41,14 @@ module _ (f : Family) (n t : Network) (e : t ≡ net_of (block_of f n)) where
 -- ---- the longest match
 
 module _ (M : Maps) (ok : AreStored M) (f : Family) (n t : Network) (is : IsNetwork f n) (e : t ≡ net_of (block_of f n)) where
-  pub nowhere : NoBeginning (M f) (bit_string (block_of f t)) → None ≡ option_map item_of (match_of (table_of M) (block_of f n))
+  nowhere : NoBeginning (M f) (bit_string (block_of f t)) → None ≡ option_map item_of (match_of (table_of M) (block_of f n))
   nowhere none = sym (ap (option_map item_of) (no_match_at M ok (block_of f n) (block_is f n is) (subst (λ s. NoBeginning (M f) s) (same_bits f n t e) none)))
 
-  pub found : (k : Network) (h : Hop) → IsLongestKey (λ (m : Network). bit_string (block_of f m)) (λ s. record { number = number_from (width f) s; len = length s }) (M f) (bit_string (block_of f t)) k h
-      → Some (net_in f k, h) ≡ option_map item_of (match_of (table_of M) (block_of f n))
+  -- the key of the longest beginning of a network
+  abbrev pub IsLongestNetwork : Network → Hop → Type 0
+  IsLongestNetwork k h = IsLongestKey (λ (m : Network). bit_string (block_of f m)) (λ s. record { number = number_from (width f) s; len = length s }) (M f) (bit_string (block_of f t)) k h
+
+  found : (k : Network) (h : Hop) → IsLongestNetwork k h → Some (net_in f k, h) ≡ option_map item_of (match_of (table_of M) (block_of f n))
   found k h l =
       let s = bit_string (block_of f k) in
       let q = bit_string (block_of f n) in
@@ -54,6 +57,12 @@ module _ (M : Maps) (ok : AreStored M) (f : Family) (n t : Network) (is : IsNetw
       let m = match_at M ok (block_of f n) (block_is f n is) (block_at f s) h (block_at_is_block f s w) refl
           (string_of_block f s ∙ l.beginning ∙ ap (take (length s)) (same_bits f n t e)) long in
       ap (λ (x : Network). Some (net_in f x, h)) (l.rebuilt ∙ network_of_string f s w) ∙ sym (ap (option_map item_of) m)
+
+  -- what a search of the trie finds, as what the table finds
+  pub longest_is : {X : Type 0} (hop : X → Hop) (o : Option (Network × X)) → MatchOption o (NoBeginning (M f) (bit_string (block_of f t))) (λ r. IsLongestNetwork r.0 (hop r.1))
+      → option_map (λ r. (net_in f r.0, hop r.1)) o ≡ option_map item_of (match_of (table_of M) (block_of f n))
+  longest_is hop None h = nowhere h
+  longest_is hop (Some r) h = found r.0 (hop r.1) h
 
 -- ---- what is stored
 
@@ -120,4 +129,4 @@ unfolding map_of
 map_of-table M f =
     ap (λ rs. from_entries {R = bits_cmp} (map (λ (r : Route). (bit_string r.block, r.hop)) rs)) (routes_of_family M f)
     ∙ ap (λ es. from_entries {R = bits_cmp} es) (keys_back f (entries (M f)))
-    ∙ same_map bits_cmp bits_total bits_same _ _ (λ q. get-from_entries bits_cmp bits_total (entries (M f)) q ∙ sym (get-entries (M f) q))
+    ∙ same_map bits_total bits_same _ _ (λ q. get-from_entries bits_total (entries (M f)) q ∙ sym (get-entries (M f) q))

@@ -84,12 +84,12 @@ module _ (M N : Maps) (ok : AreStored M) (b : Block) (okb : IsBlock b) where
   pub taken_table : IsChangedAt M N b None → table_of N ≡ without_block (table_of M) b
   taken_table c =
       let fits = changed_is_stored M N ok b okb None c (λ j e. absurd (cc)) in
-      table_is N fits (without_block (table_of M) b) (left_is_table (table_of M) (is_table M ok) b okb)
+      table_is N fits (without_block (table_of M) b) (left_is_table (table_of M) (is_table M ok) b)
       (λ s h. ⊎_elim
         (λ e. absurd (let f = at_b M N ok b okb None c s h e in cc))
-        (λ not_it. left_other (table_of M) (is_table M ok) b okb s (in_table M ok s (back M N ok b okb None c s h not_it)) not_it)
+        (λ not_it. left_other (table_of M) (is_table M ok) b s (in_table M ok s (back M N ok b okb None c s h not_it)) not_it)
         (same_or_not s.block b))
-      (λ s i. let t = left_back (table_of M) (is_table M ok) b okb s i in kept M N ok b okb None c s (has_route M ok s t.0) t.1)
+      (λ s i. let t = left_back (table_of M) (is_table M ok) b s i in kept M N ok b okb None c s (has_route M ok s t.0) t.1)
 
 -- ---- the changes of the maps
 
@@ -117,13 +117,13 @@ module _ (M N : Maps) (b : Block) (kept : AreKept b.family M N) where
 
   module _ (ok : AreStored M) (okb : IsBlock b) where
     -- a hop at the key of a block
-    pub stored_hop : (k : Hop) → IsHop k → N b.family ≡ insert (M b.family) (bit_string b) k → AreStored N × (table_of N ≡ with_route (table_of M) (record { block = b; hop = k }))
-    stored_hop k hop e =
-        let c = changed_at (Some k) (λ s. ap (λ m. get m s) e ∙ get-insert bits_total (M b.family) (bit_string b) k s) in
+    pub stored_hop : (k : Hop) → IsHop k → (q : List Bool) → q ≡ bit_string b → N b.family ≡ insert (M b.family) q k → AreStored N × (table_of N ≡ with_route (table_of M) (record { block = b; hop = k }))
+    stored_hop k hop q same_bits e =
+        let c = changed_at (Some k) (λ s. ap (λ m. get m s) (e ∙ ap (λ r. insert (M b.family) r k) same_bits) ∙ get-insert bits_total (M b.family) (bit_string b) k s) in
         (changed_is_stored M N ok b okb (Some k) c (λ j q. subst IsHop (some_same k j q) hop), put_table M N ok b okb k hop c)
 
     -- a key taken out
-    pub taken_hop : N b.family ≡ remove (M b.family) (bit_string b) → AreStored N × (table_of N ≡ without_block (table_of M) b)
-    taken_hop e =
-        let c = changed_at None (λ s. ap (λ m. get m s) e ∙ get-remove bits_total (M b.family) (bit_string b) s) in
+    pub taken_hop : (q : List Bool) → q ≡ bit_string b → N b.family ≡ remove (M b.family) q → AreStored N × (table_of N ≡ without_block (table_of M) b)
+    taken_hop q same_bits e =
+        let c = changed_at None (λ s. ap (λ m. get m s) (e ∙ ap (λ r. remove (M b.family) r) same_bits) ∙ get-remove bits_total (M b.family) (bit_string b) s) in
         (changed_is_stored M N ok b okb None c (λ j q. absurd (cc)), taken_table M N ok b okb c)

@@ -1,5 +1,5 @@
 //! The table.
-ghost use Rattle.std.specs.Prelude.{◌≡◌, ◌≤◌, ◌+◌, ◌/◌, [], IfOk, IfErr, IfSome, IsTrue, OnOk, OnErr, false, is_some};
+ghost use Rattle.std.specs.Prelude.{◌≡◌, ◌≤◌, ◌+◌, ◌/◌, [], IfOk, IfErr, IfSome, IsOk, OnOk, OnErr, false, is_some};
 ghost use Rattle.std.specs.Option.{option_map};
 ghost use Rattle.ipnet_addr.specs.Addresses.{Ipv4, Ipv6};
 ghost use Rattle.ipnet_blocks.specs.Blocks.{bit_string};
@@ -111,8 +111,14 @@ impl RouteTable {
         ensures { result ≡ option_map item_of (match_of self.now (block net.now)) }
     {
         match *net {
-            IpNet::V4(net) => self.longest_v4(net),
-            IpNet::V6(net) => self.longest_v6(net),
+            IpNet::V4(net) => match self.longest_v4(net) {
+                None => None,
+                Some((found, hop)) => Some((IpNet::V4(found), hop)),
+            },
+            IpNet::V6(net) => match self.longest_v6(net) {
+                None => None,
+                Some((found, hop)) => Some((IpNet::V6(found), hop)),
+            },
         }
     }
 
@@ -123,10 +129,11 @@ impl RouteTable {
         ensures visits { result.1 ≡ visit_count (map_of (family net.now) self.now) (bit_string (block net.now)) }
         ensures bound { result.1 ≤ (parts net.now).len / 5 + 1 }
     {
-        match *net {
-            IpNet::V4(net) => self.longest_visits_v4(net),
-            IpNet::V6(net) => self.longest_visits_v6(net),
-        }
+        let visits = match *net {
+            IpNet::V4(net) => self.visits_v4(net),
+            IpNet::V6(net) => self.visits_v6(net),
+        };
+        (self.get(net), visits)
     }
 
     /// How many nodes the tries of the two families have: one, and one for each distinct bit string of positive
@@ -199,45 +206,35 @@ impl RouteTable {
         self.v6.remove(&net.trunc()).is_some()
     }
 
-    fn longest_v4(&self, net: Ipv4Net) -> Option<(IpNet, Hop)>
-        ensures { result ≡ option_map item_of (match_of self.now (block_of Ipv4 net)) }
+    fn longest_v4(&self, net: Ipv4Net) -> Option<(Ipv4Net, Hop)>
+        ensures { option_map (λ r. (IpNet.V4 r.0, r.1)) result ≡ option_map item_of (match_of self.now (block_of Ipv4 net)) }
     {
         match self.v4.get_lpm(&net.trunc()) {
             None => None,
-            Some((found, hop)) => Some((IpNet::V4(found), *hop)),
+            Some((found, hop)) => Some((found, *hop)),
         }
     }
 
-    fn longest_v6(&self, net: Ipv6Net) -> Option<(IpNet, Hop)>
-        ensures { result ≡ option_map item_of (match_of self.now (block_of Ipv6 net)) }
+    fn longest_v6(&self, net: Ipv6Net) -> Option<(Ipv6Net, Hop)>
+        ensures { option_map (λ r. (IpNet.V6 r.0, r.1)) result ≡ option_map item_of (match_of self.now (block_of Ipv6 net)) }
     {
         match self.v6.get_lpm(&net.trunc()) {
             None => None,
-            Some((found, hop)) => Some((IpNet::V6(found), *hop)),
+            Some((found, hop)) => Some((found, *hop)),
         }
     }
 
-    fn longest_visits_v4(&self, net: Ipv4Net) -> (Option<(IpNet, Hop)>, u32)
-        ensures found { result.0 ≡ option_map item_of (match_of self.now (block_of Ipv4 net)) }
-        ensures visits { result.1 ≡ visit_count (map_of Ipv4 self.now) (bit_string (block_of Ipv4 net)) }
-        ensures bound { result.1 ≤ net.len / 5 + 1 }
+    fn visits_v4(&self, net: Ipv4Net) -> u32
+        ensures visits { result ≡ visit_count (map_of Ipv4 self.now) (bit_string (block_of Ipv4 net)) }
+        ensures bound { result ≤ net.len / 5 + 1 }
     {
-        let (found, visits) = self.v4.get_lpm_visits(&net.trunc());
-        match found {
-            None => (None, visits),
-            Some((found, hop)) => (Some((IpNet::V4(found), *hop)), visits),
-        }
+        self.v4.get_lpm_visits(&net.trunc()).1
     }
 
-    fn longest_visits_v6(&self, net: Ipv6Net) -> (Option<(IpNet, Hop)>, u32)
-        ensures found { result.0 ≡ option_map item_of (match_of self.now (block_of Ipv6 net)) }
-        ensures visits { result.1 ≡ visit_count (map_of Ipv6 self.now) (bit_string (block_of Ipv6 net)) }
-        ensures bound { result.1 ≤ net.len / 5 + 1 }
+    fn visits_v6(&self, net: Ipv6Net) -> u32
+        ensures visits { result ≡ visit_count (map_of Ipv6 self.now) (bit_string (block_of Ipv6 net)) }
+        ensures bound { result ≤ net.len / 5 + 1 }
     {
-        let (found, visits) = self.v6.get_lpm_visits(&net.trunc());
-        match found {
-            None => (None, visits),
-            Some((found, hop)) => (Some((IpNet::V6(found), *hop)), visits),
-        }
+        self.v6.get_lpm_visits(&net.trunc()).1
     }
 }
