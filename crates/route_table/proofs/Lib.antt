@@ -6,3 +6,9 @@ pub mod Own
 pub mod Bounds
 pub mod Changes
 pub mod OneHop
+pub mod Strings
+pub mod Entries
+pub mod Seams
+pub mod Searches
+pub mod Stores
+pub mod Calls

@@ -2,4 +2,5 @@ pub mod Tables
 pub mod Flats
 pub mod Changes
 pub mod Bounds
+pub mod Stored
 pub mod Laws

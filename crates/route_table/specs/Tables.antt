@@ -1,5 +1,6 @@
 -- A table as a finite map from blocks to hops, its matches and its hops.
-use Rattle.std.specs.Prelude.{◌≢◌, ℕ, ◌<◌, ◌≤◌, ◌^◌, not, nat_lt, if◌then◌else◌, List, [], ◌∷◌, ◌++◌, Option, Some, None, All, AllPairs, Contains, filter}
+use Rattle.std.specs.Prelude.{◌≢◌, ℕ, ◌<◌, ◌≤◌, ◌^◌, Bool, not, nat_lt, if◌then◌else◌, List, [], ◌∷◌, ◌++◌, Option, Some, None, All, AllPairs, Contains, filter}
+use Rattle.std.specs.List.{list_any}
 use Rattle.ipnet_addr.specs.Addresses.{Address}
 use Rattle.ipnet_blocks.specs.Blocks.{Block, IsBlock, HasAddress, IsInside, IsLarger, IsBefore, is_inside, is_before, same_block, host}
 use Rattle.route_table.specs.declared.hop.Hop.{Hop}
@@ -56,6 +57,10 @@ Changed M N x = hop_at M x ≢ hop_at N x
 pub record Governed (M : List Route) (n : Block) (x : Address) : Type 0 where
   pub inside : HasAddress n x
   pub free : (r : Route) → Contains M r → IsLarger n r.block → HasAddress r.block x → ⊥
+
+-- the block is one of a route
+abbrev pub is_stored : List Route → Block → Bool
+is_stored M n = list_any (λ r. same_block r.block n) M
 
 -- the table with the route in the place of any other of its block
 abbrev pub with_route : List Route → Route → List Route

@@ -1,7 +1,10 @@
-//! Route tables as finite maps from blocks to hops: their definitions and the laws over them.
+//! Route tables: a hop for each of some networks, the longest match, and which addresses a change concerns.
 #![tactic(auto)]
 
 pub use hop::Hop;
+pub use table::RouteTable;
+pub use trie_map::Refused;
 
 mod hop;
 pub mod laws;
+mod table;
