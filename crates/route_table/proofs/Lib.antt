@@ -12,3 +12,4 @@ pub mod Seams
 pub mod Searches
 pub mod Stores
 pub mod Calls
+pub mod Walked

@@ -3,4 +3,5 @@ pub mod Flats
 pub mod Changes
 pub mod Bounds
 pub mod Stored
+pub mod Items
 pub mod Laws

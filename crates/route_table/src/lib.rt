@@ -2,9 +2,11 @@
 #![tactic(auto)]
 
 pub use hop::Hop;
+pub use routes::Routes;
 pub use table::RouteTable;
 pub use trie_map::Refused;
 
 mod hop;
 pub mod laws;
+mod routes;
 mod table;
