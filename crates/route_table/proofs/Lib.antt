@@ -13,3 +13,5 @@ pub mod Searches
 pub mod Stores
 pub mod Calls
 pub mod Walked
+pub mod Parts
+pub mod Gaps

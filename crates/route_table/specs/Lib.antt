@@ -4,4 +4,5 @@ pub mod Changes
 pub mod Bounds
 pub mod Stored
 pub mod Items
+pub mod Governing
 pub mod Laws

@@ -1,11 +1,13 @@
 //! Route tables: a hop for each of some networks, the longest match, and which addresses a change concerns.
 #![tactic(auto)]
 
+pub use governed::Governed;
 pub use hop::Hop;
 pub use routes::Routes;
 pub use table::RouteTable;
 pub use trie_map::Refused;
 
+mod governed;
 mod hop;
 pub mod laws;
 mod routes;
