@@ -24,7 +24,7 @@ use Rattle.ipnet_blocks.proofs.Unions.{IsFarBefore, maximal_join, maximal_same, 
 abbrev pub InSpans : Family → List Span → Address → Type 0
 InSpans f spans x = (x.family ≡ f) × Any (IsIn x.number) spans
 
-abbrev cuts : Family → List Span → List Block
+abbrev pub cuts : Family → List Span → List Block
 cuts f spans = flat_map (λ s. cut f (limits_of s)) spans
 
 cut_is_maximal : (f : Family) (s : Span) → s.last < 2 ^ width f → IsMaximal (Between f s.first s.last) (cut f (limits_of s))
@@ -38,7 +38,7 @@ cut_is_maximal f s top =
       );
     }
 
-cuts_are_maximal : (f : Family) (spans : List Span) → Rising IsApart spans → ((s : Span) → In s spans → HasNumber s) → ((s : Span) → In s spans → s.last < 2 ^ width f) → IsMaximal (InSpans f spans) (cuts f spans)
+pub cuts_are_maximal : (f : Family) (spans : List Span) → Rising IsApart spans → ((s : Span) → In s spans → HasNumber s) → ((s : Span) → In s spans → s.last < 2 ^ width f) → IsMaximal (InSpans f spans) (cuts f spans)
 cuts_are_maximal f [] up has top = maximal_none (InSpans f []) (λ x h. let a = In-from_Any (IsIn x.number) [] h.1 in a.1)
 cuts_are_maximal f (s ∷ spans) up has top =
     let rest = cuts_are_maximal f spans up.1 (λ t i. has t (inr i)) (λ t i. top t (inr i)) in

@@ -1,8 +1,9 @@
 -- What calls of the tries answer, as answers of the table.
-use Rattle.std.proofs.Common.{◌≡◌, ℕ, ◌+◌, ◌-◌, ◌/◌, ◌^◌, ◌≤◌, ◌<◌, ◌⊎◌, inl, inr, ⊎_elim, Bool, true, false, cond, ◌||◌, List, [], ◌∷◌, ◌++◌, length, take, map, filter, Option, Some, None, refl, sym, ap, ◌∙◌, subst, arith, append-nil}
+use Rattle.std.proofs.Common.{◌≡◌, ℕ, ◌+◌, ◌-◌, ◌/◌, ◌^◌, ◌≤◌, ◌<◌, ◌⊎◌, inl, inr, ⊎_elim, Bool, true, false, cond, ◌||◌, List, [], ◌∷◌, ◌++◌, length, take, map, filter, Option, Some, None, All, refl, sym, ap, ◌∙◌, subst, arith, append-nil}
 use Rattle.std.specs.Prelude.{is_some, MatchOption}
 use Rattle.std.specs.List.{list_any}
 use Rattle.std.specs.Option.{option_map}
+use Rattle.std.specs.FinMap.Entries.{where_key}
 use Rattle.std.specs.FinMap.{get, entries, from_entries, same_map, get-entries, get-from_entries}
 use Rattle.std.proofs.lemmas.List.Elements.{filter-append}
 use Rattle.ipnet_addr.specs.Addresses.{Family, Ipv4, Ipv6, width, same_family}
@@ -13,7 +14,7 @@ use Rattle.ipnet_blocks.proofs.BlockTests.{same_from_test, test_from_same}
 use Rattle.ipnet_blocks.proofs.NetworkBlocks.{block_is, block_round_trip}
 use Rattle.ipnet_blocks.proofs.Strings.{length-digits}
 use Rattle.ipnet_addr.proofs.Members.{In}
-use Rattle.trie_keys.specs.Bits.{bits_cmp, number_from}
+use Rattle.trie_keys.specs.Bits.{begins, bits_cmp, number_from}
 use Rattle.trie_core.specs.Nodes.{BitMap}
 use Rattle.trie_core.specs.Search.{NoBeginning, IsLongest}
 use Rattle.trie_keys.proofs.Strings.{bits_total, bits_same}
@@ -21,7 +22,12 @@ use Rattle.trie_map.specs.Maps.{IsLongestKey}
 use Rattle.route_table.specs.Tables.{Route, match_of, is_stored}
 use Rattle.route_table.specs.Stored.{Maps, table_of, AreStored, block_at, route_at, routes_in, map_of, item_of}
 use Rattle.route_table.specs.declared.hop.Hop.{Hop}
-use Rattle.route_table.proofs.Matches.{bools_same}
+use Rattle.ipnet_addr.proofs.Ascending.{All-from_In}
+use Rattle.route_table.specs.Governing.{routes_inside}
+use Rattle.route_table.specs.Items.{KeysUpTo}
+use Rattle.route_table.proofs.Entries.{get_of}
+use Rattle.route_table.proofs.Parts.{inside_are}
+use Rattle.route_table.proofs.Matches.{bools_same, In-from_filter}
 use Rattle.route_table.proofs.Searches.{no_match_at, match_at}
 use Rattle.route_table.proofs.Seams.{has_route, in_table}
 use Rattle.route_table.proofs.Strings.{string_of_block, block_at_is_block, network_of_string}
@@ -63,6 +69,20 @@ module _ (M : Maps) (ok : AreStored M) (f : Family) (n t : Network) (is : IsNetw
       → option_map (λ r. (net_in f r.0, hop r.1)) o ≡ option_map item_of (match_of (table_of M) (block_of f n))
   longest_is hop None h = nowhere h
   longest_is hop (Some r) h = found r.0 (hop r.1) h
+
+-- ---- the routes inside a network
+
+-- no listed key is longer than an address
+pub listed_keys : (M : Maps) → AreStored M → (f : Family) (s : List Bool) (es : List (List Bool × Hop)) → es ≡ where_key bits_cmp (begins s) (entries (M f)) → KeysUpTo (width f) es
+listed_keys M ok f s es e = All-from_In (λ (d : List Bool × Hop). length d.0 ≤ width f) es (λ d i.
+    let j = In-from_filter (λ (x : List Bool × Hop). begins s x.0) (entries (M f)) d (subst (λ xs. In d xs) e i) in
+    ok.within f d.0 d.1 (get_of (M f) d.0 d.1 j.0))
+
+pub listed : (M : Maps) → AreStored M → (f : Family) (n t : Network) → IsNetwork f n → t ≡ net_of (block_of f n) → (es : List (List Bool × Hop)) → es ≡ where_key bits_cmp (begins (bit_string (block_of f t))) (entries (M f))
+    → map (route_at f) es ≡ routes_inside (table_of M) (block_of f n)
+listed M ok f n t is e es h =
+    ap (map (route_at f)) (h ∙ ap (λ s. filter (λ (x : List Bool × Hop). begins s x.0) (entries (M f))) (same_bits f n t e))
+    ∙ sym (inside_are M ok (block_of f n) (block_is f n is))
 
 -- ---- what is stored
 

@@ -71,7 +71,7 @@ gap_given g h r fs n e i p d s long far =
 
 -- ---- the blocks of a gap
 
-of_network_at : (b : Block) → block (network_at b) ≡ b
+pub of_network_at : (b : Block) → block (network_at b) ≡ b
 of_network_at b = go b.family (net_of b) ∙ block_round_trip b
   where
     go : (f : Family) (n : Network) → block (net_in f n) ≡ block_of f n

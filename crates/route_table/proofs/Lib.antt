@@ -15,3 +15,4 @@ pub mod Calls
 pub mod Walked
 pub mod Parts
 pub mod Gaps
+pub mod Governings

@@ -24,7 +24,7 @@ kept_or_not : (b : Bool) (r : Route) (M : List Route) → ((s : Route) → In s 
 kept_or_not true r M f h = (f, h)
 kept_or_not false r M f h = h
 
-Rising-filter : (p : Route → Bool) (M : List Route) → Rising Sooner M → Rising Sooner (filter p M)
+pub Rising-filter : (p : Route → Bool) (M : List Route) → Rising Sooner M → Rising Sooner (filter p M)
 Rising-filter p [] h = tt
 Rising-filter p (r ∷ M) h = kept_or_not (p r) r (filter p M) (λ s i. h.0 s (In-from_filter p M s i).0) (Rising-filter p M h.1)
 

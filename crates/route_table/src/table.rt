@@ -1,16 +1,21 @@
 //! The table.
-ghost use Rattle.std.specs.Prelude.{◌≡◌, ◌≤◌, ◌+◌, ◌/◌, [], IfOk, IfErr, IfSome, IsOk, OnOk, OnErr, false, is_some};
+ghost use Rattle.std.specs.Prelude.{◌≡◌, ◌≤◌, ◌+◌, ◌/◌, [], IfOk, IfErr, IfSome, IsOk, OnOk, OnErr, false, is_some, length, sum_by};
 ghost use Rattle.std.specs.Option.{option_map};
 ghost use Rattle.ipnet_addr.specs.Addresses.{Ipv4, Ipv6};
 ghost use Rattle.ipnet_blocks.specs.Blocks.{bit_string};
 ghost use Rattle.ipnet.specs.IpNets.{block, family, parts};
+ghost use Rattle.ipnet_blocks.specs.Maximal.{IsMaximal};
 ghost use Rattle.ipnet_blocks.specs.Networks.{block_of};
 ghost use Rattle.trie_core.specs.Count.{nodes, visit_count};
 ghost use Rattle.trie_map.specs.declared.refused.Refused.TheVariants.{Memory};
+ghost use Rattle.route_table.specs.Bounds.{excess};
+ghost use Rattle.route_table.specs.Governing.{routes_inside};
 ghost use Rattle.route_table.specs.Stored.{item_of, map_of, route_of};
-ghost use Rattle.route_table.specs.Tables.{IsHop, IsTable, is_stored, match_number, match_of, number_of, with_route, without_block};
+ghost use Rattle.route_table.specs.Tables.{Governed as GovernedBy, IsHop, IsTable, is_stored, match_number, match_of, number_of, with_route, without_block};
 
+use crate::governed::Governed;
 use crate::hop::Hop;
+use crate::routes::{Routes, Source};
 use ipnet::{IpNet, Ipv4Net, Ipv6Net};
 use std::alloc::Global;
 use std::marker::Model;
@@ -136,6 +141,28 @@ impl RouteTable {
         (self.get(net), visits)
     }
 
+    /// The routes inside the network, its own included, ascending. It takes no memory.
+    pub fn list(&self, net: &IpNet) -> Routes<'_>
+        ensures { result ≡ routes_inside self.now (block net.now) }
+    {
+        match *net {
+            IpNet::V4(net) => self.list_v4(net),
+            IpNet::V6(net) => self.list_v6(net),
+        }
+    }
+
+    /// The maximal blocks of the addresses that the network governs, ascending: its addresses that lie in no stored
+    /// network strictly inside it. There are at most one, and for each stored network strictly inside it, the
+    /// difference of the two lengths less one. It takes no memory.
+    pub fn governed(&self, net: &IpNet) -> Governed<'_>
+        ensures maximal { IsMaximal (GovernedBy self.now (block net.now)) result }
+        ensures bound { length result ≤ 1 + sum_by (λ r. excess (block net.now) r.block) self.now }
+    {
+        let net = net.trunc();
+        self.is_table();
+        Governed::new(net, self.list(&net))
+    }
+
     /// How many nodes the tries of the two families have: one, and one for each distinct bit string of positive
     /// length divisible by five that begins a stored network of the family.
     pub fn node_counts(&self) -> (usize, usize)
@@ -204,6 +231,18 @@ impl RouteTable {
         ensures routes { self.new ≡ without_block self.old (block_of Ipv6 net) }
     {
         self.v6.remove(&net.trunc()).is_some()
+    }
+
+    fn list_v4(&self, net: Ipv4Net) -> Routes<'_>
+        ensures { result ≡ routes_inside self.now (block_of Ipv4 net) }
+    {
+        Routes::new(Source::V4(self.v4.children(&net.trunc())))
+    }
+
+    fn list_v6(&self, net: Ipv6Net) -> Routes<'_>
+        ensures { result ≡ routes_inside self.now (block_of Ipv6 net) }
+    {
+        Routes::new(Source::V6(self.v6.children(&net.trunc())))
     }
 
     fn longest_v4(&self, net: Ipv4Net) -> Option<(Ipv4Net, Hop)>
