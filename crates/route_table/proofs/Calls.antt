@@ -98,7 +98,7 @@ any_in : (p : Route → Bool) (M : List Route) → list_any p M ≡ true → (r 
 any_in p [] e = absurd (cc)
 any_in p (r ∷ M) e = ⊎_elim (λ q. (r, inl refl, q)) (λ f. let t = any_in p M f in (t.0, inr t.1, t.2)) (or_cases (p r) (list_any p M) e)
 
-in_any : (p : Route → Bool) (M : List Route) (r : Route) → In r M → p r ≡ true → list_any p M ≡ true
+pub in_any : (p : Route → Bool) (M : List Route) (r : Route) → In r M → p r ≡ true → list_any p M ≡ true
 in_any p [] r i e = absurd i
 in_any p (s ∷ M) r i e = ⊎_elim (λ q. ap (λ b. b || list_any p M) (sym (ap p q) ∙ e)) (λ j. or_right (p s) (list_any p M) (in_any p M r j e)) i
 

@@ -16,3 +16,4 @@ pub mod Walked
 pub mod Parts
 pub mod Gaps
 pub mod Governings
+pub mod Alterations

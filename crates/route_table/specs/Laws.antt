@@ -1,9 +1,9 @@
 -- The laws of tables, as statements.
-use Rattle.std.specs.Prelude.{◌≡◌, ℕ, ◌≤◌, ◌↔◌, ◌==◌, ◌+◌, List, Option, Some, Contains, length, sum_by, filter}
-use Rattle.ipnet_addr.specs.Addresses.{Address, IsAddress}
+use Rattle.std.specs.Prelude.{◌≡◌, ◌≢◌, false, [], ℕ, ◌≤◌, ◌↔◌, ◌==◌, ◌+◌, List, Option, Some, Contains, length, sum_by, filter}
+use Rattle.ipnet_addr.specs.Addresses.{Family, Address, IsAddress, same_family}
 use Rattle.ipnet_blocks.specs.Blocks.{Block, IsBlock, HasAddress, IsAscending, host}
 use Rattle.ipnet_blocks.specs.Maximal.{IsMaximal, maximal_of}
-use Rattle.route_table.specs.Tables.{Route, IsTable, IsMatch, IsHop, match_of, match_number, hop_at, number_of, Governed, Changed, with_route, without_block}
+use Rattle.route_table.specs.Tables.{Route, IsTable, IsMatch, IsHop, is_stored, match_of, match_number, hop_at, number_of, Governed, Changed, with_route, without_block}
 use Rattle.route_table.specs.Flats.{Piece, IsFlat, IsAdmissible, blocks_of, flat_of}
 use Rattle.route_table.specs.Changes.{changed}
 use Rattle.route_table.specs.Bounds.{excess}
@@ -59,3 +59,43 @@ AddedHaveOneHop = (M : List Route) (r : Route) → IsTable M → IsBlock r.block
 abbrev pub LeftHaveOneHop : Type 0
 LeftHaveOneHop = (M : List Route) (n : Block) → IsTable M → IsBlock n → (b : Block) → Contains (maximal_of (changed M (without_block M n))) b →
     (x : Address) → HasAddress b x → hop_at (without_block M n) x ≡ match_number (match_of (without_block M n) n)
+
+-- an accepted `add` changes the hops of what the block governs, where the old hop and the new one differ
+abbrev pub ChangedByAdd : Type 0
+ChangedByAdd = (M : List Route) (r : Route) → IsTable M → IsBlock r.block → IsHop r.hop → (x : Address) → IsAddress x →
+    Changed M (with_route M r) x ↔ (Governed M r.block x × (match_number (match_of M r.block) ≢ number_of r.hop))
+
+-- so does a `del`
+abbrev pub ChangedByDel : Type 0
+ChangedByDel = (M : List Route) (n : Block) → IsTable M → IsBlock n → (x : Address) → IsAddress x →
+    Changed M (without_block M n) x ↔ (Governed M n x × (match_number (match_of M n) ≢ match_number (match_of (without_block M n) n)))
+
+-- the maximal blocks of a change are those of what the block governs, or none
+abbrev pub BlocksOfAdd : Type 0
+BlocksOfAdd = (M : List Route) (r : Route) (bs : List Block) → IsTable M → IsBlock r.block → IsHop r.hop → IsMaximal (Governed M r.block) bs →
+    ((match_number (match_of M r.block) ≢ number_of r.hop) → IsMaximal (Changed M (with_route M r)) bs)
+    × (match_number (match_of M r.block) ≡ number_of r.hop → IsMaximal (Changed M (with_route M r)) [])
+
+abbrev pub BlocksOfDel : Type 0
+BlocksOfDel = (M : List Route) (n : Block) (bs : List Block) → IsTable M → IsBlock n → IsMaximal (Governed M n) bs →
+    ((match_number (match_of M n) ≢ match_number (match_of (without_block M n) n)) → IsMaximal (Changed M (without_block M n)) bs)
+    × (match_number (match_of M n) ≡ match_number (match_of (without_block M n) n) → IsMaximal (Changed M (without_block M n)) [])
+
+-- an `add` leaves what its block governs
+abbrev pub GovernedAfter : Type 0
+GovernedAfter = (M : List Route) (r : Route) → IsTable M → IsBlock r.block → (x : Address) → Governed (with_route M r) r.block x ↔ Governed M r.block x
+
+-- a `del` next after an `add` of a block that was not stored restores the table
+abbrev pub AddThenDel : Type 0
+AddThenDel = (M : List Route) (r : Route) → IsTable M → IsBlock r.block → IsHop r.hop → is_stored M r.block ≡ false → without_block (with_route M r) r.block ≡ M
+
+-- a change in one family leaves the routes of the other, and the hops of its addresses
+abbrev pub OtherFamilyAfterAdd : Type 0
+OtherFamilyAfterAdd = (M : List Route) (r : Route) → IsTable M → IsBlock r.block → IsHop r.hop →
+    ((f : Family) → (r.block.family ≡ f → ⊥) → filter (λ s. same_family s.block.family f) (with_route M r) ≡ filter (λ s. same_family s.block.family f) M)
+    × ((x : Address) → IsAddress x → (x.family ≡ r.block.family → ⊥) → hop_at (with_route M r) x ≡ hop_at M x)
+
+abbrev pub OtherFamilyAfterDel : Type 0
+OtherFamilyAfterDel = (M : List Route) (n : Block) → IsTable M → IsBlock n →
+    ((f : Family) → (n.family ≡ f → ⊥) → filter (λ s. same_family s.block.family f) (without_block M n) ≡ filter (λ s. same_family s.block.family f) M)
+    × ((x : Address) → IsAddress x → (x.family ≡ n.family → ⊥) → hop_at (without_block M n) x ≡ hop_at M x)

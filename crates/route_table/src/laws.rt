@@ -1,5 +1,5 @@
 //! Laws of tables: public functions without a body, whose contracts are the laws.
-ghost use Rattle.route_table.specs.Laws.{MatchIsLongest, GovernedMatch, GovernedBound, StaysTable, ChangedIsMaximal, AddedHaveOneHop, LeftHaveOneHop, FlatIsShortest, ShortestIsFlat, FlatIsAdmissible, SameFlat, SearchIsFlat, OwnIsMaximal};
+ghost use Rattle.route_table.specs.Laws.{MatchIsLongest, GovernedMatch, GovernedBound, StaysTable, ChangedIsMaximal, AddedHaveOneHop, LeftHaveOneHop, ChangedByAdd, ChangedByDel, BlocksOfAdd, BlocksOfDel, GovernedAfter, AddThenDel, OtherFamilyAfterAdd, OtherFamilyAfterDel, FlatIsShortest, ShortestIsFlat, FlatIsAdmissible, SameFlat, SearchIsFlat, OwnIsMaximal};
 
 /// The match is the longest member that contains the block; the match of an address in what a block
 /// governs is the match of the block; and what it governs has few maximal blocks.
@@ -16,6 +16,24 @@ pub fn changes()
     ensures maximal { ChangedIsMaximal }
     ensures added { AddedHaveOneHop }
     ensures left { LeftHaveOneHop }
+{}
+
+/// A change of one network changes the hops of what the network governs where its old and its new hop differ, and else
+/// none; so the maximal blocks of a change are those of what the network governs, before or after an `add`, or none.
+pub fn changed()
+    ensures add { ChangedByAdd }
+    ensures del { ChangedByDel }
+    ensures blocks_of_add { BlocksOfAdd }
+    ensures blocks_of_del { BlocksOfDel }
+    ensures governed { GovernedAfter }
+{}
+
+/// A `del` next after an `add` of a network that was not stored restores the table; a change in one family leaves the
+/// routes and the hops of the other.
+pub fn kept()
+    ensures restored { AddThenDel }
+    ensures other_after_add { OtherFamilyAfterAdd }
+    ensures other_after_del { OtherFamilyAfterDel }
 {}
 
 /// A hop function has one flat list: no list of one-hop blocks that covers all hops is shorter, and an
