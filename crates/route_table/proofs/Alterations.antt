@@ -149,12 +149,14 @@ blocks_of_del M n bs m ok t = (
 pub governed_after : (M : List Route) (r : Route) → IsTable M → IsBlock r.block → (x : Address) → Governed (with_route M r) r.block x ↔ Governed M r.block x
 governed_after M r m ok x = (
   (λ g. record { inside = g.inside; free = λ u c l h. g.free u (Contains-from_In (with_route M r) u (added_other M m r ok u (In-from_Contains M u c) (λ e. l.1 (λ y k. subst (λ (b : Block). HasAddress b y) (sym e) k)))) l h }),
-  (λ g. record { inside = g.inside; free = λ u c l h. ⊎_elim
-    (λ e. l.1 (λ y k. subst (λ (t : Route). HasAddress t.block y) (sym e) k))
-    (λ t. g.free u (Contains-from_In M u t.0) l h)
-    (added_back M m r ok u (In-from_Contains (with_route M r) u c)) }),
+  (λ g. record {
+    inside = g.inside;
+    free = λ u c l h. ⊎_elim
+        (λ e. l.1 (λ y k. subst (λ (t : Route). HasAddress t.block y) (sym e) k))
+        (λ t. g.free u (Contains-from_In M u t.0) l h)
+        (added_back M m r ok u (In-from_Contains (with_route M r) u c));
+  }),
 )
-
 
 -- ---- what a change leaves
 
@@ -184,9 +186,9 @@ module _ (M : List Route) (f : Family) (m : IsTable M) where
       same_rising Sooner (λ s t. strict s.block t.block) (filter (of f) (with_route M r)) (filter (of f) M)
       (Rising-filter (of f) (with_route M r) (Rising-from_pairs Sooner _ new.ascending)) (Rising-filter (of f) M (Rising-from_pairs Sooner M m.ascending))
       (λ s i. let t = In-from_filter (of f) (with_route M r) s i in
-        ⊎_elim (λ e. absurd (apart (ap (λ (u : Route). u.block.family) (sym e) ∙ family_from_test s.block.family f t.1))) (λ u. In-filter (of f) M s u.0 t.1) (added_back M m r ok s t.0))
+      ⊎_elim (λ e. absurd (apart (ap (λ (u : Route). u.block.family) (sym e) ∙ family_from_test s.block.family f t.1))) (λ u. In-filter (of f) M s u.0 t.1) (added_back M m r ok s t.0))
       (λ s i. let t = In-from_filter (of f) M s i in
-        In-filter (of f) (with_route M r) s (added_other M m r ok s t.0 (λ e. apart (ap Block.family (sym e) ∙ family_from_test s.block.family f t.1))) t.1)
+      In-filter (of f) (with_route M r) s (added_other M m r ok s t.0 (λ e. apart (ap Block.family (sym e) ∙ family_from_test s.block.family f t.1))) t.1)
 
   pub left_apart : (n : Block) → (n.family ≡ f → ⊥) → filter (of f) (without_block M n) ≡ filter (of f) M
   left_apart n apart =
@@ -195,7 +197,7 @@ module _ (M : List Route) (f : Family) (m : IsTable M) where
       (Rising-filter (of f) (without_block M n) (Rising-from_pairs Sooner _ old.ascending)) (Rising-filter (of f) M (Rising-from_pairs Sooner M m.ascending))
       (λ s i. let t = In-from_filter (of f) (without_block M n) s i in In-filter (of f) M s (left_back M m n s t.0).0 t.1)
       (λ s i. let t = In-from_filter (of f) M s i in
-        In-filter (of f) (without_block M n) s (left_other M m n s t.0 (λ e. apart (ap Block.family (sym e) ∙ family_from_test s.block.family f t.1))) t.1)
+      In-filter (of f) (without_block M n) s (left_other M m n s t.0 (λ e. apart (ap Block.family (sym e) ∙ family_from_test s.block.family f t.1))) t.1)
 
 -- and so do the hops of its addresses
 unchanged : (M N : List Route) (x : Address) → (Changed M N x → ⊥) → hop_at N x ≡ hop_at M x

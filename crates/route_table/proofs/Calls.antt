@@ -61,7 +61,7 @@ module _ (M : Maps) (ok : AreStored M) (f : Family) (n t : Network) (is : IsNetw
       let long : IsLongest (M f) q (length s) h = subst (λ r. IsLongest (M f) r (length s) h) (same_bits f n t e) l.longest in
       let w : length s ≤ width f = let u = l.longest.within in let v = bits_within f n t e is in omega arith in
       let m = match_at M ok (block_of f n) (block_is f n is) (block_at f s) h (block_at_is_block f s w) refl
-          (string_of_block f s ∙ l.beginning ∙ ap (take (length s)) (same_bits f n t e)) long in
+      (string_of_block f s ∙ l.beginning ∙ ap (take (length s)) (same_bits f n t e)) long in
       ap (λ (x : Network). Some (net_in f x, h)) (l.rebuilt ∙ network_of_string f s w) ∙ sym (ap (option_map item_of) m)
 
   -- what a search of the trie finds, as what the table finds

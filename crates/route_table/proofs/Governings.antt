@@ -79,11 +79,11 @@ parted len at end r rs spans o long fits rise a = go (nat_lt at (first r.block))
           apart = ((λ s j. let v = (a.within s j).0 in let f = order in omega arith), a.apart);
           free = λ s x i m h. ⊎_elim
               (λ (e : s ≡ gap).
-                let u : x ≤ first r.block - 1 = subst (λ (g : Span). x ≤ g.last) e m.1 in
-                ⊎_elim
-                (λ (q : h.0 ≡ r). let f : first r.block ≤ x = subst (λ (t : Route). first t.block ≤ x) q h.3 in absurd (omega arith))
-                (λ j. let f = rise h.0 j in let k = h.3 in absurd (omega arith))
-                h.1)
+              let u : x ≤ first r.block - 1 = subst (λ (g : Span). x ≤ g.last) e m.1 in
+              ⊎_elim
+              (λ (q : h.0 ≡ r). let f : first r.block ≤ x = subst (λ (t : Route). first t.block ≤ x) q h.3 in absurd (omega arith))
+              (λ j. let f = rise h.0 j in let k = h.3 in absurd (omega arith))
+              h.1)
               (λ j. later s x j m h)
               i;
           all = λ x l u none. ⊎_elim
@@ -164,9 +164,9 @@ module _ (M : List Route) (table : IsTable M) (n : Block) (ok : IsBlock n) where
   governed_in x g =
       let b = (block_is_interval n x).0 g.inside in
       let s = free.all x.number b.1 b.2 (λ h.
-          let t = inside_of h.0 h.1 in
-          g.free h.0 (Contains-from_In M h.0 t.0) (t.1, λ back. let l = longer_inside n h.0.block (block_in M table h.0 t.0) (sym (family_of h.0 h.1)) back in let m = h.2 in absurd (omega arith))
-          ((block_is_interval h.0.block x).1 (b.0 ∙ sym (family_of h.0 h.1), h.3, h.4))) in
+      let t = inside_of h.0 h.1 in
+      g.free h.0 (Contains-from_In M h.0 t.0) (t.1, λ back. let l = longer_inside n h.0.block (block_in M table h.0 t.0) (sym (family_of h.0 h.1)) back in let m = h.2 in absurd (omega arith))
+      ((block_is_interval h.0.block x).1 (b.0 ∙ sym (family_of h.0 h.1), h.3, h.4))) in
       (b.0, Any-from_In (IsIn x.number) _ s.0 s.1 s.2)
 
   in_governed : (x : Address) → InSpans n.family (gaps n.len (first n) (last n) (routes_inside M n)) x → Governed M n x

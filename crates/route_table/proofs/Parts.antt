@@ -98,4 +98,3 @@ module _ (M : Maps) (ok : AreStored M) (n : Block) (okn : IsBlock n) where
       go : (g : Family) (e : List Bool × Hop) → In e (entries (M g)) → (g ≡ n.family → ⊥) → (b : Bool) → is_inside (block_at g e.0) n ≡ b → is_inside (block_at g e.0) n ≡ false
       go g e i far true q = absurd (far (numbers_from_inside (block_at g e.0) n (at_is_block g e i) okn (inside_from_test (block_at g e.0) n (at_is_block g e i) okn q)).family)
       go g e i far false q = q
-

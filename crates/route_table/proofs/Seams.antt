@@ -58,13 +58,14 @@ module _ (M : Maps) (ok : AreStored M) where
 
   routes_rise : (f : Family) (es : List (List Bool × Hop)) → ((e : List Bool × Hop) → In e es → length e.0 ≤ width f) → Rising KeysRise es → Rising Sooner (map (route_at f) es)
   routes_rise f [] w h = tt
-  routes_rise f (e ∷ es) w h =
-      ((λ r i. let t = in_from_map f es r i in
-      subst (λ (s : Route). IsBefore (block_at f e.0) s.block) (sym t.2)
-      ((order_of_strings (block_at f e.0) (block_at f t.0.0) (block_at_is_block f e.0 (w e (inl refl))) (block_at_is_block f t.0.0 (w t.0 (inr t.1))) refl).1
-      (subst (λ s. IsEarlier s (bit_string (block_at f t.0.0))) (sym (string_of_block f e.0))
-      (subst (λ s. IsEarlier e.0 s) (sym (string_of_block f t.0.0)) (earlier e.0 t.0.0 (h.0 t.0 t.1)))))),
-      routes_rise f es (λ d i. w d (inr i)) h.1)
+  routes_rise f (e ∷ es) w h = (
+    (λ r i. let t = in_from_map f es r i in
+        subst (λ (s : Route). IsBefore (block_at f e.0) s.block) (sym t.2)
+        ((order_of_strings (block_at f e.0) (block_at f t.0.0) (block_at_is_block f e.0 (w e (inl refl))) (block_at_is_block f t.0.0 (w t.0 (inr t.1))) refl).1
+        (subst (λ s. IsEarlier s (bit_string (block_at f t.0.0))) (sym (string_of_block f e.0))
+        (subst (λ s. IsEarlier e.0 s) (sym (string_of_block f t.0.0)) (earlier e.0 t.0.0 (h.0 t.0 t.1)))))),
+    routes_rise f es (λ d i. w d (inr i)) h.1,
+  )
 
   family_rises : (f : Family) → Rising Sooner (routes_in f (M f))
   family_rises f = routes_rise f (entries (M f)) (λ e i. ok.within f e.0 e.1 (get_of (M f) e.0 e.1 i)) (rising (entries (M f)) (entries_sorted (M f)))

@@ -73,22 +73,22 @@ module _ (M N : Maps) (ok : AreStored M) (b : Block) (okb : IsBlock b) where
       let r : Route = record { block = b; hop = k } in
       table_is N fits (with_route (table_of M) r) (added_is_table (table_of M) (is_table M ok) r okb hop)
       (λ s h. ⊎_elim
-        (λ e. subst (λ (t : Route). In t (with_route (table_of M) r)) (sym (route_path s r e (sym (some_same k s.hop (at_b M N ok b okb (Some k) c s h e))))) (added_itself (table_of M) (is_table M ok) r okb))
-        (λ not_it. added_other (table_of M) (is_table M ok) r okb s (in_table M ok s (back M N ok b okb (Some k) c s h not_it)) not_it)
-        (same_or_not s.block b))
+      (λ e. subst (λ (t : Route). In t (with_route (table_of M) r)) (sym (route_path s r e (sym (some_same k s.hop (at_b M N ok b okb (Some k) c s h e))))) (added_itself (table_of M) (is_table M ok) r okb))
+      (λ not_it. added_other (table_of M) (is_table M ok) r okb s (in_table M ok s (back M N ok b okb (Some k) c s h not_it)) not_it)
+      (same_or_not s.block b))
       (λ s i. ⊎_elim
-        (λ e. subst (λ (t : Route). HasRoute N t) (sym e) (record { block = okb; stored = c.here }))
-        (λ t. kept M N ok b okb (Some k) c s (has_route M ok s t.0) t.1)
-        (added_back (table_of M) (is_table M ok) r okb s i))
+      (λ e. subst (λ (t : Route). HasRoute N t) (sym e) (record { block = okb; stored = c.here }))
+      (λ t. kept M N ok b okb (Some k) c s (has_route M ok s t.0) t.1)
+      (added_back (table_of M) (is_table M ok) r okb s i))
 
   pub taken_table : IsChangedAt M N b None → table_of N ≡ without_block (table_of M) b
   taken_table c =
       let fits = changed_is_stored M N ok b okb None c (λ j e. absurd (cc)) in
       table_is N fits (without_block (table_of M) b) (left_is_table (table_of M) (is_table M ok) b)
       (λ s h. ⊎_elim
-        (λ e. absurd (let f = at_b M N ok b okb None c s h e in cc))
-        (λ not_it. left_other (table_of M) (is_table M ok) b s (in_table M ok s (back M N ok b okb None c s h not_it)) not_it)
-        (same_or_not s.block b))
+      (λ e. absurd (let f = at_b M N ok b okb None c s h e in cc))
+      (λ not_it. left_other (table_of M) (is_table M ok) b s (in_table M ok s (back M N ok b okb None c s h not_it)) not_it)
+      (same_or_not s.block b))
       (λ s i. let t = left_back (table_of M) (is_table M ok) b s i in kept M N ok b okb None c s (has_route M ok s t.0) t.1)
 
 -- ---- the changes of the maps

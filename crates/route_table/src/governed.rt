@@ -48,11 +48,7 @@ fn blocks(net: &IpNet, span: Span) -> IpSubnets
             ipv4_of(span.last as u32),
             0,
         )),
-        IpNet::V6(_) => IpSubnets::V6(Ipv6Subnets::new(
-            ipv6_of(span.first),
-            ipv6_of(span.last),
-            0,
-        )),
+        IpNet::V6(_) => IpSubnets::V6(Ipv6Subnets::new(ipv6_of(span.first), ipv6_of(span.last), 0)),
     }
 }
 

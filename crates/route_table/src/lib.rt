@@ -12,3 +12,5 @@ mod hop;
 pub mod laws;
 mod routes;
 mod table;
+#[cfg(test)]
+mod tests;

@@ -17,10 +17,9 @@ returns-else-start-first-clause-gaps c = passed_are c.args.self.now _ _ _ c.pass
 pub returns-then-start-first-clause-step : goal.returns-then-start-first-clause-step
 returns-then-start-first-clause-step c =
     let f = c.span-first.ensures.first in
-    let w = head_within _ _ _ _ c.in-Some.ensures.steps.0 c.requires.within in
-    (
+    let w = head_within _ _ _ _ c.in-Some.ensures.steps.0 c.requires.within in (
       subst (λ x. gaps_left c.args.self.now ≡ record { first = c.args.self.now.at; last = x - 1 } ∷ gaps_left c.pass.new.self) (sym f)
-      (gap_given c.args.self.now c.pass.new.self _ _ c.pass.ensures.net c.pass.ensures.end c.pass.ensures.inside (subst (λ x. IsPassed c.args.self.now x c.pass.new.self) c.span-first.ensures.last c.pass.ensures.passed) c.if-self.false c.in-Some.ensures.steps.0 (omega arith) (omega arith)),
+          (gap_given c.args.self.now c.pass.new.self _ _ c.pass.ensures.net c.pass.ensures.end c.pass.ensures.inside (subst (λ x. IsPassed c.args.self.now x c.pass.new.self) c.span-first.ensures.last c.pass.ensures.passed) c.if-self.false c.in-Some.ensures.steps.0 (omega arith) (omega arith)),
       omega arith,
       omega arith,
     )
