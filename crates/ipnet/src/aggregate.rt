@@ -1,5 +1,5 @@
 //! The fewest networks with the addresses of some others.
-ghost use Rattle.std.specs.Prelude.{◌≡◌, ◌<◌, ◌≤◌, ◌^◌, ◌++◌, map, All, IfOk, OnOk};
+ghost use Rattle.std.specs.Prelude.{◌≡◌, ◌++◌, map, All, IfOk, OnOk};
 ghost use Rattle.ipnet_addr.specs.Addresses.{Ipv4, Ipv6};
 ghost use Rattle.ipnet_blocks.specs.Aggregated.{AreAggregated, IsAggregated};
 ghost use Rattle.ipnet_blocks.specs.Networks.{IsTruncated};

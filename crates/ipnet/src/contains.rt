@@ -1,6 +1,6 @@
 //! Inclusion of networks and addresses.
-ghost use Rattle.std.specs.Prelude.{◌≡◌, ◌^◌, ◌<◌, ◌≤◌, ◌↔◌, IsTrue};
-ghost use Rattle.ipnet_addr.specs.Addresses.{Family, Ipv4, Ipv6, width, ipv4_address, ipv6_address};
+ghost use Rattle.std.specs.Prelude.{◌↔◌, IsTrue};
+ghost use Rattle.ipnet_addr.specs.Addresses.{Ipv4, Ipv6, ipv4_address, ipv6_address};
 ghost use Rattle.ipnet_blocks.specs.Blocks.{HasAddress, IsInside};
 ghost use Rattle.ipnet_blocks.specs.Networks.{block_of};
 

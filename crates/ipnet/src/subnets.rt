@@ -1,5 +1,5 @@
 //! Subnet iterators: the largest blocks between two addresses, one after another.
-ghost use Rattle.std.specs.Prelude.{◌≡◌, ℕ, ◌+◌, ◌-◌, ◌^◌, ◌<◌, ◌≤◌, ◌↔◌, IsOk, IfOk};
+ghost use Rattle.std.specs.Prelude.{◌≡◌, ◌≤◌, ◌↔◌, IsOk, IfOk};
 ghost use Rattle.std.specs.Iterator.{YieldsFirst, item_count};
 ghost use Rattle.std.specs.Net.Addr.{ipv4_bits, ipv6_bits};
 ghost use Rattle.ipnet_addr.specs.Addresses.{Ipv4, Ipv6, width};
@@ -73,7 +73,6 @@ impl Model for Ipv6Subnets {
 
 impl Ipv4Subnets {
     /// The blocks of length at least `min_prefix_len`, at most 32, from `start` to `end`; none where `start` is above `end`.
-    #[tactic(auto, using(ipnet_blocks::proofs::Cuts::cut_is_exact))]
     pub fn new(start: Ipv4Addr, end: Ipv4Addr, min_prefix_len: u8) -> Ipv4Subnets
         requires { min_prefix_len ≤ 32 }
         ensures limits { result ≡ record { start = ipv4_bits start; end = ipv4_bits end; shortest = min_prefix_len } }
@@ -110,7 +109,6 @@ impl Iterator for Ipv4Subnets {
 
 impl Ipv6Subnets {
     /// The blocks of length at least `min_prefix_len`, at most 128, from `start` to `end`; none where `start` is above `end`.
-    #[tactic(auto, using(ipnet_blocks::proofs::Cuts::cut_is_exact))]
     pub fn new(start: Ipv6Addr, end: Ipv6Addr, min_prefix_len: u8) -> Ipv6Subnets
         requires { min_prefix_len ≤ 128 }
         ensures limits { result ≡ record { start = ipv6_bits start; end = ipv6_bits end; shortest = min_prefix_len } }
