@@ -11,3 +11,5 @@ pub mod Searches
 pub mod Changes
 pub mod Lent
 pub mod Kept
+pub mod Entries
+pub mod Inside

@@ -2,4 +2,5 @@ pub mod Places
 pub mod Nodes
 pub mod Count
 pub mod Search
+pub mod Inside
 pub mod Lending

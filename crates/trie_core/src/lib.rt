@@ -3,6 +3,7 @@
 
 mod lend;
 mod node;
+mod prune;
 mod slots;
 
 pub use node::Node;

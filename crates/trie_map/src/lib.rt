@@ -1,7 +1,10 @@
 //! A map from prefixes to values, searched by the longest or the shortest prefix that contains an asked one.
 #![tactic(auto)]
 
+#[cfg(test)]
+mod change_tests;
 mod map;
+mod prune;
 mod refused;
 #[cfg(test)]
 mod tests;

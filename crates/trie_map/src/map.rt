@@ -21,10 +21,10 @@ use trie_core::{Key, Node, Path, Prefix, path_of, shortened};
 /// zeros after them. A map that has no node without use is tidy; every call but `remove_keep_tree` keeps it so.
 #[derive(Drop)]
 pub struct PrefixMap<P: Prefix, T> {
-    root: Node<T>,
-    len: usize,
-    nodes: usize,
-    keys: PhantomData<P>,
+    pub(crate) root: Node<T>,
+    pub(crate) len: usize,
+    pub(crate) nodes: usize,
+    pub(crate) keys: PhantomData<P>,
 }
 
 impl<P: Prefix, T> Model for PrefixMap<P, T> {
