@@ -1,3 +1,4 @@
 pub mod Maps
 pub mod Lending
 pub mod Refusals
+pub mod Entry

@@ -3,12 +3,16 @@
 
 #[cfg(test)]
 mod change_tests;
+mod entry;
+#[cfg(test)]
+mod entry_tests;
 mod map;
 mod prune;
 mod refused;
 #[cfg(test)]
 mod tests;
 
+pub use entry::{Entry, OccupiedEntry, VacantEntry};
 pub use map::PrefixMap;
 pub use refused::Refused;
 pub use trie_core::{Key, Prefix};

@@ -193,7 +193,7 @@ impl<P: Prefix, T> PrefixMap<P, T> {
     }
 
     /// The value at a stored key, lent to be written.
-    fn value_mut(&mut self, path: &Path) -> &mut T
+    pub(crate) fn value_mut(&mut self, path: &Path) -> &mut T
         requires within { length path.now ≤ 128 }
         requires stored { IsSome (map.get self.old.0 path.now) }
         ensures* writes_back { sem 𝓛 (lends_value P.row T.row P.R.row ⟦<P as Prefix>⟧ ⟦<P::R as Key>⟧ self.entry path.now result) }
