@@ -123,8 +123,8 @@ module _ {X : Type 0} where
   none_inside {cb = cb} {cs = cs} {m = m} q s h k u =
       let t = has_no_child q s h (sym (missing (child_of q) cb cs (subst (λ i. IsUnset i cb) k u))) in
       outside_absent m.0 q (λ x e.
-          let l : 5 ≤ length x = omega (arith, (begins_take q x e).0, h) in
-          ap (get m.0) (sym (front x l).1 ∙ ap (λ b. b ++ drop 5 x) (first_five q x h e)) ∙ t.gets (drop 5 x))
+      let l : 5 ≤ length x = omega (arith, (begins_take q x e).0, h) in
+      ap (get m.0) (sym (front x l).1 ∙ ap (λ b. b ++ drop 5 x) (first_five q x h e)) ∙ t.gets (drop 5 x))
 
   -- it goes, with all its entries
   pub record IsWithout (q : List Bool) (m : Seen X) (vb : ℕ) (vs : List X) (cb : ℕ) (cs : List (Seen X)) (e : Seen X) : Type 0 where

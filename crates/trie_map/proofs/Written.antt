@@ -1,6 +1,6 @@
 -- What an entry becomes as its value is written.
 use Rattle.std.proofs.Common.{◌≡◌, ◌≤◌, Bool, true, false, cond, List, length, refl, sym, ap, subst, ◌∙◌}
-use Rattle.std.specs.Prelude.{Option, Some, is_some}
+use Rattle.std.specs.Prelude.{Option, Some, None, MatchOption, is_some}
 use Rattle.std.specs.Ordering.{eq_by_cmp}
 use Rattle.std.specs.Option.{IsSome}
 use Rattle.std.specs.FinMap.{get, insert, get-insert, same_map}
@@ -11,7 +11,7 @@ use Rattle.trie_keys.specs.Bits.{bits_cmp}
 use Rattle.trie_keys.specs.declared.key.Key as key
 use Rattle.trie_keys.specs.declared.prefix.Prefix as prefix
 use Rattle.trie_keys.proofs.Strings.{bits_total, bits_same}
-use Rattle.trie_core.specs.Nodes.{BitMap}
+use Rattle.trie_core.specs.Nodes.{BitMap, Seen}
 use Rattle.trie_core.specs.Lending.{with_value}
 use Rattle.trie_map.specs.declared.entry.OccupiedEntry.{OccupiedEntry}
 use Rattle.trie_map.specs.Entry.{Occupied, with_entry_value, get-written, IsWritten}
@@ -31,6 +31,13 @@ module _ {P X R : Type 0} {g : prefix.Ghosts P R} {k : key.Ghosts R} (o : Occupi
 
   pub occupied_IsWritten : (w : X) → IsWritten (Occupied o) w (Occupied (with_entry_value o w))
   occupied_IsWritten w = record { same_map = refl; map = refl; key = refl; value = get-written o.map.now.0 (g.bits o.key) w }
+
+-- the map of an entry that is left as it was, but for the value of its key
+pub rest_kept : {X : Type 0} (m : Seen X) (q : List Bool) (w : X) → MatchOption (get (insert m.0 q w) q) (with_value m q w ≡ m) (λ v. with_value m q w ≡ with_value m q v)
+rest_kept m q w = subst (λ o. MatchOption o (with_value m q w ≡ m) (λ v. with_value m q w ≡ with_value m q v)) (sym (get-written m.0 q w)) refl
+
+pub rest_same : {X : Type 0} (m : Seen X) (q : List Bool) → get m.0 q ≡ None → MatchOption (get m.0 q) (m ≡ m) (λ v. m ≡ with_value m q v)
+rest_same m q e = subst (λ o. MatchOption o (m ≡ m) (λ v. m ≡ with_value m q v)) (sym e) refl
 
 module _ {X : Type 0} (m : BitMap X) (q : List Bool) where
   same_other : (x : List Bool) (v w : X) (b : Bool) (o : Option X) → cond b (Some w) (cond b (Some v) o) ≡ cond b (Some w) o

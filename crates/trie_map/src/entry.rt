@@ -1,5 +1,5 @@
 //! The entry of a prefix, which the map has or lacks.
-ghost use Rattle.std.specs.Prelude.{◌≡◌, ◌+◌, ◌≤◌, length, Some, None, IfOk, IfErr, OnErr, unwrap_or};
+ghost use Rattle.std.specs.Prelude.{◌≡◌, ◌+◌, ◌≤◌, length, Some, None, IfOk, IfErr, OnErr, MatchOption, unwrap_or};
 ghost use Rattle.std.specs.Borrow.{MutBor, sem};
 ghost use Rattle.std.specs.Map.Calls.{ModifiesValue};
 ghost use Rattle.std.specs.Option.{IsSome, option_copied, option_copied_mut, UnwrapsOrElse};
@@ -193,6 +193,7 @@ impl<'a, P: Prefix, T> VacantEntry<'a, P, T> {
 }
 
 impl<'a, P: Prefix, T> Entry<'a, P, T> {
+    ghost use Rattle.trie_core.specs.Lending.{with_value};
     ghost use Rattle.trie_map.specs.Entry.{entry_map_ref, entry_map, entry_key, entry_value, entry_lends_ok};
 
     /// The key: with zeros after the bits that count where it is stored, and as it was asked for where it is not.
@@ -231,6 +232,7 @@ impl<'a, P: Prefix, T> Entry<'a, P, T> {
         ensures same_map { (entry_map_ref result).ghost_name ≡ (entry_map_ref self.entry).ghost_name }
         ensures same_key { entry_key result ≡ entry_key self.entry }
         ensures update { ModifiesValue F.FnOnce f (entry_value self.entry) (entry_value result) }
+        ensures rest { MatchOption (entry_value result) (entry_map result ≡ entry_map self.entry) (λ w. entry_map result ≡ with_value (entry_map self.entry) (P.bits (entry_key self.entry)) w) }
     {
         match self {
             Entry::Vacant(entry) => Entry::Vacant(entry),

@@ -18,7 +18,8 @@ use trie_core::{Key, Node, Path, Prefix, path_of, shortened};
 /// A map from prefixes to values: two prefixes are one key where the same bits count.
 ///
 /// As in the Rust crate prefix-trie 0.10.1 a key is stored by its bits alone: the keys that are handed out have
-/// zeros after them. A map that has no node without use is tidy; every call but `remove_keep_tree` keeps it so.
+/// zeros after them. A map that has no node without use is tidy; every call but `remove_keep_tree` and
+/// `OccupiedEntry::remove` keeps it so.
 #[derive(Drop)]
 pub struct PrefixMap<P: Prefix, T> {
     pub(crate) root: Node<T>,

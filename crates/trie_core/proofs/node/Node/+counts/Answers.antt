@@ -11,8 +11,7 @@ counts-more-requires g t c κs within =
     let i = c.loop-child.child-index in
     let d = c.child-item.result in
     let lt : i < length cs = omega (arith, c.loop-child-test.true, ap length c.deref-child-items.ensures.value) in
-    let is : d ≡ get_or cs i d = c.child-item.is ∙ ap (λ l. get_or l i d) c.deref-child-items.ensures.value in
-    (
+    let is : d ≡ get_or cs i d = c.child-item.is ∙ ap (λ l. get_or l i d) c.deref-child-items.ensures.value in (
       omega (arith, height-read cs i d lt, ap (λ x. x.2) is, s.height),
       (within, (omega (arith, total-more entry_count cs i d lt, total-part entry_count cs (i + 1), ap entry_count is, entries_of s, c.requires.entries), omega (arith, total-more all_nodes cs i d lt, total-part all_nodes cs (i + 1), ap all_nodes is, s.count, c.requires.nodes))),
     )

@@ -14,7 +14,7 @@ returns-then-prefix_len-eq0-clause-count g c = omega (arith, new_nodes c.clear.n
 pub invariant_of-self : goal.invariant_of-self
 invariant_of-self g c =
     let e = c.remove_children-entries.ensures in (
-      omega (arith, c.self.invariant.0, ap (λ m. m.0) c.self.view_is, e.entries),
+      omega (arith, c.self.invariant.0, e.entries),
       omega (arith, c.self.invariant.1, e.count),
       omega (arith, c.self.invariant.2, e.levels),
       keys_outside g.P.R.Key.width c.self.inside.root.0 c.remove_children-entries.new.self.0 c.path_of.result c.self.invariant.3 e.map,
