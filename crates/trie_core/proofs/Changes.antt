@@ -22,7 +22,7 @@ use Rattle.trie_core.proofs.Named.{is_node, child_things, child_found, value_put
 use Rattle.trie_core.proofs.Seen.{IsSeen, map_of, counted, total-set, height-set, height-read, below_at, has_no_child}
 use Rattle.trie_core.proofs.Searches.{no_child_get}
 
-set_removed : {Y : Type 0} (xs : List Y) (i : ℕ) (y : Y) → remove (set xs i y) i ≡ remove xs i
+pub set_removed : {Y : Type 0} (xs : List Y) (i : ℕ) (y : Y) → remove (set xs i y) i ≡ remove xs i
 set_removed [] i y = refl
 set_removed (x ∷ xs) zero y = refl
 set_removed (x ∷ xs) (suc i) y = ap (λ ys. x ∷ ys) (set_removed xs i y)
@@ -33,12 +33,12 @@ depth_rest q h = let e = length-drop 5 q in omega arith
 module _ {X : Type 0} where
   -- ---- sums and heights
 
-  total-remove : (f : Seen X → ℕ) (cs : List (Seen X)) (i : ℕ) (d : Seen X) → i < length cs → total f (remove cs i) + f (get_or cs i d) ≡ total f cs
+  pub total-remove : (f : Seen X → ℕ) (cs : List (Seen X)) (i : ℕ) (d : Seen X) → i < length cs → total f (remove cs i) + f (get_or cs i d) ≡ total f cs
   total-remove f [] i d h = absurd (omega arith)
   total-remove f (e ∷ cs) zero d h = omega arith
   total-remove f (e ∷ cs) (suc i) d h = omega (arith, total-remove f cs i d (omega arith))
 
-  height-remove : (cs : List (Seen X)) (i : ℕ) → node_height (remove cs i) ≤ node_height cs
+  pub height-remove : (cs : List (Seen X)) (i : ℕ) → node_height (remove cs i) ≤ node_height cs
   height-remove [] zero = omega arith
   height-remove [] (suc i) = omega arith
   height-remove (e ∷ cs) zero = omega arith
@@ -107,7 +107,7 @@ module _ {X : Type 0} where
   pub way : {vb n at : ℕ} {vs : List X} {cb : ℕ} {cs : List (Seen X)} {m : Seen X} (q : List Bool) → IsSeen vb vs cb cs m → n ≡ child_of q → IsSlot n cb at → IsTaken (child_of q) at cb cs
   way {at = at} {cb = cb} {cs = cs} q s k t = taken (child_of q) at cb cs (number_bound 5 q) (subst (λ i. IsSlot i cb at) k t) s.slots.children_counted
 
-  was_found : {vb at : ℕ} {vs : List X} {cb : ℕ} {cs : List (Seen X)} {m : Seen X} (q : List Bool) (e : Seen X) → IsSeen vb vs cb cs m → 5 ≤ length q → IsTaken (child_of q) at cb cs → e ≡ get_or cs at e → find bits_cmp (take 5 q) (child_list cb cs) ≡ Some e
+  pub was_found : {vb at : ℕ} {vs : List X} {cb : ℕ} {cs : List (Seen X)} {m : Seen X} (q : List Bool) (e : Seen X) → IsSeen vb vs cb cs m → 5 ≤ length q → IsTaken (child_of q) at cb cs → e ≡ get_or cs at e → find bits_cmp (take 5 q) (child_list cb cs) ≡ Some e
   was_found {cb = cb} {cs = cs} q e s h t r = child_found q cb cs h s.slots.children_below ∙ t.read e ∙ ap Some (sym r)
 
   pub was : {vb at : ℕ} {vs : List X} {cb : ℕ} {cs : List (Seen X)} {m : Seen X} (q : List Bool) (e : Seen X) → IsSeen vb vs cb cs m → 5 ≤ length q → IsTaken (child_of q) at cb cs → e ≡ get_or cs at e → get e.0 (drop 5 q) ≡ get m.0 q

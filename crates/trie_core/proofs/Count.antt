@@ -169,7 +169,7 @@ or_three : (a b c : Bool) → ((a || b) || c) ≡ (a || (b || c))
 or_three true b c = refl
 or_three false b c = refl
 
-length-under : {Y : Type 0} (b : List Bool) (es : List (List Bool × Y)) → length (under b es) ≡ length es
+pub length-under : {Y : Type 0} (b : List Bool) (es : List (List Bool × Y)) → length (under b es) ≡ length es
 length-under b [] = refl
 length-under b (e ∷ es) = ap suc (length-under b es)
 

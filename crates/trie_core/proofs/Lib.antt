@@ -14,3 +14,5 @@ pub mod Kept
 pub mod Splits
 pub mod Frames
 pub mod Walks
+pub mod Entries
+pub mod Inside

@@ -30,6 +30,10 @@ pub no_items : {Y : Type 0} (ys : List Y) → length ys ≡ 0 → ys ≡ []
 no_items [] e = refl
 no_items (y ∷ ys) e = absurd (omega arith)
 
+pub length-things : {Y : Type 0} (es : List (List Bool × Y)) → length (things es) ≡ length es
+length-things [] = refl
+length-things (e ∷ es) = ap suc (length-things es)
+
 module _ {X : Type 0} where
   -- ---- sums and heights of children
 
@@ -143,11 +147,7 @@ module _ {X : Type 0} where
       let t = child_things cb cs s.slots.children_below s.slots.children_counted in
       let u = value_things vb vs s.slots.values_below s.slots.values_counted in
       let b = bare_lists (value_list vb vs) (child_list cb cs) s.node (s.map ∙ e) (ap spares_below t ∙ s.spares ∙ z) in
-      (sym (ap length u) ∙ same_length (value_list vb vs) ∙ b.0, sym (ap length t) ∙ b.1)
-    where
-      same_length : {Y : Type 0} (es : List (List Bool × Y)) → length (things es) ≡ length es
-      same_length [] = refl
-      same_length (e ∷ es) = ap suc (same_length es)
+      (sym (ap length u) ∙ length-things (value_list vb vs) ∙ b.0, sym (ap length t) ∙ b.1)
 
 -- a word with no bit set is 0
 pub no_bits : (bits n : ℕ) → count_ones bits ≡ n → (bits ≡ 0 → n ≡ 0) × (n ≡ 0 → bits ≡ 0)

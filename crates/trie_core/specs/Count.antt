@@ -60,3 +60,7 @@ module _ {X : Type 0} where
   -- the spare nodes below
   abbrev pub spares_below : List (Seen X) → ℕ
   spares_below cs = total spare_of cs
+
+  -- the entries of a node and below it
+  abbrev pub entry_count : Seen X → ℕ
+  entry_count s = len s.0

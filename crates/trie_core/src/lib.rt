@@ -5,6 +5,7 @@ mod frame;
 mod lend;
 mod node;
 mod pairs;
+mod prune;
 mod slots;
 mod walk;
 

@@ -6,7 +6,9 @@ ghost use Rattle.trie_core.specs.Nodes.{HasSlots};
 ghost use Rattle.trie_core.specs.Count.{all_nodes, visit_count};
 ghost use Rattle.trie_core.specs.Search.{IsChild, HasNoChild, NoneBelow, IsLongestBelow, NoBeginning, IsLongest, IsShortest};
 
-use crate::slots::{first_place, get_at, last_place, put_at, reserve_one, slot, take_at, taken_below};
+use crate::slots::{
+    first_place, get_at, last_place, put_at, reserve_one, slot, take_at, taken_below,
+};
 use std::alloc::Global;
 use std::marker::Model;
 use trie_keys::{Path, bit, place_length};

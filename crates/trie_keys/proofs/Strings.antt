@@ -42,7 +42,7 @@ same-refl (false ∷ xs) = same-refl xs
 pub same-Decides : (xs ys : List Bool) → Decides (same xs ys) (xs ≡ ys)
 same-Decides xs ys = (λ e. bits_same xs ys (tied (bits_cmp xs ys) e), λ e. subst (λ zs. same xs zs ≡ true) e (same-refl xs))
 
-not_true : (b : Bool) → (b ≡ true → ⊥) → b ≡ false
+pub not_true : (b : Bool) → (b ≡ true → ⊥) → b ≡ false
 not_true true f = absurd (f refl)
 not_true false f = refl
 

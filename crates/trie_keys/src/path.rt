@@ -1,5 +1,5 @@
 //! A bit string of at most 128 bits, taken apart from its front.
-ghost use Rattle.std.specs.Prelude.{◌≡◌, ◌+◌, ◌-◌, ◌/◌, ◌^◌, ◌<◌, ◌≤◌, ◌++◌, length, drop, nat_lt};
+ghost use Rattle.std.specs.Prelude.{◌≡◌, ◌+◌, ◌-◌, ◌/◌, ◌^◌, ◌<◌, ◌≤◌, ◌++◌, length, drop, nat_lt, [], ◌∷◌};
 ghost use Rattle.ipnet_blocks.specs.Blocks.{digits};
 ghost use Rattle.trie_keys.specs.Bits.{place_of, child_of, IsBeginMask};
 ghost use Rattle.trie_keys.specs.Prefixes.{prefix_bits, IsMasked};
@@ -132,6 +132,19 @@ impl Path {
         Path {
             bits: self.bits << 5,
             len: self.len - 5,
+        }
+    }
+
+    /// The string with one bit more at its end.
+    #[inline]
+    pub fn extended(&self, bit: bool) -> Path
+        requires { length self.now < 128 }
+        ensures { result ≡ self.now ++ bit ∷ [] }
+    {
+        let len = self.len + 1;
+        Path {
+            bits: self.bits + (u128::from(bit) << (128 - len)),
+            len,
         }
     }
 }

@@ -1,11 +1,14 @@
 -- How many entries a map has, and how long its keys are, after a change.
-use Rattle.std.proofs.Common.{◌≡◌, ℕ, zero, suc, ◌+◌, ◌-◌, ◌≤◌, Bool, true, false, cond, List, length, refl, sym, ap, ◌∙◌, arith}
+use Rattle.std.proofs.Common.{◌≡◌, ℕ, zero, suc, ◌+◌, ◌-◌, ◌≤◌, Bool, true, false, cond, not, List, [], ◌∷◌, length, refl, sym, ap, ◌∙◌, arith}
 use Rattle.std.specs.Prelude.{Option, Some, None, is_some}
 use Rattle.std.specs.Option.{IsSome}
 use Rattle.std.specs.FinMap.{len, get, insert, remove, empty, len-insert, len-remove, empty_of_len, get-empty, get-insert, get-remove}
 use Rattle.trie_keys.specs.Bits.{bits_cmp}
 use Rattle.trie_core.specs.Nodes.{BitMap}
 use Rattle.trie_keys.proofs.Strings.{bits_total, same, same-Decides}
+use Rattle.trie_keys.specs.Bits.{begins}
+use Rattle.trie_core.specs.Inside.{outside}
+use Rattle.trie_core.proofs.Inside.{get-outside, outside_all}
 use Rattle.trie_map.specs.Maps.{KeysUpTo}
 
 module _ {X : Type 0} where
@@ -46,3 +49,15 @@ module _ {X : Type 0} where
 
   pub keys_kept : (n : ℕ) (m : BitMap X) (q : List Bool) (v : X) → KeysUpTo n m → IsSome (get m q) → KeysUpTo n (insert m q v)
   keys_kept n m q v k h = keys_insert n m (insert m q v) q v k (k q (some_is (get m q) h)) refl
+
+  pub keys_outside : (n : ℕ) (m w : BitMap X) (q : List Bool) → KeysUpTo n m → w ≡ outside m q → KeysUpTo n w
+  keys_outside n m w q k e x s = k x (kept (not (begins q x)) (get m x) (sym (ap is_some (ap (λ y. get y x) e ∙ get-outside m q x)) ∙ s))
+    where
+      kept : (b : Bool) (o : Option X) → is_some (cond b o None) ≡ true → is_some o ≡ true
+      kept true o e = e
+      kept false o e = cc
+
+  -- an empty string has no bits, and nothing lies outside it
+  pub outside_none : (m : BitMap X) (q : List Bool) → length q ≡ 0 → empty ≡ outside m q
+  outside_none m [] h = sym (outside_all m)
+  outside_none m (b ∷ q) h = absurd (omega (arith, h))

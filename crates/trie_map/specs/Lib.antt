@@ -2,3 +2,4 @@ pub mod Maps
 pub mod Lending
 pub mod Refusals
 pub mod Iterators
+pub mod Entry

@@ -1,12 +1,19 @@
 //! A map from prefixes to values, searched by the longest or the shortest prefix that contains an asked one.
 #![tactic(auto)]
 
+#[cfg(test)]
+mod change_tests;
+mod entry;
+#[cfg(test)]
+mod entry_tests;
 mod iter;
 mod map;
+mod prune;
 mod refused;
 #[cfg(test)]
 mod tests;
 
+pub use entry::{Entry, OccupiedEntry, VacantEntry};
 pub use iter::Iter;
 pub use map::PrefixMap;
 pub use refused::Refused;

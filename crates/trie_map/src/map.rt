@@ -18,13 +18,14 @@ use trie_core::{Key, Node, Path, Prefix, path_of, shortened};
 /// A map from prefixes to values: two prefixes are one key where the same bits count.
 ///
 /// As in the Rust crate prefix-trie 0.10.1 a key is stored by its bits alone: the keys that are handed out have
-/// zeros after them. A map that has no node without use is tidy; every call but `remove_keep_tree` keeps it so.
+/// zeros after them. A map that has no node without use is tidy; every call but `remove_keep_tree` and
+/// `OccupiedEntry::remove` keeps it so.
 #[derive(Drop)]
 pub struct PrefixMap<P: Prefix, T> {
     pub(crate) root: Node<T>,
-    len: usize,
-    nodes: usize,
-    keys: PhantomData<P>,
+    pub(crate) len: usize,
+    pub(crate) nodes: usize,
+    pub(crate) keys: PhantomData<P>,
 }
 
 impl<P: Prefix, T> Model for PrefixMap<P, T> {
@@ -193,7 +194,7 @@ impl<P: Prefix, T> PrefixMap<P, T> {
     }
 
     /// The value at a stored key, lent to be written.
-    fn value_mut(&mut self, path: &Path) -> &mut T
+    pub(crate) fn value_mut(&mut self, path: &Path) -> &mut T
         requires within { length path.now ≤ 128 }
         requires stored { IsSome (map.get self.old.0 path.now) }
         ensures* writes_back { sem 𝓛 (lends_value P.row T.row P.R.row ⟦<P as Prefix>⟧ ⟦<P::R as Key>⟧ self.entry path.now result) }

@@ -10,7 +10,7 @@ use std::process::Abort;
 use std::str::FromStr;
 
 /// An IPv4 network, which is never longer than its family allows.
-fn net(rt: &impl Abort, text: &str) -> Ipv4Net
+pub(crate) fn net(rt: &impl Abort, text: &str) -> Ipv4Net
     ensures { length (bit_string (block_of Ipv4 result)) ≤ 32 }
 {
     let net = Ipv4Net::from_str(text).expect(rt, "a network");

@@ -1,0 +1,126 @@
+//! Many entries at once, taken out.
+ghost use Rattle.std.specs.Prelude.{◌≡◌, ◌+◌, ◌<◌, ◌≤◌, ◌^◌, length, cond};
+ghost use Rattle.std.specs.FinMap as map;
+ghost use Rattle.trie_core.specs.Count.{all_nodes};
+ghost use Rattle.trie_core.specs.Inside.{outside};
+
+use crate::node::Node;
+use crate::slots::{slot, take_at};
+use trie_keys::{Path, bit};
+
+impl<T> Node<T> {
+    /// How many entries and how many nodes it has.
+    pub(crate) fn counts(&self) -> (usize, usize)
+        requires entries { map.len self.now.0 < 2 ^ 64 }
+        requires nodes { all_nodes self.now < 2 ^ 64 }
+        ensures entries { result.0 ≡ map.len self.now.0 }
+        ensures nodes { result.1 ≡ all_nodes self.now }
+    {
+        let mut entries = self.values.len();
+        let mut nodes = 1;
+        for child in &self.children {
+            let (more, below) = child.counts();
+            entries += more;
+            nodes += below;
+        }
+        (entries, nodes)
+    }
+}
+
+impl<T: Drop> Node<T> {
+    /// Takes out everything.
+    pub fn clear(&mut self)
+        ensures map { self.new.0 ≡ map.empty }
+        ensures spares { self.new.1 ≡ 0 }
+        ensures levels { self.new.2 ≡ 1 }
+    {
+        let alloc = *self.children.allocator();
+        *self = Node::new(alloc);
+    }
+
+    /// Takes out the child below five bits. Answers how many entries and how many nodes went with it.
+    fn take_child(&mut self, path: &Path) -> (usize, usize)
+        requires five { length path.now ≡ 5 }
+        requires entries { map.len self.old.0 < 2 ^ 64 }
+        requires nodes { all_nodes self.old < 2 ^ 64 }
+        ensures map { self.new.0 ≡ outside self.old.0 path.now }
+        ensures entries { map.len self.new.0 + result.0 ≡ map.len self.old.0 }
+        ensures count { all_nodes self.new + result.1 ≡ all_nodes self.old }
+        ensures spares { self.new.1 ≤ self.old.1 }
+        ensures levels { self.new.2 ≤ self.old.2 }
+    {
+        let number = path.five();
+        match slot(self.child_bits, number) {
+            None => (0, 0),
+            Some(at) => {
+                let child = self.children.remove(at);
+                self.child_bits -= bit(number);
+                child.counts()
+            }
+        }
+    }
+
+    /// Takes out all entries of the node that lie inside a string of at most five bits, with the nodes below it.
+    /// Answers how many entries and how many nodes went.
+    fn take_inside(&mut self, path: &Path) -> (usize, usize)
+        requires short { length path.now ≤ 5 }
+        requires entries { map.len self.old.0 < 2 ^ 64 }
+        requires nodes { all_nodes self.old < 2 ^ 64 }
+        ensures map { self.new.0 ≡ outside self.old.0 path.now }
+        ensures entries { map.len self.new.0 + result.0 ≡ map.len self.old.0 }
+        ensures count { all_nodes self.new + result.1 ≡ all_nodes self.old }
+        ensures spares { self.new.1 ≤ self.old.1 }
+        ensures levels { self.new.2 ≤ self.old.2 }
+    {
+        if !path.is_short() {
+            return self.take_child(path);
+        }
+        let here = usize::from(self.take_value(path));
+        let (left, left_nodes) = self.take_inside(&path.extended(false));
+        let (right, right_nodes) = self.take_inside(&path.extended(true));
+        (here + left + right, left_nodes + right_nodes)
+    }
+
+    /// Takes out the value at a string of fewer than five bits. Answers whether there was one.
+    fn take_value(&mut self, path: &Path) -> bool
+        requires { length path.now < 5 }
+        ensures map { self.new.0 ≡ map.remove self.old.0 path.now }
+        ensures entries { map.len self.new.0 + cond result 1 0 ≡ map.len self.old.0 }
+        ensures count { all_nodes self.new ≡ all_nodes self.old }
+        ensures spares { self.new.1 ≡ self.old.1 }
+        ensures levels { self.new.2 ≡ self.old.2 }
+    {
+        take_at(&mut self.value_bits, &mut self.values, path.place()).is_some()
+    }
+
+    /// Takes out all entries whose keys the path begins, itself included, and then the nodes on its path that are
+    /// left bare, up to this one. Answers how many entries and how many nodes went.
+    pub fn remove_children(&mut self, path: &Path) -> (usize, usize)
+        requires entries { map.len self.old.0 < 2 ^ 64 }
+        requires nodes { all_nodes self.old < 2 ^ 64 }
+        ensures map { self.new.0 ≡ outside self.old.0 path.now }
+        ensures entries { map.len self.new.0 + result.0 ≡ map.len self.old.0 }
+        ensures count { all_nodes self.new + result.1 ≡ all_nodes self.old }
+        ensures tidy { self.old.1 ≡ 0 → self.new.1 ≡ 0 }
+        ensures levels { self.new.2 ≤ self.old.2 }
+    {
+        if path.len() <= 5 {
+            return self.take_inside(path);
+        }
+        let number = path.five();
+        match slot(self.child_bits, number) {
+            None => (0, 0),
+            Some(at) => {
+                let child = &mut self.children[at];
+                let (entries, nodes) = child.remove_children(&path.rest());
+                if child.is_bare() {
+                    let _ = self.children.remove(at);
+                    self.child_bits -= bit(number);
+                    (entries, nodes + 1)
+                } else {
+                    (entries, nodes)
+                }
+            }
+        }
+    }
+}

@@ -1,0 +1,64 @@
+-- What an entry becomes as its value is written.
+use Rattle.std.proofs.Common.{◌≡◌, ◌≤◌, Bool, true, false, cond, List, length, refl, sym, ap, subst, ◌∙◌}
+use Rattle.std.specs.Prelude.{Option, Some, None, MatchOption, is_some}
+use Rattle.std.specs.Ordering.{eq_by_cmp}
+use Rattle.std.specs.Option.{IsSome}
+use Rattle.std.specs.FinMap.{get, insert, get-insert, same_map}
+use mathlib.Core.Bool.{Bool-set}
+use native.Mathlib.Bridge.{le_prop}
+use denote.MutBor.{at_last}
+use Rattle.trie_keys.specs.Bits.{bits_cmp}
+use Rattle.trie_keys.specs.declared.key.Key as key
+use Rattle.trie_keys.specs.declared.prefix.Prefix as prefix
+use Rattle.trie_keys.proofs.Strings.{bits_total, bits_same}
+use Rattle.trie_core.specs.Nodes.{BitMap, Seen}
+use Rattle.trie_core.specs.Lending.{with_value}
+use Rattle.trie_map.specs.declared.entry.OccupiedEntry.{OccupiedEntry}
+use Rattle.trie_map.specs.Entry.{Occupied, with_entry_value, get-written, IsWritten}
+
+module _ {P X R : Type 0} {g : prefix.Ghosts P R} {k : key.Ghosts R} (o : OccupiedEntry P X R g k) where
+  pub still_stored : (q : List Bool) (w : X) → q ≡ g.bits o.key → IsSome (get (insert o.map.now.0 q w) (g.bits o.key))
+  still_stored q w e = subst (λ r. IsSome (get (insert o.map.now.0 q w) r)) e (ap is_some (get-written o.map.now.0 q w))
+
+  written_here : (w : X) (s : IsSome (get (insert o.map.now.0 (g.bits o.key) w) (g.bits o.key))) (l : length (g.bits o.key) ≤ k.width)
+      → record { map = at_last o.map (with_value o.map.now (g.bits o.key) w); key = o.key; within = l; stored = s } ≡ with_entry_value o w
+  written_here w s l = λ i. record (with_entry_value o w) { within = le_prop l o.within i; stored = Bool-set _ _ s (with_entry_value o w).stored i }
+
+  pub occupied_written : (q : List Bool) (e : q ≡ g.bits o.key) (w : X) (s : IsSome (get (insert o.map.now.0 q w) (g.bits o.key))) (l : length (g.bits o.key) ≤ k.width)
+      → record { map = at_last o.map (with_value o.map.now q w); key = o.key; within = l; stored = s } ≡ with_entry_value o w
+  occupied_written q e w s l =
+      subst (λ r. (s : IsSome (get (insert o.map.now.0 r w) (g.bits o.key))) → record { map = at_last o.map (with_value o.map.now r w); key = o.key; within = l; stored = s } ≡ with_entry_value o w) (sym e) (λ s. written_here w s l) s
+
+  pub occupied_IsWritten : (w : X) → IsWritten (Occupied o) w (Occupied (with_entry_value o w))
+  occupied_IsWritten w = record { same_map = refl; map = refl; key = refl; value = get-written o.map.now.0 (g.bits o.key) w }
+
+-- the map of an entry that is left as it was, but for the value of its key
+pub rest_kept : {X : Type 0} (m : Seen X) (q : List Bool) (w : X) → MatchOption (get (insert m.0 q w) q) (with_value m q w ≡ m) (λ v. with_value m q w ≡ with_value m q v)
+rest_kept m q w = subst (λ o. MatchOption o (with_value m q w ≡ m) (λ v. with_value m q w ≡ with_value m q v)) (sym (get-written m.0 q w)) refl
+
+pub rest_same : {X : Type 0} (m : Seen X) (q : List Bool) → get m.0 q ≡ None → MatchOption (get m.0 q) (m ≡ m) (λ v. m ≡ with_value m q v)
+rest_same m q e = subst (λ o. MatchOption o (m ≡ m) (λ v. m ≡ with_value m q v)) (sym e) refl
+
+module _ {X : Type 0} (m : BitMap X) (q : List Bool) where
+  same_other : (x : List Bool) (v w : X) (b : Bool) (o : Option X) → cond b (Some w) (cond b (Some v) o) ≡ cond b (Some w) o
+  same_other x v w true o = refl
+  same_other x v w false o = refl
+
+  -- a second write at a key
+  pub insert-twice : (v w : X) → insert (insert m q v) q w ≡ insert m q w
+  insert-twice v w =
+      same_map bits_total bits_same _ _
+      (λ x. get-insert bits_total (insert m q v) q w x ∙ ap (cond (eq_by_cmp bits_cmp x q) (Some w)) (get-insert bits_total m q v x) ∙ same_other x v w (eq_by_cmp bits_cmp x q) (get m x) ∙ sym (get-insert bits_total m q w x))
+
+  module _ (n : BitMap X) (r : List Bool) (v : X) (e : n ≡ insert m q v) (f : r ≡ q) where
+    is_there : get n r ≡ Some v
+    is_there = (λ i. get (e i) (f i)) ∙ get-written m q v
+
+    pub stored_after : IsSome (get n r)
+    stored_after = ap is_some is_there
+
+    pub written_over : (w : X) → insert n r w ≡ insert m q w
+    written_over w = (λ i. insert (e i) (f i) w) ∙ insert-twice v w
+
+    pub value_after : (x : X) → get n r ≡ Some x → x ≡ v
+    value_after x h = let i : Some x ≡ Some v = sym h ∙ is_there in cc

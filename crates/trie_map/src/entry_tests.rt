@@ -1,0 +1,98 @@
+//! Rows on entries.
+use crate::tests::net;
+use crate::{Entry, PrefixMap};
+use ipnet::Ipv4Net;
+use std::alloc::Global;
+use std::process::Abort;
+
+fn empty(rt: &impl Abort, alloc: Global) -> PrefixMap<Ipv4Net, u32> {
+    PrefixMap::new(alloc).expect(rt, "a map")
+}
+
+/// The map has 10.0.0.0/8 alone, with this value.
+fn has_ten(rt: &impl Abort, map: &PrefixMap<Ipv4Net, u32>, value: u32) {
+    assert_eq!(rt; map.len(), 1);
+    assert_eq!(rt; map.node_count(), 2);
+    assert_eq!(rt; map.get(&net(rt, "10.0.0.0/8")).copied(), Some(value));
+}
+
+#[test]
+fn keys_of_entries(rt: HostRuntime) {
+    let mut map = empty(&rt, rt.alloc());
+    let entry = map.entry(net(&rt, "10.1.2.3/16"));
+    assert_eq!(rt; entry.key().to_text().as_slice(), "10.1.2.3/16".as_bytes());
+    assert!(rt; entry.get().is_none());
+    assert!(rt; entry.or_insert(7).is_ok());
+    let entry = map.entry(net(&rt, "10.1.2.3/16"));
+    assert_eq!(rt; entry.key().to_text().as_slice(), "10.1.0.0/16".as_bytes());
+    assert_eq!(rt; entry.get().copied(), Some(7));
+}
+
+#[test]
+fn stored_in_an_empty_map(rt: HostRuntime) {
+    let mut map = empty(&rt, rt.alloc());
+    assert!(rt; matches!(map.entry(net(&rt, "10.1.2.3/8")).or_insert(1), Ok(1)));
+    has_ten(&rt, &map, 1);
+    let mut map = empty(&rt, rt.alloc());
+    assert!(rt;
+        matches!(
+            map.entry(net(&rt, "10.1.2.3/8")).or_insert_with(|| 2),
+            Ok(2)
+        )
+    );
+    has_ten(&rt, &map, 2);
+    let mut map = empty(&rt, rt.alloc());
+    assert!(rt; matches!(map.entry(net(&rt, "10.1.2.3/8")).or_default(), Ok(0)));
+    has_ten(&rt, &map, 0);
+    let mut map = empty(&rt, rt.alloc());
+    let Entry::Vacant(entry) = map.entry(net(&rt, "10.1.2.3/8")) else {
+        panic!(&rt; "occupied")
+    };
+    assert_eq!(rt; entry.key().to_text().as_slice(), "10.1.2.3/8".as_bytes());
+    assert!(rt; matches!(entry.insert(3), Ok(3)));
+    has_ten(&rt, &map, 3);
+    let mut map = empty(&rt, rt.alloc());
+    let Entry::Vacant(entry) = map.entry(net(&rt, "10.1.2.3/8")) else {
+        panic!(&rt; "occupied")
+    };
+    assert!(rt; matches!(entry.insert_with(|| 4), Ok(4)));
+    has_ten(&rt, &map, 4);
+    let mut map = empty(&rt, rt.alloc());
+    let Entry::Vacant(entry) = map.entry(net(&rt, "10.1.2.3/8")) else {
+        panic!(&rt; "occupied")
+    };
+    assert!(rt; matches!(entry.default(), Ok(0)));
+    has_ten(&rt, &map, 0);
+}
+
+#[test]
+fn written_and_taken_out(rt: HostRuntime) {
+    let mut map = empty(&rt, rt.alloc());
+    if let Ok(value) = map.entry(net(&rt, "10.0.0.0/8")).or_insert(1) {
+        *value = 5;
+    }
+    has_ten(&rt, &map, 5);
+    assert!(rt; matches!(map.entry(net(&rt, "10.0.0.0/8")).or_insert(9), Ok(5)));
+    let entry = map
+        .entry(net(&rt, "10.0.0.0/8"))
+        .and_modify(|value| *value = 6);
+    assert_eq!(rt; entry.get().copied(), Some(6));
+    if let Some(value) = map.entry(net(&rt, "10.0.0.0/8")).get_mut() {
+        *value = 7;
+    }
+    has_ten(&rt, &map, 7);
+    let Entry::Occupied(mut entry) = map.entry(net(&rt, "10.9.9.9/8")) else {
+        panic!(&rt; "vacant")
+    };
+    assert_eq!(rt; entry.key().to_text().as_slice(), "10.0.0.0/8".as_bytes());
+    assert_eq!(rt; entry.insert(8), 7);
+    *entry.get_mut() = 10;
+    assert_eq!(rt; *entry.get(), 10);
+    *entry.into_mut() = 11;
+    let Entry::Occupied(entry) = map.entry(net(&rt, "10.9.9.9/8")) else {
+        panic!(&rt; "vacant")
+    };
+    assert_eq!(rt; entry.remove(), 11);
+    assert!(rt; map.is_empty());
+    assert_eq!(rt; map.node_count(), 2);
+}

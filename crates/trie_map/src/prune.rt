@@ -1,0 +1,39 @@
+//! Many entries at once, taken out of a map.
+ghost use Rattle.std.specs.Prelude.{◌≡◌, ◌+◌, ◌≤◌, length};
+ghost use Rattle.std.specs.FinMap as map;
+ghost use Rattle.trie_core.specs.Count.{nodes};
+ghost use Rattle.trie_core.specs.Inside.{outside};
+
+use crate::map::PrefixMap;
+use trie_core::{Prefix, path_of};
+
+impl<P: Prefix + Drop, T: Drop> PrefixMap<P, T> {
+    /// Takes out every entry, and leaves the root alone. It takes no memory.
+    pub fn clear(&mut self)
+        ensures map { self.new.0 ≡ map.empty }
+        ensures tidy { self.new.1 ≡ 0 }
+    {
+        self.root.clear();
+        self.len = 0;
+        self.nodes = 1;
+    }
+
+    /// Takes out every entry whose key the prefix contains, which itself counts. Then the node of the prefix goes,
+    /// and each node above it, while it has neither value nor child and is not the root. A prefix of length 0 clears
+    /// the map. It takes no memory.
+    pub fn remove_children(&mut self, prefix: &P)
+        requires { length (P.bits prefix.now) ≤ P.R.width }
+        ensures map { self.new.0 ≡ outside self.old.0 (P.bits prefix.now) }
+        ensures tidy { self.old.1 ≡ 0 → self.new.1 ≡ 0 }
+        ensures cleared { length (P.bits prefix.now) ≡ 0 → self.new.1 ≡ 0 }
+        ensures count { nodes self.new.0 + self.new.1 ≤ nodes self.old.0 + self.old.1 }
+    {
+        if prefix.prefix_len() == 0 {
+            self.clear();
+            return;
+        }
+        let (entries, nodes) = self.root.remove_children(&path_of(prefix));
+        self.len -= entries;
+        self.nodes -= nodes;
+    }
+}
