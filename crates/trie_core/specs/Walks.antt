@@ -1,9 +1,9 @@
 -- What walks have left.
-use Rattle.std.specs.Prelude.{ℕ, suc, ◌+◌, ◌*◌, ◌<◌, ◌≤◌, ◌≡◌, length, max, Bool, true, false, T, List, [], ◌∷◌, ◌++◌, refl}
+use Rattle.std.specs.Prelude.{ℕ, suc, ◌+◌, ◌*◌, ◌<◌, ◌≤◌, ◌≡◌, length, max, Bool, true, false, cond, not, ◌&&◌, T, List, [], ◌∷◌, ◌++◌, refl}
 use Rattle.std.specs.Coded.{Coded, code_by, coded×, coded_ℕ, coded_list, coded_bool}
 use Rattle.std.specs.Ordering.{nat_cmp, is_lt}
 use Rattle.std.specs.FinMap.{is_sorted, entries}
-use Rattle.trie_core.specs.Bits.{bits_cmp, place_string, child_string}
+use Rattle.trie_core.specs.Bits.{bits_cmp, begins, place_string, child_string}
 use Rattle.trie_core.specs.Places.{AllBelow, named}
 use Rattle.trie_core.specs.Nodes.{BitMap, Seen, under, node_map}
 use Rattle.trie_core.specs.Count.{all_nodes}
@@ -13,6 +13,14 @@ abbrev pub first_value : {X Y : Type 0} → List (List Bool × X) → List (List
 first_value [] cs = false
 first_value (e ∷ vs) [] = true
 first_value (e ∷ vs) (c ∷ cs) = is_lt (bits_cmp e.0 c.0)
+
+-- a string after b, and after all that begin with b
+abbrev pub is_past : List Bool → List Bool → Bool
+is_past b k = is_lt (bits_cmp b k) && not (begins b k)
+
+-- a string that is not before q, or one that comes after it
+abbrev pub is_from : List Bool → Bool → List Bool → Bool
+is_from q inclusive k = cond inclusive (not (is_lt (bits_cmp k q))) (is_lt (bits_cmp q k))
 
 module _ {X : Type 0} where
   -- no key is longer than n

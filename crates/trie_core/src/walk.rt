@@ -4,7 +4,7 @@ ghost use Rattle.std.specs.FinMap.{entries};
 ghost use Rattle.std.specs.FinMap.Entries.{where_key};
 ghost use Rattle.std.specs.Iterator.{YieldsFirstBy, item_count};
 ghost use Rattle.trie_core.specs.Bits.{bits_cmp, begins};
-ghost use Rattle.trie_core.specs.Walks.{KeysWithin};
+ghost use Rattle.trie_core.specs.Walks.{is_from, KeysWithin};
 ghost use Rattle.trie_core.specs.Steps.{Stepped};
 
 use crate::frame::{Frame, Next};
@@ -82,6 +82,31 @@ impl<'a, T> Walk<'a, T> {
             path = path.rest();
         }
         Walk::start(Frame::inside(node, &path, trail))
+    }
+
+    /// The entries from a path on, in the order of a walk: those whose keys come after it, and its own where asked.
+    pub fn onwards(node: &'a Node<T>, path: Path, inclusive: bool) -> Walk<'a, T>
+        requires within { length path ≤ 128 }
+        requires levels { node.now.2 ≤ 26 }
+        requires keys { KeysWithin 128 (entries node.now.0) }
+        ensures { result.0 ≡ where_key bits_cmp (is_from path inclusive) (entries node.now.0) }
+    {
+        let mut stack = ArrayVec::new();
+        let mut node = node;
+        let mut path = path;
+        let mut trail = Path::new(0, 0);
+        'way: while !path.is_short() {
+            let way = trail.with(path.five(), 5);
+            stack.push(Frame::past(node, &path, trail));
+            match node.child(&path) {
+                None => return Walk { stack },
+                Some(child) => node = child,
+            }
+            trail = way;
+            path = path.rest();
+        }
+        stack.push(Frame::onwards(node, &path, trail, inclusive));
+        Walk { stack }
     }
 
     /// Takes one entry off the last frame, or opens a node, or takes off an empty frame.

@@ -7,7 +7,7 @@ mod refused;
 #[cfg(test)]
 mod tests;
 
-pub use iter::Iter;
+pub use iter::{Iter, Keys, Values};
 pub use map::PrefixMap;
 pub use refused::Refused;
 pub use trie_core::{Key, Prefix};
