@@ -20,3 +20,4 @@ pub mod Splits
 pub mod Longer
 pub mod Frames
 pub mod Walks
+pub mod Covers

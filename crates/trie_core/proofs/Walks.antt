@@ -71,12 +71,12 @@ module _ {X : Type 0} where
 
 -- ---- the way down
 
-begins-under : (b p q : List Bool) → begins (b ++ p) (b ++ q) ≡ begins p q
+pub begins-under : (b p q : List Bool) → begins (b ++ p) (b ++ q) ≡ begins p q
 begins-under [] p q = refl
 begins-under (true ∷ b) p q = begins-under b p q
 begins-under (false ∷ b) p q = begins-under b p q
 
-not_true : (b : Bool) → (b ≡ true → ⊥) → b ≡ false
+pub not_true : (b : Bool) → (b ≡ true → ⊥) → b ≡ false
 not_true true f = absurd (f refl)
 not_true false f = refl
 
@@ -235,7 +235,7 @@ not_begun : (b x : List Bool) → ((k : List Bool) → x ≡ b ++ k → ⊥) →
 not_begun b x f = not_true _ (λ e. f (drop (length b) x) (sym (take-append-drop (length b) x) ∙ ap (λ s. s ++ drop (length b) x) (begins_take b x e).1))
 
 module _ {X : Type 0} where
-  kept_true : (b : Bool) (o : Option X) → is_some (cond b o None) ≡ true → b ≡ true
+  pub kept_true : (b : Bool) (o : Option X) → is_some (cond b o None) ≡ true → b ≡ true
   kept_true true o e = refl
   kept_true false o e = cc
 

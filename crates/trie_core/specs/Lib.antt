@@ -8,3 +8,4 @@ pub mod Lending
 pub mod Prefixes
 pub mod Walks
 pub mod Steps
+pub mod Covers

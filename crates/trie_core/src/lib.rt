@@ -1,6 +1,7 @@
 //! Nodes of a trie over bit strings, and the bit strings as paths down it.
 #![tactic(auto)]
 
+mod cover;
 mod frame;
 mod key;
 mod lend;
@@ -12,6 +13,7 @@ mod slots;
 mod tables;
 mod walk;
 
+pub use cover::Cover;
 pub use key::Key;
 pub use node::Node;
 pub use path::Path;

@@ -39,7 +39,7 @@ impl<'a, X> Default for Pairs<'a, X> {
 
 /// The lowest bits of a word.
 #[inline]
-fn low_bits(word: u32, count: u8) -> u32
+pub(crate) fn low_bits(word: u32, count: u8) -> u32
     requires { count ≤ 32 }
     ensures { result ≡ word % 2 ^ count }
 {

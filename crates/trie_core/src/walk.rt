@@ -36,7 +36,7 @@ impl<'a, T> Model for Walk<'a, T> {
 }
 
 /// What one step of a walk came to.
-enum Step<'a, T> {
+pub(crate) enum Step<'a, T> {
     Entry(Path, &'a T),
     Moved,
     Done,
