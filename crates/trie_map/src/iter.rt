@@ -15,7 +15,7 @@ use std::marker::{Model, PhantomData};
 use trie_core::{Key, Node, Path, Prefix, Walk, path_of};
 
 /// The prefix of the bits of a path, with zeros after them.
-fn key_of<P: Prefix>(path: &Path) -> P
+pub(crate) fn key_of<P: Prefix>(path: &Path) -> P
     requires { length path.now ≤ P.R.width }
     ensures bits { P.bits result ≡ path.now }
     ensures key { result ≡ P.of_bits path.now }
@@ -186,7 +186,7 @@ impl<'a, P: Prefix, T> IntoIterator for &'a PrefixMap<P, T> {
 
 impl<P: Prefix, T> PrefixMap<P, T> {
     /// The node that walks start at.
-    fn walked(&self) -> &Node<T>
+    pub(crate) fn walked(&self) -> &Node<T>
         ensures node { result.now ≡ self.now }
         ensures levels { result.now.2 ≤ 26 }
         ensures keys { KeysWithin P.R.width (entries result.now.0) }

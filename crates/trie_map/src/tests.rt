@@ -4,7 +4,7 @@ ghost use Rattle.ipnet_addr.specs.Addresses.{Ipv4, Ipv6};
 ghost use Rattle.ipnet.specs.Blocks.{bit_string};
 ghost use Rattle.ipnet.specs.Networks.{block_of};
 
-use crate::{PrefixMap, Refused};
+use crate::{Keys, PrefixMap, Refused};
 use ipnet::{Ipv4Net, Ipv6Net};
 use std::process::Abort;
 use std::str::FromStr;
@@ -185,4 +185,23 @@ fn refused(rt: HostRuntime) {
     }
     assert_eq!(rt; map.node_count(), 7);
     assert_eq!(rt; map.len(), 1);
+}
+
+/// A map of these networks, each with its index.
+fn map_of(rt: &HostRuntime, networks: &[&str]) -> PrefixMap<Ipv4Net, usize> {
+    let mut map = PrefixMap::new(rt.alloc()).expect(rt, "a map");
+    for (index, network) in networks.iter().enumerate() {
+        assert!(rt; map.insert(net(rt, network), index).is_ok());
+    }
+    map
+}
+
+/// These are the keys that are left.
+fn expect_keys(rt: &HostRuntime, keys: Keys<'_, Ipv4Net, usize>, expected: &[&str]) {
+    let mut keys = keys;
+    for network in expected {
+        let key = keys.next().expect(rt, "a key");
+        assert_eq!(rt; key.to_text().as_slice(), network.as_bytes());
+    }
+    assert!(rt; keys.next().is_none());
 }
