@@ -1,5 +1,5 @@
 //! The entries whose keys begin a path. They take no memory.
-ghost use Rattle.std.specs.Prelude.{◌≡◌, ◌≤◌, [], length, MatchOption};
+ghost use Rattle.std.specs.Prelude.{◌≡◌, ◌≤◌, [], length, MatchOption, ⊤};
 ghost use Rattle.std.specs.FinMap.{entries};
 ghost use Rattle.std.specs.FinMap.Entries.{where_key};
 ghost use Rattle.std.specs.Iterator.{YieldsFirstBy, item_count};
@@ -13,6 +13,7 @@ use crate::path::Path;
 use crate::slots::{first_place, taken_below};
 use crate::tables::{first_child, place_length};
 use crate::walk::Step;
+use std::alloc::AllocError;
 use std::marker::Model;
 
 /// The entries that are left of those whose keys begin a path, by rising length: in the node that stands at the
@@ -89,6 +90,22 @@ impl<'a, T> Cover<'a, T> {
         self.path = self.path.rest();
         self.place = 0;
         Step::Moved
+    }
+}
+
+impl<'a, T> Clone for Cover<'a, T> {
+    ghost is_clone = { λ c r. r ≡ c };
+
+    ghost is_infallible = { λ _. ⊤ };
+
+    /// A second walk from here on. It takes no memory.
+    fn clone(&self) -> Result<Cover<'a, T>, AllocError> {
+        Ok(Cover {
+            node: self.node,
+            path: self.path.clone()?,
+            place: self.place,
+            trail: self.trail.clone()?,
+        })
     }
 }
 

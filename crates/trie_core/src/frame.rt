@@ -1,5 +1,5 @@
 //! What a walk has left of one node.
-ghost use Rattle.std.specs.Prelude.{◌≡◌, ◌+◌, ◌*◌, ◌<◌, ◌≤◌, List, Bool, length, take};
+ghost use Rattle.std.specs.Prelude.{◌≡◌, ◌+◌, ◌*◌, ◌<◌, ◌≤◌, List, Bool, length, take, ⊤};
 ghost use Rattle.std.specs.FinMap.{entries};
 ghost use Rattle.std.specs.FinMap.Entries.{where_key};
 ghost use Rattle.trie_core.specs.Bits.{bits_cmp, begins, place_of, child_of, place_string, child_string};
@@ -13,6 +13,7 @@ use crate::node::Node;
 use crate::pairs::Pairs;
 use crate::path::Path;
 use crate::tables::{first_child, place_length};
+use std::alloc::AllocError;
 use std::marker::Model;
 
 /// Values and children of one node, whose keys begin with the trail.
@@ -35,6 +36,20 @@ impl<'a, T> Model for Frame<'a, T> {
     ghost view = { λ a. (part_rest a.values a.children a.trail, levels_of a.children + 1, 2 * nodes_of a.children) };
 
     ghost invariant = { λ a. IsFrame a.values a.children a.trail };
+}
+
+impl<'a, T> Clone for Frame<'a, T> {
+    ghost is_clone = { λ f r. r ≡ f };
+
+    ghost is_infallible = { λ _. ⊤ };
+
+    fn clone(&self) -> Result<Frame<'a, T>, AllocError> {
+        Ok(Frame {
+            values: self.values.clone()?,
+            children: self.children.clone()?,
+            trail: self.trail.clone()?,
+        })
+    }
 }
 
 /// A frame of nothing.

@@ -1,11 +1,12 @@
 //! What is left of things at places, from the first on.
-ghost use Rattle.std.specs.Prelude.{◌≡◌, ◌≤◌, ◌%◌, ◌^◌, [], length, count_ones, not, nat_lt};
+ghost use Rattle.std.specs.Prelude.{◌≡◌, ◌≤◌, ◌%◌, ◌^◌, [], length, count_ones, not, nat_lt, ⊤};
 ghost use Rattle.std.specs.Iterator.{YieldsFirstBy, item_count};
 ghost use Rattle.std.specs.Ordering.{nat_cmp};
 ghost use Rattle.std.specs.FinMap.Entries.{where_key};
 ghost use Rattle.trie_core.specs.Places.{placed, first_place_of};
 
 use crate::slots::{bit, first_place};
+use std::alloc::AllocError;
 use std::marker::Model;
 
 /// Things at places below 32: a word says which places are taken, and a slice has the things in their order.
@@ -24,6 +25,19 @@ impl<'a, X> Model for Pairs<'a, X> {
     ghost view = { λ a. placed a.taken a.items.now };
 
     ghost invariant = { λ a. count_ones a.taken ≡ length a.items.now };
+}
+
+impl<'a, X> Clone for Pairs<'a, X> {
+    ghost is_clone = { λ p r. r ≡ p };
+
+    ghost is_infallible = { λ _. ⊤ };
+
+    fn clone(&self) -> Result<Pairs<'a, X>, AllocError> {
+        Ok(Pairs {
+            taken: self.taken,
+            items: self.items,
+        })
+    }
 }
 
 impl<'a, X> Default for Pairs<'a, X> {

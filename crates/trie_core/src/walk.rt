@@ -1,5 +1,5 @@
 //! Walks over the entries of a node in order. They take no memory.
-ghost use Rattle.std.specs.Prelude.{◌≡◌, ℕ, ◌+◌, ◌<◌, ◌≤◌, [], length};
+ghost use Rattle.std.specs.Prelude.{◌≡◌, ℕ, ◌+◌, ◌<◌, ◌≤◌, [], length, ⊤};
 ghost use Rattle.std.specs.FinMap.{entries};
 ghost use Rattle.std.specs.FinMap.Entries.{where_key};
 ghost use Rattle.std.specs.Iterator.{YieldsFirstBy, item_count};
@@ -11,6 +11,7 @@ use crate::frame::{Frame, Next};
 use crate::node::Node;
 use crate::path::Path;
 use arrayvec::ArrayVec;
+use std::alloc::AllocError;
 use std::marker::Model;
 
 /// The entries that are left of a walk: those of the frames on the stack, the last frame first.
@@ -128,6 +129,19 @@ impl<'a, T> Walk<'a, T> {
             }
             Next::Nothing => Step::Moved,
         }
+    }
+}
+
+impl<'a, T> Clone for Walk<'a, T> {
+    ghost is_clone = { λ w r. r ≡ w };
+
+    ghost is_infallible = { λ _. ⊤ };
+
+    /// A second walk from here on. It takes no memory.
+    fn clone(&self) -> Result<Walk<'a, T>, AllocError> {
+        Ok(Walk {
+            stack: self.stack.clone()?,
+        })
     }
 }
 

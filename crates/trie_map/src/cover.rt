@@ -1,5 +1,5 @@
 //! Iterators over the entries whose keys contain a prefix. They take no memory.
-ghost use Rattle.std.specs.Prelude.{◌≡◌, ◌≤◌, [], length, map};
+ghost use Rattle.std.specs.Prelude.{◌≡◌, ◌≤◌, [], length, map, ⊤};
 ghost use Rattle.std.specs.FinMap.{entries};
 ghost use Rattle.std.specs.FinMap.Entries.{where_key};
 ghost use Rattle.std.specs.Iterator.{YieldsFirstBy, item_count};
@@ -8,6 +8,7 @@ ghost use Rattle.trie_map.specs.Iterators.{GivesEntry, GivesKey};
 
 use crate::iter::key_of;
 use crate::map::PrefixMap;
+use std::alloc::AllocError;
 use std::marker::{Model, PhantomData};
 use trie_core::{Cover as Way, Prefix, path_of};
 
@@ -44,6 +45,20 @@ impl<'a, P: Prefix, T> Iterator for Cover<'a, P, T> {
             None => None,
             Some((path, value)) => Some((key_of(&path), value)),
         }
+    }
+}
+
+impl<'a, P: Prefix, T> Clone for Cover<'a, P, T> {
+    ghost is_clone = { λ it r. r ≡ it };
+
+    ghost is_infallible = { λ _. ⊤ };
+
+    /// A second iterator over what is left. It takes no memory.
+    fn clone(&self) -> Result<Cover<'a, P, T>, AllocError> {
+        Ok(Cover {
+            way: self.way.clone()?,
+            keys: PhantomData,
+        })
     }
 }
 
@@ -91,6 +106,19 @@ impl<'a, P: Prefix, T> Iterator for CoverKeys<'a, P, T> {
     }
 }
 
+impl<'a, P: Prefix, T> Clone for CoverKeys<'a, P, T> {
+    ghost is_clone = { λ it r. r ≡ it };
+
+    ghost is_infallible = { λ _. ⊤ };
+
+    /// A second iterator over what is left. It takes no memory.
+    fn clone(&self) -> Result<CoverKeys<'a, P, T>, AllocError> {
+        Ok(CoverKeys {
+            entries: self.entries.clone()?,
+        })
+    }
+}
+
 impl<'a, P: Prefix, T> Default for CoverKeys<'a, P, T> {
     ghost is_default = { λ it. it ≡ [] };
 
@@ -132,6 +160,20 @@ impl<'a, P: Prefix, T> Iterator for CoverValues<'a, P, T> {
             None => None,
             Some((_, value)) => Some(value),
         }
+    }
+}
+
+impl<'a, P: Prefix, T> Clone for CoverValues<'a, P, T> {
+    ghost is_clone = { λ it r. r ≡ it };
+
+    ghost is_infallible = { λ _. ⊤ };
+
+    /// A second iterator over what is left. It takes no memory.
+    fn clone(&self) -> Result<CoverValues<'a, P, T>, AllocError> {
+        Ok(CoverValues {
+            way: self.way.clone()?,
+            keys: PhantomData,
+        })
     }
 }
 

@@ -2,7 +2,7 @@
 //!
 //! All go in the order of a walk: a prefix comes before the longer ones inside it, and the bit 0 before 1. The keys
 //! that they give have zeros after the bits that count.
-ghost use Rattle.std.specs.Prelude.{◌≡◌, ◌≤◌, [], length};
+ghost use Rattle.std.specs.Prelude.{◌≡◌, ◌≤◌, [], length, ⊤};
 ghost use Rattle.std.specs.FinMap.{entries, keys, values};
 ghost use Rattle.std.specs.FinMap.Entries.{where_key};
 ghost use Rattle.std.specs.Iterator.{YieldsFirstBy, item_count};
@@ -11,6 +11,7 @@ ghost use Rattle.trie_core.specs.Walks.{is_from, KeysWithin};
 ghost use Rattle.trie_map.specs.Iterators.{GivesEntry, GivesKey};
 
 use crate::map::PrefixMap;
+use std::alloc::AllocError;
 use std::marker::{Model, PhantomData};
 use trie_core::{Key, Node, Path, Prefix, Walk, path_of};
 
@@ -72,6 +73,20 @@ impl<'a, P: Prefix, T> Iterator for Iter<'a, P, T> {
     }
 }
 
+impl<'a, P: Prefix, T> Clone for Iter<'a, P, T> {
+    ghost is_clone = { λ it r. r ≡ it };
+
+    ghost is_infallible = { λ _. ⊤ };
+
+    /// A second iterator over what is left. It takes no memory.
+    fn clone(&self) -> Result<Iter<'a, P, T>, AllocError> {
+        Ok(Iter {
+            walk: self.walk.clone()?,
+            keys: PhantomData,
+        })
+    }
+}
+
 impl<'a, P: Prefix, T> Default for Iter<'a, P, T> {
     ghost is_default = { λ it. it ≡ [] };
 
@@ -116,6 +131,19 @@ impl<'a, P: Prefix, T> Iterator for Keys<'a, P, T> {
     }
 }
 
+impl<'a, P: Prefix, T> Clone for Keys<'a, P, T> {
+    ghost is_clone = { λ it r. r ≡ it };
+
+    ghost is_infallible = { λ _. ⊤ };
+
+    /// A second iterator over what is left. It takes no memory.
+    fn clone(&self) -> Result<Keys<'a, P, T>, AllocError> {
+        Ok(Keys {
+            entries: self.entries.clone()?,
+        })
+    }
+}
+
 impl<'a, P: Prefix, T> Default for Keys<'a, P, T> {
     ghost is_default = { λ it. it ≡ [] };
 
@@ -157,6 +185,20 @@ impl<'a, P: Prefix, T> Iterator for Values<'a, P, T> {
             None => None,
             Some((_, value)) => Some(value),
         }
+    }
+}
+
+impl<'a, P: Prefix, T> Clone for Values<'a, P, T> {
+    ghost is_clone = { λ it r. r ≡ it };
+
+    ghost is_infallible = { λ _. ⊤ };
+
+    /// A second iterator over what is left. It takes no memory.
+    fn clone(&self) -> Result<Values<'a, P, T>, AllocError> {
+        Ok(Values {
+            walk: self.walk.clone()?,
+            keys: PhantomData,
+        })
     }
 }
 

@@ -4,8 +4,9 @@ ghost use Rattle.ipnet_addr.specs.Addresses.{Ipv4, Ipv6};
 ghost use Rattle.ipnet.specs.Blocks.{bit_string};
 ghost use Rattle.ipnet.specs.Networks.{block_of};
 
-use crate::{Keys, PrefixMap, Refused};
+use crate::{Iter, PrefixMap, Refused, Values};
 use ipnet::{Ipv4Net, Ipv6Net};
+use std::alloc::Global;
 use std::process::Abort;
 use std::str::FromStr;
 
@@ -187,21 +188,75 @@ fn refused(rt: HostRuntime) {
     assert_eq!(rt; map.len(), 1);
 }
 
-/// A map of these networks, each with its index.
-fn map_of(rt: &HostRuntime, networks: &[&str]) -> PrefixMap<Ipv4Net, usize> {
-    let mut map = PrefixMap::new(rt.alloc()).expect(rt, "a map");
-    for (index, network) in networks.iter().enumerate() {
-        assert!(rt; map.insert(net(rt, network), index).is_ok());
+/// A map of these networks, each with a value of one digit.
+fn map_of(rt: &impl Abort, alloc: Global, networks: &[(&str, u32)]) -> PrefixMap<Ipv4Net, u32> {
+    let mut map = PrefixMap::new(alloc).expect(rt, "a map");
+    for (network, value) in networks.iter() {
+        assert!(rt; map.insert(net(rt, network), *value).is_ok());
     }
     map
 }
 
-/// These are the keys that are left.
-fn expect_keys(rt: &HostRuntime, keys: Keys<'_, Ipv4Net, usize>, expected: &[&str]) {
-    let mut keys = keys;
-    for network in expected {
-        let key = keys.next().expect(rt, "a key");
-        assert_eq!(rt; key.to_text().as_slice(), network.as_bytes());
+/// The values, one after another, as the digits of a number.
+fn digits<'a>(values: Values<'a, Ipv4Net, u32>) -> u32 {
+    let mut digits = 0u32;
+    for value in values {
+        digits = digits.wrapping_mul(10).wrapping_add(*value);
     }
-    assert!(rt; keys.next().is_none());
+    digits
+}
+
+/// The same of entries.
+fn entry_digits<'a>(entries: Iter<'a, Ipv4Net, u32>) -> u32 {
+    let mut digits = 0u32;
+    for (_, value) in entries {
+        digits = digits.wrapping_mul(10).wrapping_add(*value);
+    }
+    digits
+}
+
+#[test]
+fn walks(rt: HostRuntime) {
+    let stored = [
+        ("10.2.0.0/24", 4),
+        ("10.4.0.0/16", 6),
+        ("10.2.0.0/16", 3),
+        ("10.0.0.0/8", 1),
+        ("10.3.0.0/16", 5),
+        ("10.1.0.0/16", 2),
+        ("10.4.0.1/32", 7),
+    ];
+    let map = map_of(&rt, rt.alloc(), &stored);
+    assert_eq!(rt; entry_digits(map.iter()), 1234567);
+    assert_eq!(rt; digits(map.values()), 1234567);
+    let children = [
+        ("0.0.0.0/0", 1234567),
+        ("10.0.0.0/7", 1234567),
+        ("10.0.0.0/10", 234567),
+        ("10.2.0.0/15", 345),
+        ("10.2.0.0/16", 34),
+        ("10.2.0.0/20", 4),
+        ("10.4.0.1/32", 7),
+        ("10.4.0.0/32", 0),
+        ("11.0.0.0/8", 0),
+    ];
+    for (network, expected) in children.iter() {
+        assert_eq!(rt; entry_digits(map.children(&net(&rt, network))), *expected);
+    }
+    let onwards = [
+        ("0.0.0.0/0", true, 1234567),
+        ("10.0.0.0/8", false, 234567),
+        ("10.2.0.0/16", true, 34567),
+        ("10.2.0.0/16", false, 4567),
+        ("10.2.1.0/24", true, 567),
+        ("10.2.1.0/24", false, 567),
+        ("10.4.0.1/32", true, 7),
+        ("10.4.0.1/32", false, 0),
+    ];
+    for (network, inclusive, expected) in onwards.iter() {
+        assert_eq!(rt;
+            entry_digits(map.iter_from(&net(&rt, network), *inclusive)),
+            *expected
+        );
+    }
 }
