@@ -9,7 +9,7 @@ use Rattle.std.proofs.lemmas.List.{take-append-drop}
 use Rattle.trie_keys.specs.Bits.{bits_cmp}
 use Rattle.trie_core.specs.Nodes.{BitMap, Seen, under, node_map, IsNode}
 use Rattle.trie_core.specs.Count.{fives_from, fives, fives_of, begun, nodes, nodes_if, spare_if, spares_below, all_nodes, total}
-use Rattle.trie_keys.proofs.Strings.{bits_total, bits_same, same, same-Decides, same-refl, append_none, take_first, front}
+use Rattle.trie_keys.proofs.Strings.{bits_total, bits_same, same, same-Decides, same-refl, append_none, take_first, front, take_take}
 use Rattle.trie_core.proofs.Maps.{tail_rises, or_else, find-append_all, find-under, find-apart, node_map-none, get-short, get_none}
 use Rattle.trie_core.specs.Walks.{first_value}
 use Rattle.trie_core.proofs.Order.{StartsAfter, T-and, below_under, below_append, less_right, less_left, found_above, below_found, found_long, found_get, sorted_under, walk_value, walk_child, walk_none, without_value, without_child, starts_after, values_after}
@@ -22,11 +22,6 @@ take_more (a ∷ b ∷ []) k n h = absurd (omega arith)
 take_more (a ∷ b ∷ c ∷ []) k n h = absurd (omega arith)
 take_more (a ∷ b ∷ c ∷ d ∷ []) k n h = absurd (omega arith)
 take_more (a ∷ b ∷ c ∷ d ∷ e ∷ f ∷ bs) k n h = absurd (omega arith)
-
-pub take_take : {Y : Type 0} (xs : List Y) (j k : ℕ) → take j (take (j + k) xs) ≡ take j xs
-take_take xs zero k = refl
-take_take [] (suc j) k = let e : suc j + k ≡ suc (j + k) = omega arith in rw e refl
-take_take (x ∷ xs) (suc j) k = let e : suc j + k ≡ suc (j + k) = omega arith in rw e (ap (λ ys. x ∷ ys) (take_take xs j k))
 
 fives_later : (i n : ℕ) (b k : List Bool) → length b ≡ 5 → fives_from (suc i) n (b ++ k) ≡ under b (fives_from i n k)
 fives_later i zero b k h = refl

@@ -10,9 +10,8 @@ use Rattle.trie_core.specs.Places.{IsUnset, child_list}
 use Rattle.trie_core.specs.Nodes.{BitMap, Seen, child_map, node_map, node_height, IsNode, HasSlots}
 use Rattle.trie_core.specs.Count.{nodes, all_nodes, spare_of, spares_below, entry_count}
 use Rattle.trie_core.specs.Inside.{outside}
-use Rattle.trie_keys.proofs.Strings.{bits_total, bits_same, same, same-Decides, same_false, not_same, not_true, begins_take, take_begins, front}
+use Rattle.trie_keys.proofs.Strings.{bits_total, bits_same, same, same-Decides, same_false, not_same, not_true, begins_take, take_begins, front, take_take}
 use Rattle.trie_core.proofs.Maps.{ListChanges, child_get, get_none, get-short, get-long}
-use Rattle.trie_core.proofs.Count.{take_take}
 use Rattle.trie_core.proofs.Named.{is_node, child_put_in, child_taken_out}
 use Rattle.trie_core.proofs.Taken.{IsTaken, missing}
 use Rattle.trie_core.proofs.Seen.{IsSeen, map_of, counted, has_no_child, no_items, total-set}

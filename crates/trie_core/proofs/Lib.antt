@@ -16,3 +16,4 @@ pub mod Frames
 pub mod Walks
 pub mod Entries
 pub mod Inside
+pub mod Covers

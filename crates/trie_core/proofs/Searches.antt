@@ -68,21 +68,21 @@ one_if false e = absurd (omega (arith, e))
 -- ---- within a node
 
 -- the word and the mask of the beginnings of q have the same bit where one of them stands
-met_beginning : (vb mask : ℕ) (q : List Bool) → IsBeginMask q mask → (k : ℕ) → k < 5 → k ≤ length q → bit_at (bit_and vb mask) (place_of (take k q)) ≡ bit_at vb (place_of (take k q))
+pub met_beginning : (vb mask : ℕ) (q : List Bool) → IsBeginMask q mask → (k : ℕ) → k < 5 → k ≤ length q → bit_at (bit_and vb mask) (place_of (take k q)) ≡ bit_at vb (place_of (take k q))
 met_beginning vb mask q f k h l =
     let n = place_of (take k q) in
     bit_at_and vb mask n ∙ min_with_one (bit_at vb n) (bit_at mask n) (bit_at-lt vb n) (f (take k q) (omega (arith, length-take k q, h)) ∙ ap (λ b. cond b 1 0) (take_begins k q))
 
 -- where both have a bit a beginning stands
-record IsMet (vb n : ℕ) (q : List Bool) : Type 0 where
-  below : n < 31
-  stored : bit_at vb n ≡ 1
-  within : length (place_string n) ≤ length q
-  begins : take (length (place_string n)) q ≡ place_string n
-  short : length (place_string n) < 5
-  place : place_of (place_string n) ≡ n
+pub record IsMet (vb n : ℕ) (q : List Bool) : Type 0 where
+  pub below : n < 31
+  pub stored : bit_at vb n ≡ 1
+  pub within : length (place_string n) ≤ length q
+  pub begins : take (length (place_string n)) q ≡ place_string n
+  pub short : length (place_string n) < 5
+  pub place : place_of (place_string n) ≡ n
 
-met_place : (vb mask : ℕ) (q : List Bool) → vb < 2 ^ 31 → IsBeginMask q mask → (n : ℕ) → bit_at (bit_and vb mask) n ≡ 1 → IsMet vb n q
+pub met_place : (vb mask : ℕ) (q : List Bool) → vb < 2 ^ 31 → IsBeginMask q mask → (n : ℕ) → bit_at (bit_and vb mask) n ≡ 1 → IsMet vb n q
 met_place vb mask q h f n e =
     let t = min_one (bit_at vb n) (bit_at mask n) (sym (bit_at_and vb mask n) ∙ e) (bit_at-lt vb n) (bit_at-lt mask n) in
     let l = below_31 vb n h t.0 (nat_lt n 31) refl in
@@ -91,14 +91,14 @@ met_place vb mask q h f n e =
     record { below = l; stored = t.0; within = b.0; begins = b.1; short = p.short; place = p.place }
 
 module _ {X : Type 0} where
-  unset_none : {vb : ℕ} {vs : List X} {cb : ℕ} {cs : List (Seen X)} {m : Seen X} (q : List Bool) (k : ℕ) → IsSeen vb vs cb cs m → k < 5 → bit_at vb (place_of (take k q)) ≡ 0 → get m.0 (take k q) ≡ None
+  pub unset_none : {vb : ℕ} {vs : List X} {cb : ℕ} {cs : List (Seen X)} {m : Seen X} (q : List Bool) (k : ℕ) → IsSeen vb vs cb cs m → k < 5 → bit_at vb (place_of (take k q)) ≡ 0 → get m.0 (take k q) ≡ None
   unset_none {vb} {vs} q k s h z = sym (value_at (take k q) s (omega (arith, length-take k q, h))) ∙ sym (missing (place_of (take k q)) vb vs z)
 
   -- no beginning of fewer than five bits is a key
   pub none_here : {vb : ℕ} {vs : List X} {cb : ℕ} {cs : List (Seen X)} {m : Seen X} (q : List Bool) (mask : ℕ) → IsSeen vb vs cb cs m → IsBeginMask q mask → bit_and vb mask ≡ 0 → NoneBelow m.0 q 5
   none_here {vb} q mask s f z k h l = unset_none q k s h (sym (met_beginning vb mask q f k h l) ∙ ap (λ n. bit_at n (place_of (take k q))) z ∙ bit_at-zero (place_of (take k q)))
 
-  found_here : {vb : ℕ} {vs : List X} {cb : ℕ} {cs : List (Seen X)} {m : Seen X} (q : List Bool) (n at : ℕ) (v : X) → IsSeen vb vs cb cs m → IsMet vb n q → at ≡ count_ones (vb % 2 ^ n) → v ≡ get_or vs at v → get m.0 (take (length (place_string n)) q) ≡ Some v
+  pub found_here : {vb : ℕ} {vs : List X} {cb : ℕ} {cs : List (Seen X)} {m : Seen X} (q : List Bool) (n at : ℕ) (v : X) → IsSeen vb vs cb cs m → IsMet vb n q → at ≡ count_ones (vb % 2 ^ n) → v ≡ get_or vs at v → get m.0 (take (length (place_string n)) q) ≡ Some v
   found_here {vb} {vs} {m = m} q n at v s e a r =
       let t = taken n at vb vs (omega (arith, e.below)) (e.stored, a) s.slots.values_counted in
       ap (get m.0) e.begins

@@ -8,11 +8,11 @@ use Rattle.std.proofs.Math.ListN.{length-append, length-take}
 use Rattle.trie_keys.specs.Bits.{bits_cmp}
 use Rattle.trie_core.specs.Nodes.{BitMap, Seen, under, node_map, IsNode}
 use Rattle.trie_core.specs.Count.{fives_from, fives, begun, spares_below, spare_of, found_in, visit_count}
-use Rattle.trie_keys.proofs.Strings.{both, less-T, same, same-Decides, not_same, append_none, take_first, front, same_false}
+use Rattle.trie_keys.proofs.Strings.{both, less-T, same, same-Decides, not_same, append_none, take_first, front, same_false, take_take}
 use Rattle.trie_core.proofs.Maps.{tail_rises, find-under, find-apart}
 use Rattle.trie_core.specs.Walks.{first_value}
 use Rattle.trie_core.proofs.Order.{StartsAfter, found_long, found_get, without_value, without_child, starts_after, values_after}
-use Rattle.trie_core.proofs.Count.{things, has, has-append, has-begun, some_cond, some_entry, nothing, take_take, fives_child, fives_short, spare_pos, begun_by_key, after_child, begun_value, begun_none, begun_child}
+use Rattle.trie_core.proofs.Count.{things, has, has-append, has-begun, some_cond, some_entry, nothing, fives_child, fives_short, spare_pos, begun_by_key, after_child, begun_value, begun_none, begun_child}
 
 below_none : {Y : Type 0} (b : List Bool) (es : List (List Bool × Y)) → T (below_all bits_cmp b es) → has b es ≡ false
 below_none b [] h = refl

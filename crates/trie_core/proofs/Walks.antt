@@ -1,18 +1,20 @@
 -- The stack of a walk, and the way down to where a walk starts.
 use Rattle.std.proofs.Common.{◌≡◌, ℕ, zero, suc, ◌+◌, ◌*◌, ◌<◌, ◌≤◌, Bool, true, false, cond, not, ◌&&◌, List, [], ◌∷◌, ◌++◌, length, take, drop, refl, sym, ap, subst, ◌∙◌, arith}
 use Rattle.std.specs.Prelude.{T, Option, Some, None, is_some}
+use Rattle.std.specs.declared.cmp.Ordering.TheVariants.{Less}
+use Rattle.std.specs.Ordering.{is_lt}
 use Rattle.std.specs.FinMap.{is_sorted, find, entries, get, get-entries, entries_sorted, empty}
 use Rattle.std.specs.FinMap.Entries.{where_key, find-where_key, is_sorted-where_key, same_entries, below_all}
 use Rattle.std.proofs.lemmas.List.{append_assoc, take-append-drop}
 use Rattle.std.proofs.Math.ListN.{length-append, length-drop}
-use Rattle.trie_keys.specs.Bits.{bits_cmp, begins, child_of, child_string}
+use Rattle.trie_keys.specs.Bits.{bits_cmp, begins, child_of, child_string, is_past, is_from}
 use Rattle.trie_keys.specs.Prefixes.{prefix_bits}
 use Rattle.trie_core.specs.Nodes.{BitMap, Seen, under, node_map}
 use Rattle.trie_core.specs.Search.{IsChild, HasNoChild}
 use Rattle.trie_core.specs.Walks.{KeysWithin, Left, walk_rest, walk_weight, FitFrom}
 use Rattle.trie_keys.proofs.Strings.{bits_total, bits_same, same, same-Decides, same-refl, not_same, append_none, front, take_first, begins_take}
-use Rattle.trie_core.proofs.Maps.{find-under, find-apart, get_none, node_map-none}
-use Rattle.trie_core.proofs.Order.{sorted_under, walk_none}
+use Rattle.trie_core.proofs.Maps.{or_else, find-append_all, find-under, find-apart, get_none, node_map-none}
+use Rattle.trie_core.proofs.Order.{sorted_under, below_found, walk_none}
 use Rattle.trie_keys.proofs.Numbers.{child_string-child_of}
 use Rattle.trie_core.proofs.Frames.{child_bits, bits_alike, under-append, under-under, under_none}
 
@@ -69,12 +71,12 @@ module _ {X : Type 0} where
 
 -- ---- the way down
 
-begins-under : (b p q : List Bool) → begins (b ++ p) (b ++ q) ≡ begins p q
+pub begins-under : (b p q : List Bool) → begins (b ++ p) (b ++ q) ≡ begins p q
 begins-under [] p q = refl
 begins-under (true ∷ b) p q = begins-under b p q
 begins-under (false ∷ b) p q = begins-under b p q
 
-not_true : (b : Bool) → (b ≡ true → ⊥) → b ≡ false
+pub not_true : (b : Bool) → (b ≡ true → ⊥) → b ≡ false
 not_true true f = absurd (f refl)
 not_true false f = refl
 
@@ -189,3 +191,133 @@ module _ {X : Type 0} where
 -- five bits of a path, as the number that they form
 pub five_bits : {way : List Bool} (trail p : List Bool) {five : ℕ} → 5 ≤ length p → five ≡ child_of p → way ≡ trail ++ prefix_bits 5 five 5 → way ≡ trail ++ take 5 p
 five_bits {way} trail p {five} h f e = e ∙ ap (λ s. trail ++ s) (child_bits five ∙ ap child_string f ∙ child_string-child_of p h)
+
+-- ---- what comes after a string
+
+cmp-under : (b p q : List Bool) → bits_cmp (b ++ p) (b ++ q) ≡ bits_cmp p q
+cmp-under [] p q = refl
+cmp-under (true ∷ b) p q = cmp-under b p q
+cmp-under (false ∷ b) p q = cmp-under b p q
+
+from-under : (i : Bool) (b p q : List Bool) → is_from (b ++ p) i (b ++ q) ≡ is_from p i q
+from-under i b p q = λ j. cond i (not (is_lt (cmp-under b q p j))) (is_lt (cmp-under b p q j))
+
+past-under : (b q : List Bool) → is_past b (b ++ q) ≡ false
+past-under [] q = none (is_lt (bits_cmp [] q))
+  where
+    none : (t : Bool) → (t && false) ≡ false
+    none true = refl
+    none false = refl
+past-under (true ∷ b) q = past-under b q
+past-under (false ∷ b) q = past-under b q
+
+-- a string that does not begin with b is after a string that does where it is past b
+from_apart : (i : Bool) (b p x : List Bool) → begins b x ≡ false → is_from (b ++ p) i x ≡ is_past b x
+from_apart i [] p x e = cc
+from_apart true (y ∷ b) p [] e = refl
+from_apart false (y ∷ b) p [] e = refl
+from_apart i (true ∷ b) p (true ∷ x) e = from_apart i b p x e
+from_apart i (false ∷ b) p (false ∷ x) e = from_apart i b p x e
+from_apart true (true ∷ b) p (false ∷ x) e = refl
+from_apart false (true ∷ b) p (false ∷ x) e = refl
+from_apart true (false ∷ b) p (true ∷ x) e = refl
+from_apart false (false ∷ b) p (true ∷ x) e = refl
+
+past_less : (b s q : List Bool) → is_past b q ≡ true → bits_cmp (b ++ s) q ≡ Less
+past_less [] s q e = let z = sym e ∙ past-under [] q in cc
+past_less (y ∷ b) s [] e = cc
+past_less (true ∷ b) s (true ∷ q) e = past_less b s q e
+past_less (false ∷ b) s (false ∷ q) e = past_less b s q e
+past_less (true ∷ b) s (false ∷ q) e = cc
+past_less (false ∷ b) s (true ∷ q) e = refl
+
+not_begun : (b x : List Bool) → ((k : List Bool) → x ≡ b ++ k → ⊥) → begins b x ≡ false
+not_begun b x f = not_true _ (λ e. f (drop (length b) x) (sym (take-append-drop (length b) x) ∙ ap (λ s. s ++ drop (length b) x) (begins_take b x e).1))
+
+module _ {X : Type 0} where
+  pub kept_true : (b : Bool) (o : Option X) → is_some (cond b o None) ≡ true → b ≡ true
+  kept_true true o e = refl
+  kept_true false o e = cc
+
+  -- from p on come those below its first five bits that are from the rest of p on, and then what is past these five
+  pub where_from : (p : List Bool) (i : Bool) (m c : BitMap X) → 5 ≤ length p → ((r : List Bool) → get m (take 5 p ++ r) ≡ get c r)
+      → where_key bits_cmp (is_from p i) (entries m) ≡ under (take 5 p) (where_key bits_cmp (is_from (drop 5 p) i) (entries c)) ++ where_key bits_cmp (is_past (take 5 p)) (entries m)
+  where_from p i m c h gets =
+      same_entries bits_cmp bits_total bits_same _ _ (is_sorted-where_key bits_cmp (is_from p i) (entries m) (entries_sorted m))
+      (sorted_under (take 5 p) (where_key bits_cmp (is_from (drop 5 p) i) (entries c)) (where_key bits_cmp (is_past (take 5 p)) (entries m))
+      (is_sorted-where_key bits_cmp (is_from (drop 5 p) i) (entries c) (entries_sorted c)) (is_sorted-where_key bits_cmp (is_past (take 5 p)) (entries m) (entries_sorted m))
+      (λ s. below_found (take 5 p ++ s) (where_key bits_cmp (is_past (take 5 p)) (entries m)) (λ q f. past_less (take 5 p) s q (kept_true (is_past (take 5 p) q) (find bits_cmp q (entries m)) (ap is_some (sym (find-where_key bits_cmp (is_past (take 5 p)) q (bits_alike (is_past (take 5 p)) q) (entries m))) ∙ f)))))
+      (λ x. found (is_from p i) x ∙ by x (same (take 5 x) (take 5 p)) refl
+      ∙ sym (find-append_all x (under (take 5 p) (where_key bits_cmp (is_from (drop 5 p) i) (entries c))) (where_key bits_cmp (is_past (take 5 p)) (entries m))))
+    where
+      found : (f : List Bool → Bool) (x : List Bool) → find bits_cmp x (where_key bits_cmp f (entries m)) ≡ cond (f x) (get m x) None
+      found f x = find-where_key bits_cmp f x (bits_alike f x) (entries m) ∙ ap (λ o. cond (f x) o None) (sym (get-entries m x))
+
+      whole : (x : List Bool) → is_from p i x ≡ is_from (take 5 p ++ drop 5 p) i x
+      whole x = ap (λ q. is_from q i x) (sym (front p h).1)
+
+      none_after : (o : Option X) → o ≡ or_else o None
+      none_after None = refl
+      none_after (Some x) = refl
+
+      at : (r : List Bool) → cond (is_from p i (take 5 p ++ r)) (get m (take 5 p ++ r)) None
+          ≡ or_else (find bits_cmp (take 5 p ++ r) (under (take 5 p) (where_key bits_cmp (is_from (drop 5 p) i) (entries c)))) (find bits_cmp (take 5 p ++ r) (where_key bits_cmp (is_past (take 5 p)) (entries m)))
+      at r =
+          (λ j. cond ((whole (take 5 p ++ r) ∙ from-under i (take 5 p) (drop 5 p) r) j) ((gets r ∙ get-entries c r) j) None)
+          ∙ sym (find-where_key bits_cmp (is_from (drop 5 p) i) r (bits_alike (is_from (drop 5 p) i) r) (entries c))
+          ∙ sym (find-under (take 5 p) r (where_key bits_cmp (is_from (drop 5 p) i) (entries c)))
+          ∙ none_after _
+          ∙ ap (or_else _) (sym (found (is_past (take 5 p)) (take 5 p ++ r) ∙ ap (λ t. cond t (get m (take 5 p ++ r)) None) (past-under (take 5 p) r)))
+
+      by : (x : List Bool) (t : Bool) → same (take 5 x) (take 5 p) ≡ t
+          → cond (is_from p i x) (get m x) None ≡ or_else (find bits_cmp x (under (take 5 p) (where_key bits_cmp (is_from (drop 5 p) i) (entries c)))) (find bits_cmp x (where_key bits_cmp (is_past (take 5 p)) (entries m)))
+      by x true e =
+          let w : take 5 p ++ drop 5 x ≡ x = ap (λ s. s ++ drop 5 x) (sym ((same-Decides (take 5 x) (take 5 p)).0 e)) ∙ take-append-drop 5 x in
+          subst (λ x. cond (is_from p i x) (get m x) None ≡ or_else (find bits_cmp x (under (take 5 p) (where_key bits_cmp (is_from (drop 5 p) i) (entries c)))) (find bits_cmp x (where_key bits_cmp (is_past (take 5 p)) (entries m)))) w (at (drop 5 x))
+      by x false e =
+          let no : (k : List Bool) → x ≡ take 5 p ++ k → ⊥ = λ k q. not_same e (ap (take 5) q ∙ take_first (take 5 p) k (front p h).0) in
+          ap (λ t. cond t (get m x) None) (whole x ∙ from_apart i (take 5 p) (drop 5 p) x (not_begun (take 5 p) x no))
+          ∙ sym (found (is_past (take 5 p)) x)
+          ∙ ap (λ o. or_else o (find bits_cmp x (where_key bits_cmp (is_past (take 5 p)) (entries m)))) (sym (find-apart (take 5 p) x no (where_key bits_cmp (is_from (drop 5 p) i) (entries c))))
+
+  -- from q on there is in m: what is from p on in the node n, and then what is left of the frames
+  pub record IsOnwards (m n : Seen X) (q p trail : List Bool) (i : Bool) (fs : List (Left X)) : Type 0 where
+    pub place : IsPlace m n trail
+    pub within : length trail + length p ≤ 128
+    pub fit : FitFrom 0 fs
+    pub room : length fs + n.2 ≤ 26
+    pub from : under trail (where_key bits_cmp (is_from p i) (entries n.0)) ++ walk_rest fs ≡ where_key bits_cmp (is_from q i) (entries m.0)
+
+  pub start_onwards : {m : Seen X} {q trail : List Bool} (i : Bool) {fs : List (Left X)} → m.2 ≤ 26 → KeysWithin 128 (entries m.0) → length q ≤ 128 → trail ≡ [] → fs ≡ [] → IsOnwards m m q q trail i fs
+  start_onwards {m} {q} {trail} i {fs} l k h e z = record {
+    place = at_root l k e;
+    within = omega (arith, h, ap length e);
+    fit = subst (λ gs. FitFrom 0 gs) (sym z) tt;
+    room = omega (arith, ap length z, l);
+    from = (λ j. under (e j) (where_key bits_cmp (is_from q i) (entries m.0)) ++ walk_rest (z j)) ∙ append_none _ ∙ under_none (where_key bits_cmp (is_from q i) (entries m.0));
+  }
+
+  -- the frame of what is past the five bits goes on the stack
+  pub onwards_below : {m n c : Seen X} {q p r trail way : List Bool} {i : Bool} {fs gs : List (Left X)} {f : Left X} → IsOnwards m n q p trail i fs → 5 ≤ length p → IsChild p n c → way ≡ trail ++ take 5 p → r ≡ drop 5 p
+      → f.0 ≡ under trail (where_key bits_cmp (is_past (take 5 p)) (entries n.0)) → IsTop gs fs f → IsOnwards m c q r way i gs
+  onwards_below {m} {n} {c} {q} {p} {r} {trail} {way} {i} {fs} {gs} {f} w h s e d v t = record {
+    place = at_below p w.place h s e;
+    within = omega (arith, ap length e, length-append trail (take 5 p), (front p h).0, ap length d, length-drop 5 p, w.within, h);
+    fit = t.whole;
+    room = omega (arith, t.count, w.room, s.smaller);
+    from = (λ j. under (e j) (where_key bits_cmp (is_from (d j) i) (entries c.0)) ++ (t.rest ∙ ap (λ es. es ++ walk_rest fs) v) j)
+        ∙ sym (append_assoc (under (trail ++ take 5 p) (where_key bits_cmp (is_from (drop 5 p) i) (entries c.0))) (under trail (where_key bits_cmp (is_past (take 5 p)) (entries n.0))) (walk_rest fs))
+        ∙ ap (λ es. es ++ under trail (where_key bits_cmp (is_past (take 5 p)) (entries n.0)) ++ walk_rest fs) (sym (under-under trail (take 5 p) (where_key bits_cmp (is_from (drop 5 p) i) (entries c.0))))
+        ∙ ap (λ es. es ++ walk_rest fs) (sym (under-append trail (under (take 5 p) (where_key bits_cmp (is_from (drop 5 p) i) (entries c.0))) (where_key bits_cmp (is_past (take 5 p)) (entries n.0))))
+        ∙ ap (λ es. under trail es ++ walk_rest fs) (sym (where_from p i n.0 c.0 h s.gets)) ∙ w.from;
+  }
+
+  pub onwards_none : {m n : Seen X} {q p trail : List Bool} {i : Bool} {fs gs : List (Left X)} {f : Left X} → IsOnwards m n q p trail i fs → 5 ≤ length p → HasNoChild p n
+      → f.0 ≡ under trail (where_key bits_cmp (is_past (take 5 p)) (entries n.0)) → IsTop gs fs f → walk_rest gs ≡ where_key bits_cmp (is_from q i) (entries m.0)
+  onwards_none {m} {n} {q} {p} {trail} {i} {fs} {gs} {f} w h s v t =
+      let z = where_from p i n.0 empty h (λ r. s.gets r ∙ sym (get_none r)) ∙ ap (λ es. under (take 5 p) (where_key bits_cmp (is_from (drop 5 p) i) es) ++ where_key bits_cmp (is_past (take 5 p)) (entries n.0)) entries_none in
+      t.rest ∙ ap (λ es. es ++ walk_rest fs) (v ∙ ap (under trail) (sym z)) ∙ w.from
+
+  pub onwards_end : {m n : Seen X} {q p trail : List Bool} {i : Bool} {fs gs : List (Left X)} {f : Left X} → IsOnwards m n q p trail i fs
+      → f.0 ≡ under trail (where_key bits_cmp (is_from p i) (entries n.0)) → IsTop gs fs f → walk_rest gs ≡ where_key bits_cmp (is_from q i) (entries m.0)
+  onwards_end {fs = fs} w v t = t.rest ∙ ap (λ es. es ++ walk_rest fs) v ∙ w.from

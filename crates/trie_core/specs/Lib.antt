@@ -6,3 +6,4 @@ pub mod Inside
 pub mod Lending
 pub mod Walks
 pub mod Steps
+pub mod Covers

@@ -1,8 +1,8 @@
 //! What a walk has left of one node.
-ghost use Rattle.std.specs.Prelude.{◌≡◌, ◌+◌, ◌*◌, ◌<◌, ◌≤◌, length};
+ghost use Rattle.std.specs.Prelude.{◌≡◌, ◌+◌, ◌*◌, ◌<◌, ◌≤◌, List, Bool, length, take, ⊤};
 ghost use Rattle.std.specs.FinMap.{entries};
 ghost use Rattle.std.specs.FinMap.Entries.{where_key};
-ghost use Rattle.trie_keys.specs.Bits.{bits_cmp, begins, place_string, child_string};
+ghost use Rattle.trie_keys.specs.Bits.{bits_cmp, begins, place_of, child_of, place_string, child_string, is_past, is_from};
 ghost use Rattle.trie_core.specs.Places.{AllBelow, named};
 ghost use Rattle.trie_core.specs.Nodes.{under};
 ghost use Rattle.trie_core.specs.Count.{all_nodes};
@@ -11,6 +11,7 @@ ghost use Rattle.trie_core.specs.Steps.{GivesNext};
 
 use crate::node::Node;
 use crate::pairs::Pairs;
+use std::alloc::AllocError;
 use std::marker::Model;
 use trie_keys::{Path, first_child, place_length};
 
@@ -34,6 +35,20 @@ impl<'a, T> Model for Frame<'a, T> {
     ghost view = { λ a. (part_rest a.values a.children a.trail, levels_of a.children + 1, 2 * nodes_of a.children) };
 
     ghost invariant = { λ a. IsFrame a.values a.children a.trail };
+}
+
+impl<'a, T> Clone for Frame<'a, T> {
+    ghost is_clone = { λ f r. r ≡ f };
+
+    ghost is_infallible = { λ _. ⊤ };
+
+    fn clone(&self) -> Result<Frame<'a, T>, AllocError> {
+        Ok(Frame {
+            values: self.values.clone()?,
+            children: self.children.clone()?,
+            trail: self.trail.clone()?,
+        })
+    }
 }
 
 /// A frame of nothing.
@@ -62,6 +77,15 @@ fn parts<'a, T>(node: &'a Node<T>) -> (Pairs<'a, T>, Pairs<'a, Node<T>>)
         Pairs::new(node.value_bits, node.values.as_slice()),
         Pairs::new(node.child_bits, node.children.as_slice()),
     )
+}
+
+/// The first place after those of the beginnings of five bits.
+fn after_beginnings(five: u8) -> u8
+    requires { five < 32 }
+    ensures { (q : List Bool) → 5 ≤ length q → child_of q ≡ five → result ≡ place_of (take 4 q) + 1 }
+{
+    let four = five - five % 2;
+    four + 5 - four.count_ones() as u8
 }
 
 /// Whether the next entry is the first value, and not in the first child.
@@ -108,6 +132,47 @@ impl<'a, T> Frame<'a, T> {
         Frame {
             values: values.from(place).before(place + (31 >> len)),
             children: children.from(child).before(child + (32 >> len)),
+            trail,
+        }
+    }
+
+    /// Of a node the keys that come after all that begin with the first five bits of a path.
+    pub(crate) fn past(node: &'a Node<T>, path: &Path, trail: Path) -> Frame<'a, T>
+        requires long { 5 ≤ length path.now }
+        requires levels { length trail + 5 * node.now.2 ≤ 130 }
+        requires keys { KeysWithin 128 (under trail (entries node.now.0)) }
+        ensures rest { result.0 ≡ under trail (where_key bits_cmp (is_past (take 5 path.now)) (entries node.now.0)) }
+        ensures levels { result.1 ≤ node.now.2 }
+        ensures positive { 0 < result.1 }
+    {
+        let (values, children) = parts(node);
+        let five = path.five();
+        Frame {
+            values: values.from(after_beginnings(five)),
+            children: children.from(five + 1),
+            trail,
+        }
+    }
+
+    /// Of a node the keys from a string of fewer than five bits on: those that come after it, and itself where asked.
+    pub(crate) fn onwards(
+        node: &'a Node<T>,
+        path: &Path,
+        trail: Path,
+        inclusive: bool,
+    ) -> Frame<'a, T>
+        requires short { length path.now < 5 }
+        requires levels { length trail + 5 * node.now.2 ≤ 130 }
+        requires keys { KeysWithin 128 (under trail (entries node.now.0)) }
+        ensures rest { result.0 ≡ under trail (where_key bits_cmp (is_from path.now inclusive) (entries node.now.0)) }
+        ensures levels { result.1 ≤ node.now.2 }
+        ensures positive { 0 < result.1 }
+    {
+        let (values, children) = parts(node);
+        let place = path.place();
+        Frame {
+            values: values.from(if inclusive { place } else { place + 1 }),
+            children: children.from(path.five()),
             trail,
         }
     }

@@ -1,6 +1,7 @@
 //! Nodes of a trie over bit strings.
 #![tactic(auto)]
 
+mod cover;
 mod frame;
 mod lend;
 mod node;
@@ -9,6 +10,7 @@ mod prune;
 mod slots;
 mod walk;
 
+pub use cover::Cover;
 pub use node::Node;
 pub use trie_keys::{Key, Path, Prefix, path_of, shortened};
 pub use walk::Walk;

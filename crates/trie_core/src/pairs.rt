@@ -1,13 +1,14 @@
 //! What is left of things at places, from the first on.
-ghost use Rattle.std.specs.Prelude.{◌≡◌, ◌≤◌, ◌%◌, ◌^◌, [], length, count_ones, not, nat_lt};
+ghost use Rattle.std.specs.Prelude.{◌≡◌, ◌≤◌, ◌%◌, ◌^◌, [], length, count_ones, not, nat_lt, ⊤};
 ghost use Rattle.std.specs.Iterator.{YieldsFirstBy, item_count};
 ghost use Rattle.std.specs.Ordering.{nat_cmp};
 ghost use Rattle.std.specs.FinMap.Entries.{where_key};
 ghost use Rattle.trie_core.specs.Places.{placed, first_place_of};
 
 use crate::slots::first_place;
-use trie_keys::bit;
+use std::alloc::AllocError;
 use std::marker::Model;
+use trie_keys::bit;
 
 /// Things at places below 32: a word says which places are taken, and a slice has the things in their order.
 #[derive(Drop)]
@@ -27,6 +28,19 @@ impl<'a, X> Model for Pairs<'a, X> {
     ghost invariant = { λ a. count_ones a.taken ≡ length a.items.now };
 }
 
+impl<'a, X> Clone for Pairs<'a, X> {
+    ghost is_clone = { λ p r. r ≡ p };
+
+    ghost is_infallible = { λ _. ⊤ };
+
+    fn clone(&self) -> Result<Pairs<'a, X>, AllocError> {
+        Ok(Pairs {
+            taken: self.taken,
+            items: self.items,
+        })
+    }
+}
+
 impl<'a, X> Default for Pairs<'a, X> {
     ghost is_default = { λ p. p ≡ [] };
 
@@ -40,7 +54,7 @@ impl<'a, X> Default for Pairs<'a, X> {
 
 /// The lowest bits of a word.
 #[inline]
-fn low_bits(word: u32, count: u8) -> u32
+pub(crate) fn low_bits(word: u32, count: u8) -> u32
     requires { count ≤ 32 }
     ensures { result ≡ word % 2 ^ count }
 {

@@ -1,9 +1,9 @@
 //! Walks over the entries of a node in order. They take no memory.
-ghost use Rattle.std.specs.Prelude.{◌≡◌, ℕ, ◌+◌, ◌<◌, ◌≤◌, [], length};
+ghost use Rattle.std.specs.Prelude.{◌≡◌, ℕ, ◌+◌, ◌<◌, ◌≤◌, [], length, ⊤};
 ghost use Rattle.std.specs.FinMap.{entries};
 ghost use Rattle.std.specs.FinMap.Entries.{where_key};
 ghost use Rattle.std.specs.Iterator.{YieldsFirstBy, item_count};
-ghost use Rattle.trie_keys.specs.Bits.{bits_cmp, begins};
+ghost use Rattle.trie_keys.specs.Bits.{bits_cmp, begins, is_from};
 ghost use Rattle.trie_core.specs.Walks.{KeysWithin};
 ghost use Rattle.trie_core.specs.Steps.{Stepped};
 
@@ -11,6 +11,7 @@ use crate::frame::{Frame, Next};
 use crate::node::Node;
 use trie_keys::Path;
 use arrayvec::ArrayVec;
+use std::alloc::AllocError;
 use std::marker::Model;
 
 /// The entries that are left of a walk: those of the frames on the stack, the last frame first.
@@ -36,7 +37,7 @@ impl<'a, T> Model for Walk<'a, T> {
 }
 
 /// What one step of a walk came to.
-enum Step<'a, T> {
+pub(crate) enum Step<'a, T> {
     Entry(Path, &'a T),
     Moved,
     Done,
@@ -84,6 +85,31 @@ impl<'a, T> Walk<'a, T> {
         Walk::start(Frame::inside(node, &path, trail))
     }
 
+    /// The entries from a path on, in the order of a walk: those whose keys come after it, and its own where asked.
+    pub fn onwards(node: &'a Node<T>, path: Path, inclusive: bool) -> Walk<'a, T>
+        requires within { length path ≤ 128 }
+        requires levels { node.now.2 ≤ 26 }
+        requires keys { KeysWithin 128 (entries node.now.0) }
+        ensures { result.0 ≡ where_key bits_cmp (is_from path inclusive) (entries node.now.0) }
+    {
+        let mut stack = ArrayVec::new();
+        let mut node = node;
+        let mut path = path;
+        let mut trail = Path::new(0, 0);
+        'way: while !path.is_short() {
+            let way = trail.with(path.five(), 5);
+            stack.push(Frame::past(node, &path, trail));
+            match node.child(&path) {
+                None => return Walk { stack },
+                Some(child) => node = child,
+            }
+            trail = way;
+            path = path.rest();
+        }
+        stack.push(Frame::onwards(node, &path, trail, inclusive));
+        Walk { stack }
+    }
+
     /// Takes one entry off the last frame, or opens a node, or takes off an empty frame.
     fn step(&mut self) -> Step<'a, T>
         ensures { Stepped self.old result self.new }
@@ -103,6 +129,19 @@ impl<'a, T> Walk<'a, T> {
             }
             Next::Nothing => Step::Moved,
         }
+    }
+}
+
+impl<'a, T> Clone for Walk<'a, T> {
+    ghost is_clone = { λ w r. r ≡ w };
+
+    ghost is_infallible = { λ _. ⊤ };
+
+    /// A second walk from here on. It takes no memory.
+    fn clone(&self) -> Result<Walk<'a, T>, AllocError> {
+        Ok(Walk {
+            stack: self.stack.clone()?,
+        })
     }
 }
 

@@ -1,13 +1,13 @@
 -- The tables of places, each item tested against its rule.
-use Rattle.std.proofs.Common.{◌≡◌, ℕ, zero, suc, ◌+◌, ◌/◌, ◌%◌, ◌^◌, leb, subst, ◌<◌, ◌≤◌, Bool, true, false, cond, not, ◌&&◌, List, [], ◌∷◌, length, take, get_or, refl, sym, ap, ◌∙◌, arith}
-use Rattle.std.specs.Prelude.{T, eqb, nat_lt}
+use Rattle.std.proofs.Common.{◌≡◌, ℕ, zero, suc, ◌+◌, ◌-◌, ◌/◌, ◌%◌, ◌^◌, leb, subst, ◌<◌, ◌≤◌, Bool, true, false, cond, not, ◌&&◌, List, [], ◌∷◌, length, take, get_or, refl, sym, ap, ◌∙◌, arith}
+use Rattle.std.specs.Prelude.{T, eqb, nat_lt, count_ones}
 use Rattle.std.specs.Ordering.{is_lt}
 use Rattle.std.specs.Int.{bit_at}
 use Rattle.std.proofs.lemmas.Bool.Decides.{nat_tests}
 use Rattle.std.proofs.Math.ListN.{length-take}
-use Rattle.trie_keys.specs.Bits.{bits_cmp, begins, place_from, place_of, number_from, child_of, place_string, IsBeginMask}
-use Rattle.trie_keys.proofs.Strings.{both}
-use Rattle.trie_keys.proofs.Numbers.{place_strings, number-take}
+use Rattle.trie_keys.specs.Bits.{bits_cmp, begins, place_from, place_of, number_from, child_of, place_string, IsBeginMask, is_past, is_from}
+use Rattle.trie_keys.proofs.Strings.{both, take_take}
+use Rattle.trie_keys.proofs.Numbers.{place_strings, place_from_number, number-take, number_bound}
 
 T-true : (b : Bool) → T b → b ≡ true
 T-true true h = refl
@@ -119,3 +119,75 @@ inside_ends q l =
     let a : nat_lt (place_of q + 31 / 2 ^ length q) 33 ≡ true = every_holds 5 (λ q. nat_lt (place_from 5 q + 31 / 2 ^ length q) 33) tt q l in
     let b : nat_lt (child_of q + 32 / 2 ^ length q) 33 ≡ true = every_holds 5 (λ q. nat_lt (number_from 5 q + 32 / 2 ^ length q) 33) tt q l in
     (grind (arith, nat_tests), grind (arith, nat_tests))
+
+-- ---- what comes after a string
+
+and_false : (b : Bool) → (b && false) ≡ false
+and_false true = refl
+and_false false = refl
+
+-- of a string at least as long as b its first bits tell whether it is past b
+past_front : (k : ℕ) (b r : List Bool) → length b ≤ k → is_past b (take k r) ≡ is_past b r
+past_front k [] r h = and_false (is_lt (bits_cmp [] (take k r))) ∙ sym (and_false (is_lt (bits_cmp [] r)))
+past_front zero (x ∷ b) r h = absurd (omega (arith, h))
+past_front (suc k) (x ∷ b) [] h = refl
+past_front (suc k) (true ∷ b) (true ∷ r) h = past_front k b r (omega (arith, h))
+past_front (suc k) (false ∷ b) (false ∷ r) h = past_front k b r (omega (arith, h))
+past_front (suc k) (true ∷ b) (false ∷ r) h = refl
+past_front (suc k) (false ∷ b) (true ∷ r) h = refl
+
+-- a longer string is before or after q where its first bits are
+less_front : (k : ℕ) (q r : List Bool) → length q < k → (bits_cmp (take k r) q ≡ bits_cmp r q) × (bits_cmp q (take k r) ≡ bits_cmp q r)
+less_front zero q r h = absurd (omega (arith, h))
+less_front (suc k) [] [] h = (refl, refl)
+less_front (suc k) [] (y ∷ r) h = (refl, refl)
+less_front (suc k) (x ∷ q) [] h = (refl, refl)
+less_front (suc k) (true ∷ q) (true ∷ r) h = less_front k q r (omega (arith, h))
+less_front (suc k) (false ∷ q) (false ∷ r) h = less_front k q r (omega (arith, h))
+less_front (suc k) (true ∷ q) (false ∷ r) h = (refl, refl)
+less_front (suc k) (false ∷ q) (true ∷ r) h = (refl, refl)
+
+-- a test of two strings of five bits, and of such a one and a short one
+five_hold : (t : List Bool → List Bool → Bool) → T (each_of 5 (λ q. each_of 5 (t q))) → (q r : List Bool) → length q ≡ 5 → length r ≡ 5 → t q r ≡ true
+five_hold t h q r l m = each_holds 5 (t q) (subst T (sym (each_holds 5 (λ q. each_of 5 (t q)) h q l)) tt) r m
+
+short_hold : (t : List Bool → List Bool → Bool) → T (each_of 5 (λ q. every 5 (t q))) → (q r : List Bool) → length q ≡ 5 → length r < 5 → t q r ≡ true
+short_hold t h q r l m = every_holds 5 (t q) (subst T (sym (each_holds 5 (λ q. every 5 (t q)) h q l)) tt) r m
+
+pub past_short : (b r : List Bool) → length b ≡ 5 → length r < 5 → is_past b r ≡ not (nat_lt (place_of r) (place_of (take 4 b) + 1))
+past_short b r l m = alike_same _ _ (short_hold (λ b r. alike (is_past b r) (not (nat_lt (place_from 5 r) (place_from 5 (take 4 b) + 1)))) tt b r l m)
+
+pub past_long : (b r : List Bool) → length b ≡ 5 → 5 ≤ length r → is_past b r ≡ not (nat_lt (child_of r) (child_of b + 1))
+past_long b r l m =
+    sym (past_front 5 b r (omega (arith, l)))
+    ∙ alike_same _ _ (five_hold (λ b r. alike (is_past b r) (not (nat_lt (number_from 5 r) (number_from 5 b + 1)))) tt b (take 5 r) l (omega (arith, length-take 5 r, m)))
+    ∙ ap (λ n. not (nat_lt n (child_of b + 1))) (number-take 5 r)
+
+pub from_short : (i : Bool) (q r : List Bool) → length q < 5 → length r < 5 → is_from q i r ≡ not (nat_lt (place_of r) (cond i (place_of q) (place_of q + 1)))
+from_short true q r l m = alike_same _ _ (both_hold (λ q r. alike (is_from q true r) (not (nat_lt (place_from 5 r) (place_from 5 q)))) tt q r l m)
+from_short false q r l m = alike_same _ _ (both_hold (λ q r. alike (is_from q false r) (not (nat_lt (place_from 5 r) (place_from 5 q + 1)))) tt q r l m)
+
+from_five : (i : Bool) (q r : List Bool) → length q < 5 → length r ≡ 5 → is_from q i r ≡ not (nat_lt (child_of r) (child_of q))
+from_five true q r l m = alike_same _ _ (long_hold (λ q r. alike (is_from q true r) (not (nat_lt (number_from 5 r) (number_from 5 q)))) tt q r l m)
+from_five false q r l m = alike_same _ _ (long_hold (λ q r. alike (is_from q false r) (not (nat_lt (number_from 5 r) (number_from 5 q)))) tt q r l m)
+
+pub from_long : (i : Bool) (q r : List Bool) → length q < 5 → 5 ≤ length r → is_from q i r ≡ not (nat_lt (child_of r) (child_of q))
+from_long i q r l m =
+    let e = less_front 5 q r (omega (arith, l)) in
+    (λ j. cond i (not (is_lt (sym e.0 j))) (is_lt (sym e.1 j)))
+    ∙ from_five i q (take 5 r) l (omega (arith, length-take 5 r, m)) ∙ ap (λ n. not (nat_lt n (child_of q))) (number-take 5 r)
+
+-- the place of the longest short beginning of five bits
+longest_place : (q : List Bool) → 5 ≤ length q → place_of (take 4 q) + count_ones (child_of q - child_of q % 2) ≡ child_of q - child_of q % 2 + 4
+longest_place q h =
+    let b = take 5 q in
+    let l : length (take 5 q) ≡ 5 = omega (arith, length-take 5 q, h) in
+    let n : child_of (take 5 q) ≡ child_of q = number-take 5 q in
+    let t : take 4 (take 5 q) ≡ take 4 q = take_take q 4 1 in
+    let e : child_of (take 4 (take 5 q)) ≡ child_of (take 5 q) - child_of (take 5 q) % 2 = eqb_same _ _ (each_holds 5 (λ b. eqb (number_from 5 (take 4 b)) (number_from 5 b - number_from 5 b % 2)) tt b l) in
+    let f : child_of (take 4 q) ≡ child_of q - child_of q % 2 = ap child_of (sym t) ∙ e ∙ ap (λ k. k - k % 2) n in
+    let p = place_from_number (take 4 q) (omega (arith, length-take 4 q)) in
+    omega (arith, p, ap count_ones f, f, length-take 4 q, h)
+
+pub after_longest : (q : List Bool) (five : ℕ) → 5 ≤ length q → child_of q ≡ five → five - five % 2 + 5 - count_ones (five - five % 2) ≡ place_of (take 4 q) + 1
+after_longest q five h e = let t = longest_place q h in omega (arith, t, e, ap (λ k. count_ones (k - k % 2)) e)

@@ -1,5 +1,5 @@
 -- Bit strings: when two are equal, which is the first, and what a beginning is.
-use Rattle.std.proofs.Common.{◌≡◌, ℕ, zero, suc, ◌≤◌, Bool, true, false, cond, not, ◌&&◌, List, [], ◌∷◌, ◌++◌, length, take, drop, refl, sym, ap, subst, ◌∙◌, arith}
+use Rattle.std.proofs.Common.{◌≡◌, ℕ, zero, suc, ◌+◌, ◌≤◌, Bool, true, false, cond, not, ◌&&◌, List, [], ◌∷◌, ◌++◌, length, take, drop, refl, sym, ap, subst, ◌∙◌, arith}
 use Rattle.std.specs.Prelude.{T}
 use Rattle.std.specs.declared.cmp.Ordering.{Ordering}
 use Rattle.std.specs.declared.cmp.Ordering.TheVariants.{Less, Equal, Greater}
@@ -116,3 +116,9 @@ pub take_begins : (k : ℕ) (q : List Bool) → begins (take k q) q ≡ true
 take_begins zero q = refl
 take_begins (suc k) [] = refl
 take_begins (suc k) (x ∷ q) = ap (λ b. b && begins (take k q) q) (begins_refl_bit x) ∙ take_begins k q
+
+-- the first of the first
+pub take_take : {Y : Type 0} (xs : List Y) (j k : ℕ) → take j (take (j + k) xs) ≡ take j xs
+take_take xs zero k = refl
+take_take [] (suc j) k = let e : suc j + k ≡ suc (j + k) = omega arith in rw e refl
+take_take (x ∷ xs) (suc j) k = let e : suc j + k ≡ suc (j + k) = omega arith in rw e (ap (λ ys. x ∷ ys) (take_take xs j k))

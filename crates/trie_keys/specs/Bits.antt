@@ -2,7 +2,7 @@
 use Rattle.std.specs.Prelude.{◌≡◌, ℕ, zero, suc, ◌+◌, ◌-◌, ◌^◌, ◌<◌, Bool, true, false, cond, not, ◌&&◌, nat_lt, if◌then◌else◌, List, [], ◌∷◌, length}
 use Rattle.std.specs.Int.{bit_at}
 use Rattle.std.specs.declared.cmp.Ordering.{Ordering}
-use Rattle.std.specs.Ordering.{bool_cmp}
+use Rattle.std.specs.Ordering.{bool_cmp, is_lt}
 use Rattle.std.specs.Cmp.Lexicographic.{slice_cmp}
 use Rattle.ipnet_blocks.specs.Blocks.{digits}
 
@@ -53,3 +53,11 @@ child_string n = digits 5 n
 -- m has the bits of the places of the strings that begin q, and no other place's
 abbrev pub IsBeginMask : List Bool → ℕ → Type 0
 IsBeginMask q m = (p : List Bool) → length p < 5 → bit_at m (place_of p) ≡ cond (begins p q) 1 0
+
+-- a string after b, and after all that begin with b
+abbrev pub is_past : List Bool → List Bool → Bool
+is_past b k = is_lt (bits_cmp b k) && not (begins b k)
+
+-- a string that is not before q, or one that comes after it
+abbrev pub is_from : List Bool → Bool → List Bool → Bool
+is_from q inclusive k = cond inclusive (not (is_lt (bits_cmp k q))) (is_lt (bits_cmp q k))

@@ -1,10 +1,11 @@
 //! A bit string of at most 128 bits, taken apart from its front.
-ghost use Rattle.std.specs.Prelude.{◌≡◌, ◌+◌, ◌-◌, ◌/◌, ◌^◌, ◌<◌, ◌≤◌, ◌++◌, length, drop, nat_lt, [], ◌∷◌};
+ghost use Rattle.std.specs.Prelude.{◌≡◌, ◌+◌, ◌-◌, ◌/◌, ◌^◌, ◌<◌, ◌≤◌, ◌++◌, length, drop, nat_lt, [], ◌∷◌, ⊤};
 ghost use Rattle.ipnet_blocks.specs.Blocks.{digits};
 ghost use Rattle.trie_keys.specs.Bits.{place_of, child_of, IsBeginMask};
 ghost use Rattle.trie_keys.specs.Prefixes.{prefix_bits, IsMasked};
 
 use crate::tables::{beginnings, bit};
+use std::alloc::AllocError;
 use std::marker::Model;
 
 /// A bit string: the first `len` of the 128 bits, which are zero after them.
@@ -24,6 +25,20 @@ impl Model for Path {
     ghost view = { λ a. digits a.len (a.bits / 2 ^ (128 - a.len)) };
 
     ghost invariant = { λ a. IsAligned a.bits a.len };
+}
+
+impl Clone for Path {
+    ghost is_clone = { λ p r. r ≡ p };
+
+    ghost is_infallible = { λ _. ⊤ };
+
+    /// The same string. It takes no memory.
+    fn clone(&self) -> Result<Path, AllocError> {
+        Ok(Path {
+            bits: self.bits,
+            len: self.len,
+        })
+    }
 }
 
 impl Path {

@@ -36,12 +36,12 @@ rebuilt_by w b n s m e h l =
 pub rebuilt : (w v b k n : ℕ) (s : List Bool) → v ≡ w → v ≤ 128 → n ≡ length s → length s ≤ w → IsMasked 128 b (length s) → prefix_bits 128 b (length s) ≡ s → IsRebuilt w v b k n s
 rebuilt w v b k n s e f g h m q =
     rw (e, g) (
-      let t = rebuilt_by w b (length s) s m q h (omega (arith, e, f)) in
-      record {
-        below = t.0;
-        bits = λ z. ap (λ x. prefix_bits w x (length s)) z ∙ t.1;
-        masked = λ z. subst (λ x. IsMasked w x (length s)) (sym z) t.2;
-      }
+    let t = rebuilt_by w b (length s) s m q h (omega (arith, e, f)) in
+    record {
+      below = t.0;
+      bits = λ z. ap (λ x. prefix_bits w x (length s)) z ∙ t.1;
+      masked = λ z. subst (λ x. IsMasked w x (length s)) (sym z) t.2;
+    }
     )
 
 module _ {X : Type 0} where

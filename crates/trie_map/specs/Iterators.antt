@@ -2,7 +2,11 @@
 use Rattle.std.specs.Prelude.{◌≡◌, List, [], ◌∷◌, Bool, Option, MatchOption}
 use Rattle.std.specs.Borrow.{Bor}
 
-module _ {K X : Type 0} (bits : K → List Bool) (of_bits : List Bool → K) where
+module _ {K : Type 0} (bits : K → List Bool) (of_bits : List Bool → K) where
   -- the first entry was given, with the key that is made of its bits; or nothing was left
-  abbrev pub GivesEntry : List (List Bool × X) → Option (K × Bor X) → List (List Bool × X) → Type 0
+  abbrev pub GivesEntry : {X : Type 0} → List (List Bool × X) → Option (K × Bor X) → List (List Bool × X) → Type 0
   GivesEntry es r fs = MatchOption r ((es ≡ []) × (fs ≡ [])) (λ p. (es ≡ (bits p.0, p.1.now) ∷ fs) × (p.0 ≡ of_bits (bits p.0)))
+
+  -- the same of a key alone
+  abbrev pub GivesKey : List (List Bool) → Option K → List (List Bool) → Type 0
+  GivesKey ss r ts = MatchOption r ((ss ≡ []) × (ts ≡ [])) (λ k. (ss ≡ bits k ∷ ts) × (k ≡ of_bits (bits k)))

@@ -3,6 +3,7 @@
 
 #[cfg(test)]
 mod change_tests;
+mod cover;
 mod entry;
 #[cfg(test)]
 mod entry_tests;
@@ -13,8 +14,9 @@ mod refused;
 #[cfg(test)]
 mod tests;
 
+pub use cover::{Cover, CoverKeys, CoverValues};
 pub use entry::{Entry, OccupiedEntry, VacantEntry};
-pub use iter::Iter;
+pub use iter::{Iter, Keys, Values};
 pub use map::PrefixMap;
 pub use refused::Refused;
 pub use trie_core::{Key, Prefix};

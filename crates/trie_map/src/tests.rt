@@ -1,11 +1,13 @@
 //! What no contract says: that calls succeed, each through its bound at concrete types, with values from outside.
 ghost use Rattle.std.specs.Prelude.{◌≤◌, length};
+ghost use Rattle.std.specs.Iterator.{IsFinite};
 ghost use Rattle.ipnet_addr.specs.Addresses.{Ipv4, Ipv6};
 ghost use Rattle.ipnet_blocks.specs.Blocks.{bit_string};
 ghost use Rattle.ipnet_blocks.specs.Networks.{block_of};
 
 use crate::{PrefixMap, Refused};
 use ipnet::{Ipv4Net, Ipv6Net};
+use std::alloc::Global;
 use std::process::Abort;
 use std::str::FromStr;
 
@@ -185,4 +187,152 @@ fn refused(rt: HostRuntime) {
     }
     assert_eq!(rt; map.node_count(), 7);
     assert_eq!(rt; map.len(), 1);
+}
+
+/// A map of these networks, each with a value of one digit.
+fn map_of(rt: &impl Abort, alloc: Global, networks: &[(&str, u32)]) -> PrefixMap<Ipv4Net, u32> {
+    let mut map = PrefixMap::new(alloc).expect(rt, "a map");
+    for (network, value) in networks.iter() {
+        assert!(rt; map.insert(net(rt, network), *value).is_ok());
+    }
+    map
+}
+
+/// The values of entries, one after another, as the digits of a number.
+fn digits<'a, K: Drop, I: Iterator<Item = (K, &'a u32)>>(entries: I) -> u32
+    requires { I.can_next entries × IsFinite (I.remaining entries) }
+{
+    let mut digits = 0u32;
+    for (_, value) in entries {
+        digits = digits.wrapping_mul(10).wrapping_add(*value);
+    }
+    digits
+}
+
+/// The same of values alone.
+fn value_digits<'a, I: Iterator<Item = &'a u32>>(values: I) -> u32
+    requires { I.can_next values × IsFinite (I.remaining values) }
+{
+    let mut digits = 0u32;
+    for value in values {
+        digits = digits.wrapping_mul(10).wrapping_add(*value);
+    }
+    digits
+}
+
+#[test]
+fn walks(rt: HostRuntime) {
+    let stored = [
+        ("10.2.0.0/24", 4),
+        ("10.4.0.0/16", 6),
+        ("10.2.0.0/16", 3),
+        ("10.0.0.0/8", 1),
+        ("10.3.0.0/16", 5),
+        ("10.1.0.0/16", 2),
+        ("10.4.0.1/32", 7),
+    ];
+    let map = map_of(&rt, rt.alloc(), &stored);
+    assert_eq!(rt; digits(map.iter()), 1234567);
+    assert_eq!(rt; value_digits(map.values()), 1234567);
+    let children = [
+        ("0.0.0.0/0", 1234567),
+        ("10.0.0.0/7", 1234567),
+        ("10.0.0.0/10", 234567),
+        ("10.2.0.0/15", 345),
+        ("10.2.0.0/16", 34),
+        ("10.2.0.0/20", 4),
+        ("10.4.0.1/32", 7),
+        ("10.4.0.0/32", 0),
+        ("11.0.0.0/8", 0),
+    ];
+    for (network, expected) in children.iter() {
+        assert_eq!(rt; digits(map.children(&net(&rt, network))), *expected);
+    }
+    let onwards = [
+        ("0.0.0.0/0", true, 1234567),
+        ("10.0.0.0/8", false, 234567),
+        ("10.2.0.0/16", true, 34567),
+        ("10.2.0.0/16", false, 4567),
+        ("10.2.1.0/24", true, 567),
+        ("10.2.1.0/24", false, 567),
+        ("10.4.0.1/32", true, 7),
+        ("10.4.0.1/32", false, 0),
+    ];
+    for (network, inclusive, expected) in onwards.iter() {
+        assert_eq!(rt;
+            digits(map.iter_from(&net(&rt, network), *inclusive)),
+            *expected
+        );
+    }
+}
+
+#[test]
+fn covers(rt: HostRuntime) {
+    let stored = [("10.1.1.0/24", 3), ("10.0.0.0/8", 1), ("10.1.0.0/16", 2)];
+    let map = map_of(&rt, rt.alloc(), &stored);
+    let covers = [
+        ("10.1.1.0/24", 123),
+        ("10.1.1.7/32", 123),
+        ("10.1.0.0/20", 12),
+        ("10.1.0.0/16", 12),
+        ("10.2.0.0/15", 1),
+        ("0.0.0.0/0", 0),
+    ];
+    for (network, expected) in covers.iter() {
+        let network = net(&rt, network);
+        assert_eq!(rt; digits(map.cover(&network)), *expected);
+        assert_eq!(rt; value_digits(map.cover_values(&network)), *expected);
+    }
+    let mut keys = map.cover_keys(&net(&rt, "10.1.1.9/32"));
+    let key = keys.next().expect(&rt, "a key");
+    assert_eq!(rt; key.to_text().as_slice(), "10.0.0.0/8".as_bytes());
+    let mut keys = map.keys();
+    let key = keys.next().expect(&rt, "a key");
+    assert_eq!(rt; key.to_text().as_slice(), "10.0.0.0/8".as_bytes());
+}
+
+#[test]
+fn from_what_is_not_stored(rt: HostRuntime) {
+    let map = map_of(&rt, rt.alloc(), &[("10.0.0.0/8", 1), ("10.2.0.0/16", 2)]);
+    for inclusive in [true, false].iter() {
+        let entries = map.iter_from(&net(&rt, "10.1.0.0/16"), *inclusive);
+        assert_eq!(rt; digits(entries), 2);
+    }
+}
+
+#[test]
+fn walked_twice(rt: HostRuntime) {
+    let map = map_of(&rt, rt.alloc(), &[("10.0.0.0/8", 1), ("10.2.0.0/16", 2)]);
+    let mut entries = (&map).into_iter();
+    assert!(rt; entries.next().is_some());
+    let Ok(copy) = entries.clone() else {
+        panic!(&rt; "no copy")
+    };
+    assert_eq!(rt; digits(copy), 2);
+    assert_eq!(rt; digits(entries), 2);
+}
+
+#[test]
+fn walks_of_128_bits(rt: HostRuntime) {
+    let mut map: PrefixMap<Ipv6Net, u32> = PrefixMap::new(rt.alloc()).expect(&rt, "a map");
+    let stored = [
+        ("::/0", 1),
+        ("::1/128", 2),
+        ("ffff:ffff:ffff:ffff:ffff:ffff:ffff:ffff/128", 3),
+    ];
+    for (network, value) in stored.iter() {
+        assert!(rt; map.insert(wide_net(&rt, network), *value).is_ok());
+    }
+    for (network, expected) in [("::1/128", 2), ("::/126", 2), ("::/0", 123)].iter() {
+        assert_eq!(rt; digits(map.children(&wide_net(&rt, network))), *expected);
+    }
+    for (network, expected) in [("::1/128", 3), ("::/126", 23), ("8000::/1", 3)].iter() {
+        assert_eq!(rt;
+            digits(map.iter_from(&wide_net(&rt, network), false)),
+            *expected
+        );
+    }
+    for (network, expected) in [("::1/128", 12), ("::/126", 1)].iter() {
+        assert_eq!(rt; digits(map.cover(&wide_net(&rt, network))), *expected);
+    }
 }

@@ -1,0 +1,290 @@
+-- The entries whose keys begin a string, one after another.
+use Rattle.std.proofs.Common.{◌≡◌, ℕ, zero, suc, ◌+◌, ◌-◌, ◌*◌, ◌/◌, ◌%◌, ◌^◌, ◌<◌, ◌≤◌, Bool, true, false, cond, not, ◌&&◌, List, [], ◌∷◌, ◌++◌, length, take, drop, get_or, refl, sym, ap, subst, ◌∙◌, arith}
+use Rattle.std.specs.Prelude.{Option, Some, None, is_some, nat_lt, bit_and, count_ones, MatchOption}
+use Rattle.std.specs.Borrow.{Bor}
+use Rattle.std.specs.declared.cmp.Ordering.{Ordering}
+use Rattle.std.specs.declared.cmp.Ordering.TheVariants.{Less}
+use Rattle.std.specs.Int.{bit_at}
+use Rattle.std.specs.FinMap.{find, entries, get, get-entries, entries_sorted, empty}
+use Rattle.std.specs.FinMap.Entries.{where_key, find-where_key, is_sorted-where_key, same_entries}
+use Rattle.std.proofs.lemmas.Bool.Decides.{nat_tests}
+use Rattle.std.proofs.lemmas.List.{take-append-drop, append_assoc}
+use Rattle.std.proofs.lemmas.Nat.{shl-shr, shr-shr, shr_split, pow-add}
+use Rattle.std.proofs.lemmas.Nat.Bits.{bit_at-zero}
+use Rattle.std.proofs.Math.Nat.{mul_assoc}
+use Rattle.std.proofs.Math.ListN.{length-append, length-drop}
+use Rattle.trie_keys.specs.Bits.{bits_cmp, begins, place_of, place_string, IsBeginMask}
+use Rattle.trie_core.specs.Places.{IsFirstPlace}
+use Rattle.trie_core.specs.Nodes.{BitMap, Seen, under}
+use Rattle.trie_core.specs.Search.{IsChild, HasNoChild}
+use Rattle.trie_core.specs.Covers.{is_left, NoneFrom, IsFirstFrom, cover_rest, cover_weight, IsCover}
+use Rattle.trie_keys.proofs.Strings.{bits_total, bits_same, same, same-Decides, same-refl, not_same, front, take_first, begins_take, take_begins, take_take}
+use Rattle.trie_core.proofs.Maps.{get_none}
+use Rattle.trie_core.proofs.Order.{T-and, below_found}
+use Rattle.trie_keys.proofs.Numbers.{place_strings, place_string-place_of, place_bound, place_less}
+use Rattle.trie_core.proofs.Taken.{taken}
+use Rattle.trie_core.proofs.Seen.{IsSeen}
+use Rattle.trie_core.proofs.Searches.{IsMet, met_beginning, met_place, unset_none, found_here}
+use Rattle.trie_core.proofs.Frames.{bits_alike, under-under, under_none}
+use Rattle.trie_core.proofs.Walks.{AreBelow, where_below, begins-under, entries_none, kept_true, not_true}
+
+-- ---- the bits of a word from one on
+
+bits_cut : (w p i : ℕ) → (i < p → bit_at (w - w % 2 ^ p) i ≡ 0) × (p ≤ i → bit_at (w - w % 2 ^ p) i ≡ bit_at w i)
+bits_cut w p i =
+    let cut : w - w % 2 ^ p ≡ w / 2 ^ p * 2 ^ p = omega (arith, shr_split w p) in (
+      λ h.
+          let e : p ≡ p - i - 1 + 1 + i = omega (arith, h) in
+          let up : w / 2 ^ p * 2 ^ p ≡ w / 2 ^ p * 2 ^ (p - i - 1) * 2 * 2 ^ i =
+          ap (λ x. w / 2 ^ p * x) (ap (λ j. 2 ^ j) e ∙ pow-add 2 (p - i - 1 + 1) i ∙ ap (λ x. x * 2 ^ i) (pow-add 2 (p - i - 1) 1))
+          ∙ sym (mul_assoc (w / 2 ^ p) (2 ^ (p - i - 1) * 2) (2 ^ i)) ∙ ap (λ x. x * 2 ^ i) (sym (mul_assoc (w / 2 ^ p) (2 ^ (p - i - 1)) 2)) in
+          let half : (w - w % 2 ^ p) / 2 ^ i ≡ w / 2 ^ p * 2 ^ (p - i - 1) * 2 = ap (λ x. x / 2 ^ i) (cut ∙ up) ∙ shl-shr (w / 2 ^ p * 2 ^ (p - i - 1) * 2) i in
+          omega (arith, half),
+      λ h.
+          let e : p + (i - p) ≡ i = omega (arith, h) in
+          ap (λ x. x % 2) (
+          ap (λ j. (w - w % 2 ^ p) / 2 ^ j) (sym e) ∙ sym (shr-shr (w - w % 2 ^ p) p (i - p)) ∙ ap (λ x. x / 2 ^ p / 2 ^ (i - p)) cut ∙ ap (λ x. x / 2 ^ (i - p)) (shl-shr (w / 2 ^ p) p)
+          ∙ shr-shr w p (i - p) ∙ ap (λ j. w / 2 ^ j) e
+          ),
+    )
+
+bit_is_zero : (x : ℕ) → x ≡ 1 → x ≡ 0 → ⊥
+bit_is_zero x e f = omega (arith, e, f)
+
+not_before : (w p n : ℕ) → bit_at (w - w % 2 ^ p) n ≡ 1 → p ≤ n
+not_before w p n e = elim (nat_lt n p) as (λ b. nat_lt n p ≡ b → p ≤ n) [
+  | true ↦ λ t. absurd (bit_is_zero _ e ((bits_cut w p n).0 (grind (arith, nat_tests))))
+  | false ↦ λ t. grind (arith, nat_tests)
+] refl
+
+module _ {X : Type 0} where
+  unset_by : {vb : ℕ} {vs : List X} {cb : ℕ} {cs : List (Seen X)} {m : Seen X} (q s : List Bool) (mask : ℕ) → IsSeen vb vs cb cs m → IsBeginMask q mask → length s < 5 → begins s q ≡ true → bit_at (bit_and vb mask) (place_of s) ≡ 0 → get m.0 s ≡ None
+  unset_by {vb} {m = m} q s mask n f h b z =
+      let t = begins_take s q b in
+      let e : place_of (take (length s) q) ≡ place_of s = ap place_of t.1 in
+      ap (get m.0) (sym t.1) ∙ unset_none q (length s) n h (sym (met_beginning vb mask q f (length s) h t.0) ∙ ap (bit_at (bit_and vb mask)) e ∙ z)
+
+  pub none_from : {vb : ℕ} {vs : List X} {cb : ℕ} {cs : List (Seen X)} {m : Seen X} (q : List Bool) (mask place low : ℕ) → IsSeen vb vs cb cs m → IsBeginMask q mask → low ≡ bit_and vb mask % 2 ^ place → bit_and vb mask - low ≡ 0 → NoneFrom m.0 q place
+  none_from {vb} q mask place low n f e z s h b l =
+      let w = bit_and vb mask in
+      unset_by q s mask n f h b (sym ((bits_cut w place (place_of s)).1 l) ∙ ap (λ x. bit_at x (place_of s)) (ap (λ x. w - x) (sym e) ∙ z) ∙ bit_at-zero (place_of s))
+
+  pub met_from : {vb : ℕ} {vs : List X} {cb : ℕ} {cs : List (Seen X)} {m : Seen X} (q : List Bool) (mask place low next : ℕ) → IsSeen vb vs cb cs m → IsBeginMask q mask → low ≡ bit_and vb mask % 2 ^ place → IsFirstPlace (bit_and vb mask - low) next → IsMet vb next q × (place ≤ next)
+  met_from {vb} q mask place low next n f e t =
+      let w = bit_and vb mask in
+      let b : bit_at (w - w % 2 ^ place) next ≡ 1 = ap (λ x. bit_at (w - x) next) (sym e) ∙ t.taken in
+      let l = not_before w place next b in
+      (met_place vb mask q n.slots.values_below f next (sym ((bits_cut w place next).1 l) ∙ b), l)
+
+  pub first_from : {vb : ℕ} {vs : List X} {cb : ℕ} {cs : List (Seen X)} {m : Seen X} (q : List Bool) (mask place low next at : ℕ) (v : X) → IsSeen vb vs cb cs m → IsBeginMask q mask → low ≡ bit_and vb mask % 2 ^ place → IsFirstPlace (bit_and vb mask - low) next → at ≡ count_ones (vb % 2 ^ next) → v ≡ get_or vs at v
+      → IsFirstFrom m.0 q place next v
+  first_from {vb} {m = m} q mask place low next at v n f e t a r =
+      let w = bit_and vb mask in
+      let k = met_from q mask place low next n f e t in
+      let s = place_string next in
+      record {
+        from = k.1;
+        below = k.0.below;
+        begun = begun_by s q k.0.within k.0.begins;
+        found = ap (get m.0) (sym k.0.begins) ∙ found_here q next at v n k.0 a r;
+        first = λ x h b l j. unset_by q x mask n f h b (sym ((bits_cut w place (place_of x)).1 l) ∙ ap (λ y. bit_at (w - y) (place_of x)) (sym e) ∙ t.under (place_of x) j);
+      }
+    where
+      begun_by : (s q : List Bool) → length s ≤ length q → take (length s) q ≡ s → begins s q ≡ true
+      begun_by s q h e = ap (λ x. begins x q) (sym e) ∙ take_begins (length s) q
+
+  pub index_from : {vb : ℕ} {vs : List X} {cb : ℕ} {cs : List (Seen X)} {m : Seen X} (q : List Bool) (at next : ℕ) → IsSeen vb vs cb cs m → IsMet vb next q → at ≡ count_ones (vb % 2 ^ next) → at < length vs
+  index_from {vb} {vs} q at next n k a = (taken next at vb vs (omega (arith, k.below)) (k.stored, a) n.slots.values_counted).within
+
+-- ---- what is left from a place on
+
+and_true : (a b c : Bool) → (a && not (b && c)) ≡ true → (a ≡ true) × (b ≡ true → c ≡ false)
+and_true true true true e = cc
+and_true true true false e = (refl, λ _. refl)
+and_true true false c e = (refl, λ t. absurd (no t))
+  where
+    no : false ≡ true → ⊥
+    no t = cc
+and_true false b c e = cc
+
+and_false : (a b c : Bool) → (a && not (b && c)) ≡ false → a ≡ true → (b ≡ true) × (c ≡ true)
+and_false true true true e f = (refl, refl)
+and_false true true false e f = cc
+and_false true false c e f = cc
+and_false false b c e f = cc
+
+left_true : (q : List Bool) (n : ℕ) (k : List Bool) → is_left q n k ≡ true → (begins k q ≡ true) × (length k < 5 → n ≤ place_of k)
+left_true q n k e =
+    let t = and_true (begins k q) (nat_lt (length k) 5) (nat_lt (place_of k) n) e in
+    (t.0, λ h. let l : nat_lt (length k) 5 ≡ true = grind (arith, nat_tests) in let z = t.1 l in grind (arith, nat_tests))
+
+left_false : (q : List Bool) (n : ℕ) (k : List Bool) → is_left q n k ≡ false → begins k q ≡ true → (length k < 5) × (place_of k < n)
+left_false q n k e b =
+    let t = and_false (begins k q) (nat_lt (length k) 5) (nat_lt (place_of k) n) e b in
+    let u = t.0 in
+    let v = t.1 in
+    (grind (arith, nat_tests), grind (arith, nat_tests))
+
+-- of two beginnings of a string the shorter one comes first
+begins_less : (s x q : List Bool) → begins s q ≡ true → begins x q ≡ true → length s < length x → bits_cmp s x ≡ Less
+begins_less [] [] q a b h = absurd (omega (arith, h))
+begins_less [] (y ∷ x) q a b h = refl
+begins_less (z ∷ s) [] q a b h = absurd (omega (arith, h))
+begins_less (z ∷ s) (y ∷ x) [] a b h = cc
+begins_less (true ∷ s) (true ∷ x) (true ∷ q) a b h = begins_less s x q a b (omega (arith, h))
+begins_less (false ∷ s) (false ∷ x) (false ∷ q) a b h = begins_less s x q a b (omega (arith, h))
+begins_less (true ∷ s) (y ∷ x) (false ∷ q) a b h = cc
+begins_less (false ∷ s) (y ∷ x) (true ∷ q) a b h = cc
+begins_less (true ∷ s) (false ∷ x) (true ∷ q) a b h = cc
+begins_less (false ∷ s) (true ∷ x) (false ∷ q) a b h = cc
+
+place_below : (s : List Bool) → length s < 5 → place_of s < 31
+place_below s h = omega (arith, place_bound 5 s h)
+
+below_or : (a b : ℕ) → a < b + 1 → (a ≡ b → ⊥) → a < b
+below_or a b h f = elim (nat_lt a b) as (λ t. nat_lt a b ≡ t → a < b) [
+  | true ↦ λ t. grind (arith, nat_tests)
+  | false ↦ λ t. absurd (f (grind (arith, nat_tests)))
+] refl
+
+left_none : (q : List Bool) (k : List Bool) → length q < 5 → is_left q 31 k ≡ false
+left_none q k h = not_true (is_left q 31 k) (λ e.
+    let t = left_true q 31 k e in
+    let l : length k < 5 = omega (arith, (begins_take k q t.0).0, h) in
+    omega (arith, t.1 l, place_below k l))
+
+left_all : (q k : List Bool) → is_left q 0 k ≡ begins k q
+left_all q k = let z : nat_lt (place_of k) 0 ≡ false = grind (arith, nat_tests) in ap (λ t. begins k q && not (nat_lt (length k) 5 && t)) z ∙ all_kept (begins k q) (nat_lt (length k) 5)
+  where
+    all_kept : (a b : Bool) → (a && not (b && false)) ≡ a
+    all_kept true true = refl
+    all_kept true false = refl
+    all_kept false b = refl
+
+take_less : (p : List Bool) (n : ℕ) → 5 ≤ n → take 5 (take n p) ≡ take 5 p
+take_less p n h = let e : 5 + (n - 5) ≡ n = omega (arith, h) in ap (λ k. take 5 (take k p)) (sym e) ∙ take_take p 5 (n - 5)
+
+where_none : {Y : Type 0} (f : List Bool → Bool) (es : List (List Bool × Y)) → ((k : List Bool) → f k ≡ false) → where_key bits_cmp f es ≡ []
+where_none f [] h = refl
+where_none f (e ∷ es) h = ap (λ t. cond t (e ∷ where_key bits_cmp f es) (where_key bits_cmp f es)) (h e.0) ∙ where_none f es h
+
+where_same : {Y : Type 0} (f g : List Bool → Bool) (es : List (List Bool × Y)) → ((k : List Bool) → f k ≡ g k) → where_key bits_cmp f es ≡ where_key bits_cmp g es
+where_same f g [] h = refl
+where_same f g (e ∷ es) h = λ i. cond (h e.0 i) (e ∷ where_same f g es h i) (where_same f g es h i)
+
+module _ {X : Type 0} where
+  -- a key that only one of two tests keeps is not there
+  two_same : (a b : Bool) (o : Option X) → (a ≡ true → b ≡ false → o ≡ None) → (a ≡ false → b ≡ true → ⊥) → cond a o None ≡ cond b o None
+  two_same true true o f g = refl
+  two_same true false o f g = f refl refl
+  two_same false true o f g = absurd (g refl refl)
+  two_same false false o f g = refl
+
+  found_where : (m : BitMap X) (f : List Bool → Bool) (x : List Bool) → find bits_cmp x (where_key bits_cmp f (entries m)) ≡ cond (f x) (get m x) None
+  found_where m f x = find-where_key bits_cmp f x (bits_alike f x) (entries m) ∙ ap (λ o. cond (f x) o None) (sym (get-entries m x))
+
+  pub where_next : {m : BitMap X} {q : List Bool} {n p : ℕ} {v : X} → IsFirstFrom m q n p v → where_key bits_cmp (is_left q n) (entries m) ≡ (place_string p, v) ∷ where_key bits_cmp (is_left q (p + 1)) (entries m)
+  where_next {m} {q} {n} {p} {v} w =
+      same_entries bits_cmp bits_total bits_same _ _ (is_sorted-where_key bits_cmp (is_left q n) (entries m) (entries_sorted m))
+      (T-and _ _
+      (below_found (place_string p) (where_key bits_cmp (is_left q (p + 1)) (entries m)) (λ x f. less x (kept_true (is_left q (p + 1) x) (get m x) (ap is_some (sym (found_where m (is_left q (p + 1)) x)) ∙ f)) (nat_lt (length x) 5) refl))
+      (is_sorted-where_key bits_cmp (is_left q (p + 1)) (entries m) (entries_sorted m)))
+      (λ x. found_where m (is_left q n) x ∙ by x (same x (place_string p)) refl ∙ ap (cond (same x (place_string p)) (Some v)) (sym (found_where m (is_left q (p + 1)) x)))
+    where
+      less : (x : List Bool) → is_left q (p + 1) x ≡ true → (b : Bool) → nat_lt (length x) 5 ≡ b → bits_cmp (place_string p) x ≡ Less
+      less x e true h =
+          let l : length x < 5 = grind (arith, nat_tests) in
+          let s = place_strings p w.below in
+          place_less 5 (place_string p) x s.short l (omega (arith, s.place, (left_true q (p + 1) x e).1 l))
+      less x e false h =
+          let l : 5 ≤ length x = grind (arith, nat_tests) in
+          begins_less (place_string p) x q w.begun (left_true q (p + 1) x e).0 (omega (arith, l, (place_strings p w.below).short))
+
+      own : is_left q n (place_string p) ≡ true
+      own = not_false (is_left q n (place_string p)) (λ e. let t = left_false q n (place_string p) e w.begun in omega (arith, t.1, (place_strings p w.below).place, w.from))
+        where
+          not_false : (b : Bool) → (b ≡ false → ⊥) → b ≡ true
+          not_false true f = refl
+          not_false false f = absurd (f refl)
+
+      apart : (x : List Bool) → same x (place_string p) ≡ false → length x < 5 → place_of x ≡ p → ⊥
+      apart x e l d = not_same e (sym (place_string-place_of x l) ∙ ap place_string d)
+
+      by : (x : List Bool) (t : Bool) → same x (place_string p) ≡ t → cond (is_left q n x) (get m x) None ≡ cond t (Some v) (cond (is_left q (p + 1) x) (get m x) None)
+      by x true e =
+          let d = (same-Decides x (place_string p)).0 e in
+          ap (λ y. cond (is_left q n y) (get m y) None) d ∙ ap (λ t. cond t (get m (place_string p)) None) own ∙ w.found
+      by x false e = two_same (is_left q n x) (is_left q (p + 1) x) (get m x)
+          (λ a b.
+          let t = left_true q n x a in
+          let u = left_false q (p + 1) x b t.0 in
+          w.first x u.0 t.0 (t.1 u.0) (below_or (place_of x) p u.1 (apart x e u.0)))
+          (λ a b.
+          let t = left_true q (p + 1) x b in
+          let u = left_false q n x a t.0 in
+          omega (arith, u.1, t.1 u.0, w.from))
+
+  where_rest : (m : BitMap X) {q : List Bool} {n : ℕ} → NoneFrom m q n → where_key bits_cmp (is_left q n) (entries m) ≡ where_key bits_cmp (is_left q 31) (entries m)
+  where_rest m {q} {n} w =
+      same_entries bits_cmp bits_total bits_same _ _ (is_sorted-where_key bits_cmp (is_left q n) (entries m) (entries_sorted m)) (is_sorted-where_key bits_cmp (is_left q 31) (entries m) (entries_sorted m))
+      (λ x. found_where m (is_left q n) x
+      ∙ two_same (is_left q n x) (is_left q 31 x) (get m x)
+      (λ a b.
+      let t = left_true q n x a in
+      let u = left_false q 31 x b t.0 in
+      w x u.0 t.0 (t.1 u.0))
+      (λ a b.
+      let t = left_true q 31 x b in
+      let u = left_false q n x a t.0 in
+      omega (arith, t.1 u.0, place_below x u.0))
+      ∙ sym (found_where m (is_left q 31) x))
+
+  pub cover_end : (m : BitMap X) {q : List Bool} {n : ℕ} → NoneFrom m q n → length q < 5 → where_key bits_cmp (is_left q n) (entries m) ≡ []
+  cover_end m {q} {n} w h = where_rest m w ∙ where_none (is_left q 31) (entries m) (λ k. left_none q k h)
+
+  pub cover_start : (m : BitMap X) (q : List Bool) {trail : List Bool} → trail ≡ [] → under trail (where_key bits_cmp (is_left q 0) (entries m)) ≡ where_key bits_cmp (λ k. begins k q) (entries m)
+  cover_start m q e = ap (λ t. under t (where_key bits_cmp (is_left q 0) (entries m))) e ∙ under_none _ ∙ where_same (is_left q 0) (λ k. begins k q) (entries m) (left_all q)
+
+  left_below : (p : List Bool) {m c : BitMap X} → 5 ≤ length p → ((r : List Bool) → get m (take 5 p ++ r) ≡ get c r) → AreBelow p m c (is_left p 31) (is_left (drop 5 p) 0)
+  left_below p h s = record {
+    long = h;
+    gets = s;
+    told = λ r.
+        let l : nat_lt (length (take 5 p ++ r)) 5 ≡ false = let five = (front p h).0 in let a = length-append (take 5 p) r in grind (arith, nat_tests) in
+        (λ i. begins (take 5 p ++ r) (sym (front p h).1 i) && not (l i && nat_lt (place_of (take 5 p ++ r)) 31))
+        ∙ ap (λ b. b && true) (begins-under (take 5 p) r (drop 5 p)) ∙ and_true_right (begins r (drop 5 p)) ∙ sym (left_all (drop 5 p) r);
+    other = λ x n. not_true _ (λ e. other x n (left_true p 31 x e) (nat_lt (length x) 5) refl);
+  }
+    where
+      and_true_right : (b : Bool) → (b && true) ≡ b
+      and_true_right true = refl
+      and_true_right false = refl
+
+      other : (x : List Bool) → ((k : List Bool) → x ≡ take 5 p ++ k → ⊥) → (begins x p ≡ true) × (length x < 5 → 31 ≤ place_of x) → (b : Bool) → nat_lt (length x) 5 ≡ b → ⊥
+      other x n t true l = let s : length x < 5 = grind (arith, nat_tests) in omega (arith, t.1 s, place_below x s)
+      other x n t false l =
+          let s : 5 ≤ length x = grind (arith, nat_tests) in
+          let f = begins_take x p t.0 in
+          n (drop 5 x) (sym (front x s).1 ∙ ap (λ y. y ++ drop 5 x) (ap (take 5) (sym f.1) ∙ take_less p (length x) s))
+
+  -- below the five bits
+  pub cover_below : (m : Seen X) (trail : List Bool) {p : List Bool} {n : ℕ} (o : Option (Bor (Seen X))) {r way : List Bool} → NoneFrom m.0 p n → 5 ≤ length p → MatchOption o (HasNoChild p m) (λ c. IsChild p m c.now) → way ≡ trail ++ take 5 p → r ≡ drop 5 p
+      → (under trail (where_key bits_cmp (is_left p n) (entries m.0)) ≡ cover_rest o r 0 way) × (cover_weight o r < length p + 1)
+  cover_below m trail {p} {n} None {r} {way} w h s e d = (
+    ap (under trail) (where_rest m.0 w ∙ where_below (left_below p {c = empty} h (λ r. s.gets r ∙ sym (get_none r))) ∙ ap (λ es. under (take 5 p) (where_key bits_cmp (is_left (drop 5 p) 0) es)) entries_none),
+    omega arith,
+  )
+  cover_below m trail {p} {n} (Some c) {r} {way} w h s e d = (
+    ap (under trail) (where_rest m.0 w ∙ where_below (left_below p h s.gets)) ∙ under-under trail (take 5 p) (where_key bits_cmp (is_left (drop 5 p) 0) (entries c.now.0))
+        ∙ (λ i. under (sym e i) (where_key bits_cmp (is_left (sym d i) 0) (entries c.now.0))),
+    omega (arith, ap length d, length-drop 5 p, h),
+  )
+
+pub below_cover : {p r trail way : List Bool} {n : ℕ} → IsCover p n trail → 5 ≤ length p → way ≡ trail ++ take 5 p → r ≡ drop 5 p → IsCover r 0 way
+below_cover {p} {r} {trail} {way} w h e d =
+    let l : length way ≡ length trail + 5 = omega (arith, ap length e, length-append trail (take 5 p), (front p h).0) in
+    record {
+      within = omega (arith, l, ap length d, length-drop 5 p, w.within, h);
+      fives = omega (arith, l, w.fives);
+      place = omega arith;
+    }

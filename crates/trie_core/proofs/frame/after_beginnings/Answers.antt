@@ -1,0 +1,6 @@
+use Rattle.std.proofs.Common.{arith}
+use Rattle.trie_keys.proofs.Begins.{after_longest}
+use Rattle.trie_core.proofs.frame.after_beginnings.Goals as goal
+
+pub returns : goal.returns
+returns c = λ q h e. after_longest q c.args.five h e
