@@ -9,7 +9,8 @@ use Rattle.std.proofs.Math.ListN.{length-append}
 use Rattle.trie_core.specs.Places.{value_list, child_list}
 use Rattle.trie_core.specs.Nodes.{BitMap, Seen, under, node_map, IsNode, HasSlots}
 use Rattle.trie_core.specs.Count.{total, entry_count, all_nodes}
-use Rattle.trie_core.proofs.Order.{StartsAfter, walk_value, walk_child, walk_none, without_value, without_child, first_value, starts_after, values_after}
+use Rattle.trie_core.specs.Walks.{first_value}
+use Rattle.trie_core.proofs.Order.{StartsAfter, walk_value, walk_child, walk_none, without_value, without_child, starts_after, values_after}
 use Rattle.trie_core.proofs.Count.{things, length-under}
 use Rattle.trie_core.proofs.Named.{is_node, value_things, child_things}
 use Rattle.trie_core.proofs.Seen.{IsSeen, map_of, length-things}
