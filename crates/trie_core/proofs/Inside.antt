@@ -1,21 +1,21 @@
 -- A map without the keys inside a prefix, and what a change of a child makes of it.
-use Rattle.std.proofs.Common.{◌≡◌, ℕ, ◌+◌, ◌-◌, ◌^◌, ◌<◌, ◌≤◌, Bool, true, false, cond, not, ◌&&◌, ◌||◌, List, [], ◌∷◌, ◌++◌, length, take, drop, get_or, set, remove, refl, sym, ap, subst, ◌∙◌, arith}
+use Rattle.std.proofs.Common.{◌≡◌, ℕ, ◌+◌, ◌-◌, ◌^◌, ◌<◌, ◌≤◌, Bool, true, false, cond, not, ◌||◌, List, [], ◌∷◌, ◌++◌, length, take, drop, get_or, set, remove, refl, sym, ap, subst, ◌∙◌, arith}
 use Rattle.std.specs.Prelude.{nat_lt, Option, Some, None}
 use Rattle.std.specs.FinMap.{get, len, empty, find, get-empty, get-remove, get-retain_keys, same_map}
 use Rattle.std.specs.FinMap as map
 use Rattle.std.proofs.lemmas.Bool.Decides.{nat_tests}
 use Rattle.std.proofs.Math.ListN.{length-drop}
 use Rattle.trie_keys.specs.Bits.{bits_cmp, begins, child_of}
-use Rattle.trie_core.specs.Places.{IsUnset, child_list}
+use Rattle.trie_core.specs.Places.{IsUnset}
 use Rattle.trie_core.specs.Nodes.{BitMap, Seen, child_map, node_map, node_height, IsNode, HasSlots}
 use Rattle.trie_core.specs.Count.{nodes, all_nodes, spare_of, spares_below, entry_count}
 use Rattle.trie_core.specs.Inside.{outside}
-use Rattle.trie_keys.proofs.Strings.{bits_total, bits_same, same, same-Decides, same_false, not_same, not_true, begins_take, take_begins, front, take_take}
-use Rattle.trie_core.proofs.Maps.{ListChanges, child_get, get_none, get-short, get-long}
+use Rattle.trie_keys.proofs.Strings.{bits_total, bits_same, same, same-Decides, not_same, not_true, begins_take, front, take_take}
+use Rattle.trie_core.proofs.Maps.{ListChanges, child_get, get-short, get-long}
 use Rattle.trie_core.proofs.Named.{is_node, child_put_in, child_taken_out}
 use Rattle.trie_core.proofs.Taken.{IsTaken, missing}
 use Rattle.trie_core.proofs.Seen.{IsSeen, map_of, counted, has_no_child, no_items, total-set}
-use Rattle.trie_core.proofs.Changes.{was_found, set_slots, set_removed, total-remove, height-remove}
+use Rattle.trie_core.proofs.Changes.{was_found, set_slots, total-remove, height-remove}
 use Rattle.trie_core.proofs.Entries.{entries_at, entries_of}
 
 -- ---- beginnings

@@ -129,4 +129,6 @@ fn paths(rt: HostRuntime) {
     assert!(rt; rest.is_short());
     assert_eq!(rt; rest.place(), 13);
     assert_eq!(rt; rest.beginnings(), 1 + 2 + 512 + 8192);
+    assert_eq!(rt; path.extended(true).len(), 9);
+    assert_eq!(rt; rest.extended(false).place(), 14);
 }

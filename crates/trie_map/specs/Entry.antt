@@ -1,6 +1,6 @@
 -- What the contracts of an entry cite. The words serve its halves too, as `entry_value (Occupied o)`.
 pub use Rattle.trie_map.specs.declared.entry.Entry.TheVariants.{Occupied, Vacant}
-use Rattle.std.specs.Prelude.{◌≡◌, ◌≤◌, List, Bool, Option, Some, None, Result, is_some, OnErr, IsOk, cond, []}
+use Rattle.std.specs.Prelude.{◌≡◌, ◌≤◌, List, Bool, Option, Some, Result, is_some, OnErr, IsOk, cond, []}
 use Rattle.std.specs.Borrow.{Fml, RattleType, MutBor, follows, follows_so, name_if_ok}
 use Rattle.std.specs.FinMap.{get, insert, get-insert}
 use Rattle.std.proofs.Common.{ap, ◌∙◌}

@@ -1,4 +1,4 @@
-use Rattle.std.proofs.Common.{◌≡◌, ◌∙◌, ap}
+use Rattle.std.proofs.Common.{◌∙◌}
 use Rattle.trie_core.specs.Inside.{outside}
 use Rattle.trie_core.proofs.Inside.{outside_split}
 use Rattle.trie_core.proofs.node.Node.+take_inside.Goals as goal

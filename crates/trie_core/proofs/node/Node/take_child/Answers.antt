@@ -1,4 +1,4 @@
-use Rattle.std.proofs.Common.{◌≡◌, ◌+◌, ◌-◌, ◌^◌, ◌<◌, ◌≤◌, ◌∙◌, length, ap, arith}
+use Rattle.std.proofs.Common.{◌^◌, ◌∙◌, ap, arith}
 use Rattle.trie_core.proofs.Seen.{seen}
 use Rattle.trie_core.proofs.Changes.{way}
 use Rattle.trie_core.proofs.Inside.{none_inside, none_left, gone}

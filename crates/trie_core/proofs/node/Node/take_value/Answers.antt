@@ -1,7 +1,6 @@
-use Rattle.std.proofs.Common.{◌≡◌, ◌+◌, ◌<◌, ◌≤◌, ◌∙◌, cond, sym, ap, arith}
+use Rattle.std.proofs.Common.{◌+◌, ◌∙◌, cond, sym, ap, arith}
 use Rattle.std.specs.Ordering.{nat_cmp}
 use Rattle.std.specs.FinMap.{find, len}
-use Rattle.trie_core.specs.Nodes.{HasSlots}
 use Rattle.trie_core.specs.Places.{at_places}
 use Rattle.trie_core.proofs.Seen.{seen, value_at}
 use Rattle.trie_core.proofs.Changes.{value_slots, value_taken_map, value_count}

@@ -1,4 +1,4 @@
-use Rattle.std.proofs.Common.{◌≡◌, ◌+◌, ◌-◌, ◌*◌, ◌^◌, ◌<◌, ◌≤◌, ◌∙◌, Bool, true, false, cond, length, refl, arith}
+use Rattle.std.proofs.Common.{◌≡◌, ◌∙◌, Bool, true, false, cond, refl, arith}
 use mir.Val.{bool_byte}
 use Rattle.trie_keys.proofs.Aligned.{path_length, extended}
 use Rattle.trie_keys.proofs.path.Path.extended.Goals as goal

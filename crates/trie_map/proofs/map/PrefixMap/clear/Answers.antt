@@ -1,4 +1,4 @@
-use Rattle.std.proofs.Common.{◌≡◌, ◌≤◌, ◌∙◌, sym, ap, arith}
+use Rattle.std.proofs.Common.{◌∙◌, sym, ap, arith}
 use Rattle.std.specs.FinMap.{len, len-empty}
 use Rattle.trie_core.proofs.Changes.{new_nodes}
 use Rattle.trie_map.proofs.Entries.{keys_empty}

@@ -1,6 +1,4 @@
-use Rattle.std.proofs.Common.{◌≡◌, ◌+◌, ◌≤◌, ◌∙◌, sym, ap, length, arith}
-use Rattle.trie_core.specs.Count.{nodes}
-use Rattle.trie_core.specs.Inside.{outside}
+use Rattle.std.proofs.Common.{◌∙◌, arith}
 use Rattle.trie_core.proofs.Changes.{new_nodes}
 use Rattle.trie_map.proofs.Entries.{keys_outside, outside_none}
 use Rattle.trie_map.proofs.map.PrefixMap.remove_children.Goals as goal
