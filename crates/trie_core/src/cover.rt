@@ -9,12 +9,11 @@ ghost use Rattle.trie_core.specs.Steps.{Stepped};
 
 use crate::node::Node;
 use crate::pairs::low_bits;
-use trie_keys::Path;
 use crate::slots::{first_place, taken_below};
-use trie_keys::{first_child, place_length};
 use crate::walk::Step;
 use std::alloc::AllocError;
 use std::marker::Model;
+use trie_keys::{Path, first_child, place_length};
 
 /// The entries that are left of those whose keys begin a path, by rising length: in the node that stands at the
 /// trail those from a place on, and those below it on what is left of the path.

@@ -9,10 +9,10 @@ ghost use Rattle.trie_core.specs.Steps.{Stepped};
 
 use crate::frame::{Frame, Next};
 use crate::node::Node;
-use trie_keys::Path;
 use arrayvec::ArrayVec;
 use std::alloc::AllocError;
 use std::marker::Model;
+use trie_keys::Path;
 
 /// The entries that are left of a walk: those of the frames on the stack, the last frame first.
 ///
