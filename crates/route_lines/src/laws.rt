@@ -1,7 +1,10 @@
 //! Laws of lines: public functions without a body, whose contracts are the laws.
-ghost use Rattle.std.specs.Prelude.{◌≡◌, ℕ, List, [], ◌∷◌, ◌++◌};
+ghost use Rattle.std.specs.Prelude.{◌≡◌, ◌≢◌, ◌≤◌, ℕ, List, [], ◌∷◌, ◌++◌, All, length};
 ghost use Rattle.std.specs.List.{flat_map};
 ghost use Rattle.route_lines.specs.Bytes.{lines, rest};
+ghost use Rattle.route_lines.specs.Texts.{IsCommand, IsReply};
+ghost use Rattle.route_lines.specs.declared.command.Command.{Command};
+ghost use Rattle.route_lines.specs.declared.reply.Reply.{Reply};
 ghost use Rattle.route_lines.specs.Lines.{kept_of, answers, fed_all, rest_in, rest_of, lines_of};
 
 /// Over any bytes fed to a new cutter, its answers are, in order, `Text` of each piece of at most 80
@@ -17,4 +20,18 @@ pub fn cutting()
 #[tactic(auto, using(crate::proofs::Cutting::pieces_make))]
 pub fn pieces_make_bytes()
     ensures { (bytes : List ℕ) → bytes ≡ flat_map (λ piece. piece ++ 10 ∷ []) (lines bytes) ++ rest bytes }
+{}
+
+/// No text spells two commands, none has more than 66 bytes, and none has a line end.
+pub fn commands()
+    ensures one { (text : List ℕ) (a b : Command) → IsCommand text a → IsCommand text b → a ≡ b }
+    ensures short { (text : List ℕ) (a : Command) → IsCommand text a → length text ≤ 66 }
+    ensures clean { (text : List ℕ) (a : Command) → IsCommand text a → All (λ c. c ≢ 10) text }
+{}
+
+/// No text spells two reply lines, none has more than 68 bytes, and none has a line end.
+pub fn replies()
+    ensures one { (text : List ℕ) (a b : Reply) → IsReply text a → IsReply text b → a ≡ b }
+    ensures short { (text : List ℕ) (a : Reply) → IsReply text a → length text ≤ 68 }
+    ensures clean { (text : List ℕ) (a : Reply) → IsReply text a → All (λ c. c ≢ 10) text }
 {}

@@ -1,9 +1,21 @@
-//! The lines of a route feed, however the bytes come.
+//! The lines of a route feed, however the bytes come: commands, replies, and the cutter of lines.
 #![tactic(auto)]
 
+pub use command::Command;
 pub use cutter::{Line, LineCutter, Rest};
+pub use reply::{Closing, Reply};
+use thiserror::Error;
 
+/// The text is no line of the grammar.
+#[derive(Clone, Copy, Debug, PartialEq, Eq, Error)]
+#[error("not a line of the grammar")]
+pub struct NotALine;
+
+mod command;
 mod cutter;
 pub mod laws;
+mod phrase;
+mod printer;
+mod reply;
 #[cfg(test)]
 mod tests;

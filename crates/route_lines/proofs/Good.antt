@@ -1,0 +1,113 @@
+-- What the laws ask of each relation of the grammar: one value, a longest text, no line end. Built up word by word.
+use Rattle.std.proofs.Common.{◌≡◌, ◌≢◌, ℕ, ◌+◌, ◌*◌, ◌^◌, ◌<◌, ◌≤◌, true, List, [], ◌∷◌, ◌++◌, length, get_or, All, codes, decimal, refl, sym, ap, ap₂, ◌∙◌, subst, arith, length-append}
+use Rattle.std.specs.Prelude.{⊤, ltb}
+use Rattle.std.specs.List.{list_all}
+use Rattle.std.proofs.lemmas.Bool.{ltb-true}
+use Rattle.std.proofs.lemmas.List.{append_cancel_left}
+use Rattle.std.proofs.lemmas.List.Elements.{All-append}
+use Rattle.std.proofs.lemmas.List.Sums.{AllPass-from_list_all}
+use Rattle.std.proofs.lemmas.Fmt.{decimal_injective, decimal_is_IsNumeral, length-decimal-le}
+use Rattle.std.specs.Str.Parse.{AllDigits}
+use Rattle.std.specs.Char.{digit_value}
+use Rattle.ipnet.specs.IpNetText.{Reads}
+use Rattle.ipnet.specs.IpNets.{block}
+use Rattle.route_table.specs.Stored.{network_at}
+use Rattle.ipnet.specs.declared.ip_net.IpNet.{IpNet}
+use Rattle.ipnet.proofs.NoSpace.{no_line_end}
+use Rattle.ipnet.proofs.Longest.{longest}
+use Rattle.ipnet.proofs.IpNetworks.{ip_unique}
+use Rattle.route_lines.specs.Phrase.{IsFree, IsDecimal, Then, After}
+use Rattle.route_lines.specs.Words.{IsNet, IsNumber, IsHop}
+use Rattle.route_table.specs.declared.hop.Hop.{Hop}
+use Rattle.route_table.specs.declared.hop.Hop.TheVariants.{Number, Drop}
+use Rattle.route_lines.proofs.Words.{same_word, split_at}
+
+pub record Good {A : Type 0} (Spells : List ℕ → A → Type 0) (limit : ℕ) : Type 0 where
+  pub one : (text : List ℕ) (a b : A) → Spells text a → Spells text b → a ≡ b
+  pub short : (text : List ℕ) (a : A) → Spells text a → length text ≤ limit
+  pub clean : (text : List ℕ) (a : A) → Spells text a → All (λ c. c ≢ 10) text
+
+-- of a text that is written out
+pub written : (text : List ℕ) → list_all (ltb 10) text ≡ true → All (λ c. c ≢ 10) text
+written text e = λ k d within same. (let above = ltb-true 10 _ (AllPass-from_list_all (ltb 10) text e k d within) in omega arith)
+
+and : (xs ys : List ℕ) → All (λ c. c ≢ 10) xs → All (λ c. c ≢ 10) ys → All (λ c. c ≢ 10) (xs ++ ys)
+and xs ys h k = All-append (λ c. c ≢ 10) xs ys h k
+
+pub word : (text : List ℕ) (limit : ℕ) → list_all (ltb 10) text ≡ true → length text ≤ limit → Good {A = ⊤} (λ t x. t ≡ text) limit
+word text limit e within = record { one = λ t a b h k. refl; short = λ t a h. omega (arith, ap length h); clean = λ t a h. rw h (written text e) }
+
+pub net : Good IsNet 51
+net = record {
+  one = λ t a b h k. h.2 ∙ ap (λ (n : IpNet). network_at (block n)) (ip_unique t h.0 k.0 h.1 k.1) ∙ sym k.2;
+  short = λ t a h. longest t h.0 h.1;
+  clean = λ t a h. no_line_end t h.0 h.1;
+}
+
+digits : (text : List ℕ) → AllDigits 10 text → All (λ c. c ≢ 10) text
+digits [] h = written [] refl
+digits (c ∷ cs) h =
+    let other : c ≢ 10 = λ end. (let below : digit_value 10 < 10 = rw end at h.0 in omega arith) in
+    and (c ∷ []) cs (λ k d within. (let first : k ≡ 0 = omega arith in rw first other)) (digits cs h.1)
+
+pub number : (low high count : ℕ) → 0 < count → high < 2 ^ 64 → high < 10 ^ count → Good (IsDecimal low high) count
+number low high count some small fits = record {
+  one = λ t a b h k. decimal_injective a b (omega (arith, h.2)) (omega (arith, k.2)) (sym h.0 ∙ k.0);
+  short = λ t a h. omega (arith, ap length h.0, length-decimal-le count a some (omega (arith, h.2)) (omega (arith, h.2)));
+  clean = λ t a h. rw h.0 (digits (decimal a) (decimal_is_IsNumeral a (omega (arith, h.2))).0.1)
+}
+
+pub u32 : Good IsNumber 10
+u32 = number 0 0xffffffff 10 (omega arith) (omega arith) (omega arith)
+
+not_drop : (text : List ℕ) (m : ℕ) → IsNumber text m → ¬ (text ≡ codes "drop")
+not_drop text m h e =
+    let digits = rw (sym h.0 ∙ e) at (decimal_is_IsNumeral m (omega (arith, h.2))).0.1 in
+    omega (arith, digits.0)
+
+one_hop : (text : List ℕ) (x y : Hop) → IsHop text x → IsHop text y → x ≡ y
+one_hop text (Number m) (Number n) h k = ap Number (u32.one text m n h k)
+one_hop text (Number m) Drop h k = absurd (not_drop text m h k)
+one_hop text Drop (Number n) h k = absurd (not_drop text n k h)
+one_hop text Drop Drop h k = refl
+
+short_hop : (text : List ℕ) (x : Hop) → IsHop text x → length text ≤ 10
+short_hop text (Number n) h = u32.short text n h
+short_hop text Drop h = omega (arith, ap length h)
+
+clean_hop : (text : List ℕ) (x : Hop) → IsHop text x → All (λ c. c ≢ 10) text
+clean_hop text (Number n) h = u32.clean text n h
+clean_hop text Drop h = rw h (written (codes "drop") refl)
+
+pub hop : Good IsHop 10
+hop = record { one = one_hop; short = short_hop; clean = clean_hop }
+
+pub then : {A B : Type 0} {P : List ℕ → A → Type 0} {Q : List ℕ → B → Type 0} {m n : ℕ} → IsFree P → Good P m → Good Q n → Good (Then P Q) (m + 1 + n)
+then {A} {B} {P} {Q} {m} {n} free p q = record {
+  one = λ t x y h k.
+      let same = same_word h.front k.front h.back k.back (free h.front x.0 h.first) (free k.front y.0 k.first) (sym (h.spelled ∙ split_at h.front h.back) ∙ k.spelled ∙ split_at k.front k.back) in
+      let first : x.0 ≡ y.0 = p.one k.front x.0 y.0 (subst (λ s. P s x.0) same.0 h.first) k.first in
+      let second : x.1 ≡ y.1 = q.one k.back x.1 y.1 (subst (λ s. Q s x.1) same.1 h.second) k.second in
+      ap₂ (λ a b. (a, b)) first second;
+  short = λ t x h. omega (arith, ap length h.spelled, length-append (h.front ++ codes " ") h.back, length-append h.front (codes " "), p.short h.front x.0 h.first, q.short h.back x.1 h.second);
+  clean = λ t x h. rw h.spelled (and (h.front ++ codes " ") h.back (and h.front (codes " ") (p.clean h.front x.0 h.first) (written (codes " ") refl)) (q.clean h.back x.1 h.second))
+}
+
+pub after : {A : Type 0} {P : List ℕ → A → Type 0} {n : ℕ} (prefix : List ℕ) (limit : ℕ) → list_all (ltb 10) prefix ≡ true → length prefix + n ≤ limit → Good P n → Good (After prefix P) limit
+after {A} {P} {n} prefix limit e within p = record {
+  one = λ t x y h k. (let same : h.rest ≡ k.rest = append_cancel_left prefix h.rest k.rest (sym h.spelled ∙ k.spelled) in p.one k.rest x y (subst (λ s. P s x) same h.phrase) k.phrase);
+  short = λ t x h. omega (arith, within, ap length h.spelled, length-append prefix h.rest, p.short h.rest x h.phrase);
+  clean = λ t x h. rw h.spelled (and prefix h.rest (written prefix e) (p.clean h.rest x h.phrase))
+}
+
+-- the first three bytes
+abbrev pub start : List ℕ → ℕ
+start text = get_or text 0 0 * 65536 + get_or text 1 0 * 256 + get_or text 2 0
+
+-- Kinds of lines, each told by the first bytes of its texts, spell one line at most.
+pub one_line : {Kind Line : Type 0} (Value : Kind → Type 0) (make : (k : Kind) → Value k → Line) (Spells : (k : Kind) → List ℕ → Value k → Type 0) (limit : ℕ)
+    (code : Kind → ℕ) (told : ℕ → Kind) → ((k : Kind) → told (code k) ≡ k) → ((k : Kind) (text : List ℕ) (x : Value k) → Spells k text x → start text ≡ code k)
+    → ((k : Kind) → Good (Spells k) limit) → (text : List ℕ) (k j : Kind) (x : Value k) (y : Value j) → Spells k text x → Spells j text y → make k x ≡ make j y
+one_line Value make Spells limit code told back starts good text k j x y h g =
+    let same : k ≡ j = sym (back k) ∙ ap told (sym (starts k text x h) ∙ starts j text y g) ∙ back j in
+    subst (λ i. (z : Value i) → Spells i text z → make k x ≡ make i z) same (λ z s. ap (make k) ((good k).one text x z h s)) y g

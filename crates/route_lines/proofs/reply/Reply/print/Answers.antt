@@ -1,0 +1,22 @@
+use Rattle.std.proofs.Common.{rules}
+use Rattle.route_lines.specs.Texts.{IsReply, reply_text}
+use Rattle.route_lines.proofs.Printed.{prints, Words}
+use Rattle.route_lines.proofs.Replies.{clean_reply}
+use Rattle.route_lines.proofs.reply.Reply.print.Goals.{in-Set, in-Unset, in-Route, in-Flat, in-Own, in-Count, in-Close}
+use Rattle.route_lines.proofs.reply.Reply.print.Goals as goal
+
+pub returns-clause-reads : goal.returns-clause-reads
+returns-clause-reads c =
+    let words : Words c.args.self.now = elim c.match-self.branch [
+      | in-Set w ↦ search rules
+      | in-Unset w ↦ search rules
+      | in-Route w ↦ search rules
+      | in-Flat w ↦ search rules
+      | in-Own w ↦ search rules
+      | in-Count w ↦ search rules
+      | in-Close w ↦ search rules
+    ] in
+    prints _ c.requires words
+
+pub returns-clause-one_line : goal.returns-clause-one_line
+returns-clause-one_line c = clean_reply _ _ (returns-clause-reads c)

@@ -1,0 +1,30 @@
+-- The words after the first one of a line.
+use Rattle.std.specs.Prelude.{◌≡◌, ℕ, List, codes}
+use Rattle.ipnet.specs.IpNetText.{Reads}
+use Rattle.ipnet.specs.IpNets.{block}
+use Rattle.route_table.specs.Stored.{network_at}
+use Rattle.ipnet.specs.declared.ip_net.IpNet.{IpNet}
+use Rattle.route_lines.specs.Phrase.{IsDecimal}
+use Rattle.route_table.specs.declared.hop.Hop.{Hop}
+use Rattle.route_table.specs.declared.hop.Hop.TheVariants.{Number, Drop}
+
+-- a network, its host bits cleared
+abbrev pub IsNet : List ℕ → IpNet → Type 0
+IsNet text net = (whole : IpNet) × Reads text whole × (net ≡ network_at (block whole))
+
+-- a number below 2^32
+abbrev pub IsNumber : List ℕ → ℕ → Type 0
+IsNumber = IsDecimal 0 0xffffffff
+
+-- the number of lines that are asked for
+abbrev pub IsLimit : List ℕ → ℕ → Type 0
+IsLimit = IsDecimal 1 1000
+
+-- a number below 2^64
+abbrev pub IsCount : List ℕ → ℕ → Type 0
+IsCount = IsDecimal 0 0xffffffffffffffff
+
+-- a number, or `drop`
+abbrev pub IsHop : List ℕ → Hop → Type 0
+IsHop text (Number n) = IsNumber text n
+IsHop text Drop = text ≡ codes "drop"

@@ -1,0 +1,88 @@
+//! Command lines.
+ghost use Rattle.std.specs.Prelude.{◌≡◌};
+ghost use Rattle.std.specs.Net.Grammar.{Parses};
+ghost use Rattle.route_lines.specs.Texts.{IsCommand};
+
+use crate::NotALine;
+use crate::phrase::{Limit, Number, read_after};
+use ipnet::IpNet;
+use route_table::Hop;
+
+/// One line of the input. Its network has no host bits.
+#[derive(Clone, Copy, PartialEq, Eq)]
+pub enum Command {
+    /// `add NET HOP`: the network's addresses go to the hop, a number or `drop`.
+    Add { net: IpNet, hop: Hop },
+    /// `del NET`: take the network out.
+    Del { net: IpNet },
+    /// `get NET`: the longest stored network that contains it.
+    Get { net: IpNet },
+    /// `cover NET`: the stored networks that contain it.
+    Cover { net: IpNet },
+    /// `list NET`: the stored networks inside it.
+    List { net: IpNet },
+    /// `from NET N`: at most N stored networks of its family, 1 to 1000, that don't come before it.
+    PageFrom { net: IpNet, limit: u16 },
+    /// `after NET N`: the same of those that come after it.
+    PageAfter { net: IpNet, limit: u16 },
+    /// `own NUMBER`: the blocks of the flat list with this hop.
+    Own { number: u32 },
+    /// `count`: how many networks are stored.
+    Count,
+    /// `flat`: the flat list.
+    Flat,
+}
+
+impl Command {
+    /// The command that the text of a line spells, without its line end: words in lower case with exactly one space
+    /// between each two, and nothing before or after them; decimal numbers without leading zeros. Takes no memory.
+    ///
+    /// # Errors
+    /// `NotALine` exactly where it spells none.
+    pub fn read(line: &[u8]) -> Result<Command, NotALine>
+        ensures { Parses IsCommand line.now result }
+    {
+        if let Some(route) = read_after::<(IpNet, Hop)>(line, b"add ") {
+            return Ok(Command::Add {
+                net: route.0,
+                hop: route.1,
+            });
+        }
+        if let Some(net) = read_after::<IpNet>(line, b"del ") {
+            return Ok(Command::Del { net });
+        }
+        if let Some(net) = read_after::<IpNet>(line, b"get ") {
+            return Ok(Command::Get { net });
+        }
+        if let Some(net) = read_after::<IpNet>(line, b"cover ") {
+            return Ok(Command::Cover { net });
+        }
+        if let Some(net) = read_after::<IpNet>(line, b"list ") {
+            return Ok(Command::List { net });
+        }
+        if let Some(page) = read_after::<(IpNet, Limit)>(line, b"from ") {
+            return Ok(Command::PageFrom {
+                net: page.0,
+                limit: page.1.n as u16,
+            });
+        }
+        if let Some(page) = read_after::<(IpNet, Limit)>(line, b"after ") {
+            return Ok(Command::PageAfter {
+                net: page.0,
+                limit: page.1.n as u16,
+            });
+        }
+        if let Some(number) = read_after::<Number>(line, b"own ") {
+            return Ok(Command::Own {
+                number: number.n as u32,
+            });
+        }
+        if line == b"count".as_slice() {
+            return Ok(Command::Count);
+        }
+        if line == b"flat".as_slice() {
+            return Ok(Command::Flat);
+        }
+        Err(NotALine)
+    }
+}

@@ -1,0 +1,168 @@
+//! What stands after the first word of a line: a word, or words with a space between each two.
+ghost use Rattle.std.specs.Prelude.{◌≡◌, ◌≢◌, ℕ, ◌^◌, ◌<◌, ◌≤◌, List, ◌∷◌, ◌++◌, All, IfSome, IfNone};
+ghost use Rattle.route_lines.specs.Phrase.{IsUnspaced, IsDecimal, Then, After, Gives, IsFree};
+ghost use Rattle.route_lines.specs.Words.{IsNet, IsHop};
+ghost use Rattle.route_lines.specs.Free as Free;
+ghost use Rattle.std.proofs.Common.{rules};
+
+use ipnet::IpNet;
+use itoa::Buffer;
+use route_table::Hop;
+use std::marker::Model;
+use std::str;
+
+// A text that is read as a whole.
+pub(crate) trait Phrase: Copy {
+    ghost spells: { List ℕ → Self → Type 0 };
+
+    fn read(s: &[u8]) -> Option<Self>
+        ensures { Gives spells s.now result };
+}
+
+// One without spaces.
+pub(crate) trait Word: Phrase {
+    ghost free: { IsFree Self.spells };
+}
+
+impl Phrase for IpNet {
+    ghost spells = { IsNet };
+
+    fn read(s: &[u8]) -> Option<IpNet> {
+        match IpNet::parse_ascii(s) {
+            Ok(net) => Some(net.trunc()),
+            Err(_) => None,
+        }
+    }
+}
+
+impl Word for IpNet {
+    ghost free = { Free.net };
+}
+
+// The number from `low` to `high` whose decimal text this is, without leading zeros.
+fn read_decimal(s: &[u8], low: u64, high: u64) -> Option<u64>
+    ensures { Gives (IsDecimal low high) s.now result }
+{
+    let Ok(text) = str::from_utf8(s) else {
+        return None;
+    };
+    let Ok(n) = text.parse::<u64>() else {
+        return None;
+    };
+    if n < low {
+        return None;
+    }
+    if n > high {
+        return None;
+    }
+    let mut buffer = Buffer::new();
+    if buffer.format(n).as_bytes() == s {
+        return Some(n);
+    }
+    None
+}
+
+// A number from LOW to HIGH.
+#[derive(Clone, Copy)]
+pub(crate) struct Decimal<const LOW: u64, const HIGH: u64> {
+    pub(crate) n: u64,
+}
+
+impl<const LOW: u64, const HIGH: u64> Model for Decimal<LOW, HIGH> {
+    ghost use Rattle.std.specs.Prelude.{ℕ, ◌≤◌};
+
+    ghost Value = { ℕ };
+
+    ghost view = { λ d. d.n };
+
+    ghost invariant = { λ d. d.n ≤ HIGH };
+
+    ghost inverse = { λ v. record { n = v } };
+
+    ghost inverse_ok = { λ n h i. n };
+}
+
+impl<const LOW: u64, const HIGH: u64> Phrase for Decimal<LOW, HIGH> {
+    ghost spells = { IsDecimal LOW HIGH };
+
+    fn read(s: &[u8]) -> Option<Decimal<LOW, HIGH>> {
+        match read_decimal(s, LOW, HIGH) {
+            Some(n) => Some(Decimal { n }),
+            None => None,
+        }
+    }
+}
+
+impl<const LOW: u64, const HIGH: u64> Word for Decimal<LOW, HIGH> {
+    ghost free = { Free.decimal_word LOW HIGH (Prim.search rules) };
+}
+
+pub(crate) type Number = Decimal<0, 0xffff_ffff>;
+pub(crate) type Limit = Decimal<1, 1000>;
+pub(crate) type Count = Decimal<0, 0xffff_ffff_ffff_ffff>;
+
+impl Phrase for Hop {
+    ghost spells = { IsHop };
+
+    fn read(s: &[u8]) -> Option<Hop> {
+        if s == b"drop".as_slice() {
+            return Some(Hop::Drop);
+        }
+        match read_decimal(s, 0, 0xffff_ffff) {
+            Some(n) => Some(Hop::Number(n as u32)),
+            None => None,
+        }
+    }
+}
+
+impl Word for Hop {
+    ghost free = { Free.hop };
+}
+
+// What stands before and after the first space.
+fn split_word(s: &[u8]) -> Option<(&[u8], &[u8])>
+    ensures some { IfSome result (λ p. (s.now ≡ p.0.now ++ 32 ∷ p.1.now) × IsUnspaced p.0.now) }
+    ensures none { IfNone result (IsUnspaced s.now) }
+{
+    for (i, c) in s.iter().enumerate() {
+        if *c == b' ' {
+            return Some((&s[..i], &s[i + 1..]));
+        }
+    }
+    None
+}
+
+impl<A: Word, B: Phrase> Phrase for (A, B) {
+    ghost spells = { Then A.spells B.spells };
+
+    fn read(s: &[u8]) -> Option<(A, B)> {
+        let Some((front, back)) = split_word(s) else {
+            return None;
+        };
+        let Some(first) = A::read(front) else {
+            return None;
+        };
+        let Some(second) = B::read(back) else {
+            return None;
+        };
+        Some((first, second))
+    }
+}
+
+// What stands after the prefix.
+fn after<'a>(s: &'a [u8], prefix: &[u8]) -> Option<&'a [u8]>
+    ensures some { IfSome result (λ rest. s.now ≡ prefix.now ++ rest.now) }
+    ensures none { IfNone result ((rest : List ℕ) → s.now ≢ prefix.now ++ rest) }
+{
+    s.strip_prefix(prefix)
+}
+
+// The phrase after the prefix.
+pub(crate) fn read_after<P: Phrase>(line: &[u8], prefix: &[u8]) -> Option<P>
+    ensures { Gives (After prefix.now P.spells) line.now result }
+{
+    let Some(rest) = after(line, prefix) else {
+        return None;
+    };
+    P::read(rest)
+}

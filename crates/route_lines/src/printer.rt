@@ -1,0 +1,60 @@
+//! Each `push_` function appends a word, for which there must be room.
+ghost use Rattle.std.specs.Prelude.{◌≡◌, ◌+◌, ◌<◌, ◌≤◌, ◌^◌, ◌++◌, length, decimal};
+ghost use Rattle.arrayvec.specs.ArrayVec.{array_vec_len};
+ghost use Rattle.ipnet.specs.IpNetText.{net_text, Reads};
+ghost use Rattle.route_lines.specs.Texts.{hop_text};
+ghost use Rattle.route_lines.specs.Words.{IsHop};
+
+use arrayvec::ArrayVec;
+use ipnet::IpNet;
+use itoa::Buffer;
+use route_table::Hop;
+
+pub(crate) fn push_all<const N: usize>(out: &mut ArrayVec<u8, N>, bytes: &[u8])
+    requires { array_vec_len out.old + length bytes.now ≤ N }
+    ensures bytes { out.new.items ≡ out.old.items ++ bytes.now }
+    ensures len { array_vec_len out.new ≡ array_vec_len out.old + length bytes.now }
+{
+    let _ = out.try_extend_from_slice(bytes);
+}
+
+pub(crate) fn push_net<const N: usize>(out: &mut ArrayVec<u8, N>, net: &IpNet)
+    requires { array_vec_len out.old + 43 ≤ N }
+    ensures bytes { out.new.items ≡ out.old.items ++ net_text net.now }
+    ensures len { array_vec_len out.new ≤ array_vec_len out.old + 43 }
+    ensures reads { Reads (net_text net.now) net.now }
+{
+    let text = net.to_text();
+    push_all(out, text.as_slice());
+}
+
+pub(crate) fn push_u64<const N: usize>(out: &mut ArrayVec<u8, N>, n: u64)
+    requires { array_vec_len out.old + 20 ≤ N }
+    ensures bytes { out.new.items ≡ out.old.items ++ decimal n }
+    ensures len { array_vec_len out.new ≤ array_vec_len out.old + 20 }
+{
+    let mut buffer = Buffer::new();
+    push_all(out, buffer.format(n).as_bytes());
+}
+
+pub(crate) fn push_u32<const N: usize>(out: &mut ArrayVec<u8, N>, n: u32)
+    requires { array_vec_len out.old + 10 ≤ N }
+    ensures bytes { out.new.items ≡ out.old.items ++ decimal n }
+    ensures len { array_vec_len out.new ≤ array_vec_len out.old + 10 }
+    ensures fits { n ≤ 0xffffffff }
+{
+    let mut buffer = Buffer::new();
+    push_all(out, buffer.format(n).as_bytes());
+}
+
+pub(crate) fn push_hop<const N: usize>(out: &mut ArrayVec<u8, N>, hop: Hop)
+    requires { array_vec_len out.old + 10 ≤ N }
+    ensures bytes { out.new.items ≡ out.old.items ++ hop_text hop }
+    ensures len { array_vec_len out.new ≤ array_vec_len out.old + 10 }
+    ensures reads { IsHop (hop_text hop) hop }
+{
+    match hop {
+        Hop::Number(n) => push_u32(out, n),
+        Hop::Drop => push_all(out, b"drop"),
+    }
+}

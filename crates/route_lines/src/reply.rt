@@ -1,0 +1,174 @@
+//! Reply lines.
+ghost use Rattle.std.specs.Prelude.{◌≡◌, ◌≢◌, ◌≤◌, ◌++◌, length, codes, All};
+ghost use Rattle.std.specs.Net.Grammar.{Parses};
+ghost use Rattle.route_lines.specs.Phrase.{Gives};
+ghost use Rattle.route_lines.specs.Texts.{IsReply, closing_text, reply_text, IsPrintable};
+
+use crate::NotALine;
+use crate::phrase::{Count, Number, read_after};
+use crate::printer::{push_all, push_hop, push_net, push_u32, push_u64};
+use arrayvec::ArrayVec;
+use ipnet::IpNet;
+use route_table::Hop;
+
+/// One line of a reply.
+#[derive(Clone, Copy, PartialEq, Eq)]
+pub enum Reply {
+    /// `set NET NUMBER`: the block's addresses go to this hop from now on.
+    Set { net: IpNet, number: u32 },
+    /// `unset NET`: the block's addresses have no hop from now on.
+    Unset { net: IpNet },
+    /// `route NET HOP`: a stored network.
+    Route { net: IpNet, hop: Hop },
+    /// `flat NET NUMBER`: a block of the flat list.
+    Flat { net: IpNet, number: u32 },
+    /// `own NET`: a block of the hop that was asked for.
+    Own { net: IpNet },
+    /// `count V4 V6`: how many networks of each family are stored.
+    Count { v4: u64, v6: u64 },
+    /// The line that ends a reply.
+    Close(Closing),
+}
+
+/// How a reply ends.
+#[derive(Clone, Copy, PartialEq, Eq)]
+pub enum Closing {
+    /// `ok`: the command was carried out.
+    Done,
+    /// `none`: there is no such network.
+    Missing,
+    /// `bad`: the line is no command.
+    Bad,
+    /// `refused`: there was no memory for it, and nothing has changed.
+    Refused,
+}
+
+impl Closing {
+    fn read(line: &[u8]) -> Option<Closing>
+        ensures { Gives (λ text c. text ≡ closing_text c) line.now result }
+    {
+        if line == b"ok".as_slice() {
+            return Some(Closing::Done);
+        }
+        if line == b"none".as_slice() {
+            return Some(Closing::Missing);
+        }
+        if line == b"bad".as_slice() {
+            return Some(Closing::Bad);
+        }
+        if line == b"refused".as_slice() {
+            return Some(Closing::Refused);
+        }
+        None
+    }
+}
+
+impl Reply {
+    /// The reply line that the text spells, without its line end. Host bits of its network are cleared. Takes no memory.
+    ///
+    /// # Errors
+    /// `NotALine` exactly where it spells none.
+    pub fn read(line: &[u8]) -> Result<Reply, NotALine>
+        ensures { Parses IsReply line.now result }
+    {
+        if let Some(change) = read_after::<(IpNet, Number)>(line, b"set ") {
+            return Ok(Reply::Set {
+                net: change.0,
+                number: change.1.n as u32,
+            });
+        }
+        if let Some(net) = read_after::<IpNet>(line, b"unset ") {
+            return Ok(Reply::Unset { net });
+        }
+        if let Some(route) = read_after::<(IpNet, Hop)>(line, b"route ") {
+            return Ok(Reply::Route {
+                net: route.0,
+                hop: route.1,
+            });
+        }
+        if let Some(block) = read_after::<(IpNet, Number)>(line, b"flat ") {
+            return Ok(Reply::Flat {
+                net: block.0,
+                number: block.1.n as u32,
+            });
+        }
+        if let Some(net) = read_after::<IpNet>(line, b"own ") {
+            return Ok(Reply::Own { net });
+        }
+        if let Some(counts) = read_after::<(Count, Count)>(line, b"count ") {
+            return Ok(Reply::Count {
+                v4: counts.0.n,
+                v6: counts.1.n,
+            });
+        }
+        if let Some(closing) = Closing::read(line) {
+            return Ok(Reply::Close(closing));
+        }
+        Err(NotALine)
+    }
+}
+
+impl Closing {
+    fn word(self) -> &'static [u8]
+        ensures text { result.now ≡ closing_text self }
+        ensures len { length result.now ≤ 7 }
+    {
+        match self {
+            Closing::Done => b"ok",
+            Closing::Missing => b"none",
+            Closing::Bad => b"bad",
+            Closing::Refused => b"refused",
+        }
+    }
+}
+
+impl Reply {
+    /// The one text of the line, with its line end; it reads as this line. Its network, if it has one, must have no
+    /// host bits. Takes no memory.
+    pub fn print(&self) -> ArrayVec<u8, 80>
+        requires { IsPrintable self.now }
+        ensures text { result.items ≡ reply_text self.now ++ codes "\n" }
+        ensures reads { IsReply (reply_text self.now) self.now }
+        ensures one_line { All (λ c. c ≢ 10) (reply_text self.now) }
+        ensures len { length result.items ≤ 61 }
+    {
+        let mut out = ArrayVec::new();
+        match self {
+            Reply::Set { net, number } => {
+                push_all(&mut out, b"set ");
+                push_net(&mut out, net);
+                push_all(&mut out, b" ");
+                push_u32(&mut out, *number);
+            }
+            Reply::Unset { net } => {
+                push_all(&mut out, b"unset ");
+                push_net(&mut out, net);
+            }
+            Reply::Route { net, hop } => {
+                push_all(&mut out, b"route ");
+                push_net(&mut out, net);
+                push_all(&mut out, b" ");
+                push_hop(&mut out, *hop);
+            }
+            Reply::Flat { net, number } => {
+                push_all(&mut out, b"flat ");
+                push_net(&mut out, net);
+                push_all(&mut out, b" ");
+                push_u32(&mut out, *number);
+            }
+            Reply::Own { net } => {
+                push_all(&mut out, b"own ");
+                push_net(&mut out, net);
+            }
+            Reply::Count { v4, v6 } => {
+                push_all(&mut out, b"count ");
+                push_u64(&mut out, *v4);
+                push_all(&mut out, b" ");
+                push_u64(&mut out, *v6);
+            }
+            Reply::Close(closing) => push_all(&mut out, closing.word()),
+        }
+        out.push(b'\n');
+        out
+    }
+}
