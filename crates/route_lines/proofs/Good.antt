@@ -54,7 +54,7 @@ pub number : (low high count : ℕ) → 0 < count → high < 2 ^ 64 → high < 1
 number low high count some small fits = record {
   one = λ t a b h k. decimal_injective a b (omega (arith, h.2)) (omega (arith, k.2)) (sym h.0 ∙ k.0);
   short = λ t a h. omega (arith, ap length h.0, length-decimal-le count a some (omega (arith, h.2)) (omega (arith, h.2)));
-  clean = λ t a h. rw h.0 (digits (decimal a) (decimal_is_IsNumeral a (omega (arith, h.2))).0.1)
+  clean = λ t a h. rw h.0 (digits (decimal a) (decimal_is_IsNumeral a (omega (arith, h.2))).0.1);
 }
 
 pub u32 : Good IsNumber 10
@@ -90,14 +90,14 @@ then {A} {B} {P} {Q} {m} {n} free p q = record {
       let second : x.1 ≡ y.1 = q.one k.back x.1 y.1 (subst (λ s. Q s x.1) same.1 h.second) k.second in
       ap₂ (λ a b. (a, b)) first second;
   short = λ t x h. omega (arith, ap length h.spelled, length-append (h.front ++ codes " ") h.back, length-append h.front (codes " "), p.short h.front x.0 h.first, q.short h.back x.1 h.second);
-  clean = λ t x h. rw h.spelled (and (h.front ++ codes " ") h.back (and h.front (codes " ") (p.clean h.front x.0 h.first) (written (codes " ") refl)) (q.clean h.back x.1 h.second))
+  clean = λ t x h. rw h.spelled (and (h.front ++ codes " ") h.back (and h.front (codes " ") (p.clean h.front x.0 h.first) (written (codes " ") refl)) (q.clean h.back x.1 h.second));
 }
 
 pub after : {A : Type 0} {P : List ℕ → A → Type 0} {n : ℕ} (prefix : List ℕ) (limit : ℕ) → list_all (ltb 10) prefix ≡ true → length prefix + n ≤ limit → Good P n → Good (After prefix P) limit
 after {A} {P} {n} prefix limit e within p = record {
   one = λ t x y h k. (let same : h.rest ≡ k.rest = append_cancel_left prefix h.rest k.rest (sym h.spelled ∙ k.spelled) in p.one k.rest x y (subst (λ s. P s x) same h.phrase) k.phrase);
   short = λ t x h. omega (arith, within, ap length h.spelled, length-append prefix h.rest, p.short h.rest x h.phrase);
-  clean = λ t x h. rw h.spelled (and prefix h.rest (written prefix e) (p.clean h.rest x h.phrase))
+  clean = λ t x h. rw h.spelled (and prefix h.rest (written prefix e) (p.clean h.rest x h.phrase));
 }
 
 -- the first three bytes

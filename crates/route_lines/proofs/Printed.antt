@@ -1,6 +1,8 @@
 -- What is printed reads as that reply line.
 use Rattle.std.proofs.Common.{◌≡◌, ℕ, ◌≤◌, List, ◌++◌, codes, decimal, refl, arith}
+use Rattle.std.proofs.Common.{sym, ap, ◌∙◌}
 use Rattle.std.specs.Prelude.{⊤}
+use Rattle.route_table.proofs.Gaps.{of_network_at}
 use Rattle.ipnet.specs.IpNetText.{net_text, Reads}
 use Rattle.ipnet.specs.IpNets.{block}
 use Rattle.route_table.specs.Stored.{network_at}
@@ -33,3 +35,16 @@ prints (R.Flat net n) block w = record { rest = net_text net ++ codes " " ++ dec
 prints (R.Own net) block w = record { rest = net_text net; spelled = refl; phrase = (net, w, block) }
 prints (R.Count v4 v6) block w = record { rest = decimal v4 ++ codes " " ++ decimal v6; spelled = refl; phrase = then (decimal v4) (decimal v6) (v4, v6) (refl, omega arith, w.0) (refl, omega arith, w.1) }
 prints (R.Close closing) block w = refl
+
+-- what is read has no host bits
+cut : (text : List ℕ) (net : IpNet) → IsNet text net → net ≡ network_at (block net)
+cut text net h = h.2 ∙ ap network_at (sym (ap block h.2 ∙ of_network_at (block h.0)))
+
+pub printable : (text : List ℕ) (r : Reply) → IsReply text r → IsPrintable r
+printable text (R.Set net n) h = cut h.phrase.front net h.phrase.first
+printable text (R.Unset net) h = cut h.rest net h.phrase
+printable text (R.Route net hop) h = cut h.phrase.front net h.phrase.first
+printable text (R.Flat net n) h = cut h.phrase.front net h.phrase.first
+printable text (R.Own net) h = cut h.rest net h.phrase
+printable text (R.Count v4 v6) h = tt
+printable text (R.Close closing) h = tt

@@ -2,7 +2,7 @@
 ghost use Rattle.std.specs.Prelude.{◌≡◌, ◌≢◌, ◌≤◌, ℕ, List, [], ◌∷◌, ◌++◌, All, length};
 ghost use Rattle.std.specs.List.{flat_map};
 ghost use Rattle.route_lines.specs.Bytes.{lines, rest};
-ghost use Rattle.route_lines.specs.Texts.{IsCommand, IsReply};
+ghost use Rattle.route_lines.specs.Texts.{IsCommand, IsPrintable, IsReply};
 ghost use Rattle.route_lines.specs.declared.command.Command.{Command};
 ghost use Rattle.route_lines.specs.declared.reply.Reply.{Reply};
 ghost use Rattle.route_lines.specs.Lines.{kept_of, answers, fed_all, rest_in, rest_of, lines_of};
@@ -29,9 +29,10 @@ pub fn commands()
     ensures clean { (text : List ℕ) (a : Command) → IsCommand text a → All (λ c. c ≢ 10) text }
 {}
 
-/// No text spells two reply lines, none has more than 68 bytes, and none has a line end.
+/// No text spells two reply lines, none has more than 68 bytes, and none has a line end. What is read can be printed.
 pub fn replies()
     ensures one { (text : List ℕ) (a b : Reply) → IsReply text a → IsReply text b → a ≡ b }
     ensures short { (text : List ℕ) (a : Reply) → IsReply text a → length text ≤ 68 }
     ensures clean { (text : List ℕ) (a : Reply) → IsReply text a → All (λ c. c ≢ 10) text }
+    ensures printable { (text : List ℕ) (a : Reply) → IsReply text a → IsPrintable a }
 {}

@@ -19,3 +19,5 @@ mod printer;
 mod reply;
 #[cfg(test)]
 mod tests;
+#[cfg(test)]
+mod text_tests;

@@ -98,7 +98,9 @@ impl<const LOW: u64, const HIGH: u64> Word for Decimal<LOW, HIGH> {
 }
 
 pub(crate) type Number = Decimal<0, 0xffff_ffff>;
+
 pub(crate) type Limit = Decimal<1, 1000>;
+
 pub(crate) type Count = Decimal<0, 0xffff_ffff_ffff_ffff>;
 
 impl Phrase for Hop {

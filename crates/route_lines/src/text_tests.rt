@@ -1,0 +1,92 @@
+//! Texts as rows: what is read, and what is printed again.
+use crate::{Closing, Command, Reply};
+use route_table::Hop;
+use std::process::Abort;
+
+/// The text spells a reply line, which is printed so; or none, where nothing is expected.
+fn printed(rt: &impl Abort, text: &str, expected: &str) {
+    match Reply::read(text.as_bytes()) {
+        Ok(reply) => assert_eq!(rt; reply.print().as_slice(), expected.as_bytes()),
+        Err(_) => assert_eq!(rt; expected, ""),
+    }
+}
+
+#[test]
+fn replies(rt: HostRuntime) {
+    for (text, expected) in [
+        ("set 10.1.2.3/08 5", "set 10.0.0.0/8 5\n"),
+        ("set 10.1.2.3/8 05", ""),
+        ("set 10.1.2.3/8  5", ""),
+        ("set 10.1.2.3/8 5 ", ""),
+        ("unset FFFF::1/16", "unset ffff::/16\n"),
+        ("unset FFFF::1/0", "unset ::/0\n"),
+        ("route 1.2.3.4/32 drop", "route 1.2.3.4/32 drop\n"),
+        (
+            "route 1.2.3.4/31 4294967295",
+            "route 1.2.3.4/31 4294967295\n",
+        ),
+        ("route 1.2.3.4/31 4294967296", ""),
+        ("flat 1.2.3.4/0 0", "flat 0.0.0.0/0 0\n"),
+        ("own 1.2.3.4/32", "own 1.2.3.4/32\n"),
+        (
+            "count 0 18446744073709551615",
+            "count 0 18446744073709551615\n",
+        ),
+        ("count 0 18446744073709551616", ""),
+        ("ok", "ok\n"),
+        ("none", "none\n"),
+        ("bad", "bad\n"),
+        ("refused", "refused\n"),
+        ("ok ", ""),
+        ("", ""),
+    ] {
+        printed(&rt, text, expected);
+    }
+}
+
+#[test]
+fn commands(rt: HostRuntime) {
+    for (text, expected) in [
+        ("add 10.0.0.0/8 drop", true),
+        ("add 10.0.0.0/8 4294967295", true),
+        ("add 10.0.0.0/8 4294967296", false),
+        ("add 10.0.0.0/8 007", false),
+        ("add 10.0.0.0/8 +1", false),
+        ("add 10.0.0.0/8", false),
+        ("add 10.0.0.0 1", false),
+        ("add 10.0.0.0/33 1", false),
+        ("del 10.0.0.0/8", true),
+        (" del 10.0.0.0/8", false),
+        ("get 2001:DB8::/32", true),
+        ("cover 10.0.0.0/8", true),
+        ("list 10.0.0.0/8", true),
+        ("list  10.0.0.0/8", false),
+        ("from ::/0 1000", true),
+        ("from ::/0 0", false),
+        ("from 10.0.0.0/8 1001", false),
+        ("after ::/0 1", true),
+        ("own 7", true),
+        ("own drop", false),
+        ("count", true),
+        ("count ", false),
+        ("flat", true),
+        ("flat\r", false),
+        ("Flat", false),
+        ("", false),
+    ] {
+        assert_eq!(rt; Command::read(text.as_bytes()).is_ok(), expected);
+    }
+}
+
+#[test]
+fn values(rt: HostRuntime) {
+    let Ok(Command::Add { net, hop }) = Command::read(b"add 10.1.2.3/8 7") else {
+        panic!(&rt; "no command")
+    };
+    assert_eq!(rt; net.to_text().as_slice(), "10.0.0.0/8".as_bytes());
+    assert_eq!(rt; hop, Hop::Number(7));
+    assert_eq!(rt;
+        Reply::Close(Closing::Missing).print().as_slice(),
+        "none\n".as_bytes()
+    );
+}
