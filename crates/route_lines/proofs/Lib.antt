@@ -5,3 +5,4 @@ pub mod Commands
 pub mod Replies
 pub mod Exits
 pub mod Printed
+pub mod Spells

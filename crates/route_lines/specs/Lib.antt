@@ -5,3 +5,4 @@ pub mod Phrase
 pub mod Words
 pub mod Texts
 pub mod Free
+pub mod Spelled

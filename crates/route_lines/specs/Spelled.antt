@@ -1,0 +1,78 @@
+-- The line that a text spells, as a function of the text.
+use Rattle.std.specs.Prelude.{ℕ, ◌&&◌, ◌==◌, nat_le, if◌then◌else◌, List, [], ◌∷◌, take, drop, length, codes, decimal, Option, Some, None, option_map, option_and_then}
+use Rattle.std.specs.Str.{bytes_eq}
+use Rattle.std.specs.Str.Parse.{digits_value}
+use Rattle.ipnet.specs.IpNets.{block}
+use Rattle.ipnet.specs.IpNetText.{ip_net_of}
+use Rattle.ipnet.specs.declared.ip_net.IpNet.{IpNet}
+use Rattle.route_table.specs.Stored.{network_at}
+use Rattle.route_table.specs.declared.hop.Hop.{Hop}
+use Rattle.route_table.specs.declared.hop.Hop.TheVariants.{Number, Drop}
+use Rattle.route_lines.specs.declared.command.Command.{Command}
+use Rattle.route_lines.specs.declared.command.Command.TheVariants as C
+use Rattle.route_lines.specs.declared.reply.Closing.{Closing}
+use Rattle.route_lines.specs.declared.reply.Closing.TheVariants.{Done, Missing, Bad, Refused}
+use Rattle.route_lines.specs.declared.reply.Reply.{Reply}
+use Rattle.route_lines.specs.declared.reply.Reply.TheVariants as R
+
+-- what stands before and after the first space
+abbrev pub split : List ℕ → Option (List ℕ × List ℕ)
+split [] = None
+split (c ∷ cs) = if c == 32 then Some ([], cs) else option_map (λ p. (c ∷ p.0, p.1)) (split cs)
+
+-- the network without host bits
+abbrev pub net_of_text : List ℕ → Option IpNet
+net_of_text s = option_map (λ n. network_at (block n)) (ip_net_of s)
+
+-- the number from low to high
+abbrev pub number_of_text : ℕ → ℕ → List ℕ → Option ℕ
+number_of_text low high s = if bytes_eq s (decimal (digits_value 10 s)) && nat_le low (digits_value 10 s) && nat_le (digits_value 10 s) high then Some (digits_value 10 s) else None
+
+abbrev pub hop_of_text : List ℕ → Option Hop
+hop_of_text s = if bytes_eq s (codes "drop") then Some Drop else option_map Number (number_of_text 0 0xffffffff s)
+
+-- the value of this text alone
+abbrev pub of_word : {A : Type 0} → List ℕ → A → List ℕ → Option A
+of_word word x s = if bytes_eq s word then Some x else None
+
+-- two values with a space between them
+abbrev pub of_both : {A B : Type 0} → (List ℕ → Option A) → (List ℕ → Option B) → List ℕ → Option (A × B)
+of_both f g s = option_and_then (λ p. option_and_then (λ a. option_map (λ b. (a, b)) (g p.1)) (f p.0)) (split s)
+
+-- the value after a prefix
+abbrev pub after_prefix : {A : Type 0} → List ℕ → (List ℕ → Option A) → List ℕ → Option A
+after_prefix prefix f s = if bytes_eq (take (length prefix) s) prefix then f (drop (length prefix) s) else None
+
+-- the first of two, or else the second
+abbrev pub or_else : {A : Type 0} → Option A → Option A → Option A
+or_else (Some a) o = Some a
+or_else None o = o
+
+-- the command
+unfoldable pub command_of : List ℕ → Option Command
+command_of s =
+    or_else (option_map (λ x. C.Add x.0 x.1) (after_prefix (codes "add ") (of_both net_of_text hop_of_text) s))
+    (or_else (option_map C.Del (after_prefix (codes "del ") net_of_text s))
+    (or_else (option_map C.Get (after_prefix (codes "get ") net_of_text s))
+    (or_else (option_map C.Cover (after_prefix (codes "cover ") net_of_text s))
+    (or_else (option_map C.List (after_prefix (codes "list ") net_of_text s))
+    (or_else (option_map (λ x. C.PageFrom x.0 x.1) (after_prefix (codes "from ") (of_both net_of_text (number_of_text 1 1000)) s))
+    (or_else (option_map (λ x. C.PageAfter x.0 x.1) (after_prefix (codes "after ") (of_both net_of_text (number_of_text 1 1000)) s))
+    (or_else (option_map C.Own (after_prefix (codes "own ") (number_of_text 0 0xffffffff) s))
+    (or_else (of_word (codes "count") C.Count s)
+    (of_word (codes "flat") C.Flat s)))))))))
+
+-- the line that closes a reply
+abbrev pub closing_of : List ℕ → Option Closing
+closing_of s = or_else (of_word (codes "ok") Done s) (or_else (of_word (codes "none") Missing s) (or_else (of_word (codes "bad") Bad s) (of_word (codes "refused") Refused s)))
+
+-- the reply line
+unfoldable pub reply_of : List ℕ → Option Reply
+reply_of s =
+    or_else (option_map (λ x. R.Set x.0 x.1) (after_prefix (codes "set ") (of_both net_of_text (number_of_text 0 0xffffffff)) s))
+    (or_else (option_map R.Unset (after_prefix (codes "unset ") net_of_text s))
+    (or_else (option_map (λ x. R.Route x.0 x.1) (after_prefix (codes "route ") (of_both net_of_text hop_of_text) s))
+    (or_else (option_map (λ x. R.Flat x.0 x.1) (after_prefix (codes "flat ") (of_both net_of_text (number_of_text 0 0xffffffff)) s))
+    (or_else (option_map R.Own (after_prefix (codes "own ") net_of_text s))
+    (or_else (option_map (λ x. R.Count x.0 x.1) (after_prefix (codes "count ") (of_both (number_of_text 0 0xffffffffffffffff) (number_of_text 0 0xffffffffffffffff)) s))
+    (option_map R.Close (closing_of s)))))))
