@@ -1,77 +1,158 @@
 //! One line answered.
-ghost use Rattle.std.specs.Prelude.{◌<◌, ◌-◌, ◌^◌, Some};
+ghost use Rattle.std.specs.Prelude.{◌≡◌, ◌≢◌, ◌<◌, ◌-◌, ◌^◌, [], ◌∷◌, ◌++◌, List, Some, map};
+ghost use Rattle.ipnet.specs.IpNets.{block};
+ghost use Rattle.ipnet_blocks.specs.Blocks.{Block};
+ghost use Rattle.ipnet_blocks.specs.Maximal.{IsMaximal};
 ghost use Rattle.route_feed.specs.Commands.{command_in};
 ghost use Rattle.route_feed.specs.Counted.{faults_of};
-ghost use Rattle.route_feed.specs.Run.{Answers};
+ghost use Rattle.route_feed.specs.Replies.{reply_line, printed};
+ghost use Rattle.route_feed.specs.Run.{Answers, Writes};
+ghost use Rattle.route_feed.specs.Steps.{change_line, route_line};
+ghost use Rattle.route_lines.specs.Texts.{IsPrintable};
+ghost use Rattle.route_table.specs.Tables as table_of;
 
-use crate::command::{Command, command_in};
 use crate::counted::Counted;
-use crate::deny_list::DenyList;
 use crate::error::RunError;
-use crate::reply::{Closing, Reply};
-use crate::writing::{close, write_and_close};
-use ipnet::Ipv4Net;
-use route_lines::Line;
+use crate::writing::{Held, finish, hold, hold_changes, hold_routes};
+use ipnet::IpNet;
+use route_lines::{Closing, Command, Line, Reply};
+use route_table::{Hop, RouteTable, Routes};
 use std::io::Write;
 
 /// Answers a line.
 pub fn answer<W: Write>(
-    list: &mut DenyList,
+    table: &mut RouteTable,
     line: &Line,
     writer: &mut Counted<W>,
 ) -> Result<(), RunError>
     requires { faults_of writer.old < 2 ^ 64 - 1 }
-    ensures { Answers W.contents list.old list.new (command_in line.now) writer.old writer.new result }
+    ensures { Answers W.contents table.old table.new (command_in line.now) writer.old writer.new result }
 {
-    let Some(command) = command_in(line) else {
+    let Line::Text(text) = line else {
         return close(writer, Closing::Bad);
     };
+    let Ok(command) = Command::read(text.as_slice()) else {
+        return close(writer, Closing::Bad);
+    };
+    answer_command(table, command, writer)
+}
+
+fn answer_command<W: Write>(
+    table: &mut RouteTable,
+    command: Command,
+    writer: &mut Counted<W>,
+) -> Result<(), RunError>
+    requires { faults_of writer.old < 2 ^ 64 - 1 }
+    ensures { Answers W.contents table.old table.new (Some command) writer.old writer.new result }
+{
     match command {
-        Command::Add { net } => answer_add(list, net, writer),
-        Command::Del { net } => answer_del(list, net, writer),
-        Command::Get { net } => answer_get(list, net, writer),
+        Command::Add { net, hop } => answer_add(table, net, hop, writer),
+        Command::Del { net } => answer_del(table, net, writer),
+        Command::Get { net } => answer_get(table, net, writer),
+        Command::List { net } => tell_routes(table.list(&net), writer),
+        _ => close(writer, Closing::Bad),
     }
 }
 
 fn answer_add<W: Write>(
-    list: &mut DenyList,
-    net: Ipv4Net,
+    table: &mut RouteTable,
+    net: IpNet,
+    hop: Hop,
     writer: &mut Counted<W>,
 ) -> Result<(), RunError>
     requires { faults_of writer.old < 2 ^ 64 - 1 }
-    ensures { Answers W.contents list.old list.new (Some (Command.Add net)) writer.old writer.new result }
+    ensures { Answers W.contents table.old table.new (Some (Command.Add net hop)) writer.old writer.new result }
 {
-    match list.add(&net) {
-        Ok(()) => close(writer, Closing::Done),
+    table.is_table();
+    match table.add(net, hop) {
+        Ok((before, after)) => tell_change(table, &net, before, after, writer),
         Err(_) => close(writer, Closing::Refused),
     }
 }
 
 fn answer_del<W: Write>(
-    list: &mut DenyList,
-    net: Ipv4Net,
+    table: &mut RouteTable,
+    net: IpNet,
     writer: &mut Counted<W>,
 ) -> Result<(), RunError>
     requires { faults_of writer.old < 2 ^ 64 - 1 }
-    ensures { Answers W.contents list.old list.new (Some (Command.Del net)) writer.old writer.new result }
+    ensures { Answers W.contents table.old table.new (Some (Command.Del net)) writer.old writer.new result }
 {
-    if list.del(&net) {
-        close(writer, Closing::Done)
-    } else {
-        close(writer, Closing::Missing)
+    table.is_table();
+    match table.del(&net) {
+        Some((before, after)) => tell_change(table, &net, before, after, writer),
+        None => close(writer, Closing::Missing),
     }
 }
 
 fn answer_get<W: Write>(
-    list: &DenyList,
-    net: Ipv4Net,
+    table: &RouteTable,
+    net: IpNet,
     writer: &mut Counted<W>,
 ) -> Result<(), RunError>
     requires { faults_of writer.old < 2 ^ 64 - 1 }
-    ensures { Answers W.contents list.now list.now (Some (Command.Get net)) writer.old writer.new result }
+    ensures { Answers W.contents table.now table.now (Some (Command.Get net)) writer.old writer.new result }
 {
-    match list.get(&net) {
+    match table.get(&net) {
         None => close(writer, Closing::Missing),
-        Some(stored) => write_and_close(writer, Reply::Route { net: stored }, Closing::Done),
+        Some(route) => tell_line(
+            Reply::Route {
+                net: route.0,
+                hop: route.1,
+            },
+            writer,
+        ),
     }
+}
+
+/// Closes a reply without other lines.
+pub fn close<W: Write>(writer: &mut Counted<W>, closing: Closing) -> Result<(), RunError>
+    requires { faults_of writer.old < 2 ^ 64 - 1 }
+    ensures { Writes W.contents writer.old writer.new result (printed (Reply.Close closing ∷ [])) }
+{
+    finish(Held::new(), writer, closing)
+}
+
+/// Replies with one line.
+fn tell_line<W: Write>(line: Reply, writer: &mut Counted<W>) -> Result<(), RunError>
+    requires faults { faults_of writer.old < 2 ^ 64 - 1 }
+    requires printable { IsPrintable line }
+    ensures { Writes W.contents writer.old writer.new result (printed (line ∷ Reply.Close Closing.Done ∷ [])) }
+{
+    let mut held = Held::new();
+    hold(&mut held, writer, &line)?;
+    finish(held, writer, Closing::Done)
+}
+
+/// Replies with a line for each route.
+fn tell_routes<W: Write>(routes: Routes<'_>, writer: &mut Counted<W>) -> Result<(), RunError>
+    requires { faults_of writer.old < 2 ^ 64 - 1 }
+    ensures { Writes W.contents writer.old writer.new result (printed (map route_line routes.entry ++ Reply.Close Closing.Done ∷ [])) }
+{
+    let mut held = Held::new();
+    hold_routes(&mut held, writer, routes)?;
+    finish(held, writer, Closing::Done)
+}
+
+/// Replies to a change of the network: with a line for each block that it governs, where its hop differs.
+fn tell_change<W: Write>(
+    table: &RouteTable,
+    net: &IpNet,
+    before: Option<u32>,
+    after: Option<u32>,
+    writer: &mut Counted<W>,
+) -> Result<(), RunError>
+    requires { faults_of writer.old < 2 ^ 64 - 1 }
+    ensures table { table_of.IsTable table.now }
+    ensures same { before ≡ after → Writes W.contents writer.old writer.new result (printed (Reply.Close Closing.Done ∷ [])) }
+    ensures differs { before ≢ after → (blocks : List Block) × IsMaximal (table_of.Governed table.now (block net.now)) blocks
+        × Writes W.contents writer.old writer.new result (printed (map (change_line after) blocks ++ Reply.Close Closing.Done ∷ [])) }
+{
+    table.is_table();
+    if before == after {
+        return close(writer, Closing::Done);
+    }
+    let mut held = Held::new();
+    hold_changes(&mut held, writer, table.governed(net), after)?;
+    finish(held, writer, Closing::Done)
 }

@@ -1,0 +1,16 @@
+use Rattle.std.proofs.Common.{ap}
+use Rattle.std.proofs.lemmas.Result.{err_from_is_err_and}
+use Rattle.route_lines.specs.declared.reply.Reply.TheVariants.{Route}
+use Rattle.route_feed.specs.Steps.{route_line}
+use Rattle.route_feed.proofs.Holding.{Told-more, Told-torn}
+use Rattle.route_feed.proofs.writing.hold_routes.Goals as goal
+
+pub loop-route-preserved : goal.loop-route-preserved
+loop-route-preserved g c =
+    Told-more g.W.Write.contents route_line c.args.writer.now c.loop-route.writer c.hold.new.writer _ _ _ _ c.loop-route.invariant _ _ _ _ c.in-Some.ensures.steps.0 (ap (λ n. Route n c.in-Some.route.1) c.in-Some.ensures.steps.1) c.in_ok-hold.ensures
+
+pub returns-in_err-hold : goal.returns-in_err-hold
+returns-in_err-hold g c =
+    let p = err_from_is_err_and c.from_residual.result c.from_residual.ensures.1 in
+    let q = c.in_err-hold.ensures in
+    rw (p.1, p.2) (q.0, Told-torn g.W.Write.contents route_line c.args.writer.now c.loop-route.writer c.hold.new.writer _ _ _ _ c.loop-route.invariant _ _ _ c.in-Some.ensures.steps.0 (ap (λ n. Route n c.in-Some.route.1) c.in-Some.ensures.steps.1) q.1)
