@@ -1,5 +1,5 @@
 pub mod Written
-pub mod Holding
+pub mod Telling
 pub mod Told
 pub mod Moving
 pub mod Running

@@ -37,17 +37,6 @@ module _ {W : Type 0} (contents : W → Option (List ℕ)) where
   Writes old new (Ok x) text = Written old new text
   Writes old new (Err e) text = (e ≡ Write) × Torn old new text
 
-  -- of what waited and then this text, all was written but what waits now
-  pub record Holding (old new : Counted W) (before text after : List ℕ) : Type 0 where
-    pub out : List ℕ
-    pub written : Written old new out
-    pub whole : before ++ text ≡ out ++ after
-
-  -- so it was, or a beginning of it was written and then the writer failed
-  abbrev pub Holds : {T : Type 0} → Counted W → Counted W → List ℕ → List ℕ → List ℕ → Result T RunError → Type 0
-  Holds old new before text after (Ok x) = Holding old new before text after
-  Holds old new before text after (Err e) = (e ≡ Write) × Torn old new (before ++ text)
-
   -- a command was answered, and the table went on, or the writer failed
   pub record Answers (M next : List Route) (command : Option Command) (old new : Counted W) (result : Result Unit RunError) : Type 0 where
     pub refusal : Bool

@@ -13,7 +13,7 @@ ghost use Rattle.route_table.specs.Tables as table_of;
 
 use crate::counted::Counted;
 use crate::error::RunError;
-use crate::writing::{Held, finish, hold, hold_changes, hold_routes};
+use crate::writing::{close, write_changes, write_line, write_routes};
 use ipnet::IpNet;
 use route_lines::{Closing, Command, Line, Reply};
 use route_table::{Hop, RouteTable, Routes};
@@ -105,23 +105,14 @@ fn answer_get<W: Write>(
     }
 }
 
-/// Closes a reply without other lines.
-pub fn close<W: Write>(writer: &mut Counted<W>, closing: Closing) -> Result<(), RunError>
-    requires { faults_of writer.old < 2 ^ 64 - 1 }
-    ensures { Writes W.contents writer.old writer.new result (printed (Reply.Close closing ∷ [])) }
-{
-    finish(Held::new(), writer, closing)
-}
-
 /// Replies with one line.
 fn tell_line<W: Write>(line: Reply, writer: &mut Counted<W>) -> Result<(), RunError>
     requires faults { faults_of writer.old < 2 ^ 64 - 1 }
     requires printable { IsPrintable line }
     ensures { Writes W.contents writer.old writer.new result (printed (line ∷ Reply.Close Closing.Done ∷ [])) }
 {
-    let mut held = Held::new();
-    hold(&mut held, writer, &line)?;
-    finish(held, writer, Closing::Done)
+    write_line(writer, &line)?;
+    close(writer, Closing::Done)
 }
 
 /// Replies with a line for each route.
@@ -129,9 +120,8 @@ fn tell_routes<W: Write>(routes: Routes<'_>, writer: &mut Counted<W>) -> Result<
     requires { faults_of writer.old < 2 ^ 64 - 1 }
     ensures { Writes W.contents writer.old writer.new result (printed (map route_line routes.entry ++ Reply.Close Closing.Done ∷ [])) }
 {
-    let mut held = Held::new();
-    hold_routes(&mut held, writer, routes)?;
-    finish(held, writer, Closing::Done)
+    write_routes(writer, routes)?;
+    close(writer, Closing::Done)
 }
 
 /// Replies to a change of the network: with a line for each block that it governs, where its hop differs.
@@ -152,7 +142,6 @@ fn tell_change<W: Write>(
     if before == after {
         return close(writer, Closing::Done);
     }
-    let mut held = Held::new();
-    hold_changes(&mut held, writer, table.governed(net), after)?;
-    finish(held, writer, Closing::Done)
+    write_changes(writer, table.governed(net), after)?;
+    close(writer, Closing::Done)
 }

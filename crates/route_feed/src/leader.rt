@@ -7,9 +7,10 @@ ghost use Rattle.route_feed.specs.Output.{output, whole};
 ghost use Rattle.route_feed.specs.Devices.{Gives, GivesPart, ReadFault};
 ghost use Rattle.route_feed.specs.Run.{table_of, output_from, replies_from, reply_at_end};
 
-use crate::answer::{answer, close};
+use crate::answer::answer;
 use crate::counted::Counted;
 use crate::error::RunError;
+use crate::writing::close;
 use route_lines::{Closing, LineCutter, Rest};
 use route_table::{Refused, RouteTable};
 use std::alloc::Global;
