@@ -17,3 +17,4 @@ pub mod Parts
 pub mod Gaps
 pub mod Governings
 pub mod Alterations
+pub mod Onwards

@@ -5,4 +5,5 @@ pub mod Bounds
 pub mod Stored
 pub mod Items
 pub mod Governing
+pub mod Onwards
 pub mod Laws

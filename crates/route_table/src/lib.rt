@@ -14,3 +14,4 @@ mod routes;
 mod table;
 #[cfg(test)]
 mod tests;
+mod walks;

@@ -15,7 +15,7 @@ ghost use Rattle.route_table.specs.Tables.{Governed as GovernedBy, IsHop, IsTabl
 
 use crate::governed::Governed;
 use crate::hop::Hop;
-use crate::routes::{Routes, Source};
+use crate::routes::{Entries, Routes, Source};
 use ipnet::{IpNet, Ipv4Net, Ipv6Net};
 use std::alloc::Global;
 use std::marker::Model;
@@ -27,8 +27,8 @@ use trie_map::{PrefixMap, Refused};
 /// ignored everywhere. Only `new` and an `add` of a network that is not stored take memory.
 #[derive(Drop)]
 pub struct RouteTable {
-    v4: PrefixMap<Ipv4Net, Hop>,
-    v6: PrefixMap<Ipv6Net, Hop>,
+    pub(crate) v4: PrefixMap<Ipv4Net, Hop>,
+    pub(crate) v6: PrefixMap<Ipv6Net, Hop>,
 }
 
 impl Model for RouteTable {
@@ -236,13 +236,13 @@ impl RouteTable {
     fn list_v4(&self, net: Ipv4Net) -> Routes<'_>
         ensures { result ≡ routes_inside self.now (block_of Ipv4 net) }
     {
-        Routes::new(Source::V4(self.v4.children(&net.trunc())))
+        Routes::new(Source::V4(Entries::Walk(self.v4.children(&net.trunc()))))
     }
 
     fn list_v6(&self, net: Ipv6Net) -> Routes<'_>
         ensures { result ≡ routes_inside self.now (block_of Ipv6 net) }
     {
-        Routes::new(Source::V6(self.v6.children(&net.trunc())))
+        Routes::new(Source::V6(Entries::Walk(self.v6.children(&net.trunc()))))
     }
 
     fn longest_v4(&self, net: Ipv4Net) -> Option<(Ipv4Net, Hop)>
