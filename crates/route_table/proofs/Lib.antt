@@ -18,3 +18,6 @@ pub mod Gaps
 pub mod Governings
 pub mod Alterations
 pub mod Onwards
+pub mod Overwritten
+pub mod Emptied
+pub mod Halves

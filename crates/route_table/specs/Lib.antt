@@ -6,4 +6,5 @@ pub mod Stored
 pub mod Items
 pub mod Governing
 pub mod Onwards
+pub mod Overwritten
 pub mod Laws

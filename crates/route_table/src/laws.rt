@@ -1,4 +1,5 @@
 //! Laws of tables: public functions without a body, whose contracts are the laws.
+ghost use Rattle.route_table.specs.Overwritten.{OverwriteIsTable, HopsOfOverwrite};
 ghost use Rattle.route_table.specs.Laws.{MatchIsLongest, GovernedMatch, GovernedBound, StaysTable, ChangedIsMaximal, AddedHaveOneHop, LeftHaveOneHop, ChangedByAdd, ChangedByDel, BlocksOfAdd, BlocksOfDel, GovernedAfter, AddThenDel, OtherFamilyAfterAdd, OtherFamilyAfterDel, FlatIsShortest, ShortestIsFlat, FlatIsAdmissible, SameFlat, SearchIsFlat, OwnIsMaximal};
 
 /// The match is the longest member that contains the block; the match of an address in what a block
@@ -34,6 +35,13 @@ pub fn kept()
     ensures restored { AddThenDel }
     ensures other_after_add { OtherFamilyAfterAdd }
     ensures other_after_del { OtherFamilyAfterDel }
+{}
+
+/// An `overwrite` leaves a table. All addresses of its network have the new hop then, and all others the hop that they
+/// had.
+pub fn overwrites()
+    ensures table { OverwriteIsTable }
+    ensures hops { HopsOfOverwrite }
 {}
 
 /// A hop function has one flat list: no list of one-hop blocks that covers all hops is shorter, and an

@@ -10,6 +10,7 @@ pub use trie_map::Refused;
 mod governed;
 mod hop;
 pub mod laws;
+mod overwrite;
 mod routes;
 mod table;
 #[cfg(test)]

@@ -44,7 +44,7 @@ impl Model for RouteTable {
 }
 
 /// The number of a hop.
-fn number(hop: Hop) -> Option<u32>
+pub(crate) fn number(hop: Hop) -> Option<u32>
     ensures number { result ≡ number_of hop }
     ensures in_range { IsHop hop }
 {
@@ -85,10 +85,7 @@ impl RouteTable {
     {
         let before = self.hop_of(&net);
         let after = number(hop);
-        match net {
-            IpNet::V4(net) => self.store_v4(net, hop)?,
-            IpNet::V6(net) => self.store_v6(net, hop)?,
-        }
+        self.store(net, hop)?;
         Ok((before, after))
     }
 
@@ -176,6 +173,20 @@ impl RouteTable {
         ensures { IsTable self.now }
     {
         let _ = self.v4.is_empty();
+    }
+
+    /// Stores the hop at the network.
+    pub(crate) fn store(&mut self, net: IpNet, hop: Hop) -> Result<(), Refused>
+        requires { IsHop hop }
+        ensures routes { OnOk result (self.new ≡ with_route self.old (route_of net hop)) }
+        ensures memory { IfErr result (λ e. e ≡ Memory) }
+        ensures unchanged { OnErr result (self.new ≡ self.old) }
+        ensures absent { OnErr result (is_stored self.old (block net) ≡ false) }
+    {
+        match net {
+            IpNet::V4(net) => self.store_v4(net, hop),
+            IpNet::V6(net) => self.store_v6(net, hop),
+        }
     }
 
     /// The number at the longest match.
