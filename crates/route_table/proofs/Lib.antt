@@ -21,3 +21,4 @@ pub mod Onwards
 pub mod Overwritten
 pub mod Emptied
 pub mod Halves
+pub mod Paging

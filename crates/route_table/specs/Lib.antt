@@ -7,4 +7,5 @@ pub mod Items
 pub mod Governing
 pub mod Onwards
 pub mod Overwritten
+pub mod Pages
 pub mod Laws
