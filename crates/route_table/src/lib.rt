@@ -15,4 +15,6 @@ mod routes;
 mod table;
 #[cfg(test)]
 mod tests;
+#[cfg(test)]
+mod walk_tests;
 mod walks;
