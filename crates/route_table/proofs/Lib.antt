@@ -17,3 +17,8 @@ pub mod Parts
 pub mod Gaps
 pub mod Governings
 pub mod Alterations
+pub mod Onwards
+pub mod Overwritten
+pub mod Emptied
+pub mod Halves
+pub mod Paging

@@ -5,4 +5,7 @@ pub mod Bounds
 pub mod Stored
 pub mod Items
 pub mod Governing
+pub mod Onwards
+pub mod Overwritten
+pub mod Pages
 pub mod Laws

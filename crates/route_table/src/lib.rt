@@ -10,7 +10,11 @@ pub use trie_map::Refused;
 mod governed;
 mod hop;
 pub mod laws;
+mod overwrite;
 mod routes;
 mod table;
 #[cfg(test)]
 mod tests;
+#[cfg(test)]
+mod walk_tests;
+mod walks;

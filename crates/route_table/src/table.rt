@@ -15,7 +15,7 @@ ghost use Rattle.route_table.specs.Tables.{Governed as GovernedBy, IsHop, IsTabl
 
 use crate::governed::Governed;
 use crate::hop::Hop;
-use crate::routes::{Routes, Source};
+use crate::routes::{Entries, Routes, Source};
 use ipnet::{IpNet, Ipv4Net, Ipv6Net};
 use std::alloc::Global;
 use std::marker::Model;
@@ -24,11 +24,11 @@ use trie_map::{PrefixMap, Refused};
 /// A hop for each of some networks of both families.
 ///
 /// Contracts see it as the ascending list of its routes, one for each stored network. Host bits of an argument are
-/// ignored everywhere. Only `new` and an `add` of a network that is not stored take memory.
+/// ignored everywhere. Only `new`, and `add` and `overwrite` of a network that is not stored, take memory.
 #[derive(Drop)]
 pub struct RouteTable {
-    v4: PrefixMap<Ipv4Net, Hop>,
-    v6: PrefixMap<Ipv6Net, Hop>,
+    pub(crate) v4: PrefixMap<Ipv4Net, Hop>,
+    pub(crate) v6: PrefixMap<Ipv6Net, Hop>,
 }
 
 impl Model for RouteTable {
@@ -44,7 +44,7 @@ impl Model for RouteTable {
 }
 
 /// The number of a hop.
-fn number(hop: Hop) -> Option<u32>
+pub(crate) fn number(hop: Hop) -> Option<u32>
     ensures number { result ≡ number_of hop }
     ensures in_range { IsHop hop }
 {
@@ -85,10 +85,7 @@ impl RouteTable {
     {
         let before = self.hop_of(&net);
         let after = number(hop);
-        match net {
-            IpNet::V4(net) => self.store_v4(net, hop)?,
-            IpNet::V6(net) => self.store_v6(net, hop)?,
-        }
+        self.store(net, hop)?;
         Ok((before, after))
     }
 
@@ -178,6 +175,20 @@ impl RouteTable {
         let _ = self.v4.is_empty();
     }
 
+    /// Stores the hop at the network.
+    pub(crate) fn store(&mut self, net: IpNet, hop: Hop) -> Result<(), Refused>
+        requires { IsHop hop }
+        ensures routes { OnOk result (self.new ≡ with_route self.old (route_of net hop)) }
+        ensures memory { IfErr result (λ e. e ≡ Memory) }
+        ensures unchanged { OnErr result (self.new ≡ self.old) }
+        ensures absent { OnErr result (is_stored self.old (block net) ≡ false) }
+    {
+        match net {
+            IpNet::V4(net) => self.store_v4(net, hop),
+            IpNet::V6(net) => self.store_v6(net, hop),
+        }
+    }
+
     /// The number at the longest match.
     fn hop_of(&self, net: &IpNet) -> Option<u32>
         ensures { result ≡ match_number (match_of self.now (block net.now)) }
@@ -236,13 +247,13 @@ impl RouteTable {
     fn list_v4(&self, net: Ipv4Net) -> Routes<'_>
         ensures { result ≡ routes_inside self.now (block_of Ipv4 net) }
     {
-        Routes::new(Source::V4(self.v4.children(&net.trunc())))
+        Routes::new(Source::V4(Entries::Walk(self.v4.children(&net.trunc()))))
     }
 
     fn list_v6(&self, net: Ipv6Net) -> Routes<'_>
         ensures { result ≡ routes_inside self.now (block_of Ipv6 net) }
     {
-        Routes::new(Source::V6(self.v6.children(&net.trunc())))
+        Routes::new(Source::V6(Entries::Walk(self.v6.children(&net.trunc()))))
     }
 
     fn longest_v4(&self, net: Ipv4Net) -> Option<(Ipv4Net, Hop)>
