@@ -17,3 +17,10 @@ pub mod Parts
 pub mod Gaps
 pub mod Governings
 pub mod Alterations
+pub mod Paints
+pub mod Openings
+pub mod Painted
+pub mod Turns
+pub mod Closings
+pub mod FlatRuns
+pub mod Flattenings

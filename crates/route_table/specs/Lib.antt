@@ -5,4 +5,6 @@ pub mod Bounds
 pub mod Stored
 pub mod Items
 pub mod Governing
+pub mod Running
+pub mod Flattening
 pub mod Laws
