@@ -118,7 +118,7 @@ pub no_cut : (f : Family) (l : Limits) → l.end < l.start → cut f l ≡ []
 unfolding cut_within
 no_cut f l h = let z : l.end + 1 - l.start ≡ 0 = omega arith in ap (λ n. cut_within n f l) z
 
-some_cut : (f : Family) (l : Limits) → l.start ≤ l.end → cut f l ≡ [] → ⊥
+pub some_cut : (f : Family) (l : Limits) → l.start ≤ l.end → cut f l ≡ [] → ⊥
 unfolding cut_within
 some_cut f l h e = go (l.end + 1 - l.start) refl (e)
   where
@@ -126,7 +126,7 @@ some_cut f l h e = go (l.end + 1 - l.start) refl (e)
     go zero z q = omega arith
     go (suc n) z q = let t = le-leb _ _ h in let c = sym (ap (λ b. cond b (block_at f l.start (first_free (width f) l) ∷ cut_within n f (record l { start = l.start + 2 ^ first_free (width f) l })) []) t) ∙ q in cc
 
-cut_of_limits : (f : Family) (l : Limits) → ip_cut (ip_limits f l) ≡ cut f l
+pub cut_of_limits : (f : Family) (l : Limits) → ip_cut (ip_limits f l) ≡ cut f l
 cut_of_limits Ipv4 l = refl
 cut_of_limits Ipv6 l = refl
 

@@ -22,3 +22,10 @@ pub mod Overwritten
 pub mod Emptied
 pub mod Halves
 pub mod Paging
+pub mod Paints
+pub mod Openings
+pub mod Painted
+pub mod Turns
+pub mod Closings
+pub mod FlatRuns
+pub mod Flattenings

@@ -5,6 +5,7 @@ use Rattle.ipnet_blocks.specs.Blocks.{Block}
 use Rattle.ipnet.specs.IpNets.{block}
 use Rattle.ipnet.specs.declared.ip_net.IpNet.{IpNet}
 use Rattle.route_table.specs.Tables.{Route}
+use Rattle.route_table.specs.Flats.{Piece}
 use Rattle.route_table.specs.Stored.{route_at, route_of, network_at}
 use Rattle.route_table.specs.declared.hop.Hop.{Hop}
 use Rattle.route_table.specs.declared.routes.Entries.{Entries}
@@ -39,3 +40,10 @@ routes_left (V6 es) = map (route_at Ipv6) (entries_left es)
 abbrev pub AreKeys : Source → Type 0
 AreKeys (V4 es) = KeysUpTo 32 (entries_left es)
 AreKeys (V6 es) = KeysUpTo 128 (entries_left es)
+
+AreKeys (V4 es) = KeysUpTo 32 es
+AreKeys (V6 es) = KeysUpTo 128 es
+
+-- the first piece was given, its block as a network without host bits; or none was left
+abbrev pub GivesPiece : List Piece → Option (IpNet × ℕ) → List Piece → Type 0
+GivesPiece ps item left = MatchOption item ((ps ≡ []) × (left ≡ [])) (λ p. (ps ≡ record { block = block p.0; number = p.1 } ∷ left) × (p.0 ≡ network_at (block p.0)))

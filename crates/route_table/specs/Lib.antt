@@ -8,4 +8,6 @@ pub mod Governing
 pub mod Onwards
 pub mod Overwritten
 pub mod Pages
+pub mod Running
+pub mod Flattening
 pub mod Laws

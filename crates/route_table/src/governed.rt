@@ -18,7 +18,7 @@ use ipnet_blocks::aggregate::Span;
 use std::marker::Model;
 
 /// The numbers of a network's addresses.
-fn span(net: &IpNet) -> Span
+pub(crate) fn span(net: &IpNet) -> Span
     ensures first { result.first ≡ first (block net.now) }
     ensures last { result.last ≡ last (block net.now) }
     ensures order { result.first ≤ result.last }
@@ -37,7 +37,7 @@ fn span(net: &IpNet) -> Span
 }
 
 /// The largest blocks of a span of the network's family, ascending.
-fn blocks(net: &IpNet, span: Span) -> IpSubnets
+pub(crate) fn blocks(net: &IpNet, span: Span) -> IpSubnets
     requires fits { span.last < 2 ^ width (family net.now) }
     requires order { span.first ≤ span.last }
     ensures { result ≡ ip_limits (family net.now) (limits_of span) }

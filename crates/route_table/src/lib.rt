@@ -1,17 +1,22 @@
 //! Route tables: a hop for each of some networks, the longest match, and which addresses a change concerns.
 #![tactic(auto)]
 
+pub use flat::Flat;
 pub use governed::Governed;
 pub use hop::Hop;
 pub use routes::Routes;
 pub use table::RouteTable;
 pub use trie_map::Refused;
 
+mod flat;
+#[cfg(test)]
+mod flat_tests;
 mod governed;
 mod hop;
 pub mod laws;
 mod overwrite;
 mod routes;
+mod runs;
 mod table;
 #[cfg(test)]
 mod tests;

@@ -1,5 +1,5 @@
 //! The table.
-ghost use Rattle.std.specs.Prelude.{◌≡◌, ◌≤◌, ◌+◌, ◌/◌, [], IfOk, IfErr, IfSome, IsOk, OnOk, OnErr, false, is_some, length, sum_by};
+ghost use Rattle.std.specs.Prelude.{◌≡◌, ◌≤◌, ◌+◌, ◌/◌, [], ◌++◌, All, IfOk, IfErr, IfSome, IsOk, OnOk, OnErr, false, is_some, length, sum_by};
 ghost use Rattle.std.specs.Option.{option_map};
 ghost use Rattle.ipnet_addr.specs.Addresses.{Ipv4, Ipv6};
 ghost use Rattle.ipnet_blocks.specs.Blocks.{bit_string};
@@ -158,6 +158,18 @@ impl RouteTable {
         let net = net.trunc();
         self.is_table();
         Governed::new(net, self.list(&net))
+    }
+
+    /// The routes of either family, ascending.
+    pub(crate) fn families(&self) -> (Routes<'_>, Routes<'_>)
+        ensures routes { result.0 ++ result.1 ≡ self.now }
+        ensures ipv4 { All (λ r. r.block.family ≡ Ipv4) result.0 }
+        ensures ipv6 { All (λ r. r.block.family ≡ Ipv6) result.1 }
+    {
+        (
+            Routes::new(Source::V4(self.v4.iter())),
+            Routes::new(Source::V6(self.v6.iter())),
+        )
     }
 
     /// How many nodes the tries of the two families have: one, and one for each distinct bit string of positive

@@ -1,0 +1,146 @@
+//! The flat list of a table: the shortest list of blocks of one hop.
+ghost use Rattle.std.specs.Prelude.{◌≡◌, ◌≤◌, ◌++◌, [], List, All, length};
+ghost use Rattle.std.specs.Iterator.{item_count};
+ghost use Rattle.ipnet_addr.specs.Addresses.{Ipv4, Ipv6};
+ghost use Rattle.ipnet_blocks.specs.Blocks.{Block};
+ghost use Rattle.route_table.specs.Flats.{IsAdmissible, IsFlat};
+ghost use Rattle.route_table.specs.Flattening.{AreBoth, GivesPieces, pieces_of};
+ghost use Rattle.route_table.specs.Items.{GivesPiece};
+ghost use Rattle.route_table.specs.Tables.{IsTable, hop_at};
+
+use crate::governed::blocks;
+use crate::routes::Routes;
+use crate::runs::Runs;
+use crate::table::RouteTable;
+use ipnet::{IpNet, IpSubnets, Ipv4Net, Ipv4Subnets, Ipv6Net};
+use ipnet_addr::bits::ipv4_of;
+use std::marker::Model;
+
+/// The blocks that are left of a run, and its number.
+#[derive(Drop)]
+struct Pieces {
+    blocks: IpSubnets,
+    number: u32,
+}
+
+impl Pieces {
+    /// No blocks.
+    fn none() -> Pieces
+        ensures { pieces_of result ≡ [] }
+    {
+        Pieces {
+            blocks: IpSubnets::V4(Ipv4Subnets::new(ipv4_of(1), ipv4_of(0), 0)),
+            number: 0,
+        }
+    }
+
+    /// The first block, with the number.
+    fn next(&mut self) -> Option<(IpNet, u32)>
+        ensures { GivesPiece (pieces_of self.old) result (pieces_of self.new) }
+    {
+        let number = self.number;
+        match self.blocks.next() {
+            Some(net) => Some((net, number)),
+            None => None,
+        }
+    }
+}
+
+/// The runs of both families.
+#[derive(Drop)]
+struct BothRuns<'a> {
+    v4: Runs<'a>,
+    v6: Runs<'a>,
+}
+
+impl<'a> BothRuns<'a> {
+    /// The blocks of the next run.
+    fn next(&mut self) -> Option<Pieces>
+        requires { AreBoth self.old }
+        ensures both { AreBoth self.new }
+        ensures pieces { GivesPieces self.old result self.new }
+    {
+        if let Some(run) = self.v4.next() {
+            return Some(Pieces {
+                blocks: blocks(&self.v4.net, run.span),
+                number: run.number,
+            });
+        }
+        match self.v6.next() {
+            Some(run) => Some(Pieces {
+                blocks: blocks(&self.v6.net, run.span),
+                number: run.number,
+            }),
+            None => None,
+        }
+    }
+}
+
+/// The blocks of one hop that lie in no larger one, as networks without host bits, each with the number of its hop,
+/// ascending. It takes no memory.
+#[derive(Drop)]
+pub struct Flat<'a> {
+    pieces: Pieces,
+    runs: BothRuns<'a>,
+}
+
+impl<'a> Model for Flat<'a> {
+    ghost use Rattle.std.specs.Prelude.{List};
+    ghost use Rattle.route_table.specs.Flats.{Piece};
+    ghost use Rattle.route_table.specs.Flattening.{AreBoth, pieces_left};
+
+    ghost Value = { List Piece };
+
+    ghost view = { λ a. pieces_left a.pieces a.runs };
+
+    ghost invariant = { λ a. AreBoth a.runs };
+}
+
+impl<'a> Flat<'a> {
+    fn new(v4: Routes<'a>, v6: Routes<'a>) -> Flat<'a>
+        requires routes { IsTable (v4 ++ v6) }
+        requires ipv4 { All (λ r. r.block.family ≡ Ipv4) v4 }
+        requires ipv6 { All (λ r. r.block.family ≡ Ipv6) v6 }
+        ensures { IsFlat (hop_at (v4.entry ++ v6.entry)) result }
+    {
+        Flat {
+            pieces: Pieces::none(),
+            runs: BothRuns {
+                v4: Runs::new(IpNet::V4(Ipv4Net::default()), v4),
+                v6: Runs::new(IpNet::V6(Ipv6Net::default()), v6),
+            },
+        }
+    }
+}
+
+impl<'a> Iterator for Flat<'a> {
+    type Item = (IpNet, u32);
+
+    ghost next_gives = { GivesPiece };
+
+    ghost remaining = { item_count (λ ps. ps) };
+
+    fn next(&mut self) -> Option<(IpNet, u32)> {
+        if let Some(piece) = self.pieces.next() {
+            return Some(piece);
+        }
+        let Some(pieces) = self.runs.next() else {
+            return None;
+        };
+        self.pieces = pieces;
+        self.pieces.next()
+    }
+}
+
+impl RouteTable {
+    /// The maximal blocks of the addresses of each hop number, each with that number, ascending, IPv4 before IPv6. No
+    /// list of blocks of one hop that covers all addresses with a hop is shorter. It takes no memory.
+    pub fn flat(&self) -> Flat<'_>
+        ensures flat { IsFlat (hop_at self.now) result }
+        ensures shortest { (bs : List Block) → IsAdmissible (hop_at self.now) bs → length result ≤ length bs }
+    {
+        let (v4, v6) = self.families();
+        self.is_table();
+        Flat::new(v4, v6)
+    }
+}
