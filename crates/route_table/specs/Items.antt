@@ -41,9 +41,6 @@ abbrev pub AreKeys : Source → Type 0
 AreKeys (V4 es) = KeysUpTo 32 (entries_left es)
 AreKeys (V6 es) = KeysUpTo 128 (entries_left es)
 
-AreKeys (V4 es) = KeysUpTo 32 es
-AreKeys (V6 es) = KeysUpTo 128 es
-
 -- the first piece was given, its block as a network without host bits; or none was left
 abbrev pub GivesPiece : List Piece → Option (IpNet × ℕ) → List Piece → Type 0
 GivesPiece ps item left = MatchOption item ((ps ≡ []) × (left ≡ [])) (λ p. (ps ≡ record { block = block p.0; number = p.1 } ∷ left) × (p.0 ≡ network_at (block p.0)))

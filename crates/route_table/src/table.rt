@@ -167,8 +167,8 @@ impl RouteTable {
         ensures ipv6 { All (λ r. r.block.family ≡ Ipv6) result.1 }
     {
         (
-            Routes::new(Source::V4(self.v4.iter())),
-            Routes::new(Source::V6(self.v6.iter())),
+            Routes::new(Source::V4(Entries::Walk(self.v4.iter()))),
+            Routes::new(Source::V6(Entries::Walk(self.v6.iter()))),
         )
     }
 
