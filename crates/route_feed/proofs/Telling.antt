@@ -1,5 +1,5 @@
 -- Lines written one after another.
-use Rattle.std.proofs.Common.{◌≡◌, ℕ, List, [], ◌∷◌, ◌++◌, map, Option, Result, Ok, Err, sym, ap, ◌∙◌, subst, append_assoc, append-nil}
+use Rattle.std.proofs.Common.{◌≡◌, ℕ, zero, suc, ◌<◌, ◌-◌, take, arith, List, [], ◌∷◌, ◌++◌, map, Option, Result, Ok, Err, sym, ap, ◌∙◌, subst, append_assoc, append-nil}
 use Rattle.std.proofs.lemmas.Grind.{flat_map-append}
 use Rattle.route_lines.specs.declared.reply.Reply.{Reply}
 use Rattle.route_feed.specs.declared.error.RunError.{RunError}
@@ -37,3 +37,10 @@ module _ {W A : Type 0} (contents : W → Option (List ℕ)) (f : A → Reply) w
 -- lines, and the one that closes them
 pub closed_lines : (body : List Reply) (l : Reply) → printed (body ++ l ∷ []) ≡ printed body ++ reply_line l
 closed_lines body l = flat_map-append reply_line body (l ∷ []) ∙ ap (λ t. printed body ++ t) (append-nil (reply_line l))
+
+-- the first of so many
+pub take_first : {A : Type 0} (room : ℕ) (xs : List A) (x : A) (later : List A) → 0 < room → xs ≡ x ∷ later → take room xs ≡ x ∷ take (room - 1) later
+take_first zero xs x later h e = absurd (omega arith)
+take_first (suc room) xs x later h e =
+    let one : suc room - 1 ≡ room = omega arith in
+    ap (take (suc room)) e ∙ ap (λ k. x ∷ take k later) (sym one)

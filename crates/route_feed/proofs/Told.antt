@@ -24,8 +24,11 @@ use Rattle.route_lines.specs.Texts.{IsCommand}
 use Rattle.route_lines.proofs.Commands.{one_command}
 use Rattle.route_lines.proofs.Spells.{command_found}
 use Rattle.route_table.specs.Changes.{changed, same_number}
+use Rattle.route_table.specs.Flats.{Piece, IsFlat, flat_of}
 use Rattle.route_table.specs.Stored.{item_of, network_at}
 use Rattle.route_table.specs.declared.hop.Hop.{Hop}
+use Rattle.route_table.proofs.FlatSearch.{search_is_flat}
+use Rattle.route_table.proofs.Flats.{same_flat}
 use Rattle.route_table.proofs.Gaps.{of_network_at}
 use Rattle.route_table.specs.Tables.{Route, IsTable, IsHop, Changed, Governed, is_stored, match_of, match_number, number_of, hop_at, with_route, without_block}
 use Rattle.route_table.proofs.Alterations.{changed_by_add, changed_by_del, blocks_of_add, blocks_of_del, governed_after, no_blocks}
@@ -168,3 +171,7 @@ read_none text none = go (command_of text) (command_found text)
     go : (o : Option Command) → Gives IsCommand text o → o ≡ None
     go None h = refl
     go (Some command) h = absurd (none command h)
+
+-- a table has one flat list
+pub flat_is : (M : List Route) (ps : List Piece) → IsFlat (hop_at M) ps → ps ≡ flat_of (hop_at M)
+flat_is M ps h = (same_flat (hop_at M) (hop_at M) ps (flat_of (hop_at M)) h (search_is_flat (hop_at M))).1 (λ x a. refl)

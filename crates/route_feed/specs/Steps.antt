@@ -1,5 +1,6 @@
 -- What a leader answers to each command, and the table that it has then.
-use Rattle.std.specs.Prelude.{not, ◌&&◌, ℕ, Bool, false, List, [], ◌∷◌, ◌++◌, if◌then◌else◌, Option, Some, None, map}
+use Rattle.std.specs.Prelude.{not, ◌&&◌, ℕ, Bool, false, List, [], ◌∷◌, ◌++◌, if◌then◌else◌, Option, Some, None, map, take}
+use Rattle.ipnet_addr.specs.Addresses.{Ipv4, Ipv6}
 use Rattle.ipnet_blocks.specs.Blocks.{Block, first_of}
 use Rattle.ipnet_blocks.specs.Maximal.{maximal_of}
 use Rattle.ipnet.specs.IpNets.{block}
@@ -8,12 +9,14 @@ use Rattle.route_lines.specs.declared.command.Command.TheVariants as C
 use Rattle.route_lines.specs.declared.reply.Closing.{Closing}
 use Rattle.route_lines.specs.declared.reply.Closing.TheVariants.{Done, Missing, Bad, Refused}
 use Rattle.route_lines.specs.declared.reply.Reply.{Reply}
-use Rattle.route_lines.specs.declared.reply.Reply.TheVariants.{Set, Unset, Route, Close}
+use Rattle.route_lines.specs.declared.reply.Reply.TheVariants.{Set, Unset, Route, Flat, Count, Close}
 use Rattle.route_table.specs.Changes.{changed}
+use Rattle.route_table.specs.Flats.{Piece, flat_of}
 use Rattle.route_table.specs.Governing.{routes_inside}
+use Rattle.route_table.specs.Onwards.{count_of, routes_from, routes_after}
 use Rattle.route_table.specs.Stored.{network_at, route_of}
 use Rattle.route_table.specs.Tables as table
-use Rattle.route_table.specs.Tables.{hop_at, is_stored, match_of, with_route, without_block}
+use Rattle.route_table.specs.Tables.{hop_at, is_stored, match_of, covering, with_route, without_block}
 
 -- a reply: its lines, the one that closes it, and the table after it
 pub record Turn : Type 0 where
@@ -50,6 +53,10 @@ changed_to M N = record { body = change_lines M N; closing = Done; next = N }
 abbrev pub route_line : table.Route → Reply
 route_line r = Route (network_at r.block) r.hop
 
+-- the line of a block of the flat list
+abbrev pub flat_line : Piece → Reply
+flat_line p = Flat (network_at p.block) p.number
+
 -- the stored route, if there is one
 abbrev pub one_or_missing : List table.Route → Option table.Route → Turn
 one_or_missing M None = closed M Missing
@@ -74,13 +81,13 @@ abbrev pub answer : List table.Route → Option Command → Turn
 answer M (Some (C.Add net hop)) = changed_to M (with_route M (route_of net hop))
 answer M (Some (C.Del net)) = if is_stored M (block net) then changed_to M (without_block M (block net)) else closed M Missing
 answer M (Some (C.Get net)) = one_or_missing M (match_of M (block net))
-answer M (Some (C.Cover net)) = closed M Bad
+answer M (Some (C.Cover net)) = told M (map route_line (covering M (block net)))
 answer M (Some (C.List net)) = told M (map route_line (routes_inside M (block net)))
-answer M (Some (C.PageFrom net limit)) = closed M Bad
-answer M (Some (C.PageAfter net limit)) = closed M Bad
+answer M (Some (C.PageFrom net limit)) = told M (map route_line (take limit (routes_from M (block net))))
+answer M (Some (C.PageAfter net limit)) = told M (map route_line (take limit (routes_after M (block net))))
 answer M (Some (C.Own number)) = closed M Bad
-answer M (Some C.Count) = closed M Bad
-answer M (Some C.Flat) = closed M Bad
+answer M (Some C.Count) = told M (Count (count_of Ipv4 M) (count_of Ipv6 M) ∷ [])
+answer M (Some C.Flat) = told M (map flat_line (flat_of (hop_at M)))
 answer M None = closed M Bad
 
 -- one line answered

@@ -1,5 +1,5 @@
 //! One line answered.
-ghost use Rattle.std.specs.Prelude.{◌≡◌, ◌≢◌, ◌<◌, ◌-◌, ◌^◌, [], ◌∷◌, ◌++◌, List, Some, map};
+ghost use Rattle.std.specs.Prelude.{◌≡◌, ◌≢◌, ◌<◌, ◌-◌, ◌^◌, [], ◌∷◌, ◌++◌, List, Some, map, take};
 ghost use Rattle.ipnet.specs.IpNets.{block};
 ghost use Rattle.ipnet_blocks.specs.Blocks.{Block};
 ghost use Rattle.ipnet_blocks.specs.Maximal.{IsMaximal};
@@ -7,13 +7,14 @@ ghost use Rattle.route_feed.specs.Commands.{command_in};
 ghost use Rattle.route_feed.specs.Counted.{faults_of};
 ghost use Rattle.route_feed.specs.Replies.{reply_line, printed};
 ghost use Rattle.route_feed.specs.Run.{Answers, Writes};
-ghost use Rattle.route_feed.specs.Steps.{change_line, route_line};
+ghost use Rattle.route_feed.specs.Steps.{change_line, flat_line, route_line};
 ghost use Rattle.route_lines.specs.Texts.{IsPrintable};
+ghost use Rattle.route_table.specs.Flats.{flat_of};
 ghost use Rattle.route_table.specs.Tables as table_of;
 
 use crate::counted::Counted;
 use crate::error::RunError;
-use crate::writing::{close, write_changes, write_line, write_routes};
+use crate::writing::{close, write_changes, write_flat, write_line, write_page, write_routes};
 use ipnet::IpNet;
 use route_lines::{Closing, Command, Line, Reply};
 use route_table::{Hop, RouteTable, Routes};
@@ -49,8 +50,13 @@ fn answer_command<W: Write>(
         Command::Add { net, hop } => answer_add(table, net, hop, writer),
         Command::Del { net } => answer_del(table, net, writer),
         Command::Get { net } => answer_get(table, net, writer),
+        Command::Cover { net } => tell_routes(table.cover(&net), writer),
         Command::List { net } => tell_routes(table.list(&net), writer),
-        _ => close(writer, Closing::Bad),
+        Command::PageFrom { net, limit } => tell_page(table.from(&net), limit, writer),
+        Command::PageAfter { net, limit } => tell_page(table.after(&net), limit, writer),
+        Command::Own { number: _ } => close(writer, Closing::Bad),
+        Command::Count => tell_count(table.count(), writer),
+        Command::Flat => tell_flat(table, writer),
     }
 }
 
@@ -121,6 +127,41 @@ fn tell_routes<W: Write>(routes: Routes<'_>, writer: &mut Counted<W>) -> Result<
     ensures { Writes W.contents writer.old writer.new result (printed (map route_line routes.entry ++ Reply.Close Closing.Done ∷ [])) }
 {
     write_routes(writer, routes)?;
+    close(writer, Closing::Done)
+}
+
+/// Replies with a line for each of the first routes, at most so many.
+fn tell_page<W: Write>(
+    routes: Routes<'_>,
+    limit: u16,
+    writer: &mut Counted<W>,
+) -> Result<(), RunError>
+    requires { faults_of writer.old < 2 ^ 64 - 1 }
+    ensures { Writes W.contents writer.old writer.new result (printed (map route_line (take limit routes.entry) ++ Reply.Close Closing.Done ∷ [])) }
+{
+    write_page(writer, routes, limit)?;
+    close(writer, Closing::Done)
+}
+
+/// Replies with the numbers of routes.
+fn tell_count<W: Write>(counts: (usize, usize), writer: &mut Counted<W>) -> Result<(), RunError>
+    requires { faults_of writer.old < 2 ^ 64 - 1 }
+    ensures { Writes W.contents writer.old writer.new result (printed (Reply.Count counts.0 counts.1 ∷ Reply.Close Closing.Done ∷ [])) }
+{
+    let (v4, v6) = counts;
+    let line = Reply::Count {
+        v4: v4 as u64,
+        v6: v6 as u64,
+    };
+    tell_line(line, writer)
+}
+
+/// Replies with the flat list.
+fn tell_flat<W: Write>(table: &RouteTable, writer: &mut Counted<W>) -> Result<(), RunError>
+    requires { faults_of writer.old < 2 ^ 64 - 1 }
+    ensures { Writes W.contents writer.old writer.new result (printed (map flat_line (flat_of (table_of.hop_at table.now)) ++ Reply.Close Closing.Done ∷ [])) }
+{
+    write_flat(writer, table.flat())?;
     close(writer, Closing::Done)
 }
 

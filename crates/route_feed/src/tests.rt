@@ -67,7 +67,7 @@ impl Write for Narrow {
     }
 }
 
-const ROWS: [(&[u8], &[u8]); 12] = [
+const ROWS: [(&[u8], &[u8]); 17] = [
     (b"", b""),
     (
         b"add 10.0.0.0/8 drop\nget 10.1.0.0/16\ndel 10.0.0.0/8\ndel 10.0.0.0/8\n",
@@ -112,6 +112,26 @@ const ROWS: [(&[u8], &[u8]); 12] = [
     (
         b"add  10.0.0.0/8 drop\nadd 10.0.0.0/8 drop \nADD 10.0.0.0/8 drop\nget 10.0.0.0/8\r\nget 255.255.255.255/32",
         b"bad\nbad\nbad\nbad\nbad\n",
+    ),
+    (
+        b"add 10.0.0.0/8 1\nadd 10.1.0.0/16 2\nadd 10.2.0.0/16 3\nadd 10.2.0.0/24 4\nadd 10.3.0.0/16 5\nadd 10.4.0.0/16 6\nfrom 10.2.0.0/16 3\nafter 10.2.0.0/16 3\ncover 10.2.0.0/23\n",
+        b"set 10.0.0.0/8 1\nok\nset 10.1.0.0/16 2\nok\nset 10.2.0.0/16 3\nok\nset 10.2.0.0/24 4\nok\nset 10.3.0.0/16 5\nok\nset 10.4.0.0/16 6\nok\nroute 10.2.0.0/16 3\nroute 10.2.0.0/24 4\nroute 10.3.0.0/16 5\nok\nroute 10.2.0.0/24 4\nroute 10.3.0.0/16 5\nroute 10.4.0.0/16 6\nok\nroute 10.0.0.0/8 1\nroute 10.2.0.0/16 3\nok\n",
+    ),
+    (
+        b"add ::/0 4\nadd 0.0.0.0/0 3\ncount\nflat\n",
+        b"set ::/0 4\nok\nset 0.0.0.0/0 3\nok\ncount 1 1\nok\nflat 0.0.0.0/0 3\nflat ::/0 4\nok\n",
+    ),
+    (
+        b"cover 10.0.0.0/8\nfrom ::/0 1\nafter 0.0.0.0/0 1000\nfrom 10.0.0.0/8 0\nlist  10.0.0.0/8\nfrom 10.0.0.0/8 1001\ncount \nflat\r\n",
+        b"ok\nok\nok\nbad\nbad\nbad\nbad\nbad\n",
+    ),
+    (
+        b"add 10.0.0.0/8 1\nadd 10.0.0.0/9 2\nadd 10.64.0.0/10 1\nflat\n",
+        b"set 10.0.0.0/8 1\nok\nset 10.0.0.0/9 2\nok\nset 10.64.0.0/10 1\nok\nflat 10.0.0.0/10 2\nflat 10.64.0.0/10 1\nflat 10.128.0.0/9 1\nok\n",
+    ),
+    (
+        b"add 10.0.0.0/8 1\nadd 10.0.0.0/8 1\nadd 10.0.0.0/8 drop\ndel 10.0.0.0/8\nflat\n",
+        b"set 10.0.0.0/8 1\nok\nok\nunset 10.0.0.0/8\nok\nok\nok\n",
     ),
 ];
 

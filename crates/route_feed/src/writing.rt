@@ -1,18 +1,18 @@
 //! Own loops over `write`.
-ghost use Rattle.std.specs.Prelude.{◌≡◌, ◌<◌, ◌-◌, ◌^◌, [], map};
+ghost use Rattle.std.specs.Prelude.{◌≡◌, ◌<◌, ◌-◌, ◌^◌, [], map, take};
 ghost use Rattle.ipnet.specs.IpNets.{block};
 ghost use Rattle.route_feed.specs.Counted.{faults_of};
 ghost use Rattle.route_feed.specs.Replies.{reply_line, printed};
 ghost use Rattle.route_feed.specs.Run.{Writes};
-ghost use Rattle.route_feed.specs.Steps.{change_line, route_line};
+ghost use Rattle.route_feed.specs.Steps.{change_line, flat_line, route_line};
 ghost use Rattle.route_lines.specs.Texts.{IsPrintable};
-ghost use Rattle.route_table.specs.Stored.{network_at};
+ghost use Rattle.route_table.specs.Stored.{network_at, route_of};
 
 use crate::counted::Counted;
 use crate::error::RunError;
 use ipnet::IpNet;
 use route_lines::{Closing, Reply};
-use route_table::{Governed, Routes};
+use route_table::{Flat, Governed, Hop, Routes};
 use std::io::Write;
 
 /// Writes all of the piece, or a beginning of it.
@@ -90,15 +90,55 @@ pub fn write_changes<W: Write>(
     Ok(())
 }
 
+/// Writes the line of a route. The network has no host bits.
+fn write_route<W: Write>(writer: &mut Counted<W>, net: IpNet, hop: Hop) -> Result<(), RunError>
+    requires faults { faults_of writer.old < 2 ^ 64 - 1 }
+    requires network { net ≡ network_at (block net) }
+    ensures { Writes W.contents writer.old writer.new result (reply_line (route_line (route_of net hop))) }
+{
+    write_line(writer, &Reply::Route { net, hop })
+}
+
 /// Writes the line of each route.
 pub fn write_routes<W: Write>(writer: &mut Counted<W>, routes: Routes<'_>) -> Result<(), RunError>
     requires { faults_of writer.old < 2 ^ 64 - 1 }
     ensures { Writes W.contents writer.old writer.new result (printed (map route_line routes.entry)) }
 {
     for route in routes {
-        let line = Reply::Route {
-            net: route.0,
-            hop: route.1,
+        write_route(writer, route.0, route.1)?;
+    }
+    Ok(())
+}
+
+/// Writes the line of each of the first routes, at most so many.
+pub fn write_page<W: Write>(
+    writer: &mut Counted<W>,
+    mut routes: Routes<'_>,
+    limit: u16,
+) -> Result<(), RunError>
+    requires { faults_of writer.old < 2 ^ 64 - 1 }
+    ensures { Writes W.contents writer.old writer.new result (printed (map route_line (take limit routes.entry))) }
+{
+    let mut room = limit;
+    while room > 0 {
+        let Some(route) = routes.next() else {
+            return Ok(());
+        };
+        write_route(writer, route.0, route.1)?;
+        room -= 1;
+    }
+    Ok(())
+}
+
+/// Writes the line of each block of a flat list.
+pub fn write_flat<W: Write>(writer: &mut Counted<W>, pieces: Flat<'_>) -> Result<(), RunError>
+    requires { faults_of writer.old < 2 ^ 64 - 1 }
+    ensures { Writes W.contents writer.old writer.new result (printed (map flat_line pieces.entry)) }
+{
+    for piece in pieces {
+        let line = Reply::Flat {
+            net: piece.0,
+            number: piece.1,
         };
         write_line(writer, &line)?;
     }
