@@ -42,6 +42,7 @@ impl RouteTable {
         ensures unchanged { OnErr result (self.new ≡ self.old) }
         ensures absent { OnErr result (is_stored self.old (block net) ≡ false) }
     {
+        // The hops after it need to know that the routes are a table, and that the hop is in range.
         self.is_table();
         let _number = number(hop);
         let net = net.trunc();
