@@ -3,3 +3,4 @@ pub mod Telling
 pub mod Told
 pub mod Moving
 pub mod Running
+pub mod Seam
