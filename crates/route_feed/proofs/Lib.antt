@@ -4,3 +4,5 @@ pub mod Told
 pub mod Moving
 pub mod Running
 pub mod Seam
+pub mod ReadNets
+pub mod Reread
