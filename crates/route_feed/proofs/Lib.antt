@@ -6,3 +6,5 @@ pub mod Running
 pub mod Seam
 pub mod ReadNets
 pub mod Reread
+pub mod Turns
+pub mod Following

@@ -6,3 +6,4 @@ pub mod Steps
 pub mod Output
 pub mod Run
 pub mod Devices
+pub mod Laws
