@@ -1,5 +1,5 @@
 -- A beginning of an output, followed.
-use Rattle.std.proofs.Common.{◌≡◌, ℕ, zero, suc, ◌==◌, Bool, true, false, cond, List, [], ◌∷◌, ◌++◌, map, take, All, Option, Some, None, refl, sym, ap, ◌∙◌, subst, ◌⊎◌, inl, inr, ⊎_elim, append_assoc}
+use Rattle.std.proofs.Common.{◌≡◌, ℕ, suc, ◌==◌, Bool, true, false, cond, List, [], ◌∷◌, ◌++◌, map, take, Option, Some, None, refl, sym, ap, ◌∙◌, subst, ◌⊎◌, inl, inr, ⊎_elim, append_assoc}
 use Rattle.std.specs.List.{filter_map, cons_option}
 use Rattle.std.specs.Option.{option_to_list}
 use Rattle.std.proofs.lemmas.List.Elements.{filter_map-append, All-nil}
@@ -8,7 +8,7 @@ use Rattle.ipnet_addr.proofs.Members.{In, In-cases}
 use Rattle.ipnet_addr.proofs.Ascending.{pairs_from_Rising}
 use Rattle.ipnet_blocks.specs.Blocks.{IsBlock, IsBefore}
 use Rattle.route_lines.specs.Bytes.{lines, rest, onto_first}
-use Rattle.route_lines.specs.Lines.{line_of, lines_of}
+use Rattle.route_lines.specs.Lines.{lines_of}
 use Rattle.route_lines.specs.Spelled.{reply_of}
 use Rattle.route_lines.specs.Texts.{reply_text}
 use Rattle.route_lines.specs.declared.command.Command.{Command}
@@ -23,13 +23,12 @@ use Rattle.route_table.proofs.FlatSearch.{search_is_flat}
 use Rattle.route_feed.specs.Commands.{command_in}
 use Rattle.route_feed.specs.Laws.{table_told, BeginningsAgree, FlatListsAgree}
 use Rattle.route_feed.specs.Output.{replies, table_after, first_or_false, refusals_after, whole_commands, at_end, output}
-use Rattle.route_feed.specs.Replies.{printed}
 use Rattle.route_feed.specs.Steps as turn
 use Rattle.route_feed.specs.Streams.{Change, change_of, closing_of, is_done, ends_well, committed, closings, painted, painted_over, replies_in}
 use Rattle.route_feed.proofs.ReadNets.{IsInRange, line_in_range}
-use Rattle.route_feed.proofs.Reread.{AreClean, AreClean-append, AreOpen, AreTold, told_is_clean, closing_is_clean, closing_read, read_again, reread, reread_open, reread_changes}
+use Rattle.route_feed.proofs.Reread.{AreClean, AreClean-append, AreOpen, told_is_clean, closing_is_clean, closing_read, read_again, reread, reread_open, reread_changes}
 use Rattle.route_feed.proofs.Seam.{changes_in, painted_more}
-use Rattle.route_feed.proofs.Turns.{Form, form_step, gain}
+use Rattle.route_feed.proofs.Turns.{form_step, gain}
 
 -- ---- a beginning's lines
 
@@ -141,10 +140,10 @@ followed M (c ∷ cs) r p q m h e x a =
     let ih = followed t.next cs rs p2 q form.table (λ d i. h d (inr i)) later x a in
     subst (λ l. painted_over (hop_at M x) (committed l) x ≡ hop_at (table_after M (take (closings l) (c ∷ cs)) r) x) (sym split)
     (rw (k.committed, k.closings) (
-      painted_more (hop_at M x) (gain (reread t.body) t.closing) (committed p2) x
-      ∙ ap (λ ds. painted_over (painted_over (hop_at M x) (cond (is_done t.closing) ds []) x) (committed p2) x) (reread_changes t.body form.body_told)
-      ∙ ap (λ o. painted_over o (committed p2) x) (form.paints x a)
-      ∙ ih)))
+    painted_more (hop_at M x) (gain (reread t.body) t.closing) (committed p2) x
+    ∙ ap (λ ds. painted_over (painted_over (hop_at M x) (cond (is_done t.closing) ds []) x) (committed p2) x) (reread_changes t.body form.body_told)
+    ∙ ap (λ o. painted_over o (committed p2) x) (form.paints x a)
+    ∙ ih)))
     (split_at_closing p q (reread t.body) t.closing tail open_lines (e ∙ reread_turn t (replies t.next cs rs)))
 
 empty_is_table : IsTable []

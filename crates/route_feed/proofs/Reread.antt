@@ -1,12 +1,12 @@
 -- Lines that are printed, and what is read of them again.
-use Rattle.std.proofs.Common.{inl, inr, ◌≡◌, ◌≢◌, ℕ, zero, suc, ◌+◌, ◌/◌, ◌%◌, ◌^◌, ◌≤◌, ◌<◌, ◌==◌, nat_lt, Bool, true, false, cond, List, [], ◌∷◌, ◌++◌, get_or, map, codes, decimal, All, Option, Some, None, refl, sym, ap, ◌∙◌, subst, arith, append_assoc}
+use Rattle.std.proofs.Common.{inl, inr, ◌≡◌, ◌≢◌, ℕ, zero, suc, ◌+◌, ◌/◌, ◌%◌, ◌≤◌, ◌<◌, ◌==◌, nat_lt, Bool, true, false, cond, List, [], ◌∷◌, ◌++◌, get_or, map, codes, decimal, All, Option, Some, None, refl, sym, ap, ◌∙◌, subst, arith, append_assoc}
 use Rattle.std.specs.List.{filter_map, cons_option, AllByRecursion}
 use Rattle.std.specs.Fmt.{digits, digits_onto, digit_glyph}
 use Rattle.std.proofs.lemmas.Bool.Decides.{nat_tests}
 use Rattle.std.proofs.lemmas.List.Elements.{All-append, All-nil, All-cons, recursion_from_All, filter_map-append}
-use Rattle.ipnet_addr.specs.Addresses.{Address, IsAddress, Family, Ipv4, Ipv6, width}
+use Rattle.ipnet_addr.specs.Addresses.{Address, IsAddress, Family, Ipv4, Ipv6}
 use Rattle.ipnet_addr.proofs.Members.{In}
-use Rattle.ipnet_addr.proofs.Ascending.{In-from_All, In-from_Contains, Contains-from_In}
+use Rattle.ipnet_addr.proofs.Ascending.{In-from_All, In-from_Contains}
 use Rattle.ipnet_blocks.specs.Blocks.{Block, IsBlock, first_of, host}
 use Rattle.ipnet_blocks.specs.Networks.{Network, IsNetwork, net_of}
 use Rattle.ipnet_blocks.proofs.BlockLaws.{has_first}
@@ -18,14 +18,14 @@ use Rattle.ipnet.proofs.Ipv6Networks.{v6_reads_text}
 use Rattle.route_lines.specs.Bytes.{lines}
 use Rattle.route_lines.specs.Phrase.{Gives}
 use Rattle.route_lines.specs.Spelled.{reply_of}
-use Rattle.route_lines.specs.Texts.{IsReply, reply_text, closing_text, hop_text, IsPrintable}
+use Rattle.route_lines.specs.Texts.{IsReply, reply_text, closing_text, hop_text}
 use Rattle.route_lines.specs.Words as word
 use Rattle.route_lines.specs.declared.reply.Closing.{Closing}
 use Rattle.route_lines.specs.declared.reply.Closing.TheVariants.{Done, Missing, Bad, Refused}
 use Rattle.route_lines.specs.declared.reply.Reply.{Reply}
 use Rattle.route_lines.specs.declared.reply.Reply.TheVariants as R
 use Rattle.route_lines.proofs.Good.{written}
-use Rattle.route_lines.proofs.Printed.{Words, prints}
+use Rattle.route_lines.proofs.Printed.{prints}
 use Rattle.route_lines.proofs.Replies.{one_reply, clean_reply}
 use Rattle.route_lines.proofs.Spells.{reply_found}
 use Rattle.route_table.specs.Stored.{network_at}
@@ -34,9 +34,9 @@ use Rattle.route_table.specs.declared.hop.Hop.{Hop}
 use Rattle.route_table.specs.declared.hop.Hop.TheVariants.{Number, Drop}
 use Rattle.route_table.proofs.Gaps.{of_network_at}
 use Rattle.route_table.proofs.Matches.{match_meets}
-use Rattle.route_feed.specs.Replies.{reply_line, printed}
+use Rattle.route_feed.specs.Replies.{printed}
 use Rattle.route_feed.specs.Steps.{change_line, route_line}
-use Rattle.route_feed.specs.Streams.{Change, change_of, closing_of, replies_in}
+use Rattle.route_feed.specs.Streams.{change_of, closing_of, replies_in}
 use Rattle.route_feed.proofs.Seam.{changes_in}
 
 -- ---- what is read of printed lines

@@ -2,13 +2,13 @@
 use Rattle.std.proofs.Common.{◌≡◌, ◌≢◌, ℕ, ◌⊎◌, inl, inr, ⊎_elim, Bool, true, false, cond, List, [], ◌∷◌, ◌++◌, map, Option, Some, None, refl, sym, ap, ◌∙◌, subst}
 use Rattle.std.specs.List.{filter_map}
 use Rattle.ipnet_addr.proofs.Members.{In}
-use Rattle.ipnet_addr.proofs.Ascending.{In-from_Any, Contains-from_In}
+use Rattle.ipnet_addr.proofs.Ascending.{In-from_Any}
 use Rattle.ipnet_addr.specs.Addresses.{Address, IsAddress}
 use Rattle.ipnet_blocks.specs.Blocks.{Block, HasAddress, has_address, first_of}
 use Rattle.ipnet_blocks.specs.Maximal.{maximal_of}
 use Rattle.ipnet_blocks.proofs.BlockLaws.{has_first}
 use Rattle.ipnet_blocks.proofs.BlockTests.{has_from_test, test_from_has}
-use Rattle.ipnet_blocks.proofs.Maximals.{maximal_is_union, member_is_address}
+use Rattle.ipnet_blocks.proofs.Maximals.{maximal_is_union}
 use Rattle.route_lines.specs.declared.reply.Reply.{Reply}
 use Rattle.route_table.specs.Changes.{changed, same_number}
 use Rattle.route_table.specs.Tables.{Route, Changed, hop_at}
@@ -80,5 +80,5 @@ module _ (M N : List Route) where
   change_painted one all x a =
       ap (λ cs. painted_over (hop_at M x) cs x) (changes_read (hop_at N) (maximal_of (changed M N)))
       ∙ paints (hop_at N) x (hop_at N x) (hop_at M x) (maximal_of (changed M N))
-          (λ b i k. all b i (first_of b) (has_first b) ∙ sym (all b i x k))
-          (⊎_elim (λ e. inl e) (λ d. inr (in_changes x a d)) (decide_same (hop_at M x) (hop_at N x)))
+      (λ b i k. all b i (first_of b) (has_first b) ∙ sym (all b i x k))
+      (⊎_elim (λ e. inl e) (λ d. inr (in_changes x a d)) (decide_same (hop_at M x) (hop_at N x)))

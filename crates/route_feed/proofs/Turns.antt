@@ -1,5 +1,5 @@
 -- What each reply tells, and that it paints the hops of the table after it.
-use Rattle.std.proofs.Common.{◌≡◌, ℕ, zero, suc, inl, inr, Bool, true, false, ◌&&◌, cond, List, [], ◌∷◌, ◌++◌, map, take, filter, Option, Some, None, MatchOption, refl, sym, ap, ◌∙◌, subst, ⊎_elim}
+use Rattle.std.proofs.Common.{◌≡◌, ℕ, zero, suc, inl, inr, Bool, true, false, ◌&&◌, cond, List, [], ◌∷◌, map, take, filter, Option, Some, None, MatchOption, refl, sym, ap, subst, ⊎_elim}
 use Rattle.ipnet_addr.specs.Addresses.{Address, IsAddress, Ipv4, Ipv6}
 use Rattle.ipnet_addr.proofs.Members.{In}
 use Rattle.ipnet_addr.proofs.Ascending.{In-from_All, Contains-from_In}
@@ -10,21 +10,19 @@ use Rattle.ipnet.specs.IpNets.{block}
 use Rattle.route_lines.specs.declared.command.Command.{Command}
 use Rattle.route_lines.specs.declared.command.Command.TheVariants as C
 use Rattle.route_lines.specs.declared.reply.Closing.{Closing}
-use Rattle.route_lines.specs.declared.reply.Closing.TheVariants.{Done, Missing, Bad, Refused}
+use Rattle.route_lines.specs.declared.reply.Closing.TheVariants.{Missing, Bad, Refused}
 use Rattle.route_lines.specs.declared.reply.Reply.{Reply}
-use Rattle.route_lines.specs.declared.reply.Reply.TheVariants.{Close}
 use Rattle.route_table.specs.Changes.{changed}
 use Rattle.route_table.specs.Flats.{Piece, flat_of}
-use Rattle.route_table.specs.Governing.{routes_inside}
-use Rattle.route_table.specs.Onwards.{count_of, routes_from, routes_after}
+use Rattle.route_table.specs.Onwards.{count_of}
 use Rattle.route_table.specs.Stored.{route_of}
-use Rattle.route_table.specs.Tables.{Route, IsTable, IsHop, hop_at, is_stored, match_of, longest, covering, with_route, without_block, number_of, match_number}
+use Rattle.route_table.specs.Tables.{Route, IsTable, IsHop, hop_at, is_stored, match_of, covering, with_route, without_block, number_of, match_number}
 use Rattle.route_table.proofs.Changes.{changed_is_maximal}
 use Rattle.route_table.proofs.FlatSearch.{search_is_flat}
 use Rattle.route_table.proofs.Matches.{In-from_filter, AtLeast, best_of}
 use Rattle.route_table.proofs.OneHop.{added_lines, left_lines}
 use Rattle.route_table.proofs.Updates.{added_is_table, left_is_table}
-use Rattle.route_feed.specs.Steps.{Turn, lines_of, closed, told, change_line, change_lines, changed_to, route_line, flat_line, one_or_missing, may_refuse, answer, step}
+use Rattle.route_feed.specs.Steps.{Turn, closed, told, change_line, change_lines, changed_to, route_line, flat_line, one_or_missing, may_refuse, answer, step}
 use Rattle.route_feed.specs.Streams.{Change, change_of, is_done, painted_over}
 use Rattle.route_feed.proofs.ReadNets.{IsInRange}
 use Rattle.route_feed.proofs.Reread.{IsTold, AreTold, AreTold-map, route_told, piece_told, change_told, count_told}

@@ -8,6 +8,7 @@ pub use leader::lead;
 mod answer;
 mod counted;
 mod error;
+pub mod laws;
 mod leader;
 #[cfg(test)]
 mod tests;
