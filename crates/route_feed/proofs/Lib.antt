@@ -6,3 +6,8 @@ pub mod Moving
 pub mod Running
 pub mod Stepping
 pub mod Ending
+pub mod Seam
+pub mod ReadNets
+pub mod Reread
+pub mod Turns
+pub mod Following

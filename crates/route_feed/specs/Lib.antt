@@ -10,3 +10,4 @@ pub mod Following
 pub mod Waiting
 pub mod Follows
 pub mod Readings
+pub mod Laws

@@ -11,6 +11,7 @@ mod answer;
 mod counted;
 mod error;
 mod follower;
+pub mod laws;
 mod leader;
 mod reading;
 #[cfg(test)]

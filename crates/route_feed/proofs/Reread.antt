@@ -1,0 +1,256 @@
+-- Lines that are printed, and what is read of them again.
+use Rattle.std.proofs.Common.{inl, inr, ◌≡◌, ◌≢◌, ℕ, zero, suc, ◌+◌, ◌/◌, ◌%◌, ◌≤◌, ◌<◌, ◌==◌, nat_lt, Bool, true, false, cond, List, [], ◌∷◌, ◌++◌, get_or, map, codes, decimal, All, Option, Some, None, refl, sym, ap, ◌∙◌, subst, arith, append_assoc}
+use Rattle.std.specs.List.{filter_map, cons_option, AllByRecursion}
+use Rattle.std.specs.Fmt.{digits, digits_onto, digit_glyph}
+use Rattle.std.proofs.lemmas.Bool.Decides.{nat_tests}
+use Rattle.std.proofs.lemmas.List.Elements.{All-append, All-nil, All-cons, recursion_from_All, filter_map-append}
+use Rattle.ipnet_addr.specs.Addresses.{Address, IsAddress, Family, Ipv4, Ipv6}
+use Rattle.ipnet_addr.proofs.Members.{In}
+use Rattle.ipnet_addr.proofs.Ascending.{In-from_All, In-from_Contains}
+use Rattle.ipnet_blocks.specs.Blocks.{Block, IsBlock, first_of, host}
+use Rattle.ipnet_blocks.specs.Networks.{Network, IsNetwork, net_of}
+use Rattle.ipnet_blocks.proofs.BlockLaws.{has_first}
+use Rattle.ipnet_blocks.proofs.Maximals.{host_is_block, member_is_address}
+use Rattle.ipnet.specs.IpNets.{block, net_in}
+use Rattle.ipnet.specs.IpNetText.{net_text, Reads}
+use Rattle.ipnet.proofs.Ipv4Networks.{v4_reads_text}
+use Rattle.ipnet.proofs.Ipv6Networks.{v6_reads_text}
+use Rattle.route_lines.specs.Bytes.{lines}
+use Rattle.route_lines.specs.Phrase.{Gives}
+use Rattle.route_lines.specs.Spelled.{reply_of}
+use Rattle.route_lines.specs.Texts.{IsReply, reply_text, closing_text, hop_text}
+use Rattle.route_lines.specs.Words as word
+use Rattle.route_lines.specs.declared.reply.Closing.{Closing}
+use Rattle.route_lines.specs.declared.reply.Closing.TheVariants.{Done, Missing, Bad, Refused}
+use Rattle.route_lines.specs.declared.reply.Reply.{Reply}
+use Rattle.route_lines.specs.declared.reply.Reply.TheVariants as R
+use Rattle.route_lines.proofs.Good.{written}
+use Rattle.route_lines.proofs.Printed.{prints}
+use Rattle.route_lines.proofs.Replies.{one_reply, clean_reply}
+use Rattle.route_lines.proofs.Spells.{reply_found}
+use Rattle.route_table.specs.Stored.{network_at}
+use Rattle.route_table.specs.Tables.{Route, IsTable, IsHop, hop_at, match_of, match_number, number_of}
+use Rattle.route_table.specs.declared.hop.Hop.{Hop}
+use Rattle.route_table.specs.declared.hop.Hop.TheVariants.{Number, Drop}
+use Rattle.route_table.proofs.Gaps.{of_network_at}
+use Rattle.route_table.proofs.Matches.{match_meets}
+use Rattle.route_feed.specs.Replies.{printed}
+use Rattle.route_feed.specs.Steps.{change_line, route_line}
+use Rattle.route_feed.specs.Streams.{change_of, closing_of, replies_in}
+use Rattle.route_feed.proofs.Seam.{changes_in}
+
+-- ---- what is read of printed lines
+
+abbrev pub reread : List Reply → List Reply
+reread ls = filter_map (λ l. reply_of (reply_text l)) ls
+
+abbrev pub IsClean : Reply → Type 0
+IsClean l = All (λ c. c ≢ 10) (reply_text l)
+
+abbrev pub AreClean : List Reply → Type 0
+AreClean [] = Unit {0}
+AreClean (l ∷ ls) = IsClean l × AreClean ls
+
+pub AreClean-append : (ls ms : List Reply) → AreClean ls → AreClean ms → AreClean (ls ++ ms)
+AreClean-append [] ms p q = q
+AreClean-append (l ∷ ls) ms p q = (p.0, AreClean-append ls ms p.1 q)
+
+first_line : (text bytes : List ℕ) → AllByRecursion (λ c. c ≢ 10) text → lines (text ++ 10 ∷ bytes) ≡ text ∷ lines bytes
+first_line [] bytes h = refl
+first_line (c ∷ cs) bytes h =
+    let other : (c == 10) ≡ false = let d = h.0 in grind (arith, nat_tests) in
+    rw (other, first_line cs bytes h.1) refl
+
+pub read_again : (ls : List Reply) → AreClean ls → replies_in (printed ls) ≡ reread ls
+read_again [] h = refl
+read_again (l ∷ ls) h =
+    ap replies_in (append_assoc (reply_text l) (10 ∷ []) (printed ls))
+    ∙ ap (filter_map reply_of) (first_line (reply_text l) (printed ls) (recursion_from_All (λ c. c ≢ 10) (reply_text l) h.0))
+    ∙ filter_map-append reply_of (reply_text l ∷ []) (lines (printed ls))
+    ∙ ap (λ rs. filter_map reply_of (reply_text l ∷ []) ++ rs) (read_again ls h.1)
+    ∙ sym (filter_map-append (λ m. reply_of (reply_text m)) (l ∷ []) ls)
+
+-- the reply line that is read
+pub reply_is : (text : List ℕ) (r : Reply) → IsReply text r → reply_of text ≡ Some r
+reply_is text r h = go (reply_of text) (reply_found text)
+  where
+    go : (o : Option Reply) → Gives IsReply text o → o ≡ Some r
+    go None none = absurd (none r h)
+    go (Some other) found = ap Some (one_reply text other r found h)
+
+-- ---- lines of a reply
+
+-- what is read of a line closes no reply, and tells the same change
+abbrev pub Keeps : Reply → Option Reply → Type 0
+Keeps l None = change_of l ≡ None
+Keeps l (Some m) = (closing_of m ≡ None) × (change_of m ≡ change_of l)
+
+pub record IsTold (l : Reply) : Type 0 where
+  pub clean : IsClean l
+  pub kept : Keeps l (reply_of (reply_text l))
+
+abbrev pub AreTold : List Reply → Type 0
+AreTold [] = Unit {0}
+AreTold (l ∷ ls) = IsTold l × AreTold ls
+
+pub AreTold-map : {A : Type 0} (f : A → Reply) (xs : List A) → ((x : A) → In x xs → IsTold (f x)) → AreTold (map f xs)
+AreTold-map f [] h = tt
+AreTold-map f (x ∷ xs) h = (h x (inl refl), AreTold-map f xs (λ y i. h y (inr i)))
+
+pub told_is_clean : (ls : List Reply) → AreTold ls → AreClean ls
+told_is_clean [] h = tt
+told_is_clean (l ∷ ls) h = (h.0.clean, told_is_clean ls h.1)
+
+-- none of the lines closes a reply
+abbrev pub AreOpen : List Reply → Type 0
+AreOpen [] = Unit {0}
+AreOpen (l ∷ ls) = (closing_of l ≡ None) × AreOpen ls
+
+pub reread_open : (ls : List Reply) → AreTold ls → AreOpen (reread ls)
+reread_open [] h = tt
+reread_open (l ∷ ls) h = go (reply_of (reply_text l)) h.0.kept (reread_open ls h.1)
+  where
+    go : (o : Option Reply) → Keeps l o → AreOpen (reread ls) → AreOpen (cons_option o (reread ls))
+    go None k later = later
+    go (Some m) k later = (k.0, later)
+
+pub reread_changes : (ls : List Reply) → AreTold ls → changes_in (reread ls) ≡ changes_in ls
+reread_changes [] h = refl
+reread_changes (l ∷ ls) h = go (reply_of (reply_text l)) h.0.kept (reread_changes ls h.1)
+  where
+    go : (o : Option Reply) → Keeps l o → changes_in (reread ls) ≡ changes_in ls → changes_in (cons_option o (reread ls)) ≡ changes_in (l ∷ ls)
+    go None k later = rw k later
+    go (Some m) k later = rw k.1 (ap (cons_option (change_of l)) later)
+
+pub closing_read : (closing : Closing) → reply_of (closing_text closing) ≡ Some (R.Close closing)
+closing_read closing = reply_is (closing_text closing) (R.Close closing) refl
+
+pub closing_is_clean : (closing : Closing) → IsClean (R.Close closing)
+closing_is_clean closing = clean_reply (closing_text closing) (R.Close closing) refl
+
+told_if_read : (l : Reply) → closing_of l ≡ None → IsReply (reply_text l) l → IsTold l
+told_if_read l none h = record {
+  clean = clean_reply (reply_text l) l h;
+  kept = subst (Keeps l) (sym (reply_is (reply_text l) l h)) (none, refl);
+}
+
+-- ---- networks, hops and numbers
+
+block_is_network : (b : Block) → IsBlock b → IsNetwork b.family (net_of b)
+block_is_network b ok = record { in_width = ok.in_width; in_range = member_is_address b (first_of b) ok (has_first b) }
+
+net_reads : (b : Block) → IsBlock b → Reads (net_text (network_at b)) (network_at b)
+net_reads b ok = go b.family (net_of b) (block_is_network b ok)
+  where
+    go : (f : Family) (n : Network) → IsNetwork f n → Reads (net_text (net_in f n)) (net_in f n)
+    go Ipv4 n h = v4_reads_text n h.in_range h.in_width
+    go Ipv6 n h = v6_reads_text n h.in_range h.in_width
+
+is_cut : (b : Block) → network_at b ≡ network_at (block (network_at b))
+is_cut b = sym (ap network_at (of_network_at b))
+
+number_small : (hop : Hop) (n : ℕ) → IsHop hop → number_of hop ≡ Some n → n ≤ 0xffffffff
+number_small (Number m) n h e = let same : m ≡ n = cc in omega (arith, h, same)
+number_small Drop n h e = absurd (cc)
+
+hop_small : (M : List Route) → IsTable M → (x : Address) → IsAddress x → (n : ℕ) → hop_at M x ≡ Some n → n ≤ 0xffffffff
+hop_small M m x a n e = go (match_of M (host x)) refl e
+  where
+    go : (o : Option Route) → match_of M (host x) ≡ o → match_number o ≡ Some n → n ≤ 0xffffffff
+    go None f q = absurd (cc)
+    go (Some r) f q =
+        let is = match_meets M m (host x) (host_is_block x a) r f in
+        number_small r.hop n (In-from_All (λ s. IsHop s.hop) M m.hops r (In-from_Contains M r is.member)) q
+
+word_hop : (hop : Hop) → IsHop hop → word.IsHop (hop_text hop) hop
+word_hop (Number n) h = (refl, omega arith, omega (arith, h))
+word_hop Drop h = refl
+
+-- ---- lines that are told
+
+pub set_told : (b : Block) (n : ℕ) → IsBlock b → n ≤ 0xffffffff → IsTold (R.Set (network_at b) n)
+set_told b n ok small = told_if_read (R.Set (network_at b) n) refl (prints (R.Set (network_at b) n) (is_cut b) (net_reads b ok, small))
+
+pub unset_told : (b : Block) → IsBlock b → IsTold (R.Unset (network_at b))
+unset_told b ok = told_if_read (R.Unset (network_at b)) refl (prints (R.Unset (network_at b)) (is_cut b) (net_reads b ok))
+
+pub route_told : (r : Route) → IsBlock r.block → IsHop r.hop → IsTold (route_line r)
+route_told r ok hop = told_if_read (route_line r) refl (prints (route_line r) (is_cut r.block) (net_reads r.block ok, word_hop r.hop hop))
+
+pub flat_told : (b : Block) (n : ℕ) → IsBlock b → n ≤ 0xffffffff → IsTold (R.Flat (network_at b) n)
+flat_told b n ok small = told_if_read (R.Flat (network_at b) n) refl (prints (R.Flat (network_at b) n) (is_cut b) (net_reads b ok, small))
+
+pub own_told : (b : Block) → IsBlock b → IsTold (R.Own (network_at b))
+own_told b ok = told_if_read (R.Own (network_at b)) refl (prints (R.Own (network_at b)) (is_cut b) (net_reads b ok))
+
+-- the line of a block whose addresses have one hop in a table
+pub change_told : (M : List Route) → IsTable M → (b : Block) → IsBlock b → IsTold (change_line (hop_at M (first_of b)) b)
+change_told M m b ok = go (hop_at M (first_of b)) refl
+  where
+    go : (o : Option ℕ) → hop_at M (first_of b) ≡ o → IsTold (change_line o b)
+    go None e = unset_told b ok
+    go (Some n) e = set_told b n ok (hop_small M m (first_of b) (member_is_address b (first_of b) ok (has_first b)) n e)
+
+pub piece_told : (M : List Route) → IsTable M → (b : Block) (n : ℕ) → IsBlock b → hop_at M (first_of b) ≡ Some n → IsTold (R.Flat (network_at b) n)
+piece_told M m b n ok e = flat_told b n ok (hop_small M m (first_of b) (member_is_address b (first_of b) ok (has_first b)) n e)
+
+-- ---- the line of the counts, however many routes there are
+
+glyph_clean : (n : ℕ) → digit_glyph false (n % 10) ≢ 10
+glyph_clean n = let small : n % 10 < 10 = omega arith in go (n % 10) (nat_lt (n % 10) 10)
+  where
+    go : (d : ℕ) (b : Bool) → cond b (48 + d) (87 + d) ≢ 10
+    go d true e = omega (arith, e)
+    go d false e = omega (arith, e)
+
+digits_clean : (k n : ℕ) (acc : List ℕ) → All (λ c. c ≢ 10) acc → All (λ c. c ≢ 10) (digits_onto k 10 false n acc)
+digits_clean zero n acc h = h
+digits_clean (suc k) n acc h = go (n / 10 == 0) (All-cons (λ c. c ≢ 10) (digit_glyph false (n % 10)) acc (glyph_clean n) h) (digits_clean k (n / 10) (digit_glyph false (n % 10) ∷ acc))
+  where
+    go : (b : Bool) → All (λ c. c ≢ 10) (digit_glyph false (n % 10) ∷ acc)
+        → (All (λ c. c ≢ 10) (digit_glyph false (n % 10) ∷ acc) → All (λ c. c ≢ 10) (digits_onto k 10 false (n / 10) (digit_glyph false (n % 10) ∷ acc)))
+        → All (λ c. c ≢ 10) (cond b (digit_glyph false (n % 10) ∷ acc) (digits_onto k 10 false (n / 10) (digit_glyph false (n % 10) ∷ acc)))
+    go true now later = now
+    go false now later = later now
+
+decimal_clean : (n : ℕ) → All (λ c. c ≢ 10) (decimal n)
+unfolding digits
+decimal_clean n = digits_clean 64 n [] (All-nil (λ c. c ≢ 10))
+
+module _ (v4 v6 : ℕ) where
+  abbrev count : Reply
+  count = R.Count v4 v6
+
+  first_is : (r : Reply) → IsReply (reply_text count) r → closing_of r ≡ None
+  first_is (R.Set net n) h = refl
+  first_is (R.Unset net) h = refl
+  first_is (R.Route net hop) h = refl
+  first_is (R.Flat net n) h = refl
+  first_is (R.Own net) h = refl
+  first_is (R.Count m n) h = refl
+  first_is (R.Close Done) h = absurd (let e = ap (λ t. get_or t 0 0) h in omega (arith, e))
+  first_is (R.Close Missing) h = absurd (let e = ap (λ t. get_or t 0 0) h in omega (arith, e))
+  first_is (R.Close Bad) h = absurd (let e = ap (λ t. get_or t 0 0) h in omega (arith, e))
+  first_is (R.Close Refused) h = absurd (let e = ap (λ t. get_or t 0 0) h in omega (arith, e))
+
+  no_change : (r : Reply) → IsReply (reply_text count) r → change_of r ≡ None
+  no_change (R.Set net n) h = absurd (let e = ap (λ t. get_or t 0 0) h.spelled in omega (arith, e))
+  no_change (R.Unset net) h = absurd (let e = ap (λ t. get_or t 0 0) h.spelled in omega (arith, e))
+  no_change (R.Route net hop) h = refl
+  no_change (R.Flat net n) h = refl
+  no_change (R.Own net) h = refl
+  no_change (R.Count m n) h = refl
+  no_change (R.Close closing) h = refl
+
+  pub count_told : IsTold count
+  count_told = record {
+    clean = All-append (λ c. c ≢ 10) (codes "count " ++ decimal v4 ++ codes " ") (decimal v6)
+        (All-append (λ c. c ≢ 10) (codes "count " ++ decimal v4) (codes " ")
+        (All-append (λ c. c ≢ 10) (codes "count ") (decimal v4) (written (codes "count ") refl) (decimal_clean v4)) (written (codes " ") refl))
+        (decimal_clean v6);
+    kept = go (reply_of (reply_text count)) (reply_found (reply_text count));
+  }
+    where
+      go : (o : Option Reply) → Gives IsReply (reply_text count) o → Keeps count o
+      go None h = refl
+      go (Some r) h = (first_is r h, no_change r h)

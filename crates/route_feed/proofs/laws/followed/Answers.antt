@@ -1,0 +1,8 @@
+use Rattle.route_feed.proofs.Following.{beginnings_agree, flat_lists_agree}
+use Rattle.route_feed.proofs.laws.followed.Goals as goal
+
+pub returns-clause-hops : goal.returns-clause-hops
+returns-clause-hops c = beginnings_agree
+
+pub returns-clause-flat : goal.returns-clause-flat
+returns-clause-flat c = flat_lists_agree

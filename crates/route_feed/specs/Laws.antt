@@ -1,0 +1,22 @@
+-- What a follower knows that has read any beginning of what a leader wrote.
+use Rattle.std.specs.Prelude.{◌≡◌, ℕ, Bool, List, [], ◌++◌, take}
+use Rattle.ipnet_addr.specs.Addresses.{Address, IsAddress}
+use Rattle.route_lines.specs.Bytes.{rest}
+use Rattle.route_table.specs.Flats.{flat_of}
+use Rattle.route_table.specs.Tables.{Route, hop_at}
+use Rattle.route_feed.specs.Output.{table_after, whole_commands, at_end, output}
+use Rattle.route_feed.specs.Streams.{closings, committed, painted, replies_in}
+
+-- the table after as many of the commands in the bytes as replies stand whole in this beginning of the output
+abbrev pub table_told : List ℕ → List Bool → List ℕ → List Route
+table_told bytes refusals front = table_after [] (take (closings (replies_in front)) (whole_commands bytes ++ at_end (rest bytes))) refusals
+
+-- a follower of any beginning of the output has each address at the hop that it has in that table
+abbrev pub BeginningsAgree : Type 0
+BeginningsAgree = (bytes front back : List ℕ) (refusals : List Bool) → output bytes refusals ≡ front ++ back
+    → (x : Address) → IsAddress x → painted (committed (replies_in front)) x ≡ hop_at (table_told bytes refusals front) x
+
+-- so it has the flat list of that table
+abbrev pub FlatListsAgree : Type 0
+FlatListsAgree = (bytes front back : List ℕ) (refusals : List Bool) → output bytes refusals ≡ front ++ back
+    → flat_of (painted (committed (replies_in front))) ≡ flat_of (hop_at (table_told bytes refusals front))

@@ -1,0 +1,10 @@
+//! Laws of reply streams: public functions without a body, whose contracts are the laws.
+ghost use Rattle.route_feed.specs.Laws.{BeginningsAgree, FlatListsAgree};
+
+/// Whoever reads any beginning of the output of a leader, cut at any byte, and takes the changes of the replies that end
+/// there in `ok`, has each address at the hop that it has in the leader's table after as many commands as replies end
+/// there; and so the flat list of that table.
+pub fn followed()
+    ensures hops { BeginningsAgree }
+    ensures flat { FlatListsAgree }
+{}
