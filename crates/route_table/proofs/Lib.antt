@@ -24,3 +24,4 @@ pub mod Turns
 pub mod Closings
 pub mod FlatRuns
 pub mod Flattenings
+pub mod Owned

@@ -7,4 +7,5 @@ pub mod Items
 pub mod Governing
 pub mod Running
 pub mod Flattening
+pub mod Owning
 pub mod Laws

@@ -14,6 +14,7 @@ mod flat_tests;
 mod governed;
 mod hop;
 pub mod laws;
+mod own_blocks;
 mod routes;
 mod runs;
 mod table;

@@ -29,6 +29,7 @@ use trie_map::{PrefixMap, Refused};
 pub struct RouteTable {
     v4: PrefixMap<Ipv4Net, Hop>,
     v6: PrefixMap<Ipv6Net, Hop>,
+    alloc: Global,
 }
 
 impl Model for RouteTable {
@@ -66,6 +67,7 @@ impl RouteTable {
         Ok(RouteTable {
             v4: PrefixMap::new(alloc)?,
             v6: PrefixMap::new(alloc)?,
+            alloc,
         })
     }
 
@@ -161,6 +163,11 @@ impl RouteTable {
         let net = net.trunc();
         self.is_table();
         Governed::new(net, self.list(&net))
+    }
+
+    /// Where its memory is from.
+    pub(crate) fn alloc(&self) -> Global {
+        self.alloc
     }
 
     /// The routes of either family, ascending.
