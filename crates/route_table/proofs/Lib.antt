@@ -25,3 +25,5 @@ pub mod Closings
 pub mod FlatRuns
 pub mod Flattenings
 pub mod Owned
+pub mod FlatBounds
+pub mod Rebuilds

@@ -1,11 +1,11 @@
 -- The addresses that the routes of a number govern are those with that hop.
-use Rattle.std.proofs.Common.{◌≡◌, ℕ, ◌<◌, ◌≤◌, ◌⊎◌, inl, inr, ⊎_elim, ◌↔◌, ◌==◌, List, [], ◌∷◌, ◌++◌, map, filter, Option, Some, None, Any, refl, sym, ap, ◌∙◌, subst, arith, Result, Ok, Err}
+use Rattle.std.proofs.Common.{◌≡◌, ℕ, ◌⊎◌, inl, inr, ⊎_elim, ◌↔◌, ◌==◌, List, [], ◌∷◌, ◌++◌, map, filter, Option, Some, None, Any, refl, sym, ap, ◌∙◌, subst, arith, Result, Ok, Err}
 use Rattle.std.specs.Prelude.{IfOk, OnOk}
 use Rattle.ipnet_addr.specs.Addresses.{Address, IsAddress}
-use Rattle.ipnet_addr.proofs.Members.{In, In-left, In-right, In-cases, one_or_all}
+use Rattle.ipnet_addr.proofs.Members.{In, one_or_all}
 use Rattle.ipnet_addr.proofs.Ascending.{In-from_Any, Any-from_In, In-from_Contains, Contains-from_In}
 use Rattle.ipnet_blocks.specs.Aggregated.{InSome}
-use Rattle.ipnet_blocks.specs.Blocks.{Block, IsBlock, HasAddress, IsInside, IsLarger, first_of, host}
+use Rattle.ipnet_blocks.specs.Blocks.{Block, IsBlock, HasAddress, IsLarger, first_of, host}
 use Rattle.ipnet_blocks.specs.Maximal.{IsMaximal}
 use Rattle.ipnet_blocks.proofs.BlockLaws.{has_first, longer_inside}
 use Rattle.ipnet_blocks.proofs.Lists.{any_left, any_right, any_cases, any_one, one_any}
@@ -16,7 +16,7 @@ use Rattle.ipnet.specs.IpNets.{block}
 use Rattle.ipnet.specs.declared.ip_net.IpNet.{IpNet}
 use Rattle.route_table.specs.Flats.{blocks_of, flat_of}
 use Rattle.route_table.specs.Owning.{Owns, IsOwned, GrowsBy}
-use Rattle.route_table.specs.Tables.{Route, IsTable, IsMatch, Governed, match_of, match_number, number_of, hop_at}
+use Rattle.route_table.specs.Tables.{Route, IsTable, Governed, match_of, match_number, number_of, hop_at}
 use Rattle.route_table.proofs.Bounds.{decide_has}
 use Rattle.route_table.proofs.FlatSearch.{search_is_flat}
 use Rattle.route_table.proofs.Matches.{block_in, match_meets, match_from, governed_match}

@@ -1,4 +1,4 @@
-use Rattle.std.proofs.Common.{◌≡◌, ◌∙◌, sym, subst, ap, map}
+use Rattle.std.proofs.Common.{map}
 use Rattle.ipnet.specs.IpNets.{block}
 use Rattle.route_table.proofs.Owned.{owned_blocks, owned_is_flat, if_ok}
 use Rattle.route_table.proofs.table.RouteTable.owned.Goals as goal

@@ -1,4 +1,4 @@
-use Rattle.std.proofs.Common.{◌≡◌, ◌∙◌, sym, subst, ap, Some, ℕ}
+use Rattle.std.proofs.Common.{◌∙◌, subst, ap, Some, ℕ}
 use Rattle.ipnet_blocks.specs.Blocks.{Block}
 use Rattle.ipnet_blocks.specs.Maximal.{IsMaximal}
 use Rattle.ipnet_blocks.proofs.NetworkBlocks.{block_is}
