@@ -24,7 +24,7 @@ use trie_map::{PrefixMap, Refused};
 /// A hop for each of some networks of both families.
 ///
 /// Contracts see it as the ascending list of its routes, one for each stored network. Host bits of an argument are
-/// ignored everywhere. Only `new` and an `add` of a network that is not stored take memory.
+/// ignored everywhere. Only `new`, `own` and an `add` of a network that is not stored take memory.
 #[derive(Drop)]
 pub struct RouteTable {
     v4: PrefixMap<Ipv4Net, Hop>,
