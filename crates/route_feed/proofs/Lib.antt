@@ -2,6 +2,7 @@ pub mod Written
 pub mod Telling
 pub mod Told
 pub mod Carried
+pub mod Owned
 pub mod Moving
 pub mod Running
 pub mod Stepping

@@ -1,5 +1,5 @@
 -- What a leader answers to each command, and the table that it has then.
-use Rattle.std.specs.Prelude.{not, ◌&&◌, ℕ, Bool, false, List, [], ◌∷◌, ◌++◌, if◌then◌else◌, Option, Some, None, map, take}
+use Rattle.std.specs.Prelude.{not, ◌&&◌, ◌==◌, ℕ, Bool, true, false, List, [], ◌∷◌, ◌++◌, if◌then◌else◌, Option, Some, None, map, take, filter}
 use Rattle.ipnet_addr.specs.Addresses.{Ipv4, Ipv6}
 use Rattle.ipnet_blocks.specs.Blocks.{Block, first_of}
 use Rattle.ipnet_blocks.specs.Maximal.{maximal_of}
@@ -9,9 +9,9 @@ use Rattle.route_lines.specs.declared.command.Command.TheVariants as C
 use Rattle.route_lines.specs.declared.reply.Closing.{Closing}
 use Rattle.route_lines.specs.declared.reply.Closing.TheVariants.{Done, Missing, Bad, Refused}
 use Rattle.route_lines.specs.declared.reply.Reply.{Reply}
-use Rattle.route_lines.specs.declared.reply.Reply.TheVariants.{Set, Unset, Route, Flat, Count, Close}
+use Rattle.route_lines.specs.declared.reply.Reply.TheVariants.{Set, Unset, Route, Flat, Own, Count, Close}
 use Rattle.route_table.specs.Changes.{changed}
-use Rattle.route_table.specs.Flats.{Piece, flat_of}
+use Rattle.route_table.specs.Flats.{Piece, blocks_of, flat_of}
 use Rattle.route_table.specs.Governing.{routes_inside}
 use Rattle.route_table.specs.Onwards.{count_of, routes_from, routes_after}
 use Rattle.route_table.specs.Stored.{network_at, route_of}
@@ -57,12 +57,16 @@ route_line r = Route (network_at r.block) r.hop
 abbrev pub flat_line : Piece → Reply
 flat_line p = Flat (network_at p.block) p.number
 
+-- the line of a block of the hop that was asked for
+abbrev pub own_line : Block → Reply
+own_line b = Own (network_at b)
+
 -- the stored route, if there is one
 abbrev pub one_or_missing : List table.Route → Option table.Route → Turn
 one_or_missing M None = closed M Missing
 one_or_missing M (Some r) = told M (route_line r ∷ [])
 
--- whether a command may be refused for want of memory at its turn: only an `add` of a network that isn't stored
+-- whether a command may be refused for want of memory at its turn: an `add` of a network that isn't stored, and an `own`
 abbrev pub may_refuse : List table.Route → Option Command → Bool
 may_refuse M (Some (C.Add net hop)) = not (is_stored M (block net))
 may_refuse M (Some (C.Del net)) = false
@@ -71,7 +75,7 @@ may_refuse M (Some (C.Cover net)) = false
 may_refuse M (Some (C.List net)) = false
 may_refuse M (Some (C.PageFrom net limit)) = false
 may_refuse M (Some (C.PageAfter net limit)) = false
-may_refuse M (Some (C.Own number)) = false
+may_refuse M (Some (C.Own number)) = true
 may_refuse M (Some C.Count) = false
 may_refuse M (Some C.Flat) = false
 may_refuse M None = false
@@ -85,7 +89,7 @@ answer M (Some (C.Cover net)) = told M (map route_line (covering M (block net)))
 answer M (Some (C.List net)) = told M (map route_line (routes_inside M (block net)))
 answer M (Some (C.PageFrom net limit)) = told M (map route_line (take limit (routes_from M (block net))))
 answer M (Some (C.PageAfter net limit)) = told M (map route_line (take limit (routes_after M (block net))))
-answer M (Some (C.Own number)) = closed M Bad
+answer M (Some (C.Own number)) = told M (map own_line (blocks_of (filter (λ p. p.number == number) (flat_of (hop_at M)))))
 answer M (Some C.Count) = told M (Count (count_of Ipv4 M) (count_of Ipv6 M) ∷ [])
 answer M (Some C.Flat) = told M (map flat_line (flat_of (hop_at M)))
 answer M None = closed M Bad

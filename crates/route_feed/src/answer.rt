@@ -1,20 +1,21 @@
 //! One line answered.
-ghost use Rattle.std.specs.Prelude.{◌≡◌, ◌≢◌, ◌<◌, ◌-◌, ◌^◌, [], ◌∷◌, ◌++◌, List, Some, map, take};
-ghost use Rattle.ipnet.specs.IpNets.{block};
+ghost use Rattle.std.specs.Prelude.{◌≡◌, ◌≢◌, ◌<◌, ◌-◌, ◌^◌, [], ◌∷◌, ◌++◌, List, Some, map, take, All};
+ghost use Rattle.ipnet.specs.IpNets.{block, family, parts};
+ghost use Rattle.ipnet_blocks.specs.Networks.{IsTruncated};
 ghost use Rattle.ipnet_blocks.specs.Blocks.{Block};
 ghost use Rattle.ipnet_blocks.specs.Maximal.{IsMaximal};
 ghost use Rattle.route_feed.specs.Commands.{command_in};
 ghost use Rattle.route_feed.specs.Counted.{faults_of};
 ghost use Rattle.route_feed.specs.Replies.{reply_line, printed};
 ghost use Rattle.route_feed.specs.Run.{Answers, Writes};
-ghost use Rattle.route_feed.specs.Steps.{change_line, flat_line, route_line};
+ghost use Rattle.route_feed.specs.Steps.{change_line, flat_line, own_line, route_line};
 ghost use Rattle.route_lines.specs.Texts.{IsPrintable};
 ghost use Rattle.route_table.specs.Flats.{flat_of};
 ghost use Rattle.route_table.specs.Tables as table_of;
 
 use crate::counted::Counted;
 use crate::error::RunError;
-use crate::writing::{close, write_changes, write_flat_list, write_line, write_page, write_routes};
+use crate::writing::{close, write_changes, write_flat_list, write_line, write_own, write_page, write_routes};
 use ipnet::IpNet;
 use route_lines::{Closing, Command, Line, Reply};
 use route_table::{Hop, RouteTable, Routes};
@@ -54,7 +55,7 @@ fn answer_command<W: Write>(
         Command::List { net } => tell_routes(table.list(&net), writer),
         Command::PageFrom { net, limit } => tell_page(table.from(&net), limit, writer),
         Command::PageAfter { net, limit } => tell_page(table.after(&net), limit, writer),
-        Command::Own { number: _ } => close(writer, Closing::Bad),
+        Command::Own { number } => answer_own(table, number, writer),
         Command::Count => tell_count(table.count(), writer),
         Command::Flat => tell_flat(table, writer),
     }
@@ -109,6 +110,30 @@ fn answer_get<W: Write>(
             writer,
         ),
     }
+}
+
+fn answer_own<W: Write>(
+    table: &RouteTable,
+    number: u32,
+    writer: &mut Counted<W>,
+) -> Result<(), RunError>
+    requires { faults_of writer.old < 2 ^ 64 - 1 }
+    ensures { Answers W.contents table.now table.now (Some (Command.Own number)) writer.old writer.new result }
+{
+    match table.own(number) {
+        Ok(networks) => tell_own(networks.as_slice(), writer),
+        Err(_) => close(writer, Closing::Refused),
+    }
+}
+
+/// Replies with a line for each of the networks of a hop. They have no host bits.
+fn tell_own<W: Write>(networks: &[IpNet], writer: &mut Counted<W>) -> Result<(), RunError>
+    requires faults { faults_of writer.old < 2 ^ 64 - 1 }
+    requires networks { All (λ n. IsTruncated (family n) (parts n)) networks.now }
+    ensures { Writes W.contents writer.old writer.new result (printed (map (λ n. own_line (block n)) networks.now ++ Reply.Close Closing.Done ∷ [])) }
+{
+    write_own(writer, networks)?;
+    close(writer, Closing::Done)
 }
 
 /// Replies with one line.

@@ -67,7 +67,7 @@ impl Write for Narrow {
     }
 }
 
-const ROWS: [(&[u8], &[u8]); 17] = [
+const ROWS: [(&[u8], &[u8]); 19] = [
     (b"", b""),
     (
         b"add 10.0.0.0/8 drop\nget 10.1.0.0/16\ndel 10.0.0.0/8\ndel 10.0.0.0/8\n",
@@ -132,6 +132,14 @@ const ROWS: [(&[u8], &[u8]); 17] = [
     (
         b"add 10.0.0.0/8 1\nadd 10.0.0.0/8 1\nadd 10.0.0.0/8 drop\ndel 10.0.0.0/8\nflat\n",
         b"set 10.0.0.0/8 1\nok\nok\nunset 10.0.0.0/8\nok\nok\nok\n",
+    ),
+    (
+        b"add 10.0.0.0/30 1\nadd 10.0.0.1/32 2\nown 1\nown 2\nown 3\nown drop\n",
+        b"set 10.0.0.0/30 1\nok\nset 10.0.0.1/32 2\nok\nown 10.0.0.0/32\nown 10.0.0.2/31\nok\nown 10.0.0.1/32\nok\nok\nbad\n",
+    ),
+    (
+        b"add 255.255.255.255/32 9\nadd 255.255.255.252/30 5\nflat\nown 5\n",
+        b"set 255.255.255.255/32 9\nok\nset 255.255.255.252/31 5\nset 255.255.255.254/32 5\nok\nflat 255.255.255.252/31 5\nflat 255.255.255.254/32 5\nflat 255.255.255.255/32 9\nok\nown 255.255.255.252/31\nown 255.255.255.254/32\nok\n",
     ),
 ];
 

@@ -1,10 +1,11 @@
 //! Own loops over `write`.
-ghost use Rattle.std.specs.Prelude.{◌≡◌, ◌<◌, ◌-◌, ◌^◌, ◌++◌, ◌∷◌, [], map, take};
-ghost use Rattle.ipnet.specs.IpNets.{block};
+ghost use Rattle.std.specs.Prelude.{◌≡◌, ◌<◌, ◌-◌, ◌^◌, ◌++◌, ◌∷◌, [], map, take, All};
+ghost use Rattle.ipnet.specs.IpNets.{block, family, parts};
+ghost use Rattle.ipnet_blocks.specs.Networks.{IsTruncated};
 ghost use Rattle.route_feed.specs.Counted.{faults_of};
 ghost use Rattle.route_feed.specs.Replies.{reply_line, printed};
 ghost use Rattle.route_feed.specs.Run.{Writes};
-ghost use Rattle.route_feed.specs.Steps.{change_line, flat_line, route_line};
+ghost use Rattle.route_feed.specs.Steps.{change_line, flat_line, own_line, route_line};
 ghost use Rattle.route_lines.specs.Texts.{IsPrintable};
 ghost use Rattle.route_table.specs.Stored.{network_at, route_of};
 
@@ -126,6 +127,18 @@ pub fn write_page<W: Write>(
         };
         write_route(writer, route.0, route.1)?;
         room -= 1;
+    }
+    Ok(())
+}
+
+/// Writes the line of each of the networks of a hop. They have no host bits.
+pub fn write_own<W: Write>(writer: &mut Counted<W>, networks: &[IpNet]) -> Result<(), RunError>
+    requires faults { faults_of writer.old < 2 ^ 64 - 1 }
+    requires networks { All (λ n. IsTruncated (family n) (parts n)) networks.now }
+    ensures { Writes W.contents writer.old writer.new result (printed (map (λ n. own_line (block n)) networks.now)) }
+{
+    for net in networks {
+        write_line(writer, &Reply::Own { net: *net })?;
     }
     Ok(())
 }

@@ -1,0 +1,20 @@
+use Rattle.std.proofs.Common.{◌++◌, ◌∷◌, [], ◌∙◌, ap, map, refl, subst, false}
+use Rattle.ipnet.specs.IpNets.{block}
+use Rattle.route_lines.specs.declared.reply.Closing.TheVariants.{Done}
+use Rattle.route_lines.specs.declared.reply.Reply.TheVariants.{Close}
+use Rattle.route_feed.specs.Replies.{printed}
+use Rattle.route_feed.specs.Run.{Writes}
+use Rattle.route_feed.specs.Steps.{own_line}
+use Rattle.route_feed.proofs.Owned.{map_twice}
+use Rattle.route_feed.proofs.Told.{on_ok}
+use Rattle.route_feed.proofs.answer.answer_own.Goals as goal
+
+pub returns-in-Ok : goal.returns-in-Ok
+returns-in-Ok g c =
+    let ns = c.in-Ok.networks.items in
+    let lines = ap (λ l. map (λ n. own_line (block n)) l) c.as_slice.ensures.value ∙ map_twice own_line block ns ∙ ap (map own_line) c.in-Ok.ensures.flat in
+    record {
+      refusal = false;
+      writes = subst (λ ls. Writes g.W.Write.contents c.args.writer.now c.tell_own.new.writer c.tell_own.result (printed (ls ++ Close Done ∷ []))) lines c.tell_own.ensures;
+      table = on_ok c.tell_own.result refl;
+    }
