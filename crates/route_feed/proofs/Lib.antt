@@ -1,8 +1,11 @@
 pub mod Written
 pub mod Telling
 pub mod Told
+pub mod Carried
 pub mod Moving
 pub mod Running
+pub mod Stepping
+pub mod Ending
 pub mod Seam
 pub mod ReadNets
 pub mod Reread

@@ -6,4 +6,8 @@ pub mod Steps
 pub mod Output
 pub mod Run
 pub mod Devices
+pub mod Following
+pub mod Waiting
+pub mod Follows
+pub mod Readings
 pub mod Laws

@@ -14,7 +14,7 @@ ghost use Rattle.route_table.specs.Tables as table_of;
 
 use crate::counted::Counted;
 use crate::error::RunError;
-use crate::writing::{close, write_changes, write_flat, write_line, write_page, write_routes};
+use crate::writing::{close, write_changes, write_flat_list, write_line, write_page, write_routes};
 use ipnet::IpNet;
 use route_lines::{Closing, Command, Line, Reply};
 use route_table::{Hop, RouteTable, Routes};
@@ -161,8 +161,7 @@ fn tell_flat<W: Write>(table: &RouteTable, writer: &mut Counted<W>) -> Result<()
     requires { faults_of writer.old < 2 ^ 64 - 1 }
     ensures { Writes W.contents writer.old writer.new result (printed (map flat_line (flat_of (table_of.hop_at table.now)) ++ Reply.Close Closing.Done ∷ [])) }
 {
-    write_flat(writer, table.flat())?;
-    close(writer, Closing::Done)
+    write_flat_list(writer, table.flat())
 }
 
 /// Replies to a change of the network: with a line for each block that it governs, where its hop differs.

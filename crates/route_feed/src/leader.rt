@@ -17,10 +17,10 @@ use std::alloc::Global;
 use std::io::{Read, Write};
 
 /// How often a run reads.
-const TURNS: u64 = 1 << 62;
+pub(crate) const TURNS: u64 = 1 << 62;
 
 /// How many bytes are asked for at a time.
-const PIECE: usize = 1 << 16;
+pub(crate) const PIECE: usize = 1 << 16;
 
 /// The table, and the line that has begun.
 #[derive(Drop)]

@@ -1,15 +1,19 @@
-//! A leader that keeps a route table: command lines from a reader, reply lines to a writer.
+//! A leader that keeps a route table, and a follower of its replies.
 #![tactic(auto)]
 
 pub use counted::Counted;
 pub use error::RunError;
+pub use follower::{FollowError, Follower};
 pub use leader::lead;
+pub use reading::follow;
 
 mod answer;
 mod counted;
 mod error;
+mod follower;
 pub mod laws;
 mod leader;
+mod reading;
 #[cfg(test)]
 mod tests;
 mod writing;

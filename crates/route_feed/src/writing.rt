@@ -1,5 +1,5 @@
 //! Own loops over `write`.
-ghost use Rattle.std.specs.Prelude.{◌≡◌, ◌<◌, ◌-◌, ◌^◌, [], map, take};
+ghost use Rattle.std.specs.Prelude.{◌≡◌, ◌<◌, ◌-◌, ◌^◌, ◌++◌, ◌∷◌, [], map, take};
 ghost use Rattle.ipnet.specs.IpNets.{block};
 ghost use Rattle.route_feed.specs.Counted.{faults_of};
 ghost use Rattle.route_feed.specs.Replies.{reply_line, printed};
@@ -131,7 +131,7 @@ pub fn write_page<W: Write>(
 }
 
 /// Writes the line of each block of a flat list.
-pub fn write_flat<W: Write>(writer: &mut Counted<W>, pieces: Flat<'_>) -> Result<(), RunError>
+fn write_pieces<W: Write>(writer: &mut Counted<W>, pieces: Flat<'_>) -> Result<(), RunError>
     requires { faults_of writer.old < 2 ^ 64 - 1 }
     ensures { Writes W.contents writer.old writer.new result (printed (map flat_line pieces.entry)) }
 {
@@ -143,4 +143,13 @@ pub fn write_flat<W: Write>(writer: &mut Counted<W>, pieces: Flat<'_>) -> Result
         write_line(writer, &line)?;
     }
     Ok(())
+}
+
+/// Writes a flat list, and closes the reply.
+pub fn write_flat_list<W: Write>(writer: &mut Counted<W>, pieces: Flat<'_>) -> Result<(), RunError>
+    requires { faults_of writer.old < 2 ^ 64 - 1 }
+    ensures { Writes W.contents writer.old writer.new result (printed (map flat_line pieces.entry ++ Reply.Close Closing.Done ∷ [])) }
+{
+    write_pieces(writer, pieces)?;
+    close(writer, Closing::Done)
 }

@@ -1,11 +1,7 @@
 -- What is left of the runs once the innermost route closes, or the family.
-use Rattle.std.proofs.Common.{◌≡◌, ℕ, suc, ◌+◌, ◌-◌, ◌*◌, ◌^◌, ◌<◌, ◌≤◌, ◌⊎◌, inl, inr, ⊎_elim, Bool, true, false, cond, nat_lt, List, [], ◌∷◌, ◌++◌, length, take, map, Option, Some, None, All, refl, sym, ap, ◌∙◌, subst, arith, length-append}
+use Rattle.std.proofs.Common.{◌≡◌, ℕ, ◌+◌, ◌-◌, ◌<◌, ◌≤◌, ⊎_elim, Bool, true, false, cond, nat_lt, List, [], ◌∷◌, ◌++◌, length, take, map, Option, Some, None, refl, sym, ap, ◌∙◌, subst, arith, length-append}
 use Rattle.std.specs.Prelude.{MatchOption}
-use Rattle.std.specs.List.{slice_get}
-use Rattle.std.proofs.lemmas.Bool.{cases_lt}
 use Rattle.std.proofs.lemmas.Bool.Decides.{nat_tests}
-use Rattle.ipnet.specs.IpNets.{family}
-use Rattle.ipnet_addr.specs.Addresses.{width}
 use Rattle.ipnet_addr.proofs.Members.{In}
 use Rattle.ipnet_blocks.specs.declared.aggregate.Span.{Span}
 use Rattle.route_table.specs.Tables.{Route}
@@ -13,9 +9,9 @@ use Rattle.route_table.specs.declared.runs.Reach.{Reach}
 use Rattle.route_table.specs.declared.runs.Run.{Run}
 use Rattle.route_table.specs.declared.runs.Runs.{Runs}
 use Rattle.route_table.specs.declared.runs.Step.TheVariants as step
-use Rattle.route_table.specs.Running.{reach_of, painted, coming, innermost, over, from_on, hops_left, ArePlaced, IsAtHand, AreRuns, changes_left, IsFirstRun, StepsRun, IsPast, joined, step_of}
-use Rattle.route_table.proofs.Paints.{IsSpanOf, EndsBefore, Ends, joins}
-use Rattle.route_table.proofs.Openings.{comes, last_of, popped, inner_pushed, in_turn, ends_within, ends_from, opened_are, opened_here, opened_later, closed_are, closed_here, closed_later, family_closes}
+use Rattle.route_table.specs.Running.{reach_of, painted, coming, innermost, over, from_on, hops_left, ArePlaced, AreRuns, changes_left, StepsRun, IsPast, joined, step_of}
+use Rattle.route_table.proofs.Paints.{IsSpanOf, EndsBefore}
+use Rattle.route_table.proofs.Openings.{last_of, popped, inner_pushed, in_turn, ends_within, ends_from, closed_are, closed_here, closed_later, family_closes}
 use Rattle.route_table.proofs.Turns.{turned, hops_are, placed_as, fits_as, changes_as, hand_from, ends_from_hand}
 
 far_from : (n : Option Reach) (rs : List Route) (stack : List Reach) (at end last : ℕ) → ArePlaced stack (coming n rs) at end → MatchOption n (Unit {0}) (λ r. last < r.first) → (r : Reach) → In r (coming n rs) → last < r.first

@@ -48,7 +48,7 @@ rising_piece b None ps h = h
 rising_piece b (Some n) ps h = ((λ y i. absurd i), tt)
 
 module _ (h : Address → Option ℕ) where
-  all_from_one : (k : ℕ) (t : Block) → IsBlock t → free_bits t ≡ k → (n : ℕ) → one_hop_in h k t ≡ Some n → (x : Address) → HasAddress t x → h x ≡ Some n
+  pub all_from_one : (k : ℕ) (t : Block) → IsBlock t → free_bits t ≡ k → (n : ℕ) → one_hop_in h k t ≡ Some n → (x : Address) → HasAddress t x → h x ≡ Some n
   unfolding one_hop_in
   all_from_one zero t p e n o x m = subst (λ y. h y ≡ Some n) (leaf_address t e x m) o
   all_from_one (suc k) t p e n o x m =
@@ -58,7 +58,7 @@ module _ (h : Address → Option ℕ) where
       (λ i. all_from_one k (right t) (right_is_block t p r) (omega arith) n a.1 x i)
       (address_in_a_half t p r x m)
 
-  one_from_all : (k : ℕ) (t : Block) → IsBlock t → free_bits t ≡ k → (n : ℕ) → ((x : Address) → HasAddress t x → h x ≡ Some n) → one_hop_in h k t ≡ Some n
+  pub one_from_all : (k : ℕ) (t : Block) → IsBlock t → free_bits t ≡ k → (n : ℕ) → ((x : Address) → HasAddress t x → h x ≡ Some n) → one_hop_in h k t ≡ Some n
   unfolding one_hop_in
   one_from_all zero t p e n f = f (first_of t) (has_first t)
   one_from_all (suc k) t p e n f =

@@ -1,5 +1,5 @@
 -- A walk over the runs of both families gives the flat list.
-use Rattle.std.proofs.Common.{◌≡◌, ℕ, ◌+◌, ◌-◌, ◌^◌, ◌<◌, ◌≤◌, ◌⊎◌, inl, inr, ⊎_elim, Bool, List, [], ◌∷◌, ◌++◌, map, Option, Some, None, refl, sym, ap, ◌∙◌, subst, arith, All, length}
+use Rattle.std.proofs.Common.{◌≡◌, ℕ, ◌^◌, ◌<◌, ◌≤◌, ◌⊎◌, inl, inr, ⊎_elim, Bool, List, [], ◌∷◌, ◌++◌, map, Option, Some, None, refl, sym, ap, ◌∙◌, subst, arith, All, length}
 use Rattle.std.proofs.lemmas.Bool.{cases_lt}
 use Rattle.ipnet_addr.specs.Addresses.{Family, Ipv4, Ipv6, width, rank, Address}
 use Rattle.ipnet_blocks.specs.Cuts.{cut}
@@ -14,16 +14,16 @@ use Rattle.std.specs.FinMap.{entries}
 use Rattle.ipnet_addr.specs.Addresses.{IsAddress}
 use Rattle.ipnet_addr.proofs.Members.{In, In-left, In-right, In-cases}
 use Rattle.ipnet_addr.proofs.Ascending.{In-from_All, All-from_In, Rising-from_pairs, pairs_from_Rising}
-use Rattle.ipnet_blocks.specs.Blocks.{Block, IsBlock, IsBefore}
+use Rattle.ipnet_blocks.specs.Blocks.{Block, IsBlock}
 use Rattle.ipnet_blocks.proofs.Lists.{rising_front}
 use Rattle.route_table.specs.Tables.{Route, IsTable, IsHop, hop_at}
-use Rattle.route_table.specs.Stored.{Maps, AreStored, network_at, route_at, routes_in, table_of}
-use Rattle.route_table.specs.Items.{GivesPiece, KeysUpTo}
+use Rattle.route_table.specs.Stored.{Maps, AreStored, network_at, route_at, table_of}
+use Rattle.route_table.specs.Items.{KeysUpTo}
 use Rattle.route_table.specs.declared.hop.Hop.{Hop}
 use Rattle.route_table.specs.declared.flat.Pieces.{Pieces}
 use Rattle.route_table.specs.Flats.{Piece, IsFlat, flat_of}
 use Rattle.route_table.specs.Flattening.{piece_of, pieces_of, pieces_left, hops_in, hops_of, AreBoth}
-use Rattle.route_table.specs.Running.{AreRuns, IsFirstRun, hops_left, painted, reach_of}
+use Rattle.route_table.specs.Running.{IsFirstRun, hops_left, painted, reach_of}
 use Rattle.route_table.specs.declared.flat.BothRuns.{BothRuns}
 use Rattle.route_table.specs.declared.runs.Run.{Run}
 use Rattle.route_table.specs.declared.runs.Runs.{Runs}

@@ -29,3 +29,6 @@ pub mod Turns
 pub mod Closings
 pub mod FlatRuns
 pub mod Flattenings
+pub mod Owned
+pub mod FlatBounds
+pub mod Rebuilds

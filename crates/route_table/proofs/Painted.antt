@@ -1,18 +1,18 @@
 -- What the routes of a family paint is the hop of the longest match.
-use Rattle.std.proofs.Common.{◌≡◌, ℕ, ◌+◌, ◌-◌, ◌^◌, ◌<◌, ◌≤◌, ◌⊎◌, inl, inr, ⊎_elim, ◌&&◌, Bool, true, false, cond, nat_le, List, [], ◌∷◌, map, Option, Some, None, All, refl, sym, ap, ◌∙◌, subst, arith}
+use Rattle.std.proofs.Common.{◌≡◌, ℕ, ◌+◌, ◌-◌, ◌^◌, ◌<◌, ◌≤◌, ◌⊎◌, inl, inr, ⊎_elim, ◌&&◌, cond, nat_le, List, [], ◌∷◌, map, Option, Some, None, refl, sym, ap, ◌∙◌, subst, arith}
 use Rattle.std.proofs.lemmas.Bool.{cases_lt, cond-true, cond-false}
 use Rattle.std.proofs.lemmas.Nat.{pow_pos}
 use Rattle.ipnet_addr.specs.Addresses.{Family, Ipv4, Ipv6, width, rank, Address, IsAddress}
 use Rattle.ipnet_addr.proofs.Members.{In}
-use Rattle.ipnet_addr.proofs.Ascending.{In-from_Contains, Contains-from_In, Rising, Rising-from_pairs, pairs_from_Rising, All-from_In}
-use Rattle.ipnet_blocks.specs.Blocks.{Block, IsBlock, HasAddress, IsInside, IsBefore, first, last, first_of, host, whole}
-use Rattle.ipnet_blocks.proofs.BlockLaws.{has_first, nested, longer_inside, common, strict}
+use Rattle.ipnet_addr.proofs.Ascending.{In-from_Contains, Contains-from_In, Rising, pairs_from_Rising, All-from_In}
+use Rattle.ipnet_blocks.specs.Blocks.{Block, IsBlock, HasAddress, first, last, first_of, host, whole}
+use Rattle.ipnet_blocks.proofs.BlockLaws.{has_first, nested, longer_inside, common}
 use Rattle.ipnet_blocks.proofs.Maximals.{host_is_block, in_host, has_host, member_is_address}
 use Rattle.ipnet_blocks.proofs.Netmasks.{block_is_interval}
 use Rattle.route_table.specs.Tables.{Route, IsTable, IsMatch, match_of, match_number, number_of, hop_at}
 use Rattle.route_table.specs.Running.{Follows, IsOpen, IsComing, ArePlaced, reach_of, painted}
 use Rattle.route_table.specs.declared.runs.Reach.{Reach}
-use Rattle.route_table.proofs.Matches.{block_in, match_from, match_meets, same_length}
+use Rattle.route_table.proofs.Matches.{block_in, match_from, match_meets}
 use Rattle.route_table.proofs.Paints.{lies, lies_before, lies_after}
 use Rattle.route_table.proofs.Updates.{Sooner}
 

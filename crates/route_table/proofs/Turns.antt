@@ -1,21 +1,17 @@
 -- What one change makes of the runs that are left.
-use Rattle.std.proofs.Common.{◌≡◌, ℕ, suc, ◌+◌, ◌-◌, ◌*◌, ◌^◌, ◌<◌, ◌≤◌, ◌⊎◌, inl, inr, ⊎_elim, Bool, true, false, cond, nat_lt, List, [], ◌∷◌, ◌++◌, length, take, map, Option, Some, None, All, refl, sym, ap, ◌∙◌, subst, arith, length-append}
-use Rattle.std.specs.Prelude.{MatchOption}
+use Rattle.std.proofs.Common.{◌≡◌, ℕ, ◌+◌, ◌-◌, ◌*◌, ◌^◌, ◌<◌, ◌≤◌, inl, ⊎_elim, Bool, false, cond, List, [], ◌∷◌, ◌++◌, length, map, Option, Some, None, refl, sym, ap, ◌∙◌, subst, arith, length-append}
 use Rattle.std.specs.List.{slice_get}
 use Rattle.std.proofs.lemmas.Bool.{cases_lt}
-use Rattle.std.proofs.lemmas.Bool.Decides.{nat_tests}
 use Rattle.ipnet.specs.IpNets.{family}
 use Rattle.ipnet_addr.specs.Addresses.{width}
-use Rattle.ipnet_addr.proofs.Members.{In}
 use Rattle.ipnet_blocks.specs.declared.aggregate.Span.{Span}
-use Rattle.route_table.specs.Tables.{Route}
 use Rattle.route_table.specs.declared.runs.Reach.{Reach}
 use Rattle.route_table.specs.declared.runs.Run.{Run}
 use Rattle.route_table.specs.declared.runs.Runs.{Runs}
 use Rattle.route_table.specs.declared.runs.Step.TheVariants as step
-use Rattle.route_table.specs.Running.{reach_of, painted, coming, innermost, over, from_on, hops_left, ArePlaced, IsAtHand, AreRuns, changes_left, IsFirstRun, StepsRun, IsPast, joined, step_of}
+use Rattle.route_table.specs.Running.{reach_of, painted, coming, innermost, over, from_on, hops_left, ArePlaced, IsAtHand, AreRuns, changes_left, StepsRun, joined, step_of}
 use Rattle.route_table.proofs.Paints.{IsSpanOf, EndsBefore, Ends, joins}
-use Rattle.route_table.proofs.Openings.{comes, last_of, popped, inner_pushed, in_turn, ends_within, ends_from, room, opened_are, opened_here, opened_later, closed_are, closed_here, closed_later, family_closes}
+use Rattle.route_table.proofs.Openings.{comes, last_of, inner_pushed, room, opened_are, opened_here, opened_later}
 
 -- ---- the innermost of the stack
 

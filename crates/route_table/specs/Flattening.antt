@@ -6,7 +6,6 @@ use Rattle.ipnet.specs.IpNets.{family}
 use Rattle.ipnet.specs.IpSubnets.{ip_cut}
 use Rattle.route_table.specs.Flats.{Piece, flat_of}
 use Rattle.route_table.specs.Running.{AreRuns, hops_left}
-use Rattle.route_table.specs.declared.runs.Runs.{Runs}
 use Rattle.route_table.specs.declared.flat.BothRuns.{BothRuns}
 use Rattle.route_table.specs.declared.flat.Pieces.{Pieces}
 

@@ -5,8 +5,8 @@ use Rattle.ipnet_blocks.specs.Blocks.{Block, IsBlock, HasAddress, IsAscending, h
 use Rattle.ipnet_blocks.specs.Maximal.{IsMaximal, maximal_of}
 use Rattle.route_table.specs.Tables.{Route, IsTable, IsMatch, IsHop, is_stored, match_of, match_number, hop_at, number_of, Governed, Changed, with_route, without_block}
 use Rattle.route_table.specs.Flats.{Piece, IsFlat, IsAdmissible, blocks_of, flat_of}
-use Rattle.route_table.specs.Changes.{changed}
-use Rattle.route_table.specs.Bounds.{excess}
+use Rattle.route_table.specs.Changes.{changed, with_pieces}
+use Rattle.route_table.specs.Bounds.{excess, lengths_in, pieces_in}
 
 -- what `match_of` finds
 abbrev pub MatchIsLongest : Type 0
@@ -37,6 +37,15 @@ SearchIsFlat = (h : Address → Option ℕ) → IsFlat h (flat_of h)
 -- the blocks of one number in the flat list are the maximal blocks of the addresses with that hop
 abbrev pub OwnIsMaximal : Type 0
 OwnIsMaximal = (h : Address → Option ℕ) (ps : List Piece) (k : ℕ) → IsFlat h ps → IsMaximal (λ x. h x ≡ Some k) (blocks_of (filter (λ p. p.number == k) ps))
+
+-- in each family a flat list has at most one piece and the lengths of the stored networks
+abbrev pub FlatIsBounded : Type 0
+FlatIsBounded = (M : List Route) (ps : List Piece) → IsTable M → IsFlat (hop_at M) ps → (f : Family) → length (pieces_in f ps) ≤ 1 + lengths_in f M
+
+-- an empty table given an accepted `add` of every piece has the same hops and the same flat list
+abbrev pub FlatRebuilds : Type 0
+FlatRebuilds = (M : List Route) (ps : List Piece) → IsTable M → IsFlat (hop_at M) ps →
+    IsTable (with_pieces [] ps) × ((x : Address) → IsAddress x → hop_at (with_pieces [] ps) x ≡ hop_at M x) × IsFlat (hop_at (with_pieces [] ps)) ps
 
 -- the bound on the blocks that n governs
 abbrev pub GovernedBound : Type 0

@@ -10,4 +10,5 @@ pub mod Overwritten
 pub mod Pages
 pub mod Running
 pub mod Flattening
+pub mod Owning
 pub mod Laws

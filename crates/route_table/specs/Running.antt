@@ -1,5 +1,5 @@
 -- The runs of one number that routes leave where each is painted over those before it.
-use Rattle.std.specs.Prelude.{◌≡◌, ℕ, ◌+◌, ◌-◌, ◌*◌, ◌<◌, ◌≤◌, ◌^◌, ◌&&◌, ◌==◌, true, false, nat_le, nat_lt, Bool, cond, length, take, List, [], ◌∷◌, ◌++◌, Option, Some, None, MatchOption, All, AllPairs, map}
+use Rattle.std.specs.Prelude.{◌≡◌, ℕ, ◌+◌, ◌-◌, ◌*◌, ◌<◌, ◌≤◌, ◌^◌, ◌&&◌, ◌==◌, true, nat_le, nat_lt, Bool, cond, length, take, List, [], ◌∷◌, ◌++◌, Option, Some, None, MatchOption, All, AllPairs, map}
 use Rattle.ipnet_addr.specs.Addresses.{width}
 use Rattle.ipnet_blocks.specs.Blocks.{first, last}
 use Rattle.ipnet_blocks.specs.declared.aggregate.Span.{Span}

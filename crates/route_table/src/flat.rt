@@ -1,8 +1,9 @@
 //! The flat list of a table: the shortest list of blocks of one hop.
-ghost use Rattle.std.specs.Prelude.{◌≡◌, ◌≤◌, ◌++◌, [], List, All, length};
+ghost use Rattle.std.specs.Prelude.{◌≡◌, ◌≤◌, ◌+◌, ◌++◌, [], List, All, length};
 ghost use Rattle.std.specs.Iterator.{item_count};
-ghost use Rattle.ipnet_addr.specs.Addresses.{Ipv4, Ipv6};
+ghost use Rattle.ipnet_addr.specs.Addresses.{Family, Ipv4, Ipv6};
 ghost use Rattle.ipnet_blocks.specs.Blocks.{Block};
+ghost use Rattle.route_table.specs.Bounds.{lengths_in, pieces_in};
 ghost use Rattle.route_table.specs.Flats.{IsAdmissible, IsFlat};
 ghost use Rattle.route_table.specs.Flattening.{AreBoth, GivesPieces, pieces_of};
 ghost use Rattle.route_table.specs.Items.{GivesPiece};
@@ -86,6 +87,7 @@ pub struct Flat<'a> {
 
 impl<'a> Model for Flat<'a> {
     ghost use Rattle.std.specs.Prelude.{List};
+    ghost use Rattle.route_table.specs.Bounds.{lengths_in, pieces_in};
     ghost use Rattle.route_table.specs.Flats.{Piece};
     ghost use Rattle.route_table.specs.Flattening.{AreBoth, pieces_left};
 
@@ -134,10 +136,12 @@ impl<'a> Iterator for Flat<'a> {
 
 impl RouteTable {
     /// The maximal blocks of the addresses of each hop number, each with that number, ascending, IPv4 before IPv6. No
-    /// list of blocks of one hop that covers all addresses with a hop is shorter. It takes no memory.
+    /// list of blocks of one hop that covers all addresses with a hop is shorter, and in each family there are at most
+    /// one and the sum of the lengths of the stored networks. It takes no memory.
     pub fn flat(&self) -> Flat<'_>
         ensures flat { IsFlat (hop_at self.now) result }
         ensures shortest { (bs : List Block) → IsAdmissible (hop_at self.now) bs → length result ≤ length bs }
+        ensures bound { (f : Family) → length (pieces_in f result) ≤ 1 + lengths_in f self.now }
     {
         let (v4, v6) = self.families();
         self.is_table();

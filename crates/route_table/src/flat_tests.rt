@@ -152,3 +152,46 @@ fn nothing_in_an_empty_table(rt: HostRuntime) {
     let table = table(&rt, rt.alloc(), &[]);
     flat_is(&rt, &table, &[]);
 }
+
+/// The blocks of the number.
+fn own_is(rt: &impl Abort, table: &RouteTable, number: u32, blocks: &[&str]) {
+    let own = table.own(number).expect(rt, "memory");
+    assert_eq!(rt; own.len(), blocks.len());
+    for (net, text) in own.iter().zip(blocks) {
+        assert_eq!(rt; net.to_text().as_slice(), text.as_bytes());
+    }
+}
+
+#[test]
+fn own_blocks(rt: HostRuntime) {
+    let routes = [
+        ("10.0.0.0/30", Hop::Number(1)),
+        ("10.0.0.1/32", Hop::Number(2)),
+    ];
+    let table = table(&rt, rt.alloc(), &routes);
+    own_is(&rt, &table, 1, &["10.0.0.0/32", "10.0.0.2/31"]);
+    own_is(&rt, &table, 2, &["10.0.0.1/32"]);
+    own_is(&rt, &table, 3, &[]);
+}
+
+#[test]
+fn own_blocks_of_both_families(rt: HostRuntime) {
+    let routes = [
+        ("8000::/1", Hop::Number(7)),
+        ("10.128.0.0/9", Hop::Number(7)),
+        ("::/1", Hop::Number(7)),
+        ("10.0.0.0/8", Hop::Number(7)),
+        ("10.0.0.0/32", Hop::Drop),
+        ("10.0.0.0/31", Hop::Number(8)),
+        ("10.0.0.0/30", Hop::Number(8)),
+    ];
+    let table = table(&rt, rt.alloc(), &routes);
+    own_is(&rt, &table, 8, &["10.0.0.1/32", "10.0.0.2/31"]);
+    let mut left = table.own(7).expect(&rt, "memory").len();
+    for (_, number) in table.flat() {
+        if number == 7 {
+            left = left.checked_sub(1).expect(&rt, "as many blocks");
+        }
+    }
+    assert_eq!(rt; left, 0);
+}

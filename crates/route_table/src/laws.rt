@@ -1,7 +1,7 @@
 //! Laws of tables: public functions without a body, whose contracts are the laws.
 ghost use Rattle.route_table.specs.Overwritten.{OverwriteIsTable, HopsOfOverwrite};
 ghost use Rattle.route_table.specs.Pages.{PagesAreRoutes, PagesEnd};
-ghost use Rattle.route_table.specs.Laws.{MatchIsLongest, GovernedMatch, GovernedBound, StaysTable, ChangedIsMaximal, AddedHaveOneHop, LeftHaveOneHop, ChangedByAdd, ChangedByDel, BlocksOfAdd, BlocksOfDel, GovernedAfter, AddThenDel, OtherFamilyAfterAdd, OtherFamilyAfterDel, FlatIsShortest, ShortestIsFlat, FlatIsAdmissible, SameFlat, SearchIsFlat, OwnIsMaximal};
+ghost use Rattle.route_table.specs.Laws.{MatchIsLongest, GovernedMatch, GovernedBound, StaysTable, ChangedIsMaximal, AddedHaveOneHop, LeftHaveOneHop, ChangedByAdd, ChangedByDel, BlocksOfAdd, BlocksOfDel, GovernedAfter, AddThenDel, OtherFamilyAfterAdd, OtherFamilyAfterDel, FlatIsShortest, ShortestIsFlat, FlatIsAdmissible, SameFlat, SearchIsFlat, OwnIsMaximal, FlatIsBounded, FlatRebuilds};
 
 /// The match is the longest member that contains the block; the match of an address in what a block
 /// governs is the match of the block; and what it governs has few maximal blocks.
@@ -54,7 +54,8 @@ pub fn pages()
 
 /// A hop function has one flat list: no list of one-hop blocks that covers all hops is shorter, and an
 /// ascending one as short is that list; equal hops have equal flat lists; its blocks of one number are
-/// the maximal blocks of the addresses with that hop.
+/// the maximal blocks of the addresses with that hop. In each family it has at most one block and the lengths of the
+/// stored networks; and an empty table given each of its lines by an `add` has the same hops and the same flat list.
 pub fn flat()
     ensures shortest { FlatIsShortest }
     ensures only { ShortestIsFlat }
@@ -62,4 +63,6 @@ pub fn flat()
     ensures same { SameFlat }
     ensures search { SearchIsFlat }
     ensures own { OwnIsMaximal }
+    ensures bound { FlatIsBounded }
+    ensures rebuilds { FlatRebuilds }
 {}

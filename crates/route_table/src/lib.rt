@@ -15,6 +15,7 @@ mod governed;
 mod hop;
 pub mod laws;
 mod overwrite;
+mod own_blocks;
 mod routes;
 mod runs;
 mod table;

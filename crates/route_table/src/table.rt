@@ -24,11 +24,12 @@ use trie_map::{PrefixMap, Refused};
 /// A hop for each of some networks of both families.
 ///
 /// Contracts see it as the ascending list of its routes, one for each stored network. Host bits of an argument are
-/// ignored everywhere. Only `new`, and `add` and `overwrite` of a network that is not stored, take memory.
+/// ignored everywhere. Only `new`, `own`, and `add` and `overwrite` of a network that is not stored, take memory.
 #[derive(Drop)]
 pub struct RouteTable {
     pub(crate) v4: PrefixMap<Ipv4Net, Hop>,
     pub(crate) v6: PrefixMap<Ipv6Net, Hop>,
+    alloc: Global,
 }
 
 impl Model for RouteTable {
@@ -66,6 +67,7 @@ impl RouteTable {
         Ok(RouteTable {
             v4: PrefixMap::new(alloc)?,
             v6: PrefixMap::new(alloc)?,
+            alloc,
         })
     }
 
@@ -158,6 +160,11 @@ impl RouteTable {
         let net = net.trunc();
         self.is_table();
         Governed::new(net, self.list(&net))
+    }
+
+    /// Where its memory is from.
+    pub(crate) fn alloc(&self) -> Global {
+        self.alloc
     }
 
     /// The routes of either family, ascending.

@@ -1,4 +1,4 @@
-use Rattle.std.proofs.Common.{◌≡◌, ap, arith, map}
+use Rattle.std.proofs.Common.{ap, arith, map}
 use Rattle.ipnet_addr.specs.Addresses.{Ipv4}
 use Rattle.ipnet_blocks.specs.Cuts.{Limits}
 use Rattle.route_table.specs.Flattening.{piece_of}

@@ -1,4 +1,4 @@
-use Rattle.std.proofs.Common.{◌≡◌, ap, ◌∙◌, sym, refl, arith, subst}
+use Rattle.std.proofs.Common.{sym, refl, arith, subst}
 use Rattle.route_table.specs.declared.runs.Runs.{Runs}
 use Rattle.route_table.specs.Running.{StepsRun}
 use Rattle.route_table.proofs.Turns.{begun_here, begun_later, begin_room}

@@ -1,4 +1,4 @@
-use Rattle.std.proofs.Common.{◌≡◌, ap, ◌∙◌, sym, arith, subst, refl}
+use Rattle.std.proofs.Common.{ap, ◌∙◌, sym, subst}
 use Rattle.route_table.specs.declared.runs.Runs.{Runs}
 use Rattle.route_table.specs.Running.{StepsRun, joined, step_of}
 use Rattle.route_table.proofs.Closings.{close_here, close_later}

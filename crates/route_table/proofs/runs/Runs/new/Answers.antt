@@ -1,10 +1,10 @@
-use Rattle.std.proofs.Common.{◌≡◌, ◌+◌, ◌^◌, ap, ◌∙◌, sym, arith, subst, refl, map, List, []}
+use Rattle.std.proofs.Common.{◌≡◌, ap, ◌∙◌, sym, subst, List, []}
 use Rattle.ipnet.specs.IpNets.{family}
 use Rattle.ipnet_addr.proofs.Ascending.{In-from_All, Rising-from_pairs}
 use Rattle.ipnet_blocks.specs.Blocks.{IsBlock, last}
 use Rattle.route_table.specs.Tables.{Route}
 use Rattle.route_table.specs.declared.runs.Reach.{Reach}
-use Rattle.route_table.specs.Running.{ArePlaced, coming, reach_of}
+use Rattle.route_table.specs.Running.{ArePlaced, coming}
 use Rattle.route_table.proofs.Painted.{placed_first, greatest}
 use Rattle.route_table.proofs.Updates.{Sooner}
 use Rattle.route_table.proofs.runs.Runs.new.Goals as goal

@@ -3,7 +3,7 @@ use Rattle.route_lines.specs.declared.reply.Reply.TheVariants.{Flat}
 use Rattle.std.proofs.lemmas.Result.{err_from_is_err_and}
 use Rattle.route_feed.specs.Steps.{flat_line}
 use Rattle.route_feed.proofs.Telling.{Told-nil, Told-more, Told-torn}
-use Rattle.route_feed.proofs.writing.write_flat.Goals as goal
+use Rattle.route_feed.proofs.writing.write_pieces.Goals as goal
 
 pub loop-piece-init : goal.loop-piece-init
 loop-piece-init g c = Told-nil g.W.Write.contents flat_line _ _ _ c.into_iter-piece-iterator.ensures.into_iter_gives

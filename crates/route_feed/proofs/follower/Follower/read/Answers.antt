@@ -1,0 +1,14 @@
+use Rattle.std.proofs.Common.{Some, refl, ap, sym, subst}
+use Rattle.std.proofs.lemmas.Result.{on_ok_weaker}
+use Rattle.std.specs.Prelude.{IsSome}
+use Rattle.route_feed.proofs.Carried.{reply_is, reply_none}
+use Rattle.route_feed.proofs.follower.Follower.read.Goals as goal
+
+pub returns-in_default-clause-not_a_line : goal.returns-in_default-clause-not_a_line
+returns-in_default-clause-not_a_line c = λ _. reply_none c.args.text.now c.in_default.ensures
+
+pub returns-clause-ok : goal.returns-clause-ok
+returns-clause-ok c = on_ok_weaker c.take.result (λ taken. (c.in-Ok.line, reply_is c.args.text.now c.in-Ok.line c.in-Ok.ensures, taken)) c.take.ensures.ok
+
+pub returns-clause-memory : goal.returns-clause-memory
+returns-clause-memory c = λ _. subst IsSome (sym (reply_is c.args.text.now c.in-Ok.line c.in-Ok.ensures)) refl

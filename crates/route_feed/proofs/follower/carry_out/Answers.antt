@@ -1,0 +1,18 @@
+use Rattle.std.proofs.Common.{◌≡◌, ◌<◌, ◌∷◌, [], ◌++◌, ◌∙◌, sym, ap, cond, length, take, map, suc, arith}
+use Rattle.std.proofs.lemmas.List.{take_more}
+use Rattle.ipnet.specs.IpNets.{block}
+use Rattle.ipnet_blocks.specs.Blocks.{has_address}
+use Rattle.route_table.specs.Tables.{hop_at, number_of}
+use Rattle.route_feed.specs.Streams.{painted_over}
+use Rattle.route_feed.specs.Waiting.{waiting_change, changes_of}
+use Rattle.route_feed.proofs.Carried.{one_more}
+use Rattle.route_feed.proofs.follower.carry_out.Goals as goal
+
+pub loop-change-preserved : goal.loop-change-preserved
+loop-change-preserved c = λ x a.
+    let it = c.change-item.result in
+    let i = c.loop-change.change-index in
+    let within : i < length c.args.changes.now = omega arith in
+    c.in-Ok.ensures.hops x a
+    ∙ ap (λ o. cond (has_address (block it.net) x) (number_of it.hop) o) (c.loop-change.invariant x a)
+    ∙ one_more (hop_at c.args.table.now x) c.args.changes.now i it x within c.change-item.is

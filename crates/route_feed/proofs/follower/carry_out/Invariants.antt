@@ -1,0 +1,9 @@
+use Rattle.std.proofs.Common.{◌≡◌, take}
+use Rattle.ipnet_addr.specs.Addresses.{Address, IsAddress}
+use Rattle.route_table.specs.Tables.{hop_at}
+use Rattle.route_feed.specs.Streams.{painted_over}
+use Rattle.route_feed.specs.Waiting.{changes_of}
+use Rattle.route_feed.proofs.follower.carry_out.Given as goal
+
+abbrev pub invariant-loop-change : goal.invariant-loop-change
+invariant-loop-change l = (x : Address) → IsAddress x → hop_at l.table x ≡ painted_over (hop_at l.fn.table x) (changes_of (take l.change-index l.changes)) x

@@ -1,0 +1,29 @@
+-- What a follower stands for, and what a reply line does to it.
+use Rattle.std.specs.Prelude.{◌≡◌, ℕ, Bool, List, [], ◌++◌, if◌then◌else◌, Option, Some, None, IsSome}
+use Rattle.std.specs.Option.{option_to_list}
+use Rattle.ipnet_addr.specs.Addresses.{Address, IsAddress}
+use Rattle.route_lines.specs.declared.reply.Closing.{Closing}
+use Rattle.route_lines.specs.declared.reply.Reply.{Reply}
+use Rattle.route_table.specs.Tables.{Route, hop_at}
+use Rattle.route_feed.specs.Streams.{Change, is_done, change_of, closing_of, painted_over}
+
+-- a table for the hops, the changes that wait for a closing line, and whether there was a fault
+pub record State : Type 0 where
+  pub table : List Route
+  pub pending : List Change
+  pub failed : Bool
+
+-- the hop of an address after a line: `ok` gives it that of the last waiting change whose block has it
+abbrev pub hop_after : State → Option Closing → Address → Option ℕ
+hop_after s (Some closing) x = if is_done closing then painted_over (hop_at s.table x) s.pending x else hop_at s.table x
+hop_after s None x = hop_at s.table x
+
+-- the changes that wait after a line
+abbrev pub pending_after : List Change → Option Closing → Option Change → List Change
+pending_after changes (Some closing) change = []
+pending_after changes None change = changes ++ option_to_list change
+
+-- the line was taken
+pub record TakesLine (old new : State) (line : Reply) : Type 0 where
+  pub hops : (x : Address) → IsAddress x → hop_at new.table x ≡ hop_after old (closing_of line) x
+  pub pending : new.pending ≡ pending_after old.pending (closing_of line) (change_of line)

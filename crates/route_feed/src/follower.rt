@@ -1,0 +1,197 @@
+//! A follower: what a leader's reply lines say of the hops.
+ghost use Rattle.std.specs.Prelude.{◌≡◌, ◌++◌, ◌∷◌, [], true, false, Some, None, IfErr, IfNone, IfOk, IfSome, IsErrOf, IsSome, OnErr, OnOk};
+ghost use Rattle.ipnet_addr.specs.Addresses.{Address, IsAddress};
+ghost use Rattle.route_lines.specs.Spelled.{reply_of};
+ghost use Rattle.route_lines.specs.declared.reply.Reply.{Reply};
+ghost use Rattle.route_table.specs.Flats.{IsFlat};
+ghost use Rattle.route_table.specs.Tables.{hop_at};
+ghost use Rattle.route_feed.specs.Following.{State, TakesLine};
+ghost use Rattle.route_feed.specs.Streams.{painted_over};
+ghost use Rattle.route_feed.specs.Waiting.{changes_of, waiting_change};
+
+use crate::error::RunError;
+use ipnet::IpNet;
+use route_lines::{Closing, Reply};
+use route_table::{Flat, Hop, RouteTable};
+use std::alloc::Global;
+use std::marker::Model;
+use thiserror::Error;
+
+/// Why a line was not followed.
+#[derive(Clone, Copy, Debug, PartialEq, Eq, Error)]
+pub enum FollowError {
+    /// No memory was found to keep a change, or to carry it out.
+    #[error("no memory")]
+    Memory,
+    /// The text is no reply line.
+    #[error("not a reply line")]
+    NotALine,
+    /// There was a fault before.
+    #[error("failed before")]
+    Failed,
+}
+
+/// A change that waits for the line that closes its reply.
+#[derive(Clone, Copy)]
+struct Waiting {
+    net: IpNet,
+    hop: Hop,
+}
+
+/// The hops that the reply lines of a leader tell, in a table of its own.
+///
+/// `set` and `unset` lines wait; `ok` carries those that wait out, in order, and `none`, `bad` and `refused` drop them.
+/// All other lines change nothing. After a fault it takes no more lines.
+#[derive(Drop)]
+pub struct Follower {
+    table: RouteTable,
+    waiting: Vec<Waiting>,
+    failed: bool,
+}
+
+impl Model for Follower {
+    ghost use Rattle.route_feed.specs.Following.{State};
+    ghost use Rattle.route_feed.specs.Waiting.{changes_of};
+
+    ghost Value = { State };
+
+    ghost view = { λ f. record { table = f.table; pending = changes_of f.waiting.items; failed = f.failed } };
+}
+
+/// Carries the changes out, in order.
+fn carry_out(table: &mut RouteTable, changes: &[Waiting]) -> Result<(), FollowError>
+    ensures hops { OnOk result ((x : Address) → IsAddress x → hop_at table.new x ≡ painted_over (hop_at table.old x) (changes_of changes.now) x) }
+    ensures memory { IfErr result (λ e. e ≡ FollowError.Memory) }
+{
+    for change in changes {
+        match table.overwrite(change.net, change.hop) {
+            Ok(()) => {}
+            Err(_) => return Err(FollowError::Memory),
+        }
+    }
+    Ok(())
+}
+
+impl Follower {
+    /// A follower that has taken no line: no address has a hop.
+    ///
+    /// # Errors
+    /// `Memory` alone.
+    pub fn new(alloc: Global) -> Result<Follower, RunError>
+        ensures state { IfOk result (λ f. f ≡ record { table = []; pending = []; failed = false }) }
+        ensures memory { IfErr result (λ e. e ≡ RunError.Memory) }
+    {
+        let Ok(table) = RouteTable::new(alloc) else {
+            return Err(RunError::Memory);
+        };
+        Ok(Follower {
+            table,
+            waiting: Vec::new(alloc),
+            failed: false,
+        })
+    }
+
+    /// Whether there was a fault.
+    pub fn failed(&self) -> bool
+        ensures { result ≡ self.now.failed }
+    {
+        self.failed
+    }
+
+    /// The flat list of the hops; none after a fault.
+    pub fn flat(&self) -> Option<Flat<'_>>
+        ensures works { IfNone result (self.now.failed ≡ true) }
+        ensures failed { self.now.failed ≡ true → result ≡ None }
+        ensures flat { IfSome result (λ pieces. IsFlat (hop_at self.now.table) pieces) }
+    {
+        if self.failed {
+            return None;
+        }
+        Some(self.pieces())
+    }
+
+    /// The flat list of the hops.
+    pub(crate) fn pieces(&self) -> Flat<'_>
+        ensures { IsFlat (hop_at self.now.table) result }
+    {
+        self.table.flat()
+    }
+
+    /// Takes a line, without its line end.
+    ///
+    /// # Errors
+    /// `Failed` exactly after a fault; then nothing changes. `NotALine` exactly where the text spells no reply line.
+    /// `Memory` where a change can't be kept or carried out. Each is a fault.
+    pub fn line(&mut self, text: &[u8]) -> Result<(), FollowError>
+        ensures ok { OnOk result ((line : Reply) × (reply_of text.now ≡ Some line) × TakesLine self.old self.new line) }
+        ensures works { OnOk result ((self.old.failed ≡ false) × (self.new.failed ≡ false)) }
+        ensures not_a_line { IsErrOf result FollowError.NotALine → (self.old.failed ≡ false) × (reply_of text.now ≡ None) }
+        ensures memory { IsErrOf result FollowError.Memory → (self.old.failed ≡ false) × IsSome (reply_of text.now) }
+        ensures failed { IsErrOf result FollowError.Failed → (self.old.failed ≡ true) × (self.new ≡ self.old) }
+        ensures fault { OnErr result (self.new.failed ≡ true) }
+    {
+        if self.failed {
+            return Err(FollowError::Failed);
+        }
+        let result = self.read(text);
+        if result.is_err() {
+            self.failed = true;
+        }
+        result
+    }
+
+    fn read(&mut self, text: &[u8]) -> Result<(), FollowError>
+        ensures ok { OnOk result ((line : Reply) × (reply_of text.now ≡ Some line) × TakesLine self.old self.new line) }
+        ensures not_a_line { IsErrOf result FollowError.NotALine → reply_of text.now ≡ None }
+        ensures memory { IsErrOf result FollowError.Memory → IsSome (reply_of text.now) }
+        ensures never { IsErrOf result FollowError.Failed → ⊥ }
+        ensures failed { self.new.failed ≡ self.old.failed }
+    {
+        let Ok(line) = Reply::read(text) else {
+            return Err(FollowError::NotALine);
+        };
+        self.take(line)
+    }
+
+    fn take(&mut self, line: Reply) -> Result<(), FollowError>
+        ensures ok { OnOk result (TakesLine self.old self.new line) }
+        ensures memory { IfErr result (λ e. e ≡ FollowError.Memory) }
+        ensures failed { self.new.failed ≡ self.old.failed }
+    {
+        match line {
+            Reply::Set { net, number } => self.keep(net, Hop::Number(number)),
+            Reply::Unset { net } => self.keep(net, Hop::Drop),
+            Reply::Close(Closing::Done) => self.commit(),
+            Reply::Close(_) => {
+                self.waiting.clear();
+                Ok(())
+            }
+            _ => Ok(()),
+        }
+    }
+
+    /// Keeps a change until its reply is closed.
+    fn keep(&mut self, net: IpNet, hop: Hop) -> Result<(), FollowError>
+        ensures table { self.new.table ≡ self.old.table }
+        ensures pending { OnOk result (self.new.pending ≡ self.old.pending ++ waiting_change (record { net = net; hop = hop }) ∷ []) }
+        ensures memory { IfErr result (λ e. e ≡ FollowError.Memory) }
+        ensures failed { self.new.failed ≡ self.old.failed }
+    {
+        match self.waiting.push(Waiting { net, hop }) {
+            Ok(()) => Ok(()),
+            Err(_) => Err(FollowError::Memory),
+        }
+    }
+
+    /// Carries out what waits.
+    fn commit(&mut self) -> Result<(), FollowError>
+        ensures hops { OnOk result ((x : Address) → IsAddress x → hop_at self.new.table x ≡ painted_over (hop_at self.old.table x) self.old.pending x) }
+        ensures pending { OnOk result (self.new.pending ≡ []) }
+        ensures memory { IfErr result (λ e. e ≡ FollowError.Memory) }
+        ensures failed { self.new.failed ≡ self.old.failed }
+    {
+        carry_out(&mut self.table, self.waiting.as_slice())?;
+        self.waiting.clear();
+        Ok(())
+    }
+}

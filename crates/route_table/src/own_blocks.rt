@@ -1,0 +1,99 @@
+//! The blocks of one hop number, made from what the routes of that number govern.
+ghost use Rattle.std.specs.Prelude.{◌≡◌, ◌==◌, ◌++◌, ◌⊎◌, map, filter, All, IfOk, IfErr, OnOk, Some};
+ghost use Rattle.ipnet.specs.IpNets.{block, family, parts};
+ghost use Rattle.ipnet_blocks.specs.Maximal.{IsMaximal};
+ghost use Rattle.ipnet_blocks.specs.Networks.{IsTruncated};
+ghost use Rattle.route_table.specs.Flats.{blocks_of, flat_of};
+ghost use Rattle.route_table.specs.Owning.{GrowsBy, IsOwned, Owns};
+ghost use Rattle.route_table.specs.Stored.{route_of};
+ghost use Rattle.route_table.specs.Tables.{IsTable, hop_at};
+ghost use Rattle.trie_map.specs.declared.refused.Refused.TheVariants.{Memory};
+
+use crate::governed::Governed;
+use crate::hop::Hop;
+use crate::routes::Routes;
+use crate::table::RouteTable;
+use ipnet::IpNet;
+use std::alloc::AllocError;
+use trie_map::Refused;
+
+/// Appends the blocks.
+fn push_blocks(networks: &mut Vec<IpNet>, blocks: Governed<'_>) -> Result<(), AllocError>
+    ensures { OnOk result (map block networks.new.items ≡ map block networks.old.items ++ blocks.entry) }
+{
+    for block in blocks {
+        networks.push(block)?;
+    }
+    Ok(())
+}
+
+impl RouteTable {
+    /// The blocks that `flat` gives this number, ascending: the maximal blocks of the addresses with this hop, as
+    /// networks without host bits. They are made another way than `flat` makes them: from what the networks with this
+    /// hop govern.
+    ///
+    /// # Errors
+    /// `Memory` where there is none for the list.
+    pub fn own(&self, number: u32) -> Result<Vec<IpNet>, Refused>
+        ensures maximal { IfOk result (λ v. IsMaximal (λ x. hop_at self.now x ≡ Some number) (map block v.items)) }
+        ensures flat { IfOk result (λ v. map block v.items ≡ blocks_of (filter (λ p. p.number == number) (flat_of (hop_at self.now)))) }
+        ensures truncated { IfOk result (λ v. All (λ n. IsTruncated (family n) (parts n)) v.items) }
+        ensures memory { IfErr result (λ e. e ≡ Memory) }
+    {
+        match self.owned(number) {
+            Ok(networks) => Ok(networks),
+            Err(_) => Err(Refused::Memory),
+        }
+    }
+
+    /// The same, with the allocator's own refusal.
+    fn owned(&self, number: u32) -> Result<Vec<IpNet>, AllocError>
+        ensures maximal { IfOk result (λ v. IsMaximal (λ x. hop_at self.now x ≡ Some number) (map block v.items)) }
+        ensures flat { IfOk result (λ v. map block v.items ≡ blocks_of (filter (λ p. p.number == number) (flat_of (hop_at self.now)))) }
+        ensures truncated { IfOk result (λ v. All (λ n. IsTruncated (family n) (parts n)) v.items) }
+    {
+        let mut networks = Vec::new(self.alloc());
+        let (v4, v6) = self.families();
+        self.is_table();
+        self.push_owned(&mut networks, v4, number)?;
+        self.push_owned(&mut networks, v6, number)?;
+        IpNet::aggregate(self.alloc(), &networks)
+    }
+
+    /// Appends the blocks that those of the routes govern which have this number.
+    fn push_owned(
+        &self,
+        networks: &mut Vec<IpNet>,
+        routes: Routes<'_>,
+        number: u32,
+    ) -> Result<(), AllocError>
+        requires { IsTable self.now }
+        ensures { OnOk result (GrowsBy networks.old.items (IsOwned self.now number routes.entry) networks.new.items) }
+    {
+        for route in routes {
+            self.push_route(networks, &route.0, route.1, number)?;
+        }
+        Ok(())
+    }
+
+    /// Appends the blocks that the network governs, where the hop is this number.
+    fn push_route(
+        &self,
+        networks: &mut Vec<IpNet>,
+        net: &IpNet,
+        hop: Hop,
+        number: u32,
+    ) -> Result<(), AllocError>
+        requires { IsTable self.now }
+        ensures { OnOk result (GrowsBy networks.old.items (λ x. Owns self.now number x (route_of net.now hop)) networks.new.items) }
+    {
+        let net = net.trunc();
+        let Hop::Number(found) = hop else {
+            return Ok(());
+        };
+        if found != number {
+            return Ok(());
+        }
+        push_blocks(networks, self.governed(&net))
+    }
+}
