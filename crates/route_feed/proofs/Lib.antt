@@ -11,4 +11,4 @@ pub mod Seam
 pub mod ReadNets
 pub mod Reread
 pub mod Turns
-pub mod Following
+pub mod Beginnings

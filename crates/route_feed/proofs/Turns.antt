@@ -1,21 +1,22 @@
 -- What each reply tells, and that it paints the hops of the table after it.
-use Rattle.std.proofs.Common.{◌≡◌, ℕ, zero, suc, inl, inr, Bool, true, false, ◌&&◌, cond, List, [], ◌∷◌, map, take, filter, Option, Some, None, MatchOption, refl, sym, ap, subst, ⊎_elim}
+use Rattle.std.proofs.Common.{◌≡◌, ◌==◌, ℕ, zero, suc, inl, inr, Bool, true, false, ◌&&◌, cond, List, [], ◌∷◌, map, take, filter, Option, Some, None, MatchOption, refl, sym, ap, subst, ⊎_elim}
 use Rattle.ipnet_addr.specs.Addresses.{Address, IsAddress, Ipv4, Ipv6}
 use Rattle.ipnet_addr.proofs.Members.{In}
 use Rattle.ipnet_addr.proofs.Ascending.{In-from_All, Contains-from_In}
 use Rattle.ipnet_blocks.specs.Blocks.{Block, IsBlock, HasAddress, first_of}
-use Rattle.ipnet_blocks.specs.Maximal.{maximal_of}
+use Rattle.ipnet_blocks.specs.Maximal.{IsWithin, maximal_of}
 use Rattle.ipnet_blocks.proofs.BlockLaws.{has_first}
 use Rattle.ipnet.specs.IpNets.{block}
 use Rattle.route_lines.specs.declared.command.Command.{Command}
 use Rattle.route_lines.specs.declared.command.Command.TheVariants as C
 use Rattle.route_lines.specs.declared.reply.Closing.{Closing}
 use Rattle.route_lines.specs.declared.reply.Closing.TheVariants.{Missing, Bad, Refused}
+use Rattle.route_lines.specs.declared.reply.Reply.TheVariants.{Own}
 use Rattle.route_lines.specs.declared.reply.Reply.{Reply}
 use Rattle.route_table.specs.Changes.{changed}
 use Rattle.route_table.specs.Flats.{Piece, flat_of}
 use Rattle.route_table.specs.Onwards.{count_of}
-use Rattle.route_table.specs.Stored.{route_of}
+use Rattle.route_table.specs.Stored.{network_at, route_of}
 use Rattle.route_table.specs.Tables.{Route, IsTable, IsHop, hop_at, is_stored, match_of, covering, with_route, without_block, number_of, match_number}
 use Rattle.route_table.proofs.Changes.{changed_is_maximal}
 use Rattle.route_table.proofs.FlatSearch.{search_is_flat}
@@ -25,7 +26,7 @@ use Rattle.route_table.proofs.Updates.{added_is_table, left_is_table}
 use Rattle.route_feed.specs.Steps.{Turn, closed, told, change_line, change_lines, changed_to, route_line, flat_line, one_or_missing, may_refuse, answer, step}
 use Rattle.route_feed.specs.Streams.{Change, change_of, is_done, painted_over}
 use Rattle.route_feed.proofs.ReadNets.{IsInRange}
-use Rattle.route_feed.proofs.Reread.{IsTold, AreTold, AreTold-map, route_told, piece_told, change_told, count_told}
+use Rattle.route_feed.proofs.Reread.{IsTold, AreTold, AreTold-map, route_told, piece_told, change_told, count_told, own_told}
 use Rattle.route_feed.proofs.Seam.{changes_in, change_painted}
 
 -- the changes of lines that this one closes
@@ -99,13 +100,19 @@ module _ (M : List Route) (m : IsTable M) where
       go None h = form_closed Missing
       go (Some r) h = form_routes (r ∷ []) (λ s i. ⊎_elim (λ e. subst (λ (t : Route). In t M) (sym e) (In-from_filter _ M r h.0).0) (λ none. absurd none) i)
 
-  form_flat : Form M (told M (map flat_line (flat_of (hop_at M))))
-  form_flat = form_told (map flat_line (flat_of (hop_at M))) (AreTold-map flat_line (flat_of (hop_at M)) piece) (no_changes flat_line (λ p. refl) (flat_of (hop_at M)))
+  -- lines of some blocks of the flat list
+  form_pieces : (line : Piece → Reply) → ((p : Piece) → change_of (line p) ≡ None) → ((p : Piece) → IsWithin (λ x. hop_at M x ≡ Some p.number) p.block → IsTold (line p))
+      → (ps : List Piece) → ((p : Piece) → In p ps → In p (flat_of (hop_at M))) → Form M (told M (map line ps))
+  form_pieces line none one ps member = form_told (map line ps) (AreTold-map line ps (λ p i. one p (within p (member p i)))) (no_changes line none ps)
     where
-      piece : (p : Piece) → In p (flat_of (hop_at M)) → IsTold (flat_line p)
-      piece p i =
-          let w = (((search_is_flat (hop_at M)).exact p).0 (Contains-from_In (flat_of (hop_at M)) p i)).within in
-          piece_told M m p.block p.number w.block (w.all (first_of p.block) (has_first p.block))
+      within : (p : Piece) → In p (flat_of (hop_at M)) → IsWithin (λ x. hop_at M x ≡ Some p.number) p.block
+      within p i = (((search_is_flat (hop_at M)).exact p).0 (Contains-from_In (flat_of (hop_at M)) p i)).within
+
+  form_flat : Form M (told M (map flat_line (flat_of (hop_at M))))
+  form_flat = form_pieces flat_line (λ p. refl) (λ p w. piece_told M m p.block p.number w.block (w.all (first_of p.block) (has_first p.block))) (flat_of (hop_at M)) (λ p i. i)
+
+  form_owned : (number : ℕ) → Form M (told M (map (λ p. Own (network_at p.block)) (filter (λ p. p.number == number) (flat_of (hop_at M)))))
+  form_owned number = form_pieces (λ p. Own (network_at p.block)) (λ p. refl) (λ p w. own_told p.block w.block) (filter (λ p. p.number == number) (flat_of (hop_at M))) (λ p i. (In-from_filter _ (flat_of (hop_at M)) p i).0)
 
   form_answer : (command : Option Command) → IsInRange command → Form M (answer M command)
   form_answer (Some (C.Add net hop)) h = form_added (route_of net hop) h.0 h.1

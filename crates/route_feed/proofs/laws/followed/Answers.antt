@@ -1,4 +1,4 @@
-use Rattle.route_feed.proofs.Following.{beginnings_agree, flat_lists_agree}
+use Rattle.route_feed.proofs.Beginnings.{beginnings_agree, flat_lists_agree}
 use Rattle.route_feed.proofs.laws.followed.Goals as goal
 
 pub returns-clause-hops : goal.returns-clause-hops
