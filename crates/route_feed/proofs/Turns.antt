@@ -14,7 +14,7 @@ use Rattle.route_lines.specs.declared.reply.Closing.TheVariants.{Missing, Bad, R
 use Rattle.route_lines.specs.declared.reply.Reply.TheVariants.{Own}
 use Rattle.route_lines.specs.declared.reply.Reply.{Reply}
 use Rattle.route_table.specs.Changes.{changed}
-use Rattle.route_table.specs.Flats.{Piece, flat_of}
+use Rattle.route_table.specs.Flats.{Piece, blocks_of, flat_of}
 use Rattle.route_table.specs.Onwards.{count_of}
 use Rattle.route_table.specs.Stored.{network_at, route_of}
 use Rattle.route_table.specs.Tables.{Route, IsTable, IsHop, hop_at, is_stored, match_of, covering, with_route, without_block, number_of, match_number}
@@ -23,7 +23,8 @@ use Rattle.route_table.proofs.FlatSearch.{search_is_flat}
 use Rattle.route_table.proofs.Matches.{In-from_filter, AtLeast, best_of}
 use Rattle.route_table.proofs.OneHop.{added_lines, left_lines}
 use Rattle.route_table.proofs.Updates.{added_is_table, left_is_table}
-use Rattle.route_feed.specs.Steps.{Turn, closed, told, change_line, change_lines, changed_to, route_line, flat_line, one_or_missing, may_refuse, answer, step}
+use Rattle.route_feed.proofs.Owned.{map_twice}
+use Rattle.route_feed.specs.Steps.{Turn, closed, told, change_line, change_lines, changed_to, route_line, flat_line, one_or_missing, may_refuse, answer, step, own_line}
 use Rattle.route_feed.specs.Streams.{Change, change_of, is_done, painted_over}
 use Rattle.route_feed.proofs.ReadNets.{IsInRange}
 use Rattle.route_feed.proofs.Reread.{IsTold, AreTold, AreTold-map, route_told, piece_told, change_told, count_told, own_told}
@@ -111,8 +112,11 @@ module _ (M : List Route) (m : IsTable M) where
   form_flat : Form M (told M (map flat_line (flat_of (hop_at M))))
   form_flat = form_pieces flat_line (λ p. refl) (λ p w. piece_told M m p.block p.number w.block (w.all (first_of p.block) (has_first p.block))) (flat_of (hop_at M)) (λ p i. i)
 
-  form_owned : (number : ℕ) → Form M (told M (map (λ p. Own (network_at p.block)) (filter (λ p. p.number == number) (flat_of (hop_at M)))))
-  form_owned number = form_pieces (λ p. Own (network_at p.block)) (λ p. refl) (λ p w. own_told p.block w.block) (filter (λ p. p.number == number) (flat_of (hop_at M))) (λ p i. (In-from_filter _ (flat_of (hop_at M)) p i).0)
+  form_owned : (number : ℕ) → Form M (told M (map own_line (blocks_of (filter (λ p. p.number == number) (flat_of (hop_at M))))))
+  form_owned number =
+      let ps = filter (λ (p : Piece). p.number == number) (flat_of (hop_at M)) in
+      subst (λ ls. Form M (told M ls)) (map_twice own_line (λ (p : Piece). p.block) ps)
+      (form_pieces (λ p. own_line p.block) (λ p. refl) (λ p w. own_told p.block w.block) ps (λ p i. (In-from_filter _ (flat_of (hop_at M)) p i).0))
 
   form_answer : (command : Option Command) → IsInRange command → Form M (answer M command)
   form_answer (Some (C.Add net hop)) h = form_added (route_of net hop) h.0 h.1
@@ -126,7 +130,7 @@ module _ (M : List Route) (m : IsTable M) where
   form_answer (Some (C.List net)) h = form_filtered _
   form_answer (Some (C.PageFrom net limit)) h = form_page limit _
   form_answer (Some (C.PageAfter net limit)) h = form_page limit _
-  form_answer (Some (C.Own number)) h = form_closed Bad
+  form_answer (Some (C.Own number)) h = form_owned number
   form_answer (Some C.Count) h = form_told _ (count_told (count_of Ipv4 M) (count_of Ipv6 M), tt) refl
   form_answer (Some C.Flat) h = form_flat
   form_answer None h = form_closed Bad
