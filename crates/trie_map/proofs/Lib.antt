@@ -1,3 +1,4 @@
 pub mod Entries
 pub mod Rebuilt
 pub mod Written
+pub mod Covered

@@ -3,3 +3,4 @@ pub mod Lending
 pub mod Refusals
 pub mod Iterators
 pub mod Entry
+pub mod Covered

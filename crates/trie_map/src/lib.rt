@@ -3,6 +3,7 @@
 
 #[cfg(test)]
 mod change_tests;
+mod count;
 mod cover;
 mod entry;
 #[cfg(test)]
