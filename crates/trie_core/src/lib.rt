@@ -1,6 +1,7 @@
 //! Nodes of a trie over bit strings.
 #![tactic(auto)]
 
+mod copy;
 mod cover;
 mod frame;
 mod lend;

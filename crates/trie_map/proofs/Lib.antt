@@ -2,3 +2,4 @@ pub mod Entries
 pub mod Rebuilt
 pub mod Written
 pub mod Covered
+pub mod Same

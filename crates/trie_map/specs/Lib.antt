@@ -4,3 +4,5 @@ pub mod Refusals
 pub mod Iterators
 pub mod Entry
 pub mod Covered
+pub mod Made
+pub mod Equal

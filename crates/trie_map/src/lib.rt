@@ -3,11 +3,13 @@
 
 #[cfg(test)]
 mod change_tests;
+mod copy;
 mod count;
 mod cover;
 mod entry;
 #[cfg(test)]
 mod entry_tests;
+mod equal;
 mod iter;
 mod map;
 mod prune;
