@@ -1,16 +1,21 @@
 //! The set, and its iterators.
-ghost use Rattle.std.specs.Prelude.{◌≡◌, ◌+◌, ◌≤◌, [], length, not, true, false, IfOk, IfErr, IsOk, IsTrue, ◌↔◌, OnErr, OnOk, MatchOption, map, ⊤};
+ghost use Rattle.std.specs.Prelude.{◌≡◌, ◌+◌, ◌<◌, ◌≤◌, ◌^◌, List, [], length, not, true, false, IfOk, IfErr, IsOk, IsTrue, ◌↔◌, OnErr, OnOk, MatchOption, map, ⊤};
+ghost use Rattle.std.specs.Cmp.{partial_equiv_from_equiv};
 ghost use Rattle.std.specs.FinMap as fin;
 ghost use Rattle.std.specs.FinMap.Entries.{where_key};
-ghost use Rattle.std.specs.Iterator.{item_count};
+ghost use Rattle.std.specs.Iterator.{Drains, HoldsAlong, IsFinite, item_count};
+ghost use Rattle.std.specs.List.{All};
 ghost use Rattle.trie_keys.specs.Bits.{bits_cmp, begins, is_from};
 ghost use Rattle.trie_core.specs.Count.{nodes};
 ghost use Rattle.trie_core.specs.Inside.{outside};
 ghost use Rattle.trie_core.specs.Search.{NoBeginning};
+ghost use Rattle.trie_map.specs.Covered.{covered_count};
 ghost use Rattle.trie_map.specs.Iterators.{GivesKey};
+ghost use Rattle.trie_map.specs.Made.{inserted};
 ghost use Rattle.trie_map.specs.Maps.{IsLongestKey, IsShortestKey};
 ghost use Rattle.trie_map.specs.Refusals.{no_room};
-ghost use Rattle.trie_map.specs.declared.refused.Refused.TheVariants.{Full};
+ghost use Rattle.prefix_trie.specs.Sets.{same_sets, same_sets-equivalence};
+ghost use Rattle.trie_map.specs.declared.refused.Refused.TheVariants.{Full, Memory};
 
 use std::alloc::{AllocError, Global};
 use std::marker::Model;
@@ -74,6 +79,28 @@ impl<P: Prefix> PrefixSet<P> {
         ensures tidy { self.now.1 ≡ 0 → result ≡ nodes self.now.0 }
     {
         self.members.node_count()
+    }
+
+    /// How many addresses the members cover, each counted once; `None` where all are covered. It takes no memory.
+    pub fn address_count(&self) -> Option<P::R>
+    where
+        P: Drop,
+        ensures { MatchOption result (covered_count P.R.width self.now.0 ≡ 2 ^ P.R.width) (λ n. (P.R.number n ≡ covered_count P.R.width self.now.0) × (covered_count P.R.width self.now.0 < 2 ^ P.R.width)) }
+    {
+        self.members.address_count()
+    }
+
+    /// An equal set with as many nodes.
+    ///
+    /// # Errors
+    /// `Memory` where there is none for all of it. Nothing is left of it then.
+    pub fn try_clone(&self, alloc: Global) -> Result<PrefixSet<P>, Refused>
+        ensures same { IfOk result (λ s. s ≡ self.now) }
+        ensures memory { IfErr result (λ e. e ≡ Memory) }
+    {
+        Ok(PrefixSet {
+            members: self.members.try_clone(alloc)?,
+        })
     }
 
     /// Whether this very prefix is a member.
@@ -159,6 +186,30 @@ impl<P: Prefix> PrefixSet<P> {
 }
 
 impl<P: Prefix + Drop> PrefixSet<P> {
+    /// The set of these prefixes. It is tidy.
+    ///
+    /// # Errors
+    /// `Memory` where there is none for a prefix. Then there is no set.
+    pub fn try_from_iter<U: IntoIterator<Item = P>>(
+        alloc: Global,
+        items: U,
+    ) -> Result<PrefixSet<P>, Refused>
+        requires { (it : U.IntoIter) → U.into_iter_gives items it → U.IntoIter.can_next it × IsFinite (U.IntoIter.remaining it) × HoldsAlong U.IntoIter.next_gives it (All (λ p. length (P.bits p) ≤ P.R.width)) }
+        ensures set { IfOk result (λ s. (it : U.IntoIter) × (ps : List P) × U.into_iter_gives items it × Drains U.IntoIter.next_gives it ps × (s.0 ≡ inserted P.bits fin.empty (map (λ p. (p, tt)) ps))) }
+        ensures tidy { IfOk result (λ s. s.1 ≡ 0) }
+        ensures memory { IfErr result (λ e. e ≡ Memory) }
+    {
+        let mut rest = items.into_iter();
+        let mut made = PrefixSet::new(alloc)?;
+        'item: while let Some(prefix) = rest.next() {
+            match made.insert(prefix) {
+                Ok(_) => {}
+                Err(_) => return Err(Refused::Memory),
+            }
+        }
+        Ok(made)
+    }
+
     /// Takes the prefix in, and answers whether it is new. For a member it takes no memory and is never refused.
     ///
     /// # Errors
@@ -219,6 +270,21 @@ impl<P: Prefix + Drop> PrefixSet<P> {
     {
         self.members.remove_children(prefix);
     }
+}
+
+/// Two sets are equal where they have the same members; how many nodes they have says nothing.
+impl<P: Prefix> PartialEq for PrefixSet<P> {
+    ghost eq = { same_sets };
+
+    ghost laws = { partial_equiv_from_equiv same_sets-equivalence };
+
+    fn eq(&self, other: &PrefixSet<P>) -> bool {
+        self.members == other.members
+    }
+}
+
+impl<P: Prefix> Eq for PrefixSet<P> {
+    ghost laws = { same_sets-equivalence };
 }
 
 /// The members that are left: what `iter`, `iter_from` and `children` give.
