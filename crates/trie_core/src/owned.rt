@@ -1,15 +1,20 @@
 //! Walks that own what they give. They take no memory, and drop with them what they have not given.
-ghost use Rattle.std.specs.Prelude.{◌≡◌, ◌+◌, ◌*◌, ◌<◌, ◌≤◌, [], ◌∷◌, count_ones, length, MatchOption};
+ghost use Rattle.std.specs.Prelude.{◌≡◌, ◌+◌, ◌*◌, ◌<◌, ◌≤◌, [], ◌∷◌, count_ones, length, take, drop, not, nat_lt, MatchOption};
+ghost use Rattle.std.specs.Ordering.{nat_cmp};
 ghost use Rattle.std.specs.FinMap.{entries};
+ghost use Rattle.std.specs.FinMap.Entries.{where_key};
 ghost use Rattle.std.specs.Iterator.{YieldsFirst, item_count};
-ghost use Rattle.trie_keys.specs.Bits.{place_string, child_string};
+ghost use Rattle.trie_keys.specs.Bits.{bits_cmp, begins, place_string, child_string};
+ghost use Rattle.trie_core.specs.Held.{held};
 ghost use Rattle.trie_core.specs.Places.{placed, first_place_of, named, AllBelow};
 ghost use Rattle.trie_core.specs.Nodes.{under};
+ghost use Rattle.trie_core.specs.Search.{IsChild, HasNoChild};
 ghost use Rattle.trie_core.specs.Walks.{first_value, KeysWithin, AreParts};
 ghost use Rattle.trie_core.specs.Owned.{GivesOwned, SteppedOwned};
 
 use crate::node::Node;
-use crate::slots::first_place;
+use crate::pairs::low_bits;
+use crate::slots::{first_place, slot};
 use arrayvec::ArrayVec;
 use std::marker::Model;
 use std::vec::IntoIter;
@@ -85,6 +90,60 @@ impl<X: Drop> Places<X> {
     }
 }
 
+/// The things without the first of them.
+fn without_first<X: Drop>(items: Option<IntoIter<X>>, count: u32) -> Option<IntoIter<X>>
+    requires { count ≤ length (held items) }
+    ensures { held result ≡ drop count (held items) }
+{
+    let Some(mut items) = items else {
+        return None;
+    };
+    'item: for _ in 0..count {
+        drop(items.next());
+    }
+    Some(items)
+}
+
+/// The first of the things.
+fn first_of<X: Drop>(items: Option<IntoIter<X>>, count: u32) -> Option<IntoIter<X>>
+    requires { count ≤ length (held items) }
+    ensures { held result ≡ take count (held items) }
+{
+    let Some(mut items) = items else {
+        return None;
+    };
+    'item: while items.len() > count as usize {
+        drop(items.next_back());
+    }
+    Some(items)
+}
+
+impl<X: Drop> Places<X> {
+    /// Those at this place or after it. The others are dropped.
+    fn from(self, place: u8) -> Places<X>
+        requires { place ≤ 32 }
+        ensures { result ≡ where_key nat_cmp (λ k. not (nat_lt k place)) self }
+    {
+        let passed = low_bits(self.taken, place);
+        Places {
+            taken: self.taken - passed,
+            items: without_first(self.items, passed.count_ones()),
+        }
+    }
+
+    /// Those at places below this one. The others are dropped.
+    fn before(self, place: u8) -> Places<X>
+        requires { place ≤ 32 }
+        ensures { result ≡ where_key nat_cmp (λ k. nat_lt k place) self }
+    {
+        let taken = low_bits(self.taken, place);
+        Places {
+            taken,
+            items: first_of(self.items, taken.count_ones()),
+        }
+    }
+}
+
 /// What is left of one node, whose keys begin with the trail.
 #[derive(Drop)]
 struct Frame<T> {
@@ -140,6 +199,20 @@ fn parts<T>(node: Node<T>) -> (Places<T>, Places<Node<T>>)
     )
 }
 
+/// The node below the first five bits. The rest is dropped.
+fn into_child<T: Drop>(node: Node<T>, path: &Path) -> Option<Node<T>>
+    requires { 5 ≤ length path.now }
+    ensures { MatchOption result (HasNoChild path.now node) (λ c. IsChild path.now node c) }
+{
+    match slot(node.child_bits, path.five()) {
+        None => None,
+        Some(at) => {
+            let mut children = node.children;
+            Some(children.remove(at))
+        }
+    }
+}
+
 /// Whether the next entry is the first value, and not in the first child.
 fn value_first<X, Y>(values: &Places<X>, children: &Places<Y>) -> bool
     requires values { AllBelow 31 values.now }
@@ -167,6 +240,23 @@ impl<T: Drop> Frame<T> {
         Frame {
             values,
             children,
+            trail,
+        }
+    }
+
+    /// Of a node the keys that begin with a string of fewer than five bits. The others are dropped.
+    fn inside(node: Node<T>, path: &Path, trail: Path) -> Frame<T>
+        requires short { length path.now < 5 }
+        requires levels { length trail + 5 * node.2 ≤ 130 }
+        requires keys { KeysWithin 128 (under trail (entries node.0)) }
+        ensures rest { result.0 ≡ under trail (where_key bits_cmp (begins path.now) (entries node.0)) }
+        ensures levels { result.1 ≤ node.2 }
+    {
+        let (values, children) = parts(node);
+        let (len, place, child) = (path.len(), path.place(), path.five());
+        Frame {
+            values: values.from(place).before(place + (31 >> len)),
+            children: children.from(child).before(child + (32 >> len)),
             trail,
         }
     }
@@ -241,6 +331,31 @@ impl<T: Drop> OwnedWalk<T> {
         ensures { result.0 ≡ entries node.0 }
     {
         OwnedWalk::start(Frame::whole(node, Path::new(0, 0)))
+    }
+
+    /// The entries whose keys begin with a path, itself included. The others are dropped.
+    pub fn inside(node: Node<T>, path: Path) -> OwnedWalk<T>
+        requires within { length path ≤ 128 }
+        requires levels { node.2 ≤ 26 }
+        requires keys { KeysWithin 128 (entries node.0) }
+        ensures { result.0 ≡ where_key bits_cmp (begins path) (entries node.0) }
+    {
+        let mut node = node;
+        let mut path = path;
+        let mut trail = Path::new(0, 0);
+        'way: while !path.is_short() {
+            match into_child(node, &path) {
+                None => {
+                    return OwnedWalk {
+                        stack: ArrayVec::new(),
+                    };
+                }
+                Some(child) => node = child,
+            }
+            trail = trail.with(path.five(), 5);
+            path = path.rest();
+        }
+        OwnedWalk::start(Frame::inside(node, &path, trail))
     }
 
     /// Takes one entry off the last frame, or opens a node, or takes off an empty frame.
