@@ -10,6 +10,7 @@ mod entry;
 #[cfg(test)]
 mod entry_tests;
 mod equal;
+mod into_iter;
 mod iter;
 mod map;
 mod prune;
@@ -19,6 +20,7 @@ mod tests;
 
 pub use cover::{Cover, CoverKeys, CoverValues};
 pub use entry::{Entry, OccupiedEntry, VacantEntry};
+pub use into_iter::{IntoIter, IntoKeys, IntoValues};
 pub use iter::{Iter, Keys, Values};
 pub use map::PrefixMap;
 pub use refused::Refused;
