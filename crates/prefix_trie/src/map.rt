@@ -1,4 +1,5 @@
 //! The map, its entries and its iterators.
 pub use trie_map::{
-    Cover, CoverKeys, CoverValues, Entry, Iter, Keys, OccupiedEntry, PrefixMap, VacantEntry, Values,
+    Cover, CoverKeys, CoverValues, Entry, IntoIter, IntoKeys, IntoValues, Iter, Keys,
+    OccupiedEntry, PrefixMap, VacantEntry, Values,
 };

@@ -19,7 +19,7 @@ ghost use Rattle.trie_map.specs.declared.refused.Refused.TheVariants.{Full, Memo
 
 use std::alloc::{AllocError, Global};
 use std::marker::Model;
-use trie_map::{CoverKeys, Iter as Entries, Prefix, PrefixMap, Refused};
+use trie_map::{CoverKeys, IntoKeys, Iter as Entries, Prefix, PrefixMap, Refused};
 
 /// A set of prefixes: two prefixes are one member where the same bits count.
 ///
@@ -352,5 +352,49 @@ impl<'a, P: Prefix> IntoIterator for &'a PrefixSet<P> {
 
     fn into_iter(self) -> Iter<'a, P> {
         self.iter()
+    }
+}
+
+/// The members that are left, owned: what `into_iter` gives.
+#[derive(Drop)]
+pub struct IntoIter<P: Prefix> {
+    keys: IntoKeys<P, ()>,
+}
+
+impl<P: Prefix> Model for IntoIter<P> {
+    ghost use Rattle.std.specs.Prelude.{List, Bool};
+    ghost use Rattle.std.specs.Coded.{coded_list, coded_bool};
+
+    ghost Value = { List (List Bool) };
+
+    ghost coded = { coded_list (coded_list coded_bool) };
+
+    ghost view = { λ a. a.keys };
+}
+
+impl<P: Prefix> Iterator for IntoIter<P> {
+    type Item = P;
+
+    ghost next_gives = { GivesKey P.bits P.of_bits };
+
+    ghost remaining = { item_count (λ it. it) };
+
+    fn next(&mut self) -> Option<P> {
+        self.keys.next()
+    }
+}
+
+impl<P: Prefix> IntoIterator for PrefixSet<P> {
+    type Item = P;
+
+    type IntoIter = IntoIter<P>;
+
+    ghost into_iter_gives = { λ s r. r ≡ fin.keys s.0 };
+
+    /// All members, owned.
+    fn into_iter(self) -> IntoIter<P> {
+        IntoIter {
+            keys: self.members.into_keys(),
+        }
     }
 }

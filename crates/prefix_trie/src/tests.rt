@@ -5,6 +5,7 @@ ghost use Rattle.std.specs.List.{All};
 
 use crate::{PrefixMap, PrefixSet, Refused};
 use std::alloc::Global;
+use std::cell::Cell;
 use std::process::Abort;
 
 /// A map of these entries.
@@ -159,4 +160,92 @@ fn refused(rt: HostRuntime) {
         Err(refused) => assert_eq!(rt; refused, Refused::Memory),
     }
     assert_eq!(rt; set.node_count(), 7);
+}
+
+/// A value that counts how many of its kind were dropped.
+struct Counted<'a> {
+    drops: &'a Cell<u32>,
+}
+
+impl<'a> Drop for Counted<'a> {
+    fn drop(self) {
+        let Counted { drops } = self;
+        drops.set(drops.get().wrapping_add(1));
+    }
+}
+
+/// A map of three such values, at 0/0, 0/1 and 0x80000000/1.
+fn three_counted<'a>(
+    rt: &impl Abort,
+    alloc: Global,
+    drops: &'a Cell<u32>,
+) -> PrefixMap<(u32, u8), Counted<'a>> {
+    let mut map = PrefixMap::new(alloc).expect(rt, "a map");
+    assert!(rt; map.insert((0, 0), Counted { drops }).is_ok());
+    assert!(rt; map.insert((0, 1), Counted { drops }).is_ok());
+    assert!(rt; map.insert((0x8000_0000, 1), Counted { drops }).is_ok());
+    map
+}
+
+#[test]
+fn dropped_with_the_map(rt: HostRuntime) {
+    let drops = Cell::new(0);
+    let map = three_counted(&rt, rt.alloc(), &drops);
+    assert_eq!(rt; drops.get(), 0);
+    drop(map);
+    assert_eq!(rt; drops.get(), 3);
+}
+
+#[test]
+fn dropped_with_the_iterator(rt: HostRuntime) {
+    let drops = Cell::new(0);
+    let mut entries = three_counted(&rt, rt.alloc(), &drops).into_iter();
+    let Some((key, value)) = entries.next() else {
+        panic!(&rt; "no entry")
+    };
+    assert_eq!(rt; key, (0, 0));
+    assert_eq!(rt; drops.get(), 0);
+    drop(value);
+    assert_eq!(rt; drops.get(), 1);
+    drop(entries);
+    assert_eq!(rt; drops.get(), 3);
+}
+
+#[test]
+fn dropped_outside(rt: HostRuntime) {
+    let drops = Cell::new(0);
+    let mut entries = three_counted(&rt, rt.alloc(), &drops).into_children(&(0x8000_0000, 1));
+    assert_eq!(rt; drops.get(), 2);
+    let Some((key, value)) = entries.next() else {
+        panic!(&rt; "no entry")
+    };
+    assert_eq!(rt; key, (0x8000_0000, 1));
+    assert!(rt; entries.next().is_none());
+    drop(value);
+    assert_eq!(rt; drops.get(), 3);
+}
+
+#[test]
+fn owned(rt: HostRuntime) {
+    let entries = [
+        ((0x0a01_0100, 24), 3),
+        ((0x0a00_0000, 8), 1),
+        ((0x0a01_0000, 16), 2),
+        ((0x0b00_0000, 8), 4),
+    ];
+    let map = map_of(&rt, rt.alloc(), entries).expect(&rt, "a map");
+    let copy = map.try_clone(rt.alloc()).expect(&rt, "a copy");
+    let mut values = 0u32;
+    for value in copy.into_values() {
+        values = values.wrapping_mul(10).wrapping_add(value);
+    }
+    assert_eq!(rt; values, 1234);
+    let copy = map.try_clone(rt.alloc()).expect(&rt, "a copy");
+    assert_eq!(rt; digits(copy.into_keys()), 10110);
+    let mut values = 0u32;
+    for (_, value) in map.into_children(&(0x0a01_0000, 10)) {
+        values = values.wrapping_mul(10).wrapping_add(value);
+    }
+    assert_eq!(rt; values, 23);
+    assert_eq!(rt; digits(three(&rt, rt.alloc()).into_iter()), 1019);
 }

@@ -12,6 +12,7 @@ mod entry_tests;
 mod equal;
 mod into_iter;
 mod iter;
+mod lend;
 mod map;
 mod prune;
 mod refused;
