@@ -249,3 +249,38 @@ fn owned(rt: HostRuntime) {
     assert_eq!(rt; values, 23);
     assert_eq!(rt; digits(three(&rt, rt.alloc()).into_iter()), 1019);
 }
+
+#[test]
+fn lent_at_the_longest(rt: HostRuntime) {
+    let entries = [((0x0a00_0000, 8), 1), ((0x0a01_0000, 16), 2)];
+    let mut map = map_of(&rt, rt.alloc(), entries).expect(&rt, "a map");
+    let Some((key, value)) = map.get_lpm_mut(&(0x0a01_0203, 32)) else {
+        panic!(&rt; "no match")
+    };
+    assert_eq!(rt; key, (0x0a01_0000, 16));
+    assert_eq!(rt; *value, 2);
+    *value = 7;
+    assert_eq!(rt; map.get(&(0x0a01_0000, 16)).copied(), Some(7));
+    if let Some(value) = map.get_lpm_value_mut(&(0x0a02_0000, 16)) {
+        *value = 8;
+    }
+    assert_eq!(rt; map.get(&(0x0a00_0000, 8)).copied(), Some(8));
+    assert!(rt; map.get_lpm_mut(&(0x0b00_0000, 8)).is_none());
+}
+
+/// Each request for memory may be refused: then there is no map, and no copy.
+#[test]
+fn refused_whole(rt: HostRuntime) {
+    let entries = [((0x0102_0300, 32), 1), ((0x0a00_0000, 8), 2)];
+    match map_of(&rt, rt.alloc(), entries) {
+        Err(refused) => assert_eq!(rt; refused, Refused::Memory),
+        Ok(map) => {
+            assert_eq!(rt; map.node_count(), 8);
+            match map.try_clone(rt.alloc()) {
+                Ok(copy) => assert!(rt; copy == map),
+                Err(refused) => assert_eq!(rt; refused, Refused::Memory),
+            }
+            assert_eq!(rt; map.len(), 2);
+        }
+    }
+}
