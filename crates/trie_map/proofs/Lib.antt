@@ -3,3 +3,4 @@ pub mod Rebuilt
 pub mod Written
 pub mod Covered
 pub mod Same
+pub mod Lent

@@ -6,3 +6,4 @@ pub mod Entry
 pub mod Covered
 pub mod Made
 pub mod Equal
+pub mod IterMut
