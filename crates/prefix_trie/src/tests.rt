@@ -268,6 +268,35 @@ fn lent_at_the_longest(rt: HostRuntime) {
     assert!(rt; map.get_lpm_mut(&(0x0b00_0000, 8)).is_none());
 }
 
+#[test]
+fn lent_in_turn(rt: HostRuntime) {
+    let entries = [
+        ((0x0a01_0000, 16), 2),
+        ((0x0a00_0000, 8), 1),
+        ((0x0b00_0000, 8), 3),
+    ];
+    let mut map = map_of(&rt, rt.alloc(), entries).expect(&rt, "a map");
+    let mut entries = map.iter_mut();
+    assert!(rt; matches!(entries.key(), Some((0x0a00_0000, 8))));
+    if let Some(value) = entries.next() {
+        *value = value.wrapping_add(10);
+    }
+    assert!(rt; matches!(entries.key(), Some((0x0a01_0000, 16))));
+    if let Some(value) = entries.next() {
+        *value = value.wrapping_add(20);
+    }
+    assert!(rt; entries.next().is_some());
+    assert!(rt; entries.key().is_none());
+    assert!(rt; entries.next().is_none());
+    assert_eq!(rt; map.get(&(0x0a00_0000, 8)).copied(), Some(11));
+    assert_eq!(rt; map.get(&(0x0a01_0000, 16)).copied(), Some(22));
+    assert_eq!(rt; map.get(&(0x0b00_0000, 8)).copied(), Some(3));
+    let mut entries = map.iter_from_mut(&(0x0a00_0000, 8), false);
+    assert!(rt; matches!(entries.next(), Some(22)));
+    let mut entries = map.iter_from_mut(&(0x0a01_0000, 16), true);
+    assert!(rt; matches!(entries.next(), Some(22)));
+}
+
 /// Each request for memory may be refused: then there is no map, and no copy.
 #[test]
 fn refused_whole(rt: HostRuntime) {
