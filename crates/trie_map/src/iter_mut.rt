@@ -20,6 +20,9 @@ pub struct IterMut<'a, P: Prefix, T> {
     ghost stored: { IfSome next (λ q. (length q ≤ 128) × (length q ≤ P.R.width) × IsSome (get map.now.0 q)) } by { Prim.hlevel props },
 }
 
+/// What `values_mut` gives: an `IterMut` lends values, and tells their keys where asked.
+pub type ValuesMut<'a, P, T> = IterMut<'a, P, T>;
+
 impl<P: Prefix, T> PrefixMap<P, T> {
     ghost use Rattle.trie_map.specs.IterMut.{lent_map_ref, lent_map, next_bits};
 
@@ -43,6 +46,15 @@ impl<P: Prefix, T> PrefixMap<P, T> {
     {
         let next = self.key_from(Path::new(0, 0), true);
         IterMut { map: self, next }
+    }
+
+    /// Lends the values in turn, in the order of their keys.
+    pub fn values_mut(&mut self) -> ValuesMut<'_, P, T>
+        ensures same_map { (lent_map_ref result).ghost_name ≡ self.entry.ghost_name }
+        ensures unchanged { lent_map result ≡ self.old }
+        ensures first { next_bits result ≡ first_key (entries self.old.0) }
+    {
+        self.iter_mut()
     }
 
     /// Lends in turn the values of the keys that come after a prefix, and its own first where `inclusive` says so.
