@@ -1,4 +1,4 @@
-use Rattle.std.proofs.Common.{◌≡◌, ◌∙◌, ◌∷◌, [], ◌-◌, ap, sym, length, count_ones, arith}
+use Rattle.std.proofs.Common.{◌≡◌, ◌∙◌, ◌∷◌, ◌-◌, ap, sym, length, count_ones, arith}
 use Rattle.std.specs.Vec.Iter.{into_iter_items}
 use Rattle.trie_core.specs.Places.{placed}
 use Rattle.trie_core.specs.Held.{held}
