@@ -1,12 +1,12 @@
 -- The addresses that keys cover, counted in the order of a walk.
-use Rattle.std.proofs.Common.{◌≡◌, ℕ, zero, suc, ◌+◌, ◌-◌, ◌*◌, ◌^◌, ◌<◌, ◌≤◌, Bool, true, false, cond, not, ◌&&◌, ◌||◌, List, [], ◌∷◌, length, refl, sym, ap, subst, ◌∙◌, arith}
+use Rattle.std.proofs.Common.{◌≡◌, ℕ, zero, suc, ◌+◌, ◌-◌, ◌^◌, ◌<◌, ◌≤◌, Bool, true, false, cond, not, ◌&&◌, ◌||◌, List, [], ◌∷◌, length, refl, sym, ap, ◌∙◌, arith}
 use Rattle.std.specs.Prelude.{T, Option, Some, None, MatchOption, option_map}
 use Rattle.std.specs.declared.cmp.Ordering.TheVariants.{Less}
 use Rattle.std.proofs.lemmas.Nat.{pow_pos}
 use Rattle.std.specs.FinMap.{is_sorted}
 use Rattle.std.specs.FinMap.Entries.{below_all}
 use Rattle.trie_keys.specs.Bits.{bits_cmp, begins}
-use Rattle.trie_keys.proofs.Strings.{both, less-T, not_true, no_false}
+use Rattle.trie_keys.proofs.Strings.{both, less-T, no_false}
 use Rattle.trie_core.specs.Walks.{KeysWithin}
 use Rattle.trie_core.proofs.Order.{less_trans}
 use Rattle.trie_map.specs.Covered.{count_strings, is_begun}

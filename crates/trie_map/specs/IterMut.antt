@@ -1,5 +1,5 @@
 -- What each step of an iterator that lends leaves.
-use Rattle.std.specs.Prelude.{◌≡◌, List, [], Bool, false, Option, Some, None, OnSome, IfNone, MatchOption}
+use Rattle.std.specs.Prelude.{◌≡◌, List, [], Bool, false, Option, None, OnSome, IfNone, MatchOption}
 use Rattle.std.specs.Option.{option_and_then}
 use Rattle.std.specs.Borrow.{Fml, RattleType, MutBor, LendsSo}
 use Rattle.std.specs.FinMap.{get, entries}

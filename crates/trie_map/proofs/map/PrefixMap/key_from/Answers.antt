@@ -1,5 +1,5 @@
-use Rattle.std.proofs.Common.{◌∙◌, sym, ap, subst}
-use Rattle.std.specs.FinMap.{get, entries}
+use Rattle.std.proofs.Common.{◌∙◌, sym, subst}
+use Rattle.std.specs.FinMap.{get}
 use Rattle.std.specs.Option.{IsSome}
 use Rattle.trie_keys.specs.Bits.{is_from}
 use Rattle.trie_map.proofs.Lent.{first_within, first_stored}
