@@ -7,3 +7,5 @@ pub mod Lending
 pub mod Walks
 pub mod Steps
 pub mod Covers
+pub mod Held
+pub mod Owned

@@ -1,10 +1,12 @@
 //! Nodes of a trie over bit strings.
 #![tactic(auto)]
 
+mod copy;
 mod cover;
 mod frame;
 mod lend;
 mod node;
+mod owned;
 mod pairs;
 mod prune;
 mod slots;
@@ -12,5 +14,6 @@ mod walk;
 
 pub use cover::Cover;
 pub use node::Node;
+pub use owned::OwnedWalk;
 pub use trie_keys::{Key, Path, Prefix, path_of, shortened};
 pub use walk::Walk;

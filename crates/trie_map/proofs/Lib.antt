@@ -1,3 +1,6 @@
 pub mod Entries
 pub mod Rebuilt
 pub mod Written
+pub mod Covered
+pub mod Same
+pub mod Lent

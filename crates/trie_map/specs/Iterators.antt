@@ -10,3 +10,7 @@ module _ {K : Type 0} (bits : K → List Bool) (of_bits : List Bool → K) where
   -- the same of a key alone
   abbrev pub GivesKey : List (List Bool) → Option K → List (List Bool) → Type 0
   GivesKey ss r ts = MatchOption r ((ss ≡ []) × (ts ≡ [])) (λ k. (ss ≡ bits k ∷ ts) × (k ≡ of_bits (bits k)))
+
+  -- GivesEntry, where the value is given away
+  abbrev pub GivesOwned : {X : Type 0} → List (List Bool × X) → Option (K × X) → List (List Bool × X) → Type 0
+  GivesOwned es r fs = MatchOption r ((es ≡ []) × (fs ≡ [])) (λ p. (es ≡ (bits p.0, p.1) ∷ fs) × (p.0 ≡ of_bits (bits p.0)))

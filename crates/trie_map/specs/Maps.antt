@@ -1,5 +1,5 @@
 -- What searches of a map hand out.
-use Rattle.std.specs.Prelude.{ℕ, ◌≤◌, ◌≡◌, length, take, Bool, List, is_some, true}
+use Rattle.std.specs.Prelude.{ℕ, ◌≤◌, ◌≡◌, length, take, Bool, List, [], ◌∷◌, Option, Some, None, is_some, true}
 use Rattle.std.specs.FinMap.{get}
 use Rattle.trie_core.specs.Nodes.{BitMap}
 use Rattle.trie_core.specs.Search.{IsLongest, IsShortest}
@@ -20,3 +20,8 @@ module _ {K X : Type 0} (bits : K → List Bool) (of_bits : List Bool → K) whe
     pub shortest : IsShortest m q (length (bits k)) v
     pub beginning : bits k ≡ take (length (bits k)) q
     pub rebuilt : k ≡ of_bits (bits k)
+
+-- the key of the first entry
+abbrev pub first_key : {X : Type 0} → List (List Bool × X) → Option (List Bool)
+first_key [] = None
+first_key (e ∷ es) = Some e.0

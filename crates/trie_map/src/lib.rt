@@ -3,11 +3,17 @@
 
 #[cfg(test)]
 mod change_tests;
+mod copy;
+mod count;
 mod cover;
 mod entry;
 #[cfg(test)]
 mod entry_tests;
+mod equal;
+mod into_iter;
 mod iter;
+mod iter_mut;
+mod lend;
 mod map;
 mod prune;
 mod refused;
@@ -16,7 +22,9 @@ mod tests;
 
 pub use cover::{Cover, CoverKeys, CoverValues};
 pub use entry::{Entry, OccupiedEntry, VacantEntry};
+pub use into_iter::{IntoIter, IntoKeys, IntoValues};
 pub use iter::{Iter, Keys, Values};
+pub use iter_mut::{IterMut, ValuesMut};
 pub use map::PrefixMap;
 pub use refused::Refused;
 pub use trie_core::{Key, Prefix};

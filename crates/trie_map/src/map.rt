@@ -55,12 +55,20 @@ impl<P: Prefix, T> PrefixMap<P, T> {
         ensures tidy { IfOk result (λ m. m.1 ≡ 0) }
         ensures ok { IsOk result }
     {
-        Ok(PrefixMap {
+        Ok(PrefixMap::empty(alloc))
+    }
+
+    /// The empty map.
+    pub(crate) fn empty(alloc: Global) -> PrefixMap<P, T>
+        ensures map { result.0 ≡ map.empty }
+        ensures tidy { result.1 ≡ 0 }
+    {
+        PrefixMap {
             root: Node::new(alloc),
             len: 0,
             nodes: 1,
             keys: PhantomData,
-        })
+        }
     }
 
     /// The number of entries.

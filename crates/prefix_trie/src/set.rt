@@ -1,0 +1,400 @@
+//! The set, and its iterators.
+ghost use Rattle.std.specs.Prelude.{◌≡◌, ◌+◌, ◌<◌, ◌≤◌, ◌^◌, List, [], length, not, true, false, IfOk, IfErr, IsOk, IsTrue, ◌↔◌, OnErr, OnOk, MatchOption, map, ⊤};
+ghost use Rattle.std.specs.Cmp.{partial_equiv_from_equiv};
+ghost use Rattle.std.specs.FinMap as fin;
+ghost use Rattle.std.specs.FinMap.Entries.{where_key};
+ghost use Rattle.std.specs.Iterator.{Drains, HoldsAlong, IsFinite, item_count};
+ghost use Rattle.std.specs.List.{All};
+ghost use Rattle.trie_keys.specs.Bits.{bits_cmp, begins, is_from};
+ghost use Rattle.trie_core.specs.Count.{nodes};
+ghost use Rattle.trie_core.specs.Inside.{outside};
+ghost use Rattle.trie_core.specs.Search.{NoBeginning};
+ghost use Rattle.trie_map.specs.Covered.{covered_count};
+ghost use Rattle.trie_map.specs.Iterators.{GivesKey};
+ghost use Rattle.trie_map.specs.Made.{inserted};
+ghost use Rattle.trie_map.specs.Maps.{IsLongestKey, IsShortestKey};
+ghost use Rattle.trie_map.specs.Refusals.{no_room};
+ghost use Rattle.prefix_trie.specs.Sets.{same_sets, same_sets-equivalence};
+ghost use Rattle.trie_map.specs.declared.refused.Refused.TheVariants.{Full, Memory};
+
+use std::alloc::{AllocError, Global};
+use std::marker::Model;
+use trie_map::{CoverKeys, IntoKeys, Iter as Entries, Prefix, PrefixMap, Refused};
+
+/// A set of prefixes: two prefixes are one member where the same bits count.
+///
+/// It is the map from its members to nothing, and what is said of a map is said of it: the members that are handed
+/// out have zeros after the bits that count, and every call but `remove_keep_tree` keeps a tidy set tidy.
+#[derive(Drop)]
+pub struct PrefixSet<P: Prefix> {
+    members: PrefixMap<P, ()>,
+}
+
+impl<P: Prefix> Model for PrefixSet<P> {
+    ghost use Rattle.std.specs.Prelude.{ℕ};
+    ghost use Rattle.std.specs.FinMap as fin;
+    ghost use base.Stored.{coded_unit};
+    ghost use Rattle.trie_keys.specs.Bits.{bits_cmp};
+    ghost use Rattle.trie_core.specs.Nodes.{code};
+
+    ghost Value = { fin.FinMap bits_cmp (Unit {0}) × ℕ × ℕ };
+
+    ghost coded = { code coded_unit };
+
+    ghost view = { λ a. a.members };
+}
+
+impl<P: Prefix> PrefixSet<P> {
+    /// The empty set. It takes no memory.
+    ///
+    /// # Errors
+    /// None, as of `PrefixMap::new`.
+    pub fn new(alloc: Global) -> Result<PrefixSet<P>, Refused>
+        ensures set { IfOk result (λ s. s.0 ≡ fin.empty) }
+        ensures tidy { IfOk result (λ s. s.1 ≡ 0) }
+        ensures ok { IsOk result }
+    {
+        Ok(PrefixSet {
+            members: PrefixMap::new(alloc)?,
+        })
+    }
+
+    /// The number of members.
+    pub fn len(&self) -> usize
+        ensures { result ≡ fin.len self.now.0 }
+    {
+        self.members.len()
+    }
+
+    /// Whether it has no member.
+    pub fn is_empty(&self) -> bool
+        ensures { IsTrue result ↔ (self.now.0 ≡ fin.empty) }
+    {
+        self.members.is_empty()
+    }
+
+    /// The number of nodes, as `PrefixMap::node_count`.
+    pub fn node_count(&self) -> usize
+        ensures all { result ≡ nodes self.now.0 + self.now.1 }
+        ensures tidy { self.now.1 ≡ 0 → result ≡ nodes self.now.0 }
+    {
+        self.members.node_count()
+    }
+
+    /// How many addresses the members cover, each counted once; `None` where all are covered. It takes no memory.
+    pub fn address_count(&self) -> Option<P::R>
+    where
+        P: Drop,
+        ensures { MatchOption result (covered_count P.R.width self.now.0 ≡ 2 ^ P.R.width) (λ n. (P.R.number n ≡ covered_count P.R.width self.now.0) × (covered_count P.R.width self.now.0 < 2 ^ P.R.width)) }
+    {
+        self.members.address_count()
+    }
+
+    /// An equal set with as many nodes.
+    ///
+    /// # Errors
+    /// `Memory` where there is none for all of it. Nothing is left of it then.
+    pub fn try_clone(&self, alloc: Global) -> Result<PrefixSet<P>, Refused>
+        ensures same { IfOk result (λ s. s ≡ self.now) }
+        ensures memory { IfErr result (λ e. e ≡ Memory) }
+    {
+        Ok(PrefixSet {
+            members: self.members.try_clone(alloc)?,
+        })
+    }
+
+    /// Whether this very prefix is a member.
+    pub fn contains(&self, prefix: &P) -> bool
+        requires { length (P.bits prefix.now) ≤ P.R.width }
+        ensures { result ≡ fin.contains_key self.now.0 (P.bits prefix.now) }
+    {
+        self.members.contains_key(prefix)
+    }
+
+    /// The member that this very prefix is, with zeros after the bits that count.
+    pub fn get(&self, prefix: &P) -> Option<P>
+        requires { length (P.bits prefix.now) ≤ P.R.width }
+        ensures { MatchOption result (fin.contains_key self.now.0 (P.bits prefix.now) ≡ false) (λ k. (fin.contains_key self.now.0 (P.bits prefix.now) ≡ true) × (k ≡ P.of_bits (P.bits prefix.now))) }
+    {
+        match self.members.get_key_value(prefix) {
+            None => None,
+            Some((key, _)) => Some(key),
+        }
+    }
+
+    /// The longest member that contains the asked prefix, which itself counts.
+    pub fn get_lpm(&self, prefix: &P) -> Option<P>
+        requires { length (P.bits prefix.now) ≤ P.R.width }
+        ensures { MatchOption result (NoBeginning self.now.0 (P.bits prefix.now)) (λ k. IsLongestKey P.bits P.of_bits self.now.0 (P.bits prefix.now) k tt) }
+    {
+        self.members.get_lpm_prefix(prefix)
+    }
+
+    /// The shortest member that contains the asked prefix, which itself counts.
+    pub fn get_spm(&self, prefix: &P) -> Option<P>
+        requires { length (P.bits prefix.now) ≤ P.R.width }
+        ensures { MatchOption result (NoBeginning self.now.0 (P.bits prefix.now)) (λ k. IsShortestKey P.bits P.of_bits self.now.0 (P.bits prefix.now) k tt) }
+    {
+        self.members.get_spm_prefix(prefix)
+    }
+
+    /// Whether a member contains the asked prefix.
+    pub fn is_covered(&self, prefix: &P) -> bool
+        requires { length (P.bits prefix.now) ≤ P.R.width }
+        ensures { IsTrue result ↔ (NoBeginning self.now.0 (P.bits prefix.now) → ⊥) }
+    {
+        self.members.is_covered(prefix)
+    }
+
+    /// All members, in the order of a walk.
+    pub fn iter(&self) -> Iter<'_, P>
+        ensures { result ≡ fin.keys self.now.0 }
+    {
+        Iter {
+            entries: self.members.iter(),
+        }
+    }
+
+    /// The members from a prefix on, in the order of a walk: those that come after it, among them the longer ones
+    /// inside it, and where `inclusive` says so itself.
+    pub fn iter_from(&self, prefix: &P, inclusive: bool) -> Iter<'_, P>
+        requires { length (P.bits prefix.now) ≤ P.R.width }
+        ensures { result ≡ map (λ e. e.0) (where_key bits_cmp (is_from (P.bits prefix.now) inclusive) (fin.entries self.now.0)) }
+    {
+        Iter {
+            entries: self.members.iter_from(prefix, inclusive),
+        }
+    }
+
+    /// The members that the prefix contains, itself included.
+    pub fn children(&self, prefix: &P) -> Iter<'_, P>
+        requires { length (P.bits prefix.now) ≤ P.R.width }
+        ensures { result ≡ map (λ e. e.0) (where_key bits_cmp (begins (P.bits prefix.now)) (fin.entries self.now.0)) }
+    {
+        Iter {
+            entries: self.members.children(prefix),
+        }
+    }
+
+    /// The members that contain the prefix, itself included, the shortest first.
+    pub fn cover(&self, prefix: &P) -> CoverKeys<'_, P, ()>
+        requires { length (P.bits prefix.now) ≤ P.R.width }
+        ensures { result ≡ map (λ e. e.0) (where_key bits_cmp (λ k. begins k (P.bits prefix.now)) (fin.entries self.now.0)) }
+    {
+        self.members.cover_keys(prefix)
+    }
+}
+
+impl<P: Prefix + Drop> PrefixSet<P> {
+    /// The set of these prefixes. It is tidy.
+    ///
+    /// # Errors
+    /// `Memory` where there is none for a prefix. Then there is no set.
+    pub fn try_from_iter<U: IntoIterator<Item = P>>(
+        alloc: Global,
+        items: U,
+    ) -> Result<PrefixSet<P>, Refused>
+        requires { (it : U.IntoIter) → U.into_iter_gives items it → U.IntoIter.can_next it × IsFinite (U.IntoIter.remaining it) × HoldsAlong U.IntoIter.next_gives it (All (λ p. length (P.bits p) ≤ P.R.width)) }
+        ensures set { IfOk result (λ s. (it : U.IntoIter) × (ps : List P) × U.into_iter_gives items it × Drains U.IntoIter.next_gives it ps × (s.0 ≡ inserted P.bits fin.empty (map (λ p. (p, tt)) ps))) }
+        ensures tidy { IfOk result (λ s. s.1 ≡ 0) }
+        ensures memory { IfErr result (λ e. e ≡ Memory) }
+    {
+        let mut rest = items.into_iter();
+        let mut made = PrefixSet::new(alloc)?;
+        'item: while let Some(prefix) = rest.next() {
+            match made.insert(prefix) {
+                Ok(_) => {}
+                Err(_) => return Err(Refused::Memory),
+            }
+        }
+        Ok(made)
+    }
+
+    /// Takes the prefix in, and answers whether it is new. For a member it takes no memory and is never refused.
+    ///
+    /// # Errors
+    /// `Memory` as `PrefixMap::insert`, and the set is as it was.
+    pub fn insert(&mut self, prefix: P) -> Result<bool, Refused>
+        requires { length (P.bits prefix) ≤ P.R.width }
+        ensures new { IfOk result (λ new. new ≡ not (fin.contains_key self.old.0 (P.bits prefix))) }
+        ensures set { OnOk result (self.new.0 ≡ fin.insert self.old.0 (P.bits prefix) tt) }
+        ensures tidy { OnOk result (self.new.1 ≤ self.old.1) }
+        ensures unchanged { OnErr result (self.new ≡ self.old) }
+        ensures absent { OnErr result (fin.contains_key self.old.0 (P.bits prefix) ≡ false) }
+        ensures full { IfErr result (λ e. e ≡ Full → no_room self.old) }
+    {
+        match self.members.insert(prefix, ()) {
+            Ok(old) => Ok(old.is_none()),
+            Err((refused, _)) => Err(refused),
+        }
+    }
+
+    /// Takes the prefix out, and answers whether it was a member. Nodes go as by `PrefixMap::remove`. It takes no
+    /// memory.
+    pub fn remove(&mut self, prefix: &P) -> bool
+        requires { length (P.bits prefix.now) ≤ P.R.width }
+        ensures member { result ≡ fin.contains_key self.old.0 (P.bits prefix.now) }
+        ensures set { self.new.0 ≡ fin.remove self.old.0 (P.bits prefix.now) }
+        ensures tidy { self.old.1 ≡ 0 → self.new.1 ≡ 0 }
+        ensures count { nodes self.new.0 + self.new.1 ≤ nodes self.old.0 + self.old.1 }
+    {
+        self.members.remove(prefix).is_some()
+    }
+
+    /// Takes the prefix out, and answers whether it was a member; every node stays. It takes no memory.
+    pub fn remove_keep_tree(&mut self, prefix: &P) -> bool
+        requires { length (P.bits prefix.now) ≤ P.R.width }
+        ensures member { result ≡ fin.contains_key self.old.0 (P.bits prefix.now) }
+        ensures set { self.new.0 ≡ fin.remove self.old.0 (P.bits prefix.now) }
+        ensures count { nodes self.new.0 + self.new.1 ≡ nodes self.old.0 + self.old.1 }
+    {
+        self.members.remove_keep_tree(prefix).is_some()
+    }
+
+    /// Takes out every member. It takes no memory.
+    pub fn clear(&mut self)
+        ensures set { self.new.0 ≡ fin.empty }
+        ensures tidy { self.new.1 ≡ 0 }
+    {
+        self.members.clear();
+    }
+
+    /// Takes out every member that the prefix contains, which itself counts. Nodes go as by
+    /// `PrefixMap::remove_children`. It takes no memory.
+    pub fn remove_children(&mut self, prefix: &P)
+        requires { length (P.bits prefix.now) ≤ P.R.width }
+        ensures set { self.new.0 ≡ outside self.old.0 (P.bits prefix.now) }
+        ensures tidy { self.old.1 ≡ 0 → self.new.1 ≡ 0 }
+        ensures cleared { length (P.bits prefix.now) ≡ 0 → self.new.1 ≡ 0 }
+        ensures count { nodes self.new.0 + self.new.1 ≤ nodes self.old.0 + self.old.1 }
+    {
+        self.members.remove_children(prefix);
+    }
+}
+
+/// Two sets are equal where they have the same members; how many nodes they have says nothing.
+impl<P: Prefix> PartialEq for PrefixSet<P> {
+    ghost eq = { same_sets };
+
+    ghost laws = { partial_equiv_from_equiv same_sets-equivalence };
+
+    fn eq(&self, other: &PrefixSet<P>) -> bool {
+        self.members == other.members
+    }
+}
+
+impl<P: Prefix> Eq for PrefixSet<P> {
+    ghost laws = { same_sets-equivalence };
+}
+
+/// The members that are left: what `iter`, `iter_from` and `children` give.
+#[derive(Drop)]
+pub struct Iter<'a, P: Prefix> {
+    entries: Entries<'a, P, ()>,
+}
+
+impl<'a, P: Prefix> Model for Iter<'a, P> {
+    ghost use Rattle.std.specs.Prelude.{List, Bool, map};
+    ghost use Rattle.std.specs.Coded.{coded_list, coded_bool};
+
+    ghost Value = { List (List Bool) };
+
+    ghost coded = { coded_list (coded_list coded_bool) };
+
+    ghost view = { λ a. map (λ e. e.0) a.entries };
+}
+
+impl<'a, P: Prefix> Iterator for Iter<'a, P> {
+    type Item = P;
+
+    ghost next_gives = { GivesKey P.bits P.of_bits };
+
+    ghost remaining = { item_count (λ it. it) };
+
+    fn next(&mut self) -> Option<P> {
+        match self.entries.next() {
+            None => None,
+            Some((key, _)) => Some(key),
+        }
+    }
+}
+
+impl<'a, P: Prefix> Clone for Iter<'a, P> {
+    ghost is_clone = { λ it r. r ≡ it };
+
+    ghost is_infallible = { λ _. ⊤ };
+
+    /// A second iterator over what is left. It takes no memory.
+    fn clone(&self) -> Result<Iter<'a, P>, AllocError> {
+        Ok(Iter {
+            entries: self.entries.clone()?,
+        })
+    }
+}
+
+impl<'a, P: Prefix> Default for Iter<'a, P> {
+    ghost is_default = { λ it. it ≡ [] };
+
+    /// No members.
+    fn default() -> Iter<'a, P> {
+        Iter {
+            entries: Entries::default(),
+        }
+    }
+}
+
+impl<'a, P: Prefix> IntoIterator for &'a PrefixSet<P> {
+    type Item = P;
+
+    type IntoIter = Iter<'a, P>;
+
+    ghost into_iter_gives = { λ s r. r ≡ fin.keys s.now.0 };
+
+    fn into_iter(self) -> Iter<'a, P> {
+        self.iter()
+    }
+}
+
+/// The members that are left, owned: what `into_iter` gives.
+#[derive(Drop)]
+pub struct IntoIter<P: Prefix> {
+    keys: IntoKeys<P, ()>,
+}
+
+impl<P: Prefix> Model for IntoIter<P> {
+    ghost use Rattle.std.specs.Prelude.{List, Bool};
+    ghost use Rattle.std.specs.Coded.{coded_list, coded_bool};
+
+    ghost Value = { List (List Bool) };
+
+    ghost coded = { coded_list (coded_list coded_bool) };
+
+    ghost view = { λ a. a.keys };
+}
+
+impl<P: Prefix> Iterator for IntoIter<P> {
+    type Item = P;
+
+    ghost next_gives = { GivesKey P.bits P.of_bits };
+
+    ghost remaining = { item_count (λ it. it) };
+
+    fn next(&mut self) -> Option<P> {
+        self.keys.next()
+    }
+}
+
+impl<P: Prefix> IntoIterator for PrefixSet<P> {
+    type Item = P;
+
+    type IntoIter = IntoIter<P>;
+
+    ghost into_iter_gives = { λ s r. r ≡ fin.keys s.0 };
+
+    /// All members, owned.
+    fn into_iter(self) -> IntoIter<P> {
+        IntoIter {
+            keys: self.members.into_keys(),
+        }
+    }
+}

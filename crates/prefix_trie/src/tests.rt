@@ -1,0 +1,315 @@
+//! Rows on maps and sets, with values from outside.
+ghost use Rattle.std.specs.Prelude.{◌≤◌};
+ghost use Rattle.std.specs.Iterator.{IsFinite};
+ghost use Rattle.std.specs.List.{All};
+
+use crate::{PrefixMap, PrefixSet, Refused};
+use std::alloc::Global;
+use std::cell::Cell;
+use std::process::Abort;
+
+/// A map of these entries.
+fn map_of<const N: usize>(
+    rt: &impl Abort,
+    alloc: Global,
+    entries: [((u32, u8), u32); N],
+) -> Result<PrefixMap<(u32, u8), u32>, Refused>
+    requires { All (λ e. e.0.1 ≤ 32) entries }
+{
+    PrefixMap::try_from_iter(alloc, Vec::from_array(alloc, entries).expect(rt, "entries"))
+}
+
+/// The second bytes of the members that are left, one after another, as digits after a 1.
+fn digits<I: Iterator<Item = (u32, u8)>>(members: I) -> u32
+    requires { I.can_next members × IsFinite (I.remaining members) }
+{
+    let mut digits = 1u32;
+    for (number, _) in members {
+        digits = digits.wrapping_mul(10).wrapping_add((number >> 16) % 256);
+    }
+    digits
+}
+
+/// 10.9.0.0/16, 10.1.0.0/16 and 10.7.7.7/8.
+fn three(rt: &impl Abort, alloc: Global) -> PrefixSet<(u32, u8)> {
+    let mut set = PrefixSet::new(alloc).expect(rt, "a set");
+    assert!(rt; matches!(set.insert((0x0a09_0000, 16)), Ok(true)));
+    assert!(rt; matches!(set.insert((0x0a01_0000, 16)), Ok(true)));
+    assert!(rt; matches!(set.insert((0x0a07_0707, 8)), Ok(true)));
+    set
+}
+
+#[test]
+fn in_and_out(rt: HostRuntime) {
+    let mut set: PrefixSet<(u32, u8)> = PrefixSet::new(rt.alloc()).expect(&rt, "a set");
+    assert!(rt; matches!(set.insert((0x0a00_0000, 8)), Ok(true)));
+    assert!(rt; matches!(set.insert((0x0a00_0000, 8)), Ok(false)));
+    assert!(rt; set.contains(&(0x0a01_0203, 8)));
+    assert!(rt; !set.contains(&(0x0a00_0000, 9)));
+    assert_eq!(rt; set.len(), 1);
+    assert_eq!(rt; set.node_count(), 2);
+    assert!(rt; set.remove(&(0x0a00_0000, 8)));
+    assert!(rt; !set.remove(&(0x0a00_0000, 8)));
+    assert!(rt; set.is_empty());
+    assert_eq!(rt; set.node_count(), 1);
+}
+
+#[test]
+fn searched_and_walked(rt: HostRuntime) {
+    let mut set = three(&rt, rt.alloc());
+    assert!(rt; matches!(set.get(&(0x0a01_0203, 16)), Some((0x0a01_0000, 16))));
+    assert!(rt; matches!(set.get_lpm(&(0x0a01_0203, 32)), Some((0x0a01_0000, 16))));
+    assert!(rt; matches!(set.get_spm(&(0x0a01_0203, 32)), Some((0x0a00_0000, 8))));
+    assert!(rt; set.is_covered(&(0x0a02_0000, 16)));
+    assert!(rt; !set.is_covered(&(0x0b00_0000, 8)));
+    assert_eq!(rt; digits(set.iter()), 1019);
+    assert_eq!(rt; digits((&set).into_iter()), 1019);
+    assert_eq!(rt; digits(set.iter_from(&(0x0a00_0000, 8), false)), 119);
+    assert_eq!(rt; digits(set.iter_from(&(0x0a01_0000, 16), true)), 119);
+    assert_eq!(rt; digits(set.children(&(0x0a00_0000, 12))), 119);
+    assert_eq!(rt; digits(set.cover(&(0x0a09_0909, 32))), 109);
+    let mut members = set.iter();
+    assert!(rt; members.next().is_some());
+    let Ok(copy) = members.clone() else {
+        panic!(&rt; "no copy")
+    };
+    assert_eq!(rt; digits(copy), 119);
+    assert!(rt; set.remove_keep_tree(&(0x0a01_0000, 16)));
+    assert_eq!(rt; set.node_count(), 5);
+    set.remove_children(&(0x0a00_0000, 9));
+    assert_eq!(rt; set.len(), 1);
+    assert_eq!(rt; set.node_count(), 2);
+    set.clear();
+    assert!(rt; set.is_empty());
+    assert_eq!(rt; set.node_count(), 1);
+}
+
+#[test]
+fn addresses(rt: HostRuntime) {
+    let mut set: PrefixSet<(u32, u8)> = PrefixSet::new(rt.alloc()).expect(&rt, "a set");
+    assert_eq!(rt; set.address_count(), Some(0));
+    assert!(rt; set.insert((0xc000_0200, 24)).is_ok());
+    assert!(rt; set.insert((0xc000_0280, 25)).is_ok());
+    assert!(rt; set.insert((0xc633_6400, 24)).is_ok());
+    assert_eq!(rt; set.address_count(), Some(512));
+    let mut halves: PrefixSet<(u128, u8)> = PrefixSet::new(rt.alloc()).expect(&rt, "a set");
+    assert!(rt; halves.insert((0, 1)).is_ok());
+    assert_eq!(rt; halves.address_count(), Some(1 << 127));
+    assert!(rt; halves.insert((1 << 127, 1)).is_ok());
+    assert_eq!(rt; halves.address_count(), None);
+    let mut all: PrefixMap<(u128, u8), u32> = PrefixMap::new(rt.alloc()).expect(&rt, "a map");
+    assert!(rt; all.insert((0, 0), 1).is_ok());
+    assert_eq!(rt; all.address_count(), None);
+    let mut small: PrefixMap<(u8, u8), u32> = PrefixMap::new(rt.alloc()).expect(&rt, "a map");
+    assert!(rt; small.insert((0, 1), 1).is_ok());
+    assert!(rt; small.insert((0x80, 1), 2).is_ok());
+    assert_eq!(rt; small.address_count(), None);
+    assert_eq!(rt; small.remove(&(0, 1)), Some(1));
+    assert_eq!(rt; small.address_count(), Some(128));
+}
+
+#[test]
+fn copied(rt: HostRuntime) {
+    let entries = [
+        ((0x0a00_0000, 8), 1),
+        ((0x0a01_0000, 16), 2),
+        ((0x0a09_0909, 8), 3),
+    ];
+    let mut map = map_of(&rt, rt.alloc(), entries).expect(&rt, "a map");
+    assert_eq!(rt; map.len(), 2);
+    assert_eq!(rt; map.get(&(0x0a00_0000, 8)).copied(), Some(3));
+    assert_eq!(rt; map.node_count(), 4);
+    assert_eq!(rt; map.remove_keep_tree(&(0x0a01_0000, 16)), Some(2));
+    let copy = map.try_clone(rt.alloc()).expect(&rt, "a copy");
+    assert!(rt; copy == map);
+    assert_eq!(rt; copy.node_count(), 4);
+    assert!(rt; map.insert((0x0a00_0000, 8), 4).is_ok());
+    assert!(rt; copy != map);
+    assert!(rt; map.insert((0x0a00_0000, 8), 3).is_ok());
+    assert_eq!(rt; map.remove(&(0x0a01_0000, 16)), None);
+    assert_eq!(rt; map.node_count(), 2);
+    assert!(rt; copy == map);
+    assert!(rt; map.insert((0x0a00_0000, 9), 3).is_ok());
+    assert!(rt; copy != map);
+    assert!(rt; map != copy);
+}
+
+#[test]
+fn sets_copied(rt: HostRuntime) {
+    let set = three(&rt, rt.alloc());
+    let copy = set.try_clone(rt.alloc()).expect(&rt, "a copy");
+    assert!(rt; copy == set);
+    assert_eq!(rt; copy.node_count(), set.node_count());
+    let mut members = set.iter();
+    assert!(rt; members.next().is_some());
+}
+
+/// Each request for memory may be refused: the set is as it was.
+#[test]
+fn refused(rt: HostRuntime) {
+    let mut set: PrefixSet<(u32, u8)> = PrefixSet::new(rt.alloc()).expect(&rt, "a set");
+    if let Err(refused) = set.insert((0x0102_0300, 32)) {
+        assert_eq!(rt; refused, Refused::Memory);
+        assert!(rt; set.is_empty());
+        assert_eq!(rt; set.node_count(), 1);
+        assert!(rt; matches!(set.insert((0x0102_0300, 32)), Ok(true)));
+    }
+    assert_eq!(rt; set.node_count(), 7);
+    match set.try_clone(rt.alloc()) {
+        Ok(copy) => assert!(rt; copy == set),
+        Err(refused) => assert_eq!(rt; refused, Refused::Memory),
+    }
+    assert_eq!(rt; set.node_count(), 7);
+}
+
+/// A value that counts how many of its kind were dropped.
+struct Counted<'a> {
+    drops: &'a Cell<u32>,
+}
+
+impl<'a> Drop for Counted<'a> {
+    fn drop(self) {
+        let Counted { drops } = self;
+        drops.set(drops.get().wrapping_add(1));
+    }
+}
+
+/// A map of three such values, at 0/0, 0/1 and 0x80000000/1.
+fn three_counted<'a>(
+    rt: &impl Abort,
+    alloc: Global,
+    drops: &'a Cell<u32>,
+) -> PrefixMap<(u32, u8), Counted<'a>> {
+    let mut map = PrefixMap::new(alloc).expect(rt, "a map");
+    assert!(rt; map.insert((0, 0), Counted { drops }).is_ok());
+    assert!(rt; map.insert((0, 1), Counted { drops }).is_ok());
+    assert!(rt; map.insert((0x8000_0000, 1), Counted { drops }).is_ok());
+    map
+}
+
+#[test]
+fn dropped_with_the_map(rt: HostRuntime) {
+    let drops = Cell::new(0);
+    let map = three_counted(&rt, rt.alloc(), &drops);
+    assert_eq!(rt; drops.get(), 0);
+    drop(map);
+    assert_eq!(rt; drops.get(), 3);
+}
+
+#[test]
+fn dropped_with_the_iterator(rt: HostRuntime) {
+    let drops = Cell::new(0);
+    let mut entries = three_counted(&rt, rt.alloc(), &drops).into_iter();
+    let Some((key, value)) = entries.next() else {
+        panic!(&rt; "no entry")
+    };
+    assert_eq!(rt; key, (0, 0));
+    assert_eq!(rt; drops.get(), 0);
+    drop(value);
+    assert_eq!(rt; drops.get(), 1);
+    drop(entries);
+    assert_eq!(rt; drops.get(), 3);
+}
+
+#[test]
+fn dropped_outside(rt: HostRuntime) {
+    let drops = Cell::new(0);
+    let mut entries = three_counted(&rt, rt.alloc(), &drops).into_children(&(0x8000_0000, 1));
+    assert_eq!(rt; drops.get(), 2);
+    let Some((key, value)) = entries.next() else {
+        panic!(&rt; "no entry")
+    };
+    assert_eq!(rt; key, (0x8000_0000, 1));
+    assert!(rt; entries.next().is_none());
+    drop(value);
+    assert_eq!(rt; drops.get(), 3);
+}
+
+#[test]
+fn owned(rt: HostRuntime) {
+    let entries = [
+        ((0x0a01_0100, 24), 3),
+        ((0x0a00_0000, 8), 1),
+        ((0x0a01_0000, 16), 2),
+        ((0x0b00_0000, 8), 4),
+    ];
+    let map = map_of(&rt, rt.alloc(), entries).expect(&rt, "a map");
+    let copy = map.try_clone(rt.alloc()).expect(&rt, "a copy");
+    let mut values = 0u32;
+    for value in copy.into_values() {
+        values = values.wrapping_mul(10).wrapping_add(value);
+    }
+    assert_eq!(rt; values, 1234);
+    let copy = map.try_clone(rt.alloc()).expect(&rt, "a copy");
+    assert_eq!(rt; digits(copy.into_keys()), 10110);
+    let mut values = 0u32;
+    for (_, value) in map.into_children(&(0x0a01_0000, 10)) {
+        values = values.wrapping_mul(10).wrapping_add(value);
+    }
+    assert_eq!(rt; values, 23);
+    assert_eq!(rt; digits(three(&rt, rt.alloc()).into_iter()), 1019);
+}
+
+#[test]
+fn lent_at_the_longest(rt: HostRuntime) {
+    let entries = [((0x0a00_0000, 8), 1), ((0x0a01_0000, 16), 2)];
+    let mut map = map_of(&rt, rt.alloc(), entries).expect(&rt, "a map");
+    let Some((key, value)) = map.get_lpm_mut(&(0x0a01_0203, 32)) else {
+        panic!(&rt; "no match")
+    };
+    assert_eq!(rt; key, (0x0a01_0000, 16));
+    assert_eq!(rt; *value, 2);
+    *value = 7;
+    assert_eq!(rt; map.get(&(0x0a01_0000, 16)).copied(), Some(7));
+    if let Some(value) = map.get_lpm_value_mut(&(0x0a02_0000, 16)) {
+        *value = 8;
+    }
+    assert_eq!(rt; map.get(&(0x0a00_0000, 8)).copied(), Some(8));
+    assert!(rt; map.get_lpm_mut(&(0x0b00_0000, 8)).is_none());
+}
+
+#[test]
+fn lent_in_turn(rt: HostRuntime) {
+    let entries = [
+        ((0x0a01_0000, 16), 2),
+        ((0x0a00_0000, 8), 1),
+        ((0x0b00_0000, 8), 3),
+    ];
+    let mut map = map_of(&rt, rt.alloc(), entries).expect(&rt, "a map");
+    let mut entries = map.iter_mut();
+    assert!(rt; matches!(entries.key(), Some((0x0a00_0000, 8))));
+    if let Some(value) = entries.next() {
+        *value = value.wrapping_add(10);
+    }
+    assert!(rt; matches!(entries.key(), Some((0x0a01_0000, 16))));
+    if let Some(value) = entries.next() {
+        *value = value.wrapping_add(20);
+    }
+    assert!(rt; entries.next().is_some());
+    assert!(rt; entries.key().is_none());
+    assert!(rt; entries.next().is_none());
+    assert_eq!(rt; map.get(&(0x0a00_0000, 8)).copied(), Some(11));
+    assert_eq!(rt; map.get(&(0x0a01_0000, 16)).copied(), Some(22));
+    assert_eq!(rt; map.get(&(0x0b00_0000, 8)).copied(), Some(3));
+    let mut entries = map.iter_from_mut(&(0x0a00_0000, 8), false);
+    assert!(rt; matches!(entries.next(), Some(22)));
+    let mut entries = map.iter_from_mut(&(0x0a01_0000, 16), true);
+    assert!(rt; matches!(entries.next(), Some(22)));
+}
+
+/// Each request for memory may be refused: then there is no map, and no copy.
+#[test]
+fn refused_whole(rt: HostRuntime) {
+    let entries = [((0x0102_0300, 32), 1), ((0x0a00_0000, 8), 2)];
+    match map_of(&rt, rt.alloc(), entries) {
+        Err(refused) => assert_eq!(rt; refused, Refused::Memory),
+        Ok(map) => {
+            assert_eq!(rt; map.node_count(), 8);
+            match map.try_clone(rt.alloc()) {
+                Ok(copy) => assert!(rt; copy == map),
+                Err(refused) => assert_eq!(rt; refused, Refused::Memory),
+            }
+            assert_eq!(rt; map.len(), 2);
+        }
+    }
+}

@@ -1,0 +1,36 @@
+//! A second node with the same entries.
+ghost use Rattle.std.specs.Prelude.{◌≡◌, IfOk};
+
+use crate::node::Node;
+use std::alloc::{AllocError, Global};
+
+/// Clones of the items, in their order.
+fn cloned<X: Clone>(alloc: Global, items: &[X]) -> Result<Vec<X>, AllocError>
+    requires { (x y : X) → X.is_clone x y → y ≡ x }
+    ensures { IfOk result (λ v. v.items ≡ items.now) }
+{
+    let mut clones = Vec::with_capacity(alloc, items.len())?;
+    clones.extend_with_clones(items)?;
+    Ok(clones)
+}
+
+impl<T: Clone> Node<T> {
+    /// A node with clones of the values, and with as many nodes below. Where there is no memory for all of it,
+    /// nothing is left of it.
+    pub fn try_clone(&self, alloc: Global) -> Result<Node<T>, AllocError>
+        requires { (x y : T) → T.is_clone x y → y ≡ x }
+        ensures { IfOk result (λ n. n ≡ self.now) }
+    {
+        let values = cloned(alloc, self.values.as_slice())?;
+        let mut children = Vec::with_capacity(alloc, self.children.len())?;
+        for child in &self.children {
+            children.push(child.try_clone(alloc)?)?;
+        }
+        Ok(Node {
+            value_bits: self.value_bits,
+            child_bits: self.child_bits,
+            values,
+            children,
+        })
+    }
+}

@@ -1,0 +1,49 @@
+-- What each step of an iterator that lends leaves.
+use Rattle.std.specs.Prelude.{◌≡◌, List, [], Bool, false, Option, None, OnSome, IfNone, MatchOption}
+use Rattle.std.specs.Option.{option_and_then}
+use Rattle.std.specs.Borrow.{Fml, RattleType, MutBor, LendsSo}
+use Rattle.std.specs.FinMap.{get, entries}
+use Rattle.std.specs.FinMap.Entries.{where_key}
+use mir.Syntax.{named}
+use Rattle.trie_keys.specs.Bits.{bits_cmp, is_from}
+use Rattle.trie_core.specs.Nodes.{Seen}
+use Rattle.trie_core.specs.Lending.{with_value}
+use Rattle.trie_keys.specs.declared.key.Key as key
+use Rattle.trie_keys.specs.declared.prefix.Prefix as prefix
+use Rattle.trie_map.specs.Maps.{first_key}
+use Rattle.trie_map.specs.declared.iter_mut.IterMut.{IterMut}
+use Rattle.trie_map.specs.contracts.iter_mut.IterMut.{the_row}
+
+module _ {P X R : Type 0} {g : prefix.Ghosts P R} {k : key.Ghosts R} where
+  -- the reference to the map
+  abbrev pub lent_map_ref : IterMut P X R g k → MutBor (Seen X)
+  lent_map_ref s = s.map
+
+  -- the map, as the iterator holds it
+  abbrev pub lent_map : IterMut P X R g k → Seen X
+  lent_map s = s.map.now
+
+  -- the bits of the key that comes next
+  abbrev pub next_bits : IterMut P X R g k → Option (List Bool)
+  next_bits s = s.next
+
+  -- its value
+  abbrev pub next_value : IterMut P X R g k → Option X
+  next_value s = option_and_then (get s.map.now.0) s.next
+
+  -- n is s, once w is the value of q; the first key after q comes next
+  pub record IsStep (s : IterMut P X R g k) (q : List Bool) (w : X) (n : IterMut P X R g k) : Type 0 where
+    pub same_map : (lent_map_ref n).ghost_name ≡ (lent_map_ref s).ghost_name
+    pub map : lent_map n ≡ with_value (lent_map s) q w
+    pub next : next_bits n ≡ first_key (where_key bits_cmp (is_from q false) (entries (lent_map s).0))
+
+  -- n is s, which has nothing more to lend
+  pub record IsEnd (s n : IterMut P X R g k) : Type 0 where
+    pub same_map : (lent_map_ref n).ghost_name ≡ (lent_map_ref s).ghost_name
+    pub map : lent_map n ≡ lent_map s
+    pub next : next_bits n ≡ None
+
+module _ (P T R : RattleType) {g : prefix.Ghosts P.Denot R.Denot} {k : key.Ghosts R.Denot} where
+  -- once the borrow r ends, the value of the key that came next is the last one written through r, and the iterator is one further
+  abbrev pub iter_lends : MutBor (IterMut P.Denot T.Denot R.Denot g k) → Option (MutBor T.Denot) → Fml
+  iter_lends s r = LendsSo (the_row (record { mir = named 1; lft = [] }) P T R g k) T s r (λ n w. OnSome r (MatchOption (next_bits s.now) (Unit {0}) (λ q. IsStep s.now q w n))) (λ n. IfNone r (IsEnd s.now n))

@@ -1,0 +1,54 @@
+//! How many addresses a map covers.
+ghost use Rattle.std.specs.Prelude.{◌≡◌, ◌+◌, ◌<◌, ◌≤◌, ◌^◌, false, length, MatchOption};
+ghost use Rattle.trie_keys.specs.Bits.{begins};
+ghost use Rattle.trie_map.specs.Covered.{covered_count};
+
+use crate::iter::key_of;
+use crate::map::PrefixMap;
+use trie_core::{Key, Prefix, Walk};
+
+/// Whether a prefix lies inside the last one, if there is one.
+fn is_inside<P: Prefix>(last: &Option<P>, prefix: &P) -> bool
+    requires within { length (P.bits prefix.now) ≤ P.R.width }
+    requires last_within { MatchOption last.now (Unit {0}) (λ b. length (P.bits b) ≤ P.R.width) }
+    ensures { MatchOption last.now (result ≡ false) (λ b. result ≡ begins (P.bits b) (P.bits prefix.now)) }
+{
+    match last {
+        None => false,
+        Some(last) => last.contains(prefix),
+    }
+}
+
+/// The number less two to the number of free bits, where it is not below that.
+fn without(left: u128, free: u8) -> Option<u128>
+    requires { free ≤ 128 }
+    ensures { MatchOption result (left < 2 ^ free) (λ rest. rest + 2 ^ free ≡ left) }
+{
+    if free == 128 {
+        return None;
+    }
+    left.checked_sub(1 << free)
+}
+
+impl<P: Prefix + Drop, T> PrefixMap<P, T> {
+    /// How many addresses the keys cover, each counted once: an address is a prefix of as many bits as there are.
+    /// `None` where all are covered, since that number is too great by one. It takes no memory.
+    pub fn address_count(&self) -> Option<P::R>
+        ensures { MatchOption result (covered_count P.R.width self.now.0 ≡ 2 ^ P.R.width) (λ n. (P.R.number n ≡ covered_count P.R.width self.now.0) × (covered_count P.R.width self.now.0 < 2 ^ P.R.width)) }
+    {
+        let width = <P::R as Key>::width();
+        let whole = u128::MAX >> (128 - width);
+        let mut left = whole;
+        let mut last: Option<P> = None;
+        let mut walk = Walk::new(self.walked());
+        'walk: while let Some((path, _)) = walk.next() {
+            let prefix: P = key_of(&path);
+            if is_inside(&last, &prefix) {
+                continue 'walk;
+            }
+            left = without(left, width - path.len())?;
+            last = Some(prefix);
+        }
+        Some(<P::R as Key>::from_bits(whole - left))
+    }
+}
