@@ -1,8 +1,5 @@
 pub mod Written
+pub mod Telling
+pub mod Told
 pub mod Moving
 pub mod Running
-pub mod Cuts
-pub mod Ascents
-pub mod Stored
-pub mod Longest
-pub mod CommandTexts

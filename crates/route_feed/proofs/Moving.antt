@@ -3,19 +3,19 @@ use Rattle.std.proofs.Common.{◌≡◌, ℕ, Bool, true, false, List, [], ◌�
 use Rattle.std.specs.Option.{option_to_list}
 use Rattle.std.proofs.Math.Seq.{drop-cons}
 use Rattle.std.proofs.lemmas.Grind.{flat_map-append}
-use Rattle.ipnet_blocks.specs.Blocks.{Block}
 use Rattle.route_lines.specs.Kept.{Kept}
 use Rattle.route_lines.specs.Lines.{answers, fed_answer, fed, fed_all}
 use Rattle.route_lines.specs.declared.cutter.Line.{Line}
 use Rattle.route_feed.specs.declared.error.RunError.{RunError}
 use Rattle.route_feed.specs.declared.counted.Counted.{Counted}
-use Rattle.route_feed.specs.declared.command.Command.{Command}
+use Rattle.route_lines.specs.declared.command.Command.{Command}
+use Rattle.route_table.specs.Tables.{Route}
 use Rattle.route_feed.specs.declared.leader.Leader.{Leader}
 use Rattle.route_feed.specs.Commands.{command_in}
 use Rattle.route_feed.specs.Replies.{reply_line, printed}
 use Rattle.route_feed.specs.Steps.{step, may_refuse, lines_of}
 use Rattle.route_feed.specs.Output.{replies}
-use Rattle.route_feed.specs.Run.{Answers, list_of, replies_from, Moves, Begins, Took, Failed, Takes}
+use Rattle.route_feed.specs.Run.{Answers, table_of, replies_from, Moves, Begins, Took, Failed, Takes}
 use Rattle.route_feed.proofs.Written.{Written-nil, Written-trans, Torn-after}
 
 pub fed_all-append : (c : Kept) (bs cs : List ℕ) → fed_all c (bs ++ cs) ≡ fed_all (fed_all c bs) cs
@@ -60,7 +60,7 @@ abbrev pub refusals_of : Bool → Bool → List Bool
 refusals_of true x = x ∷ []
 refusals_of false x = []
 
-module _ (M : List Block) (command : Option Command) (x : Bool) where
+module _ (M : List Route) (command : Option Command) (x : Bool) where
   -- a command takes its value of the refusals, if it may be refused, and leaves the others
   pub turn_taken : (commands : List (Option Command)) (later : List Bool)
       → replies M (command ∷ commands) (refusals_of (may_refuse M command) x ++ later) ≡ lines_of (step M command x) ++ replies (step M command x).next commands later
@@ -80,34 +80,34 @@ module _ (M : List Block) (command : Option Command) (x : Bool) where
 
 -- the replies after a byte, by what the cutter answers to it
 replies_by : (a : Leader) (byte : ℕ) (more : List ℕ) (v : List Bool) (answer : Option Line) → fed_answer a.cutter byte ≡ answer
-    → replies_from a (byte ∷ more) v ≡ printed (replies (list_of a) (map command_in (option_to_list answer ++ answers (fed a.cutter byte) more)) v)
-replies_by a byte more v answer e = ap (λ x. printed (replies (list_of a) (map command_in (option_to_list x ++ answers (fed a.cutter byte) more)) v)) e
+    → replies_from a (byte ∷ more) v ≡ printed (replies (table_of a) (map command_in (option_to_list answer ++ answers (fed a.cutter byte) more)) v)
+replies_by a byte more v answer e = ap (λ x. printed (replies (table_of a) (map command_in (option_to_list x ++ answers (fed a.cutter byte) more)) v)) e
 
 -- the byte ends no line
-pub Moves-quiet : (a b : Leader) (byte : ℕ) → fed_answer a.cutter byte ≡ None → b.cutter ≡ fed a.cutter byte → list_of b ≡ list_of a → Moves a (byte ∷ []) [] [] b
+pub Moves-quiet : (a b : Leader) (byte : ℕ) → fed_answer a.cutter byte ≡ None → b.cutter ≡ fed a.cutter byte → table_of b ≡ table_of a → Moves a (byte ∷ []) [] [] b
 Moves-quiet a b byte e after same = record {
   same = λ more later. replies_by a byte more later None e
-      ∙ ap (λ c. printed (replies (list_of a) (map command_in (answers c more)) later)) (sym after)
+      ∙ ap (λ c. printed (replies (table_of a) (map command_in (answers c more)) later)) (sym after)
       ∙ ap (λ t. printed (replies t (map command_in (answers b.cutter more)) later)) (sym same);
   cutter = after;
 }
 
 module _ (a b : Leader) (byte : ℕ) (line : Line) (e : fed_answer a.cutter byte ≡ Some line) (after : b.cutter ≡ fed a.cutter byte) (x : Bool) where
   abbrev taken : List Bool
-  taken = refusals_of (may_refuse (list_of a) (command_in line)) x
+  taken = refusals_of (may_refuse (table_of a) (command_in line)) x
 
   abbrev reply : List ℕ
-  reply = printed (lines_of (step (list_of a) (command_in line) x))
+  reply = printed (lines_of (step (table_of a) (command_in line) x))
 
   line_taken : (more : List ℕ) (later : List Bool) → replies_from a (byte ∷ more) (taken ++ later)
-      ≡ reply ++ printed (replies (step (list_of a) (command_in line) x).next (map command_in (answers b.cutter more)) later)
+      ≡ reply ++ printed (replies (step (table_of a) (command_in line) x).next (map command_in (answers b.cutter more)) later)
   line_taken more later =
       replies_by a byte more (taken ++ later) (Some line) e
-      ∙ ap (λ c. printed (replies (list_of a) (command_in line ∷ map command_in (answers c more)) (taken ++ later))) (sym after)
-      ∙ turn_printed (list_of a) (command_in line) x (map command_in (answers b.cutter more)) later
+      ∙ ap (λ c. printed (replies (table_of a) (command_in line ∷ map command_in (answers c more)) (taken ++ later))) (sym after)
+      ∙ turn_printed (table_of a) (command_in line) x (map command_in (answers b.cutter more)) later
 
   -- the byte ends a line, which was answered
-  pub Moves-line : list_of b ≡ (step (list_of a) (command_in line) x).next → Moves a (byte ∷ []) taken reply b
+  pub Moves-line : table_of b ≡ (step (table_of a) (command_in line) x).next → Moves a (byte ∷ []) taken reply b
   Moves-line next = record {
     same = λ more later. line_taken more later
         ∙ ap (λ t. reply ++ printed (replies t (map command_in (answers b.cutter more)) later)) (sym next);
@@ -117,13 +117,13 @@ module _ (a b : Leader) (byte : ℕ) (line : Line) (e : fed_answer a.cutter byte
   pub Begins-line : Begins a (byte ∷ []) taken reply
   Begins-line = record {
     same = λ more. (
-      printed (replies (step (list_of a) (command_in line) x).next (map command_in (answers b.cutter more)) []),
+      printed (replies (step (table_of a) (command_in line) x).next (map command_in (answers b.cutter more)) []),
       ap (replies_from a (byte ∷ more)) (sym (append-nil taken)) ∙ line_taken more [],
     );
   }
 
 module _ {W : Type 0} (contents : W → Option (List ℕ)) where
-  pub Took-quiet : (a b : Leader) (w : Counted W) (byte : ℕ) → fed_answer a.cutter byte ≡ None → b.cutter ≡ fed a.cutter byte → list_of b ≡ list_of a → Took contents a b w w (byte ∷ [])
+  pub Took-quiet : (a b : Leader) (w : Counted W) (byte : ℕ) → fed_answer a.cutter byte ≡ None → b.cutter ≡ fed a.cutter byte → table_of b ≡ table_of a → Took contents a b w w (byte ∷ [])
   Took-quiet a b w byte e after same = record {
     refusals = [];
     out = [];
@@ -133,18 +133,18 @@ module _ {W : Type 0} (contents : W → Option (List ℕ)) where
 
   pub Takes-line : (a b : Leader) (old new : Counted W) (byte : ℕ) (line : Line) (result : Result Unit RunError)
       → fed_answer a.cutter byte ≡ Some line → b.cutter ≡ fed a.cutter byte
-      → Answers contents (list_of a) (list_of b) (command_in line) old new result
+      → Answers contents (table_of a) (table_of b) (command_in line) old new result
       → Takes contents a b old new (byte ∷ []) result
   Takes-line a b old new byte line (Ok u) e after p = record {
-    refusals = refusals_of (may_refuse (list_of a) (command_in line)) p.refusal;
+    refusals = refusals_of (may_refuse (table_of a) (command_in line)) p.refusal;
     out = _;
-    moves = Moves-line a b byte line e after p.refusal p.list;
+    moves = Moves-line a b byte line e after p.refusal p.table;
     written = p.writes;
   }
   Takes-line a b old new byte line (Err error) e after p = (
     p.writes.0,
     record {
-      refusals = refusals_of (may_refuse (list_of a) (command_in line)) p.refusal;
+      refusals = refusals_of (may_refuse (table_of a) (command_in line)) p.refusal;
       text = _;
       begins = Begins-line a b byte line e after p.refusal;
       torn = p.writes.1;

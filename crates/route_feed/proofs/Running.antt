@@ -4,21 +4,21 @@ use Rattle.std.specs.Result.{OnOk, IsErrOf}
 use Rattle.std.specs.Io.KnownBytes.{Appends, IsAtEnd}
 use Rattle.std.proofs.KnownBytes.{Appends-trans, Consumes-nil, Consumes-trans, Consumes-whole}
 use Rattle.std.proofs.lemmas.Grind.{flat_map-append}
-use Rattle.ipnet_blocks.specs.Blocks.{Block}
 use Rattle.route_lines.specs.Bytes.{rest}
 use Rattle.route_lines.specs.Lines.{fed_all, rest_in, rest_of, kept_of, answers}
 use Rattle.route_lines.proofs.Cutting.{new_answers, new_rest_in}
 use Rattle.route_feed.specs.declared.error.RunError.{RunError}
 use Rattle.route_feed.specs.declared.error.RunError.TheVariants.{Write}
 use Rattle.route_feed.specs.declared.counted.Counted.{Counted}
-use Rattle.route_feed.specs.declared.command.Command.{Command}
+use Rattle.route_lines.specs.declared.command.Command.{Command}
+use Rattle.route_table.specs.Tables.{Route}
 use Rattle.route_feed.specs.declared.leader.Leader.{Leader}
 use Rattle.route_feed.specs.Commands.{command_in}
 use Rattle.route_feed.specs.Replies.{reply_line, printed}
 use Rattle.route_feed.specs.Steps.{step, lines_of}
 use Rattle.route_feed.specs.Output.{output, whole, replies, refusals_after, first_or_false, whole_commands, at_end}
 use Rattle.route_feed.specs.Devices.{Gives, GivesPart}
-use Rattle.route_feed.specs.Run.{Written, Torn, Writes, list_of, replies_from, output_from, reply_at_end, Moves, Ran, Broke}
+use Rattle.route_feed.specs.Run.{Written, Torn, Writes, table_of, replies_from, output_from, reply_at_end, Moves, Ran, Broke}
 use Rattle.route_feed.proofs.Moving.{Took-nil, Took-trans, Failed-after}
 
 -- what was written is what the bytes are answered
@@ -151,7 +151,7 @@ both_ok (Ok x) f p q = f p q
 both_ok (Err e) f p q = tt
 
 -- the replies to commands, and to a last line that spells none
-replies_end : (M : List Block) (commands : List (Option Command)) (v : List Bool) (bs : List ℕ)
+replies_end : (M : List Route) (commands : List (Option Command)) (v : List Bool) (bs : List ℕ)
     → printed (replies M (commands ++ at_end bs) v) ≡ printed (replies M commands v) ++ reply_at_end (rest_of bs)
 replies_end M [] v [] = refl
 replies_end M [] v (b ∷ bs) = refl
@@ -163,7 +163,7 @@ replies_end M (command ∷ commands) v bs =
     ∙ sym (append_assoc (printed (lines_of t)) (printed (replies t.next commands later)) (reply_at_end (rest_of bs)))
     ∙ ap (λ l. l ++ reply_at_end (rest_of bs)) (sym (flat_map-append reply_line (lines_of t) (replies t.next commands later)))
 
-module _ (a : Leader) (none : list_of a ≡ []) (new : a.cutter ≡ kept_of []) where
+module _ (a : Leader) (none : table_of a ≡ []) (new : a.cutter ≡ kept_of []) where
   pub new_whole : (bs : List ℕ) (v : List Bool) → replies_from a bs v ≡ whole bs v
   new_whole bs v =
       ap (λ M. printed (replies M (map command_in (answers a.cutter bs)) v)) none

@@ -1,5 +1,5 @@
 -- Writes one after another.
-use Rattle.std.proofs.Common.{ℕ, List, [], ◌++◌, Option, Result, Ok, Err, refl, sym, ap, ◌∙◌, append_assoc}
+use Rattle.std.proofs.Common.{ℕ, List, [], ◌++◌, Option, Result, Ok, Err, refl, sym, ap, ◌∙◌, subst, append_assoc, append-nil}
 use Rattle.std.proofs.KnownBytes.{Appends-nil, Appends-trans}
 use Rattle.route_feed.specs.declared.error.RunError.{RunError}
 use Rattle.route_feed.specs.declared.counted.Counted.{Counted}
@@ -34,3 +34,8 @@ module _ {W : Type 0} (contents : W → Option (List ℕ)) where
   pub Writes-after : {T : Type 0} (a b c : Counted W) (r : Result T RunError) (s t : List ℕ) → Written contents a b s → Writes contents b c r t → Writes contents a c r (s ++ t)
   Writes-after a b c (Ok x) s t p q = Written-trans a b c s t p q
   Writes-after a b c (Err e) s t p q = (q.0, Torn-after a b c s t p q.1)
+
+  -- and then nothing more
+  pub Writes-end : {T : Type 0} (a b c : Counted W) (r : Result T RunError) (s : List ℕ) → Written contents a b s → Writes contents b c r [] → Writes contents a c r s
+  Writes-end a b c (Ok x) s p q = subst (Written contents a c) (append-nil s) (Written-trans a b c s [] p q)
+  Writes-end a b c (Err e) s p q = (q.0, subst (Torn contents a c) (append-nil s) (Torn-after a b c s [] p q.1))

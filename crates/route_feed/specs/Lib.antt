@@ -1,7 +1,7 @@
 pub mod Counted
-pub mod DenyList
 pub mod Commands
 pub mod Replies
+pub mod Streams
 pub mod Steps
 pub mod Output
 pub mod Run

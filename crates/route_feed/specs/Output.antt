@@ -1,10 +1,10 @@
 -- The whole output, as a function of the bytes and of the refusals.
 use Rattle.std.specs.Prelude.{ℕ, drop, Bool, false, List, [], ◌∷◌, ◌++◌, if◌then◌else◌, Option, None, map}
-use Rattle.ipnet_blocks.specs.Blocks.{Block}
 use Rattle.route_lines.specs.Bytes.{rest}
 use Rattle.route_lines.specs.Lines.{lines_of}
-use Rattle.route_feed.specs.declared.command.Command.{Command}
-use Rattle.route_feed.specs.declared.reply.Reply.{Reply}
+use Rattle.route_lines.specs.declared.command.Command.{Command}
+use Rattle.route_lines.specs.declared.reply.Reply.{Reply}
+use Rattle.route_table.specs.Tables.{Route}
 use Rattle.route_feed.specs.Commands.{command_in}
 use Rattle.route_feed.specs.Replies.{printed}
 use Rattle.route_feed.specs.Steps as turn
@@ -15,21 +15,21 @@ first_or_false [] = false
 first_or_false (r ∷ rs) = r
 
 -- the refusals for the commands after this one: it takes one value, where it may be refused
-abbrev pub refusals_after : List Block → Option Command → List Bool → List Bool
+abbrev pub refusals_after : List Route → Option Command → List Bool → List Bool
 refusals_after M command refusals = if turn.may_refuse M command then drop 1 refusals else refusals
 
 -- the reply lines to the commands, in order; None is a line that spells no command
-abbrev pub replies : List Block → List (Option Command) → List Bool → List Reply
+abbrev pub replies : List Route → List (Option Command) → List Bool → List Reply
 replies M [] refusals = []
 replies M (command ∷ commands) refusals =
     turn.lines_of (turn.step M command (first_or_false refusals))
     ++ replies (turn.step M command (first_or_false refusals)).next commands (refusals_after M command refusals)
 
--- the list after the commands
-abbrev pub list_after : List Block → List (Option Command) → List Bool → List Block
-list_after M [] refusals = M
-list_after M (command ∷ commands) refusals =
-    list_after (turn.step M command (first_or_false refusals)).next commands (refusals_after M command refusals)
+-- the table after the commands
+abbrev pub table_after : List Route → List (Option Command) → List Bool → List Route
+table_after M [] refusals = M
+table_after M (command ∷ commands) refusals =
+    table_after (turn.step M command (first_or_false refusals)).next commands (refusals_after M command refusals)
 
 -- the commands of the whole lines
 abbrev pub whole_commands : List ℕ → List (Option Command)
@@ -40,7 +40,7 @@ abbrev pub at_end : List ℕ → List (Option Command)
 at_end [] = []
 at_end (b ∷ bs) = None ∷ []
 
--- the printed replies to the whole lines, from the empty list
+-- the printed replies to the whole lines, from the empty table
 abbrev pub whole : List ℕ → List Bool → List ℕ
 whole bytes refusals = printed (replies [] (whole_commands bytes) refusals)
 

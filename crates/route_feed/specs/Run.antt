@@ -1,16 +1,16 @@
 -- The states of a run, and what its parts do.
 use Rattle.std.specs.Prelude.{◌≡◌, ℕ, ◌<◌, Bool, List, [], ◌++◌, Option, Result, Ok, Err, OnOk, map}
 use Rattle.std.specs.Io.KnownBytes.{Appends, Consumes}
-use Rattle.ipnet_blocks.specs.Blocks.{Block}
 use Rattle.route_lines.specs.Lines.{answers, fed_all, rest_in}
 use Rattle.route_lines.specs.declared.cutter.Rest.{Rest}
 use Rattle.route_lines.specs.declared.cutter.Rest.TheVariants.{Empty, Held}
 use Rattle.route_feed.specs.declared.error.RunError.{RunError}
 use Rattle.route_feed.specs.declared.error.RunError.TheVariants.{Write}
 use Rattle.route_feed.specs.declared.counted.Counted.{Counted}
-use Rattle.route_feed.specs.declared.command.Command.{Command}
-use Rattle.route_feed.specs.declared.reply.Closing.TheVariants.{Bad}
-use Rattle.route_feed.specs.declared.reply.Reply.TheVariants.{Close}
+use Rattle.route_lines.specs.declared.command.Command.{Command}
+use Rattle.route_lines.specs.declared.reply.Closing.TheVariants.{Bad}
+use Rattle.route_lines.specs.declared.reply.Reply.TheVariants.{Close}
+use Rattle.route_table.specs.Tables.{Route}
 use Rattle.route_feed.specs.declared.leader.Leader.{Leader}
 use Rattle.route_feed.specs.Commands.{command_in}
 use Rattle.route_feed.specs.Counted.{inner, faults_of}
@@ -37,19 +37,19 @@ module _ {W : Type 0} (contents : W → Option (List ℕ)) where
   Writes old new (Ok x) text = Written old new text
   Writes old new (Err e) text = (e ≡ Write) × Torn old new text
 
-  -- a command was answered, and the list went on, or the writer failed
-  pub record Answers (M next : List Block) (command : Option Command) (old new : Counted W) (result : Result Unit RunError) : Type 0 where
+  -- a command was answered, and the table went on, or the writer failed
+  pub record Answers (M next : List Route) (command : Option Command) (old new : Counted W) (result : Result Unit RunError) : Type 0 where
     pub refusal : Bool
     pub writes : Writes old new result (printed (turn.lines_of (turn.step M command refusal)))
-    pub list : OnOk result (next ≡ (turn.step M command refusal).next)
+    pub table : OnOk result (next ≡ (turn.step M command refusal).next)
 
--- the list of a leader: all that the run knows of its table
-abbrev pub list_of : Leader → List Block
-list_of a = a.list
+-- the table of a leader
+abbrev pub table_of : Leader → List Route
+table_of a = a.table
 
 -- the printed replies of a leader to the lines that end in these bytes
 abbrev pub replies_from : Leader → List ℕ → List Bool → List ℕ
-replies_from a bytes refusals = printed (replies (list_of a) (map command_in (answers a.cutter bytes)) refusals)
+replies_from a bytes refusals = printed (replies (table_of a) (map command_in (answers a.cutter bytes)) refusals)
 
 -- the reply to the rest, by what a cutter tells at the end
 abbrev pub reply_at_end : Rest → List ℕ

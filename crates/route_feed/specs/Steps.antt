@@ -1,49 +1,95 @@
--- What a leader answers to each command, and the list that it has then.
-use Rattle.std.specs.Prelude.{not, ◌&&◌, Bool, false, List, [], ◌∷◌, ◌++◌, if◌then◌else◌, Option, Some, None}
-use Rattle.ipnet_addr.specs.Addresses.{Ipv4}
-use Rattle.ipnet_blocks.specs.Blocks.{Block}
-use Rattle.ipnet_blocks.specs.Networks.{block_of, net_of}
-use Rattle.route_feed.specs.declared.command.Command.{Command}
-use Rattle.route_feed.specs.declared.command.Command.TheVariants.{Add, Del, Get}
-use Rattle.route_feed.specs.declared.reply.Closing.{Closing}
-use Rattle.route_feed.specs.declared.reply.Closing.TheVariants.{Done, Missing, Bad, Refused}
-use Rattle.route_feed.specs.declared.reply.Reply.{Reply}
-use Rattle.route_feed.specs.declared.reply.Reply.TheVariants.{Route, Close}
-use Rattle.route_feed.specs.DenyList.{match_of, is_stored, with_block, without_block}
+-- What a leader answers to each command, and the table that it has then.
+use Rattle.std.specs.Prelude.{not, ◌&&◌, ℕ, Bool, false, List, [], ◌∷◌, ◌++◌, if◌then◌else◌, Option, Some, None, map, take}
+use Rattle.ipnet_addr.specs.Addresses.{Ipv4, Ipv6}
+use Rattle.ipnet_blocks.specs.Blocks.{Block, first_of}
+use Rattle.ipnet_blocks.specs.Maximal.{maximal_of}
+use Rattle.ipnet.specs.IpNets.{block}
+use Rattle.route_lines.specs.declared.command.Command.{Command}
+use Rattle.route_lines.specs.declared.command.Command.TheVariants as C
+use Rattle.route_lines.specs.declared.reply.Closing.{Closing}
+use Rattle.route_lines.specs.declared.reply.Closing.TheVariants.{Done, Missing, Bad, Refused}
+use Rattle.route_lines.specs.declared.reply.Reply.{Reply}
+use Rattle.route_lines.specs.declared.reply.Reply.TheVariants.{Set, Unset, Route, Flat, Count, Close}
+use Rattle.route_table.specs.Changes.{changed}
+use Rattle.route_table.specs.Flats.{Piece, flat_of}
+use Rattle.route_table.specs.Governing.{routes_inside}
+use Rattle.route_table.specs.Onwards.{count_of, routes_from, routes_after}
+use Rattle.route_table.specs.Stored.{network_at, route_of}
+use Rattle.route_table.specs.Tables as table
+use Rattle.route_table.specs.Tables.{hop_at, is_stored, match_of, covering, with_route, without_block}
 
--- a reply: its lines, the one that closes it, and the list after it
+-- a reply: its lines, the one that closes it, and the table after it
 pub record Turn : Type 0 where
   pub body : List Reply
   pub closing : Closing
-  pub next : List Block
+  pub next : List table.Route
 
 -- the lines of a reply
 abbrev pub lines_of : Turn → List Reply
 lines_of t = t.body ++ Close t.closing ∷ []
 
--- a reply of the closing line alone, which leaves this list
-abbrev pub closed : List Block → Closing → Turn
+-- a reply of the closing line alone, which leaves this table
+abbrev pub closed : List table.Route → Closing → Turn
 closed M closing = record { body = []; closing = closing; next = M }
 
--- the stored block, if there is one
-abbrev pub one_or_missing : List Block → Option Block → Turn
-one_or_missing M None = closed M Missing
-one_or_missing M (Some b) = record { body = Route (net_of b) ∷ []; closing = Done; next = M }
+-- a reply with these lines, which leaves this table
+abbrev pub told : List table.Route → List Reply → Turn
+told M lines = record { body = lines; closing = Done; next = M }
 
--- whether a command may be refused for want of memory at its turn: only an `add` of a block that isn't stored
-abbrev pub may_refuse : List Block → Option Command → Bool
-may_refuse M (Some (Add net)) = not (is_stored M (block_of Ipv4 net))
-may_refuse M (Some (Del net)) = false
-may_refuse M (Some (Get net)) = false
+-- the line that says which hop a block has now
+abbrev pub change_line : Option ℕ → Block → Reply
+change_line (Some number) b = Set (network_at b) number
+change_line None b = Unset (network_at b)
+
+-- the lines of a change: the maximal blocks of the addresses whose hop differs, each with its hop in the new table
+unfoldable pub change_lines : List table.Route → List table.Route → List Reply
+change_lines M N = map (λ b. change_line (hop_at N (first_of b)) b) (maximal_of (changed M N))
+
+-- the reply to a change of the table
+abbrev pub changed_to : List table.Route → List table.Route → Turn
+changed_to M N = record { body = change_lines M N; closing = Done; next = N }
+
+-- the line of a stored route
+abbrev pub route_line : table.Route → Reply
+route_line r = Route (network_at r.block) r.hop
+
+-- the line of a block of the flat list
+abbrev pub flat_line : Piece → Reply
+flat_line p = Flat (network_at p.block) p.number
+
+-- the stored route, if there is one
+abbrev pub one_or_missing : List table.Route → Option table.Route → Turn
+one_or_missing M None = closed M Missing
+one_or_missing M (Some r) = told M (route_line r ∷ [])
+
+-- whether a command may be refused for want of memory at its turn: only an `add` of a network that isn't stored
+abbrev pub may_refuse : List table.Route → Option Command → Bool
+may_refuse M (Some (C.Add net hop)) = not (is_stored M (block net))
+may_refuse M (Some (C.Del net)) = false
+may_refuse M (Some (C.Get net)) = false
+may_refuse M (Some (C.Cover net)) = false
+may_refuse M (Some (C.List net)) = false
+may_refuse M (Some (C.PageFrom net limit)) = false
+may_refuse M (Some (C.PageAfter net limit)) = false
+may_refuse M (Some (C.Own number)) = false
+may_refuse M (Some C.Count) = false
+may_refuse M (Some C.Flat) = false
 may_refuse M None = false
 
 -- the answer where nothing is refused
-abbrev pub answer : List Block → Option Command → Turn
-answer M (Some (Add net)) = closed (with_block M (block_of Ipv4 net)) Done
-answer M (Some (Del net)) = if is_stored M (block_of Ipv4 net) then closed (without_block M (block_of Ipv4 net)) Done else closed M Missing
-answer M (Some (Get net)) = one_or_missing M (match_of M (block_of Ipv4 net))
+abbrev pub answer : List table.Route → Option Command → Turn
+answer M (Some (C.Add net hop)) = changed_to M (with_route M (route_of net hop))
+answer M (Some (C.Del net)) = if is_stored M (block net) then changed_to M (without_block M (block net)) else closed M Missing
+answer M (Some (C.Get net)) = one_or_missing M (match_of M (block net))
+answer M (Some (C.Cover net)) = told M (map route_line (covering M (block net)))
+answer M (Some (C.List net)) = told M (map route_line (routes_inside M (block net)))
+answer M (Some (C.PageFrom net limit)) = told M (map route_line (take limit (routes_from M (block net))))
+answer M (Some (C.PageAfter net limit)) = told M (map route_line (take limit (routes_after M (block net))))
+answer M (Some (C.Own number)) = closed M Bad
+answer M (Some C.Count) = told M (Count (count_of Ipv4 M) (count_of Ipv6 M) ∷ [])
+answer M (Some C.Flat) = told M (map flat_line (flat_of (hop_at M)))
 answer M None = closed M Bad
 
 -- one line answered
-abbrev pub step : List Block → Option Command → Bool → Turn
+abbrev pub step : List table.Route → Option Command → Bool → Turn
 step M command refused = if may_refuse M command && refused then closed M Refused else answer M command

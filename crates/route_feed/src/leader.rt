@@ -5,15 +5,14 @@ ghost use Rattle.route_feed.specs.Counted.{inner, reads_of, faults_of, one_more}
 ghost use Rattle.route_lines.specs.Lines.{kept_of, rest_in};
 ghost use Rattle.route_feed.specs.Output.{output, whole};
 ghost use Rattle.route_feed.specs.Devices.{Gives, GivesPart, ReadFault};
-ghost use Rattle.route_feed.specs.Run.{list_of, output_from, replies_from, reply_at_end};
+ghost use Rattle.route_feed.specs.Run.{table_of, output_from, replies_from, reply_at_end};
 
 use crate::answer::answer;
 use crate::counted::Counted;
-use crate::deny_list::DenyList;
 use crate::error::RunError;
-use crate::reply::Closing;
 use crate::writing::close;
-use route_lines::{Line, LineCutter, Rest};
+use route_lines::{Closing, LineCutter, Rest};
+use route_table::{Refused, RouteTable};
 use std::alloc::Global;
 use std::io::{Read, Write};
 
@@ -23,25 +22,25 @@ const TURNS: u64 = 1 << 62;
 /// How many bytes are asked for at a time.
 const PIECE: usize = 1 << 16;
 
-/// The list, and the line that has begun.
+/// The table, and the line that has begun.
 #[derive(Drop)]
 pub struct Leader {
-    list: DenyList,
+    table: RouteTable,
     cutter: LineCutter,
 }
 
 impl Leader {
     ghost use Rattle.route_feed.specs.Run.{Takes, Ran, Broke, Writes};
 
-    // A leader with the empty list, which has taken no byte.
-    fn new(alloc: Global) -> Leader
-        ensures list { list_of result ≡ [] }
-        ensures cutter { result.cutter ≡ kept_of [] }
+    // A leader with the empty table, which has taken no byte.
+    fn new(alloc: Global) -> Result<Leader, Refused>
+        ensures table { IfOk result (λ leader. table_of leader ≡ []) }
+        ensures cutter { IfOk result (λ leader. leader.cutter ≡ kept_of []) }
     {
-        Leader {
-            list: DenyList::new(alloc),
+        Ok(Leader {
+            table: RouteTable::new(alloc)?,
             cutter: LineCutter::new(),
-        }
+        })
     }
 
     // Takes one byte, and answers the line that it ends.
@@ -51,7 +50,7 @@ impl Leader {
     {
         match self.cutter.feed(byte) {
             None => Ok(()),
-            Some(line) => answer(&mut self.list, &line, writer),
+            Some(line) => answer(&mut self.table, &line, writer),
         }
     }
 
@@ -147,8 +146,9 @@ impl Leader {
 
 /// Answers each line that the reader gives, until its end, by reply lines to the writer.
 ///
-/// The lines `add NET drop`, `del NET` and `get NET` keep and ask a deny list of IPv4 networks; any
-/// other line, one over 80 bytes, and a rest without a line end are answered `bad`. What is written is
+/// The lines keep and ask a route table; any other line, one over 80 bytes, and a rest without a line end
+/// are answered `bad`. An accepted `add` or `del` is answered by the fewest blocks whose addresses are just
+/// those whose hop changed, each with its hop now, and `ok`. What is written is
 /// a function of the bytes read and of the refusals met, whatever pieces the bytes came in; a reader or
 /// a writer that doesn't tell its bytes, as a file, is used alike, and nothing is claimed of its bytes.
 /// The writer is flushed after each reply.
@@ -179,8 +179,11 @@ pub fn lead<R: Read, W: Write>(
     ensures no_fault { OnOk result (faults_of reader.new ≡ faults_of reader.old) }
     ensures no_write_fault { OnOk result (faults_of writer.new ≡ faults_of writer.old) }
 {
-    match vec![in alloc; 0; PIECE] {
-        Err(_) => Err(RunError::Memory),
-        Ok(mut buf) => Leader::new(alloc).run(buf.as_mut_slice(), reader, writer),
-    }
+    let Ok(mut buf) = vec![in alloc; 0; PIECE] else {
+        return Err(RunError::Memory);
+    };
+    let Ok(mut leader) = Leader::new(alloc) else {
+        return Err(RunError::Memory);
+    };
+    leader.run(buf.as_mut_slice(), reader, writer)
 }

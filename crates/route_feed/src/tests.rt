@@ -67,22 +67,42 @@ impl Write for Narrow {
     }
 }
 
-const ROWS: [(&[u8], &[u8]); 7] = [
+const ROWS: [(&[u8], &[u8]); 17] = [
     (b"", b""),
     (
         b"add 10.0.0.0/8 drop\nget 10.1.0.0/16\ndel 10.0.0.0/8\ndel 10.0.0.0/8\n",
         b"ok\nroute 10.0.0.0/8 drop\nok\nok\nnone\n",
     ),
     (
-        b"del 10.0.0.0/8\nadd 10.0.0.0 drop\nadd 10.0.0.0/33 drop\nadd 10.0.0.0/8 1\nflat\n",
+        b"add 10.0.0.0/8 1\nadd 10.0.0.0/9 2\nadd 10.64.0.0/10 1\nget 10.1.2.3/32\nadd 10.0.0.0/8 3\ndel 10.0.0.0/9\n",
+        b"set 10.0.0.0/8 1\nok\nset 10.0.0.0/9 2\nok\nset 10.64.0.0/10 1\nok\nroute 10.0.0.0/9 2\nok\nset 10.128.0.0/9 3\nok\nset 10.0.0.0/10 3\nok\n",
+    ),
+    (
+        b"add 0.0.0.0/0 1\nadd 0.0.0.0/1 2\nadd 128.0.0.0/1 3\nadd 0.0.0.0/0 9\ndel 128.0.0.0/1\n",
+        b"set 0.0.0.0/0 1\nok\nset 0.0.0.0/1 2\nok\nset 128.0.0.0/1 3\nok\nok\nset 128.0.0.0/1 9\nok\n",
+    ),
+    (
+        b"add 10.0.0.0/30 1\nadd 10.0.0.1/32 drop\nget 10.0.0.1/32\n",
+        b"set 10.0.0.0/30 1\nok\nunset 10.0.0.1/32\nok\nroute 10.0.0.1/32 drop\nok\n",
+    ),
+    (
+        b"add 255.255.255.255/32 9\nadd 255.255.255.252/30 5\ndel 255.255.255.252/30\n",
+        b"set 255.255.255.255/32 9\nok\nset 255.255.255.252/31 5\nset 255.255.255.254/32 5\nok\nunset 255.255.255.252/31\nunset 255.255.255.254/32\nok\n",
+    ),
+    (
+        b"add ::ffff:10.0.0.0/104 1\nget 10.0.0.0/8\nadd 2001:DB8::1/32 7\nget 2001:db8::/32\n",
+        b"set ::ffff:10.0.0.0/104 1\nok\nnone\nset 2001:db8::/32 7\nok\nroute 2001:db8::/32 7\nok\n",
+    ),
+    (
+        b"add 10.0.0.0/8 1\nadd 10.1.2.3/16 1\nlist 10.0.0.0/8\nlist 10.1.0.0/16\nlist 11.0.0.0/8\n",
+        b"set 10.0.0.0/8 1\nok\nok\nroute 10.0.0.0/8 1\nroute 10.1.0.0/16 1\nok\nroute 10.1.0.0/16 1\nok\nok\n",
+    ),
+    (
+        b"del 10.0.0.0/8\nadd 10.0.0.0 drop\nadd 10.0.0.0/33 drop\nadd 10.0.0.0/8 4294967296\nadd 10.0.0.0/8 01\n",
         b"none\nbad\nbad\nbad\nbad\n",
     ),
     (
-        b"add 10.1.2.3/16 drop\nadd 10.1.0.0/16 drop\nget 10.1.9.9/32\ndel 10.1.7.7/16\nget 10.1.9.9/32\n",
-        b"ok\nok\nroute 10.1.0.0/16 drop\nok\nok\nnone\n",
-    ),
-    (
-        b"\n123456789012345678901234567890123456789012345678901234567890123456789012345678901\nflat",
+        b"\n123456789012345678901234567890123456789012345678901234567890123456789012345678901\nflats",
         b"bad\nbad\nbad\n",
     ),
     (
@@ -92,6 +112,26 @@ const ROWS: [(&[u8], &[u8]); 7] = [
     (
         b"add  10.0.0.0/8 drop\nadd 10.0.0.0/8 drop \nADD 10.0.0.0/8 drop\nget 10.0.0.0/8\r\nget 255.255.255.255/32",
         b"bad\nbad\nbad\nbad\nbad\n",
+    ),
+    (
+        b"add 10.0.0.0/8 1\nadd 10.1.0.0/16 2\nadd 10.2.0.0/16 3\nadd 10.2.0.0/24 4\nadd 10.3.0.0/16 5\nadd 10.4.0.0/16 6\nfrom 10.2.0.0/16 3\nafter 10.2.0.0/16 3\ncover 10.2.0.0/23\n",
+        b"set 10.0.0.0/8 1\nok\nset 10.1.0.0/16 2\nok\nset 10.2.0.0/16 3\nok\nset 10.2.0.0/24 4\nok\nset 10.3.0.0/16 5\nok\nset 10.4.0.0/16 6\nok\nroute 10.2.0.0/16 3\nroute 10.2.0.0/24 4\nroute 10.3.0.0/16 5\nok\nroute 10.2.0.0/24 4\nroute 10.3.0.0/16 5\nroute 10.4.0.0/16 6\nok\nroute 10.0.0.0/8 1\nroute 10.2.0.0/16 3\nok\n",
+    ),
+    (
+        b"add ::/0 4\nadd 0.0.0.0/0 3\ncount\nflat\n",
+        b"set ::/0 4\nok\nset 0.0.0.0/0 3\nok\ncount 1 1\nok\nflat 0.0.0.0/0 3\nflat ::/0 4\nok\n",
+    ),
+    (
+        b"cover 10.0.0.0/8\nfrom ::/0 1\nafter 0.0.0.0/0 1000\nfrom 10.0.0.0/8 0\nlist  10.0.0.0/8\nfrom 10.0.0.0/8 1001\ncount \nflat\r\n",
+        b"ok\nok\nok\nbad\nbad\nbad\nbad\nbad\n",
+    ),
+    (
+        b"add 10.0.0.0/8 1\nadd 10.0.0.0/9 2\nadd 10.64.0.0/10 1\nflat\n",
+        b"set 10.0.0.0/8 1\nok\nset 10.0.0.0/9 2\nok\nset 10.64.0.0/10 1\nok\nflat 10.0.0.0/10 2\nflat 10.64.0.0/10 1\nflat 10.128.0.0/9 1\nok\n",
+    ),
+    (
+        b"add 10.0.0.0/8 1\nadd 10.0.0.0/8 1\nadd 10.0.0.0/8 drop\ndel 10.0.0.0/8\nflat\n",
+        b"set 10.0.0.0/8 1\nok\nok\nunset 10.0.0.0/8\nok\nok\nok\n",
     ),
 ];
 

@@ -128,7 +128,7 @@ module _ (M : List Route) (m : IsTable M) where
 
 -- ---- the maximal blocks of a change
 
-no_blocks : (S : Address → Type 0) → ((x : Address) → IsAddress x → S x → ⊥) → IsMaximal S []
+pub no_blocks : (S : Address → Type 0) → ((x : Address) → IsAddress x → S x → ⊥) → IsMaximal S []
 no_blocks S none = maximal_same (λ x. ⊥) S (λ x a e. absurd e) none [] (maximal_none (λ x. ⊥) (λ x e. e))
 
 pub blocks_of_add : (M : List Route) (r : Route) (bs : List Block) → IsTable M → IsBlock r.block → IsHop r.hop → IsMaximal (Governed M r.block) bs →

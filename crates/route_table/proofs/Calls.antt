@@ -73,9 +73,9 @@ module _ (M : Maps) (ok : AreStored M) (f : Family) (n t : Network) (is : IsNetw
 -- ---- the routes inside a network
 
 -- no listed key is longer than an address
-pub listed_keys : (M : Maps) → AreStored M → (f : Family) (s : List Bool) (es : List (List Bool × Hop)) → es ≡ where_key bits_cmp (begins s) (entries (M f)) → KeysUpTo (width f) es
-listed_keys M ok f s es e = All-from_In (λ (d : List Bool × Hop). length d.0 ≤ width f) es (λ d i.
-    let j = In-from_filter (λ (x : List Bool × Hop). begins s x.0) (entries (M f)) d (subst (λ xs. In d xs) e i) in
+pub listed_keys : (M : Maps) → AreStored M → (f : Family) (p : List Bool → Bool) (es : List (List Bool × Hop)) → es ≡ where_key bits_cmp p (entries (M f)) → KeysUpTo (width f) es
+listed_keys M ok f p es e = All-from_In (λ (d : List Bool × Hop). length d.0 ≤ width f) es (λ d i.
+    let j = In-from_filter (λ (x : List Bool × Hop). p x.0) (entries (M f)) d (subst (λ xs. In d xs) e i) in
     ok.within f d.0 d.1 (get_of (M f) d.0 d.1 j.0))
 
 pub listed : (M : Maps) → AreStored M → (f : Family) (n t : Network) → IsNetwork f n → t ≡ net_of (block_of f n) → (es : List (List Bool × Hop)) → es ≡ where_key bits_cmp (begins (bit_string (block_of f t))) (entries (M f))
@@ -119,7 +119,7 @@ stored_at M ok f n t is e = ap (λ s. is_some (get (M f) s)) (same_bits f n t e)
 
 -- ---- the maps of a table
 
-same_itself : (f : Family) → same_family f f ≡ true
+pub same_itself : (f : Family) → same_family f f ≡ true
 same_itself Ipv4 = refl
 same_itself Ipv6 = refl
 

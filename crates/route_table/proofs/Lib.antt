@@ -17,6 +17,11 @@ pub mod Parts
 pub mod Gaps
 pub mod Governings
 pub mod Alterations
+pub mod Onwards
+pub mod Overwritten
+pub mod Emptied
+pub mod Halves
+pub mod Paging
 pub mod Paints
 pub mod Openings
 pub mod Painted

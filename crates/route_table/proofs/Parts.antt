@@ -34,10 +34,10 @@ begins_more (false ∷ s) rest = begins_more s rest
 test_from_begins : (s t : List Bool) → Begins s t → begins s t ≡ true
 test_from_begins s t b = ap (begins s) b.1 ∙ begins_more s b.0
 
-inside_from_bits : (a b : Block) → IsBlock a → IsBlock b → a.family ≡ b.family → begins (bit_string b) (bit_string a) ≡ true → IsInside a b
+pub inside_from_bits : (a b : Block) → IsBlock a → IsBlock b → a.family ≡ b.family → begins (bit_string b) (bit_string a) ≡ true → IsInside a b
 inside_from_bits a b p q f e = inside_from_begins a b p q f (begins_from_test (bit_string b) (bit_string a) e)
 
-bits_from_inside : (a b : Block) → IsBlock a → IsBlock b → IsInside a b → begins (bit_string b) (bit_string a) ≡ true
+pub bits_from_inside : (a b : Block) → IsBlock a → IsBlock b → IsInside a b → begins (bit_string b) (bit_string a) ≡ true
 bits_from_inside a b p q h = test_from_begins (bit_string b) (bit_string a) (begins_from_inside a b p q h)
 
 -- a test of routes that is a test of keys
@@ -57,7 +57,7 @@ no_route f p [] h = refl
 no_route f p (e ∷ es) h = ap (λ b. cond b (route_at f e ∷ filter p (map (route_at f) es)) (filter p (map (route_at f) es))) (h e (inl refl)) ∙ no_route f p es (λ d i. h d (inr i))
 
 -- a test that only the routes of one family pass is a test of that family's keys
-one_family : (M : Maps) (f : Family) (p : Route → Bool) (q : List Bool × Hop → Bool) →
+pub one_family : (M : Maps) (f : Family) (p : Route → Bool) (q : List Bool × Hop → Bool) →
     ((e : List Bool × Hop) → In e (entries (M f)) → p (route_at f e) ≡ q e) →
     ((g : Family) → (g ≡ f → ⊥) → (e : List Bool × Hop) → In e (entries (M g)) → p (route_at g e) ≡ false) →
     filter p (table_of M) ≡ map (route_at f) (filter q (entries (M f)))
@@ -84,7 +84,7 @@ one_family M Ipv6 p q h k =
     apart e = let b = ap is_v4 e in cc
 
 module _ (M : Maps) (ok : AreStored M) (n : Block) (okn : IsBlock n) where
-  at_is_block : (f : Family) (e : List Bool × Hop) → In e (entries (M f)) → IsBlock (block_at f e.0)
+  pub at_is_block : (f : Family) (e : List Bool × Hop) → In e (entries (M f)) → IsBlock (block_at f e.0)
   at_is_block f e i = block_at_is_block f e.0 (ok.within f e.0 e.1 (get_of (M f) e.0 e.1 i))
 
   -- the routes inside n are the entries whose keys n's string begins

@@ -5,6 +5,9 @@ pub mod Bounds
 pub mod Stored
 pub mod Items
 pub mod Governing
+pub mod Onwards
+pub mod Overwritten
+pub mod Pages
 pub mod Running
 pub mod Flattening
 pub mod Owning

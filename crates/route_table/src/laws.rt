@@ -1,4 +1,6 @@
 //! Laws of tables: public functions without a body, whose contracts are the laws.
+ghost use Rattle.route_table.specs.Overwritten.{OverwriteIsTable, HopsOfOverwrite};
+ghost use Rattle.route_table.specs.Pages.{PagesAreRoutes, PagesEnd};
 ghost use Rattle.route_table.specs.Laws.{MatchIsLongest, GovernedMatch, GovernedBound, StaysTable, ChangedIsMaximal, AddedHaveOneHop, LeftHaveOneHop, ChangedByAdd, ChangedByDel, BlocksOfAdd, BlocksOfDel, GovernedAfter, AddThenDel, OtherFamilyAfterAdd, OtherFamilyAfterDel, FlatIsShortest, ShortestIsFlat, FlatIsAdmissible, SameFlat, SearchIsFlat, OwnIsMaximal, FlatIsBounded, FlatRebuilds};
 
 /// The match is the longest member that contains the block; the match of an address in what a block
@@ -34,6 +36,20 @@ pub fn kept()
     ensures restored { AddThenDel }
     ensures other_after_add { OtherFamilyAfterAdd }
     ensures other_after_del { OtherFamilyAfterDel }
+{}
+
+/// An `overwrite` leaves a table. All addresses of its network have the new hop then, and all others the hop that they
+/// had.
+pub fn overwrites()
+    ensures table { OverwriteIsTable }
+    ensures hops { HopsOfOverwrite }
+{}
+
+/// The routes of a family from a network on, page by page: first by `from`, and then by `after` the last network that
+/// was given, until a page has no route. For every limit of at least one the pages are those routes, each once.
+pub fn pages()
+    ensures routes { PagesAreRoutes }
+    ensures end { PagesEnd }
 {}
 
 /// A hop function has one flat list: no list of one-hop blocks that covers all hops is shorter, and an

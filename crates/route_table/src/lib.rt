@@ -14,9 +14,13 @@ mod flat_tests;
 mod governed;
 mod hop;
 pub mod laws;
+mod overwrite;
 mod own_blocks;
 mod routes;
 mod runs;
 mod table;
 #[cfg(test)]
 mod tests;
+#[cfg(test)]
+mod walk_tests;
+mod walks;

@@ -2,19 +2,39 @@
 ghost use Rattle.std.specs.Prelude.{◌≡◌, List, map};
 ghost use Rattle.std.specs.Iterator.{item_count};
 ghost use Rattle.ipnet_addr.specs.Addresses.{Ipv4, Ipv6};
-ghost use Rattle.route_table.specs.Items.{AreKeys, GivesRoute, KeysUpTo, routes_left};
+ghost use Rattle.trie_map.specs.Iterators.{GivesEntry};
+ghost use Rattle.route_table.specs.Items.{AreKeys, GivesRoute, KeysUpTo, entries_left, routes_left};
 ghost use Rattle.route_table.specs.Stored.{route_at};
 
 use crate::hop::Hop;
 use ipnet::{IpNet, Ipv4Net, Ipv6Net};
 use std::marker::Model;
-use trie_map::Iter;
+use trie_map::{Cover, Iter, Prefix};
 
-/// The entries that a walk of one family's trie has left.
+/// The entries of one family's trie that are left of a walk, or of the way to a network.
+#[derive(Drop)]
+pub(crate) enum Entries<'a, P: Prefix> {
+    Walk(Iter<'a, P, Hop>),
+    Cover(Cover<'a, P, Hop>),
+}
+
+impl<'a, P: Prefix> Entries<'a, P> {
+    /// The next entry.
+    fn next(&mut self) -> Option<(P, &'a Hop)>
+        ensures { GivesEntry P.bits P.of_bits (entries_left self.old) result (entries_left self.new) }
+    {
+        match self {
+            Entries::Walk(entries) => entries.next(),
+            Entries::Cover(entries) => entries.next(),
+        }
+    }
+}
+
+/// The entries of one family's trie that are left.
 #[derive(Drop)]
 pub(crate) enum Source<'a> {
-    V4(Iter<'a, Ipv4Net, Hop>),
-    V6(Iter<'a, Ipv6Net, Hop>),
+    V4(Entries<'a, Ipv4Net>),
+    V6(Entries<'a, Ipv6Net>),
 }
 
 /// The routes that are left, ascending: the network of each, without host bits, and its hop. It takes no memory.
@@ -59,10 +79,10 @@ impl<'a> Iterator for Routes<'a> {
     }
 }
 
-fn next_v4(entries: &mut Iter<'_, Ipv4Net, Hop>) -> Option<(IpNet, Hop)>
-    requires { KeysUpTo 32 entries.old }
-    ensures route { GivesRoute (map (route_at Ipv4) entries.old) result (map (route_at Ipv4) entries.new) }
-    ensures keys { KeysUpTo 32 entries.new }
+fn next_v4(entries: &mut Entries<'_, Ipv4Net>) -> Option<(IpNet, Hop)>
+    requires { KeysUpTo 32 (entries_left entries.old) }
+    ensures route { GivesRoute (map (route_at Ipv4) (entries_left entries.old)) result (map (route_at Ipv4) (entries_left entries.new)) }
+    ensures keys { KeysUpTo 32 (entries_left entries.new) }
 {
     match entries.next() {
         None => None,
@@ -70,10 +90,10 @@ fn next_v4(entries: &mut Iter<'_, Ipv4Net, Hop>) -> Option<(IpNet, Hop)>
     }
 }
 
-fn next_v6(entries: &mut Iter<'_, Ipv6Net, Hop>) -> Option<(IpNet, Hop)>
-    requires { KeysUpTo 128 entries.old }
-    ensures route { GivesRoute (map (route_at Ipv6) entries.old) result (map (route_at Ipv6) entries.new) }
-    ensures keys { KeysUpTo 128 entries.new }
+fn next_v6(entries: &mut Entries<'_, Ipv6Net>) -> Option<(IpNet, Hop)>
+    requires { KeysUpTo 128 (entries_left entries.old) }
+    ensures route { GivesRoute (map (route_at Ipv6) (entries_left entries.old)) result (map (route_at Ipv6) (entries_left entries.new)) }
+    ensures keys { KeysUpTo 128 (entries_left entries.new) }
 {
     match entries.next() {
         None => None,

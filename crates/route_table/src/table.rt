@@ -15,7 +15,7 @@ ghost use Rattle.route_table.specs.Tables.{Governed as GovernedBy, IsHop, IsTabl
 
 use crate::governed::Governed;
 use crate::hop::Hop;
-use crate::routes::{Routes, Source};
+use crate::routes::{Entries, Routes, Source};
 use ipnet::{IpNet, Ipv4Net, Ipv6Net};
 use std::alloc::Global;
 use std::marker::Model;
@@ -24,11 +24,11 @@ use trie_map::{PrefixMap, Refused};
 /// A hop for each of some networks of both families.
 ///
 /// Contracts see it as the ascending list of its routes, one for each stored network. Host bits of an argument are
-/// ignored everywhere. Only `new`, `own` and an `add` of a network that is not stored take memory.
+/// ignored everywhere. Only `new`, `own`, and `add` and `overwrite` of a network that is not stored, take memory.
 #[derive(Drop)]
 pub struct RouteTable {
-    v4: PrefixMap<Ipv4Net, Hop>,
-    v6: PrefixMap<Ipv6Net, Hop>,
+    pub(crate) v4: PrefixMap<Ipv4Net, Hop>,
+    pub(crate) v6: PrefixMap<Ipv6Net, Hop>,
     alloc: Global,
 }
 
@@ -87,10 +87,7 @@ impl RouteTable {
     {
         let before = self.hop_of(&net);
         let after = number(hop);
-        match net {
-            IpNet::V4(net) => self.store_v4(net, hop)?,
-            IpNet::V6(net) => self.store_v6(net, hop)?,
-        }
+        self.store(net, hop)?;
         Ok((before, after))
     }
 
@@ -177,8 +174,8 @@ impl RouteTable {
         ensures ipv6 { All (λ r. r.block.family ≡ Ipv6) result.1 }
     {
         (
-            Routes::new(Source::V4(self.v4.iter())),
-            Routes::new(Source::V6(self.v6.iter())),
+            Routes::new(Source::V4(Entries::Walk(self.v4.iter()))),
+            Routes::new(Source::V6(Entries::Walk(self.v6.iter()))),
         )
     }
 
@@ -195,6 +192,20 @@ impl RouteTable {
         ensures { IsTable self.now }
     {
         let _ = self.v4.is_empty();
+    }
+
+    /// Stores the hop at the network.
+    pub(crate) fn store(&mut self, net: IpNet, hop: Hop) -> Result<(), Refused>
+        requires { IsHop hop }
+        ensures routes { OnOk result (self.new ≡ with_route self.old (route_of net hop)) }
+        ensures memory { IfErr result (λ e. e ≡ Memory) }
+        ensures unchanged { OnErr result (self.new ≡ self.old) }
+        ensures absent { OnErr result (is_stored self.old (block net) ≡ false) }
+    {
+        match net {
+            IpNet::V4(net) => self.store_v4(net, hop),
+            IpNet::V6(net) => self.store_v6(net, hop),
+        }
     }
 
     /// The number at the longest match.
@@ -255,13 +266,13 @@ impl RouteTable {
     fn list_v4(&self, net: Ipv4Net) -> Routes<'_>
         ensures { result ≡ routes_inside self.now (block_of Ipv4 net) }
     {
-        Routes::new(Source::V4(self.v4.children(&net.trunc())))
+        Routes::new(Source::V4(Entries::Walk(self.v4.children(&net.trunc()))))
     }
 
     fn list_v6(&self, net: Ipv6Net) -> Routes<'_>
         ensures { result ≡ routes_inside self.now (block_of Ipv6 net) }
     {
-        Routes::new(Source::V6(self.v6.children(&net.trunc())))
+        Routes::new(Source::V6(Entries::Walk(self.v6.children(&net.trunc()))))
     }
 
     fn longest_v4(&self, net: Ipv4Net) -> Option<(Ipv4Net, Hop)>

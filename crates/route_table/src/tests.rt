@@ -4,11 +4,11 @@ use ipnet::IpNet;
 use std::process::Abort;
 use std::str::FromStr;
 
-fn net(rt: &impl Abort, text: &str) -> IpNet {
+pub(crate) fn net(rt: &impl Abort, text: &str) -> IpNet {
     IpNet::from_str(text).expect(rt, "a network")
 }
 
-fn add(
+pub(crate) fn add(
     rt: &impl Abort,
     table: &mut RouteTable,
     text: &str,

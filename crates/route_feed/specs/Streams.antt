@@ -1,0 +1,75 @@
+-- Reply streams: which changes are committed, and which hop they paint each address with.
+use Rattle.std.specs.Prelude.{ℕ, suc, Bool, true, false, List, [], ◌∷◌, ◌++◌, if◌then◌else◌, Option, Some, None, is_some}
+use Rattle.std.specs.List.{filter_map}
+use Rattle.std.specs.Option.{option_to_list}
+use Rattle.ipnet_addr.specs.Addresses.{Address}
+use Rattle.ipnet_blocks.specs.Blocks.{Block, has_address}
+use Rattle.ipnet.specs.IpNets.{block}
+use Rattle.route_lines.specs.Bytes.{lines}
+use Rattle.route_lines.specs.Spelled.{reply_of}
+use Rattle.route_lines.specs.declared.reply.Closing.{Closing}
+use Rattle.route_lines.specs.declared.reply.Closing.TheVariants.{Done, Missing, Bad, Refused}
+use Rattle.route_lines.specs.declared.reply.Reply.{Reply}
+use Rattle.route_lines.specs.declared.reply.Reply.TheVariants.{Set, Unset, Route, Flat, Own, Count, Close}
+
+-- a block's addresses have this hop from now on, or none
+pub record Change : Type 0 where
+  pub block : Block
+  pub number : Option ℕ
+
+abbrev pub is_done : Closing → Bool
+is_done Done = true
+is_done Missing = false
+is_done Bad = false
+is_done Refused = false
+
+-- the change that a line tells
+abbrev pub change_of : Reply → Option Change
+change_of (Set net number) = Some (record { block = block net; number = Some number })
+change_of (Unset net) = Some (record { block = block net; number = None })
+change_of (Route net hop) = None
+change_of (Flat net number) = None
+change_of (Own net) = None
+change_of (Count v4 v6) = None
+change_of (Close closing) = None
+
+-- how a line closes a reply
+abbrev pub closing_of : Reply → Option Closing
+closing_of (Set net number) = None
+closing_of (Unset net) = None
+closing_of (Route net hop) = None
+closing_of (Flat net number) = None
+closing_of (Own net) = None
+closing_of (Count v4 v6) = None
+closing_of (Close closing) = Some closing
+
+abbrev pub done_or : Option Closing → Bool → Bool
+done_or (Some closing) later = is_done closing
+done_or None later = later
+
+-- whether there is a closing line, and the first one is `ok`
+abbrev pub ends_well : List Reply → Bool
+ends_well [] = false
+ends_well (l ∷ ls) = done_or (closing_of l) (ends_well ls)
+
+-- the changes after which the first closing line is `ok`
+abbrev pub committed : List Reply → List Change
+committed [] = []
+committed (l ∷ ls) = if ends_well ls then option_to_list (change_of l) ++ committed ls else committed ls
+
+-- how many lines close a reply
+abbrev pub closings : List Reply → ℕ
+closings [] = 0
+closings (l ∷ ls) = if is_some (closing_of l) then suc (closings ls) else closings ls
+
+-- the hop of the last change whose block has the address; `now` where none has it
+abbrev pub painted_over : Option ℕ → List Change → Address → Option ℕ
+painted_over now [] x = now
+painted_over now (c ∷ cs) x = painted_over (if has_address c.block x then c.number else now) cs x
+
+abbrev pub painted : List Change → Address → Option ℕ
+painted cs x = painted_over None cs x
+
+-- the reply lines that stand whole in the bytes
+abbrev pub replies_in : List ℕ → List Reply
+replies_in bytes = filter_map reply_of (lines bytes)
