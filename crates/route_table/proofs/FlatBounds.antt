@@ -15,6 +15,7 @@ use Rattle.route_table.specs.Bounds.{pieces_in, lengths_in}
 use Rattle.route_table.specs.Flats.{Piece, IsFlat, one_hop_in, piece_or, flat_in, flat_of}
 use Rattle.route_table.specs.Tables.{Route, IsTable, hop_at, match_of, match_number}
 use Rattle.route_table.proofs.Flats.{same_flat}
+use Rattle.route_table.proofs.Paints.{none_some}
 use Rattle.route_table.proofs.FlatSearch.{all_from_one, one_from_all, search_is_flat}
 use Rattle.route_table.proofs.Matches.{block_in, inside_from_test, test_from_inside, governed_match}
 
@@ -114,9 +115,6 @@ one_piece b n (Some m) ps e = refl
 no_piece : (b : Block) (o : Option ℕ) (ps : List Piece) → o ≡ None → piece_or b o ps ≡ ps
 no_piece b None ps e = refl
 no_piece b (Some m) ps e = absurd (cc)
-
-none_some : (k : ℕ) → None ≡ Some k → ⊥
-none_some k e = cc
 
 -- addresses without a hop have no pieces
 no_hop_here : (h : Address → Option ℕ) (k : ℕ) (t : Block) → IsBlock t → free_bits t ≡ k → ((x : Address) → HasAddress t x → h x ≡ None) → flat_in h k t ≡ []

@@ -19,6 +19,7 @@ use Rattle.route_table.specs.Flats.{Piece, IsFlat, blocks_of, flat_of}
 use Rattle.route_table.specs.Flattening.{piece_of}
 use Rattle.route_table.proofs.Flats.{Sooner, In-map, In-map_back, same_flat}
 use Rattle.route_table.proofs.Flats.{maximal_same as block_same}
+use Rattle.route_table.proofs.Paints.{none_some}
 use Rattle.route_table.proofs.FlatSearch.{search_is_flat}
 use Rattle.route_table.proofs.Matches.{In-filter, In-from_filter}
 use Rattle.route_table.proofs.Own.{own_is_maximal}
@@ -46,9 +47,6 @@ pub record IsFirstSpan (f : Family) (s : Span) (n : ℕ) (h later : Address → 
   pub within : (x : Address) → x.family ≡ f → s.first ≤ x.number → x.number ≤ s.last → h x ≡ Some n
   pub ends : h (record { family = f; number = s.last + 1 }) ≡ Some n → ⊥
   pub split : (x : Address) → ((x.family ≡ f) × (s.first ≤ x.number) × (x.number ≤ s.last) × (later x ≡ None)) ⊎ ((later x ≡ h x) × ((k : ℕ) → h x ≡ Some k → IsPastSpan f s x))
-
-none_some : (k : ℕ) → None ≡ Some k → ⊥
-none_some k e = cc
 
 module _ (f : Family) (s : Span) (n : ℕ) (h later : Address → Option ℕ) (is : IsFirstSpan f s n h later) (ps : List Piece) (flat : IsFlat later ps) where
   abbrev bs : List Block

@@ -28,14 +28,12 @@ use Rattle.route_table.specs.declared.flat.BothRuns.{BothRuns}
 use Rattle.route_table.specs.declared.runs.Run.{Run}
 use Rattle.route_table.specs.declared.runs.Runs.{Runs}
 use Rattle.route_table.proofs.FlatRuns.{IsFirstSpan, IsPastSpan, first_then_rest, flat_of_same, no_pieces}
+use Rattle.route_table.proofs.Paints.{none_some}
 use Rattle.route_table.proofs.Painted.{painted_is}
 use Rattle.route_table.proofs.Entries.{get_of}
 use Rattle.route_table.proofs.Openings.{rising_back}
 use Rattle.route_table.proofs.Updates.{Sooner}
 use Rattle.route_table.proofs.Gaps.{blocks_given, some_cut, cut_of_limits}
-
-none_some : (k : ℕ) → None ≡ Some k → ⊥
-none_some k e = cc
 
 -- the first run of a family whose addresses come first
 module _ (h g later : ℕ → Option ℕ) (r : Run) (is : IsFirstRun h r later) where

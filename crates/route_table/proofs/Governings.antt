@@ -35,7 +35,7 @@ record AreFree (len at end : ℕ) (rs : List Route) (spans : List Span) : Type 0
   pub free : (s : Span) (x : ℕ) → In s spans → IsIn x s → IsHeld len rs x → ⊥
   pub all : (x : ℕ) → at ≤ x → x ≤ end → (IsHeld len rs x → ⊥) → (s : Span) × In s spans × IsIn x s
 
-first_to_last : (b : Block) → first b ≤ last b
+pub first_to_last : (b : Block) → first b ≤ last b
 first_to_last b = omega arith
 
 -- a route that is not longer counts for nothing

@@ -12,12 +12,10 @@ use Rattle.ipnet_blocks.proofs.Netmasks.{block_is_interval}
 use Rattle.route_table.specs.Tables.{Route, IsTable, IsMatch, match_of, match_number, number_of, hop_at}
 use Rattle.route_table.specs.Running.{Follows, IsOpen, IsComing, ArePlaced, reach_of, painted}
 use Rattle.route_table.specs.declared.runs.Reach.{Reach}
+use Rattle.route_table.proofs.Governings.{first_to_last}
 use Rattle.route_table.proofs.Matches.{block_in, match_from, match_meets}
 use Rattle.route_table.proofs.Paints.{lies, lies_before, lies_after}
 use Rattle.route_table.proofs.Updates.{Sooner}
-
-first_to_last : (b : Block) → first b ≤ last b
-first_to_last b = omega arith
 
 abbrev Has : ℕ → Route → Type 0
 Has x r = (first (Route.block r) ≤ x) × (x ≤ last (Route.block r))

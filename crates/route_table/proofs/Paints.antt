@@ -28,7 +28,7 @@ over_low r k x l = cond-false (nat_le r.span.first x && nat_le x r.span.last) (S
 over_high : (r : Run) (k : Option ℕ) (x : ℕ) → r.span.last < x → over (Some r) k x ≡ k
 over_high r k x l = cond-false (nat_le r.span.first x && nat_le x r.span.last) (Some r.number) k (lies_after r.span.first r.span.last x l)
 
-none_some : (k : ℕ) → None ≡ Some k → ⊥
+pub none_some : (k : ℕ) → None ≡ Some k → ⊥
 none_some k e = cc
 
 -- the numbers of a span have the number k, those before it none; `later` are the numbers without those of the span
