@@ -46,7 +46,7 @@ closes_without_change (Close closing) s = refl
 
 over_reply : (s : State) (o : Option Closing) (ch : Option Change) (more : List Reply) (x : Address) → (IsSome o → ch ≡ None)
     → painted_over (hop_at s.table x) (cond (done_or o (ends_well more)) s.pending [] ++ cond (ends_well more) (option_to_list ch ++ committed more) (committed more)) x
-        ≡ painted_over (hop_after s o x) (cond (ends_well more) (pending_after s.pending o ch) [] ++ committed more) x
+    ≡ painted_over (hop_after s o x) (cond (ends_well more) (pending_after s.pending o ch) [] ++ committed more) x
 over_reply s None ch more x f = over_line (hop_at s.table x) s.pending (option_to_list ch) (committed more) (ends_well more) x
 over_reply s (Some closing) ch more x f =
     ap (λ c. painted_over (hop_at s.table x) (cond (is_done closing) s.pending [] ++ cond (ends_well more) (option_to_list c ++ committed more) (committed more)) x) (f refl)

@@ -15,7 +15,9 @@ ghost use Rattle.route_table.specs.Tables as table_of;
 
 use crate::counted::Counted;
 use crate::error::RunError;
-use crate::writing::{close, write_changes, write_flat_list, write_line, write_own, write_page, write_routes};
+use crate::writing::{
+    close, write_changes, write_flat_list, write_line, write_own, write_page, write_routes,
+};
 use ipnet::IpNet;
 use route_lines::{Closing, Command, Line, Reply};
 use route_table::{Hop, RouteTable, Routes};

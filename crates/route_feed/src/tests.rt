@@ -2,7 +2,7 @@
 ghost use Rattle.std.specs.Prelude.{◌≡◌, List, Bool, IfOk};
 ghost use Rattle.route_feed.specs.Output.{output};
 
-use crate::{Counted, RunError, lead};
+use crate::{Counted, FollowError, Follower, RunError, follow, lead};
 use std::alloc::Global;
 use std::io;
 use std::io::{Read, Write};
@@ -215,6 +215,119 @@ fn errors(rt: HostRuntime) -> Result<(), Fail> {
         (RunError::Line, "not a reply line"),
     ] {
         assert_eq!(rt; format!(in rt.alloc(); "{error}")?.as_str(), wanted);
+    }
+    Ok(())
+}
+
+// A run of a follower over memory: what a caller whose bytes are known has of `follow`.
+fn followed(alloc: Global, input: &[u8]) -> Result<Vec<u8>, RunError> {
+    let mut reader = Counted::new(input);
+    let mut writer = Counted::new(Vec::new(alloc));
+    follow(alloc, &mut reader, &mut writer)?;
+    Ok(writer.into_inner())
+}
+
+const STREAMS: [(&[u8], &[u8]); 12] = [
+    (b"", b"ok\n"),
+    (
+        b"set 10.0.0.0/8 1\nok\nset 10.0.0.0/9 2\no",
+        b"flat 10.0.0.0/8 1\nok\n",
+    ),
+    (b"set 10.0.0.0/8 1\nrefused\nok\n", b"ok\n"),
+    (
+        b"set 10.0.0.0/30 1\nok\nunset 10.0.0.1/32\nok\n",
+        b"flat 10.0.0.0/32 1\nflat 10.0.0.2/31 1\nok\n",
+    ),
+    (
+        b"set 10.0.0.0/30 1\nok\nunset 10.0.0.1/32\nok\nunset 0.0.0.0/0\nok\n",
+        b"ok\n",
+    ),
+    (
+        b"set 10.0.0.0/8 1\ncount 1 0\nok\n",
+        b"flat 10.0.0.0/8 1\nok\n",
+    ),
+    (
+        b"set 10.0.0.0/8 1\nset 10.0.0.0/9 2\nok\n",
+        b"flat 10.0.0.0/9 2\nflat 10.128.0.0/9 1\nok\n",
+    ),
+    (
+        b"set 10.0.0.0/9 2\nset 10.0.0.0/8 1\nok\n",
+        b"flat 10.0.0.0/8 1\nok\n",
+    ),
+    (
+        b"set 10.0.0.0/8 1\nnone\nset 10.0.0.0/8 2\nok\n",
+        b"flat 10.0.0.0/8 2\nok\n",
+    ),
+    (b"flat 10.0.0.0/8 1\nok\n", b"ok\n"),
+    (b"set 10.1.2.3/8 1\nok\n", b"flat 10.0.0.0/8 1\nok\n"),
+    (
+        b"set ::/0 1\nok\nset 8000::/1 2\nok\n",
+        b"flat ::/1 1\nflat 8000::/1 2\nok\n",
+    ),
+];
+
+#[test]
+fn streams(rt: HostRuntime) -> Result<(), Fail> {
+    for (input, wanted) in STREAMS {
+        let out = followed(rt.alloc(), input)?;
+        assert_eq!(rt; out.as_slice(), wanted);
+    }
+    Ok(())
+}
+
+// Nothing is printed of a stream with another line.
+#[test]
+fn foreign_streams(rt: HostRuntime) {
+    for input in [
+        b"set 10.0.0.0/8 1\nok\nsett 1\n".as_slice(),
+        b"set 10.0.0.0/8 drop\nok\n".as_slice(),
+        b"set 10.0.0.0/8 01\nok\n".as_slice(),
+        b"add 10.0.0.0/8 1\nok\n".as_slice(),
+        b"\n".as_slice(),
+        b"ok\r\n".as_slice(),
+    ] {
+        let mut reader = Counted::new(input);
+        let mut writer = Counted::new(Vec::new(rt.alloc()));
+        let result = follow(rt.alloc(), &mut reader, &mut writer);
+        assert_eq!(rt; result, Err(RunError::Line));
+        let out = writer.into_inner();
+        assert_eq!(rt; out.is_empty(), true);
+    }
+}
+
+// After a line that is none the follower has failed for good.
+#[test]
+fn failed_follower(rt: HostRuntime) -> Result<(), Fail> {
+    let mut follower = Follower::new(rt.alloc())?;
+    assert_eq!(rt; follower.line(b"set 10.0.0.0/8 1"), Ok(()));
+    assert_eq!(rt; follower.line(b"ok"), Ok(()));
+    assert_eq!(rt; follower.failed(), false);
+    assert_eq!(rt; follower.line(b"ok "), Err(FollowError::NotALine));
+    assert_eq!(rt; follower.failed(), true);
+    assert_eq!(rt; follower.line(b"ok"), Err(FollowError::Failed));
+    assert_eq!(rt; follower.flat().is_none(), true);
+    Ok(())
+}
+
+// Each beginning of what the leader answers is followed to the flat list that held then.
+#[test]
+fn beginnings(rt: HostRuntime) -> Result<(), Fail> {
+    let commands = b"add 10.0.0.0/8 1\nadd 10.0.0.0/9 2\nadd 10.64.0.0/10 1\nflat\n".as_slice();
+    let told = led(rt.alloc(), commands)?;
+    let all = told.as_slice();
+    for end in 0..all.len() {
+        let front = &all[..end];
+        let out = followed(rt.alloc(), front)?;
+        let closed = if end < 20 {
+            b"ok\n".as_slice()
+        } else if end < 40 {
+            b"flat 10.0.0.0/8 1\nok\n".as_slice()
+        } else if end < 62 {
+            b"flat 10.0.0.0/9 2\nflat 10.128.0.0/9 1\nok\n".as_slice()
+        } else {
+            b"flat 10.0.0.0/10 2\nflat 10.64.0.0/10 1\nflat 10.128.0.0/9 1\nok\n".as_slice()
+        };
+        assert_eq!(rt; out.as_slice(), closed);
     }
     Ok(())
 }

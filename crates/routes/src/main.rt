@@ -1,10 +1,10 @@
-//! The program `routes`: command lines from standard input, reply lines to standard output.
+//! The program `routes`: a route table by lines from standard input, and replies to standard output.
 #![tactic(auto)]
 
 ghost use Rattle.std.specs.Prelude.{◌≡◌};
 ghost use Rattle.routes.specs.Status.{status_of};
 
-use route_feed::{Counted, RunError, lead};
+use route_feed::{Counted, RunError, follow, lead};
 use std::alloc::Global;
 use std::env;
 use std::env::Env;
@@ -20,7 +20,7 @@ const REPLY: usize = 1 << 16;
 enum Mode {
     /// Answers command lines.
     Lead,
-    /// Follows the replies of a leader; not built yet.
+    /// Follows the reply lines of a leader.
     Follow,
 }
 
@@ -71,8 +71,9 @@ fn asked_mode<R: Env + Alloc>(rt: &R) -> Result<Mode, Fault> {
     }
 }
 
-// Leads from the input to the output. What a failed write left unwritten is let go.
-fn lead_all<R: Read + Drop, W: Write + Drop>(
+// Leads or follows from the input to the output. What a failed write left unwritten is let go.
+fn run_mode<R: Read + Drop, W: Write + Drop>(
+    mode: Mode,
     alloc: Global,
     input: R,
     output: W,
@@ -82,16 +83,17 @@ fn lead_all<R: Read + Drop, W: Write + Drop>(
     };
     let mut reader = Counted::new(input);
     let mut writer = Counted::new(buffered);
-    let result = lead(alloc, &mut reader, &mut writer);
+    let result = match mode {
+        Mode::Lead => lead(alloc, &mut reader, &mut writer),
+        Mode::Follow => follow(alloc, &mut reader, &mut writer),
+    };
     let (_output, _unwritten) = writer.into_inner().into_parts();
     result
 }
 
 fn run(rt: &HostRuntime) -> Result<(), Fault> {
-    match asked_mode(rt)? {
-        Mode::Lead => lead_all(rt.alloc(), rt.stdin(), rt.stdout()).map_err(Fault::Run),
-        Mode::Follow => Err(Fault::Usage),
-    }
+    let mode = asked_mode(rt)?;
+    run_mode(mode, rt.alloc(), rt.stdin(), rt.stdout()).map_err(Fault::Run)
 }
 
 fn main(rt: HostRuntime) -> ExitCode {

@@ -23,5 +23,8 @@ returns-in_err-write_line g c =
     let q = c.in_err-write_line.ensures in
     let it = c.net-item.result in
     let printable = printable_at c.args.networks.now c.requires.networks c.loop-net.net-index it (omega arith) c.net-item.is in
-    rw (p.1, p.2) (q.0, Told-torn g.W.Write.contents (λ n. own_line (block n)) c.args.writer.now c.loop-net.writer c.write_line.new.writer _ _ c.loop-net.invariant it _ (Own it)
-    (next_at c.args.networks.now c.loop-net.net-index it (omega arith) c.net-item.is) (ap Own printable) q.1)
+    rw (p.1, p.2) (
+      q.0,
+      Told-torn g.W.Write.contents (λ n. own_line (block n)) c.args.writer.now c.loop-net.writer c.write_line.new.writer _ _ c.loop-net.invariant it _ (Own it)
+          (next_at c.args.networks.now c.loop-net.net-index it (omega arith) c.net-item.is) (ap Own printable) q.1,
+    )
