@@ -1,5 +1,5 @@
 -- When two sets are equal.
-use Rattle.std.specs.Prelude.{◌≡◌, Bool, true, refl}
+use Rattle.std.specs.Prelude.{Bool, true, refl}
 use Rattle.std.specs.Cmp.{IsEquivalence}
 use Rattle.trie_core.specs.Nodes.{Seen}
 use Rattle.trie_map.specs.Equal.{same_maps, same_maps-total}
