@@ -67,7 +67,7 @@ impl Write for Narrow {
     }
 }
 
-const ROWS: [(&[u8], &[u8]); 19] = [
+const ROWS: [(&[u8], &[u8]); 20] = [
     (b"", b""),
     (
         b"add 10.0.0.0/8 drop\nget 10.1.0.0/16\ndel 10.0.0.0/8\ndel 10.0.0.0/8\n",
@@ -140,6 +140,10 @@ const ROWS: [(&[u8], &[u8]); 19] = [
     (
         b"add 255.255.255.255/32 9\nadd 255.255.255.252/30 5\nflat\nown 5\n",
         b"set 255.255.255.255/32 9\nok\nset 255.255.255.252/31 5\nset 255.255.255.254/32 5\nok\nflat 255.255.255.252/31 5\nflat 255.255.255.254/32 5\nflat 255.255.255.255/32 9\nok\nown 255.255.255.252/31\nown 255.255.255.254/32\nok\n",
+    ),
+    (
+        b"add 0.0.0.0/0 1\nadd 255.255.255.255/32 2\ndel 0.0.0.0/0\n",
+        b"set 0.0.0.0/0 1\nok\nset 255.255.255.255/32 2\nok\nunset 0.0.0.0/1\nunset 128.0.0.0/2\nunset 192.0.0.0/3\nunset 224.0.0.0/4\nunset 240.0.0.0/5\nunset 248.0.0.0/6\nunset 252.0.0.0/7\nunset 254.0.0.0/8\nunset 255.0.0.0/9\nunset 255.128.0.0/10\nunset 255.192.0.0/11\nunset 255.224.0.0/12\nunset 255.240.0.0/13\nunset 255.248.0.0/14\nunset 255.252.0.0/15\nunset 255.254.0.0/16\nunset 255.255.0.0/17\nunset 255.255.128.0/18\nunset 255.255.192.0/19\nunset 255.255.224.0/20\nunset 255.255.240.0/21\nunset 255.255.248.0/22\nunset 255.255.252.0/23\nunset 255.255.254.0/24\nunset 255.255.255.0/25\nunset 255.255.255.128/26\nunset 255.255.255.192/27\nunset 255.255.255.224/28\nunset 255.255.255.240/29\nunset 255.255.255.248/30\nunset 255.255.255.252/31\nunset 255.255.255.254/32\nok\n",
     ),
 ];
 
@@ -309,25 +313,67 @@ fn failed_follower(rt: HostRuntime) -> Result<(), Fail> {
     Ok(())
 }
 
+// Two runs of commands, one after the other.
+const COMMANDS: &[u8] =
+    b"add 10.0.0.0/8 1\nadd 10.0.0.0/9 2\nadd 10.64.0.0/10 1\nflat\nown 1\nget 10.1.2.3/32\nadd 10.0.0.0/8 3\ndel 10.0.0.0/9\nflat\n";
+
+// Where the replies end that change a hop, and the flat list that holds then.
+const HELD: [(usize, &[u8]); 6] = [
+    (0, b"ok\n"),
+    (20, b"flat 10.0.0.0/8 1\nok\n"),
+    (40, b"flat 10.0.0.0/9 2\nflat 10.128.0.0/9 1\nok\n"),
+    (
+        62,
+        b"flat 10.0.0.0/10 2\nflat 10.64.0.0/10 1\nflat 10.128.0.0/9 1\nok\n",
+    ),
+    (
+        205,
+        b"flat 10.0.0.0/10 2\nflat 10.64.0.0/10 1\nflat 10.128.0.0/9 3\nok\n",
+    ),
+    (
+        226,
+        b"flat 10.0.0.0/10 3\nflat 10.64.0.0/10 1\nflat 10.128.0.0/9 3\nok\n",
+    ),
+];
+
+// The flat list that holds once so many bytes of the output have come.
+fn held_at(end: usize) -> &'static [u8] {
+    let mut held: &'static [u8] = b"ok\n";
+    for (from, flat) in HELD {
+        if from <= end {
+            held = flat;
+        }
+    }
+    held
+}
+
 // Each beginning of what the leader answers is followed to the flat list that held then.
 #[test]
 fn beginnings(rt: HostRuntime) -> Result<(), Fail> {
-    let commands = b"add 10.0.0.0/8 1\nadd 10.0.0.0/9 2\nadd 10.64.0.0/10 1\nflat\n".as_slice();
-    let told = led(rt.alloc(), commands)?;
+    let told = led(rt.alloc(), COMMANDS)?;
     let all = told.as_slice();
     for end in 0..all.len() {
-        let front = &all[..end];
-        let out = followed(rt.alloc(), front)?;
-        let closed = if end < 20 {
-            b"ok\n".as_slice()
-        } else if end < 40 {
-            b"flat 10.0.0.0/8 1\nok\n".as_slice()
-        } else if end < 62 {
-            b"flat 10.0.0.0/9 2\nflat 10.128.0.0/9 1\nok\n".as_slice()
-        } else {
-            b"flat 10.0.0.0/10 2\nflat 10.64.0.0/10 1\nflat 10.128.0.0/9 1\nok\n".as_slice()
-        };
-        assert_eq!(rt; out.as_slice(), closed);
+        let out = followed(rt.alloc(), &all[..end])?;
+        assert_eq!(rt; out.as_slice(), held_at(end));
+    }
+    Ok(())
+}
+
+// The greatest number of blocks of a change: one of each length.
+#[test]
+fn longest_changes(rt: HostRuntime) -> Result<(), Fail> {
+    for (input, lines) in [
+        (
+            b"add 0.0.0.0/0 1\nadd 255.255.255.255/32 2\ndel 0.0.0.0/0\n".as_slice(),
+            37,
+        ),
+        (
+            b"add ::/0 1\nadd ffff:ffff:ffff:ffff:ffff:ffff:ffff:ffff/128 2\ndel ::/0\n".as_slice(),
+            133,
+        ),
+    ] {
+        let out = led(rt.alloc(), input)?;
+        assert_eq!(rt; out.iter().filter(|byte| **byte == b'\n').count(), lines);
     }
     Ok(())
 }
