@@ -27,7 +27,8 @@ use Rattle.route_feed.specs.Steps as turn
 use Rattle.route_feed.specs.Streams.{Change, change_of, closing_of, is_done, ends_well, committed, closings, painted, painted_over, replies_in}
 use Rattle.route_feed.proofs.ReadNets.{IsInRange, line_in_range}
 use Rattle.route_feed.proofs.Reread.{AreClean, AreClean-append, AreOpen, told_is_clean, closing_is_clean, closing_read, read_again, reread, reread_open, reread_changes}
-use Rattle.route_feed.proofs.Seam.{changes_in, painted_more}
+use Rattle.route_feed.proofs.Seam.{changes_in}
+use Rattle.route_feed.proofs.Carried.{painted-append}
 use Rattle.route_feed.proofs.Turns.{form_step, gain}
 
 -- ---- a beginning's lines
@@ -140,7 +141,7 @@ followed M (c ∷ cs) r p q m h e x a =
     let ih = followed t.next cs rs p2 q form.table (λ d i. h d (inr i)) later x a in
     subst (λ l. painted_over (hop_at M x) (committed l) x ≡ hop_at (table_after M (take (closings l) (c ∷ cs)) r) x) (sym split)
     (rw (k.committed, k.closings) (
-    painted_more (hop_at M x) (gain (reread t.body) t.closing) (committed p2) x
+    painted-append (hop_at M x) (gain (reread t.body) t.closing) (committed p2) x
     ∙ ap (λ ds. painted_over (painted_over (hop_at M x) (cond (is_done t.closing) ds []) x) (committed p2) x) (reread_changes t.body form.body_told)
     ∙ ap (λ o. painted_over o (committed p2) x) (form.paints x a)
     ∙ ih)))

@@ -10,16 +10,14 @@ use Rattle.ipnet_blocks.proofs.BlockLaws.{has_first}
 use Rattle.ipnet_blocks.proofs.BlockTests.{has_from_test, test_from_has}
 use Rattle.ipnet_blocks.proofs.Maximals.{maximal_is_union}
 use Rattle.route_lines.specs.declared.reply.Reply.{Reply}
-use Rattle.route_table.specs.Changes.{changed, same_number}
+use Rattle.route_table.specs.Changes.{changed}
 use Rattle.route_table.specs.Tables.{Route, Changed, hop_at}
-use Rattle.route_table.proofs.Changes.{changed_is_maximal, same_from_test, same_itself}
+use Rattle.route_table.proofs.Changes.{changed_is_maximal}
 use Rattle.route_table.proofs.Gaps.{of_network_at}
 use Rattle.route_feed.specs.Steps.{change_line, change_lines}
 use Rattle.route_feed.specs.Streams.{Change, change_of, painted_over}
-
-pub painted_more : (now : Option ℕ) (cs ds : List Change) (x : Address) → painted_over now (cs ++ ds) x ≡ painted_over (painted_over now cs x) ds x
-painted_more now [] ds x = refl
-painted_more now (c ∷ cs) ds x = painted_more (cond (has_address c.block x) c.number now) cs ds x
+use Rattle.route_feed.proofs.Carried.{painted-append}
+use Rattle.route_feed.proofs.Told.{same_or_not}
 
 -- the changes that lines tell
 abbrev pub changes_in : List Reply → List Change
@@ -56,16 +54,9 @@ module _ (h : Address → Option ℕ) (x : Address) (hop : Option ℕ) where
       go true e more = more (h (first_of b)) (inl (all b (inl refl) (has_from_test b x e)))
       go false e more = more now (later e some)
 
-decide_same : (o p : Option ℕ) → (o ≡ p) ⊎ (o ≢ p)
-decide_same o p = go (same_number o p) refl
-  where
-    go : (b : Bool) → same_number o p ≡ b → (o ≡ p) ⊎ (o ≢ p)
-    go true e = inl (same_from_test o p e)
-    go false e = inr (λ q. let t = same_itself p in let f : same_number p p ≡ false = subst (λ l. same_number l p ≡ false) q e in cc)
-
 module _ (M N : List Route) where
   decide_changed : (x : Address) → Changed M N x ⊎ (Changed M N x → ⊥)
-  decide_changed x = ⊎_elim (λ e. inr (λ d. d e)) (λ d. inl d) (decide_same (hop_at M x) (hop_at N x))
+  decide_changed x = ⊎_elim (λ e. inr (λ d. d e)) (λ d. inl d) (same_or_not (hop_at M x) (hop_at N x))
 
   -- an address that has changed lies in a block of the change
   in_changes : (x : Address) → IsAddress x → Changed M N x → (b : Block) × In b (maximal_of (changed M N)) × HasAddress b x
@@ -81,4 +72,4 @@ module _ (M N : List Route) where
       ap (λ cs. painted_over (hop_at M x) cs x) (changes_read (hop_at N) (maximal_of (changed M N)))
       ∙ paints (hop_at N) x (hop_at N x) (hop_at M x) (maximal_of (changed M N))
       (λ b i k. all b i (first_of b) (has_first b) ∙ sym (all b i x k))
-      (⊎_elim (λ e. inl e) (λ d. inr (in_changes x a d)) (decide_same (hop_at M x) (hop_at N x)))
+      (⊎_elim (λ e. inl e) (λ d. inr (in_changes x a d)) (same_or_not (hop_at M x) (hop_at N x)))

@@ -128,7 +128,7 @@ found_is_printable (Some r) p e =
     let same : item_of r ≡ p = cc in
     subst (λ (q : IpNet × Hop). q.0 ≡ network_at (block q.0)) same (sym (ap network_at (of_network_at r.block)))
 
-same_or_not : (o p : Option ℕ) → (o ≡ p) ⊎ (o ≢ p)
+pub same_or_not : (o p : Option ℕ) → (o ≡ p) ⊎ (o ≢ p)
 same_or_not o p = go (same_number o p) refl
   where
     go : (b : Bool) → same_number o p ≡ b → (o ≡ p) ⊎ (o ≢ p)
