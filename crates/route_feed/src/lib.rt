@@ -13,6 +13,8 @@ mod error;
 mod follower;
 pub mod laws;
 mod leader;
+#[cfg(test)]
+mod manual;
 mod reading;
 #[cfg(test)]
 mod tests;

@@ -9,7 +9,7 @@ use std::io::{Read, Write};
 use std::test::Fail;
 
 // A run over memory: what a caller whose bytes are known has of `lead`.
-fn led(alloc: Global, input: &[u8]) -> Result<Vec<u8>, RunError>
+pub(crate) fn led(alloc: Global, input: &[u8]) -> Result<Vec<u8>, RunError>
     ensures { IfOk result (λ out. (refusals : List Bool) × (out.items ≡ output input.now refusals)) }
 {
     let mut reader = Counted::new(input);
@@ -224,7 +224,7 @@ fn errors(rt: HostRuntime) -> Result<(), Fail> {
 }
 
 // A run of a follower over memory: what a caller whose bytes are known has of `follow`.
-fn followed(alloc: Global, input: &[u8]) -> Result<Vec<u8>, RunError> {
+pub(crate) fn followed(alloc: Global, input: &[u8]) -> Result<Vec<u8>, RunError> {
     let mut reader = Counted::new(input);
     let mut writer = Counted::new(Vec::new(alloc));
     follow(alloc, &mut reader, &mut writer)?;

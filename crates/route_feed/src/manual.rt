@@ -1,0 +1,122 @@
+//! The examples of the manual: the bytes of the files in examples/, in the order of their names.
+use crate::tests::{followed, led};
+use crate::{Counted, RunError, follow};
+use std::test::Fail;
+
+// What a leader is given, and all that it writes.
+const LED: [(&[u8], &[u8]); 16] = [
+    (
+        b"add 10.0.0.0/8 1\nadd 10.0.0.0/9 2\nadd 10.0.0.0/8 3\nadd 10.0.0.0/8 3\nadd 2001:db8::/32 7\n",
+        b"set 10.0.0.0/8 1\nok\nset 10.0.0.0/9 2\nok\nset 10.128.0.0/9 3\nok\nok\nset 2001:db8::/32 7\nok\n",
+    ),
+    (
+        b"ADD 10.0.0.0/8 1\nadd  10.0.0.0/8 1\nadd 10.0.0.0 1\nadd 10.0.0.0/33 1\nadd 10.0.0.0/8 01\nadd 10.0.0.0/8 4294967296\nown drop\nfrom 10.0.0.0/8 1001\n\nflat",
+        b"bad\nbad\nbad\nbad\nbad\nbad\nbad\nbad\nbad\nbad\n",
+    ),
+    (
+        b"add 10.1.0.0/16 2\nadd 10.0.0.0/8 1\ndel 10.1.0.0/16\n",
+        b"set 10.1.0.0/16 2\nok\nset 10.0.0.0/16 1\nset 10.2.0.0/15 1\nset 10.4.0.0/14 1\nset 10.8.0.0/13 1\nset 10.16.0.0/12 1\nset 10.32.0.0/11 1\nset 10.64.0.0/10 1\nset 10.128.0.0/9 1\nok\nset 10.1.0.0/16 1\nok\n",
+    ),
+    (
+        b"count\nadd 10.0.0.0/8 1\nadd 10.0.0.0/9 drop\nadd 2001:db8::/32 1\ncount\n",
+        b"count 0 0\nok\nset 10.0.0.0/8 1\nok\nunset 10.0.0.0/9\nok\nset 2001:db8::/32 1\nok\ncount 2 1\nok\n",
+    ),
+    (
+        b"add 10.0.0.0/8 1\nadd 10.1.0.0/16 2\nadd 10.1.2.0/24 drop\ncover 10.1.2.3/32\ncover 10.1.0.0/16\ncover 11.0.0.0/8\n",
+        b"set 10.0.0.0/8 1\nok\nset 10.1.0.0/16 2\nok\nunset 10.1.2.0/24\nok\nroute 10.0.0.0/8 1\nroute 10.1.0.0/16 2\nroute 10.1.2.0/24 drop\nok\nroute 10.0.0.0/8 1\nroute 10.1.0.0/16 2\nok\nok\n",
+    ),
+    (
+        b"add 10.0.0.0/8 1\nadd 10.0.0.0/9 2\ndel 10.0.0.0/9\ndel 10.0.0.0/9\ndel 10.0.0.0/8\n",
+        b"set 10.0.0.0/8 1\nok\nset 10.0.0.0/9 2\nok\nset 10.0.0.0/9 1\nok\nnone\nunset 10.0.0.0/8\nok\n",
+    ),
+    (
+        b"add 10.0.0.0/30 1\nadd 10.0.0.0/31 drop\nget 10.0.0.1/32\nadd 10.0.0.1/32 2\nflat\n",
+        b"set 10.0.0.0/30 1\nok\nunset 10.0.0.0/31\nok\nroute 10.0.0.0/31 drop\nok\nset 10.0.0.1/32 2\nok\nflat 10.0.0.1/32 2\nflat 10.0.0.2/31 1\nok\n",
+    ),
+    (
+        b"add 10.0.0.0/8 1\nadd 10.0.0.0/9 2\nadd 10.64.0.0/10 1\nflat\n",
+        b"set 10.0.0.0/8 1\nok\nset 10.0.0.0/9 2\nok\nset 10.64.0.0/10 1\nok\nflat 10.0.0.0/10 2\nflat 10.64.0.0/10 1\nflat 10.128.0.0/9 1\nok\n",
+    ),
+    (
+        b"add 10.0.0.0/9 1\nadd 10.128.0.0/9 1\nadd 10.1.0.0/16 1\nadd ::/0 4\nflat\n",
+        b"set 10.0.0.0/9 1\nok\nset 10.128.0.0/9 1\nok\nok\nset ::/0 4\nok\nflat 10.0.0.0/8 1\nflat ::/0 4\nok\n",
+    ),
+    (
+        b"add 10.0.0.0/8 1\nadd 10.1.0.0/16 2\nget 10.1.2.3/32\nget 10.0.0.0/12\nget 0.0.0.0/0\n",
+        b"set 10.0.0.0/8 1\nok\nset 10.1.0.0/16 2\nok\nroute 10.1.0.0/16 2\nok\nroute 10.0.0.0/8 1\nok\nnone\n",
+    ),
+    (
+        b"add 11.0.0.0/8 3\nadd 10.0.0.0/8 1\nadd 10.1.0.0/16 2\nlist 10.0.0.0/8\nlist 0.0.0.0/0\nlist 12.0.0.0/8\n",
+        b"set 11.0.0.0/8 3\nok\nset 10.0.0.0/8 1\nok\nset 10.1.0.0/16 2\nok\nroute 10.0.0.0/8 1\nroute 10.1.0.0/16 2\nok\nroute 10.0.0.0/8 1\nroute 10.1.0.0/16 2\nroute 11.0.0.0/8 3\nok\nok\n",
+    ),
+    (
+        b"add 10.0.0.0/30 1\nadd 10.0.0.1/32 2\nown 1\nown 2\nown 3\n",
+        b"set 10.0.0.0/30 1\nok\nset 10.0.0.1/32 2\nok\nown 10.0.0.0/32\nown 10.0.0.2/31\nok\nown 10.0.0.1/32\nok\nok\n",
+    ),
+    (
+        b"add 10.0.0.0/8 1\nadd 10.1.0.0/16 2\nadd 11.0.0.0/8 3\nadd ::/0 4\nfrom 0.0.0.0/0 2\nafter 10.1.0.0/16 2\nafter 11.0.0.0/8 2\n",
+        b"set 10.0.0.0/8 1\nok\nset 10.1.0.0/16 2\nok\nset 11.0.0.0/8 3\nok\nset ::/0 4\nok\nroute 10.0.0.0/8 1\nroute 10.1.0.0/16 2\nok\nroute 11.0.0.0/8 3\nok\nok\n",
+    ),
+    (
+        b"add 10.0.0.0/10 2\nadd 10.64.0.0/10 1\nadd 10.128.0.0/9 1\nflat\n",
+        b"set 10.0.0.0/10 2\nok\nset 10.64.0.0/10 1\nok\nset 10.128.0.0/9 1\nok\nflat 10.0.0.0/10 2\nflat 10.64.0.0/10 1\nflat 10.128.0.0/9 1\nok\n",
+    ),
+    (
+        b"add 10.0.0.0/8 1\nadd 10.0.0.0/9 2\nadd 10.64.0.0/10 1\nflat\nget 10.1.2.3/32\nadd 10.0.0.0/8 3\ndel 10.0.0.0/9\n",
+        b"set 10.0.0.0/8 1\nok\nset 10.0.0.0/9 2\nok\nset 10.64.0.0/10 1\nok\nflat 10.0.0.0/10 2\nflat 10.64.0.0/10 1\nflat 10.128.0.0/9 1\nok\nroute 10.0.0.0/9 2\nok\nset 10.128.0.0/9 3\nok\nset 10.0.0.0/10 3\nok\n",
+    ),
+    (
+        b"add 10.1.2.3/8 1\nadd 010.128.000.000/09 2\nadd 2001:0DB8:0:0:1:0:0:1/128 3\nadd ::FFFF:192.0.2.0/120 4\n",
+        b"set 10.0.0.0/8 1\nok\nset 10.128.0.0/9 2\nok\nset 2001:db8::1:0:0:1/128 3\nok\nset ::ffff:192.0.2.0/120 4\nok\n",
+    ),
+];
+
+// What a follower is given, and all that it writes.
+const FOLLOWED: [(&[u8], &[u8]); 4] = [
+    (
+        b"set 10.0.0.0/8 1\nok\nset 10.0.0.0/8 2\nrefused\nset 10.0.0.0/8 3\nnone\nset 10.0.0.0/8 4\nbad\nset 10.0.0.0/8 5\nroute 10.0.0.0/8 6\ncount 1 0\n",
+        b"flat 10.0.0.0/8 1\nok\n",
+    ),
+    (
+        b"set 10.0.0.0/8 1\nok\nset 10.0.0.0/9 2\nok\nset 1",
+        b"flat 10.0.0.0/9 2\nflat 10.128.0.0/9 1\nok\n",
+    ),
+    (
+        b"set 10.0.0.0/8 1\nset 10.0.0.0/9 2\nunset 10.64.0.0/10\nok\n",
+        b"flat 10.0.0.0/10 2\nflat 10.128.0.0/9 1\nok\n",
+    ),
+    (
+        b"set 10.0.0.0/8 1\nok\nset 10.0.0.0/9 2\nok\nset 10.64.0.0/10 1\nok\nflat 10.0.0.0/10 2\nflat 10.64.0.0/10 1\nflat 10.128.0.0/9 1\nok\n",
+        b"flat 10.0.0.0/10 2\nflat 10.64.0.0/10 1\nflat 10.128.0.0/9 1\nok\n",
+    ),
+];
+
+const FOREIGN: &[u8] = b"set 10.0.0.0/8 1\nok\nadd 10.0.0.0/9 2\n";
+
+#[test]
+fn led_examples(rt: HostRuntime) -> Result<(), Fail> {
+    for (input, wanted) in LED {
+        let out = led(rt.alloc(), input)?;
+        assert_eq!(rt; out.as_slice(), wanted);
+    }
+    Ok(())
+}
+
+#[test]
+fn followed_examples(rt: HostRuntime) -> Result<(), Fail> {
+    for (input, wanted) in FOLLOWED {
+        let out = followed(rt.alloc(), input)?;
+        assert_eq!(rt; out.as_slice(), wanted);
+    }
+    Ok(())
+}
+
+#[test]
+fn foreign_example(rt: HostRuntime) {
+    let mut reader = Counted::new(FOREIGN);
+    let mut writer = Counted::new(Vec::new(rt.alloc()));
+    let result = follow(rt.alloc(), &mut reader, &mut writer);
+    assert_eq!(rt; result, Err(RunError::Line));
+    let out = writer.into_inner();
+    assert_eq!(rt; out.is_empty(), true);
+}
