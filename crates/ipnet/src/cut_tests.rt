@@ -3,6 +3,8 @@ use crate::{
     IpAddr, IpAddrRange, IpNet, IpSubnets, Ipv4Addr, Ipv4AddrRange, Ipv4Net, Ipv4Subnets, Ipv6Addr,
     Ipv6AddrRange, Ipv6Net, Ipv6Subnets, PrefixLenError,
 };
+use ipnet_blocks::contains::is_inside;
+use ipnet_blocks::cut::first_cut;
 use std::process::Abort;
 use std::str::FromStr;
 use std::test::Fail;
@@ -207,4 +209,16 @@ fn aggregates_of_one_family(rt: HostRuntime) -> Result<(), Fail> {
     let none: Vec<Ipv4Net> = Vec::new(alloc);
     assert_eq!(rt; Ipv4Net::aggregate(alloc, &none)?.len(), 0);
     Ok(())
+}
+
+// From 10.0.0.0 to 10.0.0.239 the largest first block is 10.0.0.0/25, and it is inside 10.1.2.3/8.
+#[test]
+fn first_block(rt: HostRuntime) {
+    let cut = first_cut(32, 0x0a00_0000, 0x0a00_00ef, 0);
+    assert_eq!(rt;
+        (cut.len, cut.start, cut.end),
+        (25, 0x0a00_0080, 0x0a00_00ef)
+    );
+    assert!(rt; is_inside(32, 0x0a00_0000, 25, 0x0a01_0203, 8));
+    assert!(rt; !is_inside(32, 0x0a01_0203, 8, 0x0a00_0000, 25));
 }

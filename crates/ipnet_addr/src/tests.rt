@@ -1,6 +1,7 @@
 //! What no contract says: the text of an error, and each call once on values from outside.
 use crate::ipext::{IpAdd, IpBitAnd, IpBitOr, IpStep, IpSub};
 use crate::mask::{PrefixLenError, ip_mask_to_prefix, ipv4_mask_to_prefix, ipv6_mask_to_prefix};
+use crate::ranges::Ipv4AddrRange;
 use std::fmt::Write;
 use std::net::{IpAddr, Ipv4Addr, Ipv6Addr};
 use std::test::Fail;
@@ -104,4 +105,13 @@ fn masks(rt: HostRuntime) -> Result<(), Fail> {
         "invalid IP prefix length"
     );
     Ok(())
+}
+
+#[test]
+fn range(rt: HostRuntime) {
+    let mut left = Ipv4AddrRange::new(Ipv4Addr::new(10, 0, 0, 1), Ipv4Addr::new(10, 0, 0, 4));
+    assert_eq!(rt; left.count(), 4);
+    assert_eq!(rt; left.next_back(), Some(Ipv4Addr::new(10, 0, 0, 4)));
+    assert_eq!(rt; left.nth(1), Some(Ipv4Addr::new(10, 0, 0, 2)));
+    assert_eq!(rt; left.max(), Some(Ipv4Addr::new(10, 0, 0, 3)));
 }

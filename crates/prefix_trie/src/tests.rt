@@ -7,6 +7,7 @@ use crate::{PrefixMap, PrefixSet, Refused};
 use std::alloc::Global;
 use std::cell::Cell;
 use std::process::Abort;
+use std::test::Fail;
 
 /// A map of these entries.
 fn map_of<const N: usize>(
@@ -145,6 +146,19 @@ fn sets_copied(rt: HostRuntime) {
 }
 
 /// Each request for memory may be refused: the set is as it was.
+#[test]
+fn errors(rt: HostRuntime) -> Result<(), Fail> {
+    assert_eq!(rt;
+        format!(in rt.alloc(); "{}", Refused::Memory)?.as_str(),
+        "out of memory"
+    );
+    assert_eq!(rt;
+        format!(in rt.alloc(); "{}", Refused::Full)?.as_str(),
+        "the map is full"
+    );
+    Ok(())
+}
+
 #[test]
 fn refused(rt: HostRuntime) {
     let mut set: PrefixSet<(u32, u8)> = PrefixSet::new(rt.alloc()).expect(&rt, "a set");

@@ -220,6 +220,13 @@ fn errors(rt: HostRuntime) -> Result<(), Fail> {
     ] {
         assert_eq!(rt; format!(in rt.alloc(); "{error}")?.as_str(), wanted);
     }
+    for (error, wanted) in [
+        (FollowError::Memory, "no memory"),
+        (FollowError::NotALine, "not a reply line"),
+        (FollowError::Failed, "failed before"),
+    ] {
+        assert_eq!(rt; format!(in rt.alloc(); "{error}")?.as_str(), wanted);
+    }
     Ok(())
 }
 

@@ -1,7 +1,8 @@
 //! Texts as rows: what is read, and what is printed again.
-use crate::{Closing, Command, Reply};
+use crate::{Closing, Command, NotALine, Reply};
 use route_table::Hop;
 use std::process::Abort;
+use std::test::Fail;
 
 /// The text spells a reply line, which is printed so; or none, where nothing is expected.
 fn printed(rt: &impl Abort, text: &str, expected: &str) {
@@ -89,4 +90,13 @@ fn values(rt: HostRuntime) {
         Reply::Close(Closing::Missing).print().as_slice(),
         "none\n".as_bytes()
     );
+}
+
+#[test]
+fn error(rt: HostRuntime) -> Result<(), Fail> {
+    assert_eq!(rt;
+        format!(in rt.alloc(); "{NotALine}")?.as_str(),
+        "not a line of the grammar"
+    );
+    Ok(())
 }

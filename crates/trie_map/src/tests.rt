@@ -10,6 +10,8 @@ use ipnet::{Ipv4Net, Ipv6Net};
 use std::alloc::Global;
 use std::process::Abort;
 use std::str::FromStr;
+use std::test::Fail;
+use trie_core::{Node, Path};
 
 /// An IPv4 network, which is never longer than its family allows.
 pub(crate) fn net(rt: &impl Abort, text: &str) -> Ipv4Net
@@ -335,4 +337,19 @@ fn walks_of_128_bits(rt: HostRuntime) {
     for (network, expected) in [("::1/128", 12), ("::/126", 1)].iter() {
         assert_eq!(rt; digits(map.cover(&wide_net(&rt, network))), *expected);
     }
+}
+
+// A node below `PrefixMap`: the bits of 10.0.0.0/8 and of 10.1.0.0/16, at the top of 128.
+#[test]
+fn node_calls(rt: HostRuntime) -> Result<(), Fail> {
+    let mut node: Node<u32> = Node::new(rt.alloc());
+    let short = Path::new(0x0a << 120, 8);
+    let long = Path::new(0x0a01 << 112, 16);
+    assert!(rt; matches!(node.insert(short.clone()?, 1, true, 9), Ok((None, 1))));
+    assert!(rt; matches!(node.insert(long.clone()?, 2, true, 9), Ok((None, 2))));
+    assert!(rt; matches!(node.longest(long.extended(true)), Some((16, 2))));
+    assert!(rt; matches!(node.shortest(long.clone()?), Some((8, 1))));
+    assert!(rt; matches!(node.remove(long), (Some(2), 2)));
+    assert!(rt; matches!(node.get(short), Some(1)));
+    Ok(())
 }
