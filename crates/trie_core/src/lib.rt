@@ -15,5 +15,5 @@ mod walk;
 pub use cover::Cover;
 pub use node::Node;
 pub use owned::OwnedWalk;
-pub use trie_keys::{Key, Path, Prefix, path_of, shortened};
+pub use trie_keys::{Key, Path, Prefix, laws, path_of, shortened};
 pub use walk::Walk;

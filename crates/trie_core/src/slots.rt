@@ -43,17 +43,14 @@ pub(crate) fn get_at<X>(taken: u32, items: &[X], place: u8) -> Option<&X>
     }
 }
 
-/// Makes room for one thing more: at first for one alone, since most lists stay that short, and then for more at once.
+/// Makes room for one thing more, and for no other: most lists stay short, and there are many of them.
 #[inline]
 pub(crate) fn reserve_one<X>(items: &mut Vec<X>) -> Result<(), AllocError>
     ensures items { items.new.items ≡ items.old.items }
     ensures ok { OnOk result (vec_len items.new < vec_capacity items.new) }
     ensures succeeds { vec_len items.old < vec_capacity items.old → IsOk result }
 {
-    if items.is_empty() {
-        return items.reserve_exact(1);
-    }
-    items.reserve(1)
+    items.reserve_exact(1)
 }
 
 /// Stores the thing at the place, and answers what stood there.
@@ -86,7 +83,7 @@ pub(crate) fn put_at<X>(
             Ok(Some(mem::replace(item, thing)))
         }
         None => {
-            if !may_grow {
+            if !may_grow || reserve_one(items).is_err() {
                 return Err(thing);
             }
             match items.insert(taken_below(word, place), thing) {

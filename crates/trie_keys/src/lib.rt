@@ -2,6 +2,7 @@
 #![tactic(auto)]
 
 mod key;
+pub mod laws;
 mod path;
 mod prefix;
 mod tables;

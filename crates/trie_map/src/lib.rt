@@ -27,4 +27,4 @@ pub use iter::{Iter, Keys, Values};
 pub use iter_mut::{IterMut, ValuesMut};
 pub use map::PrefixMap;
 pub use refused::Refused;
-pub use trie_core::{Key, Prefix};
+pub use trie_core::{Key, Prefix, laws};

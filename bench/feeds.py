@@ -1,0 +1,129 @@
+#!/usr/bin/env python3
+"""Writes a feed for `routes lead` to standard output, the same for the same arguments.
+
+usage: feeds.py load|churn|walks v4|v6 COUNT [SEED]
+
+    load    COUNT adds of distinct networks, then flat
+    churn   COUNT adds, then COUNT lines: adds of new and of stored networks, dels, gets; then flat
+    walks   COUNT adds, then COUNT / 10 lines: list, cover, from, after and count; then flat
+
+The lengths lie as in a table of the public internet: most are /24 (IPv4) or /48 (IPv6), and they lie inside
+allocations, some of which are announced themselves. Hops are few, and some are far more frequent than others."""
+import ipaddress
+import random
+import sys
+
+LENGTHS = {
+    "v4": {24: 600, 23: 100, 22: 110, 21: 50, 20: 45, 19: 25, 18: 15, 17: 9, 16: 14, 14: 2, 12: 1, 32: 10, 28: 4},
+    "v6": {48: 450, 32: 150, 44: 110, 40: 95, 36: 50, 29: 40, 33: 20, 46: 15, 34: 12, 64: 12, 56: 6, 128: 6},
+}
+ALLOCATIONS = {"v4": range(11, 21), "v6": (20, 24, 28, 29, 32)}
+WIDTH = {"v4": 32, "v6": 128}
+HOPS = 24
+
+
+class Networks:
+    """Draws networks of one family."""
+
+    def __init__(self, draw, family, count):
+        self.draw, self.family, self.width = draw, family, WIDTH[family]
+        self.lengths = list(LENGTHS[family])
+        self.weights = list(LENGTHS[family].values())
+        self.allocations = [self.allocation() for _ in range(max(20, count // 40))]
+
+    def allocation(self):
+        length = self.draw.choice(ALLOCATIONS[self.family])
+        if self.family == "v4":
+            first = self.draw.randrange(1 << 24, 224 << 24)
+        else:
+            first = 1 << 125 | self.draw.getrandbits(125)
+        return first >> self.width - length << self.width - length, length
+
+    def network(self):
+        length = self.draw.choices(self.lengths, self.weights)[0]
+        first, inside = self.allocations[int(len(self.allocations) * self.draw.random() ** 1.7)]
+        if length > inside:
+            first |= self.draw.getrandbits(length - inside) << self.width - length
+        return first >> self.width - length << self.width - length, length
+
+    def text(self, network):
+        address = (ipaddress.IPv4Address if self.family == "v4" else ipaddress.IPv6Address)(network[0])
+        return f"{address}/{network[1]}"
+
+    def host(self, network):
+        first, length = network
+        return first | (self.draw.getrandbits(self.width - length) if length < self.width else 0), self.width
+
+
+class Feed:
+    """A feed, and the networks that a leader of it holds."""
+
+    def __init__(self, family, count, seed):
+        self.draw = random.Random(f"{family} {count} {seed}")
+        self.networks = Networks(self.draw, family, count)
+        self.held, self.place = [], {}
+        self.lines = []
+        while len(self.held) < count:
+            network = self.networks.network()
+            if network not in self.place:
+                self.add(network)
+
+    def say(self, word, network, *more):
+        self.lines.append(" ".join((word, self.networks.text(network), *more)) + "\n")
+
+    def hop(self):
+        return "drop" if self.draw.random() < 0.02 else str(1 + int(HOPS * self.draw.random() ** 3))
+
+    def any(self):
+        return self.draw.choice(self.held)
+
+    def add(self, network):
+        if network not in self.place:
+            self.place[network] = len(self.held)
+            self.held.append(network)
+        self.say("add", network, self.hop())
+
+    def delete(self):
+        network = self.any()
+        place, last = self.place.pop(network), self.held.pop()
+        if last != network:
+            self.held[place], self.place[last] = last, place
+        self.say("del", network)
+
+    def change(self):
+        kind = self.draw.random()
+        if kind < 0.2:
+            self.add(self.networks.network())
+        elif kind < 0.4:
+            self.add(self.any())
+        elif kind < 0.6 and len(self.held) > 1:
+            self.delete()
+        else:
+            known = self.draw.random() < 0.8
+            self.say("get", self.networks.host(self.any() if known else self.networks.network()))
+
+    def walk(self):
+        kind, network = self.draw.randrange(5), self.any()
+        if kind == 0:
+            length = max(network[1] - 8, 12)
+            self.say("list", (network[0], length))
+        elif kind == 1:
+            self.say("cover", self.networks.host(network))
+        elif kind == 4:
+            self.lines.append("count\n")
+        else:
+            self.say("from" if kind == 2 else "after", network, "20")
+
+
+def main():
+    if len(sys.argv) not in (4, 5) or sys.argv[1] not in ("load", "churn", "walks") or sys.argv[2] not in WIDTH:
+        sys.exit(__doc__)
+    kind, family, count = sys.argv[1], sys.argv[2], int(sys.argv[3])
+    feed = Feed(family, count, sys.argv[4] if len(sys.argv) == 5 else "1")
+    for _ in range({"load": 0, "churn": count, "walks": count // 10}[kind]):
+        feed.change() if kind == "churn" else feed.walk()
+    sys.stdout.writelines(feed.lines)
+    print("flat")
+
+
+main()
