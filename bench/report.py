@@ -39,8 +39,8 @@ class Row(namedtuple("Row", "title given answered lead follow")):
     def ratios(self):
         ours, peer = "ours", "peer"
         return [
-            f"{self.lead[peer].seconds / max(self.lead[ours].seconds, 0.01):.2f}",
-            f"{self.follow[peer].seconds / max(self.follow[ours].seconds, 0.01):.2f}",
+            ratio(self.lead[peer].seconds, self.lead[ours].seconds),
+            ratio(self.follow[peer].seconds, self.follow[ours].seconds),
             f"{self.lead[ours].kilobytes / self.lead[peer].kilobytes:.2f}",
             f"{self.follow[ours].kilobytes / self.follow[peer].kilobytes:.2f}",
         ]
@@ -48,6 +48,11 @@ class Row(namedtuple("Row", "title given answered lead follow")):
     def text(self):
         told = "; ".join(f"{name}: {', '.join(self.cells(name))}" for name in self.lead)
         return f"{self.title}: {self.given[0]} lines in, {self.answered[0]} out; {told}"
+
+
+def ratio(theirs, ours):
+    """Nothing is told by runs that are over at once."""
+    return f"{theirs / ours:.2f}" if min(theirs, ours) >= 0.05 else "-"
 
 
 def rate(amount, seconds):
@@ -81,8 +86,8 @@ def write(docs, feeds, growth, runs):
     if all("peer" in row.lead for row in feeds + loads):
         head = ["feed", "lead", "follow", "memory of lead", "memory of follow"]
         text += (
-            "\n## Beside a Rust program\n\nA plain program with the same two modes over the Rust crate `prefix-trie` 0.10.1, run in turns with ours in the "
-            "same run; its outputs were compared with ours. Speed as ours over its (above 1 we are faster), memory as ours over its "
+            "\n## Beside a Rust program\n\nA plain program with the same two modes over the Rust crate `prefix-trie` 0.10.1, run in turns with ours in the\n"
+            "same run; its outputs were compared with ours. Speed as ours over its (above 1 we are faster), memory as ours over its\n"
             "(below 1 we use less).\n\n"
         )
         text += table(head, [[row.title] + row.ratios() for row in feeds + loads])

@@ -40,7 +40,7 @@ first_step b front back later false [] e f h = (onto_first b later, rw (e, f, h)
 first_step b front back later false (l ∷ ls) e f h = (later, rw (e, f, h) refl)
 
 -- the lines of a beginning are the first lines
-first_lines : (front back : List ℕ) → (later : List (List ℕ)) × (lines (front ++ back) ≡ lines front ++ later)
+pub first_lines : (front back : List ℕ) → (later : List (List ℕ)) × (lines (front ++ back) ≡ lines front ++ later)
 first_lines [] back = (lines back, refl)
 first_lines (b ∷ front) back = let (later, e) = first_lines front back in first_step b front back later (b == 10) (lines front) refl refl e
 
@@ -106,10 +106,10 @@ reread_turn t ls =
     ∙ filter_map-append (λ l. reply_of (reply_text l)) t.body (Close t.closing ∷ ls)
     ∙ ap (λ o. reread t.body ++ cons_option o (reread ls)) (closing_read t.closing)
 
-abbrev AreInRange : List (Option Command) → Type 0
+abbrev pub AreInRange : List (Option Command) → Type 0
 AreInRange commands = (c : Option Command) → In c commands → IsInRange c
 
-replies_clean : (M : List Route) (commands : List (Option Command)) (r : List Bool) → IsTable M → AreInRange commands → AreClean (replies M commands r)
+pub replies_clean : (M : List Route) (commands : List (Option Command)) (r : List Bool) → IsTable M → AreInRange commands → AreClean (replies M commands r)
 replies_clean M [] r m h = tt
 replies_clean M (c ∷ cs) r m h =
     let t = turn.step M c (first_or_false r) in
@@ -147,7 +147,7 @@ followed M (c ∷ cs) r p q m h e x a =
     ∙ ih)))
     (split_at_closing p q (reread t.body) t.closing tail open_lines (e ∙ reread_turn t (replies t.next cs rs)))
 
-empty_is_table : IsTable []
+pub empty_is_table : IsTable []
 empty_is_table = record {
   blocks = All-nil (λ (r : Route). IsBlock r.block);
   hops = All-nil (λ (r : Route). IsHop r.hop);
@@ -164,10 +164,10 @@ end_in_range [] c i = absurd i
 end_in_range (b ∷ bs) c (inl e) = subst IsInRange (sym e) tt
 end_in_range (b ∷ bs) c (inr i) = absurd i
 
-abbrev commands_of : List ℕ → List (Option Command)
+abbrev pub commands_of : List ℕ → List (Option Command)
 commands_of bytes = whole_commands bytes ++ at_end (rest bytes)
 
-all_in_range : (bytes : List ℕ) → AreInRange (commands_of bytes)
+pub all_in_range : (bytes : List ℕ) → AreInRange (commands_of bytes)
 all_in_range bytes c i = ⊎_elim (lines_in_range (lines_of bytes) c) (end_in_range (rest bytes) c) (In-cases c (whole_commands bytes) (at_end (rest bytes)) i)
 
 -- the replies in a beginning are the first of those that are read of the output

@@ -12,3 +12,4 @@ pub mod ReadNets
 pub mod Reread
 pub mod Turns
 pub mod Beginnings
+pub mod Grammar

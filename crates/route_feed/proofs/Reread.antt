@@ -55,7 +55,7 @@ pub AreClean-append : (ls ms : List Reply) → AreClean ls → AreClean ms → A
 AreClean-append [] ms p q = q
 AreClean-append (l ∷ ls) ms p q = (p.0, AreClean-append ls ms p.1 q)
 
-first_line : (text bytes : List ℕ) → AllByRecursion (λ c. c ≢ 10) text → lines (text ++ 10 ∷ bytes) ≡ text ∷ lines bytes
+pub first_line : (text bytes : List ℕ) → AllByRecursion (λ c. c ≢ 10) text → lines (text ++ 10 ∷ bytes) ≡ text ∷ lines bytes
 first_line [] bytes h = refl
 first_line (c ∷ cs) bytes h =
     let other : (c == 10) ≡ false = let d = h.0 in grind (arith, nat_tests) in
@@ -85,8 +85,19 @@ abbrev pub Keeps : Reply → Option Reply → Type 0
 Keeps l None = change_of l ≡ None
 Keeps l (Some m) = (closing_of m ≡ None) × (change_of m ≡ change_of l)
 
+-- numbers of routes that a line can spell
+abbrev pub IsSmall : Reply → Type 0
+IsSmall (R.Set net n) = Unit {0}
+IsSmall (R.Unset net) = Unit {0}
+IsSmall (R.Route net hop) = Unit {0}
+IsSmall (R.Flat net n) = Unit {0}
+IsSmall (R.Own net) = Unit {0}
+IsSmall (R.Count v4 v6) = (v4 ≤ 0xffffffffffffffff) × (v6 ≤ 0xffffffffffffffff)
+IsSmall (R.Close closing) = Unit {0}
+
 pub record IsTold (l : Reply) : Type 0 where
   pub clean : IsClean l
+  pub spelled : IsSmall l → IsReply (reply_text l) l
   pub kept : Keeps l (reply_of (reply_text l))
 
 abbrev pub AreTold : List Reply → Type 0
@@ -131,6 +142,7 @@ closing_is_clean closing = clean_reply (closing_text closing) (R.Close closing) 
 told_if_read : (l : Reply) → closing_of l ≡ None → IsReply (reply_text l) l → IsTold l
 told_if_read l none h = record {
   clean = clean_reply (reply_text l) l h;
+  spelled = λ _. h;
   kept = subst (Keeps l) (sym (reply_is (reply_text l) l h)) (none, refl);
 }
 
@@ -248,6 +260,7 @@ module _ (v4 v6 : ℕ) where
         (All-append (λ c. c ≢ 10) (codes "count " ++ decimal v4) (codes " ")
         (All-append (λ c. c ≢ 10) (codes "count ") (decimal v4) (written (codes "count ") refl) (decimal_clean v4)) (written (codes " ") refl))
         (decimal_clean v6);
+    spelled = prints count tt;
     kept = go (reply_of (reply_text count)) (reply_found (reply_text count));
   }
     where

@@ -1,9 +1,10 @@
 -- What a follower knows that has read any beginning of what a leader wrote.
-use Rattle.std.specs.Prelude.{◌≡◌, ℕ, Bool, List, [], ◌++◌, take}
+use Rattle.std.specs.Prelude.{◌≡◌, ◌<◌, ◌^◌, ℕ, Bool, List, [], ◌++◌, take, length}
 use Rattle.ipnet_addr.specs.Addresses.{Address, IsAddress}
-use Rattle.route_lines.specs.Bytes.{rest}
+use Rattle.route_lines.specs.Bytes.{lines, rest}
 use Rattle.route_table.specs.Flats.{flat_of}
 use Rattle.route_table.specs.Tables.{Route, hop_at}
+use Rattle.route_feed.specs.Follows.{AreReplies}
 use Rattle.route_feed.specs.Output.{table_after, whole_commands, at_end, output}
 use Rattle.route_feed.specs.Streams.{closings, committed, painted, replies_in}
 
@@ -20,3 +21,7 @@ BeginningsAgree = (bytes front back : List ℕ) (refusals : List Bool) → outpu
 abbrev pub FlatListsAgree : Type 0
 FlatListsAgree = (bytes front back : List ℕ) (refusals : List Bool) → output bytes refusals ≡ front ++ back
     → flat_of (painted (committed (replies_in front))) ≡ flat_of (hop_at (table_told bytes refusals front))
+
+-- each line of a beginning of the output is a reply line, where the input has fewer than 2^64 bytes, as every input has
+abbrev pub BeginningsAreReplies : Type 0
+BeginningsAreReplies = (bytes front back : List ℕ) (refusals : List Bool) → length bytes < 2 ^ 64 → output bytes refusals ≡ front ++ back → AreReplies (lines front)

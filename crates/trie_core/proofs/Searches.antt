@@ -227,6 +227,10 @@ module _ {X : Type 0} where
     })
     best_deeper {m} {n} {q} {p} d best (Some r) after a f g e = subst (IsBest m.0 q (d + 5)) (sym e) (found_deeper d r.0 a g)
 
+    pub longest_in_byte : (m : BitMap X) (q : List Bool) (o : Option (ℕ × S)) → length q ≤ 128 → MatchOption o (NoBeginning m q) (λ r. IsLongest m q r.0 (v r.1)) → MatchOption o (Unit {0}) (λ r. r.0 < 256)
+    longest_in_byte m q None h f = tt
+    longest_in_byte m q (Some r) h f = omega (arith, h, f.within)
+
     pub best_whole : (m : BitMap X) (q : List Bool) (high : ℕ) (o : Option (ℕ × S)) → length q < high → IsBest m q high o → MatchOption o (NoBeginning m q) (λ r. IsLongest m q r.0 (v r.1))
     best_whole m q high None h f = λ k l. f k (omega (arith, h, l)) l
     best_whole m q high (Some r) h f = record { within = f.within; found = f.found; longest = λ k i l. f.longest k i (omega (arith, h, l)) l }
@@ -279,6 +283,10 @@ module _ {X : Type 0} where
   none_stop d a h e f = best_stop {S = X} (λ s. s) d None a h e f
 
   module _ {S : Type 0} (v : S → X) where
+    pub shortest_in_byte : (m : BitMap X) (q : List Bool) (o : Option (ℕ × S)) → length q ≤ 128 → MatchOption o (NoBeginning m q) (λ r. IsShortest m q r.0 (v r.1)) → MatchOption o (Unit {0}) (λ r. r.0 < 256)
+    shortest_in_byte m q None h f = tt
+    shortest_in_byte m q (Some r) h f = omega (arith, h, f.within)
+
     pub shortest_whole : {m n : Seen X} {q p : List Bool} (d : ℕ) (found after : Option (ℕ × S)) → IsAt m q d n p → length q < d + 5 → NoneBelow m.0 q d → MatchOption found (NoneBelow n.0 p 5) (λ r. (r.0 < 5) × IsShortest n.0 p r.0 (v r.1)) → MatchOption found (after ≡ None) (λ r. after ≡ Some (d + r.0, r.1))
         → MatchOption after (NoBeginning m.0 q) (λ r. IsShortest m.0 q r.0 (v r.1))
     shortest_whole {m} {n} {q} {p} d None after a h f g e = subst (λ o. MatchOption o (NoBeginning m.0 q) (λ r. IsShortest m.0 q r.0 (v r.1))) (sym e) (λ k l. none_deeper d 5 a f g k (omega (arith, h, l)) l)

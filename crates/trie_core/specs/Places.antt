@@ -1,5 +1,5 @@
 -- Things at the places that a bitmap names.
-use Rattle.std.specs.Prelude.{◌≡◌, ℕ, zero, suc, ◌/◌, ◌%◌, ◌^◌, ◌<◌, Bool, cond, eqb, not, List, [], ◌∷◌, length, count_ones, Option, Some, None}
+use Rattle.std.specs.Prelude.{◌≡◌, ℕ, zero, suc, ◌/◌, ◌%◌, ◌^◌, ◌<◌, Bool, cond, eqb, not, List, [], ◌∷◌, count_ones, Option, Some, None}
 use Rattle.std.specs.Ordering.{nat_cmp, eq_by_cmp}
 use Rattle.std.specs.FinMap.Entries.{where_key}
 use Rattle.std.specs.Int.{bit_at}

@@ -1,9 +1,9 @@
 -- What walks have left.
-use Rattle.std.specs.Prelude.{ℕ, suc, ◌+◌, ◌*◌, ◌<◌, ◌≤◌, ◌≡◌, length, max, Bool, true, false, cond, not, ◌&&◌, T, List, [], ◌∷◌, ◌++◌, refl}
+use Rattle.std.specs.Prelude.{ℕ, suc, ◌+◌, ◌*◌, ◌<◌, ◌≤◌, ◌≡◌, length, max, Bool, true, false, T, List, [], ◌∷◌, ◌++◌, refl}
 use Rattle.std.specs.Coded.{Coded, code_by, coded×, coded_ℕ, coded_list, coded_bool}
 use Rattle.std.specs.Ordering.{nat_cmp, is_lt}
 use Rattle.std.specs.FinMap.{is_sorted, entries}
-use Rattle.trie_keys.specs.Bits.{bits_cmp, begins, place_string, child_string}
+use Rattle.trie_keys.specs.Bits.{bits_cmp, place_string, child_string}
 use Rattle.trie_core.specs.Places.{AllBelow, named}
 use Rattle.trie_core.specs.Nodes.{BitMap, Seen, under, node_map}
 use Rattle.trie_core.specs.Count.{all_nodes}

@@ -44,19 +44,32 @@ impl<T> Model for Node<T> {
     ghost size_decreases = { λ a h. most_le-node_height _ (λ c. Prim.omega arith) a.children.items };
 }
 
-/// What is found at a depth, and else the best so far.
+/// What is found at a depth, and else the best so far. The best has its length as a word, which is kept from level to
+/// level faster than a byte.
 #[inline]
 fn deeper<'a, T>(
-    best: Option<(u8, &'a T)>,
+    best: Option<(usize, &'a T)>,
     depth: u8,
     found: Option<(u8, &'a T)>,
-) -> Option<(u8, &'a T)>
+) -> Option<(usize, &'a T)>
     requires { MatchOption found (Unit {0}) (λ r. depth + r.0 < 256) }
     ensures { MatchOption found.entry (result ≡ best.entry) (λ r. result ≡ Some (depth + r.0, r.1)) }
 {
     match found {
         None => best,
-        Some((len, value)) => Some((depth + len, value)),
+        Some((len, value)) => Some((usize::from(depth + len), value)),
+    }
+}
+
+/// The same with its length as a byte.
+#[inline]
+fn in_byte<'a, T>(best: Option<(usize, &'a T)>) -> Option<(u8, &'a T)>
+    requires { MatchOption best (Unit {0}) (λ r. r.0 < 256) }
+    ensures { result ≡ best.entry }
+{
+    match best {
+        None => None,
+        Some((len, value)) => Some((len as u8, value)),
     }
 }
 
@@ -149,13 +162,13 @@ impl<T> Node<T> {
         'way: while !path.is_short() {
             best = deeper(best, depth, node.longest_here(&path));
             match node.child(&path) {
-                None => return best,
+                None => return in_byte(best),
                 Some(child) => node = child,
             }
             path = path.rest();
             depth += 5;
         }
-        deeper(best, depth, node.longest_here(&path))
+        in_byte(deeper(best, depth, node.longest_here(&path)))
     }
 
     /// The shortest beginning of the path that is a key, the path itself included.
@@ -177,7 +190,7 @@ impl<T> Node<T> {
             path = path.rest();
             depth += 5;
         }
-        deeper(None, depth, node.shortest_here(&path))
+        in_byte(deeper(None, depth, node.shortest_here(&path)))
     }
 
     /// How many nodes a search for the path enters.

@@ -43,14 +43,18 @@ pub(crate) fn get_at<X>(taken: u32, items: &[X], place: u8) -> Option<&X>
     }
 }
 
-/// Makes room for one thing more, and for no other: most lists stay short, and there are many of them.
+/// Makes room for one thing more, and mostly for no other: most lists stay short, and there are many of them. A list
+/// of half the things that there can be gets room for all.
 #[inline]
 pub(crate) fn reserve_one<X>(items: &mut Vec<X>) -> Result<(), AllocError>
     ensures items { items.new.items ≡ items.old.items }
     ensures ok { OnOk result (vec_len items.new < vec_capacity items.new) }
     ensures succeeds { vec_len items.old < vec_capacity items.old → IsOk result }
 {
-    items.reserve_exact(1)
+    if items.len() < items.capacity() {
+        return Ok(());
+    }
+    items.reserve_exact(if items.len() < 16 { 1 } else { 16 })
 }
 
 /// Stores the thing at the place, and answers what stood there.

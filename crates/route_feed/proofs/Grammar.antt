@@ -1,0 +1,204 @@
+-- Each line of an output is a reply line.
+use Rattle.std.proofs.Common.{◌≡◌, ◌≢◌, ◌==◌, ℕ, suc, ◌+◌, ◌≤◌, ◌<◌, ◌^◌, Bool, true, false, ◌&&◌, cond, List, [], ◌∷◌, ◌++◌, map, filter, length, All, Option, Some, None, refl, sym, ap, ◌∙◌, subst, inl, inr, arith, append_assoc}
+use Rattle.std.specs.Prelude.{IsSome, not}
+use Rattle.std.proofs.lemmas.List.Elements.{All-nil, All-cons, All-head, All-tail, recursion_from_All}
+use Rattle.std.proofs.lemmas.List.{length-append, length-map}
+use Rattle.ipnet_addr.specs.Addresses.{Ipv4, Ipv6, same_family}
+use Rattle.ipnet_addr.proofs.Members.{In}
+use Rattle.ipnet_blocks.specs.Blocks.{Block, first_of, is_before, same_block}
+use Rattle.ipnet_blocks.proofs.BlockLaws.{strict}
+use Rattle.ipnet_blocks.proofs.BlockTests.{before_from_test}
+use Rattle.ipnet.specs.IpNets.{block}
+use Rattle.route_lines.specs.Bytes.{lines, rest, onto_first}
+use Rattle.route_lines.specs.Lines.{line_of, lines_of}
+use Rattle.route_lines.specs.Spelled.{reply_of}
+use Rattle.route_lines.specs.Texts.{IsReply, reply_text}
+use Rattle.route_lines.specs.declared.command.Command.{Command}
+use Rattle.route_lines.specs.declared.command.Command.TheVariants as C
+use Rattle.route_lines.specs.declared.cutter.Line.{Line}
+use Rattle.route_lines.specs.declared.reply.Reply.{Reply}
+use Rattle.route_lines.specs.declared.reply.Reply.TheVariants.{Close}
+use Rattle.route_table.specs.Onwards.{count_of}
+use Rattle.route_table.specs.Stored.{route_of}
+use Rattle.route_table.specs.Tables.{Route, IsTable, hop_at, is_stored, match_of, with_route, without_block}
+use Rattle.route_feed.specs.Commands.{command_in}
+use Rattle.route_feed.specs.Follows.{AreReplies}
+use Rattle.route_feed.specs.Laws.{BeginningsAreReplies}
+use Rattle.route_feed.specs.Output.{replies, first_or_false, refusals_after, whole_commands, at_end, output}
+use Rattle.route_feed.specs.Replies.{printed}
+use Rattle.route_feed.specs.Steps as turn
+use Rattle.route_feed.proofs.Beginnings.{AreInRange, all_in_range, commands_of, empty_is_table, first_lines, replies_clean}
+use Rattle.route_feed.proofs.Reread.{AreClean, AreTold, IsSmall, first_line, reply_is}
+use Rattle.route_feed.proofs.Turns.{form_step}
+
+-- ---- lines that spell what they print
+
+abbrev AreSpelled : List Reply → Type 0
+AreSpelled [] = Unit {0}
+AreSpelled (l ∷ ls) = IsReply (reply_text l) l × AreSpelled ls
+
+AreSpelled-append : (ls ms : List Reply) → AreSpelled ls → AreSpelled ms → AreSpelled (ls ++ ms)
+AreSpelled-append [] ms p q = q
+AreSpelled-append (l ∷ ls) ms p q = (p.0, AreSpelled-append ls ms p.1 q)
+
+some_reply : (text : List ℕ) (r : Reply) → reply_of text ≡ Some r → IsSome (reply_of text)
+some_reply text r e = subst IsSome (sym e) refl
+
+-- the lines of what is printed
+printed_replies : (ls : List Reply) → AreClean ls → AreSpelled ls → AreReplies (lines (printed ls))
+printed_replies [] c s = All-nil (λ piece. IsSome (reply_of piece))
+printed_replies (l ∷ ls) c s =
+    let pieces : lines (printed (l ∷ ls)) ≡ reply_text l ∷ lines (printed ls) =
+    ap lines (append_assoc (reply_text l) (10 ∷ []) (printed ls))
+    ∙ first_line (reply_text l) (printed ls) (recursion_from_All (λ x. x ≢ 10) (reply_text l) c.0) in
+    subst AreReplies (sym pieces) (All-cons (λ piece. IsSome (reply_of piece)) (reply_text l) (lines (printed ls)) (some_reply (reply_text l) l (reply_is (reply_text l) l s.0)) (printed_replies ls c.1 s.1))
+
+first_all : (P : List ℕ → Type 0) (xs ys : List (List ℕ)) → All P (xs ++ ys) → All P xs
+first_all P [] ys h = All-nil P
+first_all P (x ∷ xs) ys h = All-cons P x xs (All-head P x (xs ++ ys) h) (first_all P xs ys (All-tail P x (xs ++ ys) h))
+
+-- ---- how long a table is
+
+two_filters : (p q : Route → Bool) → ((r : Route) → p r ≡ true → q r ≡ true → ⊥) → (M : List Route) → length (filter p M) + length (filter q M) ≤ length M
+two_filters p q apart [] = omega arith
+two_filters p q apart (r ∷ M) = go (p r) (q r) refl refl (two_filters p q apart M)
+  where
+    go : (a b : Bool) → p r ≡ a → q r ≡ b → length (filter p M) + length (filter q M) ≤ length M
+        → length (cond a (r ∷ filter p M) (filter p M)) + length (cond b (r ∷ filter q M) (filter q M)) ≤ suc (length M)
+    go true true e f h = absurd (apart r e f)
+    go true false e f h = omega (arith, h)
+    go false true e f h = omega (arith, h)
+    go false false e f h = omega (arith, h)
+
+filtered_length : (p : Route → Bool) (M : List Route) → length (filter p M) ≤ length M
+filtered_length p [] = omega arith
+filtered_length p (r ∷ M) = go (p r) (filtered_length p M)
+  where
+    go : (a : Bool) → length (filter p M) ≤ length M → length (cond a (r ∷ filter p M) (filter p M)) ≤ suc (length M)
+    go true h = omega (arith, h)
+    go false h = omega (arith, h)
+
+added_length : (M : List Route) (r : Route) → length (with_route M r) ≤ length M + 1
+added_length M r =
+    let below = λ (s : Route). is_before s.block r.block in
+    let above = λ (s : Route). is_before r.block s.block in
+    let apart = two_filters below above (λ s e f. strict s.block r.block (before_from_test s.block r.block e) (before_from_test r.block s.block f)) M in
+    omega (arith, apart, length-append (filter below M) (r ∷ filter above M))
+
+closed_or : (b : Bool) (M : List Route) (t u : turn.Turn) → length t.next ≤ length M + 1 → length u.next ≤ length M + 1 → length (cond b t u).next ≤ length M + 1
+closed_or true M t u h k = h
+closed_or false M t u h k = k
+
+module _ (M : List Route) where
+  same_length : length M ≤ length M + 1
+  same_length = omega arith
+
+  found_length : (o : Option Route) → length (turn.one_or_missing M o).next ≤ length M + 1
+  found_length None = same_length
+  found_length (Some r) = same_length
+
+  answer_length : (command : Option Command) → length (turn.answer M command).next ≤ length M + 1
+  answer_length (Some (C.Add net hop)) = added_length M (route_of net hop)
+  answer_length (Some (C.Del net)) =
+      closed_or (is_stored M (block net)) M _ _ (let h = filtered_length (λ s. not (same_block s.block (block net))) M in omega (arith, h)) same_length
+  answer_length (Some (C.Get net)) = found_length (match_of M (block net))
+  answer_length (Some (C.Cover net)) = same_length
+  answer_length (Some (C.List net)) = same_length
+  answer_length (Some (C.PageFrom net limit)) = same_length
+  answer_length (Some (C.PageAfter net limit)) = same_length
+  answer_length (Some (C.Own number)) = same_length
+  answer_length (Some C.Count) = same_length
+  answer_length (Some C.Flat) = same_length
+  answer_length None = same_length
+
+  -- no command adds more than one route
+  step_length : (command : Option Command) (refused : Bool) → length (turn.step M command refused).next ≤ length M + 1
+  step_length command refused = closed_or (turn.may_refuse M command && refused) M _ _ same_length (answer_length command)
+
+-- ---- the numbers in a reply
+
+abbrev AreSmall : List Reply → Type 0
+AreSmall [] = Unit {0}
+AreSmall (l ∷ ls) = IsSmall l × AreSmall ls
+
+AreSmall-map : {A : Type 0} (f : A → Reply) → ((x : A) → IsSmall (f x)) → (xs : List A) → AreSmall (map f xs)
+AreSmall-map f h [] = tt
+AreSmall-map f h (x ∷ xs) = (h x, AreSmall-map f h xs)
+
+change_small : (o : Option ℕ) (b : Block) → IsSmall (turn.change_line o b)
+change_small None b = tt
+change_small (Some n) b = tt
+
+small_or : (b : Bool) (t u : turn.Turn) → AreSmall t.body → AreSmall u.body → AreSmall (cond b t u).body
+small_or true t u h k = h
+small_or false t u h k = k
+
+module _ (M : List Route) (few : length M < 2 ^ 64) where
+  found_small : (o : Option Route) → AreSmall (turn.one_or_missing M o).body
+  found_small None = tt
+  found_small (Some r) = (tt, tt)
+
+  changes_small : (N : List Route) → AreSmall (turn.changed_to M N).body
+  unfolding turn.change_lines
+  changes_small N = AreSmall-map _ (λ b. change_small (hop_at N (first_of b)) b) _
+
+  answer_small : (command : Option Command) → AreSmall (turn.answer M command).body
+  answer_small (Some (C.Add net hop)) = changes_small _
+  answer_small (Some (C.Del net)) = small_or (is_stored M (block net)) _ _ (changes_small _) tt
+  answer_small (Some (C.Get net)) = found_small (match_of M (block net))
+  answer_small (Some (C.Cover net)) = AreSmall-map turn.route_line (λ r. tt) _
+  answer_small (Some (C.List net)) = AreSmall-map turn.route_line (λ r. tt) _
+  answer_small (Some (C.PageFrom net limit)) = AreSmall-map turn.route_line (λ r. tt) _
+  answer_small (Some (C.PageAfter net limit)) = AreSmall-map turn.route_line (λ r. tt) _
+  answer_small (Some (C.Own number)) = AreSmall-map turn.own_line (λ b. tt) _
+  answer_small (Some C.Count) =
+      let v4 = filtered_length (λ r. same_family r.block.family Ipv4) M in
+      let v6 = filtered_length (λ r. same_family r.block.family Ipv6) M in
+      ((omega (arith, v4, few), omega (arith, v6, few)), tt)
+  answer_small (Some C.Flat) = AreSmall-map turn.flat_line (λ p. tt) _
+  answer_small None = tt
+
+  step_small : (command : Option Command) (refused : Bool) → AreSmall (turn.step M command refused).body
+  step_small command refused = small_or (turn.may_refuse M command && refused) _ _ tt (answer_small command)
+
+told_spelled : (ls : List Reply) → AreTold ls → AreSmall ls → AreSpelled ls
+told_spelled [] t s = tt
+told_spelled (l ∷ ls) t s = (t.0.spelled s.0, told_spelled ls t.1 s.1)
+
+-- ---- the law
+
+replies_spelled : (M : List Route) (commands : List (Option Command)) (r : List Bool) → IsTable M → AreInRange commands → length M + length commands < 2 ^ 64 → AreSpelled (replies M commands r)
+replies_spelled M [] r m h few = tt
+replies_spelled M (c ∷ cs) r m h few =
+    let t = turn.step M c (first_or_false r) in
+    let form = form_step M m c (first_or_false r) (h c (inl refl)) in
+    let grown = step_length M c (first_or_false r) in
+    AreSpelled-append (turn.lines_of t) (replies t.next cs (refusals_after M c r))
+    (AreSpelled-append t.body (Close t.closing ∷ []) (told_spelled t.body form.body_told (step_small M (omega (arith, few)) c (first_or_false r))) (refl, tt))
+    (replies_spelled t.next cs (refusals_after M c r) form.table (λ d i. h d (inr i)) (omega (arith, few, grown)))
+
+-- each line has its line end, and a rest that is not empty a byte
+commands_length : (bytes : List ℕ) → length (lines bytes) + length (at_end (rest bytes)) ≤ length bytes
+commands_length [] = omega arith
+commands_length (b ∷ bs) = go (b == 10) (lines bs) refl refl (commands_length bs)
+  where
+    go : (e : Bool) (ls : List (List ℕ)) → b == 10 ≡ e → lines bs ≡ ls → length (lines bs) + length (at_end (rest bs)) ≤ length bs
+        → length (lines (b ∷ bs)) + length (at_end (rest (b ∷ bs))) ≤ suc (length bs)
+    go true ls e f h = rw (e) (omega (arith, h))
+    go false [] e f h = rw (e, f) (omega arith)
+    go false (p ∷ ps) e f h = rw (e, f) (let k = subst (λ (ls : List (List ℕ)). length ls + length (at_end (rest bs)) ≤ length bs) f h in omega (arith, k))
+
+few_commands : (bytes : List ℕ) → length (commands_of bytes) ≤ length bytes
+few_commands bytes =
+    let n = commands_length bytes in
+    let whole = length-map (lines_of bytes) command_in in
+    let cut = length-map (lines bytes) line_of in
+    omega (arith, n, whole, cut, length-append (whole_commands bytes) (at_end (rest bytes)))
+
+pub beginnings_are_replies : BeginningsAreReplies
+beginnings_are_replies bytes front back refusals few e =
+    let ls = replies [] (commands_of bytes) refusals in
+    let (later, first) = first_lines front back in
+    let clean = replies_clean [] (commands_of bytes) refusals empty_is_table (all_in_range bytes) in
+    let spelled = replies_spelled [] (commands_of bytes) refusals empty_is_table (all_in_range bytes) (let n = few_commands bytes in omega (arith, n, few)) in
+    first_all (λ piece. IsSome (reply_of piece)) (lines front) later (subst AreReplies (ap lines e ∙ first) (printed_replies ls clean spelled))
