@@ -1,12 +1,16 @@
 -- No bytes and no value are those of two networks, and what is written is read back.
-use Rattle.std.proofs.Common.{◌≡◌, ℕ, List, take, drop, get_or, sym, ap, ◌∙◌, subst, arith}
+use Rattle.std.proofs.Common.{◌≡◌, ℕ, List, take, drop, get_or, refl, sym, ap, ◌∙◌, subst, arith}
 use Rattle.std.specs.Int.Digits.{number_from_digits}
 use Rattle.serde_json.specs.Data.{Data, string}
 use Rattle.ipnet_addr.proofs.Numbers.{octets_number}
-use Rattle.ipnet_blocks.specs.Networks.{Network}
+use Rattle.ipnet_blocks.specs.Networks.{Network, IsNetwork}
 use Rattle.ipnet.specs.Forms.{HoldsIpv4, HoldsIpv6, Holds, ipv4_net_bytes, ipv6_net_bytes, IsStringOf}
+use Rattle.ipnet.specs.IpNets.{family, parts}
+use Rattle.ipnet.specs.IpNetText.{Reads, net_text}
 use Rattle.ipnet.specs.declared.ip_net.IpNet.{IpNet}
 use Rattle.ipnet.specs.declared.ip_net.IpNet.TheVariants.{V4, V6}
+use Rattle.ipnet.proofs.Ipv4Networks.{v4_reads_text}
+use Rattle.ipnet.proofs.Ipv6Networks.{v6_reads_text}
 use Rattle.ipnet.proofs.SixteenOctets.{octets_write}
 
 same_net : (m n : Network) → m.number ≡ n.number → m.len ≡ n.len → m ≡ n
@@ -39,3 +43,8 @@ value_unique Reads one value m n h k =
     let both : string k.text ≡ string h.text = sym k.is ∙ h.is in
     let same : k.text ≡ h.text = cc in
     one h.text m n h.reads (subst (λ t. Reads t n) same k.reads)
+
+-- the string of a network's text spells it
+pub spelled_back : (n : IpNet) → IsNetwork (family n) (parts n) → IsStringOf Reads (string (net_text n)) n
+spelled_back (V4 n) h = record { text = _; is = refl; reads = v4_reads_text n h.in_range h.in_width }
+spelled_back (V6 n) h = record { text = _; is = refl; reads = v6_reads_text n h.in_range h.in_width }

@@ -1,12 +1,12 @@
-//! Laws of networks and their texts, and those of blocks and maximal blocks: public functions without a body, whose contracts are the laws.
+//! Laws of networks and their texts, and those of addresses, blocks and maximal blocks: public functions without a body, whose contracts are the laws.
 
 ghost use Rattle.std.specs.Prelude.{◌≡◌, ◌≢◌, ◌≤◌, ◌⊎◌, ◌↔◌, ℕ, IsTrue, List, All, MatchOption, length};
 ghost use Rattle.std.specs.Ordering.{MatchOrdering};
 ghost use Rattle.serde_json.specs.Data.{Data, string};
 ghost use Rattle.ipnet_addr.specs.Addresses.{Ipv4, Ipv6};
 ghost use Rattle.ipnet.specs.Forms.{HoldsIpv4, HoldsIpv6, Holds, IsStringOf};
-ghost use Rattle.ipnet.specs.IpNets.{IsSooner};
-ghost use Rattle.ipnet.specs.IpNetText.{Reads, ip_net_of};
+ghost use Rattle.ipnet.specs.IpNets.{IsSooner, family, parts};
+ghost use Rattle.ipnet.specs.IpNetText.{Reads, ip_net_of, net_text};
 ghost use Rattle.ipnet_blocks.specs.Networks.{ComesBefore, Network, IsNetwork};
 ghost use Rattle.ipnet.specs.NetworkText.{ReadsIpv4, ReadsIpv6, ipv4_net_text, ipv6_net_text};
 ghost use Rattle.ipnet.specs.Reader.{ipv4_net_of, ipv6_net_of};
@@ -14,6 +14,7 @@ ghost use Rattle.ipnet.specs.declared.ip_net.IpNet.{IpNet as AnyNet};
 
 use crate::ip_net::IpNet;
 use crate::networks::{Ipv4Net, Ipv6Net};
+pub use ipnet_addr::laws::{address_number, range_calls, same_number};
 pub use ipnet_blocks::laws::{
     aggregated, begins_is_inside, blocks, cuts, hosts, inside_by_numbers, masks, maximal, nested,
     networks_of_blocks, order, search,
@@ -70,4 +71,5 @@ pub fn json_values()
     ensures either { (value : Data) (m n : AnyNet) → IsStringOf Reads value m → IsStringOf Reads value n → m ≡ n }
     ensures back_v4 { (n : Network) → IsNetwork Ipv4 n → IsStringOf ReadsIpv4 (string (ipv4_net_text n)) n }
     ensures back_v6 { (n : Network) → IsNetwork Ipv6 n → IsStringOf ReadsIpv6 (string (ipv6_net_text n)) n }
+    ensures back_either { (n : AnyNet) → IsNetwork (family n) (parts n) → IsStringOf Reads (string (net_text n)) n }
 {}

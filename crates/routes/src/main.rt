@@ -1,7 +1,7 @@
 //! The program `routes`: a route table by lines from standard input, and replies to standard output.
 #![tactic(auto)]
 
-ghost use Rattle.std.specs.Prelude.{◌≡◌};
+ghost use Rattle.std.specs.Prelude.{◌≡◌, IsErrOf};
 ghost use Rattle.routes.specs.Status.{status_of};
 
 use route_feed::{Counted, RunError, follow, lead};
@@ -71,13 +71,16 @@ fn asked_mode<R: Env + Alloc>(rt: &R) -> Result<Mode, Fault> {
     }
 }
 
-// Leads or follows from the input to the output. What a failed write left unwritten is let go.
+// Leads or follows from the input to the output. What a failed write left unwritten is let go. Only a follower meets
+// lines that are none.
 fn run_mode<R: Read + Drop, W: Write + Drop>(
     mode: Mode,
     alloc: Global,
     input: R,
     output: W,
-) -> Result<(), RunError> {
+) -> Result<(), RunError>
+    ensures { IsErrOf result RunError.Line → mode ≡ Mode.Follow }
+{
     let Ok(buffered) = BufWriter::with_capacity(alloc, REPLY, output) else {
         return Err(RunError::Memory);
     };
