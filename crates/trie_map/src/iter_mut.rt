@@ -27,7 +27,7 @@ impl<P: Prefix, T> PrefixMap<P, T> {
     ghost use Rattle.trie_map.specs.IterMut.{lent_map_ref, lent_map, next_bits};
 
     /// The first key from a path on.
-    fn key_from(&self, path: Path, inclusive: bool) -> Option<Path>
+    pub(crate) fn key_from(&self, path: Path, inclusive: bool) -> Option<Path>
         requires { length path ≤ 128 }
         ensures key { result ≡ first_key (where_key bits_cmp (is_from path inclusive) (entries self.now.0)) }
         ensures stored { IfSome result (λ q. (length q ≤ 128) × (length q ≤ P.R.width) × IsSome (get self.now.0 q)) }
