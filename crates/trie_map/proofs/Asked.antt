@@ -23,7 +23,7 @@ not_before [] = refl
 not_before (true ∷ q) = not_before q
 not_before (false ∷ q) = not_before q
 
-not_after : (p q : List Bool) → bits_cmp p q ≡ Less → is_lt (bits_cmp q p) ≡ false
+pub not_after : (p q : List Bool) → bits_cmp p q ≡ Less → is_lt (bits_cmp q p) ≡ false
 not_after [] [] e = cc
 not_after [] (y ∷ q) e = refl
 not_after (x ∷ p) [] e = cc

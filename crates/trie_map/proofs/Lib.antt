@@ -5,3 +5,4 @@ pub mod Covered
 pub mod Same
 pub mod Lent
 pub mod Asked
+pub mod Within
