@@ -4,7 +4,9 @@ ghost use Rattle.std.specs.Cmp.{partial_equiv_from_equiv};
 ghost use Rattle.std.specs.FinMap as fin;
 ghost use Rattle.std.specs.FinMap.Entries.{where_key};
 ghost use Rattle.std.specs.Iterator.{Drains, HoldsAlong, IsFinite, item_count};
+ghost use Rattle.std.specs.Fn.{CalledAt};
 ghost use Rattle.std.specs.List.{All};
+ghost use Rattle.std.specs.List.Retain.{IsFiltered};
 ghost use Rattle.trie_keys.specs.Bits.{bits_cmp, begins, is_from};
 ghost use Rattle.trie_core.specs.Count.{nodes};
 ghost use Rattle.trie_core.specs.Inside.{outside};
@@ -269,6 +271,17 @@ impl<P: Prefix + Drop> PrefixSet<P> {
         ensures count { nodes self.new.0 + self.new.1 ≤ nodes self.old.0 + self.old.1 }
     {
         self.members.remove_children(prefix);
+    }
+
+    /// Asks `f` of each member once, in the order of a walk, and keeps those of which it says `true`. The set is tidy
+    /// then, also where it was not before. It takes no memory.
+    pub fn retain<F: FnMut(&P) -> bool>(&mut self, f: F)
+        requires { F.IsAlwaysCallable f }
+        ensures kept { IsFiltered (λ g k. CalledAt F.FnMut g (P.of_bits k)) f (fin.keys self.old.0) (fin.keys self.new.0) }
+        ensures tidy { self.new.1 ≡ 0 }
+    {
+        let mut f = f;
+        self.members.retain(move |prefix, _| f(prefix));
     }
 }
 

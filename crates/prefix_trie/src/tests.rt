@@ -311,6 +311,51 @@ fn lent_in_turn(rt: HostRuntime) {
     assert!(rt; matches!(entries.next(), Some(22)));
 }
 
+#[test]
+fn lent_inside(rt: HostRuntime) {
+    let entries = [
+        ((0x0a01_0000, 16), 2),
+        ((0x0a00_0000, 8), 1),
+        ((0x0a01_8000, 17), 3),
+        ((0x0a02_0000, 16), 4),
+    ];
+    let mut map = map_of(&rt, rt.alloc(), entries).expect(&rt, "a map");
+    let mut entries = map.children_mut(&(0x0a01_0203, 16));
+    assert!(rt; matches!(entries.key(), Some((0x0a01_0000, 16))));
+    if let Some(value) = entries.next() {
+        *value = 20;
+    }
+    if let Some(value) = entries.next() {
+        *value = 30;
+    }
+    assert!(rt; entries.key().is_none());
+    assert!(rt; entries.next().is_none());
+    assert_eq!(rt; map.get(&(0x0a00_0000, 8)).copied(), Some(1));
+    assert_eq!(rt; map.get(&(0x0a01_0000, 16)).copied(), Some(20));
+    assert_eq!(rt; map.get(&(0x0a01_8000, 17)).copied(), Some(30));
+    assert_eq!(rt; map.get(&(0x0a02_0000, 16)).copied(), Some(4));
+    assert!(rt; map.children_mut(&(0x0a03_0000, 16)).next().is_none());
+    assert!(rt; matches!(map.children_mut(&(0, 0)).next(), Some(1)));
+}
+
+#[test]
+fn kept_members(rt: HostRuntime) {
+    let mut set = three(&rt, rt.alloc());
+    let mut asked = 0u32;
+    set.retain(|member| {
+        asked = asked.wrapping_mul(100).wrapping_add(u32::from(member.1));
+        member.0 != 0x0a01_0000
+    });
+    assert_eq!(rt; asked, 81616);
+    assert_eq!(rt; digits(set.iter()), 109);
+    assert_eq!(rt; set.node_count(), 4);
+    assert!(rt; set.remove_keep_tree(&(0x0a09_0000, 16)));
+    assert_eq!(rt; set.node_count(), 4);
+    set.retain(|_| true);
+    assert_eq!(rt; set.len(), 1);
+    assert_eq!(rt; set.node_count(), 2);
+}
+
 /// Each request for memory may be refused: then there is no map, and no copy.
 #[test]
 fn refused_whole(rt: HostRuntime) {

@@ -22,7 +22,7 @@ shifted : (bits i : ℕ) → bits / 2 / 2 ^ i ≡ bits / 2 ^ suc i
 shifted bits i = shr-shr bits 1 i ∙ let e : 1 + i ≡ suc i = omega arith in ap (λ k. bits / 2 ^ k) e
 
 -- the bit above the lowest, in the half
-higher_bit : (bits i b : ℕ) → bits / 2 ^ suc i % 2 ≡ b → bits / 2 / 2 ^ i % 2 ≡ b
+pub higher_bit : (bits i b : ℕ) → bits / 2 ^ suc i % 2 ≡ b → bits / 2 / 2 ^ i % 2 ≡ b
 higher_bit bits i b h = ap (λ y. y % 2) (shifted bits i) ∙ h
 
 double : (i : ℕ) → 2 ^ suc i ≡ 2 * 2 ^ i
@@ -39,10 +39,10 @@ pub bit_within : (bits i : ℕ) → bits / 2 ^ i % 2 ≡ 1 → 2 ^ i ≤ bits
 bit_within bits zero h = omega (arith, h)
 bit_within bits (suc i) h = omega (arith, double i, bit_within (bits / 2) i (higher_bit bits i 1 h))
 
-half_less : (bits i : ℕ) → 2 ^ suc i ≤ bits → (bits - 2 ^ suc i) / 2 ≡ bits / 2 - 2 ^ i
+pub half_less : (bits i : ℕ) → 2 ^ suc i ≤ bits → (bits - 2 ^ suc i) / 2 ≡ bits / 2 - 2 ^ i
 half_less bits i h = omega (arith, double i, h)
 
-low_less : (bits i : ℕ) → 2 ^ suc i ≤ bits → (bits - 2 ^ suc i) % 2 ≡ bits % 2
+pub low_less : (bits i : ℕ) → 2 ^ suc i ≤ bits → (bits - 2 ^ suc i) % 2 ≡ bits % 2
 low_less bits i h = omega (arith, double i, h)
 
 pub set_fits : (w i bits : ℕ) → i < w → bits < 2 ^ w → bits / 2 ^ i % 2 ≡ 0 → bits + 2 ^ i < 2 ^ w

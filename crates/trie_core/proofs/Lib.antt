@@ -11,6 +11,7 @@ pub mod Searches
 pub mod Changes
 pub mod Lent
 pub mod Kept
+pub mod Tidying
 pub mod Splits
 pub mod Frames
 pub mod Walks

@@ -10,6 +10,7 @@ mod owned;
 mod pairs;
 mod prune;
 mod slots;
+mod spares;
 mod walk;
 
 pub use cover::Cover;

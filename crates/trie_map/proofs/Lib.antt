@@ -4,3 +4,5 @@ pub mod Written
 pub mod Covered
 pub mod Same
 pub mod Lent
+pub mod Asked
+pub mod Within

@@ -1,11 +1,11 @@
 -- What each step of an iterator that lends leaves.
-use Rattle.std.specs.Prelude.{◌≡◌, List, [], Bool, false, Option, None, OnSome, IfNone, MatchOption}
+use Rattle.std.specs.Prelude.{◌≡◌, ◌&&◌, List, [], Bool, false, Option, None, OnSome, IfNone, MatchOption}
 use Rattle.std.specs.Option.{option_and_then}
 use Rattle.std.specs.Borrow.{Fml, RattleType, MutBor, LendsSo}
 use Rattle.std.specs.FinMap.{get, entries}
 use Rattle.std.specs.FinMap.Entries.{where_key}
 use mir.Syntax.{named}
-use Rattle.trie_keys.specs.Bits.{bits_cmp, is_from}
+use Rattle.trie_keys.specs.Bits.{bits_cmp, begins, is_from}
 use Rattle.trie_core.specs.Nodes.{Seen}
 use Rattle.trie_core.specs.Lending.{with_value}
 use Rattle.trie_keys.specs.declared.key.Key as key
@@ -23,6 +23,10 @@ module _ {P X R : Type 0} {g : prefix.Ghosts P R} {k : key.Ghosts R} where
   abbrev pub lent_map : IterMut P X R g k → Seen X
   lent_map s = s.map.now
 
+  -- the bit string that begins all keys that are left
+  abbrev pub lent_inside : IterMut P X R g k → List Bool
+  lent_inside s = s.inside
+
   -- the bits of the key that comes next
   abbrev pub next_bits : IterMut P X R g k → Option (List Bool)
   next_bits s = s.next
@@ -31,16 +35,18 @@ module _ {P X R : Type 0} {g : prefix.Ghosts P R} {k : key.Ghosts R} where
   abbrev pub next_value : IterMut P X R g k → Option X
   next_value s = option_and_then (get s.map.now.0) s.next
 
-  -- n is s, once w is the value of q; the first key after q comes next
+  -- n is s, once w is the value of q; the first key after q, of those that are left, comes next
   pub record IsStep (s : IterMut P X R g k) (q : List Bool) (w : X) (n : IterMut P X R g k) : Type 0 where
     pub same_map : (lent_map_ref n).ghost_name ≡ (lent_map_ref s).ghost_name
     pub map : lent_map n ≡ with_value (lent_map s) q w
-    pub next : next_bits n ≡ first_key (where_key bits_cmp (is_from q false) (entries (lent_map s).0))
+    pub same_inside : lent_inside n ≡ lent_inside s
+    pub next : next_bits n ≡ first_key (where_key bits_cmp (λ k. is_from q false k && begins (lent_inside s) k) (entries (lent_map s).0))
 
   -- n is s, which has nothing more to lend
   pub record IsEnd (s n : IterMut P X R g k) : Type 0 where
     pub same_map : (lent_map_ref n).ghost_name ≡ (lent_map_ref s).ghost_name
     pub map : lent_map n ≡ lent_map s
+    pub same_inside : lent_inside n ≡ lent_inside s
     pub next : next_bits n ≡ None
 
 module _ (P T R : RattleType) {g : prefix.Ghosts P.Denot R.Denot} {k : key.Ghosts R.Denot} where

@@ -7,3 +7,4 @@ pub mod Covered
 pub mod Made
 pub mod Equal
 pub mod IterMut
+pub mod Retain

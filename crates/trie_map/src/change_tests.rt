@@ -53,3 +53,43 @@ fn all_of_it(rt: HostRuntime) {
     assert!(rt; map.insert((1, 128), 4).is_ok());
     assert_eq!(rt; map.get(&(1, 128)).copied(), Some(4));
 }
+
+#[test]
+fn asks_in_order(rt: HostRuntime) {
+    let mut map: PrefixMap<(u32, u8), u32> = PrefixMap::new(rt.alloc()).expect(&rt, "a map");
+    assert!(rt; map.insert((0x0a01_0000, 16), 3).is_ok());
+    assert!(rt; map.insert((0x0a00_0000, 8), 1).is_ok());
+    assert!(rt; map.insert((0x0a00_0000, 16), 2).is_ok());
+    let mut asked = 0u32;
+    map.retain(|key, value| {
+        asked = asked.wrapping_mul(100).wrapping_add(u32::from(key.1));
+        *value != 2
+    });
+    assert_eq!(rt; asked, 81616);
+    let mut asked = 0u32;
+    map.retain(|_, value| {
+        asked = asked.wrapping_mul(10).wrapping_add(*value);
+        true
+    });
+    assert_eq!(rt; asked, 13);
+    assert_eq!(rt; map.len(), 2);
+    assert_eq!(rt; map.node_count(), 4);
+    map.retain(|_, _| false);
+    assert!(rt; map.is_empty());
+    assert_eq!(rt; map.node_count(), 1);
+}
+
+#[test]
+fn tidies(rt: HostRuntime) {
+    let mut map: PrefixMap<(u32, u8), u32> = PrefixMap::new(rt.alloc()).expect(&rt, "a map");
+    assert!(rt; map.insert((0x0a00_0000, 8), 1).is_ok());
+    assert!(rt; map.insert((0x0a01_0000, 16), 2).is_ok());
+    assert!(rt; map.insert((0xffff_ffff, 32), 3).is_ok());
+    assert_eq!(rt; map.remove_keep_tree(&(0x0a01_0000, 16)), Some(2));
+    assert_eq!(rt; map.remove_keep_tree(&(0xffff_ffff, 32)), Some(3));
+    assert_eq!(rt; map.node_count(), 10);
+    map.retain(|_, _| true);
+    assert_eq!(rt; map.len(), 1);
+    assert_eq!(rt; map.node_count(), 2);
+    assert_eq!(rt; map.get(&(0x0a00_0000, 8)).copied(), Some(1));
+}

@@ -109,8 +109,8 @@ impl<'a, P: Prefix, T> OccupiedEntry<'a, P, T> {
         ensures value { entry_value (Occupied self.entry) ≡ Some result.now }
     {
         let path = path_of(&self.key);
-        let map = self.map;
-        map.value_mut(&path)
+        let lender = self.map;
+        lender.value_mut(&path)
     }
 
     /// Takes the entry out, and answers its value. Every node stays. It takes no memory.

@@ -10,7 +10,7 @@ use crate::map::PrefixMap;
 use trie_core::{Path, Prefix, Walk};
 
 /// Whether two bit strings are the same.
-fn is_same(path: &Path, other: &Path) -> bool
+pub(crate) fn is_same(path: &Path, other: &Path) -> bool
     requires { length path.now ≤ 128 }
     ensures { result ≡ eq_by_cmp bits_cmp path.now other.now }
 {

@@ -17,6 +17,7 @@ mod lend;
 mod map;
 mod prune;
 mod refused;
+mod retain;
 #[cfg(test)]
 mod tests;
 

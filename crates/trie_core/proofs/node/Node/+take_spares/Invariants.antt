@@ -1,0 +1,8 @@
+use Rattle.trie_core.proofs.Tidying.{IsTidyBelow}
+use Rattle.trie_core.proofs.node.Node.+take_spares.Given as goal
+
+abbrev pub decreases-take_spares : goal.decreases-take_spares
+decreases-take_spares g l = goal.size-take_spares g l
+
+abbrev pub invariant-number : goal.invariant-number
+invariant-number g l = IsTidyBelow l.fn.self l.number l.gone l.self-inside.value_bits l.self-inside.values.items l.self-inside.child_bits l.self-inside.children.items

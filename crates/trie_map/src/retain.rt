@@ -1,0 +1,41 @@
+//! The entries that a closure keeps.
+ghost use Rattle.std.specs.Prelude.{◌≡◌};
+ghost use Rattle.std.specs.List.Retain.{IsFiltered};
+ghost use Rattle.std.specs.FinMap.{entries};
+ghost use Rattle.trie_map.specs.Retain.{AnswersAt};
+
+use crate::iter::key_of;
+use crate::map::PrefixMap;
+use trie_core::{Path, Prefix};
+
+impl<P: Prefix + Drop, T: Drop> PrefixMap<P, T> {
+    /// Asks `f` of each entry once, in the order of a walk, and keeps those of which it says `true`. The map is tidy
+    /// then, also where it was not before. It takes no memory.
+    pub fn retain<F: FnMut(&P, &T) -> bool>(&mut self, f: F)
+        requires { F.IsAlwaysCallable f }
+        ensures kept { IsFiltered (AnswersAt F.FnMut P.of_bits) f (entries self.old.0) (entries self.new.0) }
+        ensures tidy { self.new.1 ≡ 0 }
+    {
+        self.take_refused(f);
+        self.nodes -= self.root.take_spares();
+    }
+
+    /// Takes out the entries of which `f` says `false`, and leaves every node.
+    fn take_refused<F: FnMut(&P, &T) -> bool>(&mut self, f: F)
+        requires { F.IsAlwaysCallable f }
+        ensures { IsFiltered (AnswersAt F.FnMut P.of_bits) f (entries self.old.0) (entries self.new.0) }
+    {
+        let mut f = f;
+        let mut next = self.key_from(Path::new(0, 0), true);
+        'entry: while let Some(path) = next {
+            let prefix: P = key_of(&path);
+            next = self.key_from(path, false);
+            let Some(value) = self.get(&prefix) else {
+                unreachable!()
+            };
+            if !f(&prefix, value) {
+                drop(self.remove_keep_tree(&prefix));
+            }
+        }
+    }
+}
