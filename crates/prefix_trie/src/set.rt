@@ -12,7 +12,7 @@ ghost use Rattle.trie_core.specs.Count.{nodes};
 ghost use Rattle.trie_core.specs.Inside.{outside};
 ghost use Rattle.trie_core.specs.Search.{NoBeginning};
 ghost use Rattle.trie_map.specs.Covered.{covered_count};
-ghost use Rattle.trie_map.specs.Iterators.{GivesKey};
+ghost use Rattle.trie_iter.specs.Iterators.{GivesKey};
 ghost use Rattle.trie_map.specs.Made.{inserted};
 ghost use Rattle.trie_map.specs.Maps.{IsLongestKey, IsShortestKey};
 ghost use Rattle.trie_map.specs.Refusals.{no_room};

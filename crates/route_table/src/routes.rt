@@ -2,7 +2,7 @@
 ghost use Rattle.std.specs.Prelude.{◌≡◌, List, map};
 ghost use Rattle.std.specs.Iterator.{item_count};
 ghost use Rattle.ipnet_addr.specs.Addresses.{Ipv4, Ipv6};
-ghost use Rattle.trie_map.specs.Iterators.{GivesEntry};
+ghost use Rattle.trie_iter.specs.Iterators.{GivesEntry};
 ghost use Rattle.route_table.specs.Items.{AreKeys, GivesRoute, KeysUpTo, entries_left, routes_left};
 ghost use Rattle.route_table.specs.Stored.{route_at};
 

@@ -10,7 +10,7 @@ use Rattle.trie_keys.proofs.Strings.{bits_total, same-refl}
 use Rattle.trie_core.specs.Nodes.{BitMap}
 use Rattle.trie_core.specs.Walks.{KeysWithin}
 use Rattle.trie_core.proofs.Frames.{bits_alike}
-use Rattle.trie_map.proofs.Rebuilt.{keys_where}
+use Rattle.trie_map.proofs.KeyLengths.{keys_where}
 
 from_none : (k : List Bool) → is_from [] true k ≡ true
 from_none [] = refl

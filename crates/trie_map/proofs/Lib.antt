@@ -1,5 +1,5 @@
 pub mod Entries
-pub mod Rebuilt
+pub mod KeyLengths
 pub mod Written
 pub mod Covered
 pub mod Same

@@ -3,9 +3,9 @@ ghost use Rattle.std.specs.Prelude.{◌≡◌, ◌+◌, ◌<◌, ◌≤◌, ◌^
 ghost use Rattle.trie_keys.specs.Bits.{begins};
 ghost use Rattle.trie_map.specs.Covered.{covered_count};
 
-use crate::iter::key_of;
 use crate::map::PrefixMap;
 use trie_core::{Key, Prefix, Walk};
+use trie_iter::key_of;
 
 /// Whether a prefix lies inside the last one, if there is one.
 fn is_inside<P: Prefix>(last: &Option<P>, prefix: &P) -> bool

@@ -9,9 +9,9 @@ ghost use Rattle.trie_keys.specs.Bits.{bits_cmp, begins, is_from};
 ghost use Rattle.trie_map.specs.Maps.{first_key};
 
 use crate::equal::is_same;
-use crate::iter::key_of;
 use crate::map::PrefixMap;
 use trie_core::{Path, Prefix, Walk, path_of};
+use trie_iter::key_of;
 
 /// Whether a path begins a key.
 fn is_begun(path: &Path, key: &Path) -> bool

@@ -21,11 +21,11 @@ mod retain;
 #[cfg(test)]
 mod tests;
 
-pub use cover::{Cover, CoverKeys, CoverValues};
 pub use entry::{Entry, OccupiedEntry, VacantEntry};
-pub use into_iter::{IntoIter, IntoKeys, IntoValues};
-pub use iter::{Iter, Keys, Values};
 pub use iter_mut::{IterMut, ValuesMut};
 pub use map::PrefixMap;
 pub use refused::Refused;
 pub use trie_core::{Key, Prefix, laws};
+pub use trie_iter::{
+    Cover, CoverKeys, CoverValues, IntoIter, IntoKeys, IntoValues, Iter, Keys, Values,
+};

@@ -4,9 +4,9 @@ ghost use Rattle.std.specs.List.Retain.{IsFiltered};
 ghost use Rattle.std.specs.FinMap.{entries};
 ghost use Rattle.trie_map.specs.Retain.{AnswersAt};
 
-use crate::iter::key_of;
 use crate::map::PrefixMap;
 use trie_core::{Path, Prefix};
+use trie_iter::key_of;
 
 impl<P: Prefix + Drop, T: Drop> PrefixMap<P, T> {
     /// Asks `f` of each entry once, in the order of a walk, and keeps those of which it says `true`. The map is tidy

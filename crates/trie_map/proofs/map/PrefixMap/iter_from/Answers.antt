@@ -2,7 +2,7 @@ use Rattle.std.proofs.Common.{lit<, subst, sym}
 use Rattle.std.specs.FinMap.{entries}
 use Rattle.trie_keys.specs.Bits.{is_from}
 use Rattle.trie_core.specs.Walks.{KeysWithin}
-use Rattle.trie_map.proofs.Rebuilt.{keys_where}
+use Rattle.trie_map.proofs.KeyLengths.{keys_where}
 use Rattle.trie_map.proofs.map.PrefixMap.iter_from.Goals as goal
 
 pub new-requires : goal.new-requires

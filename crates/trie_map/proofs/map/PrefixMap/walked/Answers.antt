@@ -1,6 +1,6 @@
 use Rattle.std.proofs.Common.{arith}
 use Rattle.std.specs.FinMap.{entries}
-use Rattle.trie_map.proofs.Rebuilt.{keys_listed, keys_more}
+use Rattle.trie_map.proofs.KeyLengths.{keys_listed, keys_more}
 use Rattle.trie_map.proofs.map.PrefixMap.walked.Goals as goal
 
 pub returns-clause-keys : goal.returns-clause-keys

@@ -1,6 +1,6 @@
 use Rattle.std.proofs.Common.{◌∙◌, ap, length, refl}
-use Rattle.trie_map.proofs.Rebuilt.{rebuilt}
-use Rattle.trie_map.proofs.iter.key_of.Goals as goal
+use Rattle.trie_iter.proofs.Rebuilt.{rebuilt}
+use Rattle.trie_iter.proofs.key.key_of.Goals as goal
 
 pub from_bits-requires : goal.from_bits-requires
 from_bits-requires g c = (rebuilt g.P.R.Key.width c.width-free.result c.to_bits.result 0 (length c.args.path.now) c.args.path.now c.width-free.ensures.value c.width-free.ensures.within refl c.requires c.to_bits.ensures.masked c.to_bits.ensures.bits).below
