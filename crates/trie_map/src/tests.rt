@@ -5,6 +5,7 @@ ghost use Rattle.ipnet_addr.specs.Addresses.{Ipv4, Ipv6};
 ghost use Rattle.ipnet_blocks.specs.Blocks.{bit_string};
 ghost use Rattle.ipnet_blocks.specs.Networks.{block_of};
 
+use crate::laws::{ipv4_within, ipv6_within};
 use crate::{PrefixMap, Refused};
 use ipnet::{Ipv4Net, Ipv6Net};
 use std::alloc::Global;
@@ -18,7 +19,7 @@ pub(crate) fn net(rt: &impl Abort, text: &str) -> Ipv4Net
     ensures { length (bit_string (block_of Ipv4 result)) ≤ 32 }
 {
     let net = Ipv4Net::from_str(text).expect(rt, "a network");
-    let _within = net.prefix_len();
+    ipv4_within(&net);
     net
 }
 
@@ -27,7 +28,7 @@ fn wide_net(rt: &impl Abort, text: &str) -> Ipv6Net
     ensures { length (bit_string (block_of Ipv6 result)) ≤ 128 }
 {
     let net = Ipv6Net::from_str(text).expect(rt, "a network");
-    let _within = net.prefix_len();
+    ipv6_within(&net);
     net
 }
 
