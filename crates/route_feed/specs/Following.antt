@@ -1,8 +1,9 @@
 -- What a follower stands for, and what a reply line does to it.
-use Rattle.std.specs.Prelude.{◌≡◌, ℕ, Bool, List, [], ◌++◌, if◌then◌else◌, Option, Some, None, IsSome}
+use Rattle.std.specs.Prelude.{◌≡◌, ℕ, ◌<◌, ◌⊎◌, Bool, List, [], ◌++◌, length, if◌then◌else◌, Option, Some, None, IsSome}
 use Rattle.std.specs.Option.{option_to_list}
 use Rattle.ipnet_addr.specs.Addresses.{Address, IsAddress}
 use Rattle.route_lines.specs.declared.reply.Closing.{Closing}
+use Rattle.route_lines.specs.declared.reply.Closing.TheVariants.{Done}
 use Rattle.route_lines.specs.declared.reply.Reply.{Reply}
 use Rattle.route_table.specs.Tables.{Route, hop_at}
 use Rattle.route_feed.specs.Streams.{Change, is_done, change_of, closing_of, painted_over}
@@ -27,3 +28,7 @@ pending_after changes None change = changes ++ option_to_list change
 pub record TakesLine (old new : State) (line : Reply) : Type 0 where
   pub hops : (x : Address) → IsAddress x → hop_at new.table x ≡ hop_after old (closing_of line) x
   pub pending : new.pending ≡ pending_after old.pending (closing_of line) (change_of line)
+
+-- the line may want memory: it tells a change, which is kept, or it is `ok` and some changes wait
+abbrev pub WantsMemory : State → Reply → Type 0
+WantsMemory s line = IsSome (change_of line) ⊎ ((closing_of line ≡ Some Done) × (0 < length s.pending))

@@ -1,11 +1,11 @@
 //! A follower: what a leader's reply lines say of the hops.
-ghost use Rattle.std.specs.Prelude.{◌≡◌, ◌++◌, ◌∷◌, [], true, false, Some, None, IfErr, IfNone, IfOk, IfSome, IsErrOf, IsSome, OnErr, OnOk};
+ghost use Rattle.std.specs.Prelude.{◌≡◌, ◌<◌, ◌++◌, ◌∷◌, [], true, false, length, Some, None, IfErr, IfNone, IfOk, IfSome, IsErrOf, IsOk, OnErr, OnOk};
 ghost use Rattle.ipnet_addr.specs.Addresses.{Address, IsAddress};
 ghost use Rattle.route_lines.specs.Spelled.{reply_of};
 ghost use Rattle.route_lines.specs.declared.reply.Reply.{Reply};
 ghost use Rattle.route_table.specs.Flats.{IsFlat};
 ghost use Rattle.route_table.specs.Tables.{hop_at};
-ghost use Rattle.route_feed.specs.Following.{State, TakesLine};
+ghost use Rattle.route_feed.specs.Following.{State, TakesLine, WantsMemory};
 ghost use Rattle.route_feed.specs.Streams.{painted_over};
 ghost use Rattle.route_feed.specs.Waiting.{changes_of, waiting_change};
 
@@ -62,6 +62,7 @@ impl Model for Follower {
 fn carry_out(table: &mut RouteTable, changes: &[Waiting]) -> Result<(), FollowError>
     ensures hops { OnOk result ((x : Address) → IsAddress x → hop_at table.new x ≡ painted_over (hop_at table.old x) (changes_of changes.now) x) }
     ensures memory { IfErr result (λ e. e ≡ FollowError.Memory) }
+    ensures some { OnErr result (0 < length changes.now) }
 {
     for change in changes {
         match table.overwrite(change.net, change.hop) {
@@ -76,8 +77,9 @@ impl Follower {
     /// A follower that has taken no line: no address has a hop.
     ///
     /// # Errors
-    /// `Memory` alone.
+    /// None: the `Result` is for a table that needs memory at once.
     pub fn new(alloc: Global) -> Result<Follower, RunError>
+        ensures ok { IsOk result }
         ensures state { IfOk result (λ f. f ≡ record { table = []; pending = []; failed = false }) }
         ensures memory { IfErr result (λ e. e ≡ RunError.Memory) }
     {
@@ -121,12 +123,13 @@ impl Follower {
     ///
     /// # Errors
     /// `Failed` exactly after a fault; then nothing changes. `NotALine` exactly where the text spells no reply line.
-    /// `Memory` where a change can't be kept or carried out. Each is a fault.
+    /// `Memory` where a change can't be kept or carried out: at a line that tells a change, and at `ok` where some wait.
+    /// Each is a fault.
     pub fn line(&mut self, text: &[u8]) -> Result<(), FollowError>
         ensures ok { OnOk result ((line : Reply) × (reply_of text.now ≡ Some line) × TakesLine self.old self.new line) }
         ensures works { OnOk result ((self.old.failed ≡ false) × (self.new.failed ≡ false)) }
         ensures not_a_line { IsErrOf result FollowError.NotALine → (self.old.failed ≡ false) × (reply_of text.now ≡ None) }
-        ensures memory { IsErrOf result FollowError.Memory → (self.old.failed ≡ false) × IsSome (reply_of text.now) }
+        ensures memory { IsErrOf result FollowError.Memory → (self.old.failed ≡ false) × (line : Reply) × (reply_of text.now ≡ Some line) × WantsMemory self.old line }
         ensures failed { IsErrOf result FollowError.Failed → (self.old.failed ≡ true) × (self.new ≡ self.old) }
         ensures fault { OnErr result (self.new.failed ≡ true) }
     {
@@ -143,7 +146,7 @@ impl Follower {
     fn read(&mut self, text: &[u8]) -> Result<(), FollowError>
         ensures ok { OnOk result ((line : Reply) × (reply_of text.now ≡ Some line) × TakesLine self.old self.new line) }
         ensures not_a_line { IsErrOf result FollowError.NotALine → reply_of text.now ≡ None }
-        ensures memory { IsErrOf result FollowError.Memory → IsSome (reply_of text.now) }
+        ensures memory { IsErrOf result FollowError.Memory → (line : Reply) × (reply_of text.now ≡ Some line) × WantsMemory self.old line }
         ensures never { IsErrOf result FollowError.Failed → ⊥ }
         ensures failed { self.new.failed ≡ self.old.failed }
     {
@@ -156,6 +159,7 @@ impl Follower {
     fn take(&mut self, line: Reply) -> Result<(), FollowError>
         ensures ok { OnOk result (TakesLine self.old self.new line) }
         ensures memory { IfErr result (λ e. e ≡ FollowError.Memory) }
+        ensures wanted { OnErr result (WantsMemory self.old line) }
         ensures failed { self.new.failed ≡ self.old.failed }
     {
         match line {
@@ -188,6 +192,7 @@ impl Follower {
         ensures hops { OnOk result ((x : Address) → IsAddress x → hop_at self.new.table x ≡ painted_over (hop_at self.old.table x) self.old.pending x) }
         ensures pending { OnOk result (self.new.pending ≡ []) }
         ensures memory { IfErr result (λ e. e ≡ FollowError.Memory) }
+        ensures some { OnErr result (0 < length self.old.pending) }
         ensures failed { self.new.failed ≡ self.old.failed }
     {
         carry_out(&mut self.table, self.waiting.as_slice())?;

@@ -18,7 +18,7 @@ pub(crate) fn led(alloc: Global, input: &[u8]) -> Result<Vec<u8>, RunError>
     Ok(writer.into_inner())
 }
 
-// Gives one byte a call, and fails where it has none left.
+// Gives one byte a call, and fails once where it has none left: another call would find the end.
 #[derive(Drop)]
 struct Dripping<'a> {
     left: &'a [u8],
@@ -29,6 +29,7 @@ impl Read for Dripping<'_> {
     fn read(&mut self, buf: &mut [u8]) -> io::Result<usize> {
         let all: &[u8] = self.left;
         if all.is_empty() && self.fails {
+            self.fails = false;
             return Err(io::Error::from(io::ErrorKind::Interrupted));
         }
         if all.is_empty() || buf.is_empty() {
@@ -40,16 +41,22 @@ impl Read for Dripping<'_> {
     }
 }
 
-// Takes one byte a call while it has room, then none; its `flush` may fail.
+// Takes one byte a call while it has room, then none; its `write` and its `flush` may fail once, and would serve the next
+// call.
 #[derive(Drop)]
 struct Narrow {
     held: Vec<u8>,
     room: usize,
+    writes: bool,
     flushes: bool,
 }
 
 impl Write for Narrow {
     fn write(&mut self, buf: &[u8]) -> io::Result<usize> {
+        if !self.writes {
+            self.writes = true;
+            return Err(io::Error::from(io::ErrorKind::Interrupted));
+        }
         if self.room == 0 || buf.is_empty() {
             return Ok(0);
         }
@@ -62,6 +69,7 @@ impl Write for Narrow {
         if self.flushes {
             Ok(())
         } else {
+            self.flushes = true;
             Err(io::Error::from(io::ErrorKind::BrokenPipe))
         }
     }
@@ -188,18 +196,20 @@ fn read_fault(rt: HostRuntime) {
     assert_eq!(rt; out.as_slice(), b"ok\n".as_slice());
 }
 
-// A writer that takes nothing, and one whose `flush` fails: nothing more is written.
+// A writer that takes nothing, one whose `write` fails, and one whose `flush` fails: nothing more is written.
 #[test]
 fn write_faults(rt: HostRuntime) {
-    for (room, flushes, wanted) in [
-        (1, true, b"o".as_slice()),
-        (0, true, b"".as_slice()),
-        (9, false, b"ok\n".as_slice()),
+    for (room, writes, flushes, wanted) in [
+        (1, true, true, b"o".as_slice()),
+        (0, true, true, b"".as_slice()),
+        (200, false, true, b"".as_slice()),
+        (200, true, false, b"ok\n".as_slice()),
     ] {
         let mut reader = Counted::new(b"add 10.0.0.0/8 drop\nget 10.0.0.0/8\n".as_slice());
         let mut writer = Counted::new(Narrow {
             held: Vec::new(rt.alloc()),
             room,
+            writes,
             flushes,
         });
         let result = lead(rt.alloc(), &mut reader, &mut writer);

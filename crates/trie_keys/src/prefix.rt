@@ -110,8 +110,12 @@ impl<R: Key> Prefix for (R, u8) {
 
     ghost of_bits = { λ s. (R.of_number (number_from R.width s), length s) };
 
+    /// The key as it was given, with the bits that don't count.
     #[inline]
-    fn repr(&self) -> R {
+    fn repr(&self) -> R
+        ensures bits { prefix_bits R.width (R.number result) (length (prefix_bits R.width (R.number self.now.0) self.now.1)) ≡ prefix_bits R.width (R.number self.now.0) self.now.1 }
+        ensures whole { result ≡ self.now.0 }
+    {
         self.0
     }
 
@@ -120,8 +124,14 @@ impl<R: Key> Prefix for (R, u8) {
         self.1
     }
 
+    /// The prefix with this very key.
     #[inline]
-    fn from_repr_len(repr: R, len: u8) -> (R, u8) {
+    fn from_repr_len(repr: R, len: u8) -> (R, u8)
+        requires { len ≤ R.width }
+        ensures bits { prefix_bits R.width (R.number result.0) result.1 ≡ prefix_bits R.width (R.number repr) len }
+        ensures masked { IsMasked R.width (R.number repr) len → result ≡ (R.of_number (number_from R.width (prefix_bits R.width (R.number repr) len)), length (prefix_bits R.width (R.number repr) len)) }
+        ensures whole { result ≡ (repr, len) }
+    {
         (repr, len)
     }
 }
@@ -133,8 +143,12 @@ impl Prefix for Ipv4Net {
 
     ghost of_bits = { λ s. record { number = number_from 32 s; len = length s } };
 
+    /// Its address, host bits too.
     #[inline]
-    fn repr(&self) -> u32 {
+    fn repr(&self) -> u32
+        ensures bits { prefix_bits 32 result (length (bit_string (block_of Ipv4 self.now))) ≡ bit_string (block_of Ipv4 self.now) }
+        ensures whole { result ≡ self.now.number }
+    {
         self.addr().to_bits()
     }
 
@@ -143,8 +157,14 @@ impl Prefix for Ipv4Net {
         Ipv4Net::prefix_len(self)
     }
 
+    /// The network of this address, host bits too.
     #[inline]
-    fn from_repr_len(repr: u32, len: u8) -> Ipv4Net {
+    fn from_repr_len(repr: u32, len: u8) -> Ipv4Net
+        requires { len ≤ 32 }
+        ensures bits { bit_string (block_of Ipv4 result) ≡ prefix_bits 32 repr len }
+        ensures masked { IsMasked 32 repr len → result ≡ record { number = number_from 32 (prefix_bits 32 repr len); len = length (prefix_bits 32 repr len) } }
+        ensures whole { result ≡ record { number = repr; len = len } }
+    {
         Ipv4Net::new_assert(ipv4_of(repr), len)
     }
 }
@@ -156,8 +176,12 @@ impl Prefix for Ipv6Net {
 
     ghost of_bits = { λ s. record { number = number_from 128 s; len = length s } };
 
+    /// Its address, host bits too.
     #[inline]
-    fn repr(&self) -> u128 {
+    fn repr(&self) -> u128
+        ensures bits { prefix_bits 128 result (length (bit_string (block_of Ipv6 self.now))) ≡ bit_string (block_of Ipv6 self.now) }
+        ensures whole { result ≡ self.now.number }
+    {
         self.addr().to_bits()
     }
 
@@ -166,8 +190,14 @@ impl Prefix for Ipv6Net {
         Ipv6Net::prefix_len(self)
     }
 
+    /// The network of this address, host bits too.
     #[inline]
-    fn from_repr_len(repr: u128, len: u8) -> Ipv6Net {
+    fn from_repr_len(repr: u128, len: u8) -> Ipv6Net
+        requires { len ≤ 128 }
+        ensures bits { bit_string (block_of Ipv6 result) ≡ prefix_bits 128 repr len }
+        ensures masked { IsMasked 128 repr len → result ≡ record { number = number_from 128 (prefix_bits 128 repr len); len = length (prefix_bits 128 repr len) } }
+        ensures whole { result ≡ record { number = repr; len = len } }
+    {
         Ipv6Net::new_assert(ipv6_of(repr), len)
     }
 }

@@ -3,5 +3,5 @@ use Rattle.trie_keys.specs.Prefixes.{prefix_bits}
 use Rattle.trie_keys.proofs.Masked.{length-prefix_bits}
 use Rattle.trie_keys.proofs.prefix.Tuple2U8Prefix.repr.Goals as goal
 
-pub returns : goal.returns
-returns g c = ap (prefix_bits g.R.Key.width (g.R.Key.number c.args.self.now.0)) (length-prefix_bits g.R.Key.width (g.R.Key.number c.args.self.now.0) c.args.self.now.1)
+pub returns-clause-bits : goal.returns-clause-bits
+returns-clause-bits g c = ap (prefix_bits g.R.Key.width (g.R.Key.number c.args.self.now.0)) (length-prefix_bits g.R.Key.width (g.R.Key.number c.args.self.now.0) c.args.self.now.1)
