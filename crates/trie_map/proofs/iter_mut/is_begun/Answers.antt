@@ -1,6 +1,5 @@
-use Rattle.std.proofs.Common.{◌≡◌, ◌≤◌, ◌<◌, ◌∙◌, false, length, take, sym, ap, arith}
+use Rattle.std.proofs.Common.{◌≤◌, ◌∙◌, length, take, sym, ap, arith}
 use Rattle.std.proofs.lemmas.Bool.Decides.{nat_tests}
-use Rattle.trie_keys.specs.Bits.{begins}
 use Rattle.trie_keys.proofs.Masked.{take-prefix_bits}
 use Rattle.trie_keys.proofs.Strings.{same}
 use Rattle.trie_map.proofs.Within.{begins_first, begins_longer}

@@ -1,4 +1,4 @@
-use Rattle.std.proofs.Common.{◌∙◌, sym, ap, true}
+use Rattle.std.proofs.Common.{◌∙◌, ap, true}
 use Rattle.std.specs.Prelude.{◌&&◌}
 use Rattle.std.specs.FinMap.{entries}
 use Rattle.std.specs.FinMap.Entries.{where_key}

@@ -1,4 +1,3 @@
-use Rattle.std.proofs.Common.{◌∙◌, sym}
 use Rattle.std.specs.FinMap.{entries, entries_sorted}
 use Rattle.trie_map.proofs.Within.{key_stays, key_past, key_none}
 use Rattle.trie_map.proofs.map.PrefixMap.key_within.Goals as goal

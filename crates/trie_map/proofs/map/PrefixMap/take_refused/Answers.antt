@@ -3,9 +3,8 @@ use Rattle.std.specs.FinMap.{entries, remove}
 use Rattle.std.specs.FinMap.Entries.{where_key}
 use Rattle.trie_keys.specs.Bits.{bits_cmp, is_from}
 use Rattle.trie_map.specs.Maps.{first_key}
-use Rattle.trie_map.specs.Retain.{AnswersAt}
 use Rattle.trie_map.proofs.Lent.{all_from}
-use Rattle.trie_map.proofs.Asked.{lengths, asked_start, asked_stored, asked_more, asked_end}
+use Rattle.trie_map.proofs.Asked.{lengths, asked_start, asked_stored, asked_more}
 use Rattle.trie_map.proofs.map.PrefixMap.take_refused.Goals.{then-not-f, else-not-f}
 use Rattle.trie_map.proofs.map.PrefixMap.take_refused.Goals as goal
 
