@@ -1,11 +1,11 @@
 -- A walk that asks of the entries of a map in turn, and takes out those that are refused.
-use Rattle.std.proofs.Common.{◌≡◌, ℕ, ◌<◌, ◌≤◌, Bool, true, false, cond, not, List, [], ◌∷◌, ◌++◌, length, append_assoc, refl, sym, ap, subst, ◌∙◌, arith}
+use Rattle.std.proofs.Common.{◌≡◌, ℕ, ◌+◌, ◌<◌, ◌≤◌, Bool, true, false, cond, not, List, [], ◌∷◌, ◌++◌, length, append_assoc, refl, sym, ap, subst, ◌∙◌, arith}
 use Rattle.std.specs.Prelude.{T, Option, Some, None, IfSome}
 use Rattle.std.specs.declared.cmp.Ordering.TheVariants.{Less}
 use Rattle.std.specs.Ordering.{is_lt}
 use Rattle.std.specs.Option.{IsSome}
 use Rattle.std.specs.List.{items_where_true}
-use Rattle.std.specs.List.Retain.{ReturnsInTurn, IsFiltered}
+use Rattle.std.specs.List.Retain.{ReturnsInTurn}
 use Rattle.std.specs.FinMap.{find, get, remove, entries, is_sorted, entries_sorted, get-entries, get-remove}
 use Rattle.std.specs.FinMap.Entries.{where_key, below_all, same_entries, is_sorted-where_key, find-where_key}
 use Rattle.std.proofs.Math.ListN.{length-append}
@@ -134,17 +134,6 @@ module _ {F X : Type 0} (R : F → List Bool × X → Bool → F → Type 0) whe
 
   pub asked_start : (f : F) (m : BitMap X) {next : Option (List Bool)} → next ≡ first_key (entries m) → IsAsked f m f m next
   asked_start f m e = record { asked = []; rest = entries m; answers = []; counted = refl; returns = refl; whole = refl; left = refl; next_is = e }
-
-  end_rest : (es : List (List Bool × X)) → None ≡ first_key es → es ≡ []
-  end_rest [] e = refl
-  end_rest (d ∷ es) e = cc
-
-  pub asked_end : {f g : F} {m n : BitMap X} → IsAsked f m g n None → IsFiltered R f (entries m) (entries n)
-  asked_end {f} {g} {m} {n} t =
-      let z = end_rest t.rest t.next_is in
-      let w : entries m ≡ t.asked = t.whole ∙ ap (λ l. t.asked ++ l) z ∙ append_none t.asked in
-      let v : entries n ≡ items_where_true t.answers t.asked = t.left ∙ ap (λ l. items_where_true t.answers t.asked ++ l) z ∙ append_none (items_where_true t.answers t.asked) in
-      subst (λ l. IsFiltered R f l (entries n)) (sym w) (t.answers, g, t.counted, t.returns, v)
 
   first_of : (q : List Bool) (es : List (List Bool × X)) → Some q ≡ first_key es → (v : X) × (fs : List (List Bool × X)) × (es ≡ (q, v) ∷ fs)
   first_of q [] e = cc
