@@ -1,11 +1,11 @@
 -- What is left of a node: what stands first in it, and what a search leaves of it.
-use Rattle.std.proofs.Common.{◌≡◌, ℕ, zero, suc, ◌+◌, ◌-◌, ◌*◌, ◌/◌, ◌^◌, leb, ◌<◌, ◌≤◌, Bool, true, false, cond, not, ◌&&◌, List, [], ◌∷◌, ◌++◌, length, take, drop, refl, sym, ap, subst, ◌∙◌, arith}
-use Rattle.std.specs.Prelude.{T, Option, Some, None, is_some, max, nat_lt}
+use Rattle.std.proofs.Common.{◌≡◌, ℕ, ◌+◌, ◌-◌, ◌*◌, ◌/◌, ◌^◌, leb, ◌<◌, ◌≤◌, Bool, true, false, cond, not, ◌&&◌, List, [], ◌∷◌, ◌++◌, length, take, drop, refl, sym, ap, subst, ◌∙◌, arith}
+use Rattle.std.specs.Prelude.{Option, Some, None, max, nat_lt}
 use Rattle.std.specs.declared.cmp.Ordering.{Ordering}
 use Rattle.std.specs.declared.cmp.Ordering.TheVariants.{Equal}
-use Rattle.std.specs.Ordering.{nat_cmp, is_lt}
+use Rattle.std.specs.Ordering.{nat_cmp}
 use Rattle.std.proofs.lemmas.Bool.Decides.{nat_tests}
-use Rattle.std.specs.FinMap.{find, entries, is_sorted, get, get-entries, entries_sorted}
+use Rattle.std.specs.FinMap.{find, entries, get, get-entries, entries_sorted}
 use Rattle.std.specs.FinMap.Entries.{where_key, find-where_key, is_sorted-where_key, same_entries}
 use Rattle.std.proofs.lemmas.List.{append_assoc}
 use Rattle.std.proofs.Math.ListN.{length-append}
@@ -13,16 +13,16 @@ use Rattle.trie_keys.specs.Bits.{bits_cmp, begins, place_of, child_of, place_str
 use Rattle.ipnet_blocks.specs.Blocks.{digits}
 use Rattle.trie_keys.specs.Prefixes.{prefix_bits}
 use Rattle.trie_core.specs.Places.{AllBelow, named, placed, value_list, child_list, first_place_of}
-use Rattle.trie_core.specs.Nodes.{BitMap, Seen, under, node_map, node_height, IsNode}
+use Rattle.trie_core.specs.Nodes.{Seen, under, node_height, IsNode}
 use Rattle.trie_core.specs.Count.{all_nodes, total}
 use Rattle.trie_core.specs.Walks.{first_value, KeysWithin, levels_of, nodes_of, part_map, part_rest, AreInOrder, AreParts, IsFrame}
 use Rattle.trie_keys.proofs.Strings.{bits_total, bits_same, both, front, take_take}
 use Rattle.trie_core.proofs.Maps.{child_get, get_none, get-short, get-long}
-use Rattle.trie_core.proofs.Order.{walk_value, walk_child, walk_none, without_value, without_child, starts_after, values_after}
+use Rattle.trie_core.proofs.Order.{walk_value, walk_child, walk_none, starts_after, values_after}
 use Rattle.trie_core.proofs.Count.{things}
 use Rattle.trie_keys.proofs.Numbers.{child_of-string, length-child_string, place_strings, place_string-place_of, child_string-child_of, place_bound, number_bound, number-take}
 use Rattle.trie_keys.proofs.Begins.{value_before, inside_short, inside_long, past_short, past_long, from_short, from_long}
-use Rattle.trie_core.proofs.Named.{IsNaming, named_find, named_sorted, places_named, children_named, values_short, children_long, values_below, at_below, child_things, value_things}
+use Rattle.trie_core.proofs.Named.{IsNaming, named_find, named_sorted, places_named, children_named, values_short, children_long, values_below, at_below, child_things}
 use Rattle.trie_core.proofs.Edits.{at_sorted}
 use Rattle.trie_core.proofs.Seen.{IsSeen}
 

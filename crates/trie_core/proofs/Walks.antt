@@ -1,15 +1,15 @@
 -- The stack of a walk, and the way down to where a walk starts.
-use Rattle.std.proofs.Common.{◌≡◌, ℕ, zero, suc, ◌+◌, ◌*◌, ◌<◌, ◌≤◌, Bool, true, false, cond, not, ◌&&◌, List, [], ◌∷◌, ◌++◌, length, take, drop, refl, sym, ap, subst, ◌∙◌, arith}
+use Rattle.std.proofs.Common.{◌≡◌, ℕ, suc, ◌+◌, ◌*◌, ◌<◌, ◌≤◌, Bool, true, false, cond, not, ◌&&◌, List, [], ◌∷◌, ◌++◌, length, take, drop, refl, sym, ap, subst, ◌∙◌, arith}
 use Rattle.std.specs.Prelude.{T, Option, Some, None, is_some}
 use Rattle.std.specs.declared.cmp.Ordering.TheVariants.{Less}
 use Rattle.std.specs.Ordering.{is_lt}
 use Rattle.std.specs.FinMap.{is_sorted, find, entries, get, get-entries, entries_sorted, empty}
-use Rattle.std.specs.FinMap.Entries.{where_key, find-where_key, is_sorted-where_key, same_entries, below_all}
+use Rattle.std.specs.FinMap.Entries.{where_key, find-where_key, is_sorted-where_key, same_entries}
 use Rattle.std.proofs.lemmas.List.{append_assoc, take-append-drop}
 use Rattle.std.proofs.Math.ListN.{length-append, length-drop}
 use Rattle.trie_keys.specs.Bits.{bits_cmp, begins, child_of, child_string, is_past, is_from}
 use Rattle.trie_keys.specs.Prefixes.{prefix_bits}
-use Rattle.trie_core.specs.Nodes.{BitMap, Seen, under, node_map}
+use Rattle.trie_core.specs.Nodes.{BitMap, Seen, under}
 use Rattle.trie_core.specs.Search.{IsChild, HasNoChild}
 use Rattle.trie_core.specs.Walks.{KeysWithin, Left, walk_rest, walk_weight, FitFrom}
 use Rattle.trie_keys.proofs.Strings.{bits_total, bits_same, same, same-Decides, same-refl, not_same, append_none, front, take_first, begins_take}

@@ -7,7 +7,7 @@ use Rattle.std.proofs.lemmas.Bool.Decides.{nat_tests}
 use Rattle.std.proofs.Math.ListN.{length-take}
 use Rattle.trie_keys.specs.Bits.{bits_cmp, begins, place_from, place_of, number_from, child_of, place_string, IsBeginMask, is_past, is_from}
 use Rattle.trie_keys.proofs.Strings.{both, take_take}
-use Rattle.trie_keys.proofs.Numbers.{place_strings, place_from_number, number-take, number_bound}
+use Rattle.trie_keys.proofs.Numbers.{place_strings, place_from_number, number-take}
 
 T-true : (b : Bool) → T b → b ≡ true
 T-true true h = refl

@@ -1,4 +1,3 @@
-use Rattle.std.proofs.Common.{arith}
 use Rattle.trie_keys.proofs.Begins.{after_longest}
 use Rattle.trie_core.proofs.frame.after_beginnings.Goals as goal
 

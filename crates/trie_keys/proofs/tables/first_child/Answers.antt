@@ -1,5 +1,5 @@
-use Rattle.std.proofs.Common.{◌≤◌, ◌∙◌, ap, length, subst, sym, arith}
-use Rattle.trie_keys.specs.Bits.{child_of, place_string}
+use Rattle.std.proofs.Common.{◌∙◌, ap, length, subst, sym, arith}
+use Rattle.trie_keys.specs.Bits.{place_string}
 use Rattle.trie_keys.specs.Prefixes.{prefix_bits, IsMasked}
 use Rattle.trie_keys.proofs.Begins.{number_of_place}
 use Rattle.trie_keys.proofs.Longer.{numbered}

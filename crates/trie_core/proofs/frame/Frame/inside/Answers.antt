@@ -1,4 +1,4 @@
-use Rattle.std.proofs.Common.{◌≤◌, ◌+◌, ◌/◌, ◌^◌, ◌∙◌, sym, ap, arith}
+use Rattle.std.proofs.Common.{◌/◌, ◌^◌, ap, arith}
 use Rattle.trie_keys.proofs.Begins.{inside_ends}
 use Rattle.trie_core.proofs.Frames.{inside_frame}
 use Rattle.trie_core.proofs.frame.Frame.inside.Goals as goal

@@ -1,6 +1,4 @@
-use Rattle.std.proofs.Common.{◌+◌, ◌*◌, ◌∙◌, ◌++◌, ◌∷◌, sym, ap, length, arith}
-use Rattle.trie_keys.specs.Bits.{place_string}
-use Rattle.trie_keys.specs.Prefixes.{prefix_bits}
+use Rattle.std.proofs.Common.{◌∙◌, ◌∷◌, sym, ap, arith}
 use Rattle.trie_core.specs.Walks.{part_rest}
 use Rattle.trie_core.proofs.Frames.{value_next, value_key, child_next, child_frame, nothing_next}
 use Rattle.trie_core.proofs.frame.Frame.next.Goals as goal

@@ -1,4 +1,4 @@
-use Rattle.std.proofs.Common.{◌≡◌, ◌+◌, ℕ, Bool, List, true, false, cond, ◌∙◌, sym, ap}
+use Rattle.std.proofs.Common.{◌≡◌, ◌+◌, ℕ, Bool, List, true, false, cond, ◌∙◌, sym}
 use Rattle.trie_keys.specs.Bits.{place_of}
 use Rattle.trie_core.proofs.Frames.{onwards_frame}
 use Rattle.trie_core.proofs.frame.Frame.onwards.Goals.{then-inclusive, else-inclusive}

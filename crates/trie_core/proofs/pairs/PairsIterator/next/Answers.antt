@@ -1,4 +1,4 @@
-use Rattle.std.proofs.Common.{◌≡◌, ◌∙◌, ◌∷◌, ◌-◌, ap, sym, length, count_ones, arith}
+use Rattle.std.proofs.Common.{◌∙◌, ◌∷◌, ◌-◌, ap, sym, length, count_ones, arith}
 use Rattle.trie_core.specs.Places.{placed}
 use Rattle.trie_core.proofs.Splits.{lowest, placed_none}
 use Rattle.trie_core.proofs.pairs.PairsIterator.next.Goals as goal
