@@ -1,12 +1,11 @@
 -- What `follow` has at the end of its input.
-use Rattle.std.proofs.Common.{◌≡◌, ℕ, ◌<◌, ◌≤◌, ◌⊎◌, inl, inr, ⊎_elim, Bool, true, false, nat_lt, cond, List, [], ◌∷◌, ◌++◌, length, map, Option, Some, None, Result, Ok, Err, refl, sym, ap, ◌∙◌, subst, append-nil, arith}
+use Rattle.std.proofs.Common.{◌≡◌, ℕ, ◌<◌, inl, inr, ⊎_elim, Bool, true, false, nat_lt, cond, List, [], ◌∷◌, ◌++◌, length, map, Option, Some, None, Result, Ok, Err, refl, sym, ap, ◌∙◌, subst, append-nil, arith}
 use Rattle.std.specs.List.{filter_map}
 use Rattle.std.specs.Prelude.{IsSome, OnOk, IsErrOf}
 use Rattle.std.specs.Io.KnownBytes.{Appends}
 use Rattle.std.proofs.lemmas.Bool.Decides.{nat_tests}
 use Rattle.ipnet_addr.specs.Addresses.{Address, IsAddress}
 use Rattle.ipnet_addr.proofs.Ascending.{In-from_All, All-from_In}
-use Rattle.ipnet_addr.proofs.Members.{In}
 use Rattle.route_lines.specs.Bytes.{lines}
 use Rattle.route_lines.specs.Lines.{line_of, lines_of, kept_of, answers}
 use Rattle.route_lines.specs.Phrase.{Gives}
@@ -27,9 +26,8 @@ use Rattle.route_feed.specs.declared.counted.Counted.{Counted}
 use Rattle.route_feed.specs.declared.error.RunError.{RunError}
 use Rattle.route_feed.specs.declared.error.RunError.TheVariants.{Write}
 use Rattle.route_feed.specs.declared.reading.Reading.{Reading}
-use Rattle.route_feed.specs.Following.{State}
 use Rattle.route_feed.specs.Follows.{AreReplies, followed, MeetsReplies, MeetsAnother, Follows, FollowsPart}
-use Rattle.route_feed.specs.Readings.{reply_in, replies_at, hop_once, AllReplies, Steps, Stops, Went, Met}
+use Rattle.route_feed.specs.Readings.{reply_in, replies_at, hop_once, AllReplies, Steps, Went, Met}
 use Rattle.route_feed.specs.Replies.{printed}
 use Rattle.route_feed.specs.Run.{Writes}
 use Rattle.route_feed.specs.Steps.{flat_line}

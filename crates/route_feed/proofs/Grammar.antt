@@ -4,27 +4,24 @@ use Rattle.std.specs.Prelude.{IsSome, not}
 use Rattle.std.proofs.lemmas.List.Elements.{All-nil, All-cons, All-head, All-tail, recursion_from_All}
 use Rattle.std.proofs.lemmas.List.{length-append, length-map}
 use Rattle.ipnet_addr.specs.Addresses.{Ipv4, Ipv6, same_family}
-use Rattle.ipnet_addr.proofs.Members.{In}
 use Rattle.ipnet_blocks.specs.Blocks.{Block, first_of, is_before, same_block}
 use Rattle.ipnet_blocks.proofs.BlockLaws.{strict}
 use Rattle.ipnet_blocks.proofs.BlockTests.{before_from_test}
 use Rattle.ipnet.specs.IpNets.{block}
-use Rattle.route_lines.specs.Bytes.{lines, rest, onto_first}
+use Rattle.route_lines.specs.Bytes.{lines, rest}
 use Rattle.route_lines.specs.Lines.{line_of, lines_of}
 use Rattle.route_lines.specs.Spelled.{reply_of}
 use Rattle.route_lines.specs.Texts.{IsReply, reply_text}
 use Rattle.route_lines.specs.declared.command.Command.{Command}
 use Rattle.route_lines.specs.declared.command.Command.TheVariants as C
-use Rattle.route_lines.specs.declared.cutter.Line.{Line}
 use Rattle.route_lines.specs.declared.reply.Reply.{Reply}
 use Rattle.route_lines.specs.declared.reply.Reply.TheVariants.{Close}
-use Rattle.route_table.specs.Onwards.{count_of}
 use Rattle.route_table.specs.Stored.{route_of}
-use Rattle.route_table.specs.Tables.{Route, IsTable, hop_at, is_stored, match_of, with_route, without_block}
+use Rattle.route_table.specs.Tables.{Route, IsTable, hop_at, is_stored, match_of, with_route}
 use Rattle.route_feed.specs.Commands.{command_in}
 use Rattle.route_feed.specs.Follows.{AreReplies}
 use Rattle.route_feed.specs.Laws.{BeginningsAreReplies}
-use Rattle.route_feed.specs.Output.{replies, first_or_false, refusals_after, whole_commands, at_end, output}
+use Rattle.route_feed.specs.Output.{replies, first_or_false, refusals_after, whole_commands, at_end}
 use Rattle.route_feed.specs.Replies.{printed}
 use Rattle.route_feed.specs.Steps as turn
 use Rattle.route_feed.proofs.Beginnings.{AreInRange, all_in_range, commands_of, empty_is_table, first_lines, replies_clean}

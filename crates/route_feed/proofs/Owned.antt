@@ -1,5 +1,5 @@
 -- The networks of a hop, one after another.
-use Rattle.std.proofs.Common.{◌≡◌, ℕ, zero, suc, ◌+◌, ◌<◌, ◌∙◌, ◌⊎◌, inl, inr, List, [], ◌∷◌, length, drop, map, All, slice_index_or, refl, sym, ap, subst, arith}
+use Rattle.std.proofs.Common.{◌≡◌, ℕ, zero, suc, ◌+◌, ◌<◌, ◌∙◌, inl, inr, List, [], ◌∷◌, length, drop, map, All, slice_index_or, refl, sym, ap, subst, arith}
 use Rattle.ipnet_addr.proofs.Ascending.{In-from_All}
 use Rattle.ipnet_addr.proofs.Members.{In}
 use Rattle.ipnet.specs.IpNets.{block, family, parts}

@@ -1,5 +1,5 @@
 -- The lines of a change paint what has changed.
-use Rattle.std.proofs.Common.{◌≡◌, ◌≢◌, ℕ, ◌⊎◌, inl, inr, ⊎_elim, Bool, true, false, cond, List, [], ◌∷◌, ◌++◌, map, Option, Some, None, refl, sym, ap, ◌∙◌, subst}
+use Rattle.std.proofs.Common.{◌≡◌, ℕ, ◌⊎◌, inl, inr, ⊎_elim, Bool, true, false, cond, List, [], ◌∷◌, map, Option, Some, None, refl, sym, ap, ◌∙◌}
 use Rattle.std.specs.List.{filter_map}
 use Rattle.ipnet_addr.proofs.Members.{In}
 use Rattle.ipnet_addr.proofs.Ascending.{In-from_Any}
@@ -16,7 +16,6 @@ use Rattle.route_table.proofs.Changes.{changed_is_maximal}
 use Rattle.route_table.proofs.Gaps.{of_network_at}
 use Rattle.route_feed.specs.Steps.{change_line, change_lines}
 use Rattle.route_feed.specs.Streams.{Change, change_of, painted_over}
-use Rattle.route_feed.proofs.Carried.{painted-append}
 use Rattle.route_feed.proofs.Told.{same_or_not}
 
 -- the changes that lines tell

@@ -1,5 +1,5 @@
 -- A run of `follow`, step by step.
-use Rattle.std.proofs.Common.{◌≡◌, ℕ, ◌<◌, ◌⊎◌, inl, inr, ⊎_elim, Bool, true, false, cond, List, [], ◌∷◌, ◌++◌, length, take, drop, suc, get_or, Option, Some, None, refl, sym, ap, ◌∙◌, subst, append_assoc, append-nil}
+use Rattle.std.proofs.Common.{◌≡◌, ℕ, ◌<◌, inl, ⊎_elim, Bool, true, false, cond, List, [], ◌∷◌, ◌++◌, length, take, drop, suc, get_or, Option, Some, None, refl, sym, ap, ◌∙◌, subst, append_assoc}
 use Rattle.std.specs.Prelude.{IsSome}
 use Rattle.std.specs.List.{filter_map}
 use Rattle.std.specs.Option.{option_to_list}
@@ -7,7 +7,7 @@ use Rattle.std.proofs.lemmas.List.Elements.{filter_map-append}
 use Rattle.std.proofs.KnownBytes.{Consumes-nil, Consumes-trans}
 use Rattle.ipnet_addr.specs.Addresses.{Address, IsAddress}
 use Rattle.ipnet_addr.proofs.Ascending.{In-from_All, All-from_In}
-use Rattle.ipnet_addr.proofs.Members.{In, In-left, In-right, In-cases}
+use Rattle.ipnet_addr.proofs.Members.{In-left, In-right, In-cases}
 use Rattle.route_lines.specs.Kept.{Kept}
 use Rattle.route_lines.specs.Lines.{answers, fed_answer, fed, fed_all}
 use Rattle.route_lines.specs.declared.cutter.Line.{Line}

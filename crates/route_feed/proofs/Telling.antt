@@ -1,11 +1,10 @@
 -- Lines written one after another.
-use Rattle.std.proofs.Common.{◌≡◌, ℕ, zero, suc, ◌<◌, ◌-◌, take, arith, List, [], ◌∷◌, ◌++◌, map, Option, Result, Ok, Err, sym, ap, ◌∙◌, subst, append_assoc, append-nil}
+use Rattle.std.proofs.Common.{◌≡◌, ℕ, zero, suc, ◌<◌, ◌-◌, take, arith, List, [], ◌∷◌, ◌++◌, map, Option, sym, ap, ◌∙◌, subst, append_assoc, append-nil}
 use Rattle.std.proofs.lemmas.Grind.{flat_map-append}
 use Rattle.route_lines.specs.declared.reply.Reply.{Reply}
-use Rattle.route_feed.specs.declared.error.RunError.{RunError}
 use Rattle.route_feed.specs.declared.counted.Counted.{Counted}
 use Rattle.route_feed.specs.Replies.{reply_line, printed}
-use Rattle.route_feed.specs.Run.{Written, Torn, Writes}
+use Rattle.route_feed.specs.Run.{Written, Torn}
 use Rattle.route_feed.proofs.Written.{Written-nil, Written-trans, Torn-after, Torn-longer}
 
 -- the lines of the elements but those that are left were written

@@ -6,7 +6,7 @@ use Rattle.std.specs.List.{list_any}
 use Rattle.ipnet_addr.proofs.Members.{In, In-right}
 use Rattle.ipnet_addr.proofs.Ascending.{In-from_Contains, Contains-from_In, In-from_All}
 use Rattle.ipnet_addr.specs.Addresses.{Address, IsAddress}
-use Rattle.ipnet_blocks.specs.Blocks.{Block, IsBlock, HasAddress, IsLarger, first_of, same_block, is_before}
+use Rattle.ipnet_blocks.specs.Blocks.{Block, IsBlock, HasAddress, first_of, same_block, is_before}
 use Rattle.ipnet_blocks.specs.Maximal.{IsMaximal, maximal_of}
 use Rattle.ipnet_blocks.proofs.BlockLaws.{has_first}
 use Rattle.ipnet_blocks.proofs.BlockTests as test

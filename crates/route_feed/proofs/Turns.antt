@@ -11,12 +11,11 @@ use Rattle.route_lines.specs.declared.command.Command.{Command}
 use Rattle.route_lines.specs.declared.command.Command.TheVariants as C
 use Rattle.route_lines.specs.declared.reply.Closing.{Closing}
 use Rattle.route_lines.specs.declared.reply.Closing.TheVariants.{Missing, Bad, Refused}
-use Rattle.route_lines.specs.declared.reply.Reply.TheVariants.{Own}
 use Rattle.route_lines.specs.declared.reply.Reply.{Reply}
 use Rattle.route_table.specs.Changes.{changed}
 use Rattle.route_table.specs.Flats.{Piece, blocks_of, flat_of}
 use Rattle.route_table.specs.Onwards.{count_of}
-use Rattle.route_table.specs.Stored.{network_at, route_of}
+use Rattle.route_table.specs.Stored.{route_of}
 use Rattle.route_table.specs.Tables.{Route, IsTable, IsHop, hop_at, is_stored, match_of, covering, with_route, without_block, number_of, match_number}
 use Rattle.route_table.proofs.Changes.{changed_is_maximal}
 use Rattle.route_table.proofs.FlatSearch.{search_is_flat}

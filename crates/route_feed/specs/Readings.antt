@@ -1,5 +1,5 @@
 -- The states of a run of `follow`, and what its parts do.
-use Rattle.std.specs.Prelude.{◌≡◌, ℕ, Bool, false, List, [], ◌++◌, if◌then◌else◌, All, Option, None, IsSome}
+use Rattle.std.specs.Prelude.{◌≡◌, ℕ, false, List, [], ◌++◌, if◌then◌else◌, All, Option, None, IsSome}
 use Rattle.std.specs.List.{filter_map}
 use Rattle.std.specs.Io.KnownBytes.{Consumes}
 use Rattle.ipnet_addr.specs.Addresses.{Address, IsAddress}

@@ -9,7 +9,6 @@ use Rattle.std.proofs.lemmas.List.Sums.{AllPass-from_list_all}
 use Rattle.std.proofs.lemmas.Fmt.{decimal_injective, decimal_is_IsNumeral, length-decimal-le}
 use Rattle.std.specs.Str.Parse.{AllDigits}
 use Rattle.std.specs.Char.{digit_value}
-use Rattle.ipnet.specs.IpNetText.{Reads}
 use Rattle.ipnet.specs.IpNets.{block}
 use Rattle.route_table.specs.Stored.{network_at}
 use Rattle.ipnet.specs.declared.ip_net.IpNet.{IpNet}

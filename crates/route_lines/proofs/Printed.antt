@@ -7,10 +7,9 @@ use Rattle.ipnet.specs.IpNetText.{net_text, Reads}
 use Rattle.ipnet.specs.IpNets.{block}
 use Rattle.route_table.specs.Stored.{network_at}
 use Rattle.ipnet.specs.declared.ip_net.IpNet.{IpNet}
-use Rattle.route_lines.specs.Phrase.{Then, After}
-use Rattle.route_lines.specs.Words.{IsNet, IsNumber, IsHop, IsCount}
+use Rattle.route_lines.specs.Phrase.{Then}
+use Rattle.route_lines.specs.Words.{IsNet, IsHop}
 use Rattle.route_lines.specs.Texts.{IsReply, reply_text, hop_text, IsPrintable}
-use Rattle.route_table.specs.declared.hop.Hop.{Hop}
 use Rattle.route_lines.specs.declared.reply.Reply.{Reply}
 use Rattle.route_lines.specs.declared.reply.Reply.TheVariants as R
 

@@ -1,15 +1,14 @@
 -- The kinds of reply lines: each with its words, and told by the first three bytes of its texts.
-use Rattle.std.proofs.Common.{◌≡◌, ◌≢◌, ℕ, ◌≤◌, true, List, length, All, codes, refl, sym, ap, ◌∙◌, arith, subst, if◌then◌else◌, nat_eq}
+use Rattle.std.proofs.Common.{◌≡◌, ◌≢◌, ℕ, ◌≤◌, List, length, All, codes, refl, sym, ap, ◌∙◌, arith, if◌then◌else◌, nat_eq}
 use Rattle.std.specs.Prelude.{⊤}
 use Rattle.ipnet.specs.declared.ip_net.IpNet.{IpNet}
 use Rattle.route_lines.specs.Phrase.{Then, After}
-use Rattle.route_lines.specs.Words.{IsNet, IsNumber, IsLimit, IsCount, IsHop}
-use Rattle.route_lines.specs.Texts.{IsReply, closing_text}
+use Rattle.route_lines.specs.Words.{IsNet, IsNumber, IsCount, IsHop}
+use Rattle.route_lines.specs.Texts.{IsReply}
 use Rattle.route_lines.specs.Free as Free
 use Rattle.route_lines.proofs.Good.{Good, start, one_line}
 use Rattle.route_lines.proofs.Good as Good
 use Rattle.route_table.specs.declared.hop.Hop.{Hop}
-use Rattle.route_lines.specs.declared.reply.Closing.{Closing}
 use Rattle.route_lines.specs.declared.reply.Closing.TheVariants.{Done, Missing, Bad, Refused}
 use Rattle.route_lines.specs.declared.reply.Reply.{Reply}
 use Rattle.route_lines.specs.declared.reply.Reply.TheVariants as R

@@ -1,5 +1,5 @@
 -- The functions find the line that a text spells.
-use Rattle.std.proofs.Common.{◌≡◌, ◌≢◌, ℕ, ◌+◌, ◌^◌, ◌<◌, ◌≤◌, Bool, true, false, true≢false, cond, ◌&&◌, ◌==◌, nat_le, List, [], ◌∷◌, ◌++◌, length, take, drop, All, codes, decimal, Option, Some, None, MatchOption, option_map, option_and_then, refl, sym, ap, subst, ◌∙◌, arith, take-append-drop, take_at}
+use Rattle.std.proofs.Common.{◌≡◌, ◌≢◌, ℕ, ◌^◌, ◌<◌, Bool, true, false, true≢false, cond, ◌&&◌, ◌==◌, nat_le, List, [], ◌∷◌, ◌++◌, length, take, drop, codes, decimal, Option, Some, None, MatchOption, option_map, option_and_then, refl, sym, ap, ◌∙◌, arith, take-append-drop, take_at}
 use Rattle.std.specs.Str.{bytes_eq}
 use Rattle.std.specs.Str.Parse.{digits_value}
 use Rattle.std.proofs.lemmas.Bool.{and_parts}
@@ -19,7 +19,6 @@ use Rattle.route_lines.specs.Phrase.{IsUnspaced, IsDecimal, Then, After, Gives, 
 use Rattle.route_lines.specs.Words.{IsNet, IsHop, IsNumber, IsLimit, IsCount}
 use Rattle.route_lines.specs.Texts.{IsCommand, IsReply, closing_text}
 use Rattle.route_lines.specs.Spelled.{split, net_of_text, number_of_text, hop_of_text, of_word, of_both, after_prefix, or_else, command_of, closing_of, reply_of}
-use Rattle.route_lines.specs.declared.command.Command.{Command}
 use Rattle.route_lines.specs.declared.command.Command.TheVariants as C
 use Rattle.route_lines.specs.declared.reply.Closing.{Closing}
 use Rattle.route_lines.specs.declared.reply.Closing.TheVariants.{Done, Missing, Bad, Refused}

@@ -1,10 +1,10 @@
 -- Prefixes and first words of lists.
-use Rattle.std.proofs.Common.{◌≡◌, ◌≢◌, ℕ, suc, ◌+◌, ◌<◌, true, false, true≢false, List, [], ◌∷◌, ◌++◌, length, get_or, take, drop, All, Option, Some, None, IfSome, IfNone, MatchOption, Bor, bytes_eq, codes, refl, sym, ap, ◌∙◌, arith, take-append-drop, take_at, drop-cons, add-one, get_or-take, length-take-le, append_assoc, subst, decimal, ◌^◌, ◌≤◌}
+use Rattle.std.proofs.Common.{◌≡◌, ◌≢◌, ℕ, suc, ◌+◌, ◌<◌, true, false, true≢false, List, [], ◌∷◌, ◌++◌, length, get_or, take, drop, All, Option, Some, None, IfSome, IfNone, MatchOption, Bor, bytes_eq, codes, refl, sym, ap, ◌∙◌, arith, take-append-drop, take_at, drop-cons, add-one, get_or-take, length-take-le, append_assoc, subst, decimal, ◌^◌}
 use Rattle.std.proofs.lemmas.List.Elements.{All-from_get_or, All-head, All-tail}
 use Rattle.std.proofs.lemmas.List.{append_cancel_left}
 use Rattle.std.proofs.lemmas.Fmt.{decimal_injective}
 use Rattle.std.proofs.lemmas.Slice.Eq.{bytes_eq-Decides}
-use Rattle.std.proofs.Common.{Result, Ok, Err, IsOk}
+use Rattle.std.proofs.Common.{Result, Ok, Err}
 use Rattle.std.proofs.lemmas.Fmt.{parse-decimal, IsAscii-decimal}
 use Rattle.std.proofs.lemmas.Str.{IsUtf8-from_ascii}
 use Rattle.std.specs.Str.{IsUtf8}

@@ -1,12 +1,12 @@
 -- Words have no space.
-use Rattle.std.proofs.Common.{◌≡◌, ◌≢◌, ℕ, ◌<◌, ◌≤◌, ◌^◌, List, [], ◌∷◌, All, decimal, codes, arith}
+use Rattle.std.proofs.Common.{◌≢◌, ℕ, ◌<◌, ◌^◌, List, [], ◌∷◌, All, decimal, codes, arith}
 use Rattle.std.proofs.lemmas.List.Elements.{All-nil, All-cons}
 use Rattle.std.proofs.lemmas.Fmt.{decimal_is_IsNumeral}
 use Rattle.std.specs.Str.Parse.{AllDigits}
 use Rattle.std.specs.Char.{digit_value}
 use Rattle.ipnet.specs.declared.ip_net.IpNet.{IpNet}
 use Rattle.ipnet.proofs.NoSpace.{no_space}
-use Rattle.route_lines.specs.Phrase.{IsUnspaced, IsDecimal, IsFree}
+use Rattle.route_lines.specs.Phrase.{IsUnspaced, IsDecimal}
 use Rattle.route_lines.specs.Words.{IsNet, IsHop}
 use Rattle.route_table.specs.declared.hop.Hop.{Hop}
 use Rattle.route_table.specs.declared.hop.Hop.TheVariants.{Number, Drop}

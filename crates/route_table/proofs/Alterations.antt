@@ -1,5 +1,5 @@
 -- Which hops an added route changes, and one that is taken out.
-use Rattle.std.proofs.Common.{◌≡◌, ◌≢◌, ℕ, ◌≤◌, ◌<◌, ◌⊎◌, ◌↔◌, inl, inr, ⊎_elim, Bool, true, false, List, [], Option, Some, None, Contains, filter, refl, sym, ap, ◌∙◌, subst, arith}
+use Rattle.std.proofs.Common.{◌≡◌, ◌≢◌, ◌≤◌, ◌↔◌, ⊎_elim, Bool, true, false, List, [], Option, Some, None, filter, refl, sym, ap, ◌∙◌, subst, arith}
 use Rattle.ipnet_addr.specs.Addresses.{Family, Address, IsAddress, same_family}
 use Rattle.ipnet_blocks.specs.Blocks.{Block, IsBlock, HasAddress, IsInside, IsLarger, same_block, host}
 use Rattle.ipnet_blocks.specs.Maximal.{IsMaximal}

@@ -1,5 +1,5 @@
 -- What calls of the tries answer, as answers of the table.
-use Rattle.std.proofs.Common.{◌≡◌, ℕ, ◌+◌, ◌-◌, ◌/◌, ◌^◌, ◌≤◌, ◌<◌, ◌⊎◌, inl, inr, ⊎_elim, Bool, true, false, cond, ◌||◌, List, [], ◌∷◌, ◌++◌, length, take, map, filter, Option, Some, None, All, refl, sym, ap, ◌∙◌, subst, arith, append-nil}
+use Rattle.std.proofs.Common.{◌≡◌, ◌-◌, ◌/◌, ◌^◌, ◌≤◌, ◌⊎◌, inl, inr, ⊎_elim, Bool, true, false, cond, ◌||◌, List, [], ◌∷◌, ◌++◌, length, take, map, filter, Option, Some, None, refl, sym, ap, ◌∙◌, subst, arith, append-nil}
 use Rattle.std.specs.Prelude.{is_some, MatchOption}
 use Rattle.std.specs.List.{list_any}
 use Rattle.std.specs.Option.{option_map}
@@ -15,7 +15,6 @@ use Rattle.ipnet_blocks.proofs.NetworkBlocks.{block_is, block_round_trip}
 use Rattle.ipnet_blocks.proofs.Strings.{length-digits}
 use Rattle.ipnet_addr.proofs.Members.{In}
 use Rattle.trie_keys.specs.Bits.{begins, bits_cmp, number_from}
-use Rattle.trie_core.specs.Nodes.{BitMap}
 use Rattle.trie_core.specs.Search.{NoBeginning, IsLongest}
 use Rattle.trie_keys.proofs.Strings.{bits_total, bits_same}
 use Rattle.trie_map.specs.Maps.{IsLongestKey}

@@ -1,6 +1,5 @@
 -- The gaps between the routes inside a network, and the blocks of them that an iterator has left.
-use Rattle.std.proofs.Common.{◌≡◌, ℕ, zero, suc, ◌+◌, ◌-◌, ◌*◌, ◌/◌, ◌%◌, ◌^◌, ◌≤◌, ◌<◌, ◌⊎◌, inl, inr, ⊎_elim, Bool, true, false, cond, nat_lt, nat_le, max, List, [], ◌∷◌, ◌++◌, length, map, Option, Some, None, All, Any, refl, sym, ap, ◌∙◌, subst, arith}
-use Rattle.std.specs.Prelude.{MatchOption}
+use Rattle.std.proofs.Common.{◌≡◌, ℕ, zero, suc, ◌+◌, ◌-◌, ◌^◌, ◌≤◌, ◌<◌, inl, inr, Bool, true, false, cond, nat_lt, nat_le, max, List, [], ◌∷◌, ◌++◌, map, Option, Some, None, All, refl, sym, ap, ◌∙◌, subst, arith}
 use Rattle.std.specs.Iterator.{YieldsFirst}
 use Rattle.std.proofs.lemmas.Bool.{lt-ltb, le-leb}
 use Rattle.std.proofs.lemmas.Bool.Decides.{nat_tests}
@@ -14,7 +13,7 @@ use Rattle.ipnet_blocks.specs.Spans.{limits_of}
 use Rattle.ipnet_blocks.specs.declared.aggregate.Span.{Span}
 use Rattle.ipnet_blocks.proofs.NetworkBlocks.{block_round_trip}
 use Rattle.ipnet.specs.IpNets.{block, family, parts, net_in}
-use Rattle.ipnet.specs.IpSubnets.{ip_cut, ip_limits, ip_subnets, after_first_of}
+use Rattle.ipnet.specs.IpSubnets.{ip_cut, ip_limits, ip_subnets}
 use Rattle.ipnet.specs.declared.ip_net.IpNet.{IpNet}
 use Rattle.ipnet.specs.declared.ip_net.IpNet.TheVariants as net
 use Rattle.ipnet.specs.declared.subnets.IpSubnets.{IpSubnets}

@@ -1,17 +1,16 @@
 -- The blocks of the gaps inside a network are the maximal blocks of what it governs.
-use Rattle.std.proofs.Common.{◌≡◌, ℕ, ◌+◌, ◌-◌, ◌*◌, ◌^◌, ◌≤◌, ◌<◌, ◌⊎◌, inl, inr, ⊎_elim, Bool, true, false, cond, nat_lt, max, List, [], ◌∷◌, All, Any, Contains, filter, refl, sym, ap, ◌∙◌, subst, arith}
+use Rattle.std.proofs.Common.{◌≡◌, ℕ, ◌+◌, ◌-◌, ◌^◌, ◌≤◌, ◌<◌, inl, inr, ⊎_elim, Bool, true, false, cond, nat_lt, max, List, [], ◌∷◌, All, refl, sym, ap, ◌∙◌, subst, arith}
 use Rattle.std.proofs.lemmas.Bool.{cases_lt}
 use Rattle.std.proofs.lemmas.Bool.Decides.{nat_tests}
-use Rattle.std.proofs.lemmas.Nat.{pow_pos}
-use Rattle.ipnet_addr.specs.Addresses.{Family, Ipv4, Ipv6, width, rank, Address, IsAddress}
+use Rattle.ipnet_addr.specs.Addresses.{width, rank, Address}
 use Rattle.ipnet_addr.proofs.Members.{In}
-use Rattle.ipnet_addr.proofs.Ascending.{In-from_All, All-from_In, In-from_Any, Any-from_In, In-from_Contains, Contains-from_In, Rising, Rising-from_pairs}
-use Rattle.ipnet_blocks.specs.Blocks.{Block, IsBlock, free_bits, HasAddress, IsInside, IsLarger, IsBefore, is_inside, first, last, first_of}
+use Rattle.ipnet_addr.proofs.Ascending.{All-from_In, In-from_Any, Any-from_In, In-from_Contains, Contains-from_In, Rising, Rising-from_pairs}
+use Rattle.ipnet_blocks.specs.Blocks.{Block, IsBlock, IsInside, is_inside, first, last}
 use Rattle.ipnet_blocks.specs.Maximal.{IsMaximal}
-use Rattle.ipnet_blocks.specs.Spans.{IsIn, HasNumber, IsApart}
+use Rattle.ipnet_blocks.specs.Spans.{IsIn, IsApart}
 use Rattle.ipnet_blocks.specs.declared.aggregate.Span.{Span}
 use Rattle.ipnet_blocks.proofs.Aggregates.{InSpans, cuts_are_maximal}
-use Rattle.ipnet_blocks.proofs.BlockLaws.{has_first, longer_inside, numbers_from_inside}
+use Rattle.ipnet_blocks.proofs.BlockLaws.{longer_inside, numbers_from_inside}
 use Rattle.ipnet_blocks.proofs.Maximals.{member_is_address}
 use Rattle.ipnet_blocks.proofs.Netmasks.{block_is_interval}
 use Rattle.ipnet_blocks.proofs.Parents.{larger_is_shorter}

@@ -5,7 +5,7 @@ use Rattle.std.proofs.lemmas.Nat.{pow_pos}
 use Rattle.ipnet_addr.specs.Addresses.{Family, Ipv4, Ipv6, width, rank, Address, IsAddress}
 use Rattle.ipnet_addr.proofs.Members.{In}
 use Rattle.ipnet_addr.proofs.Ascending.{In-from_Contains, Contains-from_In, Rising, pairs_from_Rising, All-from_In}
-use Rattle.ipnet_blocks.specs.Blocks.{Block, IsBlock, HasAddress, first, last, first_of, host, whole}
+use Rattle.ipnet_blocks.specs.Blocks.{IsBlock, HasAddress, first, last, first_of, host, whole}
 use Rattle.ipnet_blocks.proofs.BlockLaws.{has_first, nested, longer_inside, common}
 use Rattle.ipnet_blocks.proofs.Maximals.{host_is_block, in_host, has_host, member_is_address}
 use Rattle.ipnet_blocks.proofs.Netmasks.{block_is_interval}

@@ -1,8 +1,8 @@
 -- The routes of the maps of both families.
-use Rattle.std.proofs.Common.{◌≡◌, ℕ, ◌⊎◌, inl, inr, ⊎_elim, Bool, List, [], ◌∷◌, ◌++◌, length, ◌≤◌, ◌<◌, map, Some, None, refl, sym, ap, ◌∙◌, subst, arith}
-use Rattle.std.specs.FinMap.{FinMap, empty, entries, entries_sorted, get, get-empty}
+use Rattle.std.proofs.Common.{◌≡◌, inl, inr, ⊎_elim, Bool, List, [], ◌∷◌, ◌++◌, length, ◌≤◌, map, Some, refl, sym, ap, ◌∙◌, subst, arith}
+use Rattle.std.specs.FinMap.{empty, entries, entries_sorted, get, get-empty}
 use Rattle.ipnet_addr.specs.Addresses.{Family, Ipv4, Ipv6, width, rank}
-use Rattle.ipnet_blocks.specs.Blocks.{Block, IsBlock, IsBefore, IsEarlier, bit_string}
+use Rattle.ipnet_blocks.specs.Blocks.{IsBlock, IsBefore, IsEarlier, bit_string}
 use Rattle.ipnet_addr.proofs.Members.{In, In-left, In-right, In-cases}
 use Rattle.ipnet_addr.proofs.Ascending.{Rising, All-from_In, pairs_from_Rising, same_rising, Rising-from_pairs}
 use Rattle.ipnet_blocks.proofs.BlockLaws.{strict}
@@ -10,9 +10,8 @@ use Rattle.ipnet_blocks.proofs.Order.{order_of_strings}
 use Rattle.route_table.specs.Tables.{Route, IsTable, IsHop}
 use Rattle.route_table.specs.declared.hop.Hop.{Hop}
 use Rattle.route_table.proofs.Updates.{Sooner, Rising-append}
-use Rattle.trie_core.specs.Nodes.{BitMap}
 use Rattle.trie_keys.specs.Bits.{bits_cmp}
-use Rattle.route_table.specs.Stored.{block_at, route_at, routes_in, Maps, maps_of, table_of, AreStored}
+use Rattle.route_table.specs.Stored.{block_at, route_at, routes_in, Maps, table_of, AreStored}
 use Rattle.route_table.proofs.Strings.{string_of_block, block_at_is_block, block_of_string, earlier}
 use Rattle.route_table.proofs.Entries.{KeysRise, rising, in_entries, get_of}
 

@@ -1,20 +1,17 @@
 -- The longest beginning that is a key is the longest match.
-use Rattle.std.proofs.Common.{◌≡◌, ℕ, zero, suc, ◌+◌, ◌-◌, ◌/◌, ◌^◌, ◌≤◌, ◌<◌, ◌⊎◌, inl, inr, ⊎_elim, List, [], ◌∷◌, ◌++◌, length, take, Option, Some, None, refl, sym, ap, ◌∙◌, subst, arith, length-append, shr_lt}
+use Rattle.std.proofs.Common.{◌≡◌, ℕ, zero, suc, ◌≤◌, ◌<◌, List, [], ◌∷◌, ◌++◌, length, take, Option, Some, None, refl, sym, ap, ◌∙◌, arith}
 use Rattle.std.specs.FinMap.{get}
-use Rattle.std.specs.Prelude.{Bool, MatchOption}
+use Rattle.std.specs.Prelude.{Bool}
 use native.Mathlib.Decide.{dec_le}
-use Rattle.ipnet_addr.specs.Addresses.{Family, Ipv4, Ipv6, width}
-use Rattle.ipnet_blocks.specs.Blocks.{Block, IsBlock, IsInside, Begins, digits, bit_string}
-use Rattle.ipnet_addr.proofs.Members.{In}
+use Rattle.ipnet_blocks.specs.Blocks.{Block, IsBlock, IsInside, bit_string}
 use Rattle.ipnet_addr.proofs.Ascending.{In-from_Contains, Contains-from_In}
-use Rattle.ipnet_blocks.proofs.BlockLaws.{Numbers, numbers_from_inside}
+use Rattle.ipnet_blocks.proofs.BlockLaws.{numbers_from_inside}
 use Rattle.ipnet_blocks.proofs.Strings.{length-digits, begins_from_inside, inside_from_begins}
-use Rattle.route_table.specs.Tables.{Route, IsMatch, match_of}
+use Rattle.route_table.specs.Tables.{Route, match_of}
 use Rattle.route_table.specs.declared.hop.Hop.{Hop}
 use Rattle.route_table.proofs.Matches.{match_meets, match_from}
-use Rattle.trie_core.specs.Nodes.{BitMap}
 use Rattle.trie_core.specs.Search.{NoBeginning, IsLongest}
-use Rattle.route_table.specs.Stored.{Maps, maps_of, table_of, AreStored}
+use Rattle.route_table.specs.Stored.{Maps, table_of, AreStored}
 use Rattle.route_table.proofs.Seams.{HasRoute, has_route, in_table, is_table}
 
 take_append : (xs ys : List Bool) → take (length xs) (xs ++ ys) ≡ xs

@@ -1,14 +1,13 @@
 -- A change at one key of one map is a change of one route.
-use Rattle.std.proofs.Common.{◌≡◌, ℕ, ◌≤◌, ◌⊎◌, inl, inr, ⊎_elim, Bool, true, false, cond, List, [], ◌∷◌, length, Option, Some, None, refl, sym, ap, ◌∙◌, subst, arith}
+use Rattle.std.proofs.Common.{◌≡◌, ◌≤◌, ◌⊎◌, inl, inr, ⊎_elim, Bool, true, false, cond, List, length, Option, Some, None, refl, sym, ap, ◌∙◌, subst, arith}
 use Rattle.std.specs.FinMap.{get, insert, remove, get-insert, get-remove}
 use Rattle.ipnet_addr.specs.Addresses.{Family, Ipv4, Ipv6, width, rank}
 use Rattle.ipnet_blocks.specs.Blocks.{Block, IsBlock, bit_string}
 use Rattle.ipnet_addr.proofs.Members.{In}
-use Rattle.route_table.specs.Tables.{Route, IsTable, IsHop, with_route, without_block}
+use Rattle.route_table.specs.Tables.{Route, IsHop, with_route, without_block}
 use Rattle.route_table.specs.declared.hop.Hop.{Hop}
 use Rattle.route_table.proofs.Updates.{same_or_not, added_back, added_itself, added_other, added_is_table, left_back, left_other, left_is_table}
 use Rattle.ipnet_blocks.proofs.Strings.{length-digits}
-use Rattle.trie_keys.specs.Bits.{bits_cmp}
 use Rattle.trie_core.specs.Nodes.{BitMap}
 use Rattle.trie_keys.proofs.Strings.{bits_total, same, same-Decides, same_false}
 use Rattle.route_table.specs.Stored.{Maps, maps_of, table_of, AreStored}

@@ -1,10 +1,10 @@
 -- Bit strings and the blocks that they name.
-use Rattle.std.proofs.Common.{◌≡◌, ℕ, suc, ◌+◌, ◌-◌, ◌*◌, ◌/◌, ◌%◌, ◌^◌, ◌<◌, ◌≤◌, Bool, true, false, List, [], ◌∷◌, length, refl, sym, ap, ◌∙◌, subst, arith}
+use Rattle.std.proofs.Common.{◌≡◌, ◌-◌, ◌*◌, ◌^◌, ◌<◌, ◌≤◌, Bool, true, false, List, [], ◌∷◌, length, refl, sym, ap, ◌∙◌, subst}
 use Rattle.std.proofs.Math.Nat.{mod-eq_of_lt}
-use Rattle.std.specs.declared.cmp.Ordering.TheVariants.{Less, Equal, Greater}
+use Rattle.std.specs.declared.cmp.Ordering.TheVariants.{Less}
 use Rattle.ipnet_addr.specs.Addresses.{Family, width}
 use Rattle.ipnet_blocks.specs.Blocks.{Block, IsBlock, digits, bit_string, IsEarlier}
-use Rattle.ipnet_blocks.specs.Networks.{Network, net_of}
+use Rattle.ipnet_blocks.specs.Networks.{net_of}
 use Rattle.ipnet_blocks.proofs.BlockLaws.{block_path}
 use Rattle.ipnet_blocks.proofs.Strings.{length-digits, digits_apart}
 use Rattle.trie_keys.specs.Bits.{bits_cmp, number_from}

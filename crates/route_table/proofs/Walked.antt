@@ -1,15 +1,14 @@
 -- What a walk of a family's trie gives, as routes.
-use Rattle.std.proofs.Common.{◌≡◌, ℕ, ◌≤◌, Bool, List, [], ◌∷◌, length, map, Option, Some, None, All, refl, sym, ap, ◌∙◌, subst, inl, inr}
+use Rattle.std.proofs.Common.{◌≡◌, ◌≤◌, Bool, List, [], ◌∷◌, length, map, Option, Some, None, refl, sym, ap, ◌∙◌, subst, inl, inr}
 use Rattle.ipnet_addr.specs.Addresses.{Family, Ipv4, Ipv6, width}
 use Rattle.ipnet_addr.proofs.Members.{In}
 use Rattle.ipnet_addr.proofs.Ascending.{In-from_All, All-from_In}
-use Rattle.ipnet_blocks.specs.Blocks.{Block, bit_string}
+use Rattle.ipnet_blocks.specs.Blocks.{bit_string}
 use Rattle.ipnet_blocks.specs.Networks.{Network, block_of, net_of}
 use Rattle.ipnet_blocks.proofs.NetworkBlocks.{block_round_trip}
 use Rattle.ipnet.specs.IpNets.{net_in}
 use Rattle.trie_keys.specs.Bits.{number_from}
-use Rattle.route_table.specs.Tables.{Route}
-use Rattle.route_table.specs.Stored.{block_at, route_at, network_at}
+use Rattle.route_table.specs.Stored.{block_at, route_at}
 use Rattle.std.specs.Option.{option_map}
 use Rattle.std.specs.Prelude.{MatchOption}
 use Rattle.route_table.specs.Items.{KeysUpTo, GivesRoute}

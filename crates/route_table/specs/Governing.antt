@@ -6,7 +6,7 @@ use Rattle.ipnet_blocks.specs.Blocks.{Block, is_inside, first, last}
 use Rattle.ipnet_blocks.specs.Cuts.{cut}
 use Rattle.ipnet_blocks.specs.Spans.{limits_of}
 use Rattle.ipnet_blocks.specs.declared.aggregate.Span.{Span}
-use Rattle.ipnet.specs.IpNets.{block, family, parts}
+use Rattle.ipnet.specs.IpNets.{family, parts}
 use Rattle.ipnet.specs.IpSubnets.{ip_cut}
 use Rattle.ipnet.specs.declared.subnets.IpSubnets.{IpSubnets}
 use Rattle.route_table.specs.Tables.{Route}

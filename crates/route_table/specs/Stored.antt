@@ -1,12 +1,12 @@
 -- A table as it is stored: for each family a finite map from bit strings to hops.
-use Rattle.std.specs.Prelude.{◌≡◌, ℕ, ◌≤◌, Bool, List, ◌++◌, Option, Some, length, map, filter}
+use Rattle.std.specs.Prelude.{◌≡◌, ◌≤◌, Bool, List, ◌++◌, Some, length, map, filter}
 use Rattle.std.specs.FinMap.{get, entries, from_entries}
 use Rattle.ipnet_addr.specs.Addresses.{Family, Ipv4, Ipv6, width, same_family}
 use Rattle.ipnet_blocks.specs.Blocks.{Block, bit_string}
 use Rattle.ipnet_blocks.specs.Networks.{net_of}
 use Rattle.ipnet.specs.IpNets.{block, net_in}
 use Rattle.ipnet.specs.declared.ip_net.IpNet.{IpNet}
-use Rattle.trie_keys.specs.Bits.{bits_cmp, number_from}
+use Rattle.trie_keys.specs.Bits.{number_from}
 use Rattle.trie_core.specs.Nodes.{BitMap}
 use Rattle.route_table.specs.Tables.{Route, IsHop}
 use Rattle.route_table.specs.declared.hop.Hop.{Hop}

@@ -1,4 +1,4 @@
-use Rattle.std.proofs.Common.{◌≡◌, sym, ap, subst, ◌∙◌, false, map, ℕ, Option, Some}
+use Rattle.std.proofs.Common.{◌≡◌, sym, subst, ◌∙◌, false, map, ℕ, Option, Some}
 use Rattle.ipnet.specs.IpNets.{block}
 use Rattle.ipnet_blocks.specs.Maximal.{IsMaximal}
 use Rattle.route_lines.specs.declared.command.Command.TheVariants.{Add}

@@ -1,10 +1,7 @@
-use Rattle.std.proofs.Common.{◌≡◌, ◌<◌, ◌∷◌, [], ◌++◌, ◌∙◌, sym, ap, cond, length, take, map, suc, arith}
-use Rattle.std.proofs.lemmas.List.{take_more}
+use Rattle.std.proofs.Common.{◌<◌, ◌∙◌, ap, cond, length, arith}
 use Rattle.ipnet.specs.IpNets.{block}
 use Rattle.ipnet_blocks.specs.Blocks.{has_address}
 use Rattle.route_table.specs.Tables.{hop_at, number_of}
-use Rattle.route_feed.specs.Streams.{painted_over}
-use Rattle.route_feed.specs.Waiting.{waiting_change, changes_of}
 use Rattle.route_feed.proofs.Carried.{one_more}
 use Rattle.route_feed.proofs.follower.carry_out.Goals as goal
 

@@ -1,4 +1,4 @@
-use Rattle.std.proofs.Common.{◌≡◌, ◌<◌, ◌∷◌, ◌∙◌, ap, sym, subst, drop, suc, length, slice_index_or, arith}
+use Rattle.std.proofs.Common.{ap, arith}
 use Rattle.std.proofs.lemmas.Result.{err_from_is_err_and}
 use Rattle.ipnet.specs.IpNets.{block}
 use Rattle.route_lines.specs.declared.reply.Reply.TheVariants.{Own}

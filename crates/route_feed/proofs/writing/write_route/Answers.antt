@@ -1,4 +1,4 @@
-use Rattle.std.proofs.Common.{ap, sym, subst}
+use Rattle.std.proofs.Common.{subst}
 use Rattle.route_lines.specs.declared.reply.Reply.TheVariants.{Route}
 use Rattle.route_feed.specs.Replies.{reply_line}
 use Rattle.route_feed.specs.Run.{Writes}

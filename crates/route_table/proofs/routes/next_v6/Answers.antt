@@ -1,4 +1,4 @@
-use Rattle.std.proofs.Common.{subst, sym, ap, map}
+use Rattle.std.proofs.Common.{subst, ap, map}
 use Rattle.std.specs.Option.{option_map}
 use Rattle.ipnet_addr.specs.Addresses.{Ipv6}
 use Rattle.route_table.specs.Items.{GivesRoute, entries_left}

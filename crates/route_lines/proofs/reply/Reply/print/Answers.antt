@@ -1,5 +1,4 @@
 use Rattle.std.proofs.Common.{rules}
-use Rattle.route_lines.specs.Texts.{IsReply, reply_text}
 use Rattle.route_lines.proofs.Printed.{prints, Words}
 use Rattle.route_lines.proofs.Replies.{clean_reply}
 use Rattle.route_lines.proofs.reply.Reply.print.Goals.{in-Set, in-Unset, in-Route, in-Flat, in-Own, in-Count, in-Close}

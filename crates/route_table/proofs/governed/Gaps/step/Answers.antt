@@ -1,6 +1,4 @@
-use Rattle.std.proofs.Common.{◌≡◌, ◌-◌, ◌∷◌, ◌∙◌, sym, subst, arith}
-use Rattle.ipnet_blocks.specs.Blocks.{first, last}
-use Rattle.ipnet.specs.IpNets.{block}
+use Rattle.std.proofs.Common.{◌≡◌, ◌-◌, ◌∷◌, sym, subst, arith}
 use Rattle.route_table.specs.Governing.{IsPassed, gaps_left}
 use Rattle.route_table.proofs.Gaps.{head_within, rest_within, passed_are, gap_given}
 use Rattle.route_table.proofs.governed.Gaps.step.Goals as goal

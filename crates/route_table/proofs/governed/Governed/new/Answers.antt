@@ -1,7 +1,7 @@
-use Rattle.std.proofs.Common.{◌≡◌, ◌∙◌, ◌++◌, ◌<◌, sym, ap, subst, arith}
+use Rattle.std.proofs.Common.{◌≡◌, ◌∙◌, ◌++◌, ap, arith}
 use Rattle.ipnet_addr.specs.Addresses.{Ipv4}
 use Rattle.ipnet_blocks.specs.Cuts.{Limits, cut}
-use Rattle.ipnet.specs.IpNets.{block, family, parts}
+use Rattle.ipnet.specs.IpNets.{family, parts}
 use Rattle.route_table.specs.Governing.{gaps, blocks_of_spans}
 use Rattle.route_table.proofs.Gaps.{no_cut}
 use Rattle.route_table.proofs.governed.Governed.new.Goals as goal

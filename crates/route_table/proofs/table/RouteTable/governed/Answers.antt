@@ -1,5 +1,5 @@
 use Rattle.std.proofs.Common.{◌≡◌, ◌∙◌, sym, ap, subst}
-use Rattle.ipnet_blocks.specs.Blocks.{Block, IsBlock}
+use Rattle.ipnet_blocks.specs.Blocks.{IsBlock}
 use Rattle.ipnet_blocks.specs.Networks.{IsNetwork}
 use Rattle.ipnet_blocks.proofs.NetworkBlocks.{block_is}
 use Rattle.ipnet.specs.IpNets.{block, family, parts}

@@ -1,4 +1,4 @@
-use Rattle.std.proofs.Common.{◌≡◌, refl}
+use Rattle.std.proofs.Common.{◌≡◌}
 use Rattle.std.specs.FinMap.{empty}
 use Rattle.ipnet_addr.specs.Addresses.{Family, Ipv4, Ipv6}
 use Rattle.trie_core.specs.Nodes.{BitMap}
