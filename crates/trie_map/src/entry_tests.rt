@@ -1,6 +1,6 @@
 //! Rows on entries.
 use crate::tests::net;
-use crate::{Entry, PrefixMap};
+use crate::{Entry, PrefixMap, Refused};
 use ipnet::Ipv4Net;
 use std::alloc::Global;
 use std::process::Abort;
@@ -95,4 +95,59 @@ fn written_and_taken_out(rt: HostRuntime) {
     assert_eq!(rt; entry.remove(), 11);
     assert!(rt; map.is_empty());
     assert_eq!(rt; map.node_count(), 2);
+}
+
+/// The map is empty and has its root alone, or it has 1.2.3.0/32 below five more nodes, with this value.
+fn is_refused_or_stored(rt: &impl Abort, map: &PrefixMap<Ipv4Net, u32>, value: Option<u32>) {
+    assert_eq!(rt; map.get(&net(rt, "1.2.3.0/32")).copied(), value);
+    assert_eq!(rt; map.len(), usize::from(value.is_some()));
+    assert_eq!(rt; map.node_count(), if value.is_some() { 7 } else { 1 });
+}
+
+/// What a storing call answered: the value where it was stored, none where it was refused and came back.
+fn answered(rt: &impl Abort, outcome: Result<&mut u32, (Refused, u32)>, value: u32) -> Option<u32> {
+    match outcome {
+        Ok(stored) => Some(*stored),
+        Err((refused, back)) => {
+            assert_eq!(rt; refused, Refused::Memory);
+            assert_eq!(rt; back, value);
+            None
+        }
+    }
+}
+
+/// Each request for memory of a call that stores may be refused: the map is as it was, and the value comes back.
+#[test]
+fn refused_entries(rt: HostRuntime) {
+    let mut map = empty(&rt, rt.alloc());
+    let stored = answered(&rt, map.entry(net(&rt, "1.2.3.0/32")).or_insert(1), 1);
+    is_refused_or_stored(&rt, &map, stored);
+    let mut map = empty(&rt, rt.alloc());
+    let stored = answered(
+        &rt,
+        map.entry(net(&rt, "1.2.3.0/32")).or_insert_with(|| 2),
+        2,
+    );
+    is_refused_or_stored(&rt, &map, stored);
+    let mut map = empty(&rt, rt.alloc());
+    let stored = answered(&rt, map.entry(net(&rt, "1.2.3.0/32")).or_default(), 0);
+    is_refused_or_stored(&rt, &map, stored);
+    let mut map = empty(&rt, rt.alloc());
+    let Entry::Vacant(entry) = map.entry(net(&rt, "1.2.3.0/32")) else {
+        panic!(&rt; "occupied")
+    };
+    let stored = answered(&rt, entry.insert(3), 3);
+    is_refused_or_stored(&rt, &map, stored);
+    let mut map = empty(&rt, rt.alloc());
+    let Entry::Vacant(entry) = map.entry(net(&rt, "1.2.3.0/32")) else {
+        panic!(&rt; "occupied")
+    };
+    let stored = answered(&rt, entry.insert_with(|| 4), 4);
+    is_refused_or_stored(&rt, &map, stored);
+    let mut map = empty(&rt, rt.alloc());
+    let Entry::Vacant(entry) = map.entry(net(&rt, "1.2.3.0/32")) else {
+        panic!(&rt; "occupied")
+    };
+    let stored = answered(&rt, entry.default(), 0);
+    is_refused_or_stored(&rt, &map, stored);
 }
