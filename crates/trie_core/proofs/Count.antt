@@ -37,7 +37,7 @@ fives_child b k h =
 pub fives_short : (q : List Bool) → length q < 5 → fives q ≡ []
 fives_short q h = let z : length q / 5 ≡ 0 = omega arith in ap (λ n. fives_from 0 n q) z
 
-under-append : {X : Type 0} (bs : List Bool) (es fs : List (List Bool × X)) → under bs (es ++ fs) ≡ under bs es ++ under bs fs
+pub under-append : {X : Type 0} (bs : List Bool) (es fs : List (List Bool × X)) → under bs (es ++ fs) ≡ under bs es ++ under bs fs
 under-append bs [] fs = refl
 under-append bs (e ∷ es) fs = ap (λ ws. (bs ++ e.0, e.1) ∷ ws) (under-append bs es fs)
 

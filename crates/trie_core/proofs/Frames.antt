@@ -19,16 +19,12 @@ use Rattle.trie_core.specs.Walks.{first_value, KeysWithin, levels_of, nodes_of, 
 use Rattle.trie_keys.proofs.Strings.{bits_total, bits_same, both, front, take_take}
 use Rattle.trie_core.proofs.Maps.{child_get, get_none, get-short, get-long}
 use Rattle.trie_core.proofs.Order.{walk_value, walk_child, walk_none, starts_after, values_after}
-use Rattle.trie_core.proofs.Count.{things}
+use Rattle.trie_core.proofs.Count.{things, under-append}
 use Rattle.trie_keys.proofs.Numbers.{child_of-string, length-child_string, place_strings, place_string-place_of, child_string-child_of, place_bound, number_bound, number-take}
 use Rattle.trie_keys.proofs.Begins.{value_before, inside_short, inside_long, past_short, past_long, from_short, from_long}
 use Rattle.trie_core.proofs.Named.{IsNaming, named_find, named_sorted, places_named, children_named, values_short, children_long, values_below, at_below, child_things}
 use Rattle.trie_core.proofs.Edits.{at_sorted}
 use Rattle.trie_core.proofs.Seen.{IsSeen}
-
-pub under-append : {X : Type 0} (bs : List Bool) (es fs : List (List Bool × X)) → under bs (es ++ fs) ≡ under bs es ++ under bs fs
-under-append bs [] fs = refl
-under-append bs (e ∷ es) fs = ap (λ ws. (bs ++ e.0, e.1) ∷ ws) (under-append bs es fs)
 
 pub under-under : {X : Type 0} (bs cs : List Bool) (es : List (List Bool × X)) → under bs (under cs es) ≡ under (bs ++ cs) es
 under-under bs cs [] = refl

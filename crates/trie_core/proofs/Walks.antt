@@ -13,10 +13,11 @@ use Rattle.trie_core.specs.Nodes.{BitMap, Seen, under}
 use Rattle.trie_core.specs.Search.{IsChild, HasNoChild}
 use Rattle.trie_core.specs.Walks.{KeysWithin, Left, walk_rest, walk_weight, FitFrom}
 use Rattle.trie_keys.proofs.Strings.{bits_total, bits_same, same, same-Decides, same-refl, not_same, append_none, front, take_first, begins_take}
+use Rattle.trie_core.proofs.Count.{under-append}
 use Rattle.trie_core.proofs.Maps.{or_else, find-append_all, find-under, find-apart, get_none, node_map-none}
 use Rattle.trie_core.proofs.Order.{sorted_under, below_found, walk_none}
 use Rattle.trie_keys.proofs.Numbers.{child_string-child_of}
-use Rattle.trie_core.proofs.Frames.{child_bits, bits_alike, under-append, under-under, under_none}
+use Rattle.trie_core.proofs.Frames.{child_bits, bits_alike, under-under, under_none}
 
 -- ---- the stack
 
