@@ -12,14 +12,16 @@ use Rattle.std.proofs.Math.ListN.{length-drop}
 use Rattle.trie_keys.specs.Bits.{bits_cmp, place_of, child_of, child_string}
 use Rattle.trie_core.specs.Places.{at_places, without, named, child_list, IsSlot, IsUnset}
 use Rattle.trie_core.specs.Nodes.{BitMap, Seen, node_height, child_map, HasSlots}
-use Rattle.trie_core.specs.Count.{nodes, all_nodes, total, spares_below, spare_of, spare_if}
+use Rattle.trie_core.specs.Count.{nodes, spares, all_nodes, total, spare_of, spare_if, spare_set}
+use Rattle.trie_core.specs.Count as Count
 use Rattle.trie_keys.proofs.Strings.{same-Decides}
 use Rattle.trie_core.proofs.Maps.{get_none, value_put, value_taken, child_put, child_taken, insert_changes}
 use Rattle.trie_core.proofs.Count.{things, nodes_empty}
 use Rattle.trie_keys.proofs.Numbers.{number_bound}
 use Rattle.trie_core.proofs.Taken.{IsTaken, taken, missing}
 use Rattle.trie_core.proofs.Named.{is_node, child_things, child_found, value_put_in, value_taken_out, child_put_in, child_taken_out}
-use Rattle.trie_core.proofs.Seen.{IsSeen, map_of, counted, total-set, height-set, height-read, below_at, has_no_child}
+use Rattle.trie_core.proofs.Marks.{marked_get, set-same}
+use Rattle.trie_core.proofs.Seen.{IsSeen, map_of, viewed, counted, spare_count, total-set, height-set, height-read, below_at, has_no_child}
 use Rattle.trie_core.proofs.Searches.{no_child_get}
 
 pub set_removed : {Y : Type 0} (xs : List Y) (i : ℕ) (y : Y) → remove (set xs i y) i ≡ remove xs i
@@ -74,15 +76,15 @@ module _ {X : Type 0} where
   pub spare_insert : {d : BitMap X} (m : BitMap X) (q : List Bool) (v : X) → d ≡ map.insert m q v → spare_if (len d) ≡ 0
   spare_insert {d} m q v e = spare_some_by d q v (ap (λ k. get k q) e ∙ insert_changes m q v q ∙ ap (λ b. cond b (Some v) (get m q)) ((same-Decides q q).1 refl)) (len d) refl
 
-  spare_kept_by : (d : Seen X) (b : Bool) → d.1 ≡ 0 → ((d.0 ≡ empty) × (d.1 ≡ 0) → b ≡ true) → b ≡ false → (n : ℕ) → len d.0 ≡ n → spare_if n ≡ 0
+  spare_kept_by : (d : Seen X) (b : Bool) → spares d ≡ 0 → ((d.0 ≡ empty) × (spares d ≡ 0) → b ≡ true) → b ≡ false → (n : ℕ) → len d.0 ≡ n → spare_if n ≡ 0
   spare_kept_by d b s h f zero e = let z : true ≡ false = sym (h (empty_of_len d.0 e, s)) ∙ f in cc
   spare_kept_by d b s h f (suc n) e = refl
 
   -- a child that is not bare, where none below it is spare
-  pub spare_kept : (d : Seen X) (b : Bool) → d.1 ≡ 0 → ((d.0 ≡ empty) × (d.1 ≡ 0) → b ≡ true) → b ≡ false → spare_of d ≡ 0
+  pub spare_kept : (d : Seen X) (b : Bool) → spares d ≡ 0 → ((d.0 ≡ empty) × (spares d ≡ 0) → b ≡ true) → b ≡ false → spare_of d ≡ 0
   spare_kept d b s h f = omega (arith, s, spare_kept_by d b s h f (len d.0) refl)
 
-  pub new_nodes : (m : Seen X) → m.0 ≡ empty → m.1 ≡ 0 → all_nodes m ≡ 1
+  pub new_nodes : (m : Seen X) → m.0 ≡ empty → spares m ≡ 0 → all_nodes m ≡ 1
   new_nodes m e z = omega (arith, ap nodes e, nodes_empty X, z)
 
   -- ---- values
@@ -99,7 +101,7 @@ module _ {X : Type 0} where
       value_taken q s.node (is_node wb ws cb cs t.values_below t.children_below) h (value_taken_out q vb wb vs ws h s.slots.values_below (e ∙ ap (λ i. without i (at_places 32 0 vb vs)) k)) ∙ ap (λ x. map.remove x q) s.map
 
   -- a change of the values alone leaves all nodes
-  pub value_count : {vb wb : ℕ} {vs ws : List X} {cb : ℕ} {cs : List (Seen X)} {m : Seen X} → IsSeen vb vs cb cs m → HasSlots wb ws cb cs → nodes (map_of wb ws cb cs) + spares_below cs ≡ all_nodes m
+  pub value_count : {vb wb : ℕ} {vs ws : List X} {cb : ℕ} {cs : List (Seen X)} {m : Seen X} → IsSeen vb vs cb cs m → HasSlots wb ws cb cs → all_nodes (viewed wb ws cb cs) ≡ all_nodes m
   value_count {vb} {wb} {vs} {ws} {cb} {cs} s t = counted wb ws cb cs t ∙ s.count
 
   -- ---- the child on the way to q, which is e and becomes d
@@ -126,11 +128,16 @@ module _ {X : Type 0} where
       child_taken q (Some d) s.node (is_node vb vs cb (set cs at d) s.slots.values_below s.slots.children_below) h (child_put_in q d cb cb cs (set cs at d) h s.slots.children_below (t.written d))
       (f ∙ ap (λ o. map.remove (child_map o) (drop 5 q)) (sym (was_found q e s h t r))) ∙ ap (λ x. map.remove x q) s.map
 
-  pub set_count : {vb at : ℕ} {vs : List X} {cb : ℕ} {cs : List (Seen X)} {m : Seen X} (q : List Bool) (e d : Seen X) → IsSeen vb vs cb cs m → IsTaken (child_of q) at cb cs → e ≡ get_or cs at e → nodes (map_of vb vs cb (set cs at d)) + spares_below (set cs at d) + all_nodes e ≡ all_nodes m + all_nodes d
+  pub set_count : {vb at : ℕ} {vs : List X} {cb : ℕ} {cs : List (Seen X)} {m : Seen X} (q : List Bool) (e d : Seen X) → IsSeen vb vs cb cs m → IsTaken (child_of q) at cb cs → e ≡ get_or cs at e → all_nodes (viewed vb vs cb (set cs at d)) + all_nodes e ≡ all_nodes m + all_nodes d
   set_count {vb} {at} {vs} {cb} {cs} q e d s t r = omega (arith, counted vb vs cb (set cs at d) (set_slots q d s t), total-set all_nodes cs at d e t.within, ap all_nodes r, s.count)
 
-  pub set_spares : {vb at : ℕ} {vs : List X} {cb : ℕ} {cs : List (Seen X)} {m : Seen X} (q : List Bool) (e d : Seen X) → IsSeen vb vs cb cs m → IsTaken (child_of q) at cb cs → e ≡ get_or cs at e → spares_below (set cs at d) + spare_of e ≡ m.1 + spare_of d
-  set_spares {at = at} {cs = cs} q e d s t r = omega (arith, total-set spare_of cs at d e t.within, ap spare_of r, s.spares)
+  pub set_spares : {vb at : ℕ} {vs : List X} {cb : ℕ} {cs : List (Seen X)} {m : Seen X} (q : List Bool) (e d : Seen X) → IsSeen vb vs cb cs m → IsTaken (child_of q) at cb cs → e ≡ get_or cs at e → spares (viewed vb vs cb (set cs at d)) + spare_of e ≡ spares m + spare_of d
+  set_spares {vb} {at} {vs} {cb} {cs} q e d s t r = omega (arith, spare_count vb vs cb (set cs at d) (set_slots q d s t), total-set spare_of cs at d e t.within, ap spare_of r, s.spares)
+
+  pub set_spare : {vb at : ℕ} {vs : List X} {cb : ℕ} {cs : List (Seen X)} {m : Seen X} (q : List Bool) (d : Seen X) → IsSeen vb vs cb cs m → 5 ≤ length q → IsTaken (child_of q) at cb cs → ((r : List Bool) → marked_get (Some d) r ≡ marked_get (find bits_cmp (take 5 q) (child_list cb cs)) r)
+      → spare_set (child_list cb (set cs at d)) ≡ m.1
+  set_spare {vb} {at} {vs} {cb} {cs} q d s h t f =
+      set-same q (Some d) s.node (is_node vb vs cb (set cs at d) s.slots.values_below s.slots.children_below) (child_put_in q d cb cb cs (set cs at d) h s.slots.children_below (t.written d)) f ∙ s.spare
 
   pub set_height : {vb : ℕ} {vs : List X} {cb : ℕ} {cs : List (Seen X)} {m : Seen X} (at : ℕ) (d : Seen X) → IsSeen vb vs cb cs m → node_height (set cs at d) + 1 ≤ max m.2 (d.2 + 1)
   set_height {cs = cs} at d s = omega (arith, height-set cs at d, s.height)
@@ -138,7 +145,7 @@ module _ {X : Type 0} where
   pub was_lower : {vb at : ℕ} {vs : List X} {cb : ℕ} {cs : List (Seen X)} {m : Seen X} (q : List Bool) (e : Seen X) → IsSeen vb vs cb cs m → IsTaken (child_of q) at cb cs → e ≡ get_or cs at e → e.2 < m.2
   was_lower {at = at} {cs = cs} q e s t r = omega (arith, height-read cs at e t.within, ap (λ x. x.2) r, s.height)
 
-  pub spares_was : {vb at : ℕ} {vs : List X} {cb : ℕ} {cs : List (Seen X)} {m : Seen X} (q : List Bool) (e : Seen X) → IsSeen vb vs cb cs m → IsTaken (child_of q) at cb cs → e ≡ get_or cs at e → spare_of e ≤ m.1
+  pub spares_was : {vb at : ℕ} {vs : List X} {cb : ℕ} {cs : List (Seen X)} {m : Seen X} (q : List Bool) (e : Seen X) → IsSeen vb vs cb cs m → IsTaken (child_of q) at cb cs → e ≡ get_or cs at e → spare_of e ≤ spares m
   spares_was {at = at} {cs = cs} q e s t r = omega (arith, total-remove spare_of cs at e t.within, ap spare_of r, s.spares)
 
   -- ---- no child on the way
@@ -150,8 +157,8 @@ module _ {X : Type 0} where
   pub record IsHung (q : List Bool) (v : X) (m : Seen X) (vb : ℕ) (vs : List X) (cb : ℕ) (cs : List (Seen X)) (d : Seen X) : Type 0 where
     pub slots : HasSlots vb vs cb cs
     pub map : map_of vb vs cb cs ≡ map.insert m.0 q v
-    pub spares : spares_below cs ≡ m.1
-    pub count : nodes (map_of vb vs cb cs) + spares_below cs ≡ all_nodes m + all_nodes d
+    pub spares : Count.spares (viewed vb vs cb cs) ≡ Count.spares m
+    pub count : all_nodes (viewed vb vs cb cs) ≡ all_nodes m + all_nodes d
     pub height : node_height cs + 1 ≤ max m.2 (d.2 + 1)
 
   sums : (g : Seen X → ℕ) (cb db : ℕ) (cs ds : List (Seen X)) (n : ℕ) (d : Seen X) → things (child_list cb cs) ≡ cs → things (child_list db ds) ≡ ds → at_places 32 0 db ds ≡ put nat_cmp n d (at_places 32 0 cb cs) → find nat_cmp n (at_places 32 0 cb cs) ≡ None → total g ds ≡ total g cs + g d
@@ -165,7 +172,7 @@ module _ {X : Type 0} where
       omega (arith, ap node_height (sym new), ap (λ es. node_height (things (named child_string es))) w, put_height child_string n d (at_places 32 0 cb cs), ap node_height old)
 
   pub hung : {vb n db : ℕ} {vs : List X} {cb : ℕ} {cs ls ds : List (Seen X)} {m : Seen X} (q : List Bool) (v : X) (d : Seen X) → IsSeen vb vs cb cs m → 5 ≤ length q → n ≡ child_of q → IsUnset n cb → ls ≡ cs → at_places 32 0 db ds ≡ put nat_cmp n d (at_places 32 0 cb ls) → count_ones db ≡ length ds → db < 2 ^ 32
-      → d.0 ≡ map.insert empty (drop 5 q) v → d.1 ≡ 0 → IsHung q v m vb vs db ds d
+      → d.0 ≡ map.insert empty (drop 5 q) v → spares d ≡ 0 → IsHung q v m vb vs db ds d
   hung {vb} {n} {db} {vs} {cb} {cs} {ls} {ds} {m} q v d s h k u l e c b f z =
       let w : at_places 32 0 db ds ≡ put nat_cmp (child_of q) d (at_places 32 0 cb cs) = e ∙ (λ i. put nat_cmp (k i) d (at_places 32 0 cb (l i))) in
       let none : find nat_cmp (child_of q) (at_places 32 0 cb cs) ≡ None = sym (missing (child_of q) cb cs (subst (λ i. IsUnset i cb) k u)) in
@@ -177,7 +184,7 @@ module _ {X : Type 0} where
       record {
         slots = t;
         map = child_put q v d s.node (is_node vb vs db ds s.slots.values_below b) h (child_put_in q d cb db cs ds h s.slots.children_below w) (f ∙ ap (λ o. map.insert (child_map o) (drop 5 q) v) (sym (child_found q cb cs h s.slots.children_below ∙ none))) ∙ ap (λ x. map.insert x q v) s.map;
-        spares = omega (arith, sum spare_of, p, z, s.spares);
+        spares = omega (arith, spare_count vb vs db ds t, sum spare_of, p, z, s.spares);
         count = omega (arith, counted vb vs db ds t, sum all_nodes, s.count);
         height = omega (arith, heights cb db cs ds (child_of q) d old new w, s.height);
       }
@@ -187,8 +194,8 @@ module _ {X : Type 0} where
   pub record IsPruned (q : List Bool) (m : Seen X) (vb : ℕ) (vs : List X) (cb : ℕ) (cs : List (Seen X)) (e : Seen X) : Type 0 where
     pub slots : HasSlots vb vs cb cs
     pub map : map_of vb vs cb cs ≡ map.remove m.0 q
-    pub spares : spares_below cs + spare_of e ≡ m.1
-    pub count : nodes (map_of vb vs cb cs) + spares_below cs + all_nodes e ≡ all_nodes m
+    pub spares : Count.spares (viewed vb vs cb cs) + spare_of e ≡ Count.spares m
+    pub count : all_nodes (viewed vb vs cb cs) + all_nodes e ≡ all_nodes m
     pub height : node_height cs + 1 ≤ m.2
 
   pub pruned : {vb at b : ℕ} {vs : List X} {cb : ℕ} {cs ds : List (Seen X)} {m : Seen X} (q : List Bool) (e d : Seen X) → IsSeen vb vs cb cs m → 5 ≤ length q → IsTaken (child_of q) at cb cs → e ≡ get_or cs at e → d.0 ≡ map.remove e.0 (drop 5 q) → d.0 ≡ empty → b ≡ 2 ^ child_of q → ds ≡ remove (set cs at d) at
@@ -202,7 +209,7 @@ module _ {X : Type 0} where
         slots = slots;
         map = child_taken q None s.node (is_node vb vs (cb - 2 ^ child_of q) (remove cs at) s.slots.values_below below) h (child_taken_out q cb (cb - 2 ^ child_of q) cs (remove cs at) h s.slots.children_below t.removed)
             (sym z ∙ f ∙ ap (λ o. map.remove (child_map o) (drop 5 q)) (sym (was_found q e s h t r))) ∙ ap (λ x. map.remove x q) s.map;
-        spares = omega (arith, total-remove spare_of cs at e t.within, ap spare_of r, s.spares);
+        spares = omega (arith, spare_count vb vs (cb - 2 ^ child_of q) (remove cs at) slots, total-remove spare_of cs at e t.within, ap spare_of r, s.spares);
         count = omega (arith, counted vb vs (cb - 2 ^ child_of q) (remove cs at) slots, total-remove all_nodes cs at e t.within, ap all_nodes r, s.count);
         height = omega (arith, height-remove cs at, s.height);
       } in

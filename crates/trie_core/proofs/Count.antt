@@ -8,7 +8,7 @@ use Rattle.std.proofs.Math.ListN.{length-append, length-take}
 use Rattle.std.proofs.lemmas.List.{take-append-drop}
 use Rattle.trie_keys.specs.Bits.{bits_cmp}
 use Rattle.trie_core.specs.Nodes.{BitMap, Seen, under, node_map, IsNode}
-use Rattle.trie_core.specs.Count.{fives_from, fives, fives_of, begun, nodes, nodes_if, spare_if, spares_below, all_nodes, total}
+use Rattle.trie_core.specs.Count.{fives_from, fives, fives_of, begun, nodes, nodes_if, spare_if, spares, spares_below, all_nodes, total}
 use Rattle.trie_keys.proofs.Strings.{bits_total, bits_same, same, same-Decides, same-refl, append_none, take_first, front, take_take}
 use Rattle.trie_core.proofs.Maps.{tail_rises, or_else, find-append_all, find-under, find-apart, node_map-none, get-short, get_none}
 use Rattle.trie_core.specs.Walks.{first_value}
@@ -272,7 +272,7 @@ module _ {X : Type 0} where
   -- the nodes that the children need and the spare ones are all nodes
   all_nodes_below : (cs : List (Seen X)) → nodes_below cs + spares_below cs ≡ total all_nodes cs
   all_nodes_below [] = omega arith
-  all_nodes_below (c ∷ cs) = omega (arith, one_child_nodes (len c.0) c.0 c.1 refl, all_nodes_below cs)
+  all_nodes_below (c ∷ cs) = omega (arith, one_child_nodes (len c.0) c.0 (spares c) refl, all_nodes_below cs)
 
   -- all nodes of a node, by its lists
   pub all_of_node : {vs : List (List Bool × X)} {cs : List (List Bool × Seen X)} → IsNode vs cs → nodes (node_map vs cs) + spares_below (things cs) ≡ total all_nodes (things cs) + 1

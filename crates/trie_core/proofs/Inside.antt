@@ -8,13 +8,14 @@ use Rattle.std.proofs.Math.ListN.{length-drop}
 use Rattle.trie_keys.specs.Bits.{bits_cmp, begins, child_of}
 use Rattle.trie_core.specs.Places.{IsUnset}
 use Rattle.trie_core.specs.Nodes.{BitMap, Seen, child_map, node_map, node_height, IsNode, HasSlots}
-use Rattle.trie_core.specs.Count.{nodes, all_nodes, spare_of, spares_below, entry_count}
+use Rattle.trie_core.specs.Count.{all_nodes, spare_of, entry_count}
+use Rattle.trie_core.specs.Count as Count
 use Rattle.trie_core.specs.Inside.{outside}
 use Rattle.trie_keys.proofs.Strings.{bits_total, bits_same, same, same-Decides, not_same, not_true, begins_take, front, take_take}
 use Rattle.trie_core.proofs.Maps.{ListChanges, child_get, get-short, get-long}
 use Rattle.trie_core.proofs.Named.{is_node, child_put_in, child_taken_out}
 use Rattle.trie_core.proofs.Taken.{IsTaken, missing}
-use Rattle.trie_core.proofs.Seen.{IsSeen, map_of, counted, has_no_child, no_items, total-set}
+use Rattle.trie_core.proofs.Seen.{IsSeen, map_of, viewed, counted, spare_count, has_no_child, no_items, total-set}
 use Rattle.trie_core.proofs.Changes.{was_found, set_slots, total-remove, height-remove}
 use Rattle.trie_core.proofs.Entries.{entries_at, entries_of}
 
@@ -25,7 +26,7 @@ begins-under [] q x = refl
 begins-under (true ∷ b) q x = begins-under b q x
 begins-under (false ∷ b) q x = begins-under b q x
 
-begins_longer : (q x : List Bool) → length x < length q → begins q x ≡ false
+pub begins_longer : (q x : List Bool) → length x < length q → begins q x ≡ false
 begins_longer q x h = not_true _ (λ e. omega (arith, (begins_take q x e).0, h))
 
 first_five : (q x : List Bool) → 5 ≤ length q → begins q x ≡ true → take 5 x ≡ take 5 q
@@ -34,10 +35,10 @@ first_five q x h e =
     let f : 5 + (length q - 5) ≡ length q = omega (arith, h) in
     sym (take_take x 5 (length q - 5)) ∙ ap (λ i. take 5 (take i x)) f ∙ ap (take 5) b.1
 
-begins_elsewhere : (q x : List Bool) → 5 ≤ length q → same (take 5 x) (take 5 q) ≡ false → begins q x ≡ false
+pub begins_elsewhere : (q x : List Bool) → 5 ≤ length q → same (take 5 x) (take 5 q) ≡ false → begins q x ≡ false
 begins_elsewhere q x h e = not_true _ (λ b. not_same e (first_five q x h b))
 
-begins_below : (q x : List Bool) → 5 ≤ length q → 5 ≤ length x → take 5 x ≡ take 5 q → begins q x ≡ begins (drop 5 q) (drop 5 x)
+pub begins_below : (q x : List Bool) → 5 ≤ length q → 5 ≤ length x → take 5 x ≡ take 5 q → begins q x ≡ begins (drop 5 q) (drop 5 x)
 begins_below q x h l e = (λ i. begins (sym (front q h).1 i) (sym (front x l).1 i)) ∙ ap (λ b. begins (take 5 q ++ drop 5 q) (b ++ drop 5 x)) e ∙ begins-under (take 5 q) (drop 5 q) (drop 5 x)
 
 -- a string begins with q where it is q, or goes on from q
@@ -130,8 +131,8 @@ module _ {X : Type 0} where
     pub slots : HasSlots vb vs cb cs
     pub map : map_of vb vs cb cs ≡ outside m.0 q
     pub entries : len (map_of vb vs cb cs) + len e.0 ≡ len m.0
-    pub spares : spares_below cs + spare_of e ≡ m.1
-    pub count : nodes (map_of vb vs cb cs) + spares_below cs + all_nodes e ≡ all_nodes m
+    pub spares : Count.spares (viewed vb vs cb cs) + spare_of e ≡ Count.spares m
+    pub count : all_nodes (viewed vb vs cb cs) + all_nodes e ≡ all_nodes m
     pub height : node_height cs + 1 ≤ m.2
 
   pub gone : {vb at b : ℕ} {vs : List X} {cb : ℕ} {cs ds : List (Seen X)} {m : Seen X} (q : List Bool) (e : Seen X) → IsSeen vb vs cb cs m → 5 ≤ length q → IsTaken (child_of q) at cb cs → e ≡ get_or cs at e → empty ≡ outside e.0 (drop 5 q) → b ≡ 2 ^ child_of q → ds ≡ remove cs at
@@ -144,7 +145,7 @@ module _ {X : Type 0} where
         map = child_outside q None s.node (is_node vb vs (cb - 2 ^ child_of q) (remove cs at) s.slots.values_below below) h (child_taken_out q cb (cb - 2 ^ child_of q) cs (remove cs at) h s.slots.children_below t.removed)
             (z ∙ ap (λ o. outside (child_map o) (drop 5 q)) (sym (was_found q e s h t r))) ∙ ap (λ x. outside x q) s.map;
         entries = omega (arith, entries_at vb vs (cb - 2 ^ child_of q) (remove cs at) slots, total-remove entry_count cs at e t.within, ap entry_count r, entries_of s);
-        spares = omega (arith, total-remove spare_of cs at e t.within, ap spare_of r, s.spares);
+        spares = omega (arith, spare_count vb vs (cb - 2 ^ child_of q) (remove cs at) slots, total-remove spare_of cs at e t.within, ap spare_of r, s.spares);
         count = omega (arith, counted vb vs (cb - 2 ^ child_of q) (remove cs at) slots, total-remove all_nodes cs at e t.within, ap all_nodes r, s.count);
         height = omega (arith, height-remove cs at, s.height);
       } in

@@ -1,19 +1,20 @@
 -- What a node becomes as what it lends is written.
-use Rattle.std.proofs.Common.{◌≡◌, ◌<◌, ◌≤◌, ◌+◌, ◌∙◌, ℕ, List, Bool, length, drop, get_or, set, zero, suc, cond, true, [], ◌∷◌, refl, sym, ap, arith}
+use Rattle.std.proofs.Common.{◌≡◌, ◌<◌, ◌≤◌, ◌+◌, ◌∙◌, ℕ, List, Bool, length, take, drop, get_or, set, zero, suc, cond, true, [], ◌∷◌, refl, sym, ap, arith}
 use Rattle.std.specs.Prelude.{Option, Some, None, is_some}
 use Rattle.std.specs.Option.{IsSome}
 use Rattle.std.specs.Ordering.{nat_cmp}
-use Rattle.std.specs.FinMap.{find, get, insert, len, len-insert}
-use Rattle.trie_keys.specs.Bits.{place_of, child_of}
-use Rattle.trie_core.specs.Places.{at_places, IsSlot, IsUnset}
+use Rattle.std.specs.FinMap.{find, get, insert, remove, len, len-insert}
+use Rattle.trie_keys.specs.Bits.{bits_cmp, place_of, child_of}
+use Rattle.trie_core.specs.Places.{at_places, child_list, IsSlot, IsUnset}
 use Rattle.trie_core.specs.Nodes.{Seen, node_height, HasSlots}
-use Rattle.trie_core.specs.Count.{spares_below, spare_of, spare_if}
+use Rattle.trie_core.specs.Count.{marked_if, marked}
 use Rattle.trie_core.specs.Lending.{with_value}
 use Rattle.trie_keys.proofs.Numbers.{place_bound}
 use Rattle.trie_core.proofs.Taken.{IsTaken, taken, missing}
 use Rattle.trie_keys.proofs.Strings.{bits_total}
-use Rattle.trie_core.proofs.Seen.{IsSeen, map_of, value_at, total-set}
-use Rattle.trie_core.proofs.Changes.{value_slots, value_put_map, set_put, absent}
+use Rattle.trie_core.proofs.Marks.{marked_get}
+use Rattle.trie_core.proofs.Seen.{IsSeen, viewed, value_at}
+use Rattle.trie_core.proofs.Changes.{value_slots, value_put_map, was_found, set_put, set_spare, absent}
 
 module _ {X : Type 0} where
   none_is_none : {o : Option X} → o ≡ None → IsSome o → ⊥
@@ -36,8 +37,8 @@ module _ {X : Type 0} where
   slots_here w s t = value_slots s (t.same_ones w) s.slots.values_below
 
   pub lent_here : {vb n at : ℕ} {vs : List X} {cb : ℕ} {cs : List (Seen X)} {m : Seen X} (q : List Bool) (w : X) → IsSeen vb vs cb cs m → length q < 5 → n ≡ place_of q → IsTaken n at vb vs
-      → ◌≡◌ {A = Seen X} (map_of vb (set vs at w) cb cs, spares_below cs, node_height cs + 1) (with_value m q w)
-  lent_here q w s h k t = let r = value_put_map q w s (slots_here w s t) h k (t.written w) in λ i. (r i, s.spares i, s.height i)
+      → viewed vb (set vs at w) cb cs ≡ with_value m q w
+  lent_here q w s h k t = let r = value_put_map q w s (slots_here w s t) h k (t.written w) in λ i. (r i, s.spare i, s.height i)
 
   some_is : (o : Option X) → IsSome o → is_some o ≡ true
   some_is None h = cc
@@ -47,8 +48,8 @@ module _ {X : Type 0} where
   len_kept : (e : Seen X) (r : List Bool) (w : X) → IsSome (get e.0 r) → len (insert e.0 r w) ≡ len e.0
   len_kept e r w o = len-insert bits_total e.0 r w ∙ ap (λ b. cond b (len e.0) (len e.0 + 1)) (some_is (get e.0 r) o)
 
-  spares_kept : (cs : List (Seen X)) (at : ℕ) (r : List Bool) (e : Seen X) (w : X) → at < length cs → e ≡ get_or cs at e → IsSome (get e.0 r) → spares_below (set cs at (with_value e r w)) ≡ spares_below cs
-  spares_kept cs at r e w h f o = omega (arith, total-set spare_of cs at (with_value e r w) e h, ap spare_of f, ap spare_if (len_kept e r w o))
+  marked_kept : (e : Seen X) (r : List Bool) (w : X) → IsSome (get e.0 r) → marked (with_value e r w) ≡ marked e
+  marked_kept e r w o = ap (λ n. marked_if n (remove e.1 [])) (len_kept e r w o)
 
   height_kept : (cs : List (Seen X)) (at : ℕ) (e d : Seen X) → at < length cs → e ≡ get_or cs at e → d.2 ≡ e.2 → node_height (set cs at d) ≡ node_height cs
   height_kept [] at e d h f g = absurd (omega arith)
@@ -56,10 +57,11 @@ module _ {X : Type 0} where
   height_kept (c ∷ cs) (suc at) e d h f g = omega (arith, height_kept cs at e d (omega arith) f g)
 
   pub lent_below : {vb at : ℕ} {vs : List X} {cb : ℕ} {cs : List (Seen X)} {m : Seen X} (q r : List Bool) (e : Seen X) (w : X) → IsSeen vb vs cb cs m → 5 ≤ length q → r ≡ drop 5 q → IsTaken (child_of q) at cb cs → e ≡ get_or cs at e → IsSome (get e.0 r)
-      → ◌≡◌ {A = Seen X} (map_of vb vs cb (set cs at (with_value e r w)), spares_below (set cs at (with_value e r w)), node_height (set cs at (with_value e r w)) + 1) (with_value m q w)
+      → viewed vb vs cb (set cs at (with_value e r w)) ≡ with_value m q w
   lent_below {vb} {at} {vs} {cb} {cs} {m} q r e w s h b t f o =
       let d = with_value e r w in
       let k = set_put q w e d s h t f (ap (λ x. insert e.0 x w) b) in
-      let l : spares_below (set cs at d) ≡ m.1 = spares_kept cs at r e w t.within f o ∙ s.spares in
+      let marks : (x : List Bool) → marked_get (Some d) x ≡ marked_get (find bits_cmp (take 5 q) (child_list cb cs)) x = λ x. ap (λ b. get b x) (marked_kept e r w o) ∙ ap (λ c. marked_get c x) (sym (was_found q e s h t f)) in
+      let l = set_spare q d s h t marks in
       let n : node_height (set cs at d) + 1 ≡ m.2 = omega (arith, height_kept cs at e d t.within f refl, s.height) in
       λ i. (k i, l i, n i)

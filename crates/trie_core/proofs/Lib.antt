@@ -2,6 +2,8 @@ pub mod Maps
 pub mod Order
 pub mod Count
 pub mod Visits
+pub mod Lengths
+pub mod Marks
 pub mod Places
 pub mod Edits
 pub mod Taken
@@ -17,4 +19,5 @@ pub mod Frames
 pub mod Walks
 pub mod Entries
 pub mod Inside
+pub mod Ways
 pub mod Covers

@@ -2,19 +2,21 @@
 use Rattle.std.proofs.Common.{◌≡◌, ℕ, zero, suc, ◌+◌, ◌<◌, ◌≤◌, Bool, true, false, cond, List, [], ◌∷◌, ◌++◌, length, take, drop, get_or, set, refl, sym, ap, ◌∙◌, arith}
 use Rattle.std.specs.Prelude.{count_ones, max, Some, None}
 use Rattle.std.specs.Ordering.{nat_cmp}
-use Rattle.std.specs.FinMap.{find, get, empty}
+use Rattle.std.specs.FinMap.{find, get, empty, empty_of_len}
 use Rattle.std.proofs.lemmas.Nat.{zero_from_ones}
 use Rattle.std.proofs.Math.ListN.{length-append}
 use Rattle.trie_keys.specs.Bits.{bits_cmp, place_of, child_of}
 use Rattle.trie_core.specs.Places.{at_places, value_list, child_list}
 use Rattle.trie_core.specs.Nodes.{BitMap, Seen, node_map, node_height, IsNode, HasSlots}
-use Rattle.trie_core.specs.Count.{nodes, all_nodes, total, spares_below, visit_count}
+use Rattle.trie_core.specs.Count.{nodes, spares, all_nodes, total, spares_below, spare_set, visit_count}
 use Rattle.trie_core.specs.Search.{IsChild, HasNoChild}
 use Rattle.trie_keys.proofs.Strings.{same, take_first, front}
 use Rattle.trie_core.proofs.Maps.{node_map-none, child_get, get_none, get-short, get-long}
 use Rattle.trie_core.proofs.Count.{things, all_of_node, bare_lists}
 use Rattle.trie_core.proofs.Visits.{visits_none, visits_some}
 use Rattle.trie_keys.proofs.Numbers.{ones_bit}
+use Rattle.trie_core.proofs.Lengths.{length-things}
+use Rattle.trie_core.proofs.Marks.{set-len, set-root}
 use Rattle.trie_core.proofs.Named.{is_node, value_things, child_things, value_found, child_found}
 
 drop_first : (b k : List Bool) → length b ≡ 5 → drop 5 (b ++ k) ≡ k
@@ -29,10 +31,6 @@ drop_first (a ∷ b ∷ c ∷ d ∷ e ∷ f ∷ bs) k h = absurd (omega arith)
 pub no_items : {Y : Type 0} (ys : List Y) → length ys ≡ 0 → ys ≡ []
 no_items [] e = refl
 no_items (y ∷ ys) e = absurd (omega arith)
-
-pub length-things : {Y : Type 0} (es : List (List Bool × Y)) → length (things es) ≡ length es
-length-things [] = refl
-length-things (e ∷ es) = ap suc (length-things es)
 
 module _ {X : Type 0} where
   -- ---- sums and heights of children
@@ -65,27 +63,42 @@ module _ {X : Type 0} where
   abbrev pub map_of : ℕ → List X → ℕ → List (Seen X) → BitMap X
   map_of vb vs cb cs = node_map (value_list vb vs) (child_list cb cs)
 
-  -- a node with these words and lists is seen as m
+  -- what a node with these words and lists is seen as
+  abbrev pub viewed : ℕ → List X → ℕ → List (Seen X) → Seen X
+  viewed vb vs cb cs = (map_of vb vs cb cs, spare_set (child_list cb cs), node_height cs + 1)
+
+  -- the same, which is m
   pub record IsSeen (vb : ℕ) (vs : List X) (cb : ℕ) (cs : List (Seen X)) (m : Seen X) : Type 0 where
     pub slots : HasSlots vb vs cb cs
     pub node : IsNode (value_list vb vs) (child_list cb cs)
     pub map : map_of vb vs cb cs ≡ m.0
-    pub spares : spares_below cs ≡ m.1
+    pub spares : spares_below cs ≡ spares m
+    pub spare : spare_set (child_list cb cs) ≡ m.1
     pub count : total all_nodes cs + 1 ≡ all_nodes m
     pub height : node_height cs + 1 ≡ m.2
 
   -- all nodes of a node, by its words and lists
-  pub counted : (vb : ℕ) (vs : List X) (cb : ℕ) (cs : List (Seen X)) → HasSlots vb vs cb cs → nodes (map_of vb vs cb cs) + spares_below cs ≡ total all_nodes cs + 1
+  pub counted : (vb : ℕ) (vs : List X) (cb : ℕ) (cs : List (Seen X)) → HasSlots vb vs cb cs → all_nodes (viewed vb vs cb cs) ≡ total all_nodes cs + 1
   counted vb vs cb cs s =
       let t = child_things cb cs s.children_below s.children_counted in
-      omega (arith, all_of_node (is_node vb vs cb cs s.values_below s.children_below), ap spares_below t, ap (total all_nodes) t)
+      let n = is_node vb vs cb cs s.values_below s.children_below in
+      omega (arith, all_of_node n, set-len n, ap (total all_nodes) t)
 
-  pub seen : {vb : ℕ} {vs : List X} {cb : ℕ} {cs : List (Seen X)} {m : Seen X} → HasSlots vb vs cb cs → ◌≡◌ {A = Seen X} (map_of vb vs cb cs, spares_below cs, node_height cs + 1) m → IsSeen vb vs cb cs m
+  pub spare_count : (vb : ℕ) (vs : List X) (cb : ℕ) (cs : List (Seen X)) → HasSlots vb vs cb cs → spares (viewed vb vs cb cs) ≡ spares_below cs
+  spare_count vb vs cb cs s = set-len (is_node vb vs cb cs s.values_below s.children_below) ∙ ap spares_below (child_things cb cs s.children_below s.children_counted)
+
+  pub none_spare : (vb : ℕ) (vs : List X) (cb : ℕ) (cs : List (Seen X)) → HasSlots vb vs cb cs → spares_below cs ≡ 0 → spare_set (child_list cb cs) ≡ empty
+  none_spare vb vs cb cs s z =
+      let n = is_node vb vs cb cs s.values_below s.children_below in
+      sym (set-root n) ∙ empty_of_len _ (spare_count vb vs cb cs s ∙ z) 
+
+  pub seen : {vb : ℕ} {vs : List X} {cb : ℕ} {cs : List (Seen X)} {m : Seen X} → HasSlots vb vs cb cs → viewed vb vs cb cs ≡ m → IsSeen vb vs cb cs m
   seen {vb} {vs} {cb} {cs} {m} s v = record {
     slots = s;
     node = is_node vb vs cb cs s.values_below s.children_below;
     map = ap (λ m. m.0) v;
-    spares = ap (λ m. m.1) v;
+    spares = sym (spare_count vb vs cb cs s) ∙ ap (λ m. spares m) v;
+    spare = ap (λ m. m.1) v;
     count = omega (arith, counted vb vs cb cs s, ap (λ m. all_nodes m) v);
     height = ap (λ m. m.2) v;
   }
@@ -110,7 +123,7 @@ module _ {X : Type 0} where
       let f = (front q h).0 in
       let g : find bits_cmp (take 5 q) (child_list cb cs) ≡ Some c = child_found q cb cs h s.slots.children_below ∙ e in
       let t = child_things cb cs s.slots.children_below s.slots.children_counted in
-      let v : (r : List Bool) → m.1 ≡ 0 → (c.1 ≡ 0) × (visit_count m.0 (take 5 q ++ r) ≡ visit_count c.0 r + 1) = λ r z.
+      let v : (r : List Bool) → spares m ≡ 0 → (spares c ≡ 0) × (visit_count m.0 (take 5 q ++ r) ≡ visit_count c.0 r + 1) = λ r z.
       let w = visits_some (take 5 q ++ r) s.node (omega (arith, length-append (take 5 q) r, f)) (ap (λ b. find bits_cmp b (child_list cb cs)) (take_first (take 5 q) r f) ∙ g) (ap spares_below t ∙ s.spares ∙ z) in
       (w.0, sym (ap (λ k. visit_count k (take 5 q ++ r)) s.map) ∙ w.1 ∙ ap (λ k. visit_count c.0 k + 1) (drop_first (take 5 q) r f)) in
       record {
@@ -137,12 +150,16 @@ module _ {X : Type 0} where
   pub new_map : (vb cb : ℕ) (vs : List X) (cs : List (Seen X)) → vs ≡ [] → cs ≡ [] → map_of vb vs cb cs ≡ empty
   new_map vb cb vs cs e f = (λ i. map_of vb (e i) cb (f i)) ∙ empty_lists vb cb
 
-  pub bare : {vb : ℕ} {vs : List X} {cb : ℕ} {cs : List (Seen X)} {m : Seen X} → IsSeen vb vs cb cs m → length vs ≡ 0 → length cs ≡ 0 → (m.0 ≡ empty) × (m.1 ≡ 0) × (all_nodes m ≡ 1)
+  pub new_set : (cb : ℕ) (cs : List (Seen X)) → cs ≡ [] → spare_set (child_list cb cs) ≡ empty
+  unfolding spare_set child_list
+  new_set cb cs e = ap (λ l. spare_set (child_list cb l)) e ∙ node_map-none
+
+  pub bare : {vb : ℕ} {vs : List X} {cb : ℕ} {cs : List (Seen X)} {m : Seen X} → IsSeen vb vs cb cs m → length vs ≡ 0 → length cs ≡ 0 → (m.0 ≡ empty) × (spares m ≡ 0) × (all_nodes m ≡ 1)
   bare {vb} {vs} {cb} {cs} s e f =
       (sym s.map ∙ new_map vb cb vs cs (no_items vs e) (no_items cs f), sym s.spares ∙ ap spares_below (no_items cs f), sym s.count ∙ ap (λ x. total all_nodes x + 1) (no_items cs f))
 
   -- a node with no key and no spare node
-  pub left_bare : {vb : ℕ} {vs : List X} {cb : ℕ} {cs : List (Seen X)} {m : Seen X} → IsSeen vb vs cb cs m → m.0 ≡ empty → m.1 ≡ 0 → (length vs ≡ 0) × (length cs ≡ 0)
+  pub left_bare : {vb : ℕ} {vs : List X} {cb : ℕ} {cs : List (Seen X)} {m : Seen X} → IsSeen vb vs cb cs m → m.0 ≡ empty → spares m ≡ 0 → (length vs ≡ 0) × (length cs ≡ 0)
   left_bare {vb} {vs} {cb} {cs} s e z =
       let t = child_things cb cs s.slots.children_below s.slots.children_counted in
       let u = value_things vb vs s.slots.values_below s.slots.values_counted in

@@ -8,13 +8,13 @@ use Rattle.trie_keys.proofs.Strings.{bits_total, bits_same, same, same-Decides}
 use Rattle.trie_keys.proofs.Numbers.{ones_bit, child_of-string, length-child_string}
 use Rattle.trie_core.specs.Places.{child_list, IsSlot, IsUnset}
 use Rattle.trie_core.specs.Nodes.{Seen, child_map, node_map, node_height, IsNode, HasSlots}
-use Rattle.trie_core.specs.Count.{all_nodes, total, spare_of, spares_below}
+use Rattle.trie_core.specs.Count.{all_nodes, total, spare_of, spare_set}
 use Rattle.trie_core.proofs.Places.{ones_below_suc}
 use Rattle.trie_core.proofs.Edits.{half_less, low_less, higher_bit, bit_within}
 use Rattle.trie_core.proofs.Maps.{ListChanges, child_get, get-short, get-long}
 use Rattle.trie_core.proofs.Named.{is_node, child_put_in, child_taken_out}
 use Rattle.trie_core.proofs.Taken.{IsTaken, taken}
-use Rattle.trie_core.proofs.Seen.{IsSeen, seen, map_of, counted, total-set, height-set, height-read}
+use Rattle.trie_core.proofs.Seen.{IsSeen, seen, map_of, viewed, counted, none_spare, total-set, height-set, height-read}
 use Rattle.trie_core.proofs.Changes.{way, was_found, set_slots, set_removed, total-remove, height-remove}
 use Rattle.trie_core.proofs.Entries.{total-all}
 
@@ -107,7 +107,7 @@ module _ {X : Type 0} where
   slot_within {k = k} {at = at} {cb = cb} {cs = cs} t l u = (taken k at cb cs l u t.slots.children_counted).within
 
   module _ {m : Seen X} {k gone vb at : ℕ} {vs : List X} {cb : ℕ} {cs : List (Seen X)} (e : Seen X) (t : IsTidyBelow m k gone vb vs cb cs) (l : k < 32) (u : IsSlot k cb at) (r : e ≡ get_or cs at e) where
-    now : IsSeen vb vs cb cs (map_of vb vs cb cs, spares_below cs, node_height cs + 1)
+    now : IsSeen vb vs cb cs (viewed vb vs cb cs)
     now = seen t.slots refl
 
     there : IsTaken (child_of (child_string k)) at cb cs
@@ -159,13 +159,13 @@ module _ {X : Type 0} where
 
   -- no child has a higher number
   pub record IsTidied (m : Seen X) (gone vb : ℕ) (vs : List X) (cb : ℕ) (cs : List (Seen X)) : Type 0 where
-    pub spares : spares_below cs ≡ 0
-    pub count : all_nodes (map_of vb vs cb cs, spares_below cs, node_height cs + 1) + gone ≡ all_nodes m
+    pub spares : spare_set (child_list cb cs) ≡ empty
+    pub count : all_nodes (viewed vb vs cb cs) + gone ≡ all_nodes m
 
   pub tidied : {m : Seen X} {k gone vb : ℕ} {vs : List X} {cb : ℕ} {cs : List (Seen X)} → IsTidyBelow m k gone vb vs cb cs → k ≡ 32 → IsTidied m gone vb vs cb cs
   tidied {k = k} {vb = vb} {vs = vs} {cb = cb} {cs = cs} t h =
       let w : cb % 2 ^ 32 ≡ cb = omega (arith, t.slots.children_below) in
       record {
-        spares = sym (total-all spare_of cs (count_ones (cb % 2 ^ k)) (omega (arith, ap (λ i. count_ones (cb % 2 ^ i)) h, ap count_ones w, t.slots.children_counted))) ∙ t.tidy;
+        spares = none_spare vb vs cb cs t.slots (sym (total-all spare_of cs (count_ones (cb % 2 ^ k)) (omega (arith, ap (λ i. count_ones (cb % 2 ^ i)) h, ap count_ones w, t.slots.children_counted))) ∙ t.tidy);
         count = omega (arith, counted vb vs cb cs t.slots, t.count);
       }

@@ -7,7 +7,7 @@ use Rattle.std.specs.FinMap.Entries.{below_all}
 use Rattle.std.proofs.Math.ListN.{length-append, length-take}
 use Rattle.trie_keys.specs.Bits.{bits_cmp}
 use Rattle.trie_core.specs.Nodes.{BitMap, Seen, under, node_map, IsNode}
-use Rattle.trie_core.specs.Count.{fives_from, fives, begun, spares_below, spare_of, found_in, visit_count}
+use Rattle.trie_core.specs.Count.{fives_from, fives, begun, spares, spares_below, spare_of, found_in, visit_count}
 use Rattle.trie_keys.proofs.Strings.{both, less-T, same, same-Decides, not_same, append_none, take_first, front, same_false, take_take}
 use Rattle.trie_core.proofs.Maps.{tail_rises, find-under, find-apart}
 use Rattle.trie_core.specs.Walks.{first_value}
@@ -128,7 +128,7 @@ module _ {X : Type 0} where
 
   -- what the next visit finds, where no node is spare
   pub visits_some : {vs : List (List Bool × X)} {cs : List (List Bool × Seen X)} {w : Seen X} (q : List Bool) → IsNode vs cs → 5 ≤ length q → find bits_cmp (take 5 q) cs ≡ Some w → spares_below (things cs) ≡ 0
-      → (w.1 ≡ 0) × (visit_count (node_map vs cs) q ≡ visit_count w.0 (drop 5 q) + 1)
+      → (spares w ≡ 0) × (visit_count (node_map vs cs) q ≡ visit_count w.0 (drop 5 q) + 1)
   visits_some {vs} {cs} {w} q n h g z =
       let r = found_spare (take 5 q) w cs g in
       let u : 1 ≤ len w.0 = spare_pos (len w.0) (omega (arith, r, z)) in

@@ -9,3 +9,4 @@ pub mod Steps
 pub mod Covers
 pub mod Held
 pub mod Owned
+pub mod Ways

@@ -1,6 +1,7 @@
 -- What a node is seen as: the map from bit strings to values, and the shape below it.
 use Rattle.std.specs.Prelude.{ℕ, ◌+◌, ◌<◌, ◌≤◌, ◌≡◌, ◌^◌, length, max, Bool, T, List, [], ◌∷◌, ◌++◌, Option, Some, None, refl, count_ones}
 use Rattle.std.specs.FinMap.{FinMap, is_sorted, entries, from_entries, empty, code as map_code}
+use base.Stored.{coded_unit}
 use Rattle.std.specs.Coded.{Coded, code_by, coded×, coded_ℕ, coded_list, coded_bool}
 use Rattle.std.proofs.Common.{arith}
 use denote.Param.Weighed.{most}
@@ -10,12 +11,16 @@ use Rattle.trie_keys.specs.Bits.{bits_cmp}
 abbrev pub BitMap : Type 0 → Type 0
 BitMap X = FinMap bits_cmp X
 
--- the map, the number of spare nodes below, which hold nothing and lead to nothing, and the number of levels
+-- a finite set of bit strings
+abbrev pub BitSet : Type 0
+BitSet = BitMap (Unit {0})
+
+-- the map, the bit strings at which spare nodes stand, which lead to no entry, and the number of levels
 abbrev pub Seen : Type 0 → Type 0
-Seen X = BitMap X × ℕ × ℕ
+Seen X = BitMap X × BitSet × ℕ
 
 abbrev pub code : {X : Type 0} → Coded X → Coded (Seen X)
-code {X} x = code_by (BitMap X × (ℕ × ℕ)) (coded× (map_code (coded_list coded_bool) x) (coded× coded_ℕ coded_ℕ)) (λ s. (s.0, (s.1, s.2))) (λ p. (p.0, p.1.0, p.1.1)) (λ _. refl)
+code {X} x = code_by (BitMap X × (BitSet × ℕ)) (coded× (map_code (coded_list coded_bool) x) (coded× (map_code (coded_list coded_bool) coded_unit) coded_ℕ)) (λ s. (s.0, (s.1, s.2))) (λ p. (p.0, p.1.0, p.1.1)) (λ _. refl)
 
 -- the entries with the bits in front of each key
 abbrev pub under : {X : Type 0} → List Bool → List (List Bool × X) → List (List Bool × X)

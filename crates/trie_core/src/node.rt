@@ -3,7 +3,8 @@ ghost use Rattle.std.specs.Prelude.{◌≡◌, ◌+◌, ◌*◌, ◌/◌, ◌<�
 ghost use Rattle.std.specs.Option.{IsSome, option_copied};
 ghost use Rattle.std.specs.FinMap as map;
 ghost use Rattle.trie_core.specs.Nodes.{HasSlots};
-ghost use Rattle.trie_core.specs.Count.{all_nodes, visit_count};
+ghost use Rattle.trie_core.specs.Count.{all_nodes, spares, visit_count};
+ghost use Rattle.trie_core.specs.Ways.{off_way, IsPruned, IsKept};
 ghost use Rattle.trie_core.specs.Search.{IsChild, HasNoChild, NoneBelow, IsLongestBelow, NoBeginning, IsLongest, IsShortest};
 
 use crate::slots::{
@@ -13,7 +14,7 @@ use std::alloc::Global;
 use std::marker::Model;
 use trie_keys::{Path, bit, place_length};
 
-/// A finite map from bit strings to values, and a number of spare nodes, which hold nothing and lead to nothing.
+/// A finite map from bit strings to values, and the bit strings at which spare nodes stand, which lead to no entry.
 #[derive(Drop)]
 pub struct Node<T> {
     pub(crate) value_bits: u32,
@@ -29,13 +30,13 @@ impl<T> Model for Node<T> {
     ghost use Rattle.trie_keys.specs.Bits.{bits_cmp};
     ghost use Rattle.trie_core.specs.Places.{value_list, child_list};
     ghost use Rattle.trie_core.specs.Nodes.{node_map, node_height, HasSlots, code, most_le-node_height};
-    ghost use Rattle.trie_core.specs.Count.{spares_below};
+    ghost use Rattle.trie_core.specs.Count.{spare_set};
 
-    ghost Value = { map.FinMap bits_cmp T × ℕ × ℕ };
+    ghost Value = { map.FinMap bits_cmp T × map.FinMap bits_cmp (Unit {0}) × ℕ };
 
     ghost coded = { code T.code };
 
-    ghost view = { λ a. (node_map (value_list a.value_bits a.values.items) (child_list a.child_bits a.children.items), spares_below a.children.items, node_height a.children.items + 1) };
+    ghost view = { λ a. (node_map (value_list a.value_bits a.values.items) (child_list a.child_bits a.children.items), spare_set (child_list a.child_bits a.children.items), node_height a.children.items + 1) };
 
     ghost invariant = { λ a. HasSlots a.value_bits a.values.items a.child_bits a.children.items };
 
@@ -77,7 +78,7 @@ impl<T> Node<T> {
     /// The node of the empty map.
     pub fn new(alloc: Global) -> Node<T>
         ensures map { result.0 ≡ map.empty }
-        ensures spares { result.1 ≡ 0 }
+        ensures spares { result.1 ≡ map.empty }
         ensures levels { result.2 ≡ 1 }
     {
         Node {
@@ -197,7 +198,7 @@ impl<T> Node<T> {
     pub fn visits(&self, path: Path) -> u8
         requires { length path ≤ 128 }
         ensures bound { result ≤ length path / 5 + 1 }
-        ensures tidy { self.now.1 ≡ 0 → result ≡ visit_count self.now.0 path }
+        ensures tidy { spares self.now ≡ 0 → result ≡ visit_count self.now.0 path }
     {
         let mut node = self;
         let mut path = path;
@@ -215,7 +216,7 @@ impl<T> Node<T> {
 
     /// Whether it has neither values nor children.
     pub fn is_bare(&self) -> bool
-        ensures bare { IsTrue result ↔ ((self.now.0 ≡ map.empty) × (self.now.1 ≡ 0)) }
+        ensures bare { IsTrue result ↔ ((self.now.0 ≡ map.empty) × (spares self.now ≡ 0)) }
         ensures count { IsTrue result → all_nodes self.now ≡ 1 }
     {
         self.value_bits == 0 && self.child_bits == 0
@@ -236,7 +237,7 @@ impl<T: Drop> Node<T> {
     ) -> Result<(Option<T>, usize), T>
         ensures old { IfOk result (λ r. r.0 ≡ map.get self.old.0 path) }
         ensures map { OnOk result (self.new.0 ≡ map.insert self.old.0 path value) }
-        ensures spares { OnOk result (self.new.1 ≤ self.old.1) }
+        ensures spares { OnOk result (self.new.1 ≡ off_way self.old.1 path) }
         ensures count { IfOk result (λ r. all_nodes self.new ≡ all_nodes self.old + r.1) }
         ensures levels { OnOk result (self.new.2 ≤ max self.old.2 (length path / 5 + 1)) }
         ensures within { IfOk result (λ r. r.1 ≤ room) }
@@ -284,7 +285,7 @@ impl<T: Drop> Node<T> {
         requires { length path ≤ 128 }
         ensures value { result.0 ≡ map.get self.old.0 path }
         ensures map { self.new.0 ≡ map.remove self.old.0 path }
-        ensures tidy { self.old.1 ≡ 0 → self.new.1 ≡ 0 }
+        ensures tidy { spares self.old ≡ 0 → spares self.new ≡ 0 }
         ensures count { all_nodes self.new + result.1 ≡ all_nodes self.old }
         ensures levels { self.new.2 ≤ self.old.2 }
         ensures within { 5 * result.1 ≤ length path }

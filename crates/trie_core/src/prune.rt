@@ -1,7 +1,7 @@
 //! Many entries at once, taken out.
 ghost use Rattle.std.specs.Prelude.{◌≡◌, ◌+◌, ◌<◌, ◌≤◌, ◌^◌, length, cond};
 ghost use Rattle.std.specs.FinMap as map;
-ghost use Rattle.trie_core.specs.Count.{all_nodes};
+ghost use Rattle.trie_core.specs.Count.{all_nodes, spares};
 ghost use Rattle.trie_core.specs.Inside.{outside};
 
 use crate::node::Node;
@@ -31,7 +31,7 @@ impl<T: Drop> Node<T> {
     /// Takes out everything.
     pub fn clear(&mut self)
         ensures map { self.new.0 ≡ map.empty }
-        ensures spares { self.new.1 ≡ 0 }
+        ensures spares { self.new.1 ≡ map.empty }
         ensures levels { self.new.2 ≡ 1 }
     {
         let alloc = *self.children.allocator();
@@ -46,7 +46,7 @@ impl<T: Drop> Node<T> {
         ensures map { self.new.0 ≡ outside self.old.0 path.now }
         ensures entries { map.len self.new.0 + result.0 ≡ map.len self.old.0 }
         ensures count { all_nodes self.new + result.1 ≡ all_nodes self.old }
-        ensures spares { self.new.1 ≤ self.old.1 }
+        ensures spares { spares self.new ≤ spares self.old }
         ensures levels { self.new.2 ≤ self.old.2 }
     {
         let number = path.five();
@@ -69,7 +69,7 @@ impl<T: Drop> Node<T> {
         ensures map { self.new.0 ≡ outside self.old.0 path.now }
         ensures entries { map.len self.new.0 + result.0 ≡ map.len self.old.0 }
         ensures count { all_nodes self.new + result.1 ≡ all_nodes self.old }
-        ensures spares { self.new.1 ≤ self.old.1 }
+        ensures spares { spares self.new ≤ spares self.old }
         ensures levels { self.new.2 ≤ self.old.2 }
     {
         if !path.is_short() {
@@ -101,7 +101,7 @@ impl<T: Drop> Node<T> {
         ensures map { self.new.0 ≡ outside self.old.0 path.now }
         ensures entries { map.len self.new.0 + result.0 ≡ map.len self.old.0 }
         ensures count { all_nodes self.new + result.1 ≡ all_nodes self.old }
-        ensures tidy { self.old.1 ≡ 0 → self.new.1 ≡ 0 }
+        ensures tidy { spares self.old ≡ 0 → spares self.new ≡ 0 }
         ensures levels { self.new.2 ≤ self.old.2 }
     {
         if path.len() <= 5 {

@@ -1,5 +1,6 @@
 //! Nodes without use, taken out.
 ghost use Rattle.std.specs.Prelude.{◌≡◌, ◌+◌, ◌<◌, ◌≤◌, ◌^◌};
+ghost use Rattle.std.specs.FinMap as map;
 ghost use Rattle.trie_core.specs.Count.{all_nodes};
 
 use crate::node::Node;
@@ -11,7 +12,7 @@ impl<T: Drop> Node<T> {
     pub fn take_spares(&mut self) -> usize
         requires { all_nodes self.old < 2 ^ 64 }
         ensures map { self.new.0 ≡ self.old.0 }
-        ensures spares { self.new.1 ≡ 0 }
+        ensures spares { self.new.1 ≡ map.empty }
         ensures count { all_nodes self.new + result ≡ all_nodes self.old }
         ensures levels { self.new.2 ≤ self.old.2 }
     {

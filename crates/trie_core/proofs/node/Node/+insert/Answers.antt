@@ -6,7 +6,10 @@ use Rattle.std.proofs.lemmas.Result.{IfOk-weaker}
 use Rattle.std.proofs.lemmas.Bool.Decides.{nat_tests}
 use Rattle.trie_core.specs.Places.{at_places}
 use Rattle.trie_core.proofs.Seen.{seen, value_at}
-use Rattle.trie_core.proofs.Changes.{value_slots, value_put_map, value_count, way, was, set_put, set_count, set_spares, set_height, was_lower, spare_insert, absent, hung, depth_rest, new_nodes}
+use Rattle.trie_core.proofs.Changes.{value_slots, value_put_map, value_count, way, was, set_put, set_count, set_height, was_lower, absent, hung, depth_rest, new_nodes}
+use Rattle.trie_core.specs.Ways.{off_way}
+use Rattle.trie_core.proofs.Marks.{no_spares}
+use Rattle.trie_core.proofs.Ways.{off_none, short_off, below_off, hung_off}
 use Rattle.trie_core.proofs.node.Node.+insert.Goals as goal
 
 always : {T E P : Type 0} (r : Result T E) → P → OnErr r P
@@ -46,6 +49,12 @@ returns-then-is_short-clause-map g t c =
     let h : length c.args.path < 5 = grind (arith, nat_tests) in
     value_put_map c.args.path c.args.value (seen c.self.invariant c.self.view_is) (invariant_of-self-then-is_short g t c) h c.place.ensures.value c.in_ok-old.ensures.items
 
+pub returns-then-is_short-clause-spares : goal.returns-then-is_short-clause-spares
+returns-then-is_short-clause-spares g t c =
+    let h : length c.args.path < 5 = grind (arith, nat_tests) in
+    let s = seen c.self.invariant c.self.view_is in
+    s.spare ∙ short_off c.args.path s h
+
 pub returns-then-is_short-clause-count : goal.returns-then-is_short-clause-count
 returns-then-is_short-clause-count g t c = omega (arith, value_count (seen c.self.invariant c.self.view_is) (invariant_of-self-then-is_short g t c))
 
@@ -70,10 +79,12 @@ returns-in-Some-clause-map g t c =
 
 pub returns-in-Some-clause-spares : goal.returns-in-Some-clause-spares
 returns-in-Some-clause-spares g t c =
+    let h : 5 ≤ length c.args.path = grind (arith, nat_tests) in
     let s = seen c.self.invariant c.self.view_is in
     let w = way c.args.path s c.five-number.ensures.value c.in-Some.ensures in
-    let k = set_spares c.args.path c.index_mut-child.result.now c.insert.new.self s w c.index_mut-child.ensures.value in
-    both_ok c.insert.result (λ e f. omega (arith, k, spare_insert c.index_mut-child.result.now.0 c.rest.result c.args.value e, f)) c.insert.ensures.map c.insert.ensures.spares
+    both_ok c.insert.result
+    (λ e f. below_off c.args.path c.args.value c.index_mut-child.result.now c.insert.new.self s h w c.index_mut-child.ensures.value (e ∙ ap (λ q. insert c.index_mut-child.result.now.0 q c.args.value) c.rest.ensures) (f ∙ ap (off_way c.index_mut-child.result.now.1) c.rest.ensures))
+    c.insert.ensures.map c.insert.ensures.spares
 
 pub returns-in-Some-clause-count : goal.returns-in-Some-clause-count
 returns-in-Some-clause-count g t c =
@@ -117,31 +128,30 @@ pub invariant_of-self-2 : goal.invariant_of-self-2
 invariant_of-self-2 g t c =
     let h : 5 ≤ length c.args.path = grind (arith, nat_tests) in
     (hung c.args.path c.args.value c.insert-2.new.self (seen c.self.invariant c.self.view_is) h c.five-number.ensures.value c.in_default.ensures c.reserve_one.ensures.items c.in-Ok.ensures.items c.in-Ok.ensures.counted (c.in-Ok.ensures.below 32 c.five-number.ensures.below c.self.invariant.children_below)
-    (c.in_ok-made.ensures.map ∙ (λ i. insert (c.new-child.ensures.map i) (c.rest-2.ensures i) c.args.value)) (omega (arith, c.in_ok-made.ensures.spares, c.new-child.ensures.spares))).slots
+    (c.in_ok-made.ensures.map ∙ (λ i. insert (c.new-child.ensures.map i) (c.rest-2.ensures i) c.args.value)) (no_spares c.insert-2.new.self (c.in_ok-made.ensures.spares ∙ off_none c.new-child.result.1 c.rest-2.result c.new-child.ensures.spares))).slots
 
 pub returns-clause-map : goal.returns-clause-map
 returns-clause-map g t c =
     let h : 5 ≤ length c.args.path = grind (arith, nat_tests) in
     (hung c.args.path c.args.value c.insert-2.new.self (seen c.self.invariant c.self.view_is) h c.five-number.ensures.value c.in_default.ensures c.reserve_one.ensures.items c.in-Ok.ensures.items c.in-Ok.ensures.counted (c.in-Ok.ensures.below 32 c.five-number.ensures.below c.self.invariant.children_below)
-    (c.in_ok-made.ensures.map ∙ (λ i. insert (c.new-child.ensures.map i) (c.rest-2.ensures i) c.args.value)) (omega (arith, c.in_ok-made.ensures.spares, c.new-child.ensures.spares))).map
+    (c.in_ok-made.ensures.map ∙ (λ i. insert (c.new-child.ensures.map i) (c.rest-2.ensures i) c.args.value)) (no_spares c.insert-2.new.self (c.in_ok-made.ensures.spares ∙ off_none c.new-child.result.1 c.rest-2.result c.new-child.ensures.spares))).map
 
 pub returns-clause-spares : goal.returns-clause-spares
 returns-clause-spares g t c =
     let h : 5 ≤ length c.args.path = grind (arith, nat_tests) in
-    let k = hung c.args.path c.args.value c.insert-2.new.self (seen c.self.invariant c.self.view_is) h c.five-number.ensures.value c.in_default.ensures c.reserve_one.ensures.items c.in-Ok.ensures.items c.in-Ok.ensures.counted (c.in-Ok.ensures.below 32 c.five-number.ensures.below c.self.invariant.children_below)
-    (c.in_ok-made.ensures.map ∙ (λ i. insert (c.new-child.ensures.map i) (c.rest-2.ensures i) c.args.value)) (omega (arith, c.in_ok-made.ensures.spares, c.new-child.ensures.spares)) in
-    omega (arith, k.spares)
+    hung_off _ c.args.path c.args.value c.insert-2.new.self (seen c.self.invariant c.self.view_is) h c.five-number.ensures.value c.in_default.ensures c.reserve_one.ensures.items c.in-Ok.ensures.items (c.in-Ok.ensures.below 32 c.five-number.ensures.below c.self.invariant.children_below)
+    (c.in_ok-made.ensures.map ∙ (λ i. insert (c.new-child.ensures.map i) (c.rest-2.ensures i) c.args.value)) (c.in_ok-made.ensures.spares ∙ off_none c.new-child.result.1 c.rest-2.result c.new-child.ensures.spares)
 
 pub returns-clause-count : goal.returns-clause-count
 returns-clause-count g t c =
     let h : 5 ≤ length c.args.path = grind (arith, nat_tests) in
     let k = hung c.args.path c.args.value c.insert-2.new.self (seen c.self.invariant c.self.view_is) h c.five-number.ensures.value c.in_default.ensures c.reserve_one.ensures.items c.in-Ok.ensures.items c.in-Ok.ensures.counted (c.in-Ok.ensures.below 32 c.five-number.ensures.below c.self.invariant.children_below)
-    (c.in_ok-made.ensures.map ∙ (λ i. insert (c.new-child.ensures.map i) (c.rest-2.ensures i) c.args.value)) (omega (arith, c.in_ok-made.ensures.spares, c.new-child.ensures.spares)) in
-    omega (arith, k.count, c.in_ok-made.ensures.count, new_nodes c.new-child.result c.new-child.ensures.map c.new-child.ensures.spares)
+    (c.in_ok-made.ensures.map ∙ (λ i. insert (c.new-child.ensures.map i) (c.rest-2.ensures i) c.args.value)) (no_spares c.insert-2.new.self (c.in_ok-made.ensures.spares ∙ off_none c.new-child.result.1 c.rest-2.result c.new-child.ensures.spares)) in
+    omega (arith, k.count, c.in_ok-made.ensures.count, new_nodes c.new-child.result c.new-child.ensures.map (no_spares c.new-child.result c.new-child.ensures.spares))
 
 pub returns-clause-levels : goal.returns-clause-levels
 returns-clause-levels g t c =
     let h : 5 ≤ length c.args.path = grind (arith, nat_tests) in
     let k = hung c.args.path c.args.value c.insert-2.new.self (seen c.self.invariant c.self.view_is) h c.five-number.ensures.value c.in_default.ensures c.reserve_one.ensures.items c.in-Ok.ensures.items c.in-Ok.ensures.counted (c.in-Ok.ensures.below 32 c.five-number.ensures.below c.self.invariant.children_below)
-    (c.in_ok-made.ensures.map ∙ (λ i. insert (c.new-child.ensures.map i) (c.rest-2.ensures i) c.args.value)) (omega (arith, c.in_ok-made.ensures.spares, c.new-child.ensures.spares)) in
+    (c.in_ok-made.ensures.map ∙ (λ i. insert (c.new-child.ensures.map i) (c.rest-2.ensures i) c.args.value)) (no_spares c.insert-2.new.self (c.in_ok-made.ensures.spares ∙ off_none c.new-child.result.1 c.rest-2.result c.new-child.ensures.spares)) in
     omega (arith, k.height, c.in_ok-made.ensures.levels, c.new-child.ensures.levels, ap (λ q. length q / 5 + 1) c.rest-2.ensures, depth_rest c.args.path h)

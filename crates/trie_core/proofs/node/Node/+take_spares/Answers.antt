@@ -1,5 +1,6 @@
 use Rattle.std.proofs.Common.{◌+◌, refl, arith}
 use Rattle.trie_core.proofs.Seen.{seen}
+use Rattle.trie_core.proofs.Marks.{no_spares}
 use Rattle.trie_core.proofs.Changes.{spare_kept}
 use Rattle.trie_core.proofs.Tidying.{tidy_start, tidy_past, slot_within, child_fewer, child_lower, tidy_stays, tidy_goes, tidied}
 use Rattle.trie_core.proofs.node.Node.+take_spares.Goals.{then-is_bare, else-is_bare}
@@ -43,8 +44,11 @@ number-preserved g t c =
     let r = c.index_mut-child.ensures.value in
     elim c.if-is_bare.branch [
       | then-is_bare w ↦ rw (w.gone-is, w.self-inside-is) (tidy_goes e c.number.invariant c.number-test.true u r d (c.number.gone + c.take_spares-gone.result + 1) s.map (w.if-is_bare.ensures.bare.0 refl).0 (omega (arith, s.count, w.if-is_bare.ensures.count refl)) w.bit.ensures w.remove.ensures.items)
-      | else-is_bare w ↦ rw (w.gone-is, w.self-inside-is) (tidy_stays e c.number.invariant c.number-test.true u r d (c.number.gone + c.take_spares-gone.result) s.map (spare_kept d c.is_bare.result s.spares c.is_bare.ensures.bare.1 w.if-is_bare.false) (omega (arith, s.count)) s.levels)
+      | else-is_bare w ↦ rw (w.gone-is, w.self-inside-is) (tidy_stays e c.number.invariant c.number-test.true u r d (c.number.gone + c.take_spares-gone.result) s.map (spare_kept d c.is_bare.result (no_spares d s.spares) c.is_bare.ensures.bare.1 w.if-is_bare.false) (omega (arith, s.count)) s.levels)
     ]
 
 pub returns-clause-count : goal.returns-clause-count
 returns-clause-count g t c = (tidied c.number.invariant (omega (arith, c.number-test.false, c.number.auto.number-end))).count
+
+pub returns-clause-spares : goal.returns-clause-spares
+returns-clause-spares g t c = (tidied c.number.invariant (omega (arith, c.number-test.false, c.number.auto.number-end))).spares

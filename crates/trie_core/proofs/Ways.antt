@@ -1,0 +1,101 @@
+-- The spare nodes of a node, as a key comes or goes below it.
+use Rattle.std.proofs.Common.{◌≡◌, ◌+◌, ◌-◌, ◌^◌, ◌%◌, ◌<◌, ◌≤◌, Bool, true, false, cond, not, List, [], ◌∷◌, ◌++◌, ℕ, zero, suc, length, take, drop, get_or, set, remove, refl, sym, ap, subst, ◌∙◌, arith}
+use Rattle.std.specs.Prelude.{nat_lt, Option, Some, None, is_some}
+use Rattle.std.specs.FinMap.{get, put, len, empty, find, get-empty, get-retain_keys, same_map}
+use Rattle.std.specs.FinMap as map
+use Rattle.std.specs.Ordering.{nat_cmp}
+use Rattle.std.proofs.lemmas.Bool.Decides.{nat_tests}
+use Rattle.trie_keys.specs.Bits.{bits_cmp, begins, child_of}
+use Rattle.trie_core.specs.Places.{at_places, child_list, IsUnset}
+use Rattle.trie_core.specs.Nodes.{BitMap, BitSet, Seen, node_map, IsNode, HasSlots}
+use Rattle.trie_core.specs.Count.{marked, spare_set}
+use Rattle.trie_core.specs.Ways.{off_way}
+use Rattle.trie_keys.proofs.Strings.{bits_total, bits_same, same, same-Decides, same_false, not_same}
+use Rattle.trie_core.proofs.Maps.{ListChanges}
+use Rattle.trie_core.proofs.Named.{is_node, child_put_in, child_taken_out, child_found}
+use Rattle.trie_core.proofs.Taken.{IsTaken, missing}
+use Rattle.trie_core.proofs.Count.{spare_pos}
+use Rattle.trie_core.proofs.Seen.{IsSeen, viewed}
+use Rattle.trie_core.proofs.Marks.{marked_get, marked-other, marked-root, root_if, set-short, set-long, set-changed}
+use Rattle.trie_core.proofs.Inside.{begins_longer, begins_below, begins_elsewhere}
+use Rattle.trie_core.proofs.Changes.{spare_insert, was_found}
+
+pub get-off : (b : BitSet) (q x : List Bool) → get (off_way b q) x ≡ cond (not (begins x q)) (get b x) None
+get-off b q x = get-retain_keys b (λ s. not (begins s q)) x (λ y e. ap (λ s. not (begins s q)) (sym (bits_same x y e)))
+
+no_choice : {Y : Type 0} (b : Bool) → ◌≡◌ {A = Option Y} (cond b None None) None
+no_choice true = refl
+no_choice false = refl
+
+pub off_none : (b : BitSet) (q : List Bool) → b ≡ empty → off_way b q ≡ empty
+off_none b q e = same_map bits_total bits_same _ _ (λ x. get-off b q x ∙ ap (λ o. cond (not (begins x q)) o None) (ap (λ c. get c x) e ∙ get-empty bits_cmp x) ∙ no_choice (not (begins x q)) ∙ sym (get-empty bits_cmp x))
+
+root_if_some : (n : ℕ) → 1 ≤ n → root_if n ≡ None
+root_if_some zero h = absurd (omega (arith, h))
+root_if_some (suc n) h = refl
+
+module _ {X : Type 0} where
+  -- ---- a key comes
+
+  off_by : (cs : List (List Bool × Seen X)) (q : List Bool) (o : Option (Seen X)) → 5 ≤ length q → ((r : List Bool) → marked_get o r ≡ cond (not (begins r (drop 5 q))) (marked_get (find bits_cmp (take 5 q) cs) r) None) → (x : List Bool) → 5 ≤ length x → (b : Bool) → same (take 5 x) (take 5 q) ≡ b
+      → marked_get (cond b o (find bits_cmp (take 5 x) cs)) (drop 5 x) ≡ cond (not (begins x q)) (marked_get (find bits_cmp (take 5 x) cs) (drop 5 x)) None
+  off_by cs q o h f x l true e =
+      let n = (same-Decides _ _).0 e in
+      f (drop 5 x) ∙ (λ i. cond (not (sym (begins_below x q l h (sym n)) i)) (marked_get (find bits_cmp (sym n i) cs) (drop 5 x)) None)
+  off_by cs q o h f x l false e = ap (λ b. cond (not b) (marked_get (find bits_cmp (take 5 x) cs) (drop 5 x)) None) (sym (begins_elsewhere x q l (not_back (take 5 x) (take 5 q) e)))
+    where
+      not_back : (a b : List Bool) → same a b ≡ false → same b a ≡ false
+      not_back a b e = same_false b a (λ p. not_same e (sym p))
+
+  set_off_by : {vs us : List (List Bool × X)} {cs ds : List (List Bool × Seen X)} (q : List Bool) (o : Option (Seen X)) → IsNode vs cs → IsNode us ds → 5 ≤ length q → ListChanges cs (take 5 q) o ds
+      → ((r : List Bool) → marked_get o r ≡ cond (not (begins r (drop 5 q))) (marked_get (find bits_cmp (take 5 q) cs) r) None) → (x : List Bool) (b : Bool) → nat_lt (length x) 5 ≡ b → get (spare_set ds) x ≡ cond (not (begins x q)) (get (spare_set cs) x) None
+  set_off_by q o n k h f g x true e =
+      let l : length x < 5 = grind (arith, nat_tests) in
+      set-short k x l ∙ sym (ap (λ o. cond (not (begins x q)) o None) (set-short n x l) ∙ no_choice (not (begins x q)))
+  set_off_by {cs = cs} q o n k h f g x false e =
+      let l : 5 ≤ length x = grind (arith, nat_tests) in
+      set-changed cs q o k f x l ∙ off_by cs q o h g x l _ refl ∙ ap (λ o. cond (not (begins x q)) o None) (sym (set-long n x l))
+
+  set_off : {vs us : List (List Bool × X)} {cs ds : List (List Bool × Seen X)} (q : List Bool) (o : Option (Seen X)) → IsNode vs cs → IsNode us ds → 5 ≤ length q → ListChanges cs (take 5 q) o ds
+      → ((r : List Bool) → marked_get o r ≡ cond (not (begins r (drop 5 q))) (marked_get (find bits_cmp (take 5 q) cs) r) None) → spare_set ds ≡ off_way (spare_set cs) q
+  set_off {cs = cs} q o n k h f g = same_map bits_total bits_same _ _ (λ x. set_off_by q o n k h f g x (nat_lt (length x) 5) refl ∙ sym (get-off (spare_set cs) q x))
+
+  -- the marks of a child that got a key
+  marked_off : (q : List Bool) (v : X) (e d : Seen X) → d.0 ≡ map.insert e.0 q v → d.1 ≡ off_way e.1 q → (r : List Bool) → get (marked d) r ≡ cond (not (begins r q)) (get (marked e) r) None
+  marked_off q v e d f g [] = marked-root d ∙ root_if_some (len d.0) (spare_pos (len d.0) (spare_insert e.0 q v f))
+  marked_off q v e d f g (y ∷ ys) = marked-other d y ys ∙ ap (λ b. get b (y ∷ ys)) g ∙ get-off e.1 q (y ∷ ys) ∙ ap (λ o. cond (not (begins (y ∷ ys) q)) o None) (sym (marked-other e y ys))
+
+  -- the marks of a new child with a key
+  marked_new : (q : List Bool) (v : X) (d : Seen X) → d.0 ≡ map.insert empty q v → d.1 ≡ empty → (r : List Bool) → get (marked d) r ≡ None
+  marked_new q v d f g [] = marked-root d ∙ root_if_some (len d.0) (spare_pos (len d.0) (spare_insert empty q v f))
+  marked_new q v d f g (y ∷ ys) = marked-other d y ys ∙ ap (λ b. get b (y ∷ ys)) g ∙ get-empty bits_cmp (y ∷ ys)
+
+  -- within the node no spare node is on the way
+  pub short_off : {vb : ℕ} {vs : List X} {cb : ℕ} {cs : List (Seen X)} {m : Seen X} (q : List Bool) → IsSeen vb vs cb cs m → length q < 5 → m.1 ≡ off_way m.1 q
+  short_off {m = m} q s h = same_map bits_total bits_same _ _ (λ x. short_by x (nat_lt (length x) 5) refl ∙ sym (get-off m.1 q x))
+    where
+      short_by : (x : List Bool) (b : Bool) → nat_lt (length x) 5 ≡ b → get m.1 x ≡ cond (not (begins x q)) (get m.1 x) None
+      short_by x true e =
+          let z : get m.1 x ≡ None = ap (λ b. get b x) (sym s.spare) ∙ set-short s.node x (grind (arith, nat_tests)) in
+          z ∙ sym (ap (λ o. cond (not (begins x q)) o None) z ∙ no_choice (not (begins x q)))
+      short_by x false e =
+          let l : 5 ≤ length x = grind (arith, nat_tests) in
+          ap (λ b. cond (not b) (get m.1 x) None) (sym (begins_longer x q (omega (arith, l, h))))
+
+  -- in the child on the way, which is e and becomes d
+  pub below_off : {vb at : ℕ} {vs : List X} {cb : ℕ} {cs : List (Seen X)} {m : Seen X} (q : List Bool) (v : X) (e d : Seen X) → IsSeen vb vs cb cs m → 5 ≤ length q → IsTaken (child_of q) at cb cs → e ≡ get_or cs at e → d.0 ≡ map.insert e.0 (drop 5 q) v → d.1 ≡ off_way e.1 (drop 5 q)
+      → spare_set (child_list cb (set cs at d)) ≡ off_way m.1 q
+  below_off {vb} {at} {vs} {cb} {cs} q v e d s h t r f g =
+      set_off q (Some d) s.node (is_node vb vs cb (set cs at d) s.slots.values_below s.slots.children_below) h (child_put_in q d cb cb cs (set cs at d) h s.slots.children_below (t.written d))
+      (λ x. marked_off (drop 5 q) v e d f g x ∙ ap (λ o. cond (not (begins x (drop 5 q))) (marked_get o x) None) (sym (was_found q e s h t r)))
+      ∙ ap (λ b. off_way b q) s.spare
+
+  -- with a new child, which is d
+  pub hung_off : {vb n db : ℕ} {vs : List X} {cb : ℕ} {cs ls : List (Seen X)} {m : Seen X} (ds : List (Seen X)) (q : List Bool) (v : X) (d : Seen X) → IsSeen vb vs cb cs m → 5 ≤ length q → n ≡ child_of q → IsUnset n cb → ls ≡ cs → at_places 32 0 db ds ≡ put nat_cmp n d (at_places 32 0 cb ls) → db < 2 ^ 32
+      → d.0 ≡ map.insert empty (drop 5 q) v → d.1 ≡ empty → spare_set (child_list db ds) ≡ off_way m.1 q
+  hung_off {vb} {n} {db} {vs} {cb} {cs} {ls} ds q v d s h k u l e b f z =
+      let w : at_places 32 0 db ds ≡ put nat_cmp (child_of q) d (at_places 32 0 cb cs) = e ∙ (λ i. put nat_cmp (k i) d (at_places 32 0 cb (l i))) in
+      let none : find bits_cmp (take 5 q) (child_list cb cs) ≡ None = child_found q cb cs h s.slots.children_below ∙ sym (missing (child_of q) cb cs (subst (λ i. IsUnset i cb) k u)) in
+      set_off q (Some d) s.node (is_node vb vs db ds s.slots.values_below b) h (child_put_in q d cb db cs ds h s.slots.children_below w)
+      (λ x. marked_new (drop 5 q) v d f z x ∙ sym (ap (λ o. cond (not (begins x (drop 5 q))) (marked_get o x) None) none ∙ no_choice (not (begins x (drop 5 q)))))
+      ∙ ap (λ b. off_way b q) s.spare

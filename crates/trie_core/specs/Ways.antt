@@ -1,0 +1,32 @@
+-- What becomes of spare nodes on the way to a key, and of those off it.
+use Rattle.std.specs.Prelude.{ℕ, ◌%◌, ◌≤◌, ◌≡◌, ◌↔◌, ◌⊎◌, length, Bool, true, false, not, List, ◌++◌, None, is_some}
+use Rattle.std.specs.FinMap.{get, retain_keys}
+use Rattle.trie_keys.specs.Bits.{begins}
+use Rattle.trie_core.specs.Nodes.{BitMap, BitSet}
+
+-- the strings that do not begin q; q begins itself
+abbrev pub off_way : BitSet → List Bool → BitSet
+off_way b q = retain_keys b (λ s. not (begins s q))
+
+-- a node can stand at s below the root, and m has no key there or below
+pub record IsIdle {X : Type 0} (m : BitMap X) (s : List Bool) : Type 0 where
+  pub below : 5 ≤ length s
+  pub fives : length s % 5 ≡ 0
+  pub none : (k : List Bool) → get m (s ++ k) ≡ None
+
+-- a string of b that is off the way to q begins with s
+abbrev pub LeadsOff : BitSet → List Bool → List Bool → Type 0
+LeadsOff b q s = (k : List Bool) × (is_some (get b (s ++ k)) ≡ true) × (begins (s ++ k) q ≡ false)
+
+module _ {X : Type 0} where
+  -- the spare nodes a became b, as q went out of a map, which is m then, and the nodes on its way that lead nowhere went too.
+  -- Off the way all stay; on it those are spare that lead to no key, but to a spare node off the way
+  pub record IsPruned (q : List Bool) (a : BitSet) (m : BitMap X) (b : BitSet) : Type 0 where
+    pub off : (s : List Bool) → begins s q ≡ false → get b s ≡ get a s
+    pub on : (s : List Bool) → begins s q ≡ true → (is_some (get b s) ≡ true) ↔ (IsIdle m s × LeadsOff a q s)
+
+  -- the spare nodes a became b, as q went out of the map l, which is m then, and all nodes stayed:
+  -- of those on its way more are spare, if q was a key
+  pub record IsKept (q : List Bool) (l : BitMap X) (a : BitSet) (m : BitMap X) (b : BitSet) : Type 0 where
+    pub off : (s : List Bool) → begins s q ≡ false → get b s ≡ get a s
+    pub on : (s : List Bool) → begins s q ≡ true → (is_some (get b s) ≡ true) ↔ ((is_some (get a s) ≡ true) ⊎ ((is_some (get l q) ≡ true) × IsIdle m s))
