@@ -76,13 +76,17 @@ module _ {X : Type 0} where
   pub spare_insert : {d : BitMap X} (m : BitMap X) (q : List Bool) (v : X) → d ≡ map.insert m q v → spare_if (len d) ≡ 0
   spare_insert {d} m q v e = spare_some_by d q v (ap (λ k. get k q) e ∙ insert_changes m q v q ∙ ap (λ b. cond b (Some v) (get m q)) ((same-Decides q q).1 refl)) (len d) refl
 
-  spare_kept_by : (d : Seen X) (b : Bool) → spares d ≡ 0 → ((d.0 ≡ empty) × (spares d ≡ 0) → b ≡ true) → b ≡ false → (n : ℕ) → len d.0 ≡ n → spare_if n ≡ 0
-  spare_kept_by d b s h f zero e = let z : true ≡ false = sym (h (empty_of_len d.0 e, s)) ∙ f in cc
-  spare_kept_by d b s h f (suc n) e = refl
+  -- a node that is not bare has a key or a spare node
+  pub not_bare : (d : Seen X) (b : Bool) → ((d.0 ≡ empty) × (spares d ≡ 0) → b ≡ true) → b ≡ false → spares d ≡ 0 → len d.0 ≡ 0 → ⊥
+  not_bare d b h f s e = let z : true ≡ false = sym (h (empty_of_len d.0 e, s)) ∙ f in cc
+
+  spare_kept_by : (d : Seen X) (n : ℕ) → (len d.0 ≡ 0 → ⊥) → len d.0 ≡ n → spare_if n ≡ 0
+  spare_kept_by d zero h e = absurd (h e)
+  spare_kept_by d (suc n) h e = refl
 
   -- a child that is not bare, where none below it is spare
   pub spare_kept : (d : Seen X) (b : Bool) → spares d ≡ 0 → ((d.0 ≡ empty) × (spares d ≡ 0) → b ≡ true) → b ≡ false → spare_of d ≡ 0
-  spare_kept d b s h f = omega (arith, s, spare_kept_by d b s h f (len d.0) refl)
+  spare_kept d b s h f = omega (arith, s, spare_kept_by d (len d.0) (not_bare d b h f s) refl)
 
   pub new_nodes : (m : Seen X) → m.0 ≡ empty → spares m ≡ 0 → all_nodes m ≡ 1
   new_nodes m e z = omega (arith, ap nodes e, nodes_empty X, z)

@@ -21,7 +21,7 @@ use Rattle.trie_core.proofs.Entries.{entries_at, entries_of}
 
 -- ---- beginnings
 
-begins-under : (b q x : List Bool) → begins (b ++ q) (b ++ x) ≡ begins q x
+pub begins-under : (b q x : List Bool) → begins (b ++ q) (b ++ x) ≡ begins q x
 begins-under [] q x = refl
 begins-under (true ∷ b) q x = begins-under b q x
 begins-under (false ∷ b) q x = begins-under b q x

@@ -20,4 +20,5 @@ pub mod Walks
 pub mod Entries
 pub mod Inside
 pub mod Ways
+pub mod Left
 pub mod Covers

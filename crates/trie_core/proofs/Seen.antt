@@ -19,7 +19,7 @@ use Rattle.trie_core.proofs.Lengths.{length-things}
 use Rattle.trie_core.proofs.Marks.{set-len, set-root}
 use Rattle.trie_core.proofs.Named.{is_node, value_things, child_things, value_found, child_found}
 
-drop_first : (b k : List Bool) → length b ≡ 5 → drop 5 (b ++ k) ≡ k
+pub drop_first : (b k : List Bool) → length b ≡ 5 → drop 5 (b ++ k) ≡ k
 drop_first (a ∷ b ∷ c ∷ d ∷ e ∷ []) k h = refl
 drop_first [] k h = absurd (omega arith)
 drop_first (a ∷ []) k h = absurd (omega arith)

@@ -285,7 +285,7 @@ impl<T: Drop> Node<T> {
         requires { length path ≤ 128 }
         ensures value { result.0 ≡ map.get self.old.0 path }
         ensures map { self.new.0 ≡ map.remove self.old.0 path }
-        ensures tidy { spares self.old ≡ 0 → spares self.new ≡ 0 }
+        ensures spares { IsPruned path self.old.1 self.new.0 self.new.1 }
         ensures count { all_nodes self.new + result.1 ≡ all_nodes self.old }
         ensures levels { self.new.2 ≤ self.old.2 }
         ensures within { 5 * result.1 ≤ length path }

@@ -1,11 +1,13 @@
-use Rattle.std.proofs.Common.{◌<◌, ◌≤◌, ◌^◌, ◌∙◌, refl, sym, ap, length, arith}
+use Rattle.std.proofs.Common.{◌<◌, ◌≤◌, ◌^◌, ◌∙◌, refl, sym, ap, subst, false, length, arith}
 use Rattle.std.specs.Ordering.{nat_cmp}
 use Rattle.std.specs.FinMap.{find, get, remove}
 use Rattle.std.proofs.lemmas.Bool.Decides.{nat_tests}
 use Rattle.trie_core.specs.Places.{at_places}
+use Rattle.trie_core.specs.Ways.{IsPruned}
 use Rattle.trie_core.proofs.Maps.{remove_absent}
-use Rattle.trie_core.proofs.Seen.{seen, value_at}
-use Rattle.trie_core.proofs.Changes.{value_slots, value_taken_map, value_count, way, was, set_taken, set_count, set_spares, set_height, was_lower, spares_was, spare_kept, absent, pruned}
+use Rattle.trie_core.proofs.Seen.{seen, map_of, value_at}
+use Rattle.trie_core.proofs.Changes.{value_slots, value_taken_map, value_count, way, was, set_taken, set_count, set_height, was_lower, not_bare, absent, pruned}
+use Rattle.trie_core.proofs.Left.{left_short, left_none, left_set, left_removed}
 use Rattle.trie_core.proofs.node.Node.+remove.Goals as goal
 
 pub returns-then-is_short-clause-value : goal.returns-then-is_short-clause-value
@@ -20,6 +22,12 @@ pub returns-then-is_short-clause-map : goal.returns-then-is_short-clause-map
 returns-then-is_short-clause-map g t c =
     let h : length c.args.path < 5 = grind (arith, nat_tests) in
     value_taken_map c.args.path (seen c.self.invariant c.self.view_is) (invariant_of-self g t c) h c.place.ensures.value c.take_at-value.ensures.items
+
+pub returns-then-is_short-clause-spares : goal.returns-then-is_short-clause-spares
+returns-then-is_short-clause-spares g t c =
+    let h : length c.args.path < 5 = grind (arith, nat_tests) in
+    let s = seen c.self.invariant c.self.view_is in
+    subst (λ b. IsPruned c.args.path c.args.self.now.1 (map_of c.take_at-value.new.taken c.take_at-value.new.items.items c.self.inside.child_bits c.self.inside.children.items) b) (sym s.spare) (left_short (λ x. false) c.args.path s h (λ x. refl))
 
 pub returns-then-is_short-clause-count : goal.returns-then-is_short-clause-count
 returns-then-is_short-clause-count g t c = omega (arith, value_count (seen c.self.invariant c.self.view_is) (invariant_of-self g t c))
@@ -39,6 +47,11 @@ pub returns-in-None-clause-map : goal.returns-in-None-clause-map
 returns-in-None-clause-map g t c =
     let h : 5 ≤ length c.args.path = grind (arith, nat_tests) in
     sym (remove_absent c.args.self.now.0 c.args.path (absent c.args.path (seen c.self.invariant c.self.view_is) h c.five-number.ensures.value c.in-None.ensures))
+
+pub returns-in-None-clause-spares : goal.returns-in-None-clause-spares
+returns-in-None-clause-spares g t c =
+    let h : 5 ≤ length c.args.path = grind (arith, nat_tests) in
+    left_none (λ x. false) c.args.path (seen c.self.invariant c.self.view_is) h (λ x l e. refl) c.five-number.ensures.value c.in-None.ensures
 
 -- ---- the child goes
 
@@ -61,12 +74,13 @@ returns-then-is_bare-clause-map g t c =
     let s = seen c.self.invariant c.self.view_is in
     (pruned c.args.path c.index_mut-child.result.now c.remove-value.new.self s h (way c.args.path s c.five-number.ensures.value c.in-Some.ensures) c.index_mut-child.ensures.value (c.remove-value.ensures.map ∙ ap (remove c.index_mut-child.result.now.0) c.rest.ensures) (c.if-is_bare.ensures.bare.0 refl).0 (c.bit.ensures ∙ ap (λ i. 2 ^ i) c.five-number.ensures.value) c.remove.ensures.items).map
 
-pub returns-then-is_bare-clause-tidy : goal.returns-then-is_bare-clause-tidy
-returns-then-is_bare-clause-tidy g t c = λ z.
+pub returns-then-is_bare-clause-spares : goal.returns-then-is_bare-clause-spares
+returns-then-is_bare-clause-spares g t c =
     let h : 5 ≤ length c.args.path = grind (arith, nat_tests) in
     let s = seen c.self.invariant c.self.view_is in
-    let p = pruned c.args.path c.index_mut-child.result.now c.remove-value.new.self s h (way c.args.path s c.five-number.ensures.value c.in-Some.ensures) c.index_mut-child.ensures.value (c.remove-value.ensures.map ∙ ap (remove c.index_mut-child.result.now.0) c.rest.ensures) (c.if-is_bare.ensures.bare.0 refl).0 (c.bit.ensures ∙ ap (λ i. 2 ^ i) c.five-number.ensures.value) c.remove.ensures.items in
-    omega (arith, p.spares, z)
+    left_removed (λ x. false) c.args.path s h (λ x l e. refl) (λ x. false) c.index_mut-child.result.now c.remove-value.new.self (way c.args.path s c.five-number.ensures.value c.in-Some.ensures) c.index_mut-child.ensures.value (λ x. refl)
+    (subst (λ q. IsPruned q c.index_mut-child.result.now.1 c.remove-value.new.self.0 c.remove-value.new.self.1) c.rest.ensures c.remove-value.ensures.spares)
+    (c.if-is_bare.ensures.bare.0 refl).1 (c.bit.ensures ∙ ap (λ i. 2 ^ i) c.five-number.ensures.value) c.remove.ensures.items
 
 pub returns-then-is_bare-clause-count : goal.returns-then-is_bare-clause-count
 returns-then-is_bare-clause-count g t c =
@@ -96,14 +110,13 @@ returns-else-is_bare-clause-map g t c =
     let s = seen c.self.invariant c.self.view_is in
     set_taken c.args.path c.index_mut-child.result.now c.remove-value.new.self s h (way c.args.path s c.five-number.ensures.value c.in-Some.ensures) c.index_mut-child.ensures.value (c.remove-value.ensures.map ∙ ap (remove c.index_mut-child.result.now.0) c.rest.ensures)
 
-pub returns-else-is_bare-clause-tidy : goal.returns-else-is_bare-clause-tidy
-returns-else-is_bare-clause-tidy g t c = λ z.
+pub returns-else-is_bare-clause-spares : goal.returns-else-is_bare-clause-spares
+returns-else-is_bare-clause-spares g t c =
+    let h : 5 ≤ length c.args.path = grind (arith, nat_tests) in
     let s = seen c.self.invariant c.self.view_is in
-    let w = way c.args.path s c.five-number.ensures.value c.in-Some.ensures in
-    let e = spares_was c.args.path c.index_mut-child.result.now s w c.index_mut-child.ensures.value in
-    let d = c.remove-value.ensures.tidy (omega (arith, e, z)) in
-    let k = spare_kept c.remove-value.new.self c.is_bare.result d c.is_bare.ensures.bare.1 c.if-is_bare.false in
-    omega (arith, set_spares c.args.path c.index_mut-child.result.now c.remove-value.new.self s w c.index_mut-child.ensures.value, k, z)
+    left_set (λ x. false) c.args.path s h (λ x l e. refl) (λ x. false) c.index_mut-child.result.now c.remove-value.new.self (way c.args.path s c.five-number.ensures.value c.in-Some.ensures) c.index_mut-child.ensures.value (λ x. refl)
+    (subst (λ q. IsPruned q c.index_mut-child.result.now.1 c.remove-value.new.self.0 c.remove-value.new.self.1) c.rest.ensures c.remove-value.ensures.spares)
+    (not_bare c.remove-value.new.self c.is_bare.result c.is_bare.ensures.bare.1 c.if-is_bare.false)
 
 pub returns-else-is_bare-clause-count : goal.returns-else-is_bare-clause-count
 returns-else-is_bare-clause-count g t c =

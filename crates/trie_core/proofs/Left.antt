@@ -1,0 +1,262 @@
+-- The spare nodes that are left as keys go below a node, and the nodes on their way that lead nowhere.
+use Rattle.std.proofs.Common.{◌≡◌, ◌+◌, ◌%◌, ◌<◌, ◌≤◌, Bool, true, false, cond, List, [], ◌∷◌, ◌++◌, ℕ, zero, suc, ◌-◌, ◌^◌, length, take, drop, get_or, set, refl, sym, ap, subst, ◌∙◌, arith}
+use Rattle.std.specs.Prelude.{nat_lt, Option, Some, None, is_some, ◌↔◌}
+use Rattle.std.specs.List.{remove as remove_at}
+use Rattle.std.specs.FinMap.{get, len, empty, find, remove, entries, get-empty, get-entries, get-remove, len-empty, len-entries, empty_of_len, same_map}
+use Rattle.std.proofs.lemmas.Bool.Decides.{nat_tests}
+use Rattle.std.proofs.lemmas.List.{append_assoc}
+use Rattle.std.proofs.Math.ListN.{length-append}
+use Rattle.trie_keys.specs.Bits.{bits_cmp, begins, child_of}
+use Rattle.trie_core.specs.Places.{child_list, IsUnset}
+use Rattle.trie_core.specs.Nodes.{BitMap, BitSet, Seen, node_map, IsNode}
+use Rattle.trie_core.specs.Count.{spares, marked, spare_set}
+use Rattle.trie_core.specs.Ways.{IsIdle, LeadsOff, IsLeft}
+use Rattle.trie_keys.proofs.Strings.{bits_total, bits_same, same, same-Decides, same-refl, same_false, not_same, no_false, front, take_first, begins_take}
+use Rattle.trie_core.proofs.Maps.{ListChanges, child_get, get-short, get-long}
+use Rattle.trie_core.proofs.Marks.{marked_get, marked-other, marked-root, root_if, set-short, set-long, set-changed}
+use Rattle.trie_core.proofs.Named.{is_node, child_put_in, child_taken_out, child_found}
+use Rattle.trie_core.proofs.Taken.{IsTaken, missing}
+use Rattle.trie_core.proofs.Seen.{IsSeen, map_of, drop_first}
+use Rattle.trie_core.proofs.Changes.{was_found, set_removed}
+use Rattle.trie_core.proofs.Inside.{begins-under, begins_elsewhere}
+
+-- nothing is found in a set without strings
+none_found : {o : Option (Unit {0})} → o ≡ None → is_some o ≡ true → ⊥
+none_found e h = cc
+
+not_other : (o : Option (Unit {0})) (b : Bool) → is_some (cond b None o) ≡ true → (b ≡ false) × (is_some o ≡ true)
+not_other o true h = cc
+not_other o false h = (refl, h)
+
+either_none : {Y : Type 0} (b : Bool) → ◌≡◌ {A = Option Y} None (cond b None None)
+either_none true = refl
+either_none false = refl
+
+-- the first string of a set
+first_of : (b : BitSet) → (len b ≡ 0 → ⊥) → (t : List Bool) × (is_some (get b t) ≡ true)
+first_of b h = by (entries b) refl
+  where
+    by : (es : List (List Bool × Unit {0})) → entries b ≡ es → (t : List Bool) × (is_some (get b t) ≡ true)
+    by [] e = absurd (h (len-entries b ∙ ap length e))
+    by (x ∷ es) e = (x.0, ap is_some (get-entries b x.0 ∙ ap (find bits_cmp x.0) e ∙ ap (λ s. cond s (Some x.1) (find bits_cmp x.0 es)) (same-refl x.0)))
+
+-- ---- strings that begin with the first five bits of q
+
+pub under_long : (q r : List Bool) → 5 ≤ length q → 5 ≤ length (take 5 q ++ r)
+under_long q r h = omega (arith, length-append (take 5 q) r, (front q h).0)
+
+pub begins_under_first : (q r : List Bool) → 5 ≤ length q → begins (take 5 q ++ r) q ≡ begins r (drop 5 q)
+begins_under_first q r h = ap (begins (take 5 q ++ r)) (sym (front q h).1) ∙ begins-under (take 5 q) r (drop 5 q)
+
+module _ {X : Type 0} where
+  pub found_changed : (cs ds : List (List Bool × Seen X)) (q : List Bool) (o : Option (Seen X)) → ListChanges cs (take 5 q) o ds → find bits_cmp (take 5 q) ds ≡ o
+  found_changed cs ds q o c = c (take 5 q) ∙ ap (λ b. cond b o (find bits_cmp (take 5 q) cs)) (same-refl (take 5 q))
+
+  pub spare_under : {vs : List (List Bool × X)} {cs : List (List Bool × Seen X)} → IsNode vs cs → (q r : List Bool) → 5 ≤ length q → get (spare_set cs) (take 5 q ++ r) ≡ marked_get (find bits_cmp (take 5 q) cs) r
+  spare_under {cs = cs} n q r h = let f = (front q h).0 in set-long n (take 5 q ++ r) (under_long q r h) ∙ (λ i. marked_get (find bits_cmp (take_first (take 5 q) r f i) cs) (drop_first (take 5 q) r f i))
+
+  pub map_under : {vs : List (List Bool × X)} {cs : List (List Bool × Seen X)} → IsNode vs cs → (q r : List Bool) → 5 ≤ length q → get (node_map vs cs) (take 5 q ++ r) ≡ child_get (find bits_cmp (take 5 q) cs) r
+  map_under {cs = cs} n q r h = let f = (front q h).0 in get-long n (take 5 q ++ r) (under_long q r h) ∙ (λ i. child_get (find bits_cmp (take_first (take 5 q) r f i) cs) (drop_first (take 5 q) r f i))
+
+  none_changes : (cs : List (List Bool × Seen X)) (q : List Bool) → find bits_cmp (take 5 q) cs ≡ None → ListChanges cs (take 5 q) None cs
+  none_changes cs q e x = by (same x (take 5 q)) refl
+    where
+      by : (b : Bool) → same x (take 5 q) ≡ b → find bits_cmp x cs ≡ cond b None (find bits_cmp x cs)
+      by true f = ap (λ w. find bits_cmp w cs) ((same-Decides x (take 5 q)).0 f) ∙ e
+      by false f = refl
+
+  no_keys : (m : BitMap X) → ((k : List Bool) → get m k ≡ None) → len m ≡ 0
+  no_keys m f = ap len (same_map bits_total bits_same m empty (λ x. f x ∙ sym (get-empty bits_cmp x))) ∙ len-empty bits_cmp X
+
+  root_none : (n : ℕ) (m : BitMap X) → len m ≡ n → is_some (root_if n) ≡ true → (k : List Bool) → get m k ≡ None
+  root_none zero m e h k = ap (λ m. get m k) (empty_of_len m e) ∙ get-empty bits_cmp k
+  root_none (suc n) m e h k = cc
+
+  -- without spare nodes there is no string off the way to p
+  no_spare_string : (d : Seen X) (x p : List Bool) → spares d ≡ 0 → begins x p ≡ false → get d.1 x ≡ None
+  no_spare_string d [] p z h = cc
+  no_spare_string d (y ∷ ys) p z h = sym (get-remove bits_total d.1 [] (y ∷ ys)) ∙ ap (λ b. get b (y ∷ ys)) (empty_of_len (remove d.1 []) z) ∙ get-empty bits_cmp (y ∷ ys)
+
+  -- off the way to p a child has no mark of its own
+  marked_off : (e : Seen X) (p x : List Bool) → begins x p ≡ false → get (marked e) x ≡ get e.1 x
+  marked_off e p [] h = cc
+  marked_off e p (y ∷ ys) h = marked-other e y ys
+
+module _ {X : Type 0} (lost : List Bool → Bool) where
+  -- below five bits f: a node at r is on the way to p, has no key in the child, and leads to a spare node off the way that is not lost
+  pub record IsStuck (f p : List Bool) (old new : Option (Seen X)) (r : List Bool) : Type 0 where
+    pub fives : length r % 5 ≡ 0
+    pub none : (k : List Bool) → child_get new (r ++ k) ≡ None
+    pub leads : (k : List Bool) × (is_some (marked_get old (r ++ k)) ≡ true) × (begins (r ++ k) p ≡ false) × (lost (f ++ (r ++ k)) ≡ false)
+
+  -- the child below f that may have been there became the new one
+  pub record IsLeftBelow (f p : List Bool) (old new : Option (Seen X)) : Type 0 where
+    pub off : (r : List Bool) → begins r p ≡ false → marked_get new r ≡ cond (lost (f ++ r)) None (marked_get old r)
+    pub shows : (r : List Bool) → begins r p ≡ true → is_some (marked_get new r) ≡ true → IsStuck f p old new r
+    pub holds : (r : List Bool) → begins r p ≡ true → IsStuck f p old new r → is_some (marked_get new r) ≡ true
+
+  -- there was none
+  pub left_absent : (f p : List Bool) → IsLeftBelow f p None None
+  left_absent f p = record {
+    off = λ r h. either_none (lost (f ++ r));
+    shows = λ r h s. absurd (none_found refl s);
+    holds = λ r h s. absurd (none_found refl s.leads.1);
+  }
+
+  module _ (lower : List Bool → Bool) (f p : List Bool) (e d : Seen X) (alike : (r : List Bool) → lost (f ++ r) ≡ lower r) (left : IsLeft lower p e.1 d.0 d.1) where
+    -- a spare node off the way, by its string
+    off_leads : (r k : List Bool) → is_some (get e.1 (r ++ k)) ≡ true → begins (r ++ k) p ≡ false → lower (r ++ k) ≡ false → (k : List Bool) × (is_some (get (marked e) (r ++ k)) ≡ true) × (begins (r ++ k) p ≡ false) × (lost (f ++ (r ++ k)) ≡ false)
+    off_leads r k s h l = (k, ap is_some (marked_off e p (r ++ k) h) ∙ s, h, alike (r ++ k) ∙ l)
+
+    -- from the child itself to a spare node below it
+    root_leads_by : (t : List Bool) → is_some (get d.1 t) ≡ true → (b : Bool) → begins t p ≡ b → (k : List Bool) × (is_some (get (marked e) k) ≡ true) × (begins k p ≡ false) × (lost (f ++ k) ≡ false)
+    root_leads_by t s true h = let l = ((left.on t h).0 s).1 in off_leads [] (t ++ l.0) l.1 l.2 l.3
+    root_leads_by t s false h = let l = not_other (get e.1 t) (lower t) (ap is_some (sym (left.off t h)) ∙ s) in off_leads [] t l.1 h l.0
+
+    left_off : (r : List Bool) → begins r p ≡ false → get (marked d) r ≡ cond (lost (f ++ r)) None (get (marked e) r)
+    left_off r h = marked_off d p r h ∙ left.off r h ∙ (λ i. cond (sym (alike r) i) None (sym (marked_off e p r h) i))
+
+    -- it stays, with a key or a spare node
+    pub left_stays : (spares d ≡ 0 → len d.0 ≡ 0 → ⊥) → IsLeftBelow f p (Some e) (Some d)
+    left_stays full = record { off = left_off; shows = shows; holds = holds }
+      where
+        shows : (r : List Bool) → begins r p ≡ true → is_some (get (marked d) r) ≡ true → IsStuck f p (Some e) (Some d) r
+        shows [] h s =
+            let k = root_none (len d.0) d.0 refl (sym (ap is_some (marked-root d)) ∙ s) in
+            let t = first_of (remove d.1 []) (λ z. full z (no_keys d.0 k)) in
+            record { fives = refl; none = k; leads = root_leads_by t.0 (not_other (get d.1 t.0) _ (sym (ap is_some (get-remove bits_total d.1 [] t.0)) ∙ t.1)).1 (begins t.0 p) refl }
+        shows (y ∷ ys) h s =
+            let a = (left.on (y ∷ ys) h).0 (sym (ap is_some (marked-other d y ys)) ∙ s) in
+            record { fives = a.0.fives; none = a.0.none; leads = off_leads (y ∷ ys) a.1.0 a.1.1 a.1.2 a.1.3 }
+
+        holds : (r : List Bool) → begins r p ≡ true → IsStuck f p (Some e) (Some d) r → is_some (get (marked d) r) ≡ true
+        holds [] h s = ap is_some (marked-root d) ∙ ap (λ n. is_some (root_if n)) (no_keys d.0 s.none)
+        holds (y ∷ ys) h s =
+            let l = s.leads in
+            ap is_some (marked-other d y ys)
+            ∙ (left.on (y ∷ ys) h).1 (
+              record { below = omega (arith, s.fives); fives = s.fives; none = s.none },
+              (l.0, sym (ap is_some (marked_off e p ((y ∷ ys) ++ l.0) l.2)) ∙ l.1, l.2, sym (alike ((y ∷ ys) ++ l.0)) ∙ l.3),
+            )
+
+    -- it goes, without a key and without a spare node
+    pub left_goes : ((t : List Bool) → begins t p ≡ false → get d.1 t ≡ None) → IsLeftBelow f p (Some e) None
+    left_goes bare = record {
+      off = λ r h. sym (bare r h) ∙ left.off r h ∙ (λ i. cond (sym (alike r) i) None (sym (marked_off e p r h) i));
+      shows = λ r h s. absurd (none_found refl s);
+      holds = λ r h s.
+          let l = s.leads in
+          let t = r ++ l.0 in
+          absurd (none_found (bare t l.2) (ap is_some (left.off t l.2 ∙ ap (λ b. cond b None (get e.1 t)) (sym (alike t) ∙ l.3)) ∙ sym (ap is_some (marked_off e p t l.2)) ∙ l.1));
+    }
+
+  -- ---- from a child to its node
+
+  module _ {vs us : List (List Bool × X)} {cs ds : List (List Bool × Seen X)} (q : List Bool) (o : Option (Seen X)) (n : IsNode vs cs) (k : IsNode us ds) (h : 5 ≤ length q) (c : ListChanges cs (take 5 q) o ds)
+    (elsewhere : (s : List Bool) → 5 ≤ length s → same (take 5 s) (take 5 q) ≡ false → lost s ≡ false) (left : IsLeftBelow (take 5 q) (drop 5 q) (find bits_cmp (take 5 q) cs) o) where
+    begins_in : (r : List Bool) → begins (take 5 q ++ r) q ≡ begins r (drop 5 q)
+    begins_in r = begins_under_first q r h
+
+    found : find bits_cmp (take 5 q) ds ≡ o
+    found = found_changed cs ds q o c
+
+    old_at : (r : List Bool) → get (spare_set cs) (take 5 q ++ r) ≡ marked_get (find bits_cmp (take 5 q) cs) r
+    old_at r = spare_under n q r h
+
+    new_at : (r : List Bool) → get (spare_set ds) (take 5 q ++ r) ≡ marked_get o r
+    new_at r = spare_under k q r h ∙ ap (λ w. marked_get w r) found
+
+    map_at : (r : List Bool) → get (node_map us ds) (take 5 q ++ r) ≡ child_get o r
+    map_at r = map_under k q r h ∙ ap (λ w. child_get w r) found
+
+    deeper : (r x : List Bool) → (take 5 q ++ r) ++ x ≡ take 5 q ++ (r ++ x)
+    deeper r x = append_assoc (take 5 q) r x
+
+    in_off : (r : List Bool) → begins (take 5 q ++ r) q ≡ false → get (spare_set ds) (take 5 q ++ r) ≡ cond (lost (take 5 q ++ r)) None (get (spare_set cs) (take 5 q ++ r))
+    in_off r b = new_at r ∙ left.off r (sym (begins_in r) ∙ b) ∙ ap (cond (lost (take 5 q ++ r)) None) (sym (old_at r))
+
+    in_on : (r : List Bool) → begins (take 5 q ++ r) q ≡ true → (is_some (get (spare_set ds) (take 5 q ++ r)) ≡ true) ↔ (IsIdle (node_map us ds) (take 5 q ++ r) × LeadsOff lost (spare_set cs) q (take 5 q ++ r))
+    in_on r b = (
+      λ s.
+          let t = left.shows r (sym (begins_in r) ∙ b) (sym (ap is_some (new_at r)) ∙ s) in
+          let l = t.leads in (
+            record { below = under_long q r h; fives = omega (arith, t.fives, length-append (take 5 q) r, (front q h).0); none = λ x. ap (get (node_map us ds)) (deeper r x) ∙ map_at (r ++ x) ∙ t.none x },
+            (l.0, ap (λ w. is_some (get (spare_set cs) w)) (deeper r l.0) ∙ ap is_some (old_at (r ++ l.0)) ∙ l.1, ap (λ w. begins w q) (deeper r l.0) ∙ begins_in (r ++ l.0) ∙ l.2, ap lost (deeper r l.0) ∙ l.3),
+          ),
+      λ s.
+          let l = s.1 in
+          ap is_some (new_at r)
+          ∙ left.holds r (sym (begins_in r) ∙ b) (record {
+            fives = omega (arith, s.0.fives, length-append (take 5 q) r, (front q h).0);
+            none = λ x. sym (ap (get (node_map us ds)) (deeper r x) ∙ map_at (r ++ x)) ∙ s.0.none x;
+            leads = (l.0, sym (ap (λ w. is_some (get (spare_set cs) w)) (deeper r l.0) ∙ ap is_some (old_at (r ++ l.0))) ∙ l.1, sym (ap (λ w. begins w q) (deeper r l.0) ∙ begins_in (r ++ l.0)) ∙ l.2, sym (ap lost (deeper r l.0)) ∙ l.3);
+          }),
+    )
+
+    at_end : (s : List Bool) → 5 ≤ length s → same (take 5 s) (take 5 q) ≡ true → take 5 q ++ drop 5 s ≡ s
+    at_end s l e = ap (λ w. w ++ drop 5 s) (sym ((same-Decides (take 5 s) (take 5 q)).0 e)) ∙ (front s l).1
+
+    off_way_there : (s : List Bool) → 5 ≤ length s → same (take 5 s) (take 5 q) ≡ false → begins s q ≡ false
+    off_way_there s l e = begins_elsewhere s q l (same_false (take 5 q) (take 5 s) (λ p. not_same e (sym p)))
+
+    off_by : (s : List Bool) → begins s q ≡ false → 5 ≤ length s → (b : Bool) → same (take 5 s) (take 5 q) ≡ b → get (spare_set ds) s ≡ cond (lost s) None (get (spare_set cs) s)
+    off_by s b l true e = subst (λ w. begins w q ≡ false → get (spare_set ds) w ≡ cond (lost w) None (get (spare_set cs) w)) (at_end s l e) (in_off (drop 5 s)) b
+    off_by s b l false e =
+        set-changed cs q o k c s l ∙ ap (λ t. marked_get (cond t o (find bits_cmp (take 5 s) cs)) (drop 5 s)) e
+        ∙ sym (set-long n s l)
+        ∙ sym (ap (λ t. cond t None (get (spare_set cs) s)) (elsewhere s l e))
+
+    on_by : (s : List Bool) → begins s q ≡ true → 5 ≤ length s → (b : Bool) → same (take 5 s) (take 5 q) ≡ b → (is_some (get (spare_set ds) s) ≡ true) ↔ (IsIdle (node_map us ds) s × LeadsOff lost (spare_set cs) q s)
+    on_by s b l true e = subst (λ w. begins w q ≡ true → (is_some (get (spare_set ds) w) ≡ true) ↔ (IsIdle (node_map us ds) w × LeadsOff lost (spare_set cs) q w)) (at_end s l e) (in_on (drop 5 s)) b
+    on_by s b l false e = absurd (no_false (off_way_there s l e) b)
+
+    off_all : (s : List Bool) → begins s q ≡ false → (b : Bool) → nat_lt (length s) 5 ≡ b → get (spare_set ds) s ≡ cond (lost s) None (get (spare_set cs) s)
+    off_all s b true e =
+        let l : length s < 5 = grind (arith, nat_tests) in
+        set-short k s l ∙ either_none (lost s) ∙ ap (cond (lost s) None) (sym (set-short n s l))
+    off_all s b false e = off_by s b (grind (arith, nat_tests)) _ refl
+
+    on_all : (s : List Bool) → begins s q ≡ true → (b : Bool) → nat_lt (length s) 5 ≡ b → (is_some (get (spare_set ds) s) ≡ true) ↔ (IsIdle (node_map us ds) s × LeadsOff lost (spare_set cs) q s)
+    on_all s b true e =
+        let l : length s < 5 = grind (arith, nat_tests) in
+        (λ t. absurd (none_found (set-short k s l) t), λ t. absurd (omega (arith, t.0.below, l)))
+    on_all s b false e = on_by s b (grind (arith, nat_tests)) _ refl
+
+    pub left_node : IsLeft lost q (spare_set cs) (node_map us ds) (spare_set ds)
+    left_node = record { off = λ s b. off_all s b (nat_lt (length s) 5) refl; on = λ s b. on_all s b (nat_lt (length s) 5) refl }
+
+  -- ---- a node that was seen as m
+
+  -- within the node no spare node is on the way
+  pub left_short : {vb : ℕ} {vs : List X} {cb : ℕ} {cs : List (Seen X)} {m : Seen X} {n : BitMap X} (q : List Bool) → IsSeen vb vs cb cs m → length q < 5 → ((s : List Bool) → lost s ≡ false) → IsLeft lost q m.1 n m.1
+  left_short {m = m} {n = n} q s h f = record {
+    off = λ x b. ap (λ t. cond t None (get m.1 x)) (sym (f x));
+    on = λ x b. (λ t. absurd (none_found (none_within x b) t), λ t. absurd (omega (arith, t.0.below, (begins_take x q b).0, h)));
+  }
+    where
+      none_within : (x : List Bool) → begins x q ≡ true → get m.1 x ≡ None
+      none_within x b = ap (λ k. get k x) (sym s.spare) ∙ set-short s.node x (omega (arith, (begins_take x q b).0, h))
+
+  module _ {vb : ℕ} {vs : List X} {cb : ℕ} {cs : List (Seen X)} {m : Seen X} (q : List Bool) (s : IsSeen vb vs cb cs m) (h : 5 ≤ length q) (elsewhere : (x : List Bool) → 5 ≤ length x → same (take 5 x) (take 5 q) ≡ false → lost x ≡ false) where
+    -- no child on the way
+    pub left_none : {n : ℕ} → n ≡ child_of q → IsUnset n cb → IsLeft lost q m.1 m.0 m.1
+    left_none {n} k u =
+        let none : find bits_cmp (take 5 q) (child_list cb cs) ≡ None = child_found q cb cs h s.slots.children_below ∙ sym (missing (child_of q) cb cs (subst (λ i. IsUnset i cb) k u)) in
+        subst (λ (w : BitMap X × BitSet). IsLeft lost q w.1 w.0 w.1) (λ i. (s.map i, s.spare i))
+        (left_node q None s.node s.node h (none_changes (child_list cb cs) q none) elsewhere (subst (λ o. IsLeftBelow (take 5 q) (drop 5 q) o None) (sym none) (left_absent (take 5 q) (drop 5 q))))
+
+    module _ {at : ℕ} (lower : List Bool → Bool) (e d : Seen X) (t : IsTaken (child_of q) at cb cs) (r : e ≡ get_or cs at e) (alike : (x : List Bool) → lost (take 5 q ++ x) ≡ lower x) (left : IsLeft lower (drop 5 q) e.1 d.0 d.1) where
+      -- the child on the way stays
+      pub left_set : (spares d ≡ 0 → len d.0 ≡ 0 → ⊥) → IsLeft lost q m.1 (map_of vb vs cb (set cs at d)) (spare_set (child_list cb (set cs at d)))
+      left_set full =
+          subst (λ w. IsLeft lost q w (map_of vb vs cb (set cs at d)) (spare_set (child_list cb (set cs at d)))) s.spare
+          (left_node q (Some d) s.node (is_node vb vs cb (set cs at d) s.slots.values_below s.slots.children_below) h (child_put_in q d cb cb cs (set cs at d) h s.slots.children_below (t.written d)) elsewhere
+          (subst (λ o. IsLeftBelow (take 5 q) (drop 5 q) o (Some d)) (sym (was_found q e s h t r)) (left_stays lower (take 5 q) (drop 5 q) e d alike left full)))
+
+      -- it goes
+      pub left_removed : {b : ℕ} {ds : List (Seen X)} → spares d ≡ 0 → b ≡ 2 ^ child_of q → ds ≡ remove_at (set cs at d) at → IsLeft lost q m.1 (map_of vb vs (cb - b) ds) (spare_set (child_list (cb - b) ds))
+      left_removed {b} {ds} z k l =
+          let below : cb - 2 ^ child_of q < 2 ^ 32 = omega (arith, s.slots.children_below) in
+          subst (λ (x : BitSet × ℕ × List (Seen X)). IsLeft lost q x.0 (map_of vb vs (cb - x.1) x.2) (spare_set (child_list (cb - x.1) x.2))) (λ i. (s.spare i, sym k i, sym (l ∙ set_removed cs at d) i))
+          (left_node q None s.node (is_node vb vs (cb - 2 ^ child_of q) (remove_at cs at) s.slots.values_below below) h (child_taken_out q cb (cb - 2 ^ child_of q) cs (remove_at cs at) h s.slots.children_below t.removed) elsewhere
+          (subst (λ o. IsLeftBelow (take 5 q) (drop 5 q) o None) (sym (was_found q e s h t r)) (left_goes lower (take 5 q) (drop 5 q) e d alike left (λ x. no_spare_string d x (drop 5 q) z))))
