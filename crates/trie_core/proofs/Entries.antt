@@ -1,17 +1,13 @@
 -- How many entries a node has, by its lists.
 use Rattle.std.proofs.Common.{◌≡◌, ℕ, zero, suc, ◌+◌, ◌-◌, ◌<◌, ◌≤◌, Bool, true, false, List, [], ◌∷◌, length, take, get_or, refl, sym, ap, ◌∙◌, arith}
 use Rattle.std.specs.Prelude.{cond, Option, None, is_some}
-use Rattle.std.specs.FinMap.{entries, len, get, empty_of_len, get-empty, len-entries, len-remove}
+use Rattle.std.specs.FinMap.{len, get, empty_of_len, get-empty, len-remove}
 use Rattle.std.specs.FinMap as map
 use Rattle.trie_keys.specs.Bits.{bits_cmp}
 use Rattle.trie_keys.proofs.Strings.{bits_total}
-use Rattle.std.proofs.Math.ListN.{length-append}
-use Rattle.trie_core.specs.Places.{value_list, child_list}
-use Rattle.trie_core.specs.Nodes.{BitMap, Seen, under, node_map, IsNode, HasSlots}
+use Rattle.trie_core.specs.Places.{value_list}
+use Rattle.trie_core.specs.Nodes.{BitMap, Seen, HasSlots}
 use Rattle.trie_core.specs.Count.{total, entry_count}
-use Rattle.trie_core.specs.Walks.{first_value}
-use Rattle.trie_core.proofs.Order.{StartsAfter, walk_value, walk_child, walk_none, without_value, without_child, starts_after, values_after}
-use Rattle.trie_core.proofs.Count.{things, length-under}
 use Rattle.trie_core.proofs.Named.{is_node, value_things, child_things}
 use Rattle.trie_core.proofs.Lengths.{length-things, entries_of_node}
 use Rattle.trie_core.proofs.Seen.{IsSeen, map_of}

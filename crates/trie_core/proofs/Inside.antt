@@ -29,7 +29,7 @@ begins-under (false ∷ b) q x = begins-under b q x
 pub begins_longer : (q x : List Bool) → length x < length q → begins q x ≡ false
 begins_longer q x h = not_true _ (λ e. omega (arith, (begins_take q x e).0, h))
 
-first_five : (q x : List Bool) → 5 ≤ length q → begins q x ≡ true → take 5 x ≡ take 5 q
+pub first_five : (q x : List Bool) → 5 ≤ length q → begins q x ≡ true → take 5 x ≡ take 5 q
 first_five q x h e =
     let b = begins_take q x e in
     let f : 5 + (length q - 5) ≡ length q = omega (arith, h) in
@@ -87,7 +87,7 @@ module _ {X : Type 0} where
   absent_by m q x f true e = f e
   absent_by m q x f false e = refl
 
-  outside_absent : (m : BitMap X) (q : List Bool) → ((x : List Bool) → begins q x ≡ true → get m x ≡ None) → m ≡ outside m q
+  pub outside_absent : (m : BitMap X) (q : List Bool) → ((x : List Bool) → begins q x ≡ true → get m x ≡ None) → m ≡ outside m q
   outside_absent m q f = same_by _ _ (λ x. absent_by m q x (f x) (begins q x) refl ∙ sym (get-outside m q x))
 
   -- nothing lies outside five bits in the child below them

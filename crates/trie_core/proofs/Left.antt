@@ -1,27 +1,29 @@
 -- The spare nodes that are left as keys go below a node, and the nodes on their way that lead nowhere.
-use Rattle.std.proofs.Common.{◌≡◌, ◌+◌, ◌%◌, ◌<◌, ◌≤◌, Bool, true, false, cond, List, [], ◌∷◌, ◌++◌, ℕ, zero, suc, ◌-◌, ◌^◌, length, take, drop, get_or, set, refl, sym, ap, subst, ◌∙◌, arith}
+use Rattle.std.proofs.Common.{◌≡◌, ◌%◌, ◌<◌, ◌≤◌, Bool, true, false, cond, not, List, [], ◌∷◌, ◌++◌, ℕ, zero, suc, ◌-◌, ◌^◌, length, take, drop, get_or, set, refl, sym, ap, subst, ◌∙◌, arith}
 use Rattle.std.specs.Prelude.{nat_lt, Option, Some, None, is_some, ◌↔◌}
 use Rattle.std.specs.List.{remove as remove_at}
 use Rattle.std.specs.FinMap.{get, len, empty, find, remove, entries, get-empty, get-entries, get-remove, len-empty, len-entries, empty_of_len, same_map}
 use Rattle.std.proofs.lemmas.Bool.Decides.{nat_tests}
 use Rattle.std.proofs.lemmas.List.{append_assoc}
+use Rattle.std.proofs.Math.Seq.{take-length}
 use Rattle.std.proofs.Math.ListN.{length-append}
 use Rattle.trie_keys.specs.Bits.{bits_cmp, begins, child_of}
 use Rattle.trie_core.specs.Places.{child_list, IsUnset}
-use Rattle.trie_core.specs.Nodes.{BitMap, BitSet, Seen, node_map, IsNode}
+use Rattle.trie_core.specs.Nodes.{BitMap, BitSet, Seen, node_map, IsNode, HasSlots}
 use Rattle.trie_core.specs.Count.{spares, marked, spare_set}
-use Rattle.trie_core.specs.Ways.{IsIdle, LeadsOff, IsLeft}
-use Rattle.trie_keys.proofs.Strings.{bits_total, bits_same, same, same-Decides, same-refl, same_false, not_same, no_false, front, take_first, begins_take}
-use Rattle.trie_core.proofs.Maps.{ListChanges, child_get, get-short, get-long}
+use Rattle.trie_core.specs.Inside.{outside}
+use Rattle.trie_core.specs.Ways.{AreBelow, IsIdle, LeadsOff, IsLeft, IsCut}
+use Rattle.trie_keys.proofs.Strings.{bits_total, bits_same, same, same-Decides, same-refl, same_false, not_same, no_false, front, take_first, append_none, begins_take}
+use Rattle.trie_core.proofs.Maps.{ListChanges, child_get, get-long}
 use Rattle.trie_core.proofs.Marks.{marked_get, marked-other, marked-root, root_if, set-short, set-long, set-changed}
 use Rattle.trie_core.proofs.Named.{is_node, child_put_in, child_taken_out, child_found}
 use Rattle.trie_core.proofs.Taken.{IsTaken, missing}
 use Rattle.trie_core.proofs.Seen.{IsSeen, map_of, drop_first}
 use Rattle.trie_core.proofs.Changes.{was_found, set_removed}
-use Rattle.trie_core.proofs.Inside.{begins-under, begins_elsewhere}
+use Rattle.trie_core.proofs.Inside.{begins-under, begins_elsewhere, first_five, get-outside, outside_absent}
 
 -- nothing is found in a set without strings
-none_found : {o : Option (Unit {0})} → o ≡ None → is_some o ≡ true → ⊥
+pub none_found : {o : Option (Unit {0})} → o ≡ None → is_some o ≡ true → ⊥
 none_found e h = cc
 
 not_other : (o : Option (Unit {0})) (b : Bool) → is_some (cond b None o) ≡ true → (b ≡ false) × (is_some o ≡ true)
@@ -58,17 +60,17 @@ module _ {X : Type 0} where
   pub map_under : {vs : List (List Bool × X)} {cs : List (List Bool × Seen X)} → IsNode vs cs → (q r : List Bool) → 5 ≤ length q → get (node_map vs cs) (take 5 q ++ r) ≡ child_get (find bits_cmp (take 5 q) cs) r
   map_under {cs = cs} n q r h = let f = (front q h).0 in get-long n (take 5 q ++ r) (under_long q r h) ∙ (λ i. child_get (find bits_cmp (take_first (take 5 q) r f i) cs) (drop_first (take 5 q) r f i))
 
-  none_changes : (cs : List (List Bool × Seen X)) (q : List Bool) → find bits_cmp (take 5 q) cs ≡ None → ListChanges cs (take 5 q) None cs
+  pub none_changes : (cs : List (List Bool × Seen X)) (q : List Bool) → find bits_cmp (take 5 q) cs ≡ None → ListChanges cs (take 5 q) None cs
   none_changes cs q e x = by (same x (take 5 q)) refl
     where
       by : (b : Bool) → same x (take 5 q) ≡ b → find bits_cmp x cs ≡ cond b None (find bits_cmp x cs)
       by true f = ap (λ w. find bits_cmp w cs) ((same-Decides x (take 5 q)).0 f) ∙ e
       by false f = refl
 
-  no_keys : (m : BitMap X) → ((k : List Bool) → get m k ≡ None) → len m ≡ 0
+  pub no_keys : (m : BitMap X) → ((k : List Bool) → get m k ≡ None) → len m ≡ 0
   no_keys m f = ap len (same_map bits_total bits_same m empty (λ x. f x ∙ sym (get-empty bits_cmp x))) ∙ len-empty bits_cmp X
 
-  root_none : (n : ℕ) (m : BitMap X) → len m ≡ n → is_some (root_if n) ≡ true → (k : List Bool) → get m k ≡ None
+  pub root_none : (n : ℕ) (m : BitMap X) → len m ≡ n → is_some (root_if n) ≡ true → (k : List Bool) → get m k ≡ None
   root_none zero m e h k = ap (λ m. get m k) (empty_of_len m e) ∙ get-empty bits_cmp k
   root_none (suc n) m e h k = cc
 
@@ -153,7 +155,7 @@ module _ {X : Type 0} (lost : List Bool → Bool) where
   -- ---- from a child to its node
 
   module _ {vs us : List (List Bool × X)} {cs ds : List (List Bool × Seen X)} (q : List Bool) (o : Option (Seen X)) (n : IsNode vs cs) (k : IsNode us ds) (h : 5 ≤ length q) (c : ListChanges cs (take 5 q) o ds)
-    (elsewhere : (s : List Bool) → 5 ≤ length s → same (take 5 s) (take 5 q) ≡ false → lost s ≡ false) (left : IsLeftBelow (take 5 q) (drop 5 q) (find bits_cmp (take 5 q) cs) o) where
+      (elsewhere : (s : List Bool) → 5 ≤ length s → same (take 5 s) (take 5 q) ≡ false → lost s ≡ false) (left : IsLeftBelow (take 5 q) (drop 5 q) (find bits_cmp (take 5 q) cs) o) where
     begins_in : (r : List Bool) → begins (take 5 q ++ r) q ≡ begins r (drop 5 q)
     begins_in r = begins_under_first q r h
 
@@ -260,3 +262,92 @@ module _ {X : Type 0} (lost : List Bool → Bool) where
           subst (λ (x : BitSet × ℕ × List (Seen X)). IsLeft lost q x.0 (map_of vb vs (cb - x.1) x.2) (spare_set (child_list (cb - x.1) x.2))) (λ i. (s.spare i, sym k i, sym (l ∙ set_removed cs at d) i))
           (left_node q None s.node (is_node vb vs (cb - 2 ^ child_of q) (remove_at cs at) s.slots.values_below below) h (child_taken_out q cb (cb - 2 ^ child_of q) cs (remove_at cs at) h s.slots.children_below t.removed) elsewhere
           (subst (λ o. IsLeftBelow (take 5 q) (drop 5 q) o None) (sym (was_found q e s h t r)) (left_goes lower (take 5 q) (drop 5 q) e d alike left (λ x. no_spare_string d x (drop 5 q) z))))
+
+-- ---- all inside q went
+
+-- a string begins with itself, whatever follows
+begins_on : (q k : List Bool) → begins q (q ++ k) ≡ true
+begins_on q k = ap (λ w. begins w (q ++ k)) (sym (append_none q)) ∙ begins-under q [] k
+
+-- the only string of five bits or more that begins five bits or fewer
+cut_by : (s q : List Bool) → 5 ≤ length s → length q ≤ 5 → begins s q ≡ true → s ≡ q
+cut_by s q l h b =
+    let t = begins_take s q b in
+    let e : length s ≡ length q = omega (arith, t.0, l, h) in
+    sym t.1 ∙ ap (λ n. take n q) e ∙ take-length q
+
+pub cut_elsewhere : (q : List Bool) → 5 ≤ length q → (x : List Bool) → 5 ≤ length x → same (take 5 x) (take 5 q) ≡ false → begins q x ≡ false
+cut_elsewhere q h x l e = begins_elsewhere q x h e
+
+pub cut_below : (q : List Bool) → 5 ≤ length q → (x : List Bool) → begins q (take 5 q ++ x) ≡ begins (drop 5 q) x
+cut_below q h x = ap (λ w. begins w (take 5 q ++ x)) (sym (front q h).1) ∙ begins-under (take 5 q) (drop 5 q) x
+
+module _ {X : Type 0} where
+  -- of at most five bits
+  pub cut_short : (q : List Bool) (a : BitSet) (n : BitMap X) (c : BitSet) → length q ≤ 5 → c ≡ outside a q → AreBelow c → IsCut q a n c
+  cut_short q a n c h e below = record {
+    off = λ x b. at x ∙ turned (begins q x) (get a x);
+    on = λ x b. (λ t. absurd (lost x b t), λ t. absurd (gone x b t));
+  }
+    where
+      turned : (b : Bool) (o : Option (Unit {0})) → cond (not b) o None ≡ cond b None o
+      turned true o = refl
+      turned false o = refl
+
+      at : (x : List Bool) → get c x ≡ cond (not (begins q x)) (get a x) None
+      at x = ap (λ b. get b x) e ∙ get-outside a q x
+
+      lost : (x : List Bool) → begins x q ≡ true → is_some (get c x) ≡ true → ⊥
+      lost x b t =
+          let f = not_other (get a x) (begins q x) (sym (ap is_some (at x ∙ turned (begins q x) (get a x))) ∙ t) in
+          no_false f.0 (ap (begins q) (cut_by x q (below x t) h b ∙ sym (append_none q)) ∙ begins_on q [])
+
+      gone : (x : List Bool) → begins x q ≡ true → IsIdle n x × LeadsOff (begins q) a q x → ⊥
+      gone x b t =
+          let p = cut_by x q t.0.below h b in
+          no_false t.1.3 (ap (λ w. begins q (w ++ t.1.0)) p ∙ begins_on q t.1.0)
+
+  -- the strings of a node, and of what it became
+  pub set_below : {vb : ℕ} {vs : List X} {cb : ℕ} {cs : List (Seen X)} → HasSlots vb vs cb cs → AreBelow (spare_set (child_list cb cs))
+  set_below {vb} {vs} {cb} {cs} s x t = by (nat_lt (length x) 5) refl
+    where
+      by : (b : Bool) → nat_lt (length x) 5 ≡ b → 5 ≤ length x
+      by true f = absurd (none_found (set-short (is_node vb vs cb cs s.values_below s.children_below) x (grind (arith, nat_tests))) t)
+      by false f = grind (arith, nat_tests)
+
+  -- no child at the first five bits of q
+  pub out_none : {vb n : ℕ} {vs : List X} {cb : ℕ} {cs : List (Seen X)} {m : Seen X} (q : List Bool) → IsSeen vb vs cb cs m → 5 ≤ length q → n ≡ child_of q → IsUnset n cb → m.1 ≡ outside m.1 q
+  out_none {cb = cb} {cs = cs} {m = m} q s h k u =
+      let none : find bits_cmp (take 5 q) (child_list cb cs) ≡ None = child_found q cb cs h s.slots.children_below ∙ sym (missing (child_of q) cb cs (subst (λ i. IsUnset i cb) k u)) in
+      outside_absent m.1 q (λ x e.
+      let l : 5 ≤ length x = omega (arith, (begins_take q x e).0, h) in
+      ap (λ b. get b x) (sym s.spare) ∙ set-long s.node x l ∙ (λ i. marked_get (find bits_cmp (first_five q x h e i) (child_list cb cs)) (drop 5 x)) ∙ ap (λ o. marked_get o (drop 5 x)) none)
+
+  -- the child at five bits goes
+  out_at : {vs us : List (List Bool × X)} {cs ds : List (List Bool × Seen X)} (q : List Bool) → IsNode vs cs → IsNode us ds → length q ≡ 5 → ListChanges cs (take 5 q) None ds → spare_set ds ≡ outside (spare_set cs) q
+  out_at {cs = cs} {ds = ds} q n k h c = same_map bits_total bits_same _ _ (λ x. by x (nat_lt (length x) 5) refl ∙ sym (get-outside (spare_set cs) q x))
+    where
+      first : take 5 q ≡ q
+      first = ap (λ i. take i q) (sym h) ∙ take-length q
+
+      long : (x : List Bool) → 5 ≤ length x → (b : Bool) → same (take 5 x) (take 5 q) ≡ b → marked_get (cond b None (find bits_cmp (take 5 x) cs)) (drop 5 x) ≡ cond (not (begins q x)) (marked_get (find bits_cmp (take 5 x) cs) (drop 5 x)) None
+      long x l true e =
+          let z : begins q x ≡ true = ap (begins q) (sym (front x l).1 ∙ ap (λ w. w ++ drop 5 x) ((same-Decides (take 5 x) (take 5 q)).0 e ∙ first)) ∙ begins_on q (drop 5 x) in
+          ap (λ b. cond (not b) (marked_get (find bits_cmp (take 5 x) cs) (drop 5 x)) None) (sym z)
+      long x l false e = ap (λ b. cond (not b) (marked_get (find bits_cmp (take 5 x) cs) (drop 5 x)) None) (sym (begins_elsewhere q x (omega (arith, h)) e))
+
+      by : (x : List Bool) (b : Bool) → nat_lt (length x) 5 ≡ b → get (spare_set ds) x ≡ cond (not (begins q x)) (get (spare_set cs) x) None
+      by x true e =
+          let l : length x < 5 = grind (arith, nat_tests) in
+          set-short k x l ∙ either_none (not (begins q x)) ∙ ap (λ o. cond (not (begins q x)) o None) (sym (set-short n x l))
+      by x false e =
+          let l : 5 ≤ length x = grind (arith, nat_tests) in
+          set-changed cs q None k c x l ∙ long x l _ refl ∙ ap (λ o. cond (not (begins q x)) o None) (sym (set-long n x l))
+
+  pub out_child : {vb at b : ℕ} {vs : List X} {cb : ℕ} {cs ds : List (Seen X)} {m : Seen X} (q : List Bool) → IsSeen vb vs cb cs m → length q ≡ 5 → IsTaken (child_of q) at cb cs → b ≡ 2 ^ child_of q → ds ≡ remove_at cs at → spare_set (child_list (cb - b) ds) ≡ outside m.1 q
+  out_child {vb} {at} {b} {vs} {cb} {cs} {ds} q s h t k l =
+      let below : cb - 2 ^ child_of q < 2 ^ 32 = omega (arith, s.slots.children_below) in
+      let five : 5 ≤ length q = omega (arith, h) in
+      (λ i. spare_set (child_list (cb - k i) (l i)))
+      ∙ out_at q s.node (is_node vb vs (cb - 2 ^ child_of q) (remove_at cs at) s.slots.values_below below) h (child_taken_out q cb (cb - 2 ^ child_of q) cs (remove_at cs at) five s.slots.children_below t.removed)
+      ∙ ap (λ x. outside x q) s.spare

@@ -21,4 +21,5 @@ pub mod Entries
 pub mod Inside
 pub mod Ways
 pub mod Left
+pub mod Staying
 pub mod Covers

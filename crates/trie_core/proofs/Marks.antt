@@ -1,12 +1,12 @@
 -- The set of spare nodes of a node, by its children.
 use Rattle.std.proofs.Common.{◌≡◌, ℕ, zero, suc, ◌+◌, ◌≤◌, ◌<◌, Bool, true, false, cond, List, [], ◌∷◌, length, take, drop, refl, sym, ap, ◌∙◌, arith}
-use Rattle.std.specs.Prelude.{T, nat_lt, Option, Some, None, is_some, ◌&&◌}
-use Rattle.std.specs.FinMap.{find, get, insert, remove, len, empty, is_sorted, get-empty, get-insert, get-remove, len-insert, len-empty, same_map}
+use Rattle.std.specs.Prelude.{T, nat_lt, Option, Some, None, is_some}
+use Rattle.std.specs.FinMap.{find, get, remove, len, empty, is_sorted, get-empty, get-insert, get-remove, len-insert, len-empty, same_map}
 use Rattle.std.specs.FinMap.Entries.{below_all}
 use Rattle.std.proofs.lemmas.Bool.Decides.{nat_tests}
 use Rattle.trie_keys.specs.Bits.{bits_cmp}
 use Rattle.trie_keys.proofs.Strings.{bits_total, bits_same, same, same-Decides, same-refl, both}
-use Rattle.trie_core.specs.Nodes.{BitMap, BitSet, Seen, AreLong, node_map, IsNode}
+use Rattle.trie_core.specs.Nodes.{BitSet, Seen, AreLong, IsNode}
 use Rattle.trie_core.specs.Count.{spares, spare_if, spare_of, spares_below, marked_if, marked, marks, spare_set, total, entry_count}
 use Rattle.trie_core.proofs.Order.{T-and}
 use Rattle.trie_core.proofs.Count.{things}

@@ -8,7 +8,7 @@ use Rattle.std.proofs.Math.ListN.{length-append}
 use Rattle.trie_keys.specs.Bits.{bits_cmp, place_of, child_of}
 use Rattle.trie_core.specs.Places.{at_places, value_list, child_list}
 use Rattle.trie_core.specs.Nodes.{BitMap, Seen, node_map, node_height, IsNode, HasSlots}
-use Rattle.trie_core.specs.Count.{nodes, spares, all_nodes, total, spares_below, spare_set, visit_count}
+use Rattle.trie_core.specs.Count.{spares, all_nodes, total, spares_below, spare_set, visit_count}
 use Rattle.trie_core.specs.Search.{IsChild, HasNoChild}
 use Rattle.trie_keys.proofs.Strings.{same, take_first, front}
 use Rattle.trie_core.proofs.Maps.{node_map-none, child_get, get_none, get-short, get-long}
@@ -90,7 +90,7 @@ module _ {X : Type 0} where
   pub none_spare : (vb : ℕ) (vs : List X) (cb : ℕ) (cs : List (Seen X)) → HasSlots vb vs cb cs → spares_below cs ≡ 0 → spare_set (child_list cb cs) ≡ empty
   none_spare vb vs cb cs s z =
       let n = is_node vb vs cb cs s.values_below s.children_below in
-      sym (set-root n) ∙ empty_of_len _ (spare_count vb vs cb cs s ∙ z) 
+      sym (set-root n) ∙ empty_of_len _ (spare_count vb vs cb cs s ∙ z)
 
   pub seen : {vb : ℕ} {vs : List X} {cb : ℕ} {cs : List (Seen X)} {m : Seen X} → HasSlots vb vs cb cs → viewed vb vs cb cs ≡ m → IsSeen vb vs cb cs m
   seen {vb} {vs} {cb} {cs} {m} s v = record {

@@ -1,21 +1,21 @@
 -- The spare nodes of a node, as a key comes or goes below it.
-use Rattle.std.proofs.Common.{◌≡◌, ◌+◌, ◌-◌, ◌^◌, ◌%◌, ◌<◌, ◌≤◌, Bool, true, false, cond, not, List, [], ◌∷◌, ◌++◌, ℕ, zero, suc, length, take, drop, get_or, set, remove, refl, sym, ap, subst, ◌∙◌, arith}
-use Rattle.std.specs.Prelude.{nat_lt, Option, Some, None, is_some}
+use Rattle.std.proofs.Common.{◌≡◌, ◌^◌, ◌<◌, ◌≤◌, Bool, true, false, cond, not, List, [], ◌∷◌, ℕ, zero, suc, length, take, drop, get_or, set, refl, sym, ap, subst, ◌∙◌, arith}
+use Rattle.std.specs.Prelude.{nat_lt, Option, Some, None}
 use Rattle.std.specs.FinMap.{get, put, len, empty, find, get-empty, get-retain_keys, same_map}
 use Rattle.std.specs.FinMap as map
 use Rattle.std.specs.Ordering.{nat_cmp}
 use Rattle.std.proofs.lemmas.Bool.Decides.{nat_tests}
 use Rattle.trie_keys.specs.Bits.{bits_cmp, begins, child_of}
 use Rattle.trie_core.specs.Places.{at_places, child_list, IsUnset}
-use Rattle.trie_core.specs.Nodes.{BitMap, BitSet, Seen, node_map, IsNode, HasSlots}
+use Rattle.trie_core.specs.Nodes.{BitSet, Seen, IsNode}
 use Rattle.trie_core.specs.Count.{marked, spare_set}
 use Rattle.trie_core.specs.Ways.{off_way}
 use Rattle.trie_keys.proofs.Strings.{bits_total, bits_same, same, same-Decides, same_false, not_same}
 use Rattle.trie_core.proofs.Maps.{ListChanges}
-use Rattle.trie_core.proofs.Named.{is_node, child_put_in, child_taken_out, child_found}
+use Rattle.trie_core.proofs.Named.{is_node, child_put_in, child_found}
 use Rattle.trie_core.proofs.Taken.{IsTaken, missing}
 use Rattle.trie_core.proofs.Count.{spare_pos}
-use Rattle.trie_core.proofs.Seen.{IsSeen, viewed}
+use Rattle.trie_core.proofs.Seen.{IsSeen}
 use Rattle.trie_core.proofs.Marks.{marked_get, marked-other, marked-root, root_if, set-short, set-long, set-changed}
 use Rattle.trie_core.proofs.Inside.{begins_longer, begins_below, begins_elsewhere}
 use Rattle.trie_core.proofs.Changes.{spare_insert, was_found}

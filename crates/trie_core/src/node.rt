@@ -315,6 +315,7 @@ impl<T: Drop> Node<T> {
     pub fn remove_keep_tree(&mut self, path: Path) -> Option<T>
         ensures value { result ≡ map.get self.old.0 path }
         ensures map { self.new.0 ≡ map.remove self.old.0 path }
+        ensures spares { IsKept path self.old.0 self.old.1 self.new.0 self.new.1 }
         ensures count { all_nodes self.new ≡ all_nodes self.old }
         ensures levels { self.new.2 ≤ self.old.2 }
     {

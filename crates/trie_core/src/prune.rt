@@ -1,7 +1,8 @@
 //! Many entries at once, taken out.
 ghost use Rattle.std.specs.Prelude.{◌≡◌, ◌+◌, ◌<◌, ◌≤◌, ◌^◌, length, cond};
 ghost use Rattle.std.specs.FinMap as map;
-ghost use Rattle.trie_core.specs.Count.{all_nodes, spares};
+ghost use Rattle.trie_core.specs.Count.{all_nodes};
+ghost use Rattle.trie_core.specs.Ways.{AreBelow, IsCut};
 ghost use Rattle.trie_core.specs.Inside.{outside};
 
 use crate::node::Node;
@@ -46,7 +47,8 @@ impl<T: Drop> Node<T> {
         ensures map { self.new.0 ≡ outside self.old.0 path.now }
         ensures entries { map.len self.new.0 + result.0 ≡ map.len self.old.0 }
         ensures count { all_nodes self.new + result.1 ≡ all_nodes self.old }
-        ensures spares { spares self.new ≤ spares self.old }
+        ensures spares { self.new.1 ≡ outside self.old.1 path.now }
+        ensures below { AreBelow self.new.1 }
         ensures levels { self.new.2 ≤ self.old.2 }
     {
         let number = path.five();
@@ -69,7 +71,8 @@ impl<T: Drop> Node<T> {
         ensures map { self.new.0 ≡ outside self.old.0 path.now }
         ensures entries { map.len self.new.0 + result.0 ≡ map.len self.old.0 }
         ensures count { all_nodes self.new + result.1 ≡ all_nodes self.old }
-        ensures spares { spares self.new ≤ spares self.old }
+        ensures spares { self.new.1 ≡ outside self.old.1 path.now }
+        ensures below { AreBelow self.new.1 }
         ensures levels { self.new.2 ≤ self.old.2 }
     {
         if !path.is_short() {
@@ -87,7 +90,7 @@ impl<T: Drop> Node<T> {
         ensures map { self.new.0 ≡ map.remove self.old.0 path.now }
         ensures entries { map.len self.new.0 + cond result 1 0 ≡ map.len self.old.0 }
         ensures count { all_nodes self.new ≡ all_nodes self.old }
-        ensures spares { self.new.1 ≡ self.old.1 }
+        ensures spares { self.new.1 ≡ map.remove self.old.1 path.now }
         ensures levels { self.new.2 ≡ self.old.2 }
     {
         take_at(&mut self.value_bits, &mut self.values, path.place()).is_some()
@@ -101,7 +104,7 @@ impl<T: Drop> Node<T> {
         ensures map { self.new.0 ≡ outside self.old.0 path.now }
         ensures entries { map.len self.new.0 + result.0 ≡ map.len self.old.0 }
         ensures count { all_nodes self.new + result.1 ≡ all_nodes self.old }
-        ensures tidy { spares self.old ≡ 0 → spares self.new ≡ 0 }
+        ensures spares { IsCut path.now self.old.1 self.new.0 self.new.1 }
         ensures levels { self.new.2 ≤ self.old.2 }
     {
         if path.len() <= 5 {

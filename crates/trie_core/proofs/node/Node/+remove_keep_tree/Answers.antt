@@ -1,11 +1,13 @@
-use Rattle.std.proofs.Common.{◌<◌, ◌≤◌, ◌∙◌, sym, ap, length, arith}
+use Rattle.std.proofs.Common.{◌<◌, ◌≤◌, ◌∙◌, sym, ap, subst, length, arith}
 use Rattle.std.specs.Ordering.{nat_cmp}
 use Rattle.std.specs.FinMap.{find, get, remove}
 use Rattle.std.proofs.lemmas.Bool.Decides.{nat_tests}
 use Rattle.trie_core.specs.Places.{at_places}
 use Rattle.trie_core.proofs.Maps.{remove_absent}
-use Rattle.trie_core.proofs.Seen.{seen, value_at}
+use Rattle.trie_core.proofs.Seen.{seen, map_of, value_at}
 use Rattle.trie_core.proofs.Changes.{value_slots, value_taken_map, value_count, way, was, set_taken, set_count, set_height, was_lower, absent}
+use Rattle.trie_core.proofs.Staying.{kept_short, kept_absent, kept_set}
+use Rattle.trie_core.specs.Ways.{IsKept}
 use Rattle.trie_core.proofs.node.Node.+remove_keep_tree.Goals as goal
 
 pub returns-then-is_short-clause-value : goal.returns-then-is_short-clause-value
@@ -60,3 +62,23 @@ returns-clause-levels g t c =
     let s = seen c.self.invariant c.self.view_is in
     let w = way c.args.path s c.five.ensures.value c.in_ok-at.ensures in
     omega (arith, set_height c.in_ok-at.at c.remove_keep_tree.new.self s, was_lower c.args.path c.index_mut-child.result.now s w c.index_mut-child.ensures.value, c.remove_keep_tree.ensures.levels)
+
+pub returns-then-is_short-clause-spares : goal.returns-then-is_short-clause-spares
+returns-then-is_short-clause-spares g t c =
+    let h : length c.args.path < 5 = grind (arith, nat_tests) in
+    let s = seen c.self.invariant c.self.view_is in
+    subst (λ b. IsKept c.args.path c.args.self.now.0 c.args.self.now.1 (map_of c.take_at.new.taken c.take_at.new.items.items c.self.inside.child_bits c.self.inside.children.items) b) (sym s.spare) (kept_short c.args.path s h)
+
+pub returns-in_err-at-clause-spares : goal.returns-in_err-at-clause-spares
+returns-in_err-at-clause-spares g t c =
+    let h : 5 ≤ length c.args.path = grind (arith, nat_tests) in
+    kept_absent c.args.path c.args.self.now (absent c.args.path (seen c.self.invariant c.self.view_is) h c.five.ensures.value c.in_err-at.ensures)
+
+pub returns-clause-spares : goal.returns-clause-spares
+returns-clause-spares g t c =
+    let h : 5 ≤ length c.args.path = grind (arith, nat_tests) in
+    let s = seen c.self.invariant c.self.view_is in
+    let e = c.index_mut-child.result.now in
+    let d = c.remove_keep_tree.new.self in
+    kept_set c.args.path e d s h (way c.args.path s c.five.ensures.value c.in_ok-at.ensures) c.index_mut-child.ensures.value (c.remove_keep_tree.ensures.map ∙ ap (remove e.0) c.rest.ensures)
+    (subst (λ q. IsKept q e.0 e.1 d.0 d.1) c.rest.ensures c.remove_keep_tree.ensures.spares)

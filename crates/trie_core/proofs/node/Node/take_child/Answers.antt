@@ -1,7 +1,9 @@
-use Rattle.std.proofs.Common.{◌^◌, ◌∙◌, ap, arith}
+use Rattle.std.proofs.Common.{◌^◌, ◌∙◌, ap, subst, arith}
+use Rattle.trie_core.specs.Ways.{AreBelow}
 use Rattle.trie_core.proofs.Seen.{seen}
 use Rattle.trie_core.proofs.Changes.{way}
 use Rattle.trie_core.proofs.Inside.{none_inside, none_left, gone}
+use Rattle.trie_core.proofs.Left.{set_below, out_none, out_child}
 use Rattle.trie_core.proofs.node.Node.take_child.Goals as goal
 
 pub remove-child-requires : goal.remove-child-requires
@@ -44,13 +46,21 @@ returns-in-Some-clause-count g c =
     let p = gone c.args.path.now c.remove-child.result s (omega (arith, c.requires.five)) (way c.args.path.now s c.five-number.ensures.value c.in-Some.ensures) c.remove-child.ensures.value (none_left c.remove-child.result.0 c.args.path.now c.requires.five) (c.bit.ensures ∙ ap (λ i. 2 ^ i) c.five-number.ensures.value) c.remove-child.ensures.items in
     omega (arith, p.count, c.counts.ensures.nodes)
 
+pub returns-in-None-clause-spares : goal.returns-in-None-clause-spares
+returns-in-None-clause-spares g c = out_none c.args.path.now (seen c.self.invariant c.self.view_is) (omega (arith, c.requires.five)) c.five-number.ensures.value c.in-None.ensures
+
 pub returns-in-Some-clause-spares : goal.returns-in-Some-clause-spares
 returns-in-Some-clause-spares g c =
     let s = seen c.self.invariant c.self.view_is in
-    let p = gone c.args.path.now c.remove-child.result s (omega (arith, c.requires.five)) (way c.args.path.now s c.five-number.ensures.value c.in-Some.ensures) c.remove-child.ensures.value (none_left c.remove-child.result.0 c.args.path.now c.requires.five) (c.bit.ensures ∙ ap (λ i. 2 ^ i) c.five-number.ensures.value) c.remove-child.ensures.items in
-    omega (arith, p.spares)
+    out_child c.args.path.now s c.requires.five (way c.args.path.now s c.five-number.ensures.value c.in-Some.ensures) (c.bit.ensures ∙ ap (λ i. 2 ^ i) c.five-number.ensures.value) c.remove-child.ensures.items
 
 pub returns-in-Some-clause-levels : goal.returns-in-Some-clause-levels
 returns-in-Some-clause-levels g c =
     let s = seen c.self.invariant c.self.view_is in
     (gone c.args.path.now c.remove-child.result s (omega (arith, c.requires.five)) (way c.args.path.now s c.five-number.ensures.value c.in-Some.ensures) c.remove-child.ensures.value (none_left c.remove-child.result.0 c.args.path.now c.requires.five) (c.bit.ensures ∙ ap (λ i. 2 ^ i) c.five-number.ensures.value) c.remove-child.ensures.items).height
+
+pub returns-in-None-clause-below : goal.returns-in-None-clause-below
+returns-in-None-clause-below g c = subst AreBelow (seen c.self.invariant c.self.view_is).spare (set_below c.self.invariant)
+
+pub returns-in-Some-clause-below : goal.returns-in-Some-clause-below
+returns-in-Some-clause-below g c = set_below (invariant_of-self g c)

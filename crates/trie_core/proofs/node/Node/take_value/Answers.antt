@@ -1,10 +1,12 @@
 use Rattle.std.proofs.Common.{◌+◌, ◌∙◌, cond, sym, ap, arith}
 use Rattle.std.specs.Ordering.{nat_cmp}
-use Rattle.std.specs.FinMap.{find, len}
+use Rattle.std.specs.FinMap.{find, get, len}
 use Rattle.trie_core.specs.Places.{at_places}
 use Rattle.trie_core.proofs.Seen.{seen, value_at}
 use Rattle.trie_core.proofs.Changes.{value_slots, value_taken_map, value_count}
 use Rattle.trie_core.proofs.Entries.{removed}
+use Rattle.trie_core.proofs.Maps.{remove_absent}
+use Rattle.trie_core.proofs.Marks.{set-short}
 use Rattle.trie_core.proofs.node.Node.take_value.Goals as goal
 
 pub returns-clause-map : goal.returns-clause-map
@@ -22,3 +24,8 @@ pub returns-clause-count : goal.returns-clause-count
 returns-clause-count g c =
     let s = seen c.self.invariant c.self.view_is in
     value_count s (value_slots s c.take_at.ensures.counted (omega (arith, c.take_at.ensures.below, c.self.invariant.values_below)))
+
+pub returns-clause-spares : goal.returns-clause-spares
+returns-clause-spares g c =
+    let s = seen c.self.invariant c.self.view_is in
+    s.spare ∙ sym (remove_absent c.args.self.now.1 c.args.path.now (ap (λ b. get b c.args.path.now) (sym s.spare) ∙ set-short s.node c.args.path.now c.requires))

@@ -1,0 +1,163 @@
+-- The spare nodes as a key goes below a node, and every node stays.
+use Rattle.std.proofs.Common.{◌≡◌, ◌%◌, ◌<◌, ◌≤◌, inl, inr, Bool, true, false, cond, List, [], ◌∷◌, ◌++◌, ℕ, length, take, drop, get_or, set, refl, sym, ap, subst, ◌∙◌, arith}
+use Rattle.std.specs.Prelude.{nat_lt, Option, Some, None, is_some, ◌↔◌, ◌⊎◌}
+use Rattle.std.specs.FinMap.{get, len, find}
+use Rattle.std.specs.FinMap as map
+use Rattle.std.proofs.lemmas.Bool.Decides.{nat_tests}
+use Rattle.std.proofs.lemmas.List.{append_assoc}
+use Rattle.std.proofs.Math.ListN.{length-append}
+use Rattle.trie_keys.specs.Bits.{bits_cmp, begins, child_of}
+use Rattle.trie_core.specs.Places.{child_list}
+use Rattle.trie_core.specs.Nodes.{BitMap, BitSet, Seen, node_map, IsNode}
+use Rattle.trie_core.specs.Count.{marked, spare_set}
+use Rattle.trie_core.specs.Ways.{IsIdle, IsKept}
+use Rattle.trie_keys.proofs.Strings.{same, same-Decides, same_false, not_same, no_false, front, begins_take}
+use Rattle.trie_core.proofs.Maps.{ListChanges, child_get, remove_absent}
+use Rattle.trie_core.proofs.Marks.{marked_get, marked-other, marked-root, root_if, set-short, set-long, set-changed}
+use Rattle.trie_core.proofs.Named.{is_node, child_put_in}
+use Rattle.trie_core.proofs.Taken.{IsTaken}
+use Rattle.trie_core.proofs.Seen.{IsSeen, map_of}
+use Rattle.trie_core.proofs.Changes.{was_found}
+use Rattle.trie_core.proofs.Inside.{begins_elsewhere}
+use Rattle.trie_core.proofs.Left.{none_found, no_keys, root_none, under_long, begins_under_first, found_changed, spare_under, map_under}
+
+module _ {X : Type 0} where
+  root_some : (m : BitMap X) → len m ≡ 0 → is_some (root_if (len m)) ≡ true
+  root_some m e = ap (λ n. is_some (root_if n)) e
+
+  -- a child at r below five bits that had the marks of e, and has those of d once p went from its map
+  module _ (p : List Bool) (e d : Seen X) (gone : d.0 ≡ map.remove e.0 p) (kept : IsKept p e.0 e.1 d.0 d.1) where
+    root_to_by : (k : (x : List Bool) → get d.0 x ≡ None) → (o : Option X) → get e.0 p ≡ o → (is_some (get (marked e) []) ≡ true) ⊎ ((is_some (get e.0 p) ≡ true) × ((x : List Bool) → get d.0 x ≡ None))
+    root_to_by k None f = inl (ap is_some (marked-root e) ∙ root_some e.0 (ap len (sym (remove_absent e.0 p f) ∙ sym gone) ∙ no_keys d.0 k))
+    root_to_by k (Some v) f = inr (ap is_some f, k)
+
+    -- what shows and holds at r
+    pub record IsStill (r : List Bool) : Type 0 where
+      pub fives : length r % 5 ≡ 0
+      pub none : (x : List Bool) → get d.0 (r ++ x) ≡ None
+
+    still_shows : (r : List Bool) → begins r p ≡ true → is_some (get (marked d) r) ≡ true → (is_some (get (marked e) r) ≡ true) ⊎ ((is_some (get e.0 p) ≡ true) × IsStill r)
+    still_shows [] h s = elim (root_to_by (root_none (len d.0) d.0 refl (sym (ap is_some (marked-root d)) ∙ s)) (get e.0 p) refl) [
+      | inl a ↦ inl a
+      | inr a ↦ inr (a.0, record { fives = refl; none = a.1 })
+    ]
+    still_shows (y ∷ ys) h s = elim ((kept.on (y ∷ ys) h).0 (sym (ap is_some (marked-other d y ys)) ∙ s)) [
+      | inl a ↦ inl (ap is_some (marked-other e y ys) ∙ a)
+      | inr a ↦ inr (a.0, record { fives = a.1.fives; none = a.1.none })
+    ]
+
+    still_stays : (r : List Bool) → begins r p ≡ true → is_some (get (marked e) r) ≡ true → is_some (get (marked d) r) ≡ true
+    still_stays [] h s =
+        let k = root_none (len e.0) e.0 refl (sym (ap is_some (marked-root e)) ∙ s) in
+        ap is_some (marked-root d) ∙ root_some d.0 (ap len (gone ∙ remove_absent e.0 p (k p)) ∙ no_keys e.0 k)
+    still_stays (y ∷ ys) h s = ap is_some (marked-other d y ys) ∙ (kept.on (y ∷ ys) h).1 (inl (sym (ap is_some (marked-other e y ys)) ∙ s))
+
+    still_comes : (r : List Bool) → begins r p ≡ true → is_some (get e.0 p) ≡ true → IsStill r → is_some (get (marked d) r) ≡ true
+    still_comes [] h f s = ap is_some (marked-root d) ∙ root_some d.0 (no_keys d.0 s.none)
+    still_comes (y ∷ ys) h f s = ap is_some (marked-other d y ys) ∙ (kept.on (y ∷ ys) h).1 (inr (f, record { below = omega (arith, s.fives); fives = s.fives; none = s.none }))
+
+    still_off : (r : List Bool) → begins r p ≡ false → get (marked d) r ≡ get (marked e) r
+    still_off [] h = cc
+    still_off (y ∷ ys) h = marked-other d y ys ∙ kept.off (y ∷ ys) h ∙ sym (marked-other e y ys)
+
+  -- ---- from a child to its node
+
+  module _ {vs us : List (List Bool × X)} {cs ds : List (List Bool × Seen X)} (q : List Bool) (e d : Seen X) (n : IsNode vs cs) (k : IsNode us ds) (h : 5 ≤ length q) (c : ListChanges cs (take 5 q) (Some d) ds) (f : find bits_cmp (take 5 q) cs ≡ Some e)
+      (gone : d.0 ≡ map.remove e.0 (drop 5 q)) (kept : IsKept (drop 5 q) e.0 e.1 d.0 d.1) where
+    old_at : (r : List Bool) → get (spare_set cs) (take 5 q ++ r) ≡ get (marked e) r
+    old_at r = spare_under n q r h ∙ ap (λ o. marked_get o r) f
+
+    new_at : (r : List Bool) → get (spare_set ds) (take 5 q ++ r) ≡ get (marked d) r
+    new_at r = spare_under k q r h ∙ ap (λ o. marked_get o r) (found_changed cs ds q (Some d) c)
+
+    key_at : get (node_map vs cs) q ≡ get e.0 (drop 5 q)
+    key_at = ap (get (node_map vs cs)) (sym (front q h).1) ∙ map_under n q (drop 5 q) h ∙ ap (λ o. child_get o (drop 5 q)) f
+
+    deeper : (r x : List Bool) → get (node_map us ds) ((take 5 q ++ r) ++ x) ≡ get d.0 (r ++ x)
+    deeper r x = ap (get (node_map us ds)) (append_assoc (take 5 q) r x) ∙ map_under k q (r ++ x) h ∙ ap (λ o. child_get o (r ++ x)) (found_changed cs ds q (Some d) c)
+
+    in_on : (r : List Bool) → begins (take 5 q ++ r) q ≡ true → (is_some (get (spare_set ds) (take 5 q ++ r)) ≡ true) ↔ ((is_some (get (spare_set cs) (take 5 q ++ r)) ≡ true) ⊎ ((is_some (get (node_map vs cs) q) ≡ true) × IsIdle (node_map us ds) (take 5 q ++ r)))
+    in_on r b =
+        let i = sym (begins_under_first q r h) ∙ b in (
+          λ s. elim (still_shows (drop 5 q) e d gone kept r i (sym (ap is_some (new_at r)) ∙ s)) [
+            | inl a ↦ inl (ap is_some (old_at r) ∙ a)
+            | inr a ↦ inr (ap is_some key_at ∙ a.0, record { below = under_long q r h; fives = omega (arith, a.1.fives, length-append (take 5 q) r, (front q h).0); none = λ x. deeper r x ∙ a.1.none x })
+          ],
+          λ s. elim s [
+            | inl a ↦ ap is_some (new_at r) ∙ still_stays (drop 5 q) e d gone kept r i (sym (ap is_some (old_at r)) ∙ a)
+            | inr a ↦ ap is_some (new_at r) ∙ still_comes (drop 5 q) e d gone kept r i (sym (ap is_some key_at) ∙ a.0) (record { fives = omega (arith, a.1.fives, length-append (take 5 q) r, (front q h).0); none = λ x. sym (deeper r x) ∙ a.1.none x })
+          ],
+        )
+
+    in_off : (r : List Bool) → begins (take 5 q ++ r) q ≡ false → get (spare_set ds) (take 5 q ++ r) ≡ get (spare_set cs) (take 5 q ++ r)
+    in_off r b = new_at r ∙ still_off (drop 5 q) e d gone kept r (sym (begins_under_first q r h) ∙ b) ∙ sym (old_at r)
+
+    at_end : (s : List Bool) → 5 ≤ length s → same (take 5 s) (take 5 q) ≡ true → take 5 q ++ drop 5 s ≡ s
+    at_end s l e = ap (λ w. w ++ drop 5 s) (sym ((same-Decides (take 5 s) (take 5 q)).0 e)) ∙ (front s l).1
+
+    off_by : (s : List Bool) → begins s q ≡ false → 5 ≤ length s → (b : Bool) → same (take 5 s) (take 5 q) ≡ b → get (spare_set ds) s ≡ get (spare_set cs) s
+    off_by s b l true e = subst (λ w. begins w q ≡ false → get (spare_set ds) w ≡ get (spare_set cs) w) (at_end s l e) (in_off (drop 5 s)) b
+    off_by s b l false e =
+        set-changed cs q (Some d) k c s l ∙ ap (λ t. marked_get (cond t (Some d) (find bits_cmp (take 5 s) cs)) (drop 5 s)) e ∙ sym (set-long n s l)
+
+    abbrev On : List Bool → Type 0
+    On s = begins s q ≡ true → (is_some (get (spare_set ds) s) ≡ true) ↔ ((is_some (get (spare_set cs) s) ≡ true) ⊎ ((is_some (get (node_map vs cs) q) ≡ true) × IsIdle (node_map us ds) s))
+
+    on_by : (s : List Bool) → 5 ≤ length s → (b : Bool) → same (take 5 s) (take 5 q) ≡ b → On s
+    on_by s l true e = subst On (at_end s l e) (in_on (drop 5 s))
+    on_by s l false e = λ b. absurd (no_false (begins_elsewhere s q l (same_false (take 5 q) (take 5 s) (λ p. not_same e (sym p)))) b)
+
+    off_all : (s : List Bool) → begins s q ≡ false → (b : Bool) → nat_lt (length s) 5 ≡ b → get (spare_set ds) s ≡ get (spare_set cs) s
+    off_all s b true e =
+        let l : length s < 5 = grind (arith, nat_tests) in
+        set-short k s l ∙ sym (set-short n s l)
+    off_all s b false e = off_by s b (grind (arith, nat_tests)) _ refl
+
+    on_all : (s : List Bool) → (b : Bool) → nat_lt (length s) 5 ≡ b → On s
+    on_all s true e = λ b.
+        let l : length s < 5 = grind (arith, nat_tests) in (
+          λ t. absurd (none_found (set-short k s l) t),
+          λ t. elim t [
+            | inl a ↦ absurd (none_found (set-short n s l) a)
+            | inr a ↦ absurd (omega (arith, a.1.below, l))
+          ],
+        )
+    on_all s false e = on_by s (grind (arith, nat_tests)) _ refl
+
+    pub kept_node : IsKept q (node_map vs cs) (spare_set cs) (node_map us ds) (spare_set ds)
+    kept_node = record { off = λ s b. off_all s b (nat_lt (length s) 5) refl; on = λ s b. on_all s (nat_lt (length s) 5) refl b }
+
+  -- ---- a node that was seen as m
+
+  -- within the node no spare node is on the way
+  pub kept_short : {vb : ℕ} {vs : List X} {cb : ℕ} {cs : List (Seen X)} {m : Seen X} {n : BitMap X} (q : List Bool) → IsSeen vb vs cb cs m → length q < 5 → IsKept q m.0 m.1 n m.1
+  kept_short {m = m} q s h = record {
+    off = λ x b. refl;
+    on = λ x b. (
+      λ t. inl t,
+      λ t. elim t [
+        | inl a ↦ a
+        | inr a ↦ absurd (omega (arith, a.1.below, (begins_take x q b).0, h))
+      ],
+    );
+  }
+
+  -- where q was no key nothing changes
+  pub kept_absent : (q : List Bool) (m : Seen X) → get m.0 q ≡ None → IsKept q m.0 m.1 m.0 m.1
+  kept_absent q m e = record {
+    off = λ x b. refl;
+    on = λ x b. (
+      λ t. inl t,
+      λ t. elim t [
+        | inl a ↦ a
+        | inr a ↦ let z : false ≡ true = sym (ap is_some e) ∙ a.0 in cc
+      ],
+    );
+  }
+
+  -- in the child on the way, which is e and becomes d
+  pub kept_set : {vb at : ℕ} {vs : List X} {cb : ℕ} {cs : List (Seen X)} {m : Seen X} (q : List Bool) (e d : Seen X) → IsSeen vb vs cb cs m → 5 ≤ length q → IsTaken (child_of q) at cb cs → e ≡ get_or cs at e → d.0 ≡ map.remove e.0 (drop 5 q) → IsKept (drop 5 q) e.0 e.1 d.0 d.1
+      → IsKept q m.0 m.1 (map_of vb vs cb (set cs at d)) (spare_set (child_list cb (set cs at d)))
+  kept_set {vb} {at} {vs} {cb} {cs} q e d s h t r g k =
+      subst (λ (w : BitMap X × BitSet). IsKept q w.0 w.1 (map_of vb vs cb (set cs at d)) (spare_set (child_list cb (set cs at d)))) (λ i. (s.map i, s.spare i))
+      (kept_node q e d s.node (is_node vb vs cb (set cs at d) s.slots.values_below s.slots.children_below) h (child_put_in q d cb cb cs (set cs at d) h s.slots.children_below (t.written d)) (was_found q e s h t r) g k)
