@@ -14,11 +14,11 @@ use Rattle.trie_core.specs.Count.{spares, marked, spare_set}
 use Rattle.trie_core.specs.Inside.{outside}
 use Rattle.trie_core.specs.Ways.{AreBelow, IsIdle, LeadsOff, IsLeft, IsCut}
 use Rattle.trie_keys.proofs.Strings.{bits_total, bits_same, same, same-Decides, same-refl, same_false, not_same, no_false, front, take_first, append_none, begins_take}
-use Rattle.trie_core.proofs.Maps.{ListChanges, child_get, get-long}
+use Rattle.trie_core.proofs.Maps.{ListChanges, drop_first, child_get, get-long}
 use Rattle.trie_core.proofs.Marks.{marked_get, marked-other, marked-root, root_if, set-short, set-long, set-changed}
 use Rattle.trie_core.proofs.Named.{is_node, child_put_in, child_taken_out, child_found}
 use Rattle.trie_core.proofs.Taken.{IsTaken, missing}
-use Rattle.trie_core.proofs.Seen.{IsSeen, map_of, drop_first}
+use Rattle.trie_core.proofs.Seen.{IsSeen, map_of}
 use Rattle.trie_core.proofs.Changes.{was_found, set_removed}
 use Rattle.trie_core.proofs.Inside.{begins-under, begins_elsewhere, first_five, get-outside, outside_absent}
 

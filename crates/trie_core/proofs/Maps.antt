@@ -7,11 +7,16 @@ use Rattle.std.specs.FinMap as map
 use Rattle.std.specs.FinMap.Entries.{below_all}
 use Rattle.std.proofs.lemmas.Bool.Decides.{nat_tests}
 use Rattle.std.proofs.Math.ListN.{length-append}
+use Rattle.std.proofs.Math.Seq.{drop-append_seam}
 use Rattle.trie_keys.specs.Bits.{bits_cmp}
 use Rattle.trie_keys.proofs.Strings.{bits_total, bits_same, same, same-Decides, same_false, same-under, other_length, both, front, take_first, less-T, not_same}
 use Rattle.trie_core.specs.Nodes.{BitMap, Seen, AreShort, AreLong, under, child_entries, child_map, node_map, IsNode}
 
 -- ---- lists of entries
+
+-- what follows the first five bits
+pub drop_first : (b k : List Bool) → length b ≡ 5 → drop 5 (b ++ k) ≡ k
+drop_first b k h = ap (λ n. drop n (b ++ k)) (sym h) ∙ drop-append_seam b k
 
 differs : (q b : List Bool) → length b ≡ 5 → (take 5 q ≡ b → ⊥) → (k : List Bool) → q ≡ b ++ k → ⊥
 differs q b l n k e = n (ap (take 5) e ∙ take_first b k l)

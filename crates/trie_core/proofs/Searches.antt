@@ -13,7 +13,7 @@ use Rattle.std.proofs.Math.ListN.{length-take, length-drop}
 use Rattle.trie_keys.specs.Bits.{place_from, place_of, place_string, IsBeginMask}
 use Rattle.trie_core.specs.Places.{at_places, IsLastPlace, IsFirstPlace}
 use Rattle.trie_core.specs.Nodes.{BitMap, Seen}
-use Rattle.trie_core.specs.Count.{spares, visit_count}
+use Rattle.trie_core.specs.Count.{node_visits}
 use Rattle.trie_core.specs.Search.{NoBeginning, IsLongest, IsShortest, NoneBelow, IsLongestBelow, IsChild, HasNoChild}
 use Rattle.trie_keys.proofs.Numbers.{place_strings}
 use Rattle.trie_keys.proofs.Strings.{begins_take, take_begins}
@@ -276,8 +276,9 @@ module _ {X : Type 0} where
   pub no_child_get : {n : Seen X} {q : List Bool} → HasNoChild q n → get n.0 q ≡ None
   no_child_get {n} {q} e = ap (get n.0) (sym (take-append-drop 5 q)) ∙ e.gets (drop 5 q)
 
-  pub child_visits : {n c : Seen X} {q r : List Bool} → IsChild q n c → r ≡ drop 5 q → spares n ≡ 0 → visit_count n.0 q ≡ visit_count c.0 r + 1
-  child_visits {n} {c} {q} e f z = ap (visit_count n.0) (sym (take-append-drop 5 q)) ∙ e.visits z (drop 5 q) ∙ ap (λ w. visit_count c.0 w + 1) (sym f)
+  -- one more from the node than from its child on the way
+  pub child_visits : {n c : Seen X} {q r : List Bool} → IsChild q n c → r ≡ drop 5 q → node_visits n q ≡ node_visits c r + 1
+  child_visits {n} {c} {q} e f = ap (node_visits n) (sym (take-append-drop 5 q)) ∙ e.visits (drop 5 q) ∙ ap (λ w. node_visits c w + 1) (sym f)
 
   pub none_stop : {m n : Seen X} {q p : List Bool} (d : ℕ) → IsAt m q d n p → 5 ≤ length p → HasNoChild p n → NoneBelow m.0 q (d + 5) → NoBeginning m.0 q
   none_stop d a h e f = best_stop {S = X} (λ s. s) d None a h e f

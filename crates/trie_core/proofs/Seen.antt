@@ -8,25 +8,16 @@ use Rattle.std.proofs.Math.ListN.{length-append}
 use Rattle.trie_keys.specs.Bits.{bits_cmp, place_of, child_of}
 use Rattle.trie_core.specs.Places.{at_places, value_list, child_list}
 use Rattle.trie_core.specs.Nodes.{BitMap, Seen, node_map, node_height, IsNode, HasSlots}
-use Rattle.trie_core.specs.Count.{spares, all_nodes, total, spares_below, spare_set, visit_count}
+use Rattle.trie_core.specs.Count.{spares, all_nodes, total, spares_below, spare_set, node_visits}
 use Rattle.trie_core.specs.Search.{IsChild, HasNoChild}
 use Rattle.trie_keys.proofs.Strings.{same, take_first, front}
-use Rattle.trie_core.proofs.Maps.{node_map-none, child_get, get_none, get-short, get-long}
+use Rattle.trie_core.proofs.Maps.{drop_first, node_map-none, child_get, get_none, get-short, get-long}
 use Rattle.trie_core.proofs.Count.{things, all_of_node, bare_lists}
 use Rattle.trie_core.proofs.Visits.{visits_none, visits_some}
 use Rattle.trie_keys.proofs.Numbers.{ones_bit}
 use Rattle.trie_core.proofs.Lengths.{length-things}
 use Rattle.trie_core.proofs.Marks.{set-len, set-root}
 use Rattle.trie_core.proofs.Named.{is_node, value_things, child_things, value_found, child_found}
-
-pub drop_first : (b k : List Bool) → length b ≡ 5 → drop 5 (b ++ k) ≡ k
-drop_first (a ∷ b ∷ c ∷ d ∷ e ∷ []) k h = refl
-drop_first [] k h = absurd (omega arith)
-drop_first (a ∷ []) k h = absurd (omega arith)
-drop_first (a ∷ b ∷ []) k h = absurd (omega arith)
-drop_first (a ∷ b ∷ c ∷ []) k h = absurd (omega arith)
-drop_first (a ∷ b ∷ c ∷ d ∷ []) k h = absurd (omega arith)
-drop_first (a ∷ b ∷ c ∷ d ∷ e ∷ f ∷ bs) k h = absurd (omega arith)
 
 pub no_items : {Y : Type 0} (ys : List Y) → length ys ≡ 0 → ys ≡ []
 no_items [] e = refl
@@ -123,14 +114,10 @@ module _ {X : Type 0} where
       let f = (front q h).0 in
       let g : find bits_cmp (take 5 q) (child_list cb cs) ≡ Some c = child_found q cb cs h s.slots.children_below ∙ e in
       let t = child_things cb cs s.slots.children_below s.slots.children_counted in
-      let v : (r : List Bool) → spares m ≡ 0 → (spares c ≡ 0) × (visit_count m.0 (take 5 q ++ r) ≡ visit_count c.0 r + 1) = λ r z.
-      let w = visits_some (take 5 q ++ r) s.node (omega (arith, length-append (take 5 q) r, f)) (ap (λ b. find bits_cmp b (child_list cb cs)) (take_first (take 5 q) r f) ∙ g) (ap spares_below t ∙ s.spares ∙ z) in
-      (w.0, sym (ap (λ k. visit_count k (take 5 q ++ r)) s.map) ∙ w.1 ∙ ap (λ k. visit_count c.0 k + 1) (drop_first (take 5 q) r f)) in
       record {
         gets = λ r. fronted q r s h ∙ ap (λ o. child_get o r) g;
         smaller = omega (arith, found_height (take 5 q) c (child_list cb cs) g, ap node_height t, s.height);
-        tidy = λ z. (v [] z).0;
-        visits = λ z r. (v r z).1;
+        visits = λ r. (λ i. node_visits (sym s.map i, sym s.spare i, m.2) (take 5 q ++ r)) ∙ visits_some (take 5 q) r m.2 s.node f g;
       }
 
   pub has_no_child : {vb : ℕ} {vs : List X} {cb : ℕ} {cs : List (Seen X)} {m : Seen X} (q : List Bool) → IsSeen vb vs cb cs m → 5 ≤ length q → find nat_cmp (child_of q) (at_places 32 0 cb cs) ≡ None → HasNoChild q m
@@ -138,7 +125,7 @@ module _ {X : Type 0} where
       let g : find bits_cmp (take 5 q) (child_list cb cs) ≡ None = child_found q cb cs h s.slots.children_below ∙ e in
       record {
         gets = λ r. fronted q r s h ∙ ap (λ o. child_get o r) g ∙ get_none r;
-        visits = sym (ap (λ k. visit_count k q) s.map) ∙ visits_none q s.node h g;
+        visits = (λ i. node_visits (sym s.map i, sym s.spare i, m.2) q) ∙ visits_none q m.2 s.node g;
       }
 
   -- ---- no values and no children

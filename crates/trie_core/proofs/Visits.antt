@@ -1,18 +1,20 @@
--- The strings that begin both a string and a key, and so the nodes that a search visits.
-use Rattle.std.proofs.Common.{◌≡◌, ℕ, zero, suc, ◌+◌, ◌*◌, ◌/◌, ◌<◌, ◌≤◌, Bool, true, false, cond, ◌||◌, List, [], ◌∷◌, ◌++◌, length, take, drop, refl, sym, ap, ◌∙◌, arith}
+-- The beginnings of a string at which nodes stand, which a search for it enters.
+use Rattle.std.proofs.Common.{◌≡◌, ℕ, zero, suc, ◌+◌, ◌*◌, ◌/◌, ◌<◌, ◌≤◌, Bool, true, false, cond, ◌&&◌, ◌||◌, List, [], ◌∷◌, ◌++◌, length, take, drop, refl, sym, ap, ◌∙◌, arith}
 use Rattle.std.specs.Prelude.{T, Some, None, is_some}
 use Rattle.std.specs.Ordering.{is_eq}
-use Rattle.std.specs.FinMap.{entries, find, get, get-entries, len, len-entries}
+use Rattle.std.specs.FinMap.{entries, find, get, empty, get-empty, get-entries, len, len-entries}
 use Rattle.std.specs.FinMap.Entries.{below_all}
+use Rattle.std.proofs.Math.Bool.{and-false, or-false}
 use Rattle.std.proofs.Math.ListN.{length-append, length-take}
 use Rattle.trie_keys.specs.Bits.{bits_cmp}
-use Rattle.trie_core.specs.Nodes.{BitMap, Seen, under, node_map, IsNode}
-use Rattle.trie_core.specs.Count.{fives_from, fives, begun, spares, spares_below, spare_of, found_in, visit_count}
-use Rattle.trie_keys.proofs.Strings.{both, less-T, same, same-Decides, not_same, append_none, take_first, front, same_false, take_take}
-use Rattle.trie_core.proofs.Maps.{tail_rises, find-under, find-apart}
+use Rattle.trie_core.specs.Nodes.{Seen, under, node_map, IsNode}
+use Rattle.trie_core.specs.Count.{fives_from, fives, fives_of, begun, found_in, visit_count, marked, spare_set, stands, standing_at, node_visits}
+use Rattle.trie_keys.proofs.Strings.{both, less-T, same, same-Decides, not_same, append_none, take_first, same_false, take_take}
+use Rattle.trie_core.proofs.Maps.{tail_rises, find-under, find-apart, drop_first}
 use Rattle.trie_core.specs.Walks.{first_value}
 use Rattle.trie_core.proofs.Order.{StartsAfter, found_long, found_get, without_value, without_child, starts_after, values_after}
-use Rattle.trie_core.proofs.Count.{things, has, has-append, has-begun, some_cond, some_entry, nothing, fives_child, fives_short, spare_pos, begun_by_key, after_child, begun_value, begun_none, begun_child}
+use Rattle.trie_core.proofs.Count.{has, has-append, has-begun, some_cond, some_entry, nothing, fives_child, fives_short, begun_by_key, after_child, begun_value, begun_none, begun_child}
+use Rattle.trie_core.proofs.Marks.{root_if, marked_get, marked-other, marked-root, set-long}
 
 below_none : {Y : Type 0} (b : List Bool) (es : List (List Bool × Y)) → T (below_all bits_cmp b es) → has b es ≡ false
 below_none b [] h = refl
@@ -32,9 +34,9 @@ apart : (n m x k : List Bool) → length n ≡ 5 → length m ≡ 5 → same n m
 apart n m x k a b e p = not_same e (sym (take_first n x a) ∙ ap (take 5) p ∙ take_first m k b)
 
 module _ {X : Type 0} where
-  here : {vs : List (List Bool × X)} {cs : List (List Bool × Seen X)} {c : List Bool × Seen X} → IsNode vs (c ∷ cs) → StartsAfter c.0 vs → some_entry (entries c.1.0) ≡ true → (x : List Bool)
-      → has (c.0 ++ x) (entries (begun (node_map vs (c ∷ cs)))) ≡ (same (c.0 ++ x) c.0 || has x (entries (begun c.1.0)))
-  here {vs} {cs} {c} n h e x =
+  here : {vs : List (List Bool × X)} {cs : List (List Bool × Seen X)} {c : List Bool × Seen X} → IsNode vs (c ∷ cs) → StartsAfter c.0 vs → (x : List Bool) (s : Bool) → some_entry (entries c.1.0) ≡ s
+      → has (c.0 ++ x) (entries (begun (node_map vs (c ∷ cs)))) ≡ ((s && same (c.0 ++ x) c.0) || has x (entries (begun c.1.0)))
+  here {vs} {cs} {c} n h x true e =
       let b = c.0 in
       let a = (tail_rises c cs n.children_rise).1 in
       let E = entries (begun c.1.0) in
@@ -43,6 +45,11 @@ module _ {X : Type 0} where
       ∙ some_cond (same (b ++ x) b) tt (find bits_cmp (b ++ x) (under b E ++ F))
       ∙ ap (λ t. same (b ++ x) b || t) (has-append (b ++ x) (under b E) F ∙ ap (λ t. t || has (b ++ x) F) (ap is_some (find-under b x E)))
       ∙ or_nothing (same (b ++ x) b) (has x E) (has (b ++ x) F) (below_none (b ++ x) F (after_child n a x))
+  here {vs} {cs} {c} n h x false e =
+      let z = nothing (entries c.1.0) e in
+      ap (λ m. has (c.0 ++ x) (entries m)) (begun_none n h z)
+      ∙ below_none (c.0 ++ x) (entries (begun (node_map vs cs))) (after_child n (tail_rises c cs n.children_rise).1 x)
+      ∙ sym (has-begun c.1.0 x ∙ ap (λ es. has x (fives_of es)) z)
 
   elsewhere : {vs : List (List Bool × X)} {cs : List (List Bool × Seen X)} {c : List Bool × Seen X} (m : List Bool) → IsNode vs (c ∷ cs) → StartsAfter c.0 vs → length m ≡ 5 → same m c.0 ≡ false → (x : List Bool) → (b : Bool) → some_entry (entries c.1.0) ≡ b
       → has (m ++ x) (entries (begun (node_map vs (c ∷ cs)))) ≡ has (m ++ x) (entries (begun (node_map vs cs)))
@@ -57,47 +64,48 @@ module _ {X : Type 0} where
   elsewhere {vs} {cs} {c} m n h a e x false s = ap (λ w. has (m ++ x) (entries w)) (begun_none n h (nothing (entries c.1.0) s))
 
   abbrev Begun : List (List Bool × X) → List (List Bool × Seen X) → List Bool → Seen X → List Bool → Type 0
-  Begun vs cs m w x = has (m ++ x) (entries (begun (node_map vs cs))) ≡ (same (m ++ x) m || has x (entries (begun w.0)))
+  Begun vs cs m w x = has (m ++ x) (entries (begun (node_map vs cs))) ≡ ((some_entry (entries w.0) && same (m ++ x) m) || has x (entries (begun w.0)))
 
-  begun_under : {vs : List (List Bool × X)} {cs : List (List Bool × Seen X)} {c : List Bool × Seen X} (m : List Bool) (w : Seen X) (x : List Bool) → IsNode vs (c ∷ cs) → StartsAfter c.0 vs → length m ≡ 5 → some_entry (entries w.0) ≡ true
+  begun_under : {vs : List (List Bool × X)} {cs : List (List Bool × Seen X)} {c : List Bool × Seen X} (m : List Bool) (w : Seen X) (x : List Bool) → IsNode vs (c ∷ cs) → StartsAfter c.0 vs → length m ≡ 5
       → (find bits_cmp m cs ≡ Some w → Begun vs cs m w x) → (b : Bool) → same m c.0 ≡ b → cond b (Some c.1) (find bits_cmp m cs) ≡ Some w → Begun vs (c ∷ cs) m w x
-  begun_under {vs} {cs} {c} m w x n h a s r true e f =
+  begun_under {vs} {cs} {c} m w x n h a r true e f =
       let u : c.1 ≡ w = cc in
       let z : m ≡ c.0 = (same-Decides m c.0).0 e in
       ap (λ k. has (k ++ x) (entries (begun (node_map vs (c ∷ cs))))) z
-      ∙ here n h (ap (λ v. some_entry (entries v.0)) u ∙ s) x
-      ∙ (λ i. same (sym z i ++ x) (sym z i) || has x (entries (begun (u i).0)))
-  begun_under {vs} {cs} {c} m w x n h a s r false e f = elsewhere m n h a e x (some_entry (entries c.1.0)) refl ∙ r f
+      ∙ here n h x (some_entry (entries c.1.0)) refl
+      ∙ (λ i. (some_entry (entries (u i).0) && same (sym z i ++ x) (sym z i)) || has x (entries (begun (u i).0)))
+  begun_under {vs} {cs} {c} m w x n h a r false e f = elsewhere m n h a e x (some_entry (entries c.1.0)) refl ∙ r f
 
-  begun_either : (e : List Bool × X) (vs : List (List Bool × X)) (c : List Bool × Seen X) (cs : List (List Bool × Seen X)) (m : List Bool) (w : Seen X) (x : List Bool) → IsNode (e ∷ vs) (c ∷ cs) → length m ≡ 5 → some_entry (entries w.0) ≡ true → find bits_cmp m (c ∷ cs) ≡ Some w
+  begun_either : (e : List Bool × X) (vs : List (List Bool × X)) (c : List Bool × Seen X) (cs : List (List Bool × Seen X)) (m : List Bool) (w : Seen X) (x : List Bool) → IsNode (e ∷ vs) (c ∷ cs) → length m ≡ 5 → find bits_cmp m (c ∷ cs) ≡ Some w
       → (IsNode vs (c ∷ cs) → Begun vs (c ∷ cs) m w x) → (IsNode (e ∷ vs) cs → find bits_cmp m cs ≡ Some w → Begun (e ∷ vs) cs m w x) → (b : Bool) → first_value (e ∷ vs) (c ∷ cs) ≡ b → Begun (e ∷ vs) (c ∷ cs) m w x
-  begun_either e vs c cs m w x n a s f p q true b = ap (λ k. has (m ++ x) (entries k)) (begun_value n (starts_after e vs (c ∷ cs) b)) ∙ p (without_value n)
-  begun_either e vs c cs m w x n a s f p q false b = begun_under m w x n (values_after (e ∷ vs) c cs n b) a s (q (without_child n)) (same m c.0) refl f
+  begun_either e vs c cs m w x n a f p q true b = ap (λ k. has (m ++ x) (entries k)) (begun_value n (starts_after e vs (c ∷ cs) b)) ∙ p (without_value n)
+  begun_either e vs c cs m w x n a f p q false b = begun_under m w x n (values_after (e ∷ vs) c cs n b) a (q (without_child n)) (same m c.0) refl f
 
-  begun_by : (k : ℕ) (vs : List (List Bool × X)) (cs : List (List Bool × Seen X)) (m : List Bool) (w : Seen X) (x : List Bool) → length vs + length cs ≤ k → IsNode vs cs → length m ≡ 5 → some_entry (entries w.0) ≡ true → find bits_cmp m cs ≡ Some w → Begun vs cs m w x
-  begun_by k vs [] m w x h n a s f = cc
-  begun_by zero vs (c ∷ cs) m w x h n a s f = absurd (omega arith)
-  begun_by (suc k) [] (c ∷ cs) m w x h n a s f = begun_under m w x n tt a s (λ g. begun_by k [] cs m w x (omega arith) (without_child n) a s g) (same m c.0) refl f
-  begun_by (suc k) (e ∷ vs) (c ∷ cs) m w x h n a s f = begun_either e vs c cs m w x n a s f (λ o. begun_by k vs (c ∷ cs) m w x (omega arith) o a s f) (λ o g. begun_by k (e ∷ vs) cs m w x (omega arith) o a s g) (first_value (e ∷ vs) (c ∷ cs)) refl
+  begun_by : (k : ℕ) (vs : List (List Bool × X)) (cs : List (List Bool × Seen X)) (m : List Bool) (w : Seen X) (x : List Bool) → length vs + length cs ≤ k → IsNode vs cs → length m ≡ 5 → find bits_cmp m cs ≡ Some w → Begun vs cs m w x
+  begun_by k vs [] m w x h n a f = cc
+  begun_by zero vs (c ∷ cs) m w x h n a f = absurd (omega arith)
+  begun_by (suc k) [] (c ∷ cs) m w x h n a f = begun_under m w x n tt a (λ g. begun_by k [] cs m w x (omega arith) (without_child n) a g) (same m c.0) refl f
+  begun_by (suc k) (e ∷ vs) (c ∷ cs) m w x h n a f = begun_either e vs c cs m w x n a f (λ o. begun_by k vs (c ∷ cs) m w x (omega arith) o a f) (λ o g. begun_by k (e ∷ vs) cs m w x (omega arith) o a g) (first_value (e ∷ vs) (c ∷ cs)) refl
 
 abbrev counted : Bool → ℕ
 counted b = cond b 1 0
 
-found_fives : (i n : ℕ) (b k : List Bool) (m e : BitMap (Unit {0})) → 5 * i + 5 * n ≤ length k → ((x : List Bool) → 5 ≤ length x → is_some (get m (b ++ x)) ≡ is_some (get e x)) → found_in m (under b (fives_from i n k)) ≡ found_in e (fives_from i n k)
-found_fives i zero b k m e h f = refl
-found_fives i (suc n) b k m e h f = λ j. cond (f (take (5 * i + 5) k) (omega (arith, length-take (5 * i + 5) k, h)) j) 1 0 + found_fives (suc i) n b k m e (omega (arith, h)) f j
-
-found_none : (i n : ℕ) (q : List Bool) (m : BitMap (Unit {0})) → 5 * i + 5 * n ≤ length q → ((x : List Bool) → 5 ≤ length x → take 5 x ≡ take 5 q → is_some (get m x) ≡ false) → found_in m (fives_from i n q) ≡ 0
-found_none i zero q m h f = refl
-found_none i (suc n) q m h f =
-    let z : 5 * i + 5 ≡ 5 + 5 * i = omega arith in
-    let e = f (take (5 * i + 5) q) (omega (arith, length-take (5 * i + 5) q, h)) (ap (λ k. take 5 (take k q)) z ∙ take_take q 5 (5 * i)) in
-    let c : counted (is_some (get m (take (5 * i + 5) q))) ≡ 0 = ap counted e in
-    omega (arith, c, found_none (suc i) n q m (omega (arith, h)) f)
-
 module _ {X : Type 0} where
-  pub visits_short : (m : BitMap X) (q : List Bool) → length q < 5 → visit_count m q ≡ 1
-  visits_short m q h = ap (λ es. found_in (begun m) es + 1) (fives_short q h)
+  -- what a node of h levels with these values and children is seen as
+  abbrev pub node_seen : List (List Bool × X) → List (List Bool × Seen X) → ℕ → Seen X
+  node_seen vs cs h = (node_map vs cs, spare_set cs, h)
+
+  standing_fives : (i n : ℕ) (b k : List Bool) (m w : Seen X) → 5 * i + 5 * n ≤ length k → ((x : List Bool) → 5 ≤ length x → stands m (b ++ x) ≡ stands w x) → standing_at m (under b (fives_from i n k)) ≡ standing_at w (fives_from i n k)
+  standing_fives i zero b k m w h f = refl
+  standing_fives i (suc n) b k m w h f = λ j. cond (f (take (5 * i + 5) k) (omega (arith, length-take (5 * i + 5) k, h)) j) 1 0 + standing_fives (suc i) n b k m w (omega (arith, h)) f j
+
+  standing_none : (i n : ℕ) (q : List Bool) (m : Seen X) → 5 * i + 5 * n ≤ length q → ((x : List Bool) → 5 ≤ length x → take 5 x ≡ take 5 q → stands m x ≡ false) → standing_at m (fives_from i n q) ≡ 0
+  standing_none i zero q m h f = refl
+  standing_none i (suc n) q m h f =
+      let z : 5 * i + 5 ≡ 5 + 5 * i = omega arith in
+      let e = f (take (5 * i + 5) q) (omega (arith, length-take (5 * i + 5) q, h)) (ap (λ k. take 5 (take k q)) z ∙ take_take q 5 (5 * i)) in
+      let c : counted (stands m (take (5 * i + 5) q)) ≡ 0 = ap counted e in
+      omega (arith, c, standing_none (suc i) n q m (omega (arith, h)) f)
 
   none_begun : {vs : List (List Bool × X)} {cs : List (List Bool × Seen X)} (q x : List Bool) → IsNode vs cs → find bits_cmp (take 5 q) cs ≡ None → 5 ≤ length x → take 5 x ≡ take 5 q → (b : Bool) → is_some (get (begun (node_map vs cs)) x) ≡ b → is_some (get (begun (node_map vs cs)) x) ≡ false
   none_begun {vs} {cs} q x n f h t true e =
@@ -109,42 +117,73 @@ module _ {X : Type 0} where
       cc
   none_begun q x n f h t false e = e
 
-  -- no child on the way
-  pub visits_none : {vs : List (List Bool × X)} {cs : List (List Bool × Seen X)} (q : List Bool) → IsNode vs cs → 5 ≤ length q → find bits_cmp (take 5 q) cs ≡ None → visit_count (node_map vs cs) q ≡ 1
-  visits_none {vs} {cs} q n h f =
-      ap (λ n. n + 1) (found_none 0 (length q / 5) q (begun (node_map vs cs)) (omega arith) (λ x d t. none_begun q x n f d t (is_some (get (begun (node_map vs cs)) x)) refl))
+  -- no node stands where there is no child
+  stands_none : {vs : List (List Bool × X)} {cs : List (List Bool × Seen X)} (q x : List Bool) (h : ℕ) → IsNode vs cs → find bits_cmp (take 5 q) cs ≡ None → 5 ≤ length x → take 5 x ≡ take 5 q → stands (node_seen vs cs h) x ≡ false
+  stands_none {vs} {cs} q x h n f d t =
+      let spare : get (spare_set cs) x ≡ None = set-long n x d ∙ (λ i. marked_get (find bits_cmp (t i) cs) (drop 5 x)) ∙ ap (λ o. marked_get o (drop 5 x)) f in
+      λ i. none_begun q x n f d t (is_some (get (begun (node_map vs cs)) x)) refl i || is_some (spare i)
 
-  found_spare_by : (n : List Bool) (m : Seen X) (c : List Bool × Seen X) (cs : List (List Bool × Seen X)) → (find bits_cmp n cs ≡ Some m → spare_of m ≤ spares_below (things cs)) → (b : Bool) → cond b (Some c.1) (find bits_cmp n cs) ≡ Some m → spare_of m ≤ spare_of c.1 + spares_below (things cs)
-  found_spare_by n m c cs r true e = let p : c.1 ≡ m = cc in omega (arith, ap (λ x. spare_of x) p)
-  found_spare_by n m c cs r false e = omega (arith, r e)
+  -- no child on the way: the node alone
+  pub visits_none : {vs : List (List Bool × X)} {cs : List (List Bool × Seen X)} (q : List Bool) (h : ℕ) → IsNode vs cs → find bits_cmp (take 5 q) cs ≡ None → node_visits (node_seen vs cs h) q ≡ 1
+  unfolding node_visits
+  visits_none {vs} {cs} q h n f = ap (λ k. k + 1) (standing_none 0 (length q / 5) q (node_seen vs cs h) (omega arith) (λ x d t. stands_none q x h n f d t))
 
-  found_spare : (n : List Bool) (m : Seen X) (cs : List (List Bool × Seen X)) → find bits_cmp n cs ≡ Some m → spare_of m ≤ spares_below (things cs)
-  found_spare n m [] e = cc
-  found_spare n m (c ∷ cs) e = found_spare_by n m c cs (found_spare n m cs) (same n c.0) e
+  begun_below : {vs : List (List Bool × X)} {cs : List (List Bool × Seen X)} {w : Seen X} (b x : List Bool) → IsNode vs cs → length b ≡ 5 → find bits_cmp b cs ≡ Some w
+      → is_some (get (begun (node_map vs cs)) (b ++ x)) ≡ ((some_entry (entries w.0) && same (b ++ x) b) || is_some (get (begun w.0) x))
+  begun_below {vs} {cs} {w} b x n a f =
+      ap is_some (get-entries (begun (node_map vs cs)) (b ++ x)) ∙ begun_by (length vs + length cs) vs cs b w x (omega arith) n a f
+      ∙ (λ i. (some_entry (entries w.0) && same (b ++ x) b) || is_some (sym (get-entries (begun w.0) x) i))
 
-  some_of_length : (es : List (List Bool × X)) → 1 ≤ length es → some_entry es ≡ true
-  some_of_length [] h = absurd (omega arith)
-  some_of_length (e ∷ es) h = refl
+  spare_below : {vs : List (List Bool × X)} {cs : List (List Bool × Seen X)} {w : Seen X} (b x : List Bool) → IsNode vs cs → length b ≡ 5 → find bits_cmp b cs ≡ Some w → get (spare_set cs) (b ++ x) ≡ get (marked w) x
+  spare_below {vs} {cs} {w} b x n a f =
+      set-long n (b ++ x) (omega (arith, length-append b x, a))
+      ∙ (λ i. marked_get (find bits_cmp (take_first b x a i) cs) (drop_first b x a i))
+      ∙ ap (λ o. marked_get o x) f
 
-  -- what the next visit finds, where no node is spare
-  pub visits_some : {vs : List (List Bool × X)} {cs : List (List Bool × Seen X)} {w : Seen X} (q : List Bool) → IsNode vs cs → 5 ≤ length q → find bits_cmp (take 5 q) cs ≡ Some w → spares_below (things cs) ≡ 0
-      → (spares w ≡ 0) × (visit_count (node_map vs cs) q ≡ visit_count w.0 (drop 5 q) + 1)
-  visits_some {vs} {cs} {w} q n h g z =
-      let r = found_spare (take 5 q) w cs g in
-      let u : 1 ≤ len w.0 = spare_pos (len w.0) (omega (arith, r, z)) in
-      let some = some_of_length (entries w.0) (omega (arith, u, len-entries w.0)) in
-      let b = take 5 q in
-      let five = (front q h).0 in
-      let M = begun (node_map vs cs) in
-      let E = begun w.0 in
-      let G : (x : List Bool) → is_some (get M (take 5 q ++ x)) ≡ (same (take 5 q ++ x) (take 5 q) || is_some (get E x)) = λ x.
-      ap is_some (get-entries M (take 5 q ++ x)) ∙ begun_by (length vs + length cs) vs cs (take 5 q) w x (omega arith) n five some g
-      ∙ (λ i. same (take 5 q ++ x) (take 5 q) || sym (ap is_some (get-entries E x)) i) in
-      let L : (x : List Bool) → 5 ≤ length x → is_some (get M (take 5 q ++ x)) ≡ is_some (get E x) = λ x d.
-      G x ∙ ap (λ t. t || is_some (get E x)) (same_false (take 5 q ++ x) (take 5 q) (λ e. omega (arith, ap length e, length-append (take 5 q) x, d))) in
-      let B : is_some (get M (take 5 q)) ≡ true =
-      ap (λ y. is_some (get M y)) (sym (append_none (take 5 q))) ∙ G [] ∙ ap (λ t. t || is_some (get E [])) ((same-Decides (take 5 q ++ []) (take 5 q)).1 (append_none (take 5 q))) in
-      let e1 = ap (λ es. found_in M es) (ap fives (sym (front q h).1) ∙ fives_child (take 5 q) (drop 5 q) five) in
-      let e2 : counted (is_some (get M (take 5 q))) ≡ 1 = ap counted B in
-      let e3 = found_fives 0 (length (drop 5 q) / 5) (take 5 q) (drop 5 q) M E (omega arith) L in
-      (omega (arith, r, z), omega (arith, e1, e2, e3))
+  -- below the child, where one stands below it
+  stands_below : {vs : List (List Bool × X)} {cs : List (List Bool × Seen X)} {w : Seen X} (b x : List Bool) (h : ℕ) → IsNode vs cs → length b ≡ 5 → find bits_cmp b cs ≡ Some w → 5 ≤ length x → stands (node_seen vs cs h) (b ++ x) ≡ stands w x
+  stands_below b [] h n a f l = absurd (omega arith)
+  stands_below {w = w} b (y ∷ ys) h n a f l =
+      let x = y ∷ ys in
+      let o : same (b ++ x) b ≡ false = same_false (b ++ x) b (λ e. omega (arith, ap length e, length-append b x, l)) in
+      let e = ap (λ t. (some_entry (entries w.0) && t) || is_some (get (begun w.0) x)) o ∙ ap (λ t. t || is_some (get (begun w.0) x)) (and-false (some_entry (entries w.0))) in
+      λ i. (begun_below b x n a f ∙ e) i || is_some ((spare_below b x n a f ∙ marked-other w y ys) i)
+
+  some_or_none : (es : List (List Bool × X)) (n : ℕ) (z : Bool) → n ≡ length es → (((some_entry es && true) || z) || is_some (root_if n)) ≡ true
+  some_or_none [] zero true e = refl
+  some_or_none [] zero false e = refl
+  some_or_none [] (suc n) z e = absurd (omega arith)
+  some_or_none (o ∷ es) n z e = refl
+
+  -- the child itself, needed or spare
+  stands_child : {vs : List (List Bool × X)} {cs : List (List Bool × Seen X)} {w : Seen X} (b : List Bool) (h : ℕ) → IsNode vs cs → length b ≡ 5 → find bits_cmp b cs ≡ Some w → stands (node_seen vs cs h) b ≡ true
+  stands_child {vs} {cs} {w} b h n a f =
+      let z = is_some (get (begun w.0) []) in
+      ap (stands (node_seen vs cs h)) (sym (append_none b))
+      ∙ (λ i. begun_below b [] n a f i || is_some ((spare_below b [] n a f ∙ marked-root w) i))
+      ∙ ap (λ t. ((some_entry (entries w.0) && t) || z) || is_some (root_if (len w.0))) ((same-Decides (b ++ []) b).1 (append_none b))
+      ∙ some_or_none (entries w.0) (len w.0) z (len-entries w.0)
+
+  -- a child on the way: the node, and what is visited from the child on
+  pub visits_some : {vs : List (List Bool × X)} {cs : List (List Bool × Seen X)} {w : Seen X} (b r : List Bool) (h : ℕ) → IsNode vs cs → length b ≡ 5 → find bits_cmp b cs ≡ Some w → node_visits (node_seen vs cs h) (b ++ r) ≡ node_visits w r + 1
+  unfolding node_visits
+  visits_some {vs} {cs} {w} b r h n a f =
+      let m = node_seen vs cs h in
+      let first : counted (stands m b) ≡ 1 = ap counted (stands_child b h n a f) in
+      omega (arith, ap (standing_at m) (fives_child b r a), first, standing_fives 0 (length r / 5) b r m w (omega arith) (λ x l. stands_below b x h n a f l))
+
+  -- a string that ends in the node
+  pub visits_short : (s : Seen X) (q : List Bool) → length q < 5 → node_visits s q ≡ 1
+  unfolding node_visits
+  visits_short s q h = ap (λ es. standing_at s es + 1) (fives_short q h)
+
+  standing_tidy : (s : Seen X) (es : List (List Bool × Unit {0})) → s.1 ≡ empty → standing_at s es ≡ found_in (begun s.0) es
+  standing_tidy s [] e = refl
+  standing_tidy s (k ∷ es) e =
+      let none : stands s k.0 ≡ is_some (get (begun s.0) k.0) = (λ i. is_some (get (begun s.0) k.0) || is_some ((ap (λ b. get b k.0) e ∙ get-empty bits_cmp k.0) i)) ∙ or-false _ in
+      λ i. cond (none i) 1 0 + standing_tidy s es e i
+
+  -- where no spare node stands, the map alone says it
+  pub visits_tidy : (s : Seen X) (q : List Bool) → s.1 ≡ empty → node_visits s q ≡ visit_count s.0 q
+  unfolding node_visits
+  visits_tidy s q e = ap (λ n. n + 1) (standing_tidy s (fives q) e)

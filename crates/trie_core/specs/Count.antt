@@ -1,5 +1,5 @@
 -- The nodes that a map needs, and those that it does not.
-use Rattle.std.specs.Prelude.{ℕ, zero, suc, ◌+◌, ◌*◌, ◌/◌, length, take, cond, is_some, Bool, List, [], ◌∷◌, ◌++◌}
+use Rattle.std.specs.Prelude.{ℕ, zero, suc, ◌+◌, ◌*◌, ◌/◌, length, take, cond, is_some, ◌||◌, Bool, List, [], ◌∷◌, ◌++◌}
 use Rattle.std.specs.FinMap.{entries, from_entries, len, get, empty, insert, remove}
 use Rattle.trie_core.specs.Nodes.{BitMap, BitSet, Seen, node_map}
 
@@ -43,6 +43,19 @@ module _ {X : Type 0} where
   -- one, and the strings of positive length divisible by five that begin both q and a key
   abbrev pub visit_count : BitMap X → List Bool → ℕ
   visit_count m q = found_in (begun m) (fives q) + 1
+
+  -- whether a node stands at this string, below the root: the string begins a key and is of positive length divisible by five, or a spare node stands there
+  abbrev pub stands : Seen X → List Bool → Bool
+  stands s k = is_some (get (begun s.0) k) || is_some (get s.1 k)
+
+  -- at how many of these strings a node stands
+  abbrev pub standing_at : Seen X → List (List Bool × Unit {0}) → ℕ
+  standing_at s [] = 0
+  standing_at s (e ∷ es) = cond (stands s e.0) 1 0 + standing_at s es
+
+  -- one, and the beginnings of q of positive length divisible by five at which a node stands
+  unfoldable pub node_visits : Seen X → List Bool → ℕ
+  node_visits s q = standing_at s (fives q) + 1
 
   -- the nodes of a child, if its map is not empty
   abbrev pub nodes_if : ℕ → BitMap X → ℕ

@@ -2,7 +2,7 @@
 use Rattle.std.specs.Prelude.{ℕ, ◌+◌, ◌<◌, ◌≤◌, ◌≡◌, length, take, Bool, List, ◌++◌, Some, None}
 use Rattle.std.specs.FinMap.{get}
 use Rattle.trie_core.specs.Nodes.{BitMap, Seen}
-use Rattle.trie_core.specs.Count.{spares, visit_count}
+use Rattle.trie_core.specs.Count.{node_visits}
 
 -- no beginning of q, q itself included, is a key
 abbrev pub NoBeginning : {X : Type 0} → BitMap X → List Bool → Type 0
@@ -35,10 +35,9 @@ pub record IsLongestBelow {X : Type 0} (m : BitMap X) (q : List Bool) (high n : 
 pub record IsChild {X : Type 0} (q : List Bool) (m c : Seen X) : Type 0 where
   pub gets : (r : List Bool) → get m.0 (take 5 q ++ r) ≡ get c.0 r
   pub smaller : c.2 < m.2
-  pub tidy : spares m ≡ 0 → spares c ≡ 0
-  pub visits : spares m ≡ 0 → (r : List Bool) → visit_count m.0 (take 5 q ++ r) ≡ visit_count c.0 r + 1
+  pub visits : (r : List Bool) → node_visits m (take 5 q ++ r) ≡ node_visits c r + 1
 
 -- m holds nothing below the first five bits of q
 pub record HasNoChild {X : Type 0} (q : List Bool) (m : Seen X) : Type 0 where
   pub gets : (r : List Bool) → get m.0 (take 5 q ++ r) ≡ None
-  pub visits : visit_count m.0 q ≡ 1
+  pub visits : node_visits m q ≡ 1

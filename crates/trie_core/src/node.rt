@@ -3,7 +3,7 @@ ghost use Rattle.std.specs.Prelude.{◌≡◌, ◌+◌, ◌*◌, ◌/◌, ◌<�
 ghost use Rattle.std.specs.Option.{IsSome, option_copied};
 ghost use Rattle.std.specs.FinMap as map;
 ghost use Rattle.trie_core.specs.Nodes.{HasSlots};
-ghost use Rattle.trie_core.specs.Count.{all_nodes, spares, visit_count};
+ghost use Rattle.trie_core.specs.Count.{all_nodes, spares, visit_count, node_visits};
 ghost use Rattle.trie_core.specs.Ways.{off_way, IsPruned, IsKept};
 ghost use Rattle.trie_core.specs.Search.{IsChild, HasNoChild, NoneBelow, IsLongestBelow, NoBeginning, IsLongest, IsShortest};
 
@@ -198,7 +198,8 @@ impl<T> Node<T> {
     pub fn visits(&self, path: Path) -> u8
         requires { length path ≤ 128 }
         ensures bound { result ≤ length path / 5 + 1 }
-        ensures tidy { spares self.now ≡ 0 → result ≡ visit_count self.now.0 path }
+        ensures all { result ≡ node_visits self.now path }
+        ensures tidy { self.now.1 ≡ map.empty → result ≡ visit_count self.now.0 path }
     {
         let mut node = self;
         let mut path = path;
