@@ -266,7 +266,7 @@ module _ {X : Type 0} (lost : List Bool → Bool) where
 -- ---- all inside q went
 
 -- a string begins with itself, whatever follows
-begins_on : (q k : List Bool) → begins q (q ++ k) ≡ true
+pub begins_on : (q k : List Bool) → begins q (q ++ k) ≡ true
 begins_on q k = ap (λ w. begins w (q ++ k)) (sym (append_none q)) ∙ begins-under q [] k
 
 -- the only string of five bits or more that begins five bits or fewer

@@ -23,7 +23,7 @@ use Rattle.trie_core.proofs.Changes.{spare_insert, was_found}
 pub get-off : (b : BitSet) (q x : List Bool) → get (off_way b q) x ≡ cond (not (begins x q)) (get b x) None
 get-off b q x = get-retain_keys b (λ s. not (begins s q)) x (λ y e. ap (λ s. not (begins s q)) (sym (bits_same x y e)))
 
-no_choice : {Y : Type 0} (b : Bool) → ◌≡◌ {A = Option Y} (cond b None None) None
+pub no_choice : {Y : Type 0} (b : Bool) → ◌≡◌ {A = Option Y} (cond b None None) None
 no_choice true = refl
 no_choice false = refl
 

@@ -6,3 +6,4 @@ pub mod Same
 pub mod Lent
 pub mod Asked
 pub mod Within
+pub mod Spares

@@ -11,7 +11,8 @@ use Rattle.trie_keys.specs.Bits.{bits_cmp}
 use Rattle.trie_keys.specs.declared.key.Key as key
 use Rattle.trie_keys.specs.declared.prefix.Prefix as prefix
 use Rattle.trie_keys.proofs.Strings.{bits_total, bits_same}
-use Rattle.trie_core.specs.Nodes.{BitMap, Seen}
+use Rattle.trie_core.specs.Nodes.{BitMap, BitSet, Seen}
+use Rattle.trie_core.specs.Ways.{off_way}
 use Rattle.trie_core.specs.Lending.{with_value}
 use Rattle.trie_map.specs.declared.entry.OccupiedEntry.{OccupiedEntry}
 use Rattle.trie_map.specs.Entry.{Occupied, with_entry_value, get-written, IsWritten}
@@ -38,6 +39,10 @@ rest_kept m q w = subst (λ o. MatchOption o (with_value m q w ≡ m) (λ v. wit
 
 pub rest_same : {X : Type 0} (m : Seen X) (q : List Bool) → get m.0 q ≡ None → MatchOption (get m.0 q) (m ≡ m) (λ v. m ≡ with_value m q v)
 rest_same m q e = subst (λ o. MatchOption o (m ≡ m) (λ v. m ≡ with_value m q v)) (sym e) refl
+
+-- a key that was not there leaves no spare node on its way
+pub new_key : {X : Type 0} (m : Seen X) (q : List Bool) (b : BitSet) → get m.0 q ≡ None → b ≡ off_way m.1 q → MatchOption (get m.0 q) (b ≡ off_way m.1 q) (λ v. b ≡ m.1)
+new_key m q b e f = subst (λ o. MatchOption o (b ≡ off_way m.1 q) (λ v. b ≡ m.1)) (sym e) f
 
 module _ {X : Type 0} (m : BitMap X) (q : List Bool) where
   same_other : (x : List Bool) (v w : X) (b : Bool) (o : Option X) → cond b (Some w) (cond b (Some v) o) ≡ cond b (Some w) o

@@ -1,12 +1,13 @@
 -- What the contracts of an entry cite. The words serve its halves too, as `entry_value (Occupied o)`.
 pub use Rattle.trie_map.specs.declared.entry.Entry.TheVariants.{Occupied, Vacant}
-use Rattle.std.specs.Prelude.{◌≡◌, ◌≤◌, List, Bool, Option, Some, Result, is_some, OnErr, IsOk, cond, []}
+use Rattle.std.specs.Prelude.{◌≡◌, List, Bool, Option, Some, Result, is_some, MatchOption, OnErr, IsOk, cond, []}
 use Rattle.std.specs.Borrow.{Fml, RattleType, MutBor, follows, follows_so, name_if_ok}
 use Rattle.std.specs.FinMap.{get, insert, get-insert}
 use Rattle.std.proofs.Common.{ap, ◌∙◌}
 use mir.Syntax.{named}
 use Rattle.trie_keys.proofs.Strings.{bits_total, same-refl}
 use Rattle.trie_core.specs.Nodes.{BitMap, Seen}
+use Rattle.trie_core.specs.Ways.{off_way}
 use Rattle.trie_core.specs.Lending.{with_value}
 use Rattle.trie_keys.specs.declared.key.Key as key
 use Rattle.trie_keys.specs.declared.prefix.Prefix as prefix
@@ -57,10 +58,10 @@ module _ {P X R : Type 0} {g : prefix.Ghosts P R} {k : key.Ghosts R} where
     pub key : entry_key d ≡ entry_key e
     pub value : entry_value d ≡ Some w
 
--- n is m with w at q, and has no more spare nodes
+-- n is m with w at q; where q is new, the nodes on its way are spare no more
 pub record IsStored {X : Type 0} (m : Seen X) (q : List Bool) (w : X) (n : Seen X) : Type 0 where
   pub map : n.0 ≡ insert m.0 q w
-  pub tidy : n.1 ≤ m.1
+  pub spares : MatchOption (get m.0 q) (n.1 ≡ off_way m.1 q) (λ v. n.1 ≡ m.1)
 
 module _ (P T R : RattleType) {g : prefix.Ghosts P.Denot R.Denot} {k : key.Ghosts R.Denot} where
   -- once the borrow r ends, the map has the last value written through r at the stored key

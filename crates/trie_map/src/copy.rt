@@ -46,7 +46,7 @@ impl<P: Prefix + Drop, T: Drop> PrefixMap<P, T> {
     ) -> Result<PrefixMap<P, T>, Refused>
         requires { (it : U.IntoIter) → U.into_iter_gives items it → U.IntoIter.can_next it × IsFinite (U.IntoIter.remaining it) × HoldsAlong U.IntoIter.next_gives it (All (λ e. length (P.bits e.0) ≤ P.R.width)) }
         ensures map { IfOk result (λ m. (it : U.IntoIter) × (es : List (P × T)) × U.into_iter_gives items it × Drains U.IntoIter.next_gives it es × (m.0 ≡ inserted P.bits map.empty es)) }
-        ensures tidy { IfOk result (λ m. m.1 ≡ 0) }
+        ensures tidy { IfOk result (λ m. m.1 ≡ map.empty) }
         ensures memory { IfErr result (λ e. e ≡ Memory) }
     {
         let mut made = PrefixMap::empty(alloc);

@@ -3,7 +3,8 @@ ghost use Rattle.std.specs.Prelude.{◌≡◌, ◌+◌, ◌≤◌, length, Some,
 ghost use Rattle.std.specs.Borrow.{MutBor, sem};
 ghost use Rattle.std.specs.Map.Calls.{ModifiesValue};
 ghost use Rattle.std.specs.Option.{IsSome, option_copied, option_copied_mut, UnwrapsOrElse};
-ghost use Rattle.std.specs.FinMap.{get, remove as without_key};
+ghost use Rattle.std.specs.FinMap.{get, len, remove as without_key};
+ghost use Rattle.trie_core.specs.Ways.{IsKept};
 ghost use Rattle.trie_core.specs.Count.{nodes};
 ghost use Rattle.trie_map.specs.Refusals.{no_room};
 ghost use Rattle.trie_map.specs.declared.refused.Refused.TheVariants.{Full};
@@ -120,7 +121,8 @@ impl<'a, P: Prefix, T> OccupiedEntry<'a, P, T> {
         T: Drop,
         ensures value { entry_value (Occupied self.entry) ≡ Some result }
         ensures removed { self.exit.0.now.0 ≡ without_key (entry_map (Occupied self.entry)).0 (P.bits (entry_key (Occupied self.entry))) }
-        ensures count { nodes self.exit.0.now.0 + self.exit.0.now.1 ≡ nodes (entry_map (Occupied self.entry)).0 + (entry_map (Occupied self.entry)).1 }
+        ensures spares { IsKept (P.bits (entry_key (Occupied self.entry))) (entry_map (Occupied self.entry)).0 (entry_map (Occupied self.entry)).1 self.exit.0.now.0 self.exit.0.now.1 }
+        ensures count { nodes self.exit.0.now.0 + len self.exit.0.now.1 ≡ nodes (entry_map (Occupied self.entry)).0 + len (entry_map (Occupied self.entry)).1 }
     {
         let key = self.key;
         self.map.remove_keep_tree(&key).unwrap()

@@ -3,7 +3,8 @@ ghost use Rattle.std.specs.Prelude.{◌≡◌, ◌+◌, ◌/◌, ◌≤◌, leng
 ghost use Rattle.std.specs.Borrow.{sem};
 ghost use Rattle.std.specs.Option.{IsSome, option_copied, option_copied_mut};
 ghost use Rattle.std.specs.FinMap as map;
-ghost use Rattle.trie_core.specs.Count.{nodes, visit_count};
+ghost use Rattle.trie_core.specs.Count.{nodes, node_visits, visit_count};
+ghost use Rattle.trie_core.specs.Ways.{AreIdle, off_way, IsPruned, IsKept};
 ghost use Rattle.trie_core.specs.Search.{NoBeginning};
 ghost use Rattle.trie_map.specs.Maps.{IsLongestKey, IsShortestKey};
 ghost use Rattle.trie_map.specs.Refusals.{no_room};
@@ -34,15 +35,16 @@ impl<P: Prefix, T> Model for PrefixMap<P, T> {
     ghost use Rattle.trie_keys.specs.Bits.{bits_cmp};
     ghost use Rattle.trie_core.specs.Count.{all_nodes};
     ghost use Rattle.trie_core.specs.Nodes.{code};
+    ghost use Rattle.trie_core.specs.Ways.{AreIdle};
     ghost use Rattle.trie_map.specs.Maps.{KeysUpTo};
 
-    ghost Value = { map.FinMap bits_cmp T × ℕ × ℕ };
+    ghost Value = { map.FinMap bits_cmp T × map.FinMap bits_cmp (Unit {0}) × ℕ };
 
     ghost coded = { code T.code };
 
     ghost view = { λ a. a.root };
 
-    ghost invariant = { λ a. (a.len ≡ map.len a.root.0) × (a.nodes ≡ all_nodes a.root) × (a.root.2 ≤ 26) × KeysUpTo P.R.width a.root.0 };
+    ghost invariant = { λ a. (a.len ≡ map.len a.root.0) × (a.nodes ≡ all_nodes a.root) × (a.root.2 ≤ 26) × KeysUpTo P.R.width a.root.0 × AreIdle a.root.0 a.root.1 };
 }
 
 impl<P: Prefix, T> PrefixMap<P, T> {
@@ -52,7 +54,7 @@ impl<P: Prefix, T> PrefixMap<P, T> {
     /// None: the `Result` is for the maps that need memory at once.
     pub fn new(alloc: Global) -> Result<PrefixMap<P, T>, Refused>
         ensures map { IfOk result (λ m. m.0 ≡ map.empty) }
-        ensures tidy { IfOk result (λ m. m.1 ≡ 0) }
+        ensures tidy { IfOk result (λ m. m.1 ≡ map.empty) }
         ensures ok { IsOk result }
     {
         Ok(PrefixMap::empty(alloc))
@@ -61,7 +63,7 @@ impl<P: Prefix, T> PrefixMap<P, T> {
     /// The empty map.
     pub(crate) fn empty(alloc: Global) -> PrefixMap<P, T>
         ensures map { result.0 ≡ map.empty }
-        ensures tidy { result.1 ≡ 0 }
+        ensures tidy { result.1 ≡ map.empty }
     {
         PrefixMap {
             root: Node::new(alloc),
@@ -88,8 +90,9 @@ impl<P: Prefix, T> PrefixMap<P, T> {
     /// The number of nodes, the root included: of a tidy map one, and one for each distinct bit string of positive
     /// length divisible by five that begins a key; of another map the spare nodes too.
     pub fn node_count(&self) -> usize
-        ensures all { result ≡ nodes self.now.0 + self.now.1 }
-        ensures tidy { self.now.1 ≡ 0 → result ≡ nodes self.now.0 }
+        ensures all { result ≡ nodes self.now.0 + map.len self.now.1 }
+        ensures idle { AreIdle self.now.0 self.now.1 }
+        ensures tidy { self.now.1 ≡ map.empty → result ≡ nodes self.now.0 }
     {
         self.nodes
     }
@@ -180,7 +183,8 @@ impl<P: Prefix, T> PrefixMap<P, T> {
         requires { length (P.bits prefix.now) ≤ P.R.width }
         ensures found { MatchOption result.0 (NoBeginning self.now.0 (P.bits prefix.now)) (λ r. IsLongestKey P.bits P.of_bits self.now.0 (P.bits prefix.now) r.0 r.1.now) }
         ensures visits { result.1 ≤ length (P.bits prefix.now) / 5 + 1 }
-        ensures tidy { self.now.1 ≡ 0 → result.1 ≡ visit_count self.now.0 (P.bits prefix.now) }
+        ensures all { result.1 ≡ node_visits self.now (P.bits prefix.now) }
+        ensures tidy { self.now.1 ≡ map.empty → result.1 ≡ visit_count self.now.0 (P.bits prefix.now) }
     {
         (
             self.get_lpm(prefix),
@@ -223,7 +227,7 @@ impl<P: Prefix + Drop, T: Drop> PrefixMap<P, T> {
         requires { length (P.bits prefix) ≤ P.R.width }
         ensures old { IfOk result (λ old. old ≡ map.get self.old.0 (P.bits prefix)) }
         ensures map { OnOk result (self.new.0 ≡ map.insert self.old.0 (P.bits prefix) value) }
-        ensures tidy { OnOk result (self.new.1 ≤ self.old.1) }
+        ensures spares { OnOk result (self.new.1 ≡ off_way self.old.1 (P.bits prefix)) }
         ensures unchanged { OnErr result (self.new ≡ self.old) }
         ensures absent { OnErr result (map.get self.old.0 (P.bits prefix) ≡ None) }
         ensures full { IfErr result (λ e. e.0 ≡ Full → no_room self.old) }
@@ -251,8 +255,9 @@ impl<P: Prefix + Drop, T: Drop> PrefixMap<P, T> {
         requires { length (P.bits prefix.now) ≤ P.R.width }
         ensures value { result ≡ map.get self.old.0 (P.bits prefix.now) }
         ensures map { self.new.0 ≡ map.remove self.old.0 (P.bits prefix.now) }
-        ensures tidy { self.old.1 ≡ 0 → self.new.1 ≡ 0 }
-        ensures count { nodes self.new.0 + self.new.1 ≤ nodes self.old.0 + self.old.1 }
+        ensures spares { IsPruned (P.bits prefix.now) self.old.1 self.new.0 self.new.1 }
+        ensures tidy { self.old.1 ≡ map.empty → self.new.1 ≡ map.empty }
+        ensures count { nodes self.new.0 + map.len self.new.1 ≤ nodes self.old.0 + map.len self.old.1 }
     {
         let (value, gone) = self.root.remove(path_of(prefix));
         self.nodes -= usize::from(gone);
@@ -267,7 +272,8 @@ impl<P: Prefix + Drop, T: Drop> PrefixMap<P, T> {
         requires { length (P.bits prefix.now) ≤ P.R.width }
         ensures value { result ≡ map.get self.old.0 (P.bits prefix.now) }
         ensures map { self.new.0 ≡ map.remove self.old.0 (P.bits prefix.now) }
-        ensures count { nodes self.new.0 + self.new.1 ≡ nodes self.old.0 + self.old.1 }
+        ensures spares { IsKept (P.bits prefix.now) self.old.0 self.old.1 self.new.0 self.new.1 }
+        ensures count { nodes self.new.0 + map.len self.new.1 ≡ nodes self.old.0 + map.len self.old.1 }
     {
         let value = self.root.remove_keep_tree(path_of(prefix));
         if value.is_some() {

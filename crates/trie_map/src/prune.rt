@@ -3,6 +3,7 @@ ghost use Rattle.std.specs.Prelude.{◌≡◌, ◌+◌, ◌≤◌, length};
 ghost use Rattle.std.specs.FinMap as map;
 ghost use Rattle.trie_core.specs.Count.{nodes};
 ghost use Rattle.trie_core.specs.Inside.{outside};
+ghost use Rattle.trie_core.specs.Ways.{IsCut};
 
 use crate::map::PrefixMap;
 use trie_core::{Prefix, path_of};
@@ -11,7 +12,7 @@ impl<P: Prefix + Drop, T: Drop> PrefixMap<P, T> {
     /// Takes out every entry, and leaves the root alone. It takes no memory.
     pub fn clear(&mut self)
         ensures map { self.new.0 ≡ map.empty }
-        ensures tidy { self.new.1 ≡ 0 }
+        ensures tidy { self.new.1 ≡ map.empty }
     {
         self.root.clear();
         self.len = 0;
@@ -24,9 +25,10 @@ impl<P: Prefix + Drop, T: Drop> PrefixMap<P, T> {
     pub fn remove_children(&mut self, prefix: &P)
         requires { length (P.bits prefix.now) ≤ P.R.width }
         ensures map { self.new.0 ≡ outside self.old.0 (P.bits prefix.now) }
-        ensures tidy { self.old.1 ≡ 0 → self.new.1 ≡ 0 }
-        ensures cleared { length (P.bits prefix.now) ≡ 0 → self.new.1 ≡ 0 }
-        ensures count { nodes self.new.0 + self.new.1 ≤ nodes self.old.0 + self.old.1 }
+        ensures spares { IsCut (P.bits prefix.now) self.old.1 self.new.0 self.new.1 }
+        ensures tidy { self.old.1 ≡ map.empty → self.new.1 ≡ map.empty }
+        ensures cleared { length (P.bits prefix.now) ≡ 0 → self.new.1 ≡ map.empty }
+        ensures count { nodes self.new.0 + map.len self.new.1 ≤ nodes self.old.0 + map.len self.old.1 }
     {
         if prefix.prefix_len() == 0 {
             self.clear();

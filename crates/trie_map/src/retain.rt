@@ -1,7 +1,7 @@
 //! The entries that a closure keeps.
 ghost use Rattle.std.specs.Prelude.{◌≡◌};
 ghost use Rattle.std.specs.List.Retain.{IsFiltered};
-ghost use Rattle.std.specs.FinMap.{entries};
+ghost use Rattle.std.specs.FinMap.{empty, entries};
 ghost use Rattle.trie_map.specs.Retain.{AnswersAt};
 
 use crate::map::PrefixMap;
@@ -14,7 +14,7 @@ impl<P: Prefix + Drop, T: Drop> PrefixMap<P, T> {
     pub fn retain<F: FnMut(&P, &T) -> bool>(&mut self, f: F)
         requires { F.IsAlwaysCallable f }
         ensures kept { IsFiltered (AnswersAt F.FnMut P.of_bits) f (entries self.old.0) (entries self.new.0) }
-        ensures tidy { self.new.1 ≡ 0 }
+        ensures tidy { self.new.1 ≡ empty }
     {
         self.take_refused(f);
         self.nodes -= self.root.take_spares();

@@ -1,5 +1,5 @@
 use Rattle.std.proofs.Common.{refl}
-use Rattle.trie_map.proofs.Written.{stored_after, written_over, value_after}
+use Rattle.trie_map.proofs.Written.{new_key, stored_after, written_over, value_after}
 use Rattle.trie_map.proofs.entry.VacantEntry.insert.Goals as goal
 
 pub value_mut-requires-clause-stored : goal.value_mut-requires-clause-stored
@@ -9,7 +9,7 @@ pub returns-in-Ok : goal.returns-in-Ok
 returns-in-Ok g c =
     let e = c.in-Ok.ensures.map in
     let f = c.path_of-path.ensures.value in (
-      (refl, (λ w _. record { map = written_over c.args.self.map.now.0 _ _ c.path_of-path.result c.args.value e f w; tidy = c.in-Ok.ensures.tidy }), tt),
+      (refl, (λ w _. record { map = written_over c.args.self.map.now.0 _ _ c.path_of-path.result c.args.value e f w; spares = new_key c.args.self.map.now (g.P.Prefix.bits c.args.self.key) _ c.args.self.absent c.in-Ok.ensures.spares }), tt),
       record {
         writes_back = tt;
         value = value_after c.args.self.map.now.0 _ _ c.path_of-path.result c.args.value e f _ c.value_mut.ensures.value;

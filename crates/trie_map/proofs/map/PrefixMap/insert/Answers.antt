@@ -1,6 +1,7 @@
 use Rattle.std.proofs.Common.{◌∙◌, ap, false, true, not, length, arith}
 use Rattle.std.specs.FinMap.{len}
 use Rattle.trie_map.proofs.Entries.{one_more, keys_insert}
+use Rattle.trie_map.proofs.Spares.{idle_off}
 use Rattle.trie_map.proofs.map.PrefixMap.insert.Goals as goal
 
 pub invariant_of-self : goal.invariant_of-self
@@ -10,6 +11,7 @@ invariant_of-self g c =
       omega (arith, c.self.invariant.1, c.in-Ok.ensures.count),
       omega (arith, c.self.invariant.2, c.in-Ok.ensures.levels, c.path_of.ensures.within),
       keys_insert g.P.R.Key.width c.self.inside.root.0 _ c.path_of.result c.args.value c.self.invariant.3 (omega (arith, ap length c.path_of.ensures.value, c.requires)) c.in-Ok.ensures.map,
+      idle_off c.self.inside.root.0 _ c.self.inside.root.1 _ c.path_of.result c.args.value c.self.invariant.4 c.in-Ok.ensures.map c.in-Ok.ensures.spares,
     )
 
 pub invariant_of-self-else-is_none : goal.invariant_of-self-else-is_none
@@ -19,4 +21,5 @@ invariant_of-self-else-is_none g c =
       omega (arith, c.self.invariant.1, c.in-Ok.ensures.count),
       omega (arith, c.self.invariant.2, c.in-Ok.ensures.levels, c.path_of.ensures.within),
       keys_insert g.P.R.Key.width c.self.inside.root.0 _ c.path_of.result c.args.value c.self.invariant.3 (omega (arith, ap length c.path_of.ensures.value, c.requires)) c.in-Ok.ensures.map,
+      idle_off c.self.inside.root.0 _ c.self.inside.root.1 _ c.path_of.result c.args.value c.self.invariant.4 c.in-Ok.ensures.map c.in-Ok.ensures.spares,
     )

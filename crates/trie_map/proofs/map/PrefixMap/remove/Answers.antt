@@ -1,6 +1,8 @@
-use Rattle.std.proofs.Common.{◌∙◌, ap, sym, true, false, length, arith}
+use Rattle.std.proofs.Common.{◌+◌, ◌∙◌, ap, sym, true, false, length, arith}
 use Rattle.std.specs.FinMap.{len}
 use Rattle.trie_map.proofs.Entries.{one_less, not_empty, keys_remove}
+use Rattle.trie_map.proofs.Spares.{idle_left, fewer_removed, spares_len, tidy_left}
+use Rattle.trie_core.specs.Count.{nodes}
 use Rattle.trie_map.proofs.map.PrefixMap.remove.Goals as goal
 
 pub overflow_sub-self-then-is_some : goal.overflow_sub-self-then-is_some
@@ -15,6 +17,7 @@ invariant_of-self g c =
       omega (arith, c.self.invariant.1, c.remove-value.ensures.count, c.from.ensures),
       omega (arith, c.self.invariant.2, c.remove-value.ensures.levels),
       keys_remove g.P.R.Key.width c.self.inside.root.0 _ c.path_of.result c.self.invariant.3 (omega (arith, ap length c.path_of.ensures.value, c.requires)) c.remove-value.ensures.map,
+      idle_left (λ s. false) c.path_of.result c.self.inside.root.0 c.self.inside.root.1 c.remove-value.new.self.0 c.remove-value.new.self.1 c.self.invariant.4 (fewer_removed c.self.inside.root.0 _ c.path_of.result c.remove-value.ensures.map) c.remove-value.ensures.spares,
     )
 
 pub invariant_of-self-else-is_some : goal.invariant_of-self-else-is_some
@@ -24,4 +27,17 @@ invariant_of-self-else-is_some g c =
       omega (arith, c.self.invariant.1, c.remove-value.ensures.count, c.from.ensures),
       omega (arith, c.self.invariant.2, c.remove-value.ensures.levels),
       keys_remove g.P.R.Key.width c.self.inside.root.0 _ c.path_of.result c.self.invariant.3 (omega (arith, ap length c.path_of.ensures.value, c.requires)) c.remove-value.ensures.map,
+      idle_left (λ s. false) c.path_of.result c.self.inside.root.0 c.self.inside.root.1 c.remove-value.new.self.0 c.remove-value.new.self.1 c.self.invariant.4 (fewer_removed c.self.inside.root.0 _ c.path_of.result c.remove-value.ensures.map) c.remove-value.ensures.spares,
     )
+
+pub returns-then-is_some-clause-tidy : goal.returns-then-is_some-clause-tidy
+returns-then-is_some-clause-tidy g c = λ z. tidy_left (λ s. false) c.path_of.result c.self.inside.root.1 c.remove-value.new.self.0 c.remove-value.new.self.1 c.remove-value.ensures.spares (ap (λ m. m.1) c.self.view_is ∙ z)
+
+pub returns-then-is_some-clause-count : goal.returns-then-is_some-clause-count
+returns-then-is_some-clause-count g c = omega (arith, c.remove-value.ensures.count, spares_len c.self.inside.root c.self.invariant.4, spares_len c.remove-value.new.self (invariant_of-self g c).4, ap (λ m. nodes m.0 + len m.1) c.self.view_is)
+
+pub returns-else-is_some-clause-tidy : goal.returns-else-is_some-clause-tidy
+returns-else-is_some-clause-tidy g c = λ z. tidy_left (λ s. false) c.path_of.result c.self.inside.root.1 c.remove-value.new.self.0 c.remove-value.new.self.1 c.remove-value.ensures.spares (ap (λ m. m.1) c.self.view_is ∙ z)
+
+pub returns-else-is_some-clause-count : goal.returns-else-is_some-clause-count
+returns-else-is_some-clause-count g c = omega (arith, c.remove-value.ensures.count, spares_len c.self.inside.root c.self.invariant.4, spares_len c.remove-value.new.self (invariant_of-self-else-is_some g c).4, ap (λ m. nodes m.0 + len m.1) c.self.view_is)
