@@ -10,6 +10,7 @@ ghost use Rattle.std.specs.List.Retain.{IsFiltered};
 ghost use Rattle.trie_keys.specs.Bits.{bits_cmp, begins, is_from};
 ghost use Rattle.trie_core.specs.Count.{nodes};
 ghost use Rattle.trie_core.specs.Inside.{outside};
+ghost use Rattle.trie_core.specs.Ways.{AreIdle, off_way, IsPruned, IsCut, IsKept};
 ghost use Rattle.trie_core.specs.Search.{NoBeginning};
 ghost use Rattle.trie_map.specs.Covered.{covered_count};
 ghost use Rattle.trie_iter.specs.Iterators.{GivesKey};
@@ -39,7 +40,7 @@ impl<P: Prefix> Model for PrefixSet<P> {
     ghost use Rattle.trie_keys.specs.Bits.{bits_cmp};
     ghost use Rattle.trie_core.specs.Nodes.{code};
 
-    ghost Value = { fin.FinMap bits_cmp (Unit {0}) × ℕ × ℕ };
+    ghost Value = { fin.FinMap bits_cmp (Unit {0}) × fin.FinMap bits_cmp (Unit {0}) × ℕ };
 
     ghost coded = { code coded_unit };
 
@@ -53,7 +54,7 @@ impl<P: Prefix> PrefixSet<P> {
     /// None, as of `PrefixMap::new`.
     pub fn new(alloc: Global) -> Result<PrefixSet<P>, Refused>
         ensures set { IfOk result (λ s. s.0 ≡ fin.empty) }
-        ensures tidy { IfOk result (λ s. s.1 ≡ 0) }
+        ensures tidy { IfOk result (λ s. s.1 ≡ fin.empty) }
         ensures ok { IsOk result }
     {
         Ok(PrefixSet {
@@ -77,8 +78,9 @@ impl<P: Prefix> PrefixSet<P> {
 
     /// The number of nodes, as `PrefixMap::node_count`.
     pub fn node_count(&self) -> usize
-        ensures all { result ≡ nodes self.now.0 + self.now.1 }
-        ensures tidy { self.now.1 ≡ 0 → result ≡ nodes self.now.0 }
+        ensures all { result ≡ nodes self.now.0 + fin.len self.now.1 }
+        ensures idle { AreIdle self.now.0 self.now.1 }
+        ensures tidy { self.now.1 ≡ fin.empty → result ≡ nodes self.now.0 }
     {
         self.members.node_count()
     }
@@ -198,7 +200,7 @@ impl<P: Prefix + Drop> PrefixSet<P> {
     ) -> Result<PrefixSet<P>, Refused>
         requires { (it : U.IntoIter) → U.into_iter_gives items it → U.IntoIter.can_next it × IsFinite (U.IntoIter.remaining it) × HoldsAlong U.IntoIter.next_gives it (All (λ p. length (P.bits p) ≤ P.R.width)) }
         ensures set { IfOk result (λ s. (it : U.IntoIter) × (ps : List P) × U.into_iter_gives items it × Drains U.IntoIter.next_gives it ps × (s.0 ≡ inserted P.bits fin.empty (map (λ p. (p, tt)) ps))) }
-        ensures tidy { IfOk result (λ s. s.1 ≡ 0) }
+        ensures tidy { IfOk result (λ s. s.1 ≡ fin.empty) }
         ensures memory { IfErr result (λ e. e ≡ Memory) }
     {
         let mut rest = items.into_iter();
@@ -220,7 +222,8 @@ impl<P: Prefix + Drop> PrefixSet<P> {
         requires { length (P.bits prefix) ≤ P.R.width }
         ensures new { IfOk result (λ new. new ≡ not (fin.contains_key self.old.0 (P.bits prefix))) }
         ensures set { OnOk result (self.new.0 ≡ fin.insert self.old.0 (P.bits prefix) tt) }
-        ensures tidy { OnOk result (self.new.1 ≤ self.old.1) }
+        ensures spares { OnOk result (self.new.1 ≡ off_way self.old.1 (P.bits prefix)) }
+        ensures tidy { OnOk result (self.old.1 ≡ fin.empty → self.new.1 ≡ fin.empty) }
         ensures unchanged { OnErr result (self.new ≡ self.old) }
         ensures absent { OnErr result (fin.contains_key self.old.0 (P.bits prefix) ≡ false) }
         ensures full { IfErr result (λ e. e ≡ Full → no_room self.old) }
@@ -237,8 +240,9 @@ impl<P: Prefix + Drop> PrefixSet<P> {
         requires { length (P.bits prefix.now) ≤ P.R.width }
         ensures member { result ≡ fin.contains_key self.old.0 (P.bits prefix.now) }
         ensures set { self.new.0 ≡ fin.remove self.old.0 (P.bits prefix.now) }
-        ensures tidy { self.old.1 ≡ 0 → self.new.1 ≡ 0 }
-        ensures count { nodes self.new.0 + self.new.1 ≤ nodes self.old.0 + self.old.1 }
+        ensures spares { IsPruned (P.bits prefix.now) self.old.1 self.new.0 self.new.1 }
+        ensures tidy { self.old.1 ≡ fin.empty → self.new.1 ≡ fin.empty }
+        ensures count { nodes self.new.0 + fin.len self.new.1 ≤ nodes self.old.0 + fin.len self.old.1 }
     {
         self.members.remove(prefix).is_some()
     }
@@ -248,7 +252,8 @@ impl<P: Prefix + Drop> PrefixSet<P> {
         requires { length (P.bits prefix.now) ≤ P.R.width }
         ensures member { result ≡ fin.contains_key self.old.0 (P.bits prefix.now) }
         ensures set { self.new.0 ≡ fin.remove self.old.0 (P.bits prefix.now) }
-        ensures count { nodes self.new.0 + self.new.1 ≡ nodes self.old.0 + self.old.1 }
+        ensures spares { IsKept (P.bits prefix.now) self.old.0 self.old.1 self.new.0 self.new.1 }
+        ensures count { nodes self.new.0 + fin.len self.new.1 ≡ nodes self.old.0 + fin.len self.old.1 }
     {
         self.members.remove_keep_tree(prefix).is_some()
     }
@@ -256,7 +261,7 @@ impl<P: Prefix + Drop> PrefixSet<P> {
     /// Takes out every member. It takes no memory.
     pub fn clear(&mut self)
         ensures set { self.new.0 ≡ fin.empty }
-        ensures tidy { self.new.1 ≡ 0 }
+        ensures tidy { self.new.1 ≡ fin.empty }
     {
         self.members.clear();
     }
@@ -266,9 +271,10 @@ impl<P: Prefix + Drop> PrefixSet<P> {
     pub fn remove_children(&mut self, prefix: &P)
         requires { length (P.bits prefix.now) ≤ P.R.width }
         ensures set { self.new.0 ≡ outside self.old.0 (P.bits prefix.now) }
-        ensures tidy { self.old.1 ≡ 0 → self.new.1 ≡ 0 }
-        ensures cleared { length (P.bits prefix.now) ≡ 0 → self.new.1 ≡ 0 }
-        ensures count { nodes self.new.0 + self.new.1 ≤ nodes self.old.0 + self.old.1 }
+        ensures spares { IsCut (P.bits prefix.now) self.old.1 self.new.0 self.new.1 }
+        ensures tidy { self.old.1 ≡ fin.empty → self.new.1 ≡ fin.empty }
+        ensures cleared { length (P.bits prefix.now) ≡ 0 → self.new.1 ≡ fin.empty }
+        ensures count { nodes self.new.0 + fin.len self.new.1 ≤ nodes self.old.0 + fin.len self.old.1 }
     {
         self.members.remove_children(prefix);
     }
@@ -278,7 +284,7 @@ impl<P: Prefix + Drop> PrefixSet<P> {
     pub fn retain<F: FnMut(&P) -> bool>(&mut self, f: F)
         requires { F.IsAlwaysCallable f }
         ensures kept { IsFiltered (λ g k. CalledAt F.FnMut g (P.of_bits k)) f (fin.keys self.old.0) (fin.keys self.new.0) }
-        ensures tidy { self.new.1 ≡ 0 }
+        ensures tidy { self.new.1 ≡ fin.empty }
     {
         let mut f = f;
         self.members.retain(move |prefix, _| f(prefix));

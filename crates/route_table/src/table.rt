@@ -34,6 +34,7 @@ pub struct RouteTable {
 
 impl Model for RouteTable {
     ghost use Rattle.std.specs.Prelude.{List, ◌≡◌};
+    ghost use Rattle.std.specs.FinMap.{empty};
     ghost use Rattle.route_table.specs.Tables.{Route};
     ghost use Rattle.route_table.specs.Stored.{maps_of, table_of, AreStored};
 
@@ -41,7 +42,7 @@ impl Model for RouteTable {
 
     ghost view = { λ a. table_of (maps_of a.v4.0 a.v6.0) };
 
-    ghost invariant = { λ a. AreStored (maps_of a.v4.0 a.v6.0) × (a.v4.1 ≡ 0) × (a.v6.1 ≡ 0) };
+    ghost invariant = { λ a. AreStored (maps_of a.v4.0 a.v6.0) × (a.v4.1 ≡ empty) × (a.v6.1 ≡ empty) };
 }
 
 /// The number of a hop.

@@ -228,6 +228,7 @@ impl<P: Prefix + Drop, T: Drop> PrefixMap<P, T> {
         ensures old { IfOk result (λ old. old ≡ map.get self.old.0 (P.bits prefix)) }
         ensures map { OnOk result (self.new.0 ≡ map.insert self.old.0 (P.bits prefix) value) }
         ensures spares { OnOk result (self.new.1 ≡ off_way self.old.1 (P.bits prefix)) }
+        ensures tidy { OnOk result (self.old.1 ≡ map.empty → self.new.1 ≡ map.empty) }
         ensures unchanged { OnErr result (self.new ≡ self.old) }
         ensures absent { OnErr result (map.get self.old.0 (P.bits prefix) ≡ None) }
         ensures full { IfErr result (λ e. e.0 ≡ Full → no_room self.old) }

@@ -17,5 +17,5 @@ insert-requires g c =
 pub item-preserved : goal.item-preserved
 item-preserved g c = record {
   set = c.in-Ok.ensures.set ∙ ap (λ m. insert m (g.P.Prefix.bits c.in-Some.prefix) tt) c.item.invariant.set ∙ sym (taken_last g.P.Prefix.bits empty c.item.yielded c.in-Some.prefix);
-  tidy = omega (arith, c.in-Ok.ensures.tidy, c.item.invariant.tidy);
+  tidy = c.in-Ok.ensures.tidy c.item.invariant.tidy;
 }

@@ -17,7 +17,7 @@ returns-in-Err-clause-absent c = sym (ap (λ M. is_stored M (block_of Ipv4 c.arg
 pub invariant_of-self-2 : goal.invariant_of-self-2
 invariant_of-self-2 c =
     let s = stored_hop _ _ (block_of Ipv4 c.args.net) (kept_v6 _ _ _) c.self.invariant.0 (block_is Ipv4 c.args.net c.trunc.ensures.network) c.args.hop c.requires _ (same_bits Ipv4 c.args.net _ c.trunc.ensures.value) c.in-Ok.ensures.map in
-    (s.0, omega (arith, c.in-Ok.ensures.tidy, c.self.invariant.1), c.self.invariant.2)
+    (s.0, c.in-Ok.ensures.tidy c.self.invariant.1, c.self.invariant.2)
 
 pub returns-clause-routes : goal.returns-clause-routes
 returns-clause-routes c =

@@ -4,7 +4,6 @@ use Rattle.std.specs.FinMap.{empty, insert}
 use Rattle.std.proofs.iter.Next.{Yields-more}
 use Rattle.std.proofs.lemmas.List.Elements.{All-pop}
 use Rattle.trie_map.proofs.Same.{inserted_last}
-use Rattle.trie_core.proofs.Ways.{off_none}
 use Rattle.trie_map.proofs.map.PrefixMap.try_from_iter.Goals as goal
 
 pub insert-requires : goal.insert-requires
@@ -18,5 +17,5 @@ insert-requires g c =
 pub loop-prefix-preserved : goal.loop-prefix-preserved
 loop-prefix-preserved g c = record {
   map = c.in-Ok.ensures.map ∙ ap (λ m. insert m (g.P.Prefix.bits c.in-Some.prefix) c.in-Some.value) c.loop-prefix.invariant.map ∙ sym (inserted_last g.P.Prefix.bits empty c.loop-prefix.yielded (c.in-Some.prefix, c.in-Some.value));
-  tidy = c.in-Ok.ensures.spares ∙ off_none c.loop-prefix.made.1 (g.P.Prefix.bits c.in-Some.prefix) c.loop-prefix.invariant.tidy;
+  tidy = c.in-Ok.ensures.tidy c.loop-prefix.invariant.tidy;
 }
