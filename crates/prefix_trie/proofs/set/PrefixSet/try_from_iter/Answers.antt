@@ -1,4 +1,4 @@
-use Rattle.std.proofs.Common.{[], ◌∷◌, ◌++◌, ◌≤◌, ◌∙◌, length, refl, sym, ap, arith}
+use Rattle.std.proofs.Common.{[], ◌∷◌, ◌++◌, ◌≤◌, ◌∙◌, length, refl, sym, ap}
 use Rattle.std.specs.declared.option.Option.TheVariants.{Some}
 use Rattle.std.specs.FinMap.{empty, insert}
 use Rattle.std.proofs.iter.Next.{Yields-more}

@@ -1,4 +1,4 @@
-use Rattle.std.proofs.Common.{◌∙◌, sym, ap, arith}
+use Rattle.std.proofs.Common.{◌∙◌, sym, ap}
 use Rattle.std.specs.Prelude.{is_some}
 use Rattle.ipnet_addr.specs.Addresses.{Ipv6}
 use Rattle.ipnet_blocks.specs.Networks.{block_of}
