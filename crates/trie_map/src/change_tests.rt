@@ -93,3 +93,24 @@ fn tidies(rt: HostRuntime) {
     assert_eq!(rt; map.node_count(), 2);
     assert_eq!(rt; map.get(&(0x0a00_0000, 8)).copied(), Some(1));
 }
+
+#[test]
+fn prunes_the_way_alone(rt: HostRuntime) {
+    let mut map: PrefixMap<(u32, u8), u32> = PrefixMap::new(rt.alloc()).expect(&rt, "a map");
+    assert!(rt; map.insert((0x0a00_0000, 8), 1).is_ok());
+    assert!(rt; map.insert((0x0a01_0000, 16), 2).is_ok());
+    assert!(rt; map.insert((0x0a02_0000, 16), 3).is_ok());
+    assert_eq!(rt; map.remove_keep_tree(&(0x0a01_0000, 16)), Some(2));
+    assert_eq!(rt; map.remove_keep_tree(&(0x0a02_0000, 16)), Some(3));
+    assert_eq!(rt; map.node_count(), 5);
+    assert_eq!(rt; map.get_lpm_visits(&(0x0a01_0000, 16)).1, 4);
+    assert_eq!(rt; map.remove(&(0x0a01_0000, 16)), None);
+    assert_eq!(rt; map.node_count(), 4);
+    assert_eq!(rt; map.get_lpm_visits(&(0x0a01_0000, 16)).1, 3);
+    assert_eq!(rt; map.get_lpm_visits(&(0x0a02_0000, 16)).1, 4);
+    map.remove_children(&(0x0a04_0000, 16));
+    assert_eq!(rt; map.node_count(), 4);
+    map.remove_children(&(0x0a02_0000, 16));
+    assert_eq!(rt; map.node_count(), 2);
+    assert_eq!(rt; map.get(&(0x0a00_0000, 8)).copied(), Some(1));
+}
