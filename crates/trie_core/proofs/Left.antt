@@ -42,7 +42,26 @@ first_of b h = by (entries b) refl
     by [] e = absurd (h (len-entries b ∙ ap length e))
     by (x ∷ es) e = (x.0, ap is_some (get-entries b x.0 ∙ ap (find bits_cmp x.0) e ∙ ap (λ s. cond s (Some x.1) (find bits_cmp x.0 es)) (same-refl x.0)))
 
--- ---- strings that begin with the first five bits of q
+-- ---- strings that begin with the first five bits of q, or not
+
+at_first : (q s : List Bool) → 5 ≤ length s → same (take 5 s) (take 5 q) ≡ true → take 5 q ++ drop 5 s ≡ s
+at_first q s l e = ap (λ w. w ++ drop 5 s) (sym ((same-Decides (take 5 s) (take 5 q)).0 e)) ∙ (front s l).1
+
+module _ (P : List Bool → Type 0) (q : List Bool) (short : (s : List Bool) → length s < 5 → P s) (under : (r : List Bool) → P (take 5 q ++ r)) (elsewhere : (s : List Bool) → 5 ≤ length s → same (take 5 s) (take 5 q) ≡ false → P s) where
+  each_long : (s : List Bool) → 5 ≤ length s → (b : Bool) → same (take 5 s) (take 5 q) ≡ b → P s
+  each_long s l true e = subst P (at_first q s l e) (under (drop 5 s))
+  each_long s l false e = elsewhere s l e
+
+  each_by : (s : List Bool) (b : Bool) → nat_lt (length s) 5 ≡ b → P s
+  each_by s true e = short s (grind (arith, nat_tests))
+  each_by s false e = each_long s (grind (arith, nat_tests)) (same (take 5 s) (take 5 q)) refl
+
+  -- what holds of short strings, of those under the first five bits of q and of those under others holds of each
+  pub each_string : (s : List Bool) → P s
+  each_string s = each_by s (nat_lt (length s) 5) refl
+
+pub off_way_there : (q s : List Bool) → 5 ≤ length s → same (take 5 s) (take 5 q) ≡ false → begins s q ≡ false
+off_way_there q s l e = begins_elsewhere s q l (same_false (take 5 q) (take 5 s) (λ p. not_same e (sym p)))
 
 pub under_long : (q r : List Bool) → 5 ≤ length q → 5 ≤ length (take 5 q ++ r)
 under_long q r h = omega (arith, length-append (take 5 q) r, (front q h).0)
@@ -195,37 +214,17 @@ module _ {X : Type 0} (lost : List Bool → Bool) where
           }),
     )
 
-    at_end : (s : List Bool) → 5 ≤ length s → same (take 5 s) (take 5 q) ≡ true → take 5 q ++ drop 5 s ≡ s
-    at_end s l e = ap (λ w. w ++ drop 5 s) (sym ((same-Decides (take 5 s) (take 5 q)).0 e)) ∙ (front s l).1
-
-    off_way_there : (s : List Bool) → 5 ≤ length s → same (take 5 s) (take 5 q) ≡ false → begins s q ≡ false
-    off_way_there s l e = begins_elsewhere s q l (same_false (take 5 q) (take 5 s) (λ p. not_same e (sym p)))
-
-    off_by : (s : List Bool) → begins s q ≡ false → 5 ≤ length s → (b : Bool) → same (take 5 s) (take 5 q) ≡ b → get (spare_set ds) s ≡ cond (lost s) None (get (spare_set cs) s)
-    off_by s b l true e = subst (λ w. begins w q ≡ false → get (spare_set ds) w ≡ cond (lost w) None (get (spare_set cs) w)) (at_end s l e) (in_off (drop 5 s)) b
-    off_by s b l false e =
+    off_elsewhere : (s : List Bool) → 5 ≤ length s → same (take 5 s) (take 5 q) ≡ false → get (spare_set ds) s ≡ cond (lost s) None (get (spare_set cs) s)
+    off_elsewhere s l e =
         set-changed cs q o k c s l ∙ ap (λ t. marked_get (cond t o (find bits_cmp (take 5 s) cs)) (drop 5 s)) e
         ∙ sym (set-long n s l)
         ∙ sym (ap (λ t. cond t None (get (spare_set cs) s)) (elsewhere s l e))
 
-    on_by : (s : List Bool) → begins s q ≡ true → 5 ≤ length s → (b : Bool) → same (take 5 s) (take 5 q) ≡ b → (is_some (get (spare_set ds) s) ≡ true) ↔ (IsIdle (node_map us ds) s × LeadsOff lost (spare_set cs) q s)
-    on_by s b l true e = subst (λ w. begins w q ≡ true → (is_some (get (spare_set ds) w) ≡ true) ↔ (IsIdle (node_map us ds) w × LeadsOff lost (spare_set cs) q w)) (at_end s l e) (in_on (drop 5 s)) b
-    on_by s b l false e = absurd (no_false (off_way_there s l e) b)
-
-    off_all : (s : List Bool) → begins s q ≡ false → (b : Bool) → nat_lt (length s) 5 ≡ b → get (spare_set ds) s ≡ cond (lost s) None (get (spare_set cs) s)
-    off_all s b true e =
-        let l : length s < 5 = grind (arith, nat_tests) in
-        set-short k s l ∙ either_none (lost s) ∙ ap (cond (lost s) None) (sym (set-short n s l))
-    off_all s b false e = off_by s b (grind (arith, nat_tests)) _ refl
-
-    on_all : (s : List Bool) → begins s q ≡ true → (b : Bool) → nat_lt (length s) 5 ≡ b → (is_some (get (spare_set ds) s) ≡ true) ↔ (IsIdle (node_map us ds) s × LeadsOff lost (spare_set cs) q s)
-    on_all s b true e =
-        let l : length s < 5 = grind (arith, nat_tests) in
-        (λ t. absurd (none_found (set-short k s l) t), λ t. absurd (omega (arith, t.0.below, l)))
-    on_all s b false e = on_by s b (grind (arith, nat_tests)) _ refl
-
     pub left_node : IsLeft lost q (spare_set cs) (node_map us ds) (spare_set ds)
-    left_node = record { off = λ s b. off_all s b (nat_lt (length s) 5) refl; on = λ s b. on_all s b (nat_lt (length s) 5) refl }
+    left_node = record {
+      off = each_string (λ s. begins s q ≡ false → get (spare_set ds) s ≡ cond (lost s) None (get (spare_set cs) s)) q (λ s l b. set-short k s l ∙ either_none (lost s) ∙ ap (cond (lost s) None) (sym (set-short n s l))) in_off (λ s l e b. off_elsewhere s l e);
+      on = each_string (λ s. begins s q ≡ true → (is_some (get (spare_set ds) s) ≡ true) ↔ (IsIdle (node_map us ds) s × LeadsOff lost (spare_set cs) q s)) q (λ s l b. (λ t. absurd (none_found (set-short k s l) t), λ t. absurd (omega (arith, t.0.below, l)))) in_on (λ s l e b. absurd (no_false (off_way_there q s l e) b));
+    }
 
   -- ---- a node that was seen as m
 
@@ -325,24 +324,25 @@ module _ {X : Type 0} where
 
   -- the child at five bits goes
   out_at : {vs us : List (List Bool × X)} {cs ds : List (List Bool × Seen X)} (q : List Bool) → IsNode vs cs → IsNode us ds → length q ≡ 5 → ListChanges cs (take 5 q) None ds → spare_set ds ≡ outside (spare_set cs) q
-  out_at {cs = cs} {ds = ds} q n k h c = same_map bits_total bits_same _ _ (λ x. by x (nat_lt (length x) 5) refl ∙ sym (get-outside (spare_set cs) q x))
+  out_at {cs = cs} {ds = ds} q n k h c = same_map bits_total bits_same _ _ (λ x.
+      each_string (λ x. get (spare_set ds) x ≡ cond (not (begins q x)) (get (spare_set cs) x) None) q (λ x l. set-short k x l ∙ either_none (not (begins q x)) ∙ ap (λ o. cond (not (begins q x)) o None) (sym (set-short n x l))) under other x
+      ∙ sym (get-outside (spare_set cs) q x))
     where
       first : take 5 q ≡ q
       first = ap (λ i. take i q) (sym h) ∙ take-length q
 
-      long : (x : List Bool) → 5 ≤ length x → (b : Bool) → same (take 5 x) (take 5 q) ≡ b → marked_get (cond b None (find bits_cmp (take 5 x) cs)) (drop 5 x) ≡ cond (not (begins q x)) (marked_get (find bits_cmp (take 5 x) cs) (drop 5 x)) None
-      long x l true e =
-          let z : begins q x ≡ true = ap (begins q) (sym (front x l).1 ∙ ap (λ w. w ++ drop 5 x) ((same-Decides (take 5 x) (take 5 q)).0 e ∙ first)) ∙ begins_on q (drop 5 x) in
-          ap (λ b. cond (not b) (marked_get (find bits_cmp (take 5 x) cs) (drop 5 x)) None) (sym z)
-      long x l false e = ap (λ b. cond (not b) (marked_get (find bits_cmp (take 5 x) cs) (drop 5 x)) None) (sym (begins_elsewhere q x (omega (arith, h)) e))
+      five : 5 ≤ length q
+      five = omega (arith, h)
 
-      by : (x : List Bool) (b : Bool) → nat_lt (length x) 5 ≡ b → get (spare_set ds) x ≡ cond (not (begins q x)) (get (spare_set cs) x) None
-      by x true e =
-          let l : length x < 5 = grind (arith, nat_tests) in
-          set-short k x l ∙ either_none (not (begins q x)) ∙ ap (λ o. cond (not (begins q x)) o None) (sym (set-short n x l))
-      by x false e =
-          let l : 5 ≤ length x = grind (arith, nat_tests) in
-          set-changed cs q None k c x l ∙ long x l _ refl ∙ ap (λ o. cond (not (begins q x)) o None) (sym (set-long n x l))
+      under : (r : List Bool) → get (spare_set ds) (take 5 q ++ r) ≡ cond (not (begins q (take 5 q ++ r))) (get (spare_set cs) (take 5 q ++ r)) None
+      under r =
+          let z : begins q (take 5 q ++ r) ≡ true = ap (λ w. begins q (w ++ r)) first ∙ begins_on q r in
+          spare_under k q r five ∙ ap (λ o. marked_get o r) (found_changed cs ds q None c) ∙ ap (λ b. cond (not b) (get (spare_set cs) (take 5 q ++ r)) None) (sym z)
+
+      other : (x : List Bool) → 5 ≤ length x → same (take 5 x) (take 5 q) ≡ false → get (spare_set ds) x ≡ cond (not (begins q x)) (get (spare_set cs) x) None
+      other x l e =
+          set-changed cs q None k c x l ∙ ap (λ t. marked_get (cond t None (find bits_cmp (take 5 x) cs)) (drop 5 x)) e ∙ sym (set-long n x l)
+          ∙ ap (λ b. cond (not b) (get (spare_set cs) x) None) (sym (begins_elsewhere q x five e))
 
   pub out_child : {vb at b : ℕ} {vs : List X} {cb : ℕ} {cs ds : List (Seen X)} {m : Seen X} (q : List Bool) → IsSeen vb vs cb cs m → length q ≡ 5 → IsTaken (child_of q) at cb cs → b ≡ 2 ^ child_of q → ds ≡ remove_at cs at → spare_set (child_list (cb - b) ds) ≡ outside m.1 q
   out_child {vb} {at} {b} {vs} {cb} {cs} {ds} q s h t k l =

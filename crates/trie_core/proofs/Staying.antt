@@ -1,9 +1,8 @@
 -- The spare nodes as a key goes below a node, and every node stays.
 use Rattle.std.proofs.Common.{◌≡◌, ◌%◌, ◌<◌, ◌≤◌, inl, inr, Bool, true, false, cond, List, [], ◌∷◌, ◌++◌, ℕ, length, take, drop, get_or, set, refl, sym, ap, subst, ◌∙◌, arith}
-use Rattle.std.specs.Prelude.{nat_lt, Option, Some, None, is_some, ◌↔◌, ◌⊎◌}
+use Rattle.std.specs.Prelude.{Option, Some, None, is_some, ◌↔◌, ◌⊎◌}
 use Rattle.std.specs.FinMap.{get, len, find}
 use Rattle.std.specs.FinMap as map
-use Rattle.std.proofs.lemmas.Bool.Decides.{nat_tests}
 use Rattle.std.proofs.lemmas.List.{append_assoc}
 use Rattle.std.proofs.Math.ListN.{length-append}
 use Rattle.trie_keys.specs.Bits.{bits_cmp, begins, child_of}
@@ -11,15 +10,14 @@ use Rattle.trie_core.specs.Places.{child_list}
 use Rattle.trie_core.specs.Nodes.{BitMap, BitSet, Seen, node_map, IsNode}
 use Rattle.trie_core.specs.Count.{marked, spare_set}
 use Rattle.trie_core.specs.Ways.{IsIdle, IsKept}
-use Rattle.trie_keys.proofs.Strings.{same, same-Decides, same_false, not_same, no_false, front, begins_take}
+use Rattle.trie_keys.proofs.Strings.{same, no_false, front, begins_take}
 use Rattle.trie_core.proofs.Maps.{ListChanges, child_get, remove_absent}
 use Rattle.trie_core.proofs.Marks.{marked_get, marked-other, marked-root, root_if, set-short, set-long, set-changed}
 use Rattle.trie_core.proofs.Named.{is_node, child_put_in}
 use Rattle.trie_core.proofs.Taken.{IsTaken}
 use Rattle.trie_core.proofs.Seen.{IsSeen, map_of}
 use Rattle.trie_core.proofs.Changes.{was_found}
-use Rattle.trie_core.proofs.Inside.{begins_elsewhere}
-use Rattle.trie_core.proofs.Left.{none_found, no_keys, root_none, under_long, begins_under_first, found_changed, spare_under, map_under}
+use Rattle.trie_core.proofs.Left.{each_string, off_way_there, none_found, no_keys, root_none, under_long, begins_under_first, found_changed, spare_under, map_under}
 
 module _ {X : Type 0} where
   root_some : (m : BitMap X) → len m ≡ 0 → is_some (root_if (len m)) ≡ true
@@ -92,40 +90,27 @@ module _ {X : Type 0} where
     in_off : (r : List Bool) → begins (take 5 q ++ r) q ≡ false → get (spare_set ds) (take 5 q ++ r) ≡ get (spare_set cs) (take 5 q ++ r)
     in_off r b = new_at r ∙ still_off (drop 5 q) e d gone kept r (sym (begins_under_first q r h) ∙ b) ∙ sym (old_at r)
 
-    at_end : (s : List Bool) → 5 ≤ length s → same (take 5 s) (take 5 q) ≡ true → take 5 q ++ drop 5 s ≡ s
-    at_end s l e = ap (λ w. w ++ drop 5 s) (sym ((same-Decides (take 5 s) (take 5 q)).0 e)) ∙ (front s l).1
-
-    off_by : (s : List Bool) → begins s q ≡ false → 5 ≤ length s → (b : Bool) → same (take 5 s) (take 5 q) ≡ b → get (spare_set ds) s ≡ get (spare_set cs) s
-    off_by s b l true e = subst (λ w. begins w q ≡ false → get (spare_set ds) w ≡ get (spare_set cs) w) (at_end s l e) (in_off (drop 5 s)) b
-    off_by s b l false e =
+    off_elsewhere : (s : List Bool) → 5 ≤ length s → same (take 5 s) (take 5 q) ≡ false → get (spare_set ds) s ≡ get (spare_set cs) s
+    off_elsewhere s l e =
         set-changed cs q (Some d) k c s l ∙ ap (λ t. marked_get (cond t (Some d) (find bits_cmp (take 5 s) cs)) (drop 5 s)) e ∙ sym (set-long n s l)
 
     abbrev On : List Bool → Type 0
     On s = begins s q ≡ true → (is_some (get (spare_set ds) s) ≡ true) ↔ ((is_some (get (spare_set cs) s) ≡ true) ⊎ ((is_some (get (node_map vs cs) q) ≡ true) × IsIdle (node_map us ds) s))
 
-    on_by : (s : List Bool) → 5 ≤ length s → (b : Bool) → same (take 5 s) (take 5 q) ≡ b → On s
-    on_by s l true e = subst On (at_end s l e) (in_on (drop 5 s))
-    on_by s l false e = λ b. absurd (no_false (begins_elsewhere s q l (same_false (take 5 q) (take 5 s) (λ p. not_same e (sym p)))) b)
-
-    off_all : (s : List Bool) → begins s q ≡ false → (b : Bool) → nat_lt (length s) 5 ≡ b → get (spare_set ds) s ≡ get (spare_set cs) s
-    off_all s b true e =
-        let l : length s < 5 = grind (arith, nat_tests) in
-        set-short k s l ∙ sym (set-short n s l)
-    off_all s b false e = off_by s b (grind (arith, nat_tests)) _ refl
-
-    on_all : (s : List Bool) → (b : Bool) → nat_lt (length s) 5 ≡ b → On s
-    on_all s true e = λ b.
-        let l : length s < 5 = grind (arith, nat_tests) in (
-          λ t. absurd (none_found (set-short k s l) t),
-          λ t. elim t [
-            | inl a ↦ absurd (none_found (set-short n s l) a)
-            | inr a ↦ absurd (omega (arith, a.1.below, l))
-          ],
-        )
-    on_all s false e = on_by s (grind (arith, nat_tests)) _ refl
+    on_short : (s : List Bool) → length s < 5 → On s
+    on_short s l b = (
+      λ t. absurd (none_found (set-short k s l) t),
+      λ t. elim t [
+        | inl a ↦ absurd (none_found (set-short n s l) a)
+        | inr a ↦ absurd (omega (arith, a.1.below, l))
+      ],
+    )
 
     pub kept_node : IsKept q (node_map vs cs) (spare_set cs) (node_map us ds) (spare_set ds)
-    kept_node = record { off = λ s b. off_all s b (nat_lt (length s) 5) refl; on = λ s b. on_all s (nat_lt (length s) 5) refl b }
+    kept_node = record {
+      off = each_string (λ s. begins s q ≡ false → get (spare_set ds) s ≡ get (spare_set cs) s) q (λ s l b. set-short k s l ∙ sym (set-short n s l)) in_off (λ s l e b. off_elsewhere s l e);
+      on = each_string On q on_short in_on (λ s l e b. absurd (no_false (off_way_there q s l e) b));
+    }
 
   -- ---- a node that was seen as m
 

@@ -177,8 +177,8 @@ impl<P: Prefix, T> PrefixMap<P, T> {
         self.root.shortest(path_of(prefix)).is_some()
     }
 
-    /// What `get_lpm` answers, and how many nodes the search visited: in a tidy map one, and one for each bit
-    /// string of positive length divisible by five that begins both the asked prefix and a key.
+    /// What `get_lpm` answers, and how many nodes the search visited: one, and one for each beginning of the asked
+    /// prefix of positive length divisible by five at which a node stands. In a tidy map these begin a key too.
     pub fn get_lpm_visits(&self, prefix: &P) -> (Option<(P, &T)>, u32)
         requires { length (P.bits prefix.now) ≤ P.R.width }
         ensures found { MatchOption result.0 (NoBeginning self.now.0 (P.bits prefix.now)) (λ r. IsLongestKey P.bits P.of_bits self.now.0 (P.bits prefix.now) r.0 r.1.now) }
