@@ -146,7 +146,7 @@ module _ {X : Type 0} where
       let k : not (eq_by_cmp nat_cmp m n) ≡ true = grind (arith, nat_tests) in
       ap (λ b. cond b ((n, x) ∷ without m es) (without m es)) k
 
-  without_front : (n : ℕ) (x : X) (es : List (ℕ × X)) → T (below_all nat_cmp n es) → without n ((n, x) ∷ es) ≡ es
+  pub without_front : (n : ℕ) (x : X) (es : List (ℕ × X)) → T (below_all nat_cmp n es) → without n ((n, x) ∷ es) ≡ es
   without_front n x es h =
       let k : not (eq_by_cmp nat_cmp n n) ≡ false = grind (arith, nat_tests) in
       ap (λ b. cond b ((n, x) ∷ without n es) (without n es)) k ∙ keep_all n n es (omega arith) h

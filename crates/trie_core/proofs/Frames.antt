@@ -1,5 +1,5 @@
 -- What is left of a node: what stands first in it, and what a search leaves of it.
-use Rattle.std.proofs.Common.{◌≡◌, ℕ, ◌+◌, ◌-◌, ◌*◌, ◌/◌, ◌^◌, leb, ◌<◌, ◌≤◌, Bool, true, false, cond, not, ◌&&◌, List, [], ◌∷◌, ◌++◌, length, take, drop, refl, sym, ap, subst, ◌∙◌, arith}
+use Rattle.std.proofs.Common.{◌≡◌, ℕ, ◌+◌, ◌-◌, ◌*◌, ◌/◌, ◌^◌, leb, ◌<◌, ◌≤◌, Bool, true, false, cond, not, ◌&&◌, List, [], ◌∷◌, ◌++◌, length, drop, refl, sym, ap, subst, ◌∙◌, arith}
 use Rattle.std.specs.Prelude.{Option, Some, None, max, nat_lt}
 use Rattle.std.specs.declared.cmp.Ordering.{Ordering}
 use Rattle.std.specs.declared.cmp.Ordering.TheVariants.{Equal}
@@ -9,19 +9,19 @@ use Rattle.std.specs.FinMap.{find, entries, get, get-entries, entries_sorted}
 use Rattle.std.specs.FinMap.Entries.{where_key, find-where_key, is_sorted-where_key, same_entries}
 use Rattle.std.proofs.lemmas.List.{append_assoc}
 use Rattle.std.proofs.Math.ListN.{length-append}
-use Rattle.trie_keys.specs.Bits.{bits_cmp, begins, place_of, child_of, place_string, child_string, is_past, is_from}
+use Rattle.trie_keys.specs.Bits.{bits_cmp, begins, place_of, child_of, place_string, child_string}
 use Rattle.ipnet_blocks.specs.Blocks.{digits}
 use Rattle.trie_keys.specs.Prefixes.{prefix_bits}
 use Rattle.trie_core.specs.Places.{AllBelow, named, placed, value_list, child_list, first_place_of}
 use Rattle.trie_core.specs.Nodes.{Seen, under, node_height, IsNode}
 use Rattle.trie_core.specs.Count.{all_nodes, total}
 use Rattle.trie_core.specs.Walks.{first_value, KeysWithin, levels_of, nodes_of, part_map, part_rest, AreInOrder, AreParts, IsFrame}
-use Rattle.trie_keys.proofs.Strings.{bits_total, bits_same, both, front, take_take}
+use Rattle.trie_keys.proofs.Strings.{bits_total, bits_same, both}
 use Rattle.trie_core.proofs.Maps.{child_get, get_none, get-short, get-long}
 use Rattle.trie_core.proofs.Order.{walk_value, walk_child, walk_none, starts_after, values_after}
 use Rattle.trie_core.proofs.Count.{things, under-append}
-use Rattle.trie_keys.proofs.Numbers.{child_of-string, length-child_string, place_strings, place_string-place_of, child_string-child_of, place_bound, number_bound, number-take}
-use Rattle.trie_keys.proofs.Begins.{value_before, inside_short, inside_long, past_short, past_long, from_short, from_long}
+use Rattle.trie_keys.proofs.Numbers.{child_of-string, length-child_string, place_strings, place_string-place_of, child_string-child_of, place_bound, number_bound}
+use Rattle.trie_keys.proofs.Begins.{value_before, inside_short, inside_long}
 use Rattle.trie_core.proofs.Named.{IsNaming, named_find, named_sorted, places_named, children_named, values_short, children_long, values_below, at_below, child_things}
 use Rattle.trie_core.proofs.Edits.{at_sorted}
 use Rattle.trie_core.proofs.Seen.{IsSeen}
@@ -160,7 +160,7 @@ module _ {X : Type 0} where
 
 -- ---- what a search leaves
 
-nat_alike : (p : ℕ → Bool) (n x : ℕ) → nat_cmp n x ≡ Equal → p x ≡ p n
+pub nat_alike : (p : ℕ → Bool) (n x : ℕ) → nat_cmp n x ≡ Equal → p x ≡ p n
 nat_alike p n x e = let z : x ≡ n = grind (arith, nat_tests) in ap p z
 
 pub bits_alike : (p : List Bool → Bool) (q x : List Bool) → bits_cmp q x ≡ Equal → p x ≡ p q
@@ -198,6 +198,9 @@ module _ {Y : Type 0} where
     | true ↦ (k.0, keys_where n trail p es k.1)
     | false ↦ keys_where n trail p es k.1
   ]
+
+pub inside_told : (q : List Bool) → length q < 5 → IsTold (begins q) (λ k. not (nat_lt k (place_of q)) && nat_lt k (place_of q + 31 / 2 ^ length q)) (λ k. not (nat_lt k (child_of q)) && nat_lt k (child_of q + 32 / 2 ^ length q))
+inside_told q h = record { short = λ r s. inside_short q r h s; long = λ r s. inside_long q r h s }
 
 module _ {X : Type 0} where
   levels_where : (p : ℕ → Bool) (cs : List (ℕ × Seen X)) → levels_of (where_key nat_cmp p cs) ≤ levels_of cs
@@ -285,7 +288,7 @@ module _ {X : Type 0} where
       c2 ∙ ap (where_key nat_cmp (λ k. nat_lt k (child + 32 / 2 ^ len))) c1 ∙ where_twice nat_cmp (λ k. nat_lt k (child + 32 / 2 ^ len)) (λ k. not (nat_lt k child)) cs
       ∙ (λ i. where_key nat_cmp (λ k. not (nat_lt k (ec i)) && nat_lt k (ec i + 32 / 2 ^ e i)) cs) in
       subst (λ (x : List (ℕ × X) × List (ℕ × Seen X)). IsKept (begins q) m x.0 x.1 trail) (λ i. (sym v i, sym d i))
-      (kept f g a (record { short = λ r s. inside_short q r h s; long = λ r s. inside_long q r h s }) l k)
+      (kept f g a (inside_told q h) l k)
 
   -- ---- which comes first
 
@@ -326,33 +329,3 @@ module _ {X : Type 0} where
         levels = omega (arith, z);
         keys = subst (λ es. KeysWithin 128 (under trail es)) (sym walk_none) tt;
       })
-
-  -- ---- the keys after a string
-
-  pub past_frame : {m : Seen X} {vs us : List (ℕ × X)} {cs ds : List (ℕ × Seen X)} {trail : List Bool} (q : List Bool) {place child : ℕ} → AreParts m vs cs → 5 ≤ length q → place ≡ place_of (take 4 q) + 1 → child ≡ child_of q
-      → us ≡ where_key nat_cmp (λ k. not (nat_lt k place)) vs → ds ≡ where_key nat_cmp (λ k. not (nat_lt k (child + 1))) cs
-      → length trail + 5 * m.2 ≤ 130 → KeysWithin 128 (under trail (entries m.0)) → IsKept (is_past (take 5 q)) m us ds trail
-  past_frame {m} {vs} {us} {cs} {ds} {trail} q {place} {child} a h e f v d l k =
-      let five : length (take 5 q) ≡ 5 = (front q h).0 in
-      let t : take 4 (take 5 q) ≡ take 4 q = take_take q 4 1 in
-      let n : child_of (take 5 q) ≡ child_of q = number-take 5 q in
-      let b : place ≡ place_of (take 4 (take 5 q)) + 1 = e ∙ ap (λ s. place_of s + 1) (sym t) in
-      subst (λ (x : List (ℕ × X) × List (ℕ × Seen X)). IsKept (is_past (take 5 q)) m x.0 x.1 trail) (λ i. (sym v i, sym d i))
-      (kept (λ k. not (nat_lt k place)) (λ k. not (nat_lt k (child + 1))) a
-      (record {
-        short = λ r s. past_short (take 5 q) r five s ∙ ap (λ p. not (nat_lt (place_of r) p)) (sym b);
-        long = λ r s. past_long (take 5 q) r five s ∙ ap (λ c. not (nat_lt (child_of r) (c + 1))) (n ∙ sym f);
-      })
-      l k)
-
-  pub onwards_frame : {m : Seen X} {vs us : List (ℕ × X)} {cs ds : List (ℕ × Seen X)} {trail : List Bool} (q : List Bool) (inclusive : Bool) {place child : ℕ} → AreParts m vs cs → length q < 5 → place ≡ cond inclusive (place_of q) (place_of q + 1) → child ≡ child_of q
-      → us ≡ where_key nat_cmp (λ k. not (nat_lt k place)) vs → ds ≡ where_key nat_cmp (λ k. not (nat_lt k child)) cs
-      → length trail + 5 * m.2 ≤ 130 → KeysWithin 128 (under trail (entries m.0)) → IsKept (is_from q inclusive) m us ds trail
-  onwards_frame {m} {vs} {us} {cs} {ds} {trail} q inclusive {place} {child} a h e f v d l k =
-      subst (λ (x : List (ℕ × X) × List (ℕ × Seen X)). IsKept (is_from q inclusive) m x.0 x.1 trail) (λ i. (sym v i, sym d i))
-      (kept (λ k. not (nat_lt k place)) (λ k. not (nat_lt k child)) a
-      (record {
-        short = λ r s. from_short inclusive q r h s ∙ ap (λ p. not (nat_lt (place_of r) p)) (sym e);
-        long = λ r s. from_long inclusive q r h s ∙ ap (λ c. not (nat_lt (child_of r) c)) (sym f);
-      })
-      l k)

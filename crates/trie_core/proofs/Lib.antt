@@ -16,6 +16,7 @@ pub mod Kept
 pub mod Tidying
 pub mod Splits
 pub mod Frames
+pub mod Opened
 pub mod Walks
 pub mod Entries
 pub mod Inside

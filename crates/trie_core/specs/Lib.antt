@@ -5,6 +5,7 @@ pub mod Search
 pub mod Inside
 pub mod Lending
 pub mod Walks
+pub mod Frames
 pub mod Steps
 pub mod Covers
 pub mod Held

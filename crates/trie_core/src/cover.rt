@@ -8,8 +8,7 @@ ghost use Rattle.trie_core.specs.Covers.{NoneFrom, IsFirstFrom};
 ghost use Rattle.trie_core.specs.Steps.{Stepped};
 
 use crate::node::Node;
-use crate::pairs::low_bits;
-use crate::slots::{first_place, taken_below};
+use crate::slots::{first_place, low_bits, taken_below};
 use crate::walk::Step;
 use std::alloc::AllocError;
 use std::marker::Model;

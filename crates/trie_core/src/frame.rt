@@ -1,40 +1,42 @@
 //! What a walk has left of one node.
-ghost use Rattle.std.specs.Prelude.{◌≡◌, ◌+◌, ◌*◌, ◌<◌, ◌≤◌, List, Bool, length, take, ⊤};
+ghost use Rattle.std.specs.Prelude.{◌≡◌, ◌+◌, ◌-◌, ◌*◌, ◌<◌, ◌≤◌, ◌^◌, List, Bool, length, take, MatchOption, ⊤};
 ghost use Rattle.std.specs.FinMap.{entries};
 ghost use Rattle.std.specs.FinMap.Entries.{where_key};
-ghost use Rattle.trie_keys.specs.Bits.{bits_cmp, begins, place_of, child_of, place_string, child_string, is_past, is_from};
-ghost use Rattle.trie_core.specs.Places.{AllBelow, named};
+ghost use Rattle.trie_keys.specs.Bits.{bits_cmp, begins, place_of, child_of, is_past, is_from};
+ghost use Rattle.trie_core.specs.Places.{IsFirstPlace};
 ghost use Rattle.trie_core.specs.Nodes.{under};
-ghost use Rattle.trie_core.specs.Count.{all_nodes};
-ghost use Rattle.trie_core.specs.Walks.{first_value, KeysWithin, AreParts};
+ghost use Rattle.trie_core.specs.Walks.{KeysWithin};
+ghost use Rattle.trie_core.specs.Frames.{is_open, place_first, open_weight};
 ghost use Rattle.trie_core.specs.Steps.{GivesNext};
 
 use crate::node::Node;
-use crate::pairs::Pairs;
+use crate::slots::{first_place, taken_below};
 use std::alloc::AllocError;
 use std::marker::Model;
-use trie_keys::{Path, first_child, place_length};
+use trie_keys::{Path, bit, first_child, place_length};
 
-/// Values and children of one node, whose keys begin with the trail.
+/// What stands in a node at the places that are open, a word of them for its values and one for its children. The keys
+/// begin with the trail.
 #[derive(Drop)]
 pub(crate) struct Frame<'a, T> {
-    values: Pairs<'a, T>,
-    children: Pairs<'a, Node<T>>,
+    node: Option<&'a Node<T>>,
+    values: u32,
+    children: u32,
     trail: Path,
 }
 
 impl<'a, T> Model for Frame<'a, T> {
-    ghost use Rattle.std.specs.Prelude.{ℕ, List, Bool, ◌+◌, ◌*◌};
-    ghost use Rattle.std.specs.Coded.{coded×, coded_ℕ, coded_list, coded_bool, code_by};
-    ghost use Rattle.trie_core.specs.Walks.{part_rest, levels_of, nodes_of, IsFrame, Left, left_code};
+    ghost use Rattle.std.specs.Prelude.{MatchOption, ⊤};
+    ghost use Rattle.trie_core.specs.Walks.{Left, left_code};
+    ghost use Rattle.trie_core.specs.Frames.{frame_rest, frame_levels, frame_weight, Stands};
 
     ghost Value = { Left T };
 
     ghost coded = { left_code T.code };
 
-    ghost view = { λ a. (part_rest a.values a.children a.trail, levels_of a.children + 1, 2 * nodes_of a.children) };
+    ghost view = { λ a. (frame_rest a.node a.values a.children a.trail, frame_levels a.node, frame_weight a.node a.children) };
 
-    ghost invariant = { λ a. IsFrame a.values a.children a.trail };
+    ghost invariant = { λ a. MatchOption a.node ⊤ (λ m. Stands m.now a.trail) };
 }
 
 impl<'a, T> Clone for Frame<'a, T> {
@@ -44,8 +46,9 @@ impl<'a, T> Clone for Frame<'a, T> {
 
     fn clone(&self) -> Result<Frame<'a, T>, AllocError> {
         Ok(Frame {
-            values: self.values.clone()?,
-            children: self.children.clone()?,
+            node: self.node,
+            values: self.values,
+            children: self.children,
             trail: self.trail.clone()?,
         })
     }
@@ -55,8 +58,9 @@ impl<'a, T> Clone for Frame<'a, T> {
 impl<'a, T> Default for Frame<'a, T> {
     fn default() -> Frame<'a, T> {
         Frame {
-            values: Pairs::default(),
-            children: Pairs::default(),
+            node: None,
+            values: 0,
+            children: 0,
             trail: Path::new(0, 0),
         }
     }
@@ -69,14 +73,14 @@ pub(crate) enum Next<'a, T> {
     Nothing,
 }
 
-/// The values and the children of a node.
-fn parts<'a, T>(node: &'a Node<T>) -> (Pairs<'a, T>, Pairs<'a, Node<T>>)
-    ensures { AreParts node.now result.0 result.1 }
+/// The word of the places from one on, and before another.
+#[inline]
+fn places_between(from: u8, end: u8) -> u32
+    requires ordered { from ≤ end }
+    requires end { end ≤ 32 }
+    ensures { result ≡ 2 ^ end - 2 ^ from }
 {
-    (
-        Pairs::new(node.value_bits, node.values.as_slice()),
-        Pairs::new(node.child_bits, node.children.as_slice()),
-    )
+    ((1u64 << end) - (1u64 << from)) as u32
 }
 
 /// The first place after those of the beginnings of five bits.
@@ -88,35 +92,61 @@ fn after_beginnings(five: u8) -> u8
     four + 5 - four.count_ones() as u8
 }
 
-/// Whether the next entry is the first value, and not in the first child.
-fn value_first<X, Y>(values: &Pairs<'_, X>, children: &Pairs<'_, Y>) -> bool
-    requires values { AllBelow 31 values.now }
-    requires children { AllBelow 32 children.now }
-    ensures { result ≡ first_value (named place_string values.now) (named child_string children.now) }
+/// The first place that is taken.
+#[inline]
+fn first_in(taken: u32) -> Option<u8>
+    ensures { MatchOption result (taken ≡ 0) (IsFirstPlace taken) }
 {
-    let Some(place) = values.first_place() else {
-        return false;
-    };
-    let Some(child) = children.first_place() else {
-        return true;
-    };
-    first_child(place) <= child
+    if taken == 0 {
+        return None;
+    }
+    Some(first_place(taken))
+}
+
+/// Whether the value at its first place comes next, and not what is below the first child.
+#[inline]
+fn value_first(value: Option<u8>, child: Option<u8>) -> bool
+    requires { MatchOption value ⊤ (λ p. p < 31) }
+    ensures { result ≡ place_first value child }
+{
+    match (value, child) {
+        (None, _) => false,
+        (Some(_), None) => true,
+        (Some(value), Some(child)) => first_child(value) <= child,
+    }
 }
 
 impl<'a, T> Frame<'a, T> {
+    /// What stands in a node at some places.
+    #[inline]
+    fn open(node: &'a Node<T>, values: u32, children: u32, trail: Path) -> Frame<'a, T>
+        requires levels { length trail + 5 * node.now.2 ≤ 130 }
+        requires keys { KeysWithin 128 (under trail (entries node.now.0)) }
+        ensures rest { result.0 ≡ under trail (where_key bits_cmp (is_open values children) (entries node.now.0)) }
+        ensures levels { result.1 ≡ node.now.2 }
+        ensures positive { 0 < result.1 }
+        ensures weight { result.2 ≡ open_weight node.now children }
+    {
+        let _levels = node.child_bits;
+        Frame {
+            node: Some(node),
+            values,
+            children,
+            trail,
+        }
+    }
+
     /// All of a node.
+    #[inline]
     pub(crate) fn whole(node: &'a Node<T>, trail: Path) -> Frame<'a, T>
         requires levels { length trail + 5 * node.now.2 ≤ 130 }
         requires keys { KeysWithin 128 (under trail (entries node.now.0)) }
         ensures rest { result.0 ≡ under trail (entries node.now.0) }
         ensures levels { result.1 ≡ node.now.2 }
+        ensures positive { 0 < result.1 }
+        ensures weight { result.2 ≡ open_weight node.now (2 ^ 32 - 1) }
     {
-        let (values, children) = parts(node);
-        Frame {
-            values,
-            children,
-            trail,
-        }
+        Frame::open(node, u32::MAX, u32::MAX, trail)
     }
 
     /// Of a node the keys that begin with a string of fewer than five bits.
@@ -126,14 +156,12 @@ impl<'a, T> Frame<'a, T> {
         requires keys { KeysWithin 128 (under trail (entries node.now.0)) }
         ensures rest { result.0 ≡ under trail (where_key bits_cmp (begins path.now) (entries node.now.0)) }
         ensures levels { result.1 ≤ node.now.2 }
+        ensures positive { 0 < result.1 }
     {
-        let (values, children) = parts(node);
         let (len, place, child) = (path.len(), path.place(), path.five());
-        Frame {
-            values: values.from(place).before(place + (31 >> len)),
-            children: children.from(child).before(child + (32 >> len)),
-            trail,
-        }
+        let values = places_between(place, place + (31 >> len));
+        let children = places_between(child, child + (32 >> len));
+        Frame::open(node, values, children, trail)
     }
 
     /// Of a node the keys that come after all that begin with the first five bits of a path.
@@ -145,13 +173,10 @@ impl<'a, T> Frame<'a, T> {
         ensures levels { result.1 ≤ node.now.2 }
         ensures positive { 0 < result.1 }
     {
-        let (values, children) = parts(node);
         let five = path.five();
-        Frame {
-            values: values.from(after_beginnings(five)),
-            children: children.from(five + 1),
-            trail,
-        }
+        let values = places_between(after_beginnings(five), 32);
+        let children = places_between(five + 1, 32);
+        Frame::open(node, values, children, trail)
     }
 
     /// Of a node the keys from a string of fewer than five bits on: those that come after it, and itself where asked.
@@ -168,13 +193,10 @@ impl<'a, T> Frame<'a, T> {
         ensures levels { result.1 ≤ node.now.2 }
         ensures positive { 0 < result.1 }
     {
-        let (values, children) = parts(node);
         let place = path.place();
-        Frame {
-            values: values.from(if inclusive { place } else { place + 1 }),
-            children: children.from(path.five()),
-            trail,
-        }
+        let values = places_between(if inclusive { place } else { place + 1 }, 32);
+        let children = places_between(path.five(), 32);
+        Frame::open(node, values, children, trail)
     }
 
     /// Takes out what stands first.
@@ -182,21 +204,26 @@ impl<'a, T> Frame<'a, T> {
         ensures next { GivesNext self.old result self.new }
         ensures levels { 0 < self.new.1 }
     {
-        if value_first(&self.values, &self.children) {
-            let Some((place, value)) = self.values.next() else {
+        let Some(node) = self.node else {
+            return Next::Nothing;
+        };
+        let value_place = first_in(self.values & node.value_bits);
+        let child_place = first_in(self.children & node.child_bits);
+        if value_first(value_place, child_place) {
+            let Some(place) = value_place else {
                 unreachable!()
             };
+            let value = &node.values[taken_below(node.value_bits, place)];
+            self.values -= bit(place);
             let key = self.trail.with(first_child(place), place_length(place));
             return Next::Entry(key, value);
         }
-        let Some((child, node)) = self.children.next() else {
+        let Some(place) = child_place else {
             return Next::Nothing;
         };
-        let (values, children) = parts(node);
-        Next::Below(Frame {
-            values,
-            children,
-            trail: self.trail.with(child, 5),
-        })
+        let below = &node.children[taken_below(node.child_bits, place)];
+        let _levels = below.child_bits;
+        self.children -= bit(place);
+        Next::Below(Frame::whole(below, self.trail.with(place, 5)))
     }
 }

@@ -7,7 +7,6 @@ mod frame;
 mod lend;
 mod node;
 mod owned;
-mod pairs;
 mod prune;
 mod slots;
 mod spares;

@@ -13,8 +13,7 @@ ghost use Rattle.trie_core.specs.Walks.{first_value, KeysWithin, AreParts};
 ghost use Rattle.trie_core.specs.Owned.{GivesOwned, SteppedOwned};
 
 use crate::node::Node;
-use crate::pairs::low_bits;
-use crate::slots::{first_place, slot};
+use crate::slots::{first_place, low_bits, slot};
 use arrayvec::ArrayVec;
 use std::marker::Model;
 use std::vec::IntoIter;

@@ -9,6 +9,18 @@ use std::alloc::{AllocError, AllocFailed};
 use std::mem;
 use trie_keys::bit;
 
+/// The lowest bits of a word.
+#[inline]
+pub(crate) fn low_bits(word: u32, count: u8) -> u32
+    requires { count ≤ 32 }
+    ensures { result ≡ word % 2 ^ count }
+{
+    if count == 32 {
+        return word;
+    }
+    word % bit(count)
+}
+
 /// How many places below this one are taken.
 #[inline]
 pub(crate) fn taken_below(taken: u32, place: u8) -> usize

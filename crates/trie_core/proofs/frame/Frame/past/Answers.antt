@@ -1,12 +1,15 @@
-use Rattle.std.proofs.Common.{sym}
-use Rattle.trie_core.proofs.Frames.{past_frame}
+use Rattle.std.proofs.Common.{◌∙◌, ap, sym, take, arith}
+use Rattle.std.proofs.Math.ListN.{length-take}
+use Rattle.std.specs.FinMap.{entries}
+use Rattle.trie_keys.proofs.Numbers.{place_bound}
+use Rattle.trie_core.specs.Nodes.{under}
+use Rattle.trie_core.proofs.Opened.{past_open}
 use Rattle.trie_core.proofs.frame.Frame.past.Goals as goal
 
-pub invariant_of-result : goal.invariant_of-result
-invariant_of-result g c = (past_frame c.args.path.now c.parts-values.ensures c.requires.long (c.after_beginnings.ensures c.args.path.now c.requires.long (sym c.five-five.ensures.value)) c.five-five.ensures.value c.from.ensures c.from-2.ensures c.requires.levels c.requires.keys).frame
+pub places_between-values-requires-clause-ordered : goal.places_between-values-requires-clause-ordered
+places_between-values-requires-clause-ordered g c = omega (arith, c.after_beginnings.ensures c.args.path.now c.requires.long (sym c.five-five.ensures.value), place_bound 5 (take 4 c.args.path.now) (omega (arith, length-take 4 c.args.path.now)))
 
 pub returns-clause-rest : goal.returns-clause-rest
-returns-clause-rest g c = (past_frame c.args.path.now c.parts-values.ensures c.requires.long (c.after_beginnings.ensures c.args.path.now c.requires.long (sym c.five-five.ensures.value)) c.five-five.ensures.value c.from.ensures c.from-2.ensures c.requires.levels c.requires.keys).rest
-
-pub returns-clause-levels : goal.returns-clause-levels
-returns-clause-levels g c = (past_frame c.args.path.now c.parts-values.ensures c.requires.long (c.after_beginnings.ensures c.args.path.now c.requires.long (sym c.five-five.ensures.value)) c.five-five.ensures.value c.from.ensures c.from-2.ensures c.requires.levels c.requires.keys).levels
+returns-clause-rest g c =
+    c.open.ensures.rest
+    ∙ ap (under c.args.trail) (past_open c.args.path.now (entries c.args.node.now.0) c.requires.long (c.after_beginnings.ensures c.args.path.now c.requires.long (sym c.five-five.ensures.value)) c.five-five.ensures.value c.places_between-values.ensures c.places_between-children.ensures)

@@ -1,0 +1,322 @@
+-- What stands in a node at the places that are open.
+use Rattle.std.proofs.Common.{◌≡◌, ℕ, zero, suc, ◌+◌, ◌-◌, ◌*◌, ◌/◌, ◌%◌, ◌^◌, ◌<◌, ◌≤◌, Bool, true, false, cond, not, ◌&&◌, List, [], ◌∷◌, ◌++◌, length, take, get_or, refl, sym, ap, subst, ◌∙◌, arith}
+use Rattle.std.specs.Prelude.{T, Option, Some, None, nat_lt, eqb, min, bit_and, count_ones, MatchOption, ⊤}
+use Rattle.std.specs.Borrow.{Bor}
+use Rattle.std.specs.Int.{bit_at}
+use Rattle.std.specs.Ordering.{nat_cmp, eq_by_cmp}
+use Rattle.std.specs.FinMap.{find, entries, is_sorted}
+use Rattle.std.specs.FinMap.Entries.{where_key, find-where_key, is_sorted-where_key, below_all}
+use Rattle.std.proofs.lemmas.Bool.Decides.{nat_tests}
+use Rattle.std.proofs.Math.Nat.{le-mul_of_pos_right, pow-le-pow_right}
+use Rattle.std.proofs.lemmas.Nat.{pow_pos, pow-add}
+use Rattle.std.proofs.lemmas.Nat.Bits.{bit_at_and, bit_at-lt, bit_at-suc, bit_at_ones, bit_at-zero, bit_at_mask_above, bit_at_mask_below, bit_at_mask_inside}
+use Rattle.trie_keys.specs.Bits.{bits_cmp, begins, place_of, child_of, place_string, child_string, is_past, is_from}
+use Rattle.trie_keys.proofs.Strings.{both, front, take_take}
+use Rattle.trie_keys.proofs.Numbers.{place_bound, number_bound, number-take}
+use Rattle.trie_keys.proofs.Begins.{past_short, past_long, from_short, from_long}
+use Rattle.trie_core.specs.Places.{placed, without, AllBelow, named, first_place_of, IsFirstPlace}
+use Rattle.trie_core.specs.Nodes.{Seen, under}
+use Rattle.trie_core.specs.Walks.{first_value, KeysWithin}
+use Rattle.trie_core.specs.Frames.{has_bit, is_open, place_first, Stands, open_weight}
+use Rattle.trie_core.proofs.Edits.{at_sorted, bit_within, half_less, low_less, without_front}
+use Rattle.trie_core.proofs.Taken.{taken, missing}
+use Rattle.trie_core.proofs.Seen.{IsSeen}
+use Rattle.trie_core.proofs.Frames.{IsTold, nat_alike, where_twice, are_parts, kept, IsKept, value_is_first, value_next, child_next, nothing_next, inside_told}
+
+-- ---- bits
+
+both_one : (a b : ℕ) → min a b ≡ 1 → a < 2 → b < 2 → (a ≡ 1) × (b ≡ 1)
+both_one a b e l m = (omega (arith, e, l, m), omega (arith, e, l, m))
+
+both_set : (a b i : ℕ) → bit_at (bit_and a b) i ≡ 1 → (bit_at a i ≡ 1) × (bit_at b i ≡ 1)
+both_set a b i e = both_one (bit_at a i) (bit_at b i) (sym (bit_at_and a b i) ∙ e) (bit_at-lt a i) (bit_at-lt b i)
+
+other_zero : (a b : ℕ) → min a b ≡ 0 → a ≡ 1 → b ≡ 0
+other_zero a b e f = omega (arith, e, f)
+
+-- between two places
+has_between : (from end i : ℕ) → has_bit (2 ^ end - 2 ^ from) i ≡ (not (nat_lt i from) && nat_lt i end)
+has_between from end i = by (nat_lt i from) (nat_lt i end) refl refl
+  where
+    by : (a b : Bool) → nat_lt i from ≡ a → nat_lt i end ≡ b → has_bit (2 ^ end - 2 ^ from) i ≡ (not a && b)
+    by true b e f = let z = bit_at_mask_below from end i (grind (arith, nat_tests)) in ap (λ x. eqb x 1) z
+    by false true e f = let z = bit_at_mask_inside from end i (grind (arith, nat_tests)) (grind (arith, nat_tests)) in ap (λ x. eqb x 1) z
+    by false false e f = let z = bit_at_mask_above from end i (grind (arith, nat_tests)) in ap (λ x. eqb x 1) z
+
+-- a bit is taken out
+has_cleared : (i j word : ℕ) → bit_at word i ≡ 1 → has_bit (word - 2 ^ i) j ≡ (has_bit word j && not (eq_by_cmp nat_cmp i j))
+has_cleared i j word h = by (eq_by_cmp nat_cmp i j) refl
+  where
+    same_bit : (i j word : ℕ) → bit_at word i ≡ 1 → i ≡ j → bit_at (word - 2 ^ i) j ≡ 0
+    same_bit zero zero word h e = omega (arith, h)
+    same_bit (suc i) (suc j) word h e =
+        let q = bit_within word (suc i) h in
+        bit_at-suc (word - 2 ^ suc i) j ∙ ap (λ x. bit_at x j) (half_less word i q) ∙ same_bit i j (word / 2) (sym (bit_at-suc word i) ∙ h) (omega (arith, e))
+    same_bit zero (suc j) word h e = absurd (omega (arith, e))
+    same_bit (suc i) zero word h e = absurd (omega (arith, e))
+
+    other_bit : (i j word : ℕ) → bit_at word i ≡ 1 → (i ≡ j → ⊥) → bit_at (word - 2 ^ i) j ≡ bit_at word j
+    other_bit zero zero word h e = absurd (e refl)
+    other_bit zero (suc j) word h e =
+        let o : word % 2 ≡ 1 = omega (arith, h) in
+        let half : (word - 2 ^ 0) / 2 ≡ word / 2 = omega (arith, o) in
+        bit_at-suc (word - 2 ^ 0) j ∙ ap (λ x. bit_at x j) half ∙ sym (bit_at-suc word j)
+    other_bit (suc i) zero word h e =
+        let q = bit_within word (suc i) h in
+        let l = low_less word i q in
+        omega (arith, l)
+    other_bit (suc i) (suc j) word h e =
+        let q = bit_within word (suc i) h in
+        bit_at-suc (word - 2 ^ suc i) j ∙ ap (λ x. bit_at x j) (half_less word i q) ∙ other_bit i j (word / 2) (sym (bit_at-suc word i) ∙ h) (λ f. e (ap suc f)) ∙ sym (bit_at-suc word j)
+
+    and_true : (b : Bool) → b ≡ (b && true)
+    and_true true = refl
+    and_true false = refl
+
+    and_false : (b : Bool) → false ≡ (b && false)
+    and_false true = refl
+    and_false false = refl
+
+    by : (b : Bool) → eq_by_cmp nat_cmp i j ≡ b → has_bit (word - 2 ^ i) j ≡ (has_bit word j && not b)
+    by true e = let s : i ≡ j = grind (arith, nat_tests) in ap (λ x. eqb x 1) (same_bit i j word h s) ∙ and_false (has_bit word j)
+    by false e = let s : i ≡ j → ⊥ = λ f. let z : eq_by_cmp nat_cmp i j ≡ true = grind (arith, nat_tests) in let w = sym e ∙ z in cc in ap (λ x. eqb x 1) (other_bit i j word h s) ∙ and_true (has_bit word j)
+
+pub powers_rise : (a b : ℕ) → a ≤ b → 2 ^ a ≤ 2 ^ b
+powers_rise a b h = pow-le-pow_right (omega arith) h
+
+pub bit_open : (mask bits i : ℕ) → IsFirstPlace (bit_and mask bits) i → 2 ^ i ≤ mask
+bit_open mask bits i f = bit_within mask i (both_set mask bits i f.taken).0
+
+-- ---- the first thing at an open place
+
+module _ {X : Type 0} where
+  find_above : (i n : ℕ) (es : List (ℕ × X)) → T (below_all nat_cmp n es) → i ≤ n → find nat_cmp i es ≡ None
+  find_above i n [] b h = refl
+  find_above i n (e ∷ es) b h =
+      let p = both _ _ b in
+      let q = p.0 in
+      let r = find_above i n es p.1 h in
+      grind (arith, nat_tests)
+
+  -- a list that rises has at its front what is found where nothing is found before
+  front_found : (es : List (ℕ × X)) (i : ℕ) (x : X) → T (is_sorted nat_cmp es) → find nat_cmp i es ≡ Some x → ((j : ℕ) → j < i → find nat_cmp j es ≡ None) → es ≡ (i, x) ∷ without i es
+  front_found [] i x s f n = cc
+  front_found (e ∷ es) i x s f n = by (nat_lt e.0 i) (nat_lt i e.0) refl refl
+    where
+      found_first : find nat_cmp e.0 (e ∷ es) ≡ Some e.1
+      found_first = grind (arith, nat_tests)
+
+      by : (a b : Bool) → nat_lt e.0 i ≡ a → nat_lt i e.0 ≡ b → e ∷ es ≡ (i, x) ∷ without i (e ∷ es)
+      by true b g h = let z = sym found_first ∙ n e.0 (grind (arith, nat_tests)) in cc
+      by false true g h =
+          let p = both _ _ s in
+          let l : i < e.0 = grind (arith, nat_tests) in
+          let r = find_above i e.0 es p.0 (omega (arith, l)) in
+          let z : find nat_cmp i (e ∷ es) ≡ None = grind (arith, nat_tests) in
+          let w = sym f ∙ z in
+          cc
+      by false false g h =
+          let p = both _ _ s in
+          let k : i ≡ e.0 = grind (arith, nat_tests) in
+          let v : Some e.1 ≡ Some x = sym found_first ∙ ap (λ j. find nat_cmp j (e ∷ es)) (sym k) ∙ f in
+          let y : e.1 ≡ x = cc in
+          (λ t. (sym k t, y t) ∷ es) ∙ ap (λ ys. (i, x) ∷ ys) (sym (without_front e.0 e.1 es p.0) ∙ ap (λ j. without j (e ∷ es)) (sym k))
+
+  none_found : (es : List (ℕ × X)) → ((j : ℕ) → find nat_cmp j es ≡ None) → es ≡ []
+  none_found [] n = refl
+  none_found (e ∷ es) n =
+      let f : find nat_cmp e.0 (e ∷ es) ≡ Some e.1 = grind (arith, nat_tests) in
+      let z = sym f ∙ n e.0 in
+      cc
+
+  open_get : (mask bits : ℕ) (xs : List X) (j : ℕ) → find nat_cmp j (where_key nat_cmp (has_bit mask) (placed bits xs)) ≡ cond (has_bit mask j) (find nat_cmp j (placed bits xs)) None
+  open_get mask bits xs j = find-where_key nat_cmp (has_bit mask) j (nat_alike (has_bit mask) j) (placed bits xs)
+
+  unset_either : (mask bits : ℕ) (xs : List X) (j : ℕ) → bit_at (bit_and mask bits) j ≡ 0 → find nat_cmp j (where_key nat_cmp (has_bit mask) (placed bits xs)) ≡ None
+  unfolding placed
+  unset_either mask bits xs j z = open_get mask bits xs j ∙ by (has_bit mask j) refl
+    where
+      by : (b : Bool) → has_bit mask j ≡ b → cond b (find nat_cmp j (placed bits xs)) None ≡ None
+      by true e =
+          let o : bit_at mask j ≡ 1 = grind (arith, nat_tests) in
+          let u : bit_at bits j ≡ 0 = other_zero (bit_at mask j) (bit_at bits j) (sym (bit_at_and mask bits j) ∙ z) o in
+          sym (missing j bits xs u)
+      by false e = refl
+
+  open_first : (mask bits i : ℕ) (xs : List X) (x : X) → IsFirstPlace (bit_and mask bits) i → find nat_cmp i (placed bits xs) ≡ Some x
+      → where_key nat_cmp (has_bit mask) (placed bits xs) ≡ (i, x) ∷ where_key nat_cmp (has_bit (mask - 2 ^ i)) (placed bits xs)
+  unfolding placed
+  open_first mask bits i xs x f e =
+      let o = (both_set mask bits i f.taken).0 in
+      front_found (where_key nat_cmp (has_bit mask) (placed bits xs)) i x (is_sorted-where_key nat_cmp (has_bit mask) (placed bits xs) (at_sorted 32 0 bits xs))
+      (open_get mask bits xs i ∙ (λ t. cond (eqb (o t) 1) (e t) None)) (λ j l. unset_either mask bits xs j (f.under j l))
+      ∙ ap (λ ys. (i, x) ∷ ys) (where_twice nat_cmp (λ k. not (eq_by_cmp nat_cmp i k)) (has_bit mask) (placed bits xs) ∙ sym (λ t. where_key nat_cmp (λ k. has_cleared i k mask o t) (placed bits xs)))
+
+  pub open_none : (mask bits : ℕ) (xs : List X) → bit_and mask bits ≡ 0 → where_key nat_cmp (has_bit mask) (placed bits xs) ≡ []
+  open_none mask bits xs z = none_found _ (λ j. unset_either mask bits xs j (ap (λ w. bit_at w j) z ∙ bit_at-zero j))
+
+  -- the k-th thing stands at the place
+  pub found_at : (mask bits i at : ℕ) (xs : List X) (x : X) → IsFirstPlace (bit_and mask bits) i → count_ones bits ≡ length xs → at ≡ count_ones (bits % 2 ^ i) → x ≡ get_or xs at x → find nat_cmp i (placed bits xs) ≡ Some x
+  unfolding placed
+  found_at mask bits i at xs x f e a r = (taken i at bits xs f.within ((both_set mask bits i f.taken).1, a) e).read x ∙ ap Some (sym r)
+
+  pub index_at : (mask bits i at : ℕ) (xs : List X) → IsFirstPlace (bit_and mask bits) i → count_ones bits ≡ length xs → at ≡ count_ones (bits % 2 ^ i) → at < length xs
+  index_at mask bits i at xs f e a = (taken i at bits xs f.within ((both_set mask bits i f.taken).1, a) e).within
+
+  first_open : (o : Option ℕ) (mask bits : ℕ) (xs : List X) → count_ones bits ≡ length xs → MatchOption o (bit_and mask bits ≡ 0) (IsFirstPlace (bit_and mask bits)) → first_place_of (where_key nat_cmp (has_bit mask) (placed bits xs)) ≡ o
+  unfolding placed
+  first_open None mask bits xs e z = ap first_place_of (open_none mask bits xs z)
+  first_open (Some i) mask bits [] e f = absurd (omega (arith, index_at mask bits i (count_ones (bits % 2 ^ i)) [] f e refl))
+  first_open (Some i) mask bits (y ∷ ys) e f =
+      let t = taken i (count_ones (bits % 2 ^ i)) bits (y ∷ ys) f.within ((both_set mask bits i f.taken).1, refl) e in
+      ap first_place_of (open_first mask bits i (y ∷ ys) (get_or (y ∷ ys) (count_ones (bits % 2 ^ i)) y) f (t.read y))
+
+-- ---- a node
+
+told_open : (v c : ℕ) → IsTold (is_open v c) (has_bit v) (has_bit c)
+told_open v c = record {
+  short = λ q h. let b : nat_lt (length q) 5 ≡ true = grind (arith, nat_tests) in ap (λ t. cond t (has_bit v (place_of q)) (has_bit c (child_of q))) b;
+  long = λ q h. let b : nat_lt (length q) 5 ≡ false = grind (arith, nat_tests) in ap (λ t. cond t (has_bit v (place_of q)) (has_bit c (child_of q))) b;
+}
+
+first_by_places : {X Y : Type 0} (vs : List (ℕ × X)) (cs : List (ℕ × Y)) → AllBelow 31 vs → AllBelow 32 cs → first_value (named place_string vs) (named child_string cs) ≡ place_first (first_place_of vs) (first_place_of cs)
+first_by_places [] cs b d = refl
+first_by_places (v ∷ vs) [] b d = refl
+first_by_places (v ∷ vs) (c ∷ cs) b d = sym (value_is_first (v ∷ vs) (c ∷ cs) b d refl refl refl)
+
+module _ {X : Type 0} where
+  pub stands_there : {o : Option (Bor (Seen X))} {n : Bor (Seen X)} {trail : List Bool} → MatchOption o ⊤ (λ m. Stands m.now trail) → o ≡ Some n → Stands n.now trail
+  stands_there {trail = trail} s e = subst (λ o. MatchOption o ⊤ (λ m. Stands m.now trail)) e s
+
+  -- what is open of a node, as its values and its children
+  opened : {vb : ℕ} {vs : List X} {cb : ℕ} {cs : List (Seen X)} {m : Seen X} {trail : List Bool} (v c : ℕ) → IsSeen vb vs cb cs m → Stands m trail → IsKept (is_open v c) m (where_key nat_cmp (has_bit v) (placed vb vs)) (where_key nat_cmp (has_bit c) (placed cb cs)) trail
+  opened v c s st = kept (has_bit v) (has_bit c) (are_parts s) (told_open v c) st.levels st.keys
+
+  first_told : {vb : ℕ} {vs : List X} {cb : ℕ} {cs : List (Seen X)} {m : Seen X} {trail : List Bool} (v c : ℕ) (p q : Option ℕ) → IsSeen vb vs cb cs m → Stands m trail
+      → MatchOption p (bit_and v vb ≡ 0) (IsFirstPlace (bit_and v vb)) → MatchOption q (bit_and c cb ≡ 0) (IsFirstPlace (bit_and c cb))
+      → first_value (named place_string (where_key nat_cmp (has_bit v) (placed vb vs))) (named child_string (where_key nat_cmp (has_bit c) (placed cb cs))) ≡ place_first p q
+  first_told {vb} {vs} {cb} {cs} v c p q s st f g =
+      let o = (opened v c s st).frame.order in
+      first_by_places _ _ o.values_below o.children_below ∙ (λ i. place_first (first_open p v vb vs s.slots.values_counted f i) (first_open q c cb cs s.slots.children_counted g i))
+
+  -- the value at the first open place is next
+  pub record IsValueOpen (m : Seen X) (trail : List Bool) (v c place : ℕ) (value : X) : Type 0 where
+    pub within : length trail + length (place_string place) ≤ 128
+    pub room : length trail < 128
+    pub rest : under trail (where_key bits_cmp (is_open v c) (entries m.0)) ≡ (trail ++ place_string place, value) ∷ under trail (where_key bits_cmp (is_open (v - 2 ^ place) c) (entries m.0))
+
+  pub value_open : {vb : ℕ} {vs : List X} {cb : ℕ} {cs : List (Seen X)} {m : Seen X} {trail : List Bool} (v c place : ℕ) (value : X) (q : Option ℕ) → IsSeen vb vs cb cs m → Stands m trail
+      → IsFirstPlace (bit_and v vb) place → MatchOption q (bit_and c cb ≡ 0) (IsFirstPlace (bit_and c cb)) → place_first (Some place) q ≡ true → find nat_cmp place (placed vb vs) ≡ Some value → IsValueOpen m trail v c place value
+  value_open {vb} {vs} {cb} {cs} {m} {trail} v c place value q s st f g h e =
+      let k = opened v c s st in
+      let n = value_next k.frame (open_first v vb place vs value f e) (first_told v c (Some place) q s st f g ∙ h) in
+      record {
+        within = n.within;
+        room = n.room;
+        rest = sym k.rest ∙ n.rest ∙ ap (λ es. (trail ++ place_string place, value) ∷ es) (opened (v - 2 ^ place) c s st).rest;
+      }
+
+  -- the node at the first open place is next
+  pub record IsChildOpen (m : Seen X) (trail : List Bool) (v c place : ℕ) (d : Seen X) : Type 0 where
+    pub within : length trail + 5 ≤ 128
+    pub levels : length (trail ++ child_string place) + 5 * d.2 ≤ 130
+    pub keys : KeysWithin 128 (under (trail ++ child_string place) (entries d.0))
+    pub smaller : d.2 < m.2
+    pub rest : under trail (where_key bits_cmp (is_open v c) (entries m.0)) ≡ under (trail ++ child_string place) (entries d.0) ++ under trail (where_key bits_cmp (is_open v (c - 2 ^ place)) (entries m.0))
+
+  pub child_open : {vb : ℕ} {vs : List X} {cb : ℕ} {cs : List (Seen X)} {m : Seen X} {trail : List Bool} (v c place : ℕ) (d : Seen X) (p : Option ℕ) → IsSeen vb vs cb cs m → Stands m trail
+      → MatchOption p (bit_and v vb ≡ 0) (IsFirstPlace (bit_and v vb)) → IsFirstPlace (bit_and c cb) place → place_first p (Some place) ≡ false → find nat_cmp place (placed cb cs) ≡ Some d → 0 < d.2 → IsChildOpen m trail v c place d
+  child_open {vb} {vs} {cb} {cs} {m} {trail} v c place d p s st f g h e l =
+      let k = opened v c s st in
+      let n = child_next k.frame (open_first c cb place cs d g e) (first_told v c p (Some place) s st f g ∙ h) (omega (arith, l)) in
+      record {
+        within = n.within;
+        levels = n.levels;
+        keys = n.keys;
+        smaller = omega (arith, n.less.0, k.levels);
+        rest = sym k.rest ∙ n.rest ∙ ap (λ es. under (trail ++ child_string place) (entries d.0) ++ es) (opened v (c - 2 ^ place) s st).rest;
+      }
+
+  pub nothing_open : {vb : ℕ} {vs : List X} {cb : ℕ} {cs : List (Seen X)} {m : Seen X} {trail : List Bool} (v c : ℕ) (p : Option ℕ) → IsSeen vb vs cb cs m → Stands m trail
+      → MatchOption p (bit_and v vb ≡ 0) (IsFirstPlace (bit_and v vb)) → bit_and c cb ≡ 0 → place_first p None ≡ false → under trail (where_key bits_cmp (is_open v c) (entries m.0)) ≡ []
+  nothing_open {vb} {vs} {cb} {cs} {m} {trail} v c p s st f g h =
+      sym (opened v c s st).rest ∙ nothing_next (where_key nat_cmp (has_bit v) (placed vb vs)) trail (open_none c cb cs g) (first_told v c p None s st f g ∙ h)
+
+  -- a child and what is left weigh less
+  pub lighter : (m d : Seen X) (c i : ℕ) → d.2 < m.2 → 2 ^ i ≤ c → open_weight d (2 ^ 32 - 1) + open_weight m (c - 2 ^ i) + 1 < open_weight m c
+  lighter m d c i h l =
+      let q = 2 ^ (33 * d.2) in
+      let r = 2 ^ (33 * (m.2 - d.2 - 1)) in
+      let e : 33 * m.2 ≡ 33 + 33 * d.2 + 33 * (m.2 - d.2 - 1) = omega (arith, h) in
+      let p : 2 ^ (33 * m.2) ≡ 2 ^ 33 * q * r = ap (λ n. 2 ^ n) e ∙ pow-add 2 (33 + 33 * d.2) (33 * (m.2 - d.2 - 1)) ∙ ap (λ x. x * r) (pow-add 2 33 (33 * d.2)) in
+      let u : 2 ^ 33 * q ≤ 2 ^ 33 * q * r = no_less (2 ^ 33 * q) r (pow_pos (33 * (m.2 - d.2 - 1))) in
+      let w : 2 ^ (33 * m.2) ≤ 2 ^ (33 * m.2) * 2 ^ i = no_less (2 ^ (33 * m.2)) (2 ^ i) (pow_pos i) in
+      let f : c ≡ c - 2 ^ i + 2 ^ i = omega (arith, l) in
+      let g : c * 2 ^ (33 * m.2) ≡ (c - 2 ^ i) * 2 ^ (33 * m.2) + 2 ^ (33 * m.2) * 2 ^ i = ap (λ x. x * 2 ^ (33 * m.2)) f ∙ split_mul (c - 2 ^ i) (2 ^ i) (2 ^ (33 * m.2)) in
+      omega (arith, p, u, w, g, pow_pos (33 * d.2))
+    where
+      no_less : (a b : ℕ) → 0 < b → a ≤ a * b
+      no_less a b h = le-mul_of_pos_right a h
+
+      split_mul : (a b n : ℕ) → (a + b) * n ≡ a * n + n * b
+      split_mul a b n = omega arith
+
+-- ---- what a search leaves open
+
+told_by : {p : List Bool → Bool} {f g : ℕ → Bool} (v c : ℕ) → IsTold p f g → ((i : ℕ) → i < 32 → has_bit v i ≡ f i) → ((i : ℕ) → i < 32 → has_bit c i ≡ g i) → (k : List Bool) → is_open v c k ≡ p k
+told_by {p} v c t a b k = by (nat_lt (length k) 5) refl
+  where
+    by : (x : Bool) → nat_lt (length k) 5 ≡ x → is_open v c k ≡ p k
+    by true e =
+        let l : length k < 5 = grind (arith, nat_tests) in
+        (told_open v c).short k l ∙ a (place_of k) (omega (arith, place_bound 5 k l)) ∙ sym (t.short k l)
+    by false e =
+        let l : 5 ≤ length k = grind (arith, nat_tests) in
+        (told_open v c).long k l ∙ b (child_of k) (number_bound 5 k) ∙ sym (t.long k l)
+
+where_told : {X : Type 0} {p : List Bool → Bool} {f g : ℕ → Bool} (v c : ℕ) (es : List (List Bool × X)) → IsTold p f g → ((i : ℕ) → i < 32 → has_bit v i ≡ f i) → ((i : ℕ) → i < 32 → has_bit c i ≡ g i) → where_key bits_cmp (is_open v c) es ≡ where_key bits_cmp p es
+where_told v c es t a b = λ j. where_key bits_cmp (λ k. told_by v c t a b k j) es
+
+has_from : (from i : ℕ) → i < 32 → has_bit (2 ^ 32 - 2 ^ from) i ≡ not (nat_lt i from)
+has_from from i h = has_between from 32 i ∙ (let b : nat_lt i 32 ≡ true = grind (arith, nat_tests) in ap (λ x. not (nat_lt i from) && x) b ∙ and_true (not (nat_lt i from)))
+  where
+    and_true : (b : Bool) → (b && true) ≡ b
+    and_true true = refl
+    and_true false = refl
+
+module _ {X : Type 0} where
+  where_all : (es : List (List Bool × X)) → where_key bits_cmp (λ _. true) es ≡ es
+  where_all [] = refl
+  where_all (e ∷ es) = ap (λ ys. e ∷ ys) (where_all es)
+
+  pub all_open : (es : List (List Bool × X)) → where_key bits_cmp (is_open (2 ^ 32 - 1) (2 ^ 32 - 1)) es ≡ es
+  all_open es =
+      where_told {p = λ _. true} {f = λ _. true} {g = λ _. true} (2 ^ 32 - 1) (2 ^ 32 - 1) es (record { short = λ q h. refl; long = λ q h. refl }) (λ i h. ap (λ x. eqb x 1) (bit_at_ones 32 i h)) (λ i h. ap (λ x. eqb x 1) (bit_at_ones 32 i h))
+      ∙ where_all es
+
+  pub inside_open : (q : List Bool) {v c len place child : ℕ} (es : List (List Bool × X)) → length q < 5 → len ≡ length q → place ≡ place_of q → child ≡ child_of q → v ≡ 2 ^ (place + 31 / 2 ^ len) - 2 ^ place → c ≡ 2 ^ (child + 32 / 2 ^ len) - 2 ^ child
+      → where_key bits_cmp (is_open v c) es ≡ where_key bits_cmp (begins q) es
+  inside_open q {v} {c} {len} {place} {child} es h e a b x y =
+      (λ j. where_key bits_cmp (is_open (x j) (y j)) es)
+      ∙ where_told _ _ es (inside_told q h)
+      (λ i l. has_between place (place + 31 / 2 ^ len) i ∙ (λ j. not (nat_lt i (a j)) && nat_lt i (a j + 31 / 2 ^ e j)))
+      (λ i l. has_between child (child + 32 / 2 ^ len) i ∙ (λ j. not (nat_lt i (b j)) && nat_lt i (b j + 32 / 2 ^ e j)))
+
+  pub past_open : (q : List Bool) {v c place child : ℕ} (es : List (List Bool × X)) → 5 ≤ length q → place ≡ place_of (take 4 q) + 1 → child ≡ child_of q → v ≡ 2 ^ 32 - 2 ^ place → c ≡ 2 ^ 32 - 2 ^ (child + 1)
+      → where_key bits_cmp (is_open v c) es ≡ where_key bits_cmp (is_past (take 5 q)) es
+  past_open q {v} {c} {place} {child} es h a b x y =
+      let five : length (take 5 q) ≡ 5 = (front q h).0 in
+      let t : take 4 (take 5 q) ≡ take 4 q = take_take q 4 1 in
+      let n : child_of (take 5 q) ≡ child_of q = number-take 5 q in
+      (λ j. where_key bits_cmp (is_open (x j) (y j)) es)
+      ∙ where_told _ _ es (record { short = λ r s. past_short (take 5 q) r five s; long = λ r s. past_long (take 5 q) r five s })
+      (λ i l. has_from place i l ∙ ap (λ p. not (nat_lt i p)) (a ∙ ap (λ s. place_of s + 1) (sym t)))
+      (λ i l. has_from (child + 1) i l ∙ ap (λ m. not (nat_lt i (m + 1))) (b ∙ sym n))
+
+  pub onwards_open : (q : List Bool) (inclusive : Bool) {v c place child : ℕ} (es : List (List Bool × X)) → length q < 5 → place ≡ cond inclusive (place_of q) (place_of q + 1) → child ≡ child_of q → v ≡ 2 ^ 32 - 2 ^ place → c ≡ 2 ^ 32 - 2 ^ child
+      → where_key bits_cmp (is_open v c) es ≡ where_key bits_cmp (is_from q inclusive) es
+  onwards_open q inclusive {v} {c} {place} {child} es h a b x y =
+      (λ j. where_key bits_cmp (is_open (x j) (y j)) es)
+      ∙ where_told _ _ es (record { short = λ r s. from_short inclusive q r h s; long = λ r s. from_long inclusive q r h s })
+      (λ i l. has_from place i l ∙ ap (λ p. not (nat_lt i p)) a)
+      (λ i l. has_from child i l ∙ ap (λ p. not (nat_lt i p)) b)
