@@ -279,7 +279,8 @@ impl<T: Drop> Node<T> {
         Ok((None, made + 1))
     }
 
-    /// Takes the entry out, and with it the nodes below this one on its path that are left bare.
+    /// Takes the entry out, and with it the nodes below this one on its path that are left bare, also where there was
+    /// no entry.
     ///
     /// Answers the value and how many nodes went.
     pub fn remove(&mut self, path: Path) -> (Option<T>, u8)

@@ -250,8 +250,8 @@ impl<P: Prefix + Drop, T: Drop> PrefixMap<P, T> {
         }
     }
 
-    /// Takes the entry out and answers its value. Then the node of the key goes, and each node above it, while it
-    /// has neither value nor child and is not the root; also where the key is not stored. It takes no memory.
+    /// Takes the entry out and answers its value. Then the last node on the way to the key goes, and each above it,
+    /// while it has neither value nor child and is not the root; also where the key is not stored. It takes no memory.
     pub fn remove(&mut self, prefix: &P) -> Option<T>
         requires { length (P.bits prefix.now) ≤ P.R.width }
         ensures value { result ≡ map.get self.old.0 (P.bits prefix.now) }

@@ -19,9 +19,9 @@ impl<P: Prefix + Drop, T: Drop> PrefixMap<P, T> {
         self.nodes = 1;
     }
 
-    /// Takes out every entry whose key the prefix contains, which itself counts. Then the node of the prefix goes,
-    /// and each node above it, while it has neither value nor child and is not the root. A prefix of length 0 clears
-    /// the map. It takes no memory.
+    /// Takes out every entry whose key the prefix contains, which itself counts. Then the last node on the way to the
+    /// prefix goes, and each above it, while it has neither value nor child and is not the root. A prefix of length 0
+    /// clears the map. It takes no memory.
     pub fn remove_children(&mut self, prefix: &P)
         requires { length (P.bits prefix.now) ≤ P.R.width }
         ensures map { self.new.0 ≡ outside self.old.0 (P.bits prefix.now) }
