@@ -192,7 +192,7 @@ module _ {Y : Type 0} where
       named_find f w n (where_key nat_cmp p es) a h (below_where w p es b) ∙ find-where_key nat_cmp p n (nat_alike p n) es
       ∙ ap (λ o. cond (p n) o None) (sym (named_find f w n es a h b))
 
-  keys_where : (n : ℕ) (trail : List Bool) (p : List Bool → Bool) (es : List (List Bool × Y)) → KeysWithin n (under trail es) → KeysWithin n (under trail (where_key bits_cmp p es))
+  pub keys_where : (n : ℕ) (trail : List Bool) (p : List Bool → Bool) (es : List (List Bool × Y)) → KeysWithin n (under trail es) → KeysWithin n (under trail (where_key bits_cmp p es))
   keys_where n trail p [] k = tt
   keys_where n trail p (e ∷ es) k = elim (p e.0) as (λ t. KeysWithin n (under trail (cond t (e ∷ where_key bits_cmp p es) (where_key bits_cmp p es)))) [
     | true ↦ (k.0, keys_where n trail p es k.1)
@@ -210,7 +210,7 @@ module _ {X : Type 0} where
     | false ↦ omega (arith, levels_where p cs)
   ]
 
-  order_where : (f g : ℕ → Bool) {vs : List (ℕ × X)} {cs : List (ℕ × Seen X)} → AreInOrder vs cs → AreInOrder (where_key nat_cmp f vs) (where_key nat_cmp g cs)
+  pub order_where : (f g : ℕ → Bool) {vs : List (ℕ × X)} {cs : List (ℕ × Seen X)} → AreInOrder vs cs → AreInOrder (where_key nat_cmp f vs) (where_key nat_cmp g cs)
   order_where f g {vs} {cs} o = record {
     values_rise = is_sorted-where_key nat_cmp f vs o.values_rise;
     values_below = below_where 31 f vs o.values_below;
@@ -256,20 +256,26 @@ module _ {X : Type 0} where
     pub rest : part_rest vs cs trail ≡ under trail (where_key bits_cmp p (entries m.0))
     pub levels : levels_of cs + 1 ≤ m.2
 
-  pub kept : {p : List Bool → Bool} (f g : ℕ → Bool) {m : Seen X} {vs : List (ℕ × X)} {cs : List (ℕ × Seen X)} {trail : List Bool} → AreParts m vs cs → IsTold p f g → length trail + 5 * m.2 ≤ 130 → KeysWithin 128 (under trail (entries m.0))
+  pub part_left : {p : List Bool → Bool} (f g : ℕ → Bool) {m : Seen X} {vs : List (ℕ × X)} {cs : List (ℕ × Seen X)} (trail : List Bool) → AreParts m vs cs → IsTold p f g → part_rest (where_key nat_cmp f vs) (where_key nat_cmp g cs) trail ≡ under trail (where_key bits_cmp p (entries m.0))
+  part_left {p} f g trail a t = ap (under trail) (part_where f g a.order t ∙ ap (λ n. where_key bits_cmp p (entries n)) a.map)
+
+  pub kept_left : {p : List Bool → Bool} (f g : ℕ → Bool) {m : Seen X} {vs : List (ℕ × X)} {cs : List (ℕ × Seen X)} {trail : List Bool} → AreParts m vs cs → IsTold p f g → length trail + 5 * m.2 ≤ 130 → KeysWithin 128 (under trail (where_key bits_cmp p (entries m.0)))
       → IsKept p m (where_key nat_cmp f vs) (where_key nat_cmp g cs) trail
-  kept {p} f g {m} {vs} {cs} {trail} a t l k =
-      let r : part_rest (where_key nat_cmp f vs) (where_key nat_cmp g cs) trail ≡ under trail (where_key bits_cmp p (entries m.0)) =
-      ap (under trail) (part_where f g a.order t ∙ ap (λ n. where_key bits_cmp p (entries n)) a.map) in
+  kept_left {p} f g {m} {vs} {cs} {trail} a t l k =
+      let r = part_left f g trail a t in
       record {
         frame = record {
           order = order_where f g a.order;
           levels = omega (arith, levels_where g cs, a.levels, l);
-          keys = subst (KeysWithin 128) (sym r) (keys_where 128 trail p (entries m.0) k);
+          keys = subst (KeysWithin 128) (sym r) k;
         };
         rest = r;
         levels = omega (arith, levels_where g cs, a.levels);
       }
+
+  kept : {p : List Bool → Bool} (f g : ℕ → Bool) {m : Seen X} {vs : List (ℕ × X)} {cs : List (ℕ × Seen X)} {trail : List Bool} → AreParts m vs cs → IsTold p f g → length trail + 5 * m.2 ≤ 130 → KeysWithin 128 (under trail (entries m.0))
+      → IsKept p m (where_key nat_cmp f vs) (where_key nat_cmp g cs) trail
+  kept {p} f g {m} {trail = trail} a t l k = kept_left f g a t l (keys_where 128 trail p (entries m.0) k)
 
   -- ---- the keys that begin with a short string
 

@@ -18,6 +18,7 @@ pub mod Splits
 pub mod Frames
 pub mod Opened
 pub mod Walks
+pub mod Trails
 pub mod Entries
 pub mod Inside
 pub mod Ways

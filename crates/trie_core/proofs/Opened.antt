@@ -1,6 +1,6 @@
 -- What stands in a node at the places that are open.
 use Rattle.std.proofs.Common.{◌≡◌, ℕ, zero, suc, ◌+◌, ◌-◌, ◌*◌, ◌/◌, ◌%◌, ◌^◌, ◌<◌, ◌≤◌, Bool, true, false, cond, not, ◌&&◌, List, [], ◌∷◌, ◌++◌, length, take, get_or, refl, sym, ap, subst, ◌∙◌, arith}
-use Rattle.std.specs.Prelude.{T, Option, Some, None, nat_lt, eqb, min, bit_and, count_ones, MatchOption, ⊤}
+use Rattle.std.specs.Prelude.{T, Option, Some, None, nat_lt, eqb, min, bit_and, count_ones, MatchOption}
 use Rattle.std.specs.Borrow.{Bor}
 use Rattle.std.specs.Int.{bit_at}
 use Rattle.std.specs.Ordering.{nat_cmp, eq_by_cmp}
@@ -11,17 +11,18 @@ use Rattle.std.proofs.Math.Nat.{le-mul_of_pos_right, pow-le-pow_right}
 use Rattle.std.proofs.lemmas.Nat.{pow_pos, pow-add}
 use Rattle.std.proofs.lemmas.Nat.Bits.{bit_at_and, bit_at-lt, bit_at-suc, bit_at_ones, bit_at-zero, bit_at_mask_above, bit_at_mask_below, bit_at_mask_inside}
 use Rattle.trie_keys.specs.Bits.{bits_cmp, begins, place_of, child_of, place_string, child_string, is_past, is_from}
-use Rattle.trie_keys.proofs.Strings.{both, front, take_take}
-use Rattle.trie_keys.proofs.Numbers.{place_bound, number_bound, number-take}
+use Rattle.std.proofs.Math.ListN.{length-append}
+use Rattle.trie_keys.proofs.Strings.{both, front, take_front, take_take}
+use Rattle.trie_keys.proofs.Numbers.{place_bound, number_bound, number-take, length-child_string}
 use Rattle.trie_keys.proofs.Begins.{past_short, past_long, from_short, from_long}
 use Rattle.trie_core.specs.Places.{placed, without, AllBelow, named, first_place_of, IsFirstPlace}
 use Rattle.trie_core.specs.Nodes.{Seen, under}
-use Rattle.trie_core.specs.Walks.{first_value, KeysWithin}
-use Rattle.trie_core.specs.Frames.{has_bit, is_open, place_first, Stands, open_weight}
+use Rattle.trie_core.specs.Walks.{first_value, KeysWithin, Left, part_rest}
+use Rattle.trie_core.specs.Frames.{has_bit, is_open, place_first, open_weight, frame_rest, frame_levels, frame_weight}
 use Rattle.trie_core.proofs.Edits.{at_sorted, bit_within, half_less, low_less, without_front}
 use Rattle.trie_core.proofs.Taken.{taken, missing}
 use Rattle.trie_core.proofs.Seen.{IsSeen}
-use Rattle.trie_core.proofs.Frames.{IsTold, nat_alike, where_twice, are_parts, kept, IsKept, value_is_first, value_next, child_next, nothing_next, inside_told}
+use Rattle.trie_core.proofs.Frames.{IsTold, nat_alike, where_twice, are_parts, kept_left, part_left, order_where, under_none, IsKept, value_is_first, value_next, child_next, nothing_next, inside_told}
 
 -- ---- bits
 
@@ -173,6 +174,13 @@ module _ {X : Type 0} where
 
 -- ---- a node
 
+-- five bits further down
+pub below_way : (way : List Bool) (place : ℕ) {below : List Bool} → below ≡ way ++ child_string place → (take (length below - 5) below ≡ way) × (length below ≡ length way + 5)
+below_way way place {below} e =
+    let l : length below ≡ length way + 5 = omega (arith, ap length e, length-append way (child_string place), length-child_string place) in
+    let n : length below - 5 ≡ length way = omega (arith, l) in
+    ((λ i. take (n i) (e i)) ∙ take_front way (child_string place) (length way) refl, l)
+
 told_open : (v c : ℕ) → IsTold (is_open v c) (has_bit v) (has_bit c)
 told_open v c = record {
   short = λ q h. let b : nat_lt (length q) 5 ≡ true = grind (arith, nat_tests) in ap (λ t. cond t (has_bit v (place_of q)) (has_bit c (child_of q))) b;
@@ -185,62 +193,65 @@ first_by_places (v ∷ vs) [] b d = refl
 first_by_places (v ∷ vs) (c ∷ cs) b d = sym (value_is_first (v ∷ vs) (c ∷ cs) b d refl refl refl)
 
 module _ {X : Type 0} where
-  pub stands_there : {o : Option (Bor (Seen X))} {n : Bor (Seen X)} {trail : List Bool} → MatchOption o ⊤ (λ m. Stands m.now trail) → o ≡ Some n → Stands n.now trail
-  stands_there {trail = trail} s e = subst (λ o. MatchOption o ⊤ (λ m. Stands m.now trail)) e s
+  -- what is open of the node that is seen as m, which stands at the trail
+  pub record IsOpened (m : Seen X) (trail : List Bool) (v c : ℕ) : Type 0 where
+    pub levels : length trail + 5 * m.2 ≤ 130
+    pub keys : KeysWithin 128 (under trail (where_key bits_cmp (is_open v c) (entries m.0)))
 
-  -- what is open of a node, as its values and its children
-  opened : {vb : ℕ} {vs : List X} {cb : ℕ} {cs : List (Seen X)} {m : Seen X} {trail : List Bool} (v c : ℕ) → IsSeen vb vs cb cs m → Stands m trail → IsKept (is_open v c) m (where_key nat_cmp (has_bit v) (placed vb vs)) (where_key nat_cmp (has_bit c) (placed cb cs)) trail
-  opened v c s st = kept (has_bit v) (has_bit c) (are_parts s) (told_open v c) st.levels st.keys
+  pub is_opened : {o : Option (Bor (Seen X))} {n : Bor (Seen X)} {s : Left X} (trail : List Bool) (v c : ℕ) → o ≡ Some n → (frame_rest o v c, frame_levels o, frame_weight o c) ≡ s → length trail + 5 * s.1 ≤ 130 → KeysWithin 128 (under trail s.0) → IsOpened n.now trail v c
+  is_opened trail v c e w l k = record {
+    levels = omega (arith, l, ap (λ s. s.1) w, ap frame_levels e);
+    keys = subst (λ es. KeysWithin 128 (under trail es)) (sym (ap (λ s. s.0) w) ∙ ap (λ o. frame_rest o v c) e) k;
+  }
 
-  first_told : {vb : ℕ} {vs : List X} {cb : ℕ} {cs : List (Seen X)} {m : Seen X} {trail : List Bool} (v c : ℕ) (p q : Option ℕ) → IsSeen vb vs cb cs m → Stands m trail
+  opened : {vb : ℕ} {vs : List X} {cb : ℕ} {cs : List (Seen X)} {m : Seen X} {trail : List Bool} (v c : ℕ) → IsSeen vb vs cb cs m → IsOpened m trail v c → IsKept (is_open v c) m (where_key nat_cmp (has_bit v) (placed vb vs)) (where_key nat_cmp (has_bit c) (placed cb cs)) trail
+  opened v c s t = kept_left (has_bit v) (has_bit c) (are_parts s) (told_open v c) t.levels t.keys
+
+  left_open : {vb : ℕ} {vs : List X} {cb : ℕ} {cs : List (Seen X)} {m : Seen X} (trail : List Bool) (v c : ℕ) → IsSeen vb vs cb cs m → part_rest (where_key nat_cmp (has_bit v) (placed vb vs)) (where_key nat_cmp (has_bit c) (placed cb cs)) trail ≡ under trail (where_key bits_cmp (is_open v c) (entries m.0))
+  left_open trail v c s = part_left (has_bit v) (has_bit c) trail (are_parts s) (told_open v c)
+
+  first_told : {vb : ℕ} {vs : List X} {cb : ℕ} {cs : List (Seen X)} {m : Seen X} (v c : ℕ) (p q : Option ℕ) → IsSeen vb vs cb cs m
       → MatchOption p (bit_and v vb ≡ 0) (IsFirstPlace (bit_and v vb)) → MatchOption q (bit_and c cb ≡ 0) (IsFirstPlace (bit_and c cb))
       → first_value (named place_string (where_key nat_cmp (has_bit v) (placed vb vs))) (named child_string (where_key nat_cmp (has_bit c) (placed cb cs))) ≡ place_first p q
-  first_told {vb} {vs} {cb} {cs} v c p q s st f g =
-      let o = (opened v c s st).frame.order in
+  first_told {vb} {vs} {cb} {cs} v c p q s f g =
+      let o = order_where (has_bit v) (has_bit c) (are_parts s).order in
       first_by_places _ _ o.values_below o.children_below ∙ (λ i. place_first (first_open p v vb vs s.slots.values_counted f i) (first_open q c cb cs s.slots.children_counted g i))
 
   -- the value at the first open place is next
   pub record IsValueOpen (m : Seen X) (trail : List Bool) (v c place : ℕ) (value : X) : Type 0 where
     pub within : length trail + length (place_string place) ≤ 128
-    pub room : length trail < 128
     pub rest : under trail (where_key bits_cmp (is_open v c) (entries m.0)) ≡ (trail ++ place_string place, value) ∷ under trail (where_key bits_cmp (is_open (v - 2 ^ place) c) (entries m.0))
 
-  pub value_open : {vb : ℕ} {vs : List X} {cb : ℕ} {cs : List (Seen X)} {m : Seen X} {trail : List Bool} (v c place : ℕ) (value : X) (q : Option ℕ) → IsSeen vb vs cb cs m → Stands m trail
+  pub value_open : {vb : ℕ} {vs : List X} {cb : ℕ} {cs : List (Seen X)} {m : Seen X} {trail : List Bool} (v c place : ℕ) (value : X) (q : Option ℕ) → IsSeen vb vs cb cs m → IsOpened m trail v c
       → IsFirstPlace (bit_and v vb) place → MatchOption q (bit_and c cb ≡ 0) (IsFirstPlace (bit_and c cb)) → place_first (Some place) q ≡ true → find nat_cmp place (placed vb vs) ≡ Some value → IsValueOpen m trail v c place value
-  value_open {vb} {vs} {cb} {cs} {m} {trail} v c place value q s st f g h e =
-      let k = opened v c s st in
-      let n = value_next k.frame (open_first v vb place vs value f e) (first_told v c (Some place) q s st f g ∙ h) in
+  value_open {vb} {vs} {cb} {cs} {m} {trail} v c place value q s t f g h e =
+      let n = value_next (opened v c s t).frame (open_first v vb place vs value f e) (first_told v c (Some place) q s f g ∙ h) in
       record {
         within = n.within;
-        room = n.room;
-        rest = sym k.rest ∙ n.rest ∙ ap (λ es. (trail ++ place_string place, value) ∷ es) (opened (v - 2 ^ place) c s st).rest;
+        rest = sym (left_open trail v c s) ∙ n.rest ∙ ap (λ es. (trail ++ place_string place, value) ∷ es) (left_open trail (v - 2 ^ place) c s);
       }
 
   -- the node at the first open place is next
   pub record IsChildOpen (m : Seen X) (trail : List Bool) (v c place : ℕ) (d : Seen X) : Type 0 where
     pub within : length trail + 5 ≤ 128
-    pub levels : length (trail ++ child_string place) + 5 * d.2 ≤ 130
-    pub keys : KeysWithin 128 (under (trail ++ child_string place) (entries d.0))
     pub smaller : d.2 < m.2
     pub rest : under trail (where_key bits_cmp (is_open v c) (entries m.0)) ≡ under (trail ++ child_string place) (entries d.0) ++ under trail (where_key bits_cmp (is_open v (c - 2 ^ place)) (entries m.0))
 
-  pub child_open : {vb : ℕ} {vs : List X} {cb : ℕ} {cs : List (Seen X)} {m : Seen X} {trail : List Bool} (v c place : ℕ) (d : Seen X) (p : Option ℕ) → IsSeen vb vs cb cs m → Stands m trail
+  pub child_open : {vb : ℕ} {vs : List X} {cb : ℕ} {cs : List (Seen X)} {m : Seen X} {trail : List Bool} (v c place : ℕ) (d : Seen X) (p : Option ℕ) → IsSeen vb vs cb cs m → IsOpened m trail v c
       → MatchOption p (bit_and v vb ≡ 0) (IsFirstPlace (bit_and v vb)) → IsFirstPlace (bit_and c cb) place → place_first p (Some place) ≡ false → find nat_cmp place (placed cb cs) ≡ Some d → 0 < d.2 → IsChildOpen m trail v c place d
-  child_open {vb} {vs} {cb} {cs} {m} {trail} v c place d p s st f g h e l =
-      let k = opened v c s st in
-      let n = child_next k.frame (open_first c cb place cs d g e) (first_told v c p (Some place) s st f g ∙ h) (omega (arith, l)) in
+  child_open {vb} {vs} {cb} {cs} {m} {trail} v c place d p s t f g h e l =
+      let k = opened v c s t in
+      let n = child_next k.frame (open_first c cb place cs d g e) (first_told v c p (Some place) s f g ∙ h) (omega (arith, l)) in
       record {
         within = n.within;
-        levels = n.levels;
-        keys = n.keys;
         smaller = omega (arith, n.less.0, k.levels);
-        rest = sym k.rest ∙ n.rest ∙ ap (λ es. under (trail ++ child_string place) (entries d.0) ++ es) (opened v (c - 2 ^ place) s st).rest;
+        rest = sym (left_open trail v c s) ∙ n.rest ∙ ap (λ es. under (trail ++ child_string place) (entries d.0) ++ es) (left_open trail v (c - 2 ^ place) s);
       }
 
-  pub nothing_open : {vb : ℕ} {vs : List X} {cb : ℕ} {cs : List (Seen X)} {m : Seen X} {trail : List Bool} (v c : ℕ) (p : Option ℕ) → IsSeen vb vs cb cs m → Stands m trail
-      → MatchOption p (bit_and v vb ≡ 0) (IsFirstPlace (bit_and v vb)) → bit_and c cb ≡ 0 → place_first p None ≡ false → under trail (where_key bits_cmp (is_open v c) (entries m.0)) ≡ []
-  nothing_open {vb} {vs} {cb} {cs} {m} {trail} v c p s st f g h =
-      sym (opened v c s st).rest ∙ nothing_next (where_key nat_cmp (has_bit v) (placed vb vs)) trail (open_none c cb cs g) (first_told v c p None s st f g ∙ h)
+  pub nothing_open : {vb : ℕ} {vs : List X} {cb : ℕ} {cs : List (Seen X)} {m : Seen X} (v c : ℕ) (p : Option ℕ) → IsSeen vb vs cb cs m
+      → MatchOption p (bit_and v vb ≡ 0) (IsFirstPlace (bit_and v vb)) → bit_and c cb ≡ 0 → place_first p None ≡ false → where_key bits_cmp (is_open v c) (entries m.0) ≡ []
+  nothing_open {vb} {vs} {cb} {cs} {m} v c p s f g h =
+      sym (under_none _) ∙ sym (left_open [] v c s) ∙ nothing_next (where_key nat_cmp (has_bit v) (placed vb vs)) [] (open_none c cb cs g) (first_told v c p None s f g ∙ h)
 
   -- a child and what is left weigh less
   pub lighter : (m d : Seen X) (c i : ℕ) → d.2 < m.2 → 2 ^ i ≤ c → open_weight d (2 ^ 32 - 1) + open_weight m (c - 2 ^ i) + 1 < open_weight m c

@@ -1,12 +1,11 @@
 -- What a walk has left of one node.
-use Rattle.std.specs.Prelude.{ℕ, ◌+◌, ◌*◌, ◌^◌, ◌<◌, ◌≤◌, length, nat_lt, eqb, leb, cond, Bool, true, false, List, [], Option, Some, None}
+use Rattle.std.specs.Prelude.{ℕ, ◌*◌, ◌^◌, length, nat_lt, eqb, leb, cond, Bool, true, false, List, [], Option, Some, None}
 use Rattle.std.specs.Borrow.{Bor}
 use Rattle.std.specs.Int.{bit_at}
 use Rattle.std.specs.FinMap.{entries}
 use Rattle.std.specs.FinMap.Entries.{where_key}
 use Rattle.trie_keys.specs.Bits.{bits_cmp, place_of, child_of, place_string}
-use Rattle.trie_core.specs.Nodes.{Seen, under}
-use Rattle.trie_core.specs.Walks.{KeysWithin}
+use Rattle.trie_core.specs.Nodes.{Seen}
 
 -- whether the bit at place i of a word is set
 abbrev pub has_bit : ℕ → ℕ → Bool
@@ -23,16 +22,10 @@ place_first (Some p) None = true
 place_first (Some p) (Some c) = leb (child_of (place_string p)) c
 
 module _ {X : Type 0} where
-  -- the node stands at the trail, and no key below it is longer than 128 bits
-  pub record Stands (m : Seen X) (trail : List Bool) : Type 0 where
-    pub positive : 0 < m.2
-    pub levels : length trail + 5 * m.2 ≤ 130
-    pub keys : KeysWithin 128 (under trail (entries m.0))
-
-  -- the entries of the node at the trail that are still to come
-  abbrev pub frame_rest : Option (Bor (Seen X)) → ℕ → ℕ → List Bool → List (List Bool × X)
-  frame_rest None values children trail = []
-  frame_rest (Some m) values children trail = under trail (where_key bits_cmp (is_open values children) (entries m.now.0))
+  -- the entries of the node that are still to come
+  abbrev pub frame_rest : Option (Bor (Seen X)) → ℕ → ℕ → List (List Bool × X)
+  frame_rest None values children = []
+  frame_rest (Some m) values children = where_key bits_cmp (is_open values children) (entries m.now.0)
 
   abbrev pub frame_levels : Option (Bor (Seen X)) → ℕ
   frame_levels None = 1

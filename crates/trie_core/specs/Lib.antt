@@ -6,6 +6,7 @@ pub mod Inside
 pub mod Lending
 pub mod Walks
 pub mod Frames
+pub mod Trails
 pub mod Steps
 pub mod Covers
 pub mod Held

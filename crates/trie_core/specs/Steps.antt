@@ -1,5 +1,6 @@
 -- What a step of a walk gives and leaves.
-use Rattle.std.specs.Prelude.{ℕ, ◌+◌, ◌<◌, ◌≤◌, ◌≡◌, Bool, List, [], ◌∷◌, ◌++◌}
+use Rattle.std.specs.Prelude.{ℕ, ◌+◌, ◌-◌, ◌<◌, ◌≤◌, ◌≡◌, length, take, Bool, List, [], ◌∷◌, ◌++◌}
+use Rattle.trie_core.specs.Nodes.{under}
 use Rattle.trie_core.specs.Walks.{Left}
 use Rattle.trie_core.specs.declared.frame.Next.{Next}
 use Rattle.trie_core.specs.declared.frame.Next.TheVariants.{Below, Nothing}
@@ -8,11 +9,11 @@ use Rattle.trie_core.specs.declared.walk.Step.{Step}
 use Rattle.trie_core.specs.declared.walk.Step.TheVariants.{Moved, Done}
 use Rattle.trie_core.specs.declared.walk.Step.TheVariants as step
 
--- s is the entry, or the frame of a node below, and then t
-abbrev pub GivesNext : {X : Type 0} → Left X → Next X → Left X → Type 0
-GivesNext s (next.Entry key value) t = (s.0 ≡ (key, value.now) ∷ t.0) × (t.1 ≤ s.1)
-GivesNext s (Below f) t = (s.0 ≡ f.0 ++ t.0) × (0 < f.1) × (f.1 < s.1) × (t.1 ≤ s.1) × (f.2 + t.2 + 1 < s.2)
-GivesNext s Nothing t = s.0 ≡ []
+-- in the node at the way: s is the entry, or the frame of the node below at its own way, and then t
+abbrev pub GivesNext : {X : Type 0} → List Bool → Left X → Next X → Left X → Type 0
+GivesNext way s (next.Entry key value) t = (under way s.0 ≡ (key, value.now) ∷ under way t.0) × (t.1 ≤ s.1)
+GivesNext way s (Below f below) t = (under way s.0 ≡ under below f.0 ++ under way t.0) × (0 < f.1) × (f.1 < s.1) × (t.1 ≤ s.1) × (f.2 + t.2 + 1 < s.2) × (take (length below - 5) below ≡ way) × (length below ≡ length way + 5)
+GivesNext way s Nothing t = s.0 ≡ []
 
 -- a step gave the first entry, or passed what holds none, or nothing was left
 abbrev pub Stepped : {X : Type 0} → List (List Bool × X) × ℕ → Step X → List (List Bool × X) × ℕ → Type 0

@@ -15,28 +15,26 @@ use std::alloc::AllocError;
 use std::marker::Model;
 use trie_keys::{Path, bit, first_child, place_length};
 
-/// What stands in a node at the places that are open, a word of them for its values and one for its children. The keys
-/// begin with the trail.
+/// What stands in a node at the places that are open: a word of them for its values, and one for its children.
 #[derive(Drop)]
 pub(crate) struct Frame<'a, T> {
     node: Option<&'a Node<T>>,
     values: u32,
     children: u32,
-    trail: Path,
 }
 
 impl<'a, T> Model for Frame<'a, T> {
-    ghost use Rattle.std.specs.Prelude.{MatchOption, ⊤};
+    ghost use Rattle.std.specs.Prelude.{◌<◌, MatchOption, ⊤};
     ghost use Rattle.trie_core.specs.Walks.{Left, left_code};
-    ghost use Rattle.trie_core.specs.Frames.{frame_rest, frame_levels, frame_weight, Stands};
+    ghost use Rattle.trie_core.specs.Frames.{frame_rest, frame_levels, frame_weight};
 
     ghost Value = { Left T };
 
     ghost coded = { left_code T.code };
 
-    ghost view = { λ a. (frame_rest a.node a.values a.children a.trail, frame_levels a.node, frame_weight a.node a.children) };
+    ghost view = { λ a. (frame_rest a.node a.values a.children, frame_levels a.node, frame_weight a.node a.children) };
 
-    ghost invariant = { λ a. MatchOption a.node ⊤ (λ m. Stands m.now a.trail) };
+    ghost invariant = { λ a. MatchOption a.node ⊤ (λ m. 0 < m.now.2) };
 }
 
 impl<'a, T> Clone for Frame<'a, T> {
@@ -49,7 +47,6 @@ impl<'a, T> Clone for Frame<'a, T> {
             node: self.node,
             values: self.values,
             children: self.children,
-            trail: self.trail.clone()?,
         })
     }
 }
@@ -61,15 +58,14 @@ impl<'a, T> Default for Frame<'a, T> {
             node: None,
             values: 0,
             children: 0,
-            trail: Path::new(0, 0),
         }
     }
 }
 
-/// What stands first in a frame.
+/// What stands first in a frame: an entry, or a node below, with the way to it.
 pub(crate) enum Next<'a, T> {
     Entry(Path, &'a T),
-    Below(Frame<'a, T>),
+    Below(Frame<'a, T>, Path),
     Nothing,
 }
 
@@ -119,89 +115,76 @@ fn value_first(value: Option<u8>, child: Option<u8>) -> bool
 impl<'a, T> Frame<'a, T> {
     /// What stands in a node at some places.
     #[inline]
-    fn open(node: &'a Node<T>, values: u32, children: u32, trail: Path) -> Frame<'a, T>
-        requires levels { length trail + 5 * node.now.2 ≤ 130 }
-        requires keys { KeysWithin 128 (under trail (entries node.now.0)) }
-        ensures rest { result.0 ≡ under trail (where_key bits_cmp (is_open values children) (entries node.now.0)) }
+    fn open(node: &'a Node<T>, values: u32, children: u32) -> Frame<'a, T>
+        ensures rest { result.0 ≡ where_key bits_cmp (is_open values children) (entries node.now.0) }
         ensures levels { result.1 ≡ node.now.2 }
         ensures positive { 0 < result.1 }
         ensures weight { result.2 ≡ open_weight node.now children }
     {
+        // Read so that its levels are known to be one or more.
         let _levels = node.child_bits;
         Frame {
             node: Some(node),
             values,
             children,
-            trail,
         }
     }
 
     /// All of a node.
     #[inline]
-    pub(crate) fn whole(node: &'a Node<T>, trail: Path) -> Frame<'a, T>
-        requires levels { length trail + 5 * node.now.2 ≤ 130 }
-        requires keys { KeysWithin 128 (under trail (entries node.now.0)) }
-        ensures rest { result.0 ≡ under trail (entries node.now.0) }
+    pub(crate) fn whole(node: &'a Node<T>) -> Frame<'a, T>
+        ensures rest { result.0 ≡ entries node.now.0 }
         ensures levels { result.1 ≡ node.now.2 }
         ensures positive { 0 < result.1 }
         ensures weight { result.2 ≡ open_weight node.now (2 ^ 32 - 1) }
     {
-        Frame::open(node, u32::MAX, u32::MAX, trail)
+        Frame::open(node, u32::MAX, u32::MAX)
     }
 
     /// Of a node the keys that begin with a string of fewer than five bits.
-    pub(crate) fn inside(node: &'a Node<T>, path: &Path, trail: Path) -> Frame<'a, T>
+    pub(crate) fn inside(node: &'a Node<T>, path: &Path) -> Frame<'a, T>
         requires short { length path.now < 5 }
-        requires levels { length trail + 5 * node.now.2 ≤ 130 }
-        requires keys { KeysWithin 128 (under trail (entries node.now.0)) }
-        ensures rest { result.0 ≡ under trail (where_key bits_cmp (begins path.now) (entries node.now.0)) }
+        ensures rest { result.0 ≡ where_key bits_cmp (begins path.now) (entries node.now.0) }
         ensures levels { result.1 ≤ node.now.2 }
         ensures positive { 0 < result.1 }
     {
         let (len, place, child) = (path.len(), path.place(), path.five());
         let values = places_between(place, place + (31 >> len));
         let children = places_between(child, child + (32 >> len));
-        Frame::open(node, values, children, trail)
+        Frame::open(node, values, children)
     }
 
     /// Of a node the keys that come after all that begin with the first five bits of a path.
-    pub(crate) fn past(node: &'a Node<T>, path: &Path, trail: Path) -> Frame<'a, T>
+    pub(crate) fn past(node: &'a Node<T>, path: &Path) -> Frame<'a, T>
         requires long { 5 ≤ length path.now }
-        requires levels { length trail + 5 * node.now.2 ≤ 130 }
-        requires keys { KeysWithin 128 (under trail (entries node.now.0)) }
-        ensures rest { result.0 ≡ under trail (where_key bits_cmp (is_past (take 5 path.now)) (entries node.now.0)) }
+        ensures rest { result.0 ≡ where_key bits_cmp (is_past (take 5 path.now)) (entries node.now.0) }
         ensures levels { result.1 ≤ node.now.2 }
         ensures positive { 0 < result.1 }
     {
         let five = path.five();
         let values = places_between(after_beginnings(five), 32);
         let children = places_between(five + 1, 32);
-        Frame::open(node, values, children, trail)
+        Frame::open(node, values, children)
     }
 
     /// Of a node the keys from a string of fewer than five bits on: those that come after it, and itself where asked.
-    pub(crate) fn onwards(
-        node: &'a Node<T>,
-        path: &Path,
-        trail: Path,
-        inclusive: bool,
-    ) -> Frame<'a, T>
+    pub(crate) fn onwards(node: &'a Node<T>, path: &Path, inclusive: bool) -> Frame<'a, T>
         requires short { length path.now < 5 }
-        requires levels { length trail + 5 * node.now.2 ≤ 130 }
-        requires keys { KeysWithin 128 (under trail (entries node.now.0)) }
-        ensures rest { result.0 ≡ under trail (where_key bits_cmp (is_from path.now inclusive) (entries node.now.0)) }
+        ensures rest { result.0 ≡ where_key bits_cmp (is_from path.now inclusive) (entries node.now.0) }
         ensures levels { result.1 ≤ node.now.2 }
         ensures positive { 0 < result.1 }
     {
         let place = path.place();
         let values = places_between(if inclusive { place } else { place + 1 }, 32);
         let children = places_between(path.five(), 32);
-        Frame::open(node, values, children, trail)
+        Frame::open(node, values, children)
     }
 
-    /// Takes out what stands first.
-    pub(crate) fn next(&mut self) -> Next<'a, T>
-        ensures next { GivesNext self.old result self.new }
+    /// Takes out what stands first, in the node at the way.
+    pub(crate) fn next(&mut self, way: &Path) -> Next<'a, T>
+        requires levels { length way.now + 5 * self.old.1 ≤ 130 }
+        requires keys { KeysWithin 128 (under way.now self.old.0) }
+        ensures next { GivesNext way.now self.old result self.new }
         ensures levels { 0 < self.new.1 }
     {
         let Some(node) = self.node else {
@@ -215,15 +198,16 @@ impl<'a, T> Frame<'a, T> {
             };
             let value = &node.values[taken_below(node.value_bits, place)];
             self.values -= bit(place);
-            let key = self.trail.with(first_child(place), place_length(place));
+            let key = way.with(first_child(place), place_length(place));
             return Next::Entry(key, value);
         }
         let Some(place) = child_place else {
             return Next::Nothing;
         };
         let below = &node.children[taken_below(node.child_bits, place)];
+        // Read so that its levels are known to be one or more.
         let _levels = below.child_bits;
         self.children -= bit(place);
-        Next::Below(Frame::whole(below, self.trail.with(place, 5)))
+        Next::Below(Frame::whole(below), way.with(place, 5))
     }
 }

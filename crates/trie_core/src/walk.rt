@@ -1,9 +1,10 @@
 //! Walks over the entries of a node in order. They take no memory.
-ghost use Rattle.std.specs.Prelude.{◌≡◌, ℕ, ◌+◌, ◌<◌, ◌≤◌, [], length, ⊤};
+ghost use Rattle.std.specs.Prelude.{◌≡◌, ℕ, ◌+◌, ◌-◌, ◌*◌, ◌<◌, ◌≤◌, [], length, take, ⊤};
 ghost use Rattle.std.specs.FinMap.{entries};
 ghost use Rattle.std.specs.FinMap.Entries.{where_key};
 ghost use Rattle.std.specs.Iterator.{YieldsFirstBy, item_count};
 ghost use Rattle.trie_keys.specs.Bits.{bits_cmp, begins, is_from};
+ghost use Rattle.trie_core.specs.Nodes.{under};
 ghost use Rattle.trie_core.specs.Walks.{KeysWithin};
 ghost use Rattle.trie_core.specs.Steps.{Stepped};
 
@@ -14,26 +15,29 @@ use std::alloc::AllocError;
 use std::marker::Model;
 use trie_keys::Path;
 
-/// The entries that are left of a walk: those of the frames on the stack, the last frame first.
+/// The entries that are left of a walk: those of the frames on the stack, the last frame first. The trail is the way to
+/// the node of the last frame, and each frame stands five bits below the one before it.
 ///
 /// A node has at most 25 levels of nodes below it, and a walk has one frame open at each level.
 #[derive(Drop)]
 pub struct Walk<'a, T> {
     stack: ArrayVec<Frame<'a, T>, 26>,
+    trail: Path,
 }
 
 impl<'a, T> Model for Walk<'a, T> {
     ghost use Rattle.std.specs.Prelude.{ℕ, List, Bool};
     ghost use Rattle.std.specs.Coded.{coded×, coded_ℕ, coded_list, coded_bool};
-    ghost use Rattle.trie_core.specs.Walks.{walk_rest, walk_weight, FitFrom};
+    ghost use Rattle.trie_core.specs.Walks.{walk_rest, walk_weight};
+    ghost use Rattle.trie_core.specs.Trails.{along, IsWalk};
 
     ghost Value = { List (List Bool × T) × ℕ };
 
     ghost coded = { coded× (coded_list (coded× (coded_list coded_bool) T.code)) coded_ℕ };
 
-    ghost view = { λ a. (walk_rest a.stack.items, walk_weight a.stack.items) };
+    ghost view = { λ a. (walk_rest (along a.trail a.stack.items), walk_weight (along a.trail a.stack.items)) };
 
-    ghost invariant = { λ a. FitFrom 0 a.stack.items };
+    ghost invariant = { λ a. IsWalk a.stack.items a.trail };
 }
 
 /// What one step of a walk came to.
@@ -43,16 +47,27 @@ pub(crate) enum Step<'a, T> {
     Done,
 }
 
+/// The way without its last five bits.
+#[inline]
+fn above(way: &Path) -> Path
+    requires { length way.now ≤ 128 }
+    ensures { result ≡ take (length way.now - 5) way.now }
+{
+    Path::new(way.to_bits(), way.len().saturating_sub(5))
+}
+
 impl<'a, T> Walk<'a, T> {
-    /// A walk that starts with one frame.
-    fn start(frame: Frame<'a, T>) -> Walk<'a, T>
+    /// A walk that starts with one frame, of the node at the trail.
+    fn start(frame: Frame<'a, T>, trail: Path) -> Walk<'a, T>
         requires positive { 0 < frame.1 }
         requires levels { frame.1 ≤ 26 }
-        ensures { result.0 ≡ frame.entry.0 }
+        requires reach { length trail + 5 * frame.1 ≤ 130 }
+        requires keys { KeysWithin 128 (under trail frame.0) }
+        ensures { result.0 ≡ under trail frame.entry.0 }
     {
         let mut stack = ArrayVec::new();
         stack.push(frame);
-        Walk { stack }
+        Walk { stack, trail }
     }
 
     /// The entries of a node.
@@ -61,7 +76,7 @@ impl<'a, T> Walk<'a, T> {
         requires keys { KeysWithin 128 (entries node.now.0) }
         ensures { result.0 ≡ entries node.now.0 }
     {
-        Walk::start(Frame::whole(node, Path::new(0, 0)))
+        Walk::start(Frame::whole(node), Path::new(0, 0))
     }
 
     /// The entries whose keys begin with a path, itself included.
@@ -82,7 +97,7 @@ impl<'a, T> Walk<'a, T> {
             trail = trail.with(path.five(), 5);
             path = path.rest();
         }
-        Walk::start(Frame::inside(node, &path, trail))
+        Walk::start(Frame::inside(node, &path), trail)
     }
 
     /// The entries from a path on, in the order of a walk: those whose keys come after it, and its own where asked.
@@ -97,17 +112,16 @@ impl<'a, T> Walk<'a, T> {
         let mut path = path;
         let mut trail = Path::new(0, 0);
         'way: while !path.is_short() {
-            let way = trail.with(path.five(), 5);
-            stack.push(Frame::past(node, &path, trail));
+            stack.push(Frame::past(node, &path));
             match node.child(&path) {
-                None => return Walk { stack },
+                None => return Walk { stack, trail },
                 Some(child) => node = child,
             }
-            trail = way;
+            trail = trail.with(path.five(), 5);
             path = path.rest();
         }
-        stack.push(Frame::onwards(node, &path, trail, inclusive));
-        Walk { stack }
+        stack.push(Frame::onwards(node, &path, inclusive));
+        Walk { stack, trail }
     }
 
     /// Takes one entry off the last frame, or opens a node, or takes off an empty frame.
@@ -117,17 +131,21 @@ impl<'a, T> Walk<'a, T> {
         let Some(mut frame) = self.stack.pop() else {
             return Step::Done;
         };
-        match frame.next() {
+        match frame.next(&self.trail) {
             Next::Entry(key, value) => {
                 self.stack.push(frame);
                 Step::Entry(key, value)
             }
-            Next::Below(below) => {
+            Next::Below(below, way) => {
                 self.stack.push(frame);
                 self.stack.push(below);
+                self.trail = way;
                 Step::Moved
             }
-            Next::Nothing => Step::Moved,
+            Next::Nothing => {
+                self.trail = above(&self.trail);
+                Step::Moved
+            }
         }
     }
 }
@@ -141,6 +159,7 @@ impl<'a, T> Clone for Walk<'a, T> {
     fn clone(&self) -> Result<Walk<'a, T>, AllocError> {
         Ok(Walk {
             stack: self.stack.clone()?,
+            trail: self.trail.clone()?,
         })
     }
 }
@@ -151,6 +170,7 @@ impl<'a, T> Default for Walk<'a, T> {
     fn default() -> Walk<'a, T> {
         Walk {
             stack: ArrayVec::new(),
+            trail: Path::new(0, 0),
         }
     }
 }

@@ -1,4 +1,9 @@
-use Rattle.std.proofs.Common.{◌∙◌, ◌≤◌, sym, length, arith}
+use Rattle.std.proofs.Common.{◌∙◌, ◌≤◌, sym, ap, subst, length, lit<, arith}
+use Rattle.std.specs.FinMap.{entries}
+use Rattle.trie_keys.specs.Bits.{begins}
+use Rattle.trie_core.specs.Nodes.{under}
+use Rattle.trie_core.specs.Walks.{KeysWithin}
+use Rattle.trie_core.proofs.Frames.{keys_where}
 use Rattle.std.proofs.lemmas.Bool.Decides.{nat_tests}
 use Rattle.trie_core.proofs.Walks.{start_way, way_below, way_none, five_bits}
 use Rattle.trie_core.proofs.walk.Walk.inside.Goals as goal
@@ -26,11 +31,8 @@ way-preserved g c =
     let h : 5 ≤ length c.way.path = grind (arith, nat_tests) in
     way_below c.way.invariant h c.in-Some.ensures (five_bits c.way.trail c.way.path h c.five.ensures.value c.with-trail.ensures) c.rest-path.ensures
 
-pub inside-requires-clause-levels : goal.inside-requires-clause-levels
-inside-requires-clause-levels g c = c.way.invariant.place.levels
-
-pub inside-requires-clause-keys : goal.inside-requires-clause-keys
-inside-requires-clause-keys g c = c.way.invariant.place.keys
+pub start-requires : goal.start-requires
+start-requires g c = (lit< tt, (c.inside.ensures.positive, (omega (arith, c.inside.ensures.levels, c.way.invariant.place.fewer, c.requires.levels), (omega (arith, c.way.invariant.place.levels, c.inside.ensures.levels), subst (λ es. KeysWithin 128 (under c.way.trail es)) (sym c.inside.ensures.rest) (keys_where 128 c.way.trail (begins c.way.path) (entries c.way.node.now.0) c.way.invariant.place.keys)))))
 
 pub returns : goal.returns
-returns g c = c.start.ensures ∙ c.inside.ensures.rest ∙ c.way.invariant.inside
+returns g c = c.start.ensures ∙ ap (under c.way.trail) c.inside.ensures.rest ∙ c.way.invariant.inside

@@ -1,12 +1,13 @@
-use Rattle.std.proofs.Common.{◌∙◌, ap}
+use Rattle.std.proofs.Common.{◌∙◌, ap, sym, subst, length, lit<, arith}
 use Rattle.std.specs.FinMap.{entries}
 use Rattle.trie_core.specs.Nodes.{under}
+use Rattle.trie_core.specs.Walks.{KeysWithin}
 use Rattle.trie_core.proofs.Frames.{under_none}
 use Rattle.trie_core.proofs.Walks.{at_root}
 use Rattle.trie_core.proofs.walk.Walk.new.Goals as goal
 
-pub whole-requires-clause-keys : goal.whole-requires-clause-keys
-whole-requires-clause-keys g c = (at_root {m = c.args.node.now} c.requires.levels c.requires.keys c.new.ensures).keys
+pub start-requires : goal.start-requires
+start-requires g c = (lit< tt, (omega (arith, c.whole.ensures.positive), (omega (arith, c.requires.levels, c.whole.ensures.levels), (omega (arith, c.requires.levels, c.whole.ensures.levels, ap length c.new.ensures), subst (λ es. KeysWithin 128 (under c.new.result es)) (sym c.whole.ensures.rest) (at_root {m = c.args.node.now} c.requires.levels c.requires.keys c.new.ensures).keys))))
 
 pub returns : goal.returns
-returns g c = c.start.ensures ∙ c.whole.ensures.rest ∙ ap (λ t. under t (entries c.args.node.now.0)) c.new.ensures ∙ under_none (entries c.args.node.now.0)
+returns g c = c.start.ensures ∙ (λ i. under (c.new.ensures i) (c.whole.ensures.rest i)) ∙ under_none (entries c.args.node.now.0)

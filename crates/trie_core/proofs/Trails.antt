@@ -1,0 +1,171 @@
+-- A stack of frames along a way.
+use Rattle.std.proofs.Common.{◌≡◌, ℕ, suc, ◌+◌, ◌-◌, ◌*◌, ◌<◌, ◌≤◌, Bool, List, [], ◌∷◌, ◌++◌, length, take, drop, refl, sym, ap, subst, ◌∙◌, arith}
+use Rattle.std.proofs.lemmas.List.{take_all}
+use Rattle.std.proofs.Math.ListN.{length-append, length-take}
+use Rattle.std.specs.FinMap.{entries}
+use Rattle.std.specs.FinMap.Entries.{where_key}
+use Rattle.trie_keys.specs.Bits.{bits_cmp, is_past, is_from}
+use Rattle.trie_keys.proofs.Strings.{append_none, front, take_front, take_take}
+use Rattle.trie_core.specs.Nodes.{Seen, under}
+use Rattle.trie_core.specs.Search.{IsChild, HasNoChild}
+use Rattle.trie_core.specs.Walks.{KeysWithin, Left, walk_rest, walk_weight, FitFrom}
+use Rattle.trie_core.specs.Trails.{on_way, along, Reach, IsWalk}
+use Rattle.trie_core.proofs.Frames.{keys_split, keys_where, under_none}
+use Rattle.trie_core.proofs.Walks.{IsTop, popped, pushed, entry_step, below_step, IsOnwards, start_onwards, onwards_below, onwards_none, onwards_end}
+
+module _ {X : Type 0} where
+  pub length_along : (way : List Bool) (fs : List (Left X)) → length (along way fs) ≡ length fs
+  length_along way [] = refl
+  length_along way (f ∷ fs) = ap suc (length_along way fs)
+
+  pub one_more : {gs : List (Left X)} (fs : List (Left X)) (f : Left X) → gs ≡ fs ++ f ∷ [] → length gs ≡ length fs + 1
+  one_more fs f e = ap length e ∙ length-append fs (f ∷ [])
+
+  -- below the last frame the way is five bits shorter
+  along_top : (way : List Bool) (fs : List (Left X)) (f : Left X) → along way (fs ++ f ∷ []) ≡ along (take (length way - 5) way) fs ++ on_way way f ∷ []
+  along_top way [] f = ap (λ w. on_way w f ∷ []) (take_all (length way - 5 * 0) way (omega arith))
+  along_top way (g ∷ fs) f = λ i. on_way (e i) g ∷ along_top way fs f i
+    where
+      n : ℕ
+      n = length way - 5
+
+      j : ℕ
+      j = n - 5 * length fs
+
+      a : length way - 5 * length (fs ++ f ∷ []) ≡ j
+      a = omega (arith, length-append fs (f ∷ []))
+
+      b : length (take n way) - 5 * length fs ≡ j
+      b = omega (arith, length-take n way)
+
+      k : j + (n - j) ≡ n
+      k = omega arith
+
+      e : take (length way - 5 * length (fs ++ f ∷ [])) way ≡ take (length (take n way) - 5 * length fs) (take n way)
+      e = ap (λ k. take k way) a ∙ sym (take_take way j (n - j)) ∙ ap (λ k. take j (take k way)) k ∙ ap (λ k. take k (take n way)) (sym b)
+
+  reach_open : (n : ℕ) (fs : List (Left X)) (f : Left X) → Reach n (fs ++ f ∷ []) → Reach (n - 5) fs × (n + 5 * f.1 ≤ 130)
+  reach_open n [] f r = (tt, omega (arith, r.0))
+  reach_open n (g ∷ fs) f r = let s = reach_open n fs f r.1 in ((omega (arith, r.0, length-append fs (f ∷ [])), s.0), s.1)
+
+  reach_close : (n : ℕ) (fs : List (Left X)) (f : Left X) → Reach (n - 5) fs → n + 5 * f.1 ≤ 130 → Reach n (fs ++ f ∷ [])
+  reach_close n [] f r l = (omega (arith, l), tt)
+  reach_close n (g ∷ fs) f r l = (omega (arith, r.0, length-append fs (f ∷ [])), reach_close n fs f r.1 l)
+
+  -- gs is fs with the frame f on top, where the way leads to f
+  pub record IsLast (gs fs : List (Left X)) (f : Left X) (way : List Bool) : Type 0 where
+    pub top : IsTop (along way gs) (along (take (length way - 5) way) fs) (on_way way f)
+    pub all : Reach (length way) gs
+    pub below : Reach (length way - 5) fs
+    pub reach : length way + 5 * f.1 ≤ 130
+    pub room : length fs + f.1 ≤ 26
+
+  pub put_frame : {gs fs : List (Left X)} {f : Left X} (way : List Bool) → FitFrom 0 (along (take (length way - 5) way) fs) → Reach (length way - 5) fs → 0 < f.1 → length fs + f.1 ≤ 26 → length way + 5 * f.1 ≤ 130 → gs ≡ fs ++ f ∷ [] → IsLast gs fs f way
+  put_frame {gs} {fs} {f} way a r p l h e = record {
+    top = pushed a p (omega (arith, l, length_along (take (length way - 5) way) fs)) (ap (along way) e ∙ along_top way fs f);
+    all = subst (Reach (length way)) (sym e) (reach_close (length way) fs f r h);
+    below = r;
+    reach = h;
+    room = l;
+  }
+
+  pub last_frame : {gs fs : List (Left X)} {f : Left X} {way : List Bool} → IsWalk gs way → gs ≡ fs ++ f ∷ [] → IsLast gs fs f way
+  last_frame {gs} {fs} {f} {way} w e =
+      let t = popped w.fit (ap (along way) e ∙ along_top way fs f) in
+      let r = reach_open (length way) fs f (subst (Reach (length way)) e w.reach) in
+      record {
+        top = t;
+        all = w.reach;
+        below = r.0;
+        reach = r.1;
+        room = omega (arith, t.levels, length_along (take (length way - 5) way) fs);
+      }
+
+  pub last_keys : {gs fs : List (Left X)} {f : Left X} {way : List Bool} → IsWalk gs way → IsLast gs fs f way → KeysWithin 128 (under way f.0)
+  last_keys {gs} {fs} {f} {way} w l = (keys_split 128 (under way f.0) (walk_rest (along (take (length way - 5) way) fs)) (subst (KeysWithin 128) l.top.rest w.keys)).0
+
+  -- the last frame gave an entry
+  pub entry_left : {ds fs gs : List (Left X)} {f g : Left X} {way : List Bool} (e : List Bool × X) → IsWalk ds way → IsLast ds fs f way → IsLast gs fs g way → under way f.0 ≡ e ∷ under way g.0 → IsWalk gs way × (walk_rest (along way ds) ≡ e ∷ walk_rest (along way gs))
+  entry_left e w p q s =
+      let r = entry_step e p.top s q.top in (
+        record { fit = q.top.whole; reach = q.all; keys = (subst (KeysWithin 128) r w.keys).1 },
+        r,
+      )
+
+  -- the frame of a node below is on top
+  pub put_below : (gs : List (Left X)) {hs : List (Left X)} (h : Left X) (way below : List Bool) → FitFrom 0 (along way gs) → Reach (length way) gs → 0 < h.1 → length gs + h.1 ≤ 26 → length below + 5 * h.1 ≤ 130 → take (length below - 5) below ≡ way → length below ≡ length way + 5 → hs ≡ gs ++ h ∷ []
+      → IsTop (along below hs) (along way gs) (on_way below h) × Reach (length below) hs
+  put_below gs {hs} h way below a r p l m t n e =
+      let d : length way ≡ length below - 5 = omega (arith, n) in (
+        pushed a p (omega (arith, l, length_along way gs)) (ap (along below) e ∙ along_top below gs h ∙ ap (λ w. along w gs ++ on_way below h ∷ []) t),
+        subst (Reach (length below)) (sym e) (reach_close (length below) gs h (subst (λ k. Reach k gs) d r) m),
+      )
+
+  pub below_left : {ds fs gs hs : List (Left X)} {f g : Left X} (h : Left X) {way below : List Bool} → IsWalk ds way → IsLast ds fs f way → IsLast gs fs g way → IsTop (along below hs) (along way gs) (on_way below h) × Reach (length below) hs → under way f.0 ≡ under below h.0 ++ under way g.0
+      → IsWalk hs below × (walk_rest (along way ds) ≡ walk_rest (along below hs))
+  below_left h w p q t s =
+      let r = below_step p.top s q.top t.0 in (
+        record { fit = t.0.whole; reach = t.1; keys = subst (KeysWithin 128) r w.keys },
+        r,
+      )
+
+  -- the last frame held nothing
+  pub nothing_left : {ds fs : List (Left X)} {f : Left X} {way up : List Bool} → IsWalk ds way → IsLast ds fs f way → up ≡ take (length way - 5) way → f.0 ≡ [] → IsWalk fs up × (walk_rest (along way ds) ≡ walk_rest (along up fs)) × (walk_weight (along way ds) ≡ f.2 + 1 + walk_weight (along up fs))
+  nothing_left {ds} {fs} {f} {way} {up} w p u z =
+      let r : walk_rest (along way ds) ≡ walk_rest (along up fs) = p.top.rest ∙ (λ i. under way (z i) ++ walk_rest (along (sym u i) fs)) in
+      let n : length way - 5 ≡ length up = omega (arith, ap length u, length-take (length way - 5) way) in (
+        record { fit = subst (λ v. FitFrom 0 (along v fs)) (sym u) p.top.below; reach = subst (λ k. Reach k fs) n p.below; keys = subst (KeysWithin 128) r w.keys },
+        r,
+        p.top.weight ∙ ap (λ v. f.2 + 1 + walk_weight (along v fs)) (sym u),
+      )
+
+  -- a walk of one frame
+  pub one_frame : {gs fs : List (Left X)} (f : Left X) (way : List Bool) → fs ≡ [] → gs ≡ fs ++ f ∷ [] → 0 < f.1 → f.1 ≤ 26 → length way + 5 * f.1 ≤ 130 → KeysWithin 128 (under way f.0) → IsWalk gs way × (walk_rest (along way gs) ≡ under way f.0)
+  one_frame {gs} {fs} f way z e p l h k =
+      let t = put_frame {fs = []} {f = f} way tt tt p (omega (arith, l)) h (e ∙ ap (λ xs. xs ++ f ∷ []) z) in
+      let r = t.top.rest ∙ append_none (under way f.0) in (
+        record { fit = t.top.whole; reach = t.all; keys = subst (KeysWithin 128) (sym r) k },
+        r,
+      )
+
+  -- ---- the way to where a walk goes on
+
+  -- the frames are those of the nodes above the one at the trail
+  pub record IsGoingOn (m n : Seen X) (q p trail : List Bool) (i : Bool) (fs : List (Left X)) : Type 0 where
+    pub way : IsOnwards m n q p trail i (along (take (length trail - 5) trail) fs)
+    pub reach : Reach (length trail - 5) fs
+
+  pub room_left : {m n : Seen X} {q p trail : List Bool} {i : Bool} {fs : List (Left X)} → IsGoingOn m n q p trail i fs → length fs + n.2 ≤ 26
+  room_left {trail = trail} {fs = fs} w = omega (arith, w.way.room, length_along (take (length trail - 5) trail) fs)
+
+  pub start_going : {m : Seen X} {q trail : List Bool} (i : Bool) {fs : List (Left X)} → m.2 ≤ 26 → KeysWithin 128 (entries m.0) → length q ≤ 128 → trail ≡ [] → fs ≡ [] → IsGoingOn m m q q trail i fs
+  start_going {trail = trail} i l k h e z = record {
+    way = start_onwards i l k h e (ap (along (take (length trail - 5) trail)) z);
+    reach = subst (Reach (length trail - 5)) (sym z) tt;
+  }
+
+  pub put_going : {m n : Seen X} {q p trail : List Bool} {i : Bool} {fs gs : List (Left X)} {f : Left X} → IsGoingOn m n q p trail i fs → 0 < f.1 → f.1 ≤ n.2 → gs ≡ fs ++ f ∷ [] → IsLast gs fs f trail
+  put_going {trail = trail} {fs = fs} w p l e = put_frame trail w.way.fit w.reach p (omega (arith, w.way.room, l, length_along (take (length trail - 5) trail) fs)) (omega (arith, w.way.place.levels, l)) e
+
+  pub going_below : {m n c : Seen X} {q p r trail below : List Bool} {i : Bool} {fs gs : List (Left X)} {f : Left X} → IsGoingOn m n q p trail i fs → 5 ≤ length p → IsChild p n c → below ≡ trail ++ take 5 p → r ≡ drop 5 p → f.0 ≡ where_key bits_cmp (is_past (take 5 p)) (entries n.0) → IsLast gs fs f trail → IsGoingOn m c q r below i gs
+  going_below {m} {n} {c} {q} {p} {r} {trail} {below} {i} {fs} {gs} w h s e d v t =
+      let k : length below - 5 ≡ length trail = omega (arith, ap length e, length-append trail (take 5 p), (front p h).0) in
+      let u : take (length below - 5) below ≡ trail = (λ j. take (k j) (e j)) ∙ take_front trail (take 5 p) (length trail) refl in
+      record {
+        way = subst (λ x. IsOnwards m c q r below i (along x gs)) (sym u) (onwards_below w.way h s e d (ap (under trail) v) t.top);
+        reach = subst (λ x. Reach x gs) (sym k) t.all;
+      }
+
+  keys_from : (m : Seen X) (q : List Bool) (i : Bool) → KeysWithin 128 (entries m.0) → KeysWithin 128 (where_key bits_cmp (is_from q i) (entries m.0))
+  keys_from m q i k = subst (KeysWithin 128) (under_none _) (keys_where 128 [] (is_from q i) (entries m.0) (subst (KeysWithin 128) (sym (under_none _)) k))
+
+  gone : (m : Seen X) (q : List Bool) (i : Bool) {fs gs : List (Left X)} {f : Left X} {trail : List Bool} → KeysWithin 128 (entries m.0) → IsLast gs fs f trail → walk_rest (along trail gs) ≡ where_key bits_cmp (is_from q i) (entries m.0) → IsWalk gs trail × (walk_rest (along trail gs) ≡ where_key bits_cmp (is_from q i) (entries m.0))
+  gone m q i k t r = (record { fit = t.top.whole; reach = t.all; keys = subst (KeysWithin 128) (sym r) (keys_from m q i k) }, r)
+
+  pub going_none : {m n : Seen X} {q p trail : List Bool} {i : Bool} {fs gs : List (Left X)} {f : Left X} → KeysWithin 128 (entries m.0) → IsGoingOn m n q p trail i fs → 5 ≤ length p → HasNoChild p n → f.0 ≡ where_key bits_cmp (is_past (take 5 p)) (entries n.0) → IsLast gs fs f trail
+      → IsWalk gs trail × (walk_rest (along trail gs) ≡ where_key bits_cmp (is_from q i) (entries m.0))
+  going_none {m} {q = q} {trail = trail} {i = i} k w h s v t = gone m q i k t (onwards_none w.way h s (ap (under trail) v) t.top)
+
+  pub going_end : {m n : Seen X} {q p trail : List Bool} {i : Bool} {fs gs : List (Left X)} {f : Left X} → KeysWithin 128 (entries m.0) → IsGoingOn m n q p trail i fs → f.0 ≡ where_key bits_cmp (is_from p i) (entries n.0) → IsLast gs fs f trail
+      → IsWalk gs trail × (walk_rest (along trail gs) ≡ where_key bits_cmp (is_from q i) (entries m.0))
+  going_end {m} {q = q} {trail = trail} {i = i} k w v t = gone m q i k t (onwards_end w.way (ap (under trail) v) t.top)
