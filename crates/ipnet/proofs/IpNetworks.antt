@@ -7,7 +7,7 @@ use Rattle.ipnet_addr.specs.Masks.{IsMask}
 use Rattle.ipnet_addr.proofs.Powers.{mask_unique}
 use Rattle.ipnet_blocks.specs.Networks.{Network}
 use Rattle.ipnet.specs.NetworkText.{ReadsIpv4, ReadsIpv6}
-use Rattle.ipnet.specs.Reader.{ipv4_net_of, ipv6_net_of}
+use Rattle.ipnet.specs.NetworkReader.{ipv4_net_of, ipv6_net_of}
 use Rattle.ipnet.specs.IpNets.{family, parts, net_in}
 use Rattle.ipnet.specs.IpNetText.{Reads, either_net, ip_net_of}
 use Rattle.ipnet.specs.declared.ip_net.IpNet.{IpNet}

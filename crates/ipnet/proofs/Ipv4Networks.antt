@@ -4,29 +4,16 @@ use Rattle.std.specs.Int.{w32, to_be_bytes}
 use Rattle.std.specs.Net.Addr.{ipv4_octets, ipv4_bits}
 use Rattle.std.specs.declared.net.ipv4_addr.Ipv4Addr.{Ipv4Addr}
 use Rattle.ipnet_addr.specs.AddressText.{IsIpv4}
-use Rattle.ipnet_addr.specs.Reader.{read_ipv4}
+use Rattle.ipnet_addr.specs.AddressReader.{read_ipv4}
 use Rattle.ipnet_addr.proofs.Ipv4Text.{read_ipv4_sound, read_ipv4_complete, decimal_short, IsIpv4-ipv4_text}
 use Rattle.ipnet_addr.proofs.Numbers.{octets_number, parts_number}
 use Rattle.ipnet_blocks.specs.Networks.{Network}
 use Rattle.ipnet.specs.NetworkText.{ReadsIpv4, ipv4_net_text}
-use Rattle.ipnet.specs.Reader.{read_network, ipv4_net_of}
-use Rattle.ipnet.proofs.NetworkReader.{read_network_sound, spells_complete, spells_sound, spells_none, spells_unique, spells_found, spells_read, spells_not_read}
+use Rattle.ipnet.specs.NetworkReader.{read_network, ipv4_net_of}
+use Rattle.ipnet.proofs.NetworkReader.{read_network_sound, spells_unique, spells_found, spells_read, spells_not_read}
 
 at_slash : (text octets rest : List ℕ) → IsIpv4 text octets → read_ipv4 (text ++ 47 ∷ rest) ≡ Some (octets, 47 ∷ rest)
 at_slash text octets rest h = read_ipv4_complete text octets (47 ∷ rest) h (lit≤ tt)
-
-pub v4_complete : (text : List ℕ) (n : Network) → ReadsIpv4 text n → ipv4_net_of text ≡ Some n
-unfolding ipv4_net_of
-v4_complete = spells_complete IsIpv4 2 32 read_ipv4 read_ipv4_sound at_slash 256
-
-pub v4_sound : (text : List ℕ) (n : Network) → ipv4_net_of text ≡ Some n → ReadsIpv4 text n
-unfolding ipv4_net_of
-v4_sound = spells_sound IsIpv4 2 32 read_ipv4 read_ipv4_sound at_slash 256
-
--- a text that spells no network
-pub v4_none : (text : List ℕ) → ((n : Network) → ReadsIpv4 text n → ⊥) → ipv4_net_of text ≡ None
-unfolding ipv4_net_of
-v4_none = spells_none IsIpv4 2 32 read_ipv4 read_ipv4_sound at_slash 256
 
 pub v4_unique : (text : List ℕ) (m n : Network) → ReadsIpv4 text m → ReadsIpv4 text n → m ≡ n
 v4_unique = spells_unique IsIpv4 2 32 read_ipv4 read_ipv4_sound at_slash 256

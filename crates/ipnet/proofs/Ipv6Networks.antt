@@ -4,33 +4,20 @@ use Rattle.std.specs.Int.{w128, to_be_bytes}
 use Rattle.std.specs.Net.Addr.{ipv6_segments, ipv6_bits, segments_of}
 use Rattle.std.specs.declared.net.ipv6_addr.Ipv6Addr.{Ipv6Addr}
 use Rattle.ipnet_addr.specs.AddressText.{IsIpv6}
-use Rattle.ipnet_addr.specs.Reader.{read_ipv6}
+use Rattle.ipnet_addr.specs.AddressReader.{read_ipv6}
 use Rattle.ipnet_addr.proofs.Ipv4Text.{decimal_short}
 use Rattle.ipnet_addr.proofs.Ipv6Text.{EndsGroups, read_ipv6_sound, read_ipv6_complete, IsIpv6-ipv6_text, ipv4-not_ipv6, ipv6_units}
 use Rattle.ipnet_addr.proofs.Numbers.{segments_number, segments_small, units_bits}
 use Rattle.ipnet_blocks.specs.Networks.{Network}
 use Rattle.ipnet.specs.NetworkText.{ReadsIpv4, ReadsIpv6, ipv6_net_text}
-use Rattle.ipnet.specs.Reader.{read_network, ipv6_net_of}
-use Rattle.ipnet.proofs.NetworkReader.{read_network_sound, spells_complete, spells_sound, spells_none, spells_unique, spells_found, spells_read, spells_not_read}
+use Rattle.ipnet.specs.NetworkReader.{read_network, ipv6_net_of}
+use Rattle.ipnet.proofs.NetworkReader.{read_network_sound, spells_unique, spells_found, spells_read, spells_not_read}
 
 slash : (rest : List ℕ) → EndsGroups (47 ∷ rest)
 slash rest = ((lit≤ tt, omega arith), λ colon. absurd (omega arith))
 
 at_slash : (text units rest : List ℕ) → IsIpv6 text units → read_ipv6 (text ++ 47 ∷ rest) ≡ Some (units, 47 ∷ rest)
 at_slash text units rest h = read_ipv6_complete text units (47 ∷ rest) h (slash rest)
-
-pub v6_complete : (text : List ℕ) (n : Network) → ReadsIpv6 text n → ipv6_net_of text ≡ Some n
-unfolding ipv6_net_of
-v6_complete = spells_complete IsIpv6 3 128 read_ipv6 read_ipv6_sound at_slash 65536
-
-pub v6_sound : (text : List ℕ) (n : Network) → ipv6_net_of text ≡ Some n → ReadsIpv6 text n
-unfolding ipv6_net_of
-v6_sound = spells_sound IsIpv6 3 128 read_ipv6 read_ipv6_sound at_slash 65536
-
--- a text that spells no network
-pub v6_none : (text : List ℕ) → ((n : Network) → ReadsIpv6 text n → ⊥) → ipv6_net_of text ≡ None
-unfolding ipv6_net_of
-v6_none = spells_none IsIpv6 3 128 read_ipv6 read_ipv6_sound at_slash 65536
 
 pub v6_unique : (text : List ℕ) (m n : Network) → ReadsIpv6 text m → ReadsIpv6 text n → m ≡ n
 v6_unique = spells_unique IsIpv6 3 128 read_ipv6 read_ipv6_sound at_slash 65536

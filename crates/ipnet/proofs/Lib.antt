@@ -8,3 +8,4 @@ pub mod IpAggregates
 pub mod SixteenOctets
 pub mod StringValues
 pub mod FormLaws
+pub mod AggregatedAgain

@@ -7,9 +7,9 @@ use Rattle.std.proofs.NetLemmas.Options.{cond_some, and_then_some, same_parts}
 use Rattle.std.proofs.NetLemmas.Ipv4.{read_byte_sound}
 use Rattle.ipnet_addr.specs.AddressText.{IsShort}
 use Rattle.ipnet.specs.NetworkText.{SpellsParts, Spells}
-use Rattle.ipnet_addr.specs.Reader.{read_short}
+use Rattle.ipnet_addr.specs.AddressReader.{read_short}
 use Rattle.ipnet_blocks.specs.Networks.{Network}
-use Rattle.ipnet.specs.Reader.{read_network, network_of}
+use Rattle.ipnet.specs.NetworkReader.{read_network, network_of}
 use Rattle.ipnet_addr.proofs.Ipv4Text.{read_short_complete, read_short_sound}
 
 empty : (xs : List ℕ) → length xs ≡ 0 → xs ≡ []
@@ -54,14 +54,6 @@ module _ (Address : List ℕ → List ℕ → Type 0) (digits max : ℕ) (read :
         let number : n.number ≡ number_from_digits base p.0 = cc in
         let len : p.1 ≡ n.len = cc in
         record { parts = p.0; spelled = rw (← len) (read_network_sound text p.0 p.1 is_read); number = number }
-
-    -- a text that spells no network
-    pub spells_none : (text : List ℕ) → ((n : Network) → Spells Address base digits max text n → ⊥) → network_of base (read_network (read text) digits max) ≡ None
-    spells_none text h = go (network_of base (read_network (read text) digits max)) refl
-      where
-        go : (r : Option Network) → network_of base (read_network (read text) digits max) ≡ r → network_of base (read_network (read text) digits max) ≡ None
-        go None e = e
-        go (Some n) e = absurd (h n (spells_sound text n e))
 
     -- a text spells one network at most
     pub spells_unique : (text : List ℕ) (m n : Network) → Spells Address base digits max text m → Spells Address base digits max text n → m ≡ n

@@ -2,7 +2,7 @@
 use Rattle.std.specs.Prelude.{ℕ, List, Option, Some, None, option_map}
 use Rattle.ipnet.specs.NetworkText.{ReadsIpv4, ReadsIpv6, ipv4_net_text, ipv6_net_text}
 use Rattle.ipnet_blocks.specs.Networks.{Network}
-use Rattle.ipnet.specs.Reader.{ipv4_net_of, ipv6_net_of}
+use Rattle.ipnet.specs.NetworkReader.{ipv4_net_of, ipv6_net_of}
 use Rattle.ipnet.specs.declared.ip_net.IpNet.{IpNet}
 use Rattle.ipnet.specs.declared.ip_net.IpNet.TheVariants.{V4, V6}
 

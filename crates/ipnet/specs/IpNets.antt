@@ -2,7 +2,7 @@
 use Rattle.std.specs.Prelude.{◌≡◌, ◌<◌, ◌⊎◌}
 use Rattle.ipnet_addr.specs.Addresses.{Family, Ipv4, Ipv6, rank}
 use Rattle.ipnet_blocks.specs.Blocks.{Block}
-use Rattle.ipnet_blocks.specs.Networks.{Network, block_of, ComesBefore}
+use Rattle.ipnet_blocks.specs.Networks.{Network, block_of, net_of, IsNetworkBefore}
 use Rattle.ipnet.specs.declared.ip_net.IpNet.{IpNet}
 use Rattle.ipnet.specs.declared.ip_net.IpNet.TheVariants.{V4, V6}
 
@@ -26,5 +26,9 @@ net_in Ipv4 n = V4 n
 net_in Ipv6 n = V6 n
 
 -- IPv4 before IPv6, then by the number of the address, then by length
-abbrev pub IsSooner : IpNet → IpNet → Type 0
-IsSooner m n = (rank (family m) < rank (family n)) ⊎ ((rank (family m) ≡ rank (family n)) × ComesBefore (parts m) (parts n))
+abbrev pub IsNetBefore : IpNet → IpNet → Type 0
+IsNetBefore m n = (rank (family m) < rank (family n)) ⊎ ((rank (family m) ≡ rank (family n)) × IsNetworkBefore (parts m) (parts n))
+
+-- the network of a block, without host bits
+abbrev pub network_at : Block → IpNet
+network_at b = net_in b.family (net_of b)

@@ -1,6 +1,6 @@
 -- Subnet iterators of either family.
-use Rattle.std.specs.Prelude.{List, map}
-use Rattle.ipnet_addr.specs.Addresses.{Family, Ipv4, Ipv6}
+use Rattle.std.specs.Prelude.{◌≡◌, ◌<◌, ◌⊎◌, List, map}
+use Rattle.ipnet_addr.specs.Addresses.{Family, Ipv4, Ipv6, rank}
 use Rattle.ipnet_blocks.specs.Blocks.{Block}
 use Rattle.ipnet_blocks.specs.Cuts.{Limits, cut, subnets, after_first}
 use Rattle.ipnet.specs.declared.ip_net.IpNet.{IpNet}
@@ -27,3 +27,21 @@ ip_subnets (V6 l) = map net.V6 (subnets Ipv6 l)
 abbrev pub after_first_of : IpSubnets → IpSubnets
 after_first_of (V4 l) = V4 (after_first 32 l)
 after_first_of (V6 l) = V6 (after_first 128 l)
+
+-- the family of the iterator
+abbrev pub cut_family : IpSubnets → Family
+cut_family (V4 l) = Ipv4
+cut_family (V6 l) = Ipv6
+
+-- its limits
+abbrev pub cut_limits : IpSubnets → Limits
+cut_limits (V4 l) = l
+cut_limits (V6 l) = l
+
+-- by the start, then by the end, then by the least length
+abbrev pub IsLimitsBefore : Limits → Limits → Type 0
+IsLimitsBefore a b = (a.start < b.start) ⊎ ((a.start ≡ b.start) × (a.end < b.end)) ⊎ ((a.start ≡ b.start) × (a.end ≡ b.end) × (a.shortest < b.shortest))
+
+-- IPv4 before IPv6, then by the limits
+abbrev pub IsSubnetsBefore : IpSubnets → IpSubnets → Type 0
+IsSubnetsBefore a b = (rank (cut_family a) < rank (cut_family b)) ⊎ ((rank (cut_family a) ≡ rank (cut_family b)) × IsLimitsBefore (cut_limits a) (cut_limits b))

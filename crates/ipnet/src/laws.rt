@@ -1,20 +1,29 @@
 //! Laws of networks and their texts, and those of addresses, blocks and maximal blocks: public functions without a body, whose contracts are the laws.
 
-ghost use Rattle.std.specs.Prelude.{◌≡◌, ◌≢◌, ◌≤◌, ◌⊎◌, ◌↔◌, ℕ, IsTrue, List, All, MatchOption, length};
+ghost use Rattle.std.specs.Prelude.{◌≡◌, ◌≢◌, ◌≤◌, ◌⊎◌, ◌↔◌, ◌++◌, ℕ, IsTrue, List, All, MatchOption, length, pos};
+ghost use Rattle.std.specs.Hash as fed;
 ghost use Rattle.std.specs.Ordering.{MatchOrdering};
 ghost use Rattle.serde_json.specs.Data.{Data, string};
 ghost use Rattle.ipnet_addr.specs.Addresses.{Ipv4, Ipv6};
 ghost use Rattle.ipnet.specs.Forms.{HoldsIpv4, HoldsIpv6, Holds, IsStringOf};
-ghost use Rattle.ipnet.specs.IpNets.{IsSooner, family, parts};
+ghost use Rattle.ipnet.specs.IpNets.{IsNetBefore, family, parts};
+ghost use Rattle.ipnet.specs.IpSubnets.{IsLimitsBefore, IsSubnetsBefore};
+ghost use Rattle.ipnet.specs.Laws.{BlockIsBlock, OrderIsOfBlocks, StaysAggregated};
+ghost use Rattle.ipnet_blocks.specs.Cuts.{Limits};
 ghost use Rattle.ipnet.specs.IpNetText.{Reads, ip_net_of, net_text};
-ghost use Rattle.ipnet_blocks.specs.Networks.{ComesBefore, Network, IsNetwork};
+ghost use Rattle.ipnet_blocks.specs.Networks.{IsNetworkBefore, Network, IsNetwork};
 ghost use Rattle.ipnet.specs.NetworkText.{ReadsIpv4, ReadsIpv6, ipv4_net_text, ipv6_net_text};
-ghost use Rattle.ipnet.specs.Reader.{ipv4_net_of, ipv6_net_of};
+ghost use Rattle.ipnet.specs.NetworkReader.{ipv4_net_of, ipv6_net_of};
 ghost use Rattle.ipnet.specs.declared.ip_net.IpNet.{IpNet as AnyNet};
+ghost use Rattle.ipnet.specs.declared.subnets.IpSubnets.{IpSubnets as AnySubnets};
 
 use crate::ip_net::IpNet;
 use crate::networks::{Ipv4Net, Ipv6Net};
-pub use ipnet_addr::laws::{address_number, range_calls, same_number};
+use crate::subnets::{IpSubnets, Ipv4Subnets, Ipv6Subnets};
+pub use ipnet_addr::laws::{
+    address_number, address_texts, mask_length, range_calls, range_clones, range_equality,
+    range_hashes, range_order, range_stays_empty, same_number,
+};
 pub use ipnet_blocks::laws::{
     aggregated, begins_is_inside, blocks, cuts, hosts, inside_by_numbers, masks, maximal, nested,
     networks_of_blocks, order, search,
@@ -23,9 +32,9 @@ use std::hash::Hash;
 
 /// Networks are ordered by family, number and length.
 pub fn network_order()
-    ensures v4 { (m n : Network) → MatchOrdering (⟦<Ipv4Net as Ord>⟧.cmp m n) (ComesBefore m n) (m ≡ n) (ComesBefore n m) }
-    ensures v6 { (m n : Network) → MatchOrdering (⟦<Ipv6Net as Ord>⟧.cmp m n) (ComesBefore m n) (m ≡ n) (ComesBefore n m) }
-    ensures either { (m n : AnyNet) → MatchOrdering (⟦<IpNet as Ord>⟧.cmp m n) (IsSooner m n) (m ≡ n) (IsSooner n m) }
+    ensures v4 { (m n : Network) → MatchOrdering (⟦<Ipv4Net as Ord>⟧.cmp m n) (IsNetworkBefore m n) (m ≡ n) (IsNetworkBefore n m) }
+    ensures v6 { (m n : Network) → MatchOrdering (⟦<Ipv6Net as Ord>⟧.cmp m n) (IsNetworkBefore m n) (m ≡ n) (IsNetworkBefore n m) }
+    ensures either { (m n : AnyNet) → MatchOrdering (⟦<IpNet as Ord>⟧.cmp m n) (IsNetBefore m n) (m ≡ n) (IsNetBefore n m) }
 {}
 
 /// `==` holds of one network alone, and equal networks hash alike.
@@ -36,6 +45,35 @@ pub fn network_equality()
     ensures hash_v4 { (m n : Network) → IsTrue (⟦<Ipv4Net as PartialEq>⟧.eq m n) → ⟦<Ipv4Net as Hash>⟧.hash_input m ≡ ⟦<Ipv4Net as Hash>⟧.hash_input n }
     ensures hash_v6 { (m n : Network) → IsTrue (⟦<Ipv6Net as PartialEq>⟧.eq m n) → ⟦<Ipv6Net as Hash>⟧.hash_input m ≡ ⟦<Ipv6Net as Hash>⟧.hash_input n }
     ensures hash_either { (m n : AnyNet) → IsTrue (⟦<IpNet as PartialEq>⟧.eq m n) → ⟦<IpNet as Hash>⟧.hash_input m ≡ ⟦<IpNet as Hash>⟧.hash_input n }
+{}
+
+/// A clone of a network is the same network, and cloning never fails.
+pub fn network_clones()
+    ensures v4 { (m n : Network) → ⟦<Ipv4Net as Clone>⟧.is_clone m n → n ≡ m }
+    ensures v6 { (m n : Network) → ⟦<Ipv6Net as Clone>⟧.is_clone m n → n ≡ m }
+    ensures either { (m n : AnyNet) → ⟦<IpNet as Clone>⟧.is_clone m n → n ≡ m }
+    ensures made_v4 { (n : Network) → ⟦<Ipv4Net as Clone>⟧.is_infallible n }
+    ensures made_v6 { (n : Network) → ⟦<Ipv6Net as Clone>⟧.is_infallible n }
+    ensures made_either { (n : AnyNet) → ⟦<IpNet as Clone>⟧.is_infallible n }
+{}
+
+/// A network feeds a hasher its number and its length, one of either family the family first.
+pub fn network_hashes()
+    ensures v4 { (n : Network) → ⟦<Ipv4Net as Hash>⟧.hash_input n ≡ fed.u32 n.number ++ fed.u8 n.len }
+    ensures v6 { (n : Network) → ⟦<Ipv6Net as Hash>⟧.hash_input n ≡ fed.u128 n.number ++ fed.u8 n.len }
+    ensures either_v4 { (n : Network) → ⟦<IpNet as Hash>⟧.hash_input (IpNet.V4 n) ≡ fed.isize (pos 0) ++ ⟦<Ipv4Net as Hash>⟧.hash_input n }
+    ensures either_v6 { (n : Network) → ⟦<IpNet as Hash>⟧.hash_input (IpNet.V6 n) ≡ fed.isize (pos 1) ++ ⟦<Ipv6Net as Hash>⟧.hash_input n }
+{}
+
+/// The block of a network is a block, and networks without host bits are ordered as their blocks.
+pub fn network_blocks()
+    ensures blocks { BlockIsBlock }
+    ensures ordered { OrderIsOfBlocks }
+{}
+
+/// `aggregate` of its own answer is that answer.
+pub fn aggregated_again()
+    ensures { StaysAggregated }
 {}
 
 /// No text spells two networks; none is a network of both families. The functions find the one that a text spells.
@@ -72,4 +110,36 @@ pub fn json_values()
     ensures back_v4 { (n : Network) → IsNetwork Ipv4 n → IsStringOf ReadsIpv4 (string (ipv4_net_text n)) n }
     ensures back_v6 { (n : Network) → IsNetwork Ipv6 n → IsStringOf ReadsIpv6 (string (ipv6_net_text n)) n }
     ensures back_either { (n : AnyNet) → IsNetwork (family n) (parts n) → IsStringOf Reads (string (net_text n)) n }
+{}
+
+/// Subnet iterators are ordered by family, start, end and least length.
+pub fn subnets_order()
+    ensures v4 { (a b : Limits) → MatchOrdering (⟦<Ipv4Subnets as Ord>⟧.cmp a b) (IsLimitsBefore a b) (a ≡ b) (IsLimitsBefore b a) }
+    ensures v6 { (a b : Limits) → MatchOrdering (⟦<Ipv6Subnets as Ord>⟧.cmp a b) (IsLimitsBefore a b) (a ≡ b) (IsLimitsBefore b a) }
+    ensures either { (a b : AnySubnets) → MatchOrdering (⟦<IpSubnets as Ord>⟧.cmp a b) (IsSubnetsBefore a b) (a ≡ b) (IsSubnetsBefore b a) }
+{}
+
+/// `==` holds of one subnet iterator alone.
+pub fn subnets_equality()
+    ensures v4 { (a b : Limits) → IsTrue (⟦<Ipv4Subnets as PartialEq>⟧.eq a b) ↔ (a ≡ b) }
+    ensures v6 { (a b : Limits) → IsTrue (⟦<Ipv6Subnets as PartialEq>⟧.eq a b) ↔ (a ≡ b) }
+    ensures either { (a b : AnySubnets) → IsTrue (⟦<IpSubnets as PartialEq>⟧.eq a b) ↔ (a ≡ b) }
+{}
+
+/// A clone of a subnet iterator is the same one, and cloning never fails.
+pub fn subnets_clones()
+    ensures v4 { (a b : Limits) → ⟦<Ipv4Subnets as Clone>⟧.is_clone a b → b ≡ a }
+    ensures v6 { (a b : Limits) → ⟦<Ipv6Subnets as Clone>⟧.is_clone a b → b ≡ a }
+    ensures either { (a b : AnySubnets) → ⟦<IpSubnets as Clone>⟧.is_clone a b → b ≡ a }
+    ensures made_v4 { (a : Limits) → ⟦<Ipv4Subnets as Clone>⟧.is_infallible a }
+    ensures made_v6 { (a : Limits) → ⟦<Ipv6Subnets as Clone>⟧.is_infallible a }
+    ensures made_either { (a : AnySubnets) → ⟦<IpSubnets as Clone>⟧.is_infallible a }
+{}
+
+/// A subnet iterator feeds a hasher its start, its end and its least length, one of either family the family first.
+pub fn subnets_hashes()
+    ensures v4 { (l : Limits) → ⟦<Ipv4Subnets as Hash>⟧.hash_input l ≡ fed.u32 l.start ++ (fed.u32 l.end ++ fed.u8 l.shortest) }
+    ensures v6 { (l : Limits) → ⟦<Ipv6Subnets as Hash>⟧.hash_input l ≡ fed.u128 l.start ++ (fed.u128 l.end ++ fed.u8 l.shortest) }
+    ensures either_v4 { (l : Limits) → ⟦<IpSubnets as Hash>⟧.hash_input (IpSubnets.V4 l) ≡ fed.isize (pos 0) ++ ⟦<Ipv4Subnets as Hash>⟧.hash_input l }
+    ensures either_v6 { (l : Limits) → ⟦<IpSubnets as Hash>⟧.hash_input (IpSubnets.V6 l) ≡ fed.isize (pos 1) ++ ⟦<Ipv6Subnets as Hash>⟧.hash_input l }
 {}

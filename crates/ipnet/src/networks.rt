@@ -70,10 +70,7 @@ impl Ipv4Net {
     pub fn with_netmask(addr: Ipv4Addr, netmask: Ipv4Addr) -> Result<Ipv4Net, PrefixLenError>
         ensures { MatchResult result (λ n. (n.number ≡ ipv4_bits addr) × IsMask (ipv4_address netmask) n.len) (λ _. (len : ℕ) → IsMask (ipv4_address netmask) len → ⊥) }
     {
-        match ipv4_mask_to_prefix(netmask) {
-            Ok(len) => Ok(Ipv4Net::new_assert(addr, len)),
-            Err(error) => Err(error),
-        }
+        Ok(Ipv4Net::new_assert(addr, ipv4_mask_to_prefix(netmask)?))
     }
 
     /// Its address, host bits too.
@@ -246,10 +243,7 @@ impl Ipv6Net {
     pub fn with_netmask(addr: Ipv6Addr, netmask: Ipv6Addr) -> Result<Ipv6Net, PrefixLenError>
         ensures { MatchResult result (λ n. (n.number ≡ ipv6_bits addr) × IsMask (ipv6_address netmask) n.len) (λ _. (len : ℕ) → IsMask (ipv6_address netmask) len → ⊥) }
     {
-        match ipv6_mask_to_prefix(netmask) {
-            Ok(len) => Ok(Ipv6Net::new_assert(addr, len)),
-            Err(error) => Err(error),
-        }
+        Ok(Ipv6Net::new_assert(addr, ipv6_mask_to_prefix(netmask)?))
     }
 
     /// Its address, host bits too.

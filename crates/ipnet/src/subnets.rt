@@ -5,10 +5,10 @@ ghost use Rattle.std.specs.Net.Addr.{ipv4_bits, ipv6_bits};
 ghost use Rattle.ipnet_addr.specs.Addresses.{Ipv4, Ipv6, width};
 ghost use Rattle.ipnet_addr.specs.IpRanges.{ends_of, family_of};
 ghost use Rattle.ipnet_blocks.specs.Blocks.{first, last};
-ghost use Rattle.ipnet_blocks.specs.Cuts.{AreSubnets, cut, subnets, after_first};
+ghost use Rattle.ipnet_blocks.specs.Cuts.{AreLimits, AreSubnets, cut, subnets, after_first};
 ghost use Rattle.ipnet_blocks.specs.Hosts.{host_ends};
 ghost use Rattle.ipnet.specs.IpNets.{block, family, parts};
-ghost use Rattle.ipnet.specs.IpSubnets.{ip_cut, ip_limits, ip_subnets, after_first_of};
+ghost use Rattle.ipnet.specs.IpSubnets.{ip_cut, ip_limits, ip_subnets, after_first_of, cut_family, cut_limits};
 ghost use Rattle.ipnet_blocks.specs.Networks.{block_of};
 ghost use Rattle.ipnet_blocks.specs.Maximal.{IsCut};
 
@@ -76,6 +76,7 @@ impl Ipv4Subnets {
     pub fn new(start: Ipv4Addr, end: Ipv4Addr, min_prefix_len: u8) -> Ipv4Subnets
         requires { min_prefix_len ≤ 32 }
         ensures limits { result ≡ record { start = ipv4_bits start; end = ipv4_bits end; shortest = min_prefix_len } }
+        ensures fits { AreLimits Ipv4 result }
         ensures blocks { IsCut Ipv4 (ipv4_bits start) (ipv4_bits end) min_prefix_len (cut Ipv4 result) }
     {
         Ipv4Subnets {
@@ -112,6 +113,7 @@ impl Ipv6Subnets {
     pub fn new(start: Ipv6Addr, end: Ipv6Addr, min_prefix_len: u8) -> Ipv6Subnets
         requires { min_prefix_len ≤ 128 }
         ensures limits { result ≡ record { start = ipv6_bits start; end = ipv6_bits end; shortest = min_prefix_len } }
+        ensures fits { AreLimits Ipv6 result }
         ensures blocks { IsCut Ipv6 (ipv6_bits start) (ipv6_bits end) min_prefix_len (cut Ipv6 result) }
     {
         Ipv6Subnets {
@@ -206,6 +208,7 @@ impl Ipv4Net {
     pub fn subnets(&self, new_prefix_len: u8) -> Result<Ipv4Subnets, PrefixLenError>
         ensures variant { IsOk result ↔ ((self.now.len ≤ new_prefix_len) × (new_prefix_len ≤ 32)) }
         ensures limits { IfOk result (λ s. s ≡ record { start = first (block_of Ipv4 self.now); end = last (block_of Ipv4 self.now); shortest = new_prefix_len }) }
+        ensures fits { IfOk result (AreLimits Ipv4) }
         ensures blocks { IfOk result (λ s. AreSubnets (block_of Ipv4 self.now) new_prefix_len (cut Ipv4 s)) }
     {
         if new_prefix_len < self.prefix_len() || new_prefix_len > 32 {
@@ -230,6 +233,7 @@ impl Ipv6Net {
     pub fn subnets(&self, new_prefix_len: u8) -> Result<Ipv6Subnets, PrefixLenError>
         ensures variant { IsOk result ↔ ((self.now.len ≤ new_prefix_len) × (new_prefix_len ≤ 128)) }
         ensures limits { IfOk result (λ s. s ≡ record { start = first (block_of Ipv6 self.now); end = last (block_of Ipv6 self.now); shortest = new_prefix_len }) }
+        ensures fits { IfOk result (AreLimits Ipv6) }
         ensures blocks { IfOk result (λ s. AreSubnets (block_of Ipv6 self.now) new_prefix_len (cut Ipv6 s)) }
     {
         if new_prefix_len < self.prefix_len() || new_prefix_len > 128 {
@@ -258,6 +262,7 @@ impl IpNet {
     pub fn subnets(&self, new_prefix_len: u8) -> Result<IpSubnets, PrefixLenError>
         ensures variant { IsOk result ↔ (((parts self.now).len ≤ new_prefix_len) × (new_prefix_len ≤ width (family self.now))) }
         ensures limits { IfOk result (λ s. s ≡ ip_limits (family self.now) (record { start = first (block self.now); end = last (block self.now); shortest = new_prefix_len })) }
+        ensures fits { IfOk result (λ s. AreLimits (cut_family s) (cut_limits s)) }
         ensures blocks { IfOk result (λ s. AreSubnets (block self.now) new_prefix_len (ip_cut s)) }
     {
         match self {

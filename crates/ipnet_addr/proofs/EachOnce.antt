@@ -5,7 +5,9 @@ use Rattle.std.proofs.lemmas.Bool.{cases_lt, cases_eq}
 use Rattle.std.proofs.lemmas.List.Elements.{All-cons}
 use Rattle.std.proofs.lemmas.List.Kept.{AllPairs-cons}
 use Rattle.std.proofs.lemmas.Option.{none-some}
-use Rattle.ipnet_addr.specs.Ranges.{Ends, numbers, after_front, after_back, times, Call, Next, NextBack, Nth, NthBack, answer, ends_after, given, GivesEachOnce}
+use Rattle.ipnet_addr.specs.Ranges.{Ends, numbers, after_front, after_back, times}
+use Rattle.ipnet_addr.specs.Laws.{GivesEachOnce}
+use Rattle.ipnet_addr.specs.Calls.{Call, Next, NextBack, Nth, NthBack, answer_of, ends_after, given}
 use Rattle.ipnet_addr.proofs.RangeEnds.{ends, once, fronts_none, fronts_all, fronts_some, backs_none, backs_all, backs_some, front_at, front_past, back_at, back_past}
 use Rattle.ipnet_addr.proofs.RangeCalls.{some_answer}
 
@@ -64,7 +66,7 @@ module _ (s e n : ℕ) (f : Ends) (r : Option ℕ) where
     ]
   ]
 
-takes : (c : Call) (e : Ends) → Takes e (ends_after c e) (answer c e)
+takes : (c : Call) (e : Ends) → Takes e (ends_after c e) (answer_of c e)
 takes Next e = front_takes e.start e.end 0 (after_front e) _ refl (sym (once after_front e (after_front e) refl))
 takes NextBack e = back_takes e.start e.end 0 (after_back e) _ refl (sym (once after_back e (after_back e) refl))
 takes (Nth n) e = front_takes e.start e.end n _ _ refl refl
@@ -83,13 +85,13 @@ given_within [] e = λ k d lt. absurd (omega arith)
 given_within (c ∷ cs) e =
     let t = takes c e in
     let rest = given_within cs (ends_after c e) in
-    all_given (Within e) (answer c e) _ (λ n g. (t.took n g).0) (λ k d lt. t.left _ (rest k d lt))
+    all_given (Within e) (answer_of c e) _ (λ n g. (t.took n g).0) (λ k d lt. t.left _ (rest k d lt))
 
 pub gives_each_once : GivesEachOnce
 gives_each_once [] e = λ i j d l m. absurd (omega arith)
 gives_each_once (c ∷ cs) e =
     let t = takes c e in
     let rest = given_within cs (ends_after c e) in
-    pairs_given (λ m n. m ≢ n) (answer c e) _
+    pairs_given (λ m n. m ≢ n) (answer_of c e) _
     (λ n g k d lt q. (t.took n g).1 (subst (Within (ends_after c e)) (sym q) (rest k d lt)))
     (gives_each_once cs (ends_after c e))

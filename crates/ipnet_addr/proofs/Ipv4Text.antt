@@ -10,7 +10,7 @@ use Rattle.std.proofs.NetLemmas.Options.{cond_none, and_then_some, same_parts}
 use Rattle.std.proofs.NetLemmas.Numbers.{NoDigit, read_number_some, read_number_sound}
 use Rattle.std.proofs.NetLemmas.Ipv4.{read_byte_sound}
 use Rattle.ipnet_addr.specs.AddressText.{IsShort, IsIpv4}
-use Rattle.ipnet_addr.specs.Reader.{read_short, read_octet, read_ipv4}
+use Rattle.ipnet_addr.specs.AddressReader.{read_short, read_octet, read_ipv4}
 
 pub read_short_complete : (radix digits max : ℕ) (text rest : List ℕ) (n : ℕ) → IsShort radix digits max text n → NoDigit radix rest → read_short radix digits max (text ++ rest) ≡ Some (n, rest)
 unfolding read_short

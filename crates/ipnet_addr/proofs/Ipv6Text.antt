@@ -12,7 +12,7 @@ use Rattle.std.proofs.Math.Nat.{pow-le-pow_right}
 use Rattle.std.proofs.NetLemmas.Texts.{IsColonHex-ipv6_text}
 use Rattle.ipnet_addr.specs.AddressText.{IsShort, IsGroup, IsIpv4, IsUnitsAfter, IsUnits, IsElided, IsIpv6}
 use Rattle.std.specs.Net.Reader.{read_byte, read_separator, Segments, after, map_or}
-use Rattle.ipnet_addr.specs.Reader.{read_short, read_ipv4, read_group, read_ipv4_if, read_units, read_tail, read_ipv6}
+use Rattle.ipnet_addr.specs.AddressReader.{read_short, read_ipv4, read_group, read_ipv4_if, read_units, read_tail, read_ipv6}
 use Rattle.std.proofs.NetLemmas.Options.{cond_none, and_then_some, same_parts}
 use Rattle.std.proofs.NetLemmas.Numbers.{NoDigit, read_number_empty}
 use Rattle.std.proofs.NetLemmas.Ipv4.{read_byte_sound, read_byte_other}
@@ -203,9 +203,6 @@ read_ipv6_sound text segments rest e =
           let (all, shown, elided) = read_tail_sound front head.0 head.2 segments rest plain (omega arith) read in
           (all, split ∙ shown, inr elided)
     ]
-
-pub EndsGroups-nil : EndsGroups []
-EndsGroups-nil = ((lit≤ tt, omega arith), λ colon. absurd (omega arith))
 
 -- As units, an IPv4 text is two and nothing more, so it has neither eight units nor `::`.
 pub ipv4-not_ipv6 : (x y r t octets units : List ℕ) → IsIpv4 x octets → IsIpv6 y units → EndsGroups r → EndsGroups t → get_or r 0 0 ≢ 58 → x ++ r ≢ y ++ t

@@ -1,4 +1,6 @@
 pub mod Members
+pub mod Basics
+pub mod Families
 pub mod Ascending
 pub mod Numbers
 pub mod Decimals
@@ -9,3 +11,5 @@ pub mod Progress
 pub mod Ipv6Text
 pub mod EachOnce
 pub mod Powers
+pub mod AfterNone
+pub mod AddressTexts

@@ -17,9 +17,6 @@ mask_and_free bits len l =
     let e : len + (bits - len) ≡ bits = omega arith in
     less_one (2 ^ len) (2 ^ (bits - len)) (pow_pos len) ∙ sym (pow-add 2 len (bits - len)) ∙ ap (λ n. 2 ^ n) e
 
-pub pow_less : (j k : ℕ) → 2 ^ j < 2 ^ k → j < k
-pow_less j k h = elim (cases_lt j k) [ inl less ↦ less | inr more ↦ let p : 2 ^ k ≤ 2 ^ j = pow-le-pow_right (omega arith) more in absurd (omega arith) ]
-
 -- a number of ones has as many bits
 pub ones_len : (number bits k : ℕ) → number ≡ 2 ^ k - 1 → number < 2 ^ bits → (0 < bits → 2 ^ (bits - 1) ≤ number) → bits ≡ k
 ones_len number bits k is below shortest =

@@ -6,7 +6,7 @@ use Rattle.std.specs.Iterator.{YieldsFirstBy, YieldsLastBy, item_count, MakesPro
 use Rattle.std.proofs.lemmas.Bool.{cases_lt, cases_eq}
 use Rattle.std.proofs.lemmas.List.FromFn.{get_or-range_with_len}
 use Rattle.std.proofs.lemmas.Option.{none-some}
-use Rattle.ipnet_addr.specs.Ranges.{Ends, numbers, after_front, after_back, times, IsLeast, IsGreatest}
+use Rattle.ipnet_addr.specs.Ranges.{Ends, numbers, after_front, after_back, times, IsMinimum, IsMaximum}
 use Rattle.ipnet_addr.proofs.Progress.{progress_first, progress_last}
 use Rattle.ipnet_addr.proofs.RangeEnds.{ends, once, fronts_none, fronts_all, fronts_some, backs_none, backs_all, backs_some, front_at, front_past, back_at, back_past, count_is}
 
@@ -91,7 +91,7 @@ has_number s e k le h = let c = count_is s e in (k, omega arith, get_or-range_wi
 all_numbers : (P : ℕ → Type 0) (s e : ℕ) → ((n : ℕ) → s ≤ n → n ≤ e → P n) → All P (numbers (ends s e))
 all_numbers P s e h k d lt = let c = count_is s e in subst P (sym (get_or-range_with_len s (e + 1 - s) k d (omega arith))) (h (s + k) (omega arith) (omega arith))
 
-pub least_is : (e : Ends) (r : Option ℕ) → r ≡ slice_get (numbers e) 0 → IsLeast (numbers e) r
+pub least_is : (e : Ends) (r : Option ℕ) → r ≡ slice_get (numbers e) 0 → IsMinimum (numbers e) r
 least_is e None h = elim (cases_lt e.end e.start) [
   | inl lt ↦ none_left e.start e.end lt
   | inr le ↦ absurd (none-some e.start (h ∙ sym (front_at e.start e.end 0 e.start le (omega arith) (omega arith))))
@@ -103,7 +103,7 @@ least_is e (Some n) h = elim (cases_lt e.end e.start) [
       (subst (Contains (numbers e)) is (has_number e.start e.end 0 le (omega arith)), all_numbers (λ x. n ≤ x) e.start e.end (λ x l m. omega arith))
 ]
 
-pub greatest_is : (e : Ends) (r : Option ℕ) → r ≡ slice_get (reverse (numbers e)) 0 → IsGreatest (numbers e) r
+pub greatest_is : (e : Ends) (r : Option ℕ) → r ≡ slice_get (reverse (numbers e)) 0 → IsMaximum (numbers e) r
 greatest_is e None h = elim (cases_lt e.end e.start) [
   | inl lt ↦ none_left e.start e.end lt
   | inr le ↦ absurd (none-some e.end (h ∙ sym (back_at e.start e.end 0 e.end le (omega arith) (omega arith))))

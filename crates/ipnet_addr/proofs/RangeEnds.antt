@@ -1,8 +1,8 @@
 -- The numbers of a range, and the ends that its calls leave.
-use Rattle.std.proofs.Common.{◌≡◌, ℕ, zero, suc, ◌+◌, ◌-◌, ◌<◌, ◌≤◌, inl, inr, refl, sym, ◌∙◌, ap, arith, add-one, List, [], ◌∷◌, length, get_or, reverse, Some, None, nat_lt, ◌==◌, slice_get}
+use Rattle.std.proofs.Common.{◌≡◌, ℕ, zero, suc, ◌+◌, ◌-◌, ◌<◌, ◌≤◌, inl, inr, sym, ◌∙◌, ap, arith, add-one, length, get_or, reverse, Some, None, nat_lt, ◌==◌, slice_get}
 use Rattle.std.proofs.lemmas.Bool.{cases_eq, lt-ltb, le-ltb, eq-eqb, ne_eqb, cond-true, cond-false}
 use Rattle.std.proofs.lemmas.List.FromFn.{length-range_with_len, get_or-range_with_len}
-use Rattle.std.proofs.lemmas.Option.{slice_get-get_or}
+use Rattle.std.proofs.lemmas.Option.{slice_get-get_or, slice_get_past}
 use Rattle.std.proofs.lemmas.List.{length-reverse, get_or-reverse}
 use Rattle.ipnet_addr.specs.Ranges.{Ends, numbers, after_front, after_back, times}
 
@@ -79,11 +79,6 @@ backs_some (suc n) s e h = step after_back n (ends s e) (ends s (e - 1)) (ends s
 pub count_is : (s e : ℕ) → length (numbers (ends s e)) ≡ e + 1 - s
 count_is s e = length-range_with_len s (e + 1 - s)
 
-past_end : (xs : List ℕ) (n : ℕ) → length xs ≤ n → slice_get xs n ≡ None
-past_end [] n h = refl
-past_end (x ∷ xs) zero h = absurd (omega arith)
-past_end (x ∷ xs) (suc n) h = past_end xs n (omega arith)
-
 -- the number at n from either end
 pub front_at : (s e n x : ℕ) → s ≤ e → n ≤ e - s → x ≡ s + n → Some x ≡ slice_get (numbers (ends s e)) n
 front_at s e n x le h is =
@@ -99,7 +94,7 @@ back_at s e n x le h is =
     ap (λ y. Some y) (sym g) ∙ sym (slice_get-get_or (reverse xs) n 0 (omega arith))
 
 pub front_past : (s e n : ℕ) → e + 1 - s ≤ n → None ≡ slice_get (numbers (ends s e)) n
-front_past s e n h = sym (past_end (numbers (ends s e)) n (omega (arith, count_is s e)))
+front_past s e n h = sym (slice_get_past (numbers (ends s e)) n (omega (arith, count_is s e)))
 
 pub back_past : (s e n : ℕ) → e + 1 - s ≤ n → None ≡ slice_get (reverse (numbers (ends s e))) n
-back_past s e n h = sym (past_end (reverse (numbers (ends s e))) n (omega (arith, count_is s e, length-reverse (numbers (ends s e)))))
+back_past s e n h = sym (slice_get_past (reverse (numbers (ends s e))) n (omega (arith, count_is s e, length-reverse (numbers (ends s e)))))

@@ -1,6 +1,6 @@
 -- Ranges of addresses: the numbers from one end to the other, and the ends that a call leaves.
-use Rattle.std.specs.Prelude.{◌≡◌, ℕ, zero, suc, ◌+◌, ◌-◌, ◌^◌, ◌<◌, ◌≤◌, ◌≢◌, nat_lt, ◌==◌, if◌then◌else◌, Option, List, [], ◌∷◌, MatchOption, Contains, All, AllPairs, slice_get, reverse}
-use Rattle.std.specs.List.{range_with_len, cons_option}
+use Rattle.std.specs.Prelude.{◌≡◌, ℕ, zero, suc, ◌+◌, ◌-◌, ◌^◌, ◌<◌, ◌≤◌, ◌⊎◌, nat_lt, ◌==◌, if◌then◌else◌, Option, List, [], MatchOption, Contains, All}
+use Rattle.std.specs.List.{range_with_len}
 use Rattle.ipnet_addr.specs.Addresses.{Family, width}
 
 -- the numbers of the two ends of a range
@@ -25,43 +25,19 @@ after_front e = if nat_lt e.end e.start then e else (if e.start == e.end then re
 unfoldable pub after_back : Ends → Ends
 after_back e = if nat_lt e.end e.start then e else (if e.start == e.end then record { start = 1; end = 0 } else record { start = e.start; end = e.end - 1 })
 
+-- by the start, then by the end
+abbrev pub IsEndsBefore : Ends → Ends → Type 0
+IsEndsBefore a b = (a.start < b.start) ⊎ ((a.start ≡ b.start) × (a.end < b.end))
+
 -- f, n times
 unfoldable pub times : {A : Type 0} → ℕ → (A → A) → A → A
 times zero f x = x
 times (suc n) f x = times n f (f x)
 
 -- the least number of a list, if it has any
-abbrev pub IsLeast : List ℕ → Option ℕ → Type 0
-IsLeast xs r = MatchOption r (xs ≡ []) (λ n. Contains xs n × All (λ x. n ≤ x) xs)
+abbrev pub IsMinimum : List ℕ → Option ℕ → Type 0
+IsMinimum xs r = MatchOption r (xs ≡ []) (λ n. Contains xs n × All (λ x. n ≤ x) xs)
 
 -- the greatest
-abbrev pub IsGreatest : List ℕ → Option ℕ → Type 0
-IsGreatest xs r = MatchOption r (xs ≡ []) (λ n. Contains xs n × All (λ x. x ≤ n) xs)
-
--- the four calls that take numbers
-pub data Call : Type 0 where
-  Next NextBack : Call
-  Nth NthBack : ℕ → Call
-
--- what a call answers
-abbrev pub answer : Call → Ends → Option ℕ
-answer Next e = slice_get (numbers e) 0
-answer NextBack e = slice_get (reverse (numbers e)) 0
-answer (Nth n) e = slice_get (numbers e) n
-answer (NthBack n) e = slice_get (reverse (numbers e)) n
-
--- the ends that it leaves
-abbrev pub ends_after : Call → Ends → Ends
-ends_after Next e = after_front e
-ends_after NextBack e = after_back e
-ends_after (Nth n) e = times (n + 1) after_front e
-ends_after (NthBack n) e = times (n + 1) after_back e
-
--- the numbers that these calls give, one after another
-abbrev pub given : List Call → Ends → List ℕ
-given [] e = []
-given (c ∷ cs) e = cons_option (answer c e) (given cs (ends_after c e))
-
--- whatever calls are made, they give no number twice
-abbrev pub GivesEachOnce : Type 0
-GivesEachOnce = (calls : List Call) (e : Ends) → AllPairs (λ m n. m ≢ n) (given calls e)
+abbrev pub IsMaximum : List ℕ → Option ℕ → Type 0
+IsMaximum xs r = MatchOption r (xs ≡ []) (λ n. Contains xs n × All (λ x. x ≤ n) xs)

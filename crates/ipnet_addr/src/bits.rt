@@ -1,4 +1,5 @@
 //! Addresses of numbers, and the last bits of a number: cleared, set, taken away.
+//! For the crates above; not part of the promise.
 ghost use Rattle.std.specs.Prelude.{◌≡◌, ℕ, ◌+◌, ◌-◌, ◌*◌, ◌/◌, ◌^◌, ◌<◌, ◌≤◌};
 ghost use Rattle.std.specs.Net.Addr.{ipv4_bits, ipv6_bits};
 
@@ -63,7 +64,7 @@ pub fn filled(number: u128, free: u8) -> u128
 }
 
 /// How many bits the number has, leading zeros apart; 0 has none.
-pub fn bit_len(number: u128) -> u8
+pub(crate) fn bit_len(number: u128) -> u8
     ensures below { number < 2 ^ result }
     ensures shortest { 0 < result → 2 ^ (result - 1) ≤ number }
     ensures within { result ≤ 128 }

@@ -4,7 +4,7 @@ ghost use Rattle.std.specs.Iterator.{YieldsFirstBy, YieldsLastBy, item_count, Up
 ghost use Rattle.std.specs.Iterator.SizeHint.{IsExactHint, IsWithinCount};
 ghost use Rattle.ipnet_addr.specs.Addresses.{address_of};
 ghost use Rattle.ipnet_addr.specs.IpRanges.{addresses, ends_of, family_of, with_ends};
-ghost use Rattle.ipnet_addr.specs.Ranges.{numbers, after_front, after_back, times, IsLeast, IsGreatest};
+ghost use Rattle.ipnet_addr.specs.Ranges.{numbers, after_front, after_back, times, IsMinimum, IsMaximum};
 
 use crate::ipv4_range::Ipv4AddrRange;
 use crate::ipv6_range::Ipv6AddrRange;
@@ -80,7 +80,7 @@ impl IpAddrRange {
 
     /// The least address, `None` where there is none. In constant time.
     pub fn min(self) -> Option<IpAddr>
-        ensures least { IsLeast (numbers (ends_of self)) (option_map (λ a. (address_of a).number) result) }
+        ensures least { IsMinimum (numbers (ends_of self)) (option_map (λ a. (address_of a).number) result) }
         ensures family { IfSome result (λ a. (address_of a).family ≡ family_of self) }
     {
         match self {
@@ -91,7 +91,7 @@ impl IpAddrRange {
 
     /// The greatest address, `None` where there is none. In constant time.
     pub fn max(self) -> Option<IpAddr>
-        ensures greatest { IsGreatest (numbers (ends_of self)) (option_map (λ a. (address_of a).number) result) }
+        ensures greatest { IsMaximum (numbers (ends_of self)) (option_map (λ a. (address_of a).number) result) }
         ensures family { IfSome result (λ a. (address_of a).family ≡ family_of self) }
     {
         match self {

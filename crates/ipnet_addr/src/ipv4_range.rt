@@ -3,7 +3,7 @@ ghost use Rattle.std.specs.Prelude.{◌≡◌, ◌+◌, ◌<◌, ◌^◌, length
 ghost use Rattle.std.specs.Iterator.{YieldsFirstBy, YieldsLastBy, item_count, UpTo};
 ghost use Rattle.std.specs.Iterator.SizeHint.{IsExactHint, IsWithinCount};
 ghost use Rattle.std.specs.Net.Addr.{ipv4_bits};
-ghost use Rattle.ipnet_addr.specs.Ranges.{numbers, after_front, after_back, times, IsLeast, IsGreatest};
+ghost use Rattle.ipnet_addr.specs.Ranges.{numbers, after_front, after_back, times, IsMinimum, IsMaximum};
 
 use crate::bits::ipv4_of;
 use crate::ranges::{count_numbers, hint_numbers, nth_back_number, nth_number};
@@ -84,7 +84,7 @@ impl Ipv4AddrRange {
     /// The least address, `None` where there is none. In constant time.
     #[tactic(auto, using(crate::proofs::RangeCalls::least_is))]
     pub fn min(mut self) -> Option<Ipv4Addr>
-        ensures { IsLeast (numbers self) (option_map ipv4_bits result) }
+        ensures { IsMinimum (numbers self) (option_map ipv4_bits result) }
     {
         self.nth(0)
     }
@@ -92,7 +92,7 @@ impl Ipv4AddrRange {
     /// The greatest address, `None` where there is none. In constant time.
     #[tactic(auto, using(crate::proofs::RangeCalls::greatest_is))]
     pub fn max(self) -> Option<Ipv4Addr>
-        ensures { IsGreatest (numbers self) (option_map ipv4_bits result) }
+        ensures { IsMaximum (numbers self) (option_map ipv4_bits result) }
     {
         self.last()
     }

@@ -44,10 +44,7 @@ fn mask_len(width: u8, mask: u128) -> Option<u8>
 pub fn ipv4_mask_to_prefix(mask: Ipv4Addr) -> Result<u8, PrefixLenError>
     ensures { MatchResult result (IsMask (ipv4_address mask)) (λ _. (len : ℕ) → IsMask (ipv4_address mask) len → ⊥) }
 {
-    match mask_len(32, mask.to_bits().into()) {
-        Some(len) => Ok(len),
-        None => Err(PrefixLenError),
-    }
+    mask_len(32, mask.to_bits().into()).ok_or(PrefixLenError)
 }
 
 /// The number of ones of an IPv6 mask.
@@ -57,10 +54,7 @@ pub fn ipv4_mask_to_prefix(mask: Ipv4Addr) -> Result<u8, PrefixLenError>
 pub fn ipv6_mask_to_prefix(mask: Ipv6Addr) -> Result<u8, PrefixLenError>
     ensures { MatchResult result (IsMask (ipv6_address mask)) (λ _. (len : ℕ) → IsMask (ipv6_address mask) len → ⊥) }
 {
-    match mask_len(128, mask.to_bits()) {
-        Some(len) => Ok(len),
-        None => Err(PrefixLenError),
-    }
+    mask_len(128, mask.to_bits()).ok_or(PrefixLenError)
 }
 
 /// The number of ones of a mask of either family.

@@ -1,8 +1,9 @@
 //! Readers of the parts of a text. Each reads at the front of a slice, and answers the value and the rest.
+//! For the crates above; not part of the promise.
 ghost use Rattle.std.specs.Prelude.{◌≡◌, ◌<◌, ◌≤◌, true, length, take, drop, IfSome, option_copied};
 ghost use Rattle.std.specs.Net.Addr.{ipv4_octets, ipv6_segments, segments_of};
 ghost use Rattle.std.specs.Net.Reader as Std;
-ghost use Rattle.ipnet_addr.specs.Reader as Reader;
+ghost use Rattle.ipnet_addr.specs.AddressReader as Reader;
 
 use std::net::{Ipv4Addr, Ipv6Addr};
 
@@ -40,7 +41,7 @@ fn read_number(s: &[u8], radix: u32, max: u32) -> Option<(u32, usize)>
 }
 
 /// A number of at most `digits` digits and of value at most `max`; leading zeros are allowed.
-#[tactic(auto, unfolding(crate::specs::Reader::read_short))]
+#[tactic(auto, unfolding(crate::specs::AddressReader::read_short))]
 pub fn read_short(s: &[u8], radix: u32, digits: usize, max: u32) -> Option<(u32, &[u8])>
     requires low { 2 ≤ radix }
     requires high { radix ≤ 16 }
@@ -62,7 +63,7 @@ fn read_octet(s: &[u8]) -> Option<(u8, &[u8])>
 }
 
 /// An IPv4 address: four octets with dots between them, leading zeros allowed.
-#[tactic(auto, unfolding(crate::specs::Reader::read_ipv4))]
+#[tactic(auto, unfolding(crate::specs::AddressReader::read_ipv4))]
 pub fn read_ipv4(s: &[u8]) -> Option<(Ipv4Addr, &[u8])>
     ensures { Std.read_view ipv4_octets result ≡ Reader.read_ipv4 s.now }
 {

@@ -1,20 +1,22 @@
 -- The blocks of joined spans are the maximal blocks of what the spans came from.
-use Rattle.std.proofs.Common.{◌≡◌, ℕ, ◌^◌, ◌<◌, ◌⊎◌, inl, inr, ⊎_elim, refl, sym, ◌∙◌, ap, subst, arith, true, false, Bool, List, [], ◌∷◌, ◌++◌, map, All, Any}
+use Rattle.std.proofs.Common.{◌≡◌, ℕ, ◌^◌, ◌<◌, ◌⊎◌, inl, inr, ⊎_elim, refl, sym, ◌∙◌, ap, subst, arith, List, [], ◌∷◌, ◌++◌, map, All, Any}
 use Rattle.std.specs.List.{flat_map}
 use Rattle.std.proofs.lemmas.Nat.{pow_pos}
+use Rattle.std.proofs.lemmas.List.{map-append}
 use Rattle.std.proofs.lemmas.List.Elements.{All-map}
 use Rattle.ipnet_addr.specs.Addresses.{Family, width, Address}
-use Rattle.ipnet_blocks.specs.Blocks.{Block, free_bits, HasAddress, first_of, has_address}
+use Rattle.ipnet_blocks.specs.Blocks.{Block, free_bits, HasAddress, first_of}
 use Rattle.ipnet_blocks.specs.Maximal.{IsMaximal}
 use Rattle.ipnet_blocks.specs.Networks.{Network, block_of, net_of, IsTruncated}
 use Rattle.ipnet_blocks.specs.Cuts.{cut, subnets}
 use Rattle.ipnet_blocks.specs.declared.aggregate.Span.{Span}
-use Rattle.ipnet_blocks.specs.Spans.{IsIn, HasNumber, IsApart, AreJoined, span_of, limits_of}
-use Rattle.ipnet_blocks.specs.Aggregated.{InSome, IsAggregated, AreAggregated, AggregatedIsStable}
+use Rattle.ipnet_blocks.specs.InnerSpans.{IsIn, HasNumber, IsApart, AreJoined, span_of, limits_of}
+use Rattle.ipnet_blocks.specs.Aggregated.{InSome, IsAggregated, AreAggregated}
+use Rattle.ipnet_blocks.specs.Laws.{AggregatedIsStable}
 use Rattle.ipnet_addr.proofs.Members.{In}
 use Rattle.ipnet_addr.proofs.Ascending.{In-from_All, All-from_In, In-from_Any, Any-from_In, Contains-from_In, Rising, Rising-from_pairs}
 use Rattle.ipnet_blocks.proofs.BlockLaws.{has_first}
-use Rattle.ipnet_blocks.proofs.BlockTests.{has_from_test, test_from_has}
+use Rattle.ipnet_blocks.proofs.BlockTests.{decide_has}
 use Rattle.ipnet_blocks.proofs.NetworkBlocks.{block_round_trip}
 use Rattle.ipnet_blocks.proofs.Maximals.{maximal_is_unique, maximal_is_shortest, shortest_is_maximal, maximal_is_union}
 use Rattle.ipnet_blocks.proofs.Cuts.{Between, cut_is_exact, span_of_has, has_of_span}
@@ -76,13 +78,6 @@ spans_to_some f (n ∷ ns) x h = ⊎_elim
     (any_cases (IsIn x.number) (span_of f n ∷ []) (map (span_of f) ns) h.1)
 
 -- whether an address is in some block
-decide_has : (b : Block) (x : Address) → HasAddress b x ⊎ (HasAddress b x → ⊥)
-decide_has b x = go (has_address b x) refl
-  where
-    go : (t : Bool) → has_address b x ≡ t → HasAddress b x ⊎ (HasAddress b x → ⊥)
-    go true e = inl (has_from_test b x e)
-    go false e = inr (λ h. let t = test_from_has b x h in cc)
-
 decide_some : (bs : List Block) (x : Address) → InSome bs x ⊎ (InSome bs x → ⊥)
 decide_some [] x = inr (λ h. let a = In-from_Any (λ b. HasAddress b x) [] h in a.1)
 decide_some (b ∷ bs) x = ⊎_elim
@@ -117,13 +112,9 @@ networks_truncated f (b ∷ bs) all n i = ⊎_elim
     (λ j. networks_truncated f bs (λ c k. all c (inr k)) n j)
     i
 
-map_append : (bs cs : List Block) → map net_of (bs ++ cs) ≡ map net_of bs ++ map net_of cs
-map_append [] cs = refl
-map_append (b ∷ bs) cs = ap (λ ns. net_of b ∷ ns) (map_append bs cs)
-
 networks_of_cuts : (f : Family) (spans : List Span) → flat_map (λ s. subnets f (limits_of s)) spans ≡ map net_of (cuts f spans)
 networks_of_cuts f [] = refl
-networks_of_cuts f (s ∷ spans) = ap (λ ns. subnets f (limits_of s) ++ ns) (networks_of_cuts f spans) ∙ sym (map_append (cut f (limits_of s)) (cuts f spans))
+networks_of_cuts f (s ∷ spans) = ap (λ ns. subnets f (limits_of s) ++ ns) (networks_of_cuts f spans) ∙ sym (map-append net_of (cut f (limits_of s)) (cuts f spans))
 
 pub joined_aggregated : (f : Family) (ns vs : List Network) (spans : List Span) → AreJoined (map (span_of f) ns) spans → ((s : Span) → In s spans → s.last < 2 ^ width f) → vs ≡ flat_map (λ s. subnets f (limits_of s)) spans → AreAggregated f ns vs
 joined_aggregated f ns vs spans j top is =
@@ -155,7 +146,3 @@ joined_fit top given spans j fit = All-from_In (λ s. s.last < top) spans (λ s 
     let l = In-from_All (λ s. s.last < top) given fit a.0 a.1 in
     let m = a.2.1 in
     omega arith)
-
-pub map_same : (ns : List Network) → map (λ (n : Network). n) ns ≡ ns
-map_same [] = refl
-map_same (n ∷ ns) = ap (λ ms. n ∷ ms) (map_same ns)

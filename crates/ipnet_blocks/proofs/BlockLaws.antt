@@ -4,14 +4,9 @@ use Rattle.std.proofs.Math.Pow.{shl-shr, high, pow-lt}
 use Rattle.std.proofs.Math.Nat.{add-div_right}
 use Rattle.std.proofs.lemmas.Bool.Decides.{nat_tests}
 use native.Mathlib.Decide.{dec_le}
-use Rattle.ipnet_addr.specs.Addresses.{Family, Ipv4, Ipv6, width, rank, same_family, Address}
+use Rattle.ipnet_addr.specs.Addresses.{width, rank, same_family, Address}
+use Rattle.ipnet_addr.proofs.Families.{rank_apart}
 use Rattle.ipnet_blocks.specs.Blocks.{Block, IsBlock, free_bits, HasAddress, IsInside, is_inside, first, first_of, IsBefore}
-
-pub rank_apart : (f g : Family) → rank f ≡ rank g → f ≡ g
-rank_apart Ipv4 Ipv4 e = refl
-rank_apart Ipv4 Ipv6 e = absurd (omega arith)
-rank_apart Ipv6 Ipv4 e = absurd (omega arith)
-rank_apart Ipv6 Ipv6 e = refl
 
 pub block_path : (a b : Block) → a.family ≡ b.family → a.len ≡ b.len → a.quotient ≡ b.quotient → a ≡ b
 block_path a b p q r = λ i. record { family = p i; len = q i; quotient = r i }

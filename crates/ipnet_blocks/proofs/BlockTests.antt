@@ -1,13 +1,11 @@
 -- What the tests of blocks say.
-use Rattle.std.proofs.Common.{◌≡◌, ◌/◌, ◌^◌, Bool, true, false, ◌&&◌, ◌==◌, refl, ap, arith}
+use Rattle.std.proofs.Common.{◌≡◌, ◌/◌, ◌^◌, ◌⊎◌, inl, inr, ⊎_elim, true, ◌&&◌, ◌==◌, ap, arith}
+use Rattle.std.proofs.lemmas.Bool.{and_parts, cases_Bool}
 use Rattle.std.proofs.lemmas.Bool.Decides.{nat_tests}
 use Rattle.ipnet_addr.specs.Addresses.{rank, Address}
 use Rattle.ipnet_blocks.specs.Blocks.{Block, HasAddress, IsBefore, has_address, is_before, same_block, free_bits}
-use Rattle.ipnet_blocks.proofs.BlockLaws.{rank_apart, block_path}
-
-and_parts : (s t : Bool) → (s && t) ≡ true → (s ≡ true) × (t ≡ true)
-and_parts true t e = (refl, e)
-and_parts false t e = absurd (cc)
+use Rattle.ipnet_addr.proofs.Families.{rank_apart}
+use Rattle.ipnet_blocks.proofs.BlockLaws.{block_path}
 
 pub has_from_test : (b : Block) (x : Address) → has_address b x ≡ true → HasAddress b x
 has_from_test b x e =
@@ -16,6 +14,9 @@ has_from_test b x e =
 
 pub test_from_has : (b : Block) (x : Address) → HasAddress b x → has_address b x ≡ true
 test_from_has b x h = let f = ap rank h.0 in let g = h.1 in grind (arith, nat_tests)
+
+pub decide_has : (b : Block) (x : Address) → HasAddress b x ⊎ (HasAddress b x → ⊥)
+decide_has b x = ⊎_elim (λ e. inl (has_from_test b x e)) (λ e. inr (λ h. let t = test_from_has b x h in cc)) (cases_Bool (has_address b x))
 
 pub before_from_test : (a b : Block) → is_before a b ≡ true → IsBefore a b
 before_from_test a b e = grind (arith, nat_tests)

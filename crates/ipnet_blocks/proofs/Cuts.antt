@@ -7,7 +7,7 @@ use Rattle.std.proofs.Math.Nat.{mul-mod_left, div-eq_of_lt-le}
 use Rattle.ipnet_addr.specs.Addresses.{Family, Ipv4, Ipv6, width, rank, Address}
 use Rattle.ipnet_blocks.specs.Blocks.{Block, IsBlock, free_bits, HasAddress, IsInside, IsBefore, first, first_of}
 use Rattle.ipnet_blocks.specs.Maximal.{IsWithin, IsCutBlock, IsCut}
-use Rattle.ipnet_blocks.specs.Cuts.{Limits, most_free, first_free, block_at, cut_within, cut, subnets, after_first}
+use Rattle.ipnet_blocks.specs.Cuts.{Limits, most_free, first_free, block_from, cut_within, cut, subnets, after_first}
 use Rattle.ipnet_blocks.specs.Networks.{Network, net_of}
 use Rattle.ipnet_addr.proofs.Ascending.{In-from_Contains, Contains-from_In, All-from_In}
 use Rattle.ipnet_blocks.proofs.BlockLaws.{has_first, common, same_sets}
@@ -52,7 +52,7 @@ within_of f s e b ok at = record {
 }
 
 -- the block at start begins there
-pub first_at : (f : Family) (s e m : ℕ) → s ≤ e → first (block_at f s (most_free (width f - m) s e)) ≡ s
+pub first_at : (f : Family) (s e m : ℕ) → s ≤ e → first (block_from f s (most_free (width f - m) s e)) ≡ s
 first_at f s e m le =
     let k = most_free (width f - m) s e in
     let h = most_free_le (width f - m) s e in
@@ -65,7 +65,7 @@ module _ (f : Family) (s e m : ℕ) (le : s ≤ e) (top : e < 2 ^ width f) (fit 
   k = most_free (width f - m) s e
 
   abbrev b₀ : Block
-  b₀ = block_at f s k
+  b₀ = block_from f s k
 
   k_fits : k ≤ width f - m
   k_fits = most_free_le (width f - m) s e
@@ -196,7 +196,7 @@ cut_none f s e m lt = record {
 }
 
 -- the list by its first block
-within_more : (n : ℕ) (f : Family) (l : Limits) → l.start ≤ l.end → cut_within (suc n) f l ≡ block_at f l.start (first_free (width f) l) ∷ cut_within n f (record l { start = l.start + 2 ^ first_free (width f) l })
+within_more : (n : ℕ) (f : Family) (l : Limits) → l.start ≤ l.end → cut_within (suc n) f l ≡ block_from f l.start (first_free (width f) l) ∷ cut_within n f (record l { start = l.start + 2 ^ first_free (width f) l })
 unfolding cut_within
 within_more n f l le = cond-true (nat_le l.start l.end) _ _ (le-leb l.start l.end le)
 
@@ -225,16 +225,16 @@ enough (suc n) (suc m) f l h g = elim (cases_lt l.end l.start) [
   | inl lt ↦ within_none (suc n) f l lt ∙ sym (within_none (suc m) f l lt)
   | inr le ↦
       let p = pow_pos (first_free (width f) l) in
-      within_more n f l le ∙ ap (λ (bs : List Block). block_at f l.start (first_free (width f) l) ∷ bs) (enough n m f (record l { start = l.start + 2 ^ first_free (width f) l }) (omega arith) (omega arith)) ∙ sym (within_more m f l le)
+      within_more n f l le ∙ ap (λ (bs : List Block). block_from f l.start (first_free (width f) l) ∷ bs) (enough n m f (record l { start = l.start + 2 ^ first_free (width f) l }) (omega arith) (omega arith)) ∙ sym (within_more m f l le)
 ]
 
-cut_next : (f : Family) (l : Limits) → l.start ≤ l.end → cut f l ≡ block_at f l.start (first_free (width f) l) ∷ cut f (record l { start = l.start + 2 ^ first_free (width f) l })
+cut_next : (f : Family) (l : Limits) → l.start ≤ l.end → cut f l ≡ block_from f l.start (first_free (width f) l) ∷ cut f (record l { start = l.start + 2 ^ first_free (width f) l })
 cut_next f l le =
     let p = pow_pos (first_free (width f) l) in
     let next : Limits = record l { start = l.start + 2 ^ first_free (width f) l } in
     enough (l.end + 1 - l.start) (suc (l.end + 1 - l.start)) f l (omega arith) (omega arith)
     ∙ within_more (l.end + 1 - l.start) f l le
-    ∙ ap (λ (bs : List Block). block_at f l.start (first_free (width f) l) ∷ bs) (enough (l.end + 1 - l.start) (next.end + 1 - next.start) f next (omega arith) (omega arith))
+    ∙ ap (λ (bs : List Block). block_from f l.start (first_free (width f) l) ∷ bs) (enough (l.end + 1 - l.start) (next.end + 1 - next.start) f next (omega arith) (omega arith))
 
 pub cut_end : (f : Family) (l : Limits) → l.end < l.start → cut f l ≡ []
 cut_end f l lt = within_none (l.end + 1 - l.start) f l lt

@@ -5,7 +5,7 @@ use Rattle.std.specs.List.Sorted.{IsPermutation}
 use Rattle.std.proofs.lemmas.Bool.{cases_lt}
 use Rattle.std.proofs.lemmas.List.Sorted.{IsPermutation-sym}
 use Rattle.ipnet_blocks.specs.declared.aggregate.Span.{Span}
-use Rattle.ipnet_blocks.specs.Spans.{IsIn, HasNumber, IsApart, AreJoined}
+use Rattle.ipnet_blocks.specs.InnerSpans.{IsIn, HasNumber, IsApart, AreJoined}
 use Rattle.ipnet_addr.proofs.Members.{In, In-left, In-right, In-cases}
 use Rattle.ipnet_addr.proofs.Ascending.{In-from_All, All-from_In, Rising, Rising-from_pairs, pairs_from_Rising}
 use Rattle.ipnet_blocks.proofs.Lists.{any_left, any_right, any_cases, any_one, one_any, any_permutation, rising_append, rising_cross, rising_front}
@@ -84,13 +84,6 @@ join_one s has = record {
   same = λ x. ((λ h. h), (λ h. h));
   apart = pairs_from_Rising IsApart (s ∷ []) ((λ y i. absurd i), tt);
   some = All-from_In HasNumber (s ∷ []) (λ a i. ⊎_elim (λ e. subst HasNumber (sym e) has) (λ no_more. absurd no_more) i);
-}
-
-pub join_none : AreJoined [] []
-join_none = record {
-  same = λ x. ((λ h. h), (λ h. h));
-  apart = pairs_from_Rising IsApart [] tt;
-  some = All-from_In HasNumber [] (λ a i. absurd i);
 }
 
 -- the order of what is given does not matter

@@ -15,3 +15,5 @@ pub mod Unions
 pub mod Aggregates
 pub mod SubnetBlocks
 pub mod Netmasks
+pub mod Again
+pub mod LimitsLeft

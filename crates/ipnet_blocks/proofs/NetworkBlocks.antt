@@ -1,6 +1,5 @@
 -- Networks and their blocks.
 use Rattle.std.proofs.Common.{◌≡◌, ℕ, ◌+◌, ◌-◌, ◌*◌, ◌/◌, ◌^◌, ◌<◌, ◌≤◌, ◌↔◌, ◌==◌, ◌≢◌, false, true≢false, nat_le, IsTrue, refl, sym, ap, ◌∙◌, subst, arith, shr_lt, shr-shr}
-use Rattle.std.proofs.Math.Nat.{div-mul-le_self}
 use Rattle.std.proofs.Math.Pow.{shl-shr}
 use Rattle.std.proofs.lemmas.Bool.Decides.{nat_tests}
 use Rattle.ipnet_addr.specs.Addresses.{Family, width, rank}
@@ -43,12 +42,6 @@ block_round_trip b = λ i. record { family = b.family; len = b.len; quotient = s
 
 pub not_at_most : (a b : ℕ) → b < a → IsTrue (nat_le a b) → ⊥
 not_at_most a b l t = let h : a ≤ b = grind (arith, nat_tests) in omega arith
-
--- without its host bits a network is one
-pub truncated_is_network : (f : Family) (n : Network) → IsNetwork f n → IsNetwork f (net_of (block_of f n))
-truncated_is_network f n h =
-    let less : n.number / 2 ^ (width f - n.len) * 2 ^ (width f - n.len) ≤ n.number = div-mul-le_self n.number (2 ^ (width f - n.len)) in
-    record { in_width = h.in_width; in_range = let r = h.in_range in omega arith }
 
 -- the network that `supernet` makes is the one of the parent
 pub supernet_is : (f : Family) (n : Network) → IsNetwork f n → 0 < n.len

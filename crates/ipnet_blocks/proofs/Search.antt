@@ -1,9 +1,11 @@
 -- The search of the bit tree finds the maximal blocks.
-use Rattle.std.proofs.Common.{◌≡◌, ℕ, zero, suc, ◌+◌, ◌-◌, ◌*◌, ◌/◌, ◌%◌, ◌^◌, ◌<◌, ◌≤◌, ◌⊎◌, inl, inr, ⊎_elim, Bool, true, false, ◌&&◌, List, [], ◌∷◌, ◌++◌, cond, refl, sym, ap, ◌∙◌, subst, arith, shr-shr, pow_pos, pow-suc, mod-lt, add-one, mul-one, div-one, IsTrue}
+use Rattle.std.proofs.Common.{◌≡◌, ℕ, zero, suc, ◌+◌, ◌-◌, ◌*◌, ◌/◌, ◌%◌, ◌^◌, ◌<◌, ◌≤◌, ◌⊎◌, inl, inr, ⊎_elim, Bool, true, false, List, [], ◌∷◌, ◌++◌, cond, refl, sym, ap, ◌∙◌, subst, arith, shr-shr, pow_pos, pow-suc, mod-lt, add-one, mul-one, div-one, IsTrue}
 use Rattle.std.proofs.Math.Pow.{split}
 use Rattle.std.proofs.Math.Nat.{div-eq_of_lt}
+use Rattle.std.proofs.lemmas.Bool.{and_parts, and_from}
+use Rattle.ipnet_addr.proofs.Basics.{even_or_odd}
 use Rattle.ipnet_addr.specs.Addresses.{Family, Ipv4, Ipv6, width, rank, Address}
-use Rattle.ipnet_blocks.specs.Blocks.{Block, IsBlock, free_bits, HasAddress, IsInside, IsLarger, IsBefore, first, first_of, whole, left, right, parent}
+use Rattle.ipnet_blocks.specs.Blocks.{Block, IsBlock, free_bits, HasAddress, IsInside, IsLarger, IsBefore, first, first_of, family_block, left, right, parent}
 use Rattle.ipnet_blocks.specs.Maximal.{IsWithin, IsMaximalBlock, IsMaximal, all_in, maximal_in, maximal_of}
 use Rattle.ipnet_addr.proofs.Members.{In, In-left, In-right, In-cases}
 use Rattle.ipnet_addr.proofs.Ascending.{In-from_Contains, Contains-from_In, Rising, pairs_from_Rising}
@@ -42,20 +44,14 @@ module _ (t : Block) (p : IsBlock t) (room : 0 < free_bits t) where
       let h : b.quotient / 2 ^ (b.len - (t.len + 1)) / 2 ≡ t.quotient = shr-shr b.quotient (b.len - (t.len + 1)) 1 ∙ ap (λ i. b.quotient / 2 ^ i) e ∙ n.quotient in
       ⊎_elim (λ z. inl (inside_from_numbers b (left t) ok n.family long z))
       (λ z. inr (inside_from_numbers b (right t) ok n.family long z))
-      (either (b.quotient / 2 ^ (b.len - (t.len + 1))) t.quotient h)
-    where
-      either : (x q : ℕ) → x / 2 ≡ q → (x ≡ 2 * q) ⊎ (x ≡ 2 * q + 1)
-      either x q h = grind arith
+      (even_or_odd (b.quotient / 2 ^ (b.len - (t.len + 1))) t.quotient h)
 
   -- as is an address
   pub address_in_a_half : (x : Address) → HasAddress t x → HasAddress (left t) x ⊎ HasAddress (right t) x
   address_in_a_half x h =
       let e : (width t.family - (t.len + 1)) + 1 ≡ width t.family - t.len = omega arith in
       let k : x.number / 2 ^ (width t.family - (t.len + 1)) / 2 ≡ t.quotient = shr-shr x.number (width t.family - (t.len + 1)) 1 ∙ ap (λ i. x.number / 2 ^ i) e ∙ h.1 in
-      ⊎_elim (λ z. inl (h.0, z)) (λ z. inr (h.0, z)) (either (x.number / 2 ^ (width t.family - (t.len + 1))) t.quotient k)
-    where
-      either : (x q : ℕ) → x / 2 ≡ q → (x ≡ 2 * q) ⊎ (x ≡ 2 * q + 1)
-      either x q h = grind arith
+      ⊎_elim (λ z. inl (h.0, z)) (λ z. inr (h.0, z)) (even_or_odd (x.number / 2 ^ (width t.family - (t.len + 1))) t.quotient k)
 
 -- a block inside t begins within t
 pub first_within : (b t : Block) → IsInside b t → (t.quotient * 2 ^ free_bits t ≤ first b) × (first b < t.quotient * 2 ^ free_bits t + 2 ^ free_bits t)
@@ -88,32 +84,24 @@ Rising-append [] ys h k f = k
 Rising-append (x ∷ xs) ys h k f =
     ((λ y i. ⊎_elim (λ j. h.0 y j) (λ j. f x y (inl refl) j) (In-cases y xs ys i)), Rising-append xs ys h.1 k (λ a b i j. f a b (inr i) j))
 
-pub whole_is_block : (f : Family) → IsBlock (whole f)
+pub whole_is_block : (f : Family) → IsBlock (family_block f)
 whole_is_block f = record { in_width = omega arith; in_range = omega arith }
 
-pub inside_whole : (b : Block) (f : Family) → IsBlock b → b.family ≡ f → IsInside b (whole f)
+pub inside_whole : (b : Block) (f : Family) → IsBlock b → b.family ≡ f → IsInside b (family_block f)
 inside_whole b f p e =
     let z : b.len - 0 ≡ b.len = omega arith in
-    inside_from_numbers b (whole f) p e (omega arith) (ap (λ n. b.quotient / 2 ^ n) z ∙ div-eq_of_lt p.in_range)
+    inside_from_numbers b (family_block f) p e (omega arith) (ap (λ n. b.quotient / 2 ^ n) z ∙ div-eq_of_lt p.in_range)
 
 module _ (s : Address → Bool) where
   Holds : Address → Type 0
   Holds x = IsTrue (s x)
-
-  both : (a b : Bool) → (a && b) ≡ true → (a ≡ true) × (b ≡ true)
-  both true b e = (refl, e)
-  both false b e = absurd (cc)
-
-  and_both : (a b : Bool) → a ≡ true → b ≡ true → (a && b) ≡ true
-  and_both true b e f = f
-  and_both false b e f = absurd (cc)
 
   pub within_from_all : (k : ℕ) (t : Block) → IsBlock t → free_bits t ≡ k → all_in s k t ≡ true → (x : Address) → HasAddress t x → s x ≡ true
   unfolding all_in
   within_from_all zero t p e h x m = subst (λ y. s y ≡ true) (leaf_address t e x m) h
   within_from_all (suc k) t p e h x m =
       let r : 0 < free_bits t = omega arith in
-      let a = both (all_in s k (left t)) (all_in s k (right t)) h in
+      let a = and_parts (all_in s k (left t)) (all_in s k (right t)) h in
       ⊎_elim (λ i. within_from_all k (left t) (left_is_block t p r) (omega arith) a.0 x i)
       (λ i. within_from_all k (right t) (right_is_block t p r) (omega arith) a.1 x i)
       (address_in_a_half t p r x m)
@@ -123,7 +111,7 @@ module _ (s : Address → Bool) where
   all_from_within zero t p e h = h (first_of t) (has_first t)
   all_from_within (suc k) t p e h =
       let r : 0 < free_bits t = omega arith in
-      and_both (all_in s k (left t)) (all_in s k (right t))
+      and_from (all_in s k (left t)) (all_in s k (right t))
       (all_from_within k (left t) (left_is_block t p r) (omega arith) (λ x i. h x (left_inside t p r x i)))
       (all_from_within k (right t) (right_is_block t p r) (omega arith) (λ x i. h x (right_inside t p r x i)))
 
@@ -238,29 +226,29 @@ module _ (s : Address → Bool) where
       (rising k (left t) (left_is_block t p r) (omega arith)) (rising k (right t) (right_is_block t p r) (omega arith))
       (λ x y i j. halves_in_order t x y (located k (left t) (left_is_block t p r) (omega arith) x i) (located k (right t) (right_is_block t p r) (omega arith) y j)))
 
-  none_whole : (f : Family) → None (whole f)
+  none_whole : (f : Family) → None (family_block f)
   unfolding None
-  none_whole f c w l = let h = larger_is_shorter c (whole f) w.block (whole_is_block f) l in omega arith
+  none_whole f c w l = let h = larger_is_shorter c (family_block f) w.block (whole_is_block f) l in omega arith
 
   pub search_is_maximal : IsMaximal (λ x. IsTrue (s x)) (maximal_of s)
   unfolding maximal_of Holds
   search_is_maximal = record {
-    ascending = pairs_from_Rising IsBefore (four ++ six) (Rising-append four six (rising (width Ipv4) (whole Ipv4) (whole_is_block Ipv4) refl) (rising (width Ipv6) (whole Ipv6) (whole_is_block Ipv6) refl)
-        (λ x y i j. inl (let a = ap rank (located (width Ipv4) (whole Ipv4) (whole_is_block Ipv4) refl x i (first_of x) (has_first x)).0 in
-        let b = ap rank (located (width Ipv6) (whole Ipv6) (whole_is_block Ipv6) refl y j (first_of y) (has_first y)).0 in omega arith)));
+    ascending = pairs_from_Rising IsBefore (four ++ six) (Rising-append four six (rising (width Ipv4) (family_block Ipv4) (whole_is_block Ipv4) refl) (rising (width Ipv6) (family_block Ipv6) (whole_is_block Ipv6) refl)
+        (λ x y i j. inl (let a = ap rank (located (width Ipv4) (family_block Ipv4) (whole_is_block Ipv4) refl x i (first_of x) (has_first x)).0 in
+        let b = ap rank (located (width Ipv6) (family_block Ipv6) (whole_is_block Ipv6) refl y j (first_of y) (has_first y)).0 in omega arith)));
     exact = λ b. (
-      (λ i. ⊎_elim (sound (width Ipv4) (whole Ipv4) (whole_is_block Ipv4) refl (none_whole Ipv4) b) (sound (width Ipv6) (whole Ipv6) (whole_is_block Ipv6) refl (none_whole Ipv6) b)
+      (λ i. ⊎_elim (sound (width Ipv4) (family_block Ipv4) (whole_is_block Ipv4) refl (none_whole Ipv4) b) (sound (width Ipv6) (family_block Ipv6) (whole_is_block Ipv6) refl (none_whole Ipv6) b)
           (In-cases b four six (In-from_Contains (four ++ six) b i))),
       (λ m. Contains-from_In (four ++ six) b (by_family b m b.family refl)),
     );
   }
     where
       four : List Block
-      four = maximal_in s (width Ipv4) (whole Ipv4)
+      four = maximal_in s (width Ipv4) (family_block Ipv4)
 
       six : List Block
-      six = maximal_in s (width Ipv6) (whole Ipv6)
+      six = maximal_in s (width Ipv6) (family_block Ipv6)
 
       by_family : (b : Block) → IsMaximalBlock Holds b → (f : Family) → b.family ≡ f → In b (four ++ six)
-      by_family b m Ipv4 e = In-left b four six (complete (width Ipv4) (whole Ipv4) (whole_is_block Ipv4) refl b m (inside_whole b Ipv4 m.within.block e))
-      by_family b m Ipv6 e = In-right b four six (complete (width Ipv6) (whole Ipv6) (whole_is_block Ipv6) refl b m (inside_whole b Ipv6 m.within.block e))
+      by_family b m Ipv4 e = In-left b four six (complete (width Ipv4) (family_block Ipv4) (whole_is_block Ipv4) refl b m (inside_whole b Ipv4 m.within.block e))
+      by_family b m Ipv6 e = In-right b four six (complete (width Ipv6) (family_block Ipv6) (whole_is_block Ipv6) refl b m (inside_whole b Ipv6 m.within.block e))

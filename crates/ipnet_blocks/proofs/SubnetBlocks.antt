@@ -12,8 +12,10 @@ use Rattle.ipnet_addr.proofs.RangeCalls.{has_number}
 use Rattle.ipnet_blocks.specs.Blocks.{Block, free_bits, HasAddress, parent, first, last, first_of}
 use Rattle.ipnet_blocks.specs.Maximal.{IsCutBlock, IsCut}
 use Rattle.ipnet_blocks.specs.Cuts.{AreSubnets}
-use Rattle.ipnet_blocks.specs.Hosts.{host_ends, HostsAreExact}
-use Rattle.ipnet_blocks.proofs.BlockLaws.{has_first, common, longer_inside, rank_apart}
+use Rattle.ipnet_blocks.specs.Hosts.{host_ends}
+use Rattle.ipnet_blocks.specs.Laws.{HostsAreExact}
+use Rattle.ipnet_addr.proofs.Families.{rank_apart}
+use Rattle.ipnet_blocks.proofs.BlockLaws.{has_first, common, longer_inside}
 use Rattle.ipnet_blocks.proofs.Parents.{larger_is_shorter, parent_is_block, inside_parent}
 use Rattle.ipnet_blocks.proofs.Cuts.{Between, span_of_has, has_of_span}
 

@@ -20,7 +20,3 @@ pub record IsAggregated (given bs : List Block) : Type 0 where
 pub record AreAggregated (family : Family) (given networks : List Network) : Type 0 where
   pub blocks : IsAggregated (map (block_of family) given) (map (block_of family) networks)
   pub truncated : All (IsTruncated family) networks
-
--- aggregated again, they stay what they are
-abbrev pub AggregatedIsStable : Type 0
-AggregatedIsStable = (given bs cs : List Block) → IsAggregated given bs → IsAggregated bs cs → cs ≡ bs

@@ -70,8 +70,8 @@ abbrev pub Begins : List Bool → List Bool → Type 0
 Begins s t = (rest : List Bool) × (t ≡ s ++ rest)
 
 -- all addresses of a family
-abbrev pub whole : Family → Block
-whole f = record { family = f; len = 0; quotient = 0 }
+abbrev pub family_block : Family → Block
+family_block f = record { family = f; len = 0; quotient = 0 }
 
 -- the two halves of a block that is not a host block
 abbrev pub left : Block → Block
@@ -96,13 +96,13 @@ abbrev pub same_block : Block → Block → Bool
 same_block a b = same_family a.family b.family && (a.len == b.len) && (a.quotient == b.quotient)
 
 -- a beginning comes before what it begins, and 0 before 1
-abbrev pub IsEarlier : List Bool → List Bool → Type 0
-IsEarlier s [] = ⊥
-IsEarlier [] (b ∷ t) = Unit {0}
-IsEarlier (false ∷ s) (true ∷ t) = Unit {0}
-IsEarlier (true ∷ s) (false ∷ t) = ⊥
-IsEarlier (false ∷ s) (false ∷ t) = IsEarlier s t
-IsEarlier (true ∷ s) (true ∷ t) = IsEarlier s t
+abbrev pub IsStringBefore : List Bool → List Bool → Type 0
+IsStringBefore s [] = ⊥
+IsStringBefore [] (b ∷ t) = Unit {0}
+IsStringBefore (false ∷ s) (true ∷ t) = Unit {0}
+IsStringBefore (true ∷ s) (false ∷ t) = ⊥
+IsStringBefore (false ∷ s) (false ∷ t) = IsStringBefore s t
+IsStringBefore (true ∷ s) (true ∷ t) = IsStringBefore s t
 
 -- two blocks of one length, and not the longest: the parent of the one holds the other
 abbrev pub AreSiblings : Block → Block → Type 0

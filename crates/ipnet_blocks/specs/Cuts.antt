@@ -2,7 +2,6 @@
 use Rattle.std.specs.Prelude.{ℕ, zero, suc, ◌+◌, ◌-◌, ◌/◌, ◌%◌, ◌^◌, ◌<◌, ◌≤◌, ◌&&◌, nat_le, nat_lt, ◌==◌, if◌then◌else◌, ◌↔◌, List, [], ◌∷◌, map, Contains, ◌≡◌}
 use Rattle.ipnet_addr.specs.Addresses.{Family, width}
 use Rattle.ipnet_blocks.specs.Blocks.{Block, IsBlock, IsInside, IsAscending}
-use Rattle.ipnet_blocks.specs.Maximal.{IsCut}
 use Rattle.ipnet_blocks.specs.Networks.{Network, net_of}
 
 -- the ends of a range of addresses, and the least length of a block
@@ -27,13 +26,13 @@ abbrev pub first_free : ℕ → Limits → ℕ
 first_free w l = most_free (w - l.shortest) l.start l.end
 
 -- the block that begins at start and leaves so many bits free
-abbrev pub block_at : Family → ℕ → ℕ → Block
-block_at f start free = record { family = f; len = width f - free; quotient = start / 2 ^ free }
+abbrev pub block_from : Family → ℕ → ℕ → Block
+block_from f start free = record { family = f; len = width f - free; quotient = start / 2 ^ free }
 
 -- the blocks of `IsCut` from these limits on, at most n
 unfoldable pub cut_within : ℕ → Family → Limits → List Block
 cut_within zero f l = []
-cut_within (suc n) f l = if nat_le l.start l.end then (block_at f l.start (first_free (width f) l) ∷ cut_within n f (record l { start = l.start + 2 ^ first_free (width f) l })) else []
+cut_within (suc n) f l = if nat_le l.start l.end then (block_from f l.start (first_free (width f) l) ∷ cut_within n f (record l { start = l.start + 2 ^ first_free (width f) l })) else []
 
 -- all blocks of `IsCut`, ascending
 abbrev pub cut : Family → Limits → List Block
@@ -55,7 +54,3 @@ after_first w l =
 pub record AreSubnets (b : Block) (n : ℕ) (bs : List Block) : Type 0 where
   pub ascending : IsAscending bs
   pub exact : (c : Block) → Contains bs c ↔ IsBlock c × (c.len ≡ n) × IsInside c b
-
--- the list of a subnet iterator has the blocks of its limits
-abbrev pub CutIsExact : Type 0
-CutIsExact = (f : Family) (l : Limits) → AreLimits f l → IsCut f l.start l.end l.shortest (cut f l)

@@ -1,7 +1,7 @@
 -- The hosts of a network.
-use Rattle.std.specs.Prelude.{◌≡◌, ◌≢◌, ℕ, ◌+◌, ◌-◌, ◌<◌, ◌&&◌, nat_lt, if◌then◌else◌, ◌↔◌, Contains}
+use Rattle.std.specs.Prelude.{◌≡◌, ◌≢◌, ◌+◌, ◌-◌, ◌<◌, ◌&&◌, nat_lt, if◌then◌else◌}
 use Rattle.ipnet_addr.specs.Addresses.{Ipv4, same_family, Address}
-use Rattle.ipnet_addr.specs.Ranges.{Ends, numbers}
+use Rattle.ipnet_addr.specs.Ranges.{Ends}
 use Rattle.ipnet_blocks.specs.Blocks.{Block, HasAddress, first, last}
 
 -- an address of the block; below length 31 an IPv4 block keeps its least and its greatest address for the network itself
@@ -11,7 +11,3 @@ IsHost b x = HasAddress b x × ((b.family ≡ Ipv4) × (b.len < 31) → (x.numbe
 -- the least of them and the greatest
 abbrev pub host_ends : Block → Ends
 host_ends b = if same_family b.family Ipv4 && nat_lt b.len 31 then record { start = first b + 1; end = last b - 1 } else record { start = first b; end = last b }
-
--- the hosts are the addresses between them
-abbrev pub HostsAreExact : Type 0
-HostsAreExact = (b : Block) (n : ℕ) → Contains (numbers (host_ends b)) n ↔ IsHost b (record { family = b.family; number = n })

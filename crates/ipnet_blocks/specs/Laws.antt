@@ -1,9 +1,14 @@
 -- The laws of blocks, as statements.
-use Rattle.std.specs.Prelude.{◌≡◌, ℕ, ◌-◌, ◌<◌, ◌≤◌, ◌⊎◌, ◌↔◌, ◌++◌, Bool, true, false, IsTrue, List, length, replicate, zero, bit_and}
-use Rattle.ipnet_addr.specs.Addresses.{Address, IsAddress, width}
+use Rattle.std.specs.Prelude.{◌≡◌, ℕ, ◌-◌, ◌<◌, ◌≤◌, ◌⊎◌, ◌↔◌, ◌++◌, Bool, true, false, IsTrue, List, length, replicate, zero, bit_and, Contains}
+use Rattle.ipnet_addr.specs.Addresses.{Family, Address, IsAddress, width}
 use Rattle.ipnet_addr.specs.Masks.{IsMask}
-use Rattle.ipnet_blocks.specs.Blocks.{Block, IsBlock, HasAddress, IsInside, IsLarger, IsBefore, IsAscending, is_inside, bit_string, digits, Begins, IsEarlier, first, last, parent}
-use Rattle.ipnet_blocks.specs.Maximal.{IsWithin, IsMaximalBlock, IsMaximal, IsUnion, maximal_of}
+use Rattle.ipnet_addr.specs.Ranges.{numbers}
+use Rattle.ipnet_blocks.specs.Blocks.{Block, IsBlock, HasAddress, IsInside, IsLarger, IsBefore, IsAscending, is_inside, bit_string, digits, Begins, IsStringBefore, first, last, parent}
+use Rattle.ipnet_blocks.specs.Maximal.{IsWithin, IsMaximalBlock, IsMaximal, IsUnion, IsCut, maximal_of}
+use Rattle.ipnet_blocks.specs.Aggregated.{IsAggregated, AreAggregated}
+use Rattle.ipnet_blocks.specs.Cuts.{Limits, AreLimits, cut, after_first}
+use Rattle.ipnet_blocks.specs.Networks.{Network}
+use Rattle.ipnet_blocks.specs.Hosts.{IsHost, host_ends}
 
 -- two blocks with a common address are nested
 abbrev pub AreNested : Type 0
@@ -53,7 +58,7 @@ SearchIsMaximal = (s : Address → Bool) → IsMaximal (λ x. IsTrue (s x)) (max
 
 -- within a family the order is that of the bit strings
 abbrev pub OrderIsOfStrings : Type 0
-OrderIsOfStrings = (a b : Block) → IsBlock a → IsBlock b → a.family ≡ b.family → IsBefore a b ↔ IsEarlier (bit_string a) (bit_string b)
+OrderIsOfStrings = (a b : Block) → IsBlock a → IsBlock b → a.family ≡ b.family → IsBefore a b ↔ IsStringBefore (bit_string a) (bit_string b)
 
 -- a block is its addresses
 abbrev pub BlockIsItsAddresses : Type 0
@@ -75,3 +80,23 @@ MaskIsOnesThenZeros = (m : Address) (len : ℕ) → IsAddress m
 -- the bits that an address shares with the mask of a block are those of the block, if it is one of the block's
 abbrev pub MaskFindsBlock : Type 0
 MaskFindsBlock = (b : Block) (x m : Address) → IsAddress x → x.family ≡ b.family → m.family ≡ b.family → IsMask m b.len → HasAddress b x ↔ (bit_and x.number m.number ≡ first b)
+
+-- the list of a subnet iterator has the blocks of its limits
+abbrev pub CutIsExact : Type 0
+CutIsExact = (f : Family) (l : Limits) → AreLimits f l → IsCut f l.start l.end l.shortest (cut f l)
+
+-- the hosts of a network are the addresses between their ends
+abbrev pub HostsAreExact : Type 0
+HostsAreExact = (b : Block) (n : ℕ) → Contains (numbers (host_ends b)) n ↔ IsHost b (record { family = b.family; number = n })
+
+-- the maximal blocks of some blocks, aggregated again, stay what they are
+abbrev pub AggregatedIsStable : Type 0
+AggregatedIsStable = (given bs cs : List Block) → IsAggregated given bs → IsAggregated bs cs → cs ≡ bs
+
+-- the same for networks: aggregated again, the list is the same list
+abbrev pub NetworksStayAggregated : Type 0
+NetworksStayAggregated = (f : Family) (given ns ms : List Network) → AreAggregated f given ns → AreAggregated f ns ms → ms ≡ ns
+
+-- what a subnet iterator stores after a block are limits again
+abbrev pub LimitsStay : Type 0
+LimitsStay = (f : Family) (l : Limits) → AreLimits f l → AreLimits f (after_first (width f) l)

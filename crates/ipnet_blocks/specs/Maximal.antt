@@ -1,7 +1,7 @@
 -- The maximal blocks of a set of addresses.
 use Rattle.std.specs.Prelude.{◌≡◌, ℕ, ◌≤◌, ◌↔◌, Bool, List, [], ◌∷◌, ◌++◌, Contains, All, Any, zero, suc, ◌&&◌, if◌then◌else◌}
 use Rattle.ipnet_addr.specs.Addresses.{Family, Ipv4, Ipv6, Address, IsAddress, width}
-use Rattle.ipnet_blocks.specs.Blocks.{Block, IsBlock, HasAddress, IsLarger, IsAscending, first_of, left, right, whole}
+use Rattle.ipnet_blocks.specs.Blocks.{Block, IsBlock, HasAddress, IsLarger, IsAscending, first_of, left, right, family_block}
 
 -- every address of the block is in the set
 pub record IsWithin (S : Address → Type 0) (b : Block) : Type 0 where
@@ -43,4 +43,4 @@ maximal_in s zero b = if s (first_of b) then b ∷ [] else []
 maximal_in s (suc k) b = if all_in s (suc k) b then b ∷ [] else (maximal_in s k (left b) ++ maximal_in s k (right b))
 
 unfoldable pub maximal_of : (Address → Bool) → List Block
-maximal_of s = maximal_in s (width Ipv4) (whole Ipv4) ++ maximal_in s (width Ipv6) (whole Ipv6)
+maximal_of s = maximal_in s (width Ipv4) (family_block Ipv4) ++ maximal_in s (width Ipv6) (family_block Ipv6)

@@ -26,5 +26,5 @@ abbrev pub IsTruncated : Family → Network → Type 0
 IsTruncated family n = n ≡ net_of (block_of family n)
 
 -- by the number of the address, then by length
-abbrev pub ComesBefore : Network → Network → Type 0
-ComesBefore m n = (m.number < n.number) ⊎ ((m.number ≡ n.number) × (m.len < n.len))
+abbrev pub IsNetworkBefore : Network → Network → Type 0
+IsNetworkBefore m n = (m.number < n.number) ⊎ ((m.number ≡ n.number) × (m.len < n.len))

@@ -1,4 +1,5 @@
 //! The fewest blocks with the addresses of some networks of one family: spans of numbers, sorted, joined and cut.
+//! For the crates above; not part of the promise.
 ghost use Rattle.std.specs.Prelude.{◌≡◌, ◌^◌, ◌<◌, ◌++◌, map, All, IfOk, OnOk};
 ghost use Rattle.std.specs.List.Sorted.{IsPermutation, IsNonDecreasingBy};
 ghost use Rattle.std.specs.List.{flat_map};
@@ -6,7 +7,7 @@ ghost use Rattle.ipnet_addr.specs.Addresses.{Family, width};
 ghost use Rattle.ipnet_blocks.specs.Aggregated.{AreAggregated};
 ghost use Rattle.ipnet_blocks.specs.Cuts.{subnets};
 ghost use Rattle.ipnet_blocks.specs.Networks.{Network};
-ghost use Rattle.ipnet_blocks.specs.Spans.{HasNumber, AreJoined, span_of, limits_of};
+ghost use Rattle.ipnet_blocks.specs.InnerSpans.{HasNumber, AreJoined, span_of, limits_of};
 
 use std::alloc::{AllocError, Global};
 

@@ -1,4 +1,5 @@
 //! Inclusion of blocks, by the numbers of their networks.
+//! For the crates above; not part of the promise.
 ghost use Rattle.std.specs.Prelude.{◌≡◌, ◌-◌, ◌/◌, ◌^◌, ◌<◌, ◌≤◌, ◌↔◌, IsTrue};
 ghost use Rattle.ipnet_addr.specs.Addresses.{Family, width};
 ghost use Rattle.ipnet_blocks.specs.Blocks.{IsInside};

@@ -1,4 +1,5 @@
 //! The largest block at the beginning of a range of numbers, and the range after it.
+//! For the crates above; not part of the promise.
 ghost use Rattle.std.specs.Prelude.{◌≡◌, ◌-◌, ◌^◌, ◌<◌, ◌≤◌};
 ghost use Rattle.ipnet_blocks.specs.Cuts.{most_free, first_free, after_first};
 

@@ -1,11 +1,8 @@
 //! Laws of blocks, their order and their bit strings, and of maximal blocks: public functions without a body, whose contracts are the laws.
 
 ghost use Rattle.std.specs.Prelude.{◌≡◌};
-ghost use Rattle.ipnet_blocks.specs.Aggregated.{AggregatedIsStable};
 ghost use Rattle.ipnet_blocks.specs.Blocks.{Block};
-ghost use Rattle.ipnet_blocks.specs.Cuts.{CutIsExact};
-ghost use Rattle.ipnet_blocks.specs.Hosts.{HostsAreExact};
-ghost use Rattle.ipnet_blocks.specs.Laws.{AreNested, InsideByNumbers, BeginsIsInside, OrderIsTotal, OrderIsStrict, OrderIsTransitive, MaximalIsUnique, MaximalIsShortest, ShortestIsMaximal, ParentIsEnough, MaximalIsUnion, SearchIsMaximal, OrderIsOfStrings, BlockIsItsAddresses, ParentIsNext, BlockIsInterval, MaskIsOnesThenZeros, MaskFindsBlock};
+ghost use Rattle.ipnet_blocks.specs.Laws.{AreNested, InsideByNumbers, BeginsIsInside, OrderIsTotal, OrderIsStrict, OrderIsTransitive, MaximalIsUnique, MaximalIsShortest, ShortestIsMaximal, ParentIsEnough, MaximalIsUnion, SearchIsMaximal, OrderIsOfStrings, BlockIsItsAddresses, ParentIsNext, BlockIsInterval, MaskIsOnesThenZeros, MaskFindsBlock, AggregatedIsStable, NetworksStayAggregated, LimitsStay, CutIsExact, HostsAreExact};
 ghost use Rattle.ipnet_blocks.specs.Networks.{block_of, net_of};
 
 /// Two blocks with a common address are nested.
@@ -66,9 +63,10 @@ pub fn masks()
     ensures finds { MaskFindsBlock }
 {}
 
-/// A subnet iterator gives the blocks within its limits that lie in no larger such block.
+/// A subnet iterator gives the blocks within its limits that lie in no larger such block; what it stores afterwards are limits again.
 pub fn cuts()
-    ensures { CutIsExact }
+    ensures exact { CutIsExact }
+    ensures stay { LimitsStay }
 {}
 
 /// The hosts of a network are the addresses from the first to the last of them.
@@ -78,5 +76,6 @@ pub fn hosts()
 
 /// `aggregate` of its own answer is that answer, whatever order, repeats and host bits its input had.
 pub fn aggregated()
-    ensures { AggregatedIsStable }
+    ensures blocks { AggregatedIsStable }
+    ensures networks { NetworksStayAggregated }
 {}

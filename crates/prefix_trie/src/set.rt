@@ -7,17 +7,18 @@ ghost use Rattle.std.specs.Iterator.{Drains, HoldsAlong, IsFinite, item_count};
 ghost use Rattle.std.specs.Fn.{CalledAt};
 ghost use Rattle.std.specs.List.{All};
 ghost use Rattle.std.specs.List.Retain.{IsFiltered};
-ghost use Rattle.trie_keys.specs.Bits.{bits_cmp, begins, is_from};
+ghost use Rattle.trie_core.specs.Bits.{bits_cmp, begins, is_from};
 ghost use Rattle.trie_core.specs.Count.{nodes};
 ghost use Rattle.trie_core.specs.Inside.{outside};
 ghost use Rattle.trie_core.specs.Ways.{AreIdle, off_way, IsPruned, IsCut, IsKept};
 ghost use Rattle.trie_core.specs.Search.{NoBeginning};
 ghost use Rattle.trie_map.specs.Covered.{covered_count};
-ghost use Rattle.trie_iter.specs.Iterators.{GivesKey};
+ghost use Rattle.trie_map.specs.Iterators.{GivesKey};
 ghost use Rattle.trie_map.specs.Made.{inserted};
 ghost use Rattle.trie_map.specs.Maps.{IsLongestKey, IsShortestKey};
 ghost use Rattle.trie_map.specs.Refusals.{no_room};
-ghost use Rattle.prefix_trie.specs.Sets.{same_sets, same_sets-equivalence};
+ghost use Rattle.prefix_trie.specs.Sets.{same_sets};
+ghost use Rattle.prefix_trie.specs.InnerSets.{same_sets-equivalence};
 ghost use Rattle.trie_map.specs.declared.refused.Refused.TheVariants.{Full, Memory};
 
 use std::alloc::{AllocError, Global};
@@ -34,13 +35,10 @@ pub struct PrefixSet<P: Prefix> {
 }
 
 impl<P: Prefix> Model for PrefixSet<P> {
-    ghost use Rattle.std.specs.Prelude.{ℕ};
-    ghost use Rattle.std.specs.FinMap as fin;
     ghost use base.Stored.{coded_unit};
-    ghost use Rattle.trie_keys.specs.Bits.{bits_cmp};
-    ghost use Rattle.trie_core.specs.Nodes.{code};
+    ghost use Rattle.trie_map.specs.Seen.{SeenMap, code};
 
-    ghost Value = { fin.FinMap bits_cmp (Unit {0}) × fin.FinMap bits_cmp (Unit {0}) × ℕ };
+    ghost Value = { SeenMap (Unit {0}) };
 
     ghost coded = { code coded_unit };
 
@@ -53,8 +51,8 @@ impl<P: Prefix> PrefixSet<P> {
     /// # Errors
     /// None, as of `PrefixMap::new`.
     pub fn new(alloc: Global) -> Result<PrefixSet<P>, Refused>
-        ensures set { IfOk result (λ s. s.0 ≡ fin.empty) }
-        ensures tidy { IfOk result (λ s. s.1 ≡ fin.empty) }
+        ensures set { IfOk result (λ s. s.entries ≡ fin.empty) }
+        ensures tidy { IfOk result (λ s. s.spares ≡ fin.empty) }
         ensures ok { IsOk result }
     {
         Ok(PrefixSet {
@@ -64,23 +62,23 @@ impl<P: Prefix> PrefixSet<P> {
 
     /// The number of members.
     pub fn len(&self) -> usize
-        ensures { result ≡ fin.len self.now.0 }
+        ensures { result ≡ fin.len self.now.entries }
     {
         self.members.len()
     }
 
     /// Whether it has no member.
     pub fn is_empty(&self) -> bool
-        ensures { IsTrue result ↔ (self.now.0 ≡ fin.empty) }
+        ensures { IsTrue result ↔ (self.now.entries ≡ fin.empty) }
     {
         self.members.is_empty()
     }
 
     /// The number of nodes, as `PrefixMap::node_count`.
     pub fn node_count(&self) -> usize
-        ensures all { result ≡ nodes self.now.0 + fin.len self.now.1 }
-        ensures idle { AreIdle self.now.0 self.now.1 }
-        ensures tidy { self.now.1 ≡ fin.empty → result ≡ nodes self.now.0 }
+        ensures all { result ≡ nodes self.now.entries + fin.len self.now.spares }
+        ensures idle { AreIdle self.now.entries self.now.spares }
+        ensures tidy { self.now.spares ≡ fin.empty → result ≡ nodes self.now.entries }
     {
         self.members.node_count()
     }
@@ -89,7 +87,7 @@ impl<P: Prefix> PrefixSet<P> {
     pub fn address_count(&self) -> Option<P::R>
     where
         P: Drop,
-        ensures { MatchOption result (covered_count P.R.width self.now.0 ≡ 2 ^ P.R.width) (λ n. (P.R.number n ≡ covered_count P.R.width self.now.0) × (covered_count P.R.width self.now.0 < 2 ^ P.R.width)) }
+        ensures { MatchOption result (covered_count P.R.width self.now.entries ≡ 2 ^ P.R.width) (λ n. (P.R.number n ≡ covered_count P.R.width self.now.entries) × (covered_count P.R.width self.now.entries < 2 ^ P.R.width)) }
     {
         self.members.address_count()
     }
@@ -110,7 +108,7 @@ impl<P: Prefix> PrefixSet<P> {
     /// Whether this very prefix is a member.
     pub fn contains(&self, prefix: &P) -> bool
         requires { length (P.bits prefix.now) ≤ P.R.width }
-        ensures { result ≡ fin.contains_key self.now.0 (P.bits prefix.now) }
+        ensures { result ≡ fin.contains_key self.now.entries (P.bits prefix.now) }
     {
         self.members.contains_key(prefix)
     }
@@ -118,7 +116,7 @@ impl<P: Prefix> PrefixSet<P> {
     /// The member that this very prefix is, with zeros after the bits that count.
     pub fn get(&self, prefix: &P) -> Option<P>
         requires { length (P.bits prefix.now) ≤ P.R.width }
-        ensures { MatchOption result (fin.contains_key self.now.0 (P.bits prefix.now) ≡ false) (λ k. (fin.contains_key self.now.0 (P.bits prefix.now) ≡ true) × (k ≡ P.of_bits (P.bits prefix.now))) }
+        ensures { MatchOption result (fin.contains_key self.now.entries (P.bits prefix.now) ≡ false) (λ k. (fin.contains_key self.now.entries (P.bits prefix.now) ≡ true) × (k ≡ P.of_bits (P.bits prefix.now))) }
     {
         match self.members.get_key_value(prefix) {
             None => None,
@@ -129,7 +127,7 @@ impl<P: Prefix> PrefixSet<P> {
     /// The longest member that contains the asked prefix, which itself counts.
     pub fn get_lpm(&self, prefix: &P) -> Option<P>
         requires { length (P.bits prefix.now) ≤ P.R.width }
-        ensures { MatchOption result (NoBeginning self.now.0 (P.bits prefix.now)) (λ k. IsLongestKey P.bits P.of_bits self.now.0 (P.bits prefix.now) k tt) }
+        ensures { MatchOption result (NoBeginning self.now.entries (P.bits prefix.now)) (λ k. IsLongestKey P.bits P.of_bits self.now.entries (P.bits prefix.now) k tt) }
     {
         self.members.get_lpm_prefix(prefix)
     }
@@ -137,7 +135,7 @@ impl<P: Prefix> PrefixSet<P> {
     /// The shortest member that contains the asked prefix, which itself counts.
     pub fn get_spm(&self, prefix: &P) -> Option<P>
         requires { length (P.bits prefix.now) ≤ P.R.width }
-        ensures { MatchOption result (NoBeginning self.now.0 (P.bits prefix.now)) (λ k. IsShortestKey P.bits P.of_bits self.now.0 (P.bits prefix.now) k tt) }
+        ensures { MatchOption result (NoBeginning self.now.entries (P.bits prefix.now)) (λ k. IsShortestKey P.bits P.of_bits self.now.entries (P.bits prefix.now) k tt) }
     {
         self.members.get_spm_prefix(prefix)
     }
@@ -145,14 +143,14 @@ impl<P: Prefix> PrefixSet<P> {
     /// Whether a member contains the asked prefix.
     pub fn is_covered(&self, prefix: &P) -> bool
         requires { length (P.bits prefix.now) ≤ P.R.width }
-        ensures { IsTrue result ↔ (NoBeginning self.now.0 (P.bits prefix.now) → ⊥) }
+        ensures { IsTrue result ↔ (NoBeginning self.now.entries (P.bits prefix.now) → ⊥) }
     {
         self.members.is_covered(prefix)
     }
 
     /// All members, in the order of a walk.
     pub fn iter(&self) -> Iter<'_, P>
-        ensures { result ≡ fin.keys self.now.0 }
+        ensures { result ≡ fin.keys self.now.entries }
     {
         Iter {
             entries: self.members.iter(),
@@ -163,7 +161,7 @@ impl<P: Prefix> PrefixSet<P> {
     /// inside it, and where `inclusive` says so itself.
     pub fn iter_from(&self, prefix: &P, inclusive: bool) -> Iter<'_, P>
         requires { length (P.bits prefix.now) ≤ P.R.width }
-        ensures { result ≡ map (λ e. e.0) (where_key bits_cmp (is_from (P.bits prefix.now) inclusive) (fin.entries self.now.0)) }
+        ensures { result ≡ map (λ e. e.0) (where_key bits_cmp (is_from (P.bits prefix.now) inclusive) (fin.entries self.now.entries)) }
     {
         Iter {
             entries: self.members.iter_from(prefix, inclusive),
@@ -173,7 +171,7 @@ impl<P: Prefix> PrefixSet<P> {
     /// The members that the prefix contains, itself included.
     pub fn children(&self, prefix: &P) -> Iter<'_, P>
         requires { length (P.bits prefix.now) ≤ P.R.width }
-        ensures { result ≡ map (λ e. e.0) (where_key bits_cmp (begins (P.bits prefix.now)) (fin.entries self.now.0)) }
+        ensures { result ≡ map (λ e. e.0) (where_key bits_cmp (begins (P.bits prefix.now)) (fin.entries self.now.entries)) }
     {
         Iter {
             entries: self.members.children(prefix),
@@ -183,7 +181,7 @@ impl<P: Prefix> PrefixSet<P> {
     /// The members that contain the prefix, itself included, the shortest first.
     pub fn cover(&self, prefix: &P) -> CoverKeys<'_, P, ()>
         requires { length (P.bits prefix.now) ≤ P.R.width }
-        ensures { result ≡ map (λ e. e.0) (where_key bits_cmp (λ k. begins k (P.bits prefix.now)) (fin.entries self.now.0)) }
+        ensures { result ≡ map (λ e. e.0) (where_key bits_cmp (λ k. begins k (P.bits prefix.now)) (fin.entries self.now.entries)) }
     {
         self.members.cover_keys(prefix)
     }
@@ -199,8 +197,8 @@ impl<P: Prefix + Drop> PrefixSet<P> {
         items: U,
     ) -> Result<PrefixSet<P>, Refused>
         requires { (it : U.IntoIter) → U.into_iter_gives items it → U.IntoIter.can_next it × IsFinite (U.IntoIter.remaining it) × HoldsAlong U.IntoIter.next_gives it (All (λ p. length (P.bits p) ≤ P.R.width)) }
-        ensures set { IfOk result (λ s. (it : U.IntoIter) × (ps : List P) × U.into_iter_gives items it × Drains U.IntoIter.next_gives it ps × (s.0 ≡ inserted P.bits fin.empty (map (λ p. (p, tt)) ps))) }
-        ensures tidy { IfOk result (λ s. s.1 ≡ fin.empty) }
+        ensures set { IfOk result (λ s. (it : U.IntoIter) × (ps : List P) × U.into_iter_gives items it × Drains U.IntoIter.next_gives it ps × (s.entries ≡ inserted P.bits fin.empty (map (λ p. (p, tt)) ps))) }
+        ensures tidy { IfOk result (λ s. s.spares ≡ fin.empty) }
         ensures memory { IfErr result (λ e. e ≡ Memory) }
     {
         let mut rest = items.into_iter();
@@ -220,12 +218,12 @@ impl<P: Prefix + Drop> PrefixSet<P> {
     /// `Memory` as `PrefixMap::insert`, and the set is as it was.
     pub fn insert(&mut self, prefix: P) -> Result<bool, Refused>
         requires { length (P.bits prefix) ≤ P.R.width }
-        ensures new { IfOk result (λ new. new ≡ not (fin.contains_key self.old.0 (P.bits prefix))) }
-        ensures set { OnOk result (self.new.0 ≡ fin.insert self.old.0 (P.bits prefix) tt) }
-        ensures spares { OnOk result (self.new.1 ≡ off_way self.old.1 (P.bits prefix)) }
-        ensures tidy { OnOk result (self.old.1 ≡ fin.empty → self.new.1 ≡ fin.empty) }
+        ensures new { IfOk result (λ new. new ≡ not (fin.contains_key self.old.entries (P.bits prefix))) }
+        ensures set { OnOk result (self.new.entries ≡ fin.insert self.old.entries (P.bits prefix) tt) }
+        ensures spares { OnOk result (self.new.spares ≡ off_way self.old.spares (P.bits prefix)) }
+        ensures tidy { OnOk result (self.old.spares ≡ fin.empty → self.new.spares ≡ fin.empty) }
         ensures unchanged { OnErr result (self.new ≡ self.old) }
-        ensures absent { OnErr result (fin.contains_key self.old.0 (P.bits prefix) ≡ false) }
+        ensures absent { OnErr result (fin.contains_key self.old.entries (P.bits prefix) ≡ false) }
         ensures full { IfErr result (λ e. e ≡ Full → no_room self.old) }
     {
         match self.members.insert(prefix, ()) {
@@ -238,11 +236,11 @@ impl<P: Prefix + Drop> PrefixSet<P> {
     /// memory.
     pub fn remove(&mut self, prefix: &P) -> bool
         requires { length (P.bits prefix.now) ≤ P.R.width }
-        ensures member { result ≡ fin.contains_key self.old.0 (P.bits prefix.now) }
-        ensures set { self.new.0 ≡ fin.remove self.old.0 (P.bits prefix.now) }
-        ensures spares { IsPruned (P.bits prefix.now) self.old.1 self.new.0 self.new.1 }
-        ensures tidy { self.old.1 ≡ fin.empty → self.new.1 ≡ fin.empty }
-        ensures count { nodes self.new.0 + fin.len self.new.1 ≤ nodes self.old.0 + fin.len self.old.1 }
+        ensures member { result ≡ fin.contains_key self.old.entries (P.bits prefix.now) }
+        ensures set { self.new.entries ≡ fin.remove self.old.entries (P.bits prefix.now) }
+        ensures spares { IsPruned (P.bits prefix.now) self.old.spares self.new.entries self.new.spares }
+        ensures tidy { self.old.spares ≡ fin.empty → self.new.spares ≡ fin.empty }
+        ensures count { nodes self.new.entries + fin.len self.new.spares ≤ nodes self.old.entries + fin.len self.old.spares }
     {
         self.members.remove(prefix).is_some()
     }
@@ -250,18 +248,18 @@ impl<P: Prefix + Drop> PrefixSet<P> {
     /// Takes the prefix out, and answers whether it was a member; every node stays. It takes no memory.
     pub fn remove_keep_tree(&mut self, prefix: &P) -> bool
         requires { length (P.bits prefix.now) ≤ P.R.width }
-        ensures member { result ≡ fin.contains_key self.old.0 (P.bits prefix.now) }
-        ensures set { self.new.0 ≡ fin.remove self.old.0 (P.bits prefix.now) }
-        ensures spares { IsKept (P.bits prefix.now) self.old.0 self.old.1 self.new.0 self.new.1 }
-        ensures count { nodes self.new.0 + fin.len self.new.1 ≡ nodes self.old.0 + fin.len self.old.1 }
+        ensures member { result ≡ fin.contains_key self.old.entries (P.bits prefix.now) }
+        ensures set { self.new.entries ≡ fin.remove self.old.entries (P.bits prefix.now) }
+        ensures spares { IsKept (P.bits prefix.now) self.old.entries self.old.spares self.new.entries self.new.spares }
+        ensures count { nodes self.new.entries + fin.len self.new.spares ≡ nodes self.old.entries + fin.len self.old.spares }
     {
         self.members.remove_keep_tree(prefix).is_some()
     }
 
     /// Takes out every member. It takes no memory.
     pub fn clear(&mut self)
-        ensures set { self.new.0 ≡ fin.empty }
-        ensures tidy { self.new.1 ≡ fin.empty }
+        ensures set { self.new.entries ≡ fin.empty }
+        ensures tidy { self.new.spares ≡ fin.empty }
     {
         self.members.clear();
     }
@@ -270,11 +268,11 @@ impl<P: Prefix + Drop> PrefixSet<P> {
     /// `PrefixMap::remove_children`. It takes no memory.
     pub fn remove_children(&mut self, prefix: &P)
         requires { length (P.bits prefix.now) ≤ P.R.width }
-        ensures set { self.new.0 ≡ outside self.old.0 (P.bits prefix.now) }
-        ensures spares { IsCut (P.bits prefix.now) self.old.1 self.new.0 self.new.1 }
-        ensures tidy { self.old.1 ≡ fin.empty → self.new.1 ≡ fin.empty }
-        ensures cleared { length (P.bits prefix.now) ≡ 0 → self.new.1 ≡ fin.empty }
-        ensures count { nodes self.new.0 + fin.len self.new.1 ≤ nodes self.old.0 + fin.len self.old.1 }
+        ensures set { self.new.entries ≡ outside self.old.entries (P.bits prefix.now) }
+        ensures spares { IsCut (P.bits prefix.now) self.old.spares self.new.entries self.new.spares }
+        ensures tidy { self.old.spares ≡ fin.empty → self.new.spares ≡ fin.empty }
+        ensures cleared { length (P.bits prefix.now) ≡ 0 → self.new.spares ≡ fin.empty }
+        ensures count { nodes self.new.entries + fin.len self.new.spares ≤ nodes self.old.entries + fin.len self.old.spares }
     {
         self.members.remove_children(prefix);
     }
@@ -283,8 +281,8 @@ impl<P: Prefix + Drop> PrefixSet<P> {
     /// then, also where it was not before. It takes no memory.
     pub fn retain<F: FnMut(&P) -> bool>(&mut self, f: F)
         requires { F.IsAlwaysCallable f }
-        ensures kept { IsFiltered (λ g k. CalledAt F.FnMut g (P.of_bits k)) f (fin.keys self.old.0) (fin.keys self.new.0) }
-        ensures tidy { self.new.1 ≡ fin.empty }
+        ensures kept { IsFiltered (λ g k. CalledAt F.FnMut g (P.of_bits k)) f (fin.keys self.old.entries) (fin.keys self.new.entries) }
+        ensures tidy { self.new.spares ≡ fin.empty }
     {
         let mut f = f;
         self.members.retain(move |prefix, _| f(prefix));
@@ -367,7 +365,7 @@ impl<'a, P: Prefix> IntoIterator for &'a PrefixSet<P> {
 
     type IntoIter = Iter<'a, P>;
 
-    ghost into_iter_gives = { λ s r. r ≡ fin.keys s.now.0 };
+    ghost into_iter_gives = { λ s r. r ≡ fin.keys s.now.entries };
 
     fn into_iter(self) -> Iter<'a, P> {
         self.iter()
@@ -408,7 +406,7 @@ impl<P: Prefix> IntoIterator for PrefixSet<P> {
 
     type IntoIter = IntoIter<P>;
 
-    ghost into_iter_gives = { λ s r. r ≡ fin.keys s.0 };
+    ghost into_iter_gives = { λ s r. r ≡ fin.keys s.entries };
 
     /// All members, owned.
     fn into_iter(self) -> IntoIter<P> {

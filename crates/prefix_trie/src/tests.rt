@@ -20,6 +20,17 @@ fn map_of<const N: usize>(
     PrefixMap::try_from_iter(alloc, Vec::from_array(alloc, entries).expect(rt, "entries"))
 }
 
+/// A set of these members.
+fn set_of<const N: usize>(
+    rt: &impl Abort,
+    alloc: Global,
+    members: [(u32, u8); N],
+) -> Result<PrefixSet<(u32, u8)>, Refused>
+    requires { All (λ p. p.1 ≤ 32) members }
+{
+    PrefixSet::try_from_iter(alloc, Vec::from_array(alloc, members).expect(rt, "members"))
+}
+
 /// The second bytes of the members that are left, one after another, as digits after a 1.
 fn digits<I: Iterator<Item = (u32, u8)>>(members: I) -> u32
     requires { I.can_next members × IsFinite (I.remaining members) }
@@ -53,6 +64,26 @@ fn in_and_out(rt: HostRuntime) {
     assert!(rt; !set.remove(&(0x0a00_0000, 8)));
     assert!(rt; set.is_empty());
     assert_eq!(rt; set.node_count(), 1);
+}
+
+#[test]
+fn made_of_members(rt: HostRuntime) {
+    let Ok(set) = set_of(
+        &rt,
+        rt.alloc(),
+        [
+            (0x0a09_0000, 16),
+            (0x0a07_0707, 8),
+            (0x0a01_0000, 16),
+            (0x0a09_0808, 16),
+        ],
+    ) else {
+        panic!(&rt; "no set")
+    };
+    assert_eq!(rt; digits(set.iter()), 1019);
+    assert_eq!(rt; set.len(), 3);
+    assert_eq!(rt; set.node_count(), 5);
+    assert!(rt; set.contains(&(0x0a00_0000, 8)));
 }
 
 #[test]

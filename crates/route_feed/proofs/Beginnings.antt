@@ -1,5 +1,5 @@
 -- A beginning of an output, followed.
-use Rattle.std.proofs.Common.{◌≡◌, ℕ, suc, ◌==◌, Bool, true, false, cond, List, [], ◌∷◌, ◌++◌, map, take, Option, Some, None, refl, sym, ap, ◌∙◌, subst, ◌⊎◌, inl, inr, ⊎_elim, append_assoc}
+use Rattle.std.proofs.Common.{◌≡◌, ℕ, suc, ◌==◌, Bool, true, false, cond, List, [], ◌∷◌, ◌++◌, map, take, length, Option, Some, None, refl, sym, ap, ◌∙◌, subst, ◌⊎◌, inl, inr, ⊎_elim, append_assoc}
 use Rattle.std.specs.List.{filter_map, cons_option}
 use Rattle.std.specs.Option.{option_to_list}
 use Rattle.std.proofs.lemmas.List.Elements.{filter_map-append, All-nil}
@@ -8,7 +8,7 @@ use Rattle.ipnet_addr.proofs.Members.{In, In-cases}
 use Rattle.ipnet_addr.proofs.Ascending.{pairs_from_Rising}
 use Rattle.ipnet_blocks.specs.Blocks.{IsBlock, IsBefore}
 use Rattle.route_lines.specs.Bytes.{lines, rest, onto_first}
-use Rattle.route_lines.specs.Lines.{lines_of}
+use Rattle.route_lines.specs.Lines.{lines_in}
 use Rattle.route_lines.specs.Spelled.{reply_of}
 use Rattle.route_lines.specs.Texts.{reply_text}
 use Rattle.route_lines.specs.declared.command.Command.{Command}
@@ -21,10 +21,16 @@ use Rattle.route_table.specs.Flats.{flat_of}
 use Rattle.route_table.proofs.Flats.{same_flat}
 use Rattle.route_table.proofs.FlatSearch.{search_is_flat}
 use Rattle.route_feed.specs.Commands.{command_in}
-use Rattle.route_feed.specs.Laws.{table_told, BeginningsAgree, FlatListsAgree}
+use Rattle.route_feed.specs.Laws.{table_told, AllAreAnswered, OutputIsFollowed, BeginningsAgree, FlatListsAgree}
 use Rattle.route_feed.specs.Output.{replies, table_after, first_or_false, refusals_after, whole_commands, at_end, output}
 use Rattle.route_feed.specs.Steps as turn
-use Rattle.route_feed.specs.Streams.{Change, change_of, closing_of, is_done, ends_well, committed, closings, painted, painted_over, replies_in}
+use Rattle.route_feed.specs.Steps.{flat_line}
+use Rattle.route_feed.specs.Replies.{printed}
+use Rattle.route_lines.specs.declared.reply.Closing.TheVariants.{Done}
+use Rattle.std.proofs.lemmas.List.{append-nil, take_all}
+use Rattle.std.proofs.Common.{arith}
+use Rattle.route_table.specs.Flats.{Piece}
+use Rattle.route_feed.specs.Streams.{Change, change_of, closes, is_done, ends_well, committed, closings, painted, painted_over, replies_in}
 use Rattle.route_feed.proofs.ReadNets.{IsInRange, line_in_range}
 use Rattle.route_feed.proofs.Reread.{AreClean, AreClean-append, AreOpen, told_is_clean, closing_is_clean, closing_read, read_again, reread, reread_open, reread_changes}
 use Rattle.route_feed.proofs.Seam.{changes_in}
@@ -52,7 +58,7 @@ record Waits (p : List Reply) : Type 0 where
   committed : committed p ≡ []
   done : ends_well p ≡ false
 
-waits_more : (l : Reply) (p : List Reply) → closing_of l ≡ None → Waits p → Waits (l ∷ p)
+waits_more : (l : Reply) (p : List Reply) → closes l ≡ None → Waits p → Waits (l ∷ p)
 waits_more l p o w = record { closings = rw o w.closings; committed = rw w.done w.committed; done = rw o w.done }
 
 -- a beginning of a reply and what follows: it waits, or has the whole reply
@@ -67,7 +73,7 @@ split_at_closing (x ∷ p) q (y ∷ body) closing tail o e =
     let first : x ≡ y = cc in
     let later : p ++ q ≡ body ++ Close closing ∷ tail = cc in
     ⊎_elim
-    (λ w. inl (waits_more x p (ap closing_of first ∙ o.0) w))
+    (λ w. inl (waits_more x p (ap closes first ∙ o.0) w))
     (λ h. inr (h.0, ap (λ z. z ∷ p) first ∙ ap (λ l. y ∷ l) h.1, h.2))
     (split_at_closing p q body closing tail o.1 later)
 
@@ -100,7 +106,7 @@ commits (l ∷ body) closing p o =
 
 -- ---- the reply lines of an output
 
-reread_turn : (t : turn.Turn) (ls : List Reply) → reread (turn.lines_of t ++ ls) ≡ reread t.body ++ Close t.closing ∷ reread ls
+reread_turn : (t : turn.Turn) (ls : List Reply) → reread (turn.turn_lines t ++ ls) ≡ reread t.body ++ Close t.closing ∷ reread ls
 reread_turn t ls =
     ap reread (append_assoc t.body (Close t.closing ∷ []) ls)
     ∙ filter_map-append (λ l. reply_of (reply_text l)) t.body (Close t.closing ∷ ls)
@@ -114,7 +120,7 @@ replies_clean M [] r m h = tt
 replies_clean M (c ∷ cs) r m h =
     let t = turn.step M c (first_or_false r) in
     let form = form_step M m c (first_or_false r) (h c (inl refl)) in
-    AreClean-append (turn.lines_of t) (replies t.next cs (refusals_after M c r))
+    AreClean-append (turn.turn_lines t) (replies t.next cs (refusals_after M c r))
     (AreClean-append t.body (Close t.closing ∷ []) (told_is_clean t.body form.body_told) (closing_is_clean t.closing, tt))
     (replies_clean t.next cs (refusals_after M c r) form.table (λ d i. h d (inr i)))
 
@@ -168,7 +174,7 @@ abbrev pub commands_of : List ℕ → List (Option Command)
 commands_of bytes = whole_commands bytes ++ at_end (rest bytes)
 
 pub all_in_range : (bytes : List ℕ) → AreInRange (commands_of bytes)
-all_in_range bytes c i = ⊎_elim (lines_in_range (lines_of bytes) c) (end_in_range (rest bytes) c) (In-cases c (whole_commands bytes) (at_end (rest bytes)) i)
+all_in_range bytes c i = ⊎_elim (lines_in_range (lines_in bytes) c) (end_in_range (rest bytes) c) (In-cases c (whole_commands bytes) (at_end (rest bytes)) i)
 
 -- the replies in a beginning are the first of those that are read of the output
 first_replies : (bytes front back : List ℕ) (refusals : List Bool) → output bytes refusals ≡ front ++ back
@@ -191,3 +197,24 @@ flat_lists_agree bytes front back refusals e =
     let h = painted (committed (replies_in front)) in
     let g = hop_at (table_told bytes refusals front) in
     (same_flat h g (flat_of h) (flat_of g) (search_is_flat h) (search_is_flat g)).1 (beginnings_agree bytes front back refusals e)
+
+answered : (M : List Route) (commands : List (Option Command)) (r : List Bool) → IsTable M → AreInRange commands → closings (reread (replies M commands r)) ≡ length commands
+answered M [] r m h = refl
+answered M (c ∷ cs) r m h =
+    let t = turn.step M c (first_or_false r) in
+    let rs = refusals_after M c r in
+    let form = form_step M m c (first_or_false r) (h c (inl refl)) in
+    ap closings (reread_turn t (replies t.next cs rs))
+    ∙ (commits (reread t.body) t.closing (reread (replies t.next cs rs)) (reread_open t.body form.body_told)).closings
+    ∙ ap suc (answered t.next cs rs form.table (λ d i. h d (inr i)))
+
+pub all_answered : AllAreAnswered
+all_answered bytes refusals =
+    ap closings (read_again (replies [] (commands_of bytes) refusals) (replies_clean [] (commands_of bytes) refusals empty_is_table (all_in_range bytes)))
+    ∙ answered [] (commands_of bytes) refusals empty_is_table (all_in_range bytes)
+
+pub output_followed : OutputIsFollowed
+output_followed bytes refusals =
+    ap (λ (ps : List Piece). printed (map flat_line ps ++ Close Done ∷ [])) (flat_lists_agree bytes (output bytes refusals) [] refusals (sym (append-nil (output bytes refusals))))
+    ∙ ap (λ (cs : List (Option Command)). printed (map flat_line (flat_of (hop_at (table_after [] cs refusals))) ++ Close Done ∷ []))
+    (ap (λ n. take n (commands_of bytes)) (all_answered bytes refusals) ∙ take_all (length (commands_of bytes)) (commands_of bytes) (omega arith))

@@ -2,14 +2,14 @@
 use Rattle.std.proofs.Common.{◌≡◌, ℕ, ◌+◌, ◌<◌, cond, List, [], ◌∷◌, ◌++◌, length, take, slice_index_or, Option, Some, None, refl, sym, ap, ◌∙◌, arith}
 use Rattle.std.proofs.lemmas.List.{take_more, map-append}
 use Rattle.ipnet.specs.IpNets.{block}
-use Rattle.route_lines.specs.Phrase.{Gives}
+use Rattle.route_lines.specs.InnerPhrase.{Gives}
 use Rattle.route_lines.specs.Spelled.{reply_of}
 use Rattle.route_lines.specs.Texts.{IsReply}
 use Rattle.route_lines.specs.declared.reply.Reply.{Reply}
 use Rattle.route_lines.proofs.Replies.{one_reply}
 use Rattle.route_lines.proofs.Spells.{reply_found}
 use Rattle.route_table.specs.Tables.{number_of}
-use Rattle.route_feed.specs.Waiting.{waiting_change, changes_of}
+use Rattle.route_feed.specs.InnerWaiting.{waiting_change, changes_of}
 use Rattle.route_feed.specs.declared.follower.Waiting.{Waiting}
 use Rattle.ipnet_addr.specs.Addresses.{Address}
 use Rattle.ipnet_blocks.specs.Blocks.{has_address}

@@ -1,21 +1,22 @@
 -- What `follow` has at the end of its input.
 use Rattle.std.proofs.Common.{◌≡◌, ℕ, ◌<◌, inl, inr, ⊎_elim, Bool, true, false, nat_lt, cond, List, [], ◌∷◌, ◌++◌, length, map, Option, Some, None, Result, Ok, Err, refl, sym, ap, ◌∙◌, subst, append-nil, arith}
 use Rattle.std.specs.List.{filter_map}
-use Rattle.std.specs.Prelude.{IsSome, OnOk, IsErrOf}
+use Rattle.std.specs.Prelude.{IfSome, IsSome, OnOk}
 use Rattle.std.specs.Io.KnownBytes.{Appends}
+use Rattle.std.proofs.KnownBytes.{Consumes-whole}
 use Rattle.std.proofs.lemmas.Bool.Decides.{nat_tests}
 use Rattle.ipnet_addr.specs.Addresses.{Address, IsAddress}
 use Rattle.ipnet_addr.proofs.Ascending.{In-from_All, All-from_In}
 use Rattle.route_lines.specs.Bytes.{lines}
-use Rattle.route_lines.specs.Lines.{line_of, lines_of, kept_of, answers}
-use Rattle.route_lines.specs.Phrase.{Gives}
+use Rattle.route_lines.specs.Lines.{line_of, lines_in}
+use Rattle.route_lines.specs.InnerPhrase.{Gives}
 use Rattle.route_lines.specs.Spelled.{reply_of}
 use Rattle.route_lines.specs.Texts.{IsReply}
 use Rattle.route_lines.specs.declared.cutter.Line.{Line}
+use Rattle.route_lines.specs.declared.cutter.Rest.{Rest}
 use Rattle.route_lines.specs.declared.reply.Closing.TheVariants.{Done}
 use Rattle.route_lines.specs.declared.reply.Reply.{Reply}
 use Rattle.route_lines.specs.declared.reply.Reply.TheVariants.{Close}
-use Rattle.route_lines.proofs.Cutting.{new_answers}
 use Rattle.route_lines.proofs.Replies.{short_reply}
 use Rattle.route_lines.proofs.Spells.{reply_found}
 use Rattle.route_table.specs.Flats.{Piece, IsFlat, flat_of}
@@ -24,14 +25,17 @@ use Rattle.route_table.proofs.FlatSearch.{search_is_flat}
 use Rattle.route_table.proofs.Flats.{same_flat}
 use Rattle.route_feed.specs.declared.counted.Counted.{Counted}
 use Rattle.route_feed.specs.declared.error.RunError.{RunError}
-use Rattle.route_feed.specs.declared.error.RunError.TheVariants.{Write}
-use Rattle.route_feed.specs.declared.reading.Reading.{Reading}
-use Rattle.route_feed.specs.Follows.{AreReplies, followed, MeetsReplies, MeetsAnother, Follows, FollowsPart}
-use Rattle.route_feed.specs.Readings.{reply_in, replies_at, hop_once, AllReplies, Steps, Went, Met}
+use Rattle.route_feed.specs.declared.error.RunError.TheVariants as Why
+use Rattle.route_feed.specs.Counted.{CanCount, inner}
+use Rattle.route_feed.specs.Following.{State}
+use Rattle.route_feed.specs.Follows.{AreReplies, followed, FollowEnds}
+use Rattle.route_feed.specs.InnerFollowing.{reply_in, hop_once, AllReplies}
+use Rattle.route_feed.specs.InnerReplies.{Writes}
+use Rattle.route_feed.specs.InnerRun.{Runs}
 use Rattle.route_feed.specs.Replies.{printed}
-use Rattle.route_feed.specs.Run.{Writes}
 use Rattle.route_feed.specs.Steps.{flat_line}
 use Rattle.route_feed.specs.Streams.{Change, ends_well, committed, painted, painted_over, replies_in}
+use Rattle.route_feed.proofs.Stepping.{Followed, Takes, followed_all, not_all, unwritten, no_read, no_write}
 
 -- ---- pieces as lines
 
@@ -70,66 +74,72 @@ no_pending : (e : Bool) → cond {A = List Change} e [] [] ≡ []
 no_pending true = refl
 no_pending false = refl
 
--- ---- a new run
+-- ---- a new follower
 
-module _ (a : Reading) (new_follower : a.follower ≡ record { table = []; pending = []; failed = false }) (new_cutter : a.cutter ≡ kept_of []) where
-  new_lines : (bs : List ℕ) → answers a.cutter bs ≡ lines_of bs
-  new_lines bs = ap (λ k. answers k bs) new_cutter ∙ new_answers bs
+abbrev pub new_state : State
+new_state = record { table = []; pending = []; failed = false }
 
-  new_replies : (bs : List ℕ) → replies_at a.cutter bs ≡ replies_in bs
-  new_replies bs = ap (filter_map reply_in) (new_lines bs) ∙ lines_replies (lines bs)
-
+module _ (bs : List ℕ) (b : State) (p : Followed new_state (lines_in bs) b) where
   -- the hops are those that the committed changes paint
-  stepped : (bs : List ℕ) (b : Reading) → Steps a bs b → (x : Address) → IsAddress x → hop_at b.follower.table x ≡ painted (committed (replies_in bs)) x
-  stepped bs b p x h =
+  hops_are : (x : Address) → IsAddress x → hop_at b.table x ≡ painted (committed (replies_in bs)) x
+  hops_are x h =
       sym (p.same [] x h)
-      ∙ ap (λ ls. hop_once a.follower ls x) (append-nil (replies_at a.cutter bs) ∙ new_replies bs)
-      ∙ ap (λ s. hop_once s (replies_in bs) x) new_follower
+      ∙ ap (λ ls. hop_once new_state ls x) (append-nil (filter_map reply_in (lines_in bs)) ∙ lines_replies (lines bs))
       ∙ ap (λ l. painted_over None (l ++ committed (replies_in bs)) x) (no_pending (ends_well (replies_in bs)))
 
-  module _ {R : Type 0} (remaining : R → Option (List ℕ)) where
-    pub replies_met : (b : Reading) (p q : Counted R) → Went remaining a b p q → MeetsReplies remaining p q
-    replies_met b p q x = record { bytes = x.given; read = x.read; replies = are_replies (lines x.given) (subst AllReplies (new_lines x.given) x.steps.replies) }
+  -- so is the flat list
+  text_is : (ps : List Piece) → IsFlat (hop_at b.table) ps → printed (map flat_line ps ++ Close Done ∷ []) ≡ followed bs
+  text_is ps flat =
+      let h = painted (committed (replies_in bs)) in
+      ap (λ qs. printed (map flat_line qs ++ Close Done ∷ [])) ((same_flat (hop_at b.table) h ps (flat_of h) flat (search_is_flat h)).1 hops_are)
 
-    pub another_met : (p q : Counted R) → Met remaining a p q → MeetsAnother remaining p q
-    another_met p q x = record { bytes = x.given; read = x.read; another = λ h. x.stops (subst AllReplies (sym (new_lines x.given)) (all_replies (lines x.given) h)) }
+module _ {R W : Type 0} (remaining : R → Option (List ℕ)) (contents : W → Option (List ℕ)) (from to : Counted R) (old : Counted W) (a b : State) (new_follower : a ≡ new_state) where
+  -- a run that did not reach the end
+  pub follow_stopped : (e : RunError) (new : Counted W) → Runs Takes remaining a from old (Err e) b to new → FollowEnds remaining contents from to old new (Err e)
+  follow_stopped Why.Memory new x = ⊎_elim (λ p. unwritten a b (lines_in x.bytes) old new (Ok tt) p.0) (λ p. unwritten a b (lines_in x.bytes) old new (Err Why.Memory) p.0) x.ends
+  follow_stopped Why.Read new x = ⊎_elim
+      (λ p. (
+        record { bytes = x.bytes; read = x.read; replies = are_replies (lines x.bytes) (followed_all a b (lines_in x.bytes) old new p.0).replies },
+        p.2,
+        unwritten a b (lines_in x.bytes) old new (Ok tt) p.0,
+      ))
+      (λ p. absurd (no_read a b (lines_in x.bytes) old new p.0)) x.ends
+  follow_stopped Why.Write new x = ⊎_elim (λ p. absurd (let e = p.1 in cc)) (λ p. absurd (no_write a b (lines_in x.bytes) old new p.0)) x.ends
+  follow_stopped Why.Line new x = ⊎_elim
+      (λ p. absurd (let e = p.1 in cc))
+      (λ p. (
+        record { bytes = x.bytes; read = x.read; another = λ h. not_all a b (lines_in x.bytes) old new p.0 (all_replies (lines x.bytes) h) },
+        p.1,
+        unwritten a b (lines_in x.bytes) old new (Err Why.Line) p.0,
+      ))
+      x.ends
 
-  -- the flat list of the follower
-  module _ (bs : List ℕ) (b : Reading) (steps : Steps a bs b) (ps : List Piece) (flat : IsFlat (hop_at b.follower.table) ps) where
-    pieces_are : ps ≡ flat_of (painted (committed (replies_in bs)))
-    pieces_are =
-        let h = painted (committed (replies_in bs)) in
-        (same_flat (hop_at b.follower.table) h ps (flat_of h) flat (search_is_flat h)).1 (λ x i. stepped bs b steps x i)
+  pub follow_counts : (left : Rest) (mid : Counted W) → Runs Takes remaining a from old (Ok left) b to mid → CanCount old → CanCount mid
+  follow_counts left mid x h = rw (unwritten a b (lines_in x.bytes) old mid (Ok tt) x.ends.0) h
 
-    pub text_is : printed (map flat_line ps ++ Close Done ∷ []) ≡ followed bs
-    text_is = ap (λ qs. printed (map flat_line qs ++ Close Done ∷ [])) pieces_are
+  -- a run to the end, and the flat list
+  pub follow_ended : (left : Rest) (mid new : Counted W) (ps : List Piece) (r : Result Unit RunError) → Runs Takes remaining a from old (Ok left) b to mid
+      → IsFlat (hop_at b.table) ps → Writes contents mid new r (printed (map flat_line ps ++ Close Done ∷ [])) → FollowEnds remaining contents from to old new r
+  follow_ended left mid new ps r x flat w =
+      go r (subst (λ u. Writes contents u new r (followed x.bytes)) (unwritten a b (lines_in x.bytes) old mid (Ok tt) x.ends.0) (subst (Writes contents mid new r) (text_is x.bytes b steps ps flat) w))
+    where
+      steps : Followed new_state (lines_in x.bytes) b
+      steps = subst (λ s. Followed s (lines_in x.bytes) b) new_follower (followed_all a b (lines_in x.bytes) old mid x.ends.0)
 
-  module _ {R W : Type 0} (remaining : R → Option (List ℕ)) (contents : W → Option (List ℕ)) (b : Reading) (p q : Counted R) (u v : Counted W) (ps : List Piece)
-      (flat : IsFlat (hop_at b.follower.table) ps) (x : Went remaining a b p q) where
-    pub followed_ok : {T : Type 0} (r : Result T RunError) → Writes contents u v r (printed (map flat_line ps ++ Close Done ∷ [])) → OnOk r (Follows remaining contents p q u v)
-    unfolding replies_met
-    followed_ok (Ok y) w =
-        let met = replies_met remaining b p q x in
-        record {
-          bytes = x.given;
-          read = x.read;
-          replies = met.replies;
-          written = subst (Appends (contents u.device) (contents v.device)) (text_is x.given b x.steps ps flat) w.appended;
-        }
-    followed_ok (Err e) w = tt
+      go : (k : Result Unit RunError) → Writes contents old new k (followed x.bytes) → FollowEnds remaining contents from to old new k
+      go (Ok done) q = (
+        record { bytes = x.bytes; read = x.read; replies = are_replies (lines x.bytes) steps.replies; written = q.appended },
+        x.ends.2,
+        x.ends.3,
+        q.faults,
+      )
+      go (Err e) q =
+          let torn = q.1 in
+          subst (λ k. FollowEnds remaining contents from to old new (Err k)) (sym q.0)
+          (record { bytes = x.bytes; front = torn.front; back = torn.back; read = x.read; replies = are_replies (lines x.bytes) steps.replies; is_front = torn.is_front; written = torn.appended }, x.ends.2, x.ends.3, torn.failed)
 
-    pub followed_err : {T : Type 0} (r : Result T RunError) → IsErrOf r Write → Writes contents u v r (printed (map flat_line ps ++ Close Done ∷ [])) → FollowsPart remaining contents p q u v
-    unfolding replies_met
-    followed_err (Ok y) is w = cc
-    followed_err (Err e) is w =
-        let met = replies_met remaining b p q x in
-        let torn = w.1 in
-        record {
-          bytes = x.given;
-          front = torn.front;
-          back = torn.back;
-          read = x.read;
-          replies = met.replies;
-          is_front = sym (text_is x.given b x.steps ps flat) ∙ torn.whole;
-          written = torn.appended;
-        }
+-- where the reader tells its bytes
+pub follow_known : {R W : Type 0} (remaining : R → Option (List ℕ)) (contents : W → Option (List ℕ)) (from to : Counted R) (old new : Counted W) (r : Result Unit RunError) → FollowEnds remaining contents from to old new r
+    → OnOk r (IfSome (remaining (inner from)) (λ bytes. AreReplies (lines bytes) × Appends (contents (inner old)) (contents (inner new)) (followed bytes)))
+follow_known remaining contents from to old new (Ok done) x = Consumes-whole (remaining (inner from)) (remaining (inner to)) x.0.bytes _ x.0.read x.1 (x.0.replies, x.0.written)
+follow_known remaining contents from to old new (Err e) x = tt

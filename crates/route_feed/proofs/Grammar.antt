@@ -9,15 +9,14 @@ use Rattle.ipnet_blocks.proofs.BlockLaws.{strict}
 use Rattle.ipnet_blocks.proofs.BlockTests.{before_from_test}
 use Rattle.ipnet.specs.IpNets.{block}
 use Rattle.route_lines.specs.Bytes.{lines, rest}
-use Rattle.route_lines.specs.Lines.{line_of, lines_of}
+use Rattle.route_lines.specs.Lines.{line_of, lines_in}
 use Rattle.route_lines.specs.Spelled.{reply_of}
 use Rattle.route_lines.specs.Texts.{IsReply, reply_text}
 use Rattle.route_lines.specs.declared.command.Command.{Command}
 use Rattle.route_lines.specs.declared.command.Command.TheVariants as C
 use Rattle.route_lines.specs.declared.reply.Reply.{Reply}
 use Rattle.route_lines.specs.declared.reply.Reply.TheVariants.{Close}
-use Rattle.route_table.specs.Stored.{route_of}
-use Rattle.route_table.specs.Tables.{Route, IsTable, hop_at, is_stored, match_of, with_route}
+use Rattle.route_table.specs.Tables.{Route, IsTable, hop_at, is_stored, match_of, with_route, route_of}
 use Rattle.route_feed.specs.Commands.{command_in}
 use Rattle.route_feed.specs.Follows.{AreReplies}
 use Rattle.route_feed.specs.Laws.{BeginningsAreReplies}
@@ -25,7 +24,8 @@ use Rattle.route_feed.specs.Output.{replies, first_or_false, refusals_after, who
 use Rattle.route_feed.specs.Replies.{printed}
 use Rattle.route_feed.specs.Steps as turn
 use Rattle.route_feed.proofs.Beginnings.{AreInRange, all_in_range, commands_of, empty_is_table, first_lines, replies_clean}
-use Rattle.route_feed.proofs.Reread.{AreClean, AreTold, IsSmall, first_line, reply_is}
+use Rattle.route_feed.proofs.Reread.{AreClean, AreTold, IsSmall, first_line}
+use Rattle.route_feed.proofs.Carried.{reply_is}
 use Rattle.route_feed.proofs.Turns.{form_step}
 
 -- ---- lines that spell what they print
@@ -94,7 +94,7 @@ module _ (M : List Route) where
   found_length None = same_length
   found_length (Some r) = same_length
 
-  answer_length : (command : Option Command) → length (turn.answer M command).next ≤ length M + 1
+  answer_length : (command : Option Command) → length (turn.accepted M command).next ≤ length M + 1
   answer_length (Some (C.Add net hop)) = added_length M (route_of net hop)
   answer_length (Some (C.Del net)) =
       closed_or (is_stored M (block net)) M _ _ (let h = filtered_length (λ s. not (same_block s.block (block net))) M in omega (arith, h)) same_length
@@ -139,7 +139,7 @@ module _ (M : List Route) (few : length M < 2 ^ 64) where
   unfolding turn.change_lines
   changes_small N = AreSmall-map _ (λ b. change_small (hop_at N (first_of b)) b) _
 
-  answer_small : (command : Option Command) → AreSmall (turn.answer M command).body
+  answer_small : (command : Option Command) → AreSmall (turn.accepted M command).body
   answer_small (Some (C.Add net hop)) = changes_small _
   answer_small (Some (C.Del net)) = small_or (is_stored M (block net)) _ _ (changes_small _) tt
   answer_small (Some (C.Get net)) = found_small (match_of M (block net))
@@ -170,7 +170,7 @@ replies_spelled M (c ∷ cs) r m h few =
     let t = turn.step M c (first_or_false r) in
     let form = form_step M m c (first_or_false r) (h c (inl refl)) in
     let grown = step_length M c (first_or_false r) in
-    AreSpelled-append (turn.lines_of t) (replies t.next cs (refusals_after M c r))
+    AreSpelled-append (turn.turn_lines t) (replies t.next cs (refusals_after M c r))
     (AreSpelled-append t.body (Close t.closing ∷ []) (told_spelled t.body form.body_told (step_small M (omega (arith, few)) c (first_or_false r))) (refl, tt))
     (replies_spelled t.next cs (refusals_after M c r) form.table (λ d i. h d (inr i)) (omega (arith, few, grown)))
 
@@ -188,7 +188,7 @@ commands_length (b ∷ bs) = go (b == 10) (lines bs) refl refl (commands_length 
 few_commands : (bytes : List ℕ) → length (commands_of bytes) ≤ length bytes
 few_commands bytes =
     let n = commands_length bytes in
-    let whole = length-map (lines_of bytes) command_in in
+    let whole = length-map (lines_in bytes) command_in in
     let cut = length-map (lines bytes) line_of in
     omega (arith, n, whole, cut, length-append (whole_commands bytes) (at_end (rest bytes)))
 

@@ -3,8 +3,8 @@ pub mod Telling
 pub mod Told
 pub mod Carried
 pub mod Owned
-pub mod Moving
-pub mod Running
+pub mod Taking
+pub mod Leading
 pub mod Stepping
 pub mod Ending
 pub mod Seam

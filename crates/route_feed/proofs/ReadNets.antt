@@ -13,7 +13,7 @@ use Rattle.ipnet.specs.IpNets.{block, family, parts}
 use Rattle.ipnet.specs.IpNetText.{Reads}
 use Rattle.ipnet.specs.declared.ip_net.IpNet.{IpNet}
 use Rattle.ipnet.specs.declared.ip_net.IpNet.TheVariants.{V4, V6}
-use Rattle.route_lines.specs.Phrase.{Gives}
+use Rattle.route_lines.specs.InnerPhrase.{Gives}
 use Rattle.route_lines.specs.Spelled.{command_of}
 use Rattle.route_lines.specs.Texts.{IsCommand}
 use Rattle.route_lines.specs.Words as word

@@ -11,12 +11,12 @@ use Rattle.ipnet_blocks.specs.Blocks.{Block, IsBlock, first_of, host}
 use Rattle.ipnet_blocks.specs.Networks.{Network, IsNetwork, net_of}
 use Rattle.ipnet_blocks.proofs.BlockLaws.{has_first}
 use Rattle.ipnet_blocks.proofs.Maximals.{host_is_block, member_is_address}
-use Rattle.ipnet.specs.IpNets.{block, net_in}
+use Rattle.ipnet.specs.IpNets.{block, net_in, network_at}
 use Rattle.ipnet.specs.IpNetText.{net_text, Reads}
 use Rattle.ipnet.proofs.Ipv4Networks.{v4_reads_text}
 use Rattle.ipnet.proofs.Ipv6Networks.{v6_reads_text}
 use Rattle.route_lines.specs.Bytes.{lines}
-use Rattle.route_lines.specs.Phrase.{Gives}
+use Rattle.route_lines.specs.InnerPhrase.{Gives}
 use Rattle.route_lines.specs.Spelled.{reply_of}
 use Rattle.route_lines.specs.Texts.{IsReply, reply_text, closing_text, hop_text}
 use Rattle.route_lines.specs.Words as word
@@ -26,9 +26,9 @@ use Rattle.route_lines.specs.declared.reply.Reply.{Reply}
 use Rattle.route_lines.specs.declared.reply.Reply.TheVariants as R
 use Rattle.route_lines.proofs.Good.{written}
 use Rattle.route_lines.proofs.Printed.{prints}
-use Rattle.route_lines.proofs.Replies.{one_reply, clean_reply}
+use Rattle.route_lines.proofs.Replies.{clean_reply}
 use Rattle.route_lines.proofs.Spells.{reply_found}
-use Rattle.route_table.specs.Stored.{network_at}
+use Rattle.route_feed.proofs.Carried.{reply_is}
 use Rattle.route_table.specs.Tables.{Route, IsTable, IsHop, hop_at, match_of, match_number, number_of}
 use Rattle.route_table.specs.declared.hop.Hop.{Hop}
 use Rattle.route_table.specs.declared.hop.Hop.TheVariants.{Number, Drop}
@@ -36,7 +36,7 @@ use Rattle.route_table.proofs.Gaps.{of_network_at}
 use Rattle.route_table.proofs.Matches.{match_meets}
 use Rattle.route_feed.specs.Replies.{printed}
 use Rattle.route_feed.specs.Steps.{change_line, route_line}
-use Rattle.route_feed.specs.Streams.{change_of, closing_of, replies_in}
+use Rattle.route_feed.specs.Streams.{change_of, closes, replies_in}
 use Rattle.route_feed.proofs.Seam.{changes_in}
 
 -- ---- what is read of printed lines
@@ -70,20 +70,12 @@ read_again (l ∷ ls) h =
     ∙ ap (λ rs. filter_map reply_of (reply_text l ∷ []) ++ rs) (read_again ls h.1)
     ∙ sym (filter_map-append (λ m. reply_of (reply_text m)) (l ∷ []) ls)
 
--- the reply line that is read
-pub reply_is : (text : List ℕ) (r : Reply) → IsReply text r → reply_of text ≡ Some r
-reply_is text r h = go (reply_of text) (reply_found text)
-  where
-    go : (o : Option Reply) → Gives IsReply text o → o ≡ Some r
-    go None none = absurd (none r h)
-    go (Some other) found = ap Some (one_reply text other r found h)
-
 -- ---- lines of a reply
 
 -- what is read of a line closes no reply, and tells the same change
 abbrev pub Keeps : Reply → Option Reply → Type 0
 Keeps l None = change_of l ≡ None
-Keeps l (Some m) = (closing_of m ≡ None) × (change_of m ≡ change_of l)
+Keeps l (Some m) = (closes m ≡ None) × (change_of m ≡ change_of l)
 
 -- numbers of routes that a line can spell
 abbrev pub IsSmall : Reply → Type 0
@@ -115,7 +107,7 @@ told_is_clean (l ∷ ls) h = (h.0.clean, told_is_clean ls h.1)
 -- none of the lines closes a reply
 abbrev pub AreOpen : List Reply → Type 0
 AreOpen [] = Unit {0}
-AreOpen (l ∷ ls) = (closing_of l ≡ None) × AreOpen ls
+AreOpen (l ∷ ls) = (closes l ≡ None) × AreOpen ls
 
 pub reread_open : (ls : List Reply) → AreTold ls → AreOpen (reread ls)
 reread_open [] h = tt
@@ -139,7 +131,7 @@ closing_read closing = reply_is (closing_text closing) (R.Close closing) refl
 pub closing_is_clean : (closing : Closing) → IsClean (R.Close closing)
 closing_is_clean closing = clean_reply (closing_text closing) (R.Close closing) refl
 
-told_if_read : (l : Reply) → closing_of l ≡ None → IsReply (reply_text l) l → IsTold l
+told_if_read : (l : Reply) → closes l ≡ None → IsReply (reply_text l) l → IsTold l
 told_if_read l none h = record {
   clean = clean_reply (reply_text l) l h;
   spelled = λ _. h;
@@ -233,7 +225,7 @@ module _ (v4 v6 : ℕ) where
   abbrev count : Reply
   count = R.Count v4 v6
 
-  first_is : (r : Reply) → IsReply (reply_text count) r → closing_of r ≡ None
+  first_is : (r : Reply) → IsReply (reply_text count) r → closes r ≡ None
   first_is (R.Set net n) h = refl
   first_is (R.Unset net) h = refl
   first_is (R.Route net hop) h = refl

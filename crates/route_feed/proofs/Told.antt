@@ -12,25 +12,24 @@ use Rattle.ipnet_blocks.proofs.BlockLaws.{has_first}
 use Rattle.ipnet_blocks.proofs.BlockTests as test
 use Rattle.ipnet_blocks.proofs.Maximals.{maximal_is_unique}
 use Rattle.ipnet_blocks.proofs.Unions.{maximal_same}
-use Rattle.ipnet.specs.IpNets.{block}
+use Rattle.ipnet.specs.IpNets.{block, network_at}
 use Rattle.ipnet.specs.declared.ip_net.IpNet.{IpNet}
 use Rattle.route_lines.specs.declared.command.Command.{Command}
 use Rattle.route_lines.specs.declared.reply.Closing.TheVariants.{Done, Refused}
 use Rattle.route_lines.specs.declared.reply.Reply.{Reply}
 use Rattle.route_lines.specs.declared.reply.Reply.TheVariants.{Close}
-use Rattle.route_lines.specs.Phrase.{Gives}
+use Rattle.route_lines.specs.InnerPhrase.{Gives}
 use Rattle.route_lines.specs.Spelled.{command_of}
 use Rattle.route_lines.specs.Texts.{IsCommand}
 use Rattle.route_lines.proofs.Commands.{one_command}
 use Rattle.route_lines.proofs.Spells.{command_found}
 use Rattle.route_table.specs.Changes.{changed, same_number}
 use Rattle.route_table.specs.Flats.{Piece, IsFlat, flat_of}
-use Rattle.route_table.specs.Stored.{item_of, network_at}
 use Rattle.route_table.specs.declared.hop.Hop.{Hop}
 use Rattle.route_table.proofs.FlatSearch.{search_is_flat}
 use Rattle.route_table.proofs.Flats.{same_flat}
 use Rattle.route_table.proofs.Gaps.{of_network_at}
-use Rattle.route_table.specs.Tables.{Route, IsTable, IsHop, Changed, Governed, is_stored, match_of, match_number, number_of, hop_at, with_route, without_block}
+use Rattle.route_table.specs.Tables.{Route, IsTable, IsHop, Changed, Governed, is_stored, match_of, match_number, number_of, hop_at, with_route, without_block, item_of}
 use Rattle.route_table.proofs.Alterations.{changed_by_add, changed_by_del, blocks_of_add, blocks_of_del, governed_after, no_blocks}
 use Rattle.route_table.proofs.Changes.{changed_is_maximal, same_from_test, same_itself}
 use Rattle.route_table.proofs.OneHop.{added_lines, left_lines}
@@ -38,8 +37,8 @@ use Rattle.route_table.proofs.Updates.{left_back, left_other}
 use Rattle.route_feed.specs.declared.counted.Counted.{Counted}
 use Rattle.route_feed.specs.declared.error.RunError.{RunError}
 use Rattle.route_feed.specs.Replies.{printed}
-use Rattle.route_feed.specs.Run.{Writes}
-use Rattle.route_feed.specs.Steps.{change_line, change_lines, closed, may_refuse, answer, step}
+use Rattle.route_feed.specs.InnerReplies.{Writes}
+use Rattle.route_feed.specs.Steps.{change_line, change_lines, closed, may_refuse, accepted, step}
 
 map_same : {A B : Type 0} (f g : A → B) (xs : List A) → ((x : A) → In x xs → f x ≡ g x) → map f xs ≡ map g xs
 map_same f g [] h = refl
@@ -154,8 +153,8 @@ plain_if true x y = refl
 plain_if false x y = refl
 
 -- a command that is not refused
-pub plain_step : (M : List Route) (command : Option Command) → step M command false ≡ answer M command
-plain_step M command = plain_if (may_refuse M command) (closed M Refused) (answer M command)
+pub plain_step : (M : List Route) (command : Option Command) → step M command false ≡ accepted M command
+plain_step M command = plain_if (may_refuse M command) (closed M Refused) (accepted M command)
 
 -- the command that was read
 pub read_is : (text : List ℕ) (command : Command) → IsCommand text command → command_of text ≡ Some command

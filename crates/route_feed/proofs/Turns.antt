@@ -15,15 +15,14 @@ use Rattle.route_lines.specs.declared.reply.Reply.{Reply}
 use Rattle.route_table.specs.Changes.{changed}
 use Rattle.route_table.specs.Flats.{Piece, blocks_of, flat_of}
 use Rattle.route_table.specs.Onwards.{count_of}
-use Rattle.route_table.specs.Stored.{route_of}
-use Rattle.route_table.specs.Tables.{Route, IsTable, IsHop, hop_at, is_stored, match_of, covering, with_route, without_block, number_of, match_number}
+use Rattle.route_table.specs.Tables.{Route, IsTable, IsHop, hop_at, is_stored, match_of, covering, with_route, without_block, number_of, match_number, route_of}
 use Rattle.route_table.proofs.Changes.{changed_is_maximal}
 use Rattle.route_table.proofs.FlatSearch.{search_is_flat}
 use Rattle.route_table.proofs.Matches.{In-from_filter, AtLeast, best_of}
 use Rattle.route_table.proofs.OneHop.{added_lines, left_lines}
 use Rattle.route_table.proofs.Updates.{added_is_table, left_is_table}
 use Rattle.route_feed.proofs.Owned.{map_twice}
-use Rattle.route_feed.specs.Steps.{Turn, closed, told, change_line, change_lines, changed_to, route_line, flat_line, one_or_missing, may_refuse, answer, step, own_line}
+use Rattle.route_feed.specs.Steps.{Turn, closed, told, change_line, change_lines, changed_to, route_line, flat_line, one_or_missing, may_refuse, accepted, step, own_line}
 use Rattle.route_feed.specs.Streams.{Change, change_of, is_done, painted_over}
 use Rattle.route_feed.proofs.ReadNets.{IsInRange}
 use Rattle.route_feed.proofs.Reread.{IsTold, AreTold, AreTold-map, route_told, piece_told, change_told, count_told, own_told}
@@ -117,7 +116,7 @@ module _ (M : List Route) (m : IsTable M) where
       subst (λ ls. Form M (told M ls)) (map_twice own_line (λ (p : Piece). p.block) ps)
       (form_pieces (λ p. own_line p.block) (λ p. refl) (λ p w. own_told p.block w.block) ps (λ p i. (In-from_filter _ (flat_of (hop_at M)) p i).0))
 
-  form_answer : (command : Option Command) → IsInRange command → Form M (answer M command)
+  form_answer : (command : Option Command) → IsInRange command → Form M (accepted M command)
   form_answer (Some (C.Add net hop)) h = form_added (route_of net hop) h.0 h.1
   form_answer (Some (C.Del net)) h = go (is_stored M (block net))
     where
@@ -137,6 +136,6 @@ module _ (M : List Route) (m : IsTable M) where
   pub form_step : (command : Option Command) (refused : Bool) → IsInRange command → Form M (step M command refused)
   form_step command refused h = go (may_refuse M command && refused)
     where
-      go : (b : Bool) → Form M (cond b (closed M Refused) (answer M command))
+      go : (b : Bool) → Form M (cond b (closed M Refused) (accepted M command))
       go true = form_closed Refused
       go false = form_answer command h

@@ -1,9 +1,10 @@
 -- Writes one after another.
 use Rattle.std.proofs.Common.{ℕ, List, [], ◌++◌, Option, Result, Ok, Err, refl, sym, ap, ◌∙◌, subst, append_assoc, append-nil}
+use Rattle.std.specs.Result.{IsErr}
 use Rattle.std.proofs.KnownBytes.{Appends-nil, Appends-trans}
 use Rattle.route_feed.specs.declared.error.RunError.{RunError}
 use Rattle.route_feed.specs.declared.counted.Counted.{Counted}
-use Rattle.route_feed.specs.Run.{Written, Torn, Writes}
+use Rattle.route_feed.specs.InnerReplies.{Written, Torn, Writes}
 
 module _ {W : Type 0} (contents : W → Option (List ℕ)) where
   pub Written-nil : (w : Counted W) → Written contents w w []
@@ -16,7 +17,7 @@ module _ {W : Type 0} (contents : W → Option (List ℕ)) where
   Torn-after a b c s t p q = record {
     front = s ++ q.front;
     back = q.back;
-    whole = ap (λ l. s ++ l) q.whole ∙ sym (append_assoc s q.front q.back);
+    is_front = ap (λ l. s ++ l) q.is_front ∙ sym (append_assoc s q.front q.back);
     appended = Appends-trans _ _ _ s q.front p.appended q.appended;
     failed = rw p.faults at q.failed;
   }
@@ -26,7 +27,7 @@ module _ {W : Type 0} (contents : W → Option (List ℕ)) where
   Torn-longer a b s t p = record {
     front = p.front;
     back = p.back ++ t;
-    whole = ap (λ l. l ++ t) p.whole ∙ append_assoc p.front p.back t;
+    is_front = ap (λ l. l ++ t) p.is_front ∙ append_assoc p.front p.back t;
     appended = p.appended;
     failed = p.failed;
   }
@@ -39,3 +40,8 @@ module _ {W : Type 0} (contents : W → Option (List ℕ)) where
   pub Writes-end : {T : Type 0} (a b c : Counted W) (r : Result T RunError) (s : List ℕ) → Written contents a b s → Writes contents b c r [] → Writes contents a c r s
   Writes-end a b c (Ok x) s p q = subst (Written contents a c) (append-nil s) (Written-trans a b c s [] p q)
   Writes-end a b c (Err e) s p q = (q.0, subst (Torn contents a c) (append-nil s) (Torn-after a b c s [] p q.1))
+
+  -- the writer failed in a text, so in a longer one
+  pub Writes-longer : {T : Type 0} (a b : Counted W) (r : Result T RunError) (s t : List ℕ) → IsErr r → Writes contents a b r s → Writes contents a b r (s ++ t)
+  Writes-longer a b (Ok x) s t e q = absurd (cc)
+  Writes-longer a b (Err x) s t e q = (q.0, Torn-longer a b s t q.1)

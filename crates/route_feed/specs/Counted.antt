@@ -1,5 +1,5 @@
 -- What a counted device counts.
-use Rattle.std.specs.Prelude.{ℕ, ◌+◌, ◌-◌, ◌^◌, ◌==◌, min, nat_lt, Bool, true, ◌&&◌, if◌then◌else◌, Result, Ok, Err}
+use Rattle.std.specs.Prelude.{ℕ, ◌⊎◌, ◌≤◌, ◌+◌, ◌-◌, ◌^◌, ◌<◌, ◌==◌, min, nat_lt, Bool, true, ◌&&◌, if◌then◌else◌, Result, Ok, Err}
 use Rattle.route_feed.specs.declared.counted.Counted.{Counted}
 
 -- one more, up to the greatest u64
@@ -24,3 +24,11 @@ reads_of c = c.reads
 
 abbrev pub faults_of : {D : Type 0} → Counted D → ℕ
 faults_of c = c.faults
+
+-- one more fault of it can be counted
+abbrev pub CanCount : {D : Type 0} → Counted D → Type 0
+CanCount c = faults_of c < 2 ^ 64 - 1
+
+-- the reader failed, or was called 2^62 times
+abbrev pub ReadFault : {R : Type 0} → Counted R → Counted R → Type 0
+ReadFault from to = (faults_of from < faults_of to) ⊎ (reads_of from + 2 ^ 62 ≤ reads_of to)

@@ -6,7 +6,7 @@ use Rattle.route_lines.specs.declared.reply.Closing.{Closing}
 use Rattle.route_lines.specs.declared.reply.Closing.TheVariants.{Done}
 use Rattle.route_lines.specs.declared.reply.Reply.{Reply}
 use Rattle.route_table.specs.Tables.{Route, hop_at}
-use Rattle.route_feed.specs.Streams.{Change, is_done, change_of, closing_of, painted_over}
+use Rattle.route_feed.specs.Streams.{Change, is_done, change_of, closes, painted_over}
 
 -- a table for the hops, the changes that wait for a closing line, and whether there was a fault
 pub record State : Type 0 where
@@ -26,9 +26,9 @@ pending_after changes None change = changes ++ option_to_list change
 
 -- the line was taken
 pub record TakesLine (old new : State) (line : Reply) : Type 0 where
-  pub hops : (x : Address) → IsAddress x → hop_at new.table x ≡ hop_after old (closing_of line) x
-  pub pending : new.pending ≡ pending_after old.pending (closing_of line) (change_of line)
+  pub hops : (x : Address) → IsAddress x → hop_at new.table x ≡ hop_after old (closes line) x
+  pub pending : new.pending ≡ pending_after old.pending (closes line) (change_of line)
 
 -- the line may want memory: it tells a change, which is kept, or it is `ok` and some changes wait
 abbrev pub WantsMemory : State → Reply → Type 0
-WantsMemory s line = IsSome (change_of line) ⊎ ((closing_of line ≡ Some Done) × (0 < length s.pending))
+WantsMemory s line = IsSome (change_of line) ⊎ ((closes line ≡ Some Done) × (0 < length s.pending))

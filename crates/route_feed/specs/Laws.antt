@@ -1,10 +1,14 @@
 -- What a follower knows that has read any beginning of what a leader wrote.
-use Rattle.std.specs.Prelude.{◌≡◌, ◌<◌, ◌^◌, ℕ, Bool, List, [], ◌++◌, take, length}
+use Rattle.std.specs.Prelude.{◌≡◌, ◌<◌, ◌^◌, ℕ, Bool, List, [], ◌∷◌, ◌++◌, map, take, length}
 use Rattle.ipnet_addr.specs.Addresses.{Address, IsAddress}
 use Rattle.route_lines.specs.Bytes.{lines, rest}
+use Rattle.route_lines.specs.declared.reply.Closing.TheVariants.{Done}
+use Rattle.route_lines.specs.declared.reply.Reply.TheVariants.{Close}
 use Rattle.route_table.specs.Flats.{flat_of}
 use Rattle.route_table.specs.Tables.{Route, hop_at}
-use Rattle.route_feed.specs.Follows.{AreReplies}
+use Rattle.route_feed.specs.Follows.{AreReplies, followed}
+use Rattle.route_feed.specs.Replies.{printed}
+use Rattle.route_feed.specs.Steps.{flat_line}
 use Rattle.route_feed.specs.Output.{table_after, whole_commands, at_end, output}
 use Rattle.route_feed.specs.Streams.{closings, committed, painted, replies_in}
 
@@ -21,6 +25,15 @@ BeginningsAgree = (bytes front back : List ℕ) (refusals : List Bool) → outpu
 abbrev pub FlatListsAgree : Type 0
 FlatListsAgree = (bytes front back : List ℕ) (refusals : List Bool) → output bytes refusals ≡ front ++ back
     → flat_of (painted (committed (replies_in front))) ≡ flat_of (hop_at (table_told bytes refusals front))
+
+-- each line of the input is answered by a reply that ends in one closing line, and so is its rest
+abbrev pub AllAreAnswered : Type 0
+AllAreAnswered = (bytes : List ℕ) (refusals : List Bool) → closings (replies_in (output bytes refusals)) ≡ length (whole_commands bytes ++ at_end (rest bytes))
+
+-- what a follower of the whole output prints is the flat list of the leader's last table
+abbrev pub OutputIsFollowed : Type 0
+OutputIsFollowed = (bytes : List ℕ) (refusals : List Bool)
+    → followed (output bytes refusals) ≡ printed (map flat_line (flat_of (hop_at (table_after [] (whole_commands bytes ++ at_end (rest bytes)) refusals))) ++ Close Done ∷ [])
 
 -- each line of a beginning of the output is a reply line, where the input has fewer than 2^64 bytes, as every input has
 abbrev pub BeginningsAreReplies : Type 0

@@ -4,10 +4,11 @@ pub mod Replies
 pub mod Streams
 pub mod Steps
 pub mod Output
-pub mod Run
-pub mod Devices
+pub mod Leads
 pub mod Following
-pub mod Waiting
 pub mod Follows
-pub mod Readings
 pub mod Laws
+pub mod InnerReplies
+pub mod InnerRun
+pub mod InnerWaiting
+pub mod InnerFollowing

@@ -1,7 +1,7 @@
 -- The whole output, as a function of the bytes and of the refusals.
 use Rattle.std.specs.Prelude.{ℕ, drop, Bool, false, List, [], ◌∷◌, ◌++◌, if◌then◌else◌, Option, None, map}
 use Rattle.route_lines.specs.Bytes.{rest}
-use Rattle.route_lines.specs.Lines.{lines_of}
+use Rattle.route_lines.specs.Lines.{lines_in}
 use Rattle.route_lines.specs.declared.command.Command.{Command}
 use Rattle.route_lines.specs.declared.reply.Reply.{Reply}
 use Rattle.route_table.specs.Tables.{Route}
@@ -22,7 +22,7 @@ refusals_after M command refusals = if turn.may_refuse M command then drop 1 ref
 abbrev pub replies : List Route → List (Option Command) → List Bool → List Reply
 replies M [] refusals = []
 replies M (command ∷ commands) refusals =
-    turn.lines_of (turn.step M command (first_or_false refusals))
+    turn.turn_lines (turn.step M command (first_or_false refusals))
     ++ replies (turn.step M command (first_or_false refusals)).next commands (refusals_after M command refusals)
 
 -- the table after the commands
@@ -33,7 +33,7 @@ table_after M (command ∷ commands) refusals =
 
 -- the commands of the whole lines
 abbrev pub whole_commands : List ℕ → List (Option Command)
-whole_commands bytes = map command_in (lines_of bytes)
+whole_commands bytes = map command_in (lines_in bytes)
 
 -- a rest that is not empty is one more line, outside the grammar
 abbrev pub at_end : List ℕ → List (Option Command)
@@ -41,8 +41,8 @@ at_end [] = []
 at_end (b ∷ bs) = None ∷ []
 
 -- the printed replies to the whole lines, from the empty table
-abbrev pub whole : List ℕ → List Bool → List ℕ
-whole bytes refusals = printed (replies [] (whole_commands bytes) refusals)
+abbrev pub lines_output : List ℕ → List Bool → List ℕ
+lines_output bytes refusals = printed (replies [] (whole_commands bytes) refusals)
 
 -- and to the rest
 abbrev pub output : List ℕ → List Bool → List ℕ

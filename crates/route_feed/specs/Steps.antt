@@ -3,7 +3,7 @@ use Rattle.std.specs.Prelude.{not, ◌&&◌, ◌==◌, ℕ, Bool, true, false, L
 use Rattle.ipnet_addr.specs.Addresses.{Ipv4, Ipv6}
 use Rattle.ipnet_blocks.specs.Blocks.{Block, first_of}
 use Rattle.ipnet_blocks.specs.Maximal.{maximal_of}
-use Rattle.ipnet.specs.IpNets.{block}
+use Rattle.ipnet.specs.IpNets.{block, network_at}
 use Rattle.route_lines.specs.declared.command.Command.{Command}
 use Rattle.route_lines.specs.declared.command.Command.TheVariants as C
 use Rattle.route_lines.specs.declared.reply.Closing.{Closing}
@@ -12,11 +12,9 @@ use Rattle.route_lines.specs.declared.reply.Reply.{Reply}
 use Rattle.route_lines.specs.declared.reply.Reply.TheVariants.{Set, Unset, Route, Flat, Own, Count, Close}
 use Rattle.route_table.specs.Changes.{changed}
 use Rattle.route_table.specs.Flats.{Piece, blocks_of, flat_of}
-use Rattle.route_table.specs.Governing.{routes_inside}
 use Rattle.route_table.specs.Onwards.{count_of, routes_from, routes_after}
-use Rattle.route_table.specs.Stored.{network_at, route_of}
 use Rattle.route_table.specs.Tables as table
-use Rattle.route_table.specs.Tables.{hop_at, is_stored, match_of, covering, with_route, without_block}
+use Rattle.route_table.specs.Tables.{hop_at, is_stored, match_of, covering, with_route, without_block, routes_inside, route_of}
 
 -- a reply: its lines, the one that closes it, and the table after it
 pub record Turn : Type 0 where
@@ -25,8 +23,8 @@ pub record Turn : Type 0 where
   pub next : List table.Route
 
 -- the lines of a reply
-abbrev pub lines_of : Turn → List Reply
-lines_of t = t.body ++ Close t.closing ∷ []
+abbrev pub turn_lines : Turn → List Reply
+turn_lines t = t.body ++ Close t.closing ∷ []
 
 -- a reply of the closing line alone, which leaves this table
 abbrev pub closed : List table.Route → Closing → Turn
@@ -81,19 +79,19 @@ may_refuse M (Some C.Flat) = false
 may_refuse M None = false
 
 -- the answer where nothing is refused
-abbrev pub answer : List table.Route → Option Command → Turn
-answer M (Some (C.Add net hop)) = changed_to M (with_route M (route_of net hop))
-answer M (Some (C.Del net)) = if is_stored M (block net) then changed_to M (without_block M (block net)) else closed M Missing
-answer M (Some (C.Get net)) = one_or_missing M (match_of M (block net))
-answer M (Some (C.Cover net)) = told M (map route_line (covering M (block net)))
-answer M (Some (C.List net)) = told M (map route_line (routes_inside M (block net)))
-answer M (Some (C.PageFrom net limit)) = told M (map route_line (take limit (routes_from M (block net))))
-answer M (Some (C.PageAfter net limit)) = told M (map route_line (take limit (routes_after M (block net))))
-answer M (Some (C.Own number)) = told M (map own_line (blocks_of (filter (λ p. p.number == number) (flat_of (hop_at M)))))
-answer M (Some C.Count) = told M (Count (count_of Ipv4 M) (count_of Ipv6 M) ∷ [])
-answer M (Some C.Flat) = told M (map flat_line (flat_of (hop_at M)))
-answer M None = closed M Bad
+abbrev pub accepted : List table.Route → Option Command → Turn
+accepted M (Some (C.Add net hop)) = changed_to M (with_route M (route_of net hop))
+accepted M (Some (C.Del net)) = if is_stored M (block net) then changed_to M (without_block M (block net)) else closed M Missing
+accepted M (Some (C.Get net)) = one_or_missing M (match_of M (block net))
+accepted M (Some (C.Cover net)) = told M (map route_line (covering M (block net)))
+accepted M (Some (C.List net)) = told M (map route_line (routes_inside M (block net)))
+accepted M (Some (C.PageFrom net limit)) = told M (map route_line (take limit (routes_from M (block net))))
+accepted M (Some (C.PageAfter net limit)) = told M (map route_line (take limit (routes_after M (block net))))
+accepted M (Some (C.Own number)) = told M (map own_line (blocks_of (filter (λ p. p.number == number) (flat_of (hop_at M)))))
+accepted M (Some C.Count) = told M (Count (count_of Ipv4 M) (count_of Ipv6 M) ∷ [])
+accepted M (Some C.Flat) = told M (map flat_line (flat_of (hop_at M)))
+accepted M None = closed M Bad
 
 -- one line answered
 abbrev pub step : List table.Route → Option Command → Bool → Turn
-step M command refused = if may_refuse M command && refused then closed M Refused else answer M command
+step M command refused = if may_refuse M command && refused then closed M Refused else accepted M command

@@ -34,14 +34,14 @@ change_of (Count v4 v6) = None
 change_of (Close closing) = None
 
 -- how a line closes a reply
-abbrev pub closing_of : Reply → Option Closing
-closing_of (Set net number) = None
-closing_of (Unset net) = None
-closing_of (Route net hop) = None
-closing_of (Flat net number) = None
-closing_of (Own net) = None
-closing_of (Count v4 v6) = None
-closing_of (Close closing) = Some closing
+abbrev pub closes : Reply → Option Closing
+closes (Set net number) = None
+closes (Unset net) = None
+closes (Route net hop) = None
+closes (Flat net number) = None
+closes (Own net) = None
+closes (Count v4 v6) = None
+closes (Close closing) = Some closing
 
 abbrev pub done_or : Option Closing → Bool → Bool
 done_or (Some closing) later = is_done closing
@@ -50,7 +50,7 @@ done_or None later = later
 -- whether there is a closing line, and the first one is `ok`
 abbrev pub ends_well : List Reply → Bool
 ends_well [] = false
-ends_well (l ∷ ls) = done_or (closing_of l) (ends_well ls)
+ends_well (l ∷ ls) = done_or (closes l) (ends_well ls)
 
 -- the changes after which the first closing line is `ok`
 abbrev pub committed : List Reply → List Change
@@ -60,7 +60,7 @@ committed (l ∷ ls) = if ends_well ls then option_to_list (change_of l) ++ comm
 -- how many lines close a reply
 abbrev pub closings : List Reply → ℕ
 closings [] = 0
-closings (l ∷ ls) = if is_some (closing_of l) then suc (closings ls) else closings ls
+closings (l ∷ ls) = if is_some (closes l) then suc (closings ls) else closings ls
 
 -- the hop of the last change whose block has the address; `now` where none has it
 abbrev pub painted_over : Option ℕ → List Change → Address → Option ℕ

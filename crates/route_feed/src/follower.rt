@@ -7,7 +7,7 @@ ghost use Rattle.route_table.specs.Flats.{IsFlat};
 ghost use Rattle.route_table.specs.Tables.{hop_at};
 ghost use Rattle.route_feed.specs.Following.{State, TakesLine, WantsMemory};
 ghost use Rattle.route_feed.specs.Streams.{painted_over};
-ghost use Rattle.route_feed.specs.Waiting.{changes_of, waiting_change};
+ghost use Rattle.route_feed.specs.InnerWaiting.{changes_of, waiting_change};
 
 use crate::error::RunError;
 use ipnet::IpNet;
@@ -51,7 +51,7 @@ pub struct Follower {
 
 impl Model for Follower {
     ghost use Rattle.route_feed.specs.Following.{State};
-    ghost use Rattle.route_feed.specs.Waiting.{changes_of};
+    ghost use Rattle.route_feed.specs.InnerWaiting.{changes_of};
 
     ghost Value = { State };
 

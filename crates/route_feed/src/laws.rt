@@ -1,12 +1,15 @@
 //! Laws of reply streams: public functions without a body, whose contracts are the laws.
-ghost use Rattle.route_feed.specs.Laws.{BeginningsAgree, BeginningsAreReplies, FlatListsAgree};
+ghost use Rattle.route_feed.specs.Laws.{AllAreAnswered, BeginningsAgree, BeginningsAreReplies, FlatListsAgree, OutputIsFollowed};
 
 /// Whoever reads any beginning of the output of a leader, cut at any byte, and takes the changes of the replies that end
 /// there in `ok`, has each address at the hop that it has in the leader's table after as many commands as replies end
 /// there; and so the flat list of that table. Each line of the beginning is a reply line, so that a follower of it never
-/// answers `Line`.
+/// answers `Line`. The whole output has a closing line for each line of the input, and a follower of it prints the flat
+/// list of the leader's last table.
 pub fn followed()
     ensures hops { BeginningsAgree }
     ensures flat { FlatListsAgree }
     ensures replies { BeginningsAreReplies }
+    ensures answered { AllAreAnswered }
+    ensures whole { OutputIsFollowed }
 {}

@@ -1,146 +1,29 @@
 //! The leader.
-ghost use Rattle.std.specs.Prelude.{◌≡◌, ◌<◌, ◌-◌, ◌+◌, ◌^◌, ⊤, List, ℕ, Bool, [], ◌∷◌, length, IfOk, OnOk, IsErrOf, IsTrue, IfSome};
-ghost use Rattle.std.specs.Io.KnownBytes.{IsAtEnd, Appends};
-ghost use Rattle.route_feed.specs.Counted.{inner, reads_of, faults_of, one_more};
-ghost use Rattle.route_lines.specs.Lines.{kept_of, rest_in};
-ghost use Rattle.route_feed.specs.Output.{output, whole};
-ghost use Rattle.route_feed.specs.Devices.{Gives, GivesPart, ReadFault};
-ghost use Rattle.route_feed.specs.Run.{table_of, output_from, replies_from, reply_at_end};
+ghost use Rattle.std.specs.Prelude.{◌<◌, ◌^◌, List, Bool, OnOk, IfSome};
+ghost use Rattle.std.specs.Io.KnownBytes.{Appends};
+ghost use Rattle.route_feed.specs.Commands.{command_in};
+ghost use Rattle.route_feed.specs.Counted.{CanCount, inner, reads_of, faults_of};
+ghost use Rattle.route_feed.specs.InnerReplies.{Answers};
+ghost use Rattle.route_feed.specs.Leads.{LeadEnds};
+ghost use Rattle.route_feed.specs.Output.{output};
 
-use crate::answer::answer;
+use crate::answer::{answer, answer_rest};
 use crate::counted::Counted;
 use crate::error::RunError;
-use crate::writing::close;
-use route_lines::{Closing, LineCutter, Rest};
-use route_table::{Refused, RouteTable};
+use crate::sink::{PIECE, Sink, run};
+use route_lines::Line;
+use route_table::RouteTable;
 use std::alloc::Global;
 use std::io::{Read, Write};
 
-/// How often a run reads.
-pub(crate) const TURNS: u64 = 1 << 62;
+/// A leader's table answers each line.
+impl<W: Write> Sink<W> for RouteTable {
+    ghost can_take = { λ table writer. CanCount writer };
 
-/// How many bytes are asked for at a time.
-pub(crate) const PIECE: usize = 1 << 16;
+    ghost takes = { λ table line old result next new. Answers W.contents table next (command_in line) old new result };
 
-/// The table, and the line that has begun.
-#[derive(Drop)]
-pub struct Leader {
-    table: RouteTable,
-    cutter: LineCutter,
-}
-
-impl Leader {
-    ghost use Rattle.route_feed.specs.Run.{Takes, Ran, Broke, Writes};
-
-    // A leader with the empty table, which has taken no byte.
-    fn new(alloc: Global) -> Result<Leader, Refused>
-        ensures table { IfOk result (λ leader. table_of leader ≡ []) }
-        ensures cutter { IfOk result (λ leader. leader.cutter ≡ kept_of []) }
-    {
-        Ok(Leader {
-            table: RouteTable::new(alloc)?,
-            cutter: LineCutter::new(),
-        })
-    }
-
-    // Takes one byte, and answers the line that it ends.
-    fn take_byte<W: Write>(&mut self, byte: u8, writer: &mut Counted<W>) -> Result<(), RunError>
-        requires { faults_of writer.old < 2 ^ 64 - 1 }
-        ensures { Takes W.contents self.old self.new writer.old writer.new (byte ∷ []) result }
-    {
-        match self.cutter.feed(byte) {
-            None => Ok(()),
-            Some(line) => answer(&mut self.table, &line, writer),
-        }
-    }
-
-    // Takes the bytes of a piece, and answers the lines that they end.
-    fn take_piece<W: Write>(
-        &mut self,
-        piece: &[u8],
-        writer: &mut Counted<W>,
-    ) -> Result<(), RunError>
-        requires { faults_of writer.old < 2 ^ 64 - 1 }
-        ensures { Takes W.contents self.old self.new writer.old writer.new piece.now result }
-    {
-        for byte in piece {
-            self.take_byte(*byte, writer)?;
-        }
-        Ok(())
-    }
-}
-
-impl Leader {
-    ghost use Rattle.route_feed.specs.Run.{Takes, Ran, Broke, Writes};
-
-    // Reads once, and answers the lines that end in what came. Says whether the input is at its end.
-    fn turn<R: Read, W: Write>(
-        &mut self,
-        buf: &mut [u8],
-        reader: &mut Counted<R>,
-        writer: &mut Counted<W>,
-    ) -> Result<bool, RunError>
-        requires room { 0 < length buf.old }
-        requires reader { faults_of reader.old < 2 ^ 64 - 1 }
-        requires writer { faults_of writer.old < 2 ^ 64 - 1 }
-        ensures ok { OnOk result (Ran R.remaining W.contents self.old self.new reader.old reader.new writer.old writer.new) }
-        ensures ok_reader { OnOk result (faults_of reader.new ≡ faults_of reader.old) }
-        ensures end { IfOk result (λ at_end. IsTrue at_end → IsAtEnd (R.remaining (inner reader.new))) }
-        ensures reads { reads_of reader.new ≡ one_more (reads_of reader.old) }
-        ensures read { IsErrOf result RunError.Read → Ran R.remaining W.contents self.old self.new reader.old reader.new writer.old writer.new }
-        ensures read_fault { IsErrOf result RunError.Read → faults_of reader.old < faults_of reader.new }
-        ensures write { IsErrOf result RunError.Write → Broke R.remaining W.contents self.old reader.old reader.new writer.old writer.new }
-        ensures memory { IsErrOf result RunError.Memory → ⊥ }
-        ensures line { IsErrOf result RunError.Line → ⊥ }
-    {
-        match reader.read(buf) {
-            Err(_) => Err(RunError::Read),
-            Ok(count) => {
-                self.take_piece(&buf[..count], writer)?;
-                Ok(count == 0)
-            }
-        }
-    }
-
-    // Answers what stands after the last line end.
-    fn finish<W: Write>(&self, writer: &mut Counted<W>) -> Result<(), RunError>
-        requires { faults_of writer.old < 2 ^ 64 - 1 }
-        ensures { Writes W.contents writer.old writer.new result (reply_at_end (rest_in self.now.cutter)) }
-    {
-        match self.cutter.rest() {
-            Rest::Empty => Ok(()),
-            Rest::Held => close(writer, Closing::Bad),
-        }
-    }
-
-    // Reads to the end, and answers all lines and the rest.
-    fn run<R: Read, W: Write>(
-        &mut self,
-        buf: &mut [u8],
-        reader: &mut Counted<R>,
-        writer: &mut Counted<W>,
-    ) -> Result<(), RunError>
-        requires room { 0 < length buf.old }
-        requires reads { reads_of reader.old < 2 ^ 63 }
-        requires reader { faults_of reader.old < 2 ^ 63 }
-        requires writer { faults_of writer.old < 2 ^ 63 }
-        ensures ok { OnOk result (Gives R.remaining W.contents (output_from self.old) reader.old reader.new writer.old writer.new) }
-        ensures end { OnOk result (IsAtEnd (R.remaining (inner reader.new))) }
-        ensures no_fault { OnOk result (faults_of reader.new ≡ faults_of reader.old) }
-        ensures no_write_fault { OnOk result (faults_of writer.new ≡ faults_of writer.old) }
-        ensures read { IsErrOf result RunError.Read → Gives R.remaining W.contents (replies_from self.old) reader.old reader.new writer.old writer.new }
-        ensures read_fault { IsErrOf result RunError.Read → ReadFault reader.old reader.new }
-        ensures write { IsErrOf result RunError.Write → GivesPart R.remaining W.contents (output_from self.old) reader.old reader.new writer.old writer.new }
-        ensures write_fault { IsErrOf result RunError.Write → faults_of writer.old < faults_of writer.new }
-        ensures memory { IsErrOf result RunError.Memory → ⊥ }
-        ensures line { IsErrOf result RunError.Line → ⊥ }
-    {
-        for _turn in 0..TURNS {
-            if self.turn(buf, reader, writer)? {
-                return self.finish(writer);
-            }
-        }
-        Err(RunError::Read)
+    fn take(&mut self, line: &Line, writer: &mut Counted<W>) -> Result<(), RunError> {
+        answer(self, line, writer)
     }
 }
 
@@ -166,24 +49,16 @@ pub fn lead<R: Read, W: Write>(
     requires reads { reads_of reader.old < 2 ^ 63 }
     requires reader { faults_of reader.old < 2 ^ 63 }
     requires writer { faults_of writer.old < 2 ^ 63 }
-    ensures ok { OnOk result (Gives R.remaining W.contents output reader.old reader.new writer.old writer.new) }
-    ensures end { OnOk result (IsAtEnd (R.remaining (inner reader.new))) }
+    ensures ends { LeadEnds R.remaining W.contents reader.old reader.new writer.old writer.new result }
     ensures known { OnOk result (IfSome (R.remaining (inner reader.old)) (λ bytes.
         (refusals : List Bool) × Appends (W.contents (inner writer.old)) (W.contents (inner writer.new)) (output bytes refusals))) }
-    ensures read { IsErrOf result RunError.Read → Gives R.remaining W.contents whole reader.old reader.new writer.old writer.new }
-    ensures read_fault { IsErrOf result RunError.Read → ReadFault reader.old reader.new }
-    ensures write { IsErrOf result RunError.Write → GivesPart R.remaining W.contents output reader.old reader.new writer.old writer.new }
-    ensures write_fault { IsErrOf result RunError.Write → faults_of writer.old < faults_of writer.new }
-    ensures memory { IsErrOf result RunError.Memory → (reader.new ≡ reader.old) × (writer.new ≡ writer.old) }
-    ensures line { IsErrOf result RunError.Line → ⊥ }
-    ensures no_fault { OnOk result (faults_of reader.new ≡ faults_of reader.old) }
-    ensures no_write_fault { OnOk result (faults_of writer.new ≡ faults_of writer.old) }
 {
     let Ok(mut buf) = vec![in alloc; 0; PIECE] else {
         return Err(RunError::Memory);
     };
-    let Ok(mut leader) = Leader::new(alloc) else {
+    let Ok(mut table) = RouteTable::new(alloc) else {
         return Err(RunError::Memory);
     };
-    leader.run(buf.as_mut_slice(), reader, writer)
+    let rest = run(&mut table, buf.as_mut_slice(), reader, writer)?;
+    answer_rest(rest, writer)
 }

@@ -8,6 +8,7 @@ pub use leader::lead;
 pub use reading::follow;
 
 mod answer;
+mod body;
 mod counted;
 mod error;
 mod follower;
@@ -16,6 +17,7 @@ mod leader;
 #[cfg(test)]
 mod manual;
 mod reading;
+mod sink;
 #[cfg(test)]
 mod tests;
 mod writing;

@@ -5,13 +5,8 @@ use Rattle.std.proofs.lemmas.List.{take-append-le, length-take-le, take_all}
 use Rattle.std.specs.Option.{option_to_list}
 use Rattle.std.specs.List.{flat_map}
 use Rattle.route_lines.specs.declared.cutter.Line.TheVariants.{Text, TooLong}
-use Rattle.route_lines.specs.Kept.{Kept}
 use Rattle.route_lines.specs.Bytes.{onto_first, lines, if_no_piece, rest}
-use Rattle.route_lines.specs.Lines.{lines_of, line_of, kept_of, fed_answer, fed, answers, fed_all, rest_in, rest_of}
-
--- a cutter that has room
-abbrev short_fed : List ℕ → ℕ → Kept
-short_fed first b = record { first = first ++ b ∷ []; more = false }
+use Rattle.route_lines.specs.Lines.{lines_in, line_of, kept_of, fed_answer, fed, answers, fed_all, rest_in, rest_of}
 
 fed_short : (p : List ℕ) (b : ℕ) → eqb b 10 ≡ false → length p < 80 → fed (kept_of p) b ≡ kept_of (p ++ b ∷ [])
 fed_short p b e h =
@@ -104,7 +99,7 @@ rest_at (b ∷ bs) p = rest_step b bs p (b == 10) refl (rest_at bs)
 
 -- ---- a new cutter
 
-pub new_answers : (bs : List ℕ) → answers (kept_of []) bs ≡ lines_of bs
+pub new_answers : (bs : List ℕ) → answers (kept_of []) bs ≡ lines_in bs
 new_answers bs = answers_at bs [] ∙ ap (map line_of) (onto-nil (lines bs))
 
 pub new_rest : (bs : List ℕ) → fed_all (kept_of []) bs ≡ kept_of (rest bs)

@@ -9,13 +9,13 @@ use Rattle.std.proofs.lemmas.List.Sums.{AllPass-from_list_all}
 use Rattle.std.proofs.lemmas.Fmt.{decimal_injective, decimal_is_IsNumeral, length-decimal-le}
 use Rattle.std.specs.Str.Parse.{AllDigits}
 use Rattle.std.specs.Char.{digit_value}
-use Rattle.ipnet.specs.IpNets.{block}
-use Rattle.route_table.specs.Stored.{network_at}
+use Rattle.ipnet.specs.IpNets.{block, network_at}
 use Rattle.ipnet.specs.declared.ip_net.IpNet.{IpNet}
 use Rattle.ipnet.proofs.NoSpace.{no_line_end}
 use Rattle.ipnet.proofs.Longest.{longest}
 use Rattle.ipnet.proofs.IpNetworks.{ip_unique}
-use Rattle.route_lines.specs.Phrase.{IsFree, IsDecimal, Then, After}
+use Rattle.route_lines.specs.Phrase.{IsDecimal, Then, After}
+use Rattle.route_lines.specs.InnerPhrase.{IsFree}
 use Rattle.route_lines.specs.Words.{IsNet, IsNumber, IsHop}
 use Rattle.route_table.specs.declared.hop.Hop.{Hop}
 use Rattle.route_table.specs.declared.hop.Hop.TheVariants.{Number, Drop}

@@ -1,11 +1,9 @@
 -- What is printed reads as that reply line.
-use Rattle.std.proofs.Common.{◌≡◌, ℕ, ◌≤◌, List, ◌++◌, codes, decimal, refl, arith}
-use Rattle.std.proofs.Common.{sym, ap, ◌∙◌}
+use Rattle.std.proofs.Common.{◌≡◌, ℕ, ◌≤◌, List, ◌++◌, codes, decimal, refl, arith, sym, ap, ◌∙◌}
 use Rattle.std.specs.Prelude.{⊤}
 use Rattle.route_table.proofs.Gaps.{of_network_at}
 use Rattle.ipnet.specs.IpNetText.{net_text, Reads}
-use Rattle.ipnet.specs.IpNets.{block}
-use Rattle.route_table.specs.Stored.{network_at}
+use Rattle.ipnet.specs.IpNets.{block, network_at}
 use Rattle.ipnet.specs.declared.ip_net.IpNet.{IpNet}
 use Rattle.route_lines.specs.Phrase.{Then}
 use Rattle.route_lines.specs.Words.{IsNet, IsHop}

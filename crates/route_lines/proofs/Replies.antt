@@ -5,7 +5,7 @@ use Rattle.ipnet.specs.declared.ip_net.IpNet.{IpNet}
 use Rattle.route_lines.specs.Phrase.{Then, After}
 use Rattle.route_lines.specs.Words.{IsNet, IsNumber, IsCount, IsHop}
 use Rattle.route_lines.specs.Texts.{IsReply}
-use Rattle.route_lines.specs.Free as Free
+use Rattle.route_lines.specs.InnerFree as Free
 use Rattle.route_lines.proofs.Good.{Good, start, one_line}
 use Rattle.route_lines.proofs.Good as Good
 use Rattle.route_table.specs.declared.hop.Hop.{Hop}

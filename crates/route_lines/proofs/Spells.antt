@@ -7,18 +7,18 @@ use Rattle.std.proofs.lemmas.Bool.Decides.{nat_tests}
 use Rattle.std.proofs.lemmas.Fmt.{decimal_is_IsNumeral}
 use Rattle.std.proofs.lemmas.List.Elements.{All-nil, All-cons}
 use Rattle.std.proofs.lemmas.Slice.Eq.{bytes_eq-Decides}
-use Rattle.ipnet.specs.IpNets.{block}
+use Rattle.ipnet.specs.IpNets.{block, network_at}
 use Rattle.ipnet.specs.IpNetText.{ip_net_of, Reads}
 use Rattle.ipnet.specs.declared.ip_net.IpNet.{IpNet}
 use Rattle.ipnet.proofs.IpNetworks.{ip_found}
-use Rattle.route_table.specs.Stored.{network_at}
 use Rattle.route_table.specs.declared.hop.Hop.{Hop}
 use Rattle.route_table.specs.declared.hop.Hop.TheVariants.{Number, Drop}
-use Rattle.route_lines.specs.Free as Free
-use Rattle.route_lines.specs.Phrase.{IsUnspaced, IsDecimal, Then, After, Gives, IsFree}
+use Rattle.route_lines.specs.InnerFree as Free
+use Rattle.route_lines.specs.Phrase.{IsUnspaced, IsDecimal, Then, After}
+use Rattle.route_lines.specs.InnerPhrase.{Gives, IsFree}
 use Rattle.route_lines.specs.Words.{IsNet, IsHop, IsNumber, IsLimit, IsCount}
 use Rattle.route_lines.specs.Texts.{IsCommand, IsReply, closing_text}
-use Rattle.route_lines.specs.Spelled.{split, net_of_text, number_of_text, hop_of_text, of_word, of_both, after_prefix, or_else, command_of, closing_of, reply_of}
+use Rattle.route_lines.specs.Spelled.{split, net_of_text, number_of_text, hop_of_text, of_word, of_both, after_prefix, or_else, command_of, closing_of_text, reply_of}
 use Rattle.route_lines.specs.declared.command.Command.TheVariants as C
 use Rattle.route_lines.specs.declared.reply.Closing.{Closing}
 use Rattle.route_lines.specs.declared.reply.Closing.TheVariants.{Done, Missing, Bad, Refused}
@@ -50,13 +50,6 @@ gives_number low high bound s = go (bytes_eq s (decimal (digits_value 10 s)) && 
         let low_test : nat_le low (digits_value 10 s) ≡ true = let l = h.1 in grind (arith, nat_tests) in
         let high_test : nat_le (digits_value 10 s) high ≡ true = let l = h.2 in grind (arith, nat_tests) in
         true≢false (sym ((λ i. same i && low_test i && high_test i)) ∙ e)
-
-gives_word : {A : Type 0} (word : List ℕ) (x : A) (s : List ℕ) → Gives (λ t y. t ≡ word) s (of_word word x s)
-gives_word word x s = go (bytes_eq s word) refl
-  where
-    go : (b : Bool) → bytes_eq s word ≡ b → Gives (λ t y. t ≡ word) s (cond b (Some x) None)
-    go true e = (bytes_eq-Decides s word).0 e
-    go false e = λ y h. true≢false (sym ((bytes_eq-Decides s word).1 h) ∙ e)
 
 gives_hop : (s : List ℕ) → Gives IsHop s (hop_of_text s)
 gives_hop s = go (bytes_eq s (codes "drop")) refl
@@ -161,7 +154,7 @@ command_found s =
     or_word IsCommand (codes "count") C.Count s _ (λ h. h) (λ count.
     last_word IsCommand (codes "flat") C.Flat s (λ h. h) (λ flat. no_command s add del get cover list from after own count flat))))))))))
 
-closing_found : (s : List ℕ) → Gives (λ text c. text ≡ closing_text c) s (closing_of s)
+closing_found : (s : List ℕ) → Gives (λ text c. text ≡ closing_text c) s (closing_of_text s)
 closing_found s =
     or_word (λ text c. text ≡ closing_text c) (codes "ok") Done s _ (λ h. h) (λ done.
     or_word (λ text c. text ≡ closing_text c) (codes "none") Missing s _ (λ h. h) (λ missing.
@@ -183,4 +176,4 @@ reply_found s =
     or_kind (After (codes "count ") (Then IsCount IsCount)) IsReply (λ x. R.Count x.0 x.1) s _ _ (λ x h. h)
     (gives_prefix (Then IsCount IsCount) (codes "count ") (of_both (number_of_text 0 0xffffffffffffffff) (number_of_text 0 0xffffffffffffffff))
     (gives_both IsCount IsCount (number_of_text 0 0xffffffffffffffff) (number_of_text 0 0xffffffffffffffff) (Free.decimal_word 0 0xffffffffffffffff (omega arith)) (gives_number 0 0xffffffffffffffff (omega arith)) (gives_number 0 0xffffffffffffffff (omega arith))) s) (λ count.
-    closes s (closing_of s) (closing_found s) (λ close. no_reply s set unset route flat own count close)))))))
+    closes s (closing_of_text s) (closing_found s) (λ close. no_reply s set unset route flat own count close)))))))

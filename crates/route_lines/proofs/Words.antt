@@ -1,15 +1,15 @@
 -- Prefixes and first words of lists.
-use Rattle.std.proofs.Common.{◌≡◌, ◌≢◌, ℕ, suc, ◌+◌, ◌<◌, true, false, true≢false, List, [], ◌∷◌, ◌++◌, length, get_or, take, drop, All, Option, Some, None, IfSome, IfNone, MatchOption, Bor, bytes_eq, codes, refl, sym, ap, ◌∙◌, arith, take-append-drop, take_at, drop-cons, add-one, get_or-take, length-take-le, append_assoc, subst, decimal, ◌^◌}
-use Rattle.std.proofs.lemmas.List.Elements.{All-from_get_or, All-head, All-tail}
+use Rattle.std.proofs.Common.{◌≡◌, ◌≢◌, ℕ, ◌+◌, ◌<◌, true, false, true≢false, List, [], ◌∷◌, ◌++◌, length, get_or, take, drop, All, Option, Some, None, IfSome, IfNone, MatchOption, Bor, bytes_eq, codes, refl, sym, ap, ◌∙◌, arith, take-append-drop, take_at, append_assoc, subst, decimal, ◌^◌}
+use Rattle.std.proofs.lemmas.List.Elements.{All-head, All-tail}
 use Rattle.std.proofs.lemmas.List.{append_cancel_left}
-use Rattle.std.proofs.lemmas.Fmt.{decimal_injective}
 use Rattle.std.proofs.lemmas.Slice.Eq.{bytes_eq-Decides}
 use Rattle.std.proofs.Common.{Result, Ok, Err}
 use Rattle.std.proofs.lemmas.Fmt.{parse-decimal, IsAscii-decimal}
 use Rattle.std.proofs.lemmas.Str.{IsUtf8-from_ascii}
 use Rattle.std.specs.Str.{IsUtf8}
 use Rattle.std.specs.Str.Parse.{ParsesUnsigned}
-use Rattle.route_lines.specs.Phrase.{IsUnspaced, IsDecimal, Then, After, Gives, IsFree}
+use Rattle.route_lines.specs.Phrase.{IsUnspaced, IsDecimal, Then, After}
+use Rattle.route_lines.specs.InnerPhrase.{Gives, IsFree}
 
 pub stripped_some : (s p : List ℕ) (r : Option (Bor (List ℕ))) → MatchOption r (bytes_eq (take (length p) s) p ≡ false) (λ x. (bytes_eq (take (length p) s) p ≡ true) × (x.now ≡ drop (length p) s) × (length x.now + length p ≡ length s)) → IfSome r (λ rest. s ≡ p ++ rest.now)
 stripped_some s p None h = tt
@@ -22,14 +22,6 @@ stripped_none s p None h = λ rest e.
     let front : take (length p) s ≡ p = ap (take (length p)) e ∙ take_at p rest (length p) refl in
     true≢false (sym ((bytes_eq-Decides (take (length p) s) p).1 front) ∙ h)
 stripped_none s p (Some x) h = tt
-
--- the word before the first space, at i
-pub first_word : (s : List ℕ) (i : ℕ) → i < length s → get_or s i 0 ≡ 32 → ((k : ℕ) → k < i → get_or s k 0 ≢ 32) → (s ≡ take i s ++ 32 ∷ drop (i + 1) s) × All (λ c. c ≢ 32) (take i s)
-first_word s i within space before =
-    let rest : drop i s ≡ 32 ∷ drop (i + 1) s = rw add-one (drop-cons s i 0 within ∙ ap (λ c. c ∷ drop (suc i) s) space) in (
-      sym (take-append-drop i s) ∙ ap (λ t. take i s ++ t) rest,
-      All-from_get_or (λ c. c ≢ 32) (take i s) 0 (λ k h. let below : k < i = omega (arith, length-take-le i s (omega arith)) in let same : get_or (take i s) k 0 ≡ get_or s k 0 = get_or-take i s k 0 below in rw same (before k below)),
-    )
 
 -- two words before a space are one
 pub same_word : (a b x y : List ℕ) → All (λ c. c ≢ 32) a → All (λ c. c ≢ 32) b → a ++ 32 ∷ x ≡ b ++ 32 ∷ y → (a ≡ b) × (x ≡ y)
@@ -52,9 +44,6 @@ no_split (d ∷ s) (c ∷ a) x h e = no_split s a x (All-tail (λ c. c ≢ 32) d
 pub split_at : (front back : List ℕ) → front ++ codes " " ++ back ≡ front ++ 32 ∷ back
 split_at front back = append_assoc front (32 ∷ []) back
 
-pub one_word : {A B : Type 0} {P : List ℕ → A → Type 0} {Q : List ℕ → B → Type 0} (s : List ℕ) (x : A × B) → IsUnspaced s → ¬ (Then P Q s x)
-one_word s x free h = no_split s h.front h.back free (h.spelled ∙ split_at h.front h.back)
-
 words_are : {A B : Type 0} {P : List ℕ → A → Type 0} {Q : List ℕ → B → Type 0} (s front back : List ℕ) (x : A × B) → IsFree P → s ≡ front ++ 32 ∷ back → IsUnspaced front → (h : Then P Q s x) → (h.front ≡ front) × (h.back ≡ back)
 words_are s front back x words e free h = same_word h.front front h.back back (words h.front x.0 h.first) free (sym (h.spelled ∙ split_at h.front h.back) ∙ e)
 
@@ -76,12 +65,6 @@ no_phrase {A} {P} line prefix rest x e none h = none x (subst (λ t. P t x) (app
 pub gives_after : {A : Type 0} (P : List ℕ → A → Type 0) (line prefix rest : List ℕ) (r : Option A) → line ≡ prefix ++ rest → Gives P rest r → Gives (After prefix P) line r
 gives_after P line prefix rest None e h = λ x. no_phrase line prefix rest x e h
 gives_after P line prefix rest (Some x) e h = phrase_after line prefix rest x e h
-
--- a number that is not the one of the text
-pub too_low : (low high n m : ℕ) (text : List ℕ) → n < 2 ^ 64 → high < 2 ^ 64 → text ≡ decimal n → n < low → ¬ (IsDecimal low high text m)
-too_low low high n m text small bound e below h =
-    let same : n ≡ m = decimal_injective n m small (omega (arith, h.2)) (sym e ∙ h.0) in
-    omega (arith, same, h.1)
 
 -- ---- numbers
 

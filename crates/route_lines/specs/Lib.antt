@@ -2,7 +2,8 @@ pub mod Bytes
 pub mod Kept
 pub mod Lines
 pub mod Phrase
+pub mod InnerPhrase
+pub mod InnerFree
 pub mod Words
 pub mod Texts
-pub mod Free
 pub mod Spelled

@@ -13,8 +13,8 @@ abbrev pub line_of : List ℕ → Line
 line_of piece = if nat_lt 80 (length piece) then TooLong else Text (record { items = piece })
 
 -- the lines of the bytes
-abbrev pub lines_of : List ℕ → List Line
-lines_of bs = map line_of (lines bs)
+abbrev pub lines_in : List ℕ → List Line
+lines_in bs = map line_of (lines bs)
 
 -- whether these bytes, which stand after the last line end, are any
 abbrev pub rest_of : List ℕ → Rest

@@ -2,10 +2,9 @@
 use Rattle.std.specs.Prelude.{ℕ, ◌&&◌, ◌==◌, nat_le, if◌then◌else◌, List, [], ◌∷◌, take, drop, length, codes, decimal, Option, Some, None, option_map, option_and_then}
 use Rattle.std.specs.Str.{bytes_eq}
 use Rattle.std.specs.Str.Parse.{digits_value}
-use Rattle.ipnet.specs.IpNets.{block}
+use Rattle.ipnet.specs.IpNets.{block, network_at}
 use Rattle.ipnet.specs.IpNetText.{ip_net_of}
 use Rattle.ipnet.specs.declared.ip_net.IpNet.{IpNet}
-use Rattle.route_table.specs.Stored.{network_at}
 use Rattle.route_table.specs.declared.hop.Hop.{Hop}
 use Rattle.route_table.specs.declared.hop.Hop.TheVariants.{Number, Drop}
 use Rattle.route_lines.specs.declared.command.Command.{Command}
@@ -63,8 +62,8 @@ command_of s =
     (of_word (codes "flat") C.Flat s)))))))))
 
 -- the line that closes a reply
-abbrev pub closing_of : List ℕ → Option Closing
-closing_of s = or_else (of_word (codes "ok") Done s) (or_else (of_word (codes "none") Missing s) (or_else (of_word (codes "bad") Bad s) (of_word (codes "refused") Refused s)))
+abbrev pub closing_of_text : List ℕ → Option Closing
+closing_of_text s = or_else (of_word (codes "ok") Done s) (or_else (of_word (codes "none") Missing s) (or_else (of_word (codes "bad") Bad s) (of_word (codes "refused") Refused s)))
 
 -- the reply line
 unfoldable pub reply_of : List ℕ → Option Reply
@@ -75,4 +74,4 @@ reply_of s =
     (or_else (option_map (λ x. R.Flat x.0 x.1) (after_prefix (codes "flat ") (of_both net_of_text (number_of_text 0 0xffffffff)) s))
     (or_else (option_map R.Own (after_prefix (codes "own ") net_of_text s))
     (or_else (option_map (λ x. R.Count x.0 x.1) (after_prefix (codes "count ") (of_both (number_of_text 0 0xffffffffffffffff) (number_of_text 0 0xffffffffffffffff)) s))
-    (option_map R.Close (closing_of s)))))))
+    (option_map R.Close (closing_of_text s)))))))

@@ -1,8 +1,7 @@
 -- The texts of commands and reply lines, by cases on whole texts.
 use Rattle.std.specs.Prelude.{◌≡◌, ℕ, List, ◌++◌, codes, decimal, ⊤}
 use Rattle.ipnet.specs.IpNetText.{net_text}
-use Rattle.ipnet.specs.IpNets.{block}
-use Rattle.route_table.specs.Stored.{network_at}
+use Rattle.ipnet.specs.IpNets.{block, network_at}
 use Rattle.route_lines.specs.Phrase.{Then, After}
 use Rattle.route_lines.specs.Words.{IsNet, IsNumber, IsLimit, IsCount, IsHop}
 use Rattle.route_table.specs.declared.hop.Hop.{Hop}

@@ -1,8 +1,7 @@
 -- The words after the first one of a line.
 use Rattle.std.specs.Prelude.{◌≡◌, ℕ, List, codes}
 use Rattle.ipnet.specs.IpNetText.{Reads}
-use Rattle.ipnet.specs.IpNets.{block}
-use Rattle.route_table.specs.Stored.{network_at}
+use Rattle.ipnet.specs.IpNets.{block, network_at}
 use Rattle.ipnet.specs.declared.ip_net.IpNet.{IpNet}
 use Rattle.route_lines.specs.Phrase.{IsDecimal}
 use Rattle.route_table.specs.declared.hop.Hop.{Hop}

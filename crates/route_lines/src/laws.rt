@@ -6,13 +6,13 @@ ghost use Rattle.route_lines.specs.Spelled.{command_of, reply_of};
 ghost use Rattle.route_lines.specs.Texts.{IsCommand, IsPrintable, IsReply};
 ghost use Rattle.route_lines.specs.declared.command.Command.{Command};
 ghost use Rattle.route_lines.specs.declared.reply.Reply.{Reply};
-ghost use Rattle.route_lines.specs.Lines.{kept_of, answers, fed_all, rest_in, rest_of, lines_of};
+ghost use Rattle.route_lines.specs.Lines.{kept_of, answers, fed_all, rest_in, rest_of, lines_in};
 
 /// Over any bytes fed to a new cutter, its answers are, in order, `Text` of each piece of at most 80
 /// bytes and `TooLong` for each longer one, and `rest` tells whether anything stands after the last
 /// line end; so they are a function of the bytes, however these were cut into reads.
 pub fn cutting()
-    ensures answers { (bytes : List ℕ) → answers (kept_of []) bytes ≡ lines_of bytes }
+    ensures answers { (bytes : List ℕ) → answers (kept_of []) bytes ≡ lines_in bytes }
     ensures kept { (bytes : List ℕ) → fed_all (kept_of []) bytes ≡ kept_of (rest bytes) }
     ensures rest { (bytes : List ℕ) → rest_in (fed_all (kept_of []) bytes) ≡ rest_of (rest bytes) }
 {}

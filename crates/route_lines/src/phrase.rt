@@ -1,8 +1,9 @@
 //! What stands after the first word of a line: a word, or words with a space between each two.
 ghost use Rattle.std.specs.Prelude.{◌≡◌, ◌≢◌, ℕ, ◌^◌, ◌<◌, ◌≤◌, List, ◌∷◌, ◌++◌, All, IfSome, IfNone};
-ghost use Rattle.route_lines.specs.Phrase.{IsUnspaced, IsDecimal, Then, After, Gives, IsFree};
+ghost use Rattle.route_lines.specs.Phrase.{IsUnspaced, IsDecimal, Then, After};
+ghost use Rattle.route_lines.specs.InnerPhrase.{Gives, IsFree};
 ghost use Rattle.route_lines.specs.Words.{IsNet, IsHop};
-ghost use Rattle.route_lines.specs.Free as Free;
+ghost use Rattle.route_lines.specs.InnerFree as Free;
 ghost use Rattle.std.proofs.Common.{rules};
 
 use ipnet::IpNet;
@@ -86,10 +87,8 @@ impl<const LOW: u64, const HIGH: u64> Phrase for Decimal<LOW, HIGH> {
     ghost spells = { IsDecimal LOW HIGH };
 
     fn read(s: &[u8]) -> Option<Decimal<LOW, HIGH>> {
-        match read_decimal(s, LOW, HIGH) {
-            Some(n) => Some(Decimal { n }),
-            None => None,
-        }
+        let n = read_decimal(s, LOW, HIGH)?;
+        Some(Decimal { n })
     }
 }
 
@@ -110,10 +109,8 @@ impl Phrase for Hop {
         if s == b"drop".as_slice() {
             return Some(Hop::Drop);
         }
-        match read_decimal(s, 0, 0xffff_ffff) {
-            Some(n) => Some(Hop::Number(n as u32)),
-            None => None,
-        }
+        let n = read_decimal(s, 0, 0xffff_ffff)?;
+        Some(Hop::Number(n as u32))
     }
 }
 
@@ -163,8 +160,5 @@ fn after<'a>(s: &'a [u8], prefix: &[u8]) -> Option<&'a [u8]>
 pub(crate) fn read_after<P: Phrase>(line: &[u8], prefix: &[u8]) -> Option<P>
     ensures { Gives (After prefix.now P.spells) line.now result }
 {
-    let Some(rest) = after(line, prefix) else {
-        return None;
-    };
-    P::read(rest)
+    P::read(after(line, prefix)?)
 }

@@ -1,7 +1,7 @@
 //! Reply lines.
 ghost use Rattle.std.specs.Prelude.{◌≡◌, ◌≢◌, ◌≤◌, ◌++◌, length, codes, All};
 ghost use Rattle.std.specs.Net.Grammar.{Parses};
-ghost use Rattle.route_lines.specs.Phrase.{Gives};
+ghost use Rattle.route_lines.specs.InnerPhrase.{Gives};
 ghost use Rattle.route_lines.specs.Texts.{IsReply, closing_text, reply_text, IsPrintable};
 
 use crate::NotALine;

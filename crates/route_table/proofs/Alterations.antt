@@ -6,7 +6,8 @@ use Rattle.ipnet_blocks.specs.Maximal.{IsMaximal}
 use Rattle.ipnet_addr.proofs.Members.{In}
 use Rattle.ipnet_addr.proofs.Ascending.{In-from_Contains, Contains-from_In, Rising-from_pairs, same_rising}
 use Rattle.std.proofs.lemmas.Bool.Decides.{nat_tests}
-use Rattle.ipnet_blocks.proofs.BlockLaws.{nested, numbers_from_inside, rank_apart, strict}
+use Rattle.ipnet_addr.proofs.Families.{rank_apart}
+use Rattle.ipnet_blocks.proofs.BlockLaws.{nested, numbers_from_inside, strict}
 use Rattle.ipnet_blocks.proofs.BlockTests.{test_from_same}
 use Rattle.ipnet_blocks.proofs.Parents.{larger_is_shorter, decide_inside}
 use Rattle.ipnet_blocks.proofs.Maximals.{host_is_block, in_host, has_host}

@@ -9,10 +9,10 @@ use Rattle.route_table.specs.declared.runs.Reach.{Reach}
 use Rattle.route_table.specs.declared.runs.Run.{Run}
 use Rattle.route_table.specs.declared.runs.Runs.{Runs}
 use Rattle.route_table.specs.declared.runs.Step.TheVariants as step
-use Rattle.route_table.specs.Running.{reach_of, painted, coming, innermost, over, from_on, hops_left, ArePlaced, AreRuns, changes_left, StepsRun, IsPast, joined, step_of}
+use Rattle.route_table.specs.InnerRunning.{reach_of, painted, coming, innermost, over, from_on, hops_left, ArePlaced, AreRuns, changes_left, StepsRun, IsPast, joined, step_of}
 use Rattle.route_table.proofs.Paints.{IsSpanOf, EndsBefore}
 use Rattle.route_table.proofs.Openings.{last_of, popped, inner_pushed, in_turn, ends_within, ends_from, closed_are, closed_here, closed_later, family_closes}
-use Rattle.route_table.proofs.Turns.{turned, hops_are, placed_as, fits_as, changes_as, hand_from, ends_from_hand}
+use Rattle.route_table.proofs.Turns.{turned, hops_are, placed_as, changes_as, hand_from, ends_from_hand}
 
 far_from : (n : Option Reach) (rs : List Route) (stack : List Reach) (at end last : ℕ) → ArePlaced stack (coming n rs) at end → MatchOption n (Unit {0}) (λ r. last < r.first) → (r : Reach) → In r (coming n rs) → last < r.first
 far_from None rs stack at end last p h r i = absurd i
@@ -20,7 +20,7 @@ far_from (Some s) rs stack at end last p h r i = ⊎_elim (λ (q : r ≡ s). sub
 
 module _ (w v : Runs) (a : AreRuns w) (going : w.done ≡ false) (last : ℕ) (number : Option ℕ) (inner : (last, number) ≡ innermost (w.end, None) w.stack.items)
     (apart : MatchOption w.next (Unit {0}) (λ r. last < r.first))
-    (net : v.net ≡ w.net) (end : v.end ≡ w.end) (next : v.next ≡ w.next) (rest : v.rest ≡ w.rest) where
+    (end : v.end ≡ w.end) (next : v.next ≡ w.next) (rest : v.rest ≡ w.rest) where
   far : (r : Reach) → In r (coming w.next w.rest) → last < r.first
   far = far_from w.next w.rest w.stack.items w.at w.end last a.placed apart
 
@@ -78,7 +78,7 @@ module _ (w v : Runs) (a : AreRuns w) (going : w.done ≡ false) (last : ℕ) (n
     route_here b run =
         let f = ends_from w.stack.items (coming w.next w.rest) w.at w.end a.placed last number inner in
         let e : w.at ≡ last + 1 = omega arith in (
-          record { placed = placed_then; hand = hand_from v.run v.done v.at v.end (last + 1) place_then (subst (λ (o : Option Run). EndsBefore o (last + 1)) (sym run) (ends_from_hand w.run w.done w.at w.end (last + 1) (place_before ∙ e) a.hand)); fits = fits_as w v net end a },
+          record { placed = placed_then; hand = hand_from v.run v.done v.at v.end (last + 1) place_then (subst (λ (o : Option Run). EndsBefore o (last + 1)) (sym run) (ends_from_hand w.run w.done w.at w.end (last + 1) (place_before ∙ e) a.hand)) },
           (
             λ x. ap (λ h. h x) hops_held ∙ ap (λ o. over w.run o x) (closed_here os t (coming w.next w.rest) w.at w.end placed far' (omega (arith, top_last)) x) ∙ ap (λ o. over o (from_on false (t.last + 1) (painted None (os ++ coming w.next w.rest)) x) x) (sym run) ∙ ap (λ h. h x) (sym hops_then),
             fewer,
@@ -91,7 +91,7 @@ module _ (w v : Runs) (a : AreRuns w) (going : w.done ≡ false) (last : ℕ) (n
         let i : IsSpanOf (record { first = w.at; last = last }) number _ _ = subst (λ (p : ℕ × Option ℕ). IsSpanOf (record { first = w.at; last = p.0 }) p.1 (λ x. from_on false w.at (painted None ((os ++ t ∷ []) ++ coming w.next w.rest)) x) (λ x. from_on false (t.last + 1) (painted None (os ++ coming w.next w.rest)) x)) (sym top)
         (closed_later os t (coming w.next w.rest) w.at w.end placed far' (omega (arith, top_last))) in
         let u = turned w v s number _ _ i hops_held hops_then a.hand place_before place_then run (omega arith) fewer in
-        (record { placed = placed_then; hand = u.0; fits = fits_as w v net end a }, u.1)
+        (record { placed = placed_then; hand = u.0 }, u.1)
 
   -- the family closes
   module _ (over' : v.done ≡ true) (at : v.at ≡ w.at) (kept : v.stack.items ≡ w.stack.items) (l : w.end ≤ last) where
@@ -123,7 +123,7 @@ module _ (w v : Runs) (a : AreRuns w) (going : w.done ≡ false) (last : ℕ) (n
         (family_closes w.stack.items (coming w.next w.rest) w.at w.end a.placed number inner_end far_end (λ x. None) (λ x. refl)) in
         let to : cond v.done (v.end + 1) v.at ≡ last + 1 = ap (λ d. cond d (v.end + 1) v.at) over' ∙ ap (λ n. n + 1) (end ∙ sym at_end) in
         let u = turned w v s number _ _ i hops_before hops_done a.hand place_before to run (omega (arith, at_end)) fewer_done in
-        (record { placed = placed_done; hand = u.0; fits = fits_as w v net end a }, u.1)
+        (record { placed = placed_done; hand = u.0 }, u.1)
 
   -- a stack whose innermost route ends before the family is not empty
   split_at : last < w.end → (os : List Reach) × (t : Reach) × (w.stack.items ≡ os ++ t ∷ [])

@@ -6,7 +6,7 @@ use Rattle.std.proofs.lemmas.List.Sums.{sum_by-cons}
 use Rattle.ipnet_addr.specs.Addresses.{Family, Ipv4, Ipv6, width, same_family, Address}
 use Rattle.ipnet_addr.proofs.Members.{In, In-cases}
 use Rattle.ipnet_addr.proofs.Ascending.{In-from_Contains}
-use Rattle.ipnet_blocks.specs.Blocks.{Block, IsBlock, free_bits, HasAddress, IsInside, is_inside, first_of, whole, left, right}
+use Rattle.ipnet_blocks.specs.Blocks.{Block, IsBlock, free_bits, HasAddress, IsInside, is_inside, first_of, family_block, left, right}
 use Rattle.ipnet_blocks.proofs.BlockLaws.{has_first, strict}
 use Rattle.ipnet_blocks.proofs.Parents.{larger_is_shorter}
 use Rattle.ipnet_blocks.proofs.Maximals.{member_is_address}
@@ -201,64 +201,64 @@ shorter f (p ∷ ps) = go (of f p) (shorter f ps)
     go false l = omega arith
 
 -- the weights inside a whole family are lengths of its routes
-family_weight : (f : Family) (rs : List Route) → ((r : Route) → In r rs → IsBlock r.block) → sum_by (weight (whole f)) rs ≤ lengths_in f rs
+family_weight : (f : Family) (rs : List Route) → ((r : Route) → In r rs → IsBlock r.block) → sum_by (weight (family_block f)) rs ≤ lengths_in f rs
 family_weight f [] k = omega arith
 family_weight f (r ∷ rs) k =
-    let c = sum_by-cons (weight (whole f)) r rs in
+    let c = sum_by-cons (weight (family_block f)) r rs in
     let i = family_weight f rs (λ s j. k s (inr j)) in
     go (same_family r.block.family f) refl i c
   where
-    at_most : (b : Bool) → is_strict (whole f) r ≡ b → weight (whole f) r ≤ r.block.len
-    at_most true e = let w = weight_on (whole f) r e in omega arith
-    at_most false e = let w = weight_off (whole f) r e in omega arith
+    at_most : (b : Bool) → is_strict (family_block f) r ≡ b → weight (family_block f) r ≤ r.block.len
+    at_most true e = let w = weight_on (family_block f) r e in omega arith
+    at_most false e = let w = weight_off (family_block f) r e in omega arith
 
     itself : (g : Family) → same_family g g ≡ true
     itself Ipv4 = refl
     itself Ipv6 = refl
 
-    inside : is_strict (whole f) r ≡ true → same_family r.block.family f ≡ true
-    inside e = let p = strict_parts (whole f) r (whole_is_block f) (k r (inl refl)) e in ap (λ g. same_family r.block.family g) (sym (p.0 (first_of r.block) (has_first r.block)).0) ∙ itself r.block.family
+    inside : is_strict (family_block f) r ≡ true → same_family r.block.family f ≡ true
+    inside e = let p = strict_parts (family_block f) r (whole_is_block f) (k r (inl refl)) e in ap (λ g. same_family r.block.family g) (sym (p.0 (first_of r.block) (has_first r.block)).0) ∙ itself r.block.family
 
-    out : same_family r.block.family f ≡ false → (b : Bool) → is_strict (whole f) r ≡ b → weight (whole f) r ≡ 0
+    out : same_family r.block.family f ≡ false → (b : Bool) → is_strict (family_block f) r ≡ b → weight (family_block f) r ≡ 0
     out e true s = absurd (let z : true ≡ false = sym (inside s) ∙ e in cc)
-    out e false s = weight_off (whole f) r s
+    out e false s = weight_off (family_block f) r s
 
-    go : (b : Bool) → same_family r.block.family f ≡ b → sum_by (weight (whole f)) rs ≤ lengths_in f rs → sum_by (weight (whole f)) (r ∷ rs) ≡ weight (whole f) r + sum_by (weight (whole f)) rs
-        → sum_by (weight (whole f)) (r ∷ rs) ≤ sum_by (λ r. r.block.len) (cond (same_family r.block.family f) (r ∷ filter (λ r. same_family r.block.family f) rs) (filter (λ r. same_family r.block.family f) rs))
+    go : (b : Bool) → same_family r.block.family f ≡ b → sum_by (weight (family_block f)) rs ≤ lengths_in f rs → sum_by (weight (family_block f)) (r ∷ rs) ≡ weight (family_block f) r + sum_by (weight (family_block f)) rs
+        → sum_by (weight (family_block f)) (r ∷ rs) ≤ sum_by (λ r. r.block.len) (cond (same_family r.block.family f) (r ∷ filter (λ r. same_family r.block.family f) rs) (filter (λ r. same_family r.block.family f) rs))
     go true e i c =
         let s = ap (λ b. sum_by (λ (r : Route). r.block.len) (cond b (r ∷ filter (λ r. same_family r.block.family f) rs) (filter (λ r. same_family r.block.family f) rs))) e in
         let d = sum_by-cons (λ (r : Route). r.block.len) r (filter (λ r. same_family r.block.family f) rs) in
-        let w = at_most (is_strict (whole f) r) refl in
+        let w = at_most (is_strict (family_block f) r) refl in
         omega arith
     go false e i c =
         let s = ap (λ b. sum_by (λ (r : Route). r.block.len) (cond b (r ∷ filter (λ r. same_family r.block.family f) rs) (filter (λ r. same_family r.block.family f) rs))) e in
-        let w = out e (is_strict (whole f) r) refl in
+        let w = out e (is_strict (family_block f) r) refl in
         omega arith
 
 module _ (M : List Route) (table : IsTable M) where
-  in_family : (f : Family) → length (flat_in (hop_at M) (width f) (whole f)) ≤ 1 + lengths_in f M
-  in_family f = let a = few M table (width f) (whole f) (whole_is_block f) (all_free f) in let b = family_weight f M (block_in M table) in omega arith
+  in_family : (f : Family) → length (flat_in (hop_at M) (width f) (family_block f)) ≤ 1 + lengths_in f M
+  in_family f = let a = few M table (width f) (family_block f) (whole_is_block f) (all_free f) in let b = family_weight f M (block_in M table) in omega arith
     where
-      all_free : (f : Family) → free_bits (whole f) ≡ width f
+      all_free : (f : Family) → free_bits (family_block f) ≡ width f
       all_free f = omega arith
 
   pub searched_bound : (f : Family) → length (pieces_in f (flat_of (hop_at M))) ≤ 1 + lengths_in f M
   unfolding flat_of
   searched_bound Ipv4 =
       let h = hop_at M in
-      let a = filter-append (of Ipv4) (flat_in h (width Ipv4) (whole Ipv4)) (flat_in h (width Ipv6) (whole Ipv6)) in
-      let b = keeps_none Ipv4 (flat_in h (width Ipv6) (whole Ipv6)) (λ p i. ap (λ g. same_family g Ipv4) (of_family h (width Ipv6) (whole Ipv6) p i)) in
-      let c = ap length (a ∙ ap (λ ps. filter (of Ipv4) (flat_in h (width Ipv4) (whole Ipv4)) ++ ps) b) in
-      let d = length-append (filter (of Ipv4) (flat_in h (width Ipv4) (whole Ipv4))) [] in
-      let e = shorter Ipv4 (flat_in h (width Ipv4) (whole Ipv4)) in
+      let a = filter-append (of Ipv4) (flat_in h (width Ipv4) (family_block Ipv4)) (flat_in h (width Ipv6) (family_block Ipv6)) in
+      let b = keeps_none Ipv4 (flat_in h (width Ipv6) (family_block Ipv6)) (λ p i. ap (λ g. same_family g Ipv4) (of_family h (width Ipv6) (family_block Ipv6) p i)) in
+      let c = ap length (a ∙ ap (λ ps. filter (of Ipv4) (flat_in h (width Ipv4) (family_block Ipv4)) ++ ps) b) in
+      let d = length-append (filter (of Ipv4) (flat_in h (width Ipv4) (family_block Ipv4))) [] in
+      let e = shorter Ipv4 (flat_in h (width Ipv4) (family_block Ipv4)) in
       let g = in_family Ipv4 in
       omega arith
   searched_bound Ipv6 =
       let h = hop_at M in
-      let a = filter-append (of Ipv6) (flat_in h (width Ipv4) (whole Ipv4)) (flat_in h (width Ipv6) (whole Ipv6)) in
-      let b = keeps_none Ipv6 (flat_in h (width Ipv4) (whole Ipv4)) (λ p i. ap (λ g. same_family g Ipv6) (of_family h (width Ipv4) (whole Ipv4) p i)) in
-      let c = ap length (a ∙ ap (λ ps. ps ++ filter (of Ipv6) (flat_in h (width Ipv6) (whole Ipv6))) b) in
-      let e = shorter Ipv6 (flat_in h (width Ipv6) (whole Ipv6)) in
+      let a = filter-append (of Ipv6) (flat_in h (width Ipv4) (family_block Ipv4)) (flat_in h (width Ipv6) (family_block Ipv6)) in
+      let b = keeps_none Ipv6 (flat_in h (width Ipv4) (family_block Ipv4)) (λ p i. ap (λ g. same_family g Ipv6) (of_family h (width Ipv4) (family_block Ipv4) p i)) in
+      let c = ap length (a ∙ ap (λ ps. ps ++ filter (of Ipv6) (flat_in h (width Ipv6) (family_block Ipv6))) b) in
+      let e = shorter Ipv6 (flat_in h (width Ipv6) (family_block Ipv6)) in
       let g = in_family Ipv6 in
       omega arith
 

@@ -9,16 +9,15 @@ use Rattle.ipnet_addr.proofs.Ascending.{In-from_Contains, Contains-from_In, In-f
 use Rattle.ipnet_blocks.specs.Blocks.{Block, IsBefore, first, first_of}
 use Rattle.ipnet_blocks.specs.Cuts.{cut}
 use Rattle.ipnet_blocks.specs.Maximal.{IsMaximal, IsMaximalBlock}
-use Rattle.ipnet_blocks.specs.Spans.{IsIn, limits_of}
+use Rattle.ipnet_blocks.specs.InnerSpans.{IsIn, limits_of}
 use Rattle.ipnet_blocks.specs.declared.aggregate.Span.{Span}
 use Rattle.ipnet_blocks.proofs.Aggregates.{InSpans, cuts_are_maximal}
 use Rattle.ipnet_blocks.proofs.BlockLaws.{has_first}
 use Rattle.ipnet_blocks.proofs.Lists.{rising_append}
 use Rattle.ipnet_blocks.proofs.Unions.{IsFarBefore, maximal_join, maximal_same}
 use Rattle.route_table.specs.Flats.{Piece, IsFlat, blocks_of, flat_of}
-use Rattle.route_table.specs.Flattening.{piece_of}
-use Rattle.route_table.proofs.Flats.{Sooner, In-map, In-map_back, same_flat}
-use Rattle.route_table.proofs.Flats.{maximal_same as block_same}
+use Rattle.route_table.specs.InnerFlattening.{piece_of}
+use Rattle.route_table.proofs.Flats.{Sooner, In-map, In-map_back, same_flat, maximal_same as block_same}
 use Rattle.route_table.proofs.Paints.{none_some}
 use Rattle.route_table.proofs.FlatSearch.{search_is_flat}
 use Rattle.route_table.proofs.Matches.{In-filter, In-from_filter}

@@ -2,7 +2,7 @@
 use Rattle.std.proofs.Common.{◌≡◌, ◌==◌, ℕ, zero, suc, ◌+◌, ◌-◌, ◌*◌, ◌/◌, ◌<◌, ◌⊎◌, inl, inr, ⊎_elim, Bool, true, false, cond, List, [], ◌∷◌, ◌++◌, Option, Some, None, refl, sym, ap, ◌∙◌, subst, arith}
 use Rattle.std.proofs.lemmas.Bool.Decides.{nat_tests}
 use Rattle.ipnet_addr.specs.Addresses.{Family, Ipv4, Ipv6, width, rank, Address}
-use Rattle.ipnet_blocks.specs.Blocks.{Block, IsBlock, free_bits, HasAddress, IsInside, IsLarger, first_of, whole, left, right, parent}
+use Rattle.ipnet_blocks.specs.Blocks.{Block, IsBlock, free_bits, HasAddress, IsInside, IsLarger, first_of, family_block, left, right, parent}
 use Rattle.ipnet_blocks.specs.Maximal.{IsMaximalBlock}
 use Rattle.ipnet_addr.proofs.Members.{In, In-left, In-right, In-cases}
 use Rattle.ipnet_addr.proofs.Ascending.{In-from_Contains, Contains-from_In, Rising, pairs_from_Rising}
@@ -167,28 +167,28 @@ module _ (h : Address → Option ℕ) where
       (rising k (left t) (left_is_block t ok r) (omega arith)) (rising k (right t) (right_is_block t ok r) (omega arith))
       (λ x y i j. halves_in_order t x.block y.block (located k (left t) (left_is_block t ok r) (omega arith) x i) (located k (right t) (right_is_block t ok r) (omega arith) y j)))
 
-  none_whole : (f : Family) → NoLarger (whole f)
-  none_whole f c w l = let s = larger_is_shorter c (whole f) w.block (whole_is_block f) l in omega arith
+  none_whole : (f : Family) → NoLarger (family_block f)
+  none_whole f c w l = let s = larger_is_shorter c (family_block f) w.block (whole_is_block f) l in omega arith
 
   four : List Piece
-  four = flat_in h (width Ipv4) (whole Ipv4)
+  four = flat_in h (width Ipv4) (family_block Ipv4)
 
   six : List Piece
-  six = flat_in h (width Ipv6) (whole Ipv6)
+  six = flat_in h (width Ipv6) (family_block Ipv6)
 
   by_family : (p : Piece) → IsMaximalBlock (λ x. h x ≡ Some p.number) p.block → (f : Family) → Block.family p.block ≡ f → In p (four ++ six)
   unfolding four six
-  by_family p m Ipv4 e = In-left p (flat_in h (width Ipv4) (whole Ipv4)) (flat_in h (width Ipv6) (whole Ipv6)) (complete (width Ipv4) (whole Ipv4) (whole_is_block Ipv4) refl p m (inside_whole p.block Ipv4 m.within.block e))
-  by_family p m Ipv6 e = In-right p (flat_in h (width Ipv4) (whole Ipv4)) (flat_in h (width Ipv6) (whole Ipv6)) (complete (width Ipv6) (whole Ipv6) (whole_is_block Ipv6) refl p m (inside_whole p.block Ipv6 m.within.block e))
+  by_family p m Ipv4 e = In-left p (flat_in h (width Ipv4) (family_block Ipv4)) (flat_in h (width Ipv6) (family_block Ipv6)) (complete (width Ipv4) (family_block Ipv4) (whole_is_block Ipv4) refl p m (inside_whole p.block Ipv4 m.within.block e))
+  by_family p m Ipv6 e = In-right p (flat_in h (width Ipv4) (family_block Ipv4)) (flat_in h (width Ipv6) (family_block Ipv6)) (complete (width Ipv6) (family_block Ipv6) (whole_is_block Ipv6) refl p m (inside_whole p.block Ipv6 m.within.block e))
 
   pub search_is_flat : IsFlat h (flat_of h)
   unfolding flat_of four six
   search_is_flat = record {
-    ascending = pairs_from_Rising Sooner (four ++ six) (Rising-append four six (rising (width Ipv4) (whole Ipv4) (whole_is_block Ipv4) refl) (rising (width Ipv6) (whole Ipv6) (whole_is_block Ipv6) refl)
-        (λ x y i j. inl (let a = ap rank (located (width Ipv4) (whole Ipv4) (whole_is_block Ipv4) refl x i (first_of x.block) (has_first x.block)).0 in
-        let b = ap rank (located (width Ipv6) (whole Ipv6) (whole_is_block Ipv6) refl y j (first_of y.block) (has_first y.block)).0 in omega arith)));
+    ascending = pairs_from_Rising Sooner (four ++ six) (Rising-append four six (rising (width Ipv4) (family_block Ipv4) (whole_is_block Ipv4) refl) (rising (width Ipv6) (family_block Ipv6) (whole_is_block Ipv6) refl)
+        (λ x y i j. inl (let a = ap rank (located (width Ipv4) (family_block Ipv4) (whole_is_block Ipv4) refl x i (first_of x.block) (has_first x.block)).0 in
+        let b = ap rank (located (width Ipv6) (family_block Ipv6) (whole_is_block Ipv6) refl y j (first_of y.block) (has_first y.block)).0 in omega arith)));
     exact = λ p. (
-      (λ i. ⊎_elim (sound (width Ipv4) (whole Ipv4) (whole_is_block Ipv4) refl (none_whole Ipv4) p) (sound (width Ipv6) (whole Ipv6) (whole_is_block Ipv6) refl (none_whole Ipv6) p)
+      (λ i. ⊎_elim (sound (width Ipv4) (family_block Ipv4) (whole_is_block Ipv4) refl (none_whole Ipv4) p) (sound (width Ipv6) (family_block Ipv6) (whole_is_block Ipv6) refl (none_whole Ipv6) p)
           (In-cases p four six (In-from_Contains (four ++ six) p i))),
       (λ m. Contains-from_In (four ++ six) p (by_family p m (Block.family p.block) refl)),
     );

@@ -3,34 +3,29 @@ use Rattle.std.proofs.Common.{◌≡◌, ℕ, ◌^◌, ◌<◌, ◌≤◌, ◌�
 use Rattle.std.proofs.lemmas.Bool.{cases_lt}
 use Rattle.ipnet_addr.specs.Addresses.{Family, Ipv4, Ipv6, width, rank, Address}
 use Rattle.ipnet_blocks.specs.Cuts.{cut}
-use Rattle.ipnet_blocks.specs.Spans.{limits_of}
-use Rattle.ipnet.specs.IpNets.{family}
+use Rattle.ipnet_blocks.specs.InnerSpans.{limits_of}
+use Rattle.ipnet.specs.IpNets.{family, network_at}
 use Rattle.ipnet.specs.IpSubnets.{ip_cut, ip_limits}
 use Rattle.ipnet.specs.declared.subnets.IpSubnets.{IpSubnets}
 use Rattle.ipnet.specs.IpNets.{block}
 use Rattle.ipnet.specs.IpSubnets.{ip_subnets}
 use Rattle.ipnet.specs.declared.ip_net.IpNet.{IpNet}
-use Rattle.std.specs.FinMap.{entries}
 use Rattle.ipnet_addr.specs.Addresses.{IsAddress}
 use Rattle.ipnet_addr.proofs.Members.{In, In-left, In-right, In-cases}
 use Rattle.ipnet_addr.proofs.Ascending.{In-from_All, All-from_In, Rising-from_pairs, pairs_from_Rising}
 use Rattle.ipnet_blocks.specs.Blocks.{Block, IsBlock}
 use Rattle.ipnet_blocks.proofs.Lists.{rising_front}
 use Rattle.route_table.specs.Tables.{Route, IsTable, IsHop, hop_at}
-use Rattle.route_table.specs.Stored.{Maps, AreStored, network_at, route_at, table_of}
-use Rattle.route_table.specs.Items.{KeysUpTo}
-use Rattle.route_table.specs.declared.hop.Hop.{Hop}
 use Rattle.route_table.specs.declared.flat.Pieces.{Pieces}
 use Rattle.route_table.specs.Flats.{Piece, IsFlat, flat_of}
-use Rattle.route_table.specs.Flattening.{piece_of, pieces_of, pieces_left, hops_in, hops_of, AreBoth}
-use Rattle.route_table.specs.Running.{IsFirstRun, hops_left, painted, reach_of}
+use Rattle.route_table.specs.InnerFlattening.{piece_of, pieces_of, pieces_left, hops_in, hops_of, AreBoth}
+use Rattle.route_table.specs.InnerRunning.{IsFirstRun, hops_left, painted, reach_of}
 use Rattle.route_table.specs.declared.flat.BothRuns.{BothRuns}
 use Rattle.route_table.specs.declared.runs.Run.{Run}
 use Rattle.route_table.specs.declared.runs.Runs.{Runs}
 use Rattle.route_table.proofs.FlatRuns.{IsFirstSpan, IsPastSpan, first_then_rest, flat_of_same, no_pieces}
 use Rattle.route_table.proofs.Paints.{none_some}
 use Rattle.route_table.proofs.Painted.{painted_is}
-use Rattle.route_table.proofs.Entries.{get_of}
 use Rattle.route_table.proofs.Openings.{rising_back}
 use Rattle.route_table.proofs.Updates.{Sooner}
 use Rattle.route_table.proofs.Gaps.{blocks_given, some_cut, cut_of_limits}
@@ -102,9 +97,9 @@ no_blocks : (k : ℕ) (bs : List Block) → map (piece_of k) bs ≡ [] → bs �
 no_blocks k [] e = refl
 no_blocks k (b ∷ bs) e = let l = ap length e in absurd (omega arith)
 
-module _ (f : Family) (r : Run) (s : IpSubnets) (g : Family) (same : g ≡ f) (is : s ≡ ip_limits g (limits_of r.span)) (some : r.span.first ≤ r.span.last) where
+module _ (f : Family) (r : Run) (s : IpSubnets) (is : s ≡ ip_limits f (limits_of r.span)) (some : r.span.first ≤ r.span.last) where
   blocks_are : ip_cut s ≡ cut f (limits_of r.span)
-  blocks_are = ap ip_cut (is ∙ ap (λ e. ip_limits e (limits_of r.span)) same) ∙ cut_of_limits f (limits_of r.span)
+  blocks_are = ap ip_cut is ∙ cut_of_limits f (limits_of r.span)
 
   pieces_some : map (piece_of r.number) (ip_cut s) ≡ [] → ⊥
   pieces_some e = some_cut f (limits_of r.span) some (sym blocks_are ∙ no_blocks r.number (ip_cut s) e)
@@ -115,23 +110,21 @@ module _ (f : Family) (r : Run) (s : IpSubnets) (g : Family) (same : g ≡ f) (i
 -- ---- the next run of both families
 
 module _ (w : BothRuns) (a : AreBoth w) (v : Runs) (r : Run) (s : IpSubnets) where
-  pub next_ipv4 : v.net ≡ w.v4.net → IsFirstRun (hops_left w.v4) r (hops_left v) × (r.span.last ≤ w.v4.end) → s ≡ ip_limits (family v.net) (limits_of r.span)
+  pub next_ipv4 : IsFirstRun (hops_left w.v4) r (hops_left v) × (r.span.last ≤ w.v4.end) → s ≡ ip_limits Ipv4 (limits_of r.span)
       → (flat_of (hops_of w) ≡ map (piece_of r.number) (ip_cut s) ++ flat_of (hops_of (record { v4 = v; v6 = w.v6 }))) × (map (piece_of r.number) (ip_cut s) ≡ [] → ⊥)
-  next_ipv4 n is e =
-      let p = ap (λ f. 2 ^ width f) a.ipv4 in
-      let q = a.v4.fits in
+  next_ipv4 is e =
+      let q = a.ipv4 in
       let l = is.1 in
-      given_from Ipv4 r s (family v.net) (ap family n ∙ a.ipv4) e is.0.some _ _
+      given_from Ipv4 r s e is.0.some _ _
       (first_then_rest Ipv4 r.span r.number (hops_of w) (hops_of (record { v4 = v; v6 = w.v6 })) (first_of_ipv4 (hops_left w.v4) (hops_left w.v6) (hops_left v) r is.0 (omega arith)))
 
-  pub next_ipv6 : (u : Runs) → ((x : ℕ) → hops_left w.v4 x ≡ None) × ((x : ℕ) → hops_left u x ≡ None) → v.net ≡ w.v6.net → IsFirstRun (hops_left w.v6) r (hops_left v) × (r.span.last ≤ w.v6.end) → s ≡ ip_limits (family v.net) (limits_of r.span)
+  pub next_ipv6 : (u : Runs) → ((x : ℕ) → hops_left w.v4 x ≡ None) × ((x : ℕ) → hops_left u x ≡ None) → IsFirstRun (hops_left w.v6) r (hops_left v) × (r.span.last ≤ w.v6.end) → s ≡ ip_limits Ipv6 (limits_of r.span)
       → (flat_of (hops_of w) ≡ map (piece_of r.number) (ip_cut s) ++ flat_of (hops_of (record { v4 = u; v6 = v }))) × (map (piece_of r.number) (ip_cut s) ≡ [] → ⊥)
-  next_ipv6 u none n is e =
-      let p = ap (λ f. 2 ^ width f) a.ipv6 in
-      let q = a.v6.fits in
+  next_ipv6 u none is e =
+      let q = a.ipv6 in
       let l = is.1 in
       let same : hops_left u ≡ hops_left w.v4 = λ i x. (none.1 x ∙ sym (none.0 x)) i in
-      given_from Ipv6 r s (family v.net) (ap family n ∙ a.ipv6) e is.0.some _ _
+      given_from Ipv6 r s e is.0.some _ _
       (first_then_rest Ipv6 r.span r.number (hops_of w) (λ x. hops_in (hops_left w.v4) (hops_left v) x.family x.number) (first_of_ipv6 (hops_left w.v6) (hops_left w.v4) (hops_left v) r is.0 none.0 (omega arith))
       ∙ ap (λ h. map (piece_of r.number) (cut Ipv6 (limits_of r.span)) ++ flat_of (λ x. hops_in h (hops_left v) x.family x.number)) (sym same))
 
@@ -175,20 +168,3 @@ module _ (rs ss : List Route) (table : IsTable (rs ++ ss)) (ipv4 : OfFamily Ipv4
 
   pub whole_flat : (p : Pieces) (w : BothRuns) → pieces_of p ≡ [] → ((x : ℕ) → hops_left w.v4 x ≡ painted None (map reach_of rs) x) → ((x : ℕ) → hops_left w.v6 x ≡ painted None (map reach_of ss) x) → IsFlat (hop_at (rs ++ ss)) (pieces_left p w)
   whole_flat p w none h g = subst (IsFlat (hop_at (rs ++ ss))) (ap (λ ps. ps ++ flat_of (hops_of w)) (sym none)) (flat_of_same (hops_of w) (hop_at (rs ++ ss)) (both_paint (hops_left w.v4) (hops_left w.v6) h g))
-
--- ---- the routes of both families
-
-module _ (M : Maps) (ok : AreStored M) where
-  pub all_keys : (f : Family) (es : List (List Bool × Hop)) → es ≡ entries (M f) → KeysUpTo (width f) es
-  all_keys f es e = All-from_In (λ (d : List Bool × Hop). length d.0 ≤ width f) es (λ d i. ok.within f d.0 d.1 (get_of (M f) d.0 d.1 (subst (λ xs. In d xs) e i)))
-
-pub of_family : (f : Family) (es : List (List Bool × Hop)) (rs : List Route) → rs ≡ map (route_at f) es → All (λ (r : Route). r.block.family ≡ f) rs
-of_family f es rs e = subst (λ ss. All (λ (r : Route). r.block.family ≡ f) ss) (sym e) (All-from_In (λ (r : Route). r.block.family ≡ f) (map (route_at f) es) (go es))
-  where
-    go : (es : List (List Bool × Hop)) (r : Route) → In r (map (route_at f) es) → r.block.family ≡ f
-    go [] r i = absurd i
-    go (d ∷ es) r i = ⊎_elim (λ (q : r ≡ route_at f d). ap (λ (s : Route). s.block.family) q) (λ j. go es r j) i
-
-pub both_routes : (M : Maps) (rs ss : List Route) (ds es : List (List Bool × Hop)) → rs ≡ map (route_at Ipv4) ds → ss ≡ map (route_at Ipv6) es → ds ≡ entries (M Ipv4) → es ≡ entries (M Ipv6) → rs ++ ss ≡ table_of M
-unfolding table_of
-both_routes M rs ss ds es p q d e = λ i. (p ∙ ap (map (route_at Ipv4)) d) i ++ (q ∙ ap (map (route_at Ipv6)) e) i

@@ -8,20 +8,19 @@ use Rattle.ipnet_addr.proofs.Members.{In}
 use Rattle.ipnet_addr.proofs.Ascending.{In-from_All, All-from_In}
 use Rattle.ipnet_blocks.specs.Blocks.{Block, first, last}
 use Rattle.ipnet_blocks.specs.Networks.{Network, block_of, net_of}
-use Rattle.ipnet_blocks.specs.Cuts.{Limits, block_at, cut_within, cut, first_free}
-use Rattle.ipnet_blocks.specs.Spans.{limits_of}
+use Rattle.ipnet_blocks.specs.Cuts.{Limits, block_from, cut_within, cut, first_free}
+use Rattle.ipnet_blocks.specs.InnerSpans.{limits_of}
 use Rattle.ipnet_blocks.specs.declared.aggregate.Span.{Span}
 use Rattle.ipnet_blocks.proofs.NetworkBlocks.{block_round_trip}
-use Rattle.ipnet.specs.IpNets.{block, family, parts, net_in}
+use Rattle.ipnet.specs.IpNets.{block, family, parts, net_in, network_at}
 use Rattle.ipnet.specs.IpSubnets.{ip_cut, ip_limits, ip_subnets}
 use Rattle.ipnet.specs.declared.ip_net.IpNet.{IpNet}
 use Rattle.ipnet.specs.declared.ip_net.IpNet.TheVariants as net
 use Rattle.ipnet.specs.declared.subnets.IpSubnets.{IpSubnets}
 use Rattle.ipnet.specs.declared.subnets.IpSubnets.TheVariants.{V4, V6}
 use Rattle.route_table.specs.Tables.{Route}
-use Rattle.route_table.specs.Stored.{network_at}
 use Rattle.route_table.specs.Items.{GivesBlock}
-use Rattle.route_table.specs.Governing.{AreGaps, GivesGap, IsPassed, gap_before, gaps, gaps_left, blocks_of_spans, blocks_left}
+use Rattle.route_table.specs.InnerGoverning.{AreGaps, GivesGap, IsPassed, gap_before, gaps, gaps_left, blocks_of_spans, blocks_left}
 use Rattle.route_table.specs.declared.governed.Gaps.{Gaps}
 
 -- ---- past a route
@@ -90,8 +89,8 @@ within_networks (suc n) l = (
 )
   where
     go : (f : Family) (v : Network → IpNet) → ((m : Network) → v m ≡ net_in f m) → (b : Bool) (rest : List Block) → map v (map net_of rest) ≡ map network_at rest
-        → map v (map net_of (cond b (block_at f l.start (first_free (width f) l) ∷ rest) [])) ≡ map network_at (cond b (block_at f l.start (first_free (width f) l) ∷ rest) [])
-    go f v h true rest e = let p = h (net_of (block_at f l.start (first_free (width f) l))) in λ i. p i ∷ e i
+        → map v (map net_of (cond b (block_from f l.start (first_free (width f) l) ∷ rest) [])) ≡ map network_at (cond b (block_from f l.start (first_free (width f) l) ∷ rest) [])
+    go f v h true rest e = let p = h (net_of (block_from f l.start (first_free (width f) l))) in λ i. p i ∷ e i
     go f v h false rest e = refl
 
 networks_are : (s : IpSubnets) → ip_subnets s ≡ map network_at (ip_cut s)
@@ -113,17 +112,13 @@ module _ (s t : IpSubnets) where
       head : {ms ns : List IpNet} (m n : IpNet) → m ∷ ms ≡ n ∷ ns → m ≡ n
       head m n e = cc
 
-pub no_cut : (f : Family) (l : Limits) → l.end < l.start → cut f l ≡ []
-unfolding cut_within
-no_cut f l h = let z : l.end + 1 - l.start ≡ 0 = omega arith in ap (λ n. cut_within n f l) z
-
 pub some_cut : (f : Family) (l : Limits) → l.start ≤ l.end → cut f l ≡ [] → ⊥
 unfolding cut_within
 some_cut f l h e = go (l.end + 1 - l.start) refl (e)
   where
     go : (n : ℕ) → l.end + 1 - l.start ≡ n → cut_within n f l ≡ [] → ⊥
     go zero z q = omega arith
-    go (suc n) z q = let t = le-leb _ _ h in let c = sym (ap (λ b. cond b (block_at f l.start (first_free (width f) l) ∷ cut_within n f (record l { start = l.start + 2 ^ first_free (width f) l })) []) t) ∙ q in cc
+    go (suc n) z q = let t = le-leb _ _ h in let c = sym (ap (λ b. cond b (block_from f l.start (first_free (width f) l) ∷ cut_within n f (record l { start = l.start + 2 ^ first_free (width f) l })) []) t) ∙ q in cc
 
 pub cut_of_limits : (f : Family) (l : Limits) → ip_cut (ip_limits f l) ≡ cut f l
 cut_of_limits Ipv4 l = refl

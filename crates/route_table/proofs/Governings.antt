@@ -7,7 +7,7 @@ use Rattle.ipnet_addr.proofs.Members.{In}
 use Rattle.ipnet_addr.proofs.Ascending.{All-from_In, In-from_Any, Any-from_In, In-from_Contains, Contains-from_In, Rising, Rising-from_pairs}
 use Rattle.ipnet_blocks.specs.Blocks.{Block, IsBlock, IsInside, is_inside, first, last}
 use Rattle.ipnet_blocks.specs.Maximal.{IsMaximal}
-use Rattle.ipnet_blocks.specs.Spans.{IsIn, IsApart}
+use Rattle.ipnet_blocks.specs.InnerSpans.{IsIn, IsApart}
 use Rattle.ipnet_blocks.specs.declared.aggregate.Span.{Span}
 use Rattle.ipnet_blocks.proofs.Aggregates.{InSpans, cuts_are_maximal}
 use Rattle.ipnet_blocks.proofs.BlockLaws.{longer_inside, numbers_from_inside}
@@ -15,8 +15,8 @@ use Rattle.ipnet_blocks.proofs.Maximals.{member_is_address}
 use Rattle.ipnet_blocks.proofs.Netmasks.{block_is_interval}
 use Rattle.ipnet_blocks.proofs.Parents.{larger_is_shorter}
 use Rattle.ipnet_blocks.proofs.Unions.{maximal_same}
-use Rattle.route_table.specs.Tables.{Route, IsTable, Governed}
-use Rattle.route_table.specs.Governing.{routes_inside, gap_before, gaps, blocks_of_spans}
+use Rattle.route_table.specs.Tables.{Route, IsTable, Governed, routes_inside}
+use Rattle.route_table.specs.InnerGoverning.{gap_before, gaps, blocks_of_spans}
 use Rattle.route_table.proofs.Matches.{In-from_filter, In-filter, block_in, inside_from_test, test_from_inside}
 use Rattle.route_table.proofs.Updates.{Sooner, Rising-filter}
 

@@ -17,7 +17,7 @@ pub mod Parts
 pub mod Gaps
 pub mod Governings
 pub mod Alterations
-pub mod Onwards
+pub mod Sides
 pub mod Overwritten
 pub mod Emptied
 pub mod Halves
@@ -32,3 +32,5 @@ pub mod Flattenings
 pub mod Owned
 pub mod FlatBounds
 pub mod Rebuilds
+pub mod Held
+pub mod OneRoute

@@ -6,7 +6,7 @@ use Rattle.ipnet_addr.proofs.Members.{In, In-left, In-right, In-cases}
 use Rattle.ipnet_addr.proofs.Ascending.{In-from_All, All-from_In, Rising, Rising-from_pairs, pairs_from_Rising}
 use Rattle.ipnet_blocks.proofs.Lists.{rising_append, rising_cross, rising_front}
 use Rattle.route_table.specs.declared.runs.Reach.{Reach}
-use Rattle.route_table.specs.Running.{painted, innermost, from_on, Follows, IsOpen, IsComing, ArePlaced}
+use Rattle.route_table.specs.InnerRunning.{painted, innermost, from_on, Follows, IsOpen, IsComing, ArePlaced}
 use Rattle.route_table.proofs.Paints.{lies, lies_before, lies_after, IsSpanOf}
 
 -- ---- what is painted

@@ -8,16 +8,11 @@ use Rattle.ipnet_blocks.proofs.BlockLaws.{block_path, nested, numbers_from_insid
 use Rattle.ipnet_blocks.proofs.BlockTests.{has_from_test, test_from_has}
 use Rattle.ipnet_blocks.proofs.Maximals.{host_is_block, has_host}
 use Rattle.ipnet_blocks.proofs.Search.{left_is_block, right_is_block, left_inside, right_inside, in_a_half}
-use Rattle.ipnet_blocks.specs.Networks.{IsNetwork}
-use Rattle.ipnet_blocks.proofs.NetworkBlocks.{block_is}
-use Rattle.ipnet.specs.IpNets.{block, family, parts}
+use Rattle.ipnet.specs.IpNets.{block}
 use Rattle.ipnet.specs.declared.ip_net.IpNet.{IpNet}
 use Rattle.route_table.specs.Overwritten.{without_inside, overwritten}
-use Rattle.route_table.specs.Stored.{network_at, route_of}
-use Rattle.route_table.specs.declared.hop.Hop.{Hop}
 use Rattle.route_table.specs.Tables.{Route, IsTable, IsHop, match_of, match_number, number_of, hop_at, with_route}
 use Rattle.route_table.proofs.Alterations.{host_inside, match_is, no_matches}
-use Rattle.route_table.proofs.Gaps.{of_network_at}
 use Rattle.route_table.proofs.Matches.{In-from_filter, In-filter, block_in, match_meets, inside_from_test, test_from_inside}
 use Rattle.route_table.proofs.Updates.{Sooner, Rising-filter, added_back, added_itself, added_other, added_is_table}
 
@@ -163,29 +158,8 @@ module _ (M : List Route) (m : IsTable M) (r : Route) (ok : IsBlock r.block) (ho
         (λ l. out (λ x k. left_inside r.block ok h x (l x k)))
         (λ l. out (λ x k. right_inside r.block ok h x (l x k))))
 
--- ---- the same of a network and its truncated one, as the call makes it
-
-pub truncated : (n t : IpNet) → t ≡ network_at (block n) → block t ≡ block n
-truncated n t e = ap block e ∙ of_network_at (block n)
-
-module _ (M : List Route) (m : IsTable M) (n : IpNet) (is : IsNetwork (family n) (parts n)) (k : Hop) (hop : IsHop k) where
-  okn : IsBlock (block n)
-  okn = block_is (family n) (parts n) is
-
-  module _ (t : IpNet) (e : t ≡ network_at (block n)) (S : List Route) (s : S ≡ with_route M (route_of t k)) where
-    abbrev replaced : Block → List Route
-    replaced b = overwritten M (record { block = b; hop = k })
-
-    okt : IsBlock (block t)
-    okt = subst IsBlock (sym (truncated n t e)) okn
-
-    pub host_overwritten : free_bits (block t) ≡ 0 → S ≡ overwritten M (route_of n k)
-    host_overwritten h = s ∙ over_host M m (route_of t k) okt hop h ∙ ap replaced (truncated n t e)
-
-    pub halves_overwritten : 0 < free_bits (block t) → (l u : IpNet) → block l ≡ left (block t) → block u ≡ right (block t) → (L U : List Route) → L ≡ without_inside S (block l) → U ≡ without_inside L (block u) → U ≡ overwritten M (route_of n k)
-    halves_overwritten h l u el eu L U q p =
-        p ∙ ap (without_inside L) eu ∙ ap (λ T. without_inside T (right (block t))) (q ∙ ap (without_inside S) el ∙ ap (λ T. without_inside T (left (block t))) s)
-        ∙ over_halves M m (route_of t k) okt hop h ∙ ap replaced (truncated n t e)
-
-  pub hops_after : (N : List Route) → N ≡ overwritten M (route_of n k) → (x : Address) → IsAddress x → hop_at N x ≡ cond (has_address (block n) x) (number_of k) (hop_at M x)
-  hops_after N q x a = ap (λ T. hop_at T x) q ∙ over_hops M m (route_of n k) okn hop x a
+  -- the same, as the call makes it
+  pub halves_overwritten : 0 < free_bits r.block → (l u : IpNet) → block l ≡ left r.block → block u ≡ right r.block → (S L U : List Route) → S ≡ with_route M r → L ≡ without_inside S (block l) → U ≡ without_inside L (block u) → U ≡ overwritten M r
+  halves_overwritten h l u el eu S L U s q p =
+      p ∙ ap (without_inside L) eu ∙ ap (λ T. without_inside T (right r.block)) (q ∙ ap (without_inside S) el ∙ ap (λ T. without_inside T (left r.block)) s)
+      ∙ over_halves h

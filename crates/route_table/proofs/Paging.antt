@@ -7,7 +7,8 @@ use Rattle.ipnet_addr.specs.Addresses.{Family, same_family, rank}
 use Rattle.ipnet_addr.proofs.Members.{In, In-right, In-cases}
 use Rattle.ipnet_addr.proofs.Ascending.{Rising, Rising-from_pairs, same_rising}
 use Rattle.ipnet_blocks.specs.Blocks.{Block, is_before}
-use Rattle.ipnet_blocks.proofs.BlockLaws.{rank_apart, strict, transitive}
+use Rattle.ipnet_addr.proofs.Families.{rank_apart}
+use Rattle.ipnet_blocks.proofs.BlockLaws.{strict, transitive}
 use Rattle.ipnet_blocks.proofs.BlockTests.{before_from_test, test_from_before}
 use Rattle.route_table.specs.Onwards.{routes_from, routes_after}
 use Rattle.route_table.specs.Pages.{last_of, pages_up_to, first_page, pages}

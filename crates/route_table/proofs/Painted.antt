@@ -5,12 +5,12 @@ use Rattle.std.proofs.lemmas.Nat.{pow_pos}
 use Rattle.ipnet_addr.specs.Addresses.{Family, Ipv4, Ipv6, width, rank, Address, IsAddress}
 use Rattle.ipnet_addr.proofs.Members.{In}
 use Rattle.ipnet_addr.proofs.Ascending.{In-from_Contains, Contains-from_In, Rising, pairs_from_Rising, All-from_In}
-use Rattle.ipnet_blocks.specs.Blocks.{IsBlock, HasAddress, first, last, first_of, host, whole}
+use Rattle.ipnet_blocks.specs.Blocks.{IsBlock, HasAddress, first, last, first_of, host, family_block}
 use Rattle.ipnet_blocks.proofs.BlockLaws.{has_first, nested, longer_inside, common}
 use Rattle.ipnet_blocks.proofs.Maximals.{host_is_block, in_host, has_host, member_is_address}
 use Rattle.ipnet_blocks.proofs.Netmasks.{block_is_interval}
 use Rattle.route_table.specs.Tables.{Route, IsTable, IsMatch, match_of, match_number, number_of, hop_at}
-use Rattle.route_table.specs.Running.{Follows, IsOpen, IsComing, ArePlaced, reach_of, painted}
+use Rattle.route_table.specs.InnerRunning.{Follows, IsOpen, IsComing, ArePlaced, reach_of, painted}
 use Rattle.route_table.specs.declared.runs.Reach.{Reach}
 use Rattle.route_table.proofs.Governings.{first_to_last}
 use Rattle.route_table.proofs.Matches.{block_in, match_from, match_meets}
@@ -164,7 +164,7 @@ module _ (f : Family) (end : ℕ) (rs : List Route) (up : Rising Sooner rs) (blo
   }
 
 -- the greatest number of a whole family
-pub greatest : (f : Family) (l : ℕ) → l ≡ last (whole f) → 2 ^ width f ≡ l + 1
+pub greatest : (f : Family) (l : ℕ) → l ≡ last (family_block f) → 2 ^ width f ≡ l + 1
 greatest f l e =
     let w : width f - 0 ≡ width f = omega arith in
     let p : 2 ^ (width f - 0) ≡ 2 ^ width f = ap (λ n. 2 ^ n) w in

@@ -1,19 +1,26 @@
--- Parts of a walk of a map, as parts of the table.
-use Rattle.std.proofs.Common.{◌≡◌, inl, inr, Bool, true, false, cond, List, [], ◌∷◌, ◌++◌, filter, map, refl, sym, ap, ◌∙◌, subst, append-nil}
+-- Parts of a walk of a side's map, as parts of the side.
+use Rattle.std.proofs.Common.{◌≡◌, ◌≤◌, inl, inr, Bool, true, false, ◌&&◌, not, cond, List, [], ◌∷◌, ◌++◌, length, filter, map, refl, sym, ap, ◌∙◌, subst}
 use Rattle.std.specs.FinMap.{entries}
-use Rattle.std.proofs.lemmas.List.Elements.{filter-append}
-use Rattle.ipnet_addr.specs.Addresses.{Family, Ipv4, Ipv6}
+use Rattle.std.specs.FinMap.Entries.{where_key}
+use Rattle.std.specs.Ordering.{is_lt}
+use Rattle.std.specs.declared.cmp.Ordering.{Ordering}
+use Rattle.std.specs.declared.cmp.Ordering.TheVariants.{Less, Equal, Greater}
+use Rattle.ipnet_addr.specs.Addresses.{Family, Ipv4, Ipv6, width, same_family}
 use Rattle.ipnet_addr.proofs.Members.{In}
-use Rattle.ipnet_blocks.specs.Blocks.{Block, IsBlock, IsInside, Begins, is_inside, bit_string}
-use Rattle.ipnet_blocks.proofs.BlockLaws.{numbers_from_inside}
+use Rattle.ipnet_addr.proofs.Ascending.{All-from_In}
+use Rattle.ipnet_blocks.specs.Blocks.{Block, IsBlock, IsInside, Begins, is_before, is_inside, bit_string}
+use Rattle.ipnet_blocks.proofs.BlockTests.{before_from_test, test_from_before}
+use Rattle.ipnet_blocks.proofs.Order.{order_of_strings}
 use Rattle.ipnet_blocks.proofs.Strings.{begins_from_inside, inside_from_begins}
-use Rattle.trie_keys.specs.Bits.{begins}
-use Rattle.route_table.specs.Tables.{Route}
-use Rattle.route_table.specs.Stored.{Maps, table_of, route_at, routes_in, block_at, AreStored}
-use Rattle.route_table.specs.Governing.{routes_inside}
+use Rattle.trie_core.specs.Nodes.{BitMap}
+use Rattle.trie_core.specs.Bits.{begins, bits_cmp, is_from}
+use Rattle.route_table.specs.Tables.{Route, covering, routes_inside}
+use Rattle.route_table.specs.InnerSides.{route_at, routes_in, block_at, IsStored}
+use Rattle.route_table.specs.InnerEntries.{KeysUpTo}
+use Rattle.route_table.specs.Onwards.{routes_from, routes_after}
 use Rattle.route_table.specs.declared.hop.Hop.{Hop}
-use Rattle.route_table.proofs.Matches.{bools_same, inside_from_test, test_from_inside}
-use Rattle.route_table.proofs.Strings.{string_of_block, block_at_is_block}
+use Rattle.route_table.proofs.Matches.{bools_same, In-from_filter, inside_from_test, test_from_inside}
+use Rattle.route_table.proofs.Strings.{string_of_block, block_at_is_block, earlier, less_from_earlier}
 use Rattle.route_table.proofs.Entries.{get_of}
 
 -- ---- the test of a beginning
@@ -40,6 +47,24 @@ inside_from_bits a b p q f e = inside_from_begins a b p q f (begins_from_test (b
 pub bits_from_inside : (a b : Block) → IsBlock a → IsBlock b → IsInside a b → begins (bit_string b) (bit_string a) ≡ true
 bits_from_inside a b p q h = test_from_begins (bit_string b) (bit_string a) (begins_from_inside a b p q h)
 
+-- ---- the order of blocks, as a test of keys
+
+less_of : (o : Ordering) → is_lt o ≡ true → o ≡ Less
+less_of Less e = refl
+less_of Equal e = absurd (cc)
+less_of Greater e = absurd (cc)
+
+before_is : (a b : Block) → IsBlock a → IsBlock b → a.family ≡ b.family → is_before a b ≡ is_lt (bits_cmp (bit_string a) (bit_string b))
+before_is a b p q f = bools_same (is_before a b) (is_lt (bits_cmp (bit_string a) (bit_string b)))
+    (λ t. ap is_lt (less_from_earlier (bit_string a) (bit_string b) ((order_of_strings a b p q f).0 (before_from_test a b t))))
+    (λ t. test_from_before a b ((order_of_strings a b p q f).1 (earlier (bit_string a) (bit_string b) (less_of (bits_cmp (bit_string a) (bit_string b)) t))))
+
+pub same_itself : (f : Family) → same_family f f ≡ true
+same_itself Ipv4 = refl
+same_itself Ipv6 = refl
+
+-- ---- parts of a walk
+
 -- a test of routes that is a test of keys
 filter_routes : (f : Family) (p : Route → Bool) (q : List Bool × Hop → Bool) (es : List (List Bool × Hop)) → ((e : List Bool × Hop) → In e es → p (route_at f e) ≡ q e) → filter p (map (route_at f) es) ≡ map (route_at f) (filter q es)
 filter_routes f p q [] h = refl
@@ -52,49 +77,50 @@ filter_routes f p q (e ∷ es) h =
     turn true xs = refl
     turn false xs = refl
 
-no_route : (f : Family) (p : Route → Bool) (es : List (List Bool × Hop)) → ((e : List Bool × Hop) → In e es → p (route_at f e) ≡ false) → filter p (map (route_at f) es) ≡ []
-no_route f p [] h = refl
-no_route f p (e ∷ es) h = ap (λ b. cond b (route_at f e ∷ filter p (map (route_at f) es)) (filter p (map (route_at f) es))) (h e (inl refl)) ∙ no_route f p es (λ d i. h d (inr i))
+-- no listed key is longer than an address
+pub listed_keys : (f : Family) (m : BitMap Hop) → IsStored f m → (p : List Bool → Bool) (es : List (List Bool × Hop)) → es ≡ where_key bits_cmp p (entries m) → KeysUpTo (width f) es
+listed_keys f m ok p es e = All-from_In (λ (d : List Bool × Hop). length d.0 ≤ width f) es (λ d i.
+    let j = In-from_filter (λ (x : List Bool × Hop). p x.0) (entries m) d (subst (λ xs. In d xs) e i) in
+    ok.within d.0 d.1 (get_of m d.0 d.1 j.0))
 
--- a test that only the routes of one family pass is a test of that family's keys
-pub one_family : (M : Maps) (f : Family) (p : Route → Bool) (q : List Bool × Hop → Bool) →
-    ((e : List Bool × Hop) → In e (entries (M f)) → p (route_at f e) ≡ q e) →
-    ((g : Family) → (g ≡ f → ⊥) → (e : List Bool × Hop) → In e (entries (M g)) → p (route_at g e) ≡ false) →
-    filter p (table_of M) ≡ map (route_at f) (filter q (entries (M f)))
-unfolding table_of
-one_family M Ipv4 p q h k =
-    filter-append p (routes_in Ipv4 (M Ipv4)) (routes_in Ipv6 (M Ipv6)) ∙ ap (λ xs. filter p (routes_in Ipv4 (M Ipv4)) ++ xs) (no_route Ipv6 p (entries (M Ipv6)) (k Ipv6 (λ e. apart e)))
-    ∙ append-nil (filter p (routes_in Ipv4 (M Ipv4))) ∙ filter_routes Ipv4 p q (entries (M Ipv4)) h
-  where
-    is_v6 : Family → Bool
-    is_v6 Ipv4 = false
-    is_v6 Ipv6 = true
+pub all_keys : (f : Family) (m : BitMap Hop) → IsStored f m → (es : List (List Bool × Hop)) → es ≡ entries m → KeysUpTo (width f) es
+all_keys f m ok es e = All-from_In (λ (d : List Bool × Hop). length d.0 ≤ width f) es (λ d i. ok.within d.0 d.1 (get_of m d.0 d.1 (subst (λ xs. In d xs) e i)))
 
-    apart : Ipv6 ≡ Ipv4 → ⊥
-    apart e = let b = ap is_v6 e in cc
-one_family M Ipv6 p q h k =
-    filter-append p (routes_in Ipv4 (M Ipv4)) (routes_in Ipv6 (M Ipv6)) ∙ ap (λ xs. xs ++ filter p (routes_in Ipv6 (M Ipv6))) (no_route Ipv4 p (entries (M Ipv4)) (k Ipv4 (λ e. apart e)))
-    ∙ filter_routes Ipv6 p q (entries (M Ipv6)) h
-  where
-    is_v4 : Family → Bool
-    is_v4 Ipv4 = true
-    is_v4 Ipv6 = false
+module _ (n : Block) (okn : IsBlock n) (m : BitMap Hop) (ok : IsStored n.family m) where
+  abbrev key_block : List Bool × Hop → Block
+  key_block e = block_at n.family e.0
 
-    apart : Ipv4 ≡ Ipv6 → ⊥
-    apart e = let b = ap is_v4 e in cc
-
-module _ (M : Maps) (ok : AreStored M) (n : Block) (okn : IsBlock n) where
-  pub at_is_block : (f : Family) (e : List Bool × Hop) → In e (entries (M f)) → IsBlock (block_at f e.0)
-  at_is_block f e i = block_at_is_block f e.0 (ok.within f e.0 e.1 (get_of (M f) e.0 e.1 i))
+  okb : (e : List Bool × Hop) → In e (entries m) → IsBlock (key_block e)
+  okb e i = block_at_is_block n.family e.0 (ok.within e.0 e.1 (get_of m e.0 e.1 i))
 
   -- the routes inside n are the entries whose keys n's string begins
-  pub inside_are : routes_inside (table_of M) n ≡ map (route_at n.family) (filter (λ e. begins (bit_string n) e.0) (entries (M n.family)))
-  inside_are = one_family M n.family (λ r. is_inside r.block n) (λ e. begins (bit_string n) e.0)
-      (λ e i. bools_same (is_inside (block_at n.family e.0) n) (begins (bit_string n) e.0)
-      (λ t. subst (λ s. begins (bit_string n) s ≡ true) (string_of_block n.family e.0) (bits_from_inside (block_at n.family e.0) n (at_is_block n.family e i) okn (inside_from_test (block_at n.family e.0) n (at_is_block n.family e i) okn t)))
-      (λ t. test_from_inside (block_at n.family e.0) n (at_is_block n.family e i) okn (inside_from_bits (block_at n.family e.0) n (at_is_block n.family e i) okn refl (subst (λ s. begins (bit_string n) s ≡ true) (sym (string_of_block n.family e.0)) t))))
-      (λ g far e i. go g e i far (is_inside (block_at g e.0) n) refl)
-    where
-      go : (g : Family) (e : List Bool × Hop) → In e (entries (M g)) → (g ≡ n.family → ⊥) → (b : Bool) → is_inside (block_at g e.0) n ≡ b → is_inside (block_at g e.0) n ≡ false
-      go g e i far true q = absurd (far (numbers_from_inside (block_at g e.0) n (at_is_block g e i) okn (inside_from_test (block_at g e.0) n (at_is_block g e i) okn q)).family)
-      go g e i far false q = q
+  pub inside_are : routes_inside (routes_in n.family m) n ≡ map (route_at n.family) (filter (λ e. begins (bit_string n) e.0) (entries m))
+  inside_are = filter_routes n.family (λ r. is_inside r.block n) (λ e. begins (bit_string n) e.0) (entries m)
+      (λ e i. bools_same (is_inside (key_block e) n) (begins (bit_string n) e.0)
+      (λ t. subst (λ s. begins (bit_string n) s ≡ true) (string_of_block n.family e.0) (bits_from_inside (key_block e) n (okb e i) okn (inside_from_test (key_block e) n (okb e i) okn t)))
+      (λ t. test_from_inside (key_block e) n (okb e i) okn (inside_from_bits (key_block e) n (okb e i) okn refl (subst (λ s. begins (bit_string n) s ≡ true) (sym (string_of_block n.family e.0)) t))))
+
+  -- the routes that contain n are the entries whose keys begin n's string
+  pub covering_are : covering (routes_in n.family m) n ≡ map (route_at n.family) (filter (λ e. begins e.0 (bit_string n)) (entries m))
+  covering_are = filter_routes n.family (λ r. is_inside n r.block) (λ e. begins e.0 (bit_string n)) (entries m)
+      (λ e i. bools_same (is_inside n (key_block e)) (begins e.0 (bit_string n))
+      (λ t. subst (λ s. begins s (bit_string n) ≡ true) (string_of_block n.family e.0) (bits_from_inside n (key_block e) okn (okb e i) (inside_from_test n (key_block e) okn (okb e i) t)))
+      (λ t. test_from_inside n (key_block e) okn (okb e i) (inside_from_bits n (key_block e) okn (okb e i) refl (subst (λ s. begins s (bit_string n) ≡ true) (sym (string_of_block n.family e.0)) t))))
+
+  -- the routes from n on, or after it, are the entries with such keys
+  pub onwards_are : (inclusive : Bool) → cond inclusive (routes_from (routes_in n.family m) n) (routes_after (routes_in n.family m) n) ≡ map (route_at n.family) (filter (λ e. is_from (bit_string n) inclusive e.0) (entries m))
+  onwards_are true = filter_routes n.family (λ r. same_family r.block.family n.family && not (is_before r.block n)) (λ e. not (is_lt (bits_cmp e.0 (bit_string n)))) (entries m)
+      (λ e i. ap (λ b. b && not (is_before (key_block e) n)) (same_itself n.family) ∙ ap not (before_is (key_block e) n (okb e i) okn refl ∙ ap (λ s. is_lt (bits_cmp s (bit_string n))) (string_of_block n.family e.0)))
+  onwards_are false = filter_routes n.family (λ r. same_family r.block.family n.family && is_before n r.block) (λ e. is_lt (bits_cmp (bit_string n) e.0)) (entries m)
+      (λ e i. ap (λ b. b && is_before n (key_block e)) (same_itself n.family) ∙ before_is n (key_block e) okn (okb e i) refl ∙ ap (λ s. is_lt (bits_cmp (bit_string n) s)) (string_of_block n.family e.0))
+
+  -- what walks of the trie list, as parts of the side
+  module _ (s : List Bool) (same : s ≡ bit_string n) (es : List (List Bool × Hop)) where
+    pub listed : es ≡ where_key bits_cmp (begins s) (entries m) → map (route_at n.family) es ≡ routes_inside (routes_in n.family m) n
+    listed h = ap (map (route_at n.family)) (h ∙ ap (λ t. filter (λ (x : List Bool × Hop). begins t x.0) (entries m)) same) ∙ sym inside_are
+
+    pub covered : es ≡ where_key bits_cmp (λ k. begins k s) (entries m) → map (route_at n.family) es ≡ covering (routes_in n.family m) n
+    covered h = ap (map (route_at n.family)) (h ∙ ap (λ t. filter (λ (x : List Bool × Hop). begins x.0 t) (entries m)) same) ∙ sym covering_are
+
+    pub walked : (inclusive : Bool) → es ≡ where_key bits_cmp (is_from s inclusive) (entries m) → map (route_at n.family) es ≡ cond inclusive (routes_from (routes_in n.family m) n) (routes_after (routes_in n.family m) n)
+    walked inclusive h = ap (map (route_at n.family)) (h ∙ ap (λ t. filter (λ (x : List Bool × Hop). is_from t inclusive x.0) (entries m)) same) ∙ sym (onwards_are inclusive)

@@ -3,14 +3,14 @@ use Rattle.std.proofs.Common.{◌≡◌, ◌-◌, ◌*◌, ◌^◌, ◌<◌, ◌
 use Rattle.std.proofs.Math.Nat.{mod-eq_of_lt}
 use Rattle.std.specs.declared.cmp.Ordering.TheVariants.{Less}
 use Rattle.ipnet_addr.specs.Addresses.{Family, width}
-use Rattle.ipnet_blocks.specs.Blocks.{Block, IsBlock, digits, bit_string, IsEarlier}
+use Rattle.ipnet_blocks.specs.Blocks.{Block, IsBlock, digits, bit_string, IsStringBefore}
 use Rattle.ipnet_blocks.specs.Networks.{net_of}
 use Rattle.ipnet_blocks.proofs.BlockLaws.{block_path}
 use Rattle.ipnet_blocks.proofs.Strings.{length-digits, digits_apart}
-use Rattle.trie_keys.specs.Bits.{bits_cmp, number_from}
-use Rattle.trie_keys.proofs.Numbers.{number_bound, number-digits}
-use Rattle.trie_keys.proofs.Longer.{own_digits}
-use Rattle.route_table.specs.Stored.{block_at}
+use Rattle.trie_core.specs.Bits.{bits_cmp, number_from}
+use Rattle.trie_core.proofs.Numbers.{number_bound, number-digits}
+use Rattle.trie_core.proofs.Longer.{own_digits}
+use Rattle.route_table.specs.InnerSides.{block_at}
 
 pub string_of_block : (f : Family) (s : List Bool) → bit_string (block_at f s) ≡ s
 string_of_block f s = own_digits s
@@ -40,7 +40,7 @@ network_of_string f s h =
 
 -- ---- the order of keys
 
-pub earlier : (s t : List Bool) → bits_cmp s t ≡ Less → IsEarlier s t
+pub earlier : (s t : List Bool) → bits_cmp s t ≡ Less → IsStringBefore s t
 earlier [] [] e = absurd (cc)
 earlier [] (b ∷ t) e = tt
 earlier (a ∷ s) [] e = absurd (cc)
@@ -49,7 +49,7 @@ earlier (true ∷ s) (false ∷ t) e = absurd (cc)
 earlier (false ∷ s) (false ∷ t) e = earlier s t e
 earlier (true ∷ s) (true ∷ t) e = earlier s t e
 
-pub less_from_earlier : (s t : List Bool) → IsEarlier s t → bits_cmp s t ≡ Less
+pub less_from_earlier : (s t : List Bool) → IsStringBefore s t → bits_cmp s t ≡ Less
 less_from_earlier [] [] e = absurd e
 less_from_earlier [] (b ∷ t) e = refl
 less_from_earlier (a ∷ s) [] e = absurd e

@@ -9,7 +9,7 @@ use Rattle.route_table.specs.declared.runs.Reach.{Reach}
 use Rattle.route_table.specs.declared.runs.Run.{Run}
 use Rattle.route_table.specs.declared.runs.Runs.{Runs}
 use Rattle.route_table.specs.declared.runs.Step.TheVariants as step
-use Rattle.route_table.specs.Running.{reach_of, painted, coming, innermost, over, from_on, hops_left, ArePlaced, IsAtHand, AreRuns, changes_left, StepsRun, joined, step_of}
+use Rattle.route_table.specs.InnerRunning.{reach_of, painted, coming, innermost, over, from_on, hops_left, ArePlaced, IsAtHand, AreRuns, changes_left, StepsRun, joined, step_of}
 use Rattle.route_table.proofs.Paints.{IsSpanOf, EndsBefore, Ends, joins}
 use Rattle.route_table.proofs.Openings.{comes, last_of, inner_pushed, room, opened_are, opened_here, opened_later}
 
@@ -64,9 +64,6 @@ placed_as v at end stack cs e f g h p =
     subst (λ n. ArePlaced v.stack.items (coming v.next v.rest) n v.end) (sym e) (subst (λ n. ArePlaced v.stack.items (coming v.next v.rest) at n) (sym f)
     (subst (λ rs. ArePlaced rs (coming v.next v.rest) at end) (sym g) (subst (λ rs. ArePlaced stack rs at end) (sym h) p)))
 
-pub fits_as : (w v : Runs) → v.net ≡ w.net → v.end ≡ w.end → AreRuns w → v.end < 2 ^ width (family v.net)
-fits_as w v n e a = subst (λ m. v.end < 2 ^ width (family m)) (sym n) (subst (λ (x : ℕ). x < 2 ^ width (family w.net)) (sym e) a.fits)
-
 pub changes_as : (v : Runs) (d : Bool) (stack cs : List Reach) → v.done ≡ d → v.stack.items ≡ stack → coming v.next v.rest ≡ cs → changes_left v ≡ 2 * length cs + length stack + cond d 0 1
 changes_as v d stack cs e f g = λ i. 2 * length (g i) + length (f i) + cond (e i) 0 1
 
@@ -79,7 +76,7 @@ begin_room w a r next number is by =
     (λ i. ((innermost (w.end, None) w.stack.items).0, is i)) by
 
 module _ (w v : Runs) (a : AreRuns w) (going : w.done ≡ false) (r : Reach) (next : w.next ≡ Some r) (number : Option ℕ) (is : number ≡ (innermost (w.end, None) w.stack.items).1) (by : r.first ≤ (innermost (w.end, None) w.stack.items).0)
-    (net : v.net ≡ w.net) (end : v.end ≡ w.end) (at : v.at ≡ r.first) (still : v.done ≡ w.done) (pushed : v.stack.items ≡ w.stack.items ++ r ∷ []) (left : coming v.next v.rest ≡ map reach_of w.rest) where
+    (end : v.end ≡ w.end) (at : v.at ≡ r.first) (still : v.done ≡ w.done) (pushed : v.stack.items ≡ w.stack.items ++ r ∷ []) (left : coming v.next v.rest ≡ map reach_of w.rest) where
   abbrev cs : List Reach
   cs = map reach_of w.rest
 
@@ -115,7 +112,7 @@ module _ (w v : Runs) (a : AreRuns w) (going : w.done ≡ false) (r : Reach) (ne
 
   pub begun_here : w.at ≡ r.first → v.run ≡ w.run → AreRuns v × StepsRun w step.Passed v
   begun_here e run = (
-    record { placed = placed_then; hand = hand_from v.run v.done v.at v.end r.first place_then (subst (λ (o : Option Run). EndsBefore o r.first) (sym run) (ends_from_hand w.run w.done w.at w.end r.first (place_before ∙ e) a.hand)); fits = fits_as w v net end a },
+    record { placed = placed_then; hand = hand_from v.run v.done v.at v.end r.first place_then (subst (λ (o : Option Run). EndsBefore o r.first) (sym run) (ends_from_hand w.run w.done w.at w.end r.first (place_before ∙ e) a.hand)) },
     (
       λ x. ap (λ h. h x) hops_before ∙ ap (λ o. over w.run o x) (opened_here w.stack.items r cs w.at w.end placed _ number inner by e x) ∙ ap (λ o. over o (from_on false r.first (painted None ((w.stack.items ++ r ∷ []) ++ cs)) x) x) (sym run) ∙ ap (λ h. h x) (sym hops_then),
       fewer,
@@ -133,7 +130,7 @@ module _ (w v : Runs) (a : AreRuns w) (going : w.done ≡ false) (r : Reach) (ne
       let s : Span = record { first = w.at; last = r.first - 1 } in
       let e : r.first ≡ r.first - 1 + 1 = omega arith in
       let t = turned w v s number _ _ (opened_later w.stack.items r cs w.at w.end placed _ number inner by l) hops_before hops_then a.hand place_before (place_then ∙ e) run (omega arith) fewer in
-      (record { placed = placed_then; hand = t.0; fits = fits_as w v net end a }, t.1)
+      (record { placed = placed_then; hand = t.0 }, t.1)
     where
       apart : w.at ≤ r.first → w.at < r.first
       apart o = ⊎_elim (λ m. m) (λ (m : r.first ≤ w.at). absurd (ne (omega arith))) (cases_lt w.at r.first)

@@ -1,7 +1,7 @@
 -- The shortest list of blocks of one hop.
 use Rattle.std.specs.Prelude.{◌≡◌, ◌==◌, ℕ, zero, suc, ◌↔◌, if◌then◌else◌, List, [], ◌∷◌, ◌++◌, Option, Some, None, IsSome, All, Any, AllPairs, Contains, map}
 use Rattle.ipnet_addr.specs.Addresses.{Address, IsAddress, width, Ipv4, Ipv6}
-use Rattle.ipnet_blocks.specs.Blocks.{Block, IsBlock, HasAddress, IsBefore, first_of, left, right, whole}
+use Rattle.ipnet_blocks.specs.Blocks.{Block, IsBlock, HasAddress, IsBefore, first_of, left, right, family_block}
 use Rattle.ipnet_blocks.specs.Maximal.{IsMaximalBlock}
 
 -- a block with its one hop
@@ -47,4 +47,4 @@ flat_in h zero b = piece_or b (h (first_of b)) []
 flat_in h (suc k) b = piece_or b (one_hop_in h (suc k) b) (flat_in h k (left b) ++ flat_in h k (right b))
 
 unfoldable pub flat_of : (Address → Option ℕ) → List Piece
-flat_of h = flat_in h (width Ipv4) (whole Ipv4) ++ flat_in h (width Ipv6) (whole Ipv6)
+flat_of h = flat_in h (width Ipv4) (family_block Ipv4) ++ flat_in h (width Ipv6) (family_block Ipv6)

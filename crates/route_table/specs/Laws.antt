@@ -1,12 +1,17 @@
 -- The laws of tables, as statements.
-use Rattle.std.specs.Prelude.{◌≡◌, ◌≢◌, false, [], ℕ, ◌≤◌, ◌↔◌, ◌==◌, ◌+◌, List, Option, Some, Contains, length, sum_by, filter}
+use Rattle.std.specs.Prelude.{◌≡◌, ◌≢◌, ◌⊎◌, false, [], ◌∷◌, ℕ, ◌^◌, ◌≤◌, ◌<◌, if◌then◌else◌, ◌↔◌, ◌==◌, ◌+◌, List, Option, Some, None, Contains, length, sum_by, filter}
+use Rattle.std.specs.List.{flat_map}
 use Rattle.ipnet_addr.specs.Addresses.{Family, Address, IsAddress, same_family}
-use Rattle.ipnet_blocks.specs.Blocks.{Block, IsBlock, HasAddress, IsAscending, host}
-use Rattle.ipnet_blocks.specs.Maximal.{IsMaximal, maximal_of}
-use Rattle.route_table.specs.Tables.{Route, IsTable, IsMatch, IsHop, is_stored, match_of, match_number, hop_at, number_of, Governed, Changed, with_route, without_block}
+use Rattle.ipnet_blocks.specs.Blocks.{Block, IsBlock, HasAddress, IsAscending, has_address, is_inside, host}
+use Rattle.ipnet_blocks.specs.Maximal.{IsMaximal, IsUnion, maximal_of}
+use Rattle.route_table.specs.Tables.{Route, IsTable, IsMatch, IsHop, is_stored, longer, match_of, match_number, hop_at, number_of, Governed, Changed, with_route, without_block}
 use Rattle.route_table.specs.Flats.{Piece, IsFlat, IsAdmissible, blocks_of, flat_of}
 use Rattle.route_table.specs.Changes.{changed, with_pieces}
+use Rattle.route_table.specs.declared.hop.Hop.TheVariants.{Number}
 use Rattle.route_table.specs.Bounds.{excess, lengths_in, pieces_in}
+use Rattle.route_table.specs.Onwards.{routes_from}
+use Rattle.route_table.specs.Overwritten.{overwritten}
+use Rattle.route_table.specs.Pages.{first_page, pages, pages_up_to}
 
 -- what `match_of` finds
 abbrev pub MatchIsLongest : Type 0
@@ -59,6 +64,17 @@ StaysTable = (M : List Route) → IsTable M → ((r : Route) → IsBlock r.block
 abbrev pub ChangedIsMaximal : Type 0
 ChangedIsMaximal = (M N : List Route) → IsMaximal (Changed M N) (maximal_of (changed M N))
 
+-- no list of blocks with those addresses is shorter, and an ascending one as short is that one
+abbrev pub ChangedIsShortest : Type 0
+ChangedIsShortest = (M N : List Route) (bs : List Block) → IsUnion (Changed M N) bs → length (maximal_of (changed M N)) ≤ length bs
+
+abbrev pub ShortestIsChanged : Type 0
+ShortestIsChanged = (M N : List Route) (bs : List Block) → IsUnion (Changed M N) bs → IsAscending bs → length bs ≤ length (maximal_of (changed M N)) → maximal_of (changed M N) ≡ bs
+
+-- the maximal blocks of the changed addresses are those that the search finds
+abbrev pub MaximalIsChanged : Type 0
+MaximalIsChanged = (M N : List Route) (bs : List Block) → IsMaximal (Changed M N) bs → maximal_of (changed M N) ≡ bs
+
 -- the addresses that a new route changes have its hop
 abbrev pub AddedHaveOneHop : Type 0
 AddedHaveOneHop = (M : List Route) (r : Route) → IsTable M → IsBlock r.block → IsHop r.hop → (b : Block) → Contains (maximal_of (changed M (with_route M r))) b →
@@ -98,6 +114,24 @@ GovernedAfter = (M : List Route) (r : Route) → IsTable M → IsBlock r.block �
 abbrev pub AddThenDel : Type 0
 AddThenDel = (M : List Route) (r : Route) → IsTable M → IsBlock r.block → IsHop r.hop → is_stored M r.block ≡ false → without_block (with_route M r) r.block ≡ M
 
+-- what a table holds after an `add`: the new route, and those of other blocks that it held
+abbrev pub MembersAfterAdd : Type 0
+MembersAfterAdd = (M : List Route) (r s : Route) → IsTable M → IsBlock r.block → Contains (with_route M r) s ↔ ((s ≡ r) ⊎ (Contains M s × (s.block ≢ r.block)))
+
+-- and after a `del`: the routes of other blocks
+abbrev pub MembersAfterDel : Type 0
+MembersAfterDel = (M : List Route) (n : Block) (s : Route) → IsTable M → Contains (without_block M n) s ↔ (Contains M s × (s.block ≢ n))
+
+-- the match of a block after an `add`: the new route where it contains the block and the match was no longer one, and else the match that it had
+abbrev pub MatchAfterAdd : Type 0
+MatchAfterAdd = (M : List Route) (r : Route) (n : Block) → IsTable M → IsTable (with_route M r) → IsBlock n →
+    match_of (with_route M r) n ≡ (if is_inside n r.block then Some (longer r (match_of M n)) else match_of M n)
+
+-- and after a `del` of another block than that of its match: the match that it had
+abbrev pub MatchAfterDel : Type 0
+MatchAfterDel = (M : List Route) (n b : Block) → IsTable M → IsBlock n → ((r : Route) → match_of M n ≡ Some r → r.block ≢ b) →
+    match_of (without_block M b) n ≡ match_of M n
+
 -- a change in one family leaves the routes of the other, and the hops of its addresses
 abbrev pub OtherFamilyAfterAdd : Type 0
 OtherFamilyAfterAdd = (M : List Route) (r : Route) → IsTable M → IsBlock r.block → IsHop r.hop →
@@ -108,3 +142,38 @@ abbrev pub OtherFamilyAfterDel : Type 0
 OtherFamilyAfterDel = (M : List Route) (n : Block) → IsTable M → IsBlock n →
     ((f : Family) → (n.family ≡ f → ⊥) → filter (λ s. same_family s.block.family f) (without_block M n) ≡ filter (λ s. same_family s.block.family f) M)
     × ((x : Address) → IsAddress x → (x.family ≡ n.family → ⊥) → hop_at (without_block M n) x ≡ hop_at M x)
+
+-- the flat list of the empty table is empty
+abbrev pub EmptyIsFlat : Type 0
+EmptyIsFlat = flat_of (hop_at []) ≡ []
+
+-- the table of one route
+abbrev pub one_route : Block → ℕ → List Route
+one_route b k = record { block = b; hop = Number k } ∷ []
+
+-- an accepted `add` of it to the empty table changes the addresses of its block
+abbrev pub OneRouteIsChanged : Type 0
+OneRouteIsChanged = (b : Block) (k : ℕ) → IsBlock b → k < 2 ^ 32 → maximal_of (changed [] (one_route b k)) ≡ b ∷ []
+
+-- they have its hop, and its flat list is its block
+abbrev pub OneRouteHops : Type 0
+OneRouteHops = (b : Block) (k : ℕ) (x : Address) → IsBlock b → k < 2 ^ 32 → IsAddress x → hop_at (one_route b k) x ≡ (if has_address b x then Some k else None)
+
+abbrev pub OneRouteIsFlat : Type 0
+OneRouteIsFlat = (b : Block) (k : ℕ) → IsBlock b → k < 2 ^ 32 → flat_of (hop_at (one_route b k)) ≡ record { block = b; number = k } ∷ []
+
+-- an `overwrite` leaves a table; all addresses of the block have the new hop then, and all others keep theirs
+abbrev pub OverwriteIsTable : Type 0
+OverwriteIsTable = (M : List Route) (r : Route) → IsTable M → IsBlock r.block → IsHop r.hop → IsTable (overwritten M r)
+
+abbrev pub HopsOfOverwrite : Type 0
+HopsOfOverwrite = (M : List Route) (r : Route) → IsTable M → IsBlock r.block → IsHop r.hop → (x : Address) → IsAddress x →
+    hop_at (overwritten M r) x ≡ (if has_address r.block x then number_of r.hop else hop_at M x)
+
+-- the pages are the routes of the family from n on, each once
+abbrev pub PagesAreRoutes : Type 0
+PagesAreRoutes = (M : List Route) (n : Block) (limit : ℕ) → IsTable M → 0 < limit → flat_map (λ page. page) (pages M n limit) ≡ routes_from M n
+
+-- and no page is left out for want of more of them
+abbrev pub PagesEnd : Type 0
+PagesEnd = (M : List Route) (n : Block) (limit more : ℕ) → IsTable M → 0 < limit → pages_up_to (length M + more) M limit (first_page M n limit) ≡ pages M n limit

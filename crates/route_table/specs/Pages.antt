@@ -1,9 +1,8 @@
 -- The routes of one family, page by page.
-use Rattle.std.specs.Prelude.{◌≡◌, ℕ, zero, suc, ◌+◌, ◌<◌, List, [], ◌∷◌, length, take}
-use Rattle.std.specs.List.{flat_map}
+use Rattle.std.specs.Prelude.{ℕ, zero, suc, List, [], ◌∷◌, length, take}
 use Rattle.ipnet_blocks.specs.Blocks.{Block}
 use Rattle.route_table.specs.Onwards.{routes_from, routes_after}
-use Rattle.route_table.specs.Tables.{Route, IsTable}
+use Rattle.route_table.specs.Tables.{Route}
 
 -- the last route of a page
 abbrev pub last_of : Route → List Route → Route
@@ -23,11 +22,3 @@ first_page M n limit = take limit (routes_from M n)
 
 abbrev pub pages : List Route → Block → ℕ → List (List Route)
 pages M n limit = pages_up_to (length M) M limit (first_page M n limit)
-
--- the law: the pages are the routes of the family from n on, each once
-abbrev pub PagesAreRoutes : Type 0
-PagesAreRoutes = (M : List Route) (n : Block) (limit : ℕ) → IsTable M → 0 < limit → flat_map (λ page. page) (pages M n limit) ≡ routes_from M n
-
--- and no page is left out for want of more of them
-abbrev pub PagesEnd : Type 0
-PagesEnd = (M : List Route) (n : Block) (limit more : ℕ) → IsTable M → 0 < limit → pages_up_to (length M + more) M limit (first_page M n limit) ≡ pages M n limit

@@ -3,6 +3,8 @@ use Rattle.std.specs.Prelude.{◌≢◌, ℕ, ◌<◌, ◌≤◌, ◌^◌, Bool,
 use Rattle.std.specs.List.{list_any}
 use Rattle.ipnet_addr.specs.Addresses.{Address}
 use Rattle.ipnet_blocks.specs.Blocks.{Block, IsBlock, HasAddress, IsInside, IsLarger, IsBefore, is_inside, is_before, same_block, host}
+use Rattle.ipnet.specs.IpNets.{block, network_at}
+use Rattle.ipnet.specs.declared.ip_net.IpNet.{IpNet}
 use Rattle.route_table.specs.declared.hop.Hop.{Hop}
 use Rattle.route_table.specs.declared.hop.Hop.TheVariants.{Number, Drop}
 
@@ -14,6 +16,14 @@ abbrev pub IsHop : Hop → Type 0
 IsHop (Number k) = k < 2 ^ 32
 IsHop Drop = Unit {0}
 
+-- a network and a hop as a route; host bits do not count
+abbrev pub route_of : IpNet → Hop → Route
+route_of n k = record { block = block n; hop = k }
+
+-- a route as it is handed out
+abbrev pub item_of : Route → IpNet × Hop
+item_of r = (network_at r.block, r.hop)
+
 -- a table is the list of its routes, ascending, one for each block
 pub record IsTable (M : List Route) : Type 0 where
   pub blocks : All (λ r. IsBlock r.block) M
@@ -23,6 +33,10 @@ pub record IsTable (M : List Route) : Type 0 where
 -- the members that contain the block
 abbrev pub covering : List Route → Block → List Route
 covering M n = filter (λ r. is_inside n r.block) M
+
+-- the members inside the block, itself included
+abbrev pub routes_inside : List Route → Block → List Route
+routes_inside M n = filter (λ r. is_inside r.block n) M
 
 -- a route of greatest length
 abbrev pub longer : Route → Option Route → Route

@@ -5,16 +5,16 @@ ghost use Rattle.ipnet_addr.specs.Addresses.{Family, Ipv4, Ipv6};
 ghost use Rattle.ipnet_blocks.specs.Blocks.{Block};
 ghost use Rattle.route_table.specs.Bounds.{lengths_in, pieces_in};
 ghost use Rattle.route_table.specs.Flats.{IsAdmissible, IsFlat};
-ghost use Rattle.route_table.specs.Flattening.{AreBoth, GivesPieces, pieces_of};
+ghost use Rattle.route_table.specs.InnerFlattening.{AreBoth, GivesPieces, pieces_of};
 ghost use Rattle.route_table.specs.Items.{GivesPiece};
 ghost use Rattle.route_table.specs.Tables.{IsTable, hop_at};
 
-use crate::governed::blocks;
+use crate::address_family::AddressFamily;
+use crate::governed::{blocks, no_blocks};
 use crate::routes::Routes;
 use crate::runs::Runs;
 use crate::table::RouteTable;
-use ipnet::{IpNet, IpSubnets, Ipv4Net, Ipv4Subnets, Ipv6Net};
-use ipnet_addr::bits::ipv4_of;
+use ipnet::{IpNet, IpSubnets};
 use std::marker::Model;
 
 /// The blocks that are left of a run, and its number.
@@ -30,7 +30,7 @@ impl Pieces {
         ensures { pieces_of result ≡ [] }
     {
         Pieces {
-            blocks: IpSubnets::V4(Ipv4Subnets::new(ipv4_of(1), ipv4_of(0), 0)),
+            blocks: no_blocks(),
             number: 0,
         }
     }
@@ -63,13 +63,13 @@ impl<'a> BothRuns<'a> {
     {
         if let Some(run) = self.v4.next() {
             return Some(Pieces {
-                blocks: blocks(&self.v4.net, run.span),
+                blocks: blocks(AddressFamily::V4, run.span),
                 number: run.number,
             });
         }
         match self.v6.next() {
             Some(run) => Some(Pieces {
-                blocks: blocks(&self.v6.net, run.span),
+                blocks: blocks(AddressFamily::V6, run.span),
                 number: run.number,
             }),
             None => None,
@@ -89,7 +89,7 @@ impl<'a> Model for Flat<'a> {
     ghost use Rattle.std.specs.Prelude.{List};
     ghost use Rattle.route_table.specs.Bounds.{lengths_in, pieces_in};
     ghost use Rattle.route_table.specs.Flats.{Piece};
-    ghost use Rattle.route_table.specs.Flattening.{AreBoth, pieces_left};
+    ghost use Rattle.route_table.specs.InnerFlattening.{AreBoth, pieces_left};
 
     ghost Value = { List Piece };
 
@@ -108,8 +108,8 @@ impl<'a> Flat<'a> {
         Flat {
             pieces: Pieces::none(),
             runs: BothRuns {
-                v4: Runs::new(IpNet::V4(Ipv4Net::default()), v4),
-                v6: Runs::new(IpNet::V6(Ipv6Net::default()), v6),
+                v4: Runs::new(AddressFamily::V4, v4),
+                v6: Runs::new(AddressFamily::V6, v6),
             },
         }
     }
@@ -126,10 +126,7 @@ impl<'a> Iterator for Flat<'a> {
         if let Some(piece) = self.pieces.next() {
             return Some(piece);
         }
-        let Some(pieces) = self.runs.next() else {
-            return None;
-        };
-        self.pieces = pieces;
+        self.pieces = self.runs.next()?;
         self.pieces.next()
     }
 }
@@ -142,9 +139,9 @@ impl RouteTable {
         ensures flat { IsFlat (hop_at self.now) result }
         ensures shortest { (bs : List Block) → IsAdmissible (hop_at self.now) bs → length result ≤ length bs }
         ensures bound { (f : Family) → length (pieces_in f result) ≤ 1 + lengths_in f self.now }
+        ensures table { IsTable self.now }
     {
         let (v4, v6) = self.families();
-        self.is_table();
         Flat::new(v4, v6)
     }
 }

@@ -1,16 +1,18 @@
 //! The addresses that a network governs: those of it that lie in no stored network strictly inside it.
-ghost use Rattle.std.specs.Prelude.{◌≡◌, ℕ, ◌<◌, ◌≤◌, ◌^◌, ◌++◌, All, true};
+ghost use Rattle.std.specs.Prelude.{◌≡◌, ℕ, ◌<◌, ◌≤◌, ◌^◌, ◌++◌, All, [], true};
 ghost use Rattle.std.specs.Iterator.{item_count};
 ghost use Rattle.ipnet_addr.specs.Addresses.{width};
 ghost use Rattle.ipnet_blocks.specs.Blocks.{first, last};
 ghost use Rattle.ipnet_blocks.specs.Cuts.{cut};
 ghost use Rattle.ipnet_blocks.specs.Networks.{IsNetwork};
-ghost use Rattle.ipnet_blocks.specs.Spans.{limits_of};
+ghost use Rattle.ipnet_blocks.specs.InnerSpans.{limits_of};
 ghost use Rattle.ipnet.specs.IpNets.{block, family, parts};
 ghost use Rattle.ipnet.specs.IpSubnets.{ip_cut, ip_limits};
-ghost use Rattle.route_table.specs.Governing.{AreGaps, GivesGap, IsPassed, StepsGap, blocks_left, blocks_of_spans, gaps, gaps_left};
+ghost use Rattle.route_table.specs.InnerFamilies.{family_of};
+ghost use Rattle.route_table.specs.InnerGoverning.{AreGaps, GivesGap, IsPassed, StepsGap, blocks_left, blocks_of_spans, gaps, gaps_left};
 ghost use Rattle.route_table.specs.Items.{GivesBlock};
 
+use crate::address_family::AddressFamily;
 use crate::routes::Routes;
 use ipnet::{IpNet, IpSubnets, Ipv4Subnets, Ipv6Subnets};
 use ipnet_addr::bits::{ipv4_of, ipv6_of};
@@ -36,20 +38,31 @@ pub(crate) fn span(net: &IpNet) -> Span
     }
 }
 
-/// The largest blocks of a span of the network's family, ascending.
-pub(crate) fn blocks(net: &IpNet, span: Span) -> IpSubnets
-    requires fits { span.last < 2 ^ width (family net.now) }
+/// The largest blocks of a span of the family, ascending.
+pub(crate) fn blocks(family: AddressFamily, span: Span) -> IpSubnets
+    requires fits { span.last < 2 ^ width (family_of family) }
     requires order { span.first ≤ span.last }
-    ensures { result ≡ ip_limits (family net.now) (limits_of span) }
+    ensures { result ≡ ip_limits (family_of family) (limits_of span) }
 {
-    match net {
-        IpNet::V4(_) => IpSubnets::V4(Ipv4Subnets::new(
+    match family {
+        AddressFamily::V4 => IpSubnets::V4(Ipv4Subnets::new(
             ipv4_of(span.first as u32),
             ipv4_of(span.last as u32),
             0,
         )),
-        IpNet::V6(_) => IpSubnets::V6(Ipv6Subnets::new(ipv6_of(span.first), ipv6_of(span.last), 0)),
+        AddressFamily::V6 => IpSubnets::V6(Ipv6Subnets::new(
+            ipv6_of(span.first),
+            ipv6_of(span.last),
+            0,
+        )),
     }
+}
+
+/// No blocks.
+pub(crate) fn no_blocks() -> IpSubnets
+    ensures { ip_cut result ≡ [] }
+{
+    IpSubnets::V4(Ipv4Subnets::new(ipv4_of(1), ipv4_of(0), 0))
 }
 
 /// The gaps between the routes strictly inside a network, from one of its addresses on.
@@ -157,7 +170,7 @@ pub struct Governed<'a> {
 impl<'a> Model for Governed<'a> {
     ghost use Rattle.std.specs.Prelude.{List};
     ghost use Rattle.ipnet_blocks.specs.Blocks.{Block};
-    ghost use Rattle.route_table.specs.Governing.{AreGaps, blocks_left};
+    ghost use Rattle.route_table.specs.InnerGoverning.{AreGaps, blocks_left};
 
     ghost Value = { List Block };
 
@@ -180,7 +193,7 @@ impl<'a> Governed<'a> {
                 done: false,
                 inside,
             },
-            blocks: IpSubnets::V4(Ipv4Subnets::new(ipv4_of(1), ipv4_of(0), 0)),
+            blocks: no_blocks(),
         }
     }
 }
@@ -197,7 +210,7 @@ impl<'a> Iterator for Governed<'a> {
             return Some(net);
         }
         let gap = self.gaps.next()?;
-        self.blocks = blocks(&self.gaps.net, gap);
+        self.blocks = blocks(AddressFamily::of(&self.gaps.net), gap);
         self.blocks.next()
     }
 }

@@ -1,4 +1,6 @@
 //! Where addresses go.
+ghost use Rattle.std.specs.Prelude.{◌≡◌};
+ghost use Rattle.route_table.specs.Tables.{IsHop, number_of};
 
 /// Where a network's addresses go: to a numbered hop, or nowhere.
 #[derive(Clone, Copy, PartialEq, Eq, Debug)]
@@ -7,4 +9,17 @@ pub enum Hop {
     Number(u32),
     /// The addresses are dropped: they have no hop, and no shorter route gives them one.
     Drop,
+}
+
+impl Hop {
+    /// The number of a hop.
+    pub(crate) fn number(self) -> Option<u32>
+        ensures number { result ≡ number_of self }
+        ensures in_range { IsHop self }
+    {
+        match self {
+            Hop::Number(number) => Some(number),
+            Hop::Drop => None,
+        }
+    }
 }

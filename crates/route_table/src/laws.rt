@@ -1,7 +1,5 @@
 //! Laws of tables: public functions without a body, whose contracts are the laws.
-ghost use Rattle.route_table.specs.Overwritten.{OverwriteIsTable, HopsOfOverwrite};
-ghost use Rattle.route_table.specs.Pages.{PagesAreRoutes, PagesEnd};
-ghost use Rattle.route_table.specs.Laws.{MatchIsLongest, GovernedMatch, GovernedBound, StaysTable, ChangedIsMaximal, AddedHaveOneHop, LeftHaveOneHop, ChangedByAdd, ChangedByDel, BlocksOfAdd, BlocksOfDel, GovernedAfter, AddThenDel, OtherFamilyAfterAdd, OtherFamilyAfterDel, FlatIsShortest, ShortestIsFlat, FlatIsAdmissible, SameFlat, SearchIsFlat, OwnIsMaximal, FlatIsBounded, FlatRebuilds};
+ghost use Rattle.route_table.specs.Laws.{MatchIsLongest, GovernedMatch, GovernedBound, StaysTable, ChangedIsMaximal, AddedHaveOneHop, LeftHaveOneHop, ChangedByAdd, ChangedByDel, BlocksOfAdd, BlocksOfDel, GovernedAfter, AddThenDel, OtherFamilyAfterAdd, OtherFamilyAfterDel, FlatIsShortest, ShortestIsFlat, FlatIsAdmissible, SameFlat, SearchIsFlat, OwnIsMaximal, FlatIsBounded, FlatRebuilds, OverwriteIsTable, HopsOfOverwrite, PagesAreRoutes, PagesEnd, MembersAfterAdd, MembersAfterDel, MatchAfterAdd, MatchAfterDel, ChangedIsShortest, ShortestIsChanged, MaximalIsChanged, EmptyIsFlat, OneRouteIsChanged, OneRouteHops, OneRouteIsFlat};
 
 /// The match is the longest member that contains the block; the match of an address in what a block
 /// governs is the match of the block; and what it governs has few maximal blocks.
@@ -11,11 +9,22 @@ pub fn matches()
     ensures bound { GovernedBound }
 {}
 
+/// What a table holds after a change, and what the longest match of a block is then.
+pub fn held()
+    ensures members_after_add { MembersAfterAdd }
+    ensures members_after_del { MembersAfterDel }
+    ensures match_after_add { MatchAfterAdd }
+    ensures match_after_del { MatchAfterDel }
+{}
+
 /// A change leaves a table; it changes the hops of a set of addresses whose maximal blocks a search
-/// finds, and all of them have one hop then.
+/// finds, the one shortest list of blocks with these addresses, and all of them have one hop then.
 pub fn changes()
     ensures table { StaysTable }
     ensures maximal { ChangedIsMaximal }
+    ensures shortest { ChangedIsShortest }
+    ensures only { ShortestIsChanged }
+    ensures found { MaximalIsChanged }
     ensures added { AddedHaveOneHop }
     ensures left { LeftHaveOneHop }
 {}
@@ -65,4 +74,13 @@ pub fn flat()
     ensures own { OwnIsMaximal }
     ensures bound { FlatIsBounded }
     ensures rebuilds { FlatRebuilds }
+{}
+
+/// The flat list of the empty table; and of a table of one route with a number what an `add` to the empty table changes,
+/// the hops, and the flat list.
+pub fn one_route()
+    ensures empty { EmptyIsFlat }
+    ensures changed { OneRouteIsChanged }
+    ensures hops { OneRouteHops }
+    ensures flat { OneRouteIsFlat }
 {}

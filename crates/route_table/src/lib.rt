@@ -4,10 +4,12 @@
 pub use flat::Flat;
 pub use governed::Governed;
 pub use hop::Hop;
+pub use prefix_trie::Refused;
 pub use routes::Routes;
 pub use table::RouteTable;
-pub use trie_map::Refused;
 
+mod address_family;
+mod family;
 mod flat;
 #[cfg(test)]
 mod flat_tests;
@@ -18,6 +20,8 @@ mod overwrite;
 mod own_blocks;
 mod routes;
 mod runs;
+mod side;
+mod side_routes;
 mod table;
 #[cfg(test)]
 mod tests;

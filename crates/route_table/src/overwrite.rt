@@ -1,18 +1,16 @@
 //! One route in the place of all those inside its network.
 ghost use Rattle.std.specs.Prelude.{◌≡◌, ◌<◌, OnErr, OnOk, IfErr, false, if◌then◌else◌};
-ghost use Rattle.ipnet_addr.specs.Addresses.{Address, IsAddress, Ipv4, Ipv6, width};
-ghost use Rattle.ipnet_blocks.specs.Blocks.{has_address, left, right};
-ghost use Rattle.ipnet_blocks.specs.Networks.{block_of};
+ghost use Rattle.ipnet_addr.specs.Addresses.{Address, IsAddress, width};
+ghost use Rattle.ipnet_blocks.specs.Blocks.{IsBlock, has_address, left, right};
 ghost use Rattle.ipnet.specs.IpNets.{block, family, parts};
 ghost use Rattle.trie_map.specs.declared.refused.Refused.TheVariants.{Memory};
 ghost use Rattle.route_table.specs.Overwritten.{overwritten, without_inside};
-ghost use Rattle.route_table.specs.Stored.{route_of};
-ghost use Rattle.route_table.specs.Tables.{hop_at, is_stored, number_of};
+ghost use Rattle.route_table.specs.Tables.{IsTable, hop_at, is_stored, number_of, route_of};
 
 use crate::hop::Hop;
-use crate::table::{RouteTable, number};
-use ipnet::{IpNet, Ipv4Net, Ipv6Net};
-use trie_map::Refused;
+use crate::table::{RouteTable, cleared};
+use ipnet::IpNet;
+use prefix_trie::Refused;
 
 /// The networks one bit longer than a network that has more than one address: its lower and its upper half. The
 /// upper one has host bits.
@@ -37,15 +35,13 @@ impl RouteTable {
     /// never refused.
     pub fn overwrite(&mut self, net: IpNet, hop: Hop) -> Result<(), Refused>
         ensures routes { OnOk result (self.new ≡ overwritten self.old (route_of net hop)) }
+        ensures tables { IsTable self.old × IsTable self.new }
         ensures hops { OnOk result ((x : Address) → IsAddress x → hop_at self.new x ≡ (if has_address (block net) x then number_of hop else hop_at self.old x)) }
         ensures memory { IfErr result (λ e. e ≡ Memory) }
         ensures unchanged { OnErr result (self.new ≡ self.old) }
         ensures absent { OnErr result (is_stored self.old (block net) ≡ false) }
     {
-        // The hops after it need to know that the routes are a table, and that the hop is in range.
-        self.is_table();
-        let _number = number(hop);
-        let net = net.trunc();
+        let net = cleared(&net);
         self.store(net, hop)?;
         if net.prefix_len() < net.max_prefix_len() {
             let (lower, upper) = halves(&net);
@@ -57,26 +53,13 @@ impl RouteTable {
 
     /// Takes out every route inside the network, its own included.
     fn remove_inside(&mut self, net: &IpNet)
-        ensures { self.new ≡ without_inside self.old (block net.now) }
+        requires { IsBlock (block net.now) }
+        ensures routes { self.new ≡ without_inside self.old (block net.now) }
+        ensures table { IsTable self.new }
     {
         match *net {
-            IpNet::V4(net) => self.remove_inside_v4(net),
-            IpNet::V6(net) => self.remove_inside_v6(net),
+            IpNet::V4(net) => self.v4.remove_inside(net),
+            IpNet::V6(net) => self.v6.remove_inside(net),
         }
-    }
-}
-
-/// What differs by family.
-impl RouteTable {
-    fn remove_inside_v4(&mut self, net: Ipv4Net)
-        ensures { self.new ≡ without_inside self.old (block_of Ipv4 net) }
-    {
-        self.v4.remove_children(&net.trunc());
-    }
-
-    fn remove_inside_v6(&mut self, net: Ipv6Net)
-        ensures { self.new ≡ without_inside self.old (block_of Ipv6 net) }
-    {
-        self.v6.remove_children(&net.trunc());
     }
 }

@@ -4,18 +4,17 @@ ghost use Rattle.ipnet.specs.IpNets.{block, family, parts};
 ghost use Rattle.ipnet_blocks.specs.Maximal.{IsMaximal};
 ghost use Rattle.ipnet_blocks.specs.Networks.{IsTruncated};
 ghost use Rattle.route_table.specs.Flats.{blocks_of, flat_of};
-ghost use Rattle.route_table.specs.Owning.{GrowsBy, IsOwned, Owns};
-ghost use Rattle.route_table.specs.Stored.{route_of};
-ghost use Rattle.route_table.specs.Tables.{IsTable, hop_at};
+ghost use Rattle.route_table.specs.InnerOwning.{GrowsBy, IsOwned, Owns};
+ghost use Rattle.route_table.specs.Tables.{IsTable, hop_at, route_of};
 ghost use Rattle.trie_map.specs.declared.refused.Refused.TheVariants.{Memory};
 
 use crate::governed::Governed;
 use crate::hop::Hop;
 use crate::routes::Routes;
-use crate::table::RouteTable;
+use crate::table::{RouteTable, cleared};
 use ipnet::IpNet;
+use prefix_trie::Refused;
 use std::alloc::AllocError;
-use trie_map::Refused;
 
 /// Appends the blocks.
 fn push_blocks(networks: &mut Vec<IpNet>, blocks: Governed<'_>) -> Result<(), AllocError>
@@ -54,7 +53,6 @@ impl RouteTable {
     {
         let mut networks = Vec::new(self.alloc());
         let (v4, v6) = self.families();
-        self.is_table();
         self.push_owned(&mut networks, v4, number)?;
         self.push_owned(&mut networks, v6, number)?;
         IpNet::aggregate(self.alloc(), &networks)
@@ -87,13 +85,12 @@ impl RouteTable {
         requires { IsTable self.now }
         ensures { OnOk result (GrowsBy networks.old.items (λ x. Owns self.now number x (route_of net.now hop)) networks.new.items) }
     {
-        let net = net.trunc();
         let Hop::Number(found) = hop else {
             return Ok(());
         };
         if found != number {
             return Ok(());
         }
-        push_blocks(networks, self.governed(&net))
+        push_blocks(networks, self.governs(&cleared(net)))
     }
 }

@@ -1,16 +1,14 @@
 //! The runs of one hop number among the addresses of a family.
 ghost use Rattle.std.specs.Prelude.{◌≡◌, ℕ, ◌+◌, ◌<◌, ◌≤◌, ◌^◌, ◌++◌, [], ◌∷◌, MatchOption, All, None, Some, map, false, true, ⊤};
-ghost use Rattle.ipnet_addr.specs.Addresses.{width};
-ghost use Rattle.ipnet.specs.IpNets.{block, family};
-ghost use Rattle.ipnet_blocks.specs.Blocks.{last, whole};
-ghost use Rattle.route_table.specs.Running.{AreRuns, GivesRun, IsPast, StepsRun, coming, hops_left, innermost, joined, painted, reach_of, step_of};
-ghost use Rattle.route_table.specs.Stored.{route_of};
-ghost use Rattle.route_table.specs.Tables.{IsTable};
+ghost use Rattle.ipnet_blocks.specs.Blocks.{last, family_block};
+ghost use Rattle.route_table.specs.InnerFamilies.{family_of};
+ghost use Rattle.route_table.specs.InnerRunning.{AreRuns, GivesRun, IsPast, StepsRun, coming, hops_left, innermost, joined, painted, reach_of, step_of};
+ghost use Rattle.route_table.specs.Tables.{IsTable, route_of};
 
+use crate::address_family::AddressFamily;
 use crate::governed::span;
 use crate::hop::Hop;
 use crate::routes::Routes;
-use crate::table::number;
 use arrayvec::ArrayVec;
 use ipnet::IpNet;
 use ipnet_blocks::aggregate::Span;
@@ -40,7 +38,7 @@ fn route_reach(net: &IpNet, hop: Hop) -> Reach
         first,
         last,
         len: net.prefix_len(),
-        number: number(hop),
+        number: hop.number(),
     }
 }
 
@@ -48,9 +46,7 @@ fn route_reach(net: &IpNet, hop: Hop) -> Reach
 fn next_reach(routes: &mut Routes<'_>) -> Option<Reach>
     ensures { coming result routes.new ≡ map reach_of routes.old }
 {
-    let Some((net, hop)) = routes.next() else {
-        return None;
-    };
+    let (net, hop) = routes.next()?;
     Some(route_reach(&net, hop))
 }
 
@@ -58,7 +54,6 @@ fn next_reach(routes: &mut Routes<'_>) -> Option<Reach>
 /// ends just before the place.
 #[derive(Drop)]
 pub(crate) struct Runs<'a> {
-    pub(crate) net: IpNet,
     at: u128,
     end: u128,
     done: bool,
@@ -110,21 +105,18 @@ fn step_of(ended: Option<Run>) -> Step
 }
 
 impl<'a> Runs<'a> {
-    /// The runs of the routes of the whole family of a network.
-    pub(crate) fn new(net: IpNet, mut rest: Routes<'a>) -> Runs<'a>
-        requires whole { block net ≡ whole (family net) }
+    /// The runs of the routes of a family.
+    pub(crate) fn new(family: AddressFamily, mut rest: Routes<'a>) -> Runs<'a>
         requires routes { IsTable rest }
-        requires family { All (λ r. r.block.family ≡ family net) rest }
+        requires family { All (λ r. r.block.family ≡ family_of family) rest }
         ensures runs { AreRuns result }
-        ensures net { result.net ≡ net }
+        ensures end { result.end ≡ last (family_block (family_of family)) }
         ensures hops { (x : ℕ) → hops_left result x ≡ painted None (map reach_of rest.entry) x }
     {
-        let Span { last, .. } = span(&net);
         let next = next_reach(&mut rest);
         Runs {
-            net,
             at: 0,
-            end: last,
+            end: family.last(),
             done: false,
             run: None,
             stack: ArrayVec::new(),
@@ -151,7 +143,6 @@ impl<'a> Runs<'a> {
         requires number { number ≡ (innermost (self.old.end, None) self.old.stack.items).1 }
         requires inside { reach.first ≤ (innermost (self.old.end, None) self.old.stack.items).0 }
         ensures runs { AreRuns self.new }
-        ensures net { self.new.net ≡ self.old.net }
         ensures end { self.new.end ≡ self.old.end }
         ensures step { StepsRun self.old result self.new }
     {
@@ -171,7 +162,6 @@ impl<'a> Runs<'a> {
 
     /// Goes past the last number of the innermost open route, or of the family.
     fn pass(&mut self, last: u128)
-        ensures net { self.new.net ≡ self.old.net }
         ensures end { self.new.end ≡ self.old.end }
         ensures run { self.new.run ≡ self.old.run }
         ensures next { self.new.next ≡ self.old.next }
@@ -193,7 +183,6 @@ impl<'a> Runs<'a> {
         requires innermost { (last, number) ≡ innermost (self.old.end, None) self.old.stack.items }
         requires apart { MatchOption self.old.next ⊤ (λ r. last < r.first) }
         ensures runs { AreRuns self.new }
-        ensures net { self.new.net ≡ self.old.net }
         ensures end { self.new.end ≡ self.old.end }
         ensures step { StepsRun self.old result self.new }
     {
@@ -210,7 +199,6 @@ impl<'a> Runs<'a> {
         requires runs { AreRuns self.old }
         requires done { self.old.done ≡ true }
         ensures runs { AreRuns self.new }
-        ensures net { self.new.net ≡ self.old.net }
         ensures end { self.new.end ≡ self.old.end }
         ensures step { StepsRun self.old result self.new }
     {
@@ -226,7 +214,6 @@ impl<'a> Runs<'a> {
     fn step(&mut self) -> Step
         requires { AreRuns self.old }
         ensures runs { AreRuns self.new }
-        ensures net { self.new.net ≡ self.old.net }
         ensures end { self.new.end ≡ self.old.end }
         ensures step { StepsRun self.old result self.new }
     {
@@ -246,7 +233,6 @@ impl<'a> Runs<'a> {
     pub(crate) fn next(&mut self) -> Option<Run>
         requires { AreRuns self.old }
         ensures runs { AreRuns self.new }
-        ensures net { self.new.net ≡ self.old.net }
         ensures end { self.new.end ≡ self.old.end }
         ensures run { GivesRun self.old result self.new }
     {

@@ -9,19 +9,20 @@ use Rattle.std.specs.FinMap.{find, get, put, empty, len, empty_of_len}
 use Rattle.std.specs.FinMap as map
 use Rattle.std.specs.FinMap.Entries.{by_order}
 use Rattle.std.proofs.Math.ListN.{length-drop}
-use Rattle.trie_keys.specs.Bits.{bits_cmp, place_of, child_of, child_string}
-use Rattle.trie_core.specs.Places.{at_places, without, named, child_list, IsSlot, IsUnset}
-use Rattle.trie_core.specs.Nodes.{BitMap, Seen, node_height, child_map, HasSlots}
-use Rattle.trie_core.specs.Count.{nodes, spares, all_nodes, total, spare_of, spare_if, spare_set}
-use Rattle.trie_core.specs.Count as Count
-use Rattle.trie_keys.proofs.Strings.{same-Decides}
+use Rattle.trie_core.specs.Bits.{bits_cmp}
+use Rattle.trie_core.specs.InnerPlaces.{place_of, child_of, child_string, at_places, without, named, child_list, IsSlot, IsUnset}
+use Rattle.trie_core.specs.Nodes.{BitMap, Seen}
+use Rattle.trie_core.specs.InnerNodes.{node_height, child_map, HasSlots}
+use Rattle.trie_core.specs.Count.{nodes}
+use Rattle.trie_core.specs.InnerCount.{spare_count, all_nodes, total, spare_of, spare_if, spare_set}
+use Rattle.trie_core.proofs.Strings.{same-Decides}
 use Rattle.trie_core.proofs.Maps.{get_none, value_put, value_taken, child_put, child_taken, insert_changes}
 use Rattle.trie_core.proofs.Count.{things, nodes_empty}
-use Rattle.trie_keys.proofs.Numbers.{number_bound}
+use Rattle.trie_core.proofs.Numbers.{number_bound}
 use Rattle.trie_core.proofs.Taken.{IsTaken, taken, missing}
 use Rattle.trie_core.proofs.Named.{is_node, child_things, child_found, value_put_in, value_taken_out, child_put_in, child_taken_out}
 use Rattle.trie_core.proofs.Marks.{marked_get, set-same}
-use Rattle.trie_core.proofs.Seen.{IsSeen, map_of, viewed, counted, spare_count, total-set, height-set, height-read, below_at, has_no_child}
+use Rattle.trie_core.proofs.Seen.{IsSeen, map_of, viewed, counted, spares_counted, total-set, height-set, height-read, below_at, has_no_child}
 use Rattle.trie_core.proofs.Searches.{no_child_get}
 
 pub set_removed : {Y : Type 0} (xs : List Y) (i : ℕ) (y : Y) → remove (set xs i y) i ≡ remove xs i
@@ -56,13 +57,13 @@ module _ {X : Type 0} where
   put_total f g n d [] h = omega arith
   put_total f g n d (e ∷ es) h = put_total_by f g n d e es (put_total f g n d es) (nat_cmp n e.0) h
 
-  put_height_by : (g : ℕ → List Bool) (n : ℕ) (d : Seen X) (e : ℕ × Seen X) (es : List (ℕ × Seen X)) → node_height (things (named g (put nat_cmp n d es))) ≤ max (node_height (things (named g es))) d.2
-      → (r : Ordering) → node_height (things (named g (by_order r ((n, d) ∷ e ∷ es) ((e.0, d) ∷ es) (e ∷ put nat_cmp n d es)))) ≤ max (max e.1.2 (node_height (things (named g es)))) d.2
+  put_height_by : (g : ℕ → List Bool) (n : ℕ) (d : Seen X) (e : ℕ × Seen X) (es : List (ℕ × Seen X)) → node_height (things (named g (put nat_cmp n d es))) ≤ max (node_height (things (named g es))) d.levels
+      → (r : Ordering) → node_height (things (named g (by_order r ((n, d) ∷ e ∷ es) ((e.0, d) ∷ es) (e ∷ put nat_cmp n d es)))) ≤ max (max e.1.levels (node_height (things (named g es)))) d.levels
   put_height_by g n d e es i Less = omega arith
   put_height_by g n d e es i Equal = omega arith
   put_height_by g n d e es i Greater = omega (arith, i)
 
-  put_height : (g : ℕ → List Bool) (n : ℕ) (d : Seen X) (es : List (ℕ × Seen X)) → node_height (things (named g (put nat_cmp n d es))) ≤ max (node_height (things (named g es))) d.2
+  put_height : (g : ℕ → List Bool) (n : ℕ) (d : Seen X) (es : List (ℕ × Seen X)) → node_height (things (named g (put nat_cmp n d es))) ≤ max (node_height (things (named g es))) d.levels
   put_height g n d [] = omega arith
   put_height g n d (e ∷ es) = put_height_by g n d e es (put_height g n d es) (nat_cmp n e.0)
 
@@ -77,18 +78,18 @@ module _ {X : Type 0} where
   spare_insert {d} m q v e = spare_some_by d q v (ap (λ k. get k q) e ∙ insert_changes m q v q ∙ ap (λ b. cond b (Some v) (get m q)) ((same-Decides q q).1 refl)) (len d) refl
 
   -- a node that is not bare has a key or a spare node
-  pub not_bare : (d : Seen X) (b : Bool) → ((d.0 ≡ empty) × (spares d ≡ 0) → b ≡ true) → b ≡ false → spares d ≡ 0 → len d.0 ≡ 0 → ⊥
-  not_bare d b h f s e = let z : true ≡ false = sym (h (empty_of_len d.0 e, s)) ∙ f in cc
+  pub not_bare : (d : Seen X) (b : Bool) → ((d.entries ≡ empty) × (spare_count d ≡ 0) → b ≡ true) → b ≡ false → spare_count d ≡ 0 → len d.entries ≡ 0 → ⊥
+  not_bare d b h f s e = let z : true ≡ false = sym (h (empty_of_len d.entries e, s)) ∙ f in cc
 
-  spare_kept_by : (d : Seen X) (n : ℕ) → (len d.0 ≡ 0 → ⊥) → len d.0 ≡ n → spare_if n ≡ 0
+  spare_kept_by : (d : Seen X) (n : ℕ) → (len d.entries ≡ 0 → ⊥) → len d.entries ≡ n → spare_if n ≡ 0
   spare_kept_by d zero h e = absurd (h e)
   spare_kept_by d (suc n) h e = refl
 
   -- a child that is not bare, where none below it is spare
-  pub spare_kept : (d : Seen X) (b : Bool) → spares d ≡ 0 → ((d.0 ≡ empty) × (spares d ≡ 0) → b ≡ true) → b ≡ false → spare_of d ≡ 0
-  spare_kept d b s h f = omega (arith, s, spare_kept_by d (len d.0) (not_bare d b h f s) refl)
+  pub spare_kept : (d : Seen X) (b : Bool) → spare_count d ≡ 0 → ((d.entries ≡ empty) × (spare_count d ≡ 0) → b ≡ true) → b ≡ false → spare_of d ≡ 0
+  spare_kept d b s h f = omega (arith, s, spare_kept_by d (len d.entries) (not_bare d b h f s) refl)
 
-  pub new_nodes : (m : Seen X) → m.0 ≡ empty → spares m ≡ 0 → all_nodes m ≡ 1
+  pub new_nodes : (m : Seen X) → m.entries ≡ empty → spare_count m ≡ 0 → all_nodes m ≡ 1
   new_nodes m e z = omega (arith, ap nodes e, nodes_empty X, z)
 
   -- ---- values
@@ -96,11 +97,11 @@ module _ {X : Type 0} where
   pub value_slots : {vb wb : ℕ} {vs ws : List X} {cb : ℕ} {cs : List (Seen X)} {m : Seen X} → IsSeen vb vs cb cs m → count_ones wb ≡ length ws → wb < 2 ^ 31 → HasSlots wb ws cb cs
   value_slots s e h = record { values_counted = e; values_below = h; children_counted = s.slots.children_counted; children_below = s.slots.children_below }
 
-  pub value_put_map : {vb wb n : ℕ} {vs ws : List X} {cb : ℕ} {cs : List (Seen X)} {m : Seen X} (q : List Bool) (v : X) → IsSeen vb vs cb cs m → HasSlots wb ws cb cs → length q < 5 → n ≡ place_of q → at_places 32 0 wb ws ≡ put nat_cmp n v (at_places 32 0 vb vs) → map_of wb ws cb cs ≡ map.insert m.0 q v
+  pub value_put_map : {vb wb n : ℕ} {vs ws : List X} {cb : ℕ} {cs : List (Seen X)} {m : Seen X} (q : List Bool) (v : X) → IsSeen vb vs cb cs m → HasSlots wb ws cb cs → length q < 5 → n ≡ place_of q → at_places 32 0 wb ws ≡ put nat_cmp n v (at_places 32 0 vb vs) → map_of wb ws cb cs ≡ map.insert m.entries q v
   value_put_map {vb} {wb} {n} {vs} {ws} {cb} {cs} q v s t h k e =
       value_put q v s.node (is_node wb ws cb cs t.values_below t.children_below) h (value_put_in q v vb wb vs ws h s.slots.values_below (e ∙ ap (λ i. put nat_cmp i v (at_places 32 0 vb vs)) k)) ∙ ap (λ x. map.insert x q v) s.map
 
-  pub value_taken_map : {vb wb n : ℕ} {vs ws : List X} {cb : ℕ} {cs : List (Seen X)} {m : Seen X} (q : List Bool) → IsSeen vb vs cb cs m → HasSlots wb ws cb cs → length q < 5 → n ≡ place_of q → at_places 32 0 wb ws ≡ without n (at_places 32 0 vb vs) → map_of wb ws cb cs ≡ map.remove m.0 q
+  pub value_taken_map : {vb wb n : ℕ} {vs ws : List X} {cb : ℕ} {cs : List (Seen X)} {m : Seen X} (q : List Bool) → IsSeen vb vs cb cs m → HasSlots wb ws cb cs → length q < 5 → n ≡ place_of q → at_places 32 0 wb ws ≡ without n (at_places 32 0 vb vs) → map_of wb ws cb cs ≡ map.remove m.entries q
   value_taken_map {vb} {wb} {n} {vs} {ws} {cb} {cs} q s t h k e =
       value_taken q s.node (is_node wb ws cb cs t.values_below t.children_below) h (value_taken_out q vb wb vs ws h s.slots.values_below (e ∙ ap (λ i. without i (at_places 32 0 vb vs)) k)) ∙ ap (λ x. map.remove x q) s.map
 
@@ -116,18 +117,18 @@ module _ {X : Type 0} where
   pub was_found : {vb at : ℕ} {vs : List X} {cb : ℕ} {cs : List (Seen X)} {m : Seen X} (q : List Bool) (e : Seen X) → IsSeen vb vs cb cs m → 5 ≤ length q → IsTaken (child_of q) at cb cs → e ≡ get_or cs at e → find bits_cmp (take 5 q) (child_list cb cs) ≡ Some e
   was_found {cb = cb} {cs = cs} q e s h t r = child_found q cb cs h s.slots.children_below ∙ t.read e ∙ ap Some (sym r)
 
-  pub was : {vb at : ℕ} {vs : List X} {cb : ℕ} {cs : List (Seen X)} {m : Seen X} (q : List Bool) (e : Seen X) → IsSeen vb vs cb cs m → 5 ≤ length q → IsTaken (child_of q) at cb cs → e ≡ get_or cs at e → get e.0 (drop 5 q) ≡ get m.0 q
+  pub was : {vb at : ℕ} {vs : List X} {cb : ℕ} {cs : List (Seen X)} {m : Seen X} (q : List Bool) (e : Seen X) → IsSeen vb vs cb cs m → 5 ≤ length q → IsTaken (child_of q) at cb cs → e ≡ get_or cs at e → get e.entries (drop 5 q) ≡ get m.entries q
   was q e s h t r = sym (ap (λ o. get (child_map o) (drop 5 q)) (t.read e ∙ ap Some (sym r))) ∙ below_at q s h
 
   pub set_slots : {vb at : ℕ} {vs : List X} {cb : ℕ} {cs : List (Seen X)} {m : Seen X} (q : List Bool) (d : Seen X) → IsSeen vb vs cb cs m → IsTaken (child_of q) at cb cs → HasSlots vb vs cb (set cs at d)
   set_slots q d s t = record { values_counted = s.slots.values_counted; values_below = s.slots.values_below; children_counted = t.same_ones d; children_below = s.slots.children_below }
 
-  pub set_put : {vb at : ℕ} {vs : List X} {cb : ℕ} {cs : List (Seen X)} {m : Seen X} (q : List Bool) (v : X) (e d : Seen X) → IsSeen vb vs cb cs m → 5 ≤ length q → IsTaken (child_of q) at cb cs → e ≡ get_or cs at e → d.0 ≡ map.insert e.0 (drop 5 q) v → map_of vb vs cb (set cs at d) ≡ map.insert m.0 q v
+  pub set_put : {vb at : ℕ} {vs : List X} {cb : ℕ} {cs : List (Seen X)} {m : Seen X} (q : List Bool) (v : X) (e d : Seen X) → IsSeen vb vs cb cs m → 5 ≤ length q → IsTaken (child_of q) at cb cs → e ≡ get_or cs at e → d.entries ≡ map.insert e.entries (drop 5 q) v → map_of vb vs cb (set cs at d) ≡ map.insert m.entries q v
   set_put {vb} {at} {vs} {cb} {cs} q v e d s h t r f =
       child_put q v d s.node (is_node vb vs cb (set cs at d) s.slots.values_below s.slots.children_below) h (child_put_in q d cb cb cs (set cs at d) h s.slots.children_below (t.written d))
       (f ∙ ap (λ o. map.insert (child_map o) (drop 5 q) v) (sym (was_found q e s h t r))) ∙ ap (λ x. map.insert x q v) s.map
 
-  pub set_taken : {vb at : ℕ} {vs : List X} {cb : ℕ} {cs : List (Seen X)} {m : Seen X} (q : List Bool) (e d : Seen X) → IsSeen vb vs cb cs m → 5 ≤ length q → IsTaken (child_of q) at cb cs → e ≡ get_or cs at e → d.0 ≡ map.remove e.0 (drop 5 q) → map_of vb vs cb (set cs at d) ≡ map.remove m.0 q
+  pub set_taken : {vb at : ℕ} {vs : List X} {cb : ℕ} {cs : List (Seen X)} {m : Seen X} (q : List Bool) (e d : Seen X) → IsSeen vb vs cb cs m → 5 ≤ length q → IsTaken (child_of q) at cb cs → e ≡ get_or cs at e → d.entries ≡ map.remove e.entries (drop 5 q) → map_of vb vs cb (set cs at d) ≡ map.remove m.entries q
   set_taken {vb} {at} {vs} {cb} {cs} q e d s h t r f =
       child_taken q (Some d) s.node (is_node vb vs cb (set cs at d) s.slots.values_below s.slots.children_below) h (child_put_in q d cb cb cs (set cs at d) h s.slots.children_below (t.written d))
       (f ∙ ap (λ o. map.remove (child_map o) (drop 5 q)) (sym (was_found q e s h t r))) ∙ ap (λ x. map.remove x q) s.map
@@ -135,86 +136,73 @@ module _ {X : Type 0} where
   pub set_count : {vb at : ℕ} {vs : List X} {cb : ℕ} {cs : List (Seen X)} {m : Seen X} (q : List Bool) (e d : Seen X) → IsSeen vb vs cb cs m → IsTaken (child_of q) at cb cs → e ≡ get_or cs at e → all_nodes (viewed vb vs cb (set cs at d)) + all_nodes e ≡ all_nodes m + all_nodes d
   set_count {vb} {at} {vs} {cb} {cs} q e d s t r = omega (arith, counted vb vs cb (set cs at d) (set_slots q d s t), total-set all_nodes cs at d e t.within, ap all_nodes r, s.count)
 
-  pub set_spares : {vb at : ℕ} {vs : List X} {cb : ℕ} {cs : List (Seen X)} {m : Seen X} (q : List Bool) (e d : Seen X) → IsSeen vb vs cb cs m → IsTaken (child_of q) at cb cs → e ≡ get_or cs at e → spares (viewed vb vs cb (set cs at d)) + spare_of e ≡ spares m + spare_of d
-  set_spares {vb} {at} {vs} {cb} {cs} q e d s t r = omega (arith, spare_count vb vs cb (set cs at d) (set_slots q d s t), total-set spare_of cs at d e t.within, ap spare_of r, s.spares)
-
   pub set_spare : {vb at : ℕ} {vs : List X} {cb : ℕ} {cs : List (Seen X)} {m : Seen X} (q : List Bool) (d : Seen X) → IsSeen vb vs cb cs m → 5 ≤ length q → IsTaken (child_of q) at cb cs → ((r : List Bool) → marked_get (Some d) r ≡ marked_get (find bits_cmp (take 5 q) (child_list cb cs)) r)
-      → spare_set (child_list cb (set cs at d)) ≡ m.1
+      → spare_set (child_list cb (set cs at d)) ≡ m.spares
   set_spare {vb} {at} {vs} {cb} {cs} q d s h t f =
       set-same q (Some d) s.node (is_node vb vs cb (set cs at d) s.slots.values_below s.slots.children_below) (child_put_in q d cb cb cs (set cs at d) h s.slots.children_below (t.written d)) f ∙ s.spare
 
-  pub set_height : {vb : ℕ} {vs : List X} {cb : ℕ} {cs : List (Seen X)} {m : Seen X} (at : ℕ) (d : Seen X) → IsSeen vb vs cb cs m → node_height (set cs at d) + 1 ≤ max m.2 (d.2 + 1)
+  pub set_height : {vb : ℕ} {vs : List X} {cb : ℕ} {cs : List (Seen X)} {m : Seen X} (at : ℕ) (d : Seen X) → IsSeen vb vs cb cs m → node_height (set cs at d) + 1 ≤ max m.levels (d.levels + 1)
   set_height {cs = cs} at d s = omega (arith, height-set cs at d, s.height)
 
-  pub was_lower : {vb at : ℕ} {vs : List X} {cb : ℕ} {cs : List (Seen X)} {m : Seen X} (q : List Bool) (e : Seen X) → IsSeen vb vs cb cs m → IsTaken (child_of q) at cb cs → e ≡ get_or cs at e → e.2 < m.2
-  was_lower {at = at} {cs = cs} q e s t r = omega (arith, height-read cs at e t.within, ap (λ x. x.2) r, s.height)
-
-  pub spares_was : {vb at : ℕ} {vs : List X} {cb : ℕ} {cs : List (Seen X)} {m : Seen X} (q : List Bool) (e : Seen X) → IsSeen vb vs cb cs m → IsTaken (child_of q) at cb cs → e ≡ get_or cs at e → spare_of e ≤ spares m
-  spares_was {at = at} {cs = cs} q e s t r = omega (arith, total-remove spare_of cs at e t.within, ap spare_of r, s.spares)
+  pub was_lower : {vb at : ℕ} {vs : List X} {cb : ℕ} {cs : List (Seen X)} {m : Seen X} (q : List Bool) (e : Seen X) → IsSeen vb vs cb cs m → IsTaken (child_of q) at cb cs → e ≡ get_or cs at e → e.levels < m.levels
+  was_lower {at = at} {cs = cs} q e s t r = omega (arith, height-read cs at e t.within, ap (λ x. x.levels) r, s.height)
 
   -- ---- no child on the way
 
-  pub absent : {vb n : ℕ} {vs : List X} {cb : ℕ} {cs : List (Seen X)} {m : Seen X} (q : List Bool) → IsSeen vb vs cb cs m → 5 ≤ length q → n ≡ child_of q → IsUnset n cb → get m.0 q ≡ None
+  pub absent : {vb n : ℕ} {vs : List X} {cb : ℕ} {cs : List (Seen X)} {m : Seen X} (q : List Bool) → IsSeen vb vs cb cs m → 5 ≤ length q → n ≡ child_of q → IsUnset n cb → get m.entries q ≡ None
   absent {cb = cb} {cs = cs} q s h k u = no_child_get (has_no_child q s h (sym (missing (child_of q) cb cs (subst (λ i. IsUnset i cb) k u))))
 
   -- a node with a new child, which has v at the rest of q alone
   pub record IsHung (q : List Bool) (v : X) (m : Seen X) (vb : ℕ) (vs : List X) (cb : ℕ) (cs : List (Seen X)) (d : Seen X) : Type 0 where
     pub slots : HasSlots vb vs cb cs
-    pub map : map_of vb vs cb cs ≡ map.insert m.0 q v
-    pub spares : Count.spares (viewed vb vs cb cs) ≡ Count.spares m
+    pub map : map_of vb vs cb cs ≡ map.insert m.entries q v
     pub count : all_nodes (viewed vb vs cb cs) ≡ all_nodes m + all_nodes d
-    pub height : node_height cs + 1 ≤ max m.2 (d.2 + 1)
+    pub height : node_height cs + 1 ≤ max m.levels (d.levels + 1)
 
   sums : (g : Seen X → ℕ) (cb db : ℕ) (cs ds : List (Seen X)) (n : ℕ) (d : Seen X) → things (child_list cb cs) ≡ cs → things (child_list db ds) ≡ ds → at_places 32 0 db ds ≡ put nat_cmp n d (at_places 32 0 cb cs) → find nat_cmp n (at_places 32 0 cb cs) ≡ None → total g ds ≡ total g cs + g d
   unfolding child_list
   sums g cb db cs ds n d old new w none =
       ap (total g) (sym new) ∙ ap (λ es. total g (things (named child_string es))) w ∙ put_total g child_string n d (at_places 32 0 cb cs) none ∙ ap (λ es. total g es + g d) old
 
-  heights : (cb db : ℕ) (cs ds : List (Seen X)) (n : ℕ) (d : Seen X) → things (child_list cb cs) ≡ cs → things (child_list db ds) ≡ ds → at_places 32 0 db ds ≡ put nat_cmp n d (at_places 32 0 cb cs) → node_height ds ≤ max (node_height cs) d.2
+  heights : (cb db : ℕ) (cs ds : List (Seen X)) (n : ℕ) (d : Seen X) → things (child_list cb cs) ≡ cs → things (child_list db ds) ≡ ds → at_places 32 0 db ds ≡ put nat_cmp n d (at_places 32 0 cb cs) → node_height ds ≤ max (node_height cs) d.levels
   unfolding child_list
   heights cb db cs ds n d old new w =
       omega (arith, ap node_height (sym new), ap (λ es. node_height (things (named child_string es))) w, put_height child_string n d (at_places 32 0 cb cs), ap node_height old)
 
   pub hung : {vb n db : ℕ} {vs : List X} {cb : ℕ} {cs ls ds : List (Seen X)} {m : Seen X} (q : List Bool) (v : X) (d : Seen X) → IsSeen vb vs cb cs m → 5 ≤ length q → n ≡ child_of q → IsUnset n cb → ls ≡ cs → at_places 32 0 db ds ≡ put nat_cmp n d (at_places 32 0 cb ls) → count_ones db ≡ length ds → db < 2 ^ 32
-      → d.0 ≡ map.insert empty (drop 5 q) v → spares d ≡ 0 → IsHung q v m vb vs db ds d
-  hung {vb} {n} {db} {vs} {cb} {cs} {ls} {ds} {m} q v d s h k u l e c b f z =
+      → d.entries ≡ map.insert empty (drop 5 q) v → IsHung q v m vb vs db ds d
+  hung {vb} {n} {db} {vs} {cb} {cs} {ls} {ds} {m} q v d s h k u l e c b f =
       let w : at_places 32 0 db ds ≡ put nat_cmp (child_of q) d (at_places 32 0 cb cs) = e ∙ (λ i. put nat_cmp (k i) d (at_places 32 0 cb (l i))) in
       let none : find nat_cmp (child_of q) (at_places 32 0 cb cs) ≡ None = sym (missing (child_of q) cb cs (subst (λ i. IsUnset i cb) k u)) in
       let t : HasSlots vb vs db ds = record { values_counted = s.slots.values_counted; values_below = s.slots.values_below; children_counted = c; children_below = b } in
       let old = child_things cb cs s.slots.children_below s.slots.children_counted in
       let new = child_things db ds b c in
-      let sum : (g : Seen X → ℕ) → total g ds ≡ total g cs + g d = λ g. sums g cb db cs ds (child_of q) d old new w none in
-      let p = spare_insert empty (drop 5 q) v f in
       record {
         slots = t;
         map = child_put q v d s.node (is_node vb vs db ds s.slots.values_below b) h (child_put_in q d cb db cs ds h s.slots.children_below w) (f ∙ ap (λ o. map.insert (child_map o) (drop 5 q) v) (sym (child_found q cb cs h s.slots.children_below ∙ none))) ∙ ap (λ x. map.insert x q v) s.map;
-        spares = omega (arith, spare_count vb vs db ds t, sum spare_of, p, z, s.spares);
-        count = omega (arith, counted vb vs db ds t, sum all_nodes, s.count);
+        count = omega (arith, counted vb vs db ds t, sums all_nodes cb db cs ds (child_of q) d old new w none, s.count);
         height = omega (arith, heights cb db cs ds (child_of q) d old new w, s.height);
       }
 
   -- ---- the child on the way goes
 
-  pub record IsPruned (q : List Bool) (m : Seen X) (vb : ℕ) (vs : List X) (cb : ℕ) (cs : List (Seen X)) (e : Seen X) : Type 0 where
+  pub record IsChildless (q : List Bool) (m : Seen X) (vb : ℕ) (vs : List X) (cb : ℕ) (cs : List (Seen X)) (e : Seen X) : Type 0 where
     pub slots : HasSlots vb vs cb cs
-    pub map : map_of vb vs cb cs ≡ map.remove m.0 q
-    pub spares : Count.spares (viewed vb vs cb cs) + spare_of e ≡ Count.spares m
+    pub map : map_of vb vs cb cs ≡ map.remove m.entries q
     pub count : all_nodes (viewed vb vs cb cs) + all_nodes e ≡ all_nodes m
-    pub height : node_height cs + 1 ≤ m.2
+    pub height : node_height cs + 1 ≤ m.levels
 
-  pub pruned : {vb at b : ℕ} {vs : List X} {cb : ℕ} {cs ds : List (Seen X)} {m : Seen X} (q : List Bool) (e d : Seen X) → IsSeen vb vs cb cs m → 5 ≤ length q → IsTaken (child_of q) at cb cs → e ≡ get_or cs at e → d.0 ≡ map.remove e.0 (drop 5 q) → d.0 ≡ empty → b ≡ 2 ^ child_of q → ds ≡ remove (set cs at d) at
-      → IsPruned q m vb vs (cb - b) ds e
+  pub pruned : {vb at b : ℕ} {vs : List X} {cb : ℕ} {cs ds : List (Seen X)} {m : Seen X} (q : List Bool) (e d : Seen X) → IsSeen vb vs cb cs m → 5 ≤ length q → IsTaken (child_of q) at cb cs → e ≡ get_or cs at e → d.entries ≡ map.remove e.entries (drop 5 q) → d.entries ≡ empty → b ≡ 2 ^ child_of q → ds ≡ remove (set cs at d) at
+      → IsChildless q m vb vs (cb - b) ds e
   pruned {vb} {at} {b} {vs} {cb} {cs} {ds} {m} q e d s h t r f z k l =
       let w : ds ≡ remove cs at = l ∙ set_removed cs at d in
-      let cb' : ℕ = cb - 2 ^ child_of q in
       let below : cb - 2 ^ child_of q < 2 ^ 32 = omega (arith, s.slots.children_below) in
       let slots : HasSlots vb vs (cb - 2 ^ child_of q) (remove cs at) = record { values_counted = s.slots.values_counted; values_below = s.slots.values_below; children_counted = t.ones; children_below = below } in
-      let p : IsPruned q m vb vs (cb - 2 ^ child_of q) (remove cs at) e = record {
+      let p : IsChildless q m vb vs (cb - 2 ^ child_of q) (remove cs at) e = record {
         slots = slots;
         map = child_taken q None s.node (is_node vb vs (cb - 2 ^ child_of q) (remove cs at) s.slots.values_below below) h (child_taken_out q cb (cb - 2 ^ child_of q) cs (remove cs at) h s.slots.children_below t.removed)
             (sym z ∙ f ∙ ap (λ o. map.remove (child_map o) (drop 5 q)) (sym (was_found q e s h t r))) ∙ ap (λ x. map.remove x q) s.map;
-        spares = omega (arith, spare_count vb vs (cb - 2 ^ child_of q) (remove cs at) slots, total-remove spare_of cs at e t.within, ap spare_of r, s.spares);
         count = omega (arith, counted vb vs (cb - 2 ^ child_of q) (remove cs at) slots, total-remove all_nodes cs at e t.within, ap all_nodes r, s.count);
         height = omega (arith, height-remove cs at, s.height);
       } in
-      subst (λ (x : ℕ × List (Seen X)). IsPruned q m vb vs (cb - x.0) x.1 e) (λ i. (sym k i, sym w i)) p
+      subst (λ (x : ℕ × List (Seen X)). IsChildless q m vb vs (cb - x.0) x.1 e) (λ i. (sym k i, sym w i)) p

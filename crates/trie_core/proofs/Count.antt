@@ -6,13 +6,15 @@ use Rattle.std.specs.FinMap.{entries, find, get, entries_sorted, get-entries, ge
 use Rattle.std.specs.FinMap.Entries.{below_all, same_entries}
 use Rattle.std.proofs.Math.ListN.{length-append, length-take}
 use Rattle.std.proofs.lemmas.List.{take-append-drop}
-use Rattle.trie_keys.specs.Bits.{bits_cmp}
-use Rattle.trie_core.specs.Nodes.{BitMap, Seen, under, node_map, IsNode}
-use Rattle.trie_core.specs.Count.{fives_from, fives, fives_of, begun, nodes, nodes_if, spare_if, spares, spares_below, all_nodes, total}
-use Rattle.trie_keys.proofs.Strings.{bits_total, bits_same, same, same-Decides, same-refl, append_none, take_first, front, take_take}
+use Rattle.trie_core.specs.Bits.{bits_cmp}
+use Rattle.trie_core.specs.Nodes.{BitMap, Seen}
+use Rattle.trie_core.specs.InnerNodes.{under, node_map, IsNode}
+use Rattle.trie_core.specs.Count.{fives_from, fives, fives_of, begun, nodes}
+use Rattle.trie_core.specs.InnerCount.{nodes_if, spare_if, spare_count, spares_below, all_nodes, total}
+use Rattle.trie_core.proofs.Strings.{bits_total, bits_same, same, same-Decides, same-refl, append_none, take_first, front, take_take, T-and}
 use Rattle.trie_core.proofs.Maps.{tail_rises, or_else, find-append_all, find-under, find-apart, node_map-none, get-short, get_none}
-use Rattle.trie_core.specs.Walks.{first_value}
-use Rattle.trie_core.proofs.Order.{StartsAfter, T-and, below_under, below_append, less_right, less_left, found_above, below_found, found_long, found_get, sorted_under, walk_value, walk_child, walk_none, without_value, without_child, starts_after, values_after}
+use Rattle.trie_core.specs.InnerWalks.{first_value}
+use Rattle.trie_core.proofs.Order.{StartsAfter, below_under, below_append, less_right, less_left, found_above, below_found, found_long, found_get, sorted_under, walk_value, walk_child, walk_none, without_value, without_child, starts_after, values_after}
 
 take_more : (b k : List Bool) (n : ℕ) → length b ≡ 5 → take (5 + n) (b ++ k) ≡ b ++ take n k
 take_more (a ∷ b ∷ c ∷ d ∷ e ∷ []) k n h = let z : 5 + n ≡ suc (suc (suc (suc (suc n)))) = omega arith in rw z refl
@@ -187,7 +189,7 @@ things (c ∷ cs) = c.1 ∷ things cs
 module _ {X : Type 0} where
   -- the nodes of the children whose maps are not empty
   abbrev nodes_below : List (Seen X) → ℕ
-  nodes_below cs = total (λ c. nodes_if (len c.0) c.0) cs
+  nodes_below cs = total (λ c. nodes_if (len c.entries) c.entries) cs
 
   pub nothing : (es : List (List Bool × X)) → some_entry es ≡ false → es ≡ []
   nothing [] e = refl
@@ -197,31 +199,31 @@ module _ {X : Type 0} where
   unfolding begun
   begun_value {vs} {cs} {e} n h = ap (λ es. from_entries (fives_of es)) (walk_value n h) ∙ ap (λ fs. from_entries (fs ++ fives_of (entries (node_map vs cs)))) (fives_short e.0 n.values_short.0)
 
-  pub begun_none : {vs : List (List Bool × X)} {cs : List (List Bool × Seen X)} {c : List Bool × Seen X} → IsNode vs (c ∷ cs) → StartsAfter c.0 vs → entries c.1.0 ≡ [] → begun (node_map vs (c ∷ cs)) ≡ begun (node_map vs cs)
+  pub begun_none : {vs : List (List Bool × X)} {cs : List (List Bool × Seen X)} {c : List Bool × Seen X} → IsNode vs (c ∷ cs) → StartsAfter c.0 vs → entries c.1.entries ≡ [] → begun (node_map vs (c ∷ cs)) ≡ begun (node_map vs cs)
   unfolding begun
   begun_none {vs} {cs} {c} n h e = ap (λ es. from_entries (fives_of es)) (walk_child n h ∙ ap (λ es. under c.0 es ++ entries (node_map vs cs)) e)
 
-  pub begun_child : {vs : List (List Bool × X)} {cs : List (List Bool × Seen X)} {c : List Bool × Seen X} → IsNode vs (c ∷ cs) → T (below_all bits_cmp c.0 cs) → StartsAfter c.0 vs → some_entry (entries c.1.0) ≡ true
-      → entries (begun (node_map vs (c ∷ cs))) ≡ (c.0, tt) ∷ under c.0 (entries (begun c.1.0)) ++ entries (begun (node_map vs cs))
+  pub begun_child : {vs : List (List Bool × X)} {cs : List (List Bool × Seen X)} {c : List Bool × Seen X} → IsNode vs (c ∷ cs) → T (below_all bits_cmp c.0 cs) → StartsAfter c.0 vs → some_entry (entries c.1.entries) ≡ true
+      → entries (begun (node_map vs (c ∷ cs))) ≡ (c.0, tt) ∷ under c.0 (entries (begun c.1.entries)) ++ entries (begun (node_map vs cs))
   begun_child {vs} {cs} {c} n a h e =
       let b = c.0 in
       let five : length c.0 ≡ 5 = n.children_long.0 in
-      let E = entries (begun c.1.0) in
+      let E = entries (begun c.1.entries) in
       let F = entries (begun (node_map vs cs)) in
       same_entries bits_cmp bits_total bits_same _ _ (entries_sorted (begun (node_map vs (c ∷ cs))))
       (T-and _ _
       (below_append b (under b E) F
-      (subst (λ w. T (below_all bits_cmp w (under b E))) (append_none b) (below_under b [] E (not_none c.1.0)))
+      (subst (λ w. T (below_all bits_cmp w (under b E))) (append_none b) (below_under b [] E (not_none c.1.entries)))
       (subst (λ w. T (below_all bits_cmp w F)) (append_none b) (after_child n a [])))
-      (sorted_under b E F (entries_sorted (begun c.1.0)) (entries_sorted (begun (node_map vs cs))) (after_child n a)))
+      (sorted_under b E F (entries_sorted (begun c.1.entries)) (entries_sorted (begun (node_map vs cs))) (after_child n a)))
       (λ q. same_option _ _ (
       has-begun (node_map vs (c ∷ cs)) q
       ∙ ap (λ es. has q (fives_of es)) (walk_child n h)
-      ∙ ap (has q) (fives_of-append (under b (entries c.1.0)) (entries (node_map vs cs)))
-      ∙ has-append q (fives_of (under b (entries c.1.0))) (fives_of (entries (node_map vs cs)))
-      ∙ (λ i. (has_under b q (entries c.1.0) five i || sym (has-begun (node_map vs cs) q) i))
-      ∙ ap (λ t. (t && same q b || has q (under b (fives_of (entries c.1.0)))) || has q F) e
-      ∙ ap (λ t. (same q b || t) || has q F) (has_under_by b q (fives_of (entries c.1.0)) E five (λ x. sym (has-begun c.1.0 x)) (same (take 5 q) b) refl)
+      ∙ ap (has q) (fives_of-append (under b (entries c.1.entries)) (entries (node_map vs cs)))
+      ∙ has-append q (fives_of (under b (entries c.1.entries))) (fives_of (entries (node_map vs cs)))
+      ∙ (λ i. (has_under b q (entries c.1.entries) five i || sym (has-begun (node_map vs cs) q) i))
+      ∙ ap (λ t. (t && same q b || has q (under b (fives_of (entries c.1.entries)))) || has q F) e
+      ∙ ap (λ t. (same q b || t) || has q F) (has_under_by b q (fives_of (entries c.1.entries)) E five (λ x. sym (has-begun c.1.entries x)) (same (take 5 q) b) refl)
       ∙ or_three (same q b) (has q (under b E)) (has q F)
       ∙ ap (λ t. same q b || t) (sym (has-append q (under b E) F))
       ∙ sym (some_cond (same q b) tt (find bits_cmp q (under b E ++ F)))
@@ -235,29 +237,29 @@ module _ {X : Type 0} where
   nodes_if_some zero m h = absurd (omega arith)
   nodes_if_some (suc n) m h = refl
 
-  count_child_by : {vs : List (List Bool × X)} {cs : List (List Bool × Seen X)} {c : List Bool × Seen X} → IsNode vs (c ∷ cs) → StartsAfter c.0 vs → (b : Bool) → some_entry (entries c.1.0) ≡ b → len (begun (node_map vs (c ∷ cs))) ≡ nodes_if (len c.1.0) c.1.0 + len (begun (node_map vs cs))
+  count_child_by : {vs : List (List Bool × X)} {cs : List (List Bool × Seen X)} {c : List Bool × Seen X} → IsNode vs (c ∷ cs) → StartsAfter c.0 vs → (b : Bool) → some_entry (entries c.1.entries) ≡ b → len (begun (node_map vs (c ∷ cs))) ≡ nodes_if (len c.1.entries) c.1.entries + len (begun (node_map vs cs))
   count_child_by {vs} {cs} {c} n h true e =
       let l = ap length (begun_child n (tail_rises c cs n.children_rise).1 h e) in
-      let p = length-append (under c.0 (entries (begun c.1.0))) (entries (begun (node_map vs cs))) in
-      let u = length-under c.0 (entries (begun c.1.0)) in
-      let k = nodes_if_some (len c.1.0) c.1.0 (omega (arith, len-entries c.1.0, some_length (entries c.1.0) e)) in
-      omega (arith, l, p, u, k, len-entries (begun (node_map vs (c ∷ cs))), len-entries (begun c.1.0), len-entries (begun (node_map vs cs)))
+      let p = length-append (under c.0 (entries (begun c.1.entries))) (entries (begun (node_map vs cs))) in
+      let u = length-under c.0 (entries (begun c.1.entries)) in
+      let k = nodes_if_some (len c.1.entries) c.1.entries (omega (arith, len-entries c.1.entries, some_length (entries c.1.entries) e)) in
+      omega (arith, l, p, u, k, len-entries (begun (node_map vs (c ∷ cs))), len-entries (begun c.1.entries), len-entries (begun (node_map vs cs)))
   count_child_by {vs} {cs} {c} n h false e =
-      let z : entries c.1.0 ≡ [] = nothing (entries c.1.0) e in
-      let k : nodes_if (len c.1.0) c.1.0 ≡ 0 = ap (λ l. nodes_if l c.1.0) (len-entries c.1.0 ∙ ap length z) in
+      let z : entries c.1.entries ≡ [] = nothing (entries c.1.entries) e in
+      let k : nodes_if (len c.1.entries) c.1.entries ≡ 0 = ap (λ l. nodes_if l c.1.entries) (len-entries c.1.entries ∙ ap length z) in
       omega (arith, k, ap len (begun_none n h z))
 
   count_either : (e : List Bool × X) (vs : List (List Bool × X)) (c : List Bool × Seen X) (cs : List (List Bool × Seen X))
       → (IsNode vs (c ∷ cs) → len (begun (node_map vs (c ∷ cs))) ≡ nodes_below (things (c ∷ cs))) → (IsNode (e ∷ vs) cs → len (begun (node_map (e ∷ vs) cs)) ≡ nodes_below (things cs))
       → IsNode (e ∷ vs) (c ∷ cs) → (b : Bool) → first_value (e ∷ vs) (c ∷ cs) ≡ b → len (begun (node_map (e ∷ vs) (c ∷ cs))) ≡ nodes_below (things (c ∷ cs))
   count_either e vs c cs f g n true b = ap len (begun_value n (starts_after e vs (c ∷ cs) b)) ∙ f (without_value n)
-  count_either e vs c cs f g n false b = omega (arith, count_child_by n (values_after (e ∷ vs) c cs n b) (some_entry (entries c.1.0)) refl, g (without_child n))
+  count_either e vs c cs f g n false b = omega (arith, count_child_by n (values_after (e ∷ vs) c cs n b) (some_entry (entries c.1.entries)) refl, g (without_child n))
 
   count_by : (k : ℕ) (vs : List (List Bool × X)) (cs : List (List Bool × Seen X)) → length vs + length cs ≤ k → IsNode vs cs → len (begun (node_map vs cs)) ≡ nodes_below (things cs)
   count_by k [] [] h n = count_none X
   count_by zero (e ∷ vs) cs h n = absurd (omega arith)
   count_by zero [] (c ∷ cs) h n = absurd (omega arith)
-  count_by (suc k) [] (c ∷ cs) h n = omega (arith, count_child_by n tt (some_entry (entries c.1.0)) refl, count_by k [] cs (omega arith) (without_child n))
+  count_by (suc k) [] (c ∷ cs) h n = omega (arith, count_child_by n tt (some_entry (entries c.1.entries)) refl, count_by k [] cs (omega arith) (without_child n))
   count_by (suc k) (e ∷ vs) [] h n = ap len (begun_value n tt) ∙ count_by k vs [] (omega arith) (without_value n)
   count_by (suc k) (e ∷ vs) (c ∷ cs) h n = count_either e vs c cs (λ m. count_by k vs (c ∷ cs) (omega arith) m) (λ m. count_by k (e ∷ vs) cs (omega arith) m) n (first_value (e ∷ vs) (c ∷ cs)) refl
 
@@ -272,7 +274,7 @@ module _ {X : Type 0} where
   -- the nodes that the children need and the spare ones are all nodes
   all_nodes_below : (cs : List (Seen X)) → nodes_below cs + spares_below cs ≡ total all_nodes cs
   all_nodes_below [] = omega arith
-  all_nodes_below (c ∷ cs) = omega (arith, one_child_nodes (len c.0) c.0 (spares c) refl, all_nodes_below cs)
+  all_nodes_below (c ∷ cs) = omega (arith, one_child_nodes (len c.entries) c.entries (spare_count c) refl, all_nodes_below cs)
 
   -- all nodes of a node, by its lists
   pub all_of_node : {vs : List (List Bool × X)} {cs : List (List Bool × Seen X)} → IsNode vs cs → nodes (node_map vs cs) + spares_below (things cs) ≡ total all_nodes (things cs) + 1
@@ -290,7 +292,7 @@ module _ {X : Type 0} where
       cc
   bare_lists [] (c ∷ cs) n e z =
       let w = walk_child n tt in
-      let b = under c.0 (entries c.1.0) in
+      let b = under c.0 (entries c.1.entries) in
       let r = entries (node_map [] cs) in
-      let l : 1 ≤ len c.1.0 = spare_pos (len c.1.0) (omega (arith, z)) in
-      absurd (omega (arith, ap length w, length-append b r, length-under c.0 (entries c.1.0), len-entries c.1.0, len-entries (node_map [] (c ∷ cs)), ap len e, len-empty bits_cmp X, l))
+      let l : 1 ≤ len c.1.entries = spare_pos (len c.1.entries) (omega (arith, z)) in
+      absurd (omega (arith, ap length w, length-append b r, length-under c.0 (entries c.1.entries), len-entries c.1.entries, len-entries (node_map [] (c ∷ cs)), ap len e, len-empty bits_cmp X, l))

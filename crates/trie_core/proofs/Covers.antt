@@ -11,20 +11,21 @@ use Rattle.std.proofs.lemmas.Nat.{shl-shr, shr-shr, shr_split, pow-add}
 use Rattle.std.proofs.lemmas.Nat.Bits.{bit_at-zero}
 use Rattle.std.proofs.Math.Nat.{mul_assoc}
 use Rattle.std.proofs.Math.ListN.{length-append, length-drop}
-use Rattle.trie_keys.specs.Bits.{bits_cmp, begins, place_of, place_string, IsBeginMask}
-use Rattle.trie_core.specs.Places.{IsFirstPlace}
-use Rattle.trie_core.specs.Nodes.{BitMap, Seen, under}
-use Rattle.trie_core.specs.Search.{IsChild, HasNoChild}
-use Rattle.trie_core.specs.Covers.{is_left, NoneFrom, IsFirstFrom, cover_rest, cover_weight, IsCover}
-use Rattle.trie_keys.proofs.Strings.{bits_total, bits_same, same, same-Decides, not_same, front, begins_take, take_begins, take_take}
+use Rattle.trie_core.specs.Bits.{bits_cmp, begins}
+use Rattle.trie_core.specs.InnerPlaces.{place_of, place_string, IsBeginMask, IsFirstPlace}
+use Rattle.trie_core.specs.Nodes.{BitMap, Seen}
+use Rattle.trie_core.specs.InnerNodes.{under}
+use Rattle.trie_core.specs.InnerSearch.{IsChild, HasNoChild}
+use Rattle.trie_core.specs.InnerCovers.{is_left, NoneFrom, IsFirstFrom, cover_rest, cover_weight, IsCover}
+use Rattle.trie_core.proofs.Strings.{bits_total, bits_same, same, same-Decides, not_same, front, begins_take, take_begins, take_take, T-and, begins-under, not_true}
 use Rattle.trie_core.proofs.Maps.{get_none}
-use Rattle.trie_core.proofs.Order.{T-and, below_found}
-use Rattle.trie_keys.proofs.Numbers.{place_strings, place_string-place_of, place_bound, place_less}
+use Rattle.trie_core.proofs.Order.{below_found}
+use Rattle.trie_core.proofs.Numbers.{place_strings, place_string-place_of, place_bound, place_less}
 use Rattle.trie_core.proofs.Taken.{taken}
 use Rattle.trie_core.proofs.Seen.{IsSeen}
 use Rattle.trie_core.proofs.Searches.{IsMet, met_beginning, met_place, unset_none, found_here}
 use Rattle.trie_core.proofs.Frames.{bits_alike, under-under, under_none}
-use Rattle.trie_core.proofs.Walks.{AreBelow, where_below, begins-under, entries_none, kept_true, not_true}
+use Rattle.trie_core.proofs.Walks.{AreBelow, where_below, entries_none, kept_true}
 
 -- ---- the bits of a word from one on
 
@@ -56,13 +57,13 @@ not_before w p n e = elim (nat_lt n p) as (λ b. nat_lt n p ≡ b → p ≤ n) [
 ] refl
 
 module _ {X : Type 0} where
-  unset_by : {vb : ℕ} {vs : List X} {cb : ℕ} {cs : List (Seen X)} {m : Seen X} (q s : List Bool) (mask : ℕ) → IsSeen vb vs cb cs m → IsBeginMask q mask → length s < 5 → begins s q ≡ true → bit_at (bit_and vb mask) (place_of s) ≡ 0 → get m.0 s ≡ None
+  unset_by : {vb : ℕ} {vs : List X} {cb : ℕ} {cs : List (Seen X)} {m : Seen X} (q s : List Bool) (mask : ℕ) → IsSeen vb vs cb cs m → IsBeginMask q mask → length s < 5 → begins s q ≡ true → bit_at (bit_and vb mask) (place_of s) ≡ 0 → get m.entries s ≡ None
   unset_by {vb} {m = m} q s mask n f h b z =
       let t = begins_take s q b in
       let e : place_of (take (length s) q) ≡ place_of s = ap place_of t.1 in
-      ap (get m.0) (sym t.1) ∙ unset_none q (length s) n h (sym (met_beginning vb mask q f (length s) h t.0) ∙ ap (bit_at (bit_and vb mask)) e ∙ z)
+      ap (get m.entries) (sym t.1) ∙ unset_none q (length s) n h (sym (met_beginning vb mask q f (length s) h t.0) ∙ ap (bit_at (bit_and vb mask)) e ∙ z)
 
-  pub none_from : {vb : ℕ} {vs : List X} {cb : ℕ} {cs : List (Seen X)} {m : Seen X} (q : List Bool) (mask place low : ℕ) → IsSeen vb vs cb cs m → IsBeginMask q mask → low ≡ bit_and vb mask % 2 ^ place → bit_and vb mask - low ≡ 0 → NoneFrom m.0 q place
+  pub none_from : {vb : ℕ} {vs : List X} {cb : ℕ} {cs : List (Seen X)} {m : Seen X} (q : List Bool) (mask place low : ℕ) → IsSeen vb vs cb cs m → IsBeginMask q mask → low ≡ bit_and vb mask % 2 ^ place → bit_and vb mask - low ≡ 0 → NoneFrom m.entries q place
   none_from {vb} q mask place low n f e z s h b l =
       let w = bit_and vb mask in
       unset_by q s mask n f h b (sym ((bits_cut w place (place_of s)).1 l) ∙ ap (λ x. bit_at x (place_of s)) (ap (λ x. w - x) (sym e) ∙ z) ∙ bit_at-zero (place_of s))
@@ -75,7 +76,7 @@ module _ {X : Type 0} where
       (met_place vb mask q n.slots.values_below f next (sym ((bits_cut w place next).1 l) ∙ b), l)
 
   pub first_from : {vb : ℕ} {vs : List X} {cb : ℕ} {cs : List (Seen X)} {m : Seen X} (q : List Bool) (mask place low next at : ℕ) (v : X) → IsSeen vb vs cb cs m → IsBeginMask q mask → low ≡ bit_and vb mask % 2 ^ place → IsFirstPlace (bit_and vb mask - low) next → at ≡ count_ones (vb % 2 ^ next) → v ≡ get_or vs at v
-      → IsFirstFrom m.0 q place next v
+      → IsFirstFrom m.entries q place next v
   first_from {vb} {m = m} q mask place low next at v n f e t a r =
       let w = bit_and vb mask in
       let k = met_from q mask place low next n f e t in
@@ -84,7 +85,7 @@ module _ {X : Type 0} where
         from = k.1;
         below = k.0.below;
         begun = begun_by s q k.0.within k.0.begins;
-        found = ap (get m.0) (sym k.0.begins) ∙ found_here q next at v n k.0 a r;
+        found = ap (get m.entries) (sym k.0.begins) ∙ found_here q next at v n k.0 a r;
         first = λ x h b l j. unset_by q x mask n f h b (sym ((bits_cut w place (place_of x)).1 l) ∙ ap (λ y. bit_at (w - y) (place_of x)) (sym e) ∙ t.under (place_of x) j);
       }
     where
@@ -266,15 +267,15 @@ module _ {X : Type 0} where
           n (drop 5 x) (sym (front x s).1 ∙ ap (λ y. y ++ drop 5 x) (ap (take 5) (sym f.1) ∙ take_less p (length x) s))
 
   -- below the five bits
-  pub cover_below : (m : Seen X) (trail : List Bool) {p : List Bool} {n : ℕ} (o : Option (Bor (Seen X))) {r way : List Bool} → NoneFrom m.0 p n → 5 ≤ length p → MatchOption o (HasNoChild p m) (λ c. IsChild p m c.now) → way ≡ trail ++ take 5 p → r ≡ drop 5 p
-      → (under trail (where_key bits_cmp (is_left p n) (entries m.0)) ≡ cover_rest o r 0 way) × (cover_weight o r < length p + 1)
+  pub cover_below : (m : Seen X) (trail : List Bool) {p : List Bool} {n : ℕ} (o : Option (Bor (Seen X))) {r way : List Bool} → NoneFrom m.entries p n → 5 ≤ length p → MatchOption o (HasNoChild p m) (λ c. IsChild p m c.now) → way ≡ trail ++ take 5 p → r ≡ drop 5 p
+      → (under trail (where_key bits_cmp (is_left p n) (entries m.entries)) ≡ cover_rest o r 0 way) × (cover_weight o r < length p + 1)
   cover_below m trail {p} {n} None {r} {way} w h s e d = (
-    ap (under trail) (where_rest m.0 w ∙ where_below (left_below p {c = empty} h (λ r. s.gets r ∙ sym (get_none r))) ∙ ap (λ es. under (take 5 p) (where_key bits_cmp (is_left (drop 5 p) 0) es)) entries_none),
+    ap (under trail) (where_rest m.entries w ∙ where_below (left_below p {c = empty} h (λ r. s.gets r ∙ sym (get_none r))) ∙ ap (λ es. under (take 5 p) (where_key bits_cmp (is_left (drop 5 p) 0) es)) entries_none),
     omega arith,
   )
   cover_below m trail {p} {n} (Some c) {r} {way} w h s e d = (
-    ap (under trail) (where_rest m.0 w ∙ where_below (left_below p h s.gets)) ∙ under-under trail (take 5 p) (where_key bits_cmp (is_left (drop 5 p) 0) (entries c.now.0))
-        ∙ (λ i. under (sym e i) (where_key bits_cmp (is_left (sym d i) 0) (entries c.now.0))),
+    ap (under trail) (where_rest m.entries w ∙ where_below (left_below p h s.gets)) ∙ under-under trail (take 5 p) (where_key bits_cmp (is_left (drop 5 p) 0) (entries c.now.entries))
+        ∙ (λ i. under (sym e i) (where_key bits_cmp (is_left (sym d i) 0) (entries c.now.entries))),
     omega (arith, ap length d, length-drop 5 p, h),
   )
 

@@ -7,10 +7,10 @@ use Rattle.std.specs.FinMap.{find, is_sorted, put}
 use Rattle.std.specs.FinMap.Entries.{below_all}
 use Rattle.std.proofs.lemmas.Nat.{shr-shr}
 use Rattle.std.proofs.lemmas.Bool.Decides.{nat_tests}
-use Rattle.trie_core.specs.Places.{at_places, without}
-use Rattle.trie_keys.proofs.Numbers.{ones_bit}
+use Rattle.trie_core.specs.InnerPlaces.{at_places, without}
+use Rattle.trie_core.proofs.Numbers.{ones_bit}
 use Rattle.trie_core.proofs.Places.{ones_half, ones_below_suc}
-use Rattle.trie_keys.proofs.Strings.{both}
+use Rattle.trie_core.proofs.Strings.{both, T-true, T-and}
 
 pub low_bit : (b : ℕ) → (b % 2 ≡ 0) ⊎ (b % 2 ≡ 1)
 low_bit b = elim (eqb (b % 2) 1) as (λ t. eqb (b % 2) 1 ≡ t → (b % 2 ≡ 0) ⊎ (b % 2 ≡ 1)) [
@@ -71,14 +71,6 @@ ones_clear (suc i) bits z =
     let r = ones_clear i (bits / 2) (higher_bit bits i 1 z) in
     omega (arith, ones_half bits, ones_half (bits - 2 ^ suc i), ap count_ones (half_less bits i q), low_less bits i q, r)
 
-pair : (a b : Bool) → T a → T b → T (a && b)
-pair true b p q = q
-pair false b p q = p
-
-T-true : (b : Bool) → T b → b ≡ true
-T-true true h = refl
-T-true false h = absurd h
-
 module _ {X : Type 0} where
   keep_all : (n m : ℕ) (es : List (ℕ × X)) → n ≤ m → T (below_all nat_cmp m es) → without n es ≡ es
   keep_all n m [] h b = refl
@@ -128,7 +120,7 @@ module _ {X : Type 0} where
   at_sorted (suc w) n bits [] = tt
   at_sorted (suc w) n bits (x ∷ xs) = elim (low_bit bits) [
     | inl e ↦ rw (at_step w n bits (x ∷ xs) e) (at_sorted w (suc n) (bits / 2) (x ∷ xs))
-    | inr e ↦ rw (at_first w n bits x xs e) (pair _ _ (at_above w (suc n) n (bits / 2) xs (omega arith)) (at_sorted w (suc n) (bits / 2) xs))
+    | inr e ↦ rw (at_first w n bits x xs e) (T-and _ _ (at_above w (suc n) n (bits / 2) xs (omega arith)) (at_sorted w (suc n) (bits / 2) xs))
   ]
 
   put_past : (m n : ℕ) (x v : X) (es : List (ℕ × X)) → n < m → put nat_cmp m v ((n, x) ∷ es) ≡ (n, x) ∷ put nat_cmp m v es

@@ -3,11 +3,12 @@ use Rattle.std.proofs.Common.{◌≡◌, ℕ, zero, suc, ◌+◌, ◌-◌, ◌<�
 use Rattle.std.specs.Prelude.{cond, Option, None, is_some}
 use Rattle.std.specs.FinMap.{len, get, empty_of_len, get-empty, len-remove}
 use Rattle.std.specs.FinMap as map
-use Rattle.trie_keys.specs.Bits.{bits_cmp}
-use Rattle.trie_keys.proofs.Strings.{bits_total}
-use Rattle.trie_core.specs.Places.{value_list}
-use Rattle.trie_core.specs.Nodes.{BitMap, Seen, HasSlots}
-use Rattle.trie_core.specs.Count.{total, entry_count}
+use Rattle.trie_core.specs.Bits.{bits_cmp}
+use Rattle.trie_core.proofs.Strings.{bits_total}
+use Rattle.trie_core.specs.InnerPlaces.{value_list}
+use Rattle.trie_core.specs.Nodes.{BitMap, Seen}
+use Rattle.trie_core.specs.InnerNodes.{HasSlots}
+use Rattle.trie_core.specs.InnerCount.{total, entry_count}
 use Rattle.trie_core.proofs.Named.{is_node, value_things, child_things}
 use Rattle.trie_core.proofs.Lengths.{length-things, entries_of_node}
 use Rattle.trie_core.proofs.Seen.{IsSeen, map_of}
@@ -21,7 +22,7 @@ module _ {X : Type 0} where
       let n = is_node vb vs cb cs s.values_below s.children_below in
       omega (arith, entries_of_node n, ap length u, length-things (value_list vb vs), ap (total entry_count) t)
 
-  pub entries_of : {vb : ℕ} {vs : List X} {cb : ℕ} {cs : List (Seen X)} {m : Seen X} → IsSeen vb vs cb cs m → len m.0 ≡ length vs + total entry_count cs
+  pub entries_of : {vb : ℕ} {vs : List X} {cb : ℕ} {cs : List (Seen X)} {m : Seen X} → IsSeen vb vs cb cs m → len m.entries ≡ length vs + total entry_count cs
   entries_of {vb} {vs} {cb} {cs} s = ap len (sym s.map) ∙ entries_at vb vs cb cs s.slots
 
   -- ---- a sum, as far as it is taken

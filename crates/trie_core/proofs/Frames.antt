@@ -9,19 +9,20 @@ use Rattle.std.specs.FinMap.{find, entries, get, get-entries, entries_sorted}
 use Rattle.std.specs.FinMap.Entries.{where_key, find-where_key, is_sorted-where_key, same_entries}
 use Rattle.std.proofs.lemmas.List.{append_assoc}
 use Rattle.std.proofs.Math.ListN.{length-append}
-use Rattle.trie_keys.specs.Bits.{bits_cmp, begins, place_of, child_of, place_string, child_string}
+use Rattle.trie_core.specs.Bits.{bits_cmp, begins}
+use Rattle.trie_core.specs.InnerPlaces.{place_of, child_of, place_string, child_string, AllBelow, named, placed, value_list, child_list, first_place_of}
 use Rattle.ipnet_blocks.specs.Blocks.{digits}
-use Rattle.trie_keys.specs.Prefixes.{prefix_bits}
-use Rattle.trie_core.specs.Places.{AllBelow, named, placed, value_list, child_list, first_place_of}
-use Rattle.trie_core.specs.Nodes.{Seen, under, node_height, IsNode}
-use Rattle.trie_core.specs.Count.{all_nodes, total}
-use Rattle.trie_core.specs.Walks.{first_value, KeysWithin, levels_of, nodes_of, part_map, part_rest, AreInOrder, AreParts, IsFrame}
-use Rattle.trie_keys.proofs.Strings.{bits_total, bits_same, both}
+use Rattle.trie_core.specs.Prefixes.{prefix_bits}
+use Rattle.trie_core.specs.Nodes.{Seen}
+use Rattle.trie_core.specs.InnerNodes.{under, node_height, IsNode}
+use Rattle.trie_core.specs.InnerCount.{all_nodes, total}
+use Rattle.trie_core.specs.InnerWalks.{first_value, KeysWithin, levels_of, nodes_of, part_map, part_rest, AreInOrder, AreParts, IsFrame}
+use Rattle.trie_core.proofs.Strings.{bits_total, bits_same, both}
 use Rattle.trie_core.proofs.Maps.{child_get, get_none, get-short, get-long}
 use Rattle.trie_core.proofs.Order.{walk_value, walk_child, walk_none, starts_after, values_after}
 use Rattle.trie_core.proofs.Count.{things, under-append}
-use Rattle.trie_keys.proofs.Numbers.{child_of-string, length-child_string, place_strings, place_string-place_of, child_string-child_of, place_bound, number_bound}
-use Rattle.trie_keys.proofs.Begins.{value_before, inside_short, inside_long}
+use Rattle.trie_core.proofs.Numbers.{child_of-string, length-child_string, place_strings, place_string-place_of, child_string-child_of, place_bound, number_bound}
+use Rattle.trie_core.proofs.PlaceTables.{value_before, inside_short, inside_long}
 use Rattle.trie_core.proofs.Named.{IsNaming, named_find, named_sorted, places_named, children_named, values_short, children_long, values_below, at_below, child_things}
 use Rattle.trie_core.proofs.Edits.{at_sorted}
 use Rattle.trie_core.proofs.Seen.{IsSeen}
@@ -43,7 +44,7 @@ module _ {X : Type 0} where
 
   levels_by : (cs : List (ℕ × Seen X)) → levels_of cs ≡ node_height (things (named child_string cs))
   levels_by [] = refl
-  levels_by (c ∷ cs) = ap (max c.1.2) (levels_by cs)
+  levels_by (c ∷ cs) = ap (max c.1.levels) (levels_by cs)
 
   nodes_by : (cs : List (ℕ × Seen X)) → nodes_of cs ≡ total all_nodes (things (named child_string cs))
   nodes_by [] = refl
@@ -76,7 +77,7 @@ module _ {X : Type 0} where
     children_long = children_long cs;
   }
 
-  pub whole_frame : {m : Seen X} {vs : List (ℕ × X)} {cs : List (ℕ × Seen X)} (trail : List Bool) → AreParts m vs cs → length trail + 5 * m.2 ≤ 130 → KeysWithin 128 (under trail (entries m.0)) → IsFrame vs cs trail
+  pub whole_frame : {m : Seen X} {vs : List (ℕ × X)} {cs : List (ℕ × Seen X)} (trail : List Bool) → AreParts m vs cs → length trail + 5 * m.levels ≤ 130 → KeysWithin 128 (under trail (entries m.entries)) → IsFrame vs cs trail
   whole_frame {m} {vs} {cs} trail p l k = record {
     order = p.order;
     levels = omega (arith, p.levels, l);
@@ -117,24 +118,24 @@ module _ {X : Type 0} where
   pub record IsChildNext (vs : List (ℕ × X)) (cs ds : List (ℕ × Seen X)) (trail : List Bool) (child : ℕ) (m : Seen X) : Type 0 where
     pub below : child < 32
     pub within : length trail + 5 ≤ 128
-    pub levels : length (trail ++ child_string child) + 5 * m.2 ≤ 130
-    pub keys : KeysWithin 128 (under (trail ++ child_string child) (entries m.0))
+    pub levels : length (trail ++ child_string child) + 5 * m.levels ≤ 130
+    pub keys : KeysWithin 128 (under (trail ++ child_string child) (entries m.entries))
     pub frame : IsFrame vs ds trail
-    pub rest : part_rest vs cs trail ≡ under (trail ++ child_string child) (entries m.0) ++ part_rest vs ds trail
-    pub less : (m.2 ≤ levels_of cs) × (levels_of ds ≤ levels_of cs) × (all_nodes m + nodes_of ds ≡ nodes_of cs)
+    pub rest : part_rest vs cs trail ≡ under (trail ++ child_string child) (entries m.entries) ++ part_rest vs ds trail
+    pub less : (m.levels ≤ levels_of cs) × (levels_of ds ≤ levels_of cs) × (all_nodes m + nodes_of ds ≡ nodes_of cs)
 
-  pub child_next : {vs : List (ℕ × X)} {cs ds : List (ℕ × Seen X)} {trail : List Bool} {child : ℕ} {m : Seen X} → IsFrame vs cs trail → cs ≡ (child, m) ∷ ds → first_value (named place_string vs) (named child_string cs) ≡ false → 1 ≤ m.2 → IsChildNext vs cs ds trail child m
+  pub child_next : {vs : List (ℕ × X)} {cs ds : List (ℕ × Seen X)} {trail : List Bool} {child : ℕ} {m : Seen X} → IsFrame vs cs trail → cs ≡ (child, m) ∷ ds → first_value (named place_string vs) (named child_string cs) ≡ false → 1 ≤ m.levels → IsChildNext vs cs ds trail child m
   child_next {vs} {cs} {ds} {trail} {child} {m} f e h l =
       let o : AreInOrder vs ((child, m) ∷ ds) = subst (λ us. AreInOrder vs us) e f.order in
       let n = part_node o in
       let b = ap (λ us. first_value (named place_string vs) (named child_string us)) (sym e) ∙ h in
-      let r : part_rest vs cs trail ≡ under (trail ++ child_string child) (entries m.0) ++ part_rest vs ds trail =
+      let r : part_rest vs cs trail ≡ under (trail ++ child_string child) (entries m.entries) ++ part_rest vs ds trail =
       ap (λ us. part_rest vs us trail) e
       ∙ ap (under trail) (walk_child n (values_after (named place_string vs) (child_string child, m) (named child_string ds) n b))
-      ∙ under-append trail (under (child_string child) (entries m.0)) (entries (part_map vs ds))
-      ∙ ap (λ es. es ++ part_rest vs ds trail) (under-under trail (child_string child) (entries m.0)) in
-      let k = keys_split 128 (under (trail ++ child_string child) (entries m.0)) (part_rest vs ds trail) (subst (KeysWithin 128) r f.keys) in
-      let levels : levels_of cs ≡ max m.2 (levels_of ds) = ap levels_of e in
+      ∙ under-append trail (under (child_string child) (entries m.entries)) (entries (part_map vs ds))
+      ∙ ap (λ es. es ++ part_rest vs ds trail) (under-under trail (child_string child) (entries m.entries)) in
+      let k = keys_split 128 (under (trail ++ child_string child) (entries m.entries)) (part_rest vs ds trail) (subst (KeysWithin 128) r f.keys) in
+      let levels : levels_of cs ≡ max m.levels (levels_of ds) = ap levels_of e in
       record {
         below = o.children_below.0;
         within = omega (arith, f.levels, levels, l);
@@ -253,13 +254,13 @@ module _ {X : Type 0} where
   -- the frame of the keys that p tells
   pub record IsKept (p : List Bool → Bool) (m : Seen X) (vs : List (ℕ × X)) (cs : List (ℕ × Seen X)) (trail : List Bool) : Type 0 where
     pub frame : IsFrame vs cs trail
-    pub rest : part_rest vs cs trail ≡ under trail (where_key bits_cmp p (entries m.0))
-    pub levels : levels_of cs + 1 ≤ m.2
+    pub rest : part_rest vs cs trail ≡ under trail (where_key bits_cmp p (entries m.entries))
+    pub levels : levels_of cs + 1 ≤ m.levels
 
-  pub part_left : {p : List Bool → Bool} (f g : ℕ → Bool) {m : Seen X} {vs : List (ℕ × X)} {cs : List (ℕ × Seen X)} (trail : List Bool) → AreParts m vs cs → IsTold p f g → part_rest (where_key nat_cmp f vs) (where_key nat_cmp g cs) trail ≡ under trail (where_key bits_cmp p (entries m.0))
+  pub part_left : {p : List Bool → Bool} (f g : ℕ → Bool) {m : Seen X} {vs : List (ℕ × X)} {cs : List (ℕ × Seen X)} (trail : List Bool) → AreParts m vs cs → IsTold p f g → part_rest (where_key nat_cmp f vs) (where_key nat_cmp g cs) trail ≡ under trail (where_key bits_cmp p (entries m.entries))
   part_left {p} f g trail a t = ap (under trail) (part_where f g a.order t ∙ ap (λ n. where_key bits_cmp p (entries n)) a.map)
 
-  pub kept_left : {p : List Bool → Bool} (f g : ℕ → Bool) {m : Seen X} {vs : List (ℕ × X)} {cs : List (ℕ × Seen X)} {trail : List Bool} → AreParts m vs cs → IsTold p f g → length trail + 5 * m.2 ≤ 130 → KeysWithin 128 (under trail (where_key bits_cmp p (entries m.0)))
+  pub kept_left : {p : List Bool → Bool} (f g : ℕ → Bool) {m : Seen X} {vs : List (ℕ × X)} {cs : List (ℕ × Seen X)} {trail : List Bool} → AreParts m vs cs → IsTold p f g → length trail + 5 * m.levels ≤ 130 → KeysWithin 128 (under trail (where_key bits_cmp p (entries m.entries)))
       → IsKept p m (where_key nat_cmp f vs) (where_key nat_cmp g cs) trail
   kept_left {p} f g {m} {vs} {cs} {trail} a t l k =
       let r = part_left f g trail a t in
@@ -273,9 +274,9 @@ module _ {X : Type 0} where
         levels = omega (arith, levels_where g cs, a.levels);
       }
 
-  kept : {p : List Bool → Bool} (f g : ℕ → Bool) {m : Seen X} {vs : List (ℕ × X)} {cs : List (ℕ × Seen X)} {trail : List Bool} → AreParts m vs cs → IsTold p f g → length trail + 5 * m.2 ≤ 130 → KeysWithin 128 (under trail (entries m.0))
+  kept : {p : List Bool → Bool} (f g : ℕ → Bool) {m : Seen X} {vs : List (ℕ × X)} {cs : List (ℕ × Seen X)} {trail : List Bool} → AreParts m vs cs → IsTold p f g → length trail + 5 * m.levels ≤ 130 → KeysWithin 128 (under trail (entries m.entries))
       → IsKept p m (where_key nat_cmp f vs) (where_key nat_cmp g cs) trail
-  kept {p} f g {m} {trail = trail} a t l k = kept_left f g a t l (keys_where 128 trail p (entries m.0) k)
+  kept {p} f g {m} {trail = trail} a t l k = kept_left f g a t l (keys_where 128 trail p (entries m.entries) k)
 
   -- ---- the keys that begin with a short string
 
@@ -283,7 +284,7 @@ module _ {X : Type 0} where
       → AreParts m vs cs → length q < 5 → len ≡ length q → place ≡ place_of q → child ≡ child_of q
       → vs1 ≡ where_key nat_cmp (λ k. not (nat_lt k place)) vs → vs2 ≡ where_key nat_cmp (λ k. nat_lt k (place + 31 / 2 ^ len)) vs1
       → cs1 ≡ where_key nat_cmp (λ k. not (nat_lt k child)) cs → cs2 ≡ where_key nat_cmp (λ k. nat_lt k (child + 32 / 2 ^ len)) cs1
-      → length trail + 5 * m.2 ≤ 130 → KeysWithin 128 (under trail (entries m.0)) → IsKept (begins q) m vs2 cs2 trail
+      → length trail + 5 * m.levels ≤ 130 → KeysWithin 128 (under trail (entries m.entries)) → IsKept (begins q) m vs2 cs2 trail
   inside_frame {m} {vs} {cs} {trail} q {len} {place} {child} {vs1} {vs2} {cs1} {cs2} a h e ep ec v1 v2 c1 c2 l k =
       let f : ℕ → Bool = λ k. not (nat_lt k (place_of q)) && nat_lt k (place_of q + 31 / 2 ^ length q) in
       let g : ℕ → Bool = λ k. not (nat_lt k (child_of q)) && nat_lt k (child_of q + 32 / 2 ^ length q) in
@@ -319,7 +320,7 @@ module _ {X : Type 0} where
   pub child_frame : {vs us : List (ℕ × X)} {cs ds es : List (ℕ × Seen X)} {trail way : List Bool} {child : ℕ} {m : Seen X} → IsChildNext vs cs ds trail child m → way ≡ trail ++ prefix_bits 5 child 5 → AreParts m us es → IsFrame us es way × (part_rest vs cs trail ≡ part_rest us es way ++ part_rest vs ds trail)
   child_frame {vs} {us} {cs} {ds} {es} {trail} {way} {child} {m} n w a =
       let b : way ≡ trail ++ child_string child = w ∙ ap (λ s. trail ++ s) (child_bits child) in (
-        whole_frame way a (omega (arith, ap length b, n.levels)) (subst (λ s. KeysWithin 128 (under s (entries m.0))) (sym b) n.keys),
+        whole_frame way a (omega (arith, ap length b, n.levels)) (subst (λ s. KeysWithin 128 (under s (entries m.entries))) (sym b) n.keys),
         n.rest ∙ (λ i. under (sym b i) (entries (sym a.map i)) ++ part_rest vs ds trail),
       )
 

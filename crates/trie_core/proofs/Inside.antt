@@ -5,26 +5,21 @@ use Rattle.std.specs.FinMap.{get, len, empty, find, get-empty, get-remove, get-r
 use Rattle.std.specs.FinMap as map
 use Rattle.std.proofs.lemmas.Bool.Decides.{nat_tests}
 use Rattle.std.proofs.Math.ListN.{length-drop}
-use Rattle.trie_keys.specs.Bits.{bits_cmp, begins, child_of}
-use Rattle.trie_core.specs.Places.{IsUnset}
-use Rattle.trie_core.specs.Nodes.{BitMap, Seen, child_map, node_map, node_height, IsNode, HasSlots}
-use Rattle.trie_core.specs.Count.{all_nodes, spare_of, entry_count}
-use Rattle.trie_core.specs.Count as Count
+use Rattle.trie_core.specs.Bits.{bits_cmp, begins}
+use Rattle.trie_core.specs.InnerPlaces.{child_of, IsUnset}
+use Rattle.trie_core.specs.Nodes.{BitMap, Seen}
+use Rattle.trie_core.specs.InnerNodes.{child_map, node_map, node_height, IsNode, HasSlots}
+use Rattle.trie_core.specs.InnerCount.{all_nodes, spare_count, spare_of, entry_count}
 use Rattle.trie_core.specs.Inside.{outside}
-use Rattle.trie_keys.proofs.Strings.{bits_total, bits_same, same, same-Decides, not_same, not_true, begins_take, front, take_take}
+use Rattle.trie_core.proofs.Strings.{bits_total, bits_same, same, same-Decides, not_same, not_true, begins_take, front, take_take, begins-under}
 use Rattle.trie_core.proofs.Maps.{ListChanges, child_get, get-short, get-long}
 use Rattle.trie_core.proofs.Named.{is_node, child_put_in, child_taken_out}
 use Rattle.trie_core.proofs.Taken.{IsTaken, missing}
-use Rattle.trie_core.proofs.Seen.{IsSeen, map_of, viewed, counted, spare_count, has_no_child, no_items, total-set}
+use Rattle.trie_core.proofs.Seen.{IsSeen, map_of, viewed, counted, spares_counted, has_no_child, no_items, total-set}
 use Rattle.trie_core.proofs.Changes.{was_found, set_slots, total-remove, height-remove}
 use Rattle.trie_core.proofs.Entries.{entries_at, entries_of}
 
 -- ---- beginnings
-
-pub begins-under : (b q x : List Bool) → begins (b ++ q) (b ++ x) ≡ begins q x
-begins-under [] q x = refl
-begins-under (true ∷ b) q x = begins-under b q x
-begins-under (false ∷ b) q x = begins-under b q x
 
 pub begins_longer : (q x : List Bool) → length x < length q → begins q x ≡ false
 begins_longer q x h = not_true _ (λ e. omega (arith, (begins_take q x e).0, h))
@@ -119,23 +114,22 @@ module _ {X : Type 0} where
   child_outside {vs} {cs} q o n k h f g = same_by _ _ (λ x. child_outside_by q o n k h f g x (nat_lt (length x) 5) refl ∙ sym (get-outside (node_map vs cs) q x))
 
   -- there is none
-  pub none_inside : {vb n : ℕ} {vs : List X} {cb : ℕ} {cs : List (Seen X)} {m : Seen X} (q : List Bool) → IsSeen vb vs cb cs m → 5 ≤ length q → n ≡ child_of q → IsUnset n cb → m.0 ≡ outside m.0 q
+  pub none_inside : {vb n : ℕ} {vs : List X} {cb : ℕ} {cs : List (Seen X)} {m : Seen X} (q : List Bool) → IsSeen vb vs cb cs m → 5 ≤ length q → n ≡ child_of q → IsUnset n cb → m.entries ≡ outside m.entries q
   none_inside {cb = cb} {cs = cs} {m = m} q s h k u =
       let t = has_no_child q s h (sym (missing (child_of q) cb cs (subst (λ i. IsUnset i cb) k u))) in
-      outside_absent m.0 q (λ x e.
+      outside_absent m.entries q (λ x e.
       let l : 5 ≤ length x = omega (arith, (begins_take q x e).0, h) in
-      ap (get m.0) (sym (front x l).1 ∙ ap (λ b. b ++ drop 5 x) (first_five q x h e)) ∙ t.gets (drop 5 x))
+      ap (get m.entries) (sym (front x l).1 ∙ ap (λ b. b ++ drop 5 x) (first_five q x h e)) ∙ t.gets (drop 5 x))
 
   -- it goes, with all its entries
   pub record IsWithout (q : List Bool) (m : Seen X) (vb : ℕ) (vs : List X) (cb : ℕ) (cs : List (Seen X)) (e : Seen X) : Type 0 where
     pub slots : HasSlots vb vs cb cs
-    pub map : map_of vb vs cb cs ≡ outside m.0 q
-    pub entries : len (map_of vb vs cb cs) + len e.0 ≡ len m.0
-    pub spares : Count.spares (viewed vb vs cb cs) + spare_of e ≡ Count.spares m
+    pub map : map_of vb vs cb cs ≡ outside m.entries q
+    pub entries : len (map_of vb vs cb cs) + len e.entries ≡ len m.entries
     pub count : all_nodes (viewed vb vs cb cs) + all_nodes e ≡ all_nodes m
-    pub height : node_height cs + 1 ≤ m.2
+    pub height : node_height cs + 1 ≤ m.levels
 
-  pub gone : {vb at b : ℕ} {vs : List X} {cb : ℕ} {cs ds : List (Seen X)} {m : Seen X} (q : List Bool) (e : Seen X) → IsSeen vb vs cb cs m → 5 ≤ length q → IsTaken (child_of q) at cb cs → e ≡ get_or cs at e → empty ≡ outside e.0 (drop 5 q) → b ≡ 2 ^ child_of q → ds ≡ remove cs at
+  pub gone : {vb at b : ℕ} {vs : List X} {cb : ℕ} {cs ds : List (Seen X)} {m : Seen X} (q : List Bool) (e : Seen X) → IsSeen vb vs cb cs m → 5 ≤ length q → IsTaken (child_of q) at cb cs → e ≡ get_or cs at e → empty ≡ outside e.entries (drop 5 q) → b ≡ 2 ^ child_of q → ds ≡ remove cs at
       → IsWithout q m vb vs (cb - b) ds e
   gone {vb} {at} {b} {vs} {cb} {cs} {ds} {m} q e s h t r z k l =
       let below : cb - 2 ^ child_of q < 2 ^ 32 = omega (arith, s.slots.children_below) in
@@ -145,23 +139,22 @@ module _ {X : Type 0} where
         map = child_outside q None s.node (is_node vb vs (cb - 2 ^ child_of q) (remove cs at) s.slots.values_below below) h (child_taken_out q cb (cb - 2 ^ child_of q) cs (remove cs at) h s.slots.children_below t.removed)
             (z ∙ ap (λ o. outside (child_map o) (drop 5 q)) (sym (was_found q e s h t r))) ∙ ap (λ x. outside x q) s.map;
         entries = omega (arith, entries_at vb vs (cb - 2 ^ child_of q) (remove cs at) slots, total-remove entry_count cs at e t.within, ap entry_count r, entries_of s);
-        spares = omega (arith, spare_count vb vs (cb - 2 ^ child_of q) (remove cs at) slots, total-remove spare_of cs at e t.within, ap spare_of r, s.spares);
         count = omega (arith, counted vb vs (cb - 2 ^ child_of q) (remove cs at) slots, total-remove all_nodes cs at e t.within, ap all_nodes r, s.count);
         height = omega (arith, height-remove cs at, s.height);
       } in
       subst (λ (x : ℕ × List (Seen X)). IsWithout q m vb vs (cb - x.0) x.1 e) (λ i. (sym k i, sym l i)) p
 
   -- it stays, with fewer entries
-  pub set_outside : {vb at : ℕ} {vs : List X} {cb : ℕ} {cs : List (Seen X)} {m : Seen X} (q : List Bool) (e d : Seen X) → IsSeen vb vs cb cs m → 5 ≤ length q → IsTaken (child_of q) at cb cs → e ≡ get_or cs at e → d.0 ≡ outside e.0 (drop 5 q) → map_of vb vs cb (set cs at d) ≡ outside m.0 q
+  pub set_outside : {vb at : ℕ} {vs : List X} {cb : ℕ} {cs : List (Seen X)} {m : Seen X} (q : List Bool) (e d : Seen X) → IsSeen vb vs cb cs m → 5 ≤ length q → IsTaken (child_of q) at cb cs → e ≡ get_or cs at e → d.entries ≡ outside e.entries (drop 5 q) → map_of vb vs cb (set cs at d) ≡ outside m.entries q
   set_outside {vb} {at} {vs} {cb} {cs} q e d s h t r f =
       child_outside q (Some d) s.node (is_node vb vs cb (set cs at d) s.slots.values_below s.slots.children_below) h (child_put_in q d cb cb cs (set cs at d) h s.slots.children_below (t.written d))
       (f ∙ ap (λ o. outside (child_map o) (drop 5 q)) (sym (was_found q e s h t r))) ∙ ap (λ x. outside x q) s.map
 
-  pub set_entries : {vb at : ℕ} {vs : List X} {cb : ℕ} {cs : List (Seen X)} {m : Seen X} (q : List Bool) (e d : Seen X) → IsSeen vb vs cb cs m → IsTaken (child_of q) at cb cs → e ≡ get_or cs at e → len (map_of vb vs cb (set cs at d)) + len e.0 ≡ len m.0 + len d.0
+  pub set_entries : {vb at : ℕ} {vs : List X} {cb : ℕ} {cs : List (Seen X)} {m : Seen X} (q : List Bool) (e d : Seen X) → IsSeen vb vs cb cs m → IsTaken (child_of q) at cb cs → e ≡ get_or cs at e → len (map_of vb vs cb (set cs at d)) + len e.entries ≡ len m.entries + len d.entries
   set_entries {vb} {at} {vs} {cb} {cs} q e d s t r = omega (arith, entries_at vb vs cb (set cs at d) (set_slots q d s t), total-set entry_count cs at d e t.within, ap entry_count r, entries_of s)
 
   -- it has no more than the whole
-  pub child_entries : {vb at : ℕ} {vs : List X} {cb : ℕ} {cs : List (Seen X)} {m : Seen X} (q : List Bool) (e : Seen X) → IsSeen vb vs cb cs m → IsTaken (child_of q) at cb cs → e ≡ get_or cs at e → len e.0 ≤ len m.0
+  pub child_entries : {vb at : ℕ} {vs : List X} {cb : ℕ} {cs : List (Seen X)} {m : Seen X} (q : List Bool) (e : Seen X) → IsSeen vb vs cb cs m → IsTaken (child_of q) at cb cs → e ≡ get_or cs at e → len e.entries ≤ len m.entries
   child_entries {at = at} {cs = cs} q e s t r = omega (arith, total-remove entry_count cs at e t.within, ap entry_count r, entries_of s)
 
   pub child_nodes : {vb at : ℕ} {vs : List X} {cb : ℕ} {cs : List (Seen X)} {m : Seen X} (q : List Bool) (e : Seen X) → IsSeen vb vs cb cs m → IsTaken (child_of q) at cb cs → e ≡ get_or cs at e → all_nodes e ≤ all_nodes m

@@ -7,20 +7,21 @@ use Rattle.std.proofs.lemmas.Bool.Decides.{nat_tests}
 use Rattle.std.proofs.lemmas.List.{append_assoc}
 use Rattle.std.proofs.Math.Seq.{take-length}
 use Rattle.std.proofs.Math.ListN.{length-append}
-use Rattle.trie_keys.specs.Bits.{bits_cmp, begins, child_of}
-use Rattle.trie_core.specs.Places.{child_list, IsUnset}
-use Rattle.trie_core.specs.Nodes.{BitMap, BitSet, Seen, node_map, IsNode, HasSlots}
-use Rattle.trie_core.specs.Count.{spares, marked, spare_set}
+use Rattle.trie_core.specs.Bits.{bits_cmp, begins}
+use Rattle.trie_core.specs.InnerPlaces.{child_of, child_list, IsUnset}
+use Rattle.trie_core.specs.Nodes.{BitMap, BitSet, Seen}
+use Rattle.trie_core.specs.InnerNodes.{node_map, IsNode, HasSlots, AreBelow}
+use Rattle.trie_core.specs.InnerCount.{spare_count, marked, spare_set}
 use Rattle.trie_core.specs.Inside.{outside}
-use Rattle.trie_core.specs.Ways.{AreBelow, IsIdle, LeadsOff, IsLeft, IsCut}
-use Rattle.trie_keys.proofs.Strings.{bits_total, bits_same, same, same-Decides, same-refl, same_false, not_same, no_false, front, take_first, append_none, begins_take}
+use Rattle.trie_core.specs.Ways.{IsIdle, LeadsOff, IsLeft, IsCut}
+use Rattle.trie_core.proofs.Strings.{bits_total, bits_same, same, same-Decides, same-refl, same_false, not_same, no_false, front, take_first, append_none, begins_take, begins-under}
 use Rattle.trie_core.proofs.Maps.{ListChanges, drop_first, child_get, get-long}
 use Rattle.trie_core.proofs.Marks.{marked_get, marked-other, marked-root, root_if, set-short, set-long, set-changed}
 use Rattle.trie_core.proofs.Named.{is_node, child_put_in, child_taken_out, child_found}
 use Rattle.trie_core.proofs.Taken.{IsTaken, missing}
 use Rattle.trie_core.proofs.Seen.{IsSeen, map_of}
 use Rattle.trie_core.proofs.Changes.{was_found, set_removed}
-use Rattle.trie_core.proofs.Inside.{begins-under, begins_elsewhere, first_five, get-outside, outside_absent}
+use Rattle.trie_core.proofs.Inside.{begins_elsewhere, first_five, get-outside, outside_absent}
 
 -- nothing is found in a set without strings
 pub none_found : {o : Option (Unit {0})} → o ≡ None → is_some o ≡ true → ⊥
@@ -94,12 +95,12 @@ module _ {X : Type 0} where
   root_none (suc n) m e h k = cc
 
   -- without spare nodes there is no string off the way to p
-  no_spare_string : (d : Seen X) (x p : List Bool) → spares d ≡ 0 → begins x p ≡ false → get d.1 x ≡ None
+  no_spare_string : (d : Seen X) (x p : List Bool) → spare_count d ≡ 0 → begins x p ≡ false → get d.spares x ≡ None
   no_spare_string d [] p z h = cc
-  no_spare_string d (y ∷ ys) p z h = sym (get-remove bits_total d.1 [] (y ∷ ys)) ∙ ap (λ b. get b (y ∷ ys)) (empty_of_len (remove d.1 []) z) ∙ get-empty bits_cmp (y ∷ ys)
+  no_spare_string d (y ∷ ys) p z h = sym (get-remove bits_total d.spares [] (y ∷ ys)) ∙ ap (λ b. get b (y ∷ ys)) (empty_of_len (remove d.spares []) z) ∙ get-empty bits_cmp (y ∷ ys)
 
   -- off the way to p a child has no mark of its own
-  marked_off : (e : Seen X) (p x : List Bool) → begins x p ≡ false → get (marked e) x ≡ get e.1 x
+  marked_off : (e : Seen X) (p x : List Bool) → begins x p ≡ false → get (marked e) x ≡ get e.spares x
   marked_off e p [] h = cc
   marked_off e p (y ∷ ys) h = marked-other e y ys
 
@@ -124,34 +125,34 @@ module _ {X : Type 0} (lost : List Bool → Bool) where
     holds = λ r h s. absurd (none_found refl s.leads.1);
   }
 
-  module _ (lower : List Bool → Bool) (f p : List Bool) (e d : Seen X) (alike : (r : List Bool) → lost (f ++ r) ≡ lower r) (left : IsLeft lower p e.1 d.0 d.1) where
+  module _ (lower : List Bool → Bool) (f p : List Bool) (e d : Seen X) (alike : (r : List Bool) → lost (f ++ r) ≡ lower r) (left : IsLeft lower p e.spares d.entries d.spares) where
     -- a spare node off the way, by its string
-    off_leads : (r k : List Bool) → is_some (get e.1 (r ++ k)) ≡ true → begins (r ++ k) p ≡ false → lower (r ++ k) ≡ false → (k : List Bool) × (is_some (get (marked e) (r ++ k)) ≡ true) × (begins (r ++ k) p ≡ false) × (lost (f ++ (r ++ k)) ≡ false)
+    off_leads : (r k : List Bool) → is_some (get e.spares (r ++ k)) ≡ true → begins (r ++ k) p ≡ false → lower (r ++ k) ≡ false → (k : List Bool) × (is_some (get (marked e) (r ++ k)) ≡ true) × (begins (r ++ k) p ≡ false) × (lost (f ++ (r ++ k)) ≡ false)
     off_leads r k s h l = (k, ap is_some (marked_off e p (r ++ k) h) ∙ s, h, alike (r ++ k) ∙ l)
 
     -- from the child itself to a spare node below it
-    root_leads_by : (t : List Bool) → is_some (get d.1 t) ≡ true → (b : Bool) → begins t p ≡ b → (k : List Bool) × (is_some (get (marked e) k) ≡ true) × (begins k p ≡ false) × (lost (f ++ k) ≡ false)
+    root_leads_by : (t : List Bool) → is_some (get d.spares t) ≡ true → (b : Bool) → begins t p ≡ b → (k : List Bool) × (is_some (get (marked e) k) ≡ true) × (begins k p ≡ false) × (lost (f ++ k) ≡ false)
     root_leads_by t s true h = let l = ((left.on t h).0 s).1 in off_leads [] (t ++ l.0) l.1 l.2 l.3
-    root_leads_by t s false h = let l = not_other (get e.1 t) (lower t) (ap is_some (sym (left.off t h)) ∙ s) in off_leads [] t l.1 h l.0
+    root_leads_by t s false h = let l = not_other (get e.spares t) (lower t) (ap is_some (sym (left.off t h)) ∙ s) in off_leads [] t l.1 h l.0
 
     left_off : (r : List Bool) → begins r p ≡ false → get (marked d) r ≡ cond (lost (f ++ r)) None (get (marked e) r)
     left_off r h = marked_off d p r h ∙ left.off r h ∙ (λ i. cond (sym (alike r) i) None (sym (marked_off e p r h) i))
 
     -- it stays, with a key or a spare node
-    pub left_stays : (spares d ≡ 0 → len d.0 ≡ 0 → ⊥) → IsLeftBelow f p (Some e) (Some d)
+    pub left_stays : (spare_count d ≡ 0 → len d.entries ≡ 0 → ⊥) → IsLeftBelow f p (Some e) (Some d)
     left_stays full = record { off = left_off; shows = shows; holds = holds }
       where
         shows : (r : List Bool) → begins r p ≡ true → is_some (get (marked d) r) ≡ true → IsStuck f p (Some e) (Some d) r
         shows [] h s =
-            let k = root_none (len d.0) d.0 refl (sym (ap is_some (marked-root d)) ∙ s) in
-            let t = first_of (remove d.1 []) (λ z. full z (no_keys d.0 k)) in
-            record { fives = refl; none = k; leads = root_leads_by t.0 (not_other (get d.1 t.0) _ (sym (ap is_some (get-remove bits_total d.1 [] t.0)) ∙ t.1)).1 (begins t.0 p) refl }
+            let k = root_none (len d.entries) d.entries refl (sym (ap is_some (marked-root d)) ∙ s) in
+            let t = first_of (remove d.spares []) (λ z. full z (no_keys d.entries k)) in
+            record { fives = refl; none = k; leads = root_leads_by t.0 (not_other (get d.spares t.0) _ (sym (ap is_some (get-remove bits_total d.spares [] t.0)) ∙ t.1)).1 (begins t.0 p) refl }
         shows (y ∷ ys) h s =
             let a = (left.on (y ∷ ys) h).0 (sym (ap is_some (marked-other d y ys)) ∙ s) in
             record { fives = a.0.fives; none = a.0.none; leads = off_leads (y ∷ ys) a.1.0 a.1.1 a.1.2 a.1.3 }
 
         holds : (r : List Bool) → begins r p ≡ true → IsStuck f p (Some e) (Some d) r → is_some (get (marked d) r) ≡ true
-        holds [] h s = ap is_some (marked-root d) ∙ ap (λ n. is_some (root_if n)) (no_keys d.0 s.none)
+        holds [] h s = ap is_some (marked-root d) ∙ ap (λ n. is_some (root_if n)) (no_keys d.entries s.none)
         holds (y ∷ ys) h s =
             let l = s.leads in
             ap is_some (marked-other d y ys)
@@ -161,14 +162,14 @@ module _ {X : Type 0} (lost : List Bool → Bool) where
             )
 
     -- it goes, without a key and without a spare node
-    pub left_goes : ((t : List Bool) → begins t p ≡ false → get d.1 t ≡ None) → IsLeftBelow f p (Some e) None
+    pub left_goes : ((t : List Bool) → begins t p ≡ false → get d.spares t ≡ None) → IsLeftBelow f p (Some e) None
     left_goes bare = record {
       off = λ r h. sym (bare r h) ∙ left.off r h ∙ (λ i. cond (sym (alike r) i) None (sym (marked_off e p r h) i));
       shows = λ r h s. absurd (none_found refl s);
       holds = λ r h s.
           let l = s.leads in
           let t = r ++ l.0 in
-          absurd (none_found (bare t l.2) (ap is_some (left.off t l.2 ∙ ap (λ b. cond b None (get e.1 t)) (sym (alike t) ∙ l.3)) ∙ sym (ap is_some (marked_off e p t l.2)) ∙ l.1));
+          absurd (none_found (bare t l.2) (ap is_some (left.off t l.2 ∙ ap (λ b. cond b None (get e.spares t)) (sym (alike t) ∙ l.3)) ∙ sym (ap is_some (marked_off e p t l.2)) ∙ l.1));
     }
 
   -- ---- from a child to its node
@@ -229,33 +230,33 @@ module _ {X : Type 0} (lost : List Bool → Bool) where
   -- ---- a node that was seen as m
 
   -- within the node no spare node is on the way
-  pub left_short : {vb : ℕ} {vs : List X} {cb : ℕ} {cs : List (Seen X)} {m : Seen X} {n : BitMap X} (q : List Bool) → IsSeen vb vs cb cs m → length q < 5 → ((s : List Bool) → lost s ≡ false) → IsLeft lost q m.1 n m.1
+  pub left_short : {vb : ℕ} {vs : List X} {cb : ℕ} {cs : List (Seen X)} {m : Seen X} {n : BitMap X} (q : List Bool) → IsSeen vb vs cb cs m → length q < 5 → ((s : List Bool) → lost s ≡ false) → IsLeft lost q m.spares n m.spares
   left_short {m = m} {n = n} q s h f = record {
-    off = λ x b. ap (λ t. cond t None (get m.1 x)) (sym (f x));
+    off = λ x b. ap (λ t. cond t None (get m.spares x)) (sym (f x));
     on = λ x b. (λ t. absurd (none_found (none_within x b) t), λ t. absurd (omega (arith, t.0.below, (begins_take x q b).0, h)));
   }
     where
-      none_within : (x : List Bool) → begins x q ≡ true → get m.1 x ≡ None
+      none_within : (x : List Bool) → begins x q ≡ true → get m.spares x ≡ None
       none_within x b = ap (λ k. get k x) (sym s.spare) ∙ set-short s.node x (omega (arith, (begins_take x q b).0, h))
 
   module _ {vb : ℕ} {vs : List X} {cb : ℕ} {cs : List (Seen X)} {m : Seen X} (q : List Bool) (s : IsSeen vb vs cb cs m) (h : 5 ≤ length q) (elsewhere : (x : List Bool) → 5 ≤ length x → same (take 5 x) (take 5 q) ≡ false → lost x ≡ false) where
     -- no child on the way
-    pub left_none : {n : ℕ} → n ≡ child_of q → IsUnset n cb → IsLeft lost q m.1 m.0 m.1
+    pub left_none : {n : ℕ} → n ≡ child_of q → IsUnset n cb → IsLeft lost q m.spares m.entries m.spares
     left_none {n} k u =
         let none : find bits_cmp (take 5 q) (child_list cb cs) ≡ None = child_found q cb cs h s.slots.children_below ∙ sym (missing (child_of q) cb cs (subst (λ i. IsUnset i cb) k u)) in
         subst (λ (w : BitMap X × BitSet). IsLeft lost q w.1 w.0 w.1) (λ i. (s.map i, s.spare i))
         (left_node q None s.node s.node h (none_changes (child_list cb cs) q none) elsewhere (subst (λ o. IsLeftBelow (take 5 q) (drop 5 q) o None) (sym none) (left_absent (take 5 q) (drop 5 q))))
 
-    module _ {at : ℕ} (lower : List Bool → Bool) (e d : Seen X) (t : IsTaken (child_of q) at cb cs) (r : e ≡ get_or cs at e) (alike : (x : List Bool) → lost (take 5 q ++ x) ≡ lower x) (left : IsLeft lower (drop 5 q) e.1 d.0 d.1) where
+    module _ {at : ℕ} (lower : List Bool → Bool) (e d : Seen X) (t : IsTaken (child_of q) at cb cs) (r : e ≡ get_or cs at e) (alike : (x : List Bool) → lost (take 5 q ++ x) ≡ lower x) (left : IsLeft lower (drop 5 q) e.spares d.entries d.spares) where
       -- the child on the way stays
-      pub left_set : (spares d ≡ 0 → len d.0 ≡ 0 → ⊥) → IsLeft lost q m.1 (map_of vb vs cb (set cs at d)) (spare_set (child_list cb (set cs at d)))
+      pub left_set : (spare_count d ≡ 0 → len d.entries ≡ 0 → ⊥) → IsLeft lost q m.spares (map_of vb vs cb (set cs at d)) (spare_set (child_list cb (set cs at d)))
       left_set full =
           subst (λ w. IsLeft lost q w (map_of vb vs cb (set cs at d)) (spare_set (child_list cb (set cs at d)))) s.spare
           (left_node q (Some d) s.node (is_node vb vs cb (set cs at d) s.slots.values_below s.slots.children_below) h (child_put_in q d cb cb cs (set cs at d) h s.slots.children_below (t.written d)) elsewhere
           (subst (λ o. IsLeftBelow (take 5 q) (drop 5 q) o (Some d)) (sym (was_found q e s h t r)) (left_stays lower (take 5 q) (drop 5 q) e d alike left full)))
 
       -- it goes
-      pub left_removed : {b : ℕ} {ds : List (Seen X)} → spares d ≡ 0 → b ≡ 2 ^ child_of q → ds ≡ remove_at (set cs at d) at → IsLeft lost q m.1 (map_of vb vs (cb - b) ds) (spare_set (child_list (cb - b) ds))
+      pub left_removed : {b : ℕ} {ds : List (Seen X)} → spare_count d ≡ 0 → b ≡ 2 ^ child_of q → ds ≡ remove_at (set cs at d) at → IsLeft lost q m.spares (map_of vb vs (cb - b) ds) (spare_set (child_list (cb - b) ds))
       left_removed {b} {ds} z k l =
           let below : cb - 2 ^ child_of q < 2 ^ 32 = omega (arith, s.slots.children_below) in
           subst (λ (x : BitSet × ℕ × List (Seen X)). IsLeft lost q x.0 (map_of vb vs (cb - x.1) x.2) (spare_set (child_list (cb - x.1) x.2))) (λ i. (s.spare i, sym k i, sym (l ∙ set_removed cs at d) i))
@@ -315,10 +316,10 @@ module _ {X : Type 0} where
       by false f = grind (arith, nat_tests)
 
   -- no child at the first five bits of q
-  pub out_none : {vb n : ℕ} {vs : List X} {cb : ℕ} {cs : List (Seen X)} {m : Seen X} (q : List Bool) → IsSeen vb vs cb cs m → 5 ≤ length q → n ≡ child_of q → IsUnset n cb → m.1 ≡ outside m.1 q
+  pub out_none : {vb n : ℕ} {vs : List X} {cb : ℕ} {cs : List (Seen X)} {m : Seen X} (q : List Bool) → IsSeen vb vs cb cs m → 5 ≤ length q → n ≡ child_of q → IsUnset n cb → m.spares ≡ outside m.spares q
   out_none {cb = cb} {cs = cs} {m = m} q s h k u =
       let none : find bits_cmp (take 5 q) (child_list cb cs) ≡ None = child_found q cb cs h s.slots.children_below ∙ sym (missing (child_of q) cb cs (subst (λ i. IsUnset i cb) k u)) in
-      outside_absent m.1 q (λ x e.
+      outside_absent m.spares q (λ x e.
       let l : 5 ≤ length x = omega (arith, (begins_take q x e).0, h) in
       ap (λ b. get b x) (sym s.spare) ∙ set-long s.node x l ∙ (λ i. marked_get (find bits_cmp (first_five q x h e i) (child_list cb cs)) (drop 5 x)) ∙ ap (λ o. marked_get o (drop 5 x)) none)
 
@@ -344,7 +345,7 @@ module _ {X : Type 0} where
           set-changed cs q None k c x l ∙ ap (λ t. marked_get (cond t None (find bits_cmp (take 5 x) cs)) (drop 5 x)) e ∙ sym (set-long n x l)
           ∙ ap (λ b. cond (not b) (get (spare_set cs) x) None) (sym (begins_elsewhere q x five e))
 
-  pub out_child : {vb at b : ℕ} {vs : List X} {cb : ℕ} {cs ds : List (Seen X)} {m : Seen X} (q : List Bool) → IsSeen vb vs cb cs m → length q ≡ 5 → IsTaken (child_of q) at cb cs → b ≡ 2 ^ child_of q → ds ≡ remove_at cs at → spare_set (child_list (cb - b) ds) ≡ outside m.1 q
+  pub out_child : {vb at b : ℕ} {vs : List X} {cb : ℕ} {cs ds : List (Seen X)} {m : Seen X} (q : List Bool) → IsSeen vb vs cb cs m → length q ≡ 5 → IsTaken (child_of q) at cb cs → b ≡ 2 ^ child_of q → ds ≡ remove_at cs at → spare_set (child_list (cb - b) ds) ≡ outside m.spares q
   out_child {vb} {at} {b} {vs} {cb} {cs} {ds} q s h t k l =
       let below : cb - 2 ^ child_of q < 2 ^ 32 = omega (arith, s.slots.children_below) in
       let five : 5 ≤ length q = omega (arith, h) in

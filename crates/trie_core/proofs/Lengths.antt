@@ -2,9 +2,10 @@
 use Rattle.std.proofs.Common.{◌≡◌, ℕ, zero, suc, ◌+◌, ◌≤◌, Bool, true, false, List, [], ◌∷◌, length, refl, ap, arith}
 use Rattle.std.specs.FinMap.{entries, len, len-entries}
 use Rattle.std.proofs.Math.ListN.{length-append}
-use Rattle.trie_core.specs.Nodes.{Seen, under, node_map, IsNode}
-use Rattle.trie_core.specs.Count.{total, entry_count}
-use Rattle.trie_core.specs.Walks.{first_value}
+use Rattle.trie_core.specs.Nodes.{Seen}
+use Rattle.trie_core.specs.InnerNodes.{under, node_map, IsNode}
+use Rattle.trie_core.specs.InnerCount.{total, entry_count}
+use Rattle.trie_core.specs.InnerWalks.{first_value}
 use Rattle.trie_core.proofs.Order.{StartsAfter, walk_value, walk_child, walk_none, without_value, without_child, starts_after, values_after}
 use Rattle.trie_core.proofs.Count.{things, length-under}
 
@@ -16,9 +17,9 @@ module _ {X : Type 0} where
   value_entry : {vs : List (List Bool × X)} {cs : List (List Bool × Seen X)} {e : List Bool × X} → IsNode (e ∷ vs) cs → StartsAfter e.0 cs → len (node_map (e ∷ vs) cs) ≡ len (node_map vs cs) + 1
   value_entry {vs} {cs} {e} n h = omega (arith, ap length (walk_value n h), len-entries (node_map (e ∷ vs) cs), len-entries (node_map vs cs))
 
-  below_entries : {vs : List (List Bool × X)} {cs : List (List Bool × Seen X)} {c : List Bool × Seen X} → IsNode vs (c ∷ cs) → StartsAfter c.0 vs → len (node_map vs (c ∷ cs)) ≡ len c.1.0 + len (node_map vs cs)
+  below_entries : {vs : List (List Bool × X)} {cs : List (List Bool × Seen X)} {c : List Bool × Seen X} → IsNode vs (c ∷ cs) → StartsAfter c.0 vs → len (node_map vs (c ∷ cs)) ≡ len c.1.entries + len (node_map vs cs)
   below_entries {vs} {cs} {c} n h =
-      omega (arith, ap length (walk_child n h), length-append (under c.0 (entries c.1.0)) (entries (node_map vs cs)), length-under c.0 (entries c.1.0), len-entries (node_map vs (c ∷ cs)), len-entries (node_map vs cs), len-entries c.1.0)
+      omega (arith, ap length (walk_child n h), length-append (under c.0 (entries c.1.entries)) (entries (node_map vs cs)), length-under c.0 (entries c.1.entries), len-entries (node_map vs (c ∷ cs)), len-entries (node_map vs cs), len-entries c.1.entries)
 
   entries_either : (e : List Bool × X) (vs : List (List Bool × X)) (c : List Bool × Seen X) (cs : List (List Bool × Seen X))
       → (IsNode vs (c ∷ cs) → len (node_map vs (c ∷ cs)) ≡ length vs + total entry_count (things (c ∷ cs))) → (IsNode (e ∷ vs) cs → len (node_map (e ∷ vs) cs) ≡ length (e ∷ vs) + total entry_count (things cs))

@@ -4,14 +4,15 @@ use Rattle.std.specs.Prelude.{Option, Some, None, is_some}
 use Rattle.std.specs.Option.{IsSome}
 use Rattle.std.specs.Ordering.{nat_cmp}
 use Rattle.std.specs.FinMap.{find, get, insert, remove, len, len-insert}
-use Rattle.trie_keys.specs.Bits.{bits_cmp, place_of, child_of}
-use Rattle.trie_core.specs.Places.{at_places, child_list, IsSlot, IsUnset}
-use Rattle.trie_core.specs.Nodes.{Seen, node_height, HasSlots}
-use Rattle.trie_core.specs.Count.{marked_if, marked}
-use Rattle.trie_core.specs.Lending.{with_value}
-use Rattle.trie_keys.proofs.Numbers.{place_bound}
+use Rattle.trie_core.specs.Bits.{bits_cmp}
+use Rattle.trie_core.specs.InnerPlaces.{place_of, child_of, at_places, child_list, IsSlot, IsUnset}
+use Rattle.trie_core.specs.Nodes.{Seen}
+use Rattle.trie_core.specs.InnerNodes.{node_height, HasSlots}
+use Rattle.trie_core.specs.InnerCount.{marked_if, marked}
+use Rattle.trie_core.specs.InnerLending.{node_with}
+use Rattle.trie_core.proofs.Numbers.{place_bound}
 use Rattle.trie_core.proofs.Taken.{IsTaken, taken, missing}
-use Rattle.trie_keys.proofs.Strings.{bits_total}
+use Rattle.trie_core.proofs.Strings.{bits_total}
 use Rattle.trie_core.proofs.Marks.{marked_get}
 use Rattle.trie_core.proofs.Seen.{IsSeen, viewed, value_at}
 use Rattle.trie_core.proofs.Changes.{value_slots, value_put_map, was_found, set_put, set_spare, absent}
@@ -20,48 +21,48 @@ module _ {X : Type 0} where
   none_is_none : {o : Option X} → o ≡ None → IsSome o → ⊥
   none_is_none e h = cc
 
-  pub stored_here : {vb n : ℕ} {vs : List X} {cb : ℕ} {cs : List (Seen X)} {m : Seen X} (q : List Bool) → IsSeen vb vs cb cs m → length q < 5 → n ≡ place_of q → IsUnset n vb → IsSome (get m.0 q) → ⊥
+  pub stored_here : {vb n : ℕ} {vs : List X} {cb : ℕ} {cs : List (Seen X)} {m : Seen X} (q : List Bool) → IsSeen vb vs cb cs m → length q < 5 → n ≡ place_of q → IsUnset n vb → IsSome (get m.entries q) → ⊥
   stored_here {vb} {n} {vs} q s h k u = none_is_none (sym (value_at q s h) ∙ ap (λ i. find nat_cmp i (at_places 32 0 vb vs)) (sym k) ∙ sym (missing n vb vs u))
 
-  pub stored_below : {vb n : ℕ} {vs : List X} {cb : ℕ} {cs : List (Seen X)} {m : Seen X} (q : List Bool) → IsSeen vb vs cb cs m → 5 ≤ length q → n ≡ child_of q → IsUnset n cb → IsSome (get m.0 q) → ⊥
+  pub stored_below : {vb n : ℕ} {vs : List X} {cb : ℕ} {cs : List (Seen X)} {m : Seen X} (q : List Bool) → IsSeen vb vs cb cs m → 5 ≤ length q → n ≡ child_of q → IsUnset n cb → IsSome (get m.entries q) → ⊥
   stored_below q s h k u = none_is_none (absent q s h k u)
 
   -- the value at a slot
   pub value_slot : {vb n at : ℕ} {vs : List X} {cb : ℕ} {cs : List (Seen X)} {m : Seen X} (q : List Bool) → IsSeen vb vs cb cs m → length q < 5 → n ≡ place_of q → IsSlot n vb at → IsTaken n at vb vs
   value_slot {vb} {n} {at} {vs} q s h k t = taken n at vb vs (omega (arith, k, place_bound 5 q h)) t s.slots.values_counted
 
-  pub value_here : {vb n at : ℕ} {vs : List X} {cb : ℕ} {cs : List (Seen X)} {m : Seen X} (q : List Bool) (e : X) → IsSeen vb vs cb cs m → length q < 5 → n ≡ place_of q → IsTaken n at vb vs → e ≡ get_or vs at e → get m.0 q ≡ Some e
+  pub value_here : {vb n at : ℕ} {vs : List X} {cb : ℕ} {cs : List (Seen X)} {m : Seen X} (q : List Bool) (e : X) → IsSeen vb vs cb cs m → length q < 5 → n ≡ place_of q → IsTaken n at vb vs → e ≡ get_or vs at e → get m.entries q ≡ Some e
   value_here {vb} {n} {at} {vs} q e s h k t r = sym (value_at q s h) ∙ ap (λ i. find nat_cmp i (at_places 32 0 vb vs)) (sym k) ∙ t.read e ∙ ap Some (sym r)
 
   pub slots_here : {vb n at : ℕ} {vs : List X} {cb : ℕ} {cs : List (Seen X)} {m : Seen X} (w : X) → IsSeen vb vs cb cs m → IsTaken n at vb vs → HasSlots vb (set vs at w) cb cs
   slots_here w s t = value_slots s (t.same_ones w) s.slots.values_below
 
   pub lent_here : {vb n at : ℕ} {vs : List X} {cb : ℕ} {cs : List (Seen X)} {m : Seen X} (q : List Bool) (w : X) → IsSeen vb vs cb cs m → length q < 5 → n ≡ place_of q → IsTaken n at vb vs
-      → viewed vb (set vs at w) cb cs ≡ with_value m q w
-  lent_here q w s h k t = let r = value_put_map q w s (slots_here w s t) h k (t.written w) in λ i. (r i, s.spare i, s.height i)
+      → viewed vb (set vs at w) cb cs ≡ node_with m q w
+  lent_here q w s h k t = let r = value_put_map q w s (slots_here w s t) h k (t.written w) in λ i. record { entries = r i; spares = s.spare i; levels = s.height i }
 
   some_is : (o : Option X) → IsSome o → is_some o ≡ true
   some_is None h = cc
   some_is (Some x) h = refl
 
   -- a write at a key that is there
-  len_kept : (e : Seen X) (r : List Bool) (w : X) → IsSome (get e.0 r) → len (insert e.0 r w) ≡ len e.0
-  len_kept e r w o = len-insert bits_total e.0 r w ∙ ap (λ b. cond b (len e.0) (len e.0 + 1)) (some_is (get e.0 r) o)
+  len_kept : (e : Seen X) (r : List Bool) (w : X) → IsSome (get e.entries r) → len (insert e.entries r w) ≡ len e.entries
+  len_kept e r w o = len-insert bits_total e.entries r w ∙ ap (λ b. cond b (len e.entries) (len e.entries + 1)) (some_is (get e.entries r) o)
 
-  marked_kept : (e : Seen X) (r : List Bool) (w : X) → IsSome (get e.0 r) → marked (with_value e r w) ≡ marked e
-  marked_kept e r w o = ap (λ n. marked_if n (remove e.1 [])) (len_kept e r w o)
+  marked_kept : (e : Seen X) (r : List Bool) (w : X) → IsSome (get e.entries r) → marked (node_with e r w) ≡ marked e
+  marked_kept e r w o = ap (λ n. marked_if n (remove e.spares [])) (len_kept e r w o)
 
-  height_kept : (cs : List (Seen X)) (at : ℕ) (e d : Seen X) → at < length cs → e ≡ get_or cs at e → d.2 ≡ e.2 → node_height (set cs at d) ≡ node_height cs
+  height_kept : (cs : List (Seen X)) (at : ℕ) (e d : Seen X) → at < length cs → e ≡ get_or cs at e → d.levels ≡ e.levels → node_height (set cs at d) ≡ node_height cs
   height_kept [] at e d h f g = absurd (omega arith)
-  height_kept (c ∷ cs) zero e d h f g = omega (arith, g, ap (λ x. x.2) f)
+  height_kept (c ∷ cs) zero e d h f g = omega (arith, g, ap (λ x. x.levels) f)
   height_kept (c ∷ cs) (suc at) e d h f g = omega (arith, height_kept cs at e d (omega arith) f g)
 
-  pub lent_below : {vb at : ℕ} {vs : List X} {cb : ℕ} {cs : List (Seen X)} {m : Seen X} (q r : List Bool) (e : Seen X) (w : X) → IsSeen vb vs cb cs m → 5 ≤ length q → r ≡ drop 5 q → IsTaken (child_of q) at cb cs → e ≡ get_or cs at e → IsSome (get e.0 r)
-      → viewed vb vs cb (set cs at (with_value e r w)) ≡ with_value m q w
+  pub lent_below : {vb at : ℕ} {vs : List X} {cb : ℕ} {cs : List (Seen X)} {m : Seen X} (q r : List Bool) (e : Seen X) (w : X) → IsSeen vb vs cb cs m → 5 ≤ length q → r ≡ drop 5 q → IsTaken (child_of q) at cb cs → e ≡ get_or cs at e → IsSome (get e.entries r)
+      → viewed vb vs cb (set cs at (node_with e r w)) ≡ node_with m q w
   lent_below {vb} {at} {vs} {cb} {cs} {m} q r e w s h b t f o =
-      let d = with_value e r w in
-      let k = set_put q w e d s h t f (ap (λ x. insert e.0 x w) b) in
+      let d = node_with e r w in
+      let k = set_put q w e d s h t f (ap (λ x. insert e.entries x w) b) in
       let marks : (x : List Bool) → marked_get (Some d) x ≡ marked_get (find bits_cmp (take 5 q) (child_list cb cs)) x = λ x. ap (λ b. get b x) (marked_kept e r w o) ∙ ap (λ c. marked_get c x) (sym (was_found q e s h t f)) in
       let l = set_spare q d s h t marks in
-      let n : node_height (set cs at d) + 1 ≡ m.2 = omega (arith, height_kept cs at e d t.within f refl, s.height) in
-      λ i. (k i, l i, n i)
+      let n : node_height (set cs at d) + 1 ≡ m.levels = omega (arith, height_kept cs at e d t.within f refl, s.height) in
+      λ i. record { entries = k i; spares = l i; levels = n i }

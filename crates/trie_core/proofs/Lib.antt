@@ -1,3 +1,9 @@
+pub mod Strings
+pub mod Numbers
+pub mod Aligned
+pub mod PlaceTables
+pub mod Masked
+pub mod Longer
 pub mod Maps
 pub mod Order
 pub mod Count

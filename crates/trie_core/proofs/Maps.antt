@@ -8,9 +8,10 @@ use Rattle.std.specs.FinMap.Entries.{below_all}
 use Rattle.std.proofs.lemmas.Bool.Decides.{nat_tests}
 use Rattle.std.proofs.Math.ListN.{length-append}
 use Rattle.std.proofs.Math.Seq.{drop-append_seam}
-use Rattle.trie_keys.specs.Bits.{bits_cmp}
-use Rattle.trie_keys.proofs.Strings.{bits_total, bits_same, same, same-Decides, same_false, same-under, other_length, both, front, take_first, less-T, not_same}
-use Rattle.trie_core.specs.Nodes.{BitMap, Seen, AreShort, AreLong, under, child_entries, child_map, node_map, IsNode}
+use Rattle.trie_core.specs.Bits.{bits_cmp}
+use Rattle.trie_core.proofs.Strings.{bits_total, bits_same, same, same-Decides, same_false, same-under, other_length, both, front, take_first, less-T, not_same, same-refl}
+use Rattle.trie_core.specs.Nodes.{BitMap, Seen}
+use Rattle.trie_core.specs.InnerNodes.{AreShort, AreLong, under, child_entries, child_map, node_map, IsNode}
 
 -- ---- lists of entries
 
@@ -58,8 +59,8 @@ module _ {X : Type 0} where
   find-children_none : (q : List Bool) (cs : List (List Bool × Seen X)) → length q < 5 → AreLong cs → find bits_cmp q (child_entries cs) ≡ None
   find-children_none q [] h a = refl
   find-children_none q (c ∷ cs) h a =
-      find-append_all q (under c.0 (entries c.1.0)) (child_entries cs)
-      ∙ ap (λ o. or_else o (find bits_cmp q (child_entries cs))) (find-apart c.0 q (λ k e. omega (arith, ap length e, length-append c.0 k, a.0, h)) (entries c.1.0))
+      find-append_all q (under c.0 (entries c.1.entries)) (child_entries cs)
+      ∙ ap (λ o. or_else o (find bits_cmp q (child_entries cs))) (find-apart c.0 q (λ k e. omega (arith, ap length e, length-append c.0 k, a.0, h)) (entries c.1.entries))
       ∙ find-children_none q cs h a.1
 
   -- what the child that may be there has at r
@@ -74,23 +75,23 @@ module _ {X : Type 0} where
   else_none (Some x) p e = refl
 
   pub find-child : (q : List Bool) (c : List Bool × Seen X) (cs : List (List Bool × Seen X)) → 5 ≤ length q → length c.0 ≡ 5 → T (below_all bits_cmp c.0 cs) → (b : Bool) → same (take 5 q) c.0 ≡ b
-      → or_else (find bits_cmp q (under c.0 (entries c.1.0))) (child_get (find bits_cmp (take 5 q) cs) (drop 5 q)) ≡ child_get (cond b (Some c.1) (find bits_cmp (take 5 q) cs)) (drop 5 q)
+      → or_else (find bits_cmp q (under c.0 (entries c.1.entries))) (child_get (find bits_cmp (take 5 q) cs) (drop 5 q)) ≡ child_get (cond b (Some c.1) (find bits_cmp (take 5 q) cs)) (drop 5 q)
   find-child q c cs h l s true e =
       let m = (same-Decides _ _).0 e in
       let w : q ≡ c.0 ++ drop 5 q = sym (front q h).1 ∙ ap (λ bs. bs ++ drop 5 q) m in
       let z : find bits_cmp (take 5 q) cs ≡ None = ap (λ x. find bits_cmp x cs) m ∙ find_before c.0 cs s in
       else_none _ _ (ap (λ o. child_get o (drop 5 q)) z ∙ get_none (drop 5 q))
-      ∙ ap (λ x. find bits_cmp x (under c.0 (entries c.1.0))) w
-      ∙ find-under c.0 (drop 5 q) (entries c.1.0)
-      ∙ sym (get-entries c.1.0 (drop 5 q))
+      ∙ ap (λ x. find bits_cmp x (under c.0 (entries c.1.entries))) w
+      ∙ find-under c.0 (drop 5 q) (entries c.1.entries)
+      ∙ sym (get-entries c.1.entries (drop 5 q))
   find-child q c cs h l s false e =
-      ap (λ o. or_else o (child_get (find bits_cmp (take 5 q) cs) (drop 5 q))) (find-apart c.0 q (differs q c.0 l (not_same e)) (entries c.1.0))
+      ap (λ o. or_else o (child_get (find bits_cmp (take 5 q) cs) (drop 5 q))) (find-apart c.0 q (differs q c.0 l (not_same e)) (entries c.1.entries))
 
   find-children : (q : List Bool) (cs : List (List Bool × Seen X)) → 5 ≤ length q → AreLong cs → T (is_sorted bits_cmp cs) → find bits_cmp q (child_entries cs) ≡ child_get (find bits_cmp (take 5 q) cs) (drop 5 q)
   find-children q [] h a s = sym (get_none (drop 5 q))
   find-children q (c ∷ cs) h a s =
-      find-append_all q (under c.0 (entries c.1.0)) (child_entries cs)
-      ∙ ap (or_else (find bits_cmp q (under c.0 (entries c.1.0)))) (find-children q cs h a.1 (tail_rises c cs s).0)
+      find-append_all q (under c.0 (entries c.1.entries)) (child_entries cs)
+      ∙ ap (or_else (find bits_cmp q (under c.0 (entries c.1.entries)))) (find-children q cs h a.1 (tail_rises c cs s).0)
       ∙ find-child q c cs h a.0 (tail_rises c cs s).1 (same (take 5 q) c.0) refl
 
   -- ---- what a node has
@@ -113,9 +114,6 @@ module _ {X : Type 0} where
   pub node_map-none : node_map {X = X} [] [] ≡ empty
   unfolding node_map
   node_map-none = refl
-
-  pub IsNode-none : IsNode {X = X} [] []
-  IsNode-none = record { values_rise = tt; values_short = tt; children_rise = tt; children_long = tt }
 
 -- ---- changes
 
@@ -173,6 +171,10 @@ module _ {X : Type 0} where
   pub insert_changes : (m : BitMap X) (q : List Bool) (v : X) → Changes m q (Some v) (map.insert m q v)
   insert_changes m q v x = get-insert bits_total m q v x
 
+  -- what was stored is there
+  pub get-written : (m : BitMap X) (q : List Bool) (w : X) → get (map.insert m q w) q ≡ Some w
+  get-written m q w = insert_changes m q w q ∙ ap (λ b. cond b (Some w) (get m q)) (same-refl q)
+
   pub remove_changes : (m : BitMap X) (q : List Bool) → Changes m q None (map.remove m q)
   remove_changes m q x = get-remove bits_total m q x
 
@@ -189,7 +191,7 @@ module _ {X : Type 0} where
 
   -- the child on the way gets a key
   pub child_put : {vs : List (List Bool × X)} {cs ds : List (List Bool × Seen X)} (q : List Bool) (v : X) (d : Seen X) → IsNode vs cs → IsNode vs ds → 5 ≤ length q → ListChanges cs (take 5 q) (Some d) ds
-      → d.0 ≡ map.insert (child_map (find bits_cmp (take 5 q) cs)) (drop 5 q) v → node_map vs ds ≡ map.insert (node_map vs cs) q v
+      → d.entries ≡ map.insert (child_map (find bits_cmp (take 5 q) cs)) (drop 5 q) v → node_map vs ds ≡ map.insert (node_map vs cs) q v
   child_put q v d n k h f e =
       changes_same _ _ _ (changed_long q (Some v) (Some d) n k h f (λ r. ap (λ m. get m r) e ∙ insert_changes _ (drop 5 q) v r)) (insert_changes _ q v)
 

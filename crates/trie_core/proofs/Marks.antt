@@ -4,11 +4,11 @@ use Rattle.std.specs.Prelude.{T, nat_lt, Option, Some, None, is_some}
 use Rattle.std.specs.FinMap.{find, get, remove, len, empty, is_sorted, get-empty, get-insert, get-remove, len-insert, len-empty, same_map}
 use Rattle.std.specs.FinMap.Entries.{below_all}
 use Rattle.std.proofs.lemmas.Bool.Decides.{nat_tests}
-use Rattle.trie_keys.specs.Bits.{bits_cmp}
-use Rattle.trie_keys.proofs.Strings.{bits_total, bits_same, same, same-Decides, same-refl, both}
-use Rattle.trie_core.specs.Nodes.{BitSet, Seen, AreLong, IsNode}
-use Rattle.trie_core.specs.Count.{spares, spare_if, spare_of, spares_below, marked_if, marked, marks, spare_set, total, entry_count}
-use Rattle.trie_core.proofs.Order.{T-and}
+use Rattle.trie_core.specs.Bits.{bits_cmp}
+use Rattle.trie_core.proofs.Strings.{bits_total, bits_same, same, same-Decides, same-refl, both, T-and}
+use Rattle.trie_core.specs.Nodes.{BitSet, Seen}
+use Rattle.trie_core.specs.InnerNodes.{AreLong, IsNode}
+use Rattle.trie_core.specs.InnerCount.{spare_count, spare_if, spare_of, spares_below, marked_if, marked, marks, spare_set, total, entry_count}
 use Rattle.trie_core.proofs.Count.{things}
 use Rattle.trie_core.proofs.Lengths.{entries_of_node}
 use Rattle.trie_core.proofs.Maps.{ListChanges, child_get, get_none, get-short, get-long, remove_absent}
@@ -22,7 +22,7 @@ len_marked_if zero b h = omega (arith, len-insert bits_total b [] tt, ap (λ o. 
 len_marked_if (suc n) b h = omega arith
 
 -- a node with no spare string has no spare node
-pub no_spares : {X : Type 0} (s : Seen X) → s.1 ≡ empty → spares s ≡ 0
+pub no_spares : {X : Type 0} (s : Seen X) → s.spares ≡ empty → spare_count s ≡ 0
 no_spares s e = ap (λ b. len (remove b [])) e ∙ ap len (remove_absent empty [] (get-empty bits_cmp [])) ∙ len-empty bits_cmp (Unit {0})
 
 -- of a set that may have the empty string, all others
@@ -40,14 +40,14 @@ marked_if_root zero b = get-insert bits_total (remove b []) [] tt []
 marked_if_root (suc n) b = root_taken b
 
 module _ {X : Type 0} where
-  pub marked-other : (c : Seen X) (y : Bool) (ys : List Bool) → get (marked c) (y ∷ ys) ≡ get c.1 (y ∷ ys)
-  marked-other c y ys = marked_if_other (len c.0) c.1 y ys
+  pub marked-other : (c : Seen X) (y : Bool) (ys : List Bool) → get (marked c) (y ∷ ys) ≡ get c.spares (y ∷ ys)
+  marked-other c y ys = marked_if_other (len c.entries) c.spares y ys
 
-  pub marked-root : (c : Seen X) → get (marked c) [] ≡ root_if (len c.0)
-  marked-root c = marked_if_root (len c.0) c.1
+  pub marked-root : (c : Seen X) → get (marked c) [] ≡ root_if (len c.entries)
+  marked-root c = marked_if_root (len c.entries) c.spares
 
   len_marked : (c : Seen X) → len (marked c) ≡ spare_of c
-  len_marked c = len_marked_if (len c.0) (remove c.1 []) (root_taken c.1)
+  len_marked c = len_marked_if (len c.entries) (remove c.spares []) (root_taken c.spares)
 
   marks_above : (b : List Bool) (cs : List (List Bool × Seen X)) → T (below_all bits_cmp b cs) → T (below_all bits_cmp b (marks cs))
   marks_above b [] h = tt
@@ -74,7 +74,7 @@ module _ {X : Type 0} where
   marked_get (Some c) r = get (marked c) r
 
   found_marks_by : (q : List Bool) (c : List Bool × Seen X) (cs : List (List Bool × Seen X)) (r : List Bool) (b : Bool) → child_get (find bits_cmp q (marks cs)) r ≡ marked_get (find bits_cmp q cs) r
-      → child_get (cond b (Some (marked c.1, empty, c.1.2)) (find bits_cmp q (marks cs))) r ≡ marked_get (cond b (Some c.1) (find bits_cmp q cs)) r
+      → child_get (cond b (Some (record { entries = marked c.1; spares = empty; levels = c.1.levels })) (find bits_cmp q (marks cs))) r ≡ marked_get (cond b (Some c.1) (find bits_cmp q cs)) r
   found_marks_by q c cs r true e = refl
   found_marks_by q c cs r false e = e
 

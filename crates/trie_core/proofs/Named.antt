@@ -7,17 +7,17 @@ use Rattle.std.specs.Ordering.{nat_cmp, eq_by_cmp, is_eq}
 use Rattle.std.specs.FinMap.{find, put, is_sorted}
 use Rattle.std.specs.FinMap.Entries.{below_all, by_order}
 use Rattle.std.proofs.lemmas.Bool.Decides.{nat_tests}
-use Rattle.trie_keys.specs.Bits.{bits_cmp, place_of, child_of, place_string, child_string}
-use Rattle.trie_core.specs.Places.{at_places, AllBelow, without, named, value_list, child_list}
-use Rattle.trie_core.specs.Nodes.{Seen, AreShort, AreLong, IsNode}
-use Rattle.trie_keys.proofs.Strings.{same, same-refl, same-Decides, no_false, both, less-T, same_false}
+use Rattle.trie_core.specs.Bits.{bits_cmp}
+use Rattle.trie_core.specs.InnerPlaces.{place_of, child_of, place_string, child_string, at_places, AllBelow, without, named, value_list, child_list}
+use Rattle.trie_core.specs.Nodes.{Seen}
+use Rattle.trie_core.specs.InnerNodes.{AreShort, AreLong, IsNode}
+use Rattle.trie_core.proofs.Strings.{same, same-refl, same-Decides, no_false, both, less-T, same_false, T-and}
 use Rattle.trie_core.proofs.Maps.{ListChanges}
-use Rattle.trie_core.proofs.Order.{T-and, T-less}
+use Rattle.trie_core.proofs.Order.{T-less}
 use Rattle.trie_core.proofs.Count.{things}
-use Rattle.trie_keys.proofs.Numbers.{ones_bit}
+use Rattle.trie_core.proofs.Numbers.{ones_bit, place_bound, number_bound, place_string-place_of, child_string-child_of, place_less, place_strings, number_less, child_of-string, length-child_string}
 use Rattle.trie_core.proofs.Places.{ones_half}
 use Rattle.trie_core.proofs.Edits.{low_bit, at_step, at_first, at_sorted}
-use Rattle.trie_keys.proofs.Numbers.{place_bound, number_bound, place_string-place_of, child_string-child_of, place_less, place_strings, number_less, child_of-string, length-child_string}
 
 -- f names the numbers below w by strings that rise with them
 pub record IsNaming (f : ℕ → List Bool) (w : ℕ) : Type 0 where

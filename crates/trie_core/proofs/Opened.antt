@@ -10,15 +10,16 @@ use Rattle.std.proofs.lemmas.Bool.Decides.{nat_tests}
 use Rattle.std.proofs.Math.Nat.{le-mul_of_pos_right, pow-le-pow_right}
 use Rattle.std.proofs.lemmas.Nat.{pow_pos, pow-add}
 use Rattle.std.proofs.lemmas.Nat.Bits.{bit_at_and, bit_at-lt, bit_at-suc, bit_at_ones, bit_at-zero, bit_at_mask_above, bit_at_mask_below, bit_at_mask_inside}
-use Rattle.trie_keys.specs.Bits.{bits_cmp, begins, place_of, child_of, place_string, child_string, is_past, is_from}
+use Rattle.trie_core.specs.Bits.{bits_cmp, begins, is_from}
+use Rattle.trie_core.specs.InnerPlaces.{place_of, child_of, place_string, child_string, placed, without, AllBelow, named, first_place_of, IsFirstPlace}
+use Rattle.trie_core.specs.InnerWalks.{is_past, first_value, KeysWithin, Left, part_rest}
 use Rattle.std.proofs.Math.ListN.{length-append}
-use Rattle.trie_keys.proofs.Strings.{both, front, take_front, take_take}
-use Rattle.trie_keys.proofs.Numbers.{place_bound, number_bound, number-take, length-child_string}
-use Rattle.trie_keys.proofs.Begins.{past_short, past_long, from_short, from_long}
-use Rattle.trie_core.specs.Places.{placed, without, AllBelow, named, first_place_of, IsFirstPlace}
-use Rattle.trie_core.specs.Nodes.{Seen, under}
-use Rattle.trie_core.specs.Walks.{first_value, KeysWithin, Left, part_rest}
-use Rattle.trie_core.specs.Frames.{has_bit, is_open, place_first, open_weight, frame_rest, frame_levels, frame_weight}
+use Rattle.trie_core.proofs.Strings.{both, front, take_front, take_take}
+use Rattle.trie_core.proofs.Numbers.{place_bound, number_bound, number-take, length-child_string}
+use Rattle.trie_core.proofs.PlaceTables.{past_short, past_long, from_short, from_long}
+use Rattle.trie_core.specs.Nodes.{Seen}
+use Rattle.trie_core.specs.InnerNodes.{under}
+use Rattle.trie_core.specs.InnerFrames.{has_bit, is_open, place_first, open_weight, frame_rest, frame_levels, frame_weight}
 use Rattle.trie_core.proofs.Edits.{at_sorted, bit_within, half_less, low_less, without_front}
 use Rattle.trie_core.proofs.Taken.{taken, missing}
 use Rattle.trie_core.proofs.Seen.{IsSeen}
@@ -195,8 +196,8 @@ first_by_places (v ∷ vs) (c ∷ cs) b d = sym (value_is_first (v ∷ vs) (c �
 module _ {X : Type 0} where
   -- what is open of the node that is seen as m, which stands at the trail
   pub record IsOpened (m : Seen X) (trail : List Bool) (v c : ℕ) : Type 0 where
-    pub levels : length trail + 5 * m.2 ≤ 130
-    pub keys : KeysWithin 128 (under trail (where_key bits_cmp (is_open v c) (entries m.0)))
+    pub levels : length trail + 5 * m.levels ≤ 130
+    pub keys : KeysWithin 128 (under trail (where_key bits_cmp (is_open v c) (entries m.entries)))
 
   pub is_opened : {o : Option (Bor (Seen X))} {n : Bor (Seen X)} {s : Left X} (trail : List Bool) (v c : ℕ) → o ≡ Some n → (frame_rest o v c, frame_levels o, frame_weight o c) ≡ s → length trail + 5 * s.1 ≤ 130 → KeysWithin 128 (under trail s.0) → IsOpened n.now trail v c
   is_opened trail v c e w l k = record {
@@ -207,7 +208,7 @@ module _ {X : Type 0} where
   opened : {vb : ℕ} {vs : List X} {cb : ℕ} {cs : List (Seen X)} {m : Seen X} {trail : List Bool} (v c : ℕ) → IsSeen vb vs cb cs m → IsOpened m trail v c → IsKept (is_open v c) m (where_key nat_cmp (has_bit v) (placed vb vs)) (where_key nat_cmp (has_bit c) (placed cb cs)) trail
   opened v c s t = kept_left (has_bit v) (has_bit c) (are_parts s) (told_open v c) t.levels t.keys
 
-  left_open : {vb : ℕ} {vs : List X} {cb : ℕ} {cs : List (Seen X)} {m : Seen X} (trail : List Bool) (v c : ℕ) → IsSeen vb vs cb cs m → part_rest (where_key nat_cmp (has_bit v) (placed vb vs)) (where_key nat_cmp (has_bit c) (placed cb cs)) trail ≡ under trail (where_key bits_cmp (is_open v c) (entries m.0))
+  left_open : {vb : ℕ} {vs : List X} {cb : ℕ} {cs : List (Seen X)} {m : Seen X} (trail : List Bool) (v c : ℕ) → IsSeen vb vs cb cs m → part_rest (where_key nat_cmp (has_bit v) (placed vb vs)) (where_key nat_cmp (has_bit c) (placed cb cs)) trail ≡ under trail (where_key bits_cmp (is_open v c) (entries m.entries))
   left_open trail v c s = part_left (has_bit v) (has_bit c) trail (are_parts s) (told_open v c)
 
   first_told : {vb : ℕ} {vs : List X} {cb : ℕ} {cs : List (Seen X)} {m : Seen X} (v c : ℕ) (p q : Option ℕ) → IsSeen vb vs cb cs m
@@ -220,7 +221,7 @@ module _ {X : Type 0} where
   -- the value at the first open place is next
   pub record IsValueOpen (m : Seen X) (trail : List Bool) (v c place : ℕ) (value : X) : Type 0 where
     pub within : length trail + length (place_string place) ≤ 128
-    pub rest : under trail (where_key bits_cmp (is_open v c) (entries m.0)) ≡ (trail ++ place_string place, value) ∷ under trail (where_key bits_cmp (is_open (v - 2 ^ place) c) (entries m.0))
+    pub rest : under trail (where_key bits_cmp (is_open v c) (entries m.entries)) ≡ (trail ++ place_string place, value) ∷ under trail (where_key bits_cmp (is_open (v - 2 ^ place) c) (entries m.entries))
 
   pub value_open : {vb : ℕ} {vs : List X} {cb : ℕ} {cs : List (Seen X)} {m : Seen X} {trail : List Bool} (v c place : ℕ) (value : X) (q : Option ℕ) → IsSeen vb vs cb cs m → IsOpened m trail v c
       → IsFirstPlace (bit_and v vb) place → MatchOption q (bit_and c cb ≡ 0) (IsFirstPlace (bit_and c cb)) → place_first (Some place) q ≡ true → find nat_cmp place (placed vb vs) ≡ Some value → IsValueOpen m trail v c place value
@@ -234,37 +235,37 @@ module _ {X : Type 0} where
   -- the node at the first open place is next
   pub record IsChildOpen (m : Seen X) (trail : List Bool) (v c place : ℕ) (d : Seen X) : Type 0 where
     pub within : length trail + 5 ≤ 128
-    pub smaller : d.2 < m.2
-    pub rest : under trail (where_key bits_cmp (is_open v c) (entries m.0)) ≡ under (trail ++ child_string place) (entries d.0) ++ under trail (where_key bits_cmp (is_open v (c - 2 ^ place)) (entries m.0))
+    pub smaller : d.levels < m.levels
+    pub rest : under trail (where_key bits_cmp (is_open v c) (entries m.entries)) ≡ under (trail ++ child_string place) (entries d.entries) ++ under trail (where_key bits_cmp (is_open v (c - 2 ^ place)) (entries m.entries))
 
   pub child_open : {vb : ℕ} {vs : List X} {cb : ℕ} {cs : List (Seen X)} {m : Seen X} {trail : List Bool} (v c place : ℕ) (d : Seen X) (p : Option ℕ) → IsSeen vb vs cb cs m → IsOpened m trail v c
-      → MatchOption p (bit_and v vb ≡ 0) (IsFirstPlace (bit_and v vb)) → IsFirstPlace (bit_and c cb) place → place_first p (Some place) ≡ false → find nat_cmp place (placed cb cs) ≡ Some d → 0 < d.2 → IsChildOpen m trail v c place d
+      → MatchOption p (bit_and v vb ≡ 0) (IsFirstPlace (bit_and v vb)) → IsFirstPlace (bit_and c cb) place → place_first p (Some place) ≡ false → find nat_cmp place (placed cb cs) ≡ Some d → 0 < d.levels → IsChildOpen m trail v c place d
   child_open {vb} {vs} {cb} {cs} {m} {trail} v c place d p s t f g h e l =
       let k = opened v c s t in
       let n = child_next k.frame (open_first c cb place cs d g e) (first_told v c p (Some place) s f g ∙ h) (omega (arith, l)) in
       record {
         within = n.within;
         smaller = omega (arith, n.less.0, k.levels);
-        rest = sym (left_open trail v c s) ∙ n.rest ∙ ap (λ es. under (trail ++ child_string place) (entries d.0) ++ es) (left_open trail v (c - 2 ^ place) s);
+        rest = sym (left_open trail v c s) ∙ n.rest ∙ ap (λ es. under (trail ++ child_string place) (entries d.entries) ++ es) (left_open trail v (c - 2 ^ place) s);
       }
 
   pub nothing_open : {vb : ℕ} {vs : List X} {cb : ℕ} {cs : List (Seen X)} {m : Seen X} (v c : ℕ) (p : Option ℕ) → IsSeen vb vs cb cs m
-      → MatchOption p (bit_and v vb ≡ 0) (IsFirstPlace (bit_and v vb)) → bit_and c cb ≡ 0 → place_first p None ≡ false → where_key bits_cmp (is_open v c) (entries m.0) ≡ []
+      → MatchOption p (bit_and v vb ≡ 0) (IsFirstPlace (bit_and v vb)) → bit_and c cb ≡ 0 → place_first p None ≡ false → where_key bits_cmp (is_open v c) (entries m.entries) ≡ []
   nothing_open {vb} {vs} {cb} {cs} {m} v c p s f g h =
       sym (under_none _) ∙ sym (left_open [] v c s) ∙ nothing_next (where_key nat_cmp (has_bit v) (placed vb vs)) [] (open_none c cb cs g) (first_told v c p None s f g ∙ h)
 
   -- a child and what is left weigh less
-  pub lighter : (m d : Seen X) (c i : ℕ) → d.2 < m.2 → 2 ^ i ≤ c → open_weight d (2 ^ 32 - 1) + open_weight m (c - 2 ^ i) + 1 < open_weight m c
+  pub lighter : (m d : Seen X) (c i : ℕ) → d.levels < m.levels → 2 ^ i ≤ c → open_weight d (2 ^ 32 - 1) + open_weight m (c - 2 ^ i) + 1 < open_weight m c
   lighter m d c i h l =
-      let q = 2 ^ (33 * d.2) in
-      let r = 2 ^ (33 * (m.2 - d.2 - 1)) in
-      let e : 33 * m.2 ≡ 33 + 33 * d.2 + 33 * (m.2 - d.2 - 1) = omega (arith, h) in
-      let p : 2 ^ (33 * m.2) ≡ 2 ^ 33 * q * r = ap (λ n. 2 ^ n) e ∙ pow-add 2 (33 + 33 * d.2) (33 * (m.2 - d.2 - 1)) ∙ ap (λ x. x * r) (pow-add 2 33 (33 * d.2)) in
-      let u : 2 ^ 33 * q ≤ 2 ^ 33 * q * r = no_less (2 ^ 33 * q) r (pow_pos (33 * (m.2 - d.2 - 1))) in
-      let w : 2 ^ (33 * m.2) ≤ 2 ^ (33 * m.2) * 2 ^ i = no_less (2 ^ (33 * m.2)) (2 ^ i) (pow_pos i) in
+      let q = 2 ^ (33 * d.levels) in
+      let r = 2 ^ (33 * (m.levels - d.levels - 1)) in
+      let e : 33 * m.levels ≡ 33 + 33 * d.levels + 33 * (m.levels - d.levels - 1) = omega (arith, h) in
+      let p : 2 ^ (33 * m.levels) ≡ 2 ^ 33 * q * r = ap (λ n. 2 ^ n) e ∙ pow-add 2 (33 + 33 * d.levels) (33 * (m.levels - d.levels - 1)) ∙ ap (λ x. x * r) (pow-add 2 33 (33 * d.levels)) in
+      let u : 2 ^ 33 * q ≤ 2 ^ 33 * q * r = no_less (2 ^ 33 * q) r (pow_pos (33 * (m.levels - d.levels - 1))) in
+      let w : 2 ^ (33 * m.levels) ≤ 2 ^ (33 * m.levels) * 2 ^ i = no_less (2 ^ (33 * m.levels)) (2 ^ i) (pow_pos i) in
       let f : c ≡ c - 2 ^ i + 2 ^ i = omega (arith, l) in
-      let g : c * 2 ^ (33 * m.2) ≡ (c - 2 ^ i) * 2 ^ (33 * m.2) + 2 ^ (33 * m.2) * 2 ^ i = ap (λ x. x * 2 ^ (33 * m.2)) f ∙ split_mul (c - 2 ^ i) (2 ^ i) (2 ^ (33 * m.2)) in
-      omega (arith, p, u, w, g, pow_pos (33 * d.2))
+      let g : c * 2 ^ (33 * m.levels) ≡ (c - 2 ^ i) * 2 ^ (33 * m.levels) + 2 ^ (33 * m.levels) * 2 ^ i = ap (λ x. x * 2 ^ (33 * m.levels)) f ∙ split_mul (c - 2 ^ i) (2 ^ i) (2 ^ (33 * m.levels)) in
+      omega (arith, p, u, w, g, pow_pos (33 * d.levels))
     where
       no_less : (a b : ℕ) → 0 < b → a ≤ a * b
       no_less a b h = le-mul_of_pos_right a h

@@ -8,10 +8,11 @@ use Rattle.std.specs.FinMap.{entries, find, get, is_sorted, entries_sorted, get-
 use Rattle.std.specs.FinMap.Entries.{below_all, same_entries}
 use Rattle.std.proofs.lemmas.Bool.Decides.{nat_tests}
 use Rattle.std.proofs.Math.ListN.{length-append}
-use Rattle.trie_keys.specs.Bits.{bits_cmp}
-use Rattle.trie_core.specs.Walks.{first_value}
-use Rattle.trie_core.specs.Nodes.{BitMap, Seen, under, node_map, IsNode}
-use Rattle.trie_keys.proofs.Strings.{both, append_none, bits_total, bits_same, same, same-refl, same-Decides, other_length, front, less-T}
+use Rattle.trie_core.specs.Bits.{bits_cmp}
+use Rattle.trie_core.specs.InnerWalks.{first_value}
+use Rattle.trie_core.specs.Nodes.{BitMap, Seen}
+use Rattle.trie_core.specs.InnerNodes.{under, node_map, IsNode}
+use Rattle.trie_core.proofs.Strings.{both, append_none, bits_total, bits_same, same, same-refl, same-Decides, other_length, front, less-T, bits_cmp-under, T-and}
 use Rattle.trie_core.proofs.Maps.{tail_rises, or_else, find-append_all, find-apart, find-child, child_get, get-short, get-long, get_none, node_map-none}
 
 -- ---- the order of strings
@@ -34,11 +35,6 @@ less_left (false ∷ xs) (false ∷ ys) zs h e = less_left xs ys zs (omega arith
 less_left (false ∷ xs) (true ∷ ys) zs h e = refl
 less_left (true ∷ xs) (false ∷ ys) zs h e = cc
 
-bits_cmp-under : (bs xs ys : List Bool) → bits_cmp (bs ++ xs) (bs ++ ys) ≡ bits_cmp xs ys
-bits_cmp-under [] xs ys = refl
-bits_cmp-under (true ∷ bs) xs ys = bits_cmp-under bs xs ys
-bits_cmp-under (false ∷ bs) xs ys = bits_cmp-under bs xs ys
-
 pub less_trans : (xs ys zs : List Bool) → bits_cmp xs ys ≡ Less → bits_cmp ys zs ≡ Less → bits_cmp xs zs ≡ Less
 less_trans [] [] zs e f = cc
 less_trans [] (y ∷ ys) [] e f = cc
@@ -51,10 +47,6 @@ less_trans (false ∷ xs) (y ∷ ys) (true ∷ zs) e f = refl
 less_trans (true ∷ xs) (false ∷ ys) zs e f = cc
 less_trans (true ∷ xs) (true ∷ ys) (false ∷ zs) e f = cc
 less_trans (false ∷ xs) (true ∷ ys) (false ∷ zs) e f = cc
-
-pub T-and : (a b : Bool) → T a → T b → T (a && b)
-T-and true b p q = q
-T-and false b p q = p
 
 pub T-less : (o : Ordering) → o ≡ Less → T (is_lt o)
 T-less o e = subst (λ r. T (is_lt r)) (sym e) tt
@@ -152,15 +144,15 @@ module _ {X : Type 0} where
       (T-and _ _ (below_found e.0 (entries (node_map vs cs)) b) (entries_sorted (node_map vs cs)))
       (λ q. sym (get-entries (node_map (e ∷ vs) cs) q) ∙ more_value_by n q (nat_lt (length q) 5) refl ∙ ap (cond (same q e.0) (Some e.1)) (get-entries (node_map vs cs) q))
 
-  more_child_by : {vs : List (List Bool × X)} {cs : List (List Bool × Seen X)} {c : List Bool × Seen X} → IsNode vs (c ∷ cs) → (q : List Bool) (b : Bool) → nat_lt (length q) 5 ≡ b → get (node_map vs (c ∷ cs)) q ≡ or_else (find bits_cmp q (under c.0 (entries c.1.0))) (get (node_map vs cs) q)
+  more_child_by : {vs : List (List Bool × X)} {cs : List (List Bool × Seen X)} {c : List Bool × Seen X} → IsNode vs (c ∷ cs) → (q : List Bool) (b : Bool) → nat_lt (length q) 5 ≡ b → get (node_map vs (c ∷ cs)) q ≡ or_else (find bits_cmp q (under c.0 (entries c.1.entries))) (get (node_map vs cs) q)
   more_child_by {vs} {cs} {c} n q true h =
       let l : length q < 5 = grind (arith, nat_tests) in
       get-short n q l ∙ sym (get-short (without_child n) q l)
-      ∙ ap (λ o. or_else o (get (node_map vs cs) q)) (sym (find-apart c.0 q (λ k e. omega (arith, ap length e, length-append c.0 k, n.children_long.0)) (entries c.1.0)))
+      ∙ ap (λ o. or_else o (get (node_map vs cs) q)) (sym (find-apart c.0 q (λ k e. omega (arith, ap length e, length-append c.0 k, n.children_long.0)) (entries c.1.entries)))
   more_child_by {vs} {cs} {c} n q false h =
       let l : 5 ≤ length q = grind (arith, nat_tests) in
       get-long n q l ∙ sym (find-child q c cs l n.children_long.0 (tail_rises c cs n.children_rise).1 (same (take 5 q) c.0) refl)
-      ∙ ap (or_else (find bits_cmp q (under c.0 (entries c.1.0)))) (sym (get-long (without_child n) q l))
+      ∙ ap (or_else (find bits_cmp q (under c.0 (entries c.1.entries)))) (sym (get-long (without_child n) q l))
 
   pub below_under : (bs x : List Bool) (es : List (List Bool × X)) → T (below_all bits_cmp x es) → T (below_all bits_cmp (bs ++ x) (under bs es))
   below_under bs x [] h = tt
@@ -180,13 +172,13 @@ module _ {X : Type 0} where
       above_by (without_child n) c.0 r (λ l. absurd (omega (arith, n.children_long.0))) (omega (arith, n.children_long.0)) (starts_above c.0 vs h n.values_rise) (tail_rises c cs n.children_rise).1 q s (nat_lt (length q) 5) refl (nat_lt (length c.0) 5) refl
 
   -- a walk gives the first child's entries, where no value is before it
-  pub walk_child : {vs : List (List Bool × X)} {cs : List (List Bool × Seen X)} {c : List Bool × Seen X} → IsNode vs (c ∷ cs) → StartsAfter c.0 vs → entries (node_map vs (c ∷ cs)) ≡ under c.0 (entries c.1.0) ++ entries (node_map vs cs)
+  pub walk_child : {vs : List (List Bool × X)} {cs : List (List Bool × Seen X)} {c : List Bool × Seen X} → IsNode vs (c ∷ cs) → StartsAfter c.0 vs → entries (node_map vs (c ∷ cs)) ≡ under c.0 (entries c.1.entries) ++ entries (node_map vs cs)
   walk_child {vs} {cs} {c} n h =
       same_entries bits_cmp bits_total bits_same _ _ (entries_sorted (node_map vs (c ∷ cs)))
-      (sorted_under c.0 (entries c.1.0) (entries (node_map vs cs)) (entries_sorted c.1.0) (entries_sorted (node_map vs cs))
+      (sorted_under c.0 (entries c.1.entries) (entries (node_map vs cs)) (entries_sorted c.1.entries) (entries_sorted (node_map vs cs))
       (λ r. below_found (c.0 ++ r) (entries (node_map vs cs)) (λ q s. after_keys n h r q (found_get (node_map vs cs) q s))))
-      (λ q. sym (get-entries (node_map vs (c ∷ cs)) q) ∙ more_child_by n q (nat_lt (length q) 5) refl ∙ ap (or_else (find bits_cmp q (under c.0 (entries c.1.0)))) (get-entries (node_map vs cs) q)
-      ∙ sym (find-append_all q (under c.0 (entries c.1.0)) (entries (node_map vs cs))))
+      (λ q. sym (get-entries (node_map vs (c ∷ cs)) q) ∙ more_child_by n q (nat_lt (length q) 5) refl ∙ ap (or_else (find bits_cmp q (under c.0 (entries c.1.entries)))) (get-entries (node_map vs cs) q)
+      ∙ sym (find-append_all q (under c.0 (entries c.1.entries)) (entries (node_map vs cs))))
 
   pub walk_none : entries (node_map {X = X} [] []) ≡ []
   walk_none = ap entries node_map-none ∙ same_entries bits_cmp bits_total bits_same (entries empty) [] (entries_sorted empty) tt (λ q. sym (get-entries empty q) ∙ get_none {X = X} q)

@@ -5,8 +5,8 @@ use Rattle.std.specs.Ordering.{nat_cmp}
 use Rattle.std.specs.FinMap.{find}
 use Rattle.std.proofs.lemmas.Nat.{mod-pow-add, shr-shr, ones_cat, shr_split, pow_pos}
 use Rattle.std.proofs.lemmas.Bool.Decides.{nat_tests}
-use Rattle.trie_core.specs.Places.{at_places}
-use Rattle.trie_keys.proofs.Numbers.{ones_bit}
+use Rattle.trie_core.specs.InnerPlaces.{at_places}
+use Rattle.trie_core.proofs.Numbers.{ones_bit}
 
 -- the lowest bit is counted, and the others
 pub ones_low : (a b : ℕ) → b < 2 → count_ones (a * 2 + b) ≡ count_ones a + b

@@ -10,13 +10,13 @@ use Rattle.std.proofs.lemmas.Nat.{leading_top}
 use Rattle.std.proofs.lemmas.Nat.Bits.{bit_at_and, bit_at-lt, bit_at_above, bit_at-zero}
 use Rattle.std.proofs.Math.Nat.{div-eq_of_lt-le}
 use Rattle.std.proofs.Math.ListN.{length-take, length-drop}
-use Rattle.trie_keys.specs.Bits.{place_from, place_of, place_string, IsBeginMask}
-use Rattle.trie_core.specs.Places.{at_places, IsLastPlace, IsFirstPlace}
+use Rattle.trie_core.specs.InnerPlaces.{place_from, place_of, place_string, IsBeginMask, at_places, IsLastPlace, IsFirstPlace}
 use Rattle.trie_core.specs.Nodes.{BitMap, Seen}
 use Rattle.trie_core.specs.Count.{node_visits}
-use Rattle.trie_core.specs.Search.{NoBeginning, IsLongest, IsShortest, NoneBelow, IsLongestBelow, IsChild, HasNoChild}
-use Rattle.trie_keys.proofs.Numbers.{place_strings}
-use Rattle.trie_keys.proofs.Strings.{begins_take, take_begins}
+use Rattle.trie_core.specs.Search.{NoBeginning, IsLongest, IsShortest}
+use Rattle.trie_core.specs.InnerSearch.{NoneBelow, IsLongestBelow, IsChild, HasNoChild}
+use Rattle.trie_core.proofs.Numbers.{place_strings}
+use Rattle.trie_core.proofs.Strings.{begins_take, take_begins}
 use Rattle.trie_core.proofs.Taken.{taken, missing}
 use Rattle.trie_core.proofs.Seen.{IsSeen, value_at}
 
@@ -91,17 +91,17 @@ met_place vb mask q h f n e =
     record { below = l; stored = t.0; within = b.0; begins = b.1; short = p.short; place = p.place }
 
 module _ {X : Type 0} where
-  pub unset_none : {vb : ℕ} {vs : List X} {cb : ℕ} {cs : List (Seen X)} {m : Seen X} (q : List Bool) (k : ℕ) → IsSeen vb vs cb cs m → k < 5 → bit_at vb (place_of (take k q)) ≡ 0 → get m.0 (take k q) ≡ None
+  pub unset_none : {vb : ℕ} {vs : List X} {cb : ℕ} {cs : List (Seen X)} {m : Seen X} (q : List Bool) (k : ℕ) → IsSeen vb vs cb cs m → k < 5 → bit_at vb (place_of (take k q)) ≡ 0 → get m.entries (take k q) ≡ None
   unset_none {vb} {vs} q k s h z = sym (value_at (take k q) s (omega (arith, length-take k q, h))) ∙ sym (missing (place_of (take k q)) vb vs z)
 
   -- no beginning of fewer than five bits is a key
-  pub none_here : {vb : ℕ} {vs : List X} {cb : ℕ} {cs : List (Seen X)} {m : Seen X} (q : List Bool) (mask : ℕ) → IsSeen vb vs cb cs m → IsBeginMask q mask → bit_and vb mask ≡ 0 → NoneBelow m.0 q 5
+  pub none_here : {vb : ℕ} {vs : List X} {cb : ℕ} {cs : List (Seen X)} {m : Seen X} (q : List Bool) (mask : ℕ) → IsSeen vb vs cb cs m → IsBeginMask q mask → bit_and vb mask ≡ 0 → NoneBelow m.entries q 5
   none_here {vb} q mask s f z k h l = unset_none q k s h (sym (met_beginning vb mask q f k h l) ∙ ap (λ n. bit_at n (place_of (take k q))) z ∙ bit_at-zero (place_of (take k q)))
 
-  pub found_here : {vb : ℕ} {vs : List X} {cb : ℕ} {cs : List (Seen X)} {m : Seen X} (q : List Bool) (n at : ℕ) (v : X) → IsSeen vb vs cb cs m → IsMet vb n q → at ≡ count_ones (vb % 2 ^ n) → v ≡ get_or vs at v → get m.0 (take (length (place_string n)) q) ≡ Some v
+  pub found_here : {vb : ℕ} {vs : List X} {cb : ℕ} {cs : List (Seen X)} {m : Seen X} (q : List Bool) (n at : ℕ) (v : X) → IsSeen vb vs cb cs m → IsMet vb n q → at ≡ count_ones (vb % 2 ^ n) → v ≡ get_or vs at v → get m.entries (take (length (place_string n)) q) ≡ Some v
   found_here {vb} {vs} {m = m} q n at v s e a r =
       let t = taken n at vb vs (omega (arith, e.below)) (e.stored, a) s.slots.values_counted in
-      ap (get m.0) e.begins
+      ap (get m.entries) e.begins
       ∙ sym (value_at (place_string n) s e.short)
       ∙ ap (λ i. find nat_cmp i (at_places 32 0 vb vs)) e.place
       ∙ t.read v ∙ ap Some (sym r)
@@ -112,26 +112,26 @@ module _ {X : Type 0} where
       ((taken n at vb vs (omega (arith, t.below)) (t.stored, a) s.slots.values_counted).within, t.below)
 
   pub longest_here : {vb : ℕ} {vs : List X} {cb : ℕ} {cs : List (Seen X)} {m : Seen X} (q : List Bool) (mask n at len : ℕ) (v : X) → IsSeen vb vs cb cs m → IsBeginMask q mask → IsLastPlace (bit_and vb mask) n → at ≡ count_ones (vb % 2 ^ n) → len ≡ length (place_string n) → v ≡ get_or vs at v
-      → IsLongestBelow m.0 q 5 len v
+      → IsLongestBelow m.entries q 5 len v
   longest_here {vb} {vs} {m = m} q mask n at len v s f e a l r =
       let t = met_place vb mask q s.slots.values_below f n e.taken in
       record {
         below = omega (arith, l, t.short);
         within = omega (arith, l, t.within);
-        found = ap (λ i. get m.0 (take i q)) l ∙ found_here q n at v s t a r;
+        found = ap (λ i. get m.entries (take i q)) l ∙ found_here q n at v s t a r;
         longest = λ k h j i.
             let p : n < place_of (take k q) = omega (arith, sym t.place, ap place_of t.begins, place_rises 5 k (length (place_string n)) q (omega (arith, l, h)) i j) in
             unset_none q k s j (sym (met_beginning vb mask q f k j i) ∙ e.above (place_of (take k q)) p);
       }
 
   pub shortest_here : {vb : ℕ} {vs : List X} {cb : ℕ} {cs : List (Seen X)} {m : Seen X} (q : List Bool) (mask n at len : ℕ) (v : X) → IsSeen vb vs cb cs m → IsBeginMask q mask → IsFirstPlace (bit_and vb mask) n → at ≡ count_ones (vb % 2 ^ n) → len ≡ length (place_string n) → v ≡ get_or vs at v
-      → (len < 5) × IsShortest m.0 q len v
+      → (len < 5) × IsShortest m.entries q len v
   shortest_here {vb} {vs} {m = m} q mask n at len v s f e a l r =
       let t = met_place vb mask q s.slots.values_below f n e.taken in (
         omega (arith, l, t.short),
         record {
           within = omega (arith, l, t.within);
-          found = ap (λ i. get m.0 (take i q)) l ∙ found_here q n at v s t a r;
+          found = ap (λ i. get m.entries (take i q)) l ∙ found_here q n at v s t a r;
           shortest = λ k h.
               let j : k < 5 = omega (arith, l, t.short, h) in
               let i : k ≤ length q = omega (arith, l, t.within, h) in
@@ -163,10 +163,7 @@ module _ {X : Type 0} where
   pub record IsAt (m : Seen X) (q : List Bool) (d : ℕ) (n : Seen X) (p : List Bool) : Type 0 where
     pub within : d ≤ length q
     pub rest : p ≡ drop d q
-    pub gets : (r : List Bool) → get n.0 r ≡ get m.0 (take d q ++ r)
-
-  pub at_start : (m : Seen X) (q : List Bool) → IsAt m q 0 m q
-  at_start m q = record { within = omega arith; rest = refl; gets = λ r. refl }
+    pub gets : (r : List Bool) → get n.entries r ≡ get m.entries (take d q ++ r)
 
   pub at_child : {m n c : Seen X} {q p r : List Bool} (d : ℕ) → IsAt m q d n p → 5 ≤ length p → IsChild p n c → r ≡ drop 5 p → IsAt m q (d + 5) c r
   at_child {m} {n} {c} {q} {p} {r} d a h e f = record {
@@ -174,42 +171,42 @@ module _ {X : Type 0} where
     rest = f ∙ ap (drop 5) a.rest ∙ drop_drop d 5 q;
     gets = λ k.
         sym (e.gets k) ∙ a.gets (take 5 p ++ k)
-        ∙ ap (λ w. get m.0 (take d q ++ (take 5 w ++ k))) a.rest
-        ∙ ap (get m.0) (sym (append_twice (take d q) (take 5 (drop d q)) k) ∙ ap (λ w. w ++ k) (sym (take_split d 5 q)));
+        ∙ ap (λ w. get m.entries (take d q ++ (take 5 w ++ k))) a.rest
+        ∙ ap (get m.entries) (sym (append_twice (take d q) (take 5 (drop d q)) k) ∙ ap (λ w. w ++ k) (sym (take_split d 5 q)));
   }
 
   -- the beginnings of q from depth d on are those of p
-  later : {m n : Seen X} {q p : List Bool} (d k : ℕ) → IsAt m q d n p → get m.0 (take (d + k) q) ≡ get n.0 (take k p)
-  later {m} {n} {q} {p} d k a = ap (get m.0) (take_split d k q ∙ ap (λ w. take d q ++ take k w) (sym a.rest)) ∙ sym (a.gets (take k p))
+  later : {m n : Seen X} {q p : List Bool} (d k : ℕ) → IsAt m q d n p → get m.entries (take (d + k) q) ≡ get n.entries (take k p)
+  later {m} {n} {q} {p} d k a = ap (get m.entries) (take_split d k q ∙ ap (λ w. take d q ++ take k w) (sym a.rest)) ∙ sym (a.gets (take k p))
 
   pub way_left : {m n : Seen X} {q p : List Bool} (d : ℕ) → IsAt m q d n p → length q ≡ d + length p
   way_left {q = q} d a = omega (arith, ap length a.rest, length-drop d q, a.within)
 
-  none_by : {m n : Seen X} {q p : List Bool} (d high k : ℕ) → IsAt m q d n p → NoneBelow m.0 q d → NoneBelow n.0 p high → k < d + high → k ≤ length q → (b : Bool) → nat_lt k d ≡ b → get m.0 (take k q) ≡ None
+  none_by : {m n : Seen X} {q p : List Bool} (d high k : ℕ) → IsAt m q d n p → NoneBelow m.entries q d → NoneBelow n.entries p high → k < d + high → k ≤ length q → (b : Bool) → nat_lt k d ≡ b → get m.entries (take k q) ≡ None
   none_by d high k a f g h l true e = f k (grind (arith, nat_tests)) l
   none_by {m} {n} {q} {p} d high k a f g h l false e =
       let i : d ≤ k = grind (arith, nat_tests) in
       let z : d + (k - d) ≡ k = omega arith in
-      ap (λ j. get m.0 (take j q)) (sym z) ∙ later d (k - d) a ∙ g (k - d) (omega (arith, i, h)) (omega (arith, way_left d a, i, l))
+      ap (λ j. get m.entries (take j q)) (sym z) ∙ later d (k - d) a ∙ g (k - d) (omega (arith, i, h)) (omega (arith, way_left d a, i, l))
 
-  pub none_deeper : {m n : Seen X} {q p : List Bool} (d high : ℕ) → IsAt m q d n p → NoneBelow m.0 q d → NoneBelow n.0 p high → NoneBelow m.0 q (d + high)
+  pub none_deeper : {m n : Seen X} {q p : List Bool} (d high : ℕ) → IsAt m q d n p → NoneBelow m.entries q d → NoneBelow n.entries p high → NoneBelow m.entries q (d + high)
   none_deeper d high a f g k h l = none_by d high k a f g h l (nat_lt k d) refl
 
-  longer_by : {m n : Seen X} {q p : List Bool} (d high len k : ℕ) {v : X} → IsAt m q d n p → IsLongestBelow m.0 q d len v → NoneBelow n.0 p high → len < k → k < d + high → k ≤ length q → (b : Bool) → nat_lt k d ≡ b → get m.0 (take k q) ≡ None
+  longer_by : {m n : Seen X} {q p : List Bool} (d high len k : ℕ) {v : X} → IsAt m q d n p → IsLongestBelow m.entries q d len v → NoneBelow n.entries p high → len < k → k < d + high → k ≤ length q → (b : Bool) → nat_lt k d ≡ b → get m.entries (take k q) ≡ None
   longer_by d high len k a f g i h l true e = f.longest k i (grind (arith, nat_tests)) l
   longer_by {m} {n} {q} {p} d high len k a f g i h l false e =
       let j : d ≤ k = grind (arith, nat_tests) in
       let z : d + (k - d) ≡ k = omega arith in
-      ap (λ j. get m.0 (take j q)) (sym z) ∙ later d (k - d) a ∙ g (k - d) (omega (arith, j, h)) (omega (arith, way_left d a, j, l))
+      ap (λ j. get m.entries (take j q)) (sym z) ∙ later d (k - d) a ∙ g (k - d) (omega (arith, j, h)) (omega (arith, way_left d a, j, l))
 
-  found_deeper : {m n : Seen X} {q p : List Bool} (d len : ℕ) {v : X} → IsAt m q d n p → IsLongestBelow n.0 p 5 len v → IsLongestBelow m.0 q (d + 5) (d + len) v
+  found_deeper : {m n : Seen X} {q p : List Bool} (d len : ℕ) {v : X} → IsAt m q d n p → IsLongestBelow n.entries p 5 len v → IsLongestBelow m.entries q (d + 5) (d + len) v
   found_deeper {m} {n} {q} {p} d len a f = record {
     below = omega (arith, f.below);
     within = omega (arith, f.within, way_left d a);
     found = later d len a ∙ f.found;
     longest = λ k h j i.
         let z : d + (k - d) ≡ k = omega (arith, h) in
-        ap (λ j. get m.0 (take j q)) (sym z) ∙ later d (k - d) a ∙ f.longest (k - d) (omega (arith, h)) (omega (arith, h, j)) (omega (arith, way_left d a, h, i));
+        ap (λ j. get m.entries (take j q)) (sym z) ∙ later d (k - d) a ∙ f.longest (k - d) (omega (arith, h)) (omega (arith, h, j)) (omega (arith, way_left d a, h, i));
   }
 
   module _ {S : Type 0} (v : S → X) where
@@ -217,15 +214,15 @@ module _ {X : Type 0} where
     abbrev pub IsBest : BitMap X → List Bool → ℕ → Option (ℕ × S) → Type 0
     IsBest m q high o = MatchOption o (NoneBelow m q high) (λ r. IsLongestBelow m q high r.0 (v r.1))
 
-    pub best_deeper : {m n : Seen X} {q p : List Bool} (d : ℕ) (best found after : Option (ℕ × S)) → IsAt m q d n p → IsBest m.0 q d best → IsBest n.0 p 5 found → MatchOption found (after ≡ best) (λ r. after ≡ Some (d + r.0, r.1)) → IsBest m.0 q (d + 5) after
-    best_deeper {m} {n} {q} {p} d None None after a f g e = subst (IsBest m.0 q (d + 5)) (sym e) (none_deeper d 5 a f g)
-    best_deeper {m} {n} {q} {p} d (Some b) None after a f g e = subst (IsBest m.0 q (d + 5)) (sym e) (record {
+    pub best_deeper : {m n : Seen X} {q p : List Bool} (d : ℕ) (best found after : Option (ℕ × S)) → IsAt m q d n p → IsBest m.entries q d best → IsBest n.entries p 5 found → MatchOption found (after ≡ best) (λ r. after ≡ Some (d + r.0, r.1)) → IsBest m.entries q (d + 5) after
+    best_deeper {m} {n} {q} {p} d None None after a f g e = subst (IsBest m.entries q (d + 5)) (sym e) (none_deeper d 5 a f g)
+    best_deeper {m} {n} {q} {p} d (Some b) None after a f g e = subst (IsBest m.entries q (d + 5)) (sym e) (record {
       below = omega (arith, f.below);
       within = f.within;
       found = f.found;
       longest = λ k h j i. longer_by d 5 b.0 k a f g h j i (nat_lt k d) refl;
     })
-    best_deeper {m} {n} {q} {p} d best (Some r) after a f g e = subst (IsBest m.0 q (d + 5)) (sym e) (found_deeper d r.0 a g)
+    best_deeper {m} {n} {q} {p} d best (Some r) after a f g e = subst (IsBest m.entries q (d + 5)) (sym e) (found_deeper d r.0 a g)
 
     pub longest_in_byte : (m : BitMap X) (q : List Bool) (o : Option (ℕ × S)) → length q ≤ 128 → MatchOption o (NoBeginning m q) (λ r. IsLongest m q r.0 (v r.1)) → MatchOption o (Unit {0}) (λ r. r.0 < 256)
     longest_in_byte m q None h f = tt
@@ -236,51 +233,51 @@ module _ {X : Type 0} where
     best_whole m q high (Some r) h f = record { within = f.within; found = f.found; longest = λ k i l. f.longest k i (omega (arith, h, l)) l }
 
     -- where no node is below, the best so far is the best
-    pub best_stop : {m n : Seen X} {q p : List Bool} (d : ℕ) (o : Option (ℕ × S)) → IsAt m q d n p → 5 ≤ length p → HasNoChild p n → IsBest m.0 q (d + 5) o → MatchOption o (NoBeginning m.0 q) (λ r. IsLongest m.0 q r.0 (v r.1))
-    best_stop {m} {n} {q} {p} d o a h e f = best_whole m.0 q (length q + 1) o (omega arith) (stopped o f)
+    pub best_stop : {m n : Seen X} {q p : List Bool} (d : ℕ) (o : Option (ℕ × S)) → IsAt m q d n p → 5 ≤ length p → HasNoChild p n → IsBest m.entries q (d + 5) o → MatchOption o (NoBeginning m.entries q) (λ r. IsLongest m.entries q r.0 (v r.1))
+    best_stop {m} {n} {q} {p} d o a h e f = best_whole m.entries q (length q + 1) o (omega arith) (stopped o f)
       where
-        beyond : (k : ℕ) → d + 5 ≤ k → get m.0 (take k q) ≡ None
+        beyond : (k : ℕ) → d + 5 ≤ k → get m.entries (take k q) ≡ None
         beyond k l =
             let z : d + (5 + (k - d - 5)) ≡ k = omega (arith, l) in
-            ap (λ j. get m.0 (take j q)) (sym z) ∙ later d (5 + (k - d - 5)) a ∙ ap (get n.0) (take_split 5 (k - d - 5) p) ∙ e.gets (take (k - d - 5) (drop 5 p))
+            ap (λ j. get m.entries (take j q)) (sym z) ∙ later d (5 + (k - d - 5)) a ∙ ap (get n.entries) (take_split 5 (k - d - 5) p) ∙ e.gets (take (k - d - 5) (drop 5 p))
 
-        either : (k : ℕ) → (k < d + 5 → get m.0 (take k q) ≡ None) → (b : Bool) → nat_lt k (d + 5) ≡ b → get m.0 (take k q) ≡ None
+        either : (k : ℕ) → (k < d + 5 → get m.entries (take k q) ≡ None) → (b : Bool) → nat_lt k (d + 5) ≡ b → get m.entries (take k q) ≡ None
         either k f true t = f (grind (arith, nat_tests))
         either k f false t = beyond k (grind (arith, nat_tests))
 
-        stopped : (o : Option (ℕ × S)) → IsBest m.0 q (d + 5) o → IsBest m.0 q (length q + 1) o
+        stopped : (o : Option (ℕ × S)) → IsBest m.entries q (d + 5) o → IsBest m.entries q (length q + 1) o
         stopped None f = λ k h l. either k (λ i. f k i l) (nat_lt k (d + 5)) refl
         stopped (Some r) f = record { below = omega (arith, f.within); within = f.within; found = f.found; longest = λ k i h l. either k (λ j. f.longest k i j l) (nat_lt k (d + 5)) refl }
 
   -- ---- the shortest
 
-  pub shortest_deeper : {m n : Seen X} {q p : List Bool} (d len : ℕ) {v : X} → IsAt m q d n p → NoneBelow m.0 q d → IsShortest n.0 p len v → IsShortest m.0 q (d + len) v
+  pub shortest_deeper : {m n : Seen X} {q p : List Bool} (d len : ℕ) {v : X} → IsAt m q d n p → NoneBelow m.entries q d → IsShortest n.entries p len v → IsShortest m.entries q (d + len) v
   shortest_deeper {m} {n} {q} {p} d len a f g = record {
     within = omega (arith, g.within, way_left d a);
     found = later d len a ∙ g.found;
     shortest = λ k h. shorter k h (nat_lt k d) refl;
   }
     where
-      shorter : (k : ℕ) → k < d + len → (b : Bool) → nat_lt k d ≡ b → get m.0 (take k q) ≡ None
+      shorter : (k : ℕ) → k < d + len → (b : Bool) → nat_lt k d ≡ b → get m.entries (take k q) ≡ None
       shorter k h true e = f k (grind (arith, nat_tests)) (omega (arith, h, g.within, way_left d a))
       shorter k h false e =
           let j : d ≤ k = grind (arith, nat_tests) in
           let z : d + (k - d) ≡ k = omega arith in
-          ap (λ j. get m.0 (take j q)) (sym z) ∙ later d (k - d) a ∙ g.shortest (k - d) (omega (arith, j, h))
+          ap (λ j. get m.entries (take j q)) (sym z) ∙ later d (k - d) a ∙ g.shortest (k - d) (omega (arith, j, h))
 
   -- ---- one string
 
-  pub child_get : {n c : Seen X} {q r : List Bool} → IsChild q n c → r ≡ drop 5 q → get c.0 r ≡ get n.0 q
-  child_get {n} {c} {q} e f = ap (get c.0) f ∙ sym (e.gets (drop 5 q)) ∙ ap (get n.0) (take-append-drop 5 q)
+  pub child_get : {n c : Seen X} {q r : List Bool} → IsChild q n c → r ≡ drop 5 q → get c.entries r ≡ get n.entries q
+  child_get {n} {c} {q} e f = ap (get c.entries) f ∙ sym (e.gets (drop 5 q)) ∙ ap (get n.entries) (take-append-drop 5 q)
 
-  pub no_child_get : {n : Seen X} {q : List Bool} → HasNoChild q n → get n.0 q ≡ None
-  no_child_get {n} {q} e = ap (get n.0) (sym (take-append-drop 5 q)) ∙ e.gets (drop 5 q)
+  pub no_child_get : {n : Seen X} {q : List Bool} → HasNoChild q n → get n.entries q ≡ None
+  no_child_get {n} {q} e = ap (get n.entries) (sym (take-append-drop 5 q)) ∙ e.gets (drop 5 q)
 
   -- one more from the node than from its child on the way
-  pub child_visits : {n c : Seen X} {q r : List Bool} → IsChild q n c → r ≡ drop 5 q → node_visits n q ≡ node_visits c r + 1
-  child_visits {n} {c} {q} e f = ap (node_visits n) (sym (take-append-drop 5 q)) ∙ e.visits (drop 5 q) ∙ ap (λ w. node_visits c w + 1) (sym f)
+  pub child_visits : {n c : Seen X} {q r : List Bool} → IsChild q n c → r ≡ drop 5 q → node_visits n.entries n.spares q ≡ node_visits c.entries c.spares r + 1
+  child_visits {n} {c} {q} e f = ap (node_visits n.entries n.spares) (sym (take-append-drop 5 q)) ∙ e.visits (drop 5 q) ∙ ap (λ w. node_visits c.entries c.spares w + 1) (sym f)
 
-  pub none_stop : {m n : Seen X} {q p : List Bool} (d : ℕ) → IsAt m q d n p → 5 ≤ length p → HasNoChild p n → NoneBelow m.0 q (d + 5) → NoBeginning m.0 q
+  pub none_stop : {m n : Seen X} {q p : List Bool} (d : ℕ) → IsAt m q d n p → 5 ≤ length p → HasNoChild p n → NoneBelow m.entries q (d + 5) → NoBeginning m.entries q
   none_stop d a h e f = best_stop {S = X} (λ s. s) d None a h e f
 
   module _ {S : Type 0} (v : S → X) where
@@ -288,7 +285,7 @@ module _ {X : Type 0} where
     shortest_in_byte m q None h f = tt
     shortest_in_byte m q (Some r) h f = omega (arith, h, f.within)
 
-    pub shortest_whole : {m n : Seen X} {q p : List Bool} (d : ℕ) (found after : Option (ℕ × S)) → IsAt m q d n p → length q < d + 5 → NoneBelow m.0 q d → MatchOption found (NoneBelow n.0 p 5) (λ r. (r.0 < 5) × IsShortest n.0 p r.0 (v r.1)) → MatchOption found (after ≡ None) (λ r. after ≡ Some (d + r.0, r.1))
-        → MatchOption after (NoBeginning m.0 q) (λ r. IsShortest m.0 q r.0 (v r.1))
-    shortest_whole {m} {n} {q} {p} d None after a h f g e = subst (λ o. MatchOption o (NoBeginning m.0 q) (λ r. IsShortest m.0 q r.0 (v r.1))) (sym e) (λ k l. none_deeper d 5 a f g k (omega (arith, h, l)) l)
-    shortest_whole {m} {n} {q} {p} d (Some r) after a h f g e = subst (λ o. MatchOption o (NoBeginning m.0 q) (λ r. IsShortest m.0 q r.0 (v r.1))) (sym e) (shortest_deeper d r.0 a f g.1)
+    pub shortest_whole : {m n : Seen X} {q p : List Bool} (d : ℕ) (found after : Option (ℕ × S)) → IsAt m q d n p → length q < d + 5 → NoneBelow m.entries q d → MatchOption found (NoneBelow n.entries p 5) (λ r. (r.0 < 5) × IsShortest n.entries p r.0 (v r.1)) → MatchOption found (after ≡ None) (λ r. after ≡ Some (d + r.0, r.1))
+        → MatchOption after (NoBeginning m.entries q) (λ r. IsShortest m.entries q r.0 (v r.1))
+    shortest_whole {m} {n} {q} {p} d None after a h f g e = subst (λ o. MatchOption o (NoBeginning m.entries q) (λ r. IsShortest m.entries q r.0 (v r.1))) (sym e) (λ k l. none_deeper d 5 a f g k (omega (arith, h, l)) l)
+    shortest_whole {m} {n} {q} {p} d (Some r) after a h f g e = subst (λ o. MatchOption o (NoBeginning m.entries q) (λ r. IsShortest m.entries q r.0 (v r.1))) (sym e) (shortest_deeper d r.0 a f g.1)

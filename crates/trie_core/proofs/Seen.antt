@@ -5,16 +5,18 @@ use Rattle.std.specs.Ordering.{nat_cmp}
 use Rattle.std.specs.FinMap.{find, get, empty, empty_of_len}
 use Rattle.std.proofs.lemmas.Nat.{zero_from_ones}
 use Rattle.std.proofs.Math.ListN.{length-append}
-use Rattle.trie_keys.specs.Bits.{bits_cmp, place_of, child_of}
-use Rattle.trie_core.specs.Places.{at_places, value_list, child_list}
-use Rattle.trie_core.specs.Nodes.{BitMap, Seen, node_map, node_height, IsNode, HasSlots}
-use Rattle.trie_core.specs.Count.{spares, all_nodes, total, spares_below, spare_set, node_visits}
-use Rattle.trie_core.specs.Search.{IsChild, HasNoChild}
-use Rattle.trie_keys.proofs.Strings.{same, take_first, front}
+use Rattle.trie_core.specs.Bits.{bits_cmp}
+use Rattle.trie_core.specs.InnerPlaces.{place_of, child_of, at_places, value_list, child_list}
+use Rattle.trie_core.specs.Nodes.{BitMap, Seen}
+use Rattle.trie_core.specs.InnerNodes.{node_map, node_height, IsNode, HasSlots}
+use Rattle.trie_core.specs.InnerCount.{spare_count, all_nodes, total, spares_below, spare_set}
+use Rattle.trie_core.specs.Count.{node_visits}
+use Rattle.trie_core.specs.InnerSearch.{IsChild, HasNoChild}
+use Rattle.trie_core.proofs.Strings.{same, take_first, front}
 use Rattle.trie_core.proofs.Maps.{drop_first, node_map-none, child_get, get_none, get-short, get-long}
 use Rattle.trie_core.proofs.Count.{things, all_of_node, bare_lists}
 use Rattle.trie_core.proofs.Visits.{visits_none, visits_some}
-use Rattle.trie_keys.proofs.Numbers.{ones_bit}
+use Rattle.trie_core.proofs.Numbers.{ones_bit}
 use Rattle.trie_core.proofs.Lengths.{length-things}
 use Rattle.trie_core.proofs.Marks.{set-len, set-root}
 use Rattle.trie_core.proofs.Named.{is_node, value_things, child_things, value_found, child_found}
@@ -31,21 +33,21 @@ module _ {X : Type 0} where
   total-set f (e ∷ cs) zero c d h = omega arith
   total-set f (e ∷ cs) (suc i) c d h = omega (arith, total-set f cs i c d (omega arith))
 
-  pub height-set : (cs : List (Seen X)) (i : ℕ) (c : Seen X) → node_height (set cs i c) ≤ max (node_height cs) c.2
+  pub height-set : (cs : List (Seen X)) (i : ℕ) (c : Seen X) → node_height (set cs i c) ≤ max (node_height cs) c.levels
   height-set [] i c = omega arith
   height-set (e ∷ cs) zero c = omega arith
   height-set (e ∷ cs) (suc i) c = omega (arith, height-set cs i c)
 
-  pub height-read : (cs : List (Seen X)) (i : ℕ) (d : Seen X) → i < length cs → (get_or cs i d).2 ≤ node_height cs
+  pub height-read : (cs : List (Seen X)) (i : ℕ) (d : Seen X) → i < length cs → (get_or cs i d).levels ≤ node_height cs
   height-read [] i d h = absurd (omega arith)
   height-read (e ∷ cs) zero d h = omega arith
   height-read (e ∷ cs) (suc i) d h = omega (arith, height-read cs i d (omega arith))
 
-  found_height_by : (n : List Bool) (m : Seen X) (c : List Bool × Seen X) (cs : List (List Bool × Seen X)) → (find bits_cmp n cs ≡ Some m → m.2 ≤ node_height (things cs)) → (b : Bool) → cond b (Some c.1) (find bits_cmp n cs) ≡ Some m → m.2 ≤ max c.1.2 (node_height (things cs))
-  found_height_by n m c cs r true e = let p : c.1 ≡ m = cc in omega (arith, ap (λ x. x.2) p)
+  found_height_by : (n : List Bool) (m : Seen X) (c : List Bool × Seen X) (cs : List (List Bool × Seen X)) → (find bits_cmp n cs ≡ Some m → m.levels ≤ node_height (things cs)) → (b : Bool) → cond b (Some c.1) (find bits_cmp n cs) ≡ Some m → m.levels ≤ max c.1.levels (node_height (things cs))
+  found_height_by n m c cs r true e = let p : c.1 ≡ m = cc in omega (arith, ap (λ x. x.levels) p)
   found_height_by n m c cs r false e = omega (arith, r e)
 
-  found_height : (n : List Bool) (m : Seen X) (cs : List (List Bool × Seen X)) → find bits_cmp n cs ≡ Some m → m.2 ≤ node_height (things cs)
+  found_height : (n : List Bool) (m : Seen X) (cs : List (List Bool × Seen X)) → find bits_cmp n cs ≡ Some m → m.levels ≤ node_height (things cs)
   found_height n m [] e = cc
   found_height n m (c ∷ cs) e = found_height_by n m c cs (found_height n m cs) (same n c.0) e
 
@@ -56,17 +58,17 @@ module _ {X : Type 0} where
 
   -- what a node with these words and lists is seen as
   abbrev pub viewed : ℕ → List X → ℕ → List (Seen X) → Seen X
-  viewed vb vs cb cs = (map_of vb vs cb cs, spare_set (child_list cb cs), node_height cs + 1)
+  viewed vb vs cb cs = record { entries = map_of vb vs cb cs; spares = spare_set (child_list cb cs); levels = node_height cs + 1 }
 
   -- the same, which is m
   pub record IsSeen (vb : ℕ) (vs : List X) (cb : ℕ) (cs : List (Seen X)) (m : Seen X) : Type 0 where
     pub slots : HasSlots vb vs cb cs
     pub node : IsNode (value_list vb vs) (child_list cb cs)
-    pub map : map_of vb vs cb cs ≡ m.0
-    pub spares : spares_below cs ≡ spares m
-    pub spare : spare_set (child_list cb cs) ≡ m.1
+    pub map : map_of vb vs cb cs ≡ m.entries
+    pub spares : spares_below cs ≡ spare_count m
+    pub spare : spare_set (child_list cb cs) ≡ m.spares
     pub count : total all_nodes cs + 1 ≡ all_nodes m
-    pub height : node_height cs + 1 ≡ m.2
+    pub height : node_height cs + 1 ≡ m.levels
 
   -- all nodes of a node, by its words and lists
   pub counted : (vb : ℕ) (vs : List X) (cb : ℕ) (cs : List (Seen X)) → HasSlots vb vs cb cs → all_nodes (viewed vb vs cb cs) ≡ total all_nodes cs + 1
@@ -75,34 +77,34 @@ module _ {X : Type 0} where
       let n = is_node vb vs cb cs s.values_below s.children_below in
       omega (arith, all_of_node n, set-len n, ap (total all_nodes) t)
 
-  pub spare_count : (vb : ℕ) (vs : List X) (cb : ℕ) (cs : List (Seen X)) → HasSlots vb vs cb cs → spares (viewed vb vs cb cs) ≡ spares_below cs
-  spare_count vb vs cb cs s = set-len (is_node vb vs cb cs s.values_below s.children_below) ∙ ap spares_below (child_things cb cs s.children_below s.children_counted)
+  pub spares_counted : (vb : ℕ) (vs : List X) (cb : ℕ) (cs : List (Seen X)) → HasSlots vb vs cb cs → spare_count (viewed vb vs cb cs) ≡ spares_below cs
+  spares_counted vb vs cb cs s = set-len (is_node vb vs cb cs s.values_below s.children_below) ∙ ap spares_below (child_things cb cs s.children_below s.children_counted)
 
   pub none_spare : (vb : ℕ) (vs : List X) (cb : ℕ) (cs : List (Seen X)) → HasSlots vb vs cb cs → spares_below cs ≡ 0 → spare_set (child_list cb cs) ≡ empty
   none_spare vb vs cb cs s z =
       let n = is_node vb vs cb cs s.values_below s.children_below in
-      sym (set-root n) ∙ empty_of_len _ (spare_count vb vs cb cs s ∙ z)
+      sym (set-root n) ∙ empty_of_len _ (spares_counted vb vs cb cs s ∙ z)
 
   pub seen : {vb : ℕ} {vs : List X} {cb : ℕ} {cs : List (Seen X)} {m : Seen X} → HasSlots vb vs cb cs → viewed vb vs cb cs ≡ m → IsSeen vb vs cb cs m
   seen {vb} {vs} {cb} {cs} {m} s v = record {
     slots = s;
     node = is_node vb vs cb cs s.values_below s.children_below;
-    map = ap (λ m. m.0) v;
-    spares = sym (spare_count vb vs cb cs s) ∙ ap (λ m. spares m) v;
-    spare = ap (λ m. m.1) v;
+    map = ap (λ m. m.entries) v;
+    spares = sym (spares_counted vb vs cb cs s) ∙ ap (λ m. spare_count m) v;
+    spare = ap (λ m. m.spares) v;
     count = omega (arith, counted vb vs cb cs s, ap (λ m. all_nodes m) v);
-    height = ap (λ m. m.2) v;
+    height = ap (λ m. m.levels) v;
   }
 
   -- what a node has at a string, by its number
-  pub value_at : {vb : ℕ} {vs : List X} {cb : ℕ} {cs : List (Seen X)} {m : Seen X} (q : List Bool) → IsSeen vb vs cb cs m → length q < 5 → find nat_cmp (place_of q) (at_places 32 0 vb vs) ≡ get m.0 q
+  pub value_at : {vb : ℕ} {vs : List X} {cb : ℕ} {cs : List (Seen X)} {m : Seen X} (q : List Bool) → IsSeen vb vs cb cs m → length q < 5 → find nat_cmp (place_of q) (at_places 32 0 vb vs) ≡ get m.entries q
   value_at {vb} {vs} q s h = sym (value_found q vb vs h s.slots.values_below) ∙ sym (get-short s.node q h) ∙ ap (λ m. get m q) s.map
 
-  pub below_at : {vb : ℕ} {vs : List X} {cb : ℕ} {cs : List (Seen X)} {m : Seen X} (q : List Bool) → IsSeen vb vs cb cs m → 5 ≤ length q → child_get (find nat_cmp (child_of q) (at_places 32 0 cb cs)) (drop 5 q) ≡ get m.0 q
+  pub below_at : {vb : ℕ} {vs : List X} {cb : ℕ} {cs : List (Seen X)} {m : Seen X} (q : List Bool) → IsSeen vb vs cb cs m → 5 ≤ length q → child_get (find nat_cmp (child_of q) (at_places 32 0 cb cs)) (drop 5 q) ≡ get m.entries q
   below_at {cb = cb} {cs = cs} q s h = ap (λ o. child_get o (drop 5 q)) (sym (child_found q cb cs h s.slots.children_below)) ∙ sym (get-long s.node q h) ∙ ap (λ m. get m q) s.map
 
   -- a string with the first five bits of q
-  fronted : {vb : ℕ} {vs : List X} {cb : ℕ} {cs : List (Seen X)} {m : Seen X} (q r : List Bool) → IsSeen vb vs cb cs m → 5 ≤ length q → get m.0 (take 5 q ++ r) ≡ child_get (find bits_cmp (take 5 q) (child_list cb cs)) r
+  fronted : {vb : ℕ} {vs : List X} {cb : ℕ} {cs : List (Seen X)} {m : Seen X} (q r : List Bool) → IsSeen vb vs cb cs m → 5 ≤ length q → get m.entries (take 5 q ++ r) ≡ child_get (find bits_cmp (take 5 q) (child_list cb cs)) r
   fronted {cb = cb} {cs = cs} q r s h =
       let f = (front q h).0 in
       sym (ap (λ m. get m (take 5 q ++ r)) s.map)
@@ -117,7 +119,7 @@ module _ {X : Type 0} where
       record {
         gets = λ r. fronted q r s h ∙ ap (λ o. child_get o r) g;
         smaller = omega (arith, found_height (take 5 q) c (child_list cb cs) g, ap node_height t, s.height);
-        visits = λ r. (λ i. node_visits (sym s.map i, sym s.spare i, m.2) (take 5 q ++ r)) ∙ visits_some (take 5 q) r m.2 s.node f g;
+        visits = λ r. (λ i. node_visits (sym s.map i) (sym s.spare i) (take 5 q ++ r)) ∙ visits_some (take 5 q) r s.node f g;
       }
 
   pub has_no_child : {vb : ℕ} {vs : List X} {cb : ℕ} {cs : List (Seen X)} {m : Seen X} (q : List Bool) → IsSeen vb vs cb cs m → 5 ≤ length q → find nat_cmp (child_of q) (at_places 32 0 cb cs) ≡ None → HasNoChild q m
@@ -125,7 +127,7 @@ module _ {X : Type 0} where
       let g : find bits_cmp (take 5 q) (child_list cb cs) ≡ None = child_found q cb cs h s.slots.children_below ∙ e in
       record {
         gets = λ r. fronted q r s h ∙ ap (λ o. child_get o r) g ∙ get_none r;
-        visits = (λ i. node_visits (sym s.map i, sym s.spare i, m.2) q) ∙ visits_none q m.2 s.node g;
+        visits = (λ i. node_visits (sym s.map i) (sym s.spare i) q) ∙ visits_none q s.node g;
       }
 
   -- ---- no values and no children
@@ -141,12 +143,12 @@ module _ {X : Type 0} where
   unfolding spare_set child_list
   new_set cb cs e = ap (λ l. spare_set (child_list cb l)) e ∙ node_map-none
 
-  pub bare : {vb : ℕ} {vs : List X} {cb : ℕ} {cs : List (Seen X)} {m : Seen X} → IsSeen vb vs cb cs m → length vs ≡ 0 → length cs ≡ 0 → (m.0 ≡ empty) × (spares m ≡ 0) × (all_nodes m ≡ 1)
+  pub bare : {vb : ℕ} {vs : List X} {cb : ℕ} {cs : List (Seen X)} {m : Seen X} → IsSeen vb vs cb cs m → length vs ≡ 0 → length cs ≡ 0 → (m.entries ≡ empty) × (spare_count m ≡ 0) × (all_nodes m ≡ 1)
   bare {vb} {vs} {cb} {cs} s e f =
       (sym s.map ∙ new_map vb cb vs cs (no_items vs e) (no_items cs f), sym s.spares ∙ ap spares_below (no_items cs f), sym s.count ∙ ap (λ x. total all_nodes x + 1) (no_items cs f))
 
   -- a node with no key and no spare node
-  pub left_bare : {vb : ℕ} {vs : List X} {cb : ℕ} {cs : List (Seen X)} {m : Seen X} → IsSeen vb vs cb cs m → m.0 ≡ empty → spares m ≡ 0 → (length vs ≡ 0) × (length cs ≡ 0)
+  pub left_bare : {vb : ℕ} {vs : List X} {cb : ℕ} {cs : List (Seen X)} {m : Seen X} → IsSeen vb vs cb cs m → m.entries ≡ empty → spare_count m ≡ 0 → (length vs ≡ 0) × (length cs ≡ 0)
   left_bare {vb} {vs} {cb} {cs} s e z =
       let t = child_things cb cs s.slots.children_below s.slots.children_counted in
       let u = value_things vb vs s.slots.values_below s.slots.values_counted in

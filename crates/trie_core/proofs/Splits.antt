@@ -7,8 +7,8 @@ use Rattle.std.proofs.lemmas.Bool.Decides.{nat_tests}
 use Rattle.std.proofs.lemmas.Nat.{ones_cat, shr_split, pow_pos, mod-pow-add}
 use Rattle.std.proofs.Math.ListN.{length-take, length-drop}
 use Rattle.std.proofs.Math.Seq.{take-nil, drop-nil}
-use Rattle.trie_core.specs.Places.{at_places, placed, first_place_of, IsFirstPlace}
-use Rattle.trie_keys.proofs.Numbers.{ones_bit}
+use Rattle.trie_core.specs.InnerPlaces.{at_places, placed, first_place_of, IsFirstPlace}
+use Rattle.trie_core.proofs.Numbers.{ones_bit}
 use Rattle.trie_core.proofs.Places.{ones_below_suc}
 use Rattle.trie_core.proofs.Taken.{ones_below_le}
 use Rattle.trie_core.proofs.Seen.{no_bits, no_items}

@@ -5,12 +5,13 @@ use Rattle.std.specs.FinMap.{get, len, find}
 use Rattle.std.specs.FinMap as map
 use Rattle.std.proofs.lemmas.List.{append_assoc}
 use Rattle.std.proofs.Math.ListN.{length-append}
-use Rattle.trie_keys.specs.Bits.{bits_cmp, begins, child_of}
-use Rattle.trie_core.specs.Places.{child_list}
-use Rattle.trie_core.specs.Nodes.{BitMap, BitSet, Seen, node_map, IsNode}
-use Rattle.trie_core.specs.Count.{marked, spare_set}
+use Rattle.trie_core.specs.Bits.{bits_cmp, begins}
+use Rattle.trie_core.specs.InnerPlaces.{child_of, child_list}
+use Rattle.trie_core.specs.Nodes.{BitMap, BitSet, Seen}
+use Rattle.trie_core.specs.InnerNodes.{node_map, IsNode}
+use Rattle.trie_core.specs.InnerCount.{marked, spare_set}
 use Rattle.trie_core.specs.Ways.{IsIdle, IsKept}
-use Rattle.trie_keys.proofs.Strings.{same, no_false, front, begins_take}
+use Rattle.trie_core.proofs.Strings.{same, no_false, front, begins_take}
 use Rattle.trie_core.proofs.Maps.{ListChanges, child_get, remove_absent}
 use Rattle.trie_core.proofs.Marks.{marked_get, marked-other, marked-root, root_if, set-short, set-long, set-changed}
 use Rattle.trie_core.proofs.Named.{is_node, child_put_in}
@@ -24,18 +25,18 @@ module _ {X : Type 0} where
   root_some m e = ap (λ n. is_some (root_if n)) e
 
   -- a child at r below five bits that had the marks of e, and has those of d once p went from its map
-  module _ (p : List Bool) (e d : Seen X) (gone : d.0 ≡ map.remove e.0 p) (kept : IsKept p e.0 e.1 d.0 d.1) where
-    root_to_by : (k : (x : List Bool) → get d.0 x ≡ None) → (o : Option X) → get e.0 p ≡ o → (is_some (get (marked e) []) ≡ true) ⊎ ((is_some (get e.0 p) ≡ true) × ((x : List Bool) → get d.0 x ≡ None))
-    root_to_by k None f = inl (ap is_some (marked-root e) ∙ root_some e.0 (ap len (sym (remove_absent e.0 p f) ∙ sym gone) ∙ no_keys d.0 k))
+  module _ (p : List Bool) (e d : Seen X) (gone : d.entries ≡ map.remove e.entries p) (kept : IsKept p e.entries e.spares d.entries d.spares) where
+    root_to_by : (k : (x : List Bool) → get d.entries x ≡ None) → (o : Option X) → get e.entries p ≡ o → (is_some (get (marked e) []) ≡ true) ⊎ ((is_some (get e.entries p) ≡ true) × ((x : List Bool) → get d.entries x ≡ None))
+    root_to_by k None f = inl (ap is_some (marked-root e) ∙ root_some e.entries (ap len (sym (remove_absent e.entries p f) ∙ sym gone) ∙ no_keys d.entries k))
     root_to_by k (Some v) f = inr (ap is_some f, k)
 
     -- what shows and holds at r
     pub record IsStill (r : List Bool) : Type 0 where
       pub fives : length r % 5 ≡ 0
-      pub none : (x : List Bool) → get d.0 (r ++ x) ≡ None
+      pub none : (x : List Bool) → get d.entries (r ++ x) ≡ None
 
-    still_shows : (r : List Bool) → begins r p ≡ true → is_some (get (marked d) r) ≡ true → (is_some (get (marked e) r) ≡ true) ⊎ ((is_some (get e.0 p) ≡ true) × IsStill r)
-    still_shows [] h s = elim (root_to_by (root_none (len d.0) d.0 refl (sym (ap is_some (marked-root d)) ∙ s)) (get e.0 p) refl) [
+    still_shows : (r : List Bool) → begins r p ≡ true → is_some (get (marked d) r) ≡ true → (is_some (get (marked e) r) ≡ true) ⊎ ((is_some (get e.entries p) ≡ true) × IsStill r)
+    still_shows [] h s = elim (root_to_by (root_none (len d.entries) d.entries refl (sym (ap is_some (marked-root d)) ∙ s)) (get e.entries p) refl) [
       | inl a ↦ inl a
       | inr a ↦ inr (a.0, record { fives = refl; none = a.1 })
     ]
@@ -46,12 +47,12 @@ module _ {X : Type 0} where
 
     still_stays : (r : List Bool) → begins r p ≡ true → is_some (get (marked e) r) ≡ true → is_some (get (marked d) r) ≡ true
     still_stays [] h s =
-        let k = root_none (len e.0) e.0 refl (sym (ap is_some (marked-root e)) ∙ s) in
-        ap is_some (marked-root d) ∙ root_some d.0 (ap len (gone ∙ remove_absent e.0 p (k p)) ∙ no_keys e.0 k)
+        let k = root_none (len e.entries) e.entries refl (sym (ap is_some (marked-root e)) ∙ s) in
+        ap is_some (marked-root d) ∙ root_some d.entries (ap len (gone ∙ remove_absent e.entries p (k p)) ∙ no_keys e.entries k)
     still_stays (y ∷ ys) h s = ap is_some (marked-other d y ys) ∙ (kept.on (y ∷ ys) h).1 (inl (sym (ap is_some (marked-other e y ys)) ∙ s))
 
-    still_comes : (r : List Bool) → begins r p ≡ true → is_some (get e.0 p) ≡ true → IsStill r → is_some (get (marked d) r) ≡ true
-    still_comes [] h f s = ap is_some (marked-root d) ∙ root_some d.0 (no_keys d.0 s.none)
+    still_comes : (r : List Bool) → begins r p ≡ true → is_some (get e.entries p) ≡ true → IsStill r → is_some (get (marked d) r) ≡ true
+    still_comes [] h f s = ap is_some (marked-root d) ∙ root_some d.entries (no_keys d.entries s.none)
     still_comes (y ∷ ys) h f s = ap is_some (marked-other d y ys) ∙ (kept.on (y ∷ ys) h).1 (inr (f, record { below = omega (arith, s.fives); fives = s.fives; none = s.none }))
 
     still_off : (r : List Bool) → begins r p ≡ false → get (marked d) r ≡ get (marked e) r
@@ -61,17 +62,17 @@ module _ {X : Type 0} where
   -- ---- from a child to its node
 
   module _ {vs us : List (List Bool × X)} {cs ds : List (List Bool × Seen X)} (q : List Bool) (e d : Seen X) (n : IsNode vs cs) (k : IsNode us ds) (h : 5 ≤ length q) (c : ListChanges cs (take 5 q) (Some d) ds) (f : find bits_cmp (take 5 q) cs ≡ Some e)
-      (gone : d.0 ≡ map.remove e.0 (drop 5 q)) (kept : IsKept (drop 5 q) e.0 e.1 d.0 d.1) where
+      (gone : d.entries ≡ map.remove e.entries (drop 5 q)) (kept : IsKept (drop 5 q) e.entries e.spares d.entries d.spares) where
     old_at : (r : List Bool) → get (spare_set cs) (take 5 q ++ r) ≡ get (marked e) r
     old_at r = spare_under n q r h ∙ ap (λ o. marked_get o r) f
 
     new_at : (r : List Bool) → get (spare_set ds) (take 5 q ++ r) ≡ get (marked d) r
     new_at r = spare_under k q r h ∙ ap (λ o. marked_get o r) (found_changed cs ds q (Some d) c)
 
-    key_at : get (node_map vs cs) q ≡ get e.0 (drop 5 q)
+    key_at : get (node_map vs cs) q ≡ get e.entries (drop 5 q)
     key_at = ap (get (node_map vs cs)) (sym (front q h).1) ∙ map_under n q (drop 5 q) h ∙ ap (λ o. child_get o (drop 5 q)) f
 
-    deeper : (r x : List Bool) → get (node_map us ds) ((take 5 q ++ r) ++ x) ≡ get d.0 (r ++ x)
+    deeper : (r x : List Bool) → get (node_map us ds) ((take 5 q ++ r) ++ x) ≡ get d.entries (r ++ x)
     deeper r x = ap (get (node_map us ds)) (append_assoc (take 5 q) r x) ∙ map_under k q (r ++ x) h ∙ ap (λ o. child_get o (r ++ x)) (found_changed cs ds q (Some d) c)
 
     in_on : (r : List Bool) → begins (take 5 q ++ r) q ≡ true → (is_some (get (spare_set ds) (take 5 q ++ r)) ≡ true) ↔ ((is_some (get (spare_set cs) (take 5 q ++ r)) ≡ true) ⊎ ((is_some (get (node_map vs cs) q) ≡ true) × IsIdle (node_map us ds) (take 5 q ++ r)))
@@ -115,7 +116,7 @@ module _ {X : Type 0} where
   -- ---- a node that was seen as m
 
   -- within the node no spare node is on the way
-  pub kept_short : {vb : ℕ} {vs : List X} {cb : ℕ} {cs : List (Seen X)} {m : Seen X} {n : BitMap X} (q : List Bool) → IsSeen vb vs cb cs m → length q < 5 → IsKept q m.0 m.1 n m.1
+  pub kept_short : {vb : ℕ} {vs : List X} {cb : ℕ} {cs : List (Seen X)} {m : Seen X} {n : BitMap X} (q : List Bool) → IsSeen vb vs cb cs m → length q < 5 → IsKept q m.entries m.spares n m.spares
   kept_short {m = m} q s h = record {
     off = λ x b. refl;
     on = λ x b. (
@@ -128,7 +129,7 @@ module _ {X : Type 0} where
   }
 
   -- where q was no key nothing changes
-  pub kept_absent : (q : List Bool) (m : Seen X) → get m.0 q ≡ None → IsKept q m.0 m.1 m.0 m.1
+  pub kept_absent : (q : List Bool) (m : Seen X) → get m.entries q ≡ None → IsKept q m.entries m.spares m.entries m.spares
   kept_absent q m e = record {
     off = λ x b. refl;
     on = λ x b. (
@@ -141,8 +142,8 @@ module _ {X : Type 0} where
   }
 
   -- in the child on the way, which is e and becomes d
-  pub kept_set : {vb at : ℕ} {vs : List X} {cb : ℕ} {cs : List (Seen X)} {m : Seen X} (q : List Bool) (e d : Seen X) → IsSeen vb vs cb cs m → 5 ≤ length q → IsTaken (child_of q) at cb cs → e ≡ get_or cs at e → d.0 ≡ map.remove e.0 (drop 5 q) → IsKept (drop 5 q) e.0 e.1 d.0 d.1
-      → IsKept q m.0 m.1 (map_of vb vs cb (set cs at d)) (spare_set (child_list cb (set cs at d)))
+  pub kept_set : {vb at : ℕ} {vs : List X} {cb : ℕ} {cs : List (Seen X)} {m : Seen X} (q : List Bool) (e d : Seen X) → IsSeen vb vs cb cs m → 5 ≤ length q → IsTaken (child_of q) at cb cs → e ≡ get_or cs at e → d.entries ≡ map.remove e.entries (drop 5 q) → IsKept (drop 5 q) e.entries e.spares d.entries d.spares
+      → IsKept q m.entries m.spares (map_of vb vs cb (set cs at d)) (spare_set (child_list cb (set cs at d)))
   kept_set {vb} {at} {vs} {cb} {cs} q e d s h t r g k =
       subst (λ (w : BitMap X × BitSet). IsKept q w.0 w.1 (map_of vb vs cb (set cs at d)) (spare_set (child_list cb (set cs at d)))) (λ i. (s.map i, s.spare i))
       (kept_node q e d s.node (is_node vb vs cb (set cs at d) s.slots.values_below s.slots.children_below) h (child_put_in q d cb cb cs (set cs at d) h s.slots.children_below (t.written d)) (was_found q e s h t r) g k)

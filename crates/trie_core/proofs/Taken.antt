@@ -5,7 +5,7 @@ use Rattle.std.specs.List.{insert, remove}
 use Rattle.std.specs.Ordering.{nat_cmp}
 use Rattle.std.specs.FinMap.{find, put}
 use Rattle.std.proofs.lemmas.Nat.{ones_cat, shr_split, pow_pos}
-use Rattle.trie_core.specs.Places.{at_places, without, IsUnset, IsSlot}
+use Rattle.trie_core.specs.InnerPlaces.{at_places, without, IsUnset, IsSlot}
 use Rattle.trie_core.proofs.Places.{at_set, at_unset, ones_below_lt}
 use Rattle.trie_core.proofs.Edits.{set_is_put, insert_is_put, remove_is_without, set_fits, ones_set, ones_clear, bit_within}
 

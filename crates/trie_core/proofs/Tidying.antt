@@ -3,12 +3,13 @@ use Rattle.std.proofs.Common.{◌≡◌, ℕ, zero, suc, ◌+◌, ◌-◌, ◌/�
 use Rattle.std.specs.Prelude.{nat_lt, Option, Some, None, count_ones}
 use Rattle.std.specs.FinMap.{get, find, empty, same_map}
 use Rattle.std.proofs.lemmas.Bool.Decides.{nat_tests}
-use Rattle.trie_keys.specs.Bits.{bits_cmp, child_of, child_string}
-use Rattle.trie_keys.proofs.Strings.{bits_total, bits_same, same, same-Decides}
-use Rattle.trie_keys.proofs.Numbers.{ones_bit, child_of-string, length-child_string}
-use Rattle.trie_core.specs.Places.{child_list, IsSlot, IsUnset}
-use Rattle.trie_core.specs.Nodes.{Seen, child_map, node_map, node_height, IsNode, HasSlots}
-use Rattle.trie_core.specs.Count.{all_nodes, total, spare_of, spare_set}
+use Rattle.trie_core.specs.Bits.{bits_cmp}
+use Rattle.trie_core.specs.InnerPlaces.{child_of, child_string, child_list, IsSlot, IsUnset}
+use Rattle.trie_core.proofs.Strings.{bits_total, bits_same, same, same-Decides}
+use Rattle.trie_core.proofs.Numbers.{ones_bit, child_of-string, length-child_string}
+use Rattle.trie_core.specs.Nodes.{Seen}
+use Rattle.trie_core.specs.InnerNodes.{child_map, node_map, node_height, IsNode, HasSlots}
+use Rattle.trie_core.specs.InnerCount.{all_nodes, total, spare_of, spare_set}
 use Rattle.trie_core.proofs.Places.{ones_below_suc}
 use Rattle.trie_core.proofs.Edits.{half_less, low_less, higher_bit, bit_within}
 use Rattle.trie_core.proofs.Maps.{ListChanges, child_get, get-short, get-long}
@@ -80,10 +81,10 @@ module _ {X : Type 0} where
   -- its map is that of m, `gone` nodes went, and no child at a number below k is or holds a spare node
   pub record IsTidyBelow (m : Seen X) (k gone vb : ℕ) (vs : List X) (cb : ℕ) (cs : List (Seen X)) : Type 0 where
     pub slots : HasSlots vb vs cb cs
-    pub map : map_of vb vs cb cs ≡ m.0
+    pub map : map_of vb vs cb cs ≡ m.entries
     pub tidy : total spare_of (take (count_ones (cb % 2 ^ k)) cs) ≡ 0
     pub count : total all_nodes cs + gone + 1 ≡ all_nodes m
-    pub height : node_height cs + 1 ≤ m.2
+    pub height : node_height cs + 1 ≤ m.levels
 
   pub tidy_start : {vb : ℕ} {vs : List X} {cb : ℕ} {cs : List (Seen X)} {m : Seen X} → IsSeen vb vs cb cs m → IsTidyBelow m 0 0 vb vs cb cs
   tidy_start {cb = cb} {cs = cs} s = record {
@@ -119,13 +120,13 @@ module _ {X : Type 0} where
     pub child_fewer : all_nodes e + gone < all_nodes m
     child_fewer = omega (arith, total-remove all_nodes cs at e there.within, ap all_nodes r, t.count)
 
-    pub child_lower : e.2 < m.2
-    child_lower = omega (arith, height-read cs at e there.within, ap (λ c. c.2) r, t.height)
+    pub child_lower : e.levels < m.levels
+    child_lower = omega (arith, height-read cs at e there.within, ap (λ c. c.levels) r, t.height)
 
     was_map : child_map (Some e) ≡ child_map (find bits_cmp (take 5 (child_string k)) (child_list cb cs))
     was_map = ap child_map (sym (was_found (child_string k) e now five there r))
 
-    pub tidy_stays : (d : Seen X) (more : ℕ) → d.0 ≡ e.0 → spare_of d ≡ 0 → more + all_nodes d ≡ gone + all_nodes e → d.2 ≤ e.2 → IsTidyBelow m (k + 1) more vb vs cb (set cs at d)
+    pub tidy_stays : (d : Seen X) (more : ℕ) → d.entries ≡ e.entries → spare_of d ≡ 0 → more + all_nodes d ≡ gone + all_nodes e → d.levels ≤ e.levels → IsTidyBelow m (k + 1) more vb vs cb (set cs at d)
     tidy_stays d more f z a h =
         let p : k + 1 ≡ suc k = omega arith in
         let o : count_ones (cb % 2 ^ suc k) ≡ at + 1 = omega (arith, ones_next k cb, u.0, u.1) in
@@ -137,7 +138,7 @@ module _ {X : Type 0} where
           height = omega (arith, height-set cs at d, child_lower, h, t.height);
         })
 
-    cleared : (d : Seen X) (more : ℕ) → d.0 ≡ e.0 → d.0 ≡ empty → more ≡ gone + all_nodes e → IsTidyBelow m (suc k) more vb vs (cb - 2 ^ child_of (child_string k)) (remove cs at)
+    cleared : (d : Seen X) (more : ℕ) → d.entries ≡ e.entries → d.entries ≡ empty → more ≡ gone + all_nodes e → IsTidyBelow m (suc k) more vb vs (cb - 2 ^ child_of (child_string k)) (remove cs at)
     cleared d more f z a =
         let c = child_of-string k l in
         let b = cb - 2 ^ child_of (child_string k) in
@@ -151,7 +152,7 @@ module _ {X : Type 0} where
           height = omega (arith, height-remove cs at, t.height);
         }
 
-    pub tidy_goes : {b : ℕ} {ds : List (Seen X)} (d : Seen X) (more : ℕ) → d.0 ≡ e.0 → d.0 ≡ empty → more ≡ gone + all_nodes e → b ≡ 2 ^ k → ds ≡ remove (set cs at d) at → IsTidyBelow m (k + 1) more vb vs (cb - b) ds
+    pub tidy_goes : {b : ℕ} {ds : List (Seen X)} (d : Seen X) (more : ℕ) → d.entries ≡ e.entries → d.entries ≡ empty → more ≡ gone + all_nodes e → b ≡ 2 ^ k → ds ≡ remove (set cs at d) at → IsTidyBelow m (k + 1) more vb vs (cb - b) ds
     tidy_goes {b} {ds} d more f z a p w =
         let n : k + 1 ≡ suc k = omega arith in
         let i : b ≡ 2 ^ child_of (child_string k) = p ∙ ap (λ j. 2 ^ j) (sym (child_of-string k l)) in

@@ -4,12 +4,13 @@ use Rattle.std.proofs.lemmas.List.{take_all}
 use Rattle.std.proofs.Math.ListN.{length-append, length-take}
 use Rattle.std.specs.FinMap.{entries}
 use Rattle.std.specs.FinMap.Entries.{where_key}
-use Rattle.trie_keys.specs.Bits.{bits_cmp, is_past, is_from}
-use Rattle.trie_keys.proofs.Strings.{append_none, front, take_front, take_take}
-use Rattle.trie_core.specs.Nodes.{Seen, under}
-use Rattle.trie_core.specs.Search.{IsChild, HasNoChild}
-use Rattle.trie_core.specs.Walks.{KeysWithin, Left, walk_rest, walk_weight, FitFrom}
-use Rattle.trie_core.specs.Trails.{on_way, along, Reach, IsWalk}
+use Rattle.trie_core.specs.Bits.{bits_cmp, is_from}
+use Rattle.trie_core.specs.InnerWalks.{is_past, KeysWithin, Left, walk_rest, walk_weight, FitFrom}
+use Rattle.trie_core.proofs.Strings.{append_none, front, take_front, take_take}
+use Rattle.trie_core.specs.Nodes.{Seen}
+use Rattle.trie_core.specs.InnerNodes.{under}
+use Rattle.trie_core.specs.InnerSearch.{IsChild, HasNoChild}
+use Rattle.trie_core.specs.InnerTrails.{on_way, along, Reach, IsWalk}
 use Rattle.trie_core.proofs.Frames.{keys_split, keys_where, under_none}
 use Rattle.trie_core.proofs.Walks.{IsTop, popped, pushed, entry_step, below_step, IsOnwards, start_onwards, onwards_below, onwards_none, onwards_end}
 
@@ -135,19 +136,19 @@ module _ {X : Type 0} where
     pub way : IsOnwards m n q p trail i (along (take (length trail - 5) trail) fs)
     pub reach : Reach (length trail - 5) fs
 
-  pub room_left : {m n : Seen X} {q p trail : List Bool} {i : Bool} {fs : List (Left X)} → IsGoingOn m n q p trail i fs → length fs + n.2 ≤ 26
+  pub room_left : {m n : Seen X} {q p trail : List Bool} {i : Bool} {fs : List (Left X)} → IsGoingOn m n q p trail i fs → length fs + n.levels ≤ 26
   room_left {trail = trail} {fs = fs} w = omega (arith, w.way.room, length_along (take (length trail - 5) trail) fs)
 
-  pub start_going : {m : Seen X} {q trail : List Bool} (i : Bool) {fs : List (Left X)} → m.2 ≤ 26 → KeysWithin 128 (entries m.0) → length q ≤ 128 → trail ≡ [] → fs ≡ [] → IsGoingOn m m q q trail i fs
+  pub start_going : {m : Seen X} {q trail : List Bool} (i : Bool) {fs : List (Left X)} → m.levels ≤ 26 → KeysWithin 128 (entries m.entries) → length q ≤ 128 → trail ≡ [] → fs ≡ [] → IsGoingOn m m q q trail i fs
   start_going {trail = trail} i l k h e z = record {
     way = start_onwards i l k h e (ap (along (take (length trail - 5) trail)) z);
     reach = subst (Reach (length trail - 5)) (sym z) tt;
   }
 
-  pub put_going : {m n : Seen X} {q p trail : List Bool} {i : Bool} {fs gs : List (Left X)} {f : Left X} → IsGoingOn m n q p trail i fs → 0 < f.1 → f.1 ≤ n.2 → gs ≡ fs ++ f ∷ [] → IsLast gs fs f trail
+  pub put_going : {m n : Seen X} {q p trail : List Bool} {i : Bool} {fs gs : List (Left X)} {f : Left X} → IsGoingOn m n q p trail i fs → 0 < f.1 → f.1 ≤ n.levels → gs ≡ fs ++ f ∷ [] → IsLast gs fs f trail
   put_going {trail = trail} {fs = fs} w p l e = put_frame trail w.way.fit w.reach p (omega (arith, w.way.room, l, length_along (take (length trail - 5) trail) fs)) (omega (arith, w.way.place.levels, l)) e
 
-  pub going_below : {m n c : Seen X} {q p r trail below : List Bool} {i : Bool} {fs gs : List (Left X)} {f : Left X} → IsGoingOn m n q p trail i fs → 5 ≤ length p → IsChild p n c → below ≡ trail ++ take 5 p → r ≡ drop 5 p → f.0 ≡ where_key bits_cmp (is_past (take 5 p)) (entries n.0) → IsLast gs fs f trail → IsGoingOn m c q r below i gs
+  pub going_below : {m n c : Seen X} {q p r trail below : List Bool} {i : Bool} {fs gs : List (Left X)} {f : Left X} → IsGoingOn m n q p trail i fs → 5 ≤ length p → IsChild p n c → below ≡ trail ++ take 5 p → r ≡ drop 5 p → f.0 ≡ where_key bits_cmp (is_past (take 5 p)) (entries n.entries) → IsLast gs fs f trail → IsGoingOn m c q r below i gs
   going_below {m} {n} {c} {q} {p} {r} {trail} {below} {i} {fs} {gs} w h s e d v t =
       let k : length below - 5 ≡ length trail = omega (arith, ap length e, length-append trail (take 5 p), (front p h).0) in
       let u : take (length below - 5) below ≡ trail = (λ j. take (k j) (e j)) ∙ take_front trail (take 5 p) (length trail) refl in
@@ -156,16 +157,16 @@ module _ {X : Type 0} where
         reach = subst (λ x. Reach x gs) (sym k) t.all;
       }
 
-  keys_from : (m : Seen X) (q : List Bool) (i : Bool) → KeysWithin 128 (entries m.0) → KeysWithin 128 (where_key bits_cmp (is_from q i) (entries m.0))
-  keys_from m q i k = subst (KeysWithin 128) (under_none _) (keys_where 128 [] (is_from q i) (entries m.0) (subst (KeysWithin 128) (sym (under_none _)) k))
+  keys_from : (m : Seen X) (q : List Bool) (i : Bool) → KeysWithin 128 (entries m.entries) → KeysWithin 128 (where_key bits_cmp (is_from q i) (entries m.entries))
+  keys_from m q i k = subst (KeysWithin 128) (under_none _) (keys_where 128 [] (is_from q i) (entries m.entries) (subst (KeysWithin 128) (sym (under_none _)) k))
 
-  gone : (m : Seen X) (q : List Bool) (i : Bool) {fs gs : List (Left X)} {f : Left X} {trail : List Bool} → KeysWithin 128 (entries m.0) → IsLast gs fs f trail → walk_rest (along trail gs) ≡ where_key bits_cmp (is_from q i) (entries m.0) → IsWalk gs trail × (walk_rest (along trail gs) ≡ where_key bits_cmp (is_from q i) (entries m.0))
+  gone : (m : Seen X) (q : List Bool) (i : Bool) {fs gs : List (Left X)} {f : Left X} {trail : List Bool} → KeysWithin 128 (entries m.entries) → IsLast gs fs f trail → walk_rest (along trail gs) ≡ where_key bits_cmp (is_from q i) (entries m.entries) → IsWalk gs trail × (walk_rest (along trail gs) ≡ where_key bits_cmp (is_from q i) (entries m.entries))
   gone m q i k t r = (record { fit = t.top.whole; reach = t.all; keys = subst (KeysWithin 128) (sym r) (keys_from m q i k) }, r)
 
-  pub going_none : {m n : Seen X} {q p trail : List Bool} {i : Bool} {fs gs : List (Left X)} {f : Left X} → KeysWithin 128 (entries m.0) → IsGoingOn m n q p trail i fs → 5 ≤ length p → HasNoChild p n → f.0 ≡ where_key bits_cmp (is_past (take 5 p)) (entries n.0) → IsLast gs fs f trail
-      → IsWalk gs trail × (walk_rest (along trail gs) ≡ where_key bits_cmp (is_from q i) (entries m.0))
+  pub going_none : {m n : Seen X} {q p trail : List Bool} {i : Bool} {fs gs : List (Left X)} {f : Left X} → KeysWithin 128 (entries m.entries) → IsGoingOn m n q p trail i fs → 5 ≤ length p → HasNoChild p n → f.0 ≡ where_key bits_cmp (is_past (take 5 p)) (entries n.entries) → IsLast gs fs f trail
+      → IsWalk gs trail × (walk_rest (along trail gs) ≡ where_key bits_cmp (is_from q i) (entries m.entries))
   going_none {m} {q = q} {trail = trail} {i = i} k w h s v t = gone m q i k t (onwards_none w.way h s (ap (under trail) v) t.top)
 
-  pub going_end : {m n : Seen X} {q p trail : List Bool} {i : Bool} {fs gs : List (Left X)} {f : Left X} → KeysWithin 128 (entries m.0) → IsGoingOn m n q p trail i fs → f.0 ≡ where_key bits_cmp (is_from p i) (entries n.0) → IsLast gs fs f trail
-      → IsWalk gs trail × (walk_rest (along trail gs) ≡ where_key bits_cmp (is_from q i) (entries m.0))
+  pub going_end : {m n : Seen X} {q p trail : List Bool} {i : Bool} {fs gs : List (Left X)} {f : Left X} → KeysWithin 128 (entries m.entries) → IsGoingOn m n q p trail i fs → f.0 ≡ where_key bits_cmp (is_from p i) (entries n.entries) → IsLast gs fs f trail
+      → IsWalk gs trail × (walk_rest (along trail gs) ≡ where_key bits_cmp (is_from q i) (entries m.entries))
   going_end {m} {q = q} {trail = trail} {i = i} k w v t = gone m q i k t (onwards_end w.way (ap (under trail) v) t.top)

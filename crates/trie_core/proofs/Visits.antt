@@ -6,12 +6,14 @@ use Rattle.std.specs.FinMap.{entries, find, get, empty, get-empty, get-entries, 
 use Rattle.std.specs.FinMap.Entries.{below_all}
 use Rattle.std.proofs.Math.Bool.{and-false, or-false}
 use Rattle.std.proofs.Math.ListN.{length-append, length-take}
-use Rattle.trie_keys.specs.Bits.{bits_cmp}
-use Rattle.trie_core.specs.Nodes.{Seen, under, node_map, IsNode}
-use Rattle.trie_core.specs.Count.{fives_from, fives, fives_of, begun, found_in, visit_count, marked, spare_set, stands, standing_at, node_visits}
-use Rattle.trie_keys.proofs.Strings.{both, less-T, same, same-Decides, not_same, append_none, take_first, same_false, take_take}
+use Rattle.trie_core.specs.Bits.{bits_cmp}
+use Rattle.trie_core.specs.Nodes.{BitMap, BitSet, Seen}
+use Rattle.trie_core.specs.InnerNodes.{under, node_map, IsNode}
+use Rattle.trie_core.specs.Count.{fives_from, fives, fives_of, begun, found_in, visit_count, stands, standing_at, node_visits}
+use Rattle.trie_core.specs.InnerCount.{marked, spare_set}
+use Rattle.trie_core.proofs.Strings.{both, less-T, same, same-Decides, not_same, append_none, take_first, same_false, take_take}
 use Rattle.trie_core.proofs.Maps.{tail_rises, find-under, find-apart, drop_first}
-use Rattle.trie_core.specs.Walks.{first_value}
+use Rattle.trie_core.specs.InnerWalks.{first_value}
 use Rattle.trie_core.proofs.Order.{StartsAfter, found_long, found_get, without_value, without_child, starts_after, values_after}
 use Rattle.trie_core.proofs.Count.{has, has-append, has-begun, some_cond, some_entry, nothing, fives_child, fives_short, begun_by_key, after_child, begun_value, begun_none, begun_child}
 use Rattle.trie_core.proofs.Marks.{root_if, marked_get, marked-other, marked-root, set-long}
@@ -34,37 +36,37 @@ apart : (n m x k : List Bool) → length n ≡ 5 → length m ≡ 5 → same n m
 apart n m x k a b e p = not_same e (sym (take_first n x a) ∙ ap (take 5) p ∙ take_first m k b)
 
 module _ {X : Type 0} where
-  here : {vs : List (List Bool × X)} {cs : List (List Bool × Seen X)} {c : List Bool × Seen X} → IsNode vs (c ∷ cs) → StartsAfter c.0 vs → (x : List Bool) (s : Bool) → some_entry (entries c.1.0) ≡ s
-      → has (c.0 ++ x) (entries (begun (node_map vs (c ∷ cs)))) ≡ ((s && same (c.0 ++ x) c.0) || has x (entries (begun c.1.0)))
+  here : {vs : List (List Bool × X)} {cs : List (List Bool × Seen X)} {c : List Bool × Seen X} → IsNode vs (c ∷ cs) → StartsAfter c.0 vs → (x : List Bool) (s : Bool) → some_entry (entries c.1.entries) ≡ s
+      → has (c.0 ++ x) (entries (begun (node_map vs (c ∷ cs)))) ≡ ((s && same (c.0 ++ x) c.0) || has x (entries (begun c.1.entries)))
   here {vs} {cs} {c} n h x true e =
       let b = c.0 in
       let a = (tail_rises c cs n.children_rise).1 in
-      let E = entries (begun c.1.0) in
+      let E = entries (begun c.1.entries) in
       let F = entries (begun (node_map vs cs)) in
       ap (has (b ++ x)) (begun_child n a h e)
       ∙ some_cond (same (b ++ x) b) tt (find bits_cmp (b ++ x) (under b E ++ F))
       ∙ ap (λ t. same (b ++ x) b || t) (has-append (b ++ x) (under b E) F ∙ ap (λ t. t || has (b ++ x) F) (ap is_some (find-under b x E)))
       ∙ or_nothing (same (b ++ x) b) (has x E) (has (b ++ x) F) (below_none (b ++ x) F (after_child n a x))
   here {vs} {cs} {c} n h x false e =
-      let z = nothing (entries c.1.0) e in
+      let z = nothing (entries c.1.entries) e in
       ap (λ m. has (c.0 ++ x) (entries m)) (begun_none n h z)
       ∙ below_none (c.0 ++ x) (entries (begun (node_map vs cs))) (after_child n (tail_rises c cs n.children_rise).1 x)
-      ∙ sym (has-begun c.1.0 x ∙ ap (λ es. has x (fives_of es)) z)
+      ∙ sym (has-begun c.1.entries x ∙ ap (λ es. has x (fives_of es)) z)
 
-  elsewhere : {vs : List (List Bool × X)} {cs : List (List Bool × Seen X)} {c : List Bool × Seen X} (m : List Bool) → IsNode vs (c ∷ cs) → StartsAfter c.0 vs → length m ≡ 5 → same m c.0 ≡ false → (x : List Bool) → (b : Bool) → some_entry (entries c.1.0) ≡ b
+  elsewhere : {vs : List (List Bool × X)} {cs : List (List Bool × Seen X)} {c : List Bool × Seen X} (m : List Bool) → IsNode vs (c ∷ cs) → StartsAfter c.0 vs → length m ≡ 5 → same m c.0 ≡ false → (x : List Bool) → (b : Bool) → some_entry (entries c.1.entries) ≡ b
       → has (m ++ x) (entries (begun (node_map vs (c ∷ cs)))) ≡ has (m ++ x) (entries (begun (node_map vs cs)))
   elsewhere {vs} {cs} {c} m n h a e x true s =
       let b = c.0 in
-      let E = entries (begun c.1.0) in
+      let E = entries (begun c.1.entries) in
       let F = entries (begun (node_map vs cs)) in
       ap (has (m ++ x)) (begun_child n (tail_rises c cs n.children_rise).1 h s)
       ∙ some_cond (same (m ++ x) b) tt (find bits_cmp (m ++ x) (under b E ++ F))
       ∙ ap (λ t. same (m ++ x) b || t) (has-append (m ++ x) (under b E) F)
       ∙ or_neither _ _ _ (same_false (m ++ x) b (λ p. apart m b x [] a n.children_long.0 e (p ∙ sym (append_none b)))) (ap is_some (find-apart b (m ++ x) (λ k p. apart m b x k a n.children_long.0 e p) E))
-  elsewhere {vs} {cs} {c} m n h a e x false s = ap (λ w. has (m ++ x) (entries w)) (begun_none n h (nothing (entries c.1.0) s))
+  elsewhere {vs} {cs} {c} m n h a e x false s = ap (λ w. has (m ++ x) (entries w)) (begun_none n h (nothing (entries c.1.entries) s))
 
   abbrev Begun : List (List Bool × X) → List (List Bool × Seen X) → List Bool → Seen X → List Bool → Type 0
-  Begun vs cs m w x = has (m ++ x) (entries (begun (node_map vs cs))) ≡ ((some_entry (entries w.0) && same (m ++ x) m) || has x (entries (begun w.0)))
+  Begun vs cs m w x = has (m ++ x) (entries (begun (node_map vs cs))) ≡ ((some_entry (entries w.entries) && same (m ++ x) m) || has x (entries (begun w.entries)))
 
   begun_under : {vs : List (List Bool × X)} {cs : List (List Bool × Seen X)} {c : List Bool × Seen X} (m : List Bool) (w : Seen X) (x : List Bool) → IsNode vs (c ∷ cs) → StartsAfter c.0 vs → length m ≡ 5
       → (find bits_cmp m cs ≡ Some w → Begun vs cs m w x) → (b : Bool) → same m c.0 ≡ b → cond b (Some c.1) (find bits_cmp m cs) ≡ Some w → Begun vs (c ∷ cs) m w x
@@ -72,9 +74,9 @@ module _ {X : Type 0} where
       let u : c.1 ≡ w = cc in
       let z : m ≡ c.0 = (same-Decides m c.0).0 e in
       ap (λ k. has (k ++ x) (entries (begun (node_map vs (c ∷ cs))))) z
-      ∙ here n h x (some_entry (entries c.1.0)) refl
-      ∙ (λ i. (some_entry (entries (u i).0) && same (sym z i ++ x) (sym z i)) || has x (entries (begun (u i).0)))
-  begun_under {vs} {cs} {c} m w x n h a r false e f = elsewhere m n h a e x (some_entry (entries c.1.0)) refl ∙ r f
+      ∙ here n h x (some_entry (entries c.1.entries)) refl
+      ∙ (λ i. (some_entry (entries (u i).entries) && same (sym z i ++ x) (sym z i)) || has x (entries (begun (u i).entries)))
+  begun_under {vs} {cs} {c} m w x n h a r false e f = elsewhere m n h a e x (some_entry (entries c.1.entries)) refl ∙ r f
 
   begun_either : (e : List Bool × X) (vs : List (List Bool × X)) (c : List Bool × Seen X) (cs : List (List Bool × Seen X)) (m : List Bool) (w : Seen X) (x : List Bool) → IsNode (e ∷ vs) (c ∷ cs) → length m ≡ 5 → find bits_cmp m (c ∷ cs) ≡ Some w
       → (IsNode vs (c ∷ cs) → Begun vs (c ∷ cs) m w x) → (IsNode (e ∷ vs) cs → find bits_cmp m cs ≡ Some w → Begun (e ∷ vs) cs m w x) → (b : Bool) → first_value (e ∷ vs) (c ∷ cs) ≡ b → Begun (e ∷ vs) (c ∷ cs) m w x
@@ -91,21 +93,17 @@ abbrev counted : Bool → ℕ
 counted b = cond b 1 0
 
 module _ {X : Type 0} where
-  -- what a node of h levels with these values and children is seen as
-  abbrev pub node_seen : List (List Bool × X) → List (List Bool × Seen X) → ℕ → Seen X
-  node_seen vs cs h = (node_map vs cs, spare_set cs, h)
+  standing_fives : (i n : ℕ) (b k : List Bool) (m : BitMap X) (s : BitSet) (w : Seen X) → 5 * i + 5 * n ≤ length k → ((x : List Bool) → 5 ≤ length x → stands m s (b ++ x) ≡ stands w.entries w.spares x) → standing_at m s (under b (fives_from i n k)) ≡ standing_at w.entries w.spares (fives_from i n k)
+  standing_fives i zero b k m s w h f = refl
+  standing_fives i (suc n) b k m s w h f = λ j. cond (f (take (5 * i + 5) k) (omega (arith, length-take (5 * i + 5) k, h)) j) 1 0 + standing_fives (suc i) n b k m s w (omega (arith, h)) f j
 
-  standing_fives : (i n : ℕ) (b k : List Bool) (m w : Seen X) → 5 * i + 5 * n ≤ length k → ((x : List Bool) → 5 ≤ length x → stands m (b ++ x) ≡ stands w x) → standing_at m (under b (fives_from i n k)) ≡ standing_at w (fives_from i n k)
-  standing_fives i zero b k m w h f = refl
-  standing_fives i (suc n) b k m w h f = λ j. cond (f (take (5 * i + 5) k) (omega (arith, length-take (5 * i + 5) k, h)) j) 1 0 + standing_fives (suc i) n b k m w (omega (arith, h)) f j
-
-  standing_none : (i n : ℕ) (q : List Bool) (m : Seen X) → 5 * i + 5 * n ≤ length q → ((x : List Bool) → 5 ≤ length x → take 5 x ≡ take 5 q → stands m x ≡ false) → standing_at m (fives_from i n q) ≡ 0
-  standing_none i zero q m h f = refl
-  standing_none i (suc n) q m h f =
+  standing_none : (i n : ℕ) (q : List Bool) (m : BitMap X) (s : BitSet) → 5 * i + 5 * n ≤ length q → ((x : List Bool) → 5 ≤ length x → take 5 x ≡ take 5 q → stands m s x ≡ false) → standing_at m s (fives_from i n q) ≡ 0
+  standing_none i zero q m s h f = refl
+  standing_none i (suc n) q m s h f =
       let z : 5 * i + 5 ≡ 5 + 5 * i = omega arith in
       let e = f (take (5 * i + 5) q) (omega (arith, length-take (5 * i + 5) q, h)) (ap (λ k. take 5 (take k q)) z ∙ take_take q 5 (5 * i)) in
-      let c : counted (stands m (take (5 * i + 5) q)) ≡ 0 = ap counted e in
-      omega (arith, c, standing_none (suc i) n q m (omega (arith, h)) f)
+      let c : counted (stands m s (take (5 * i + 5) q)) ≡ 0 = ap counted e in
+      omega (arith, c, standing_none (suc i) n q m s (omega (arith, h)) f)
 
   none_begun : {vs : List (List Bool × X)} {cs : List (List Bool × Seen X)} (q x : List Bool) → IsNode vs cs → find bits_cmp (take 5 q) cs ≡ None → 5 ≤ length x → take 5 x ≡ take 5 q → (b : Bool) → is_some (get (begun (node_map vs cs)) x) ≡ b → is_some (get (begun (node_map vs cs)) x) ≡ false
   none_begun {vs} {cs} q x n f h t true e =
@@ -118,21 +116,21 @@ module _ {X : Type 0} where
   none_begun q x n f h t false e = e
 
   -- no node stands where there is no child
-  stands_none : {vs : List (List Bool × X)} {cs : List (List Bool × Seen X)} (q x : List Bool) (h : ℕ) → IsNode vs cs → find bits_cmp (take 5 q) cs ≡ None → 5 ≤ length x → take 5 x ≡ take 5 q → stands (node_seen vs cs h) x ≡ false
-  stands_none {vs} {cs} q x h n f d t =
+  stands_none : {vs : List (List Bool × X)} {cs : List (List Bool × Seen X)} (q x : List Bool) → IsNode vs cs → find bits_cmp (take 5 q) cs ≡ None → 5 ≤ length x → take 5 x ≡ take 5 q → stands (node_map vs cs) (spare_set cs) x ≡ false
+  stands_none {vs} {cs} q x n f d t =
       let spare : get (spare_set cs) x ≡ None = set-long n x d ∙ (λ i. marked_get (find bits_cmp (t i) cs) (drop 5 x)) ∙ ap (λ o. marked_get o (drop 5 x)) f in
       λ i. none_begun q x n f d t (is_some (get (begun (node_map vs cs)) x)) refl i || is_some (spare i)
 
   -- no child on the way: the node alone
-  pub visits_none : {vs : List (List Bool × X)} {cs : List (List Bool × Seen X)} (q : List Bool) (h : ℕ) → IsNode vs cs → find bits_cmp (take 5 q) cs ≡ None → node_visits (node_seen vs cs h) q ≡ 1
+  pub visits_none : {vs : List (List Bool × X)} {cs : List (List Bool × Seen X)} (q : List Bool) → IsNode vs cs → find bits_cmp (take 5 q) cs ≡ None → node_visits (node_map vs cs) (spare_set cs) q ≡ 1
   unfolding node_visits
-  visits_none {vs} {cs} q h n f = ap (λ k. k + 1) (standing_none 0 (length q / 5) q (node_seen vs cs h) (omega arith) (λ x d t. stands_none q x h n f d t))
+  visits_none {vs} {cs} q n f = ap (λ k. k + 1) (standing_none 0 (length q / 5) q (node_map vs cs) (spare_set cs) (omega arith) (λ x d t. stands_none q x n f d t))
 
   begun_below : {vs : List (List Bool × X)} {cs : List (List Bool × Seen X)} {w : Seen X} (b x : List Bool) → IsNode vs cs → length b ≡ 5 → find bits_cmp b cs ≡ Some w
-      → is_some (get (begun (node_map vs cs)) (b ++ x)) ≡ ((some_entry (entries w.0) && same (b ++ x) b) || is_some (get (begun w.0) x))
+      → is_some (get (begun (node_map vs cs)) (b ++ x)) ≡ ((some_entry (entries w.entries) && same (b ++ x) b) || is_some (get (begun w.entries) x))
   begun_below {vs} {cs} {w} b x n a f =
       ap is_some (get-entries (begun (node_map vs cs)) (b ++ x)) ∙ begun_by (length vs + length cs) vs cs b w x (omega arith) n a f
-      ∙ (λ i. (some_entry (entries w.0) && same (b ++ x) b) || is_some (sym (get-entries (begun w.0) x) i))
+      ∙ (λ i. (some_entry (entries w.entries) && same (b ++ x) b) || is_some (sym (get-entries (begun w.entries) x) i))
 
   spare_below : {vs : List (List Bool × X)} {cs : List (List Bool × Seen X)} {w : Seen X} (b x : List Bool) → IsNode vs cs → length b ≡ 5 → find bits_cmp b cs ≡ Some w → get (spare_set cs) (b ++ x) ≡ get (marked w) x
   spare_below {vs} {cs} {w} b x n a f =
@@ -141,12 +139,12 @@ module _ {X : Type 0} where
       ∙ ap (λ o. marked_get o x) f
 
   -- below the child, where one stands below it
-  stands_below : {vs : List (List Bool × X)} {cs : List (List Bool × Seen X)} {w : Seen X} (b x : List Bool) (h : ℕ) → IsNode vs cs → length b ≡ 5 → find bits_cmp b cs ≡ Some w → 5 ≤ length x → stands (node_seen vs cs h) (b ++ x) ≡ stands w x
-  stands_below b [] h n a f l = absurd (omega arith)
-  stands_below {w = w} b (y ∷ ys) h n a f l =
+  stands_below : {vs : List (List Bool × X)} {cs : List (List Bool × Seen X)} {w : Seen X} (b x : List Bool) → IsNode vs cs → length b ≡ 5 → find bits_cmp b cs ≡ Some w → 5 ≤ length x → stands (node_map vs cs) (spare_set cs) (b ++ x) ≡ stands w.entries w.spares x
+  stands_below b [] n a f l = absurd (omega arith)
+  stands_below {w = w} b (y ∷ ys) n a f l =
       let x = y ∷ ys in
       let o : same (b ++ x) b ≡ false = same_false (b ++ x) b (λ e. omega (arith, ap length e, length-append b x, l)) in
-      let e = ap (λ t. (some_entry (entries w.0) && t) || is_some (get (begun w.0) x)) o ∙ ap (λ t. t || is_some (get (begun w.0) x)) (and-false (some_entry (entries w.0))) in
+      let e = ap (λ t. (some_entry (entries w.entries) && t) || is_some (get (begun w.entries) x)) o ∙ ap (λ t. t || is_some (get (begun w.entries) x)) (and-false (some_entry (entries w.entries))) in
       λ i. (begun_below b x n a f ∙ e) i || is_some ((spare_below b x n a f ∙ marked-other w y ys) i)
 
   some_or_none : (es : List (List Bool × X)) (n : ℕ) (z : Bool) → n ≡ length es → (((some_entry es && true) || z) || is_some (root_if n)) ≡ true
@@ -156,34 +154,35 @@ module _ {X : Type 0} where
   some_or_none (o ∷ es) n z e = refl
 
   -- the child itself, needed or spare
-  stands_child : {vs : List (List Bool × X)} {cs : List (List Bool × Seen X)} {w : Seen X} (b : List Bool) (h : ℕ) → IsNode vs cs → length b ≡ 5 → find bits_cmp b cs ≡ Some w → stands (node_seen vs cs h) b ≡ true
-  stands_child {vs} {cs} {w} b h n a f =
-      let z = is_some (get (begun w.0) []) in
-      ap (stands (node_seen vs cs h)) (sym (append_none b))
+  stands_child : {vs : List (List Bool × X)} {cs : List (List Bool × Seen X)} {w : Seen X} (b : List Bool) → IsNode vs cs → length b ≡ 5 → find bits_cmp b cs ≡ Some w → stands (node_map vs cs) (spare_set cs) b ≡ true
+  stands_child {vs} {cs} {w} b n a f =
+      let z = is_some (get (begun w.entries) []) in
+      ap (stands (node_map vs cs) (spare_set cs)) (sym (append_none b))
       ∙ (λ i. begun_below b [] n a f i || is_some ((spare_below b [] n a f ∙ marked-root w) i))
-      ∙ ap (λ t. ((some_entry (entries w.0) && t) || z) || is_some (root_if (len w.0))) ((same-Decides (b ++ []) b).1 (append_none b))
-      ∙ some_or_none (entries w.0) (len w.0) z (len-entries w.0)
+      ∙ ap (λ t. ((some_entry (entries w.entries) && t) || z) || is_some (root_if (len w.entries))) ((same-Decides (b ++ []) b).1 (append_none b))
+      ∙ some_or_none (entries w.entries) (len w.entries) z (len-entries w.entries)
 
   -- a child on the way: the node, and what is visited from the child on
-  pub visits_some : {vs : List (List Bool × X)} {cs : List (List Bool × Seen X)} {w : Seen X} (b r : List Bool) (h : ℕ) → IsNode vs cs → length b ≡ 5 → find bits_cmp b cs ≡ Some w → node_visits (node_seen vs cs h) (b ++ r) ≡ node_visits w r + 1
+  pub visits_some : {vs : List (List Bool × X)} {cs : List (List Bool × Seen X)} {w : Seen X} (b r : List Bool) → IsNode vs cs → length b ≡ 5 → find bits_cmp b cs ≡ Some w → node_visits (node_map vs cs) (spare_set cs) (b ++ r) ≡ node_visits w.entries w.spares r + 1
   unfolding node_visits
-  visits_some {vs} {cs} {w} b r h n a f =
-      let m = node_seen vs cs h in
-      let first : counted (stands m b) ≡ 1 = ap counted (stands_child b h n a f) in
-      omega (arith, ap (standing_at m) (fives_child b r a), first, standing_fives 0 (length r / 5) b r m w (omega arith) (λ x l. stands_below b x h n a f l))
+  visits_some {vs} {cs} {w} b r n a f =
+      let m = node_map vs cs in
+      let s = spare_set cs in
+      let first : counted (stands m s b) ≡ 1 = ap counted (stands_child b n a f) in
+      omega (arith, ap (standing_at m s) (fives_child b r a), first, standing_fives 0 (length r / 5) b r m s w (omega arith) (λ x l. stands_below b x n a f l))
 
   -- a string that ends in the node
-  pub visits_short : (s : Seen X) (q : List Bool) → length q < 5 → node_visits s q ≡ 1
+  pub visits_short : (m : BitMap X) (b : BitSet) (q : List Bool) → length q < 5 → node_visits m b q ≡ 1
   unfolding node_visits
-  visits_short s q h = ap (λ es. standing_at s es + 1) (fives_short q h)
+  visits_short m b q h = ap (λ es. standing_at m b es + 1) (fives_short q h)
 
-  standing_tidy : (s : Seen X) (es : List (List Bool × Unit {0})) → s.1 ≡ empty → standing_at s es ≡ found_in (begun s.0) es
-  standing_tidy s [] e = refl
-  standing_tidy s (k ∷ es) e =
-      let none : stands s k.0 ≡ is_some (get (begun s.0) k.0) = (λ i. is_some (get (begun s.0) k.0) || is_some ((ap (λ b. get b k.0) e ∙ get-empty bits_cmp k.0) i)) ∙ or-false _ in
-      λ i. cond (none i) 1 0 + standing_tidy s es e i
+  standing_tidy : (m : BitMap X) {b : BitSet} (es : List (List Bool × Unit {0})) → b ≡ empty → standing_at m b es ≡ found_in (begun m) es
+  standing_tidy m [] e = refl
+  standing_tidy m {b} (k ∷ es) e =
+      let none : stands m b k.0 ≡ is_some (get (begun m) k.0) = (λ i. is_some (get (begun m) k.0) || is_some ((ap (λ b. get b k.0) e ∙ get-empty bits_cmp k.0) i)) ∙ or-false _ in
+      λ i. cond (none i) 1 0 + standing_tidy m es e i
 
   -- where no spare node stands, the map alone says it
-  pub visits_tidy : (s : Seen X) (q : List Bool) → s.1 ≡ empty → node_visits s q ≡ visit_count s.0 q
+  pub visits_tidy : (m : BitMap X) {b : BitSet} (q : List Bool) → b ≡ empty → node_visits m b q ≡ visit_count m q
   unfolding node_visits
-  visits_tidy s q e = ap (λ n. n + 1) (standing_tidy s (fives q) e)
+  visits_tidy m q e = ap (λ n. n + 1) (standing_tidy m (fives q) e)

@@ -7,16 +7,18 @@ use Rattle.std.specs.FinMap.{is_sorted, find, entries, get, get-entries, entries
 use Rattle.std.specs.FinMap.Entries.{where_key, find-where_key, is_sorted-where_key, same_entries}
 use Rattle.std.proofs.lemmas.List.{append_assoc, take-append-drop}
 use Rattle.std.proofs.Math.ListN.{length-append, length-drop}
-use Rattle.trie_keys.specs.Bits.{bits_cmp, begins, child_of, child_string, is_past, is_from}
-use Rattle.trie_keys.specs.Prefixes.{prefix_bits}
-use Rattle.trie_core.specs.Nodes.{BitMap, Seen, under}
-use Rattle.trie_core.specs.Search.{IsChild, HasNoChild}
-use Rattle.trie_core.specs.Walks.{KeysWithin, Left, walk_rest, walk_weight, FitFrom}
-use Rattle.trie_keys.proofs.Strings.{bits_total, bits_same, same, same-Decides, same-refl, not_same, append_none, front, take_first, begins_take}
+use Rattle.trie_core.specs.Bits.{bits_cmp, begins, is_from}
+use Rattle.trie_core.specs.InnerPlaces.{child_of, child_string}
+use Rattle.trie_core.specs.InnerWalks.{is_past, KeysWithin, Left, walk_rest, walk_weight, FitFrom}
+use Rattle.trie_core.specs.Prefixes.{prefix_bits}
+use Rattle.trie_core.specs.Nodes.{BitMap, Seen}
+use Rattle.trie_core.specs.InnerNodes.{under}
+use Rattle.trie_core.specs.InnerSearch.{IsChild, HasNoChild}
+use Rattle.trie_core.proofs.Strings.{bits_total, bits_same, same, same-Decides, same-refl, not_same, append_none, front, take_first, begins_take, begins-under, bits_cmp-under, not_true}
 use Rattle.trie_core.proofs.Count.{under-append}
 use Rattle.trie_core.proofs.Maps.{or_else, find-append_all, find-under, find-apart, get_none, node_map-none}
 use Rattle.trie_core.proofs.Order.{sorted_under, below_found, walk_none}
-use Rattle.trie_keys.proofs.Numbers.{child_string-child_of}
+use Rattle.trie_core.proofs.Numbers.{child_string-child_of}
 use Rattle.trie_core.proofs.Frames.{child_bits, bits_alike, under-under, under_none}
 
 -- ---- the stack
@@ -71,15 +73,6 @@ module _ {X : Type 0} where
   below_step {fs = fs} {g = g} {h = h} p s q r = p.rest ∙ ap (λ es. es ++ walk_rest fs) s ∙ append_assoc h.0 g.0 (walk_rest fs) ∙ ap (λ es. h.0 ++ es) (sym q.rest) ∙ sym r.rest
 
 -- ---- the way down
-
-pub begins-under : (b p q : List Bool) → begins (b ++ p) (b ++ q) ≡ begins p q
-begins-under [] p q = refl
-begins-under (true ∷ b) p q = begins-under b p q
-begins-under (false ∷ b) p q = begins-under b p q
-
-pub not_true : (b : Bool) → (b ≡ true → ⊥) → b ≡ false
-not_true true f = absurd (f refl)
-not_true false f = refl
 
 module _ {X : Type 0} where
   pub keys_found : (n : ℕ) (trail q : List Bool) (es : List (List Bool × X)) → KeysWithin n (under trail es) → is_some (find bits_cmp q es) ≡ true → length trail + length q ≤ n
@@ -142,15 +135,15 @@ module _ {X : Type 0} where
 
   -- the node n at the trail, where what is left of the path is p
   pub record IsPlace (m n : Seen X) (trail : List Bool) : Type 0 where
-    pub levels : length trail + 5 * n.2 ≤ 130
-    pub fewer : n.2 ≤ m.2
-    pub keys : KeysWithin 128 (under trail (entries n.0))
+    pub levels : length trail + 5 * n.levels ≤ 130
+    pub fewer : n.levels ≤ m.levels
+    pub keys : KeysWithin 128 (under trail (entries n.entries))
 
-  pub at_root : {m : Seen X} {trail : List Bool} → m.2 ≤ 26 → KeysWithin 128 (entries m.0) → trail ≡ [] → IsPlace m m trail
+  pub at_root : {m : Seen X} {trail : List Bool} → m.levels ≤ 26 → KeysWithin 128 (entries m.entries) → trail ≡ [] → IsPlace m m trail
   at_root {m} {trail} l k e = record {
     levels = omega (arith, ap length e, l);
     fewer = omega arith;
-    keys = subst (KeysWithin 128) (sym (under_none (entries m.0)) ∙ ap (λ t. under t (entries m.0)) (sym e)) k;
+    keys = subst (KeysWithin 128) (sym (under_none (entries m.entries)) ∙ ap (λ t. under t (entries m.entries)) (sym e)) k;
   }
 
   pub at_below : {m n c : Seen X} {trail way : List Bool} (p : List Bool) → IsPlace m n trail → 5 ≤ length p → IsChild p n c → way ≡ trail ++ take 5 p → IsPlace m c way
@@ -159,33 +152,33 @@ module _ {X : Type 0} where
       record {
         levels = omega (arith, l, a.levels, s.smaller);
         fewer = omega (arith, a.fewer, s.smaller);
-        keys = keys_listed 128 way (entries c.0) (λ q f.
-            let g : is_some (find bits_cmp (take 5 p ++ q) (entries n.0)) ≡ true = ap is_some (sym (get-entries n.0 (take 5 p ++ q)) ∙ s.gets q ∙ get-entries c.0 q) ∙ f in
-            omega (arith, keys_found 128 trail (take 5 p ++ q) (entries n.0) a.keys g, length-append (take 5 p) q, (front p h).0, l));
+        keys = keys_listed 128 way (entries c.entries) (λ q f.
+            let g : is_some (find bits_cmp (take 5 p ++ q) (entries n.entries)) ≡ true = ap is_some (sym (get-entries n.entries (take 5 p ++ q)) ∙ s.gets q ∙ get-entries c.entries q) ∙ f in
+            omega (arith, keys_found 128 trail (take 5 p ++ q) (entries n.entries) a.keys g, length-append (take 5 p) q, (front p h).0, l));
       }
 
   -- the node n at the trail has those of the keys of m that begin with q: the ones that begin with p
   pub record IsOnWay (m n : Seen X) (q p trail : List Bool) : Type 0 where
     pub place : IsPlace m n trail
     pub within : length trail + length p ≤ 128
-    pub inside : under trail (where_key bits_cmp (begins p) (entries n.0)) ≡ where_key bits_cmp (begins q) (entries m.0)
+    pub inside : under trail (where_key bits_cmp (begins p) (entries n.entries)) ≡ where_key bits_cmp (begins q) (entries m.entries)
 
-  pub start_way : {m : Seen X} {q trail : List Bool} → m.2 ≤ 26 → KeysWithin 128 (entries m.0) → length q ≤ 128 → trail ≡ [] → IsOnWay m m q q trail
+  pub start_way : {m : Seen X} {q trail : List Bool} → m.levels ≤ 26 → KeysWithin 128 (entries m.entries) → length q ≤ 128 → trail ≡ [] → IsOnWay m m q q trail
   start_way {m} {q} {trail} l k h e = record {
     place = at_root l k e;
     within = omega (arith, h, ap length e);
-    inside = ap (λ t. under t (where_key bits_cmp (begins q) (entries m.0))) e ∙ under_none (where_key bits_cmp (begins q) (entries m.0));
+    inside = ap (λ t. under t (where_key bits_cmp (begins q) (entries m.entries))) e ∙ under_none (where_key bits_cmp (begins q) (entries m.entries));
   }
 
   pub way_below : {m n c : Seen X} {q p r trail way : List Bool} → IsOnWay m n q p trail → 5 ≤ length p → IsChild p n c → way ≡ trail ++ take 5 p → r ≡ drop 5 p → IsOnWay m c q r way
   way_below {m} {n} {c} {q} {p} {r} {trail} {way} w h s e d = record {
     place = at_below p w.place h s e;
     within = omega (arith, ap length e, length-append trail (take 5 p), (front p h).0, ap length d, length-drop 5 p, w.within, h);
-    inside = (λ j. under (e j) (where_key bits_cmp (begins (d j)) (entries c.0))) ∙ sym (under-under trail (take 5 p) (where_key bits_cmp (begins (drop 5 p)) (entries c.0)))
+    inside = (λ j. under (e j) (where_key bits_cmp (begins (d j)) (entries c.entries))) ∙ sym (under-under trail (take 5 p) (where_key bits_cmp (begins (drop 5 p)) (entries c.entries)))
         ∙ ap (under trail) (sym (where_below (begins_below p h s.gets))) ∙ w.inside;
   }
 
-  pub way_none : {m n : Seen X} {q p trail : List Bool} → IsOnWay m n q p trail → 5 ≤ length p → HasNoChild p n → where_key bits_cmp (begins q) (entries m.0) ≡ []
+  pub way_none : {m n : Seen X} {q p trail : List Bool} → IsOnWay m n q p trail → 5 ≤ length p → HasNoChild p n → where_key bits_cmp (begins q) (entries m.entries) ≡ []
   way_none {m} {n} {q} {p} {trail} w h s =
       sym w.inside ∙ ap (under trail) (where_below (begins_below p {c = empty} h (λ r. s.gets r ∙ sym (get_none r))) ∙ ap (λ es. under (take 5 p) (where_key bits_cmp (begins (drop 5 p)) es)) entries_none)
 
@@ -195,13 +188,8 @@ five_bits {way} trail p {five} h f e = e ∙ ap (λ s. trail ++ s) (child_bits f
 
 -- ---- what comes after a string
 
-cmp-under : (b p q : List Bool) → bits_cmp (b ++ p) (b ++ q) ≡ bits_cmp p q
-cmp-under [] p q = refl
-cmp-under (true ∷ b) p q = cmp-under b p q
-cmp-under (false ∷ b) p q = cmp-under b p q
-
 from-under : (i : Bool) (b p q : List Bool) → is_from (b ++ p) i (b ++ q) ≡ is_from p i q
-from-under i b p q = λ j. cond i (not (is_lt (cmp-under b q p j))) (is_lt (cmp-under b p q j))
+from-under i b p q = λ j. cond i (not (is_lt (bits_cmp-under b q p j))) (is_lt (bits_cmp-under b p q j))
 
 past-under : (b q : List Bool) → is_past b (b ++ q) ≡ false
 past-under [] q = none (is_lt (bits_cmp [] q))
@@ -286,39 +274,39 @@ module _ {X : Type 0} where
     pub place : IsPlace m n trail
     pub within : length trail + length p ≤ 128
     pub fit : FitFrom 0 fs
-    pub room : length fs + n.2 ≤ 26
-    pub from : under trail (where_key bits_cmp (is_from p i) (entries n.0)) ++ walk_rest fs ≡ where_key bits_cmp (is_from q i) (entries m.0)
+    pub room : length fs + n.levels ≤ 26
+    pub from : under trail (where_key bits_cmp (is_from p i) (entries n.entries)) ++ walk_rest fs ≡ where_key bits_cmp (is_from q i) (entries m.entries)
 
-  pub start_onwards : {m : Seen X} {q trail : List Bool} (i : Bool) {fs : List (Left X)} → m.2 ≤ 26 → KeysWithin 128 (entries m.0) → length q ≤ 128 → trail ≡ [] → fs ≡ [] → IsOnwards m m q q trail i fs
+  pub start_onwards : {m : Seen X} {q trail : List Bool} (i : Bool) {fs : List (Left X)} → m.levels ≤ 26 → KeysWithin 128 (entries m.entries) → length q ≤ 128 → trail ≡ [] → fs ≡ [] → IsOnwards m m q q trail i fs
   start_onwards {m} {q} {trail} i {fs} l k h e z = record {
     place = at_root l k e;
     within = omega (arith, h, ap length e);
     fit = subst (λ gs. FitFrom 0 gs) (sym z) tt;
     room = omega (arith, ap length z, l);
-    from = (λ j. under (e j) (where_key bits_cmp (is_from q i) (entries m.0)) ++ walk_rest (z j)) ∙ append_none _ ∙ under_none (where_key bits_cmp (is_from q i) (entries m.0));
+    from = (λ j. under (e j) (where_key bits_cmp (is_from q i) (entries m.entries)) ++ walk_rest (z j)) ∙ append_none _ ∙ under_none (where_key bits_cmp (is_from q i) (entries m.entries));
   }
 
   -- the frame of what is past the five bits goes on the stack
   pub onwards_below : {m n c : Seen X} {q p r trail way : List Bool} {i : Bool} {fs gs : List (Left X)} {f : Left X} → IsOnwards m n q p trail i fs → 5 ≤ length p → IsChild p n c → way ≡ trail ++ take 5 p → r ≡ drop 5 p
-      → f.0 ≡ under trail (where_key bits_cmp (is_past (take 5 p)) (entries n.0)) → IsTop gs fs f → IsOnwards m c q r way i gs
+      → f.0 ≡ under trail (where_key bits_cmp (is_past (take 5 p)) (entries n.entries)) → IsTop gs fs f → IsOnwards m c q r way i gs
   onwards_below {m} {n} {c} {q} {p} {r} {trail} {way} {i} {fs} {gs} {f} w h s e d v t = record {
     place = at_below p w.place h s e;
     within = omega (arith, ap length e, length-append trail (take 5 p), (front p h).0, ap length d, length-drop 5 p, w.within, h);
     fit = t.whole;
     room = omega (arith, t.count, w.room, s.smaller);
-    from = (λ j. under (e j) (where_key bits_cmp (is_from (d j) i) (entries c.0)) ++ (t.rest ∙ ap (λ es. es ++ walk_rest fs) v) j)
-        ∙ sym (append_assoc (under (trail ++ take 5 p) (where_key bits_cmp (is_from (drop 5 p) i) (entries c.0))) (under trail (where_key bits_cmp (is_past (take 5 p)) (entries n.0))) (walk_rest fs))
-        ∙ ap (λ es. es ++ under trail (where_key bits_cmp (is_past (take 5 p)) (entries n.0)) ++ walk_rest fs) (sym (under-under trail (take 5 p) (where_key bits_cmp (is_from (drop 5 p) i) (entries c.0))))
-        ∙ ap (λ es. es ++ walk_rest fs) (sym (under-append trail (under (take 5 p) (where_key bits_cmp (is_from (drop 5 p) i) (entries c.0))) (where_key bits_cmp (is_past (take 5 p)) (entries n.0))))
-        ∙ ap (λ es. under trail es ++ walk_rest fs) (sym (where_from p i n.0 c.0 h s.gets)) ∙ w.from;
+    from = (λ j. under (e j) (where_key bits_cmp (is_from (d j) i) (entries c.entries)) ++ (t.rest ∙ ap (λ es. es ++ walk_rest fs) v) j)
+        ∙ sym (append_assoc (under (trail ++ take 5 p) (where_key bits_cmp (is_from (drop 5 p) i) (entries c.entries))) (under trail (where_key bits_cmp (is_past (take 5 p)) (entries n.entries))) (walk_rest fs))
+        ∙ ap (λ es. es ++ under trail (where_key bits_cmp (is_past (take 5 p)) (entries n.entries)) ++ walk_rest fs) (sym (under-under trail (take 5 p) (where_key bits_cmp (is_from (drop 5 p) i) (entries c.entries))))
+        ∙ ap (λ es. es ++ walk_rest fs) (sym (under-append trail (under (take 5 p) (where_key bits_cmp (is_from (drop 5 p) i) (entries c.entries))) (where_key bits_cmp (is_past (take 5 p)) (entries n.entries))))
+        ∙ ap (λ es. under trail es ++ walk_rest fs) (sym (where_from p i n.entries c.entries h s.gets)) ∙ w.from;
   }
 
   pub onwards_none : {m n : Seen X} {q p trail : List Bool} {i : Bool} {fs gs : List (Left X)} {f : Left X} → IsOnwards m n q p trail i fs → 5 ≤ length p → HasNoChild p n
-      → f.0 ≡ under trail (where_key bits_cmp (is_past (take 5 p)) (entries n.0)) → IsTop gs fs f → walk_rest gs ≡ where_key bits_cmp (is_from q i) (entries m.0)
+      → f.0 ≡ under trail (where_key bits_cmp (is_past (take 5 p)) (entries n.entries)) → IsTop gs fs f → walk_rest gs ≡ where_key bits_cmp (is_from q i) (entries m.entries)
   onwards_none {m} {n} {q} {p} {trail} {i} {fs} {gs} {f} w h s v t =
-      let z = where_from p i n.0 empty h (λ r. s.gets r ∙ sym (get_none r)) ∙ ap (λ es. under (take 5 p) (where_key bits_cmp (is_from (drop 5 p) i) es) ++ where_key bits_cmp (is_past (take 5 p)) (entries n.0)) entries_none in
+      let z = where_from p i n.entries empty h (λ r. s.gets r ∙ sym (get_none r)) ∙ ap (λ es. under (take 5 p) (where_key bits_cmp (is_from (drop 5 p) i) es) ++ where_key bits_cmp (is_past (take 5 p)) (entries n.entries)) entries_none in
       t.rest ∙ ap (λ es. es ++ walk_rest fs) (v ∙ ap (under trail) (sym z)) ∙ w.from
 
   pub onwards_end : {m n : Seen X} {q p trail : List Bool} {i : Bool} {fs gs : List (Left X)} {f : Left X} → IsOnwards m n q p trail i fs
-      → f.0 ≡ under trail (where_key bits_cmp (is_from p i) (entries n.0)) → IsTop gs fs f → walk_rest gs ≡ where_key bits_cmp (is_from q i) (entries m.0)
+      → f.0 ≡ under trail (where_key bits_cmp (is_from p i) (entries n.entries)) → IsTop gs fs f → walk_rest gs ≡ where_key bits_cmp (is_from q i) (entries m.entries)
   onwards_end {fs = fs} w v t = t.rest ∙ ap (λ es. es ++ walk_rest fs) v ∙ w.from

@@ -5,12 +5,13 @@ use Rattle.std.specs.FinMap.{get, put, len, empty, find, get-empty, get-retain_k
 use Rattle.std.specs.FinMap as map
 use Rattle.std.specs.Ordering.{nat_cmp}
 use Rattle.std.proofs.lemmas.Bool.Decides.{nat_tests}
-use Rattle.trie_keys.specs.Bits.{bits_cmp, begins, child_of}
-use Rattle.trie_core.specs.Places.{at_places, child_list, IsUnset}
-use Rattle.trie_core.specs.Nodes.{BitSet, Seen, IsNode}
-use Rattle.trie_core.specs.Count.{marked, spare_set}
+use Rattle.trie_core.specs.Bits.{bits_cmp, begins}
+use Rattle.trie_core.specs.InnerPlaces.{child_of, at_places, child_list, IsUnset}
+use Rattle.trie_core.specs.Nodes.{BitSet, Seen}
+use Rattle.trie_core.specs.InnerNodes.{IsNode}
+use Rattle.trie_core.specs.InnerCount.{marked, spare_set}
 use Rattle.trie_core.specs.Ways.{off_way}
-use Rattle.trie_keys.proofs.Strings.{bits_total, bits_same, same, same-Decides, same_false, not_same}
+use Rattle.trie_core.proofs.Strings.{bits_total, bits_same, same, same-Decides, same_false, not_same}
 use Rattle.trie_core.proofs.Maps.{ListChanges}
 use Rattle.trie_core.proofs.Named.{is_node, child_put_in, child_found}
 use Rattle.trie_core.proofs.Taken.{IsTaken, missing}
@@ -61,30 +62,30 @@ module _ {X : Type 0} where
   set_off {cs = cs} q o n k h f g = same_map bits_total bits_same _ _ (λ x. set_off_by q o n k h f g x (nat_lt (length x) 5) refl ∙ sym (get-off (spare_set cs) q x))
 
   -- the marks of a child that got a key
-  marked_off : (q : List Bool) (v : X) (e d : Seen X) → d.0 ≡ map.insert e.0 q v → d.1 ≡ off_way e.1 q → (r : List Bool) → get (marked d) r ≡ cond (not (begins r q)) (get (marked e) r) None
-  marked_off q v e d f g [] = marked-root d ∙ root_if_some (len d.0) (spare_pos (len d.0) (spare_insert e.0 q v f))
-  marked_off q v e d f g (y ∷ ys) = marked-other d y ys ∙ ap (λ b. get b (y ∷ ys)) g ∙ get-off e.1 q (y ∷ ys) ∙ ap (λ o. cond (not (begins (y ∷ ys) q)) o None) (sym (marked-other e y ys))
+  marked_off : (q : List Bool) (v : X) (e d : Seen X) → d.entries ≡ map.insert e.entries q v → d.spares ≡ off_way e.spares q → (r : List Bool) → get (marked d) r ≡ cond (not (begins r q)) (get (marked e) r) None
+  marked_off q v e d f g [] = marked-root d ∙ root_if_some (len d.entries) (spare_pos (len d.entries) (spare_insert e.entries q v f))
+  marked_off q v e d f g (y ∷ ys) = marked-other d y ys ∙ ap (λ b. get b (y ∷ ys)) g ∙ get-off e.spares q (y ∷ ys) ∙ ap (λ o. cond (not (begins (y ∷ ys) q)) o None) (sym (marked-other e y ys))
 
   -- the marks of a new child with a key
-  marked_new : (q : List Bool) (v : X) (d : Seen X) → d.0 ≡ map.insert empty q v → d.1 ≡ empty → (r : List Bool) → get (marked d) r ≡ None
-  marked_new q v d f g [] = marked-root d ∙ root_if_some (len d.0) (spare_pos (len d.0) (spare_insert empty q v f))
+  marked_new : (q : List Bool) (v : X) (d : Seen X) → d.entries ≡ map.insert empty q v → d.spares ≡ empty → (r : List Bool) → get (marked d) r ≡ None
+  marked_new q v d f g [] = marked-root d ∙ root_if_some (len d.entries) (spare_pos (len d.entries) (spare_insert empty q v f))
   marked_new q v d f g (y ∷ ys) = marked-other d y ys ∙ ap (λ b. get b (y ∷ ys)) g ∙ get-empty bits_cmp (y ∷ ys)
 
   -- within the node no spare node is on the way
-  pub short_off : {vb : ℕ} {vs : List X} {cb : ℕ} {cs : List (Seen X)} {m : Seen X} (q : List Bool) → IsSeen vb vs cb cs m → length q < 5 → m.1 ≡ off_way m.1 q
-  short_off {m = m} q s h = same_map bits_total bits_same _ _ (λ x. short_by x (nat_lt (length x) 5) refl ∙ sym (get-off m.1 q x))
+  pub short_off : {vb : ℕ} {vs : List X} {cb : ℕ} {cs : List (Seen X)} {m : Seen X} (q : List Bool) → IsSeen vb vs cb cs m → length q < 5 → m.spares ≡ off_way m.spares q
+  short_off {m = m} q s h = same_map bits_total bits_same _ _ (λ x. short_by x (nat_lt (length x) 5) refl ∙ sym (get-off m.spares q x))
     where
-      short_by : (x : List Bool) (b : Bool) → nat_lt (length x) 5 ≡ b → get m.1 x ≡ cond (not (begins x q)) (get m.1 x) None
+      short_by : (x : List Bool) (b : Bool) → nat_lt (length x) 5 ≡ b → get m.spares x ≡ cond (not (begins x q)) (get m.spares x) None
       short_by x true e =
-          let z : get m.1 x ≡ None = ap (λ b. get b x) (sym s.spare) ∙ set-short s.node x (grind (arith, nat_tests)) in
+          let z : get m.spares x ≡ None = ap (λ b. get b x) (sym s.spare) ∙ set-short s.node x (grind (arith, nat_tests)) in
           z ∙ sym (ap (λ o. cond (not (begins x q)) o None) z ∙ no_choice (not (begins x q)))
       short_by x false e =
           let l : 5 ≤ length x = grind (arith, nat_tests) in
-          ap (λ b. cond (not b) (get m.1 x) None) (sym (begins_longer x q (omega (arith, l, h))))
+          ap (λ b. cond (not b) (get m.spares x) None) (sym (begins_longer x q (omega (arith, l, h))))
 
   -- in the child on the way, which is e and becomes d
-  pub below_off : {vb at : ℕ} {vs : List X} {cb : ℕ} {cs : List (Seen X)} {m : Seen X} (q : List Bool) (v : X) (e d : Seen X) → IsSeen vb vs cb cs m → 5 ≤ length q → IsTaken (child_of q) at cb cs → e ≡ get_or cs at e → d.0 ≡ map.insert e.0 (drop 5 q) v → d.1 ≡ off_way e.1 (drop 5 q)
-      → spare_set (child_list cb (set cs at d)) ≡ off_way m.1 q
+  pub below_off : {vb at : ℕ} {vs : List X} {cb : ℕ} {cs : List (Seen X)} {m : Seen X} (q : List Bool) (v : X) (e d : Seen X) → IsSeen vb vs cb cs m → 5 ≤ length q → IsTaken (child_of q) at cb cs → e ≡ get_or cs at e → d.entries ≡ map.insert e.entries (drop 5 q) v → d.spares ≡ off_way e.spares (drop 5 q)
+      → spare_set (child_list cb (set cs at d)) ≡ off_way m.spares q
   below_off {vb} {at} {vs} {cb} {cs} q v e d s h t r f g =
       set_off q (Some d) s.node (is_node vb vs cb (set cs at d) s.slots.values_below s.slots.children_below) h (child_put_in q d cb cb cs (set cs at d) h s.slots.children_below (t.written d))
       (λ x. marked_off (drop 5 q) v e d f g x ∙ ap (λ o. cond (not (begins x (drop 5 q))) (marked_get o x) None) (sym (was_found q e s h t r)))
@@ -92,7 +93,7 @@ module _ {X : Type 0} where
 
   -- with a new child, which is d
   pub hung_off : {vb n db : ℕ} {vs : List X} {cb : ℕ} {cs ls : List (Seen X)} {m : Seen X} (ds : List (Seen X)) (q : List Bool) (v : X) (d : Seen X) → IsSeen vb vs cb cs m → 5 ≤ length q → n ≡ child_of q → IsUnset n cb → ls ≡ cs → at_places 32 0 db ds ≡ put nat_cmp n d (at_places 32 0 cb ls) → db < 2 ^ 32
-      → d.0 ≡ map.insert empty (drop 5 q) v → d.1 ≡ empty → spare_set (child_list db ds) ≡ off_way m.1 q
+      → d.entries ≡ map.insert empty (drop 5 q) v → d.spares ≡ empty → spare_set (child_list db ds) ≡ off_way m.spares q
   hung_off {vb} {n} {db} {vs} {cb} {cs} {ls} ds q v d s h k u l e b f z =
       let w : at_places 32 0 db ds ≡ put nat_cmp (child_of q) d (at_places 32 0 cb cs) = e ∙ (λ i. put nat_cmp (k i) d (at_places 32 0 cb (l i))) in
       let none : find bits_cmp (take 5 q) (child_list cb cs) ≡ None = child_found q cb cs h s.slots.children_below ∙ sym (missing (child_of q) cb cs (subst (λ i. IsUnset i cb) k u)) in

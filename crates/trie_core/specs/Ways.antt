@@ -1,12 +1,8 @@
 -- What becomes of spare nodes on the way to a key, and of those off it.
 use Rattle.std.specs.Prelude.{◌%◌, ◌≤◌, ◌≡◌, ◌↔◌, ◌⊎◌, length, Bool, true, false, cond, not, List, ◌++◌, None, is_some}
 use Rattle.std.specs.FinMap.{get, retain_keys}
-use Rattle.trie_keys.specs.Bits.{begins}
+use Rattle.trie_core.specs.Bits.{begins}
 use Rattle.trie_core.specs.Nodes.{BitMap, BitSet}
-
--- each string has five bits or more
-abbrev pub AreBelow : BitSet → Type 0
-AreBelow b = (s : List Bool) → is_some (get b s) ≡ true → 5 ≤ length s
 
 -- the strings that do not begin q; q begins itself
 abbrev pub off_way : BitSet → List Bool → BitSet

@@ -3,16 +3,17 @@ ghost use Rattle.std.specs.Prelude.{◌≡◌, ◌≤◌, [], length, MatchOptio
 ghost use Rattle.std.specs.FinMap.{entries};
 ghost use Rattle.std.specs.FinMap.Entries.{where_key};
 ghost use Rattle.std.specs.Iterator.{YieldsFirstBy, item_count};
-ghost use Rattle.trie_keys.specs.Bits.{bits_cmp, begins};
-ghost use Rattle.trie_core.specs.Covers.{NoneFrom, IsFirstFrom};
-ghost use Rattle.trie_core.specs.Steps.{Stepped};
+ghost use Rattle.trie_core.specs.Bits.{bits_cmp, begins};
+ghost use Rattle.trie_core.specs.InnerCovers.{NoneFrom, IsFirstFrom};
+ghost use Rattle.trie_core.specs.InnerSteps.{Stepped};
 
 use crate::node::Node;
+use crate::path::Path;
 use crate::slots::{first_place, low_bits, taken_below};
+use crate::tables::{first_child, place_length};
 use crate::walk::Step;
 use std::alloc::AllocError;
 use std::marker::Model;
-use trie_keys::{Path, first_child, place_length};
 
 /// The entries that are left of those whose keys begin a path, by rising length: in the node that stands at the
 /// trail those from a place on, and those below it on what is left of the path.
@@ -27,7 +28,7 @@ pub struct Cover<'a, T> {
 impl<'a, T> Model for Cover<'a, T> {
     ghost use Rattle.std.specs.Prelude.{ℕ, List, Bool};
     ghost use Rattle.std.specs.Coded.{coded×, coded_ℕ, coded_list, coded_bool};
-    ghost use Rattle.trie_core.specs.Covers.{cover_rest, cover_weight, IsCover};
+    ghost use Rattle.trie_core.specs.InnerCovers.{cover_rest, cover_weight, IsCover};
 
     ghost Value = { List (List Bool × T) × ℕ };
 
@@ -41,7 +42,7 @@ impl<'a, T> Model for Cover<'a, T> {
 /// The first place, from this one on, at which a beginning of the path is a key of the node, and its value.
 fn beginning_from<'a, T>(node: &'a Node<T>, path: &Path, place: u8) -> Option<(u8, &'a T)>
     requires { place ≤ 31 }
-    ensures { MatchOption result (NoneFrom node.now.0 path.now place) (λ r. IsFirstFrom node.now.0 path.now place r.0 r.1.now) }
+    ensures { MatchOption result (NoneFrom node.now.entries path.now place) (λ r. IsFirstFrom node.now.entries path.now place r.0 r.1.now) }
 {
     let met = node.value_bits & path.beginnings();
     let found = met - low_bits(met, place);
@@ -57,7 +58,7 @@ impl<'a, T> Cover<'a, T> {
     /// The entries of a node whose keys begin a path, itself included.
     pub fn new(node: &'a Node<T>, path: Path) -> Cover<'a, T>
         requires { length path ≤ 128 }
-        ensures { result.0 ≡ where_key bits_cmp (λ k. begins k path) (entries node.now.0) }
+        ensures { result.0 ≡ where_key bits_cmp (λ k. begins k path) (entries node.now.entries) }
     {
         Cover {
             node: Some(node),

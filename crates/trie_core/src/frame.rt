@@ -2,18 +2,19 @@
 ghost use Rattle.std.specs.Prelude.{◌≡◌, ◌+◌, ◌-◌, ◌*◌, ◌<◌, ◌≤◌, ◌^◌, List, Bool, length, take, MatchOption, ⊤};
 ghost use Rattle.std.specs.FinMap.{entries};
 ghost use Rattle.std.specs.FinMap.Entries.{where_key};
-ghost use Rattle.trie_keys.specs.Bits.{bits_cmp, begins, place_of, child_of, is_past, is_from};
-ghost use Rattle.trie_core.specs.Places.{IsFirstPlace};
-ghost use Rattle.trie_core.specs.Nodes.{under};
-ghost use Rattle.trie_core.specs.Walks.{KeysWithin};
-ghost use Rattle.trie_core.specs.Frames.{is_open, place_first, open_weight};
-ghost use Rattle.trie_core.specs.Steps.{GivesNext};
+ghost use Rattle.trie_core.specs.Bits.{bits_cmp, begins, is_from};
+ghost use Rattle.trie_core.specs.InnerPlaces.{place_of, child_of, IsFirstPlace};
+ghost use Rattle.trie_core.specs.InnerWalks.{is_past, KeysWithin};
+ghost use Rattle.trie_core.specs.InnerNodes.{under};
+ghost use Rattle.trie_core.specs.InnerFrames.{is_open, place_first, open_weight};
+ghost use Rattle.trie_core.specs.InnerSteps.{GivesNext};
 
 use crate::node::Node;
+use crate::path::Path;
 use crate::slots::{first_place, taken_below};
+use crate::tables::{bit, first_child, place_length};
 use std::alloc::AllocError;
 use std::marker::Model;
-use trie_keys::{Path, bit, first_child, place_length};
 
 /// What stands in a node at the places that are open: a word of them for its values, and one for its children.
 #[derive(Drop)]
@@ -25,8 +26,8 @@ pub(crate) struct Frame<'a, T> {
 
 impl<'a, T> Model for Frame<'a, T> {
     ghost use Rattle.std.specs.Prelude.{◌<◌, MatchOption, ⊤};
-    ghost use Rattle.trie_core.specs.Walks.{Left, left_code};
-    ghost use Rattle.trie_core.specs.Frames.{frame_rest, frame_levels, frame_weight};
+    ghost use Rattle.trie_core.specs.InnerWalks.{Left, left_code};
+    ghost use Rattle.trie_core.specs.InnerFrames.{frame_rest, frame_levels, frame_weight};
 
     ghost Value = { Left T };
 
@@ -34,7 +35,7 @@ impl<'a, T> Model for Frame<'a, T> {
 
     ghost view = { λ a. (frame_rest a.node a.values a.children, frame_levels a.node, frame_weight a.node a.children) };
 
-    ghost invariant = { λ a. MatchOption a.node ⊤ (λ m. 0 < m.now.2) };
+    ghost invariant = { λ a. MatchOption a.node ⊤ (λ m. 0 < m.now.levels) };
 }
 
 impl<'a, T> Clone for Frame<'a, T> {
@@ -116,8 +117,8 @@ impl<'a, T> Frame<'a, T> {
     /// What stands in a node at some places.
     #[inline]
     fn open(node: &'a Node<T>, values: u32, children: u32) -> Frame<'a, T>
-        ensures rest { result.0 ≡ where_key bits_cmp (is_open values children) (entries node.now.0) }
-        ensures levels { result.1 ≡ node.now.2 }
+        ensures rest { result.0 ≡ where_key bits_cmp (is_open values children) (entries node.now.entries) }
+        ensures levels { result.1 ≡ node.now.levels }
         ensures positive { 0 < result.1 }
         ensures weight { result.2 ≡ open_weight node.now children }
     {
@@ -133,8 +134,8 @@ impl<'a, T> Frame<'a, T> {
     /// All of a node.
     #[inline]
     pub(crate) fn whole(node: &'a Node<T>) -> Frame<'a, T>
-        ensures rest { result.0 ≡ entries node.now.0 }
-        ensures levels { result.1 ≡ node.now.2 }
+        ensures rest { result.0 ≡ entries node.now.entries }
+        ensures levels { result.1 ≡ node.now.levels }
         ensures positive { 0 < result.1 }
         ensures weight { result.2 ≡ open_weight node.now (2 ^ 32 - 1) }
     {
@@ -144,8 +145,8 @@ impl<'a, T> Frame<'a, T> {
     /// Of a node the keys that begin with a string of fewer than five bits.
     pub(crate) fn inside(node: &'a Node<T>, path: &Path) -> Frame<'a, T>
         requires short { length path.now < 5 }
-        ensures rest { result.0 ≡ where_key bits_cmp (begins path.now) (entries node.now.0) }
-        ensures levels { result.1 ≤ node.now.2 }
+        ensures rest { result.0 ≡ where_key bits_cmp (begins path.now) (entries node.now.entries) }
+        ensures levels { result.1 ≤ node.now.levels }
         ensures positive { 0 < result.1 }
     {
         let (len, place, child) = (path.len(), path.place(), path.five());
@@ -157,8 +158,8 @@ impl<'a, T> Frame<'a, T> {
     /// Of a node the keys that come after all that begin with the first five bits of a path.
     pub(crate) fn past(node: &'a Node<T>, path: &Path) -> Frame<'a, T>
         requires long { 5 ≤ length path.now }
-        ensures rest { result.0 ≡ where_key bits_cmp (is_past (take 5 path.now)) (entries node.now.0) }
-        ensures levels { result.1 ≤ node.now.2 }
+        ensures rest { result.0 ≡ where_key bits_cmp (is_past (take 5 path.now)) (entries node.now.entries) }
+        ensures levels { result.1 ≤ node.now.levels }
         ensures positive { 0 < result.1 }
     {
         let five = path.five();
@@ -170,8 +171,8 @@ impl<'a, T> Frame<'a, T> {
     /// Of a node the keys from a string of fewer than five bits on: those that come after it, and itself where asked.
     pub(crate) fn onwards(node: &'a Node<T>, path: &Path, inclusive: bool) -> Frame<'a, T>
         requires short { length path.now < 5 }
-        ensures rest { result.0 ≡ where_key bits_cmp (is_from path.now inclusive) (entries node.now.0) }
-        ensures levels { result.1 ≤ node.now.2 }
+        ensures rest { result.0 ≡ where_key bits_cmp (is_from path.now inclusive) (entries node.now.entries) }
+        ensures levels { result.1 ≤ node.now.levels }
         ensures positive { 0 < result.1 }
     {
         let place = path.place();

@@ -3,12 +3,12 @@ ghost use Rattle.std.specs.Prelude.{◌≡◌, ℕ, ◌+◌, ◌*◌, ◌<◌, �
 ghost use Rattle.std.specs.Borrow.{sem};
 ghost use Rattle.std.specs.Option.{IsSome};
 ghost use Rattle.std.specs.FinMap as map;
-ghost use Rattle.trie_core.specs.Lending.{lends_value};
+ghost use Rattle.trie_core.specs.InnerLending.{node_lends};
 
 use crate::node::Node;
+use crate::path::Path;
 use crate::slots::slot;
 use std::marker::PhantomData;
-use trie_keys::Path;
 
 /// A way down a node with as many steps as the type says. What a recursion or a loop lends is not proved; a type for each depth is.
 pub(crate) trait Descent {
@@ -16,9 +16,9 @@ pub(crate) trait Descent {
 
     fn value_mut<'a, T>(node: &'a mut Node<T>, path: &Path) -> &'a mut T
         requires within { length path.now < 5 * levels + 5 }
-        requires stored { IsSome (map.get node.old.0 path.now) }
-        ensures* writes_back { sem 𝓛 (lends_value T.row node.entry path.now result) }
-        ensures value { map.get node.old.0 path.now ≡ Some result.now };
+        requires stored { IsSome (map.get node.old.entries path.now) }
+        ensures* writes_back { sem 𝓛 (node_lends T.row node.entry path.now result) }
+        ensures value { map.get node.old.entries path.now ≡ Some result.now };
 }
 
 /// The node itself.
@@ -61,9 +61,9 @@ impl<T> Node<T> {
     /// Lends the value at a key that it has; what is written there is the value of that key from then on.
     pub fn value_mut(&mut self, path: &Path) -> &mut T
         requires within { length path.now ≤ 128 }
-        requires stored { IsSome (map.get self.old.0 path.now) }
-        ensures* writes_back { sem 𝓛 (lends_value T.row self.entry path.now result) }
-        ensures value { map.get self.old.0 path.now ≡ Some result.now }
+        requires stored { IsSome (map.get self.old.entries path.now) }
+        ensures* writes_back { sem 𝓛 (node_lends T.row self.entry path.now result) }
+        ensures value { map.get self.old.entries path.now ≡ Some result.now }
     {
         Whole::value_mut(self, path)
     }
@@ -71,9 +71,9 @@ impl<T> Node<T> {
     /// The value at a stored key of fewer than five bits.
     fn value_here(&mut self, path: &Path) -> &mut T
         requires short { length path.now < 5 }
-        requires stored { IsSome (map.get self.old.0 path.now) }
-        ensures* writes_back { sem 𝓛 (lends_value T.row self.entry path.now result) }
-        ensures value { map.get self.old.0 path.now ≡ Some result.now }
+        requires stored { IsSome (map.get self.old.entries path.now) }
+        ensures* writes_back { sem 𝓛 (node_lends T.row self.entry path.now result) }
+        ensures value { map.get self.old.entries path.now ≡ Some result.now }
     {
         let Some(at) = slot(self.value_bits, path.place()) else {
             unreachable!()

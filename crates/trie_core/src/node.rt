@@ -2,17 +2,20 @@
 ghost use Rattle.std.specs.Prelude.{◌≡◌, ◌+◌, ◌*◌, ◌/◌, ◌<◌, ◌≤◌, ◌^◌, length, None, Some, IfOk, IfErr, OnErr, OnOk, IsTrue, ◌↔◌, MatchOption, max, count_ones};
 ghost use Rattle.std.specs.Option.{IsSome, option_copied};
 ghost use Rattle.std.specs.FinMap as map;
-ghost use Rattle.trie_core.specs.Nodes.{HasSlots};
-ghost use Rattle.trie_core.specs.Count.{all_nodes, spares, visit_count, node_visits};
+ghost use Rattle.trie_core.specs.InnerNodes.{HasSlots};
+ghost use Rattle.trie_core.specs.InnerCount.{all_nodes, spare_count};
+ghost use Rattle.trie_core.specs.Count.{visit_count, node_visits};
 ghost use Rattle.trie_core.specs.Ways.{off_way, IsPruned, IsKept};
-ghost use Rattle.trie_core.specs.Search.{IsChild, HasNoChild, NoneBelow, IsLongestBelow, NoBeginning, IsLongest, IsShortest};
+ghost use Rattle.trie_core.specs.InnerSearch.{IsChild, HasNoChild, NoneBelow, IsLongestBelow};
+ghost use Rattle.trie_core.specs.Search.{NoBeginning, IsLongest, IsShortest};
 
+use crate::path::Path;
 use crate::slots::{
     first_place, get_at, last_place, put_at, reserve_one, slot, take_at, taken_below,
 };
+use crate::tables::{bit, place_length};
 use std::alloc::Global;
 use std::marker::Model;
-use trie_keys::{Path, bit, place_length};
 
 /// A finite map from bit strings to values, and the bit strings at which spare nodes stand, which lead to no entry.
 #[derive(Drop)]
@@ -24,23 +27,23 @@ pub struct Node<T> {
 }
 
 impl<T> Model for Node<T> {
-    ghost use Rattle.std.specs.Prelude.{ℕ, ◌+◌};
-    ghost use Rattle.std.specs.FinMap as map;
+    ghost use Rattle.std.specs.Prelude.{◌+◌};
     ghost use Rattle.std.proofs.Common.{arith};
-    ghost use Rattle.trie_keys.specs.Bits.{bits_cmp};
-    ghost use Rattle.trie_core.specs.Places.{value_list, child_list};
-    ghost use Rattle.trie_core.specs.Nodes.{node_map, node_height, HasSlots, code, most_le-node_height};
-    ghost use Rattle.trie_core.specs.Count.{spare_set};
+    ghost use Rattle.trie_core.specs.InnerPlaces.{value_list, child_list};
+    ghost use Rattle.trie_core.specs.Nodes.{Seen, code};
+    ghost use Rattle.trie_core.specs.InnerNodes.{node_map, node_height, HasSlots};
+    ghost use Rattle.trie_core.specs.InnerHeights.{most_le-node_height};
+    ghost use Rattle.trie_core.specs.InnerCount.{spare_set};
 
-    ghost Value = { map.FinMap bits_cmp T × map.FinMap bits_cmp (Unit {0}) × ℕ };
+    ghost Value = { Seen T };
 
     ghost coded = { code T.code };
 
-    ghost view = { λ a. (node_map (value_list a.value_bits a.values.items) (child_list a.child_bits a.children.items), spare_set (child_list a.child_bits a.children.items), node_height a.children.items + 1) };
+    ghost view = { λ a. record { entries = node_map (value_list a.value_bits a.values.items) (child_list a.child_bits a.children.items); spares = spare_set (child_list a.child_bits a.children.items); levels = node_height a.children.items + 1 } };
 
     ghost invariant = { λ a. HasSlots a.value_bits a.values.items a.child_bits a.children.items };
 
-    ghost size = { λ s. s.2 };
+    ghost size = { λ s. s.levels };
 
     ghost size_decreases = { λ a h. most_le-node_height _ (λ c. Prim.omega arith) a.children.items };
 }
@@ -77,9 +80,9 @@ fn in_byte<'a, T>(best: Option<(usize, &'a T)>) -> Option<(u8, &'a T)>
 impl<T> Node<T> {
     /// The node of the empty map.
     pub fn new(alloc: Global) -> Node<T>
-        ensures map { result.0 ≡ map.empty }
-        ensures spares { result.1 ≡ map.empty }
-        ensures levels { result.2 ≡ 1 }
+        ensures map { result.entries ≡ map.empty }
+        ensures spares { result.spares ≡ map.empty }
+        ensures levels { result.levels ≡ 1 }
     {
         Node {
             value_bits: 0,
@@ -93,7 +96,7 @@ impl<T> Node<T> {
     #[inline]
     fn value(&self, path: &Path) -> Option<&T>
         requires { length path.now < 5 }
-        ensures { option_copied result ≡ map.get self.now.0 path.now }
+        ensures { option_copied result ≡ map.get self.now.entries path.now }
     {
         get_at(self.value_bits, self.values.as_slice(), path.place())
     }
@@ -109,7 +112,7 @@ impl<T> Node<T> {
 
     /// The value at the path.
     pub fn get(&self, path: Path) -> Option<&T>
-        ensures { option_copied result ≡ map.get self.now.0 path }
+        ensures { option_copied result ≡ map.get self.now.entries path }
     {
         let mut node = self;
         let mut path = path;
@@ -126,7 +129,7 @@ impl<T> Node<T> {
     /// The longest beginning of the path of fewer than five bits that is a key.
     #[inline]
     fn longest_here(&self, path: &Path) -> Option<(u8, &T)>
-        ensures { MatchOption result (NoneBelow self.now.0 path.now 5) (λ r. IsLongestBelow self.now.0 path.now 5 r.0 r.1.now) }
+        ensures { MatchOption result (NoneBelow self.now.entries path.now 5) (λ r. IsLongestBelow self.now.entries path.now 5 r.0 r.1.now) }
     {
         let found = self.value_bits & path.beginnings();
         if found == 0 {
@@ -140,7 +143,7 @@ impl<T> Node<T> {
     /// The shortest beginning of the path of fewer than five bits that is a key.
     #[inline]
     fn shortest_here(&self, path: &Path) -> Option<(u8, &T)>
-        ensures { MatchOption result (NoneBelow self.now.0 path.now 5) (λ r. (r.0 < 5) × IsShortest self.now.0 path.now r.0 r.1.now) }
+        ensures { MatchOption result (NoneBelow self.now.entries path.now 5) (λ r. (r.0 < 5) × IsShortest self.now.entries path.now r.0 r.1.now) }
     {
         let found = self.value_bits & path.beginnings();
         if found == 0 {
@@ -154,7 +157,7 @@ impl<T> Node<T> {
     /// The longest beginning of the path that is a key, the path itself included.
     pub fn longest(&self, path: Path) -> Option<(u8, &T)>
         requires { length path ≤ 128 }
-        ensures { MatchOption result (NoBeginning self.now.0 path) (λ r. IsLongest self.now.0 path r.0 r.1.now) }
+        ensures { MatchOption result (NoBeginning self.now.entries path) (λ r. IsLongest self.now.entries path r.0 r.1.now) }
     {
         let mut node = self;
         let mut path = path;
@@ -175,7 +178,7 @@ impl<T> Node<T> {
     /// The shortest beginning of the path that is a key, the path itself included.
     pub fn shortest(&self, path: Path) -> Option<(u8, &T)>
         requires { length path ≤ 128 }
-        ensures { MatchOption result (NoBeginning self.now.0 path) (λ r. IsShortest self.now.0 path r.0 r.1.now) }
+        ensures { MatchOption result (NoBeginning self.now.entries path) (λ r. IsShortest self.now.entries path r.0 r.1.now) }
     {
         let mut node = self;
         let mut path = path;
@@ -198,8 +201,8 @@ impl<T> Node<T> {
     pub fn visits(&self, path: Path) -> u8
         requires { length path ≤ 128 }
         ensures bound { result ≤ length path / 5 + 1 }
-        ensures all { result ≡ node_visits self.now path }
-        ensures tidy { self.now.1 ≡ map.empty → result ≡ visit_count self.now.0 path }
+        ensures all { result ≡ node_visits self.now.entries self.now.spares path }
+        ensures tidy { self.now.spares ≡ map.empty → result ≡ visit_count self.now.entries path }
     {
         let mut node = self;
         let mut path = path;
@@ -217,7 +220,7 @@ impl<T> Node<T> {
 
     /// Whether it has neither values nor children.
     pub fn is_bare(&self) -> bool
-        ensures bare { IsTrue result ↔ ((self.now.0 ≡ map.empty) × (spares self.now ≡ 0)) }
+        ensures bare { IsTrue result ↔ ((self.now.entries ≡ map.empty) × (spare_count self.now ≡ 0)) }
         ensures count { IsTrue result → all_nodes self.now ≡ 1 }
     {
         self.value_bits == 0 && self.child_bits == 0
@@ -236,15 +239,15 @@ impl<T: Drop> Node<T> {
         may_grow: bool,
         room: usize,
     ) -> Result<(Option<T>, usize), T>
-        ensures old { IfOk result (λ r. r.0 ≡ map.get self.old.0 path) }
-        ensures map { OnOk result (self.new.0 ≡ map.insert self.old.0 path value) }
-        ensures spares { OnOk result (self.new.1 ≡ off_way self.old.1 path) }
+        ensures old { IfOk result (λ r. r.0 ≡ map.get self.old.entries path) }
+        ensures map { OnOk result (self.new.entries ≡ map.insert self.old.entries path value) }
+        ensures spares { OnOk result (self.new.spares ≡ off_way self.old.spares path) }
         ensures count { IfOk result (λ r. all_nodes self.new ≡ all_nodes self.old + r.1) }
-        ensures levels { OnOk result (self.new.2 ≤ max self.old.2 (length path / 5 + 1)) }
+        ensures levels { OnOk result (self.new.levels ≤ max self.old.levels (length path / 5 + 1)) }
         ensures within { IfOk result (λ r. r.1 ≤ room) }
         ensures grows { IfOk result (λ r. r.0 ≡ None → IsTrue may_grow) }
         ensures unchanged { OnErr result (self.new ≡ self.old) }
-        ensures absent { OnErr result (map.get self.old.0 path ≡ None) }
+        ensures absent { OnErr result (map.get self.old.entries path ≡ None) }
         ensures value_returned { IfErr result (λ v. v ≡ value) }
     {
         if path.is_short() {
@@ -285,11 +288,11 @@ impl<T: Drop> Node<T> {
     /// Answers the value and how many nodes went.
     pub fn remove(&mut self, path: Path) -> (Option<T>, u8)
         requires { length path ≤ 128 }
-        ensures value { result.0 ≡ map.get self.old.0 path }
-        ensures map { self.new.0 ≡ map.remove self.old.0 path }
-        ensures spares { IsPruned path self.old.1 self.new.0 self.new.1 }
+        ensures value { result.0 ≡ map.get self.old.entries path }
+        ensures map { self.new.entries ≡ map.remove self.old.entries path }
+        ensures spares { IsPruned path self.old.spares self.new.entries self.new.spares }
         ensures count { all_nodes self.new + result.1 ≡ all_nodes self.old }
-        ensures levels { self.new.2 ≤ self.old.2 }
+        ensures levels { self.new.levels ≤ self.old.levels }
         ensures within { 5 * result.1 ≤ length path }
     {
         if path.is_short() {
@@ -315,11 +318,11 @@ impl<T: Drop> Node<T> {
 
     /// Takes the entry out, and leaves every node.
     pub fn remove_keep_tree(&mut self, path: Path) -> Option<T>
-        ensures value { result ≡ map.get self.old.0 path }
-        ensures map { self.new.0 ≡ map.remove self.old.0 path }
-        ensures spares { IsKept path self.old.0 self.old.1 self.new.0 self.new.1 }
+        ensures value { result ≡ map.get self.old.entries path }
+        ensures map { self.new.entries ≡ map.remove self.old.entries path }
+        ensures spares { IsKept path self.old.entries self.old.spares self.new.entries self.new.spares }
         ensures count { all_nodes self.new ≡ all_nodes self.old }
-        ensures levels { self.new.2 ≤ self.old.2 }
+        ensures levels { self.new.levels ≤ self.old.levels }
     {
         if path.is_short() {
             return take_at(&mut self.value_bits, &mut self.values, path.place());

@@ -4,20 +4,21 @@ ghost use Rattle.std.specs.Ordering.{nat_cmp};
 ghost use Rattle.std.specs.FinMap.{entries};
 ghost use Rattle.std.specs.FinMap.Entries.{where_key};
 ghost use Rattle.std.specs.Iterator.{YieldsFirst, item_count};
-ghost use Rattle.trie_keys.specs.Bits.{bits_cmp, begins, place_string, child_string};
-ghost use Rattle.trie_core.specs.Held.{held};
-ghost use Rattle.trie_core.specs.Places.{placed, first_place_of, named, AllBelow};
-ghost use Rattle.trie_core.specs.Nodes.{under};
-ghost use Rattle.trie_core.specs.Search.{IsChild, HasNoChild};
-ghost use Rattle.trie_core.specs.Walks.{first_value, KeysWithin, AreParts};
-ghost use Rattle.trie_core.specs.Owned.{GivesOwned, SteppedOwned};
+ghost use Rattle.trie_core.specs.Bits.{bits_cmp, begins};
+ghost use Rattle.trie_core.specs.InnerPlaces.{place_string, child_string, placed, first_place_of, named, AllBelow};
+ghost use Rattle.trie_core.specs.InnerHeld.{held};
+ghost use Rattle.trie_core.specs.InnerNodes.{under};
+ghost use Rattle.trie_core.specs.InnerSearch.{IsChild, HasNoChild};
+ghost use Rattle.trie_core.specs.InnerWalks.{first_value, KeysWithin, AreParts};
+ghost use Rattle.trie_core.specs.InnerOwned.{GivesNextOwned, SteppedOwned};
 
 use crate::node::Node;
+use crate::path::Path;
 use crate::slots::{first_place, low_bits, slot};
+use crate::tables::{bit, first_child, place_length};
 use arrayvec::ArrayVec;
 use std::marker::Model;
 use std::vec::IntoIter;
-use trie_keys::{Path, bit, first_child, place_length};
 
 /// Things that are left at places below 32: a word says which places are taken, and the things come in their order.
 #[derive(Drop)]
@@ -28,8 +29,8 @@ struct Places<X> {
 
 impl<X> Model for Places<X> {
     ghost use Rattle.std.specs.Prelude.{List, ℕ, ◌≡◌, length, count_ones};
-    ghost use Rattle.trie_core.specs.Held.{held};
-    ghost use Rattle.trie_core.specs.Places.{placed};
+    ghost use Rattle.trie_core.specs.InnerHeld.{held};
+    ghost use Rattle.trie_core.specs.InnerPlaces.{placed};
 
     ghost Value = { List (ℕ × X) };
 
@@ -153,7 +154,7 @@ struct Frame<T> {
 
 impl<T> Model for Frame<T> {
     ghost use Rattle.std.specs.Prelude.{◌+◌, ◌*◌};
-    ghost use Rattle.trie_core.specs.Walks.{part_rest, levels_of, nodes_of, IsFrame, Left, left_code};
+    ghost use Rattle.trie_core.specs.InnerWalks.{part_rest, levels_of, nodes_of, IsFrame, Left, left_code};
 
     ghost Value = { Left T };
 
@@ -230,10 +231,10 @@ fn value_first<X, Y>(values: &Places<X>, children: &Places<Y>) -> bool
 impl<T: Drop> Frame<T> {
     /// All of a node.
     fn whole(node: Node<T>, trail: Path) -> Frame<T>
-        requires levels { length trail + 5 * node.2 ≤ 130 }
-        requires keys { KeysWithin 128 (under trail (entries node.0)) }
-        ensures rest { result.0 ≡ under trail (entries node.0) }
-        ensures levels { result.1 ≡ node.2 }
+        requires levels { length trail + 5 * node.levels ≤ 130 }
+        requires keys { KeysWithin 128 (under trail (entries node.entries)) }
+        ensures rest { result.0 ≡ under trail (entries node.entries) }
+        ensures levels { result.1 ≡ node.levels }
     {
         let (values, children) = parts(node);
         Frame {
@@ -246,10 +247,10 @@ impl<T: Drop> Frame<T> {
     /// Of a node the keys that begin with a string of fewer than five bits. The others are dropped.
     fn inside(node: Node<T>, path: &Path, trail: Path) -> Frame<T>
         requires short { length path.now < 5 }
-        requires levels { length trail + 5 * node.2 ≤ 130 }
-        requires keys { KeysWithin 128 (under trail (entries node.0)) }
-        ensures rest { result.0 ≡ under trail (where_key bits_cmp (begins path.now) (entries node.0)) }
-        ensures levels { result.1 ≤ node.2 }
+        requires levels { length trail + 5 * node.levels ≤ 130 }
+        requires keys { KeysWithin 128 (under trail (entries node.entries)) }
+        ensures rest { result.0 ≡ under trail (where_key bits_cmp (begins path.now) (entries node.entries)) }
+        ensures levels { result.1 ≤ node.levels }
     {
         let (values, children) = parts(node);
         let (len, place, child) = (path.len(), path.place(), path.five());
@@ -262,7 +263,7 @@ impl<T: Drop> Frame<T> {
 
     /// Takes out what stands first.
     fn next(&mut self) -> Next<T>
-        ensures next { GivesOwned self.old result self.new }
+        ensures next { GivesNextOwned self.old result self.new }
         ensures levels { 0 < self.new.1 }
     {
         if value_first(&self.values, &self.children) {
@@ -293,7 +294,7 @@ pub struct OwnedWalk<T> {
 impl<T> Model for OwnedWalk<T> {
     ghost use Rattle.std.specs.Prelude.{ℕ, List, Bool};
     ghost use Rattle.std.specs.Coded.{coded×, coded_ℕ, coded_list, coded_bool};
-    ghost use Rattle.trie_core.specs.Walks.{walk_rest, walk_weight, FitFrom};
+    ghost use Rattle.trie_core.specs.InnerWalks.{walk_rest, walk_weight, FitFrom};
 
     ghost Value = { List (List Bool × T) × ℕ };
 
@@ -325,9 +326,9 @@ impl<T: Drop> OwnedWalk<T> {
 
     /// The entries of a node.
     pub fn new(node: Node<T>) -> OwnedWalk<T>
-        requires levels { node.2 ≤ 26 }
-        requires keys { KeysWithin 128 (entries node.0) }
-        ensures { result.0 ≡ entries node.0 }
+        requires levels { node.levels ≤ 26 }
+        requires keys { KeysWithin 128 (entries node.entries) }
+        ensures { result.0 ≡ entries node.entries }
     {
         OwnedWalk::start(Frame::whole(node, Path::new(0, 0)))
     }
@@ -335,9 +336,9 @@ impl<T: Drop> OwnedWalk<T> {
     /// The entries whose keys begin with a path, itself included. The others are dropped.
     pub fn inside(node: Node<T>, path: Path) -> OwnedWalk<T>
         requires within { length path ≤ 128 }
-        requires levels { node.2 ≤ 26 }
-        requires keys { KeysWithin 128 (entries node.0) }
-        ensures { result.0 ≡ where_key bits_cmp (begins path) (entries node.0) }
+        requires levels { node.levels ≤ 26 }
+        requires keys { KeysWithin 128 (entries node.entries) }
+        ensures { result.0 ≡ where_key bits_cmp (begins path) (entries node.entries) }
     {
         let mut node = node;
         let mut path = path;

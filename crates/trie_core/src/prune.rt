@@ -1,20 +1,22 @@
 //! Many entries at once, taken out.
 ghost use Rattle.std.specs.Prelude.{◌≡◌, ◌+◌, ◌<◌, ◌≤◌, ◌^◌, length, cond};
 ghost use Rattle.std.specs.FinMap as map;
-ghost use Rattle.trie_core.specs.Count.{all_nodes};
-ghost use Rattle.trie_core.specs.Ways.{AreBelow, IsCut};
+ghost use Rattle.trie_core.specs.InnerCount.{all_nodes};
+ghost use Rattle.trie_core.specs.InnerNodes.{AreBelow};
+ghost use Rattle.trie_core.specs.Ways.{IsCut};
 ghost use Rattle.trie_core.specs.Inside.{outside};
 
 use crate::node::Node;
+use crate::path::Path;
 use crate::slots::{slot, take_at};
-use trie_keys::{Path, bit};
+use crate::tables::bit;
 
 impl<T> Node<T> {
     /// How many entries and how many nodes it has.
     pub(crate) fn counts(&self) -> (usize, usize)
-        requires entries { map.len self.now.0 < 2 ^ 64 }
+        requires entries { map.len self.now.entries < 2 ^ 64 }
         requires nodes { all_nodes self.now < 2 ^ 64 }
-        ensures entries { result.0 ≡ map.len self.now.0 }
+        ensures entries { result.0 ≡ map.len self.now.entries }
         ensures nodes { result.1 ≡ all_nodes self.now }
     {
         let mut entries = self.values.len();
@@ -31,9 +33,9 @@ impl<T> Node<T> {
 impl<T: Drop> Node<T> {
     /// Takes out everything.
     pub fn clear(&mut self)
-        ensures map { self.new.0 ≡ map.empty }
-        ensures spares { self.new.1 ≡ map.empty }
-        ensures levels { self.new.2 ≡ 1 }
+        ensures map { self.new.entries ≡ map.empty }
+        ensures spares { self.new.spares ≡ map.empty }
+        ensures levels { self.new.levels ≡ 1 }
     {
         let alloc = *self.children.allocator();
         *self = Node::new(alloc);
@@ -42,14 +44,14 @@ impl<T: Drop> Node<T> {
     /// Takes out the child below five bits. Answers how many entries and how many nodes went with it.
     fn take_child(&mut self, path: &Path) -> (usize, usize)
         requires five { length path.now ≡ 5 }
-        requires entries { map.len self.old.0 < 2 ^ 64 }
+        requires entries { map.len self.old.entries < 2 ^ 64 }
         requires nodes { all_nodes self.old < 2 ^ 64 }
-        ensures map { self.new.0 ≡ outside self.old.0 path.now }
-        ensures entries { map.len self.new.0 + result.0 ≡ map.len self.old.0 }
+        ensures map { self.new.entries ≡ outside self.old.entries path.now }
+        ensures entries { map.len self.new.entries + result.0 ≡ map.len self.old.entries }
         ensures count { all_nodes self.new + result.1 ≡ all_nodes self.old }
-        ensures spares { self.new.1 ≡ outside self.old.1 path.now }
-        ensures below { AreBelow self.new.1 }
-        ensures levels { self.new.2 ≤ self.old.2 }
+        ensures spares { self.new.spares ≡ outside self.old.spares path.now }
+        ensures below { AreBelow self.new.spares }
+        ensures levels { self.new.levels ≤ self.old.levels }
     {
         let number = path.five();
         match slot(self.child_bits, number) {
@@ -66,14 +68,14 @@ impl<T: Drop> Node<T> {
     /// Answers how many entries and how many nodes went.
     fn take_inside(&mut self, path: &Path) -> (usize, usize)
         requires short { length path.now ≤ 5 }
-        requires entries { map.len self.old.0 < 2 ^ 64 }
+        requires entries { map.len self.old.entries < 2 ^ 64 }
         requires nodes { all_nodes self.old < 2 ^ 64 }
-        ensures map { self.new.0 ≡ outside self.old.0 path.now }
-        ensures entries { map.len self.new.0 + result.0 ≡ map.len self.old.0 }
+        ensures map { self.new.entries ≡ outside self.old.entries path.now }
+        ensures entries { map.len self.new.entries + result.0 ≡ map.len self.old.entries }
         ensures count { all_nodes self.new + result.1 ≡ all_nodes self.old }
-        ensures spares { self.new.1 ≡ outside self.old.1 path.now }
-        ensures below { AreBelow self.new.1 }
-        ensures levels { self.new.2 ≤ self.old.2 }
+        ensures spares { self.new.spares ≡ outside self.old.spares path.now }
+        ensures below { AreBelow self.new.spares }
+        ensures levels { self.new.levels ≤ self.old.levels }
     {
         if !path.is_short() {
             return self.take_child(path);
@@ -87,11 +89,11 @@ impl<T: Drop> Node<T> {
     /// Takes out the value at a string of fewer than five bits. Answers whether there was one.
     fn take_value(&mut self, path: &Path) -> bool
         requires { length path.now < 5 }
-        ensures map { self.new.0 ≡ map.remove self.old.0 path.now }
-        ensures entries { map.len self.new.0 + cond result 1 0 ≡ map.len self.old.0 }
+        ensures map { self.new.entries ≡ map.remove self.old.entries path.now }
+        ensures entries { map.len self.new.entries + cond result 1 0 ≡ map.len self.old.entries }
         ensures count { all_nodes self.new ≡ all_nodes self.old }
-        ensures spares { self.new.1 ≡ map.remove self.old.1 path.now }
-        ensures levels { self.new.2 ≡ self.old.2 }
+        ensures spares { self.new.spares ≡ map.remove self.old.spares path.now }
+        ensures levels { self.new.levels ≡ self.old.levels }
     {
         take_at(&mut self.value_bits, &mut self.values, path.place()).is_some()
     }
@@ -99,13 +101,13 @@ impl<T: Drop> Node<T> {
     /// Takes out all entries whose keys the path begins, itself included, and then the nodes on its path that are
     /// left bare, up to this one. Answers how many entries and how many nodes went.
     pub fn remove_children(&mut self, path: &Path) -> (usize, usize)
-        requires entries { map.len self.old.0 < 2 ^ 64 }
+        requires entries { map.len self.old.entries < 2 ^ 64 }
         requires nodes { all_nodes self.old < 2 ^ 64 }
-        ensures map { self.new.0 ≡ outside self.old.0 path.now }
-        ensures entries { map.len self.new.0 + result.0 ≡ map.len self.old.0 }
+        ensures map { self.new.entries ≡ outside self.old.entries path.now }
+        ensures entries { map.len self.new.entries + result.0 ≡ map.len self.old.entries }
         ensures count { all_nodes self.new + result.1 ≡ all_nodes self.old }
-        ensures spares { IsCut path.now self.old.1 self.new.0 self.new.1 }
-        ensures levels { self.new.2 ≤ self.old.2 }
+        ensures spares { IsCut path.now self.old.spares self.new.entries self.new.spares }
+        ensures levels { self.new.levels ≤ self.old.levels }
     {
         if path.len() <= 5 {
             return self.take_inside(path);

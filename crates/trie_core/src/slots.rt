@@ -3,11 +3,11 @@ ghost use Rattle.std.specs.Prelude.{ℕ, vec_len, vec_capacity, IsOk, ◌≡◌,
 ghost use Rattle.std.specs.Option.{option_copied};
 ghost use Rattle.std.specs.Ordering.{nat_cmp};
 ghost use Rattle.std.specs.FinMap.{find, put as put_entry};
-ghost use Rattle.trie_core.specs.Places.{at_places, without, IsUnset, IsSlot, IsLastPlace, IsFirstPlace};
+ghost use Rattle.trie_core.specs.InnerPlaces.{at_places, without, IsUnset, IsSlot, IsLastPlace, IsFirstPlace};
 
+use crate::tables::bit;
 use std::alloc::{AllocError, AllocFailed};
 use std::mem;
-use trie_keys::bit;
 
 /// The lowest bits of a word.
 #[inline]

@@ -3,17 +3,17 @@ ghost use Rattle.std.specs.Prelude.{◌≡◌, ℕ, ◌+◌, ◌-◌, ◌*◌, �
 ghost use Rattle.std.specs.FinMap.{entries};
 ghost use Rattle.std.specs.FinMap.Entries.{where_key};
 ghost use Rattle.std.specs.Iterator.{YieldsFirstBy, item_count};
-ghost use Rattle.trie_keys.specs.Bits.{bits_cmp, begins, is_from};
-ghost use Rattle.trie_core.specs.Nodes.{under};
-ghost use Rattle.trie_core.specs.Walks.{KeysWithin};
-ghost use Rattle.trie_core.specs.Steps.{Stepped};
+ghost use Rattle.trie_core.specs.Bits.{bits_cmp, begins, is_from};
+ghost use Rattle.trie_core.specs.InnerNodes.{under};
+ghost use Rattle.trie_core.specs.InnerWalks.{KeysWithin};
+ghost use Rattle.trie_core.specs.InnerSteps.{Stepped};
 
 use crate::frame::{Frame, Next};
 use crate::node::Node;
+use crate::path::Path;
 use arrayvec::ArrayVec;
 use std::alloc::AllocError;
 use std::marker::Model;
-use trie_keys::Path;
 
 /// The entries that are left of a walk: those of the frames on the stack, the last frame first. The trail is the way to
 /// the node of the last frame, and each frame stands five bits below the one before it.
@@ -28,8 +28,8 @@ pub struct Walk<'a, T> {
 impl<'a, T> Model for Walk<'a, T> {
     ghost use Rattle.std.specs.Prelude.{ℕ, List, Bool};
     ghost use Rattle.std.specs.Coded.{coded×, coded_ℕ, coded_list, coded_bool};
-    ghost use Rattle.trie_core.specs.Walks.{walk_rest, walk_weight};
-    ghost use Rattle.trie_core.specs.Trails.{along, IsWalk};
+    ghost use Rattle.trie_core.specs.InnerWalks.{walk_rest, walk_weight};
+    ghost use Rattle.trie_core.specs.InnerTrails.{along, IsWalk};
 
     ghost Value = { List (List Bool × T) × ℕ };
 
@@ -72,9 +72,9 @@ impl<'a, T> Walk<'a, T> {
 
     /// The entries of a node.
     pub fn new(node: &'a Node<T>) -> Walk<'a, T>
-        requires levels { node.now.2 ≤ 26 }
-        requires keys { KeysWithin 128 (entries node.now.0) }
-        ensures { result.0 ≡ entries node.now.0 }
+        requires levels { node.now.levels ≤ 26 }
+        requires keys { KeysWithin 128 (entries node.now.entries) }
+        ensures { result.0 ≡ entries node.now.entries }
     {
         Walk::start(Frame::whole(node), Path::new(0, 0))
     }
@@ -82,9 +82,9 @@ impl<'a, T> Walk<'a, T> {
     /// The entries whose keys begin with a path, itself included.
     pub fn inside(node: &'a Node<T>, path: Path) -> Walk<'a, T>
         requires within { length path ≤ 128 }
-        requires levels { node.now.2 ≤ 26 }
-        requires keys { KeysWithin 128 (entries node.now.0) }
-        ensures { result.0 ≡ where_key bits_cmp (begins path) (entries node.now.0) }
+        requires levels { node.now.levels ≤ 26 }
+        requires keys { KeysWithin 128 (entries node.now.entries) }
+        ensures { result.0 ≡ where_key bits_cmp (begins path) (entries node.now.entries) }
     {
         let mut node = node;
         let mut path = path;
@@ -103,9 +103,9 @@ impl<'a, T> Walk<'a, T> {
     /// The entries from a path on, in the order of a walk: those whose keys come after it, and its own where asked.
     pub fn onwards(node: &'a Node<T>, path: Path, inclusive: bool) -> Walk<'a, T>
         requires within { length path ≤ 128 }
-        requires levels { node.now.2 ≤ 26 }
-        requires keys { KeysWithin 128 (entries node.now.0) }
-        ensures { result.0 ≡ where_key bits_cmp (is_from path inclusive) (entries node.now.0) }
+        requires levels { node.now.levels ≤ 26 }
+        requires keys { KeysWithin 128 (entries node.now.entries) }
+        ensures { result.0 ≡ where_key bits_cmp (is_from path inclusive) (entries node.now.entries) }
     {
         let mut stack = ArrayVec::new();
         let mut node = node;

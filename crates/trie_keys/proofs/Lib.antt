@@ -1,7 +1,2 @@
-pub mod Strings
-pub mod Numbers
-pub mod Aligned
-pub mod Begins
-pub mod Masked
+pub mod Cleared
 pub mod Shifts
-pub mod Longer

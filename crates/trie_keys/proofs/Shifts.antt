@@ -2,7 +2,7 @@
 use Rattle.std.proofs.Common.{◌≡◌, ℕ, ◌+◌, ◌-◌, ◌*◌, ◌/◌, ◌%◌, ◌^◌, ◌<◌, ◌≤◌, sym, ap, subst, ◌∙◌, arith}
 use Rattle.std.proofs.lemmas.Nat.{pow_pos, pow-add, shl-shr, shr_high}
 use Rattle.std.proofs.Math.Nat.{mod-eq_of_lt, mul_assoc, mul_comm, add-mul, mul-mod_left, mul-lt-mul_of_pos_right}
-use Rattle.trie_keys.proofs.Aligned.{mod_up}
+use Rattle.trie_core.proofs.Aligned.{mod_up}
 
 ones_down : (a b : ℕ) → (2 ^ (a + b) - 1) / 2 ^ b ≡ 2 ^ a - 1
 ones_down a b =
@@ -38,7 +38,3 @@ up w v b n e h l =
     ∙ ap (λ x. x / 2 ^ (128 - v)) (mod_up (b * 2 ^ n) v (128 - v))
     ∙ shl-shr (b * 2 ^ n % 2 ^ v) (128 - v)
     ∙ ap (λ i. b * 2 ^ n % 2 ^ i) e
-
--- all bits fall off
-pub up_all : (w b : ℕ) → w ≡ 128 → 0 ≡ b * 2 ^ 128 % 2 ^ w
-up_all w b e = sym (ap (λ i. b * 2 ^ 128 % 2 ^ i) e ∙ mul-mod_left b (2 ^ 128))

@@ -3,13 +3,13 @@ ghost use Rattle.std.specs.Prelude.{◌≡◌, ℕ, ◌<◌, ◌≤◌, ◌^◌,
 ghost use Rattle.ipnet_addr.specs.Addresses.{Ipv4, Ipv6};
 ghost use Rattle.ipnet_blocks.specs.Blocks.{bit_string};
 ghost use Rattle.ipnet_blocks.specs.Networks.{block_of};
-ghost use Rattle.trie_keys.specs.Bits.{number_from, begins};
-ghost use Rattle.trie_keys.specs.Prefixes.{prefix_bits, IsMasked};
+ghost use Rattle.trie_core.specs.Bits.{number_from, begins};
+ghost use Rattle.trie_core.specs.Prefixes.{prefix_bits, IsMasked};
 
 use crate::key::Key;
-use crate::path::Path;
 use ipnet::{Ipv4Net, Ipv6Net};
 use ipnet_addr::bits::{ipv4_of, ipv6_of};
+use trie_core::Path;
 
 /// A key and how many of its first bits count, as in the Rust crate prefix-trie 0.10.1.
 pub trait Prefix {

@@ -5,10 +5,11 @@ ghost use Rattle.ipnet_blocks.specs.Blocks.{bit_string};
 ghost use Rattle.ipnet_blocks.specs.Networks.{block_of};
 
 use crate::laws::{ipv4_within, ipv6_within};
-use crate::{Key, Path, Prefix, path_of, shortened};
+use crate::{Key, Prefix, path_of, shortened};
 use ipnet::{Ipv4Net, Ipv6Net};
 use std::process::Abort;
 use std::str::FromStr;
+use trie_core::Path;
 
 /// A mask, and a key moved up and down.
 fn moved<K: Key>(key: K, count: u8) -> (u128, u128, u128)

@@ -5,9 +5,9 @@ use Rattle.std.specs.declared.cmp.Ordering.TheVariants.{Less}
 use Rattle.std.proofs.lemmas.Nat.{pow_pos}
 use Rattle.std.specs.FinMap.{is_sorted}
 use Rattle.std.specs.FinMap.Entries.{below_all}
-use Rattle.trie_keys.specs.Bits.{bits_cmp, begins}
-use Rattle.trie_keys.proofs.Strings.{both, less-T, no_false}
-use Rattle.trie_core.specs.Walks.{KeysWithin}
+use Rattle.trie_core.specs.Bits.{bits_cmp, begins}
+use Rattle.trie_core.proofs.Strings.{both, less-T, no_false}
+use Rattle.trie_core.specs.InnerWalks.{KeysWithin}
 use Rattle.trie_core.proofs.Order.{less_trans}
 use Rattle.trie_map.specs.Covered.{count_strings, is_begun}
 

@@ -3,13 +3,12 @@ use Rattle.std.proofs.Common.{◌≡◌, ℕ, zero, suc, ◌+◌, ◌-◌, ◌�
 use Rattle.std.specs.Prelude.{Option, Some, None, is_some}
 use Rattle.std.specs.Option.{IsSome}
 use Rattle.std.specs.FinMap.{len, get, insert, remove, empty, len-insert, len-remove, empty_of_len, get-empty, get-insert, get-remove}
-use Rattle.trie_keys.specs.Bits.{bits_cmp}
+use Rattle.trie_core.specs.Bits.{bits_cmp, begins}
 use Rattle.trie_core.specs.Nodes.{BitMap}
-use Rattle.trie_keys.proofs.Strings.{bits_total, same, same-Decides}
-use Rattle.trie_keys.specs.Bits.{begins}
+use Rattle.trie_core.proofs.Strings.{bits_total, same, same-Decides}
 use Rattle.trie_core.specs.Inside.{outside}
 use Rattle.trie_core.proofs.Inside.{get-outside, outside_all}
-use Rattle.trie_map.specs.Maps.{KeysUpTo}
+use Rattle.trie_map.specs.InnerRoots.{KeysUpTo}
 
 module _ {X : Type 0} where
   pub one_less : (m : BitMap X) (q : List Bool) (o : Option X) (b : Bool) → o ≡ get m q → is_some o ≡ b → len (remove m q) ≡ cond b (len m - 1) (len m)

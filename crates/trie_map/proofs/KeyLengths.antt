@@ -3,11 +3,11 @@ use Rattle.std.proofs.Common.{◌≡◌, ℕ, ◌≤◌, Bool, true, false, cond
 use Rattle.std.specs.Prelude.{Option, Some, is_some}
 use Rattle.std.specs.FinMap.{find, entries, get-entries}
 use Rattle.std.specs.FinMap.Entries.{where_key}
-use Rattle.trie_keys.specs.Bits.{bits_cmp}
+use Rattle.trie_core.specs.Bits.{bits_cmp}
 use Rattle.trie_core.specs.Nodes.{BitMap}
-use Rattle.trie_core.specs.Walks.{KeysWithin}
-use Rattle.trie_keys.proofs.Strings.{same, same-refl}
-use Rattle.trie_map.specs.Maps.{KeysUpTo}
+use Rattle.trie_core.specs.InnerWalks.{KeysWithin}
+use Rattle.trie_core.proofs.Strings.{same, same-refl}
+use Rattle.trie_map.specs.InnerRoots.{KeysUpTo}
 
 module _ {X : Type 0} where
   pub keys_more : (n m : ℕ) (es : List (List Bool × X)) → n ≤ m → KeysWithin n es → KeysWithin m es

@@ -5,10 +5,10 @@ use Rattle.std.specs.Option.{IsSome}
 use Rattle.std.specs.Ordering.{eq_by_cmp}
 use Rattle.std.specs.FinMap.{find, get, insert, entries, get-entries, get-insert}
 use Rattle.std.specs.FinMap.Entries.{where_key, find-where_key}
-use Rattle.trie_keys.specs.Bits.{bits_cmp, is_from}
-use Rattle.trie_keys.proofs.Strings.{bits_total, same-refl}
+use Rattle.trie_core.specs.Bits.{bits_cmp, is_from}
+use Rattle.trie_core.proofs.Strings.{bits_total, same-refl}
 use Rattle.trie_core.specs.Nodes.{BitMap}
-use Rattle.trie_core.specs.Walks.{KeysWithin}
+use Rattle.trie_core.specs.InnerWalks.{KeysWithin}
 use Rattle.trie_core.proofs.Frames.{bits_alike}
 use Rattle.trie_map.proofs.KeyLengths.{keys_where}
 

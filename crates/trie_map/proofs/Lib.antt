@@ -1,3 +1,4 @@
+pub mod Rebuilt
 pub mod Entries
 pub mod KeyLengths
 pub mod Written

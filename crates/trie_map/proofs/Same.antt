@@ -2,10 +2,10 @@
 use Rattle.std.proofs.Common.{◌≡◌, ℕ, ◌≤◌, Bool, List, [], ◌∷◌, ◌++◌, length, nat_eq, Decides, refl, sym, ap, subst, ◌∙◌}
 use Rattle.std.specs.FinMap.{insert}
 use Rattle.std.proofs.lemmas.Bool.Decides.{same_from_decides, Decides-eqb}
-use Rattle.trie_keys.specs.Bits.{number_from}
-use Rattle.trie_keys.specs.Prefixes.{prefix_bits, IsMasked}
-use Rattle.trie_keys.proofs.Strings.{same, same-Decides}
-use Rattle.trie_keys.proofs.Masked.{masked_number}
+use Rattle.trie_core.specs.Bits.{number_from}
+use Rattle.trie_core.specs.Prefixes.{prefix_bits, IsMasked}
+use Rattle.trie_core.proofs.Strings.{same, same-Decides}
+use Rattle.trie_core.proofs.Masked.{masked_number}
 use Rattle.trie_core.specs.Nodes.{BitMap}
 use Rattle.trie_map.specs.Made.{inserted}
 

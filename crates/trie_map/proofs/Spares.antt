@@ -1,12 +1,12 @@
 -- The spare nodes of a map: where they may stand, how many they are, and that none comes where none was.
-use Rattle.std.proofs.Common.{◌≡◌, inl, inr, Bool, true, false, cond, not, List, [], ◌++◌, refl, sym, ap, ◌∙◌, arith}
+use Rattle.std.proofs.Common.{◌≡◌, inl, inr, Bool, true, false, cond, not, List, [], ◌∷◌, ◌++◌, length, drop, refl, sym, ap, ◌∙◌, arith}
 use Rattle.std.specs.Prelude.{Option, Some, None, is_some}
 use Rattle.std.specs.Option.{IsSome}
 use Rattle.std.specs.FinMap.{get, insert, len, empty, remove, get-empty, get-insert, get-remove, same_map}
-use Rattle.trie_keys.specs.Bits.{bits_cmp, begins}
-use Rattle.trie_keys.proofs.Strings.{bits_total, bits_same, same, same_false, no_false}
+use Rattle.trie_core.specs.Bits.{bits_cmp, begins}
+use Rattle.trie_core.proofs.Strings.{bits_total, bits_same, same, same_false, no_false}
 use Rattle.trie_core.specs.Nodes.{BitMap, BitSet, Seen}
-use Rattle.trie_core.specs.Count.{spares}
+use Rattle.trie_core.specs.InnerCount.{spare_count}
 use Rattle.trie_core.specs.Inside.{outside}
 use Rattle.trie_core.specs.Ways.{IsIdle, AreIdle, off_way, IsLeft, IsKept}
 use Rattle.trie_core.proofs.Maps.{remove_absent}
@@ -26,6 +26,15 @@ of_same : (o : Option (Unit {0})) (b : Bool) → is_some (cond (not b) o None) �
 of_same o true h = cc
 of_same o false h = (refl, h)
 
+-- what is left of a string after its beginning
+begun_rest : (s q : List Bool) → begins s q ≡ true → s ++ drop (length s) q ≡ q
+begun_rest [] q e = refl
+begun_rest (x ∷ s) [] e = cc
+begun_rest (true ∷ s) (true ∷ q) e = ap (λ l. true ∷ l) (begun_rest s q e)
+begun_rest (false ∷ s) (false ∷ q) e = ap (λ l. false ∷ l) (begun_rest s q e)
+begun_rest (true ∷ s) (false ∷ q) e = cc
+begun_rest (false ∷ s) (true ∷ q) e = cc
+
 -- ---- where they stand
 
 module _ {X : Type 0} where
@@ -42,6 +51,15 @@ module _ {X : Type 0} where
         fives = i.fives;
         none = λ x. ap (λ c. get c (s ++ x)) k ∙ get-insert bits_total m q v (s ++ x) ∙ ap (λ c. cond c (Some v) (get m (s ++ x))) (same_false (s ++ x) q (λ p. no_false t.0 (sym (ap (begins s) p) ∙ begins_on s x))) ∙ i.none x;
       }
+
+  -- no spare node stands on the way to a key
+  pub off_stored : (m : BitMap X) (a : BitSet) (q : List Bool) → AreIdle m a → IsSome (get m q) → off_way a q ≡ a
+  off_stored m a q f o = same_map bits_total bits_same _ _ (λ s. get-off a q s ∙ by s (begins s q) refl (get a s) refl)
+    where
+      by : (s : List Bool) (b : Bool) → begins s q ≡ b → (w : Option (Unit {0})) → get a s ≡ w → cond (not b) (get a s) None ≡ get a s
+      by s false e w h = refl
+      by s true e None h = sym h
+      by s true e (Some x) h = let z : is_some (get m q) ≡ false = ap (λ r. is_some (get m r)) (sym (begun_rest s q e)) ∙ ap is_some ((f s (ap is_some h)).none _) in absurd (no_false z o)
 
   -- a key that is there gets another value
   pub idle_with : (m : BitMap X) (a : BitSet) (q : List Bool) (w : X) → AreIdle m a → IsSome (get m q) → AreIdle (insert m q w) a
@@ -85,8 +103,8 @@ module _ {X : Type 0} where
 
   -- ---- how many they are
 
-  pub spares_len : (s : Seen X) → AreIdle s.0 s.1 → spares s ≡ len s.1
-  spares_len s f = ap len (remove_absent s.1 [] (not_some (get s.1 []) (λ h. omega (arith, (f [] h).below))))
+  pub spares_len : (s : Seen X) → AreIdle s.entries s.spares → spare_count s ≡ len s.spares
+  spares_len s f = ap len (remove_absent s.spares [] (not_some (get s.spares []) (λ h. omega (arith, (f [] h).below))))
 
   -- ---- none comes where none was
 

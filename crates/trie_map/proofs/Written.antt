@@ -7,42 +7,48 @@ use Rattle.std.specs.FinMap.{get, insert, get-insert, same_map}
 use mathlib.Core.Bool.{Bool-set}
 use native.Mathlib.Bridge.{le_prop}
 use denote.MutBor.{at_last}
-use Rattle.trie_keys.specs.Bits.{bits_cmp}
+use Rattle.trie_core.specs.Bits.{bits_cmp}
 use Rattle.trie_keys.specs.declared.key.Key as key
 use Rattle.trie_keys.specs.declared.prefix.Prefix as prefix
-use Rattle.trie_keys.proofs.Strings.{bits_total, bits_same}
-use Rattle.trie_core.specs.Nodes.{BitMap, BitSet, Seen}
+use Rattle.trie_core.proofs.Strings.{bits_total, bits_same}
+use Rattle.trie_core.specs.Nodes.{BitMap, BitSet}
 use Rattle.trie_core.specs.Ways.{off_way}
-use Rattle.trie_core.specs.Lending.{with_value}
+use Rattle.trie_map.specs.Seen.{SeenMap, with_value}
 use Rattle.trie_map.specs.declared.entry.OccupiedEntry.{OccupiedEntry}
-use Rattle.trie_map.specs.Entry.{Occupied, with_entry_value, get-written, IsWritten}
+use Rattle.trie_map.specs.Entry.{Occupied, with_entry_value, IsWritten, IsStored}
+use Rattle.trie_core.proofs.Maps.{get-written}
 
 module _ {P X R : Type 0} {g : prefix.Ghosts P R} {k : key.Ghosts R} (o : OccupiedEntry P X R g k) where
-  pub still_stored : (q : List Bool) (w : X) → q ≡ g.bits o.key → IsSome (get (insert o.map.now.0 q w) (g.bits o.key))
-  still_stored q w e = subst (λ r. IsSome (get (insert o.map.now.0 q w) r)) e (ap is_some (get-written o.map.now.0 q w))
+  pub still_stored : (q : List Bool) (w : X) → q ≡ g.bits o.key → IsSome (get (insert o.map.now.entries q w) (g.bits o.key))
+  still_stored q w e = subst (λ r. IsSome (get (insert o.map.now.entries q w) r)) e (ap is_some (get-written o.map.now.entries q w))
 
-  written_here : (w : X) (s : IsSome (get (insert o.map.now.0 (g.bits o.key) w) (g.bits o.key))) (l : length (g.bits o.key) ≤ k.width)
+  written_here : (w : X) (s : IsSome (get (insert o.map.now.entries (g.bits o.key) w) (g.bits o.key))) (l : length (g.bits o.key) ≤ k.width)
       → record { map = at_last o.map (with_value o.map.now (g.bits o.key) w); key = o.key; within = l; stored = s } ≡ with_entry_value o w
   written_here w s l = λ i. record (with_entry_value o w) { within = le_prop l o.within i; stored = Bool-set _ _ s (with_entry_value o w).stored i }
 
-  pub occupied_written : (q : List Bool) (e : q ≡ g.bits o.key) (w : X) (s : IsSome (get (insert o.map.now.0 q w) (g.bits o.key))) (l : length (g.bits o.key) ≤ k.width)
+  pub occupied_written : (q : List Bool) (e : q ≡ g.bits o.key) (w : X) (s : IsSome (get (insert o.map.now.entries q w) (g.bits o.key))) (l : length (g.bits o.key) ≤ k.width)
       → record { map = at_last o.map (with_value o.map.now q w); key = o.key; within = l; stored = s } ≡ with_entry_value o w
   occupied_written q e w s l =
-      subst (λ r. (s : IsSome (get (insert o.map.now.0 r w) (g.bits o.key))) → record { map = at_last o.map (with_value o.map.now r w); key = o.key; within = l; stored = s } ≡ with_entry_value o w) (sym e) (λ s. written_here w s l) s
+      subst (λ r. (s : IsSome (get (insert o.map.now.entries r w) (g.bits o.key))) → record { map = at_last o.map (with_value o.map.now r w); key = o.key; within = l; stored = s } ≡ with_entry_value o w) (sym e) (λ s. written_here w s l) s
 
   pub occupied_IsWritten : (w : X) → IsWritten (Occupied o) w (Occupied (with_entry_value o w))
-  occupied_IsWritten w = record { same_map = refl; map = refl; key = refl; value = get-written o.map.now.0 (g.bits o.key) w }
+  occupied_IsWritten w = record { same_map = refl; map = refl; key = refl; value = get-written o.map.now.entries (g.bits o.key) w }
 
 -- the map of an entry that is left as it was, but for the value of its key
-pub rest_kept : {X : Type 0} (m : Seen X) (q : List Bool) (w : X) → MatchOption (get (insert m.0 q w) q) (with_value m q w ≡ m) (λ v. with_value m q w ≡ with_value m q v)
-rest_kept m q w = subst (λ o. MatchOption o (with_value m q w ≡ m) (λ v. with_value m q w ≡ with_value m q v)) (sym (get-written m.0 q w)) refl
+pub rest_kept : {X : Type 0} (m : SeenMap X) (q r : List Bool) (w : X) → r ≡ q → MatchOption (get (insert m.entries r w) q) (with_value m r w ≡ m) (λ v. with_value m r w ≡ with_value m q v)
+rest_kept m q r w e = subst (λ t. MatchOption (get (insert m.entries t w) q) (with_value m t w ≡ m) (λ v. with_value m t w ≡ with_value m q v)) (sym e) (subst (λ o. MatchOption o (with_value m q w ≡ m) (λ v. with_value m q w ≡ with_value m q v)) (sym (get-written m.entries q w)) refl)
 
-pub rest_same : {X : Type 0} (m : Seen X) (q : List Bool) → get m.0 q ≡ None → MatchOption (get m.0 q) (m ≡ m) (λ v. m ≡ with_value m q v)
-rest_same m q e = subst (λ o. MatchOption o (m ≡ m) (λ v. m ≡ with_value m q v)) (sym e) refl
+-- the spare nodes once a value is stored
+pub spares_after : {X : Type 0} (m : SeenMap X) (q : List Bool) (b : BitSet) → b ≡ off_way m.spares q → (IsSome (get m.entries q) → b ≡ m.spares) → MatchOption (get m.entries q) (b ≡ off_way m.spares q) (λ v. b ≡ m.spares)
+spares_after {X} m q b e k = by (get m.entries q) k
+  where
+    by : (o : Option X) → (IsSome o → b ≡ m.spares) → MatchOption o (b ≡ off_way m.spares q) (λ v. b ≡ m.spares)
+    by None k = e
+    by (Some v) k = k refl
 
--- a key that was not there leaves no spare node on its way
-pub new_key : {X : Type 0} (m : Seen X) (q : List Bool) (b : BitSet) → get m.0 q ≡ None → b ≡ off_way m.1 q → MatchOption (get m.0 q) (b ≡ off_way m.1 q) (λ v. b ≡ m.1)
-new_key m q b e f = subst (λ o. MatchOption o (b ≡ off_way m.1 q) (λ v. b ≡ m.1)) (sym e) f
+-- the same of the whole map, where the key was given by other bits
+pub stored_at : {X : Type 0} (m : SeenMap X) (q r : List Bool) (n : SeenMap X) (v : X) → r ≡ q → n.entries ≡ insert m.entries r v → n.spares ≡ off_way m.spares r → (IsSome (get m.entries r) → n.spares ≡ m.spares) → IsStored m q v n
+stored_at m q r n v f e s k = record { map = e ∙ ap (λ t. insert m.entries t v) f; spares = spares_after m q n.spares (s ∙ ap (off_way m.spares) f) (λ h. k (subst (λ t. IsSome (get m.entries t)) (sym f) h)) }
 
 module _ {X : Type 0} (m : BitMap X) (q : List Bool) where
   same_other : (x : List Bool) (v w : X) (b : Bool) (o : Option X) → cond b (Some w) (cond b (Some v) o) ≡ cond b (Some w) o
@@ -56,7 +62,7 @@ module _ {X : Type 0} (m : BitMap X) (q : List Bool) where
       (λ x. get-insert bits_total (insert m q v) q w x ∙ ap (cond (eq_by_cmp bits_cmp x q) (Some w)) (get-insert bits_total m q v x) ∙ same_other x v w (eq_by_cmp bits_cmp x q) (get m x) ∙ sym (get-insert bits_total m q w x))
 
   module _ (n : BitMap X) (r : List Bool) (v : X) (e : n ≡ insert m q v) (f : r ≡ q) where
-    is_there : get n r ≡ Some v
+    pub is_there : get n r ≡ Some v
     is_there = (λ i. get (e i) (f i)) ∙ get-written m q v
 
     pub stored_after : IsSome (get n r)

@@ -5,28 +5,26 @@ use Rattle.std.specs.Borrow.{Fml, RattleType, MutBor, follows, follows_so, name_
 use Rattle.std.specs.FinMap.{get, insert, get-insert}
 use Rattle.std.proofs.Common.{ap, ◌∙◌}
 use mir.Syntax.{named}
-use Rattle.trie_keys.proofs.Strings.{bits_total, same-refl}
-use Rattle.trie_core.specs.Nodes.{BitMap, Seen}
+use Rattle.trie_core.proofs.Strings.{bits_total, same-refl}
+use Rattle.trie_core.specs.Nodes.{BitMap}
+use Rattle.trie_map.specs.Seen.{SeenMap, with_value}
 use Rattle.trie_core.specs.Ways.{off_way}
-use Rattle.trie_core.specs.Lending.{with_value}
 use Rattle.trie_keys.specs.declared.key.Key as key
 use Rattle.trie_keys.specs.declared.prefix.Prefix as prefix
 use Rattle.trie_map.specs.declared.entry.Entry.{Entry}
 use Rattle.trie_map.specs.declared.entry.OccupiedEntry.{OccupiedEntry}
 use Rattle.trie_map.specs.contracts.map.PrefixMap.{the_row}
 use Rattle.trie_map.specs.contracts.entry.OccupiedEntry as occupied
-
-pub get-written : {X : Type 0} (m : BitMap X) (q : List Bool) (w : X) → get (insert m q w) q ≡ Some w
-get-written m q w = get-insert bits_total m q w q ∙ ap (λ b. cond b (Some w) (get m q)) (same-refl q)
+use Rattle.trie_core.proofs.Maps.{get-written}
 
 module _ {P X R : Type 0} {g : prefix.Ghosts P R} {k : key.Ghosts R} where
   -- the reference to the map
-  abbrev pub entry_map_ref : Entry P X R g k → MutBor (Seen X)
+  abbrev pub entry_map_ref : Entry P X R g k → MutBor (SeenMap X)
   entry_map_ref (Vacant e) = e.map
   entry_map_ref (Occupied o) = o.map
 
   -- the map, as the entry holds it
-  abbrev pub entry_map : Entry P X R g k → Seen X
+  abbrev pub entry_map : Entry P X R g k → SeenMap X
   entry_map e = (entry_map_ref e).now
 
   abbrev pub entry_key : Entry P X R g k → P
@@ -35,7 +33,7 @@ module _ {P X R : Type 0} {g : prefix.Ghosts P R} {k : key.Ghosts R} where
 
   -- the value that the key has
   abbrev pub entry_value : Entry P X R g k → Option X
-  entry_value e = get (entry_map e).0 (g.bits (entry_key e))
+  entry_value e = get (entry_map e).entries (g.bits (entry_key e))
 
   -- the first if the entry is occupied, and the second if it is vacant
   abbrev pub MatchEntry : Entry P X R g k → Type 0 → Type 0 → Type 0
@@ -48,7 +46,7 @@ module _ {P X R : Type 0} {g : prefix.Ghosts P R} {k : key.Ghosts R} where
     map = record o.map { now = with_value o.map.now (g.bits o.key) w };
     key = o.key;
     within = o.within;
-    stored = ap is_some (get-written o.map.now.0 (g.bits o.key) w);
+    stored = ap is_some (get-written o.map.now.entries (g.bits o.key) w);
   }
 
   -- d is the entry e, once w is its value
@@ -59,9 +57,9 @@ module _ {P X R : Type 0} {g : prefix.Ghosts P R} {k : key.Ghosts R} where
     pub value : entry_value d ≡ Some w
 
 -- n is m with w at q; where q is new, the nodes on its way are spare no more
-pub record IsStored {X : Type 0} (m : Seen X) (q : List Bool) (w : X) (n : Seen X) : Type 0 where
-  pub map : n.0 ≡ insert m.0 q w
-  pub spares : MatchOption (get m.0 q) (n.1 ≡ off_way m.1 q) (λ v. n.1 ≡ m.1)
+pub record IsStored {X : Type 0} (m : SeenMap X) (q : List Bool) (w : X) (n : SeenMap X) : Type 0 where
+  pub map : n.entries ≡ insert m.entries q w
+  pub spares : MatchOption (get m.entries q) (n.spares ≡ off_way m.spares q) (λ v. n.spares ≡ m.spares)
 
 module _ (P T R : RattleType) {g : prefix.Ghosts P.Denot R.Denot} {k : key.Ghosts R.Denot} where
   -- once the borrow r ends, the map has the last value written through r at the stored key

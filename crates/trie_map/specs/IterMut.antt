@@ -5,9 +5,8 @@ use Rattle.std.specs.Borrow.{Fml, RattleType, MutBor, LendsSo}
 use Rattle.std.specs.FinMap.{get, entries}
 use Rattle.std.specs.FinMap.Entries.{where_key}
 use mir.Syntax.{named}
-use Rattle.trie_keys.specs.Bits.{bits_cmp, begins, is_from}
-use Rattle.trie_core.specs.Nodes.{Seen}
-use Rattle.trie_core.specs.Lending.{with_value}
+use Rattle.trie_core.specs.Bits.{bits_cmp, begins, is_from}
+use Rattle.trie_map.specs.Seen.{SeenMap, with_value}
 use Rattle.trie_keys.specs.declared.key.Key as key
 use Rattle.trie_keys.specs.declared.prefix.Prefix as prefix
 use Rattle.trie_map.specs.Maps.{first_key}
@@ -16,11 +15,11 @@ use Rattle.trie_map.specs.contracts.iter_mut.IterMut.{the_row}
 
 module _ {P X R : Type 0} {g : prefix.Ghosts P R} {k : key.Ghosts R} where
   -- the reference to the map
-  abbrev pub lent_map_ref : IterMut P X R g k → MutBor (Seen X)
+  abbrev pub lent_map_ref : IterMut P X R g k → MutBor (SeenMap X)
   lent_map_ref s = s.map
 
   -- the map, as the iterator holds it
-  abbrev pub lent_map : IterMut P X R g k → Seen X
+  abbrev pub lent_map : IterMut P X R g k → SeenMap X
   lent_map s = s.map.now
 
   -- the bit string that begins all keys that are left
@@ -33,14 +32,14 @@ module _ {P X R : Type 0} {g : prefix.Ghosts P R} {k : key.Ghosts R} where
 
   -- its value
   abbrev pub next_value : IterMut P X R g k → Option X
-  next_value s = option_and_then (get s.map.now.0) s.next
+  next_value s = option_and_then (get s.map.now.entries) s.next
 
   -- n is s, once w is the value of q; the first key after q, of those that are left, comes next
   pub record IsStep (s : IterMut P X R g k) (q : List Bool) (w : X) (n : IterMut P X R g k) : Type 0 where
     pub same_map : (lent_map_ref n).ghost_name ≡ (lent_map_ref s).ghost_name
     pub map : lent_map n ≡ with_value (lent_map s) q w
     pub same_inside : lent_inside n ≡ lent_inside s
-    pub next : next_bits n ≡ first_key (where_key bits_cmp (λ k. is_from q false k && begins (lent_inside s) k) (entries (lent_map s).0))
+    pub next : next_bits n ≡ first_key (where_key bits_cmp (λ k. is_from q false k && begins (lent_inside s) k) (entries (lent_map s).entries))
 
   -- n is s, which has nothing more to lend
   pub record IsEnd (s n : IterMut P X R g k) : Type 0 where

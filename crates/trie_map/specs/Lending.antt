@@ -1,18 +1,17 @@
 -- What a map ends as, once what it lent has ended.
 use Rattle.std.specs.Prelude.{◌≡◌, ℕ, List, Bool, Option, OnSome, IfNone, take}
 use Rattle.std.specs.Borrow.{Fml, RattleType, MutBor, Lends, LendsIf, LendsSo}
-use Rattle.trie_core.specs.Nodes.{Seen}
+use Rattle.trie_map.specs.Seen.{SeenMap, with_value}
 use Rattle.trie_core.specs.Search.{NoBeginning, IsLongest}
-use Rattle.trie_core.specs.Lending.{with_value}
 use Rattle.trie_keys.specs.declared.key.Key as key
 use Rattle.trie_keys.specs.declared.prefix.Prefix as prefix
 use Rattle.trie_map.specs.contracts.map.PrefixMap.{the_row}
 
 -- n is m with w at the longest beginning of q that is a key
-abbrev pub IsWrittenAtLongest : {X : Type 0} → Seen X → List Bool → X → Seen X → Type 0
-IsWrittenAtLongest {X} m q w n = (k : ℕ) (v : X) → IsLongest m.0 q k v → n ≡ with_value m (take k q) w
+abbrev pub IsWrittenAtLongest : {X : Type 0} → SeenMap X → List Bool → X → SeenMap X → Type 0
+IsWrittenAtLongest {X} m q w n = (k : ℕ) (v : X) → IsLongest m.entries q k v → n ≡ with_value m (take k q) w
 
-module _ (P T R : RattleType) (g : prefix.Ghosts P.Denot R.Denot) (k : key.Ghosts R.Denot) (m : MutBor (Seen T.Denot)) (q : List Bool) where
+module _ (P T R : RattleType) (g : prefix.Ghosts P.Denot R.Denot) (k : key.Ghosts R.Denot) (m : MutBor (SeenMap T.Denot)) (q : List Bool) where
   -- the map ends with the last value behind r at q
   abbrev pub lends_value : MutBor T.Denot → Fml
   lends_value r = Lends (the_row P T R g k) T m r (with_value m.now q)
@@ -23,4 +22,4 @@ module _ (P T R : RattleType) (g : prefix.Ghosts P.Denot R.Denot) (k : key.Ghost
 
   -- the map ends with the last value behind r at the longest beginning of q that is a key; where there is none it stays
   abbrev pub lends_longest : Option (MutBor T.Denot) → Fml
-  lends_longest r = LendsSo (the_row P T R g k) T m r (λ n w. OnSome r (IsWrittenAtLongest m.now q w n)) (λ n. IfNone r ((n ≡ m.now) × NoBeginning m.now.0 q))
+  lends_longest r = LendsSo (the_row P T R g k) T m r (λ n w. OnSome r (IsWrittenAtLongest m.now q w n)) (λ n. IfNone r ((n ≡ m.now) × NoBeginning m.now.entries q))

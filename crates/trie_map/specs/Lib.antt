@@ -1,4 +1,6 @@
+pub mod Seen
 pub mod Maps
+pub mod Iterators
 pub mod Lending
 pub mod Refusals
 pub mod Entry
@@ -7,3 +9,5 @@ pub mod Made
 pub mod Equal
 pub mod IterMut
 pub mod Retain
+pub mod InnerEqual
+pub mod InnerRoots

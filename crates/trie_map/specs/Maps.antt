@@ -1,12 +1,7 @@
 -- What searches of a map hand out.
-use Rattle.std.specs.Prelude.{ℕ, ◌≤◌, ◌≡◌, length, take, Bool, List, [], ◌∷◌, Option, Some, None, is_some, true}
-use Rattle.std.specs.FinMap.{get}
+use Rattle.std.specs.Prelude.{ℕ, ◌≡◌, length, take, Bool, List, [], ◌∷◌, Option, Some, None}
 use Rattle.trie_core.specs.Nodes.{BitMap}
 use Rattle.trie_core.specs.Search.{IsLongest, IsShortest}
-
--- no key is longer than n
-abbrev pub KeysUpTo : {X : Type 0} → ℕ → BitMap X → Type 0
-KeysUpTo n m = (q : List Bool) → is_some (get m q) ≡ true → length q ≤ n
 
 module _ {K X : Type 0} (bits : K → List Bool) (of_bits : List Bool → K) where
   -- k is the key of the longest beginning of q that is stored, rebuilt from its bits, and v its value

@@ -10,7 +10,7 @@ use crate::map::PrefixMap;
 use crate::refused::Refused;
 use std::alloc::Global;
 use std::marker::PhantomData;
-use trie_core::Prefix;
+use trie_keys::Prefix;
 
 impl<P: Prefix, T: Clone> PrefixMap<P, T> {
     /// An equal map with as many nodes, its values clones of these, which have to equal them.
@@ -45,8 +45,8 @@ impl<P: Prefix + Drop, T: Drop> PrefixMap<P, T> {
         items: U,
     ) -> Result<PrefixMap<P, T>, Refused>
         requires { (it : U.IntoIter) → U.into_iter_gives items it → U.IntoIter.can_next it × IsFinite (U.IntoIter.remaining it) × HoldsAlong U.IntoIter.next_gives it (All (λ e. length (P.bits e.0) ≤ P.R.width)) }
-        ensures map { IfOk result (λ m. (it : U.IntoIter) × (es : List (P × T)) × U.into_iter_gives items it × Drains U.IntoIter.next_gives it es × (m.0 ≡ inserted P.bits map.empty es)) }
-        ensures tidy { IfOk result (λ m. m.1 ≡ map.empty) }
+        ensures map { IfOk result (λ m. (it : U.IntoIter) × (es : List (P × T)) × U.into_iter_gives items it × Drains U.IntoIter.next_gives it es × (m.entries ≡ inserted P.bits map.empty es)) }
+        ensures tidy { IfOk result (λ m. m.spares ≡ map.empty) }
         ensures memory { IfErr result (λ e. e ≡ Memory) }
     {
         let mut made = PrefixMap::empty(alloc);

@@ -1,11 +1,12 @@
 //! How many addresses a map covers.
 ghost use Rattle.std.specs.Prelude.{◌≡◌, ◌+◌, ◌<◌, ◌≤◌, ◌^◌, false, length, MatchOption};
-ghost use Rattle.trie_keys.specs.Bits.{begins};
+ghost use Rattle.trie_core.specs.Bits.{begins};
 ghost use Rattle.trie_map.specs.Covered.{covered_count};
 
+use crate::key::key_of;
 use crate::map::PrefixMap;
-use trie_core::{Key, Prefix, Walk};
-use trie_iter::key_of;
+use trie_core::Walk;
+use trie_keys::{Key, Prefix};
 
 /// Whether a prefix lies inside the last one, if there is one.
 fn is_inside<P: Prefix>(last: &Option<P>, prefix: &P) -> bool
@@ -34,7 +35,7 @@ impl<P: Prefix + Drop, T> PrefixMap<P, T> {
     /// How many addresses the keys cover, each counted once: an address is a prefix of as many bits as there are.
     /// `None` where all are covered, since that number is too great by one. It takes no memory.
     pub fn address_count(&self) -> Option<P::R>
-        ensures { MatchOption result (covered_count P.R.width self.now.0 ≡ 2 ^ P.R.width) (λ n. (P.R.number n ≡ covered_count P.R.width self.now.0) × (covered_count P.R.width self.now.0 < 2 ^ P.R.width)) }
+        ensures { MatchOption result (covered_count P.R.width self.now.entries ≡ 2 ^ P.R.width) (λ n. (P.R.number n ≡ covered_count P.R.width self.now.entries) × (covered_count P.R.width self.now.entries < 2 ^ P.R.width)) }
     {
         let width = <P::R as Key>::width();
         let whole = u128::MAX >> (128 - width);

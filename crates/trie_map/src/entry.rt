@@ -1,5 +1,5 @@
 //! The entry of a prefix, which the map has or lacks.
-ghost use Rattle.std.specs.Prelude.{◌≡◌, ◌+◌, ◌≤◌, length, Some, None, IfOk, IfErr, OnErr, MatchOption, unwrap_or};
+ghost use Rattle.std.specs.Prelude.{◌≡◌, ◌+◌, ◌≤◌, length, Some, None, IfOk, IfErr, OnErr, OnOk, is_some, MatchOption, unwrap_or};
 ghost use Rattle.std.specs.Borrow.{MutBor, sem};
 ghost use Rattle.std.specs.Map.Calls.{ModifiesValue};
 ghost use Rattle.std.specs.Option.{IsSome, option_copied, option_copied_mut, UnwrapsOrElse};
@@ -12,7 +12,7 @@ ghost use Rattle.trie_map.specs.declared.refused.Refused.TheVariants.{Full};
 use crate::map::PrefixMap;
 use crate::refused::Refused;
 use std::mem::replace;
-use trie_core::{Key, Prefix, path_of, shortened};
+use trie_keys::{Key, Prefix, path_of, shortened};
 
 /// A key that the map has, with its value. Its key has zeros after the bits that count.
 #[derive(Drop)]
@@ -20,16 +20,17 @@ pub struct OccupiedEntry<'a, P: Prefix, T> {
     map: &'a mut PrefixMap<P, T>,
     key: P,
     ghost within: { length (P.bits key) ≤ P.R.width },
-    ghost stored: { IsSome (get map.now.0 (P.bits key)) },
+    ghost stored: { IsSome (get map.now.entries (P.bits key)) },
 }
 
-/// A key that the map lacks, as it was asked for.
+/// A key that the map lacked, as it was asked for. Only `Entry::insert` may have stored it since.
 #[derive(Drop)]
 pub struct VacantEntry<'a, P: Prefix, T> {
     map: &'a mut PrefixMap<P, T>,
     key: P,
+    is_stored: bool,
     ghost within: { length (P.bits key) ≤ P.R.width },
-    ghost absent: { get map.now.0 (P.bits key) ≡ None },
+    ghost found: { is_some (get map.now.entries (P.bits key)) ≡ is_stored },
 }
 
 /// The entry of a key, which the map has or lacks.
@@ -53,7 +54,7 @@ impl<P: Prefix, T> PrefixMap<P, T> {
         ensures unchanged { entry_map result ≡ self.old }
         ensures key { MatchEntry result (entry_key result ≡ P.of_bits (P.bits prefix)) (entry_key result ≡ prefix) }
         ensures bits { P.bits (entry_key result) ≡ P.bits prefix }
-        ensures found { MatchEntry result (IsSome (get self.old.0 (P.bits prefix))) (get self.old.0 (P.bits prefix) ≡ None) }
+        ensures found { MatchEntry result (IsSome (get self.old.entries (P.bits prefix))) (get self.old.entries (P.bits prefix) ≡ None) }
     {
         if self.get(&prefix).is_some() {
             let key = shortened(&prefix, prefix.prefix_len());
@@ -62,6 +63,7 @@ impl<P: Prefix, T> PrefixMap<P, T> {
             Entry::Vacant(VacantEntry {
                 map: self,
                 key: prefix,
+                is_stored: false,
             })
         }
     }
@@ -120,9 +122,9 @@ impl<'a, P: Prefix, T> OccupiedEntry<'a, P, T> {
         P: Drop,
         T: Drop,
         ensures value { entry_value (Occupied self.entry) ≡ Some result }
-        ensures removed { self.exit.0.now.0 ≡ without_key (entry_map (Occupied self.entry)).0 (P.bits (entry_key (Occupied self.entry))) }
-        ensures spares { IsKept (P.bits (entry_key (Occupied self.entry))) (entry_map (Occupied self.entry)).0 (entry_map (Occupied self.entry)).1 self.exit.0.now.0 self.exit.0.now.1 }
-        ensures count { nodes self.exit.0.now.0 + len self.exit.0.now.1 ≡ nodes (entry_map (Occupied self.entry)).0 + len (entry_map (Occupied self.entry)).1 }
+        ensures removed { self.exit.0.now.entries ≡ without_key (entry_map (Occupied self.entry)).entries (P.bits (entry_key (Occupied self.entry))) }
+        ensures spares { IsKept (P.bits (entry_key (Occupied self.entry))) (entry_map (Occupied self.entry)).entries (entry_map (Occupied self.entry)).spares self.exit.0.now.entries self.exit.0.now.spares }
+        ensures count { nodes self.exit.0.now.entries + len self.exit.0.now.spares ≡ nodes (entry_map (Occupied self.entry)).entries + len (entry_map (Occupied self.entry)).spares }
     {
         let key = self.key;
         self.map.remove_keep_tree(&key).unwrap()
@@ -130,13 +132,33 @@ impl<'a, P: Prefix, T> OccupiedEntry<'a, P, T> {
 }
 
 impl<'a, P: Prefix, T> VacantEntry<'a, P, T> {
-    ghost use Rattle.trie_map.specs.Entry.{Vacant, entry_map, entry_key, entry_lends_ok};
+    ghost use Rattle.trie_map.specs.Entry.{Vacant, entry_map, entry_key, entry_value, entry_lends_ok, IsStored};
 
     /// The key, as it was asked for.
     pub fn key(&self) -> &P
         ensures { result.now ≡ entry_key (Vacant self.now) }
     {
         &self.key
+    }
+
+    /// Stores the value, and answers the one that stood there. The entry stays the one of its key.
+    fn store(&mut self, value: T) -> Result<Option<T>, (Refused, T)>
+    where
+        P: Drop,
+        T: Drop,
+        ensures same_map { self.new.map.ghost_name ≡ self.old.map.ghost_name }
+        ensures same_key { entry_key (Vacant self.new) ≡ entry_key (Vacant self.old) }
+        ensures old { IfOk result (λ old. old ≡ entry_value (Vacant self.old)) }
+        ensures stored { OnOk result (IsStored (entry_map (Vacant self.old)) (P.bits (entry_key (Vacant self.old))) value (entry_map (Vacant self.new))) }
+        ensures unchanged { OnErr result (entry_map (Vacant self.new) ≡ entry_map (Vacant self.old)) }
+        ensures absent { OnErr result (entry_value (Vacant self.old) ≡ None) }
+        ensures full { IfErr result (λ e. e.0 ≡ Full → no_room (entry_map (Vacant self.old))) }
+        ensures value_returned { IfErr result (λ e. e.1 ≡ value) }
+    {
+        let key = shortened(&self.key, self.key.prefix_len());
+        let old = self.map.insert(key, value)?;
+        self.is_stored = true;
+        Ok(old)
     }
 
     /// Stores the value, and lends it.
@@ -158,6 +180,26 @@ impl<'a, P: Prefix, T> VacantEntry<'a, P, T> {
             Ok(_) => Ok(map.value_mut(&path)),
             Err(refused) => Err(refused),
         }
+    }
+
+    /// Lends the value that was stored since, or stores what `f` gives.
+    fn or_insert_with<F: FnOnce() -> T>(self, f: F) -> Result<&'a mut T, (Refused, T)>
+    where
+        P: Drop,
+        T: Drop,
+        requires { entry_value (Vacant self) ≡ None → F.pre f }
+        ensures* writes_back { sem 𝓛 (entry_lends_ok P.row T.row P.R.row (Vacant self.entry) result) }
+        ensures value { IfOk result (λ x. UnwrapsOrElse (entry_value (Vacant self.entry)) (F.post f) x.now) }
+        ensures full { IfErr result (λ e. e.0 ≡ Full → no_room (entry_map (Vacant self.entry))) }
+        ensures value_returned { IfErr result (λ e. F.post f e.1) }
+        ensures absent { OnErr result (entry_value (Vacant self.entry) ≡ None) }
+    {
+        if !self.is_stored {
+            return self.insert_with(f);
+        }
+        let path = path_of(&self.key);
+        let map = self.map;
+        Ok(map.value_mut(&path))
     }
 
     /// Stores what `f` gives, and lends it. `f` is called once.
@@ -195,10 +237,10 @@ impl<'a, P: Prefix, T> VacantEntry<'a, P, T> {
 }
 
 impl<'a, P: Prefix, T> Entry<'a, P, T> {
-    ghost use Rattle.trie_core.specs.Lending.{with_value};
-    ghost use Rattle.trie_map.specs.Entry.{entry_map_ref, entry_map, entry_key, entry_value, entry_lends_ok};
+    ghost use Rattle.trie_map.specs.Seen.{with_value};
+    ghost use Rattle.trie_map.specs.Entry.{entry_map_ref, entry_map, entry_key, entry_value, entry_lends_ok, IsStored};
 
-    /// The key: with zeros after the bits that count where it is stored, and as it was asked for where it is not.
+    /// The key: with zeros after the bits that count where the map had it, and as it was asked for where it had not.
     pub fn key(&self) -> &P
         ensures { result.now ≡ entry_key self.now }
     {
@@ -213,7 +255,7 @@ impl<'a, P: Prefix, T> Entry<'a, P, T> {
         ensures { option_copied result ≡ entry_value self.now }
     {
         match self {
-            Entry::Vacant(_) => None,
+            Entry::Vacant(entry) => entry.map.get(&entry.key),
             Entry::Occupied(entry) => Some(entry.get()),
         }
     }
@@ -223,8 +265,39 @@ impl<'a, P: Prefix, T> Entry<'a, P, T> {
         ensures { option_copied_mut result ≡ entry_value self.old }
     {
         match self {
-            Entry::Vacant(_) => None,
+            Entry::Vacant(entry) => {
+                let path = path_of(&entry.key);
+                if entry.is_stored {
+                    Some(entry.map.value_mut(&path))
+                } else {
+                    None
+                }
+            }
             Entry::Occupied(entry) => Some(entry.get_mut()),
+        }
+    }
+
+    /// Stores the value, and answers the one that stood there. On a stored key it takes no memory and is never refused.
+    /// The entry stays the one of its key.
+    ///
+    /// # Errors
+    /// As `PrefixMap::insert`. The map is as it was, and the value comes back.
+    pub fn insert(&mut self, value: T) -> Result<Option<T>, (Refused, T)>
+    where
+        P: Drop,
+        T: Drop,
+        ensures same_map { (entry_map_ref self.new).ghost_name ≡ (entry_map_ref self.old).ghost_name }
+        ensures same_key { entry_key self.new ≡ entry_key self.old }
+        ensures old { IfOk result (λ old. old ≡ entry_value self.old) }
+        ensures stored { OnOk result (IsStored (entry_map self.old) (P.bits (entry_key self.old)) value (entry_map self.new)) }
+        ensures unchanged { OnErr result (entry_map self.new ≡ entry_map self.old) }
+        ensures absent { OnErr result (entry_value self.old ≡ None) }
+        ensures full { IfErr result (λ e. e.0 ≡ Full → no_room (entry_map self.old)) }
+        ensures value_returned { IfErr result (λ e. e.1 ≡ value) }
+    {
+        match self {
+            Entry::Vacant(entry) => entry.store(value),
+            Entry::Occupied(entry) => Ok(Some(entry.insert(value))),
         }
     }
 
@@ -237,7 +310,14 @@ impl<'a, P: Prefix, T> Entry<'a, P, T> {
         ensures rest { MatchOption (entry_value result) (entry_map result ≡ entry_map self.entry) (λ w. entry_map result ≡ with_value (entry_map self.entry) (P.bits (entry_key self.entry)) w) }
     {
         match self {
-            Entry::Vacant(entry) => Entry::Vacant(entry),
+            Entry::Vacant(mut entry) => {
+                if !entry.is_stored {
+                    return Entry::Vacant(entry);
+                }
+                let path = path_of(&entry.key);
+                f(entry.map.value_mut(&path));
+                Entry::Vacant(entry)
+            }
             Entry::Occupied(mut entry) => {
                 f(entry.get_mut());
                 Entry::Occupied(entry)
@@ -260,7 +340,7 @@ impl<'a, P: Prefix, T> Entry<'a, P, T> {
         ensures absent { OnErr result (entry_value self.entry ≡ None) }
     {
         match self {
-            Entry::Vacant(entry) => entry.insert(value),
+            Entry::Vacant(entry) => entry.or_insert_with(|| value),
             Entry::Occupied(entry) => Ok(entry.into_mut()),
         }
     }
@@ -281,7 +361,7 @@ impl<'a, P: Prefix, T> Entry<'a, P, T> {
         ensures absent { OnErr result (entry_value self.entry ≡ None) }
     {
         match self {
-            Entry::Vacant(entry) => entry.insert(f()),
+            Entry::Vacant(entry) => entry.or_insert_with(f),
             Entry::Occupied(entry) => Ok(entry.into_mut()),
         }
     }
@@ -301,7 +381,10 @@ impl<'a, P: Prefix, T> Entry<'a, P, T> {
         ensures absent { OnErr result (entry_value self.entry ≡ None) }
     {
         match self {
-            Entry::Vacant(entry) => entry.default(),
+            Entry::Vacant(entry) => {
+                let value = T::default();
+                entry.or_insert_with(|| value)
+            }
             Entry::Occupied(entry) => Ok(entry.into_mut()),
         }
     }

@@ -97,6 +97,93 @@ fn written_and_taken_out(rt: HostRuntime) {
     assert_eq!(rt; map.node_count(), 2);
 }
 
+/// The map has these entries and no other, in this order, and so many nodes.
+fn is_whole(
+    rt: &impl Abort,
+    map: &PrefixMap<Ipv4Net, u32>,
+    entries: &[(&'static str, u32)],
+    nodes: usize,
+) {
+    let mut at = 0;
+    for (key, value) in map {
+        assert!(rt; at < entries.len());
+        assert_eq!(rt; key.to_text().as_slice(), entries[at].0.as_bytes());
+        assert_eq!(rt; *value, entries[at].1);
+        at += 1;
+    }
+    assert_eq!(rt; at, entries.len());
+    assert_eq!(rt; map.len(), entries.len());
+    assert_eq!(rt; map.node_count(), nodes);
+}
+
+#[test]
+fn stored_through_an_entry(rt: HostRuntime) {
+    let mut map = empty(&rt, rt.alloc());
+    assert!(rt; matches!(map.entry(net(&rt, "10.1.2.3/8")).insert(1), Ok(None)));
+    has_ten(&rt, &map, 1);
+    assert!(rt; matches!(map.entry(net(&rt, "10.9.9.9/8")).insert(2), Ok(Some(1))));
+    has_ten(&rt, &map, 2);
+}
+
+#[test]
+fn stored_twice(rt: HostRuntime) {
+    let mut map = empty(&rt, rt.alloc());
+    let mut entry = map.entry(net(&rt, "10.9.9.9/8"));
+    assert!(rt; matches!(entry.insert(3), Ok(None)));
+    assert_eq!(rt; entry.get().copied(), Some(3));
+    assert!(rt; matches!(entry.insert(4), Ok(Some(3))));
+    assert!(rt; matches!(entry.or_insert(8), Ok(4)));
+    has_ten(&rt, &map, 4);
+}
+
+#[test]
+fn written_after_a_store(rt: HostRuntime) {
+    let mut map = empty(&rt, rt.alloc());
+    let mut entry = map.entry(net(&rt, "10.0.0.0/8"));
+    assert!(rt; matches!(entry.insert(3), Ok(None)));
+    if let Some(value) = entry.get_mut() {
+        *value = 5;
+    }
+    let entry = entry.and_modify(|value| *value = 6);
+    assert!(rt; matches!(entry.or_default(), Ok(6)));
+    has_ten(&rt, &map, 6);
+}
+
+/// 10.0.0.0/8 with 1, 10.1.0.0/16 with 2, and two spare nodes.
+fn two_and_spares(rt: &impl Abort, alloc: Global) -> PrefixMap<Ipv4Net, u32> {
+    let mut map = empty(rt, alloc);
+    assert!(rt; map.insert(net(rt, "10.0.0.0/8"), 1).is_ok());
+    assert!(rt; map.insert(net(rt, "10.1.0.0/16"), 2).is_ok());
+    assert!(rt; map.insert(net(rt, "10.2.3.0/24"), 3).is_ok());
+    assert_eq!(rt; map.remove_keep_tree(&net(rt, "10.2.3.0/24")), Some(3));
+    is_whole(rt, &map, &[("10.0.0.0/8", 1), ("10.1.0.0/16", 2)], 6);
+    map
+}
+
+#[test]
+fn nothing_is_lent(rt: HostRuntime) {
+    let mut map = two_and_spares(&rt, rt.alloc());
+    assert!(rt; map.get_lpm_mut(&net(&rt, "11.0.0.0/8")).is_none());
+    is_whole(&rt, &map, &[("10.0.0.0/8", 1), ("10.1.0.0/16", 2)], 6);
+    assert!(rt; map.entry(net(&rt, "10.2.3.0/24")).get_mut().is_none());
+    is_whole(&rt, &map, &[("10.0.0.0/8", 1), ("10.1.0.0/16", 2)], 6);
+}
+
+#[test]
+fn one_value_is_lent(rt: HostRuntime) {
+    let mut map = two_and_spares(&rt, rt.alloc());
+    let Some((key, value)) = map.get_lpm_mut(&net(&rt, "10.2.3.4/32")) else {
+        panic!(&rt; "no match")
+    };
+    assert_eq!(rt; key.to_text().as_slice(), "10.0.0.0/8".as_bytes());
+    *value = 7;
+    is_whole(&rt, &map, &[("10.0.0.0/8", 7), ("10.1.0.0/16", 2)], 6);
+    if let Some(value) = map.entry(net(&rt, "10.1.0.0/16")).get_mut() {
+        *value = 8;
+    }
+    is_whole(&rt, &map, &[("10.0.0.0/8", 7), ("10.1.0.0/16", 8)], 6);
+}
+
 /// The map is empty and has its root alone, or it has 1.2.3.0/32 below five more nodes, with this value.
 fn is_refused_or_stored(rt: &impl Abort, map: &PrefixMap<Ipv4Net, u32>, value: Option<u32>) {
     assert_eq!(rt; map.get(&net(rt, "1.2.3.0/32")).copied(), value);
@@ -149,5 +236,19 @@ fn refused_entries(rt: HostRuntime) {
         panic!(&rt; "occupied")
     };
     let stored = answered(&rt, entry.default(), 0);
+    is_refused_or_stored(&rt, &map, stored);
+}
+
+#[test]
+fn refused_store(rt: HostRuntime) {
+    let mut map = empty(&rt, rt.alloc());
+    let stored = match map.entry(net(&rt, "1.2.3.0/32")).insert(5) {
+        Ok(_) => Some(5),
+        Err((refused, back)) => {
+            assert_eq!(rt; refused, Refused::Memory);
+            assert_eq!(rt; back, 5);
+            None
+        }
+    };
     is_refused_or_stored(&rt, &map, stored);
 }

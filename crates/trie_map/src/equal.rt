@@ -2,12 +2,14 @@
 ghost use Rattle.std.specs.Prelude.{◌≡◌, ◌≤◌, length};
 ghost use Rattle.std.specs.Ordering.{eq_by_cmp};
 ghost use Rattle.std.specs.Cmp.Lexicographic.{pointwise};
-ghost use Rattle.trie_keys.specs.Bits.{bits_cmp};
-ghost use Rattle.trie_core.specs.Walks.{KeysWithin};
-ghost use Rattle.trie_map.specs.Equal.{same_entry, same_maps, same_maps-partial, same_maps-total};
+ghost use Rattle.trie_core.specs.Bits.{bits_cmp};
+ghost use Rattle.trie_core.specs.InnerWalks.{KeysWithin};
+ghost use Rattle.trie_map.specs.Equal.{same_entry, same_maps};
+ghost use Rattle.trie_map.specs.InnerEqual.{same_maps-partial, same_maps-total};
 
 use crate::map::PrefixMap;
-use trie_core::{Path, Prefix, Walk};
+use trie_core::{Path, Walk};
+use trie_keys::Prefix;
 
 /// Whether two bit strings are the same.
 pub(crate) fn is_same(path: &Path, other: &Path) -> bool

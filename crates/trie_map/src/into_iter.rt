@@ -1,20 +1,159 @@
 //! Iterators that own the entries of a map. They take no memory, and drop with them what they have not given.
-ghost use Rattle.std.specs.Prelude.{◌≡◌, ◌≤◌, length};
+ghost use Rattle.std.specs.Prelude.{◌≡◌, ◌≤◌, length, map};
 ghost use Rattle.std.specs.FinMap.{entries, keys, values};
 ghost use Rattle.std.specs.FinMap.Entries.{where_key};
-ghost use Rattle.trie_keys.specs.Bits.{bits_cmp, begins};
-ghost use Rattle.trie_core.specs.Walks.{KeysWithin};
+ghost use Rattle.trie_core.specs.Bits.{bits_cmp, begins};
+ghost use Rattle.trie_core.specs.InnerWalks.{KeysWithin};
+ghost use Rattle.std.specs.Iterator.{YieldsFirst, item_count};
+ghost use Rattle.trie_map.specs.Iterators.{GivesOwned, GivesKey};
 
+use crate::key::key_of;
 use crate::map::PrefixMap;
-use trie_core::{Key, Node, OwnedWalk, Prefix, path_of};
-use trie_iter::{IntoIter, IntoKeys, IntoValues};
+use std::marker::{Model, PhantomData};
+use trie_core::{Node, OwnedWalk};
+use trie_keys::{Key, Prefix, path_of};
+
+/// The entries that are left: what `into_iter` and `into_children` give.
+#[derive(Drop)]
+pub struct IntoIter<P: Prefix, T> {
+    walk: OwnedWalk<T>,
+    keys: PhantomData<P>,
+}
+
+impl<P: Prefix, T> Model for IntoIter<P, T> {
+    ghost use Rattle.std.specs.Prelude.{List, Bool};
+    ghost use Rattle.std.specs.Coded.{coded×, coded_list, coded_bool};
+    ghost use Rattle.trie_core.specs.InnerWalks.{KeysWithin};
+
+    ghost Value = { List (List Bool × T) };
+
+    ghost coded = { coded_list (coded× (coded_list coded_bool) T.code) };
+
+    ghost view = { λ a. a.walk.0 };
+
+    ghost invariant = { λ a. KeysWithin P.R.width a.walk.0 };
+}
+
+impl<P: Prefix, T> IntoIter<P, T> {
+    /// Those that a walk has left.
+    pub(crate) fn new(walk: OwnedWalk<T>) -> IntoIter<P, T>
+        requires { KeysWithin P.R.width walk.0 }
+        ensures { result ≡ walk.0 }
+    {
+        IntoIter {
+            walk,
+            keys: PhantomData,
+        }
+    }
+}
+
+impl<P: Prefix, T: Drop> Iterator for IntoIter<P, T> {
+    type Item = (P, T);
+
+    ghost next_gives = { GivesOwned P.bits P.of_bits };
+
+    ghost remaining = { item_count (λ it. it) };
+
+    fn next(&mut self) -> Option<(P, T)> {
+        match self.walk.next() {
+            None => None,
+            Some((path, value)) => Some((key_of(&path), value)),
+        }
+    }
+}
+
+/// The keys that are left: what `into_keys` gives. The values are dropped.
+#[derive(Drop)]
+pub struct IntoKeys<P: Prefix, T> {
+    entries: IntoIter<P, T>,
+}
+
+impl<P: Prefix, T> Model for IntoKeys<P, T> {
+    ghost use Rattle.std.specs.Prelude.{List, Bool, map};
+    ghost use Rattle.std.specs.Coded.{coded_list, coded_bool};
+
+    ghost Value = { List (List Bool) };
+
+    ghost coded = { coded_list (coded_list coded_bool) };
+
+    ghost view = { λ a. map (λ e. e.0) a.entries };
+}
+
+impl<P: Prefix, T> IntoKeys<P, T> {
+    /// Those of entries.
+    pub(crate) fn new(entries: IntoIter<P, T>) -> IntoKeys<P, T>
+        ensures { result ≡ map (λ e. e.0) entries }
+    {
+        IntoKeys { entries }
+    }
+}
+
+impl<P: Prefix, T: Drop> Iterator for IntoKeys<P, T> {
+    type Item = P;
+
+    ghost next_gives = { GivesKey P.bits P.of_bits };
+
+    ghost remaining = { item_count (λ it. it) };
+
+    fn next(&mut self) -> Option<P> {
+        match self.entries.next() {
+            None => None,
+            Some((key, _)) => Some(key),
+        }
+    }
+}
+
+/// The values that are left, in the order of their keys: what `into_values` gives.
+#[derive(Drop)]
+pub struct IntoValues<P: Prefix, T> {
+    walk: OwnedWalk<T>,
+    keys: PhantomData<P>,
+}
+
+impl<P: Prefix, T> Model for IntoValues<P, T> {
+    ghost use Rattle.std.specs.Prelude.{List, map};
+    ghost use Rattle.std.specs.Coded.{coded_list};
+
+    ghost Value = { List T };
+
+    ghost coded = { coded_list T.code };
+
+    ghost view = { λ a. map (λ e. e.1) a.walk.0 };
+}
+
+impl<P: Prefix, T> IntoValues<P, T> {
+    /// Those that a walk has left.
+    pub(crate) fn new(walk: OwnedWalk<T>) -> IntoValues<P, T>
+        ensures { result ≡ map (λ e. e.1) walk.0 }
+    {
+        IntoValues {
+            walk,
+            keys: PhantomData,
+        }
+    }
+}
+
+impl<P: Prefix, T: Drop> Iterator for IntoValues<P, T> {
+    type Item = T;
+
+    ghost next_gives = { YieldsFirst (λ it. it) };
+
+    ghost remaining = { item_count (λ it. it) };
+
+    fn next(&mut self) -> Option<T> {
+        match self.walk.next() {
+            None => None,
+            Some((_, value)) => Some(value),
+        }
+    }
+}
 
 impl<P: Prefix, T: Drop> IntoIterator for PrefixMap<P, T> {
     type Item = (P, T);
 
     type IntoIter = IntoIter<P, T>;
 
-    ghost into_iter_gives = { λ m r. r ≡ entries m.0 };
+    ghost into_iter_gives = { λ m r. r ≡ entries m.entries };
 
     /// All entries, owned.
     fn into_iter(self) -> IntoIter<P, T> {
@@ -25,10 +164,10 @@ impl<P: Prefix, T: Drop> IntoIterator for PrefixMap<P, T> {
 impl<P: Prefix, T: Drop> PrefixMap<P, T> {
     /// The node that walks start at, owned.
     fn into_root(self) -> Node<T>
-        ensures node { result ≡ self }
-        ensures levels { result.2 ≤ 26 }
-        ensures keys { KeysWithin P.R.width (entries result.0) }
-        ensures within { KeysWithin 128 (entries result.0) }
+        ensures map { result.entries ≡ self.entries }
+        ensures levels { result.levels ≤ 26 }
+        ensures keys { KeysWithin P.R.width (entries result.entries) }
+        ensures within { KeysWithin 128 (entries result.entries) }
     {
         let _width = <P::R as Key>::width();
         self.root
@@ -37,21 +176,21 @@ impl<P: Prefix, T: Drop> PrefixMap<P, T> {
     /// The entries whose keys the prefix contains, itself included, owned. The other entries are dropped.
     pub fn into_children(self, prefix: &P) -> IntoIter<P, T>
         requires { length (P.bits prefix.now) ≤ P.R.width }
-        ensures { result ≡ where_key bits_cmp (begins (P.bits prefix.now)) (entries self.0) }
+        ensures { result ≡ where_key bits_cmp (begins (P.bits prefix.now)) (entries self.entries) }
     {
         IntoIter::new(OwnedWalk::inside(self.into_root(), path_of(prefix)))
     }
 
     /// All keys, in the order of a walk. The values are dropped.
     pub fn into_keys(self) -> IntoKeys<P, T>
-        ensures { result ≡ keys self.0 }
+        ensures { result ≡ keys self.entries }
     {
         IntoKeys::new(self.into_iter())
     }
 
     /// All values, owned, in the order of their keys.
     pub fn into_values(self) -> IntoValues<P, T>
-        ensures { result ≡ values self.0 }
+        ensures { result ≡ values self.entries }
     {
         IntoValues::new(OwnedWalk::new(self.into_root()))
     }

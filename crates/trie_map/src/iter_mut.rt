@@ -5,13 +5,14 @@ ghost use Rattle.std.specs.Option.{IsSome, option_copied_mut};
 ghost use Rattle.std.specs.FinMap.{get, entries};
 ghost use Rattle.std.specs.FinMap.Entries.{where_key};
 ghost use Rattle.std.proofs.Props.{props};
-ghost use Rattle.trie_keys.specs.Bits.{bits_cmp, begins, is_from};
+ghost use Rattle.trie_core.specs.Bits.{bits_cmp, begins, is_from};
 ghost use Rattle.trie_map.specs.Maps.{first_key};
 
 use crate::equal::is_same;
+use crate::key::key_of;
 use crate::map::PrefixMap;
-use trie_core::{Path, Prefix, Walk, path_of};
-use trie_iter::key_of;
+use trie_core::{Path, Walk};
+use trie_keys::{Prefix, path_of};
 
 /// Whether a path begins a key.
 fn is_begun(path: &Path, key: &Path) -> bool
@@ -31,7 +32,7 @@ pub struct IterMut<'a, P: Prefix, T> {
     next: Option<Path>,
     ghost whole: { length inside ≤ 128 },
     ghost begun: { IfSome next (λ q. begins inside q ≡ true) } by { Prim.hlevel props },
-    ghost stored: { IfSome next (λ q. (length q ≤ 128) × (length q ≤ P.R.width) × IsSome (get map.now.0 q)) } by { Prim.hlevel props },
+    ghost stored: { IfSome next (λ q. (length q ≤ 128) × (length q ≤ P.R.width) × IsSome (get map.now.entries q)) } by { Prim.hlevel props },
 }
 
 /// What `values_mut` gives: an `IterMut` lends values, and tells their keys where asked.
@@ -43,8 +44,8 @@ impl<P: Prefix, T> PrefixMap<P, T> {
     /// The first key from a path on.
     pub(crate) fn key_from(&self, path: Path, inclusive: bool) -> Option<Path>
         requires { length path ≤ 128 }
-        ensures key { result ≡ first_key (where_key bits_cmp (is_from path inclusive) (entries self.now.0)) }
-        ensures stored { IfSome result (λ q. (length q ≤ 128) × (length q ≤ P.R.width) × IsSome (get self.now.0 q)) }
+        ensures key { result ≡ first_key (where_key bits_cmp (is_from path inclusive) (entries self.now.entries)) }
+        ensures stored { IfSome result (λ q. (length q ≤ 128) × (length q ≤ P.R.width) × IsSome (get self.now.entries q)) }
     {
         match Walk::onwards(self.walked(), path, inclusive).next() {
             None => None,
@@ -57,8 +58,8 @@ impl<P: Prefix, T> PrefixMap<P, T> {
         requires within { length path ≤ 128 }
         requires whole { length inside.now ≤ 128 }
         requires begun { begins inside.now path ≡ true }
-        ensures key { result ≡ first_key (where_key bits_cmp (λ k. is_from path inclusive k && begins inside.now k) (entries self.now.0)) }
-        ensures stored { IfSome result (λ q. (length q ≤ 128) × (length q ≤ P.R.width) × IsSome (get self.now.0 q)) }
+        ensures key { result ≡ first_key (where_key bits_cmp (λ k. is_from path inclusive k && begins inside.now k) (entries self.now.entries)) }
+        ensures stored { IfSome result (λ q. (length q ≤ 128) × (length q ≤ P.R.width) × IsSome (get self.now.entries q)) }
         ensures begun { IfSome result (λ q. begins inside.now q ≡ true) }
     {
         let Some(key) = self.key_from(path, inclusive) else {
@@ -76,7 +77,7 @@ impl<P: Prefix, T> PrefixMap<P, T> {
         ensures same_map { (lent_map_ref result).ghost_name ≡ self.entry.ghost_name }
         ensures unchanged { lent_map result ≡ self.old }
         ensures inside { lent_inside result ≡ [] }
-        ensures first { next_bits result ≡ first_key (entries self.old.0) }
+        ensures first { next_bits result ≡ first_key (entries self.old.entries) }
     {
         let inside = Path::new(0, 0);
         let next = self.key_from(Path::new(0, 0), true);
@@ -92,7 +93,7 @@ impl<P: Prefix, T> PrefixMap<P, T> {
         ensures same_map { (lent_map_ref result).ghost_name ≡ self.entry.ghost_name }
         ensures unchanged { lent_map result ≡ self.old }
         ensures inside { lent_inside result ≡ [] }
-        ensures first { next_bits result ≡ first_key (entries self.old.0) }
+        ensures first { next_bits result ≡ first_key (entries self.old.entries) }
     {
         self.iter_mut()
     }
@@ -103,7 +104,7 @@ impl<P: Prefix, T> PrefixMap<P, T> {
         ensures same_map { (lent_map_ref result).ghost_name ≡ self.entry.ghost_name }
         ensures unchanged { lent_map result ≡ self.old }
         ensures inside { lent_inside result ≡ [] }
-        ensures first { next_bits result ≡ first_key (where_key bits_cmp (is_from (P.bits prefix.now) inclusive) (entries self.old.0)) }
+        ensures first { next_bits result ≡ first_key (where_key bits_cmp (is_from (P.bits prefix.now) inclusive) (entries self.old.entries)) }
     {
         let inside = Path::new(0, 0);
         let next = self.key_from(path_of(prefix), inclusive);
@@ -120,7 +121,7 @@ impl<P: Prefix, T> PrefixMap<P, T> {
         ensures same_map { (lent_map_ref result).ghost_name ≡ self.entry.ghost_name }
         ensures unchanged { lent_map result ≡ self.old }
         ensures inside { lent_inside result ≡ P.bits prefix.now }
-        ensures first { next_bits result ≡ first_key (where_key bits_cmp (begins (P.bits prefix.now)) (entries self.old.0)) }
+        ensures first { next_bits result ≡ first_key (where_key bits_cmp (begins (P.bits prefix.now)) (entries self.old.entries)) }
     {
         let inside = path_of(prefix);
         let next = self.key_within(path_of(prefix), true, &inside);

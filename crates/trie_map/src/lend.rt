@@ -8,7 +8,8 @@ ghost use Rattle.trie_map.specs.Maps.{IsLongestKey};
 ghost use Rattle.trie_map.specs.Lending.{lends_value, lends_longest};
 
 use crate::map::PrefixMap;
-use trie_core::{Key, Path, Prefix, path_of, shortened};
+use trie_core::Path;
+use trie_keys::{Key, Prefix, path_of, shortened};
 
 /// The way to the first `len` bits of a prefix.
 fn first_bits<P: Prefix>(prefix: &P, len: u8) -> Path
@@ -24,7 +25,7 @@ impl<P: Prefix, T> PrefixMap<P, T> {
     /// How long the longest key is that contains the asked prefix.
     fn lpm_len(&self, prefix: &P) -> Option<u8>
         requires { length (P.bits prefix.now) ≤ P.R.width }
-        ensures { MatchOption result (NoBeginning self.now.0 (P.bits prefix.now)) (λ n. (v : T) × IsLongest self.now.0 (P.bits prefix.now) n v) }
+        ensures { MatchOption result (NoBeginning self.now.entries (P.bits prefix.now)) (λ n. (v : T) × IsLongest self.now.entries (P.bits prefix.now) n v) }
     {
         match self.root.longest(path_of(prefix)) {
             None => None,
@@ -37,11 +38,11 @@ impl<P: Prefix, T> PrefixMap<P, T> {
     pub fn match_mut(&mut self, prefix: &P, len: u8) -> (P, &mut T)
         requires whole { length (P.bits prefix.now) ≤ P.R.width }
         requires within { len ≤ length (P.bits prefix.now) }
-        requires stored { IsSome (map.get self.old.0 (take len (P.bits prefix.now))) }
+        requires stored { IsSome (map.get self.old.entries (take len (P.bits prefix.now))) }
         ensures* writes_back { sem 𝓛 (lends_value P.row T.row P.R.row ⟦<P as Prefix>⟧ ⟦<P::R as Key>⟧ self.entry (take len (P.bits prefix.now)) result.1) }
         ensures key { result.0 ≡ P.of_bits (take len (P.bits prefix.now)) }
         ensures bits { P.bits result.0 ≡ take len (P.bits prefix.now) }
-        ensures value { map.get self.old.0 (take len (P.bits prefix.now)) ≡ Some result.1.now }
+        ensures value { map.get self.old.entries (take len (P.bits prefix.now)) ≡ Some result.1.now }
     {
         let path = first_bits(prefix, len);
         (shortened(prefix, len), self.value_mut(&path))
@@ -51,7 +52,7 @@ impl<P: Prefix, T> PrefixMap<P, T> {
     /// is written back is told by `match_mut`, which lends it, and by `get_lpm_value_mut`.
     pub fn get_lpm_mut(&mut self, prefix: &P) -> Option<(P, &mut T)>
         requires { length (P.bits prefix.now) ≤ P.R.width }
-        ensures { MatchOption result (NoBeginning self.old.0 (P.bits prefix.now)) (λ r. IsLongestKey P.bits P.of_bits self.old.0 (P.bits prefix.now) r.0 r.1.now) }
+        ensures { MatchOption result (NoBeginning self.old.entries (P.bits prefix.now)) (λ r. IsLongestKey P.bits P.of_bits self.old.entries (P.bits prefix.now) r.0 r.1.now) }
     {
         match self.lpm_len(prefix) {
             None => None,
@@ -64,7 +65,7 @@ impl<P: Prefix, T> PrefixMap<P, T> {
     pub fn get_lpm_value_mut(&mut self, prefix: &P) -> Option<&mut T>
         requires { length (P.bits prefix.now) ≤ P.R.width }
         ensures* writes_back { sem 𝓛 (lends_longest P.row T.row P.R.row ⟦<P as Prefix>⟧ ⟦<P::R as Key>⟧ self.entry (P.bits prefix.now) result) }
-        ensures value { MatchOption result (NoBeginning self.old.0 (P.bits prefix.now)) (λ r. (n : ℕ) × IsLongest self.old.0 (P.bits prefix.now) n r.now) }
+        ensures value { MatchOption result (NoBeginning self.old.entries (P.bits prefix.now)) (λ r. (n : ℕ) × IsLongest self.old.entries (P.bits prefix.now) n r.now) }
     {
         match self.lpm_len(prefix) {
             None => None,

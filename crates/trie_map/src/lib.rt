@@ -13,6 +13,7 @@ mod equal;
 mod into_iter;
 mod iter;
 mod iter_mut;
+mod key;
 mod lend;
 mod map;
 mod prune;
@@ -21,11 +22,11 @@ mod retain;
 #[cfg(test)]
 mod tests;
 
+pub use cover::{Cover, CoverKeys, CoverValues};
 pub use entry::{Entry, OccupiedEntry, VacantEntry};
+pub use into_iter::{IntoIter, IntoKeys, IntoValues};
+pub use iter::{Iter, Keys, Values};
 pub use iter_mut::{IterMut, ValuesMut};
 pub use map::PrefixMap;
 pub use refused::Refused;
-pub use trie_core::{Key, Prefix, laws};
-pub use trie_iter::{
-    Cover, CoverKeys, CoverValues, IntoIter, IntoKeys, IntoValues, Iter, Keys, Values,
-};
+pub use trie_keys::{Key, Prefix, laws};

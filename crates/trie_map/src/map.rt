@@ -14,7 +14,8 @@ ghost use Rattle.trie_map.specs.declared.refused.Refused.TheVariants.{Full};
 use crate::refused::Refused;
 use std::alloc::Global;
 use std::marker::{Model, PhantomData};
-use trie_core::{Key, Node, Path, Prefix, path_of, shortened};
+use trie_core::{Node, Path};
+use trie_keys::{Key, Prefix, path_of, shortened};
 
 /// A map from prefixes to values: two prefixes are one key where the same bits count.
 ///
@@ -30,21 +31,16 @@ pub struct PrefixMap<P: Prefix, T> {
 }
 
 impl<P: Prefix, T> Model for PrefixMap<P, T> {
-    ghost use Rattle.std.specs.Prelude.{◌≡◌, ◌≤◌, ℕ};
-    ghost use Rattle.std.specs.FinMap as map;
-    ghost use Rattle.trie_keys.specs.Bits.{bits_cmp};
-    ghost use Rattle.trie_core.specs.Count.{all_nodes};
-    ghost use Rattle.trie_core.specs.Nodes.{code};
-    ghost use Rattle.trie_core.specs.Ways.{AreIdle};
-    ghost use Rattle.trie_map.specs.Maps.{KeysUpTo};
+    ghost use Rattle.trie_map.specs.Seen.{SeenMap, code};
+    ghost use Rattle.trie_map.specs.InnerRoots.{IsRoot};
 
-    ghost Value = { map.FinMap bits_cmp T × map.FinMap bits_cmp (Unit {0}) × ℕ };
+    ghost Value = { SeenMap T };
 
     ghost coded = { code T.code };
 
-    ghost view = { λ a. a.root };
+    ghost view = { λ a. record { entries = a.root.entries; spares = a.root.spares } };
 
-    ghost invariant = { λ a. (a.len ≡ map.len a.root.0) × (a.nodes ≡ all_nodes a.root) × (a.root.2 ≤ 26) × KeysUpTo P.R.width a.root.0 × AreIdle a.root.0 a.root.1 };
+    ghost invariant = { λ a. IsRoot P.R.width a.len a.nodes a.root };
 }
 
 impl<P: Prefix, T> PrefixMap<P, T> {
@@ -53,8 +49,8 @@ impl<P: Prefix, T> PrefixMap<P, T> {
     /// # Errors
     /// None: the `Result` is for the maps that need memory at once.
     pub fn new(alloc: Global) -> Result<PrefixMap<P, T>, Refused>
-        ensures map { IfOk result (λ m. m.0 ≡ map.empty) }
-        ensures tidy { IfOk result (λ m. m.1 ≡ map.empty) }
+        ensures map { IfOk result (λ m. m.entries ≡ map.empty) }
+        ensures tidy { IfOk result (λ m. m.spares ≡ map.empty) }
         ensures ok { IsOk result }
     {
         Ok(PrefixMap::empty(alloc))
@@ -62,8 +58,8 @@ impl<P: Prefix, T> PrefixMap<P, T> {
 
     /// The empty map.
     pub(crate) fn empty(alloc: Global) -> PrefixMap<P, T>
-        ensures map { result.0 ≡ map.empty }
-        ensures tidy { result.1 ≡ map.empty }
+        ensures map { result.entries ≡ map.empty }
+        ensures tidy { result.spares ≡ map.empty }
     {
         PrefixMap {
             root: Node::new(alloc),
@@ -75,14 +71,14 @@ impl<P: Prefix, T> PrefixMap<P, T> {
 
     /// The number of entries.
     pub fn len(&self) -> usize
-        ensures { result ≡ map.len self.now.0 }
+        ensures { result ≡ map.len self.now.entries }
     {
         self.len
     }
 
     /// Whether it has no entry.
     pub fn is_empty(&self) -> bool
-        ensures { IsTrue result ↔ (self.now.0 ≡ map.empty) }
+        ensures { IsTrue result ↔ (self.now.entries ≡ map.empty) }
     {
         self.len == 0
     }
@@ -90,9 +86,9 @@ impl<P: Prefix, T> PrefixMap<P, T> {
     /// The number of nodes, the root included: of a tidy map one, and one for each distinct bit string of positive
     /// length divisible by five that begins a key; of another map the spare nodes too.
     pub fn node_count(&self) -> usize
-        ensures all { result ≡ nodes self.now.0 + map.len self.now.1 }
-        ensures idle { AreIdle self.now.0 self.now.1 }
-        ensures tidy { self.now.1 ≡ map.empty → result ≡ nodes self.now.0 }
+        ensures all { result ≡ nodes self.now.entries + map.len self.now.spares }
+        ensures idle { AreIdle self.now.entries self.now.spares }
+        ensures tidy { self.now.spares ≡ map.empty → result ≡ nodes self.now.entries }
     {
         self.nodes
     }
@@ -100,7 +96,7 @@ impl<P: Prefix, T> PrefixMap<P, T> {
     /// The value at this very key.
     pub fn get(&self, prefix: &P) -> Option<&T>
         requires { length (P.bits prefix.now) ≤ P.R.width }
-        ensures { option_copied result ≡ map.get self.now.0 (P.bits prefix.now) }
+        ensures { option_copied result ≡ map.get self.now.entries (P.bits prefix.now) }
     {
         self.root.get(path_of(prefix))
     }
@@ -108,7 +104,7 @@ impl<P: Prefix, T> PrefixMap<P, T> {
     /// Whether this very key is stored.
     pub fn contains_key(&self, prefix: &P) -> bool
         requires { length (P.bits prefix.now) ≤ P.R.width }
-        ensures { IsTrue result ↔ IsSome (map.get self.now.0 (P.bits prefix.now)) }
+        ensures { IsTrue result ↔ IsSome (map.get self.now.entries (P.bits prefix.now)) }
     {
         self.get(prefix).is_some()
     }
@@ -116,7 +112,7 @@ impl<P: Prefix, T> PrefixMap<P, T> {
     /// The key, with zeros after the bits that count, and its value.
     pub fn get_key_value(&self, prefix: &P) -> Option<(P, &T)>
         requires { length (P.bits prefix.now) ≤ P.R.width }
-        ensures value { option_map (λ r. r.1.now) result ≡ map.get self.now.0 (P.bits prefix.now) }
+        ensures value { option_map (λ r. r.1.now) result ≡ map.get self.now.entries (P.bits prefix.now) }
         ensures key { MatchOption result ⊤ (λ r. r.0 ≡ P.of_bits (P.bits prefix.now)) }
     {
         match self.get(prefix) {
@@ -128,7 +124,7 @@ impl<P: Prefix, T> PrefixMap<P, T> {
     /// The longest key that contains the asked prefix, which itself counts, and its value.
     pub fn get_lpm(&self, prefix: &P) -> Option<(P, &T)>
         requires { length (P.bits prefix.now) ≤ P.R.width }
-        ensures { MatchOption result (NoBeginning self.now.0 (P.bits prefix.now)) (λ r. IsLongestKey P.bits P.of_bits self.now.0 (P.bits prefix.now) r.0 r.1.now) }
+        ensures { MatchOption result (NoBeginning self.now.entries (P.bits prefix.now)) (λ r. IsLongestKey P.bits P.of_bits self.now.entries (P.bits prefix.now) r.0 r.1.now) }
     {
         match self.root.longest(path_of(prefix)) {
             None => None,
@@ -139,7 +135,7 @@ impl<P: Prefix, T> PrefixMap<P, T> {
     /// The longest key that contains the asked prefix.
     pub fn get_lpm_prefix(&self, prefix: &P) -> Option<P>
         requires { length (P.bits prefix.now) ≤ P.R.width }
-        ensures { MatchOption result (NoBeginning self.now.0 (P.bits prefix.now)) (λ k. (v : T) × IsLongestKey P.bits P.of_bits self.now.0 (P.bits prefix.now) k v) }
+        ensures { MatchOption result (NoBeginning self.now.entries (P.bits prefix.now)) (λ k. (v : T) × IsLongestKey P.bits P.of_bits self.now.entries (P.bits prefix.now) k v) }
     {
         match self.root.longest(path_of(prefix)) {
             None => None,
@@ -150,7 +146,7 @@ impl<P: Prefix, T> PrefixMap<P, T> {
     /// The shortest key that contains the asked prefix, which itself counts, and its value.
     pub fn get_spm(&self, prefix: &P) -> Option<(P, &T)>
         requires { length (P.bits prefix.now) ≤ P.R.width }
-        ensures { MatchOption result (NoBeginning self.now.0 (P.bits prefix.now)) (λ r. IsShortestKey P.bits P.of_bits self.now.0 (P.bits prefix.now) r.0 r.1.now) }
+        ensures { MatchOption result (NoBeginning self.now.entries (P.bits prefix.now)) (λ r. IsShortestKey P.bits P.of_bits self.now.entries (P.bits prefix.now) r.0 r.1.now) }
     {
         match self.root.shortest(path_of(prefix)) {
             None => None,
@@ -161,7 +157,7 @@ impl<P: Prefix, T> PrefixMap<P, T> {
     /// The shortest key that contains the asked prefix.
     pub fn get_spm_prefix(&self, prefix: &P) -> Option<P>
         requires { length (P.bits prefix.now) ≤ P.R.width }
-        ensures { MatchOption result (NoBeginning self.now.0 (P.bits prefix.now)) (λ k. (v : T) × IsShortestKey P.bits P.of_bits self.now.0 (P.bits prefix.now) k v) }
+        ensures { MatchOption result (NoBeginning self.now.entries (P.bits prefix.now)) (λ k. (v : T) × IsShortestKey P.bits P.of_bits self.now.entries (P.bits prefix.now) k v) }
     {
         match self.root.shortest(path_of(prefix)) {
             None => None,
@@ -172,7 +168,7 @@ impl<P: Prefix, T> PrefixMap<P, T> {
     /// Whether a key contains the asked prefix.
     pub fn is_covered(&self, prefix: &P) -> bool
         requires { length (P.bits prefix.now) ≤ P.R.width }
-        ensures { IsTrue result ↔ (NoBeginning self.now.0 (P.bits prefix.now) → ⊥) }
+        ensures { IsTrue result ↔ (NoBeginning self.now.entries (P.bits prefix.now) → ⊥) }
     {
         self.root.shortest(path_of(prefix)).is_some()
     }
@@ -181,10 +177,10 @@ impl<P: Prefix, T> PrefixMap<P, T> {
     /// prefix of positive length divisible by five at which a node stands. In a tidy map these begin a key too.
     pub fn get_lpm_visits(&self, prefix: &P) -> (Option<(P, &T)>, u32)
         requires { length (P.bits prefix.now) ≤ P.R.width }
-        ensures found { MatchOption result.0 (NoBeginning self.now.0 (P.bits prefix.now)) (λ r. IsLongestKey P.bits P.of_bits self.now.0 (P.bits prefix.now) r.0 r.1.now) }
+        ensures found { MatchOption result.0 (NoBeginning self.now.entries (P.bits prefix.now)) (λ r. IsLongestKey P.bits P.of_bits self.now.entries (P.bits prefix.now) r.0 r.1.now) }
         ensures visits { result.1 ≤ length (P.bits prefix.now) / 5 + 1 }
-        ensures all { result.1 ≡ node_visits self.now (P.bits prefix.now) }
-        ensures tidy { self.now.1 ≡ map.empty → result.1 ≡ visit_count self.now.0 (P.bits prefix.now) }
+        ensures all { result.1 ≡ node_visits self.now.entries self.now.spares (P.bits prefix.now) }
+        ensures tidy { self.now.spares ≡ map.empty → result.1 ≡ visit_count self.now.entries (P.bits prefix.now) }
     {
         (
             self.get_lpm(prefix),
@@ -196,7 +192,7 @@ impl<P: Prefix, T> PrefixMap<P, T> {
     pub fn get_mut(&mut self, prefix: &P) -> Option<&mut T>
         requires { length (P.bits prefix.now) ≤ P.R.width }
         ensures* writes_back { sem 𝓛 (lends_get P.row T.row P.R.row ⟦<P as Prefix>⟧ ⟦<P::R as Key>⟧ self.entry (P.bits prefix.now) result) }
-        ensures value { option_copied_mut result ≡ map.get self.old.0 (P.bits prefix.now) }
+        ensures value { option_copied_mut result ≡ map.get self.old.entries (P.bits prefix.now) }
     {
         if self.get(prefix).is_none() {
             return None;
@@ -208,9 +204,9 @@ impl<P: Prefix, T> PrefixMap<P, T> {
     /// The value at a stored key, lent to be written.
     pub(crate) fn value_mut(&mut self, path: &Path) -> &mut T
         requires within { length path.now ≤ 128 }
-        requires stored { IsSome (map.get self.old.0 path.now) }
+        requires stored { IsSome (map.get self.old.entries path.now) }
         ensures* writes_back { sem 𝓛 (lends_value P.row T.row P.R.row ⟦<P as Prefix>⟧ ⟦<P::R as Key>⟧ self.entry path.now result) }
-        ensures value { map.get self.old.0 path.now ≡ Some result.now }
+        ensures value { map.get self.old.entries path.now ≡ Some result.now }
     {
         self.root.value_mut(path)
     }
@@ -225,12 +221,13 @@ impl<P: Prefix + Drop, T: Drop> PrefixMap<P, T> {
     /// was, and the value comes back.
     pub fn insert(&mut self, prefix: P, value: T) -> Result<Option<T>, (Refused, T)>
         requires { length (P.bits prefix) ≤ P.R.width }
-        ensures old { IfOk result (λ old. old ≡ map.get self.old.0 (P.bits prefix)) }
-        ensures map { OnOk result (self.new.0 ≡ map.insert self.old.0 (P.bits prefix) value) }
-        ensures spares { OnOk result (self.new.1 ≡ off_way self.old.1 (P.bits prefix)) }
-        ensures tidy { OnOk result (self.old.1 ≡ map.empty → self.new.1 ≡ map.empty) }
+        ensures old { IfOk result (λ old. old ≡ map.get self.old.entries (P.bits prefix)) }
+        ensures map { OnOk result (self.new.entries ≡ map.insert self.old.entries (P.bits prefix) value) }
+        ensures spares { OnOk result (self.new.spares ≡ off_way self.old.spares (P.bits prefix)) }
+        ensures kept { OnOk result (IsSome (map.get self.old.entries (P.bits prefix)) → self.new.spares ≡ self.old.spares) }
+        ensures tidy { OnOk result (self.old.spares ≡ map.empty → self.new.spares ≡ map.empty) }
         ensures unchanged { OnErr result (self.new ≡ self.old) }
-        ensures absent { OnErr result (map.get self.old.0 (P.bits prefix) ≡ None) }
+        ensures absent { OnErr result (map.get self.old.entries (P.bits prefix) ≡ None) }
         ensures full { IfErr result (λ e. e.0 ≡ Full → no_room self.old) }
         ensures value_returned { IfErr result (λ e. e.1 ≡ value) }
     {
@@ -254,11 +251,11 @@ impl<P: Prefix + Drop, T: Drop> PrefixMap<P, T> {
     /// while it has neither value nor child and is not the root; also where the key is not stored. It takes no memory.
     pub fn remove(&mut self, prefix: &P) -> Option<T>
         requires { length (P.bits prefix.now) ≤ P.R.width }
-        ensures value { result ≡ map.get self.old.0 (P.bits prefix.now) }
-        ensures map { self.new.0 ≡ map.remove self.old.0 (P.bits prefix.now) }
-        ensures spares { IsPruned (P.bits prefix.now) self.old.1 self.new.0 self.new.1 }
-        ensures tidy { self.old.1 ≡ map.empty → self.new.1 ≡ map.empty }
-        ensures count { nodes self.new.0 + map.len self.new.1 ≤ nodes self.old.0 + map.len self.old.1 }
+        ensures value { result ≡ map.get self.old.entries (P.bits prefix.now) }
+        ensures map { self.new.entries ≡ map.remove self.old.entries (P.bits prefix.now) }
+        ensures spares { IsPruned (P.bits prefix.now) self.old.spares self.new.entries self.new.spares }
+        ensures tidy { self.old.spares ≡ map.empty → self.new.spares ≡ map.empty }
+        ensures count { nodes self.new.entries + map.len self.new.spares ≤ nodes self.old.entries + map.len self.old.spares }
     {
         let (value, gone) = self.root.remove(path_of(prefix));
         self.nodes -= usize::from(gone);
@@ -271,10 +268,10 @@ impl<P: Prefix + Drop, T: Drop> PrefixMap<P, T> {
     /// Takes the entry out and answers its value; every node stays. It takes no memory.
     pub fn remove_keep_tree(&mut self, prefix: &P) -> Option<T>
         requires { length (P.bits prefix.now) ≤ P.R.width }
-        ensures value { result ≡ map.get self.old.0 (P.bits prefix.now) }
-        ensures map { self.new.0 ≡ map.remove self.old.0 (P.bits prefix.now) }
-        ensures spares { IsKept (P.bits prefix.now) self.old.0 self.old.1 self.new.0 self.new.1 }
-        ensures count { nodes self.new.0 + map.len self.new.1 ≡ nodes self.old.0 + map.len self.old.1 }
+        ensures value { result ≡ map.get self.old.entries (P.bits prefix.now) }
+        ensures map { self.new.entries ≡ map.remove self.old.entries (P.bits prefix.now) }
+        ensures spares { IsKept (P.bits prefix.now) self.old.entries self.old.spares self.new.entries self.new.spares }
+        ensures count { nodes self.new.entries + map.len self.new.spares ≡ nodes self.old.entries + map.len self.old.spares }
     {
         let value = self.root.remove_keep_tree(path_of(prefix));
         if value.is_some() {

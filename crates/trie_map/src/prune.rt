@@ -6,13 +6,13 @@ ghost use Rattle.trie_core.specs.Inside.{outside};
 ghost use Rattle.trie_core.specs.Ways.{IsCut};
 
 use crate::map::PrefixMap;
-use trie_core::{Prefix, path_of};
+use trie_keys::{Prefix, path_of};
 
 impl<P: Prefix + Drop, T: Drop> PrefixMap<P, T> {
     /// Takes out every entry, and leaves the root alone. It takes no memory.
     pub fn clear(&mut self)
-        ensures map { self.new.0 ≡ map.empty }
-        ensures tidy { self.new.1 ≡ map.empty }
+        ensures map { self.new.entries ≡ map.empty }
+        ensures tidy { self.new.spares ≡ map.empty }
     {
         self.root.clear();
         self.len = 0;
@@ -24,11 +24,11 @@ impl<P: Prefix + Drop, T: Drop> PrefixMap<P, T> {
     /// clears the map. It takes no memory.
     pub fn remove_children(&mut self, prefix: &P)
         requires { length (P.bits prefix.now) ≤ P.R.width }
-        ensures map { self.new.0 ≡ outside self.old.0 (P.bits prefix.now) }
-        ensures spares { IsCut (P.bits prefix.now) self.old.1 self.new.0 self.new.1 }
-        ensures tidy { self.old.1 ≡ map.empty → self.new.1 ≡ map.empty }
-        ensures cleared { length (P.bits prefix.now) ≡ 0 → self.new.1 ≡ map.empty }
-        ensures count { nodes self.new.0 + map.len self.new.1 ≤ nodes self.old.0 + map.len self.old.1 }
+        ensures map { self.new.entries ≡ outside self.old.entries (P.bits prefix.now) }
+        ensures spares { IsCut (P.bits prefix.now) self.old.spares self.new.entries self.new.spares }
+        ensures tidy { self.old.spares ≡ map.empty → self.new.spares ≡ map.empty }
+        ensures cleared { length (P.bits prefix.now) ≡ 0 → self.new.spares ≡ map.empty }
+        ensures count { nodes self.new.entries + map.len self.new.spares ≤ nodes self.old.entries + map.len self.old.spares }
     {
         if prefix.prefix_len() == 0 {
             self.clear();

@@ -4,17 +4,18 @@ ghost use Rattle.std.specs.List.Retain.{IsFiltered};
 ghost use Rattle.std.specs.FinMap.{empty, entries};
 ghost use Rattle.trie_map.specs.Retain.{AnswersAt};
 
+use crate::key::key_of;
 use crate::map::PrefixMap;
-use trie_core::{Path, Prefix};
-use trie_iter::key_of;
+use trie_core::Path;
+use trie_keys::Prefix;
 
 impl<P: Prefix + Drop, T: Drop> PrefixMap<P, T> {
     /// Asks `f` of each entry once, in the order of a walk, and keeps those of which it says `true`. The map is tidy
     /// then, also where it was not before. It takes no memory.
     pub fn retain<F: FnMut(&P, &T) -> bool>(&mut self, f: F)
         requires { F.IsAlwaysCallable f }
-        ensures kept { IsFiltered (AnswersAt F.FnMut P.of_bits) f (entries self.old.0) (entries self.new.0) }
-        ensures tidy { self.new.1 ≡ empty }
+        ensures kept { IsFiltered (AnswersAt F.FnMut P.of_bits) f (entries self.old.entries) (entries self.new.entries) }
+        ensures tidy { self.new.spares ≡ empty }
     {
         self.take_refused(f);
         self.nodes -= self.root.take_spares();
@@ -23,7 +24,7 @@ impl<P: Prefix + Drop, T: Drop> PrefixMap<P, T> {
     /// Takes out the entries of which `f` says `false`, and leaves every node.
     fn take_refused<F: FnMut(&P, &T) -> bool>(&mut self, f: F)
         requires { F.IsAlwaysCallable f }
-        ensures { IsFiltered (AnswersAt F.FnMut P.of_bits) f (entries self.old.0) (entries self.new.0) }
+        ensures { IsFiltered (AnswersAt F.FnMut P.of_bits) f (entries self.old.entries) (entries self.new.entries) }
     {
         let mut f = f;
         let mut next = self.key_from(Path::new(0, 0), true);

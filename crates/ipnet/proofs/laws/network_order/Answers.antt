@@ -1,14 +1,14 @@
 use Rattle.std.proofs.Common.{rules, ◌≡◌, Ordering, Less, Equal, Greater, inl, inr, ap, refl, arith}
 use Rattle.std.specs.Ordering.{MatchOrdering}
-use Rattle.ipnet_blocks.specs.Networks.{Network, ComesBefore}
-use Rattle.ipnet.specs.IpNets.{IsSooner}
+use Rattle.ipnet_blocks.specs.Networks.{Network, IsNetworkBefore}
+use Rattle.ipnet.specs.IpNets.{IsNetBefore}
 use Rattle.ipnet.specs.declared.ip_net.IpNet.{IpNet}
 use Rattle.ipnet.specs.declared.ip_net.IpNet.TheVariants.{V4, V6}
 use Rattle.ipnet.proofs.laws.network_order.Goals as goal
 
 -- within a family the order is that of the parts
-module _ (make : Network → IpNet) (sooner : (m n : Network) → ComesBefore m n → IsSooner (make m) (make n)) where
-  within : (m n : Network) (o : Ordering) → MatchOrdering o (ComesBefore m n) (m ≡ n) (ComesBefore n m) → MatchOrdering o (IsSooner (make m) (make n)) (make m ≡ make n) (IsSooner (make n) (make m))
+module _ (make : Network → IpNet) (sooner : (m n : Network) → IsNetworkBefore m n → IsNetBefore (make m) (make n)) where
+  within : (m n : Network) (o : Ordering) → MatchOrdering o (IsNetworkBefore m n) (m ≡ n) (IsNetworkBefore n m) → MatchOrdering o (IsNetBefore (make m) (make n)) (make m ≡ make n) (IsNetBefore (make n) (make m))
   within m n Less h = sooner m n h
   within m n Equal h = ap make h
   within m n Greater h = sooner n m h

@@ -3,7 +3,7 @@ use Rattle.std.proofs.lemmas.List.{drop-replicate, take-replicate, drop_all, tak
 use Rattle.std.proofs.lemmas.Slice.{put_mid-paste}
 use borrow.Rule.Slice.PartMut.{put_mid}
 use Rattle.std.proofs.lemmas.Grind.{common_steps}
-use Rattle.ipnet_addr.specs.Reader.{read_ipv6, read_units}
+use Rattle.ipnet_addr.specs.AddressReader.{read_ipv6, read_units}
 use Rattle.ipnet_addr.proofs.parser.read_ipv6.Goals as goal
 
 pub returns-then-head_len-eq8 : goal.returns-then-head_len-eq8

@@ -4,7 +4,7 @@ use Rattle.std.proofs.lemmas.Bool.Decides.{nat_tests}
 use Rattle.std.proofs.lemmas.Grind.{common_steps}
 use Rattle.std.specs.Net.Addr.{segments_of}
 use Rattle.std.specs.Net.Reader.{after, read_separator}
-use Rattle.ipnet_addr.specs.Reader.{read_units, read_ipv4_if, read_group}
+use Rattle.ipnet_addr.specs.AddressReader.{read_units, read_ipv4_if, read_group}
 use Rattle.ipnet_addr.proofs.parser.read_units.Goals as goal
 
 -- one turn of the loop, at the index i of n

@@ -1,6 +1,6 @@
 use Rattle.std.proofs.Common.{◌≡◌, ◌-◌, ◌==◌, true, take, drop}
 use Rattle.std.specs.Net.Reader.{after}
-use Rattle.ipnet_addr.specs.Reader.{read_units}
+use Rattle.ipnet_addr.specs.AddressReader.{read_units}
 use Rattle.ipnet_addr.proofs.parser.read_units.Given as goal
 
 abbrev pub invariant-loop-i : goal.invariant-loop-i

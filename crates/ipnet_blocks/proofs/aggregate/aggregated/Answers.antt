@@ -3,7 +3,7 @@ use Rattle.std.proofs.lemmas.Result.{IfOk-weaker}
 use Rattle.std.proofs.lemmas.Simd.{map-map}
 use Rattle.ipnet_addr.specs.Addresses.{width}
 use Rattle.ipnet_addr.proofs.Ascending.{In-from_All}
-use Rattle.ipnet_blocks.specs.Spans.{span_of}
+use Rattle.ipnet_blocks.specs.InnerSpans.{span_of}
 use Rattle.ipnet_blocks.proofs.Aggregates.{spans_have, joined_fit, joined_aggregated}
 use Rattle.ipnet_blocks.proofs.aggregate.aggregated.Goals as goal
 

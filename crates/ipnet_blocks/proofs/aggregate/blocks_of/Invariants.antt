@@ -1,7 +1,7 @@
 use Rattle.std.proofs.Common.{◌≡◌, map, take}
 use Rattle.std.specs.List.{flat_map}
 use Rattle.ipnet_blocks.specs.Cuts.{subnets}
-use Rattle.ipnet_blocks.specs.Spans.{limits_of}
+use Rattle.ipnet_blocks.specs.InnerSpans.{limits_of}
 use Rattle.ipnet_blocks.proofs.aggregate.blocks_of.Given as goal
 
 abbrev pub invariant-loop-span : goal.invariant-loop-span

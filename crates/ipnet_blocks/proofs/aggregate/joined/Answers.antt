@@ -3,7 +3,7 @@ use Rattle.std.specs.List.Sorted.{IsPermutation, IsNonDecreasingBy}
 use Rattle.std.proofs.lemmas.List.{take_more, take_all, get_or_default}
 use Rattle.std.proofs.lemmas.List.Sorted.{All-permutation}
 use Rattle.ipnet_blocks.specs.declared.aggregate.Span.{Span}
-use Rattle.ipnet_blocks.specs.Spans.{HasNumber}
+use Rattle.ipnet_blocks.specs.InnerSpans.{HasNumber}
 use Rattle.ipnet_blocks.proofs.Joins.{join_one, join_more, join_next, joined_permutation, split_is}
 use Rattle.ipnet_blocks.proofs.aggregate.joined.Goals.{then-saturating_sub-open, else-saturating_sub-open+in_ok-push}
 use Rattle.ipnet_blocks.proofs.aggregate.joined.Goals as goal

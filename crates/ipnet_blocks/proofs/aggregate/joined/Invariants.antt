@@ -1,6 +1,6 @@
 use Rattle.std.proofs.Common.{ℕ, ◌<◌, ◌≤◌, ◌∷◌, [], ◌++◌, length, take, slice_index_or}
 use Rattle.ipnet_blocks.specs.declared.aggregate.Span.{Span}
-use Rattle.ipnet_blocks.specs.Spans.{AreJoined}
+use Rattle.ipnet_blocks.specs.InnerSpans.{AreJoined}
 use Rattle.ipnet_blocks.proofs.aggregate.joined.Given as goal
 
 -- the spans so far are joined, and no later one begins before the open one

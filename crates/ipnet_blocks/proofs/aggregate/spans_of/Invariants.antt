@@ -1,6 +1,6 @@
 use Rattle.std.proofs.Common.{◌≡◌, ◌<◌, ◌^◌, map, take, All}
 use Rattle.ipnet_addr.specs.Addresses.{width}
-use Rattle.ipnet_blocks.specs.Spans.{span_of}
+use Rattle.ipnet_blocks.specs.InnerSpans.{span_of}
 use Rattle.ipnet_blocks.proofs.aggregate.spans_of.Given as goal
 
 abbrev pub invariant-loop-network : goal.invariant-loop-network

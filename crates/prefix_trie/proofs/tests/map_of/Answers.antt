@@ -4,8 +4,8 @@ use Rattle.std.specs.List.{All}
 use Rattle.std.specs.Vec.Iter.{into_iter_items}
 use Rattle.std.proofs.Math.Seq.{take-append_seam}
 use Rattle.std.proofs.lemmas.List.Elements.{All-take, All-weaker}
-use Rattle.trie_keys.specs.Prefixes.{prefix_bits}
-use Rattle.trie_keys.proofs.Masked.{length-prefix_bits}
+use Rattle.trie_core.specs.Prefixes.{prefix_bits}
+use Rattle.trie_core.proofs.Masked.{length-prefix_bits}
 use Rattle.prefix_trie.proofs.Runs.{taken_front}
 use Rattle.prefix_trie.proofs.tests.map_of.Goals as goal
 

@@ -1,7 +1,7 @@
 use Rattle.std.proofs.Common.{◌≡◌, ◌∙◌, sym, subst, ap, refl, Some, None, false}
 use Rattle.route_lines.specs.Spelled.{command_of}
 use Rattle.route_feed.specs.Commands.{command_in}
-use Rattle.route_feed.specs.Run.{Answers}
+use Rattle.route_feed.specs.InnerReplies.{Answers}
 use Rattle.route_feed.proofs.Told.{read_is, read_none, on_ok}
 use Rattle.route_feed.proofs.answer.answer.Goals as goal
 

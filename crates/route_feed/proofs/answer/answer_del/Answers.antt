@@ -21,8 +21,8 @@ returns-in-Some g c =
       refusal = false;
       writes = rw stored (Writes-change g.W.Write.contents (IsMaximal (Governed N b)) c.in-Some.before c.in-Some.after c.args.writer.now c.tell_change.new.writer c.tell_change.result told.same told.differs
           (change_lines M (without_block M b))
-          (λ e. del_same M c.is_table.ensures b stored (sym hops.0 ∙ e ∙ after))
-          (λ bs d m. subst (λ (k : Option ℕ). change_lines M (without_block M b) ≡ map (change_line k) bs) (sym after) (del_differs M c.is_table.ensures b stored bs (λ e. d (hops.0 ∙ e ∙ sym after)) (subst (λ T. IsMaximal (Governed T b) bs) is m))));
+          (λ e. del_same M c.in-Some.ensures.tables.0 b stored (sym hops.0 ∙ e ∙ after))
+          (λ bs d m. subst (λ (k : Option ℕ). change_lines M (without_block M b) ≡ map (change_line k) bs) (sym after) (del_differs M c.in-Some.ensures.tables.0 b stored bs (λ e. d (hops.0 ∙ e ∙ sym after)) (subst (λ T. IsMaximal (Governed T b) bs) is m))));
       table = rw stored (on_ok c.tell_change.result is);
     }
 

@@ -2,7 +2,7 @@ use Rattle.std.proofs.Common.{◌≡◌, take}
 use Rattle.ipnet_addr.specs.Addresses.{Address, IsAddress}
 use Rattle.route_table.specs.Tables.{hop_at}
 use Rattle.route_feed.specs.Streams.{painted_over}
-use Rattle.route_feed.specs.Waiting.{changes_of}
+use Rattle.route_feed.specs.InnerWaiting.{changes_of}
 use Rattle.route_feed.proofs.follower.carry_out.Given as goal
 
 abbrev pub invariant-loop-change : goal.invariant-loop-change

@@ -1,4 +1,4 @@
-use Rattle.route_feed.proofs.Beginnings.{beginnings_agree, flat_lists_agree}
+use Rattle.route_feed.proofs.Beginnings.{all_answered, output_followed, beginnings_agree, flat_lists_agree}
 use Rattle.route_feed.proofs.Grammar.{beginnings_are_replies}
 use Rattle.route_feed.proofs.laws.followed.Goals as goal
 
@@ -10,3 +10,9 @@ returns-clause-flat c = flat_lists_agree
 
 pub returns-clause-replies : goal.returns-clause-replies
 returns-clause-replies c = beginnings_are_replies
+
+pub returns-clause-answered : goal.returns-clause-answered
+returns-clause-answered c = all_answered
+
+pub returns-clause-whole : goal.returns-clause-whole
+returns-clause-whole c = output_followed

@@ -1,24 +1,20 @@
-use Rattle.std.proofs.lemmas.Result.{on_ok_weaker}
-use Rattle.route_feed.specs.Output.{output, whole}
-use Rattle.route_feed.specs.Run.{output_from, replies_from}
-use Rattle.route_feed.proofs.Running.{Gives-same, GivesPart-same, Gives-known, new_whole, new_output, both_ok}
+use Rattle.std.proofs.Common.{arith}
+use Rattle.std.proofs.lemmas.Result.{err_from_is_err_and}
+use Rattle.route_feed.proofs.Leading.{lead_stopped, lead_counts, lead_ended, lead_known}
 use Rattle.route_feed.proofs.leader.lead.Goals as goal
 
-pub returns-clause-ok : goal.returns-clause-ok
-returns-clause-ok g c =
-    let leader = c.in-Ok-new.leader in
-    on_ok_weaker c.run.result (Gives-same g.R.Read.remaining g.W.Write.contents (output_from leader) output _ _ _ _ (new_output leader c.in-Ok-new.ensures.table c.in-Ok-new.ensures.cutter)) c.run.ensures.ok
+pub returns-in_err-rest-clause-ends : goal.returns-in_err-rest-clause-ends
+returns-in_err-rest-clause-ends g c =
+    let p = err_from_is_err_and c.from_residual.result c.from_residual.ensures.1 in
+    rw (p.1, p.2) (lead_stopped g.R.Read.remaining g.W.Write.contents c.args.reader.now c.run.new.reader c.args.writer.now c.in-Ok-new.table c.run.new.sink c.in-Ok-new.ensures.routes c.in_err-rest.field-0.0 c.run.new.writer c.in_err-rest.ensures)
 
-pub returns-clause-read : goal.returns-clause-read
-returns-clause-read g c e =
-    let leader = c.in-Ok-new.leader in
-    Gives-same g.R.Read.remaining g.W.Write.contents (replies_from leader) whole _ _ _ _ (new_whole leader c.in-Ok-new.ensures.table c.in-Ok-new.ensures.cutter) (c.run.ensures.read e)
+pub answer_rest-requires : goal.answer_rest-requires
+answer_rest-requires g c =
+    lead_counts g.R.Read.remaining g.W.Write.contents c.args.reader.now c.run.new.reader c.args.writer.now c.in-Ok-new.table c.run.new.sink c.in-Ok-new.ensures.routes c.in_ok-rest.rest c.run.new.writer c.in_ok-rest.ensures (omega (arith, c.requires.writer))
 
-pub returns-clause-write : goal.returns-clause-write
-returns-clause-write g c e =
-    let leader = c.in-Ok-new.leader in
-    GivesPart-same g.R.Read.remaining g.W.Write.contents (output_from leader) output _ _ _ _ (new_output leader c.in-Ok-new.ensures.table c.in-Ok-new.ensures.cutter) (c.run.ensures.write e)
+pub returns-clause-ends : goal.returns-clause-ends
+returns-clause-ends g c =
+    lead_ended g.R.Read.remaining g.W.Write.contents c.args.reader.now c.run.new.reader c.args.writer.now c.in-Ok-new.table c.run.new.sink c.in-Ok-new.ensures.routes c.in_ok-rest.rest c.run.new.writer c.in_ok-rest.ensures c.answer_rest.new.writer c.answer_rest.result c.answer_rest.ensures
 
 pub returns-clause-known : goal.returns-clause-known
-returns-clause-known g c =
-    both_ok c.run.result (Gives-known g.R.Read.remaining g.W.Write.contents output c.args.reader.now c.run.new.reader c.args.writer.now c.run.new.writer) (returns-clause-ok g c) c.run.ensures.end
+returns-clause-known g c = lead_known g.R.Read.remaining g.W.Write.contents c.args.reader.now c.run.new.reader c.args.writer.now c.answer_rest.new.writer c.answer_rest.result (returns-clause-ends g c)

@@ -1,5 +1,5 @@
 use Rattle.std.proofs.Common.{◌≡◌, ℕ, List, ◌++◌, length}
-use Rattle.route_feed.specs.Run.{Written}
+use Rattle.route_feed.specs.InnerReplies.{Written}
 use Rattle.route_feed.proofs.writing.write_piece.Given as goal
 
 abbrev pub invariant-loop-left : goal.invariant-loop-left

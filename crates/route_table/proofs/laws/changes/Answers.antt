@@ -1,3 +1,7 @@
+use Rattle.ipnet_blocks.specs.Maximal.{maximal_of}
+use Rattle.ipnet_blocks.proofs.Maximals.{maximal_is_shortest, shortest_is_maximal, maximal_is_unique}
+use Rattle.route_table.specs.Changes.{changed}
+use Rattle.route_table.specs.Tables.{Changed}
 use Rattle.route_table.proofs.laws.changes.Goals as goal
 use Rattle.route_table.proofs.Updates.{added_is_table, left_is_table}
 use Rattle.route_table.proofs.Changes.{changed_is_maximal}
@@ -7,6 +11,9 @@ pub returns : goal.returns
 returns c = record {
   table = λ M t. (λ r ok hop. added_is_table M t r ok hop, λ n. left_is_table M t n);
   maximal = changed_is_maximal;
+  shortest = λ M N bs u. maximal_is_shortest (Changed M N) (maximal_of (changed M N)) bs (changed_is_maximal M N) u;
+  only = λ M N bs u up few. shortest_is_maximal (Changed M N) (maximal_of (changed M N)) bs (changed_is_maximal M N) u up few;
+  found = λ M N bs m. maximal_is_unique (Changed M N) (maximal_of (changed M N)) bs (changed_is_maximal M N) m;
   added = added_lines;
   left = left_lines;
 }

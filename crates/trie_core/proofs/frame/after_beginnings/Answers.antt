@@ -1,4 +1,4 @@
-use Rattle.trie_keys.proofs.Begins.{after_longest}
+use Rattle.trie_core.proofs.PlaceTables.{after_longest}
 use Rattle.trie_core.proofs.frame.after_beginnings.Goals as goal
 
 pub returns : goal.returns

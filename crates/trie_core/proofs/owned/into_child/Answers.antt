@@ -1,7 +1,6 @@
 use Rattle.std.proofs.Common.{◌∙◌, sym, ap, subst, arith}
 use Rattle.std.specs.Prelude.{Some}
-use Rattle.trie_keys.specs.Bits.{child_of}
-use Rattle.trie_core.specs.Places.{IsUnset}
+use Rattle.trie_core.specs.InnerPlaces.{child_of, IsUnset}
 use Rattle.trie_core.proofs.Seen.{seen, is_child, has_no_child}
 use Rattle.trie_core.proofs.Taken.{missing}
 use Rattle.trie_core.proofs.Changes.{way}

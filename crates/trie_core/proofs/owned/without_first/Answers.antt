@@ -3,7 +3,7 @@ use Rattle.std.specs.Prelude.{Option, Some, None, MatchOption}
 use Rattle.std.specs.Vec.Iter.{into_iter_items, into_iter_len}
 use Rattle.std.proofs.Math.ListN.{length-drop}
 use Rattle.std.proofs.lemmas.List.{drop_more}
-use Rattle.trie_core.specs.Held.{held}
+use Rattle.trie_core.specs.InnerHeld.{held}
 use Rattle.trie_core.proofs.owned.without_first.Goals as goal
 
 one_more : {X : Type 0} (xs ys zs : List X) (i a b : ℕ) (r : Option X) → i < length xs → a ≡ length ys → ys ≡ drop i xs → MatchOption r ((a ≡ 0) × (b ≡ 0)) (λ x. (ys ≡ x ∷ zs) × (b + 1 ≡ a)) → zs ≡ drop (i + 1) xs

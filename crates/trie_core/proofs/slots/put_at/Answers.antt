@@ -2,7 +2,7 @@ use Rattle.std.proofs.Common.{◌∙◌, ap, sym, length, arith, set}
 use Rattle.std.specs.List.{insert}
 use Rattle.std.specs.Prelude.{Some}
 use Rattle.std.proofs.Math.Facts.{Fits-of_lt}
-use Rattle.trie_core.specs.Places.{at_places}
+use Rattle.trie_core.specs.InnerPlaces.{at_places}
 use Rattle.trie_core.proofs.Taken.{free, taken, missing, put_in}
 use Rattle.trie_core.proofs.Edits.{set_fits}
 use Rattle.trie_core.proofs.slots.put_at.Goals as goal

@@ -1,6 +1,6 @@
 use Rattle.std.proofs.Common.{◌≡◌, ◌-◌, ◌∙◌, sym, ap, take, length, arith}
-use Rattle.trie_keys.specs.Prefixes.{prefix_bits}
-use Rattle.trie_keys.proofs.Masked.{take-prefix_bits}
+use Rattle.trie_core.specs.Prefixes.{prefix_bits}
+use Rattle.trie_core.proofs.Masked.{take-prefix_bits}
 use Rattle.trie_core.proofs.walk.above.Goals as goal
 
 pub returns : goal.returns

@@ -1,7 +1,7 @@
 use Rattle.std.proofs.Common.{◌≡◌, ◌≤◌, ◌<◌, ◌-◌, ◌*◌, ◌/◌, ◌%◌, ◌^◌, ◌∙◌, ℕ, ap, subst, length, List, Bool, arith}
 use Rattle.ipnet_blocks.specs.Blocks.{digits}
-use Rattle.trie_keys.specs.Prefixes.{prefix_bits}
-use Rattle.trie_keys.proofs.Masked.{at_top}
+use Rattle.trie_core.specs.Prefixes.{prefix_bits}
+use Rattle.trie_keys.proofs.Cleared.{at_top}
 use Rattle.trie_keys.proofs.prefix.path_of.Goals as goal
 
 -- the path of a key at the top, from the facts of the calls

@@ -1,5 +1,5 @@
 use Rattle.std.proofs.Common.{◌∙◌, ap, sym, take, length}
-use Rattle.trie_keys.proofs.Masked.{take-prefix_bits}
+use Rattle.trie_core.proofs.Masked.{take-prefix_bits}
 use Rattle.trie_keys.proofs.prefix.shortened.Goals as goal
 
 pub returns-clause-bits : goal.returns-clause-bits

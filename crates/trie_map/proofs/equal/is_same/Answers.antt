@@ -1,6 +1,6 @@
 use Rattle.std.proofs.Common.{◌∙◌, sym, arith}
 use Rattle.std.proofs.lemmas.Bool.Decides.{nat_tests}
-use Rattle.trie_keys.proofs.Strings.{other_length}
+use Rattle.trie_core.proofs.Strings.{other_length}
 use Rattle.trie_map.proofs.Same.{same_numbers}
 use Rattle.trie_map.proofs.equal.is_same.Goals as goal
 

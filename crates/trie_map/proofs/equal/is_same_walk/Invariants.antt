@@ -1,6 +1,6 @@
 use Rattle.std.proofs.Common.{◌≡◌, length}
 use Rattle.std.specs.Cmp.Lexicographic.{pointwise}
-use Rattle.trie_core.specs.Walks.{KeysWithin}
+use Rattle.trie_core.specs.InnerWalks.{KeysWithin}
 use Rattle.trie_map.specs.Equal.{same_entry}
 use Rattle.trie_map.proofs.equal.is_same_walk.Given as goal
 

@@ -1,7 +1,7 @@
 use Rattle.std.proofs.Common.{◌≤◌, ◌∙◌, length, take, sym, ap, arith}
 use Rattle.std.proofs.lemmas.Bool.Decides.{nat_tests}
-use Rattle.trie_keys.proofs.Masked.{take-prefix_bits}
-use Rattle.trie_keys.proofs.Strings.{same}
+use Rattle.trie_core.proofs.Masked.{take-prefix_bits}
+use Rattle.trie_core.proofs.Strings.{same}
 use Rattle.trie_map.proofs.Within.{begins_first, begins_longer}
 use Rattle.trie_map.proofs.iter_mut.is_begun.Goals as goal
 

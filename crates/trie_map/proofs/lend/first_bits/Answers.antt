@@ -1,5 +1,5 @@
 use Rattle.std.proofs.Common.{◌≤◌, ◌∙◌, length, take, sym, ap, arith}
-use Rattle.trie_keys.proofs.Masked.{length-prefix_bits, take-prefix_bits}
+use Rattle.trie_core.proofs.Masked.{length-prefix_bits, take-prefix_bits}
 use Rattle.trie_map.proofs.lend.first_bits.Goals as goal
 
 pub returns-clause-value : goal.returns-clause-value

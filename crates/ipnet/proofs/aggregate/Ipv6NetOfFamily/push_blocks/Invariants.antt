@@ -1,7 +1,7 @@
 use Rattle.std.proofs.Common.{◌≡◌, ◌++◌, map}
 use Rattle.ipnet_addr.specs.Addresses.{Ipv6}
 use Rattle.ipnet_blocks.specs.Cuts.{subnets}
-use Rattle.ipnet_blocks.specs.Spans.{limits_of}
+use Rattle.ipnet_blocks.specs.InnerSpans.{limits_of}
 use Rattle.ipnet.proofs.aggregate.Ipv6NetOfFamily.push_blocks.Given as goal
 
 abbrev pub invariant-loop-block : goal.invariant-loop-block

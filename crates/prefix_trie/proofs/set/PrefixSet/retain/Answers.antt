@@ -10,4 +10,4 @@ retain-requires g c = mut_by _ (λ s. always_mut g.F.FnMut s.0) (λ s a i. searc
 
 pub returns-clause-kept : goal.returns-clause-kept
 returns-clause-kept g c =
-    rw (← c.self.view_is) (keys_kept _ (λ f k. CalledAt g.F.FnMut f (g.P.Prefix.of_bits k)) (λ s. s.0) (λ s e b t w. record { shown = w.key; shows = w.shows.0; called = let called = w.called in search rules }) _ (entries c.self.inside.members.0) (entries c.retain.new.self.0) c.retain.ensures.kept)
+    rw (← c.self.view_is) (keys_kept _ (λ f k. CalledAt g.F.FnMut f (g.P.Prefix.of_bits k)) (λ s. s.0) (λ s e b t w. record { shown = w.key; shows = w.shows.0; called = let called = w.called in search rules }) _ (entries c.self.inside.members.entries) (entries c.retain.new.self.entries) c.retain.ensures.kept)

@@ -5,6 +5,6 @@ use Rattle.prefix_trie.proofs.set.PrefixSet.try_from_iter.Given as goal
 
 abbrev pub invariant-item : goal.invariant-item
 invariant-item g l = record {
-  set : l.made.0 ≡ inserted g.P.Prefix.bits empty (map (λ p. (p, tt)) l.yielded);
-  tidy : l.made.1 ≡ empty;
+  set : l.made.entries ≡ inserted g.P.Prefix.bits empty (map (λ p. (p, tt)) l.yielded);
+  tidy : l.made.spares ≡ empty;
 }

@@ -1,5 +1,5 @@
 use Rattle.std.proofs.Common.{◌≡◌, length}
-use Rattle.route_table.specs.Governing.{AreGaps, gaps_left}
+use Rattle.route_table.specs.InnerGoverning.{AreGaps, gaps_left}
 use Rattle.route_table.proofs.governed.Gaps.next.Given as goal
 
 -- what was passed left no gap

@@ -1,5 +1,5 @@
 use Rattle.std.proofs.Common.{◌≡◌, ◌-◌, ◌∷◌, sym, subst, arith}
-use Rattle.route_table.specs.Governing.{IsPassed, gaps_left}
+use Rattle.route_table.specs.InnerGoverning.{IsPassed, gaps_left}
 use Rattle.route_table.proofs.Gaps.{head_within, rest_within, passed_are, gap_given}
 use Rattle.route_table.proofs.governed.Gaps.step.Goals as goal
 

@@ -9,4 +9,4 @@ pub returns-clause-shortest : goal.returns-clause-shortest
 returns-clause-shortest c bs a = flat_is_shortest (hop_at c.args.self.now) _ bs (subst (λ M. IsFlat (hop_at M) c.new.result) c.families-v4.ensures.routes c.new.ensures) a
 
 pub returns-clause-bound : goal.returns-clause-bound
-returns-clause-bound c f = flat_bound c.args.self.now c.is_table.ensures _ (subst (λ M. IsFlat (hop_at M) c.new.result) c.families-v4.ensures.routes c.new.ensures) f
+returns-clause-bound c f = flat_bound c.args.self.now c.families-v4.ensures.table _ (subst (λ M. IsFlat (hop_at M) c.new.result) c.families-v4.ensures.routes c.new.ensures) f

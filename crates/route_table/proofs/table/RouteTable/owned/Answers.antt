@@ -4,7 +4,7 @@ use Rattle.route_table.proofs.Owned.{owned_blocks, owned_is_flat, if_ok}
 use Rattle.route_table.proofs.table.RouteTable.owned.Goals as goal
 
 pub returns-clause-maximal : goal.returns-clause-maximal
-returns-clause-maximal c = if_ok _ _ c.aggregate.result (λ v h. owned_blocks c.args.self.now c.is_table.ensures c.args.number c.new-networks.result.items c.push_owned.new.networks.items c.push_owned-2.new.networks.items c.families-v4.result.0 c.families-v4.result.1 c.families-v4.ensures.routes c.new-networks.ensures.items c.in_ok-push_owned.ensures c.in_ok-push_owned-2.ensures (map block v.items) h.maximal) c.aggregate.ensures.blocks
+returns-clause-maximal c = if_ok _ _ c.aggregate.result (λ v h. owned_blocks c.args.self.now c.families-v4.ensures.table c.args.number c.new-networks.result.items c.push_owned.new.networks.items c.push_owned-2.new.networks.items c.families-v4.result.0 c.families-v4.result.1 c.families-v4.ensures.routes c.new-networks.ensures.items c.in_ok-push_owned.ensures c.in_ok-push_owned-2.ensures (map block v.items) h.maximal) c.aggregate.ensures.blocks
 
 pub returns-clause-flat : goal.returns-clause-flat
 returns-clause-flat c = if_ok _ _ c.aggregate.result (λ v h. owned_is_flat c.args.self.now c.args.number (map block v.items) h) (returns-clause-maximal c)

@@ -1,7 +1,7 @@
 use Rattle.std.proofs.Common.{◌⊎◌, map}
 use Rattle.ipnet_blocks.specs.Aggregated.{InSome}
 use Rattle.ipnet.specs.IpNets.{block}
-use Rattle.route_table.specs.Owning.{IsOwned}
+use Rattle.route_table.specs.InnerOwning.{IsOwned}
 use Rattle.route_table.proofs.Owned.{grows, keeps_all}
 use Rattle.route_table.proofs.table.RouteTable.push_owned.Goals as goal
 

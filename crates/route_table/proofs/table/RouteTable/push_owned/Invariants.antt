@@ -2,7 +2,7 @@ use Rattle.std.proofs.Common.{◌⊎◌, ◌↔◌, map}
 use Rattle.ipnet_addr.specs.Addresses.{Address, IsAddress}
 use Rattle.ipnet_blocks.specs.Aggregated.{InSome}
 use Rattle.ipnet.specs.IpNets.{block}
-use Rattle.route_table.specs.Owning.{IsOwned}
+use Rattle.route_table.specs.InnerOwning.{IsOwned}
 use Rattle.route_table.proofs.table.RouteTable.push_owned.Given as goal
 
 -- the addresses of the networks, and those that the routes left have, stay the same

@@ -1,6 +1,6 @@
 use Rattle.std.proofs.Common.{◌/◌, ◌^◌, ◌∙◌, ap, arith}
 use Rattle.std.specs.FinMap.{entries}
-use Rattle.trie_keys.proofs.Begins.{inside_ends}
+use Rattle.trie_core.proofs.PlaceTables.{inside_ends}
 use Rattle.trie_core.proofs.Opened.{inside_open}
 use Rattle.trie_core.proofs.frame.Frame.inside.Goals as goal
 
@@ -13,4 +13,4 @@ places_between-children-requires-clause-end g c = omega (arith, (inside_ends c.a
 pub returns-clause-rest : goal.returns-clause-rest
 returns-clause-rest g c =
     c.open.ensures.rest
-    ∙ inside_open c.args.path.now (entries c.args.node.now.0) c.requires.short c.len-len.ensures c.place-place.ensures.value c.five-child.ensures.value c.places_between-values.ensures c.places_between-children.ensures
+    ∙ inside_open c.args.path.now (entries c.args.node.now.entries) c.requires.short c.len-len.ensures c.place-place.ensures.value c.five-child.ensures.value c.places_between-values.ensures c.places_between-children.ensures

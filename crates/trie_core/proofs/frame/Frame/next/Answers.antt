@@ -1,6 +1,6 @@
 use Rattle.std.proofs.Common.{◌∙◌, ◌∷◌, ◌++◌, ◌-◌, sym, ap, arith}
-use Rattle.trie_core.specs.Nodes.{under}
-use Rattle.trie_core.specs.Frames.{place_first, frame_rest, frame_levels, frame_weight, open_weight}
+use Rattle.trie_core.specs.InnerNodes.{under}
+use Rattle.trie_core.specs.InnerFrames.{place_first, frame_rest, frame_levels, frame_weight, open_weight}
 use Rattle.trie_core.proofs.Seen.{seen}
 use Rattle.trie_core.proofs.Frames.{value_key, child_bits}
 use Rattle.trie_core.proofs.Opened.{is_opened, value_open, child_open, nothing_open, found_at, index_at, bit_open, lighter, below_way}

@@ -1,7 +1,7 @@
 use Rattle.std.proofs.Common.{◌∙◌, sym, take, arith}
 use Rattle.std.proofs.Math.ListN.{length-take}
 use Rattle.std.specs.FinMap.{entries}
-use Rattle.trie_keys.proofs.Numbers.{place_bound}
+use Rattle.trie_core.proofs.Numbers.{place_bound}
 use Rattle.trie_core.proofs.Opened.{past_open}
 use Rattle.trie_core.proofs.frame.Frame.past.Goals as goal
 
@@ -11,4 +11,4 @@ places_between-values-requires-clause-ordered g c = omega (arith, c.after_beginn
 pub returns-clause-rest : goal.returns-clause-rest
 returns-clause-rest g c =
     c.open.ensures.rest
-    ∙ past_open c.args.path.now (entries c.args.node.now.0) c.requires.long (c.after_beginnings.ensures c.args.path.now c.requires.long (sym c.five-five.ensures.value)) c.five-five.ensures.value c.places_between-values.ensures c.places_between-children.ensures
+    ∙ past_open c.args.path.now (entries c.args.node.now.entries) c.requires.long (c.after_beginnings.ensures c.args.path.now c.requires.long (sym c.five-five.ensures.value)) c.five-five.ensures.value c.places_between-values.ensures c.places_between-children.ensures

@@ -4,4 +4,4 @@ use Rattle.trie_core.proofs.Opened.{all_open}
 use Rattle.trie_core.proofs.frame.Frame.whole.Goals as goal
 
 pub returns-clause-rest : goal.returns-clause-rest
-returns-clause-rest g c = c.open.ensures.rest ∙ all_open (entries c.args.node.now.0)
+returns-clause-rest g c = c.open.ensures.rest ∙ all_open (entries c.args.node.now.entries)

@@ -20,7 +20,7 @@ value_mut-requires-clause-stored g c =
     let h : 5 ≤ length c.args.path.now = grind (arith, nat_tests) in
     let s = seen c.node.invariant c.node.view_is in
     let w = was c.args.path.now c.index_mut-child.result.now s h (way c.args.path.now s c.five.ensures.value c.in-Some.ensures) c.index_mut-child.ensures.value in
-    subst (λ o. IsSome o) (sym (ap (get c.index_mut-child.result.now.0) c.rest.ensures ∙ w)) c.requires.stored
+    subst (λ o. IsSome o) (sym (ap (get c.index_mut-child.result.now.entries) c.rest.ensures ∙ w)) c.requires.stored
 
 pub returns : goal.returns
 returns g c =
@@ -28,7 +28,7 @@ returns g c =
     let s = seen c.node.invariant c.node.view_is in
     let t = way c.args.path.now s c.five.ensures.value c.in-Some.ensures in
     let v = was c.args.path.now c.index_mut-child.result.now s h t c.index_mut-child.ensures.value in
-    let e = ap (get c.index_mut-child.result.now.0) c.rest.ensures ∙ v in (
+    let e = ap (get c.index_mut-child.result.now.entries) c.rest.ensures ∙ v in (
       (refl, λ w. lent_below c.args.path.now c.rest.result c.index_mut-child.result.now w s h c.rest.ensures t c.index_mut-child.ensures.value (subst (λ o. IsSome o) (sym e) c.requires.stored)),
       record {
         writes_back = tt;

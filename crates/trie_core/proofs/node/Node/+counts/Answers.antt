@@ -1,5 +1,5 @@
 use Rattle.std.proofs.Common.{◌≡◌, ◌+◌, ◌<◌, ◌≤◌, ◌∙◌, length, take, get_or, ap, arith}
-use Rattle.trie_core.specs.Count.{all_nodes, total, entry_count}
+use Rattle.trie_core.specs.InnerCount.{all_nodes, total, entry_count}
 use Rattle.trie_core.proofs.Seen.{seen, height-read}
 use Rattle.trie_core.proofs.Entries.{entries_of, total-more, total-part, total-all}
 use Rattle.trie_core.proofs.node.Node.+counts.Goals as goal
@@ -12,7 +12,7 @@ counts-more-requires g t c κs within =
     let d = c.child-item.result in
     let lt : i < length cs = omega (arith, c.loop-child-test.true, ap length c.deref-child-items.ensures.value) in
     let is : d ≡ get_or cs i d = c.child-item.is ∙ ap (λ l. get_or l i d) c.deref-child-items.ensures.value in (
-      omega (arith, height-read cs i d lt, ap (λ x. x.2) is, s.height),
+      omega (arith, height-read cs i d lt, ap (λ x. x.levels) is, s.height),
       (within, (omega (arith, total-more entry_count cs i d lt, total-part entry_count cs (i + 1), ap entry_count is, entries_of s, c.requires.entries), omega (arith, total-more all_nodes cs i d lt, total-part all_nodes cs (i + 1), ap all_nodes is, s.count, c.requires.nodes))),
     )
 

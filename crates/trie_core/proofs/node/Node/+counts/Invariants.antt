@@ -1,5 +1,5 @@
 use Rattle.std.proofs.Common.{◌≡◌, ◌+◌, take}
-use Rattle.trie_core.specs.Count.{all_nodes, total, entry_count}
+use Rattle.trie_core.specs.InnerCount.{all_nodes, total, entry_count}
 use Rattle.trie_core.proofs.node.Node.+counts.Given as goal
 
 abbrev pub decreases-counts : goal.decreases-counts

@@ -4,7 +4,7 @@ use Rattle.std.specs.Ordering.{nat_cmp}
 use Rattle.std.specs.FinMap.{find, get, insert}
 use Rattle.std.proofs.lemmas.Result.{IfOk-weaker}
 use Rattle.std.proofs.lemmas.Bool.Decides.{nat_tests}
-use Rattle.trie_core.specs.Places.{at_places}
+use Rattle.trie_core.specs.InnerPlaces.{at_places}
 use Rattle.trie_core.proofs.Seen.{seen, value_at}
 use Rattle.trie_core.proofs.Changes.{value_slots, value_put_map, value_count, way, was, set_put, set_count, set_height, was_lower, absent, hung, depth_rest, new_nodes}
 use Rattle.trie_core.specs.Ways.{off_way}
@@ -68,14 +68,14 @@ returns-in-Some-clause-old g t c =
     let h : 5 ≤ length c.args.path = grind (arith, nat_tests) in
     let s = seen c.self.invariant c.self.view_is in
     let w = was c.args.path c.index_mut-child.result.now s h (way c.args.path s c.five-number.ensures.value c.in-Some.ensures) c.index_mut-child.ensures.value in
-    IfOk-weaker c.insert.result _ _ (λ r e. e ∙ ap (get c.index_mut-child.result.now.0) c.rest.ensures ∙ w) c.insert.ensures.old
+    IfOk-weaker c.insert.result _ _ (λ r e. e ∙ ap (get c.index_mut-child.result.now.entries) c.rest.ensures ∙ w) c.insert.ensures.old
 
 pub returns-in-Some-clause-map : goal.returns-in-Some-clause-map
 returns-in-Some-clause-map g t c =
     let h : 5 ≤ length c.args.path = grind (arith, nat_tests) in
     let s = seen c.self.invariant c.self.view_is in
     let w = way c.args.path s c.five-number.ensures.value c.in-Some.ensures in
-    on_ok c.insert.result (λ e. set_put c.args.path c.args.value c.index_mut-child.result.now c.insert.new.self s h w c.index_mut-child.ensures.value (e ∙ ap (λ q. insert c.index_mut-child.result.now.0 q c.args.value) c.rest.ensures)) c.insert.ensures.map
+    on_ok c.insert.result (λ e. set_put c.args.path c.args.value c.index_mut-child.result.now c.insert.new.self s h w c.index_mut-child.ensures.value (e ∙ ap (λ q. insert c.index_mut-child.result.now.entries q c.args.value) c.rest.ensures)) c.insert.ensures.map
 
 pub returns-in-Some-clause-spares : goal.returns-in-Some-clause-spares
 returns-in-Some-clause-spares g t c =
@@ -83,7 +83,7 @@ returns-in-Some-clause-spares g t c =
     let s = seen c.self.invariant c.self.view_is in
     let w = way c.args.path s c.five-number.ensures.value c.in-Some.ensures in
     both_ok c.insert.result
-    (λ e f. below_off c.args.path c.args.value c.index_mut-child.result.now c.insert.new.self s h w c.index_mut-child.ensures.value (e ∙ ap (λ q. insert c.index_mut-child.result.now.0 q c.args.value) c.rest.ensures) (f ∙ ap (off_way c.index_mut-child.result.now.1) c.rest.ensures))
+    (λ e f. below_off c.args.path c.args.value c.index_mut-child.result.now c.insert.new.self s h w c.index_mut-child.ensures.value (e ∙ ap (λ q. insert c.index_mut-child.result.now.entries q c.args.value) c.rest.ensures) (f ∙ ap (off_way c.index_mut-child.result.now.spares) c.rest.ensures))
     c.insert.ensures.map c.insert.ensures.spares
 
 pub returns-in-Some-clause-count : goal.returns-in-Some-clause-count
@@ -105,7 +105,7 @@ returns-in-Some-clause-absent g t c =
     let h : 5 ≤ length c.args.path = grind (arith, nat_tests) in
     let s = seen c.self.invariant c.self.view_is in
     let w = was c.args.path c.index_mut-child.result.now s h (way c.args.path s c.five-number.ensures.value c.in-Some.ensures) c.index_mut-child.ensures.value in
-    on_err c.insert.result (λ e. sym w ∙ ap (get c.index_mut-child.result.now.0) (sym c.rest.ensures) ∙ e) c.insert.ensures.absent
+    on_err c.insert.result (λ e. sym w ∙ ap (get c.index_mut-child.result.now.entries) (sym c.rest.ensures) ∙ e) c.insert.ensures.absent
 
 -- ---- with a new child
 
@@ -128,30 +128,30 @@ pub invariant_of-self-2 : goal.invariant_of-self-2
 invariant_of-self-2 g t c =
     let h : 5 ≤ length c.args.path = grind (arith, nat_tests) in
     (hung c.args.path c.args.value c.insert-2.new.self (seen c.self.invariant c.self.view_is) h c.five-number.ensures.value c.in_default.ensures c.reserve_one.ensures.items c.in-Ok.ensures.items c.in-Ok.ensures.counted (c.in-Ok.ensures.below 32 c.five-number.ensures.below c.self.invariant.children_below)
-    (c.in_ok-made.ensures.map ∙ (λ i. insert (c.new-child.ensures.map i) (c.rest-2.ensures i) c.args.value)) (no_spares c.insert-2.new.self (c.in_ok-made.ensures.spares ∙ off_none c.new-child.result.1 c.rest-2.result c.new-child.ensures.spares))).slots
+    (c.in_ok-made.ensures.map ∙ (λ i. insert (c.new-child.ensures.map i) (c.rest-2.ensures i) c.args.value))).slots
 
 pub returns-clause-map : goal.returns-clause-map
 returns-clause-map g t c =
     let h : 5 ≤ length c.args.path = grind (arith, nat_tests) in
     (hung c.args.path c.args.value c.insert-2.new.self (seen c.self.invariant c.self.view_is) h c.five-number.ensures.value c.in_default.ensures c.reserve_one.ensures.items c.in-Ok.ensures.items c.in-Ok.ensures.counted (c.in-Ok.ensures.below 32 c.five-number.ensures.below c.self.invariant.children_below)
-    (c.in_ok-made.ensures.map ∙ (λ i. insert (c.new-child.ensures.map i) (c.rest-2.ensures i) c.args.value)) (no_spares c.insert-2.new.self (c.in_ok-made.ensures.spares ∙ off_none c.new-child.result.1 c.rest-2.result c.new-child.ensures.spares))).map
+    (c.in_ok-made.ensures.map ∙ (λ i. insert (c.new-child.ensures.map i) (c.rest-2.ensures i) c.args.value))).map
 
 pub returns-clause-spares : goal.returns-clause-spares
 returns-clause-spares g t c =
     let h : 5 ≤ length c.args.path = grind (arith, nat_tests) in
     hung_off _ c.args.path c.args.value c.insert-2.new.self (seen c.self.invariant c.self.view_is) h c.five-number.ensures.value c.in_default.ensures c.reserve_one.ensures.items c.in-Ok.ensures.items (c.in-Ok.ensures.below 32 c.five-number.ensures.below c.self.invariant.children_below)
-    (c.in_ok-made.ensures.map ∙ (λ i. insert (c.new-child.ensures.map i) (c.rest-2.ensures i) c.args.value)) (c.in_ok-made.ensures.spares ∙ off_none c.new-child.result.1 c.rest-2.result c.new-child.ensures.spares)
+    (c.in_ok-made.ensures.map ∙ (λ i. insert (c.new-child.ensures.map i) (c.rest-2.ensures i) c.args.value)) (c.in_ok-made.ensures.spares ∙ off_none c.new-child.result.spares c.rest-2.result c.new-child.ensures.spares)
 
 pub returns-clause-count : goal.returns-clause-count
 returns-clause-count g t c =
     let h : 5 ≤ length c.args.path = grind (arith, nat_tests) in
     let k = hung c.args.path c.args.value c.insert-2.new.self (seen c.self.invariant c.self.view_is) h c.five-number.ensures.value c.in_default.ensures c.reserve_one.ensures.items c.in-Ok.ensures.items c.in-Ok.ensures.counted (c.in-Ok.ensures.below 32 c.five-number.ensures.below c.self.invariant.children_below)
-    (c.in_ok-made.ensures.map ∙ (λ i. insert (c.new-child.ensures.map i) (c.rest-2.ensures i) c.args.value)) (no_spares c.insert-2.new.self (c.in_ok-made.ensures.spares ∙ off_none c.new-child.result.1 c.rest-2.result c.new-child.ensures.spares)) in
+    (c.in_ok-made.ensures.map ∙ (λ i. insert (c.new-child.ensures.map i) (c.rest-2.ensures i) c.args.value)) in
     omega (arith, k.count, c.in_ok-made.ensures.count, new_nodes c.new-child.result c.new-child.ensures.map (no_spares c.new-child.result c.new-child.ensures.spares))
 
 pub returns-clause-levels : goal.returns-clause-levels
 returns-clause-levels g t c =
     let h : 5 ≤ length c.args.path = grind (arith, nat_tests) in
     let k = hung c.args.path c.args.value c.insert-2.new.self (seen c.self.invariant c.self.view_is) h c.five-number.ensures.value c.in_default.ensures c.reserve_one.ensures.items c.in-Ok.ensures.items c.in-Ok.ensures.counted (c.in-Ok.ensures.below 32 c.five-number.ensures.below c.self.invariant.children_below)
-    (c.in_ok-made.ensures.map ∙ (λ i. insert (c.new-child.ensures.map i) (c.rest-2.ensures i) c.args.value)) (no_spares c.insert-2.new.self (c.in_ok-made.ensures.spares ∙ off_none c.new-child.result.1 c.rest-2.result c.new-child.ensures.spares)) in
+    (c.in_ok-made.ensures.map ∙ (λ i. insert (c.new-child.ensures.map i) (c.rest-2.ensures i) c.args.value)) in
     omega (arith, k.height, c.in_ok-made.ensures.levels, c.new-child.ensures.levels, ap (λ q. length q / 5 + 1) c.rest-2.ensures, depth_rest c.args.path h)

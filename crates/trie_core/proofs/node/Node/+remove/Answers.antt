@@ -2,7 +2,7 @@ use Rattle.std.proofs.Common.{◌<◌, ◌≤◌, ◌^◌, ◌∙◌, refl, sym,
 use Rattle.std.specs.Ordering.{nat_cmp}
 use Rattle.std.specs.FinMap.{find, get, remove}
 use Rattle.std.proofs.lemmas.Bool.Decides.{nat_tests}
-use Rattle.trie_core.specs.Places.{at_places}
+use Rattle.trie_core.specs.InnerPlaces.{at_places}
 use Rattle.trie_core.specs.Ways.{IsPruned}
 use Rattle.trie_core.proofs.Maps.{remove_absent}
 use Rattle.trie_core.proofs.Seen.{seen, map_of, value_at}
@@ -27,7 +27,7 @@ pub returns-then-is_short-clause-spares : goal.returns-then-is_short-clause-spar
 returns-then-is_short-clause-spares g t c =
     let h : length c.args.path < 5 = grind (arith, nat_tests) in
     let s = seen c.self.invariant c.self.view_is in
-    subst (λ b. IsPruned c.args.path c.args.self.now.1 (map_of c.take_at-value.new.taken c.take_at-value.new.items.items c.self.inside.child_bits c.self.inside.children.items) b) (sym s.spare) (left_short (λ x. false) c.args.path s h (λ x. refl))
+    subst (λ b. IsPruned c.args.path c.args.self.now.spares (map_of c.take_at-value.new.taken c.take_at-value.new.items.items c.self.inside.child_bits c.self.inside.children.items) b) (sym s.spare) (left_short (λ x. false) c.args.path s h (λ x. refl))
 
 pub returns-then-is_short-clause-count : goal.returns-then-is_short-clause-count
 returns-then-is_short-clause-count g t c = omega (arith, value_count (seen c.self.invariant c.self.view_is) (invariant_of-self g t c))
@@ -46,7 +46,7 @@ returns-in-None-clause-value g t c =
 pub returns-in-None-clause-map : goal.returns-in-None-clause-map
 returns-in-None-clause-map g t c =
     let h : 5 ≤ length c.args.path = grind (arith, nat_tests) in
-    sym (remove_absent c.args.self.now.0 c.args.path (absent c.args.path (seen c.self.invariant c.self.view_is) h c.five-number.ensures.value c.in-None.ensures))
+    sym (remove_absent c.args.self.now.entries c.args.path (absent c.args.path (seen c.self.invariant c.self.view_is) h c.five-number.ensures.value c.in-None.ensures))
 
 pub returns-in-None-clause-spares : goal.returns-in-None-clause-spares
 returns-in-None-clause-spares g t c =
@@ -59,41 +59,41 @@ pub invariant_of-self-then-is_bare : goal.invariant_of-self-then-is_bare
 invariant_of-self-then-is_bare g t c =
     let h : 5 ≤ length c.args.path = grind (arith, nat_tests) in
     let s = seen c.self.invariant c.self.view_is in
-    (pruned c.args.path c.index_mut-child.result.now c.remove-value.new.self s h (way c.args.path s c.five-number.ensures.value c.in-Some.ensures) c.index_mut-child.ensures.value (c.remove-value.ensures.map ∙ ap (remove c.index_mut-child.result.now.0) c.rest.ensures) (c.if-is_bare.ensures.bare.0 refl).0 (c.bit.ensures ∙ ap (λ i. 2 ^ i) c.five-number.ensures.value) c.remove.ensures.items).slots
+    (pruned c.args.path c.index_mut-child.result.now c.remove-value.new.self s h (way c.args.path s c.five-number.ensures.value c.in-Some.ensures) c.index_mut-child.ensures.value (c.remove-value.ensures.map ∙ ap (remove c.index_mut-child.result.now.entries) c.rest.ensures) (c.if-is_bare.ensures.bare.0 refl).0 (c.bit.ensures ∙ ap (λ i. 2 ^ i) c.five-number.ensures.value) c.remove.ensures.items).slots
 
 pub returns-then-is_bare-clause-value : goal.returns-then-is_bare-clause-value
 returns-then-is_bare-clause-value g t c =
     let h : 5 ≤ length c.args.path = grind (arith, nat_tests) in
     let s = seen c.self.invariant c.self.view_is in
-    c.remove-value.ensures.value ∙ ap (get c.index_mut-child.result.now.0) c.rest.ensures
+    c.remove-value.ensures.value ∙ ap (get c.index_mut-child.result.now.entries) c.rest.ensures
     ∙ was c.args.path c.index_mut-child.result.now s h (way c.args.path s c.five-number.ensures.value c.in-Some.ensures) c.index_mut-child.ensures.value
 
 pub returns-then-is_bare-clause-map : goal.returns-then-is_bare-clause-map
 returns-then-is_bare-clause-map g t c =
     let h : 5 ≤ length c.args.path = grind (arith, nat_tests) in
     let s = seen c.self.invariant c.self.view_is in
-    (pruned c.args.path c.index_mut-child.result.now c.remove-value.new.self s h (way c.args.path s c.five-number.ensures.value c.in-Some.ensures) c.index_mut-child.ensures.value (c.remove-value.ensures.map ∙ ap (remove c.index_mut-child.result.now.0) c.rest.ensures) (c.if-is_bare.ensures.bare.0 refl).0 (c.bit.ensures ∙ ap (λ i. 2 ^ i) c.five-number.ensures.value) c.remove.ensures.items).map
+    (pruned c.args.path c.index_mut-child.result.now c.remove-value.new.self s h (way c.args.path s c.five-number.ensures.value c.in-Some.ensures) c.index_mut-child.ensures.value (c.remove-value.ensures.map ∙ ap (remove c.index_mut-child.result.now.entries) c.rest.ensures) (c.if-is_bare.ensures.bare.0 refl).0 (c.bit.ensures ∙ ap (λ i. 2 ^ i) c.five-number.ensures.value) c.remove.ensures.items).map
 
 pub returns-then-is_bare-clause-spares : goal.returns-then-is_bare-clause-spares
 returns-then-is_bare-clause-spares g t c =
     let h : 5 ≤ length c.args.path = grind (arith, nat_tests) in
     let s = seen c.self.invariant c.self.view_is in
     left_removed (λ x. false) c.args.path s h (λ x l e. refl) (λ x. false) c.index_mut-child.result.now c.remove-value.new.self (way c.args.path s c.five-number.ensures.value c.in-Some.ensures) c.index_mut-child.ensures.value (λ x. refl)
-    (subst (λ q. IsPruned q c.index_mut-child.result.now.1 c.remove-value.new.self.0 c.remove-value.new.self.1) c.rest.ensures c.remove-value.ensures.spares)
+    (subst (λ q. IsPruned q c.index_mut-child.result.now.spares c.remove-value.new.self.entries c.remove-value.new.self.spares) c.rest.ensures c.remove-value.ensures.spares)
     (c.if-is_bare.ensures.bare.0 refl).1 (c.bit.ensures ∙ ap (λ i. 2 ^ i) c.five-number.ensures.value) c.remove.ensures.items
 
 pub returns-then-is_bare-clause-count : goal.returns-then-is_bare-clause-count
 returns-then-is_bare-clause-count g t c =
     let h : 5 ≤ length c.args.path = grind (arith, nat_tests) in
     let s = seen c.self.invariant c.self.view_is in
-    let p = pruned c.args.path c.index_mut-child.result.now c.remove-value.new.self s h (way c.args.path s c.five-number.ensures.value c.in-Some.ensures) c.index_mut-child.ensures.value (c.remove-value.ensures.map ∙ ap (remove c.index_mut-child.result.now.0) c.rest.ensures) (c.if-is_bare.ensures.bare.0 refl).0 (c.bit.ensures ∙ ap (λ i. 2 ^ i) c.five-number.ensures.value) c.remove.ensures.items in
+    let p = pruned c.args.path c.index_mut-child.result.now c.remove-value.new.self s h (way c.args.path s c.five-number.ensures.value c.in-Some.ensures) c.index_mut-child.ensures.value (c.remove-value.ensures.map ∙ ap (remove c.index_mut-child.result.now.entries) c.rest.ensures) (c.if-is_bare.ensures.bare.0 refl).0 (c.bit.ensures ∙ ap (λ i. 2 ^ i) c.five-number.ensures.value) c.remove.ensures.items in
     omega (arith, p.count, c.remove-value.ensures.count, c.if-is_bare.ensures.count refl)
 
 pub returns-then-is_bare-clause-levels : goal.returns-then-is_bare-clause-levels
 returns-then-is_bare-clause-levels g t c =
     let h : 5 ≤ length c.args.path = grind (arith, nat_tests) in
     let s = seen c.self.invariant c.self.view_is in
-    (pruned c.args.path c.index_mut-child.result.now c.remove-value.new.self s h (way c.args.path s c.five-number.ensures.value c.in-Some.ensures) c.index_mut-child.ensures.value (c.remove-value.ensures.map ∙ ap (remove c.index_mut-child.result.now.0) c.rest.ensures) (c.if-is_bare.ensures.bare.0 refl).0 (c.bit.ensures ∙ ap (λ i. 2 ^ i) c.five-number.ensures.value) c.remove.ensures.items).height
+    (pruned c.args.path c.index_mut-child.result.now c.remove-value.new.self s h (way c.args.path s c.five-number.ensures.value c.in-Some.ensures) c.index_mut-child.ensures.value (c.remove-value.ensures.map ∙ ap (remove c.index_mut-child.result.now.entries) c.rest.ensures) (c.if-is_bare.ensures.bare.0 refl).0 (c.bit.ensures ∙ ap (λ i. 2 ^ i) c.five-number.ensures.value) c.remove.ensures.items).height
 
 -- ---- the child stays
 
@@ -101,21 +101,21 @@ pub returns-else-is_bare-clause-value : goal.returns-else-is_bare-clause-value
 returns-else-is_bare-clause-value g t c =
     let h : 5 ≤ length c.args.path = grind (arith, nat_tests) in
     let s = seen c.self.invariant c.self.view_is in
-    c.remove-value.ensures.value ∙ ap (get c.index_mut-child.result.now.0) c.rest.ensures
+    c.remove-value.ensures.value ∙ ap (get c.index_mut-child.result.now.entries) c.rest.ensures
     ∙ was c.args.path c.index_mut-child.result.now s h (way c.args.path s c.five-number.ensures.value c.in-Some.ensures) c.index_mut-child.ensures.value
 
 pub returns-else-is_bare-clause-map : goal.returns-else-is_bare-clause-map
 returns-else-is_bare-clause-map g t c =
     let h : 5 ≤ length c.args.path = grind (arith, nat_tests) in
     let s = seen c.self.invariant c.self.view_is in
-    set_taken c.args.path c.index_mut-child.result.now c.remove-value.new.self s h (way c.args.path s c.five-number.ensures.value c.in-Some.ensures) c.index_mut-child.ensures.value (c.remove-value.ensures.map ∙ ap (remove c.index_mut-child.result.now.0) c.rest.ensures)
+    set_taken c.args.path c.index_mut-child.result.now c.remove-value.new.self s h (way c.args.path s c.five-number.ensures.value c.in-Some.ensures) c.index_mut-child.ensures.value (c.remove-value.ensures.map ∙ ap (remove c.index_mut-child.result.now.entries) c.rest.ensures)
 
 pub returns-else-is_bare-clause-spares : goal.returns-else-is_bare-clause-spares
 returns-else-is_bare-clause-spares g t c =
     let h : 5 ≤ length c.args.path = grind (arith, nat_tests) in
     let s = seen c.self.invariant c.self.view_is in
     left_set (λ x. false) c.args.path s h (λ x l e. refl) (λ x. false) c.index_mut-child.result.now c.remove-value.new.self (way c.args.path s c.five-number.ensures.value c.in-Some.ensures) c.index_mut-child.ensures.value (λ x. refl)
-    (subst (λ q. IsPruned q c.index_mut-child.result.now.1 c.remove-value.new.self.0 c.remove-value.new.self.1) c.rest.ensures c.remove-value.ensures.spares)
+    (subst (λ q. IsPruned q c.index_mut-child.result.now.spares c.remove-value.new.self.entries c.remove-value.new.self.spares) c.rest.ensures c.remove-value.ensures.spares)
     (not_bare c.remove-value.new.self c.is_bare.result c.is_bare.ensures.bare.1 c.if-is_bare.false)
 
 pub returns-else-is_bare-clause-count : goal.returns-else-is_bare-clause-count

@@ -2,7 +2,7 @@ use Rattle.std.proofs.Common.{◌≡◌, ◌^◌, ◌≤◌, ◌∙◌, length, 
 use Rattle.std.proofs.lemmas.Bool.Decides.{nat_tests}
 use Rattle.std.proofs.Math.ListN.{length-drop}
 use Rattle.std.specs.FinMap.{len, len-empty}
-use Rattle.trie_keys.specs.Bits.{begins}
+use Rattle.trie_core.specs.Bits.{begins}
 use Rattle.trie_core.specs.Inside.{outside}
 use Rattle.trie_core.specs.Ways.{IsCut}
 use Rattle.trie_core.proofs.Seen.{seen}
@@ -32,17 +32,17 @@ pub overflow_add-result : goal.overflow_add-result
 overflow_add-result g t c =
     let h : 5 ≤ length c.args.path.now = grind (arith, nat_tests) in
     let s = seen c.self.invariant c.self.view_is in
-    let p = gone c.args.path.now c.index_mut-child.result.now s h (way c.args.path.now s c.five-number.ensures.value c.in-Some.ensures) c.index_mut-child.ensures.value (sym (c.if-is_bare.ensures.bare.0 refl).0 ∙ (c.remove_children-entries.ensures.map ∙ ap (outside c.index_mut-child.result.now.0) c.rest.ensures)) (c.bit.ensures ∙ ap (λ i. 2 ^ i) c.five-number.ensures.value) (c.remove.ensures.items ∙ set_removed c.self.inside.children.items c.in-Some.at c.remove_children-entries.new.self) in
+    let p = gone c.args.path.now c.index_mut-child.result.now s h (way c.args.path.now s c.five-number.ensures.value c.in-Some.ensures) c.index_mut-child.ensures.value (sym (c.if-is_bare.ensures.bare.0 refl).0 ∙ (c.remove_children-entries.ensures.map ∙ ap (outside c.index_mut-child.result.now.entries) c.rest.ensures)) (c.bit.ensures ∙ ap (λ i. 2 ^ i) c.five-number.ensures.value) (c.remove.ensures.items ∙ set_removed c.self.inside.children.items c.in-Some.at c.remove_children-entries.new.self) in
     omega (arith, p.count, c.remove_children-entries.ensures.count, c.if-is_bare.ensures.count refl, c.requires.nodes)
 
 pub invariant_of-self : goal.invariant_of-self
 invariant_of-self g t c =
     let h : 5 ≤ length c.args.path.now = grind (arith, nat_tests) in
     let s = seen c.self.invariant c.self.view_is in
-    (gone c.args.path.now c.index_mut-child.result.now s h (way c.args.path.now s c.five-number.ensures.value c.in-Some.ensures) c.index_mut-child.ensures.value (sym (c.if-is_bare.ensures.bare.0 refl).0 ∙ (c.remove_children-entries.ensures.map ∙ ap (outside c.index_mut-child.result.now.0) c.rest.ensures)) (c.bit.ensures ∙ ap (λ i. 2 ^ i) c.five-number.ensures.value) (c.remove.ensures.items ∙ set_removed c.self.inside.children.items c.in-Some.at c.remove_children-entries.new.self)).slots
+    (gone c.args.path.now c.index_mut-child.result.now s h (way c.args.path.now s c.five-number.ensures.value c.in-Some.ensures) c.index_mut-child.ensures.value (sym (c.if-is_bare.ensures.bare.0 refl).0 ∙ (c.remove_children-entries.ensures.map ∙ ap (outside c.index_mut-child.result.now.entries) c.rest.ensures)) (c.bit.ensures ∙ ap (λ i. 2 ^ i) c.five-number.ensures.value) (c.remove.ensures.items ∙ set_removed c.self.inside.children.items c.in-Some.at c.remove_children-entries.new.self)).slots
 
 pub returns-then-len-le5-clause-spares : goal.returns-then-len-le5-clause-spares
-returns-then-len-le5-clause-spares g t c = cut_short c.args.path.now c.args.self.now.1 c.take_inside.new.self.0 c.take_inside.new.self.1 (grind (arith, nat_tests)) c.take_inside.ensures.spares c.take_inside.ensures.below
+returns-then-len-le5-clause-spares g t c = cut_short c.args.path.now c.args.self.now.spares c.take_inside.new.self.entries c.take_inside.new.self.spares (grind (arith, nat_tests)) c.take_inside.ensures.spares c.take_inside.ensures.below
 
 pub returns-in-None-clause-map : goal.returns-in-None-clause-map
 returns-in-None-clause-map g t c =
@@ -58,21 +58,21 @@ pub returns-then-is_bare-clause-map : goal.returns-then-is_bare-clause-map
 returns-then-is_bare-clause-map g t c =
     let h : 5 ≤ length c.args.path.now = grind (arith, nat_tests) in
     let s = seen c.self.invariant c.self.view_is in
-    (gone c.args.path.now c.index_mut-child.result.now s h (way c.args.path.now s c.five-number.ensures.value c.in-Some.ensures) c.index_mut-child.ensures.value (sym (c.if-is_bare.ensures.bare.0 refl).0 ∙ (c.remove_children-entries.ensures.map ∙ ap (outside c.index_mut-child.result.now.0) c.rest.ensures)) (c.bit.ensures ∙ ap (λ i. 2 ^ i) c.five-number.ensures.value) (c.remove.ensures.items ∙ set_removed c.self.inside.children.items c.in-Some.at c.remove_children-entries.new.self)).map
+    (gone c.args.path.now c.index_mut-child.result.now s h (way c.args.path.now s c.five-number.ensures.value c.in-Some.ensures) c.index_mut-child.ensures.value (sym (c.if-is_bare.ensures.bare.0 refl).0 ∙ (c.remove_children-entries.ensures.map ∙ ap (outside c.index_mut-child.result.now.entries) c.rest.ensures)) (c.bit.ensures ∙ ap (λ i. 2 ^ i) c.five-number.ensures.value) (c.remove.ensures.items ∙ set_removed c.self.inside.children.items c.in-Some.at c.remove_children-entries.new.self)).map
 
 pub returns-then-is_bare-clause-entries : goal.returns-then-is_bare-clause-entries
 returns-then-is_bare-clause-entries g t c =
     let h : 5 ≤ length c.args.path.now = grind (arith, nat_tests) in
     let s = seen c.self.invariant c.self.view_is in
-    let p = gone c.args.path.now c.index_mut-child.result.now s h (way c.args.path.now s c.five-number.ensures.value c.in-Some.ensures) c.index_mut-child.ensures.value (sym (c.if-is_bare.ensures.bare.0 refl).0 ∙ (c.remove_children-entries.ensures.map ∙ ap (outside c.index_mut-child.result.now.0) c.rest.ensures)) (c.bit.ensures ∙ ap (λ i. 2 ^ i) c.five-number.ensures.value) (c.remove.ensures.items ∙ set_removed c.self.inside.children.items c.in-Some.at c.remove_children-entries.new.self) in
-    let z : len c.remove_children-entries.new.self.0 ≡ 0 = ap len (c.if-is_bare.ensures.bare.0 refl).0 ∙ len-empty _ _ in
+    let p = gone c.args.path.now c.index_mut-child.result.now s h (way c.args.path.now s c.five-number.ensures.value c.in-Some.ensures) c.index_mut-child.ensures.value (sym (c.if-is_bare.ensures.bare.0 refl).0 ∙ (c.remove_children-entries.ensures.map ∙ ap (outside c.index_mut-child.result.now.entries) c.rest.ensures)) (c.bit.ensures ∙ ap (λ i. 2 ^ i) c.five-number.ensures.value) (c.remove.ensures.items ∙ set_removed c.self.inside.children.items c.in-Some.at c.remove_children-entries.new.self) in
+    let z : len c.remove_children-entries.new.self.entries ≡ 0 = ap len (c.if-is_bare.ensures.bare.0 refl).0 ∙ len-empty _ _ in
     omega (arith, p.entries, c.remove_children-entries.ensures.entries, z)
 
 pub returns-then-is_bare-clause-count : goal.returns-then-is_bare-clause-count
 returns-then-is_bare-clause-count g t c =
     let h : 5 ≤ length c.args.path.now = grind (arith, nat_tests) in
     let s = seen c.self.invariant c.self.view_is in
-    let p = gone c.args.path.now c.index_mut-child.result.now s h (way c.args.path.now s c.five-number.ensures.value c.in-Some.ensures) c.index_mut-child.ensures.value (sym (c.if-is_bare.ensures.bare.0 refl).0 ∙ (c.remove_children-entries.ensures.map ∙ ap (outside c.index_mut-child.result.now.0) c.rest.ensures)) (c.bit.ensures ∙ ap (λ i. 2 ^ i) c.five-number.ensures.value) (c.remove.ensures.items ∙ set_removed c.self.inside.children.items c.in-Some.at c.remove_children-entries.new.self) in
+    let p = gone c.args.path.now c.index_mut-child.result.now s h (way c.args.path.now s c.five-number.ensures.value c.in-Some.ensures) c.index_mut-child.ensures.value (sym (c.if-is_bare.ensures.bare.0 refl).0 ∙ (c.remove_children-entries.ensures.map ∙ ap (outside c.index_mut-child.result.now.entries) c.rest.ensures)) (c.bit.ensures ∙ ap (λ i. 2 ^ i) c.five-number.ensures.value) (c.remove.ensures.items ∙ set_removed c.self.inside.children.items c.in-Some.at c.remove_children-entries.new.self) in
     omega (arith, p.count, c.remove_children-entries.ensures.count, c.if-is_bare.ensures.count refl)
 
 pub returns-then-is_bare-clause-spares : goal.returns-then-is_bare-clause-spares
@@ -80,20 +80,20 @@ returns-then-is_bare-clause-spares g t c =
     let h : 5 ≤ length c.args.path.now = grind (arith, nat_tests) in
     let s = seen c.self.invariant c.self.view_is in
     left_removed (begins c.args.path.now) c.args.path.now s h (cut_elsewhere c.args.path.now h) (begins (drop 5 c.args.path.now)) c.index_mut-child.result.now c.remove_children-entries.new.self (way c.args.path.now s c.five-number.ensures.value c.in-Some.ensures) c.index_mut-child.ensures.value (cut_below c.args.path.now h)
-    (subst (λ q. IsCut q c.index_mut-child.result.now.1 c.remove_children-entries.new.self.0 c.remove_children-entries.new.self.1) c.rest.ensures c.remove_children-entries.ensures.spares)
+    (subst (λ q. IsCut q c.index_mut-child.result.now.spares c.remove_children-entries.new.self.entries c.remove_children-entries.new.self.spares) c.rest.ensures c.remove_children-entries.ensures.spares)
     (c.if-is_bare.ensures.bare.0 refl).1 (c.bit.ensures ∙ ap (λ i. 2 ^ i) c.five-number.ensures.value) c.remove.ensures.items
 
 pub returns-then-is_bare-clause-levels : goal.returns-then-is_bare-clause-levels
 returns-then-is_bare-clause-levels g t c =
     let h : 5 ≤ length c.args.path.now = grind (arith, nat_tests) in
     let s = seen c.self.invariant c.self.view_is in
-    (gone c.args.path.now c.index_mut-child.result.now s h (way c.args.path.now s c.five-number.ensures.value c.in-Some.ensures) c.index_mut-child.ensures.value (sym (c.if-is_bare.ensures.bare.0 refl).0 ∙ (c.remove_children-entries.ensures.map ∙ ap (outside c.index_mut-child.result.now.0) c.rest.ensures)) (c.bit.ensures ∙ ap (λ i. 2 ^ i) c.five-number.ensures.value) (c.remove.ensures.items ∙ set_removed c.self.inside.children.items c.in-Some.at c.remove_children-entries.new.self)).height
+    (gone c.args.path.now c.index_mut-child.result.now s h (way c.args.path.now s c.five-number.ensures.value c.in-Some.ensures) c.index_mut-child.ensures.value (sym (c.if-is_bare.ensures.bare.0 refl).0 ∙ (c.remove_children-entries.ensures.map ∙ ap (outside c.index_mut-child.result.now.entries) c.rest.ensures)) (c.bit.ensures ∙ ap (λ i. 2 ^ i) c.five-number.ensures.value) (c.remove.ensures.items ∙ set_removed c.self.inside.children.items c.in-Some.at c.remove_children-entries.new.self)).height
 
 pub returns-else-is_bare-clause-map : goal.returns-else-is_bare-clause-map
 returns-else-is_bare-clause-map g t c =
     let h : 5 ≤ length c.args.path.now = grind (arith, nat_tests) in
     let s = seen c.self.invariant c.self.view_is in
-    set_outside c.args.path.now c.index_mut-child.result.now c.remove_children-entries.new.self s h (way c.args.path.now s c.five-number.ensures.value c.in-Some.ensures) c.index_mut-child.ensures.value (c.remove_children-entries.ensures.map ∙ ap (outside c.index_mut-child.result.now.0) c.rest.ensures)
+    set_outside c.args.path.now c.index_mut-child.result.now c.remove_children-entries.new.self s h (way c.args.path.now s c.five-number.ensures.value c.in-Some.ensures) c.index_mut-child.ensures.value (c.remove_children-entries.ensures.map ∙ ap (outside c.index_mut-child.result.now.entries) c.rest.ensures)
 
 pub returns-else-is_bare-clause-entries : goal.returns-else-is_bare-clause-entries
 returns-else-is_bare-clause-entries g t c =
@@ -110,7 +110,7 @@ returns-else-is_bare-clause-spares g t c =
     let h : 5 ≤ length c.args.path.now = grind (arith, nat_tests) in
     let s = seen c.self.invariant c.self.view_is in
     left_set (begins c.args.path.now) c.args.path.now s h (cut_elsewhere c.args.path.now h) (begins (drop 5 c.args.path.now)) c.index_mut-child.result.now c.remove_children-entries.new.self (way c.args.path.now s c.five-number.ensures.value c.in-Some.ensures) c.index_mut-child.ensures.value (cut_below c.args.path.now h)
-    (subst (λ q. IsCut q c.index_mut-child.result.now.1 c.remove_children-entries.new.self.0 c.remove_children-entries.new.self.1) c.rest.ensures c.remove_children-entries.ensures.spares)
+    (subst (λ q. IsCut q c.index_mut-child.result.now.spares c.remove_children-entries.new.self.entries c.remove_children-entries.new.self.spares) c.rest.ensures c.remove_children-entries.ensures.spares)
     (not_bare c.remove_children-entries.new.self c.is_bare.result c.is_bare.ensures.bare.1 c.if-is_bare.false)
 
 pub returns-else-is_bare-clause-levels : goal.returns-else-is_bare-clause-levels

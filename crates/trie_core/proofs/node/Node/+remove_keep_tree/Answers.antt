@@ -2,7 +2,7 @@ use Rattle.std.proofs.Common.{◌<◌, ◌≤◌, ◌∙◌, sym, ap, subst, len
 use Rattle.std.specs.Ordering.{nat_cmp}
 use Rattle.std.specs.FinMap.{find, get, remove}
 use Rattle.std.proofs.lemmas.Bool.Decides.{nat_tests}
-use Rattle.trie_core.specs.Places.{at_places}
+use Rattle.trie_core.specs.InnerPlaces.{at_places}
 use Rattle.trie_core.proofs.Maps.{remove_absent}
 use Rattle.trie_core.proofs.Seen.{seen, map_of, value_at}
 use Rattle.trie_core.proofs.Changes.{value_slots, value_taken_map, value_count, way, was, set_taken, set_count, set_height, was_lower, absent}
@@ -34,7 +34,7 @@ returns-in_err-at-clause-value g t c =
 pub returns-in_err-at-clause-map : goal.returns-in_err-at-clause-map
 returns-in_err-at-clause-map g t c =
     let h : 5 ≤ length c.args.path = grind (arith, nat_tests) in
-    sym (remove_absent c.args.self.now.0 c.args.path (absent c.args.path (seen c.self.invariant c.self.view_is) h c.five.ensures.value c.in_err-at.ensures))
+    sym (remove_absent c.args.self.now.entries c.args.path (absent c.args.path (seen c.self.invariant c.self.view_is) h c.five.ensures.value c.in_err-at.ensures))
 
 pub index_mut-child-requires : goal.index_mut-child-requires
 index_mut-child-requires g t c = omega (arith, (way c.args.path (seen c.self.invariant c.self.view_is) c.five.ensures.value c.in_ok-at.ensures).within, c.self.inside.children.ok.0)
@@ -43,14 +43,14 @@ pub returns-clause-value : goal.returns-clause-value
 returns-clause-value g t c =
     let h : 5 ≤ length c.args.path = grind (arith, nat_tests) in
     let s = seen c.self.invariant c.self.view_is in
-    c.remove_keep_tree.ensures.value ∙ ap (get c.index_mut-child.result.now.0) c.rest.ensures
+    c.remove_keep_tree.ensures.value ∙ ap (get c.index_mut-child.result.now.entries) c.rest.ensures
     ∙ was c.args.path c.index_mut-child.result.now s h (way c.args.path s c.five.ensures.value c.in_ok-at.ensures) c.index_mut-child.ensures.value
 
 pub returns-clause-map : goal.returns-clause-map
 returns-clause-map g t c =
     let h : 5 ≤ length c.args.path = grind (arith, nat_tests) in
     let s = seen c.self.invariant c.self.view_is in
-    set_taken c.args.path c.index_mut-child.result.now c.remove_keep_tree.new.self s h (way c.args.path s c.five.ensures.value c.in_ok-at.ensures) c.index_mut-child.ensures.value (c.remove_keep_tree.ensures.map ∙ ap (remove c.index_mut-child.result.now.0) c.rest.ensures)
+    set_taken c.args.path c.index_mut-child.result.now c.remove_keep_tree.new.self s h (way c.args.path s c.five.ensures.value c.in_ok-at.ensures) c.index_mut-child.ensures.value (c.remove_keep_tree.ensures.map ∙ ap (remove c.index_mut-child.result.now.entries) c.rest.ensures)
 
 pub returns-clause-count : goal.returns-clause-count
 returns-clause-count g t c =
@@ -67,7 +67,7 @@ pub returns-then-is_short-clause-spares : goal.returns-then-is_short-clause-spar
 returns-then-is_short-clause-spares g t c =
     let h : length c.args.path < 5 = grind (arith, nat_tests) in
     let s = seen c.self.invariant c.self.view_is in
-    subst (λ b. IsKept c.args.path c.args.self.now.0 c.args.self.now.1 (map_of c.take_at.new.taken c.take_at.new.items.items c.self.inside.child_bits c.self.inside.children.items) b) (sym s.spare) (kept_short c.args.path s h)
+    subst (λ b. IsKept c.args.path c.args.self.now.entries c.args.self.now.spares (map_of c.take_at.new.taken c.take_at.new.items.items c.self.inside.child_bits c.self.inside.children.items) b) (sym s.spare) (kept_short c.args.path s h)
 
 pub returns-in_err-at-clause-spares : goal.returns-in_err-at-clause-spares
 returns-in_err-at-clause-spares g t c =
@@ -80,5 +80,5 @@ returns-clause-spares g t c =
     let s = seen c.self.invariant c.self.view_is in
     let e = c.index_mut-child.result.now in
     let d = c.remove_keep_tree.new.self in
-    kept_set c.args.path e d s h (way c.args.path s c.five.ensures.value c.in_ok-at.ensures) c.index_mut-child.ensures.value (c.remove_keep_tree.ensures.map ∙ ap (remove e.0) c.rest.ensures)
-    (subst (λ q. IsKept q e.0 e.1 d.0 d.1) c.rest.ensures c.remove_keep_tree.ensures.spares)
+    kept_set c.args.path e d s h (way c.args.path s c.five.ensures.value c.in_ok-at.ensures) c.index_mut-child.ensures.value (c.remove_keep_tree.ensures.map ∙ ap (remove e.entries) c.rest.ensures)
+    (subst (λ q. IsKept q e.entries e.spares d.entries d.spares) c.rest.ensures c.remove_keep_tree.ensures.spares)

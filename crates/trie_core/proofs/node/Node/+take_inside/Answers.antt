@@ -7,10 +7,10 @@ pub returns-clause-map : goal.returns-clause-map
 returns-clause-map g t c =
     c.take_inside-right.ensures.map
     ∙ (λ i. outside ((c.take_inside-left.ensures.map ∙ (λ j. outside (c.take_value.ensures.map j) (c.extended.ensures j))) i) (c.extended-2.ensures i))
-    ∙ outside_split c.args.self.now.0 c.args.path.now
+    ∙ outside_split c.args.self.now.entries c.args.path.now
 
 pub returns-clause-spares : goal.returns-clause-spares
 returns-clause-spares g t c =
     c.take_inside-right.ensures.spares
     ∙ (λ i. outside ((c.take_inside-left.ensures.spares ∙ (λ j. outside (c.take_value.ensures.spares j) (c.extended.ensures j))) i) (c.extended-2.ensures i))
-    ∙ outside_split c.args.self.now.1 c.args.path.now
+    ∙ outside_split c.args.self.now.spares c.args.path.now

@@ -3,9 +3,8 @@ use Rattle.std.specs.Prelude.{Some, None, MatchOption}
 use Rattle.std.specs.Option.{option_copied}
 use Rattle.std.specs.Ordering.{nat_cmp}
 use Rattle.std.specs.FinMap.{find}
-use Rattle.trie_keys.specs.Bits.{child_of}
-use Rattle.trie_core.specs.Places.{at_places}
-use Rattle.trie_core.specs.Search.{IsChild, HasNoChild}
+use Rattle.trie_core.specs.InnerPlaces.{child_of, at_places}
+use Rattle.trie_core.specs.InnerSearch.{IsChild, HasNoChild}
 use Rattle.trie_core.proofs.Seen.{seen, is_child, has_no_child}
 use Rattle.trie_core.proofs.node.Node.child.Goals as goal
 

@@ -26,12 +26,12 @@ pub in_byte-requires : goal.in_byte-requires
 in_byte-requires g c =
     let h : length c.way.path < 5 = grind (arith, nat_tests) in
     let a = c.way.invariant.place in
-    shortest_in_byte (λ s. s.now) c.args.self.now.0 c.args.path c.deeper.result c.requires
+    shortest_in_byte (λ s. s.now) c.args.self.now.entries c.args.path c.deeper.result c.requires
     (shortest_whole (λ s. s.now) c.way.depth c.shortest_here-2.result c.deeper.result a (omega (arith, way_left c.way.depth a, h)) c.way.invariant.none c.shortest_here-2.ensures c.deeper.ensures)
 
 pub returns : goal.returns
 returns g c =
     let h : length c.way.path < 5 = grind (arith, nat_tests) in
     let a = c.way.invariant.place in
-    subst (λ o. MatchOption o (NoBeginning c.args.self.now.0 c.args.path) (λ r. IsShortest c.args.self.now.0 c.args.path r.0 r.1.now)) (sym c.in_byte.ensures)
+    subst (λ o. MatchOption o (NoBeginning c.args.self.now.entries c.args.path) (λ r. IsShortest c.args.self.now.entries c.args.path r.0 r.1.now)) (sym c.in_byte.ensures)
     (shortest_whole (λ s. s.now) c.way.depth c.shortest_here-2.result c.deeper.result a (omega (arith, way_left c.way.depth a, h)) c.way.invariant.none c.shortest_here-2.ensures c.deeper.ensures)

@@ -1,5 +1,5 @@
 use Rattle.std.proofs.Common.{◌^◌, ◌∙◌, ap, subst, arith}
-use Rattle.trie_core.specs.Ways.{AreBelow}
+use Rattle.trie_core.specs.InnerNodes.{AreBelow}
 use Rattle.trie_core.proofs.Seen.{seen}
 use Rattle.trie_core.proofs.Changes.{way}
 use Rattle.trie_core.proofs.Inside.{none_inside, none_left, gone}
@@ -12,19 +12,19 @@ remove-child-requires g c = omega (arith, (way c.args.path.now (seen c.self.inva
 pub counts-requires-clause-entries : goal.counts-requires-clause-entries
 counts-requires-clause-entries g c =
     let s = seen c.self.invariant c.self.view_is in
-    let p = gone c.args.path.now c.remove-child.result s (omega (arith, c.requires.five)) (way c.args.path.now s c.five-number.ensures.value c.in-Some.ensures) c.remove-child.ensures.value (none_left c.remove-child.result.0 c.args.path.now c.requires.five) (c.bit.ensures ∙ ap (λ i. 2 ^ i) c.five-number.ensures.value) c.remove-child.ensures.items in
+    let p = gone c.args.path.now c.remove-child.result s (omega (arith, c.requires.five)) (way c.args.path.now s c.five-number.ensures.value c.in-Some.ensures) c.remove-child.ensures.value (none_left c.remove-child.result.entries c.args.path.now c.requires.five) (c.bit.ensures ∙ ap (λ i. 2 ^ i) c.five-number.ensures.value) c.remove-child.ensures.items in
     omega (arith, p.entries, c.requires.entries)
 
 pub counts-requires-clause-nodes : goal.counts-requires-clause-nodes
 counts-requires-clause-nodes g c =
     let s = seen c.self.invariant c.self.view_is in
-    let p = gone c.args.path.now c.remove-child.result s (omega (arith, c.requires.five)) (way c.args.path.now s c.five-number.ensures.value c.in-Some.ensures) c.remove-child.ensures.value (none_left c.remove-child.result.0 c.args.path.now c.requires.five) (c.bit.ensures ∙ ap (λ i. 2 ^ i) c.five-number.ensures.value) c.remove-child.ensures.items in
+    let p = gone c.args.path.now c.remove-child.result s (omega (arith, c.requires.five)) (way c.args.path.now s c.five-number.ensures.value c.in-Some.ensures) c.remove-child.ensures.value (none_left c.remove-child.result.entries c.args.path.now c.requires.five) (c.bit.ensures ∙ ap (λ i. 2 ^ i) c.five-number.ensures.value) c.remove-child.ensures.items in
     omega (arith, p.count, c.requires.nodes)
 
 pub invariant_of-self : goal.invariant_of-self
 invariant_of-self g c =
     let s = seen c.self.invariant c.self.view_is in
-    (gone c.args.path.now c.remove-child.result s (omega (arith, c.requires.five)) (way c.args.path.now s c.five-number.ensures.value c.in-Some.ensures) c.remove-child.ensures.value (none_left c.remove-child.result.0 c.args.path.now c.requires.five) (c.bit.ensures ∙ ap (λ i. 2 ^ i) c.five-number.ensures.value) c.remove-child.ensures.items).slots
+    (gone c.args.path.now c.remove-child.result s (omega (arith, c.requires.five)) (way c.args.path.now s c.five-number.ensures.value c.in-Some.ensures) c.remove-child.ensures.value (none_left c.remove-child.result.entries c.args.path.now c.requires.five) (c.bit.ensures ∙ ap (λ i. 2 ^ i) c.five-number.ensures.value) c.remove-child.ensures.items).slots
 
 pub returns-in-None-clause-map : goal.returns-in-None-clause-map
 returns-in-None-clause-map g c = none_inside c.args.path.now (seen c.self.invariant c.self.view_is) (omega (arith, c.requires.five)) c.five-number.ensures.value c.in-None.ensures
@@ -32,18 +32,18 @@ returns-in-None-clause-map g c = none_inside c.args.path.now (seen c.self.invari
 pub returns-in-Some-clause-map : goal.returns-in-Some-clause-map
 returns-in-Some-clause-map g c =
     let s = seen c.self.invariant c.self.view_is in
-    (gone c.args.path.now c.remove-child.result s (omega (arith, c.requires.five)) (way c.args.path.now s c.five-number.ensures.value c.in-Some.ensures) c.remove-child.ensures.value (none_left c.remove-child.result.0 c.args.path.now c.requires.five) (c.bit.ensures ∙ ap (λ i. 2 ^ i) c.five-number.ensures.value) c.remove-child.ensures.items).map
+    (gone c.args.path.now c.remove-child.result s (omega (arith, c.requires.five)) (way c.args.path.now s c.five-number.ensures.value c.in-Some.ensures) c.remove-child.ensures.value (none_left c.remove-child.result.entries c.args.path.now c.requires.five) (c.bit.ensures ∙ ap (λ i. 2 ^ i) c.five-number.ensures.value) c.remove-child.ensures.items).map
 
 pub returns-in-Some-clause-entries : goal.returns-in-Some-clause-entries
 returns-in-Some-clause-entries g c =
     let s = seen c.self.invariant c.self.view_is in
-    let p = gone c.args.path.now c.remove-child.result s (omega (arith, c.requires.five)) (way c.args.path.now s c.five-number.ensures.value c.in-Some.ensures) c.remove-child.ensures.value (none_left c.remove-child.result.0 c.args.path.now c.requires.five) (c.bit.ensures ∙ ap (λ i. 2 ^ i) c.five-number.ensures.value) c.remove-child.ensures.items in
+    let p = gone c.args.path.now c.remove-child.result s (omega (arith, c.requires.five)) (way c.args.path.now s c.five-number.ensures.value c.in-Some.ensures) c.remove-child.ensures.value (none_left c.remove-child.result.entries c.args.path.now c.requires.five) (c.bit.ensures ∙ ap (λ i. 2 ^ i) c.five-number.ensures.value) c.remove-child.ensures.items in
     omega (arith, p.entries, c.counts.ensures.entries)
 
 pub returns-in-Some-clause-count : goal.returns-in-Some-clause-count
 returns-in-Some-clause-count g c =
     let s = seen c.self.invariant c.self.view_is in
-    let p = gone c.args.path.now c.remove-child.result s (omega (arith, c.requires.five)) (way c.args.path.now s c.five-number.ensures.value c.in-Some.ensures) c.remove-child.ensures.value (none_left c.remove-child.result.0 c.args.path.now c.requires.five) (c.bit.ensures ∙ ap (λ i. 2 ^ i) c.five-number.ensures.value) c.remove-child.ensures.items in
+    let p = gone c.args.path.now c.remove-child.result s (omega (arith, c.requires.five)) (way c.args.path.now s c.five-number.ensures.value c.in-Some.ensures) c.remove-child.ensures.value (none_left c.remove-child.result.entries c.args.path.now c.requires.five) (c.bit.ensures ∙ ap (λ i. 2 ^ i) c.five-number.ensures.value) c.remove-child.ensures.items in
     omega (arith, p.count, c.counts.ensures.nodes)
 
 pub returns-in-None-clause-spares : goal.returns-in-None-clause-spares
@@ -57,7 +57,7 @@ returns-in-Some-clause-spares g c =
 pub returns-in-Some-clause-levels : goal.returns-in-Some-clause-levels
 returns-in-Some-clause-levels g c =
     let s = seen c.self.invariant c.self.view_is in
-    (gone c.args.path.now c.remove-child.result s (omega (arith, c.requires.five)) (way c.args.path.now s c.five-number.ensures.value c.in-Some.ensures) c.remove-child.ensures.value (none_left c.remove-child.result.0 c.args.path.now c.requires.five) (c.bit.ensures ∙ ap (λ i. 2 ^ i) c.five-number.ensures.value) c.remove-child.ensures.items).height
+    (gone c.args.path.now c.remove-child.result s (omega (arith, c.requires.five)) (way c.args.path.now s c.five-number.ensures.value c.in-Some.ensures) c.remove-child.ensures.value (none_left c.remove-child.result.entries c.args.path.now c.requires.five) (c.bit.ensures ∙ ap (λ i. 2 ^ i) c.five-number.ensures.value) c.remove-child.ensures.items).height
 
 pub returns-in-None-clause-below : goal.returns-in-None-clause-below
 returns-in-None-clause-below g c = subst AreBelow (seen c.self.invariant c.self.view_is).spare (set_below c.self.invariant)

@@ -1,7 +1,7 @@
 use Rattle.std.proofs.Common.{◌+◌, ◌∙◌, cond, sym, ap, arith}
 use Rattle.std.specs.Ordering.{nat_cmp}
 use Rattle.std.specs.FinMap.{find, get, len}
-use Rattle.trie_core.specs.Places.{at_places}
+use Rattle.trie_core.specs.InnerPlaces.{at_places}
 use Rattle.trie_core.proofs.Seen.{seen, value_at}
 use Rattle.trie_core.proofs.Changes.{value_slots, value_taken_map, value_count}
 use Rattle.trie_core.proofs.Entries.{removed}
@@ -18,7 +18,7 @@ pub returns-clause-entries : goal.returns-clause-entries
 returns-clause-entries g c =
     let s = seen c.self.invariant c.self.view_is in
     let v = c.take_at.ensures.value ∙ ap (λ n. find nat_cmp n (at_places 32 0 c.self.inside.value_bits c.self.inside.values.items)) c.place.ensures.value ∙ value_at c.args.path.now s c.requires in
-    ap (λ m. len m + cond c.is_some.result 1 0) (returns-clause-map g c) ∙ removed c.args.self.now.0 c.args.path.now c.take_at.result c.is_some.result v (sym c.is_some.ensures)
+    ap (λ m. len m + cond c.is_some.result 1 0) (returns-clause-map g c) ∙ removed c.args.self.now.entries c.args.path.now c.take_at.result c.is_some.result v (sym c.is_some.ensures)
 
 pub returns-clause-count : goal.returns-clause-count
 returns-clause-count g c =
@@ -28,4 +28,4 @@ returns-clause-count g c =
 pub returns-clause-spares : goal.returns-clause-spares
 returns-clause-spares g c =
     let s = seen c.self.invariant c.self.view_is in
-    s.spare ∙ sym (remove_absent c.args.self.now.1 c.args.path.now (ap (λ b. get b c.args.path.now) (sym s.spare) ∙ set-short s.node c.args.path.now c.requires))
+    s.spare ∙ sym (remove_absent c.args.self.now.spares c.args.path.now (ap (λ b. get b c.args.path.now) (sym s.spare) ∙ set-short s.node c.args.path.now c.requires))

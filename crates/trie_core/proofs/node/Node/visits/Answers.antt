@@ -14,12 +14,12 @@ way-preserved g c =
     }
 
 pub returns-in-None-clause-tidy : goal.returns-in-None-clause-tidy
-returns-in-None-clause-tidy g c e = omega (arith, c.in-None.ensures.visits, c.way.invariant.all, visits_tidy c.args.self.now c.args.path e)
+returns-in-None-clause-tidy g c e = omega (arith, c.in-None.ensures.visits, c.way.invariant.all, visits_tidy c.args.self.now.entries c.args.path e)
 
 pub returns-clause-all : goal.returns-clause-all
 returns-clause-all g c =
     let h : length c.way.path < 5 = grind (arith, nat_tests) in
-    omega (arith, c.way.invariant.all, visits_short c.way.node.now c.way.path h)
+    omega (arith, c.way.invariant.all, visits_short c.way.node.now.entries c.way.node.now.spares c.way.path h)
 
 pub returns-clause-tidy : goal.returns-clause-tidy
-returns-clause-tidy g c e = returns-clause-all g c ∙ visits_tidy c.args.self.now c.args.path e
+returns-clause-tidy g c e = returns-clause-all g c ∙ visits_tidy c.args.self.now.entries c.args.path e

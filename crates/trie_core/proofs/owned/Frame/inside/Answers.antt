@@ -1,5 +1,5 @@
 use Rattle.std.proofs.Common.{◌/◌, ◌^◌, ap, arith}
-use Rattle.trie_keys.proofs.Begins.{inside_ends}
+use Rattle.trie_core.proofs.PlaceTables.{inside_ends}
 use Rattle.trie_core.proofs.Frames.{inside_frame}
 use Rattle.trie_core.proofs.owned.Frame.inside.Goals as goal
 

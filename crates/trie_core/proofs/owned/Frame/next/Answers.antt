@@ -1,5 +1,5 @@
 use Rattle.std.proofs.Common.{◌∙◌, ◌∷◌, sym, ap, arith}
-use Rattle.trie_core.specs.Walks.{part_rest}
+use Rattle.trie_core.specs.InnerWalks.{part_rest}
 use Rattle.trie_core.proofs.Frames.{value_next, value_key, child_next, child_frame, nothing_next}
 use Rattle.trie_core.proofs.owned.Frame.next.Goals as goal
 

@@ -1,6 +1,6 @@
 use Rattle.std.proofs.Common.{◌∙◌, ◌≤◌, sym, ap, length, arith}
 use Rattle.std.proofs.lemmas.Bool.Decides.{nat_tests}
-use Rattle.trie_core.specs.Walks.{walk_rest}
+use Rattle.trie_core.specs.InnerWalks.{walk_rest}
 use Rattle.trie_core.proofs.Walks.{start_way, way_below, way_none, five_bits}
 use Rattle.trie_core.proofs.owned.OwnedWalk.inside.Goals as goal
 

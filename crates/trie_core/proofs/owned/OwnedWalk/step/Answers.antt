@@ -1,5 +1,5 @@
 use Rattle.std.proofs.Common.{◌∙◌, ◌++◌, sym, ap, lit<, arith}
-use Rattle.trie_core.specs.Walks.{walk_rest}
+use Rattle.trie_core.specs.InnerWalks.{walk_rest}
 use Rattle.trie_core.proofs.Walks.{popped, pushed, entry_step, below_step}
 use Rattle.trie_core.proofs.owned.OwnedWalk.step.Goals as goal
 

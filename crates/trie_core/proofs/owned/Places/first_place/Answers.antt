@@ -1,7 +1,7 @@
 use Rattle.std.proofs.Common.{◌∙◌, ap, sym, arith}
 use Rattle.std.proofs.lemmas.Bool.Decides.{nat_tests}
-use Rattle.trie_core.specs.Held.{held}
-use Rattle.trie_core.specs.Places.{first_place_of}
+use Rattle.trie_core.specs.InnerHeld.{held}
+use Rattle.trie_core.specs.InnerPlaces.{first_place_of}
 use Rattle.trie_core.proofs.Splits.{first_is, none_is}
 use Rattle.trie_core.proofs.owned.Places.first_place.Goals as goal
 

@@ -1,8 +1,8 @@
 use Rattle.std.proofs.Common.{◌-◌, ◌∙◌, ap, sym, not, nat_lt, length}
 use Rattle.std.specs.Ordering.{nat_cmp}
 use Rattle.std.specs.FinMap.Entries.{where_key}
-use Rattle.trie_core.specs.Places.{placed}
-use Rattle.trie_core.specs.Held.{held}
+use Rattle.trie_core.specs.InnerPlaces.{placed}
+use Rattle.trie_core.specs.InnerHeld.{held}
 use Rattle.trie_core.proofs.Splits.{split}
 use Rattle.trie_core.proofs.owned.Places.from.Goals as goal
 

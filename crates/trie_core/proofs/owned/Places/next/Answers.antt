@@ -1,7 +1,7 @@
 use Rattle.std.proofs.Common.{◌≡◌, ◌∙◌, ◌∷◌, ◌-◌, ap, sym, length, count_ones, arith}
 use Rattle.std.specs.Vec.Iter.{into_iter_items}
-use Rattle.trie_core.specs.Places.{placed}
-use Rattle.trie_core.specs.Held.{held}
+use Rattle.trie_core.specs.InnerPlaces.{placed}
+use Rattle.trie_core.specs.InnerHeld.{held}
 use Rattle.trie_core.proofs.Splits.{lowest, placed_none}
 use Rattle.trie_core.proofs.owned.Places.next.Goals as goal
 

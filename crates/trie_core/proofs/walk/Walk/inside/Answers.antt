@@ -1,8 +1,8 @@
 use Rattle.std.proofs.Common.{◌∙◌, ◌≤◌, sym, ap, subst, length, lit<, arith}
 use Rattle.std.specs.FinMap.{entries}
-use Rattle.trie_keys.specs.Bits.{begins}
-use Rattle.trie_core.specs.Nodes.{under}
-use Rattle.trie_core.specs.Walks.{KeysWithin}
+use Rattle.trie_core.specs.Bits.{begins}
+use Rattle.trie_core.specs.InnerNodes.{under}
+use Rattle.trie_core.specs.InnerWalks.{KeysWithin}
 use Rattle.trie_core.proofs.Frames.{keys_where}
 use Rattle.std.proofs.lemmas.Bool.Decides.{nat_tests}
 use Rattle.trie_core.proofs.Walks.{start_way, way_below, way_none, five_bits}
@@ -32,7 +32,7 @@ way-preserved g c =
     way_below c.way.invariant h c.in-Some.ensures (five_bits c.way.trail c.way.path h c.five.ensures.value c.with-trail.ensures) c.rest-path.ensures
 
 pub start-requires : goal.start-requires
-start-requires g c = (lit< tt, (c.inside.ensures.positive, (omega (arith, c.inside.ensures.levels, c.way.invariant.place.fewer, c.requires.levels), (omega (arith, c.way.invariant.place.levels, c.inside.ensures.levels), subst (λ es. KeysWithin 128 (under c.way.trail es)) (sym c.inside.ensures.rest) (keys_where 128 c.way.trail (begins c.way.path) (entries c.way.node.now.0) c.way.invariant.place.keys)))))
+start-requires g c = (lit< tt, (c.inside.ensures.positive, (omega (arith, c.inside.ensures.levels, c.way.invariant.place.fewer, c.requires.levels), (omega (arith, c.way.invariant.place.levels, c.inside.ensures.levels), subst (λ es. KeysWithin 128 (under c.way.trail es)) (sym c.inside.ensures.rest) (keys_where 128 c.way.trail (begins c.way.path) (entries c.way.node.now.entries) c.way.invariant.place.keys)))))
 
 pub returns : goal.returns
 returns g c = c.start.ensures ∙ ap (under c.way.trail) c.inside.ensures.rest ∙ c.way.invariant.inside

@@ -2,7 +2,7 @@ use Rattle.std.proofs.Common.{◌∙◌, ap, sym}
 use Rattle.ipnet_addr.specs.Addresses.{Ipv6}
 use Rattle.ipnet_blocks.specs.Blocks.{bit_string}
 use Rattle.ipnet_blocks.specs.Networks.{block_of}
-use Rattle.trie_keys.proofs.Masked.{masked_number, length-prefix_bits}
+use Rattle.trie_core.proofs.Masked.{masked_number, length-prefix_bits}
 use Rattle.trie_keys.proofs.prefix.Ipv6NetPrefix.from_repr_len.Goals as goal
 
 pub returns-clause-bits : goal.returns-clause-bits

@@ -3,7 +3,7 @@ use Rattle.ipnet_blocks.proofs.Strings.{length-digits}
 use Rattle.ipnet_addr.specs.Addresses.{Ipv6}
 use Rattle.ipnet_blocks.specs.Blocks.{bit_string}
 use Rattle.ipnet_blocks.specs.Networks.{block_of}
-use Rattle.trie_keys.specs.Prefixes.{prefix_bits}
+use Rattle.trie_core.specs.Prefixes.{prefix_bits}
 use Rattle.trie_keys.proofs.prefix.Ipv6NetPrefix.repr.Goals as goal
 
 pub returns-clause-bits : goal.returns-clause-bits

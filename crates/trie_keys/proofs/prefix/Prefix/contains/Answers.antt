@@ -1,10 +1,11 @@
 use Rattle.std.proofs.Common.{◌≡◌, ◌∙◌, ◌≤◌, ap, sym, take, length, ℕ, Bool, true, arith}
 use Rattle.std.specs.Prelude.{IsTrue, nat_eq, ◌↔◌}
 use Rattle.std.proofs.lemmas.Bool.Decides.{nat_tests}
-use Rattle.trie_keys.specs.Bits.{number_from, begins}
-use Rattle.trie_keys.specs.Prefixes.{prefix_bits}
-use Rattle.trie_keys.proofs.Strings.{begins_take}
-use Rattle.trie_keys.proofs.Masked.{begins_by_numbers, take-prefix_bits}
+use Rattle.trie_core.specs.Bits.{number_from, begins}
+use Rattle.trie_core.specs.Prefixes.{prefix_bits}
+use Rattle.trie_core.proofs.Strings.{begins_take}
+use Rattle.trie_keys.proofs.Cleared.{begins_by_numbers}
+use Rattle.trie_core.proofs.Masked.{take-prefix_bits}
 use Rattle.trie_keys.proofs.prefix.Prefix.contains.Goals as goal
 
 same : (a b : ℕ) (t : Bool) → (a ≡ b → t ≡ true) × (t ≡ true → a ≡ b) → IsTrue (nat_eq a b) ↔ IsTrue t

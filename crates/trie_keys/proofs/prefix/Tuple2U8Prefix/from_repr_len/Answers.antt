@@ -1,5 +1,5 @@
 use Rattle.std.proofs.Common.{◌∙◌, sym, ap}
-use Rattle.trie_keys.proofs.Masked.{masked_number, length-prefix_bits}
+use Rattle.trie_core.proofs.Masked.{masked_number, length-prefix_bits}
 use Rattle.trie_keys.proofs.prefix.Tuple2U8Prefix.from_repr_len.Goals as goal
 
 pub returns-clause-masked : goal.returns-clause-masked

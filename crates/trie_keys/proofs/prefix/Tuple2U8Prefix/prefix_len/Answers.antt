@@ -1,5 +1,5 @@
 use Rattle.std.proofs.Common.{sym}
-use Rattle.trie_keys.proofs.Masked.{length-prefix_bits}
+use Rattle.trie_core.proofs.Masked.{length-prefix_bits}
 use Rattle.trie_keys.proofs.prefix.Tuple2U8Prefix.prefix_len.Goals as goal
 
 pub returns : goal.returns

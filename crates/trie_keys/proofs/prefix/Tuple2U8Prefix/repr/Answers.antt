@@ -1,6 +1,6 @@
 use Rattle.std.proofs.Common.{ap}
-use Rattle.trie_keys.specs.Prefixes.{prefix_bits}
-use Rattle.trie_keys.proofs.Masked.{length-prefix_bits}
+use Rattle.trie_core.specs.Prefixes.{prefix_bits}
+use Rattle.trie_core.proofs.Masked.{length-prefix_bits}
 use Rattle.trie_keys.proofs.prefix.Tuple2U8Prefix.repr.Goals as goal
 
 pub returns-clause-bits : goal.returns-clause-bits

@@ -15,7 +15,7 @@ returns g c =
       (refl, λ w. occupied_written o c.path_of-path.result e w _ _),
       record {
         writes_back = tt;
-        value = ap (get o.map.now.0) (sym e) ∙ c.value_mut.ensures.value;
+        value = ap (get o.map.now.entries) (sym e) ∙ c.value_mut.ensures.value;
         written = occupied_IsWritten o;
       },
     )

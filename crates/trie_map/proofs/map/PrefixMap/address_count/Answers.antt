@@ -2,9 +2,9 @@ use Rattle.std.proofs.Common.{◌≡◌, ◌∙◌, ◌+◌, ◌-◌, ◌^◌, �
 use Rattle.std.specs.Prelude.{Some, None, false, length, MatchOption, option_map}
 use Rattle.std.specs.FinMap.{entries, entries_sorted}
 use Rattle.std.proofs.lemmas.Nat.{pow_pos}
-use Rattle.trie_keys.specs.Bits.{begins}
+use Rattle.trie_core.specs.Bits.{begins}
 use Rattle.trie_keys.proofs.Shifts.{whole}
-use Rattle.trie_core.specs.Walks.{KeysWithin}
+use Rattle.trie_core.specs.InnerWalks.{KeysWithin}
 use Rattle.trie_map.specs.Covered.{covered_count}
 use Rattle.trie_map.proofs.Covered.{IsCounting, start, skip_if, outside_if, add, full, done, count_most}
 use Rattle.trie_map.proofs.map.PrefixMap.address_count.Goals as goal
@@ -12,9 +12,9 @@ use Rattle.trie_map.proofs.map.PrefixMap.address_count.Goals as goal
 pub walk-init : goal.walk-init
 walk-init g c =
     let w = g.P.R.Key.width in
-    let m = c.args.self.now.0 in
-    let k = subst (λ n. KeysWithin w (entries n.0)) c.walked.ensures.node c.walked.ensures.keys in
-    let s = subst (λ es. IsCounting w (covered_count w m) (2 ^ w - 1) None es) (sym (c.new-walk.ensures ∙ ap (λ n. entries n.0) c.walked.ensures.node)) (start w (entries m) (entries_sorted m) k) in
+    let m = c.args.self.now.entries in
+    let k = subst (λ n. KeysWithin w (entries n)) c.walked.ensures.map c.walked.ensures.keys in
+    let s = subst (λ es. IsCounting w (covered_count w m) (2 ^ w - 1) None es) (sym (c.new-walk.ensures ∙ ap entries c.walked.ensures.map)) (start w (entries m) (entries_sorted m) k) in
     subst (λ n. IsCounting w (covered_count w m) n None c.new-walk.result.0) (sym (whole w c.width-width.result c.width-width.ensures.value c.width-width.ensures.within)) s
 
 pub walk-preserved-then-is_inside : goal.walk-preserved-then-is_inside
@@ -22,14 +22,14 @@ walk-preserved-then-is_inside g c =
     let bits = g.P.Prefix.bits in
     let w = g.P.R.Key.width in
     let m = subst (λ k. MatchOption c.walk.last (c.is_inside.result ≡ false) (λ b. c.is_inside.result ≡ begins (bits b) k)) c.key_of-prefix.ensures.bits c.is_inside.ensures in
-    let i = subst (λ es. IsCounting w (covered_count w c.args.self.now.0) c.walk.left (option_map bits c.walk.last) es) c.in-Some.ensures.steps c.walk.invariant in
+    let i = subst (λ es. IsCounting w (covered_count w c.args.self.now.entries) c.walk.left (option_map bits c.walk.last) es) c.in-Some.ensures.steps c.walk.invariant in
     skip_if bits c.walk.last c.is_inside.result m c.if-is_inside.true i
 
 pub returns-in_err-left : goal.returns-in_err-left
 returns-in_err-left g c =
     let bits = g.P.Prefix.bits in
     let w = g.P.R.Key.width in
-    let t = covered_count w c.args.self.now.0 in
+    let t = covered_count w c.args.self.now.entries in
     let m = subst (λ k. MatchOption c.walk.last (c.is_inside.result ≡ false) (λ b. c.is_inside.result ≡ begins (bits b) k)) c.key_of-prefix.ensures.bits c.is_inside.ensures in
     let i = subst (λ es. IsCounting w t c.walk.left (option_map bits c.walk.last) es) c.in-Some.ensures.steps c.walk.invariant in
     let o = outside_if bits c.in-Some.path c.walk.last c.is_inside.result m c.if-is_inside.false in
@@ -40,7 +40,7 @@ pub walk-preserved : goal.walk-preserved
 walk-preserved g c =
     let bits = g.P.Prefix.bits in
     let w = g.P.R.Key.width in
-    let t = covered_count w c.args.self.now.0 in
+    let t = covered_count w c.args.self.now.entries in
     let m = subst (λ k. MatchOption c.walk.last (c.is_inside.result ≡ false) (λ b. c.is_inside.result ≡ begins (bits b) k)) c.key_of-prefix.ensures.bits c.is_inside.ensures in
     let i = subst (λ es. IsCounting w t c.walk.left (option_map bits c.walk.last) es) c.in-Some.ensures.steps c.walk.invariant in
     let o = outside_if bits c.in-Some.path c.walk.last c.is_inside.result m c.if-is_inside.false in

@@ -5,7 +5,7 @@ use Rattle.trie_map.proofs.Covered.{IsCounting}
 use Rattle.trie_map.proofs.map.PrefixMap.address_count.Given as goal
 
 abbrev pub invariant-walk : goal.invariant-walk
-invariant-walk g l = IsCounting g.P.R.Key.width (covered_count g.P.R.Key.width l.self.0) l.left (option_map g.P.Prefix.bits l.last) l.walk.0
+invariant-walk g l = IsCounting g.P.R.Key.width (covered_count g.P.R.Key.width l.self.entries) l.left (option_map g.P.Prefix.bits l.last) l.walk.0
 
 abbrev pub decreases-walk : goal.decreases-walk
 decreases-walk g l = length l.walk.0

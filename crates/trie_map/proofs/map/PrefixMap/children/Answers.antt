@@ -1,9 +1,9 @@
 use Rattle.std.proofs.Common.{lit<, subst, sym}
 use Rattle.std.specs.FinMap.{entries}
-use Rattle.trie_keys.specs.Bits.{begins}
-use Rattle.trie_core.specs.Walks.{KeysWithin}
+use Rattle.trie_core.specs.Bits.{begins}
+use Rattle.trie_core.specs.InnerWalks.{KeysWithin}
 use Rattle.trie_map.proofs.KeyLengths.{keys_where}
 use Rattle.trie_map.proofs.map.PrefixMap.children.Goals as goal
 
 pub new-requires : goal.new-requires
-new-requires g c = (lit< tt, (lit< tt, subst (λ es. KeysWithin g.P.R.Key.width es) (sym c.inside.ensures) (keys_where g.P.R.Key.width (begins c.path_of.result) (entries c.walked.result.now.0) c.walked.ensures.keys)))
+new-requires g c = (lit< tt, (lit< tt, subst (λ es. KeysWithin g.P.R.Key.width es) (sym c.inside.ensures) (keys_where g.P.R.Key.width (begins c.path_of.result) (entries c.walked.result.now.entries) c.walked.ensures.keys)))

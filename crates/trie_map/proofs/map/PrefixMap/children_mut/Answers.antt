@@ -2,7 +2,7 @@ use Rattle.std.proofs.Common.{◌∙◌, ap, true}
 use Rattle.std.specs.Prelude.{◌&&◌}
 use Rattle.std.specs.FinMap.{entries}
 use Rattle.std.specs.FinMap.Entries.{where_key}
-use Rattle.trie_keys.specs.Bits.{bits_cmp, begins, is_from}
+use Rattle.trie_core.specs.Bits.{bits_cmp, begins, is_from}
 use Rattle.trie_map.specs.Maps.{first_key}
 use Rattle.trie_map.proofs.Within.{begins_itself, all_inside}
 use Rattle.trie_map.proofs.map.PrefixMap.children_mut.Goals as goal
@@ -12,5 +12,5 @@ key_within-next-requires-clause-begun g c = (λ i. begins (c.path_of-inside.ensu
 
 pub returns-clause-first : goal.returns-clause-first
 returns-clause-first g c =
-    c.key_within-next.ensures.key ∙ (λ i. first_key (where_key bits_cmp (λ k. is_from (c.path_of.ensures.value i) true k && begins (c.path_of-inside.ensures.value i) k) (entries c.args.self.now.0)))
-    ∙ ap (λ p. first_key (where_key bits_cmp p (entries c.args.self.now.0))) (all_inside (g.P.Prefix.bits c.args.prefix.now))
+    c.key_within-next.ensures.key ∙ (λ i. first_key (where_key bits_cmp (λ k. is_from (c.path_of.ensures.value i) true k && begins (c.path_of-inside.ensures.value i) k) (entries c.args.self.now.entries)))
+    ∙ ap (λ p. first_key (where_key bits_cmp p (entries c.args.self.now.entries))) (all_inside (g.P.Prefix.bits c.args.prefix.now))

@@ -7,10 +7,10 @@ use Rattle.trie_map.proofs.Spares.{idle_none}
 use Rattle.trie_map.proofs.map.PrefixMap.clear.Goals as goal
 
 pub invariant_of-self : goal.invariant_of-self
-invariant_of-self g c = (
-  sym (ap len c.clear.ensures.map ∙ len-empty _ _),
-  sym (new_nodes c.clear.new.self c.clear.ensures.map (no_spares c.clear.new.self c.clear.ensures.spares)),
-  omega (arith, c.clear.ensures.levels),
-  keys_empty g.P.R.Key.width c.clear.new.self.0 c.clear.ensures.map,
-  idle_none c.clear.new.self.0 c.clear.new.self.1 c.clear.ensures.spares,
-)
+invariant_of-self g c = record {
+  entries_counted = sym (ap len c.clear.ensures.map ∙ len-empty _ _);
+  nodes_counted = sym (new_nodes c.clear.new.self c.clear.ensures.map (no_spares c.clear.new.self c.clear.ensures.spares));
+  levels = omega (arith, c.clear.ensures.levels);
+  keys = keys_empty g.P.R.Key.width c.clear.new.self.entries c.clear.ensures.map;
+  idle = idle_none c.clear.new.self.entries c.clear.new.self.spares c.clear.ensures.spares;
+}

@@ -1,6 +1,6 @@
 use Rattle.std.proofs.Common.{◌∙◌, ap, sym, arith}
 use Rattle.std.specs.FinMap.{len, len-empty}
-use Rattle.trie_keys.specs.Bits.{bits_cmp}
+use Rattle.trie_core.specs.Bits.{bits_cmp}
 use Rattle.trie_core.proofs.Changes.{new_nodes}
 use Rattle.trie_map.proofs.Entries.{keys_empty}
 use Rattle.trie_core.proofs.Marks.{no_spares}
@@ -8,4 +8,10 @@ use Rattle.trie_map.proofs.Spares.{idle_none}
 use Rattle.trie_map.proofs.map.PrefixMap.empty.Goals as goal
 
 pub invariant_of-result : goal.invariant_of-result
-invariant_of-result g c = (sym (ap len c.new.ensures.map ∙ len-empty bits_cmp _), sym (new_nodes c.new.result c.new.ensures.map (no_spares c.new.result c.new.ensures.spares)), omega (arith, c.new.ensures.levels), keys_empty g.P.R.Key.width _ c.new.ensures.map, idle_none c.new.result.0 c.new.result.1 c.new.ensures.spares)
+invariant_of-result g c = record {
+  entries_counted = sym (ap len c.new.ensures.map ∙ len-empty bits_cmp _);
+  nodes_counted = sym (new_nodes c.new.result c.new.ensures.map (no_spares c.new.result c.new.ensures.spares));
+  levels = omega (arith, c.new.ensures.levels);
+  keys = keys_empty g.P.R.Key.width _ c.new.ensures.map;
+  idle = idle_none c.new.result.entries c.new.result.spares c.new.ensures.spares;
+}

@@ -4,7 +4,7 @@ use Rattle.trie_map.proofs.KeyLengths.{keys_listed, keys_more}
 use Rattle.trie_map.proofs.map.PrefixMap.into_root.Goals as goal
 
 pub returns-clause-keys : goal.returns-clause-keys
-returns-clause-keys g c = keys_listed g.P.R.Key.width c.self.inside.root.0 c.self.invariant.3
+returns-clause-keys g c = keys_listed g.P.R.Key.width c.self.inside.root.entries c.self.invariant.keys
 
 pub returns-clause-within : goal.returns-clause-within
-returns-clause-within g c = keys_more g.P.R.Key.width 128 (entries c.self.inside.root.0) (omega (arith, c.width-width.ensures.value, c.width-width.ensures.within)) (keys_listed g.P.R.Key.width c.self.inside.root.0 c.self.invariant.3)
+returns-clause-within g c = keys_more g.P.R.Key.width 128 (entries c.self.inside.root.entries) (omega (arith, c.width-width.ensures.value, c.width-width.ensures.within)) (keys_listed g.P.R.Key.width c.self.inside.root.entries c.self.invariant.keys)

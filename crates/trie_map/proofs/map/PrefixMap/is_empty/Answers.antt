@@ -1,13 +1,12 @@
-use Rattle.std.proofs.Common.{◌≡◌, ◌∙◌, ap, sym}
+use Rattle.std.proofs.Common.{◌≡◌, ◌∙◌, ap, sym, arith}
 use Rattle.std.specs.FinMap.{len, len-empty, empty_of_len}
 use Rattle.std.proofs.lemmas.Bool.Decides.{nat_tests}
-use Rattle.std.proofs.Common.{arith}
-use Rattle.trie_keys.specs.Bits.{bits_cmp}
+use Rattle.trie_core.specs.Bits.{bits_cmp}
 use Rattle.trie_map.proofs.map.PrefixMap.is_empty.Goals as goal
 
 pub returns : goal.returns
 returns g c =
-    let l = c.self.invariant.0 ∙ ap (λ m. len m.0) c.self.view_is in (
+    let l = c.self.invariant.entries_counted ∙ ap (λ m. len m.entries) c.self.view_is in (
       λ h. let z : c.self.inside.len ≡ 0 = grind (arith, nat_tests) in empty_of_len _ (sym l ∙ z),
       λ e. let z : c.self.inside.len ≡ 0 = l ∙ ap len e ∙ len-empty bits_cmp _ in grind (arith, nat_tests),
     )

@@ -1,11 +1,11 @@
 use Rattle.std.proofs.Common.{◌∙◌, true, ap}
 use Rattle.std.specs.FinMap.{entries}
 use Rattle.std.specs.FinMap.Entries.{where_key}
-use Rattle.trie_keys.specs.Bits.{bits_cmp, is_from}
+use Rattle.trie_core.specs.Bits.{bits_cmp, is_from}
 use Rattle.trie_map.specs.Maps.{first_key}
 use Rattle.trie_map.proofs.Lent.{all_from}
 use Rattle.trie_map.proofs.map.PrefixMap.iter_mut.Goals as goal
 
 pub returns-clause-first : goal.returns-clause-first
 returns-clause-first g c =
-    c.key_from-next.ensures.key ∙ ap (λ s. first_key (where_key bits_cmp (is_from s true) (entries c.args.self.now.0))) c.new.ensures ∙ ap first_key (all_from (entries c.args.self.now.0))
+    c.key_from-next.ensures.key ∙ ap (λ s. first_key (where_key bits_cmp (is_from s true) (entries c.args.self.now.entries))) c.new.ensures ∙ ap first_key (all_from (entries c.args.self.now.entries))

@@ -1,12 +1,12 @@
 use Rattle.std.proofs.Common.{◌+◌, ap, arith}
 use Rattle.std.specs.FinMap.{len, len-empty}
-use Rattle.trie_keys.specs.Bits.{bits_cmp}
+use Rattle.trie_core.specs.Bits.{bits_cmp}
 use Rattle.trie_core.specs.Count.{nodes}
 use Rattle.trie_map.proofs.Spares.{spares_len}
 use Rattle.trie_map.proofs.map.PrefixMap.node_count.Goals as goal
 
 pub returns-clause-all : goal.returns-clause-all
-returns-clause-all g c = omega (arith, c.self.invariant.1, spares_len c.self.inside.root c.self.invariant.4, ap (λ m. nodes m.0 + len m.1) c.self.view_is)
+returns-clause-all g c = omega (arith, c.self.invariant.nodes_counted, spares_len c.self.inside.root c.self.invariant.idle, ap (λ m. nodes m.entries + len m.spares) c.self.view_is)
 
 pub returns-clause-tidy : goal.returns-clause-tidy
 returns-clause-tidy g c = λ z. omega (arith, returns-clause-all g c, ap len z, len-empty bits_cmp (Unit {0}))

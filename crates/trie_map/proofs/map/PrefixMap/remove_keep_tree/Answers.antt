@@ -7,31 +7,31 @@ use Rattle.trie_map.proofs.map.PrefixMap.remove_keep_tree.Goals as goal
 
 pub overflow_sub-self : goal.overflow_sub-self
 overflow_sub-self g c =
-    let n = not_empty c.self.inside.root.0 c.path_of.result c.remove_keep_tree-value.result c.remove_keep_tree-value.ensures.value (sym c.is_some.ensures ∙ c.if-is_some.true) in
-    omega (arith, n, c.self.invariant.0)
+    let n = not_empty c.self.inside.root.entries c.path_of.result c.remove_keep_tree-value.result c.remove_keep_tree-value.ensures.value (sym c.is_some.ensures ∙ c.if-is_some.true) in
+    omega (arith, n, c.self.invariant.entries_counted)
 
 pub invariant_of-self : goal.invariant_of-self
 invariant_of-self g c =
-    let n = one_less c.self.inside.root.0 c.path_of.result c.remove_keep_tree-value.result true c.remove_keep_tree-value.ensures.value (sym c.is_some.ensures ∙ c.if-is_some.true) in (
-      omega (arith, c.self.invariant.0, n, ap len c.remove_keep_tree-value.ensures.map),
-      omega (arith, c.self.invariant.1, c.remove_keep_tree-value.ensures.count),
-      omega (arith, c.self.invariant.2, c.remove_keep_tree-value.ensures.levels),
-      keys_remove g.P.R.Key.width c.self.inside.root.0 _ c.path_of.result c.self.invariant.3 (omega (arith, ap length c.path_of.ensures.value, c.requires)) c.remove_keep_tree-value.ensures.map,
-      idle_kept c.path_of.result c.self.inside.root.0 c.self.inside.root.1 c.remove_keep_tree-value.new.self.0 c.remove_keep_tree-value.new.self.1 c.self.invariant.4 (fewer_removed c.self.inside.root.0 _ c.path_of.result c.remove_keep_tree-value.ensures.map) c.remove_keep_tree-value.ensures.spares,
-    )
+    let n = one_less c.self.inside.root.entries c.path_of.result c.remove_keep_tree-value.result true c.remove_keep_tree-value.ensures.value (sym c.is_some.ensures ∙ c.if-is_some.true) in record {
+      entries_counted = omega (arith, c.self.invariant.entries_counted, n, ap len c.remove_keep_tree-value.ensures.map);
+      nodes_counted = omega (arith, c.self.invariant.nodes_counted, c.remove_keep_tree-value.ensures.count);
+      levels = omega (arith, c.self.invariant.levels, c.remove_keep_tree-value.ensures.levels);
+      keys = keys_remove g.P.R.Key.width c.self.inside.root.entries _ c.path_of.result c.self.invariant.keys (omega (arith, ap length c.path_of.ensures.value, c.requires)) c.remove_keep_tree-value.ensures.map;
+      idle = idle_kept c.path_of.result c.self.inside.root.entries c.self.inside.root.spares c.remove_keep_tree-value.new.self.entries c.remove_keep_tree-value.new.self.spares c.self.invariant.idle (fewer_removed c.self.inside.root.entries _ c.path_of.result c.remove_keep_tree-value.ensures.map) c.remove_keep_tree-value.ensures.spares;
+    }
 
 pub invariant_of-self-else-is_some : goal.invariant_of-self-else-is_some
 invariant_of-self-else-is_some g c =
-    let n = one_less c.self.inside.root.0 c.path_of.result c.remove_keep_tree-value.result false c.remove_keep_tree-value.ensures.value (sym c.is_some.ensures ∙ c.if-is_some.false) in (
-      omega (arith, c.self.invariant.0, n, ap len c.remove_keep_tree-value.ensures.map),
-      omega (arith, c.self.invariant.1, c.remove_keep_tree-value.ensures.count),
-      omega (arith, c.self.invariant.2, c.remove_keep_tree-value.ensures.levels),
-      keys_remove g.P.R.Key.width c.self.inside.root.0 _ c.path_of.result c.self.invariant.3 (omega (arith, ap length c.path_of.ensures.value, c.requires)) c.remove_keep_tree-value.ensures.map,
-      idle_kept c.path_of.result c.self.inside.root.0 c.self.inside.root.1 c.remove_keep_tree-value.new.self.0 c.remove_keep_tree-value.new.self.1 c.self.invariant.4 (fewer_removed c.self.inside.root.0 _ c.path_of.result c.remove_keep_tree-value.ensures.map) c.remove_keep_tree-value.ensures.spares,
-    )
+    let n = one_less c.self.inside.root.entries c.path_of.result c.remove_keep_tree-value.result false c.remove_keep_tree-value.ensures.value (sym c.is_some.ensures ∙ c.if-is_some.false) in record {
+      entries_counted = omega (arith, c.self.invariant.entries_counted, n, ap len c.remove_keep_tree-value.ensures.map);
+      nodes_counted = omega (arith, c.self.invariant.nodes_counted, c.remove_keep_tree-value.ensures.count);
+      levels = omega (arith, c.self.invariant.levels, c.remove_keep_tree-value.ensures.levels);
+      keys = keys_remove g.P.R.Key.width c.self.inside.root.entries _ c.path_of.result c.self.invariant.keys (omega (arith, ap length c.path_of.ensures.value, c.requires)) c.remove_keep_tree-value.ensures.map;
+      idle = idle_kept c.path_of.result c.self.inside.root.entries c.self.inside.root.spares c.remove_keep_tree-value.new.self.entries c.remove_keep_tree-value.new.self.spares c.self.invariant.idle (fewer_removed c.self.inside.root.entries _ c.path_of.result c.remove_keep_tree-value.ensures.map) c.remove_keep_tree-value.ensures.spares;
+    }
 
 pub returns-then-is_some-clause-count : goal.returns-then-is_some-clause-count
-returns-then-is_some-clause-count g c = omega (arith, c.remove_keep_tree-value.ensures.count, spares_len c.self.inside.root c.self.invariant.4, spares_len c.remove_keep_tree-value.new.self (invariant_of-self g c).4, ap (λ m. nodes m.0 + len m.1) c.self.view_is)
+returns-then-is_some-clause-count g c = omega (arith, c.remove_keep_tree-value.ensures.count, spares_len c.self.inside.root c.self.invariant.idle, spares_len c.remove_keep_tree-value.new.self (invariant_of-self g c).idle, ap (λ m. nodes m.entries + len m.spares) c.self.view_is)
 
 pub returns-else-is_some-clause-count : goal.returns-else-is_some-clause-count
-returns-else-is_some-clause-count g c = omega (arith, c.remove_keep_tree-value.ensures.count, spares_len c.self.inside.root c.self.invariant.4, spares_len c.remove_keep_tree-value.new.self (invariant_of-self-else-is_some g c).4, ap (λ m. nodes m.0 + len m.1) c.self.view_is)
+returns-else-is_some-clause-count g c = omega (arith, c.remove_keep_tree-value.ensures.count, spares_len c.self.inside.root c.self.invariant.idle, spares_len c.remove_keep_tree-value.new.self (invariant_of-self-else-is_some g c).idle, ap (λ m. nodes m.entries + len m.spares) c.self.view_is)

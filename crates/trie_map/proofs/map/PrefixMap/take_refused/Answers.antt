@@ -1,7 +1,7 @@
 use Rattle.std.proofs.Common.{rules, of_calls, ◌≡◌, ◌∙◌, sym, ap, true, cond, refl}
 use Rattle.std.specs.FinMap.{entries, remove}
 use Rattle.std.specs.FinMap.Entries.{where_key}
-use Rattle.trie_keys.specs.Bits.{bits_cmp, is_from}
+use Rattle.trie_core.specs.Bits.{bits_cmp, is_from}
 use Rattle.trie_map.specs.Maps.{first_key}
 use Rattle.trie_map.proofs.Lent.{all_from}
 use Rattle.trie_map.proofs.Asked.{lengths, asked_start, asked_stored, asked_more}
@@ -12,7 +12,7 @@ pub entry-init : goal.entry-init
 entry-init g c = record {
   callable = c.requires;
   within = lengths _ _ _ c.key_from-next.ensures.stored;
-  asked = asked_start _ c.args.f c.args.self.now.0 (c.key_from-next.ensures.key ∙ ap (λ s. first_key (where_key bits_cmp (is_from s true) (entries c.args.self.now.0))) c.new.ensures ∙ ap first_key (all_from (entries c.args.self.now.0)));
+  asked = asked_start _ c.args.f c.args.self.now.entries (c.key_from-next.ensures.key ∙ ap (λ s. first_key (where_key bits_cmp (is_from s true) (entries c.args.self.now.entries))) c.new.ensures ∙ ap first_key (all_from (entries c.args.self.now.entries)));
 }
 
 pub unreachable-requires : goal.unreachable-requires
@@ -21,20 +21,20 @@ unreachable-requires g c = asked_stored _ c.in-Some.path _ c.entry.invariant.ask
 pub entry-smaller : goal.entry-smaller
 entry-smaller g c =
     let bits = g.P.Prefix.bits c.key_of-prefix.result in
-    let n = c.entry.self.0 in
-    let after : c.if-not-f.self.0 ≡ cond c.f.result c.entry.self.0 (remove c.entry.self.0 (g.P.Prefix.bits c.key_of-prefix.result)) = elim c.if-not-f.branch [
-      | then-not-f w ↦ ap (λ m. m.0) w.self-is ∙ w.remove_keep_tree.ensures.map ∙ ap (λ b. cond b n (remove n bits)) (sym w.if-not-f.true)
-      | else-not-f w ↦ ap (λ m. m.0) w.self-is ∙ ap (λ b. cond b n (remove n bits)) (sym w.if-not-f.false)
+    let n = c.entry.self.entries in
+    let after : c.if-not-f.self.entries ≡ cond c.f.result c.entry.self.entries (remove c.entry.self.entries (g.P.Prefix.bits c.key_of-prefix.result)) = elim c.if-not-f.branch [
+      | then-not-f w ↦ ap (λ m. m.entries) w.self-is ∙ w.remove_keep_tree.ensures.map ∙ ap (λ b. cond b n (remove n bits)) (sym w.if-not-f.true)
+      | else-not-f w ↦ ap (λ m. m.entries) w.self-is ∙ ap (λ b. cond b n (remove n bits)) (sym w.if-not-f.false)
     ] in
     (asked_more _ c.in-Some.path bits c.in-Some-get.value.now c.f.result c.entry.invariant.asked c.in-Some.is c.key_of-prefix.ensures.bits c.in-Some-get.ensures (record { key = _; value = _; shows = (c.key_of-prefix.ensures.key, refl); called = c.f.ensures }) c.key_from-next-in-Some.ensures.key after).1
 
 pub entry-preserved : goal.entry-preserved
 entry-preserved g c =
     let bits = g.P.Prefix.bits c.key_of-prefix.result in
-    let n = c.entry.self.0 in
-    let after : c.if-not-f.self.0 ≡ cond c.f.result c.entry.self.0 (remove c.entry.self.0 (g.P.Prefix.bits c.key_of-prefix.result)) = elim c.if-not-f.branch [
-      | then-not-f w ↦ ap (λ m. m.0) w.self-is ∙ w.remove_keep_tree.ensures.map ∙ ap (λ b. cond b n (remove n bits)) (sym w.if-not-f.true)
-      | else-not-f w ↦ ap (λ m. m.0) w.self-is ∙ ap (λ b. cond b n (remove n bits)) (sym w.if-not-f.false)
+    let n = c.entry.self.entries in
+    let after : c.if-not-f.self.entries ≡ cond c.f.result c.entry.self.entries (remove c.entry.self.entries (g.P.Prefix.bits c.key_of-prefix.result)) = elim c.if-not-f.branch [
+      | then-not-f w ↦ ap (λ m. m.entries) w.self-is ∙ w.remove_keep_tree.ensures.map ∙ ap (λ b. cond b n (remove n bits)) (sym w.if-not-f.true)
+      | else-not-f w ↦ ap (λ m. m.entries) w.self-is ∙ ap (λ b. cond b n (remove n bits)) (sym w.if-not-f.false)
     ] in
     record {
       callable = search (rules, of_calls);

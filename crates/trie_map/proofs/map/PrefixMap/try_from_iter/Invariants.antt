@@ -5,6 +5,6 @@ use Rattle.trie_map.proofs.map.PrefixMap.try_from_iter.Given as goal
 
 abbrev pub invariant-loop-prefix : goal.invariant-loop-prefix
 invariant-loop-prefix g l = record {
-  map : l.made.0 ≡ inserted g.P.Prefix.bits empty l.yielded;
-  tidy : l.made.1 ≡ empty;
+  map : l.made.entries ≡ inserted g.P.Prefix.bits empty l.yielded;
+  tidy : l.made.spares ≡ empty;
 }

@@ -1,0 +1,44 @@
+//! A leader and a follower over memory.
+ghost use Rattle.std.specs.Prelude.{◌≡◌, ◌⊎◌, ◌++◌, ◌∷◌, [], Bool, List, IfOk, codes, map, take};
+ghost use Rattle.route_feed.specs.Laws.{table_told};
+ghost use Rattle.route_feed.specs.Output.{output};
+ghost use Rattle.route_feed.specs.Replies.{printed};
+ghost use Rattle.route_feed.specs.Steps.{flat_line};
+ghost use Rattle.route_lines.specs.declared.reply.Closing.TheVariants.{Done};
+ghost use Rattle.route_lines.specs.declared.reply.Reply.TheVariants.{Close};
+ghost use Rattle.route_table.specs.Flats.{flat_of};
+ghost use Rattle.route_table.specs.Tables.{hop_at};
+
+use route_feed::laws::followed;
+use route_feed::{Counted, RunError, follow, lead};
+use route_table::laws::one_route;
+use std::alloc::Global;
+
+/// What a leader answers, cut anywhere, and what a follower of that prints: the flat list of the leader's table there.
+pub fn mirrored(alloc: Global, input: &[u8], cut: usize) -> Result<(Vec<u8>, Vec<u8>), RunError>
+    ensures { IfOk result (λ p. (refusals : List Bool) × (p.0.items ≡ output input.now refusals)
+        × (p.1.items ≡ printed (map flat_line (flat_of (hop_at (table_told input.now refusals (take cut p.0.items)))) ++ Close Done ∷ []))) }
+{
+    followed();
+    let mut reader = Counted::new(input);
+    let mut writer = Counted::new(Vec::new(alloc));
+    lead(alloc, &mut reader, &mut writer)?;
+    let told = writer.into_inner();
+    let front = &told[..cut.min(told.len())];
+    let mut tail = Counted::new(front);
+    let mut out = Counted::new(Vec::new(alloc));
+    follow(alloc, &mut tail, &mut out)?;
+    Ok((told, out.into_inner()))
+}
+
+/// A whole session, byte for byte; the `add` may be refused for want of memory.
+pub fn session(alloc: Global) -> Result<Vec<u8>, RunError>
+    ensures { IfOk result (λ out.
+        (out.items ≡ codes "set 10.0.0.0/8 1\nok\nflat 10.0.0.0/8 1\nok\n") ⊎ (out.items ≡ codes "refused\nok\n")) }
+{
+    one_route();
+    let mut reader = Counted::new(b"add 10.0.0.0/8 1\nflat\n".as_slice());
+    let mut writer = Counted::new(Vec::new(alloc));
+    lead(alloc, &mut reader, &mut writer)?;
+    Ok(writer.into_inner())
+}

@@ -1,0 +1,6 @@
+//! What a program that embeds these crates has of their public contracts alone: a few short callers, each with a contract
+//! that follows from those of its calls.
+#![tactic(auto)]
+
+pub mod feed;
+pub mod table;

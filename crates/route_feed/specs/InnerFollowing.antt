@@ -1,0 +1,33 @@
+-- What a follower does with the lines of its input.
+use Rattle.std.specs.Prelude.{◌≡◌, ℕ, List, [], ◌++◌, if◌then◌else◌, All, Option, None, Some, IsSome, Result, Ok, Err}
+use Rattle.ipnet_addr.specs.Addresses.{Address}
+use Rattle.route_lines.specs.Spelled.{reply_of}
+use Rattle.route_lines.specs.declared.cutter.Line.{Line}
+use Rattle.route_lines.specs.declared.cutter.Line.TheVariants.{Text, TooLong}
+use Rattle.route_lines.specs.declared.reply.Reply.{Reply}
+use Rattle.route_table.specs.Tables.{hop_at}
+use Rattle.route_feed.specs.declared.error.RunError.{RunError}
+use Rattle.route_feed.specs.declared.error.RunError.TheVariants as Why
+use Rattle.route_feed.specs.Following.{State, TakesLine, WantsMemory}
+use Rattle.route_feed.specs.Streams.{committed, ends_well, painted_over}
+
+-- the reply line that a line spells: none where it is too long
+abbrev pub reply_in : Line → Option Reply
+reply_in (Text text) = reply_of text.items
+reply_in TooLong = None
+
+-- a line was followed, or why it was not
+abbrev pub FollowsLine : State → Line → Result Unit RunError → State → Type 0
+FollowsLine a line (Ok done) b = (reply : Reply) × (reply_in line ≡ Some reply) × TakesLine a b reply
+FollowsLine a line (Err Why.Line) b = reply_in line ≡ None
+FollowsLine a line (Err Why.Memory) b = (reply : Reply) × (reply_in line ≡ Some reply) × WantsMemory a reply
+FollowsLine a line (Err Why.Read) b = ⊥
+FollowsLine a line (Err Why.Write) b = ⊥
+
+-- each of these lines is a reply line
+abbrev pub AllReplies : List Line → Type 0
+AllReplies ls = All (λ l. IsSome (reply_in l)) ls
+
+-- the hop of an address once these reply lines have come
+abbrev pub hop_once : State → List Reply → Address → Option ℕ
+hop_once s ls x = painted_over (hop_at s.table x) ((if ends_well ls then s.pending else []) ++ committed ls) x

@@ -1,0 +1,35 @@
+-- What a run does with the lines of its input.
+use Rattle.std.specs.Prelude.{◌≡◌, ℕ, ◌⊎◌, List, [], ◌∷◌, Option, Result, Ok, Err, IsErr}
+use Rattle.std.specs.Io.KnownBytes.{Consumes, IsAtEnd}
+use Rattle.route_lines.specs.Bytes.{rest}
+use Rattle.route_lines.specs.Lines.{lines_in, rest_of}
+use Rattle.route_lines.specs.declared.cutter.Line.{Line}
+use Rattle.route_lines.specs.declared.cutter.Rest.{Rest}
+use Rattle.route_feed.specs.declared.counted.Counted.{Counted}
+use Rattle.route_feed.specs.declared.error.RunError.{RunError}
+use Rattle.route_feed.specs.declared.error.RunError.TheVariants.{Read}
+use Rattle.route_feed.specs.Counted.{inner, faults_of, ReadFault}
+
+-- `takes` says what it is to take a line, by the result
+module _ {S W : Type 0} (takes : S → Line → Counted W → Result Unit RunError → S → Counted W → Type 0) where
+  -- the lines were taken, one after another; or those before one of them, and that one was not
+  abbrev pub TakesAll : S → List Line → Counted W → Result Unit RunError → S → Counted W → Type 0
+  TakesAll a [] old result b new = (result ≡ Ok tt) × (b ≡ a) × (new ≡ old)
+  TakesAll a (l ∷ ls) old result c new =
+      ((b : S) × (mid : Counted W) × takes a l old (Ok tt) b mid × TakesAll b ls mid result c new)
+      ⊎ (IsErr result × takes a l old result c new)
+
+  module _ {R : Type 0} (remaining : R → Option (List ℕ)) where
+    -- how a run over these bytes ends: at the end of the input, by a fault of the reader, or by a line that was not taken
+    abbrev pub Ends : List ℕ → S → Counted R → Counted W → Result Rest RunError → S → Counted R → Counted W → Type 0
+    Ends bytes a from old (Ok left) b to new =
+        TakesAll a (lines_in bytes) old (Ok tt) b new × (left ≡ rest_of (rest bytes)) × IsAtEnd (remaining (inner to)) × (faults_of to ≡ faults_of from)
+    Ends bytes a from old (Err e) b to new =
+        (TakesAll a (lines_in bytes) old (Ok tt) b new × (e ≡ Read) × ReadFault from to)
+        ⊎ (TakesAll a (lines_in bytes) old (Err e) b new × (faults_of to ≡ faults_of from))
+
+    -- the reader gave some bytes, and the run over them ended so
+    pub record Runs (a : S) (from : Counted R) (old : Counted W) (result : Result Rest RunError) (b : S) (to : Counted R) (new : Counted W) : Type 0 where
+      pub bytes : List ℕ
+      pub read : Consumes (remaining (inner from)) (remaining (inner to)) bytes
+      pub ends : Ends bytes a from old result b to new

@@ -1,0 +1,116 @@
+//! The lines of a reply, one after another.
+ghost use Rattle.std.specs.Prelude.{⊤, List, map, take, All, IfSome};
+ghost use Rattle.std.specs.Option.{option_to_list};
+ghost use Rattle.ipnet.specs.IpNets.{block, family, parts};
+ghost use Rattle.ipnet_blocks.specs.Networks.{IsTruncated};
+ghost use Rattle.route_feed.specs.InnerReplies.{GivesLine};
+ghost use Rattle.route_feed.specs.Steps.{change_line, flat_line, own_line, route_line};
+ghost use Rattle.route_lines.specs.Texts.{IsPrintable};
+ghost use Rattle.route_lines.specs.declared.reply.Reply.{Reply};
+
+use ipnet::IpNet;
+use route_lines::Reply;
+use route_table::{Flat, Governed, Routes};
+
+/// The lines of a reply, but for the one that closes it, handed out one after another.
+pub trait Body: Drop {
+    /// The lines that are left.
+    ghost lines: { Self → List Reply };
+
+    /// Whether they can be printed.
+    ghost can_give: { Self → Type 0 };
+
+    /// The next line.
+    fn next_line(&mut self) -> Option<Reply>
+        requires { can_give self.old }
+        ensures line { GivesLine (lines self.old) result (lines self.new) }
+        ensures others { can_give self.new };
+}
+
+/// One line, or none.
+impl Body for Option<Reply> {
+    ghost lines = { option_to_list };
+
+    ghost can_give = { λ line. IfSome line IsPrintable };
+
+    fn next_line(&mut self) -> Option<Reply> {
+        self.take()
+    }
+}
+
+/// The lines of routes.
+impl Body for Routes<'_> {
+    ghost lines = { map route_line };
+
+    ghost can_give = { λ routes. ⊤ };
+
+    fn next_line(&mut self) -> Option<Reply> {
+        let (net, hop) = self.next()?;
+        Some(Reply::Route { net, hop })
+    }
+}
+
+/// The lines of the first routes, at most `limit`.
+#[derive(Drop)]
+pub struct PageLines<'a> {
+    pub routes: Routes<'a>,
+    pub limit: u16,
+}
+
+impl Body for PageLines<'_> {
+    ghost lines = { λ page. map route_line (take page.limit page.routes) };
+
+    ghost can_give = { λ page. ⊤ };
+
+    fn next_line(&mut self) -> Option<Reply> {
+        self.limit = self.limit.checked_sub(1)?;
+        let (net, hop) = self.routes.next()?;
+        Some(Reply::Route { net, hop })
+    }
+}
+
+/// The lines of the networks of a hop, which have no host bits.
+impl Body for &[IpNet] {
+    ghost lines = { λ nets. map (λ n. own_line (block n)) nets.now };
+
+    ghost can_give = { λ nets. All (λ n. IsTruncated (family n) (parts n)) nets.now };
+
+    fn next_line(&mut self) -> Option<Reply> {
+        let (net, others) = self.split_first()?;
+        *self = others;
+        Some(Reply::Own { net: *net })
+    }
+}
+
+/// The lines of the blocks of a change, and the hop that they have now.
+#[derive(Drop)]
+pub struct ChangeLines<'a> {
+    pub blocks: Governed<'a>,
+    pub hop: Option<u32>,
+}
+
+impl Body for ChangeLines<'_> {
+    ghost lines = { λ change. map (change_line change.hop) change.blocks };
+
+    ghost can_give = { λ change. ⊤ };
+
+    fn next_line(&mut self) -> Option<Reply> {
+        let net = self.blocks.next()?;
+        Some(match self.hop {
+            Some(number) => Reply::Set { net, number },
+            None => Reply::Unset { net },
+        })
+    }
+}
+
+/// The lines of a flat list.
+impl Body for Flat<'_> {
+    ghost lines = { map flat_line };
+
+    ghost can_give = { λ pieces. ⊤ };
+
+    fn next_line(&mut self) -> Option<Reply> {
+        let (net, number) = self.next()?;
+        Some(Reply::Flat { net, number })
+    }
+}

@@ -1,0 +1,80 @@
+//! What takes the lines of an input, and the run that hands them on.
+ghost use Rattle.std.specs.Prelude.{◌≡◌, ◌<◌, ◌^◌, length, OnOk, Result};
+ghost use Rattle.route_feed.specs.Counted.{faults_of, reads_of};
+ghost use Rattle.route_feed.specs.InnerRun.{Runs, TakesAll};
+ghost use Rattle.route_feed.specs.declared.counted.Counted.{Counted};
+ghost use Rattle.route_feed.specs.declared.error.RunError.{RunError};
+ghost use Rattle.route_lines.specs.Lines.{answers, fed_all};
+ghost use Rattle.route_lines.specs.declared.cutter.Line.{Line};
+
+use crate::counted::Counted;
+use crate::error::RunError;
+use route_lines::{Line, LineCutter, Rest};
+use std::io::{Read, Write};
+
+/// How often a run reads.
+const TURNS: u64 = 1 << 62;
+
+/// How many bytes are asked for at a time.
+pub const PIECE: usize = 1 << 16;
+
+/// What takes the lines of an input, one after another, and may write meanwhile.
+pub trait Sink<W: Write> {
+    /// Whether it takes a line now.
+    ghost can_take: { Self → Counted W → Type 0 };
+
+    /// What taking a line does, by the result.
+    ghost takes: { Self → Line → Counted W → Result Unit RunError → Self → Counted W → Type 0 };
+
+    /// Takes a line.
+    fn take(&mut self, line: &Line, writer: &mut Counted<W>) -> Result<(), RunError>
+        requires { can_take self.old writer.old }
+        ensures takes { takes self.old line.now writer.old result self.new writer.new }
+        ensures others { OnOk result (can_take self.new writer.new) };
+}
+
+/// Hands the sink each line that the bytes end.
+fn take_piece<W: Write, S: Sink<W>>(
+    sink: &mut S,
+    cutter: &mut LineCutter,
+    piece: &[u8],
+    writer: &mut Counted<W>,
+) -> Result<(), RunError>
+    requires { S.can_take sink.old writer.old }
+    ensures takes { TakesAll S.takes sink.old (answers cutter.old piece.now) writer.old result sink.new writer.new }
+    ensures cutter { OnOk result (cutter.new ≡ fed_all cutter.old piece.now) }
+    ensures others { OnOk result (S.can_take sink.new writer.new) }
+{
+    for byte in piece {
+        if let Some(line) = cutter.feed(*byte) {
+            sink.take(&line, writer)?;
+        }
+    }
+    Ok(())
+}
+
+/// Reads to the end, and hands the sink each line. Answers what stands after the last line end.
+pub fn run<R: Read, W: Write, S: Sink<W>>(
+    sink: &mut S,
+    buf: &mut [u8],
+    reader: &mut Counted<R>,
+    writer: &mut Counted<W>,
+) -> Result<Rest, RunError>
+    requires room { 0 < length buf.old }
+    requires sink { S.can_take sink.old writer.old }
+    requires reads { reads_of reader.old < 2 ^ 63 }
+    requires reader { faults_of reader.old < 2 ^ 63 }
+    ensures { Runs S.takes R.remaining sink.old reader.old writer.old result sink.new reader.new writer.new }
+{
+    let mut cutter = LineCutter::new();
+    for _turn in 0..TURNS {
+        let Ok(count) = reader.read(buf) else {
+            return Err(RunError::Read);
+        };
+        take_piece(sink, &mut cutter, &buf[..count], writer)?;
+        if count == 0 {
+            return Ok(cutter.rest());
+        }
+    }
+    Err(RunError::Read)
+}

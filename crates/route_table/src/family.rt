@@ -1,0 +1,60 @@
+//! The network types of the two families.
+ghost use Rattle.std.specs.Prelude.{◌≡◌, List, Bool, length, refl};
+ghost use Rattle.ipnet_addr.specs.Addresses.{Family, Ipv4, Ipv6, width};
+ghost use Rattle.ipnet_blocks.specs.Blocks.{bit_string};
+ghost use Rattle.ipnet_blocks.specs.Networks.{Network, block_of};
+ghost use Rattle.ipnet.specs.IpNets.{net_in};
+ghost use Rattle.trie_core.specs.Bits.{number_from};
+
+use ipnet::{IpNet, Ipv4Net, Ipv6Net};
+use prefix_trie::Prefix;
+
+/// The networks of one family, as the keys of a trie.
+pub trait OfFamily: Prefix + Copy + Drop {
+    ghost family: { Family };
+
+    /// The number of its address, and its length.
+    ghost parts: { Self → Network };
+
+    /// The same network among those of either family.
+    fn ip_net(self) -> IpNet
+        ensures { result ≡ net_in family (parts self) };
+
+    ghost width_is: { Self.R.width ≡ width family };
+
+    ghost bits_are: { (n : Self) → Self.bits n ≡ bit_string (block_of family (parts n)) };
+
+    ghost parts_are: { (s : List Bool) → parts (Self.of_bits s) ≡ record { number = number_from (width family) s; len = length s } };
+}
+
+impl OfFamily for Ipv4Net {
+    ghost family = { Ipv4 };
+
+    ghost parts = { λ n. n };
+
+    ghost width_is = { refl };
+
+    ghost bits_are = { λ n. refl };
+
+    ghost parts_are = { λ s. refl };
+
+    fn ip_net(self) -> IpNet {
+        IpNet::V4(self)
+    }
+}
+
+impl OfFamily for Ipv6Net {
+    ghost family = { Ipv6 };
+
+    ghost parts = { λ n. n };
+
+    ghost width_is = { refl };
+
+    ghost bits_are = { λ n. refl };
+
+    ghost parts_are = { λ s. refl };
+
+    fn ip_net(self) -> IpNet {
+        IpNet::V6(self)
+    }
+}

@@ -1,0 +1,76 @@
+//! The routes of one side in ascending order.
+ghost use Rattle.std.specs.Prelude.{◌≡◌, List, map};
+ghost use Rattle.std.specs.Iterator.{item_count};
+ghost use Rattle.ipnet_addr.specs.Addresses.{width};
+ghost use Rattle.trie_map.specs.Iterators.{GivesEntry};
+ghost use Rattle.route_table.specs.InnerEntries.{KeysUpTo, entries_left};
+ghost use Rattle.route_table.specs.Items.{GivesRoute};
+ghost use Rattle.route_table.specs.InnerSides.{route_at};
+
+use crate::family::OfFamily;
+use crate::hop::Hop;
+use ipnet::IpNet;
+use prefix_trie::Prefix;
+use prefix_trie::map::{Cover, Iter};
+use std::marker::Model;
+
+/// The entries of one side's trie that are left of a walk, or of the way to a network.
+#[derive(Drop)]
+pub(crate) enum Entries<'a, P: Prefix> {
+    Walk(Iter<'a, P, Hop>),
+    Cover(Cover<'a, P, Hop>),
+}
+
+impl<'a, P: Prefix> Entries<'a, P> {
+    /// The next entry.
+    fn next(&mut self) -> Option<(P, &'a Hop)>
+        ensures { GivesEntry P.bits P.of_bits (entries_left self.old) result (entries_left self.new) }
+    {
+        match self {
+            Entries::Walk(entries) => entries.next(),
+            Entries::Cover(entries) => entries.next(),
+        }
+    }
+}
+
+/// The routes of one side that are left.
+#[derive(Drop)]
+pub struct SideRoutes<'a, P: OfFamily> {
+    entries: Entries<'a, P>,
+}
+
+impl<'a, P: OfFamily> Model for SideRoutes<'a, P> {
+    ghost use Rattle.std.specs.Prelude.{List, map};
+    ghost use Rattle.ipnet_addr.specs.Addresses.{width};
+    ghost use Rattle.route_table.specs.Tables.{Route};
+    ghost use Rattle.route_table.specs.InnerSides.{route_at};
+    ghost use Rattle.route_table.specs.InnerEntries.{KeysUpTo, entries_left};
+
+    ghost Value = { List Route };
+
+    ghost view = { λ a. map (route_at P.family) (entries_left a.entries) };
+
+    ghost invariant = { λ a. KeysUpTo (width P.family) (entries_left a.entries) };
+}
+
+impl<'a, P: OfFamily> SideRoutes<'a, P> {
+    pub(crate) fn new(entries: Entries<'a, P>) -> SideRoutes<'a, P>
+        requires { KeysUpTo (width P.family) (entries_left entries) }
+        ensures { result ≡ map (route_at P.family) (entries_left entries.entry) }
+    {
+        SideRoutes { entries }
+    }
+}
+
+impl<'a, P: OfFamily> Iterator for SideRoutes<'a, P> {
+    type Item = (IpNet, Hop);
+
+    ghost next_gives = { GivesRoute };
+
+    ghost remaining = { item_count (λ rs. rs) };
+
+    fn next(&mut self) -> Option<(IpNet, Hop)> {
+        let (net, hop) = self.entries.next()?;
+        Some((net.ip_net(), *hop))
+    }
+}

@@ -1,0 +1,142 @@
+-- Bit strings: when two are equal, which is the first, and what a beginning is.
+use Rattle.std.proofs.Common.{◌≡◌, ℕ, zero, suc, ◌+◌, ◌≤◌, Bool, true, false, cond, not, ◌&&◌, List, [], ◌∷◌, ◌++◌, length, take, drop, refl, sym, ap, subst, ◌∙◌, arith}
+use Rattle.std.specs.Prelude.{T}
+use Rattle.std.specs.declared.cmp.Ordering.{Ordering}
+use Rattle.std.specs.declared.cmp.Ordering.TheVariants.{Less, Equal, Greater}
+use Rattle.std.specs.Bool.{Decides}
+use Rattle.std.specs.Ordering.{bool_cmp, eq_by_cmp, is_eq, is_lt}
+use Rattle.std.specs.Cmp.{IsTotalOrder, bool_cmp_total}
+use Rattle.std.specs.Cmp.Lexicographic.{lists_total}
+use Rattle.std.specs.FinMap.{IsAntisymmetric, slice_cmp-IsAntisymmetric}
+use Rattle.std.proofs.lemmas.List.{take-append-drop}
+use Rattle.std.proofs.Math.ListN.{length-take}
+use Rattle.trie_core.specs.Bits.{bits_cmp, begins}
+
+-- ---- equal bit strings
+
+bool_same : IsAntisymmetric bool_cmp
+bool_same true true e = refl
+bool_same false false e = refl
+bool_same true false e = cc
+bool_same false true e = cc
+
+pub bits_total : IsTotalOrder bits_cmp
+bits_total = lists_total bool_cmp_total
+
+pub bits_same : IsAntisymmetric bits_cmp
+bits_same = slice_cmp-IsAntisymmetric bool_same
+
+abbrev pub same : List Bool → List Bool → Bool
+same xs ys = eq_by_cmp bits_cmp xs ys
+
+tied : (r : Ordering) → is_eq r ≡ true → r ≡ Equal
+tied Less e = cc
+tied Equal e = refl
+tied Greater e = cc
+
+pub same-refl : (xs : List Bool) → same xs xs ≡ true
+same-refl [] = refl
+same-refl (true ∷ xs) = same-refl xs
+same-refl (false ∷ xs) = same-refl xs
+
+pub same-Decides : (xs ys : List Bool) → Decides (same xs ys) (xs ≡ ys)
+same-Decides xs ys = (λ e. bits_same xs ys (tied (bits_cmp xs ys) e), λ e. subst (λ zs. same xs zs ≡ true) e (same-refl xs))
+
+pub not_true : (b : Bool) → (b ≡ true → ⊥) → b ≡ false
+not_true true f = absurd (f refl)
+not_true false f = refl
+
+pub same_false : (xs ys : List Bool) → (xs ≡ ys → ⊥) → same xs ys ≡ false
+same_false xs ys f = not_true _ (λ e. f ((same-Decides xs ys).0 e))
+
+pub no_false : {b : Bool} → b ≡ false → b ≡ true → ⊥
+no_false e f = cc
+
+pub not_same : {xs ys : List Bool} → same xs ys ≡ false → xs ≡ ys → ⊥
+not_same {xs} {ys} e f = no_false e ((same-Decides xs ys).1 f)
+
+pub same-under : (bs xs ys : List Bool) → same (bs ++ xs) (bs ++ ys) ≡ same xs ys
+same-under [] xs ys = refl
+same-under (true ∷ bs) xs ys = same-under bs xs ys
+same-under (false ∷ bs) xs ys = same-under bs xs ys
+
+pub bits_cmp-under : (bs xs ys : List Bool) → bits_cmp (bs ++ xs) (bs ++ ys) ≡ bits_cmp xs ys
+bits_cmp-under [] xs ys = refl
+bits_cmp-under (true ∷ bs) xs ys = bits_cmp-under bs xs ys
+bits_cmp-under (false ∷ bs) xs ys = bits_cmp-under bs xs ys
+
+pub other_length : (x q : List Bool) → (length x ≡ length q → ⊥) → same x q ≡ false
+other_length x q f = same_false x q (λ e. f (ap length e))
+
+pub T-true : (b : Bool) → T b → b ≡ true
+T-true true h = refl
+T-true false h = absurd h
+
+pub T-and : (a b : Bool) → T a → T b → T (a && b)
+T-and true b p q = q
+T-and false b p q = p
+
+pub both : (a b : Bool) → T (a && b) → T a × T b
+both true b h = (tt, h)
+both false b h = absurd h
+
+pub append_none : {Y : Type 0} (xs : List Y) → xs ++ [] ≡ xs
+append_none [] = refl
+append_none (x ∷ xs) = ap (λ ys. x ∷ ys) (append_none xs)
+
+pub front : (q : List Bool) → 5 ≤ length q → (length (take 5 q) ≡ 5) × (take 5 q ++ drop 5 q ≡ q)
+front q h = (omega (arith, length-take 5 q), take-append-drop 5 q)
+
+pub take_front : (bs k : List Bool) (n : ℕ) → length bs ≡ n → take n (bs ++ k) ≡ bs
+take_front [] k zero e = refl
+take_front [] k (suc n) e = absurd (omega arith)
+take_front (b ∷ bs) k zero e = absurd (omega arith)
+take_front (b ∷ bs) k (suc n) e = ap (λ xs. b ∷ xs) (take_front bs k n (omega arith))
+
+pub take_first : (b k : List Bool) → length b ≡ 5 → take 5 (b ++ k) ≡ b
+take_first b k h = take_front b k 5 h
+
+pub less-T : (o : Ordering) → T (is_lt o) → o ≡ Less
+less-T Less p = refl
+less-T Equal p = absurd p
+less-T Greater p = absurd p
+
+-- ---- beginnings
+
+same_bit : (x y : Bool) → cond x y (not y) ≡ true → x ≡ y
+same_bit true true e = refl
+same_bit true false e = cc
+same_bit false true e = cc
+same_bit false false e = refl
+
+both_true : (a b : Bool) → (a && b) ≡ true → (a ≡ true) × (b ≡ true)
+both_true true b e = (refl, e)
+both_true false b e = cc
+
+pub begins_take : (p q : List Bool) → begins p q ≡ true → (length p ≤ length q) × (take (length p) q ≡ p)
+begins_take [] q e = (omega arith, refl)
+begins_take (x ∷ p) [] e = cc
+begins_take (x ∷ p) (y ∷ q) e =
+    let t = both_true (cond x y (not y)) (begins p q) e in
+    let r = begins_take p q t.1 in
+    (omega (arith, r.0), λ i. sym (same_bit x y t.0) i ∷ r.1 i)
+
+pub begins-under : (b p q : List Bool) → begins (b ++ p) (b ++ q) ≡ begins p q
+begins-under [] p q = refl
+begins-under (true ∷ b) p q = begins-under b p q
+begins-under (false ∷ b) p q = begins-under b p q
+
+begins_refl_bit : (x : Bool) → cond x x (not x) ≡ true
+begins_refl_bit true = refl
+begins_refl_bit false = refl
+
+pub take_begins : (k : ℕ) (q : List Bool) → begins (take k q) q ≡ true
+take_begins zero q = refl
+take_begins (suc k) [] = refl
+take_begins (suc k) (x ∷ q) = ap (λ b. b && begins (take k q) q) (begins_refl_bit x) ∙ take_begins k q
+
+-- the first of the first
+pub take_take : {Y : Type 0} (xs : List Y) (j k : ℕ) → take j (take (j + k) xs) ≡ take j xs
+take_take xs zero k = refl
+take_take [] (suc j) k = let e : suc j + k ≡ suc (j + k) = omega arith in rw e refl
+take_take (x ∷ xs) (suc j) k = let e : suc j + k ≡ suc (j + k) = omega arith in rw e (ap (λ ys. x ∷ ys) (take_take xs j k))

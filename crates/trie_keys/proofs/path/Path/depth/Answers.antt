@@ -1,6 +1,0 @@
-use Rattle.std.proofs.Common.{ap, ◌/◌}
-use Rattle.trie_keys.proofs.Aligned.{path_length}
-use Rattle.trie_keys.proofs.path.Path.depth.Goals as goal
-
-pub returns : goal.returns
-returns c = ap (λ n. n / 5) (path_length _ c.self.view_is)

@@ -1,5 +1,0 @@
-use Rattle.trie_keys.proofs.Aligned.{path_length}
-use Rattle.trie_keys.proofs.path.Path.len.Goals as goal
-
-pub returns : goal.returns
-returns c = path_length _ c.self.view_is
