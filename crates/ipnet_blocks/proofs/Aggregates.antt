@@ -93,7 +93,7 @@ pub aggregated_of_maximal : (given bs : List Block) → IsMaximal (InSome given)
 aggregated_of_maximal given bs m = record {
   maximal = m;
   union = maximal_is_union (InSome given) (decide_some given) bs m;
-  shortest = λ cs u. maximal_is_shortest (InSome given) bs cs m u;
+  shortest = maximal_is_shortest (InSome given) bs m;
   only = λ cs u up few. shortest_is_maximal (InSome given) bs cs m u up few;
 }
 

@@ -1,5 +1,6 @@
 pub mod BlockLaws
 pub mod BlockTests
+pub mod BitStrings
 pub mod Strings
 pub mod Order
 pub mod Cover

@@ -3,7 +3,7 @@ use Rattle.std.proofs.Common.{◌≡◌, ◌+◌, ◌-◌, ◌*◌, ◌/◌, ◌
 use Rattle.std.proofs.Math.Pow.{pow-add}
 use Rattle.ipnet_addr.specs.Addresses.{width, Address, IsAddress}
 use Rattle.ipnet_blocks.specs.Blocks.{Block, IsBlock, free_bits, HasAddress, IsInside, IsBefore, IsAscending, first_of, host}
-use Rattle.ipnet_blocks.specs.Maximal.{IsWithin, IsMaximalBlock, IsMaximal, IsUnion}
+use Rattle.ipnet_blocks.specs.Maximal.{IsWithin, IsMaximalBlock, IsMaximal, IsUnion, IsShortest}
 use Rattle.ipnet_addr.proofs.Members.{In, Distinct}
 use Rattle.ipnet_addr.proofs.Ascending.{In-from_Contains, Contains-from_In, In-from_All, All-from_In, In-from_Any, Any-from_In, Rising-from_pairs, Distinct-from_Rising, same_rising}
 use Rattle.ipnet_blocks.proofs.Cover.{Top, Covers, least, cover_in, in_cover}
@@ -77,8 +77,8 @@ module _ (S : Address → Type 0) where
       (λ b i. In-from_Contains cs b ((n.exact b).1 ((m.exact b).0 (Contains-from_In bs b i))))
       (λ b i. In-from_Contains bs b ((m.exact b).1 ((n.exact b).0 (Contains-from_In cs b i))))
 
-  pub maximal_is_shortest : (bs cs : List Block) → IsMaximal S bs → IsUnion S cs → length bs ≤ length cs
-  maximal_is_shortest bs cs m u =
+  pub maximal_is_shortest : (bs : List Block) → IsMaximal S bs → IsShortest S bs
+  maximal_is_shortest bs m cs u =
       least Block Address HasAddress (IsWithin S) point nests same bs cs (apart bs m.ascending) (tops bs m) (union_covers bs cs m u)
 
   pub shortest_is_maximal : (bs cs : List Block) → IsMaximal S bs → IsUnion S cs → IsAscending cs → length cs ≤ length bs → bs ≡ cs

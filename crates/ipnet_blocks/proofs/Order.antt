@@ -1,7 +1,9 @@
 -- The order of blocks is that of their bit strings.
 use Rattle.std.proofs.Common.{◌≡◌, ℕ, zero, suc, ◌+◌, ◌-◌, ◌*◌, ◌/◌, ◌%◌, ◌^◌, ◌<◌, ◌≤◌, ◌⊎◌, ◌↔◌, ◌==◌, inl, inr, ⊎_elim, Bool, true, false, List, [], ◌∷◌, ◌++◌, length, refl, sym, ap, ◌∙◌, subst, arith, pow-suc, pow_pos, zero-mul}
+use Rattle.std.specs.declared.cmp.Ordering.TheVariants.{Less}
 use Rattle.ipnet_addr.specs.Addresses.{width, rank}
-use Rattle.ipnet_blocks.specs.Blocks.{Block, IsBlock, IsBefore, IsStringBefore, first, digits, bit_string}
+use Rattle.ipnet_blocks.specs.Blocks.{Block, IsBlock, IsBefore, first, digits, bit_string}
+use Rattle.ipnet_blocks.specs.BitStrings.{bits_cmp}
 use Rattle.ipnet_blocks.proofs.Strings.{length-digits}
 
 bit : Bool → ℕ
@@ -29,26 +31,27 @@ value_below (suc w) (false ∷ s) h = let i = value_below w s (omega arith) in l
 abbrev Sooner : ℕ → List Bool → List Bool → Type 0
 Sooner w s t = (value w s < value w t) ⊎ ((value w s ≡ value w t) × (length s < length t))
 
-earlier_from_sooner : (w : ℕ) (s t : List Bool) → length s ≤ w → length t ≤ w → Sooner w s t → IsStringBefore s t
+earlier_from_sooner : (w : ℕ) (s t : List Bool) → length s ≤ w → length t ≤ w → Sooner w s t → bits_cmp s t ≡ Less
 unfolding value bit
 earlier_from_sooner w s [] h k (inl l) = absurd (let z = value-nil w in omega arith)
 earlier_from_sooner w s [] h k (inr l) = absurd (let m = l.1 in omega arith)
-earlier_from_sooner w [] (b ∷ t) h k l = tt
+earlier_from_sooner w [] (b ∷ t) h k l = refl
 earlier_from_sooner zero (a ∷ s) (b ∷ t) h k l = absurd (omega arith)
-earlier_from_sooner (suc w) (false ∷ s) (true ∷ t) h k l = tt
+earlier_from_sooner (suc w) (false ∷ s) (true ∷ t) h k l = refl
 earlier_from_sooner (suc w) (true ∷ s) (false ∷ t) h k l =
     let i = value_below w t (omega arith) in
-    ⊎_elim (λ m. omega arith) (λ m. let n = m.0 in omega arith) l
+    absurd (⊎_elim (λ m. omega arith) (λ m. let n = m.0 in omega arith) l)
 earlier_from_sooner (suc w) (false ∷ s) (false ∷ t) h k l = earlier_from_sooner w s t (omega arith) (omega arith) (grind arith)
 earlier_from_sooner (suc w) (true ∷ s) (true ∷ t) h k l = earlier_from_sooner w s t (omega arith) (omega arith) (grind arith)
 
-sooner_from_earlier : (w : ℕ) (s t : List Bool) → length s ≤ w → length t ≤ w → IsStringBefore s t → Sooner w s t
+sooner_from_earlier : (w : ℕ) (s t : List Bool) → length s ≤ w → length t ≤ w → bits_cmp s t ≡ Less → Sooner w s t
 unfolding value bit
-sooner_from_earlier w s [] h k e = absurd e
+sooner_from_earlier w [] [] h k e = absurd (cc)
+sooner_from_earlier w (a ∷ s) [] h k e = absurd (cc)
 sooner_from_earlier w [] (b ∷ t) h k e = let z = value-nil w in grind arith
 sooner_from_earlier zero (a ∷ s) (b ∷ t) h k l = absurd (omega arith)
 sooner_from_earlier (suc w) (false ∷ s) (true ∷ t) h k e = let i = value_below w s (omega arith) in inl (omega arith)
-sooner_from_earlier (suc w) (true ∷ s) (false ∷ t) h k e = absurd e
+sooner_from_earlier (suc w) (true ∷ s) (false ∷ t) h k e = absurd (cc)
 sooner_from_earlier (suc w) (false ∷ s) (false ∷ t) h k e = let i = sooner_from_earlier w s t (omega arith) (omega arith) e in grind arith
 sooner_from_earlier (suc w) (true ∷ s) (true ∷ t) h k e = let i = sooner_from_earlier w s t (omega arith) (omega arith) e in grind arith
 
@@ -86,7 +89,7 @@ value-digits w (suc p) q h k =
     s ∙ ap (λ n. value w (digits p (q / 2)) + bit (q % 2 == 1) * 2 ^ (w - suc n)) l
     ∙ join q (2 ^ (w - suc p)) (value w (digits p (q / 2))) (bit (q % 2 == 1)) (i ∙ ap (λ n. q / 2 * n) twice) (bit_of (q % 2) (omega arith))
 
-pub order_of_strings : (a b : Block) → IsBlock a → IsBlock b → a.family ≡ b.family → IsBefore a b ↔ IsStringBefore (bit_string a) (bit_string b)
+pub order_of_strings : (a b : Block) → IsBlock a → IsBlock b → a.family ≡ b.family → IsBefore a b ↔ (bits_cmp (bit_string a) (bit_string b) ≡ Less)
 order_of_strings a b p q f = (forward, back)
   where
     va : value (width b.family) (bit_string a) ≡ first a
@@ -107,12 +110,12 @@ order_of_strings a b p q f = (forward, back)
     fb : length (bit_string b) ≤ width b.family
     fb = let h = lb in let k = q.in_width in omega arith
 
-    forward : IsBefore a b → IsStringBefore (bit_string a) (bit_string b)
+    forward : IsBefore a b → bits_cmp (bit_string a) (bit_string b) ≡ Less
     forward h =
         let x = va in let y = vb in let k = la in let l = lb in let g = ap rank f in
         earlier_from_sooner (width b.family) (bit_string a) (bit_string b) fa fb (grind arith)
 
-    back : IsStringBefore (bit_string a) (bit_string b) → IsBefore a b
+    back : bits_cmp (bit_string a) (bit_string b) ≡ Less → IsBefore a b
     back e =
         let x = va in let y = vb in let k = la in let l = lb in let g = ap rank f in
         let s = sooner_from_earlier (width b.family) (bit_string a) (bit_string b) fa fb e in

@@ -1,7 +1,9 @@
 -- The bit string of a block, and inclusion.
-use Rattle.std.proofs.Common.{◌≡◌, ℕ, zero, suc, ◌+◌, ◌-◌, ◌*◌, ◌/◌, ◌%◌, ◌^◌, ◌<◌, ◌≤◌, Bool, ◌==◌, List, [], ◌∷◌, ◌++◌, length, refl, sym, ap, ◌∙◌, subst, arith, append_assoc, length-append, append-nil, shr-shr, shr_lt, div-one, add-zero, add-suc, one-add, pow-suc}
+use Rattle.std.proofs.Common.{◌≡◌, ℕ, zero, suc, ◌+◌, ◌-◌, ◌*◌, ◌/◌, ◌%◌, ◌^◌, ◌<◌, ◌≤◌, Bool, true, ◌==◌, List, [], ◌∷◌, ◌++◌, length, drop, refl, sym, ap, ◌∙◌, subst, arith, append_assoc, length-append, append-nil, shr-shr, shr_lt, div-one, add-zero, add-suc, one-add, pow-suc}
 use Rattle.std.proofs.lemmas.Bool.Decides.{nat_tests}
-use Rattle.ipnet_blocks.specs.Blocks.{Block, IsBlock, IsInside, digits, bit_string, Begins}
+use Rattle.ipnet_blocks.specs.Blocks.{Block, IsBlock, IsInside, digits, bit_string}
+use Rattle.ipnet_blocks.specs.BitStrings.{begins}
+use Rattle.ipnet_blocks.proofs.BitStrings.{begins_on, begun_rest}
 use Rattle.ipnet_blocks.proofs.BlockLaws.{numbers_from_inside, inside_from_numbers}
 
 pub length-digits : (p q : ℕ) → length (digits p q) ≡ p
@@ -46,7 +48,7 @@ digits_apart (suc p) q r h k e =
     whole q r m t = grind (arith, nat_tests)
 
 -- the first digits are those of the quotient
-pub digits_front : (p k q : ℕ) → Begins (digits p (q / 2 ^ k)) (digits (p + k) q)
+pub digits_front : (p k q : ℕ) → (rest : List Bool) × (digits (p + k) q ≡ digits p (q / 2 ^ k) ++ rest)
 digits_front p zero q = ([], simp (add-zero, append-nil, div-one))
 digits_front p (suc k) q =
     let t = digits_front p k (q / 2) in
@@ -55,15 +57,19 @@ digits_front p (suc k) q =
     let last : List Bool = (q % 2 == 1) ∷ [] in
     (t.0 ++ last, ap (λ n. digits n q) (add-suc p k) ∙ ap (λ s. s ++ last) f ∙ append_assoc (digits p (q / 2 ^ suc k)) t.0 last)
 
-pub begins_from_inside : (a b : Block) → IsBlock a → IsBlock b → IsInside a b → Begins (bit_string b) (bit_string a)
-begins_from_inside a b p q h =
+front_from_inside : (a b : Block) → IsBlock a → IsBlock b → IsInside a b → (rest : List Bool) × (bit_string a ≡ bit_string b ++ rest)
+front_from_inside a b p q h =
     let n = numbers_from_inside a b p q h in
     let t = digits_front b.len (a.len - b.len) a.quotient in
     let l : b.len + (a.len - b.len) ≡ a.len = let h = n.long in omega arith in
-    subst (λ s. Begins s (bit_string a)) (ap (digits b.len) n.quotient) (subst (λ m. Begins (digits b.len (a.quotient / 2 ^ (a.len - b.len))) (digits m a.quotient)) l t)
+    (t.0, subst (λ m. digits m a.quotient ≡ digits b.len (a.quotient / 2 ^ (a.len - b.len)) ++ t.0) l t.1 ∙ ap (λ q. digits b.len q ++ t.0) n.quotient)
 
-pub inside_from_begins : (a b : Block) → IsBlock a → IsBlock b → a.family ≡ b.family → Begins (bit_string b) (bit_string a) → IsInside a b
-inside_from_begins a b p q f t =
+pub begins_from_inside : (a b : Block) → IsBlock a → IsBlock b → IsInside a b → begins (bit_string b) (bit_string a) ≡ true
+begins_from_inside a b p q h = let t = front_from_inside a b p q h in ap (begins (bit_string b)) t.1 ∙ begins_on (bit_string b) t.0
+
+pub inside_from_begins : (a b : Block) → IsBlock a → IsBlock b → a.family ≡ b.family → begins (bit_string b) (bit_string a) ≡ true → IsInside a b
+inside_from_begins a b p q f h =
+    let t : (rest : List Bool) × (bit_string a ≡ bit_string b ++ rest) = (drop (length (bit_string b)) (bit_string a), sym (begun_rest (bit_string b) (bit_string a) h)) in
     let k = a.len - b.len in
     let lens : length (digits a.len a.quotient) ≡ length (digits b.len b.quotient) + length t.0 = ap length t.1 ∙ length-append (digits b.len b.quotient) t.0 in
     let la = length-digits a.len a.quotient in

@@ -3,7 +3,7 @@ use Rattle.std.specs.Prelude.{◌≡◌, ◌≤◌, List, length, map, All, Any}
 use Rattle.ipnet_addr.specs.Addresses.{Family, Address}
 use Rattle.ipnet_blocks.specs.Blocks.{Block, HasAddress, IsAscending}
 use Rattle.ipnet_blocks.specs.Networks.{Network, block_of, IsTruncated}
-use Rattle.ipnet_blocks.specs.Maximal.{IsMaximal, IsUnion}
+use Rattle.ipnet_blocks.specs.Maximal.{IsMaximal, IsUnion, IsShortest}
 
 -- an address of one of the blocks
 abbrev pub InSome : List Block → Address → Type 0
@@ -13,7 +13,7 @@ InSome bs x = Any (λ b. HasAddress b x) bs
 pub record IsAggregated (given bs : List Block) : Type 0 where
   pub maximal : IsMaximal (InSome given) bs
   pub union : IsUnion (InSome given) bs
-  pub shortest : (cs : List Block) → IsUnion (InSome given) cs → length bs ≤ length cs
+  pub shortest : IsShortest (InSome given) bs
   pub only : (cs : List Block) → IsUnion (InSome given) cs → IsAscending cs → length cs ≤ length bs → bs ≡ cs
 
 -- the same for networks of one family: the answer has no host bits

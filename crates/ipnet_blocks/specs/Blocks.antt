@@ -1,5 +1,5 @@
 -- Blocks of addresses, their order and their bit strings.
-use Rattle.std.specs.Prelude.{◌≡◌, ℕ, zero, suc, ◌+◌, ◌-◌, ◌*◌, ◌/◌, ◌%◌, ◌^◌, ◌<◌, ◌≤◌, ◌⊎◌, Bool, true, false, ◌&&◌, ◌||◌, nat_le, nat_lt, ◌==◌, List, [], ◌∷◌, ◌++◌, AllPairs}
+use Rattle.std.specs.Prelude.{◌≡◌, ℕ, zero, suc, ◌+◌, ◌-◌, ◌*◌, ◌/◌, ◌%◌, ◌^◌, ◌<◌, ◌≤◌, ◌⊎◌, Bool, ◌&&◌, ◌||◌, nat_le, nat_lt, ◌==◌, List, [], ◌∷◌, ◌++◌, AllPairs}
 use Rattle.ipnet_addr.specs.Addresses.{Family, width, rank, same_family, Address}
 
 -- a block is a family, a length and a quotient; its addresses have that quotient
@@ -65,10 +65,6 @@ digits (suc p) q = digits p (q / 2) ++ (q % 2 == 1) ∷ []
 abbrev pub bit_string : Block → List Bool
 bit_string b = digits b.len b.quotient
 
--- the one list begins the other
-abbrev pub Begins : List Bool → List Bool → Type 0
-Begins s t = (rest : List Bool) × (t ≡ s ++ rest)
-
 -- all addresses of a family
 abbrev pub family_block : Family → Block
 family_block f = record { family = f; len = 0; quotient = 0 }
@@ -94,15 +90,6 @@ is_before a b = nat_lt (rank a.family) (rank b.family)
 
 abbrev pub same_block : Block → Block → Bool
 same_block a b = same_family a.family b.family && (a.len == b.len) && (a.quotient == b.quotient)
-
--- a beginning comes before what it begins, and 0 before 1
-abbrev pub IsStringBefore : List Bool → List Bool → Type 0
-IsStringBefore s [] = ⊥
-IsStringBefore [] (b ∷ t) = Unit {0}
-IsStringBefore (false ∷ s) (true ∷ t) = Unit {0}
-IsStringBefore (true ∷ s) (false ∷ t) = ⊥
-IsStringBefore (false ∷ s) (false ∷ t) = IsStringBefore s t
-IsStringBefore (true ∷ s) (true ∷ t) = IsStringBefore s t
 
 -- two blocks of one length, and not the longest: the parent of the one holds the other
 abbrev pub AreSiblings : Block → Block → Type 0

@@ -1,10 +1,12 @@
 -- The laws of blocks, as statements.
 use Rattle.std.specs.Prelude.{◌≡◌, ℕ, ◌-◌, ◌<◌, ◌≤◌, ◌⊎◌, ◌↔◌, ◌++◌, Bool, true, false, IsTrue, List, length, replicate, zero, bit_and, Contains}
+use Rattle.std.specs.declared.cmp.Ordering.TheVariants.{Less}
 use Rattle.ipnet_addr.specs.Addresses.{Family, Address, IsAddress, width}
 use Rattle.ipnet_addr.specs.Masks.{IsMask}
 use Rattle.ipnet_addr.specs.Ranges.{numbers}
-use Rattle.ipnet_blocks.specs.Blocks.{Block, IsBlock, HasAddress, IsInside, IsLarger, IsBefore, IsAscending, is_inside, bit_string, digits, Begins, IsStringBefore, first, last, parent}
-use Rattle.ipnet_blocks.specs.Maximal.{IsWithin, IsMaximalBlock, IsMaximal, IsUnion, IsCut, maximal_of}
+use Rattle.ipnet_blocks.specs.Blocks.{Block, IsBlock, HasAddress, IsInside, IsLarger, IsBefore, IsAscending, is_inside, bit_string, digits, first, last, parent}
+use Rattle.ipnet_blocks.specs.BitStrings.{bits_cmp, begins}
+use Rattle.ipnet_blocks.specs.Maximal.{IsWithin, IsMaximalBlock, IsMaximal, IsUnion, IsShortest, IsCut, maximal_of}
 use Rattle.ipnet_blocks.specs.Aggregated.{IsAggregated, AreAggregated}
 use Rattle.ipnet_blocks.specs.Cuts.{Limits, AreLimits, cut, after_first}
 use Rattle.ipnet_blocks.specs.Networks.{Network}
@@ -20,7 +22,7 @@ InsideByNumbers = (a b : Block) → IsBlock a → IsBlock b → IsInside a b ↔
 
 -- the bit string of b begins that of a exactly where a is inside b, within a family
 abbrev pub BeginsIsInside : Type 0
-BeginsIsInside = (a b : Block) → IsBlock a → IsBlock b → a.family ≡ b.family → Begins (bit_string b) (bit_string a) ↔ IsInside a b
+BeginsIsInside = (a b : Block) → IsBlock a → IsBlock b → a.family ≡ b.family → IsTrue (begins (bit_string b) (bit_string a)) ↔ IsInside a b
 
 -- the order is total and strict
 abbrev pub OrderIsTotal : Type 0
@@ -38,7 +40,7 @@ MaximalIsUnique = (s : Address → Bool) (bs cs : List Block) → IsMaximal (λ 
 
 -- no list of blocks with the same union is shorter
 abbrev pub MaximalIsShortest : Type 0
-MaximalIsShortest = (s : Address → Bool) (bs cs : List Block) → IsMaximal (λ x. IsTrue (s x)) bs → IsUnion (λ x. IsTrue (s x)) cs → length bs ≤ length cs
+MaximalIsShortest = (s : Address → Bool) (bs : List Block) → IsMaximal (λ x. IsTrue (s x)) bs → IsShortest (λ x. IsTrue (s x)) bs
 
 -- an ascending list with the same union and no more blocks is the same list
 abbrev pub ShortestIsMaximal : Type 0
@@ -58,7 +60,7 @@ SearchIsMaximal = (s : Address → Bool) → IsMaximal (λ x. IsTrue (s x)) (max
 
 -- within a family the order is that of the bit strings
 abbrev pub OrderIsOfStrings : Type 0
-OrderIsOfStrings = (a b : Block) → IsBlock a → IsBlock b → a.family ≡ b.family → IsBefore a b ↔ IsStringBefore (bit_string a) (bit_string b)
+OrderIsOfStrings = (a b : Block) → IsBlock a → IsBlock b → a.family ≡ b.family → IsBefore a b ↔ (bits_cmp (bit_string a) (bit_string b) ≡ Less)
 
 -- a block is its addresses
 abbrev pub BlockIsItsAddresses : Type 0

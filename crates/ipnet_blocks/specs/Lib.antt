@@ -1,4 +1,5 @@
 pub mod Blocks
+pub mod BitStrings
 pub mod Maximal
 pub mod Networks
 pub mod Cuts

@@ -1,5 +1,5 @@
 -- The maximal blocks of a set of addresses.
-use Rattle.std.specs.Prelude.{◌≡◌, ℕ, ◌≤◌, ◌↔◌, Bool, List, [], ◌∷◌, ◌++◌, Contains, All, Any, zero, suc, ◌&&◌, if◌then◌else◌}
+use Rattle.std.specs.Prelude.{◌≡◌, ℕ, ◌≤◌, ◌↔◌, Bool, List, [], ◌∷◌, ◌++◌, length, Contains, All, Any, zero, suc, ◌&&◌, if◌then◌else◌}
 use Rattle.ipnet_addr.specs.Addresses.{Family, Ipv4, Ipv6, Address, IsAddress, width}
 use Rattle.ipnet_blocks.specs.Blocks.{Block, IsBlock, HasAddress, IsLarger, IsAscending, first_of, left, right, family_block}
 
@@ -22,6 +22,10 @@ pub record IsMaximal (S : Address → Type 0) (bs : List Block) : Type 0 where
 pub record IsUnion (S : Address → Type 0) (bs : List Block) : Type 0 where
   pub blocks : All IsBlock bs
   pub exact : (x : Address) → IsAddress x → S x ↔ Any (λ b. HasAddress b x) bs
+
+-- no list of blocks with this union is shorter
+abbrev pub IsShortest : (Address → Type 0) → List Block → Type 0
+IsShortest S bs = (cs : List Block) → IsUnion S cs → length bs ≤ length cs
 
 -- the blocks of length at least `shortest` from one address to another that lie in no larger such block
 pub record IsCutBlock (family : Family) (start end shortest : ℕ) (b : Block) : Type 0 where

@@ -243,14 +243,14 @@ module _ (s s' : Address → Bool) (m : Block) (p : IsBlock m) (k : ℕ) (below 
               back x a ((max c.0 c.1).within.all x w.0) w.1),
         );
       } in
-      let least = maximal_is_shortest (λ x. s' x ≡ true) (maximal_of s') (flat_map (remove_from m) (maximal_of s)) (search_is_maximal s') union in
+      let least = maximal_is_shortest (λ x. s' x ≡ true) (maximal_of s') (search_is_maximal s') (flat_map (remove_from m) (maximal_of s)) union in
       omega arith
 
 -- a set with the same addresses has as many maximal blocks
 same_set : (s s' : Address → Bool) → ((x : Address) → IsAddress x → s' x ≡ s x) → length (maximal_of s') ≤ length (maximal_of s)
 same_set s s' same =
     let u = maximal_is_union (λ x. s x ≡ true) (decide_test s) (maximal_of s) (search_is_maximal s) in
-    maximal_is_shortest (λ x. s' x ≡ true) (maximal_of s') (maximal_of s) (search_is_maximal s')
+    maximal_is_shortest (λ x. s' x ≡ true) (maximal_of s') (search_is_maximal s') (maximal_of s)
     (record { blocks = u.blocks; exact = λ x a. ((λ e. (u.exact x a).0 (sym (same x a) ∙ e)), (λ h. same x a ∙ (u.exact x a).1 h)) })
 
 abbrev is_strict : Block → Block → Bool
@@ -292,7 +292,7 @@ module _ (n : Block) (ok : IsBlock n) where
 
   few_blocks : (M : List Route) → ((r : Route) → In r M → IsBlock r.block) → length (maximal_of (governs n M)) ≤ 1 + sum_by (λ r. excess n r.block) M
   few_blocks [] valid =
-      maximal_is_shortest (λ x. governs n [] x ≡ true) (maximal_of (governs n [])) (n ∷ []) (search_is_maximal (governs n []))
+      maximal_is_shortest (λ x. governs n [] x ≡ true) (maximal_of (governs n [])) (search_is_maximal (governs n [])) (n ∷ [])
       (record {
         blocks = All-from_In IsBlock (n ∷ []) (λ b i. ⊎_elim (λ e. subst IsBlock (sym e) ok) (λ z. absurd z) i);
         exact = λ x a. (

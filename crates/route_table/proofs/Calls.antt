@@ -1,5 +1,5 @@
 -- What calls of a side's trie answer, as answers of the side.
-use Rattle.std.proofs.Common.{◌≡◌, ℕ, ◌≤◌, ◌⊎◌, inl, inr, ⊎_elim, Bool, true, false, ◌||◌, List, [], ◌∷◌, length, take, map, filter, Option, Some, None, refl, sym, ap, ◌∙◌, arith}
+use Rattle.std.proofs.Common.{◌≡◌, ℕ, ◌≤◌, ◌⊎◌, inl, inr, ⊎_elim, Bool, true, false, ◌||◌, List, [], ◌∷◌, length, map, filter, Option, Some, None, refl, sym, ap, ◌∙◌, arith}
 use Rattle.std.proofs.lemmas.List.{length-map}
 use Rattle.std.specs.Borrow.{Bor}
 use Rattle.std.specs.Prelude.{is_some, MatchOption}
@@ -14,7 +14,8 @@ use Rattle.ipnet_blocks.specs.Networks.{Network}
 use Rattle.ipnet.specs.IpNets.{net_in}
 use Rattle.ipnet_blocks.proofs.BlockTests.{same_from_test, test_from_same}
 use Rattle.ipnet_blocks.proofs.Strings.{length-digits}
-use Rattle.trie_core.specs.Bits.{bits_cmp, number_from}
+use Rattle.trie_core.specs.Bits.{number_from}
+use Rattle.ipnet_blocks.specs.BitStrings.{bits_cmp}
 use Rattle.trie_core.specs.Nodes.{BitMap}
 use Rattle.trie_core.specs.Search.{NoBeginning}
 use Rattle.trie_core.proofs.Strings.{bits_total, bits_same}

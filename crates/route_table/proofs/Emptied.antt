@@ -2,7 +2,7 @@
 use Rattle.std.proofs.Common.{◌≡◌, Bool, true, false, not, cond, List, Some, None, refl, sym, ap, ◌∙◌}
 use Rattle.std.specs.FinMap.{get, get-retain_keys}
 use Rattle.ipnet_blocks.specs.Blocks.{Block, IsBlock, IsInside, bit_string}
-use Rattle.trie_core.specs.Bits.{begins}
+use Rattle.ipnet_blocks.specs.BitStrings.{begins}
 use Rattle.trie_core.proofs.Strings.{bits_same}
 use Rattle.trie_core.specs.Inside.{outside}
 use Rattle.trie_core.specs.Nodes.{BitMap}
@@ -11,7 +11,7 @@ use Rattle.route_table.specs.InnerSides.{IsStored, routes_in}
 use Rattle.route_table.specs.Tables.{Route, IsTable}
 use Rattle.route_table.specs.declared.hop.Hop.{Hop}
 use Rattle.route_table.proofs.Overwritten.{outside_is_table, outside_back, outside_other}
-use Rattle.route_table.proofs.Parts.{inside_from_bits, bits_from_inside}
+use Rattle.ipnet_blocks.proofs.Strings.{inside_from_begins, begins_from_inside}
 use Rattle.route_table.proofs.Seams.{HasRoute, has_route, in_side, is_side, side_is}
 
 module _ (b : Block) (okb : IsBlock b) (m : BitMap Hop) (ok : IsStored b.family m) (n : BitMap Hop) (e : n ≡ outside m (bit_string b)) where
@@ -39,11 +39,11 @@ module _ (b : Block) (okb : IsBlock b) (m : BitMap Hop) (ok : IsStored b.family 
   left r h f = record { family = h.family; block = h.block; stored = go (begins (bit_string b) (bit_string r.block)) refl }
     where
       go : (c : Bool) → begins (bit_string b) (bit_string r.block) ≡ c → get n (bit_string r.block) ≡ Some r.hop
-      go true t = absurd (f (inside_from_bits r.block b h.block okb h.family t))
+      go true t = absurd (f (inside_from_begins r.block b h.block okb h.family t))
       go false t = here (bit_string r.block) ∙ ap (λ c. cond (not c) (get m (bit_string r.block)) None) t ∙ h.stored
 
   pub outside_side : routes_in b.family n ≡ without_inside side b
   outside_side = side_is b.family n outside_is_stored (without_inside side b) (outside_is_table side table b okb)
       (λ r h. let t = stayed (bit_string r.block) r.hop h.stored in
-      outside_other side table b okb r (in_side b.family m ok r (record { family = h.family; block = h.block; stored = t.0 })) (λ i. t.1 (bits_from_inside r.block b h.block okb i)))
+      outside_other side table b okb r (in_side b.family m ok r (record { family = h.family; block = h.block; stored = t.0 })) (λ i. t.1 (begins_from_inside r.block b h.block okb i)))
       (λ r i. let t = outside_back side table b okb r i in left r (has_route b.family m ok r t.0) t.1)

@@ -8,7 +8,7 @@ use Rattle.std.specs.FinMap.{find, is_sorted, entries, entries_sorted, get, get-
 use Rattle.std.specs.FinMap.Entries.{below_all}
 use Rattle.ipnet_addr.proofs.Members.{In}
 use Rattle.ipnet_addr.proofs.Ascending.{Rising}
-use Rattle.trie_core.specs.Bits.{bits_cmp}
+use Rattle.ipnet_blocks.specs.BitStrings.{bits_cmp}
 use Rattle.trie_core.specs.Nodes.{BitMap}
 use Rattle.trie_core.proofs.Strings.{same, same-Decides, same_false}
 

@@ -1,10 +1,10 @@
 -- A walk over the runs of both families gives the flat list.
-use Rattle.std.proofs.Common.{◌≡◌, ℕ, ◌^◌, ◌<◌, ◌≤◌, ◌⊎◌, inl, inr, ⊎_elim, Bool, List, [], ◌∷◌, ◌++◌, map, Option, Some, None, refl, sym, ap, ◌∙◌, subst, arith, All, length}
+use Rattle.std.proofs.Common.{◌≡◌, ℕ, ◌^◌, ◌<◌, ◌≤◌, ◌⊎◌, inl, inr, ⊎_elim, List, [], ◌∷◌, ◌++◌, map, Option, Some, None, refl, sym, ap, ◌∙◌, subst, arith, All, length}
 use Rattle.std.proofs.lemmas.Bool.{cases_lt}
 use Rattle.ipnet_addr.specs.Addresses.{Family, Ipv4, Ipv6, width, rank, Address}
 use Rattle.ipnet_blocks.specs.Cuts.{cut}
 use Rattle.ipnet_blocks.specs.InnerSpans.{limits_of}
-use Rattle.ipnet.specs.IpNets.{family, network_at}
+use Rattle.ipnet.specs.IpNets.{network_at}
 use Rattle.ipnet.specs.IpSubnets.{ip_cut, ip_limits}
 use Rattle.ipnet.specs.declared.subnets.IpSubnets.{IpSubnets}
 use Rattle.ipnet.specs.IpNets.{block}

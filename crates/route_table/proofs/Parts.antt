@@ -1,5 +1,5 @@
 -- Parts of a walk of a side's map, as parts of the side.
-use Rattle.std.proofs.Common.{◌≡◌, ◌≤◌, inl, inr, Bool, true, false, ◌&&◌, not, cond, List, [], ◌∷◌, ◌++◌, length, filter, map, refl, sym, ap, ◌∙◌, subst}
+use Rattle.std.proofs.Common.{◌≡◌, ◌≤◌, inl, inr, Bool, true, false, ◌&&◌, not, cond, List, [], ◌∷◌, length, filter, map, refl, sym, ap, ◌∙◌, subst}
 use Rattle.std.specs.FinMap.{entries}
 use Rattle.std.specs.FinMap.Entries.{where_key}
 use Rattle.std.specs.Ordering.{is_lt}
@@ -8,44 +8,21 @@ use Rattle.std.specs.declared.cmp.Ordering.TheVariants.{Less, Equal, Greater}
 use Rattle.ipnet_addr.specs.Addresses.{Family, Ipv4, Ipv6, width, same_family}
 use Rattle.ipnet_addr.proofs.Members.{In}
 use Rattle.ipnet_addr.proofs.Ascending.{All-from_In}
-use Rattle.ipnet_blocks.specs.Blocks.{Block, IsBlock, IsInside, Begins, is_before, is_inside, bit_string}
+use Rattle.ipnet_blocks.specs.Blocks.{Block, IsBlock, is_before, is_inside, bit_string}
 use Rattle.ipnet_blocks.proofs.BlockTests.{before_from_test, test_from_before}
 use Rattle.ipnet_blocks.proofs.Order.{order_of_strings}
 use Rattle.ipnet_blocks.proofs.Strings.{begins_from_inside, inside_from_begins}
 use Rattle.trie_core.specs.Nodes.{BitMap}
-use Rattle.trie_core.specs.Bits.{begins, bits_cmp, is_from}
+use Rattle.trie_core.specs.Bits.{is_from}
+use Rattle.ipnet_blocks.specs.BitStrings.{begins, bits_cmp}
 use Rattle.route_table.specs.Tables.{Route, covering, routes_inside}
 use Rattle.route_table.specs.InnerSides.{route_at, routes_in, block_at, IsStored}
 use Rattle.route_table.specs.InnerEntries.{KeysUpTo}
 use Rattle.route_table.specs.Onwards.{routes_from, routes_after}
 use Rattle.route_table.specs.declared.hop.Hop.{Hop}
 use Rattle.route_table.proofs.Matches.{bools_same, In-from_filter, inside_from_test, test_from_inside}
-use Rattle.route_table.proofs.Strings.{string_of_block, block_at_is_block, earlier, less_from_earlier}
+use Rattle.route_table.proofs.Strings.{string_of_block, block_at_is_block}
 use Rattle.route_table.proofs.Entries.{get_of}
-
--- ---- the test of a beginning
-
-begins_from_test : (s t : List Bool) → begins s t ≡ true → Begins s t
-begins_from_test [] t e = (t, refl)
-begins_from_test (a ∷ s) [] e = absurd (cc)
-begins_from_test (true ∷ s) (true ∷ t) e = let r = begins_from_test s t e in (r.0, ap (λ xs. true ∷ xs) r.1)
-begins_from_test (false ∷ s) (false ∷ t) e = let r = begins_from_test s t e in (r.0, ap (λ xs. false ∷ xs) r.1)
-begins_from_test (true ∷ s) (false ∷ t) e = absurd (cc)
-begins_from_test (false ∷ s) (true ∷ t) e = absurd (cc)
-
-begins_more : (s rest : List Bool) → begins s (s ++ rest) ≡ true
-begins_more [] rest = refl
-begins_more (true ∷ s) rest = begins_more s rest
-begins_more (false ∷ s) rest = begins_more s rest
-
-test_from_begins : (s t : List Bool) → Begins s t → begins s t ≡ true
-test_from_begins s t b = ap (begins s) b.1 ∙ begins_more s b.0
-
-pub inside_from_bits : (a b : Block) → IsBlock a → IsBlock b → a.family ≡ b.family → begins (bit_string b) (bit_string a) ≡ true → IsInside a b
-inside_from_bits a b p q f e = inside_from_begins a b p q f (begins_from_test (bit_string b) (bit_string a) e)
-
-pub bits_from_inside : (a b : Block) → IsBlock a → IsBlock b → IsInside a b → begins (bit_string b) (bit_string a) ≡ true
-bits_from_inside a b p q h = test_from_begins (bit_string b) (bit_string a) (begins_from_inside a b p q h)
 
 -- ---- the order of blocks, as a test of keys
 
@@ -56,8 +33,8 @@ less_of Greater e = absurd (cc)
 
 before_is : (a b : Block) → IsBlock a → IsBlock b → a.family ≡ b.family → is_before a b ≡ is_lt (bits_cmp (bit_string a) (bit_string b))
 before_is a b p q f = bools_same (is_before a b) (is_lt (bits_cmp (bit_string a) (bit_string b)))
-    (λ t. ap is_lt (less_from_earlier (bit_string a) (bit_string b) ((order_of_strings a b p q f).0 (before_from_test a b t))))
-    (λ t. test_from_before a b ((order_of_strings a b p q f).1 (earlier (bit_string a) (bit_string b) (less_of (bits_cmp (bit_string a) (bit_string b)) t))))
+    (λ t. ap is_lt ((order_of_strings a b p q f).0 (before_from_test a b t)))
+    (λ t. test_from_before a b ((order_of_strings a b p q f).1 (less_of (bits_cmp (bit_string a) (bit_string b)) t)))
 
 pub same_itself : (f : Family) → same_family f f ≡ true
 same_itself Ipv4 = refl
@@ -97,15 +74,15 @@ module _ (n : Block) (okn : IsBlock n) (m : BitMap Hop) (ok : IsStored n.family 
   pub inside_are : routes_inside (routes_in n.family m) n ≡ map (route_at n.family) (filter (λ e. begins (bit_string n) e.0) (entries m))
   inside_are = filter_routes n.family (λ r. is_inside r.block n) (λ e. begins (bit_string n) e.0) (entries m)
       (λ e i. bools_same (is_inside (key_block e) n) (begins (bit_string n) e.0)
-      (λ t. subst (λ s. begins (bit_string n) s ≡ true) (string_of_block n.family e.0) (bits_from_inside (key_block e) n (okb e i) okn (inside_from_test (key_block e) n (okb e i) okn t)))
-      (λ t. test_from_inside (key_block e) n (okb e i) okn (inside_from_bits (key_block e) n (okb e i) okn refl (subst (λ s. begins (bit_string n) s ≡ true) (sym (string_of_block n.family e.0)) t))))
+      (λ t. subst (λ s. begins (bit_string n) s ≡ true) (string_of_block n.family e.0) (begins_from_inside (key_block e) n (okb e i) okn (inside_from_test (key_block e) n (okb e i) okn t)))
+      (λ t. test_from_inside (key_block e) n (okb e i) okn (inside_from_begins (key_block e) n (okb e i) okn refl (subst (λ s. begins (bit_string n) s ≡ true) (sym (string_of_block n.family e.0)) t))))
 
   -- the routes that contain n are the entries whose keys begin n's string
   pub covering_are : covering (routes_in n.family m) n ≡ map (route_at n.family) (filter (λ e. begins e.0 (bit_string n)) (entries m))
   covering_are = filter_routes n.family (λ r. is_inside n r.block) (λ e. begins e.0 (bit_string n)) (entries m)
       (λ e i. bools_same (is_inside n (key_block e)) (begins e.0 (bit_string n))
-      (λ t. subst (λ s. begins s (bit_string n) ≡ true) (string_of_block n.family e.0) (bits_from_inside n (key_block e) okn (okb e i) (inside_from_test n (key_block e) okn (okb e i) t)))
-      (λ t. test_from_inside n (key_block e) okn (okb e i) (inside_from_bits n (key_block e) okn (okb e i) refl (subst (λ s. begins s (bit_string n) ≡ true) (sym (string_of_block n.family e.0)) t))))
+      (λ t. subst (λ s. begins s (bit_string n) ≡ true) (string_of_block n.family e.0) (begins_from_inside n (key_block e) okn (okb e i) (inside_from_test n (key_block e) okn (okb e i) t)))
+      (λ t. test_from_inside n (key_block e) okn (okb e i) (inside_from_begins n (key_block e) okn (okb e i) refl (subst (λ s. begins s (bit_string n) ≡ true) (sym (string_of_block n.family e.0)) t))))
 
   -- the routes from n on, or after it, are the entries with such keys
   pub onwards_are : (inclusive : Bool) → cond inclusive (routes_from (routes_in n.family m) n) (routes_after (routes_in n.family m) n) ≡ map (route_at n.family) (filter (λ e. is_from (bit_string n) inclusive e.0) (entries m))

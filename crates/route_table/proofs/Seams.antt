@@ -2,18 +2,19 @@
 use Rattle.std.proofs.Common.{◌≡◌, inl, inr, ⊎_elim, Bool, List, [], ◌∷◌, length, ◌≤◌, map, Some, refl, sym, ap, ◌∙◌, subst}
 use Rattle.std.specs.FinMap.{empty, entries, entries_sorted, get, get-empty}
 use Rattle.ipnet_addr.specs.Addresses.{Family, width}
-use Rattle.ipnet_blocks.specs.Blocks.{IsBlock, IsBefore, IsStringBefore, bit_string}
+use Rattle.std.specs.declared.cmp.Ordering.TheVariants.{Less}
+use Rattle.ipnet_blocks.specs.BitStrings.{bits_cmp}
+use Rattle.ipnet_blocks.specs.Blocks.{IsBlock, IsBefore, bit_string}
 use Rattle.ipnet_addr.proofs.Members.{In}
-use Rattle.ipnet_addr.proofs.Ascending.{Rising, In-from_All, All-from_In, pairs_from_Rising, same_rising, Rising-from_pairs}
+use Rattle.ipnet_addr.proofs.Ascending.{Rising, All-from_In, pairs_from_Rising, same_rising, Rising-from_pairs}
 use Rattle.ipnet_blocks.proofs.BlockLaws.{strict}
 use Rattle.ipnet_blocks.proofs.Order.{order_of_strings}
 use Rattle.route_table.specs.Tables.{Route, IsTable, IsHop}
 use Rattle.route_table.specs.declared.hop.Hop.{Hop}
 use Rattle.route_table.proofs.Updates.{Sooner}
-use Rattle.trie_core.specs.Bits.{bits_cmp}
 use Rattle.trie_core.specs.Nodes.{BitMap}
 use Rattle.route_table.specs.InnerSides.{block_at, route_at, routes_in, IsStored, IsSide}
-use Rattle.route_table.proofs.Strings.{string_of_block, block_at_is_block, block_of_string, earlier}
+use Rattle.route_table.proofs.Strings.{string_of_block, block_at_is_block, block_of_string}
 use Rattle.route_table.proofs.Entries.{KeysRise, rising, in_entries, get_of}
 
 in_map : (f : Family) (es : List (List Bool × Hop)) (e : List Bool × Hop) → In e es → In (route_at f e) (map (route_at f) es)
@@ -51,8 +52,8 @@ module _ (f : Family) (m : BitMap Hop) (ok : IsStored f m) where
     (λ r i. let t = in_from_map f es r i in
         subst (λ (s : Route). IsBefore (block_at f e.0) s.block) (sym t.2)
         ((order_of_strings (block_at f e.0) (block_at f t.0.0) (block_at_is_block f e.0 (w e (inl refl))) (block_at_is_block f t.0.0 (w t.0 (inr t.1))) refl).1
-        (subst (λ s. IsStringBefore s (bit_string (block_at f t.0.0))) (sym (string_of_block f e.0))
-        (subst (λ s. IsStringBefore e.0 s) (sym (string_of_block f t.0.0)) (earlier e.0 t.0.0 (h.0 t.0 t.1)))))),
+        (subst (λ s. bits_cmp s (bit_string (block_at f t.0.0)) ≡ Less) (sym (string_of_block f e.0))
+        (subst (λ s. bits_cmp e.0 s ≡ Less) (sym (string_of_block f t.0.0)) (h.0 t.0 t.1))))),
     routes_rise es (λ d i. w d (inr i)) h.1,
   )
 

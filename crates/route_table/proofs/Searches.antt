@@ -1,11 +1,12 @@
 -- The longest beginning that is a key is the longest match.
-use Rattle.std.proofs.Common.{◌≡◌, ℕ, zero, suc, ◌≤◌, ◌<◌, List, [], ◌∷◌, ◌++◌, length, take, Option, Some, None, refl, sym, ap, ◌∙◌, arith}
+use Rattle.std.proofs.Common.{◌≡◌, ◌≤◌, ◌<◌, List, length, take, Option, Some, None, refl, sym, ap, ◌∙◌, subst, true, arith}
 use Rattle.std.specs.FinMap.{get}
-use Rattle.std.specs.Prelude.{Bool}
 use native.Mathlib.Decide.{dec_le}
 use Rattle.ipnet_blocks.specs.Blocks.{Block, IsBlock, IsInside, bit_string}
 use Rattle.ipnet_addr.proofs.Ascending.{In-from_Contains, Contains-from_In}
 use Rattle.ipnet_blocks.proofs.BlockLaws.{numbers_from_inside}
+use Rattle.ipnet_blocks.specs.BitStrings.{begins}
+use Rattle.ipnet_blocks.proofs.BitStrings.{begins_take, take_begins}
 use Rattle.ipnet_blocks.proofs.Strings.{length-digits, begins_from_inside, inside_from_begins}
 use Rattle.route_table.specs.Tables.{Route, match_of}
 use Rattle.route_table.specs.declared.hop.Hop.{Hop}
@@ -14,15 +15,6 @@ use Rattle.trie_core.specs.Search.{NoBeginning, IsLongest}
 use Rattle.trie_core.specs.Nodes.{BitMap}
 use Rattle.route_table.specs.InnerSides.{IsStored, routes_in}
 use Rattle.route_table.proofs.Seams.{HasRoute, has_route, in_side, is_side}
-
-take_append : (xs ys : List Bool) → take (length xs) (xs ++ ys) ≡ xs
-take_append [] ys = refl
-take_append (x ∷ xs) ys = ap (λ zs. x ∷ zs) (take_append xs ys)
-
-take_rest : (n : ℕ) (xs : List Bool) → (rest : List Bool) × (xs ≡ take n xs ++ rest)
-take_rest zero xs = (xs, refl)
-take_rest (suc n) [] = ([], refl)
-take_rest (suc n) (x ∷ xs) = let t = take_rest n xs in (t.0, ap (λ zs. x ∷ zs) t.1)
 
 module _ (n : Block) (okn : IsBlock n) (m : BitMap Hop) (ok : IsStored n.family m) where
   abbrev side : List Route
@@ -35,7 +27,7 @@ module _ (n : Block) (okn : IsBlock n) (m : BitMap Hop) (ok : IsStored n.family 
       let k = numbers_from_inside n r.block okn h.block i in
       let l = length-digits r.block.len r.block.quotient in
       let e = length-digits n.len n.quotient in
-      let t : take r.block.len (bit_string n) ≡ bit_string r.block = ap (λ s. take r.block.len s) b.1 ∙ ap (λ x. take x (bit_string r.block ++ b.0)) (sym l) ∙ take_append (bit_string r.block) b.0 in
+      let t : take r.block.len (bit_string n) ≡ bit_string r.block = ap (λ k. take k (bit_string n)) (sym l) ∙ (begins_take (bit_string r.block) (bit_string n) b).1 in
       ((let g = k.long in omega arith), ap (get m) t ∙ h.stored)
 
   pub no_match_at : NoBeginning m (bit_string n) → match_of side n ≡ None
@@ -52,7 +44,7 @@ module _ (n : Block) (okn : IsBlock n) (m : BitMap Hop) (ok : IsStored n.family 
   match_at b k okb f s longest = match_from side (is_side n.family m ok).table n okn (record { block = b; hop = k }) (record {
     member = Contains-from_In side (record { block = b; hop = k }) (in_side n.family m ok (record { block = b; hop = k })
         (record { family = f; block = okb; stored = ap (get m) s ∙ longest.found }));
-    holds = inside_from_begins n b okn okb (sym f) (let t = take_rest b.len (bit_string n) in (t.0, t.1 ∙ ap (λ x. x ++ t.0) (sym s)));
+    holds = inside_from_begins n b okn okb (sym f) (subst (λ k. begins k (bit_string n) ≡ true) (sym s) (take_begins b.len (bit_string n)));
     longest = λ r c i.
         let a = at_beginning r (has_route n.family m ok r (In-from_Contains side r c)) i in
         go r a (dec_le r.block.len b.len);

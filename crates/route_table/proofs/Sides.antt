@@ -8,7 +8,7 @@ use Rattle.ipnet_addr.specs.Addresses.{Family, Ipv4, Ipv6, rank, same_family}
 use Rattle.ipnet_addr.proofs.Members.{In, In-cases}
 use Rattle.ipnet_addr.proofs.Ascending.{In-from_All, All-from_In, Rising-from_pairs, pairs_from_Rising}
 use Rattle.ipnet_blocks.specs.Blocks.{Block, IsBlock, bit_string, first, is_before, is_inside, same_block}
-use Rattle.trie_core.specs.Bits.{bits_cmp}
+use Rattle.ipnet_blocks.specs.BitStrings.{bits_cmp}
 use Rattle.route_table.specs.Tables.{Route, IsHop, IsTable, covering, is_stored, longest, match_of, with_route, without_block, routes_inside}
 use Rattle.route_table.specs.InnerSides.{IsSide}
 use Rattle.route_table.specs.Onwards.{count_of, routes_from, routes_after}

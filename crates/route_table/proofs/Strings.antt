@@ -1,13 +1,12 @@
 -- Bit strings and the blocks that they name.
-use Rattle.std.proofs.Common.{◌≡◌, ◌-◌, ◌*◌, ◌^◌, ◌<◌, ◌≤◌, Bool, true, false, List, [], ◌∷◌, length, refl, sym, ap, ◌∙◌, subst}
+use Rattle.std.proofs.Common.{◌≡◌, ◌-◌, ◌*◌, ◌^◌, ◌<◌, ◌≤◌, Bool, List, length, refl, sym, ap, ◌∙◌, subst}
 use Rattle.std.proofs.Math.Nat.{mod-eq_of_lt}
-use Rattle.std.specs.declared.cmp.Ordering.TheVariants.{Less}
 use Rattle.ipnet_addr.specs.Addresses.{Family, width}
-use Rattle.ipnet_blocks.specs.Blocks.{Block, IsBlock, digits, bit_string, IsStringBefore}
+use Rattle.ipnet_blocks.specs.Blocks.{Block, IsBlock, digits, bit_string}
 use Rattle.ipnet_blocks.specs.Networks.{net_of}
 use Rattle.ipnet_blocks.proofs.BlockLaws.{block_path}
 use Rattle.ipnet_blocks.proofs.Strings.{length-digits, digits_apart}
-use Rattle.trie_core.specs.Bits.{bits_cmp, number_from}
+use Rattle.trie_core.specs.Bits.{number_from}
 use Rattle.trie_core.proofs.Numbers.{number_bound, number-digits}
 use Rattle.trie_core.proofs.Longer.{own_digits}
 use Rattle.route_table.specs.InnerSides.{block_at}
@@ -37,23 +36,3 @@ network_of_string f s h =
     let v = number_from n s in
     let e : number_from (width f) s ≡ v * 2 ^ (width f - n) = ap (number_from (width f)) (sym (own_digits s)) ∙ number-digits (width f) n v h ∙ ap (λ m. m * 2 ^ (width f - n)) (mod-eq_of_lt (number_bound n s)) in
     λ i. record { number = e i; len = n }
-
--- ---- the order of keys
-
-pub earlier : (s t : List Bool) → bits_cmp s t ≡ Less → IsStringBefore s t
-earlier [] [] e = absurd (cc)
-earlier [] (b ∷ t) e = tt
-earlier (a ∷ s) [] e = absurd (cc)
-earlier (false ∷ s) (true ∷ t) e = tt
-earlier (true ∷ s) (false ∷ t) e = absurd (cc)
-earlier (false ∷ s) (false ∷ t) e = earlier s t e
-earlier (true ∷ s) (true ∷ t) e = earlier s t e
-
-pub less_from_earlier : (s t : List Bool) → IsStringBefore s t → bits_cmp s t ≡ Less
-less_from_earlier [] [] e = absurd e
-less_from_earlier [] (b ∷ t) e = refl
-less_from_earlier (a ∷ s) [] e = absurd e
-less_from_earlier (false ∷ s) (true ∷ t) e = refl
-less_from_earlier (true ∷ s) (false ∷ t) e = absurd e
-less_from_earlier (false ∷ s) (false ∷ t) e = less_from_earlier s t e
-less_from_earlier (true ∷ s) (true ∷ t) e = less_from_earlier s t e

@@ -1,9 +1,7 @@
 -- What one change makes of the runs that are left.
-use Rattle.std.proofs.Common.{◌≡◌, ℕ, ◌+◌, ◌-◌, ◌*◌, ◌^◌, ◌<◌, ◌≤◌, inl, ⊎_elim, Bool, false, cond, List, [], ◌∷◌, ◌++◌, length, map, Option, Some, None, refl, sym, ap, ◌∙◌, subst, arith, length-append}
+use Rattle.std.proofs.Common.{◌≡◌, ℕ, ◌+◌, ◌-◌, ◌*◌, ◌<◌, ◌≤◌, inl, ⊎_elim, Bool, false, cond, List, [], ◌∷◌, ◌++◌, length, map, Option, Some, None, refl, sym, ap, ◌∙◌, subst, arith, length-append}
 use Rattle.std.specs.List.{slice_get}
 use Rattle.std.proofs.lemmas.Bool.{cases_lt}
-use Rattle.ipnet.specs.IpNets.{family}
-use Rattle.ipnet_addr.specs.Addresses.{width}
 use Rattle.ipnet_blocks.specs.declared.aggregate.Span.{Span}
 use Rattle.route_table.specs.declared.runs.Reach.{Reach}
 use Rattle.route_table.specs.declared.runs.Run.{Run}

@@ -2,7 +2,7 @@
 use Rattle.std.proofs.Common.{◌≡◌, ◌≤◌, Bool, List, ◌∷◌, [], length, map, Option, Some, None, refl, sym, ap, ◌∙◌, subst, inl, inr}
 use Rattle.std.specs.Borrow.{Bor}
 use Rattle.std.specs.Option.{option_map}
-use Rattle.ipnet_addr.specs.Addresses.{Family, Ipv4, Ipv6, width}
+use Rattle.ipnet_addr.specs.Addresses.{Family, width}
 use Rattle.ipnet_addr.proofs.Members.{In}
 use Rattle.ipnet_addr.proofs.Ascending.{In-from_All, All-from_In}
 use Rattle.ipnet_blocks.specs.Networks.{Network}

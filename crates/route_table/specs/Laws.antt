@@ -3,7 +3,7 @@ use Rattle.std.specs.Prelude.{◌≡◌, ◌≢◌, ◌⊎◌, false, [], ◌∷
 use Rattle.std.specs.List.{flat_map}
 use Rattle.ipnet_addr.specs.Addresses.{Family, Address, IsAddress, same_family}
 use Rattle.ipnet_blocks.specs.Blocks.{Block, IsBlock, HasAddress, IsAscending, has_address, is_inside, host}
-use Rattle.ipnet_blocks.specs.Maximal.{IsMaximal, IsUnion, maximal_of}
+use Rattle.ipnet_blocks.specs.Maximal.{IsMaximal, IsUnion, IsShortest, maximal_of}
 use Rattle.route_table.specs.Tables.{Route, IsTable, IsMatch, IsHop, is_stored, longer, match_of, match_number, hop_at, number_of, Governed, Changed, with_route, without_block}
 use Rattle.route_table.specs.Flats.{Piece, IsFlat, IsAdmissible, blocks_of, flat_of}
 use Rattle.route_table.specs.Changes.{changed, with_pieces}
@@ -66,7 +66,7 @@ ChangedIsMaximal = (M N : List Route) → IsMaximal (Changed M N) (maximal_of (c
 
 -- no list of blocks with those addresses is shorter, and an ascending one as short is that one
 abbrev pub ChangedIsShortest : Type 0
-ChangedIsShortest = (M N : List Route) (bs : List Block) → IsUnion (Changed M N) bs → length (maximal_of (changed M N)) ≤ length bs
+ChangedIsShortest = (M N : List Route) → IsShortest (Changed M N) (maximal_of (changed M N))
 
 abbrev pub ShortestIsChanged : Type 0
 ShortestIsChanged = (M N : List Route) (bs : List Block) → IsUnion (Changed M N) bs → IsAscending bs → length bs ≤ length (maximal_of (changed M N)) → maximal_of (changed M N) ≡ bs

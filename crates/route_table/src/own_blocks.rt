@@ -1,7 +1,7 @@
 //! The blocks of one hop number, made from what the routes of that number govern.
 ghost use Rattle.std.specs.Prelude.{◌≡◌, ◌==◌, ◌++◌, ◌⊎◌, map, filter, All, IfOk, IfErr, OnOk, Some};
 ghost use Rattle.ipnet.specs.IpNets.{block, family, parts};
-ghost use Rattle.ipnet_blocks.specs.Maximal.{IsMaximal};
+ghost use Rattle.ipnet_blocks.specs.Maximal.{IsMaximal, IsShortest};
 ghost use Rattle.ipnet_blocks.specs.Networks.{IsTruncated};
 ghost use Rattle.route_table.specs.Flats.{blocks_of, flat_of};
 ghost use Rattle.route_table.specs.InnerOwning.{GrowsBy, IsOwned, Owns};
@@ -28,13 +28,14 @@ fn push_blocks(networks: &mut Vec<IpNet>, blocks: Governed<'_>) -> Result<(), Al
 
 impl RouteTable {
     /// The blocks that `flat` gives this number, ascending: the maximal blocks of the addresses with this hop, as
-    /// networks without host bits. They are made another way than `flat` makes them: from what the networks with this
-    /// hop govern.
+    /// networks without host bits; no list of blocks with these addresses is shorter. They are made another way than
+    /// `flat` makes them: from what the networks with this hop govern.
     ///
     /// # Errors
     /// `Memory` where there is none for the list.
     pub fn own(&self, number: u32) -> Result<Vec<IpNet>, Refused>
         ensures maximal { IfOk result (λ v. IsMaximal (λ x. hop_at self.now x ≡ Some number) (map block v.items)) }
+        ensures shortest { IfOk result (λ v. IsShortest (λ x. hop_at self.now x ≡ Some number) (map block v.items)) }
         ensures flat { IfOk result (λ v. map block v.items ≡ blocks_of (filter (λ p. p.number == number) (flat_of (hop_at self.now)))) }
         ensures truncated { IfOk result (λ v. All (λ n. IsTruncated (family n) (parts n)) v.items) }
         ensures memory { IfErr result (λ e. e ≡ Memory) }
@@ -48,6 +49,7 @@ impl RouteTable {
     /// The same, with the allocator's own refusal.
     fn owned(&self, number: u32) -> Result<Vec<IpNet>, AllocError>
         ensures maximal { IfOk result (λ v. IsMaximal (λ x. hop_at self.now x ≡ Some number) (map block v.items)) }
+        ensures shortest { IfOk result (λ v. IsShortest (λ x. hop_at self.now x ≡ Some number) (map block v.items)) }
         ensures flat { IfOk result (λ v. map block v.items ≡ blocks_of (filter (λ p. p.number == number) (flat_of (hop_at self.now)))) }
         ensures truncated { IfOk result (λ v. All (λ n. IsTruncated (family n) (parts n)) v.items) }
     {

@@ -4,7 +4,7 @@ ghost use Rattle.std.specs.Option.{option_map};
 ghost use Rattle.ipnet_addr.specs.Addresses.{Ipv4, Ipv6};
 ghost use Rattle.ipnet_blocks.specs.Blocks.{IsBlock, bit_string};
 ghost use Rattle.ipnet.specs.IpNets.{block, family, parts, network_at};
-ghost use Rattle.ipnet_blocks.specs.Maximal.{IsMaximal};
+ghost use Rattle.ipnet_blocks.specs.Maximal.{IsMaximal, IsShortest};
 ghost use Rattle.trie_core.specs.Count.{nodes, visit_count};
 ghost use Rattle.trie_map.specs.declared.refused.Refused.TheVariants.{Memory};
 ghost use Rattle.route_table.specs.Bounds.{excess};
@@ -135,10 +135,11 @@ impl RouteTable {
     }
 
     /// The maximal blocks of the addresses that the network governs, ascending: its addresses that lie in no stored
-    /// network strictly inside it. There are at most one, and for each stored network strictly inside it, the
-    /// difference of the two lengths less one. It takes no memory.
+    /// network strictly inside it. No list of blocks with these addresses is shorter. There are at most one, and for each
+    /// stored network strictly inside it, the difference of the two lengths less one. It takes no memory.
     pub fn governed(&self, net: &IpNet) -> Governed<'_>
         ensures maximal { IsMaximal (GovernedBy self.now (block net.now)) result }
+        ensures shortest { IsShortest (GovernedBy self.now (block net.now)) result }
         ensures bound { length result ≤ 1 + sum_by (λ r. excess (block net.now) r.block) self.now }
         ensures table { IsTable self.now }
     {

@@ -29,15 +29,15 @@ five_by bits len a true h =
     let l : len < 5 = grind (arith, nat_tests) in
     let q = bits / 2 ^ (128 - len) in
     let e : len + (128 - len) ≡ 128 = omega (arith, l) in
-    let fit : bits / 2 ^ (128 - len) < 2 ^ len = shr_below bits len (128 - len) (subst (λ i. bits < 2 ^ i) (sym e) a.fits) in
+    let fit : bits / 2 ^ (128 - len) < 2 ^ len = shr_below bits len (128 - len) (subst (λ i. bits < 2 ^ i) (sym e) a.masked.below) in
     let low : q % 2 ^ len ≡ q = mod-eq_of_lt fit in
     let f : 5 - len + 123 ≡ 128 - len = omega (arith, l) in
-    let up : bits ≡ q * 2 ^ (5 - len) * 2 ^ 123 = sym a.clear ∙ ap (λ i. q * 2 ^ i) (sym f) ∙ ap (λ n. q * n) (pow-add 2 (5 - len) 123) ∙ sym (mul_assoc q (2 ^ (5 - len)) (2 ^ 123)) in
+    let up : bits ≡ q * 2 ^ (5 - len) * 2 ^ 123 = sym a.masked.clear ∙ ap (λ i. q * 2 ^ i) (sym f) ∙ ap (λ n. q * n) (pow-add 2 (5 - len) 123) ∙ sym (mul_assoc q (2 ^ (5 - len)) (2 ^ 123)) in
     number-digits 5 len q (omega (arith, l)) ∙ ap (λ n. n * 2 ^ (5 - len)) low ∙ sym (shl-shr (q * 2 ^ (5 - len)) 123) ∙ ap (λ n. n / 2 ^ 123) (sym up)
 five_by bits len a false h =
     let l : 5 ≤ len = grind (arith, nat_tests) in
     let e : 128 - len + (len - 5) ≡ 123 = omega (arith, l, a.short) in
-    let fit : bits / 2 ^ 123 < 2 ^ 5 = shr_below bits 5 123 a.fits in
+    let fit : bits / 2 ^ 123 < 2 ^ 5 = shr_below bits 5 123 a.masked.below in
     number-long 5 len (bits / 2 ^ (128 - len)) l ∙ ap (λ n. n % 2 ^ 5) (shr-shr bits (128 - len) (len - 5) ∙ ap (λ i. bits / 2 ^ i) e) ∙ omega (arith, fit)
 
 -- the first five bits
@@ -52,7 +52,7 @@ moved bits len a l =
     let k = 128 - (len - 5) in
     let e : 128 - len + 5 ≡ 128 - (len - 5) = omega (arith, l, a.short) in
     let f : len - 5 + (128 - (len - 5)) ≡ 128 = omega (arith, l, a.short) in
-    let up : bits * 2 ^ 5 ≡ q * 2 ^ k = ap (λ n. n * 2 ^ 5) (sym a.clear) ∙ mul_assoc q (2 ^ (128 - len)) (2 ^ 5) ∙ ap (λ n. q * n) (sym (pow-add 2 (128 - len) 5)) ∙ ap (λ i. q * 2 ^ i) e in
+    let up : bits * 2 ^ 5 ≡ q * 2 ^ k = ap (λ n. n * 2 ^ 5) (sym a.masked.clear) ∙ mul_assoc q (2 ^ (128 - len)) (2 ^ 5) ∙ ap (λ n. q * n) (sym (pow-add 2 (128 - len) 5)) ∙ ap (λ i. q * 2 ^ i) e in
     ap (λ n. n % 2 ^ 128) up ∙ ap (λ i. q * 2 ^ k % 2 ^ i) (sym f) ∙ mod_up q m k
 
 pub rest_aligned : (bits len : ℕ) → IsAligned bits len → 5 ≤ len → IsAligned (bits * 2 ^ 5 % 2 ^ 128) (len - 5)
@@ -62,8 +62,10 @@ rest_aligned bits len a l =
     let z = moved bits len a l in
     record {
       short = omega (arith, a.short);
-      fits = mod_below (bits * 2 ^ 5) (2 ^ 128) (pow_pos 128);
-      clear = ap (λ n. n / 2 ^ k * 2 ^ k) z ∙ ap (λ n. n * 2 ^ k) (shl-shr (q % 2 ^ (len - 5)) k) ∙ sym z;
+      masked = record {
+        below = mod_below (bits * 2 ^ 5) (2 ^ 128) (pow_pos 128);
+        clear = ap (λ n. n / 2 ^ k * 2 ^ k) z ∙ ap (λ n. n * 2 ^ k) (shl-shr (q % 2 ^ (len - 5)) k) ∙ sym z;
+      };
     }
 
 pub rest : {bs : List Bool} (bits len : ℕ) → IsAligned bits len → 5 ≤ len → digits len (bits / 2 ^ (128 - len)) ≡ bs → digits (len - 5) (bits * 2 ^ 5 % 2 ^ 128 / 2 ^ (128 - (len - 5))) ≡ drop 5 bs
@@ -89,20 +91,19 @@ extended_by bits len b a l h =
     let k = 128 - (len + 1) in
     let e : 128 - len ≡ 1 + (128 - (len + 1)) = omega (arith, l) in
     let p : 2 ^ (128 - len) ≡ 2 * 2 ^ (128 - (len + 1)) = ap (λ i. 2 ^ i) e ∙ pow-add 2 1 (128 - (len + 1)) in
-    let w : bits ≡ q * 2 * 2 ^ k = sym a.clear ∙ ap (λ n. q * n) p ∙ sym (mul_assoc q 2 (2 ^ k)) in
+    let w : bits ≡ q * 2 * 2 ^ k = sym a.masked.clear ∙ ap (λ n. q * n) p ∙ sym (mul_assoc q 2 (2 ^ k)) in
     let s : bits + b * 2 ^ k ≡ (q * 2 + b) * 2 ^ k = ap (λ n. n + b * 2 ^ k) w ∙ sym (add-mul (q * 2) b (2 ^ k)) in
     let d : (bits + b * 2 ^ k) / 2 ^ k ≡ q * 2 + b = ap (λ n. n / 2 ^ k) s ∙ shl-shr (q * 2 + b) k in
     let f : len + 1 + (128 - (len + 1)) ≡ 128 = omega (arith, l) in
     let g : len + (128 - len) ≡ 128 = omega (arith, l) in
-    let small : q < 2 ^ len = shr_below bits len (128 - len) (subst (λ i. bits < 2 ^ i) (sym g) a.fits) in
+    let small : q < 2 ^ len = shr_below bits len (128 - len) (subst (λ i. bits < 2 ^ i) (sym g) a.masked.below) in
     let big : 2 ^ (len + 1) ≡ 2 ^ len * 2 ^ 1 = pow-add 2 len 1 in
     let fits : (q * 2 + b) * 2 ^ k < 2 ^ (len + 1) * 2 ^ k = mul-lt-mul_of_pos_right (omega (arith, small, big, h)) (pow_pos k) in
     let whole : 2 ^ (len + 1) * 2 ^ k ≡ 2 ^ 128 = sym (pow-add 2 (len + 1) k) ∙ ap (λ i. 2 ^ i) f in
     record {
       aligned = record {
         short = omega (arith, l);
-        fits = omega (arith, s, fits, whole);
-        clear = ap (λ n. n * 2 ^ k) d ∙ sym s;
+        masked = record { below = omega (arith, s, fits, whole); clear = ap (λ n. n * 2 ^ k) d ∙ sym s };
       };
       quotient = omega (arith, d);
     }

@@ -9,7 +9,7 @@ use Rattle.std.specs.FinMap.{find, get, put, empty, len, empty_of_len}
 use Rattle.std.specs.FinMap as map
 use Rattle.std.specs.FinMap.Entries.{by_order}
 use Rattle.std.proofs.Math.ListN.{length-drop}
-use Rattle.trie_core.specs.Bits.{bits_cmp}
+use Rattle.ipnet_blocks.specs.BitStrings.{bits_cmp}
 use Rattle.trie_core.specs.InnerPlaces.{place_of, child_of, child_string, at_places, without, named, child_list, IsSlot, IsUnset}
 use Rattle.trie_core.specs.Nodes.{BitMap, Seen}
 use Rattle.trie_core.specs.InnerNodes.{node_height, child_map, HasSlots}
@@ -22,7 +22,7 @@ use Rattle.trie_core.proofs.Numbers.{number_bound}
 use Rattle.trie_core.proofs.Taken.{IsTaken, taken, missing}
 use Rattle.trie_core.proofs.Named.{is_node, child_things, child_found, value_put_in, value_taken_out, child_put_in, child_taken_out}
 use Rattle.trie_core.proofs.Marks.{marked_get, set-same}
-use Rattle.trie_core.proofs.Seen.{IsSeen, map_of, viewed, counted, spares_counted, total-set, height-set, height-read, below_at, has_no_child}
+use Rattle.trie_core.proofs.Seen.{IsSeen, map_of, viewed, counted, total-set, height-set, height-read, below_at, has_no_child}
 use Rattle.trie_core.proofs.Searches.{no_child_get}
 
 pub set_removed : {Y : Type 0} (xs : List Y) (i : ℕ) (y : Y) → remove (set xs i y) i ≡ remove xs i

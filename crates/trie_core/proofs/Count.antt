@@ -6,7 +6,7 @@ use Rattle.std.specs.FinMap.{entries, find, get, entries_sorted, get-entries, ge
 use Rattle.std.specs.FinMap.Entries.{below_all, same_entries}
 use Rattle.std.proofs.Math.ListN.{length-append, length-take}
 use Rattle.std.proofs.lemmas.List.{take-append-drop}
-use Rattle.trie_core.specs.Bits.{bits_cmp}
+use Rattle.ipnet_blocks.specs.BitStrings.{bits_cmp}
 use Rattle.trie_core.specs.Nodes.{BitMap, Seen}
 use Rattle.trie_core.specs.InnerNodes.{under, node_map, IsNode}
 use Rattle.trie_core.specs.Count.{fives_from, fives, fives_of, begun, nodes}

@@ -3,7 +3,7 @@ use Rattle.std.proofs.Common.{◌≡◌, ℕ, zero, suc, ◌+◌, ◌-◌, ◌<�
 use Rattle.std.specs.Prelude.{cond, Option, None, is_some}
 use Rattle.std.specs.FinMap.{len, get, empty_of_len, get-empty, len-remove}
 use Rattle.std.specs.FinMap as map
-use Rattle.trie_core.specs.Bits.{bits_cmp}
+use Rattle.ipnet_blocks.specs.BitStrings.{bits_cmp}
 use Rattle.trie_core.proofs.Strings.{bits_total}
 use Rattle.trie_core.specs.InnerPlaces.{value_list}
 use Rattle.trie_core.specs.Nodes.{BitMap, Seen}

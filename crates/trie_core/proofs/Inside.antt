@@ -5,17 +5,18 @@ use Rattle.std.specs.FinMap.{get, len, empty, find, get-empty, get-remove, get-r
 use Rattle.std.specs.FinMap as map
 use Rattle.std.proofs.lemmas.Bool.Decides.{nat_tests}
 use Rattle.std.proofs.Math.ListN.{length-drop}
-use Rattle.trie_core.specs.Bits.{bits_cmp, begins}
+use Rattle.ipnet_blocks.specs.BitStrings.{bits_cmp, begins}
 use Rattle.trie_core.specs.InnerPlaces.{child_of, IsUnset}
 use Rattle.trie_core.specs.Nodes.{BitMap, Seen}
 use Rattle.trie_core.specs.InnerNodes.{child_map, node_map, node_height, IsNode, HasSlots}
-use Rattle.trie_core.specs.InnerCount.{all_nodes, spare_count, spare_of, entry_count}
+use Rattle.trie_core.specs.InnerCount.{all_nodes, entry_count}
 use Rattle.trie_core.specs.Inside.{outside}
-use Rattle.trie_core.proofs.Strings.{bits_total, bits_same, same, same-Decides, not_same, not_true, begins_take, front, take_take, begins-under}
+use Rattle.trie_core.proofs.Strings.{bits_total, bits_same, same, same-Decides, not_same, not_true, front, take_take}
+use Rattle.ipnet_blocks.proofs.BitStrings.{begins_take, begins-under}
 use Rattle.trie_core.proofs.Maps.{ListChanges, child_get, get-short, get-long}
 use Rattle.trie_core.proofs.Named.{is_node, child_put_in, child_taken_out}
 use Rattle.trie_core.proofs.Taken.{IsTaken, missing}
-use Rattle.trie_core.proofs.Seen.{IsSeen, map_of, viewed, counted, spares_counted, has_no_child, no_items, total-set}
+use Rattle.trie_core.proofs.Seen.{IsSeen, map_of, viewed, counted, has_no_child, no_items, total-set}
 use Rattle.trie_core.proofs.Changes.{was_found, set_slots, total-remove, height-remove}
 use Rattle.trie_core.proofs.Entries.{entries_at, entries_of}
 

@@ -7,7 +7,7 @@ use Rattle.std.specs.declared.cmp.Ordering.TheVariants.{Less, Equal, Greater}
 use Rattle.std.specs.Ordering.{is_eq}
 use Rattle.std.specs.FinMap.{find, get, insert, put, entries, is_sorted, entries_sorted, get-entries, get-insert, from_entries, len}
 use Rattle.std.specs.FinMap.Entries.{by_order, same_entries, find-put, is_sorted-put}
-use Rattle.trie_core.specs.Bits.{bits_cmp}
+use Rattle.ipnet_blocks.specs.BitStrings.{bits_cmp}
 use Rattle.trie_core.specs.Nodes.{BitMap}
 use Rattle.trie_core.specs.Count.{fives, fives_of, begun, nodes}
 use Rattle.trie_core.proofs.Strings.{bits_total, bits_same, same}

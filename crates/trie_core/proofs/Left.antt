@@ -7,14 +7,15 @@ use Rattle.std.proofs.lemmas.Bool.Decides.{nat_tests}
 use Rattle.std.proofs.lemmas.List.{append_assoc}
 use Rattle.std.proofs.Math.Seq.{take-length}
 use Rattle.std.proofs.Math.ListN.{length-append}
-use Rattle.trie_core.specs.Bits.{bits_cmp, begins}
+use Rattle.ipnet_blocks.specs.BitStrings.{bits_cmp, begins}
 use Rattle.trie_core.specs.InnerPlaces.{child_of, child_list, IsUnset}
 use Rattle.trie_core.specs.Nodes.{BitMap, BitSet, Seen}
 use Rattle.trie_core.specs.InnerNodes.{node_map, IsNode, HasSlots, AreBelow}
 use Rattle.trie_core.specs.InnerCount.{spare_count, marked, spare_set}
 use Rattle.trie_core.specs.Inside.{outside}
 use Rattle.trie_core.specs.Ways.{IsIdle, LeadsOff, IsLeft, IsCut}
-use Rattle.trie_core.proofs.Strings.{bits_total, bits_same, same, same-Decides, same-refl, same_false, not_same, no_false, front, take_first, append_none, begins_take, begins-under}
+use Rattle.trie_core.proofs.Strings.{bits_total, bits_same, same, same-Decides, same-refl, same_false, not_same, no_false, front, take_first, append_none}
+use Rattle.ipnet_blocks.proofs.BitStrings.{begins_on, begins_take, begins-under}
 use Rattle.trie_core.proofs.Maps.{ListChanges, drop_first, child_get, get-long}
 use Rattle.trie_core.proofs.Marks.{marked_get, marked-other, marked-root, root_if, set-short, set-long, set-changed}
 use Rattle.trie_core.proofs.Named.{is_node, child_put_in, child_taken_out, child_found}
@@ -264,10 +265,6 @@ module _ {X : Type 0} (lost : List Bool → Bool) where
           (subst (λ o. IsLeftBelow (take 5 q) (drop 5 q) o None) (sym (was_found q e s h t r)) (left_goes lower (take 5 q) (drop 5 q) e d alike left (λ x. no_spare_string d x (drop 5 q) z))))
 
 -- ---- all inside q went
-
--- a string begins with itself, whatever follows
-pub begins_on : (q k : List Bool) → begins q (q ++ k) ≡ true
-begins_on q k = ap (λ w. begins w (q ++ k)) (sym (append_none q)) ∙ begins-under q [] k
 
 -- the only string of five bits or more that begins five bits or fewer
 cut_by : (s q : List Bool) → 5 ≤ length s → length q ≤ 5 → begins s q ≡ true → s ≡ q

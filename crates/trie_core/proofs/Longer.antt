@@ -47,13 +47,13 @@ longer bits n five m a k h l =
     let ef : 5 - m + 123 ≡ 128 - (n + m) + n = omega (arith, l, h) in
     let e5 : m + (5 - m) ≡ 5 = omega (arith, h) in
     let whole : n + m + (128 - (n + m)) ≡ 128 = omega (arith, l) in
-    let qb : bits / 2 ^ (128 - n) < 2 ^ n = shr_below bits n (128 - n) (subst (λ i. bits < 2 ^ i) (sym en) a.fits) in
+    let qb : bits / 2 ^ (128 - n) < 2 ^ n = shr_below bits n (128 - n) (subst (λ i. bits < 2 ^ i) (sym en) a.masked.below) in
     let fb : five / 2 ^ (5 - m) < 2 ^ m = shr_below five m (5 - m) (subst (λ i. five < 2 ^ i) (sym e5) k.below) in
     let low : five * 2 ^ 123 % 2 ^ 128 ≡ five * 2 ^ 123 = let b = k.below in omega (arith, b) in
     let moved : five * 2 ^ 123 ≡ f * 2 ^ e * 2 ^ n =
     ap (λ x. x * 2 ^ 123) (sym k.clear) ∙ mul_assoc f (2 ^ (5 - m)) (2 ^ 123) ∙ ap (λ x. f * x) (sym (pow-add 2 (5 - m) 123) ∙ ap (λ i. 2 ^ i) ef ∙ pow-add 2 e n) ∙ sym (mul_assoc f (2 ^ e) (2 ^ n)) in
     let part : five * 2 ^ 123 % 2 ^ 128 / 2 ^ n ≡ f * 2 ^ e = ap (λ x. x / 2 ^ n) (low ∙ moved) ∙ shl-shr (f * 2 ^ e) n in
-    let top : bits ≡ q * 2 ^ m * 2 ^ e = sym a.clear ∙ ap (λ i. q * 2 ^ i) em ∙ ap (λ x. q * x) (pow-add 2 m e) ∙ sym (mul_assoc q (2 ^ m) (2 ^ e)) in
+    let top : bits ≡ q * 2 ^ m * 2 ^ e = sym a.masked.clear ∙ ap (λ i. q * 2 ^ i) em ∙ ap (λ x. q * x) (pow-add 2 m e) ∙ sym (mul_assoc q (2 ^ m) (2 ^ e)) in
     let sum : bits + five * 2 ^ 123 % 2 ^ 128 / 2 ^ n ≡ (q * 2 ^ m + f) * 2 ^ e = (λ i. top i + part i) ∙ sym (add-mul (q * 2 ^ m) f (2 ^ e)) in
     let small : (q + 1) * 2 ^ m ≤ 2 ^ n * 2 ^ m = let g : q + 1 ≤ 2 ^ n = omega (arith, qb) in mul-le-mul_right (2 ^ m) g in
     let bound : q * 2 ^ m + f + 1 ≤ 2 ^ (n + m) = omega (arith, small, add-mul q 1 (2 ^ m), one-mul (2 ^ m), fb, pow-add 2 n m) in
@@ -63,7 +63,7 @@ longer bits n five m a k h l =
     let back : (q * 2 ^ m + f) * 2 ^ e / 2 ^ e ≡ q * 2 ^ m + f = shl-shr (q * 2 ^ m + f) e in
     rw sum (record {
       fits = fits;
-      aligned = record { short = l; fits = fits; clear = ap (λ x. x * 2 ^ e) back };
+      aligned = record { short = l; masked = record { below = fits; clear = ap (λ x. x * 2 ^ e) back } };
       value = ap (digits (n + m)) back ∙ digits-append n m q f fb;
     })
 

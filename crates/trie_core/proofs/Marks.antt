@@ -4,7 +4,7 @@ use Rattle.std.specs.Prelude.{T, nat_lt, Option, Some, None, is_some}
 use Rattle.std.specs.FinMap.{find, get, remove, len, empty, is_sorted, get-empty, get-insert, get-remove, len-insert, len-empty, same_map}
 use Rattle.std.specs.FinMap.Entries.{below_all}
 use Rattle.std.proofs.lemmas.Bool.Decides.{nat_tests}
-use Rattle.trie_core.specs.Bits.{bits_cmp}
+use Rattle.ipnet_blocks.specs.BitStrings.{bits_cmp}
 use Rattle.trie_core.proofs.Strings.{bits_total, bits_same, same, same-Decides, same-refl, both, T-and}
 use Rattle.trie_core.specs.Nodes.{BitSet, Seen}
 use Rattle.trie_core.specs.InnerNodes.{AreLong, IsNode}

@@ -1,14 +1,12 @@
 -- Numbers of some bits as strings of their first bits.
-use Rattle.std.proofs.Common.{◌≡◌, ℕ, ◌+◌, ◌-◌, ◌*◌, ◌/◌, ◌%◌, ◌^◌, ◌<◌, ◌≤◌, Bool, true, List, length, take, refl, sym, ap, subst, ◌∙◌, arith}
-use Rattle.std.proofs.lemmas.Nat.{pow_pos, pow-add, shl-shr, shr-shr, shr_below, shr_split}
-use Rattle.std.proofs.Math.Nat.{mod-eq_of_lt, pow-le-pow_right, mul-lt-mul_of_pos_right}
-use Rattle.std.proofs.Math.ListN.{length-take}
+use Rattle.std.proofs.Common.{◌≡◌, ℕ, ◌+◌, ◌-◌, ◌*◌, ◌/◌, ◌^◌, ◌<◌, ◌≤◌, length, take, sym, ap, subst, ◌∙◌, arith}
+use Rattle.std.proofs.lemmas.Nat.{shl-shr, shr-shr, shr_below, shr_split}
+use Rattle.std.proofs.Math.Nat.{mod-eq_of_lt}
 use Rattle.ipnet_blocks.specs.Blocks.{digits}
 use Rattle.ipnet_blocks.proofs.Strings.{length-digits}
-use Rattle.trie_core.specs.Bits.{number_from, begins}
+use Rattle.trie_core.specs.Bits.{number_from}
 use Rattle.trie_core.specs.Prefixes.{prefix_bits, IsMasked}
-use Rattle.trie_core.proofs.Numbers.{take-digits, number-digits, number_apart}
-use Rattle.trie_core.proofs.Strings.{begins_take, take_begins}
+use Rattle.trie_core.proofs.Numbers.{take-digits, number-digits}
 
 pub length-prefix_bits : (w r n : ℕ) → length (prefix_bits w r n) ≡ n
 length-prefix_bits w r n = length-digits n (r / 2 ^ (w - n))

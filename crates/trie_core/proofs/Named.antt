@@ -7,7 +7,7 @@ use Rattle.std.specs.Ordering.{nat_cmp, eq_by_cmp, is_eq}
 use Rattle.std.specs.FinMap.{find, put, is_sorted}
 use Rattle.std.specs.FinMap.Entries.{below_all, by_order}
 use Rattle.std.proofs.lemmas.Bool.Decides.{nat_tests}
-use Rattle.trie_core.specs.Bits.{bits_cmp}
+use Rattle.ipnet_blocks.specs.BitStrings.{bits_cmp}
 use Rattle.trie_core.specs.InnerPlaces.{place_of, child_of, place_string, child_string, at_places, AllBelow, without, named, value_list, child_list}
 use Rattle.trie_core.specs.Nodes.{Seen}
 use Rattle.trie_core.specs.InnerNodes.{AreShort, AreLong, IsNode}

@@ -8,7 +8,8 @@ use Rattle.std.proofs.Math.ListN.{length-take}
 use Rattle.std.proofs.Math.Nat.{add-mul, one-mul, zero-mul, zero-add}
 use Rattle.ipnet_blocks.specs.Blocks.{digits}
 use Rattle.ipnet_blocks.proofs.Strings.{length-digits, digits_front}
-use Rattle.trie_core.specs.Bits.{bits_cmp, number_from}
+use Rattle.trie_core.specs.Bits.{number_from}
+use Rattle.ipnet_blocks.specs.BitStrings.{bits_cmp}
 use Rattle.trie_core.specs.InnerPlaces.{place_from, place_of, child_of, place_at, place_string, child_string}
 use Rattle.trie_core.proofs.Strings.{take_front}
 

@@ -5,7 +5,8 @@ use Rattle.std.specs.Ordering.{is_lt}
 use Rattle.std.specs.Int.{bit_at}
 use Rattle.std.proofs.lemmas.Bool.Decides.{nat_tests}
 use Rattle.std.proofs.Math.ListN.{length-take}
-use Rattle.trie_core.specs.Bits.{bits_cmp, begins, number_from, is_from}
+use Rattle.trie_core.specs.Bits.{number_from, is_from}
+use Rattle.ipnet_blocks.specs.BitStrings.{bits_cmp, begins}
 use Rattle.trie_core.specs.InnerPlaces.{place_from, place_of, child_of, place_string, IsBeginMask}
 use Rattle.trie_core.specs.InnerWalks.{is_past}
 use Rattle.trie_core.proofs.Strings.{both, take_take, T-true}

@@ -16,7 +16,7 @@ use Rattle.trie_core.specs.Count.{node_visits}
 use Rattle.trie_core.specs.Search.{NoBeginning, IsLongest, IsShortest}
 use Rattle.trie_core.specs.InnerSearch.{NoneBelow, IsLongestBelow, IsChild, HasNoChild}
 use Rattle.trie_core.proofs.Numbers.{place_strings}
-use Rattle.trie_core.proofs.Strings.{begins_take, take_begins}
+use Rattle.ipnet_blocks.proofs.BitStrings.{begins_take, take_begins}
 use Rattle.trie_core.proofs.Taken.{taken, missing}
 use Rattle.trie_core.proofs.Seen.{IsSeen, value_at}
 

@@ -5,13 +5,14 @@ use Rattle.std.specs.FinMap.{get, len, find}
 use Rattle.std.specs.FinMap as map
 use Rattle.std.proofs.lemmas.List.{append_assoc}
 use Rattle.std.proofs.Math.ListN.{length-append}
-use Rattle.trie_core.specs.Bits.{bits_cmp, begins}
+use Rattle.ipnet_blocks.specs.BitStrings.{bits_cmp, begins}
 use Rattle.trie_core.specs.InnerPlaces.{child_of, child_list}
 use Rattle.trie_core.specs.Nodes.{BitMap, BitSet, Seen}
 use Rattle.trie_core.specs.InnerNodes.{node_map, IsNode}
 use Rattle.trie_core.specs.InnerCount.{marked, spare_set}
 use Rattle.trie_core.specs.Ways.{IsIdle, IsKept}
-use Rattle.trie_core.proofs.Strings.{same, no_false, front, begins_take}
+use Rattle.trie_core.proofs.Strings.{same, no_false, front}
+use Rattle.ipnet_blocks.proofs.BitStrings.{begins_take}
 use Rattle.trie_core.proofs.Maps.{ListChanges, child_get, remove_absent}
 use Rattle.trie_core.proofs.Marks.{marked_get, marked-other, marked-root, root_if, set-short, set-long, set-changed}
 use Rattle.trie_core.proofs.Named.{is_node, child_put_in}

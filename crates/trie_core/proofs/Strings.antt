@@ -1,5 +1,5 @@
 -- Bit strings: when two are equal, which is the first, and what a beginning is.
-use Rattle.std.proofs.Common.{◌≡◌, ℕ, zero, suc, ◌+◌, ◌≤◌, Bool, true, false, cond, not, ◌&&◌, List, [], ◌∷◌, ◌++◌, length, take, drop, refl, sym, ap, subst, ◌∙◌, arith}
+use Rattle.std.proofs.Common.{◌≡◌, ℕ, zero, suc, ◌+◌, ◌≤◌, Bool, true, false, ◌&&◌, List, [], ◌∷◌, ◌++◌, length, take, drop, refl, ap, subst, arith}
 use Rattle.std.specs.Prelude.{T}
 use Rattle.std.specs.declared.cmp.Ordering.{Ordering}
 use Rattle.std.specs.declared.cmp.Ordering.TheVariants.{Less, Equal, Greater}
@@ -10,7 +10,7 @@ use Rattle.std.specs.Cmp.Lexicographic.{lists_total}
 use Rattle.std.specs.FinMap.{IsAntisymmetric, slice_cmp-IsAntisymmetric}
 use Rattle.std.proofs.lemmas.List.{take-append-drop}
 use Rattle.std.proofs.Math.ListN.{length-take}
-use Rattle.trie_core.specs.Bits.{bits_cmp, begins}
+use Rattle.ipnet_blocks.specs.BitStrings.{bits_cmp}
 
 -- ---- equal bit strings
 
@@ -100,40 +100,6 @@ pub less-T : (o : Ordering) → T (is_lt o) → o ≡ Less
 less-T Less p = refl
 less-T Equal p = absurd p
 less-T Greater p = absurd p
-
--- ---- beginnings
-
-same_bit : (x y : Bool) → cond x y (not y) ≡ true → x ≡ y
-same_bit true true e = refl
-same_bit true false e = cc
-same_bit false true e = cc
-same_bit false false e = refl
-
-both_true : (a b : Bool) → (a && b) ≡ true → (a ≡ true) × (b ≡ true)
-both_true true b e = (refl, e)
-both_true false b e = cc
-
-pub begins_take : (p q : List Bool) → begins p q ≡ true → (length p ≤ length q) × (take (length p) q ≡ p)
-begins_take [] q e = (omega arith, refl)
-begins_take (x ∷ p) [] e = cc
-begins_take (x ∷ p) (y ∷ q) e =
-    let t = both_true (cond x y (not y)) (begins p q) e in
-    let r = begins_take p q t.1 in
-    (omega (arith, r.0), λ i. sym (same_bit x y t.0) i ∷ r.1 i)
-
-pub begins-under : (b p q : List Bool) → begins (b ++ p) (b ++ q) ≡ begins p q
-begins-under [] p q = refl
-begins-under (true ∷ b) p q = begins-under b p q
-begins-under (false ∷ b) p q = begins-under b p q
-
-begins_refl_bit : (x : Bool) → cond x x (not x) ≡ true
-begins_refl_bit true = refl
-begins_refl_bit false = refl
-
-pub take_begins : (k : ℕ) (q : List Bool) → begins (take k q) q ≡ true
-take_begins zero q = refl
-take_begins (suc k) [] = refl
-take_begins (suc k) (x ∷ q) = ap (λ b. b && begins (take k q) q) (begins_refl_bit x) ∙ take_begins k q
 
 -- the first of the first
 pub take_take : {Y : Type 0} (xs : List Y) (j k : ℕ) → take j (take (j + k) xs) ≡ take j xs

@@ -3,7 +3,7 @@ use Rattle.std.proofs.Common.{◌≡◌, ℕ, zero, suc, ◌+◌, ◌-◌, ◌/�
 use Rattle.std.specs.Prelude.{nat_lt, Option, Some, None, count_ones}
 use Rattle.std.specs.FinMap.{get, find, empty, same_map}
 use Rattle.std.proofs.lemmas.Bool.Decides.{nat_tests}
-use Rattle.trie_core.specs.Bits.{bits_cmp}
+use Rattle.ipnet_blocks.specs.BitStrings.{bits_cmp}
 use Rattle.trie_core.specs.InnerPlaces.{child_of, child_string, child_list, IsSlot, IsUnset}
 use Rattle.trie_core.proofs.Strings.{bits_total, bits_same, same, same-Decides}
 use Rattle.trie_core.proofs.Numbers.{ones_bit, child_of-string, length-child_string}

@@ -6,7 +6,7 @@ use Rattle.std.specs.FinMap.{entries, find, get, empty, get-empty, get-entries, 
 use Rattle.std.specs.FinMap.Entries.{below_all}
 use Rattle.std.proofs.Math.Bool.{and-false, or-false}
 use Rattle.std.proofs.Math.ListN.{length-append, length-take}
-use Rattle.trie_core.specs.Bits.{bits_cmp}
+use Rattle.ipnet_blocks.specs.BitStrings.{bits_cmp}
 use Rattle.trie_core.specs.Nodes.{BitMap, BitSet, Seen}
 use Rattle.trie_core.specs.InnerNodes.{under, node_map, IsNode}
 use Rattle.trie_core.specs.Count.{fives_from, fives, fives_of, begun, found_in, visit_count, stands, standing_at, node_visits}

@@ -7,14 +7,16 @@ use Rattle.std.specs.FinMap.{is_sorted, find, entries, get, get-entries, entries
 use Rattle.std.specs.FinMap.Entries.{where_key, find-where_key, is_sorted-where_key, same_entries}
 use Rattle.std.proofs.lemmas.List.{append_assoc, take-append-drop}
 use Rattle.std.proofs.Math.ListN.{length-append, length-drop}
-use Rattle.trie_core.specs.Bits.{bits_cmp, begins, is_from}
+use Rattle.trie_core.specs.Bits.{is_from}
+use Rattle.ipnet_blocks.specs.BitStrings.{bits_cmp, begins}
 use Rattle.trie_core.specs.InnerPlaces.{child_of, child_string}
 use Rattle.trie_core.specs.InnerWalks.{is_past, KeysWithin, Left, walk_rest, walk_weight, FitFrom}
 use Rattle.trie_core.specs.Prefixes.{prefix_bits}
 use Rattle.trie_core.specs.Nodes.{BitMap, Seen}
 use Rattle.trie_core.specs.InnerNodes.{under}
 use Rattle.trie_core.specs.InnerSearch.{IsChild, HasNoChild}
-use Rattle.trie_core.proofs.Strings.{bits_total, bits_same, same, same-Decides, same-refl, not_same, append_none, front, take_first, begins_take, begins-under, bits_cmp-under, not_true}
+use Rattle.trie_core.proofs.Strings.{bits_total, bits_same, same, same-Decides, same-refl, not_same, append_none, front, take_first, bits_cmp-under, not_true}
+use Rattle.ipnet_blocks.proofs.BitStrings.{begins_take, begins-under}
 use Rattle.trie_core.proofs.Count.{under-append}
 use Rattle.trie_core.proofs.Maps.{or_else, find-append_all, find-under, find-apart, get_none, node_map-none}
 use Rattle.trie_core.proofs.Order.{sorted_under, below_found, walk_none}

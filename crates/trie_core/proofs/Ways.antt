@@ -5,7 +5,7 @@ use Rattle.std.specs.FinMap.{get, put, len, empty, find, get-empty, get-retain_k
 use Rattle.std.specs.FinMap as map
 use Rattle.std.specs.Ordering.{nat_cmp}
 use Rattle.std.proofs.lemmas.Bool.Decides.{nat_tests}
-use Rattle.trie_core.specs.Bits.{bits_cmp, begins}
+use Rattle.ipnet_blocks.specs.BitStrings.{bits_cmp, begins}
 use Rattle.trie_core.specs.InnerPlaces.{child_of, at_places, child_list, IsUnset}
 use Rattle.trie_core.specs.Nodes.{BitSet, Seen}
 use Rattle.trie_core.specs.InnerNodes.{IsNode}

@@ -1,18 +1,7 @@
 -- Bit strings in the order of a walk.
-use Rattle.std.specs.Prelude.{ℕ, zero, suc, ◌+◌, ◌^◌, Bool, true, false, cond, not, ◌&&◌, List, [], ◌∷◌}
-use Rattle.std.specs.declared.cmp.Ordering.{Ordering}
-use Rattle.std.specs.Ordering.{bool_cmp, is_lt}
-use Rattle.std.specs.Cmp.Lexicographic.{slice_cmp}
-
--- a beginning comes before what it begins, and 0 before 1
-abbrev pub bits_cmp : List Bool → List Bool → Ordering
-bits_cmp = slice_cmp bool_cmp
-
--- the one string begins the other
-abbrev pub begins : List Bool → List Bool → Bool
-begins [] q = true
-begins (x ∷ xs) [] = false
-begins (x ∷ xs) (y ∷ ys) = cond x y (not y) && begins xs ys
+use Rattle.std.specs.Prelude.{ℕ, zero, suc, ◌+◌, ◌^◌, Bool, cond, not, List, [], ◌∷◌}
+use Rattle.std.specs.Ordering.{is_lt}
+use Rattle.ipnet_blocks.specs.BitStrings.{bits_cmp}
 
 -- a string that is not before q, or one that comes after it
 abbrev pub is_from : List Bool → Bool → List Bool → Bool

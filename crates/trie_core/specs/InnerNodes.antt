@@ -1,7 +1,7 @@
 -- A node by its lists: the values at strings of fewer than five bits, and the children at five.
-use Rattle.std.specs.Prelude.{ℕ, ◌+◌, ◌<◌, ◌≤◌, ◌≡◌, ◌^◌, length, max, Bool, true, T, List, [], ◌∷◌, ◌++◌, Option, Some, None, is_some, count_ones}
+use Rattle.std.specs.Prelude.{ℕ, ◌<◌, ◌≤◌, ◌≡◌, ◌^◌, length, max, Bool, true, T, List, [], ◌∷◌, ◌++◌, Option, Some, None, is_some, count_ones}
 use Rattle.std.specs.FinMap.{get, is_sorted, entries, from_entries, empty}
-use Rattle.trie_core.specs.Bits.{bits_cmp}
+use Rattle.ipnet_blocks.specs.BitStrings.{bits_cmp}
 use Rattle.trie_core.specs.Nodes.{BitMap, BitSet, Seen}
 
 -- the entries with the bits in front of each key

@@ -4,7 +4,8 @@ use Rattle.std.specs.Ordering.{nat_cmp, eq_by_cmp}
 use Rattle.std.specs.FinMap.Entries.{where_key}
 use Rattle.std.specs.Int.{bit_at}
 use Rattle.ipnet_blocks.specs.Blocks.{digits}
-use Rattle.trie_core.specs.Bits.{begins, number_from}
+use Rattle.trie_core.specs.Bits.{number_from}
+use Rattle.ipnet_blocks.specs.BitStrings.{begins}
 
 -- how many of the 2 ^ k - 1 strings of fewer than k bits come before this one
 abbrev pub place_from : ℕ → List Bool → ℕ

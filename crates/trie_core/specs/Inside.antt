@@ -1,7 +1,7 @@
 -- A map without the keys that lie inside a prefix.
 use Rattle.std.specs.Prelude.{Bool, not, List}
 use Rattle.std.specs.FinMap.{retain_keys}
-use Rattle.trie_core.specs.Bits.{begins}
+use Rattle.ipnet_blocks.specs.BitStrings.{begins}
 use Rattle.trie_core.specs.Nodes.{BitMap}
 
 -- the keys of m that q does not begin; q begins itself

@@ -1,8 +1,7 @@
 -- What searches find.
-use Rattle.std.specs.Prelude.{ℕ, ◌+◌, ◌<◌, ◌≤◌, ◌≡◌, length, take, Bool, List, ◌++◌, Some, None}
+use Rattle.std.specs.Prelude.{ℕ, ◌<◌, ◌≤◌, ◌≡◌, length, take, Bool, List, Some, None}
 use Rattle.std.specs.FinMap.{get}
-use Rattle.trie_core.specs.Nodes.{BitMap, Seen}
-use Rattle.trie_core.specs.Count.{node_visits}
+use Rattle.trie_core.specs.Nodes.{BitMap}
 
 -- no beginning of q, q itself included, is a key
 abbrev pub NoBeginning : {X : Type 0} → BitMap X → List Bool → Type 0

@@ -1,7 +1,7 @@
 -- What becomes of spare nodes on the way to a key, and of those off it.
 use Rattle.std.specs.Prelude.{◌%◌, ◌≤◌, ◌≡◌, ◌↔◌, ◌⊎◌, length, Bool, true, false, cond, not, List, ◌++◌, None, is_some}
 use Rattle.std.specs.FinMap.{get, retain_keys}
-use Rattle.trie_core.specs.Bits.{begins}
+use Rattle.ipnet_blocks.specs.BitStrings.{begins}
 use Rattle.trie_core.specs.Nodes.{BitMap, BitSet}
 
 -- the strings that do not begin q; q begins itself

@@ -2,7 +2,8 @@
 ghost use Rattle.std.specs.Prelude.{◌≡◌, ◌+◌, ◌-◌, ◌*◌, ◌<◌, ◌≤◌, ◌^◌, List, Bool, length, take, MatchOption, ⊤};
 ghost use Rattle.std.specs.FinMap.{entries};
 ghost use Rattle.std.specs.FinMap.Entries.{where_key};
-ghost use Rattle.trie_core.specs.Bits.{bits_cmp, begins, is_from};
+ghost use Rattle.trie_core.specs.Bits.{is_from};
+ghost use Rattle.ipnet_blocks.specs.BitStrings.{bits_cmp, begins};
 ghost use Rattle.trie_core.specs.InnerPlaces.{place_of, child_of, IsFirstPlace};
 ghost use Rattle.trie_core.specs.InnerWalks.{is_past, KeysWithin};
 ghost use Rattle.trie_core.specs.InnerNodes.{under};

@@ -4,7 +4,7 @@ ghost use Rattle.std.specs.Ordering.{nat_cmp};
 ghost use Rattle.std.specs.FinMap.{entries};
 ghost use Rattle.std.specs.FinMap.Entries.{where_key};
 ghost use Rattle.std.specs.Iterator.{YieldsFirst, item_count};
-ghost use Rattle.trie_core.specs.Bits.{bits_cmp, begins};
+ghost use Rattle.ipnet_blocks.specs.BitStrings.{bits_cmp, begins};
 ghost use Rattle.trie_core.specs.InnerPlaces.{place_string, child_string, placed, first_place_of, named, AllBelow};
 ghost use Rattle.trie_core.specs.InnerHeld.{held};
 ghost use Rattle.trie_core.specs.InnerNodes.{under};

@@ -3,7 +3,8 @@ ghost use Rattle.std.specs.Prelude.{◌≡◌, ℕ, ◌+◌, ◌-◌, ◌*◌, �
 ghost use Rattle.std.specs.FinMap.{entries};
 ghost use Rattle.std.specs.FinMap.Entries.{where_key};
 ghost use Rattle.std.specs.Iterator.{YieldsFirstBy, item_count};
-ghost use Rattle.trie_core.specs.Bits.{bits_cmp, begins, is_from};
+ghost use Rattle.trie_core.specs.Bits.{is_from};
+ghost use Rattle.ipnet_blocks.specs.BitStrings.{bits_cmp, begins};
 ghost use Rattle.trie_core.specs.InnerNodes.{under};
 ghost use Rattle.trie_core.specs.InnerWalks.{KeysWithin};
 ghost use Rattle.trie_core.specs.InnerSteps.{Stepped};

@@ -3,9 +3,10 @@ use Rattle.std.proofs.Common.{◌≡◌, ℕ, ◌+◌, ◌-◌, ◌*◌, ◌/◌
 use Rattle.std.proofs.lemmas.Nat.{pow_pos, pow-add, shl-shr, shr-shr, shr_split}
 use Rattle.std.proofs.Math.Nat.{mod-eq_of_lt, pow-le-pow_right, mul-lt-mul_of_pos_right}
 use Rattle.std.proofs.Math.ListN.{length-take}
-use Rattle.trie_core.specs.Bits.{number_from, begins}
+use Rattle.trie_core.specs.Bits.{number_from}
+use Rattle.ipnet_blocks.specs.BitStrings.{begins}
 use Rattle.trie_core.proofs.Numbers.{number_apart}
-use Rattle.trie_core.proofs.Strings.{begins_take, take_begins}
+use Rattle.ipnet_blocks.proofs.BitStrings.{begins_take, take_begins}
 
 -- what shifts down and up leave
 pub cleared : (w r n m : ℕ) → r < 2 ^ w → w ≤ 128 → m ≡ r / 2 ^ (w - n) * 2 ^ (w - n) % 2 ^ 128 → m ≡ r / 2 ^ (w - n) * 2 ^ (w - n)

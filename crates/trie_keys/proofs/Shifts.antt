@@ -1,7 +1,7 @@
 -- Masks and shifts of keys, from the facts of the calls: v is the width that a call answered.
 use Rattle.std.proofs.Common.{◌≡◌, ℕ, ◌+◌, ◌-◌, ◌*◌, ◌/◌, ◌%◌, ◌^◌, ◌<◌, ◌≤◌, sym, ap, subst, ◌∙◌, arith}
 use Rattle.std.proofs.lemmas.Nat.{pow_pos, pow-add, shl-shr, shr_high}
-use Rattle.std.proofs.Math.Nat.{mod-eq_of_lt, mul_assoc, mul_comm, add-mul, mul-mod_left, mul-lt-mul_of_pos_right}
+use Rattle.std.proofs.Math.Nat.{mod-eq_of_lt, mul_assoc, mul_comm, add-mul, mul-lt-mul_of_pos_right}
 use Rattle.trie_core.proofs.Aligned.{mod_up}
 
 ones_down : (a b : ℕ) → (2 ^ (a + b) - 1) / 2 ^ b ≡ 2 ^ a - 1

@@ -3,7 +3,8 @@ ghost use Rattle.std.specs.Prelude.{◌≡◌, ℕ, ◌<◌, ◌≤◌, ◌^◌,
 ghost use Rattle.ipnet_addr.specs.Addresses.{Ipv4, Ipv6};
 ghost use Rattle.ipnet_blocks.specs.Blocks.{bit_string};
 ghost use Rattle.ipnet_blocks.specs.Networks.{block_of};
-ghost use Rattle.trie_core.specs.Bits.{number_from, begins};
+ghost use Rattle.trie_core.specs.Bits.{number_from};
+ghost use Rattle.ipnet_blocks.specs.BitStrings.{begins};
 ghost use Rattle.trie_core.specs.Prefixes.{prefix_bits, IsMasked};
 
 use crate::key::Key;

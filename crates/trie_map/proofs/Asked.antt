@@ -9,7 +9,8 @@ use Rattle.std.specs.List.Retain.{ReturnsInTurn}
 use Rattle.std.specs.FinMap.{find, get, remove, entries, is_sorted, entries_sorted, get-entries, get-remove}
 use Rattle.std.specs.FinMap.Entries.{where_key, below_all, same_entries, is_sorted-where_key, find-where_key}
 use Rattle.std.proofs.Math.ListN.{length-append}
-use Rattle.trie_core.specs.Bits.{bits_cmp, is_from}
+use Rattle.trie_core.specs.Bits.{is_from}
+use Rattle.ipnet_blocks.specs.BitStrings.{bits_cmp}
 use Rattle.trie_core.proofs.Strings.{bits_total, bits_same, same, same-refl, same_false, both, append_none, less-T}
 use Rattle.trie_core.specs.Nodes.{BitMap}
 use Rattle.trie_core.proofs.Maps.{tail_rises}

@@ -3,7 +3,7 @@ use Rattle.std.proofs.Common.{◌≡◌, ℕ, zero, suc, ◌+◌, ◌-◌, ◌�
 use Rattle.std.specs.Prelude.{Option, Some, None, is_some}
 use Rattle.std.specs.Option.{IsSome}
 use Rattle.std.specs.FinMap.{len, get, insert, remove, empty, len-insert, len-remove, empty_of_len, get-empty, get-insert, get-remove}
-use Rattle.trie_core.specs.Bits.{bits_cmp, begins}
+use Rattle.ipnet_blocks.specs.BitStrings.{bits_cmp, begins}
 use Rattle.trie_core.specs.Nodes.{BitMap}
 use Rattle.trie_core.proofs.Strings.{bits_total, same, same-Decides}
 use Rattle.trie_core.specs.Inside.{outside}

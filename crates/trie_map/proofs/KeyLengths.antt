@@ -3,7 +3,7 @@ use Rattle.std.proofs.Common.{◌≡◌, ℕ, ◌≤◌, Bool, true, false, cond
 use Rattle.std.specs.Prelude.{Option, Some, is_some}
 use Rattle.std.specs.FinMap.{find, entries, get-entries}
 use Rattle.std.specs.FinMap.Entries.{where_key}
-use Rattle.trie_core.specs.Bits.{bits_cmp}
+use Rattle.ipnet_blocks.specs.BitStrings.{bits_cmp}
 use Rattle.trie_core.specs.Nodes.{BitMap}
 use Rattle.trie_core.specs.InnerWalks.{KeysWithin}
 use Rattle.trie_core.proofs.Strings.{same, same-refl}

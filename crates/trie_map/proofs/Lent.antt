@@ -5,7 +5,8 @@ use Rattle.std.specs.Option.{IsSome}
 use Rattle.std.specs.Ordering.{eq_by_cmp}
 use Rattle.std.specs.FinMap.{find, get, insert, entries, get-entries, get-insert}
 use Rattle.std.specs.FinMap.Entries.{where_key, find-where_key}
-use Rattle.trie_core.specs.Bits.{bits_cmp, is_from}
+use Rattle.trie_core.specs.Bits.{is_from}
+use Rattle.ipnet_blocks.specs.BitStrings.{bits_cmp}
 use Rattle.trie_core.proofs.Strings.{bits_total, same-refl}
 use Rattle.trie_core.specs.Nodes.{BitMap}
 use Rattle.trie_core.specs.InnerWalks.{KeysWithin}

@@ -1,9 +1,9 @@
 -- The spare nodes of a map: where they may stand, how many they are, and that none comes where none was.
-use Rattle.std.proofs.Common.{◌≡◌, inl, inr, Bool, true, false, cond, not, List, [], ◌∷◌, ◌++◌, length, drop, refl, sym, ap, ◌∙◌, arith}
+use Rattle.std.proofs.Common.{◌≡◌, inl, inr, Bool, true, false, cond, not, List, [], ◌++◌, refl, sym, ap, ◌∙◌, arith}
 use Rattle.std.specs.Prelude.{Option, Some, None, is_some}
 use Rattle.std.specs.Option.{IsSome}
 use Rattle.std.specs.FinMap.{get, insert, len, empty, remove, get-empty, get-insert, get-remove, same_map}
-use Rattle.trie_core.specs.Bits.{bits_cmp, begins}
+use Rattle.ipnet_blocks.specs.BitStrings.{bits_cmp, begins}
 use Rattle.trie_core.proofs.Strings.{bits_total, bits_same, same, same_false, no_false}
 use Rattle.trie_core.specs.Nodes.{BitMap, BitSet, Seen}
 use Rattle.trie_core.specs.InnerCount.{spare_count}
@@ -11,7 +11,7 @@ use Rattle.trie_core.specs.Inside.{outside}
 use Rattle.trie_core.specs.Ways.{IsIdle, AreIdle, off_way, IsLeft, IsKept}
 use Rattle.trie_core.proofs.Maps.{remove_absent}
 use Rattle.trie_core.proofs.Ways.{get-off, no_choice}
-use Rattle.trie_core.proofs.Left.{begins_on}
+use Rattle.ipnet_blocks.proofs.BitStrings.{begins_on, begun_rest}
 use Rattle.trie_core.proofs.Inside.{get-outside}
 
 not_some : (o : Option (Unit {0})) → (is_some o ≡ true → ⊥) → o ≡ None
@@ -25,15 +25,6 @@ of_other o false h = h
 of_same : (o : Option (Unit {0})) (b : Bool) → is_some (cond (not b) o None) ≡ true → (b ≡ false) × (is_some o ≡ true)
 of_same o true h = cc
 of_same o false h = (refl, h)
-
--- what is left of a string after its beginning
-begun_rest : (s q : List Bool) → begins s q ≡ true → s ++ drop (length s) q ≡ q
-begun_rest [] q e = refl
-begun_rest (x ∷ s) [] e = cc
-begun_rest (true ∷ s) (true ∷ q) e = ap (λ l. true ∷ l) (begun_rest s q e)
-begun_rest (false ∷ s) (false ∷ q) e = ap (λ l. false ∷ l) (begun_rest s q e)
-begun_rest (true ∷ s) (false ∷ q) e = cc
-begun_rest (false ∷ s) (true ∷ q) e = cc
 
 -- ---- where they stand
 

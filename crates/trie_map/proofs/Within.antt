@@ -5,7 +5,8 @@ use Rattle.std.specs.declared.cmp.Ordering.TheVariants.{Less}
 use Rattle.std.specs.Ordering.{is_lt}
 use Rattle.std.specs.FinMap.{is_sorted}
 use Rattle.std.specs.FinMap.Entries.{where_key, below_all, is_sorted-where_key}
-use Rattle.trie_core.specs.Bits.{bits_cmp, begins, is_from}
+use Rattle.trie_core.specs.Bits.{is_from}
+use Rattle.ipnet_blocks.specs.BitStrings.{bits_cmp, begins}
 use Rattle.trie_core.proofs.Strings.{same, not_true, both, less-T}
 use Rattle.trie_core.proofs.Maps.{tail_rises}
 use Rattle.trie_core.proofs.Frames.{where_twice}

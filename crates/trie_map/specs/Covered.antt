@@ -2,7 +2,7 @@
 use Rattle.std.specs.Prelude.{ℕ, zero, suc, ◌+◌, cond, Bool, true, false, List, [], ◌∷◌}
 use Rattle.std.specs.List.{list_any}
 use Rattle.std.specs.FinMap.{entries}
-use Rattle.trie_core.specs.Bits.{begins}
+use Rattle.ipnet_blocks.specs.BitStrings.{begins}
 use Rattle.trie_core.specs.Nodes.{BitMap}
 
 -- how many of the strings of w bits pass a test

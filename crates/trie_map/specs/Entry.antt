@@ -1,12 +1,10 @@
 -- What the contracts of an entry cite. The words serve its halves too, as `entry_value (Occupied o)`.
 pub use Rattle.trie_map.specs.declared.entry.Entry.TheVariants.{Occupied, Vacant}
-use Rattle.std.specs.Prelude.{◌≡◌, List, Bool, Option, Some, Result, is_some, MatchOption, OnErr, IsOk, cond, []}
+use Rattle.std.specs.Prelude.{◌≡◌, List, Bool, Option, Some, Result, is_some, MatchOption, OnErr, IsOk, []}
 use Rattle.std.specs.Borrow.{Fml, RattleType, MutBor, follows, follows_so, name_if_ok}
-use Rattle.std.specs.FinMap.{get, insert, get-insert}
-use Rattle.std.proofs.Common.{ap, ◌∙◌}
+use Rattle.std.specs.FinMap.{get, insert}
+use Rattle.std.proofs.Common.{ap}
 use mir.Syntax.{named}
-use Rattle.trie_core.proofs.Strings.{bits_total, same-refl}
-use Rattle.trie_core.specs.Nodes.{BitMap}
 use Rattle.trie_map.specs.Seen.{SeenMap, with_value}
 use Rattle.trie_core.specs.Ways.{off_way}
 use Rattle.trie_keys.specs.declared.key.Key as key

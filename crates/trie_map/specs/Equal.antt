@@ -3,7 +3,7 @@ use Rattle.std.specs.Prelude.{Bool, List, ◌&&◌}
 use Rattle.std.specs.Ordering.{eq_by_cmp}
 use Rattle.std.specs.Cmp.Lexicographic.{pointwise}
 use Rattle.std.specs.FinMap.{entries}
-use Rattle.trie_core.specs.Bits.{bits_cmp}
+use Rattle.ipnet_blocks.specs.BitStrings.{bits_cmp}
 use Rattle.trie_map.specs.Seen.{SeenMap}
 
 module _ {X : Type 0} (E : X → X → Bool) where

@@ -5,7 +5,8 @@ use Rattle.std.specs.Borrow.{Fml, RattleType, MutBor, LendsSo}
 use Rattle.std.specs.FinMap.{get, entries}
 use Rattle.std.specs.FinMap.Entries.{where_key}
 use mir.Syntax.{named}
-use Rattle.trie_core.specs.Bits.{bits_cmp, begins, is_from}
+use Rattle.trie_core.specs.Bits.{is_from}
+use Rattle.ipnet_blocks.specs.BitStrings.{bits_cmp, begins}
 use Rattle.trie_map.specs.Seen.{SeenMap, with_value}
 use Rattle.trie_keys.specs.declared.key.Key as key
 use Rattle.trie_keys.specs.declared.prefix.Prefix as prefix

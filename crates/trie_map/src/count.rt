@@ -1,6 +1,6 @@
 //! How many addresses a map covers.
 ghost use Rattle.std.specs.Prelude.{◌≡◌, ◌+◌, ◌<◌, ◌≤◌, ◌^◌, false, length, MatchOption};
-ghost use Rattle.trie_core.specs.Bits.{begins};
+ghost use Rattle.ipnet_blocks.specs.BitStrings.{begins};
 ghost use Rattle.trie_map.specs.Covered.{covered_count};
 
 use crate::key::key_of;

@@ -2,7 +2,7 @@
 ghost use Rattle.std.specs.Prelude.{◌≡◌, ◌≤◌, length, map, [], ⊤};
 ghost use Rattle.std.specs.FinMap.{entries};
 ghost use Rattle.std.specs.FinMap.Entries.{where_key};
-ghost use Rattle.trie_core.specs.Bits.{bits_cmp, begins};
+ghost use Rattle.ipnet_blocks.specs.BitStrings.{bits_cmp, begins};
 ghost use Rattle.std.specs.Iterator.{YieldsFirstBy, item_count};
 ghost use Rattle.trie_core.specs.InnerWalks.{KeysWithin};
 ghost use Rattle.trie_map.specs.Iterators.{GivesEntry, GivesKey};

@@ -2,7 +2,7 @@
 ghost use Rattle.std.specs.Prelude.{◌≡◌, ◌≤◌, length};
 ghost use Rattle.std.specs.Ordering.{eq_by_cmp};
 ghost use Rattle.std.specs.Cmp.Lexicographic.{pointwise};
-ghost use Rattle.trie_core.specs.Bits.{bits_cmp};
+ghost use Rattle.ipnet_blocks.specs.BitStrings.{bits_cmp};
 ghost use Rattle.trie_core.specs.InnerWalks.{KeysWithin};
 ghost use Rattle.trie_map.specs.Equal.{same_entry, same_maps};
 ghost use Rattle.trie_map.specs.InnerEqual.{same_maps-partial, same_maps-total};

@@ -5,7 +5,8 @@ ghost use Rattle.std.specs.Option.{IsSome, option_copied_mut};
 ghost use Rattle.std.specs.FinMap.{get, entries};
 ghost use Rattle.std.specs.FinMap.Entries.{where_key};
 ghost use Rattle.std.proofs.Props.{props};
-ghost use Rattle.trie_core.specs.Bits.{bits_cmp, begins, is_from};
+ghost use Rattle.trie_core.specs.Bits.{is_from};
+ghost use Rattle.ipnet_blocks.specs.BitStrings.{bits_cmp, begins};
 ghost use Rattle.trie_map.specs.Maps.{first_key};
 
 use crate::equal::is_same;

@@ -11,7 +11,7 @@ pub returns : goal.returns
 returns c = record {
   table = λ M t. (λ r ok hop. added_is_table M t r ok hop, λ n. left_is_table M t n);
   maximal = changed_is_maximal;
-  shortest = λ M N bs u. maximal_is_shortest (Changed M N) (maximal_of (changed M N)) bs (changed_is_maximal M N) u;
+  shortest = λ M N. maximal_is_shortest (Changed M N) (maximal_of (changed M N)) (changed_is_maximal M N);
   only = λ M N bs u up few. shortest_is_maximal (Changed M N) (maximal_of (changed M N)) bs (changed_is_maximal M N) u up few;
   found = λ M N bs m. maximal_is_unique (Changed M N) (maximal_of (changed M N)) bs (changed_is_maximal M N) m;
   added = added_lines;

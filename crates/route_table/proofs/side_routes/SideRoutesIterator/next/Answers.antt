@@ -1,4 +1,4 @@
-use Rattle.std.proofs.Common.{sym, ap, subst, Some, map}
+use Rattle.std.proofs.Common.{sym, subst, Some, map}
 use Rattle.route_table.specs.InnerSides.{route_at}
 use Rattle.route_table.specs.InnerEntries.{entries_left}
 use Rattle.route_table.specs.Items.{GivesRoute}

@@ -1,7 +1,9 @@
 use Rattle.std.proofs.Common.{subst, length, ◌+◌, ◌≤◌}
 use Rattle.std.specs.Prelude.{sum_by}
+use Rattle.ipnet.specs.IpNets.{block}
 use Rattle.ipnet_blocks.specs.Blocks.{Block}
 use Rattle.ipnet_blocks.specs.Maximal.{IsMaximal}
+use Rattle.ipnet_blocks.proofs.Maximals.{maximal_is_shortest}
 use Rattle.route_table.specs.Bounds.{excess}
 use Rattle.route_table.specs.Tables.{Governed}
 use Rattle.route_table.proofs.table.RouteTable.governed.Goals as goal
@@ -11,3 +13,6 @@ returns-clause-maximal c = subst (λ (b : Block). IsMaximal (Governed c.args.sel
 
 pub returns-clause-bound : goal.returns-clause-bound
 returns-clause-bound c = subst (λ (b : Block). length c.governs.result ≤ 1 + sum_by (λ r. excess b r.block) c.args.self.now) c.cleared.ensures.block c.governs.ensures.bound
+
+pub returns-clause-shortest : goal.returns-clause-shortest
+returns-clause-shortest c = maximal_is_shortest (Governed c.args.self.now (block c.args.net.now)) c.governs.result (returns-clause-maximal c)

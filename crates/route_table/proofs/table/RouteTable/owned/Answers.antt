@@ -1,4 +1,6 @@
-use Rattle.std.proofs.Common.{map}
+use Rattle.std.proofs.Common.{◌≡◌, Some, map}
+use Rattle.ipnet_blocks.proofs.Maximals.{maximal_is_shortest}
+use Rattle.route_table.specs.Tables.{hop_at}
 use Rattle.ipnet.specs.IpNets.{block}
 use Rattle.route_table.proofs.Owned.{owned_blocks, owned_is_flat, if_ok}
 use Rattle.route_table.proofs.table.RouteTable.owned.Goals as goal
@@ -8,3 +10,6 @@ returns-clause-maximal c = if_ok _ _ c.aggregate.result (λ v h. owned_blocks c.
 
 pub returns-clause-flat : goal.returns-clause-flat
 returns-clause-flat c = if_ok _ _ c.aggregate.result (λ v h. owned_is_flat c.args.self.now c.args.number (map block v.items) h) (returns-clause-maximal c)
+
+pub returns-clause-shortest : goal.returns-clause-shortest
+returns-clause-shortest c = if_ok _ _ c.aggregate.result (λ v h. maximal_is_shortest (λ x. hop_at c.args.self.now x ≡ Some c.args.number) (map block v.items) h) (returns-clause-maximal c)

@@ -9,7 +9,7 @@ bit_value false = refl
 
 pub overflow_add-result : goal.overflow_add-result
 overflow_add-result c =
-    let f = (extended c.self.inside.bits c.self.inside.len c.from.result c.args.bit c.self.invariant (omega (arith, path_length {n = c.self.inside.len} _ c.self.view_is, c.requires)) (c.from.ensures ∙ bit_value c.args.bit) c.self.view_is).aligned.fits in
+    let f = (extended c.self.inside.bits c.self.inside.len c.from.result c.args.bit c.self.invariant (omega (arith, path_length {n = c.self.inside.len} _ c.self.view_is, c.requires)) (c.from.ensures ∙ bit_value c.args.bit) c.self.view_is).aligned.masked.below in
     omega (arith, f)
 
 pub invariant_of-result : goal.invariant_of-result

@@ -7,4 +7,4 @@ pub returns-clause-bits : goal.returns-clause-bits
 returns-clause-bits c = ap (prefix_bits 128 c.self.inside.bits) (sym (path_length {n = c.self.inside.len} _ c.self.view_is)) ∙ c.self.view_is
 
 pub returns-clause-masked : goal.returns-clause-masked
-returns-clause-masked c = subst (IsMasked 128 c.self.inside.bits) (path_length {n = c.self.inside.len} _ c.self.view_is) (record { below = c.self.invariant.fits; clear = c.self.invariant.clear })
+returns-clause-masked c = subst (IsMasked 128 c.self.inside.bits) (path_length {n = c.self.inside.len} _ c.self.view_is) c.self.invariant.masked

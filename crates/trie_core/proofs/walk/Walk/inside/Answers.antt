@@ -1,6 +1,6 @@
 use Rattle.std.proofs.Common.{◌∙◌, ◌≤◌, sym, ap, subst, length, lit<, arith}
 use Rattle.std.specs.FinMap.{entries}
-use Rattle.trie_core.specs.Bits.{begins}
+use Rattle.ipnet_blocks.specs.BitStrings.{begins}
 use Rattle.trie_core.specs.InnerNodes.{under}
 use Rattle.trie_core.specs.InnerWalks.{KeysWithin}
 use Rattle.trie_core.proofs.Frames.{keys_where}

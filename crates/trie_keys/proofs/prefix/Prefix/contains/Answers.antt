@@ -1,9 +1,10 @@
 use Rattle.std.proofs.Common.{◌≡◌, ◌∙◌, ◌≤◌, ap, sym, take, length, ℕ, Bool, true, arith}
 use Rattle.std.specs.Prelude.{IsTrue, nat_eq, ◌↔◌}
 use Rattle.std.proofs.lemmas.Bool.Decides.{nat_tests}
-use Rattle.trie_core.specs.Bits.{number_from, begins}
+use Rattle.trie_core.specs.Bits.{number_from}
+use Rattle.ipnet_blocks.specs.BitStrings.{begins}
 use Rattle.trie_core.specs.Prefixes.{prefix_bits}
-use Rattle.trie_core.proofs.Strings.{begins_take}
+use Rattle.ipnet_blocks.proofs.BitStrings.{begins_take}
 use Rattle.trie_keys.proofs.Cleared.{begins_by_numbers}
 use Rattle.trie_core.proofs.Masked.{take-prefix_bits}
 use Rattle.trie_keys.proofs.prefix.Prefix.contains.Goals as goal

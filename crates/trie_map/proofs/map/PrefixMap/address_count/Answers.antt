@@ -2,7 +2,7 @@ use Rattle.std.proofs.Common.{◌≡◌, ◌∙◌, ◌+◌, ◌-◌, ◌^◌, �
 use Rattle.std.specs.Prelude.{Some, None, false, length, MatchOption, option_map}
 use Rattle.std.specs.FinMap.{entries, entries_sorted}
 use Rattle.std.proofs.lemmas.Nat.{pow_pos}
-use Rattle.trie_core.specs.Bits.{begins}
+use Rattle.ipnet_blocks.specs.BitStrings.{begins}
 use Rattle.trie_keys.proofs.Shifts.{whole}
 use Rattle.trie_core.specs.InnerWalks.{KeysWithin}
 use Rattle.trie_map.specs.Covered.{covered_count}

@@ -2,7 +2,8 @@ use Rattle.std.proofs.Common.{◌∙◌, ap, true}
 use Rattle.std.specs.Prelude.{◌&&◌}
 use Rattle.std.specs.FinMap.{entries}
 use Rattle.std.specs.FinMap.Entries.{where_key}
-use Rattle.trie_core.specs.Bits.{bits_cmp, begins, is_from}
+use Rattle.trie_core.specs.Bits.{is_from}
+use Rattle.ipnet_blocks.specs.BitStrings.{bits_cmp, begins}
 use Rattle.trie_map.specs.Maps.{first_key}
 use Rattle.trie_map.proofs.Within.{begins_itself, all_inside}
 use Rattle.trie_map.proofs.map.PrefixMap.children_mut.Goals as goal

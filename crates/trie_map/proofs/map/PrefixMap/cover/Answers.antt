@@ -1,6 +1,6 @@
 use Rattle.std.proofs.Common.{subst, sym}
 use Rattle.std.specs.FinMap.{entries}
-use Rattle.trie_core.specs.Bits.{begins}
+use Rattle.ipnet_blocks.specs.BitStrings.{begins}
 use Rattle.trie_core.specs.InnerWalks.{KeysWithin}
 use Rattle.trie_map.proofs.KeyLengths.{keys_where}
 use Rattle.trie_map.proofs.map.PrefixMap.cover.Goals as goal

@@ -1,6 +1,6 @@
 use Rattle.std.proofs.Common.{◌∙◌, ap, sym, arith}
 use Rattle.std.specs.FinMap.{len, len-empty}
-use Rattle.trie_core.specs.Bits.{bits_cmp}
+use Rattle.ipnet_blocks.specs.BitStrings.{bits_cmp}
 use Rattle.trie_core.proofs.Changes.{new_nodes}
 use Rattle.trie_map.proofs.Entries.{keys_empty}
 use Rattle.trie_core.proofs.Marks.{no_spares}

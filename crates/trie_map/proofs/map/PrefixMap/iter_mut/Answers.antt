@@ -1,7 +1,8 @@
 use Rattle.std.proofs.Common.{◌∙◌, true, ap}
 use Rattle.std.specs.FinMap.{entries}
 use Rattle.std.specs.FinMap.Entries.{where_key}
-use Rattle.trie_core.specs.Bits.{bits_cmp, is_from}
+use Rattle.trie_core.specs.Bits.{is_from}
+use Rattle.ipnet_blocks.specs.BitStrings.{bits_cmp}
 use Rattle.trie_map.specs.Maps.{first_key}
 use Rattle.trie_map.proofs.Lent.{all_from}
 use Rattle.trie_map.proofs.map.PrefixMap.iter_mut.Goals as goal

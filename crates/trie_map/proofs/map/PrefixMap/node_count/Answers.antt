@@ -1,6 +1,6 @@
 use Rattle.std.proofs.Common.{◌+◌, ap, arith}
 use Rattle.std.specs.FinMap.{len, len-empty}
-use Rattle.trie_core.specs.Bits.{bits_cmp}
+use Rattle.ipnet_blocks.specs.BitStrings.{bits_cmp}
 use Rattle.trie_core.specs.Count.{nodes}
 use Rattle.trie_map.proofs.Spares.{spares_len}
 use Rattle.trie_map.proofs.map.PrefixMap.node_count.Goals as goal

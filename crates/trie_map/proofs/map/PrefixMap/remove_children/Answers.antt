@@ -7,7 +7,7 @@ use Rattle.trie_core.proofs.Inside.{outside_all}
 use Rattle.trie_core.proofs.Left.{cut_short}
 use Rattle.trie_core.proofs.Count.{nodes_empty}
 use Rattle.trie_map.proofs.Entries.{keys_outside, outside_none}
-use Rattle.trie_core.specs.Bits.{bits_cmp, begins}
+use Rattle.ipnet_blocks.specs.BitStrings.{bits_cmp, begins}
 use Rattle.trie_map.proofs.Spares.{idle_none, idle_left, fewer_outside, spares_len, tidy_left}
 use Rattle.trie_map.proofs.map.PrefixMap.remove_children.Goals as goal
 

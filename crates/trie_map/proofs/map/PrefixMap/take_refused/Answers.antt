@@ -1,7 +1,8 @@
 use Rattle.std.proofs.Common.{rules, of_calls, ◌≡◌, ◌∙◌, sym, ap, true, cond, refl}
 use Rattle.std.specs.FinMap.{entries, remove}
 use Rattle.std.specs.FinMap.Entries.{where_key}
-use Rattle.trie_core.specs.Bits.{bits_cmp, is_from}
+use Rattle.trie_core.specs.Bits.{is_from}
+use Rattle.ipnet_blocks.specs.BitStrings.{bits_cmp}
 use Rattle.trie_map.specs.Maps.{first_key}
 use Rattle.trie_map.proofs.Lent.{all_from}
 use Rattle.trie_map.proofs.Asked.{lengths, asked_start, asked_stored, asked_more}
