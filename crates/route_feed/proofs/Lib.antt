@@ -10,6 +10,7 @@ pub mod Ending
 pub mod Seam
 pub mod ReadNets
 pub mod Reread
+pub mod SameBytes
 pub mod Turns
 pub mod Beginnings
 pub mod Grammar

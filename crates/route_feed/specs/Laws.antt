@@ -1,11 +1,11 @@
 -- What a follower knows that has read any beginning of what a leader wrote.
-use Rattle.std.specs.Prelude.{◌≡◌, ◌<◌, ◌^◌, ℕ, Bool, List, [], ◌∷◌, ◌++◌, map, take, length}
+use Rattle.std.specs.Prelude.{◌≡◌, ◌↔◌, ◌<◌, ◌^◌, ℕ, Bool, List, [], ◌∷◌, ◌++◌, map, take, length}
 use Rattle.ipnet_addr.specs.Addresses.{Address, IsAddress}
 use Rattle.route_lines.specs.Bytes.{lines, rest}
 use Rattle.route_lines.specs.declared.reply.Closing.TheVariants.{Done}
 use Rattle.route_lines.specs.declared.reply.Reply.TheVariants.{Close}
 use Rattle.route_table.specs.Flats.{flat_of}
-use Rattle.route_table.specs.Tables.{Route, hop_at}
+use Rattle.route_table.specs.Tables.{Route, IsTable, hop_at}
 use Rattle.route_feed.specs.Follows.{AreReplies, followed}
 use Rattle.route_feed.specs.Replies.{printed}
 use Rattle.route_feed.specs.Steps.{flat_line}
@@ -30,10 +30,18 @@ FlatListsAgree = (bytes front back : List ℕ) (refusals : List Bool) → output
 abbrev pub AllAreAnswered : Type 0
 AllAreAnswered = (bytes : List ℕ) (refusals : List Bool) → closings (replies_in (output bytes refusals)) ≡ length (whole_commands bytes ++ at_end (rest bytes))
 
+-- what `flat` prints of a table
+abbrev pub flat_bytes : List Route → List ℕ
+flat_bytes M = printed (map flat_line (flat_of (hop_at M)) ++ Close Done ∷ [])
+
 -- what a follower of the whole output prints is the flat list of the leader's last table
 abbrev pub OutputIsFollowed : Type 0
 OutputIsFollowed = (bytes : List ℕ) (refusals : List Bool)
-    → followed (output bytes refusals) ≡ printed (map flat_line (flat_of (hop_at (table_after [] (whole_commands bytes ++ at_end (rest bytes)) refusals))) ++ Close Done ∷ [])
+    → followed (output bytes refusals) ≡ flat_bytes (table_after [] (whole_commands bytes ++ at_end (rest bytes)) refusals)
+
+-- two tables print the same bytes exactly where all their hops are the same
+abbrev pub SameFlatBytes : Type 0
+SameFlatBytes = (M N : List Route) → IsTable M → IsTable N → (flat_bytes M ≡ flat_bytes N) ↔ ((x : Address) → IsAddress x → hop_at M x ≡ hop_at N x)
 
 -- each line of a beginning of the output is a reply line, where the input has fewer than 2^64 bytes, as every input has
 abbrev pub BeginningsAreReplies : Type 0

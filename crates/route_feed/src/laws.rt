@@ -1,5 +1,5 @@
 //! Laws of reply streams: public functions without a body, whose contracts are the laws.
-ghost use Rattle.route_feed.specs.Laws.{AllAreAnswered, BeginningsAgree, BeginningsAreReplies, FlatListsAgree, OutputIsFollowed};
+ghost use Rattle.route_feed.specs.Laws.{AllAreAnswered, BeginningsAgree, BeginningsAreReplies, FlatListsAgree, OutputIsFollowed, SameFlatBytes};
 
 /// Whoever reads any beginning of the output of a leader, cut at any byte, and takes the changes of the replies that end
 /// there in `ok`, has each address at the hop that it has in the leader's table after as many commands as replies end
@@ -12,4 +12,10 @@ pub fn followed()
     ensures replies { BeginningsAreReplies }
     ensures answered { AllAreAnswered }
     ensures whole { OutputIsFollowed }
+{}
+
+/// Two tables print the same bytes for `flat` exactly where each address has the same hop in both.
+#[tactic(auto, using(crate::proofs::SameBytes::same_bytes))]
+pub fn same_flat_bytes()
+    ensures { SameFlatBytes }
 {}
