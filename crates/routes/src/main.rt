@@ -1,7 +1,11 @@
 //! The program `routes`: a route table by lines from standard input, and replies to standard output.
 #![tactic(auto)]
 
-ghost use Rattle.std.specs.Prelude.{◌≡◌, IsErrOf};
+ghost use Rattle.std.specs.Io.Buffered.{writer_contents};
+ghost use Rattle.std.specs.Io.KnownBytes.{Keeps};
+ghost use Rattle.std.specs.Prelude.{◌≡◌, ◌<◌, ◌^◌, IfErr, IfOk, IfSome, IsErrOf};
+ghost use Rattle.route_feed.specs.Counted.{ReadFault, faults_of, inner, reads_of};
+ghost use Rattle.routes.specs.Runs.{Writes};
 ghost use Rattle.routes.specs.Status.{status_of};
 
 use route_feed::{Counted, RunError, follow, lead};
@@ -71,32 +75,63 @@ fn asked_mode<R: Env + Alloc>(rt: &R) -> Result<Mode, Fault> {
     }
 }
 
-// Leads or follows from the input to the output. What a failed write left unwritten is let go. Only a follower meets
-// lines that are none.
-fn run_mode<R: Read + Drop, W: Write + Drop>(
+// Leads or follows from the input to the output, and hands the output back. What a failed write left unwritten is let
+// go. Only a follower meets lines that are none.
+fn run_mode<R: Read, W: Write + Drop>(
     mode: Mode,
     alloc: Global,
-    input: R,
+    reader: &mut Counted<R>,
     output: W,
-) -> Result<(), RunError>
-    ensures { IsErrOf result RunError.Line → mode ≡ Mode.Follow }
+) -> Result<W, RunError>
+    requires reads { reads_of reader.old < 2 ^ 63 }
+    requires faults { faults_of reader.old < 2 ^ 63 }
+    ensures known { IfOk result (λ w. IfSome (R.remaining (inner reader.old)) (λ bytes. Writes mode bytes (W.contents output) (W.contents w))) }
+    ensures read { IsErrOf result RunError.Read → ReadFault reader.old reader.new }
+    ensures line { IsErrOf result RunError.Line → mode ≡ Mode.Follow }
 {
     let Ok(buffered) = BufWriter::with_capacity(alloc, REPLY, output) else {
         return Err(RunError::Memory);
     };
-    let mut reader = Counted::new(input);
     let mut writer = Counted::new(buffered);
     let result = match mode {
-        Mode::Lead => lead(alloc, &mut reader, &mut writer),
-        Mode::Follow => follow(alloc, &mut reader, &mut writer),
+        Mode::Lead => lead(alloc, reader, &mut writer),
+        Mode::Follow => follow(alloc, reader, &mut writer),
     };
-    let (_output, _unwritten) = writer.into_inner().into_parts();
-    result
+    match result {
+        Ok(()) => write_out(writer.into_inner()),
+        Err(error) => {
+            let_go(writer.into_inner());
+            Err(error)
+        }
+    }
+}
+
+// The output, with all that was gathered for it.
+fn write_out<W: Write + Drop>(buffered: BufWriter<W>) -> Result<W, RunError>
+    ensures written { IfOk result (λ w. Keeps (writer_contents W.contents buffered) (W.contents w)) }
+    ensures fault { IfErr result (λ e. e ≡ RunError.Write) }
+{
+    match buffered.into_inner() {
+        Ok(output) => Ok(output),
+        Err(error) => {
+            let_go(error.into_inner());
+            Err(RunError::Write)
+        }
+    }
+}
+
+// Drops a writer, and what it has gathered unwritten.
+fn let_go<W: Write + Drop>(buffered: BufWriter<W>) {
+    let (_output, _unwritten) = buffered.into_parts();
 }
 
 fn run(rt: &HostRuntime) -> Result<(), Fault> {
     let mode = asked_mode(rt)?;
-    run_mode(mode, rt.alloc(), rt.stdin(), rt.stdout()).map_err(Fault::Run)
+    let mut reader = Counted::new(rt.stdin());
+    match run_mode(mode, rt.alloc(), &mut reader, rt.stdout()) {
+        Ok(_output) => Ok(()),
+        Err(error) => Err(Fault::Run(error)),
+    }
 }
 
 fn main(rt: HostRuntime) -> ExitCode {
