@@ -22,7 +22,7 @@ use Rattle.route_table.proofs.Flats.{same_flat}
 use Rattle.route_table.proofs.FlatSearch.{search_is_flat}
 use Rattle.route_feed.specs.Commands.{command_in}
 use Rattle.route_feed.specs.Laws.{table_told, AllAreAnswered, OutputIsFollowed, BeginningsAgree, FlatListsAgree}
-use Rattle.route_feed.specs.Output.{replies, table_after, first_or_false, refusals_after, whole_commands, at_end, output}
+use Rattle.route_feed.specs.Output.{replies, table_after, first_or_false, refusals_after, whole_commands, at_end, lines_output, output}
 use Rattle.route_feed.specs.Steps as turn
 use Rattle.route_feed.specs.Steps.{flat_line}
 use Rattle.route_feed.specs.Replies.{printed}
@@ -208,10 +208,14 @@ answered M (c ∷ cs) r m h =
     ∙ (commits (reread t.body) t.closing (reread (replies t.next cs rs)) (reread_open t.body form.body_told)).closings
     ∙ ap suc (answered t.next cs rs form.table (λ d i. h d (inr i)))
 
+commands_answered : (commands : List (Option Command)) (refusals : List Bool) → AreInRange commands → closings (replies_in (printed (replies [] commands refusals))) ≡ length commands
+commands_answered commands refusals h = ap closings (read_again (replies [] commands refusals) (replies_clean [] commands refusals empty_is_table h)) ∙ answered [] commands refusals empty_is_table h
+
 pub all_answered : AllAreAnswered
-all_answered bytes refusals =
-    ap closings (read_again (replies [] (commands_of bytes) refusals) (replies_clean [] (commands_of bytes) refusals empty_is_table (all_in_range bytes)))
-    ∙ answered [] (commands_of bytes) refusals empty_is_table (all_in_range bytes)
+all_answered bytes refusals = commands_answered (commands_of bytes) refusals (all_in_range bytes)
+
+pub lines_answered : (bytes : List ℕ) (refusals : List Bool) → closings (replies_in (lines_output bytes refusals)) ≡ length (whole_commands bytes)
+lines_answered bytes refusals = commands_answered (whole_commands bytes) refusals (lines_in_range (lines_in bytes))
 
 pub output_followed : OutputIsFollowed
 output_followed bytes refusals =

@@ -30,7 +30,7 @@ use Rattle.route_feed.specs.Counted.{CanCount, inner}
 use Rattle.route_feed.specs.Following.{State}
 use Rattle.route_feed.specs.Follows.{AreReplies, followed, FollowEnds}
 use Rattle.route_feed.specs.InnerFollowing.{reply_in, hop_once, AllReplies}
-use Rattle.route_feed.specs.InnerReplies.{Writes}
+use Rattle.route_feed.specs.InnerReplies.{Closes}
 use Rattle.route_feed.specs.InnerRun.{Runs}
 use Rattle.route_feed.specs.Replies.{printed}
 use Rattle.route_feed.specs.Steps.{flat_line}
@@ -119,16 +119,17 @@ module _ {R W : Type 0} (remaining : R → Option (List ℕ)) (contents : W → 
 
   -- a run to the end, and the flat list
   pub follow_ended : (left : Rest) (mid new : Counted W) (ps : List Piece) (r : Result Unit RunError) → Runs Takes remaining a from old (Ok left) b to mid
-      → IsFlat (hop_at b.table) ps → Writes contents mid new r (printed (map flat_line ps ++ Close Done ∷ [])) → FollowEnds remaining contents from to old new r
+      → IsFlat (hop_at b.table) ps → Closes contents 1 mid new r (printed (map flat_line ps ++ Close Done ∷ [])) → FollowEnds remaining contents from to old new r
   follow_ended left mid new ps r x flat w =
-      go r (subst (λ u. Writes contents u new r (followed x.bytes)) (unwritten a b (lines_in x.bytes) old mid (Ok tt) x.ends.0) (subst (Writes contents mid new r) (text_is x.bytes b steps ps flat) w))
+      go r (subst (λ u. Closes contents 1 u new r (followed x.bytes)) (unwritten a b (lines_in x.bytes) old mid (Ok tt) x.ends.0) (subst (Closes contents 1 mid new r) (text_is x.bytes b steps ps flat) w))
     where
       steps : Followed new_state (lines_in x.bytes) b
       steps = subst (λ s. Followed s (lines_in x.bytes) b) new_follower (followed_all a b (lines_in x.bytes) old mid x.ends.0)
 
-      go : (k : Result Unit RunError) → Writes contents old new k (followed x.bytes) → FollowEnds remaining contents from to old new k
+      go : (k : Result Unit RunError) → Closes contents 1 old new k (followed x.bytes) → FollowEnds remaining contents from to old new k
       go (Ok done) q = (
         record { bytes = x.bytes; read = x.read; replies = are_replies (lines x.bytes) steps.replies; written = q.appended },
+        q.flushed,
         x.ends.2,
         x.ends.3,
         q.faults,
@@ -141,5 +142,5 @@ module _ {R W : Type 0} (remaining : R → Option (List ℕ)) (contents : W → 
 -- where the reader tells its bytes
 pub follow_known : {R W : Type 0} (remaining : R → Option (List ℕ)) (contents : W → Option (List ℕ)) (from to : Counted R) (old new : Counted W) (r : Result Unit RunError) → FollowEnds remaining contents from to old new r
     → OnOk r (IfSome (remaining (inner from)) (λ bytes. AreReplies (lines bytes) × Appends (contents (inner old)) (contents (inner new)) (followed bytes)))
-follow_known remaining contents from to old new (Ok done) x = Consumes-whole (remaining (inner from)) (remaining (inner to)) x.0.bytes _ x.0.read x.1 (x.0.replies, x.0.written)
+follow_known remaining contents from to old new (Ok done) x = Consumes-whole (remaining (inner from)) (remaining (inner to)) x.0.bytes _ x.0.read x.2 (x.0.replies, x.0.written)
 follow_known remaining contents from to old new (Err e) x = tt

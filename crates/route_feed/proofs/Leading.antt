@@ -1,5 +1,5 @@
 -- What a leader writes, as a function of the bytes and of the refusals.
-use Rattle.std.proofs.Common.{◌≡◌, ℕ, ⊎_elim, Bool, true, false, List, [], ◌∷◌, ◌++◌, map, Option, IfSome, Result, Ok, Err, refl, sym, ap, ◌∙◌, subst, append_assoc}
+use Rattle.std.proofs.Common.{◌≡◌, ℕ, ⊎_elim, Bool, true, false, List, [], ◌∷◌, ◌++◌, length, map, Option, IfSome, Result, Ok, Err, refl, sym, ap, ◌∙◌, subst, append_assoc}
 use Rattle.std.specs.Result.{OnOk}
 use Rattle.std.specs.Io.KnownBytes.{Appends}
 use Rattle.std.proofs.KnownBytes.{Consumes-whole}
@@ -13,14 +13,15 @@ use Rattle.route_table.specs.Tables.{Route}
 use Rattle.route_feed.specs.declared.counted.Counted.{Counted}
 use Rattle.route_feed.specs.declared.error.RunError.{RunError}
 use Rattle.route_feed.specs.Commands.{command_in}
-use Rattle.route_feed.specs.Counted.{CanCount, inner}
-use Rattle.route_feed.specs.InnerReplies.{Answers, Written, Writes, reply_to_rest}
+use Rattle.route_feed.specs.Counted.{CanCount, Flushed, inner}
+use Rattle.route_feed.specs.InnerReplies.{Answers, Closed, Closes, replies_to_rest, reply_to_rest}
 use Rattle.route_feed.specs.InnerRun.{TakesAll, Runs}
 use Rattle.route_feed.specs.Leads.{LeadEnds}
 use Rattle.route_feed.specs.Output.{replies, refusals_after, first_or_false, whole_commands, at_end, lines_output, output}
 use Rattle.route_feed.specs.Replies.{reply_line, printed}
 use Rattle.route_feed.specs.Steps.{step, may_refuse, turn_lines}
-use Rattle.route_feed.proofs.Written.{Written-nil, Torn-longer, Writes-after, Writes-longer}
+use Rattle.route_feed.proofs.Beginnings.{all_answered, commands_of, lines_answered}
+use Rattle.route_feed.proofs.Written.{Closed-nil, Torn-longer, Closes-after, Closes-longer}
 
 -- the refusals of one turn
 abbrev refusals_of : Bool → Bool → List Bool
@@ -58,6 +59,10 @@ replies_end M (command ∷ commands) v bs =
     ∙ sym (append_assoc (printed (turn_lines t)) (printed (replies t.next commands later)) (reply_to_rest (rest_of bs)))
     ∙ ap (λ l. l ++ reply_to_rest (rest_of bs)) (sym (flat_map-append reply_line (turn_lines t) (replies t.next commands later)))
 
+one_at_end : (bs : List ℕ) → replies_to_rest (rest_of bs) ≡ length (at_end bs)
+one_at_end [] = refl
+one_at_end (b ∷ bs) = refl
+
 output_is : (bytes : List ℕ) (v : List Bool) → output bytes v ≡ lines_output bytes v ++ reply_to_rest (rest_of (rest bytes))
 output_is bytes v = replies_end [] (whole_commands bytes) v (rest bytes)
 
@@ -72,21 +77,22 @@ module _ {W : Type 0} (contents : W → Option (List ℕ)) where
 
   -- the replies to the lines were written, or a beginning of them
   answered : (M N : List Route) (ls : List Line) (old new : Counted W) (r : Result Unit RunError) → TakesAll Takes M ls old r N new
-      → (refusals : List Bool) × Writes contents old new r (printed (replies M (map command_in ls) refusals))
-  answered M N [] old new r t = ([], subst (λ k. Writes contents old new k []) (sym t.0) (subst (λ w. Written contents old w []) (sym t.2) (Written-nil contents old)))
+      → (refusals : List Bool) × Closes contents (length (map command_in ls)) old new r (printed (replies M (map command_in ls) refusals))
+  answered M N [] old new r t = ([], subst (λ k. Closes contents 0 old new k []) (sym t.0) (subst (λ w. Closed contents 0 old w []) (sym t.2) (Closed-nil contents old)))
   answered M N (l ∷ ls) old new r t = ⊎_elim
       (λ p.
       let a = p.2 in
       let later = answered p.0 N ls p.1 new r p.3 in (
         refusals_of (may_refuse M (command_in l)) a.refusal ++ later.0,
-        subst (Writes contents old new r) (sym (turn_printed M (command_in l) a.refusal (map command_in ls) later.0))
-            (Writes-after contents old p.1 new r _ _ a.writes (subst (λ T. Writes contents p.1 new r (printed (replies T (map command_in ls) later.0))) a.table later.1)),
+        subst (Closes contents (length (map command_in (l ∷ ls))) old new r) (sym (turn_printed M (command_in l) a.refusal (map command_in ls) later.0))
+            (Closes-after contents (command_in l ∷ []) (map command_in ls) old p.1 new r _ _ a.writes
+            (subst (λ T. Closes contents (length (map command_in ls)) p.1 new r (printed (replies T (map command_in ls) later.0))) a.table later.1)),
       ))
       (λ p.
       let a = p.1 in (
         refusals_of (may_refuse M (command_in l)) a.refusal ++ [],
-        subst (Writes contents old new r) (sym (turn_printed M (command_in l) a.refusal (map command_in ls) []))
-            (Writes-longer contents old new r _ _ p.0 a.writes),
+        subst (Closes contents (length (map command_in (l ∷ ls))) old new r) (sym (turn_printed M (command_in l) a.refusal (map command_in ls) []))
+            (Closes-longer contents 1 _ old new r _ _ p.0 a.writes),
       ))
       t
 
@@ -97,7 +103,7 @@ module _ {R W : Type 0} (remaining : R → Option (List ℕ)) (contents : W → 
       (λ p.
       let a = answered contents [] N (lines_in x.bytes) old new (Ok tt) (subst (λ T. TakesAll (Takes contents) T (lines_in x.bytes) old (Ok tt) N new) none p.0) in
       subst (λ k. LeadEnds remaining contents from to old new (Err k)) (sym p.1)
-      (record { bytes = x.bytes; refusals = a.0; read = x.read; written = a.1.appended }, p.2, a.1.faults))
+      (record { bytes = x.bytes; refusals = a.0; read = x.read; written = a.1.appended; flushed = subst (λ n. Flushed n old new) (sym (lines_answered x.bytes a.0)) a.1.flushed }, p.2, a.1.faults))
       (λ p.
       let a = answered contents [] N (lines_in x.bytes) old new (Err e) (subst (λ T. TakesAll (Takes contents) T (lines_in x.bytes) old (Err e) N new) none p.0) in
       let torn = Torn-longer contents old new (lines_output x.bytes a.0) (reply_to_rest (rest_of (rest x.bytes))) a.1.1 in
@@ -107,21 +113,28 @@ module _ {R W : Type 0} (remaining : R → Option (List ℕ)) (contents : W → 
 
   module _ (left : Rest) (mid : Counted W) (x : Runs (Takes contents) remaining M from old (Ok left) N to mid) where
     -- a run to the end wrote the replies to the lines
-    replied : (refusals : List Bool) × Written contents old mid (lines_output x.bytes refusals)
+    replied : (refusals : List Bool) × Closed contents (length (whole_commands x.bytes)) old mid (lines_output x.bytes refusals)
     replied = answered contents [] N (lines_in x.bytes) old mid (Ok tt) (subst (λ T. TakesAll (Takes contents) T (lines_in x.bytes) old (Ok tt) N mid) none x.ends.0)
 
     pub lead_counts : CanCount old → CanCount mid
     lead_counts h = rw replied.1.faults h
 
     -- and then the reply to the rest
-    pub lead_ended : (new : Counted W) (r : Result Unit RunError) → Writes contents mid new r (reply_to_rest left) → LeadEnds remaining contents from to old new r
+    pub lead_ended : (new : Counted W) (r : Result Unit RunError) → Closes contents (replies_to_rest left) mid new r (reply_to_rest left) → LeadEnds remaining contents from to old new r
     lead_ended new r w =
-        let end = subst (λ l. Writes contents mid new r (reply_to_rest l)) x.ends.1 w in
-        go r (Writes-after contents old mid new r (lines_output x.bytes replied.0) (reply_to_rest (rest_of (rest x.bytes))) replied.1 end)
+        let end = subst (λ l. Closes contents (replies_to_rest l) mid new r (reply_to_rest l)) x.ends.1 w in
+        let last = subst (λ n. Closes contents n mid new r (reply_to_rest (rest_of (rest x.bytes)))) (one_at_end (rest x.bytes)) end in
+        go r (Closes-after contents (whole_commands x.bytes) (at_end (rest x.bytes)) old mid new r (lines_output x.bytes replied.0) (reply_to_rest (rest_of (rest x.bytes))) replied.1 last)
       where
-        go : (k : Result Unit RunError) → Writes contents old new k (lines_output x.bytes replied.0 ++ reply_to_rest (rest_of (rest x.bytes))) → LeadEnds remaining contents from to old new k
+        go : (k : Result Unit RunError) → Closes contents (length (commands_of x.bytes)) old new k (lines_output x.bytes replied.0 ++ reply_to_rest (rest_of (rest x.bytes))) → LeadEnds remaining contents from to old new k
         go (Ok done) q = (
-          record { bytes = x.bytes; refusals = replied.0; read = x.read; written = subst (Appends (contents old.device) (contents new.device)) (sym (output_is x.bytes replied.0)) q.appended },
+          record {
+            bytes = x.bytes;
+            refusals = replied.0;
+            read = x.read;
+            written = subst (Appends (contents old.device) (contents new.device)) (sym (output_is x.bytes replied.0)) q.appended;
+            flushed = subst (λ n. Flushed n old new) (sym (all_answered x.bytes replied.0)) q.flushed;
+          },
           x.ends.2,
           x.ends.3,
           q.faults,

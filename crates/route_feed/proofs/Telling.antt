@@ -4,8 +4,8 @@ use Rattle.route_lines.specs.declared.reply.Reply.{Reply}
 use Rattle.route_feed.specs.declared.counted.Counted.{Counted}
 use Rattle.route_feed.specs.declared.error.RunError.{RunError}
 use Rattle.route_feed.specs.Replies.{reply_line, printed}
-use Rattle.route_feed.specs.InnerReplies.{Written, Torn, Writes}
-use Rattle.route_feed.proofs.Written.{Written-nil, Written-trans, Torn-after, Torn-longer, Writes-after}
+use Rattle.route_feed.specs.InnerReplies.{Written, Torn, Closes}
+use Rattle.route_feed.proofs.Written.{Written-nil, Written-trans, Torn-after, Torn-longer, Closes-written}
 
 -- all lines but those that are left were written
 pub record Told {W : Type 0} (contents : W → Option (List ℕ)) (old new : Counted W) (all left : List Reply) : Type 0 where
@@ -31,10 +31,10 @@ module _ {W : Type 0} (contents : W → Option (List ℕ)) (a b c : Counted W) (
   pub Told-torn : Torn contents b c (reply_line line) → Torn contents a c (printed all)
   Told-torn q =
       subst (Torn contents a c) (sym one_more)
-      (Torn-after contents a b c p.done (reply_line line ++ printed later) p.written (Torn-longer contents b c (reply_line line) (printed later) q))
+      (Torn-after contents a b c p.done (reply_line line ++ printed later) p.written.appended p.written.faults (Torn-longer contents b c (reply_line line) (printed later) q))
 
   -- the next line is the last one
-  pub Told-last : {T : Type 0} (r : Result T RunError) → later ≡ [] → Writes contents b c r (reply_line line) → Writes contents a c r (printed all)
+  pub Told-last : {T : Type 0} (r : Result T RunError) → later ≡ [] → Closes contents 1 b c r (reply_line line) → Closes contents 1 a c r (printed all)
   Told-last r none q =
       let whole = one_more ∙ ap (λ ls. p.done ++ (reply_line line ++ printed ls)) none ∙ ap (λ t. p.done ++ t) (append-nil (reply_line line)) in
-      subst (Writes contents a c r) (sym whole) (Writes-after contents a b c r p.done (reply_line line) p.written q)
+      subst (Closes contents 1 a c r) (sym whole) (Closes-written contents a b c r p.done (reply_line line) p.written q)

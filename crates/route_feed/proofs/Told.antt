@@ -37,7 +37,7 @@ use Rattle.route_table.proofs.Updates.{left_back, left_other}
 use Rattle.route_feed.specs.declared.counted.Counted.{Counted}
 use Rattle.route_feed.specs.declared.error.RunError.{RunError}
 use Rattle.route_feed.specs.Replies.{printed}
-use Rattle.route_feed.specs.InnerReplies.{Writes}
+use Rattle.route_feed.specs.InnerReplies.{Closes}
 use Rattle.route_feed.specs.Steps.{change_line, change_lines, closed, may_refuse, accepted, step}
 
 map_same : {A B : Type 0} (f g : A → B) (xs : List A) → ((x : A) → In x xs → f x ≡ g x) → map f xs ≡ map g xs
@@ -136,12 +136,12 @@ same_or_not o p = go (same_number o p) refl
 
 -- the lines of a change, written
 module _ {W : Type 0} (contents : W → Option (List ℕ)) (Held : List Block → Type 0) (before after : Option ℕ) (old new : Counted W) (result : Result Unit RunError)
-    (same : before ≡ after → Writes contents old new result (printed (Close Done ∷ [])))
-    (differs : before ≢ after → (bs : List Block) × Held bs × Writes contents old new result (printed (map (change_line after) bs ++ Close Done ∷ []))) where
-  pub Writes-change : (lines : List Reply) → (before ≡ after → lines ≡ []) → ((bs : List Block) → before ≢ after → Held bs → lines ≡ map (change_line after) bs) → Writes contents old new result (printed (lines ++ Close Done ∷ []))
-  Writes-change lines none some = ⊎_elim
-      (λ e. subst (λ ls. Writes contents old new result (printed (ls ++ Close Done ∷ []))) (sym (none e)) (same e))
-      (λ d. let w = differs d in subst (λ ls. Writes contents old new result (printed (ls ++ Close Done ∷ []))) (sym (some w.0 d w.1)) w.2)
+    (same : before ≡ after → Closes contents 1 old new result (printed (Close Done ∷ [])))
+    (differs : before ≢ after → (bs : List Block) × Held bs × Closes contents 1 old new result (printed (map (change_line after) bs ++ Close Done ∷ []))) where
+  pub Closes-change : (lines : List Reply) → (before ≡ after → lines ≡ []) → ((bs : List Block) → before ≢ after → Held bs → lines ≡ map (change_line after) bs) → Closes contents 1 old new result (printed (lines ++ Close Done ∷ []))
+  Closes-change lines none some = ⊎_elim
+      (λ e. subst (λ ls. Closes contents 1 old new result (printed (ls ++ Close Done ∷ []))) (sym (none e)) (same e))
+      (λ d. let w = differs d in subst (λ ls. Closes contents 1 old new result (printed (ls ++ Close Done ∷ []))) (sym (some w.0 d w.1)) w.2)
       (same_or_not before after)
 
 pub on_ok : {T E P : Type 0} (r : Result T E) → P → OnOk r P

@@ -1,25 +1,57 @@
 -- Writes one after another.
-use Rattle.std.proofs.Common.{ℕ, List, [], ◌++◌, Option, Result, Ok, Err, refl, sym, ap, ◌∙◌, subst, append_assoc, append-nil}
+use Rattle.std.proofs.Common.{◌≡◌, ℕ, zero, suc, ◌<◌, ◌+◌, ◌⊎◌, inl, inr, ⊎_elim, Bool, false, List, [], ◌∷◌, ◌++◌, length, Option, Result, Ok, Err, refl, sym, ap, ◌∙◌, subst, append_assoc, append-nil, arith}
 use Rattle.std.specs.Result.{IsErr}
+use Rattle.std.specs.Io.KnownBytes.{Appends}
 use Rattle.std.proofs.KnownBytes.{Appends-nil, Appends-trans}
 use Rattle.route_feed.specs.declared.error.RunError.{RunError}
 use Rattle.route_feed.specs.declared.counted.Counted.{Counted}
-use Rattle.route_feed.specs.InnerReplies.{Written, Torn, Writes}
+use Rattle.route_feed.specs.Counted.{inner, faults_of, one_more, more_by, waits_after, Flushed}
+use Rattle.route_feed.specs.InnerReplies.{Written, Closed, Torn, Closes}
+
+-- a text of two has bytes where one of them has
+one_has : (s t : List ℕ) → 0 < length (s ++ t) → (0 < length s) ⊎ (0 < length t)
+one_has [] t h = inr h
+one_has (b ∷ s) t h = inl (omega arith)
+
+waits_false : (times : ℕ) → waits_after times false ≡ false
+waits_false zero = refl
+waits_false (suc times) = refl
+
+-- flushes after flushes
+more_append : {A : Type 0} (xs ys : List A) (n : ℕ) → more_by (length (xs ++ ys)) n ≡ more_by (length ys) (more_by (length xs) n)
+more_append [] ys n = refl
+more_append (x ∷ xs) ys n = more_append xs ys (one_more n)
+
+waits_append : {A : Type 0} (xs ys : List A) (w : Bool) → waits_after (length (xs ++ ys)) w ≡ waits_after (length ys) (waits_after (length xs) w)
+waits_append [] ys w = refl
+waits_append (x ∷ xs) ys w = sym (waits_false (length ys))
+
+module _ {W : Type 0} where
+  Flushed-append : {A : Type 0} (xs ys : List A) (a b c : Counted W) → Flushed (length xs) a b → Flushed (length ys) b c → Flushed (length (xs ++ ys)) a c
+  Flushed-append xs ys a b c p q = (
+    q.0 ∙ ap (more_by (length ys)) p.0 ∙ sym (more_append xs ys a.flushes),
+    q.1 ∙ ap (waits_after (length ys)) p.1 ∙ sym (waits_append xs ys a.waiting),
+  )
 
 module _ {W : Type 0} (contents : W → Option (List ℕ)) where
   pub Written-nil : (w : Counted W) → Written contents w w []
-  Written-nil w = record { appended = Appends-nil (contents w.device); faults = refl }
+  Written-nil w = record { appended = Appends-nil (contents w.device); faults = refl; flushes = refl; waits = ⊎_elim (λ h. absurd (omega arith)) (λ h. h) }
 
   pub Written-trans : (a b c : Counted W) (s t : List ℕ) → Written contents a b s → Written contents b c t → Written contents a c (s ++ t)
-  Written-trans a b c s t p q = record { appended = Appends-trans _ _ _ s t p.appended q.appended; faults = q.faults ∙ p.faults }
+  Written-trans a b c s t p q = record {
+    appended = Appends-trans _ _ _ s t p.appended q.appended;
+    faults = q.faults ∙ p.faults;
+    flushes = q.flushes ∙ p.flushes;
+    waits = ⊎_elim (λ h. ⊎_elim (λ k. q.waits (inr (p.waits (inl k)))) (λ k. q.waits (inl k)) (one_has s t h)) (λ h. q.waits (inr (p.waits (inr h))));
+  }
 
-  pub Torn-after : (a b c : Counted W) (s t : List ℕ) → Written contents a b s → Torn contents b c t → Torn contents a c (s ++ t)
-  Torn-after a b c s t p q = record {
+  pub Torn-after : (a b c : Counted W) (s t : List ℕ) → Appends (contents (inner a)) (contents (inner b)) s → faults_of b ≡ faults_of a → Torn contents b c t → Torn contents a c (s ++ t)
+  Torn-after a b c s t p e q = record {
     front = s ++ q.front;
     back = q.back;
     is_front = ap (λ l. s ++ l) q.is_front ∙ sym (append_assoc s q.front q.back);
-    appended = Appends-trans _ _ _ s q.front p.appended q.appended;
-    failed = rw p.faults at q.failed;
+    appended = Appends-trans _ _ _ s q.front p q.appended;
+    failed = (q.failed.0 ∙ ap (λ n. n + 1) e, q.failed.1);
   }
 
   -- what is torn in a text is torn in a longer one
@@ -32,16 +64,25 @@ module _ {W : Type 0} (contents : W → Option (List ℕ)) where
     failed = p.failed;
   }
 
-  pub Writes-after : {T : Type 0} (a b c : Counted W) (r : Result T RunError) (s t : List ℕ) → Written contents a b s → Writes contents b c r t → Writes contents a c r (s ++ t)
-  Writes-after a b c (Ok x) s t p q = Written-trans a b c s t p q
-  Writes-after a b c (Err e) s t p q = (q.0, Torn-after a b c s t p q.1)
+  -- the end of a reply after its beginning
+  pub Closes-written : {T : Type 0} (a b c : Counted W) (r : Result T RunError) (s t : List ℕ) → Written contents a b s → Closes contents 1 b c r t → Closes contents 1 a c r (s ++ t)
+  Closes-written a b c (Ok x) s t p q = record { appended = Appends-trans _ _ _ s t p.appended q.appended; faults = q.faults ∙ p.faults; flushed = (q.flushed.0 ∙ ap one_more p.flushes, q.flushed.1) }
+  Closes-written a b c (Err e) s t p q = (q.0, Torn-after a b c s t p.appended p.faults q.1)
 
   -- and then nothing more
-  pub Writes-end : {T : Type 0} (a b c : Counted W) (r : Result T RunError) (s : List ℕ) → Written contents a b s → Writes contents b c r [] → Writes contents a c r s
-  Writes-end a b c (Ok x) s p q = subst (Written contents a c) (append-nil s) (Written-trans a b c s [] p q)
-  Writes-end a b c (Err e) s p q = (q.0, subst (Torn contents a c) (append-nil s) (Torn-after a b c s [] p q.1))
+  pub Closes-end : {T : Type 0} (a b c : Counted W) (r : Result T RunError) (s : List ℕ) → Written contents a b s → Closes contents 1 b c r [] → Closes contents 1 a c r s
+  Closes-end a b c r s p q = subst (Closes contents 1 a c r) (append-nil s) (Closes-written a b c r s [] p q)
+
+  pub Closed-nil : (w : Counted W) → Closed contents 0 w w []
+  Closed-nil w = record { appended = Appends-nil (contents w.device); faults = refl; flushed = (refl, refl) }
+
+  -- replies after replies
+  pub Closes-after : {A T : Type 0} (xs ys : List A) (a b c : Counted W) (r : Result T RunError) (s t : List ℕ)
+      → Closed contents (length xs) a b s → Closes contents (length ys) b c r t → Closes contents (length (xs ++ ys)) a c r (s ++ t)
+  Closes-after xs ys a b c (Ok x) s t p q = record { appended = Appends-trans _ _ _ s t p.appended q.appended; faults = q.faults ∙ p.faults; flushed = Flushed-append xs ys a b c p.flushed q.flushed }
+  Closes-after xs ys a b c (Err e) s t p q = (q.0, Torn-after a b c s t p.appended p.faults q.1)
 
   -- the writer failed in a text, so in a longer one
-  pub Writes-longer : {T : Type 0} (a b : Counted W) (r : Result T RunError) (s t : List ℕ) → IsErr r → Writes contents a b r s → Writes contents a b r (s ++ t)
-  Writes-longer a b (Ok x) s t e q = absurd (cc)
-  Writes-longer a b (Err x) s t e q = (q.0, Torn-longer a b s t q.1)
+  pub Closes-longer : {T : Type 0} (j k : ℕ) (a b : Counted W) (r : Result T RunError) (s t : List ℕ) → IsErr r → Closes contents j a b r s → Closes contents k a b r (s ++ t)
+  Closes-longer j k a b (Ok x) s t e q = absurd (cc)
+  Closes-longer j k a b (Err x) s t e q = (q.0, Torn-longer a b s t q.1)

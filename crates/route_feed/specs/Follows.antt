@@ -1,5 +1,5 @@
 -- What `follow` does to its devices, by how it ends.
-use Rattle.std.specs.Prelude.{◌≡◌, ℕ, ◌<◌, List, [], ◌∷◌, ◌++◌, map, All, Option, IsSome, Result, Ok, Err}
+use Rattle.std.specs.Prelude.{◌≡◌, ℕ, List, [], ◌∷◌, ◌++◌, map, All, Option, IsSome, Result, Ok, Err}
 use Rattle.std.specs.Io.KnownBytes.{Appends, Consumes, IsAtEnd}
 use Rattle.route_lines.specs.Bytes.{lines}
 use Rattle.route_lines.specs.Spelled.{reply_of}
@@ -9,7 +9,7 @@ use Rattle.route_table.specs.Flats.{flat_of}
 use Rattle.route_feed.specs.declared.counted.Counted.{Counted}
 use Rattle.route_feed.specs.declared.error.RunError.{RunError}
 use Rattle.route_feed.specs.declared.error.RunError.TheVariants as Why
-use Rattle.route_feed.specs.Counted.{inner, faults_of, ReadFault}
+use Rattle.route_feed.specs.Counted.{inner, faults_of, FailedLast, Flushed, ReadFault}
 use Rattle.route_feed.specs.Replies.{printed}
 use Rattle.route_feed.specs.Steps.{flat_line}
 use Rattle.route_feed.specs.Streams.{committed, painted, replies_in}
@@ -53,13 +53,14 @@ module _ {R W : Type 0} (remaining : R → Option (List ℕ)) (contents : W → 
     pub is_front : followed bytes ≡ front ++ back
     pub written : Appends (contents (inner old)) (contents (inner new)) front
 
-  -- at `Ok` all was read, each line is a reply line, the flat list was written, and nothing failed; at `Read` each line so
-  -- far is one; at `Line` one of them is none; at `Write` all was read, and a beginning of the flat list was written; and
-  -- nothing was written at the other errors
+  -- at `Ok` all was read, each line is a reply line, the flat list was written and flushed, and nothing failed; at `Read`
+  -- each line so far is one, and the reader failed, in its last call; at `Line` one of them is none; at `Write` all was read,
+  -- a beginning of the flat list was written, and the writer failed, in its last call; and nothing was written at the other
+  -- errors
   abbrev pub FollowEnds : Counted R → Counted R → Counted W → Counted W → Result Unit RunError → Type 0
   FollowEnds from to old new (Ok done) =
-      Follows from to old new × IsAtEnd (remaining (inner to)) × (faults_of to ≡ faults_of from) × (faults_of new ≡ faults_of old)
+      Follows from to old new × Flushed 1 old new × IsAtEnd (remaining (inner to)) × (faults_of to ≡ faults_of from) × (faults_of new ≡ faults_of old)
   FollowEnds from to old new (Err Why.Read) = MeetsReplies remaining from to × ReadFault from to × (new ≡ old)
   FollowEnds from to old new (Err Why.Line) = MeetsAnother remaining from to × (faults_of to ≡ faults_of from) × (new ≡ old)
-  FollowEnds from to old new (Err Why.Write) = FollowsPart from to old new × IsAtEnd (remaining (inner to)) × (faults_of to ≡ faults_of from) × (faults_of old < faults_of new)
+  FollowEnds from to old new (Err Why.Write) = FollowsPart from to old new × IsAtEnd (remaining (inner to)) × (faults_of to ≡ faults_of from) × FailedLast old new
   FollowEnds from to old new (Err Why.Memory) = new ≡ old

@@ -5,7 +5,7 @@ ghost use Rattle.ipnet_blocks.specs.Blocks.{Block};
 ghost use Rattle.ipnet_blocks.specs.Maximal.{IsMaximal};
 ghost use Rattle.route_feed.specs.Commands.{command_in};
 ghost use Rattle.route_feed.specs.Counted.{CanCount};
-ghost use Rattle.route_feed.specs.InnerReplies.{Answers, Writes, reply_to_rest};
+ghost use Rattle.route_feed.specs.InnerReplies.{Answers, Closes, replies_to_rest, reply_to_rest};
 ghost use Rattle.route_feed.specs.Replies.{printed};
 ghost use Rattle.route_feed.specs.Steps.{change_line};
 ghost use Rattle.route_table.specs.Tables as table_of;
@@ -40,7 +40,7 @@ pub fn answer<W: Write>(
 /// Answers what stands after the last line end.
 pub fn answer_rest<W: Write>(rest: Rest, writer: &mut Counted<W>) -> Result<(), RunError>
     requires { CanCount writer.old }
-    ensures { Writes W.contents writer.old writer.new result (reply_to_rest rest) }
+    ensures { Closes W.contents (replies_to_rest rest) writer.old writer.new result (reply_to_rest rest) }
 {
     match rest {
         Rest::Empty => Ok(()),
@@ -154,9 +154,9 @@ fn tell_change<W: Write>(
     writer: &mut Counted<W>,
 ) -> Result<(), RunError>
     requires { CanCount writer.old }
-    ensures same { before ≡ after → Writes W.contents writer.old writer.new result (printed (Reply.Close Closing.Done ∷ [])) }
+    ensures same { before ≡ after → Closes W.contents 1 writer.old writer.new result (printed (Reply.Close Closing.Done ∷ [])) }
     ensures differs { before ≢ after → (blocks : List Block) × IsMaximal (table_of.Governed table.now (block net.now)) blocks
-        × Writes W.contents writer.old writer.new result (printed (map (change_line after) blocks ++ Reply.Close Closing.Done ∷ [])) }
+        × Closes W.contents 1 writer.old writer.new result (printed (map (change_line after) blocks ++ Reply.Close Closing.Done ∷ [])) }
 {
     if before == after {
         return close(writer, Closing::Done);

@@ -174,6 +174,11 @@ fn rows_byte_by_byte(rt: HostRuntime) -> Result<(), Fail> {
         let mut writer = Counted::new(Vec::new(rt.alloc()));
         lead(rt.alloc(), &mut reader, &mut writer)?;
         assert_eq!(rt; reader.faults(), 0);
+        assert_eq!(rt; reader.failing(), false);
+        let ends = input.iter().filter(|byte| **byte == b'\n').count() as u64;
+        let is_whole = input.is_empty() || input.ends_with(b"\n");
+        assert_eq!(rt; writer.flushes(), if is_whole { ends } else { ends + 1 });
+        assert_eq!(rt; writer.waiting(), false);
         let out = writer.into_inner();
         assert_eq!(rt; out.as_slice(), wanted);
     }
@@ -192,6 +197,9 @@ fn read_fault(rt: HostRuntime) {
     assert_eq!(rt; result, Err(RunError::Read));
     assert_eq!(rt; reader.reads(), 23);
     assert_eq!(rt; reader.faults(), 1);
+    assert_eq!(rt; reader.failing(), true);
+    assert_eq!(rt; writer.flushes(), 1);
+    assert_eq!(rt; writer.waiting(), false);
     let out = writer.into_inner();
     assert_eq!(rt; out.as_slice(), b"ok\n".as_slice());
 }
@@ -215,6 +223,9 @@ fn write_faults(rt: HostRuntime) {
         let result = lead(rt.alloc(), &mut reader, &mut writer);
         assert_eq!(rt; result, Err(RunError::Write));
         assert_eq!(rt; writer.faults(), 1);
+        assert_eq!(rt; writer.failing(), true);
+        assert_eq!(rt; writer.flushes(), 0);
+        assert_eq!(rt; writer.waiting(), !wanted.is_empty());
         let narrow = writer.into_inner();
         assert_eq!(rt; narrow.held.as_slice(), wanted);
     }

@@ -1,8 +1,8 @@
 //! Replies, written.
-ghost use Rattle.std.specs.Prelude.{◌++◌, ◌∷◌, []};
-ghost use Rattle.route_feed.specs.Counted.{CanCount};
+ghost use Rattle.std.specs.Prelude.{◌≡◌, ◌++◌, ◌∷◌, [], true};
+ghost use Rattle.route_feed.specs.Counted.{CanCount, waiting_of};
 ghost use Rattle.route_feed.specs.Replies.{reply_line, printed};
-ghost use Rattle.route_feed.specs.InnerReplies.{Writes};
+ghost use Rattle.route_feed.specs.InnerReplies.{Closes, Writes};
 ghost use Rattle.route_lines.specs.Texts.{IsPrintable};
 
 use crate::body::Body;
@@ -41,8 +41,9 @@ pub fn write_line<W: Write>(writer: &mut Counted<W>, line: &Reply) -> Result<(),
 }
 
 fn flush<W: Write>(writer: &mut Counted<W>) -> Result<(), RunError>
-    requires { CanCount writer.old }
-    ensures { Writes W.contents writer.old writer.new result [] }
+    requires counts { CanCount writer.old }
+    requires waits { waiting_of writer.old ≡ true }
+    ensures { Closes W.contents 1 writer.old writer.new result [] }
 {
     writer.flush().map_err(|_| RunError::Write)
 }
@@ -50,7 +51,7 @@ fn flush<W: Write>(writer: &mut Counted<W>) -> Result<(), RunError>
 /// Writes the line that closes a reply, and flushes.
 pub fn close<W: Write>(writer: &mut Counted<W>, closing: Closing) -> Result<(), RunError>
     requires { CanCount writer.old }
-    ensures { Writes W.contents writer.old writer.new result (reply_line (Reply.Close closing)) }
+    ensures { Closes W.contents 1 writer.old writer.new result (reply_line (Reply.Close closing)) }
 {
     write_line(writer, &Reply::Close(closing))?;
     flush(writer)
@@ -60,7 +61,7 @@ pub fn close<W: Write>(writer: &mut Counted<W>, closing: Closing) -> Result<(), 
 pub fn reply<W: Write, B: Body>(writer: &mut Counted<W>, mut body: B) -> Result<(), RunError>
     requires counts { CanCount writer.old }
     requires body { B.can_give body }
-    ensures { Writes W.contents writer.old writer.new result (printed (B.lines body ++ Reply.Close Closing.Done ∷ [])) }
+    ensures { Closes W.contents 1 writer.old writer.new result (printed (B.lines body ++ Reply.Close Closing.Done ∷ [])) }
 {
     while let Some(line) = body.next_line() {
         write_line(writer, &line)?;

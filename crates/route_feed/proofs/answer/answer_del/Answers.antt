@@ -4,7 +4,7 @@ use Rattle.ipnet_blocks.specs.Blocks.{same_block}
 use Rattle.ipnet_blocks.specs.Maximal.{IsMaximal}
 use Rattle.route_table.specs.Tables.{Governed, without_block, is_stored, match_number, match_of}
 use Rattle.route_feed.specs.Steps.{change_line, change_lines}
-use Rattle.route_feed.proofs.Told.{Writes-change, del_same, del_differs, not_stored_left, on_ok}
+use Rattle.route_feed.proofs.Told.{Closes-change, del_same, del_differs, not_stored_left, on_ok}
 use Rattle.route_feed.proofs.answer.answer_del.Goals as goal
 
 pub returns-in-Some : goal.returns-in-Some
@@ -19,7 +19,7 @@ returns-in-Some g c =
     let told = c.tell_change.ensures in
     record {
       refusal = false;
-      writes = rw stored (Writes-change g.W.Write.contents (IsMaximal (Governed N b)) c.in-Some.before c.in-Some.after c.args.writer.now c.tell_change.new.writer c.tell_change.result told.same told.differs
+      writes = rw stored (Closes-change g.W.Write.contents (IsMaximal (Governed N b)) c.in-Some.before c.in-Some.after c.args.writer.now c.tell_change.new.writer c.tell_change.result told.same told.differs
           (change_lines M (without_block M b))
           (λ e. del_same M c.in-Some.ensures.tables.0 b stored (sym hops.0 ∙ e ∙ after))
           (λ bs d m. subst (λ (k : Option ℕ). change_lines M (without_block M b) ≡ map (change_line k) bs) (sym after) (del_differs M c.in-Some.ensures.tables.0 b stored bs (λ e. d (hops.0 ∙ e ∙ sym after)) (subst (λ T. IsMaximal (Governed T b) bs) is m))));

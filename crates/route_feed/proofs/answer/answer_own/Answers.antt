@@ -3,7 +3,7 @@ use Rattle.ipnet.specs.IpNets.{block}
 use Rattle.route_lines.specs.declared.reply.Closing.TheVariants.{Done}
 use Rattle.route_lines.specs.declared.reply.Reply.TheVariants.{Close}
 use Rattle.route_feed.specs.Replies.{printed}
-use Rattle.route_feed.specs.InnerReplies.{Writes}
+use Rattle.route_feed.specs.InnerReplies.{Closes}
 use Rattle.route_feed.specs.Steps.{own_line}
 use Rattle.route_feed.proofs.Owned.{map_twice}
 use Rattle.route_feed.proofs.Told.{on_ok}
@@ -15,6 +15,6 @@ returns-in-Ok g c =
     let lines = ap (λ l. map (λ n. own_line (block n)) l) c.as_slice.ensures.value ∙ map_twice own_line block ns ∙ ap (map own_line) c.in-Ok.ensures.flat in
     record {
       refusal = false;
-      writes = subst (λ ls. Writes g.W.Write.contents c.args.writer.now c.reply.new.writer c.reply.result (printed (ls ++ Close Done ∷ []))) lines c.reply.ensures;
+      writes = subst (λ ls. Closes g.W.Write.contents 1 c.args.writer.now c.reply.new.writer c.reply.result (printed (ls ++ Close Done ∷ []))) lines c.reply.ensures;
       table = on_ok c.reply.result refl;
     }

@@ -40,7 +40,7 @@ returns-in_default g c =
     record {
       bytes = inv.went.bytes;
       read = Consumes-kept _ _ _ inv.went.bytes inv.went.read c.in_default.ensures.bytes;
-      ends = inl (went_lines g.S.Sink.takes g.R.Read.remaining _ _ _ _ _ _ _ _ inv.went, refl, inl (omega (arith, c.in_default.ensures.faults, inv.faults, c.requires.reader)));
+      ends = inl (went_lines g.S.Sink.takes g.R.Read.remaining _ _ _ _ _ _ _ _ inv.went, refl, inl (omega (arith, c.in_default.ensures.faults, inv.faults, c.requires.reader), c.in_default.ensures.failing));
     }
 
 pub returns-then-count-eq0 : goal.returns-then-count-eq0
@@ -66,5 +66,5 @@ returns g c =
     record {
       bytes = inv.went.bytes;
       read = inv.went.read;
-      ends = inl (went_lines g.S.Sink.takes g.R.Read.remaining _ _ _ _ _ _ _ _ inv.went, refl, inr (omega (arith, inv.reads)));
+      ends = inl (went_lines g.S.Sink.takes g.R.Read.remaining _ _ _ _ _ _ _ _ inv.went, refl, inr (omega (arith, inv.reads), inv.faults));
     }

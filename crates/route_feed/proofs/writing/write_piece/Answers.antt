@@ -1,5 +1,6 @@
-use Rattle.std.proofs.Common.{◌≡◌, ℕ, ◌-◌, false, eqb, List, ◌++◌, length, take, drop, sym, ap, ◌∙◌, append_assoc, take-append-drop, ne_eqb}
+use Rattle.std.proofs.Common.{◌≡◌, ℕ, ◌-◌, true, false, eqb, nat_lt, arith, List, ◌++◌, length, take, drop, sym, ap, ◌∙◌, append_assoc, take-append-drop, ne_eqb}
 use Rattle.std.proofs.lemmas.List.{take_rest}
+use Rattle.std.proofs.lemmas.Bool.Decides.{nat_tests}
 use Rattle.std.proofs.KnownBytes.{Appends-trans}
 use Rattle.route_feed.proofs.writing.write_piece.Goals as goal
 
@@ -13,4 +14,13 @@ loop-left-preserved g c =
     let left = c.loop-left.left.now in
     let n = c.in-Ok.n in
     let took : eqb n 0 ≡ false = ne_eqb n 0 c.if-n-eq0.false in
-    (done ++ take n left, moves_front _ done left n split, record { appended = Appends-trans _ _ _ _ _ written.appended c.in-Ok.ensures.bytes; faults = (rw took at c.in-Ok.ensures.faults) ∙ written.faults })
+    let some : nat_lt 0 n ≡ true = grind (arith, nat_tests) in (
+      done ++ take n left,
+      moves_front _ done left n split,
+      record {
+        appended = Appends-trans _ _ _ _ _ written.appended c.in-Ok.ensures.bytes;
+        faults = (rw took at c.in-Ok.ensures.faults) ∙ written.faults;
+        flushes = c.in-Ok.ensures.flushes ∙ written.flushes;
+        waits = λ _. rw some at c.in-Ok.ensures.waiting;
+      },
+    )
