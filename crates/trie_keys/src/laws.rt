@@ -3,6 +3,7 @@ ghost use Rattle.std.specs.Prelude.{◌≤◌, length};
 ghost use Rattle.ipnet_addr.specs.Addresses.{Ipv4, Ipv6};
 ghost use Rattle.ipnet_blocks.specs.Blocks.{bit_string};
 ghost use Rattle.ipnet_blocks.specs.Networks.{block_of};
+ghost use Rattle.trie_keys.specs.Laws.{BegunAreInside, WalksAscend};
 
 use ipnet::{Ipv4Net, Ipv6Net};
 
@@ -19,3 +20,11 @@ pub fn ipv6_within(net: &Ipv6Net)
 {
     let _within = net.prefix_len();
 }
+
+/// The string of a network begins those of the networks inside it, and a walk meets networks by their first address and then
+/// by length. So the children of a key are the stored networks inside it, its cover those that contain it, and all walks
+/// ascend.
+pub fn networks()
+    ensures inside { BegunAreInside }
+    ensures order { WalksAscend }
+{}
