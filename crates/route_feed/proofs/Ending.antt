@@ -5,6 +5,7 @@ use Rattle.std.specs.Prelude.{IfSome, IsSome, OnOk}
 use Rattle.std.specs.Io.KnownBytes.{Appends}
 use Rattle.std.proofs.KnownBytes.{Consumes-whole}
 use Rattle.std.proofs.lemmas.Bool.Decides.{nat_tests}
+use Rattle.std.proofs.lemmas.List.Elements.{All-cons, All-nil}
 use Rattle.ipnet_addr.specs.Addresses.{Address, IsAddress}
 use Rattle.ipnet_addr.proofs.Ascending.{In-from_All, All-from_In}
 use Rattle.route_lines.specs.Bytes.{lines}
@@ -31,10 +32,10 @@ use Rattle.route_feed.specs.Following.{State}
 use Rattle.route_feed.specs.Follows.{AreReplies, followed, FollowEnds}
 use Rattle.route_feed.specs.InnerFollowing.{reply_in, hop_once, AllReplies}
 use Rattle.route_feed.specs.InnerReplies.{Closes}
-use Rattle.route_feed.specs.InnerRun.{Runs}
+use Rattle.route_feed.specs.InnerRun.{Runs, TakesAll}
 use Rattle.route_feed.specs.Replies.{printed}
 use Rattle.route_feed.specs.Steps.{flat_line}
-use Rattle.route_feed.specs.Streams.{Change, ends_well, committed, painted, painted_over, replies_in}
+use Rattle.route_feed.specs.Streams.{Change, ends_well, committed, painted, painted_over, pending_over, replies_in, WantsMemory}
 use Rattle.route_feed.proofs.Stepping.{Followed, Takes, followed_all, not_all, unwritten, no_read, no_write}
 
 -- ---- pieces as lines
@@ -74,6 +75,36 @@ no_pending : (e : Bool) → cond {A = List Change} e [] [] ≡ []
 no_pending true = refl
 no_pending false = refl
 
+-- one of the pieces is a reply line that wanted memory, and those before it were taken
+record Wanted (a : State) (pieces : List (List ℕ)) : Type 0 where
+  before : List (List ℕ)
+  piece : List ℕ
+  after : List (List ℕ)
+  reply : Reply
+  split : pieces ≡ before ++ piece ∷ after
+  replies : AreReplies before
+  is_reply : reply_of piece ≡ Some reply
+  wants : WantsMemory (pending_over a.pending (filter_map reply_of before)) reply
+
+wanted : {W : Type 0} (a b : State) (ps : List (List ℕ)) (old new : Counted W) → TakesAll Takes a (map line_of ps) old (Err Why.Memory) b new → Wanted a ps
+wanted a b [] old new t = absurd (let e = t.0 in cc)
+wanted a b (p ∷ ps) old new t = ⊎_elim
+    (λ q.
+    let w = wanted q.0 b ps q.1 new q.3 in
+    let is : reply_of p ≡ Some q.2.0.0 = sym (piece_reply p) ∙ q.2.0.1 in
+    record {
+      before = p ∷ w.before;
+      piece = w.piece;
+      after = w.after;
+      reply = w.reply;
+      split = ap (λ l. p ∷ l) w.split;
+      replies = All-cons (λ r. IsSome (reply_of r)) p w.before (subst IsSome (sym is) refl) w.replies;
+      is_reply = w.is_reply;
+      wants = rw is (subst (λ c. WantsMemory (pending_over c (filter_map reply_of w.before)) w.reply) q.2.0.2.pending w.wants);
+    })
+    (λ q. record { before = []; piece = p; after = ps; reply = q.1.0.0; split = refl; replies = All-nil (λ r. IsSome (reply_of r)); is_reply = sym (piece_reply p) ∙ q.1.0.1; wants = q.1.0.2 })
+    t
+
 -- ---- a new follower
 
 abbrev pub new_state : State
@@ -96,7 +127,15 @@ module _ (bs : List ℕ) (b : State) (p : Followed new_state (lines_in bs) b) wh
 module _ {R W : Type 0} (remaining : R → Option (List ℕ)) (contents : W → Option (List ℕ)) (from to : Counted R) (old : Counted W) (a b : State) (new_follower : a ≡ new_state) where
   -- a run that did not reach the end
   pub follow_stopped : (e : RunError) (new : Counted W) → Runs Takes remaining a from old (Err e) b to new → FollowEnds remaining contents from to old new (Err e)
-  follow_stopped Why.Memory new x = ⊎_elim (λ p. unwritten a b (lines_in x.bytes) old new (Ok tt) p.0) (λ p. unwritten a b (lines_in x.bytes) old new (Err Why.Memory) p.0) x.ends
+  follow_stopped Why.Memory new x = ⊎_elim
+      (λ p. absurd (let e = p.1 in cc))
+      (λ p.
+      let w = wanted new_state b (lines x.bytes) old new (subst (λ s. TakesAll Takes s (lines_in x.bytes) old (Err Why.Memory) b new) new_follower p.0) in (
+        inr (record { bytes = x.bytes; before = w.before; piece = w.piece; after = w.after; reply = w.reply; read = x.read; split = w.split; replies = w.replies; is_reply = w.is_reply; wants = w.wants }),
+        p.1,
+        unwritten a b (lines_in x.bytes) old new (Err Why.Memory) p.0,
+      ))
+      x.ends
   follow_stopped Why.Read new x = ⊎_elim
       (λ p. (
         record { bytes = x.bytes; read = x.read; replies = are_replies (lines x.bytes) (followed_all a b (lines_in x.bytes) old new p.0).replies },

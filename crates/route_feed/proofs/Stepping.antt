@@ -14,10 +14,10 @@ use Rattle.route_table.specs.Tables.{hop_at}
 use Rattle.route_feed.specs.declared.counted.Counted.{Counted}
 use Rattle.route_feed.specs.declared.error.RunError.{RunError}
 use Rattle.route_feed.specs.declared.error.RunError.TheVariants as Why
-use Rattle.route_feed.specs.Following.{State, TakesLine, hop_after, pending_after}
+use Rattle.route_feed.specs.Following.{State, TakesLine, hop_after}
 use Rattle.route_feed.specs.InnerFollowing.{reply_in, FollowsLine, hop_once, AllReplies}
 use Rattle.route_feed.specs.InnerRun.{TakesAll}
-use Rattle.route_feed.specs.Streams.{Change, change_of, closes, is_done, done_or, ends_well, committed, painted_over}
+use Rattle.route_feed.specs.Streams.{Change, change_of, closes, is_done, done_or, ends_well, committed, painted_over, pending_after}
 use Rattle.route_feed.proofs.Carried.{painted-append}
 
 -- ---- one line

@@ -1,12 +1,10 @@
 -- What a follower stands for, and what a reply line does to it.
-use Rattle.std.specs.Prelude.{◌≡◌, ℕ, ◌<◌, ◌⊎◌, Bool, List, [], ◌++◌, length, if◌then◌else◌, Option, Some, None, IsSome}
-use Rattle.std.specs.Option.{option_to_list}
+use Rattle.std.specs.Prelude.{◌≡◌, ℕ, Bool, List, if◌then◌else◌, Option, Some, None}
 use Rattle.ipnet_addr.specs.Addresses.{Address, IsAddress}
 use Rattle.route_lines.specs.declared.reply.Closing.{Closing}
-use Rattle.route_lines.specs.declared.reply.Closing.TheVariants.{Done}
 use Rattle.route_lines.specs.declared.reply.Reply.{Reply}
 use Rattle.route_table.specs.Tables.{Route, hop_at}
-use Rattle.route_feed.specs.Streams.{Change, is_done, change_of, closes, painted_over}
+use Rattle.route_feed.specs.Streams.{Change, is_done, change_of, closes, painted_over, pending_after}
 
 -- a table for the hops, the changes that wait for a closing line, and whether there was a fault
 pub record State : Type 0 where
@@ -19,16 +17,7 @@ abbrev pub hop_after : State → Option Closing → Address → Option ℕ
 hop_after s (Some closing) x = if is_done closing then painted_over (hop_at s.table x) s.pending x else hop_at s.table x
 hop_after s None x = hop_at s.table x
 
--- the changes that wait after a line
-abbrev pub pending_after : List Change → Option Closing → Option Change → List Change
-pending_after changes (Some closing) change = []
-pending_after changes None change = changes ++ option_to_list change
-
 -- the line was taken
 pub record TakesLine (old new : State) (line : Reply) : Type 0 where
   pub hops : (x : Address) → IsAddress x → hop_at new.table x ≡ hop_after old (closes line) x
   pub pending : new.pending ≡ pending_after old.pending (closes line) (change_of line)
-
--- the line may want memory: it tells a change, which is kept, or it is `ok` and some changes wait
-abbrev pub WantsMemory : State → Reply → Type 0
-WantsMemory s line = IsSome (change_of line) ⊎ ((closes line ≡ Some Done) × (0 < length s.pending))

@@ -8,8 +8,8 @@ use Rattle.route_lines.specs.declared.reply.Reply.{Reply}
 use Rattle.route_table.specs.Tables.{hop_at}
 use Rattle.route_feed.specs.declared.error.RunError.{RunError}
 use Rattle.route_feed.specs.declared.error.RunError.TheVariants as Why
-use Rattle.route_feed.specs.Following.{State, TakesLine, WantsMemory}
-use Rattle.route_feed.specs.Streams.{committed, ends_well, painted_over}
+use Rattle.route_feed.specs.Following.{State, TakesLine}
+use Rattle.route_feed.specs.Streams.{committed, ends_well, painted_over, WantsMemory}
 
 -- the reply line that a line spells: none where it is too long
 abbrev pub reply_in : Line → Option Reply
@@ -20,7 +20,7 @@ reply_in TooLong = None
 abbrev pub FollowsLine : State → Line → Result Unit RunError → State → Type 0
 FollowsLine a line (Ok done) b = (reply : Reply) × (reply_in line ≡ Some reply) × TakesLine a b reply
 FollowsLine a line (Err Why.Line) b = reply_in line ≡ None
-FollowsLine a line (Err Why.Memory) b = (reply : Reply) × (reply_in line ≡ Some reply) × WantsMemory a reply
+FollowsLine a line (Err Why.Memory) b = (reply : Reply) × (reply_in line ≡ Some reply) × WantsMemory a.pending reply
 FollowsLine a line (Err Why.Read) b = ⊥
 FollowsLine a line (Err Why.Write) b = ⊥
 

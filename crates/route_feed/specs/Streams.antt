@@ -1,5 +1,5 @@
 -- Reply streams: which changes are committed, and which hop they paint each address with.
-use Rattle.std.specs.Prelude.{ℕ, suc, Bool, true, false, List, [], ◌∷◌, ◌++◌, if◌then◌else◌, Option, Some, None, is_some}
+use Rattle.std.specs.Prelude.{◌≡◌, ℕ, suc, ◌<◌, ◌⊎◌, length, Bool, true, false, List, [], ◌∷◌, ◌++◌, if◌then◌else◌, Option, Some, None, is_some, IsSome}
 use Rattle.std.specs.List.{filter_map}
 use Rattle.std.specs.Option.{option_to_list}
 use Rattle.ipnet_addr.specs.Addresses.{Address}
@@ -61,6 +61,20 @@ committed (l ∷ ls) = if ends_well ls then option_to_list (change_of l) ++ comm
 abbrev pub closings : List Reply → ℕ
 closings [] = 0
 closings (l ∷ ls) = if is_some (closes l) then suc (closings ls) else closings ls
+
+-- the changes that wait after a line
+abbrev pub pending_after : List Change → Option Closing → Option Change → List Change
+pending_after changes (Some closing) change = []
+pending_after changes None change = changes ++ option_to_list change
+
+-- the changes that wait after these lines
+abbrev pub pending_over : List Change → List Reply → List Change
+pending_over changes [] = changes
+pending_over changes (l ∷ ls) = pending_over (pending_after changes (closes l) (change_of l)) ls
+
+-- where these changes wait, the line may want memory: it tells a change, which is kept, or it is `ok` and some wait
+abbrev pub WantsMemory : List Change → Reply → Type 0
+WantsMemory changes line = IsSome (change_of line) ⊎ ((closes line ≡ Some Done) × (0 < length changes))
 
 -- the hop of the last change whose block has the address; `now` where none has it
 abbrev pub painted_over : Option ℕ → List Change → Address → Option ℕ

@@ -5,8 +5,8 @@ ghost use Rattle.route_lines.specs.Spelled.{reply_of};
 ghost use Rattle.route_lines.specs.declared.reply.Reply.{Reply};
 ghost use Rattle.route_table.specs.Flats.{IsFlat};
 ghost use Rattle.route_table.specs.Tables.{hop_at};
-ghost use Rattle.route_feed.specs.Following.{State, TakesLine, WantsMemory};
-ghost use Rattle.route_feed.specs.Streams.{painted_over};
+ghost use Rattle.route_feed.specs.Following.{State, TakesLine};
+ghost use Rattle.route_feed.specs.Streams.{painted_over, WantsMemory};
 ghost use Rattle.route_feed.specs.InnerWaiting.{changes_of, waiting_change};
 
 use crate::error::RunError;
@@ -129,7 +129,7 @@ impl Follower {
         ensures ok { OnOk result ((line : Reply) × (reply_of text.now ≡ Some line) × TakesLine self.old self.new line) }
         ensures works { OnOk result ((self.old.failed ≡ false) × (self.new.failed ≡ false)) }
         ensures not_a_line { IsErrOf result FollowError.NotALine → (self.old.failed ≡ false) × (reply_of text.now ≡ None) }
-        ensures memory { IsErrOf result FollowError.Memory → (self.old.failed ≡ false) × (line : Reply) × (reply_of text.now ≡ Some line) × WantsMemory self.old line }
+        ensures memory { IsErrOf result FollowError.Memory → (self.old.failed ≡ false) × (line : Reply) × (reply_of text.now ≡ Some line) × WantsMemory self.old.pending line }
         ensures failed { IsErrOf result FollowError.Failed → (self.old.failed ≡ true) × (self.new ≡ self.old) }
         ensures fault { OnErr result (self.new.failed ≡ true) }
     {
@@ -146,7 +146,7 @@ impl Follower {
     fn read(&mut self, text: &[u8]) -> Result<(), FollowError>
         ensures ok { OnOk result ((line : Reply) × (reply_of text.now ≡ Some line) × TakesLine self.old self.new line) }
         ensures not_a_line { IsErrOf result FollowError.NotALine → reply_of text.now ≡ None }
-        ensures memory { IsErrOf result FollowError.Memory → (line : Reply) × (reply_of text.now ≡ Some line) × WantsMemory self.old line }
+        ensures memory { IsErrOf result FollowError.Memory → (line : Reply) × (reply_of text.now ≡ Some line) × WantsMemory self.old.pending line }
         ensures never { IsErrOf result FollowError.Failed → ⊥ }
         ensures failed { self.new.failed ≡ self.old.failed }
     {
@@ -159,7 +159,7 @@ impl Follower {
     fn take(&mut self, line: Reply) -> Result<(), FollowError>
         ensures ok { OnOk result (TakesLine self.old self.new line) }
         ensures memory { IfErr result (λ e. e ≡ FollowError.Memory) }
-        ensures wanted { OnErr result (WantsMemory self.old line) }
+        ensures wanted { OnErr result (WantsMemory self.old.pending line) }
         ensures failed { self.new.failed ≡ self.old.failed }
     {
         match line {

@@ -42,9 +42,10 @@ impl<W: Write> Sink<W> for Follower {
 /// its bytes.
 ///
 /// # Errors
-/// At each but `Write` nothing is written. `Line` where a line is no reply line; `Memory`; `Read` at an error of
-/// `read`, or where 2^62 calls of `read` didn't reach the end; `Write`, once all is read, at an error of `write` or
-/// `flush`, or where `write` takes nothing: then a beginning of the flat list was written.
+/// At each but `Write` nothing is written. `Line` where a line is no reply line; `Memory` before anything is read, or at
+/// a reply line that tells a change, or commits one; `Read` at an error of `read`, or where 2^62 calls of `read` didn't
+/// reach the end; `Write`, once all is read, at an error of `write` or `flush`, or where `write` takes nothing: then a
+/// beginning of the flat list was written.
 pub fn follow<R: Read, W: Write>(
     alloc: Global,
     reader: &mut Counted<R>,

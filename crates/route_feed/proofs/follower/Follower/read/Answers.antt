@@ -1,5 +1,5 @@
 use Rattle.std.proofs.lemmas.Result.{IfErr-at_err, on_ok_weaker}
-use Rattle.route_feed.specs.Following.{WantsMemory}
+use Rattle.route_feed.specs.Streams.{WantsMemory}
 use Rattle.route_feed.proofs.Carried.{reply_is, reply_none}
 use Rattle.route_feed.proofs.follower.Follower.read.Goals as goal
 
@@ -10,4 +10,4 @@ pub returns-clause-ok : goal.returns-clause-ok
 returns-clause-ok c = on_ok_weaker c.take.result (λ taken. (c.in-Ok.line, reply_is c.args.text.now c.in-Ok.line c.in-Ok.ensures, taken)) c.take.ensures.ok
 
 pub returns-clause-memory : goal.returns-clause-memory
-returns-clause-memory c = λ e. (c.in-Ok.line, reply_is c.args.text.now c.in-Ok.line c.in-Ok.ensures, IfErr-at_err (λ _. WantsMemory c.args.self.now c.in-Ok.line) e c.take.ensures.wanted)
+returns-clause-memory c = λ e. (c.in-Ok.line, reply_is c.args.text.now c.in-Ok.line c.in-Ok.ensures, IfErr-at_err (λ _. WantsMemory c.args.self.now.pending c.in-Ok.line) e c.take.ensures.wanted)
