@@ -17,7 +17,7 @@ use Rattle.route_table.specs.Tables.{Route, IsTable, IsHop, match_of, match_numb
 use Rattle.route_table.proofs.Changes.{same_from_test, same_itself}
 use Rattle.route_table.proofs.Matches.{In-from_filter, In-filter, block_in, no_match, match_meets, match_from, governed_match}
 use Rattle.route_table.proofs.Updates.{Sooner, Rising-filter, same_or_not, added_back, added_itself, added_other, added_is_table, left_back, left_other, left_is_table}
-use Rattle.route_table.proofs.Calls.{in_any}
+use Rattle.ipnet_addr.proofs.Basics.{list_any-from_In}
 
 -- a host block is inside each block that has its address
 pub host_inside : (x : Address) (b : Block) → HasAddress b x → IsInside (host x) b
@@ -162,7 +162,7 @@ governed_after M r m ok x = (
 -- ---- what a change leaves
 
 not_stored : (M : List Route) (b : Block) → is_stored M b ≡ false → (s : Route) → In s M → s.block ≡ b → ⊥
-not_stored M b e s i q = let h = in_any (λ r. same_block r.block b) M s i (test_from_same s.block b q) in cc
+not_stored M b e s i q = let h = list_any-from_In (λ (r : Route). same_block r.block b) M s i (test_from_same s.block b q) in cc
 
 -- a new route that is taken out again
 pub restored : (M : List Route) (r : Route) → IsTable M → IsBlock r.block → IsHop r.hop → is_stored M r.block ≡ false → without_block (with_route M r) r.block ≡ M

@@ -3,6 +3,7 @@ use Rattle.std.proofs.Common.{◌≡◌, ℕ, zero, suc, ◌+◌, ◌-◌, ◌*�
 use Rattle.std.specs.List.{flat_map}
 use Rattle.std.proofs.lemmas.List.Sums.{sum_by-cons}
 use Rattle.std.proofs.lemmas.Bool.Decides.{nat_tests}
+use Rattle.std.proofs.Math.Bool.{and-true}
 use Rattle.ipnet_addr.specs.Addresses.{width, Address, IsAddress}
 use Rattle.ipnet_blocks.specs.Blocks.{Block, IsBlock, free_bits, HasAddress, IsInside, IsLarger, IsBefore, is_inside, has_address, first_of, parent}
 use Rattle.ipnet_blocks.specs.Maximal.{IsWithin, IsMaximalBlock, IsMaximal, IsUnion, maximal_of}
@@ -264,10 +265,6 @@ both : (a b : Bool) → (a && b) ≡ true → (a ≡ true) × (b ≡ true)
 both true b e = (refl, e)
 both false b e = absurd (cc)
 
-and_true : (b : Bool) → (b && true) ≡ b
-and_true true = refl
-and_true false = refl
-
 both_true : (a b : Bool) → a ≡ true → b ≡ true → (a && b) ≡ true
 both_true true b e f = f
 both_true false b e f = absurd (cc)
@@ -311,7 +308,7 @@ module _ (n : Block) (ok : IsBlock n) where
       go false e ih =
           let same = same_set (governs n M) (governs n (r ∷ M)) (λ x a.
           let f : not (is_strict n r.block && has_address r.block x) ≡ true = ap (λ t. not (t && has_address r.block x)) e in
-          ap (λ t. governs n M x && t) f ∙ and_true (governs n M x)) in
+          ap (λ t. governs n M x && t) f ∙ and-true (governs n M x)) in
           let s = sums in
           omega arith
       go true e ih =

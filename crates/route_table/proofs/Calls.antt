@@ -1,13 +1,11 @@
 -- What calls of a side's trie answer, as answers of the side.
-use Rattle.std.proofs.Common.{◌≡◌, ℕ, ◌≤◌, ◌⊎◌, inl, inr, ⊎_elim, Bool, true, false, ◌||◌, List, [], ◌∷◌, length, map, filter, Option, Some, None, refl, sym, ap, ◌∙◌, arith}
+use Rattle.std.proofs.Common.{◌≡◌, ℕ, ◌≤◌, Bool, true, List, [], ◌∷◌, length, map, filter, Option, Some, None, refl, sym, ap, ◌∙◌, arith}
 use Rattle.std.proofs.lemmas.List.{length-map}
 use Rattle.std.specs.Borrow.{Bor}
 use Rattle.std.specs.Prelude.{is_some, MatchOption}
-use Rattle.std.specs.List.{list_any}
 use Rattle.std.specs.Option.{option_map}
 use Rattle.std.specs.FinMap.{get, entries, from_entries, len, len-entries, same_map, get-entries, get-from_entries}
 use Rattle.ipnet_addr.specs.Addresses.{Family, width, same_family}
-use Rattle.ipnet_addr.proofs.Members.{In}
 use Rattle.ipnet_addr.proofs.Ascending.{In-from_All}
 use Rattle.ipnet_blocks.specs.Blocks.{Block, IsBlock, bit_string, same_block}
 use Rattle.ipnet_blocks.specs.Networks.{Network}
@@ -27,6 +25,8 @@ use Rattle.route_table.specs.Onwards.{count_of}
 use Rattle.route_table.specs.declared.hop.Hop.{Hop}
 use Rattle.route_table.proofs.Matches.{bools_same}
 use Rattle.route_table.proofs.Parts.{same_itself}
+use Rattle.ipnet_addr.proofs.Basics.{In-from_list_any, list_any-from_In}
+use Rattle.ipnet_addr.proofs.Families.{test_from_family}
 use Rattle.route_table.proofs.Searches.{no_match_at, match_at}
 use Rattle.route_table.proofs.Seams.{has_route, in_side, is_side}
 use Rattle.route_table.proofs.Sides.{all_pass}
@@ -56,31 +56,15 @@ module _ (n : Block) (okn : IsBlock n) (m : BitMap Hop) (ok : IsStored n.family 
 
 -- ---- what is stored
 
-or_cases : (a b : Bool) → (a || b) ≡ true → (a ≡ true) ⊎ (b ≡ true)
-or_cases true b e = inl refl
-or_cases false b e = inr e
-
-or_right : (a b : Bool) → b ≡ true → (a || b) ≡ true
-or_right true b e = refl
-or_right false b e = e
-
-any_in : (p : Route → Bool) (M : List Route) → list_any p M ≡ true → (r : Route) × In r M × (p r ≡ true)
-any_in p [] e = absurd (cc)
-any_in p (r ∷ M) e = ⊎_elim (λ q. (r, inl refl, q)) (λ f. let t = any_in p M f in (t.0, inr t.1, t.2)) (or_cases (p r) (list_any p M) e)
-
-pub in_any : (p : Route → Bool) (M : List Route) (r : Route) → In r M → p r ≡ true → list_any p M ≡ true
-in_any p [] r i e = absurd i
-in_any p (s ∷ M) r i e = ⊎_elim (λ q. ap (λ b. b || list_any p M) (sym (ap p q) ∙ e)) (λ j. or_right (p s) (list_any p M) (in_any p M r j e)) i
-
 pub stored_is : (b : Block) → IsBlock b → (m : BitMap Hop) → IsStored b.family m → is_some (get m (bit_string b)) ≡ is_stored (routes_in b.family m) b
 stored_is b okb m ok = bools_same (is_some (get m (bit_string b))) (is_stored (routes_in b.family m) b)
     (λ e. go (get m (bit_string b)) refl e)
-    (λ e. let t = any_in (λ r. same_block r.block b) (routes_in b.family m) e in
+    (λ e. let t = In-from_list_any (λ r. same_block r.block b) (routes_in b.family m) e in
     ap is_some (ap (λ (d : Block). get m (bit_string d)) (sym (same_from_test t.0.block b t.2)) ∙ (has_route b.family m ok t.0 t.1).stored))
   where
     go : (o : Option Hop) → get m (bit_string b) ≡ o → is_some (get m (bit_string b)) ≡ true → is_stored (routes_in b.family m) b ≡ true
     go None q e = absurd (let f = ap is_some q in cc)
-    go (Some k) q e = in_any (λ r. same_block r.block b) (routes_in b.family m) (record { block = b; hop = k }) (in_side b.family m ok (record { block = b; hop = k }) (record { family = refl; block = okb; stored = q })) (test_from_same b b refl)
+    go (Some k) q e = list_any-from_In (λ (r : Route). same_block r.block b) (routes_in b.family m) (record { block = b; hop = k }) (in_side b.family m ok (record { block = b; hop = k }) (record { family = refl; block = okb; stored = q })) (test_from_same b b refl)
 
 -- ---- the map of a side
 

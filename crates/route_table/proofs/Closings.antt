@@ -9,7 +9,7 @@ use Rattle.route_table.specs.declared.runs.Reach.{Reach}
 use Rattle.route_table.specs.declared.runs.Run.{Run}
 use Rattle.route_table.specs.declared.runs.Runs.{Runs}
 use Rattle.route_table.specs.declared.runs.Step.TheVariants as step
-use Rattle.route_table.specs.InnerRunning.{reach_of, painted, coming, innermost, over, from_on, hops_left, ArePlaced, AreRuns, changes_left, StepsRun, IsPast, joined, step_of}
+use Rattle.route_table.specs.InnerRunning.{reach_of, topmost, coming, innermost, over, from_on, hops_left, ArePlaced, AreRuns, changes_left, StepsRun, IsPast, joined, step_of}
 use Rattle.route_table.proofs.Paints.{IsSpanOf, EndsBefore}
 use Rattle.route_table.proofs.Openings.{last_of, popped, inner_pushed, in_turn, ends_within, ends_from, closed_are, closed_here, closed_later, family_closes}
 use Rattle.route_table.proofs.Turns.{turned, hops_are, placed_as, changes_as, hand_from, ends_from_hand}
@@ -27,7 +27,7 @@ module _ (w v : Runs) (a : AreRuns w) (going : w.done ≡ false) (last : ℕ) (n
   left : coming v.next v.rest ≡ coming w.next w.rest
   left i = coming (next i) (rest i)
 
-  hops_before : hops_left w ≡ (λ x. over w.run (from_on false w.at (painted None (w.stack.items ++ coming w.next w.rest)) x) x)
+  hops_before : hops_left w ≡ (λ x. over w.run (from_on false w.at (topmost None (w.stack.items ++ coming w.next w.rest)) x) x)
   hops_before = hops_are w false w.at w.stack.items (coming w.next w.rest) going refl refl refl
 
   place_before : cond w.done (w.end + 1) w.at ≡ w.at
@@ -59,10 +59,10 @@ module _ (w v : Runs) (a : AreRuns w) (going : w.done ≡ false) (last : ℕ) (n
     placed_then : ArePlaced v.stack.items (coming v.next v.rest) v.at v.end
     placed_then = placed_as v (t.last + 1) w.end os (coming w.next w.rest) (at ∙ ap (λ n. n + 1) (sym top_last)) end stack_then left (closed_are os t (coming w.next w.rest) w.at w.end placed far' (omega (arith, top_last)))
 
-    hops_held : hops_left w ≡ (λ x. over w.run (from_on false w.at (painted None ((os ++ t ∷ []) ++ coming w.next w.rest)) x) x)
+    hops_held : hops_left w ≡ (λ x. over w.run (from_on false w.at (topmost None ((os ++ t ∷ []) ++ coming w.next w.rest)) x) x)
     hops_held = hops_are w false w.at (os ++ t ∷ []) (coming w.next w.rest) going refl split refl
 
-    hops_then : hops_left v ≡ (λ x. over v.run (from_on false (t.last + 1) (painted None (os ++ coming w.next w.rest)) x) x)
+    hops_then : hops_left v ≡ (λ x. over v.run (from_on false (t.last + 1) (topmost None (os ++ coming w.next w.rest)) x) x)
     hops_then = hops_are v false (t.last + 1) os (coming w.next w.rest) (still ∙ going) (at ∙ ap (λ n. n + 1) (sym top_last)) stack_then left
 
     fewer : changes_left v < changes_left w
@@ -80,7 +80,7 @@ module _ (w v : Runs) (a : AreRuns w) (going : w.done ≡ false) (last : ℕ) (n
         let e : w.at ≡ last + 1 = omega arith in (
           record { placed = placed_then; hand = hand_from v.run v.done v.at v.end (last + 1) place_then (subst (λ (o : Option Run). EndsBefore o (last + 1)) (sym run) (ends_from_hand w.run w.done w.at w.end (last + 1) (place_before ∙ e) a.hand)) },
           (
-            λ x. ap (λ h. h x) hops_held ∙ ap (λ o. over w.run o x) (closed_here os t (coming w.next w.rest) w.at w.end placed far' (omega (arith, top_last)) x) ∙ ap (λ o. over o (from_on false (t.last + 1) (painted None (os ++ coming w.next w.rest)) x) x) (sym run) ∙ ap (λ h. h x) (sym hops_then),
+            λ x. ap (λ h. h x) hops_held ∙ ap (λ o. over w.run o x) (closed_here os t (coming w.next w.rest) w.at w.end placed far' (omega (arith, top_last)) x) ∙ ap (λ o. over o (from_on false (t.last + 1) (topmost None (os ++ coming w.next w.rest)) x) x) (sym run) ∙ ap (λ h. h x) (sym hops_then),
             fewer,
           ),
         )
@@ -88,7 +88,7 @@ module _ (w v : Runs) (a : AreRuns w) (going : w.done ≡ false) (last : ℕ) (n
     route_later : w.at ≤ last → v.run ≡ (joined w.run (record { first = w.at; last = last }) number).1 → AreRuns v × StepsRun w (step_of (joined w.run (record { first = w.at; last = last }) number).0) v
     route_later b run =
         let s : Span = record { first = w.at; last = last } in
-        let i : IsSpanOf (record { first = w.at; last = last }) number _ _ = subst (λ (p : ℕ × Option ℕ). IsSpanOf (record { first = w.at; last = p.0 }) p.1 (λ x. from_on false w.at (painted None ((os ++ t ∷ []) ++ coming w.next w.rest)) x) (λ x. from_on false (t.last + 1) (painted None (os ++ coming w.next w.rest)) x)) (sym top)
+        let i : IsSpanOf (record { first = w.at; last = last }) number _ _ = subst (λ (p : ℕ × Option ℕ). IsSpanOf (record { first = w.at; last = p.0 }) p.1 (λ x. from_on false w.at (topmost None ((os ++ t ∷ []) ++ coming w.next w.rest)) x) (λ x. from_on false (t.last + 1) (topmost None (os ++ coming w.next w.rest)) x)) (sym top)
         (closed_later os t (coming w.next w.rest) w.at w.end placed far' (omega (arith, top_last))) in
         let u = turned w v s number _ _ i hops_held hops_then a.hand place_before place_then run (omega arith) fewer in
         (record { placed = placed_then; hand = u.0 }, u.1)
@@ -119,7 +119,7 @@ module _ (w v : Runs) (a : AreRuns w) (going : w.done ≡ false) (last : ℕ) (n
     family_later : v.run ≡ (joined w.run (record { first = w.at; last = last }) number).1 → AreRuns v × StepsRun w (step_of (joined w.run (record { first = w.at; last = last }) number).0) v
     family_later run =
         let s : Span = record { first = w.at; last = last } in
-        let i : IsSpanOf (record { first = w.at; last = last }) number _ _ = subst (λ n. IsSpanOf (record { first = w.at; last = n }) number (λ x. from_on false w.at (painted None (w.stack.items ++ coming w.next w.rest)) x) (λ x. None)) (sym at_end)
+        let i : IsSpanOf (record { first = w.at; last = last }) number _ _ = subst (λ n. IsSpanOf (record { first = w.at; last = n }) number (λ x. from_on false w.at (topmost None (w.stack.items ++ coming w.next w.rest)) x) (λ x. None)) (sym at_end)
         (family_closes w.stack.items (coming w.next w.rest) w.at w.end a.placed number inner_end far_end (λ x. None) (λ x. refl)) in
         let to : cond v.done (v.end + 1) v.at ≡ last + 1 = ap (λ d. cond d (v.end + 1) v.at) over' ∙ ap (λ n. n + 1) (end ∙ sym at_end) in
         let u = turned w v s number _ _ i hops_before hops_done a.hand place_before to run (omega (arith, at_end)) fewer_done in

@@ -1,26 +1,17 @@
 -- What a finite map of bit strings has, as membership of its entries.
-use Rattle.std.proofs.Common.{◌≡◌, inl, inr, ⊎_elim, Bool, true, false, cond, ◌&&◌, List, [], ◌∷◌, Some, refl, sym, ap, ◌∙◌}
+use Rattle.std.proofs.Common.{◌≡◌, inl, inr, ⊎_elim, Bool, true, false, cond, List, [], ◌∷◌, Some, refl, sym, ap, ◌∙◌}
 use Rattle.std.specs.Prelude.{T}
 use Rattle.std.specs.declared.cmp.Ordering.{Ordering}
 use Rattle.std.specs.declared.cmp.Ordering.TheVariants.{Less, Equal, Greater}
 use Rattle.std.specs.Ordering.{is_lt}
 use Rattle.std.specs.FinMap.{find, is_sorted, entries, entries_sorted, get, get-entries}
 use Rattle.std.specs.FinMap.Entries.{below_all}
+use Rattle.ipnet_addr.proofs.Basics.{T-parts, less_from_T}
 use Rattle.ipnet_addr.proofs.Members.{In}
 use Rattle.ipnet_addr.proofs.Ascending.{Rising}
 use Rattle.ipnet_blocks.specs.BitStrings.{bits_cmp}
 use Rattle.trie_core.specs.Nodes.{BitMap}
 use Rattle.trie_core.proofs.Strings.{same, same-Decides, same_false}
-
-parts : (a b : Bool) → T (a && b) → T a × T b
-parts true true h = (tt, tt)
-parts true false h = absurd h
-parts false b h = absurd h
-
-less : (o : Ordering) → T (is_lt o) → o ≡ Less
-less Less h = refl
-less Equal h = absurd h
-less Greater h = absurd h
 
 apart : (s : List Bool) → bits_cmp s s ≡ Less → ⊥
 apart s e = let f = (same-Decides s s).1 refl in let g = ap is_eq_of e in cc
@@ -37,13 +28,13 @@ module _ {X : Type 0} where
   below : (x : List Bool) (es : List (List Bool × X)) → T (below_all bits_cmp x es) → (e : List Bool × X) → In e es → bits_cmp x e.0 ≡ Less
   below x [] h e i = absurd i
   below x (d ∷ es) h e i =
-      let p = parts (is_lt (bits_cmp x d.0)) (below_all bits_cmp x es) h in
-      ⊎_elim (λ q. ap (λ (c : List Bool × X). bits_cmp x c.0) q ∙ less (bits_cmp x d.0) p.0) (λ j. below x es p.1 e j) i
+      let p = T-parts (is_lt (bits_cmp x d.0)) (below_all bits_cmp x es) h in
+      ⊎_elim (λ q. ap (λ (c : List Bool × X). bits_cmp x c.0) q ∙ less_from_T (bits_cmp x d.0) p.0) (λ j. below x es p.1 e j) i
 
   pub rising : (es : List (List Bool × X)) → T (is_sorted bits_cmp es) → Rising KeysRise es
   rising [] h = tt
   rising (e ∷ es) h =
-      let p = parts (below_all bits_cmp e.0 es) (is_sorted bits_cmp es) h in
+      let p = T-parts (below_all bits_cmp e.0 es) (is_sorted bits_cmp es) h in
       (below e.0 es p.0, rising es p.1)
 
   some_same : (x y : X) → Some x ≡ Some y → x ≡ y

@@ -15,7 +15,7 @@ use Rattle.route_table.specs.Bounds.{pieces_in, lengths_in}
 use Rattle.route_table.specs.Flats.{Piece, IsFlat, one_hop_in, piece_or, flat_in, flat_of}
 use Rattle.route_table.specs.Tables.{Route, IsTable, hop_at, match_of, match_number}
 use Rattle.route_table.proofs.Flats.{same_flat}
-use Rattle.route_table.proofs.Paints.{none_some}
+use Rattle.std.proofs.lemmas.Option.{none-some}
 use Rattle.route_table.proofs.FlatSearch.{all_from_one, one_from_all, search_is_flat}
 use Rattle.route_table.proofs.Matches.{block_in, inside_from_test, test_from_inside, governed_match}
 
@@ -127,7 +127,7 @@ no_hop_here h (suc k) t ok e none =
   where
     go : (o : Option ℕ) → one_hop_in h (suc k) t ≡ o → one_hop_in h (suc k) t ≡ None
     go None q = q
-    go (Some n) q = absurd (none_some n (sym (none (first_of t) (has_first t)) ∙ all_from_one h (suc k) t ok e n q (first_of t) (has_first t)))
+    go (Some n) q = absurd (none-some n (sym (none (first_of t) (has_first t)) ∙ all_from_one h (suc k) t ok e n q (first_of t) (has_first t)))
 
 of_family : (h : Address → Option ℕ) (k : ℕ) (t : Block) (p : Piece) → In p (flat_in h k t) → Block.family p.block ≡ t.family
 unfolding flat_in
@@ -169,7 +169,7 @@ module _ (M : List Route) (table : IsTable M) where
     where
       alone : one_hop_in (hop_at M) (suc k) t ≡ None → sum_by (count t) M ≡ 0 → (o : Option ℕ) → match_number (match_of M t) ≡ o → length (flat_in (hop_at M) (suc k) t) ≤ 1 + sum_by (weight t) M
       alone q z None f = let l = ap length (no_hop_here (hop_at M) (suc k) t ok e (λ x m. steady t ok z x m ∙ f)) in omega arith
-      alone q z (Some n) f = absurd (none_some n (sym q ∙ one_from_all (hop_at M) (suc k) t ok e n (λ x m. steady t ok z x m ∙ f)))
+      alone q z (Some n) f = absurd (none-some n (sym q ∙ one_from_all (hop_at M) (suc k) t ok e n (λ x m. steady t ok z x m ∙ f)))
 
       go : (o : Option ℕ) → one_hop_in (hop_at M) (suc k) t ≡ o → length (flat_in (hop_at M) k (left t)) ≤ 1 + sum_by (weight (left t)) M → length (flat_in (hop_at M) k (right t)) ≤ 1 + sum_by (weight (right t)) M
           → sum_by (weight (left t)) M + sum_by (weight (right t)) M + sum_by (count t) M ≤ sum_by (weight t) M → length (flat_in (hop_at M) (suc k) t) ≤ 1 + sum_by (weight t) M

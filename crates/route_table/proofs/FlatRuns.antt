@@ -18,7 +18,7 @@ use Rattle.ipnet_blocks.proofs.Unions.{IsFarBefore, maximal_join, maximal_same}
 use Rattle.route_table.specs.Flats.{Piece, IsFlat, blocks_of, flat_of}
 use Rattle.route_table.specs.InnerFlattening.{piece_of}
 use Rattle.route_table.proofs.Flats.{Sooner, In-map, In-map_back, same_flat, maximal_same as block_same}
-use Rattle.route_table.proofs.Paints.{none_some}
+use Rattle.std.proofs.lemmas.Option.{none-some}
 use Rattle.route_table.proofs.FlatSearch.{search_is_flat}
 use Rattle.route_table.proofs.Matches.{In-filter, In-from_filter}
 use Rattle.route_table.proofs.Own.{own_is_maximal}
@@ -69,10 +69,10 @@ module _ (f : Family) (s : Span) (n : ℕ) (h later : Address → Option ℕ) (i
 
   -- what has a hop later is past the span
   past : (x : Address) (k : ℕ) → later x ≡ Some k → IsPastSpan f s x
-  past x k e = ⊎_elim (λ i. absurd (none_some k (sym i.3 ∙ e))) (λ o. o.1 k (sym o.0 ∙ e)) (is.split x)
+  past x k e = ⊎_elim (λ i. absurd (none-some k (sym i.3 ∙ e))) (λ o. o.1 k (sym o.0 ∙ e)) (is.split x)
 
   kept : (x : Address) (k : ℕ) → later x ≡ Some k → h x ≡ Some k
-  kept x k e = ⊎_elim (λ i. absurd (none_some k (sym i.3 ∙ e))) (λ o. sym o.0 ∙ e) (is.split x)
+  kept x k e = ⊎_elim (λ i. absurd (none-some k (sym i.3 ∙ e))) (λ o. sym o.0 ∙ e) (is.split x)
 
   far : (x y : Address) → S x → later y ≡ Some n → IsFarBefore x y
   far x y i e =
@@ -170,7 +170,7 @@ no_pieces h none = go (flat_of h) refl
     go [] e = refl
     go (p ∷ ps) e =
         let m = ((search_is_flat h).exact p).0 (Contains-from_In (flat_of h) p (subst (λ qs. In p qs) (sym e) (inl refl))) in
-        absurd (none_some p.number (sym (none (first_of p.block)) ∙ m.within.all (first_of p.block) (has_first p.block)))
+        absurd (none-some p.number (sym (none (first_of p.block)) ∙ m.within.all (first_of p.block) (has_first p.block)))
 
 -- the flat list of the same hops
 pub flat_of_same : (g h : Address → Option ℕ) → ((x : Address) → IsAddress x → g x ≡ h x) → IsFlat h (flat_of g)

@@ -19,13 +19,13 @@ use Rattle.route_table.specs.Tables.{Route, IsTable, IsHop, hop_at}
 use Rattle.route_table.specs.declared.flat.Pieces.{Pieces}
 use Rattle.route_table.specs.Flats.{Piece, IsFlat, flat_of}
 use Rattle.route_table.specs.InnerFlattening.{piece_of, pieces_of, pieces_left, hops_in, hops_of, AreBoth}
-use Rattle.route_table.specs.InnerRunning.{IsFirstRun, hops_left, painted, reach_of}
+use Rattle.route_table.specs.InnerRunning.{IsFirstRun, hops_left, topmost, reach_of}
 use Rattle.route_table.specs.declared.flat.BothRuns.{BothRuns}
 use Rattle.route_table.specs.declared.runs.Run.{Run}
 use Rattle.route_table.specs.declared.runs.Runs.{Runs}
 use Rattle.route_table.proofs.FlatRuns.{IsFirstSpan, IsPastSpan, first_then_rest, flat_of_same, no_pieces}
-use Rattle.route_table.proofs.Paints.{none_some}
-use Rattle.route_table.proofs.Painted.{painted_is}
+use Rattle.std.proofs.lemmas.Option.{none-some}
+use Rattle.route_table.proofs.Painted.{topmost_is}
 use Rattle.route_table.proofs.Openings.{rising_back}
 use Rattle.route_table.proofs.Updates.{Sooner}
 use Rattle.route_table.proofs.Gaps.{blocks_given, some_cut, cut_of_limits}
@@ -40,7 +40,7 @@ module _ (h g later : ℕ → Option ℕ) (r : Run) (is : IsFirstRun h r later) 
   split_number f x = ⊎_elim
       (λ (l : r.span.last < x). inr (is.kept x l, λ k e. inr (refl, l)))
       (λ u. ⊎_elim
-      (λ (l : x < r.span.first). inr (is.gone x u ∙ sym (is.before x l), λ k e. absurd (none_some k (sym (is.before x l) ∙ e))))
+      (λ (l : x < r.span.first). inr (is.gone x u ∙ sym (is.before x l), λ k e. absurd (none-some k (sym (is.before x l) ∙ e))))
       (λ l. inl (refl, l, u, is.gone x u))
       (cases_lt x r.span.first))
       (cases_lt r.span.last x)
@@ -74,7 +74,7 @@ module _ (h g later : ℕ → Option ℕ) (r : Run) (is : IsFirstRun h r later) 
   }
     where
       at : (f : Family) (x : ℕ) → Split Ipv6 (six h) (six later) (record { family = f; number = x })
-      at Ipv4 x = inr (refl, λ k e. absurd (none_some k (sym (none x) ∙ e)))
+      at Ipv4 x = inr (refl, λ k e. absurd (none-some k (sym (none x) ∙ e)))
       at Ipv6 x = split_number Ipv6 x
 
 -- hops that are none in both families
@@ -157,14 +157,14 @@ module _ (rs ss : List Route) (table : IsTable (rs ++ ss)) (ipv4 : OfFamily Ipv4
   apart : (f : Family) → f ≡ Ipv4 → f ≡ Ipv6 → ⊥
   apart f p q = let e = ap rank (sym p ∙ q) in omega arith
 
-  pub both_paint : (h g : ℕ → Option ℕ) → ((x : ℕ) → h x ≡ painted None (map reach_of rs) x) → ((x : ℕ) → g x ≡ painted None (map reach_of ss) x) → (x : Address) → IsAddress x → hops_in h g x.family x.number ≡ hop_at (rs ++ ss) x
+  pub both_paint : (h g : ℕ → Option ℕ) → ((x : ℕ) → h x ≡ topmost None (map reach_of rs) x) → ((x : ℕ) → g x ≡ topmost None (map reach_of ss) x) → (x : Address) → IsAddress x → hops_in h g x.family x.number ≡ hop_at (rs ++ ss) x
   both_paint h g p q x a = at x.family x.number a
     where
       at : (f : Family) (y : ℕ) → IsAddress (record { family = f; number = y }) → hops_in h g f y ≡ hop_at (rs ++ ss) (record { family = f; number = y })
-      at Ipv4 y a = p y ∙ painted_is (rs ++ ss) table Ipv4 rs (rising_front Sooner rs ss (Rising-from_pairs Sooner (rs ++ ss) table.ascending))
+      at Ipv4 y a = p y ∙ topmost_is (rs ++ ss) table Ipv4 rs (rising_front Sooner rs ss (Rising-from_pairs Sooner (rs ++ ss) table.ascending))
           (λ r i. (In-left r rs ss i, is_four r i)) (λ r i e. ⊎_elim (λ j. j) (λ j. absurd (apart r.block.family e (is_six r j))) (In-cases r rs ss i)) (record { family = Ipv4; number = y }) a refl
-      at Ipv6 y a = q y ∙ painted_is (rs ++ ss) table Ipv6 ss (rising_back Sooner rs ss (Rising-from_pairs Sooner (rs ++ ss) table.ascending))
+      at Ipv6 y a = q y ∙ topmost_is (rs ++ ss) table Ipv6 ss (rising_back Sooner rs ss (Rising-from_pairs Sooner (rs ++ ss) table.ascending))
           (λ r i. (In-right r rs ss i, is_six r i)) (λ r i e. ⊎_elim (λ j. absurd (apart r.block.family (is_four r j) e)) (λ j. j) (In-cases r rs ss i)) (record { family = Ipv6; number = y }) a refl
 
-  pub whole_flat : (p : Pieces) (w : BothRuns) → pieces_of p ≡ [] → ((x : ℕ) → hops_left w.v4 x ≡ painted None (map reach_of rs) x) → ((x : ℕ) → hops_left w.v6 x ≡ painted None (map reach_of ss) x) → IsFlat (hop_at (rs ++ ss)) (pieces_left p w)
+  pub whole_flat : (p : Pieces) (w : BothRuns) → pieces_of p ≡ [] → ((x : ℕ) → hops_left w.v4 x ≡ topmost None (map reach_of rs) x) → ((x : ℕ) → hops_left w.v6 x ≡ topmost None (map reach_of ss) x) → IsFlat (hop_at (rs ++ ss)) (pieces_left p w)
   whole_flat p w none h g = subst (IsFlat (hop_at (rs ++ ss))) (ap (λ ps. ps ++ flat_of (hops_of w)) (sym none)) (flat_of_same (hops_of w) (hop_at (rs ++ ss)) (both_paint (hops_left w.v4) (hops_left w.v6) h g))

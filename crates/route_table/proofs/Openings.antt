@@ -6,28 +6,28 @@ use Rattle.ipnet_addr.proofs.Members.{In, In-left, In-right, In-cases}
 use Rattle.ipnet_addr.proofs.Ascending.{In-from_All, All-from_In, Rising, Rising-from_pairs, pairs_from_Rising}
 use Rattle.ipnet_blocks.proofs.Lists.{rising_append, rising_cross, rising_front}
 use Rattle.route_table.specs.declared.runs.Reach.{Reach}
-use Rattle.route_table.specs.InnerRunning.{painted, innermost, from_on, Follows, IsOpen, IsComing, ArePlaced}
+use Rattle.route_table.specs.InnerRunning.{topmost, innermost, from_on, IsApartOrInside, IsOpen, IsComing, ArePlaced}
 use Rattle.route_table.proofs.Paints.{lies, lies_before, lies_after, IsSpanOf}
 
--- ---- what is painted
+-- ---- the topmost of some routes
 
-pub painted_append : (k : Option ℕ) (rs ss : List Reach) (x : ℕ) → painted k (rs ++ ss) x ≡ painted (painted k rs x) ss x
-painted_append k [] ss x = refl
-painted_append k (r ∷ rs) ss x = painted_append (cond (nat_le r.first x && nat_le x r.last) r.number k) rs ss x
+pub topmost_append : (k : Option ℕ) (rs ss : List Reach) (x : ℕ) → topmost k (rs ++ ss) x ≡ topmost (topmost k rs x) ss x
+topmost_append k [] ss x = refl
+topmost_append k (r ∷ rs) ss x = topmost_append (cond (nat_le r.first x && nat_le x r.last) r.number k) rs ss x
 
 -- routes that do not have a number leave it
-pub painted_apart : (k : Option ℕ) (rs : List Reach) (x : ℕ) → ((r : Reach) → In r rs → (x < r.first) ⊎ (r.last < x)) → painted k rs x ≡ k
-painted_apart k [] x h = refl
-painted_apart k (r ∷ rs) x h =
-    ap (λ o. painted o rs x) (cond-false (nat_le r.first x && nat_le x r.last) r.number k (⊎_elim (λ l. lies_before r.first r.last x l) (λ l. lies_after r.first r.last x l) (h r (inl refl))))
-    ∙ painted_apart k rs x (λ s i. h s (inr i))
+pub topmost_apart : (k : Option ℕ) (rs : List Reach) (x : ℕ) → ((r : Reach) → In r rs → (x < r.first) ⊎ (r.last < x)) → topmost k rs x ≡ k
+topmost_apart k [] x h = refl
+topmost_apart k (r ∷ rs) x h =
+    ap (λ o. topmost o rs x) (cond-false (nat_le r.first x && nat_le x r.last) r.number k (⊎_elim (λ l. lies_before r.first r.last x l) (λ l. lies_after r.first r.last x l) (h r (inl refl))))
+    ∙ topmost_apart k rs x (λ s i. h s (inr i))
 
 -- of routes that all have a number the last one tells
-painted_open : (e : ℕ) (k : Option ℕ) (rs : List Reach) (x : ℕ) → ((r : Reach) → In r rs → (r.first ≤ x) × (x ≤ r.last)) → painted k rs x ≡ (innermost (e, k) rs).1
-painted_open e k [] x h = refl
-painted_open e k (r ∷ rs) x h =
+topmost_open : (e : ℕ) (k : Option ℕ) (rs : List Reach) (x : ℕ) → ((r : Reach) → In r rs → (r.first ≤ x) × (x ≤ r.last)) → topmost k rs x ≡ (innermost (e, k) rs).1
+topmost_open e k [] x h = refl
+topmost_open e k (r ∷ rs) x h =
     let o = h r (inl refl) in
-    ap (λ j. painted j rs x) (cond-true (nat_le r.first x && nat_le x r.last) r.number k (lies r.first r.last x o.0 o.1)) ∙ painted_open r.last r.number rs x (λ s i. h s (inr i))
+    ap (λ j. topmost j rs x) (cond-true (nat_le r.first x && nat_le x r.last) r.number k (lies r.first r.last x o.0 o.1)) ∙ topmost_open r.last r.number rs x (λ s i. h s (inr i))
 
 -- ---- the innermost of the open routes
 
@@ -87,8 +87,8 @@ module _ (stack coming : List Reach) (at end : ℕ) (p : ArePlaced stack coming 
   nests : Rising IsNested stack
   nests = Rising-from_pairs IsNested stack p.nested
 
-  follows : Rising Follows (stack ++ coming)
-  follows = Rising-from_pairs Follows (stack ++ coming) p.follow
+  follows : Rising IsApartOrInside (stack ++ coming)
+  follows = Rising-from_pairs IsApartOrInside (stack ++ coming) p.follow
 
   -- the end and the number of the innermost, and whether a number is before all that comes
   module _ (last : ℕ) (number : Option ℕ) (inner : (last, number) ≡ innermost (end, None) stack) where
@@ -105,24 +105,24 @@ module _ (stack coming : List Reach) (at end : ℕ) (p : ArePlaced stack coming 
     ends_from = let l = inner_from at end None stack (let o = p.order in omega arith) (λ s j. (open_at s j).ends) in omega (arith, is_last)
 
     -- up to the next change all have the innermost number
-    pub steady : (x : ℕ) → at ≤ x → x ≤ last → ((r : Reach) → In r coming → x < r.first) → painted None (stack ++ coming) x ≡ number
+    pub steady : (x : ℕ) → at ≤ x → x ≤ last → ((r : Reach) → In r coming → x < r.first) → topmost None (stack ++ coming) x ≡ number
     steady x l u before =
-        painted_append None stack coming x ∙ painted_apart (painted None stack x) coming x (λ r i. inl (before r i))
-        ∙ painted_open end None stack x (λ r i. (let b = (open_at r i).begun in omega arith, let e = ends_before r i in omega arith)) ∙ (λ i. (sym inner i).1)
+        topmost_append None stack coming x ∙ topmost_apart (topmost None stack x) coming x (λ r i. inl (before r i))
+        ∙ topmost_open end None stack x (λ r i. (let b = (open_at r i).begun in omega arith, let e = ends_before r i in omega arith)) ∙ (λ i. (sym inner i).1)
 
   -- no route has what is past the family
-  pub painted_past : (x : ℕ) → end < x → painted None (stack ++ coming) x ≡ None
-  painted_past x l = painted_apart None (stack ++ coming) x (λ r i. inr (⊎_elim (λ j. let f = (open_at r j).fits in omega arith) (λ j. let f = (comes r j).fits in omega arith) (In-cases r stack coming i)))
+  pub topmost_past : (x : ℕ) → end < x → topmost None (stack ++ coming) x ≡ None
+  topmost_past x l = topmost_apart None (stack ++ coming) x (λ r i. inr (⊎_elim (λ j. let f = (open_at r j).fits in omega arith) (λ j. let f = (comes r j).fits in omega arith) (In-cases r stack coming i)))
 
 pub in_turn : (stack : List Reach) (r : Reach) (cs : List Reach) (at end : ℕ) → ArePlaced stack (r ∷ cs) at end → (c : Reach) → In c cs → r.first ≤ c.first
-in_turn stack r cs at end p c i = ((rising_back Follows stack (r ∷ cs) (follows stack (r ∷ cs) at end p)).0 c i).order
+in_turn stack r cs at end p c i = ((rising_back IsApartOrInside stack (r ∷ cs) (follows stack (r ∷ cs) at end p)).0 c i).order
 
 -- the next route opens
 module _ (stack : List Reach) (r : Reach) (cs : List Reach) (at end : ℕ) (p : ArePlaced stack (r ∷ cs) at end)
     (last : ℕ) (number : Option ℕ) (inner : (last, number) ≡ innermost (end, None) stack) (by : r.first ≤ last) where
   inside : (s : Reach) → In s stack → IsNested s r
   inside s i =
-      (rising_cross Follows stack (r ∷ cs) (follows stack (r ∷ cs) at end p) s r i (inl refl)).inside
+      (rising_cross IsApartOrInside stack (r ∷ cs) (follows stack (r ∷ cs) at end p) s r i (inl refl)).inside
       (let e = ends_before stack (r ∷ cs) at end p last number inner s i in omega arith)
 
   pub room : length stack < 129
@@ -148,20 +148,20 @@ module _ (stack : List Reach) (r : Reach) (cs : List Reach) (at end : ℕ) (p : 
             (λ s t i j. ⊎_elim (λ (q : t ≡ r). subst (λ (a : Reach). IsNested s a) (sym q) (inside s i)) (λ k. absurd k) j));
         coming' = All-from_In (IsComing r.first end) cs (λ s i. let o = comes stack (r ∷ cs) at end p s (inr i) in
             record { later = in_turn stack r cs at end p s i; some = o.some; fits = o.fits; long = o.long });
-        follow = pairs_from_Rising Follows ((stack ++ r ∷ []) ++ cs) (subst (λ rs. Rising Follows rs) (sym (append_assoc stack (r ∷ []) cs)) (follows stack (r ∷ cs) at end p));
+        follow = pairs_from_Rising IsApartOrInside ((stack ++ r ∷ []) ++ cs) (subst (λ rs. Rising IsApartOrInside rs) (sym (append_assoc stack (r ∷ []) cs)) (follows stack (r ∷ cs) at end p));
       }
 
   abbrev before : ℕ → Option ℕ
-  before x = from_on false at (painted None (stack ++ r ∷ cs)) x
+  before x = from_on false at (topmost None (stack ++ r ∷ cs)) x
 
   abbrev after : ℕ → Option ℕ
-  after x = from_on false r.first (painted None ((stack ++ r ∷ []) ++ cs)) x
+  after x = from_on false r.first (topmost None ((stack ++ r ∷ []) ++ cs)) x
 
-  same_paint : (x : ℕ) → painted None ((stack ++ r ∷ []) ++ cs) x ≡ painted None (stack ++ r ∷ cs) x
-  same_paint x = ap (λ rs. painted None rs x) (append_assoc stack (r ∷ []) cs)
+  same_paint : (x : ℕ) → topmost None ((stack ++ r ∷ []) ++ cs) x ≡ topmost None (stack ++ r ∷ cs) x
+  same_paint x = ap (λ rs. topmost None rs x) (append_assoc stack (r ∷ []) cs)
 
   pub opened_here : at ≡ r.first → (x : ℕ) → before x ≡ after x
-  opened_here e x = ap (λ n. cond (nat_le n x) (painted None (stack ++ r ∷ cs) x) None) e ∙ ap (λ o. cond (nat_le r.first x) o None) (sym (same_paint x))
+  opened_here e x = ap (λ n. cond (nat_le n x) (topmost None (stack ++ r ∷ cs) x) None) e ∙ ap (λ o. cond (nat_le r.first x) o None) (sym (same_paint x))
 
   pub opened_later : at < r.first → IsSpanOf (record { first = at; last = r.first - 1 }) number before after
   opened_later l = record {
@@ -191,21 +191,21 @@ module _ (os : List Reach) (t : Reach) (cs : List Reach) (at end : ℕ) (p : Are
             });
         nested = pairs_from_Rising IsNested os (rising_front IsNested os (t ∷ []) (nests (os ++ t ∷ []) cs at end p));
         coming' = All-from_In (IsComing (t.last + 1) end) cs (λ s i. let o = comes (os ++ t ∷ []) cs at end p s i in record { later = let g = far s i in omega arith; some = o.some; fits = o.fits; long = o.long });
-        follow = pairs_from_Rising Follows (os ++ cs) (rising_append Follows os cs (rising_front Follows os (t ∷ []) (rising_front Follows (os ++ t ∷ []) cs f)) (rising_back Follows (os ++ t ∷ []) cs f)
-            (λ x y i j. rising_cross Follows (os ++ t ∷ []) cs f x y (In-left x os (t ∷ []) i) j));
+        follow = pairs_from_Rising IsApartOrInside (os ++ cs) (rising_append IsApartOrInside os cs (rising_front IsApartOrInside os (t ∷ []) (rising_front IsApartOrInside (os ++ t ∷ []) cs f)) (rising_back IsApartOrInside (os ++ t ∷ []) cs f)
+            (λ x y i j. rising_cross IsApartOrInside (os ++ t ∷ []) cs f x y (In-left x os (t ∷ []) i) j));
       }
 
-  pub closed_paint : (x : ℕ) → t.last < x → painted None ((os ++ t ∷ []) ++ cs) x ≡ painted None (os ++ cs) x
+  pub closed_paint : (x : ℕ) → t.last < x → topmost None ((os ++ t ∷ []) ++ cs) x ≡ topmost None (os ++ cs) x
   closed_paint x l =
-      painted_append None (os ++ t ∷ []) cs x
-      ∙ ap (λ k. painted k cs x) (painted_append None os (t ∷ []) x ∙ painted_apart (painted None os x) (t ∷ []) x (λ s i. inr (⊎_elim (λ (q : s ≡ t). subst (λ (a : Reach). a.last < x) (sym q) l) (λ j. absurd j) i)))
-      ∙ sym (painted_append None os cs x)
+      topmost_append None (os ++ t ∷ []) cs x
+      ∙ ap (λ k. topmost k cs x) (topmost_append None os (t ∷ []) x ∙ topmost_apart (topmost None os x) (t ∷ []) x (λ s i. inr (⊎_elim (λ (q : s ≡ t). subst (λ (a : Reach). a.last < x) (sym q) l) (λ j. absurd j) i)))
+      ∙ sym (topmost_append None os cs x)
 
   abbrev held : ℕ → Option ℕ
-  held x = from_on false at (painted None ((os ++ t ∷ []) ++ cs)) x
+  held x = from_on false at (topmost None ((os ++ t ∷ []) ++ cs)) x
 
   abbrev left : ℕ → Option ℕ
-  left x = from_on false (t.last + 1) (painted None (os ++ cs)) x
+  left x = from_on false (t.last + 1) (topmost None (os ++ cs)) x
 
   pub closed_here : t.last < at → (x : ℕ) → held x ≡ left x
   closed_here l x =
@@ -227,11 +227,11 @@ module _ (os : List Reach) (t : Reach) (cs : List Reach) (at end : ℕ) (p : Are
 
 -- the family closes
 pub family_closes : (stack coming : List Reach) (at end : ℕ) → ArePlaced stack coming at end → (number : Option ℕ) → (end, number) ≡ innermost (end, None) stack → ((r : Reach) → In r coming → end < r.first) → (later : ℕ → Option ℕ) → ((x : ℕ) → later x ≡ None)
-    → IsSpanOf (record { first = at; last = end }) number (from_on false at (painted None (stack ++ coming))) later
+    → IsSpanOf (record { first = at; last = end }) number (from_on false at (topmost None (stack ++ coming))) later
 family_closes stack coming at end p number inner far later none = record {
   some = p.order;
   before = λ x m. cond-false (nat_le at x) _ None (lt-leb _ _ m);
   within = λ x m u. cond-true (nat_le at x) _ None (le-leb _ _ m) ∙ steady stack coming at end p end number inner x m u (λ s i. let f = far s i in omega arith);
   gone = λ x u. none x;
-  kept = λ x u. let o = p.order in none x ∙ sym (cond-true (nat_le at x) _ None (le-leb _ _ (omega arith)) ∙ painted_past stack coming at end p x u);
+  kept = λ x u. let o = p.order in none x ∙ sym (cond-true (nat_le at x) _ None (le-leb _ _ (omega arith)) ∙ topmost_past stack coming at end p x u);
 }

@@ -1,8 +1,9 @@
 -- The pages of a table are its routes from a network on.
-use Rattle.std.proofs.Common.{◌≡◌, ℕ, zero, suc, ◌+◌, ◌<◌, ◌≤◌, inl, inr, ⊎_elim, Bool, true, false, not, cond, ◌&&◌, List, [], ◌∷◌, ◌++◌, length, take, drop, filter, refl, sym, ap, ◌∙◌, subst, arith}
+use Rattle.std.proofs.Common.{◌≡◌, ℕ, zero, suc, ◌+◌, ◌<◌, ◌≤◌, inl, inr, ⊎_elim, Bool, true, false, not, ◌&&◌, List, [], ◌∷◌, ◌++◌, length, take, drop, refl, sym, ap, ◌∙◌, subst, arith}
 use Rattle.std.proofs.lemmas.List.{length-drop, take-append-drop}
 use Rattle.std.specs.List.{flat_map}
 use Rattle.std.proofs.lemmas.Bool.Decides.{nat_tests}
+use Rattle.ipnet_addr.proofs.Basics.{filtered_length}
 use Rattle.ipnet_addr.specs.Addresses.{Family, same_family, rank}
 use Rattle.ipnet_addr.proofs.Members.{In, In-right, In-cases}
 use Rattle.ipnet_addr.proofs.Ascending.{Rising, Rising-from_pairs, same_rising}
@@ -116,14 +117,6 @@ split_last : (r : Route) (rs ys : List Route) → (xs : List Route) × (r ∷ rs
 split_last r [] ys = ([], refl)
 split_last r (s ∷ rs) ys = let t = split_last s rs ys in (r ∷ t.0, ap (λ zs. r ∷ zs) t.1)
 
-filter_short : (p : Route → Bool) (M : List Route) → length (filter p M) ≤ length M
-filter_short p [] = omega arith
-filter_short p (r ∷ M) = go (p r) (filter_short p M)
-  where
-    go : (b : Bool) → length (filter p M) ≤ length M → length (cond b (r ∷ filter p M) (filter p M)) ≤ suc (length M)
-    go true h = omega arith
-    go false h = omega arith
-
 module _ (M : List Route) (m : IsTable M) (f : Family) (k : ℕ) where
   -- the list without its first page
   abbrev rest : List Route → List Route
@@ -160,10 +153,10 @@ module _ (M : List Route) (m : IsTable M) (f : Family) (k : ℕ) where
 
 pub pages_are_routes : (M : List Route) (n : Block) (limit : ℕ) → IsTable M → 0 < limit → flat_map (λ page. page) (pages M n limit) ≡ routes_from M n
 pages_are_routes M n zero m h = absurd (omega arith)
-pages_are_routes M n (suc k) m h = all_pages M m n.family k (length M) (routes_from M n) (from_is_onwards M m n.family n refl) (filter_short (λ r. same_family r.block.family n.family && not (is_before r.block n)) M)
+pages_are_routes M n (suc k) m h = all_pages M m n.family k (length M) (routes_from M n) (from_is_onwards M m n.family n refl) (filtered_length (λ (r : Route). same_family r.block.family n.family && not (is_before r.block n)) M)
 
 pub pages_end : (M : List Route) (n : Block) (limit more : ℕ) → IsTable M → 0 < limit → pages_up_to (length M + more) M limit (first_page M n limit) ≡ pages M n limit
 pages_end M n zero more m h = absurd (omega arith)
 pages_end M n (suc k) more m h =
-    let s = filter_short (λ r. same_family r.block.family n.family && not (is_before r.block n)) M in
+    let s = filtered_length (λ (r : Route). same_family r.block.family n.family && not (is_before r.block n)) M in
     no_more M m n.family k (length M + more) (length M) (routes_from M n) (from_is_onwards M m n.family n refl) (omega arith) s

@@ -2,6 +2,7 @@
 use Rattle.std.proofs.Common.{◌≡◌, ℕ, ◌+◌, ◌<◌, ◌≤◌, ⊎_elim, ◌&&◌, ◌==◌, Bool, true, false, cond, nat_le, Option, Some, None, refl, sym, ap, ◌∙◌, arith}
 use Rattle.std.proofs.lemmas.Bool.{cases_lt, and_from, and_left, and_right, cond-true, cond-false, lt-leb, le-leb}
 use Rattle.std.proofs.lemmas.Bool.Decides.{nat_tests}
+use Rattle.std.proofs.lemmas.Option.{none-some}
 use Rattle.ipnet_blocks.specs.declared.aggregate.Span.{Span}
 use Rattle.route_table.specs.declared.runs.Run.{Run}
 use Rattle.route_table.specs.InnerRunning.{over, joined, IsFirstRun}
@@ -27,9 +28,6 @@ over_low r k x l = cond-false (nat_le r.span.first x && nat_le x r.span.last) (S
 
 over_high : (r : Run) (k : Option ℕ) (x : ℕ) → r.span.last < x → over (Some r) k x ≡ k
 over_high r k x l = cond-false (nat_le r.span.first x && nat_le x r.span.last) (Some r.number) k (lies_after r.span.first r.span.last x l)
-
-pub none_some : (k : ℕ) → None ≡ Some k → ⊥
-none_some k e = cc
 
 -- the numbers of a span have the number k, those before it none; `later` are the numbers without those of the span
 pub record IsSpanOf (s : Span) (k : Option ℕ) (h later : ℕ → Option ℕ) : Type 0 where
@@ -106,7 +104,7 @@ module _ (s : Span) (h later : ℕ → Option ℕ) where
   joins (Some r) None i e =
       let f = e.1 in
       let g = i.some in
-      ((run_ends r None i (none_some r.number) e.0 e.1 later (λ x l. i.gone x (let m = i.some in omega arith)) (λ x l. sym (same_none i x)), omega arith), tt)
+      ((run_ends r None i (none-some r.number) e.0 e.1 later (λ x l. i.gone x (let m = i.some in omega arith)) (λ x l. sym (same_none i x)), omega arith), tt)
   joins None (Some k) i e = (span_run k i, (i.some, refl))
   joins (Some r) (Some k) i e = go (r.number == k) refl
     where

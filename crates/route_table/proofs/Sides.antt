@@ -11,7 +11,7 @@ use Rattle.ipnet_blocks.specs.Blocks.{Block, IsBlock, bit_string, first, is_befo
 use Rattle.ipnet_blocks.specs.BitStrings.{bits_cmp}
 use Rattle.route_table.specs.Tables.{Route, IsHop, IsTable, covering, is_stored, longest, match_of, with_route, without_block, routes_inside}
 use Rattle.route_table.specs.InnerSides.{IsSide}
-use Rattle.route_table.specs.Onwards.{count_of, routes_from, routes_after}
+use Rattle.route_table.specs.Onwards.{count_of}
 use Rattle.route_table.specs.Overwritten.{without_inside}
 use Rattle.route_table.specs.Tries.{map_of}
 use Rattle.route_table.proofs.Updates.{Sooner, Rising-append}
@@ -138,11 +138,9 @@ module _ (a b : List Route) (sides : IsSide Ipv4 a × IsSide Ipv6 b) where
     pub match_side : match_of (a ++ b) n ≡ match_of (side n.family) n
     match_side = ap longest covering_side
 
-    pub from_side : routes_from (a ++ b) n ≡ routes_from (side n.family) n
-    from_side = filter_side n.family (λ r. same_family r.block.family n.family && not (is_before r.block n)) (λ r e. ap (λ c. c && not (is_before r.block n)) (far n.family r.block.family e))
-
-    pub after_side : routes_after (a ++ b) n ≡ routes_after (side n.family) n
-    after_side = filter_side n.family (λ r. same_family r.block.family n.family && is_before n r.block) (λ r e. ap (λ c. c && is_before n r.block) (far n.family r.block.family e))
+    -- the routes of its family that pass a test
+    pub onwards_side : (p : Route → Bool) → filter (λ r. same_family r.block.family n.family && p r) (a ++ b) ≡ filter (λ r. same_family r.block.family n.family && p r) (side n.family)
+    onwards_side p = filter_side n.family (λ r. same_family r.block.family n.family && p r) (λ r e. ap (λ c. c && p r) (far n.family r.block.family e))
 
     pub stored_side : is_stored (a ++ b) n ≡ is_stored (side n.family) n
     stored_side = any_side n.family (λ r. same_block r.block n) (λ r e. not_same r.block n e)

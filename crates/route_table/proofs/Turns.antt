@@ -7,7 +7,7 @@ use Rattle.route_table.specs.declared.runs.Reach.{Reach}
 use Rattle.route_table.specs.declared.runs.Run.{Run}
 use Rattle.route_table.specs.declared.runs.Runs.{Runs}
 use Rattle.route_table.specs.declared.runs.Step.TheVariants as step
-use Rattle.route_table.specs.InnerRunning.{reach_of, painted, coming, innermost, over, from_on, hops_left, ArePlaced, IsAtHand, AreRuns, changes_left, StepsRun, joined, step_of}
+use Rattle.route_table.specs.InnerRunning.{reach_of, topmost, coming, innermost, over, from_on, hops_left, ArePlaced, IsAtHand, AreRuns, changes_left, StepsRun, joined, step_of}
 use Rattle.route_table.proofs.Paints.{IsSpanOf, EndsBefore, Ends, joins}
 use Rattle.route_table.proofs.Openings.{comes, last_of, inner_pushed, room, opened_are, opened_here, opened_later}
 
@@ -54,8 +54,8 @@ module _ (w v : Runs) where
       )
 
 -- what is left, with other names for the parts
-pub hops_are : (v : Runs) (d : Bool) (at : ℕ) (stack cs : List Reach) → v.done ≡ d → v.at ≡ at → v.stack.items ≡ stack → coming v.next v.rest ≡ cs → hops_left v ≡ (λ x. over v.run (from_on d at (painted None (stack ++ cs)) x) x)
-hops_are v d at stack cs e f g h = λ i x. over v.run (from_on (e i) (f i) (painted None (g i ++ h i)) x) x
+pub hops_are : (v : Runs) (d : Bool) (at : ℕ) (stack cs : List Reach) → v.done ≡ d → v.at ≡ at → v.stack.items ≡ stack → coming v.next v.rest ≡ cs → hops_left v ≡ (λ x. over v.run (from_on d at (topmost None (stack ++ cs)) x) x)
+hops_are v d at stack cs e f g h = λ i x. over v.run (from_on (e i) (f i) (topmost None (g i ++ h i)) x) x
 
 pub placed_as : (v : Runs) (at end : ℕ) (stack cs : List Reach) → v.at ≡ at → v.end ≡ end → v.stack.items ≡ stack → coming v.next v.rest ≡ cs → ArePlaced stack cs at end → ArePlaced v.stack.items (coming v.next v.rest) v.at v.end
 placed_as v at end stack cs e f g h p =
@@ -90,10 +90,10 @@ module _ (w v : Runs) (a : AreRuns w) (going : w.done ≡ false) (r : Reach) (ne
   placed_then : ArePlaced v.stack.items (coming v.next v.rest) v.at v.end
   placed_then = placed_as v r.first w.end (w.stack.items ++ r ∷ []) cs at end pushed left (opened_are w.stack.items r cs w.at w.end placed _ number inner by)
 
-  hops_before : hops_left w ≡ (λ x. over w.run (from_on false w.at (painted None (w.stack.items ++ r ∷ cs)) x) x)
+  hops_before : hops_left w ≡ (λ x. over w.run (from_on false w.at (topmost None (w.stack.items ++ r ∷ cs)) x) x)
   hops_before = hops_are w false w.at w.stack.items (r ∷ cs) going refl refl now_comes
 
-  hops_then : hops_left v ≡ (λ x. over v.run (from_on false r.first (painted None ((w.stack.items ++ r ∷ []) ++ cs)) x) x)
+  hops_then : hops_left v ≡ (λ x. over v.run (from_on false r.first (topmost None ((w.stack.items ++ r ∷ []) ++ cs)) x) x)
   hops_then = hops_are v false r.first (w.stack.items ++ r ∷ []) cs (still ∙ going) at pushed left
 
   fewer : changes_left v < changes_left w
@@ -112,7 +112,7 @@ module _ (w v : Runs) (a : AreRuns w) (going : w.done ≡ false) (r : Reach) (ne
   begun_here e run = (
     record { placed = placed_then; hand = hand_from v.run v.done v.at v.end r.first place_then (subst (λ (o : Option Run). EndsBefore o r.first) (sym run) (ends_from_hand w.run w.done w.at w.end r.first (place_before ∙ e) a.hand)) },
     (
-      λ x. ap (λ h. h x) hops_before ∙ ap (λ o. over w.run o x) (opened_here w.stack.items r cs w.at w.end placed _ number inner by e x) ∙ ap (λ o. over o (from_on false r.first (painted None ((w.stack.items ++ r ∷ []) ++ cs)) x) x) (sym run) ∙ ap (λ h. h x) (sym hops_then),
+      λ x. ap (λ h. h x) hops_before ∙ ap (λ o. over w.run o x) (opened_here w.stack.items r cs w.at w.end placed _ number inner by e x) ∙ ap (λ o. over o (from_on false r.first (topmost None ((w.stack.items ++ r ∷ []) ++ cs)) x) x) (sym run) ∙ ap (λ h. h x) (sym hops_then),
       fewer,
     ),
   )

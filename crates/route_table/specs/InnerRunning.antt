@@ -13,10 +13,10 @@ use Rattle.route_table.specs.declared.runs.Step.TheVariants as step
 abbrev pub reach_of : Route → Reach
 reach_of r = record { first = first r.block; last = last r.block; len = r.block.len; number = number_of r.hop }
 
--- the number of a hop that x has where each route is painted over those before it, and k over nothing
-abbrev pub painted : Option ℕ → List Reach → ℕ → Option ℕ
-painted k [] x = k
-painted k (r ∷ rs) x = painted (cond (nat_le r.first x && nat_le x r.last) r.number k) rs x
+-- the number of a hop that x has where each route is painted over those before it: that of the last one at x, or k
+abbrev pub topmost : Option ℕ → List Reach → ℕ → Option ℕ
+topmost k [] x = k
+topmost k (r ∷ rs) x = topmost (cond (nat_le r.first x && nat_le x r.last) r.number k) rs x
 
 -- the routes that come: the next one and those after it
 abbrev pub coming : Option Reach → List Route → List Reach
@@ -39,10 +39,10 @@ from_on done at h x = cond done None (cond (nat_le at x) (h x) None)
 
 -- the hops that are left: those of the run at hand, and from the place on those that the routes paint
 abbrev pub hops_left : Runs → ℕ → Option ℕ
-hops_left w x = over w.run (from_on w.done w.at (painted None (w.stack.items ++ coming w.next w.rest)) x) x
+hops_left w x = over w.run (from_on w.done w.at (topmost None (w.stack.items ++ coming w.next w.rest)) x) x
 
 -- the later of two routes lies apart from the earlier, or inside it
-pub record Follows (a b : Reach) : Type 0 where
+pub record IsApartOrInside (a b : Reach) : Type 0 where
   pub order : a.first ≤ b.first
   pub inside : b.first ≤ a.last → (b.last ≤ a.last) × (a.len < b.len)
 
@@ -66,7 +66,7 @@ pub record ArePlaced (stack coming : List Reach) (at end : ℕ) : Type 0 where
   pub opened : All (IsOpen at end) stack
   pub nested : AllPairs (λ a b. (b.last ≤ a.last) × (a.len < b.len)) stack
   pub coming' : All (IsComing at end) coming
-  pub follow : AllPairs Follows (stack ++ coming)
+  pub follow : AllPairs IsApartOrInside (stack ++ coming)
 
 -- the run at hand ends just before the place
 abbrev pub IsAtHand : Option Run → Bool → ℕ → ℕ → Type 0

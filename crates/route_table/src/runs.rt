@@ -2,7 +2,7 @@
 ghost use Rattle.std.specs.Prelude.{◌≡◌, ℕ, ◌+◌, ◌<◌, ◌≤◌, ◌^◌, ◌++◌, [], ◌∷◌, MatchOption, All, None, Some, map, false, true, ⊤};
 ghost use Rattle.ipnet_blocks.specs.Blocks.{last, family_block};
 ghost use Rattle.route_table.specs.InnerFamilies.{family_of};
-ghost use Rattle.route_table.specs.InnerRunning.{AreRuns, GivesRun, IsPast, StepsRun, coming, hops_left, innermost, joined, painted, reach_of, step_of};
+ghost use Rattle.route_table.specs.InnerRunning.{AreRuns, GivesRun, IsPast, StepsRun, coming, hops_left, innermost, joined, topmost, reach_of, step_of};
 ghost use Rattle.route_table.specs.Tables.{IsTable, route_of};
 
 use crate::address_family::AddressFamily;
@@ -111,7 +111,7 @@ impl<'a> Runs<'a> {
         requires family { All (λ r. r.block.family ≡ family_of family) rest }
         ensures runs { AreRuns result }
         ensures end { result.end ≡ last (family_block (family_of family)) }
-        ensures hops { (x : ℕ) → hops_left result x ≡ painted None (map reach_of rest.entry) x }
+        ensures hops { (x : ℕ) → hops_left result x ≡ topmost None (map reach_of rest.entry) x }
     {
         let next = next_reach(&mut rest);
         Runs {
