@@ -24,7 +24,6 @@ use Rattle.route_table.specs.InnerSides.{IsStored, block_at, route_at, routes_in
 use Rattle.route_table.specs.Onwards.{count_of}
 use Rattle.route_table.specs.declared.hop.Hop.{Hop}
 use Rattle.route_table.proofs.Matches.{bools_same}
-use Rattle.route_table.proofs.Parts.{same_itself}
 use Rattle.ipnet_addr.proofs.Basics.{In-from_list_any, list_any-from_In}
 use Rattle.ipnet_addr.proofs.Families.{test_from_family}
 use Rattle.route_table.proofs.Searches.{no_match_at, match_at}
@@ -72,7 +71,7 @@ module _ (f : Family) (m : BitMap Hop) (ok : IsStored f m) where
   -- all of its routes are of its family
   of_family : filter (λ (r : Route). same_family r.block.family f) (routes_in f m) ≡ routes_in f m
   of_family = all_pass (λ (r : Route). same_family r.block.family f) (routes_in f m)
-      (λ r i. ap (λ g. same_family g f) (In-from_All (λ (s : Route). s.block.family ≡ f) (routes_in f m) (is_side f m ok).family r i) ∙ same_itself f)
+      (λ r i. ap (λ g. same_family g f) (In-from_All (λ (s : Route). s.block.family ≡ f) (routes_in f m) (is_side f m ok).family r i) ∙ test_from_family f f refl)
 
   pub count_is : len m ≡ count_of f (routes_in f m)
   count_is = len-entries m ∙ sym (ap length of_family ∙ length-map (entries m) (route_at f))

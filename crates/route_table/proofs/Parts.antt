@@ -8,6 +8,7 @@ use Rattle.std.specs.declared.cmp.Ordering.TheVariants.{Less, Equal, Greater}
 use Rattle.ipnet_addr.specs.Addresses.{Family, Ipv4, Ipv6, width, same_family}
 use Rattle.ipnet_addr.proofs.Members.{In}
 use Rattle.ipnet_addr.proofs.Ascending.{All-from_In}
+use Rattle.ipnet_addr.proofs.Families.{test_from_family}
 use Rattle.ipnet_blocks.specs.Blocks.{Block, IsBlock, is_before, is_inside, bit_string}
 use Rattle.ipnet_blocks.proofs.BlockTests.{before_from_test, test_from_before}
 use Rattle.ipnet_blocks.proofs.Order.{order_of_strings}
@@ -35,10 +36,6 @@ before_is : (a b : Block) → IsBlock a → IsBlock b → a.family ≡ b.family 
 before_is a b p q f = bools_same (is_before a b) (is_lt (bits_cmp (bit_string a) (bit_string b)))
     (λ t. ap is_lt ((order_of_strings a b p q f).0 (before_from_test a b t)))
     (λ t. test_from_before a b ((order_of_strings a b p q f).1 (less_of (bits_cmp (bit_string a) (bit_string b)) t)))
-
-pub same_itself : (f : Family) → same_family f f ≡ true
-same_itself Ipv4 = refl
-same_itself Ipv6 = refl
 
 -- ---- parts of a walk
 
@@ -87,9 +84,9 @@ module _ (n : Block) (okn : IsBlock n) (m : BitMap Hop) (ok : IsStored n.family 
   -- the routes from n on, or after it, are the entries with such keys
   pub onwards_are : (inclusive : Bool) → cond inclusive (routes_from (routes_in n.family m) n) (routes_after (routes_in n.family m) n) ≡ map (route_at n.family) (filter (λ e. is_from (bit_string n) inclusive e.0) (entries m))
   onwards_are true = filter_routes n.family (λ r. same_family r.block.family n.family && not (is_before r.block n)) (λ e. not (is_lt (bits_cmp e.0 (bit_string n)))) (entries m)
-      (λ e i. ap (λ b. b && not (is_before (key_block e) n)) (same_itself n.family) ∙ ap not (before_is (key_block e) n (okb e i) okn refl ∙ ap (λ s. is_lt (bits_cmp s (bit_string n))) (string_of_block n.family e.0)))
+      (λ e i. ap (λ b. b && not (is_before (key_block e) n)) (test_from_family n.family n.family refl) ∙ ap not (before_is (key_block e) n (okb e i) okn refl ∙ ap (λ s. is_lt (bits_cmp s (bit_string n))) (string_of_block n.family e.0)))
   onwards_are false = filter_routes n.family (λ r. same_family r.block.family n.family && is_before n r.block) (λ e. is_lt (bits_cmp (bit_string n) e.0)) (entries m)
-      (λ e i. ap (λ b. b && is_before n (key_block e)) (same_itself n.family) ∙ before_is n (key_block e) okn (okb e i) refl ∙ ap (λ s. is_lt (bits_cmp (bit_string n) s)) (string_of_block n.family e.0))
+      (λ e i. ap (λ b. b && is_before n (key_block e)) (test_from_family n.family n.family refl) ∙ before_is n (key_block e) okn (okb e i) refl ∙ ap (λ s. is_lt (bits_cmp (bit_string n) s)) (string_of_block n.family e.0))
 
   -- what walks of the trie list, as parts of the side
   module _ (s : List Bool) (same : s ≡ bit_string n) (es : List (List Bool × Hop)) where
