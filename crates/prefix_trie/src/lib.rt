@@ -11,4 +11,4 @@ mod tests;
 
 pub use map::PrefixMap;
 pub use set::PrefixSet;
-pub use trie_map::{Key, Prefix, Refused, laws};
+pub use trie_map::{Key, Prefix, Refused};

@@ -2,7 +2,6 @@
 #![tactic(auto)]
 
 mod key;
-pub mod laws;
 mod prefix;
 #[cfg(test)]
 mod tests;

@@ -29,4 +29,4 @@ pub use iter::{Iter, Keys, Values};
 pub use iter_mut::{IterMut, ValuesMut};
 pub use map::PrefixMap;
 pub use refused::Refused;
-pub use trie_keys::{Key, Prefix, laws};
+pub use trie_keys::{Key, Prefix};
