@@ -3,4 +3,5 @@
 #![tactic(auto)]
 
 pub mod feed;
+pub mod map;
 pub mod table;

@@ -108,7 +108,7 @@ impl<P: Prefix> PrefixSet<P> {
 
     /// Whether this very prefix is a member.
     pub fn contains(&self, prefix: &P) -> bool
-        requires { length (P.bits prefix.now) ≤ P.R.width }
+        requires { IsTrue (P.fits prefix.now) }
         ensures { result ≡ fin.contains_key self.now.entries (P.bits prefix.now) }
     {
         self.members.contains_key(prefix)
@@ -116,8 +116,8 @@ impl<P: Prefix> PrefixSet<P> {
 
     /// The member that this very prefix is, with zeros after the bits that count.
     pub fn get(&self, prefix: &P) -> Option<P>
-        requires { length (P.bits prefix.now) ≤ P.R.width }
-        ensures { MatchOption result (fin.contains_key self.now.entries (P.bits prefix.now) ≡ false) (λ k. (fin.contains_key self.now.entries (P.bits prefix.now) ≡ true) × (k ≡ P.of_bits (P.bits prefix.now))) }
+        requires { IsTrue (P.fits prefix.now) }
+        ensures { MatchOption result (fin.contains_key self.now.entries (P.bits prefix.now) ≡ false) (λ k. (fin.contains_key self.now.entries (P.bits prefix.now) ≡ true) × (k ≡ P.of_bits (P.bits prefix.now)) × (P.bits k ≡ P.bits prefix.now) × IsTrue (P.fits k)) }
     {
         match self.members.get_key_value(prefix) {
             None => None,
@@ -127,23 +127,23 @@ impl<P: Prefix> PrefixSet<P> {
 
     /// The longest member that contains the asked prefix, which itself counts.
     pub fn get_lpm(&self, prefix: &P) -> Option<P>
-        requires { length (P.bits prefix.now) ≤ P.R.width }
-        ensures { MatchOption result (NoBeginning self.now.entries (P.bits prefix.now)) (λ k. IsLongestKey P.bits P.of_bits self.now.entries (P.bits prefix.now) k tt) }
+        requires { IsTrue (P.fits prefix.now) }
+        ensures { MatchOption result (NoBeginning self.now.entries (P.bits prefix.now)) (λ k. IsLongestKey P.fits P.bits P.of_bits self.now.entries (P.bits prefix.now) k tt) }
     {
         self.members.get_lpm_prefix(prefix)
     }
 
     /// The shortest member that contains the asked prefix, which itself counts.
     pub fn get_spm(&self, prefix: &P) -> Option<P>
-        requires { length (P.bits prefix.now) ≤ P.R.width }
-        ensures { MatchOption result (NoBeginning self.now.entries (P.bits prefix.now)) (λ k. IsShortestKey P.bits P.of_bits self.now.entries (P.bits prefix.now) k tt) }
+        requires { IsTrue (P.fits prefix.now) }
+        ensures { MatchOption result (NoBeginning self.now.entries (P.bits prefix.now)) (λ k. IsShortestKey P.fits P.bits P.of_bits self.now.entries (P.bits prefix.now) k tt) }
     {
         self.members.get_spm_prefix(prefix)
     }
 
     /// Whether a member contains the asked prefix.
     pub fn is_covered(&self, prefix: &P) -> bool
-        requires { length (P.bits prefix.now) ≤ P.R.width }
+        requires { IsTrue (P.fits prefix.now) }
         ensures { IsTrue result ↔ (NoBeginning self.now.entries (P.bits prefix.now) → ⊥) }
     {
         self.members.is_covered(prefix)
@@ -161,7 +161,7 @@ impl<P: Prefix> PrefixSet<P> {
     /// The members from a prefix on, in the order of a walk: those that come after it, among them the longer ones
     /// inside it, and where `inclusive` says so itself.
     pub fn iter_from(&self, prefix: &P, inclusive: bool) -> Iter<'_, P>
-        requires { length (P.bits prefix.now) ≤ P.R.width }
+        requires { IsTrue (P.fits prefix.now) }
         ensures { result ≡ map (λ e. e.0) (where_key bits_cmp (is_from (P.bits prefix.now) inclusive) (fin.entries self.now.entries)) }
     {
         Iter {
@@ -171,7 +171,7 @@ impl<P: Prefix> PrefixSet<P> {
 
     /// The members that the prefix contains, itself included.
     pub fn children(&self, prefix: &P) -> Iter<'_, P>
-        requires { length (P.bits prefix.now) ≤ P.R.width }
+        requires { IsTrue (P.fits prefix.now) }
         ensures { result ≡ map (λ e. e.0) (where_key bits_cmp (begins (P.bits prefix.now)) (fin.entries self.now.entries)) }
     {
         Iter {
@@ -181,7 +181,7 @@ impl<P: Prefix> PrefixSet<P> {
 
     /// The members that contain the prefix, itself included, the shortest first.
     pub fn cover(&self, prefix: &P) -> CoverKeys<'_, P, ()>
-        requires { length (P.bits prefix.now) ≤ P.R.width }
+        requires { IsTrue (P.fits prefix.now) }
         ensures { result ≡ map (λ e. e.0) (where_key bits_cmp (λ k. begins k (P.bits prefix.now)) (fin.entries self.now.entries)) }
     {
         self.members.cover_keys(prefix)
@@ -197,7 +197,7 @@ impl<P: Prefix + Drop> PrefixSet<P> {
         alloc: Global,
         items: U,
     ) -> Result<PrefixSet<P>, Refused>
-        requires { (it : U.IntoIter) → U.into_iter_gives items it → U.IntoIter.can_next it × IsFinite (U.IntoIter.remaining it) × HoldsAlong U.IntoIter.next_gives it (All (λ p. length (P.bits p) ≤ P.R.width)) }
+        requires { (it : U.IntoIter) → U.into_iter_gives items it → U.IntoIter.can_next it × IsFinite (U.IntoIter.remaining it) × HoldsAlong U.IntoIter.next_gives it (All (λ p. IsTrue (P.fits p))) }
         ensures set { IfOk result (λ s. (it : U.IntoIter) × (ps : List P) × U.into_iter_gives items it × Drains U.IntoIter.next_gives it ps × (s.entries ≡ inserted P.bits fin.empty (map (λ p. (p, tt)) ps))) }
         ensures tidy { IfOk result (λ s. s.spares ≡ fin.empty) }
         ensures memory { IfErr result (λ e. e ≡ Memory) }
@@ -218,7 +218,7 @@ impl<P: Prefix + Drop> PrefixSet<P> {
     /// # Errors
     /// `Memory` as `PrefixMap::insert`, and the set is as it was.
     pub fn insert(&mut self, prefix: P) -> Result<bool, Refused>
-        requires { length (P.bits prefix) ≤ P.R.width }
+        requires { IsTrue (P.fits prefix) }
         ensures new { IfOk result (λ new. new ≡ not (fin.contains_key self.old.entries (P.bits prefix))) }
         ensures set { OnOk result (self.new.entries ≡ fin.insert self.old.entries (P.bits prefix) tt) }
         ensures spares { OnOk result (self.new.spares ≡ off_way self.old.spares (P.bits prefix)) }
@@ -236,7 +236,7 @@ impl<P: Prefix + Drop> PrefixSet<P> {
     /// Takes the prefix out, and answers whether it was a member. Nodes go as by `PrefixMap::remove`. It takes no
     /// memory.
     pub fn remove(&mut self, prefix: &P) -> bool
-        requires { length (P.bits prefix.now) ≤ P.R.width }
+        requires { IsTrue (P.fits prefix.now) }
         ensures member { result ≡ fin.contains_key self.old.entries (P.bits prefix.now) }
         ensures set { self.new.entries ≡ fin.remove self.old.entries (P.bits prefix.now) }
         ensures spares { IsPruned (P.bits prefix.now) self.old.spares self.new.entries self.new.spares }
@@ -248,7 +248,7 @@ impl<P: Prefix + Drop> PrefixSet<P> {
 
     /// Takes the prefix out, and answers whether it was a member; every node stays. It takes no memory.
     pub fn remove_keep_tree(&mut self, prefix: &P) -> bool
-        requires { length (P.bits prefix.now) ≤ P.R.width }
+        requires { IsTrue (P.fits prefix.now) }
         ensures member { result ≡ fin.contains_key self.old.entries (P.bits prefix.now) }
         ensures set { self.new.entries ≡ fin.remove self.old.entries (P.bits prefix.now) }
         ensures spares { IsKept (P.bits prefix.now) self.old.entries self.old.spares self.new.entries self.new.spares }
@@ -268,7 +268,7 @@ impl<P: Prefix + Drop> PrefixSet<P> {
     /// Takes out every member that the prefix contains, which itself counts. Nodes go as by
     /// `PrefixMap::remove_children`. It takes no memory.
     pub fn remove_children(&mut self, prefix: &P)
-        requires { length (P.bits prefix.now) ≤ P.R.width }
+        requires { IsTrue (P.fits prefix.now) }
         ensures set { self.new.entries ≡ outside self.old.entries (P.bits prefix.now) }
         ensures spares { IsCut (P.bits prefix.now) self.old.spares self.new.entries self.new.spares }
         ensures tidy { self.old.spares ≡ fin.empty → self.new.spares ≡ fin.empty }
@@ -325,7 +325,7 @@ impl<'a, P: Prefix> Model for Iter<'a, P> {
 impl<'a, P: Prefix> Iterator for Iter<'a, P> {
     type Item = P;
 
-    ghost next_gives = { GivesKey P.bits P.of_bits };
+    ghost next_gives = { GivesKey P.fits P.bits P.of_bits };
 
     ghost remaining = { item_count (λ it. it) };
 
@@ -393,7 +393,7 @@ impl<P: Prefix> Model for IntoIter<P> {
 impl<P: Prefix> Iterator for IntoIter<P> {
     type Item = P;
 
-    ghost next_gives = { GivesKey P.bits P.of_bits };
+    ghost next_gives = { GivesKey P.fits P.bits P.of_bits };
 
     ghost remaining = { item_count (λ it. it) };
 

@@ -1,5 +1,5 @@
 //! Rows on maps and sets, with values from outside.
-ghost use Rattle.std.specs.Prelude.{◌≤◌};
+ghost use Rattle.std.specs.Prelude.{IsTrue, nat_le};
 ghost use Rattle.std.specs.Iterator.{IsFinite};
 ghost use Rattle.std.specs.List.{All};
 
@@ -15,7 +15,7 @@ fn map_of<const N: usize>(
     alloc: Global,
     entries: [((u32, u8), u32); N],
 ) -> Result<PrefixMap<(u32, u8), u32>, Refused>
-    requires { All (λ e. e.0.1 ≤ 32) entries }
+    requires { All (λ e. IsTrue (nat_le e.0.1 32)) entries }
 {
     PrefixMap::try_from_iter(alloc, Vec::from_array(alloc, entries).expect(rt, "entries"))
 }
@@ -26,7 +26,7 @@ fn set_of<const N: usize>(
     alloc: Global,
     members: [(u32, u8); N],
 ) -> Result<PrefixSet<(u32, u8)>, Refused>
-    requires { All (λ p. p.1 ≤ 32) members }
+    requires { All (λ p. IsTrue (nat_le p.1 32)) members }
 {
     PrefixSet::try_from_iter(alloc, Vec::from_array(alloc, members).expect(rt, "members"))
 }

@@ -35,16 +35,12 @@ use Rattle.route_table.proofs.Walked.{network_of_key}
 string_within : (b : Block) → IsBlock b → length (bit_string b) ≤ width b.family
 string_within b ok = let l = length-digits b.len b.quotient in let w = ok.in_width in omega arith
 
--- the key of a block is no longer than an address
-pub key_within : (b : Block) → IsBlock b → (s : List Bool) → s ≡ bit_string b → (w : ℕ) → w ≡ width b.family → length s ≤ w
-key_within b ok s same w is = let l = ap length same in let k = string_within b ok in omega (arith, l, k, is)
-
 -- ---- the longest match
 
 module _ (n : Block) (okn : IsBlock n) (m : BitMap Hop) (ok : IsStored n.family m)
-    {K : Type 0} (bits : K → List Bool) (of_bits : List Bool → K) (parts : K → Network) (parts_are : (s : List Bool) → parts (of_bits s) ≡ record { number = number_from (width n.family) s; len = length s }) where
+    {K : Type 0} (fits : K → Bool) (bits : K → List Bool) (of_bits : List Bool → K) (parts : K → Network) (parts_are : (s : List Bool) → parts (of_bits s) ≡ record { number = number_from (width n.family) s; len = length s }) where
   -- what a search of the trie finds, as what the side finds
-  pub longest_is : (o : Option (K × Bor Hop)) → MatchOption o (NoBeginning m (bit_string n)) (λ r. IsLongestKey bits of_bits m (bit_string n) r.0 r.1.now)
+  pub longest_is : (o : Option (K × Bor Hop)) → MatchOption o (NoBeginning m (bit_string n)) (λ r. IsLongestKey fits bits of_bits m (bit_string n) r.0 r.1.now)
       → option_map (λ r. (net_in n.family (parts r.0), r.1.now)) o ≡ option_map item_of (match_of (routes_in n.family m) n)
   longest_is None none = sym (ap (option_map item_of) (no_match_at n okn m ok none))
   longest_is (Some r) l =

@@ -1,5 +1,5 @@
 //! The network types of the two families.
-ghost use Rattle.std.specs.Prelude.{◌≡◌, List, Bool, length, refl};
+ghost use Rattle.std.specs.Prelude.{◌≡◌, List, Bool, IsTrue, length, refl};
 ghost use Rattle.ipnet_addr.specs.Addresses.{Family, Ipv4, Ipv6, width};
 ghost use Rattle.ipnet_blocks.specs.Blocks.{bit_string};
 ghost use Rattle.ipnet_blocks.specs.Networks.{Network, block_of};
@@ -22,6 +22,8 @@ pub trait OfFamily: Prefix + Copy + Drop {
 
     ghost width_is: { Self.R.width ≡ width family };
 
+    ghost always_fits: { (n : Self) → IsTrue (Self.fits n) };
+
     ghost bits_are: { (n : Self) → Self.bits n ≡ bit_string (block_of family (parts n)) };
 
     ghost parts_are: { (s : List Bool) → parts (Self.of_bits s) ≡ record { number = number_from (width family) s; len = length s } };
@@ -33,6 +35,8 @@ impl OfFamily for Ipv4Net {
     ghost parts = { λ n. n };
 
     ghost width_is = { refl };
+
+    ghost always_fits = { λ n. refl };
 
     ghost bits_are = { λ n. refl };
 
@@ -49,6 +53,8 @@ impl OfFamily for Ipv6Net {
     ghost parts = { λ n. n };
 
     ghost width_is = { refl };
+
+    ghost always_fits = { λ n. refl };
 
     ghost bits_are = { λ n. refl };
 

@@ -24,7 +24,7 @@ pub(crate) enum Entries<'a, P: Prefix> {
 impl<'a, P: Prefix> Entries<'a, P> {
     /// The next entry.
     fn next(&mut self) -> Option<(P, &'a Hop)>
-        ensures { GivesEntry P.bits P.of_bits (entries_left self.old) result (entries_left self.new) }
+        ensures { GivesEntry P.fits P.bits P.of_bits (entries_left self.old) result (entries_left self.new) }
     {
         match self {
             Entries::Walk(entries) => entries.next(),

@@ -1,5 +1,5 @@
 //! Prefixes, as the strings of their bits.
-ghost use Rattle.std.specs.Prelude.{◌≡◌, ℕ, ◌<◌, ◌≤◌, ◌^◌, ◌/◌, ◌-◌, List, Bool, length, take, IsTrue, ◌↔◌};
+ghost use Rattle.std.specs.Prelude.{◌≡◌, ℕ, ◌<◌, ◌≤◌, ◌^◌, ◌/◌, ◌-◌, List, Bool, true, nat_le, length, take, IsTrue, ◌↔◌};
 ghost use Rattle.ipnet_addr.specs.Addresses.{Ipv4, Ipv6};
 ghost use Rattle.ipnet_blocks.specs.Blocks.{bit_string};
 ghost use Rattle.ipnet_blocks.specs.Networks.{block_of};
@@ -22,18 +22,23 @@ pub trait Prefix {
     /// The prefix of these bits that has zeros after them.
     ghost of_bits: { List Bool → Self };
 
+    /// Whether no more bits count than a key has.
+    ghost fits: { Self → Bool };
+
     /// The key, whose first bits count.
     fn repr(&self) -> Self::R
-        requires { length (bits self.now) ≤ Self.R.width }
+        requires { IsTrue (fits self.now) }
         ensures { prefix_bits Self.R.width (Self.R.number result) (length (bits self.now)) ≡ bits self.now };
 
     /// How many bits count.
     fn prefix_len(&self) -> u8
-        ensures { result ≡ length (bits self.now) };
+        ensures value { result ≡ length (bits self.now) }
+        ensures within { IsTrue (fits self.now) → result ≤ Self.R.width };
 
     /// The prefix of the first `len` bits of a key.
     fn from_repr_len(repr: Self::R, len: u8) -> Self
         requires { len ≤ Self.R.width }
+        ensures fits { IsTrue (fits result) }
         ensures bits { bits result ≡ prefix_bits Self.R.width (Self.R.number repr) len }
         ensures masked { IsMasked Self.R.width (Self.R.number repr) len → result ≡ of_bits (prefix_bits Self.R.width (Self.R.number repr) len) };
 
@@ -46,7 +51,7 @@ pub trait Prefix {
 
     /// The key with zeros after the bits that count.
     fn mask(&self) -> Self::R
-        requires { length (bits self.now) ≤ Self.R.width }
+        requires { IsTrue (fits self.now) }
         ensures number { Self.R.number result ≡ number_from Self.R.width (bits self.now) }
     {
         masked_key(self.repr(), self.prefix_len())
@@ -54,8 +59,8 @@ pub trait Prefix {
 
     /// Whether its bits begin the other's.
     fn contains(&self, other: &Self) -> bool
-        requires within { length (bits self.now) ≤ Self.R.width }
-        requires other_within { length (bits other.now) ≤ Self.R.width }
+        requires fits { IsTrue (fits self.now) }
+        requires other_fits { IsTrue (fits other.now) }
         ensures { IsTrue result ↔ IsTrue (begins (bits self.now) (bits other.now)) }
     {
         let len = self.prefix_len();
@@ -82,19 +87,22 @@ pub fn masked_key<R: Key>(key: R, len: u8) -> R
 /// The prefix of the first `len` bits, with zeros after them.
 #[inline]
 pub fn shortened<P: Prefix>(prefix: &P, len: u8) -> P
-    requires whole { length (P.bits prefix.now) ≤ P.R.width }
+    requires fits { IsTrue (P.fits prefix.now) }
     requires within { len ≤ length (P.bits prefix.now) }
+    ensures fits { IsTrue (P.fits result) }
     ensures key { result ≡ P.of_bits (take len (P.bits prefix.now)) }
     ensures bits { P.bits result ≡ take len (P.bits prefix.now) }
 {
+    let _within = prefix.prefix_len();
     P::from_repr_len(masked_key(prefix.repr(), len), len)
 }
 
 /// The way to a prefix.
 #[inline]
 pub fn path_of<P: Prefix>(prefix: &P) -> Path
-    requires { length (P.bits prefix.now) ≤ P.R.width }
+    requires { IsTrue (P.fits prefix.now) }
     ensures value { result ≡ P.bits prefix.now }
+    ensures width { length result ≤ P.R.width }
     ensures within { length result ≤ 128 }
 {
     let width = <P::R as Key>::width();
@@ -110,6 +118,8 @@ impl<R: Key> Prefix for (R, u8) {
     ghost bits = { λ p. prefix_bits R.width (R.number p.0) p.1 };
 
     ghost of_bits = { λ s. (R.of_number (number_from R.width s), length s) };
+
+    ghost fits = { λ p. nat_le p.1 R.width };
 
     /// The key as it was given, with the bits that don't count.
     #[inline]
@@ -129,6 +139,7 @@ impl<R: Key> Prefix for (R, u8) {
     #[inline]
     fn from_repr_len(repr: R, len: u8) -> (R, u8)
         requires { len ≤ R.width }
+        ensures fits { IsTrue (nat_le result.1 R.width) }
         ensures bits { prefix_bits R.width (R.number result.0) result.1 ≡ prefix_bits R.width (R.number repr) len }
         ensures masked { IsMasked R.width (R.number repr) len → result ≡ (R.of_number (number_from R.width (prefix_bits R.width (R.number repr) len)), length (prefix_bits R.width (R.number repr) len)) }
         ensures whole { result ≡ (repr, len) }
@@ -143,6 +154,8 @@ impl Prefix for Ipv4Net {
     ghost bits = { λ n. bit_string (block_of Ipv4 n) };
 
     ghost of_bits = { λ s. record { number = number_from 32 s; len = length s } };
+
+    ghost fits = { λ _. true };
 
     /// Its address, host bits too.
     #[inline]
@@ -162,6 +175,7 @@ impl Prefix for Ipv4Net {
     #[inline]
     fn from_repr_len(repr: u32, len: u8) -> Ipv4Net
         requires { len ≤ 32 }
+        ensures fits { IsTrue true }
         ensures bits { bit_string (block_of Ipv4 result) ≡ prefix_bits 32 repr len }
         ensures masked { IsMasked 32 repr len → result ≡ record { number = number_from 32 (prefix_bits 32 repr len); len = length (prefix_bits 32 repr len) } }
         ensures whole { result ≡ record { number = repr; len = len } }
@@ -176,6 +190,8 @@ impl Prefix for Ipv6Net {
     ghost bits = { λ n. bit_string (block_of Ipv6 n) };
 
     ghost of_bits = { λ s. record { number = number_from 128 s; len = length s } };
+
+    ghost fits = { λ _. true };
 
     /// Its address, host bits too.
     #[inline]
@@ -195,6 +211,7 @@ impl Prefix for Ipv6Net {
     #[inline]
     fn from_repr_len(repr: u128, len: u8) -> Ipv6Net
         requires { len ≤ 128 }
+        ensures fits { IsTrue true }
         ensures bits { bit_string (block_of Ipv6 result) ≡ prefix_bits 128 repr len }
         ensures masked { IsMasked 128 repr len → result ≡ record { number = number_from 128 (prefix_bits 128 repr len); len = length (prefix_bits 128 repr len) } }
         ensures whole { result ≡ record { number = repr; len = len } }

@@ -1,10 +1,6 @@
 //! Each generic function at concrete types, called through its bound.
-ghost use Rattle.std.specs.Prelude.{◌≤◌, length};
-ghost use Rattle.ipnet_addr.specs.Addresses.{Ipv4, Ipv6};
-ghost use Rattle.ipnet_blocks.specs.Blocks.{bit_string};
-ghost use Rattle.ipnet_blocks.specs.Networks.{block_of};
+ghost use Rattle.std.specs.Prelude.{◌≤◌, length, IsTrue};
 
-use crate::laws::{ipv4_within, ipv6_within};
 use crate::{Key, Prefix, path_of, shortened};
 use ipnet::{Ipv4Net, Ipv6Net};
 use std::process::Abort;
@@ -39,8 +35,8 @@ fn keys(rt: HostRuntime) {
 
 /// The width, the key with zeros after the bits that count, and whether the other prefix is contained.
 fn parts<P: Prefix>(prefix: &P, other: &P) -> (u32, u128, bool)
-    requires within { length (P.bits prefix.now) ≤ P.R.width }
-    requires other_within { length (P.bits other.now) ≤ P.R.width }
+    requires fits { IsTrue (P.fits prefix.now) }
+    requires other_fits { IsTrue (P.fits other.now) }
 {
     (
         P::num_bits(),
@@ -51,29 +47,21 @@ fn parts<P: Prefix>(prefix: &P, other: &P) -> (u32, u128, bool)
 
 /// The key and the length of a beginning.
 fn beginning<P: Prefix + Drop>(prefix: &P, len: u8) -> (u128, u8)
-    requires whole { length (P.bits prefix.now) ≤ P.R.width }
+    requires fits { IsTrue (P.fits prefix.now) }
     requires within { len ≤ length (P.bits prefix.now) }
 {
     let shorter = shortened(prefix, len);
     (shorter.repr().to_bits(), shorter.prefix_len())
 }
 
-/// An IPv4 network, which is never longer than its family allows.
-fn net(rt: &impl Abort, text: &str) -> Ipv4Net
-    ensures { length (bit_string (block_of Ipv4 result)) ≤ 32 }
-{
-    let net = Ipv4Net::from_str(text).expect(rt, "a network");
-    ipv4_within(&net);
-    net
+/// An IPv4 network.
+fn net(rt: &impl Abort, text: &str) -> Ipv4Net {
+    Ipv4Net::from_str(text).expect(rt, "a network")
 }
 
-/// The same of an IPv6 network.
-fn wide_net(rt: &impl Abort, text: &str) -> Ipv6Net
-    ensures { length (bit_string (block_of Ipv6 result)) ≤ 128 }
-{
-    let net = Ipv6Net::from_str(text).expect(rt, "a network");
-    ipv6_within(&net);
-    net
+/// An IPv6 network.
+fn wide_net(rt: &impl Abort, text: &str) -> Ipv6Net {
+    Ipv6Net::from_str(text).expect(rt, "a network")
 }
 
 #[test]

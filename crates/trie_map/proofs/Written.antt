@@ -1,11 +1,10 @@
 -- What an entry becomes as its value is written.
-use Rattle.std.proofs.Common.{◌≡◌, ◌≤◌, Bool, true, false, cond, List, length, refl, sym, ap, subst, ◌∙◌}
-use Rattle.std.specs.Prelude.{Option, Some, None, MatchOption, is_some}
+use Rattle.std.proofs.Common.{◌≡◌, Bool, true, false, cond, List, refl, sym, ap, subst, ◌∙◌}
+use Rattle.std.specs.Prelude.{Option, Some, None, MatchOption, is_some, IsTrue}
 use Rattle.std.specs.Ordering.{eq_by_cmp}
 use Rattle.std.specs.Option.{IsSome}
 use Rattle.std.specs.FinMap.{get, insert, get-insert, same_map}
 use mathlib.Core.Bool.{Bool-set}
-use native.Mathlib.Bridge.{le_prop}
 use denote.MutBor.{at_last}
 use Rattle.ipnet_blocks.specs.BitStrings.{bits_cmp}
 use Rattle.trie_keys.specs.declared.key.Key as key
@@ -22,14 +21,14 @@ module _ {P X R : Type 0} {g : prefix.Ghosts P R} {k : key.Ghosts R} (o : Occupi
   pub still_stored : (q : List Bool) (w : X) → q ≡ g.bits o.key → IsSome (get (insert o.map.now.entries q w) (g.bits o.key))
   still_stored q w e = subst (λ r. IsSome (get (insert o.map.now.entries q w) r)) e (ap is_some (get-written o.map.now.entries q w))
 
-  written_here : (w : X) (s : IsSome (get (insert o.map.now.entries (g.bits o.key) w) (g.bits o.key))) (l : length (g.bits o.key) ≤ k.width)
-      → record { map = at_last o.map (with_value o.map.now (g.bits o.key) w); key = o.key; within = l; stored = s } ≡ with_entry_value o w
-  written_here w s l = λ i. record (with_entry_value o w) { within = le_prop l o.within i; stored = Bool-set _ _ s (with_entry_value o w).stored i }
+  written_here : (w : X) (s : IsSome (get (insert o.map.now.entries (g.bits o.key) w) (g.bits o.key))) (l : IsTrue (g.fits o.key))
+      → record { map = at_last o.map (with_value o.map.now (g.bits o.key) w); key = o.key; fits = l; stored = s } ≡ with_entry_value o w
+  written_here w s l = λ i. record (with_entry_value o w) { fits = Bool-set _ _ l o.fits i; stored = Bool-set _ _ s (with_entry_value o w).stored i }
 
-  pub occupied_written : (q : List Bool) (e : q ≡ g.bits o.key) (w : X) (s : IsSome (get (insert o.map.now.entries q w) (g.bits o.key))) (l : length (g.bits o.key) ≤ k.width)
-      → record { map = at_last o.map (with_value o.map.now q w); key = o.key; within = l; stored = s } ≡ with_entry_value o w
+  pub occupied_written : (q : List Bool) (e : q ≡ g.bits o.key) (w : X) (s : IsSome (get (insert o.map.now.entries q w) (g.bits o.key))) (l : IsTrue (g.fits o.key))
+      → record { map = at_last o.map (with_value o.map.now q w); key = o.key; fits = l; stored = s } ≡ with_entry_value o w
   occupied_written q e w s l =
-      subst (λ r. (s : IsSome (get (insert o.map.now.entries r w) (g.bits o.key))) → record { map = at_last o.map (with_value o.map.now r w); key = o.key; within = l; stored = s } ≡ with_entry_value o w) (sym e) (λ s. written_here w s l) s
+      subst (λ r. (s : IsSome (get (insert o.map.now.entries r w) (g.bits o.key))) → record { map = at_last o.map (with_value o.map.now r w); key = o.key; fits = l; stored = s } ≡ with_entry_value o w) (sym e) (λ s. written_here w s l) s
 
   pub occupied_IsWritten : (w : X) → IsWritten (Occupied o) w (Occupied (with_entry_value o w))
   occupied_IsWritten w = record { same_map = refl; map = refl; key = refl; value = get-written o.map.now.entries (g.bits o.key) w }

@@ -43,7 +43,7 @@ module _ {P X R : Type 0} {g : prefix.Ghosts P R} {k : key.Ghosts R} where
   with_entry_value o w = record {
     map = record o.map { now = with_value o.map.now (g.bits o.key) w };
     key = o.key;
-    within = o.within;
+    fits = o.fits;
     stored = ap is_some (get-written o.map.now.entries (g.bits o.key) w);
   }
 

@@ -1,5 +1,5 @@
 //! Maps made of another map, and of entries in any order.
-ghost use Rattle.std.specs.Prelude.{◌≡◌, ◌≤◌, List, length, IfOk, IfErr};
+ghost use Rattle.std.specs.Prelude.{◌≡◌, List, IfOk, IfErr, IsTrue};
 ghost use Rattle.std.specs.Iterator.{Drains, HoldsAlong, IsFinite};
 ghost use Rattle.std.specs.List.{All};
 ghost use Rattle.std.specs.FinMap as map;
@@ -44,7 +44,7 @@ impl<P: Prefix + Drop, T: Drop> PrefixMap<P, T> {
         alloc: Global,
         items: U,
     ) -> Result<PrefixMap<P, T>, Refused>
-        requires { (it : U.IntoIter) → U.into_iter_gives items it → U.IntoIter.can_next it × IsFinite (U.IntoIter.remaining it) × HoldsAlong U.IntoIter.next_gives it (All (λ e. length (P.bits e.0) ≤ P.R.width)) }
+        requires { (it : U.IntoIter) → U.into_iter_gives items it → U.IntoIter.can_next it × IsFinite (U.IntoIter.remaining it) × HoldsAlong U.IntoIter.next_gives it (All (λ e. IsTrue (P.fits e.0))) }
         ensures map { IfOk result (λ m. (it : U.IntoIter) × (es : List (P × T)) × U.into_iter_gives items it × Drains U.IntoIter.next_gives it es × (m.entries ≡ inserted P.bits map.empty es)) }
         ensures tidy { IfOk result (λ m. m.spares ≡ map.empty) }
         ensures memory { IfErr result (λ e. e ≡ Memory) }

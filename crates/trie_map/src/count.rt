@@ -1,5 +1,5 @@
 //! How many addresses a map covers.
-ghost use Rattle.std.specs.Prelude.{◌≡◌, ◌+◌, ◌<◌, ◌≤◌, ◌^◌, false, length, MatchOption};
+ghost use Rattle.std.specs.Prelude.{◌≡◌, ◌+◌, ◌<◌, ◌≤◌, ◌^◌, false, IfSome, MatchOption, IsTrue};
 ghost use Rattle.ipnet_blocks.specs.BitStrings.{begins};
 ghost use Rattle.trie_map.specs.Covered.{covered_count};
 
@@ -10,8 +10,8 @@ use trie_keys::{Key, Prefix};
 
 /// Whether a prefix lies inside the last one, if there is one.
 fn is_inside<P: Prefix>(last: &Option<P>, prefix: &P) -> bool
-    requires within { length (P.bits prefix.now) ≤ P.R.width }
-    requires last_within { MatchOption last.now (Unit {0}) (λ b. length (P.bits b) ≤ P.R.width) }
+    requires fits { IsTrue (P.fits prefix.now) }
+    requires last_fits { IfSome last.now (λ b. IsTrue (P.fits b)) }
     ensures { MatchOption last.now (result ≡ false) (λ b. result ≡ begins (P.bits b) (P.bits prefix.now)) }
 {
     match last {

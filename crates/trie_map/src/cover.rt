@@ -1,5 +1,5 @@
 //! Iterators over the entries whose keys contain a prefix. They take no memory.
-ghost use Rattle.std.specs.Prelude.{◌≡◌, ◌≤◌, length, map, [], ⊤};
+ghost use Rattle.std.specs.Prelude.{◌≡◌, map, [], ⊤, IsTrue};
 ghost use Rattle.std.specs.FinMap.{entries};
 ghost use Rattle.std.specs.FinMap.Entries.{where_key};
 ghost use Rattle.ipnet_blocks.specs.BitStrings.{bits_cmp, begins};
@@ -51,7 +51,7 @@ impl<'a, P: Prefix, T> Cover<'a, P, T> {
 impl<'a, P: Prefix, T> Iterator for Cover<'a, P, T> {
     type Item = (P, &'a T);
 
-    ghost next_gives = { GivesEntry P.bits P.of_bits };
+    ghost next_gives = { GivesEntry P.fits P.bits P.of_bits };
 
     ghost remaining = { item_count (λ it. it) };
 
@@ -118,7 +118,7 @@ impl<'a, P: Prefix, T> CoverKeys<'a, P, T> {
 impl<'a, P: Prefix, T> Iterator for CoverKeys<'a, P, T> {
     type Item = P;
 
-    ghost next_gives = { GivesKey P.bits P.of_bits };
+    ghost next_gives = { GivesKey P.fits P.bits P.of_bits };
 
     ghost remaining = { item_count (λ it. it) };
 
@@ -228,7 +228,7 @@ impl<'a, P: Prefix, T> Default for CoverValues<'a, P, T> {
 impl<P: Prefix, T> PrefixMap<P, T> {
     /// The entries whose keys contain the prefix, its own included, the shortest key first.
     pub fn cover(&self, prefix: &P) -> Cover<'_, P, T>
-        requires { length (P.bits prefix.now) ≤ P.R.width }
+        requires { IsTrue (P.fits prefix.now) }
         ensures { result ≡ where_key bits_cmp (λ k. begins k (P.bits prefix.now)) (entries self.now.entries) }
     {
         Cover::new(Way::new(self.walked(), path_of(prefix)))
@@ -236,7 +236,7 @@ impl<P: Prefix, T> PrefixMap<P, T> {
 
     /// The keys that contain the prefix, itself included, the shortest first.
     pub fn cover_keys(&self, prefix: &P) -> CoverKeys<'_, P, T>
-        requires { length (P.bits prefix.now) ≤ P.R.width }
+        requires { IsTrue (P.fits prefix.now) }
         ensures { result ≡ map (λ e. e.0) (where_key bits_cmp (λ k. begins k (P.bits prefix.now)) (entries self.now.entries)) }
     {
         CoverKeys::new(self.cover(prefix))
@@ -244,7 +244,7 @@ impl<P: Prefix, T> PrefixMap<P, T> {
 
     /// The values of the keys that contain the prefix, itself included, that of the shortest first.
     pub fn cover_values(&self, prefix: &P) -> CoverValues<'_, P, T>
-        requires { length (P.bits prefix.now) ≤ P.R.width }
+        requires { IsTrue (P.fits prefix.now) }
         ensures { result ≡ map (λ e. e.1) (where_key bits_cmp (λ k. begins k (P.bits prefix.now)) (entries self.now.entries)) }
     {
         CoverValues::new(Way::new(self.walked(), path_of(prefix)))

@@ -1,5 +1,5 @@
 //! The entry of a prefix, which the map has or lacks.
-ghost use Rattle.std.specs.Prelude.{◌≡◌, ◌+◌, ◌≤◌, length, Some, None, IfOk, IfErr, OnErr, OnOk, is_some, MatchOption, unwrap_or};
+ghost use Rattle.std.specs.Prelude.{◌≡◌, ◌+◌, Some, None, IfOk, IfErr, OnErr, OnOk, is_some, MatchOption, unwrap_or, IsTrue};
 ghost use Rattle.std.specs.Borrow.{MutBor, sem};
 ghost use Rattle.std.specs.Map.Calls.{ModifiesValue};
 ghost use Rattle.std.specs.Option.{IsSome, option_copied, option_copied_mut, UnwrapsOrElse};
@@ -19,7 +19,7 @@ use trie_keys::{Key, Prefix, path_of, shortened};
 pub struct OccupiedEntry<'a, P: Prefix, T> {
     map: &'a mut PrefixMap<P, T>,
     key: P,
-    ghost within: { length (P.bits key) ≤ P.R.width },
+    ghost fits: { IsTrue (P.fits key) },
     ghost stored: { IsSome (get map.now.entries (P.bits key)) },
 }
 
@@ -29,7 +29,7 @@ pub struct VacantEntry<'a, P: Prefix, T> {
     map: &'a mut PrefixMap<P, T>,
     key: P,
     is_stored: bool,
-    ghost within: { length (P.bits key) ≤ P.R.width },
+    ghost fits: { IsTrue (P.fits key) },
     ghost found: { is_some (get map.now.entries (P.bits key)) ≡ is_stored },
 }
 
@@ -49,7 +49,7 @@ impl<P: Prefix, T> PrefixMap<P, T> {
     pub fn entry(&mut self, prefix: P) -> Entry<'_, P, T>
     where
         P: Drop,
-        requires { length (P.bits prefix) ≤ P.R.width }
+        requires { IsTrue (P.fits prefix) }
         ensures same_map { (entry_map_ref result).ghost_name ≡ self.entry.ghost_name }
         ensures unchanged { entry_map result ≡ self.old }
         ensures key { MatchEntry result (entry_key result ≡ P.of_bits (P.bits prefix)) (entry_key result ≡ prefix) }
@@ -74,7 +74,8 @@ impl<'a, P: Prefix, T> OccupiedEntry<'a, P, T> {
 
     /// The key, with zeros after the bits that count.
     pub fn key(&self) -> &P
-        ensures { result.now ≡ entry_key (Occupied self.now) }
+        ensures key { result.now ≡ entry_key (Occupied self.now) }
+        ensures fits { IsTrue (P.fits result.now) }
     {
         &self.key
     }
@@ -136,7 +137,8 @@ impl<'a, P: Prefix, T> VacantEntry<'a, P, T> {
 
     /// The key, as it was asked for.
     pub fn key(&self) -> &P
-        ensures { result.now ≡ entry_key (Vacant self.now) }
+        ensures key { result.now ≡ entry_key (Vacant self.now) }
+        ensures fits { IsTrue (P.fits result.now) }
     {
         &self.key
     }
@@ -242,7 +244,8 @@ impl<'a, P: Prefix, T> Entry<'a, P, T> {
 
     /// The key: with zeros after the bits that count where the map had it, and as it was asked for where it had not.
     pub fn key(&self) -> &P
-        ensures { result.now ≡ entry_key self.now }
+        ensures key { result.now ≡ entry_key self.now }
+        ensures fits { IsTrue (P.fits result.now) }
     {
         match self {
             Entry::Vacant(entry) => entry.key(),

@@ -1,5 +1,5 @@
 //! Iterators that own the entries of a map. They take no memory, and drop with them what they have not given.
-ghost use Rattle.std.specs.Prelude.{◌≡◌, ◌≤◌, length, map};
+ghost use Rattle.std.specs.Prelude.{◌≡◌, ◌≤◌, map, IsTrue};
 ghost use Rattle.std.specs.FinMap.{entries, keys, values};
 ghost use Rattle.std.specs.FinMap.Entries.{where_key};
 ghost use Rattle.ipnet_blocks.specs.BitStrings.{bits_cmp, begins};
@@ -50,7 +50,7 @@ impl<P: Prefix, T> IntoIter<P, T> {
 impl<P: Prefix, T: Drop> Iterator for IntoIter<P, T> {
     type Item = (P, T);
 
-    ghost next_gives = { GivesOwned P.bits P.of_bits };
+    ghost next_gives = { GivesOwned P.fits P.bits P.of_bits };
 
     ghost remaining = { item_count (λ it. it) };
 
@@ -91,7 +91,7 @@ impl<P: Prefix, T> IntoKeys<P, T> {
 impl<P: Prefix, T: Drop> Iterator for IntoKeys<P, T> {
     type Item = P;
 
-    ghost next_gives = { GivesKey P.bits P.of_bits };
+    ghost next_gives = { GivesKey P.fits P.bits P.of_bits };
 
     ghost remaining = { item_count (λ it. it) };
 
@@ -175,7 +175,7 @@ impl<P: Prefix, T: Drop> PrefixMap<P, T> {
 
     /// The entries whose keys the prefix contains, itself included, owned. The other entries are dropped.
     pub fn into_children(self, prefix: &P) -> IntoIter<P, T>
-        requires { length (P.bits prefix.now) ≤ P.R.width }
+        requires { IsTrue (P.fits prefix.now) }
         ensures { result ≡ where_key bits_cmp (begins (P.bits prefix.now)) (entries self.entries) }
     {
         IntoIter::new(OwnedWalk::inside(self.into_root(), path_of(prefix)))

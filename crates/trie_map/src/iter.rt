@@ -2,7 +2,7 @@
 //!
 //! All go in the order of a walk: a prefix comes before the longer ones inside it, and the bit 0 before 1. The keys
 //! that they give have zeros after the bits that count.
-ghost use Rattle.std.specs.Prelude.{◌≡◌, ◌≤◌, length, [], map, ⊤};
+ghost use Rattle.std.specs.Prelude.{◌≡◌, ◌≤◌, [], map, ⊤, IsTrue};
 ghost use Rattle.std.specs.FinMap.{entries, keys, values};
 ghost use Rattle.std.specs.FinMap.Entries.{where_key};
 ghost use Rattle.trie_core.specs.Bits.{is_from};
@@ -55,7 +55,7 @@ impl<'a, P: Prefix, T> Iter<'a, P, T> {
 impl<'a, P: Prefix, T> Iterator for Iter<'a, P, T> {
     type Item = (P, &'a T);
 
-    ghost next_gives = { GivesEntry P.bits P.of_bits };
+    ghost next_gives = { GivesEntry P.fits P.bits P.of_bits };
 
     ghost remaining = { item_count (λ it. it) };
 
@@ -122,7 +122,7 @@ impl<'a, P: Prefix, T> Keys<'a, P, T> {
 impl<'a, P: Prefix, T> Iterator for Keys<'a, P, T> {
     type Item = P;
 
-    ghost next_gives = { GivesKey P.bits P.of_bits };
+    ghost next_gives = { GivesKey P.fits P.bits P.of_bits };
 
     ghost remaining = { item_count (λ it. it) };
 
@@ -262,7 +262,7 @@ impl<P: Prefix, T> PrefixMap<P, T> {
 
     /// The entries whose keys the prefix contains, itself included.
     pub fn children(&self, prefix: &P) -> Iter<'_, P, T>
-        requires { length (P.bits prefix.now) ≤ P.R.width }
+        requires { IsTrue (P.fits prefix.now) }
         ensures { result ≡ where_key bits_cmp (begins (P.bits prefix.now)) (entries self.now.entries) }
     {
         Iter::new(Walk::inside(self.walked(), path_of(prefix)))
@@ -271,7 +271,7 @@ impl<P: Prefix, T> PrefixMap<P, T> {
     /// The entries from a prefix on, in the order of a walk: those whose keys come after it, among them the longer
     /// ones inside it, and where `inclusive` says so its own.
     pub fn iter_from(&self, prefix: &P, inclusive: bool) -> Iter<'_, P, T>
-        requires { length (P.bits prefix.now) ≤ P.R.width }
+        requires { IsTrue (P.fits prefix.now) }
         ensures { result ≡ where_key bits_cmp (is_from (P.bits prefix.now) inclusive) (entries self.now.entries) }
     {
         Iter::new(Walk::onwards(self.walked(), path_of(prefix), inclusive))

@@ -1,5 +1,5 @@
 //! Iterators that lend the values of a map, one at a time. They take no memory.
-ghost use Rattle.std.specs.Prelude.{◌≡◌, ◌≤◌, length, false, true, [], ◌&&◌, IfSome, MatchOption, option_map};
+ghost use Rattle.std.specs.Prelude.{◌≡◌, ◌≤◌, length, false, true, [], ◌&&◌, IfSome, Some, MatchOption, option_map, IsTrue};
 ghost use Rattle.std.specs.Borrow.{sem};
 ghost use Rattle.std.specs.Option.{IsSome, option_copied_mut};
 ghost use Rattle.std.specs.FinMap.{get, entries};
@@ -101,7 +101,7 @@ impl<P: Prefix, T> PrefixMap<P, T> {
 
     /// Lends in turn the values of the keys that come after a prefix, and its own first where `inclusive` says so.
     pub fn iter_from_mut(&mut self, prefix: &P, inclusive: bool) -> IterMut<'_, P, T>
-        requires { length (P.bits prefix.now) ≤ P.R.width }
+        requires { IsTrue (P.fits prefix.now) }
         ensures same_map { (lent_map_ref result).ghost_name ≡ self.entry.ghost_name }
         ensures unchanged { lent_map result ≡ self.old }
         ensures inside { lent_inside result ≡ [] }
@@ -118,7 +118,7 @@ impl<P: Prefix, T> PrefixMap<P, T> {
 
     /// Lends in turn the values of the keys that a prefix contains, itself included.
     pub fn children_mut(&mut self, prefix: &P) -> IterMut<'_, P, T>
-        requires { length (P.bits prefix.now) ≤ P.R.width }
+        requires { IsTrue (P.fits prefix.now) }
         ensures same_map { (lent_map_ref result).ghost_name ≡ self.entry.ghost_name }
         ensures unchanged { lent_map result ≡ self.old }
         ensures inside { lent_inside result ≡ P.bits prefix.now }
@@ -139,7 +139,9 @@ impl<'a, P: Prefix, T> IterMut<'a, P, T> {
 
     /// The key whose value comes next, with zeros after the bits that count.
     pub fn key(&self) -> Option<P>
-        ensures { result ≡ option_map P.of_bits (next_bits self.now) }
+        ensures key { result ≡ option_map P.of_bits (next_bits self.now) }
+        ensures bits { IfSome result (λ k. next_bits self.now ≡ Some (P.bits k)) }
+        ensures fits { IfSome result (λ k. IsTrue (P.fits k)) }
     {
         match &self.next {
             None => None,

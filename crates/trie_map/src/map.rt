@@ -1,5 +1,5 @@
 //! The map.
-ghost use Rattle.std.specs.Prelude.{◌≡◌, ◌+◌, ◌/◌, ◌≤◌, length, take, None, Some, IfOk, IfErr, IsOk, IsTrue, ◌↔◌, OnErr, OnOk, MatchOption, option_map, ⊤};
+ghost use Rattle.std.specs.Prelude.{◌≡◌, ◌+◌, ◌/◌, ◌≤◌, length, take, None, Some, IfSome, IfOk, IfErr, IsOk, IsTrue, ◌↔◌, OnErr, OnOk, MatchOption, option_map};
 ghost use Rattle.std.specs.Borrow.{sem};
 ghost use Rattle.std.specs.Option.{IsSome, option_copied, option_copied_mut};
 ghost use Rattle.std.specs.FinMap as map;
@@ -95,7 +95,7 @@ impl<P: Prefix, T> PrefixMap<P, T> {
 
     /// The value at this very key.
     pub fn get(&self, prefix: &P) -> Option<&T>
-        requires { length (P.bits prefix.now) ≤ P.R.width }
+        requires { IsTrue (P.fits prefix.now) }
         ensures { option_copied result ≡ map.get self.now.entries (P.bits prefix.now) }
     {
         self.root.get(path_of(prefix))
@@ -103,7 +103,7 @@ impl<P: Prefix, T> PrefixMap<P, T> {
 
     /// Whether this very key is stored.
     pub fn contains_key(&self, prefix: &P) -> bool
-        requires { length (P.bits prefix.now) ≤ P.R.width }
+        requires { IsTrue (P.fits prefix.now) }
         ensures { IsTrue result ↔ IsSome (map.get self.now.entries (P.bits prefix.now)) }
     {
         self.get(prefix).is_some()
@@ -111,9 +111,11 @@ impl<P: Prefix, T> PrefixMap<P, T> {
 
     /// The key, with zeros after the bits that count, and its value.
     pub fn get_key_value(&self, prefix: &P) -> Option<(P, &T)>
-        requires { length (P.bits prefix.now) ≤ P.R.width }
+        requires { IsTrue (P.fits prefix.now) }
         ensures value { option_map (λ r. r.1.now) result ≡ map.get self.now.entries (P.bits prefix.now) }
-        ensures key { MatchOption result ⊤ (λ r. r.0 ≡ P.of_bits (P.bits prefix.now)) }
+        ensures key { IfSome result (λ r. r.0 ≡ P.of_bits (P.bits prefix.now)) }
+        ensures bits { IfSome result (λ r. P.bits r.0 ≡ P.bits prefix.now) }
+        ensures fits { IfSome result (λ r. IsTrue (P.fits r.0)) }
     {
         match self.get(prefix) {
             None => None,
@@ -123,8 +125,8 @@ impl<P: Prefix, T> PrefixMap<P, T> {
 
     /// The longest key that contains the asked prefix, which itself counts, and its value.
     pub fn get_lpm(&self, prefix: &P) -> Option<(P, &T)>
-        requires { length (P.bits prefix.now) ≤ P.R.width }
-        ensures { MatchOption result (NoBeginning self.now.entries (P.bits prefix.now)) (λ r. IsLongestKey P.bits P.of_bits self.now.entries (P.bits prefix.now) r.0 r.1.now) }
+        requires { IsTrue (P.fits prefix.now) }
+        ensures { MatchOption result (NoBeginning self.now.entries (P.bits prefix.now)) (λ r. IsLongestKey P.fits P.bits P.of_bits self.now.entries (P.bits prefix.now) r.0 r.1.now) }
     {
         match self.root.longest(path_of(prefix)) {
             None => None,
@@ -134,8 +136,8 @@ impl<P: Prefix, T> PrefixMap<P, T> {
 
     /// The longest key that contains the asked prefix.
     pub fn get_lpm_prefix(&self, prefix: &P) -> Option<P>
-        requires { length (P.bits prefix.now) ≤ P.R.width }
-        ensures { MatchOption result (NoBeginning self.now.entries (P.bits prefix.now)) (λ k. (v : T) × IsLongestKey P.bits P.of_bits self.now.entries (P.bits prefix.now) k v) }
+        requires { IsTrue (P.fits prefix.now) }
+        ensures { MatchOption result (NoBeginning self.now.entries (P.bits prefix.now)) (λ k. (v : T) × IsLongestKey P.fits P.bits P.of_bits self.now.entries (P.bits prefix.now) k v) }
     {
         match self.root.longest(path_of(prefix)) {
             None => None,
@@ -145,8 +147,8 @@ impl<P: Prefix, T> PrefixMap<P, T> {
 
     /// The shortest key that contains the asked prefix, which itself counts, and its value.
     pub fn get_spm(&self, prefix: &P) -> Option<(P, &T)>
-        requires { length (P.bits prefix.now) ≤ P.R.width }
-        ensures { MatchOption result (NoBeginning self.now.entries (P.bits prefix.now)) (λ r. IsShortestKey P.bits P.of_bits self.now.entries (P.bits prefix.now) r.0 r.1.now) }
+        requires { IsTrue (P.fits prefix.now) }
+        ensures { MatchOption result (NoBeginning self.now.entries (P.bits prefix.now)) (λ r. IsShortestKey P.fits P.bits P.of_bits self.now.entries (P.bits prefix.now) r.0 r.1.now) }
     {
         match self.root.shortest(path_of(prefix)) {
             None => None,
@@ -156,8 +158,8 @@ impl<P: Prefix, T> PrefixMap<P, T> {
 
     /// The shortest key that contains the asked prefix.
     pub fn get_spm_prefix(&self, prefix: &P) -> Option<P>
-        requires { length (P.bits prefix.now) ≤ P.R.width }
-        ensures { MatchOption result (NoBeginning self.now.entries (P.bits prefix.now)) (λ k. (v : T) × IsShortestKey P.bits P.of_bits self.now.entries (P.bits prefix.now) k v) }
+        requires { IsTrue (P.fits prefix.now) }
+        ensures { MatchOption result (NoBeginning self.now.entries (P.bits prefix.now)) (λ k. (v : T) × IsShortestKey P.fits P.bits P.of_bits self.now.entries (P.bits prefix.now) k v) }
     {
         match self.root.shortest(path_of(prefix)) {
             None => None,
@@ -167,7 +169,7 @@ impl<P: Prefix, T> PrefixMap<P, T> {
 
     /// Whether a key contains the asked prefix.
     pub fn is_covered(&self, prefix: &P) -> bool
-        requires { length (P.bits prefix.now) ≤ P.R.width }
+        requires { IsTrue (P.fits prefix.now) }
         ensures { IsTrue result ↔ (NoBeginning self.now.entries (P.bits prefix.now) → ⊥) }
     {
         self.root.shortest(path_of(prefix)).is_some()
@@ -176,8 +178,8 @@ impl<P: Prefix, T> PrefixMap<P, T> {
     /// What `get_lpm` answers, and how many nodes the search visited: one, and one for each beginning of the asked
     /// prefix of positive length divisible by five at which a node stands. In a tidy map these begin a key too.
     pub fn get_lpm_visits(&self, prefix: &P) -> (Option<(P, &T)>, u32)
-        requires { length (P.bits prefix.now) ≤ P.R.width }
-        ensures found { MatchOption result.0 (NoBeginning self.now.entries (P.bits prefix.now)) (λ r. IsLongestKey P.bits P.of_bits self.now.entries (P.bits prefix.now) r.0 r.1.now) }
+        requires { IsTrue (P.fits prefix.now) }
+        ensures found { MatchOption result.0 (NoBeginning self.now.entries (P.bits prefix.now)) (λ r. IsLongestKey P.fits P.bits P.of_bits self.now.entries (P.bits prefix.now) r.0 r.1.now) }
         ensures visits { result.1 ≤ length (P.bits prefix.now) / 5 + 1 }
         ensures all { result.1 ≡ node_visits self.now.entries self.now.spares (P.bits prefix.now) }
         ensures tidy { self.now.spares ≡ map.empty → result.1 ≡ visit_count self.now.entries (P.bits prefix.now) }
@@ -190,7 +192,7 @@ impl<P: Prefix, T> PrefixMap<P, T> {
 
     /// The value at this very key, lent to be written: what is left there is the key's value afterwards.
     pub fn get_mut(&mut self, prefix: &P) -> Option<&mut T>
-        requires { length (P.bits prefix.now) ≤ P.R.width }
+        requires { IsTrue (P.fits prefix.now) }
         ensures* writes_back { sem 𝓛 (lends_get P.row T.row P.R.row ⟦<P as Prefix>⟧ ⟦<P::R as Key>⟧ self.entry (P.bits prefix.now) result) }
         ensures value { option_copied_mut result ≡ map.get self.old.entries (P.bits prefix.now) }
     {
@@ -220,7 +222,7 @@ impl<P: Prefix + Drop, T: Drop> PrefixMap<P, T> {
     /// `Memory` where there is none for the key, or one more entry or node could not be counted. The map is as it
     /// was, and the value comes back.
     pub fn insert(&mut self, prefix: P, value: T) -> Result<Option<T>, (Refused, T)>
-        requires { length (P.bits prefix) ≤ P.R.width }
+        requires { IsTrue (P.fits prefix) }
         ensures old { IfOk result (λ old. old ≡ map.get self.old.entries (P.bits prefix)) }
         ensures map { OnOk result (self.new.entries ≡ map.insert self.old.entries (P.bits prefix) value) }
         ensures spares { OnOk result (self.new.spares ≡ off_way self.old.spares (P.bits prefix)) }
@@ -250,7 +252,7 @@ impl<P: Prefix + Drop, T: Drop> PrefixMap<P, T> {
     /// Takes the entry out and answers its value. Then the last node on the way to the key goes, and each above it,
     /// while it has neither value nor child and is not the root; also where the key is not stored. It takes no memory.
     pub fn remove(&mut self, prefix: &P) -> Option<T>
-        requires { length (P.bits prefix.now) ≤ P.R.width }
+        requires { IsTrue (P.fits prefix.now) }
         ensures value { result ≡ map.get self.old.entries (P.bits prefix.now) }
         ensures map { self.new.entries ≡ map.remove self.old.entries (P.bits prefix.now) }
         ensures spares { IsPruned (P.bits prefix.now) self.old.spares self.new.entries self.new.spares }
@@ -267,7 +269,7 @@ impl<P: Prefix + Drop, T: Drop> PrefixMap<P, T> {
 
     /// Takes the entry out and answers its value; every node stays. It takes no memory.
     pub fn remove_keep_tree(&mut self, prefix: &P) -> Option<T>
-        requires { length (P.bits prefix.now) ≤ P.R.width }
+        requires { IsTrue (P.fits prefix.now) }
         ensures value { result ≡ map.get self.old.entries (P.bits prefix.now) }
         ensures map { self.new.entries ≡ map.remove self.old.entries (P.bits prefix.now) }
         ensures spares { IsKept (P.bits prefix.now) self.old.entries self.old.spares self.new.entries self.new.spares }

@@ -1,5 +1,5 @@
 //! Many entries at once, taken out of a map.
-ghost use Rattle.std.specs.Prelude.{◌≡◌, ◌+◌, ◌≤◌, length};
+ghost use Rattle.std.specs.Prelude.{◌≡◌, ◌+◌, ◌≤◌, length, IsTrue};
 ghost use Rattle.std.specs.FinMap as map;
 ghost use Rattle.trie_core.specs.Count.{nodes};
 ghost use Rattle.trie_core.specs.Inside.{outside};
@@ -23,7 +23,7 @@ impl<P: Prefix + Drop, T: Drop> PrefixMap<P, T> {
     /// prefix goes, and each above it, while it has neither value nor child and is not the root. A prefix of length 0
     /// clears the map. It takes no memory.
     pub fn remove_children(&mut self, prefix: &P)
-        requires { length (P.bits prefix.now) ≤ P.R.width }
+        requires { IsTrue (P.fits prefix.now) }
         ensures map { self.new.entries ≡ outside self.old.entries (P.bits prefix.now) }
         ensures spares { IsCut (P.bits prefix.now) self.old.spares self.new.entries self.new.spares }
         ensures tidy { self.old.spares ≡ map.empty → self.new.spares ≡ map.empty }

@@ -14,7 +14,7 @@ impl<P: Prefix + Drop, T: Drop> PrefixMap<P, T> {
     /// then, also where it was not before. It takes no memory.
     pub fn retain<F: FnMut(&P, &T) -> bool>(&mut self, f: F)
         requires { F.IsAlwaysCallable f }
-        ensures kept { IsFiltered (AnswersAt F.FnMut P.of_bits) f (entries self.old.entries) (entries self.new.entries) }
+        ensures kept { IsFiltered (AnswersAt F.FnMut P.fits P.of_bits) f (entries self.old.entries) (entries self.new.entries) }
         ensures tidy { self.new.spares ≡ empty }
     {
         self.take_refused(f);
@@ -24,7 +24,7 @@ impl<P: Prefix + Drop, T: Drop> PrefixMap<P, T> {
     /// Takes out the entries of which `f` says `false`, and leaves every node.
     fn take_refused<F: FnMut(&P, &T) -> bool>(&mut self, f: F)
         requires { F.IsAlwaysCallable f }
-        ensures { IsFiltered (AnswersAt F.FnMut P.of_bits) f (entries self.old.entries) (entries self.new.entries) }
+        ensures { IsFiltered (AnswersAt F.FnMut P.fits P.of_bits) f (entries self.old.entries) (entries self.new.entries) }
     {
         let mut f = f;
         let mut next = self.key_from(Path::new(0, 0), true);

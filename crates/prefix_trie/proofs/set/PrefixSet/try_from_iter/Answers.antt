@@ -1,4 +1,4 @@
-use Rattle.std.proofs.Common.{[], ◌∷◌, ◌++◌, ◌≤◌, ◌∙◌, length, refl, sym, ap}
+use Rattle.std.proofs.Common.{[], ◌∷◌, ◌++◌, ◌∙◌, IsTrue, refl, sym, ap}
 use Rattle.std.specs.declared.option.Option.TheVariants.{Some}
 use Rattle.std.specs.FinMap.{empty, insert}
 use Rattle.std.proofs.iter.Next.{Yields-more}
@@ -12,7 +12,7 @@ insert-requires g c =
     let xs = c.item.yielded in
     let x = c.in-Some.prefix in
     let more = Yields-more g.U.IntoIter.Iterator.next_gives it.result xs c.item.rest x c.next.new.self c.item.yielded_by c.in-Some.ensures.steps in
-    (All-pop (λ p. length (g.P.Prefix.bits p) ≤ g.P.R.Key.width) (xs ++ x ∷ []) xs (Some x) refl ((c.requires it.result it.ensures.into_iter_gives).2 (xs ++ x ∷ []) c.next.new.self more)).1
+    (All-pop (λ p. IsTrue (g.P.Prefix.fits p)) (xs ++ x ∷ []) xs (Some x) refl ((c.requires it.result it.ensures.into_iter_gives).2 (xs ++ x ∷ []) c.next.new.self more)).1
 
 pub item-preserved : goal.item-preserved
 item-preserved g c = record {

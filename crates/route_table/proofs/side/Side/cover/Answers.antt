@@ -1,12 +1,11 @@
 use Rattle.std.proofs.Common.{◌∙◌, ap}
 use Rattle.ipnet_blocks.specs.Networks.{block_of}
 use Rattle.route_table.specs.Tables.{covering}
-use Rattle.route_table.proofs.Calls.{key_within}
 use Rattle.route_table.proofs.Parts.{covered, listed_keys}
 use Rattle.route_table.proofs.side.Side.cover.Goals as goal
 
 pub cover-requires : goal.cover-requires
-cover-requires g c = key_within _ c.requires _ (g.met.P.OfFamily.bits_are c.args.net) _ g.met.P.OfFamily.width_is
+cover-requires g c = g.met.P.OfFamily.always_fits c.args.net
 
 pub new-requires : goal.new-requires
 new-requires g c = listed_keys _ _ c.self.invariant.0 _ _ c.cover.ensures

@@ -2,12 +2,11 @@ use Rattle.std.proofs.Common.{◌∙◌, ap, arith}
 use Rattle.std.specs.Prelude.{true}
 use Rattle.ipnet_blocks.specs.Networks.{block_of}
 use Rattle.route_table.specs.Onwards.{routes_from}
-use Rattle.route_table.proofs.Calls.{key_within}
 use Rattle.route_table.proofs.Parts.{walked, listed_keys}
 use Rattle.route_table.proofs.side.Side.from.Goals as goal
 
 pub iter_from-requires : goal.iter_from-requires
-iter_from-requires g c = (omega arith, key_within _ c.requires _ (g.met.P.OfFamily.bits_are c.args.net) _ g.met.P.OfFamily.width_is)
+iter_from-requires g c = (omega arith, g.met.P.OfFamily.always_fits c.args.net)
 
 pub new-requires : goal.new-requires
 new-requires g c = listed_keys _ _ c.self.invariant.0 _ _ c.iter_from.ensures

@@ -1,12 +1,11 @@
 use Rattle.std.proofs.Common.{◌∙◌, ap, arith}
 use Rattle.ipnet_blocks.specs.Networks.{block_of}
 use Rattle.route_table.specs.Tables.{routes_inside}
-use Rattle.route_table.proofs.Calls.{key_within}
 use Rattle.route_table.proofs.Parts.{listed, listed_keys}
 use Rattle.route_table.proofs.side.Side.list.Goals as goal
 
 pub children-requires : goal.children-requires
-children-requires g c = (omega arith, key_within _ c.requires _ (g.met.P.OfFamily.bits_are c.args.net) _ g.met.P.OfFamily.width_is)
+children-requires g c = (omega arith, g.met.P.OfFamily.always_fits c.args.net)
 
 pub new-requires : goal.new-requires
 new-requires g c = listed_keys _ _ c.self.invariant.0 _ _ c.children.ensures

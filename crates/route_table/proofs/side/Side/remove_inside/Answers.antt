@@ -2,13 +2,12 @@ use Rattle.std.proofs.Common.{◌∙◌, ap}
 use Rattle.ipnet_blocks.specs.Networks.{block_of}
 use Rattle.trie_core.specs.Inside.{outside}
 use Rattle.route_table.specs.Overwritten.{without_inside}
-use Rattle.route_table.proofs.Calls.{key_within}
 use Rattle.route_table.proofs.Emptied.{outside_is_stored, outside_side}
 use Rattle.route_table.proofs.Seams.{is_side}
 use Rattle.route_table.proofs.side.Side.remove_inside.Goals as goal
 
 pub remove_children-requires : goal.remove_children-requires
-remove_children-requires g c = key_within _ c.requires _ (g.met.P.OfFamily.bits_are c.args.net) _ g.met.P.OfFamily.width_is
+remove_children-requires g c = g.met.P.OfFamily.always_fits c.args.net
 
 pub invariant_of-self : goal.invariant_of-self
 invariant_of-self g c = (outside_is_stored (block_of g.P.OfFamily.family (g.P.OfFamily.parts c.args.net)) c.requires _ c.self.invariant.0 _ (c.remove_children.ensures.map ∙ ap (outside c.self.inside.hops.entries) (g.met.P.OfFamily.bits_are c.args.net)), c.remove_children.ensures.tidy c.self.invariant.1)

@@ -6,13 +6,13 @@ use Rattle.trie_map.specs.Seen.{SeenMap}
 use Rattle.route_table.specs.InnerSides.{IsStored}
 use Rattle.route_table.specs.Tables.{is_stored, with_route}
 use Rattle.route_table.specs.declared.hop.Hop.{Hop}
-use Rattle.route_table.proofs.Calls.{key_within, stored_is}
+use Rattle.route_table.proofs.Calls.{stored_is}
 use Rattle.route_table.proofs.Seams.{is_side}
 use Rattle.route_table.proofs.Stores.{put_is_stored, put_side}
 use Rattle.route_table.proofs.side.Side.store.Goals as goal
 
 pub insert-requires : goal.insert-requires
-insert-requires g c = key_within _ c.requires _ (g.met.P.OfFamily.bits_are c.args.net) _ g.met.P.OfFamily.width_is
+insert-requires g c = g.met.P.OfFamily.always_fits c.args.net
 
 pub returns-in-Err-clause-side : goal.returns-in-Err-clause-side
 returns-in-Err-clause-side g c = is_side _ _ (subst (λ (h : SeenMap Hop). IsStored g.P.OfFamily.family h.entries) (sym c.in-Err.ensures.unchanged) c.self.invariant.0)

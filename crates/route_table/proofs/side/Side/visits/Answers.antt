@@ -4,11 +4,11 @@ use Rattle.ipnet_blocks.specs.Blocks.{bit_string}
 use Rattle.ipnet_blocks.specs.Networks.{block_of}
 use Rattle.ipnet_blocks.proofs.Strings.{length-digits}
 use Rattle.route_table.specs.Tries.{map_of}
-use Rattle.route_table.proofs.Calls.{key_within, map_is}
+use Rattle.route_table.proofs.Calls.{map_is}
 use Rattle.route_table.proofs.side.Side.visits.Goals as goal
 
 pub get_lpm_visits-requires : goal.get_lpm_visits-requires
-get_lpm_visits-requires g c = key_within _ c.requires _ (g.met.P.OfFamily.bits_are c.args.net) _ g.met.P.OfFamily.width_is
+get_lpm_visits-requires g c = g.met.P.OfFamily.always_fits c.args.net
 
 pub returns-clause-visits : goal.returns-clause-visits
 returns-clause-visits g c =

@@ -6,7 +6,7 @@ use Rattle.trie_map.proofs.entry.OccupiedEntry.get_mut.Goals as goal
 pub invariant_of-self-lent : goal.invariant_of-self-lent
 invariant_of-self-lent g c w =
     let o = c.args.self.now in
-    (o.within, (still_stored o c.path_of-path.result w c.path_of-path.ensures.value, tt))
+    (o.fits, (still_stored o c.path_of-path.result w c.path_of-path.ensures.value, tt))
 
 pub returns : goal.returns
 returns g c =

@@ -1,11 +1,14 @@
-use Rattle.std.specs.Prelude.{option_map}
+use Rattle.std.specs.Prelude.{option_map, IfSome, IsTrue}
 use Rattle.std.proofs.Common.{length}
 use Rattle.trie_map.specs.Covered.{covered_count}
 use Rattle.trie_map.proofs.Covered.{IsCounting}
 use Rattle.trie_map.proofs.map.PrefixMap.address_count.Given as goal
 
 abbrev pub invariant-walk : goal.invariant-walk
-invariant-walk g l = IsCounting g.P.R.Key.width (covered_count g.P.R.Key.width l.self.entries) l.left (option_map g.P.Prefix.bits l.last) l.walk.0
+invariant-walk g l = record {
+  counting : IsCounting g.P.R.Key.width (covered_count g.P.R.Key.width l.self.entries) l.left (option_map g.P.Prefix.bits l.last) l.walk.0;
+  last_fits : IfSome l.last (λ b. IsTrue (g.P.Prefix.fits b));
+}
 
 abbrev pub decreases-walk : goal.decreases-walk
 decreases-walk g l = length l.walk.0

@@ -14,7 +14,7 @@ invariant_of-self g c =
       entries_counted = omega (arith, c.self.invariant.entries_counted, n, ap len c.in-Ok.ensures.map);
       nodes_counted = omega (arith, c.self.invariant.nodes_counted, c.in-Ok.ensures.count);
       levels = omega (arith, c.self.invariant.levels, c.in-Ok.ensures.levels, c.path_of.ensures.within);
-      keys = keys_insert g.P.R.Key.width c.self.inside.root.entries _ c.path_of.result c.args.value c.self.invariant.keys (omega (arith, ap length c.path_of.ensures.value, c.requires)) c.in-Ok.ensures.map;
+      keys = keys_insert g.P.R.Key.width c.self.inside.root.entries _ c.path_of.result c.args.value c.self.invariant.keys c.path_of.ensures.width c.in-Ok.ensures.map;
       idle = idle_off c.self.inside.root.entries _ c.self.inside.root.spares _ c.path_of.result c.args.value c.self.invariant.idle c.in-Ok.ensures.map c.in-Ok.ensures.spares;
     }
 
@@ -24,7 +24,7 @@ invariant_of-self-else-is_none g c =
       entries_counted = omega (arith, c.self.invariant.entries_counted, n, ap len c.in-Ok.ensures.map);
       nodes_counted = omega (arith, c.self.invariant.nodes_counted, c.in-Ok.ensures.count);
       levels = omega (arith, c.self.invariant.levels, c.in-Ok.ensures.levels, c.path_of.ensures.within);
-      keys = keys_insert g.P.R.Key.width c.self.inside.root.entries _ c.path_of.result c.args.value c.self.invariant.keys (omega (arith, ap length c.path_of.ensures.value, c.requires)) c.in-Ok.ensures.map;
+      keys = keys_insert g.P.R.Key.width c.self.inside.root.entries _ c.path_of.result c.args.value c.self.invariant.keys c.path_of.ensures.width c.in-Ok.ensures.map;
       idle = idle_off c.self.inside.root.entries _ c.self.inside.root.spares _ c.path_of.result c.args.value c.self.invariant.idle c.in-Ok.ensures.map c.in-Ok.ensures.spares;
     }
 

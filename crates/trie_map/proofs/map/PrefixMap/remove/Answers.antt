@@ -16,7 +16,7 @@ invariant_of-self g c =
       entries_counted = omega (arith, c.self.invariant.entries_counted, n, ap len c.remove-value.ensures.map);
       nodes_counted = omega (arith, c.self.invariant.nodes_counted, c.remove-value.ensures.count, c.from.ensures);
       levels = omega (arith, c.self.invariant.levels, c.remove-value.ensures.levels);
-      keys = keys_remove g.P.R.Key.width c.self.inside.root.entries _ c.path_of.result c.self.invariant.keys (omega (arith, ap length c.path_of.ensures.value, c.requires)) c.remove-value.ensures.map;
+      keys = keys_remove g.P.R.Key.width c.self.inside.root.entries _ c.path_of.result c.self.invariant.keys c.path_of.ensures.width c.remove-value.ensures.map;
       idle = idle_left (λ s. false) c.path_of.result c.self.inside.root.entries c.self.inside.root.spares c.remove-value.new.self.entries c.remove-value.new.self.spares c.self.invariant.idle (fewer_removed c.self.inside.root.entries _ c.path_of.result c.remove-value.ensures.map) c.remove-value.ensures.spares;
     }
 
@@ -26,7 +26,7 @@ invariant_of-self-else-is_some g c =
       entries_counted = omega (arith, c.self.invariant.entries_counted, n, ap len c.remove-value.ensures.map);
       nodes_counted = omega (arith, c.self.invariant.nodes_counted, c.remove-value.ensures.count, c.from.ensures);
       levels = omega (arith, c.self.invariant.levels, c.remove-value.ensures.levels);
-      keys = keys_remove g.P.R.Key.width c.self.inside.root.entries _ c.path_of.result c.self.invariant.keys (omega (arith, ap length c.path_of.ensures.value, c.requires)) c.remove-value.ensures.map;
+      keys = keys_remove g.P.R.Key.width c.self.inside.root.entries _ c.path_of.result c.self.invariant.keys c.path_of.ensures.width c.remove-value.ensures.map;
       idle = idle_left (λ s. false) c.path_of.result c.self.inside.root.entries c.self.inside.root.spares c.remove-value.new.self.entries c.remove-value.new.self.spares c.self.invariant.idle (fewer_removed c.self.inside.root.entries _ c.path_of.result c.remove-value.ensures.map) c.remove-value.ensures.spares;
     }
 

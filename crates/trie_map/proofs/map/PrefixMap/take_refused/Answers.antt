@@ -27,7 +27,7 @@ entry-smaller g c =
       | then-not-f w ↦ ap (λ m. m.entries) w.self-is ∙ w.remove_keep_tree.ensures.map ∙ ap (λ b. cond b n (remove n bits)) (sym w.if-not-f.true)
       | else-not-f w ↦ ap (λ m. m.entries) w.self-is ∙ ap (λ b. cond b n (remove n bits)) (sym w.if-not-f.false)
     ] in
-    (asked_more _ c.in-Some.path bits c.in-Some-get.value.now c.f.result c.entry.invariant.asked c.in-Some.is c.key_of-prefix.ensures.bits c.in-Some-get.ensures (record { key = _; value = _; shows = (c.key_of-prefix.ensures.key, refl); called = c.f.ensures }) c.key_from-next-in-Some.ensures.key after).1
+    (asked_more _ c.in-Some.path bits c.in-Some-get.value.now c.f.result c.entry.invariant.asked c.in-Some.is c.key_of-prefix.ensures.bits c.in-Some-get.ensures (record { key = _; value = _; shows = (c.key_of-prefix.ensures.key, c.key_of-prefix.ensures.fits, refl); called = c.f.ensures }) c.key_from-next-in-Some.ensures.key after).1
 
 pub entry-preserved : goal.entry-preserved
 entry-preserved g c =
@@ -40,5 +40,5 @@ entry-preserved g c =
     record {
       callable = search (rules, of_calls);
       within = lengths _ _ _ c.key_from-next-in-Some.ensures.stored;
-      asked = (asked_more _ c.in-Some.path bits c.in-Some-get.value.now c.f.result c.entry.invariant.asked c.in-Some.is c.key_of-prefix.ensures.bits c.in-Some-get.ensures (record { key = _; value = _; shows = (c.key_of-prefix.ensures.key, refl); called = c.f.ensures }) c.key_from-next-in-Some.ensures.key after).0;
+      asked = (asked_more _ c.in-Some.path bits c.in-Some-get.value.now c.f.result c.entry.invariant.asked c.in-Some.is c.key_of-prefix.ensures.bits c.in-Some-get.ensures (record { key = _; value = _; shows = (c.key_of-prefix.ensures.key, c.key_of-prefix.ensures.fits, refl); called = c.f.ensures }) c.key_from-next-in-Some.ensures.key after).0;
     }

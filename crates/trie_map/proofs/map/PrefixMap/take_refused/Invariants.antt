@@ -9,7 +9,7 @@ abbrev pub invariant-entry : goal.invariant-entry
 invariant-entry g l = record {
   callable : always_mut g.F.FnMut l.f;
   within : IfSome l.next (λ q. (length q ≤ 128) × (length q ≤ g.P.R.Key.width));
-  asked : IsAsked (AnswersAt g.F.FnMut g.P.Prefix.of_bits) l.fn.f l.fn.self.entries l.f l.self.entries l.next;
+  asked : IsAsked (AnswersAt g.F.FnMut g.P.Prefix.fits g.P.Prefix.of_bits) l.fn.f l.fn.self.entries l.f l.self.entries l.next;
 }
 
 abbrev pub decreases-entry : goal.decreases-entry

@@ -1,4 +1,4 @@
-use Rattle.std.proofs.Common.{[], ◌∷◌, ◌++◌, ◌≤◌, ◌∙◌, length, refl, sym, ap}
+use Rattle.std.proofs.Common.{[], ◌∷◌, ◌++◌, ◌∙◌, IsTrue, refl, sym, ap}
 use Rattle.std.specs.declared.option.Option.TheVariants.{Some}
 use Rattle.std.specs.FinMap.{empty, insert}
 use Rattle.std.proofs.iter.Next.{Yields-more}
@@ -12,7 +12,7 @@ insert-requires g c =
     let xs = c.loop-prefix.yielded in
     let x : g.row.P.Denot × g.row.T.Denot = (c.in-Some.prefix, c.in-Some.value) in
     let more = Yields-more g.U.IntoIter.Iterator.next_gives it.result xs c.loop-prefix.prefix-iterator x c.next.new.self c.loop-prefix.yielded_by c.in-Some.ensures.steps in
-    (All-pop (λ e. length (g.P.Prefix.bits e.0) ≤ g.P.R.Key.width) (xs ++ x ∷ []) xs (Some x) refl ((c.requires it.result it.ensures.into_iter_gives).2 (xs ++ x ∷ []) c.next.new.self more)).1
+    (All-pop (λ e. IsTrue (g.P.Prefix.fits e.0)) (xs ++ x ∷ []) xs (Some x) refl ((c.requires it.result it.ensures.into_iter_gives).2 (xs ++ x ∷ []) c.next.new.self more)).1
 
 pub loop-prefix-preserved : goal.loop-prefix-preserved
 loop-prefix-preserved g c = record {

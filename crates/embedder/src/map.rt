@@ -1,0 +1,92 @@
+//! Maps of prefixes: keys of one's own, any keys, networks.
+ghost use Rattle.std.specs.Prelude.{◌≡◌, ◌≤◌, Some, None, IfOk, OnOk, IsTrue, nat_le, length};
+ghost use Rattle.std.specs.FinMap.{entries, get, insert};
+ghost use Rattle.ipnet_addr.specs.Addresses.{Ipv4};
+ghost use Rattle.ipnet_blocks.specs.Blocks.{bit_string};
+ghost use Rattle.ipnet_blocks.specs.Networks.{block_of};
+ghost use Rattle.trie_core.specs.Bits.{number_from};
+ghost use Rattle.trie_core.specs.Prefixes.{prefix_bits};
+ghost use Rattle.trie_map.specs.Made.{inserted};
+
+use ipnet::Ipv4Net;
+use prefix_trie::{Prefix, PrefixMap, Refused};
+
+/// A region: the first `len` bits of a label.
+#[derive(Clone, Copy)]
+pub struct Region {
+    pub label: u16,
+    pub len: u8,
+}
+
+impl Prefix for Region {
+    type R = u16;
+
+    ghost bits = { λ p. prefix_bits 16 p.label p.len };
+
+    ghost of_bits = { λ s. record { label = number_from 16 s; len = length s } };
+
+    ghost fits = { λ p. nat_le p.len 16 };
+
+    fn repr(&self) -> u16 {
+        self.label
+    }
+
+    fn prefix_len(&self) -> u8 {
+        self.len
+    }
+
+    fn from_repr_len(repr: u16, len: u8) -> Region {
+        Region { label: repr, len }
+    }
+}
+
+/// The longest match of a region after it was stored: itself, with zeros after the bits that count, and its value.
+pub fn matched(
+    map: &mut PrefixMap<Region, u32>,
+    region: Region,
+    value: u32,
+) -> Result<Option<(Region, u32)>, (Refused, u32)>
+    requires { IsTrue (nat_le region.len 16) }
+    ensures { IfOk result (λ found. found ≡ Some (record { label = number_from 16 (prefix_bits 16 region.label region.len); len = length (prefix_bits 16 region.label region.len) }, value)) }
+{
+    map.insert(region, value)?;
+    match map.get_lpm(&region) {
+        None => Ok(None),
+        Some((key, value)) => Ok(Some((key, *value))),
+    }
+}
+
+/// Stores a new region, and takes it out again: the map has what it had.
+pub fn restored(map: &mut PrefixMap<Region, u32>, region: Region) -> Result<(), (Refused, u32)>
+    requires fits { IsTrue (nat_le region.len 16) }
+    requires absent { get map.old.entries (prefix_bits 16 region.label region.len) ≡ None }
+    ensures { OnOk result (map.new.entries ≡ map.old.entries) }
+{
+    map.insert(region, 7)?;
+    map.remove(&region);
+    Ok(())
+}
+
+/// Stores all entries of a map in another, in the order of a walk.
+pub fn copied<P: Prefix + Drop>(
+    map: &PrefixMap<P, u32>,
+    other: &mut PrefixMap<P, u32>,
+) -> Result<(), (Refused, u32)>
+    ensures { OnOk result (other.new.entries ≡ inserted (λ s. s) other.old.entries (entries map.now.entries)) }
+{
+    for (key, value) in map {
+        other.insert(key, *value)?;
+    }
+    Ok(())
+}
+
+/// Stores a network. No condition is asked of it.
+pub fn stored(
+    map: &mut PrefixMap<Ipv4Net, u32>,
+    net: Ipv4Net,
+) -> Result<Option<u32>, (Refused, u32)>
+    ensures map { OnOk result (map.new.entries ≡ insert map.old.entries (bit_string (block_of Ipv4 net)) 1) }
+    ensures old { IfOk result (λ old. old ≡ get map.old.entries (bit_string (block_of Ipv4 net))) }
+{
+    map.insert(net, 1)
+}
