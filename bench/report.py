@@ -9,7 +9,7 @@ Measure = namedtuple("Measure", "seconds kilobytes")
 
 HEAD = """# Speed and memory
 
-Written by `bench/run`. Each feed is given to `routes lead`, whose output goes to a file and then to `routes follow`. A time
+Measured by `bench/run`. Each feed is given to `routes lead`, whose output goes to a file and then to `routes follow`. A time
 is the processor's, with the system's for it, of the whole program: the least of {runs} runs. A memory is the most that was
 resident. Each feed ends with `flat`, and the follower's output was compared with the leader's answer to it. No line of a
 feed was answered `bad` or `refused`.
@@ -88,17 +88,16 @@ def beside(load):
 
 
 def write(docs, feeds, growth, runs, load):
-    rows = feeds + [row for family in growth.values() for _, row in family]
+    rows = feeds + [row for family in growth.values() for count, row in family if count in (100000, 1000000)]
     text = HEAD.format(runs=runs, machine=machine(), beside=beside(load))
     text += "\n## Times and memory\n\nCommands and MB a second are of the leader (bytes read and written), lines a second of the follower.\n\n"
     text += figures(rows)
-    text += "\n![Time for each command as the table grows](performance.svg)\n"
+    text += "\n![Time for each line read, by loads of 10,000 to 1,000,000 networks](performance.svg)\n"
     if all("peer" in row.lead for row in rows):
         head = ["feed", "lead", "follow", "memory of lead", "memory of follow"]
         text += (
-            "\n## Beside a Rust program\n\nA plain program with the same two modes over the Rust crate `prefix-trie` 0.10.1, run in turns with ours in the\n"
-            "same run; its outputs were compared with ours. Speed as ours over its (above 1 we are faster), memory as ours over its\n"
-            "(below 1 we use less).\n\n"
+            "\n## Beside a Rust program\n\nA plain program with the same two modes over the Rust crate `prefix-trie` 0.10.1, run in turns with ours; its outputs were\n"
+            "compared with ours. Speed and memory as ours over its: above 1 we are faster, and use more.\n\n"
         )
         text += table(head, [[row.title] + row.ratios() for row in rows])
     (docs / "PERFORMANCE.md").write_text(text)
