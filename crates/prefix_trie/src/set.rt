@@ -287,7 +287,11 @@ impl<P: Prefix + Drop> PrefixSet<P> {
         ensures tidy { self.new.spares ≡ fin.empty }
     {
         let mut f = f;
-        self.members.retain(move |prefix, _| f(prefix));
+        self.members.retain(
+            move |member: &P, _: &()| -> bool
+                requires { F.pre f member }
+            { f(member) },
+        );
     }
 }
 
