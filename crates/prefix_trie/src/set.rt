@@ -279,8 +279,8 @@ impl<P: Prefix + Drop> PrefixSet<P> {
         self.members.remove_children(prefix);
     }
 
-    /// Asks `f` of each member once, in the order of a walk, and keeps those of which it says `true`. The set is tidy
-    /// then, also where it was not before. It takes no memory.
+    /// Asks `f` of each member once, in the order of a walk, and keeps those of which it says `true`. `f` need take no
+    /// others. The set is tidy then, also where it was not before. It takes no memory.
     pub fn retain<F: FnMut(&P) -> bool>(&mut self, f: F)
         requires { CallableInTurn (AnswersAtMember F.FnMut P.fits P.bits P.of_bits) (TakesMember F.FnMut P.fits P.bits P.of_bits) f (fin.keys self.old.entries) }
         ensures kept { IsFiltered (AnswersAtMember F.FnMut P.fits P.bits P.of_bits) f (fin.keys self.old.entries) (fin.keys self.new.entries) }
