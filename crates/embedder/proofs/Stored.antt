@@ -1,7 +1,9 @@
--- What callers of maps need of finite maps.
-use Rattle.std.proofs.Common.{◌≡◌, ◌∙◌, ap, sym, List, Bool, true, false, cond, refl, ℕ, length, take, arith, nat_lt}
+-- What callers of maps need of finite maps, and of what closures may be called at.
+use Rattle.std.proofs.Common.{◌≡◌, ◌∙◌, ap, sym, subst, List, ◌∷◌, Bool, true, false, cond, refl, ℕ, length, take, arith, nat_lt}
 use Rattle.std.specs.Prelude.{Option, Some, None, option_map}
 use Rattle.std.specs.FinMap.{get, insert, remove, get-insert, get-remove, same_map}
+use Rattle.std.specs.List.{All, Contains}
+use Rattle.std.proofs.lemmas.List.Elements.{All-contains, Contains-append_right}
 use Rattle.std.proofs.Math.Seq.{take-length}
 use Rattle.std.proofs.lemmas.Bool.Decides.{nat_tests}
 use Rattle.std.proofs.lemmas.Option.{none-some}
@@ -10,6 +12,11 @@ use Rattle.trie_core.specs.Search.{NoBeginning}
 use Rattle.trie_core.proofs.Maps.{get-written}
 use Rattle.trie_core.proofs.Strings.{bits_total, bits_same, same, same-Decides}
 use Rattle.trie_map.specs.Maps.{IsLongestKey}
+use Rattle.trie_map.specs.Retain.{CallableInTurn}
+
+-- a closure that takes each element with P may be called at elements that all have it
+pub callable_at : {F E : Type 0} (R : F → E → Bool → F → Type 0) (Q : F → E → Type 0) (P : E → Type 0) → ((f : F) (e : E) → P e → Q f e) → (f : F) (es : List E) → All P es → CallableInTurn R Q f es
+callable_at R Q P takes f es all = record { at = λ before after e g i calls. takes g e (All-contains P es e all (subst (λ l. Contains l e) (sym i) (Contains-append_right before (e ∷ after) e (0, omega arith, refl)))) }
 
 module _ {X : Type 0} where
   same_get : (m : BitMap X) (q : List Bool) (w : X) → get m q ≡ None → (x : List Bool) (b : Bool) → (b ≡ true → x ≡ q) → cond b None (cond b (Some w) (get m x)) ≡ get m x

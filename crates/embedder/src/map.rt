@@ -1,6 +1,7 @@
 //! Maps of prefixes: keys of one's own, any keys, networks.
-ghost use Rattle.std.specs.Prelude.{◌≡◌, ◌≤◌, Some, None, IfOk, OnOk, IsTrue, nat_le, length};
-ghost use Rattle.std.specs.FinMap.{entries, get, insert};
+ghost use Rattle.std.specs.Prelude.{◌≡◌, ◌<◌, ◌≤◌, ◌-◌, ◌/◌, Some, None, IfOk, OnOk, IsTrue, nat_le, length, filter};
+ghost use Rattle.std.specs.FinMap.{entries, keys, get, insert};
+ghost use Rattle.std.specs.List.{All};
 ghost use Rattle.ipnet_addr.specs.Addresses.{Ipv4};
 ghost use Rattle.ipnet_blocks.specs.Blocks.{bit_string};
 ghost use Rattle.ipnet_blocks.specs.Networks.{block_of};
@@ -9,7 +10,7 @@ ghost use Rattle.trie_core.specs.Prefixes.{prefix_bits};
 ghost use Rattle.trie_map.specs.Made.{inserted};
 
 use ipnet::Ipv4Net;
-use prefix_trie::{Prefix, PrefixMap, Refused};
+use prefix_trie::{Prefix, PrefixMap, PrefixSet, Refused};
 
 /// A region: the first `len` bits of a label.
 #[derive(Clone, Copy)]
@@ -78,6 +79,28 @@ pub fn copied<P: Prefix + Drop>(
         other.insert(key, *value)?;
     }
     Ok(())
+}
+
+/// Keeps the regions that leave at least `free` bits: a region that the closure is shown has at most sixteen.
+pub fn roomy(map: &mut PrefixMap<Region, u32>, free: u8)
+    ensures { entries map.new.entries ≡ filter (λ e. nat_le free (16 - length e.0)) (entries map.old.entries) }
+{
+    map.retain(|region, _| 16 - region.len >= free);
+}
+
+/// The same of a set.
+pub fn roomy_members(set: &mut PrefixSet<Region>, free: u8)
+    ensures { keys set.new.entries ≡ filter (λ s. nat_le free (16 - length s)) (keys set.old.entries) }
+{
+    set.retain(|region| 16 - region.len >= free);
+}
+
+/// Keeps the entries of which `whole` has at least three parts: a closure may be one that takes the stored entries alone.
+pub fn in_parts(map: &mut PrefixMap<Region, u32>, whole: u32)
+    requires { All (λ e. 0 < e.1) (entries map.old.entries) }
+    ensures { entries map.new.entries ≡ filter (λ e. nat_le 3 (whole / e.1)) (entries map.old.entries) }
+{
+    map.retain(|_, value| whole / *value >= 3);
 }
 
 /// Stores a network. No condition is asked of it.

@@ -1,14 +1,24 @@
--- The keys of the entries that a closure keeps.
+-- What a closure is asked of keys, where another asks it of entries.
 use Rattle.std.proofs.Common.{◌≡◌, Bool, true, false, List, [], ◌∷◌, length, refl, ap, sym, ◌∙◌, arith}
+use Rattle.std.proofs.lemmas.List.{map-append}
 use Rattle.std.specs.Prelude.{map}
-use Rattle.std.specs.List.{items_where_true}
+use Rattle.std.specs.List.{items_where_true, FoldsTo}
 use Rattle.std.specs.List.Retain.{ReturnsInTurn, IsFiltered}
+use Rattle.trie_map.specs.Retain.{CallableInTurn}
 
 module _ {F G K X : Type 0} (R : F → K × X → Bool → F → Type 0) (S : G → K → Bool → G → Type 0) (state : F → G) (says : (f : F) (e : K × X) (b : Bool) (g : F) → R f e b g → S (state f) e.0 b (state g)) where
   answers_by : (f : F) (bs : List Bool) (es : List (K × X)) (g : F) → ReturnsInTurn R f bs es g → ReturnsInTurn S (state f) bs (map (λ e. e.0) es) (state g)
   answers_by f [] es g h = ap state h
   answers_by f (b ∷ bs) [] g h = absurd h
   answers_by f (b ∷ bs) (e ∷ es) g h = (state h.0, says f e b h.0 h.1, answers_by h.0 bs es g h.2)
+
+  calls_by : (f : F) (es : List (K × X)) (g : F) → FoldsTo (λ p x q. (b : Bool) × R p x b q) f es g → FoldsTo (λ p x q. (b : Bool) × S p x b q) (state f) (map (λ e. e.0) es) (state g)
+  calls_by f [] g h = ap state h
+  calls_by f (e ∷ es) g h = (state h.0, (h.1.0, says f e h.1.0 h.0 h.1.1), calls_by h.0 es g h.2)
+
+  -- it may be asked of the entries, where it may be asked of their keys
+  pub callable_by : (Q : F → K × X → Type 0) (P : G → K → Type 0) → ((f : F) (e : K × X) → P (state f) e.0 → Q f e) → (f : F) (es : List (K × X)) → CallableInTurn S P (state f) (map (λ e. e.0) es) → CallableInTurn R Q f es
+  callable_by Q P asks f es h = record { at = λ before after e f' i c. asks f' e (h.at (map (λ x. x.0) before) (map (λ x. x.0) after) e.0 (state f') (ap (map (λ x. x.0)) i ∙ map-append (λ x. x.0) before (e ∷ after)) (calls_by f before f' c)) }
 
 length-keys : {K X : Type 0} (es : List (K × X)) → length (map (λ e. e.0) es) ≡ length es
 length-keys [] = refl

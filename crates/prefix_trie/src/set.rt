@@ -4,7 +4,6 @@ ghost use Rattle.std.specs.Cmp.{partial_equiv_from_equiv};
 ghost use Rattle.std.specs.FinMap as fin;
 ghost use Rattle.std.specs.FinMap.Entries.{where_key};
 ghost use Rattle.std.specs.Iterator.{Drains, HoldsAlong, IsFinite, item_count};
-ghost use Rattle.std.specs.Fn.{CalledAt};
 ghost use Rattle.std.specs.List.{All};
 ghost use Rattle.std.specs.List.Retain.{IsFiltered};
 ghost use Rattle.trie_core.specs.Bits.{is_from};
@@ -18,7 +17,9 @@ ghost use Rattle.trie_map.specs.Iterators.{GivesKey};
 ghost use Rattle.trie_map.specs.Made.{inserted};
 ghost use Rattle.trie_map.specs.Maps.{IsLongestKey, IsShortestKey};
 ghost use Rattle.trie_map.specs.Refusals.{no_room};
+ghost use Rattle.trie_map.specs.Retain.{CallableInTurn};
 ghost use Rattle.prefix_trie.specs.Sets.{same_sets};
+ghost use Rattle.prefix_trie.specs.Members.{TakesMember, AnswersAtMember};
 ghost use Rattle.prefix_trie.specs.InnerSets.{same_sets-equivalence};
 ghost use Rattle.trie_map.specs.declared.refused.Refused.TheVariants.{Full, Memory};
 
@@ -278,15 +279,19 @@ impl<P: Prefix + Drop> PrefixSet<P> {
         self.members.remove_children(prefix);
     }
 
-    /// Asks `f` of each member once, in the order of a walk, and keeps those of which it says `true`. The set is tidy
-    /// then, also where it was not before. It takes no memory.
+    /// Asks `f` of each member once, in the order of a walk, and keeps those of which it says `true`. `f` need take no
+    /// others. The set is tidy then, also where it was not before. It takes no memory.
     pub fn retain<F: FnMut(&P) -> bool>(&mut self, f: F)
-        requires { F.IsAlwaysCallable f }
-        ensures kept { IsFiltered (λ g k. CalledAt F.FnMut g (P.of_bits k)) f (fin.keys self.old.entries) (fin.keys self.new.entries) }
+        requires { CallableInTurn (AnswersAtMember F.FnMut P.fits P.bits P.of_bits) (TakesMember F.FnMut P.fits P.bits P.of_bits) f (fin.keys self.old.entries) }
+        ensures kept { IsFiltered (AnswersAtMember F.FnMut P.fits P.bits P.of_bits) f (fin.keys self.old.entries) (fin.keys self.new.entries) }
         ensures tidy { self.new.spares ≡ fin.empty }
     {
         let mut f = f;
-        self.members.retain(move |prefix, _| f(prefix));
+        self.members.retain(
+            move |member: &P, _: &()| -> bool
+                requires { F.pre f member }
+            { f(member) },
+        );
     }
 }
 

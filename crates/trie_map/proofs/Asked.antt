@@ -4,7 +4,7 @@ use Rattle.std.specs.Prelude.{T, Option, Some, None, IfSome}
 use Rattle.std.specs.declared.cmp.Ordering.TheVariants.{Less}
 use Rattle.std.specs.Ordering.{is_lt}
 use Rattle.std.specs.Option.{IsSome}
-use Rattle.std.specs.List.{items_where_true}
+use Rattle.std.specs.List.{items_where_true, FoldsTo}
 use Rattle.std.specs.List.Retain.{ReturnsInTurn}
 use Rattle.std.specs.FinMap.{find, get, remove, entries, is_sorted, entries_sorted, get-entries, get-remove}
 use Rattle.std.specs.FinMap.Entries.{where_key, below_all, same_entries, is_sorted-where_key, find-where_key}
@@ -16,6 +16,7 @@ use Rattle.trie_core.specs.Nodes.{BitMap}
 use Rattle.trie_core.proofs.Maps.{tail_rises}
 use Rattle.trie_core.proofs.Frames.{bits_alike}
 use Rattle.trie_map.specs.Maps.{first_key}
+use Rattle.trie_map.specs.Retain.{CallableInTurn}
 
 -- ---- the order of strings
 
@@ -174,6 +175,20 @@ module _ {F X : Type 0} (R : F → List Bool × X → Bool → F → Type 0) whe
 
   none_some : {v : X} {o : Option X} → None ≡ o → o ≡ Some v → ⊥
   none_some e f = cc
+
+  calls_told : (f g : F) (bs : List Bool) (es : List (List Bool × X)) → length bs ≡ length es → ReturnsInTurn R f bs es g → FoldsTo (λ p x q. (b : Bool) × R p x b q) f es g
+  calls_told f g [] [] l r = r
+  calls_told f g [] (e ∷ es) l r = absurd (omega arith)
+  calls_told f g (b ∷ bs) [] l r = absurd (omega arith)
+  calls_told f g (b ∷ bs) (e ∷ es) l r = (r.0, (b, r.1), calls_told r.0 g bs es (omega arith) r.2)
+
+  -- the entry that comes next may be asked of
+  pub asked_next : {f g : F} {m n : BitMap X} {o : Option (List Bool)} (Q : F → List Bool × X → Type 0) (q k : List Bool) (v : X) → CallableInTurn R Q f (entries m) → IsAsked f m g n o → o ≡ Some q → k ≡ q → Some v ≡ get n k → Q g (q, v)
+  asked_next {f} {g} {m} {n} Q q k v c t o e s =
+      let a : IsAsked f m g n (Some q) = subst (λ x. IsAsked f m g n x) o t in
+      let w = here a in
+      let z : w.value ≡ v = let y = s ∙ ap (get n) e ∙ w.found in cc in
+      subst (λ x. Q g (q, x)) z (c.at a.asked w.after (q, w.value) g (a.whole ∙ ap (λ r. a.asked ++ r) w.rest_is) (calls_told f g a.answers a.asked a.counted a.returns))
 
   pub asked_stored : {f g : F} {m n : BitMap X} {o : Option (List Bool)} (q k : List Bool) → IsAsked f m g n o → o ≡ Some q → k ≡ q → None ≡ get n k → ⊥
   asked_stored {f} {g} {m} {n} q k t o s e = none_some (e ∙ ap (get n) s) (here (subst (λ x. IsAsked f m g n x) o t)).found

@@ -1,5 +1,5 @@
 -- What searches of a map hand out.
-use Rattle.std.specs.Prelude.{ℕ, ◌≡◌, length, take, Bool, IsTrue, List, [], ◌∷◌, Option, Some, None}
+use Rattle.std.specs.Prelude.{◌≡◌, length, take, Bool, IsTrue, List, [], ◌∷◌, Option, Some, None}
 use Rattle.trie_core.specs.Nodes.{BitMap}
 use Rattle.trie_core.specs.Search.{IsLongest, IsShortest}
 

@@ -1,11 +1,21 @@
--- What a closure that is asked of entries answers.
-use Rattle.std.specs.Prelude.{◌≡◌, List, Bool, IsTrue}
+-- What a closure that is asked of entries takes and answers.
+use Rattle.std.specs.Prelude.{◌≡◌, List, ◌∷◌, ◌++◌, Bool, IsTrue}
 use Rattle.std.specs.Borrow.{Bor}
-use Rattle.std.specs.Fn.{Mut, Called}
+use Rattle.std.specs.Fn.{Mut, Called, Takes}
+use Rattle.std.specs.List.{FoldsTo}
 
--- f, called at the key of the entry e and its value, may answer b and be f' then
-pub record AnswersAt {F K X : Type 0} (g : Mut F (Bor K × (Bor X × Unit {0})) Bool) (fits : K → Bool) (of_bits : List Bool → K) (f : F) (e : List Bool × X) (b : Bool) (f' : F) : Type 0 where
-  pub key : Bor K
-  pub value : Bor X
-  pub shows : (key.now ≡ of_bits e.0) × IsTrue (fits key.now) × (value.now ≡ e.1)
-  pub called : Called g f (key, (value, tt)) b f'
+module _ {F K X : Type 0} (g : Mut F (Bor K × (Bor X × Unit {0})) Bool) (fits : K → Bool) (bits : K → List Bool) (of_bits : List Bool → K) where
+  -- f may be called at the key of the entry e, which fits, and its value
+  abbrev pub TakesAt : F → List Bool × X → Type 0
+  TakesAt f e = (key : Bor K) (value : Bor X) → bits key.now ≡ e.0 → key.now ≡ of_bits e.0 → IsTrue (fits key.now) → value.now ≡ e.1 → Takes g f (key, (value, tt))
+
+  -- f, called there, may answer b and be f' then
+  pub record AnswersAt (f : F) (e : List Bool × X) (b : Bool) (f' : F) : Type 0 where
+    pub key : Bor K
+    pub value : Bor X
+    pub shows : (bits key.now ≡ e.0) × (key.now ≡ of_bits e.0) × IsTrue (fits key.now) × (value.now ≡ e.1)
+    pub called : Called g f (key, (value, tt)) b f'
+
+-- Q holds at each element of es in turn, of f as the calls R at those before have left it
+pub record CallableInTurn {F E : Type 0} (R : F → E → Bool → F → Type 0) (Q : F → E → Type 0) (f : F) (es : List E) : Type 0 where
+  pub at : (before after : List E) (e : E) (f' : F) → es ≡ before ++ e ∷ after → FoldsTo (λ p x q. (b : Bool) × R p x b q) f before f' → Q f' e

@@ -2,7 +2,7 @@
 ghost use Rattle.std.specs.Prelude.{◌≡◌};
 ghost use Rattle.std.specs.List.Retain.{IsFiltered};
 ghost use Rattle.std.specs.FinMap.{empty, entries};
-ghost use Rattle.trie_map.specs.Retain.{AnswersAt};
+ghost use Rattle.trie_map.specs.Retain.{AnswersAt, TakesAt, CallableInTurn};
 
 use crate::key::key_of;
 use crate::map::PrefixMap;
@@ -10,11 +10,11 @@ use trie_core::Path;
 use trie_keys::Prefix;
 
 impl<P: Prefix + Drop, T: Drop> PrefixMap<P, T> {
-    /// Asks `f` of each entry once, in the order of a walk, and keeps those of which it says `true`. The map is tidy
-    /// then, also where it was not before. It takes no memory.
+    /// Asks `f` of each entry once, in the order of a walk, and keeps those of which it says `true`. `f` need take no
+    /// other entries. The map is tidy then, also where it was not before. It takes no memory.
     pub fn retain<F: FnMut(&P, &T) -> bool>(&mut self, f: F)
-        requires { F.IsAlwaysCallable f }
-        ensures kept { IsFiltered (AnswersAt F.FnMut P.fits P.of_bits) f (entries self.old.entries) (entries self.new.entries) }
+        requires { CallableInTurn (AnswersAt F.FnMut P.fits P.bits P.of_bits) (TakesAt F.FnMut P.fits P.bits P.of_bits) f (entries self.old.entries) }
+        ensures kept { IsFiltered (AnswersAt F.FnMut P.fits P.bits P.of_bits) f (entries self.old.entries) (entries self.new.entries) }
         ensures tidy { self.new.spares ≡ empty }
     {
         self.take_refused(f);
@@ -23,8 +23,8 @@ impl<P: Prefix + Drop, T: Drop> PrefixMap<P, T> {
 
     /// Takes out the entries of which `f` says `false`, and leaves every node.
     fn take_refused<F: FnMut(&P, &T) -> bool>(&mut self, f: F)
-        requires { F.IsAlwaysCallable f }
-        ensures { IsFiltered (AnswersAt F.FnMut P.fits P.of_bits) f (entries self.old.entries) (entries self.new.entries) }
+        requires { CallableInTurn (AnswersAt F.FnMut P.fits P.bits P.of_bits) (TakesAt F.FnMut P.fits P.bits P.of_bits) f (entries self.old.entries) }
+        ensures { IsFiltered (AnswersAt F.FnMut P.fits P.bits P.of_bits) f (entries self.old.entries) (entries self.new.entries) }
     {
         let mut f = f;
         let mut next = self.key_from(Path::new(0, 0), true);

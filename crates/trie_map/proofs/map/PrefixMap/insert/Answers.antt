@@ -1,4 +1,4 @@
-use Rattle.std.proofs.Common.{◌∙◌, ap, false, true, not, length, arith}
+use Rattle.std.proofs.Common.{◌∙◌, ap, false, true, not, arith}
 use Rattle.std.specs.Prelude.{is_some}
 use Rattle.std.specs.Option.{IsSome}
 use Rattle.std.specs.FinMap.{get, len}

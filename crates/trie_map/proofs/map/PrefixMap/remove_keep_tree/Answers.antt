@@ -1,4 +1,4 @@
-use Rattle.std.proofs.Common.{◌+◌, ◌∙◌, ap, sym, true, false, length, arith}
+use Rattle.std.proofs.Common.{◌+◌, ◌∙◌, ap, sym, true, false, arith}
 use Rattle.std.specs.FinMap.{len}
 use Rattle.trie_map.proofs.Entries.{one_less, not_empty, keys_remove}
 use Rattle.trie_map.proofs.Spares.{idle_kept, fewer_removed, spares_len}

@@ -1,15 +1,13 @@
 use Rattle.std.proofs.Common.{◌≤◌, length}
 use Rattle.std.specs.Prelude.{IfSome}
-use denote.Param.Always.{always_mut}
 use Rattle.trie_map.specs.Retain.{AnswersAt}
 use Rattle.trie_map.proofs.Asked.{IsAsked, left_count}
 use Rattle.trie_map.proofs.map.PrefixMap.take_refused.Given as goal
 
 abbrev pub invariant-entry : goal.invariant-entry
 invariant-entry g l = record {
-  callable : always_mut g.F.FnMut l.f;
   within : IfSome l.next (λ q. (length q ≤ 128) × (length q ≤ g.P.R.Key.width));
-  asked : IsAsked (AnswersAt g.F.FnMut g.P.Prefix.fits g.P.Prefix.of_bits) l.fn.f l.fn.self.entries l.f l.self.entries l.next;
+  asked : IsAsked (AnswersAt g.F.FnMut g.P.Prefix.fits g.P.Prefix.bits g.P.Prefix.of_bits) l.fn.f l.fn.self.entries l.f l.self.entries l.next;
 }
 
 abbrev pub decreases-entry : goal.decreases-entry
