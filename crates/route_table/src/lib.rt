@@ -12,6 +12,8 @@ pub use table::RouteTable;
 
 mod address_family;
 mod choice;
+#[cfg(test)]
+mod choice_tests;
 mod choices;
 mod family;
 mod flat;
