@@ -16,7 +16,9 @@ use Rattle.route_table.specs.Changes.{same_number}
 use Rattle.route_table.specs.Tables.{Route, IsTable, IsHop, match_of, match_number, number_of, hop_at, is_stored, Changed, Governed, with_route, without_block}
 use Rattle.route_table.proofs.Changes.{same_from_test, same_itself}
 use Rattle.route_table.proofs.Matches.{In-from_filter, In-filter, block_in, no_match, match_meets, match_from, governed_match}
-use Rattle.route_table.proofs.Updates.{Sooner, Rising-filter, same_or_not, added_back, added_itself, added_other, added_is_table, left_back, left_other, left_is_table}
+use Rattle.route_table.proofs.Kept.{Rising-kept}
+use Rattle.route_table.proofs.Ordered.{same_or_not}
+use Rattle.route_table.proofs.Updates.{Sooner, added_back, added_itself, added_other, added_is_table, left_back, left_other, left_is_table}
 use Rattle.ipnet_addr.proofs.Basics.{list_any-from_In}
 
 -- a host block is inside each block that has its address
@@ -185,7 +187,7 @@ module _ (M : List Route) (f : Family) (m : IsTable M) where
   added_apart r ok hop apart =
       let new = added_is_table M m r ok hop in
       same_rising Sooner (λ s t. strict s.block t.block) (filter (of f) (with_route M r)) (filter (of f) M)
-      (Rising-filter (of f) (with_route M r) (Rising-from_pairs Sooner _ new.ascending)) (Rising-filter (of f) M (Rising-from_pairs Sooner M m.ascending))
+      (Rising-kept Sooner (of f) (with_route M r) (Rising-from_pairs Sooner _ new.ascending)) (Rising-kept Sooner (of f) M (Rising-from_pairs Sooner M m.ascending))
       (λ s i. let t = In-from_filter (of f) (with_route M r) s i in
       ⊎_elim (λ e. absurd (apart (ap (λ (u : Route). u.block.family) (sym e) ∙ family_from_test s.block.family f t.1))) (λ u. In-filter (of f) M s u.0 t.1) (added_back M m r ok s t.0))
       (λ s i. let t = In-from_filter (of f) M s i in
@@ -195,7 +197,7 @@ module _ (M : List Route) (f : Family) (m : IsTable M) where
   left_apart n apart =
       let old = left_is_table M m n in
       same_rising Sooner (λ s t. strict s.block t.block) (filter (of f) (without_block M n)) (filter (of f) M)
-      (Rising-filter (of f) (without_block M n) (Rising-from_pairs Sooner _ old.ascending)) (Rising-filter (of f) M (Rising-from_pairs Sooner M m.ascending))
+      (Rising-kept Sooner (of f) (without_block M n) (Rising-from_pairs Sooner _ old.ascending)) (Rising-kept Sooner (of f) M (Rising-from_pairs Sooner M m.ascending))
       (λ s i. let t = In-from_filter (of f) (without_block M n) s i in In-filter (of f) M s (left_back M m n s t.0).0 t.1)
       (λ s i. let t = In-from_filter (of f) M s i in
       In-filter (of f) (without_block M n) s (left_other M m n s t.0 (λ e. apart (ap Block.family (sym e) ∙ family_from_test s.block.family f t.1))) t.1)

@@ -18,7 +18,8 @@ use Rattle.ipnet_blocks.proofs.Unions.{maximal_same}
 use Rattle.route_table.specs.Tables.{Route, IsTable, Governed, routes_inside}
 use Rattle.route_table.specs.InnerGoverning.{gap_before, gaps, blocks_of_spans}
 use Rattle.route_table.proofs.Matches.{In-from_filter, In-filter, block_in, inside_from_test, test_from_inside}
-use Rattle.route_table.proofs.Updates.{Sooner, Rising-filter}
+use Rattle.route_table.proofs.Kept.{Rising-kept}
+use Rattle.route_table.proofs.Updates.{Sooner}
 
 abbrev FirstsRise : Route → Route → Type 0
 FirstsRise r s = first (Route.block r) ≤ first (Route.block s)
@@ -157,7 +158,7 @@ module _ (M : List Route) (table : IsTable M) (n : Block) (ok : IsBlock n) where
 
   free : AreFree n.len (first n) (last n) (routes_inside M n) (gaps n.len (first n) (last n) (routes_inside M n))
   free = gaps_are_free n.len (last n) (routes_inside M n) (first n) (first_to_last n) routes_end
-      (firsts_rise (routes_inside M n) family_of (Rising-filter (λ (s : Route). is_inside s.block n) M (Rising-from_pairs Sooner M table.ascending)))
+      (firsts_rise (routes_inside M n) family_of (Rising-kept Sooner (λ (s : Route). is_inside s.block n) M (Rising-from_pairs Sooner M table.ascending)))
 
   governed_in : (x : Address) → Governed M n x → InSpans n.family (gaps n.len (first n) (last n) (routes_inside M n)) x
   governed_in x g =

@@ -1,4 +1,11 @@
 pub mod Matches
+pub mod Kept
+pub mod Ordered
+pub mod Preferences
+pub mod ChoiceLists
+pub mod Places
+pub mod Networks
+pub mod ChoiceChanges
 pub mod Updates
 pub mod Flats
 pub mod FlatSearch
@@ -12,6 +19,7 @@ pub mod Seams
 pub mod Searches
 pub mod Stores
 pub mod Calls
+pub mod InPlace
 pub mod Walked
 pub mod Parts
 pub mod Gaps

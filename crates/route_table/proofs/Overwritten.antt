@@ -1,8 +1,8 @@
--- A table with a block overwritten: its members, its hops, and the changes that make it.
-use Rattle.std.proofs.Common.{◌≡◌, ◌-◌, ◌/◌, ◌^◌, ◌<◌, ◌⊎◌, inl, inr, ⊎_elim, Bool, true, false, not, cond, List, filter, Option, Some, None, refl, sym, ap, ◌∙◌, subst, arith, div-one}
+-- One thing in the place of all those inside its block: its members, how it is made, and the hops of a table then.
+use Rattle.std.proofs.Common.{◌≡◌, ◌-◌, ◌/◌, ◌^◌, ◌<◌, ◌⊎◌, inl, inr, ⊎_elim, Bool, true, false, not, cond, List, [], ◌∷◌, filter, Option, Some, None, refl, sym, ap, ◌∙◌, subst, arith, div-one}
 use Rattle.ipnet_addr.specs.Addresses.{Address, IsAddress, width}
 use Rattle.ipnet_addr.proofs.Members.{In}
-use Rattle.ipnet_addr.proofs.Ascending.{In-from_Contains, Contains-from_In, In-from_All, All-from_In, Rising-from_pairs, pairs_from_Rising, same_rising}
+use Rattle.ipnet_addr.proofs.Ascending.{In-from_Contains, Contains-from_In, In-from_All, All-from_In, Rising, Rising-from_pairs, pairs_from_Rising, same_rising}
 use Rattle.ipnet_blocks.specs.Blocks.{Block, IsBlock, HasAddress, IsInside, free_bits, is_inside, has_address, host, left, right}
 use Rattle.ipnet_blocks.proofs.BlockLaws.{block_path, nested, numbers_from_inside, same_sets, strict}
 use Rattle.ipnet_blocks.proofs.BlockTests.{has_from_test, test_from_has}
@@ -13,16 +13,13 @@ use Rattle.ipnet.specs.declared.ip_net.IpNet.{IpNet}
 use Rattle.route_table.specs.Overwritten.{without_inside, overwritten}
 use Rattle.route_table.specs.Tables.{Route, IsTable, IsHop, match_of, match_number, number_of, hop_at, with_route}
 use Rattle.route_table.proofs.Alterations.{host_inside, match_is, no_matches}
+use Rattle.route_table.specs.Choices.{Choice, AreChoices}
+use Rattle.route_table.specs.Networks.{Stored, IsStoredTable, best_route, networks_outside, overwritten_by, routes_of}
+use Rattle.route_table.proofs.Kept.{Rising-kept, filter_map_swap}
 use Rattle.route_table.proofs.Matches.{In-from_filter, In-filter, block_in, match_meets, inside_from_test, test_from_inside}
-use Rattle.route_table.proofs.Updates.{Sooner, Rising-filter, added_back, added_itself, added_other, added_is_table}
-
--- a part of a table is a table
-filter_is_table : (p : Route → Bool) (M : List Route) → IsTable M → IsTable (filter p M)
-filter_is_table p M m = record {
-  blocks = All-from_In (λ s. IsBlock s.block) (filter p M) (λ s i. block_in M m s (In-from_filter p M s i).0);
-  hops = All-from_In (λ s. IsHop s.hop) (filter p M) (λ s i. In-from_All (λ s. IsHop s.hop) M m.hops s (In-from_filter p M s i).0);
-  ascending = pairs_from_Rising Sooner (filter p M) (Rising-filter p M (Rising-from_pairs Sooner M m.ascending));
-}
+use Rattle.route_table.proofs.Networks.{routes_with, stored_block, stored_some, stored_choices}
+use Rattle.route_table.proofs.Ordered.{Earlier, put, put_back, put_itself, put_other, put_rises}
+use Rattle.route_table.proofs.Updates.{Sooner, added_is_table}
 
 not_cases : (b : Bool) → not b ≡ true → b ≡ true → ⊥
 not_cases true e f = cc
@@ -31,71 +28,6 @@ not_cases false e f = cc
 not_from : (b : Bool) → (b ≡ true → ⊥) → not b ≡ true
 not_from true f = absurd (f refl)
 not_from false f = refl
-
-module _ (M : List Route) (m : IsTable M) (n : Block) (ok : IsBlock n) where
-  pub outside_is_table : IsTable (without_inside M n)
-  outside_is_table = filter_is_table (λ s. not (is_inside s.block n)) M m
-
-  pub outside_back : (s : Route) → In s (without_inside M n) → In s M × (IsInside s.block n → ⊥)
-  outside_back s i = let t = In-from_filter (λ s. not (is_inside s.block n)) M s i in
-      (t.0, λ h. not_cases (is_inside s.block n) t.1 (test_from_inside s.block n (block_in M m s t.0) ok h))
-
-  pub outside_other : (s : Route) → In s M → (IsInside s.block n → ⊥) → In s (without_inside M n)
-  outside_other s i f = In-filter (λ s. not (is_inside s.block n)) M s i (not_from (is_inside s.block n) (λ e. f (inside_from_test s.block n (block_in M m s i) ok e)))
-
--- a block inside itself
-inside_itself : (a b : Block) → a ≡ b → IsInside a b
-inside_itself a b e x h = subst (λ (c : Block). HasAddress c x) e h
-
-module _ (M : List Route) (m : IsTable M) (r : Route) (ok : IsBlock r.block) where
-  rest : IsTable (without_inside M r.block)
-  rest = outside_is_table M m r.block ok
-
-  -- the members
-  pub over_back : (s : Route) → In s (overwritten M r) → (s ≡ r) ⊎ (In s M × (IsInside s.block r.block → ⊥))
-  over_back s i = ⊎_elim (λ e. inl e) (λ t. inr (outside_back M m r.block ok s t.0)) (added_back (without_inside M r.block) rest r ok s i)
-
-  pub over_other : (s : Route) → In s M → (IsInside s.block r.block → ⊥) → In s (overwritten M r)
-  over_other s i f = added_other (without_inside M r.block) rest r ok s (outside_other M m r.block ok s i f) (λ e. f (inside_itself s.block r.block e))
-
-  pub over_itself : In r (overwritten M r)
-  over_itself = added_itself (without_inside M r.block) rest r ok
-
-  module _ (hop : IsHop r.hop) where
-    pub over_is_table : IsTable (overwritten M r)
-    over_is_table = added_is_table (without_inside M r.block) rest r ok hop
-
-    -- it is the one table with these members
-    pub over_is : (N : List Route) → IsTable N → ((s : Route) → In s N → (s ≡ r) ⊎ (In s M × (IsInside s.block r.block → ⊥))) → In r N → ((s : Route) → In s M → (IsInside s.block r.block → ⊥) → In s N) → N ≡ overwritten M r
-    over_is N t back itself other = same_rising Sooner (λ s u. strict s.block u.block) N (overwritten M r) (Rising-from_pairs Sooner N t.ascending) (Rising-from_pairs Sooner (overwritten M r) over_is_table.ascending)
-        (λ s i. ⊎_elim (λ e. subst (λ (u : Route). In u (overwritten M r)) (sym e) over_itself) (λ u. over_other s u.0 u.1) (back s i))
-        (λ s i. ⊎_elim (λ e. subst (λ (u : Route). In u N) (sym e) itself) (λ u. other s u.0 u.1) (over_back s i))
-
-    pub over_hops : (x : Address) → IsAddress x → hop_at (overwritten M r) x ≡ cond (has_address r.block x) (number_of r.hop) (hop_at M x)
-    over_hops x a = go (has_address r.block x) refl
-      where
-        go : (b : Bool) → has_address r.block x ≡ b → hop_at (overwritten M r) x ≡ cond b (number_of r.hop) (hop_at M x)
-        go true e =
-            let h = has_from_test r.block x e in
-            ap match_number (match_is (overwritten M r) over_is_table x a r over_itself h (λ u i k.
-            ⊎_elim (λ f. let l : Block.len u.block ≡ Block.len r.block = ap (λ (s : Route). Block.len s.block) f in omega arith)
-            (λ t. ⊎_elim (λ l. (numbers_from_inside r.block u.block ok (block_in M m u t.0) l).long) (λ l. absurd (t.1 l)) (nested r.block u.block x ok (block_in M m u t.0) h k))
-            (over_back u i)))
-        go false e = by (match_of M (host x)) refl (λ h. let f = test_from_has r.block x h in cc)
-          where
-            by : (o : Option Route) → match_of M (host x) ≡ o → (HasAddress r.block x → ⊥) → hop_at (overwritten M r) x ≡ hop_at M x
-            by None q out =
-                ap match_number (no_matches (overwritten M r) M over_is_table m x a q (λ s i h. ⊎_elim (λ f. absurd (out (subst (λ (t : Route). HasAddress t.block x) f h))) (λ t. (s, t.0, h)) (over_back s i)))
-                ∙ sym (ap match_number q)
-            by (Some s) q out =
-                let k = match_meets M m (host x) (host_is_block x a) s q in
-                let i = In-from_Contains M s k.member in
-                let h = k.holds x (has_host x) in
-                ap match_number (match_is (overwritten M r) over_is_table x a s (over_other s i (λ l. out (l x h))) h (λ u j w.
-                ⊎_elim (λ f. absurd (out (subst (λ (t : Route). HasAddress t.block x) f w))) (λ t. k.longest u (Contains-from_In M u t.0) (host_inside x u.block w)) (over_back u j)))
-                ∙ sym (ap match_number q)
-
--- ---- how it is made: the route is stored, and then both halves are emptied
 
 -- a block is in neither of its halves
 not_in_left : (b : Block) → IsBlock b → 0 < free_bits b → IsInside b (left b) → ⊥
@@ -116,50 +48,172 @@ alone b d okb okd h i =
     let z : d.len - b.len ≡ 0 = omega arith in
     block_path d b n.family l (sym (ap (λ k. d.quotient / 2 ^ k) z ∙ div-one d.quotient) ∙ n.quotient)
 
-module _ (M : List Route) (m : IsTable M) (r : Route) (ok : IsBlock r.block) (hop : IsHop r.hop) where
-  stored : IsTable (with_route M r)
-  stored = added_is_table M m r ok hop
+-- a block inside itself
+inside_itself : (a b : Block) → a ≡ b → IsInside a b
+inside_itself a b e x h = subst (λ (c : Block). HasAddress c x) e h
 
-  pub over_host : free_bits r.block ≡ 0 → with_route M r ≡ overwritten M r
-  over_host h = over_is M m r ok hop (with_route M r) stored
-      (λ s i. ⊎_elim (λ e. inl e) (λ t. inr (t.0, λ l. t.1 (alone r.block s.block ok (block_in M m s t.0) h l))) (added_back M m r ok s i))
-      (added_itself M m r ok)
-      (λ s i out. added_other M m r ok s i (λ e. out (inside_itself s.block r.block e)))
+-- things at blocks, ascending
+module _ {X : Type 0} (at : X → Block) where
+  pub record AreAt (M : List X) : Type 0 where
+    pub blocks : (x : X) → In x M → IsBlock (at x)
+    pub rising : Rising (Earlier at) M
 
-  module _ (h : 0 < free_bits r.block) where
-    okl : IsBlock (left r.block)
-    okl = left_is_block r.block ok h
+  -- those that are not inside n
+  abbrev pub outside : List X → Block → List X
+  outside M n = filter (λ y. not (is_inside (at y) n)) M
 
-    okr : IsBlock (right r.block)
-    okr = right_is_block r.block ok h
+  -- x in the place of all those inside its block
+  abbrev pub over : List X → X → List X
+  over M x = put at (outside M (at x)) x
 
-    low : IsTable (without_inside (with_route M r) (left r.block))
-    low = outside_is_table (with_route M r) stored (left r.block) okl
+  module _ (M : List X) (m : AreAt M) (n : Block) (ok : IsBlock n) where
+    pub outside_back : (y : X) → In y (outside M n) → In y M × (IsInside (at y) n → ⊥)
+    outside_back y i = let t = In-from_filter (λ y. not (is_inside (at y) n)) M y i in
+        (t.0, λ h. not_cases (is_inside (at y) n) t.1 (test_from_inside (at y) n (m.blocks y t.0) ok h))
 
-    abbrev emptied : List Route
-    emptied = without_inside (without_inside (with_route M r) (left r.block)) (right r.block)
+    pub outside_other : (y : X) → In y M → (IsInside (at y) n → ⊥) → In y (outside M n)
+    outside_other y i f = In-filter (λ y. not (is_inside (at y) n)) M y i (not_from (is_inside (at y) n) (λ e. f (inside_from_test (at y) n (m.blocks y i) ok e)))
 
-    kept : (s : Route) → In s (with_route M r) → (IsInside s.block (left r.block) → ⊥) → (IsInside s.block (right r.block) → ⊥) → In s emptied
-    kept s i f g = outside_other (without_inside (with_route M r) (left r.block)) low (right r.block) okr s (outside_other (with_route M r) stored (left r.block) okl s i f) g
+    pub outside_are : AreAt (outside M n)
+    outside_are = record {
+      blocks = λ y i. m.blocks y (outside_back y i).0;
+      rising = Rising-kept (Earlier at) (λ y. not (is_inside (at y) n)) M m.rising;
+    }
 
-    back : (s : Route) → In s emptied → (s ≡ r) ⊎ (In s M × (IsInside s.block r.block → ⊥))
-    back s i =
-        let t = outside_back (without_inside (with_route M r) (left r.block)) low (right r.block) okr s i in
-        let u = outside_back (with_route M r) stored (left r.block) okl s t.0 in
-        ⊎_elim
-        (λ e. inl e)
-        (λ w. inr (w.0, λ l. ⊎_elim u.1 t.1 (in_a_half r.block ok h s.block (block_in M m s w.0) (l, λ k. w.1 (same_sets s.block r.block (block_in M m s w.0) ok l k)))))
-        (added_back M m r ok s u.0)
+  module _ (M : List X) (m : AreAt M) (x : X) (ok : IsBlock (at x)) where
+    pub put_are : AreAt (put at M x)
+    put_are = record {
+      blocks = λ y i. ⊎_elim (λ e. subst (λ (z : X). IsBlock (at z)) (sym e) ok) (λ t. m.blocks y t.0) (put_back at M x y i);
+      rising = put_rises at M x m.rising;
+    }
 
-    pub over_halves : emptied ≡ overwritten M r
-    over_halves = over_is M m r ok hop emptied (outside_is_table (without_inside (with_route M r) (left r.block)) low (right r.block) okr) back
-        (kept r (added_itself M m r ok) (not_in_left r.block ok h) (not_in_right r.block ok h))
-        (λ s i out. kept s (added_other M m r ok s i (λ e. out (inside_itself s.block r.block e)))
-        (λ l. out (λ x k. left_inside r.block ok h x (l x k)))
-        (λ l. out (λ x k. right_inside r.block ok h x (l x k))))
+  module _ (M : List X) (m : AreAt M) (x : X) (ok : IsBlock (at x)) where
+    rest : AreAt (outside M (at x))
+    rest = outside_are M m (at x) ok
 
-  -- the same, as the call makes it
-  pub halves_overwritten : 0 < free_bits r.block → (l u : IpNet) → block l ≡ left r.block → block u ≡ right r.block → (S L U : List Route) → S ≡ with_route M r → L ≡ without_inside S (block l) → U ≡ without_inside L (block u) → U ≡ overwritten M r
-  halves_overwritten h l u el eu S L U s q p =
-      p ∙ ap (without_inside L) eu ∙ ap (λ T. without_inside T (right r.block)) (q ∙ ap (without_inside S) el ∙ ap (λ T. without_inside T (left r.block)) s)
-      ∙ over_halves h
+    -- the members
+    pub over_back : (y : X) → In y (over M x) → (y ≡ x) ⊎ (In y M × (IsInside (at y) (at x) → ⊥))
+    over_back y i = ⊎_elim (λ e. inl e) (λ t. inr (outside_back M m (at x) ok y t.0)) (put_back at (outside M (at x)) x y i)
+
+    pub over_other : (y : X) → In y M → (IsInside (at y) (at x) → ⊥) → In y (over M x)
+    over_other y i f = put_other at (outside M (at x)) x y (outside_other M m (at x) ok y i f) (λ e. f (inside_itself (at y) (at x) e))
+
+    pub over_itself : In x (over M x)
+    over_itself = put_itself at (outside M (at x)) x
+
+    pub over_are : AreAt (over M x)
+    over_are = put_are (outside M (at x)) rest x ok
+
+    -- it is the one list with these members
+    pub over_is : (N : List X) → AreAt N → ((y : X) → In y N → (y ≡ x) ⊎ (In y M × (IsInside (at y) (at x) → ⊥))) → In x N → ((y : X) → In y M → (IsInside (at y) (at x) → ⊥) → In y N) → N ≡ over M x
+    over_is N t back itself other = same_rising (Earlier at) (λ y z. strict (at y) (at z)) N (over M x) t.rising over_are.rising
+        (λ y i. ⊎_elim (λ e. subst (λ (z : X). In z (over M x)) (sym e) over_itself) (λ u. over_other y u.0 u.1) (back y i))
+        (λ y i. ⊎_elim (λ e. subst (λ (z : X). In z N) (sym e) itself) (λ u. other y u.0 u.1) (over_back y i))
+
+    pub over_host : free_bits (at x) ≡ 0 → put at M x ≡ over M x
+    over_host h = over_is (put at M x) (put_are M m x ok)
+        (λ y i. ⊎_elim (λ e. inl e) (λ t. inr (t.0, λ l. t.1 (alone (at x) (at y) ok (m.blocks y t.0) h l))) (put_back at M x y i))
+        (put_itself at M x)
+        (λ y i out. put_other at M x y i (λ e. out (inside_itself (at y) (at x) e)))
+
+    module _ (h : 0 < free_bits (at x)) where
+      okl : IsBlock (left (at x))
+      okl = left_is_block (at x) ok h
+
+      okr : IsBlock (right (at x))
+      okr = right_is_block (at x) ok h
+
+      whole : AreAt (put at M x)
+      whole = put_are M m x ok
+
+      low : AreAt (outside (put at M x) (left (at x)))
+      low = outside_are (put at M x) whole (left (at x)) okl
+
+      abbrev emptied : List X
+      emptied = outside (outside (put at M x) (left (at x))) (right (at x))
+
+      kept : (y : X) → In y (put at M x) → (IsInside (at y) (left (at x)) → ⊥) → (IsInside (at y) (right (at x)) → ⊥) → In y emptied
+      kept y i f g = outside_other (outside (put at M x) (left (at x))) low (right (at x)) okr y (outside_other (put at M x) whole (left (at x)) okl y i f) g
+
+      back : (y : X) → In y emptied → (y ≡ x) ⊎ (In y M × (IsInside (at y) (at x) → ⊥))
+      back y i =
+          let t = outside_back (outside (put at M x) (left (at x))) low (right (at x)) okr y i in
+          let u = outside_back (put at M x) whole (left (at x)) okl y t.0 in
+          ⊎_elim
+          (λ e. inl e)
+          (λ w. inr (w.0, λ l. ⊎_elim u.1 t.1 (in_a_half (at x) ok h (at y) (m.blocks y w.0) (l, λ k. w.1 (same_sets (at y) (at x) (m.blocks y w.0) ok l k)))))
+          (put_back at M x y u.0)
+
+      pub over_halves : emptied ≡ over M x
+      over_halves = over_is emptied (outside_are (outside (put at M x) (left (at x))) low (right (at x)) okr) back
+          (kept x (put_itself at M x) (not_in_left (at x) ok h) (not_in_right (at x) ok h))
+          (λ y i out. kept y (put_other at M x y i (λ e. out (inside_itself (at y) (at x) e)))
+          (λ l. out (λ z k. left_inside (at x) ok h z (l z k)))
+          (λ l. out (λ z k. right_inside (at x) ok h z (l z k))))
+
+    -- the same, as the call makes it
+    pub halves_overwritten : 0 < free_bits (at x) → (l u : IpNet) → block l ≡ left (at x) → block u ≡ right (at x) → (S L U : List X) → S ≡ put at M x → L ≡ outside S (block l) → U ≡ outside L (block u) → U ≡ over M x
+    halves_overwritten h l u el eu S L U s q p =
+        p ∙ ap (outside L) eu ∙ ap (λ T. outside T (right (at x))) (q ∙ ap (outside S) el ∙ ap (λ T. outside T (left (at x))) s)
+        ∙ over_halves h
+
+-- ---- tables
+
+pub routes_placed : (M : List Route) → IsTable M → AreAt Route.block M
+routes_placed M m = record { blocks = block_in M m; rising = Rising-from_pairs Sooner M m.ascending }
+
+pub networks_placed : (T : List Stored) → IsStoredTable T → AreAt Stored.block T
+networks_placed T t = record { blocks = stored_block T t; rising = Rising-from_pairs (Earlier Stored.block) T t.ascending }
+
+-- a part of a table of networks is one
+pub outside_is_stored : (T : List Stored) → IsStoredTable T → (n : Block) → IsStoredTable (networks_outside T n)
+outside_is_stored T t n = record {
+  blocks = All-from_In (λ s. IsBlock s.block) (networks_outside T n) (λ s i. stored_block T t s (member s i));
+  some = All-from_In (λ s. s.choices ≡ [] → ⊥) (networks_outside T n) (λ s i. stored_some T t s (member s i));
+  choices = All-from_In (λ s. AreChoices s.choices) (networks_outside T n) (λ s i. stored_choices T t s (member s i));
+  ascending = pairs_from_Rising (Earlier Stored.block) (networks_outside T n) (Rising-kept (Earlier Stored.block) (λ s. not (is_inside s.block n)) T (Rising-from_pairs (Earlier Stored.block) T t.ascending));
+}
+  where
+    member : (s : Stored) → In s (networks_outside T n) → In s T
+    member s i = (In-from_filter (λ s. not (is_inside s.block n)) T s i).0
+
+pub routes_overwritten : (T : List Stored) (b : Block) (c : Choice) → routes_of (overwritten_by T b c) ≡ overwritten (routes_of T) (record { block = b; hop = c.hop; pref = c.pref })
+routes_overwritten T b c =
+    routes_with (networks_outside T b) (record { block = b; choices = c ∷ [] })
+    ∙ ap (λ M. with_route M (record { block = b; hop = c.hop; pref = c.pref })) (sym (filter_map_swap best_route (λ r. not (is_inside r.block b)) T))
+
+module _ (M : List Route) (m : IsTable M) (r : Route) (ok : IsBlock r.block) where
+  module _ (hop : IsHop r.hop) where
+    pub over_is_table : IsTable (overwritten M r)
+    over_is_table = added_is_table (without_inside M r.block) (record {
+      blocks = All-from_In (λ s. IsBlock s.block) (without_inside M r.block) (λ s i. block_in M m s (member s i));
+      hops = All-from_In (λ s. IsHop s.hop) (without_inside M r.block) (λ s i. In-from_All (λ s. IsHop s.hop) M m.hops s (member s i));
+      ascending = pairs_from_Rising Sooner (without_inside M r.block) (Rising-kept Sooner (λ s. not (is_inside s.block r.block)) M (Rising-from_pairs Sooner M m.ascending));
+    }) r ok hop
+      where
+        member : (s : Route) → In s (without_inside M r.block) → In s M
+        member s i = (In-from_filter (λ s. not (is_inside s.block r.block)) M s i).0
+
+    pub over_hops : (x : Address) → IsAddress x → hop_at (overwritten M r) x ≡ cond (has_address r.block x) (number_of r.hop) (hop_at M x)
+    over_hops x a = go (has_address r.block x) refl
+      where
+        go : (b : Bool) → has_address r.block x ≡ b → hop_at (overwritten M r) x ≡ cond b (number_of r.hop) (hop_at M x)
+        go true e =
+            let h = has_from_test r.block x e in
+            ap match_number (match_is (overwritten M r) over_is_table x a r (over_itself Route.block M (routes_placed M m) r ok) h (λ u i k.
+            ⊎_elim (λ f. let l : Block.len u.block ≡ Block.len r.block = ap (λ (s : Route). Block.len s.block) f in omega arith)
+            (λ t. ⊎_elim (λ l. (numbers_from_inside r.block u.block ok (block_in M m u t.0) l).long) (λ l. absurd (t.1 l)) (nested r.block u.block x ok (block_in M m u t.0) h k))
+            (over_back Route.block M (routes_placed M m) r ok u i)))
+        go false e = by (match_of M (host x)) refl (λ h. let f = test_from_has r.block x h in cc)
+          where
+            by : (o : Option Route) → match_of M (host x) ≡ o → (HasAddress r.block x → ⊥) → hop_at (overwritten M r) x ≡ hop_at M x
+            by None q out =
+                ap match_number (no_matches (overwritten M r) M over_is_table m x a q (λ s i h. ⊎_elim (λ f. absurd (out (subst (λ (t : Route). HasAddress t.block x) f h))) (λ t. (s, t.0, h)) (over_back Route.block M (routes_placed M m) r ok s i)))
+                ∙ sym (ap match_number q)
+            by (Some s) q out =
+                let k = match_meets M m (host x) (host_is_block x a) s q in
+                let i = In-from_Contains M s k.member in
+                let h = k.holds x (has_host x) in
+                ap match_number (match_is (overwritten M r) over_is_table x a s (over_other Route.block M (routes_placed M m) r ok s i (λ l. out (l x h))) h (λ u j w.
+                ⊎_elim (λ f. absurd (out (subst (λ (t : Route). HasAddress t.block x) f w))) (λ t. k.longest u (Contains-from_In M u t.0) (host_inside x u.block w)) (over_back Route.block M (routes_placed M m) r ok u j)))
+                ∙ sym (ap match_number q)

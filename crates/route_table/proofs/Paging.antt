@@ -15,7 +15,8 @@ use Rattle.route_table.specs.Onwards.{routes_from, routes_after}
 use Rattle.route_table.specs.Pages.{last_of, pages_up_to, first_page, pages}
 use Rattle.route_table.specs.Tables.{Route, IsTable}
 use Rattle.route_table.proofs.Matches.{In-from_filter, In-filter}
-use Rattle.route_table.proofs.Updates.{Sooner, Rising-filter}
+use Rattle.route_table.proofs.Kept.{Rising-kept}
+use Rattle.route_table.proofs.Updates.{Sooner}
 
 -- ---- the parts of an ascending list
 
@@ -51,7 +52,7 @@ module _ (M : List Route) (m : IsTable M) (f : Family) where
 
   from_is_onwards : (n : Block) → n.family ≡ f → IsOnwards M f (routes_from M n)
   from_is_onwards n e = record {
-    rising = Rising-filter (λ r. same_family r.block.family n.family && not (is_before r.block n)) M rises;
+    rising = Rising-kept Sooner (λ r. same_family r.block.family n.family && not (is_before r.block n)) M rises;
     member = λ s i.
         let t = In-from_filter (λ r. same_family r.block.family n.family && not (is_before r.block n)) M s i in
         (t.0, family_of_test s.block.family n.family (both _ _ t.1).0 ∙ e);
@@ -84,7 +85,7 @@ module _ (M : List Route) (m : IsTable M) (f : Family) where
   -- what comes after one of the list is the rest of the list
   after_is_rest : (xs : List Route) (r : Route) (ys : List Route) → IsOnwards M f (xs ++ r ∷ ys) → routes_after M r.block ≡ ys
   after_is_rest xs r ys o = same_rising Sooner (λ s t. strict s.block t.block) (routes_after M r.block) ys
-      (Rising-filter (λ s. same_family s.block.family r.block.family && is_before r.block s.block) M rises) right.1
+      (Rising-kept Sooner (λ s. same_family s.block.family r.block.family && is_before r.block s.block) M rises) right.1
       (λ s i.
       let t = In-from_filter (λ s. same_family s.block.family r.block.family && is_before r.block s.block) M s i in
       let q = both _ _ t.1 in

@@ -1,37 +1,17 @@
 -- A table with one route more or less: its members, and the hops that change.
-use Rattle.std.proofs.Common.{◌≡◌, ◌⊎◌, inl, inr, ⊎_elim, Bool, true, false, not, cond, List, [], ◌∷◌, ◌++◌, filter, Option, Some, None, refl, sym, ap, ◌∙◌, subst, arith}
+use Rattle.std.proofs.Common.{◌≡◌, ◌⊎◌, inl, inr, ⊎_elim, List, Option, Some, None, refl, sym, ap, ◌∙◌, subst, arith}
 use Rattle.ipnet_addr.specs.Addresses.{Address, IsAddress}
-use Rattle.ipnet_blocks.specs.Blocks.{Block, IsBlock, HasAddress, IsInside, IsBefore, is_before, same_block, host}
-use Rattle.ipnet_addr.proofs.Members.{In, In-left, In-right, In-cases}
+use Rattle.ipnet_blocks.specs.Blocks.{Block, IsBlock, HasAddress, IsInside, IsBefore, host}
+use Rattle.ipnet_addr.proofs.Members.{In}
 use Rattle.ipnet_addr.proofs.Ascending.{In-from_Contains, Contains-from_In, In-from_All, All-from_In, Rising, Rising-from_pairs, pairs_from_Rising}
-use Rattle.ipnet_blocks.proofs.BlockLaws.{strict, total, transitive}
 use Rattle.ipnet_blocks.proofs.Parents.{larger_is_shorter}
 use Rattle.ipnet_blocks.proofs.Maximals.{host_is_block, in_host, has_host}
-use Rattle.ipnet_blocks.proofs.BlockTests.{before_from_test, test_from_before, same_from_test, test_from_same}
 use Rattle.route_table.specs.Tables.{Route, IsHop, IsTable, IsMatch, match_of, match_number, number_of, hop_at, with_route, without_block}
-use Rattle.route_table.proofs.Matches.{In-from_filter, In-filter, block_in, no_match, match_meets, match_from, governed_match}
+use Rattle.route_table.proofs.Matches.{block_in, no_match, match_meets, match_from, governed_match}
+use Rattle.route_table.proofs.Ordered.{same_or_not, put_back, put_itself, put_other, put_rises, gone_back, gone_other, gone_rises}
 
 abbrev pub Sooner : Route → Route → Type 0
 Sooner r s = IsBefore r.block s.block
-
-before_apart : (a b : Block) → IsBefore a b → a ≡ b → ⊥
-before_apart a b l q = strict b b (subst (λ (c : Block). IsBefore c b) q l) (subst (λ (c : Block). IsBefore c b) q l)
-
-pub same_or_not : (a b : Block) → (a ≡ b) ⊎ (a ≡ b → ⊥)
-same_or_not a b = ⊎_elim (λ l. inr (λ e. before_apart a b l e)) (λ r. ⊎_elim (λ e. inl e) (λ l. inr (λ e. before_apart b a l (sym e))) r) (total a b)
-
-kept_or_not : (b : Bool) (r : Route) (M : List Route) → ((s : Route) → In s M → Sooner r s) → Rising Sooner M → Rising Sooner (cond b (r ∷ M) M)
-kept_or_not true r M f h = (f, h)
-kept_or_not false r M f h = h
-
-pub Rising-filter : (p : Route → Bool) (M : List Route) → Rising Sooner M → Rising Sooner (filter p M)
-Rising-filter p [] h = tt
-Rising-filter p (r ∷ M) h = kept_or_not (p r) r (filter p M) (λ s i. h.0 s (In-from_filter p M s i).0) (Rising-filter p M h.1)
-
-pub Rising-append : (xs ys : List Route) → Rising Sooner xs → Rising Sooner ys → ((x y : Route) → In x xs → In y ys → Sooner x y) → Rising Sooner (xs ++ ys)
-Rising-append [] ys h k f = k
-Rising-append (x ∷ xs) ys h k f =
-    ((λ y i. ⊎_elim (λ j. h.0 y j) (λ j. f x y (inl refl) j) (In-cases y xs ys i)), Rising-append xs ys h.1 k (λ a b i j. f a b (inr i) j))
 
 module _ (M : List Route) (table : IsTable M) where
   rising : Rising Sooner M
@@ -39,38 +19,19 @@ module _ (M : List Route) (table : IsTable M) where
 
   module _ (r : Route) (ok : IsBlock r.block) where
     pub added_back : (s : Route) → In s (with_route M r) → (s ≡ r) ⊎ (In s M × (s.block ≡ r.block → ⊥))
-    added_back s i =
-        ⊎_elim
-        (λ j. let t = In-from_filter (λ s. is_before s.block r.block) M s j in inr (t.0, λ e. before_apart s.block r.block (before_from_test s.block r.block t.1) e))
-        (λ j. ⊎_elim (λ e. inl e)
-        (λ k. let t = In-from_filter (λ s. is_before r.block s.block) M s k in inr (t.0, λ e. before_apart r.block s.block (before_from_test r.block s.block t.1) (sym e))) j)
-        (In-cases s (filter (λ s. is_before s.block r.block) M) (r ∷ filter (λ s. is_before r.block s.block) M) i)
+    added_back s i = put_back Route.block M r s i
 
     pub added_itself : In r (with_route M r)
-    added_itself = In-right r (filter (λ s. is_before s.block r.block) M) (r ∷ filter (λ s. is_before r.block s.block) M) (inl refl)
+    added_itself = put_itself Route.block M r
 
     pub added_other : (s : Route) → In s M → (s.block ≡ r.block → ⊥) → In s (with_route M r)
-    added_other s i not_it =
-        ⊎_elim
-        (λ l. In-left s (filter (λ s. is_before s.block r.block) M) (r ∷ filter (λ s. is_before r.block s.block) M)
-        (In-filter (λ s. is_before s.block r.block) M s i (test_from_before s.block r.block l)))
-        (λ e. ⊎_elim (λ q. absurd (not_it q))
-        (λ l. In-right s (filter (λ s. is_before s.block r.block) M) (r ∷ filter (λ s. is_before r.block s.block) M)
-        (inr (In-filter (λ s. is_before r.block s.block) M s i (test_from_before r.block s.block l)))) e)
-        (total s.block r.block)
+    added_other s i not_it = put_other Route.block M r s i not_it
 
     pub added_is_table : IsHop r.hop → IsTable (with_route M r)
     added_is_table hop = record {
       blocks = All-from_In (λ s. IsBlock s.block) (with_route M r) (λ s i. ⊎_elim (λ e. subst (λ (t : Route). IsBlock t.block) (sym e) ok) (λ t. block_in M table s t.0) (added_back s i));
       hops = All-from_In (λ s. IsHop s.hop) (with_route M r) (λ s i. ⊎_elim (λ e. subst (λ (t : Route). IsHop t.hop) (sym e) hop) (λ t. In-from_All (λ s. IsHop s.hop) M table.hops s t.0) (added_back s i));
-      ascending = pairs_from_Rising Sooner (with_route M r)
-          (Rising-append (filter (λ s. is_before s.block r.block) M) (r ∷ filter (λ s. is_before r.block s.block) M)
-          (Rising-filter (λ s. is_before s.block r.block) M rising)
-          ((λ s i. before_from_test r.block s.block (In-from_filter (λ s. is_before r.block s.block) M s i).1), Rising-filter (λ s. is_before r.block s.block) M rising)
-          (λ x y i j.
-          let l = before_from_test x.block r.block (In-from_filter (λ s. is_before s.block r.block) M x i).1 in
-          ⊎_elim (λ e. subst (λ (t : Route). Sooner x t) (sym e) l)
-          (λ k. transitive x.block r.block y.block l (before_from_test r.block y.block (In-from_filter (λ s. is_before r.block s.block) M y k).1)) j));
+      ascending = pairs_from_Rising Sooner (with_route M r) (put_rises Route.block M r rising);
     }
 
     -- an address keeps its hop or gets the new route's
@@ -108,22 +69,16 @@ module _ (M : List Route) (table : IsTable M) where
 
   module _ (n : Block) where
     pub left_back : (s : Route) → In s (without_block M n) → In s M × (s.block ≡ n → ⊥)
-    left_back s i =
-        let t = In-from_filter (λ s. not (same_block s.block n)) M s i in
-        (t.0, λ e. let f = test_from_same s.block n e in let g = ap not f in let u = t.1 in cc)
+    left_back s i = gone_back Route.block M n s i
 
     pub left_other : (s : Route) → In s M → (s.block ≡ n → ⊥) → In s (without_block M n)
-    left_other s i not_it = In-filter (λ s. not (same_block s.block n)) M s i (go (same_block s.block n) refl)
-      where
-        go : (b : Bool) → same_block s.block n ≡ b → not (same_block s.block n) ≡ true
-        go true e = absurd (not_it (same_from_test s.block n e))
-        go false e = ap not e
+    left_other s i not_it = gone_other Route.block M n s i not_it
 
     pub left_is_table : IsTable (without_block M n)
     left_is_table = record {
       blocks = All-from_In (λ s. IsBlock s.block) (without_block M n) (λ s i. block_in M table s (left_back s i).0);
       hops = All-from_In (λ s. IsHop s.hop) (without_block M n) (λ s i. In-from_All (λ s. IsHop s.hop) M table.hops s (left_back s i).0);
-      ascending = pairs_from_Rising Sooner (without_block M n) (Rising-filter (λ s. not (same_block s.block n)) M rising);
+      ascending = pairs_from_Rising Sooner (without_block M n) (gone_rises Route.block M n rising);
     }
 
     -- an address keeps its hop or gets that of the match of n

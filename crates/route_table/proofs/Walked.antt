@@ -10,9 +10,9 @@ use Rattle.ipnet.specs.IpNets.{block, net_in, network_at}
 use Rattle.trie_core.specs.Bits.{number_from}
 use Rattle.trie_map.specs.Iterators.{GivesEntry}
 use Rattle.route_table.specs.InnerSides.{block_at, route_at}
+use Rattle.route_table.specs.Choices.{Choice, best_hop, best_preference}
 use Rattle.route_table.specs.InnerEntries.{KeysUpTo}
 use Rattle.route_table.specs.Items.{GivesRoute}
-use Rattle.route_table.specs.declared.hop.Hop.{Hop}
 use Rattle.route_table.proofs.Gaps.{of_network_at}
 use Rattle.route_table.proofs.Strings.{network_of_string}
 
@@ -22,20 +22,20 @@ module _ (f : Family) {K : Type 0} (bits : K → List Bool) (of_bits : List Bool
   pub network_of_key : (k : K) → k ≡ of_bits (bits k) → length (bits k) ≤ width f → net_in f (parts k) ≡ network_at (block_at f (bits k))
   network_of_key k e h = ap (λ j. net_in f (parts j)) e ∙ ap (net_in f) (parts_are (bits k) ∙ network_of_string f (bits k) h)
 
-  module _ (fits : K → Bool) (es fs : List (List Bool × Hop)) (keys : KeysUpTo (width f) es) where
-    abbrev Fits : List Bool × Hop → Type 0
+  module _ (fits : K → Bool) (es fs : List (List Bool × List Choice)) (keys : KeysUpTo (width f) es) where
+    abbrev Fits : List Bool × List Choice → Type 0
     Fits d = length d.0 ≤ width f
 
     -- the item of a trie's iterator as the item of a side's
-    pub gives : (o : Option (K × Bor Hop)) → GivesEntry fits bits of_bits es o fs → GivesRoute (map (route_at f) es) (option_map (λ p. (net_in f (parts p.0), p.1.now)) o) (map (route_at f) fs)
+    pub gives : (o : Option (K × Bor (List Choice))) → GivesEntry fits bits of_bits es o fs → GivesRoute (map (route_at f) es) (option_map (λ p. (net_in f (parts p.0), best_hop p.1.now, best_preference p.1.now)) o) (map (route_at f) fs)
     gives None g = (ap (map (route_at f)) g.0, ap (map (route_at f)) g.1)
     gives (Some p) g =
         let s = bits p.0 in
         let within : length s ≤ width f = In-from_All Fits es keys (s, p.1.now) (subst (λ ds. In (s, p.1.now) ds) (sym g.0) (inl refl)) in
         let net = network_of_key p.0 g.1 within in
         let at : block (net_in f (parts p.0)) ≡ block_at f s = ap block net ∙ of_network_at (block_at f s) in
-        (ap (map (route_at f)) g.0 ∙ (λ i. record { block = (sym at) i; hop = p.1.now } ∷ map (route_at f) fs), net ∙ ap network_at (sym at))
+        (ap (map (route_at f)) g.0 ∙ (λ i. record { block = (sym at) i; hop = best_hop p.1.now; pref = best_preference p.1.now } ∷ map (route_at f) fs), net ∙ ap network_at (sym at))
 
-    pub left_keys : (o : Option (K × Bor Hop)) → GivesEntry fits bits of_bits es o fs → KeysUpTo (width f) fs
+    pub left_keys : (o : Option (K × Bor (List Choice))) → GivesEntry fits bits of_bits es o fs → KeysUpTo (width f) fs
     left_keys None g = subst (KeysUpTo (width f)) (sym g.1) (All-from_In Fits [] (λ d i. absurd i))
     left_keys (Some p) g = All-from_In Fits fs (λ d i. In-from_All Fits es keys d (subst (λ ds. In d ds) (sym g.0) (inr i)))

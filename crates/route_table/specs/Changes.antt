@@ -1,6 +1,7 @@
 -- What a change of a table changes, and a table made by changes.
 use Rattle.std.specs.Prelude.{◌==◌, ℕ, Bool, true, false, not, List, [], ◌∷◌, Option, Some, None}
 use Rattle.ipnet_addr.specs.Addresses.{Address}
+use Rattle.route_table.specs.Choices.{default_preference}
 use Rattle.route_table.specs.Tables.{Route, hop_at, with_route}
 use Rattle.route_table.specs.Flats.{Piece}
 use Rattle.route_table.specs.declared.hop.Hop.TheVariants.{Number}
@@ -18,7 +19,7 @@ changed M N x = not (same_number (hop_at M x) (hop_at N x))
 
 -- a piece of a flat list as a route
 abbrev pub route_for : Piece → Route
-route_for p = record { block = p.block; hop = Number p.number }
+route_for p = record { block = p.block; hop = Number p.number; pref = default_preference }
 
 -- the table after an accepted `add` of each piece, in order
 abbrev pub with_pieces : List Route → List Piece → List Route

@@ -1,5 +1,5 @@
 -- The laws of tables, as statements.
-use Rattle.std.specs.Prelude.{◌≡◌, ◌≢◌, ◌⊎◌, false, [], ◌∷◌, ℕ, ◌^◌, ◌≤◌, ◌<◌, if◌then◌else◌, ◌↔◌, ◌==◌, ◌+◌, List, Option, Some, None, Contains, length, sum_by, filter}
+use Rattle.std.specs.Prelude.{◌≡◌, ◌≢◌, ◌⊎◌, false, [], ◌∷◌, ℕ, ◌^◌, ◌≤◌, ◌<◌, if◌then◌else◌, ◌↔◌, ◌==◌, ◌+◌, List, Option, Some, None, MatchOption, Contains, length, sum_by, filter, true}
 use Rattle.std.specs.List.{flat_map}
 use Rattle.ipnet_addr.specs.Addresses.{Family, Address, IsAddress, same_family}
 use Rattle.ipnet_blocks.specs.Blocks.{Block, IsBlock, HasAddress, IsAscending, has_address, is_inside, host}
@@ -7,11 +7,14 @@ use Rattle.ipnet_blocks.specs.Maximal.{IsMaximal, IsUnion, IsShortest, maximal_o
 use Rattle.route_table.specs.Tables.{Route, IsTable, IsMatch, IsHop, is_stored, longer, match_of, match_number, hop_at, number_of, Governed, Changed, with_route, without_block}
 use Rattle.route_table.specs.Flats.{Piece, IsFlat, IsAdmissible, blocks_of, flat_of}
 use Rattle.route_table.specs.Changes.{changed, with_pieces}
+use Rattle.route_table.specs.declared.hop.Hop.{Hop}
 use Rattle.route_table.specs.declared.hop.Hop.TheVariants.{Number}
 use Rattle.route_table.specs.Bounds.{excess, lengths_in, pieces_in}
 use Rattle.route_table.specs.Onwards.{routes_from}
 use Rattle.route_table.specs.Overwritten.{overwritten}
 use Rattle.route_table.specs.Pages.{first_page, pages, pages_up_to}
+use Rattle.route_table.specs.Choices.{Choice, AreChoices, IsBest, beats, best, default_preference, holds_hop, is_one_too_many, choices_with, choices_without}
+use Rattle.route_table.specs.Networks.{Stored, IsStoredTable, best_route, choices_at, overwritten_by, routes_of, with_choice, with_choices, without_choice, without_each, without_stored}
 
 -- what `match_of` finds
 abbrev pub MatchIsLongest : Type 0
@@ -149,7 +152,7 @@ EmptyIsFlat = flat_of (hop_at []) ≡ []
 
 -- the table of one route
 abbrev pub one_route : Block → ℕ → List Route
-one_route b k = record { block = b; hop = Number k } ∷ []
+one_route b k = record { block = b; hop = Number k; pref = default_preference } ∷ []
 
 -- an accepted `add` of it to the empty table changes the addresses of its block
 abbrev pub OneRouteIsChanged : Type 0
@@ -177,3 +180,102 @@ PagesAreRoutes = (M : List Route) (n : Block) (limit : ℕ) → IsTable M → 0 
 -- and no page is left out for want of more of them
 abbrev pub PagesEnd : Type 0
 PagesEnd = (M : List Route) (n : Block) (limit more : ℕ) → IsTable M → 0 < limit → pages_up_to (length M + more) M limit (first_page M n limit) ≡ pages M n limit
+
+-- ---- several routes a network: the choices of one block
+
+-- the first choice is the one that no other beats
+abbrev pub BestIsUnbeaten : Type 0
+BestIsUnbeaten = (cs : List Choice) (c : Choice) → AreChoices cs → (best cs ≡ Some c) ↔ IsBest cs c
+
+-- of two choices of different hops exactly one beats the other
+abbrev pub OneBeats : Type 0
+OneBeats = (c d : Choice) → (c.hop ≢ d.hop → (beats c d ≡ true) ⊎ (beats d c ≡ true)) × (beats c d ≡ true → beats d c ≡ true → ⊥)
+
+-- with a choice: it and those of other hops
+abbrev pub ChoicesWith : Type 0
+ChoicesWith = (cs : List Choice) (c d : Choice) → Contains (choices_with cs c) d ↔ ((d ≡ c) ⊎ (Contains cs d × (d.hop ≢ c.hop)))
+
+-- without a hop: those of other hops
+abbrev pub ChoicesWithout : Type 0
+ChoicesWithout = (cs : List Choice) (h : Hop) (d : Choice) → Contains (choices_without cs h) d ↔ (Contains cs d × (d.hop ≢ h))
+
+-- they stay one to eight, best first, no hop twice
+abbrev pub StayChoices : Type 0
+StayChoices = (cs : List Choice) → AreChoices cs →
+    ((c : Choice) → IsHop c.hop → c.pref < 2 ^ 16 → is_one_too_many cs c.hop ≡ false → AreChoices (choices_with cs c))
+    × ((h : Hop) → AreChoices (choices_without cs h))
+
+-- choices with the same members are equal
+abbrev pub SameChoices : Type 0
+SameChoices = (cs ds : List Choice) → AreChoices cs → AreChoices ds → ((d : Choice) → Contains cs d ↔ Contains ds d) → cs ≡ ds
+
+-- ---- tables of networks with choices
+
+-- the best routes are a table
+abbrev pub RoutesAreTable : Type 0
+RoutesAreTable = (T : List Stored) → IsStoredTable T → IsTable (routes_of T)
+
+-- a table stays one
+abbrev pub StaysStored : Type 0
+StaysStored = (T : List Stored) (b : Block) → IsStoredTable T → IsBlock b →
+    ((c : Choice) → IsHop c.hop → c.pref < 2 ^ 16 → is_one_too_many (choices_at T b) c.hop ≡ false → IsStoredTable (with_choice T b c))
+    × ((h : Hop) → IsStoredTable (without_choice T b h))
+
+-- the best routes after an `add`: with the best of the new choices
+abbrev pub RoutesOfAdd : Type 0
+RoutesOfAdd = (T : List Stored) (b : Block) (c : Choice) →
+    routes_of (with_choice T b c) ≡ with_route (routes_of T) (best_route (record { block = b; choices = choices_with (choices_at T b) c }))
+
+-- and after a `del`: with the best of the choices that are left, and without the block where none is
+abbrev pub RoutesOfDel : Type 0
+RoutesOfDel = (T : List Stored) (b : Block) (h : Hop) → MatchOption (best (choices_without (choices_at T b) h))
+    (routes_of (without_choice T b h) ≡ without_block (routes_of T) b)
+    (λ d. routes_of (without_choice T b h) ≡ with_route (routes_of T) (record { block = b; hop = d.hop; pref = d.pref }))
+
+-- taking out another than the best leaves the best routes
+abbrev pub OthersAreFree : Type 0
+OthersAreFree = (T : List Stored) (b : Block) (h : Hop) (c : Choice) → IsStoredTable T → best (choices_at T b) ≡ Some c → c.hop ≢ h → routes_of (without_choice T b h) ≡ routes_of T
+
+-- a hop that is not stored takes nothing out
+abbrev pub NoneIsFree : Type 0
+NoneIsFree = (T : List Stored) (b : Block) (h : Hop) → IsStoredTable T → IsBlock b → holds_hop (choices_at T b) h ≡ false → without_choice T b h ≡ T
+
+-- a change is of one block
+abbrev pub ChoicesAfter : Type 0
+ChoicesAfter = (T : List Stored) (b : Block) (cs : List Choice) → IsStoredTable T → IsBlock b → AreChoices cs →
+    (choices_at (with_choices T b cs) b ≡ cs) × ((d : Block) → (d ≡ b → ⊥) → choices_at (with_choices T b cs) d ≡ choices_at T d)
+
+-- two tables with equal choices at each block are equal
+abbrev pub SameTables : Type 0
+SameTables = (T U : List Stored) → IsStoredTable T → IsStoredTable U → ((b : Block) → choices_at T b ≡ choices_at U b) → T ≡ U
+
+-- a `del` next after an `add` of a new network, of the same hop, restores the table
+abbrev pub NetworkRestored : Type 0
+NetworkRestored = (T : List Stored) (b : Block) (c : Choice) → IsStoredTable T → IsBlock b → IsHop c.hop → c.pref < 2 ^ 16 → choices_at T b ≡ [] → without_choice (with_choice T b c) b c.hop ≡ T
+
+-- a `del` of each of the choices of a block takes the block out
+abbrev pub AllThenDel : Type 0
+AllThenDel = (T : List Stored) (b : Block) → IsStoredTable T → IsBlock b → without_each T b (choices_at T b) ≡ without_stored T b
+
+-- one network in the place of those inside it is one best route in the place of those inside it
+abbrev pub RoutesOfOverwrite : Type 0
+RoutesOfOverwrite = (T : List Stored) (b : Block) (c : Choice) → routes_of (overwritten_by T b c) ≡ overwritten (routes_of T) (record { block = b; hop = c.hop; pref = c.pref })
+
+-- ---- what a change of the choices of a block changes: the same for `add` and `del`
+
+abbrev pub ChangedByChoices : Type 0
+ChangedByChoices = (T : List Stored) (b : Block) (cs : List Choice) → IsStoredTable T → IsBlock b → AreChoices cs → (x : Address) → IsAddress x →
+    Changed (routes_of T) (routes_of (with_choices T b cs)) x ↔ (Governed (routes_of T) b x × (match_number (match_of (routes_of T) b) ≢ match_number (match_of (routes_of (with_choices T b cs)) b)))
+
+abbrev pub BlocksOfChoices : Type 0
+BlocksOfChoices = (T : List Stored) (b : Block) (cs : List Choice) (bs : List Block) → IsStoredTable T → IsBlock b → AreChoices cs → IsMaximal (Governed (routes_of T) b) bs →
+    ((match_number (match_of (routes_of T) b) ≢ match_number (match_of (routes_of (with_choices T b cs)) b)) → IsMaximal (Changed (routes_of T) (routes_of (with_choices T b cs))) bs)
+    × (match_number (match_of (routes_of T) b) ≡ match_number (match_of (routes_of (with_choices T b cs)) b) → IsMaximal (Changed (routes_of T) (routes_of (with_choices T b cs))) [])
+
+abbrev pub ChoicesHaveOneHop : Type 0
+ChoicesHaveOneHop = (T : List Stored) (b : Block) (cs : List Choice) → IsStoredTable T → IsBlock b → AreChoices cs → (d : Block) → Contains (maximal_of (changed (routes_of T) (routes_of (with_choices T b cs)))) d →
+    (x : Address) → HasAddress d x → hop_at (routes_of (with_choices T b cs)) x ≡ match_number (match_of (routes_of (with_choices T b cs)) b)
+
+-- where there are choices, the match of the block is the best of them
+abbrev pub MatchOfChoices : Type 0
+MatchOfChoices = (T : List Stored) (b : Block) (c : Choice) → IsStoredTable T → IsBlock b → best (choices_at T b) ≡ Some c → match_of (routes_of T) b ≡ Some (record { block = b; hop = c.hop; pref = c.pref })

@@ -1,4 +1,7 @@
 pub mod Tables
+pub mod Choices
+pub mod Networks
+pub mod Refusals
 pub mod Flats
 pub mod Changes
 pub mod Bounds
@@ -7,6 +10,7 @@ pub mod Items
 pub mod Onwards
 pub mod Overwritten
 pub mod Pages
+pub mod InnerPacked
 pub mod InnerFamilies
 pub mod InnerSides
 pub mod InnerEntries

@@ -8,21 +8,23 @@ use Rattle.ipnet.specs.declared.ip_net.IpNet.{IpNet}
 use Rattle.route_table.specs.declared.hop.Hop.{Hop}
 use Rattle.route_table.specs.declared.hop.Hop.TheVariants.{Number, Drop}
 
+-- a block, a hop, and the preference of that hop among those of the block
 pub record Route : Type 0 where
   pub block : Block
   pub hop : Hop
+  pub pref : ℕ
 
 abbrev pub IsHop : Hop → Type 0
 IsHop (Number k) = k < 2 ^ 32
 IsHop Drop = Unit {0}
 
--- a network and a hop as a route; host bits do not count
-abbrev pub route_of : IpNet → Hop → Route
-route_of n k = record { block = block n; hop = k }
+-- a network, a hop and a preference as a route; host bits do not count
+abbrev pub route_of : IpNet → Hop → ℕ → Route
+route_of n k p = record { block = block n; hop = k; pref = p }
 
 -- a route as it is handed out
-abbrev pub item_of : Route → IpNet × Hop
-item_of r = (network_at r.block, r.hop)
+abbrev pub item_of : Route → IpNet × Hop × ℕ
+item_of r = (network_at r.block, r.hop, r.pref)
 
 -- a table is the list of its routes, ascending, one for each block
 pub record IsTable (M : List Route) : Type 0 where

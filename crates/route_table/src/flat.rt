@@ -7,6 +7,7 @@ ghost use Rattle.route_table.specs.Bounds.{lengths_in, pieces_in};
 ghost use Rattle.route_table.specs.Flats.{IsAdmissible, IsFlat};
 ghost use Rattle.route_table.specs.InnerFlattening.{AreBoth, GivesPieces, pieces_of};
 ghost use Rattle.route_table.specs.Items.{GivesPiece};
+ghost use Rattle.route_table.specs.Networks.{routes_of};
 ghost use Rattle.route_table.specs.Tables.{IsTable, hop_at};
 
 use crate::address_family::AddressFamily;
@@ -136,10 +137,10 @@ impl RouteTable {
     /// list of blocks of one hop that covers all addresses with a hop is shorter, and in each family there are at most
     /// one and the sum of the lengths of the stored networks. It takes no memory.
     pub fn flat(&self) -> Flat<'_>
-        ensures flat { IsFlat (hop_at self.now) result }
-        ensures shortest { (bs : List Block) → IsAdmissible (hop_at self.now) bs → length result ≤ length bs }
-        ensures bound { (f : Family) → length (pieces_in f result) ≤ 1 + lengths_in f self.now }
-        ensures table { IsTable self.now }
+        ensures flat { IsFlat (hop_at (routes_of self.now)) result }
+        ensures shortest { (bs : List Block) → IsAdmissible (hop_at (routes_of self.now)) bs → length result ≤ length bs }
+        ensures bound { (f : Family) → length (pieces_in f result) ≤ 1 + lengths_in f (routes_of self.now) }
+        ensures table { IsTable (routes_of self.now) }
     {
         let (v4, v6) = self.families();
         Flat::new(v4, v6)

@@ -10,7 +10,7 @@ fn table(rt: &impl Abort, alloc: Global, routes: &[(&str, Hop)]) -> RouteTable {
     let mut table = RouteTable::new(alloc).expect(rt, "a table");
     for (text, hop) in routes {
         let net = IpNet::from_str(text).expect(rt, "a network");
-        table.add(net, *hop).expect(rt, "memory");
+        table.add(net, *hop, 100).expect(rt, "a route");
     }
     table
 }

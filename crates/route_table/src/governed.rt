@@ -120,7 +120,7 @@ impl<'a> Gaps<'a> {
             return Step::Done;
         }
         let start = self.at;
-        let Some((net, _)) = self.inside.next() else {
+        let Some((net, _, _)) = self.inside.next() else {
             self.finish();
             return Step::Gap(Span {
                 first: start,

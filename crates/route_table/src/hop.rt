@@ -3,11 +3,12 @@ ghost use Rattle.std.specs.Prelude.{◌≡◌};
 ghost use Rattle.route_table.specs.Tables.{IsHop, number_of};
 
 /// Where a network's addresses go: to a numbered hop, or nowhere.
-#[derive(Clone, Copy, PartialEq, Eq, Debug)]
+#[derive(Clone, Copy, PartialEq, Eq, Debug, Default)]
 pub enum Hop {
     /// The number of the hop.
     Number(u32),
     /// The addresses are dropped: they have no hop, and no shorter route gives them one.
+    #[default]
     Drop,
 }
 

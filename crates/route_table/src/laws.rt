@@ -1,5 +1,5 @@
 //! Laws of tables: public functions without a body, whose contracts are the laws.
-ghost use Rattle.route_table.specs.Laws.{MatchIsLongest, GovernedMatch, GovernedBound, StaysTable, ChangedIsMaximal, AddedHaveOneHop, LeftHaveOneHop, ChangedByAdd, ChangedByDel, BlocksOfAdd, BlocksOfDel, GovernedAfter, AddThenDel, OtherFamilyAfterAdd, OtherFamilyAfterDel, FlatIsShortest, ShortestIsFlat, FlatIsAdmissible, SameFlat, SearchIsFlat, OwnIsMaximal, FlatIsBounded, FlatRebuilds, OverwriteIsTable, HopsOfOverwrite, PagesAreRoutes, PagesEnd, MembersAfterAdd, MembersAfterDel, MatchAfterAdd, MatchAfterDel, ChangedIsShortest, ShortestIsChanged, MaximalIsChanged, EmptyIsFlat, OneRouteIsChanged, OneRouteHops, OneRouteIsFlat};
+ghost use Rattle.route_table.specs.Laws.{AllThenDel, BestIsUnbeaten, BlocksOfChoices, ChangedByChoices, ChoicesAfter, ChoicesHaveOneHop, ChoicesWith, ChoicesWithout, MatchOfChoices, NetworkRestored, NoneIsFree, OneBeats, OthersAreFree, RoutesAreTable, RoutesOfAdd, RoutesOfDel, RoutesOfOverwrite, SameChoices, SameTables, StayChoices, StaysStored, MatchIsLongest, GovernedMatch, GovernedBound, StaysTable, ChangedIsMaximal, AddedHaveOneHop, LeftHaveOneHop, ChangedByAdd, ChangedByDel, BlocksOfAdd, BlocksOfDel, GovernedAfter, AddThenDel, OtherFamilyAfterAdd, OtherFamilyAfterDel, FlatIsShortest, ShortestIsFlat, FlatIsAdmissible, SameFlat, SearchIsFlat, OwnIsMaximal, FlatIsBounded, FlatRebuilds, OverwriteIsTable, HopsOfOverwrite, PagesAreRoutes, PagesEnd, MembersAfterAdd, MembersAfterDel, MatchAfterAdd, MatchAfterDel, ChangedIsShortest, ShortestIsChanged, MaximalIsChanged, EmptyIsFlat, OneRouteIsChanged, OneRouteHops, OneRouteIsFlat};
 
 /// The match is the longest member that contains the block; the match of an address in what a block
 /// governs is the match of the block; and what it governs has few maximal blocks.
@@ -83,4 +83,44 @@ pub fn one_route()
     ensures changed { OneRouteIsChanged }
     ensures hops { OneRouteHops }
     ensures flat { OneRouteIsFlat }
+{}
+
+/// The choices of one network: the first is the one that no other beats; with a choice, those of other hops and it;
+/// without a hop, those of other hops; and they stay in order, at most eight, no hop twice.
+pub fn choices()
+    ensures best { BestIsUnbeaten }
+    ensures one { OneBeats }
+    ensures with_one { ChoicesWith }
+    ensures without_one { ChoicesWithout }
+    ensures stay { StayChoices }
+    ensures same { SameChoices }
+{}
+
+/// The best routes of a table are a table of routes; after an `add` it has the best of the new choices, after a `del`
+/// the best of those that are left, or not the network where none is; after an `overwrite` one in the place of those inside.
+pub fn best_routes()
+    ensures table { RoutesAreTable }
+    ensures add { RoutesOfAdd }
+    ensures del { RoutesOfDel }
+    ensures overwrite { RoutesOfOverwrite }
+    ensures others { OthersAreFree }
+    ensures matches { MatchOfChoices }
+{}
+
+/// A change leaves a table and the choices of every other network; tables with equal choices are equal; a `del` next
+/// after an `add` of a new network restores the table; a `del` of each of its choices takes the network out.
+pub fn networks()
+    ensures stays { StaysStored }
+    ensures after { ChoicesAfter }
+    ensures same { SameTables }
+    ensures none { NoneIsFree }
+    ensures restored { NetworkRestored }
+    ensures emptied { AllThenDel }
+{}
+
+/// What a change of the choices of one network changes.
+pub fn changed_networks()
+    ensures changed { ChangedByChoices }
+    ensures blocks { BlocksOfChoices }
+    ensures one_hop { ChoicesHaveOneHop }
 {}

@@ -1,14 +1,20 @@
 //! Route tables: a hop for each of some networks, the longest match, and which addresses a change concerns.
 #![tactic(auto)]
 
+pub use choices::All;
 pub use flat::Flat;
 pub use governed::Governed;
 pub use hop::Hop;
 pub use prefix_trie::Refused;
+pub use refused::AddRefused;
 pub use routes::Routes;
 pub use table::RouteTable;
 
 mod address_family;
+mod choice;
+#[cfg(test)]
+mod choice_tests;
+mod choices;
 mod family;
 mod flat;
 #[cfg(test)]
@@ -18,6 +24,7 @@ mod hop;
 pub mod laws;
 mod overwrite;
 mod own_blocks;
+mod refused;
 mod routes;
 mod runs;
 mod side;

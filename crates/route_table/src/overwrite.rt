@@ -1,12 +1,14 @@
 //! One route in the place of all those inside its network.
-ghost use Rattle.std.specs.Prelude.{◌≡◌, ◌<◌, OnErr, OnOk, IfErr, false, if◌then◌else◌};
+ghost use Rattle.std.specs.Prelude.{◌≡◌, ◌<◌, [], OnErr, OnOk, IfErr, if◌then◌else◌};
 ghost use Rattle.ipnet_addr.specs.Addresses.{Address, IsAddress, width};
 ghost use Rattle.ipnet_blocks.specs.Blocks.{IsBlock, has_address, left, right};
 ghost use Rattle.ipnet.specs.IpNets.{block, family, parts};
 ghost use Rattle.trie_map.specs.declared.refused.Refused.TheVariants.{Memory};
-ghost use Rattle.route_table.specs.Overwritten.{overwritten, without_inside};
-ghost use Rattle.route_table.specs.Tables.{IsTable, hop_at, is_stored, number_of, route_of};
+ghost use Rattle.route_table.specs.Choices.{default_preference};
+ghost use Rattle.route_table.specs.Networks.{IsStoredTable, choices_at, networks_outside, overwritten_by, routes_of};
+ghost use Rattle.route_table.specs.Tables.{hop_at, number_of};
 
+use crate::choice::DEFAULT_PREFERENCE;
 use crate::hop::Hop;
 use crate::table::{RouteTable, cleared};
 use ipnet::IpNet;
@@ -27,22 +29,22 @@ fn halves(net: &IpNet) -> (IpNet, IpNet)
 }
 
 impl RouteTable {
-    /// Removes every route inside the network, its own included, and stores the hop there: all addresses of the
-    /// network have the new hop then, and all others the hop that they had.
+    /// Removes every network inside this one, its own routes included, and stores one route there, of this hop and of
+    /// preference 100: all addresses of the network have the new hop then, and all others the hop that they had.
     ///
     /// # Errors
     /// `Memory` where there is none for a network that is not stored. The table is as it was. A stored network is
     /// never refused.
     pub fn overwrite(&mut self, net: IpNet, hop: Hop) -> Result<(), Refused>
-        ensures routes { OnOk result (self.new ≡ overwritten self.old (route_of net hop)) }
-        ensures tables { IsTable self.old × IsTable self.new }
-        ensures hops { OnOk result ((x : Address) → IsAddress x → hop_at self.new x ≡ (if has_address (block net) x then number_of hop else hop_at self.old x)) }
+        ensures networks { OnOk result (self.new ≡ overwritten_by self.old (block net) (record { hop = hop; pref = default_preference })) }
+        ensures tables { IsStoredTable self.old × IsStoredTable self.new }
+        ensures hops { OnOk result ((x : Address) → IsAddress x → hop_at (routes_of self.new) x ≡ (if has_address (block net) x then number_of hop else hop_at (routes_of self.old) x)) }
         ensures memory { IfErr result (λ e. e ≡ Memory) }
         ensures unchanged { OnErr result (self.new ≡ self.old) }
-        ensures absent { OnErr result (is_stored self.old (block net) ≡ false) }
+        ensures absent { OnErr result (choices_at self.old (block net) ≡ []) }
     {
         let net = cleared(&net);
-        self.store(net, hop)?;
+        self.store(net, hop, DEFAULT_PREFERENCE)?;
         if net.prefix_len() < net.max_prefix_len() {
             let (lower, upper) = halves(&net);
             self.remove_inside(&lower);
@@ -51,11 +53,11 @@ impl RouteTable {
         Ok(())
     }
 
-    /// Takes out every route inside the network, its own included.
+    /// Takes out every network inside this one, itself included.
     fn remove_inside(&mut self, net: &IpNet)
         requires { IsBlock (block net.now) }
-        ensures routes { self.new ≡ without_inside self.old (block net.now) }
-        ensures table { IsTable self.new }
+        ensures networks { self.new ≡ networks_outside self.old (block net.now) }
+        ensures table { IsStoredTable self.new }
     {
         match *net {
             IpNet::V4(net) => self.v4.remove_inside(net),

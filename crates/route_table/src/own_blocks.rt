@@ -5,6 +5,7 @@ ghost use Rattle.ipnet_blocks.specs.Maximal.{IsMaximal, IsShortest};
 ghost use Rattle.ipnet_blocks.specs.Networks.{IsTruncated};
 ghost use Rattle.route_table.specs.Flats.{blocks_of, flat_of};
 ghost use Rattle.route_table.specs.InnerOwning.{GrowsBy, IsOwned, Owns};
+ghost use Rattle.route_table.specs.Networks.{routes_of};
 ghost use Rattle.route_table.specs.Tables.{IsTable, hop_at, route_of};
 ghost use Rattle.trie_map.specs.declared.refused.Refused.TheVariants.{Memory};
 
@@ -34,9 +35,9 @@ impl RouteTable {
     /// # Errors
     /// `Memory` where there is none for the list.
     pub fn own(&self, number: u32) -> Result<Vec<IpNet>, Refused>
-        ensures maximal { IfOk result (λ v. IsMaximal (λ x. hop_at self.now x ≡ Some number) (map block v.items)) }
-        ensures shortest { IfOk result (λ v. IsShortest (λ x. hop_at self.now x ≡ Some number) (map block v.items)) }
-        ensures flat { IfOk result (λ v. map block v.items ≡ blocks_of (filter (λ p. p.number == number) (flat_of (hop_at self.now)))) }
+        ensures maximal { IfOk result (λ v. IsMaximal (λ x. hop_at (routes_of self.now) x ≡ Some number) (map block v.items)) }
+        ensures shortest { IfOk result (λ v. IsShortest (λ x. hop_at (routes_of self.now) x ≡ Some number) (map block v.items)) }
+        ensures flat { IfOk result (λ v. map block v.items ≡ blocks_of (filter (λ p. p.number == number) (flat_of (hop_at (routes_of self.now))))) }
         ensures truncated { IfOk result (λ v. All (λ n. IsTruncated (family n) (parts n)) v.items) }
         ensures memory { IfErr result (λ e. e ≡ Memory) }
     {
@@ -48,9 +49,9 @@ impl RouteTable {
 
     /// The same, with the allocator's own refusal.
     fn owned(&self, number: u32) -> Result<Vec<IpNet>, AllocError>
-        ensures maximal { IfOk result (λ v. IsMaximal (λ x. hop_at self.now x ≡ Some number) (map block v.items)) }
-        ensures shortest { IfOk result (λ v. IsShortest (λ x. hop_at self.now x ≡ Some number) (map block v.items)) }
-        ensures flat { IfOk result (λ v. map block v.items ≡ blocks_of (filter (λ p. p.number == number) (flat_of (hop_at self.now)))) }
+        ensures maximal { IfOk result (λ v. IsMaximal (λ x. hop_at (routes_of self.now) x ≡ Some number) (map block v.items)) }
+        ensures shortest { IfOk result (λ v. IsShortest (λ x. hop_at (routes_of self.now) x ≡ Some number) (map block v.items)) }
+        ensures flat { IfOk result (λ v. map block v.items ≡ blocks_of (filter (λ p. p.number == number) (flat_of (hop_at (routes_of self.now))))) }
         ensures truncated { IfOk result (λ v. All (λ n. IsTruncated (family n) (parts n)) v.items) }
     {
         let mut networks = Vec::new(self.alloc());
@@ -67,11 +68,11 @@ impl RouteTable {
         routes: Routes<'_>,
         number: u32,
     ) -> Result<(), AllocError>
-        requires { IsTable self.now }
-        ensures { OnOk result (GrowsBy networks.old.items (IsOwned self.now number routes.entry) networks.new.items) }
+        requires { IsTable (routes_of self.now) }
+        ensures { OnOk result (GrowsBy networks.old.items (IsOwned (routes_of self.now) number routes.entry) networks.new.items) }
     {
         for route in routes {
-            self.push_route(networks, &route.0, route.1, number)?;
+            self.push_route(networks, route, number)?;
         }
         Ok(())
     }
@@ -80,19 +81,18 @@ impl RouteTable {
     fn push_route(
         &self,
         networks: &mut Vec<IpNet>,
-        net: &IpNet,
-        hop: Hop,
+        route: (IpNet, Hop, u16),
         number: u32,
     ) -> Result<(), AllocError>
-        requires { IsTable self.now }
-        ensures { OnOk result (GrowsBy networks.old.items (λ x. Owns self.now number x (route_of net.now hop)) networks.new.items) }
+        requires { IsTable (routes_of self.now) }
+        ensures { OnOk result (GrowsBy networks.old.items (λ x. Owns (routes_of self.now) number x (route_of route.0 route.1 route.2)) networks.new.items) }
     {
-        let Hop::Number(found) = hop else {
+        let Hop::Number(found) = route.1 else {
             return Ok(());
         };
         if found != number {
             return Ok(());
         }
-        push_blocks(networks, self.governs(&cleared(net)))
+        push_blocks(networks, self.governs(&cleared(&route.0)))
     }
 }

@@ -16,7 +16,8 @@ pub(crate) enum Source<'a> {
     V6(SideRoutes<'a, Ipv6Net>),
 }
 
-/// The routes that are left, ascending: the network of each, without host bits, and its hop. It takes no memory.
+/// The routes that are left, ascending: the network of each, without host bits, its best hop, and the preference
+/// of that one. It takes no memory.
 #[derive(Drop)]
 pub struct Routes<'a> {
     source: Source<'a>,
@@ -51,13 +52,13 @@ impl<'a> Routes<'a> {
 }
 
 impl<'a> Iterator for Routes<'a> {
-    type Item = (IpNet, Hop);
+    type Item = (IpNet, Hop, u16);
 
     ghost next_gives = { GivesRoute };
 
     ghost remaining = { item_count (λ rs. rs) };
 
-    fn next(&mut self) -> Option<(IpNet, Hop)> {
+    fn next(&mut self) -> Option<(IpNet, Hop, u16)> {
         match &mut self.source {
             Source::V4(routes) => routes.next(),
             Source::V6(routes) => routes.next(),

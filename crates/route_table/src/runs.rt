@@ -30,8 +30,8 @@ pub(crate) struct Run {
 }
 
 /// What a route reaches.
-fn route_reach(net: &IpNet, hop: Hop) -> Reach
-    ensures { result ≡ reach_of (route_of net.now hop) }
+fn route_reach(net: &IpNet, hop: Hop, pref: u16) -> Reach
+    ensures { result ≡ reach_of (route_of net.now hop pref) }
 {
     let Span { first, last } = span(net);
     Reach {
@@ -46,8 +46,8 @@ fn route_reach(net: &IpNet, hop: Hop) -> Reach
 fn next_reach(routes: &mut Routes<'_>) -> Option<Reach>
     ensures { coming result routes.new ≡ map reach_of routes.old }
 {
-    let (net, hop) = routes.next()?;
-    Some(route_reach(&net, hop))
+    let (net, hop, pref) = routes.next()?;
+    Some(route_reach(&net, hop, pref))
 }
 
 /// A walk over the routes of one family: the routes open at a place, those that come, and the run of one number that

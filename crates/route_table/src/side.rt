@@ -1,5 +1,5 @@
-//! One side of a table: the routes of one family.
-ghost use Rattle.std.specs.Prelude.{◌≡◌, ◌≤◌, ◌+◌, ◌/◌, [], IfErr, IfOk, IsOk, OnErr, OnOk, false};
+//! One side of a table: the networks of one family.
+ghost use Rattle.std.specs.Prelude.{◌≡◌, ◌≢◌, ◌≤◌, ◌+◌, ◌/◌, [], ◌∷◌, IfErr, IfOk, IsOk, OnErr, OnOk, false};
 ghost use Rattle.std.specs.Option.{option_map};
 ghost use Rattle.ipnet_blocks.specs.Blocks.{IsBlock, bit_string};
 ghost use Rattle.ipnet_blocks.specs.Networks.{block_of};
@@ -7,94 +7,154 @@ ghost use Rattle.trie_core.specs.Count.{nodes, visit_count};
 ghost use Rattle.trie_map.specs.declared.refused.Refused.TheVariants.{Memory};
 ghost use Rattle.route_table.specs.InnerSides.{IsSide};
 ghost use Rattle.route_table.specs.Onwards.{count_of, routes_after, routes_from};
-ghost use Rattle.route_table.specs.Overwritten.{without_inside};
+ghost use Rattle.route_table.specs.Choices.{holds_hop, is_one_too_many};
+ghost use Rattle.route_table.specs.Networks.{choices_at, networks_outside, routes_of, with_choice, with_choices, without_choice};
+ghost use Rattle.route_table.specs.Refusals.{IsRefused};
 ghost use Rattle.route_table.specs.Tries.{map_of};
-ghost use Rattle.route_table.specs.Tables.{IsHop, covering, is_stored, match_of, number_of, with_route, without_block, routes_inside, item_of};
+ghost use Rattle.route_table.specs.Tables.{IsHop, covering, match_of, match_number, routes_inside, item_of};
 
+use crate::choices::{All, Choices};
 use crate::family::OfFamily;
 use crate::hop::Hop;
+use crate::refused::AddRefused;
 use crate::side_routes::{Entries, SideRoutes};
 use ipnet::IpNet;
 use prefix_trie::{PrefixMap, Refused};
 use std::alloc::Global;
 use std::marker::Model;
 
-/// A hop for each of some networks of one family, seen as their routes, ascending.
+/// Some networks of one family with their routes, ascending.
 ///
 /// The calls ask for networks whose bits name a block: the host bits of an argument are cleared above.
 #[derive(Drop)]
 pub struct Side<P: OfFamily> {
-    hops: PrefixMap<P, Hop>,
+    networks: PrefixMap<P, Choices>,
 }
 
 impl<P: OfFamily> Model for Side<P> {
     ghost use Rattle.std.specs.Prelude.{List, ◌≡◌};
     ghost use Rattle.std.specs.FinMap.{empty};
-    ghost use Rattle.route_table.specs.Tables.{Route};
-    ghost use Rattle.route_table.specs.InnerSides.{IsStored, routes_in};
+    ghost use Rattle.route_table.specs.Networks.{Stored};
+    ghost use Rattle.route_table.specs.InnerSides.{IsStored, stored_in};
 
-    ghost Value = { List Route };
+    ghost Value = { List Stored };
 
-    ghost view = { λ a. routes_in P.family a.hops.entries };
+    ghost view = { λ a. stored_in P.family a.networks.entries };
 
-    ghost invariant = { λ a. IsStored P.family a.hops.entries × (a.hops.spares ≡ empty) };
+    ghost invariant = { λ a. IsStored P.family a.networks.entries × (a.networks.spares ≡ empty) };
 }
 
 impl<P: OfFamily> Side<P> {
-    /// No routes.
+    /// No networks.
     pub fn new(alloc: Global) -> Result<Side<P>, Refused>
-        ensures routes { IfOk result (λ s. s ≡ []) }
+        ensures networks { IfOk result (λ s. s ≡ []) }
         ensures ok { IsOk result }
     {
         Ok(Side {
-            hops: PrefixMap::new(alloc)?,
+            networks: PrefixMap::new(alloc)?,
         })
     }
 
-    /// Stores the hop at the network, and answers its number.
-    pub fn store(&mut self, net: P, hop: Hop) -> Result<Option<u32>, Refused>
+    /// Adds a route to the network, or gives the one of this hop the new preference; answers the number of its best hop
+    /// then.
+    pub fn add(&mut self, net: P, hop: Hop, pref: u16) -> Result<Option<u32>, AddRefused>
         requires { IsBlock (block_of P.family (P.parts net)) }
-        ensures number { IfOk result (λ k. k ≡ number_of hop) }
+        ensures number { IfOk result (λ k. k ≡ match_number (match_of (routes_of self.new) (block_of P.family (P.parts net)))) }
+        ensures networks { OnOk result (self.new ≡ with_choice self.old (block_of P.family (P.parts net)) (record { hop = hop; pref = pref })) }
+        ensures room { OnOk result (is_one_too_many (choices_at self.old (block_of P.family (P.parts net))) hop ≡ false) }
+        ensures side { IsSide P.family self.new }
+        ensures refused { IfErr result (IsRefused (choices_at self.old (block_of P.family (P.parts net))) hop) }
+        ensures unchanged { OnErr result (self.new ≡ self.old) }
+    {
+        if self.networks.contains_key(&net) {
+            return self.add_stored(net, hop, pref);
+        }
+        match self.store(net, hop, pref) {
+            Ok(()) => Ok(hop.number()),
+            Err(refused) => Err(AddRefused::Store(refused)),
+        }
+    }
+
+    /// The same for a stored network, in place.
+    fn add_stored(&mut self, net: P, hop: Hop, pref: u16) -> Result<Option<u32>, AddRefused>
+        requires block { IsBlock (block_of P.family (P.parts net)) }
+        requires stored { choices_at self.old (block_of P.family (P.parts net)) ≢ [] }
+        ensures number { IfOk result (λ k. k ≡ match_number (match_of (routes_of self.new) (block_of P.family (P.parts net)))) }
+        ensures networks { OnOk result (self.new ≡ with_choice self.old (block_of P.family (P.parts net)) (record { hop = hop; pref = pref })) }
+        ensures room { OnOk result (is_one_too_many (choices_at self.old (block_of P.family (P.parts net))) hop ≡ false) }
+        ensures side { IsSide P.family self.new }
+        ensures refused { IfErr result (IsRefused (choices_at self.old (block_of P.family (P.parts net))) hop) }
+        ensures unchanged { OnErr result (self.new ≡ self.old) }
+    {
+        let (_, choices) = self.networks.match_mut(&net, net.prefix_len());
+        choices.add(hop, pref)?;
+        let (best, _) = choices.best();
+        Ok(best.number())
+    }
+
+    /// Stores one route at the network, in the place of all that it has.
+    pub fn store(&mut self, net: P, hop: Hop, pref: u16) -> Result<(), Refused>
+        requires { IsBlock (block_of P.family (P.parts net)) }
         ensures hop { IsHop hop }
-        ensures routes { OnOk result (self.new ≡ with_route self.old (record { block = block_of P.family (P.parts net); hop = hop })) }
+        ensures networks { OnOk result (self.new ≡ with_choices self.old (block_of P.family (P.parts net)) (record { hop = hop; pref = pref } ∷ [])) }
         ensures side { IsSide P.family self.new }
         ensures memory { IfErr result (λ e. e ≡ Memory) }
         ensures unchanged { OnErr result (self.new ≡ self.old) }
-        ensures absent { OnErr result (is_stored self.old (block_of P.family (P.parts net)) ≡ false) }
+        ensures absent { OnErr result (choices_at self.old (block_of P.family (P.parts net)) ≡ []) }
     {
-        let number = hop.number();
-        if let Err((refused, _)) = self.hops.insert(net, hop) {
+        let choices = Choices::one(hop, pref);
+        if let Err((refused, _)) = self.networks.insert(net, choices) {
             return Err(refused);
         }
-        Ok(number)
+        Ok(())
     }
 
-    /// Takes the route of the network out, and tells whether there was one.
-    pub fn take(&mut self, net: P) -> bool
+    /// Takes the route of this hop out of the network, and the network with its last route; tells whether there was one.
+    pub fn remove(&mut self, net: P, hop: Hop) -> bool
         requires { IsBlock (block_of P.family (P.parts net)) }
-        ensures stored { result ≡ is_stored self.old (block_of P.family (P.parts net)) }
-        ensures routes { self.new ≡ without_block self.old (block_of P.family (P.parts net)) }
+        ensures held { result ≡ holds_hop (choices_at self.old (block_of P.family (P.parts net))) hop }
+        ensures networks { self.new ≡ without_choice self.old (block_of P.family (P.parts net)) hop }
         ensures side { IsSide P.family self.new }
     {
-        self.hops.remove(&net).is_some()
+        if !self.networks.contains_key(&net) {
+            return false;
+        }
+        let (_, choices) = self.networks.match_mut(&net, net.prefix_len());
+        let held = choices.remove(hop);
+        if choices.is_empty() {
+            self.networks.remove(&net);
+        }
+        held
     }
 
-    /// Takes out every route inside the network, its own included.
+    /// Takes out every network inside this one, itself included.
     pub fn remove_inside(&mut self, net: P)
         requires { IsBlock (block_of P.family (P.parts net)) }
-        ensures routes { self.new ≡ without_inside self.old (block_of P.family (P.parts net)) }
+        ensures networks { self.new ≡ networks_outside self.old (block_of P.family (P.parts net)) }
         ensures side { IsSide P.family self.new }
     {
-        self.hops.remove_children(&net);
+        self.networks.remove_children(&net);
+    }
+
+    /// The routes of this very network, best first.
+    pub fn all(&self, net: P) -> All<'_>
+        requires { IsBlock (block_of P.family (P.parts net)) }
+        ensures { result ≡ choices_at self.now (block_of P.family (P.parts net)) }
+    {
+        match self.networks.get(&net) {
+            Some(choices) => choices.all(),
+            None => All::none(),
+        }
     }
 
     /// The longest match.
-    pub fn get(&self, net: P) -> Option<(IpNet, Hop)>
+    pub fn get(&self, net: P) -> Option<(IpNet, Hop, u16)>
         requires { IsBlock (block_of P.family (P.parts net)) }
-        ensures { result ≡ option_map item_of (match_of self.now (block_of P.family (P.parts net))) }
+        ensures { result ≡ option_map item_of (match_of (routes_of self.now) (block_of P.family (P.parts net))) }
     {
-        let (found, hop) = self.hops.get_lpm(&net)?;
-        Some((found.ip_net(), *hop))
+        let (found, choices) = self.networks.get_lpm(&net)?;
+        let (hop, pref) = choices.best();
+        Some((found.ip_net(), hop, pref))
     }
 
     /// How many nodes of the trie the search for the longest match visits.
@@ -103,59 +163,59 @@ impl<P: OfFamily> Side<P> {
         ensures visits { result ≡ visit_count (map_of P.family self.now) (bit_string (block_of P.family (P.parts net))) }
         ensures bound { result ≤ (P.parts net).len / 5 + 1 }
     {
-        self.hops.get_lpm_visits(&net).1
+        self.networks.get_lpm_visits(&net).1
     }
 
-    /// How many routes there are.
+    /// How many networks there are.
     pub fn count(&self) -> usize
-        ensures { result ≡ count_of P.family self.now }
+        ensures { result ≡ count_of P.family (routes_of self.now) }
     {
-        self.hops.len()
+        self.networks.len()
     }
 
     /// How many nodes the trie has.
     pub fn node_count(&self) -> usize
         ensures { result ≡ nodes (map_of P.family self.now) }
     {
-        self.hops.node_count()
+        self.networks.node_count()
     }
 
-    /// All routes.
+    /// The best routes of all networks.
     pub fn iter(&self) -> SideRoutes<'_, P>
-        ensures { result ≡ self.now }
+        ensures { result ≡ routes_of self.now }
     {
-        SideRoutes::new(Entries::Walk(self.hops.iter()))
+        SideRoutes::new(Entries::Walk(self.networks.iter()))
     }
 
-    /// The routes inside the network, its own included.
+    /// The best routes of the networks inside this one, itself included.
     pub fn list(&self, net: P) -> SideRoutes<'_, P>
         requires { IsBlock (block_of P.family (P.parts net)) }
-        ensures { result ≡ routes_inside self.now (block_of P.family (P.parts net)) }
+        ensures { result ≡ routes_inside (routes_of self.now) (block_of P.family (P.parts net)) }
     {
-        SideRoutes::new(Entries::Walk(self.hops.children(&net)))
+        SideRoutes::new(Entries::Walk(self.networks.children(&net)))
     }
 
-    /// The routes that contain the network, its own included, the shortest first.
+    /// The best routes of the networks that contain this one, itself included, the shortest first.
     pub fn cover(&self, net: P) -> SideRoutes<'_, P>
         requires { IsBlock (block_of P.family (P.parts net)) }
-        ensures { result ≡ covering self.now (block_of P.family (P.parts net)) }
+        ensures { result ≡ covering (routes_of self.now) (block_of P.family (P.parts net)) }
     {
-        SideRoutes::new(Entries::Cover(self.hops.cover(&net)))
+        SideRoutes::new(Entries::Cover(self.networks.cover(&net)))
     }
 
-    /// The routes that do not come before the network.
+    /// The best routes of the networks that do not come before this one.
     pub fn from(&self, net: P) -> SideRoutes<'_, P>
         requires { IsBlock (block_of P.family (P.parts net)) }
-        ensures { result ≡ routes_from self.now (block_of P.family (P.parts net)) }
+        ensures { result ≡ routes_from (routes_of self.now) (block_of P.family (P.parts net)) }
     {
-        SideRoutes::new(Entries::Walk(self.hops.iter_from(&net, true)))
+        SideRoutes::new(Entries::Walk(self.networks.iter_from(&net, true)))
     }
 
-    /// The routes that come after the network.
+    /// The best routes of the networks that come after this one.
     pub fn after(&self, net: P) -> SideRoutes<'_, P>
         requires { IsBlock (block_of P.family (P.parts net)) }
-        ensures { result ≡ routes_after self.now (block_of P.family (P.parts net)) }
+        ensures { result ≡ routes_after (routes_of self.now) (block_of P.family (P.parts net)) }
     {
-        SideRoutes::new(Entries::Walk(self.hops.iter_from(&net, false)))
+        SideRoutes::new(Entries::Walk(self.networks.iter_from(&net, false)))
     }
 }

@@ -7,6 +7,7 @@ ghost use Rattle.route_table.specs.InnerEntries.{KeysUpTo, entries_left};
 ghost use Rattle.route_table.specs.Items.{GivesRoute};
 ghost use Rattle.route_table.specs.InnerSides.{route_at};
 
+use crate::choices::Choices;
 use crate::family::OfFamily;
 use crate::hop::Hop;
 use ipnet::IpNet;
@@ -17,13 +18,13 @@ use std::marker::Model;
 /// The entries of one side's trie that are left of a walk, or of the way to a network.
 #[derive(Drop)]
 pub(crate) enum Entries<'a, P: Prefix> {
-    Walk(Iter<'a, P, Hop>),
-    Cover(Cover<'a, P, Hop>),
+    Walk(Iter<'a, P, Choices>),
+    Cover(Cover<'a, P, Choices>),
 }
 
 impl<'a, P: Prefix> Entries<'a, P> {
     /// The next entry.
-    fn next(&mut self) -> Option<(P, &'a Hop)>
+    fn next(&mut self) -> Option<(P, &'a Choices)>
         ensures { GivesEntry P.fits P.bits P.of_bits (entries_left self.old) result (entries_left self.new) }
     {
         match self {
@@ -63,14 +64,15 @@ impl<'a, P: OfFamily> SideRoutes<'a, P> {
 }
 
 impl<'a, P: OfFamily> Iterator for SideRoutes<'a, P> {
-    type Item = (IpNet, Hop);
+    type Item = (IpNet, Hop, u16);
 
     ghost next_gives = { GivesRoute };
 
     ghost remaining = { item_count (λ rs. rs) };
 
-    fn next(&mut self) -> Option<(IpNet, Hop)> {
-        let (net, hop) = self.entries.next()?;
-        Some((net.ip_net(), *hop))
+    fn next(&mut self) -> Option<(IpNet, Hop, u16)> {
+        let (net, choices) = self.entries.next()?;
+        let (hop, pref) = choices.best();
+        Some((net.ip_net(), hop, pref))
     }
 }

@@ -1,5 +1,5 @@
 //! The table.
-ghost use Rattle.std.specs.Prelude.{◌≡◌, ◌≤◌, ◌+◌, ◌/◌, [], ◌++◌, All, IfOk, IfErr, IfSome, IsOk, OnOk, OnErr, false, is_some, length, sum_by};
+ghost use Rattle.std.specs.Prelude.{◌≡◌, ◌≤◌, ◌+◌, ◌/◌, [], ◌∷◌, ◌++◌, All, IfOk, IfErr, IfSome, IsOk, OnOk, OnErr, false, is_some, length, sum_by};
 ghost use Rattle.std.specs.Option.{option_map};
 ghost use Rattle.ipnet_addr.specs.Addresses.{Ipv4, Ipv6};
 ghost use Rattle.ipnet_blocks.specs.Blocks.{IsBlock, bit_string};
@@ -9,10 +9,15 @@ ghost use Rattle.trie_core.specs.Count.{nodes, visit_count};
 ghost use Rattle.trie_map.specs.declared.refused.Refused.TheVariants.{Memory};
 ghost use Rattle.route_table.specs.Bounds.{excess};
 ghost use Rattle.route_table.specs.Tries.{map_of};
-ghost use Rattle.route_table.specs.Tables.{Governed as GovernedBy, IsHop, IsTable, is_stored, match_number, match_of, number_of, with_route, without_block, routes_inside, item_of, route_of};
+ghost use Rattle.route_table.specs.Choices.{holds_hop, is_one_too_many};
+ghost use Rattle.route_table.specs.Networks.{IsStoredTable, choices_at, routes_of, with_choice, with_choices, without_choice};
+ghost use Rattle.route_table.specs.Refusals.{IsRefused};
+ghost use Rattle.route_table.specs.Tables.{Governed as GovernedBy, IsHop, IsTable, match_number, match_of, routes_inside, item_of};
 
+use crate::choices;
 use crate::governed::Governed;
 use crate::hop::Hop;
+use crate::refused::AddRefused;
 use crate::routes::Routes;
 use crate::side::Side;
 use ipnet::{IpNet, Ipv4Net, Ipv6Net};
@@ -20,10 +25,13 @@ use prefix_trie::Refused;
 use std::alloc::Global;
 use std::marker::Model;
 
-/// A hop for each of some networks of both families.
+/// Routes for some networks of both families: one to eight for each, a hop and a preference, at most one for each hop.
+/// The best has the greatest preference; among equal ones the smaller number comes first, and `drop` after every number.
+/// A network's addresses go where its best route goes.
 ///
-/// Contracts see it as the ascending list of its routes, one for each stored network. Host bits of an argument are
-/// ignored everywhere. Only `new`, `own`, and `add` and `overwrite` of a network that is not stored, take memory.
+/// Contracts see it as the ascending list of its stored networks, each with its routes, best first; what they say of
+/// matches and hops, they say of the list of the best routes. Host bits of an argument are ignored everywhere. Only
+/// `new`, `own`, and `add` and `overwrite` of a network that is not stored, take memory.
 #[derive(Drop)]
 pub struct RouteTable {
     pub(crate) v4: Side<Ipv4Net>,
@@ -35,9 +43,9 @@ impl Model for RouteTable {
     ghost use Rattle.std.specs.Prelude.{List, ◌++◌};
     ghost use Rattle.ipnet_addr.specs.Addresses.{Ipv4, Ipv6};
     ghost use Rattle.route_table.specs.InnerSides.{IsSide};
-    ghost use Rattle.route_table.specs.Tables.{Route};
+    ghost use Rattle.route_table.specs.Networks.{Stored};
 
-    ghost Value = { List Route };
+    ghost Value = { List Stored };
 
     ghost view = { λ a. a.v4 ++ a.v6 };
 
@@ -54,13 +62,13 @@ pub(crate) fn cleared(net: &IpNet) -> IpNet
 }
 
 impl RouteTable {
-    /// The table without routes.
+    /// The table without networks.
     ///
     /// # Errors
     /// None: the `Result` is for the tables that need memory at once.
     pub fn new(alloc: Global) -> Result<RouteTable, Refused>
-        ensures routes { IfOk result (λ t. t ≡ []) }
-        ensures table { IfOk result IsTable }
+        ensures networks { IfOk result (λ t. t ≡ []) }
+        ensures table { IfOk result IsStoredTable }
         ensures ok { IsOk result }
     {
         Ok(RouteTable {
@@ -70,56 +78,74 @@ impl RouteTable {
         })
     }
 
-    /// Stores the hop at the network. Answers the hop that the addresses which the network governs had, and the one
-    /// that they have: the numbers at the longest match of the network before and after. The addresses whose hop
-    /// changed are those that the network governs where the two differ, and else none.
+    /// Adds a route to the network, or gives the route of this hop that it has the new preference. Answers the hop that
+    /// the addresses which the network governs had, and the one that they have: the numbers at the longest match of the
+    /// network before and after. The addresses whose hop changed are those that the network governs where the two
+    /// differ, and else none.
     ///
     /// # Errors
-    /// `Memory` where there is none for a network that is not stored. The table is as it was. A stored network is
-    /// never refused.
-    pub fn add(&mut self, net: IpNet, hop: Hop) -> Result<(Option<u32>, Option<u32>), Refused>
-        ensures hops { IfOk result (λ r. (r.0 ≡ match_number (match_of self.old (block net))) × (r.1 ≡ number_of hop)) }
-        ensures routes { OnOk result (self.new ≡ with_route self.old (route_of net hop)) }
-        ensures tables { IsTable self.old × IsTable self.new }
-        ensures memory { IfErr result (λ e. e ≡ Memory) }
+    /// `TooMany` exactly where eight other hops are stored at the network. `Store` where there is no memory for a network
+    /// that is not stored. The table is as it was. No route of a stored network takes memory.
+    pub fn add(
+        &mut self,
+        net: IpNet,
+        hop: Hop,
+        pref: u16,
+    ) -> Result<(Option<u32>, Option<u32>), AddRefused>
+        ensures hops { IfOk result (λ r. (r.0 ≡ match_number (match_of (routes_of self.old) (block net))) × (r.1 ≡ match_number (match_of (routes_of self.new) (block net)))) }
+        ensures networks { OnOk result (self.new ≡ with_choice self.old (block net) (record { hop = hop; pref = pref })) }
+        ensures room { OnOk result (is_one_too_many (choices_at self.old (block net)) hop ≡ false) }
+        ensures tables { IsStoredTable self.old × IsStoredTable self.new }
+        ensures refused { IfErr result (IsRefused (choices_at self.old (block net)) hop) }
         ensures unchanged { OnErr result (self.new ≡ self.old) }
-        ensures absent { OnErr result (is_stored self.old (block net) ≡ false) }
     {
         let net = cleared(&net);
         let before = self.hop_of(&net);
-        let after = self.store(net, hop)?;
+        let after = self.add_choice(net, hop, pref)?;
         Ok((before, after))
     }
 
-    /// Takes the route of the network out, where there is one. Answers the hop that the addresses which the network
-    /// governs had, and the one that they have: the numbers at the longest match of the network before and after.
-    pub fn del(&mut self, net: &IpNet) -> Option<(Option<u32>, Option<u32>)>
-        ensures stored { is_some result ≡ is_stored self.old (block net.now) }
-        ensures routes { self.new ≡ without_block self.old (block net.now) }
-        ensures tables { IsTable self.old × IsTable self.new }
-        ensures hops { IfSome result (λ r. (r.0 ≡ match_number (match_of self.old (block net.now))) × (r.1 ≡ match_number (match_of self.new (block net.now)))) }
+    /// Takes the route of this hop out of the network, where there is one, and the network with its last route. Answers
+    /// the hop that the addresses which the network governs had, and the one that they have: the numbers at the longest
+    /// match of the network before and after. It takes no memory.
+    pub fn del(&mut self, net: &IpNet, hop: Hop) -> Option<(Option<u32>, Option<u32>)>
+        ensures stored { is_some result ≡ holds_hop (choices_at self.old (block net.now)) hop }
+        ensures networks { self.new ≡ without_choice self.old (block net.now) hop }
+        ensures tables { IsStoredTable self.old × IsStoredTable self.new }
+        ensures hops { IfSome result (λ r. (r.0 ≡ match_number (match_of (routes_of self.old) (block net.now))) × (r.1 ≡ match_number (match_of (routes_of self.new) (block net.now)))) }
     {
         let net = cleared(net);
         let before = self.hop_of(&net);
-        if self.take(&net) {
+        if self.remove_choice(&net, hop) {
             Some((before, self.hop_of(&net)))
         } else {
             None
         }
     }
 
-    /// The longest match: of the stored networks that contain this one, itself included, the longest, and its hop.
-    pub fn get(&self, net: &IpNet) -> Option<(IpNet, Hop)>
-        ensures found { result ≡ option_map item_of (match_of self.now (block net.now)) }
-        ensures table { IsTable self.now }
+    /// The routes of exactly this network, best first: each hop with its preference. It takes no memory.
+    pub fn all(&self, net: &IpNet) -> choices::All<'_>
+        ensures { result ≡ choices_at self.now (block net.now) }
+    {
+        match cleared(net) {
+            IpNet::V4(net) => self.v4.all(net),
+            IpNet::V6(net) => self.v6.all(net),
+        }
+    }
+
+    /// The longest match: of the stored networks that contain this one, itself included, the longest, with its best hop
+    /// and the preference of that one.
+    pub fn get(&self, net: &IpNet) -> Option<(IpNet, Hop, u16)>
+        ensures found { result ≡ option_map item_of (match_of (routes_of self.now) (block net.now)) }
+        ensures table { IsTable (routes_of self.now) }
     {
         self.longest(&cleared(net))
     }
 
     /// What `get` answers, and how many nodes of the family's trie the search visited: one, and one for each bit
     /// string of positive length divisible by five that begins both the asked network and a stored one.
-    pub fn get_visits(&self, net: &IpNet) -> (Option<(IpNet, Hop)>, u32)
-        ensures found { result.0 ≡ option_map item_of (match_of self.now (block net.now)) }
+    pub fn get_visits(&self, net: &IpNet) -> (Option<(IpNet, Hop, u16)>, u32)
+        ensures found { result.0 ≡ option_map item_of (match_of (routes_of self.now) (block net.now)) }
         ensures visits { result.1 ≡ visit_count (map_of (family net.now) self.now) (bit_string (block net.now)) }
         ensures bound { result.1 ≤ (parts net.now).len / 5 + 1 }
     {
@@ -127,9 +153,9 @@ impl RouteTable {
         (self.longest(&net), self.visits(&net))
     }
 
-    /// The routes inside the network, its own included, ascending. It takes no memory.
+    /// The best routes of the networks inside this one, itself included, ascending. It takes no memory.
     pub fn list(&self, net: &IpNet) -> Routes<'_>
-        ensures { result ≡ routes_inside self.now (block net.now) }
+        ensures { result ≡ routes_inside (routes_of self.now) (block net.now) }
     {
         self.inside(&cleared(net))
     }
@@ -138,10 +164,10 @@ impl RouteTable {
     /// network strictly inside it. No list of blocks with these addresses is shorter. There are at most one, and for each
     /// stored network strictly inside it, the difference of the two lengths less one. It takes no memory.
     pub fn governed(&self, net: &IpNet) -> Governed<'_>
-        ensures maximal { IsMaximal (GovernedBy self.now (block net.now)) result }
-        ensures shortest { IsShortest (GovernedBy self.now (block net.now)) result }
-        ensures bound { length result ≤ 1 + sum_by (λ r. excess (block net.now) r.block) self.now }
-        ensures table { IsTable self.now }
+        ensures maximal { IsMaximal (GovernedBy (routes_of self.now) (block net.now)) result }
+        ensures shortest { IsShortest (GovernedBy (routes_of self.now) (block net.now)) result }
+        ensures bound { length result ≤ 1 + sum_by (λ r. excess (block net.now) r.block) (routes_of self.now) }
+        ensures table { IsTable (routes_of self.now) }
     {
         self.governs(&cleared(net))
     }
@@ -153,8 +179,8 @@ impl RouteTable {
 
     /// The routes of either family, ascending.
     pub(crate) fn families(&self) -> (Routes<'_>, Routes<'_>)
-        ensures routes { result.0 ++ result.1 ≡ self.now }
-        ensures table { IsTable self.now }
+        ensures routes { result.0 ++ result.1 ≡ routes_of self.now }
+        ensures table { IsTable (routes_of self.now) }
         ensures ipv4 { All (λ r. r.block.family ≡ Ipv4) result.0 }
         ensures ipv6 { All (λ r. r.block.family ≡ Ipv6) result.1 }
     {
@@ -169,41 +195,56 @@ impl RouteTable {
         (self.v4.node_count(), self.v6.node_count())
     }
 
-    /// Stores the hop at the network, and answers its number.
-    pub(crate) fn store(&mut self, net: IpNet, hop: Hop) -> Result<Option<u32>, Refused>
+    /// Adds a route to the network, and answers the number of its best hop then.
+    fn add_choice(&mut self, net: IpNet, hop: Hop, pref: u16) -> Result<Option<u32>, AddRefused>
         requires { IsBlock (block net) }
-        ensures number { IfOk result (λ k. k ≡ number_of hop) }
-        ensures hop { IsHop hop }
-        ensures routes { OnOk result (self.new ≡ with_route self.old (route_of net hop)) }
-        ensures tables { IsTable self.old × IsTable self.new }
-        ensures memory { IfErr result (λ e. e ≡ Memory) }
+        ensures number { IfOk result (λ k. k ≡ match_number (match_of (routes_of self.new) (block net))) }
+        ensures networks { OnOk result (self.new ≡ with_choice self.old (block net) (record { hop = hop; pref = pref })) }
+        ensures room { OnOk result (is_one_too_many (choices_at self.old (block net)) hop ≡ false) }
+        ensures tables { IsStoredTable self.old × IsStoredTable self.new }
+        ensures refused { IfErr result (IsRefused (choices_at self.old (block net)) hop) }
         ensures unchanged { OnErr result (self.new ≡ self.old) }
-        ensures absent { OnErr result (is_stored self.old (block net) ≡ false) }
     {
         match net {
-            IpNet::V4(net) => self.v4.store(net, hop),
-            IpNet::V6(net) => self.v6.store(net, hop),
+            IpNet::V4(net) => self.v4.add(net, hop, pref),
+            IpNet::V6(net) => self.v6.add(net, hop, pref),
         }
     }
 
-    /// Takes the route of the network out, and tells whether there was one.
-    fn take(&mut self, net: &IpNet) -> bool
+    /// Takes the route of this hop out of the network, and tells whether there was one.
+    fn remove_choice(&mut self, net: &IpNet, hop: Hop) -> bool
         requires { IsBlock (block net.now) }
-        ensures stored { result ≡ is_stored self.old (block net.now) }
-        ensures routes { self.new ≡ without_block self.old (block net.now) }
-        ensures tables { IsTable self.old × IsTable self.new }
+        ensures held { result ≡ holds_hop (choices_at self.old (block net.now)) hop }
+        ensures networks { self.new ≡ without_choice self.old (block net.now) hop }
+        ensures tables { IsStoredTable self.old × IsStoredTable self.new }
     {
         match *net {
-            IpNet::V4(net) => self.v4.take(net),
-            IpNet::V6(net) => self.v6.take(net),
+            IpNet::V4(net) => self.v4.remove(net, hop),
+            IpNet::V6(net) => self.v6.remove(net, hop),
+        }
+    }
+
+    /// Stores one route at the network, in the place of all that it has.
+    pub(crate) fn store(&mut self, net: IpNet, hop: Hop, pref: u16) -> Result<(), Refused>
+        requires { IsBlock (block net) }
+        ensures hop { IsHop hop }
+        ensures networks { OnOk result (self.new ≡ with_choices self.old (block net) (record { hop = hop; pref = pref } ∷ [])) }
+        ensures tables { IsStoredTable self.old × IsStoredTable self.new }
+        ensures memory { IfErr result (λ e. e ≡ Memory) }
+        ensures unchanged { OnErr result (self.new ≡ self.old) }
+        ensures absent { OnErr result (choices_at self.old (block net) ≡ []) }
+    {
+        match net {
+            IpNet::V4(net) => self.v4.store(net, hop, pref),
+            IpNet::V6(net) => self.v6.store(net, hop, pref),
         }
     }
 
     /// The longest match.
-    fn longest(&self, net: &IpNet) -> Option<(IpNet, Hop)>
+    fn longest(&self, net: &IpNet) -> Option<(IpNet, Hop, u16)>
         requires { IsBlock (block net.now) }
-        ensures found { result ≡ option_map item_of (match_of self.now (block net.now)) }
-        ensures table { IsTable self.now }
+        ensures found { result ≡ option_map item_of (match_of (routes_of self.now) (block net.now)) }
+        ensures table { IsTable (routes_of self.now) }
     {
         match *net {
             IpNet::V4(net) => self.v4.get(net),
@@ -226,17 +267,17 @@ impl RouteTable {
     /// The number at the longest match.
     fn hop_of(&self, net: &IpNet) -> Option<u32>
         requires { IsBlock (block net.now) }
-        ensures { result ≡ match_number (match_of self.now (block net.now)) }
+        ensures { result ≡ match_number (match_of (routes_of self.now) (block net.now)) }
     {
-        let (_, hop) = self.longest(net)?;
+        let (_, hop, _) = self.longest(net)?;
         hop.number()
     }
 
     /// The routes inside the network.
     fn inside(&self, net: &IpNet) -> Routes<'_>
         requires { IsBlock (block net.now) }
-        ensures routes { result ≡ routes_inside self.now (block net.now) }
-        ensures table { IsTable self.now }
+        ensures routes { result ≡ routes_inside (routes_of self.now) (block net.now) }
+        ensures table { IsTable (routes_of self.now) }
     {
         match *net {
             IpNet::V4(net) => Routes::v4(self.v4.list(net)),
@@ -247,9 +288,9 @@ impl RouteTable {
     /// The maximal blocks of the addresses that the network governs.
     pub(crate) fn governs(&self, net: &IpNet) -> Governed<'_>
         requires { IsBlock (block net.now) }
-        ensures maximal { IsMaximal (GovernedBy self.now (block net.now)) result }
-        ensures bound { length result ≤ 1 + sum_by (λ r. excess (block net.now) r.block) self.now }
-        ensures table { IsTable self.now }
+        ensures maximal { IsMaximal (GovernedBy (routes_of self.now) (block net.now)) result }
+        ensures bound { length result ≤ 1 + sum_by (λ r. excess (block net.now) r.block) (routes_of self.now) }
+        ensures table { IsTable (routes_of self.now) }
     {
         Governed::new(*net, self.inside(net))
     }

@@ -14,7 +14,7 @@ pub(crate) fn add(
     text: &str,
     hop: Hop,
 ) -> (Option<u32>, Option<u32>) {
-    table.add(net(rt, text), hop).expect(rt, "memory")
+    table.add(net(rt, text), hop, 100).expect(rt, "a route")
 }
 
 /// The network governs these blocks.
@@ -55,23 +55,24 @@ fn nested_routes(rt: HostRuntime) {
     );
     assert_eq!(rt; table.node_counts(), (3, 1));
     let (found, visits) = table.get_visits(&net(&rt, "10.1.2.3/32"));
-    let Some((network, hop)) = found else {
+    let Some((network, hop, pref)) = found else {
         panic!(&rt; "no match")
     };
     assert_eq!(rt; network.to_text().as_slice(), "10.0.0.0/9".as_bytes());
     assert_eq!(rt; hop, Hop::Number(2));
+    assert_eq!(rt; pref, 100);
     assert_eq!(rt; visits, 2);
     assert_eq!(rt;
-        add(&rt, &mut table, "10.0.0.0/8", Hop::Number(3)),
-        (Some(1), Some(3))
+        table.add(net(&rt, "10.0.0.0/8"), Hop::Number(3), 200),
+        Ok((Some(1), Some(3)))
     );
     governs(&rt, &table, "10.0.0.0/8", &["10.128.0.0/9"]);
     governs(&rt, &table, "10.0.0.0/9", &["10.0.0.0/10"]);
     assert_eq!(rt;
-        table.del(&net(&rt, "10.9.9.9/9")),
+        table.del(&net(&rt, "10.9.9.9/9"), Hop::Number(2)),
         Some((Some(2), Some(3)))
     );
-    assert_eq!(rt; table.del(&net(&rt, "10.0.0.0/9")), None);
+    assert_eq!(rt; table.del(&net(&rt, "10.0.0.0/9"), Hop::Number(2)), None);
     governs(&rt, &table, "10.0.0.0/9", &["10.0.0.0/10"]);
 }
 
@@ -86,11 +87,11 @@ fn drop_is_stored(rt: HostRuntime) {
         add(&rt, &mut table, "10.0.0.1/32", Hop::Drop),
         (Some(1), None)
     );
-    let Some((network, hop)) = table.get(&net(&rt, "10.0.0.1/32")) else {
+    let Some((network, hop, pref)) = table.get(&net(&rt, "10.0.0.1/32")) else {
         panic!(&rt; "no match")
     };
     assert_eq!(rt; network.to_text().as_slice(), "10.0.0.1/32".as_bytes());
-    assert_eq!(rt; hop, Hop::Drop);
+    assert_eq!(rt; (hop, pref), (Hop::Drop, 100));
     governs(&rt, &table, "10.0.0.0/30", &["10.0.0.0/32", "10.0.0.2/31"]);
 }
 
@@ -120,11 +121,11 @@ fn families_are_apart(rt: HostRuntime) {
     let _ = add(&rt, &mut table, "::ffff:10.0.0.0/104", Hop::Number(1));
     assert!(rt; table.get(&net(&rt, "10.0.0.0/8")).is_none());
     let _ = add(&rt, &mut table, "2001:DB8::1/32", Hop::Number(7));
-    let Some((network, hop)) = table.get(&net(&rt, "2001:db8::/32")) else {
+    let Some((network, hop, pref)) = table.get(&net(&rt, "2001:db8::/32")) else {
         panic!(&rt; "no match")
     };
     assert_eq!(rt; network.to_text().as_slice(), "2001:db8::/32".as_bytes());
-    assert_eq!(rt; hop, Hop::Number(7));
+    assert_eq!(rt; (hop, pref), (Hop::Number(7), 100));
     assert_eq!(rt; table.node_counts().0, 1);
 }
 
@@ -136,11 +137,11 @@ fn listed(rt: HostRuntime) {
     let _ = add(&rt, &mut table, "11.0.0.0/8", Hop::Number(2));
     let mut routes = table.list(&net(&rt, "10.0.0.0/8"));
     for text in ["10.0.0.0/8", "10.1.0.0/16"] {
-        let Some((network, hop)) = routes.next() else {
+        let Some((network, hop, pref)) = routes.next() else {
             panic!(&rt; "too few routes")
         };
         assert_eq!(rt; network.to_text().as_slice(), text.as_bytes());
-        assert_eq!(rt; hop, Hop::Number(1));
+        assert_eq!(rt; (hop, pref), (Hop::Number(1), 100));
     }
     assert!(rt; routes.next().is_none());
 }

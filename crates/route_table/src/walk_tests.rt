@@ -19,7 +19,7 @@ fn nested(rt: &impl Abort, alloc: Global) -> RouteTable {
 /// The hops of the routes in order, as the digits of a number; a `Drop` is 0.
 fn hops(routes: Routes<'_>) -> u32 {
     let mut digits = 0u32;
-    for (_, hop) in routes {
+    for (_, hop, _) in routes {
         let digit = match hop {
             Hop::Number(number) => number,
             Hop::Drop => 0,

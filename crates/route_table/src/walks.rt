@@ -1,8 +1,9 @@
-//! How many routes there are, and the walks along them.
+//! How many networks are stored, and the walks along their best routes.
 ghost use Rattle.std.specs.Prelude.{◌≡◌};
 ghost use Rattle.ipnet_addr.specs.Addresses.{Ipv4, Ipv6};
 ghost use Rattle.ipnet.specs.IpNets.{block};
 ghost use Rattle.route_table.specs.Onwards.{count_of, routes_after, routes_from};
+ghost use Rattle.route_table.specs.Networks.{routes_of};
 ghost use Rattle.route_table.specs.Tables.{IsTable, covering};
 
 use crate::routes::Routes;
@@ -10,16 +11,16 @@ use crate::table::{RouteTable, cleared};
 use ipnet::IpNet;
 
 impl RouteTable {
-    /// How many routes there are: of IPv4 networks and of IPv6 networks. It takes no memory.
+    /// How many networks are stored: of IPv4 and of IPv6. It takes no memory.
     pub fn count(&self) -> (usize, usize)
-        ensures { result ≡ (count_of Ipv4 self.now, count_of Ipv6 self.now) }
+        ensures { result ≡ (count_of Ipv4 (routes_of self.now), count_of Ipv6 (routes_of self.now)) }
     {
         (self.v4.count(), self.v6.count())
     }
 
     /// The routes that contain the network, its own included, the shortest first. It takes no memory.
     pub fn cover(&self, net: &IpNet) -> Routes<'_>
-        ensures { result ≡ covering self.now (block net.now) }
+        ensures { result ≡ covering (routes_of self.now) (block net.now) }
     {
         match cleared(net) {
             IpNet::V4(net) => Routes::v4(self.v4.cover(net)),
@@ -30,8 +31,8 @@ impl RouteTable {
     /// The routes of the network's family from the network on, ascending: its own, those inside it and those after
     /// it. The network needs no route. It takes no memory.
     pub fn from(&self, net: &IpNet) -> Routes<'_>
-        ensures routes { result ≡ routes_from self.now (block net.now) }
-        ensures table { IsTable self.now }
+        ensures routes { result ≡ routes_from (routes_of self.now) (block net.now) }
+        ensures table { IsTable (routes_of self.now) }
     {
         match cleared(net) {
             IpNet::V4(net) => Routes::v4(self.v4.from(net)),
@@ -42,8 +43,8 @@ impl RouteTable {
     /// The routes of the network's family that come after it, ascending; the longer ones inside it are among them.
     /// The network needs no route. It takes no memory.
     pub fn after(&self, net: &IpNet) -> Routes<'_>
-        ensures routes { result ≡ routes_after self.now (block net.now) }
-        ensures table { IsTable self.now }
+        ensures routes { result ≡ routes_after (routes_of self.now) (block net.now) }
+        ensures table { IsTable (routes_of self.now) }
     {
         match cleared(net) {
             IpNet::V4(net) => Routes::v4(self.v4.after(net)),

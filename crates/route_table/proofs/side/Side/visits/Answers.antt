@@ -13,8 +13,8 @@ get_lpm_visits-requires g c = g.met.P.OfFamily.always_fits c.args.net
 pub returns-clause-visits : goal.returns-clause-visits
 returns-clause-visits g c =
     c.get_lpm_visits.ensures.tidy c.self.invariant.1
-    ∙ ap (visit_count c.self.inside.hops.entries) (g.met.P.OfFamily.bits_are c.args.net)
-    ∙ ap (λ m. visit_count m (bit_string (block_of g.P.OfFamily.family (g.P.OfFamily.parts c.args.net)))) (sym (map_is _ c.self.inside.hops.entries c.self.invariant.0) ∙ ap (map_of g.P.OfFamily.family) c.self.view_is)
+    ∙ ap (visit_count c.self.inside.networks.entries) (g.met.P.OfFamily.bits_are c.args.net)
+    ∙ ap (λ m. visit_count m (bit_string (block_of g.P.OfFamily.family (g.P.OfFamily.parts c.args.net)))) (sym (map_is _ c.self.inside.networks.entries c.self.invariant.0) ∙ ap (map_of g.P.OfFamily.family) c.self.view_is)
 
 pub returns-clause-bound : goal.returns-clause-bound
 returns-clause-bound g c =

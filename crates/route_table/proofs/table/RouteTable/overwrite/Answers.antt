@@ -1,9 +1,12 @@
-use Rattle.std.proofs.Common.{◌∙◌, sym, ap, arith, subst}
+use Rattle.std.proofs.Common.{◌∙◌, [], ◌∷◌, sym, ap, arith, subst}
 use Rattle.std.specs.Prelude.{Result, Ok, Err, OnErr}
 use Rattle.ipnet_blocks.specs.Blocks.{Block, IsBlock}
-use Rattle.route_table.specs.Overwritten.{overwritten}
-use Rattle.route_table.specs.Tables.{hop_at, is_stored, route_of}
-use Rattle.route_table.proofs.Overwritten.{over_host, over_hops, halves_overwritten}
+use Rattle.ipnet.specs.IpNets.{block}
+use Rattle.route_table.specs.Choices.{default_preference}
+use Rattle.route_table.specs.Networks.{Stored, choices_at, overwritten_by, routes_of}
+use Rattle.route_table.specs.Tables.{hop_at, route_of}
+use Rattle.route_table.proofs.Networks.{routes_are_table}
+use Rattle.route_table.proofs.Overwritten.{networks_placed, over_host, over_hops, halves_overwritten, routes_overwritten}
 use Rattle.route_table.proofs.table.RouteTable.overwrite.Goals as goal
 
 always : {T E P : Type 0} (r : Result T E) → P → OnErr r P
@@ -11,26 +14,30 @@ always (Ok x) p = tt
 always (Err e) p = p
 
 pub returns-in_err-store-clause-absent : goal.returns-in_err-store-clause-absent
-returns-in_err-store-clause-absent c = always c.from_residual.result (ap (is_stored c.args.self.now) (sym c.cleared-net.ensures.block) ∙ c.in_err-store.ensures.absent)
+returns-in_err-store-clause-absent c = always c.from_residual.result (ap (choices_at c.args.self.now) (sym c.cleared-net.ensures.block) ∙ c.in_err-store.ensures.absent)
 
-pub returns-then-prefix_len-max_prefix_len-clause-routes : goal.returns-then-prefix_len-max_prefix_len-clause-routes
-returns-then-prefix_len-max_prefix_len-clause-routes c =
-    halves_overwritten _ c.in_ok-store.ensures.tables.0 (route_of c.cleared-net.result c.args.hop) c.cleared-net.ensures.is_block c.in_ok-store.ensures.hop (omega (arith, c.prefix_len.ensures.value, c.max_prefix_len.ensures))
-    c.halves.result.0 c.halves.result.1 c.halves.ensures.lower c.halves.ensures.upper _ _ _ c.in_ok-store.ensures.routes c.remove_inside.ensures.routes c.remove_inside-then-prefix_len-max_prefix_len.ensures.routes
-    ∙ ap (λ (b : Block). overwritten c.args.self.now (record { block = b; hop = c.args.hop })) c.cleared-net.ensures.block
+pub returns-then-prefix_len-max_prefix_len-clause-networks : goal.returns-then-prefix_len-max_prefix_len-clause-networks
+returns-then-prefix_len-max_prefix_len-clause-networks c =
+    let new : Stored = record { block = block c.cleared-net.result; choices = record { hop = c.args.hop; pref = default_preference } ∷ [] } in
+    halves_overwritten Stored.block c.args.self.now (networks_placed c.args.self.now c.in_ok-store.ensures.tables.0) new c.cleared-net.ensures.is_block (omega (arith, c.prefix_len.ensures.value, c.max_prefix_len.ensures))
+    c.halves.result.0 c.halves.result.1 c.halves.ensures.lower c.halves.ensures.upper _ _ _ c.in_ok-store.ensures.networks c.remove_inside.ensures.networks c.remove_inside-then-prefix_len-max_prefix_len.ensures.networks
+    ∙ ap (λ (b : Block). overwritten_by c.args.self.now b (record { hop = c.args.hop; pref = default_preference })) c.cleared-net.ensures.block
 
 pub returns-then-prefix_len-max_prefix_len-clause-hops : goal.returns-then-prefix_len-max_prefix_len-clause-hops
 returns-then-prefix_len-max_prefix_len-clause-hops c x a =
-    ap (λ M. hop_at M x) (returns-then-prefix_len-max_prefix_len-clause-routes c)
-    ∙ over_hops _ c.in_ok-store.ensures.tables.0 (route_of c.args.net c.args.hop) (subst IsBlock c.cleared-net.ensures.block c.cleared-net.ensures.is_block) c.in_ok-store.ensures.hop x a
+    ap (λ T. hop_at (routes_of T) x) (returns-then-prefix_len-max_prefix_len-clause-networks c)
+    ∙ ap (λ M. hop_at M x) (routes_overwritten c.args.self.now (block c.args.net) (record { hop = c.args.hop; pref = default_preference }))
+    ∙ over_hops _ (routes_are_table _ c.in_ok-store.ensures.tables.0) (route_of c.args.net c.args.hop default_preference) (subst IsBlock c.cleared-net.ensures.block c.cleared-net.ensures.is_block) c.in_ok-store.ensures.hop x a
 
-pub returns-else-prefix_len-max_prefix_len-clause-routes : goal.returns-else-prefix_len-max_prefix_len-clause-routes
-returns-else-prefix_len-max_prefix_len-clause-routes c =
-    c.in_ok-store.ensures.routes
-    ∙ over_host _ c.in_ok-store.ensures.tables.0 (route_of c.cleared-net.result c.args.hop) c.cleared-net.ensures.is_block c.in_ok-store.ensures.hop (omega (arith, c.prefix_len.ensures.value, c.max_prefix_len.ensures))
-    ∙ ap (λ (b : Block). overwritten c.args.self.now (record { block = b; hop = c.args.hop })) c.cleared-net.ensures.block
+pub returns-else-prefix_len-max_prefix_len-clause-networks : goal.returns-else-prefix_len-max_prefix_len-clause-networks
+returns-else-prefix_len-max_prefix_len-clause-networks c =
+    let new : Stored = record { block = block c.cleared-net.result; choices = record { hop = c.args.hop; pref = default_preference } ∷ [] } in
+    c.in_ok-store.ensures.networks
+    ∙ over_host Stored.block c.args.self.now (networks_placed c.args.self.now c.in_ok-store.ensures.tables.0) new c.cleared-net.ensures.is_block (omega (arith, c.prefix_len.ensures.value, c.max_prefix_len.ensures))
+    ∙ ap (λ (b : Block). overwritten_by c.args.self.now b (record { hop = c.args.hop; pref = default_preference })) c.cleared-net.ensures.block
 
 pub returns-else-prefix_len-max_prefix_len-clause-hops : goal.returns-else-prefix_len-max_prefix_len-clause-hops
 returns-else-prefix_len-max_prefix_len-clause-hops c x a =
-    ap (λ M. hop_at M x) (returns-else-prefix_len-max_prefix_len-clause-routes c)
-    ∙ over_hops _ c.in_ok-store.ensures.tables.0 (route_of c.args.net c.args.hop) (subst IsBlock c.cleared-net.ensures.block c.cleared-net.ensures.is_block) c.in_ok-store.ensures.hop x a
+    ap (λ T. hop_at (routes_of T) x) (returns-else-prefix_len-max_prefix_len-clause-networks c)
+    ∙ ap (λ M. hop_at M x) (routes_overwritten c.args.self.now (block c.args.net) (record { hop = c.args.hop; pref = default_preference }))
+    ∙ over_hops _ (routes_are_table _ c.in_ok-store.ensures.tables.0) (route_of c.args.net c.args.hop default_preference) (subst IsBlock c.cleared-net.ensures.block c.cleared-net.ensures.is_block) c.in_ok-store.ensures.hop x a

@@ -1,0 +1,84 @@
+-- Lists of things at blocks, ascending by these: one put in the place of any other of its block, or taken out.
+use Rattle.std.proofs.Common.{◌≡◌, ◌⊎◌, inl, inr, ⊎_elim, Bool, true, false, not, List, [], ◌∷◌, ◌++◌, filter, sym, refl, ap, ◌∙◌, subst}
+use Rattle.ipnet_addr.proofs.Members.{In, In-left, In-right, In-cases}
+use Rattle.ipnet_addr.proofs.Ascending.{Rising}
+use Rattle.ipnet_blocks.specs.Blocks.{Block, IsBefore, is_before, same_block}
+use Rattle.ipnet_blocks.proofs.BlockLaws.{strict, total, transitive}
+use Rattle.ipnet_blocks.proofs.BlockTests.{before_from_test, test_from_before, same_from_test, test_from_same}
+use Rattle.route_table.proofs.Kept.{Rising-kept, Rising-joined}
+use Rattle.route_table.proofs.Matches.{In-from_filter, In-filter}
+
+pub before_apart : (a b : Block) → IsBefore a b → a ≡ b → ⊥
+before_apart a b l q = strict b b (subst (λ (c : Block). IsBefore c b) q l) (subst (λ (c : Block). IsBefore c b) q l)
+
+pub same_or_not : (a b : Block) → (a ≡ b) ⊎ (a ≡ b → ⊥)
+same_or_not a b = ⊎_elim (λ l. inr (λ e. before_apart a b l e)) (λ r. ⊎_elim (λ e. inl e) (λ l. inr (λ e. before_apart b a l (sym e))) r) (total a b)
+
+module _ {X : Type 0} (at : X → Block) where
+  abbrev pub Earlier : X → X → Type 0
+  Earlier x y = IsBefore (at x) (at y)
+
+  abbrev pub before : X → X → Bool
+  before x y = is_before (at y) (at x)
+
+  abbrev pub behind : X → X → Bool
+  behind x y = is_before (at x) (at y)
+
+  abbrev pub put : List X → X → List X
+  put M x = filter (before x) M ++ x ∷ filter (behind x) M
+
+  abbrev pub without : List X → Block → List X
+  without M b = filter (λ y. not (same_block (at y) b)) M
+
+  module _ (M : List X) (x : X) where
+    pub put_back : (y : X) → In y (put M x) → (y ≡ x) ⊎ (In y M × (at y ≡ at x → ⊥))
+    put_back y i =
+        ⊎_elim
+        (λ j. let t = In-from_filter (before x) M y j in inr (t.0, λ e. before_apart (at y) (at x) (before_from_test (at y) (at x) t.1) e))
+        (λ j. ⊎_elim (λ e. inl e)
+        (λ k. let t = In-from_filter (behind x) M y k in inr (t.0, λ e. before_apart (at x) (at y) (before_from_test (at x) (at y) t.1) (sym e))) j)
+        (In-cases y (filter (before x) M) (x ∷ filter (behind x) M) i)
+
+    pub put_itself : In x (put M x)
+    put_itself = In-right x (filter (before x) M) (x ∷ filter (behind x) M) (inl refl)
+
+    pub put_other : (y : X) → In y M → (at y ≡ at x → ⊥) → In y (put M x)
+    put_other y i apart =
+        ⊎_elim
+        (λ l. In-left y (filter (before x) M) (x ∷ filter (behind x) M) (In-filter (before x) M y i (test_from_before (at y) (at x) l)))
+        (λ e. ⊎_elim (λ q. absurd (apart q))
+        (λ l. In-right y (filter (before x) M) (x ∷ filter (behind x) M) (inr (In-filter (behind x) M y i (test_from_before (at x) (at y) l)))) e)
+        (total (at y) (at x))
+
+    pub put_rises : Rising Earlier M → Rising Earlier (put M x)
+    put_rises up = Rising-joined Earlier (filter (before x) M) (x ∷ filter (behind x) M)
+        (Rising-kept Earlier (before x) M up)
+        ((λ y i. before_from_test (at x) (at y) (In-from_filter (behind x) M y i).1), Rising-kept Earlier (behind x) M up)
+        (λ y z i j.
+        let l = before_from_test (at y) (at x) (In-from_filter (before x) M y i).1 in
+        ⊎_elim (λ e. subst (λ (t : X). Earlier y t) (sym e) l)
+        (λ k. transitive (at y) (at x) (at z) l (before_from_test (at x) (at z) (In-from_filter (behind x) M z k).1)) j)
+
+  module _ (M : List X) (b : Block) where
+    pub gone_back : (y : X) → In y (without M b) → In y M × (at y ≡ b → ⊥)
+    gone_back y i =
+        let t = In-from_filter (λ y. not (same_block (at y) b)) M y i in
+        (t.0, λ e. let f = test_from_same (at y) b e in let g = ap not f in let u = t.1 in cc)
+
+    pub gone_other : (y : X) → In y M → (at y ≡ b → ⊥) → In y (without M b)
+    gone_other y i apart = In-filter (λ y. not (same_block (at y) b)) M y i (go (same_block (at y) b) refl)
+      where
+        go : (c : Bool) → same_block (at y) b ≡ c → not (same_block (at y) b) ≡ true
+        go true e = absurd (apart (same_from_test (at y) b e))
+        go false e = ap not e
+
+    pub gone_rises : Rising Earlier M → Rising Earlier (without M b)
+    gone_rises up = Rising-kept Earlier (λ y. not (same_block (at y) b)) M up
+
+  -- two members of one block are one
+  pub one_of_block : (M : List X) → Rising Earlier M → (x y : X) → In x M → In y M → at x ≡ at y → x ≡ y
+  one_of_block [] r x y i j e = absurd i
+  one_of_block (z ∷ M) r x y (inl p) (inl q) e = p ∙ sym q
+  one_of_block (z ∷ M) r x y (inl p) (inr j) e = absurd (before_apart (at z) (at y) (r.0 y j) (ap at (sym p) ∙ e))
+  one_of_block (z ∷ M) r x y (inr i) (inl q) e = absurd (before_apart (at z) (at x) (r.0 x i) (ap at (sym q) ∙ sym e))
+  one_of_block (z ∷ M) r x y (inr i) (inr j) e = one_of_block M r.1 x y i j e

@@ -1,0 +1,26 @@
+use Rattle.std.proofs.Common.{◌∙◌, ◌++◌, sym, ap, subst}
+use Rattle.ipnet_addr.specs.Addresses.{Ipv4, Ipv6}
+use Rattle.ipnet_blocks.specs.Networks.{block_of}
+use Rattle.ipnet.specs.IpNets.{block}
+use Rattle.route_table.specs.Choices.{holds_hop}
+use Rattle.route_table.specs.Networks.{IsStoredTable, choices_at, without_choice}
+use Rattle.route_table.proofs.Sides.{is_stored_table, choices_side, without_choice_side}
+use Rattle.route_table.proofs.table.RouteTable.remove_choice.Goals as goal
+
+pub returns-in-V4-clause-held : goal.returns-in-V4-clause-held
+returns-in-V4-clause-held c = c.remove.ensures.held ∙ ap (λ cs. holds_hop cs c.args.hop) (sym (choices_side _ _ c.self.invariant (block_of Ipv4 c.in-V4.net)) ∙ (λ i. choices_at (c.self.view_is i) (block (sym c.in-V4.is i))))
+
+pub returns-in-V4-clause-networks : goal.returns-in-V4-clause-networks
+returns-in-V4-clause-networks c = ap (λ x. x ++ c.self.inside.v6) c.remove.ensures.networks ∙ sym (without_choice_side _ _ c.self.invariant (block_of Ipv4 c.in-V4.net) c.args.hop) ∙ (λ i. without_choice (c.self.view_is i) (block (sym c.in-V4.is i)) c.args.hop)
+
+pub returns-in-V4-clause-tables : goal.returns-in-V4-clause-tables
+returns-in-V4-clause-tables c = (subst IsStoredTable c.self.view_is (is_stored_table _ _ c.self.invariant), is_stored_table _ _ (c.remove.ensures.side, c.self.invariant.1))
+
+pub returns-in-V6-clause-held : goal.returns-in-V6-clause-held
+returns-in-V6-clause-held c = c.remove-in-V6.ensures.held ∙ ap (λ cs. holds_hop cs c.args.hop) (sym (choices_side _ _ c.self.invariant (block_of Ipv6 c.in-V6.net)) ∙ (λ i. choices_at (c.self.view_is i) (block (sym c.in-V6.is i))))
+
+pub returns-in-V6-clause-networks : goal.returns-in-V6-clause-networks
+returns-in-V6-clause-networks c = ap (λ x. c.self.inside.v4 ++ x) c.remove-in-V6.ensures.networks ∙ sym (without_choice_side _ _ c.self.invariant (block_of Ipv6 c.in-V6.net) c.args.hop) ∙ (λ i. without_choice (c.self.view_is i) (block (sym c.in-V6.is i)) c.args.hop)
+
+pub returns-in-V6-clause-tables : goal.returns-in-V6-clause-tables
+returns-in-V6-clause-tables c = (subst IsStoredTable c.self.view_is (is_stored_table _ _ c.self.invariant), is_stored_table _ _ (c.self.invariant.0, c.remove-in-V6.ensures.side))
