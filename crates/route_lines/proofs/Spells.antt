@@ -16,7 +16,8 @@ use Rattle.route_table.specs.declared.hop.Hop.TheVariants.{Number, Drop}
 use Rattle.route_lines.specs.InnerFree as Free
 use Rattle.route_lines.specs.Phrase.{IsUnspaced, IsDecimal, Then, After}
 use Rattle.route_lines.specs.InnerPhrase.{Gives, IsFree}
-use Rattle.route_lines.specs.Words.{IsNet, IsHop, IsNumber, IsLimit, IsCount, IsPreference, IsPreferred, default_preference}
+use Rattle.route_lines.specs.Words.{IsNet, IsHop, IsNumber, IsLimit, IsCount, IsPreference, IsPreferred}
+use Rattle.route_table.specs.Choices.{default_preference}
 use Rattle.route_lines.specs.Texts.{IsCommand, IsReply, closing_text}
 use Rattle.route_lines.specs.Spelled.{split, net_of_text, number_of_text, hop_of_text, preferred_of_text, of_word, of_both, after_prefix, or_else, command_of, closing_of_text, reply_of}
 use Rattle.route_lines.specs.declared.command.Command.TheVariants as C

@@ -4,6 +4,7 @@ use Rattle.ipnet.specs.IpNetText.{Reads}
 use Rattle.ipnet.specs.IpNets.{block, network_at}
 use Rattle.ipnet.specs.declared.ip_net.IpNet.{IpNet}
 use Rattle.route_lines.specs.Phrase.{IsDecimal, Then}
+use Rattle.route_table.specs.Choices.{default_preference}
 use Rattle.route_table.specs.declared.hop.Hop.{Hop}
 use Rattle.route_table.specs.declared.hop.Hop.TheVariants.{Number, Drop}
 
@@ -32,10 +33,6 @@ IsHop text Drop = text ≡ codes "drop"
 abbrev pub IsPreference : List ℕ → ℕ → Type 0
 IsPreference = IsDecimal 0 0xffff
 
--- the preference of a hop that stands alone
-abbrev pub default_preference : ℕ
-default_preference = 100
-
--- a hop and a preference with one space between them, or a hop alone
+-- a hop and a preference with one space between them, or a hop alone, which has the default preference
 abbrev pub IsPreferred : List ℕ → Hop × ℕ → Type 0
 IsPreferred text x = Then IsHop IsPreference text x ⊎ (IsHop text x.0 × (x.1 ≡ default_preference))

@@ -8,7 +8,7 @@ ghost use Rattle.std.proofs.Common.{rules};
 
 use ipnet::IpNet;
 use itoa::Buffer;
-use route_table::Hop;
+use route_table::{DEFAULT_PREFERENCE, Hop};
 use std::marker::Model;
 use std::str;
 
@@ -149,9 +149,6 @@ impl<A: Word, B: Phrase> Phrase for (A, B) {
         Some((first, second))
     }
 }
-
-// The preference of a hop that stands alone.
-const DEFAULT_PREFERENCE: u16 = 100;
 
 // A hop and a preference, or a hop alone.
 #[derive(Clone, Copy)]

@@ -1,6 +1,7 @@
 //! Route tables: a hop for each of some networks, the longest match, and which addresses a change concerns.
 #![tactic(auto)]
 
+pub use choice::DEFAULT_PREFERENCE;
 pub use choices::All;
 pub use flat::Flat;
 pub use governed::Governed;
