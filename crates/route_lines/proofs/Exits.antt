@@ -1,8 +1,9 @@
 -- Where no reader of a case takes a line, it is none of the grammar.
-use Rattle.std.proofs.Common.{◌≢◌, ℕ, List, codes}
+use Rattle.std.proofs.Common.{◌≢◌, ℕ, inl, inr, List, codes}
 use Rattle.route_lines.specs.Phrase.{Then, After}
-use Rattle.route_lines.specs.Words.{IsNet, IsNumber, IsLimit, IsCount, IsHop}
+use Rattle.route_lines.specs.Words.{IsNet, IsNumber, IsLimit, IsCount, IsHop, IsPreference, IsPreferred}
 use Rattle.route_lines.specs.Texts.{IsCommand, IsReply, closing_text}
+use Rattle.route_table.specs.declared.hop.Hop.{Hop}
 use Rattle.route_lines.specs.declared.command.Command.{Command}
 use Rattle.route_lines.specs.declared.command.Command.TheVariants as C
 use Rattle.route_lines.specs.declared.reply.Closing.{Closing}
@@ -14,28 +15,34 @@ use Rattle.route_lines.specs.declared.reply.Reply.TheVariants as R
 abbrev No : {A : Type 0} → (List ℕ → A → Type 0) → List ℕ → List ℕ → Type 0
 No {A} P word line = (x : A) → ¬ (After word P line x)
 
+pub no_preferred : (text : List ℕ) → ((x : Hop × ℕ) → ¬ (Then IsHop IsPreference text x)) → ((h : Hop) → ¬ (IsHop text h)) → (x : Hop × ℕ) → ¬ (IsPreferred text x)
+no_preferred text two alone x (inl h) = two x h
+no_preferred text two alone x (inr h) = alone x.0 h.0
+
 pub no_command : (line : List ℕ)
-    → No (Then IsNet IsHop) (codes "add ") line
-    → No IsNet (codes "del ") line
+    → No (Then IsNet IsPreferred) (codes "add ") line
+    → No (Then IsNet IsHop) (codes "del ") line
     → No IsNet (codes "get ") line
     → No IsNet (codes "cover ") line
     → No IsNet (codes "list ") line
+    → No IsNet (codes "all ") line
     → No (Then IsNet IsLimit) (codes "from ") line
     → No (Then IsNet IsLimit) (codes "after ") line
     → No IsNumber (codes "own ") line
     → line ≢ codes "count"
     → line ≢ codes "flat"
     → (c : Command) → ¬ (IsCommand line c)
-no_command line add del get cover list from after own count flat (C.Add net hop) h = add (net, hop) h
-no_command line add del get cover list from after own count flat (C.Del net) h = del net h
-no_command line add del get cover list from after own count flat (C.Get net) h = get net h
-no_command line add del get cover list from after own count flat (C.Cover net) h = cover net h
-no_command line add del get cover list from after own count flat (C.List net) h = list net h
-no_command line add del get cover list from after own count flat (C.PageFrom net limit) h = from (net, limit) h
-no_command line add del get cover list from after own count flat (C.PageAfter net limit) h = after (net, limit) h
-no_command line add del get cover list from after own count flat (C.Own n) h = own n h
-no_command line add del get cover list from after own count flat C.Count h = count h
-no_command line add del get cover list from after own count flat C.Flat h = flat h
+no_command line add del get cover list all from after own count flat (C.Add net hop pref) h = add (net, (hop, pref)) h
+no_command line add del get cover list all from after own count flat (C.Del net hop) h = del (net, hop) h
+no_command line add del get cover list all from after own count flat (C.Get net) h = get net h
+no_command line add del get cover list all from after own count flat (C.Cover net) h = cover net h
+no_command line add del get cover list all from after own count flat (C.List net) h = list net h
+no_command line add del get cover list all from after own count flat (C.All net) h = all net h
+no_command line add del get cover list all from after own count flat (C.PageFrom net limit) h = from (net, limit) h
+no_command line add del get cover list all from after own count flat (C.PageAfter net limit) h = after (net, limit) h
+no_command line add del get cover list all from after own count flat (C.Own n) h = own n h
+no_command line add del get cover list all from after own count flat C.Count h = count h
+no_command line add del get cover list all from after own count flat C.Flat h = flat h
 
 pub no_closing : (line : List ℕ) → line ≢ codes "ok" → line ≢ codes "none" → line ≢ codes "bad" → line ≢ codes "refused" → (c : Closing) → line ≢ closing_text c
 no_closing line done missing bad refused Done h = done h
@@ -46,7 +53,7 @@ no_closing line done missing bad refused Refused h = refused h
 pub no_reply : (line : List ℕ)
     → No (Then IsNet IsNumber) (codes "set ") line
     → No IsNet (codes "unset ") line
-    → No (Then IsNet IsHop) (codes "route ") line
+    → No (Then IsNet (Then IsHop IsPreference)) (codes "route ") line
     → No (Then IsNet IsNumber) (codes "flat ") line
     → No IsNet (codes "own ") line
     → No (Then IsCount IsCount) (codes "count ") line
@@ -54,7 +61,7 @@ pub no_reply : (line : List ℕ)
     → (r : Reply) → ¬ (IsReply line r)
 no_reply line set unset route flat own count close (R.Set net n) h = set (net, n) h
 no_reply line set unset route flat own count close (R.Unset net) h = unset net h
-no_reply line set unset route flat own count close (R.Route net hop) h = route (net, hop) h
+no_reply line set unset route flat own count close (R.Route net hop pref) h = route (net, (hop, pref)) h
 no_reply line set unset route flat own count close (R.Flat net n) h = flat (net, n) h
 no_reply line set unset route flat own count close (R.Own net) h = own net h
 no_reply line set unset route flat own count close (R.Count v4 v6) h = count (v4, v6) h

@@ -1,5 +1,5 @@
 -- What the laws ask of each relation of the grammar: one value, a longest text, no line end. Built up word by word.
-use Rattle.std.proofs.Common.{◌≡◌, ◌≢◌, ℕ, ◌+◌, ◌*◌, ◌^◌, ◌<◌, ◌≤◌, true, List, [], ◌∷◌, ◌++◌, length, get_or, All, codes, decimal, refl, sym, ap, ap₂, ◌∙◌, subst, arith, length-append}
+use Rattle.std.proofs.Common.{◌≡◌, ◌≢◌, ℕ, ◌+◌, ◌*◌, ◌^◌, ◌<◌, ◌≤◌, true, List, [], ◌∷◌, ◌++◌, length, get_or, All, codes, decimal, refl, sym, ap, ap₂, ◌∙◌, subst, arith, length-append, inl, inr}
 use Rattle.std.specs.Prelude.{⊤, ltb}
 use Rattle.std.specs.List.{list_all}
 use Rattle.std.proofs.lemmas.Bool.{ltb-true}
@@ -16,10 +16,11 @@ use Rattle.ipnet.proofs.Longest.{longest}
 use Rattle.ipnet.proofs.IpNetworks.{ip_unique}
 use Rattle.route_lines.specs.Phrase.{IsDecimal, Then, After}
 use Rattle.route_lines.specs.InnerPhrase.{IsFree}
-use Rattle.route_lines.specs.Words.{IsNet, IsNumber, IsHop}
+use Rattle.route_lines.specs.Words.{IsNet, IsNumber, IsHop, IsPreference, IsPreferred}
 use Rattle.route_table.specs.declared.hop.Hop.{Hop}
 use Rattle.route_table.specs.declared.hop.Hop.TheVariants.{Number, Drop}
-use Rattle.route_lines.proofs.Words.{same_word, split_at}
+use Rattle.route_lines.specs.InnerFree as Free
+use Rattle.route_lines.proofs.Words.{same_word, split_at, not_two}
 
 pub record Good {A : Type 0} (Spells : List ℕ → A → Type 0) (limit : ℕ) : Type 0 where
   pub one : (text : List ℕ) (a b : A) → Spells text a → Spells text b → a ≡ b
@@ -91,6 +92,26 @@ then {A} {B} {P} {Q} {m} {n} free p q = record {
   short = λ t x h. omega (arith, ap length h.spelled, length-append (h.front ++ codes " ") h.back, length-append h.front (codes " "), p.short h.front x.0 h.first, q.short h.back x.1 h.second);
   clean = λ t x h. rw h.spelled (and (h.front ++ codes " ") h.back (and h.front (codes " ") (p.clean h.front x.0 h.first) (written (codes " ") refl)) (q.clean h.back x.1 h.second));
 }
+
+pub both : Good (Then IsHop IsPreference) 16
+both = then Free.hop hop (number 0 0xffff 5 (omega arith) (omega arith) (omega arith))
+
+one_preferred : (text : List ℕ) (x y : Hop × ℕ) → IsPreferred text x → IsPreferred text y → x ≡ y
+one_preferred text x y (inl h) (inl k) = both.one text x y h k
+one_preferred text x y (inl h) (inr k) = absurd (not_two text x (Free.hop text y.0 k.0) h)
+one_preferred text x y (inr h) (inl k) = absurd (not_two text y (Free.hop text x.0 h.0) k)
+one_preferred text x y (inr h) (inr k) = ap₂ (λ a b. (a, b)) (hop.one text x.0 y.0 h.0 k.0) (h.1 ∙ sym k.1)
+
+short_preferred : (text : List ℕ) (x : Hop × ℕ) → IsPreferred text x → length text ≤ 16
+short_preferred text x (inl h) = both.short text x h
+short_preferred text x (inr h) = (let alone = hop.short text x.0 h.0 in omega arith)
+
+clean_preferred : (text : List ℕ) (x : Hop × ℕ) → IsPreferred text x → All (λ c. c ≢ 10) text
+clean_preferred text x (inl h) = both.clean text x h
+clean_preferred text x (inr h) = hop.clean text x.0 h.0
+
+pub preferred : Good IsPreferred 16
+preferred = record { one = one_preferred; short = short_preferred; clean = clean_preferred }
 
 pub after : {A : Type 0} {P : List ℕ → A → Type 0} {n : ℕ} (prefix : List ℕ) (limit : ℕ) → list_all (ltb 10) prefix ≡ true → length prefix + n ≤ limit → Good P n → Good (After prefix P) limit
 after {A} {P} {n} prefix limit e within p = record {

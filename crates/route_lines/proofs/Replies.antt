@@ -3,7 +3,7 @@ use Rattle.std.proofs.Common.{◌≡◌, ◌≢◌, ℕ, ◌≤◌, List, length
 use Rattle.std.specs.Prelude.{⊤}
 use Rattle.ipnet.specs.declared.ip_net.IpNet.{IpNet}
 use Rattle.route_lines.specs.Phrase.{Then, After}
-use Rattle.route_lines.specs.Words.{IsNet, IsNumber, IsCount, IsHop}
+use Rattle.route_lines.specs.Words.{IsNet, IsNumber, IsCount, IsHop, IsPreference}
 use Rattle.route_lines.specs.Texts.{IsReply}
 use Rattle.route_lines.specs.InnerFree as Free
 use Rattle.route_lines.proofs.Good.{Good, start, one_line}
@@ -28,7 +28,7 @@ data Kind : Type 0 where
 abbrev Value : Kind → Type 0
 Value set = IpNet × ℕ
 Value unset = IpNet
-Value route = IpNet × Hop
+Value route = IpNet × (Hop × ℕ)
 Value flat = IpNet × ℕ
 Value own = IpNet
 Value count = ℕ × ℕ
@@ -40,7 +40,7 @@ Value refused = ⊤
 abbrev make : (k : Kind) → Value k → Reply
 make set x = R.Set x.0 x.1
 make unset x = R.Unset x
-make route x = R.Route x.0 x.1
+make route x = R.Route x.0 x.1.0 x.1.1
 make flat x = R.Flat x.0 x.1
 make own x = R.Own x
 make count x = R.Count x.0 x.1
@@ -52,7 +52,7 @@ make refused x = R.Close Refused
 abbrev Spells : (k : Kind) → List ℕ → Value k → Type 0
 Spells set text x = After (codes "set ") (Then IsNet IsNumber) text x
 Spells unset text x = After (codes "unset ") IsNet text x
-Spells route text x = After (codes "route ") (Then IsNet IsHop) text x
+Spells route text x = After (codes "route ") (Then IsNet (Then IsHop IsPreference)) text x
 Spells flat text x = After (codes "flat ") (Then IsNet IsNumber) text x
 Spells own text x = After (codes "own ") IsNet text x
 Spells count text x = After (codes "count ") (Then IsCount IsCount) text x
@@ -100,17 +100,17 @@ starts missing text x h = ap start h
 starts bad text x h = ap start h
 starts refused text x h = ap start h
 
-good : (k : Kind) → Good (Spells k) 68
-good set = Good.after (codes "set ") 68 refl (omega arith) (Good.then Free.net Good.net Good.u32)
-good unset = Good.after (codes "unset ") 68 refl (omega arith) Good.net
-good route = Good.after (codes "route ") 68 refl (omega arith) (Good.then Free.net Good.net Good.hop)
-good flat = Good.after (codes "flat ") 68 refl (omega arith) (Good.then Free.net Good.net Good.u32)
-good own = Good.after (codes "own ") 68 refl (omega arith) Good.net
-good count = Good.after (codes "count ") 68 refl (omega arith) (Good.then (Free.decimal_word 0 0xffffffffffffffff (omega arith)) (Good.number 0 0xffffffffffffffff 20 (omega arith) (omega arith) (omega arith)) (Good.number 0 0xffffffffffffffff 20 (omega arith) (omega arith) (omega arith)))
-good done = Good.word (codes "ok") 68 refl (omega arith)
-good missing = Good.word (codes "none") 68 refl (omega arith)
-good bad = Good.word (codes "bad") 68 refl (omega arith)
-good refused = Good.word (codes "refused") 68 refl (omega arith)
+good : (k : Kind) → Good (Spells k) 74
+good set = Good.after (codes "set ") 74 refl (omega arith) (Good.then Free.net Good.net Good.u32)
+good unset = Good.after (codes "unset ") 74 refl (omega arith) Good.net
+good route = Good.after (codes "route ") 74 refl (omega arith) (Good.then Free.net Good.net Good.both)
+good flat = Good.after (codes "flat ") 74 refl (omega arith) (Good.then Free.net Good.net Good.u32)
+good own = Good.after (codes "own ") 74 refl (omega arith) Good.net
+good count = Good.after (codes "count ") 74 refl (omega arith) (Good.then (Free.decimal_word 0 0xffffffffffffffff (omega arith)) (Good.number 0 0xffffffffffffffff 20 (omega arith) (omega arith) (omega arith)) (Good.number 0 0xffffffffffffffff 20 (omega arith) (omega arith) (omega arith)))
+good done = Good.word (codes "ok") 74 refl (omega arith)
+good missing = Good.word (codes "none") 74 refl (omega arith)
+good bad = Good.word (codes "bad") 74 refl (omega arith)
+good refused = Good.word (codes "refused") 74 refl (omega arith)
 
 -- a line as its kind and value
 record Parts (text : List ℕ) (c : Reply) : Type 0 where
@@ -122,7 +122,7 @@ record Parts (text : List ℕ) (c : Reply) : Type 0 where
 parts : (text : List ℕ) (c : Reply) → IsReply text c → Parts text c
 parts text (R.Set net n) h = record { kind = set; value = (net, n); is = refl; spells = h }
 parts text (R.Unset net) h = record { kind = unset; value = net; is = refl; spells = h }
-parts text (R.Route net hop) h = record { kind = route; value = (net, hop); is = refl; spells = h }
+parts text (R.Route net hop pref) h = record { kind = route; value = (net, (hop, pref)); is = refl; spells = h }
 parts text (R.Flat net n) h = record { kind = flat; value = (net, n); is = refl; spells = h }
 parts text (R.Own net) h = record { kind = own; value = net; is = refl; spells = h }
 parts text (R.Count v4 v6) h = record { kind = count; value = (v4, v6); is = refl; spells = h }
@@ -135,9 +135,9 @@ pub one_reply : (text : List ℕ) (a b : Reply) → IsReply text a → IsReply t
 one_reply text a b h k =
     let p = parts text a h in
     let q = parts text b k in
-    sym p.is ∙ one_line Value make Spells 68 code told back starts good text p.kind q.kind p.value q.value p.spells q.spells ∙ q.is
+    sym p.is ∙ one_line Value make Spells 74 code told back starts good text p.kind q.kind p.value q.value p.spells q.spells ∙ q.is
 
-pub short_reply : (text : List ℕ) (a : Reply) → IsReply text a → length text ≤ 68
+pub short_reply : (text : List ℕ) (a : Reply) → IsReply text a → length text ≤ 74
 short_reply text a h = (let p = parts text a h in (good p.kind).short text p.value p.spells)
 
 pub clean_reply : (text : List ℕ) (a : Reply) → IsReply text a → All (λ c. c ≢ 10) text

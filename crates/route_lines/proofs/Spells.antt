@@ -1,5 +1,5 @@
 -- The functions find the line that a text spells.
-use Rattle.std.proofs.Common.{◌≡◌, ◌≢◌, ℕ, ◌^◌, ◌<◌, Bool, true, false, true≢false, cond, ◌&&◌, ◌==◌, nat_le, List, [], ◌∷◌, ◌++◌, length, take, drop, codes, decimal, Option, Some, None, MatchOption, option_map, option_and_then, refl, sym, ap, ◌∙◌, arith, take-append-drop, take_at}
+use Rattle.std.proofs.Common.{◌≡◌, ◌≢◌, ℕ, ◌^◌, ◌<◌, Bool, true, false, true≢false, cond, ◌&&◌, ◌==◌, nat_le, List, [], ◌∷◌, ◌++◌, length, take, drop, codes, decimal, inl, inr, Option, Some, None, MatchOption, option_map, option_and_then, refl, sym, ap, ◌∙◌, arith, take-append-drop, take_at}
 use Rattle.std.specs.Str.{bytes_eq}
 use Rattle.std.specs.Str.Parse.{digits_value}
 use Rattle.std.proofs.lemmas.Bool.{and_parts}
@@ -16,16 +16,16 @@ use Rattle.route_table.specs.declared.hop.Hop.TheVariants.{Number, Drop}
 use Rattle.route_lines.specs.InnerFree as Free
 use Rattle.route_lines.specs.Phrase.{IsUnspaced, IsDecimal, Then, After}
 use Rattle.route_lines.specs.InnerPhrase.{Gives, IsFree}
-use Rattle.route_lines.specs.Words.{IsNet, IsHop, IsNumber, IsLimit, IsCount}
+use Rattle.route_lines.specs.Words.{IsNet, IsHop, IsNumber, IsLimit, IsCount, IsPreference, IsPreferred, default_preference}
 use Rattle.route_lines.specs.Texts.{IsCommand, IsReply, closing_text}
-use Rattle.route_lines.specs.Spelled.{split, net_of_text, number_of_text, hop_of_text, of_word, of_both, after_prefix, or_else, command_of, closing_of_text, reply_of}
+use Rattle.route_lines.specs.Spelled.{split, net_of_text, number_of_text, hop_of_text, preferred_of_text, of_word, of_both, after_prefix, or_else, command_of, closing_of_text, reply_of}
 use Rattle.route_lines.specs.declared.command.Command.TheVariants as C
 use Rattle.route_lines.specs.declared.reply.Closing.{Closing}
 use Rattle.route_lines.specs.declared.reply.Closing.TheVariants.{Done, Missing, Bad, Refused}
 use Rattle.route_lines.specs.declared.reply.Reply.{Reply}
 use Rattle.route_lines.specs.declared.reply.Reply.TheVariants as R
-use Rattle.route_lines.proofs.Words.{no_split, split_at, no_first, no_second, both, gives_after}
-use Rattle.route_lines.proofs.Exits.{no_command, no_closing, no_reply}
+use Rattle.route_lines.proofs.Words.{not_two, no_first, no_second, both, gives_after}
+use Rattle.route_lines.proofs.Exits.{no_preferred, no_command, no_closing, no_reply}
 
 -- ---- words
 
@@ -97,7 +97,7 @@ module _ {A B : Type 0} (P : List ℕ → A → Type 0) (Q : List ℕ → B → 
       first front back e u (Some a) h = second front back a e u h (g back) (q back)
 
       go : (o : Option (List ℕ × List ℕ)) → MatchOption o (IsUnspaced s) (λ r. (s ≡ r.0 ++ 32 ∷ r.1) × IsUnspaced r.0) → Gives (Then P Q) s (option_and_then (λ r. option_and_then (λ a. option_map (λ b. (a, b)) (g r.1)) (f r.0)) o)
-      go None u = λ x h. no_split s h.front h.back u (h.spelled ∙ split_at h.front h.back)
+      go None u = λ x. not_two s x u
       go (Some r) h = first r.0 r.1 h.0 h.1 (f r.0) (p r.0)
 
 gives_prefix : {A : Type 0} (P : List ℕ → A → Type 0) (prefix : List ℕ) (f : List ℕ → Option A) → ((s : List ℕ) → Gives P s (f s)) → (s : List ℕ) → Gives (After prefix P) s (after_prefix prefix f s)
@@ -137,22 +137,34 @@ last_word IsLine word x s is none = go (bytes_eq s word) refl
 gives_net_number : (low high : ℕ) → high < 2 ^ 64 → (s : List ℕ) → Gives (Then IsNet (IsDecimal low high)) s (of_both net_of_text (number_of_text low high) s)
 gives_net_number low high bound = gives_both IsNet (IsDecimal low high) net_of_text (number_of_text low high) Free.net gives_net (gives_number low high bound)
 
-gives_net_hop : (s : List ℕ) → Gives (Then IsNet IsHop) s (of_both net_of_text hop_of_text s)
-gives_net_hop = gives_both IsNet IsHop net_of_text hop_of_text Free.net gives_net gives_hop
+gives_net_and : {B : Type 0} (Q : List ℕ → B → Type 0) (g : List ℕ → Option B) → ((s : List ℕ) → Gives Q s (g s)) → (s : List ℕ) → Gives (Then IsNet Q) s (of_both net_of_text g s)
+gives_net_and Q g q = gives_both IsNet Q net_of_text g Free.net gives_net q
+
+gives_both_words : (s : List ℕ) → Gives (Then IsHop IsPreference) s (of_both hop_of_text (number_of_text 0 0xffff) s)
+gives_both_words = gives_both IsHop IsPreference hop_of_text (number_of_text 0 0xffff) Free.hop gives_hop (gives_number 0 0xffff (omega arith))
+
+gives_preferred : (s : List ℕ) → Gives IsPreferred s (preferred_of_text s)
+gives_preferred s = go (of_both hop_of_text (number_of_text 0 0xffff) s) (gives_both_words s) (hop_of_text s) (gives_hop s)
+  where
+    go : (p : Option (Hop × ℕ)) → Gives (Then IsHop IsPreference) s p → (o : Option Hop) → Gives IsHop s o → Gives IsPreferred s (or_else p (option_map (λ hop. (hop, default_preference)) o))
+    go (Some x) h o k = inl h
+    go None h None k = no_preferred s h k
+    go None h (Some hop) k = inr (k, refl)
 
 pub command_found : (s : List ℕ) → Gives IsCommand s (command_of s)
 unfolding command_of
 command_found s =
-    or_kind (After (codes "add ") (Then IsNet IsHop)) IsCommand (λ x. C.Add x.0 x.1) s _ _ (λ x h. h) (gives_prefix (Then IsNet IsHop) (codes "add ") (of_both net_of_text hop_of_text) gives_net_hop s) (λ add.
-    or_kind (After (codes "del ") IsNet) IsCommand C.Del s _ _ (λ x h. h) (gives_prefix IsNet (codes "del ") net_of_text gives_net s) (λ del.
+    or_kind (After (codes "add ") (Then IsNet IsPreferred)) IsCommand (λ x. C.Add x.0 x.1.0 x.1.1) s _ _ (λ x h. h) (gives_prefix (Then IsNet IsPreferred) (codes "add ") (of_both net_of_text preferred_of_text) (gives_net_and IsPreferred preferred_of_text gives_preferred) s) (λ add.
+    or_kind (After (codes "del ") (Then IsNet IsHop)) IsCommand (λ x. C.Del x.0 x.1) s _ _ (λ x h. h) (gives_prefix (Then IsNet IsHop) (codes "del ") (of_both net_of_text hop_of_text) (gives_net_and IsHop hop_of_text gives_hop) s) (λ del.
     or_kind (After (codes "get ") IsNet) IsCommand C.Get s _ _ (λ x h. h) (gives_prefix IsNet (codes "get ") net_of_text gives_net s) (λ get.
     or_kind (After (codes "cover ") IsNet) IsCommand C.Cover s _ _ (λ x h. h) (gives_prefix IsNet (codes "cover ") net_of_text gives_net s) (λ cover.
     or_kind (After (codes "list ") IsNet) IsCommand C.List s _ _ (λ x h. h) (gives_prefix IsNet (codes "list ") net_of_text gives_net s) (λ list.
+    or_kind (After (codes "all ") IsNet) IsCommand C.All s _ _ (λ x h. h) (gives_prefix IsNet (codes "all ") net_of_text gives_net s) (λ all.
     or_kind (After (codes "from ") (Then IsNet IsLimit)) IsCommand (λ x. C.PageFrom x.0 x.1) s _ _ (λ x h. h) (gives_prefix (Then IsNet IsLimit) (codes "from ") (of_both net_of_text (number_of_text 1 1000)) (gives_net_number 1 1000 (omega arith)) s) (λ from.
     or_kind (After (codes "after ") (Then IsNet IsLimit)) IsCommand (λ x. C.PageAfter x.0 x.1) s _ _ (λ x h. h) (gives_prefix (Then IsNet IsLimit) (codes "after ") (of_both net_of_text (number_of_text 1 1000)) (gives_net_number 1 1000 (omega arith)) s) (λ after.
     or_kind (After (codes "own ") IsNumber) IsCommand C.Own s _ _ (λ x h. h) (gives_prefix IsNumber (codes "own ") (number_of_text 0 0xffffffff) (gives_number 0 0xffffffff (omega arith)) s) (λ own.
     or_word IsCommand (codes "count") C.Count s _ (λ h. h) (λ count.
-    last_word IsCommand (codes "flat") C.Flat s (λ h. h) (λ flat. no_command s add del get cover list from after own count flat))))))))))
+    last_word IsCommand (codes "flat") C.Flat s (λ h. h) (λ flat. no_command s add del get cover list all from after own count flat)))))))))))
 
 closing_found : (s : List ℕ) → Gives (λ text c. text ≡ closing_text c) s (closing_of_text s)
 closing_found s =
@@ -170,7 +182,8 @@ unfolding reply_of
 reply_found s =
     or_kind (After (codes "set ") (Then IsNet IsNumber)) IsReply (λ x. R.Set x.0 x.1) s _ _ (λ x h. h) (gives_prefix (Then IsNet IsNumber) (codes "set ") (of_both net_of_text (number_of_text 0 0xffffffff)) (gives_net_number 0 0xffffffff (omega arith)) s) (λ set.
     or_kind (After (codes "unset ") IsNet) IsReply R.Unset s _ _ (λ x h. h) (gives_prefix IsNet (codes "unset ") net_of_text gives_net s) (λ unset.
-    or_kind (After (codes "route ") (Then IsNet IsHop)) IsReply (λ x. R.Route x.0 x.1) s _ _ (λ x h. h) (gives_prefix (Then IsNet IsHop) (codes "route ") (of_both net_of_text hop_of_text) gives_net_hop s) (λ route.
+    or_kind (After (codes "route ") (Then IsNet (Then IsHop IsPreference))) IsReply (λ x. R.Route x.0 x.1.0 x.1.1) s _ _ (λ x h. h)
+    (gives_prefix (Then IsNet (Then IsHop IsPreference)) (codes "route ") (of_both net_of_text (of_both hop_of_text (number_of_text 0 0xffff))) (gives_net_and (Then IsHop IsPreference) (of_both hop_of_text (number_of_text 0 0xffff)) gives_both_words) s) (λ route.
     or_kind (After (codes "flat ") (Then IsNet IsNumber)) IsReply (λ x. R.Flat x.0 x.1) s _ _ (λ x h. h) (gives_prefix (Then IsNet IsNumber) (codes "flat ") (of_both net_of_text (number_of_text 0 0xffffffff)) (gives_net_number 0 0xffffffff (omega arith)) s) (λ flat.
     or_kind (After (codes "own ") IsNet) IsReply R.Own s _ _ (λ x h. h) (gives_prefix IsNet (codes "own ") net_of_text gives_net s) (λ own.
     or_kind (After (codes "count ") (Then IsCount IsCount)) IsReply (λ x. R.Count x.0 x.1) s _ _ (λ x h. h)

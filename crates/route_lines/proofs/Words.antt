@@ -44,6 +44,10 @@ no_split (d ∷ s) (c ∷ a) x h e = no_split s a x (All-tail (λ c. c ≢ 32) d
 pub split_at : (front back : List ℕ) → front ++ codes " " ++ back ≡ front ++ 32 ∷ back
 split_at front back = append_assoc front (32 ∷ []) back
 
+-- a text without a space is not two words
+pub not_two : {A B : Type 0} {P : List ℕ → A → Type 0} {Q : List ℕ → B → Type 0} (s : List ℕ) (x : A × B) → IsUnspaced s → ¬ (Then P Q s x)
+not_two s x free h = no_split s h.front h.back free (h.spelled ∙ split_at h.front h.back)
+
 words_are : {A B : Type 0} {P : List ℕ → A → Type 0} {Q : List ℕ → B → Type 0} (s front back : List ℕ) (x : A × B) → IsFree P → s ≡ front ++ 32 ∷ back → IsUnspaced front → (h : Then P Q s x) → (h.front ≡ front) × (h.back ≡ back)
 words_are s front back x words e free h = same_word h.front front h.back back (words h.front x.0 h.first) free (sym (h.spelled ∙ split_at h.front h.back) ∙ e)
 

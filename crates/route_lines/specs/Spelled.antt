@@ -7,6 +7,7 @@ use Rattle.ipnet.specs.IpNetText.{ip_net_of}
 use Rattle.ipnet.specs.declared.ip_net.IpNet.{IpNet}
 use Rattle.route_table.specs.declared.hop.Hop.{Hop}
 use Rattle.route_table.specs.declared.hop.Hop.TheVariants.{Number, Drop}
+use Rattle.route_lines.specs.Words.{default_preference}
 use Rattle.route_lines.specs.declared.command.Command.{Command}
 use Rattle.route_lines.specs.declared.command.Command.TheVariants as C
 use Rattle.route_lines.specs.declared.reply.Closing.{Closing}
@@ -47,19 +48,24 @@ abbrev pub or_else : {A : Type 0} → Option A → Option A → Option A
 or_else (Some a) o = Some a
 or_else None o = o
 
+-- a hop and a preference, or else a hop alone
+abbrev pub preferred_of_text : List ℕ → Option (Hop × ℕ)
+preferred_of_text s = or_else (of_both hop_of_text (number_of_text 0 0xffff) s) (option_map (λ hop. (hop, default_preference)) (hop_of_text s))
+
 -- the command
 unfoldable pub command_of : List ℕ → Option Command
 command_of s =
-    or_else (option_map (λ x. C.Add x.0 x.1) (after_prefix (codes "add ") (of_both net_of_text hop_of_text) s))
-    (or_else (option_map C.Del (after_prefix (codes "del ") net_of_text s))
+    or_else (option_map (λ x. C.Add x.0 x.1.0 x.1.1) (after_prefix (codes "add ") (of_both net_of_text preferred_of_text) s))
+    (or_else (option_map (λ x. C.Del x.0 x.1) (after_prefix (codes "del ") (of_both net_of_text hop_of_text) s))
     (or_else (option_map C.Get (after_prefix (codes "get ") net_of_text s))
     (or_else (option_map C.Cover (after_prefix (codes "cover ") net_of_text s))
     (or_else (option_map C.List (after_prefix (codes "list ") net_of_text s))
+    (or_else (option_map C.All (after_prefix (codes "all ") net_of_text s))
     (or_else (option_map (λ x. C.PageFrom x.0 x.1) (after_prefix (codes "from ") (of_both net_of_text (number_of_text 1 1000)) s))
     (or_else (option_map (λ x. C.PageAfter x.0 x.1) (after_prefix (codes "after ") (of_both net_of_text (number_of_text 1 1000)) s))
     (or_else (option_map C.Own (after_prefix (codes "own ") (number_of_text 0 0xffffffff) s))
     (or_else (of_word (codes "count") C.Count s)
-    (of_word (codes "flat") C.Flat s)))))))))
+    (of_word (codes "flat") C.Flat s))))))))))
 
 -- the line that closes a reply
 abbrev pub closing_of_text : List ℕ → Option Closing
@@ -70,7 +76,7 @@ unfoldable pub reply_of : List ℕ → Option Reply
 reply_of s =
     or_else (option_map (λ x. R.Set x.0 x.1) (after_prefix (codes "set ") (of_both net_of_text (number_of_text 0 0xffffffff)) s))
     (or_else (option_map R.Unset (after_prefix (codes "unset ") net_of_text s))
-    (or_else (option_map (λ x. R.Route x.0 x.1) (after_prefix (codes "route ") (of_both net_of_text hop_of_text) s))
+    (or_else (option_map (λ x. R.Route x.0 x.1.0 x.1.1) (after_prefix (codes "route ") (of_both net_of_text (of_both hop_of_text (number_of_text 0 0xffff))) s))
     (or_else (option_map (λ x. R.Flat x.0 x.1) (after_prefix (codes "flat ") (of_both net_of_text (number_of_text 0 0xffffffff)) s))
     (or_else (option_map R.Own (after_prefix (codes "own ") net_of_text s))
     (or_else (option_map (λ x. R.Count x.0 x.1) (after_prefix (codes "count ") (of_both (number_of_text 0 0xffffffffffffffff) (number_of_text 0 0xffffffffffffffff)) s))

@@ -3,7 +3,7 @@ use Rattle.std.specs.Prelude.{◌≡◌, ℕ, List, ◌++◌, codes, decimal, �
 use Rattle.ipnet.specs.IpNetText.{net_text}
 use Rattle.ipnet.specs.IpNets.{block, network_at}
 use Rattle.route_lines.specs.Phrase.{Then, After}
-use Rattle.route_lines.specs.Words.{IsNet, IsNumber, IsLimit, IsCount, IsHop}
+use Rattle.route_lines.specs.Words.{IsNet, IsNumber, IsLimit, IsCount, IsHop, IsPreference, IsPreferred}
 use Rattle.route_table.specs.declared.hop.Hop.{Hop}
 use Rattle.route_table.specs.declared.hop.Hop.TheVariants as Hops
 use Rattle.route_lines.specs.declared.command.Command.{Command}
@@ -15,11 +15,12 @@ use Rattle.route_lines.specs.declared.reply.Reply.TheVariants as R
 
 -- a command
 abbrev pub IsCommand : List ℕ → Command → Type 0
-IsCommand text (C.Add net hop) = After (codes "add ") (Then IsNet IsHop) text (net, hop)
-IsCommand text (C.Del net) = After (codes "del ") IsNet text net
+IsCommand text (C.Add net hop pref) = After (codes "add ") (Then IsNet IsPreferred) text (net, (hop, pref))
+IsCommand text (C.Del net hop) = After (codes "del ") (Then IsNet IsHop) text (net, hop)
 IsCommand text (C.Get net) = After (codes "get ") IsNet text net
 IsCommand text (C.Cover net) = After (codes "cover ") IsNet text net
 IsCommand text (C.List net) = After (codes "list ") IsNet text net
+IsCommand text (C.All net) = After (codes "all ") IsNet text net
 IsCommand text (C.PageFrom net limit) = After (codes "from ") (Then IsNet IsLimit) text (net, limit)
 IsCommand text (C.PageAfter net limit) = After (codes "after ") (Then IsNet IsLimit) text (net, limit)
 IsCommand text (C.Own number) = After (codes "own ") IsNumber text number
@@ -37,7 +38,7 @@ closing_text Refused = codes "refused"
 abbrev pub IsReply : List ℕ → Reply → Type 0
 IsReply text (R.Set net number) = After (codes "set ") (Then IsNet IsNumber) text (net, number)
 IsReply text (R.Unset net) = After (codes "unset ") IsNet text net
-IsReply text (R.Route net hop) = After (codes "route ") (Then IsNet IsHop) text (net, hop)
+IsReply text (R.Route net hop pref) = After (codes "route ") (Then IsNet (Then IsHop IsPreference)) text (net, (hop, pref))
 IsReply text (R.Flat net number) = After (codes "flat ") (Then IsNet IsNumber) text (net, number)
 IsReply text (R.Own net) = After (codes "own ") IsNet text net
 IsReply text (R.Count v4 v6) = After (codes "count ") (Then IsCount IsCount) text (v4, v6)
@@ -52,7 +53,7 @@ hop_text Hops.Drop = codes "drop"
 abbrev pub reply_text : Reply → List ℕ
 reply_text (R.Set net number) = codes "set " ++ net_text net ++ codes " " ++ decimal number
 reply_text (R.Unset net) = codes "unset " ++ net_text net
-reply_text (R.Route net hop) = codes "route " ++ net_text net ++ codes " " ++ hop_text hop
+reply_text (R.Route net hop pref) = codes "route " ++ net_text net ++ codes " " ++ hop_text hop ++ codes " " ++ decimal pref
 reply_text (R.Flat net number) = codes "flat " ++ net_text net ++ codes " " ++ decimal number
 reply_text (R.Own net) = codes "own " ++ net_text net
 reply_text (R.Count v4 v6) = codes "count " ++ decimal v4 ++ codes " " ++ decimal v6
@@ -62,7 +63,7 @@ reply_text (R.Close closing) = closing_text closing
 abbrev pub IsPrintable : Reply → Type 0
 IsPrintable (R.Set net number) = net ≡ network_at (block net)
 IsPrintable (R.Unset net) = net ≡ network_at (block net)
-IsPrintable (R.Route net hop) = net ≡ network_at (block net)
+IsPrintable (R.Route net hop pref) = net ≡ network_at (block net)
 IsPrintable (R.Flat net number) = net ≡ network_at (block net)
 IsPrintable (R.Own net) = net ≡ network_at (block net)
 IsPrintable (R.Count v4 v6) = ⊤

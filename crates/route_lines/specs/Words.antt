@@ -1,9 +1,9 @@
 -- The words after the first one of a line.
-use Rattle.std.specs.Prelude.{◌≡◌, ℕ, List, codes}
+use Rattle.std.specs.Prelude.{◌≡◌, ◌⊎◌, ℕ, List, codes}
 use Rattle.ipnet.specs.IpNetText.{Reads}
 use Rattle.ipnet.specs.IpNets.{block, network_at}
 use Rattle.ipnet.specs.declared.ip_net.IpNet.{IpNet}
-use Rattle.route_lines.specs.Phrase.{IsDecimal}
+use Rattle.route_lines.specs.Phrase.{IsDecimal, Then}
 use Rattle.route_table.specs.declared.hop.Hop.{Hop}
 use Rattle.route_table.specs.declared.hop.Hop.TheVariants.{Number, Drop}
 
@@ -27,3 +27,15 @@ IsCount = IsDecimal 0 0xffffffffffffffff
 abbrev pub IsHop : List ℕ → Hop → Type 0
 IsHop text (Number n) = IsNumber text n
 IsHop text Drop = text ≡ codes "drop"
+
+-- a number below 2^16
+abbrev pub IsPreference : List ℕ → ℕ → Type 0
+IsPreference = IsDecimal 0 0xffff
+
+-- the preference of a hop that stands alone
+abbrev pub default_preference : ℕ
+default_preference = 100
+
+-- a hop and a preference with one space between them, or a hop alone
+abbrev pub IsPreferred : List ℕ → Hop × ℕ → Type 0
+IsPreferred text x = Then IsHop IsPreference text x ⊎ (IsHop text x.0 × (x.1 ≡ default_preference))

@@ -4,23 +4,26 @@ ghost use Rattle.std.specs.Net.Grammar.{Parses};
 ghost use Rattle.route_lines.specs.Texts.{IsCommand};
 
 use crate::NotALine;
-use crate::phrase::{Limit, Number, read_after};
+use crate::phrase::{Limit, Number, Preferred, read_after};
 use ipnet::IpNet;
 use route_table::Hop;
 
 /// One line of the input. Its network has no host bits.
 #[derive(Clone, Copy, PartialEq, Eq)]
 pub enum Command {
-    /// `add NET HOP`: the network's addresses go to the hop, a number or `drop`.
-    Add { net: IpNet, hop: Hop },
-    /// `del NET`: take the network out.
-    Del { net: IpNet },
+    /// `add NET HOP PREF`: the network has a route to the hop, a number or `drop`, with this preference, 0 to 65535. In
+    /// `add NET HOP` it is 100.
+    Add { net: IpNet, hop: Hop, pref: u16 },
+    /// `del NET HOP`: take the network's route to the hop out.
+    Del { net: IpNet, hop: Hop },
     /// `get NET`: the longest stored network that contains it.
     Get { net: IpNet },
     /// `cover NET`: the stored networks that contain it.
     Cover { net: IpNet },
     /// `list NET`: the stored networks inside it.
     List { net: IpNet },
+    /// `all NET`: the routes of exactly this network, best first.
+    All { net: IpNet },
     /// `from NET N`: at most N stored networks of its family, 1 to 1000, that don't come before it.
     PageFrom { net: IpNet, limit: u16 },
     /// `after NET N`: the same of those that come after it.
@@ -42,14 +45,18 @@ impl Command {
     pub fn read(line: &[u8]) -> Result<Command, NotALine>
         ensures { Parses IsCommand line.now result }
     {
-        if let Some(route) = read_after::<(IpNet, Hop)>(line, b"add ") {
+        if let Some(route) = read_after::<(IpNet, Preferred)>(line, b"add ") {
             return Ok(Command::Add {
+                net: route.0,
+                hop: route.1.hop,
+                pref: route.1.pref,
+            });
+        }
+        if let Some(route) = read_after::<(IpNet, Hop)>(line, b"del ") {
+            return Ok(Command::Del {
                 net: route.0,
                 hop: route.1,
             });
-        }
-        if let Some(net) = read_after::<IpNet>(line, b"del ") {
-            return Ok(Command::Del { net });
         }
         if let Some(net) = read_after::<IpNet>(line, b"get ") {
             return Ok(Command::Get { net });
@@ -59,6 +66,9 @@ impl Command {
         }
         if let Some(net) = read_after::<IpNet>(line, b"list ") {
             return Ok(Command::List { net });
+        }
+        if let Some(net) = read_after::<IpNet>(line, b"all ") {
+            return Ok(Command::All { net });
         }
         if let Some(page) = read_after::<(IpNet, Limit)>(line, b"from ") {
             return Ok(Command::PageFrom {

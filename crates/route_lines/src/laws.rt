@@ -23,20 +23,20 @@ pub fn pieces_make_bytes()
     ensures { (bytes : List ℕ) → bytes ≡ flat_map (λ piece. piece ++ 10 ∷ []) (lines bytes) ++ rest bytes }
 {}
 
-/// No text spells two commands, none has more than 66 bytes, and none has a line end. A function finds the one that a
+/// No text spells two commands, none has more than 72 bytes, and none has a line end. A function finds the one that a
 /// text spells.
 pub fn commands()
     ensures one { (text : List ℕ) (a b : Command) → IsCommand text a → IsCommand text b → a ≡ b }
-    ensures short { (text : List ℕ) (a : Command) → IsCommand text a → length text ≤ 66 }
+    ensures short { (text : List ℕ) (a : Command) → IsCommand text a → length text ≤ 72 }
     ensures clean { (text : List ℕ) (a : Command) → IsCommand text a → All (λ c. c ≢ 10) text }
     ensures found { (text : List ℕ) → MatchOption (command_of text) ((a : Command) → IsCommand text a → ⊥) (IsCommand text) }
 {}
 
-/// No text spells two reply lines, none has more than 68 bytes, and none has a line end. What is read can be printed.
+/// No text spells two reply lines, none has more than 74 bytes, and none has a line end. What is read can be printed.
 /// A function finds the one that a text spells.
 pub fn replies()
     ensures one { (text : List ℕ) (a b : Reply) → IsReply text a → IsReply text b → a ≡ b }
-    ensures short { (text : List ℕ) (a : Reply) → IsReply text a → length text ≤ 68 }
+    ensures short { (text : List ℕ) (a : Reply) → IsReply text a → length text ≤ 74 }
     ensures clean { (text : List ℕ) (a : Reply) → IsReply text a → All (λ c. c ≢ 10) text }
     ensures printable { (text : List ℕ) (a : Reply) → IsReply text a → IsPrintable a }
     ensures found { (text : List ℕ) → MatchOption (reply_of text) ((a : Reply) → IsReply text a → ⊥) (IsReply text) }

@@ -2,7 +2,7 @@
 ghost use Rattle.std.specs.Prelude.{◌≡◌, ◌≢◌, ℕ, ◌^◌, ◌<◌, ◌≤◌, List, ◌∷◌, ◌++◌, All, IfSome, IfNone};
 ghost use Rattle.route_lines.specs.Phrase.{IsUnspaced, IsDecimal, Then, After};
 ghost use Rattle.route_lines.specs.InnerPhrase.{Gives, IsFree};
-ghost use Rattle.route_lines.specs.Words.{IsNet, IsHop};
+ghost use Rattle.route_lines.specs.Words.{IsNet, IsHop, IsPreferred};
 ghost use Rattle.route_lines.specs.InnerFree as Free;
 ghost use Rattle.std.proofs.Common.{rules};
 
@@ -102,6 +102,8 @@ pub(crate) type Limit = Decimal<1, 1000>;
 
 pub(crate) type Count = Decimal<0, 0xffff_ffff_ffff_ffff>;
 
+pub(crate) type Preference = Decimal<0, 0xffff>;
+
 impl Phrase for Hop {
     ghost spells = { IsHop };
 
@@ -145,6 +147,49 @@ impl<A: Word, B: Phrase> Phrase for (A, B) {
             return None;
         };
         Some((first, second))
+    }
+}
+
+// The preference of a hop that stands alone.
+const DEFAULT_PREFERENCE: u16 = 100;
+
+// A hop and a preference, or a hop alone.
+#[derive(Clone, Copy)]
+pub(crate) struct Preferred {
+    pub(crate) hop: Hop,
+    pub(crate) pref: u16,
+}
+
+impl Model for Preferred {
+    ghost use Rattle.std.specs.Prelude.{ℕ, ◌≤◌};
+    ghost use Rattle.route_table.specs.declared.hop.Hop.{Hop};
+
+    ghost Value = { Hop × ℕ };
+
+    ghost view = { λ p. (p.hop, p.pref) };
+
+    ghost invariant = { λ p. p.pref ≤ 0xffff };
+
+    ghost inverse = { λ v. record { hop = v.0; pref = v.1 } };
+
+    ghost inverse_ok = { λ p h i. p };
+}
+
+impl Phrase for Preferred {
+    ghost spells = { IsPreferred };
+
+    fn read(s: &[u8]) -> Option<Preferred> {
+        if let Some((hop, pref)) = <(Hop, Preference)>::read(s) {
+            let pref = pref.n as u16;
+            return Some(Preferred { hop, pref });
+        }
+        let Some(hop) = Hop::read(s) else {
+            return None;
+        };
+        Some(Preferred {
+            hop,
+            pref: DEFAULT_PREFERENCE,
+        })
     }
 }
 

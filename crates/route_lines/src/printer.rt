@@ -47,6 +47,16 @@ pub(crate) fn push_u32<const N: usize>(out: &mut ArrayVec<u8, N>, n: u32)
     push_all(out, buffer.format(n).as_bytes());
 }
 
+pub(crate) fn push_u16<const N: usize>(out: &mut ArrayVec<u8, N>, n: u16)
+    requires { array_vec_len out.old + 5 ≤ N }
+    ensures bytes { out.new.items ≡ out.old.items ++ decimal n }
+    ensures len { array_vec_len out.new ≤ array_vec_len out.old + 5 }
+    ensures fits { n ≤ 0xffff }
+{
+    let mut buffer = Buffer::new();
+    push_all(out, buffer.format(n).as_bytes());
+}
+
 pub(crate) fn push_hop<const N: usize>(out: &mut ArrayVec<u8, N>, hop: Hop)
     requires { array_vec_len out.old + 10 ≤ N }
     ensures bytes { out.new.items ≡ out.old.items ++ hop_text hop }

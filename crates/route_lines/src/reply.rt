@@ -5,8 +5,8 @@ ghost use Rattle.route_lines.specs.InnerPhrase.{Gives};
 ghost use Rattle.route_lines.specs.Texts.{IsReply, closing_text, reply_text, IsPrintable};
 
 use crate::NotALine;
-use crate::phrase::{Count, Number, read_after};
-use crate::printer::{push_all, push_hop, push_net, push_u32, push_u64};
+use crate::phrase::{Count, Number, Preference, read_after};
+use crate::printer::{push_all, push_hop, push_net, push_u16, push_u32, push_u64};
 use arrayvec::ArrayVec;
 use ipnet::IpNet;
 use route_table::Hop;
@@ -18,8 +18,8 @@ pub enum Reply {
     Set { net: IpNet, number: u32 },
     /// `unset NET`: the block's addresses have no hop from now on.
     Unset { net: IpNet },
-    /// `route NET HOP`: a stored network.
-    Route { net: IpNet, hop: Hop },
+    /// `route NET HOP PREF`: a stored network, with a hop and the preference of this hop.
+    Route { net: IpNet, hop: Hop, pref: u16 },
     /// `flat NET NUMBER`: a block of the flat list.
     Flat { net: IpNet, number: u32 },
     /// `own NET`: a block of the hop that was asked for.
@@ -80,10 +80,11 @@ impl Reply {
         if let Some(net) = read_after::<IpNet>(line, b"unset ") {
             return Ok(Reply::Unset { net });
         }
-        if let Some(route) = read_after::<(IpNet, Hop)>(line, b"route ") {
+        if let Some(route) = read_after::<(IpNet, (Hop, Preference))>(line, b"route ") {
             return Ok(Reply::Route {
                 net: route.0,
-                hop: route.1,
+                hop: route.1.0,
+                pref: route.1.1.n as u16,
             });
         }
         if let Some(block) = read_after::<(IpNet, Number)>(line, b"flat ") {
@@ -125,12 +126,12 @@ impl Closing {
 impl Reply {
     /// The one text of the line, with its line end; it reads as this line. Its network, if it has one, must have no
     /// host bits. Takes no memory.
-    pub fn print(&self) -> ArrayVec<u8, 80>
+    pub fn print(&self) -> ArrayVec<u8, 67>
         requires { IsPrintable self.now }
         ensures text { result.items ≡ reply_text self.now ++ codes "\n" }
         ensures reads { IsReply (reply_text self.now) self.now }
         ensures one_line { All (λ c. c ≢ 10) (reply_text self.now) }
-        ensures len { length result.items ≤ 61 }
+        ensures len { length result.items ≤ 67 }
     {
         let mut out = ArrayVec::new();
         match self {
@@ -144,11 +145,13 @@ impl Reply {
                 push_all(&mut out, b"unset ");
                 push_net(&mut out, net);
             }
-            Reply::Route { net, hop } => {
+            Reply::Route { net, hop, pref } => {
                 push_all(&mut out, b"route ");
                 push_net(&mut out, net);
                 push_all(&mut out, b" ");
                 push_hop(&mut out, *hop);
+                push_all(&mut out, b" ");
+                push_u16(&mut out, *pref);
             }
             Reply::Flat { net, number } => {
                 push_all(&mut out, b"flat ");

@@ -21,12 +21,20 @@ fn replies(rt: HostRuntime) {
         ("set 10.1.2.3/8 5 ", ""),
         ("unset FFFF::1/16", "unset ffff::/16\n"),
         ("unset FFFF::1/0", "unset ::/0\n"),
-        ("route 1.2.3.4/32 drop", "route 1.2.3.4/32 drop\n"),
+        ("route 10.1.2.3/8 drop 100", "route 10.0.0.0/8 drop 100\n"),
         (
-            "route 1.2.3.4/31 4294967295",
-            "route 1.2.3.4/31 4294967295\n",
+            "route 1.2.3.4/31 4294967295 65535",
+            "route 1.2.3.4/31 4294967295 65535\n",
         ),
-        ("route 1.2.3.4/31 4294967296", ""),
+        (
+            "route ffff:ffff:ffff:ffff:ffff:ffff:ffff:ffff/128 4294967295 65535",
+            "route ffff:ffff:ffff:ffff:ffff:ffff:ffff:ffff/128 4294967295 65535\n",
+        ),
+        ("route 1.2.3.4/31 4294967296 0", ""),
+        ("route 1.2.3.4/31 1 65536", ""),
+        ("route 10.0.0.0/8 1", ""),
+        ("route 10.0.0.0/8 drop", ""),
+        ("route 10.0.0.0/8 1 1 1", ""),
         ("flat 1.2.3.4/0 0", "flat 0.0.0.0/0 0\n"),
         ("own 1.2.3.4/32", "own 1.2.3.4/32\n"),
         (
@@ -45,6 +53,9 @@ fn replies(rt: HostRuntime) {
     }
 }
 
+/// The longest command, of 72 bytes.
+const LONGEST: &str = "add ::ffff:ffff:ffff:ffff:ffff:ffff:255.255.255.255/128 4294967295 65535";
+
 #[test]
 fn commands(rt: HostRuntime) {
     for (text, expected) in [
@@ -53,15 +64,28 @@ fn commands(rt: HostRuntime) {
         ("add 10.0.0.0/8 4294967296", false),
         ("add 10.0.0.0/8 007", false),
         ("add 10.0.0.0/8 +1", false),
+        ("add 10.0.0.0/8 1", true),
+        ("add 10.0.0.0/8 1 0", true),
+        ("add 10.0.0.0/8 drop 65535", true),
+        ("add 10.0.0.0/8 1 65536", false),
+        ("add 10.0.0.0/8 1 0100", false),
+        ("add 10.0.0.0/8 1 ", false),
+        ("add 10.0.0.0/8 1 1 1", false),
+        ("add 10.0.0.0/8  1", false),
+        (LONGEST, true),
         ("add 10.0.0.0/8", false),
         ("add 10.0.0.0 1", false),
         ("add 10.0.0.0/33 1", false),
-        ("del 10.0.0.0/8", true),
-        (" del 10.0.0.0/8", false),
+        ("del 10.0.0.0/8 drop", true),
+        (" del 10.0.0.0/8 drop", false),
+        ("del 10.0.0.0/8 1 100", false),
+        ("del 10.0.0.0/8", false),
         ("get 2001:DB8::/32", true),
         ("cover 10.0.0.0/8", true),
         ("list 10.0.0.0/8", true),
         ("list  10.0.0.0/8", false),
+        ("all 10.0.0.0/8", true),
+        ("all 10.0.0.0/8 1", false),
         ("from ::/0 1000", true),
         ("from ::/0 0", false),
         ("from 10.0.0.0/8 1001", false),
@@ -81,15 +105,38 @@ fn commands(rt: HostRuntime) {
 
 #[test]
 fn values(rt: HostRuntime) {
-    let Ok(Command::Add { net, hop }) = Command::read(b"add 10.1.2.3/8 7") else {
+    let Ok(Command::Add { net, hop, pref }) = Command::read(b"add 10.1.2.3/8 7") else {
         panic!(&rt; "no command")
     };
     assert_eq!(rt; net.to_text().as_slice(), "10.0.0.0/8".as_bytes());
     assert_eq!(rt; hop, Hop::Number(7));
+    assert_eq!(rt; pref, 100);
     assert_eq!(rt;
         Reply::Close(Closing::Missing).print().as_slice(),
         "none\n".as_bytes()
     );
+}
+
+#[test]
+fn preferences(rt: HostRuntime) {
+    for (text, expected) in [
+        ("add 10.0.0.0/8 1", 100),
+        ("add 10.0.0.0/8 1 0", 0),
+        ("add 10.0.0.0/8 drop 65535", 65535),
+    ] {
+        let Ok(
+            Command::Add {
+                net: _,
+                hop: _,
+                pref,
+            },
+        ) = Command::read(text.as_bytes())
+        else {
+            panic!(&rt; "no command")
+        };
+        assert_eq!(rt; pref, expected);
+    }
+    assert_eq!(rt; LONGEST.len(), 72);
 }
 
 #[test]
