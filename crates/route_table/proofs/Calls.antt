@@ -1,5 +1,5 @@
 -- What calls of a side's trie answer, as answers of the side.
-use Rattle.std.proofs.Common.{◌≡◌, ℕ, ◌≤◌, Bool, true, List, [], ◌∷◌, length, map, filter, Option, Some, None, unwrap_or, refl, sym, ap, ◌∙◌, arith}
+use Rattle.std.proofs.Common.{◌≡◌, ◌≤◌, Bool, List, [], ◌∷◌, length, map, filter, Option, Some, None, unwrap_or, refl, sym, ap, ◌∙◌, arith}
 use Rattle.std.proofs.lemmas.List.{length-map}
 use Rattle.std.specs.Borrow.{Bor}
 use Rattle.std.specs.Prelude.{MatchOption}
@@ -19,7 +19,7 @@ use Rattle.trie_core.proofs.Strings.{bits_total, bits_same}
 use Rattle.trie_map.specs.Maps.{IsLongestKey}
 use Rattle.route_table.specs.Choices.{Choice, best_hop, best_preference}
 use Rattle.route_table.specs.Networks.{Stored, best_route, choices_at, routes_of}
-use Rattle.route_table.specs.Tables.{Route, match_of, item_of}
+use Rattle.route_table.specs.Tables.{match_of, item_of}
 use Rattle.route_table.specs.Tries.{map_of}
 use Rattle.route_table.specs.InnerSides.{IsStored, block_at, stored_at, stored_in}
 use Rattle.route_table.specs.Onwards.{count_of}

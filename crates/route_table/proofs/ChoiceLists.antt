@@ -180,6 +180,19 @@ module _ (cs : List Choice) (ok : AreChoices cs) where
         distinct : Rising Apart (others cs c)
         distinct = Rising-kept Apart (λ d. not (same_hop d.hop c.hop)) cs apart
 
+-- none, and one
+pub none_are : AreChoices []
+none_are = record {
+  few = omega arith;
+  hops = All-from_In (λ d. IsHop d.hop) [] (λ d i. absurd i);
+  prefs = All-from_In (λ d. d.pref < 2 ^ 16) [] (λ d i. absurd i);
+  best_first = pairs_from_Rising Beats [] tt;
+  once = pairs_from_Rising Apart [] tt;
+}
+
+pub one_is : (c : Choice) → IsHop c.hop → c.pref < 2 ^ 16 → AreChoices (c ∷ [])
+one_is c hop pref = with_are [] none_are c hop pref refl
+
 -- ---- equal choices
 
 -- choices with the same members are the same

@@ -19,6 +19,7 @@ pub mod Seams
 pub mod Searches
 pub mod Stores
 pub mod Calls
+pub mod InPlace
 pub mod Walked
 pub mod Parts
 pub mod Gaps

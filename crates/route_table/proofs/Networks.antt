@@ -1,5 +1,5 @@
 -- Tables with several choices a network: what a change leaves, and the table of the best routes.
-use Rattle.std.proofs.Common.{◌≡◌, ◌≢◌, ◌<◌, ◌^◌, ◌⊎◌, inl, inr, ⊎_elim, Bool, true, false, not, cond, List, [], ◌∷◌, ◌++◌, Some, MatchOption, filter, map, refl, sym, ap, ◌∙◌, subst, arith}
+use Rattle.std.proofs.Common.{◌≡◌, ◌≢◌, ◌<◌, ◌^◌, ◌⊎◌, inl, inr, ⊎_elim, Bool, true, false, not, cond, List, [], ◌∷◌, ◌++◌, Some, MatchOption, filter, map, refl, sym, ap, ◌∙◌, subst}
 use Rattle.ipnet_addr.proofs.Members.{In}
 use Rattle.ipnet_addr.proofs.Ascending.{In-from_All, All-from_In, Rising, Rising-from_pairs, pairs_from_Rising, same_rising}
 use Rattle.ipnet_blocks.specs.Blocks.{Block, IsBlock, IsBefore, is_before, same_block}
@@ -13,7 +13,7 @@ use Rattle.route_table.specs.Choices.{Choice, beats, AreChoices, best, best_hop,
 use Rattle.route_table.specs.Networks.{Stored, IsStoredTable, best_route, routes_of, choices_at, with_stored, without_stored, without_each, with_choices, with_choice, without_choice}
 use Rattle.route_table.proofs.Kept.{filter_map_swap, map_append, In-map, map_In}
 use Rattle.route_table.proofs.Preferences.{test_from_hop, test_from_apart}
-use Rattle.route_table.proofs.ChoiceLists.{left_back, without_are, without_none, with_are}
+use Rattle.route_table.proofs.ChoiceLists.{left_back, without_are, without_none, with_are, none_are}
 
 abbrev pub Earlier : Stored → Stored → Type 0
 Earlier s t = IsBefore s.block t.block
@@ -90,15 +90,6 @@ module _ (T : List Stored) (ok : IsStoredTable T) where
 
 -- ---- what stands at a block
 
-no_choices : AreChoices []
-no_choices = record {
-  few = omega arith;
-  hops = All-from_In (λ c. IsHop c.hop) [] (λ c i. absurd i);
-  prefs = All-from_In (λ c. c.pref < 2 ^ 16) [] (λ c i. absurd i);
-  best_first = pairs_from_Rising (λ c d. beats c d ≡ true) [] tt;
-  once = pairs_from_Rising (λ c d. c.hop ≢ d.hop) [] tt;
-}
-
 -- the choices at a block are those of the member of this block, or there is none
 pub at_cases : (T : List Stored) (b : Block) → ((s : Stored) × In s T × (s.block ≡ b) × (choices_at T b ≡ s.choices)) ⊎ (((s : Stored) → In s T → s.block ≡ b → ⊥) × (choices_at T b ≡ []))
 at_cases [] b = inr ((λ s i. absurd i), refl)
@@ -125,7 +116,7 @@ module _ (T : List Stored) (ok : IsStoredTable T) where
   pub at_are : (b : Block) → AreChoices (choices_at T b)
   at_are b = ⊎_elim
       (λ t. subst (λ (cs : List Choice). AreChoices cs) (sym t.3) (stored_choices T ok t.0 t.1))
-      (λ t. subst (λ (cs : List Choice). AreChoices cs) (sym t.1) no_choices)
+      (λ t. subst (λ (cs : List Choice). AreChoices cs) (sym t.1) none_are)
       (at_cases T b)
 
   -- a block with choices is stored
@@ -225,19 +216,20 @@ del_other T b h c ok e apart =
     ∙ ap (with_route (routes_of T)) (same_best b (choices_without (choices_at T b) h) (choices_at T b) s.1)
     ∙ put_again (routes_of T) (routes_are_table T ok) (best_route (record { block = b; choices = choices_at T b })) (map_In best_route T (record { block = b; choices = choices_at T b }) i)
 
+-- the choices that stand at a block, put there again
+pub put_same : (T : List Stored) → IsStoredTable T → (b : Block) → IsBlock b → with_choices T b (choices_at T b) ≡ T
+put_same T ok b okb = same_tables (with_choices T b (choices_at T b)) T (with_choices_is T ok b (choices_at T b) okb (at_are T ok b)) ok
+    (λ d. ⊎_elim
+    (λ e. ap (choices_at (with_choices T b (choices_at T b))) e ∙ at_changed T ok b okb (choices_at T b) (at_are T ok b) ∙ ap (choices_at T) (sym e))
+    (λ apart. at_other T ok b okb (choices_at T b) (at_are T ok b) d apart)
+    (same_or_not d b))
+
 -- a hop that is not there takes nothing out
 pub del_none : (T : List Stored) (b : Block) (h : Hop) → IsStoredTable T → IsBlock b → ((d : Choice) → In d (choices_at T b) → d.hop ≢ h) → without_choice T b h ≡ T
 del_none T b h ok okb none =
     let cs = choices_at T b in
     let e = without_none cs (at_are T ok b) h none in
     ap (with_choices T b) e ∙ put_same T ok b okb
-  where
-    put_same : (T : List Stored) → IsStoredTable T → (b : Block) → IsBlock b → with_choices T b (choices_at T b) ≡ T
-    put_same T ok b okb = same_tables (with_choices T b (choices_at T b)) T (with_choices_is T ok b (choices_at T b) okb (at_are T ok b)) ok
-        (λ d. ⊎_elim
-        (λ e. ap (choices_at (with_choices T b (choices_at T b))) e ∙ at_changed T ok b okb (choices_at T b) (at_are T ok b) ∙ ap (choices_at T) (sym e))
-        (λ apart. at_other T ok b okb (choices_at T b) (at_are T ok b) d apart)
-        (same_or_not d b))
 
 -- ---- a `del` next after an `add` of a new network
 
@@ -286,6 +278,6 @@ emptied T b ok okb = same_tables (without_each T b (choices_at T b)) (without_st
     (λ d. ⊎_elim
     (λ e. ap (choices_at (without_each T b (choices_at T b))) e
     ∙ no_members (choices_at (without_each T b (choices_at T b)) b) (λ c i. let t = each_left T b (choices_at T b) ok okb c i in t.1 c t.0 refl)
-    ∙ sym (at_changed T ok b okb [] no_choices) ∙ ap (choices_at (without_stored T b)) (sym e))
-    (λ apart. each_other T b (choices_at T b) ok okb d apart ∙ sym (at_other T ok b okb [] no_choices d apart))
+    ∙ sym (at_changed T ok b okb [] none_are) ∙ ap (choices_at (without_stored T b)) (sym e))
+    (λ apart. each_other T b (choices_at T b) ok okb d apart ∙ sym (at_other T ok b okb [] none_are d apart))
     (same_or_not d b))

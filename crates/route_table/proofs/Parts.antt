@@ -1,11 +1,11 @@
 -- Parts of a walk of a side's map, as parts of the side.
-use Rattle.std.proofs.Common.{◌≡◌, ◌≤◌, inl, inr, Bool, true, false, ◌&&◌, not, cond, List, [], ◌∷◌, length, filter, map, refl, sym, ap, ◌∙◌, subst}
+use Rattle.std.proofs.Common.{◌≡◌, ◌≤◌, Bool, true, false, ◌&&◌, not, cond, List, length, filter, map, refl, sym, ap, ◌∙◌, subst}
 use Rattle.std.specs.FinMap.{entries}
 use Rattle.std.specs.FinMap.Entries.{where_key}
 use Rattle.std.specs.Ordering.{is_lt}
 use Rattle.std.specs.declared.cmp.Ordering.{Ordering}
 use Rattle.std.specs.declared.cmp.Ordering.TheVariants.{Less, Equal, Greater}
-use Rattle.ipnet_addr.specs.Addresses.{Family, Ipv4, Ipv6, width, same_family}
+use Rattle.ipnet_addr.specs.Addresses.{Family, width, same_family}
 use Rattle.ipnet_addr.proofs.Members.{In}
 use Rattle.ipnet_addr.proofs.Ascending.{All-from_In}
 use Rattle.ipnet_addr.proofs.Families.{test_from_family}

@@ -1,5 +1,5 @@
 -- The networks of the map of one side.
-use Rattle.std.proofs.Common.{◌≡◌, inl, inr, ⊎_elim, Bool, List, [], ◌∷◌, length, ◌≤◌, map, Some, refl, sym, ap, ◌∙◌, subst}
+use Rattle.std.proofs.Common.{◌≡◌, inl, inr, Bool, List, [], ◌∷◌, length, ◌≤◌, map, Some, refl, sym, ap, ◌∙◌, subst}
 use Rattle.std.specs.FinMap.{empty, entries, entries_sorted, get, get-empty}
 use Rattle.ipnet_addr.specs.Addresses.{Family, width}
 use Rattle.std.specs.declared.cmp.Ordering.TheVariants.{Less}
@@ -12,8 +12,7 @@ use Rattle.ipnet_blocks.proofs.Order.{order_of_strings}
 use Rattle.trie_core.specs.Nodes.{BitMap}
 use Rattle.route_table.specs.Choices.{Choice, AreChoices}
 use Rattle.route_table.specs.InnerSides.{block_at, route_at, stored_at, stored_in, IsStored, IsSide}
-use Rattle.route_table.specs.Networks.{Stored, IsStoredTable, best_route, routes_of}
-use Rattle.route_table.specs.Tables.{Route}
+use Rattle.route_table.specs.Networks.{Stored, IsStoredTable, routes_of}
 use Rattle.route_table.proofs.Entries.{KeysRise, rising, in_entries, get_of}
 use Rattle.route_table.proofs.Kept.{In-map, map_In}
 use Rattle.route_table.proofs.Ordered.{Earlier}

@@ -1,5 +1,6 @@
 -- A change at one key of a side's map is a change of one network.
-use Rattle.std.proofs.Common.{◌≡◌, ◌≤◌, ◌⊎◌, inl, inr, ⊎_elim, Bool, true, false, cond, List, [], ◌∷◌, length, Option, Some, None, IsSome, unwrap_or, refl, sym, ap, ◌∙◌, subst, arith}
+use Rattle.std.proofs.Common.{◌≡◌, ◌≤◌, ◌⊎◌, inl, inr, ⊎_elim, Bool, true, false, cond, List, [], ◌∷◌, length, Option, Some, None, IsSome, ◌↔◌, unwrap_or, refl, sym, ap, ◌∙◌, subst, arith}
+use Rattle.std.specs.Prelude.{IsTrue}
 use Rattle.std.specs.FinMap.{get, insert, remove, get-insert, get-remove}
 use Rattle.ipnet_addr.specs.Addresses.{width}
 use Rattle.ipnet_blocks.specs.Blocks.{Block, IsBlock, bit_string}
@@ -116,7 +117,7 @@ module _ (b : Block) (okb : IsBlock b) (m : BitMap (List Choice)) (ok : IsStored
   not_none_at = go (get m (bit_string b)) refl
     where
       go : (o : Option (List Choice)) → get m (bit_string b) ≡ o → IsSome o → choices_at side b ≡ [] → ⊥
-      go None e s q = s
+      go None e s q = cc
       go (Some cs) e s q = ok.some (bit_string b) cs e (sym (some_at cs e) ∙ q)
 
   pub is_some_at : (choices_at side b ≡ [] → ⊥) → IsSome (get m (bit_string b))
@@ -124,7 +125,7 @@ module _ (b : Block) (okb : IsBlock b) (m : BitMap (List Choice)) (ok : IsStored
     where
       go : (o : Option (List Choice)) → get m (bit_string b) ≡ o → IsSome o
       go None e = absurd (some (none_at e))
-      go (Some cs) e = tt
+      go (Some cs) e = refl
 
   -- choices put at the key, as a change of the choices of the block
   pub put_choices : (n : BitMap (List Choice)) (cs : List Choice) → AreChoices cs → (cs ≡ [] → ⊥) → n ≡ insert m (bit_string b) cs → stored_in b.family n ≡ with_choices side b cs
@@ -138,3 +139,8 @@ gone_twice m n p q cs e f s = ap (λ x. get x s) f ∙ get-remove bits_total n q
     go : (t : Bool) → cond t None (cond t (Some cs) (get m s)) ≡ cond t None (get m s)
     go true = refl
     go false = refl
+
+-- a key that is not contained
+pub absent_from : {X : Type 0} (o : Option X) (t : Bool) → IsTrue t ↔ IsSome o → t ≡ false → o ≡ None
+absent_from None t h e = refl
+absent_from (Some x) t h e = absurd (let f = h.1 refl in cc)

@@ -1,8 +1,8 @@
 -- A table with one route more or less: its members, and the hops that change.
-use Rattle.std.proofs.Common.{◌≡◌, ◌⊎◌, inl, inr, ⊎_elim, Bool, true, false, not, cond, List, [], ◌∷◌, ◌++◌, filter, Option, Some, None, refl, sym, ap, ◌∙◌, subst, arith}
+use Rattle.std.proofs.Common.{◌≡◌, ◌⊎◌, inl, inr, ⊎_elim, List, Option, Some, None, refl, sym, ap, ◌∙◌, subst, arith}
 use Rattle.ipnet_addr.specs.Addresses.{Address, IsAddress}
-use Rattle.ipnet_blocks.specs.Blocks.{Block, IsBlock, HasAddress, IsInside, IsBefore, is_before, same_block, host}
-use Rattle.ipnet_addr.proofs.Members.{In, In-left, In-right, In-cases}
+use Rattle.ipnet_blocks.specs.Blocks.{Block, IsBlock, HasAddress, IsInside, IsBefore, host}
+use Rattle.ipnet_addr.proofs.Members.{In}
 use Rattle.ipnet_addr.proofs.Ascending.{In-from_Contains, Contains-from_In, In-from_All, All-from_In, Rising, Rising-from_pairs, pairs_from_Rising}
 use Rattle.ipnet_blocks.proofs.Parents.{larger_is_shorter}
 use Rattle.ipnet_blocks.proofs.Maximals.{host_is_block, in_host, has_host}

@@ -77,6 +77,7 @@ impl Choices {
         ensures room { OnOk result (is_one_too_many self.old hop ≡ false) }
         ensures full { IfErr result (IsRefused self.old hop) }
         ensures unchanged { OnErr result (self.new ≡ self.old) }
+        ensures are { AreChoices self.new }
     {
         self.are_choices();
         self.remove(hop);
@@ -93,6 +94,7 @@ impl Choices {
     pub fn remove(&mut self, hop: Hop) -> bool
         ensures held { result ≡ holds_hop self.old hop }
         ensures choices { self.new ≡ choices_without self.old hop }
+        ensures are { AreChoices self.new }
     {
         let at = place(self.items.as_slice(), hop);
         if at < self.items.len() {

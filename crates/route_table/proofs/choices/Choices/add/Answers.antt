@@ -43,3 +43,6 @@ returns-clause-choices c =
     let p : c.first_beaten-to.result ≡ position_or_len (λ d. beats new d) (choices_without now c.args.hop) =
     c.first_beaten-to.ensures ∙ ap (position_or_len (λ d. beats c.new-choice.result d)) (c.as_slice.ensures.value ∙ v) ∙ ap (λ (z : Choice). position_or_len (λ d. beats z d) (choices_without now c.args.hop)) c.new-choice.ensures.value in
     c.insert.ensures.items ∙ ap (λ ys. insert ys c.first_beaten-to.result c.new-choice.result) v ∙ ap (insert (choices_without now c.args.hop) c.first_beaten-to.result) c.new-choice.ensures.value ∙ put_at now c.are_choices.ensures new c.first_beaten-to.result p
+
+pub returns-clause-are : goal.returns-clause-are
+returns-clause-are c = invariant_of-self c

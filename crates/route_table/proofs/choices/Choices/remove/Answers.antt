@@ -47,3 +47,6 @@ returns-else-at-len-clause-choices c =
     let v : xs ≡ c.args.self.now = (let w = c.self.view_is in cc) in
     let e = not_held_at xs c.args.hop c.place-at.result (c.place-at.ensures ∙ ap (position_or_len (λ d. same_hop d.hop c.args.hop)) c.as_slice.ensures.value) (omega arith) in
     sym v ∙ sym (without_none xs c.self.invariant c.args.hop (none_of xs c.args.hop e)) ∙ ap (λ ys. choices_without ys c.args.hop) v
+
+pub returns-then-at-len-clause-are : goal.returns-then-at-len-clause-are
+returns-then-at-len-clause-are c = invariant_of-self c

@@ -1,8 +1,8 @@
-use Rattle.std.proofs.Common.{◌≡◌, [], ◌∷◌, List, Some, None, unwrap_or, ◌∙◌, sym, ap, subst}
+use Rattle.std.proofs.Common.{[], ◌∷◌, List, unwrap_or, ◌∙◌, sym, ap, subst}
 use Rattle.std.specs.FinMap.{get, insert}
 use Rattle.ipnet_blocks.specs.Networks.{block_of}
 use Rattle.trie_map.specs.Seen.{SeenMap}
-use Rattle.route_table.specs.Choices.{Choice, AreChoices}
+use Rattle.route_table.specs.Choices.{Choice}
 use Rattle.route_table.specs.InnerSides.{IsStored, stored_in}
 use Rattle.route_table.specs.Networks.{choices_at, with_choices, with_stored}
 use Rattle.route_table.proofs.Calls.{choices_are}

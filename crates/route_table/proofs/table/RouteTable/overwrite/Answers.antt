@@ -1,4 +1,4 @@
-use Rattle.std.proofs.Common.{◌≡◌, ◌∙◌, [], ◌∷◌, sym, ap, arith, subst}
+use Rattle.std.proofs.Common.{◌∙◌, [], ◌∷◌, sym, ap, arith, subst}
 use Rattle.std.specs.Prelude.{Result, Ok, Err, OnErr}
 use Rattle.ipnet_blocks.specs.Blocks.{Block, IsBlock}
 use Rattle.ipnet.specs.IpNets.{block}
