@@ -93,21 +93,21 @@ then {A} {B} {P} {Q} {m} {n} free p q = record {
   clean = λ t x h. rw h.spelled (and (h.front ++ codes " ") h.back (and h.front (codes " ") (p.clean h.front x.0 h.first) (written (codes " ") refl)) (q.clean h.back x.1 h.second));
 }
 
-pub both : Good (Then IsHop IsPreference) 16
-both = then Free.hop hop (number 0 0xffff 5 (omega arith) (omega arith) (omega arith))
+pub hop_preference : Good (Then IsHop IsPreference) 16
+hop_preference = then Free.hop hop (number 0 0xffff 5 (omega arith) (omega arith) (omega arith))
 
 one_preferred : (text : List ℕ) (x y : Hop × ℕ) → IsPreferred text x → IsPreferred text y → x ≡ y
-one_preferred text x y (inl h) (inl k) = both.one text x y h k
+one_preferred text x y (inl h) (inl k) = hop_preference.one text x y h k
 one_preferred text x y (inl h) (inr k) = absurd (not_two text x (Free.hop text y.0 k.0) h)
 one_preferred text x y (inr h) (inl k) = absurd (not_two text y (Free.hop text x.0 h.0) k)
 one_preferred text x y (inr h) (inr k) = ap₂ (λ a b. (a, b)) (hop.one text x.0 y.0 h.0 k.0) (h.1 ∙ sym k.1)
 
 short_preferred : (text : List ℕ) (x : Hop × ℕ) → IsPreferred text x → length text ≤ 16
-short_preferred text x (inl h) = both.short text x h
+short_preferred text x (inl h) = hop_preference.short text x h
 short_preferred text x (inr h) = (let alone = hop.short text x.0 h.0 in omega arith)
 
 clean_preferred : (text : List ℕ) (x : Hop × ℕ) → IsPreferred text x → All (λ c. c ≢ 10) text
-clean_preferred text x (inl h) = both.clean text x h
+clean_preferred text x (inl h) = hop_preference.clean text x h
 clean_preferred text x (inr h) = hop.clean text x.0 h.0
 
 pub preferred : Good IsPreferred 16

@@ -103,7 +103,7 @@ starts refused text x h = ap start h
 good : (k : Kind) → Good (Spells k) 74
 good set = Good.after (codes "set ") 74 refl (omega arith) (Good.then Free.net Good.net Good.u32)
 good unset = Good.after (codes "unset ") 74 refl (omega arith) Good.net
-good route = Good.after (codes "route ") 74 refl (omega arith) (Good.then Free.net Good.net Good.both)
+good route = Good.after (codes "route ") 74 refl (omega arith) (Good.then Free.net Good.net Good.hop_preference)
 good flat = Good.after (codes "flat ") 74 refl (omega arith) (Good.then Free.net Good.net Good.u32)
 good own = Good.after (codes "own ") 74 refl (omega arith) Good.net
 good count = Good.after (codes "count ") 74 refl (omega arith) (Good.then (Free.decimal_word 0 0xffffffffffffffff (omega arith)) (Good.number 0 0xffffffffffffffff 20 (omega arith) (omega arith) (omega arith)) (Good.number 0 0xffffffffffffffff 20 (omega arith) (omega arith) (omega arith)))

@@ -140,11 +140,11 @@ gives_net_number low high bound = gives_both IsNet (IsDecimal low high) net_of_t
 gives_net_and : {B : Type 0} (Q : List ℕ → B → Type 0) (g : List ℕ → Option B) → ((s : List ℕ) → Gives Q s (g s)) → (s : List ℕ) → Gives (Then IsNet Q) s (of_both net_of_text g s)
 gives_net_and Q g q = gives_both IsNet Q net_of_text g Free.net gives_net q
 
-gives_both_words : (s : List ℕ) → Gives (Then IsHop IsPreference) s (of_both hop_of_text (number_of_text 0 0xffff) s)
-gives_both_words = gives_both IsHop IsPreference hop_of_text (number_of_text 0 0xffff) Free.hop gives_hop (gives_number 0 0xffff (omega arith))
+gives_hop_preference : (s : List ℕ) → Gives (Then IsHop IsPreference) s (of_both hop_of_text (number_of_text 0 0xffff) s)
+gives_hop_preference = gives_both IsHop IsPreference hop_of_text (number_of_text 0 0xffff) Free.hop gives_hop (gives_number 0 0xffff (omega arith))
 
 gives_preferred : (s : List ℕ) → Gives IsPreferred s (preferred_of_text s)
-gives_preferred s = go (of_both hop_of_text (number_of_text 0 0xffff) s) (gives_both_words s) (hop_of_text s) (gives_hop s)
+gives_preferred s = go (of_both hop_of_text (number_of_text 0 0xffff) s) (gives_hop_preference s) (hop_of_text s) (gives_hop s)
   where
     go : (p : Option (Hop × ℕ)) → Gives (Then IsHop IsPreference) s p → (o : Option Hop) → Gives IsHop s o → Gives IsPreferred s (or_else p (option_map (λ hop. (hop, default_preference)) o))
     go (Some x) h o k = inl h
@@ -183,7 +183,7 @@ reply_found s =
     or_kind (After (codes "set ") (Then IsNet IsNumber)) IsReply (λ x. R.Set x.0 x.1) s _ _ (λ x h. h) (gives_prefix (Then IsNet IsNumber) (codes "set ") (of_both net_of_text (number_of_text 0 0xffffffff)) (gives_net_number 0 0xffffffff (omega arith)) s) (λ set.
     or_kind (After (codes "unset ") IsNet) IsReply R.Unset s _ _ (λ x h. h) (gives_prefix IsNet (codes "unset ") net_of_text gives_net s) (λ unset.
     or_kind (After (codes "route ") (Then IsNet (Then IsHop IsPreference))) IsReply (λ x. R.Route x.0 x.1.0 x.1.1) s _ _ (λ x h. h)
-    (gives_prefix (Then IsNet (Then IsHop IsPreference)) (codes "route ") (of_both net_of_text (of_both hop_of_text (number_of_text 0 0xffff))) (gives_net_and (Then IsHop IsPreference) (of_both hop_of_text (number_of_text 0 0xffff)) gives_both_words) s) (λ route.
+    (gives_prefix (Then IsNet (Then IsHop IsPreference)) (codes "route ") (of_both net_of_text (of_both hop_of_text (number_of_text 0 0xffff))) (gives_net_and (Then IsHop IsPreference) (of_both hop_of_text (number_of_text 0 0xffff)) gives_hop_preference) s) (λ route.
     or_kind (After (codes "flat ") (Then IsNet IsNumber)) IsReply (λ x. R.Flat x.0 x.1) s _ _ (λ x h. h) (gives_prefix (Then IsNet IsNumber) (codes "flat ") (of_both net_of_text (number_of_text 0 0xffffffff)) (gives_net_number 0 0xffffffff (omega arith)) s) (λ flat.
     or_kind (After (codes "own ") IsNet) IsReply R.Own s _ _ (λ x h. h) (gives_prefix IsNet (codes "own ") net_of_text gives_net s) (λ own.
     or_kind (After (codes "count ") (Then IsCount IsCount)) IsReply (λ x. R.Count x.0 x.1) s _ _ (λ x h. h)

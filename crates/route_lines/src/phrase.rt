@@ -161,14 +161,12 @@ pub(crate) struct Preferred {
 }
 
 impl Model for Preferred {
-    ghost use Rattle.std.specs.Prelude.{ℕ, ◌≤◌};
+    ghost use Rattle.std.specs.Prelude.{ℕ};
     ghost use Rattle.route_table.specs.declared.hop.Hop.{Hop};
 
     ghost Value = { Hop × ℕ };
 
     ghost view = { λ p. (p.hop, p.pref) };
-
-    ghost invariant = { λ p. p.pref ≤ 0xffff };
 
     ghost inverse = { λ v. record { hop = v.0; pref = v.1 } };
 

@@ -18,7 +18,7 @@ pub enum Reply {
     Set { net: IpNet, number: u32 },
     /// `unset NET`: the block's addresses have no hop from now on.
     Unset { net: IpNet },
-    /// `route NET HOP PREF`: a stored network, with a hop and the preference of this hop.
+    /// `route NET HOP PREF`: a route of a stored network, its hop and its preference.
     Route { net: IpNet, hop: Hop, pref: u16 },
     /// `flat NET NUMBER`: a block of the flat list.
     Flat { net: IpNet, number: u32 },
