@@ -162,10 +162,10 @@ module _ (M : List Stored) (m : IsStoredTable M) where
   pub form_step : (command : Option Command) (refused : Bool) → IsInRange command → Form M (step M command refused)
   form_step command refused h = first (is_too_many M command) refl
     where
-      then : is_too_many M command ≡ false → (b : Bool) → Form M (cond b (closed M Refused) (accepted M command))
-      then room true = form_closed Refused
-      then room false = form_answer command h room
+      unrefused : is_too_many M command ≡ false → (b : Bool) → Form M (cond b (closed M Refused) (accepted M command))
+      unrefused room true = form_closed Refused
+      unrefused room false = form_answer command h room
 
       first : (b : Bool) → is_too_many M command ≡ b → Form M (cond b (closed M Refused) (cond (may_refuse M command && refused) (closed M Refused) (accepted M command)))
       first true full = form_closed Refused
-      first false room = then room (may_refuse M command && refused)
+      first false room = unrefused room (may_refuse M command && refused)
