@@ -103,7 +103,7 @@ IsInRange (Some C.Flat) = Unit {0}
 
 spelled_in_range : (text : List ℕ) (o : Option Command) → Gives IsCommand text o → IsInRange o
 spelled_in_range text None h = tt
-spelled_in_range text (Some (C.Add net hop pref)) h = (net_is_block h.phrase.front net h.phrase.first, preferred_in_range h.phrase.back hop pref h.phrase.second)
+spelled_in_range text (Some (C.Add net hop pref)) h = let p = preferred_in_range h.phrase.back hop pref h.phrase.second in (net_is_block h.phrase.front net h.phrase.first, p.0, p.1)
 spelled_in_range text (Some (C.Del net hop)) h = net_is_block h.phrase.front net h.phrase.first
 spelled_in_range text (Some (C.Get net)) h = tt
 spelled_in_range text (Some (C.Cover net)) h = tt

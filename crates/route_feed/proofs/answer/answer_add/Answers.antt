@@ -22,8 +22,8 @@ returns-in-Ok g c =
       table = rw same (on_ok c.tell_change.result e.networks);
     }
 
-pub returns-in_default : goal.returns-in_default
-returns-in_default g c =
-    let e = c.in_default.ensures in
-    let (refusal, is) = refused_step c.args.table.now c.args.net c.args.hop c.args.pref c.in_default.field-0 e.refused in
+pub returns-in-Err : goal.returns-in-Err
+returns-in-Err g c =
+    let e = c.in-Err.ensures in
+    let (refusal, is) = refused_step c.args.table.now c.args.net c.args.hop c.args.pref c.in-Err.field-0 e.refused in
     record { refusal = refusal; writes = rw is c.close.ensures; table = rw is (on_ok c.close.result e.unchanged) }
