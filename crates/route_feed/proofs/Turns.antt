@@ -15,7 +15,7 @@ use Rattle.route_lines.specs.declared.reply.Reply.{Reply}
 use Rattle.route_table.specs.Changes.{changed}
 use Rattle.route_table.specs.Flats.{Piece, blocks_of, flat_of}
 use Rattle.route_table.specs.Onwards.{count_of}
-use Rattle.route_table.specs.Choices.{Choice, AreChoices, best_preference, choices_with, choices_without, holds_hop, is_one_too_many}
+use Rattle.route_table.specs.Choices.{Choice, AreChoices, best_preference, choices_with, choices_without, holds_hop}
 use Rattle.route_table.specs.Networks.{Stored, IsStoredTable, best_route, choices_at, routes_of, with_choices, without_choice}
 use Rattle.route_table.specs.Tables.{Route, IsTable, IsHop, hop_at, match_of, match_number, covering}
 use Rattle.route_table.proofs.Changes.{changed_is_maximal}

@@ -1,4 +1,4 @@
-use Rattle.std.proofs.Common.{false, refl, subst, Some}
+use Rattle.std.proofs.Common.{false, subst, Some}
 use Rattle.ipnet.specs.IpNets.{block}
 use Rattle.route_lines.specs.declared.command.Command.TheVariants.{Add}
 use Rattle.route_table.specs.Choices.{Choice, choices_with}
