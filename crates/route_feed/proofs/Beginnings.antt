@@ -16,7 +16,9 @@ use Rattle.route_lines.specs.declared.cutter.Line.{Line}
 use Rattle.route_lines.specs.declared.reply.Closing.{Closing}
 use Rattle.route_lines.specs.declared.reply.Reply.{Reply}
 use Rattle.route_lines.specs.declared.reply.Reply.TheVariants.{Close}
-use Rattle.route_table.specs.Tables.{Route, IsTable, IsHop, hop_at}
+use Rattle.route_table.specs.Choices.{AreChoices}
+use Rattle.route_table.specs.Networks.{Stored, IsStoredTable, routes_of}
+use Rattle.route_table.specs.Tables.{hop_at}
 use Rattle.route_table.specs.Flats.{flat_of}
 use Rattle.route_table.proofs.Flats.{same_flat}
 use Rattle.route_table.proofs.FlatSearch.{search_is_flat}
@@ -115,7 +117,7 @@ reread_turn t ls =
 abbrev pub AreInRange : List (Option Command) → Type 0
 AreInRange commands = (c : Option Command) → In c commands → IsInRange c
 
-pub replies_clean : (M : List Route) (commands : List (Option Command)) (r : List Bool) → IsTable M → AreInRange commands → AreClean (replies M commands r)
+pub replies_clean : (M : List Stored) (commands : List (Option Command)) (r : List Bool) → IsStoredTable M → AreInRange commands → AreClean (replies M commands r)
 replies_clean M [] r m h = tt
 replies_clean M (c ∷ cs) r m h =
     let t = turn.step M c (first_or_false r) in
@@ -130,10 +132,10 @@ nothing_left (x ∷ p) q e = cc
 
 -- ---- the law
 
-followed : (M : List Route) (commands : List (Option Command)) (r : List Bool) (p q : List Reply) → IsTable M → AreInRange commands → p ++ q ≡ reread (replies M commands r)
-    → (x : Address) → IsAddress x → painted_over (hop_at M x) (committed p) x ≡ hop_at (table_after M (take (closings p) commands) r) x
+followed : (M : List Stored) (commands : List (Option Command)) (r : List Bool) (p q : List Reply) → IsStoredTable M → AreInRange commands → p ++ q ≡ reread (replies M commands r)
+    → (x : Address) → IsAddress x → painted_over (hop_at (routes_of M) x) (committed p) x ≡ hop_at (routes_of (table_after M (take (closings p) commands) r)) x
 followed M [] r p q m h e x a =
-    subst (λ l. painted_over (hop_at M x) (committed l) x ≡ hop_at (table_after M (take (closings l) []) r) x) (sym (nothing_left p q e)) refl
+    subst (λ l. painted_over (hop_at (routes_of M) x) (committed l) x ≡ hop_at (routes_of (table_after M (take (closings l) []) r)) x) (sym (nothing_left p q e)) refl
 followed M (c ∷ cs) r p q m h e x a =
     let t = turn.step M c (first_or_false r) in
     let rs = refusals_after M c r in
@@ -145,19 +147,20 @@ followed M (c ∷ cs) r p q m h e x a =
     (λ s. let (p2, split, later) = s in
     let k = commits (reread t.body) t.closing p2 open_lines in
     let ih = followed t.next cs rs p2 q form.table (λ d i. h d (inr i)) later x a in
-    subst (λ l. painted_over (hop_at M x) (committed l) x ≡ hop_at (table_after M (take (closings l) (c ∷ cs)) r) x) (sym split)
+    subst (λ l. painted_over (hop_at (routes_of M) x) (committed l) x ≡ hop_at (routes_of (table_after M (take (closings l) (c ∷ cs)) r)) x) (sym split)
     (rw (k.committed, k.closings) (
-    painted-append (hop_at M x) (gain (reread t.body) t.closing) (committed p2) x
-    ∙ ap (λ ds. painted_over (painted_over (hop_at M x) (cond (is_done t.closing) ds []) x) (committed p2) x) (reread_changes t.body form.body_told)
+    painted-append (hop_at (routes_of M) x) (gain (reread t.body) t.closing) (committed p2) x
+    ∙ ap (λ ds. painted_over (painted_over (hop_at (routes_of M) x) (cond (is_done t.closing) ds []) x) (committed p2) x) (reread_changes t.body form.body_told)
     ∙ ap (λ o. painted_over o (committed p2) x) (form.paints x a)
     ∙ ih)))
     (split_at_closing p q (reread t.body) t.closing tail open_lines (e ∙ reread_turn t (replies t.next cs rs)))
 
-pub empty_is_table : IsTable []
+pub empty_is_table : IsStoredTable []
 empty_is_table = record {
-  blocks = All-nil (λ (r : Route). IsBlock r.block);
-  hops = All-nil (λ (r : Route). IsHop r.hop);
-  ascending = pairs_from_Rising (λ (r s : Route). IsBefore r.block s.block) [] tt;
+  blocks = All-nil (λ (s : Stored). IsBlock s.block);
+  some = All-nil (λ (s : Stored). s.choices ≡ [] → ⊥);
+  choices = All-nil (λ (s : Stored). AreChoices s.choices);
+  ascending = pairs_from_Rising (λ (s t : Stored). IsBefore s.block t.block) [] tt;
 }
 
 lines_in_range : (ls : List Line) → AreInRange (map command_in ls)
@@ -195,10 +198,10 @@ beginnings_agree bytes front back refusals e x a =
 pub flat_lists_agree : FlatListsAgree
 flat_lists_agree bytes front back refusals e =
     let h = painted (committed (replies_in front)) in
-    let g = hop_at (table_told bytes refusals front) in
+    let g = hop_at (routes_of (table_told bytes refusals front)) in
     (same_flat h g (flat_of h) (flat_of g) (search_is_flat h) (search_is_flat g)).1 (beginnings_agree bytes front back refusals e)
 
-answered : (M : List Route) (commands : List (Option Command)) (r : List Bool) → IsTable M → AreInRange commands → closings (reread (replies M commands r)) ≡ length commands
+answered : (M : List Stored) (commands : List (Option Command)) (r : List Bool) → IsStoredTable M → AreInRange commands → closings (reread (replies M commands r)) ≡ length commands
 answered M [] r m h = refl
 answered M (c ∷ cs) r m h =
     let t = turn.step M c (first_or_false r) in
@@ -220,5 +223,5 @@ lines_answered bytes refusals = commands_answered (whole_commands bytes) refusal
 pub output_followed : OutputIsFollowed
 output_followed bytes refusals =
     ap (λ (ps : List Piece). printed (map flat_line ps ++ Close Done ∷ [])) (flat_lists_agree bytes (output bytes refusals) [] refusals (sym (append-nil (output bytes refusals))))
-    ∙ ap (λ (cs : List (Option Command)). printed (map flat_line (flat_of (hop_at (table_after [] cs refusals))) ++ Close Done ∷ []))
+    ∙ ap (λ (cs : List (Option Command)). printed (map flat_line (flat_of (hop_at (routes_of (table_after [] cs refusals)))) ++ Close Done ∷ []))
     (ap (λ n. take n (commands_of bytes)) (all_answered bytes refusals) ∙ take_all (length (commands_of bytes)) (commands_of bytes) (omega arith))

@@ -21,6 +21,7 @@ use Rattle.route_lines.specs.declared.reply.Reply.TheVariants.{Close}
 use Rattle.route_lines.proofs.Replies.{short_reply}
 use Rattle.route_lines.proofs.Spells.{reply_found}
 use Rattle.route_table.specs.Flats.{Piece, IsFlat, flat_of}
+use Rattle.route_table.specs.Networks.{routes_of}
 use Rattle.route_table.specs.Tables.{hop_at}
 use Rattle.route_table.proofs.FlatSearch.{search_is_flat}
 use Rattle.route_table.proofs.Flats.{same_flat}
@@ -112,17 +113,17 @@ new_state = record { table = []; pending = []; failed = false }
 
 module _ (bs : List ℕ) (b : State) (p : Followed new_state (lines_in bs) b) where
   -- the hops are those that the committed changes paint
-  hops_are : (x : Address) → IsAddress x → hop_at b.table x ≡ painted (committed (replies_in bs)) x
+  hops_are : (x : Address) → IsAddress x → hop_at (routes_of b.table) x ≡ painted (committed (replies_in bs)) x
   hops_are x h =
       sym (p.same [] x h)
       ∙ ap (λ ls. hop_once new_state ls x) (append-nil (filter_map reply_in (lines_in bs)) ∙ lines_replies (lines bs))
       ∙ ap (λ l. painted_over None (l ++ committed (replies_in bs)) x) (no_pending (ends_well (replies_in bs)))
 
   -- so is the flat list
-  text_is : (ps : List Piece) → IsFlat (hop_at b.table) ps → printed (map flat_line ps ++ Close Done ∷ []) ≡ followed bs
+  text_is : (ps : List Piece) → IsFlat (hop_at (routes_of b.table)) ps → printed (map flat_line ps ++ Close Done ∷ []) ≡ followed bs
   text_is ps flat =
       let h = painted (committed (replies_in bs)) in
-      ap (λ qs. printed (map flat_line qs ++ Close Done ∷ [])) ((same_flat (hop_at b.table) h ps (flat_of h) flat (search_is_flat h)).1 hops_are)
+      ap (λ qs. printed (map flat_line qs ++ Close Done ∷ [])) ((same_flat (hop_at (routes_of b.table)) h ps (flat_of h) flat (search_is_flat h)).1 hops_are)
 
 module _ {R W : Type 0} (remaining : R → Option (List ℕ)) (contents : W → Option (List ℕ)) (from to : Counted R) (old : Counted W) (a b : State) (new_follower : a ≡ new_state) where
   -- a run that did not reach the end
@@ -158,7 +159,7 @@ module _ {R W : Type 0} (remaining : R → Option (List ℕ)) (contents : W → 
 
   -- a run to the end, and the flat list
   pub follow_ended : (left : Rest) (mid new : Counted W) (ps : List Piece) (r : Result Unit RunError) → Runs Takes remaining a from old (Ok left) b to mid
-      → IsFlat (hop_at b.table) ps → Closes contents 1 mid new r (printed (map flat_line ps ++ Close Done ∷ [])) → FollowEnds remaining contents from to old new r
+      → IsFlat (hop_at (routes_of b.table)) ps → Closes contents 1 mid new r (printed (map flat_line ps ++ Close Done ∷ [])) → FollowEnds remaining contents from to old new r
   follow_ended left mid new ps r x flat w =
       go r (subst (λ u. Closes contents 1 u new r (followed x.bytes)) (unwritten a b (lines_in x.bytes) old mid (Ok tt) x.ends.0) (subst (Closes contents 1 mid new r) (text_is x.bytes b steps ps flat) w))
     where

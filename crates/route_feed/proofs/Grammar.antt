@@ -16,7 +16,10 @@ use Rattle.route_lines.specs.declared.command.Command.{Command}
 use Rattle.route_lines.specs.declared.command.Command.TheVariants as C
 use Rattle.route_lines.specs.declared.reply.Reply.{Reply}
 use Rattle.route_lines.specs.declared.reply.Reply.TheVariants.{Close}
-use Rattle.route_table.specs.Tables.{Route, IsTable, hop_at, is_stored, match_of, with_route, route_of}
+use Rattle.route_table.specs.Choices.{Choice, choices_with, choices_without, holds_hop}
+use Rattle.route_table.specs.Networks.{Stored, IsStoredTable, best_route, choices_at, routes_of, with_choices, with_stored}
+use Rattle.route_table.specs.Tables.{Route, hop_at, match_of}
+use Rattle.route_table.proofs.Kept.{length-apart, length-kept}
 use Rattle.route_feed.specs.Commands.{command_in}
 use Rattle.route_feed.specs.Follows.{AreReplies}
 use Rattle.route_feed.specs.Laws.{BeginningsAreReplies}
@@ -56,37 +59,22 @@ first_all P (x ∷ xs) ys h = All-cons P x xs (All-head P x (xs ++ ys) h) (first
 
 -- ---- how long a table is
 
-two_filters : (p q : Route → Bool) → ((r : Route) → p r ≡ true → q r ≡ true → ⊥) → (M : List Route) → length (filter p M) + length (filter q M) ≤ length M
-two_filters p q apart [] = omega arith
-two_filters p q apart (r ∷ M) = go (p r) (q r) refl refl (two_filters p q apart M)
-  where
-    go : (a b : Bool) → p r ≡ a → q r ≡ b → length (filter p M) + length (filter q M) ≤ length M
-        → length (cond a (r ∷ filter p M) (filter p M)) + length (cond b (r ∷ filter q M) (filter q M)) ≤ suc (length M)
-    go true true e f h = absurd (apart r e f)
-    go true false e f h = omega (arith, h)
-    go false true e f h = omega (arith, h)
-    go false false e f h = omega (arith, h)
+stored_length : (M : List Stored) (s : Stored) → length (with_stored M s) ≤ length M + 1
+stored_length M s =
+    let below = λ (t : Stored). is_before t.block s.block in
+    let above = λ (t : Stored). is_before s.block t.block in
+    let apart = length-apart below above M (λ t e f. strict t.block s.block (before_from_test t.block s.block e) (before_from_test s.block t.block f)) in
+    omega (arith, apart, length-append (filter below M) (s ∷ filter above M))
 
-filtered_length : (p : Route → Bool) (M : List Route) → length (filter p M) ≤ length M
-filtered_length p [] = omega arith
-filtered_length p (r ∷ M) = go (p r) (filtered_length p M)
-  where
-    go : (a : Bool) → length (filter p M) ≤ length M → length (cond a (r ∷ filter p M) (filter p M)) ≤ suc (length M)
-    go true h = omega (arith, h)
-    go false h = omega (arith, h)
+changed_length : (M : List Stored) (b : Block) (cs : List Choice) → length (with_choices M b cs) ≤ length M + 1
+changed_length M b [] = let h = length-kept (λ (s : Stored). not (same_block s.block b)) M in omega (arith, h)
+changed_length M b (c ∷ cs) = stored_length M (record { block = b; choices = c ∷ cs })
 
-added_length : (M : List Route) (r : Route) → length (with_route M r) ≤ length M + 1
-added_length M r =
-    let below = λ (s : Route). is_before s.block r.block in
-    let above = λ (s : Route). is_before r.block s.block in
-    let apart = two_filters below above (λ s e f. strict s.block r.block (before_from_test s.block r.block e) (before_from_test r.block s.block f)) M in
-    omega (arith, apart, length-append (filter below M) (r ∷ filter above M))
-
-closed_or : (b : Bool) (M : List Route) (t u : turn.Turn) → length t.next ≤ length M + 1 → length u.next ≤ length M + 1 → length (cond b t u).next ≤ length M + 1
+closed_or : (b : Bool) (M : List Stored) (t u : turn.Turn) → length t.next ≤ length M + 1 → length u.next ≤ length M + 1 → length (cond b t u).next ≤ length M + 1
 closed_or true M t u h k = h
 closed_or false M t u h k = k
 
-module _ (M : List Route) where
+module _ (M : List Stored) where
   same_length : length M ≤ length M + 1
   same_length = omega arith
 
@@ -95,12 +83,14 @@ module _ (M : List Route) where
   found_length (Some r) = same_length
 
   answer_length : (command : Option Command) → length (turn.accepted M command).next ≤ length M + 1
-  answer_length (Some (C.Add net hop)) = added_length M (route_of net hop)
-  answer_length (Some (C.Del net)) =
-      closed_or (is_stored M (block net)) M _ _ (let h = filtered_length (λ s. not (same_block s.block (block net))) M in omega (arith, h)) same_length
-  answer_length (Some (C.Get net)) = found_length (match_of M (block net))
+  answer_length (Some (C.Add net hop pref)) = changed_length M (block net) (choices_with (choices_at M (block net)) (record { hop = hop; pref = pref }))
+  answer_length (Some (C.Del net hop)) =
+      let cs = choices_at M (block net) in
+      closed_or (holds_hop cs hop) M _ _ (changed_length M (block net) (choices_without cs hop)) same_length
+  answer_length (Some (C.Get net)) = found_length (match_of (routes_of M) (block net))
   answer_length (Some (C.Cover net)) = same_length
   answer_length (Some (C.List net)) = same_length
+  answer_length (Some (C.All net)) = same_length
   answer_length (Some (C.PageFrom net limit)) = same_length
   answer_length (Some (C.PageAfter net limit)) = same_length
   answer_length (Some (C.Own number)) = same_length
@@ -108,9 +98,10 @@ module _ (M : List Route) where
   answer_length (Some C.Flat) = same_length
   answer_length None = same_length
 
-  -- no command adds more than one route
+  -- no command adds more than one network
   step_length : (command : Option Command) (refused : Bool) → length (turn.step M command refused).next ≤ length M + 1
-  step_length command refused = closed_or (turn.may_refuse M command && refused) M _ _ same_length (answer_length command)
+  step_length command refused =
+      closed_or (turn.is_too_many M command) M _ _ same_length (closed_or (turn.may_refuse M command && refused) M _ _ same_length (answer_length command))
 
 -- ---- the numbers in a reply
 
@@ -130,33 +121,35 @@ small_or : (b : Bool) (t u : turn.Turn) → AreSmall t.body → AreSmall u.body 
 small_or true t u h k = h
 small_or false t u h k = k
 
-module _ (M : List Route) (few : length M < 2 ^ 64) where
+module _ (M : List Stored) (few : length M < 2 ^ 64) where
   found_small : (o : Option Route) → AreSmall (turn.one_or_missing M o).body
   found_small None = tt
   found_small (Some r) = (tt, tt)
 
-  changes_small : (N : List Route) → AreSmall (turn.changed_to M N).body
+  changes_small : (N : List Stored) → AreSmall (turn.changed_to M N).body
   unfolding turn.change_lines
-  changes_small N = AreSmall-map _ (λ b. change_small (hop_at N (first_of b)) b) _
+  changes_small N = AreSmall-map _ (λ b. change_small (hop_at (routes_of N) (first_of b)) b) _
 
   answer_small : (command : Option Command) → AreSmall (turn.accepted M command).body
-  answer_small (Some (C.Add net hop)) = changes_small _
-  answer_small (Some (C.Del net)) = small_or (is_stored M (block net)) _ _ (changes_small _) tt
-  answer_small (Some (C.Get net)) = found_small (match_of M (block net))
+  answer_small (Some (C.Add net hop pref)) = changes_small _
+  answer_small (Some (C.Del net hop)) = small_or (holds_hop (choices_at M (block net)) hop) _ _ (changes_small _) tt
+  answer_small (Some (C.Get net)) = found_small (match_of (routes_of M) (block net))
   answer_small (Some (C.Cover net)) = AreSmall-map turn.route_line (λ r. tt) _
   answer_small (Some (C.List net)) = AreSmall-map turn.route_line (λ r. tt) _
+  answer_small (Some (C.All net)) = AreSmall-map (turn.choice_line (block net)) (λ c. tt) _
   answer_small (Some (C.PageFrom net limit)) = AreSmall-map turn.route_line (λ r. tt) _
   answer_small (Some (C.PageAfter net limit)) = AreSmall-map turn.route_line (λ r. tt) _
   answer_small (Some (C.Own number)) = AreSmall-map turn.own_line (λ b. tt) _
   answer_small (Some C.Count) =
-      let v4 = filtered_length (λ r. same_family r.block.family Ipv4) M in
-      let v6 = filtered_length (λ r. same_family r.block.family Ipv6) M in
-      ((omega (arith, v4, few), omega (arith, v6, few)), tt)
+      let all = length-map M best_route in
+      let v4 = length-kept (λ (r : Route). same_family r.block.family Ipv4) (routes_of M) in
+      let v6 = length-kept (λ (r : Route). same_family r.block.family Ipv6) (routes_of M) in
+      ((omega (arith, all, v4, few), omega (arith, all, v6, few)), tt)
   answer_small (Some C.Flat) = AreSmall-map turn.flat_line (λ p. tt) _
   answer_small None = tt
 
   step_small : (command : Option Command) (refused : Bool) → AreSmall (turn.step M command refused).body
-  step_small command refused = small_or (turn.may_refuse M command && refused) _ _ tt (answer_small command)
+  step_small command refused = small_or (turn.is_too_many M command) _ _ tt (small_or (turn.may_refuse M command && refused) _ _ tt (answer_small command))
 
 told_spelled : (ls : List Reply) → AreTold ls → AreSmall ls → AreSpelled ls
 told_spelled [] t s = tt
@@ -164,7 +157,7 @@ told_spelled (l ∷ ls) t s = (t.0.spelled s.0, told_spelled ls t.1 s.1)
 
 -- ---- the law
 
-replies_spelled : (M : List Route) (commands : List (Option Command)) (r : List Bool) → IsTable M → AreInRange commands → length M + length commands < 2 ^ 64 → AreSpelled (replies M commands r)
+replies_spelled : (M : List Stored) (commands : List (Option Command)) (r : List Bool) → IsStoredTable M → AreInRange commands → length M + length commands < 2 ^ 64 → AreSpelled (replies M commands r)
 replies_spelled M [] r m h few = tt
 replies_spelled M (c ∷ cs) r m h few =
     let t = turn.step M c (first_or_false r) in

@@ -9,7 +9,7 @@ use Rattle.route_lines.specs.Lines.{lines_in, rest_of}
 use Rattle.route_lines.specs.declared.command.Command.{Command}
 use Rattle.route_lines.specs.declared.cutter.Line.{Line}
 use Rattle.route_lines.specs.declared.cutter.Rest.{Rest}
-use Rattle.route_table.specs.Tables.{Route}
+use Rattle.route_table.specs.Networks.{Stored}
 use Rattle.route_feed.specs.declared.counted.Counted.{Counted}
 use Rattle.route_feed.specs.declared.error.RunError.{RunError}
 use Rattle.route_feed.specs.Commands.{command_in}
@@ -28,7 +28,7 @@ abbrev refusals_of : Bool → Bool → List Bool
 refusals_of true x = x ∷ []
 refusals_of false x = []
 
-module _ (M : List Route) (command : Option Command) (x : Bool) where
+module _ (M : List Stored) (command : Option Command) (x : Bool) where
   -- a command takes its value of the refusals, if it may be refused, and leaves the others
   turn_taken : (commands : List (Option Command)) (later : List Bool)
       → replies M (command ∷ commands) (refusals_of (may_refuse M command) x ++ later) ≡ turn_lines (step M command x) ++ replies (step M command x).next commands later
@@ -47,7 +47,7 @@ module _ (M : List Route) (command : Option Command) (x : Bool) where
       ∙ flat_map-append reply_line (turn_lines (step M command x)) (replies (step M command x).next commands later)
 
 -- the replies to commands, and to a last line that spells none
-replies_end : (M : List Route) (commands : List (Option Command)) (v : List Bool) (bs : List ℕ)
+replies_end : (M : List Stored) (commands : List (Option Command)) (v : List Bool) (bs : List ℕ)
     → printed (replies M (commands ++ at_end bs) v) ≡ printed (replies M commands v) ++ reply_to_rest (rest_of bs)
 replies_end M [] v [] = refl
 replies_end M [] v (b ∷ bs) = refl
@@ -68,15 +68,15 @@ output_is bytes v = replies_end [] (whole_commands bytes) v (rest bytes)
 
 module _ {W : Type 0} (contents : W → Option (List ℕ)) where
   -- another fault can be counted after an answer
-  pub answer_counts : (M N : List Route) (command : Option Command) (old new : Counted W) (r : Result Unit RunError) → Answers contents M N command old new r → CanCount old → OnOk r (CanCount new)
+  pub answer_counts : (M N : List Stored) (command : Option Command) (old new : Counted W) (r : Result Unit RunError) → Answers contents M N command old new r → CanCount old → OnOk r (CanCount new)
   answer_counts M N command old new (Ok x) a h = rw a.writes.faults h
   answer_counts M N command old new (Err e) a h = tt
 
-  abbrev Takes : List Route → Line → Counted W → Result Unit RunError → List Route → Counted W → Type 0
+  abbrev Takes : List Stored → Line → Counted W → Result Unit RunError → List Stored → Counted W → Type 0
   Takes M line old r N new = Answers contents M N (command_in line) old new r
 
   -- the replies to the lines were written, or a beginning of them
-  answered : (M N : List Route) (ls : List Line) (old new : Counted W) (r : Result Unit RunError) → TakesAll Takes M ls old r N new
+  answered : (M N : List Stored) (ls : List Line) (old new : Counted W) (r : Result Unit RunError) → TakesAll Takes M ls old r N new
       → (refusals : List Bool) × Closes contents (length (map command_in ls)) old new r (printed (replies M (map command_in ls) refusals))
   answered M N [] old new r t = ([], subst (λ k. Closes contents 0 old new k []) (sym t.0) (subst (λ w. Closed contents 0 old w []) (sym t.2) (Closed-nil contents old)))
   answered M N (l ∷ ls) old new r t = ⊎_elim
@@ -96,7 +96,7 @@ module _ {W : Type 0} (contents : W → Option (List ℕ)) where
       ))
       t
 
-module _ {R W : Type 0} (remaining : R → Option (List ℕ)) (contents : W → Option (List ℕ)) (from to : Counted R) (old : Counted W) (M N : List Route) (none : M ≡ []) where
+module _ {R W : Type 0} (remaining : R → Option (List ℕ)) (contents : W → Option (List ℕ)) (from to : Counted R) (old : Counted W) (M N : List Stored) (none : M ≡ []) where
   -- a run that did not reach the end
   pub lead_stopped : (e : RunError) (new : Counted W) → Runs (Takes contents) remaining M from old (Err e) N to new → LeadEnds remaining contents from to old new (Err e)
   lead_stopped e new x = ⊎_elim

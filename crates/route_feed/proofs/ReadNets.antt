@@ -81,14 +81,20 @@ pub hop_is_hop : (text : List ℕ) (hop : Hop) → word.IsHop text hop → IsHop
 hop_is_hop text (Number n) h = omega (arith, h.2)
 hop_is_hop text Drop h = tt
 
--- a command that changes the table has a network, and an `add` a hop, in range
+-- with a preference, or with that of a hop alone
+preferred_in_range : (text : List ℕ) (hop : Hop) (pref : ℕ) → word.IsPreferred text (hop, pref) → IsHop hop × (pref < 2 ^ 16)
+preferred_in_range text hop pref (inl h) = (hop_is_hop h.front hop h.first, omega (arith, h.second.2))
+preferred_in_range text hop pref (inr h) = (hop_is_hop text hop h.0, let e = h.1 in omega (arith, e))
+
+-- a command that changes the table or asks for all routes of a network has a network, and an `add` a hop and a preference, in range
 abbrev pub IsInRange : Option Command → Type 0
 IsInRange None = Unit {0}
-IsInRange (Some (C.Add net hop)) = IsBlock (block net) × IsHop hop
-IsInRange (Some (C.Del net)) = IsBlock (block net)
+IsInRange (Some (C.Add net hop pref)) = IsBlock (block net) × IsHop hop × (pref < 2 ^ 16)
+IsInRange (Some (C.Del net hop)) = IsBlock (block net)
 IsInRange (Some (C.Get net)) = Unit {0}
 IsInRange (Some (C.Cover net)) = Unit {0}
 IsInRange (Some (C.List net)) = Unit {0}
+IsInRange (Some (C.All net)) = IsBlock (block net)
 IsInRange (Some (C.PageFrom net limit)) = Unit {0}
 IsInRange (Some (C.PageAfter net limit)) = Unit {0}
 IsInRange (Some (C.Own number)) = Unit {0}
@@ -97,11 +103,12 @@ IsInRange (Some C.Flat) = Unit {0}
 
 spelled_in_range : (text : List ℕ) (o : Option Command) → Gives IsCommand text o → IsInRange o
 spelled_in_range text None h = tt
-spelled_in_range text (Some (C.Add net hop)) h = (net_is_block h.phrase.front net h.phrase.first, hop_is_hop h.phrase.back hop h.phrase.second)
-spelled_in_range text (Some (C.Del net)) h = net_is_block h.rest net h.phrase
+spelled_in_range text (Some (C.Add net hop pref)) h = let p = preferred_in_range h.phrase.back hop pref h.phrase.second in (net_is_block h.phrase.front net h.phrase.first, p.0, p.1)
+spelled_in_range text (Some (C.Del net hop)) h = net_is_block h.phrase.front net h.phrase.first
 spelled_in_range text (Some (C.Get net)) h = tt
 spelled_in_range text (Some (C.Cover net)) h = tt
 spelled_in_range text (Some (C.List net)) h = tt
+spelled_in_range text (Some (C.All net)) h = net_is_block h.rest net h.phrase
 spelled_in_range text (Some (C.PageFrom net limit)) h = tt
 spelled_in_range text (Some (C.PageAfter net limit)) h = tt
 spelled_in_range text (Some (C.Own number)) h = tt

@@ -1,5 +1,5 @@
 -- Lines that are printed, and what is read of them again.
-use Rattle.std.proofs.Common.{inl, inr, ◌≡◌, ◌≢◌, ℕ, zero, suc, ◌+◌, ◌/◌, ◌%◌, ◌≤◌, ◌<◌, ◌==◌, nat_lt, Bool, true, false, cond, List, [], ◌∷◌, ◌++◌, get_or, map, codes, decimal, All, Option, Some, None, refl, sym, ap, ◌∙◌, subst, arith, append_assoc}
+use Rattle.std.proofs.Common.{inl, inr, ◌≡◌, ◌≢◌, ℕ, zero, suc, ◌+◌, ◌/◌, ◌%◌, ◌≤◌, ◌<◌, ◌^◌, ◌==◌, nat_lt, Bool, true, false, cond, List, [], ◌∷◌, ◌++◌, get_or, map, codes, decimal, All, Option, Some, None, refl, sym, ap, ◌∙◌, subst, arith, append_assoc}
 use Rattle.std.specs.List.{filter_map, cons_option, AllByRecursion}
 use Rattle.std.specs.Fmt.{digits, digits_onto, digit_glyph}
 use Rattle.std.proofs.lemmas.Bool.Decides.{nat_tests}
@@ -35,7 +35,7 @@ use Rattle.route_table.specs.declared.hop.Hop.TheVariants.{Number, Drop}
 use Rattle.route_table.proofs.Gaps.{of_network_at}
 use Rattle.route_table.proofs.Matches.{match_meets}
 use Rattle.route_feed.specs.Replies.{printed}
-use Rattle.route_feed.specs.Steps.{change_line, route_line}
+use Rattle.route_feed.specs.Steps.{change_line}
 use Rattle.route_feed.specs.Streams.{change_of, closes, replies_in}
 use Rattle.route_feed.proofs.Seam.{changes_in}
 
@@ -81,7 +81,7 @@ Keeps l (Some m) = (closes m ≡ None) × (change_of m ≡ change_of l)
 abbrev pub IsSmall : Reply → Type 0
 IsSmall (R.Set net n) = Unit {0}
 IsSmall (R.Unset net) = Unit {0}
-IsSmall (R.Route net hop) = Unit {0}
+IsSmall (R.Route net hop pref) = Unit {0}
 IsSmall (R.Flat net n) = Unit {0}
 IsSmall (R.Own net) = Unit {0}
 IsSmall (R.Count v4 v6) = (v4 ≤ 0xffffffffffffffff) × (v6 ≤ 0xffffffffffffffff)
@@ -178,8 +178,8 @@ set_told b n ok small = told_if_read (R.Set (network_at b) n) refl (prints (R.Se
 pub unset_told : (b : Block) → IsBlock b → IsTold (R.Unset (network_at b))
 unset_told b ok = told_if_read (R.Unset (network_at b)) refl (prints (R.Unset (network_at b)) (is_cut b) (net_reads b ok))
 
-pub route_told : (r : Route) → IsBlock r.block → IsHop r.hop → IsTold (route_line r)
-route_told r ok hop = told_if_read (route_line r) refl (prints (route_line r) (is_cut r.block) (net_reads r.block ok, word_hop r.hop hop))
+pub route_told : (b : Block) (hop : Hop) (pref : ℕ) → IsBlock b → IsHop hop → pref < 2 ^ 16 → IsTold (R.Route (network_at b) hop pref)
+route_told b hop pref ok is small = told_if_read (R.Route (network_at b) hop pref) refl (prints (R.Route (network_at b) hop pref) (is_cut b) (net_reads b ok, word_hop hop is, omega (arith, small)))
 
 pub flat_told : (b : Block) (n : ℕ) → IsBlock b → n ≤ 0xffffffff → IsTold (R.Flat (network_at b) n)
 flat_told b n ok small = told_if_read (R.Flat (network_at b) n) refl (prints (R.Flat (network_at b) n) (is_cut b) (net_reads b ok, small))
@@ -228,7 +228,7 @@ module _ (v4 v6 : ℕ) where
   first_is : (r : Reply) → IsReply (reply_text count) r → closes r ≡ None
   first_is (R.Set net n) h = refl
   first_is (R.Unset net) h = refl
-  first_is (R.Route net hop) h = refl
+  first_is (R.Route net hop pref) h = refl
   first_is (R.Flat net n) h = refl
   first_is (R.Own net) h = refl
   first_is (R.Count m n) h = refl
@@ -240,7 +240,7 @@ module _ (v4 v6 : ℕ) where
   no_change : (r : Reply) → IsReply (reply_text count) r → change_of r ≡ None
   no_change (R.Set net n) h = absurd (let e = ap (λ t. get_or t 0 0) h.spelled in omega (arith, e))
   no_change (R.Unset net) h = absurd (let e = ap (λ t. get_or t 0 0) h.spelled in omega (arith, e))
-  no_change (R.Route net hop) h = refl
+  no_change (R.Route net hop pref) h = refl
   no_change (R.Flat net n) h = refl
   no_change (R.Own net) h = refl
   no_change (R.Count m n) h = refl

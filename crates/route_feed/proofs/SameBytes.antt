@@ -48,7 +48,7 @@ read_as_printed (l ∷ ls) h = ap (λ o. cons_option o (reread ls)) h.0.same ∙
 piece_in : Reply → Option Piece
 piece_in (R.Set net n) = None
 piece_in (R.Unset net) = None
-piece_in (R.Route net hop) = None
+piece_in (R.Route net hop pref) = None
 piece_in (R.Flat net n) = Some (record { block = block net; number = n })
 piece_in (R.Own net) = None
 piece_in (R.Count v4 v6) = None

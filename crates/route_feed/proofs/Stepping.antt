@@ -10,6 +10,7 @@ use Rattle.route_lines.specs.declared.cutter.Line.{Line}
 use Rattle.route_lines.specs.declared.reply.Closing.{Closing}
 use Rattle.route_lines.specs.declared.reply.Reply.{Reply}
 use Rattle.route_lines.specs.declared.reply.Reply.TheVariants.{Set, Unset, Route, Flat, Own, Count, Close}
+use Rattle.route_table.specs.Networks.{routes_of}
 use Rattle.route_table.specs.Tables.{hop_at}
 use Rattle.route_feed.specs.declared.counted.Counted.{Counted}
 use Rattle.route_feed.specs.declared.error.RunError.{RunError}
@@ -35,25 +36,25 @@ over_closing false h p more false x = refl
 closes_without_change : (l : Reply) → IsSome (closes l) → change_of l ≡ None
 closes_without_change (Set net number) s = absurd (cc)
 closes_without_change (Unset net) s = absurd (cc)
-closes_without_change (Route net hop) s = refl
+closes_without_change (Route net hop pref) s = refl
 closes_without_change (Flat net number) s = refl
 closes_without_change (Own net) s = refl
 closes_without_change (Count v4 v6) s = refl
 closes_without_change (Close closing) s = refl
 
 over_reply : (s : State) (o : Option Closing) (ch : Option Change) (more : List Reply) (x : Address) → (IsSome o → ch ≡ None)
-    → painted_over (hop_at s.table x) (cond (done_or o (ends_well more)) s.pending [] ++ cond (ends_well more) (option_to_list ch ++ committed more) (committed more)) x
+    → painted_over (hop_at (routes_of s.table) x) (cond (done_or o (ends_well more)) s.pending [] ++ cond (ends_well more) (option_to_list ch ++ committed more) (committed more)) x
     ≡ painted_over (hop_after s o x) (cond (ends_well more) (pending_after s.pending o ch) [] ++ committed more) x
-over_reply s None ch more x f = over_line (hop_at s.table x) s.pending (option_to_list ch) (committed more) (ends_well more) x
+over_reply s None ch more x f = over_line (hop_at (routes_of s.table) x) s.pending (option_to_list ch) (committed more) (ends_well more) x
 over_reply s (Some closing) ch more x f =
-    ap (λ c. painted_over (hop_at s.table x) (cond (is_done closing) s.pending [] ++ cond (ends_well more) (option_to_list c ++ committed more) (committed more)) x) (f refl)
-    ∙ over_closing (is_done closing) (hop_at s.table x) s.pending (committed more) (ends_well more) x
+    ap (λ c. painted_over (hop_at (routes_of s.table) x) (cond (is_done closing) s.pending [] ++ cond (ends_well more) (option_to_list c ++ committed more) (committed more)) x) (f refl)
+    ∙ over_closing (is_done closing) (hop_at (routes_of s.table) x) s.pending (committed more) (ends_well more) x
 
 pub line_taken : (s t : State) (l : Reply) → TakesLine s t l → (more : List Reply) (x : Address) → IsAddress x → hop_once s (l ∷ more) x ≡ hop_once t more x
 line_taken s t l k more x a =
     over_reply s (closes l) (change_of l) more x (closes_without_change l)
     ∙ ap (λ h. painted_over h (cond (ends_well more) (pending_after s.pending (closes l) (change_of l)) [] ++ committed more) x) (sym (k.hops x a))
-    ∙ ap (λ p. painted_over (hop_at t.table x) (cond (ends_well more) p [] ++ committed more) x) (sym k.pending)
+    ∙ ap (λ p. painted_over (hop_at (routes_of t.table) x) (cond (ends_well more) p [] ++ committed more) x) (sym k.pending)
 
 -- ---- lines
 

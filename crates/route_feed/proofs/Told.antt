@@ -1,12 +1,11 @@
 -- The lines of a change, by the blocks that the changed network governs.
-use Rattle.std.proofs.Common.{◌≡◌, ◌≢◌, ℕ, ◌⊎◌, inl, inr, ⊎_elim, Bool, true, false, not, ◌&&◌, cond, List, [], ◌∷◌, ◌++◌, map, filter, Option, Some, None, Result, Ok, Err, refl, sym, ap, ◌∙◌, subst}
+use Rattle.std.proofs.Common.{◌≡◌, ◌≢◌, ℕ, ◌⊎◌, inl, inr, ⊎_elim, Bool, true, false, not, ◌&&◌, cond, List, [], ◌∷◌, ◌++◌, map, Option, Some, None, Result, Ok, Err, refl, sym, ap, ◌∙◌, subst}
 use Rattle.std.specs.Option.{option_map}
 use Rattle.std.specs.Result.{OnOk}
-use Rattle.std.specs.List.{list_any}
-use Rattle.ipnet_addr.proofs.Members.{In, In-right}
-use Rattle.ipnet_addr.proofs.Ascending.{In-from_Contains, Contains-from_In, In-from_All}
+use Rattle.ipnet_addr.proofs.Members.{In}
+use Rattle.ipnet_addr.proofs.Ascending.{In-from_Contains, Contains-from_In}
 use Rattle.ipnet_addr.specs.Addresses.{Address, IsAddress}
-use Rattle.ipnet_blocks.specs.Blocks.{Block, IsBlock, HasAddress, first_of, same_block, is_before}
+use Rattle.ipnet_blocks.specs.Blocks.{Block, IsBlock, HasAddress, first_of, same_block}
 use Rattle.ipnet_blocks.specs.Maximal.{IsMaximal, maximal_of}
 use Rattle.ipnet_blocks.proofs.BlockLaws.{has_first}
 use Rattle.ipnet_blocks.proofs.BlockTests as test
@@ -15,8 +14,8 @@ use Rattle.ipnet_blocks.proofs.Unions.{maximal_same}
 use Rattle.ipnet.specs.IpNets.{block, network_at}
 use Rattle.ipnet.specs.declared.ip_net.IpNet.{IpNet}
 use Rattle.route_lines.specs.declared.command.Command.{Command}
+use Rattle.route_lines.specs.declared.command.Command.TheVariants.{Add}
 use Rattle.route_lines.specs.declared.reply.Closing.TheVariants.{Done, Refused}
-use Rattle.route_lines.specs.declared.reply.Reply.{Reply}
 use Rattle.route_lines.specs.declared.reply.Reply.TheVariants.{Close}
 use Rattle.route_lines.specs.InnerPhrase.{Gives}
 use Rattle.route_lines.specs.Spelled.{command_of}
@@ -29,16 +28,25 @@ use Rattle.route_table.specs.declared.hop.Hop.{Hop}
 use Rattle.route_table.proofs.FlatSearch.{search_is_flat}
 use Rattle.route_table.proofs.Flats.{same_flat}
 use Rattle.route_table.proofs.Gaps.{of_network_at}
-use Rattle.route_table.specs.Tables.{Route, IsTable, IsHop, Changed, Governed, is_stored, match_of, match_number, number_of, hop_at, with_route, without_block, item_of}
-use Rattle.route_table.proofs.Alterations.{changed_by_add, changed_by_del, blocks_of_add, blocks_of_del, governed_after, no_blocks}
+use Rattle.route_table.specs.Choices.{Choice, AreChoices, choices_without, holds_hop}
+use Rattle.route_table.specs.Networks.{Stored, IsStoredTable, best_route, choices_at, routes_of, with_choices, with_stored, without_choice}
+use Rattle.route_table.specs.Refusals.{IsRefused}
+use Rattle.route_table.specs.declared.refused.AddRefused.{AddRefused}
+use Rattle.route_table.specs.declared.refused.AddRefused.TheVariants.{Store, TooMany}
+use Rattle.route_table.specs.Tables.{Route, Changed, Governed, match_of, match_number, hop_at, without_block, item_of}
+use Rattle.route_table.proofs.Alterations.{governed_after, no_blocks}
+use Rattle.route_table.proofs.ChoiceChanges.{blocks_of_choices, changed_by_choices, choices_have_one_hop}
+use Rattle.route_table.proofs.ChoiceLists.{none_of}
 use Rattle.route_table.proofs.Changes.{changed_is_maximal, same_from_test, same_itself}
-use Rattle.route_table.proofs.OneHop.{added_lines, left_lines}
+use Rattle.route_table.proofs.Kept.{all_kept}
+use Rattle.route_table.proofs.Networks.{at_cases, at_some, del_none, routes_are_table, routes_with, routes_without, stored_block, stored_choices}
+use Rattle.route_table.proofs.Ordered.{put_itself}
 use Rattle.route_table.proofs.Updates.{left_back, left_other}
 use Rattle.route_feed.specs.declared.counted.Counted.{Counted}
 use Rattle.route_feed.specs.declared.error.RunError.{RunError}
 use Rattle.route_feed.specs.Replies.{printed}
 use Rattle.route_feed.specs.InnerReplies.{Closes}
-use Rattle.route_feed.specs.Steps.{change_line, change_lines, closed, may_refuse, accepted, step}
+use Rattle.route_feed.specs.Steps.{change_line, change_lines, closed, is_too_many, may_refuse, accepted, step}
 
 map_same : {A B : Type 0} (f g : A → B) (xs : List A) → ((x : A) → In x xs → f x ≡ g x) → map f xs ≡ map g xs
 map_same f g [] h = refl
@@ -57,75 +65,66 @@ module _ (M N : List Route) where
       map_same (λ b. change_line (hop_at N (first_of b)) b) (change_line after) (maximal_of (changed M N)) (λ b i. ap (λ o. change_line o b) (one b i))
       ∙ ap (map (change_line after)) (maximal_is_unique (Changed M N) (maximal_of (changed M N)) bs (changed_is_maximal M N) m)
 
-module _ (M : List Route) (m : IsTable M) (r : Route) (n : IsTable (with_route M r)) where
-  itself : In r (with_route M r)
-  itself = In-right r (filter (λ s. is_before s.block r.block) M) (r ∷ filter (λ s. is_before r.block s.block) M) (inl refl)
+-- a table with choices at a block has a block there, and choices
+pub changed_is : (M : List Stored) (b : Block) (cs : List Choice) → (cs ≡ [] → ⊥) → IsStoredTable (with_choices M b cs) → IsBlock b × AreChoices cs
+changed_is M b [] some n = absurd (some refl)
+changed_is M b (c ∷ cs) some n =
+    let s : Stored = record { block = b; choices = c ∷ cs } in
+    let i = put_itself Stored.block M s in
+    (stored_block (with_stored M s) n s i, stored_choices (with_stored M s) n s i)
 
-  is_block : IsBlock r.block
-  is_block = In-from_All (λ s. IsBlock s.block) (with_route M r) n.blocks r itself
+-- what has the hop is a block
+pub held_is : (M : List Stored) → IsStoredTable M → (b : Block) (h : Hop) → holds_hop (choices_at M b) h ≡ true → IsBlock b
+held_is M m b h e = stored_block M m (record { block = b; choices = choices_at M b }) (at_some M m b (λ none. let f : holds_hop [] h ≡ true = rw none at e in cc))
 
-  is_hop : IsHop r.hop
-  is_hop = In-from_All (λ s. IsHop s.hop) (with_route M r) n.hops r itself
-
-  pub add_same : match_number (match_of M r.block) ≡ number_of r.hop → change_lines M (with_route M r) ≡ []
-  add_same e = no_lines M (with_route M r) (λ x a c. ((changed_by_add M m r is_block is_hop x a).0 c).1 e)
-
-  pub add_differs : (bs : List Block) → (match_number (match_of M r.block) ≢ number_of r.hop) → IsMaximal (Governed (with_route M r) r.block) bs → change_lines M (with_route M r) ≡ map (change_line (number_of r.hop)) bs
-  add_differs bs d g =
-      some_lines M (with_route M r) (number_of r.hop) bs
-      ((blocks_of_add M r bs m is_block is_hop (maximal_same (Governed (with_route M r) r.block) (Governed M r.block)
-      (λ x a. (governed_after M r m is_block x).0) (λ x a. (governed_after M r m is_block x).1) bs g)).0 d)
-      (λ b i. added_lines M r m is_block is_hop b (Contains-from_In (maximal_of (changed M (with_route M r))) b i) (first_of b) (has_first b))
-
--- a member that passes the test
-member : (p : Route → Bool) (M : List Route) → list_any p M ≡ true → (r : Route) × In r M × (p r ≡ true)
-member p [] e = absurd (cc)
-member p (r ∷ M) e = go (p r) refl (λ f. member p M (rw f at e))
+-- a hop that is not there takes nothing out
+pub none_left : (M : List Stored) → IsStoredTable M → (b : Block) (h : Hop) → holds_hop (choices_at M b) h ≡ false → without_choice M b h ≡ M
+none_left M m b h e = ⊎_elim
+    (λ t. del_none M b h m (subst IsBlock t.2 (stored_block M m t.0 t.1)) (none_of (choices_at M b) h e))
+    (λ t. ap (λ cs. with_choices M b (choices_without cs h)) t.1 ∙ all_kept (λ s. not (same_block s.block b)) M (λ s i. apart s (t.0 s i)))
+    (at_cases M b)
   where
-    go : (b : Bool) → p r ≡ b → (p r ≡ false → (s : Route) × In s M × (p s ≡ true)) → (s : Route) × In s (r ∷ M) × (p s ≡ true)
-    go true f later = (r, inl refl, f)
-    go false f later = let t = later f in (t.0, inr t.1, t.2)
+    apart : (s : Stored) → (s.block ≡ b → ⊥) → not (same_block s.block b) ≡ true
+    apart s other = go (same_block s.block b) refl
+      where
+        go : (c : Bool) → same_block s.block b ≡ c → not c ≡ true
+        go true f = absurd (other (test.same_from_test s.block b f))
+        go false f = refl
 
-module _ (M : List Route) (m : IsTable M) (n : Block) (stored : is_stored M n ≡ true) where
-  is_stored_block : IsBlock n
-  is_stored_block =
-      let t = member (λ r. same_block r.block n) M stored in
-      subst IsBlock (test.same_from_test t.0.block n t.2) (In-from_All (λ s. IsBlock s.block) M m.blocks t.0 t.1)
+module _ (M : List Stored) (m : IsStoredTable M) (b : Block) (ok : IsBlock b) (cs : List Choice) (are : AreChoices cs) where
+  -- a block governs the same after a change of its choices
+  governed_kept : (ds : List Choice) (x : Address) → (Governed (routes_of (with_choices M b ds)) b x → Governed (routes_of M) b x) × (Governed (routes_of M) b x → Governed (routes_of (with_choices M b ds)) b x)
+  governed_kept [] x =
+      let T = routes_of M in
+      let t = routes_are_table M m in
+      subst (λ (N : List Route). (Governed N b x → Governed T b x) × (Governed T b x → Governed N b x)) (sym (routes_without M b)) (
+        (λ g. record {
+          inside = g.inside;
+          free = λ u c l h. g.free u (Contains-from_In (without_block T b) u (left_other T t b u (In-from_Contains T u c) (λ e. l.1 (λ y k. subst (λ (d : Block). HasAddress d y) (sym e) k)))) l h;
+        }),
+        (λ g. record { inside = g.inside; free = λ u c l h. g.free u (Contains-from_In T u (left_back T t b u (In-from_Contains (without_block T b) u c)).0) l h }),
+      )
+  governed_kept (d ∷ ds) x =
+      let s : Stored = record { block = b; choices = d ∷ ds } in
+      subst (λ (N : List Route). (Governed N b x → Governed (routes_of M) b x) × (Governed (routes_of M) b x → Governed N b x)) (sym (routes_with M s)) (governed_after (routes_of M) (best_route s) (routes_are_table M m) ok x)
 
-  -- a `del` leaves what its block governs
-  governed_left : (x : Address) → (Governed (without_block M n) n x → Governed M n x) × (Governed M n x → Governed (without_block M n) n x)
-  governed_left x = (
-    (λ g. record {
-      inside = g.inside;
-      free = λ u c l h. g.free u (Contains-from_In (without_block M n) u (left_other M m n u (In-from_Contains M u c) (λ e. l.1 (λ y k. subst (λ (b : Block). HasAddress b y) (sym e) k)))) l h;
-    }),
-    (λ g. record { inside = g.inside; free = λ u c l h. g.free u (Contains-from_In M u (left_back M m n u (In-from_Contains (without_block M n) u c)).0) l h }),
-  )
+  pub choices_same : match_number (match_of (routes_of M) b) ≡ match_number (match_of (routes_of (with_choices M b cs)) b) → change_lines (routes_of M) (routes_of (with_choices M b cs)) ≡ []
+  choices_same e = no_lines (routes_of M) (routes_of (with_choices M b cs)) (λ x a c. ((changed_by_choices M m b ok cs are x a).0 c).1 e)
 
-  pub del_same : match_number (match_of M n) ≡ match_number (match_of (without_block M n) n) → change_lines M (without_block M n) ≡ []
-  del_same e = no_lines M (without_block M n) (λ x a c. ((changed_by_del M m n is_stored_block x a).0 c).1 e)
-
-  pub del_differs : (bs : List Block) → (match_number (match_of M n) ≢ match_number (match_of (without_block M n) n)) → IsMaximal (Governed (without_block M n) n) bs
-      → change_lines M (without_block M n) ≡ map (change_line (match_number (match_of (without_block M n) n))) bs
-  del_differs bs d g =
-      some_lines M (without_block M n) (match_number (match_of (without_block M n) n)) bs
-      ((blocks_of_del M n bs m is_stored_block (maximal_same (Governed (without_block M n) n) (Governed M n) (λ x a. (governed_left x).0) (λ x a. (governed_left x).1) bs g)).0 d)
-      (λ b i. left_lines M n m is_stored_block b (Contains-from_In (maximal_of (changed M (without_block M n))) b i) (first_of b) (has_first b))
-
-pub not_stored_left : (p : Route → Bool) (M : List Route) → list_any p M ≡ false → filter (λ r. not (p r)) M ≡ M
-not_stored_left p [] e = refl
-not_stored_left p (r ∷ M) e = go (p r) refl (λ f. not_stored_left p M (rw f at e))
-  where
-    go : (b : Bool) → p r ≡ b → (p r ≡ false → filter (λ s. not (p s)) M ≡ M) → filter (λ s. not (p s)) (r ∷ M) ≡ r ∷ M
-    go true f later = let g : true ≡ false = rw f at e in absurd (cc)
-    go false f later = rw f (ap (λ l. r ∷ l) (later f))
+  pub choices_differ : (bs : List Block) → (match_number (match_of (routes_of M) b) ≢ match_number (match_of (routes_of (with_choices M b cs)) b)) → IsMaximal (Governed (routes_of (with_choices M b cs)) b) bs
+      → change_lines (routes_of M) (routes_of (with_choices M b cs)) ≡ map (change_line (match_number (match_of (routes_of (with_choices M b cs)) b))) bs
+  choices_differ bs d g =
+      let N = routes_of (with_choices M b cs) in
+      some_lines (routes_of M) N (match_number (match_of N b)) bs
+      ((blocks_of_choices M m b ok cs bs are (maximal_same (Governed N b) (Governed (routes_of M) b) (λ x a. (governed_kept cs x).0) (λ x a. (governed_kept cs x).1) bs g)).0 d)
+      (λ c i. choices_have_one_hop M m b ok cs are c (Contains-from_In (maximal_of (changed (routes_of M) N)) c i) (first_of c) (has_first c))
 
 -- what is found is handed out without host bits
-pub found_is_printable : (o : Option Route) (p : IpNet × Hop) → option_map item_of o ≡ Some p → p.0 ≡ network_at (block p.0)
+pub found_is_printable : (o : Option Route) (p : IpNet × Hop × ℕ) → option_map item_of o ≡ Some p → p.0 ≡ network_at (block p.0)
 found_is_printable None p e = absurd (cc)
 found_is_printable (Some r) p e =
     let same : item_of r ≡ p = cc in
-    subst (λ (q : IpNet × Hop). q.0 ≡ network_at (block q.0)) same (sym (ap network_at (of_network_at r.block)))
+    subst (λ (q : IpNet × Hop × ℕ). q.0 ≡ network_at (block q.0)) same (sym (ap network_at (of_network_at r.block)))
 
 pub same_or_not : (o p : Option ℕ) → (o ≡ p) ⊎ (o ≢ p)
 same_or_not o p = go (same_number o p) refl
@@ -134,14 +133,20 @@ same_or_not o p = go (same_number o p) refl
     go true e = inl (same_from_test o p e)
     go false e = inr (λ q. let t = same_itself p in let f : same_number p p ≡ false = subst (λ l. same_number l p ≡ false) q e in cc)
 
--- the lines of a change, written
-module _ {W : Type 0} (contents : W → Option (List ℕ)) (Held : List Block → Type 0) (before after : Option ℕ) (old new : Counted W) (result : Result Unit RunError)
+-- the lines of a change of the choices of one block, written
+module _ {W : Type 0} (contents : W → Option (List ℕ)) (M T : List Stored) (m : IsStoredTable M) (b : Block) (ok : IsBlock b) (cs : List Choice) (are : AreChoices cs) (is : T ≡ with_choices M b cs)
+    (before after : Option ℕ) (was : before ≡ match_number (match_of (routes_of M) b)) (has : after ≡ match_number (match_of (routes_of T) b)) (old new : Counted W) (result : Result Unit RunError)
     (same : before ≡ after → Closes contents 1 old new result (printed (Close Done ∷ [])))
-    (differs : before ≢ after → (bs : List Block) × Held bs × Closes contents 1 old new result (printed (map (change_line after) bs ++ Close Done ∷ []))) where
-  pub Closes-change : (lines : List Reply) → (before ≡ after → lines ≡ []) → ((bs : List Block) → before ≢ after → Held bs → lines ≡ map (change_line after) bs) → Closes contents 1 old new result (printed (lines ++ Close Done ∷ []))
-  Closes-change lines none some = ⊎_elim
-      (λ e. subst (λ ls. Closes contents 1 old new result (printed (ls ++ Close Done ∷ []))) (sym (none e)) (same e))
-      (λ d. let w = differs d in subst (λ ls. Closes contents 1 old new result (printed (ls ++ Close Done ∷ []))) (sym (some w.0 d w.1)) w.2)
+    (differs : before ≢ after → (bs : List Block) × IsMaximal (Governed (routes_of T) b) bs × Closes contents 1 old new result (printed (map (change_line after) bs ++ Close Done ∷ []))) where
+  pub Closes-change : Closes contents 1 old new result (printed (change_lines (routes_of M) (routes_of (with_choices M b cs)) ++ Close Done ∷ []))
+  Closes-change =
+      let now = has ∙ ap (λ (U : List Stored). match_number (match_of (routes_of U) b)) is in
+      ⊎_elim
+      (λ e. subst (λ ls. Closes contents 1 old new result (printed (ls ++ Close Done ∷ []))) (sym (choices_same M m b ok cs are (sym was ∙ e ∙ now))) (same e))
+      (λ d.
+      let (bs, governed, written) = differs d in
+      let lines = choices_differ M m b ok cs are bs (λ q. d (was ∙ q ∙ sym now)) (subst (λ (U : List Stored). IsMaximal (Governed (routes_of U) b) bs) is governed) in
+      subst (λ ls. Closes contents 1 old new result (printed (ls ++ Close Done ∷ []))) (ap (λ (k : Option ℕ). map (change_line k) bs) now ∙ sym lines) written)
       (same_or_not before after)
 
 pub on_ok : {T E P : Type 0} (r : Result T E) → P → OnOk r P
@@ -153,8 +158,14 @@ plain_if true x y = refl
 plain_if false x y = refl
 
 -- a command that is not refused
-pub plain_step : (M : List Route) (command : Option Command) → step M command false ≡ accepted M command
-plain_step M command = plain_if (may_refuse M command) (closed M Refused) (accepted M command)
+pub plain_step : (M : List Stored) (command : Option Command) → is_too_many M command ≡ false → step M command false ≡ accepted M command
+plain_step M command room = rw room (plain_if (may_refuse M command) (closed M Refused) (accepted M command))
+
+-- an `add` that is refused, for want of memory or since eight other hops are stored
+pub refused_step : (M : List Stored) (net : IpNet) (hop : Hop) (pref : ℕ) (why : AddRefused) → IsRefused (choices_at M (block net)) hop why
+    → (refusal : Bool) × (step M (Some (Add net hop pref)) refusal ≡ closed M Refused)
+refused_step M net hop pref (Store e) h = (true, rw h.1 refl)
+refused_step M net hop pref TooMany h = (false, rw h refl)
 
 -- the command that was read
 pub read_is : (text : List ℕ) (command : Command) → IsCommand text command → command_of text ≡ Some command

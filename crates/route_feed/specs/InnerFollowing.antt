@@ -5,6 +5,7 @@ use Rattle.route_lines.specs.Spelled.{reply_of}
 use Rattle.route_lines.specs.declared.cutter.Line.{Line}
 use Rattle.route_lines.specs.declared.cutter.Line.TheVariants.{Text, TooLong}
 use Rattle.route_lines.specs.declared.reply.Reply.{Reply}
+use Rattle.route_table.specs.Networks.{routes_of}
 use Rattle.route_table.specs.Tables.{hop_at}
 use Rattle.route_feed.specs.declared.error.RunError.{RunError}
 use Rattle.route_feed.specs.declared.error.RunError.TheVariants as Why
@@ -30,4 +31,4 @@ AllReplies ls = All (λ l. IsSome (reply_in l)) ls
 
 -- the hop of an address once these reply lines have come
 abbrev pub hop_once : State → List Reply → Address → Option ℕ
-hop_once s ls x = painted_over (hop_at s.table x) ((if ends_well ls then s.pending else []) ++ committed ls) x
+hop_once s ls x = painted_over (hop_at (routes_of s.table) x) ((if ends_well ls then s.pending else []) ++ committed ls) x

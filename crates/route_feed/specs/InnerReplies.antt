@@ -8,7 +8,7 @@ use Rattle.route_lines.specs.declared.cutter.Rest.TheVariants.{Empty, Held}
 use Rattle.route_lines.specs.declared.reply.Closing.TheVariants.{Bad}
 use Rattle.route_lines.specs.declared.reply.Reply.{Reply}
 use Rattle.route_lines.specs.declared.reply.Reply.TheVariants.{Close}
-use Rattle.route_table.specs.Tables.{Route}
+use Rattle.route_table.specs.Networks.{Stored}
 use Rattle.route_feed.specs.declared.counted.Counted.{Counted}
 use Rattle.route_feed.specs.declared.error.RunError.{RunError}
 use Rattle.route_feed.specs.declared.error.RunError.TheVariants.{Write}
@@ -53,7 +53,7 @@ module _ {W : Type 0} (contents : W → Option (List ℕ)) where
   Closes times old new (Err e) text = (e ≡ Write) × Torn old new text
 
   -- a command was answered, and the table went on, or the writer failed
-  pub record Answers (M next : List Route) (command : Option Command) (old new : Counted W) (result : Result Unit RunError) : Type 0 where
+  pub record Answers (M next : List Stored) (command : Option Command) (old new : Counted W) (result : Result Unit RunError) : Type 0 where
     pub refusal : Bool
     pub writes : Closes 1 old new result (printed (turn_lines (step M command refusal)))
     pub table : OnOk result (next ≡ (step M command refusal).next)

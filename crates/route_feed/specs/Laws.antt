@@ -5,6 +5,7 @@ use Rattle.route_lines.specs.Bytes.{lines, rest}
 use Rattle.route_lines.specs.declared.reply.Closing.TheVariants.{Done}
 use Rattle.route_lines.specs.declared.reply.Reply.TheVariants.{Close}
 use Rattle.route_table.specs.Flats.{flat_of}
+use Rattle.route_table.specs.Networks.{Stored, routes_of}
 use Rattle.route_table.specs.Tables.{Route, IsTable, hop_at}
 use Rattle.route_feed.specs.Follows.{AreReplies, followed}
 use Rattle.route_feed.specs.Replies.{printed}
@@ -13,18 +14,18 @@ use Rattle.route_feed.specs.Output.{table_after, whole_commands, at_end, output}
 use Rattle.route_feed.specs.Streams.{closings, committed, painted, replies_in}
 
 -- the table after as many of the commands in the bytes as replies stand whole in this beginning of the output
-abbrev pub table_told : List ℕ → List Bool → List ℕ → List Route
+abbrev pub table_told : List ℕ → List Bool → List ℕ → List Stored
 table_told bytes refusals front = table_after [] (take (closings (replies_in front)) (whole_commands bytes ++ at_end (rest bytes))) refusals
 
 -- a follower of any beginning of the output has each address at the hop that it has in that table
 abbrev pub BeginningsAgree : Type 0
 BeginningsAgree = (bytes front back : List ℕ) (refusals : List Bool) → output bytes refusals ≡ front ++ back
-    → (x : Address) → IsAddress x → painted (committed (replies_in front)) x ≡ hop_at (table_told bytes refusals front) x
+    → (x : Address) → IsAddress x → painted (committed (replies_in front)) x ≡ hop_at (routes_of (table_told bytes refusals front)) x
 
 -- so it has the flat list of that table
 abbrev pub FlatListsAgree : Type 0
 FlatListsAgree = (bytes front back : List ℕ) (refusals : List Bool) → output bytes refusals ≡ front ++ back
-    → flat_of (painted (committed (replies_in front))) ≡ flat_of (hop_at (table_told bytes refusals front))
+    → flat_of (painted (committed (replies_in front))) ≡ flat_of (hop_at (routes_of (table_told bytes refusals front)))
 
 -- each line of the input is answered by a reply that ends in one closing line, and so is its rest
 abbrev pub AllAreAnswered : Type 0
@@ -37,7 +38,7 @@ flat_bytes M = printed (map flat_line (flat_of (hop_at M)) ++ Close Done ∷ [])
 -- what a follower of the whole output prints is the flat list of the leader's last table
 abbrev pub OutputIsFollowed : Type 0
 OutputIsFollowed = (bytes : List ℕ) (refusals : List Bool)
-    → followed (output bytes refusals) ≡ flat_bytes (table_after [] (whole_commands bytes ++ at_end (rest bytes)) refusals)
+    → followed (output bytes refusals) ≡ flat_bytes (routes_of (table_after [] (whole_commands bytes ++ at_end (rest bytes)) refusals))
 
 -- two tables print the same bytes exactly where all their hops are the same
 abbrev pub SameFlatBytes : Type 0

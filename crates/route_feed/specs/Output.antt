@@ -4,7 +4,7 @@ use Rattle.route_lines.specs.Bytes.{rest}
 use Rattle.route_lines.specs.Lines.{lines_in}
 use Rattle.route_lines.specs.declared.command.Command.{Command}
 use Rattle.route_lines.specs.declared.reply.Reply.{Reply}
-use Rattle.route_table.specs.Tables.{Route}
+use Rattle.route_table.specs.Networks.{Stored}
 use Rattle.route_feed.specs.Commands.{command_in}
 use Rattle.route_feed.specs.Replies.{printed}
 use Rattle.route_feed.specs.Steps as turn
@@ -15,18 +15,18 @@ first_or_false [] = false
 first_or_false (r ∷ rs) = r
 
 -- the refusals for the commands after this one: it takes one value, where it may be refused
-abbrev pub refusals_after : List Route → Option Command → List Bool → List Bool
+abbrev pub refusals_after : List Stored → Option Command → List Bool → List Bool
 refusals_after M command refusals = if turn.may_refuse M command then drop 1 refusals else refusals
 
 -- the reply lines to the commands, in order; None is a line that spells no command
-abbrev pub replies : List Route → List (Option Command) → List Bool → List Reply
+abbrev pub replies : List Stored → List (Option Command) → List Bool → List Reply
 replies M [] refusals = []
 replies M (command ∷ commands) refusals =
     turn.turn_lines (turn.step M command (first_or_false refusals))
     ++ replies (turn.step M command (first_or_false refusals)).next commands (refusals_after M command refusals)
 
 -- the table after the commands
-abbrev pub table_after : List Route → List (Option Command) → List Bool → List Route
+abbrev pub table_after : List Stored → List (Option Command) → List Bool → List Stored
 table_after M [] refusals = M
 table_after M (command ∷ commands) refusals =
     table_after (turn.step M command (first_or_false refusals)).next commands (refusals_after M command refusals)

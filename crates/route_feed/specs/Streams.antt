@@ -27,7 +27,7 @@ is_done Refused = false
 abbrev pub change_of : Reply → Option Change
 change_of (Set net number) = Some (record { block = block net; number = Some number })
 change_of (Unset net) = Some (record { block = block net; number = None })
-change_of (Route net hop) = None
+change_of (Route net hop pref) = None
 change_of (Flat net number) = None
 change_of (Own net) = None
 change_of (Count v4 v6) = None
@@ -37,7 +37,7 @@ change_of (Close closing) = None
 abbrev pub closes : Reply → Option Closing
 closes (Set net number) = None
 closes (Unset net) = None
-closes (Route net hop) = None
+closes (Route net hop pref) = None
 closes (Flat net number) = None
 closes (Own net) = None
 closes (Count v4 v6) = None

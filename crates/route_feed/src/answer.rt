@@ -8,9 +8,10 @@ ghost use Rattle.route_feed.specs.Counted.{CanCount};
 ghost use Rattle.route_feed.specs.InnerReplies.{Answers, Closes, replies_to_rest, reply_to_rest};
 ghost use Rattle.route_feed.specs.Replies.{printed};
 ghost use Rattle.route_feed.specs.Steps.{change_line};
+ghost use Rattle.route_table.specs.Networks.{routes_of};
 ghost use Rattle.route_table.specs.Tables as table_of;
 
-use crate::body::{ChangeLines, PageLines};
+use crate::body::{ChangeLines, ChoiceLines, PageLines};
 use crate::counted::Counted;
 use crate::error::RunError;
 use crate::writing::{close, reply};
@@ -57,11 +58,12 @@ fn answer_command<W: Write>(
     ensures { Answers W.contents table.old table.new (Some command) writer.old writer.new result }
 {
     match command {
-        Command::Add { net, hop } => answer_add(table, net, hop, writer),
-        Command::Del { net } => answer_del(table, net, writer),
+        Command::Add { net, hop, pref } => answer_add(table, net, hop, pref, writer),
+        Command::Del { net, hop } => answer_del(table, net, hop, writer),
         Command::Get { net } => answer_get(table, net, writer),
         Command::Cover { net } => reply(writer, table.cover(&net)),
         Command::List { net } => reply(writer, table.list(&net)),
+        Command::All { net } => answer_all(table, net, writer),
         Command::PageFrom { net, limit } => {
             let routes = table.from(&net);
             reply(writer, PageLines { routes, limit })
@@ -80,12 +82,13 @@ fn answer_add<W: Write>(
     table: &mut RouteTable,
     net: IpNet,
     hop: Hop,
+    pref: u16,
     writer: &mut Counted<W>,
 ) -> Result<(), RunError>
     requires { CanCount writer.old }
-    ensures { Answers W.contents table.old table.new (Some (Command.Add net hop)) writer.old writer.new result }
+    ensures { Answers W.contents table.old table.new (Some (Command.Add net hop pref)) writer.old writer.new result }
 {
-    match table.add(net, hop) {
+    match table.add(net, hop, pref) {
         Ok((before, after)) => tell_change(table, &net, before, after, writer),
         Err(_) => close(writer, Closing::Refused),
     }
@@ -94,12 +97,13 @@ fn answer_add<W: Write>(
 fn answer_del<W: Write>(
     table: &mut RouteTable,
     net: IpNet,
+    hop: Hop,
     writer: &mut Counted<W>,
 ) -> Result<(), RunError>
     requires { CanCount writer.old }
-    ensures { Answers W.contents table.old table.new (Some (Command.Del net)) writer.old writer.new result }
+    ensures { Answers W.contents table.old table.new (Some (Command.Del net hop)) writer.old writer.new result }
 {
-    match table.del(&net) {
+    match table.del(&net, hop) {
         Some((before, after)) => tell_change(table, &net, before, after, writer),
         None => close(writer, Closing::Missing),
     }
@@ -115,8 +119,23 @@ fn answer_get<W: Write>(
 {
     match table.get(&net) {
         None => close(writer, Closing::Missing),
-        Some((net, hop)) => reply(writer, Some(Reply::Route { net, hop })),
+        Some((net, hop, pref)) => reply(writer, Some(Reply::Route { net, hop, pref })),
     }
+}
+
+fn answer_all<W: Write>(
+    table: &RouteTable,
+    net: IpNet,
+    writer: &mut Counted<W>,
+) -> Result<(), RunError>
+    requires { CanCount writer.old }
+    ensures { Answers W.contents table.now table.now (Some (Command.All net)) writer.old writer.new result }
+{
+    let lines = ChoiceLines {
+        net: net.trunc(),
+        choices: table.all(&net),
+    };
+    reply(writer, lines)
 }
 
 fn answer_own<W: Write>(
@@ -155,7 +174,7 @@ fn tell_change<W: Write>(
 ) -> Result<(), RunError>
     requires { CanCount writer.old }
     ensures same { before ≡ after → Closes W.contents 1 writer.old writer.new result (printed (Reply.Close Closing.Done ∷ [])) }
-    ensures differs { before ≢ after → (blocks : List Block) × IsMaximal (table_of.Governed table.now (block net.now)) blocks
+    ensures differs { before ≢ after → (blocks : List Block) × IsMaximal (table_of.Governed (routes_of table.now) (block net.now)) blocks
         × Closes W.contents 1 writer.old writer.new result (printed (map (change_line after) blocks ++ Reply.Close Closing.Done ∷ [])) }
 {
     if before == after {

@@ -1,16 +1,16 @@
 //! The lines of a reply, one after another.
-ghost use Rattle.std.specs.Prelude.{⊤, List, map, take, All, IfSome};
+ghost use Rattle.std.specs.Prelude.{◌≡◌, ⊤, List, map, take, All, IfSome};
 ghost use Rattle.std.specs.Option.{option_to_list};
-ghost use Rattle.ipnet.specs.IpNets.{block, family, parts};
+ghost use Rattle.ipnet.specs.IpNets.{block, family, network_at, parts};
 ghost use Rattle.ipnet_blocks.specs.Networks.{IsTruncated};
 ghost use Rattle.route_feed.specs.InnerReplies.{GivesLine};
-ghost use Rattle.route_feed.specs.Steps.{change_line, flat_line, own_line, route_line};
+ghost use Rattle.route_feed.specs.Steps.{change_line, choice_line, flat_line, own_line, route_line};
 ghost use Rattle.route_lines.specs.Texts.{IsPrintable};
 ghost use Rattle.route_lines.specs.declared.reply.Reply.{Reply};
 
 use ipnet::IpNet;
 use route_lines::Reply;
-use route_table::{Flat, Governed, Routes};
+use route_table::{All, Flat, Governed, Routes};
 
 /// The lines of a reply, but for the one that closes it, handed out one after another.
 pub trait Body: Drop {
@@ -45,8 +45,8 @@ impl Body for Routes<'_> {
     ghost can_give = { λ routes. ⊤ };
 
     fn next_line(&mut self) -> Option<Reply> {
-        let (net, hop) = self.next()?;
-        Some(Reply::Route { net, hop })
+        let (net, hop, pref) = self.next()?;
+        Some(Reply::Route { net, hop, pref })
     }
 }
 
@@ -64,8 +64,27 @@ impl Body for PageLines<'_> {
 
     fn next_line(&mut self) -> Option<Reply> {
         self.limit = self.limit.checked_sub(1)?;
-        let (net, hop) = self.routes.next()?;
-        Some(Reply::Route { net, hop })
+        let (net, hop, pref) = self.routes.next()?;
+        Some(Reply::Route { net, hop, pref })
+    }
+}
+
+/// The lines of the routes of one network, which has no host bits.
+#[derive(Drop)]
+pub struct ChoiceLines<'a> {
+    pub net: IpNet,
+    pub choices: All<'a>,
+}
+
+impl Body for ChoiceLines<'_> {
+    ghost lines = { λ body. map (choice_line (block body.net)) body.choices };
+
+    ghost can_give = { λ body. body.net ≡ network_at (block body.net) };
+
+    fn next_line(&mut self) -> Option<Reply> {
+        let net = self.net;
+        let (hop, pref) = self.choices.next()?;
+        Some(Reply::Route { net, hop, pref })
     }
 }
 

@@ -4,6 +4,7 @@ ghost use Rattle.ipnet_addr.specs.Addresses.{Address, IsAddress};
 ghost use Rattle.route_lines.specs.Spelled.{reply_of};
 ghost use Rattle.route_lines.specs.declared.reply.Reply.{Reply};
 ghost use Rattle.route_table.specs.Flats.{IsFlat};
+ghost use Rattle.route_table.specs.Networks.{routes_of};
 ghost use Rattle.route_table.specs.Tables.{hop_at};
 ghost use Rattle.route_feed.specs.Following.{State, TakesLine};
 ghost use Rattle.route_feed.specs.Streams.{painted_over, WantsMemory};
@@ -60,7 +61,7 @@ impl Model for Follower {
 
 /// Carries the changes out, in order.
 fn carry_out(table: &mut RouteTable, changes: &[Waiting]) -> Result<(), FollowError>
-    ensures hops { OnOk result ((x : Address) → IsAddress x → hop_at table.new x ≡ painted_over (hop_at table.old x) (changes_of changes.now) x) }
+    ensures hops { OnOk result ((x : Address) → IsAddress x → hop_at (routes_of table.new) x ≡ painted_over (hop_at (routes_of table.old) x) (changes_of changes.now) x) }
     ensures memory { IfErr result (λ e. e ≡ FollowError.Memory) }
     ensures some { OnErr result (0 < length changes.now) }
 {
@@ -104,7 +105,7 @@ impl Follower {
     pub fn flat(&self) -> Option<Flat<'_>>
         ensures works { IfNone result (self.now.failed ≡ true) }
         ensures failed { self.now.failed ≡ true → result ≡ None }
-        ensures flat { IfSome result (λ pieces. IsFlat (hop_at self.now.table) pieces) }
+        ensures flat { IfSome result (λ pieces. IsFlat (hop_at (routes_of self.now.table)) pieces) }
     {
         if self.failed {
             return None;
@@ -114,7 +115,7 @@ impl Follower {
 
     /// The flat list of the hops.
     pub(crate) fn pieces(&self) -> Flat<'_>
-        ensures { IsFlat (hop_at self.now.table) result }
+        ensures { IsFlat (hop_at (routes_of self.now.table)) result }
     {
         self.table.flat()
     }
@@ -189,7 +190,7 @@ impl Follower {
 
     /// Carries out what waits.
     fn commit(&mut self) -> Result<(), FollowError>
-        ensures hops { OnOk result ((x : Address) → IsAddress x → hop_at self.new.table x ≡ painted_over (hop_at self.old.table x) self.old.pending x) }
+        ensures hops { OnOk result ((x : Address) → IsAddress x → hop_at (routes_of self.new.table) x ≡ painted_over (hop_at (routes_of self.old.table) x) self.old.pending x) }
         ensures pending { OnOk result (self.new.pending ≡ []) }
         ensures memory { IfErr result (λ e. e ≡ FollowError.Memory) }
         ensures some { OnErr result (0 < length self.old.pending) }

@@ -6,7 +6,7 @@ use std::test::Fail;
 // What a leader is given, and all that it writes.
 const LED: [(&[u8], &[u8]); 16] = [
     (
-        b"add 10.0.0.0/8 1\nadd 10.0.0.0/9 2\nadd 10.0.0.0/8 3\nadd 10.0.0.0/8 3\nadd 2001:db8::/32 7\n",
+        b"add 10.0.0.0/8 1\nadd 10.0.0.0/9 2\nadd 10.0.0.0/8 3 200\nadd 10.0.0.0/8 3 200\nadd 2001:db8::/32 7\n",
         b"set 10.0.0.0/8 1\nok\nset 10.0.0.0/9 2\nok\nset 10.128.0.0/9 3\nok\nok\nset 2001:db8::/32 7\nok\n",
     ),
     (
@@ -14,7 +14,7 @@ const LED: [(&[u8], &[u8]); 16] = [
         b"bad\nbad\nbad\nbad\nbad\nbad\nbad\nbad\nbad\nbad\n",
     ),
     (
-        b"add 10.1.0.0/16 2\nadd 10.0.0.0/8 1\ndel 10.1.0.0/16\n",
+        b"add 10.1.0.0/16 2\nadd 10.0.0.0/8 1\ndel 10.1.0.0/16 2\n",
         b"set 10.1.0.0/16 2\nok\nset 10.0.0.0/16 1\nset 10.2.0.0/15 1\nset 10.4.0.0/14 1\nset 10.8.0.0/13 1\nset 10.16.0.0/12 1\nset 10.32.0.0/11 1\nset 10.64.0.0/10 1\nset 10.128.0.0/9 1\nok\nset 10.1.0.0/16 1\nok\n",
     ),
     (
@@ -23,15 +23,15 @@ const LED: [(&[u8], &[u8]); 16] = [
     ),
     (
         b"add 10.0.0.0/8 1\nadd 10.1.0.0/16 2\nadd 10.1.2.0/24 drop\ncover 10.1.2.3/32\ncover 10.1.0.0/16\ncover 11.0.0.0/8\n",
-        b"set 10.0.0.0/8 1\nok\nset 10.1.0.0/16 2\nok\nunset 10.1.2.0/24\nok\nroute 10.0.0.0/8 1\nroute 10.1.0.0/16 2\nroute 10.1.2.0/24 drop\nok\nroute 10.0.0.0/8 1\nroute 10.1.0.0/16 2\nok\nok\n",
+        b"set 10.0.0.0/8 1\nok\nset 10.1.0.0/16 2\nok\nunset 10.1.2.0/24\nok\nroute 10.0.0.0/8 1 100\nroute 10.1.0.0/16 2 100\nroute 10.1.2.0/24 drop 100\nok\nroute 10.0.0.0/8 1 100\nroute 10.1.0.0/16 2 100\nok\nok\n",
     ),
     (
-        b"add 10.0.0.0/8 1\nadd 10.0.0.0/9 2\ndel 10.0.0.0/9\ndel 10.0.0.0/9\ndel 10.0.0.0/8\n",
+        b"add 10.0.0.0/8 1\nadd 10.0.0.0/9 2\ndel 10.0.0.0/9 2\ndel 10.0.0.0/9 2\ndel 10.0.0.0/8 1\n",
         b"set 10.0.0.0/8 1\nok\nset 10.0.0.0/9 2\nok\nset 10.0.0.0/9 1\nok\nnone\nunset 10.0.0.0/8\nok\n",
     ),
     (
         b"add 10.0.0.0/30 1\nadd 10.0.0.0/31 drop\nget 10.0.0.1/32\nadd 10.0.0.1/32 2\nflat\n",
-        b"set 10.0.0.0/30 1\nok\nunset 10.0.0.0/31\nok\nroute 10.0.0.0/31 drop\nok\nset 10.0.0.1/32 2\nok\nflat 10.0.0.1/32 2\nflat 10.0.0.2/31 1\nok\n",
+        b"set 10.0.0.0/30 1\nok\nunset 10.0.0.0/31\nok\nroute 10.0.0.0/31 drop 100\nok\nset 10.0.0.1/32 2\nok\nflat 10.0.0.1/32 2\nflat 10.0.0.2/31 1\nok\n",
     ),
     (
         b"add 10.0.0.0/8 1\nadd 10.0.0.0/9 2\nadd 10.64.0.0/10 1\nflat\n",
@@ -43,11 +43,11 @@ const LED: [(&[u8], &[u8]); 16] = [
     ),
     (
         b"add 10.0.0.0/8 1\nadd 10.1.0.0/16 2\nget 10.1.2.3/32\nget 10.0.0.0/12\nget 0.0.0.0/0\n",
-        b"set 10.0.0.0/8 1\nok\nset 10.1.0.0/16 2\nok\nroute 10.1.0.0/16 2\nok\nroute 10.0.0.0/8 1\nok\nnone\n",
+        b"set 10.0.0.0/8 1\nok\nset 10.1.0.0/16 2\nok\nroute 10.1.0.0/16 2 100\nok\nroute 10.0.0.0/8 1 100\nok\nnone\n",
     ),
     (
         b"add 11.0.0.0/8 3\nadd 10.0.0.0/8 1\nadd 10.1.0.0/16 2\nlist 10.0.0.0/8\nlist 0.0.0.0/0\nlist 12.0.0.0/8\n",
-        b"set 11.0.0.0/8 3\nok\nset 10.0.0.0/8 1\nok\nset 10.1.0.0/16 2\nok\nroute 10.0.0.0/8 1\nroute 10.1.0.0/16 2\nok\nroute 10.0.0.0/8 1\nroute 10.1.0.0/16 2\nroute 11.0.0.0/8 3\nok\nok\n",
+        b"set 11.0.0.0/8 3\nok\nset 10.0.0.0/8 1\nok\nset 10.1.0.0/16 2\nok\nroute 10.0.0.0/8 1 100\nroute 10.1.0.0/16 2 100\nok\nroute 10.0.0.0/8 1 100\nroute 10.1.0.0/16 2 100\nroute 11.0.0.0/8 3 100\nok\nok\n",
     ),
     (
         b"add 10.0.0.0/30 1\nadd 10.0.0.1/32 2\nown 1\nown 2\nown 3\n",
@@ -55,15 +55,15 @@ const LED: [(&[u8], &[u8]); 16] = [
     ),
     (
         b"add 10.0.0.0/8 1\nadd 10.1.0.0/16 2\nadd 11.0.0.0/8 3\nadd ::/0 4\nfrom 0.0.0.0/0 2\nafter 10.1.0.0/16 2\nafter 11.0.0.0/8 2\n",
-        b"set 10.0.0.0/8 1\nok\nset 10.1.0.0/16 2\nok\nset 11.0.0.0/8 3\nok\nset ::/0 4\nok\nroute 10.0.0.0/8 1\nroute 10.1.0.0/16 2\nok\nroute 11.0.0.0/8 3\nok\nok\n",
+        b"set 10.0.0.0/8 1\nok\nset 10.1.0.0/16 2\nok\nset 11.0.0.0/8 3\nok\nset ::/0 4\nok\nroute 10.0.0.0/8 1 100\nroute 10.1.0.0/16 2 100\nok\nroute 11.0.0.0/8 3 100\nok\nok\n",
     ),
     (
         b"add 10.0.0.0/10 2\nadd 10.64.0.0/10 1\nadd 10.128.0.0/9 1\nflat\n",
         b"set 10.0.0.0/10 2\nok\nset 10.64.0.0/10 1\nok\nset 10.128.0.0/9 1\nok\nflat 10.0.0.0/10 2\nflat 10.64.0.0/10 1\nflat 10.128.0.0/9 1\nok\n",
     ),
     (
-        b"add 10.0.0.0/8 1\nadd 10.0.0.0/9 2\nadd 10.64.0.0/10 1\nflat\nget 10.1.2.3/32\nadd 10.0.0.0/8 3\ndel 10.0.0.0/9\n",
-        b"set 10.0.0.0/8 1\nok\nset 10.0.0.0/9 2\nok\nset 10.64.0.0/10 1\nok\nflat 10.0.0.0/10 2\nflat 10.64.0.0/10 1\nflat 10.128.0.0/9 1\nok\nroute 10.0.0.0/9 2\nok\nset 10.128.0.0/9 3\nok\nset 10.0.0.0/10 3\nok\n",
+        b"add 10.0.0.0/8 1\nadd 10.0.0.0/9 2\nadd 10.64.0.0/10 1\nflat\nget 10.1.2.3/32\nadd 10.0.0.0/8 3 200\ndel 10.0.0.0/9 2\n",
+        b"set 10.0.0.0/8 1\nok\nset 10.0.0.0/9 2\nok\nset 10.64.0.0/10 1\nok\nflat 10.0.0.0/10 2\nflat 10.64.0.0/10 1\nflat 10.128.0.0/9 1\nok\nroute 10.0.0.0/9 2 100\nok\nset 10.128.0.0/9 3\nok\nset 10.0.0.0/10 3\nok\n",
     ),
     (
         b"add 10.1.2.3/8 1\nadd 010.128.000.000/09 2\nadd 2001:0DB8:0:0:1:0:0:1/128 3\nadd ::FFFF:192.0.2.0/120 4\n",
@@ -74,7 +74,7 @@ const LED: [(&[u8], &[u8]); 16] = [
 // What a follower is given, and all that it writes.
 const FOLLOWED: [(&[u8], &[u8]); 4] = [
     (
-        b"set 10.0.0.0/8 1\nok\nset 10.0.0.0/8 2\nrefused\nset 10.0.0.0/8 3\nnone\nset 10.0.0.0/8 4\nbad\nset 10.0.0.0/8 5\nroute 10.0.0.0/8 6\ncount 1 0\n",
+        b"set 10.0.0.0/8 1\nok\nset 10.0.0.0/8 2\nrefused\nset 10.0.0.0/8 3\nnone\nset 10.0.0.0/8 4\nbad\nset 10.0.0.0/8 5\nroute 10.0.0.0/8 6 100\ncount 1 0\n",
         b"flat 10.0.0.0/8 1\nok\n",
     ),
     (

@@ -75,38 +75,38 @@ impl Write for Narrow {
     }
 }
 
-const ROWS: [(&[u8], &[u8]); 20] = [
+const ROWS: [(&[u8], &[u8]); 24] = [
     (b"", b""),
     (
-        b"add 10.0.0.0/8 drop\nget 10.1.0.0/16\ndel 10.0.0.0/8\ndel 10.0.0.0/8\n",
-        b"ok\nroute 10.0.0.0/8 drop\nok\nok\nnone\n",
+        b"add 10.0.0.0/8 drop\nget 10.1.0.0/16\ndel 10.0.0.0/8 drop\ndel 10.0.0.0/8 drop\n",
+        b"ok\nroute 10.0.0.0/8 drop 100\nok\nok\nnone\n",
     ),
     (
-        b"add 10.0.0.0/8 1\nadd 10.0.0.0/9 2\nadd 10.64.0.0/10 1\nget 10.1.2.3/32\nadd 10.0.0.0/8 3\ndel 10.0.0.0/9\n",
-        b"set 10.0.0.0/8 1\nok\nset 10.0.0.0/9 2\nok\nset 10.64.0.0/10 1\nok\nroute 10.0.0.0/9 2\nok\nset 10.128.0.0/9 3\nok\nset 10.0.0.0/10 3\nok\n",
+        b"add 10.0.0.0/8 1\nadd 10.0.0.0/9 2\nadd 10.64.0.0/10 1\nget 10.1.2.3/32\nadd 10.0.0.0/8 3 200\ndel 10.0.0.0/9 2\nflat\n",
+        b"set 10.0.0.0/8 1\nok\nset 10.0.0.0/9 2\nok\nset 10.64.0.0/10 1\nok\nroute 10.0.0.0/9 2 100\nok\nset 10.128.0.0/9 3\nok\nset 10.0.0.0/10 3\nok\nflat 10.0.0.0/10 3\nflat 10.64.0.0/10 1\nflat 10.128.0.0/9 3\nok\n",
     ),
     (
-        b"add 0.0.0.0/0 1\nadd 0.0.0.0/1 2\nadd 128.0.0.0/1 3\nadd 0.0.0.0/0 9\ndel 128.0.0.0/1\n",
-        b"set 0.0.0.0/0 1\nok\nset 0.0.0.0/1 2\nok\nset 128.0.0.0/1 3\nok\nok\nset 128.0.0.0/1 9\nok\n",
+        b"add 0.0.0.0/0 1\nadd 0.0.0.0/1 2\nadd 128.0.0.0/1 3\nadd 0.0.0.0/0 9\ndel 128.0.0.0/1 3\nflat\n",
+        b"set 0.0.0.0/0 1\nok\nset 0.0.0.0/1 2\nok\nset 128.0.0.0/1 3\nok\nok\nset 128.0.0.0/1 1\nok\nflat 0.0.0.0/1 2\nflat 128.0.0.0/1 1\nok\n",
     ),
     (
         b"add 10.0.0.0/30 1\nadd 10.0.0.1/32 drop\nget 10.0.0.1/32\n",
-        b"set 10.0.0.0/30 1\nok\nunset 10.0.0.1/32\nok\nroute 10.0.0.1/32 drop\nok\n",
+        b"set 10.0.0.0/30 1\nok\nunset 10.0.0.1/32\nok\nroute 10.0.0.1/32 drop 100\nok\n",
     ),
     (
-        b"add 255.255.255.255/32 9\nadd 255.255.255.252/30 5\ndel 255.255.255.252/30\n",
-        b"set 255.255.255.255/32 9\nok\nset 255.255.255.252/31 5\nset 255.255.255.254/32 5\nok\nunset 255.255.255.252/31\nunset 255.255.255.254/32\nok\n",
+        b"add 255.255.255.255/32 9\nadd 255.255.255.252/30 5\nflat\ndel 255.255.255.252/30 5\n",
+        b"set 255.255.255.255/32 9\nok\nset 255.255.255.252/31 5\nset 255.255.255.254/32 5\nok\nflat 255.255.255.252/31 5\nflat 255.255.255.254/32 5\nflat 255.255.255.255/32 9\nok\nunset 255.255.255.252/31\nunset 255.255.255.254/32\nok\n",
     ),
     (
         b"add ::ffff:10.0.0.0/104 1\nget 10.0.0.0/8\nadd 2001:DB8::1/32 7\nget 2001:db8::/32\n",
-        b"set ::ffff:10.0.0.0/104 1\nok\nnone\nset 2001:db8::/32 7\nok\nroute 2001:db8::/32 7\nok\n",
+        b"set ::ffff:10.0.0.0/104 1\nok\nnone\nset 2001:db8::/32 7\nok\nroute 2001:db8::/32 7 100\nok\n",
     ),
     (
         b"add 10.0.0.0/8 1\nadd 10.1.2.3/16 1\nlist 10.0.0.0/8\nlist 10.1.0.0/16\nlist 11.0.0.0/8\n",
-        b"set 10.0.0.0/8 1\nok\nok\nroute 10.0.0.0/8 1\nroute 10.1.0.0/16 1\nok\nroute 10.1.0.0/16 1\nok\nok\n",
+        b"set 10.0.0.0/8 1\nok\nok\nroute 10.0.0.0/8 1 100\nroute 10.1.0.0/16 1 100\nok\nroute 10.1.0.0/16 1 100\nok\nok\n",
     ),
     (
-        b"del 10.0.0.0/8\nadd 10.0.0.0 drop\nadd 10.0.0.0/33 drop\nadd 10.0.0.0/8 4294967296\nadd 10.0.0.0/8 01\n",
+        b"del 10.0.0.0/8 1\nadd 10.0.0.0 drop\nadd 10.0.0.0/33 drop\nadd 10.0.0.0/8 4294967296\nadd 10.0.0.0/8 01\n",
         b"none\nbad\nbad\nbad\nbad\n",
     ),
     (
@@ -115,7 +115,7 @@ const ROWS: [(&[u8], &[u8]); 20] = [
     ),
     (
         b"add 10.0.0.0/8 drop\nadd 10.1.1.0/24 drop\nadd 10.1.0.0/16 drop\nget 10.1.1.1/32\nget 10.1.0.0/16\nget 11.0.0.0/8\nget 0.0.0.0/0\n",
-        b"ok\nok\nok\nroute 10.1.1.0/24 drop\nok\nroute 10.1.0.0/16 drop\nok\nnone\nnone\n",
+        b"ok\nok\nok\nroute 10.1.1.0/24 drop 100\nok\nroute 10.1.0.0/16 drop 100\nok\nnone\nnone\n",
     ),
     (
         b"add  10.0.0.0/8 drop\nadd 10.0.0.0/8 drop \nADD 10.0.0.0/8 drop\nget 10.0.0.0/8\r\nget 255.255.255.255/32",
@@ -123,7 +123,7 @@ const ROWS: [(&[u8], &[u8]); 20] = [
     ),
     (
         b"add 10.0.0.0/8 1\nadd 10.1.0.0/16 2\nadd 10.2.0.0/16 3\nadd 10.2.0.0/24 4\nadd 10.3.0.0/16 5\nadd 10.4.0.0/16 6\nfrom 10.2.0.0/16 3\nafter 10.2.0.0/16 3\ncover 10.2.0.0/23\n",
-        b"set 10.0.0.0/8 1\nok\nset 10.1.0.0/16 2\nok\nset 10.2.0.0/16 3\nok\nset 10.2.0.0/24 4\nok\nset 10.3.0.0/16 5\nok\nset 10.4.0.0/16 6\nok\nroute 10.2.0.0/16 3\nroute 10.2.0.0/24 4\nroute 10.3.0.0/16 5\nok\nroute 10.2.0.0/24 4\nroute 10.3.0.0/16 5\nroute 10.4.0.0/16 6\nok\nroute 10.0.0.0/8 1\nroute 10.2.0.0/16 3\nok\n",
+        b"set 10.0.0.0/8 1\nok\nset 10.1.0.0/16 2\nok\nset 10.2.0.0/16 3\nok\nset 10.2.0.0/24 4\nok\nset 10.3.0.0/16 5\nok\nset 10.4.0.0/16 6\nok\nroute 10.2.0.0/16 3 100\nroute 10.2.0.0/24 4 100\nroute 10.3.0.0/16 5 100\nok\nroute 10.2.0.0/24 4 100\nroute 10.3.0.0/16 5 100\nroute 10.4.0.0/16 6 100\nok\nroute 10.0.0.0/8 1 100\nroute 10.2.0.0/16 3 100\nok\n",
     ),
     (
         b"add ::/0 4\nadd 0.0.0.0/0 3\ncount\nflat\n",
@@ -138,8 +138,24 @@ const ROWS: [(&[u8], &[u8]); 20] = [
         b"set 10.0.0.0/8 1\nok\nset 10.0.0.0/9 2\nok\nset 10.64.0.0/10 1\nok\nflat 10.0.0.0/10 2\nflat 10.64.0.0/10 1\nflat 10.128.0.0/9 1\nok\n",
     ),
     (
-        b"add 10.0.0.0/8 1\nadd 10.0.0.0/8 1\nadd 10.0.0.0/8 drop\ndel 10.0.0.0/8\nflat\n",
-        b"set 10.0.0.0/8 1\nok\nok\nunset 10.0.0.0/8\nok\nok\nok\n",
+        b"add 10.0.0.0/8 1\nadd 10.0.0.0/8 1\nadd 10.0.0.0/8 drop\ndel 10.0.0.0/8 1\nflat\n",
+        b"set 10.0.0.0/8 1\nok\nok\nok\nunset 10.0.0.0/8\nok\nok\n",
+    ),
+    (
+        b"add 10.0.0.0/8 5 100\nadd 10.0.0.0/8 3 100\nadd 10.0.0.0/8 9 50\ndel 10.0.0.0/8 3\nall 10.0.0.0/8\n",
+        b"set 10.0.0.0/8 5\nok\nset 10.0.0.0/8 3\nok\nok\nset 10.0.0.0/8 5\nok\nroute 10.0.0.0/8 5 100\nroute 10.0.0.0/8 9 50\nok\n",
+    ),
+    (
+        b"add 10.0.0.0/8 1\nadd 10.0.0.0/8 2\nadd 10.0.0.0/8 3\nadd 10.0.0.0/8 4\nadd 10.0.0.0/8 5\nadd 10.0.0.0/8 6\nadd 10.0.0.0/8 7\nadd 10.0.0.0/8 8\nadd 10.0.0.0/8 9\nadd 10.0.0.0/8 8 200\nadd 10.0.0.0/8 9 200\ncount\n",
+        b"set 10.0.0.0/8 1\nok\nok\nok\nok\nok\nok\nok\nok\nrefused\nset 10.0.0.0/8 8\nok\nrefused\ncount 1 0\nok\n",
+    ),
+    (
+        b"add 10.0.0.0/8 1 65536\nadd 10.0.0.0/8 1 0100\ndel 10.0.0.0/8\nall 10.0.0.0/8\n",
+        b"bad\nbad\nbad\nok\n",
+    ),
+    (
+        b"add 10.1.2.3/8 1 0\nadd 10.0.0.0/8 drop 65535\nall 10.4.5.6/8\nget 10.0.0.0/9\nall 10.0.0.0/9\ndel 10.0.0.0/8 2\n",
+        b"set 10.0.0.0/8 1\nok\nunset 10.0.0.0/8\nok\nroute 10.0.0.0/8 drop 65535\nroute 10.0.0.0/8 1 0\nok\nroute 10.0.0.0/8 drop 65535\nok\nok\nnone\n",
     ),
     (
         b"add 10.0.0.0/30 1\nadd 10.0.0.1/32 2\nown 1\nown 2\nown 3\nown drop\n",
@@ -150,7 +166,7 @@ const ROWS: [(&[u8], &[u8]); 20] = [
         b"set 255.255.255.255/32 9\nok\nset 255.255.255.252/31 5\nset 255.255.255.254/32 5\nok\nflat 255.255.255.252/31 5\nflat 255.255.255.254/32 5\nflat 255.255.255.255/32 9\nok\nown 255.255.255.252/31\nown 255.255.255.254/32\nok\n",
     ),
     (
-        b"add 0.0.0.0/0 1\nadd 255.255.255.255/32 2\ndel 0.0.0.0/0\n",
+        b"add 0.0.0.0/0 1\nadd 255.255.255.255/32 2\ndel 0.0.0.0/0 1\n",
         b"set 0.0.0.0/0 1\nok\nset 255.255.255.255/32 2\nok\nunset 0.0.0.0/1\nunset 128.0.0.0/2\nunset 192.0.0.0/3\nunset 224.0.0.0/4\nunset 240.0.0.0/5\nunset 248.0.0.0/6\nunset 252.0.0.0/7\nunset 254.0.0.0/8\nunset 255.0.0.0/9\nunset 255.128.0.0/10\nunset 255.192.0.0/11\nunset 255.224.0.0/12\nunset 255.240.0.0/13\nunset 255.248.0.0/14\nunset 255.252.0.0/15\nunset 255.254.0.0/16\nunset 255.255.0.0/17\nunset 255.255.128.0/18\nunset 255.255.192.0/19\nunset 255.255.224.0/20\nunset 255.255.240.0/21\nunset 255.255.248.0/22\nunset 255.255.252.0/23\nunset 255.255.254.0/24\nunset 255.255.255.0/25\nunset 255.255.255.128/26\nunset 255.255.255.192/27\nunset 255.255.255.224/28\nunset 255.255.255.240/29\nunset 255.255.255.248/30\nunset 255.255.255.252/31\nunset 255.255.255.254/32\nok\n",
     ),
 ];
@@ -343,7 +359,7 @@ fn failed_follower(rt: HostRuntime) -> Result<(), Fail> {
 
 // Two runs of commands, one after the other.
 const COMMANDS: &[u8] =
-    b"add 10.0.0.0/8 1\nadd 10.0.0.0/9 2\nadd 10.64.0.0/10 1\nflat\nown 1\nget 10.1.2.3/32\nadd 10.0.0.0/8 3\ndel 10.0.0.0/9\nflat\n";
+    b"add 10.0.0.0/8 1\nadd 10.0.0.0/9 2\nadd 10.64.0.0/10 1\nflat\nown 1\nget 10.1.2.3/32\nadd 10.0.0.0/8 3 200\ndel 10.0.0.0/9 2\nflat\n";
 
 // Where the replies end that change a hop, and the flat list that holds then.
 const HELD: [(usize, &[u8]); 6] = [
@@ -355,11 +371,11 @@ const HELD: [(usize, &[u8]); 6] = [
         b"flat 10.0.0.0/10 2\nflat 10.64.0.0/10 1\nflat 10.128.0.0/9 1\nok\n",
     ),
     (
-        205,
+        209,
         b"flat 10.0.0.0/10 2\nflat 10.64.0.0/10 1\nflat 10.128.0.0/9 3\nok\n",
     ),
     (
-        226,
+        230,
         b"flat 10.0.0.0/10 3\nflat 10.64.0.0/10 1\nflat 10.128.0.0/9 3\nok\n",
     ),
 ];
@@ -392,11 +408,11 @@ fn beginnings(rt: HostRuntime) -> Result<(), Fail> {
 fn longest_changes(rt: HostRuntime) -> Result<(), Fail> {
     for (input, lines) in [
         (
-            b"add 0.0.0.0/0 1\nadd 255.255.255.255/32 2\ndel 0.0.0.0/0\n".as_slice(),
+            b"add 0.0.0.0/0 1\nadd 255.255.255.255/32 2\ndel 0.0.0.0/0 1\n".as_slice(),
             37,
         ),
         (
-            b"add ::/0 1\nadd ffff:ffff:ffff:ffff:ffff:ffff:ffff:ffff/128 2\ndel ::/0\n".as_slice(),
+            b"add ::/0 1\nadd ffff:ffff:ffff:ffff:ffff:ffff:ffff:ffff/128 2\ndel ::/0 1\n".as_slice(),
             133,
         ),
     ] {

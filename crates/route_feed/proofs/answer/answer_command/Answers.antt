@@ -1,6 +1,7 @@
 use Rattle.std.proofs.Common.{◌++◌, ◌∷◌, [], false, map, refl, subst}
 use Rattle.route_lines.specs.declared.reply.Closing.TheVariants.{Done}
 use Rattle.route_lines.specs.declared.reply.Reply.TheVariants.{Close}
+use Rattle.route_table.specs.Networks.{routes_of}
 use Rattle.route_feed.specs.Replies.{printed}
 use Rattle.route_feed.specs.InnerReplies.{Closes}
 use Rattle.route_feed.specs.Steps.{flat_line}
@@ -11,6 +12,6 @@ pub returns-in-Flat : goal.returns-in-Flat
 returns-in-Flat g c = rw c.in-Flat.is (record {
   refusal = false;
   writes = subst (λ ps. Closes g.W.Write.contents 1 c.args.writer.now c.reply-in-Flat.new.writer c.reply-in-Flat.result (printed (map flat_line ps ++ Close Done ∷ [])))
-      (flat_is c.args.table.now c.flat.result c.flat.ensures.flat) c.reply-in-Flat.ensures;
+      (flat_is (routes_of c.args.table.now) c.flat.result c.flat.ensures.flat) c.reply-in-Flat.ensures;
   table = on_ok c.reply-in-Flat.result refl;
 })

@@ -1,6 +1,7 @@
 use Rattle.std.proofs.Common.{◌<◌, ◌∙◌, ap, cond, length, arith}
 use Rattle.ipnet.specs.IpNets.{block}
 use Rattle.ipnet_blocks.specs.Blocks.{has_address}
+use Rattle.route_table.specs.Networks.{routes_of}
 use Rattle.route_table.specs.Tables.{hop_at, number_of}
 use Rattle.route_feed.proofs.Carried.{one_more}
 use Rattle.route_feed.proofs.follower.carry_out.Goals as goal
@@ -12,4 +13,4 @@ loop-change-preserved c = λ x a.
     let within : i < length c.args.changes.now = omega arith in
     c.in-Ok.ensures.hops x a
     ∙ ap (λ o. cond (has_address (block it.net) x) (number_of it.hop) o) (c.loop-change.invariant x a)
-    ∙ one_more (hop_at c.args.table.now x) c.args.changes.now i it x within c.change-item.is
+    ∙ one_more (hop_at (routes_of c.args.table.now) x) c.args.changes.now i it x within c.change-item.is
