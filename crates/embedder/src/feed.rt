@@ -7,6 +7,7 @@ ghost use Rattle.route_feed.specs.Steps.{flat_line};
 ghost use Rattle.route_lines.specs.declared.reply.Closing.TheVariants.{Done};
 ghost use Rattle.route_lines.specs.declared.reply.Reply.TheVariants.{Close};
 ghost use Rattle.route_table.specs.Flats.{flat_of};
+ghost use Rattle.route_table.specs.Networks.{routes_of};
 ghost use Rattle.route_table.specs.Tables.{hop_at};
 
 use route_feed::laws::followed;
@@ -17,7 +18,7 @@ use std::alloc::Global;
 /// What a leader answers, cut anywhere, and what a follower of that prints: the flat list of the leader's table there.
 pub fn mirrored(alloc: Global, input: &[u8], cut: usize) -> Result<(Vec<u8>, Vec<u8>), RunError>
     ensures { IfOk result (λ p. (refusals : List Bool) × (p.0.items ≡ output input.now refusals)
-        × (p.1.items ≡ printed (map flat_line (flat_of (hop_at (table_told input.now refusals (take cut p.0.items)))) ++ Close Done ∷ []))) }
+        × (p.1.items ≡ printed (map flat_line (flat_of (hop_at (routes_of (table_told input.now refusals (take cut p.0.items))))) ++ Close Done ∷ []))) }
 {
     followed();
     let mut reader = Counted::new(input);

@@ -3,26 +3,30 @@ ghost use Rattle.std.specs.Prelude.{◌≡◌, Some, IfOk, if◌then◌else◌};
 ghost use Rattle.std.specs.Option.{option_map};
 ghost use Rattle.ipnet.specs.IpNets.{block};
 ghost use Rattle.ipnet_blocks.specs.Blocks.{is_inside};
-ghost use Rattle.route_table.specs.Tables.{longer, match_of, item_of, route_of};
+ghost use Rattle.route_table.specs.Choices.{choices_with};
+ghost use Rattle.route_table.specs.Networks.{best_route, choices_at, routes_of};
+ghost use Rattle.route_table.specs.Tables.{longer, match_of, item_of};
 
 use ipnet::IpNet;
-use route_table::laws::held;
-use route_table::{Hop, Refused, RouteTable};
+use route_table::laws::{best_routes, held};
+use route_table::{AddRefused, Hop, RouteTable};
 
-/// What `get` answers after an accepted `add`: the new route where it contains the asked network and no longer one does,
-/// and else what it answered before.
+/// What `get` answers after an accepted `add`: the best route of the network then, where it contains the asked network
+/// and no longer one does, and else what it answered before.
 pub fn routed(
     table: &mut RouteTable,
     net: IpNet,
     hop: Hop,
+    pref: u16,
     asked: &IpNet,
-) -> Result<Option<(IpNet, Hop)>, Refused>
+) -> Result<Option<(IpNet, Hop, u16)>, AddRefused>
     ensures { IfOk result (λ found. found ≡ option_map item_of (if is_inside (block asked.now) (block net)
-        then Some (longer (route_of net hop) (match_of table.old (block asked.now)))
-        else match_of table.old (block asked.now))) }
+        then Some (longer (best_route (record { block = block net; choices = choices_with (choices_at table.old (block net)) (record { hop = hop; pref = pref }) })) (match_of (routes_of table.old) (block asked.now)))
+        else match_of (routes_of table.old) (block asked.now))) }
 {
     held();
+    best_routes();
     let _asked = asked.trunc();
-    table.add(net, hop)?;
+    table.add(net, hop, pref)?;
     Ok(table.get(asked))
 }

@@ -42,7 +42,7 @@ eight_text = decimal_digit 8 (omega arith)
 ten_text : decimal 10 ≡ codes "10"
 ten_text = decimal_step 10 (omega arith) (omega arith) ∙ rw one_text refl
 
-commands : whole_commands told ++ at_end (rest told) ≡ Some (C.Add net (Number 1)) ∷ Some C.Flat ∷ []
+commands : whole_commands told ++ at_end (rest told) ≡ Some (C.Add net (Number 1) 100) ∷ Some C.Flat ∷ []
 unfolding told net command_of ip_net_of ipv4_net_of read_network read_ipv4 read_short read_number
 commands = rw one_text refl
 
@@ -56,8 +56,8 @@ module _ (empty : EmptyIsFlat) (changes : OneRouteIsChanged) (flat : OneRouteIsF
   ok = record { in_width = omega arith; in_range = omega arith }
 
   answers : (refusals : List Bool) → (refused : Bool) → first_or_false refusals ≡ refused →
-      (printed (replies [] (Some (C.Add net (Number 1)) ∷ Some C.Flat ∷ []) refusals) ≡ codes "set 10.0.0.0/8 1\nok\nflat 10.0.0.0/8 1\nok\n")
-      ⊎ (printed (replies [] (Some (C.Add net (Number 1)) ∷ Some C.Flat ∷ []) refusals) ≡ codes "refused\nok\n")
+      (printed (replies [] (Some (C.Add net (Number 1) 100) ∷ Some C.Flat ∷ []) refusals) ≡ codes "set 10.0.0.0/8 1\nok\nflat 10.0.0.0/8 1\nok\n")
+      ⊎ (printed (replies [] (Some (C.Add net (Number 1) 100) ∷ Some C.Flat ∷ []) refusals) ≡ codes "refused\nok\n")
   unfolding change_lines net b
   answers refusals true e = inr (rw (e, empty) refl)
   answers refusals false e = inl (rw (e, changes b 1 ok (omega arith), flat b 1 ok (omega arith), ten_text, eight_text, one_text, zero_text) refl)
