@@ -4,11 +4,12 @@
 usage: feeds.py load|churn|walks v4|v6 COUNT [SEED]
 
     load    COUNT adds of distinct networks, then flat
-    churn   COUNT adds, then COUNT lines: adds of new and of stored networks, dels, gets; then flat
+    churn   COUNT adds, then COUNT lines: adds of new networks, adds of routes to stored ones, dels, gets; then flat
     walks   COUNT adds, then COUNT / 10 lines: list, cover, from, after and count; then flat
 
 The lengths lie as in a table of the public internet: most are /24 (IPv4) or /48 (IPv6), and they lie inside
-allocations, some of which are announced themselves. Hops are few, and some are far more frequent than others."""
+allocations, some of which are announced themselves. Hops are few, and some are far more frequent than others. A route that is
+added to a stored network has one of three preferences; no network is given a ninth hop."""
 import ipaddress
 import random
 import sys
@@ -20,6 +21,8 @@ LENGTHS = {
 ALLOCATIONS = {"v4": range(11, 21), "v6": (20, 24, 28, 29, 32)}
 WIDTH = {"v4": 32, "v6": 128}
 HOPS = 24
+MOST = 8
+PREFERENCES = ("50", "100", "200")
 
 
 class Networks:
@@ -56,17 +59,17 @@ class Networks:
 
 
 class Feed:
-    """A feed, and the networks that a leader of it holds."""
+    """A feed, and the networks that a leader of it holds, with their hops."""
 
     def __init__(self, family, count, seed):
         self.draw = random.Random(f"{family} {count} {seed}")
         self.networks = Networks(self.draw, family, count)
-        self.held, self.place = [], {}
+        self.held, self.place, self.hops = [], {}, {}
         self.lines = []
         while len(self.held) < count:
             network = self.networks.network()
             if network not in self.place:
-                self.add(network)
+                self.store(network)
 
     def say(self, word, network, *more):
         self.lines.append(" ".join((word, self.networks.text(network), *more)) + "\n")
@@ -77,23 +80,41 @@ class Feed:
     def any(self):
         return self.draw.choice(self.held)
 
+    def store(self, network):
+        hop = self.hop()
+        self.place[network] = len(self.held)
+        self.held.append(network)
+        self.hops[network] = [hop]
+        self.say("add", network, hop)
+
     def add(self, network):
-        if network not in self.place:
-            self.place[network] = len(self.held)
-            self.held.append(network)
-        self.say("add", network, self.hop())
+        hops = self.hops[network]
+        hop = self.hop() if len(hops) < MOST else self.draw.choice(hops)
+        if hop not in hops:
+            hops.append(hop)
+        self.say("add", network, hop, self.draw.choice(PREFERENCES))
 
     def delete(self):
         network = self.any()
+        hops = self.hops[network]
+        self.say("del", network, hops.pop(self.draw.randrange(len(hops))))
+        if not hops:
+            self.forget(network)
+
+    def forget(self, network):
+        del self.hops[network]
         place, last = self.place.pop(network), self.held.pop()
         if last != network:
             self.held[place], self.place[last] = last, place
-        self.say("del", network)
 
     def change(self):
         kind = self.draw.random()
         if kind < 0.2:
-            self.add(self.networks.network())
+            network = self.networks.network()
+            if network in self.place:
+                self.add(network)
+            else:
+                self.store(network)
         elif kind < 0.4:
             self.add(self.any())
         elif kind < 0.6 and len(self.held) > 1:
