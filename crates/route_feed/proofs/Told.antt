@@ -1,6 +1,7 @@
 -- The lines of a change, by the blocks that the changed network governs.
 use Rattle.std.proofs.Common.{◌≡◌, ◌≢◌, ℕ, ◌⊎◌, inl, inr, ⊎_elim, Bool, true, false, not, ◌&&◌, cond, List, [], ◌∷◌, ◌++◌, map, Option, Some, None, Result, Ok, Err, refl, sym, ap, ◌∙◌, subst}
 use Rattle.std.specs.Option.{option_map}
+use Rattle.std.proofs.lemmas.Bool.{false_from_ne_true, not_from_false}
 use Rattle.std.specs.Result.{OnOk}
 use Rattle.ipnet_addr.proofs.Members.{In}
 use Rattle.ipnet_addr.proofs.Ascending.{In-from_Contains, Contains-from_In}
@@ -81,15 +82,9 @@ held_is M m b h e = stored_block M m (record { block = b; choices = choices_at M
 pub none_left : (M : List Stored) → IsStoredTable M → (b : Block) (h : Hop) → holds_hop (choices_at M b) h ≡ false → without_choice M b h ≡ M
 none_left M m b h e = ⊎_elim
     (λ t. del_none M b h m (subst IsBlock t.2 (stored_block M m t.0 t.1)) (none_of (choices_at M b) h e))
-    (λ t. ap (λ cs. with_choices M b (choices_without cs h)) t.1 ∙ all_kept (λ s. not (same_block s.block b)) M (λ s i. apart s (t.0 s i)))
+    (λ t. ap (λ cs. with_choices M b (choices_without cs h)) t.1
+    ∙ all_kept (λ s. not (same_block s.block b)) M (λ s i. not_from_false (same_block s.block b) (false_from_ne_true (same_block s.block b) (λ f. t.0 s i (test.same_from_test s.block b f)))))
     (at_cases M b)
-  where
-    apart : (s : Stored) → (s.block ≡ b → ⊥) → not (same_block s.block b) ≡ true
-    apart s other = go (same_block s.block b) refl
-      where
-        go : (c : Bool) → same_block s.block b ≡ c → not c ≡ true
-        go true f = absurd (other (test.same_from_test s.block b f))
-        go false f = refl
 
 module _ (M : List Stored) (m : IsStoredTable M) (b : Block) (ok : IsBlock b) (cs : List Choice) (are : AreChoices cs) where
   -- a block governs the same after a change of its choices

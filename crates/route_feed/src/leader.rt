@@ -31,7 +31,8 @@ impl<W: Write> Sink<W> for RouteTable {
 ///
 /// The lines keep and ask a route table; any other line, one over 80 bytes, and a rest without a line end
 /// are answered `bad`. An accepted `add` or `del` is answered by the fewest blocks whose addresses are just
-/// those whose hop changed, each with its hop now, and `ok`. What is written is
+/// those whose hop changed, each with its hop now, and `ok`; an `add` of a ninth hop of a network is always
+/// answered `refused`, and changes nothing. What is written is
 /// a function of the bytes read and of the refusals met, whatever pieces the bytes came in; a reader or
 /// a writer that doesn't tell its bytes, as a file, is used alike, and nothing is claimed of its bytes.
 /// The writer is flushed after each reply.

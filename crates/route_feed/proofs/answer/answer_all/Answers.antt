@@ -1,9 +1,7 @@
-use Rattle.std.proofs.Common.{◌++◌, ◌∷◌, [], ◌∙◌, false, List, ap, map, refl, subst, sym}
+use Rattle.std.proofs.Common.{◌++◌, ◌∷◌, [], ◌∙◌, ap, map, refl, subst, sym, false}
 use Rattle.ipnet.specs.IpNets.{block, network_at}
-use Rattle.ipnet_blocks.specs.Blocks.{Block}
 use Rattle.route_lines.specs.declared.reply.Closing.TheVariants.{Done}
 use Rattle.route_lines.specs.declared.reply.Reply.TheVariants.{Close}
-use Rattle.route_table.specs.Choices.{Choice}
 use Rattle.route_table.proofs.Gaps.{of_network_at}
 use Rattle.route_feed.specs.Replies.{printed}
 use Rattle.route_feed.specs.InnerReplies.{Closes}
@@ -17,9 +15,9 @@ reply-requires-clause-body g c = c.trunc.ensures.value ∙ sym (ap network_at (a
 pub returns : goal.returns
 returns g c =
     let cleared = ap block c.trunc.ensures.value ∙ of_network_at (block c.args.net) in
+    let lines = ap (λ b. map (choice_line b) c.all.result) cleared ∙ ap (map (choice_line (block c.args.net))) c.all.ensures in
     record {
       refusal = false;
-      writes = subst (λ (cs : List Choice). Closes g.W.Write.contents 1 c.args.writer.now c.reply.new.writer c.reply.result (printed (map (choice_line (block c.args.net)) cs ++ Close Done ∷ []))) c.all.ensures
-          (subst (λ (b : Block). Closes g.W.Write.contents 1 c.args.writer.now c.reply.new.writer c.reply.result (printed (map (choice_line b) c.all.result ++ Close Done ∷ []))) cleared c.reply.ensures);
+      writes = subst (λ ls. Closes g.W.Write.contents 1 c.args.writer.now c.reply.new.writer c.reply.result (printed (ls ++ Close Done ∷ []))) lines c.reply.ensures;
       table = on_ok c.reply.result refl;
     }
