@@ -4,14 +4,22 @@ use crate::{Counted, RunError, follow};
 use std::test::Fail;
 
 // What a leader is given, and all that it writes.
-const LED: [(&[u8], &[u8]); 16] = [
+const LED: [(&[u8], &[u8]); 22] = [
     (
         b"add 10.0.0.0/8 1\nadd 10.0.0.0/9 2\nadd 10.0.0.0/8 3 200\nadd 10.0.0.0/8 3 200\nadd 2001:db8::/32 7\n",
         b"set 10.0.0.0/8 1\nok\nset 10.0.0.0/9 2\nok\nset 10.128.0.0/9 3\nok\nok\nset 2001:db8::/32 7\nok\n",
     ),
     (
+        b"add 10.0.0.0/8 5 100\nadd 10.0.0.0/8 3 100\nadd 10.0.0.0/8 9 50\ndel 10.0.0.0/8 3\nall 10.0.0.0/8\n",
+        b"set 10.0.0.0/8 5\nok\nset 10.0.0.0/8 3\nok\nok\nset 10.0.0.0/8 5\nok\nroute 10.0.0.0/8 5 100\nroute 10.0.0.0/8 9 50\nok\n",
+    ),
+    (
         b"ADD 10.0.0.0/8 1\nadd  10.0.0.0/8 1\nadd 10.0.0.0 1\nadd 10.0.0.0/33 1\nadd 10.0.0.0/8 01\nadd 10.0.0.0/8 4294967296\nown drop\nfrom 10.0.0.0/8 1001\n\nflat",
         b"bad\nbad\nbad\nbad\nbad\nbad\nbad\nbad\nbad\nbad\n",
+    ),
+    (
+        b"add 10.0.0.0/8 1 65536\nadd 10.0.0.0/8 1 0100\ndel 10.0.0.0/8\nall 10.0.0.0/8\n",
+        b"bad\nbad\nbad\nok\n",
     ),
     (
         b"add 10.1.0.0/16 2\nadd 10.0.0.0/8 1\ndel 10.1.0.0/16 2\n",
@@ -34,6 +42,10 @@ const LED: [(&[u8], &[u8]); 16] = [
         b"set 10.0.0.0/30 1\nok\nunset 10.0.0.0/31\nok\nroute 10.0.0.0/31 drop 100\nok\nset 10.0.0.1/32 2\nok\nflat 10.0.0.1/32 2\nflat 10.0.0.2/31 1\nok\n",
     ),
     (
+        b"add 10.0.0.0/8 1\nadd 10.0.0.0/8 1\nadd 10.0.0.0/8 drop\ndel 10.0.0.0/8 1\nflat\n",
+        b"set 10.0.0.0/8 1\nok\nok\nok\nunset 10.0.0.0/8\nok\nok\n",
+    ),
+    (
         b"add 10.0.0.0/8 1\nadd 10.0.0.0/9 2\nadd 10.64.0.0/10 1\nflat\n",
         b"set 10.0.0.0/8 1\nok\nset 10.0.0.0/9 2\nok\nset 10.64.0.0/10 1\nok\nflat 10.0.0.0/10 2\nflat 10.64.0.0/10 1\nflat 10.128.0.0/9 1\nok\n",
     ),
@@ -50,6 +62,10 @@ const LED: [(&[u8], &[u8]); 16] = [
         b"set 11.0.0.0/8 3\nok\nset 10.0.0.0/8 1\nok\nset 10.1.0.0/16 2\nok\nroute 10.0.0.0/8 1 100\nroute 10.1.0.0/16 2 100\nok\nroute 10.0.0.0/8 1 100\nroute 10.1.0.0/16 2 100\nroute 11.0.0.0/8 3 100\nok\nok\n",
     ),
     (
+        b"add 10.0.0.0/8 1\nadd 10.0.0.0/8 2\nadd 10.0.0.0/8 3\nadd 10.0.0.0/8 4\nadd 10.0.0.0/8 5\nadd 10.0.0.0/8 6\nadd 10.0.0.0/8 7\nadd 10.0.0.0/8 8\nadd 10.0.0.0/8 9\nadd 10.0.0.0/8 8 200\nadd 10.0.0.0/8 9 200\ncount\n",
+        b"set 10.0.0.0/8 1\nok\nok\nok\nok\nok\nok\nok\nok\nrefused\nset 10.0.0.0/8 8\nok\nrefused\ncount 1 0\nok\n",
+    ),
+    (
         b"add 10.0.0.0/30 1\nadd 10.0.0.1/32 2\nown 1\nown 2\nown 3\n",
         b"set 10.0.0.0/30 1\nok\nset 10.0.0.1/32 2\nok\nown 10.0.0.0/32\nown 10.0.0.2/31\nok\nown 10.0.0.1/32\nok\nok\n",
     ),
@@ -58,16 +74,24 @@ const LED: [(&[u8], &[u8]); 16] = [
         b"set 10.0.0.0/8 1\nok\nset 10.1.0.0/16 2\nok\nset 11.0.0.0/8 3\nok\nset ::/0 4\nok\nroute 10.0.0.0/8 1 100\nroute 10.1.0.0/16 2 100\nok\nroute 11.0.0.0/8 3 100\nok\nok\n",
     ),
     (
+        b"add 10.0.0.0/8 drop\nget 10.1.0.0/16\ndel 10.0.0.0/8 drop\ndel 10.0.0.0/8 drop\n",
+        b"ok\nroute 10.0.0.0/8 drop 100\nok\nok\nnone\n",
+    ),
+    (
         b"add 10.0.0.0/10 2\nadd 10.64.0.0/10 1\nadd 10.128.0.0/9 1\nflat\n",
         b"set 10.0.0.0/10 2\nok\nset 10.64.0.0/10 1\nok\nset 10.128.0.0/9 1\nok\nflat 10.0.0.0/10 2\nflat 10.64.0.0/10 1\nflat 10.128.0.0/9 1\nok\n",
     ),
     (
-        b"add 10.0.0.0/8 1\nadd 10.0.0.0/9 2\nadd 10.64.0.0/10 1\nflat\nget 10.1.2.3/32\nadd 10.0.0.0/8 3 200\ndel 10.0.0.0/9 2\n",
-        b"set 10.0.0.0/8 1\nok\nset 10.0.0.0/9 2\nok\nset 10.64.0.0/10 1\nok\nflat 10.0.0.0/10 2\nflat 10.64.0.0/10 1\nflat 10.128.0.0/9 1\nok\nroute 10.0.0.0/9 2 100\nok\nset 10.128.0.0/9 3\nok\nset 10.0.0.0/10 3\nok\n",
+        b"add 10.0.0.0/8 1\nadd 10.0.0.0/9 2\nadd 10.64.0.0/10 1\nflat\nadd 10.0.0.0/8 3 200\ndel 10.0.0.0/9 2\nflat\n",
+        b"set 10.0.0.0/8 1\nok\nset 10.0.0.0/9 2\nok\nset 10.64.0.0/10 1\nok\nflat 10.0.0.0/10 2\nflat 10.64.0.0/10 1\nflat 10.128.0.0/9 1\nok\nset 10.128.0.0/9 3\nok\nset 10.0.0.0/10 3\nok\nflat 10.0.0.0/10 3\nflat 10.64.0.0/10 1\nflat 10.128.0.0/9 3\nok\n",
     ),
     (
         b"add 10.1.2.3/8 1\nadd 010.128.000.000/09 2\nadd 2001:0DB8:0:0:1:0:0:1/128 3\nadd ::FFFF:192.0.2.0/120 4\n",
         b"set 10.0.0.0/8 1\nok\nset 10.128.0.0/9 2\nok\nset 2001:db8::1:0:0:1/128 3\nok\nset ::ffff:192.0.2.0/120 4\nok\n",
+    ),
+    (
+        b"add 0.0.0.0/0 1\nadd 0.0.0.0/1 2\nadd 128.0.0.0/1 3\nadd 0.0.0.0/0 9\ndel 128.0.0.0/1 3\nflat\n",
+        b"set 0.0.0.0/0 1\nok\nset 0.0.0.0/1 2\nok\nset 128.0.0.0/1 3\nok\nok\nset 128.0.0.0/1 1\nok\nflat 0.0.0.0/1 2\nflat 128.0.0.0/1 1\nok\n",
     ),
 ];
 
