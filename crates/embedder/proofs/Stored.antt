@@ -1,5 +1,5 @@
 -- What callers of maps need of finite maps, and of what closures may be called at.
-use Rattle.std.proofs.Common.{◌≡◌, ◌∙◌, ap, sym, subst, List, ◌∷◌, Bool, true, false, cond, refl, ℕ, length, take, arith, nat_lt}
+use Rattle.std.proofs.Common.{◌≡◌, ◌∙◌, ap, sym, subst, List, ◌∷◌, Bool, true, false, cond, refl, length, take, arith, nat_lt}
 use Rattle.std.specs.Prelude.{Option, Some, None, option_map}
 use Rattle.std.specs.FinMap.{get, insert, remove, get-insert, get-remove, same_map}
 use Rattle.std.specs.List.{All, Contains}
@@ -9,7 +9,6 @@ use Rattle.std.proofs.lemmas.Bool.Decides.{nat_tests}
 use Rattle.std.proofs.lemmas.Option.{none-some}
 use Rattle.trie_core.specs.Nodes.{BitMap}
 use Rattle.trie_core.specs.Search.{NoBeginning}
-use Rattle.trie_core.proofs.Maps.{get-written}
 use Rattle.trie_core.proofs.Strings.{bits_total, bits_same, same, same-Decides}
 use Rattle.trie_map.specs.Maps.{IsLongestKey}
 use Rattle.trie_map.specs.Retain.{CallableInTurn}

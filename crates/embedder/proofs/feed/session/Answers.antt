@@ -1,26 +1,20 @@
-use Rattle.std.proofs.Common.{◌≡◌, ◌∙◌, ◌⊎◌, ◌++◌, inl, inr, ⊎_elim, List, [], ◌∷◌, Bool, true, false, ℕ, Option, Some, refl, ap, arith, map, decimal, codes, Vec, Global}
+use Rattle.std.proofs.Common.{◌≡◌, ◌∙◌, ◌⊎◌, ◌++◌, inl, inr, ⊎_elim, List, [], ◌∷◌, Bool, true, false, ℕ, Some, refl, ap, arith, decimal, codes, Vec, Global}
 use Rattle.std.proofs.lemmas.Fmt.{decimal_digit, decimal_step}
 use Rattle.std.specs.Net.Reader.{read_number}
-use Rattle.ipnet_addr.specs.Addresses.{Ipv4}
 use Rattle.ipnet_addr.specs.AddressReader.{read_ipv4, read_short}
 use Rattle.ipnet_blocks.specs.Blocks.{Block, IsBlock}
-use Rattle.ipnet_blocks.specs.Maximal.{maximal_of}
 use Rattle.ipnet.specs.IpNets.{block}
 use Rattle.ipnet.specs.NetworkReader.{ipv4_net_of, read_network}
 use Rattle.ipnet.specs.IpNetText.{ip_net_of}
 use Rattle.ipnet.specs.declared.ip_net.IpNet.{IpNet}
 use Rattle.ipnet.specs.declared.ip_net.IpNet.TheVariants.{V4}
-use Rattle.route_table.specs.Changes.{changed}
-use Rattle.route_table.specs.Flats.{Piece, flat_of}
-use Rattle.route_table.specs.Tables.{Route, hop_at}
-use Rattle.route_table.specs.Laws.{one_route, EmptyIsFlat, OneRouteIsChanged, OneRouteIsFlat}
+use Rattle.route_table.specs.Laws.{EmptyIsFlat, OneRouteIsChanged, OneRouteIsFlat}
 use Rattle.route_table.specs.declared.hop.Hop.TheVariants.{Number}
 use Rattle.route_feed.specs.Output.{output, replies, first_or_false, whole_commands, at_end}
 use Rattle.route_feed.specs.Replies.{printed}
-use Rattle.route_feed.specs.Steps.{change_line, change_lines, flat_line}
+use Rattle.route_feed.specs.Steps.{change_lines}
 use Rattle.route_lines.specs.Bytes.{rest}
 use Rattle.route_lines.specs.Spelled.{command_of}
-use Rattle.route_lines.specs.declared.command.Command.{Command}
 use Rattle.route_lines.specs.declared.command.Command.TheVariants as C
 use Rattle.embedder.proofs.feed.session.Goals as goal
 

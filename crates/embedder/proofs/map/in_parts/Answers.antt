@@ -1,4 +1,4 @@
-use Rattle.std.proofs.Common.{rules, ◌<◌, arith}
+use Rattle.std.proofs.Common.{rules, ◌<◌}
 use Rattle.std.proofs.lemmas.Fn.{filter_same}
 use Rattle.embedder.proofs.Stored.{callable_at}
 use Rattle.embedder.proofs.map.in_parts.Goals as goal
