@@ -21,6 +21,10 @@ The synthetic feeds are the same for everyone (`bench/feeds.py`): `load` adds so
 dels and gets after that, `walks` a tenth as many `list`, `cover`, `from`, `after` and `count`. The real feed is every
 announced network with its origin, from Debian's package `libloc-database`: in Debian 12, of October 2022, 968,428 networks of
 IPv4 and 177,846 of IPv6.
+
+A network's routes stand in the list of its node, in 72 bytes: eight for each of eight, and the number of them. In boxes of
+their own (1,146,274 of them take 86.7 MB by `malloc`), with a pointer and the best route beside it in the list (17.5 MB), the
+real feed would take 25 MB more.
 """
 
 
