@@ -100,7 +100,8 @@ def write(docs, feeds, growth, runs, load):
     if all("peer" in row.lead for row in rows):
         head = ["feed", "lead", "follow", "memory of lead", "memory of follow"]
         text += (
-            "\n## Beside a Rust program\n\nA plain program with the same two modes over the Rust crate `prefix-trie` 0.10.1, run in turns with ours; its outputs were\n"
+            "\n## Beside a Rust program\n\nA plain program with the same two modes over the Rust crate `prefix-trie` 0.10.1, whose leader keeps a network's routes in an
+array of eight too, run in turns with ours; its outputs were\n"
             "compared with ours. Speed and memory as ours over its: above 1 we are faster, and use more.\n\n"
         )
         text += table(head, [[row.title] + row.ratios() for row in rows])
