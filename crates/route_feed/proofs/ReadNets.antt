@@ -1,5 +1,6 @@
 -- What a command's words may be: networks and hops in range.
 use Rattle.std.proofs.Common.{◌≡◌, ℕ, ◌+◌, ◌-◌, ◌*◌, ◌^◌, ◌<◌, Bool, true, false, List, [], ◌∷◌, ◌++◌, length, replicate, All, Option, Some, None, inl, inr, sym, subst, arith, refl}
+use Rattle.std.specs.Prelude.{unwrap_or}
 use Rattle.std.specs.Int.Digits.{number_from_digits}
 use Rattle.std.specs.Net.Addr.{segments_of}
 use Rattle.std.proofs.lemmas.Int.Digits.{number_lt}
@@ -22,6 +23,7 @@ use Rattle.route_lines.specs.declared.command.Command.TheVariants as C
 use Rattle.route_lines.specs.declared.cutter.Line.{Line}
 use Rattle.route_lines.specs.declared.cutter.Line.TheVariants.{Text, TooLong}
 use Rattle.route_lines.proofs.Spells.{command_found}
+use Rattle.route_table.specs.Choices.{default_preference}
 use Rattle.route_table.specs.Tables.{IsHop}
 use Rattle.route_table.specs.declared.hop.Hop.{Hop}
 use Rattle.route_table.specs.declared.hop.Hop.TheVariants.{Number, Drop}
@@ -82,9 +84,12 @@ hop_is_hop text (Number n) h = omega (arith, h.2)
 hop_is_hop text Drop h = tt
 
 -- with a preference, or with that of a hop alone
+optional_in_range : (text : List ℕ) (hop : Hop) (given : Option ℕ) → word.IsOptional text (hop, given) → IsHop hop × (unwrap_or given default_preference < 2 ^ 16)
+optional_in_range text hop (Some pref) h = (hop_is_hop h.front hop h.first, omega (arith, h.second.2))
+optional_in_range text hop None h = (hop_is_hop text hop h, omega arith)
+
 preferred_in_range : (text : List ℕ) (hop : Hop) (pref : ℕ) → word.IsPreferred text (hop, pref) → IsHop hop × (pref < 2 ^ 16)
-preferred_in_range text hop pref (inl h) = (hop_is_hop h.front hop h.first, omega (arith, h.second.2))
-preferred_in_range text hop pref (inr h) = (hop_is_hop text hop h.0, let e = h.1 in omega (arith, e))
+preferred_in_range text hop pref h = (let r = optional_in_range text hop h.0 h.1 in (r.0, omega (arith, h.2, r.1)))
 
 -- a command that changes the table or asks for all routes of a network has a network, and an `add` a hop and a preference, in range
 abbrev pub IsInRange : Option Command → Type 0

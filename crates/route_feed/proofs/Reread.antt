@@ -178,8 +178,8 @@ set_told b n ok small = told_if_read (R.Set (network_at b) n) refl (prints (R.Se
 pub unset_told : (b : Block) → IsBlock b → IsTold (R.Unset (network_at b))
 unset_told b ok = told_if_read (R.Unset (network_at b)) refl (prints (R.Unset (network_at b)) (is_cut b) (net_reads b ok))
 
-pub route_told : (b : Block) (hop : Hop) (pref : ℕ) → IsBlock b → IsHop hop → pref < 2 ^ 16 → IsTold (R.Route (network_at b) hop pref)
-route_told b hop pref ok is small = told_if_read (R.Route (network_at b) hop pref) refl (prints (R.Route (network_at b) hop pref) (is_cut b) (net_reads b ok, word_hop hop is, omega (arith, small)))
+pub route_told : (b : Block) (hop : Hop) (pref : ℕ) → IsBlock b → IsHop hop → pref < 2 ^ 16 → IsTold (R.Route (network_at b) hop (Some pref))
+route_told b hop pref ok is small = told_if_read (R.Route (network_at b) hop (Some pref)) refl (prints (R.Route (network_at b) hop (Some pref)) (is_cut b) (net_reads b ok, word_hop hop is, omega (arith, small)))
 
 pub flat_told : (b : Block) (n : ℕ) → IsBlock b → n ≤ 0xffffffff → IsTold (R.Flat (network_at b) n)
 flat_told b n ok small = told_if_read (R.Flat (network_at b) n) refl (prints (R.Flat (network_at b) n) (is_cut b) (net_reads b ok, small))

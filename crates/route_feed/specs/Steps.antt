@@ -51,11 +51,11 @@ changed_to M N = record { body = change_lines (routes_of M) (routes_of N); closi
 
 -- the line of a stored route
 abbrev pub route_line : table.Route → Reply
-route_line r = Route (network_at r.block) r.hop r.pref
+route_line r = Route (network_at r.block) r.hop (Some r.pref)
 
 -- the line of a choice of a block
 abbrev pub choice_line : Block → Choice → Reply
-choice_line b c = Route (network_at b) c.hop c.pref
+choice_line b c = Route (network_at b) c.hop (Some c.pref)
 
 -- the line of a block of the flat list
 abbrev pub flat_line : Piece → Reply

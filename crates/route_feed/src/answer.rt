@@ -119,7 +119,10 @@ fn answer_get<W: Write>(
 {
     match table.get(&net) {
         None => close(writer, Closing::Missing),
-        Some((net, hop, pref)) => reply(writer, Some(Reply::Route { net, hop, pref })),
+        Some((net, hop, pref)) => {
+            let pref = Some(pref);
+            reply(writer, Some(Reply::Route { net, hop, pref }))
+        }
     }
 }
 

@@ -46,6 +46,7 @@ impl Body for Routes<'_> {
 
     fn next_line(&mut self) -> Option<Reply> {
         let (net, hop, pref) = self.next()?;
+        let pref = Some(pref);
         Some(Reply::Route { net, hop, pref })
     }
 }
@@ -65,6 +66,7 @@ impl Body for PageLines<'_> {
     fn next_line(&mut self) -> Option<Reply> {
         self.limit = self.limit.checked_sub(1)?;
         let (net, hop, pref) = self.routes.next()?;
+        let pref = Some(pref);
         Some(Reply::Route { net, hop, pref })
     }
 }
@@ -84,6 +86,7 @@ impl Body for ChoiceLines<'_> {
     fn next_line(&mut self) -> Option<Reply> {
         let net = self.net;
         let (hop, pref) = self.choices.next()?;
+        let pref = Some(pref);
         Some(Reply::Route { net, hop, pref })
     }
 }

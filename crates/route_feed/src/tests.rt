@@ -275,7 +275,7 @@ pub(crate) fn followed(alloc: Global, input: &[u8]) -> Result<Vec<u8>, RunError>
     Ok(writer.into_inner())
 }
 
-const STREAMS: [(&[u8], &[u8]); 12] = [
+const STREAMS: [(&[u8], &[u8]); 14] = [
     (b"", b"ok\n"),
     (
         b"set 10.0.0.0/8 1\nok\nset 10.0.0.0/9 2\no",
@@ -307,6 +307,14 @@ const STREAMS: [(&[u8], &[u8]); 12] = [
         b"flat 10.0.0.0/8 2\nok\n",
     ),
     (b"flat 10.0.0.0/8 1\nok\n", b"ok\n"),
+    (
+        b"set 10.0.0.0/8 1\nok\nroute 10.0.0.0/8 1\nok\n",
+        b"flat 10.0.0.0/8 1\nok\n",
+    ),
+    (
+        b"set 10.0.0.0/8 1\nok\nroute 10.0.0.0/8 1 100\nok\n",
+        b"flat 10.0.0.0/8 1\nok\n",
+    ),
     (b"set 10.1.2.3/8 1\nok\n", b"flat 10.0.0.0/8 1\nok\n"),
     (
         b"set ::/0 1\nok\nset 8000::/1 2\nok\n",
@@ -330,6 +338,8 @@ fn foreign_streams(rt: HostRuntime) {
         b"set 10.0.0.0/8 1\nok\nsett 1\n".as_slice(),
         b"set 10.0.0.0/8 drop\nok\n".as_slice(),
         b"set 10.0.0.0/8 01\nok\n".as_slice(),
+        b"set 10.0.0.0/8 1\nok\nroute 10.0.0.0/8 1 65536\nok\n".as_slice(),
+        b"set 10.0.0.0/8 1\nok\nroute 10.0.0.0/8 1 \nok\n".as_slice(),
         b"add 10.0.0.0/8 1\nok\n".as_slice(),
         b"\n".as_slice(),
         b"ok\r\n".as_slice(),

@@ -1,7 +1,7 @@
 -- Where no reader of a case takes a line, it is none of the grammar.
-use Rattle.std.proofs.Common.{◌≢◌, ℕ, inl, inr, List, codes}
+use Rattle.std.proofs.Common.{◌≢◌, ℕ, List, codes, Option, Some, None}
 use Rattle.route_lines.specs.Phrase.{Then, After}
-use Rattle.route_lines.specs.Words.{IsNet, IsNumber, IsLimit, IsCount, IsHop, IsPreference, IsPreferred}
+use Rattle.route_lines.specs.Words.{IsNet, IsNumber, IsLimit, IsCount, IsHop, IsPreference, IsOptional, IsPreferred}
 use Rattle.route_lines.specs.Texts.{IsCommand, IsReply, closing_text}
 use Rattle.route_table.specs.declared.hop.Hop.{Hop}
 use Rattle.route_lines.specs.declared.command.Command.{Command}
@@ -15,9 +15,12 @@ use Rattle.route_lines.specs.declared.reply.Reply.TheVariants as R
 abbrev No : {A : Type 0} → (List ℕ → A → Type 0) → List ℕ → List ℕ → Type 0
 No {A} P word line = (x : A) → ¬ (After word P line x)
 
-pub no_preferred : (text : List ℕ) → ((x : Hop × ℕ) → ¬ (Then IsHop IsPreference text x)) → ((h : Hop) → ¬ (IsHop text h)) → (x : Hop × ℕ) → ¬ (IsPreferred text x)
-no_preferred text two alone x (inl h) = two x h
-no_preferred text two alone x (inr h) = alone x.0 h.0
+pub no_optional : (text : List ℕ) → ((x : Hop × ℕ) → ¬ (Then IsHop IsPreference text x)) → ((h : Hop) → ¬ (IsHop text h)) → (x : Hop × Option ℕ) → ¬ (IsOptional text x)
+no_optional text two alone (hop, Some pref) h = two (hop, pref) h
+no_optional text two alone (hop, None) h = alone hop h
+
+pub no_preferred : (text : List ℕ) → ((x : Hop × Option ℕ) → ¬ (IsOptional text x)) → (x : Hop × ℕ) → ¬ (IsPreferred text x)
+no_preferred text none x h = none (x.0, h.0) h.1
 
 pub no_command : (line : List ℕ)
     → No (Then IsNet IsPreferred) (codes "add ") line
@@ -53,7 +56,7 @@ no_closing line done missing bad refused Refused h = refused h
 pub no_reply : (line : List ℕ)
     → No (Then IsNet IsNumber) (codes "set ") line
     → No IsNet (codes "unset ") line
-    → No (Then IsNet (Then IsHop IsPreference)) (codes "route ") line
+    → No (Then IsNet IsOptional) (codes "route ") line
     → No (Then IsNet IsNumber) (codes "flat ") line
     → No IsNet (codes "own ") line
     → No (Then IsCount IsCount) (codes "count ") line

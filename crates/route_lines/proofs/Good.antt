@@ -1,6 +1,6 @@
 -- What the laws ask of each relation of the grammar: one value, a longest text, no line end. Built up word by word.
-use Rattle.std.proofs.Common.{◌≡◌, ◌≢◌, ℕ, ◌+◌, ◌*◌, ◌^◌, ◌<◌, ◌≤◌, true, List, [], ◌∷◌, ◌++◌, length, get_or, All, codes, decimal, refl, sym, ap, ap₂, ◌∙◌, subst, arith, length-append, inl, inr}
-use Rattle.std.specs.Prelude.{⊤, ltb}
+use Rattle.std.proofs.Common.{◌≡◌, ◌≢◌, ℕ, ◌+◌, ◌*◌, ◌^◌, ◌<◌, ◌≤◌, true, List, [], ◌∷◌, ◌++◌, length, get_or, All, codes, decimal, refl, sym, ap, ap₂, ◌∙◌, subst, arith, length-append, Option, Some, None}
+use Rattle.std.specs.Prelude.{⊤, ltb, unwrap_or}
 use Rattle.std.specs.List.{list_all}
 use Rattle.std.proofs.lemmas.Bool.{ltb-true}
 use Rattle.std.proofs.lemmas.List.{append_cancel_left}
@@ -16,7 +16,8 @@ use Rattle.ipnet.proofs.Longest.{longest}
 use Rattle.ipnet.proofs.IpNetworks.{ip_unique}
 use Rattle.route_lines.specs.Phrase.{IsDecimal, Then, After}
 use Rattle.route_lines.specs.InnerPhrase.{IsFree}
-use Rattle.route_lines.specs.Words.{IsNet, IsNumber, IsHop, IsPreference, IsPreferred}
+use Rattle.route_lines.specs.Words.{IsNet, IsNumber, IsHop, IsPreference, IsOptional, IsPreferred}
+use Rattle.route_table.specs.Choices.{default_preference}
 use Rattle.route_table.specs.declared.hop.Hop.{Hop}
 use Rattle.route_table.specs.declared.hop.Hop.TheVariants.{Number, Drop}
 use Rattle.route_lines.specs.InnerFree as Free
@@ -96,22 +97,32 @@ then {A} {B} {P} {Q} {m} {n} free p q = record {
 pub hop_preference : Good (Then IsHop IsPreference) 16
 hop_preference = then Free.hop hop (number 0 0xffff 5 (omega arith) (omega arith) (omega arith))
 
-one_preferred : (text : List ℕ) (x y : Hop × ℕ) → IsPreferred text x → IsPreferred text y → x ≡ y
-one_preferred text x y (inl h) (inl k) = hop_preference.one text x y h k
-one_preferred text x y (inl h) (inr k) = absurd (not_two text x (Free.hop text y.0 k.0) h)
-one_preferred text x y (inr h) (inl k) = absurd (not_two text y (Free.hop text x.0 h.0) k)
-one_preferred text x y (inr h) (inr k) = ap₂ (λ a b. (a, b)) (hop.one text x.0 y.0 h.0 k.0) (h.1 ∙ sym k.1)
+one_optional : (text : List ℕ) (x y : Hop × Option ℕ) → IsOptional text x → IsOptional text y → x ≡ y
+one_optional text (a, Some m) (b, Some n) h k = ap (λ (x : Hop × ℕ). (x.0, Some x.1)) (hop_preference.one text (a, m) (b, n) h k)
+one_optional text (a, Some m) (b, None) h k = absurd (not_two text (a, m) (Free.hop text b k) h)
+one_optional text (a, None) (b, Some n) h k = absurd (not_two text (b, n) (Free.hop text a h) k)
+one_optional text (a, None) (b, None) h k = ap (λ c. (c, None)) (hop.one text a b h k)
 
-short_preferred : (text : List ℕ) (x : Hop × ℕ) → IsPreferred text x → length text ≤ 16
-short_preferred text x (inl h) = hop_preference.short text x h
-short_preferred text x (inr h) = (let alone = hop.short text x.0 h.0 in omega arith)
+short_optional : (text : List ℕ) (x : Hop × Option ℕ) → IsOptional text x → length text ≤ 16
+short_optional text (a, Some m) h = hop_preference.short text (a, m) h
+short_optional text (a, None) h = (let alone = hop.short text a h in omega arith)
 
-clean_preferred : (text : List ℕ) (x : Hop × ℕ) → IsPreferred text x → All (λ c. c ≢ 10) text
-clean_preferred text x (inl h) = hop_preference.clean text x h
-clean_preferred text x (inr h) = hop.clean text x.0 h.0
+clean_optional : (text : List ℕ) (x : Hop × Option ℕ) → IsOptional text x → All (λ c. c ≢ 10) text
+clean_optional text (a, Some m) h = hop_preference.clean text (a, m) h
+clean_optional text (a, None) h = hop.clean text a h
+
+pub optional : Good IsOptional 16
+optional = record { one = one_optional; short = short_optional; clean = clean_optional }
 
 pub preferred : Good IsPreferred 16
-preferred = record { one = one_preferred; short = short_preferred; clean = clean_preferred }
+preferred = record {
+  one = λ t x y h k.
+      let same : (x.0, h.0) ≡ (y.0, k.0) = optional.one t (x.0, h.0) (y.0, k.0) h.1 k.1 in
+      let pref : x.1 ≡ y.1 = h.2 ∙ ap (λ (z : Hop × Option ℕ). unwrap_or z.1 default_preference) same ∙ sym k.2 in
+      ap₂ (λ a b. (a, b)) (ap (λ (z : Hop × Option ℕ). z.0) same) pref;
+  short = λ t x h. optional.short t (x.0, h.0) h.1;
+  clean = λ t x h. optional.clean t (x.0, h.0) h.1;
+}
 
 pub after : {A : Type 0} {P : List ℕ → A → Type 0} {n : ℕ} (prefix : List ℕ) (limit : ℕ) → list_all (ltb 10) prefix ≡ true → length prefix + n ≤ limit → Good P n → Good (After prefix P) limit
 after {A} {P} {n} prefix limit e within p = record {

@@ -6,3 +6,4 @@ pub mod Replies
 pub mod Exits
 pub mod Printed
 pub mod Spells
+pub mod Earlier

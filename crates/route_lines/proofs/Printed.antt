@@ -1,6 +1,6 @@
 -- What is printed reads as that reply line.
-use Rattle.std.proofs.Common.{◌≡◌, ℕ, ◌≤◌, List, ◌++◌, codes, decimal, refl, arith, sym, ap, ◌∙◌, append_assoc}
-use Rattle.std.specs.Prelude.{⊤}
+use Rattle.std.proofs.Common.{◌≡◌, ℕ, ◌≤◌, Some, None, List, ◌++◌, codes, decimal, refl, arith, sym, ap, ◌∙◌, append_assoc}
+use Rattle.std.specs.Prelude.{⊤, IfSome}
 use Rattle.route_table.proofs.Gaps.{of_network_at}
 use Rattle.ipnet.specs.IpNetText.{net_text, Reads}
 use Rattle.ipnet.specs.IpNets.{block, network_at}
@@ -15,7 +15,7 @@ use Rattle.route_lines.specs.declared.reply.Reply.TheVariants as R
 abbrev pub Words : Reply → Type 0
 Words (R.Set net n) = Reads (net_text net) net × (n ≤ 0xffffffff)
 Words (R.Unset net) = Reads (net_text net) net
-Words (R.Route net hop pref) = Reads (net_text net) net × IsHop (hop_text hop) hop × (pref ≤ 0xffff)
+Words (R.Route net hop pref) = Reads (net_text net) net × IsHop (hop_text hop) hop × IfSome pref (λ p. p ≤ 0xffff)
 Words (R.Flat net n) = Reads (net_text net) net × (n ≤ 0xffffffff)
 Words (R.Own net) = Reads (net_text net) net
 Words (R.Count v4 v6) = (v4 ≤ 0xffffffffffffffff) × (v6 ≤ 0xffffffffffffffff)
@@ -27,12 +27,14 @@ then front back x h k = record { front = front; back = back; spelled = refl; fir
 pub prints : (r : Reply) → IsPrintable r → Words r → IsReply (reply_text r) r
 prints (R.Set net n) block w = record { rest = net_text net ++ codes " " ++ decimal n; spelled = refl; phrase = then (net_text net) (decimal n) (net, n) (net, w.0, block) (refl, omega arith, w.1) }
 prints (R.Unset net) block w = record { rest = net_text net; spelled = refl; phrase = (net, w, block) }
-prints (R.Route net hop pref) block w =
+prints (R.Route net hop None) block w =
+    record { rest = net_text net ++ codes " " ++ hop_text hop; spelled = refl; phrase = then (net_text net) (hop_text hop) (net, (hop, None)) (net, w.0, block) w.1 }
+prints (R.Route net hop (Some pref)) block w =
     let routed = then (hop_text hop) (decimal pref) (hop, pref) w.1 (refl, omega arith, w.2) in
     record {
       rest = net_text net ++ codes " " ++ (hop_text hop ++ codes " " ++ decimal pref);
       spelled = simp append_assoc;
-      phrase = then (net_text net) (hop_text hop ++ codes " " ++ decimal pref) (net, (hop, pref)) (net, w.0, block) routed;
+      phrase = then (net_text net) (hop_text hop ++ codes " " ++ decimal pref) (net, (hop, Some pref)) (net, w.0, block) routed;
     }
 prints (R.Flat net n) block w = record { rest = net_text net ++ codes " " ++ decimal n; spelled = refl; phrase = then (net_text net) (decimal n) (net, n) (net, w.0, block) (refl, omega arith, w.1) }
 prints (R.Own net) block w = record { rest = net_text net; spelled = refl; phrase = (net, w, block) }

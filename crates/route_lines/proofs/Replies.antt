@@ -1,9 +1,9 @@
 -- The kinds of reply lines: each with its words, and told by the first three bytes of its texts.
-use Rattle.std.proofs.Common.{◌≡◌, ◌≢◌, ℕ, ◌≤◌, List, length, All, codes, refl, sym, ap, ◌∙◌, arith, if◌then◌else◌, nat_eq}
+use Rattle.std.proofs.Common.{Option, ◌≡◌, ◌≢◌, ℕ, ◌≤◌, List, length, All, codes, refl, sym, ap, ◌∙◌, arith, if◌then◌else◌, nat_eq}
 use Rattle.std.specs.Prelude.{⊤}
 use Rattle.ipnet.specs.declared.ip_net.IpNet.{IpNet}
 use Rattle.route_lines.specs.Phrase.{Then, After}
-use Rattle.route_lines.specs.Words.{IsNet, IsNumber, IsCount, IsHop, IsPreference}
+use Rattle.route_lines.specs.Words.{IsNet, IsNumber, IsCount, IsOptional}
 use Rattle.route_lines.specs.Texts.{IsReply}
 use Rattle.route_lines.specs.InnerFree as Free
 use Rattle.route_lines.proofs.Good.{Good, start, one_line}
@@ -28,7 +28,7 @@ data Kind : Type 0 where
 abbrev Value : Kind → Type 0
 Value set = IpNet × ℕ
 Value unset = IpNet
-Value route = IpNet × (Hop × ℕ)
+Value route = IpNet × (Hop × Option ℕ)
 Value flat = IpNet × ℕ
 Value own = IpNet
 Value count = ℕ × ℕ
@@ -52,7 +52,7 @@ make refused x = R.Close Refused
 abbrev Spells : (k : Kind) → List ℕ → Value k → Type 0
 Spells set text x = After (codes "set ") (Then IsNet IsNumber) text x
 Spells unset text x = After (codes "unset ") IsNet text x
-Spells route text x = After (codes "route ") (Then IsNet (Then IsHop IsPreference)) text x
+Spells route text x = After (codes "route ") (Then IsNet IsOptional) text x
 Spells flat text x = After (codes "flat ") (Then IsNet IsNumber) text x
 Spells own text x = After (codes "own ") IsNet text x
 Spells count text x = After (codes "count ") (Then IsCount IsCount) text x
@@ -103,7 +103,7 @@ starts refused text x h = ap start h
 good : (k : Kind) → Good (Spells k) 74
 good set = Good.after (codes "set ") 74 refl (omega arith) (Good.then Free.net Good.net Good.u32)
 good unset = Good.after (codes "unset ") 74 refl (omega arith) Good.net
-good route = Good.after (codes "route ") 74 refl (omega arith) (Good.then Free.net Good.net Good.hop_preference)
+good route = Good.after (codes "route ") 74 refl (omega arith) (Good.then Free.net Good.net Good.optional)
 good flat = Good.after (codes "flat ") 74 refl (omega arith) (Good.then Free.net Good.net Good.u32)
 good own = Good.after (codes "own ") 74 refl (omega arith) Good.net
 good count = Good.after (codes "count ") 74 refl (omega arith) (Good.then (Free.decimal_word 0 0xffffffffffffffff (omega arith)) (Good.number 0 0xffffffffffffffff 20 (omega arith) (omega arith) (omega arith)) (Good.number 0 0xffffffffffffffff 20 (omega arith) (omega arith) (omega arith)))

@@ -1,5 +1,6 @@
 -- The functions find the line that a text spells.
-use Rattle.std.proofs.Common.{◌≡◌, ◌≢◌, ℕ, ◌^◌, ◌<◌, Bool, true, false, true≢false, cond, ◌&&◌, ◌==◌, nat_le, List, [], ◌∷◌, ◌++◌, length, take, drop, codes, decimal, inl, inr, Option, Some, None, MatchOption, option_map, option_and_then, refl, sym, ap, ◌∙◌, arith, take-append-drop, take_at}
+use Rattle.std.proofs.Common.{◌≡◌, ◌≢◌, ℕ, ◌^◌, ◌<◌, Bool, true, false, true≢false, cond, ◌&&◌, ◌==◌, nat_le, List, [], ◌∷◌, ◌++◌, length, take, drop, codes, decimal, Option, Some, None, MatchOption, option_map, option_and_then, refl, sym, ap, ◌∙◌, arith, take-append-drop, take_at}
+use Rattle.std.specs.Prelude.{unwrap_or}
 use Rattle.std.specs.Str.{bytes_eq}
 use Rattle.std.specs.Str.Parse.{digits_value}
 use Rattle.std.proofs.lemmas.Bool.{and_parts}
@@ -16,17 +17,17 @@ use Rattle.route_table.specs.declared.hop.Hop.TheVariants.{Number, Drop}
 use Rattle.route_lines.specs.InnerFree as Free
 use Rattle.route_lines.specs.Phrase.{IsUnspaced, IsDecimal, Then, After}
 use Rattle.route_lines.specs.InnerPhrase.{Gives, IsFree}
-use Rattle.route_lines.specs.Words.{IsNet, IsHop, IsNumber, IsLimit, IsCount, IsPreference, IsPreferred}
+use Rattle.route_lines.specs.Words.{IsNet, IsHop, IsNumber, IsLimit, IsCount, IsPreference, IsOptional, IsPreferred}
 use Rattle.route_table.specs.Choices.{default_preference}
 use Rattle.route_lines.specs.Texts.{IsCommand, IsReply, closing_text}
-use Rattle.route_lines.specs.Spelled.{split, net_of_text, number_of_text, hop_of_text, preferred_of_text, of_word, of_both, after_prefix, or_else, command_of, closing_of_text, reply_of}
+use Rattle.route_lines.specs.Spelled.{split, net_of_text, number_of_text, hop_of_text, optional_of_text, preferred_of_text, of_word, of_both, after_prefix, or_else, command_of, closing_of_text, reply_of}
 use Rattle.route_lines.specs.declared.command.Command.TheVariants as C
 use Rattle.route_lines.specs.declared.reply.Closing.{Closing}
 use Rattle.route_lines.specs.declared.reply.Closing.TheVariants.{Done, Missing, Bad, Refused}
 use Rattle.route_lines.specs.declared.reply.Reply.{Reply}
 use Rattle.route_lines.specs.declared.reply.Reply.TheVariants as R
 use Rattle.route_lines.proofs.Words.{not_two, no_first, no_second, both, gives_after}
-use Rattle.route_lines.proofs.Exits.{no_preferred, no_command, no_closing, no_reply}
+use Rattle.route_lines.proofs.Exits.{no_optional, no_preferred, no_command, no_closing, no_reply}
 
 -- ---- words
 
@@ -144,13 +145,20 @@ gives_net_and Q g q = gives_both IsNet Q net_of_text g Free.net gives_net q
 gives_hop_preference : (s : List ℕ) → Gives (Then IsHop IsPreference) s (of_both hop_of_text (number_of_text 0 0xffff) s)
 gives_hop_preference = gives_both IsHop IsPreference hop_of_text (number_of_text 0 0xffff) Free.hop gives_hop (gives_number 0 0xffff (omega arith))
 
-gives_preferred : (s : List ℕ) → Gives IsPreferred s (preferred_of_text s)
-gives_preferred s = go (of_both hop_of_text (number_of_text 0 0xffff) s) (gives_hop_preference s) (hop_of_text s) (gives_hop s)
+gives_optional : (s : List ℕ) → Gives IsOptional s (optional_of_text s)
+gives_optional s = go (of_both hop_of_text (number_of_text 0 0xffff) s) (gives_hop_preference s) (hop_of_text s) (gives_hop s)
   where
-    go : (p : Option (Hop × ℕ)) → Gives (Then IsHop IsPreference) s p → (o : Option Hop) → Gives IsHop s o → Gives IsPreferred s (or_else p (option_map (λ hop. (hop, default_preference)) o))
-    go (Some x) h o k = inl h
-    go None h None k = no_preferred s h k
-    go None h (Some hop) k = inr (k, refl)
+    go : (p : Option (Hop × ℕ)) → Gives (Then IsHop IsPreference) s p → (o : Option Hop) → Gives IsHop s o → Gives IsOptional s (or_else (option_map (λ x. (x.0, Some x.1)) p) (option_map (λ hop. (hop, None)) o))
+    go (Some x) h o k = h
+    go None h None k = no_optional s h k
+    go None h (Some hop) k = k
+
+gives_preferred : (s : List ℕ) → Gives IsPreferred s (preferred_of_text s)
+gives_preferred s = go (optional_of_text s) (gives_optional s)
+  where
+    go : (o : Option (Hop × Option ℕ)) → Gives IsOptional s o → Gives IsPreferred s (option_map (λ x. (x.0, unwrap_or x.1 default_preference)) o)
+    go None h = no_preferred s h
+    go (Some x) h = (x.1, h, refl)
 
 pub command_found : (s : List ℕ) → Gives IsCommand s (command_of s)
 unfolding command_of
@@ -183,8 +191,8 @@ unfolding reply_of
 reply_found s =
     or_kind (After (codes "set ") (Then IsNet IsNumber)) IsReply (λ x. R.Set x.0 x.1) s _ _ (λ x h. h) (gives_prefix (Then IsNet IsNumber) (codes "set ") (of_both net_of_text (number_of_text 0 0xffffffff)) (gives_net_number 0 0xffffffff (omega arith)) s) (λ set.
     or_kind (After (codes "unset ") IsNet) IsReply R.Unset s _ _ (λ x h. h) (gives_prefix IsNet (codes "unset ") net_of_text gives_net s) (λ unset.
-    or_kind (After (codes "route ") (Then IsNet (Then IsHop IsPreference))) IsReply (λ x. R.Route x.0 x.1.0 x.1.1) s _ _ (λ x h. h)
-    (gives_prefix (Then IsNet (Then IsHop IsPreference)) (codes "route ") (of_both net_of_text (of_both hop_of_text (number_of_text 0 0xffff))) (gives_net_and (Then IsHop IsPreference) (of_both hop_of_text (number_of_text 0 0xffff)) gives_hop_preference) s) (λ route.
+    or_kind (After (codes "route ") (Then IsNet IsOptional)) IsReply (λ x. R.Route x.0 x.1.0 x.1.1) s _ _ (λ x h. h)
+    (gives_prefix (Then IsNet IsOptional) (codes "route ") (of_both net_of_text optional_of_text) (gives_net_and IsOptional optional_of_text gives_optional) s) (λ route.
     or_kind (After (codes "flat ") (Then IsNet IsNumber)) IsReply (λ x. R.Flat x.0 x.1) s _ _ (λ x h. h) (gives_prefix (Then IsNet IsNumber) (codes "flat ") (of_both net_of_text (number_of_text 0 0xffffffff)) (gives_net_number 0 0xffffffff (omega arith)) s) (λ flat.
     or_kind (After (codes "own ") IsNet) IsReply R.Own s _ _ (λ x h. h) (gives_prefix IsNet (codes "own ") net_of_text gives_net s) (λ own.
     or_kind (After (codes "count ") (Then IsCount IsCount)) IsReply (λ x. R.Count x.0 x.1) s _ _ (λ x h. h)

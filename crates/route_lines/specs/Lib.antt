@@ -6,4 +6,5 @@ pub mod InnerPhrase
 pub mod InnerFree
 pub mod Words
 pub mod Texts
+pub mod Earlier
 pub mod Spelled

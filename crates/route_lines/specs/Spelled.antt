@@ -1,5 +1,5 @@
 -- The line that a text spells, as a function of the text.
-use Rattle.std.specs.Prelude.{ℕ, ◌&&◌, ◌==◌, nat_le, if◌then◌else◌, List, [], ◌∷◌, take, drop, length, codes, decimal, Option, Some, None, option_map, option_and_then}
+use Rattle.std.specs.Prelude.{ℕ, ◌&&◌, ◌==◌, nat_le, if◌then◌else◌, List, [], ◌∷◌, take, drop, length, codes, decimal, Option, Some, None, option_map, option_and_then, unwrap_or}
 use Rattle.std.specs.Str.{bytes_eq}
 use Rattle.std.specs.Str.Parse.{digits_value}
 use Rattle.ipnet.specs.IpNets.{block, network_at}
@@ -49,8 +49,12 @@ or_else (Some a) o = Some a
 or_else None o = o
 
 -- a hop and a preference, or else a hop alone
+abbrev pub optional_of_text : List ℕ → Option (Hop × Option ℕ)
+optional_of_text s = or_else (option_map (λ x. (x.0, Some x.1)) (of_both hop_of_text (number_of_text 0 0xffff) s)) (option_map (λ hop. (hop, None)) (hop_of_text s))
+
+-- a hop alone has the default preference
 abbrev pub preferred_of_text : List ℕ → Option (Hop × ℕ)
-preferred_of_text s = or_else (of_both hop_of_text (number_of_text 0 0xffff) s) (option_map (λ hop. (hop, default_preference)) (hop_of_text s))
+preferred_of_text s = option_map (λ x. (x.0, unwrap_or x.1 default_preference)) (optional_of_text s)
 
 -- the command
 unfoldable pub command_of : List ℕ → Option Command
@@ -76,7 +80,7 @@ unfoldable pub reply_of : List ℕ → Option Reply
 reply_of s =
     or_else (option_map (λ x. R.Set x.0 x.1) (after_prefix (codes "set ") (of_both net_of_text (number_of_text 0 0xffffffff)) s))
     (or_else (option_map R.Unset (after_prefix (codes "unset ") net_of_text s))
-    (or_else (option_map (λ x. R.Route x.0 x.1.0 x.1.1) (after_prefix (codes "route ") (of_both net_of_text (of_both hop_of_text (number_of_text 0 0xffff))) s))
+    (or_else (option_map (λ x. R.Route x.0 x.1.0 x.1.1) (after_prefix (codes "route ") (of_both net_of_text optional_of_text) s))
     (or_else (option_map (λ x. R.Flat x.0 x.1) (after_prefix (codes "flat ") (of_both net_of_text (number_of_text 0 0xffffffff)) s))
     (or_else (option_map R.Own (after_prefix (codes "own ") net_of_text s))
     (or_else (option_map (λ x. R.Count x.0 x.1) (after_prefix (codes "count ") (of_both (number_of_text 0 0xffffffffffffffff) (number_of_text 0 0xffffffffffffffff)) s))

@@ -1,9 +1,9 @@
 -- The texts of commands and reply lines, by cases on whole texts.
-use Rattle.std.specs.Prelude.{◌≡◌, ℕ, List, ◌++◌, codes, decimal, ⊤}
+use Rattle.std.specs.Prelude.{◌≡◌, ℕ, List, ◌++◌, codes, decimal, ⊤, Some, None}
 use Rattle.ipnet.specs.IpNetText.{net_text}
 use Rattle.ipnet.specs.IpNets.{block, network_at}
 use Rattle.route_lines.specs.Phrase.{Then, After}
-use Rattle.route_lines.specs.Words.{IsNet, IsNumber, IsLimit, IsCount, IsHop, IsPreference, IsPreferred}
+use Rattle.route_lines.specs.Words.{IsNet, IsNumber, IsLimit, IsCount, IsHop, IsOptional, IsPreferred}
 use Rattle.route_table.specs.declared.hop.Hop.{Hop}
 use Rattle.route_table.specs.declared.hop.Hop.TheVariants as Hops
 use Rattle.route_lines.specs.declared.command.Command.{Command}
@@ -38,7 +38,7 @@ closing_text Refused = codes "refused"
 abbrev pub IsReply : List ℕ → Reply → Type 0
 IsReply text (R.Set net number) = After (codes "set ") (Then IsNet IsNumber) text (net, number)
 IsReply text (R.Unset net) = After (codes "unset ") IsNet text net
-IsReply text (R.Route net hop pref) = After (codes "route ") (Then IsNet (Then IsHop IsPreference)) text (net, (hop, pref))
+IsReply text (R.Route net hop pref) = After (codes "route ") (Then IsNet IsOptional) text (net, (hop, pref))
 IsReply text (R.Flat net number) = After (codes "flat ") (Then IsNet IsNumber) text (net, number)
 IsReply text (R.Own net) = After (codes "own ") IsNet text net
 IsReply text (R.Count v4 v6) = After (codes "count ") (Then IsCount IsCount) text (v4, v6)
@@ -53,7 +53,8 @@ hop_text Hops.Drop = codes "drop"
 abbrev pub reply_text : Reply → List ℕ
 reply_text (R.Set net number) = codes "set " ++ net_text net ++ codes " " ++ decimal number
 reply_text (R.Unset net) = codes "unset " ++ net_text net
-reply_text (R.Route net hop pref) = codes "route " ++ net_text net ++ codes " " ++ hop_text hop ++ codes " " ++ decimal pref
+reply_text (R.Route net hop None) = codes "route " ++ net_text net ++ codes " " ++ hop_text hop
+reply_text (R.Route net hop (Some pref)) = codes "route " ++ net_text net ++ codes " " ++ hop_text hop ++ codes " " ++ decimal pref
 reply_text (R.Flat net number) = codes "flat " ++ net_text net ++ codes " " ++ decimal number
 reply_text (R.Own net) = codes "own " ++ net_text net
 reply_text (R.Count v4 v6) = codes "count " ++ decimal v4 ++ codes " " ++ decimal v6

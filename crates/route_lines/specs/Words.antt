@@ -1,5 +1,5 @@
 -- The words after the first one of a line.
-use Rattle.std.specs.Prelude.{◌≡◌, ◌⊎◌, ℕ, List, codes}
+use Rattle.std.specs.Prelude.{◌≡◌, ℕ, List, codes, Option, MatchOption, unwrap_or}
 use Rattle.ipnet.specs.IpNetText.{Reads}
 use Rattle.ipnet.specs.IpNets.{block, network_at}
 use Rattle.ipnet.specs.declared.ip_net.IpNet.{IpNet}
@@ -33,6 +33,10 @@ IsHop text Drop = text ≡ codes "drop"
 abbrev pub IsPreference : List ℕ → ℕ → Type 0
 IsPreference = IsDecimal 0 0xffff
 
--- a hop and a preference with one space between them, or a hop alone, which has the default preference
+-- a hop and a preference with one space between them, or a hop alone
+abbrev pub IsOptional : List ℕ → Hop × Option ℕ → Type 0
+IsOptional text x = MatchOption x.1 (IsHop text x.0) (λ pref. Then IsHop IsPreference text (x.0, pref))
+
+-- the same, where a hop alone has the default preference
 abbrev pub IsPreferred : List ℕ → Hop × ℕ → Type 0
-IsPreferred text x = Then IsHop IsPreference text x ⊎ (IsHop text x.0 × (x.1 ≡ default_preference))
+IsPreferred text x = (given : Option ℕ) × IsOptional text (x.0, given) × (x.1 ≡ unwrap_or given default_preference)

@@ -2,6 +2,7 @@
 ghost use Rattle.std.specs.Prelude.{◌≡◌, ◌≢◌, ◌≤◌, ℕ, List, [], ◌∷◌, ◌++◌, All, MatchOption, length};
 ghost use Rattle.std.specs.List.{flat_map};
 ghost use Rattle.route_lines.specs.Bytes.{lines, rest};
+ghost use Rattle.route_lines.specs.Earlier.{IsEarlierReply};
 ghost use Rattle.route_lines.specs.Spelled.{command_of, reply_of};
 ghost use Rattle.route_lines.specs.Texts.{IsCommand, IsPrintable, IsReply};
 ghost use Rattle.route_lines.specs.declared.command.Command.{Command};
@@ -40,4 +41,10 @@ pub fn replies()
     ensures clean { (text : List ℕ) (a : Reply) → IsReply text a → All (λ c. c ≢ 10) text }
     ensures printable { (text : List ℕ) (a : Reply) → IsReply text a → IsPrintable a }
     ensures found { (text : List ℕ) → MatchOption (reply_of text) ((a : Reply) → IsReply text a → ⊥) (IsReply text) }
+{}
+
+/// Each reply line of a leader that had no preferences is still one, with the same network and hop; a `route` has no
+/// preference.
+pub fn earlier()
+    ensures { (text : List ℕ) (a : Reply) → IsEarlierReply text a → IsReply text a }
 {}

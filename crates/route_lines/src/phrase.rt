@@ -2,7 +2,7 @@
 ghost use Rattle.std.specs.Prelude.{◌≡◌, ◌≢◌, ℕ, ◌^◌, ◌<◌, ◌≤◌, List, ◌∷◌, ◌++◌, All, IfSome, IfNone};
 ghost use Rattle.route_lines.specs.Phrase.{IsUnspaced, IsDecimal, Then, After};
 ghost use Rattle.route_lines.specs.InnerPhrase.{Gives, IsFree};
-ghost use Rattle.route_lines.specs.Words.{IsNet, IsHop, IsPreferred};
+ghost use Rattle.route_lines.specs.Words.{IsNet, IsHop, IsOptional, IsPreferred};
 ghost use Rattle.route_lines.specs.InnerFree as Free;
 ghost use Rattle.std.proofs.Common.{rules};
 
@@ -152,6 +152,41 @@ impl<A: Word, B: Phrase> Phrase for (A, B) {
 
 // A hop and a preference, or a hop alone.
 #[derive(Clone, Copy)]
+pub(crate) struct Optional {
+    pub(crate) hop: Hop,
+    pub(crate) pref: Option<u16>,
+}
+
+impl Model for Optional {
+    ghost use Rattle.std.specs.Prelude.{ℕ, Option};
+    ghost use Rattle.route_table.specs.declared.hop.Hop.{Hop};
+
+    ghost Value = { Hop × Option ℕ };
+
+    ghost view = { λ p. (p.hop, p.pref) };
+
+    ghost inverse = { λ v. record { hop = v.0; pref = v.1 } };
+
+    ghost inverse_ok = { λ p h i. p };
+}
+
+impl Phrase for Optional {
+    ghost spells = { IsOptional };
+
+    fn read(s: &[u8]) -> Option<Optional> {
+        if let Some((hop, pref)) = <(Hop, Preference)>::read(s) {
+            let pref = Some(pref.n as u16);
+            return Some(Optional { hop, pref });
+        }
+        let Some(hop) = Hop::read(s) else {
+            return None;
+        };
+        Some(Optional { hop, pref: None })
+    }
+}
+
+// The same, where a hop alone has the default preference.
+#[derive(Clone, Copy)]
 pub(crate) struct Preferred {
     pub(crate) hop: Hop,
     pub(crate) pref: u16,
@@ -174,16 +209,12 @@ impl Phrase for Preferred {
     ghost spells = { IsPreferred };
 
     fn read(s: &[u8]) -> Option<Preferred> {
-        if let Some((hop, pref)) = <(Hop, Preference)>::read(s) {
-            let pref = pref.n as u16;
-            return Some(Preferred { hop, pref });
-        }
-        let Some(hop) = Hop::read(s) else {
+        let Some(route) = Optional::read(s) else {
             return None;
         };
         Some(Preferred {
-            hop,
-            pref: DEFAULT_PREFERENCE,
+            hop: route.hop,
+            pref: route.pref.unwrap_or(DEFAULT_PREFERENCE),
         })
     }
 }

@@ -5,7 +5,7 @@ ghost use Rattle.route_lines.specs.InnerPhrase.{Gives};
 ghost use Rattle.route_lines.specs.Texts.{IsReply, closing_text, reply_text, IsPrintable};
 
 use crate::NotALine;
-use crate::phrase::{Count, Number, Preference, read_after};
+use crate::phrase::{Count, Number, Optional, read_after};
 use crate::printer::{push_all, push_hop, push_net, push_u16, push_u32, push_u64};
 use arrayvec::ArrayVec;
 use ipnet::IpNet;
@@ -15,17 +15,35 @@ use route_table::Hop;
 #[derive(Clone, Copy, PartialEq, Eq)]
 pub enum Reply {
     /// `set NET NUMBER`: the block's addresses go to this hop from now on.
-    Set { net: IpNet, number: u32 },
+    Set {
+        net: IpNet,
+        number: u32,
+    },
     /// `unset NET`: the block's addresses have no hop from now on.
-    Unset { net: IpNet },
-    /// `route NET HOP PREF`: a route of a stored network, its hop and its preference.
-    Route { net: IpNet, hop: Hop, pref: u16 },
+    Unset {
+        net: IpNet,
+    },
+    /// `route NET HOP PREF`: a route of a stored network, its hop and its preference. In `route NET HOP`, which leaders
+    /// wrote when routes had no preferences, there is none.
+    Route {
+        net: IpNet,
+        hop: Hop,
+        pref: Option<u16>,
+    },
     /// `flat NET NUMBER`: a block of the flat list.
-    Flat { net: IpNet, number: u32 },
+    Flat {
+        net: IpNet,
+        number: u32,
+    },
     /// `own NET`: a block of the hop that was asked for.
-    Own { net: IpNet },
+    Own {
+        net: IpNet,
+    },
     /// `count V4 V6`: how many networks of each family are stored.
-    Count { v4: u64, v6: u64 },
+    Count {
+        v4: u64,
+        v6: u64,
+    },
     /// The line that ends a reply.
     Close(Closing),
 }
@@ -80,11 +98,11 @@ impl Reply {
         if let Some(net) = read_after::<IpNet>(line, b"unset ") {
             return Ok(Reply::Unset { net });
         }
-        if let Some(route) = read_after::<(IpNet, (Hop, Preference))>(line, b"route ") {
+        if let Some(route) = read_after::<(IpNet, Optional)>(line, b"route ") {
             return Ok(Reply::Route {
                 net: route.0,
-                hop: route.1.0,
-                pref: route.1.1.n as u16,
+                hop: route.1.hop,
+                pref: route.1.pref,
             });
         }
         if let Some(block) = read_after::<(IpNet, Number)>(line, b"flat ") {
@@ -150,8 +168,10 @@ impl Reply {
                 push_net(&mut out, net);
                 push_all(&mut out, b" ");
                 push_hop(&mut out, *hop);
-                push_all(&mut out, b" ");
-                push_u16(&mut out, *pref);
+                if let Some(pref) = pref {
+                    push_all(&mut out, b" ");
+                    push_u16(&mut out, *pref);
+                }
             }
             Reply::Flat { net, number } => {
                 push_all(&mut out, b"flat ");

@@ -1,7 +1,7 @@
 use Rattle.std.proofs.Common.{rules}
 use Rattle.route_lines.proofs.Printed.{prints, Words}
 use Rattle.route_lines.proofs.Replies.{clean_reply}
-use Rattle.route_lines.proofs.reply.Reply.print.Goals.{in-Set, in-Unset, in-Route, in-Flat, in-Own, in-Count, in-Close}
+use Rattle.route_lines.proofs.reply.Reply.print.Goals.{in-Set, in-Unset, in-Route+in-Some, in-Route+in_default, in-Flat, in-Own, in-Count, in-Close}
 use Rattle.route_lines.proofs.reply.Reply.print.Goals as goal
 
 pub returns-clause-reads : goal.returns-clause-reads
@@ -9,7 +9,8 @@ returns-clause-reads c =
     let words : Words c.args.self.now = elim c.match-self.branch [
       | in-Set w ↦ search rules
       | in-Unset w ↦ search rules
-      | in-Route w ↦ search rules
+      | in-Route+in-Some w ↦ search rules
+      | in-Route+in_default w ↦ search rules
       | in-Flat w ↦ search rules
       | in-Own w ↦ search rules
       | in-Count w ↦ search rules
