@@ -31,7 +31,7 @@ use std::marker::Model;
 ///
 /// Contracts see it as the ascending list of its stored networks, each with its routes, best first; what they say of
 /// matches and hops, they say of the list of the best routes. Host bits of an argument are ignored everywhere. Only
-/// `new`, `own`, and `add` and `overwrite` of a network that is not stored, take memory.
+/// `own`, and `add` and `overwrite` of a network that is not stored, take memory.
 #[derive(Drop)]
 pub struct RouteTable {
     pub(crate) v4: Side<Ipv4Net>,
