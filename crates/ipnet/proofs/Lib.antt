@@ -2,6 +2,7 @@ pub mod NetworkReader
 pub mod Ipv4Networks
 pub mod Ipv6Networks
 pub mod IpNetworks
+pub mod Spelled
 pub mod NoSpace
 pub mod Longest
 pub mod IpAggregates
@@ -9,3 +10,4 @@ pub mod SixteenOctets
 pub mod StringValues
 pub mod FormLaws
 pub mod AggregatedAgain
+pub mod ThreeFields

@@ -1,79 +1,46 @@
 //! The fewest networks with the addresses of some others.
 ghost use Rattle.std.specs.Prelude.{◌≡◌, ◌++◌, map, All, IfOk, OnOk};
-ghost use Rattle.ipnet_addr.specs.Addresses.{Ipv4, Ipv6};
 ghost use Rattle.ipnet_blocks.specs.Aggregated.{AreAggregated, IsAggregated};
 ghost use Rattle.ipnet_blocks.specs.Networks.{IsTruncated};
 ghost use Rattle.ipnet.specs.IpAggregated.{only_ipv4, only_ipv6};
 ghost use Rattle.ipnet.specs.IpNets.{block, family, parts};
 
 use crate::ip_net::IpNet;
-use crate::networks::{Ipv4Net, Ipv6Net};
-use crate::subnets::{Ipv4Subnets, Ipv6Subnets};
-use ipnet_addr::bits::{ipv4_of, ipv6_of};
+use crate::networks::{Ipv4Net, Ipv6Net, Net};
+use crate::subnets::Subnets;
+use ipnet_addr::number::Number;
 use ipnet_blocks::aggregate::{OfFamily, Span, aggregated};
 use std::alloc::{AllocError, Global};
 
-impl OfFamily for Ipv4Net {
-    ghost family = { Ipv4 };
+impl<N: Number> OfFamily for Net<N> {
+    ghost family = { N.family };
 
     ghost parts = { λ n. n };
 
     fn span(&self) -> Span {
         Span {
-            first: self.network().to_bits().into(),
-            last: self.broadcast().to_bits().into(),
+            first: N::of_addr(self.network()).to_bits(),
+            last: N::of_addr(self.broadcast()).to_bits(),
         }
     }
 
-    fn push_blocks(blocks: &mut Vec<Ipv4Net>, span: &Span) -> Result<(), AllocError> {
-        let Span { first, last } = *span;
-        for block in Ipv4Subnets::new(ipv4_of(first as u32), ipv4_of(last as u32), 0) {
+    fn push_blocks(blocks: &mut Vec<Net<N>>, span: &Span) -> Result<(), AllocError> {
+        let first = N::from_bits(span.first).to_addr();
+        let last = N::from_bits(span.last).to_addr();
+        for block in Subnets::<N>::new(first, last, 0) {
             blocks.push(block)?;
         }
         Ok(())
     }
 }
 
-impl Ipv4Net {
+impl<N: Number> Net<N> {
     /// The fewest networks with the addresses of these, ascending, each without host bits; takes time n log n.
     ///
     /// # Errors
     /// `AllocError` where memory is refused.
-    pub fn aggregate(alloc: Global, networks: &Vec<Ipv4Net>) -> Result<Vec<Ipv4Net>, AllocError>
-        ensures { IfOk result (λ v. AreAggregated Ipv4 networks.now.items v.items) }
-    {
-        aggregated(alloc, networks)
-    }
-}
-
-impl OfFamily for Ipv6Net {
-    ghost family = { Ipv6 };
-
-    ghost parts = { λ n. n };
-
-    fn span(&self) -> Span {
-        Span {
-            first: self.network().to_bits(),
-            last: self.broadcast().to_bits(),
-        }
-    }
-
-    fn push_blocks(blocks: &mut Vec<Ipv6Net>, span: &Span) -> Result<(), AllocError> {
-        let Span { first, last } = *span;
-        for block in Ipv6Subnets::new(ipv6_of(first), ipv6_of(last), 0) {
-            blocks.push(block)?;
-        }
-        Ok(())
-    }
-}
-
-impl Ipv6Net {
-    /// The fewest networks with the addresses of these, ascending, each without host bits; takes time n log n.
-    ///
-    /// # Errors
-    /// `AllocError` where memory is refused.
-    pub fn aggregate(alloc: Global, networks: &Vec<Ipv6Net>) -> Result<Vec<Ipv6Net>, AllocError>
-        ensures { IfOk result (λ v. AreAggregated Ipv6 networks.now.items v.items) }
+    pub fn aggregate(alloc: Global, networks: &Vec<Net<N>>) -> Result<Vec<Net<N>>, AllocError>
+        ensures { IfOk result (λ v. AreAggregated N.family networks.now.items v.items) }
     {
         aggregated(alloc, networks)
     }

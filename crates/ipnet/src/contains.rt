@@ -1,14 +1,14 @@
 //! Inclusion of networks and addresses.
 ghost use Rattle.std.specs.Prelude.{◌↔◌, IsTrue};
-ghost use Rattle.ipnet_addr.specs.Addresses.{Ipv4, Ipv6, ipv4_address, ipv6_address};
 ghost use Rattle.ipnet_blocks.specs.Blocks.{HasAddress, IsInside};
 ghost use Rattle.ipnet_blocks.specs.Networks.{block_of};
 
 use crate::ip_net::IpNet;
-use crate::networks::{Ipv4Net, Ipv6Net};
+use crate::networks::Net;
 use ipnet_addr::bits::quotient;
+use ipnet_addr::number::Number;
 use ipnet_blocks::contains::is_inside;
-use std::net::{IpAddr, Ipv4Addr, Ipv6Addr};
+use std::net::IpAddr;
 
 /// Whether a network holds all addresses of another value, a network or an address.
 pub trait Contains<T> {
@@ -20,12 +20,12 @@ pub trait Contains<T> {
 }
 
 /// Each address of `other` is one of `self`.
-impl Contains<&Ipv4Net> for Ipv4Net {
-    ghost contained = { λ n m. IsInside (block_of Ipv4 m.now) (block_of Ipv4 n) };
+impl<N: Number> Contains<&Net<N>> for Net<N> {
+    ghost contained = { λ n m. IsInside (block_of N.family m.now) (block_of N.family n) };
 
-    fn contains(&self, other: &Ipv4Net) -> bool {
+    fn contains(&self, other: &Net<N>) -> bool {
         is_inside(
-            32,
+            N::width(),
             other.number(),
             other.prefix_len(),
             self.number(),
@@ -34,38 +34,13 @@ impl Contains<&Ipv4Net> for Ipv4Net {
     }
 }
 
-/// Each address of `other` is one of `self`.
-impl Contains<&Ipv6Net> for Ipv6Net {
-    ghost contained = { λ n m. IsInside (block_of Ipv6 m.now) (block_of Ipv6 n) };
-
-    fn contains(&self, other: &Ipv6Net) -> bool {
-        is_inside(
-            128,
-            other.number(),
-            other.prefix_len(),
-            self.number(),
-            self.prefix_len(),
-        )
-    }
-}
-
-/// The address is one of `self`.
-impl Contains<&Ipv4Addr> for Ipv4Net {
-    ghost contained = { λ n a. HasAddress (block_of Ipv4 n) (ipv4_address a.now) };
-
-    fn contains(&self, other: &Ipv4Addr) -> bool {
-        let free = 32 - self.prefix_len();
-        quotient(self.number(), free) == quotient(other.to_bits().into(), free)
-    }
-}
-
-/// The address is one of `self`.
-impl Contains<&Ipv6Addr> for Ipv6Net {
-    ghost contained = { λ n a. HasAddress (block_of Ipv6 n) (ipv6_address a.now) };
-
-    fn contains(&self, other: &Ipv6Addr) -> bool {
-        let free = 128 - self.prefix_len();
-        quotient(self.number(), free) == quotient(other.to_bits(), free)
+impl<N: Number> Net<N> {
+    // Whether the address is one of the network's.
+    pub(crate) fn holds(&self, addr: N::Addr) -> bool
+        ensures { IsTrue result ↔ HasAddress (block_of N.family self.now) (record { family = N.family; number = N.addr_number addr }) }
+    {
+        let free = N::width() - self.prefix_len();
+        quotient(self.number(), free) == quotient(N::of_addr(addr).to_bits(), free)
     }
 }
 
@@ -103,23 +78,12 @@ impl Contains<&IpAddr> for IpNet {
     }
 }
 
-impl Ipv4Net {
+impl<N: Number> Net<N> {
     /// Whether each address of `other`, a network or an address, is one of the network's.
     pub fn contains<T>(&self, other: T) -> bool
     where
-        Ipv4Net: Contains<T>,
-        ensures { IsTrue result ↔ ⟦<Ipv4Net as Contains<T>>⟧.contained self.now other }
-    {
-        Contains::contains(self, other)
-    }
-}
-
-impl Ipv6Net {
-    /// Whether each address of `other`, a network or an address, is one of the network's.
-    pub fn contains<T>(&self, other: T) -> bool
-    where
-        Ipv6Net: Contains<T>,
-        ensures { IsTrue result ↔ ⟦<Ipv6Net as Contains<T>>⟧.contained self.now other }
+        Net<N>: Contains<T>,
+        ensures { IsTrue result ↔ ⟦<Net<N> as Contains<T>>⟧.contained self.now other }
     {
         Contains::contains(self, other)
     }

@@ -7,10 +7,10 @@ pub use ipnet_addr::ipext::{IpAdd, IpBitAnd, IpBitOr, IpStep, IpSub};
 pub use ipnet_addr::mask::{
     PrefixLenError, ip_mask_to_prefix, ipv4_mask_to_prefix, ipv6_mask_to_prefix,
 };
-pub use ipnet_addr::ranges::{IpAddrRange, Ipv4AddrRange, Ipv6AddrRange};
-pub use networks::{Ipv4Net, Ipv6Net};
+pub use ipnet_addr::ranges::{AddrRange, IpAddrRange, Ipv4AddrRange, Ipv6AddrRange};
+pub use networks::{Ipv4Net, Ipv6Net, Net};
 pub use std::net::{IpAddr, Ipv4Addr, Ipv6Addr};
-pub use subnets::{IpSubnets, Ipv4Subnets, Ipv6Subnets};
+pub use subnets::{IpSubnets, Ipv4Subnets, Ipv6Subnets, Subnets};
 pub use text::AddrParseError;
 
 mod aggregate;
@@ -20,10 +20,11 @@ mod cut_tests;
 #[cfg(test)]
 mod form_tests;
 mod ip_net;
+mod ipv4;
+mod ipv6;
 pub mod laws;
 mod networks;
 mod octets;
-mod parser;
 mod subnets;
 #[cfg(test)]
 mod tests;

@@ -1,237 +1,81 @@
 //! Networks of one family: an address, host bits kept, and a prefix length.
-ghost use Rattle.std.specs.Prelude.{◌≡◌, ℕ, ◌-◌, ◌^◌, ◌<◌, ◌≤◌, ◌↔◌, IsTrue, IsOk, IfOk, MatchOption, MatchResult};
-ghost use Rattle.std.specs.Net.Addr.{ipv4_bits, ipv6_bits};
-ghost use Rattle.ipnet_addr.specs.Addresses.{Ipv4, Ipv6, ipv4_address, ipv6_address};
+ghost use Rattle.std.specs.Prelude.{◌≡◌, ℕ, ◌-◌, ◌^◌, ◌<◌, ◌≤◌, ◌↔◌, ⊤, IsTrue, IsOk, IfOk, MatchOption, MatchResult};
+ghost use Rattle.ipnet_addr.specs.Addresses.{width};
 ghost use Rattle.ipnet_addr.specs.Masks.{IsMask};
 ghost use Rattle.ipnet_blocks.specs.Blocks.{AreSiblings, first, last, parent};
 ghost use Rattle.ipnet_blocks.specs.Networks.{IsNetwork, block_of, net_of};
 
 use crate::contains::Contains;
-use ipnet_addr::bits::{cleared, filled, ipv4_of, ipv6_of, ones};
-use ipnet_addr::mask::{PrefixLenError, ipv4_mask_to_prefix, ipv6_mask_to_prefix, mask_number};
+use ipnet_addr::bits::{cleared, filled, ones};
+use ipnet_addr::mask::{PrefixLenError, mask_number, mask_to_prefix};
+use ipnet_addr::number::Number;
+use std::alloc::AllocError;
 use std::marker::Model;
-use std::net::{Ipv4Addr, Ipv6Addr};
+
+/// A network of one family: an address, host bits kept, and a prefix length of at most the width of the family.
+///
+/// Contracts see it as the number of its address and its length. Its addresses are those that begin
+/// with the first `prefix_len` bits of its own. Ordered by address, then by length.
+#[derive(Copy, PartialEq, Eq, PartialOrd, Ord, Hash)]
+pub struct Net<N: Number> {
+    number: N,
+    len: u8,
+}
 
 /// An IPv4 network: an address, host bits kept, and a prefix length of at most 32.
-///
-/// Contracts see it as the number of its address and its length. Its addresses are those that begin
-/// with the first `prefix_len` bits of its own. Ordered by address, then by length.
-#[derive(Clone, Copy, PartialEq, Eq, PartialOrd, Ord, Hash)]
-pub struct Ipv4Net {
-    number: u32,
-    len: u8,
-}
-
-impl Model for Ipv4Net {
-    ghost use Rattle.ipnet_addr.specs.Addresses.{Ipv4};
-    ghost use Rattle.ipnet_blocks.specs.Networks.{Network, IsNetwork};
-
-    ghost Value = { Network };
-
-    ghost view = { λ n. record { number = n.number; len = n.len } };
-
-    ghost invariant = { λ n. IsNetwork Ipv4 (record { number = n.number; len = n.len }) };
-
-    ghost inverse = { λ v. record { number = v.number; len = v.len } };
-
-    ghost inverse_ok = { λ n h i. n };
-}
-
-impl Ipv4Net {
-    /// The network of this address and prefix length; host bits are kept.
-    ///
-    /// # Errors
-    /// `PrefixLenError` exactly where `prefix_len` is above 32.
-    pub fn new(addr: Ipv4Addr, prefix_len: u8) -> Result<Ipv4Net, PrefixLenError>
-        ensures variant { IsOk result ↔ (prefix_len ≤ 32) }
-        ensures parts { IfOk result (λ n. n ≡ record { number = ipv4_bits addr; len = prefix_len }) }
-    {
-        if prefix_len > 32 {
-            return Err(PrefixLenError);
-        }
-        Ok(Ipv4Net::new_assert(addr, prefix_len))
-    }
-
-    /// The network of this address and prefix length, at most 32; host bits are kept.
-    pub fn new_assert(addr: Ipv4Addr, prefix_len: u8) -> Ipv4Net
-        requires { prefix_len ≤ 32 }
-        ensures { result ≡ record { number = ipv4_bits addr; len = prefix_len } }
-    {
-        Ipv4Net {
-            number: u32::from(addr),
-            len: prefix_len,
-        }
-    }
-
-    /// The network of this address whose prefix length is the number of ones of the mask; host bits are kept.
-    ///
-    /// # Errors
-    /// `PrefixLenError` exactly where the mask isn't ones followed by zeros.
-    pub fn with_netmask(addr: Ipv4Addr, netmask: Ipv4Addr) -> Result<Ipv4Net, PrefixLenError>
-        ensures { MatchResult result (λ n. (n.number ≡ ipv4_bits addr) × IsMask (ipv4_address netmask) n.len) (λ _. (len : ℕ) → IsMask (ipv4_address netmask) len → ⊥) }
-    {
-        Ok(Ipv4Net::new_assert(addr, ipv4_mask_to_prefix(netmask)?))
-    }
-
-    /// Its address, host bits too.
-    pub fn addr(&self) -> Ipv4Addr
-        ensures value { ipv4_bits result ≡ self.now.number }
-        ensures within { self.now.number < 2 ^ 32 }
-    {
-        ipv4_of(self.number)
-    }
-
-    // The number of its address.
-    pub(crate) fn number(&self) -> u128
-        ensures value { result ≡ self.now.number }
-        ensures within { result < 2 ^ 32 }
-    {
-        self.number.into()
-    }
-
-    /// Its prefix length, 0 to 32.
-    pub fn prefix_len(&self) -> u8
-        ensures value { result ≡ self.now.len }
-        ensures within { result ≤ 32 }
-    {
-        self.len
-    }
-
-    /// The greatest prefix length of its family, 32.
-    pub fn max_prefix_len(&self) -> u8
-        ensures { result ≡ 32 }
-    {
-        32
-    }
-
-    /// The mask of its prefix length: so many ones, and then zeros.
-    pub fn netmask(&self) -> Ipv4Addr
-        ensures { IsMask (ipv4_address result) self.now.len }
-    {
-        ipv4_of(mask_number(32, self.len) as u32)
-    }
-
-    /// The complement of the mask: zeros, and then a one for each host bit.
-    pub fn hostmask(&self) -> Ipv4Addr
-        ensures { ipv4_bits result ≡ 2 ^ (32 - self.now.len) - 1 }
-    {
-        ipv4_of(ones(32 - self.len) as u32)
-    }
-
-    /// Its least address.
-    pub fn network(&self) -> Ipv4Addr
-        ensures { ipv4_bits result ≡ first (block_of Ipv4 self.now) }
-    {
-        ipv4_of(cleared(self.number.into(), 32 - self.len) as u32)
-    }
-
-    /// Its greatest address.
-    pub fn broadcast(&self) -> Ipv4Addr
-        ensures { ipv4_bits result ≡ last (block_of Ipv4 self.now) }
-    {
-        ipv4_of(filled(self.number.into(), 32 - self.len) as u32)
-    }
-
-    /// The network with the same addresses and no host bits.
-    pub fn trunc(&self) -> Ipv4Net
-        ensures value { result ≡ net_of (block_of Ipv4 self.now) }
-        ensures network { IsNetwork Ipv4 self.now }
-    {
-        Ipv4Net {
-            number: cleared(self.number.into(), 32 - self.len) as u32,
-            len: self.len,
-        }
-    }
-
-    /// The network one bit shorter that holds it, without host bits; None exactly at length 0.
-    pub fn supernet(&self) -> Option<Ipv4Net>
-        ensures { MatchOption result (self.now.len ≡ 0) (λ n. (0 < self.now.len) × (n ≡ net_of (parent (block_of Ipv4 self.now)))) }
-    {
-        if self.len == 0 {
-            return None;
-        }
-        Some(Ipv4Net {
-            number: cleared(self.number.into(), 32 - (self.len - 1)) as u32,
-            len: self.len - 1,
-        })
-    }
-
-    /// Whether both have one length, above 0, and the supernet of one holds the other.
-    pub fn is_sibling(&self, other: &Ipv4Net) -> bool
-        ensures { IsTrue result ↔ AreSiblings (block_of Ipv4 self.now) (block_of Ipv4 other.now) }
-    {
-        match self.supernet() {
-            Some(parent) => self.prefix_len() == other.prefix_len() && parent.contains(other),
-            None => false,
-        }
-    }
-}
-
-/// The whole family, `0.0.0.0/0`.
-impl Default for Ipv4Net {
-    ghost is_default = { λ n. n ≡ record { number = 0; len = 0 } };
-
-    fn default() -> Ipv4Net {
-        Ipv4Net { number: 0, len: 0 }
-    }
-}
-
-/// The network of this address alone.
-impl From<Ipv4Addr> for Ipv4Net {
-    ghost from_gives = { λ a n. n ≡ record { number = ipv4_bits a; len = 32 } };
-
-    fn from(addr: Ipv4Addr) -> Ipv4Net {
-        Ipv4Net::new_assert(addr, 32)
-    }
-}
+pub type Ipv4Net = Net<u32>;
 
 /// An IPv6 network: an address, host bits kept, and a prefix length of at most 128.
-///
-/// Contracts see it as the number of its address and its length. Its addresses are those that begin
-/// with the first `prefix_len` bits of its own. Ordered by address, then by length.
-#[derive(Clone, Copy, PartialEq, Eq, PartialOrd, Ord, Hash)]
-pub struct Ipv6Net {
-    number: u128,
-    len: u8,
-}
+pub type Ipv6Net = Net<u128>;
 
-impl Model for Ipv6Net {
-    ghost use Rattle.ipnet_addr.specs.Addresses.{Ipv6};
+impl<N: Number> Model for Net<N> {
     ghost use Rattle.ipnet_blocks.specs.Networks.{Network, IsNetwork};
 
     ghost Value = { Network };
 
-    ghost view = { λ n. record { number = n.number; len = n.len } };
+    ghost view = { λ n. record { number = N.number n.number; len = n.len } };
 
-    ghost invariant = { λ n. IsNetwork Ipv6 (record { number = n.number; len = n.len }) };
+    ghost invariant = { λ n. IsNetwork N.family (record { number = N.number n.number; len = n.len }) };
 
-    ghost inverse = { λ v. record { number = v.number; len = v.len } };
+    ghost inverse = { λ v. record { number = N.of_number v.number; len = v.len } };
 
-    ghost inverse_ok = { λ n h i. n };
+    ghost inverse_ok = { λ n h i. record { number = N.named n.number i; len = n.len } };
 }
 
-impl Ipv6Net {
+impl<N: Number> Clone for Net<N> {
+    ghost is_clone = { λ n m. m ≡ n };
+
+    ghost is_infallible = { λ _. ⊤ };
+
+    fn clone(&self) -> Result<Net<N>, AllocError> {
+        Ok(*self)
+    }
+}
+
+impl<N: Number> Net<N> {
     /// The network of this address and prefix length; host bits are kept.
     ///
     /// # Errors
-    /// `PrefixLenError` exactly where `prefix_len` is above 128.
-    pub fn new(addr: Ipv6Addr, prefix_len: u8) -> Result<Ipv6Net, PrefixLenError>
-        ensures variant { IsOk result ↔ (prefix_len ≤ 128) }
-        ensures parts { IfOk result (λ n. n ≡ record { number = ipv6_bits addr; len = prefix_len }) }
+    /// `PrefixLenError` exactly where `prefix_len` is above the width of the family, 32 or 128.
+    pub fn new(addr: N::Addr, prefix_len: u8) -> Result<Net<N>, PrefixLenError>
+        ensures variant { IsOk result ↔ (prefix_len ≤ width N.family) }
+        ensures parts { IfOk result (λ n. n ≡ record { number = N.addr_number addr; len = prefix_len }) }
     {
-        if prefix_len > 128 {
+        if prefix_len > N::width() {
             return Err(PrefixLenError);
         }
-        Ok(Ipv6Net::new_assert(addr, prefix_len))
+        Ok(Net::new_assert(addr, prefix_len))
     }
 
-    /// The network of this address and prefix length, at most 128; host bits are kept.
-    pub fn new_assert(addr: Ipv6Addr, prefix_len: u8) -> Ipv6Net
-        requires { prefix_len ≤ 128 }
-        ensures { result ≡ record { number = ipv6_bits addr; len = prefix_len } }
+    /// The network of this address and prefix length, at most the width of the family; host bits are kept.
+    pub fn new_assert(addr: N::Addr, prefix_len: u8) -> Net<N>
+        requires { prefix_len ≤ width N.family }
+        ensures { result ≡ record { number = N.addr_number addr; len = prefix_len } }
     {
-        Ipv6Net {
-            number: u128::from(addr),
+        let number = N::of_addr(addr);
+        let _in_range = number.to_bits();
+        Net {
+            number,
             len: prefix_len,
         }
     }
@@ -240,98 +84,101 @@ impl Ipv6Net {
     ///
     /// # Errors
     /// `PrefixLenError` exactly where the mask isn't ones followed by zeros.
-    pub fn with_netmask(addr: Ipv6Addr, netmask: Ipv6Addr) -> Result<Ipv6Net, PrefixLenError>
-        ensures { MatchResult result (λ n. (n.number ≡ ipv6_bits addr) × IsMask (ipv6_address netmask) n.len) (λ _. (len : ℕ) → IsMask (ipv6_address netmask) len → ⊥) }
+    pub fn with_netmask(addr: N::Addr, netmask: N::Addr) -> Result<Net<N>, PrefixLenError>
+        ensures { MatchResult result
+            (λ n. (n.number ≡ N.addr_number addr) × IsMask (record { family = N.family; number = N.addr_number netmask }) n.len)
+            (λ _. (len : ℕ) → IsMask (record { family = N.family; number = N.addr_number netmask }) len → ⊥) }
     {
-        Ok(Ipv6Net::new_assert(addr, ipv6_mask_to_prefix(netmask)?))
+        Ok(Net::new_assert(addr, mask_to_prefix::<N>(netmask)?))
     }
 
     /// Its address, host bits too.
-    pub fn addr(&self) -> Ipv6Addr
-        ensures value { ipv6_bits result ≡ self.now.number }
-        ensures within { self.now.number < 2 ^ 128 }
+    pub fn addr(&self) -> N::Addr
+        ensures value { N.addr_number result ≡ self.now.number }
+        ensures within { self.now.number < 2 ^ width N.family }
     {
-        ipv6_of(self.number)
+        self.number.to_addr()
     }
 
     // The number of its address.
     pub(crate) fn number(&self) -> u128
         ensures value { result ≡ self.now.number }
-        ensures within { result < 2 ^ 128 }
+        ensures within { result < 2 ^ width N.family }
     {
-        self.number
+        self.number.to_bits()
     }
 
-    /// Its prefix length, 0 to 128.
+    /// Its prefix length, 0 to the width of the family.
     pub fn prefix_len(&self) -> u8
         ensures value { result ≡ self.now.len }
-        ensures within { result ≤ 128 }
+        ensures within { result ≤ width N.family }
     {
         self.len
     }
 
-    /// The greatest prefix length of its family, 128.
+    /// The greatest prefix length of its family, 32 or 128.
     pub fn max_prefix_len(&self) -> u8
-        ensures { result ≡ 128 }
+        ensures { result ≡ width N.family }
     {
-        128
+        N::width()
     }
 
     /// The mask of its prefix length: so many ones, and then zeros.
-    pub fn netmask(&self) -> Ipv6Addr
-        ensures { IsMask (ipv6_address result) self.now.len }
+    pub fn netmask(&self) -> N::Addr
+        ensures { IsMask (record { family = N.family; number = N.addr_number result }) self.now.len }
     {
-        ipv6_of(mask_number(128, self.len))
+        N::from_bits(mask_number(N::width(), self.len)).to_addr()
     }
 
     /// The complement of the mask: zeros, and then a one for each host bit.
-    pub fn hostmask(&self) -> Ipv6Addr
-        ensures { ipv6_bits result ≡ 2 ^ (128 - self.now.len) - 1 }
+    pub fn hostmask(&self) -> N::Addr
+        ensures { N.addr_number result ≡ 2 ^ (width N.family - self.now.len) - 1 }
     {
-        ipv6_of(ones(128 - self.len))
+        N::from_bits(ones(N::width() - self.len)).to_addr()
     }
 
     /// Its least address.
-    pub fn network(&self) -> Ipv6Addr
-        ensures { ipv6_bits result ≡ first (block_of Ipv6 self.now) }
+    pub fn network(&self) -> N::Addr
+        ensures { N.addr_number result ≡ first (block_of N.family self.now) }
     {
-        ipv6_of(cleared(self.number, 128 - self.len))
+        self.trunc().number.to_addr()
     }
 
     /// Its greatest address.
-    pub fn broadcast(&self) -> Ipv6Addr
-        ensures { ipv6_bits result ≡ last (block_of Ipv6 self.now) }
+    pub fn broadcast(&self) -> N::Addr
+        ensures { N.addr_number result ≡ last (block_of N.family self.now) }
     {
-        ipv6_of(filled(self.number, 128 - self.len))
+        N::from_bits(filled(self.number.to_bits(), N::width() - self.len)).to_addr()
     }
 
     /// The network with the same addresses and no host bits.
-    pub fn trunc(&self) -> Ipv6Net
-        ensures value { result ≡ net_of (block_of Ipv6 self.now) }
-        ensures network { IsNetwork Ipv6 self.now }
+    pub fn trunc(&self) -> Net<N>
+        ensures value { result ≡ net_of (block_of N.family self.now) }
+        ensures network { IsNetwork N.family self.now }
     {
-        Ipv6Net {
-            number: cleared(self.number, 128 - self.len),
+        Net {
+            number: N::from_bits(cleared(self.number.to_bits(), N::width() - self.len)),
             len: self.len,
         }
     }
 
     /// The network one bit shorter that holds it, without host bits; None exactly at length 0.
-    pub fn supernet(&self) -> Option<Ipv6Net>
-        ensures { MatchOption result (self.now.len ≡ 0) (λ n. (0 < self.now.len) × (n ≡ net_of (parent (block_of Ipv6 self.now)))) }
+    pub fn supernet(&self) -> Option<Net<N>>
+        ensures { MatchOption result (self.now.len ≡ 0) (λ n. (0 < self.now.len) × (n ≡ net_of (parent (block_of N.family self.now)))) }
     {
         if self.len == 0 {
             return None;
         }
-        Some(Ipv6Net {
-            number: cleared(self.number, 128 - (self.len - 1)),
-            len: self.len - 1,
+        let len = self.len - 1;
+        Some(Net {
+            number: N::from_bits(cleared(self.number.to_bits(), N::width() - len)),
+            len,
         })
     }
 
     /// Whether both have one length, above 0, and the supernet of one holds the other.
-    pub fn is_sibling(&self, other: &Ipv6Net) -> bool
-        ensures { IsTrue result ↔ AreSiblings (block_of Ipv6 self.now) (block_of Ipv6 other.now) }
+    pub fn is_sibling(&self, other: &Net<N>) -> bool
+        ensures { IsTrue result ↔ AreSiblings (block_of N.family self.now) (block_of N.family other.now) }
     {
         match self.supernet() {
             Some(parent) => self.prefix_len() == other.prefix_len() && parent.contains(other),
@@ -340,20 +187,14 @@ impl Ipv6Net {
     }
 }
 
-/// The whole family, `::/0`.
-impl Default for Ipv6Net {
+/// The whole family, `0.0.0.0/0` or `::/0`.
+impl<N: Number> Default for Net<N> {
     ghost is_default = { λ n. n ≡ record { number = 0; len = 0 } };
 
-    fn default() -> Ipv6Net {
-        Ipv6Net { number: 0, len: 0 }
-    }
-}
-
-/// The network of this address alone.
-impl From<Ipv6Addr> for Ipv6Net {
-    ghost from_gives = { λ a n. n ≡ record { number = ipv6_bits a; len = 128 } };
-
-    fn from(addr: Ipv6Addr) -> Ipv6Net {
-        Ipv6Net::new_assert(addr, 128)
+    fn default() -> Net<N> {
+        Net {
+            number: N::from_bits(0),
+            len: 0,
+        }
     }
 }

@@ -1,8 +1,7 @@
 //! Subnet iterators: the largest blocks between two addresses, one after another.
-ghost use Rattle.std.specs.Prelude.{◌≡◌, ◌≤◌, ◌↔◌, IsOk, IfOk};
+ghost use Rattle.std.specs.Prelude.{◌≡◌, ◌≤◌, ◌↔◌, ⊤, IsOk, IfOk};
 ghost use Rattle.std.specs.Iterator.{YieldsFirst, item_count};
-ghost use Rattle.std.specs.Net.Addr.{ipv4_bits, ipv6_bits};
-ghost use Rattle.ipnet_addr.specs.Addresses.{Ipv4, Ipv6, width};
+ghost use Rattle.ipnet_addr.specs.Addresses.{width};
 ghost use Rattle.ipnet_addr.specs.IpRanges.{ends_of, family_of};
 ghost use Rattle.ipnet_blocks.specs.Blocks.{first, last};
 ghost use Rattle.ipnet_blocks.specs.Cuts.{AreLimits, AreSubnets, cut, subnets, after_first};
@@ -13,75 +12,69 @@ ghost use Rattle.ipnet_blocks.specs.Networks.{block_of};
 ghost use Rattle.ipnet_blocks.specs.Maximal.{IsCut};
 
 use crate::ip_net::IpNet;
-use crate::networks::{Ipv4Net, Ipv6Net};
-use ipnet_addr::bits::{ipv4_of, ipv6_of};
+use crate::networks::Net;
 use ipnet_addr::mask::PrefixLenError;
-use ipnet_addr::ranges::{IpAddrRange, Ipv4AddrRange, Ipv6AddrRange};
+use ipnet_addr::number::Number;
+use ipnet_addr::ranges::IpAddrRange;
 use ipnet_blocks::cut::first_cut;
+use std::alloc::AllocError;
 use std::marker::Model;
-use std::net::{Ipv4Addr, Ipv6Addr};
 
-/// The blocks of length at least a minimum between two IPv4 addresses that lie in no larger such block, ascending.
+/// The blocks of length at least a minimum between two addresses of one family that lie in no larger such block, ascending.
 ///
 /// Contracts see it as the numbers of the two addresses and the minimum. Ordered by start, end and minimum.
-#[derive(Clone, Copy, Debug, PartialEq, Eq, PartialOrd, Ord, Hash)]
-pub struct Ipv4Subnets {
-    start: u32,
-    end: u32,
+#[derive(Copy, Debug, PartialEq, Eq, PartialOrd, Ord, Hash)]
+pub struct Subnets<N: Number> {
+    start: N,
+    end: N,
     min_prefix_len: u8,
 }
 
-impl Model for Ipv4Subnets {
-    ghost use Rattle.ipnet_addr.specs.Addresses.{Ipv4};
+/// The blocks between two IPv4 addresses.
+pub type Ipv4Subnets = Subnets<u32>;
+
+/// The blocks between two IPv6 addresses.
+pub type Ipv6Subnets = Subnets<u128>;
+
+impl<N: Number> Model for Subnets<N> {
     ghost use Rattle.ipnet_blocks.specs.Cuts.{Limits, AreLimits};
 
     ghost Value = { Limits };
 
-    ghost view = { λ s. record { start = s.start; end = s.end; shortest = s.min_prefix_len } };
+    ghost view = { λ s. record { start = N.number s.start; end = N.number s.end; shortest = s.min_prefix_len } };
 
-    ghost invariant = { λ s. AreLimits Ipv4 (record { start = s.start; end = s.end; shortest = s.min_prefix_len }) };
+    ghost invariant = { λ s. AreLimits N.family (record { start = N.number s.start; end = N.number s.end; shortest = s.min_prefix_len }) };
 
-    ghost inverse = { λ l. record { start = l.start; end = l.end; min_prefix_len = l.shortest } };
+    ghost inverse = { λ l. record { start = N.of_number l.start; end = N.of_number l.end; min_prefix_len = l.shortest } };
 
-    ghost inverse_ok = { λ l h i. l };
+    ghost inverse_ok = { λ s h i. record { start = N.named s.start i; end = N.named s.end i; min_prefix_len = s.min_prefix_len } };
 }
 
-/// The blocks of length at least a minimum between two IPv6 addresses that lie in no larger such block, ascending.
-///
-/// Contracts see it as the numbers of the two addresses and the minimum. Ordered by start, end and minimum.
-#[derive(Clone, Copy, Debug, PartialEq, Eq, PartialOrd, Ord, Hash)]
-pub struct Ipv6Subnets {
-    start: u128,
-    end: u128,
-    min_prefix_len: u8,
+impl<N: Number> Clone for Subnets<N> {
+    ghost is_clone = { λ s t. t ≡ s };
+
+    ghost is_infallible = { λ _. ⊤ };
+
+    fn clone(&self) -> Result<Subnets<N>, AllocError> {
+        Ok(*self)
+    }
 }
 
-impl Model for Ipv6Subnets {
-    ghost use Rattle.ipnet_addr.specs.Addresses.{Ipv6};
-    ghost use Rattle.ipnet_blocks.specs.Cuts.{Limits, AreLimits};
-
-    ghost Value = { Limits };
-
-    ghost view = { λ s. record { start = s.start; end = s.end; shortest = s.min_prefix_len } };
-
-    ghost invariant = { λ s. AreLimits Ipv6 (record { start = s.start; end = s.end; shortest = s.min_prefix_len }) };
-
-    ghost inverse = { λ l. record { start = l.start; end = l.end; min_prefix_len = l.shortest } };
-
-    ghost inverse_ok = { λ l h i. l };
-}
-
-impl Ipv4Subnets {
-    /// The blocks of length at least `min_prefix_len`, at most 32, from `start` to `end`; none where `start` is above `end`.
-    pub fn new(start: Ipv4Addr, end: Ipv4Addr, min_prefix_len: u8) -> Ipv4Subnets
-        requires { min_prefix_len ≤ 32 }
-        ensures limits { result ≡ record { start = ipv4_bits start; end = ipv4_bits end; shortest = min_prefix_len } }
-        ensures fits { AreLimits Ipv4 result }
-        ensures blocks { IsCut Ipv4 (ipv4_bits start) (ipv4_bits end) min_prefix_len (cut Ipv4 result) }
+impl<N: Number> Subnets<N> {
+    /// The blocks of length at least `min_prefix_len`, at most the width of the family, from `start` to `end`; none where `start`
+    /// is above `end`.
+    pub fn new(start: N::Addr, end: N::Addr, min_prefix_len: u8) -> Subnets<N>
+        requires { min_prefix_len ≤ width N.family }
+        ensures limits { result ≡ record { start = N.addr_number start; end = N.addr_number end; shortest = min_prefix_len } }
+        ensures fits { AreLimits N.family result }
+        ensures blocks { IsCut N.family (N.addr_number start) (N.addr_number end) min_prefix_len (cut N.family result) }
     {
-        Ipv4Subnets {
-            start: start.to_bits(),
-            end: end.to_bits(),
+        let start = N::of_addr(start);
+        let end = N::of_addr(end);
+        let _in_range = (start.to_bits(), end.to_bits());
+        Subnets {
+            start,
+            end,
             min_prefix_len,
         }
     }
@@ -89,59 +82,24 @@ impl Ipv4Subnets {
 
 /// After each block the stored start is the address after it. After the block of the greatest address it is that address,
 /// and the end is 0; after a block of the last address alone the end is 0 too.
-impl Iterator for Ipv4Subnets {
-    type Item = Ipv4Net;
+impl<N: Number> Iterator for Subnets<N> {
+    type Item = Net<N>;
 
-    ghost next_gives = { λ s n t. YieldsFirst (subnets Ipv4) s n t × (t ≡ after_first 32 s) };
+    ghost next_gives = { λ s n t. YieldsFirst (subnets N.family) s n t × (t ≡ after_first (width N.family) s) };
 
-    ghost remaining = { item_count (subnets Ipv4) };
+    ghost remaining = { item_count (subnets N.family) };
 
-    fn next(&mut self) -> Option<Ipv4Net> {
-        if self.start > self.end {
+    fn next(&mut self) -> Option<Net<N>> {
+        let start = self.start.to_bits();
+        let end = self.end.to_bits();
+        if start > end {
             return None;
         }
-        let addr = ipv4_of(self.start);
-        let cut = first_cut(32, self.start.into(), self.end.into(), self.min_prefix_len);
-        self.start = cut.start as u32;
-        self.end = cut.end as u32;
-        Some(Ipv4Net::new_assert(addr, cut.len))
-    }
-}
-
-impl Ipv6Subnets {
-    /// The blocks of length at least `min_prefix_len`, at most 128, from `start` to `end`; none where `start` is above `end`.
-    pub fn new(start: Ipv6Addr, end: Ipv6Addr, min_prefix_len: u8) -> Ipv6Subnets
-        requires { min_prefix_len ≤ 128 }
-        ensures limits { result ≡ record { start = ipv6_bits start; end = ipv6_bits end; shortest = min_prefix_len } }
-        ensures fits { AreLimits Ipv6 result }
-        ensures blocks { IsCut Ipv6 (ipv6_bits start) (ipv6_bits end) min_prefix_len (cut Ipv6 result) }
-    {
-        Ipv6Subnets {
-            start: start.to_bits(),
-            end: end.to_bits(),
-            min_prefix_len,
-        }
-    }
-}
-
-/// After each block the stored start is the address after it. After the block of the greatest address it is that address,
-/// and the end is 0; after a block of the last address alone the end is 0 too.
-impl Iterator for Ipv6Subnets {
-    type Item = Ipv6Net;
-
-    ghost next_gives = { λ s n t. YieldsFirst (subnets Ipv6) s n t × (t ≡ after_first 128 s) };
-
-    ghost remaining = { item_count (subnets Ipv6) };
-
-    fn next(&mut self) -> Option<Ipv6Net> {
-        if self.start > self.end {
-            return None;
-        }
-        let addr = ipv6_of(self.start);
-        let cut = first_cut(128, self.start, self.end, self.min_prefix_len);
-        self.start = cut.start;
-        self.end = cut.end;
-        Some(Ipv6Net::new_assert(addr, cut.len))
+        let addr = self.start.to_addr();
+        let cut = first_cut(N::width(), start, end, self.min_prefix_len);
+        self.start = N::from_bits(cut.start);
+        self.end = N::from_bits(cut.end);
+        Some(Net::new_assert(addr, cut.len))
     }
 }
 
@@ -187,59 +145,21 @@ impl Iterator for IpSubnets {
     }
 }
 
-impl Ipv4Net {
-    /// The addresses of its hosts: below length 31 all but `network` and `broadcast`, else all.
-    pub fn hosts(&self) -> Ipv4AddrRange
-        ensures { result ≡ host_ends (block_of Ipv4 self.now) }
-    {
-        let first = self.network().to_bits();
-        let last = self.broadcast().to_bits();
-        if self.prefix_len() < 31 {
-            Ipv4AddrRange::new(ipv4_of(first + 1), ipv4_of(last - 1))
-        } else {
-            Ipv4AddrRange::new(self.network(), self.broadcast())
-        }
-    }
-
+impl<N: Number> Net<N> {
     /// The networks of this prefix length inside it, ascending.
     ///
     /// # Errors
-    /// `PrefixLenError` exactly where the length is below its own or above 32.
-    pub fn subnets(&self, new_prefix_len: u8) -> Result<Ipv4Subnets, PrefixLenError>
-        ensures variant { IsOk result ↔ ((self.now.len ≤ new_prefix_len) × (new_prefix_len ≤ 32)) }
-        ensures limits { IfOk result (λ s. s ≡ record { start = first (block_of Ipv4 self.now); end = last (block_of Ipv4 self.now); shortest = new_prefix_len }) }
-        ensures fits { IfOk result (AreLimits Ipv4) }
-        ensures blocks { IfOk result (λ s. AreSubnets (block_of Ipv4 self.now) new_prefix_len (cut Ipv4 s)) }
+    /// `PrefixLenError` exactly where the length is below its own or above the width of the family.
+    pub fn subnets(&self, new_prefix_len: u8) -> Result<Subnets<N>, PrefixLenError>
+        ensures variant { IsOk result ↔ ((self.now.len ≤ new_prefix_len) × (new_prefix_len ≤ width N.family)) }
+        ensures limits { IfOk result (λ s. s ≡ record { start = first (block_of N.family self.now); end = last (block_of N.family self.now); shortest = new_prefix_len }) }
+        ensures fits { IfOk result (AreLimits N.family) }
+        ensures blocks { IfOk result (λ s. AreSubnets (block_of N.family self.now) new_prefix_len (cut N.family s)) }
     {
-        if new_prefix_len < self.prefix_len() || new_prefix_len > 32 {
+        if new_prefix_len < self.prefix_len() || new_prefix_len > N::width() {
             return Err(PrefixLenError);
         }
-        Ok(Ipv4Subnets::new(self.network(), self.broadcast(), new_prefix_len))
-    }
-}
-
-impl Ipv6Net {
-    /// The addresses of its hosts: all of its addresses.
-    pub fn hosts(&self) -> Ipv6AddrRange
-        ensures { result ≡ host_ends (block_of Ipv6 self.now) }
-    {
-        Ipv6AddrRange::new(self.network(), self.broadcast())
-    }
-
-    /// The networks of this prefix length inside it, ascending.
-    ///
-    /// # Errors
-    /// `PrefixLenError` exactly where the length is below its own or above 128.
-    pub fn subnets(&self, new_prefix_len: u8) -> Result<Ipv6Subnets, PrefixLenError>
-        ensures variant { IsOk result ↔ ((self.now.len ≤ new_prefix_len) × (new_prefix_len ≤ 128)) }
-        ensures limits { IfOk result (λ s. s ≡ record { start = first (block_of Ipv6 self.now); end = last (block_of Ipv6 self.now); shortest = new_prefix_len }) }
-        ensures fits { IfOk result (AreLimits Ipv6) }
-        ensures blocks { IfOk result (λ s. AreSubnets (block_of Ipv6 self.now) new_prefix_len (cut Ipv6 s)) }
-    {
-        if new_prefix_len < self.prefix_len() || new_prefix_len > 128 {
-            return Err(PrefixLenError);
-        }
-        Ok(Ipv6Subnets::new(self.network(), self.broadcast(), new_prefix_len))
+        Ok(Subnets::new(self.network(), self.broadcast(), new_prefix_len))
     }
 }
 

@@ -1,14 +1,13 @@
 //! Networks as text: read by the grammar, printed in one way.
-ghost use Rattle.std.specs.Prelude.{◌≡◌, ◌≤◌, Some, length};
+ghost use Rattle.std.specs.Prelude.{◌≡◌, ℕ, ◌≤◌, List, Some, length};
 ghost use Rattle.std.specs.Net.Grammar.{Parses};
-ghost use Rattle.ipnet.specs.NetworkText.{ReadsIpv4, ReadsIpv6, ipv4_net_text, ipv6_net_text};
+ghost use Rattle.ipnet_blocks.specs.Networks.{Network};
 ghost use Rattle.ipnet.specs.IpNetText.{Reads, net_text};
 
 use crate::ip_net::IpNet;
-use crate::networks::{Ipv4Net, Ipv6Net};
-use crate::parser::{read_ipv4_network, read_ipv6_network};
+use crate::networks::{Ipv4Net, Ipv6Net, Net};
 use arrayvec::ArrayVec;
-use ipnet_addr::printer::{push_decimal, push_ipv4, push_ipv6};
+use ipnet_addr::number::Number;
 use std::str::FromStr;
 use std::{fmt, str};
 use thiserror::Error;
@@ -18,49 +17,65 @@ use thiserror::Error;
 #[error("invalid IP address syntax")]
 pub struct AddrParseError(pub(crate) ());
 
-impl Ipv4Net {
-    /// The text that `Display` writes, at most 18 bytes. Takes no memory.
+/// How the networks of a family are written.
+pub trait Written: Number {
+    /// The one printed text of a network.
+    ghost text: { Network → List ℕ };
+
+    /// The text spells this network, host bits too.
+    ghost reads: { List ℕ → Network → Type 0 };
+
+    /// How many bytes a printed text has at most.
+    ghost longest: { ℕ };
+
+    /// The printed text.
+    fn to_text(net: &Net<Self>) -> ArrayVec<u8, 43>
+        ensures text { result.items ≡ text net.now }
+        ensures reads { reads result.items net.now }
+        ensures len { length result.items ≤ longest };
+
+    /// The network that these bytes spell.
+    fn parse_ascii(bytes: &[u8]) -> Result<Net<Self>, AddrParseError>
+        ensures { Parses reads bytes.now result };
+}
+
+impl<N: Written> Net<N> {
+    /// The text that `Display` writes, at most 18 bytes of an IPv4 network, 43 of an IPv6 one. Takes no memory.
     pub fn to_text(&self) -> ArrayVec<u8, 43>
-        ensures text { result.items ≡ ipv4_net_text self.now }
-        ensures reads { ReadsIpv4 result.items self.now }
-        ensures len { length result.items ≤ 18 }
+        ensures text { result.items ≡ N.text self.now }
+        ensures reads { N.reads result.items self.now }
+        ensures len { length result.items ≤ N.longest }
     {
-        let mut out = ArrayVec::new();
-        push_ipv4(&mut out, self.addr());
-        out.push(b'/');
-        push_decimal(&mut out, self.prefix_len());
-        out
+        <N as Written>::to_text(self)
     }
 
     /// The network that these bytes spell, as `from_str` reads it. Takes no memory.
     ///
     /// # Errors
     /// `AddrParseError` exactly where they spell none.
-    pub fn parse_ascii(text: &[u8]) -> Result<Ipv4Net, AddrParseError>
-        ensures { Parses ReadsIpv4 text.now result }
+    pub fn parse_ascii(text: &[u8]) -> Result<Net<N>, AddrParseError>
+        ensures { Parses N.reads text.now result }
     {
-        match read_ipv4_network(text) {
-            Some((addr, len)) => Ok(Ipv4Net::new_assert(addr, len)),
-            None => Err(AddrParseError(())),
-        }
+        <N as Written>::parse_ascii(text)
     }
 }
 
-impl FromStr for Ipv4Net {
+impl<N: Written> FromStr for Net<N> {
     type Err = AddrParseError;
 
-    ghost from_str_gives = { Parses ReadsIpv4 };
+    ghost from_str_gives = { Parses N.reads };
 
-    fn from_str(text: &str) -> Result<Ipv4Net, AddrParseError> {
-        Ipv4Net::parse_ascii(text.as_bytes())
+    fn from_str(text: &str) -> Result<Net<N>, AddrParseError> {
+        Net::parse_ascii(text.as_bytes())
     }
 }
 
-/// Four decimal octets, a slash and the length; width, fill and sign of the formatter are ignored.
-impl fmt::Display for Ipv4Net {
-    ghost output = { λ n. Some (ipv4_net_text n) };
+/// The address, a slash and the length; an IPv4 address as four decimal octets, an IPv6 one as RFC 5952 writes it. Width, fill
+/// and sign of the formatter are ignored.
+impl<N: Written> fmt::Display for Net<N> {
+    ghost output = { λ n. Some (N.text n) };
 
-    ghost styled_output = { λ n _. Some (ipv4_net_text n) };
+    ghost styled_output = { λ n _. Some (N.text n) };
 
     fn fmt<W: fmt::Write>(&self, f: &mut fmt::Formatter<W>) -> fmt::Result {
         let text = self.to_text();
@@ -69,67 +84,8 @@ impl fmt::Display for Ipv4Net {
 }
 
 /// The text of `Display`.
-impl fmt::Debug for Ipv4Net {
-    ghost debug_output = { λ n. Some (ipv4_net_text n) };
-
-    fn fmt<W: fmt::Write>(&self, f: &mut fmt::Formatter<W>) -> fmt::Result {
-        fmt::Display::fmt(self, f)
-    }
-}
-
-impl Ipv6Net {
-    /// The text that `Display` writes, at most 43 bytes. Takes no memory.
-    pub fn to_text(&self) -> ArrayVec<u8, 43>
-        ensures text { result.items ≡ ipv6_net_text self.now }
-        ensures reads { ReadsIpv6 result.items self.now }
-        ensures len { length result.items ≤ 43 }
-    {
-        let mut out = ArrayVec::new();
-        push_ipv6(&mut out, self.addr());
-        out.push(b'/');
-        push_decimal(&mut out, self.prefix_len());
-        out
-    }
-
-    /// The network that these bytes spell, as `from_str` reads it. Takes no memory.
-    ///
-    /// # Errors
-    /// `AddrParseError` exactly where they spell none.
-    pub fn parse_ascii(text: &[u8]) -> Result<Ipv6Net, AddrParseError>
-        ensures { Parses ReadsIpv6 text.now result }
-    {
-        match read_ipv6_network(text) {
-            Some((addr, len)) => Ok(Ipv6Net::new_assert(addr, len)),
-            None => Err(AddrParseError(())),
-        }
-    }
-}
-
-impl FromStr for Ipv6Net {
-    type Err = AddrParseError;
-
-    ghost from_str_gives = { Parses ReadsIpv6 };
-
-    fn from_str(text: &str) -> Result<Ipv6Net, AddrParseError> {
-        Ipv6Net::parse_ascii(text.as_bytes())
-    }
-}
-
-/// An address as RFC 5952 writes it, a slash and the length; width, fill and sign of the formatter are ignored.
-impl fmt::Display for Ipv6Net {
-    ghost output = { λ n. Some (ipv6_net_text n) };
-
-    ghost styled_output = { λ n _. Some (ipv6_net_text n) };
-
-    fn fmt<W: fmt::Write>(&self, f: &mut fmt::Formatter<W>) -> fmt::Result {
-        let text = self.to_text();
-        f.write_str(str::from_utf8(text.as_slice()).map_err(|_| fmt::Error)?)
-    }
-}
-
-/// The text of `Display`.
-impl fmt::Debug for Ipv6Net {
-    ghost debug_output = { λ n. Some (ipv6_net_text n) };
+impl<N: Written> fmt::Debug for Net<N> {
+    ghost debug_output = { λ n. Some (N.text n) };
 
     fn fmt<W: fmt::Write>(&self, f: &mut fmt::Formatter<W>) -> fmt::Result {
         fmt::Display::fmt(self, f)

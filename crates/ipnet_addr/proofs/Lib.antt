@@ -11,5 +11,6 @@ pub mod Progress
 pub mod Ipv6Text
 pub mod EachOnce
 pub mod Powers
+pub mod Shifts
 pub mod AfterNone
 pub mod AddressTexts

@@ -6,8 +6,7 @@ ghost use Rattle.ipnet_addr.specs.Addresses.{address_of};
 ghost use Rattle.ipnet_addr.specs.IpRanges.{addresses, ends_of, family_of, with_ends};
 ghost use Rattle.ipnet_addr.specs.Ranges.{numbers, after_front, after_back, times, IsMinimum, IsMaximum};
 
-use crate::ipv4_range::Ipv4AddrRange;
-use crate::ipv6_range::Ipv6AddrRange;
+use crate::addr_range::{Ipv4AddrRange, Ipv6AddrRange};
 use std::net::IpAddr;
 
 /// A range of either family. Ordered by family, IPv4 first, then by its ends.

@@ -13,9 +13,8 @@ ghost use Rattle.ipnet_addr.specs.Masks.{IsMask};
 ghost use Rattle.ipnet_addr.specs.Ranges.{Ends, IsEndsBefore};
 ghost use Rattle.ipnet_addr.specs.declared.ip_range.IpAddrRange.{IpAddrRange as AnyRange};
 
+use crate::addr_range::{Ipv4AddrRange, Ipv6AddrRange};
 use crate::ip_range::IpAddrRange;
-use crate::ipv4_range::Ipv4AddrRange;
-use crate::ipv6_range::Ipv6AddrRange;
 use std::hash::Hash;
 
 /// The number of an address is the one that its octets, or its units of 16 bits, write, the most significant first.

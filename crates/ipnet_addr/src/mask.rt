@@ -4,6 +4,7 @@ ghost use Rattle.ipnet_addr.specs.Addresses.{ipv4_address, ipv6_address, address
 ghost use Rattle.ipnet_addr.specs.Masks.{mask_bits, IsMask};
 
 use crate::bits::{bit_len, ones};
+use crate::number::Number;
 use std::net::{IpAddr, Ipv4Addr, Ipv6Addr};
 use thiserror::Error;
 
@@ -37,6 +38,16 @@ fn mask_len(width: u8, mask: u128) -> Option<u8>
     }
 }
 
+/// The number of ones of a mask of the family of `N`.
+///
+/// # Errors
+/// `PrefixLenError` exactly where the mask isn't ones followed by zeros.
+pub fn mask_to_prefix<N: Number>(mask: N::Addr) -> Result<u8, PrefixLenError>
+    ensures { MatchResult result (IsMask (record { family = N.family; number = N.addr_number mask })) (λ _. (len : ℕ) → IsMask (record { family = N.family; number = N.addr_number mask }) len → ⊥) }
+{
+    mask_len(N::width(), N::of_addr(mask).to_bits()).ok_or(PrefixLenError)
+}
+
 /// The number of ones of an IPv4 mask.
 ///
 /// # Errors
@@ -44,7 +55,7 @@ fn mask_len(width: u8, mask: u128) -> Option<u8>
 pub fn ipv4_mask_to_prefix(mask: Ipv4Addr) -> Result<u8, PrefixLenError>
     ensures { MatchResult result (IsMask (ipv4_address mask)) (λ _. (len : ℕ) → IsMask (ipv4_address mask) len → ⊥) }
 {
-    mask_len(32, mask.to_bits().into()).ok_or(PrefixLenError)
+    mask_to_prefix::<u32>(mask)
 }
 
 /// The number of ones of an IPv6 mask.
@@ -54,7 +65,7 @@ pub fn ipv4_mask_to_prefix(mask: Ipv4Addr) -> Result<u8, PrefixLenError>
 pub fn ipv6_mask_to_prefix(mask: Ipv6Addr) -> Result<u8, PrefixLenError>
     ensures { MatchResult result (IsMask (ipv6_address mask)) (λ _. (len : ℕ) → IsMask (ipv6_address mask) len → ⊥) }
 {
-    mask_len(128, mask.to_bits()).ok_or(PrefixLenError)
+    mask_to_prefix::<u128>(mask)
 }
 
 /// The number of ones of a mask of either family.

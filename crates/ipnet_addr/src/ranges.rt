@@ -3,9 +3,8 @@ ghost use Rattle.std.specs.Prelude.{◌≡◌, ◌+◌, ◌<◌, ◌≤◌, ◌^
 ghost use Rattle.std.specs.Iterator.SizeHint.{IsExactHint};
 ghost use Rattle.ipnet_addr.specs.Ranges.{numbers, after_front, after_back, times};
 
+pub use crate::addr_range::{AddrRange, Ipv4AddrRange, Ipv6AddrRange};
 pub use crate::ip_range::IpAddrRange;
-pub use crate::ipv4_range::Ipv4AddrRange;
-pub use crate::ipv6_range::Ipv6AddrRange;
 
 /// What a call answers, and the ends that it leaves.
 #[derive(Clone, Copy)]

@@ -1,5 +1,8 @@
 //! What no contract says: the text of an error, and each call once on values from outside.
+ghost use Rattle.std.specs.Prelude.{◌≤◌};
+
 use crate::ipext::{IpAdd, IpBitAnd, IpBitOr, IpStep, IpSub};
+use crate::key::Key;
 use crate::mask::{PrefixLenError, ip_mask_to_prefix, ipv4_mask_to_prefix, ipv6_mask_to_prefix};
 use crate::ranges::Ipv4AddrRange;
 use std::fmt::Write;
@@ -114,4 +117,30 @@ fn range(rt: HostRuntime) {
     assert_eq!(rt; left.next_back(), Some(Ipv4Addr::new(10, 0, 0, 4)));
     assert_eq!(rt; left.nth(1), Some(Ipv4Addr::new(10, 0, 0, 2)));
     assert_eq!(rt; left.max(), Some(Ipv4Addr::new(10, 0, 0, 3)));
+}
+
+/// A mask, and a key moved up and down.
+fn moved<K: Key>(key: K, count: u8) -> (u128, u128, u128)
+    requires { count ≤ K.width }
+{
+    (
+        K::mask(count).to_bits(),
+        key.shifted_left(count).to_bits(),
+        key.shifted_right(count).to_bits(),
+    )
+}
+
+#[test]
+fn keys(rt: HostRuntime) {
+    assert_eq!(rt; moved(0x93_u8, 3), (0xe0, 0x98, 0x12));
+    assert_eq!(rt; moved(0x93_u8, 8), (0xff, 0, 0));
+    assert_eq!(rt; moved(0x8001_u16, 1), (0x8000, 2, 0x4000));
+    assert_eq!(rt; moved(0x8000_0001_u32, 0), (0, 0x8000_0001, 0x8000_0001));
+    assert_eq!(rt; moved(0x8000_0001_u32, 32), (0xffff_ffff, 0, 0));
+    assert_eq!(rt;
+        moved(0xff_u64, 60),
+        (0xffff_ffff_ffff_fff0, 0xf000_0000_0000_0000, 0)
+    );
+    assert_eq!(rt; moved(u128::MAX, 127), (u128::MAX - 1, 1 << 127, 1));
+    assert_eq!(rt; moved(u128::MAX, 128), (u128::MAX, 0, 0));
 }

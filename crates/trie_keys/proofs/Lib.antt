@@ -1,2 +1,2 @@
 pub mod Cleared
-pub mod Shifts
+pub mod Rebuilt

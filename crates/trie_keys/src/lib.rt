@@ -1,11 +1,10 @@
 //! Keys and prefixes, and the bit strings that prefixes are.
 #![tactic(auto)]
 
-mod key;
 pub mod laws;
 mod prefix;
 #[cfg(test)]
 mod tests;
 
-pub use key::Key;
-pub use prefix::{Prefix, path_of, shortened};
+pub use ipnet_addr::key::Key;
+pub use prefix::{Prefix, path_of, prefix_of, shortened};

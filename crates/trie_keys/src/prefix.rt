@@ -1,15 +1,14 @@
 //! Prefixes, as the strings of their bits.
 ghost use Rattle.std.specs.Prelude.{◌≡◌, ℕ, ◌<◌, ◌≤◌, ◌^◌, ◌/◌, ◌-◌, List, Bool, true, nat_le, length, take, IsTrue, ◌↔◌};
-ghost use Rattle.ipnet_addr.specs.Addresses.{Ipv4, Ipv6};
 ghost use Rattle.ipnet_blocks.specs.Blocks.{bit_string};
 ghost use Rattle.ipnet_blocks.specs.Networks.{block_of};
 ghost use Rattle.trie_core.specs.Bits.{number_from};
 ghost use Rattle.ipnet_blocks.specs.BitStrings.{begins};
 ghost use Rattle.trie_core.specs.Prefixes.{prefix_bits, IsMasked};
 
-use crate::key::Key;
-use ipnet::{Ipv4Net, Ipv6Net};
-use ipnet_addr::bits::{ipv4_of, ipv6_of};
+use ipnet::Net;
+use ipnet_addr::key::Key;
+use ipnet_addr::number::Number;
 use trie_core::Path;
 
 /// A key and how many of its first bits count, as in the Rust crate prefix-trie 0.10.1.
@@ -112,6 +111,18 @@ pub fn path_of<P: Prefix>(prefix: &P) -> Path
     )
 }
 
+/// The prefix of the bits of a path, with zeros after them.
+#[inline]
+pub fn prefix_of<P: Prefix>(path: &Path) -> P
+    requires { length path.now ≤ P.R.width }
+    ensures fits { IsTrue (P.fits result) }
+    ensures bits { P.bits result ≡ path.now }
+    ensures key { result ≡ P.of_bits path.now }
+{
+    let free = 128 - <P::R as Key>::width();
+    P::from_repr_len(<P::R as Key>::from_bits(path.to_bits() >> free), path.len())
+}
+
 impl<R: Key> Prefix for (R, u8) {
     type R = R;
 
@@ -148,74 +159,38 @@ impl<R: Key> Prefix for (R, u8) {
     }
 }
 
-impl Prefix for Ipv4Net {
-    type R = u32;
+impl<N: Number> Prefix for Net<N> {
+    type R = N;
 
-    ghost bits = { λ n. bit_string (block_of Ipv4 n) };
+    ghost bits = { λ n. bit_string (block_of N.family n) };
 
-    ghost of_bits = { λ s. record { number = number_from 32 s; len = length s } };
-
-    ghost fits = { λ _. true };
-
-    /// Its address, host bits too.
-    #[inline]
-    fn repr(&self) -> u32
-        ensures bits { prefix_bits 32 result (length (bit_string (block_of Ipv4 self.now))) ≡ bit_string (block_of Ipv4 self.now) }
-        ensures whole { result ≡ self.now.number }
-    {
-        self.addr().to_bits()
-    }
-
-    #[inline]
-    fn prefix_len(&self) -> u8 {
-        Ipv4Net::prefix_len(self)
-    }
-
-    /// The network of this address, host bits too.
-    #[inline]
-    fn from_repr_len(repr: u32, len: u8) -> Ipv4Net
-        requires { len ≤ 32 }
-        ensures fits { IsTrue true }
-        ensures bits { bit_string (block_of Ipv4 result) ≡ prefix_bits 32 repr len }
-        ensures masked { IsMasked 32 repr len → result ≡ record { number = number_from 32 (prefix_bits 32 repr len); len = length (prefix_bits 32 repr len) } }
-        ensures whole { result ≡ record { number = repr; len = len } }
-    {
-        Ipv4Net::new_assert(ipv4_of(repr), len)
-    }
-}
-
-impl Prefix for Ipv6Net {
-    type R = u128;
-
-    ghost bits = { λ n. bit_string (block_of Ipv6 n) };
-
-    ghost of_bits = { λ s. record { number = number_from 128 s; len = length s } };
+    ghost of_bits = { λ s. record { number = number_from N.width s; len = length s } };
 
     ghost fits = { λ _. true };
 
     /// Its address, host bits too.
     #[inline]
-    fn repr(&self) -> u128
-        ensures bits { prefix_bits 128 result (length (bit_string (block_of Ipv6 self.now))) ≡ bit_string (block_of Ipv6 self.now) }
-        ensures whole { result ≡ self.now.number }
+    fn repr(&self) -> N
+        ensures bits { prefix_bits N.width (N.number result) (length (bit_string (block_of N.family self.now))) ≡ bit_string (block_of N.family self.now) }
+        ensures whole { N.number result ≡ self.now.number }
     {
-        self.addr().to_bits()
+        N::of_addr(self.addr())
     }
 
     #[inline]
     fn prefix_len(&self) -> u8 {
-        Ipv6Net::prefix_len(self)
+        Net::prefix_len(self)
     }
 
     /// The network of this address, host bits too.
     #[inline]
-    fn from_repr_len(repr: u128, len: u8) -> Ipv6Net
-        requires { len ≤ 128 }
+    fn from_repr_len(repr: N, len: u8) -> Net<N>
+        requires { len ≤ N.width }
         ensures fits { IsTrue true }
-        ensures bits { bit_string (block_of Ipv6 result) ≡ prefix_bits 128 repr len }
-        ensures masked { IsMasked 128 repr len → result ≡ record { number = number_from 128 (prefix_bits 128 repr len); len = length (prefix_bits 128 repr len) } }
-        ensures whole { result ≡ record { number = repr; len = len } }
+        ensures bits { bit_string (block_of N.family result) ≡ prefix_bits N.width (N.number repr) len }
+        ensures masked { IsMasked N.width (N.number repr) len → result ≡ record { number = number_from N.width (prefix_bits N.width (N.number repr) len); len = length (prefix_bits N.width (N.number repr) len) } }
+        ensures whole { result ≡ record { number = N.number repr; len = len } }
     {
-        Ipv6Net::new_assert(ipv6_of(repr), len)
+        Net::new_assert(repr.to_addr(), len)
     }
 }

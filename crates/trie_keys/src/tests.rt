@@ -7,32 +7,6 @@ use std::process::Abort;
 use std::str::FromStr;
 use trie_core::Path;
 
-/// A mask, and a key moved up and down.
-fn moved<K: Key>(key: K, count: u8) -> (u128, u128, u128)
-    requires { count ≤ K.width }
-{
-    (
-        K::mask(count).to_bits(),
-        key.shifted_left(count).to_bits(),
-        key.shifted_right(count).to_bits(),
-    )
-}
-
-#[test]
-fn keys(rt: HostRuntime) {
-    assert_eq!(rt; moved(0x93_u8, 3), (0xe0, 0x98, 0x12));
-    assert_eq!(rt; moved(0x93_u8, 8), (0xff, 0, 0));
-    assert_eq!(rt; moved(0x8001_u16, 1), (0x8000, 2, 0x4000));
-    assert_eq!(rt; moved(0x8000_0001_u32, 0), (0, 0x8000_0001, 0x8000_0001));
-    assert_eq!(rt; moved(0x8000_0001_u32, 32), (0xffff_ffff, 0, 0));
-    assert_eq!(rt;
-        moved(0xff_u64, 60),
-        (0xffff_ffff_ffff_fff0, 0xf000_0000_0000_0000, 0)
-    );
-    assert_eq!(rt; moved(u128::MAX, 127), (u128::MAX - 1, 1 << 127, 1));
-    assert_eq!(rt; moved(u128::MAX, 128), (u128::MAX, 0, 0));
-}
-
 /// The width, the key with zeros after the bits that count, and whether the other prefix is contained.
 fn parts<P: Prefix>(prefix: &P, other: &P) -> (u32, u128, bool)
     requires fits { IsTrue (P.fits prefix.now) }

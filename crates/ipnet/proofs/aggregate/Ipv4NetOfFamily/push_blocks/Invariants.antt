@@ -1,9 +1,0 @@
-use Rattle.std.proofs.Common.{◌≡◌, ◌++◌, map}
-use Rattle.ipnet_addr.specs.Addresses.{Ipv4}
-use Rattle.ipnet_blocks.specs.Cuts.{subnets}
-use Rattle.ipnet_blocks.specs.InnerSpans.{limits_of}
-use Rattle.ipnet.proofs.aggregate.Ipv4NetOfFamily.push_blocks.Given as goal
-
-abbrev pub invariant-loop-block : goal.invariant-loop-block
-invariant-loop-block l =
-    map (λ n. n) l.blocks.items ++ subnets Ipv4 l.block-iterator ≡ map (λ n. n) l.fn.blocks.items ++ subnets Ipv4 (limits_of l.fn.span)

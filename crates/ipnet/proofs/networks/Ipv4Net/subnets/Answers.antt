@@ -1,9 +1,0 @@
-use Rattle.std.proofs.Common.{arith}
-use Rattle.ipnet_blocks.specs.Networks.{block_of}
-use Rattle.ipnet_addr.specs.Addresses.{Ipv4}
-use Rattle.ipnet_blocks.proofs.SubnetBlocks.{subnets_are}
-use Rattle.ipnet.proofs.networks.Ipv4Net.subnets.Goals as goal
-
-pub returns-clause-blocks : goal.returns-clause-blocks
-returns-clause-blocks c =
-    subnets_are (block_of Ipv4 c.args.self.now) _ _ (omega arith) (rw (c.network.ensures, c.broadcast.ensures) at c.new.ensures.blocks)

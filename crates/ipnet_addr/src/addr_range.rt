@@ -1,0 +1,155 @@
+//! Ranges of addresses of one family, from both ends.
+ghost use Rattle.std.specs.Prelude.{◌≡◌, ◌+◌, ◌<◌, ◌^◌, ⊤, length, slice_get, reverse, IfSome, option_map};
+ghost use Rattle.std.specs.Iterator.{YieldsFirstBy, YieldsLastBy, item_count, UpTo};
+ghost use Rattle.std.specs.Iterator.SizeHint.{IsExactHint, IsWithinCount};
+ghost use Rattle.ipnet_addr.specs.Ranges.{numbers, after_front, after_back, times, IsMinimum, IsMaximum};
+
+use crate::number::Number;
+use crate::ranges::{count_numbers, hint_numbers, nth_back_number, nth_number};
+use std::alloc::AllocError;
+use std::marker::Model;
+
+/// The addresses from one to another; none where the first is above the last.
+///
+/// Contracts see it as the numbers of its two ends. Ordered by its start, then by its end.
+#[derive(Copy, Debug, PartialEq, Eq, PartialOrd, Ord, Hash)]
+pub struct AddrRange<N: Number> {
+    start: N,
+    end: N,
+}
+
+/// A range of IPv4 addresses.
+pub type Ipv4AddrRange = AddrRange<u32>;
+
+/// A range of IPv6 addresses.
+pub type Ipv6AddrRange = AddrRange<u128>;
+
+impl<N: Number> Model for AddrRange<N> {
+    ghost use Rattle.ipnet_addr.specs.Ranges.{Ends, AreEnds};
+
+    ghost Value = { Ends };
+
+    ghost view = { λ r. record { start = N.number r.start; end = N.number r.end } };
+
+    ghost invariant = { λ r. AreEnds N.family (record { start = N.number r.start; end = N.number r.end }) };
+
+    ghost inverse = { λ e. record { start = N.of_number e.start; end = N.of_number e.end } };
+
+    ghost inverse_ok = { λ r h i. record { start = N.named r.start i; end = N.named r.end i } };
+}
+
+impl<N: Number> Clone for AddrRange<N> {
+    ghost is_clone = { λ r s. s ≡ r };
+
+    ghost is_infallible = { λ _. ⊤ };
+
+    fn clone(&self) -> Result<AddrRange<N>, AllocError> {
+        Ok(*self)
+    }
+}
+
+impl<N: Number> AddrRange<N> {
+    /// The addresses from `start` to `end`, none where `start` is above `end`.
+    pub fn new(start: N::Addr, end: N::Addr) -> AddrRange<N>
+        ensures { result ≡ record { start = N.addr_number start; end = N.addr_number end } }
+    {
+        let start = N::of_addr(start);
+        let end = N::of_addr(end);
+        let _in_range = (start.to_bits(), end.to_bits());
+        AddrRange { start, end }
+    }
+
+    /// The address that n + 1 calls of `next` answer last; it leaves what they leave. In constant time.
+    pub fn nth(&mut self, n: usize) -> Option<N::Addr>
+        ensures answer { option_map N.addr_number result ≡ slice_get (numbers self.old) n }
+        ensures ends { self.new ≡ times (n + 1) after_front self.old }
+    {
+        let step = nth_number(self.start.to_bits(), self.end.to_bits(), n as u128);
+        self.start = N::from_bits(step.start);
+        self.end = N::from_bits(step.end);
+        Some(N::from_bits(step.answer?).to_addr())
+    }
+
+    /// The address that n + 1 calls of `next_back` answer last; it leaves what they leave. In constant time.
+    pub fn nth_back(&mut self, n: usize) -> Option<N::Addr>
+        ensures answer { option_map N.addr_number result ≡ slice_get (reverse (numbers self.old)) n }
+        ensures ends { self.new ≡ times (n + 1) after_back self.old }
+    {
+        let step = nth_back_number(self.start.to_bits(), self.end.to_bits(), n as u128);
+        self.start = N::from_bits(step.start);
+        self.end = N::from_bits(step.end);
+        Some(N::from_bits(step.answer?).to_addr())
+    }
+
+    /// The last address, `None` where there is none. In constant time.
+    pub fn last(mut self) -> Option<N::Addr>
+        ensures { option_map N.addr_number result ≡ slice_get (reverse (numbers self)) 0 }
+    {
+        self.nth_back(0)
+    }
+
+    /// The least address, `None` where there is none. In constant time.
+    #[tactic(auto, using(crate::proofs::RangeCalls::least_is))]
+    pub fn min(mut self) -> Option<N::Addr>
+        ensures { IsMinimum (numbers self) (option_map N.addr_number result) }
+    {
+        self.nth(0)
+    }
+
+    /// The greatest address, `None` where there is none. In constant time.
+    #[tactic(auto, using(crate::proofs::RangeCalls::greatest_is))]
+    pub fn max(self) -> Option<N::Addr>
+        ensures { IsMaximum (numbers self) (option_map N.addr_number result) }
+    {
+        self.last()
+    }
+}
+
+impl AddrRange<u32> {
+    /// How many addresses there are, at most 2^32. In constant time.
+    pub fn count(self) -> usize
+        ensures { result ≡ length (numbers self) }
+    {
+        count_numbers(self.start.into(), self.end.into())
+    }
+}
+
+impl AddrRange<u128> {
+    /// How many addresses there are. In constant time.
+    pub fn count(self) -> usize
+        requires { length (numbers self) < 2 ^ 64 }
+        ensures { result ≡ length (numbers self) }
+    {
+        count_numbers(self.start, self.end)
+    }
+}
+
+impl<N: Number> Iterator for AddrRange<N> {
+    type Item = N::Addr;
+
+    ghost next_gives = { λ r a s. YieldsFirstBy N.addr_number numbers r a s × (s ≡ after_front r) };
+
+    ghost remaining = { item_count numbers };
+
+    #[tactic(auto, using(crate::proofs::RangeCalls::front_taken, crate::proofs::RangeCalls::front_goes, crate::proofs::RangeCalls::front_once))]
+    fn next(&mut self) -> Option<N::Addr> {
+        AddrRange::nth(self, 0)
+    }
+
+    fn size_hint(&self) -> (usize, Option<usize>)
+        ensures lower { IsWithinCount result.0 (item_count numbers self.now) }
+        ensures upper { IfSome result.1 (UpTo (item_count numbers self.now)) }
+        ensures exact { IsExactHint result (length (numbers self.now)) }
+    {
+        hint_numbers(self.start.to_bits(), self.end.to_bits())
+    }
+}
+
+impl<N: Number> DoubleEndedIterator for AddrRange<N> {
+    ghost next_back_gives = { λ r a s. YieldsLastBy N.addr_number numbers r a s × (s ≡ after_back r) };
+
+    #[tactic(auto, using(crate::proofs::RangeCalls::back_taken, crate::proofs::RangeCalls::back_goes, crate::proofs::RangeCalls::back_once))]
+    fn next_back(&mut self) -> Option<N::Addr> {
+        AddrRange::nth_back(self, 0)
+    }
+}
