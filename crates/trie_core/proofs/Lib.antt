@@ -27,6 +27,7 @@ pub mod Walks
 pub mod Trails
 pub mod Entries
 pub mod Inside
+pub mod Leaves
 pub mod Ways
 pub mod Left
 pub mod Staying

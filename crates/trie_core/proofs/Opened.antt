@@ -38,7 +38,7 @@ other_zero : (a b : ℕ) → min a b ≡ 0 → a ≡ 1 → b ≡ 0
 other_zero a b e f = omega (arith, e, f)
 
 -- between two places
-has_between : (from end i : ℕ) → has_bit (2 ^ end - 2 ^ from) i ≡ (not (nat_lt i from) && nat_lt i end)
+pub has_between : (from end i : ℕ) → has_bit (2 ^ end - 2 ^ from) i ≡ (not (nat_lt i from) && nat_lt i end)
 has_between from end i = by (nat_lt i from) (nat_lt i end) refl refl
   where
     by : (a b : Bool) → nat_lt i from ≡ a → nat_lt i end ≡ b → has_bit (2 ^ end - 2 ^ from) i ≡ (not a && b)

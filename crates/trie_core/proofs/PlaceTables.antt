@@ -119,6 +119,10 @@ inside_ends q l =
     let b : nat_lt (child_of q + 32 / 2 ^ length q) 33 ≡ true = every_holds 5 (λ q. nat_lt (number_from 5 q + 32 / 2 ^ length q) 33) tt q l in
     (grind (arith, nat_tests), grind (arith, nat_tests))
 
+-- the string itself is one of them
+pub inside_some : (q : List Bool) → length q < 5 → 1 ≤ 31 / 2 ^ length q
+inside_some q l = let a : nat_lt 0 (31 / 2 ^ length q) ≡ true = every_holds 5 (λ q. nat_lt 0 (31 / 2 ^ length q)) tt q l in grind (arith, nat_tests)
+
 -- ---- what comes after a string
 
 and_false : (b : Bool) → (b && false) ≡ false

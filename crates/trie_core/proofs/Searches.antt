@@ -54,7 +54,7 @@ min_one a b e l m = (omega (arith, e, l, m), omega (arith, e, l, m))
 min_with_one : (a b : ℕ) → a < 2 → b ≡ 1 → min a b ≡ a
 min_with_one a b l e = omega (arith, e, l)
 
-below_31 : (vb n : ℕ) → vb < 2 ^ 31 → bit_at vb n ≡ 1 → (b : Bool) → nat_lt n 31 ≡ b → n < 31
+pub below_31 : (vb n : ℕ) → vb < 2 ^ 31 → bit_at vb n ≡ 1 → (b : Bool) → nat_lt n 31 ≡ b → n < 31
 below_31 vb n h e true l = grind (arith, nat_tests)
 below_31 vb n h e false l = let k : 31 ≤ n = grind (arith, nat_tests) in let z = bit_at_above vb 31 n h k in absurd (omega (arith, z, e))
 

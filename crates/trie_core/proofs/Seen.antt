@@ -18,7 +18,7 @@ use Rattle.trie_core.proofs.Count.{things, all_of_node, bare_lists}
 use Rattle.trie_core.proofs.Visits.{visits_none, visits_some}
 use Rattle.trie_core.proofs.Numbers.{ones_bit}
 use Rattle.trie_core.proofs.Lengths.{length-things}
-use Rattle.trie_core.proofs.Marks.{set-len, set-root}
+use Rattle.trie_core.proofs.Marks.{marked-other, marked_get, set-len, set-long, set-root}
 use Rattle.trie_core.proofs.Named.{is_node, value_things, child_things, value_found, child_found}
 
 pub no_items : {Y : Type 0} (ys : List Y) → length ys ≡ 0 → ys ≡ []
@@ -111,6 +111,17 @@ module _ {X : Type 0} where
       ∙ get-long s.node (take 5 q ++ r) (omega (arith, length-append (take 5 q) r, f))
       ∙ (λ i. child_get (find bits_cmp (take_first (take 5 q) r f i) (child_list cb cs)) (drop_first (take 5 q) r f i))
 
+  fronted_spare : {vb : ℕ} {vs : List X} {cb : ℕ} {cs : List (Seen X)} {m : Seen X} (q r : List Bool) → IsSeen vb vs cb cs m → 5 ≤ length q → get m.spares (take 5 q ++ r) ≡ marked_get (find bits_cmp (take 5 q) (child_list cb cs)) r
+  fronted_spare {cb = cb} {cs = cs} q r s h =
+      let f = (front q h).0 in
+      sym (ap (λ b. get b (take 5 q ++ r)) s.spare)
+      ∙ set-long s.node (take 5 q ++ r) (omega (arith, length-append (take 5 q) r, f))
+      ∙ (λ i. marked_get (find bits_cmp (take_first (take 5 q) r f i) (child_list cb cs)) (drop_first (take 5 q) r f i))
+
+  -- the spare nodes at strings of five bits and more are those of the child on the way
+  pub spare_at : {vb : ℕ} {vs : List X} {cb : ℕ} {cs : List (Seen X)} {m : Seen X} (q : List Bool) → IsSeen vb vs cb cs m → 5 ≤ length q → marked_get (find nat_cmp (child_of q) (at_places 32 0 cb cs)) (drop 5 q) ≡ get m.spares q
+  spare_at {cb = cb} {cs = cs} q s h = ap (λ o. marked_get o (drop 5 q)) (sym (child_found q cb cs h s.slots.children_below)) ∙ sym (set-long s.node q h) ∙ ap (λ b. get b q) s.spare
+
   pub is_child : {vb : ℕ} {vs : List X} {cb : ℕ} {cs : List (Seen X)} {m : Seen X} (q : List Bool) (c : Seen X) → IsSeen vb vs cb cs m → 5 ≤ length q → find nat_cmp (child_of q) (at_places 32 0 cb cs) ≡ Some c → IsChild q m c
   is_child {vb} {vs} {cb} {cs} {m} q c s h e =
       let f = (front q h).0 in
@@ -119,6 +130,7 @@ module _ {X : Type 0} where
       record {
         gets = λ r. fronted q r s h ∙ ap (λ o. child_get o r) g;
         smaller = omega (arith, found_height (take 5 q) c (child_list cb cs) g, ap node_height t, s.height);
+        spares = λ b r. fronted_spare q (b ∷ r) s h ∙ ap (λ o. marked_get o (b ∷ r)) g ∙ marked-other c b r;
         visits = λ r. (λ i. node_visits (sym s.map i) (sym s.spare i) (take 5 q ++ r)) ∙ visits_some (take 5 q) r s.node f g;
       }
 
@@ -127,6 +139,7 @@ module _ {X : Type 0} where
       let g : find bits_cmp (take 5 q) (child_list cb cs) ≡ None = child_found q cb cs h s.slots.children_below ∙ e in
       record {
         gets = λ r. fronted q r s h ∙ ap (λ o. child_get o r) g ∙ get_none r;
+        spares = λ r. fronted_spare q r s h ∙ ap (λ o. marked_get o r) g;
         visits = (λ i. node_visits (sym s.map i) (sym s.spare i) q) ∙ visits_none q s.node g;
       }
 

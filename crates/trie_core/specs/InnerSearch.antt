@@ -1,5 +1,5 @@
 -- What the steps of a search find.
-use Rattle.std.specs.Prelude.{ℕ, ◌+◌, ◌<◌, ◌≤◌, ◌≡◌, length, take, List, Bool, ◌++◌, Some, None}
+use Rattle.std.specs.Prelude.{ℕ, ◌+◌, ◌<◌, ◌≤◌, ◌≡◌, length, take, List, Bool, ◌∷◌, ◌++◌, Some, None}
 use Rattle.std.specs.FinMap.{get}
 use Rattle.trie_core.specs.Nodes.{BitMap, Seen}
 use Rattle.trie_core.specs.Count.{node_visits}
@@ -19,9 +19,11 @@ pub record IsLongestBelow {X : Type 0} (m : BitMap X) (q : List Bool) (high n : 
 pub record IsChild {X : Type 0} (q : List Bool) (m c : Seen X) : Type 0 where
   pub gets : (r : List Bool) → get m.entries (take 5 q ++ r) ≡ get c.entries r
   pub smaller : c.levels < m.levels
+  pub spares : (b : Bool) (r : List Bool) → get m.spares (take 5 q ++ b ∷ r) ≡ get c.spares (b ∷ r)
   pub visits : (r : List Bool) → node_visits m.entries m.spares (take 5 q ++ r) ≡ node_visits c.entries c.spares r + 1
 
 -- m holds nothing below the first five bits of q
 pub record HasNoChild {X : Type 0} (q : List Bool) (m : Seen X) : Type 0 where
   pub gets : (r : List Bool) → get m.entries (take 5 q ++ r) ≡ None
+  pub spares : (r : List Bool) → get m.spares (take 5 q ++ r) ≡ None
   pub visits : node_visits m.entries m.spares q ≡ 1

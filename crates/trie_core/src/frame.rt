@@ -13,7 +13,7 @@ ghost use Rattle.trie_core.specs.InnerSteps.{GivesNext};
 use crate::node::Node;
 use crate::path::Path;
 use crate::slots::{first_place, taken_below};
-use crate::tables::{bit, first_child, place_length};
+use crate::tables::{bit, first_child, place_length, places_between};
 use std::alloc::AllocError;
 use std::marker::Model;
 
@@ -69,16 +69,6 @@ pub(crate) enum Next<'a, T> {
     Entry(Path, &'a T),
     Below(Frame<'a, T>, Path),
     Nothing,
-}
-
-/// The word of the places from one on, and before another.
-#[inline]
-fn places_between(from: u8, end: u8) -> u32
-    requires ordered { from ≤ end }
-    requires end { end ≤ 32 }
-    ensures { result ≡ 2 ^ end - 2 ^ from }
-{
-    ((1u64 << end) - (1u64 << from)) as u32
 }
 
 /// The first place after those of the beginnings of five bits.

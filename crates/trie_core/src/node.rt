@@ -7,23 +7,24 @@ ghost use Rattle.trie_core.specs.InnerCount.{all_nodes, spare_count};
 ghost use Rattle.trie_core.specs.Count.{visit_count, node_visits};
 ghost use Rattle.trie_core.specs.Ways.{off_way, IsPruned, IsKept};
 ghost use Rattle.trie_core.specs.InnerSearch.{IsChild, HasNoChild, NoneBelow, IsLongestBelow};
+ghost use Rattle.trie_core.specs.Inside.{NothingInside};
 ghost use Rattle.trie_core.specs.Search.{NoBeginning, IsLongest, IsShortest};
 
 use crate::path::Path;
 use crate::slots::{
     first_place, get_at, last_place, put_at, reserve_one, slot, take_at, taken_below,
 };
-use crate::tables::{bit, place_length};
+use crate::tables::{bit, place_length, places_between};
 use std::alloc::Global;
 use std::marker::Model;
 
 /// A finite map from bit strings to values, and the bit strings at which spare nodes stand, which lead to no entry.
 #[derive(Drop)]
 pub struct Node<T> {
-    pub(crate) value_bits: u32,
-    pub(crate) child_bits: u32,
-    pub(crate) values: Vec<T>,
     pub(crate) children: Vec<Node<T>>,
+    pub(crate) child_bits: u32,
+    pub(crate) value_bits: u32,
+    pub(crate) values: Vec<T>,
 }
 
 impl<T> Model for Node<T> {
@@ -216,6 +217,35 @@ impl<T> Node<T> {
             visits += 1;
         }
         visits
+    }
+
+    /// Whether nothing stands strictly inside a path of fewer than five bits.
+    #[inline]
+    fn is_leaf_here(&self, path: &Path) -> bool
+        requires { length path.now < 5 }
+        ensures { IsTrue result ↔ (NothingInside self.now.entries path.now × NothingInside self.now.spares path.now) }
+    {
+        let (len, place, child) = (path.len(), path.place(), path.five());
+        let values = places_between(place + 1, place + (31 >> len));
+        let children = places_between(child, child + (32 >> len));
+        self.value_bits & values == 0 && self.child_bits & children == 0
+    }
+
+    /// Whether nothing stands strictly inside the path: no key but itself begins with it, and no spare node stands
+    /// below it.
+    pub fn is_leaf(&self, path: Path) -> bool
+        ensures { IsTrue result ↔ (NothingInside self.now.entries path × NothingInside self.now.spares path) }
+    {
+        let mut node = self;
+        let mut path = path;
+        'way: while !path.is_short() {
+            match node.child(&path) {
+                None => return true,
+                Some(child) => node = child,
+            }
+            path = path.rest();
+        }
+        node.is_leaf_here(&path)
     }
 
     /// Whether it has neither values nor children.

@@ -1,5 +1,5 @@
 //! The places of a node: which begin a string, how long the string at a place is, and the bit of a place.
-ghost use Rattle.std.specs.Prelude.{◌≡◌, ◌<◌, ◌≤◌, ◌^◌, ◌+◌, ◌%◌, List, Bool, length};
+ghost use Rattle.std.specs.Prelude.{◌≡◌, ◌<◌, ◌≤◌, ◌^◌, ◌+◌, ◌-◌, ◌%◌, List, Bool, length};
 ghost use Rattle.trie_core.specs.InnerPlaces.{place_of, child_of, place_string, IsBeginMask};
 ghost use Rattle.trie_core.specs.Prefixes.{prefix_bits, IsMasked};
 
@@ -50,6 +50,16 @@ pub(crate) fn bit(place: u8) -> u32
     ensures { result ≡ 2 ^ place }
 {
     1u32 << place
+}
+
+/// The word of the places from one on, and before another.
+#[inline]
+pub(crate) fn places_between(from: u8, end: u8) -> u32
+    requires ordered { from ≤ end }
+    requires end { end ≤ 32 }
+    ensures { result ≡ 2 ^ end - 2 ^ from }
+{
+    ((1u64 << end) - (1u64 << from)) as u32
 }
 
 /// The number that the string at a place forms, with zeros after it: that of the first child below the place.

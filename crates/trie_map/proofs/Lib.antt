@@ -1,4 +1,3 @@
-pub mod Rebuilt
 pub mod Entries
 pub mod KeyLengths
 pub mod Written

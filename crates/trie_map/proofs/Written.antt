@@ -7,7 +7,7 @@ use Rattle.std.specs.FinMap.{get, insert, get-insert, same_map}
 use mathlib.Core.Bool.{Bool-set}
 use denote.MutBor.{at_last}
 use Rattle.ipnet_blocks.specs.BitStrings.{bits_cmp}
-use Rattle.trie_keys.specs.declared.key.Key as key
+use Rattle.ipnet_addr.specs.declared.key.Key as key
 use Rattle.trie_keys.specs.declared.prefix.Prefix as prefix
 use Rattle.trie_core.proofs.Strings.{bits_total, bits_same}
 use Rattle.trie_core.specs.Nodes.{BitMap, BitSet}

@@ -7,7 +7,7 @@ use Rattle.std.proofs.Common.{ap}
 use mir.Syntax.{named}
 use Rattle.trie_map.specs.Seen.{SeenMap, with_value}
 use Rattle.trie_core.specs.Ways.{off_way}
-use Rattle.trie_keys.specs.declared.key.Key as key
+use Rattle.ipnet_addr.specs.declared.key.Key as key
 use Rattle.trie_keys.specs.declared.prefix.Prefix as prefix
 use Rattle.trie_map.specs.declared.entry.Entry.{Entry}
 use Rattle.trie_map.specs.declared.entry.OccupiedEntry.{OccupiedEntry}

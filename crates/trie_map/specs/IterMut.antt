@@ -8,7 +8,7 @@ use mir.Syntax.{named}
 use Rattle.trie_core.specs.Bits.{is_from}
 use Rattle.ipnet_blocks.specs.BitStrings.{bits_cmp, begins}
 use Rattle.trie_map.specs.Seen.{SeenMap, with_value}
-use Rattle.trie_keys.specs.declared.key.Key as key
+use Rattle.ipnet_addr.specs.declared.key.Key as key
 use Rattle.trie_keys.specs.declared.prefix.Prefix as prefix
 use Rattle.trie_map.specs.Maps.{first_key}
 use Rattle.trie_map.specs.declared.iter_mut.IterMut.{IterMut}

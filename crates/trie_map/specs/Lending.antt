@@ -3,7 +3,7 @@ use Rattle.std.specs.Prelude.{◌≡◌, ℕ, List, Bool, Option, OnSome, IfNone
 use Rattle.std.specs.Borrow.{Fml, RattleType, MutBor, Lends, LendsIf, LendsSo}
 use Rattle.trie_map.specs.Seen.{SeenMap, with_value}
 use Rattle.trie_core.specs.Search.{NoBeginning, IsLongest}
-use Rattle.trie_keys.specs.declared.key.Key as key
+use Rattle.ipnet_addr.specs.declared.key.Key as key
 use Rattle.trie_keys.specs.declared.prefix.Prefix as prefix
 use Rattle.trie_map.specs.contracts.map.PrefixMap.{the_row}
 

@@ -3,10 +3,9 @@ ghost use Rattle.std.specs.Prelude.{◌≡◌, ◌+◌, ◌<◌, ◌≤◌, ◌^
 ghost use Rattle.ipnet_blocks.specs.BitStrings.{begins};
 ghost use Rattle.trie_map.specs.Covered.{covered_count};
 
-use crate::key::key_of;
 use crate::map::PrefixMap;
 use trie_core::Walk;
-use trie_keys::{Key, Prefix};
+use trie_keys::{Key, Prefix, prefix_of};
 
 /// Whether a prefix lies inside the last one, if there is one.
 fn is_inside<P: Prefix>(last: &Option<P>, prefix: &P) -> bool
@@ -43,7 +42,7 @@ impl<P: Prefix + Drop, T> PrefixMap<P, T> {
         let mut last: Option<P> = None;
         let mut walk = Walk::new(self.walked());
         'walk: while let Some((path, _)) = walk.next() {
-            let prefix: P = key_of(&path);
+            let prefix: P = prefix_of(&path);
             if is_inside(&last, &prefix) {
                 continue 'walk;
             }

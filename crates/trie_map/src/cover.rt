@@ -7,12 +7,11 @@ ghost use Rattle.std.specs.Iterator.{YieldsFirstBy, item_count};
 ghost use Rattle.trie_core.specs.InnerWalks.{KeysWithin};
 ghost use Rattle.trie_map.specs.Iterators.{GivesEntry, GivesKey};
 
-use crate::key::key_of;
 use crate::map::PrefixMap;
 use std::alloc::AllocError;
 use std::marker::{Model, PhantomData};
 use trie_core::Cover as Way;
-use trie_keys::{Prefix, path_of};
+use trie_keys::{Prefix, path_of, prefix_of};
 
 /// The entries that are left of those whose keys contain a prefix, the shortest key first.
 #[derive(Drop)]
@@ -58,7 +57,7 @@ impl<'a, P: Prefix, T> Iterator for Cover<'a, P, T> {
     fn next(&mut self) -> Option<(P, &'a T)> {
         match self.way.next() {
             None => None,
-            Some((path, value)) => Some((key_of(&path), value)),
+            Some((path, value)) => Some((prefix_of(&path), value)),
         }
     }
 }

@@ -7,11 +7,10 @@ ghost use Rattle.trie_core.specs.InnerWalks.{KeysWithin};
 ghost use Rattle.std.specs.Iterator.{YieldsFirst, item_count};
 ghost use Rattle.trie_map.specs.Iterators.{GivesOwned, GivesKey};
 
-use crate::key::key_of;
 use crate::map::PrefixMap;
 use std::marker::{Model, PhantomData};
 use trie_core::{Node, OwnedWalk};
-use trie_keys::{Key, Prefix, path_of};
+use trie_keys::{Key, Prefix, path_of, prefix_of};
 
 /// The entries that are left: what `into_iter` and `into_children` give.
 #[derive(Drop)]
@@ -57,7 +56,7 @@ impl<P: Prefix, T: Drop> Iterator for IntoIter<P, T> {
     fn next(&mut self) -> Option<(P, T)> {
         match self.walk.next() {
             None => None,
-            Some((path, value)) => Some((key_of(&path), value)),
+            Some((path, value)) => Some((prefix_of(&path), value)),
         }
     }
 }

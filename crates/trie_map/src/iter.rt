@@ -11,12 +11,11 @@ ghost use Rattle.trie_core.specs.InnerWalks.{KeysWithin};
 ghost use Rattle.std.specs.Iterator.{YieldsFirstBy, item_count};
 ghost use Rattle.trie_map.specs.Iterators.{GivesEntry, GivesKey};
 
-use crate::key::key_of;
 use crate::map::PrefixMap;
 use std::alloc::AllocError;
 use std::marker::{Model, PhantomData};
 use trie_core::{Node, Walk};
-use trie_keys::{Key, Prefix, path_of};
+use trie_keys::{Key, Prefix, path_of, prefix_of};
 
 /// The entries that are left: what `iter`, `iter_from` and `children` give.
 #[derive(Drop)]
@@ -62,7 +61,7 @@ impl<'a, P: Prefix, T> Iterator for Iter<'a, P, T> {
     fn next(&mut self) -> Option<(P, &'a T)> {
         match self.walk.next() {
             None => None,
-            Some((path, value)) => Some((key_of(&path), value)),
+            Some((path, value)) => Some((prefix_of(&path), value)),
         }
     }
 }

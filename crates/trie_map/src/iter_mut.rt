@@ -10,10 +10,9 @@ ghost use Rattle.ipnet_blocks.specs.BitStrings.{bits_cmp, begins};
 ghost use Rattle.trie_map.specs.Maps.{first_key};
 
 use crate::equal::is_same;
-use crate::key::key_of;
 use crate::map::PrefixMap;
 use trie_core::{Path, Walk};
-use trie_keys::{Prefix, path_of};
+use trie_keys::{Prefix, path_of, prefix_of};
 
 /// Whether a path begins a key.
 fn is_begun(path: &Path, key: &Path) -> bool
@@ -145,7 +144,7 @@ impl<'a, P: Prefix, T> IterMut<'a, P, T> {
     {
         match &self.next {
             None => None,
-            Some(path) => Some(key_of(path)),
+            Some(path) => Some(prefix_of(path)),
         }
     }
 

@@ -13,7 +13,6 @@ mod equal;
 mod into_iter;
 mod iter;
 mod iter_mut;
-mod key;
 mod lend;
 mod map;
 mod prune;

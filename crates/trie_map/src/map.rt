@@ -5,7 +5,8 @@ ghost use Rattle.std.specs.Option.{IsSome, option_copied, option_copied_mut};
 ghost use Rattle.std.specs.FinMap as map;
 ghost use Rattle.trie_core.specs.Count.{nodes, node_visits, visit_count};
 ghost use Rattle.trie_core.specs.Ways.{AreIdle, off_way, IsPruned, IsKept};
-ghost use Rattle.trie_core.specs.Search.{NoBeginning};
+ghost use Rattle.trie_core.specs.Inside.{NothingInside};
+ghost use Rattle.trie_core.specs.Search.{IsLongest, NoBeginning};
 ghost use Rattle.trie_map.specs.Maps.{IsLongestKey, IsShortestKey};
 ghost use Rattle.trie_map.specs.Refusals.{no_room};
 ghost use Rattle.trie_map.specs.Lending.{lends_value, lends_get};
@@ -134,6 +135,15 @@ impl<P: Prefix, T> PrefixMap<P, T> {
         }
     }
 
+    /// How many bits the longest key has that contains the asked prefix, which itself counts, and its value. The key is
+    /// not made: it is the first so many bits of the prefix.
+    pub fn longest_match(&self, prefix: &P) -> Option<(u8, &T)>
+        requires { IsTrue (P.fits prefix.now) }
+        ensures { MatchOption result (NoBeginning self.now.entries (P.bits prefix.now)) (λ r. IsLongest self.now.entries (P.bits prefix.now) r.0 r.1.now) }
+    {
+        self.root.longest(path_of(prefix))
+    }
+
     /// The longest key that contains the asked prefix.
     pub fn get_lpm_prefix(&self, prefix: &P) -> Option<P>
         requires { IsTrue (P.fits prefix.now) }
@@ -173,6 +183,16 @@ impl<P: Prefix, T> PrefixMap<P, T> {
         ensures { IsTrue result ↔ (NoBeginning self.now.entries (P.bits prefix.now) → ⊥) }
     {
         self.root.shortest(path_of(prefix)).is_some()
+    }
+
+    /// Whether no key but the prefix itself lies inside it, stored or not, and no spare node. It is one search, and takes
+    /// no memory.
+    pub fn is_leaf(&self, prefix: &P) -> bool
+        requires { IsTrue (P.fits prefix.now) }
+        ensures all { IsTrue result ↔ (NothingInside self.now.entries (P.bits prefix.now) × NothingInside self.now.spares (P.bits prefix.now)) }
+        ensures tidy { self.now.spares ≡ map.empty → (IsTrue result ↔ NothingInside self.now.entries (P.bits prefix.now)) }
+    {
+        self.root.is_leaf(path_of(prefix))
     }
 
     /// What `get_lpm` answers, and how many nodes the search visited: one, and one for each beginning of the asked

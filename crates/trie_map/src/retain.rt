@@ -4,10 +4,9 @@ ghost use Rattle.std.specs.List.Retain.{IsFiltered};
 ghost use Rattle.std.specs.FinMap.{empty, entries};
 ghost use Rattle.trie_map.specs.Retain.{AnswersAt, TakesAt, CallableInTurn};
 
-use crate::key::key_of;
 use crate::map::PrefixMap;
 use trie_core::Path;
-use trie_keys::Prefix;
+use trie_keys::{Prefix, prefix_of};
 
 impl<P: Prefix + Drop, T: Drop> PrefixMap<P, T> {
     /// Asks `f` of each entry once, in the order of a walk, and keeps those of which it says `true`. `f` need take no
@@ -29,7 +28,7 @@ impl<P: Prefix + Drop, T: Drop> PrefixMap<P, T> {
         let mut f = f;
         let mut next = self.key_from(Path::new(0, 0), true);
         'entry: while let Some(path) = next {
-            let prefix: P = key_of(&path);
+            let prefix: P = prefix_of(&path);
             next = self.key_from(path, false);
             let Some(value) = self.get(&prefix) else {
                 unreachable!()

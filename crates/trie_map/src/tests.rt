@@ -78,6 +78,38 @@ fn longest_and_shortest(rt: HostRuntime) {
 }
 
 #[test]
+fn leaves(rt: HostRuntime) {
+    let mut map: PrefixMap<Ipv4Net, u32> = PrefixMap::new(rt.alloc()).expect(&rt, "a map");
+    let all = net(&rt, "0.0.0.0/0");
+    assert!(rt; map.is_leaf(&all));
+    assert!(rt; map.longest_match(&all).is_none());
+    assert!(rt; map.insert(net(&rt, "10.0.0.0/8"), 1).is_ok());
+    assert!(rt; map.insert(net(&rt, "10.1.0.0/16"), 2).is_ok());
+    assert!(rt; !map.is_leaf(&all));
+    assert!(rt; !map.is_leaf(&net(&rt, "10.0.0.0/8")));
+    assert!(rt; !map.is_leaf(&net(&rt, "10.0.0.0/15")));
+    assert!(rt; map.is_leaf(&net(&rt, "10.1.0.0/16")));
+    assert!(rt; map.is_leaf(&net(&rt, "10.1.2.3/32")));
+    assert!(rt; map.is_leaf(&net(&rt, "10.2.0.0/15")));
+    assert!(rt; map.is_leaf(&net(&rt, "11.0.0.0/8")));
+    assert!(rt; matches!(map.longest_match(&net(&rt, "10.1.2.3/32")), Some((16, 2))));
+    assert!(rt; matches!(map.longest_match(&net(&rt, "10.1.0.0/16")), Some((16, 2))));
+    assert!(rt; matches!(map.longest_match(&net(&rt, "10.0.0.0/15")), Some((8, 1))));
+    assert!(rt; map.longest_match(&all).is_none());
+}
+
+#[test]
+fn a_spare_node_is_no_leaf(rt: HostRuntime) {
+    let mut map: PrefixMap<Ipv4Net, u32> = PrefixMap::new(rt.alloc()).expect(&rt, "a map");
+    let asked = net(&rt, "10.0.0.0/8");
+    assert!(rt; map.insert(net(&rt, "10.1.0.0/16"), 2).is_ok());
+    assert_eq!(rt; map.remove_keep_tree(&net(&rt, "10.1.0.0/16")), Some(2));
+    assert!(rt; !map.is_leaf(&asked));
+    map.retain(|_, _| true);
+    assert!(rt; map.is_leaf(&asked));
+}
+
+#[test]
 fn ipv6_networks(rt: HostRuntime) {
     let mut map: PrefixMap<Ipv6Net, u32> = PrefixMap::new(rt.alloc()).expect(&rt, "a map");
     assert!(rt; map.insert(wide_net(&rt, "2001:db8::5/32"), 1).is_ok());

@@ -3,7 +3,7 @@ use Rattle.std.specs.Prelude.{Some, None, false, length, MatchOption, option_map
 use Rattle.std.specs.FinMap.{entries, entries_sorted}
 use Rattle.std.proofs.lemmas.Nat.{pow_pos}
 use Rattle.ipnet_blocks.specs.BitStrings.{begins}
-use Rattle.trie_keys.proofs.Shifts.{whole}
+use Rattle.ipnet_addr.proofs.Shifts.{whole}
 use Rattle.trie_core.specs.InnerWalks.{KeysWithin}
 use Rattle.trie_map.specs.Covered.{covered_count}
 use Rattle.trie_map.proofs.Covered.{IsCounting, start, skip_if, outside_if, add, full, done, count_most}
@@ -21,7 +21,7 @@ pub walk-preserved-then-is_inside : goal.walk-preserved-then-is_inside
 walk-preserved-then-is_inside g c =
     let bits = g.P.Prefix.bits in
     let w = g.P.R.Key.width in
-    let m = subst (λ k. MatchOption c.walk.last (c.is_inside.result ≡ false) (λ b. c.is_inside.result ≡ begins (bits b) k)) c.key_of-prefix.ensures.bits c.is_inside.ensures in
+    let m = subst (λ k. MatchOption c.walk.last (c.is_inside.result ≡ false) (λ b. c.is_inside.result ≡ begins (bits b) k)) c.prefix_of-prefix.ensures.bits c.is_inside.ensures in
     let i = subst (λ es. IsCounting w (covered_count w c.args.self.now.entries) c.walk.left (option_map bits c.walk.last) es) c.in-Some.ensures.steps c.walk.invariant.counting in
     record { counting = skip_if bits c.walk.last c.is_inside.result m c.if-is_inside.true i; last_fits = c.walk.invariant.last_fits }
 
@@ -30,7 +30,7 @@ returns-in_err-left g c =
     let bits = g.P.Prefix.bits in
     let w = g.P.R.Key.width in
     let t = covered_count w c.args.self.now.entries in
-    let m = subst (λ k. MatchOption c.walk.last (c.is_inside.result ≡ false) (λ b. c.is_inside.result ≡ begins (bits b) k)) c.key_of-prefix.ensures.bits c.is_inside.ensures in
+    let m = subst (λ k. MatchOption c.walk.last (c.is_inside.result ≡ false) (λ b. c.is_inside.result ≡ begins (bits b) k)) c.prefix_of-prefix.ensures.bits c.is_inside.ensures in
     let i = subst (λ es. IsCounting w t c.walk.left (option_map bits c.walk.last) es) c.in-Some.ensures.steps c.walk.invariant.counting in
     let o = outside_if bits c.in-Some.path c.walk.last c.is_inside.result m c.if-is_inside.false in
     let h : c.walk.left < 2 ^ (w - length c.in-Some.path) = subst (λ n. c.walk.left < 2 ^ n) ((λ j. c.width-width.ensures.value j - c.len.ensures j)) c.in_err-left.ensures in
@@ -41,11 +41,11 @@ walk-preserved g c =
     let bits = g.P.Prefix.bits in
     let w = g.P.R.Key.width in
     let t = covered_count w c.args.self.now.entries in
-    let m = subst (λ k. MatchOption c.walk.last (c.is_inside.result ≡ false) (λ b. c.is_inside.result ≡ begins (bits b) k)) c.key_of-prefix.ensures.bits c.is_inside.ensures in
+    let m = subst (λ k. MatchOption c.walk.last (c.is_inside.result ≡ false) (λ b. c.is_inside.result ≡ begins (bits b) k)) c.prefix_of-prefix.ensures.bits c.is_inside.ensures in
     let i = subst (λ es. IsCounting w t c.walk.left (option_map bits c.walk.last) es) c.in-Some.ensures.steps c.walk.invariant.counting in
     let o = outside_if bits c.in-Some.path c.walk.last c.is_inside.result m c.if-is_inside.false in
     let h : c.in_ok-left.left + 2 ^ (w - length c.in-Some.path) ≡ c.walk.left = subst (λ n. c.in_ok-left.left + 2 ^ n ≡ c.walk.left) ((λ j. c.width-width.ensures.value j - c.len.ensures j)) c.in_ok-left.ensures in
-    record { counting = subst (λ k. IsCounting w t c.in_ok-left.left (Some k) c.next.new.self.0) (sym c.key_of-prefix.ensures.bits) (add c.in_ok-left.left i o h); last_fits = c.key_of-prefix.ensures.fits }
+    record { counting = subst (λ k. IsCounting w t c.in_ok-left.left (Some k) c.next.new.self.0) (sym c.prefix_of-prefix.ensures.bits) (add c.in_ok-left.left i o h); last_fits = c.prefix_of-prefix.ensures.fits }
 
 pub overflow_sub-whole-2 : goal.overflow_sub-whole-2
 overflow_sub-whole-2 g c = omega (arith, whole g.P.R.Key.width c.width-width.result c.width-width.ensures.value c.width-width.ensures.within, c.walk.invariant.counting.below)

@@ -17,30 +17,30 @@ entry-init g c = record {
 }
 
 pub unreachable-requires : goal.unreachable-requires
-unreachable-requires g c = asked_stored _ c.in-Some.path _ c.entry.invariant.asked c.in-Some.is c.key_of-prefix.ensures.bits c.in_default-get.ensures
+unreachable-requires g c = asked_stored _ c.in-Some.path _ c.entry.invariant.asked c.in-Some.is c.prefix_of-prefix.ensures.bits c.in_default-get.ensures
 
 pub f-requires : goal.f-requires
-f-requires g c = asked_next _ (TakesAt g.F.FnMut g.P.Prefix.fits g.P.Prefix.bits g.P.Prefix.of_bits) c.in-Some.path _ c.in-Some-get.value.now c.requires c.entry.invariant.asked c.in-Some.is c.key_of-prefix.ensures.bits c.in-Some-get.ensures _ _ c.key_of-prefix.ensures.bits c.key_of-prefix.ensures.key c.key_of-prefix.ensures.fits refl
+f-requires g c = asked_next _ (TakesAt g.F.FnMut g.P.Prefix.fits g.P.Prefix.bits g.P.Prefix.of_bits) c.in-Some.path _ c.in-Some-get.value.now c.requires c.entry.invariant.asked c.in-Some.is c.prefix_of-prefix.ensures.bits c.in-Some-get.ensures _ _ c.prefix_of-prefix.ensures.bits c.prefix_of-prefix.ensures.key c.prefix_of-prefix.ensures.fits refl
 
 pub entry-smaller : goal.entry-smaller
 entry-smaller g c =
-    let bits = g.P.Prefix.bits c.key_of-prefix.result in
+    let bits = g.P.Prefix.bits c.prefix_of-prefix.result in
     let n = c.entry.self.entries in
-    let after : c.if-not-f.self.entries ≡ cond c.f.result c.entry.self.entries (remove c.entry.self.entries (g.P.Prefix.bits c.key_of-prefix.result)) = elim c.if-not-f.branch [
+    let after : c.if-not-f.self.entries ≡ cond c.f.result c.entry.self.entries (remove c.entry.self.entries (g.P.Prefix.bits c.prefix_of-prefix.result)) = elim c.if-not-f.branch [
       | then-not-f w ↦ ap (λ m. m.entries) w.self-is ∙ w.remove_keep_tree.ensures.map ∙ ap (λ b. cond b n (remove n bits)) (sym w.if-not-f.true)
       | else-not-f w ↦ ap (λ m. m.entries) w.self-is ∙ ap (λ b. cond b n (remove n bits)) (sym w.if-not-f.false)
     ] in
-    (asked_more _ c.in-Some.path bits c.in-Some-get.value.now c.f.result c.entry.invariant.asked c.in-Some.is c.key_of-prefix.ensures.bits c.in-Some-get.ensures (record { key = _; value = _; shows = (c.key_of-prefix.ensures.bits, c.key_of-prefix.ensures.key, c.key_of-prefix.ensures.fits, refl); called = c.f.ensures }) c.key_from-next-in-Some.ensures.key after).1
+    (asked_more _ c.in-Some.path bits c.in-Some-get.value.now c.f.result c.entry.invariant.asked c.in-Some.is c.prefix_of-prefix.ensures.bits c.in-Some-get.ensures (record { key = _; value = _; shows = (c.prefix_of-prefix.ensures.bits, c.prefix_of-prefix.ensures.key, c.prefix_of-prefix.ensures.fits, refl); called = c.f.ensures }) c.key_from-next-in-Some.ensures.key after).1
 
 pub entry-preserved : goal.entry-preserved
 entry-preserved g c =
-    let bits = g.P.Prefix.bits c.key_of-prefix.result in
+    let bits = g.P.Prefix.bits c.prefix_of-prefix.result in
     let n = c.entry.self.entries in
-    let after : c.if-not-f.self.entries ≡ cond c.f.result c.entry.self.entries (remove c.entry.self.entries (g.P.Prefix.bits c.key_of-prefix.result)) = elim c.if-not-f.branch [
+    let after : c.if-not-f.self.entries ≡ cond c.f.result c.entry.self.entries (remove c.entry.self.entries (g.P.Prefix.bits c.prefix_of-prefix.result)) = elim c.if-not-f.branch [
       | then-not-f w ↦ ap (λ m. m.entries) w.self-is ∙ w.remove_keep_tree.ensures.map ∙ ap (λ b. cond b n (remove n bits)) (sym w.if-not-f.true)
       | else-not-f w ↦ ap (λ m. m.entries) w.self-is ∙ ap (λ b. cond b n (remove n bits)) (sym w.if-not-f.false)
     ] in
     record {
       within = lengths _ _ _ c.key_from-next-in-Some.ensures.stored;
-      asked = (asked_more _ c.in-Some.path bits c.in-Some-get.value.now c.f.result c.entry.invariant.asked c.in-Some.is c.key_of-prefix.ensures.bits c.in-Some-get.ensures (record { key = _; value = _; shows = (c.key_of-prefix.ensures.bits, c.key_of-prefix.ensures.key, c.key_of-prefix.ensures.fits, refl); called = c.f.ensures }) c.key_from-next-in-Some.ensures.key after).0;
+      asked = (asked_more _ c.in-Some.path bits c.in-Some-get.value.now c.f.result c.entry.invariant.asked c.in-Some.is c.prefix_of-prefix.ensures.bits c.in-Some-get.ensures (record { key = _; value = _; shows = (c.prefix_of-prefix.ensures.bits, c.prefix_of-prefix.ensures.key, c.prefix_of-prefix.ensures.fits, refl); called = c.f.ensures }) c.key_from-next-in-Some.ensures.key after).0;
     }
