@@ -1,0 +1,144 @@
+-- The steps of the code that makes a plan.
+use Rattle.std.proofs.Common.{◌≡◌, ℕ, suc, ◌+◌, ◌-◌, ◌<◌, ◌≤◌, Bool, true, false, List, [], ◌∷◌, ◌++◌, length, take, drop, Option, Some, All, IsTrue, refl, sym, ap, ap₂, ◌∙◌, subst, arith, add-one, length-drop, slice_get}
+use Rattle.std.proofs.lemmas.List.{take-append-drop}
+use Rattle.ipnet_blocks.specs.BitStrings.{begins}
+use Rattle.least_table.specs.Tables.{half_of}
+use Rattle.least_table.specs.Pieces.{hop_at}
+use Rattle.least_table.specs.Trees.{Tree, Leaf, Fork, Skip, IsPlan, inner_of}
+use Rattle.least_table.specs.InnerPieces.{IsAscending, beyond, AllBegin, shared}
+use Rattle.least_table.specs.InnerRising.{IsRising}
+use Rattle.least_table.specs.InnerPlans.{plan_best, tree_of, IsFork, IsLifted, IsMade, between, Fits, AllFit}
+use Rattle.least_table.specs.declared.plan.Plan as code
+use Rattle.least_table.proofs.Cuts.{hop_at-low, hop_at-high, first_of_all}
+use Rattle.least_table.proofs.Growths.{best_of_tree, length_between}
+use Rattle.least_table.proofs.Shares.{AllShare, none_outside, hop_inside, all_share, shared_left, shared_right, shared_short, last_step, ascending_deeper}
+
+pub plan_same : (w : ℕ) (h g : List Bool → Option ℕ) (t : Tree) → ((x : List Bool) → h x ≡ g x) → IsPlan w g t → IsPlan w h t
+plan_same w h g (Leaf k) e plan = λ x l. e x ∙ plan x l
+plan_same w h g (Fork hops l r) e plan =
+    (plan.0, plan.1, plan.2, plan_same plan.0 (half_of false h) (half_of false g) l (λ x. e (false ∷ x)) plan.3, plan_same plan.0 (half_of true h) (half_of true g) r (λ x. e (true ∷ x)) plan.4)
+plan_same w h g (Skip k ds t) e plan =
+    (plan.0, plan.1, plan.2, (λ x l f. e x ∙ plan.3 x l f), plan_same plan.0 (inner_of ds h) (inner_of ds g) t (λ x. e (ds ++ x)) plan.4)
+
+pub fits_plan : (w : ℕ) (h : List Bool → Option ℕ) (t : Tree) → IsPlan w h t → Fits w t
+fits_plan w h (Leaf k) plan = tt
+fits_plan w h (Fork hops l r) plan = (plan.0, plan.1, fits_plan plan.0 (half_of false h) l plan.3, fits_plan plan.0 (half_of true h) r plan.4)
+fits_plan w h (Skip k ds t) plan = (plan.0, plan.1, plan.2.0, fits_plan plan.0 (inner_of ds h) t plan.4)
+
+module _ {B : Type 0} (string : B → List Bool) where
+  fork_plan : (v d : ℕ) (h : List Bool → Option ℕ) (low high p : code.Plan B) → IsFork low high p → IsPlan v (half_of false h) (tree_of string (suc d) low) → IsPlan v (half_of true h) (tree_of string (suc d) high) → IsPlan (suc v) h (tree_of string d p)
+  fork_plan v d h low high (code.Leaf k) f l r = absurd f
+  fork_plan v d h low high (code.Skip' q k b t) f l r = absurd f
+  fork_plan v d h low high (code.Fork' q hops x z) f l r =
+      (v, refl, rw (best_of_tree string (suc d) x, best_of_tree string (suc d) z, f.0, f.1) f.2, rw (f.0) l, rw (f.1) r)
+
+  pub tree_cut : (w d m : ℕ) (ps : List (B × ℕ)) (low high p : code.Plan B) → d < w → AllBegin false (beyond string d (take m ps)) → AllBegin true (beyond string d (drop m ps)) → IsFork low high p
+      → IsPlan (w - suc d) (hop_at (beyond string (suc d) (take m ps))) (tree_of string (suc d) low) → IsPlan (w - suc d) (hop_at (beyond string (suc d) (drop m ps))) (tree_of string (suc d) high) → IsPlan (w - d) (hop_at (beyond string d ps)) (tree_of string d p)
+  tree_cut w d m ps low high p i f g fork l r =
+      subst (λ v. IsPlan v (hop_at (beyond string d ps)) (tree_of string d p)) more
+      (fork_plan (w - suc d) d (hop_at (beyond string d ps)) low high p fork
+      (plan_same _ _ _ (tree_of string (suc d) low) at_low l)
+      (plan_same _ _ _ (tree_of string (suc d) high) at_high r))
+    where
+      more : suc (w - suc d) ≡ w - d
+      more = omega (arith, i)
+
+      at_low : (x : List Bool) → hop_at (beyond string d ps) (false ∷ x) ≡ hop_at (beyond string (suc d) (take m ps)) x
+      at_low x = ap (λ qs. hop_at (beyond string d qs) (false ∷ x)) (sym (take-append-drop m ps)) ∙ hop_at-low string d (take m ps) (drop m ps) f g x
+
+      at_high : (x : List Bool) → hop_at (beyond string d ps) (true ∷ x) ≡ hop_at (beyond string (suc d) (drop m ps)) x
+      at_high x = ap (λ qs. hop_at (beyond string d qs) (true ∷ x)) (sym (take-append-drop m ps)) ∙ hop_at-high string d (take m ps) (drop m ps) f g x
+
+  -- the plan of the pieces beyond their common bits, lifted, is the plan of the pieces
+  pub lift_plan : (fits : B → Bool) (w d c : ℕ) (first : B) (ps : List (B × ℕ)) (plan p : code.Plan B) → d ≤ c → c ≤ w → c ≤ length (string first) → AllShare (between d c (string first)) (beyond string d ps)
+      → IsLifted string fits first d c plan p → IsPlan (w - c) (hop_at (beyond string c ps)) (tree_of string c plan) → IsMade string fits w d ps p
+  lift_plan fits w d c first ps plan p i j k share lifted inner = record {
+    plans = subst (λ v. IsPlan v (hop_at (beyond string d ps)) (tree_of string d p)) whole
+        (lifted.plans (w - c) (hop_at (beyond string d ps)) (plan_same (w - c) _ (hop_at (beyond string c ps)) (tree_of string c plan) inside inner)
+        (λ x l e. none_outside string ds d ps share x e));
+    rising = lifted.rising;
+    fit = lifted.fit;
+  }
+    where
+      ds : List Bool
+      ds = between d c (string first)
+
+      long : length (between d c (string first)) ≡ c - d
+      long = length_between d c (string first) k i
+
+      deep : d + length (between d c (string first)) ≡ c
+      deep = omega (arith, long, i)
+
+      whole : length (between d c (string first)) + (w - c) ≡ w - d
+      whole = omega (arith, long, i, j)
+
+      inside : (x : List Bool) → hop_at (beyond string d ps) (between d c (string first) ++ x) ≡ hop_at (beyond string c ps) x
+      inside x = hop_inside string (between d c (string first)) d ps share x ∙ ap (λ n. hop_at (beyond string n ps) x) deep
+
+  -- all pieces share what the first and the last share
+  pub shares : (ps : List (B × ℕ)) (x y : B × ℕ) (d c : ℕ) → slice_get ps 0 ≡ Some x → slice_get ps (length ps - 1) ≡ Some y → c ≡ d + shared (drop d (string x.0)) (drop d (string y.0)) → IsAscending (beyond string d ps) → AllShare (between d c (string x.0)) (beyond string d ps)
+  shares [] x y d c e f g h = tt
+  shares (p ∷ ps) x y d c e f g h = subst (λ t. AllShare t (beyond string d (p ∷ ps))) (sym n) (go ps f h)
+    where
+      s : List Bool
+      s = drop d (string x.0)
+
+      one : p ≡ x
+      one = cc
+
+      n : between d c (string x.0) ≡ take (shared (drop d (string x.0)) (drop d (string y.0))) (drop d (string x.0))
+      n = let z : c - d ≡ shared (drop d (string x.0)) (drop d (string y.0)) = omega (arith, g) in ap (λ m. take m (drop d (string x.0))) z
+
+      here : begins (take (shared (drop d (string x.0)) (drop d (string y.0))) (drop d (string x.0))) (drop d (string p.0)) ≡ true
+      here = subst (λ q. begins (take (shared (drop d (string x.0)) (drop d (string y.0))) (drop d (string x.0))) (drop d (string q.0)) ≡ true) (sym one) (shared_left (drop d (string x.0)) (drop d (string y.0)))
+
+      go : (qs : List (B × ℕ)) → slice_get (p ∷ qs) (length (p ∷ qs) - 1) ≡ Some y → IsAscending (beyond string d (p ∷ qs)) → AllShare (take (shared (drop d (string x.0)) (drop d (string y.0))) (drop d (string x.0))) (beyond string d (p ∷ qs))
+      go [] f h = (here, tt)
+      go (q ∷ qs) f h = (here, all_share string _ d (drop d (string p.0)) (q ∷ qs) y h.0 h.1 (sym (last_step p q qs) ∙ f) here (shared_right (drop d (string x.0)) (drop d (string y.0))))
+
+  pub common_short : (s t : List Bool) (d c : ℕ) → c ≡ d + shared (drop d s) (drop d t) → d ≤ length s → c ≤ length s
+  common_short s t d c e i = omega (arith, e, i, shared_short (drop d s) (drop d t), length-drop d s)
+
+  pub deeper : (first : B) (ps : List (B × ℕ)) (d c : ℕ) → d ≤ c → c ≤ length (string first) → AllShare (between d c (string first)) (beyond string d ps) → IsAscending (beyond string d ps) → IsAscending (beyond string c ps)
+  deeper first ps d c i k share h =
+      let long = length_between d c (string first) k i in
+      let deep : d + length (between d c (string first)) ≡ c = omega (arith, long, i) in
+      subst (λ n. IsAscending (beyond string n ps)) deep (ascending_deeper string (between d c (string first)) d ps share h)
+
+  -- what the pieces have in common, from the facts of the calls
+  pub record Common (w d n : ℕ) (x : B) (ps : List (B × ℕ)) : Type 0 where
+    pub deep : d ≤ n
+    pub inside : n ≤ length (string x)
+    pub short : length (string x) ≤ w
+    pub share : AllShare (between d n (string x)) (beyond string d ps)
+
+  pub in_common : (fits : B → Bool) (w : ℕ) (ps : List (B × ℕ)) (x y : B × ℕ) (d n m : ℕ) (s t : List Bool) → All (λ p. IsTrue (fits p.0)) ps → IsAscending (beyond string d ps)
+      → slice_get ps 0 ≡ Some x → slice_get ps (length ps - 1) ≡ Some y → m ≡ length (string x.0) → (IsTrue (fits x.0) → m ≤ w) → d ≤ m → s ≡ string x.0 → t ≡ string y.0 → n ≡ d + shared (drop d s) (drop d t) → Common w d n x.0 ps
+  in_common fits w ps x y d n m s t f a i j k l o p q e =
+      let r : n ≡ d + shared (drop d (string x.0)) (drop d (string y.0)) = e ∙ ap₂ (λ u v. d + shared (drop d u) (drop d v)) p q in
+      record {
+        deep = omega (arith, r);
+        inside = common_short (string x.0) (string y.0) d n r (omega (arith, k, o));
+        short = omega (arith, k, l (first_of_all string (λ p. IsTrue (fits p.0)) ps x i f));
+        share = shares ps x y d n i j r a;
+      }
+
+  step : (fits : B → Bool) (w d : ℕ) (ps qs : List (B × ℕ)) (p : code.Plan B) → qs ≡ ps → IsMade string fits w (d + 1) qs p → IsPlan (w - suc d) (hop_at (beyond string (suc d) ps)) (tree_of string (suc d) p)
+  step fits w d ps qs p e m =
+      let f : d + 1 ≡ suc d = add-one d in
+      subst (λ n. IsPlan (w - n) (hop_at (beyond string n ps)) (tree_of string n p)) f (subst (λ rs. IsPlan (w - (d + 1)) (hop_at (beyond string (d + 1) rs)) (tree_of string (d + 1) p)) e m.plans)
+
+  -- the plan of the pieces, by those of the halves
+  pub halves_plan : (fits : B → Bool) (w d m : ℕ) (ps front back : List (B × ℕ)) (low high p : code.Plan B) → d < w → AllBegin false (beyond string d (take m ps)) → AllBegin true (beyond string d (drop m ps)) → IsFork low high p
+      → front ≡ take m ps → back ≡ drop m ps → IsMade string fits w (d + 1) front low → IsMade string fits w (d + 1) back high → IsPlan (w - d) (hop_at (beyond string d ps)) (tree_of string d p)
+  halves_plan fits w d m ps front back low high p i f g fork e z l r = tree_cut w d m ps low high p i f g fork (step fits w d (take m ps) front low e l) (step fits w d (drop m ps) back high z r)
+
+pub fork_rises : {B : Type 0} (low high p : code.Plan B) → IsFork low high p → IsRising (plan_best p)
+fork_rises low high (code.Leaf k) f = absurd f
+fork_rises low high (code.Skip' q k b t) f = absurd f
+fork_rises low high (code.Fork' q hops x z) f = f.3
+
+pub fork_fits : {B : Type 0} (fits : B → Bool) (low high p : code.Plan B) → IsFork low high p → AllFit fits low → AllFit fits high → AllFit fits p
+fork_fits fits low high (code.Leaf k) f l r = absurd f
+fork_fits fits low high (code.Skip' q k b t) f l r = absurd f
+fork_fits fits low high (code.Fork' q hops x z) f l r = (subst (λ t. AllFit fits t) (sym f.0) l, subst (λ t. AllFit fits t) (sym f.1) r)

@@ -1,0 +1,154 @@
+-- The pieces of a block, by the halves that they lie in.
+use Rattle.std.proofs.Common.{◌≡◌, ℕ, zero, suc, ◌+◌, ◌<◌, ◌≤◌, Bool, true, false, List, [], ◌∷◌, ◌++◌, length, take, drop, get_or, All, Some, None, refl, sym, ◌∙◌, subst, arith, add-one, length-drop, drop_of_length-le, slice_get}
+use Rattle.std.proofs.lemmas.List.Elements.{All-nil, All-cons, All-head}
+use Rattle.ipnet_blocks.specs.BitStrings.{begins}
+use Rattle.least_table.specs.Pieces.{hop_at}
+use Rattle.least_table.specs.Trees.{IsPlan, Leaf}
+use Rattle.least_table.specs.InnerPieces.{before, BeforeAll, IsAscending, beyond, AllBegin}
+
+-- a string from its bit at d on
+pub begins_at : (s : List Bool) (d : ℕ) (b : Bool) → d < length s → get_or s d false ≡ b → begins (b ∷ []) (drop d s) ≡ true
+begins_at [] d b l e = absurd (omega arith)
+begins_at (x ∷ s) zero true l e = rw e refl
+begins_at (x ∷ s) zero false l e = rw e refl
+begins_at (x ∷ s) (suc d) b l e = begins_at s d b (omega arith) e
+
+pub drop_begins : (s : List Bool) (d : ℕ) (b : Bool) → begins (b ∷ []) (drop d s) ≡ true → drop d s ≡ b ∷ drop (suc d) s
+drop_begins [] zero true h = cc
+drop_begins [] zero false h = cc
+drop_begins [] (suc d) true h = cc
+drop_begins [] (suc d) false h = cc
+drop_begins (true ∷ s) zero true h = refl
+drop_begins (true ∷ s) zero false h = cc
+drop_begins (false ∷ s) zero true h = cc
+drop_begins (false ∷ s) zero false h = refl
+drop_begins (x ∷ s) (suc d) b h = drop_begins s d b h
+
+pub begins_half : (a x : List Bool) (b : Bool) → begins (b ∷ a) (b ∷ x) ≡ begins a x
+begins_half a x true = refl
+begins_half a x false = refl
+
+pub before_half : (a c : List Bool) (b : Bool) → before (b ∷ a) (b ∷ c) ≡ before a c
+before_half a c true = refl
+before_half a c false = refl
+
+pub before_true : (a c : List Bool) → begins (true ∷ []) a ≡ true → before a c ≡ true → begins (true ∷ []) c ≡ true
+before_true [] c h k = cc
+before_true (true ∷ a) [] h k = cc
+before_true (true ∷ a) (true ∷ c) h k = refl
+before_true (true ∷ a) (false ∷ c) h k = cc
+before_true (false ∷ a) c h k = cc
+
+before_false : (a c : List Bool) → begins (false ∷ []) c ≡ true → before a c ≡ true → begins (false ∷ []) a ≡ true
+before_false [] c h k = cc
+before_false (x ∷ a) [] h k = cc
+before_false (false ∷ a) (y ∷ c) h k = refl
+before_false (true ∷ a) (true ∷ c) h k = cc
+before_false (true ∷ a) (false ∷ c) h k = cc
+
+pub before_long : (a c : List Bool) → before a c ≡ true → 0 < length c
+before_long [] c h = cc
+before_long (x ∷ a) [] h = cc
+before_long (x ∷ a) (y ∷ c) h = omega arith
+
+pub long_at : {B : Type 0} (string : B → List Bool) (d : ℕ) (ps : List (B × ℕ)) (i : ℕ) (x : B × ℕ) → All (λ p. d < length (string p.0)) ps → i < length ps → x ≡ get_or ps i x → d < length (string x.0)
+long_at string d ps i x h l e = subst (λ y. d < length (string y.0)) (sym e) (h i x l)
+
+module _ {B : Type 0} (string : B → List Bool) where
+  pub AllBegin-more : (b : Bool) (d : ℕ) (ps : List (B × ℕ)) (i : ℕ) (x : B × ℕ) → i < length ps → x ≡ get_or ps i x → d < length (string x.0) → get_or (string x.0) d false ≡ b
+      → AllBegin b (beyond string d (take i ps)) → AllBegin b (beyond string d (take (suc i) ps))
+  AllBegin-more b d [] i x l e f g h = absurd (omega arith)
+  AllBegin-more b d (p ∷ ps) zero x l e f g h = (begins_at (string p.0) d b (rw e at f) (rw e at g), tt)
+  AllBegin-more b d (p ∷ ps) (suc i) x l e f g h = (h.0, AllBegin-more b d ps i x (omega arith) e f g h.1)
+
+  after_true : (a : List Bool) (d : ℕ) (ps : List (B × ℕ)) → begins (true ∷ []) a ≡ true → BeforeAll a (beyond string d ps) → AllBegin true (beyond string d ps)
+  after_true a d [] h k = tt
+  after_true a d (p ∷ ps) h k = (before_true a _ h k.0, after_true a d ps h k.1)
+
+  pub AllBegin-rest : (d : ℕ) (ps : List (B × ℕ)) (i : ℕ) (x : B × ℕ) → i < length ps → x ≡ get_or ps i x → d < length (string x.0) → get_or (string x.0) d false ≡ true
+      → IsAscending (beyond string d ps) → AllBegin true (beyond string d (drop i ps))
+  AllBegin-rest d [] i x l e f g h = absurd (omega arith)
+  AllBegin-rest d (p ∷ ps) zero x l e f g h = let k = begins_at (string p.0) d true (rw e at f) (rw e at g) in (k, after_true (drop d (string p.0)) d ps k h.0)
+  AllBegin-rest d (p ∷ ps) (suc i) x l e f g h = AllBegin-rest d ps i x (omega arith) e f g h.1
+
+  -- the pieces before one in the lower half are there too
+  before_at : (a : List Bool) (d : ℕ) (ps : List (B × ℕ)) (i : ℕ) (x : B × ℕ) → i < length ps → x ≡ get_or ps i x → BeforeAll a (beyond string d ps) → before a (drop d (string x.0)) ≡ true
+  before_at a d [] i x l e h = absurd (omega arith)
+  before_at a d (p ∷ ps) zero x l e h = rw e h.0
+  before_at a d (p ∷ ps) (suc i) x l e h = before_at a d ps i x (omega arith) e h.1
+
+  pub AllBegin-up_to : (d : ℕ) (ps : List (B × ℕ)) (i : ℕ) (x : B × ℕ) → i < length ps → x ≡ get_or ps i x → begins (false ∷ []) (drop d (string x.0)) ≡ true
+      → IsAscending (beyond string d ps) → AllBegin false (beyond string d (take (suc i) ps))
+  AllBegin-up_to d [] i x l e f h = absurd (omega arith)
+  AllBegin-up_to d (p ∷ ps) zero x l e f h = (rw (← e) f, tt)
+  AllBegin-up_to d (p ∷ ps) (suc i) x l e f h = (before_false _ _ f (before_at (drop d (string p.0)) d ps i x (omega arith) e h.0), AllBegin-up_to d ps i x (omega arith) e f h.1)
+
+  -- the hops of the halves are those of the pieces in them
+  none_low : (d : ℕ) (rs : List (B × ℕ)) → AllBegin true (beyond string d rs) → (x : List Bool) → hop_at (beyond string d rs) (false ∷ x) ≡ None
+  none_low d [] h x = refl
+  none_low d (p ∷ rs) h x = rw (drop_begins (string p.0) d true h.0) (none_low d rs h.1 x)
+
+  pub hop_at-low : (d : ℕ) (ls rs : List (B × ℕ)) → AllBegin false (beyond string d ls) → AllBegin true (beyond string d rs) → (x : List Bool) → hop_at (beyond string d (ls ++ rs)) (false ∷ x) ≡ hop_at (beyond string (suc d) ls) x
+  hop_at-low d [] rs h k x = none_low d rs k x
+  hop_at-low d (p ∷ ls) rs h k x = rw (drop_begins (string p.0) d false h.0, hop_at-low d ls rs h.1 k x) refl
+
+  none_high : (d : ℕ) (rs : List (B × ℕ)) → AllBegin true (beyond string d rs) → (x : List Bool) → hop_at (beyond string d rs) (true ∷ x) ≡ hop_at (beyond string (suc d) rs) x
+  none_high d [] h x = refl
+  none_high d (p ∷ rs) h x = rw (drop_begins (string p.0) d true h.0, none_high d rs h.1 x) refl
+
+  pub hop_at-high : (d : ℕ) (ls rs : List (B × ℕ)) → AllBegin false (beyond string d ls) → AllBegin true (beyond string d rs) → (x : List Bool) → hop_at (beyond string d (ls ++ rs)) (true ∷ x) ≡ hop_at (beyond string (suc d) rs) x
+  hop_at-high d [] rs h k x = none_high d rs k x
+  hop_at-high d (p ∷ ls) rs h k x = rw (drop_begins (string p.0) d false h.0) (hop_at-high d ls rs h.1 k x)
+
+  -- parts of a list that ascends do
+  BeforeAll-take : (a : List Bool) (d m : ℕ) (ps : List (B × ℕ)) → BeforeAll a (beyond string d ps) → BeforeAll a (beyond string d (take m ps))
+  BeforeAll-take a d zero ps h = tt
+  BeforeAll-take a d (suc m) [] h = tt
+  BeforeAll-take a d (suc m) (p ∷ ps) h = (h.0, BeforeAll-take a d m ps h.1)
+
+  IsAscending-take : (d m : ℕ) (ps : List (B × ℕ)) → IsAscending (beyond string d ps) → IsAscending (beyond string d (take m ps))
+  IsAscending-take d zero ps h = tt
+  IsAscending-take d (suc m) [] h = tt
+  IsAscending-take d (suc m) (p ∷ ps) h = (BeforeAll-take _ d m ps h.0, IsAscending-take d m ps h.1)
+
+  IsAscending-drop : (d m : ℕ) (ps : List (B × ℕ)) → IsAscending (beyond string d ps) → IsAscending (beyond string d (drop m ps))
+  IsAscending-drop d zero ps h = h
+  IsAscending-drop d (suc m) [] h = tt
+  IsAscending-drop d (suc m) (p ∷ ps) h = IsAscending-drop d m ps h.1
+
+  BeforeAll-half : (s : List Bool) (d : ℕ) (b : Bool) (ps : List (B × ℕ)) → begins (b ∷ []) (drop d s) ≡ true → AllBegin b (beyond string d ps) → BeforeAll (drop d s) (beyond string d ps) → BeforeAll (drop (suc d) s) (beyond string (suc d) ps)
+  BeforeAll-half s d b [] e h k = tt
+  BeforeAll-half s d b (p ∷ ps) e h k =
+      (sym (rw (drop_begins s d b e, drop_begins (string p.0) d b h.0) (before_half (drop (suc d) s) (drop (suc d) (string p.0)) b)) ∙ k.0, BeforeAll-half s d b ps e h.1 k.1)
+
+  IsAscending-half : (d : ℕ) (b : Bool) (ps : List (B × ℕ)) → AllBegin b (beyond string d ps) → IsAscending (beyond string d ps) → IsAscending (beyond string (suc d) ps)
+  IsAscending-half d b [] h k = tt
+  IsAscending-half d b (p ∷ ps) h k = (BeforeAll-half (string p.0) d b ps h.0 h.1 k.0, IsAscending-half d b ps h.1 k.1)
+
+  pub IsAscending-low : (d m : ℕ) (ps : List (B × ℕ)) → AllBegin false (beyond string d (take m ps)) → IsAscending (beyond string d ps) → IsAscending (beyond string (d + 1) (take m ps))
+  IsAscending-low d m ps h k = rw add-one (IsAscending-half d false (take m ps) h (IsAscending-take d m ps k))
+
+  pub IsAscending-high : (d m : ℕ) (ps : List (B × ℕ)) → AllBegin true (beyond string d (drop m ps)) → IsAscending (beyond string d ps) → IsAscending (beyond string (d + 1) (drop m ps))
+  IsAscending-high d m ps h k = rw add-one (IsAscending-half d true (drop m ps) h (IsAscending-drop d m ps k))
+
+  -- all strings are longer than d where the first one is
+  all_long : (a : List Bool) (d : ℕ) (ps : List (B × ℕ)) → BeforeAll a (beyond string d ps) → All (λ q. d < length (string q.0)) ps
+  all_long a d [] h = All-nil (λ q. d < length (string q.0))
+  all_long a d (p ∷ ps) h = All-cons (λ q. d < length (string q.0)) p ps (omega (arith, before_long a _ h.0, length-drop d (string p.0))) (all_long a d ps h.1)
+
+  pub long_by_first : (d : ℕ) (ps : List (B × ℕ)) (x : B × ℕ) → slice_get ps 0 ≡ Some x → d < length (string x.0) → IsAscending (beyond string d ps) → All (λ q. d < length (string q.0)) ps
+  long_by_first d [] x e f h = cc
+  long_by_first d (p ∷ ps) x e f h = let g : p ≡ x = cc in All-cons (λ q. d < length (string q.0)) p ps (rw g f) (all_long _ d ps h.0)
+
+  pub first_of_all : (P : B × ℕ → Type 0) (ps : List (B × ℕ)) (x : B × ℕ) → slice_get ps 0 ≡ Some x → All P ps → P x
+  first_of_all P [] x e h = cc
+  first_of_all P (p ∷ ps) x e h = let g : p ≡ x = cc in rw (← g) (All-head P p ps h)
+
+  -- the plans of the leaves
+  pub plan_empty : (w d : ℕ) (ps : List (B × ℕ)) → slice_get ps 0 ≡ None → IsPlan w (hop_at (beyond string d ps)) (Leaf None)
+  plan_empty w d [] e x l = refl
+  plan_empty w d (p ∷ ps) e x l = cc
+
+  pub plan_one : (w d : ℕ) (ps : List (B × ℕ)) (x : B × ℕ) → slice_get ps 0 ≡ Some x → length (string x.0) ≤ d → IsPlan w (hop_at (beyond string d ps)) (Leaf (Some x.1))
+  plan_one w d [] x e f y l = cc
+  plan_one w d (p ∷ ps) x e f y l = let g : p ≡ x = cc in rw (drop_of_length-le (string p.0) {i = d} (rw g f)) (rw g refl)

@@ -1,0 +1,15 @@
+pub mod Split
+pub mod Halves
+pub mod Sets
+pub mod Cuts
+pub mod Chains
+pub mod Risings
+pub mod Stores
+pub mod Growths
+pub mod GrownStores
+pub mod Shares
+pub mod Builds
+pub mod Orders
+pub mod Disjoint
+pub mod PathBits
+pub mod Apart

@@ -1,0 +1,99 @@
+-- The bits of a path, one by one.
+use Rattle.std.proofs.Common.{◌≡◌, ℕ, zero, suc, ◌+◌, ◌-◌, ◌/◌, ◌%◌, ◌==◌, ◌^◌, ◌<◌, ◌≤◌, Bool, true, false, List, [], ◌∷◌, ◌++◌, length, take, drop, slice_index_or, refl, sym, ap, ◌∙◌, arith, inl, inr, nat_lt, drop_of_length-le}
+use Rattle.std.proofs.lemmas.Bool.{ltb-true, ltb-false, cases_Bool}
+use Rattle.std.proofs.lemmas.Nat.{shr-shr}
+use Rattle.ipnet_blocks.specs.Blocks.{digits}
+use Rattle.ipnet_blocks.proofs.Strings.{length-digits}
+use Rattle.trie_core.specs.Prefixes.{prefix_bits}
+use Rattle.least_table.specs.InnerPieces.{shared}
+
+at_front : (s : List Bool) (b : Bool) (i : ℕ) → i < length s → slice_index_or (s ++ b ∷ []) i false ≡ slice_index_or s i false
+at_front [] b i l = absurd (omega (arith, l))
+at_front (x ∷ s) b zero l = refl
+at_front (x ∷ s) b (suc i) l = at_front s b i (omega (arith, l))
+
+at_end : (s : List Bool) (b : Bool) (i : ℕ) → i ≡ length s → slice_index_or (s ++ b ∷ []) i false ≡ b
+at_end [] b zero e = refl
+at_end [] b (suc i) e = cc
+at_end (x ∷ s) b zero e = cc
+at_end (x ∷ s) b (suc i) e = at_end s b i (omega (arith, e))
+
+bit_of_digits : (n q i : ℕ) → i < n → slice_index_or (digits n q) i false ≡ (q / 2 ^ (n - 1 - i) % 2 == 1)
+bit_of_digits zero q i l = absurd (omega (arith, l))
+bit_of_digits (suc n) q i l = elim (cases_Bool (nat_lt i n)) [
+  | inl e ↦
+      (let m : i < n = ltb-true _ _ e in
+      let k : 1 + (n - 1 - i) ≡ suc n - 1 - i = omega (arith, m) in
+      at_front (digits n (q / 2)) (q % 2 == 1) i (omega (arith, m, length-digits n (q / 2))) ∙ bit_of_digits n (q / 2) i m ∙ ap (λ x. x % 2 == 1) (shr-shr q 1 (n - 1 - i) ∙ ap (λ j. q / 2 ^ j) k))
+  | inr e ↦
+      (let m : i ≡ n = omega (arith, l, ltb-false _ _ e) in
+      let k : suc n - 1 - i ≡ 0 = omega (arith, m) in
+      let z : q / 1 ≡ q = omega arith in
+      at_end (digits n (q / 2)) (q % 2 == 1) i (m ∙ sym (length-digits n (q / 2))) ∙ sym (ap (λ j. q / 2 ^ j % 2 == 1) k ∙ ap (λ x. x % 2 == 1) z))
+]
+
+-- the bits of a string at the top of 128 bits
+pub bit_at_top : (r i : ℕ) (s : List Bool) → prefix_bits 128 r (length s) ≡ s → i < length s → length s ≤ 128 → (r / 2 ^ (127 - i) % 2 == 1) ≡ slice_index_or s i false
+bit_at_top r i s e l m =
+    let n = length s in
+    let k : 128 - length s + (length s - 1 - i) ≡ 127 - i = omega (arith, l, m) in
+    sym (ap (λ t. slice_index_or t i false) (sym e) ∙ bit_of_digits n (r / 2 ^ (128 - n)) i l ∙ ap (λ x. x % 2 == 1) (shr-shr r (128 - n) (n - 1 - i) ∙ ap (λ j. r / 2 ^ j) k))
+
+-- ---- what two strings have in common
+
+pub shared_more : (s t : List Bool) (n : ℕ) → n < length s → n < length t → slice_index_or s n false ≡ slice_index_or t n false → shared (drop n s) (drop n t) ≡ suc (shared (drop (suc n) s) (drop (suc n) t))
+shared_more [] t n l m e = absurd (omega (arith, l))
+shared_more (x ∷ s) [] n l m e = absurd (omega (arith, m))
+shared_more (x ∷ s) (y ∷ t) (suc n) l m e = shared_more s t n (omega (arith, l)) (omega (arith, m)) e
+shared_more (true ∷ s) (true ∷ t) zero l m e = refl
+shared_more (false ∷ s) (false ∷ t) zero l m e = refl
+shared_more (true ∷ s) (false ∷ t) zero l m e = cc
+shared_more (false ∷ s) (true ∷ t) zero l m e = cc
+
+pub shared_apart : (s t : List Bool) (n : ℕ) → n < length s → n < length t → (slice_index_or s n false ≡ slice_index_or t n false → ⊥) → shared (drop n s) (drop n t) ≡ 0
+shared_apart [] t n l m e = absurd (omega (arith, l))
+shared_apart (x ∷ s) [] n l m e = absurd (omega (arith, m))
+shared_apart (x ∷ s) (y ∷ t) (suc n) l m e = shared_apart s t n (omega (arith, l)) (omega (arith, m)) e
+shared_apart (true ∷ s) (true ∷ t) zero l m e = absurd (e refl)
+shared_apart (false ∷ s) (false ∷ t) zero l m e = absurd (e refl)
+shared_apart (true ∷ s) (false ∷ t) zero l m e = refl
+shared_apart (false ∷ s) (true ∷ t) zero l m e = refl
+
+shared_nothing : (s : List Bool) → shared s [] ≡ 0
+shared_nothing [] = refl
+shared_nothing (x ∷ s) = refl
+
+pub shared_end : (s t : List Bool) (n : ℕ) → length s ≤ n → shared (drop n s) (drop n t) ≡ 0
+shared_end s t n l = rw (drop_of_length-le s {i = n} l) refl
+
+pub shared_other_end : (s t : List Bool) (n : ℕ) → length t ≤ n → shared (drop n s) (drop n t) ≡ 0
+shared_other_end s t n l = rw (drop_of_length-le t {i = n} l) (shared_nothing (drop n s))
+
+-- ---- the bits of the one after those of the other
+
+pub take_more : (s : List Bool) (d i : ℕ) → d ≤ i → i < length s → take (i - d) (drop d s) ++ slice_index_or s i false ∷ [] ≡ take (suc i - d) (drop d s)
+take_more [] d i l m = absurd (omega (arith, m))
+take_more (x ∷ s) zero zero l m = refl
+take_more (x ∷ s) zero (suc i) l m =
+    let e : suc i - 0 ≡ suc (i - 0) = omega arith in let f : suc (suc i) - 0 ≡ suc (suc i - 0) = omega arith in
+    rw (e, f) (ap (λ t. x ∷ t) (take_more s zero i (omega arith) (omega (arith, m))))
+take_more (x ∷ s) (suc d) zero l m = absurd (omega (arith, l))
+take_more (x ∷ s) (suc d) (suc i) l m =
+    let e : suc i - suc d ≡ i - d = omega arith in let f : suc (suc i) - suc d ≡ suc i - d = omega arith in
+    rw (e, f) (take_more s d i (omega (arith, l)) (omega (arith, m)))
+
+pub take_rest : (s : List Bool) (d i : ℕ) → length s ≤ i → take (i - d) (drop d s) ≡ drop d s
+take_rest [] zero i l = nothing (i - 0)
+  where
+    nothing : (n : ℕ) → take {A = Bool} n [] ≡ []
+    nothing zero = refl
+    nothing (suc n) = refl
+take_rest [] (suc d) i l = nothing (i - suc d)
+  where
+    nothing : (n : ℕ) → take {A = Bool} n [] ≡ []
+    nothing zero = refl
+    nothing (suc n) = refl
+take_rest (x ∷ s) zero zero l = absurd (omega (arith, l))
+take_rest (x ∷ s) zero (suc i) l = let e : suc i - 0 ≡ suc (i - 0) = omega arith in rw e (ap (λ t. x ∷ t) (take_rest s zero i (omega (arith, l))))
+take_rest (x ∷ s) (suc d) zero l = absurd (omega (arith, l))
+take_rest (x ∷ s) (suc d) (suc i) l = let e : suc i - suc d ≡ i - d = omega arith in rw e (take_rest s d i (omega (arith, l)))

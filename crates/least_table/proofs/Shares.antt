@@ -1,0 +1,126 @@
+-- Pieces whose strings have their first bits in common.
+use Rattle.std.proofs.Common.{◌≡◌, ℕ, zero, suc, ◌+◌, ◌-◌, ◌≤◌, Bool, true, false, List, [], ◌∷◌, ◌++◌, length, take, drop, Some, None, refl, sym, ap, ap₂, ◌∙◌, subst, arith, slice_get}
+use Rattle.std.specs.Prelude.{⊤}
+use Rattle.ipnet_blocks.specs.BitStrings.{begins}
+use Rattle.least_table.specs.Pieces.{hop_at}
+use Rattle.least_table.specs.InnerPieces.{before, BeforeAll, IsAscending, beyond, shared}
+use Rattle.least_table.proofs.Cuts.{begins_half, before_half}
+
+-- what lies between two blocks that begin with these bits begins with them
+pub share : (ds a b z : List Bool) → before a b ≡ true → before b z ≡ true → begins ds a ≡ true → begins ds z ≡ true → begins ds b ≡ true
+share [] a b z e f g h = refl
+share (x ∷ ds) [] b z e f g h = cc
+share (x ∷ ds) (u ∷ a) [] z e f g h = cc
+share (x ∷ ds) (u ∷ a) (v ∷ b) [] e f g h = cc
+share (true ∷ ds) (true ∷ a) (true ∷ b) (true ∷ z) e f g h = share ds a b z e f g h
+share (false ∷ ds) (false ∷ a) (false ∷ b) (false ∷ z) e f g h = share ds a b z e f g h
+share (true ∷ ds) (false ∷ a) (v ∷ b) (w ∷ z) e f g h = cc
+share (false ∷ ds) (true ∷ a) (v ∷ b) (w ∷ z) e f g h = cc
+share (true ∷ ds) (true ∷ a) (v ∷ b) (false ∷ z) e f g h = cc
+share (false ∷ ds) (false ∷ a) (v ∷ b) (true ∷ z) e f g h = cc
+share (true ∷ ds) (true ∷ a) (false ∷ b) (true ∷ z) e f g h = cc
+share (false ∷ ds) (false ∷ a) (true ∷ b) (false ∷ z) e f g h = cc
+
+pub shared_left : (s t : List Bool) → begins (take (shared s t) s) s ≡ true
+shared_left [] t = refl
+shared_left (x ∷ s) [] = refl
+shared_left (true ∷ s) (true ∷ t) = shared_left s t
+shared_left (false ∷ s) (false ∷ t) = shared_left s t
+shared_left (true ∷ s) (false ∷ t) = refl
+shared_left (false ∷ s) (true ∷ t) = refl
+
+pub shared_right : (s t : List Bool) → begins (take (shared s t) s) t ≡ true
+shared_right [] t = refl
+shared_right (x ∷ s) [] = refl
+shared_right (true ∷ s) (true ∷ t) = shared_right s t
+shared_right (false ∷ s) (false ∷ t) = shared_right s t
+shared_right (true ∷ s) (false ∷ t) = refl
+shared_right (false ∷ s) (true ∷ t) = refl
+
+pub shared_short : (s t : List Bool) → shared s t ≤ length s
+shared_short [] t = omega arith
+shared_short (x ∷ s) [] = omega arith
+shared_short (true ∷ s) (true ∷ t) = omega (arith, shared_short s t)
+shared_short (false ∷ s) (false ∷ t) = omega (arith, shared_short s t)
+shared_short (true ∷ s) (false ∷ t) = omega arith
+shared_short (false ∷ s) (true ∷ t) = omega arith
+
+-- every piece begins with these bits
+abbrev pub AllShare : List Bool → List (List Bool × ℕ) → Type 0
+AllShare ds [] = ⊤
+AllShare ds (p ∷ ps) = (begins ds p.0 ≡ true) × AllShare ds ps
+
+begins_parts : (ds t : List Bool) → begins ds t ≡ true → t ≡ ds ++ drop (length ds) t
+begins_parts [] t e = refl
+begins_parts (x ∷ ds) [] e = cc
+begins_parts (true ∷ ds) (true ∷ t) e = ap (λ u. true ∷ u) (begins_parts ds t e)
+begins_parts (false ∷ ds) (false ∷ t) e = ap (λ u. false ∷ u) (begins_parts ds t e)
+begins_parts (true ∷ ds) (false ∷ t) e = cc
+begins_parts (false ∷ ds) (true ∷ t) e = cc
+
+drop_more : (s : List Bool) (d n : ℕ) → drop n (drop d s) ≡ drop (d + n) s
+drop_more s zero n = let e : 0 + n ≡ n = omega arith in rw e refl
+drop_more [] (suc d) n = nothing n (suc d + n)
+  where
+    nothing : (m k : ℕ) → drop {A = Bool} m [] ≡ drop k []
+    nothing zero zero = refl
+    nothing zero (suc k) = refl
+    nothing (suc m) zero = refl
+    nothing (suc m) (suc k) = refl
+drop_more (x ∷ s) (suc d) n = let e : suc d + n ≡ suc (d + n) = omega arith in rw e (drop_more s d n)
+
+begins_append : (ds r x : List Bool) → begins (ds ++ r) (ds ++ x) ≡ begins r x
+begins_append [] r x = refl
+begins_append (b ∷ ds) r x = begins_half (ds ++ r) (ds ++ x) b ∙ begins_append ds r x
+
+before_append : (ds a b : List Bool) → before (ds ++ a) (ds ++ b) ≡ before a b
+before_append [] a b = refl
+before_append (x ∷ ds) a b = before_half (ds ++ a) (ds ++ b) x ∙ before_append ds a b
+
+begins_less : (ds r x : List Bool) → begins ds x ≡ false → begins (ds ++ r) x ≡ false
+begins_less [] r x e = cc
+begins_less (b ∷ ds) r [] e = refl
+begins_less (true ∷ ds) r (true ∷ x) e = begins_less ds r x e
+begins_less (false ∷ ds) r (false ∷ x) e = begins_less ds r x e
+begins_less (true ∷ ds) r (false ∷ x) e = refl
+begins_less (false ∷ ds) r (true ∷ x) e = refl
+
+pub last_step : {X : Type 0} (p q : X) (ps : List X) → slice_get (p ∷ q ∷ ps) (length (p ∷ q ∷ ps) - 1) ≡ slice_get (q ∷ ps) (length (q ∷ ps) - 1)
+last_step p q ps = let z : suc (suc (length ps)) - 1 ≡ suc (suc (length ps) - 1) = omega arith in ap (λ n. slice_get (p ∷ q ∷ ps) n) z
+
+module _ {B : Type 0} (string : B → List Bool) (ds : List Bool) (d : ℕ) where
+  parts : (s : List Bool) → begins ds (drop d s) ≡ true → drop d s ≡ ds ++ drop (d + length ds) s
+  parts s e = begins_parts ds (drop d s) e ∙ ap (λ t. ds ++ t) (drop_more s d (length ds))
+
+  -- no hop outside
+  pub none_outside : (ps : List (B × ℕ)) → AllShare ds (beyond string d ps) → (x : List Bool) → begins ds x ≡ false → hop_at (beyond string d ps) x ≡ None
+  none_outside [] h x e = refl
+  none_outside (p ∷ ps) h x e = rw (parts (string p.0) h.0, begins_less ds (drop (d + length ds) (string p.0)) x e) (none_outside ps h.1 x e)
+
+  -- and inside those of the pieces without these bits
+  pub hop_inside : (ps : List (B × ℕ)) → AllShare ds (beyond string d ps) → (x : List Bool) → hop_at (beyond string d ps) (ds ++ x) ≡ hop_at (beyond string (d + length ds) ps) x
+  hop_inside [] h x = refl
+  hop_inside (p ∷ ps) h x = rw (parts (string p.0) h.0, begins_append ds (drop (d + length ds) (string p.0)) x, hop_inside ps h.1 x) refl
+
+  before_all_deeper : (s : List Bool) (ps : List (B × ℕ)) → begins ds (drop d s) ≡ true → AllShare ds (beyond string d ps) → BeforeAll (drop d s) (beyond string d ps) → BeforeAll (drop (d + length ds) s) (beyond string (d + length ds) ps)
+  before_all_deeper s [] e h k = tt
+  before_all_deeper s (p ∷ ps) e h k =
+      (sym (before_append ds (drop (d + length ds) s) (drop (d + length ds) (string p.0))) ∙ sym (ap₂ before (parts s e) (parts (string p.0) h.0)) ∙ k.0, before_all_deeper s ps e h.1 k.1)
+
+  pub ascending_deeper : (ps : List (B × ℕ)) → AllShare ds (beyond string d ps) → IsAscending (beyond string d ps) → IsAscending (beyond string (d + length ds) ps)
+  ascending_deeper [] h k = tt
+  ascending_deeper (p ∷ ps) h k = (before_all_deeper (string p.0) ps h.0 h.1 k.0, ascending_deeper ps h.1 k.1)
+
+  last_before : (a : List Bool) (ps : List (B × ℕ)) (x : B × ℕ) → BeforeAll a (beyond string d ps) → slice_get ps (length ps - 1) ≡ Some x → before a (drop d (string x.0)) ≡ true
+  last_before a [] x h e = cc
+  last_before a (p ∷ []) x h e = let f : p ≡ x = cc in subst (λ q. before a (drop d (string q.0)) ≡ true) f h.0
+  last_before a (p ∷ q ∷ ps) x h e = last_before a (q ∷ ps) x h.1 (sym (last_step p q ps) ∙ e)
+
+  -- all pieces begin with what the first and the last begin with
+  pub all_share : (a : List Bool) (ps : List (B × ℕ)) (x : B × ℕ) → BeforeAll a (beyond string d ps) → IsAscending (beyond string d ps) → slice_get ps (length ps - 1) ≡ Some x → begins ds a ≡ true → begins ds (drop d (string x.0)) ≡ true → AllShare ds (beyond string d ps)
+  all_share a [] x h k e f g = tt
+  all_share a (p ∷ []) x h k e f g = let q : p ≡ x = cc in (subst (λ r. begins ds (drop d (string r.0)) ≡ true) (sym q) g, tt)
+  all_share a (p ∷ q ∷ ps) x h k e f g =
+      let rest : slice_get (q ∷ ps) (length (q ∷ ps) - 1) ≡ Some x = sym (last_step p q ps) ∙ e in
+      let here : begins ds (drop d (string p.0)) ≡ true = share ds a (drop d (string p.0)) (drop d (string x.0)) h.0 (last_before (drop d (string p.0)) (q ∷ ps) x k.0 rest) f g in
+      (here, all_share (drop d (string p.0)) (q ∷ ps) x k.0 k.1 rest here g)

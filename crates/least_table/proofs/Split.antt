@@ -1,0 +1,170 @@
+-- A table as the routes at the empty block and the tables of the two halves.
+use Rattle.std.proofs.Common.{◌≡◌, ℕ, suc, ◌+◌, Bool, true, false, cond, List, [], ◌∷◌, ◌++◌, length, nat_lt, Option, Some, None, refl, ap, ◌∙◌, arith, inl, inr, length-append}
+use Rattle.std.proofs.lemmas.Bool.{ltb-true, ltb-false, lt-ltb, le-ltb, cases_Bool}
+use Rattle.ipnet_blocks.specs.BitStrings.{begins}
+use Rattle.least_table.specs.Tables.{Absent, IsTable, longer, longest, hop_of, hop_under}
+use Rattle.least_table.specs.Trees.{inside}
+
+-- the routes inside the half that begins with b, with that bit left out
+abbrev pub half : List (List Bool × Option ℕ) → Bool → List (List Bool × Option ℕ)
+half [] b = []
+half (([], k) ∷ t) b = half t b
+half ((false ∷ c, k) ∷ t) false = (c, k) ∷ half t false
+half ((false ∷ c, k) ∷ t) true = half t true
+half ((true ∷ c, k) ∷ t) false = half t false
+half ((true ∷ c, k) ∷ t) true = (c, k) ∷ half t true
+
+-- what stands at the empty block
+abbrev pub own : List (List Bool × Option ℕ) → Option (Option ℕ)
+own [] = None
+own (([], k) ∷ t) = Some k
+own ((b ∷ c, k) ∷ t) = own t
+
+-- what t's own route hands down, and s where it has none
+abbrev pub passed : Option ℕ → Option (Option ℕ) → Option ℕ
+passed s None = s
+passed s (Some k) = k
+
+-- how many routes stand at the empty block
+abbrev pub own_count : List (List Bool × Option ℕ) → ℕ
+own_count [] = 0
+own_count (([], k) ∷ t) = suc (own_count t)
+own_count ((b ∷ c, k) ∷ t) = own_count t
+
+abbrev pub lifted : Bool → Option (Option ℕ) → Option (List Bool × Option ℕ) → Option (List Bool × Option ℕ)
+lifted b o (Some r) = Some (b ∷ r.0, r.1)
+lifted b (Some k) None = Some ([], k)
+lifted b None None = None
+
+-- a route at the empty block gives way to any longer one
+longer_own : (b : Bool) (k : Option ℕ) (o : Option (Option ℕ)) (m : Option (List Bool × Option ℕ)) → longer ([], k) (lifted b o m) ≡ lifted b (Some k) m
+longer_own b k None None = refl
+longer_own b k (Some j) None = refl
+longer_own b k o (Some r) = let e : nat_lt 0 (suc (length r.0)) ≡ true = lt-ltb _ _ (omega arith) in rw e refl
+
+-- one more bit changes no comparison
+longer_half : (b : Bool) (c : List Bool) (k : Option ℕ) (o : Option (Option ℕ)) (m : Option (List Bool × Option ℕ)) → longer (b ∷ c, k) (lifted b o m) ≡ lifted b o (longer (c, k) m)
+longer_half b c k None None = refl
+longer_half b c k (Some j) None = let e : nat_lt (suc (length c)) 0 ≡ false = le-ltb _ _ (omega arith) in rw e refl
+longer_half b c k o (Some r) =
+    elim (cases_Bool (nat_lt (length c) (length r.0))) [
+      | inl e ↦ (let f : nat_lt (suc (length c)) (suc (length r.0)) ≡ true = lt-ltb _ _ (omega (arith, ltb-true _ _ e)) in rw (e, f) refl)
+      | inr e ↦ (let f : nat_lt (suc (length c)) (suc (length r.0)) ≡ false = le-ltb _ _ (omega (arith, ltb-false _ _ e)) in rw (e, f) refl)
+    ]
+
+cond_lifted : (b : Bool) (o : Option (Option ℕ)) (v : Bool) (m n : Option (List Bool × Option ℕ)) → cond v (lifted b o m) (lifted b o n) ≡ lifted b o (cond v m n)
+cond_lifted b o true m n = refl
+cond_lifted b o false m n = refl
+
+pub longest-half : (t : List (List Bool × Option ℕ)) (b : Bool) (x : List Bool) → longest t (b ∷ x) ≡ lifted b (own t) (longest (half t b) x)
+longest-half [] b x = refl
+longest-half (([], k) ∷ t) b x = rw (longest-half t b x) (longer_own b k (own t) (longest (half t b) x))
+longest-half ((false ∷ c, k) ∷ t) false x = rw (longest-half t false x, longer_half false c k (own t) (longest (half t false) x)) (cond_lifted false (own t) (begins c x) _ _)
+longest-half ((false ∷ c, k) ∷ t) true x = longest-half t true x
+longest-half ((true ∷ c, k) ∷ t) false x = longest-half t false x
+longest-half ((true ∷ c, k) ∷ t) true x = rw (longest-half t true x, longer_half true c k (own t) (longest (half t true) x)) (cond_lifted true (own t) (begins c x) _ _)
+
+hop_of-lifted : (s : Option ℕ) (b : Bool) (o : Option (Option ℕ)) (m : Option (List Bool × Option ℕ)) → hop_of s (lifted b o m) ≡ hop_of (passed s o) m
+hop_of-lifted s b None None = refl
+hop_of-lifted s b (Some k) None = refl
+hop_of-lifted s b o (Some r) = refl
+
+-- the hop of an address is its hop in its half, under what the table's own route hands down
+pub hop-half : (s : Option ℕ) (t : List (List Bool × Option ℕ)) (b : Bool) (x : List Bool) → hop_under s t (b ∷ x) ≡ hop_under (passed s (own t)) (half t b) x
+hop-half s t b x = ap (hop_of s) (longest-half t b x) ∙ hop_of-lifted s b (own t) (longest (half t b) x)
+
+-- only an own route holds the empty address
+pub longest-empty : (t : List (List Bool × Option ℕ)) → (own_count t ≡ 0) → longest t [] ≡ None
+longest-empty [] h = refl
+longest-empty (([], k) ∷ t) h = absurd (omega (arith, h))
+longest-empty ((b ∷ c, k) ∷ t) h = longest-empty t h
+
+pub own-none : (t : List (List Bool × Option ℕ)) → own_count t ≡ 0 → own t ≡ None
+own-none [] h = refl
+own-none (([], k) ∷ t) h = absurd (omega (arith, h))
+own-none ((b ∷ c, k) ∷ t) h = own-none t h
+
+-- every route is an own one, or in one half
+pub length-halves : (t : List (List Bool × Option ℕ)) → length t ≡ own_count t + length (half t false) + length (half t true)
+length-halves [] = refl
+length-halves (([], k) ∷ t) = omega (arith, length-halves t)
+length-halves ((false ∷ c, k) ∷ t) = omega (arith, length-halves t)
+length-halves ((true ∷ c, k) ∷ t) = omega (arith, length-halves t)
+
+Absent-half : (t : List (List Bool × Option ℕ)) (b : Bool) (c : List Bool) → Absent (b ∷ c) t → Absent c (half t b)
+Absent-half [] b c h = tt
+Absent-half (([], k) ∷ t) b c h = Absent-half t b c h.1
+Absent-half ((false ∷ d, k) ∷ t) false c h = ((λ e. h.0 (ap (λ y. false ∷ y) e)), Absent-half t false c h.1)
+Absent-half ((false ∷ d, k) ∷ t) true c h = Absent-half t true c h.1
+Absent-half ((true ∷ d, k) ∷ t) false c h = Absent-half t false c h.1
+Absent-half ((true ∷ d, k) ∷ t) true c h = ((λ e. h.0 (ap (λ y. true ∷ y) e)), Absent-half t true c h.1)
+
+pub IsTable-half : (w : ℕ) (t : List (List Bool × Option ℕ)) (b : Bool) → IsTable (suc w) t → IsTable w (half t b)
+IsTable-half w [] b h = tt
+IsTable-half w (([], k) ∷ t) b h = IsTable-half w t b h.2
+IsTable-half w ((false ∷ c, k) ∷ t) false h = (omega (arith, h.0), Absent-half t false c h.1, IsTable-half w t false h.2)
+IsTable-half w ((false ∷ c, k) ∷ t) true h = IsTable-half w t true h.2
+IsTable-half w ((true ∷ c, k) ∷ t) false h = IsTable-half w t false h.2
+IsTable-half w ((true ∷ c, k) ∷ t) true h = (omega (arith, h.0), Absent-half t true c h.1, IsTable-half w t true h.2)
+
+-- what is made of the own routes and the tables of the halves
+abbrev pub joined : List (List Bool × Option ℕ) → List (List Bool × Option ℕ) → List (List Bool × Option ℕ)
+joined l r = inside false l ++ inside true r
+
+half-joined_false : (l r : List (List Bool × Option ℕ)) → half (joined l r) false ≡ l
+half-joined_false [] [] = refl
+half-joined_false [] (q ∷ r) = half-joined_false [] r
+half-joined_false (q ∷ l) r = ap (λ y. q ∷ y) (half-joined_false l r)
+
+half-joined_true : (l r : List (List Bool × Option ℕ)) → half (joined l r) true ≡ r
+half-joined_true [] [] = refl
+half-joined_true [] (q ∷ r) = ap (λ y. q ∷ y) (half-joined_true [] r)
+half-joined_true (q ∷ l) r = half-joined_true l r
+
+pub half-joined : (l r : List (List Bool × Option ℕ)) (b : Bool) → half (joined l r) b ≡ cond b r l
+half-joined l r true = half-joined_true l r
+half-joined l r false = half-joined_false l r
+
+pub own_count-joined : (l r : List (List Bool × Option ℕ)) → own_count (joined l r) ≡ 0
+own_count-joined [] [] = refl
+own_count-joined [] (q ∷ r) = own_count-joined [] r
+own_count-joined (q ∷ l) r = own_count-joined l r
+
+Absent-inside : (b : Bool) (c : List Bool) (t : List (List Bool × Option ℕ)) → Absent c t → Absent (b ∷ c) (inside b t)
+Absent-inside b c [] h = tt
+Absent-inside b c (r ∷ t) h = ((λ e. h.0 (cc)), Absent-inside b c t h.1)
+
+Absent-other : (c : List Bool) (t : List (List Bool × Option ℕ)) → Absent (false ∷ c) (inside true t)
+Absent-other c [] = tt
+Absent-other c (r ∷ t) = ((λ e. cc), Absent-other c t)
+
+Absent-append : (b : List Bool) (t u : List (List Bool × Option ℕ)) → Absent b t → Absent b u → Absent b (t ++ u)
+Absent-append b [] u h k = k
+Absent-append b (r ∷ t) u h k = (h.0, Absent-append b t u h.1 k)
+
+Absent-own : (b : Bool) (t : List (List Bool × Option ℕ)) → Absent [] (inside b t)
+Absent-own b [] = tt
+Absent-own b (r ∷ t) = ((λ e. cc), Absent-own b t)
+
+IsTable-inside : (w : ℕ) (b : Bool) (t : List (List Bool × Option ℕ)) → IsTable w t → IsTable (suc w) (inside b t)
+IsTable-inside w b [] h = tt
+IsTable-inside w b (r ∷ t) h = (omega (arith, h.0), Absent-inside b r.0 t h.1, IsTable-inside w b t h.2)
+
+pub IsTable-joined : (w : ℕ) (l r : List (List Bool × Option ℕ)) → IsTable w l → IsTable w r → IsTable (suc w) (joined l r)
+IsTable-joined w [] r h k = IsTable-inside w true r k
+IsTable-joined w (q ∷ l) r h k = (omega (arith, h.0), Absent-append _ (inside false l) (inside true r) (Absent-inside false q.0 l h.1) (Absent-other q.0 r), IsTable-joined w l r h.2 k)
+
+pub Absent-joined : (l r : List (List Bool × Option ℕ)) → Absent [] (joined l r)
+Absent-joined l r = Absent-append [] (inside false l) (inside true r) (Absent-own false l) (Absent-own true r)
+
+pub own_count-absent : (t : List (List Bool × Option ℕ)) → Absent [] t → own_count t ≡ 0
+own_count-absent [] h = refl
+own_count-absent (([], k) ∷ t) h = absurd (h.0 refl)
+own_count-absent ((b ∷ c, k) ∷ t) h = own_count-absent t h.1
+
+length-inside : (b : Bool) (t : List (List Bool × Option ℕ)) → length (inside b t) ≡ length t
+length-inside b [] = refl
+length-inside b (r ∷ t) = ap suc (length-inside b t)
+
+pub length-joined : (l r : List (List Bool × Option ℕ)) → length (joined l r) ≡ length l + length r
+length-joined l r = omega (arith, length-append (inside false l) (inside true r), length-inside false l, length-inside true r)

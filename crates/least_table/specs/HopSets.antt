@@ -1,0 +1,36 @@
+-- The hops that a block is best handed.
+use Rattle.std.specs.Prelude.{◌≡◌, ℕ, ◌+◌, Bool, true, false, cond, ◌&&◌, ◌||◌, ◌==◌, List, [], ◌∷◌, Option, Some, None}
+use Rattle.std.specs.List.{list_any}
+use Rattle.least_table.specs.Tables.{IsFewest}
+
+abbrev pub same_hop : Option ℕ → Option ℕ → Bool
+same_hop None None = true
+same_hop (Some j) (Some k) = j == k
+same_hop None (Some k) = false
+same_hop (Some j) None = false
+
+-- k is one of the hops
+abbrev pub holds : List (Option ℕ) → Option ℕ → Bool
+holds ks k = list_any (λ j. same_hop k j) ks
+
+-- the two lists have a hop in common
+abbrev pub meets : List (Option ℕ) → List (Option ℕ) → Bool
+meets as' bs = list_any (λ k. holds bs k) as'
+
+-- cs are the common hops of the two lists; those of either where they have none in common
+abbrev pub AreMerged : List (Option ℕ) → List (Option ℕ) → List (Option ℕ) → Type 0
+AreMerged as' bs cs = (k : Option ℕ) → holds cs k ≡ cond (meets as' bs) (holds as' k && holds bs k) (holds as' k || holds bs k)
+
+-- the first of the hops; none where there is none
+abbrev pub first_of : List (Option ℕ) → Option ℕ
+first_of [] = None
+first_of (k ∷ ks) = k
+
+-- nothing for a hop that is among the best, and one route for any other
+abbrev pub fee : Bool → ℕ
+fee b = cond b 0 1
+
+-- what a block of w free bits needs: m routes where one of these hops is handed down, and one more under any other hop or none
+pub record AreBest (w : ℕ) (h : List Bool → Option ℕ) (hops : List (Option ℕ)) (m : ℕ) : Type 0 where
+  pub some : (k : Option ℕ) × (holds hops k ≡ true)
+  pub needs : (s : Option ℕ) → IsFewest w h s (m + fee (holds hops s))

@@ -1,0 +1,40 @@
+-- Pieces by the bits after a depth, and how they ascend.
+use Rattle.std.specs.Prelude.{◌≡◌, ℕ, suc, Bool, true, false, List, [], ◌∷◌, map, drop, ⊤}
+use Rattle.ipnet_blocks.specs.BitStrings.{begins}
+
+-- all addresses of a come before all addresses of b: where the strings part, a has a 0 and b has a 1
+abbrev pub before : List Bool → List Bool → Bool
+before [] b = false
+before (x ∷ a) [] = false
+before (false ∷ a) (false ∷ b) = before a b
+before (false ∷ a) (true ∷ b) = true
+before (true ∷ a) (false ∷ b) = false
+before (true ∷ a) (true ∷ b) = before a b
+
+-- all addresses of a come before those of each piece
+abbrev pub BeforeAll : List Bool → List (List Bool × ℕ) → Type 0
+BeforeAll a [] = ⊤
+BeforeAll a (p ∷ ps) = (before a p.0 ≡ true) × BeforeAll a ps
+
+-- the pieces are disjoint and ascend
+abbrev pub IsAscending : List (List Bool × ℕ) → Type 0
+IsAscending [] = ⊤
+IsAscending (p ∷ ps) = BeforeAll p.0 ps × IsAscending ps
+
+-- the pieces, their first n bits left out
+abbrev pub beyond : {B : Type 0} → (B → List Bool) → ℕ → List (B × ℕ) → List (List Bool × ℕ)
+beyond string n ps = map (λ p. (drop n (string p.0), p.1)) ps
+
+-- every piece begins with the bit b
+abbrev pub AllBegin : Bool → List (List Bool × ℕ) → Type 0
+AllBegin b [] = ⊤
+AllBegin b (p ∷ ps) = (begins (b ∷ []) p.0 ≡ true) × AllBegin b ps
+
+-- how many bits two strings have in common before they part
+abbrev pub shared : List Bool → List Bool → ℕ
+shared [] t = 0
+shared (x ∷ s) [] = 0
+shared (false ∷ s) (false ∷ t) = suc (shared s t)
+shared (true ∷ s) (true ∷ t) = suc (shared s t)
+shared (false ∷ s) (true ∷ t) = 0
+shared (true ∷ s) (false ∷ t) = 0

@@ -1,0 +1,10 @@
+pub mod Tables
+pub mod Pieces
+pub mod HopSets
+pub mod Trees
+pub mod Laws
+pub mod InnerHops
+pub mod InnerPieces
+pub mod InnerRising
+pub mod InnerOrders
+pub mod InnerPlans

@@ -1,0 +1,175 @@
+//! Sets of hops: lists that rise, no hop first and then by number.
+ghost use Rattle.std.specs.Prelude.{◌≡◌, ◌∷◌, [], IfOk};
+ghost use Rattle.least_table.specs.HopSets.{same_hop, holds, first_of, AreMerged};
+ghost use Rattle.least_table.specs.InnerHops.{members};
+ghost use Rattle.least_table.specs.InnerRising.{is_less, IsRising, AreCommon, AreAll};
+
+use std::alloc::{AllocError, Global};
+use std::slice;
+
+/// A set of hops. One or two hops take no memory but their own.
+#[derive(Drop)]
+pub(crate) enum Hops {
+    /// The set of one hop.
+    One(Option<u32>),
+    /// The set of two.
+    Two([Option<u32>; 2]),
+    /// The set of these.
+    Many(Vec<Option<u32>>),
+}
+
+impl Hops {
+    /// The set of these hops.
+    pub(crate) fn new(hops: Vec<Option<u32>>) -> Hops
+        ensures { members result ≡ hops.items }
+    {
+        match hops.as_slice() {
+            [hop] => Hops::One(*hop),
+            [first, second] => Hops::Two([*first, *second]),
+            _ => Hops::Many(hops),
+        }
+    }
+
+    /// The hops, rising.
+    pub(crate) fn as_slice(&self) -> &[Option<u32>]
+        ensures { result.now ≡ members self.now }
+    {
+        match self {
+            Hops::One(hop) => slice::from_ref(hop),
+            Hops::Two(hops) => hops,
+            Hops::Many(hops) => hops.as_slice(),
+        }
+    }
+}
+
+/// Whether two hops are one.
+pub(crate) fn is_same(a: Option<u32>, b: Option<u32>) -> bool
+    ensures { result ≡ same_hop a b }
+{
+    match (a, b) {
+        (None, None) => true,
+        (Some(a), Some(b)) => a == b,
+        _ => false,
+    }
+}
+
+/// The first of the hops; none where there is none.
+pub(crate) fn first(hops: &[Option<u32>]) -> Option<u32>
+    ensures { result ≡ first_of hops.now }
+{
+    match hops {
+        [hop, ..] => *hop,
+        [] => None,
+    }
+}
+
+/// Whether the hop is one of them.
+pub(crate) fn is_among(hops: &[Option<u32>], hop: Option<u32>) -> bool
+    ensures { result ≡ holds hops.now hop }
+{
+    hops.iter().any(|other| is_same(hop, *other))
+}
+
+/// Whether the one hop stands before the other.
+fn is_less(a: Option<u32>, b: Option<u32>) -> bool
+    ensures { result ≡ is_less a b }
+{
+    match (a, b) {
+        (None, Some(_)) => true,
+        (Some(a), Some(b)) => a < b,
+        _ => false,
+    }
+}
+
+/// The hops that both lists have.
+fn common(
+    alloc: Global,
+    low: &[Option<u32>],
+    high: &[Option<u32>],
+) -> Result<Vec<Option<u32>>, AllocError>
+    requires low_rises { IsRising low.now }
+    requires high_rises { IsRising high.now }
+    ensures { IfOk result (λ hops. AreCommon low.now high.now hops.items) }
+{
+    let mut out: Vec<Option<u32>> = Vec::new(alloc);
+    let mut a = low;
+    let mut b = high;
+    while let ([x, more_a @ ..], [y, more_b @ ..]) = (a, b) {
+        if is_less(*x, *y) {
+            a = more_a;
+        } else if is_less(*y, *x) {
+            b = more_b;
+        } else {
+            out.push(*x)?;
+            a = more_a;
+            b = more_b;
+        }
+    }
+    Ok(out)
+}
+
+/// The hops that either list has.
+fn all(
+    alloc: Global,
+    low: &[Option<u32>],
+    high: &[Option<u32>],
+) -> Result<Vec<Option<u32>>, AllocError>
+    requires low_rises { IsRising low.now }
+    requires high_rises { IsRising high.now }
+    ensures { IfOk result (λ hops. AreAll low.now high.now hops.items) }
+{
+    let mut out: Vec<Option<u32>> = Vec::new(alloc);
+    let mut a = low;
+    let mut b = high;
+    while let ([x, more_a @ ..], [y, more_b @ ..]) = (a, b) {
+        if is_less(*x, *y) {
+            out.push(*x)?;
+            a = more_a;
+        } else if is_less(*y, *x) {
+            out.push(*y)?;
+            b = more_b;
+        } else {
+            out.push(*x)?;
+            a = more_a;
+            b = more_b;
+        }
+    }
+    out.extend_from_slice(a)?;
+    out.extend_from_slice(b)?;
+    Ok(out)
+}
+
+/// The one hop that both are, or both.
+fn pair(a: Option<u32>, b: Option<u32>) -> Hops
+    ensures merged { AreMerged (a ∷ []) (b ∷ []) (members result) }
+    ensures rising { IsRising (members result) }
+{
+    if is_less(a, b) {
+        Hops::Two([a, b])
+    } else if is_less(b, a) {
+        Hops::Two([b, a])
+    } else {
+        Hops::One(a)
+    }
+}
+
+/// The common hops, or those of either where they have none in common.
+pub(crate) fn merge(
+    alloc: Global,
+    low: &[Option<u32>],
+    high: &[Option<u32>],
+) -> Result<Hops, AllocError>
+    requires low_rises { IsRising low.now }
+    requires high_rises { IsRising high.now }
+    ensures merged { IfOk result (λ hops. AreMerged low.now high.now (members hops)) }
+    ensures rising { IfOk result (λ hops. IsRising (members hops)) }
+{
+    if let ([a], [b]) = (low, high) {
+        return Ok(pair(*a, *b));
+    }
+    let shared = common(alloc, low, high)?;
+    if !shared.is_empty() {
+        return Ok(Hops::new(shared));
+    }
+    Ok(Hops::new(all(alloc, low, high)?))
+}

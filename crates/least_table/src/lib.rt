@@ -1,0 +1,12 @@
+//! Shortest tables: the fewest routes, nested ones and `drop` included, that give each address its hop.
+#![tactic(auto)]
+
+mod bits;
+mod hops;
+pub mod laws;
+mod plan;
+mod shortest;
+#[cfg(test)]
+mod tests;
+
+pub use shortest::least;
