@@ -1,0 +1,4 @@
+pub mod Kept
+pub mod Preferences
+pub mod ChoiceLists
+pub mod Places

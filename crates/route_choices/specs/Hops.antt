@@ -1,0 +1,12 @@
+-- Where addresses go: the numbers of hops.
+use Rattle.std.specs.Prelude.{ℕ, ◌<◌, ◌^◌, Option, Some, None}
+use Rattle.route_choices.specs.declared.hop.Hop.{Hop}
+use Rattle.route_choices.specs.declared.hop.Hop.TheVariants.{Number, Drop}
+
+abbrev pub IsHop : Hop → Type 0
+IsHop (Number k) = k < 2 ^ 32
+IsHop Drop = Unit {0}
+
+abbrev pub number_of : Hop → Option ℕ
+number_of (Number k) = Some k
+number_of Drop = None

@@ -1,0 +1,5 @@
+pub mod Hops
+pub mod Choices
+pub mod Items
+pub mod InnerPacked
+pub mod Laws
