@@ -12,11 +12,12 @@ use Rattle.ipnet_blocks.proofs.BlockTests.{test_from_same}
 use Rattle.ipnet_blocks.proofs.Parents.{larger_is_shorter, decide_inside}
 use Rattle.ipnet_blocks.proofs.Maximals.{host_is_block, in_host, has_host}
 use Rattle.ipnet_blocks.proofs.Unions.{maximal_same, maximal_none}
+use Rattle.route_choices.specs.Hops.{IsHop, number_of}
+use Rattle.route_choices.proofs.Kept.{In-from_filter, In-filter, Rising-kept}
 use Rattle.route_table.specs.Changes.{same_number}
-use Rattle.route_table.specs.Tables.{Route, IsTable, IsHop, match_of, match_number, number_of, hop_at, is_stored, Changed, Governed, with_route, without_block}
+use Rattle.route_table.specs.Tables.{Route, IsTable, match_of, match_number, hop_at, is_stored, Changed, Governed, with_route, without_block}
 use Rattle.route_table.proofs.Changes.{same_from_test, same_itself}
-use Rattle.route_table.proofs.Matches.{In-from_filter, In-filter, block_in, no_match, match_meets, match_from, governed_match}
-use Rattle.route_table.proofs.Kept.{Rising-kept}
+use Rattle.route_table.proofs.Matches.{block_in, no_match, match_meets, match_from, governed_match}
 use Rattle.route_table.proofs.Ordered.{same_or_not}
 use Rattle.route_table.proofs.Updates.{Sooner, added_back, added_itself, added_other, added_is_table, left_back, left_other, left_is_table}
 use Rattle.ipnet_addr.proofs.Basics.{list_any-from_In}

@@ -17,7 +17,8 @@ use Rattle.trie_core.specs.Nodes.{BitMap}
 use Rattle.trie_core.specs.Search.{NoBeginning}
 use Rattle.trie_core.proofs.Strings.{bits_total, bits_same}
 use Rattle.trie_map.specs.Maps.{IsLongestKey}
-use Rattle.route_table.specs.Choices.{Choice, best_hop, best_preference}
+use Rattle.route_choices.specs.Choices.{Choice, best_hop, best_preference}
+use Rattle.route_choices.proofs.Kept.{all_kept, filter_map_swap}
 use Rattle.route_table.specs.Networks.{Stored, best_route, choices_at, routes_of}
 use Rattle.route_table.specs.Tables.{match_of, item_of}
 use Rattle.route_table.specs.Tries.{map_of}
@@ -25,7 +26,6 @@ use Rattle.route_table.specs.InnerSides.{IsStored, block_at, stored_at, stored_i
 use Rattle.route_table.specs.Onwards.{count_of}
 use Rattle.ipnet_addr.proofs.Families.{test_from_family}
 use Rattle.route_table.proofs.Searches.{no_match_at, match_at}
-use Rattle.route_table.proofs.Kept.{all_kept, filter_map_swap}
 use Rattle.route_table.proofs.Networks.{at_member, at_none}
 use Rattle.route_table.proofs.Seams.{has_stored, in_side, is_side}
 use Rattle.route_table.proofs.Strings.{string_of_block, block_at_is_block}

@@ -6,15 +6,16 @@ use Rattle.ipnet_addr.proofs.Ascending.{In-from_Contains, Contains-from_In, In-f
 use Rattle.ipnet_blocks.specs.Blocks.{Block, IsBlock, HasAddress}
 use Rattle.ipnet_blocks.specs.Maximal.{IsMaximal, maximal_of}
 use Rattle.ipnet_blocks.proofs.BlockLaws.{numbers_from_inside}
+use Rattle.route_choices.specs.Hops.{IsHop, number_of}
+use Rattle.route_choices.specs.Choices.{Choice, AreChoices, best, best_hop}
+use Rattle.route_choices.proofs.Kept.{map_In}
 use Rattle.route_table.specs.Changes.{changed}
-use Rattle.route_table.specs.Tables.{Route, IsTable, IsHop, match_of, match_number, number_of, hop_at, Changed, Governed, with_route}
+use Rattle.route_table.specs.Tables.{Route, IsTable, match_of, match_number, hop_at, Changed, Governed, with_route}
 use Rattle.route_table.proofs.Alterations.{changed_by_add, changed_by_del, blocks_of_add, blocks_of_del}
 use Rattle.route_table.proofs.Matches.{block_in, match_from}
 use Rattle.route_table.proofs.OneHop.{added_lines, left_lines}
 use Rattle.route_table.proofs.Updates.{added_itself, added_is_table}
-use Rattle.route_table.specs.Choices.{Choice, AreChoices, best, best_hop}
 use Rattle.route_table.specs.Networks.{Stored, IsStoredTable, best_route, routes_of, choices_at, with_choices}
-use Rattle.route_table.proofs.Kept.{map_In}
 use Rattle.route_table.proofs.Networks.{routes_with, routes_without, routes_are_table, at_some, same_best}
 
 -- a route is the match of its own block

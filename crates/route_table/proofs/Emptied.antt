@@ -6,7 +6,7 @@ use Rattle.ipnet_blocks.specs.BitStrings.{begins}
 use Rattle.trie_core.proofs.Strings.{bits_same}
 use Rattle.trie_core.specs.Inside.{outside}
 use Rattle.trie_core.specs.Nodes.{BitMap}
-use Rattle.route_table.specs.Choices.{Choice}
+use Rattle.route_choices.specs.Choices.{Choice}
 use Rattle.route_table.specs.InnerSides.{IsStored, stored_in}
 use Rattle.route_table.specs.Networks.{Stored, IsStoredTable, networks_outside}
 use Rattle.route_table.proofs.Overwritten.{networks_placed, outside_is_stored as part_is_stored, outside_back, outside_other}

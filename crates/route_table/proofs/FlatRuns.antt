@@ -15,12 +15,12 @@ use Rattle.ipnet_blocks.proofs.Aggregates.{InSpans, cuts_are_maximal}
 use Rattle.ipnet_blocks.proofs.BlockLaws.{has_first}
 use Rattle.ipnet_blocks.proofs.Lists.{rising_append}
 use Rattle.ipnet_blocks.proofs.Unions.{IsFarBefore, maximal_join, maximal_same}
+use Rattle.route_choices.proofs.Kept.{In-filter, In-from_filter}
 use Rattle.route_table.specs.Flats.{Piece, IsFlat, blocks_of, flat_of}
 use Rattle.route_table.specs.InnerFlattening.{piece_of}
 use Rattle.route_table.proofs.Flats.{Sooner, In-map, In-map_back, same_flat, maximal_same as block_same}
 use Rattle.std.proofs.lemmas.Option.{none-some}
 use Rattle.route_table.proofs.FlatSearch.{search_is_flat}
-use Rattle.route_table.proofs.Matches.{In-filter, In-from_filter}
 use Rattle.route_table.proofs.Own.{own_is_maximal}
 
 in_pieces : (k : ℕ) (b : Block) (bs : List Block) → In b bs → In (piece_of k b) (map (piece_of k) bs)

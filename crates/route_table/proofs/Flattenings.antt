@@ -15,7 +15,8 @@ use Rattle.ipnet_addr.proofs.Members.{In, In-left, In-right, In-cases}
 use Rattle.ipnet_addr.proofs.Ascending.{In-from_All, All-from_In, Rising-from_pairs, pairs_from_Rising}
 use Rattle.ipnet_blocks.specs.Blocks.{Block, IsBlock}
 use Rattle.ipnet_blocks.proofs.Lists.{rising_front}
-use Rattle.route_table.specs.Tables.{Route, IsTable, IsHop, hop_at}
+use Rattle.route_choices.specs.Hops.{IsHop}
+use Rattle.route_table.specs.Tables.{Route, IsTable, hop_at}
 use Rattle.route_table.specs.declared.flat.Pieces.{Pieces}
 use Rattle.route_table.specs.Flats.{Piece, IsFlat, flat_of}
 use Rattle.route_table.specs.InnerFlattening.{piece_of, pieces_of, pieces_left, hops_in, hops_of, AreBoth}

@@ -15,10 +15,10 @@ use Rattle.ipnet_blocks.proofs.Maximals.{member_is_address}
 use Rattle.ipnet_blocks.proofs.Netmasks.{block_is_interval}
 use Rattle.ipnet_blocks.proofs.Parents.{larger_is_shorter}
 use Rattle.ipnet_blocks.proofs.Unions.{maximal_same}
+use Rattle.route_choices.proofs.Kept.{In-from_filter, In-filter, Rising-kept}
 use Rattle.route_table.specs.Tables.{Route, IsTable, Governed, routes_inside}
 use Rattle.route_table.specs.InnerGoverning.{gap_before, gaps, blocks_of_spans}
-use Rattle.route_table.proofs.Matches.{In-from_filter, In-filter, block_in, inside_from_test, test_from_inside}
-use Rattle.route_table.proofs.Kept.{Rising-kept}
+use Rattle.route_table.proofs.Matches.{block_in, inside_from_test, test_from_inside}
 use Rattle.route_table.proofs.Updates.{Sooner}
 
 abbrev FirstsRise : Route → Route → Type 0

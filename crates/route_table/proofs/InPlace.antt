@@ -3,7 +3,7 @@ use Rattle.std.proofs.Common.{◌≡◌, Bool, List, [], Some, sym, ap, ◌∙�
 use Rattle.std.specs.FinMap.{get, insert}
 use Rattle.ipnet_blocks.specs.Blocks.{Block, IsBlock, bit_string}
 use Rattle.trie_core.specs.Nodes.{BitMap}
-use Rattle.route_table.specs.Choices.{Choice, AreChoices}
+use Rattle.route_choices.specs.Choices.{Choice, AreChoices}
 use Rattle.route_table.specs.InnerSides.{IsStored, stored_in}
 use Rattle.route_table.specs.Networks.{Stored, choices_at, with_choices}
 use Rattle.route_table.proofs.Networks.{put_same}

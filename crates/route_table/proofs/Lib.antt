@@ -1,9 +1,5 @@
 pub mod Matches
-pub mod Kept
 pub mod Ordered
-pub mod Preferences
-pub mod ChoiceLists
-pub mod Places
 pub mod Networks
 pub mod ChoiceChanges
 pub mod Updates
@@ -15,9 +11,11 @@ pub mod Changes
 pub mod OneHop
 pub mod Strings
 pub mod Entries
+pub mod Room
 pub mod Seams
 pub mod Searches
 pub mod Stores
+pub mod Looks
 pub mod Calls
 pub mod InPlace
 pub mod Walked
@@ -26,6 +24,7 @@ pub mod Gaps
 pub mod Governings
 pub mod Alterations
 pub mod Sides
+pub mod Leaves
 pub mod Overwritten
 pub mod Emptied
 pub mod Halves
@@ -40,5 +39,11 @@ pub mod Flattenings
 pub mod Owned
 pub mod FlatBounds
 pub mod Rebuilds
+pub mod Listed
 pub mod Held
 pub mod OneRoute
+pub mod Insides
+pub mod Fewest
+pub mod Families
+pub mod FlatPieces
+pub mod LeastBits

@@ -1,5 +1,5 @@
 -- What the longest match is.
-use Rattle.std.proofs.Common.{◌≡◌, ◌<◌, ◌≤◌, ◌-◌, ◌/◌, ◌^◌, ◌⊎◌, inl, inr, ⊎_elim, Bool, true, false, cond, nat_lt, List, [], ◌∷◌, filter, Option, Some, None, MatchOption, refl, sym, ap, ◌∙◌, subst, arith}
+use Rattle.std.proofs.Common.{◌≡◌, ◌<◌, ◌≤◌, ◌-◌, ◌/◌, ◌^◌, inl, inr, ⊎_elim, Bool, true, false, cond, nat_lt, List, [], ◌∷◌, filter, Option, Some, None, MatchOption, refl, sym, ap, ◌∙◌, subst, arith}
 use Rattle.std.proofs.lemmas.Bool.Decides.{nat_tests}
 use Rattle.ipnet_addr.specs.Addresses.{Address, IsAddress, width}
 use Rattle.ipnet_blocks.specs.Blocks.{Block, IsBlock, free_bits, HasAddress, IsInside, IsBefore, is_inside, host, first_of}
@@ -8,30 +8,8 @@ use Rattle.ipnet_addr.proofs.Ascending.{In-from_Contains, Contains-from_In, In-f
 use Rattle.ipnet_blocks.proofs.BlockLaws.{block_path, nested, has_first, strict, inside_by_numbers}
 use Rattle.ipnet_blocks.proofs.Parents.{decide_inside}
 use Rattle.ipnet_blocks.proofs.Maximals.{host_is_block, in_host, has_host}
+use Rattle.route_choices.proofs.Kept.{In-from_filter, In-filter}
 use Rattle.route_table.specs.Tables.{Route, IsTable, IsMatch, covering, longer, longest, match_of, Governed}
-
-module _ {A : Type 0} (p : A → Bool) where
-  In-filter_cons : (c : Bool) (a b : A) (xs : List A) → In b (cond c (a ∷ xs) xs) → (In b xs) ⊎ ((c ≡ true) × (b ≡ a))
-  In-filter_cons true a b xs i = ⊎_elim (λ e. inr (refl, e)) (λ j. inl j) i
-  In-filter_cons false a b xs i = inl i
-
-  cons_in-filter : (c : Bool) (a b : A) (xs : List A) → In b xs → In b (cond c (a ∷ xs) xs)
-  cons_in-filter true a b xs i = inr i
-  cons_in-filter false a b xs i = i
-
-  head_in-filter : (c : Bool) (a b : A) (xs : List A) → c ≡ true → b ≡ a → In b (cond c (a ∷ xs) xs)
-  head_in-filter true a b xs e q = inl q
-  head_in-filter false a b xs e q = absurd (cc)
-
-  pub In-from_filter : (xs : List A) (b : A) → In b (filter p xs) → In b xs × (p b ≡ true)
-  In-from_filter [] b i = absurd i
-  In-from_filter (a ∷ xs) b i =
-      ⊎_elim (λ j. let t = In-from_filter xs b j in (inr t.0, t.1)) (λ t. (inl t.1, ap p t.1 ∙ t.0)) (In-filter_cons (p a) a b (filter p xs) i)
-
-  pub In-filter : (xs : List A) (b : A) → In b xs → p b ≡ true → In b (filter p xs)
-  In-filter [] b i e = absurd i
-  In-filter (a ∷ xs) b i e =
-      ⊎_elim (λ q. head_in-filter (p a) a b (filter p xs) (sym (ap p q) ∙ e) q) (λ j. cons_in-filter (p a) a b (filter p xs) (In-filter xs b j e)) i
 
 pub filter_same : {A : Type 0} (p q : A → Bool) (xs : List A) → ((a : A) → In a xs → p a ≡ q a) → filter p xs ≡ filter q xs
 filter_same p q [] h = refl

@@ -5,15 +5,16 @@ use Rattle.ipnet_addr.proofs.Ascending.{In-from_All, All-from_In, Rising, Rising
 use Rattle.ipnet_blocks.specs.Blocks.{Block, IsBlock, IsBefore, is_before, same_block}
 use Rattle.ipnet_blocks.proofs.BlockLaws.{strict}
 use Rattle.ipnet_blocks.proofs.BlockTests.{same_from_test, test_from_same}
-use Rattle.route_table.specs.Tables.{Route, IsHop, IsTable, with_route, without_block}
-use Rattle.route_table.specs.declared.hop.Hop.{Hop}
+use Rattle.route_choices.specs.Hops.{IsHop}
+use Rattle.route_choices.specs.declared.hop.Hop.{Hop}
+use Rattle.route_choices.specs.Choices.{Choice, beats, AreChoices, best, best_hop, is_one_too_many, choices_with, choices_without}
+use Rattle.route_choices.proofs.Kept.{filter_map_swap, map_append, In-map, map_In}
+use Rattle.route_choices.proofs.Preferences.{test_from_hop, test_from_apart}
+use Rattle.route_choices.proofs.ChoiceLists.{left_back, without_are, without_none, with_are, none_are}
+use Rattle.route_table.specs.Tables.{Route, IsTable, with_route, without_block}
 use Rattle.route_table.proofs.Ordered.{same_or_not, put_back, put_itself, put_other, put_rises, gone_back, gone_other, gone_rises, one_of_block}
 use Rattle.route_table.proofs.Updates.{Sooner, added_back, added_itself, added_other, added_is_table}
-use Rattle.route_table.specs.Choices.{Choice, beats, AreChoices, best, best_hop, is_one_too_many, choices_with, choices_without}
 use Rattle.route_table.specs.Networks.{Stored, IsStoredTable, best_route, routes_of, choices_at, with_stored, without_stored, without_each, with_choices, with_choice, without_choice}
-use Rattle.route_table.proofs.Kept.{filter_map_swap, map_append, In-map, map_In}
-use Rattle.route_table.proofs.Preferences.{test_from_hop, test_from_apart}
-use Rattle.route_table.proofs.ChoiceLists.{left_back, without_are, without_none, with_are, none_are}
 
 abbrev pub Earlier : Stored → Stored → Type 0
 Earlier s t = IsBefore s.block t.block

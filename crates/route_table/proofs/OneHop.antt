@@ -4,7 +4,8 @@ use Rattle.ipnet_addr.specs.Addresses.{Address}
 use Rattle.ipnet_blocks.specs.Blocks.{Block, IsBlock, HasAddress}
 use Rattle.ipnet_blocks.specs.Maximal.{maximal_of}
 use Rattle.ipnet_blocks.proofs.Maximals.{member_is_address}
-use Rattle.route_table.specs.Tables.{Route, IsTable, IsHop, hop_at, number_of, match_number, match_of, with_route, without_block}
+use Rattle.route_choices.specs.Hops.{IsHop, number_of}
+use Rattle.route_table.specs.Tables.{Route, IsTable, hop_at, match_number, match_of, with_route, without_block}
 use Rattle.route_table.specs.Changes.{changed}
 use Rattle.route_table.proofs.Updates.{added_hops, left_hops}
 use Rattle.route_table.proofs.Changes.{changed_is_maximal}

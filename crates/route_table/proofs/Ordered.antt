@@ -5,8 +5,7 @@ use Rattle.ipnet_addr.proofs.Ascending.{Rising}
 use Rattle.ipnet_blocks.specs.Blocks.{Block, IsBefore, is_before, same_block}
 use Rattle.ipnet_blocks.proofs.BlockLaws.{strict, total, transitive}
 use Rattle.ipnet_blocks.proofs.BlockTests.{before_from_test, test_from_before, same_from_test, test_from_same}
-use Rattle.route_table.proofs.Kept.{Rising-kept, Rising-joined}
-use Rattle.route_table.proofs.Matches.{In-from_filter, In-filter}
+use Rattle.route_choices.proofs.Kept.{Rising-kept, Rising-joined, In-from_filter, In-filter}
 
 pub before_apart : (a b : Block) → IsBefore a b → a ≡ b → ⊥
 before_apart a b l q = strict b b (subst (λ (c : Block). IsBefore c b) q l) (subst (λ (c : Block). IsBefore c b) q l)

@@ -1,22 +1,24 @@
 -- One thing in the place of all those inside its block: its members, how it is made, and the hops of a table then.
-use Rattle.std.proofs.Common.{◌≡◌, ◌-◌, ◌/◌, ◌^◌, ◌<◌, ◌⊎◌, inl, inr, ⊎_elim, Bool, true, false, not, cond, List, [], ◌∷◌, filter, Option, Some, None, refl, sym, ap, ◌∙◌, subst, arith, div-one}
+use Rattle.std.proofs.Common.{◌≡◌, ◌-◌, ◌/◌, ◌^◌, ◌<◌, ◌⊎◌, inl, inr, ⊎_elim, Bool, true, false, not, cond, List, [], ◌∷◌, filter, Option, Some, None, IsTrue, ◌↔◌, nat_lt, refl, sym, ap, ◌∙◌, subst, arith, div-one}
+use Rattle.std.proofs.lemmas.Bool.Decides.{nat_tests}
 use Rattle.ipnet_addr.specs.Addresses.{Address, IsAddress, width}
 use Rattle.ipnet_addr.proofs.Members.{In}
 use Rattle.ipnet_addr.proofs.Ascending.{In-from_Contains, Contains-from_In, In-from_All, All-from_In, Rising, Rising-from_pairs, pairs_from_Rising, same_rising}
-use Rattle.ipnet_blocks.specs.Blocks.{Block, IsBlock, HasAddress, IsInside, free_bits, is_inside, has_address, host, left, right}
+use Rattle.ipnet_blocks.specs.Blocks.{Block, IsBlock, HasAddress, IsInside, IsLarger, free_bits, is_inside, has_address, host, left, right}
 use Rattle.ipnet_blocks.proofs.BlockLaws.{block_path, nested, numbers_from_inside, same_sets, strict}
 use Rattle.ipnet_blocks.proofs.BlockTests.{has_from_test, test_from_has}
 use Rattle.ipnet_blocks.proofs.Maximals.{host_is_block, has_host}
 use Rattle.ipnet_blocks.proofs.Search.{left_is_block, right_is_block, left_inside, right_inside, in_a_half}
 use Rattle.ipnet.specs.IpNets.{block}
 use Rattle.ipnet.specs.declared.ip_net.IpNet.{IpNet}
+use Rattle.route_choices.specs.Hops.{IsHop, number_of}
+use Rattle.route_choices.specs.Choices.{Choice, AreChoices}
+use Rattle.route_choices.proofs.Kept.{Rising-kept, filter_map_swap, In-from_filter, In-filter}
 use Rattle.route_table.specs.Overwritten.{without_inside, overwritten}
-use Rattle.route_table.specs.Tables.{Route, IsTable, IsHop, match_of, match_number, number_of, hop_at, with_route}
+use Rattle.route_table.specs.Tables.{Route, IsTable, match_of, match_number, hop_at, with_route}
 use Rattle.route_table.proofs.Alterations.{host_inside, match_is, no_matches}
-use Rattle.route_table.specs.Choices.{Choice, AreChoices}
-use Rattle.route_table.specs.Networks.{Stored, IsStoredTable, best_route, networks_outside, overwritten_by, routes_of}
-use Rattle.route_table.proofs.Kept.{Rising-kept, filter_map_swap}
-use Rattle.route_table.proofs.Matches.{In-from_filter, In-filter, block_in, match_meets, inside_from_test, test_from_inside}
+use Rattle.route_table.specs.Networks.{IsLeaf, Stored, IsStoredTable, best_route, networks_outside, overwritten_by, routes_of}
+use Rattle.route_table.proofs.Matches.{block_in, match_meets, inside_from_test, test_from_inside}
 use Rattle.route_table.proofs.Networks.{routes_with, stored_block, stored_some, stored_choices}
 use Rattle.route_table.proofs.Ordered.{Earlier, put, put_back, put_itself, put_other, put_rises}
 use Rattle.route_table.proofs.Updates.{Sooner, added_is_table}
@@ -110,9 +112,10 @@ module _ {X : Type 0} (at : X → Block) where
         (λ y i. ⊎_elim (λ e. subst (λ (z : X). In z (over M x)) (sym e) over_itself) (λ u. over_other y u.0 u.1) (back y i))
         (λ y i. ⊎_elim (λ e. subst (λ (z : X). In z N) (sym e) itself) (λ u. other y u.0 u.1) (over_back y i))
 
-    pub over_host : free_bits (at x) ≡ 0 → put at M x ≡ over M x
-    over_host h = over_is (put at M x) (put_are M m x ok)
-        (λ y i. ⊎_elim (λ e. inl e) (λ t. inr (t.0, λ l. t.1 (alone (at x) (at y) ok (m.blocks y t.0) h l))) (put_back at M x y i))
+    -- where nothing lies strictly inside its block
+    pub over_leaf : ((y : X) → In y (put at M x) → IsLarger (at x) (at y) → ⊥) → put at M x ≡ over M x
+    over_leaf leaf = over_is (put at M x) (put_are M m x ok)
+        (λ y i. ⊎_elim (λ e. inl e) (λ t. inr (t.0, λ l. leaf y i (l, λ k. t.1 (same_sets (at y) (at x) (m.blocks y t.0) ok l k)))) (put_back at M x y i))
         (put_itself at M x)
         (λ y i out. put_other at M x y i (λ e. out (inside_itself (at y) (at x) e)))
 
@@ -164,6 +167,22 @@ routes_placed M m = record { blocks = block_in M m; rising = Rising-from_pairs S
 
 pub networks_placed : (T : List Stored) → IsStoredTable T → AreAt Stored.block T
 networks_placed T t = record { blocks = stored_block T t; rising = Rising-from_pairs (Earlier Stored.block) T t.ascending }
+
+-- the network that is put where nothing lies strictly inside
+pub leaf_overwritten : (T : List Stored) → IsStoredTable T → (s : Stored) → IsBlock s.block → (S : List Stored) → S ≡ put Stored.block T s → IsLeaf S s.block → S ≡ over Stored.block T s
+leaf_overwritten T t s ok S e leaf = e ∙ over_leaf Stored.block T (networks_placed T t) s ok (λ y i l. leaf y (Contains-from_In S y (subst (In y) (sym e) i)) l)
+
+-- a host has room for nothing
+pub host_is_leaf : (T : List Stored) → IsStoredTable T → (b : Block) → IsBlock b → free_bits b ≡ 0 → IsLeaf T b
+host_is_leaf T t b ok h s c l = l.1 (inside_itself b s.block (sym (alone b s.block ok (stored_block T t s (In-from_Contains T s c)) h l.0)))
+
+-- a network with another inside is no host
+pub room_inside : (T : List Stored) → IsStoredTable T → (b : Block) → IsBlock b → (leaf : Bool) → IsTrue leaf ↔ IsLeaf T b → leaf ≡ false → 0 < free_bits b
+room_inside T t b ok leaf h e = by (nat_lt 0 (free_bits b)) refl
+  where
+    by : (s : Bool) → nat_lt 0 (free_bits b) ≡ s → 0 < free_bits b
+    by true f = grind (arith, nat_tests)
+    by false f = absurd (let z = sym e ∙ h.1 (host_is_leaf T t b ok (grind (arith, nat_tests))) in cc)
 
 -- a part of a table of networks is one
 pub outside_is_stored : (T : List Stored) → IsStoredTable T → (n : Block) → IsStoredTable (networks_outside T n)

@@ -6,9 +6,9 @@ use Rattle.ipnet_blocks.specs.Blocks.{Block, IsBefore}
 use Rattle.ipnet_blocks.specs.Maximal.{IsMaximalBlock, IsMaximal}
 use Rattle.ipnet_addr.proofs.Members.{In}
 use Rattle.ipnet_addr.proofs.Ascending.{In-from_Contains, Contains-from_In, Rising, Rising-from_pairs, pairs_from_Rising}
+use Rattle.route_choices.proofs.Kept.{In-from_filter, In-filter}
 use Rattle.route_table.specs.Flats.{Piece, IsFlat, blocks_of}
 use Rattle.route_table.proofs.Flats.{Sooner, In-map, In-map_back, Rising-map}
-use Rattle.route_table.proofs.Matches.{In-from_filter, In-filter}
 
 module _ {A : Type 0} (R : A → A → Type 0) (p : A → Bool) where
   kept_or_not : (b : Bool) (a : A) (xs : List A) → ((c : A) → In c xs → R a c) → Rising R xs → Rising R (cond b (a ∷ xs) xs)

@@ -1,6 +1,6 @@
 -- The addresses that the routes of a number govern are those with that hop.
 use Rattle.std.proofs.Common.{◌≡◌, ℕ, ◌⊎◌, inl, inr, ⊎_elim, ◌↔◌, ◌==◌, List, [], ◌∷◌, ◌++◌, map, filter, Option, Some, None, Any, refl, sym, ap, ◌∙◌, subst, arith, Result, Ok, Err}
-use Rattle.std.specs.Prelude.{IfErr, IfOk, OnErr, OnOk}
+use Rattle.std.specs.Prelude.{IfErr, IfOk, IfSome, OnErr, OnOk}
 use Rattle.ipnet_addr.specs.Addresses.{Address, IsAddress}
 use Rattle.ipnet_addr.proofs.Members.{In, one_or_all}
 use Rattle.ipnet_addr.proofs.Ascending.{In-from_Any, Any-from_In, In-from_Contains, Contains-from_In}
@@ -14,9 +14,10 @@ use Rattle.ipnet_blocks.proofs.Parents.{decide_inside, larger_is_shorter}
 use Rattle.ipnet_blocks.proofs.Unions.{maximal_same}
 use Rattle.ipnet.specs.IpNets.{block}
 use Rattle.ipnet.specs.declared.ip_net.IpNet.{IpNet}
+use Rattle.route_choices.specs.Hops.{number_of}
 use Rattle.route_table.specs.Flats.{blocks_of, flat_of}
 use Rattle.route_table.specs.InnerOwning.{Owns, IsOwned, GrowsBy}
-use Rattle.route_table.specs.Tables.{Route, IsTable, Governed, match_of, match_number, number_of, hop_at}
+use Rattle.route_table.specs.Tables.{Route, IsTable, Governed, match_of, match_number, hop_at}
 use Rattle.route_table.proofs.Bounds.{decide_has}
 use Rattle.route_table.proofs.FlatSearch.{search_is_flat}
 use Rattle.route_table.proofs.Matches.{block_in, match_meets, match_from, governed_match}
@@ -142,6 +143,10 @@ grows_by_governed M table k r ns ms bs ok is m e x a = (
 pub if_ok : {T E : Type 0} (P Q : T → Type 0) (r : Result T E) → ((v : T) → P v → Q v) → IfOk r P → IfOk r Q
 if_ok P Q (Ok v) f h = f v h
 if_ok P Q (Err e) f h = h
+
+pub if_some : {T : Type 0} (P Q : T → Type 0) (o : Option T) → ((v : T) → P v → Q v) → IfSome o P → IfSome o Q
+if_some P Q None f h = h
+if_some P Q (Some v) f h = f v h
 
 pub if_err : {T E : Type 0} (P Q : E → Type 0) (r : Result T E) → ((e : E) → P e → Q e) → IfErr r P → IfErr r Q
 if_err P Q (Ok v) f h = h

@@ -11,11 +11,10 @@ use Rattle.ipnet_blocks.specs.Blocks.{Block, is_before}
 use Rattle.ipnet_addr.proofs.Families.{rank_apart}
 use Rattle.ipnet_blocks.proofs.BlockLaws.{strict, transitive}
 use Rattle.ipnet_blocks.proofs.BlockTests.{before_from_test, test_from_before}
+use Rattle.route_choices.proofs.Kept.{In-from_filter, In-filter, Rising-kept}
 use Rattle.route_table.specs.Onwards.{routes_from, routes_after}
 use Rattle.route_table.specs.Pages.{last_of, pages_up_to, first_page, pages}
 use Rattle.route_table.specs.Tables.{Route, IsTable}
-use Rattle.route_table.proofs.Matches.{In-from_filter, In-filter}
-use Rattle.route_table.proofs.Kept.{Rising-kept}
 use Rattle.route_table.proofs.Updates.{Sooner}
 
 -- ---- the parts of an ascending list

@@ -9,7 +9,8 @@ use Rattle.ipnet_blocks.specs.Blocks.{IsBlock, HasAddress, first, last, first_of
 use Rattle.ipnet_blocks.proofs.BlockLaws.{has_first, nested, longer_inside, common}
 use Rattle.ipnet_blocks.proofs.Maximals.{host_is_block, in_host, has_host, member_is_address}
 use Rattle.ipnet_blocks.proofs.Netmasks.{block_is_interval}
-use Rattle.route_table.specs.Tables.{Route, IsTable, IsMatch, match_of, match_number, number_of, hop_at}
+use Rattle.route_choices.specs.Hops.{number_of}
+use Rattle.route_table.specs.Tables.{Route, IsTable, IsMatch, match_of, match_number, hop_at}
 use Rattle.route_table.specs.InnerRunning.{IsApartOrInside, IsOpen, IsComing, ArePlaced, reach_of, topmost}
 use Rattle.route_table.specs.declared.runs.Reach.{Reach}
 use Rattle.route_table.proofs.Governings.{first_to_last}

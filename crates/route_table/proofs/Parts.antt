@@ -16,16 +16,16 @@ use Rattle.ipnet_blocks.proofs.Strings.{begins_from_inside, inside_from_begins}
 use Rattle.trie_core.specs.Nodes.{BitMap}
 use Rattle.trie_core.specs.Bits.{is_from}
 use Rattle.ipnet_blocks.specs.BitStrings.{begins, bits_cmp}
+use Rattle.route_choices.specs.Choices.{Choice}
+use Rattle.route_choices.proofs.Kept.{In-from_filter, filter_map_swap, same_kept}
 use Rattle.route_table.specs.Tables.{Route, covering, routes_inside}
-use Rattle.route_table.specs.Choices.{Choice}
 use Rattle.route_table.specs.InnerSides.{route_at, stored_in, block_at, IsStored}
 use Rattle.route_table.specs.Networks.{routes_of}
 use Rattle.route_table.specs.InnerEntries.{KeysUpTo}
 use Rattle.route_table.specs.Onwards.{routes_from, routes_after}
-use Rattle.route_table.proofs.Matches.{bools_same, In-from_filter, inside_from_test, test_from_inside}
+use Rattle.route_table.proofs.Matches.{bools_same, inside_from_test, test_from_inside}
 use Rattle.route_table.proofs.Strings.{string_of_block, block_at_is_block}
 use Rattle.route_table.proofs.Entries.{get_of}
-use Rattle.route_table.proofs.Kept.{filter_map_swap, same_kept}
 use Rattle.route_table.proofs.Seams.{routes_at}
 
 -- ---- the order of blocks, as a test of keys

@@ -7,12 +7,13 @@ use Rattle.ipnet_blocks.specs.Blocks.{Block, IsBlock, HasAddress, IsBefore, firs
 use Rattle.ipnet_blocks.specs.Maximal.{IsMaximalBlock}
 use Rattle.ipnet_blocks.proofs.BlockLaws.{has_first, nested, strict}
 use Rattle.ipnet_blocks.proofs.Maximals.{host_is_block, in_host, has_host, member_is_address, maximal_is_top}
+use Rattle.route_choices.specs.Hops.{IsHop, number_of}
+use Rattle.route_choices.specs.declared.hop.Hop.{Hop}
+use Rattle.route_choices.specs.declared.hop.Hop.TheVariants.{Number, Drop}
 use Rattle.route_table.specs.Changes.{route_for, with_pieces}
 use Rattle.route_table.specs.Flats.{Piece, IsFlat}
 use Rattle.route_table.specs.Laws.{FlatRebuilds}
-use Rattle.route_table.specs.Tables.{Route, IsHop, IsTable, IsMatch, match_of, match_number, number_of, hop_at, with_route}
-use Rattle.route_table.specs.declared.hop.Hop.{Hop}
-use Rattle.route_table.specs.declared.hop.Hop.TheVariants.{Number, Drop}
+use Rattle.route_table.specs.Tables.{Route, IsTable, IsMatch, match_of, match_number, hop_at, with_route}
 use Rattle.route_table.proofs.Flats.{Sooner, piece_at, tells, maximal_same}
 use Rattle.route_table.proofs.Matches.{match_from, match_meets}
 use Rattle.route_table.proofs.Updates.{added_back, added_itself, added_other, added_is_table}

@@ -10,11 +10,11 @@ use Rattle.ipnet_addr.proofs.Ascending.{Rising, All-from_In, pairs_from_Rising, 
 use Rattle.ipnet_blocks.proofs.BlockLaws.{strict}
 use Rattle.ipnet_blocks.proofs.Order.{order_of_strings}
 use Rattle.trie_core.specs.Nodes.{BitMap}
-use Rattle.route_table.specs.Choices.{Choice, AreChoices}
+use Rattle.route_choices.specs.Choices.{Choice, AreChoices}
+use Rattle.route_choices.proofs.Kept.{In-map, map_In}
 use Rattle.route_table.specs.InnerSides.{block_at, route_at, stored_at, stored_in, IsStored, IsSide}
 use Rattle.route_table.specs.Networks.{Stored, IsStoredTable, routes_of}
 use Rattle.route_table.proofs.Entries.{KeysRise, rising, in_entries, get_of}
-use Rattle.route_table.proofs.Kept.{In-map, map_In}
 use Rattle.route_table.proofs.Ordered.{Earlier}
 use Rattle.route_table.proofs.Strings.{string_of_block, block_at_is_block, block_of_string}
 

@@ -9,14 +9,14 @@ use Rattle.ipnet_blocks.proofs.BlockLaws.{numbers_from_inside}
 use Rattle.ipnet_blocks.specs.BitStrings.{begins}
 use Rattle.ipnet_blocks.proofs.BitStrings.{begins_take, take_begins}
 use Rattle.ipnet_blocks.proofs.Strings.{length-digits, begins_from_inside, inside_from_begins}
-use Rattle.route_table.specs.Choices.{Choice}
+use Rattle.route_choices.specs.Choices.{Choice}
+use Rattle.route_choices.proofs.Kept.{In-map, map_In}
 use Rattle.route_table.specs.Networks.{Stored, best_route, routes_of}
 use Rattle.route_table.specs.Tables.{Route, IsTable, match_of}
 use Rattle.route_table.proofs.Matches.{match_meets, match_from}
 use Rattle.trie_core.specs.Search.{NoBeginning, IsLongest}
 use Rattle.trie_core.specs.Nodes.{BitMap}
 use Rattle.route_table.specs.InnerSides.{IsStored, stored_in}
-use Rattle.route_table.proofs.Kept.{In-map, map_In}
 use Rattle.route_table.proofs.Networks.{routes_are_table}
 use Rattle.route_table.proofs.Seams.{HasStored, has_stored, in_side, is_side}
 

@@ -1,5 +1,5 @@
 -- Both sides of a table, one after the other.
-use Rattle.std.proofs.Common.{◌≡◌, inl, inr, ⊎_elim, Bool, true, false, ◌&&◌, ◌||◌, not, cond, nat_lt, nat_le, ◌==◌, ◌-◌, ◌/◌, ◌^◌, List, [], ◌∷◌, ◌++◌, length, filter, map, refl, sym, ap, ◌∙◌, arith, append-nil}
+use Rattle.std.proofs.Common.{◌≡◌, inl, inr, ⊎_elim, Bool, true, false, ◌&&◌, ◌||◌, not, cond, nat_lt, nat_le, ◌==◌, ◌-◌, ◌/◌, ◌^◌, List, [], ◌∷◌, ◌++◌, All, length, filter, map, refl, sym, ap, ◌∙◌, subst, arith, append-nil}
 use Rattle.std.specs.FinMap.{from_entries}
 use Rattle.std.proofs.lemmas.List.{append_assoc}
 use Rattle.std.proofs.lemmas.List.Elements.{filter-append}
@@ -8,14 +8,14 @@ use Rattle.ipnet_addr.proofs.Members.{In, In-cases}
 use Rattle.ipnet_addr.proofs.Ascending.{In-from_All, All-from_In, Rising-from_pairs, pairs_from_Rising}
 use Rattle.ipnet_blocks.specs.Blocks.{Block, IsBlock, bit_string, first, is_before, is_inside, same_block}
 use Rattle.ipnet_blocks.specs.BitStrings.{bits_cmp}
-use Rattle.route_table.specs.Choices.{Choice, AreChoices, choices_with, choices_without}
+use Rattle.route_choices.specs.Choices.{Choice, AreChoices, choices_with, choices_without}
+use Rattle.route_choices.specs.declared.hop.Hop.{Hop}
+use Rattle.route_choices.proofs.Kept.{In-map, Rising-joined, all_kept, none_kept, filter_map_swap}
 use Rattle.route_table.specs.InnerSides.{IsSide}
 use Rattle.route_table.specs.Networks.{Stored, IsStoredTable, best_route, choices_at, networks_outside, routes_of, with_choice, with_choices, with_stored, without_choice, without_stored}
 use Rattle.route_table.specs.Onwards.{count_of}
 use Rattle.route_table.specs.Tables.{Route, IsTable, covering, longest, match_of, routes_inside}
 use Rattle.route_table.specs.Tries.{map_of}
-use Rattle.route_table.specs.declared.hop.Hop.{Hop}
-use Rattle.route_table.proofs.Kept.{Rising-joined, all_kept, none_kept, filter_map_swap}
 use Rattle.route_table.proofs.Networks.{routes_are_table, stored_block, stored_some, stored_choices}
 use Rattle.route_table.proofs.Ordered.{Earlier}
 
@@ -179,3 +179,9 @@ module _ (a b : List Stored) (sides : IsSide Ipv4 a × IsSide Ipv6 b) where
 
     pub without_choice_side : (h : Hop) → without_choice (a ++ b) n h ≡ with_side n.family (without_choice (side n.family) n h)
     without_choice_side h = ap (λ cs. with_choices (a ++ b) n (choices_without cs h)) choices_side ∙ with_choices_side (choices_without (choices_at (side n.family) n) h)
+
+-- the best routes of a side are of its family
+pub routes_of_side : (f : Family) (T : List Stored) (rs : List Route) → IsSide f T → rs ≡ routes_of T → All (λ r. r.block.family ≡ f) rs
+routes_of_side f T rs side e = subst (λ (rs : List Route). All (λ r. r.block.family ≡ f) rs) (sym e)
+    (All-from_In (λ (r : Route). r.block.family ≡ f) (routes_of T) (λ r i. let t = In-map best_route T r i in
+    ap (λ (u : Route). u.block.family) t.2 ∙ In-from_All (λ (s : Stored). s.block.family ≡ f) T side.family t.0 t.1))

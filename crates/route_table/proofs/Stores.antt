@@ -8,7 +8,7 @@ use Rattle.ipnet_addr.proofs.Members.{In}
 use Rattle.ipnet_blocks.proofs.Strings.{length-digits}
 use Rattle.trie_core.specs.Nodes.{BitMap}
 use Rattle.trie_core.proofs.Strings.{bits_total, same, same-Decides, same_false}
-use Rattle.route_table.specs.Choices.{Choice, AreChoices}
+use Rattle.route_choices.specs.Choices.{Choice, AreChoices}
 use Rattle.route_table.specs.InnerSides.{IsStored, stored_in}
 use Rattle.route_table.specs.Networks.{Stored, IsStoredTable, choices_at, with_choices, with_stored, without_stored}
 use Rattle.route_table.proofs.Calls.{choices_are}

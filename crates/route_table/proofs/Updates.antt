@@ -6,7 +6,8 @@ use Rattle.ipnet_addr.proofs.Members.{In}
 use Rattle.ipnet_addr.proofs.Ascending.{In-from_Contains, Contains-from_In, In-from_All, All-from_In, Rising, Rising-from_pairs, pairs_from_Rising}
 use Rattle.ipnet_blocks.proofs.Parents.{larger_is_shorter}
 use Rattle.ipnet_blocks.proofs.Maximals.{host_is_block, in_host, has_host}
-use Rattle.route_table.specs.Tables.{Route, IsHop, IsTable, IsMatch, match_of, match_number, number_of, hop_at, with_route, without_block}
+use Rattle.route_choices.specs.Hops.{IsHop, number_of}
+use Rattle.route_table.specs.Tables.{Route, IsTable, IsMatch, match_of, match_number, hop_at, with_route, without_block}
 use Rattle.route_table.proofs.Matches.{block_in, no_match, match_meets, match_from, governed_match}
 use Rattle.route_table.proofs.Ordered.{same_or_not, put_back, put_itself, put_other, put_rises, gone_back, gone_other, gone_rises}
 

@@ -1,10 +1,10 @@
 -- What a change of a table changes, and a table made by changes.
 use Rattle.std.specs.Prelude.{◌==◌, ℕ, Bool, true, false, not, List, [], ◌∷◌, Option, Some, None}
 use Rattle.ipnet_addr.specs.Addresses.{Address}
-use Rattle.route_table.specs.Choices.{default_preference}
+use Rattle.route_choices.specs.Choices.{default_preference}
+use Rattle.route_choices.specs.declared.hop.Hop.TheVariants.{Number}
 use Rattle.route_table.specs.Tables.{Route, hop_at, with_route}
 use Rattle.route_table.specs.Flats.{Piece}
-use Rattle.route_table.specs.declared.hop.Hop.TheVariants.{Number}
 
 -- whether two hops of addresses are the same
 abbrev pub same_number : Option ℕ → Option ℕ → Bool

@@ -2,7 +2,8 @@
 use Rattle.std.specs.Prelude.{◌≡◌, ℕ, ◌+◌, ◌-◌, ◌*◌, ◌<◌, ◌≤◌, ◌&&◌, ◌==◌, true, nat_le, nat_lt, Bool, cond, length, take, List, [], ◌∷◌, ◌++◌, Option, Some, None, MatchOption, All, AllPairs, map}
 use Rattle.ipnet_blocks.specs.Blocks.{first, last}
 use Rattle.ipnet_blocks.specs.declared.aggregate.Span.{Span}
-use Rattle.route_table.specs.Tables.{Route, number_of}
+use Rattle.route_choices.specs.Hops.{number_of}
+use Rattle.route_table.specs.Tables.{Route}
 use Rattle.route_table.specs.declared.runs.Reach.{Reach}
 use Rattle.route_table.specs.declared.runs.Run.{Run}
 use Rattle.route_table.specs.declared.runs.Runs.{Runs}

@@ -5,7 +5,7 @@ use Rattle.ipnet_addr.specs.Addresses.{Family, width}
 use Rattle.ipnet_blocks.specs.Blocks.{Block}
 use Rattle.trie_core.specs.Bits.{number_from}
 use Rattle.trie_core.specs.Nodes.{BitMap}
-use Rattle.route_table.specs.Choices.{Choice, AreChoices}
+use Rattle.route_choices.specs.Choices.{Choice, AreChoices}
 use Rattle.route_table.specs.Networks.{Stored, IsStoredTable, best_route}
 use Rattle.route_table.specs.Tables.{Route}
 

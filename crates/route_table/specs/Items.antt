@@ -3,18 +3,13 @@ use Rattle.std.specs.Prelude.{◌≡◌, ℕ, List, [], ◌∷◌, Option, Match
 use Rattle.ipnet_blocks.specs.Blocks.{Block}
 use Rattle.ipnet.specs.IpNets.{block, network_at}
 use Rattle.ipnet.specs.declared.ip_net.IpNet.{IpNet}
-use Rattle.route_table.specs.Choices.{Choice}
+use Rattle.route_choices.specs.declared.hop.Hop.{Hop}
 use Rattle.route_table.specs.Tables.{Route, route_of}
 use Rattle.route_table.specs.Flats.{Piece}
-use Rattle.route_table.specs.declared.hop.Hop.{Hop}
 
 -- the first route was given, its network without host bits; or none was left
 abbrev pub GivesRoute : List Route → Option (IpNet × Hop × ℕ) → List Route → Type 0
 GivesRoute rs item left = MatchOption item ((rs ≡ []) × (left ≡ [])) (λ p. (rs ≡ route_of p.0 p.1 p.2 ∷ left) × (p.0 ≡ network_at (block p.0)))
-
--- the first choice was given; or none was left
-abbrev pub GivesChoice : List Choice → Option (Hop × ℕ) → List Choice → Type 0
-GivesChoice cs item left = MatchOption item ((cs ≡ []) × (left ≡ [])) (λ c. cs ≡ record { hop = c.0; pref = c.1 } ∷ left)
 
 -- the first block was given as a network without host bits; or none was left
 abbrev pub GivesBlock : List Block → Option IpNet → List Block → Type 0

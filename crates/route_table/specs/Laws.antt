@@ -1,19 +1,20 @@
 -- The laws of tables, as statements.
-use Rattle.std.specs.Prelude.{◌≡◌, ◌≢◌, ◌⊎◌, false, [], ◌∷◌, ℕ, ◌^◌, ◌≤◌, ◌<◌, if◌then◌else◌, ◌↔◌, ◌==◌, ◌+◌, List, Option, Some, None, MatchOption, Contains, length, sum_by, filter, true}
+use Rattle.std.specs.Prelude.{◌≡◌, ◌≢◌, ◌⊎◌, false, [], ◌∷◌, ℕ, ◌^◌, ◌≤◌, ◌<◌, if◌then◌else◌, ◌↔◌, ◌==◌, ◌+◌, List, Option, Some, None, MatchOption, Contains, length, sum_by, filter}
 use Rattle.std.specs.List.{flat_map}
 use Rattle.ipnet_addr.specs.Addresses.{Family, Address, IsAddress, same_family}
 use Rattle.ipnet_blocks.specs.Blocks.{Block, IsBlock, HasAddress, IsAscending, has_address, is_inside, host}
 use Rattle.ipnet_blocks.specs.Maximal.{IsMaximal, IsUnion, IsShortest, maximal_of}
-use Rattle.route_table.specs.Tables.{Route, IsTable, IsMatch, IsHop, is_stored, longer, match_of, match_number, hop_at, number_of, Governed, Changed, with_route, without_block}
+use Rattle.route_choices.specs.Hops.{IsHop, number_of}
+use Rattle.route_choices.specs.declared.hop.Hop.{Hop}
+use Rattle.route_choices.specs.declared.hop.Hop.TheVariants.{Number}
+use Rattle.route_choices.specs.Choices.{Choice, AreChoices, best, default_preference, holds_hop, is_one_too_many, choices_with, choices_without}
+use Rattle.route_table.specs.Tables.{Route, IsTable, IsMatch, is_stored, longer, match_of, match_number, hop_at, Governed, Changed, with_route, without_block}
 use Rattle.route_table.specs.Flats.{Piece, IsFlat, IsAdmissible, blocks_of, flat_of}
 use Rattle.route_table.specs.Changes.{changed, with_pieces}
-use Rattle.route_table.specs.declared.hop.Hop.{Hop}
-use Rattle.route_table.specs.declared.hop.Hop.TheVariants.{Number}
 use Rattle.route_table.specs.Bounds.{excess, lengths_in, pieces_in}
 use Rattle.route_table.specs.Onwards.{routes_from}
 use Rattle.route_table.specs.Overwritten.{overwritten}
 use Rattle.route_table.specs.Pages.{first_page, pages, pages_up_to}
-use Rattle.route_table.specs.Choices.{Choice, AreChoices, IsBest, beats, best, default_preference, holds_hop, is_one_too_many, choices_with, choices_without}
 use Rattle.route_table.specs.Networks.{Stored, IsStoredTable, best_route, choices_at, overwritten_by, routes_of, with_choice, with_choices, without_choice, without_each, without_stored}
 
 -- what `match_of` finds
@@ -180,34 +181,6 @@ PagesAreRoutes = (M : List Route) (n : Block) (limit : ℕ) → IsTable M → 0 
 -- and no page is left out for want of more of them
 abbrev pub PagesEnd : Type 0
 PagesEnd = (M : List Route) (n : Block) (limit more : ℕ) → IsTable M → 0 < limit → pages_up_to (length M + more) M limit (first_page M n limit) ≡ pages M n limit
-
--- ---- several routes a network: the choices of one block
-
--- the first choice is the one that no other beats
-abbrev pub BestIsUnbeaten : Type 0
-BestIsUnbeaten = (cs : List Choice) (c : Choice) → AreChoices cs → (best cs ≡ Some c) ↔ IsBest cs c
-
--- of two choices of different hops exactly one beats the other
-abbrev pub OneBeats : Type 0
-OneBeats = (c d : Choice) → (c.hop ≢ d.hop → (beats c d ≡ true) ⊎ (beats d c ≡ true)) × (beats c d ≡ true → beats d c ≡ true → ⊥)
-
--- with a choice: it and those of other hops
-abbrev pub ChoicesWith : Type 0
-ChoicesWith = (cs : List Choice) (c d : Choice) → Contains (choices_with cs c) d ↔ ((d ≡ c) ⊎ (Contains cs d × (d.hop ≢ c.hop)))
-
--- without a hop: those of other hops
-abbrev pub ChoicesWithout : Type 0
-ChoicesWithout = (cs : List Choice) (h : Hop) (d : Choice) → Contains (choices_without cs h) d ↔ (Contains cs d × (d.hop ≢ h))
-
--- they stay one to eight, best first, no hop twice
-abbrev pub StayChoices : Type 0
-StayChoices = (cs : List Choice) → AreChoices cs →
-    ((c : Choice) → IsHop c.hop → c.pref < 2 ^ 16 → is_one_too_many cs c.hop ≡ false → AreChoices (choices_with cs c))
-    × ((h : Hop) → AreChoices (choices_without cs h))
-
--- choices with the same members are equal
-abbrev pub SameChoices : Type 0
-SameChoices = (cs ds : List Choice) → AreChoices cs → AreChoices ds → ((d : Choice) → Contains cs d ↔ Contains ds d) → cs ≡ ds
 
 -- ---- tables of networks with choices
 

@@ -1,8 +1,9 @@
 pub mod Tables
-pub mod Choices
 pub mod Networks
 pub mod Refusals
 pub mod Flats
+pub mod LeastTables
+pub mod Fewest
 pub mod Changes
 pub mod Bounds
 pub mod Tries
@@ -10,7 +11,6 @@ pub mod Items
 pub mod Onwards
 pub mod Overwritten
 pub mod Pages
-pub mod InnerPacked
 pub mod InnerFamilies
 pub mod InnerSides
 pub mod InnerEntries
@@ -19,4 +19,5 @@ pub mod InnerGoverning
 pub mod InnerRunning
 pub mod InnerFlattening
 pub mod InnerOwning
+pub mod InnerLeast
 pub mod Laws

@@ -1,9 +1,9 @@
 -- A table with several choices a network, and the table of its best routes.
-use Rattle.std.specs.Prelude.{◌≡◌, not, if◌then◌else◌, List, [], ◌∷◌, ◌++◌, All, AllPairs, filter, map}
-use Rattle.ipnet_blocks.specs.Blocks.{Block, IsBlock, IsBefore, is_before, is_inside, same_block}
+use Rattle.std.specs.Prelude.{◌≡◌, not, if◌then◌else◌, List, [], ◌∷◌, ◌++◌, All, AllPairs, Contains, filter, map}
+use Rattle.ipnet_blocks.specs.Blocks.{Block, IsBlock, IsBefore, IsLarger, is_before, is_inside, same_block}
+use Rattle.route_choices.specs.declared.hop.Hop.{Hop}
+use Rattle.route_choices.specs.Choices.{Choice, AreChoices, best_hop, best_preference, choices_with, choices_without}
 use Rattle.route_table.specs.Tables.{Route}
-use Rattle.route_table.specs.declared.hop.Hop.{Hop}
-use Rattle.route_table.specs.Choices.{Choice, AreChoices, best_hop, best_preference, choices_with, choices_without}
 
 -- a stored network
 pub record Stored : Type 0 where
@@ -62,3 +62,7 @@ networks_outside T n = filter (λ s. not (is_inside s.block n)) T
 -- the table with one network of one choice in the place of all those inside its block
 abbrev pub overwritten_by : List Stored → Block → Choice → List Stored
 overwritten_by T b c = with_stored (networks_outside T b) (record { block = b; choices = c ∷ [] })
+
+-- no stored network lies strictly inside n
+abbrev pub IsLeaf : List Stored → Block → Type 0
+IsLeaf T n = (s : Stored) → Contains T s → IsLarger n s.block → ⊥

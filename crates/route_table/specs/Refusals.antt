@@ -1,8 +1,8 @@
 -- When a route is refused, and why.
 use Rattle.std.specs.Prelude.{◌≡◌, true, List, []}
 use Rattle.trie_map.specs.declared.refused.Refused.TheVariants.{Memory}
-use Rattle.route_table.specs.Choices.{Choice, is_one_too_many}
-use Rattle.route_table.specs.declared.hop.Hop.{Hop}
+use Rattle.route_choices.specs.Choices.{Choice, is_one_too_many}
+use Rattle.route_choices.specs.declared.hop.Hop.{Hop}
 use Rattle.route_table.specs.declared.refused.AddRefused.{AddRefused}
 use Rattle.route_table.specs.declared.refused.AddRefused.TheVariants.{Store, TooMany}
 

@@ -1,22 +1,18 @@
 -- A table as a finite map from blocks to hops, its matches and its hops.
-use Rattle.std.specs.Prelude.{◌≢◌, ℕ, ◌<◌, ◌≤◌, ◌^◌, Bool, not, nat_lt, if◌then◌else◌, List, [], ◌∷◌, ◌++◌, Option, Some, None, All, AllPairs, Contains, filter}
+use Rattle.std.specs.Prelude.{◌≢◌, ℕ, ◌≤◌, Bool, not, nat_lt, if◌then◌else◌, List, [], ◌∷◌, ◌++◌, Option, Some, None, All, AllPairs, Contains, filter}
 use Rattle.std.specs.List.{list_any}
 use Rattle.ipnet_addr.specs.Addresses.{Address}
 use Rattle.ipnet_blocks.specs.Blocks.{Block, IsBlock, HasAddress, IsInside, IsLarger, IsBefore, is_inside, is_before, same_block, host}
 use Rattle.ipnet.specs.IpNets.{block, network_at}
 use Rattle.ipnet.specs.declared.ip_net.IpNet.{IpNet}
-use Rattle.route_table.specs.declared.hop.Hop.{Hop}
-use Rattle.route_table.specs.declared.hop.Hop.TheVariants.{Number, Drop}
+use Rattle.route_choices.specs.declared.hop.Hop.{Hop}
+use Rattle.route_choices.specs.Hops.{IsHop, number_of}
 
 -- a block, a hop, and the preference of that hop among those of the block
 pub record Route : Type 0 where
   pub block : Block
   pub hop : Hop
   pub pref : ℕ
-
-abbrev pub IsHop : Hop → Type 0
-IsHop (Number k) = k < 2 ^ 32
-IsHop Drop = Unit {0}
 
 -- a network, a hop and a preference as a route; host bits do not count
 abbrev pub route_of : IpNet → Hop → ℕ → Route
@@ -52,10 +48,6 @@ longest (r ∷ rs) = Some (longer r (longest rs))
 -- the longest match: the member of greatest length that contains the block
 abbrev pub match_of : List Route → Block → Option Route
 match_of M n = longest (covering M n)
-
-abbrev pub number_of : Hop → Option ℕ
-number_of (Number k) = Some k
-number_of Drop = None
 
 abbrev pub match_number : Option Route → Option ℕ
 match_number None = None

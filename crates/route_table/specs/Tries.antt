@@ -4,7 +4,7 @@ use Rattle.std.specs.FinMap.{from_entries}
 use Rattle.ipnet_addr.specs.Addresses.{Family, same_family}
 use Rattle.ipnet_blocks.specs.Blocks.{bit_string}
 use Rattle.trie_core.specs.Nodes.{BitMap}
-use Rattle.route_table.specs.Choices.{Choice}
+use Rattle.route_choices.specs.Choices.{Choice}
 use Rattle.route_table.specs.Networks.{Stored}
 
 unfoldable pub map_of : Family → List Stored → BitMap (List Choice)

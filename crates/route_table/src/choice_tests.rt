@@ -1,6 +1,4 @@
 //! Several routes a network: which is the best, what takes memory, and what is refused.
-use crate::choice::Choice;
-use crate::choices::Choices;
 use crate::tests::{add, net};
 use crate::{AddRefused, Hop, RouteTable};
 use std::process::Abort;
@@ -15,13 +13,6 @@ fn all_are(rt: &impl Abort, table: &RouteTable, text: &str, wanted: &[(Hop, u16)
         assert_eq!(rt; next, *route);
     }
     assert!(rt; all.next().is_none());
-}
-
-#[test]
-fn a_choice_has_eight_bytes(rt: HostRuntime) {
-    assert_eq!(rt; std::mem::size_of::<Choice>(), 8);
-    assert_eq!(rt; std::mem::size_of::<Choices>(), 72);
-    assert_eq!(rt; Hop::default(), Hop::Drop);
 }
 
 #[test]

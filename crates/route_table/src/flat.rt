@@ -100,7 +100,7 @@ impl<'a> Model for Flat<'a> {
 }
 
 impl<'a> Flat<'a> {
-    fn new(v4: Routes<'a>, v6: Routes<'a>) -> Flat<'a>
+    pub(crate) fn new(v4: Routes<'a>, v6: Routes<'a>) -> Flat<'a>
         requires routes { IsTable (v4 ++ v6) }
         requires ipv4 { All (λ r. r.block.family ≡ Ipv4) v4 }
         requires ipv6 { All (λ r. r.block.family ≡ Ipv6) v6 }

@@ -6,7 +6,7 @@ use std::process::Abort;
 use std::str::FromStr;
 
 /// A table of these routes, added in order.
-fn table(rt: &impl Abort, alloc: Global, routes: &[(&str, Hop)]) -> RouteTable {
+pub(crate) fn table(rt: &impl Abort, alloc: Global, routes: &[(&str, Hop)]) -> RouteTable {
     let mut table = RouteTable::new(alloc).expect(rt, "a table");
     for (text, hop) in routes {
         let net = IpNet::from_str(text).expect(rt, "a network");

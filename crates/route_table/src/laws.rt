@@ -1,5 +1,8 @@
 //! Laws of tables: public functions without a body, whose contracts are the laws.
-ghost use Rattle.route_table.specs.Laws.{AllThenDel, BestIsUnbeaten, BlocksOfChoices, ChangedByChoices, ChoicesAfter, ChoicesHaveOneHop, ChoicesWith, ChoicesWithout, MatchOfChoices, NetworkRestored, NoneIsFree, OneBeats, OthersAreFree, RoutesAreTable, RoutesOfAdd, RoutesOfDel, RoutesOfOverwrite, SameChoices, SameTables, StayChoices, StaysStored, MatchIsLongest, GovernedMatch, GovernedBound, StaysTable, ChangedIsMaximal, AddedHaveOneHop, LeftHaveOneHop, ChangedByAdd, ChangedByDel, BlocksOfAdd, BlocksOfDel, GovernedAfter, AddThenDel, OtherFamilyAfterAdd, OtherFamilyAfterDel, FlatIsShortest, ShortestIsFlat, FlatIsAdmissible, SameFlat, SearchIsFlat, OwnIsMaximal, FlatIsBounded, FlatRebuilds, OverwriteIsTable, HopsOfOverwrite, PagesAreRoutes, PagesEnd, MembersAfterAdd, MembersAfterDel, MatchAfterAdd, MatchAfterDel, ChangedIsShortest, ShortestIsChanged, MaximalIsChanged, EmptyIsFlat, OneRouteIsChanged, OneRouteHops, OneRouteIsFlat};
+ghost use Rattle.route_table.specs.Fewest.{FewestByHalves, FewestOfHost, LeastIsFewest};
+ghost use Rattle.route_table.specs.Laws.{AllThenDel, BlocksOfChoices, ChangedByChoices, ChoicesAfter, ChoicesHaveOneHop, MatchOfChoices, NetworkRestored, NoneIsFree, OthersAreFree, RoutesAreTable, RoutesOfAdd, RoutesOfDel, RoutesOfOverwrite, SameTables, StaysStored, MatchIsLongest, GovernedMatch, GovernedBound, StaysTable, ChangedIsMaximal, AddedHaveOneHop, LeftHaveOneHop, ChangedByAdd, ChangedByDel, BlocksOfAdd, BlocksOfDel, GovernedAfter, AddThenDel, OtherFamilyAfterAdd, OtherFamilyAfterDel, FlatIsShortest, ShortestIsFlat, FlatIsAdmissible, SameFlat, SearchIsFlat, OwnIsMaximal, FlatIsBounded, FlatRebuilds, OverwriteIsTable, HopsOfOverwrite, PagesAreRoutes, PagesEnd, MembersAfterAdd, MembersAfterDel, MatchAfterAdd, MatchAfterDel, ChangedIsShortest, ShortestIsChanged, MaximalIsChanged, EmptyIsFlat, OneRouteIsChanged, OneRouteHops, OneRouteIsFlat};
+
+pub use route_choices::laws::choices;
 
 /// The match is the longest member that contains the block; the match of an address in what a block
 /// governs is the match of the block; and what it governs has few maximal blocks.
@@ -85,17 +88,6 @@ pub fn one_route()
     ensures flat { OneRouteIsFlat }
 {}
 
-/// The choices of one network: the first is the one that no other beats; with a choice, those of other hops and it;
-/// without a hop, those of other hops; and they stay in order, at most eight, no hop twice.
-pub fn choices()
-    ensures best { BestIsUnbeaten }
-    ensures one { OneBeats }
-    ensures with_one { ChoicesWith }
-    ensures without_one { ChoicesWithout }
-    ensures stay { StayChoices }
-    ensures same { SameChoices }
-{}
-
 /// The best routes of a table are a table of routes; after an `add` it has the best of the new choices, after a `del`
 /// the best of those that are left, or not the network where none is; after an `overwrite` one in the place of those inside.
 pub fn best_routes()
@@ -123,4 +115,13 @@ pub fn changed_networks()
     ensures changed { ChangedByChoices }
     ensures blocks { BlocksOfChoices }
     ensures one_hop { ChoicesHaveOneHop }
+{}
+
+/// The fewest routes inside a block by which each of its addresses has a given hop, where the routes outside hand down a
+/// hop or none: for the block of one address; and for any other by what its halves need. A least table has as many as all
+/// IPv4 addresses and all IPv6 addresses need where nothing is handed down.
+pub fn fewest()
+    ensures host { FewestOfHost }
+    ensures halves { FewestByHalves }
+    ensures least { LeastIsFewest }
 {}

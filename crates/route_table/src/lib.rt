@@ -1,33 +1,33 @@
 //! Route tables: a hop for each of some networks, the longest match, and which addresses a change concerns.
 #![tactic(auto)]
 
-pub use choice::DEFAULT_PREFERENCE;
-pub use choices::All;
 pub use flat::Flat;
 pub use governed::Governed;
-pub use hop::Hop;
+pub use hop_table::HopTable;
 pub use prefix_trie::Refused;
 pub use refused::AddRefused;
+pub use route_choices::{All, DEFAULT_PREFERENCE, Hop};
 pub use routes::Routes;
-pub use table::RouteTable;
+pub use table::{RouteTable, Table};
 
 mod address_family;
-mod choice;
 #[cfg(test)]
 mod choice_tests;
-mod choices;
 mod family;
 mod flat;
 #[cfg(test)]
 mod flat_tests;
 mod governed;
-mod hop;
+mod hop_table;
 pub mod laws;
+#[cfg(test)]
+mod least_tests;
 mod overwrite;
 mod own_blocks;
 mod refused;
 mod routes;
 mod runs;
+mod shortest;
 mod side;
 mod side_routes;
 mod table;

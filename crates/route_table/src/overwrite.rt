@@ -4,15 +4,15 @@ ghost use Rattle.ipnet_addr.specs.Addresses.{Address, IsAddress, width};
 ghost use Rattle.ipnet_blocks.specs.Blocks.{IsBlock, has_address, left, right};
 ghost use Rattle.ipnet.specs.IpNets.{block, family, parts};
 ghost use Rattle.trie_map.specs.declared.refused.Refused.TheVariants.{Memory};
-ghost use Rattle.route_table.specs.Choices.{default_preference};
+ghost use Rattle.route_choices.specs.Choices.{default_preference};
+ghost use Rattle.route_choices.specs.Hops.{number_of};
 ghost use Rattle.route_table.specs.Networks.{IsStoredTable, choices_at, networks_outside, overwritten_by, routes_of};
-ghost use Rattle.route_table.specs.Tables.{hop_at, number_of};
+ghost use Rattle.route_table.specs.Tables.{hop_at};
 
-use crate::choice::DEFAULT_PREFERENCE;
-use crate::hop::Hop;
-use crate::table::{RouteTable, cleared};
+use crate::table::{Table, cleared};
 use ipnet::IpNet;
 use prefix_trie::Refused;
+use route_choices::{DEFAULT_PREFERENCE, Hop};
 
 /// The networks one bit longer than a network that has more than one address: its lower and its upper half. The
 /// upper one has host bits.
@@ -28,7 +28,7 @@ fn halves(net: &IpNet) -> (IpNet, IpNet)
     )
 }
 
-impl RouteTable {
+impl<const ROOM: usize> Table<ROOM> {
     /// Removes every network inside this one, its own routes included, and stores one route there, of this hop and of
     /// preference 100: all addresses of the network have the new hop then, and all others the hop that they had.
     ///
@@ -45,7 +45,7 @@ impl RouteTable {
     {
         let net = cleared(&net);
         self.store(net, hop, DEFAULT_PREFERENCE)?;
-        if net.prefix_len() < net.max_prefix_len() {
+        if !self.has_none_inside(&net) {
             let (lower, upper) = halves(&net);
             self.remove_inside(&lower);
             self.remove_inside(&upper);

@@ -10,11 +10,11 @@ ghost use Rattle.route_table.specs.Tables.{IsTable, hop_at, route_of};
 ghost use Rattle.trie_map.specs.declared.refused.Refused.TheVariants.{Memory};
 
 use crate::governed::Governed;
-use crate::hop::Hop;
 use crate::routes::Routes;
 use crate::table::{RouteTable, cleared};
 use ipnet::IpNet;
 use prefix_trie::Refused;
+use route_choices::Hop;
 use std::alloc::AllocError;
 
 /// Appends the blocks.

@@ -4,9 +4,9 @@ ghost use Rattle.std.specs.Iterator.{item_count};
 ghost use Rattle.route_table.specs.InnerRoutes.{routes_left};
 ghost use Rattle.route_table.specs.Items.{GivesRoute};
 
-use crate::hop::Hop;
 use crate::side_routes::SideRoutes;
 use ipnet::{IpNet, Ipv4Net, Ipv6Net};
+use route_choices::Hop;
 use std::marker::Model;
 
 /// The routes of either side that are left.

@@ -7,11 +7,11 @@ ghost use Rattle.route_table.specs.Tables.{IsTable, route_of};
 
 use crate::address_family::AddressFamily;
 use crate::governed::span;
-use crate::hop::Hop;
 use crate::routes::Routes;
 use arrayvec::ArrayVec;
 use ipnet::IpNet;
 use ipnet_blocks::aggregate::Span;
+use route_choices::Hop;
 
 /// The numbers of a route's addresses, its length, and the number of its hop.
 #[derive(Clone, Copy, Default)]

@@ -1,38 +1,50 @@
 //! One side of a table: the networks of one family.
-ghost use Rattle.std.specs.Prelude.{◌≡◌, ◌≢◌, ◌≤◌, ◌+◌, ◌/◌, [], ◌∷◌, IfErr, IfOk, IsOk, OnErr, OnOk, false};
+ghost use Rattle.std.specs.Prelude.{◌≡◌, ◌≢◌, ◌<◌, ◌≤◌, ◌+◌, ◌/◌, [], ◌∷◌, IfErr, IfOk, IfSome, IsOk, IsTrue, OnErr, OnOk, ◌↔◌, false, is_some, not};
 ghost use Rattle.std.specs.Option.{option_map};
 ghost use Rattle.ipnet_blocks.specs.Blocks.{IsBlock, bit_string};
 ghost use Rattle.ipnet_blocks.specs.Networks.{block_of};
 ghost use Rattle.trie_core.specs.Count.{nodes, visit_count};
 ghost use Rattle.trie_map.specs.declared.refused.Refused.TheVariants.{Memory};
+ghost use Rattle.route_choices.specs.Choices.{has_none, holds_hop, is_one_too_many};
+ghost use Rattle.route_choices.specs.Hops.{IsHop};
 ghost use Rattle.route_table.specs.InnerSides.{IsSide};
 ghost use Rattle.route_table.specs.Onwards.{count_of, routes_after, routes_from};
-ghost use Rattle.route_table.specs.Choices.{holds_hop, is_one_too_many};
-ghost use Rattle.route_table.specs.Networks.{choices_at, networks_outside, routes_of, with_choice, with_choices, without_choice};
+ghost use Rattle.route_table.specs.Networks.{IsLeaf, choices_at, networks_outside, routes_of, with_choice, with_choices, without_choice};
 ghost use Rattle.route_table.specs.Refusals.{IsRefused};
 ghost use Rattle.route_table.specs.Tries.{map_of};
-ghost use Rattle.route_table.specs.Tables.{IsHop, covering, match_of, match_number, routes_inside, item_of};
+ghost use Rattle.route_table.specs.Tables.{covering, match_of, match_number, routes_inside, item_of};
 
-use crate::choices::{All, Choices};
 use crate::family::OfFamily;
-use crate::hop::Hop;
 use crate::refused::AddRefused;
 use crate::side_routes::{Entries, SideRoutes};
 use ipnet::IpNet;
 use prefix_trie::{PrefixMap, Refused};
+use route_choices::{All, Choices, Hop, TooMany};
 use std::alloc::Global;
 use std::marker::Model;
 
-/// Some networks of one family with their routes, ascending.
+/// The hops of a change before and after it, where there was one.
+fn change(
+    changed: bool,
+    before: Option<u32>,
+    after: Option<u32>,
+) -> Option<(Option<u32>, Option<u32>)>
+    ensures some { is_some result ≡ changed }
+    ensures hops { IfSome result (λ r. (r.0 ≡ before) × (r.1 ≡ after)) }
+{
+    if changed { Some((before, after)) } else { None }
+}
+
+/// Some networks of one family with their routes, ascending, with room for so many routes of each.
 ///
 /// The calls ask for networks whose bits name a block: the host bits of an argument are cleared above.
 #[derive(Drop)]
-pub struct Side<P: OfFamily> {
-    networks: PrefixMap<P, Choices>,
+pub struct Side<P: OfFamily, const ROOM: usize> {
+    networks: PrefixMap<P, Choices<ROOM>>,
 }
 
-impl<P: OfFamily> Model for Side<P> {
-    ghost use Rattle.std.specs.Prelude.{List, ◌≡◌};
+impl<P: OfFamily, const ROOM: usize> Model for Side<P, ROOM> {
+    ghost use Rattle.std.specs.Prelude.{List, ◌≡◌, ◌<◌, ◌≤◌};
     ghost use Rattle.std.specs.FinMap.{empty};
     ghost use Rattle.route_table.specs.Networks.{Stored};
     ghost use Rattle.route_table.specs.InnerSides.{IsStored, stored_in};
@@ -41,55 +53,20 @@ impl<P: OfFamily> Model for Side<P> {
 
     ghost view = { λ a. stored_in P.family a.networks.entries };
 
-    ghost invariant = { λ a. IsStored P.family a.networks.entries × (a.networks.spares ≡ empty) };
+    ghost invariant = { λ a. IsStored P.family a.networks.entries × (a.networks.spares ≡ empty) × (0 < ROOM) × (ROOM ≤ 8) };
 }
 
-impl<P: OfFamily> Side<P> {
+impl<P: OfFamily, const ROOM: usize> Side<P, ROOM> {
     /// No networks.
-    pub fn new(alloc: Global) -> Result<Side<P>, Refused>
+    pub fn new(alloc: Global) -> Result<Side<P, ROOM>, Refused>
+        requires some { 0 < ROOM }
+        requires few { ROOM ≤ 8 }
         ensures networks { IfOk result (λ s. s ≡ []) }
         ensures ok { IsOk result }
     {
         Ok(Side {
             networks: PrefixMap::new(alloc)?,
         })
-    }
-
-    /// Adds a route to the network, or gives the one of this hop the new preference; answers the number of its best hop
-    /// then.
-    pub fn add(&mut self, net: P, hop: Hop, pref: u16) -> Result<Option<u32>, AddRefused>
-        requires { IsBlock (block_of P.family (P.parts net)) }
-        ensures number { IfOk result (λ k. k ≡ match_number (match_of (routes_of self.new) (block_of P.family (P.parts net)))) }
-        ensures networks { OnOk result (self.new ≡ with_choice self.old (block_of P.family (P.parts net)) (record { hop = hop; pref = pref })) }
-        ensures room { OnOk result (is_one_too_many (choices_at self.old (block_of P.family (P.parts net))) hop ≡ false) }
-        ensures side { IsSide P.family self.new }
-        ensures refused { IfErr result (IsRefused (choices_at self.old (block_of P.family (P.parts net))) hop) }
-        ensures unchanged { OnErr result (self.new ≡ self.old) }
-    {
-        if self.networks.contains_key(&net) {
-            return self.add_stored(net, hop, pref);
-        }
-        match self.store(net, hop, pref) {
-            Ok(()) => Ok(hop.number()),
-            Err(refused) => Err(AddRefused::Store(refused)),
-        }
-    }
-
-    /// The same for a stored network, in place.
-    fn add_stored(&mut self, net: P, hop: Hop, pref: u16) -> Result<Option<u32>, AddRefused>
-        requires block { IsBlock (block_of P.family (P.parts net)) }
-        requires stored { choices_at self.old (block_of P.family (P.parts net)) ≢ [] }
-        ensures number { IfOk result (λ k. k ≡ match_number (match_of (routes_of self.new) (block_of P.family (P.parts net)))) }
-        ensures networks { OnOk result (self.new ≡ with_choice self.old (block_of P.family (P.parts net)) (record { hop = hop; pref = pref })) }
-        ensures room { OnOk result (is_one_too_many (choices_at self.old (block_of P.family (P.parts net))) hop ≡ false) }
-        ensures side { IsSide P.family self.new }
-        ensures refused { IfErr result (IsRefused (choices_at self.old (block_of P.family (P.parts net))) hop) }
-        ensures unchanged { OnErr result (self.new ≡ self.old) }
-    {
-        let (_, choices) = self.networks.match_mut(&net, net.prefix_len());
-        choices.add(hop, pref)?;
-        let (best, _) = choices.best();
-        Ok(best.number())
     }
 
     /// Stores one route at the network, in the place of all that it has.
@@ -102,29 +79,12 @@ impl<P: OfFamily> Side<P> {
         ensures unchanged { OnErr result (self.new ≡ self.old) }
         ensures absent { OnErr result (choices_at self.old (block_of P.family (P.parts net)) ≡ []) }
     {
+        let networks = &mut self.networks;
         let choices = Choices::one(hop, pref);
-        if let Err((refused, _)) = self.networks.insert(net, choices) {
+        if let Err((refused, _)) = networks.insert(net, choices) {
             return Err(refused);
         }
         Ok(())
-    }
-
-    /// Takes the route of this hop out of the network, and the network with its last route; tells whether there was one.
-    pub fn remove(&mut self, net: P, hop: Hop) -> bool
-        requires { IsBlock (block_of P.family (P.parts net)) }
-        ensures held { result ≡ holds_hop (choices_at self.old (block_of P.family (P.parts net))) hop }
-        ensures networks { self.new ≡ without_choice self.old (block_of P.family (P.parts net)) hop }
-        ensures side { IsSide P.family self.new }
-    {
-        if !self.networks.contains_key(&net) {
-            return false;
-        }
-        let (_, choices) = self.networks.match_mut(&net, net.prefix_len());
-        let held = choices.remove(hop);
-        if choices.is_empty() {
-            self.networks.remove(&net);
-        }
-        held
     }
 
     /// Takes out every network inside this one, itself included.
@@ -134,6 +94,104 @@ impl<P: OfFamily> Side<P> {
         ensures side { IsSide P.family self.new }
     {
         self.networks.remove_children(&net);
+    }
+
+    /// Whether no network lies strictly inside this one.
+    pub fn is_leaf(&self, net: P) -> bool
+        requires { IsBlock (block_of P.family (P.parts net)) }
+        ensures { IsTrue result ↔ IsLeaf self.now (block_of P.family (P.parts net)) }
+    {
+        self.networks.is_leaf(&net)
+    }
+}
+
+impl<P: OfFamily> Side<P, 8> {
+    /// The number of the best hop at the longest match, and whether the network itself is stored.
+    fn look(&self, net: P) -> (Option<u32>, bool)
+        requires { IsBlock (block_of P.family (P.parts net)) }
+        ensures number { result.0 ≡ match_number (match_of (routes_of self.now) (block_of P.family (P.parts net))) }
+        ensures stored { result.1 ≡ not (has_none (choices_at self.now (block_of P.family (P.parts net)))) }
+        ensures side { IsSide P.family self.now }
+    {
+        match self.networks.longest_match(&net) {
+            None => (None, false),
+            Some((len, choices)) => {
+                let (hop, _) = choices.best();
+                (hop.number(), len == net.prefix_len())
+            }
+        }
+    }
+
+    /// Adds a route to the network, or gives the one of this hop the new preference. Answers the numbers of the best hop
+    /// at the longest match before and after.
+    pub fn add(
+        &mut self,
+        net: P,
+        hop: Hop,
+        pref: u16,
+    ) -> Result<(Option<u32>, Option<u32>), AddRefused>
+        requires { IsBlock (block_of P.family (P.parts net)) }
+        ensures before { IfOk result (λ r. r.0 ≡ match_number (match_of (routes_of self.old) (block_of P.family (P.parts net)))) }
+        ensures after { IfOk result (λ r. r.1 ≡ match_number (match_of (routes_of self.new) (block_of P.family (P.parts net)))) }
+        ensures networks { OnOk result (self.new ≡ with_choice self.old (block_of P.family (P.parts net)) (record { hop = hop; pref = pref })) }
+        ensures room { OnOk result (is_one_too_many (choices_at self.old (block_of P.family (P.parts net))) hop ≡ false) }
+        ensures side { IsSide P.family self.new }
+        ensures refused { IfErr result (IsRefused (choices_at self.old (block_of P.family (P.parts net))) hop) }
+        ensures unchanged { OnErr result (self.new ≡ self.old) }
+    {
+        let (before, is_stored) = self.look(net);
+        if is_stored {
+            let after = self.add_stored(net, hop, pref)?;
+            return Ok((before, after));
+        }
+        match self.store(net, hop, pref) {
+            Ok(()) => Ok((before, hop.number())),
+            Err(refused) => Err(AddRefused::Store(refused)),
+        }
+    }
+
+    /// Adds the route to a stored network, in place, and answers the number of its best hop then.
+    fn add_stored(&mut self, net: P, hop: Hop, pref: u16) -> Result<Option<u32>, AddRefused>
+        requires block { IsBlock (block_of P.family (P.parts net)) }
+        requires stored { choices_at self.old (block_of P.family (P.parts net)) ≢ [] }
+        ensures number { IfOk result (λ k. k ≡ match_number (match_of (routes_of self.new) (block_of P.family (P.parts net)))) }
+        ensures networks { OnOk result (self.new ≡ with_choice self.old (block_of P.family (P.parts net)) (record { hop = hop; pref = pref })) }
+        ensures room { OnOk result (is_one_too_many (choices_at self.old (block_of P.family (P.parts net))) hop ≡ false) }
+        ensures side { IsSide P.family self.new }
+        ensures refused { IfErr result (IsRefused (choices_at self.old (block_of P.family (P.parts net))) hop) }
+        ensures unchanged { OnErr result (self.new ≡ self.old) }
+    {
+        let (_, choices) = self.networks.match_mut(&net, net.prefix_len());
+        if let Err(TooMany) = choices.add(hop, pref) {
+            return Err(AddRefused::TooMany);
+        }
+        let (best, _) = choices.best();
+        Ok(best.number())
+    }
+
+    /// Takes the route of this hop out of the network, where there is one, and the network with its last route. Answers
+    /// the numbers of the best hop at the longest match before and after.
+    pub fn remove(&mut self, net: P, hop: Hop) -> Option<(Option<u32>, Option<u32>)>
+        requires { IsBlock (block_of P.family (P.parts net)) }
+        ensures held { is_some result ≡ holds_hop (choices_at self.old (block_of P.family (P.parts net))) hop }
+        ensures before { IfSome result (λ r. r.0 ≡ match_number (match_of (routes_of self.old) (block_of P.family (P.parts net)))) }
+        ensures after { IfSome result (λ r. r.1 ≡ match_number (match_of (routes_of self.new) (block_of P.family (P.parts net)))) }
+        ensures networks { self.new ≡ without_choice self.old (block_of P.family (P.parts net)) hop }
+        ensures side { IsSide P.family self.new }
+    {
+        let (before, is_stored) = self.look(net);
+        if !is_stored {
+            return None;
+        }
+        let (_, choices) = self.networks.match_mut(&net, net.prefix_len());
+        let held = choices.remove(hop);
+        if choices.is_empty() {
+            self.networks.remove(&net);
+            let (after, _) = self.look(net);
+            return change(held, before, after);
+        }
+        let (best, _) = choices.best();
+        change(held, before, best.number())
     }
 
     /// The routes of this very network, best first.
@@ -217,5 +275,14 @@ impl<P: OfFamily> Side<P> {
         ensures { result ≡ routes_after (routes_of self.now) (block_of P.family (P.parts net)) }
     {
         SideRoutes::new(Entries::Walk(self.networks.iter_from(&net, false)))
+    }
+}
+
+impl<P: OfFamily> Side<P, 1> {
+    /// The routes of all networks.
+    pub fn iter(&self) -> SideRoutes<'_, P>
+        ensures { result ≡ routes_of self.now }
+    {
+        SideRoutes::new(Entries::Hops(self.networks.iter()))
     }
 }

@@ -2,34 +2,43 @@
 ghost use Rattle.std.specs.Prelude.{◌≡◌, List, map};
 ghost use Rattle.std.specs.Iterator.{item_count};
 ghost use Rattle.ipnet_addr.specs.Addresses.{width};
-ghost use Rattle.trie_map.specs.Iterators.{GivesEntry};
+ghost use Rattle.trie_map.specs.Iterators.{GivesOwned};
 ghost use Rattle.route_table.specs.InnerEntries.{KeysUpTo, entries_left};
 ghost use Rattle.route_table.specs.Items.{GivesRoute};
 ghost use Rattle.route_table.specs.InnerSides.{route_at};
 
-use crate::choices::Choices;
 use crate::family::OfFamily;
-use crate::hop::Hop;
 use ipnet::IpNet;
 use prefix_trie::Prefix;
 use prefix_trie::map::{Cover, Iter};
+use route_choices::{All, Choices, Hop};
 use std::marker::Model;
 
-/// The entries of one side's trie that are left of a walk, or of the way to a network.
+/// The entries of one side's trie that are left of a walk, or of the way to a network; `Hops` where a network has room
+/// for one route.
 #[derive(Drop)]
 pub(crate) enum Entries<'a, P: Prefix> {
-    Walk(Iter<'a, P, Choices>),
-    Cover(Cover<'a, P, Choices>),
+    Walk(Iter<'a, P, Choices<8>>),
+    Cover(Cover<'a, P, Choices<8>>),
+    Hops(Iter<'a, P, Choices<1>>),
+}
+
+/// An entry with the list of its routes.
+fn listed<'a, P, const ROOM: usize>(found: (P, &'a Choices<ROOM>)) -> (P, All<'a>)
+    ensures { result ≡ (found.entry.0, found.entry.1.now) }
+{
+    (found.0, found.1.all())
 }
 
 impl<'a, P: Prefix> Entries<'a, P> {
     /// The next entry.
-    fn next(&mut self) -> Option<(P, &'a Choices)>
-        ensures { GivesEntry P.fits P.bits P.of_bits (entries_left self.old) result (entries_left self.new) }
+    fn next(&mut self) -> Option<(P, All<'a>)>
+        ensures { GivesOwned P.fits P.bits P.of_bits (entries_left self.old) result (entries_left self.new) }
     {
         match self {
-            Entries::Walk(entries) => entries.next(),
-            Entries::Cover(entries) => entries.next(),
+            Entries::Walk(entries) => Some(listed(entries.next()?)),
+            Entries::Cover(entries) => Some(listed(entries.next()?)),
+            Entries::Hops(entries) => Some(listed(entries.next()?)),
         }
     }
 }

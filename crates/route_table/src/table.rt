@@ -1,5 +1,5 @@
 //! The table.
-ghost use Rattle.std.specs.Prelude.{◌≡◌, ◌≤◌, ◌+◌, ◌/◌, [], ◌∷◌, ◌++◌, All, IfOk, IfErr, IfSome, IsOk, OnOk, OnErr, false, is_some, length, sum_by};
+ghost use Rattle.std.specs.Prelude.{◌≡◌, ◌<◌, ◌≤◌, ◌+◌, ◌/◌, [], ◌∷◌, ◌++◌, All, IfOk, IfErr, IfSome, IsOk, IsTrue, OnOk, OnErr, ◌↔◌, false, is_some, length, sum_by};
 ghost use Rattle.std.specs.Option.{option_map};
 ghost use Rattle.ipnet_addr.specs.Addresses.{Ipv4, Ipv6};
 ghost use Rattle.ipnet_blocks.specs.Blocks.{IsBlock, bit_string};
@@ -7,21 +7,21 @@ ghost use Rattle.ipnet.specs.IpNets.{block, family, parts, network_at};
 ghost use Rattle.ipnet_blocks.specs.Maximal.{IsMaximal, IsShortest};
 ghost use Rattle.trie_core.specs.Count.{nodes, visit_count};
 ghost use Rattle.trie_map.specs.declared.refused.Refused.TheVariants.{Memory};
+ghost use Rattle.route_choices.specs.Choices.{holds_hop, is_one_too_many};
+ghost use Rattle.route_choices.specs.Hops.{IsHop};
 ghost use Rattle.route_table.specs.Bounds.{excess};
 ghost use Rattle.route_table.specs.Tries.{map_of};
-ghost use Rattle.route_table.specs.Choices.{holds_hop, is_one_too_many};
-ghost use Rattle.route_table.specs.Networks.{IsStoredTable, choices_at, routes_of, with_choice, with_choices, without_choice};
+ghost use Rattle.route_table.specs.Networks.{IsLeaf, IsStoredTable, choices_at, routes_of, with_choice, with_choices, without_choice};
 ghost use Rattle.route_table.specs.Refusals.{IsRefused};
-ghost use Rattle.route_table.specs.Tables.{Governed as GovernedBy, IsHop, IsTable, match_number, match_of, routes_inside, item_of};
+ghost use Rattle.route_table.specs.Tables.{Governed as GovernedBy, IsTable, match_number, match_of, routes_inside, item_of};
 
-use crate::choices;
 use crate::governed::Governed;
-use crate::hop::Hop;
 use crate::refused::AddRefused;
 use crate::routes::Routes;
 use crate::side::Side;
 use ipnet::{IpNet, Ipv4Net, Ipv6Net};
 use prefix_trie::Refused;
+use route_choices::Hop;
 use std::alloc::Global;
 use std::marker::Model;
 
@@ -31,15 +31,18 @@ use std::marker::Model;
 ///
 /// Contracts see it as the ascending list of its stored networks, each with its routes, best first; what they say of
 /// matches and hops, they say of the list of the best routes. Host bits of an argument are ignored everywhere. Only
-/// `own`, and `add` and `overwrite` of a network that is not stored, take memory.
+/// `own`, `least`, and `add` and `overwrite` of a network that is not stored, take memory.
+pub type RouteTable = Table<8>;
+
+/// A table of networks of both families with room for so many routes of each: `RouteTable` for eight, `HopTable` for one.
 #[derive(Drop)]
-pub struct RouteTable {
-    pub(crate) v4: Side<Ipv4Net>,
-    pub(crate) v6: Side<Ipv6Net>,
+pub struct Table<const ROOM: usize> {
+    pub(crate) v4: Side<Ipv4Net, ROOM>,
+    pub(crate) v6: Side<Ipv6Net, ROOM>,
     alloc: Global,
 }
 
-impl Model for RouteTable {
+impl<const ROOM: usize> Model for Table<ROOM> {
     ghost use Rattle.std.specs.Prelude.{List, ◌++◌};
     ghost use Rattle.ipnet_addr.specs.Addresses.{Ipv4, Ipv6};
     ghost use Rattle.route_table.specs.InnerSides.{IsSide};
@@ -71,11 +74,7 @@ impl RouteTable {
         ensures table { IfOk result IsStoredTable }
         ensures ok { IsOk result }
     {
-        Ok(RouteTable {
-            v4: Side::new(alloc)?,
-            v6: Side::new(alloc)?,
-            alloc,
-        })
+        Table::empty(alloc)
     }
 
     /// Adds a route to the network, or gives the route of this hop that it has the new preference. Answers the hop that
@@ -99,10 +98,7 @@ impl RouteTable {
         ensures refused { IfErr result (IsRefused (choices_at self.old (block net)) hop) }
         ensures unchanged { OnErr result (self.new ≡ self.old) }
     {
-        let net = cleared(&net);
-        let before = self.hop_of(&net);
-        let after = self.add_choice(net, hop, pref)?;
-        Ok((before, after))
+        self.add_choice(cleared(&net), hop, pref)
     }
 
     /// Takes the route of this hop out of the network, where there is one, and the network with its last route. Answers
@@ -114,17 +110,11 @@ impl RouteTable {
         ensures tables { IsStoredTable self.old × IsStoredTable self.new }
         ensures hops { IfSome result (λ r. (r.0 ≡ match_number (match_of (routes_of self.old) (block net.now))) × (r.1 ≡ match_number (match_of (routes_of self.new) (block net.now)))) }
     {
-        let net = cleared(net);
-        let before = self.hop_of(&net);
-        if self.remove_choice(&net, hop) {
-            Some((before, self.hop_of(&net)))
-        } else {
-            None
-        }
+        self.remove_choice(&cleared(net), hop)
     }
 
     /// The routes of exactly this network, best first: each hop with its preference. It takes no memory.
-    pub fn all(&self, net: &IpNet) -> choices::All<'_>
+    pub fn all(&self, net: &IpNet) -> route_choices::All<'_>
         ensures { result ≡ choices_at self.now (block net.now) }
     {
         match cleared(net) {
@@ -172,9 +162,13 @@ impl RouteTable {
         self.governs(&cleared(net))
     }
 
-    /// Where its memory is from.
-    pub(crate) fn alloc(&self) -> Global {
-        self.alloc
+    /// Whether no stored network lies strictly inside this one, which may be stored or not: then the network itself is
+    /// the one maximal block of what it governs. It takes no memory.
+    pub fn is_leaf(&self, net: &IpNet) -> bool
+        ensures leaf { IsTrue result ↔ IsLeaf self.now (block net.now) }
+        ensures governed { IsTrue result → IsMaximal (GovernedBy (routes_of self.now) (block net.now)) (block net.now ∷ []) }
+    {
+        self.has_none_inside(&cleared(net))
     }
 
     /// The routes of either family, ascending.
@@ -195,10 +189,16 @@ impl RouteTable {
         (self.v4.node_count(), self.v6.node_count())
     }
 
-    /// Adds a route to the network, and answers the number of its best hop then.
-    fn add_choice(&mut self, net: IpNet, hop: Hop, pref: u16) -> Result<Option<u32>, AddRefused>
+    /// Adds a route to the network.
+    fn add_choice(
+        &mut self,
+        net: IpNet,
+        hop: Hop,
+        pref: u16,
+    ) -> Result<(Option<u32>, Option<u32>), AddRefused>
         requires { IsBlock (block net) }
-        ensures number { IfOk result (λ k. k ≡ match_number (match_of (routes_of self.new) (block net))) }
+        ensures before { IfOk result (λ r. r.0 ≡ match_number (match_of (routes_of self.old) (block net))) }
+        ensures after { IfOk result (λ r. r.1 ≡ match_number (match_of (routes_of self.new) (block net))) }
         ensures networks { OnOk result (self.new ≡ with_choice self.old (block net) (record { hop = hop; pref = pref })) }
         ensures room { OnOk result (is_one_too_many (choices_at self.old (block net)) hop ≡ false) }
         ensures tables { IsStoredTable self.old × IsStoredTable self.new }
@@ -211,32 +211,18 @@ impl RouteTable {
         }
     }
 
-    /// Takes the route of this hop out of the network, and tells whether there was one.
-    fn remove_choice(&mut self, net: &IpNet, hop: Hop) -> bool
+    /// Takes the route of this hop out of the network, where there is one.
+    fn remove_choice(&mut self, net: &IpNet, hop: Hop) -> Option<(Option<u32>, Option<u32>)>
         requires { IsBlock (block net.now) }
-        ensures held { result ≡ holds_hop (choices_at self.old (block net.now)) hop }
+        ensures held { is_some result ≡ holds_hop (choices_at self.old (block net.now)) hop }
+        ensures before { IfSome result (λ r. r.0 ≡ match_number (match_of (routes_of self.old) (block net.now))) }
+        ensures after { IfSome result (λ r. r.1 ≡ match_number (match_of (routes_of self.new) (block net.now))) }
         ensures networks { self.new ≡ without_choice self.old (block net.now) hop }
         ensures tables { IsStoredTable self.old × IsStoredTable self.new }
     {
         match *net {
             IpNet::V4(net) => self.v4.remove(net, hop),
             IpNet::V6(net) => self.v6.remove(net, hop),
-        }
-    }
-
-    /// Stores one route at the network, in the place of all that it has.
-    pub(crate) fn store(&mut self, net: IpNet, hop: Hop, pref: u16) -> Result<(), Refused>
-        requires { IsBlock (block net) }
-        ensures hop { IsHop hop }
-        ensures networks { OnOk result (self.new ≡ with_choices self.old (block net) (record { hop = hop; pref = pref } ∷ [])) }
-        ensures tables { IsStoredTable self.old × IsStoredTable self.new }
-        ensures memory { IfErr result (λ e. e ≡ Memory) }
-        ensures unchanged { OnErr result (self.new ≡ self.old) }
-        ensures absent { OnErr result (choices_at self.old (block net) ≡ []) }
-    {
-        match net {
-            IpNet::V4(net) => self.v4.store(net, hop, pref),
-            IpNet::V6(net) => self.v6.store(net, hop, pref),
         }
     }
 
@@ -264,15 +250,6 @@ impl RouteTable {
         }
     }
 
-    /// The number at the longest match.
-    fn hop_of(&self, net: &IpNet) -> Option<u32>
-        requires { IsBlock (block net.now) }
-        ensures { result ≡ match_number (match_of (routes_of self.now) (block net.now)) }
-    {
-        let (_, hop, _) = self.longest(net)?;
-        hop.number()
-    }
-
     /// The routes inside the network.
     fn inside(&self, net: &IpNet) -> Routes<'_>
         requires { IsBlock (block net.now) }
@@ -293,5 +270,54 @@ impl RouteTable {
         ensures table { IsTable (routes_of self.now) }
     {
         Governed::new(*net, self.inside(net))
+    }
+}
+
+impl<const ROOM: usize> Table<ROOM> {
+    /// The table without networks.
+    pub(crate) fn empty(alloc: Global) -> Result<Table<ROOM>, Refused>
+        requires some { 0 < ROOM }
+        requires few { ROOM ≤ 8 }
+        ensures networks { IfOk result (λ t. t ≡ []) }
+        ensures table { IfOk result IsStoredTable }
+        ensures ok { IsOk result }
+    {
+        Ok(Table {
+            v4: Side::new(alloc)?,
+            v6: Side::new(alloc)?,
+            alloc,
+        })
+    }
+
+    /// Where its memory is from.
+    pub(crate) fn alloc(&self) -> Global {
+        self.alloc
+    }
+
+    /// Stores one route at the network, in the place of all that it has.
+    pub(crate) fn store(&mut self, net: IpNet, hop: Hop, pref: u16) -> Result<(), Refused>
+        requires { IsBlock (block net) }
+        ensures hop { IsHop hop }
+        ensures networks { OnOk result (self.new ≡ with_choices self.old (block net) (record { hop = hop; pref = pref } ∷ [])) }
+        ensures tables { IsStoredTable self.old × IsStoredTable self.new }
+        ensures memory { IfErr result (λ e. e ≡ Memory) }
+        ensures unchanged { OnErr result (self.new ≡ self.old) }
+        ensures absent { OnErr result (choices_at self.old (block net) ≡ []) }
+    {
+        match net {
+            IpNet::V4(net) => self.v4.store(net, hop, pref),
+            IpNet::V6(net) => self.v6.store(net, hop, pref),
+        }
+    }
+
+    /// Whether no stored network lies strictly inside the network.
+    pub(crate) fn has_none_inside(&self, net: &IpNet) -> bool
+        requires { IsBlock (block net.now) }
+        ensures { IsTrue result ↔ IsLeaf self.now (block net.now) }
+    {
+        match *net {
+            IpNet::V4(net) => self.v4.is_leaf(net),
+            IpNet::V6(net) => self.v6.is_leaf(net),
+        }
     }
 }

@@ -39,6 +39,30 @@ fn governed_count(rt: &impl Abort, table: &RouteTable, text: &str) -> u32 {
 }
 
 #[test]
+fn leaves(rt: HostRuntime) {
+    let mut table = RouteTable::new(rt.alloc()).expect(&rt, "a table");
+    assert!(rt; table.is_leaf(&net(&rt, "0.0.0.0/0")));
+    assert!(rt; table.is_leaf(&net(&rt, "::/0")));
+    let _ = add(&rt, &mut table, "10.0.0.0/8", Hop::Number(1));
+    assert!(rt; table.is_leaf(&net(&rt, "10.0.0.0/8")));
+    assert!(rt; table.is_leaf(&net(&rt, "10.1.0.0/16")));
+    assert!(rt; table.is_leaf(&net(&rt, "10.1.2.3/32")));
+    assert!(rt; !table.is_leaf(&net(&rt, "0.0.0.0/0")));
+    assert!(rt; !table.is_leaf(&net(&rt, "10.9.9.9/7")));
+    assert!(rt; table.is_leaf(&net(&rt, "::/0")));
+    let _ = add(&rt, &mut table, "2001:db8::1/128", Hop::Drop);
+    assert!(rt; !table.is_leaf(&net(&rt, "::/0")));
+    assert!(rt; !table.is_leaf(&net(&rt, "2001:db8::/127")));
+    assert!(rt; table.is_leaf(&net(&rt, "2001:db8::1/128")));
+    assert!(rt; table.is_leaf(&net(&rt, "2001:db8::2/127")));
+    let _ = add(&rt, &mut table, "0.0.0.0/0", Hop::Number(2));
+    assert!(rt; !table.is_leaf(&net(&rt, "0.0.0.0/0")));
+    assert!(rt; table.is_leaf(&net(&rt, "10.0.0.0/8")));
+    assert!(rt; table.del(&net(&rt, "10.0.0.0/8"), Hop::Number(1)).is_some());
+    assert!(rt; table.is_leaf(&net(&rt, "0.0.0.0/0")));
+}
+
+#[test]
 fn nested_routes(rt: HostRuntime) {
     let mut table = RouteTable::new(rt.alloc()).expect(&rt, "a table");
     assert_eq!(rt;

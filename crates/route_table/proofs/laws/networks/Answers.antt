@@ -1,4 +1,4 @@
-use Rattle.route_table.proofs.ChoiceLists.{none_of}
+use Rattle.route_choices.proofs.ChoiceLists.{none_of}
 use Rattle.route_table.proofs.Networks.{add_is, del_is, at_changed, at_other, same_tables, del_none, restored, emptied}
 use Rattle.route_table.specs.Networks.{choices_at}
 use Rattle.route_table.proofs.laws.networks.Goals as goal

@@ -10,7 +10,7 @@ pub remove_children-requires : goal.remove_children-requires
 remove_children-requires g c = g.met.P.OfFamily.always_fits c.args.net
 
 pub invariant_of-self : goal.invariant_of-self
-invariant_of-self g c = (outside_is_stored (block_of g.P.OfFamily.family (g.P.OfFamily.parts c.args.net)) c.requires _ c.self.invariant.0 _ (c.remove_children.ensures.map ∙ ap (outside c.self.inside.networks.entries) (g.met.P.OfFamily.bits_are c.args.net)), c.remove_children.ensures.tidy c.self.invariant.1)
+invariant_of-self g c = (outside_is_stored (block_of g.P.OfFamily.family (g.P.OfFamily.parts c.args.net)) c.requires _ c.self.invariant.0 _ (c.remove_children.ensures.map ∙ ap (outside c.self.inside.networks.entries) (g.met.P.OfFamily.bits_are c.args.net)), c.remove_children.ensures.tidy c.self.invariant.1, c.self.invariant.2, c.self.invariant.3)
 
 pub returns-clause-networks : goal.returns-clause-networks
 returns-clause-networks g c = outside_side (block_of g.P.OfFamily.family (g.P.OfFamily.parts c.args.net)) c.requires _ c.self.invariant.0 _ (c.remove_children.ensures.map ∙ ap (outside c.self.inside.networks.entries) (g.met.P.OfFamily.bits_are c.args.net)) ∙ ap (λ M. networks_outside M (block_of g.P.OfFamily.family (g.P.OfFamily.parts c.args.net))) c.self.view_is

@@ -2,7 +2,7 @@ use Rattle.std.proofs.Common.{◌∙◌, ◌++◌, List, sym, ap, subst}
 use Rattle.ipnet_addr.specs.Addresses.{Ipv4, Ipv6}
 use Rattle.ipnet_blocks.specs.Networks.{block_of}
 use Rattle.ipnet.specs.IpNets.{block}
-use Rattle.route_table.specs.Choices.{Choice, is_one_too_many}
+use Rattle.route_choices.specs.Choices.{Choice, is_one_too_many}
 use Rattle.route_table.specs.Networks.{IsStoredTable, choices_at, routes_of, with_choice}
 use Rattle.route_table.specs.Refusals.{IsRefused}
 use Rattle.route_table.specs.Tables.{match_of, match_number}
@@ -10,8 +10,11 @@ use Rattle.route_table.proofs.Owned.{if_err, if_ok, on_ok}
 use Rattle.route_table.proofs.Sides.{is_stored_table, choices_side, match_side, with_choice_side}
 use Rattle.route_table.proofs.table.RouteTable.add_choice.Goals as goal
 
-pub returns-in-V4-clause-number : goal.returns-in-V4-clause-number
-returns-in-V4-clause-number c = if_ok _ _ c.add.result (λ k e. e ∙ sym (ap match_number (match_side _ _ (c.add.ensures.side, c.self.invariant.1) (block_of Ipv4 c.in-V4.net))) ∙ ap (λ n. match_number (match_of (routes_of (c.add.new.self ++ c.self.inside.v6)) (block n))) (sym c.in-V4.is)) c.add.ensures.number
+pub returns-in-V4-clause-before : goal.returns-in-V4-clause-before
+returns-in-V4-clause-before c = if_ok _ _ c.add.result (λ r e. e ∙ sym (ap match_number (match_side _ _ c.self.invariant (block_of Ipv4 c.in-V4.net))) ∙ (λ i. match_number (match_of (routes_of (c.self.view_is i)) (block (sym c.in-V4.is i))))) c.add.ensures.before
+
+pub returns-in-V4-clause-after : goal.returns-in-V4-clause-after
+returns-in-V4-clause-after c = if_ok _ _ c.add.result (λ r e. e ∙ sym (ap match_number (match_side _ _ (c.add.ensures.side, c.self.invariant.1) (block_of Ipv4 c.in-V4.net))) ∙ ap (λ n. match_number (match_of (routes_of (c.add.new.self ++ c.self.inside.v6)) (block n))) (sym c.in-V4.is)) c.add.ensures.after
 
 pub returns-in-V4-clause-networks : goal.returns-in-V4-clause-networks
 returns-in-V4-clause-networks c = on_ok _ _ c.add.result (λ e. ap (λ x. x ++ c.self.inside.v6) e ∙ sym (with_choice_side _ _ c.self.invariant (block_of Ipv4 c.in-V4.net) (record { hop = c.args.hop; pref = c.args.pref })) ∙ (λ i. with_choice (c.self.view_is i) (block (sym c.in-V4.is i)) (record { hop = c.args.hop; pref = c.args.pref }))) c.add.ensures.networks
@@ -25,8 +28,11 @@ returns-in-V4-clause-tables c = (subst IsStoredTable c.self.view_is (is_stored_t
 pub returns-in-V4-clause-refused : goal.returns-in-V4-clause-refused
 returns-in-V4-clause-refused c = if_err _ _ c.add.result (λ e h. subst (λ (cs : List Choice). IsRefused cs c.args.hop e) (sym (choices_side _ _ c.self.invariant (block_of Ipv4 c.in-V4.net)) ∙ (λ i. choices_at (c.self.view_is i) (block (sym c.in-V4.is i)))) h) c.add.ensures.refused
 
-pub returns-in-V6-clause-number : goal.returns-in-V6-clause-number
-returns-in-V6-clause-number c = if_ok _ _ c.add-in-V6.result (λ k e. e ∙ sym (ap match_number (match_side _ _ (c.self.invariant.0, c.add-in-V6.ensures.side) (block_of Ipv6 c.in-V6.net))) ∙ ap (λ n. match_number (match_of (routes_of (c.self.inside.v4 ++ c.add-in-V6.new.self)) (block n))) (sym c.in-V6.is)) c.add-in-V6.ensures.number
+pub returns-in-V6-clause-before : goal.returns-in-V6-clause-before
+returns-in-V6-clause-before c = if_ok _ _ c.add-in-V6.result (λ r e. e ∙ sym (ap match_number (match_side _ _ c.self.invariant (block_of Ipv6 c.in-V6.net))) ∙ (λ i. match_number (match_of (routes_of (c.self.view_is i)) (block (sym c.in-V6.is i))))) c.add-in-V6.ensures.before
+
+pub returns-in-V6-clause-after : goal.returns-in-V6-clause-after
+returns-in-V6-clause-after c = if_ok _ _ c.add-in-V6.result (λ r e. e ∙ sym (ap match_number (match_side _ _ (c.self.invariant.0, c.add-in-V6.ensures.side) (block_of Ipv6 c.in-V6.net))) ∙ ap (λ n. match_number (match_of (routes_of (c.self.inside.v4 ++ c.add-in-V6.new.self)) (block n))) (sym c.in-V6.is)) c.add-in-V6.ensures.after
 
 pub returns-in-V6-clause-networks : goal.returns-in-V6-clause-networks
 returns-in-V6-clause-networks c = on_ok _ _ c.add-in-V6.result (λ e. ap (λ x. c.self.inside.v4 ++ x) e ∙ sym (with_choice_side _ _ c.self.invariant (block_of Ipv6 c.in-V6.net) (record { hop = c.args.hop; pref = c.args.pref })) ∙ (λ i. with_choice (c.self.view_is i) (block (sym c.in-V6.is i)) (record { hop = c.args.hop; pref = c.args.pref }))) c.add-in-V6.ensures.networks

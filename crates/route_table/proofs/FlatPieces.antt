@@ -1,0 +1,137 @@
+-- The flat list of each family as disjoint bit strings with hops.
+use Rattle.std.proofs.Common.{◌≡◌, ℕ, inl, inr, ⊎_elim, Bool, true, false, cond, List, [], ◌∷◌, ◌++◌, length, map, filter, MatchOption, Option, Some, None, refl, sym, ap, ◌∙◌, subst, append-nil}
+use Rattle.std.specs.declared.cmp.Ordering.TheVariants.{Less}
+use Rattle.ipnet_addr.specs.Addresses.{Family, Address, IsAddress, width, same_family}
+use Rattle.ipnet_addr.proofs.Families.{family_from_test, test_from_family}
+use Rattle.ipnet_addr.proofs.Members.{In}
+use Rattle.ipnet_addr.proofs.Ascending.{Contains-from_In, Rising, Rising-from_pairs, pairs_from_Rising}
+use Rattle.ipnet_blocks.specs.BitStrings.{begins, bits_cmp}
+use Rattle.ipnet_blocks.specs.Blocks.{Block, IsBlock, IsBefore, HasAddress, IsInside, bit_string, digits, host, first_of}
+use Rattle.ipnet_blocks.specs.Maximal.{IsMaximalBlock}
+use Rattle.ipnet_blocks.proofs.BlockLaws.{strict, has_first, same_sets}
+use Rattle.ipnet_blocks.proofs.Maximals.{host_is_block, has_host, in_host}
+use Rattle.ipnet_blocks.proofs.Order.{order_of_strings}
+use Rattle.ipnet_blocks.proofs.Strings.{begins_from_inside, inside_from_begins}
+use Rattle.least_table.specs.Pieces.{hop_at}
+use Rattle.trie_core.specs.Bits.{number_from}
+use Rattle.trie_core.proofs.Longer.{own_digits}
+use Rattle.trie_core.proofs.Numbers.{number_bound}
+use Rattle.route_choices.proofs.Kept.{In-map, map_In, Rising-kept, In-from_filter, In-filter}
+use Rattle.route_table.specs.Flats.{Piece, IsFlat}
+use Rattle.route_table.specs.InnerLeast.{ArePieces, address_at, pieces_of}
+use Rattle.route_table.proofs.Flats.{Sooner, piece_at, tells}
+
+pub Rising-map : {A B : Type 0} (f : A → B) (S : A → A → Type 0) (R : B → B → Type 0) (xs : List A) → ((a b : A) → In a xs → In b xs → S a b → R (f a) (f b)) → Rising S xs → Rising R (map f xs)
+Rising-map f S R [] h up = tt
+Rising-map f S R (x ∷ xs) h up = (
+  (λ y i. let t = In-map f xs y i in subst (λ b. R (f x) b) (sym t.2) (h x t.0 (inl refl) (inr t.1) (up.0 t.0 t.1))),
+  Rising-map f S R xs (λ a b i j. h a b (inr i) (inr j)) up.1,
+)
+
+-- the piece that `hop_at` finds
+found : (qs : List (List Bool × ℕ)) (s : List Bool) → MatchOption (hop_at qs s) ((q : List Bool × ℕ) → In q qs → begins q.0 s ≡ true → ⊥) (λ k. (q : List Bool × ℕ) × In q qs × (begins q.0 s ≡ true) × (q.1 ≡ k))
+found [] s = λ q i e. absurd i
+found (p ∷ qs) s = go (begins p.0 s) refl (hop_at qs s) (found qs s)
+  where
+    go : (b : Bool) → begins p.0 s ≡ b → (o : Option ℕ) → MatchOption o ((q : List Bool × ℕ) → In q qs → begins q.0 s ≡ true → ⊥) (λ k. (q : List Bool × ℕ) × In q qs × (begins q.0 s ≡ true) × (q.1 ≡ k))
+        → MatchOption (cond b (Some p.1) o) ((q : List Bool × ℕ) → In q (p ∷ qs) → begins q.0 s ≡ true → ⊥) (λ k. (q : List Bool × ℕ) × In q (p ∷ qs) × (begins q.0 s ≡ true) × (q.1 ≡ k))
+    go true e o m = (p, inl refl, e, refl)
+    go false e None m = λ q i t. ⊎_elim (λ z. let w : begins p.0 s ≡ true = subst (λ (r : List Bool × ℕ). begins r.0 s ≡ true) z t in absurd (cc)) (λ j. m q j t) i
+    go false e (Some k) m = (m.0, inr m.1, m.2, m.3)
+
+abbrev pub entry : Piece → List Bool × ℕ
+entry p = (bit_string p.block, p.number)
+
+abbrev in_family : Family → Piece → Bool
+in_family f p = same_family p.block.family f
+
+-- an address is its bits
+pub bits_at : (f : Family) (s : List Bool) → length s ≡ width f → bit_string (host (address_at f s)) ≡ s
+bits_at f s e = ap (λ n. digits n (number_from n s)) (sym e) ∙ own_digits s
+
+-- a block holds an address where its bits begin the address
+pub begins_host : (b : Block) (x : Address) → IsBlock b → IsAddress x → b.family ≡ x.family → HasAddress b x → begins (bit_string b) (bit_string (host x)) ≡ true
+begins_host b x p a e h = begins_from_inside (host x) b (host_is_block x a) p (λ y m. subst (λ (z : Address). HasAddress b z) (sym (in_host x y m)) h)
+
+pub has_begun : (b : Block) (x : Address) → IsBlock b → IsAddress x → b.family ≡ x.family → begins (bit_string b) (bit_string (host x)) ≡ true → HasAddress b x
+has_begun b x p a e t = inside_from_begins (host x) b (host_is_block x a) p (sym e) t x (has_host x)
+
+module _ (h : Address → Option ℕ) (ps : List Piece) (flat : IsFlat h ps) where
+  maximal : (p : Piece) → In p ps → IsMaximalBlock (λ x. h x ≡ Some p.number) p.block
+  maximal p i = (flat.exact p).0 (Contains-from_In ps p i)
+
+  block_in : (p : Piece) → In p ps → IsBlock p.block
+  block_in p i = (maximal p i).within.block
+
+  -- no piece lies in another
+  not_inside : (p q : Piece) → In p ps → In q ps → IsBefore p.block q.block → IsInside q.block p.block → ⊥
+  not_inside p q i j l k =
+      let x = first_of q.block in
+      let here : h x ≡ Some q.number = tells h ps flat q j x (has_first q.block) in
+      let there : h x ≡ Some p.number = tells h ps flat p i x (k x (has_first q.block)) in
+      let e : p.number ≡ q.number = cc in
+      let same : IsInside p.block q.block → ⊥ = λ m.
+      let b : q.block ≡ p.block = same_sets q.block p.block (block_in q j) (block_in p i) k m in
+      let z : IsBefore p.block p.block = subst (λ (c : Block). IsBefore p.block c) b l in
+      strict p.block p.block z z in
+      (maximal q j).largest p.block (record { block = block_in p i; all = λ y m. subst (λ n. h y ≡ Some n) e (tells h ps flat p i y m) }) (k, same)
+
+  module _ (f : Family) where
+    abbrev Apart : List Bool × ℕ → List Bool × ℕ → Type 0
+    Apart p q = (bits_cmp p.0 q.0 ≡ Less) × (begins p.0 q.0 ≡ false)
+
+    not_true : (b : Bool) → (b ≡ true → ⊥) → b ≡ false
+    not_true true n = absurd (n refl)
+    not_true false n = refl
+
+    apart : (p q : Piece) → In p (filter (in_family f) ps) → In q (filter (in_family f) ps) → Sooner p q → Apart (entry p) (entry q)
+    apart p q i j l =
+        let a = In-from_filter (in_family f) ps p i in
+        let b = In-from_filter (in_family f) ps q j in
+        let g : p.block.family ≡ q.block.family = family_from_test p.block.family f a.1 ∙ sym (family_from_test q.block.family f b.1) in
+        let okp = block_in p a.0 in
+        let okq = block_in q b.0 in (
+          (order_of_strings p.block q.block okp okq g).0 l,
+          not_true (begins (bit_string p.block) (bit_string q.block)) (λ t. not_inside p q a.0 b.0 l (inside_from_begins q.block p.block okq okp (sym g) t)),
+        )
+
+    rising : Rising Apart (pieces_of f ps)
+    rising = Rising-map entry Sooner Apart (filter (in_family f) ps) apart (Rising-kept Sooner (in_family f) ps (Rising-from_pairs Sooner ps flat.ascending))
+
+    -- the hop of an address is the one of the piece that holds it
+    module _ (x : Address) (a : IsAddress x) (e : x.family ≡ f) where
+      told : hop_at (pieces_of f ps) (bit_string (host x)) ≡ h x
+      told = go (hop_at (pieces_of f ps) (bit_string (host x))) (h x) refl refl (found (pieces_of f ps) (bit_string (host x)))
+        where
+          some : (k : ℕ) → (q : List Bool × ℕ) × In q (pieces_of f ps) × (begins q.0 (bit_string (host x)) ≡ true) × (q.1 ≡ k) → h x ≡ Some k
+          some k w =
+              let t = In-map entry (filter (in_family f) ps) w.0 w.1 in
+              let m = In-from_filter (in_family f) ps t.0 t.1 in
+              let g : Block.family (Piece.block t.0) ≡ x.family = family_from_test _ f m.1 ∙ sym e in
+              let b : begins (bit_string (Piece.block t.0)) (bit_string (host x)) ≡ true = subst (λ (q : List Bool × ℕ). begins q.0 (bit_string (host x)) ≡ true) t.2 w.2 in
+              let n : Piece.number t.0 ≡ k = sym (ap (λ (q : List Bool × ℕ). q.1) t.2) ∙ w.3 in
+              tells h ps flat t.0 m.0 x (has_begun (Piece.block t.0) x (block_in t.0 m.0) a g b) ∙ ap (λ i. Some i) n
+
+          none : (k : ℕ) → h x ≡ Some k → ((q : List Bool × ℕ) → In q (pieces_of f ps) → begins q.0 (bit_string (host x)) ≡ true → ⊥) → ⊥
+          none k v n =
+              let t = piece_at h ps flat x a k v in
+              let p = t.0 in
+              let g : Block.family (Piece.block p) ≡ x.family = sym t.2.0 in
+              n (entry p) (map_In entry (filter (in_family f) ps) p (In-filter (in_family f) ps p t.1 (test_from_family _ f (g ∙ e)))) (begins_host (Piece.block p) x (block_in p t.1) a g t.2)
+
+          go : (o o' : Option ℕ) → hop_at (pieces_of f ps) (bit_string (host x)) ≡ o → h x ≡ o'
+              → MatchOption o ((q : List Bool × ℕ) → In q (pieces_of f ps) → begins q.0 (bit_string (host x)) ≡ true → ⊥) (λ k. (q : List Bool × ℕ) × In q (pieces_of f ps) × (begins q.0 (bit_string (host x)) ≡ true) × (q.1 ≡ k))
+              → hop_at (pieces_of f ps) (bit_string (host x)) ≡ h x
+          go (Some k) o' u v m = u ∙ sym (some k m)
+          go None None u v m = u ∙ sym v
+          go None (Some k) u v m = absurd (none k v m)
+
+    pub are_pieces : ArePieces f h (pieces_of f ps)
+    are_pieces = record {
+      disjoint = pairs_from_Rising Apart (pieces_of f ps) rising;
+      same = λ s e. ap (hop_at (pieces_of f ps)) (sym (bits_at f s e)) ∙ told (address_at f s) (number_bound (width f) s) refl;
+    }
+
+-- the strings that a walk over the flat list has gathered when nothing is left
+pub are_gathered : (f : Family) (h : Address → Option ℕ) (ps qs left : List Piece) (xs : List (List Bool × ℕ)) → IsFlat h ps → qs ≡ ps → left ≡ [] → xs ++ pieces_of f left ≡ pieces_of f qs → ArePieces f h xs
+are_gathered f h ps qs left xs flat same none e = subst (ArePieces f h) (ap (pieces_of f) (sym same) ∙ sym e ∙ ap (λ ls. xs ++ pieces_of f ls) none ∙ append-nil xs) (are_pieces h ps flat f)

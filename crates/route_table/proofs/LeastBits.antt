@@ -1,0 +1,283 @@
+-- Tables of one family as tables over bit strings.
+use Rattle.std.proofs.Common.{◌≡◌, ℕ, suc, ◌-◌, ◌*◌, ◌^◌, ◌≤◌, ⊎_elim, Bool, true, IsTrue, false, cond, nat_lt, inl, inr, List, [], ◌∷◌, ◌++◌, length, All, AllPairs, Result, Ok, Err, OnOk, append_assoc, Option, Some, None, option_map, refl, sym, ap, ap₂, ◌∙◌, subst, arith}
+use Rattle.std.proofs.Math.Nat.{mod-eq_of_lt}
+use Rattle.std.specs.declared.cmp.Ordering.TheVariants.{Less}
+use Rattle.ipnet_addr.specs.Addresses.{Family, Ipv4, Ipv6, Address, IsAddress, width}
+use Rattle.ipnet_addr.proofs.Members.{In, In-cases}
+use Rattle.ipnet_addr.proofs.Ascending.{In-from_All, All-from_In, Rising, Rising-from_pairs}
+use Rattle.ipnet_blocks.specs.BitStrings.{begins, bits_cmp}
+use Rattle.ipnet_blocks.specs.Blocks.{Block, IsBlock, IsBefore, IsInside, digits, bit_string, family_block, first_of, host, is_inside}
+use Rattle.ipnet_blocks.specs.Networks.{Network, IsTruncated, block_of, net_of}
+use Rattle.ipnet_blocks.proofs.BlockLaws.{has_first}
+use Rattle.ipnet_blocks.proofs.Maximals.{member_is_address}
+use Rattle.ipnet_blocks.proofs.NetworkBlocks.{block_round_trip}
+use Rattle.ipnet_blocks.proofs.Order.{order_of_strings}
+use Rattle.ipnet_blocks.proofs.Search.{whole_is_block, inside_whole}
+use Rattle.ipnet_blocks.proofs.Strings.{length-digits}
+use Rattle.ipnet.specs.IpNets.{block, family, parts, net_in, network_at}
+use Rattle.ipnet.specs.declared.ip_net.IpNet.{IpNet}
+use Rattle.least_table.specs.Pieces.{hop_at, strings}
+use Rattle.least_table.specs.Tables as bits
+use Rattle.trie_core.specs.Bits.{number_from}
+use Rattle.trie_core.proofs.Numbers.{number_bound, number-digits, one_power}
+use Rattle.route_choices.specs.Choices.{default_preference}
+use Rattle.route_choices.specs.Hops.{IsHop}
+use Rattle.route_choices.specs.declared.hop.Hop.{Hop}
+use Rattle.route_choices.proofs.Kept.{In-map, map_In, map_append}
+use Rattle.route_table.specs.Fewest.{handed, hop_under, GivesInside, IsFewest}
+use Rattle.route_table.specs.InnerLeast.{ArePieces, AreLeast, GrowsByLeast, AreLeastOf, address_at, entry_of, entries_of, hop_from, items_of}
+use Rattle.route_table.specs.InnerSides.{block_at}
+use Rattle.route_table.specs.LeastTables.{IsLeast, routes_for}
+use Rattle.route_table.specs.Tables.{Route, IsTable, covering, longer, longest, match_of, route_of}
+use Rattle.route_table.proofs.Families.{in_family, least_of_families}
+use Rattle.route_table.proofs.Fewest.{number_from_hop}
+use Rattle.route_table.proofs.FlatPieces.{begins_host, has_begun, bits_at}
+use Rattle.route_table.proofs.Gaps.{of_network_at}
+use Rattle.route_table.proofs.Insides.{Sooner, sound, rising, table_of, has_from_test, test_from_has}
+use Rattle.route_table.proofs.Matches.{bools_same}
+use Rattle.route_table.proofs.Ordered.{before_apart}
+use Rattle.route_table.proofs.Strings.{same_string, string_of_block, block_at_is_block}
+use Rattle.route_table.proofs.Walked.{network_of_key}
+
+-- ---- from blocks to bit strings
+
+longer_entry : (r : Route) (m : Option Route) → bits.longer (entry_of r) (option_map entry_of m) ≡ Some (entry_of (longer r m))
+longer_entry r None = refl
+longer_entry r (Some s) = rw (length-digits r.block.len r.block.quotient, length-digits s.block.len s.block.quotient) (go (nat_lt r.block.len s.block.len))
+  where
+    go : (c : Bool) → cond c (Some (entry_of s)) (Some (entry_of r)) ≡ Some (entry_of (cond c s r))
+    go true = refl
+    go false = refl
+
+-- the longest match of an address
+match_entry : (x : Address) → IsAddress x → (M : List Route) → ((r : Route) → In r M → IsBlock r.block × (r.block.family ≡ x.family)) → bits.longest (entries_of M) (bit_string (host x)) ≡ option_map entry_of (match_of M (host x))
+match_entry x a [] ok = refl
+match_entry x a (r ∷ M) ok = go (is_inside (host x) r.block) same (match_entry x a M (λ s i. ok s (inr i)))
+  where
+    p : IsBlock r.block
+    p = (ok r (inl refl)).0
+
+    e : r.block.family ≡ x.family
+    e = (ok r (inl refl)).1
+
+    same : begins (bit_string r.block) (bit_string (host x)) ≡ is_inside (host x) r.block
+    same = bools_same _ _ (λ t. test_from_has x a r p (has_begun r.block x p a e t)) (λ t. begins_host r.block x p a e (has_from_test x a r p t))
+
+    go : (c : Bool) → begins (bit_string r.block) (bit_string (host x)) ≡ c → bits.longest (entries_of M) (bit_string (host x)) ≡ option_map entry_of (match_of M (host x))
+        → bits.longest (entries_of (r ∷ M)) (bit_string (host x)) ≡ option_map entry_of (longest (cond c (r ∷ covering M (host x)) (covering M (host x))))
+    go true t k = rw (t, k) (longer_entry r (match_of M (host x)))
+    go false t k = rw t k
+
+hop_entry : (m : Option Route) → bits.hop_of None (option_map entry_of m) ≡ handed None m
+hop_entry None = refl
+hop_entry (Some r) = refl
+
+module _ (f : Family) where
+  abbrev pub AllOf : List Route → Type 0
+  AllOf M = (r : Route) → In r M → r.block.family ≡ f
+
+  hop_bits : (M : List Route) (x : Address) → IsTable M → AllOf M → IsAddress x → x.family ≡ f → bits.hop (entries_of M) (bit_string (host x)) ≡ hop_under None M x
+  hop_bits M x t all a e = ap (bits.hop_of None) (match_entry x a M (λ r i. ((sound M t r i).0, all r i ∙ sym e))) ∙ hop_entry (match_of M (host x))
+
+  absent : (b : Block) (M : List Route) → IsBlock b → b.family ≡ f → ((r : Route) → In r M → IsBlock r.block × (r.block.family ≡ f) × IsBefore b r.block) → bits.Absent (bit_string b) (entries_of M)
+  absent b [] p e k = tt
+  absent b (s ∷ M) p e k = (
+    (λ u. let t = k s (inl refl) in before_apart b s.block t.2 (sym (same_string s.block b t.0 p (t.1 ∙ sym e) u))),
+    absent b M p e (λ r i. k r (inr i)),
+  )
+
+  table_entries : (M : List Route) → ((r : Route) → In r M → IsBlock r.block × (r.block.family ≡ f)) → Rising Sooner M → bits.IsTable (width f) (entries_of M)
+  table_entries [] k up = tt
+  table_entries (r ∷ M) k up =
+      let t = k r (inl refl) in
+      let w : r.block.len ≤ width f = subst (λ g. r.block.len ≤ width g) t.1 t.0.in_width in
+      (omega (arith, w, length-digits r.block.len r.block.quotient), absent r.block M t.0 t.1 (λ s i. ((k s (inr i)).0, (k s (inr i)).1, up.0 s i)), table_entries M (λ s i. k s (inr i)) up.1)
+
+  string_of_bits : (x : Address) → IsAddress x → x.family ≡ f → address_at f (bit_string (host x)) ≡ x
+  string_of_bits x a e =
+      let w = width x.family in
+      let n : number_from w (digits w x.number) ≡ x.number =
+      number-digits w w x.number (omega arith) ∙ ap (λ m. m * 2 ^ (w - w)) (mod-eq_of_lt a) ∙ one_power x.number w in
+      subst (λ g. address_at g (bit_string (host x)) ≡ x) e (λ i. record { family = x.family; number = n i })
+
+  length-map : (M : List Route) → length (entries_of M) ≡ length M
+  length-map [] = refl
+  length-map (r ∷ M) = ap suc (length-map M)
+
+  module _ (h : Address → Option ℕ) (ps : List (List Bool × ℕ)) (pieces : ArePieces f h ps) where
+    -- a table of the family's addresses gives the hops as bit strings
+    gives_bits : (M : List Route) → AllOf M → GivesInside h (family_block f) None M → bits.Gives (width f) (hop_at ps) None (entries_of M)
+    gives_bits M all g = record {
+      table = table_entries M (λ r i. ((sound M g.table r i).0, all r i)) (rising M g.table);
+      same = λ s e.
+          let x = address_at f s in
+          let a : IsAddress x = number_bound (width f) s in
+          ap (bits.hop (entries_of M)) (sym (bits_at f s e)) ∙ hop_bits M x g.table all a refl ∙ g.same x (in_family x a) ∙ sym (pieces.same s e);
+    }
+
+    pub family_gives : (N : List Route) → IsTable N → AllOf N → bits.IsLeast (width f) (hop_at ps) (entries_of N) → GivesInside h (family_block f) None N
+    family_gives N t all least = record {
+      table = t;
+      inside = All-from_In (λ r. IsInside r.block (family_block f)) N (λ r i. inside_whole r.block f (sound N t r i).0 (all r i));
+      same = λ x m.
+          let a = member_is_address (family_block f) x (whole_is_block f) m in
+          let w : length (bit_string (host x)) ≡ width f = length-digits (width x.family) x.number ∙ ap width m.0 in
+          sym (hop_bits N x t all a m.0) ∙ (least.gives).same (bit_string (host x)) w ∙ pieces.same (bit_string (host x)) w ∙ ap h (string_of_bits x a m.0);
+    }
+
+    pub family_fewest : (N : List Route) → IsTable N → AllOf N → bits.IsLeast (width f) (hop_at ps) (entries_of N) → IsFewest h (family_block f) None (length N)
+    family_fewest N t all least = record {
+      reached = (N, family_gives N t all least, refl);
+      least = λ L g. omega (arith, length-map N, length-map L, least.fewest (entries_of L) (gives_bits L (λ r i. (In-from_All (λ (q : Route). IsInside q.block (family_block f)) L g.inside r i (first_of r.block) (has_first r.block)).0) g));
+    }
+
+-- ---- networks of one family as keys, as routes
+
+family_of_net : (f : Family) (n : Network) → family (net_in f n) ≡ f
+family_of_net Ipv4 n = refl
+family_of_net Ipv6 n = refl
+
+truncated_at : (b : Block) → IsTruncated (family (network_at b)) (parts (network_at b))
+truncated_at b = go b.family (net_of b) (ap net_of (sym (block_round_trip b)))
+  where
+    go : (f : Family) (n : Network) → n ≡ net_of (block_of f n) → IsTruncated (family (net_in f n)) (parts (net_in f n))
+    go Ipv4 n e = e
+    go Ipv6 n e = e
+
+lengths : (w : ℕ) (t : List (List Bool × Option ℕ)) → bits.IsTable w t → (r : List Bool × Option ℕ) → In r t → length r.0 ≤ w
+lengths w [] ok r i = absurd i
+lengths w (q ∷ t) ok r (inl e) = subst (λ (p : List Bool × Option ℕ). length p.0 ≤ w) (sym e) ok.0
+lengths w (q ∷ t) ok r (inr i) = lengths w t ok.2 r i
+
+abbrev IsLess : List Bool × Option ℕ → List Bool × Option ℕ → Type 0
+IsLess r s = bits_cmp r.0 s.0 ≡ Less
+
+module _ (f : Family) {K : Type 0} (bits_in : K → List Bool) (of_bits : List Bool → K) (parts_in : K → Network) (parts_are : (s : List Bool) → parts_in (of_bits s) ≡ record { number = number_from (width f) s; len = length s }) where
+  -- the route of a key
+  abbrev route_for : K × Option ℕ → Route
+  route_for r = route_of (net_in f (parts_in r.0)) (hop_from r.1) default_preference
+
+  abbrev AtBlock : K × Option ℕ → Type 0
+  AtBlock r = (length (bits_in r.0) ≤ width f) × (net_in f (parts_in r.0) ≡ network_at (block_at f (bits_in r.0)))
+
+  block_is : (r : K × Option ℕ) → AtBlock r → block (net_in f (parts_in r.0)) ≡ block_at f (bits_in r.0)
+  block_is r a = ap block a.1 ∙ of_network_at (block_at f (bits_in r.0))
+
+  In-routes : (xs : List (K × Option ℕ)) (q : Route) → In q (routes_for (items_of f parts_in xs)) → (r : K × Option ℕ) × In r xs × (q ≡ route_for r)
+  In-routes [] q i = absurd i
+  In-routes (x ∷ xs) q (inl e) = (x, inl refl, e)
+  In-routes (x ∷ xs) q (inr i) = let t = In-routes xs q i in (t.0, inr t.1, t.2)
+
+  entries_are : (xs : List (K × Option ℕ)) → ((r : K × Option ℕ) → In r xs → AtBlock r) → entries_of (routes_for (items_of f parts_in xs)) ≡ strings bits_in xs
+  entries_are [] ok = refl
+  entries_are (x ∷ xs) ok =
+      let e : bit_string (block (net_in f (parts_in x.0))) ≡ bits_in x.0 = ap bit_string (block_is x (ok x (inl refl))) ∙ string_of_block f (bits_in x.0) in
+      let k = number_from_hop x.1 in
+      let t = entries_are xs (λ r i. ok r (inr i)) in
+      λ i. (e i, k i) ∷ t i
+
+  before : (r s : K × Option ℕ) → AtBlock r → AtBlock s → bits_cmp (bits_in r.0) (bits_in s.0) ≡ Less → Sooner (route_for r) (route_for s)
+  before r s a b l =
+      let p = block_at_is_block f (bits_in r.0) a.0 in
+      let q = block_at_is_block f (bits_in s.0) b.0 in
+      let m : bits_cmp (bit_string (block_at f (bits_in r.0))) (bit_string (block_at f (bits_in s.0))) ≡ Less = ap₂ bits_cmp (string_of_block f (bits_in r.0)) (string_of_block f (bits_in s.0)) ∙ l in
+      let z : IsBefore (block_at f (bits_in r.0)) (block_at f (bits_in s.0)) = (order_of_strings (block_at f (bits_in r.0)) (block_at f (bits_in s.0)) p q refl).1 m in
+      subst (λ (c : Block). IsBefore c (block (net_in f (parts_in s.0)))) (sym (block_is r a)) (subst (λ (c : Block). IsBefore (block_at f (bits_in r.0)) c) (sym (block_is s b)) z)
+
+  rises : (xs : List (K × Option ℕ)) → ((r : K × Option ℕ) → In r xs → AtBlock r) → Rising IsLess (strings bits_in xs) → Rising Sooner (routes_for (items_of f parts_in xs))
+  rises [] ok up = tt
+  rises (x ∷ xs) ok up = (
+    (λ q i. let t = In-routes xs q i in
+        subst (λ (r : Route). Sooner (route_for x) r) (sym t.2) (before x t.0 (ok x (inl refl)) (ok t.0 (inr t.1)) (up.0 (bits_in (t.0).0, (t.0).1) (map_In (λ (r : K × Option ℕ). (bits_in r.0, r.1)) xs t.0 t.1)))),
+    rises xs (λ r i. ok r (inr i)) up.1,
+  )
+
+  module _ (fits : K → Bool) (w : ℕ) (wide : w ≡ width f) (ps : List (List Bool × ℕ)) (table : List (K × Option ℕ))
+      (networks : All (λ r. IsTrue (fits r.0) × (r.0 ≡ of_bits (bits_in r.0))) table)
+      (ordered : AllPairs (λ r s. bits_cmp r.0 s.0 ≡ Less) (strings bits_in table))
+      (least : bits.IsLeast w (hop_at ps) (strings bits_in table))
+      (hops : All (λ r. IsHop r.1) (items_of f parts_in table)) where
+    least' : bits.IsLeast (width f) (hop_at ps) (strings bits_in table)
+    least' = subst (λ v. bits.IsLeast v (hop_at ps) (strings bits_in table)) wide least
+
+    ok : (r : K × Option ℕ) → In r table → AtBlock r
+    ok r i =
+        let l = lengths (width f) (strings bits_in table) (least'.gives).table (bits_in r.0, r.1) (map_In (λ (q : K × Option ℕ). (bits_in q.0, q.1)) table r i) in
+        (l, network_of_key f bits_in of_bits parts_in parts_are r.0 (In-from_All (λ (q : K × Option ℕ). IsTrue (fits q.0) × (q.0 ≡ of_bits (bits_in q.0))) table networks r i).1 l)
+
+    pub are_least : AreLeast f ps (items_of f parts_in table)
+    are_least = record {
+      table = table_of (routes_for (items_of f parts_in table))
+          (λ q i. let t = In-routes table q i in
+          let r = t.0 in
+          let okb : IsBlock (block (net_in f (parts_in r.0))) = subst IsBlock (sym (block_is r (ok r t.1))) (block_at_is_block f (bits_in r.0) (ok r t.1).0) in
+          let okh : IsHop (hop_from r.1) = In-from_All (λ (u : IpNet × Hop). IsHop u.1) (items_of f parts_in table) hops (net_in f (parts_in r.0), hop_from r.1) (map_In (λ (u : K × Option ℕ). (net_in f (parts_in u.0), hop_from u.1)) table r t.1) in
+          subst (λ (v : Route). IsBlock v.block × IsHop v.hop) (sym t.2) (okb, okh))
+          (rises table ok (Rising-from_pairs IsLess (strings bits_in table) ordered));
+      in_family = All-from_In (λ (u : IpNet × Hop). family u.0 ≡ f) (items_of f parts_in table) (λ u i. let t = item u i in subst (λ (v : IpNet × Hop). family v.0 ≡ f) (sym t.2) (family_of_net f (parts_in (t.0).0)));
+      truncated = All-from_In (λ (u : IpNet × Hop). IsTruncated (family u.0) (parts u.0)) (items_of f parts_in table) (λ u i. let t = item u i in
+          subst (λ (v : IpNet × Hop). IsTruncated (family v.0) (parts v.0)) (sym t.2) (subst (λ (n : IpNet). IsTruncated (family n) (parts n)) (sym (ok t.0 t.1).1) (truncated_at (block_at f (bits_in (t.0).0)))));
+      least = subst (λ (t : List (List Bool × Option ℕ)). bits.IsLeast (width f) (hop_at ps) t) (sym (entries_are table ok)) least';
+    }
+      where
+        item : (u : IpNet × Hop) → In u (items_of f parts_in table) → (r : K × Option ℕ) × In r table × (u ≡ (net_in f (parts_in r.0), hop_from r.1))
+        item u i = In-map (λ (r : K × Option ℕ). (net_in f (parts_in r.0), hop_from r.1)) table u i
+
+  -- as they are appended
+  pub appended : (fits : K → Bool) (w : ℕ) → w ≡ width f → (ps : List (List Bool × ℕ)) (table : List (K × Option ℕ)) → All (λ r. IsTrue (fits r.0) × (r.0 ≡ of_bits (bits_in r.0))) table
+      → AllPairs (λ r s. bits_cmp r.0 s.0 ≡ Less) (strings bits_in table) → bits.IsLeast w (hop_at ps) (strings bits_in table)
+      → (ns ms : List (IpNet × Hop)) {E : Type 0} (result : Result (Unit {0}) E) → OnOk result (ms ≡ ns ++ items_of f parts_in table) → OnOk result (All (λ r. IsHop r.1) (items_of f parts_in table)) → OnOk result (GrowsByLeast f ps ns ms)
+  appended fits w wide ps table networks ordered least ns ms (Ok u) e hops = (items_of f parts_in table, e, are_least fits w wide ps table networks ordered least hops)
+  appended fits w wide ps table networks ordered least ns ms (Err x) e hops = tt
+
+-- ---- both families
+
+-- routes of one family that are a least table there
+family_routes : (f : Family) (rs : List (IpNet × Hop)) → All (λ r. family r.0 ≡ f) rs → AllOf f (routes_for rs)
+family_routes f rs all q i =
+    let t = In-map (λ (r : IpNet × Hop). route_of r.0 r.1 default_preference) rs q i in
+    ap (λ (r : Route). Block.family r.block) t.2 ∙ In-from_All (λ (r : IpNet × Hop). family r.0 ≡ f) rs all t.0 t.1
+
+module _ (ps qs : List (List Bool × ℕ)) (os ns ms : List (IpNet × Hop)) (none : os ≡ []) (grows4 : GrowsByLeast Ipv4 ps os ns) (grows6 : GrowsByLeast Ipv6 qs ns ms) where
+  all_routes : ms ≡ grows4.0 ++ grows6.0
+  all_routes = grows6.1 ∙ ap (λ xs. xs ++ grows6.0) (grows4.1 ∙ ap (λ xs. xs ++ grows4.0) none)
+
+  least_of_both : (h : Address → Option ℕ) → ArePieces Ipv4 h ps → ArePieces Ipv6 h qs → IsLeast h (routes_for ms)
+  least_of_both h v4 v6 =
+      let a = grows4.2 in
+      let b = grows6.2 in
+      let A = family_routes Ipv4 grows4.0 a.in_family in
+      let B = family_routes Ipv6 grows6.0 b.in_family in
+      let split = ap routes_for all_routes ∙ map_append (λ (r : IpNet × Hop). route_of r.0 r.1 default_preference) grows4.0 grows6.0 in
+      subst (λ N. IsLeast h N) (sym split) (least_of_families h (routes_for grows4.0) (routes_for grows6.0)
+      (family_gives Ipv4 h ps v4 (routes_for grows4.0) a.table A a.least) (family_gives Ipv6 h qs v6 (routes_for grows6.0) b.table B b.least)
+      (family_fewest Ipv4 h ps v4 (routes_for grows4.0) a.table A a.least) (family_fewest Ipv6 h qs v6 (routes_for grows6.0) b.table B b.least))
+
+  truncated_of_both : All (λ r. IsTruncated (family r.0) (parts r.0)) ms
+  truncated_of_both = subst (λ xs. All (λ r. IsTruncated (family r.0) (parts r.0)) xs) (sym all_routes)
+      (All-from_In (λ (r : IpNet × Hop). IsTruncated (family r.0) (parts r.0)) (grows4.0 ++ grows6.0)
+      (λ r i. ⊎_elim (λ j. In-from_All (λ (u : IpNet × Hop). IsTruncated (family u.0) (parts u.0)) grows4.0 (AreLeast.truncated grows4.2) r j)
+      (λ j. In-from_All (λ (u : IpNet × Hop). IsTruncated (family u.0) (parts u.0)) grows6.0 (AreLeast.truncated grows6.2) r j)
+      (In-cases r grows4.0 grows6.0 i)))
+
+  pub least_of : AreLeastOf ps qs ms
+  least_of = record { least = least_of_both; truncated = truncated_of_both }
+
+-- ---- one more route
+
+module _ (f : Family) {K : Type 0} (parts_in : K → Network) (ys : List (K × Option ℕ)) (n : K) (k : Option ℕ) where
+  pub items_more : (ns ms new : List (IpNet × Hop)) (m : IpNet) (hop : Hop) → m ≡ net_in f (parts_in n) → hop ≡ hop_from k → ms ≡ ns ++ items_of f parts_in ys → new ≡ ms ++ (m, hop) ∷ [] → new ≡ ns ++ items_of f parts_in (ys ++ (n, k) ∷ [])
+  items_more ns ms new m hop p q e d =
+      d ∙ ap (λ xs. xs ++ (m, hop) ∷ []) e ∙ append_assoc ns (items_of f parts_in ys) ((m, hop) ∷ [])
+      ∙ ap (λ xs. ns ++ xs) ((λ i. items_of f parts_in ys ++ (p i, q i) ∷ []) ∙ sym (map_append (λ (r : K × Option ℕ). (net_in f (parts_in r.0), hop_from r.1)) ys ((n, k) ∷ [])))
+
+  pub hops_more : All (λ r. IsHop r.1) (items_of f parts_in ys) → IsHop (hop_from k) → All (λ r. IsHop r.1) (items_of f parts_in (ys ++ (n, k) ∷ []))
+  hops_more all one = All-from_In (λ (u : IpNet × Hop). IsHop u.1) (items_of f parts_in (ys ++ (n, k) ∷ [])) (λ u i.
+      let t = In-map (λ (r : K × Option ℕ). (net_in f (parts_in r.0), hop_from r.1)) (ys ++ (n, k) ∷ []) u i in
+      subst (λ (v : IpNet × Hop). IsHop v.1) (sym t.2) (⊎_elim
+      (λ j. In-from_All (λ (v : IpNet × Hop). IsHop v.1) (items_of f parts_in ys) all (net_in f (parts_in (t.0).0), hop_from (t.0).1) (map_In (λ (r : K × Option ℕ). (net_in f (parts_in r.0), hop_from r.1)) ys t.0 j))
+      (λ j. ⊎_elim (λ z. subst (λ (r : K × Option ℕ). IsHop (hop_from r.1)) (sym z) one) (λ z. absurd z) j)
+      (In-cases t.0 ys ((n, k) ∷ []) t.1)))
+
+  pub rest_more : (zs rest table : List (K × Option ℕ)) → ys ++ zs ≡ table → zs ≡ (n, k) ∷ rest → (ys ++ (n, k) ∷ []) ++ rest ≡ table
+  rest_more zs rest table e d = append_assoc ys ((n, k) ∷ []) rest ∙ ap (λ xs. ys ++ xs) (sym d) ∙ e

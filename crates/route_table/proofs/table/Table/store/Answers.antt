@@ -1,0 +1,26 @@
+use Rattle.std.proofs.Common.{◌∙◌, ◌++◌, [], ◌∷◌, sym, ap, subst}
+use Rattle.ipnet_addr.specs.Addresses.{Ipv4, Ipv6}
+use Rattle.ipnet_blocks.specs.Networks.{block_of}
+use Rattle.ipnet.specs.IpNets.{block}
+use Rattle.route_table.specs.Networks.{IsStoredTable, choices_at, with_choices}
+use Rattle.route_table.proofs.Owned.{on_err, on_ok}
+use Rattle.route_table.proofs.Sides.{is_stored_table, choices_side, with_choices_side}
+use Rattle.route_table.proofs.table.Table.store.Goals as goal
+
+pub returns-in-V4-clause-networks : goal.returns-in-V4-clause-networks
+returns-in-V4-clause-networks g c = on_ok _ _ c.store.result (λ e. ap (λ x. x ++ c.self.inside.v6) e ∙ sym (with_choices_side _ _ c.self.invariant (block_of Ipv4 c.in-V4.net) (record { hop = c.args.hop; pref = c.args.pref } ∷ [])) ∙ (λ i. with_choices (c.self.view_is i) (block (sym c.in-V4.is i)) (record { hop = c.args.hop; pref = c.args.pref } ∷ []))) c.store.ensures.networks
+
+pub returns-in-V4-clause-tables : goal.returns-in-V4-clause-tables
+returns-in-V4-clause-tables g c = (subst IsStoredTable c.self.view_is (is_stored_table _ _ c.self.invariant), is_stored_table _ _ (c.store.ensures.side, c.self.invariant.1))
+
+pub returns-in-V4-clause-absent : goal.returns-in-V4-clause-absent
+returns-in-V4-clause-absent g c = on_err _ _ c.store.result (λ e. sym (λ i. choices_at (c.self.view_is i) (block (sym c.in-V4.is i))) ∙ choices_side _ _ c.self.invariant (block_of Ipv4 c.in-V4.net) ∙ e) c.store.ensures.absent
+
+pub returns-in-V6-clause-networks : goal.returns-in-V6-clause-networks
+returns-in-V6-clause-networks g c = on_ok _ _ c.store-in-V6.result (λ e. ap (λ x. c.self.inside.v4 ++ x) e ∙ sym (with_choices_side _ _ c.self.invariant (block_of Ipv6 c.in-V6.net) (record { hop = c.args.hop; pref = c.args.pref } ∷ [])) ∙ (λ i. with_choices (c.self.view_is i) (block (sym c.in-V6.is i)) (record { hop = c.args.hop; pref = c.args.pref } ∷ []))) c.store-in-V6.ensures.networks
+
+pub returns-in-V6-clause-tables : goal.returns-in-V6-clause-tables
+returns-in-V6-clause-tables g c = (subst IsStoredTable c.self.view_is (is_stored_table _ _ c.self.invariant), is_stored_table _ _ (c.self.invariant.0, c.store-in-V6.ensures.side))
+
+pub returns-in-V6-clause-absent : goal.returns-in-V6-clause-absent
+returns-in-V6-clause-absent g c = on_err _ _ c.store-in-V6.result (λ e. sym (λ i. choices_at (c.self.view_is i) (block (sym c.in-V6.is i))) ∙ choices_side _ _ c.self.invariant (block_of Ipv6 c.in-V6.net) ∙ e) c.store-in-V6.ensures.absent

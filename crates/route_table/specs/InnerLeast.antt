@@ -1,0 +1,63 @@
+-- Shortest tables of one family, as lists of bit strings.
+use Rattle.std.specs.Prelude.{◌≡◌, ℕ, Bool, List, ◌++◌, All, Option, Some, None, filter, length, map}
+use Rattle.ipnet_addr.specs.Addresses.{Family, Ipv4, Ipv6, Address, width, same_family}
+use Rattle.ipnet_blocks.specs.Blocks.{bit_string}
+use Rattle.ipnet_blocks.specs.Networks.{Network, IsTruncated}
+use Rattle.ipnet.specs.IpNets.{family, parts, net_in}
+use Rattle.ipnet.specs.declared.ip_net.IpNet.{IpNet}
+use Rattle.least_table.specs.Pieces.{AreDisjoint, hop_at}
+use Rattle.least_table.specs.Tables as bits
+use Rattle.trie_core.specs.Bits.{number_from}
+use Rattle.route_choices.specs.Hops.{number_of}
+use Rattle.route_choices.specs.declared.hop.Hop.{Hop}
+use Rattle.route_choices.specs.declared.hop.Hop.TheVariants.{Number, Drop}
+use Rattle.route_table.specs.Flats.{Piece}
+use Rattle.route_table.specs.LeastTables.{IsLeast, routes_for}
+use Rattle.route_table.specs.Tables.{Route, IsTable}
+
+-- a route by the bits that its addresses begin with
+abbrev pub entry_of : Route → List Bool × Option ℕ
+entry_of r = (bit_string r.block, number_of r.hop)
+
+abbrev pub entries_of : List Route → List (List Bool × Option ℕ)
+entries_of N = map entry_of N
+
+-- the address of a family whose bits are given, and its hop
+abbrev pub address_at : Family → List Bool → Address
+address_at f s = record { family = f; number = number_from (width f) s }
+
+abbrev pub hops_of : Family → (Address → Option ℕ) → List Bool → Option ℕ
+hops_of f h s = h (address_at f s)
+
+-- the pieces of one family, by their bits
+abbrev pub pieces_of : Family → List Piece → List (List Bool × ℕ)
+pieces_of f ps = map (λ p. (bit_string p.block, p.number)) (filter (λ p. same_family p.block.family f) ps)
+
+-- disjoint pieces with the hops of a family's addresses
+pub record ArePieces (f : Family) (h : Address → Option ℕ) (ps : List (List Bool × ℕ)) : Type 0 where
+  pub disjoint : AreDisjoint ps
+  pub same : (s : List Bool) → length s ≡ width f → hop_at ps s ≡ hops_of f h s
+
+abbrev pub hop_from : Option ℕ → Hop
+hop_from (Some k) = Number k
+hop_from None = Drop
+
+-- networks of one family as those of either, each with its hop
+abbrev pub items_of : Family → {P : Type 0} → (P → Network) → List (P × Option ℕ) → List (IpNet × Hop)
+items_of f parts_in table = map (λ r. (net_in f (parts_in r.0), hop_from r.1)) table
+
+-- routes of one family that are a least table with the hops of these pieces
+pub record AreLeast (f : Family) (ps : List (List Bool × ℕ)) (rs : List (IpNet × Hop)) : Type 0 where
+  pub table : IsTable (routes_for rs)
+  pub in_family : All (λ r. family r.0 ≡ f) rs
+  pub truncated : All (λ r. IsTruncated (family r.0) (parts r.0)) rs
+  pub least : bits.IsLeast (width f) (hop_at ps) (entries_of (routes_for rs))
+
+-- such routes are appended
+abbrev pub GrowsByLeast : Family → List (List Bool × ℕ) → List (IpNet × Hop) → List (IpNet × Hop) → Type 0
+GrowsByLeast f ps ns ms = (rs : List (IpNet × Hop)) × (ms ≡ ns ++ rs) × AreLeast f ps rs
+
+-- routes of both families that are a least table for any hops that the pieces of both have
+pub record AreLeastOf (ps qs : List (List Bool × ℕ)) (rs : List (IpNet × Hop)) : Type 0 where
+  pub least : (h : Address → Option ℕ) → ArePieces Ipv4 h ps → ArePieces Ipv6 h qs → IsLeast h (routes_for rs)
+  pub truncated : All (λ r. IsTruncated (family r.0) (parts r.0)) rs
