@@ -8,7 +8,7 @@ use Rattle.route_lines.specs.Texts.{IsCommand}
 use Rattle.route_lines.specs.InnerFree as Free
 use Rattle.route_lines.proofs.Good.{Good, start, one_line}
 use Rattle.route_lines.proofs.Good as Good
-use Rattle.route_table.specs.declared.hop.Hop.{Hop}
+use Rattle.route_choices.specs.declared.hop.Hop.{Hop}
 use Rattle.route_lines.specs.declared.command.Command.{Command}
 use Rattle.route_lines.specs.declared.command.Command.TheVariants as C
 

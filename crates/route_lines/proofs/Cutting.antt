@@ -1,10 +1,12 @@
 -- A cutter's answers are the lines of its bytes.
-use Rattle.std.proofs.Common.{eqb-true, ◌≡◌, ℕ, ◌<◌, ◌≤◌, Bool, true, false, cond, ltb, eqb, ◌==◌, List, [], ◌∷◌, ◌++◌, length, take, map, refl, sym, ap, ◌∙◌, ⊎_elim, append_assoc, append-nil, arith, length-append, le-ltb, lt-ltb, eq-eqb, ne_eqb, length-take}
+use Rattle.std.proofs.Common.{eqb-true, ◌≡◌, ◌≢◌, ℕ, All, None, ◌<◌, ◌≤◌, Bool, true, false, cond, ltb, eqb, ◌==◌, List, [], ◌∷◌, ◌++◌, length, take, map, refl, sym, ap, ◌∙◌, ⊎_elim, append_assoc, append-nil, arith, length-append, le-ltb, lt-ltb, eq-eqb, ne_eqb, length-take}
 use Rattle.std.proofs.lemmas.Bool.{cases_lt}
+use Rattle.std.proofs.lemmas.List.Elements.{All-head, All-tail}
 use Rattle.std.proofs.lemmas.List.{take-append-le, length-take-le, take_all}
 use Rattle.std.specs.Option.{option_to_list}
 use Rattle.std.specs.List.{flat_map}
 use Rattle.route_lines.specs.declared.cutter.Line.TheVariants.{Text, TooLong}
+use Rattle.route_lines.specs.Kept.{Kept}
 use Rattle.route_lines.specs.Bytes.{onto_first, lines, if_no_piece, rest}
 use Rattle.route_lines.specs.Lines.{lines_in, line_of, kept_of, fed_answer, fed, answers, fed_all, rest_in, rest_of}
 
@@ -114,6 +116,31 @@ end_rest (b ∷ bs) =
 
 pub new_rest_in : (bs : List ℕ) → rest_in (fed_all (kept_of []) bs) ≡ rest_of (rest bs)
 new_rest_in bs = ap rest_in (new_rest bs) ∙ end_rest (rest bs)
+
+-- ---- a piece and its line end
+
+-- bytes without a line end are answered by nothing
+pub quiet : (k : Kept) (piece : List ℕ) → All (λ c. c ≢ 10) piece → answers k piece ≡ []
+quiet k [] h = refl
+quiet k (b ∷ piece) h =
+    let e : eqb b 10 ≡ false = ne_eqb b 10 (All-head (λ c. c ≢ 10) b piece h) in
+    let none : fed_answer k b ≡ None = rw e refl in
+    ap (λ o. option_to_list o ++ answers (fed k b) piece) none ∙ quiet (fed k b) piece (All-tail (λ c. c ≢ 10) b piece h)
+
+one_piece : (piece : List ℕ) → All (λ c. c ≢ 10) piece → lines (piece ++ 10 ∷ []) ≡ piece ∷ []
+one_piece [] h = refl
+one_piece (b ∷ piece) h =
+    let e : eqb b 10 ≡ false = ne_eqb b 10 (All-head (λ c. c ≢ 10) b piece h) in
+    rw e (ap (onto_first b) (one_piece piece (All-tail (λ c. c ≢ 10) b piece h)))
+
+-- and with it, in a new cutter, by the line of the piece
+pub new_line : (piece : List ℕ) → All (λ c. c ≢ 10) piece → answers (kept_of []) (piece ++ 10 ∷ []) ≡ line_of piece ∷ []
+new_line piece h = new_answers (piece ++ 10 ∷ []) ∙ ap (map line_of) (one_piece piece h)
+
+-- a cutter is a new one then
+pub new_after : (k : Kept) (piece : List ℕ) → fed_all k (piece ++ 10 ∷ []) ≡ kept_of []
+new_after k [] = refl
+new_after k (b ∷ piece) = new_after (fed k b) piece
 
 -- ---- the pieces make the bytes
 

@@ -17,9 +17,9 @@ use Rattle.ipnet.proofs.IpNetworks.{ip_unique}
 use Rattle.route_lines.specs.Phrase.{IsDecimal, Then, After}
 use Rattle.route_lines.specs.InnerPhrase.{IsFree}
 use Rattle.route_lines.specs.Words.{IsNet, IsNumber, IsHop, IsPreference, IsOptional, IsPreferred}
-use Rattle.route_table.specs.Choices.{default_preference}
-use Rattle.route_table.specs.declared.hop.Hop.{Hop}
-use Rattle.route_table.specs.declared.hop.Hop.TheVariants.{Number, Drop}
+use Rattle.route_choices.specs.Choices.{default_preference}
+use Rattle.route_choices.specs.declared.hop.Hop.{Hop}
+use Rattle.route_choices.specs.declared.hop.Hop.TheVariants.{Number, Drop}
 use Rattle.route_lines.specs.InnerFree as Free
 use Rattle.route_lines.proofs.Words.{same_word, split_at, not_two}
 

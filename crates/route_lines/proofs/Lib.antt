@@ -5,5 +5,6 @@ pub mod Commands
 pub mod Replies
 pub mod Exits
 pub mod Printed
+pub mod PrintedCommands
 pub mod Spells
 pub mod Earlier

@@ -21,7 +21,7 @@ Words (R.Own net) = Reads (net_text net) net
 Words (R.Count v4 v6) = (v4 ≤ 0xffffffffffffffff) × (v6 ≤ 0xffffffffffffffff)
 Words (R.Close closing) = ⊤
 
-then : {A B : Type 0} {P : List ℕ → A → Type 0} {Q : List ℕ → B → Type 0} (front back : List ℕ) (x : A × B) → P front x.0 → Q back x.1 → Then P Q (front ++ codes " " ++ back) x
+pub then : {A B : Type 0} {P : List ℕ → A → Type 0} {Q : List ℕ → B → Type 0} (front back : List ℕ) (x : A × B) → P front x.0 → Q back x.1 → Then P Q (front ++ codes " " ++ back) x
 then front back x h k = record { front = front; back = back; spelled = refl; first = h; second = k }
 
 pub prints : (r : Reply) → IsPrintable r → Words r → IsReply (reply_text r) r
@@ -42,7 +42,7 @@ prints (R.Count v4 v6) block w = record { rest = decimal v4 ++ codes " " ++ deci
 prints (R.Close closing) block w = refl
 
 -- what is read has no host bits
-cut : (text : List ℕ) (net : IpNet) → IsNet text net → net ≡ network_at (block net)
+pub cut : (text : List ℕ) (net : IpNet) → IsNet text net → net ≡ network_at (block net)
 cut text net h = h.2 ∙ ap network_at (sym (ap block h.2 ∙ of_network_at (block h.0)))
 
 pub printable : (text : List ℕ) (r : Reply) → IsReply text r → IsPrintable r

@@ -8,7 +8,7 @@ use Rattle.route_lines.specs.Texts.{IsReply}
 use Rattle.route_lines.specs.InnerFree as Free
 use Rattle.route_lines.proofs.Good.{Good, start, one_line}
 use Rattle.route_lines.proofs.Good as Good
-use Rattle.route_table.specs.declared.hop.Hop.{Hop}
+use Rattle.route_choices.specs.declared.hop.Hop.{Hop}
 use Rattle.route_lines.specs.declared.reply.Closing.TheVariants.{Done, Missing, Bad, Refused}
 use Rattle.route_lines.specs.declared.reply.Reply.{Reply}
 use Rattle.route_lines.specs.declared.reply.Reply.TheVariants as R

@@ -12,13 +12,13 @@ use Rattle.ipnet.specs.IpNets.{block, network_at}
 use Rattle.ipnet.specs.IpNetText.{ip_net_of, Reads}
 use Rattle.ipnet.specs.declared.ip_net.IpNet.{IpNet}
 use Rattle.ipnet.proofs.IpNetworks.{ip_found}
-use Rattle.route_table.specs.declared.hop.Hop.{Hop}
-use Rattle.route_table.specs.declared.hop.Hop.TheVariants.{Number, Drop}
+use Rattle.route_choices.specs.declared.hop.Hop.{Hop}
+use Rattle.route_choices.specs.declared.hop.Hop.TheVariants.{Number, Drop}
 use Rattle.route_lines.specs.InnerFree as Free
 use Rattle.route_lines.specs.Phrase.{IsUnspaced, IsDecimal, Then, After}
 use Rattle.route_lines.specs.InnerPhrase.{Gives, IsFree}
 use Rattle.route_lines.specs.Words.{IsNet, IsHop, IsNumber, IsLimit, IsCount, IsPreference, IsOptional, IsPreferred}
-use Rattle.route_table.specs.Choices.{default_preference}
+use Rattle.route_choices.specs.Choices.{default_preference}
 use Rattle.route_lines.specs.Texts.{IsCommand, IsReply, closing_text}
 use Rattle.route_lines.specs.Spelled.{split, net_of_text, number_of_text, hop_of_text, optional_of_text, preferred_of_text, of_word, of_both, after_prefix, or_else, command_of, closing_of_text, reply_of}
 use Rattle.route_lines.specs.declared.command.Command.TheVariants as C

@@ -1,27 +1,14 @@
 -- Prefixes and first words of lists.
-use Rattle.std.proofs.Common.{◌≡◌, ◌≢◌, ℕ, ◌+◌, ◌<◌, true, false, true≢false, List, [], ◌∷◌, ◌++◌, length, get_or, take, drop, All, Option, Some, None, IfSome, IfNone, MatchOption, Bor, bytes_eq, codes, refl, sym, ap, ◌∙◌, arith, take-append-drop, take_at, append_assoc, subst, decimal, ◌^◌}
+use Rattle.std.proofs.Common.{◌≡◌, ◌≢◌, ℕ, zero, suc, ◌<◌, List, [], ◌∷◌, ◌++◌, length, get_or, drop, All, Option, Some, None, codes, refl, sym, ap, ◌∙◌, arith, append_assoc, subst, decimal, ◌^◌}
 use Rattle.std.proofs.lemmas.List.Elements.{All-head, All-tail}
 use Rattle.std.proofs.lemmas.List.{append_cancel_left}
-use Rattle.std.proofs.lemmas.Slice.Eq.{bytes_eq-Decides}
 use Rattle.std.proofs.Common.{Result, Ok, Err}
-use Rattle.std.proofs.lemmas.Fmt.{parse-decimal, IsAscii-decimal}
-use Rattle.std.proofs.lemmas.Str.{IsUtf8-from_ascii}
-use Rattle.std.specs.Str.{IsUtf8}
-use Rattle.std.specs.Str.Parse.{ParsesUnsigned}
+use Rattle.std.proofs.lemmas.Fmt.{parse-decimal, first_decimal, decimal_digit, decimal-digits_value}
+use Rattle.std.proofs.lemmas.Str.Parse.{numerals_by_value, tells_digits, without_leading_plus_none}
+use Rattle.std.proofs.lemmas.Result.{OkIff-at_ok}
+use Rattle.std.specs.Str.Parse.{ParsesUnsigned, AllDigits, IsNumeral, digits_value, without_leading_plus}
 use Rattle.route_lines.specs.Phrase.{IsUnspaced, IsDecimal, Then, After}
 use Rattle.route_lines.specs.InnerPhrase.{Gives, IsFree}
-
-pub stripped_some : (s p : List ℕ) (r : Option (Bor (List ℕ))) → MatchOption r (bytes_eq (take (length p) s) p ≡ false) (λ x. (bytes_eq (take (length p) s) p ≡ true) × (x.now ≡ drop (length p) s) × (length x.now + length p ≡ length s)) → IfSome r (λ rest. s ≡ p ++ rest.now)
-stripped_some s p None h = tt
-stripped_some s p (Some x) h =
-    let front : take (length p) s ≡ p = (bytes_eq-Decides (take (length p) s) p).0 h.0 in
-    sym (take-append-drop (length p) s) ∙ ap (λ t. t ++ drop (length p) s) front ∙ ap (λ t. p ++ t) (sym h.1)
-
-pub stripped_none : (s p : List ℕ) (r : Option (Bor (List ℕ))) → MatchOption r (bytes_eq (take (length p) s) p ≡ false) (λ x. (bytes_eq (take (length p) s) p ≡ true) × (x.now ≡ drop (length p) s) × (length x.now + length p ≡ length s)) → IfNone r ((rest : List ℕ) → s ≢ p ++ rest)
-stripped_none s p None h = λ rest e.
-    let front : take (length p) s ≡ p = ap (take (length p)) e ∙ take_at p rest (length p) refl in
-    true≢false (sym ((bytes_eq-Decides (take (length p) s) p).1 front) ∙ h)
-stripped_none s p (Some x) h = tt
 
 -- two words before a space are one
 pub same_word : (a b x y : List ℕ) → All (λ c. c ≢ 32) a → All (λ c. c ≢ 32) b → a ++ 32 ∷ x ≡ b ++ 32 ∷ y → (a ≡ b) × (x ≡ y)
@@ -72,9 +59,18 @@ gives_after P line prefix rest (Some x) e h = phrase_after line prefix rest x e 
 
 -- ---- numbers
 
--- no decimal text fails to be text, or to be parsed
-pub not_text : (low high n : ℕ) (s : List ℕ) → high < 2 ^ 64 → ¬ (IsUtf8 s) → ¬ (IsDecimal low high s n)
-not_text low high n s bound none h = none (subst IsUtf8 (sym h.0) (IsUtf8-from_ascii (decimal n) (IsAscii-decimal n (omega (arith, h.2)))))
+-- a decimal text begins with no plus, and with a zero only where it is one
+pub first_of_decimal : (n : ℕ) → n < 2 ^ 64 → (get_or (decimal n) 0 0 ≢ 43) × (get_or (decimal n) 0 0 ≡ 48 → length (decimal n) ≡ 1)
+first_of_decimal zero h = rw (decimal_digit 0 (omega arith)) (λ e. omega (arith, e), λ e. refl)
+first_of_decimal (suc n) h = let f = first_decimal (suc n) (omega arith) h in (λ e. omega (arith, e, f), λ e. absurd (omega (arith, e, f)))
+
+-- a number whose text begins so is the one that was parsed
+pub is_parsed : {E : Type 0} (m : ℕ) (s : List ℕ) (r : Result ℕ E) → get_or s 0 0 ≢ 43 → (get_or s 0 0 ≡ 48 → length s ≡ 1) → ParsesUnsigned 64 10 s r → r ≡ Ok m → s ≡ decimal m
+is_parsed m s r no_plus no_zeros p e =
+    let plain : without_leading_plus s ≡ s = without_leading_plus_none s no_plus in
+    let q = OkIff-at_ok r _ _ m p e in
+    let q2 : (IsNumeral 10 s × (digits_value 10 s < 2 ^ 64)) × (m ≡ digits_value 10 s) = subst (λ t. (IsNumeral 10 t × (digits_value 10 t < 2 ^ 64)) × (m ≡ digits_value 10 t)) plain q in
+    sym (decimal-digits_value (numerals_by_value (AllDigits 10) tells_digits) s q2.0.0.1 q2.0.0.0 no_zeros q2.0.1) ∙ ap decimal (sym q2.1)
 
 pub not_parsed : {E : Type 0} (low high n : ℕ) (s : List ℕ) (e : E) → high < 2 ^ 64 → ParsesUnsigned 64 10 s (Err e) → ¬ (IsDecimal low high s n)
 not_parsed low high n s e bound p h = (let q = parse-decimal 64 n s (Err e) (omega (arith, h.2)) (omega (arith, h.2)) h.0 p in cc)

@@ -8,8 +8,8 @@ use Rattle.ipnet.specs.declared.ip_net.IpNet.{IpNet}
 use Rattle.ipnet.proofs.NoSpace.{no_space}
 use Rattle.route_lines.specs.Phrase.{IsUnspaced, IsDecimal}
 use Rattle.route_lines.specs.Words.{IsNet, IsHop}
-use Rattle.route_table.specs.declared.hop.Hop.{Hop}
-use Rattle.route_table.specs.declared.hop.Hop.TheVariants.{Number, Drop}
+use Rattle.route_choices.specs.declared.hop.Hop.{Hop}
+use Rattle.route_choices.specs.declared.hop.Hop.TheVariants.{Number, Drop}
 
 pub net : (text : List ℕ) (x : IpNet) → IsNet text x → IsUnspaced text
 net text x h = no_space text h.0 h.1

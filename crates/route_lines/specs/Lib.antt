@@ -6,5 +6,6 @@ pub mod InnerPhrase
 pub mod InnerFree
 pub mod Words
 pub mod Texts
+pub mod CommandText
 pub mod Earlier
 pub mod Spelled

@@ -1,6 +1,7 @@
 -- What a line cutter keeps and answers.
 use Rattle.std.specs.Prelude.{ℕ, ◌==◌, nat_lt, length, take, map, true, List, [], ◌∷◌, ◌++◌, if◌then◌else◌, Option, None, Some}
 use Rattle.std.specs.Option.{option_to_list}
+use Rattle.std.specs.Borrow.{Bor}
 use Rattle.route_lines.specs.declared.cutter.Line.{Line}
 use Rattle.route_lines.specs.declared.cutter.Line.TheVariants.{Text, TooLong}
 use Rattle.route_lines.specs.declared.cutter.Rest.{Rest}
@@ -11,6 +12,11 @@ use Rattle.route_lines.specs.Bytes.{lines}
 -- a piece as a line: its bytes, or that it has over 80
 abbrev pub line_of : List ℕ → Line
 line_of piece = if nat_lt 80 (length piece) then TooLong else Text (record { items = piece })
+
+-- the line that has these bytes; without them, one that is too long
+abbrev pub as_line : Option (Bor (List ℕ)) → Line
+as_line (Some text) = Text (record { items = text.now })
+as_line None = TooLong
 
 -- the lines of the bytes
 abbrev pub lines_in : List ℕ → List Line

@@ -4,8 +4,8 @@ use Rattle.ipnet.specs.IpNetText.{net_text}
 use Rattle.ipnet.specs.IpNets.{block, network_at}
 use Rattle.route_lines.specs.Phrase.{Then, After}
 use Rattle.route_lines.specs.Words.{IsNet, IsNumber, IsLimit, IsCount, IsHop, IsOptional, IsPreferred}
-use Rattle.route_table.specs.declared.hop.Hop.{Hop}
-use Rattle.route_table.specs.declared.hop.Hop.TheVariants as Hops
+use Rattle.route_choices.specs.declared.hop.Hop.{Hop}
+use Rattle.route_choices.specs.declared.hop.Hop.TheVariants as Hops
 use Rattle.route_lines.specs.declared.command.Command.{Command}
 use Rattle.route_lines.specs.declared.command.Command.TheVariants as C
 use Rattle.route_lines.specs.declared.reply.Closing.{Closing}

@@ -1,10 +1,13 @@
 //! Command lines.
-ghost use Rattle.std.specs.Prelude.{◌≡◌};
+ghost use Rattle.std.specs.Prelude.{◌≡◌, ◌≢◌, ◌≤◌, ◌++◌, length, codes, All};
 ghost use Rattle.std.specs.Net.Grammar.{Parses};
+ghost use Rattle.route_lines.specs.CommandText.{IsPrintableCommand, command_text};
 ghost use Rattle.route_lines.specs.Texts.{IsCommand};
 
 use crate::NotALine;
 use crate::phrase::{Limit, Number, Preferred, read_after};
+use crate::printer::{push_all, push_hop, push_net_after, push_preference, push_u16, push_u32};
+use arrayvec::ArrayVec;
 use ipnet::IpNet;
 use route_table::Hop;
 
@@ -94,5 +97,52 @@ impl Command {
             return Ok(Command::Flat);
         }
         Err(NotALine)
+    }
+
+    /// The one text of the command, with its line end, in which a preference of 100 is left out; it reads as this command.
+    /// Its network, if it has one, must have no host bits, and its limit must be 1 to 1000. Takes no memory.
+    pub fn print(&self) -> ArrayVec<u8, 80>
+        requires { IsPrintableCommand self.now }
+        ensures text { result.items ≡ command_text self.now ++ codes "\n" }
+        ensures reads { IsCommand (command_text self.now) self.now }
+        ensures one_line { All (λ c. c ≢ 10) (command_text self.now) }
+        ensures len { length result.items ≤ 65 }
+    {
+        let mut out = ArrayVec::new();
+        match self {
+            Command::Add { net, hop, pref } => {
+                push_net_after(&mut out, b"add ", net);
+                push_all(&mut out, b" ");
+                push_hop(&mut out, *hop);
+                push_preference(&mut out, *pref);
+            }
+            Command::Del { net, hop } => {
+                push_net_after(&mut out, b"del ", net);
+                push_all(&mut out, b" ");
+                push_hop(&mut out, *hop);
+            }
+            Command::Get { net } => push_net_after(&mut out, b"get ", net),
+            Command::Cover { net } => push_net_after(&mut out, b"cover ", net),
+            Command::List { net } => push_net_after(&mut out, b"list ", net),
+            Command::All { net } => push_net_after(&mut out, b"all ", net),
+            Command::PageFrom { net, limit } => {
+                push_net_after(&mut out, b"from ", net);
+                push_all(&mut out, b" ");
+                push_u16(&mut out, *limit);
+            }
+            Command::PageAfter { net, limit } => {
+                push_net_after(&mut out, b"after ", net);
+                push_all(&mut out, b" ");
+                push_u16(&mut out, *limit);
+            }
+            Command::Own { number } => {
+                push_all(&mut out, b"own ");
+                push_u32(&mut out, *number);
+            }
+            Command::Count => push_all(&mut out, b"count"),
+            Command::Flat => push_all(&mut out, b"flat"),
+        }
+        out.push(b'\n');
+        out
     }
 }

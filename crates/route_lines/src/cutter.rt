@@ -1,5 +1,6 @@
 //! Bytes cut into lines.
-ghost use Rattle.std.specs.Prelude.{◌≡◌, []};
+ghost use Rattle.std.specs.Prelude.{◌≡◌, ◌↔◌, [], IsTrue};
+ghost use Rattle.route_lines.specs.Lines.{as_line, line_of};
 
 use arrayvec::ArrayVec;
 use std::marker::Model;
@@ -12,6 +13,25 @@ pub enum Line {
     Text(ArrayVec<u8, 80>),
     /// More than 80 bytes stood before the line end.
     TooLong,
+}
+
+impl Line {
+    /// Its bytes; none where it is too long.
+    pub fn text(&self) -> Option<&[u8]>
+        ensures { as_line result ≡ self.now }
+    {
+        match self {
+            Line::Text(text) => Some(text.as_slice()),
+            Line::TooLong => None,
+        }
+    }
+}
+
+/// The bytes of a line in place, as `Line::text` gives them, where these stand before its line end.
+pub fn line_text(piece: &[u8]) -> Option<&[u8]>
+    ensures { as_line result ≡ line_of piece.now }
+{
+    if piece.len() > 80 { None } else { Some(piece) }
 }
 
 /// What stands after the last line end.
@@ -74,6 +94,13 @@ impl LineCutter {
             self.held.push(byte);
         }
         None
+    }
+
+    /// Whether no byte stands after the last line end, as in a new cutter.
+    pub fn is_new(&self) -> bool
+        ensures { IsTrue result ↔ (self.now ≡ kept_of []) }
+    {
+        self.held.is_empty() && !self.more
     }
 
     /// Whether a byte stands after the last line end.

@@ -2,6 +2,7 @@
 ghost use Rattle.std.specs.Prelude.{◌≡◌, ◌≢◌, ◌≤◌, ℕ, List, [], ◌∷◌, ◌++◌, All, MatchOption, length};
 ghost use Rattle.std.specs.List.{flat_map};
 ghost use Rattle.route_lines.specs.Bytes.{lines, rest};
+ghost use Rattle.route_lines.specs.CommandText.{IsPrintableCommand, command_text};
 ghost use Rattle.route_lines.specs.Earlier.{IsEarlierReply};
 ghost use Rattle.route_lines.specs.Spelled.{command_of, reply_of};
 ghost use Rattle.route_lines.specs.Texts.{IsCommand, IsPrintable, IsReply};
@@ -24,13 +25,20 @@ pub fn pieces_make_bytes()
     ensures { (bytes : List ℕ) → bytes ≡ flat_map (λ piece. piece ++ 10 ∷ []) (lines bytes) ++ rest bytes }
 {}
 
-/// No text spells two commands, none has more than 72 bytes, and none has a line end. A function finds the one that a
-/// text spells.
+/// No text spells two commands, none has more than 72 bytes, and none has a line end. What is read can be printed. A
+/// function finds the one that a text spells.
 pub fn commands()
     ensures one { (text : List ℕ) (a b : Command) → IsCommand text a → IsCommand text b → a ≡ b }
     ensures short { (text : List ℕ) (a : Command) → IsCommand text a → length text ≤ 72 }
     ensures clean { (text : List ℕ) (a : Command) → IsCommand text a → All (λ c. c ≢ 10) text }
+    ensures printable { (text : List ℕ) (a : Command) → IsCommand text a → IsPrintableCommand a }
     ensures found { (text : List ℕ) → MatchOption (command_of text) ((a : Command) → IsCommand text a → ⊥) (IsCommand text) }
+{}
+
+/// The printed text of a command that some text spells reads as this command, and no other command has it.
+pub fn printed_commands()
+    ensures reads { (text : List ℕ) (a : Command) → IsCommand text a → IsCommand (command_text a) a }
+    ensures apart { (s t : List ℕ) (a b : Command) → IsCommand s a → IsCommand t b → command_text a ≡ command_text b → a ≡ b }
 {}
 
 /// No text spells two reply lines, none has more than 74 bytes, and none has a line end. What is read can be printed.

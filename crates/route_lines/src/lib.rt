@@ -2,7 +2,7 @@
 #![tactic(auto)]
 
 pub use command::Command;
-pub use cutter::{Line, LineCutter, Rest};
+pub use cutter::{Line, LineCutter, Rest, line_text};
 pub use reply::{Closing, Reply};
 use thiserror::Error;
 

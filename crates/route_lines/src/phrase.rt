@@ -6,11 +6,10 @@ ghost use Rattle.route_lines.specs.Words.{IsNet, IsHop, IsOptional, IsPreferred}
 ghost use Rattle.route_lines.specs.InnerFree as Free;
 ghost use Rattle.std.proofs.Common.{rules};
 
+use fast_float::parse_u64;
 use ipnet::IpNet;
-use itoa::Buffer;
 use route_table::{DEFAULT_PREFERENCE, Hop};
 use std::marker::Model;
-use std::str;
 
 // A text that is read as a whole.
 pub(crate) trait Phrase: Copy {
@@ -44,10 +43,16 @@ impl Word for IpNet {
 fn read_decimal(s: &[u8], low: u64, high: u64) -> Option<u64>
     ensures { Gives (IsDecimal low high) s.now result }
 {
-    let Ok(text) = str::from_utf8(s) else {
+    let Some(first) = s.first() else {
         return None;
     };
-    let Ok(n) = text.parse::<u64>() else {
+    if *first == b'+' {
+        return None;
+    }
+    if *first == b'0' && s.len() > 1 {
+        return None;
+    }
+    let Ok(n) = parse_u64(s) else {
         return None;
     };
     if n < low {
@@ -56,11 +61,7 @@ fn read_decimal(s: &[u8], low: u64, high: u64) -> Option<u64>
     if n > high {
         return None;
     }
-    let mut buffer = Buffer::new();
-    if buffer.format(n).as_bytes() == s {
-        return Some(n);
-    }
-    None
+    Some(n)
 }
 
 // A number from LOW to HIGH.
@@ -159,7 +160,7 @@ pub(crate) struct Optional {
 
 impl Model for Optional {
     ghost use Rattle.std.specs.Prelude.{ℕ, Option};
-    ghost use Rattle.route_table.specs.declared.hop.Hop.{Hop};
+    ghost use Rattle.route_choices.specs.declared.hop.Hop.{Hop};
 
     ghost Value = { Hop × Option ℕ };
 
@@ -194,7 +195,7 @@ pub(crate) struct Preferred {
 
 impl Model for Preferred {
     ghost use Rattle.std.specs.Prelude.{ℕ};
-    ghost use Rattle.route_table.specs.declared.hop.Hop.{Hop};
+    ghost use Rattle.route_choices.specs.declared.hop.Hop.{Hop};
 
     ghost Value = { Hop × ℕ };
 
@@ -224,7 +225,17 @@ fn after<'a>(s: &'a [u8], prefix: &[u8]) -> Option<&'a [u8]>
     ensures some { IfSome result (λ rest. s.now ≡ prefix.now ++ rest.now) }
     ensures none { IfNone result ((rest : List ℕ) → s.now ≢ prefix.now ++ rest) }
 {
-    s.strip_prefix(prefix)
+    let mut rest = s;
+    for c in prefix {
+        let [first, tail @ ..] = rest else {
+            return None;
+        };
+        if *first != *c {
+            return None;
+        }
+        rest = tail;
+    }
+    Some(rest)
 }
 
 // The phrase after the prefix.

@@ -6,7 +6,7 @@ ghost use Rattle.route_lines.specs.Texts.{IsReply, closing_text, reply_text, IsP
 
 use crate::NotALine;
 use crate::phrase::{Count, Number, Optional, read_after};
-use crate::printer::{push_all, push_hop, push_net, push_u16, push_u32, push_u64};
+use crate::printer::{push_all, push_hop, push_net_after, push_u16, push_u32, push_u64};
 use arrayvec::ArrayVec;
 use ipnet::IpNet;
 use route_table::Hop;
@@ -89,6 +89,9 @@ impl Reply {
     pub fn read(line: &[u8]) -> Result<Reply, NotALine>
         ensures { Parses IsReply line.now result }
     {
+        if let Some(closing) = Closing::read(line) {
+            return Ok(Reply::Close(closing));
+        }
         if let Some(change) = read_after::<(IpNet, Number)>(line, b"set ") {
             return Ok(Reply::Set {
                 net: change.0,
@@ -119,9 +122,6 @@ impl Reply {
                 v4: counts.0.n,
                 v6: counts.1.n,
             });
-        }
-        if let Some(closing) = Closing::read(line) {
-            return Ok(Reply::Close(closing));
         }
         Err(NotALine)
     }
@@ -154,18 +154,13 @@ impl Reply {
         let mut out = ArrayVec::new();
         match self {
             Reply::Set { net, number } => {
-                push_all(&mut out, b"set ");
-                push_net(&mut out, net);
+                push_net_after(&mut out, b"set ", net);
                 push_all(&mut out, b" ");
                 push_u32(&mut out, *number);
             }
-            Reply::Unset { net } => {
-                push_all(&mut out, b"unset ");
-                push_net(&mut out, net);
-            }
+            Reply::Unset { net } => push_net_after(&mut out, b"unset ", net),
             Reply::Route { net, hop, pref } => {
-                push_all(&mut out, b"route ");
-                push_net(&mut out, net);
+                push_net_after(&mut out, b"route ", net);
                 push_all(&mut out, b" ");
                 push_hop(&mut out, *hop);
                 if let Some(pref) = pref {
@@ -174,15 +169,11 @@ impl Reply {
                 }
             }
             Reply::Flat { net, number } => {
-                push_all(&mut out, b"flat ");
-                push_net(&mut out, net);
+                push_net_after(&mut out, b"flat ", net);
                 push_all(&mut out, b" ");
                 push_u32(&mut out, *number);
             }
-            Reply::Own { net } => {
-                push_all(&mut out, b"own ");
-                push_net(&mut out, net);
-            }
+            Reply::Own { net } => push_net_after(&mut out, b"own ", net),
             Reply::Count { v4, v6 } => {
                 push_all(&mut out, b"count ");
                 push_u64(&mut out, *v4);

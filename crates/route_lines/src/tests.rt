@@ -1,5 +1,5 @@
-//! The cutter on bytes from outside, fed one by one.
-use crate::{Line, LineCutter, Rest};
+//! The cutter on bytes from outside, fed one by one; lines in place.
+use crate::{Line, LineCutter, Rest, line_text};
 use std::test::Fail;
 
 #[test]
@@ -25,5 +25,26 @@ fn cuts(rt: HostRuntime) -> Result<(), Fail> {
     }
     assert_eq!(rt; lengths.as_slice(), [3, 0, 80, 1000].as_slice());
     assert_eq!(rt; cutter.rest(), Rest::Held);
+    Ok(())
+}
+
+#[test]
+fn in_place(rt: HostRuntime) -> Result<(), Fail> {
+    let mut bytes = Vec::new(rt.alloc());
+    for count in 0..82 {
+        let piece = bytes.as_slice();
+        let mut cutter = LineCutter::new();
+        for byte in piece {
+            assert!(rt; cutter.feed(*byte).is_none());
+        }
+        assert_eq!(rt; cutter.is_new(), count == 0);
+        match cutter.feed(b'\n') {
+            Some(line) => assert_eq!(rt; line.text(), line_text(piece)),
+            None => panic!(&rt; "no line"),
+        }
+        assert!(rt; cutter.is_new());
+        assert_eq!(rt; line_text(piece).is_some(), count <= 80);
+        bytes.push(b'x')?;
+    }
     Ok(())
 }

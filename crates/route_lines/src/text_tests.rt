@@ -12,6 +12,14 @@ fn printed(rt: &impl Abort, text: &str, expected: &str) {
     }
 }
 
+/// The same of a command.
+fn printed_command(rt: &impl Abort, text: &str, expected: &str) {
+    match Command::read(text.as_bytes()) {
+        Ok(command) => assert_eq!(rt; command.print().as_slice(), expected.as_bytes()),
+        Err(_) => assert_eq!(rt; expected, ""),
+    }
+}
+
 #[test]
 fn replies(rt: HostRuntime) {
     for (text, expected) in [
@@ -57,53 +65,59 @@ fn replies(rt: HostRuntime) {
     }
 }
 
-/// The longest command, of 72 bytes.
+/// The longest command that is read, of 72 bytes.
 const LONGEST: &str = "add ::ffff:ffff:ffff:ffff:ffff:ffff:255.255.255.255/128 4294967295 65535";
+
+/// The longest that is printed, of 65.
+const LONGEST_PRINTED: &str = "add ffff:ffff:ffff:ffff:ffff:ffff:ffff:ffff/128 4294967295 65535\n";
 
 #[test]
 fn commands(rt: HostRuntime) {
     for (text, expected) in [
-        ("add 10.0.0.0/8 drop", true),
-        ("add 10.0.0.0/8 4294967295", true),
-        ("add 10.0.0.0/8 4294967296", false),
-        ("add 10.0.0.0/8 007", false),
-        ("add 10.0.0.0/8 +1", false),
-        ("add 10.0.0.0/8 1", true),
-        ("add 10.0.0.0/8 1 0", true),
-        ("add 10.0.0.0/8 drop 65535", true),
-        ("add 10.0.0.0/8 1 65536", false),
-        ("add 10.0.0.0/8 1 0100", false),
-        ("add 10.0.0.0/8 1 ", false),
-        ("add 10.0.0.0/8 1 1 1", false),
-        ("add 10.0.0.0/8  1", false),
-        (LONGEST, true),
-        ("add 10.0.0.0/8", false),
-        ("add 10.0.0.0 1", false),
-        ("add 10.0.0.0/33 1", false),
-        ("del 10.0.0.0/8 drop", true),
-        (" del 10.0.0.0/8 drop", false),
-        ("del 10.0.0.0/8 1 100", false),
-        ("del 10.0.0.0/8", false),
-        ("get 2001:DB8::/32", true),
-        ("cover 10.0.0.0/8", true),
-        ("list 10.0.0.0/8", true),
-        ("list  10.0.0.0/8", false),
-        ("all 10.0.0.0/8", true),
-        ("all 10.0.0.0/8 1", false),
-        ("from ::/0 1000", true),
-        ("from ::/0 0", false),
-        ("from 10.0.0.0/8 1001", false),
-        ("after ::/0 1", true),
-        ("own 7", true),
-        ("own drop", false),
-        ("count", true),
-        ("count ", false),
-        ("flat", true),
-        ("flat\r", false),
-        ("Flat", false),
-        ("", false),
+        ("add 10.0.0.0/8 drop", "add 10.0.0.0/8 drop\n"),
+        ("add 10.0.0.0/8 4294967295", "add 10.0.0.0/8 4294967295\n"),
+        ("add 10.0.0.0/8 4294967296", ""),
+        ("add 10.0.0.0/8 007", ""),
+        ("add 10.0.0.0/8 +1", ""),
+        ("add 10.1.2.3/08 1", "add 10.0.0.0/8 1\n"),
+        ("add 10.0.0.0/8 1 100", "add 10.0.0.0/8 1\n"),
+        ("add 10.0.0.0/8 1 0", "add 10.0.0.0/8 1 0\n"),
+        ("add 10.0.0.0/8 1 200", "add 10.0.0.0/8 1 200\n"),
+        ("add 10.0.0.0/8 drop 65535", "add 10.0.0.0/8 drop 65535\n"),
+        ("add 10.0.0.0/8 1 65536", ""),
+        ("add 10.0.0.0/8 1 0100", ""),
+        ("add 10.0.0.0/8 1 ", ""),
+        ("add 10.0.0.0/8 1 1 1", ""),
+        ("add 10.0.0.0/8  1", ""),
+        (LONGEST, LONGEST_PRINTED),
+        ("add 10.0.0.0/8", ""),
+        ("add 10.0.0.0 1", ""),
+        ("add 10.0.0.0/33 1", ""),
+        ("del 10.0.0.0/8 drop", "del 10.0.0.0/8 drop\n"),
+        ("del 2001:DB8::1/32 100", "del 2001:db8::/32 100\n"),
+        (" del 10.0.0.0/8 drop", ""),
+        ("del 10.0.0.0/8 1 100", ""),
+        ("del 10.0.0.0/8", ""),
+        ("get 2001:DB8::/32", "get 2001:db8::/32\n"),
+        ("cover 10.0.0.0/8", "cover 10.0.0.0/8\n"),
+        ("list 10.0.0.0/8", "list 10.0.0.0/8\n"),
+        ("list  10.0.0.0/8", ""),
+        ("all 10.0.0.0/8", "all 10.0.0.0/8\n"),
+        ("all 10.0.0.0/8 1", ""),
+        ("from ::/0 1000", "from ::/0 1000\n"),
+        ("from ::/0 0", ""),
+        ("from 10.0.0.0/8 1001", ""),
+        ("after ::/0 1", "after ::/0 1\n"),
+        ("own 7", "own 7\n"),
+        ("own drop", ""),
+        ("count", "count\n"),
+        ("count ", ""),
+        ("flat", "flat\n"),
+        ("flat\r", ""),
+        ("Flat", ""),
+        ("", ""),
     ] {
-        assert_eq!(rt; Command::read(text.as_bytes()).is_ok(), expected);
+        printed_command(&rt, text, expected);
     }
 }
 
@@ -141,6 +155,7 @@ fn preferences(rt: HostRuntime) {
         assert_eq!(rt; pref, expected);
     }
     assert_eq!(rt; LONGEST.len(), 72);
+    assert_eq!(rt; LONGEST_PRINTED.len(), 65);
 }
 
 #[test]

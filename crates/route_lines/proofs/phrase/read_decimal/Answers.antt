@@ -1,30 +1,42 @@
-use Rattle.std.proofs.Common.{◌≡◌, ℕ, ◌<◌, ◌^◌, List, decimal, Result, Ok, sym, ap, subst, ◌∙◌, arith, true≢false}
-use Rattle.std.proofs.lemmas.Slice.Eq.{bytes_eq-Decides}
-use Rattle.std.specs.Str.Parse.{ParsesUnsigned}
+use Rattle.std.proofs.Common.{◌≡◌, ◌≢◌, ℕ, List, ◌<◌, ◌≤◌, ◌^◌, get_or, length, sym, ◌∙◌, ⊎_elim, arith, rules}
+use Rattle.std.proofs.lemmas.Fmt.{decimal_nonempty}
 use Rattle.route_lines.specs.Phrase.{IsDecimal}
-use Rattle.route_lines.proofs.Words.{not_text, not_parsed, parsed}
+use Rattle.route_lines.proofs.Words.{first_of_decimal, is_parsed, not_parsed, parsed}
 use Rattle.route_lines.proofs.phrase.read_decimal.Goals as goal
 
+-- the first byte of a decimal text
+first_of : (low high n : ℕ) (s : List ℕ) → high < 2 ^ 64 → IsDecimal low high s n → (get_or s 0 0 ≢ 43) × (get_or s 0 0 ≡ 48 → length s ≡ 1) × (0 < length s)
+first_of low high n s bound h =
+    let small : n < 2 ^ 64 = omega (arith, h.2) in
+    let f = first_of_decimal n small in
+    let some = decimal_nonempty n small in
+    rw h.0 (f.0, f.1, some)
+
 pub returns-in_default : goal.returns-in_default
-returns-in_default c = λ n. not_text _ _ n _ (omega arith) c.in_default.ensures.cases.0
+returns-in_default c = λ n h.
+    let none : length c.args.s.now ≤ 0 = search rules in
+    omega (arith, none, (first_of _ _ n _ (omega arith) h).2)
 
-pub returns-in_default-parse : goal.returns-in_default-parse
-returns-in_default-parse c = λ n h.
-    not_parsed _ _ n _ c.in_default-parse.field-0 (omega arith) (subst (ParsesUnsigned 64 10 c.in-Ok.text.now) c.in_default-parse.is c.parse.ensures.value.0)
-    (subst (λ text. IsDecimal c.args.low c.args.high text n) (sym c.in-Ok.ensures.cases.0) h)
+pub returns-then-first-eq43 : goal.returns-then-first-eq43
+returns-then-first-eq43 c = λ n h. (let f = first_of _ _ n _ (omega arith) h in f.0 (search rules))
 
-module _ {E : Type 0} (low high m n : ℕ) (s text : List ℕ) (r : Result ℕ E) (bound : high < 2 ^ 64) (p : ParsesUnsigned 64 10 text r) (is : r ≡ Ok m) (same : text ≡ s) (h : IsDecimal low high s n) where
-  -- the number that was parsed is the one of the text
-  number : m ≡ n
-  number = parsed low high n m text r bound p is (subst (λ t. IsDecimal low high t n) (sym same) h)
+pub returns-then-s-gt1 : goal.returns-then-s-gt1
+returns-then-s-gt1 c = λ n h. (let f = first_of _ _ n _ (omega arith) h in let one = f.1 (search rules) in omega (arith, one, c.if-s-gt1.true))
+
+pub returns-in_default-parse_u64 : goal.returns-in_default-parse_u64
+returns-in_default-parse_u64 c = λ n h.
+    not_parsed _ _ n _ c.in_default-parse_u64.field-0 (omega arith) c.in_default-parse_u64.ensures h
 
 pub returns-then-n-low : goal.returns-then-n-low
-returns-then-n-low c = λ n h. omega (arith, number _ _ _ n _ _ _ (omega arith) c.parse.ensures.value.0 c.in-Ok-parse.is c.in-Ok.ensures.cases.0 h, h.1, c.if-n-low.true)
+returns-then-n-low c = λ n h. omega (arith, parsed _ _ n _ _ _ (omega arith) c.parse_u64.ensures c.in-Ok.is h, h.1, c.if-n-low.true)
 
 pub returns-then-n-high : goal.returns-then-n-high
-returns-then-n-high c = λ n h. omega (arith, number _ _ _ n _ _ _ (omega arith) c.parse.ensures.value.0 c.in-Ok-parse.is c.in-Ok.ensures.cases.0 h, h.2, c.if-n-high.true)
+returns-then-n-high c = λ n h. omega (arith, parsed _ _ n _ _ _ (omega arith) c.parse_u64.ensures c.in-Ok.is h, h.2, c.if-n-high.true)
 
 pub returns : goal.returns
-returns c = λ n h.
-    let q = number _ _ _ n _ _ _ (omega arith) c.parse.ensures.value.0 c.in-Ok-parse.is c.in-Ok.ensures.cases.0 h in
-    true≢false (sym ((bytes_eq-Decides _ _).1 (c.as_bytes.ensures.value ∙ c.format.ensures.text ∙ ap decimal q ∙ sym h.0)) ∙ sym c.if-eq.ensures)
+returns c =
+    let no_plus : get_or c.args.s.now 0 0 ≢ 43 = search rules in
+    let lead : get_or c.args.s.now 0 0 ≡ c.in-Some.first.now = search rules in
+    let some : 0 < length c.args.s.now = search rules in
+    let no_zeros : get_or c.args.s.now 0 0 ≡ 48 → length c.args.s.now ≡ 1 = λ zero. ⊎_elim (λ one. omega (arith, one.1, some)) (λ other. absurd (other (sym lead ∙ zero))) c.else-first-eq48.either in
+    (is_parsed _ _ _ no_plus no_zeros c.parse_u64.ensures c.in-Ok.is, omega arith, omega arith)
