@@ -3,7 +3,7 @@ ghost use Rattle.std.specs.Prelude.{◌≡◌, Some, IfOk, if◌then◌else◌};
 ghost use Rattle.std.specs.Option.{option_map};
 ghost use Rattle.ipnet.specs.IpNets.{block};
 ghost use Rattle.ipnet_blocks.specs.Blocks.{is_inside};
-ghost use Rattle.route_table.specs.Choices.{choices_with};
+ghost use Rattle.route_choices.specs.Choices.{choices_with};
 ghost use Rattle.route_table.specs.Networks.{best_route, choices_at, routes_of};
 ghost use Rattle.route_table.specs.Tables.{longer, match_of, item_of};
 

@@ -16,7 +16,7 @@ use Rattle.route_lines.specs.declared.cutter.Line.{Line}
 use Rattle.route_lines.specs.declared.reply.Closing.{Closing}
 use Rattle.route_lines.specs.declared.reply.Reply.{Reply}
 use Rattle.route_lines.specs.declared.reply.Reply.TheVariants.{Close}
-use Rattle.route_table.specs.Choices.{AreChoices}
+use Rattle.route_choices.specs.Choices.{AreChoices}
 use Rattle.route_table.specs.Networks.{Stored, IsStoredTable, routes_of}
 use Rattle.route_table.specs.Tables.{hop_at}
 use Rattle.route_table.specs.Flats.{flat_of}

@@ -8,7 +8,7 @@ use Rattle.route_lines.specs.Texts.{IsReply}
 use Rattle.route_lines.specs.declared.reply.Reply.{Reply}
 use Rattle.route_lines.proofs.Replies.{one_reply}
 use Rattle.route_lines.proofs.Spells.{reply_found}
-use Rattle.route_table.specs.Tables.{number_of}
+use Rattle.route_choices.specs.Hops.{number_of}
 use Rattle.route_feed.specs.InnerWaiting.{waiting_change, changes_of}
 use Rattle.route_feed.specs.declared.follower.Waiting.{Waiting}
 use Rattle.ipnet_addr.specs.Addresses.{Address}

@@ -1,4 +1,4 @@
--- What `follow` has at the end of its input.
+-- What a follower has at the end of its input, and `follow` with it.
 use Rattle.std.proofs.Common.{◌≡◌, ℕ, ◌<◌, inl, inr, ⊎_elim, Bool, true, false, nat_lt, cond, List, [], ◌∷◌, ◌++◌, length, map, Option, Some, None, Result, Ok, Err, refl, sym, ap, ◌∙◌, subst, append-nil, arith}
 use Rattle.std.specs.List.{filter_map}
 use Rattle.std.specs.Prelude.{IfSome, IsSome, OnOk}
@@ -28,10 +28,11 @@ use Rattle.route_table.proofs.Flats.{same_flat}
 use Rattle.route_feed.specs.declared.counted.Counted.{Counted}
 use Rattle.route_feed.specs.declared.error.RunError.{RunError}
 use Rattle.route_feed.specs.declared.error.RunError.TheVariants as Why
-use Rattle.route_feed.specs.Counted.{CanCount, inner}
+use Rattle.route_feed.specs.Counted.{inner}
 use Rattle.route_feed.specs.Following.{State}
 use Rattle.route_feed.specs.Follows.{AreReplies, followed, FollowEnds}
 use Rattle.route_feed.specs.InnerFollowing.{reply_in, hop_once, AllReplies}
+use Rattle.route_feed.specs.InnerReaching.{Reached, Stops}
 use Rattle.route_feed.specs.InnerReplies.{Closes}
 use Rattle.route_feed.specs.InnerRun.{Runs, TakesAll}
 use Rattle.route_feed.specs.Replies.{printed}
@@ -111,73 +112,83 @@ wanted a b (p ∷ ps) old new t = ⊎_elim
 abbrev pub new_state : State
 new_state = record { table = []; pending = []; failed = false }
 
-module _ (bs : List ℕ) (b : State) (p : Followed new_state (lines_in bs) b) where
-  -- the hops are those that the committed changes paint
-  hops_are : (x : Address) → IsAddress x → hop_at (routes_of b.table) x ≡ painted (committed (replies_in bs)) x
-  hops_are x h =
-      sym (p.same [] x h)
-      ∙ ap (λ ls. hop_once new_state ls x) (append-nil (filter_map reply_in (lines_in bs)) ∙ lines_replies (lines bs))
-      ∙ ap (λ l. painted_over None (l ++ committed (replies_in bs)) x) (no_pending (ends_well (replies_in bs)))
+-- the hops are those that the committed changes paint
+hops_are : (bs : List ℕ) (b : State) → Followed new_state (lines_in bs) b → (x : Address) → IsAddress x → hop_at (routes_of b.table) x ≡ painted (committed (replies_in bs)) x
+hops_are bs b p x h =
+    sym (p.same [] x h)
+    ∙ ap (λ ls. hop_once new_state ls x) (append-nil (filter_map reply_in (lines_in bs)) ∙ lines_replies (lines bs))
+    ∙ ap (λ l. painted_over None (l ++ committed (replies_in bs)) x) (no_pending (ends_well (replies_in bs)))
 
-  -- so is the flat list
-  text_is : (ps : List Piece) → IsFlat (hop_at (routes_of b.table)) ps → printed (map flat_line ps ++ Close Done ∷ []) ≡ followed bs
-  text_is ps flat =
-      let h = painted (committed (replies_in bs)) in
-      ap (λ qs. printed (map flat_line qs ++ Close Done ∷ [])) ((same_flat (hop_at (routes_of b.table)) h ps (flat_of h) flat (search_is_flat h)).1 hops_are)
+-- so is the flat list
+text_is : (bs : List ℕ) (b : State) → ((x : Address) → IsAddress x → hop_at (routes_of b.table) x ≡ painted (committed (replies_in bs)) x)
+    → (ps : List Piece) → IsFlat (hop_at (routes_of b.table)) ps → printed (map flat_line ps ++ Close Done ∷ []) ≡ followed bs
+text_is bs b hops ps flat =
+    let h = painted (committed (replies_in bs)) in
+    ap (λ qs. printed (map flat_line qs ++ Close Done ∷ [])) ((same_flat (hop_at (routes_of b.table)) h ps (flat_of h) flat (search_is_flat h)).1 hops)
 
-module _ {R W : Type 0} (remaining : R → Option (List ℕ)) (contents : W → Option (List ℕ)) (from to : Counted R) (old : Counted W) (a b : State) (new_follower : a ≡ new_state) where
-  -- a run that did not reach the end
-  pub follow_stopped : (e : RunError) (new : Counted W) → Runs Takes remaining a from old (Err e) b to new → FollowEnds remaining contents from to old new (Err e)
-  follow_stopped Why.Memory new x = ⊎_elim
+-- ---- a run of a new follower
+
+module _ {R W : Type 0} (remaining : R → Option (List ℕ)) (from to : Counted R) (old new : Counted W) (a b : State) (new_follower : a ≡ new_state) where
+  -- that did not reach the end
+  pub stopped : (e : RunError) → Runs Takes remaining a from old (Err e) b to new → Stops remaining from to e × (new ≡ old)
+  stopped Why.Memory x = ⊎_elim
       (λ p. absurd (let e = p.1 in cc))
       (λ p.
       let w = wanted new_state b (lines x.bytes) old new (subst (λ s. TakesAll Takes s (lines_in x.bytes) old (Err Why.Memory) b new) new_follower p.0) in (
-        inr (record { bytes = x.bytes; before = w.before; piece = w.piece; after = w.after; reply = w.reply; read = x.read; split = w.split; replies = w.replies; is_reply = w.is_reply; wants = w.wants }),
-        p.1,
+        (
+          inr (record { bytes = x.bytes; before = w.before; piece = w.piece; after = w.after; reply = w.reply; read = x.read; split = w.split; replies = w.replies; is_reply = w.is_reply; wants = w.wants }),
+          p.1,
+        ),
         unwritten a b (lines_in x.bytes) old new (Err Why.Memory) p.0,
       ))
       x.ends
-  follow_stopped Why.Read new x = ⊎_elim
+  stopped Why.Read x = ⊎_elim
       (λ p. (
-        record { bytes = x.bytes; read = x.read; replies = are_replies (lines x.bytes) (followed_all a b (lines_in x.bytes) old new p.0).replies },
-        p.2,
+        (record { bytes = x.bytes; read = x.read; replies = are_replies (lines x.bytes) (followed_all a b (lines_in x.bytes) old new p.0).replies }, p.2),
         unwritten a b (lines_in x.bytes) old new (Ok tt) p.0,
       ))
       (λ p. absurd (no_read a b (lines_in x.bytes) old new p.0)) x.ends
-  follow_stopped Why.Write new x = ⊎_elim (λ p. absurd (let e = p.1 in cc)) (λ p. absurd (no_write a b (lines_in x.bytes) old new p.0)) x.ends
-  follow_stopped Why.Line new x = ⊎_elim
+  stopped Why.Write x = ⊎_elim (λ p. absurd (let e = p.1 in cc)) (λ p. absurd (no_write a b (lines_in x.bytes) old new p.0)) x.ends
+  stopped Why.Line x = ⊎_elim
       (λ p. absurd (let e = p.1 in cc))
       (λ p. (
-        record { bytes = x.bytes; read = x.read; another = λ h. not_all a b (lines_in x.bytes) old new p.0 (all_replies (lines x.bytes) h) },
-        p.1,
+        (record { bytes = x.bytes; read = x.read; another = λ h. not_all a b (lines_in x.bytes) old new p.0 (all_replies (lines x.bytes) h) }, p.1),
         unwritten a b (lines_in x.bytes) old new (Err Why.Line) p.0,
       ))
       x.ends
 
-  pub follow_counts : (left : Rest) (mid : Counted W) → Runs Takes remaining a from old (Ok left) b to mid → CanCount old → CanCount mid
-  follow_counts left mid x h = rw (unwritten a b (lines_in x.bytes) old mid (Ok tt) x.ends.0) h
-
-  -- a run to the end, and the flat list
-  pub follow_ended : (left : Rest) (mid new : Counted W) (ps : List Piece) (r : Result Unit RunError) → Runs Takes remaining a from old (Ok left) b to mid
-      → IsFlat (hop_at (routes_of b.table)) ps → Closes contents 1 mid new r (printed (map flat_line ps ++ Close Done ∷ [])) → FollowEnds remaining contents from to old new r
-  follow_ended left mid new ps r x flat w =
-      go r (subst (λ u. Closes contents 1 u new r (followed x.bytes)) (unwritten a b (lines_in x.bytes) old mid (Ok tt) x.ends.0) (subst (Closes contents 1 mid new r) (text_is x.bytes b steps ps flat) w))
-    where
-      steps : Followed new_state (lines_in x.bytes) b
-      steps = subst (λ s. Followed s (lines_in x.bytes) b) new_follower (followed_all a b (lines_in x.bytes) old mid x.ends.0)
-
-      go : (k : Result Unit RunError) → Closes contents 1 old new k (followed x.bytes) → FollowEnds remaining contents from to old new k
-      go (Ok done) q = (
-        record { bytes = x.bytes; read = x.read; replies = are_replies (lines x.bytes) steps.replies; written = q.appended },
-        q.flushed,
-        x.ends.2,
-        x.ends.3,
-        q.faults,
+  -- that did
+  pub reached : (left : Rest) → Runs Takes remaining a from old (Ok left) b to new → Reached remaining from to b × (new ≡ old)
+  reached left x =
+      let steps = subst (λ s. Followed s (lines_in x.bytes) b) new_follower (followed_all a b (lines_in x.bytes) old new x.ends.0) in (
+        record { bytes = x.bytes; read = x.read; replies = are_replies (lines x.bytes) steps.replies; hops = hops_are x.bytes b steps; at_end = x.ends.2; faults = x.ends.3 },
+        unwritten a b (lines_in x.bytes) old new (Ok tt) x.ends.0,
       )
+
+-- ---- the flat list of the hops that were told
+
+module _ {R W : Type 0} (remaining : R → Option (List ℕ)) (contents : W → Option (List ℕ)) (from to : Counted R) (old : Counted W) where
+  pub follow_stopped : (e : RunError) (new : Counted W) → Stops remaining from to e × (new ≡ old) → FollowEnds remaining contents from to old new (Err e)
+  follow_stopped Why.Memory new x = (x.0.0, x.0.1, x.1)
+  follow_stopped Why.Read new x = (x.0.0, x.0.1, x.1)
+  follow_stopped Why.Write new x = absurd x.0
+  follow_stopped Why.Line new x = (x.0.0, x.0.1, x.1)
+
+  -- all was read, and the list written
+  pub follow_ended : (b : State) (mid new : Counted W) (ps : List Piece) (r : Result Unit RunError) → Reached remaining from to b × (mid ≡ old)
+      → IsFlat (hop_at (routes_of b.table)) ps → Closes contents 1 mid new r (printed (map flat_line ps ++ Close Done ∷ [])) → FollowEnds remaining contents from to old new r
+  follow_ended b mid new ps r x flat w =
+      go r (subst (λ u. Closes contents 1 u new r (followed end.bytes)) x.1 (subst (Closes contents 1 mid new r) (text_is end.bytes b end.hops ps flat) w))
+    where
+      end : Reached remaining from to b
+      end = x.0
+
+      go : (k : Result Unit RunError) → Closes contents 1 old new k (followed end.bytes) → FollowEnds remaining contents from to old new k
+      go (Ok done) q = (record { bytes = end.bytes; read = end.read; replies = end.replies; written = q.appended }, q.flushed, end.at_end, end.faults, q.faults)
       go (Err e) q =
           let torn = q.1 in
           subst (λ k. FollowEnds remaining contents from to old new (Err k)) (sym q.0)
-          (record { bytes = x.bytes; front = torn.front; back = torn.back; read = x.read; replies = are_replies (lines x.bytes) steps.replies; is_front = torn.is_front; written = torn.appended }, x.ends.2, x.ends.3, torn.failed)
+          (record { bytes = end.bytes; front = torn.front; back = torn.back; read = end.read; replies = end.replies; is_front = torn.is_front; written = torn.appended }, end.at_end, end.faults, torn.failed)
 
 -- where the reader tells its bytes
 pub follow_known : {R W : Type 0} (remaining : R → Option (List ℕ)) (contents : W → Option (List ℕ)) (from to : Counted R) (old new : Counted W) (r : Result Unit RunError) → FollowEnds remaining contents from to old new r

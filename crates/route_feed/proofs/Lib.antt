@@ -7,6 +7,8 @@ pub mod Taking
 pub mod Leading
 pub mod Stepping
 pub mod Ending
+pub mod Shortened
+pub mod Adding
 pub mod Seam
 pub mod ReadNets
 pub mod Reread
@@ -14,3 +16,4 @@ pub mod SameBytes
 pub mod Turns
 pub mod Beginnings
 pub mod Grammar
+pub mod Rebuilt

@@ -1,19 +1,11 @@
 -- What a command's words may be: networks and hops in range.
-use Rattle.std.proofs.Common.{◌≡◌, ℕ, ◌+◌, ◌-◌, ◌*◌, ◌^◌, ◌<◌, Bool, true, false, List, [], ◌∷◌, ◌++◌, length, replicate, All, Option, Some, None, inl, inr, sym, subst, arith, refl}
+use Rattle.std.proofs.Common.{ℕ, ◌^◌, ◌<◌, List, Option, Some, None, sym, subst, arith}
 use Rattle.std.specs.Prelude.{unwrap_or}
-use Rattle.std.specs.Int.Digits.{number_from_digits}
-use Rattle.std.specs.Net.Addr.{segments_of}
-use Rattle.std.proofs.lemmas.Int.Digits.{number_lt}
-use Rattle.std.proofs.lemmas.List.Elements.{All-nil, All-cons, All-append, All-replicate, recursion_from_All}
-use Rattle.ipnet_addr.specs.AddressText.{IsIpv4, IsIpv6, IsUnitsAfter}
-use Rattle.ipnet_addr.proofs.Ipv6Text.{ipv6_units}
 use Rattle.ipnet_blocks.specs.Blocks.{IsBlock}
-use Rattle.ipnet_blocks.specs.Networks.{IsNetwork}
 use Rattle.ipnet_blocks.proofs.NetworkBlocks.{block_is}
 use Rattle.ipnet.specs.IpNets.{block, family, parts}
-use Rattle.ipnet.specs.IpNetText.{Reads}
 use Rattle.ipnet.specs.declared.ip_net.IpNet.{IpNet}
-use Rattle.ipnet.specs.declared.ip_net.IpNet.TheVariants.{V4, V6}
+use Rattle.ipnet.proofs.Spelled.{read_is_network}
 use Rattle.route_lines.specs.InnerPhrase.{Gives}
 use Rattle.route_lines.specs.Spelled.{command_of}
 use Rattle.route_lines.specs.Texts.{IsCommand}
@@ -23,57 +15,12 @@ use Rattle.route_lines.specs.declared.command.Command.TheVariants as C
 use Rattle.route_lines.specs.declared.cutter.Line.{Line}
 use Rattle.route_lines.specs.declared.cutter.Line.TheVariants.{Text, TooLong}
 use Rattle.route_lines.proofs.Spells.{command_found}
-use Rattle.route_table.specs.Choices.{default_preference}
-use Rattle.route_table.specs.Tables.{IsHop}
-use Rattle.route_table.specs.declared.hop.Hop.{Hop}
-use Rattle.route_table.specs.declared.hop.Hop.TheVariants.{Number, Drop}
+use Rattle.route_choices.specs.Choices.{default_preference}
+use Rattle.route_choices.specs.Hops.{IsHop}
+use Rattle.route_choices.specs.declared.hop.Hop.{Hop}
+use Rattle.route_choices.specs.declared.hop.Hop.TheVariants.{Number, Drop}
 use Rattle.route_table.proofs.Gaps.{of_network_at}
 use Rattle.route_feed.specs.Commands.{command_in}
-
-abbrev Below : ℕ → List ℕ → Type 0
-Below base xs = All (λ d. d < base) xs
-
-octets_below : (text octets : List ℕ) → IsIpv4 text octets → Below 256 octets × (length octets ≡ 4)
-octets_below text octets h =
-    let p : ℕ → Type 0 = λ d. d < 256 in
-    subst (λ os. Below 256 os × (length os ≡ 4)) (sym h.value) (
-      All-cons p h.a (h.b ∷ h.c ∷ h.d ∷ []) (omega (arith, h.is_a.fits)) (All-cons p h.b (h.c ∷ h.d ∷ []) (omega (arith, h.is_b.fits)) (All-cons p h.c (h.d ∷ []) (omega (arith, h.is_c.fits)) (All-cons p h.d [] (omega (arith, h.is_d.fits)) (All-nil p)))),
-      refl,
-    )
-
-segments_below : (text octets : List ℕ) → IsIpv4 text octets → Below 65536 (segments_of octets)
-segments_below text octets h =
-    let p : ℕ → Type 0 = λ d. d < 65536 in
-    subst (λ os. Below 65536 (segments_of os)) (sym h.value)
-    (All-cons p (h.a * 256 + h.b) ((h.c * 256 + h.d) ∷ []) (omega (arith, h.is_a.fits, h.is_b.fits)) (All-cons p (h.c * 256 + h.d) [] (omega (arith, h.is_c.fits, h.is_d.fits)) (All-nil p)))
-
-units_below : (dotted : Bool) (lead text us : List ℕ) → IsUnitsAfter dotted lead text us → Below 65536 us
-units_below dotted lead text [] h = All-nil (λ d. d < 65536)
-units_below dotted lead text (u ∷ us) (inl h) = All-cons (λ d. d < 65536) u us (omega (arith, h.3.fits)) (units_below dotted (58 ∷ []) h.1 us h.4)
-units_below dotted lead text (u ∷ us) (inr h) = subst (Below 65536) (sym h.5) (segments_below h.0 h.1 h.4)
-
-ipv6_below : (text us : List ℕ) → IsIpv6 text us → Below 65536 us
-ipv6_below text us (inl h) = units_below true [] text us h.0
-ipv6_below text us (inr h) =
-    let p : ℕ → Type 0 = λ d. d < 65536 in
-    let gap = 8 - length h.head - length h.tail in
-    subst (Below 65536) (sym h.value)
-    (All-append p (h.head ++ replicate gap 0) h.tail
-    (All-append p h.head (replicate gap 0) (units_below false [] h.head_text h.head h.head_units) (All-replicate p gap 0 (omega arith)))
-    (units_below true [] h.tail_text h.tail h.tail_units))
-
-in_range : (base count : ℕ) (xs : List ℕ) → Below base xs → length xs ≡ count → number_from_digits base xs < base ^ count
-in_range base count xs h e = subst (λ k. number_from_digits base xs < base ^ k) e (number_lt base xs (recursion_from_All (λ d. d < base) xs h))
-
--- a network that a text spells is one
-pub read_is_network : (text : List ℕ) (n : IpNet) → Reads text n → IsNetwork (family n) (parts n)
-read_is_network text (V4 n) h =
-    let o = octets_below h.spelled.address_text h.parts h.spelled.address in
-    record { in_width = h.spelled.prefix.fits; in_range = subst (λ k. k < 2 ^ 32) (sym h.number) (in_range 256 4 h.parts o.0 o.1) }
-read_is_network text (V6 n) h =
-    let u = ipv6_below h.spelled.address_text h.parts h.spelled.address in
-    let e = ipv6_units h.spelled.address_text h.parts h.spelled.address in
-    record { in_width = h.spelled.prefix.fits; in_range = subst (λ k. k < 2 ^ 128) (sym h.number) (in_range 65536 8 h.parts u e) }
 
 pub net_is_block : (text : List ℕ) (net : IpNet) → word.IsNet text net → IsBlock (block net)
 net_is_block text net h =

@@ -4,17 +4,14 @@ use Rattle.std.specs.List.{filter_map, cons_option, AllByRecursion}
 use Rattle.std.specs.Fmt.{digits, digits_onto, digit_glyph}
 use Rattle.std.proofs.lemmas.Bool.Decides.{nat_tests}
 use Rattle.std.proofs.lemmas.List.Elements.{All-append, All-nil, All-cons, recursion_from_All, filter_map-append}
-use Rattle.ipnet_addr.specs.Addresses.{Address, IsAddress, Family, Ipv4, Ipv6}
+use Rattle.ipnet_addr.specs.Addresses.{Address, IsAddress}
 use Rattle.ipnet_addr.proofs.Members.{In}
 use Rattle.ipnet_addr.proofs.Ascending.{In-from_All, In-from_Contains}
 use Rattle.ipnet_blocks.specs.Blocks.{Block, IsBlock, first_of, host}
-use Rattle.ipnet_blocks.specs.Networks.{Network, IsNetwork, net_of}
 use Rattle.ipnet_blocks.proofs.BlockLaws.{has_first}
 use Rattle.ipnet_blocks.proofs.Maximals.{host_is_block, member_is_address}
-use Rattle.ipnet.specs.IpNets.{block, net_in, network_at}
-use Rattle.ipnet.specs.IpNetText.{net_text, Reads}
-use Rattle.ipnet.proofs.Ipv4Networks.{v4_reads_text}
-use Rattle.ipnet.proofs.Ipv6Networks.{v6_reads_text}
+use Rattle.ipnet.specs.IpNets.{block, network_at}
+use Rattle.ipnet.proofs.Spelled.{net_reads}
 use Rattle.route_lines.specs.Bytes.{lines}
 use Rattle.route_lines.specs.InnerPhrase.{Gives}
 use Rattle.route_lines.specs.Spelled.{reply_of}
@@ -29,9 +26,10 @@ use Rattle.route_lines.proofs.Printed.{prints}
 use Rattle.route_lines.proofs.Replies.{clean_reply}
 use Rattle.route_lines.proofs.Spells.{reply_found}
 use Rattle.route_feed.proofs.Carried.{reply_is}
-use Rattle.route_table.specs.Tables.{Route, IsTable, IsHop, hop_at, match_of, match_number, number_of}
-use Rattle.route_table.specs.declared.hop.Hop.{Hop}
-use Rattle.route_table.specs.declared.hop.Hop.TheVariants.{Number, Drop}
+use Rattle.route_choices.specs.Hops.{IsHop, number_of}
+use Rattle.route_choices.specs.declared.hop.Hop.{Hop}
+use Rattle.route_choices.specs.declared.hop.Hop.TheVariants.{Number, Drop}
+use Rattle.route_table.specs.Tables.{Route, IsTable, hop_at, match_of, match_number}
 use Rattle.route_table.proofs.Gaps.{of_network_at}
 use Rattle.route_table.proofs.Matches.{match_meets}
 use Rattle.route_feed.specs.Replies.{printed}
@@ -140,17 +138,7 @@ told_if_read l none h = record {
 
 -- ---- networks, hops and numbers
 
-block_is_network : (b : Block) → IsBlock b → IsNetwork b.family (net_of b)
-block_is_network b ok = record { in_width = ok.in_width; in_range = member_is_address b (first_of b) ok (has_first b) }
-
-net_reads : (b : Block) → IsBlock b → Reads (net_text (network_at b)) (network_at b)
-net_reads b ok = go b.family (net_of b) (block_is_network b ok)
-  where
-    go : (f : Family) (n : Network) → IsNetwork f n → Reads (net_text (net_in f n)) (net_in f n)
-    go Ipv4 n h = v4_reads_text n h.in_range h.in_width
-    go Ipv6 n h = v6_reads_text n h.in_range h.in_width
-
-is_cut : (b : Block) → network_at b ≡ network_at (block (network_at b))
+pub is_cut : (b : Block) → network_at b ≡ network_at (block (network_at b))
 is_cut b = sym (ap network_at (of_network_at b))
 
 number_small : (hop : Hop) (n : ℕ) → IsHop hop → number_of hop ≡ Some n → n ≤ 0xffffffff
@@ -166,7 +154,7 @@ hop_small M m x a n e = go (match_of M (host x)) refl e
         let is = match_meets M m (host x) (host_is_block x a) r f in
         number_small r.hop n (In-from_All (λ s. IsHop s.hop) M m.hops r (In-from_Contains M r is.member)) q
 
-word_hop : (hop : Hop) → IsHop hop → word.IsHop (hop_text hop) hop
+pub word_hop : (hop : Hop) → IsHop hop → word.IsHop (hop_text hop) hop
 word_hop (Number n) h = (refl, omega arith, omega (arith, h))
 word_hop Drop h = refl
 

@@ -1,5 +1,5 @@
 -- Lines taken one after another.
-use Rattle.std.proofs.Common.{◌≡◌, ℕ, ◌<◌, inl, inr, ⊎_elim, List, [], ◌∷◌, ◌++◌, length, take, drop, suc, get_or, Option, Some, None, Result, Ok, Err, refl, sym, ap, ◌∙◌, subst, append_assoc, take-append-drop}
+use Rattle.std.proofs.Common.{◌≡◌, ◌≢◌, ℕ, ◌+◌, ◌-◌, ◌<◌, All, arith, eq-eqb, eqb-true, inl, inr, ⊎_elim, List, [], ◌∷◌, ◌++◌, length, take, drop, suc, get_or, Option, Some, Result, Ok, Err, refl, sym, ap, ◌∙◌, subst, append_assoc, take-append-drop}
 use Rattle.std.specs.Option.{option_to_list}
 use Rattle.std.proofs.Math.Seq.{drop-cons}
 use Rattle.route_lines.specs.Kept.{Kept}
@@ -7,8 +7,11 @@ use Rattle.std.specs.Result.{OnOk}
 use Rattle.std.proofs.lemmas.Result.{on_ok_weaker}
 use Rattle.std.specs.Io.KnownBytes.{Consumes}
 use Rattle.std.proofs.KnownBytes.{Consumes-nil, Consumes-trans}
-use Rattle.route_lines.specs.Lines.{answers, fed_answer, fed, fed_all, kept_of, lines_in}
-use Rattle.route_lines.proofs.Cutting.{new_answers}
+use Rattle.route_lines.specs.Lines.{answers, fed_answer, fed, fed_all, kept_of, line_of, lines_in}
+use Rattle.route_lines.proofs.Cutting.{new_answers, quiet, new_line}
+use Rattle.memchr.specs.Find.{Nowhere, Passes, is_byte}
+use Rattle.std.proofs.lemmas.List.Elements.{All-from_get_or}
+use Rattle.std.proofs.lemmas.List.{take_rest}
 use Rattle.route_lines.specs.declared.cutter.Line.{Line}
 use Rattle.route_feed.specs.declared.counted.Counted.{Counted}
 use Rattle.route_feed.specs.declared.error.RunError.{RunError}
@@ -25,11 +28,21 @@ answers-append k (b ∷ bs) cs =
     ap (λ l. option_to_list (fed_answer k b) ++ l) (answers-append (fed k b) bs cs)
     ∙ sym (append_assoc (option_to_list (fed_answer k b)) (answers (fed k b) bs) (answers (fed_all (fed k b) bs) cs))
 
--- a list, at one of its places
-pub cut_at : (xs : List ℕ) (i : ℕ) → i < length xs → xs ≡ (take i xs ++ get_or xs i 0 ∷ []) ++ drop (suc i) xs
-cut_at xs i h =
-    sym (take-append-drop i xs) ∙ ap (λ l. take i xs ++ l) (drop-cons xs i 0 h)
-    ∙ sym (append_assoc (take i xs) (get_or xs i 0 ∷ []) (drop (suc i) xs))
+-- a text in which no line end was found
+pub none_found : (xs : List ℕ) → Nowhere (Passes (is_byte 10) xs) 0 (length xs) → All (λ c. c ≢ 10) xs
+none_found xs none = All-from_get_or (λ c. c ≢ 10) xs 0 (λ k below e. none k (omega arith) below (eq-eqb _ 10 e))
+
+-- a text after some of its bytes, at the next line end
+pub at_end : (all front left : List ℕ) (i : ℕ) → all ≡ front ++ left → i < length left → Passes (is_byte 10) left i
+    → all ≡ (front ++ (take i left ++ 10 ∷ [])) ++ take (length left - (i + 1)) (drop (i + 1) left)
+at_end all front left i is h e =
+    let ends : left ≡ (take i left ++ 10 ∷ []) ++ drop (suc i) left =
+    sym (take-append-drop i left) ∙ ap (λ l. take i left ++ l) (drop-cons left i 0 h ∙ ap (λ b. b ∷ drop (suc i) left) (eqb-true (get_or left i 0) 10 e))
+    ∙ sym (append_assoc (take i left) (10 ∷ []) (drop (suc i) left)) in
+    let next : suc i ≡ i + 1 = omega arith in
+    is ∙ ap (λ l. front ++ l) ends ∙ sym (append_assoc front (take i left ++ 10 ∷ []) (drop (suc i) left))
+    ∙ ap (λ n. (front ++ (take i left ++ 10 ∷ [])) ++ drop n left) next
+    ∙ ap (λ l. (front ++ (take i left ++ 10 ∷ [])) ++ l) (sym (take_rest left (i + 1)))
 
 module _ {S W : Type 0} (takes : S → Line → Counted W → Result Unit RunError → S → Counted W → Type 0) where
   TakesAll-one : (a b : S) (l : Line) (u v : Counted W) (r : Result Unit RunError) → takes a l u r b v → TakesAll takes a (l ∷ []) u r b v
@@ -46,12 +59,16 @@ module _ {S W : Type 0} (takes : S → Line → Counted W → Result Unit RunErr
   TakesAll-longer a c [] ms u w e p = absurd (let q = p.0 in cc)
   TakesAll-longer a c (l ∷ ls) ms u w e p = ⊎_elim (λ t. inl (t.0, t.1, t.2, TakesAll-longer t.0 c ls ms t.1 w e t.3)) (λ t. inr t) p
 
-  -- a byte that ends no line, and one that ends a line
-  pub byte_quiet : (a : S) (k : Kept) (byte : ℕ) (u : Counted W) → fed_answer k byte ≡ None → TakesAll takes a (answers k (byte ∷ [])) u (Ok tt) a u
-  byte_quiet a k byte u e = rw e (refl, refl, refl)
+  -- a line that a new cutter's bytes make, and one that ends after what a cutter has
+  pub takes_new : (a b : S) (k : Kept) (piece : List ℕ) (u v : Counted W) (r : Result Unit RunError) → All (λ c. c ≢ 10) piece → k ≡ kept_of [] → takes a (line_of piece) u r b v → TakesAll takes a (answers k (piece ++ 10 ∷ [])) u r b v
+  takes_new a b k piece u v r clean new t =
+      subst (λ ls. TakesAll takes a ls u r b v) (sym (new_line piece clean) ∙ ap (λ n. answers n (piece ++ 10 ∷ [])) (sym new)) (TakesAll-one a b (line_of piece) u v r t)
 
-  pub byte_line : (a b : S) (k : Kept) (byte : ℕ) (l : Line) (u v : Counted W) (r : Result Unit RunError) → fed_answer k byte ≡ Some l → takes a l u r b v → TakesAll takes a (answers k (byte ∷ [])) u r b v
-  byte_line a b k byte l u v r e t = rw e (TakesAll-one a b l u v r t)
+  pub takes_held : (a b : S) (k m : Kept) (piece : List ℕ) (l : Line) (u v : Counted W) (r : Result Unit RunError) → All (λ c. c ≢ 10) piece → m ≡ fed_all k piece → fed_answer m 10 ≡ Some l → takes a l u r b v → TakesAll takes a (answers k (piece ++ 10 ∷ [])) u r b v
+  takes_held a b k m piece l u v r clean kept e t =
+      let last : answers (fed_all k piece) (10 ∷ []) ≡ l ∷ [] = ap (λ n. answers n (10 ∷ [])) (sym kept) ∙ ap (λ o. option_to_list o ++ []) e in
+      let all : answers k (piece ++ 10 ∷ []) ≡ l ∷ [] = answers-append k piece (10 ∷ []) ∙ ap (λ ls. ls ++ answers (fed_all k piece) (10 ∷ [])) (quiet k piece clean) ∙ last in
+      subst (λ ls. TakesAll takes a ls u r b v) (sym all) (TakesAll-one a b l u v r t)
 
   -- bytes after bytes
   pub takes_more : (a b c : S) (k m : Kept) (bs cs : List ℕ) (u v w : Counted W) (r : Result Unit RunError)

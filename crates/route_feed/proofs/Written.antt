@@ -1,17 +1,30 @@
 -- Writes one after another.
-use Rattle.std.proofs.Common.{◌≡◌, ℕ, zero, suc, ◌<◌, ◌+◌, ◌⊎◌, inl, inr, ⊎_elim, Bool, false, List, [], ◌∷◌, ◌++◌, length, Option, Result, Ok, Err, refl, sym, ap, ◌∙◌, subst, append_assoc, append-nil, arith}
+use Rattle.std.proofs.Common.{◌≡◌, ℕ, zero, suc, ◌<◌, ◌+◌, Bool, true, false, ◌||◌, codes, List, [], ◌∷◌, ◌++◌, length, Option, Result, Ok, Err, refl, sym, ap, ◌∙◌, subst, append_assoc, append-nil, arith}
 use Rattle.std.specs.Result.{IsErr}
 use Rattle.std.specs.Io.KnownBytes.{Appends}
 use Rattle.std.proofs.KnownBytes.{Appends-nil, Appends-trans}
 use Rattle.route_feed.specs.declared.error.RunError.{RunError}
 use Rattle.route_feed.specs.declared.counted.Counted.{Counted}
-use Rattle.route_feed.specs.Counted.{inner, faults_of, one_more, more_by, waits_after, Flushed}
-use Rattle.route_feed.specs.InnerReplies.{Written, Closed, Torn, Closes}
+use Rattle.route_feed.specs.Counted.{inner, faults_of, has_bytes, flushes_of, waiting_of, one_more, more_by, more_if, waits_after, Flushed}
+use Rattle.route_feed.specs.InnerReplies.{Written, Closed, Delivers, Torn, Closes}
+
+or_true : (b : Bool) → (b || true) ≡ true
+or_true true = refl
+or_true false = refl
 
 -- a text of two has bytes where one of them has
-one_has : (s t : List ℕ) → 0 < length (s ++ t) → (0 < length s) ⊎ (0 < length t)
-one_has [] t h = inr h
-one_has (b ∷ s) t h = inl (omega arith)
+one_has : (s t : List ℕ) (waits : Bool) → (has_bytes t || (has_bytes s || waits)) ≡ (has_bytes (s ++ t) || waits)
+one_has [] t waits = refl
+one_has (b ∷ s) t waits = or_true (has_bytes t)
+
+pub has_some : (text : List ℕ) → 0 < length text → has_bytes text ≡ true
+has_some [] h = absurd (omega arith)
+has_some (b ∷ text) h = refl
+
+-- a line has bytes
+pub line_has : (text : List ℕ) → has_bytes (text ++ codes "\n") ≡ true
+line_has [] = refl
+line_has (b ∷ text) = refl
 
 waits_false : (times : ℕ) → waits_after times false ≡ false
 waits_false zero = refl
@@ -35,14 +48,14 @@ module _ {W : Type 0} where
 
 module _ {W : Type 0} (contents : W → Option (List ℕ)) where
   pub Written-nil : (w : Counted W) → Written contents w w []
-  Written-nil w = record { appended = Appends-nil (contents w.device); faults = refl; flushes = refl; waits = ⊎_elim (λ h. absurd (omega arith)) (λ h. h) }
+  Written-nil w = record { appended = Appends-nil (contents w.device); faults = refl; flushes = refl; waits = refl }
 
   pub Written-trans : (a b c : Counted W) (s t : List ℕ) → Written contents a b s → Written contents b c t → Written contents a c (s ++ t)
   Written-trans a b c s t p q = record {
     appended = Appends-trans _ _ _ s t p.appended q.appended;
     faults = q.faults ∙ p.faults;
     flushes = q.flushes ∙ p.flushes;
-    waits = ⊎_elim (λ h. ⊎_elim (λ k. q.waits (inr (p.waits (inl k)))) (λ k. q.waits (inl k)) (one_has s t h)) (λ h. q.waits (inr (p.waits (inr h))));
+    waits = q.waits ∙ ap (λ w. has_bytes t || w) p.waits ∙ one_has s t (waiting_of a);
   }
 
   pub Torn-after : (a b c : Counted W) (s t : List ℕ) → Appends (contents (inner a)) (contents (inner b)) s → faults_of b ≡ faults_of a → Torn contents b c t → Torn contents a c (s ++ t)
@@ -68,6 +81,20 @@ module _ {W : Type 0} (contents : W → Option (List ℕ)) where
   pub Closes-written : {T : Type 0} (a b c : Counted W) (r : Result T RunError) (s t : List ℕ) → Written contents a b s → Closes contents 1 b c r t → Closes contents 1 a c r (s ++ t)
   Closes-written a b c (Ok x) s t p q = record { appended = Appends-trans _ _ _ s t p.appended q.appended; faults = q.faults ∙ p.faults; flushed = (q.flushed.0 ∙ ap one_more p.flushes, q.flushed.1) }
   Closes-written a b c (Err e) s t p q = (q.0, Torn-after a b c s t p.appended p.faults q.1)
+
+  -- the end of a text after its beginning, and then all is flushed
+  pub Delivers-after : {T : Type 0} (a b c : Counted W) (r : Result T RunError) (s : List ℕ) → Written contents a b s → Delivers contents b c r [] → Delivers contents a c r s
+  Delivers-after a b c (Ok x) s p q = record {
+    appended = subst (Appends (contents (inner a)) (contents (inner c))) (append-nil s) (Appends-trans _ _ _ s [] p.appended q.appended);
+    faults = q.faults ∙ p.faults;
+    flushed = (q.flushed.0 ∙ ap (λ w. more_if w (flushes_of b)) p.waits ∙ ap (more_if (has_bytes s || waiting_of a)) p.flushes, q.flushed.1);
+  }
+  Delivers-after a b c (Err e) s p q = (q.0, subst (Torn contents a c) (append-nil s) (Torn-after a b c s [] p.appended p.faults q.1))
+
+  -- a flush of bytes that waited closes a reply
+  pub Closes-delivered : {T : Type 0} (a b : Counted W) (r : Result T RunError) → waiting_of a ≡ true → Delivers contents a b r [] → Closes contents 1 a b r []
+  Closes-delivered a b (Ok x) waits q = record { appended = q.appended; faults = q.faults; flushed = (q.flushed.0 ∙ ap (λ w. more_if w (flushes_of a)) waits, q.flushed.1) }
+  Closes-delivered a b (Err e) waits q = q
 
   -- and then nothing more
   pub Closes-end : {T : Type 0} (a b c : Counted W) (r : Result T RunError) (s : List ℕ) → Written contents a b s → Closes contents 1 b c r [] → Closes contents 1 a c r s

@@ -1,5 +1,5 @@
 -- What a counted device counts.
-use Rattle.std.specs.Prelude.{◌≡◌, ℕ, zero, suc, ◌⊎◌, ◌≤◌, ◌+◌, ◌-◌, ◌^◌, ◌<◌, ◌==◌, min, nat_lt, Bool, true, false, ◌&&◌, if◌then◌else◌, Result, Ok, Err}
+use Rattle.std.specs.Prelude.{◌≡◌, ℕ, zero, suc, ◌⊎◌, ◌≤◌, ◌+◌, ◌-◌, ◌^◌, ◌<◌, ◌==◌, min, nat_lt, Bool, true, false, ◌&&◌, ◌||◌, if◌then◌else◌, List, [], ◌∷◌, Result, Ok, Err}
 use Rattle.route_feed.specs.declared.counted.Counted.{Counted}
 
 -- one more, up to the greatest u64
@@ -65,3 +65,11 @@ waits_after (suc times) waits = false
 -- so often bytes were written and then flushed, and nothing was written after that
 abbrev pub Flushed : {W : Type 0} → ℕ → Counted W → Counted W → Type 0
 Flushed times old new = (flushes_of new ≡ more_by times (flushes_of old)) × (waiting_of new ≡ waits_after times (waiting_of old))
+
+abbrev pub has_bytes : List ℕ → Bool
+has_bytes [] = false
+has_bytes (b ∷ bs) = true
+
+-- what waited before and this text were flushed, once, and nothing waits; where there was nothing, no flush counts
+abbrev pub FlushedAll : {W : Type 0} → List ℕ → Counted W → Counted W → Type 0
+FlushedAll text old new = (flushes_of new ≡ more_if (has_bytes text || waiting_of old) (flushes_of old)) × (waiting_of new ≡ false)

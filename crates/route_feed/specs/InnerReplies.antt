@@ -1,5 +1,5 @@
 -- How replies are written.
-use Rattle.std.specs.Prelude.{◌≡◌, ℕ, ◌<◌, ◌⊎◌, Bool, true, List, [], ◌∷◌, ◌++◌, length, Option, Result, Ok, Err, OnOk, MatchOption}
+use Rattle.std.specs.Prelude.{◌≡◌, ℕ, Bool, ◌||◌, List, [], ◌∷◌, ◌++◌, Option, Result, Ok, Err, OnOk, MatchOption}
 use Rattle.std.specs.Io.KnownBytes.{Appends}
 use Rattle.route_lines.specs.Texts.{IsPrintable}
 use Rattle.route_lines.specs.declared.command.Command.{Command}
@@ -12,7 +12,7 @@ use Rattle.route_table.specs.Networks.{Stored}
 use Rattle.route_feed.specs.declared.counted.Counted.{Counted}
 use Rattle.route_feed.specs.declared.error.RunError.{RunError}
 use Rattle.route_feed.specs.declared.error.RunError.TheVariants.{Write}
-use Rattle.route_feed.specs.Counted.{inner, faults_of, flushes_of, waiting_of, FailedLast, Flushed}
+use Rattle.route_feed.specs.Counted.{inner, faults_of, has_bytes, flushes_of, waiting_of, FailedLast, Flushed, FlushedAll}
 use Rattle.route_feed.specs.Replies.{reply_line, printed}
 use Rattle.route_feed.specs.Steps.{step, turn_lines}
 
@@ -26,7 +26,13 @@ module _ {W : Type 0} (contents : W → Option (List ℕ)) where
     pub appended : Appends (contents (inner old)) (contents (inner new)) text
     pub faults : faults_of new ≡ faults_of old
     pub flushes : flushes_of new ≡ flushes_of old
-    pub waits : (0 < length text) ⊎ (waiting_of old ≡ true) → waiting_of new ≡ true
+    pub waits : waiting_of new ≡ (has_bytes text || waiting_of old)
+
+  -- the text was written, and all that waited was flushed
+  pub record Delivered (old new : Counted W) (text : List ℕ) : Type 0 where
+    pub appended : Appends (contents (inner old)) (contents (inner new)) text
+    pub faults : faults_of new ≡ faults_of old
+    pub flushed : FlushedAll text old new
 
   -- the text of so many replies was written, and each was flushed
   pub record Closed (times : ℕ) (old new : Counted W) (text : List ℕ) : Type 0 where
@@ -46,6 +52,11 @@ module _ {W : Type 0} (contents : W → Option (List ℕ)) where
   abbrev pub Writes : {T : Type 0} → Counted W → Counted W → Result T RunError → List ℕ → Type 0
   Writes old new (Ok x) text = Written old new text
   Writes old new (Err e) text = (e ≡ Write) × Torn old new text
+
+  -- the text was written and flushed; or a beginning of it was written, and then the writer failed
+  abbrev pub Delivers : {T : Type 0} → Counted W → Counted W → Result T RunError → List ℕ → Type 0
+  Delivers old new (Ok x) text = Delivered old new text
+  Delivers old new (Err e) text = (e ≡ Write) × Torn old new text
 
   -- the text of so many replies was written, and each was flushed; or a beginning of it, and then the writer failed
   abbrev pub Closes : {T : Type 0} → ℕ → Counted W → Counted W → Result T RunError → List ℕ → Type 0

@@ -1,7 +1,7 @@
 -- The changes that a follower keeps.
 use Rattle.std.specs.Prelude.{List, map}
 use Rattle.ipnet.specs.IpNets.{block}
-use Rattle.route_table.specs.Tables.{number_of}
+use Rattle.route_choices.specs.Hops.{number_of}
 use Rattle.route_feed.specs.Streams.{Change}
 use Rattle.route_feed.specs.declared.follower.Waiting.{Waiting}
 

@@ -1,15 +1,18 @@
 -- What a follower knows that has read any beginning of what a leader wrote.
-use Rattle.std.specs.Prelude.{◌≡◌, ◌↔◌, ◌<◌, ◌^◌, ℕ, Bool, List, [], ◌∷◌, ◌++◌, map, take, length}
+use Rattle.std.specs.Prelude.{◌≡◌, ◌↔◌, ◌<◌, ◌^◌, ℕ, Bool, List, [], ◌∷◌, ◌++◌, None, map, take, length}
 use Rattle.ipnet_addr.specs.Addresses.{Address, IsAddress}
 use Rattle.route_lines.specs.Bytes.{lines, rest}
 use Rattle.route_lines.specs.declared.reply.Closing.TheVariants.{Done}
 use Rattle.route_lines.specs.declared.reply.Reply.TheVariants.{Close}
+use Rattle.route_choices.specs.Choices.{default_preference}
 use Rattle.route_table.specs.Flats.{flat_of}
 use Rattle.route_table.specs.Networks.{Stored, routes_of}
 use Rattle.route_table.specs.Tables.{Route, IsTable, hop_at}
+use Rattle.route_feed.specs.AddLines.{add_lines}
 use Rattle.route_feed.specs.Follows.{AreReplies, followed}
 use Rattle.route_feed.specs.Replies.{printed}
 use Rattle.route_feed.specs.Steps.{flat_line}
+use Rattle.route_feed.specs.Shortens.{IsLeastFor}
 use Rattle.route_feed.specs.Output.{table_after, whole_commands, at_end, output}
 use Rattle.route_feed.specs.Streams.{closings, committed, painted, replies_in}
 
@@ -47,3 +50,25 @@ SameFlatBytes = (M N : List Route) → IsTable M → IsTable N → (flat_bytes M
 -- each line of a beginning of the output is a reply line, where the input has fewer than 2^64 bytes, as every input has
 abbrev pub BeginningsAreReplies : Type 0
 BeginningsAreReplies = (bytes front back : List ℕ) (refusals : List Bool) → length bytes < 2 ^ 64 → output bytes refusals ≡ front ++ back → AreReplies (lines front)
+
+-- the table of a leader that has memory and is given these bytes
+abbrev pub table_given : List ℕ → List Stored
+table_given bytes = table_after [] (whole_commands bytes ++ at_end (rest bytes)) []
+
+-- a network whose one route has the hop of this one, with the default preference
+abbrev pub alone : Route → Stored
+alone r = record { block = r.block; choices = record { hop = r.hop; pref = default_preference } ∷ [] }
+
+-- a leader that is given the lines that add the routes of a table has these networks, with these hops, and no others
+abbrev pub LinesRebuild : Type 0
+LinesRebuild = (N : List Route) → IsTable N → table_given (add_lines N) ≡ map alone N
+
+-- a leader that is given the lines of a least table of what was told in a beginning of the output of another has the hops that
+-- this one had there
+abbrev pub ShortenedAgree : Type 0
+ShortenedAgree = (bytes front back : List ℕ) (refusals : List Bool) (N : List Route) → output bytes refusals ≡ front ++ back → IsLeastFor front N
+    → (x : Address) → IsAddress x → hop_at (routes_of (table_given (add_lines N))) x ≡ hop_at (routes_of (table_told bytes refusals front)) x
+
+-- where no address has a hop, there are no lines
+abbrev pub NoHopsNoLines : Type 0
+NoHopsNoLines = (bytes : List ℕ) (N : List Route) → ((x : Address) → IsAddress x → painted (committed (replies_in bytes)) x ≡ None) → IsLeastFor bytes N → add_lines N ≡ []

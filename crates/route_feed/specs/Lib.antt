@@ -7,8 +7,11 @@ pub mod Output
 pub mod Leads
 pub mod Following
 pub mod Follows
+pub mod AddLines
+pub mod Shortens
 pub mod Laws
 pub mod InnerReplies
 pub mod InnerRun
 pub mod InnerWaiting
 pub mod InnerFollowing
+pub mod InnerReaching

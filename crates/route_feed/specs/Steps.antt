@@ -10,8 +10,8 @@ use Rattle.route_lines.specs.declared.reply.Closing.{Closing}
 use Rattle.route_lines.specs.declared.reply.Closing.TheVariants.{Done, Missing, Bad, Refused}
 use Rattle.route_lines.specs.declared.reply.Reply.{Reply}
 use Rattle.route_lines.specs.declared.reply.Reply.TheVariants.{Set, Unset, Route, Flat, Own, Count, Close}
+use Rattle.route_choices.specs.Choices.{Choice, has_none, holds_hop, is_one_too_many}
 use Rattle.route_table.specs.Changes.{changed}
-use Rattle.route_table.specs.Choices.{Choice, has_none, holds_hop, is_one_too_many}
 use Rattle.route_table.specs.Flats.{Piece, blocks_of, flat_of}
 use Rattle.route_table.specs.Networks.{Stored, choices_at, routes_of, with_choice, without_choice}
 use Rattle.route_table.specs.Onwards.{count_of, routes_from, routes_after}

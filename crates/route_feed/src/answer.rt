@@ -8,31 +8,32 @@ ghost use Rattle.route_feed.specs.Counted.{CanCount};
 ghost use Rattle.route_feed.specs.InnerReplies.{Answers, Closes, replies_to_rest, reply_to_rest};
 ghost use Rattle.route_feed.specs.Replies.{printed};
 ghost use Rattle.route_feed.specs.Steps.{change_line};
+ghost use Rattle.route_lines.specs.Lines.{as_line};
 ghost use Rattle.route_table.specs.Networks.{routes_of};
 ghost use Rattle.route_table.specs.Tables as table_of;
 
-use crate::body::{ChangeLines, ChoiceLines, PageLines};
+use crate::body::{ChangeLines, ChoiceLines, PageLines, change_line};
 use crate::counted::Counted;
 use crate::error::RunError;
 use crate::writing::{close, reply};
 use ipnet::IpNet;
-use route_lines::{Closing, Command, Line, Reply, Rest};
+use route_lines::{Closing, Command, Reply, Rest};
 use route_table::{Hop, RouteTable};
 use std::io::Write;
 
-/// Answers a line.
+/// Answers the line of these bytes; without them, one that is too long.
 pub fn answer<W: Write>(
     table: &mut RouteTable,
-    line: &Line,
+    text: Option<&[u8]>,
     writer: &mut Counted<W>,
 ) -> Result<(), RunError>
     requires { CanCount writer.old }
-    ensures { Answers W.contents table.old table.new (command_in line.now) writer.old writer.new result }
+    ensures { Answers W.contents table.old table.new (command_in (as_line text.entry)) writer.old writer.new result }
 {
-    let Line::Text(text) = line else {
+    let Some(text) = text else {
         return close(writer, Closing::Bad);
     };
-    let Ok(command) = Command::read(text.as_slice()) else {
+    let Ok(command) = Command::read(text) else {
         return close(writer, Closing::Bad);
     };
     answer_command(table, command, writer)
@@ -61,20 +62,14 @@ fn answer_command<W: Write>(
         Command::Add { net, hop, pref } => answer_add(table, net, hop, pref, writer),
         Command::Del { net, hop } => answer_del(table, net, hop, writer),
         Command::Get { net } => answer_get(table, net, writer),
-        Command::Cover { net } => reply(writer, table.cover(&net)),
-        Command::List { net } => reply(writer, table.list(&net)),
+        Command::Cover { net } => answer_cover(table, net, writer),
+        Command::List { net } => answer_list(table, net, writer),
         Command::All { net } => answer_all(table, net, writer),
-        Command::PageFrom { net, limit } => {
-            let routes = table.from(&net);
-            reply(writer, PageLines { routes, limit })
-        }
-        Command::PageAfter { net, limit } => {
-            let routes = table.after(&net);
-            reply(writer, PageLines { routes, limit })
-        }
+        Command::PageFrom { net, limit } => answer_from(table, net, limit, writer),
+        Command::PageAfter { net, limit } => answer_after(table, net, limit, writer),
         Command::Own { number } => answer_own(table, number, writer),
         Command::Count => answer_count(table, writer),
-        Command::Flat => reply(writer, table.flat()),
+        Command::Flat => answer_flat(table, writer),
     }
 }
 
@@ -141,6 +136,69 @@ fn answer_all<W: Write>(
     reply(writer, lines)
 }
 
+// A walk is up to fourteen kilobytes on the stack, which a function clears when it is entered. So each command that walks the
+// table is answered in a function of its own, and the others pay nothing for it.
+
+#[inline(never)]
+fn answer_cover<W: Write>(
+    table: &RouteTable,
+    net: IpNet,
+    writer: &mut Counted<W>,
+) -> Result<(), RunError>
+    requires { CanCount writer.old }
+    ensures { Answers W.contents table.now table.now (Some (Command.Cover net)) writer.old writer.new result }
+{
+    reply(writer, table.cover(&net))
+}
+
+#[inline(never)]
+fn answer_list<W: Write>(
+    table: &RouteTable,
+    net: IpNet,
+    writer: &mut Counted<W>,
+) -> Result<(), RunError>
+    requires { CanCount writer.old }
+    ensures { Answers W.contents table.now table.now (Some (Command.List net)) writer.old writer.new result }
+{
+    reply(writer, table.list(&net))
+}
+
+#[inline(never)]
+fn answer_from<W: Write>(
+    table: &RouteTable,
+    net: IpNet,
+    limit: u16,
+    writer: &mut Counted<W>,
+) -> Result<(), RunError>
+    requires { CanCount writer.old }
+    ensures { Answers W.contents table.now table.now (Some (Command.PageFrom net limit)) writer.old writer.new result }
+{
+    let routes = table.from(&net);
+    reply(writer, PageLines { routes, limit })
+}
+
+#[inline(never)]
+fn answer_after<W: Write>(
+    table: &RouteTable,
+    net: IpNet,
+    limit: u16,
+    writer: &mut Counted<W>,
+) -> Result<(), RunError>
+    requires { CanCount writer.old }
+    ensures { Answers W.contents table.now table.now (Some (Command.PageAfter net limit)) writer.old writer.new result }
+{
+    let routes = table.after(&net);
+    reply(writer, PageLines { routes, limit })
+}
+
+#[inline(never)]
+fn answer_flat<W: Write>(table: &RouteTable, writer: &mut Counted<W>) -> Result<(), RunError>
+    requires { CanCount writer.old }
+    ensures { Answers W.contents table.now table.now (Some Command.Flat) writer.old writer.new result }
+{
+    reply(writer, table.flat())
+}
+
 fn answer_own<W: Write>(
     table: &RouteTable,
     number: u32,
@@ -167,7 +225,8 @@ fn answer_count<W: Write>(table: &RouteTable, writer: &mut Counted<W>) -> Result
     reply(writer, Some(line))
 }
 
-/// Replies to a change of the network: with a line for each block that it governs, where its hop differs.
+/// Replies to a change of the network: with a line for each block that it governs, where its hop differs. Of a network
+/// with no other inside that is its own line alone, and nothing is walked.
 fn tell_change<W: Write>(
     table: &RouteTable,
     net: &IpNet,
@@ -182,6 +241,9 @@ fn tell_change<W: Write>(
 {
     if before == after {
         return close(writer, Closing::Done);
+    }
+    if table.is_leaf(net) {
+        return reply(writer, Some(change_line(net.trunc(), after)));
     }
     let lines = ChangeLines {
         blocks: table.governed(net),

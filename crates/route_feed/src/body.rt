@@ -104,6 +104,17 @@ impl Body for &[IpNet] {
     }
 }
 
+/// The line of a block of a change, which has no host bits, with the hop that it has now.
+pub fn change_line(net: IpNet, hop: Option<u32>) -> Reply
+    ensures value { net ≡ network_at (block net) → result ≡ change_line hop (block net) }
+    ensures printable { net ≡ network_at (block net) → IsPrintable result }
+{
+    match hop {
+        Some(number) => Reply::Set { net, number },
+        None => Reply::Unset { net },
+    }
+}
+
 /// The lines of the blocks of a change, and the hop that they have now.
 #[derive(Drop)]
 pub struct ChangeLines<'a> {
@@ -118,10 +129,7 @@ impl Body for ChangeLines<'_> {
 
     fn next_line(&mut self) -> Option<Reply> {
         let net = self.blocks.next()?;
-        Some(match self.hop {
-            Some(number) => Reply::Set { net, number },
-            None => Reply::Unset { net },
-        })
+        Some(change_line(net, self.hop))
     }
 }
 

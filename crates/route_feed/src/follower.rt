@@ -1,9 +1,12 @@
 //! A follower: what a leader's reply lines say of the hops.
-ghost use Rattle.std.specs.Prelude.{◌≡◌, ◌<◌, ◌++◌, ◌∷◌, [], true, false, length, Some, None, IfErr, IfNone, IfOk, IfSome, IsErrOf, IsOk, OnErr, OnOk};
+ghost use Rattle.std.specs.Prelude.{◌≡◌, ◌<◌, ◌++◌, ◌∷◌, [], true, false, length, Some, None, All, IfErr, IfNone, IfOk, IfSome, IsErrOf, IsOk, OnErr, OnOk};
 ghost use Rattle.ipnet_addr.specs.Addresses.{Address, IsAddress};
+ghost use Rattle.ipnet.specs.IpNets.{family, parts};
+ghost use Rattle.ipnet_blocks.specs.Networks.{IsTruncated};
 ghost use Rattle.route_lines.specs.Spelled.{reply_of};
 ghost use Rattle.route_lines.specs.declared.reply.Reply.{Reply};
 ghost use Rattle.route_table.specs.Flats.{IsFlat};
+ghost use Rattle.route_table.specs.LeastTables.{IsLeast, routes_for};
 ghost use Rattle.route_table.specs.Networks.{routes_of};
 ghost use Rattle.route_table.specs.Tables.{hop_at};
 ghost use Rattle.route_feed.specs.Following.{State, TakesLine};
@@ -13,7 +16,7 @@ ghost use Rattle.route_feed.specs.InnerWaiting.{changes_of, waiting_change};
 use crate::error::RunError;
 use ipnet::IpNet;
 use route_lines::{Closing, Reply};
-use route_table::{Flat, Hop, RouteTable};
+use route_table::{Flat, Hop, HopTable};
 use std::alloc::Global;
 use std::marker::Model;
 use thiserror::Error;
@@ -45,7 +48,7 @@ struct Waiting {
 /// All other lines change nothing. After a fault it takes no more lines.
 #[derive(Drop)]
 pub struct Follower {
-    table: RouteTable,
+    table: HopTable,
     waiting: Vec<Waiting>,
     failed: bool,
 }
@@ -60,7 +63,7 @@ impl Model for Follower {
 }
 
 /// Carries the changes out, in order.
-fn carry_out(table: &mut RouteTable, changes: &[Waiting]) -> Result<(), FollowError>
+fn carry_out(table: &mut HopTable, changes: &[Waiting]) -> Result<(), FollowError>
     ensures hops { OnOk result ((x : Address) → IsAddress x → hop_at (routes_of table.new) x ≡ painted_over (hop_at (routes_of table.old) x) (changes_of changes.now) x) }
     ensures memory { IfErr result (λ e. e ≡ FollowError.Memory) }
     ensures some { OnErr result (0 < length changes.now) }
@@ -84,7 +87,7 @@ impl Follower {
         ensures state { IfOk result (λ f. f ≡ record { table = []; pending = []; failed = false }) }
         ensures memory { IfErr result (λ e. e ≡ RunError.Memory) }
     {
-        let Ok(table) = RouteTable::new(alloc) else {
+        let Ok(table) = HopTable::new(alloc) else {
             return Err(RunError::Memory);
         };
         Ok(Follower {
@@ -118,6 +121,18 @@ impl Follower {
         ensures { IsFlat (hop_at (routes_of self.now.table)) result }
     {
         self.table.flat()
+    }
+
+    /// The routes of a table with these hops and the fewest routes of all such tables.
+    pub(crate) fn into_least(self) -> Result<Vec<(IpNet, Hop)>, RunError>
+        ensures least { IfOk result (λ routes. IsLeast (hop_at (routes_of self.table)) (routes_for routes.items)) }
+        ensures truncated { IfOk result (λ routes. All (λ r. IsTruncated (family r.0) (parts r.0)) routes.items) }
+        ensures memory { IfErr result (λ e. e ≡ RunError.Memory) }
+    {
+        match self.table.into_least() {
+            Ok(routes) => Ok(routes),
+            Err(_) => Err(RunError::Memory),
+        }
     }
 
     /// Takes a line, without its line end.

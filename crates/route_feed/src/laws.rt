@@ -1,5 +1,5 @@
 //! Laws of reply streams: public functions without a body, whose contracts are the laws.
-ghost use Rattle.route_feed.specs.Laws.{AllAreAnswered, BeginningsAgree, BeginningsAreReplies, FlatListsAgree, OutputIsFollowed, SameFlatBytes};
+ghost use Rattle.route_feed.specs.Laws.{AllAreAnswered, BeginningsAgree, BeginningsAreReplies, FlatListsAgree, LinesRebuild, NoHopsNoLines, OutputIsFollowed, SameFlatBytes, ShortenedAgree};
 
 /// Whoever reads any beginning of the output of a leader, cut at any byte, and takes the changes of the replies that end
 /// there in `ok`, has each address at the hop that it has in the leader's table after as many commands as replies end
@@ -18,4 +18,13 @@ pub fn followed()
 #[tactic(auto, using(crate::proofs::SameBytes::same_bytes))]
 pub fn same_flat_bytes()
     ensures { SameFlatBytes }
+{}
+
+/// A leader with memory that is given the lines of a least table for any beginning of the output of another leader, as
+/// `shorten` writes them, has at every address the hop that this one had there. Its networks are those of the lines, with one
+/// route each. Where no address has a hop, there are no lines.
+pub fn shortened()
+    ensures rebuild { LinesRebuild }
+    ensures hops { ShortenedAgree }
+    ensures nothing { NoHopsNoLines }
 {}

@@ -11,7 +11,6 @@ use crate::answer::{answer, answer_rest};
 use crate::counted::Counted;
 use crate::error::RunError;
 use crate::sink::{PIECE, Sink, run};
-use route_lines::Line;
 use route_table::RouteTable;
 use std::alloc::Global;
 use std::io::{Read, Write};
@@ -22,8 +21,8 @@ impl<W: Write> Sink<W> for RouteTable {
 
     ghost takes = { λ table line old result next new. Answers W.contents table next (command_in line) old new result };
 
-    fn take(&mut self, line: &Line, writer: &mut Counted<W>) -> Result<(), RunError> {
-        answer(self, line, writer)
+    fn take(&mut self, text: Option<&[u8]>, writer: &mut Counted<W>) -> Result<(), RunError> {
+        answer(self, text, writer)
     }
 }
 

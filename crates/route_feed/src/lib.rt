@@ -1,4 +1,4 @@
-//! A leader that keeps a route table, and a follower of its replies.
+//! A leader that keeps a route table, and followers of its replies.
 #![tactic(auto)]
 
 pub use counted::Counted;
@@ -6,10 +6,13 @@ pub use error::RunError;
 pub use follower::{FollowError, Follower};
 pub use leader::lead;
 pub use reading::follow;
+pub use shortening::shorten;
 
 mod answer;
 mod body;
 mod counted;
+#[cfg(test)]
+mod device_tests;
 mod error;
 mod follower;
 pub mod laws;
@@ -17,6 +20,7 @@ mod leader;
 #[cfg(test)]
 mod manual;
 mod reading;
+mod shortening;
 mod sink;
 #[cfg(test)]
 mod tests;

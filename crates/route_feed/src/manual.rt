@@ -1,10 +1,10 @@
 //! The examples of the manual: the bytes of the files in examples/, in the order of their names.
-use crate::tests::{followed, led};
+use crate::tests::{followed, led, shortened};
 use crate::{Counted, RunError, follow};
 use std::test::Fail;
 
 // What a leader is given, and all that it writes.
-const LED: [(&[u8], &[u8]); 22] = [
+const LED: [(&[u8], &[u8]); 23] = [
     (
         b"add 10.0.0.0/8 1\nadd 10.0.0.0/9 2\nadd 10.0.0.0/8 3 200\nadd 10.0.0.0/8 3 200\nadd 2001:db8::/32 7\n",
         b"set 10.0.0.0/8 1\nok\nset 10.0.0.0/9 2\nok\nset 10.128.0.0/9 3\nok\nok\nset 2001:db8::/32 7\nok\n",
@@ -82,6 +82,10 @@ const LED: [(&[u8], &[u8]); 22] = [
         b"set 10.0.0.0/10 2\nok\nset 10.64.0.0/10 1\nok\nset 10.128.0.0/9 1\nok\nflat 10.0.0.0/10 2\nflat 10.64.0.0/10 1\nflat 10.128.0.0/9 1\nok\n",
     ),
     (
+        b"add 10.0.0.0/8 1\nadd 10.0.0.0/10 2\nflat\n",
+        b"set 10.0.0.0/8 1\nok\nset 10.0.0.0/10 2\nok\nflat 10.0.0.0/10 2\nflat 10.64.0.0/10 1\nflat 10.128.0.0/9 1\nok\n",
+    ),
+    (
         b"add 10.0.0.0/8 1\nadd 10.0.0.0/9 2\nadd 10.64.0.0/10 1\nflat\nadd 10.0.0.0/8 3 200\ndel 10.0.0.0/9 2\nflat\n",
         b"set 10.0.0.0/8 1\nok\nset 10.0.0.0/9 2\nok\nset 10.64.0.0/10 1\nok\nflat 10.0.0.0/10 2\nflat 10.64.0.0/10 1\nflat 10.128.0.0/9 1\nok\nset 10.128.0.0/9 3\nok\nset 10.0.0.0/10 3\nok\nflat 10.0.0.0/10 3\nflat 10.64.0.0/10 1\nflat 10.128.0.0/9 3\nok\n",
     ),
@@ -115,6 +119,23 @@ const FOLLOWED: [(&[u8], &[u8]); 4] = [
     ),
 ];
 
+// What is shortened, and all that is written then.
+const SHORTENED: [(&[u8], &[u8]); 4] = [
+    (
+        b"set 0.0.0.0/0 1\nunset 0.0.0.0/32\nunset 255.255.255.255/32\nok\n",
+        b"add 0.0.0.0/0 1\nadd 0.0.0.0/32 drop\nadd 255.255.255.255/32 drop\n",
+    ),
+    (b"set 10.0.0.0/8 1\nok\nunset 10.0.0.0/8\nok\n", b""),
+    (
+        b"set 0.0.0.0/2 1\nset 64.0.0.0/2 2\nset 128.0.0.0/2 1\nset 192.0.0.0/2 2\nok\n",
+        b"add 0.0.0.0/0 1\nadd 64.0.0.0/2 2\nadd 192.0.0.0/2 2\n",
+    ),
+    (
+        b"set 10.0.0.0/8 1\nok\nset 10.0.0.0/9 2\nok\nset 10.64.0.0/10 1\nok\nflat 10.0.0.0/10 2\nflat 10.64.0.0/10 1\nflat 10.128.0.0/9 1\nok\n",
+        b"add 10.0.0.0/8 1\nadd 10.0.0.0/10 2\n",
+    ),
+];
+
 const FOREIGN: &[u8] = b"set 10.0.0.0/8 1\nok\nadd 10.0.0.0/9 2\n";
 
 #[test]
@@ -130,6 +151,15 @@ fn led_examples(rt: HostRuntime) -> Result<(), Fail> {
 fn followed_examples(rt: HostRuntime) -> Result<(), Fail> {
     for (input, wanted) in FOLLOWED {
         let out = followed(rt.alloc(), input)?;
+        assert_eq!(rt; out.as_slice(), wanted);
+    }
+    Ok(())
+}
+
+#[test]
+fn shortened_examples(rt: HostRuntime) -> Result<(), Fail> {
+    for (input, wanted) in SHORTENED {
+        let out = shortened(rt.alloc(), input)?;
         assert_eq!(rt; out.as_slice(), wanted);
     }
     Ok(())

@@ -4,6 +4,7 @@ ghost use Rattle.std.specs.Io.KnownBytes.{Appends};
 ghost use Rattle.route_feed.specs.Counted.{faults_of, inner, reads_of};
 ghost use Rattle.route_feed.specs.Follows.{AreReplies, FollowEnds, followed};
 ghost use Rattle.route_feed.specs.InnerFollowing.{FollowsLine};
+ghost use Rattle.route_feed.specs.InnerReaching.{Reaches};
 ghost use Rattle.route_lines.specs.Bytes.{lines};
 
 use crate::counted::Counted;
@@ -11,7 +12,6 @@ use crate::error::RunError;
 use crate::follower::{FollowError, Follower};
 use crate::sink::{PIECE, Sink, run};
 use crate::writing::reply;
-use route_lines::Line;
 use std::alloc::Global;
 use std::io::{Read, Write};
 
@@ -21,16 +21,36 @@ impl<W: Write> Sink<W> for Follower {
 
     ghost takes = { λ follower line old result next new. FollowsLine follower line result next × (new ≡ old) };
 
-    fn take(&mut self, line: &Line, _writer: &mut Counted<W>) -> Result<(), RunError> {
-        match line {
-            Line::TooLong => Err(RunError::Line),
-            Line::Text(text) => match self.line(text.as_slice()) {
-                Ok(()) => Ok(()),
-                Err(FollowError::Memory) => Err(RunError::Memory),
-                Err(_) => Err(RunError::Line),
-            },
+    fn take(&mut self, text: Option<&[u8]>, _writer: &mut Counted<W>) -> Result<(), RunError> {
+        let Some(text) = text else {
+            return Err(RunError::Line);
+        };
+        match self.line(text) {
+            Ok(()) => Ok(()),
+            Err(FollowError::Memory) => Err(RunError::Memory),
+            Err(_) => Err(RunError::Line),
         }
     }
+}
+
+/// Follows the reply lines that the reader gives, until its end.
+pub(crate) fn follow_all<R: Read, W: Write>(
+    alloc: Global,
+    reader: &mut Counted<R>,
+    writer: &mut Counted<W>,
+) -> Result<Follower, RunError>
+    requires reads { reads_of reader.old < 2 ^ 63 }
+    requires reader { faults_of reader.old < 2 ^ 63 }
+    ensures { Reaches R.remaining reader.old reader.new writer.old writer.new result }
+{
+    let Ok(mut buf) = vec![in alloc; 0; PIECE] else {
+        return Err(RunError::Memory);
+    };
+    let Ok(mut follower) = Follower::new(alloc) else {
+        return Err(RunError::Memory);
+    };
+    run(&mut follower, buf.as_mut_slice(), reader, writer)?;
+    Ok(follower)
 }
 
 /// Follows the reply lines that the reader gives, until its end, and then writes the flat list of the hops that they
@@ -58,12 +78,6 @@ pub fn follow<R: Read, W: Write>(
     ensures known { OnOk result (IfSome (R.remaining (inner reader.old)) (λ bytes.
         AreReplies (lines bytes) × Appends (W.contents (inner writer.old)) (W.contents (inner writer.new)) (followed bytes))) }
 {
-    let Ok(mut buf) = vec![in alloc; 0; PIECE] else {
-        return Err(RunError::Memory);
-    };
-    let Ok(mut follower) = Follower::new(alloc) else {
-        return Err(RunError::Memory);
-    };
-    run(&mut follower, buf.as_mut_slice(), reader, writer)?;
+    let follower = follow_all(alloc, reader, writer)?;
     reply(writer, follower.pieces())
 }

@@ -1,15 +1,16 @@
 //! What takes the lines of an input, and the run that hands them on.
-ghost use Rattle.std.specs.Prelude.{◌≡◌, ◌<◌, ◌^◌, length, OnOk, Result};
+ghost use Rattle.std.specs.Prelude.{◌≡◌, ◌≢◌, ◌<◌, ◌^◌, [], ◌∷◌, ◌++◌, length, All, OnOk, Result};
 ghost use Rattle.route_feed.specs.Counted.{faults_of, reads_of};
 ghost use Rattle.route_feed.specs.InnerRun.{Runs, TakesAll};
 ghost use Rattle.route_feed.specs.declared.counted.Counted.{Counted};
 ghost use Rattle.route_feed.specs.declared.error.RunError.{RunError};
-ghost use Rattle.route_lines.specs.Lines.{answers, fed_all};
+ghost use Rattle.route_lines.specs.Lines.{answers, as_line, fed_all, kept_of};
 ghost use Rattle.route_lines.specs.declared.cutter.Line.{Line};
 
 use crate::counted::Counted;
 use crate::error::RunError;
-use route_lines::{Line, LineCutter, Rest};
+use memchr::memchr;
+use route_lines::{LineCutter, Rest, line_text};
 use std::io::{Read, Write};
 
 /// How often a run reads.
@@ -26,11 +27,44 @@ pub trait Sink<W: Write> {
     /// What taking a line does, by the result.
     ghost takes: { Self → Line → Counted W → Result Unit RunError → Self → Counted W → Type 0 };
 
-    /// Takes a line.
-    fn take(&mut self, line: &Line, writer: &mut Counted<W>) -> Result<(), RunError>
+    /// Takes the line of these bytes; without them, one that is too long.
+    fn take(&mut self, text: Option<&[u8]>, writer: &mut Counted<W>) -> Result<(), RunError>
         requires { can_take self.old writer.old }
-        ensures takes { takes self.old line.now writer.old result self.new writer.new }
+        ensures takes { takes self.old (as_line text.entry) writer.old result self.new writer.new }
         ensures others { OnOk result (can_take self.new writer.new) };
+}
+
+/// Keeps bytes without a line end.
+fn hold(cutter: &mut LineCutter, bytes: &[u8])
+    requires { All (λ c. c ≢ 10) bytes.now }
+    ensures kept { cutter.new ≡ fed_all cutter.old bytes.now }
+{
+    for byte in bytes {
+        let _ = cutter.feed(*byte);
+    }
+}
+
+/// Hands the sink the line that ends after these bytes: in place, unless the cutter has its beginning.
+fn take_line<W: Write, S: Sink<W>>(
+    sink: &mut S,
+    cutter: &mut LineCutter,
+    bytes: &[u8],
+    writer: &mut Counted<W>,
+) -> Result<(), RunError>
+    requires sink { S.can_take sink.old writer.old }
+    requires bytes { All (λ c. c ≢ 10) bytes.now }
+    ensures takes { TakesAll S.takes sink.old (answers cutter.old (bytes.now ++ 10 ∷ [])) writer.old result sink.new writer.new }
+    ensures cutter { cutter.new ≡ kept_of [] }
+    ensures others { OnOk result (S.can_take sink.new writer.new) }
+{
+    if cutter.is_new() {
+        return sink.take(line_text(bytes), writer);
+    }
+    hold(cutter, bytes);
+    match cutter.feed(b'\n') {
+        Some(line) => sink.take(line.text(), writer),
+        None => Ok(()),
+    }
 }
 
 /// Hands the sink each line that the bytes end.
@@ -45,11 +79,12 @@ fn take_piece<W: Write, S: Sink<W>>(
     ensures cutter { OnOk result (cutter.new ≡ fed_all cutter.old piece.now) }
     ensures others { OnOk result (S.can_take sink.new writer.new) }
 {
-    for byte in piece {
-        if let Some(line) = cutter.feed(*byte) {
-            sink.take(&line, writer)?;
-        }
+    let mut left = piece;
+    while let Some(end) = memchr(b'\n', left) {
+        take_line(sink, cutter, &left[..end], writer)?;
+        left = &left[end + 1..];
     }
+    hold(cutter, left);
     Ok(())
 }
 

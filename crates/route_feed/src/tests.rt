@@ -1,11 +1,12 @@
-//! Rows from outside, and readers and writers that cut and fail.
+//! Rows from outside.
 ghost use Rattle.std.specs.Prelude.{◌≡◌, List, Bool, IfOk};
+ghost use Rattle.route_feed.specs.AddLines.{add_lines};
 ghost use Rattle.route_feed.specs.Output.{output};
+ghost use Rattle.route_feed.specs.Shortens.{IsLeastFor};
+ghost use Rattle.route_table.specs.Tables.{Route};
 
-use crate::{Counted, FollowError, Follower, RunError, follow, lead};
+use crate::{Counted, FollowError, Follower, RunError, follow, lead, shorten};
 use std::alloc::Global;
-use std::io;
-use std::io::{Read, Write};
 use std::test::Fail;
 
 // A run over memory: what a caller whose bytes are known has of `lead`.
@@ -18,64 +19,7 @@ pub(crate) fn led(alloc: Global, input: &[u8]) -> Result<Vec<u8>, RunError>
     Ok(writer.into_inner())
 }
 
-// Gives one byte a call, and fails once where it has none left: another call would find the end.
-#[derive(Drop)]
-struct Dripping<'a> {
-    left: &'a [u8],
-    fails: bool,
-}
-
-impl Read for Dripping<'_> {
-    fn read(&mut self, buf: &mut [u8]) -> io::Result<usize> {
-        let all: &[u8] = self.left;
-        if all.is_empty() && self.fails {
-            self.fails = false;
-            return Err(io::Error::from(io::ErrorKind::Interrupted));
-        }
-        if all.is_empty() || buf.is_empty() {
-            return Ok(0);
-        }
-        buf[0] = all[0];
-        self.left = &all[1..];
-        Ok(1)
-    }
-}
-
-// Takes one byte a call while it has room, then none; its `write` and its `flush` may fail once, and would serve the next
-// call.
-#[derive(Drop)]
-struct Narrow {
-    held: Vec<u8>,
-    room: usize,
-    writes: bool,
-    flushes: bool,
-}
-
-impl Write for Narrow {
-    fn write(&mut self, buf: &[u8]) -> io::Result<usize> {
-        if !self.writes {
-            self.writes = true;
-            return Err(io::Error::from(io::ErrorKind::Interrupted));
-        }
-        if self.room == 0 || buf.is_empty() {
-            return Ok(0);
-        }
-        self.held.push(buf[0])?;
-        self.room -= 1;
-        Ok(1)
-    }
-
-    fn flush(&mut self) -> io::Result<()> {
-        if self.flushes {
-            Ok(())
-        } else {
-            self.flushes = true;
-            Err(io::Error::from(io::ErrorKind::BrokenPipe))
-        }
-    }
-}
-
-const ROWS: [(&[u8], &[u8]); 24] = [
+pub(crate) const ROWS: [(&[u8], &[u8]); 24] = [
     (b"", b""),
     (
         b"add 10.0.0.0/8 drop\nget 10.1.0.0/16\ndel 10.0.0.0/8 drop\ndel 10.0.0.0/8 drop\n",
@@ -181,73 +125,6 @@ fn rows(rt: HostRuntime) -> Result<(), Fail> {
 }
 
 #[test]
-fn rows_byte_by_byte(rt: HostRuntime) -> Result<(), Fail> {
-    for (input, wanted) in ROWS {
-        let mut reader = Counted::new(Dripping {
-            left: input,
-            fails: false,
-        });
-        let mut writer = Counted::new(Vec::new(rt.alloc()));
-        lead(rt.alloc(), &mut reader, &mut writer)?;
-        assert_eq!(rt; reader.faults(), 0);
-        assert_eq!(rt; reader.failing(), false);
-        let ends = input.iter().filter(|byte| **byte == b'\n').count() as u64;
-        let is_whole = input.is_empty() || input.ends_with(b"\n");
-        assert_eq!(rt; writer.flushes(), if is_whole { ends } else { ends + 1 });
-        assert_eq!(rt; writer.waiting(), false);
-        let out = writer.into_inner();
-        assert_eq!(rt; out.as_slice(), wanted);
-    }
-    Ok(())
-}
-
-// An error of the reader, an interrupted call too, ends the run after the whole lines before it.
-#[test]
-fn read_fault(rt: HostRuntime) {
-    let mut reader = Counted::new(Dripping {
-        left: b"add 10.0.0.0/8 drop\nfl",
-        fails: true,
-    });
-    let mut writer = Counted::new(Vec::new(rt.alloc()));
-    let result = lead(rt.alloc(), &mut reader, &mut writer);
-    assert_eq!(rt; result, Err(RunError::Read));
-    assert_eq!(rt; reader.reads(), 23);
-    assert_eq!(rt; reader.faults(), 1);
-    assert_eq!(rt; reader.failing(), true);
-    assert_eq!(rt; writer.flushes(), 1);
-    assert_eq!(rt; writer.waiting(), false);
-    let out = writer.into_inner();
-    assert_eq!(rt; out.as_slice(), b"ok\n".as_slice());
-}
-
-// A writer that takes nothing, one whose `write` fails, and one whose `flush` fails: nothing more is written.
-#[test]
-fn write_faults(rt: HostRuntime) {
-    for (room, writes, flushes, wanted) in [
-        (1, true, true, b"o".as_slice()),
-        (0, true, true, b"".as_slice()),
-        (200, false, true, b"".as_slice()),
-        (200, true, false, b"ok\n".as_slice()),
-    ] {
-        let mut reader = Counted::new(b"add 10.0.0.0/8 drop\nget 10.0.0.0/8\n".as_slice());
-        let mut writer = Counted::new(Narrow {
-            held: Vec::new(rt.alloc()),
-            room,
-            writes,
-            flushes,
-        });
-        let result = lead(rt.alloc(), &mut reader, &mut writer);
-        assert_eq!(rt; result, Err(RunError::Write));
-        assert_eq!(rt; writer.faults(), 1);
-        assert_eq!(rt; writer.failing(), true);
-        assert_eq!(rt; writer.flushes(), 0);
-        assert_eq!(rt; writer.waiting(), !wanted.is_empty());
-        let narrow = writer.into_inner();
-        assert_eq!(rt; narrow.held.as_slice(), wanted);
-    }
-}
-
-#[test]
 fn errors(rt: HostRuntime) -> Result<(), Fail> {
     for (error, wanted) in [
         (RunError::Memory, "no memory"),
@@ -275,7 +152,17 @@ pub(crate) fn followed(alloc: Global, input: &[u8]) -> Result<Vec<u8>, RunError>
     Ok(writer.into_inner())
 }
 
-const STREAMS: [(&[u8], &[u8]); 14] = [
+// A run of `shorten` over memory: what a caller whose bytes are known has of it.
+pub(crate) fn shortened(alloc: Global, input: &[u8]) -> Result<Vec<u8>, RunError>
+    ensures { IfOk result (λ out. (routes : List Route) × IsLeastFor input.now routes × (out.items ≡ add_lines routes)) }
+{
+    let mut reader = Counted::new(input);
+    let mut writer = Counted::new(Vec::new(alloc));
+    shorten(alloc, &mut reader, &mut writer)?;
+    Ok(writer.into_inner())
+}
+
+pub(crate) const STREAMS: [(&[u8], &[u8]); 14] = [
     (b"", b"ok\n"),
     (
         b"set 10.0.0.0/8 1\nok\nset 10.0.0.0/9 2\no",
@@ -348,9 +235,75 @@ fn foreign_streams(rt: HostRuntime) {
         let mut writer = Counted::new(Vec::new(rt.alloc()));
         let result = follow(rt.alloc(), &mut reader, &mut writer);
         assert_eq!(rt; result, Err(RunError::Line));
+        let mut reader = Counted::new(input);
+        let result = shorten(rt.alloc(), &mut reader, &mut writer);
+        assert_eq!(rt; result, Err(RunError::Line));
         let out = writer.into_inner();
         assert_eq!(rt; out.is_empty(), true);
     }
+}
+
+pub(crate) const LEAST: [(&[u8], &[u8]); 6] = [
+    (b"", b""),
+    (
+        b"set 10.0.0.0/8 1\nok\nset 10.0.0.0/9 2\nok\nset 10.64.0.0/10 1\nok\n",
+        b"add 10.0.0.0/8 1\nadd 10.0.0.0/10 2\n",
+    ),
+    (
+        b"set 10.0.0.0/8 1\nok\nset 10.0.0.0/9 2\no",
+        b"add 10.0.0.0/8 1\n",
+    ),
+    (
+        b"set 0.0.0.0/0 1\nunset 0.0.0.0/32\nunset 255.255.255.255/32\nok\n",
+        b"add 0.0.0.0/0 1\nadd 0.0.0.0/32 drop\nadd 255.255.255.255/32 drop\n",
+    ),
+    (
+        b"set ::/0 1\nunset ::/128\nunset ffff:ffff:ffff:ffff:ffff:ffff:ffff:ffff/128\nok\nset 10.1.2.3/8 1\nok\n",
+        b"add 10.0.0.0/8 1\nadd ::/0 1\nadd ::/128 drop\nadd ffff:ffff:ffff:ffff:ffff:ffff:ffff:ffff/128 drop\n",
+    ),
+    (
+        b"set 10.0.0.0/8 1\nrefused\nset 10.0.0.0/8 2\nnone\nok\n",
+        b"",
+    ),
+];
+
+// No other table has so few routes in any of these.
+#[test]
+fn least_streams(rt: HostRuntime) -> Result<(), Fail> {
+    for (input, wanted) in LEAST {
+        let out = shortened(rt.alloc(), input)?;
+        assert_eq!(rt; out.as_slice(), wanted);
+    }
+    Ok(())
+}
+
+// How many routes the least table has; a leader that is given them tells what `flat` of the stream would be.
+#[test]
+fn shortened_streams(rt: HostRuntime) -> Result<(), Fail> {
+    for (input, routes) in [
+        (b"".as_slice(), 0),
+        (b"set 10.0.0.0/8 1\nok\nset 10.0.0.0/9 2\no".as_slice(), 1),
+        (
+            b"set 10.0.0.0/9 2\nset 10.128.0.0/10 2\nset 10.192.0.0/10 3\nok\n".as_slice(),
+            2,
+        ),
+        (
+            b"set 0.0.0.0/0 1\nunset 0.0.0.0/32\nunset 255.255.255.255/32\nok\n".as_slice(),
+            3,
+        ),
+        (
+            b"set ::/2 1\nset 4000::/2 2\nset 8000::/2 1\nset c000::/2 2\nok\nset 10.0.0.0/8 5\nok\n".as_slice(),
+            4,
+        ),
+    ] {
+        let mut given = shortened(rt.alloc(), input)?;
+        assert_eq!(rt; given.iter().filter(|byte| **byte == b'\n').count(), routes);
+        given.extend_from_slice(b"flat\n")?;
+        let told = led(rt.alloc(), given.as_slice())?;
+        let flat = followed(rt.alloc(), input)?;
+        assert_eq!(rt; told.ends_with(flat.as_slice()), true);
+    }
+    Ok(())
 }
 
 // After a line that is none the follower has failed for good.
@@ -401,12 +354,12 @@ fn held_at(end: usize) -> &'static [u8] {
     held
 }
 
-// Each beginning of what the leader answers is followed to the flat list that held then.
+// Each beginning of what the leader answers, the whole of it too, is followed to the flat list that held then.
 #[test]
 fn beginnings(rt: HostRuntime) -> Result<(), Fail> {
     let told = led(rt.alloc(), COMMANDS)?;
     let all = told.as_slice();
-    for end in 0..all.len() {
+    for end in 0..=all.len() {
         let out = followed(rt.alloc(), &all[..end])?;
         assert_eq!(rt; out.as_slice(), held_at(end));
     }

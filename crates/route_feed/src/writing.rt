@@ -1,14 +1,21 @@
-//! Replies, written.
-ghost use Rattle.std.specs.Prelude.{◌≡◌, ◌++◌, ◌∷◌, [], true};
-ghost use Rattle.route_feed.specs.Counted.{CanCount, waiting_of};
+//! Replies and routes, written.
+ghost use Rattle.std.specs.Prelude.{◌++◌, ◌∷◌, [], All};
+ghost use Rattle.ipnet.specs.IpNets.{family, parts};
+ghost use Rattle.ipnet_blocks.specs.Networks.{IsTruncated};
+ghost use Rattle.route_table.specs.LeastTables.{routes_for};
+ghost use Rattle.route_feed.specs.AddLines.{add_lines, command_line};
+ghost use Rattle.route_feed.specs.Counted.{CanCount};
 ghost use Rattle.route_feed.specs.Replies.{reply_line, printed};
-ghost use Rattle.route_feed.specs.InnerReplies.{Closes, Writes};
+ghost use Rattle.route_feed.specs.InnerReplies.{Closes, Delivers, Writes};
+ghost use Rattle.route_lines.specs.CommandText.{IsPrintableCommand};
 ghost use Rattle.route_lines.specs.Texts.{IsPrintable};
 
 use crate::body::Body;
 use crate::counted::Counted;
 use crate::error::RunError;
-use route_lines::{Closing, Reply};
+use ipnet::IpNet;
+use route_lines::{Closing, Command, Reply};
+use route_table::{DEFAULT_PREFERENCE, Hop};
 use std::io::Write;
 
 /// Writes all of the piece, or a beginning of it.
@@ -40,10 +47,18 @@ pub fn write_line<W: Write>(writer: &mut Counted<W>, line: &Reply) -> Result<(),
     write_piece(writer, line.print().as_slice())
 }
 
+/// Writes a command.
+fn write_command<W: Write>(writer: &mut Counted<W>, command: &Command) -> Result<(), RunError>
+    requires faults { CanCount writer.old }
+    requires printable { IsPrintableCommand command.now }
+    ensures { Writes W.contents writer.old writer.new result (command_line command.now) }
+{
+    write_piece(writer, command.print().as_slice())
+}
+
 fn flush<W: Write>(writer: &mut Counted<W>) -> Result<(), RunError>
-    requires counts { CanCount writer.old }
-    requires waits { waiting_of writer.old ≡ true }
-    ensures { Closes W.contents 1 writer.old writer.new result [] }
+    requires { CanCount writer.old }
+    ensures { Delivers W.contents writer.old writer.new result [] }
 {
     writer.flush().map_err(|_| RunError::Write)
 }
@@ -67,4 +82,24 @@ pub fn reply<W: Write, B: Body>(writer: &mut Counted<W>, mut body: B) -> Result<
         write_line(writer, &line)?;
     }
     close(writer, Closing::Done)
+}
+
+/// Writes the lines that add the routes, and flushes.
+pub fn write_routes<W: Write>(
+    writer: &mut Counted<W>,
+    routes: &[(IpNet, Hop)],
+) -> Result<(), RunError>
+    requires counts { CanCount writer.old }
+    requires networks { All (λ r. IsTruncated (family r.0) (parts r.0)) routes.now }
+    ensures { Delivers W.contents writer.old writer.new result (add_lines (routes_for routes.now)) }
+{
+    for route in routes {
+        let command = Command::Add {
+            net: route.0,
+            hop: route.1,
+            pref: DEFAULT_PREFERENCE,
+        };
+        write_command(writer, &command)?;
+    }
+    flush(writer)
 }

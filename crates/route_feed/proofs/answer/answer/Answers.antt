@@ -1,5 +1,5 @@
 use Rattle.std.proofs.Common.{◌≡◌, ◌∙◌, sym, subst, ap, refl, Some, None, false}
-use Rattle.route_lines.specs.Spelled.{command_of}
+use Rattle.route_lines.specs.Lines.{as_line}
 use Rattle.route_feed.specs.Commands.{command_in}
 use Rattle.route_feed.specs.InnerReplies.{Answers}
 use Rattle.route_feed.proofs.Told.{read_is, read_none, on_ok}
@@ -7,11 +7,11 @@ use Rattle.route_feed.proofs.answer.answer.Goals as goal
 
 pub returns-in_default-read : goal.returns-in_default-read
 returns-in_default-read g c =
-    let e : command_in c.args.line.now ≡ None = ap command_in c.in-Text.is ∙ ap command_of (sym c.as_slice.ensures.value) ∙ read_none c.as_slice.result.now c.in_default-read.ensures in
+    let e : command_in (as_line c.args.text) ≡ None = ap (λ o. command_in (as_line o)) c.in-Some.is ∙ read_none c.in-Some.text.now c.in_default-read.ensures in
     subst (λ k. Answers g.W.Write.contents c.args.table.now c.args.table.now k c.args.writer.now c.close-in_default-read.new.writer c.close-in_default-read.result) (sym e)
     (record { refusal = false; writes = c.close-in_default-read.ensures; table = on_ok c.close-in_default-read.result refl })
 
 pub returns : goal.returns
 returns g c =
-    let e : command_in c.args.line.now ≡ Some c.in-Ok.command = ap command_in c.in-Text.is ∙ ap command_of (sym c.as_slice.ensures.value) ∙ read_is c.as_slice.result.now c.in-Ok.command c.in-Ok.ensures in
+    let e : command_in (as_line c.args.text) ≡ Some c.in-Ok.command = ap (λ o. command_in (as_line o)) c.in-Some.is ∙ read_is c.in-Some.text.now c.in-Ok.command c.in-Ok.ensures in
     subst (λ k. Answers g.W.Write.contents c.args.table.now c.answer_command.new.table k c.args.writer.now c.answer_command.new.writer c.answer_command.result) (sym e) c.answer_command.ensures

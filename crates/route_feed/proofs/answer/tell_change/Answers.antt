@@ -1,4 +1,22 @@
+use Rattle.std.proofs.Common.{◌++◌, ◌∷◌, [], List, ◌∙◌, ap, map, refl, subst, sym}
+use Rattle.ipnet.specs.IpNets.{block, network_at}
+use Rattle.route_lines.specs.declared.reply.Closing.TheVariants.{Done}
+use Rattle.route_lines.specs.declared.reply.Reply.{Reply}
+use Rattle.route_lines.specs.declared.reply.Reply.TheVariants.{Close}
+use Rattle.route_table.proofs.Gaps.{of_network_at}
+use Rattle.route_feed.specs.Replies.{printed}
+use Rattle.route_feed.specs.InnerReplies.{Closes}
+use Rattle.route_feed.specs.Steps.{change_line}
 use Rattle.route_feed.proofs.answer.tell_change.Goals as goal
 
+pub reply-requires-clause-body : goal.reply-requires-clause-body
+reply-requires-clause-body g c = c.change_line.ensures.printable (c.trunc.ensures.value ∙ sym (ap network_at (ap block c.trunc.ensures.value ∙ of_network_at (block c.args.net.now))))
+
+pub returns-then-is_leaf-clause-differs : goal.returns-then-is_leaf-clause-differs
+returns-then-is_leaf-clause-differs g c = λ _.
+    let cleared = ap block c.trunc.ensures.value ∙ of_network_at (block c.args.net.now) in
+    let line = c.change_line.ensures.value (c.trunc.ensures.value ∙ sym (ap network_at cleared)) ∙ ap (change_line c.args.after) cleared in
+    (block c.args.net.now ∷ [], c.is_leaf.ensures.governed c.if-is_leaf.true, subst (λ (l : Reply). Closes g.W.Write.contents 1 c.args.writer.now c.reply.new.writer c.reply.result (printed (l ∷ Close Done ∷ []))) line c.reply.ensures)
+
 pub returns-clause-differs : goal.returns-clause-differs
-returns-clause-differs g c = λ _. (c.governed.result, c.governed.ensures.maximal, c.reply.ensures)
+returns-clause-differs g c = λ _. (c.governed.result, c.governed.ensures.maximal, c.reply-2.ensures)

@@ -6,12 +6,12 @@ use Rattle.route_feed.specs.Replies.{printed}
 use Rattle.route_feed.specs.InnerReplies.{Closes}
 use Rattle.route_feed.specs.Steps.{flat_line}
 use Rattle.route_feed.proofs.Told.{flat_is, on_ok}
-use Rattle.route_feed.proofs.answer.answer_command.Goals as goal
+use Rattle.route_feed.proofs.answer.answer_flat.Goals as goal
 
-pub returns-in-Flat : goal.returns-in-Flat
-returns-in-Flat g c = rw c.in-Flat.is (record {
+pub returns : goal.returns
+returns g c = record {
   refusal = false;
-  writes = subst (λ ps. Closes g.W.Write.contents 1 c.args.writer.now c.reply-in-Flat.new.writer c.reply-in-Flat.result (printed (map flat_line ps ++ Close Done ∷ [])))
-      (flat_is (routes_of c.args.table.now) c.flat.result c.flat.ensures.flat) c.reply-in-Flat.ensures;
-  table = on_ok c.reply-in-Flat.result refl;
-})
+  writes = subst (λ ps. Closes g.W.Write.contents 1 c.args.writer.now c.reply.new.writer c.reply.result (printed (map flat_line ps ++ Close Done ∷ [])))
+      (flat_is (routes_of c.args.table.now) c.flat.result c.flat.ensures.flat) c.reply.ensures;
+  table = on_ok c.reply.result refl;
+}

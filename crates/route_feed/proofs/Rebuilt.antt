@@ -1,0 +1,137 @@
+-- A leader that is given the lines that add the routes of a table.
+use Rattle.std.proofs.Common.{◌≡◌, ◌≢◌, ℕ, ◌≤◌, inl, inr, ⊎_elim, Bool, true, false, nat_lt, cond, List, [], ◌∷◌, ◌++◌, drop, length, map, Some, refl, sym, ap, ◌∙◌, subst, append_assoc, append-nil, arith}
+use Rattle.std.specs.List.{AllByRecursion}
+use Rattle.std.proofs.lemmas.Bool.Decides.{nat_tests}
+use Rattle.std.proofs.lemmas.List.Elements.{recursion_from_All}
+use Rattle.ipnet_addr.specs.Addresses.{Address}
+use Rattle.ipnet_addr.proofs.Members.{In, In-cases}
+use Rattle.ipnet_addr.proofs.Ascending.{In-from_All, Rising, Rising-from_pairs}
+use Rattle.ipnet_blocks.specs.Blocks.{IsBlock, IsBefore}
+use Rattle.ipnet.proofs.Spelled.{net_reads}
+use Rattle.route_lines.specs.Bytes.{lines, rest, if_no_piece}
+use Rattle.route_lines.specs.CommandText.{command_text}
+use Rattle.route_lines.specs.Lines.{line_of}
+use Rattle.route_lines.specs.Texts.{IsCommand}
+use Rattle.route_lines.specs.declared.command.Command.{Command}
+use Rattle.route_lines.proofs.Commands.{clean_command, short_command}
+use Rattle.route_lines.proofs.PrintedCommands.{prints}
+use Rattle.route_choices.specs.Choices.{Choice, default_preference, is_one_too_many}
+use Rattle.route_choices.specs.Hops.{IsHop}
+use Rattle.route_table.specs.Networks.{Stored, best_route, choices_at, routes_of, with_choice}
+use Rattle.route_table.specs.Tables.{Route, IsTable, hop_at}
+use Rattle.route_table.proofs.Gaps.{of_network_at}
+use Rattle.route_table.proofs.Listed.{added_last, hops_same, none_at}
+use Rattle.route_table.proofs.Networks.{routes_are_table}
+use Rattle.route_feed.specs.AddLines.{add_command, add_lines}
+use Rattle.route_feed.specs.Commands.{command_in}
+use Rattle.route_feed.specs.Laws.{LinesRebuild, NoHopsNoLines, ShortenedAgree, alone, table_given}
+use Rattle.route_feed.specs.Output.{at_end, table_after, whole_commands}
+use Rattle.route_feed.specs.Steps.{Turn, is_too_many, may_refuse, step}
+use Rattle.route_feed.proofs.Beginnings.{beginnings_agree, empty_is_table}
+use Rattle.route_feed.proofs.Owned.{map_twice}
+use Rattle.route_feed.proofs.Reread.{first_line, is_cut, word_hop}
+use Rattle.route_feed.proofs.Told.{plain_step, read_is}
+
+-- ---- the lines
+
+-- after a line come the rest of the bytes
+rest_after : (text bytes : List ℕ) → AllByRecursion (λ c. c ≢ 10) text → rest (text ++ 10 ∷ bytes) ≡ rest bytes
+rest_after [] bytes h = refl
+rest_after (c ∷ cs) bytes h = ap (λ ps. if_no_piece ps (c ∷ cs ++ 10 ∷ bytes) (rest (cs ++ 10 ∷ bytes))) (first_line (c ∷ cs) bytes h) ∙ rest_after cs bytes h.1
+
+-- routes that can be printed
+abbrev AreRoutes : List Route → Type 0
+AreRoutes N = (r : Route) → In r N → IsBlock r.block × IsHop r.hop
+
+table_routes : (N : List Route) → IsTable N → AreRoutes N
+table_routes N n r i = (In-from_All (λ s. IsBlock s.block) N n.blocks r i, In-from_All (λ s. IsHop s.hop) N n.hops r i)
+
+line_spells : (r : Route) → IsBlock r.block → IsHop r.hop → IsCommand (command_text (add_command r)) (add_command r)
+line_spells r ok hop = prints (add_command r) (is_cut r.block) (net_reads r.block ok, word_hop r.hop hop, omega arith)
+
+clean : (r : Route) → IsBlock r.block → IsHop r.hop → AllByRecursion (λ c. c ≢ 10) (command_text (add_command r))
+clean r ok hop = recursion_from_All (λ c. c ≢ 10) (command_text (add_command r)) (clean_command (command_text (add_command r)) (add_command r) (line_spells r ok hop))
+
+lines_are : (N : List Route) → AreRoutes N → lines (add_lines N) ≡ map (λ r. command_text (add_command r)) N
+lines_are [] h = refl
+lines_are (r ∷ N) h =
+    let is = h r (inl refl) in
+    let text = command_text (add_command r) in
+    ap lines (append_assoc text (10 ∷ []) (add_lines N)) ∙ first_line text (add_lines N) (clean r is.0 is.1) ∙ ap (λ ls. text ∷ ls) (lines_are N (λ s i. h s (inr i)))
+
+rest_is : (N : List Route) → AreRoutes N → rest (add_lines N) ≡ []
+rest_is [] h = refl
+rest_is (r ∷ N) h =
+    let is = h r (inl refl) in
+    let text = command_text (add_command r) in
+    ap rest (append_assoc text (10 ∷ []) (add_lines N)) ∙ rest_after text (add_lines N) (clean r is.0 is.1) ∙ rest_is N (λ s i. h s (inr i))
+
+command_read : (text : List ℕ) (c : Command) → IsCommand text c → command_in (line_of text) ≡ Some c
+command_read text c h =
+    let short = short_command text c h in
+    let fits : nat_lt 80 (length text) ≡ false = grind (arith, nat_tests, short) in
+    rw fits (read_is text c h)
+
+commands_are : (N : List Route) → AreRoutes N → map command_in (map line_of (map (λ r. command_text (add_command r)) N)) ≡ map (λ r. Some (add_command r)) N
+commands_are [] h = refl
+commands_are (r ∷ N) h =
+    let is = h r (inl refl) in
+    let first = command_read (command_text (add_command r)) (add_command r) (line_spells r is.0 is.1) in
+    let later = commands_are N (λ s i. h s (inr i)) in
+    λ i. first i ∷ later i
+
+given_is : (N : List Route) → AreRoutes N → whole_commands (add_lines N) ++ at_end (rest (add_lines N)) ≡ map (λ r. Some (add_command r)) N
+given_is N h =
+    ap (λ bs. whole_commands (add_lines N) ++ at_end bs) (rest_is N h)
+    ∙ append-nil (whole_commands (add_lines N))
+    ∙ ap (λ ls. map command_in (map line_of ls)) (lines_are N h)
+    ∙ commands_are N h
+
+-- ---- the table
+
+no_refusals : (b : Bool) → ◌≡◌ {A = List Bool} (cond b (drop 1 []) []) []
+no_refusals true = refl
+no_refusals false = refl
+
+-- a network that comes after all stored ones is added at the end
+added : (T : List Stored) (r : Route) → ((s : Stored) → In s T → IsBefore s.block r.block) → (step T (Some (add_command r)) false).next ≡ T ++ alone r ∷ []
+added T r after =
+    let c : Choice = record { hop = r.hop; pref = default_preference } in
+    let room : is_too_many T (Some (add_command r)) ≡ false =
+    ap (λ b. is_one_too_many (choices_at T b) r.hop) (of_network_at r.block) ∙ ap (λ cs. is_one_too_many cs r.hop) (none_at T r.block after) in
+    ap Turn.next (plain_step T (Some (add_command r)) room) ∙ ap (λ b. with_choice T b c) (of_network_at r.block) ∙ added_last T r.block after c
+
+all_added : (N : List Route) (T : List Stored) → Rising (λ r s. IsBefore r.block s.block) N → ((s : Stored) (r : Route) → In s T → In r N → IsBefore s.block r.block)
+    → table_after T (map (λ r. Some (add_command r)) N) [] ≡ T ++ map alone N
+all_added [] T up before = sym (append-nil T)
+all_added (r ∷ N) T up before =
+    let command = Some (add_command r) in
+    let later = map (λ s. Some (add_command s)) N in
+    ap (table_after (step T command false).next later) (no_refusals (may_refuse T command))
+    ∙ ap (λ U. table_after U later []) (added T r (λ s i. before s r i (inl refl)))
+    ∙ all_added N (T ++ alone r ∷ []) up.1 (λ s q i j.
+    ⊎_elim (λ k. before s q k (inr j)) (λ k. ⊎_elim (λ e. subst (λ (t : Stored). IsBefore t.block q.block) (sym e) (up.0 q j)) (λ none. absurd none) k) (In-cases s T (alone r ∷ []) i))
+    ∙ append_assoc T (alone r ∷ []) (map alone N)
+
+pub lines_rebuild : LinesRebuild
+lines_rebuild N n =
+    ap (λ cs. table_after [] cs []) (given_is N (table_routes N n))
+    ∙ all_added N [] (Rising-from_pairs (λ r s. IsBefore r.block s.block) N n.ascending) (λ s r i. absurd i)
+
+-- its hops are those of the table
+rebuilt_hops : (N : List Route) → IsTable N → (x : Address) → hop_at (routes_of (table_given (add_lines N))) x ≡ hop_at N x
+rebuilt_hops N n x =
+    ap (λ T. hop_at (routes_of T) x) (lines_rebuild N n)
+    ∙ ap (λ rs. hop_at rs x) (sym (map_twice best_route alone N))
+    ∙ hops_same default_preference N x
+
+pub shortened_agree : ShortenedAgree
+shortened_agree bytes front back refusals N e least x a =
+    rebuilt_hops N least.hops.table x ∙ least.hops.same x a ∙ beginnings_agree bytes front back refusals e x a
+
+no_routes : (N : List Route) → length N ≤ 0 → N ≡ []
+no_routes [] h = refl
+no_routes (r ∷ N) h = absurd (omega (arith, h))
+
+pub no_hops_no_lines : NoHopsNoLines
+no_hops_no_lines bytes N none least = ap add_lines (no_routes N (least.fewest [] (record { table = routes_are_table [] empty_is_table; same = λ x a. sym (none x a) })))

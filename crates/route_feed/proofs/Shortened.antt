@@ -1,0 +1,90 @@
+-- What `shorten` has at the end of its input.
+use Rattle.std.proofs.Common.{◌≡◌, ℕ, inl, inr, ⊎_elim, List, Option, IfSome, Result, Ok, Err, sym, ◌∙◌, subst}
+use Rattle.std.specs.Result.{OnOk}
+use Rattle.std.proofs.KnownBytes.{Consumes-whole}
+use Rattle.ipnet_addr.specs.Addresses.{Address, IsAddress}
+use Rattle.route_lines.specs.Bytes.{lines}
+use Rattle.route_table.specs.LeastTables.{HasHops, IsLeast}
+use Rattle.route_table.specs.Networks.{routes_of}
+use Rattle.route_table.specs.Tables.{Route, hop_at}
+use Rattle.route_feed.specs.declared.counted.Counted.{Counted}
+use Rattle.route_feed.specs.declared.error.RunError.{RunError}
+use Rattle.route_feed.specs.declared.error.RunError.TheVariants as Why
+use Rattle.route_feed.specs.AddLines.{add_lines}
+use Rattle.route_feed.specs.Counted.{inner}
+use Rattle.route_feed.specs.Following.{State}
+use Rattle.route_feed.specs.Follows.{AreReplies}
+use Rattle.route_feed.specs.InnerReaching.{Reached, Stops}
+use Rattle.route_feed.specs.InnerReplies.{Delivers}
+use Rattle.route_feed.specs.Shortens.{AppendsLeast, IsLeastFor, ShortenEnds}
+use Rattle.route_feed.specs.Streams.{committed, painted, replies_in}
+
+-- tables with equal hops have the same least tables
+module _ (g h : Address → Option ℕ) (same : (x : Address) → IsAddress x → g x ≡ h x) where
+  hops_too : (N : List Route) → HasHops g N → HasHops h N
+  hops_too N k = record { table = k.table; same = λ x a. k.same x a ∙ same x a }
+
+  hops_back : (N : List Route) → HasHops h N → HasHops g N
+  hops_back N k = record { table = k.table; same = λ x a. k.same x a ∙ sym (same x a) }
+
+  pub least_too : (N : List Route) → IsLeast g N → IsLeast h N
+  least_too N k = record { hops = hops_too N k.hops; fewest = λ L l. k.fewest L (hops_back L l) }
+
+module _ {R W : Type 0} (remaining : R → Option (List ℕ)) (contents : W → Option (List ℕ)) (from to : Counted R) (old : Counted W) where
+  pub shorten_stopped : (e : RunError) (new : Counted W) → Stops remaining from to e × (new ≡ old) → ShortenEnds remaining contents from to old new (Err e)
+  shorten_stopped Why.Memory new x = (⊎_elim (λ e. inl e) (λ w. inr (inl w)) x.0.0, x.0.1, x.1)
+  shorten_stopped Why.Read new x = (x.0.0, x.0.1, x.1)
+  shorten_stopped Why.Write new x = absurd x.0
+  shorten_stopped Why.Line new x = (x.0.0, x.0.1, x.1)
+
+  module _ (b : State) (mid : Counted W) (x : Reached remaining from to b × (mid ≡ old)) where
+    -- all was read, and there was no memory for the list
+    pub shorten_wants : (e : RunError) → e ≡ Why.Memory → ShortenEnds remaining contents from to old mid (Err e)
+    shorten_wants e is =
+        let end = x.0 in
+        subst (λ k. ShortenEnds remaining contents from to old mid (Err k)) (sym is)
+        (inr (inr (record { bytes = end.bytes; read = end.read; replies = end.replies }, end.at_end)), end.faults, x.1)
+
+    -- all was read, and the lines written
+    pub shorten_ended : (new : Counted W) (routes : List Route) (r : Result Unit RunError) → IsLeast (hop_at (routes_of b.table)) routes → Delivers contents mid new r (add_lines routes) → ShortenEnds remaining contents from to old new r
+    shorten_ended new routes r least w = go r (subst (λ u. Delivers contents u new r (add_lines routes)) x.1 w)
+      where
+        end : Reached remaining from to b
+        end = x.0
+
+        is_least : IsLeastFor end.bytes routes
+        is_least = least_too (hop_at (routes_of b.table)) (painted (committed (replies_in end.bytes))) end.hops routes least
+
+        go : (k : Result Unit RunError) → Delivers contents old new k (add_lines routes) → ShortenEnds remaining contents from to old new k
+        go (Ok done) q = (
+          record { bytes = end.bytes; routes = routes; read = end.read; replies = end.replies; least = is_least; written = q.appended; flushed = q.flushed },
+          end.at_end,
+          end.faults,
+          q.faults,
+        )
+        go (Err e) q =
+            let torn = q.1 in
+            subst (λ k. ShortenEnds remaining contents from to old new (Err k)) (sym q.0) (
+              record {
+                bytes = end.bytes;
+                routes = routes;
+                front = torn.front;
+                back = torn.back;
+                read = end.read;
+                replies = end.replies;
+                least = is_least;
+                is_front = torn.is_front;
+                written = torn.appended;
+              },
+              end.at_end,
+              end.faults,
+              torn.failed,
+            )
+
+-- where the reader tells its bytes
+pub shorten_known : {R W : Type 0} (remaining : R → Option (List ℕ)) (contents : W → Option (List ℕ)) (from to : Counted R) (old new : Counted W) (r : Result Unit RunError) → ShortenEnds remaining contents from to old new r
+    → OnOk r (IfSome (remaining (inner from)) (λ bytes. AreReplies (lines bytes) × AppendsLeast bytes (contents (inner old)) (contents (inner new))))
+shorten_known remaining contents from to old new (Ok done) x =
+    let s = x.0 in
+    Consumes-whole (remaining (inner from)) (remaining (inner to)) s.bytes _ s.read x.1 (s.replies, (s.routes, s.least, s.written))
+shorten_known remaining contents from to old new (Err e) x = tt

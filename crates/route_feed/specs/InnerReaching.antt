@@ -1,0 +1,36 @@
+-- A follower that is handed an input to its end.
+use Rattle.std.specs.Prelude.{◌≡◌, ℕ, List, ◌⊎◌, Option, Result, Ok, Err}
+use Rattle.std.specs.Io.KnownBytes.{Consumes, IsAtEnd}
+use Rattle.ipnet_addr.specs.Addresses.{Address, IsAddress}
+use Rattle.route_lines.specs.Bytes.{lines}
+use Rattle.route_table.specs.Networks.{routes_of}
+use Rattle.route_table.specs.Tables.{hop_at}
+use Rattle.route_feed.specs.declared.counted.Counted.{Counted}
+use Rattle.route_feed.specs.declared.error.RunError.{RunError}
+use Rattle.route_feed.specs.declared.error.RunError.TheVariants as Why
+use Rattle.route_feed.specs.Counted.{inner, faults_of, ReadFault}
+use Rattle.route_feed.specs.Following.{State}
+use Rattle.route_feed.specs.Follows.{AreReplies, MeetsAnother, MeetsReplies, MeetsWant}
+use Rattle.route_feed.specs.Streams.{committed, painted, replies_in}
+
+module _ {R : Type 0} (remaining : R → Option (List ℕ)) where
+  -- all was read, each line is a reply line, and the follower has the hops that the committed changes paint
+  pub record Reached (from to : Counted R) (follower : State) : Type 0 where
+    pub bytes : List ℕ
+    pub read : Consumes (remaining (inner from)) (remaining (inner to)) bytes
+    pub replies : AreReplies (lines bytes)
+    pub hops : (x : Address) → IsAddress x → hop_at (routes_of follower.table) x ≡ painted (committed (replies_in bytes)) x
+    pub at_end : IsAtEnd (remaining (inner to))
+    pub faults : faults_of to ≡ faults_of from
+
+  -- why the end was not reached
+  abbrev pub Stops : Counted R → Counted R → RunError → Type 0
+  Stops from to Why.Read = MeetsReplies remaining from to × ReadFault from to
+  Stops from to Why.Line = MeetsAnother remaining from to × (faults_of to ≡ faults_of from)
+  Stops from to Why.Write = ⊥
+  Stops from to Why.Memory = ((to ≡ from) ⊎ MeetsWant remaining from to) × (faults_of to ≡ faults_of from)
+
+  -- the end was reached or not, and nothing was written
+  abbrev pub Reaches : {W : Type 0} → Counted R → Counted R → Counted W → Counted W → Result State RunError → Type 0
+  Reaches from to old new (Ok follower) = Reached from to follower × (new ≡ old)
+  Reaches from to old new (Err e) = Stops from to e × (new ≡ old)

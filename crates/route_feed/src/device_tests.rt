@@ -1,0 +1,530 @@
+//! Readers and writers by a script: a few bytes a call, and a fault at each call in turn.
+//!
+//! A scripted device counts its own calls, and would serve those after a fault.
+use crate::tests::{LEAST, ROWS, STREAMS};
+use crate::{Counted, RunError, follow, lead, shorten};
+use std::alloc::{AllocError, Global};
+use std::io;
+use std::io::{Read, Write};
+use std::process::Abort;
+use std::test::Fail;
+
+/// Which run.
+#[derive(Clone, Copy, Debug, PartialEq, Eq)]
+enum Mode {
+    Lead,
+    Follow,
+    Shorten,
+}
+
+/// What a call answers that fails.
+#[derive(Clone, Copy, Debug, PartialEq, Eq)]
+enum Fault {
+    /// An error.
+    Broken,
+    /// An interrupted call.
+    Interrupted,
+    /// That nothing was taken; of a `flush`, an error.
+    Nothing,
+}
+
+/// The error of a call that fails.
+fn error(fault: Fault) -> io::Error {
+    match fault {
+        Fault::Broken => io::Error::from(io::ErrorKind::BrokenPipe),
+        Fault::Interrupted => io::Error::from(io::ErrorKind::Interrupted),
+        Fault::Nothing => io::Error::from(io::ErrorKind::WriteZero),
+    }
+}
+
+/// Gives its bytes: at most `first` in the first call, and at most `others` in each other. The call of number `fails` fails,
+/// where there is one.
+#[derive(Drop)]
+struct Given<'a> {
+    left: &'a [u8],
+    first: usize,
+    others: usize,
+    fails: usize,
+    fault: Fault,
+    calls: usize,
+}
+
+impl Read for Given<'_> {
+    fn read(&mut self, buf: &mut [u8]) -> io::Result<usize> {
+        self.calls = self.calls.wrapping_add(1);
+        if self.calls == self.fails {
+            return Err(error(self.fault));
+        }
+        let most = if self.calls == 1 {
+            self.first
+        } else {
+            self.others
+        };
+        let count = self.left.len().min(buf.len()).min(most);
+        let (now, later) = self.left.split_at(count);
+        buf[..count].copy_from_slice(now);
+        self.left = later;
+        Ok(count)
+    }
+}
+
+/// Takes at most `most` bytes a call. The call of number `fails`, of `write` and `flush` together, fails, where there is one.
+#[derive(Drop)]
+struct Held {
+    /// Each byte that was taken, and none for each `flush`, in order.
+    done: Vec<Option<u8>>,
+    most: usize,
+    fails: usize,
+    fault: Fault,
+    calls: usize,
+}
+
+impl Write for Held {
+    fn write(&mut self, buf: &[u8]) -> io::Result<usize> {
+        self.calls = self.calls.wrapping_add(1);
+        if self.calls == self.fails {
+            return match self.fault {
+                Fault::Nothing => Ok(0),
+                fault => Err(error(fault)),
+            };
+        }
+        let count = buf.len().min(self.most);
+        for byte in &buf[..count] {
+            self.done.push(Some(*byte))?;
+        }
+        Ok(count)
+    }
+
+    fn flush(&mut self) -> io::Result<()> {
+        self.calls = self.calls.wrapping_add(1);
+        if self.calls == self.fails {
+            return Err(error(self.fault));
+        }
+        self.done.push(None)?;
+        Ok(())
+    }
+}
+
+/// A reader of at most `first` bytes in the first call and `others` in each other, and no fault.
+fn pieces(input: &[u8], first: usize, others: usize) -> Given<'_> {
+    Given {
+        left: input,
+        first,
+        others,
+        fails: 0,
+        fault: Fault::Broken,
+        calls: 0,
+    }
+}
+
+/// A reader of one byte a call.
+fn dripping(input: &[u8]) -> Given<'_> {
+    pieces(input, 1, 1)
+}
+
+/// A writer of one byte a call.
+fn narrow(alloc: Global) -> Held {
+    Held {
+        done: Vec::new(alloc),
+        most: 1,
+        fails: 0,
+        fault: Fault::Broken,
+        calls: 0,
+    }
+}
+
+/// How a run ended, what was written and flushed, and how often each device was called.
+#[derive(Drop)]
+struct Ended {
+    result: Result<(), RunError>,
+    done: Vec<Option<u8>>,
+    reads: usize,
+    calls: usize,
+}
+
+/// A run over these devices. `Counted` counts the calls that the reader counts.
+fn run(rt: &impl Abort, alloc: Global, mode: Mode, reader: Given<'_>, writer: Held) -> Ended {
+    let mut reader = Counted::new(reader);
+    let mut writer = Counted::new(writer);
+    let ended = match mode {
+        Mode::Lead => lead(alloc, &mut reader, &mut writer),
+        Mode::Follow => follow(alloc, &mut reader, &mut writer),
+        Mode::Shorten => shorten(alloc, &mut reader, &mut writer),
+    };
+    assert_eq!(rt; reader.failing(), ended == Err(RunError::Read));
+    assert_eq!(rt; writer.failing(), ended == Err(RunError::Write));
+    assert_eq!(rt;
+        reader.faults() + writer.faults() != 0,
+        reader.failing() || writer.failing()
+    );
+    assert_eq!(rt; writer.waiting() && !writer.failing(), false);
+    let reads = reader.reads();
+    let reader = reader.into_inner();
+    assert_eq!(rt; reads, reader.calls as u64);
+    let flushes = writer.flushes();
+    let writer = writer.into_inner();
+    assert_eq!(rt; flushes, flushes_in(writer.done.as_slice()));
+    Ended {
+        result: ended,
+        done: writer.done,
+        reads: reader.calls,
+        calls: writer.calls,
+    }
+}
+
+/// How often a `flush` followed a byte.
+fn flushes_in(done: &[Option<u8>]) -> u64 {
+    let mut count = 0u64;
+    let mut waiting = false;
+    for one in done {
+        if one.is_none() && waiting {
+            count = count.wrapping_add(1);
+        }
+        waiting = one.is_some();
+    }
+    count
+}
+
+/// The lines that close a reply.
+const CLOSING: [&[u8]; 4] = [b"ok\n", b"none\n", b"bad\n", b"refused\n"];
+
+/// The calls of a writer of one byte a call: each byte, and none for a `flush`. It is flushed after each line that closes a
+/// reply, and by `shorten`, whose lines are commands, once at the end.
+fn calls_of(alloc: Global, mode: Mode, output: &[u8]) -> Result<Vec<Option<u8>>, AllocError> {
+    let mut calls = Vec::new(alloc);
+    let mut line = Vec::new(alloc);
+    for byte in output {
+        calls.push(Some(*byte))?;
+        line.push(*byte)?;
+        if *byte == b'\n' {
+            if CLOSING.iter().any(|closing| *closing == line.as_slice()) {
+                calls.push(None)?;
+            }
+            line.clear();
+        }
+    }
+    if mode == Mode::Shorten {
+        calls.push(None)?;
+    }
+    Ok(calls)
+}
+
+/// How many of these calls there are until so many of them are a `flush`.
+fn calls_until(calls: &[Option<u8>], flushes: usize) -> usize {
+    let mut left = flushes;
+    for (at, call) in calls.iter().enumerate() {
+        if left == 0 {
+            return at;
+        }
+        if call.is_none() {
+            left -= 1;
+        }
+    }
+    calls.len()
+}
+
+/// What is led, what is followed, what is shortened, and all that is written of each.
+const CASES: [(Mode, &[(&[u8], &[u8])]); 3] = [
+    (Mode::Lead, &ROWS),
+    (Mode::Follow, &STREAMS),
+    (Mode::Shorten, &LEAST),
+];
+
+#[test]
+fn one_byte_a_call(rt: HostRuntime) -> Result<(), Fail> {
+    for (mode, cases) in CASES {
+        for (input, wanted) in cases {
+            let calls = calls_of(rt.alloc(), mode, wanted)?;
+            let ended = run(&rt, rt.alloc(), mode, dripping(input), narrow(rt.alloc()));
+            assert_eq!(rt; ended.result, Ok(()));
+            assert_eq!(rt; ended.done.as_slice(), calls.as_slice());
+            assert_eq!(rt; ended.calls, calls.len());
+            assert_eq!(rt; ended.reads, input.len() + 1);
+        }
+    }
+    Ok(())
+}
+
+/// What is cut, and fails at each call: each line of a reply and each closing line stands in it, and a least table with `drop`
+/// in both families, and one without a route.
+const TRIED: [(Mode, &[(&[u8], &[u8])]); 3] = [
+    (
+        Mode::Lead,
+        &[
+            (
+                b"add 10.0.0.0/30 1\nadd 10.0.0.1/32 drop\nget 10.0.0.1/32\ndel 10.0.0.0/8 1\n\nflat",
+                b"set 10.0.0.0/30 1\nok\nunset 10.0.0.1/32\nok\nroute 10.0.0.1/32 drop 100\nok\nnone\nbad\nbad\n",
+            ),
+            (
+                b"add ::/0 1\nadd ::/0 2\nadd ::/0 3\nadd ::/0 4\nadd ::/0 5\nadd ::/0 6\nadd ::/0 7\nadd ::/0 8\nadd ::/0 9\nown 1\ncount\nflat\n",
+                b"set ::/0 1\nok\nok\nok\nok\nok\nok\nok\nok\nrefused\nown ::/0\nok\ncount 0 1\nok\nflat ::/0 1\nok\n",
+            ),
+        ],
+    ),
+    (
+        Mode::Follow,
+        &[(
+            b"set 10.0.0.0/30 1\nok\nunset 10.0.0.1/32\nok\nset ::/0 2\nbad\nset 1",
+            b"flat 10.0.0.0/32 1\nflat 10.0.0.2/31 1\nok\n",
+        )],
+    ),
+    (
+        Mode::Shorten,
+        &[
+            (
+                b"set 10.0.0.0/8 1\nok\nset 10.0.0.0/10 2\nunset 10.0.0.0/32\nok\nset ::/0 2\nunset ::1/128\nok\nset ::/0 3\nbad\nset 1",
+                b"add 10.0.0.0/8 1\nadd 10.0.0.0/10 2\nadd 10.0.0.0/32 drop\nadd ::/0 2\nadd ::1/128 drop\n",
+            ),
+            (b"set 10.0.0.0/8 1\nok\nunset 10.0.0.0/8\nok\n", b""),
+        ],
+    ),
+];
+
+// A piece of each length comes first, and then the others in one.
+#[test]
+fn cut_after_each_byte(rt: HostRuntime) -> Result<(), Fail> {
+    for (mode, cases) in TRIED {
+        for (input, wanted) in cases {
+            let calls = calls_of(rt.alloc(), mode, wanted)?;
+            for first in 1..=input.len() {
+                let reader = pieces(input, first, input.len());
+                let ended = run(&rt, rt.alloc(), mode, reader, narrow(rt.alloc()));
+                assert_eq!(rt; ended.result, Ok(()));
+                assert_eq!(rt; ended.done.as_slice(), calls.as_slice());
+                assert_eq!(rt; ended.calls, calls.len());
+                assert_eq!(rt; ended.reads, if first == input.len() { 2 } else { 3 });
+            }
+        }
+    }
+    Ok(())
+}
+
+// Each read fails in turn, with an error or interrupted: a leader has answered the whole lines before it, the others have
+// written nothing, and no call is made after it.
+#[test]
+fn each_read_fails(rt: HostRuntime) -> Result<(), Fail> {
+    for (mode, cases) in TRIED {
+        for (input, wanted) in cases {
+            let calls = calls_of(rt.alloc(), mode, wanted)?;
+            for came in 0..=input.len() {
+                for fault in [Fault::Broken, Fault::Interrupted] {
+                    let mut reader = dripping(input);
+                    reader.fails = came + 1;
+                    reader.fault = fault;
+                    let ended = run(&rt, rt.alloc(), mode, reader, narrow(rt.alloc()));
+                    assert_eq!(rt; ended.result, Err(RunError::Read));
+                    assert_eq!(rt; ended.reads, came + 1);
+                    let ends = input
+                        .iter()
+                        .take(came)
+                        .filter(|byte| **byte == b'\n')
+                        .count();
+                    let answered = if mode == Mode::Lead { ends } else { 0 };
+                    let done = calls_until(calls.as_slice(), answered);
+                    assert_eq!(rt; calls.get(..done), Some(ended.done.as_slice()));
+                    assert_eq!(rt; ended.calls, done);
+                }
+            }
+        }
+    }
+    Ok(())
+}
+
+// Each write and each flush fails in turn, with an error or interrupted, or the write takes nothing: the bytes before it are
+// held, no call of the writer comes after it, and a leader has read no further than to the line that it answers, the others to
+// the end.
+#[test]
+fn each_write_fails(rt: HostRuntime) -> Result<(), Fail> {
+    for (mode, cases) in TRIED {
+        for (input, wanted) in cases {
+            let calls = calls_of(rt.alloc(), mode, wanted)?;
+            for done in 0..calls.len() {
+                for fault in [Fault::Broken, Fault::Interrupted, Fault::Nothing] {
+                    let mut writer = narrow(rt.alloc());
+                    writer.fails = done + 1;
+                    writer.fault = fault;
+                    let ended = run(&rt, rt.alloc(), mode, dripping(input), writer);
+                    assert_eq!(rt; ended.result, Err(RunError::Write));
+                    assert_eq!(rt; calls.get(..done), Some(ended.done.as_slice()));
+                    assert_eq!(rt; ended.calls, done + 1);
+                    let flushes = ended.done.iter().filter(|call| call.is_none()).count();
+                    assert_eq!(rt; ended.reads, read_for(mode, input, flushes));
+                }
+            }
+        }
+    }
+    Ok(())
+}
+
+/// How many reads of one byte have come before the reply after so many.
+fn read_for(mode: Mode, input: &[u8], replies: usize) -> usize {
+    let mut before = replies;
+    if mode == Mode::Lead {
+        for (at, byte) in input.iter().enumerate() {
+            if *byte == b'\n' {
+                if before == 0 {
+                    return at.wrapping_add(1);
+                }
+                before -= 1;
+            }
+        }
+    }
+    input.len().wrapping_add(1)
+}
+
+/// The bytes of a writer's calls.
+fn bytes_of(alloc: Global, done: &[Option<u8>]) -> Result<Vec<u8>, AllocError> {
+    let mut bytes = Vec::new(alloc);
+    for byte in done.iter().copied().flatten() {
+        bytes.push(byte)?;
+    }
+    Ok(bytes)
+}
+
+// Each flush fails that comes after a closing line, or at the end: the line is held with its line end, and nothing more is
+// written. The first of these is the first row of them.
+#[test]
+fn each_flush_fails(rt: HostRuntime) -> Result<(), Fail> {
+    for (mode, input, calls, wanted) in [
+        (
+            Mode::Lead,
+            b"add 10.0.0.0/8 1\nflat\n".as_slice(),
+            3,
+            b"set 10.0.0.0/8 1\nok\n".as_slice(),
+        ),
+        (Mode::Lead, b"del 10.0.0.0/8 1\nflat\n", 2, b"none\n"),
+        (Mode::Lead, b"\nflat\n", 2, b"bad\n"),
+        (
+            Mode::Lead,
+            b"add ::/0 1\nadd ::/0 2\nadd ::/0 3\nadd ::/0 4\nadd ::/0 5\nadd ::/0 6\nadd ::/0 7\nadd ::/0 8\nadd ::/0 9\nflat\n",
+            19,
+            b"set ::/0 1\nok\nok\nok\nok\nok\nok\nok\nok\nrefused\n",
+        ),
+        (
+            Mode::Follow,
+            b"set 10.0.0.0/8 1\nok\n",
+            3,
+            b"flat 10.0.0.0/8 1\nok\n",
+        ),
+        (
+            Mode::Shorten,
+            b"set 10.0.0.0/8 1\nset ::/0 2\nok\n",
+            3,
+            b"add 10.0.0.0/8 1\nadd ::/0 2\n",
+        ),
+        (Mode::Shorten, b"ok\n", 1, b""),
+    ] {
+        let mut writer = narrow(rt.alloc());
+        writer.most = 80;
+        writer.fails = calls;
+        let ended = run(&rt, rt.alloc(), mode, dripping(input), writer);
+        assert_eq!(rt; ended.result, Err(RunError::Write));
+        let held = bytes_of(rt.alloc(), ended.done.as_slice())?;
+        assert_eq!(rt; held.as_slice(), wanted);
+        assert_eq!(rt; ended.calls, calls);
+    }
+    Ok(())
+}
+
+// The reader fails amid the second line: the first is answered.
+#[test]
+fn a_read_fails_after_a_whole_line(rt: HostRuntime) -> Result<(), Fail> {
+    let input = b"add 10.0.0.0/8 1\nfl".as_slice();
+    let mut reader = dripping(input);
+    reader.fails = input.len() + 1;
+    let ended = run(&rt, rt.alloc(), Mode::Lead, reader, narrow(rt.alloc()));
+    assert_eq!(rt; ended.result, Err(RunError::Read));
+    let held = bytes_of(rt.alloc(), ended.done.as_slice())?;
+    assert_eq!(rt; held.as_slice(), b"set 10.0.0.0/8 1\nok\n".as_slice());
+    Ok(())
+}
+
+// The writer takes five bytes, and fails: it holds them.
+#[test]
+fn a_write_fails_after_five_bytes(rt: HostRuntime) -> Result<(), Fail> {
+    for (mode, input, wanted) in [
+        (
+            Mode::Lead,
+            b"add 10.0.0.0/8 1\n".as_slice(),
+            b"set 1".as_slice(),
+        ),
+        (Mode::Follow, b"set 10.0.0.0/8 1\nok\n", b"flat "),
+        (Mode::Shorten, b"set 10.0.0.0/8 1\nok\n", b"add 1"),
+    ] {
+        let mut writer = narrow(rt.alloc());
+        writer.fails = 6;
+        let ended = run(&rt, rt.alloc(), mode, dripping(input), writer);
+        assert_eq!(rt; ended.result, Err(RunError::Write));
+        let held = bytes_of(rt.alloc(), ended.done.as_slice())?;
+        assert_eq!(rt; held.as_slice(), wanted);
+        assert_eq!(rt; ended.calls, 6);
+    }
+    Ok(())
+}
+
+// A line that is none, whose line end came before the read that fails, is `Line`; where its line end didn't come, it is no
+// line yet. Nothing is written then.
+#[test]
+fn a_foreign_line_before_a_fault(rt: HostRuntime) {
+    let input = b"set 10.0.0.0/8 1\nsett 1\n".as_slice();
+    for mode in [Mode::Follow, Mode::Shorten] {
+        for (fails, wanted) in [
+            (input.len() + 1, RunError::Line),
+            (input.len(), RunError::Read),
+        ] {
+            let mut reader = dripping(input);
+            reader.fails = fails;
+            let ended = run(&rt, rt.alloc(), mode, reader, narrow(rt.alloc()));
+            assert_eq!(rt; ended.result, Err(wanted));
+            assert_eq!(rt; ended.reads, input.len());
+            assert_eq!(rt; ended.calls, 0);
+        }
+    }
+}
+
+// Lines of 80 and of 81 bytes: a leader answers both `bad`, the others read no further than the first.
+#[test]
+fn two_long_lines(rt: HostRuntime) -> Result<(), Fail> {
+    let mut input = Vec::new(rt.alloc());
+    for count in [80, 81] {
+        for _at in 0..count {
+            input.push(b'x')?;
+        }
+        input.push(b'\n')?;
+    }
+    for (mode, wanted, reads, output) in [
+        (Mode::Lead, Ok(()), 164, b"bad\nbad\n".as_slice()),
+        (Mode::Follow, Err(RunError::Line), 81, b""),
+        (Mode::Shorten, Err(RunError::Line), 81, b""),
+    ] {
+        let ended = run(
+            &rt,
+            rt.alloc(),
+            mode,
+            dripping(input.as_slice()),
+            narrow(rt.alloc()),
+        );
+        assert_eq!(rt; ended.result, wanted);
+        assert_eq!(rt; ended.reads, reads);
+        let held = bytes_of(rt.alloc(), ended.done.as_slice())?;
+        assert_eq!(rt; held.as_slice(), output);
+    }
+    Ok(())
+}
+
+// An empty line, one of 81 bytes, and a rest are `bad` under every cut.
+#[test]
+fn three_bad_lines_under_every_cut(rt: HostRuntime) -> Result<(), Fail> {
+    let input =
+        b"\n123456789012345678901234567890123456789012345678901234567890123456789012345678901\nflat".as_slice();
+    for first in 1..=input.len() {
+        for others in [1, 40, input.len()] {
+            let reader = pieces(input, first, others);
+            let ended = run(&rt, rt.alloc(), Mode::Lead, reader, narrow(rt.alloc()));
+            assert_eq!(rt; ended.result, Ok(()));
+            let held = bytes_of(rt.alloc(), ended.done.as_slice())?;
+            assert_eq!(rt; held.as_slice(), b"bad\nbad\nbad\n".as_slice());
+        }
+    }
+    Ok(())
+}
