@@ -3,13 +3,19 @@
 
 ghost use Rattle.std.specs.Io.Buffered.{writer_contents};
 ghost use Rattle.std.specs.Io.KnownBytes.{Keeps};
-ghost use Rattle.std.specs.Prelude.{◌≡◌, ◌<◌, ◌^◌, IfErr, IfOk, IfSome, IsErrOf};
+ghost use Rattle.std.specs.Prelude.{◌≡◌, ◌<◌, ◌^◌, ◌⊎◌, IfErr, IfOk, IfSome, IsErrOf};
 ghost use Rattle.route_feed.specs.Counted.{ReadFault, faults_of, inner, reads_of};
 ghost use Rattle.routes.specs.Runs.{Writes};
 ghost use Rattle.routes.specs.Status.{status_of};
 
-use route_feed::{Counted, RunError, follow, lead};
+mod input;
+mod output;
+
+use input::Input;
+use output::Output;
+use route_feed::{Counted, RunError, follow, lead, shorten};
 use std::alloc::Global;
+use std::cell::Cell;
 use std::env;
 use std::env::Env;
 use std::io::{BufWriter, Read, Write};
@@ -26,6 +32,8 @@ enum Mode {
     Lead,
     /// Follows the reply lines of a leader.
     Follow,
+    /// Writes the commands of a least table for them.
+    Least,
 }
 
 /// Why the program ends with a status above 0. Each prints its line on standard error.
@@ -35,7 +43,7 @@ enum Fault {
     #[error("routes: no memory")]
     Arguments,
     /// The arguments aren't exactly one mode.
-    #[error("usage: routes lead or routes follow")]
+    #[error("usage: routes lead, routes follow or routes least")]
     Usage,
     /// The run ended early.
     #[error("routes: {0}")]
@@ -71,36 +79,39 @@ fn asked_mode<R: Env + Alloc>(rt: &R) -> Result<Mode, Fault> {
     match first {
         Some(word) if word.as_str() == "lead" => Ok(Mode::Lead),
         Some(word) if word.as_str() == "follow" => Ok(Mode::Follow),
+        Some(word) if word.as_str() == "least" => Ok(Mode::Least),
         _ => Err(Fault::Usage),
     }
 }
 
-// Leads or follows from the input to the output, and hands the output back. What a failed write left unwritten is let
-// go. Only a follower meets lines that are none.
+// Leads, follows or shortens from the input to the output, and hands the output back. A reply is written out once no more
+// lines are here. What a failed write left unwritten is let go. A leader meets no lines that are none.
 fn run_mode<R: Read, W: Write + Drop>(
     mode: Mode,
     alloc: Global,
     reader: &mut Counted<R>,
     output: W,
+    more: &Cell<bool>,
 ) -> Result<W, RunError>
     requires reads { reads_of reader.old < 2 ^ 63 }
     requires faults { faults_of reader.old < 2 ^ 63 }
     ensures known { IfOk result (λ w. IfSome (R.remaining (inner reader.old)) (λ bytes. Writes mode bytes (W.contents output) (W.contents w))) }
     ensures read { IsErrOf result RunError.Read → ReadFault reader.old reader.new }
-    ensures line { IsErrOf result RunError.Line → mode ≡ Mode.Follow }
+    ensures line { IsErrOf result RunError.Line → (mode ≡ Mode.Follow) ⊎ (mode ≡ Mode.Least) }
 {
     let Ok(buffered) = BufWriter::with_capacity(alloc, REPLY, output) else {
         return Err(RunError::Memory);
     };
-    let mut writer = Counted::new(buffered);
+    let mut writer = Counted::new(Output::new(buffered, more));
     let result = match mode {
         Mode::Lead => lead(alloc, reader, &mut writer),
         Mode::Follow => follow(alloc, reader, &mut writer),
+        Mode::Least => shorten(alloc, reader, &mut writer),
     };
     match result {
-        Ok(()) => write_out(writer.into_inner()),
+        Ok(()) => write_out(writer.into_inner().into_inner()),
         Err(error) => {
-            let_go(writer.into_inner());
+            let_go(writer.into_inner().into_inner());
             Err(error)
         }
     }
@@ -127,8 +138,9 @@ fn let_go<W: Write + Drop>(buffered: BufWriter<W>) {
 
 fn run(rt: &HostRuntime) -> Result<(), Fault> {
     let mode = asked_mode(rt)?;
-    let mut reader = Counted::new(rt.stdin());
-    match run_mode(mode, rt.alloc(), &mut reader, rt.stdout()) {
+    let more = Cell::new(false);
+    let mut reader = Counted::new(Input::new(rt.stdin(), &more));
+    match run_mode(mode, rt.alloc(), &mut reader, rt.stdout(), &more) {
         Ok(_output) => Ok(()),
         Err(error) => Err(Fault::Run(error)),
     }
