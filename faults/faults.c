@@ -3,6 +3,8 @@
    FAULT  KIND:N, KIND:N:HOW or memory:N+   the N-th call of that kind fails, or the N-th and each after it
           KIND  memory (malloc and realloc), read (of descriptor 0) or write (of descriptor 1)
           HOW   the name of an error, or `nothing` for a write that takes nothing
+   FROM   if set, only requests for memory after the first read of descriptor 0 are counted, and can fail
+   MARKS  if set, only those between a write to descriptor 1 that begins with `-- begin` and one that begins with `-- end`
    MOST   each read and write moves at most so many bytes
    COUNTS a descriptor: at the end a line says how often each kind was called, how often a call failed, and how many reads and
           writes came after the first one that failed */
@@ -24,7 +26,9 @@ static long met, after;
 static enum kind chosen = KINDS;
 static long number, most;
 static int onwards, error, device_failed;
+static int counted = 1; /* whether requests for memory are counted yet */
 static int counts = -1;
+static int marks; /* whether marks say which requests are counted */
 
 static int error_named(const char *name) {
     if (strcmp(name, "EIO") == 0) return EIO;
@@ -38,6 +42,8 @@ __attribute__((constructor)) static void begin(void) {
     const char *fault = getenv("FAULT"), *text;
     if ((text = getenv("MOST")) != NULL) most = atol(text);
     if ((text = getenv("COUNTS")) != NULL) counts = atoi(text);
+    if (getenv("FROM") != NULL) counted = 0;
+    if (getenv("MARKS") != NULL) counted = 0, marks = 1;
     if (fault == NULL) return;
     for (int kind = 0; kind < KINDS; kind++) {
         size_t length = strlen(names[kind]);
@@ -61,6 +67,7 @@ __attribute__((destructor)) static void finish(void) {
 
 /* Whether this call is to fail. */
 static int fails(enum kind kind) {
+    if (kind == MEMORY && !counted) return 0;
     long call = ++calls[kind];
     if (kind != MEMORY && device_failed) after++;
     if (kind != chosen || (onwards ? call < number : call != number)) return 0;
@@ -83,6 +90,7 @@ static ssize_t moved(long call, int device, const void *bytes, size_t size) {
 }
 
 ssize_t read(int device, void *bytes, size_t size) {
+    if (device == 0 && !marks) counted = 1;
     if (device == 0 && fails(READ)) {
         errno = error;
         return -1;
@@ -90,7 +98,14 @@ ssize_t read(int device, void *bytes, size_t size) {
     return moved(SYS_read, device, bytes, size);
 }
 
+static int begins(const void *bytes, size_t size, const char *mark) {
+    size_t length = strlen(mark);
+    return size >= length && memcmp(bytes, mark, length) == 0;
+}
+
 static ssize_t written(int device, const void *bytes, size_t size) {
+    if (marks && device == 1 && begins(bytes, size, "-- begin")) counted = 1;
+    if (marks && device == 1 && begins(bytes, size, "-- end")) counted = 0;
     if (device == 1 && fails(WRITE)) {
         if (error == 0) return 0;
         errno = error;

@@ -1,0 +1,110 @@
+//! The program `refusals`: a scenario for each call of the crates that takes memory, and for those that take none. A scenario
+//! makes its values, shows them, writes a mark, makes the call, writes another mark, and says what was answered and what the
+//! values are then. So a harness can refuse each request for memory between the marks (faults/crates). The argument names the
+//! scenario; without one, the names of all are written.
+#![tactic(auto)]
+
+mod fault;
+mod feeds;
+mod map_changes;
+mod map_reads;
+mod maps;
+mod nets;
+mod sets;
+mod show;
+mod tables;
+
+use fault::Fault;
+use feeds::FeedCall;
+use map_changes::MapChange;
+use map_reads::MapRead;
+use maps::MapCall;
+use nets::NetCall;
+use sets::SetCall;
+use std::env;
+use std::env::Env;
+use std::process::ExitCode;
+use tables::TableCall;
+
+/// The scenario of this name.
+fn named<C: Copy>(scenarios: &[(&'static str, C)], name: &str) -> Option<C> {
+    for (known, call) in scenarios {
+        if *known == name {
+            return Some(*call);
+        }
+    }
+    None
+}
+
+/// Writes the names.
+fn list<C>(rt: &impl Print, scenarios: &[(&'static str, C)]) -> Result<(), Fault> {
+    for (name, _) in scenarios {
+        println!(rt; "{name}")?;
+    }
+    Ok(())
+}
+
+fn list_all(rt: &HostRuntime) -> Result<(), Fault> {
+    list(rt, &nets::SCENARIOS)?;
+    list(rt, &maps::SCENARIOS)?;
+    list(rt, &map_reads::SCENARIOS)?;
+    list(rt, &map_changes::SCENARIOS)?;
+    list(rt, &sets::SCENARIOS)?;
+    list(rt, &tables::SCENARIOS)?;
+    list(rt, &feeds::SCENARIOS)
+}
+
+fn run_named(rt: &HostRuntime, name: &str) -> Result<(), Fault> {
+    if let Some(call) = named::<NetCall>(&nets::SCENARIOS, name) {
+        return nets::run(rt, call);
+    }
+    if let Some(call) = named::<MapCall>(&maps::SCENARIOS, name) {
+        return maps::run(rt, call);
+    }
+    if let Some(call) = named::<MapRead>(&map_reads::SCENARIOS, name) {
+        return map_reads::run(rt, call);
+    }
+    if let Some(call) = named::<MapChange>(&map_changes::SCENARIOS, name) {
+        return map_changes::run(rt, call);
+    }
+    if let Some(call) = named::<SetCall>(&sets::SCENARIOS, name) {
+        return sets::run(rt, call);
+    }
+    if let Some(call) = named::<TableCall>(&tables::SCENARIOS, name) {
+        return tables::run(rt, call);
+    }
+    if let Some(call) = named::<FeedCall>(&feeds::SCENARIOS, name) {
+        return feeds::run(rt, call);
+    }
+    Err(Fault::Usage)
+}
+
+/// The argument, if there is one.
+fn argument<R: Env + Alloc>(rt: &R) -> Result<Option<String<R::A>>, Fault> {
+    let Ok(mut args) = env::args(rt) else {
+        return Err(Fault::Values);
+    };
+    let _program = args.next();
+    let first = args.next();
+    if args.next().is_some() {
+        return Err(Fault::Usage);
+    }
+    Ok(first)
+}
+
+fn run(rt: &HostRuntime) -> Result<(), Fault> {
+    match argument(rt)? {
+        Some(name) => run_named(rt, name.as_str()),
+        None => list_all(rt),
+    }
+}
+
+fn main(rt: HostRuntime) -> ExitCode {
+    match run(&rt) {
+        Ok(()) => ExitCode::SUCCESS,
+        Err(fault) => {
+            let _ = eprintln!(rt; "refusals: {fault}");
+            ExitCode::FAILURE
+        }
+    }
+}
