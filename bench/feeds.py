@@ -147,4 +147,5 @@ def main():
     print("flat")
 
 
-main()
+if __name__ == "__main__":
+    main()

@@ -6,13 +6,14 @@ import subprocess
 from collections import namedtuple
 
 Measure = namedtuple("Measure", "seconds kilobytes")
+Counts = namedtuple("Counts", "flat least drops")
 
 HEAD = """# Speed and memory
 
-Measured by `bench/run`. Each feed is given to `routes lead`, whose output goes to a file and then to `routes follow`. A time
-is the processor's, with the system's for it, of the whole program: the least of {runs} runs. A memory is the most that was
-resident. Each feed ends with `flat`, and the follower's output was compared with the leader's answer to it. No line of a
-feed was answered `bad` or `refused`.
+Measured by `bench/run`. Each feed is given to `routes lead`, whose output goes to a file and then to `routes follow` and
+`routes least`. A time is the processor's, with the system's for it, of the whole program: the least of {runs} runs. A memory
+is the most that was resident. Each feed ends with `flat`, and the follower's output was compared with the leader's answer to it, and so was what a
+leader of the shortest table answers. No line of a feed was answered `bad` or `refused`.
 
 Machine: {machine}.
 {beside} Times differ from machine to machine; ratios less.
@@ -24,12 +25,39 @@ IPv4 and 177,846 of IPv6.
 
 A network's routes stand in the list of its node, in 72 bytes: eight for each of eight, and the number of them. In boxes of
 their own (1,146,274 of them take 86.7 MB by `malloc`), with a pointer and the best route beside it in the list (17.5 MB), the
-real feed would take 25 MB more.
+real feed would take 25 MB more. A follower keeps one route a network, in 16 bytes.
 """
 
 
-class Row(namedtuple("Row", "title given answered lead follow")):
-    """One feed: its lines and bytes, those of the leader's output, and what each program took."""
+SHORTEST = """
+## Shortest tables
+
+How many blocks the flat list has, and how many routes the shortest table with the same hops, of which some are `drop`. The time
+is that of `routes least`, which reads the leader's output first.
+
+"""
+
+BESIDE = """
+## Beside a Rust program
+
+A plain program with the same modes over the Rust crate `prefix-trie` 0.10.1, whose leader keeps a network's routes in an
+array of eight too, run in turns with ours; its outputs were compared with ours, and its shortest tables in length. Speed and
+memory as ours over its: above 1 we are faster, and use more. It writes each reply by itself; the second column is over one that
+writes as its buffer fills, which ours does while more lines are here.
+
+"""
+
+MAPS = """
+## Map calls
+
+`PrefixMap` alone, in a program of its own over `prefix_trie`: so many networks are stored, as many hosts asked for (four of five
+lie in a stored network), all walked, and all taken out in another order. Nanoseconds for one network, the least of five rounds{beside}.
+
+"""
+
+
+class Row(namedtuple("Row", "title given answered lead follow least counts")):
+    """One feed: its lines and bytes, those of the leader's output, what each program took, and the lengths of the lists."""
 
     def cells(self, name):
         lead, follow = self.lead[name], self.follow[name]
@@ -46,15 +74,23 @@ class Row(namedtuple("Row", "title given answered lead follow")):
 
     def ratios(self):
         ours, peer = "ours", "peer"
+        unflushed = self.lead.get("unflushed")
         return [
             ratio(self.lead[peer].seconds, self.lead[ours].seconds),
+            ratio(unflushed.seconds, self.lead[ours].seconds) if unflushed else "-",
             ratio(self.follow[peer].seconds, self.follow[ours].seconds),
+            ratio(self.least[peer].seconds, self.least[ours].seconds),
             f"{self.lead[ours].kilobytes / self.lead[peer].kilobytes:.2f}",
             f"{self.follow[ours].kilobytes / self.follow[peer].kilobytes:.2f}",
+            f"{self.least[ours].kilobytes / self.least[peer].kilobytes:.2f}",
         ]
 
+    def shortest(self):
+        least = self.least["ours"]
+        return [f"{self.counts.flat:,}", f"{self.counts.least:,}", f"{self.counts.drops:,}", f"{least.seconds:.2f}", f"{least.kilobytes / 1024:.1f}"]
+
     def text(self):
-        told = "; ".join(f"{name}: {', '.join(self.cells(name))}" for name in self.lead)
+        told = "; ".join(f"{name}: {', '.join(self.cells(name))}" for name in self.follow)
         return f"{self.title}: {self.given[0]} lines in, {self.answered[0]} out; {told}"
 
 
@@ -91,20 +127,28 @@ def beside(load):
     return f"Measured beside other work: the load of the machine was {load:.1f} when the run began."
 
 
-def write(docs, feeds, growth, runs, load):
+def map_calls(maps):
+    beside = any(timed.peer for timed in maps)
+    told = "; beside the Rust crate, whose calls gave the same. Above 1 we are faster" if beside else ""
+    head = ["networks", "call", "ns"] + (["ns of the crate", "speed"] if beside else [])
+    rows = []
+    for timed in maps:
+        row = [f"IP{timed.family}, {timed.count:,}", timed.call, f"{timed.ours:.0f}"]
+        rows.append(row + [f"{timed.peer:.0f}", f"{timed.peer / timed.ours:.2f}"] if beside else row)
+    return MAPS.format(beside=told) + table(head, rows)
+
+
+def write(docs, feeds, growth, maps, runs, load):
     rows = feeds + [row for family in growth.values() for count, row in family if count in (100000, 1000000)]
     text = HEAD.format(runs=runs, machine=machine(), beside=beside(load))
     text += "\n## Times and memory\n\nCommands and MB a second are of the leader (bytes read and written), lines a second of the follower.\n\n"
     text += figures(rows)
     text += "\n![Time for each line read, by loads of 10,000 to 1,000,000 networks](performance.svg)\n"
+    text += SHORTEST + table(["feed", "flat blocks", "routes", "of them `drop`", "least s", "MB"], [[row.title] + row.shortest() for row in rows])
     if all("peer" in row.lead for row in rows):
-        head = ["feed", "lead", "follow", "memory of lead", "memory of follow"]
-        text += (
-            "\n## Beside a Rust program\n\nA plain program with the same two modes over the Rust crate `prefix-trie` 0.10.1, whose leader keeps a network's routes in an
-array of eight too, run in turns with ours; its outputs were\n"
-            "compared with ours. Speed and memory as ours over its: above 1 we are faster, and use more.\n\n"
-        )
-        text += table(head, [[row.title] + row.ratios() for row in rows])
+        head = ["feed", "lead", "lead, replies together", "follow", "least", "memory of lead", "memory of follow", "memory of least"]
+        text += BESIDE + table(head, [[row.title] + row.ratios() for row in rows])
+    text += map_calls(maps)
     (docs / "PERFORMANCE.md").write_text(text)
     (docs / "performance.svg").write_text(plot(growth))
 
