@@ -1,7 +1,8 @@
 //! What is written of IPv4 networks alone: texts, bytes, hosts, and what is said of an address.
-ghost use Rattle.std.specs.Prelude.{◌≡◌, ◌≤◌, IfSome, option_map};
+ghost use Rattle.std.specs.Prelude.{◌≡◌, ◌≤◌, ◌+◌, ◌++◌, IfSome, option_map};
 ghost use Rattle.std.specs.Net.Addr.{ipv4_bits, ipv4_octets};
 ghost use Rattle.std.specs.Net.Grammar.{Parses};
+ghost use Rattle.arrayvec.specs.ArrayVec.{array_vec_len};
 ghost use Rattle.ipnet_addr.specs.Addresses.{Ipv4, ipv4_address};
 ghost use Rattle.ipnet_addr.specs.AddressReader.{read_ipv4};
 ghost use Rattle.ipnet_blocks.specs.Blocks.{HasAddress};
@@ -40,6 +41,18 @@ impl Contains<&Ipv4Addr> for Ipv4Net {
 }
 
 impl Ipv4Net {
+    /// Appends the text of `to_text`. There must be room for the longest, of 43 bytes, as for either family. Takes no memory.
+    pub fn push_text<const ROOM: usize>(&self, out: &mut ArrayVec<u8, ROOM>)
+        requires { array_vec_len out.old + 43 ≤ ROOM }
+        ensures text { out.new.items ≡ out.old.items ++ ipv4_net_text self.now }
+        ensures reads { ReadsIpv4 (ipv4_net_text self.now) self.now }
+        ensures len { array_vec_len out.new ≤ array_vec_len out.old + 18 }
+    {
+        push_ipv4(out, self.addr());
+        out.push(b'/');
+        push_decimal(out, self.prefix_len());
+    }
+
     /// The addresses of its hosts: below length 31 all but `network` and `broadcast`, else all.
     pub fn hosts(&self) -> Ipv4AddrRange
         ensures { result ≡ host_ends (block_of Ipv4 self.now) }
@@ -91,9 +104,7 @@ impl Written for u32 {
 
     fn to_text(net: &Ipv4Net) -> ArrayVec<u8, 43> {
         let mut out = ArrayVec::new();
-        push_ipv4(&mut out, net.addr());
-        out.push(b'/');
-        push_decimal(&mut out, net.prefix_len());
+        net.push_text(&mut out);
         out
     }
 

@@ -1,7 +1,8 @@
 //! What is written of IPv6 networks alone: texts, bytes, hosts, and what is said of an address.
-ghost use Rattle.std.specs.Prelude.{◌≡◌, ◌≤◌, IfSome, option_map};
+ghost use Rattle.std.specs.Prelude.{◌≡◌, ◌≤◌, ◌+◌, ◌++◌, IfSome, option_map};
 ghost use Rattle.std.specs.Net.Addr.{ipv6_bits, ipv6_segments};
 ghost use Rattle.std.specs.Net.Grammar.{Parses};
+ghost use Rattle.arrayvec.specs.ArrayVec.{array_vec_len};
 ghost use Rattle.ipnet_addr.specs.Addresses.{Ipv6, ipv6_address};
 ghost use Rattle.ipnet_addr.specs.AddressReader.{read_ipv6};
 ghost use Rattle.ipnet_blocks.specs.Blocks.{HasAddress};
@@ -40,6 +41,18 @@ impl Contains<&Ipv6Addr> for Ipv6Net {
 }
 
 impl Ipv6Net {
+    /// Appends the text of `to_text`. There must be room for the longest, of 43 bytes. Takes no memory.
+    pub fn push_text<const ROOM: usize>(&self, out: &mut ArrayVec<u8, ROOM>)
+        requires { array_vec_len out.old + 43 ≤ ROOM }
+        ensures text { out.new.items ≡ out.old.items ++ ipv6_net_text self.now }
+        ensures reads { ReadsIpv6 (ipv6_net_text self.now) self.now }
+        ensures len { array_vec_len out.new ≤ array_vec_len out.old + 43 }
+    {
+        push_ipv6(out, self.addr());
+        out.push(b'/');
+        push_decimal(out, self.prefix_len());
+    }
+
     /// The addresses of its hosts: all of its addresses.
     pub fn hosts(&self) -> Ipv6AddrRange
         ensures { result ≡ host_ends (block_of Ipv6 self.now) }
@@ -88,9 +101,7 @@ impl Written for u128 {
 
     fn to_text(net: &Ipv6Net) -> ArrayVec<u8, 43> {
         let mut out = ArrayVec::new();
-        push_ipv6(&mut out, net.addr());
-        out.push(b'/');
-        push_decimal(&mut out, net.prefix_len());
+        net.push_text(&mut out);
         out
     }
 

@@ -1,6 +1,7 @@
 //! Networks as text: read by the grammar, printed in one way.
-ghost use Rattle.std.specs.Prelude.{◌≡◌, ℕ, ◌≤◌, List, Some, length};
+ghost use Rattle.std.specs.Prelude.{◌≡◌, ℕ, ◌≤◌, ◌+◌, ◌++◌, List, Some, length};
 ghost use Rattle.std.specs.Net.Grammar.{Parses};
+ghost use Rattle.arrayvec.specs.ArrayVec.{array_vec_len};
 ghost use Rattle.ipnet_blocks.specs.Networks.{Network};
 ghost use Rattle.ipnet.specs.IpNetText.{Reads, net_text};
 
@@ -99,9 +100,21 @@ impl IpNet {
         ensures reads { Reads result.items self.now }
         ensures len { length result.items ≤ 43 }
     {
+        let mut out = ArrayVec::new();
+        self.push_text(&mut out);
+        out
+    }
+
+    /// Appends the text of `to_text`. There must be room for the longest, of 43 bytes. Takes no memory.
+    pub fn push_text<const ROOM: usize>(&self, out: &mut ArrayVec<u8, ROOM>)
+        requires { array_vec_len out.old + 43 ≤ ROOM }
+        ensures text { out.new.items ≡ out.old.items ++ net_text self.now }
+        ensures reads { Reads (net_text self.now) self.now }
+        ensures len { array_vec_len out.new ≤ array_vec_len out.old + 43 }
+    {
         match self {
-            IpNet::V4(net) => net.to_text(),
-            IpNet::V6(net) => net.to_text(),
+            IpNet::V4(net) => net.push_text(out),
+            IpNet::V6(net) => net.push_text(out),
         }
     }
 

@@ -13,6 +13,7 @@ ghost use Rattle.route_lines.specs.Texts.{IsPrintable};
 use crate::body::Body;
 use crate::counted::Counted;
 use crate::error::RunError;
+use arrayvec::ArrayVec;
 use ipnet::IpNet;
 use route_lines::{Closing, Command, Reply};
 use route_table::{DEFAULT_PREFERENCE, Hop};
@@ -44,7 +45,9 @@ pub fn write_line<W: Write>(writer: &mut Counted<W>, line: &Reply) -> Result<(),
     requires printable { IsPrintable line.now }
     ensures { Writes W.contents writer.old writer.new result (reply_line line.now) }
 {
-    write_piece(writer, line.print().as_slice())
+    let mut text = ArrayVec::new();
+    line.print_to(&mut text);
+    write_piece(writer, text.as_slice())
 }
 
 /// Writes a command.
@@ -53,7 +56,9 @@ fn write_command<W: Write>(writer: &mut Counted<W>, command: &Command) -> Result
     requires printable { IsPrintableCommand command.now }
     ensures { Writes W.contents writer.old writer.new result (command_line command.now) }
 {
-    write_piece(writer, command.print().as_slice())
+    let mut text = ArrayVec::new();
+    command.print_to(&mut text);
+    write_piece(writer, text.as_slice())
 }
 
 fn flush<W: Write>(writer: &mut Counted<W>) -> Result<(), RunError>
@@ -68,7 +73,7 @@ pub fn close<W: Write>(writer: &mut Counted<W>, closing: Closing) -> Result<(), 
     requires { CanCount writer.old }
     ensures { Closes W.contents 1 writer.old writer.new result (reply_line (Reply.Close closing)) }
 {
-    write_line(writer, &Reply::Close(closing))?;
+    write_piece(writer, closing.line())?;
     flush(writer)
 }
 

@@ -1,6 +1,7 @@
 //! Command lines.
 ghost use Rattle.std.specs.Prelude.{◌≡◌, ◌≢◌, ◌≤◌, ◌++◌, length, codes, All};
 ghost use Rattle.std.specs.Net.Grammar.{Parses};
+ghost use Rattle.arrayvec.specs.ArrayVec.{array_vec_len};
 ghost use Rattle.route_lines.specs.CommandText.{IsPrintableCommand, command_text};
 ghost use Rattle.route_lines.specs.Texts.{IsCommand};
 
@@ -109,40 +110,52 @@ impl Command {
         ensures len { length result.items ≤ 65 }
     {
         let mut out = ArrayVec::new();
+        self.print_to(&mut out);
+        out
+    }
+
+    /// Writes what `print` gives in the place of what `out` holds.
+    pub fn print_to(&self, out: &mut ArrayVec<u8, 80>)
+        requires { IsPrintableCommand self.now }
+        ensures text { out.new.items ≡ command_text self.now ++ codes "\n" }
+        ensures reads { IsCommand (command_text self.now) self.now }
+        ensures one_line { All (λ c. c ≢ 10) (command_text self.now) }
+        ensures len { array_vec_len out.new ≤ 65 }
+    {
+        out.clear();
         match self {
             Command::Add { net, hop, pref } => {
-                push_net_after(&mut out, b"add ", net);
-                push_all(&mut out, b" ");
-                push_hop(&mut out, *hop);
-                push_preference(&mut out, *pref);
+                push_net_after(out, b"add ", net);
+                push_all(out, b" ");
+                push_hop(out, *hop);
+                push_preference(out, *pref);
             }
             Command::Del { net, hop } => {
-                push_net_after(&mut out, b"del ", net);
-                push_all(&mut out, b" ");
-                push_hop(&mut out, *hop);
+                push_net_after(out, b"del ", net);
+                push_all(out, b" ");
+                push_hop(out, *hop);
             }
-            Command::Get { net } => push_net_after(&mut out, b"get ", net),
-            Command::Cover { net } => push_net_after(&mut out, b"cover ", net),
-            Command::List { net } => push_net_after(&mut out, b"list ", net),
-            Command::All { net } => push_net_after(&mut out, b"all ", net),
+            Command::Get { net } => push_net_after(out, b"get ", net),
+            Command::Cover { net } => push_net_after(out, b"cover ", net),
+            Command::List { net } => push_net_after(out, b"list ", net),
+            Command::All { net } => push_net_after(out, b"all ", net),
             Command::PageFrom { net, limit } => {
-                push_net_after(&mut out, b"from ", net);
-                push_all(&mut out, b" ");
-                push_u16(&mut out, *limit);
+                push_net_after(out, b"from ", net);
+                push_all(out, b" ");
+                push_u16(out, *limit);
             }
             Command::PageAfter { net, limit } => {
-                push_net_after(&mut out, b"after ", net);
-                push_all(&mut out, b" ");
-                push_u16(&mut out, *limit);
+                push_net_after(out, b"after ", net);
+                push_all(out, b" ");
+                push_u16(out, *limit);
             }
             Command::Own { number } => {
-                push_all(&mut out, b"own ");
-                push_u32(&mut out, *number);
+                push_all(out, b"own ");
+                push_u32(out, *number);
             }
-            Command::Count => push_all(&mut out, b"count"),
-            Command::Flat => push_all(&mut out, b"flat"),
+            Command::Count => push_all(out, b"count"),
+            Command::Flat => push_all(out, b"flat"),
         }
         out.push(b'\n');
-        out
     }
 }

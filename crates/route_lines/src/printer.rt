@@ -27,8 +27,7 @@ pub(crate) fn push_net_after<const N: usize>(out: &mut ArrayVec<u8, N>, word: &[
     ensures reads { Reads (net_text net.now) net.now }
 {
     push_all(out, word);
-    let text = net.to_text();
-    push_all(out, text.as_slice());
+    net.push_text(out);
 }
 
 pub(crate) fn push_u64<const N: usize>(out: &mut ArrayVec<u8, N>, n: u64)

@@ -1,6 +1,7 @@
 //! Reply lines.
 ghost use Rattle.std.specs.Prelude.{◌≡◌, ◌≢◌, ◌≤◌, ◌++◌, length, codes, All};
 ghost use Rattle.std.specs.Net.Grammar.{Parses};
+ghost use Rattle.arrayvec.specs.ArrayVec.{array_vec_len};
 ghost use Rattle.route_lines.specs.InnerPhrase.{Gives};
 ghost use Rattle.route_lines.specs.Texts.{IsReply, closing_text, reply_text, IsPrintable};
 
@@ -128,15 +129,16 @@ impl Reply {
 }
 
 impl Closing {
-    fn word(self) -> &'static [u8]
-        ensures text { result.now ≡ closing_text self }
-        ensures len { length result.now ≤ 7 }
+    /// The one text of the line, with its line end: what `Reply::print` gives of it.
+    pub fn line(self) -> &'static [u8]
+        ensures text { result.now ≡ closing_text self ++ codes "\n" }
+        ensures len { length result.now ≤ 8 }
     {
         match self {
-            Closing::Done => b"ok",
-            Closing::Missing => b"none",
-            Closing::Bad => b"bad",
-            Closing::Refused => b"refused",
+            Closing::Done => b"ok\n",
+            Closing::Missing => b"none\n",
+            Closing::Bad => b"bad\n",
+            Closing::Refused => b"refused\n",
         }
     }
 }
@@ -152,37 +154,49 @@ impl Reply {
         ensures len { length result.items ≤ 67 }
     {
         let mut out = ArrayVec::new();
+        self.print_to(&mut out);
+        out
+    }
+
+    /// Writes what `print` gives in the place of what `out` holds.
+    pub fn print_to(&self, out: &mut ArrayVec<u8, 67>)
+        requires { IsPrintable self.now }
+        ensures text { out.new.items ≡ reply_text self.now ++ codes "\n" }
+        ensures reads { IsReply (reply_text self.now) self.now }
+        ensures one_line { All (λ c. c ≢ 10) (reply_text self.now) }
+        ensures len { array_vec_len out.new ≤ 67 }
+    {
+        out.clear();
         match self {
             Reply::Set { net, number } => {
-                push_net_after(&mut out, b"set ", net);
-                push_all(&mut out, b" ");
-                push_u32(&mut out, *number);
+                push_net_after(out, b"set ", net);
+                push_all(out, b" ");
+                push_u32(out, *number);
             }
-            Reply::Unset { net } => push_net_after(&mut out, b"unset ", net),
+            Reply::Unset { net } => push_net_after(out, b"unset ", net),
             Reply::Route { net, hop, pref } => {
-                push_net_after(&mut out, b"route ", net);
-                push_all(&mut out, b" ");
-                push_hop(&mut out, *hop);
+                push_net_after(out, b"route ", net);
+                push_all(out, b" ");
+                push_hop(out, *hop);
                 if let Some(pref) = pref {
-                    push_all(&mut out, b" ");
-                    push_u16(&mut out, *pref);
+                    push_all(out, b" ");
+                    push_u16(out, *pref);
                 }
             }
             Reply::Flat { net, number } => {
-                push_net_after(&mut out, b"flat ", net);
-                push_all(&mut out, b" ");
-                push_u32(&mut out, *number);
+                push_net_after(out, b"flat ", net);
+                push_all(out, b" ");
+                push_u32(out, *number);
             }
-            Reply::Own { net } => push_net_after(&mut out, b"own ", net),
+            Reply::Own { net } => push_net_after(out, b"own ", net),
             Reply::Count { v4, v6 } => {
-                push_all(&mut out, b"count ");
-                push_u64(&mut out, *v4);
-                push_all(&mut out, b" ");
-                push_u64(&mut out, *v6);
+                push_all(out, b"count ");
+                push_u64(out, *v4);
+                push_all(out, b" ");
+                push_u64(out, *v6);
             }
-            Reply::Close(closing) => push_all(&mut out, closing.word()),
+            Reply::Close(closing) => return push_all(out, closing.line()),
         }
         out.push(b'\n');
-        out
     }
 }

@@ -1,6 +1,6 @@
 //! A node of the trie: five levels of bits, with the values at strings of fewer than five bits and the children at five.
-ghost use Rattle.std.specs.Prelude.{◌≡◌, ◌+◌, ◌*◌, ◌/◌, ◌<◌, ◌≤◌, ◌^◌, length, None, Some, IfOk, IfErr, OnErr, OnOk, IsTrue, ◌↔◌, MatchOption, max, count_ones};
-ghost use Rattle.std.specs.Option.{IsSome, option_copied};
+ghost use Rattle.std.specs.Prelude.{◌≡◌, ◌+◌, ◌*◌, ◌/◌, ◌<◌, ◌≤◌, ◌^◌, length, None, Some, IfOk, IfErr, IfNone, IfSome, OnErr, OnOk, OnSome, IsTrue, ◌↔◌, MatchOption, max, count_ones};
+ghost use Rattle.std.specs.Option.{ForSome, IsSome, option_copied};
 ghost use Rattle.std.specs.FinMap as map;
 ghost use Rattle.trie_core.specs.InnerNodes.{HasSlots};
 ghost use Rattle.trie_core.specs.InnerCount.{all_nodes, spare_count};
@@ -280,26 +280,52 @@ impl<T: Drop> Node<T> {
         ensures absent { OnErr result (map.get self.old.entries path ≡ None) }
         ensures value_returned { IfErr result (λ v. v ≡ value) }
     {
+        let mut held = Some(value);
+        match self.exchange(path, &mut held, may_grow, room) {
+            Some(made) => Ok((held, made)),
+            None => match held {
+                Some(value) => Err(value),
+                None => unreachable!(),
+            },
+        }
+    }
+
+    /// Stores the value that is held, and holds the one that stood there, if any. Answers the number of nodes made; where
+    /// there is no room, none, and all stays as it was.
+    ///
+    /// The value is not handed from node to node, so that a step down costs little.
+    fn exchange(
+        &mut self,
+        path: Path,
+        held: &mut Option<T>,
+        may_grow: bool,
+        room: usize,
+    ) -> Option<usize>
+        requires { IsSome held.old }
+        ensures old { OnSome result (held.new ≡ map.get self.old.entries path) }
+        ensures map { OnSome result (ForSome held.old (λ v. self.new.entries ≡ map.insert self.old.entries path v)) }
+        ensures spares { OnSome result (self.new.spares ≡ off_way self.old.spares path) }
+        ensures count { IfSome result (λ made. all_nodes self.new ≡ all_nodes self.old + made) }
+        ensures levels { OnSome result (self.new.levels ≤ max self.old.levels (length path / 5 + 1)) }
+        ensures within { IfSome result (λ made. made ≤ room) }
+        ensures grows { OnSome result (map.get self.old.entries path ≡ None → IsTrue may_grow) }
+        ensures unchanged { IfNone result (self.new ≡ self.old) }
+        ensures absent { IfNone result (map.get self.old.entries path ≡ None) }
+        ensures held { IfNone result (held.new ≡ held.old) }
+    {
         if path.is_short() {
-            let old = put_at(
-                &mut self.value_bits,
-                &mut self.values,
-                path.place(),
-                value,
-                may_grow,
-            )?;
-            return Ok((old, 0));
+            return self.exchange_here(path, held, may_grow);
         }
         let number = path.five();
         if let Some(at) = slot(self.child_bits, number) {
             let child = &mut self.children[at];
-            return child.insert(path.rest(), value, may_grow, room);
+            return child.exchange(path.rest(), held, may_grow, room);
         }
         if !may_grow || room == 0 || reserve_one(&mut self.children).is_err() {
-            return Err(value);
+            return None;
         }
         let mut child = Node::new(*self.children.allocator());
-        let (_, made) = child.insert(path.rest(), value, true, room - 1)?;
+        let made = child.exchange(path.rest(), held, true, room - 1)?;
         let Ok(_) = put_at(
             &mut self.child_bits,
             &mut self.children,
@@ -309,7 +335,44 @@ impl<T: Drop> Node<T> {
         ) else {
             unreachable!()
         };
-        Ok((None, made + 1))
+        Some(made + 1)
+    }
+
+    /// The same at a string of fewer than five bits.
+    #[inline(never)]
+    fn exchange_here(&mut self, path: Path, held: &mut Option<T>, may_grow: bool) -> Option<usize>
+        requires short { length path < 5 }
+        requires held { IsSome held.old }
+        ensures made { IfSome result (λ made. made ≡ 0) }
+        ensures old { OnSome result (held.new ≡ map.get self.old.entries path) }
+        ensures map { OnSome result (ForSome held.old (λ v. self.new.entries ≡ map.insert self.old.entries path v)) }
+        ensures spares { OnSome result (self.new.spares ≡ off_way self.old.spares path) }
+        ensures count { IfSome result (λ made. all_nodes self.new ≡ all_nodes self.old + made) }
+        ensures levels { OnSome result (self.new.levels ≤ max self.old.levels (length path / 5 + 1)) }
+        ensures grows { OnSome result (map.get self.old.entries path ≡ None → IsTrue may_grow) }
+        ensures unchanged { IfNone result (self.new ≡ self.old) }
+        ensures absent { IfNone result (map.get self.old.entries path ≡ None) }
+        ensures held { IfNone result (held.new ≡ held.old) }
+    {
+        let Some(value) = held.take() else {
+            unreachable!()
+        };
+        match put_at(
+            &mut self.value_bits,
+            &mut self.values,
+            path.place(),
+            value,
+            may_grow,
+        ) {
+            Ok(old) => {
+                *held = old;
+                Some(0)
+            }
+            Err(value) => {
+                *held = Some(value);
+                None
+            }
+        }
     }
 
     /// Takes the entry out, and with it the nodes below this one on its path that are left bare, also where there was
@@ -325,25 +388,54 @@ impl<T: Drop> Node<T> {
         ensures levels { self.new.levels ≤ self.old.levels }
         ensures within { 5 * result.1 ≤ length path }
     {
+        let mut held = None;
+        let gone = self.withdraw(path, &mut held);
+        (held, gone)
+    }
+
+    /// The same: the value is held then, where nothing was.
+    fn withdraw(&mut self, path: Path, held: &mut Option<T>) -> u8
+        requires path { length path ≤ 128 }
+        requires held { held.old ≡ None }
+        ensures value { held.new ≡ map.get self.old.entries path }
+        ensures map { self.new.entries ≡ map.remove self.old.entries path }
+        ensures spares { IsPruned path self.old.spares self.new.entries self.new.spares }
+        ensures count { all_nodes self.new + result ≡ all_nodes self.old }
+        ensures levels { self.new.levels ≤ self.old.levels }
+        ensures within { 5 * result ≤ length path }
+    {
         if path.is_short() {
-            let value = take_at(&mut self.value_bits, &mut self.values, path.place());
-            return (value, 0);
+            self.withdraw_here(path, held);
+            return 0;
         }
         let number = path.five();
         match slot(self.child_bits, number) {
-            None => (None, 0),
+            None => 0,
             Some(at) => {
                 let child = &mut self.children[at];
-                let (value, gone) = child.remove(path.rest());
+                let gone = child.withdraw(path.rest(), held);
                 if child.is_bare() {
                     let _ = self.children.remove(at);
                     self.child_bits -= bit(number);
-                    (value, gone + 1)
+                    gone + 1
                 } else {
-                    (value, gone)
+                    gone
                 }
             }
         }
+    }
+
+    /// The same at a string of fewer than five bits.
+    #[inline(never)]
+    fn withdraw_here(&mut self, path: Path, held: &mut Option<T>)
+        requires { length path < 5 }
+        ensures value { held.new ≡ map.get self.old.entries path }
+        ensures map { self.new.entries ≡ map.remove self.old.entries path }
+        ensures spares { IsPruned path self.old.spares self.new.entries self.new.spares }
+        ensures count { all_nodes self.new ≡ all_nodes self.old }
+        ensures levels { self.new.levels ≤ self.old.levels }
+    {
+        *held = take_at(&mut self.value_bits, &mut self.values, path.place());
     }
 
     /// Takes the entry out, and leaves every node.

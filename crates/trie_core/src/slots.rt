@@ -72,6 +72,7 @@ pub(crate) fn reserve_one<X>(items: &mut Vec<X>) -> Result<(), AllocError>
 /// Stores the thing at the place, and answers what stood there.
 ///
 /// A free place is taken only where there may be one more, and needs memory; at a taken one it needs none.
+#[inline(never)]
 pub(crate) fn put_at<X>(
     taken: &mut u32,
     items: &mut Vec<X>,

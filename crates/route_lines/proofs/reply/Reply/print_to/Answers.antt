@@ -1,8 +1,8 @@
 use Rattle.std.proofs.Common.{rules}
 use Rattle.route_lines.proofs.Printed.{prints, Words}
 use Rattle.route_lines.proofs.Replies.{clean_reply}
-use Rattle.route_lines.proofs.reply.Reply.print.Goals.{in-Set, in-Unset, in-Route+in-Some, in-Route+in_default, in-Flat, in-Own, in-Count, in-Close}
-use Rattle.route_lines.proofs.reply.Reply.print.Goals as goal
+use Rattle.route_lines.proofs.reply.Reply.print_to.Goals.{in-Set, in-Unset, in-Route+in-Some, in-Route+in_default, in-Flat, in-Own, in-Count}
+use Rattle.route_lines.proofs.reply.Reply.print_to.Goals as goal
 
 pub returns-clause-reads : goal.returns-clause-reads
 returns-clause-reads c =
@@ -14,7 +14,6 @@ returns-clause-reads c =
       | in-Flat w ↦ search rules
       | in-Own w ↦ search rules
       | in-Count w ↦ search rules
-      | in-Close w ↦ search rules
     ] in
     prints _ c.requires words
 

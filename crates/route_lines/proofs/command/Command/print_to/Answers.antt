@@ -1,8 +1,8 @@
 use Rattle.std.proofs.Common.{rules}
 use Rattle.route_lines.proofs.Commands.{clean_command}
 use Rattle.route_lines.proofs.PrintedCommands.{prints, Words}
-use Rattle.route_lines.proofs.command.Command.print.Goals.{in-Add, in-Del, in-Get, in-Cover, in-List, in-All, in-PageFrom, in-PageAfter, in-Own, in-Count, in-Flat}
-use Rattle.route_lines.proofs.command.Command.print.Goals as goal
+use Rattle.route_lines.proofs.command.Command.print_to.Goals.{in-Add, in-Del, in-Get, in-Cover, in-List, in-All, in-PageFrom, in-PageAfter, in-Own, in-Count, in-Flat}
+use Rattle.route_lines.proofs.command.Command.print_to.Goals as goal
 
 pub returns-clause-reads : goal.returns-clause-reads
 returns-clause-reads c =

@@ -1,0 +1,54 @@
+use Rattle.std.proofs.Common.{◌≡◌, ◌∙◌, sym, ap, arith}
+use Rattle.std.specs.Prelude.{Some}
+use Rattle.std.specs.Ordering.{nat_cmp}
+use Rattle.std.specs.FinMap.{find, insert}
+use Rattle.trie_core.specs.InnerPlaces.{at_places}
+use Rattle.trie_core.proofs.Seen.{seen, value_at}
+use Rattle.trie_core.proofs.Changes.{value_slots, value_put_map, value_count}
+use Rattle.trie_core.proofs.Ways.{short_off}
+use Rattle.trie_core.proofs.node.Node.exchange_here.Goals.{in-Ok, in-Err}
+use Rattle.trie_core.proofs.node.Node.exchange_here.Goals as goal
+
+pub invariant_of-self : goal.invariant_of-self
+invariant_of-self g c = value_slots (seen c.self.invariant c.self.view_is) c.put_at.ensures.counted (c.put_at.ensures.below 31 c.place.ensures.below c.self.invariant.values_below)
+
+pub returns-clause-old : goal.returns-clause-old
+returns-clause-old g c = elim c.match-put_at.branch [
+  | in-Ok w ↦ rw (w.result-is, w.held-is) (w.in-Ok.ensures.old ∙ ap (λ n. find nat_cmp n (at_places 32 0 c.self.inside.value_bits c.self.inside.values.items)) c.place.ensures.value ∙ value_at c.args.path (seen c.self.invariant c.self.view_is) c.requires.short)
+  | in-Err w ↦ rw w.result-is tt
+]
+
+pub returns-clause-map : goal.returns-clause-map
+returns-clause-map g c = elim c.match-put_at.branch [
+  | in-Ok w ↦ rw w.result-is (λ v i.
+      let e : Some c.in-Some.value ≡ Some v = sym c.in-Some.is ∙ c.take.ensures.value ∙ i in
+      let f : c.in-Some.value ≡ v = cc in
+      value_put_map c.args.path c.in-Some.value (seen c.self.invariant c.self.view_is) (invariant_of-self g c) c.requires.short c.place.ensures.value w.in-Ok.ensures.items ∙ ap (insert c.args.self.now.entries c.args.path) f)
+  | in-Err w ↦ rw w.result-is tt
+]
+
+pub returns-clause-spares : goal.returns-clause-spares
+returns-clause-spares g c =
+    let s = seen c.self.invariant c.self.view_is in
+    elim c.match-put_at.branch [
+      | in-Ok w ↦ rw w.result-is (s.spare ∙ short_off c.args.path s c.requires.short)
+      | in-Err w ↦ rw w.result-is tt
+    ]
+
+pub returns-clause-count : goal.returns-clause-count
+returns-clause-count g c = elim c.match-put_at.branch [
+  | in-Ok w ↦ rw w.result-is (omega (arith, value_count (seen c.self.invariant c.self.view_is) (invariant_of-self g c)))
+  | in-Err w ↦ rw w.result-is tt
+]
+
+pub returns-clause-grows : goal.returns-clause-grows
+returns-clause-grows g c = elim c.match-put_at.branch [
+  | in-Ok w ↦ rw w.result-is (λ e. w.in-Ok.ensures.grows (w.in-Ok.ensures.old ∙ ap (λ n. find nat_cmp n (at_places 32 0 c.self.inside.value_bits c.self.inside.values.items)) c.place.ensures.value ∙ value_at c.args.path (seen c.self.invariant c.self.view_is) c.requires.short ∙ e))
+  | in-Err w ↦ rw w.result-is tt
+]
+
+pub returns-clause-absent : goal.returns-clause-absent
+returns-clause-absent g c = elim c.match-put_at.branch [
+  | in-Ok w ↦ rw w.result-is tt
+  | in-Err w ↦ rw w.result-is (sym (value_at c.args.path (seen c.self.invariant c.self.view_is) c.requires.short) ∙ ap (λ n. find nat_cmp n (at_places 32 0 c.self.inside.value_bits c.self.inside.values.items)) (sym c.place.ensures.value) ∙ w.in-Err.ensures.absent)
+]
