@@ -7,7 +7,7 @@ ghost use Rattle.route_lines.specs.InnerFree as Free;
 ghost use Rattle.std.proofs.Common.{rules};
 
 use fast_float::parse_u64;
-use ipnet::IpNet;
+use ipnet::{IpNet, Ipv4Net, Ipv6Net};
 use route_table::{DEFAULT_PREFERENCE, Hop};
 use std::marker::Model;
 
@@ -28,10 +28,13 @@ impl Phrase for IpNet {
     ghost spells = { IsNet };
 
     fn read(s: &[u8]) -> Option<IpNet> {
-        match IpNet::parse_ascii(s) {
-            Ok(net) => Some(net.trunc()),
-            Err(_) => None,
+        if let Ok(net) = Ipv4Net::parse_ascii(s) {
+            return Some(IpNet::V4(net.trunc()));
         }
+        if let Ok(net) = Ipv6Net::parse_ascii(s) {
+            return Some(IpNet::V6(net.trunc()));
+        }
+        None
     }
 }
 
