@@ -125,10 +125,10 @@ def figures(rows):
 
 
 def beside(load):
-    """What else ran on the machine, by its load when the run began."""
+    """What else ran on the machine, by how many processors were busy before the run."""
     if load < 0.5:
         return "Nothing else ran on it."
-    return f"Measured beside other work: the load of the machine was {load:.1f} when the run began."
+    return f"Measured beside other work, which took {load:.1f} processors when the run began."
 
 
 def map_calls(maps):
