@@ -15,10 +15,6 @@ pub use text::AddrParseError;
 
 mod aggregate;
 mod contains;
-#[cfg(test)]
-mod cut_tests;
-#[cfg(test)]
-mod form_tests;
 mod ip_net;
 mod ipv4;
 mod ipv6;
@@ -26,7 +22,5 @@ pub mod laws;
 mod networks;
 mod octets;
 mod subnets;
-#[cfg(test)]
-mod tests;
 mod text;
 mod value;

@@ -12,5 +12,3 @@ pub mod number;
 pub mod parser;
 pub mod printer;
 pub mod ranges;
-#[cfg(test)]
-mod tests;

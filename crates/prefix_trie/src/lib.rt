@@ -6,8 +6,6 @@
 
 pub mod map;
 pub mod set;
-#[cfg(test)]
-mod tests;
 
 pub use map::PrefixMap;
 pub use set::PrefixSet;

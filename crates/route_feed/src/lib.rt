@@ -11,17 +11,11 @@ pub use shortening::shorten;
 mod answer;
 mod body;
 mod counted;
-#[cfg(test)]
-mod device_tests;
 mod error;
 mod follower;
 pub mod laws;
 mod leader;
-#[cfg(test)]
-mod manual;
 mod reading;
 mod shortening;
 mod sink;
-#[cfg(test)]
-mod tests;
 mod writing;

@@ -11,17 +11,11 @@ pub use routes::Routes;
 pub use table::{RouteTable, Table};
 
 mod address_family;
-#[cfg(test)]
-mod choice_tests;
 mod family;
 mod flat;
-#[cfg(test)]
-mod flat_tests;
 mod governed;
 mod hop_table;
 pub mod laws;
-#[cfg(test)]
-mod least_tests;
 mod overwrite;
 mod own_blocks;
 mod refused;
@@ -31,8 +25,4 @@ mod shortest;
 mod side;
 mod side_routes;
 mod table;
-#[cfg(test)]
-mod tests;
-#[cfg(test)]
-mod walk_tests;
 mod walks;

@@ -1,14 +1,10 @@
 //! A map from prefixes to values, searched by the longest or the shortest prefix that contains an asked one.
 #![tactic(auto)]
 
-#[cfg(test)]
-mod change_tests;
 mod copy;
 mod count;
 mod cover;
 mod entry;
-#[cfg(test)]
-mod entry_tests;
 mod equal;
 mod into_iter;
 mod iter;
@@ -18,8 +14,6 @@ mod map;
 mod prune;
 mod refused;
 mod retain;
-#[cfg(test)]
-mod tests;
 
 pub use cover::{Cover, CoverKeys, CoverValues};
 pub use entry::{Entry, OccupiedEntry, VacantEntry};

@@ -1,6 +1,6 @@
 //! Several routes a network: which is the best, what takes memory, and what is refused.
-use crate::tests::{add, net};
-use crate::{AddRefused, Hop, RouteTable};
+use crate::changes::{add, net};
+use route_table::{AddRefused, Hop, RouteTable};
 use std::process::Abort;
 
 /// The routes of the network are these.

@@ -1,5 +1,5 @@
 //! Networks as bytes and as JSON values, on rows from outside.
-use crate::{IpNet, Ipv4Net, Ipv6Net};
+use ipnet::{IpNet, Ipv4Net, Ipv6Net};
 use serde_json::{Value, json};
 use std::str::FromStr;
 use std::test::Fail;

@@ -1,5 +1,5 @@
 //! Rows on changes of many entries at once.
-use crate::PrefixMap;
+use trie_map::PrefixMap;
 
 #[test]
 fn inside_a_prefix(rt: HostRuntime) {

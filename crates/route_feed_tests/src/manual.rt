@@ -1,6 +1,6 @@
 //! The examples of the manual: the bytes of the files in examples/, in the order of their names.
-use crate::tests::{followed, led, shortened};
-use crate::{Counted, RunError, follow};
+use crate::streams::{followed, led, shortened};
+use route_feed::{Counted, RunError, follow};
 use std::test::Fail;
 
 // What a leader is given, and all that it writes.

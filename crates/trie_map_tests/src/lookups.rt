@@ -1,13 +1,13 @@
 //! What no contract says: that calls succeed, each through its bound at concrete types, with values from outside.
 ghost use Rattle.std.specs.Iterator.{IsFinite};
 
-use crate::{PrefixMap, Refused};
 use ipnet::{Ipv4Net, Ipv6Net};
 use std::alloc::Global;
 use std::process::Abort;
 use std::str::FromStr;
 use std::test::Fail;
 use trie_core::{Node, Path};
+use trie_map::{PrefixMap, Refused};
 
 /// An IPv4 network.
 pub(crate) fn net(rt: &impl Abort, text: &str) -> Ipv4Net {

@@ -1,6 +1,6 @@
 //! Rows of flat lists, with values from outside.
-use crate::{Hop, RouteTable};
 use ipnet::IpNet;
+use route_table::{Hop, RouteTable};
 use std::alloc::Global;
 use std::process::Abort;
 use std::str::FromStr;

@@ -1,9 +1,9 @@
 //! Rows on entries.
-use crate::tests::net;
-use crate::{Entry, PrefixMap, Refused};
+use crate::lookups::net;
 use ipnet::Ipv4Net;
 use std::alloc::Global;
 use std::process::Abort;
+use trie_map::{Entry, PrefixMap, Refused};
 
 fn empty(rt: &impl Abort, alloc: Global) -> PrefixMap<Ipv4Net, u32> {
     PrefixMap::new(alloc).expect(rt, "a map")

@@ -1,6 +1,6 @@
 //! What no contract says: that calls succeed, with values from outside.
-use crate::{Hop, RouteTable};
 use ipnet::IpNet;
+use route_table::{Hop, RouteTable};
 use std::process::Abort;
 use std::str::FromStr;
 

@@ -3,7 +3,7 @@ ghost use Rattle.std.specs.Prelude.{IsTrue, nat_le};
 ghost use Rattle.std.specs.Iterator.{IsFinite};
 ghost use Rattle.std.specs.List.{All};
 
-use crate::{PrefixMap, PrefixSet, Refused};
+use prefix_trie::{PrefixMap, PrefixSet, Refused};
 use std::alloc::Global;
 use std::cell::Cell;
 use std::process::Abort;

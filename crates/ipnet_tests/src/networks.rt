@@ -1,5 +1,5 @@
 //! What no contract says: texts of errors, and each call once on values from outside.
-use crate::{
+use ipnet::{
     AddrParseError, Contains, IpAddr, IpNet, Ipv4Addr, Ipv4Net, Ipv6Addr, Ipv6Net, PrefixLenError,
 };
 use std::fmt::Write;

@@ -1,8 +1,8 @@
 //! Readers and writers by a script: a few bytes a call, and a fault at each call in turn.
 //!
 //! A scripted device counts its own calls, and would serve those after a fault.
-use crate::tests::{LEAST, ROWS, STREAMS};
-use crate::{Counted, RunError, follow, lead, shorten};
+use crate::streams::{LEAST, ROWS, STREAMS};
+use route_feed::{Counted, RunError, follow, lead, shorten};
 use std::alloc::{AllocError, Global};
 use std::io;
 use std::io::{Read, Write};

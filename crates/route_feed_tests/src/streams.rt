@@ -5,7 +5,7 @@ ghost use Rattle.route_feed.specs.Output.{output};
 ghost use Rattle.route_feed.specs.Shortens.{IsLeastFor};
 ghost use Rattle.route_table.specs.Tables.{Route};
 
-use crate::{Counted, FollowError, Follower, RunError, follow, lead, shorten};
+use route_feed::{Counted, FollowError, Follower, RunError, follow, lead, shorten};
 use std::alloc::Global;
 use std::test::Fail;
 

@@ -1,10 +1,12 @@
 //! What no contract says: the text of an error, and each call once on values from outside.
 ghost use Rattle.std.specs.Prelude.{◌≤◌};
 
-use crate::ipext::{IpAdd, IpBitAnd, IpBitOr, IpStep, IpSub};
-use crate::key::Key;
-use crate::mask::{PrefixLenError, ip_mask_to_prefix, ipv4_mask_to_prefix, ipv6_mask_to_prefix};
-use crate::ranges::Ipv4AddrRange;
+use ipnet_addr::ipext::{IpAdd, IpBitAnd, IpBitOr, IpStep, IpSub};
+use ipnet_addr::key::Key;
+use ipnet_addr::mask::{
+    PrefixLenError, ip_mask_to_prefix, ipv4_mask_to_prefix, ipv6_mask_to_prefix,
+};
+use ipnet_addr::ranges::Ipv4AddrRange;
 use std::fmt::Write;
 use std::net::{IpAddr, Ipv4Addr, Ipv6Addr};
 use std::test::Fail;

@@ -1,5 +1,5 @@
 //! Ranges, subnet iterators and `aggregate` on values from outside.
-use crate::{
+use ipnet::{
     IpAddr, IpAddrRange, IpNet, IpSubnets, Ipv4Addr, Ipv4AddrRange, Ipv4Net, Ipv4Subnets, Ipv6Addr,
     Ipv6AddrRange, Ipv6Net, Ipv6Subnets, PrefixLenError,
 };

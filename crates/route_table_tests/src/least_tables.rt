@@ -1,8 +1,8 @@
 //! Rows of shortest tables, with values from outside.
-use crate::flat_tests::table;
-use crate::tests::net;
-use crate::{Hop, HopTable, Refused, RouteTable};
+use crate::changes::net;
+use crate::flat_lists::table;
 use ipnet::IpNet;
+use route_table::{Hop, HopTable, Refused, RouteTable};
 use std::process::Abort;
 
 /// The shortest table of this one.

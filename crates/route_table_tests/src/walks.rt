@@ -1,6 +1,6 @@
 //! Rows on walks, and on one route in the place of all those inside its network. Hops tell the routes apart.
-use crate::tests::{add, net};
-use crate::{Hop, Refused, RouteTable, Routes};
+use crate::changes::{add, net};
+use route_table::{Hop, Refused, RouteTable, Routes};
 use std::alloc::Global;
 use std::process::Abort;
 

@@ -1,0 +1,5 @@
+//! Tests of `prefix_trie`.
+#![tactic(auto)]
+
+#[cfg(test)]
+mod rows;

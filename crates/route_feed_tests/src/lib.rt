@@ -1,0 +1,9 @@
+//! Tests of `route_feed`.
+#![tactic(auto)]
+
+#[cfg(test)]
+mod devices;
+#[cfg(test)]
+mod manual;
+#[cfg(test)]
+mod streams;

@@ -1,0 +1,13 @@
+//! Tests of `route_table`.
+#![tactic(auto)]
+
+#[cfg(test)]
+mod changes;
+#[cfg(test)]
+mod choices;
+#[cfg(test)]
+mod flat_lists;
+#[cfg(test)]
+mod least_tables;
+#[cfg(test)]
+mod walks;

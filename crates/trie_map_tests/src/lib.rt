@@ -1,0 +1,9 @@
+//! Tests of `trie_map`.
+#![tactic(auto)]
+
+#[cfg(test)]
+mod changes;
+#[cfg(test)]
+mod entries;
+#[cfg(test)]
+mod lookups;
