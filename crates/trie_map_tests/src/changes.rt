@@ -1,116 +1,189 @@
 //! Rows on changes of many entries at once.
+use crate::maps::plain_map_of;
+use std::alloc::Global;
+use std::process::Abort;
 use trie_map::PrefixMap;
+
+/// The map has so many entries and nodes.
+fn counts(rt: &impl Abort, map: &PrefixMap<(u32, u8), u32>, entries: usize, nodes: usize) {
+    assert_eq!(rt; map.len(), entries);
+    assert_eq!(rt; map.node_count(), nodes);
+}
+
+/// The map has these entries.
+fn has(rt: &impl Abort, map: &PrefixMap<(u32, u8), u32>, entries: &[((u32, u8), u32)]) {
+    for (key, value) in entries.iter() {
+        assert!(rt; key.1 <= 32);
+        assert_eq!(rt; map.get(key).copied(), Some(*value));
+    }
+}
+
+/// Stores an entry.
+fn store(rt: &impl Abort, map: &mut PrefixMap<(u32, u8), u32>, key: (u32, u8), value: u32) {
+    assert!(rt; key.1 <= 32);
+    assert!(rt; map.insert(key, value).is_ok());
+}
+
+/// Takes an entry out, and keeps its nodes.
+fn keep_tree(rt: &impl Abort, map: &mut PrefixMap<(u32, u8), u32>, key: (u32, u8), value: u32) {
+    assert!(rt; key.1 <= 32);
+    assert_eq!(rt; map.remove_keep_tree(&key), Some(value));
+}
 
 #[test]
 fn inside_a_prefix(rt: HostRuntime) {
-    let mut map: PrefixMap<(u32, u8), u32> = PrefixMap::new(rt.alloc()).expect(&rt, "a map");
-    assert!(rt; map.insert((0, 11), 1).is_ok());
+    let mut map = plain_map_of(&rt, rt.alloc(), &[((0, 11), 1)]);
     assert_eq!(rt; map.node_count(), 3);
     map.remove_children(&(0, 5));
-    assert_eq!(rt; map.node_count(), 1);
-    assert_eq!(rt; map.len(), 0);
-    assert!(rt; map.insert((0x8000_0000, 11), 200).is_ok());
-    assert!(rt; map.insert((0, 11), 300).is_ok());
-    assert_eq!(rt; map.len(), 2);
-    assert_eq!(rt; map.node_count(), 5);
-    assert_eq!(rt; map.get(&(0, 11)).copied(), Some(300));
-    assert_eq!(rt; map.get(&(0x8000_0000, 11)).copied(), Some(200));
+    counts(&rt, &map, 0, 1);
+    store(&rt, &mut map, (0x8000_0000, 11), 200);
+    store(&rt, &mut map, (0, 11), 300);
+    counts(&rt, &map, 2, 5);
+    has(&rt, &map, &[((0, 11), 300), ((0x8000_0000, 11), 200)]);
 }
 
 #[test]
 fn prunes_upward(rt: HostRuntime) {
-    let mut map: PrefixMap<(u32, u8), u32> = PrefixMap::new(rt.alloc()).expect(&rt, "a map");
-    assert!(rt; map.insert((0, 6), 1).is_ok());
-    assert!(rt; map.insert((0, 7), 2).is_ok());
+    let mut map = plain_map_of(&rt, rt.alloc(), &[((0, 6), 1), ((0, 7), 2)]);
     assert_eq!(rt; map.node_count(), 2);
     map.remove_children(&(0, 6));
     assert_eq!(rt; map.node_count(), 1);
-    assert!(rt; map.insert((0, 16), 3).is_ok());
+    store(&rt, &mut map, (0, 16), 3);
     assert_eq!(rt; map.node_count(), 4);
     map.remove_children(&(0, 12));
     assert_eq!(rt; map.node_count(), 1);
-    assert!(rt; map.insert((0, 6), 4).is_ok());
-    assert!(rt; map.insert((0x0400_0000, 6), 5).is_ok());
+}
+
+#[test]
+fn keeps_a_neighbour(rt: HostRuntime) {
+    let mut map = plain_map_of(&rt, rt.alloc(), &[((0, 6), 4), ((0x0400_0000, 6), 5)]);
     map.remove_children(&(0, 6));
-    assert_eq!(rt; map.len(), 1);
-    assert_eq!(rt; map.node_count(), 2);
-    assert_eq!(rt; map.get(&(0x0400_0000, 6)).copied(), Some(5));
+    counts(&rt, &map, 1, 2);
+    has(&rt, &map, &[((0x0400_0000, 6), 5)]);
+}
+
+/// Stores the last but one of all keys of 128 bits.
+fn store_one(rt: &impl Abort, map: &mut PrefixMap<(u128, u8), u32>, value: u32) {
+    assert!(rt; map.insert((1, 128), value).is_ok());
+}
+
+/// The map has no entry, and its root alone.
+fn is_new(rt: &impl Abort, map: &PrefixMap<(u128, u8), u32>) {
+    assert!(rt; map.is_empty());
+    assert_eq!(rt; map.node_count(), 1);
+}
+
+#[test]
+fn inside_all(rt: HostRuntime) {
+    let mut map: PrefixMap<(u128, u8), u32> = PrefixMap::new(rt.alloc()).expect(&rt, "a map");
+    store_one(&rt, &mut map, 1);
+    assert!(rt; map.insert((0, 0), 2).is_ok());
+    assert_eq!(rt; map.remove_keep_tree(&(1, 128)), Some(1));
+    map.remove_children(&(1, 0));
+    is_new(&rt, &map);
+    store_one(&rt, &mut map, 3);
 }
 
 #[test]
 fn all_of_it(rt: HostRuntime) {
     let mut map: PrefixMap<(u128, u8), u32> = PrefixMap::new(rt.alloc()).expect(&rt, "a map");
-    assert!(rt; map.insert((1, 128), 1).is_ok());
-    assert!(rt; map.insert((0, 0), 2).is_ok());
-    assert_eq!(rt; map.remove_keep_tree(&(1, 128)), Some(1));
-    map.remove_children(&(1, 0));
-    assert!(rt; map.is_empty());
-    assert_eq!(rt; map.node_count(), 1);
-    assert!(rt; map.insert((1, 128), 3).is_ok());
+    store_one(&rt, &mut map, 3);
     map.clear();
-    assert!(rt; map.is_empty());
-    assert_eq!(rt; map.node_count(), 1);
-    assert!(rt; map.insert((1, 128), 4).is_ok());
+    is_new(&rt, &map);
+    store_one(&rt, &mut map, 4);
     assert_eq!(rt; map.get(&(1, 128)).copied(), Some(4));
+}
+
+/// Keeps each entry, and answers the values that it was asked of, one after another as digits.
+fn kept_values(map: &mut PrefixMap<(u32, u8), u32>) -> u32 {
+    let mut asked = 0u32;
+    map.retain(|_, value| {
+        asked = asked.wrapping_mul(10).wrapping_add(*value);
+        true
+    });
+    asked
 }
 
 #[test]
 fn asks_in_order(rt: HostRuntime) {
-    let mut map: PrefixMap<(u32, u8), u32> = PrefixMap::new(rt.alloc()).expect(&rt, "a map");
-    assert!(rt; map.insert((0x0a01_0000, 16), 3).is_ok());
-    assert!(rt; map.insert((0x0a00_0000, 8), 1).is_ok());
-    assert!(rt; map.insert((0x0a00_0000, 16), 2).is_ok());
+    let stored = [
+        ((0x0a01_0000, 16), 3),
+        ((0x0a00_0000, 8), 1),
+        ((0x0a00_0000, 16), 2),
+    ];
+    let mut map = plain_map_of(&rt, rt.alloc(), &stored);
     let mut asked = 0u32;
     map.retain(|key, value| {
         asked = asked.wrapping_mul(100).wrapping_add(u32::from(key.1));
         *value != 2
     });
     assert_eq!(rt; asked, 81616);
-    let mut asked = 0u32;
-    map.retain(|_, value| {
-        asked = asked.wrapping_mul(10).wrapping_add(*value);
-        true
-    });
-    assert_eq!(rt; asked, 13);
-    assert_eq!(rt; map.len(), 2);
-    assert_eq!(rt; map.node_count(), 4);
+    assert_eq!(rt; kept_values(&mut map), 13);
+    counts(&rt, &map, 2, 4);
+}
+
+#[test]
+fn nothing_is_kept(rt: HostRuntime) {
+    let stored = [((0x0a01_0000, 16), 3), ((0x0a00_0000, 8), 1)];
+    let mut map = plain_map_of(&rt, rt.alloc(), &stored);
     map.retain(|_, _| false);
+    counts(&rt, &map, 0, 1);
     assert!(rt; map.is_empty());
-    assert_eq!(rt; map.node_count(), 1);
 }
 
 #[test]
 fn tidies(rt: HostRuntime) {
-    let mut map: PrefixMap<(u32, u8), u32> = PrefixMap::new(rt.alloc()).expect(&rt, "a map");
-    assert!(rt; map.insert((0x0a00_0000, 8), 1).is_ok());
-    assert!(rt; map.insert((0x0a01_0000, 16), 2).is_ok());
-    assert!(rt; map.insert((0xffff_ffff, 32), 3).is_ok());
-    assert_eq!(rt; map.remove_keep_tree(&(0x0a01_0000, 16)), Some(2));
-    assert_eq!(rt; map.remove_keep_tree(&(0xffff_ffff, 32)), Some(3));
+    let stored = [
+        ((0x0a00_0000, 8), 1),
+        ((0x0a01_0000, 16), 2),
+        ((0xffff_ffff, 32), 3),
+    ];
+    let mut map = plain_map_of(&rt, rt.alloc(), &stored);
+    keep_tree(&rt, &mut map, (0x0a01_0000, 16), 2);
+    keep_tree(&rt, &mut map, (0xffff_ffff, 32), 3);
     assert_eq!(rt; map.node_count(), 10);
     map.retain(|_, _| true);
-    assert_eq!(rt; map.len(), 1);
-    assert_eq!(rt; map.node_count(), 2);
-    assert_eq!(rt; map.get(&(0x0a00_0000, 8)).copied(), Some(1));
+    counts(&rt, &map, 1, 2);
+    has(&rt, &map, &[((0x0a00_0000, 8), 1)]);
+}
+
+/// 10.0.0.0/8 with 1, and three spare nodes: one at its end, and below it one for 10.1.0.0/16 and one for 10.2.0.0/16.
+fn ten_and_spares(rt: &impl Abort, alloc: Global) -> PrefixMap<(u32, u8), u32> {
+    let stored = [
+        ((0x0a00_0000, 8), 1),
+        ((0x0a01_0000, 16), 2),
+        ((0x0a02_0000, 16), 3),
+    ];
+    let mut map = plain_map_of(rt, alloc, &stored);
+    keep_tree(rt, &mut map, (0x0a01_0000, 16), 2);
+    keep_tree(rt, &mut map, (0x0a02_0000, 16), 3);
+    assert_eq!(rt; map.node_count(), 5);
+    map
+}
+
+/// A search for the key visits so many nodes.
+fn visits(rt: &impl Abort, map: &PrefixMap<(u32, u8), u32>, key: (u32, u8), visits: u32) {
+    assert!(rt; key.1 <= 32);
+    assert_eq!(rt; map.get_lpm_visits(&key).1, visits);
 }
 
 #[test]
-fn prunes_the_way_alone(rt: HostRuntime) {
-    let mut map: PrefixMap<(u32, u8), u32> = PrefixMap::new(rt.alloc()).expect(&rt, "a map");
-    assert!(rt; map.insert((0x0a00_0000, 8), 1).is_ok());
-    assert!(rt; map.insert((0x0a01_0000, 16), 2).is_ok());
-    assert!(rt; map.insert((0x0a02_0000, 16), 3).is_ok());
-    assert_eq!(rt; map.remove_keep_tree(&(0x0a01_0000, 16)), Some(2));
-    assert_eq!(rt; map.remove_keep_tree(&(0x0a02_0000, 16)), Some(3));
-    assert_eq!(rt; map.node_count(), 5);
-    assert_eq!(rt; map.get_lpm_visits(&(0x0a01_0000, 16)).1, 4);
+fn remove_prunes_the_way_alone(rt: HostRuntime) {
+    let mut map = ten_and_spares(&rt, rt.alloc());
+    visits(&rt, &map, (0x0a01_0000, 16), 4);
     assert_eq!(rt; map.remove(&(0x0a01_0000, 16)), None);
     assert_eq!(rt; map.node_count(), 4);
-    assert_eq!(rt; map.get_lpm_visits(&(0x0a01_0000, 16)).1, 3);
-    assert_eq!(rt; map.get_lpm_visits(&(0x0a02_0000, 16)).1, 4);
+    visits(&rt, &map, (0x0a01_0000, 16), 3);
+    visits(&rt, &map, (0x0a02_0000, 16), 4);
+}
+
+#[test]
+fn remove_children_prunes_the_way_alone(rt: HostRuntime) {
+    let mut map = ten_and_spares(&rt, rt.alloc());
+    assert_eq!(rt; map.remove(&(0x0a01_0000, 16)), None);
     map.remove_children(&(0x0a04_0000, 16));
     assert_eq!(rt; map.node_count(), 4);
     map.remove_children(&(0x0a02_0000, 16));
     assert_eq!(rt; map.node_count(), 2);
-    assert_eq!(rt; map.get(&(0x0a00_0000, 8)).copied(), Some(1));
+    has(&rt, &map, &[((0x0a00_0000, 8), 1)]);
 }

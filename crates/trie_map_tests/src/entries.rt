@@ -1,5 +1,5 @@
 //! Rows on entries.
-use crate::lookups::net;
+use crate::maps::{map_of, net};
 use ipnet::Ipv4Net;
 use std::alloc::Global;
 use std::process::Abort;
@@ -17,22 +17,31 @@ fn has_ten(rt: &impl Abort, map: &PrefixMap<Ipv4Net, u32>, value: u32) {
 }
 
 #[test]
-fn keys_of_entries(rt: HostRuntime) {
+fn the_key_of_a_vacant_entry(rt: HostRuntime) {
     let mut map = empty(&rt, rt.alloc());
     let entry = map.entry(net(&rt, "10.1.2.3/16"));
     assert_eq!(rt; entry.key().to_text().as_slice(), "10.1.2.3/16".as_bytes());
     assert!(rt; entry.get().is_none());
     assert!(rt; entry.or_insert(7).is_ok());
+}
+
+#[test]
+fn the_key_of_a_stored_entry(rt: HostRuntime) {
+    let mut map = map_of(&rt, rt.alloc(), &[("10.1.2.3/16", 7)]);
     let entry = map.entry(net(&rt, "10.1.2.3/16"));
     assert_eq!(rt; entry.key().to_text().as_slice(), "10.1.0.0/16".as_bytes());
     assert_eq!(rt; entry.get().copied(), Some(7));
 }
 
 #[test]
-fn stored_in_an_empty_map(rt: HostRuntime) {
+fn or_insert_into_an_empty_map(rt: HostRuntime) {
     let mut map = empty(&rt, rt.alloc());
     assert!(rt; matches!(map.entry(net(&rt, "10.1.2.3/8")).or_insert(1), Ok(1)));
     has_ten(&rt, &map, 1);
+}
+
+#[test]
+fn or_insert_with_into_an_empty_map(rt: HostRuntime) {
     let mut map = empty(&rt, rt.alloc());
     assert!(rt;
         matches!(
@@ -41,9 +50,17 @@ fn stored_in_an_empty_map(rt: HostRuntime) {
         )
     );
     has_ten(&rt, &map, 2);
+}
+
+#[test]
+fn or_default_into_an_empty_map(rt: HostRuntime) {
     let mut map = empty(&rt, rt.alloc());
     assert!(rt; matches!(map.entry(net(&rt, "10.1.2.3/8")).or_default(), Ok(0)));
     has_ten(&rt, &map, 0);
+}
+
+#[test]
+fn a_vacant_entry_stores(rt: HostRuntime) {
     let mut map = empty(&rt, rt.alloc());
     let Entry::Vacant(entry) = map.entry(net(&rt, "10.1.2.3/8")) else {
         panic!(&rt; "occupied")
@@ -51,12 +68,20 @@ fn stored_in_an_empty_map(rt: HostRuntime) {
     assert_eq!(rt; entry.key().to_text().as_slice(), "10.1.2.3/8".as_bytes());
     assert!(rt; matches!(entry.insert(3), Ok(3)));
     has_ten(&rt, &map, 3);
+}
+
+#[test]
+fn a_vacant_entry_stores_what_a_closure_gives(rt: HostRuntime) {
     let mut map = empty(&rt, rt.alloc());
     let Entry::Vacant(entry) = map.entry(net(&rt, "10.1.2.3/8")) else {
         panic!(&rt; "occupied")
     };
     assert!(rt; matches!(entry.insert_with(|| 4), Ok(4)));
     has_ten(&rt, &map, 4);
+}
+
+#[test]
+fn a_vacant_entry_stores_the_default(rt: HostRuntime) {
     let mut map = empty(&rt, rt.alloc());
     let Entry::Vacant(entry) = map.entry(net(&rt, "10.1.2.3/8")) else {
         panic!(&rt; "occupied")
@@ -66,21 +91,36 @@ fn stored_in_an_empty_map(rt: HostRuntime) {
 }
 
 #[test]
-fn written_and_taken_out(rt: HostRuntime) {
+fn or_insert_lends_what_it_stored(rt: HostRuntime) {
     let mut map = empty(&rt, rt.alloc());
     if let Ok(value) = map.entry(net(&rt, "10.0.0.0/8")).or_insert(1) {
         *value = 5;
     }
     has_ten(&rt, &map, 5);
+}
+
+#[test]
+fn or_insert_keeps_what_is_stored(rt: HostRuntime) {
+    let mut map = map_of(&rt, rt.alloc(), &[("10.0.0.0/8", 5)]);
     assert!(rt; matches!(map.entry(net(&rt, "10.0.0.0/8")).or_insert(9), Ok(5)));
     let entry = map
         .entry(net(&rt, "10.0.0.0/8"))
         .and_modify(|value| *value = 6);
     assert_eq!(rt; entry.get().copied(), Some(6));
+}
+
+#[test]
+fn an_entry_lends_its_value(rt: HostRuntime) {
+    let mut map = map_of(&rt, rt.alloc(), &[("10.0.0.0/8", 6)]);
     if let Some(value) = map.entry(net(&rt, "10.0.0.0/8")).get_mut() {
         *value = 7;
     }
     has_ten(&rt, &map, 7);
+}
+
+#[test]
+fn an_occupied_entry_is_written(rt: HostRuntime) {
+    let mut map = map_of(&rt, rt.alloc(), &[("10.0.0.0/8", 7)]);
     let Entry::Occupied(mut entry) = map.entry(net(&rt, "10.9.9.9/8")) else {
         panic!(&rt; "vacant")
     };
@@ -89,6 +129,12 @@ fn written_and_taken_out(rt: HostRuntime) {
     *entry.get_mut() = 10;
     assert_eq!(rt; *entry.get(), 10);
     *entry.into_mut() = 11;
+    has_ten(&rt, &map, 11);
+}
+
+#[test]
+fn an_occupied_entry_is_taken_out(rt: HostRuntime) {
+    let mut map = map_of(&rt, rt.alloc(), &[("10.0.0.0/8", 11)]);
     let Entry::Occupied(entry) = map.entry(net(&rt, "10.9.9.9/8")) else {
         panic!(&rt; "vacant")
     };
@@ -151,26 +197,29 @@ fn written_after_a_store(rt: HostRuntime) {
 
 /// 10.0.0.0/8 with 1, 10.1.0.0/16 with 2, and two spare nodes.
 fn two_and_spares(rt: &impl Abort, alloc: Global) -> PrefixMap<Ipv4Net, u32> {
-    let mut map = empty(rt, alloc);
-    assert!(rt; map.insert(net(rt, "10.0.0.0/8"), 1).is_ok());
-    assert!(rt; map.insert(net(rt, "10.1.0.0/16"), 2).is_ok());
-    assert!(rt; map.insert(net(rt, "10.2.3.0/24"), 3).is_ok());
+    let stored = [("10.0.0.0/8", 1), ("10.1.0.0/16", 2), ("10.2.3.0/24", 3)];
+    let mut map = map_of(rt, alloc, &stored);
     assert_eq!(rt; map.remove_keep_tree(&net(rt, "10.2.3.0/24")), Some(3));
     is_whole(rt, &map, &[("10.0.0.0/8", 1), ("10.1.0.0/16", 2)], 6);
     map
 }
 
 #[test]
-fn nothing_is_lent(rt: HostRuntime) {
+fn no_match_is_lent(rt: HostRuntime) {
     let mut map = two_and_spares(&rt, rt.alloc());
     assert!(rt; map.get_lpm_mut(&net(&rt, "11.0.0.0/8")).is_none());
     is_whole(&rt, &map, &[("10.0.0.0/8", 1), ("10.1.0.0/16", 2)], 6);
+}
+
+#[test]
+fn no_entry_is_lent(rt: HostRuntime) {
+    let mut map = two_and_spares(&rt, rt.alloc());
     assert!(rt; map.entry(net(&rt, "10.2.3.0/24")).get_mut().is_none());
     is_whole(&rt, &map, &[("10.0.0.0/8", 1), ("10.1.0.0/16", 2)], 6);
 }
 
 #[test]
-fn one_value_is_lent(rt: HostRuntime) {
+fn one_match_is_lent(rt: HostRuntime) {
     let mut map = two_and_spares(&rt, rt.alloc());
     let Some((key, value)) = map.get_lpm_mut(&net(&rt, "10.2.3.4/32")) else {
         panic!(&rt; "no match")
@@ -178,10 +227,15 @@ fn one_value_is_lent(rt: HostRuntime) {
     assert_eq!(rt; key.to_text().as_slice(), "10.0.0.0/8".as_bytes());
     *value = 7;
     is_whole(&rt, &map, &[("10.0.0.0/8", 7), ("10.1.0.0/16", 2)], 6);
+}
+
+#[test]
+fn one_entry_is_lent(rt: HostRuntime) {
+    let mut map = two_and_spares(&rt, rt.alloc());
     if let Some(value) = map.entry(net(&rt, "10.1.0.0/16")).get_mut() {
         *value = 8;
     }
-    is_whole(&rt, &map, &[("10.0.0.0/8", 7), ("10.1.0.0/16", 8)], 6);
+    is_whole(&rt, &map, &[("10.0.0.0/8", 1), ("10.1.0.0/16", 8)], 6);
 }
 
 /// The map is empty and has its root alone, or it has 1.2.3.0/32 below five more nodes, with this value.
@@ -203,12 +257,17 @@ fn answered(rt: &impl Abort, outcome: Result<&mut u32, (Refused, u32)>, value: u
     }
 }
 
-/// Each request for memory of a call that stores may be refused: the map is as it was, and the value comes back.
+// Each request for memory of a call that stores may be refused: the map is as it was, and the value comes back.
+
 #[test]
-fn refused_entries(rt: HostRuntime) {
+fn or_insert_is_refused(rt: HostRuntime) {
     let mut map = empty(&rt, rt.alloc());
     let stored = answered(&rt, map.entry(net(&rt, "1.2.3.0/32")).or_insert(1), 1);
     is_refused_or_stored(&rt, &map, stored);
+}
+
+#[test]
+fn or_insert_with_is_refused(rt: HostRuntime) {
     let mut map = empty(&rt, rt.alloc());
     let stored = answered(
         &rt,
@@ -216,21 +275,37 @@ fn refused_entries(rt: HostRuntime) {
         2,
     );
     is_refused_or_stored(&rt, &map, stored);
+}
+
+#[test]
+fn or_default_is_refused(rt: HostRuntime) {
     let mut map = empty(&rt, rt.alloc());
     let stored = answered(&rt, map.entry(net(&rt, "1.2.3.0/32")).or_default(), 0);
     is_refused_or_stored(&rt, &map, stored);
+}
+
+#[test]
+fn a_vacant_entry_is_refused(rt: HostRuntime) {
     let mut map = empty(&rt, rt.alloc());
     let Entry::Vacant(entry) = map.entry(net(&rt, "1.2.3.0/32")) else {
         panic!(&rt; "occupied")
     };
     let stored = answered(&rt, entry.insert(3), 3);
     is_refused_or_stored(&rt, &map, stored);
+}
+
+#[test]
+fn what_a_closure_gives_is_refused(rt: HostRuntime) {
     let mut map = empty(&rt, rt.alloc());
     let Entry::Vacant(entry) = map.entry(net(&rt, "1.2.3.0/32")) else {
         panic!(&rt; "occupied")
     };
     let stored = answered(&rt, entry.insert_with(|| 4), 4);
     is_refused_or_stored(&rt, &map, stored);
+}
+
+#[test]
+fn the_default_is_refused(rt: HostRuntime) {
     let mut map = empty(&rt, rt.alloc());
     let Entry::Vacant(entry) = map.entry(net(&rt, "1.2.3.0/32")) else {
         panic!(&rt; "occupied")

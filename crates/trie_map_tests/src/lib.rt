@@ -7,3 +7,7 @@ mod changes;
 mod entries;
 #[cfg(test)]
 mod lookups;
+#[cfg(test)]
+mod maps;
+#[cfg(test)]
+mod walks;

@@ -1,0 +1,86 @@
+//! Maps that the tests ask, and what they compare.
+ghost use Rattle.std.specs.Iterator.{IsFinite};
+
+use ipnet::{Ipv4Net, Ipv6Net};
+use std::alloc::Global;
+use std::process::Abort;
+use std::str::FromStr;
+use trie_map::PrefixMap;
+
+/// An IPv4 network.
+pub(crate) fn net(rt: &impl Abort, text: &str) -> Ipv4Net {
+    Ipv4Net::from_str(text).expect(rt, "a network")
+}
+
+/// An IPv6 network.
+pub(crate) fn wide_net(rt: &impl Abort, text: &str) -> Ipv6Net {
+    Ipv6Net::from_str(text).expect(rt, "a network")
+}
+
+/// A map of these IPv4 networks, stored in this order.
+pub(crate) fn map_of(
+    rt: &impl Abort,
+    alloc: Global,
+    networks: &[(&str, u32)],
+) -> PrefixMap<Ipv4Net, u32> {
+    let mut map = PrefixMap::new(alloc).expect(rt, "a map");
+    for (network, value) in networks.iter() {
+        assert!(rt; map.insert(net(rt, network), *value).is_ok());
+    }
+    map
+}
+
+/// A map of these IPv6 networks, stored in this order.
+pub(crate) fn wide_map_of(
+    rt: &impl Abort,
+    alloc: Global,
+    networks: &[(&str, u32)],
+) -> PrefixMap<Ipv6Net, u32> {
+    let mut map = PrefixMap::new(alloc).expect(rt, "a map");
+    for (network, value) in networks.iter() {
+        assert!(rt; map.insert(wide_net(rt, network), *value).is_ok());
+    }
+    map
+}
+
+/// A map of these keys of 32 bits, stored in this order.
+pub(crate) fn plain_map_of(
+    rt: &impl Abort,
+    alloc: Global,
+    keys: &[((u32, u8), u32)],
+) -> PrefixMap<(u32, u8), u32> {
+    let mut map = PrefixMap::new(alloc).expect(rt, "a map");
+    for (key, value) in keys.iter() {
+        assert!(rt; key.1 <= 32);
+        assert!(rt; map.insert(*key, *value).is_ok());
+    }
+    map
+}
+
+/// A network was found, and this is its text.
+pub(crate) fn is_key(rt: &impl Abort, found: Option<Ipv4Net>, text: &str) {
+    let key = found.expect(rt, "a key");
+    assert_eq!(rt; key.to_text().as_slice(), text.as_bytes());
+}
+
+/// The values of entries, one after another, as the digits of a number.
+pub(crate) fn digits<'a, K: Drop, I: Iterator<Item = (K, &'a u32)>>(entries: I) -> u32
+    requires { I.can_next entries × IsFinite (I.remaining entries) }
+{
+    let mut digits = 0u32;
+    for (_, value) in entries {
+        digits = digits.wrapping_mul(10).wrapping_add(*value);
+    }
+    digits
+}
+
+/// The same of values alone.
+pub(crate) fn value_digits<'a, I: Iterator<Item = &'a u32>>(values: I) -> u32
+    requires { I.can_next values × IsFinite (I.remaining values) }
+{
+    let mut digits = 0u32;
+    for value in values {
+        digits = digits.wrapping_mul(10).wrapping_add(*value);
+    }
+    digits
+}
