@@ -189,7 +189,7 @@ fn taken_out_of_ipv6(rt: HostRuntime) {
 
 #[test]
 fn replaced(rt: HostRuntime) {
-    let mut map = map_of(&rt, rt.alloc(), &[]);
+    let mut map: PrefixMap<Ipv4Net, u32> = PrefixMap::new(rt.alloc()).expect(&rt, "a map");
     assert!(rt; matches!(map.insert(net(&rt, "192.168.1.0/24"), 2), Ok(None)));
     assert!(rt; matches!(map.insert(net(&rt, "192.168.1.77/24"), 3), Ok(Some(2))));
     assert_eq!(rt; map.len(), 1);
