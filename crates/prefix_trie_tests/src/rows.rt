@@ -42,17 +42,38 @@ fn digits<I: Iterator<Item = (u32, u8)>>(members: I) -> u32
     digits
 }
 
-/// 10.9.0.0/16, 10.1.0.0/16 and 10.7.7.7/8.
-fn three(rt: &impl Abort, alloc: Global) -> PrefixSet<(u32, u8)> {
+/// A set that these members were put into, one after another.
+fn set_with(rt: &impl Abort, alloc: Global, members: &[(u32, u8)]) -> PrefixSet<(u32, u8)> {
     let mut set = PrefixSet::new(alloc).expect(rt, "a set");
-    assert!(rt; matches!(set.insert((0x0a09_0000, 16)), Ok(true)));
-    assert!(rt; matches!(set.insert((0x0a01_0000, 16)), Ok(true)));
-    assert!(rt; matches!(set.insert((0x0a07_0707, 8)), Ok(true)));
+    for member in members.iter() {
+        assert!(rt; member.1 <= 32);
+        assert!(rt; matches!(set.insert(*member), Ok(true)));
+    }
     set
 }
 
+/// 10.9.0.0/16, 10.1.0.0/16 and 10.7.7.7/8.
+fn three(rt: &impl Abort, alloc: Global) -> PrefixSet<(u32, u8)> {
+    let members = [(0x0a09_0000, 16), (0x0a01_0000, 16), (0x0a07_0707, 8)];
+    set_with(rt, alloc, &members)
+}
+
+/// The set has so many members and nodes.
+fn counts(rt: &impl Abort, set: &PrefixSet<(u32, u8)>, members: usize, nodes: usize) {
+    assert_eq!(rt; set.len(), members);
+    assert_eq!(rt; set.node_count(), nodes);
+}
+
+/// The map has these entries.
+fn has(rt: &impl Abort, map: &PrefixMap<(u32, u8), u32>, entries: &[((u32, u8), u32)]) {
+    for (key, value) in entries.iter() {
+        assert!(rt; key.1 <= 32);
+        assert_eq!(rt; map.get(key).copied(), Some(*value));
+    }
+}
+
 #[test]
-fn in_and_out(rt: HostRuntime) {
+fn stored_once(rt: HostRuntime) {
     let mut set: PrefixSet<(u32, u8)> = PrefixSet::new(rt.alloc()).expect(&rt, "a set");
     assert!(rt; matches!(set.insert((0x0a00_0000, 8)), Ok(true)));
     assert!(rt; matches!(set.insert((0x0a00_0000, 8)), Ok(false)));
@@ -60,6 +81,11 @@ fn in_and_out(rt: HostRuntime) {
     assert!(rt; !set.contains(&(0x0a00_0000, 9)));
     assert_eq!(rt; set.len(), 1);
     assert_eq!(rt; set.node_count(), 2);
+}
+
+#[test]
+fn taken_out_once(rt: HostRuntime) {
+    let mut set = set_with(&rt, rt.alloc(), &[(0x0a00_0000, 8)]);
     assert!(rt; set.remove(&(0x0a00_0000, 8)));
     assert!(rt; !set.remove(&(0x0a00_0000, 8)));
     assert!(rt; set.is_empty());
@@ -87,51 +113,100 @@ fn made_of_members(rt: HostRuntime) {
 }
 
 #[test]
-fn searched_and_walked(rt: HostRuntime) {
-    let mut set = three(&rt, rt.alloc());
+fn searched(rt: HostRuntime) {
+    let set = three(&rt, rt.alloc());
     assert!(rt; matches!(set.get(&(0x0a01_0203, 16)), Some((0x0a01_0000, 16))));
     assert!(rt; matches!(set.get_lpm(&(0x0a01_0203, 32)), Some((0x0a01_0000, 16))));
     assert!(rt; matches!(set.get_spm(&(0x0a01_0203, 32)), Some((0x0a00_0000, 8))));
+}
+
+#[test]
+fn covered(rt: HostRuntime) {
+    let set = three(&rt, rt.alloc());
     assert!(rt; set.is_covered(&(0x0a02_0000, 16)));
     assert!(rt; !set.is_covered(&(0x0b00_0000, 8)));
+}
+
+#[test]
+fn walked(rt: HostRuntime) {
+    let set = three(&rt, rt.alloc());
     assert_eq!(rt; digits(set.iter()), 1019);
     assert_eq!(rt; digits((&set).into_iter()), 1019);
+}
+
+#[test]
+fn walked_onwards(rt: HostRuntime) {
+    let set = three(&rt, rt.alloc());
     assert_eq!(rt; digits(set.iter_from(&(0x0a00_0000, 8), false)), 119);
     assert_eq!(rt; digits(set.iter_from(&(0x0a01_0000, 16), true)), 119);
+}
+
+#[test]
+fn walked_inside_and_above(rt: HostRuntime) {
+    let set = three(&rt, rt.alloc());
     assert_eq!(rt; digits(set.children(&(0x0a00_0000, 12))), 119);
     assert_eq!(rt; digits(set.cover(&(0x0a09_0909, 32))), 109);
+}
+
+#[test]
+fn walked_twice(rt: HostRuntime) {
+    let set = three(&rt, rt.alloc());
     let mut members = set.iter();
     assert!(rt; members.next().is_some());
     let Ok(copy) = members.clone() else {
         panic!(&rt; "no copy")
     };
     assert_eq!(rt; digits(copy), 119);
+}
+
+#[test]
+fn taken_out_inside(rt: HostRuntime) {
+    let mut set = three(&rt, rt.alloc());
     assert!(rt; set.remove_keep_tree(&(0x0a01_0000, 16)));
     assert_eq!(rt; set.node_count(), 5);
     set.remove_children(&(0x0a00_0000, 9));
-    assert_eq!(rt; set.len(), 1);
-    assert_eq!(rt; set.node_count(), 2);
+    counts(&rt, &set, 1, 2);
+}
+
+#[test]
+fn cleared(rt: HostRuntime) {
+    let mut set = set_with(&rt, rt.alloc(), &[(0x0a07_0707, 8)]);
     set.clear();
     assert!(rt; set.is_empty());
     assert_eq!(rt; set.node_count(), 1);
 }
 
 #[test]
-fn addresses(rt: HostRuntime) {
-    let mut set: PrefixSet<(u32, u8)> = PrefixSet::new(rt.alloc()).expect(&rt, "a set");
+fn addresses_of_none(rt: HostRuntime) {
+    let set: PrefixSet<(u32, u8)> = PrefixSet::new(rt.alloc()).expect(&rt, "a set");
     assert_eq!(rt; set.address_count(), Some(0));
-    assert!(rt; set.insert((0xc000_0200, 24)).is_ok());
-    assert!(rt; set.insert((0xc000_0280, 25)).is_ok());
-    assert!(rt; set.insert((0xc633_6400, 24)).is_ok());
+}
+
+#[test]
+fn addresses_count_once(rt: HostRuntime) {
+    let members = [(0xc000_0200, 24), (0xc000_0280, 25), (0xc633_6400, 24)];
+    let set = set_with(&rt, rt.alloc(), &members);
     assert_eq!(rt; set.address_count(), Some(512));
+}
+
+#[test]
+fn addresses_of_halves(rt: HostRuntime) {
     let mut halves: PrefixSet<(u128, u8)> = PrefixSet::new(rt.alloc()).expect(&rt, "a set");
     assert!(rt; halves.insert((0, 1)).is_ok());
     assert_eq!(rt; halves.address_count(), Some(1 << 127));
     assert!(rt; halves.insert((1 << 127, 1)).is_ok());
     assert_eq!(rt; halves.address_count(), None);
+}
+
+#[test]
+fn addresses_of_all(rt: HostRuntime) {
     let mut all: PrefixMap<(u128, u8), u32> = PrefixMap::new(rt.alloc()).expect(&rt, "a map");
     assert!(rt; all.insert((0, 0), 1).is_ok());
     assert_eq!(rt; all.address_count(), None);
+}
+
+#[test]
+fn addresses_of_eight_bits(rt: HostRuntime) {
     let mut small: PrefixMap<(u8, u8), u32> = PrefixMap::new(rt.alloc()).expect(&rt, "a map");
     assert!(rt; small.insert((0, 1), 1).is_ok());
     assert!(rt; small.insert((0x80, 1), 2).is_ok());
@@ -140,27 +215,62 @@ fn addresses(rt: HostRuntime) {
     assert_eq!(rt; small.address_count(), Some(128));
 }
 
-#[test]
-fn copied(rt: HostRuntime) {
+/// 10.0.0.0/8 with 3, which was stored twice, and 10.1.0.0/16 with 2.
+fn two_entries(rt: &impl Abort, alloc: Global) -> PrefixMap<(u32, u8), u32> {
     let entries = [
         ((0x0a00_0000, 8), 1),
         ((0x0a01_0000, 16), 2),
         ((0x0a09_0909, 8), 3),
     ];
-    let mut map = map_of(&rt, rt.alloc(), entries).expect(&rt, "a map");
+    map_of(rt, alloc, entries).expect(rt, "a map")
+}
+
+/// 10.0.0.0/8 with 3, and the spare nodes of 10.1.0.0/16.
+fn one_and_spares(rt: &impl Abort, alloc: Global) -> PrefixMap<(u32, u8), u32> {
+    let mut map = two_entries(rt, alloc);
+    assert_eq!(rt; map.remove_keep_tree(&(0x0a01_0000, 16)), Some(2));
+    map
+}
+
+#[test]
+fn made_of_entries(rt: HostRuntime) {
+    let map = two_entries(&rt, rt.alloc());
     assert_eq!(rt; map.len(), 2);
     assert_eq!(rt; map.get(&(0x0a00_0000, 8)).copied(), Some(3));
     assert_eq!(rt; map.node_count(), 4);
-    assert_eq!(rt; map.remove_keep_tree(&(0x0a01_0000, 16)), Some(2));
+}
+
+#[test]
+fn copied(rt: HostRuntime) {
+    let map = one_and_spares(&rt, rt.alloc());
     let copy = map.try_clone(rt.alloc()).expect(&rt, "a copy");
     assert!(rt; copy == map);
     assert_eq!(rt; copy.node_count(), 4);
+}
+
+#[test]
+fn equal_by_values(rt: HostRuntime) {
+    let mut map = one_and_spares(&rt, rt.alloc());
+    let copy = map.try_clone(rt.alloc()).expect(&rt, "a copy");
     assert!(rt; map.insert((0x0a00_0000, 8), 4).is_ok());
     assert!(rt; copy != map);
     assert!(rt; map.insert((0x0a00_0000, 8), 3).is_ok());
+    assert!(rt; copy == map);
+}
+
+#[test]
+fn equal_without_spares(rt: HostRuntime) {
+    let mut map = one_and_spares(&rt, rt.alloc());
+    let copy = map.try_clone(rt.alloc()).expect(&rt, "a copy");
     assert_eq!(rt; map.remove(&(0x0a01_0000, 16)), None);
     assert_eq!(rt; map.node_count(), 2);
     assert!(rt; copy == map);
+}
+
+#[test]
+fn unequal_by_one_more(rt: HostRuntime) {
+    let mut map = one_and_spares(&rt, rt.alloc());
+    let copy = map.try_clone(rt.alloc()).expect(&rt, "a copy");
     assert!(rt; map.insert((0x0a00_0000, 9), 3).is_ok());
     assert!(rt; copy != map);
     assert!(rt; map != copy);
@@ -176,7 +286,6 @@ fn sets_copied(rt: HostRuntime) {
     assert!(rt; members.next().is_some());
 }
 
-/// Each request for memory may be refused: the set is as it was.
 #[test]
 fn errors(rt: HostRuntime) -> Result<(), Fail> {
     assert_eq!(rt;
@@ -190,6 +299,7 @@ fn errors(rt: HostRuntime) -> Result<(), Fail> {
     Ok(())
 }
 
+/// Each request for memory may be refused: the set is as it was.
 #[test]
 fn refused(rt: HostRuntime) {
     let mut set: PrefixSet<(u32, u8)> = PrefixSet::new(rt.alloc()).expect(&rt, "a set");
@@ -270,57 +380,98 @@ fn dropped_outside(rt: HostRuntime) {
     assert_eq!(rt; drops.get(), 3);
 }
 
-#[test]
-fn owned(rt: HostRuntime) {
+/// The values that are left, one after another, as digits.
+fn value_digits<I: Iterator<Item = u32>>(values: I) -> u32
+    requires { I.can_next values × IsFinite (I.remaining values) }
+{
+    let mut digits = 0u32;
+    for value in values {
+        digits = digits.wrapping_mul(10).wrapping_add(value);
+    }
+    digits
+}
+
+/// Four entries, their values in the order of a walk.
+fn four_entries(rt: &impl Abort, alloc: Global) -> PrefixMap<(u32, u8), u32> {
     let entries = [
         ((0x0a01_0100, 24), 3),
         ((0x0a00_0000, 8), 1),
         ((0x0a01_0000, 16), 2),
         ((0x0b00_0000, 8), 4),
     ];
-    let map = map_of(&rt, rt.alloc(), entries).expect(&rt, "a map");
+    map_of(rt, alloc, entries).expect(rt, "a map")
+}
+
+#[test]
+fn owned_values(rt: HostRuntime) {
+    let map = four_entries(&rt, rt.alloc());
     let copy = map.try_clone(rt.alloc()).expect(&rt, "a copy");
-    let mut values = 0u32;
-    for value in copy.into_values() {
-        values = values.wrapping_mul(10).wrapping_add(value);
-    }
-    assert_eq!(rt; values, 1234);
+    assert_eq!(rt; value_digits(copy.into_values()), 1234);
+}
+
+#[test]
+fn owned_keys(rt: HostRuntime) {
+    let map = four_entries(&rt, rt.alloc());
     let copy = map.try_clone(rt.alloc()).expect(&rt, "a copy");
     assert_eq!(rt; digits(copy.into_keys()), 10110);
+}
+
+#[test]
+fn owned_children(rt: HostRuntime) {
+    let map = four_entries(&rt, rt.alloc());
     let mut values = 0u32;
     for (_, value) in map.into_children(&(0x0a01_0000, 10)) {
         values = values.wrapping_mul(10).wrapping_add(value);
     }
     assert_eq!(rt; values, 23);
+}
+
+#[test]
+fn owned_members(rt: HostRuntime) {
     assert_eq!(rt; digits(three(&rt, rt.alloc()).into_iter()), 1019);
+}
+
+/// 10.0.0.0/8 with 1, and 10.1.0.0/16 with 2.
+fn ten_and_inner(rt: &impl Abort, alloc: Global) -> PrefixMap<(u32, u8), u32> {
+    let entries = [((0x0a00_0000, 8), 1), ((0x0a01_0000, 16), 2)];
+    map_of(rt, alloc, entries).expect(rt, "a map")
 }
 
 #[test]
 fn lent_at_the_longest(rt: HostRuntime) {
-    let entries = [((0x0a00_0000, 8), 1), ((0x0a01_0000, 16), 2)];
-    let mut map = map_of(&rt, rt.alloc(), entries).expect(&rt, "a map");
+    let mut map = ten_and_inner(&rt, rt.alloc());
     let Some((key, value)) = map.get_lpm_mut(&(0x0a01_0203, 32)) else {
         panic!(&rt; "no match")
     };
     assert_eq!(rt; key, (0x0a01_0000, 16));
     assert_eq!(rt; *value, 2);
     *value = 7;
-    assert_eq!(rt; map.get(&(0x0a01_0000, 16)).copied(), Some(7));
-    if let Some(value) = map.get_lpm_value_mut(&(0x0a02_0000, 16)) {
-        *value = 8;
-    }
-    assert_eq!(rt; map.get(&(0x0a00_0000, 8)).copied(), Some(8));
-    assert!(rt; map.get_lpm_mut(&(0x0b00_0000, 8)).is_none());
+    has(&rt, &map, &[((0x0a01_0000, 16), 7)]);
 }
 
 #[test]
-fn lent_in_turn(rt: HostRuntime) {
+fn lent_value_at_the_longest(rt: HostRuntime) {
+    let mut map = ten_and_inner(&rt, rt.alloc());
+    if let Some(value) = map.get_lpm_value_mut(&(0x0a02_0000, 16)) {
+        *value = 8;
+    }
+    has(&rt, &map, &[((0x0a00_0000, 8), 8)]);
+    assert!(rt; map.get_lpm_mut(&(0x0b00_0000, 8)).is_none());
+}
+
+/// Three entries, of which 11.0.0.0/8 is the last.
+fn three_entries(rt: &impl Abort, alloc: Global) -> PrefixMap<(u32, u8), u32> {
     let entries = [
         ((0x0a01_0000, 16), 2),
         ((0x0a00_0000, 8), 1),
         ((0x0b00_0000, 8), 3),
     ];
-    let mut map = map_of(&rt, rt.alloc(), entries).expect(&rt, "a map");
+    map_of(rt, alloc, entries).expect(rt, "a map")
+}
+
+#[test]
+fn lent_in_turn(rt: HostRuntime) {
+    let mut map = three_entries(&rt, rt.alloc());
     let mut entries = map.iter_mut();
     assert!(rt; matches!(entries.key(), Some((0x0a00_0000, 8))));
     if let Some(value) = entries.next() {
@@ -330,27 +481,56 @@ fn lent_in_turn(rt: HostRuntime) {
     if let Some(value) = entries.next() {
         *value = value.wrapping_add(20);
     }
-    assert!(rt; entries.next().is_some());
+    has(
+        &rt,
+        &map,
+        &[
+            ((0x0a00_0000, 8), 11),
+            ((0x0a01_0000, 16), 22),
+            ((0x0b00_0000, 8), 3),
+        ],
+    );
+}
+
+#[test]
+fn lent_to_the_end(rt: HostRuntime) {
+    let mut map = three_entries(&rt, rt.alloc());
+    let mut entries = map.iter_mut();
+    for _ in 0..3 {
+        assert!(rt; entries.next().is_some());
+    }
     assert!(rt; entries.key().is_none());
     assert!(rt; entries.next().is_none());
-    assert_eq!(rt; map.get(&(0x0a00_0000, 8)).copied(), Some(11));
-    assert_eq!(rt; map.get(&(0x0a01_0000, 16)).copied(), Some(22));
-    assert_eq!(rt; map.get(&(0x0b00_0000, 8)).copied(), Some(3));
+}
+
+#[test]
+fn lent_onwards(rt: HostRuntime) {
+    let entries = [
+        ((0x0a01_0000, 16), 22),
+        ((0x0a00_0000, 8), 11),
+        ((0x0b00_0000, 8), 3),
+    ];
+    let mut map = map_of(&rt, rt.alloc(), entries).expect(&rt, "a map");
     let mut entries = map.iter_from_mut(&(0x0a00_0000, 8), false);
     assert!(rt; matches!(entries.next(), Some(22)));
     let mut entries = map.iter_from_mut(&(0x0a01_0000, 16), true);
     assert!(rt; matches!(entries.next(), Some(22)));
 }
 
-#[test]
-fn lent_inside(rt: HostRuntime) {
+/// Four entries, of which two lie inside 10.1.0.0/16.
+fn two_inside(rt: &impl Abort, alloc: Global) -> PrefixMap<(u32, u8), u32> {
     let entries = [
         ((0x0a01_0000, 16), 2),
         ((0x0a00_0000, 8), 1),
         ((0x0a01_8000, 17), 3),
         ((0x0a02_0000, 16), 4),
     ];
-    let mut map = map_of(&rt, rt.alloc(), entries).expect(&rt, "a map");
+    map_of(rt, alloc, entries).expect(rt, "a map")
+}
+
+#[test]
+fn lent_inside(rt: HostRuntime) {
+    let mut map = two_inside(&rt, rt.alloc());
     let mut entries = map.children_mut(&(0x0a01_0203, 16));
     assert!(rt; matches!(entries.key(), Some((0x0a01_0000, 16))));
     if let Some(value) = entries.next() {
@@ -361,10 +541,21 @@ fn lent_inside(rt: HostRuntime) {
     }
     assert!(rt; entries.key().is_none());
     assert!(rt; entries.next().is_none());
-    assert_eq!(rt; map.get(&(0x0a00_0000, 8)).copied(), Some(1));
-    assert_eq!(rt; map.get(&(0x0a01_0000, 16)).copied(), Some(20));
-    assert_eq!(rt; map.get(&(0x0a01_8000, 17)).copied(), Some(30));
-    assert_eq!(rt; map.get(&(0x0a02_0000, 16)).copied(), Some(4));
+    has(
+        &rt,
+        &map,
+        &[
+            ((0x0a00_0000, 8), 1),
+            ((0x0a01_0000, 16), 20),
+            ((0x0a01_8000, 17), 30),
+            ((0x0a02_0000, 16), 4),
+        ],
+    );
+}
+
+#[test]
+fn lent_first_inside(rt: HostRuntime) {
+    let mut map = two_inside(&rt, rt.alloc());
     assert!(rt; map.children_mut(&(0x0a03_0000, 16)).next().is_none());
     assert!(rt; matches!(map.children_mut(&(0, 0)).next(), Some(1)));
 }
@@ -380,11 +571,15 @@ fn kept_members(rt: HostRuntime) {
     assert_eq!(rt; asked, 81616);
     assert_eq!(rt; digits(set.iter()), 109);
     assert_eq!(rt; set.node_count(), 4);
+}
+
+#[test]
+fn tidied(rt: HostRuntime) {
+    let mut set = set_with(&rt, rt.alloc(), &[(0x0a09_0000, 16), (0x0a07_0707, 8)]);
     assert!(rt; set.remove_keep_tree(&(0x0a09_0000, 16)));
     assert_eq!(rt; set.node_count(), 4);
     set.retain(|_| true);
-    assert_eq!(rt; set.len(), 1);
-    assert_eq!(rt; set.node_count(), 2);
+    counts(&rt, &set, 1, 2);
 }
 
 /// Each request for memory may be refused: then there is no map, and no copy.
