@@ -131,13 +131,23 @@ fn covered(rt: HostRuntime) {
 fn walked(rt: HostRuntime) {
     let set = three(&rt, rt.alloc());
     assert_eq!(rt; digits(set.iter()), 1019);
+}
+
+#[test]
+fn walked_by_reference(rt: HostRuntime) {
+    let set = three(&rt, rt.alloc());
     assert_eq!(rt; digits((&set).into_iter()), 1019);
 }
 
 #[test]
-fn walked_onwards(rt: HostRuntime) {
+fn walked_after_a_member(rt: HostRuntime) {
     let set = three(&rt, rt.alloc());
     assert_eq!(rt; digits(set.iter_from(&(0x0a00_0000, 8), false)), 119);
+}
+
+#[test]
+fn walked_from_a_member(rt: HostRuntime) {
+    let set = three(&rt, rt.alloc());
     assert_eq!(rt; digits(set.iter_from(&(0x0a01_0000, 16), true)), 119);
 }
 

@@ -62,7 +62,7 @@ fn keeps_a_neighbour(rt: HostRuntime) {
     has(&rt, &map, &[((0x0400_0000, 6), 5)]);
 }
 
-/// Stores the last but one of all keys of 128 bits.
+/// Stores a value at the second of all addresses of 128 bits.
 fn store_one(rt: &impl Abort, map: &mut PrefixMap<(u128, u8), u32>, value: u32) {
     assert!(rt; map.insert((1, 128), value).is_ok());
 }
@@ -147,7 +147,7 @@ fn tidies(rt: HostRuntime) {
     has(&rt, &map, &[((0x0a00_0000, 8), 1)]);
 }
 
-/// 10.0.0.0/8 with 1, and three spare nodes: one at its end, and below it one for 10.1.0.0/16 and one for 10.2.0.0/16.
+/// 10.0.0.0/8 with 1, and three spare nodes: one below its own, and under that one for 10.1.0.0/16 and one for 10.2.0.0/16.
 fn ten_and_spares(rt: &impl Abort, alloc: Global) -> PrefixMap<(u32, u8), u32> {
     let stored = [
         ((0x0a00_0000, 8), 1),

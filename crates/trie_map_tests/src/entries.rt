@@ -143,21 +143,27 @@ fn an_occupied_entry_is_taken_out(rt: HostRuntime) {
     assert_eq!(rt; map.node_count(), 2);
 }
 
-/// The map has these entries and no other, in this order, and so many nodes.
-fn is_whole(
-    rt: &impl Abort,
-    map: &PrefixMap<Ipv4Net, u32>,
-    entries: &[(&'static str, u32)],
-    nodes: usize,
-) {
-    let mut at = 0;
-    for (key, value) in map {
-        assert!(rt; at < entries.len());
-        assert_eq!(rt; key.to_text().as_slice(), entries[at].0.as_bytes());
-        assert_eq!(rt; *value, entries[at].1);
-        at += 1;
+/// The key has this text.
+fn is_text(rt: &impl Abort, key: Ipv4Net, text: &str) {
+    assert_eq!(rt; key.to_text().as_slice(), text.as_bytes());
+}
+
+/// The map has these entries and no other, in this order.
+fn has_in_order(rt: &impl Abort, map: &PrefixMap<Ipv4Net, u32>, entries: &[(&str, u32)]) {
+    let mut left = map.into_iter();
+    for (text, stored) in entries.iter() {
+        let Some((key, value)) = left.next() else {
+            panic!(rt; "too few entries")
+        };
+        is_text(rt, key, text);
+        assert_eq!(rt; *value, *stored);
     }
-    assert_eq!(rt; at, entries.len());
+    assert!(rt; left.next().is_none());
+}
+
+/// The map has these entries and no other, in this order, and so many nodes.
+fn is_whole(rt: &impl Abort, map: &PrefixMap<Ipv4Net, u32>, entries: &[(&str, u32)], nodes: usize) {
+    has_in_order(rt, map, entries);
     assert_eq!(rt; map.len(), entries.len());
     assert_eq!(rt; map.node_count(), nodes);
 }

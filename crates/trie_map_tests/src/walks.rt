@@ -122,7 +122,7 @@ fn walked_twice(rt: HostRuntime) {
     assert_eq!(rt; digits(entries), 2);
 }
 
-/// The first and the last address of all, and the network of all.
+/// The network of all, its second address and its last.
 const ENDS: [(&str, u32); 3] = [
     ("::/0", 1),
     ("::1/128", 2),
