@@ -1,21 +1,29 @@
 //! Rows of shortest tables, with values from outside.
-use crate::changes::net;
+use crate::changes::{empty, is_text, net};
 use crate::flat_lists::table;
 use ipnet::IpNet;
 use route_table::{Hop, HopTable, Refused, RouteTable};
+use std::alloc::Global;
 use std::process::Abort;
 
-/// The shortest table of this one.
-fn least_is(rt: &impl Abort, table: &RouteTable, routes: &[(&str, Hop)]) {
+/// The shortest table of one of these routes.
+fn least_is(rt: &impl Abort, alloc: Global, routes: &[(&str, Hop)], wanted: &[(&str, Hop)]) {
+    let table = table(rt, alloc, routes);
     let least = table.least().expect(rt, "memory");
-    routes_are(rt, least.as_slice(), routes);
+    routes_are(rt, least.as_slice(), wanted);
+}
+
+fn is_route(rt: &impl Abort, route: &(IpNet, Hop), text: &str, wanted: Hop) {
+    let (net, hop) = *route;
+    is_text(rt, net, text);
+    assert_eq!(rt; hop, wanted);
 }
 
 fn routes_are(rt: &impl Abort, least: &[(IpNet, Hop)], routes: &[(&str, Hop)]) {
     assert_eq!(rt; least.len(), routes.len());
-    for ((net, hop), (text, wanted)) in least.iter().zip(routes) {
-        assert_eq!(rt; net.to_text().as_slice(), text.as_bytes());
-        assert_eq!(rt; *hop, *wanted);
+    let mut left = least.iter();
+    for (text, hop) in routes {
+        is_route(rt, left.next().expect(rt, "too few routes"), text, *hop);
     }
 }
 
@@ -26,17 +34,16 @@ fn a_route_inside_another(rt: HostRuntime) {
         ("10.0.0.0/9", Hop::Number(2)),
         ("10.64.0.0/10", Hop::Number(1)),
     ];
-    let table = table(&rt, rt.alloc(), &routes);
     let least = [
         ("10.0.0.0/8", Hop::Number(1)),
         ("10.0.0.0/10", Hop::Number(2)),
     ];
-    least_is(&rt, &table, &least);
+    least_is(&rt, rt.alloc(), &routes, &least);
 }
 
-#[test]
-fn a_table_of_one_hop_a_network(rt: HostRuntime) {
-    let mut table = HopTable::new(rt.alloc()).expect(&rt, "a table");
+/// A table of one hop a network.
+fn hop_table(rt: &impl Abort, alloc: Global) -> HopTable {
+    let mut table = HopTable::new(alloc).expect(rt, "a table");
     for (text, hop) in [
         ("10.64.0.0/10", Hop::Number(3)),
         ("2001:db8::/32", Hop::Number(1)),
@@ -44,14 +51,30 @@ fn a_table_of_one_hop_a_network(rt: HostRuntime) {
         ("10.0.0.0/9", Hop::Number(2)),
         ("10.64.0.0/10", Hop::Number(1)),
     ] {
-        table.overwrite(net(&rt, text), hop).expect(&rt, "memory");
+        table.overwrite(net(rt, text), hop).expect(rt, "memory");
     }
+    table
+}
+
+/// The flat list of the table of one hop a network.
+fn hop_flat_is(rt: &impl Abort, table: &HopTable, pieces: &[(&str, u32)]) {
     let mut flat = table.flat();
-    assert!(rt; flat.next() == Some((net(&rt, "10.0.0.0/10"), 2)));
-    assert!(rt; flat.next() == Some((net(&rt, "10.64.0.0/10"), 1)));
-    assert!(rt; flat.next() == Some((net(&rt, "10.128.0.0/9"), 1)));
-    assert!(rt; flat.next() == Some((net(&rt, "2001:db8::/32"), 1)));
+    for (text, number) in pieces {
+        assert!(rt; flat.next() == Some((net(rt, text), *number)), "{text}");
+    }
     assert!(rt; flat.next().is_none());
+}
+
+#[test]
+fn a_table_of_one_hop_a_network(rt: HostRuntime) {
+    let table = hop_table(&rt, rt.alloc());
+    let pieces = [
+        ("10.0.0.0/10", 2),
+        ("10.64.0.0/10", 1),
+        ("10.128.0.0/9", 1),
+        ("2001:db8::/32", 1),
+    ];
+    hop_flat_is(&rt, &table, &pieces);
     let least = table.into_least().expect(&rt, "memory");
     let wanted = [
         ("10.0.0.0/8", Hop::Number(1)),
@@ -64,7 +87,7 @@ fn a_table_of_one_hop_a_network(rt: HostRuntime) {
 #[test]
 fn nothing_in_an_empty_table(rt: HostRuntime) {
     let table = table(&rt, rt.alloc(), &[]);
-    least_is(&rt, &table, &[]);
+    least_is(&rt, rt.alloc(), &[], &[]);
 }
 
 #[test]
@@ -77,14 +100,13 @@ fn drop_inside_a_route_of_each_family(rt: HostRuntime) {
         ("10.0.0.1/32", Hop::Drop),
         ("10.0.0.2/32", Hop::Number(1)),
     ];
-    let table = table(&rt, rt.alloc(), &routes);
     let least = [
         ("10.0.0.0/8", Hop::Number(1)),
         ("10.0.0.1/32", Hop::Drop),
         ("2001:db8::/32", Hop::Number(7)),
         ("2001:db8::1/128", Hop::Drop),
     ];
-    least_is(&rt, &table, &least);
+    least_is(&rt, rt.alloc(), &routes, &least);
 }
 
 #[test]
@@ -98,8 +120,7 @@ fn all_but_the_ends(rt: HostRuntime) {
             Hop::Number(4),
         ),
     ];
-    let table = table(&rt, rt.alloc(), &routes);
-    least_is(&rt, &table, &routes);
+    least_is(&rt, rt.alloc(), &routes, &routes);
 }
 
 /// The greatest address of both families has its own hop, in a table with a route of the others around it.
@@ -122,7 +143,6 @@ fn the_greatest_addresses(rt: HostRuntime) {
             Hop::Number(9),
         ),
     ];
-    let table = table(&rt, rt.alloc(), &routes);
     let least = [
         ("255.255.255.252/30", Hop::Number(5)),
         ("255.255.255.255/32", Hop::Number(9)),
@@ -135,7 +155,7 @@ fn the_greatest_addresses(rt: HostRuntime) {
             Hop::Number(9),
         ),
     ];
-    least_is(&rt, &table, &least);
+    least_is(&rt, rt.alloc(), &routes, &least);
 }
 
 /// A route with `drop` stays where a number is handed down to it, and only there.
@@ -149,26 +169,26 @@ fn drop_under_a_number(rt: HostRuntime) {
         ("::/1", Hop::Drop),
         ("8000::/1", Hop::Number(2)),
     ];
-    let table = table(&rt, rt.alloc(), &routes);
     let least = [
         ("0.0.0.0/0", Hop::Number(1)),
         ("10.0.0.0/8", Hop::Drop),
         ("10.1.0.0/16", Hop::Number(1)),
         ("8000::/1", Hop::Number(2)),
     ];
-    least_is(&rt, &table, &least);
+    least_is(&rt, rt.alloc(), &routes, &least);
+}
+
+fn is_same_piece(rt: &impl Abort, piece: (IpNet, u32), other: (IpNet, u32)) {
+    assert_eq!(rt; other.0.to_text().as_slice(), piece.0.to_text().as_slice());
+    assert_eq!(rt; other.1, piece.1);
 }
 
 /// How many blocks the flat list has, which is that of the other table too.
 fn same_flat(rt: &impl Abort, table: &RouteTable, other: &RouteTable) -> usize {
     let mut count = 0usize;
     let mut pieces = other.flat();
-    for (net, number) in table.flat() {
-        let Some((same, hop)) = pieces.next() else {
-            panic!(rt; "too few pieces")
-        };
-        assert_eq!(rt; same.to_text().as_slice(), net.to_text().as_slice());
-        assert_eq!(rt; hop, number);
+    for piece in table.flat() {
+        is_same_piece(rt, piece, pieces.next().expect(rt, "too few pieces"));
         count = count.wrapping_add(1);
     }
     assert!(rt; pieces.next().is_none());
@@ -237,19 +257,44 @@ const TABLES: [(&[(&str, Hop)], usize); 5] = [
     ),
 ];
 
+/// A table of these routes.
+fn built(rt: &impl Abort, alloc: Global, routes: &[(IpNet, Hop)]) -> RouteTable {
+    let mut table = empty(rt, alloc);
+    for (net, hop) in routes {
+        table.add(*net, *hop, 100).expect(rt, "a route");
+    }
+    table
+}
+
 /// A table that is built of the least routes has the same flat list, with no more routes than the table and than this list.
+fn is_built_back(rt: &impl Abort, alloc: Global, routes: &[(&str, Hop)], wanted: usize) {
+    let table = table(rt, alloc, routes);
+    let least = table.least().expect(rt, "memory");
+    assert_eq!(rt; least.len(), wanted);
+    assert!(rt; least.len() <= routes.len());
+    let other = built(rt, alloc, least.as_slice());
+    assert!(rt; least.len() <= same_flat(rt, &table, &other));
+}
+
 #[test]
 fn built_back(rt: HostRuntime) {
     for (routes, wanted) in TABLES {
-        let table = table(&rt, rt.alloc(), routes);
-        let least = table.least().expect(&rt, "memory");
-        assert_eq!(rt; least.len(), wanted);
-        assert!(rt; least.len() <= routes.len());
-        let mut other = RouteTable::new(rt.alloc()).expect(&rt, "a table");
-        for (net, hop) in &least {
-            other.add(*net, *hop, 100).expect(&rt, "a route");
-        }
-        assert!(rt; least.len() <= same_flat(&rt, &table, &other));
+        is_built_back(&rt, rt.alloc(), routes, wanted);
+    }
+}
+
+/// The second attempt to add a route succeeds, where a request for memory is refused in the first.
+fn add_again(rt: &impl Abort, table: &mut RouteTable, text: &str, hop: Hop) {
+    if table.add(net(rt, text), hop, 100).is_err() {
+        table.add(net(rt, text), hop, 100).expect(rt, "a route");
+    }
+}
+
+/// The shortest table has three routes, or memory is refused.
+fn least_is_three(rt: &impl Abort, table: &RouteTable) {
+    match table.least() {
+        Ok(least) => assert_eq!(rt; least.len(), 3),
+        Err(refused) => assert_eq!(rt; refused, Refused::Memory),
     }
 }
 
@@ -261,15 +306,11 @@ fn least_is_refused(rt: HostRuntime) {
         ("10.1.0.0/16", Hop::Number(2)),
         ("2001:db8::/32", Hop::Number(7)),
     ];
-    let mut table = RouteTable::new(rt.alloc()).expect(&rt, "a table");
+    let mut table = empty(&rt, rt.alloc());
     for (text, hop) in &routes {
-        if table.add(net(&rt, text), *hop, 100).is_err() {
-            table.add(net(&rt, text), *hop, 100).expect(&rt, "a route");
-        }
+        add_again(&rt, &mut table, text, *hop);
     }
-    match table.least() {
-        Ok(least) => assert_eq!(rt; least.len(), 3),
-        Err(refused) => assert_eq!(rt; refused, Refused::Memory),
-    }
-    least_is(&rt, &table, &routes);
+    least_is_three(&rt, &table);
+    let least = table.least().expect(&rt, "memory");
+    routes_are(&rt, least.as_slice(), &routes);
 }
