@@ -9,6 +9,7 @@ use ipnet_addr::mask::{
 use ipnet_addr::ranges::Ipv4AddrRange;
 use std::fmt::Write;
 use std::net::{IpAddr, Ipv4Addr, Ipv6Addr};
+use std::process::Abort;
 use std::test::Fail;
 
 const TOP4: Ipv4Addr = Ipv4Addr::BROADCAST;
@@ -17,68 +18,94 @@ fn v6(low: u16) -> Ipv6Addr {
     Ipv6Addr::new(0x2001, 0xdb8, 0, 0, 0, 0, 0, low)
 }
 
-#[test]
-fn steps(rt: HostRuntime) {
-    let mut addr = Ipv4Addr::new(10, 0, 0, 255);
-    assert_eq!(rt; addr.add_one(), Ipv4Addr::new(10, 0, 1, 0));
-    assert_eq!(rt; addr.sub_one(), Ipv4Addr::new(10, 0, 0, 254));
-    assert_eq!(rt; TOP4.add_one(), TOP4);
-    assert_eq!(rt; Ipv4Addr::UNSPECIFIED.sub_one(), Ipv4Addr::UNSPECIFIED);
-    assert_eq!(rt; addr.replace_one(), Ipv4Addr::new(10, 0, 0, 255));
-    assert_eq!(rt; addr.replace_zero(), Ipv4Addr::new(0, 0, 0, 1));
-    assert_eq!(rt; addr, Ipv4Addr::UNSPECIFIED);
-    let mut addr = v6(0xffff);
-    assert_eq!(rt;
-        addr.add_one(),
-        Ipv6Addr::new(0x2001, 0xdb8, 0, 0, 0, 0, 1, 0)
-    );
-    assert_eq!(rt; addr.sub_one(), v6(0xfffe));
-    assert_eq!(rt;
-        Ipv6Addr::from_bits(u128::MAX).add_one(),
-        Ipv6Addr::from_bits(u128::MAX)
-    );
-    assert_eq!(rt; addr.replace_zero(), v6(0xffff));
-    assert_eq!(rt; addr.replace_one(), Ipv6Addr::UNSPECIFIED);
-    assert_eq!(rt; addr, Ipv6Addr::LOCALHOST);
+fn is_v4(rt: &impl Abort, addr: Ipv4Addr, wanted: Ipv4Addr) {
+    assert_eq!(rt; addr, wanted);
+}
+
+fn is_v6(rt: &impl Abort, addr: Ipv6Addr, wanted: Ipv6Addr) {
+    assert_eq!(rt; addr, wanted);
 }
 
 #[test]
-fn arithmetic(rt: HostRuntime) {
+fn ipv4_steps(rt: HostRuntime) {
+    let addr = Ipv4Addr::new(10, 0, 0, 255);
+    is_v4(&rt, addr.add_one(), Ipv4Addr::new(10, 0, 1, 0));
+    is_v4(&rt, addr.sub_one(), Ipv4Addr::new(10, 0, 0, 254));
+    is_v4(&rt, TOP4.add_one(), TOP4);
+    let bottom = Ipv4Addr::UNSPECIFIED;
+    is_v4(&rt, bottom.sub_one(), Ipv4Addr::UNSPECIFIED);
+}
+
+#[test]
+fn ipv4_replacements(rt: HostRuntime) {
+    let mut addr = Ipv4Addr::new(10, 0, 0, 255);
+    is_v4(&rt, addr.replace_one(), Ipv4Addr::new(10, 0, 0, 255));
+    is_v4(&rt, addr.replace_zero(), Ipv4Addr::new(0, 0, 0, 1));
+    is_v4(&rt, addr, Ipv4Addr::UNSPECIFIED);
+}
+
+#[test]
+fn ipv6_steps(rt: HostRuntime) {
+    let addr = v6(0xffff);
+    let after = Ipv6Addr::new(0x2001, 0xdb8, 0, 0, 0, 0, 1, 0);
+    is_v6(&rt, addr.add_one(), after);
+    is_v6(&rt, addr.sub_one(), v6(0xfffe));
+    let top = Ipv6Addr::from_bits(u128::MAX);
+    is_v6(&rt, top.add_one(), Ipv6Addr::from_bits(u128::MAX));
+}
+
+#[test]
+fn ipv6_replacements(rt: HostRuntime) {
+    let mut addr = v6(0xffff);
+    is_v6(&rt, addr.replace_zero(), v6(0xffff));
+    is_v6(&rt, addr.replace_one(), Ipv6Addr::UNSPECIFIED);
+    is_v6(&rt, addr, Ipv6Addr::LOCALHOST);
+}
+
+#[test]
+fn ipv4_sums_and_differences(rt: HostRuntime) {
     let addr = Ipv4Addr::new(10, 0, 0, 1);
-    assert_eq!(rt;
-        IpAdd::saturating_add(addr, 256),
-        Ipv4Addr::new(10, 0, 1, 1)
-    );
-    assert_eq!(rt; IpAdd::saturating_add(TOP4, 1), TOP4);
-    assert_eq!(rt;
-        IpSub::<u32>::saturating_sub(addr, 2),
-        Ipv4Addr::new(9, 255, 255, 255)
-    );
-    assert_eq!(rt;
-        IpSub::<Ipv4Addr>::saturating_sub(addr, Ipv4Addr::new(10, 0, 0, 0)),
-        1
-    );
+    let sum = IpAdd::saturating_add(addr, 256);
+    is_v4(&rt, sum, Ipv4Addr::new(10, 0, 1, 1));
+    is_v4(&rt, IpAdd::saturating_add(TOP4, 1), TOP4);
+    let difference = IpSub::<u32>::saturating_sub(addr, 2);
+    is_v4(&rt, difference, Ipv4Addr::new(9, 255, 255, 255));
+}
+
+#[test]
+fn ipv4_distances(rt: HostRuntime) {
+    let addr = Ipv4Addr::new(10, 0, 0, 1);
+    let network = Ipv4Addr::new(10, 0, 0, 0);
+    assert_eq!(rt; IpSub::<Ipv4Addr>::saturating_sub(addr, network), 1);
     assert_eq!(rt; IpSub::<Ipv4Addr>::saturating_sub(addr, TOP4), 0);
-    assert_eq!(rt; IpBitAnd::<u32>::bitand(addr, 0xff00_00ff), addr);
-    assert_eq!(rt;
-        IpBitAnd::<Ipv4Addr>::bitand(addr, Ipv4Addr::new(255, 0, 0, 0)),
-        Ipv4Addr::new(10, 0, 0, 0)
-    );
-    assert_eq!(rt;
-        IpBitOr::<u32>::bitor(addr, 0xff),
-        Ipv4Addr::new(10, 0, 0, 255)
-    );
-    assert_eq!(rt;
-        IpBitOr::<Ipv4Addr>::bitor(addr, Ipv4Addr::new(0, 0, 0, 6)),
-        Ipv4Addr::new(10, 0, 0, 7)
-    );
-    assert_eq!(rt; IpAdd::saturating_add(v6(1), 2), v6(3));
-    assert_eq!(rt; IpSub::<u128>::saturating_sub(v6(3), 2), v6(1));
+}
+
+#[test]
+fn ipv4_bits(rt: HostRuntime) {
+    let addr = Ipv4Addr::new(10, 0, 0, 1);
+    is_v4(&rt, IpBitAnd::<u32>::bitand(addr, 0xff00_00ff), addr);
+    let and = IpBitAnd::<Ipv4Addr>::bitand(addr, Ipv4Addr::new(255, 0, 0, 0));
+    is_v4(&rt, and, Ipv4Addr::new(10, 0, 0, 0));
+    let filled = IpBitOr::<u32>::bitor(addr, 0xff);
+    is_v4(&rt, filled, Ipv4Addr::new(10, 0, 0, 255));
+    let or = IpBitOr::<Ipv4Addr>::bitor(addr, Ipv4Addr::new(0, 0, 0, 6));
+    is_v4(&rt, or, Ipv4Addr::new(10, 0, 0, 7));
+}
+
+#[test]
+fn ipv6_sums_and_differences(rt: HostRuntime) {
+    is_v6(&rt, IpAdd::saturating_add(v6(1), 2), v6(3));
+    is_v6(&rt, IpSub::<u128>::saturating_sub(v6(3), 2), v6(1));
     assert_eq!(rt; IpSub::<Ipv6Addr>::saturating_sub(v6(3), v6(1)), 2);
-    assert_eq!(rt; IpBitAnd::<u128>::bitand(v6(3), 2), Ipv6Addr::from_bits(2));
-    assert_eq!(rt; IpBitAnd::<Ipv6Addr>::bitand(v6(3), v6(6)), v6(2));
-    assert_eq!(rt; IpBitOr::<u128>::bitor(v6(3), 4), v6(7));
-    assert_eq!(rt; IpBitOr::<Ipv6Addr>::bitor(v6(3), v6(4)), v6(7));
+}
+
+#[test]
+fn ipv6_bits(rt: HostRuntime) {
+    let two = Ipv6Addr::from_bits(2);
+    is_v6(&rt, IpBitAnd::<u128>::bitand(v6(3), 2), two);
+    is_v6(&rt, IpBitAnd::<Ipv6Addr>::bitand(v6(3), v6(6)), v6(2));
+    is_v6(&rt, IpBitOr::<u128>::bitor(v6(3), 4), v6(7));
+    is_v6(&rt, IpBitOr::<Ipv6Addr>::bitor(v6(3), v6(4)), v6(7));
 }
 
 #[test]
