@@ -1,9 +1,12 @@
 //! Leaders, followers and least tables, and the lines of a feed. What is led, followed or shortened is standard input.
 use crate::fault::Fault;
-use crate::show::{answer, begin, end, refused};
-use route_feed::{Counted, FollowError, Follower, follow, lead, shorten};
+use crate::show::{answer, begin, debug_line, end, line, refused};
+use ipnet::IpNet;
+use route_feed::{Counted, FollowError, Follower, RunError, follow, lead, shorten};
 use route_lines::{Command, Line, LineCutter, Reply};
-use std::io::Write;
+use route_table::Flat;
+use std::alloc::Global;
+use std::io::{Stdin, Write};
 
 /// How many bytes of output are kept.
 const OUTPUT: usize = 1 << 16;
@@ -30,8 +33,7 @@ pub static SCENARIOS: [(&str, FeedCall); 6] = [
 
 pub fn run(rt: &HostRuntime, call: FeedCall) -> Result<(), Fault> {
     match call {
-        FeedCall::Change => change(rt),
-        FeedCall::Commit => commit(rt),
+        FeedCall::Change | FeedCall::Commit => run_follower(rt, call),
         FeedCall::Cut => cut(rt),
         _ => run_over(rt, call),
     }
@@ -42,63 +44,99 @@ fn run_over(rt: &HostRuntime, call: FeedCall) -> Result<(), Fault> {
     let alloc = rt.alloc();
     let mut reader = Counted::new(rt.stdin());
     let mut writer = Counted::new(Vec::with_capacity(alloc, OUTPUT)?);
-    println!(rt; "{} reads", reader.reads())?;
+    show_reads(rt, &reader)?;
     begin(rt)?;
-    let result = match call {
+    let outcome = match call {
         FeedCall::Lead => lead(alloc, &mut reader, &mut writer),
         FeedCall::Follow => follow(alloc, &mut reader, &mut writer),
         _ => shorten(alloc, &mut reader, &mut writer),
     };
     end(rt)?;
-    match result {
-        Ok(()) => answer(rt, &"ended")?,
-        Err(error) => refused(rt, &error)?,
+    show_outcome(rt, &outcome)?;
+    show_reads(rt, &reader)?;
+    write_kept(rt, &writer.into_inner())
+}
+
+fn show_outcome(rt: &HostRuntime, outcome: &Result<(), RunError>) -> Result<(), Fault> {
+    match outcome {
+        Ok(()) => answer(rt, &"ended"),
+        Err(error) => refused(rt, error),
     }
+}
+
+fn show_reads(rt: &HostRuntime, reader: &Counted<Stdin>) -> Result<(), Fault> {
     println!(rt; "{} reads", reader.reads())?;
-    rt.stdout().write_all(writer.into_inner().as_slice())?;
     Ok(())
 }
 
-/// A follower's first change, which it has to keep.
-fn change(rt: &HostRuntime) -> Result<(), Fault> {
+fn write_kept(rt: &HostRuntime, kept: &Vec<u8>) -> Result<(), Fault> {
+    rt.stdout().write_all(kept.as_slice())?;
+    Ok(())
+}
+
+/// Owns the follower of the calls that need one.
+fn run_follower(rt: &HostRuntime, call: FeedCall) -> Result<(), Fault> {
     let mut follower = Follower::new(rt.alloc())?;
+    match call {
+        FeedCall::Change => change(rt, &mut follower),
+        _ => commit(rt, &mut follower),
+    }
+}
+
+/// A follower's first change, which it has to keep.
+fn change(rt: &HostRuntime, follower: &mut Follower) -> Result<(), Fault> {
     begin(rt)?;
-    let result = follower.line(b"set 10.1.0.0/16 2");
-    end(rt)?;
-    followed(rt, &mut follower, result)
+    let outcome = follower.line(b"set 10.1.0.0/16 2");
+    followed(rt, follower, &outcome)
 }
 
 /// The line at which a follower carries changes out.
-fn commit(rt: &HostRuntime) -> Result<(), Fault> {
-    let mut follower = Follower::new(rt.alloc())?;
+fn commit(rt: &HostRuntime, follower: &mut Follower) -> Result<(), Fault> {
     follower.line(b"set 10.0.0.0/8 1")?;
     follower.line(b"ok")?;
     follower.line(b"set 10.1.2.3/32 2")?;
     follower.line(b"set 2001:db8::/32 2")?;
     begin(rt)?;
-    let result = follower.line(b"ok");
-    end(rt)?;
-    followed(rt, &mut follower, result)
+    let outcome = follower.line(b"ok");
+    followed(rt, follower, &outcome)
 }
 
 /// What a line was answered, what the next is answered, and the flat list.
 fn followed(
-    rt: &impl Print,
+    rt: &HostRuntime,
     follower: &mut Follower,
-    outcome: Result<(), FollowError>,
+    outcome: &Result<(), FollowError>,
 ) -> Result<(), Fault> {
+    end(rt)?;
     match outcome {
         Ok(()) => answer(rt, &"followed")?,
-        Err(error) => refused(rt, &error)?,
+        Err(error) => refused(rt, error)?,
     }
+    show_next(rt, follower)?;
+    show_flat(rt, follower)
+}
+
+fn show_next(rt: &HostRuntime, follower: &mut Follower) -> Result<(), Fault> {
     println!(rt; "then {:?}", follower.line(b"ok"))?;
-    let Some(blocks) = follower.flat() else {
-        println!(rt; "no flat list")?;
-        return Ok(());
-    };
-    for (block, number) in blocks {
-        println!(rt; "flat {block} {number}")?;
+    Ok(())
+}
+
+fn show_flat(rt: &HostRuntime, follower: &Follower) -> Result<(), Fault> {
+    match follower.flat() {
+        Some(blocks) => show_blocks(rt, blocks),
+        None => line(rt, &"no flat list"),
     }
+}
+
+fn show_blocks(rt: &HostRuntime, blocks: Flat<'_>) -> Result<(), Fault> {
+    for (block, number) in blocks {
+        show_block(rt, &block, number)?;
+    }
+    Ok(())
+}
+
+fn show_block(rt: &HostRuntime, block: &IpNet, number: u32) -> Result<(), Fault> {
+    println!(rt; "flat {block} {number}")?;
     Ok(())
 }
 
@@ -108,12 +146,17 @@ fn cut(rt: &HostRuntime) -> Result<(), Fault> {
     begin(rt)?;
     for byte in b"add 10.0.0.0/8 1\nset 10.0.0.0/8 1\n\nflat\nadd 10.0.0.0/8 1 1000000\nok" {
         if let Some(Line::Text(text)) = cutter.feed(*byte) {
-            let is_command = Command::read(text.as_slice()).is_ok();
-            let is_reply = Reply::read(text.as_slice()).is_ok();
-            println!(rt; "{} bytes {is_command} {is_reply}", text.len())?;
+            read(rt, text.as_slice())?;
         }
     }
-    println!(rt; "{:?}", cutter.rest())?;
-    end(rt)?;
+    debug_line(rt, &cutter.rest())?;
+    end(rt)
+}
+
+/// The line as a command and as one of a reply.
+fn read(rt: &HostRuntime, text: &[u8]) -> Result<(), Fault> {
+    let is_command = Command::read(text).is_ok();
+    let is_reply = Reply::read(text).is_ok();
+    println!(rt; "{} bytes {is_command} {is_reply}", text.len())?;
     Ok(())
 }

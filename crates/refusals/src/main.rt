@@ -8,6 +8,7 @@ mod fault;
 mod feeds;
 mod map_changes;
 mod map_reads;
+mod map_stores;
 mod maps;
 mod nets;
 mod sets;
@@ -16,11 +17,10 @@ mod tables;
 
 use fault::Fault;
 use feeds::FeedCall;
-use map_changes::MapChange;
-use map_reads::MapRead;
 use maps::MapCall;
 use nets::NetCall;
 use sets::SetCall;
+use show::line;
 use std::env;
 use std::env::Env;
 use std::process::ExitCode;
@@ -37,9 +37,9 @@ fn named<C: Copy>(scenarios: &[(&'static str, C)], name: &str) -> Option<C> {
 }
 
 /// Writes the names.
-fn list<C>(rt: &impl Print, scenarios: &[(&'static str, C)]) -> Result<(), Fault> {
+fn list<C>(rt: &HostRuntime, scenarios: &[(&'static str, C)]) -> Result<(), Fault> {
     for (name, _) in scenarios {
-        println!(rt; "{name}")?;
+        line(rt, name)?;
     }
     Ok(())
 }
@@ -47,8 +47,6 @@ fn list<C>(rt: &impl Print, scenarios: &[(&'static str, C)]) -> Result<(), Fault
 fn list_all(rt: &HostRuntime) -> Result<(), Fault> {
     list(rt, &nets::SCENARIOS)?;
     list(rt, &maps::SCENARIOS)?;
-    list(rt, &map_reads::SCENARIOS)?;
-    list(rt, &map_changes::SCENARIOS)?;
     list(rt, &sets::SCENARIOS)?;
     list(rt, &tables::SCENARIOS)?;
     list(rt, &feeds::SCENARIOS)
@@ -60,12 +58,6 @@ fn run_named(rt: &HostRuntime, name: &str) -> Result<(), Fault> {
     }
     if let Some(call) = named::<MapCall>(&maps::SCENARIOS, name) {
         return maps::run(rt, call);
-    }
-    if let Some(call) = named::<MapRead>(&map_reads::SCENARIOS, name) {
-        return map_reads::run(rt, call);
-    }
-    if let Some(call) = named::<MapChange>(&map_changes::SCENARIOS, name) {
-        return map_changes::run(rt, call);
     }
     if let Some(call) = named::<SetCall>(&sets::SCENARIOS, name) {
         return sets::run(rt, call);

@@ -1,10 +1,10 @@
 //! Changes of maps of networks that take no memory.
 use crate::fault::Fault;
-use crate::maps::{Map, filled, show};
-use crate::show::{begin, end};
+use crate::maps::{Map, show};
+use crate::nets::ipv4_network;
+use crate::show::{begin, debug_line, debug_pair, end, line};
 use ipnet::Ipv4Net;
 use prefix_trie::map::Entry;
-use std::str::FromStr;
 
 /// The calls that change.
 #[derive(Clone, Copy)]
@@ -21,75 +21,119 @@ pub enum MapChange {
     Retain,
 }
 
-pub static SCENARIOS: [(&str, MapChange); 10] = [
-    ("free-map-insert-stored", MapChange::Insert),
-    ("free-map-entry-insert-stored", MapChange::EntryInsert),
-    ("free-map-entry-modify", MapChange::EntryModify),
-    ("free-map-occupied", MapChange::Occupied),
-    ("free-map-occupied-remove", MapChange::OccupiedRemove),
-    ("free-map-remove", MapChange::Remove),
-    ("free-map-remove-keep-tree", MapChange::RemoveKeepTree),
-    ("free-map-remove-children", MapChange::RemoveChildren),
-    ("free-map-clear", MapChange::Clear),
-    ("free-map-retain", MapChange::Retain),
-];
-
-pub fn run(rt: &HostRuntime, call: MapChange) -> Result<(), Fault> {
-    match call {
-        MapChange::EntryModify => modify(rt),
-        MapChange::Occupied => occupied(rt),
-        MapChange::OccupiedRemove => occupied_remove(rt),
-        _ => change(rt, call),
-    }
+/// The networks that the calls take.
+#[derive(Clone, Copy)]
+struct Networks {
+    stored: Ipv4Net,
+    absent: Ipv4Net,
+    outer: Ipv4Net,
 }
 
-/// A stored network.
-fn stored_network() -> Result<Ipv4Net, Fault> {
-    Ok(Ipv4Net::from_str("10.1.2.4/30")?)
+fn call_networks() -> Result<Networks, Fault> {
+    Ok(Networks {
+        stored: ipv4_network("10.1.2.4/30")?,
+        absent: ipv4_network("10.1.2.3/32")?,
+        outer: ipv4_network("10.0.0.0/9")?,
+    })
 }
 
-fn change(rt: &HostRuntime, call: MapChange) -> Result<(), Fault> {
-    let mut map = filled(rt.alloc())?;
-    let net = stored_network()?;
-    let outer = Ipv4Net::from_str("10.0.0.0/9")?;
-    show(rt, &map)?;
+pub fn run(rt: &HostRuntime, map: &mut Map, call: MapChange) -> Result<(), Fault> {
+    let nets = call_networks()?;
     begin(rt)?;
-    match call {
-        MapChange::Insert => println!(rt; "{:?}", map.insert(net, 7))?,
-        MapChange::EntryInsert => println!(rt; "{:?}", map.entry(net).insert(7))?,
-        MapChange::Remove => println!(rt; "{:?} {:?}", map.remove(&net), map.remove(&outer))?,
-        MapChange::RemoveKeepTree => println!(rt; "{:?}", map.remove_keep_tree(&net))?,
-        MapChange::RemoveChildren => map.remove_children(&outer),
-        MapChange::Clear => map.clear(),
-        _ => map.retain(|key, value| key.prefix_len() < 24 && *value > 1),
-    }
+    change(rt, map, &nets, call)?;
     end(rt)?;
-    show(rt, &map)
+    show(rt, map)
+}
+
+fn change(rt: &HostRuntime, map: &mut Map, nets: &Networks, call: MapChange) -> Result<(), Fault> {
+    match call {
+        MapChange::Insert => insert(rt, map, nets.stored),
+        MapChange::EntryInsert => entry_insert(rt, map, nets.stored),
+        MapChange::EntryModify => modify(rt, map, nets.stored, nets.absent),
+        MapChange::Occupied => occupied(rt, map, nets.stored),
+        MapChange::OccupiedRemove => occupied_remove(rt, map, nets.stored),
+        MapChange::Remove => remove(rt, map, &nets.stored, &nets.outer),
+        MapChange::RemoveKeepTree => remove_keep_tree(rt, map, &nets.stored),
+        MapChange::RemoveChildren => remove_children(map, &nets.outer),
+        MapChange::Clear => clear(map),
+        MapChange::Retain => retain(map),
+    }
+}
+
+fn insert(rt: &HostRuntime, map: &mut Map, net: Ipv4Net) -> Result<(), Fault> {
+    debug_line(rt, &map.insert(net, 7))
+}
+
+fn entry_insert(rt: &HostRuntime, map: &mut Map, net: Ipv4Net) -> Result<(), Fault> {
+    debug_line(rt, &map.entry(net).insert(7))
+}
+
+fn remove(rt: &HostRuntime, map: &mut Map, net: &Ipv4Net, other: &Ipv4Net) -> Result<(), Fault> {
+    debug_pair(rt, &map.remove(net), &map.remove(other))
+}
+
+fn remove_keep_tree(rt: &HostRuntime, map: &mut Map, net: &Ipv4Net) -> Result<(), Fault> {
+    debug_line(rt, &map.remove_keep_tree(net))
+}
+
+fn remove_children(map: &mut Map, net: &Ipv4Net) -> Result<(), Fault> {
+    map.remove_children(net);
+    Ok(())
+}
+
+fn clear(map: &mut Map) -> Result<(), Fault> {
+    map.clear();
+    Ok(())
+}
+
+fn retain(map: &mut Map) -> Result<(), Fault> {
+    map.retain(|key, value| key.prefix_len() < 24 && *value > 1);
+    Ok(())
 }
 
 /// The entries of a stored network and of one that isn't, looked at and written.
-fn modify(rt: &HostRuntime) -> Result<(), Fault> {
-    let mut map = filled(rt.alloc())?;
-    let net = stored_network()?;
-    let other = Ipv4Net::from_str("10.1.2.3/32")?;
-    begin(rt)?;
-    let entry = map.entry(net).and_modify(|value| *value = 8);
-    let (key, value) = (*entry.key(), entry.get().copied());
-    println!(rt; "{key} {value:?}")?;
-    let entry = map.entry(other);
-    let (key, value) = (*entry.key(), entry.get().copied());
-    println!(rt; "{key} {value:?}")?;
-    println!(rt; "{:?}", map.entry(net).or_insert(9))?;
-    println!(rt; "{:?}", map.entry(net).or_insert_with(|| 9))?;
-    println!(rt; "{:?}", map.entry(net).or_default())?;
-    end(rt)?;
-    show(rt, &map)
+fn modify(rt: &HostRuntime, map: &mut Map, net: Ipv4Net, absent: Ipv4Net) -> Result<(), Fault> {
+    and_modify(rt, map, net)?;
+    look_at(rt, map, absent)?;
+    or_insert(rt, map, net)?;
+    or_insert_with(rt, map, net)?;
+    or_default(rt, map, net)
 }
 
-fn occupied(rt: &HostRuntime) -> Result<(), Fault> {
-    let mut map = filled(rt.alloc())?;
-    let net = stored_network()?;
-    begin(rt)?;
+fn and_modify(rt: &HostRuntime, map: &mut Map, net: Ipv4Net) -> Result<(), Fault> {
+    let entry = map.entry(net).and_modify(|value| *value = 8);
+    let (key, value) = (*entry.key(), entry.get().copied());
+    key_and_value(rt, &key, value)
+}
+
+fn look_at(rt: &HostRuntime, map: &mut Map, net: Ipv4Net) -> Result<(), Fault> {
+    let entry = map.entry(net);
+    let (key, value) = (*entry.key(), entry.get().copied());
+    key_and_value(rt, &key, value)
+}
+
+fn key_and_value(rt: &HostRuntime, key: &Ipv4Net, value: Option<u32>) -> Result<(), Fault> {
+    println!(rt; "{key} {value:?}")?;
+    Ok(())
+}
+
+fn or_insert(rt: &HostRuntime, map: &mut Map, net: Ipv4Net) -> Result<(), Fault> {
+    println!(rt; "{:?}", map.entry(net).or_insert(9))?;
+    Ok(())
+}
+
+fn or_insert_with(rt: &HostRuntime, map: &mut Map, net: Ipv4Net) -> Result<(), Fault> {
+    println!(rt; "{:?}", map.entry(net).or_insert_with(|| 9))?;
+    Ok(())
+}
+
+fn or_default(rt: &HostRuntime, map: &mut Map, net: Ipv4Net) -> Result<(), Fault> {
+    println!(rt; "{:?}", map.entry(net).or_default())?;
+    Ok(())
+}
+
+/// Writes by the entry of a stored network, and by what it turns into.
+fn occupied(rt: &HostRuntime, map: &mut Map, net: Ipv4Net) -> Result<(), Fault> {
     let Entry::Occupied(mut entry) = map.entry(net) else {
         return Err(Fault::Values);
     };
@@ -97,20 +141,19 @@ fn occupied(rt: &HostRuntime) -> Result<(), Fault> {
     let old = entry.insert(7);
     *entry.get_mut() = 10;
     let value = *entry.get();
-    println!(rt; "{key} {old} {value}")?;
+    key_and_values(rt, &key, old, value)?;
     *entry.into_mut() = 12;
-    end(rt)?;
-    show(rt, &map)
+    Ok(())
 }
 
-fn occupied_remove(rt: &HostRuntime) -> Result<(), Fault> {
-    let mut map = filled(rt.alloc())?;
-    let net = stored_network()?;
-    begin(rt)?;
+fn key_and_values(rt: &HostRuntime, key: &Ipv4Net, old: u32, value: u32) -> Result<(), Fault> {
+    println!(rt; "{key} {old} {value}")?;
+    Ok(())
+}
+
+fn occupied_remove(rt: &HostRuntime, map: &mut Map, net: Ipv4Net) -> Result<(), Fault> {
     let Entry::Occupied(entry) = map.entry(net) else {
         return Err(Fault::Values);
     };
-    println!(rt; "{}", entry.remove())?;
-    end(rt)?;
-    show(rt, &map)
+    line(rt, &entry.remove())
 }

@@ -1,50 +1,108 @@
-//! Maps of networks.
+//! Maps of networks. One function owns the map of all scenarios but `free-map-given-away`, and lends it to them.
 use crate::fault::Fault;
-use crate::show::{answer, begin, end, given, handed_back, refused};
+use crate::map_changes::MapChange;
+use crate::map_reads::MapRead;
+use crate::map_stores::MapStore;
+use crate::nets::ipv4_network;
+use crate::show::{answer, begin, end, entry, refused};
+use crate::{map_changes, map_reads, map_stores};
 use ipnet::Ipv4Net;
-use prefix_trie::map::Entry;
 use prefix_trie::{PrefixMap, Refused};
-use std::alloc::Global;
-use std::str::FromStr;
 
 pub type Map = PrefixMap<Ipv4Net, u32>;
 
-/// The calls that store at a network that isn't stored.
+/// The calls of a map.
 #[derive(Clone, Copy)]
 pub enum MapCall {
-    Insert,
-    EntryInsert,
-    OrInsert,
-    OrInsertWith,
-    OrDefault,
-    VacantInsert,
-    VacantInsertWith,
-    VacantDefault,
+    Store(MapStore),
     TryClone,
+    GivenAway,
+    Read(MapRead),
+    Change(MapChange),
 }
 
-pub static SCENARIOS: [(&str, MapCall); 9] = [
-    ("map-insert", MapCall::Insert),
-    ("map-entry-insert", MapCall::EntryInsert),
-    ("map-entry-or-insert", MapCall::OrInsert),
-    ("map-entry-or-insert-with", MapCall::OrInsertWith),
-    ("map-entry-or-default", MapCall::OrDefault),
-    ("map-vacant-insert", MapCall::VacantInsert),
-    ("map-vacant-insert-with", MapCall::VacantInsertWith),
-    ("map-vacant-default", MapCall::VacantDefault),
+pub static SCENARIOS: [(&str, MapCall); 26] = [
+    ("map-insert", MapCall::Store(MapStore::Insert)),
+    ("map-entry-insert", MapCall::Store(MapStore::EntryInsert)),
+    ("map-entry-or-insert", MapCall::Store(MapStore::OrInsert)),
+    (
+        "map-entry-or-insert-with",
+        MapCall::Store(MapStore::OrInsertWith),
+    ),
+    ("map-entry-or-default", MapCall::Store(MapStore::OrDefault)),
+    ("map-vacant-insert", MapCall::Store(MapStore::VacantInsert)),
+    (
+        "map-vacant-insert-with",
+        MapCall::Store(MapStore::VacantInsertWith),
+    ),
+    (
+        "map-vacant-default",
+        MapCall::Store(MapStore::VacantDefault),
+    ),
     ("map-try-clone", MapCall::TryClone),
+    ("free-map-look-ups", MapCall::Read(MapRead::LookUps)),
+    ("free-map-lent", MapCall::Read(MapRead::Lent)),
+    ("free-map-walks", MapCall::Read(MapRead::Walks)),
+    (
+        "free-map-walks-in-part",
+        MapCall::Read(MapRead::WalksInPart),
+    ),
+    ("free-map-walks-lent", MapCall::Read(MapRead::WalksLent)),
+    ("free-map-covers", MapCall::Read(MapRead::Covers)),
+    ("free-map-given-away", MapCall::GivenAway),
+    ("free-map-insert-stored", MapCall::Change(MapChange::Insert)),
+    (
+        "free-map-entry-insert-stored",
+        MapCall::Change(MapChange::EntryInsert),
+    ),
+    (
+        "free-map-entry-modify",
+        MapCall::Change(MapChange::EntryModify),
+    ),
+    ("free-map-occupied", MapCall::Change(MapChange::Occupied)),
+    (
+        "free-map-occupied-remove",
+        MapCall::Change(MapChange::OccupiedRemove),
+    ),
+    ("free-map-remove", MapCall::Change(MapChange::Remove)),
+    (
+        "free-map-remove-keep-tree",
+        MapCall::Change(MapChange::RemoveKeepTree),
+    ),
+    (
+        "free-map-remove-children",
+        MapCall::Change(MapChange::RemoveChildren),
+    ),
+    ("free-map-clear", MapCall::Change(MapChange::Clear)),
+    ("free-map-retain", MapCall::Change(MapChange::Retain)),
 ];
 
 pub fn run(rt: &HostRuntime, call: MapCall) -> Result<(), Fault> {
     match call {
-        MapCall::TryClone => try_clone(rt),
-        _ => store(rt, call),
+        MapCall::GivenAway => map_reads::give_away(rt),
+        _ => run_filled(rt, call),
     }
 }
 
-/// A map of five networks, with nodes that lead to no entry.
-pub fn filled(alloc: Global) -> Result<Map, Fault> {
-    let mut map = PrefixMap::new(alloc)?;
+/// Owns the map that the calls are lent.
+fn run_filled(rt: &HostRuntime, call: MapCall) -> Result<(), Fault> {
+    let mut map = PrefixMap::new(rt.alloc())?;
+    run_over(rt, &mut map, call)
+}
+
+fn run_over(rt: &HostRuntime, map: &mut Map, call: MapCall) -> Result<(), Fault> {
+    fill(map)?;
+    show(rt, map)?;
+    match call {
+        MapCall::Store(call) => map_stores::run(rt, map, call),
+        MapCall::Read(call) => map_reads::run(rt, map, call),
+        MapCall::Change(call) => map_changes::run(rt, map, call),
+        _ => try_clone(rt, map),
+    }
+}
+
+/// Puts five networks into an empty map, with nodes that lead to no entry.
+pub fn fill(map: &mut Map) -> Result<(), Fault> {
     for (text, value) in [
         ("10.0.0.0/8", 1),
         ("10.1.0.0/16", 2),
@@ -53,77 +111,50 @@ pub fn filled(alloc: Global) -> Result<Map, Fault> {
         ("192.168.0.0/24", 5),
         ("10.1.2.0/31", 6),
     ] {
-        map.insert(Ipv4Net::from_str(text)?, value)?;
+        store(map, text, value)?;
     }
-    map.remove_keep_tree(&Ipv4Net::from_str("10.1.2.0/31")?);
-    Ok(map)
+    map.remove_keep_tree(&ipv4_network("10.1.2.0/31")?);
+    Ok(())
+}
+
+fn store(map: &mut Map, text: &str, value: u32) -> Result<(), Fault> {
+    map.insert(ipv4_network(text)?, value)?;
+    Ok(())
 }
 
 /// The entries in order, and the number of nodes.
-pub fn show(rt: &impl Print, map: &Map) -> Result<(), Fault> {
+pub fn show(rt: &HostRuntime, map: &Map) -> Result<(), Fault> {
+    show_entries(rt, map)?;
+    show_counts(rt, map)
+}
+
+pub fn show_entries(rt: &HostRuntime, map: &Map) -> Result<(), Fault> {
     for (net, value) in map {
-        println!(rt; "{net} {value}")?;
+        entry(rt, &net, *value)?;
     }
+    Ok(())
+}
+
+fn show_counts(rt: &HostRuntime, map: &Map) -> Result<(), Fault> {
     println!(rt; "{} entries, {} nodes", map.len(), map.node_count())?;
     Ok(())
 }
 
-/// Stores 9, or the default value, where the call does.
-fn stored(map: &mut Map, net: Ipv4Net, call: MapCall) -> Result<(), (Refused, u32)> {
-    match call {
-        MapCall::Insert => drop(map.insert(net, 9)?),
-        MapCall::EntryInsert => drop(map.entry(net).insert(9)?),
-        MapCall::OrInsert => drop(map.entry(net).or_insert(9)?),
-        MapCall::OrInsertWith => drop(map.entry(net).or_insert_with(|| 9)?),
-        MapCall::OrDefault => drop(map.entry(net).or_default()?),
-        _ => {
-            if let Entry::Vacant(entry) = map.entry(net) {
-                match call {
-                    MapCall::VacantInsert => drop(entry.insert(9)?),
-                    MapCall::VacantInsertWith => drop(entry.insert_with(|| 9)?),
-                    _ => drop(entry.default()?),
-                }
-            }
-        }
-    }
-    Ok(())
+fn try_clone(rt: &HostRuntime, map: &Map) -> Result<(), Fault> {
+    begin(rt)?;
+    let outcome = map.try_clone(rt.alloc());
+    copied(rt, map, &outcome)
 }
 
-/// A call that stores at a network that isn't stored.
-fn store(rt: &HostRuntime, call: MapCall) -> Result<(), Fault> {
-    let mut map = filled(rt.alloc())?;
-    let net = Ipv4Net::from_str("10.1.3.3/32")?;
-    show(rt, &map)?;
-    given(
-        rt,
-        if matches!(call, MapCall::OrDefault | MapCall::VacantDefault) {
-            0
-        } else {
-            9
-        },
-    )?;
-    begin(rt)?;
-    let result = stored(&mut map, net, call);
+/// What `try_clone` answered, and the map then.
+fn copied(rt: &HostRuntime, map: &Map, outcome: &Result<Map, Refused>) -> Result<(), Fault> {
     end(rt)?;
-    match result {
-        Ok(()) => answer(rt, &"stored")?,
-        Err((error, value)) => handed_back(rt, &error, value)?,
-    }
-    show(rt, &map)
-}
-
-fn try_clone(rt: &HostRuntime) -> Result<(), Fault> {
-    let map = filled(rt.alloc())?;
-    show(rt, &map)?;
-    begin(rt)?;
-    let result = map.try_clone(rt.alloc());
-    end(rt)?;
-    match result {
+    match outcome {
         Ok(copy) => {
             answer(rt, &"copied")?;
-            show(rt, &copy)?;
+            show(rt, copy)?;
         }
-        Err(error) => refused(rt, &error)?,
+        Err(error) => refused(rt, error)?,
     }
-    show(rt, &map)
+    show(rt, map)
 }

@@ -1,6 +1,6 @@
 //! Networks: their aggregation, their values, and their texts and bytes.
 use crate::fault::Fault;
-use crate::show::{answer, begin, end, refused};
+use crate::show::{answer, begin, debug_line, debug_pair, end, line, refused};
 use ipnet::{IpNet, Ipv4Net, Ipv6Net};
 use serde_json::Value;
 use std::alloc::{AllocError, Global};
@@ -61,33 +61,51 @@ pub fn run(rt: &HostRuntime, call: NetCall) -> Result<(), Fault> {
     }
 }
 
-fn show<T: Display>(rt: &impl Print, nets: &Vec<T>) -> Result<(), Fault> {
+pub fn ipv4_network(text: &str) -> Result<Ipv4Net, Fault> {
+    Ok(Ipv4Net::from_str(text)?)
+}
+
+fn ipv6_network(text: &str) -> Result<Ipv6Net, Fault> {
+    Ok(Ipv6Net::from_str(text)?)
+}
+
+/// A network of either family.
+pub fn network(text: &str) -> Result<IpNet, Fault> {
+    Ok(IpNet::from_str(text)?)
+}
+
+fn show<T: Display>(rt: &HostRuntime, nets: &Vec<T>) -> Result<(), Fault> {
     for net in nets.iter() {
-        println!(rt; "{net}")?;
+        line(rt, net)?;
     }
     Ok(())
 }
 
-/// What `aggregate` answered.
+/// What `aggregate` answered, and the networks then.
 fn aggregated<T: Display>(
-    rt: &impl Print,
+    rt: &HostRuntime,
+    nets: &Vec<T>,
     outcome: &Result<Vec<T>, AllocError>,
 ) -> Result<(), Fault> {
+    end(rt)?;
     match outcome {
-        Err(error) => Ok(refused(rt, error)?),
-        Ok(nets) => {
-            for net in nets.iter() {
-                answer(rt, net)?;
-            }
-            Ok(())
-        }
+        Ok(least) => answer_all(rt, least)?,
+        Err(error) => refused(rt, error)?,
     }
+    show(rt, nets)
+}
+
+pub fn answer_all<T: Display>(rt: &HostRuntime, nets: &Vec<T>) -> Result<(), Fault> {
+    for net in nets.iter() {
+        answer(rt, net)?;
+    }
+    Ok(())
 }
 
 fn ipv4_networks(alloc: Global) -> Result<Vec<Ipv4Net>, Fault> {
     let mut nets = Vec::new(alloc);
     for text in IPV4 {
-        nets.push(Ipv4Net::from_str(text)?)?;
+        nets.push(ipv4_network(text)?)?;
     }
     Ok(nets)
 }
@@ -95,7 +113,7 @@ fn ipv4_networks(alloc: Global) -> Result<Vec<Ipv4Net>, Fault> {
 fn ipv6_networks(alloc: Global) -> Result<Vec<Ipv6Net>, Fault> {
     let mut nets = Vec::new(alloc);
     for text in IPV6 {
-        nets.push(Ipv6Net::from_str(text)?)?;
+        nets.push(ipv6_network(text)?)?;
     }
     Ok(nets)
 }
@@ -103,124 +121,134 @@ fn ipv6_networks(alloc: Global) -> Result<Vec<Ipv6Net>, Fault> {
 /// Networks of both families, one of IPv6 first.
 fn mixed_networks(alloc: Global) -> Result<Vec<IpNet>, Fault> {
     let mut nets = Vec::new(alloc);
-    for net in ipv6_networks(alloc)? {
-        nets.push(IpNet::from(net))?;
+    for text in IPV6 {
+        nets.push(network(text)?)?;
     }
-    for net in ipv4_networks(alloc)? {
-        nets.push(IpNet::from(net))?;
+    for text in IPV4 {
+        nets.push(network(text)?)?;
     }
     Ok(nets)
 }
 
+fn show_and_begin<T: Display>(rt: &HostRuntime, nets: &Vec<T>) -> Result<(), Fault> {
+    show(rt, nets)?;
+    begin(rt)
+}
+
 fn aggregate_ipv4(rt: &HostRuntime) -> Result<(), Fault> {
     let nets = ipv4_networks(rt.alloc())?;
-    show(rt, &nets)?;
-    begin(rt)?;
-    let result = Ipv4Net::aggregate(rt.alloc(), &nets);
-    end(rt)?;
-    aggregated(rt, &result)?;
-    show(rt, &nets)
+    show_and_begin(rt, &nets)?;
+    let outcome = Ipv4Net::aggregate(rt.alloc(), &nets);
+    aggregated(rt, &nets, &outcome)
 }
 
 fn aggregate_ipv6(rt: &HostRuntime) -> Result<(), Fault> {
     let nets = ipv6_networks(rt.alloc())?;
-    show(rt, &nets)?;
-    begin(rt)?;
-    let result = Ipv6Net::aggregate(rt.alloc(), &nets);
-    end(rt)?;
-    aggregated(rt, &result)?;
-    show(rt, &nets)
+    show_and_begin(rt, &nets)?;
+    let outcome = Ipv6Net::aggregate(rt.alloc(), &nets);
+    aggregated(rt, &nets, &outcome)
 }
 
 fn aggregate_mixed(rt: &HostRuntime) -> Result<(), Fault> {
     let nets = mixed_networks(rt.alloc())?;
-    show(rt, &nets)?;
-    begin(rt)?;
-    let result = IpNet::aggregate(rt.alloc(), &nets);
-    end(rt)?;
-    aggregated(rt, &result)?;
-    show(rt, &nets)
+    show_and_begin(rt, &nets)?;
+    let outcome = IpNet::aggregate(rt.alloc(), &nets);
+    aggregated(rt, &nets, &outcome)
 }
 
-/// What `to_value` answered.
-fn valued(rt: &impl Print, outcome: &Result<Value, AllocError>) -> Result<(), Fault> {
+/// What `to_value` answered, and the network then.
+fn valued<T: Display>(
+    rt: &HostRuntime,
+    net: &T,
+    outcome: &Result<Value, AllocError>,
+) -> Result<(), Fault> {
+    end(rt)?;
     match outcome {
-        Err(error) => Ok(refused(rt, error)?),
-        Ok(value) => Ok(answer(rt, &value.as_str().unwrap_or("no string"))?),
+        Ok(value) => answer(rt, &value.as_str().unwrap_or("no string"))?,
+        Err(error) => refused(rt, error)?,
     }
+    line(rt, net)
 }
 
 fn to_value_ipv4(rt: &HostRuntime) -> Result<(), Fault> {
-    let net = Ipv4Net::from_str("10.1.2.3/8")?;
-    println!(rt; "{net}")?;
+    let net = ipv4_network("10.1.2.3/8")?;
+    line(rt, &net)?;
     begin(rt)?;
-    let result = net.to_value(rt.alloc());
-    end(rt)?;
-    valued(rt, &result)?;
-    println!(rt; "{net}")?;
-    Ok(())
+    let outcome = net.to_value(rt.alloc());
+    valued(rt, &net, &outcome)
 }
 
 fn to_value_ipv6(rt: &HostRuntime) -> Result<(), Fault> {
-    let net = Ipv6Net::from_str("2001:db8::1/32")?;
-    println!(rt; "{net}")?;
+    let net = ipv6_network("2001:db8::1/32")?;
+    line(rt, &net)?;
     begin(rt)?;
-    let result = net.to_value(rt.alloc());
-    end(rt)?;
-    valued(rt, &result)?;
-    println!(rt; "{net}")?;
-    Ok(())
+    let outcome = net.to_value(rt.alloc());
+    valued(rt, &net, &outcome)
 }
 
 fn to_value_mixed(rt: &HostRuntime) -> Result<(), Fault> {
-    let net = IpNet::from_str("::ffff:10.1.2.3/104")?;
-    println!(rt; "{net}")?;
+    let net = network("::ffff:10.1.2.3/104")?;
+    line(rt, &net)?;
     begin(rt)?;
-    let result = net.to_value(rt.alloc());
-    end(rt)?;
-    valued(rt, &result)?;
-    println!(rt; "{net}")?;
-    Ok(())
+    let outcome = net.to_value(rt.alloc());
+    valued(rt, &net, &outcome)
 }
 
 /// Networks read of texts, of bytes and of a value.
 fn read(rt: &HostRuntime) -> Result<(), Fault> {
-    let value = IpNet::from_str("10.1.2.3/8")?.to_value(rt.alloc())?;
+    let value = network("10.1.2.3/8")?.to_value(rt.alloc())?;
+    read_over(rt, &value)
+}
+
+fn read_over(rt: &HostRuntime, value: &Value) -> Result<(), Fault> {
     begin(rt)?;
     for text in IPV4 {
-        println!(rt;
-            "{:?} {:?}",
-            Ipv4Net::from_str(text),
-            Ipv4Net::parse_ascii(text.as_bytes())
-        )?;
-        println!(rt; "{:?}", Ipv6Net::from_str(text))?;
+        read_ipv4(rt, text)?;
     }
     for text in IPV6 {
-        println!(rt;
-            "{:?} {:?}",
-            Ipv6Net::from_str(text),
-            IpNet::parse_ascii(text.as_bytes())
-        )?;
+        read_ipv6(rt, text)?;
     }
-    println!(rt; "{:?}", Ipv4Net::from_bytes(&[10, 1, 2, 3, 8]))?;
-    println!(rt; "{:?}", IpNet::from_bytes(&[0, 10, 1, 2, 3, 8]))?;
-    println!(rt; "{:?}", IpNet::from_value(&value))?;
-    end(rt)?;
-    Ok(())
+    debug_line(rt, &Ipv4Net::from_bytes(&[10, 1, 2, 3, 8]))?;
+    debug_line(rt, &IpNet::from_bytes(&[0, 10, 1, 2, 3, 8]))?;
+    debug_line(rt, &IpNet::from_value(value))?;
+    end(rt)
+}
+
+/// A text of IPv4, as each family reads it.
+fn read_ipv4(rt: &HostRuntime, text: &str) -> Result<(), Fault> {
+    debug_pair(
+        rt,
+        &Ipv4Net::from_str(text),
+        &Ipv4Net::parse_ascii(text.as_bytes()),
+    )?;
+    debug_line(rt, &Ipv6Net::from_str(text))
+}
+
+/// A text of IPv6, as its family reads it and as both do.
+fn read_ipv6(rt: &HostRuntime, text: &str) -> Result<(), Fault> {
+    debug_pair(
+        rt,
+        &Ipv6Net::from_str(text),
+        &IpNet::parse_ascii(text.as_bytes()),
+    )
 }
 
 /// Networks printed, as texts and as bytes.
 fn print(rt: &HostRuntime) -> Result<(), Fault> {
     let nets = mixed_networks(rt.alloc())?;
+    print_all(rt, &nets)
+}
+
+fn print_all(rt: &HostRuntime, nets: &Vec<IpNet>) -> Result<(), Fault> {
     begin(rt)?;
     for net in nets.iter() {
-        println!(rt; "{net} {net:?}")?;
-        println!(rt;
-            "{:?} {:?}",
-            net.to_text().as_slice(),
-            net.to_bytes().as_slice()
-        )?;
+        print_text(rt, net)?;
+        debug_pair(rt, &net.to_text().as_slice(), &net.to_bytes().as_slice())?;
     }
-    end(rt)?;
+    end(rt)
+}
+
+fn print_text(rt: &HostRuntime, net: &IpNet) -> Result<(), Fault> {
+    println!(rt; "{net} {net:?}")?;
     Ok(())
 }

@@ -1,10 +1,11 @@
-//! Sets of networks.
+//! Sets of networks, and a map that is made of entries.
 use crate::fault::Fault;
-use crate::show::{answer, begin, end, refused};
+use crate::maps::{Map, show_entries};
+use crate::nets::ipv4_network;
+use crate::show::{answer, begin, end, line, refused};
 use ipnet::Ipv4Net;
-use prefix_trie::{PrefixMap, PrefixSet};
+use prefix_trie::{PrefixMap, PrefixSet, Refused};
 use std::alloc::Global;
-use std::str::FromStr;
 
 type Set = PrefixSet<Ipv4Net>;
 
@@ -26,107 +27,139 @@ pub static SCENARIOS: [(&str, SetCall); 4] = [
 
 pub fn run(rt: &HostRuntime, call: SetCall) -> Result<(), Fault> {
     match call {
-        SetCall::Insert => insert(rt),
-        SetCall::TryClone => try_clone(rt),
         SetCall::TryFromIter => try_from_iter(rt),
         SetCall::MapFromIter => map_from_iter(rt),
+        _ => run_filled(rt, call),
     }
 }
 
-/// Five networks.
-fn networks(alloc: Global) -> Result<Vec<Ipv4Net>, Fault> {
-    let mut nets = Vec::new(alloc);
-    for text in [
-        "10.0.0.0/8",
-        "10.1.0.0/16",
-        "10.1.2.4/30",
-        "10.64.0.0/10",
-        "192.168.0.0/24",
-    ] {
-        nets.push(Ipv4Net::from_str(text)?)?;
-    }
-    Ok(nets)
+/// Owns the set of the calls that need one.
+fn run_filled(rt: &HostRuntime, call: SetCall) -> Result<(), Fault> {
+    let mut set = PrefixSet::new(rt.alloc())?;
+    run_over(rt, &mut set, call)
 }
 
-/// The set of them, with nodes that lead to no member.
-fn filled(alloc: Global) -> Result<Set, Fault> {
-    let mut set = PrefixSet::try_from_iter(alloc, networks(alloc)?)?;
-    let net = Ipv4Net::from_str("10.1.2.0/31")?;
+fn run_over(rt: &HostRuntime, set: &mut Set, call: SetCall) -> Result<(), Fault> {
+    fill(set)?;
+    show(rt, set)?;
+    match call {
+        SetCall::Insert => insert(rt, set)?,
+        _ => try_clone(rt, set)?,
+    }
+    show(rt, set)
+}
+
+const NETWORKS: [&str; 5] = [
+    "10.0.0.0/8",
+    "10.1.0.0/16",
+    "10.1.2.4/30",
+    "10.64.0.0/10",
+    "192.168.0.0/24",
+];
+
+/// Puts five networks into an empty set, with nodes that lead to no member.
+fn fill(set: &mut Set) -> Result<(), Fault> {
+    for text in NETWORKS {
+        set.insert(ipv4_network(text)?)?;
+    }
+    let net = ipv4_network("10.1.2.0/31")?;
     set.insert(net)?;
     set.remove_keep_tree(&net);
-    Ok(set)
+    Ok(())
 }
 
 /// The members in order, and the number of nodes.
-fn show(rt: &impl Print, set: &Set) -> Result<(), Fault> {
+fn show(rt: &HostRuntime, set: &Set) -> Result<(), Fault> {
     for net in set.iter() {
-        println!(rt; "{net}")?;
+        line(rt, &net)?;
     }
+    show_counts(rt, set)
+}
+
+fn show_counts(rt: &HostRuntime, set: &Set) -> Result<(), Fault> {
     println!(rt; "{} members, {} nodes", set.len(), set.node_count())?;
     Ok(())
 }
 
-fn insert(rt: &HostRuntime) -> Result<(), Fault> {
-    let mut set = filled(rt.alloc())?;
-    let net = Ipv4Net::from_str("10.1.3.3/32")?;
-    show(rt, &set)?;
+fn insert(rt: &HostRuntime, set: &mut Set) -> Result<(), Fault> {
+    let net = ipv4_network("10.1.3.3/32")?;
     begin(rt)?;
-    let result = set.insert(net);
+    let outcome = set.insert(net);
     end(rt)?;
-    match result {
-        Ok(is_new) => answer(rt, &is_new)?,
-        Err(error) => refused(rt, &error)?,
+    match outcome {
+        Ok(is_new) => answer(rt, &is_new),
+        Err(error) => refused(rt, &error),
     }
-    show(rt, &set)
 }
 
-fn try_clone(rt: &HostRuntime) -> Result<(), Fault> {
-    let set = filled(rt.alloc())?;
-    show(rt, &set)?;
+fn try_clone(rt: &HostRuntime, set: &Set) -> Result<(), Fault> {
     begin(rt)?;
-    let result = set.try_clone(rt.alloc());
+    let outcome = set.try_clone(rt.alloc());
+    answered(rt, &outcome, "copied")
+}
+
+/// What a call answered that makes a set.
+fn answered(
+    rt: &HostRuntime,
+    outcome: &Result<Set, Refused>,
+    word: &'static str,
+) -> Result<(), Fault> {
     end(rt)?;
-    match result {
-        Ok(copy) => {
-            answer(rt, &"copied")?;
-            show(rt, &copy)?;
+    match outcome {
+        Ok(set) => {
+            answer(rt, &word)?;
+            show(rt, set)
         }
-        Err(error) => refused(rt, &error)?,
+        Err(error) => refused(rt, error),
     }
-    show(rt, &set)
+}
+
+/// The five networks.
+fn networks(alloc: Global) -> Result<Vec<Ipv4Net>, Fault> {
+    let mut nets = Vec::new(alloc);
+    for text in NETWORKS {
+        nets.push(ipv4_network(text)?)?;
+    }
+    Ok(nets)
 }
 
 fn try_from_iter(rt: &HostRuntime) -> Result<(), Fault> {
     let nets = networks(rt.alloc())?;
     begin(rt)?;
-    let result = PrefixSet::try_from_iter(rt.alloc(), nets);
-    end(rt)?;
-    match result {
-        Ok(set) => {
-            answer(rt, &"made")?;
-            show(rt, &set)
-        }
-        Err(error) => Ok(refused(rt, &error)?),
+    let outcome = PrefixSet::try_from_iter(rt.alloc(), nets);
+    answered(rt, &outcome, "made")
+}
+
+/// The five networks, each with its length.
+fn entries(alloc: Global) -> Result<Vec<(Ipv4Net, u32)>, Fault> {
+    let mut entries = Vec::new(alloc);
+    for text in NETWORKS {
+        let net = ipv4_network(text)?;
+        entries.push((net, u32::from(net.prefix_len())))?;
     }
+    Ok(entries)
 }
 
 fn map_from_iter(rt: &HostRuntime) -> Result<(), Fault> {
-    let mut entries = Vec::new(rt.alloc());
-    for net in networks(rt.alloc())? {
-        entries.push((net, net.prefix_len()))?;
-    }
+    let entries = entries(rt.alloc())?;
     begin(rt)?;
-    let result = PrefixMap::try_from_iter(rt.alloc(), entries);
+    let outcome = PrefixMap::try_from_iter(rt.alloc(), entries);
+    map_answered(rt, &outcome)
+}
+
+fn map_answered(rt: &HostRuntime, outcome: &Result<Map, Refused>) -> Result<(), Fault> {
     end(rt)?;
-    match result {
+    match outcome {
         Ok(map) => {
             answer(rt, &"made")?;
-            for (net, value) in &map {
-                println!(rt; "{net} {value}")?;
-            }
-            println!(rt; "{} nodes", map.node_count())?;
-            Ok(())
+            show_entries(rt, map)?;
+            show_nodes(rt, map)
         }
-        Err(error) => Ok(refused(rt, &error)?),
+        Err(error) => refused(rt, error),
     }
+}
+
+fn show_nodes(rt: &HostRuntime, map: &Map) -> Result<(), Fault> {
+    println!(rt; "{} nodes", map.node_count())?;
+    Ok(())
 }

@@ -1,10 +1,9 @@
-//! Route tables.
+//! Route tables. One function owns the table of all scenarios, and lends it to them.
 use crate::fault::Fault;
-use crate::show::{answer, begin, end, refused};
+use crate::nets::{answer_all, network};
+use crate::show::{answer, begin, debug_line, debug_pair, end, line, refused};
 use ipnet::IpNet;
 use route_table::{AddRefused, Hop, HopTable, Refused, RouteTable, Routes};
-use std::alloc::Global;
-use std::str::FromStr;
 
 /// The calls of tables.
 #[derive(Clone, Copy)]
@@ -39,38 +38,44 @@ pub static SCENARIOS: [(&str, TableCall); 12] = [
 ];
 
 pub fn run(rt: &HostRuntime, call: TableCall) -> Result<(), Fault> {
-    match call {
-        TableCall::AddIpv4 => add(rt, "10.1.2.3/32"),
-        TableCall::AddIpv6 => add(rt, "2001:db8:8000::1/128"),
-        TableCall::Overwrite => overwrite(rt),
-        TableCall::Own => own(rt),
-        TableCall::Least => least(rt),
-        TableCall::IntoLeast => into_least(rt),
-        _ => free(rt, call),
+    let mut table = RouteTable::new(rt.alloc())?;
+    run_over(rt, &mut table, call)
+}
+
+fn run_over(rt: &HostRuntime, table: &mut RouteTable, call: TableCall) -> Result<(), Fault> {
+    fill(table)?;
+    if let TableCall::IntoLeast = call {
+        return into_least(rt, table);
     }
+    show(rt, table)?;
+    match call {
+        TableCall::AddIpv4 => add(rt, table, "10.1.2.3/32")?,
+        TableCall::AddIpv6 => add(rt, table, "2001:db8:8000::1/128")?,
+        TableCall::Overwrite => overwrite(rt, table)?,
+        TableCall::Own => own(rt, table)?,
+        TableCall::Least => least(rt, table)?,
+        _ => free(rt, table, call)?,
+    }
+    show(rt, table)
 }
 
 /// The calls that take no memory.
-fn free(rt: &HostRuntime, call: TableCall) -> Result<(), Fault> {
-    let mut table = filled(rt.alloc())?;
-    let net = IpNet::from_str("10.1.2.4/30")?;
-    show(rt, &table)?;
+fn free(rt: &HostRuntime, table: &mut RouteTable, call: TableCall) -> Result<(), Fault> {
+    let net = network("10.1.2.4/30")?;
     begin(rt)?;
     match call {
-        TableCall::AddRoutes => add_routes(rt, &mut table, &net)?,
-        TableCall::OverwriteStored => println!(rt; "{:?}", table.overwrite(net, Hop::Drop))?,
-        TableCall::Del => del(rt, &mut table)?,
-        TableCall::LookUps => look_up(rt, &table, &net)?,
-        TableCall::Pages => pages(rt, &table)?,
-        _ => flat(rt, &table)?,
+        TableCall::AddRoutes => add_routes(rt, table, &net)?,
+        TableCall::OverwriteStored => overwrite_stored(rt, table, net)?,
+        TableCall::Del => del_all(rt, table)?,
+        TableCall::LookUps => look_up(rt, table, &net)?,
+        TableCall::Pages => pages(rt, table)?,
+        _ => flat(rt, table)?,
     }
-    end(rt)?;
-    show(rt, &table)
+    end(rt)
 }
 
-/// Networks of both families, one of them with three routes.
-fn filled(alloc: Global) -> Result<RouteTable, Fault> {
-    let mut table = RouteTable::new(alloc)?;
+/// Puts routes into an empty table: networks of both families, one of them with three routes.
+fn fill(table: &mut RouteTable) -> Result<(), Fault> {
     for (text, hop, pref) in [
         ("10.0.0.0/8", Hop::Number(1), 100),
         ("10.0.0.0/8", Hop::Number(2), 50),
@@ -81,21 +86,31 @@ fn filled(alloc: Global) -> Result<RouteTable, Fault> {
         ("2001:db8::/32", Hop::Number(1), 100),
         ("2001:db8:8000::/33", Hop::Number(2), 200),
     ] {
-        table.add(IpNet::from_str(text)?, hop, pref)?;
+        store(table, text, hop, pref)?;
     }
-    Ok(table)
+    Ok(())
+}
+
+fn store(table: &mut RouteTable, text: &str, hop: Hop, pref: u16) -> Result<(), Fault> {
+    table.add(network(text)?, hop, pref)?;
+    Ok(())
+}
+
+fn show_route(rt: &HostRuntime, net: &IpNet, hop: Hop, pref: u16) -> Result<(), Fault> {
+    println!(rt; "{net} {hop:?} {pref}")?;
+    Ok(())
 }
 
 /// All routes of one network.
-fn show_network(rt: &impl Print, table: &RouteTable, net: &IpNet) -> Result<(), Fault> {
+fn show_network(rt: &HostRuntime, table: &RouteTable, net: &IpNet) -> Result<(), Fault> {
     for (hop, pref) in table.all(net) {
-        println!(rt; "{net} {hop:?} {pref}")?;
+        show_route(rt, net, hop, pref)?;
     }
     Ok(())
 }
 
 /// All routes of the networks inside this one.
-fn show_inside(rt: &impl Print, table: &RouteTable, net: &IpNet) -> Result<(), Fault> {
+fn show_inside(rt: &HostRuntime, table: &RouteTable, net: &IpNet) -> Result<(), Fault> {
     for (net, _, _) in table.list(net) {
         show_network(rt, table, &net)?;
     }
@@ -103,9 +118,13 @@ fn show_inside(rt: &impl Print, table: &RouteTable, net: &IpNet) -> Result<(), F
 }
 
 /// All routes, and the numbers of networks and of nodes.
-fn show(rt: &impl Print, table: &RouteTable) -> Result<(), Fault> {
-    show_inside(rt, table, &IpNet::from_str("0.0.0.0/0")?)?;
-    show_inside(rt, table, &IpNet::from_str("::/0")?)?;
+fn show(rt: &HostRuntime, table: &RouteTable) -> Result<(), Fault> {
+    show_inside(rt, table, &network("0.0.0.0/0")?)?;
+    show_inside(rt, table, &network("::/0")?)?;
+    show_counts(rt, table)
+}
+
+fn show_counts(rt: &HostRuntime, table: &RouteTable) -> Result<(), Fault> {
     println!(rt;
         "{:?} networks, {:?} nodes",
         table.count(),
@@ -115,146 +134,163 @@ fn show(rt: &impl Print, table: &RouteTable) -> Result<(), Fault> {
 }
 
 /// A network that isn't stored is added.
-fn add(rt: &HostRuntime, text: &str) -> Result<(), Fault> {
-    let mut table = filled(rt.alloc())?;
-    let net = IpNet::from_str(text)?;
-    show(rt, &table)?;
+fn add(rt: &HostRuntime, table: &mut RouteTable, text: &str) -> Result<(), Fault> {
+    let net = network(text)?;
     begin(rt)?;
-    let result = table.add(net, Hop::Number(9), 100);
+    let outcome = table.add(net, Hop::Number(9), 100);
     end(rt)?;
-    match result {
-        Ok((_, _)) => answer(rt, &"added")?,
-        Err(AddRefused::Store(error)) => refused(rt, &error)?,
-        Err(error) => refused(rt, &error)?,
+    match outcome {
+        Ok(_) => answer(rt, &"added"),
+        Err(AddRefused::Store(error)) => refused(rt, &error),
+        Err(error) => refused(rt, &error),
     }
-    show(rt, &table)
 }
 
 /// A network that isn't stored is put in the place of those inside it.
-fn overwrite(rt: &HostRuntime) -> Result<(), Fault> {
-    let mut table = filled(rt.alloc())?;
-    let net = IpNet::from_str("10.1.2.0/24")?;
-    show(rt, &table)?;
+fn overwrite(rt: &HostRuntime, table: &mut RouteTable) -> Result<(), Fault> {
+    let net = network("10.1.2.0/24")?;
     begin(rt)?;
-    let result = table.overwrite(net, Hop::Number(9));
+    let outcome = table.overwrite(net, Hop::Number(9));
     end(rt)?;
-    match result {
-        Ok(()) => answer(rt, &"stored")?,
-        Err(error) => refused(rt, &error)?,
+    match outcome {
+        Ok(()) => answer(rt, &"stored"),
+        Err(error) => refused(rt, &error),
     }
-    show(rt, &table)
 }
 
-fn own(rt: &HostRuntime) -> Result<(), Fault> {
-    let table = filled(rt.alloc())?;
-    show(rt, &table)?;
+fn own(rt: &HostRuntime, table: &RouteTable) -> Result<(), Fault> {
     begin(rt)?;
-    let result = table.own(2);
+    let outcome = table.own(2);
+    owned(rt, &outcome)
+}
+
+/// What `own` answered.
+fn owned(rt: &HostRuntime, outcome: &Result<Vec<IpNet>, Refused>) -> Result<(), Fault> {
     end(rt)?;
-    match result {
-        Ok(nets) => {
-            for net in nets.iter() {
-                answer(rt, net)?;
-            }
-        }
-        Err(error) => refused(rt, &error)?,
+    match outcome {
+        Ok(nets) => answer_all(rt, nets),
+        Err(error) => refused(rt, error),
     }
-    show(rt, &table)
 }
 
 /// A least table, or that there is none.
-fn shortened(rt: &impl Print, outcome: &Result<Vec<(IpNet, Hop)>, Refused>) -> Result<(), Fault> {
+fn shortened(rt: &HostRuntime, outcome: &Result<Vec<(IpNet, Hop)>, Refused>) -> Result<(), Fault> {
+    end(rt)?;
     match outcome {
-        Ok(routes) => {
-            for (net, hop) in routes.iter() {
-                println!(rt; "answer {net} {hop:?}")?;
-            }
-        }
-        Err(error) => refused(rt, error)?,
+        Ok(routes) => answer_routes(rt, routes),
+        Err(error) => refused(rt, error),
+    }
+}
+
+fn answer_routes(rt: &HostRuntime, routes: &Vec<(IpNet, Hop)>) -> Result<(), Fault> {
+    for (net, hop) in routes.iter() {
+        answer_route(rt, net, *hop)?;
     }
     Ok(())
 }
 
-fn least(rt: &HostRuntime) -> Result<(), Fault> {
-    let table = filled(rt.alloc())?;
-    show(rt, &table)?;
+fn answer_route(rt: &HostRuntime, net: &IpNet, hop: Hop) -> Result<(), Fault> {
+    println!(rt; "answer {net} {hop:?}")?;
+    Ok(())
+}
+
+fn least(rt: &HostRuntime, table: &RouteTable) -> Result<(), Fault> {
     begin(rt)?;
-    let result = table.least();
-    end(rt)?;
-    shortened(rt, &result)?;
-    show(rt, &table)
+    let outcome = table.least();
+    shortened(rt, &outcome)
 }
 
 /// A table of one route a network, which is gone then.
-fn into_least(rt: &HostRuntime) -> Result<(), Fault> {
+fn into_least(rt: &HostRuntime, routes: &RouteTable) -> Result<(), Fault> {
     let mut table = HopTable::new(rt.alloc())?;
-    for (net, hop, _) in filled(rt.alloc())?.list(&IpNet::from_str("0.0.0.0/0")?) {
+    match begin_with(rt, &mut table, routes) {
+        Ok(()) => shortened(rt, &table.into_least()),
+        Err(fault) => Err(fault),
+    }
+}
+
+/// Puts the best routes of IPv4 into an empty table, and writes the mark.
+fn begin_with(rt: &HostRuntime, table: &mut HopTable, routes: &RouteTable) -> Result<(), Fault> {
+    for (net, hop, _) in routes.list(&network("0.0.0.0/0")?) {
         table.overwrite(net, hop)?;
     }
-    begin(rt)?;
-    let result = table.into_least();
-    end(rt)?;
-    shortened(rt, &result)
+    begin(rt)
 }
 
 /// A second to an eighth route of a network, a ninth, and another preference of the first.
-fn add_routes(rt: &impl Print, table: &mut RouteTable, net: &IpNet) -> Result<(), Fault> {
+fn add_routes(rt: &HostRuntime, table: &mut RouteTable, net: &IpNet) -> Result<(), Fault> {
     for number in 10..18 {
-        let result = table.add(*net, Hop::Number(number), 150);
-        println!(rt; "{result:?}")?;
+        add_route(rt, table, net, number, 150)?;
     }
-    let result = table.add(*net, Hop::Number(3), 200);
-    println!(rt; "{result:?}")?;
-    Ok(())
+    add_route(rt, table, net, 3, 200)
+}
+
+fn add_route(
+    rt: &HostRuntime,
+    table: &mut RouteTable,
+    net: &IpNet,
+    number: u32,
+    pref: u16,
+) -> Result<(), Fault> {
+    debug_line(rt, &table.add(*net, Hop::Number(number), pref))
+}
+
+fn overwrite_stored(rt: &HostRuntime, table: &mut RouteTable, net: IpNet) -> Result<(), Fault> {
+    debug_line(rt, &table.overwrite(net, Hop::Drop))
 }
 
 /// Routes that are taken out: the best one, the last one, and one that isn't there.
-fn del(rt: &impl Print, table: &mut RouteTable) -> Result<(), Fault> {
-    for (text, hop) in [
-        ("10.0.0.0/8", Hop::Number(1)),
-        ("10.1.2.4/30", Hop::Number(3)),
-        ("10.1.0.0/16", Hop::Drop),
-        ("2001:db8:8000::/33", Hop::Number(2)),
-    ] {
-        println!(rt; "{:?}", table.del(&IpNet::from_str(text)?, hop))?;
-    }
-    Ok(())
+fn del_all(rt: &HostRuntime, table: &mut RouteTable) -> Result<(), Fault> {
+    del(rt, table, "10.0.0.0/8", Hop::Number(1))?;
+    del(rt, table, "10.1.2.4/30", Hop::Number(3))?;
+    del(rt, table, "10.1.0.0/16", Hop::Drop)?;
+    del(rt, table, "2001:db8:8000::/33", Hop::Number(2))
+}
+
+fn del(rt: &HostRuntime, table: &mut RouteTable, text: &str, hop: Hop) -> Result<(), Fault> {
+    debug_line(rt, &table.del(&network(text)?, hop))
 }
 
 /// Look-ups, and what networks govern.
-fn look_up(rt: &impl Print, table: &RouteTable, net: &IpNet) -> Result<(), Fault> {
-    println!(rt; "{:?} {:?}", table.get(net), table.get_visits(net))?;
-    print_routes(rt, table.cover(net))?;
-    for block in table.governed(&IpNet::from_str("10.0.0.0/8")?) {
-        println!(rt; "{block}")?;
-    }
-    for block in table.governed(&IpNet::from_str("2001:db8::/32")?) {
-        println!(rt; "{block}")?;
+fn look_up(rt: &HostRuntime, table: &RouteTable, net: &IpNet) -> Result<(), Fault> {
+    debug_pair(rt, &table.get(net), &table.get_visits(net))?;
+    show_routes(rt, table.cover(net))?;
+    show_governed(rt, table, "10.0.0.0/8")?;
+    show_governed(rt, table, "2001:db8::/32")
+}
+
+fn show_governed(rt: &HostRuntime, table: &RouteTable, text: &str) -> Result<(), Fault> {
+    for block in table.governed(&network(text)?) {
+        line(rt, &block)?;
     }
     Ok(())
 }
 
-fn print_routes(rt: &impl Print, routes: Routes<'_>) -> Result<(), Fault> {
+fn show_routes(rt: &HostRuntime, routes: Routes<'_>) -> Result<(), Fault> {
     for (net, hop, pref) in routes {
-        println!(rt; "{net} {hop:?} {pref}")?;
+        show_route(rt, &net, hop, pref)?;
     }
     Ok(())
 }
 
 /// The routes from a network on, after it, and inside it.
-fn pages(rt: &impl Print, table: &RouteTable) -> Result<(), Fault> {
-    let net = IpNet::from_str("10.1.0.0/16")?;
-    print_routes(rt, table.from(&net))?;
-    print_routes(rt, table.after(&net))?;
-    print_routes(rt, table.list(&net))?;
-    println!(rt; "{:?}", table.count())?;
-    Ok(())
+fn pages(rt: &HostRuntime, table: &RouteTable) -> Result<(), Fault> {
+    let net = network("10.1.0.0/16")?;
+    show_routes(rt, table.from(&net))?;
+    show_routes(rt, table.after(&net))?;
+    show_routes(rt, table.list(&net))?;
+    debug_line(rt, &table.count())
 }
 
 /// The blocks of one hop.
-fn flat(rt: &impl Print, table: &RouteTable) -> Result<(), Fault> {
+fn flat(rt: &HostRuntime, table: &RouteTable) -> Result<(), Fault> {
     for (block, number) in table.flat() {
-        println!(rt; "{block} {number}")?;
+        show_block(rt, &block, number)?;
     }
+    Ok(())
+}
+
+fn show_block(rt: &HostRuntime, block: &IpNet, number: u32) -> Result<(), Fault> {
+    println!(rt; "{block} {number}")?;
     Ok(())
 }
