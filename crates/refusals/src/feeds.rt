@@ -5,7 +5,6 @@ use ipnet::IpNet;
 use route_feed::{Counted, FollowError, Follower, RunError, follow, lead, shorten};
 use route_lines::{Command, Line, LineCutter, Reply};
 use route_table::Flat;
-use std::alloc::Global;
 use std::io::{Stdin, Write};
 
 /// How many bytes of output are kept.
@@ -41,23 +40,23 @@ pub fn run(rt: &HostRuntime, call: FeedCall) -> Result<(), Fault> {
 
 /// A run over standard input, whose output is kept in memory that is there before.
 fn run_over(rt: &HostRuntime, call: FeedCall) -> Result<(), Fault> {
-    let alloc = rt.alloc();
     let mut reader = Counted::new(rt.stdin());
-    let mut writer = Counted::new(Vec::with_capacity(alloc, OUTPUT)?);
+    let mut writer = Counted::new(Vec::with_capacity(rt.alloc(), OUTPUT)?);
     show_reads(rt, &reader)?;
     begin(rt)?;
     let outcome = match call {
-        FeedCall::Lead => lead(alloc, &mut reader, &mut writer),
-        FeedCall::Follow => follow(alloc, &mut reader, &mut writer),
-        _ => shorten(alloc, &mut reader, &mut writer),
+        FeedCall::Lead => lead(rt.alloc(), &mut reader, &mut writer),
+        FeedCall::Follow => follow(rt.alloc(), &mut reader, &mut writer),
+        _ => shorten(rt.alloc(), &mut reader, &mut writer),
     };
-    end(rt)?;
-    show_outcome(rt, &outcome)?;
+    ended(rt, &outcome)?;
     show_reads(rt, &reader)?;
     write_kept(rt, &writer.into_inner())
 }
 
-fn show_outcome(rt: &HostRuntime, outcome: &Result<(), RunError>) -> Result<(), Fault> {
+/// What a run answered.
+fn ended(rt: &HostRuntime, outcome: &Result<(), RunError>) -> Result<(), Fault> {
+    end(rt)?;
     match outcome {
         Ok(()) => answer(rt, &"ended"),
         Err(error) => refused(rt, error),

@@ -39,10 +39,19 @@ fn call_networks() -> Result<Networks, Fault> {
 
 pub fn run(rt: &HostRuntime, map: &mut Map, call: MapChange) -> Result<(), Fault> {
     let nets = call_networks()?;
+    show_before(rt, map, call)?;
     begin(rt)?;
     change(rt, map, &nets, call)?;
     end(rt)?;
     show(rt, map)
+}
+
+/// The map before the call. A call of an entry has what the entry held among its answers.
+fn show_before(rt: &HostRuntime, map: &Map, call: MapChange) -> Result<(), Fault> {
+    match call {
+        MapChange::EntryModify | MapChange::Occupied | MapChange::OccupiedRemove => Ok(()),
+        _ => show(rt, map),
+    }
 }
 
 fn change(rt: &HostRuntime, map: &mut Map, nets: &Networks, call: MapChange) -> Result<(), Fault> {

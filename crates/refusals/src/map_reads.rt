@@ -20,6 +20,7 @@ pub enum MapRead {
 pub fn run(rt: &HostRuntime, map: &mut Map, call: MapRead) -> Result<(), Fault> {
     let inner = ipv4_network("10.1.2.5/32")?;
     let outer = ipv4_network("10.0.0.0/9")?;
+    show(rt, map)?;
     begin(rt)?;
     read(rt, map, call, &inner, &outer)?;
     end(rt)?;

@@ -25,6 +25,7 @@ type Stored = Result<(), (Refused, u32)>;
 
 pub fn run(rt: &HostRuntime, map: &mut Map, call: MapStore) -> Result<(), Fault> {
     let net = ipv4_network("10.1.3.3/32")?;
+    show(rt, map)?;
     given(rt, value_of(call))?;
     begin(rt)?;
     let outcome = stored(map, net, call);

@@ -92,7 +92,6 @@ fn run_filled(rt: &HostRuntime, call: MapCall) -> Result<(), Fault> {
 
 fn run_over(rt: &HostRuntime, map: &mut Map, call: MapCall) -> Result<(), Fault> {
     fill(map)?;
-    show(rt, map)?;
     match call {
         MapCall::Store(call) => map_stores::run(rt, map, call),
         MapCall::Read(call) => map_reads::run(rt, map, call),
@@ -141,6 +140,7 @@ fn show_counts(rt: &HostRuntime, map: &Map) -> Result<(), Fault> {
 }
 
 fn try_clone(rt: &HostRuntime, map: &Map) -> Result<(), Fault> {
+    show(rt, map)?;
     begin(rt)?;
     let outcome = map.try_clone(rt.alloc());
     copied(rt, map, &outcome)

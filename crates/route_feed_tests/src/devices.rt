@@ -230,16 +230,48 @@ const CASES: [(Mode, &[(&[u8], &[u8])]); 3] = [
     (Mode::Shorten, &LEAST),
 ];
 
+/// What is tried: which run, what it is given, and the calls of its writer where nothing fails.
+#[derive(Clone, Copy)]
+struct Trial<'a> {
+    mode: Mode,
+    input: &'a [u8],
+    calls: &'a [Option<u8>],
+}
+
+/// The run ended well, with all calls of the writer, after so many reads.
+fn ended_well(rt: &impl Abort, ended: &Ended, trial: Trial<'_>, reads: usize) {
+    assert_eq!(rt; ended.result, Ok(()));
+    assert_eq!(rt; ended.done.as_slice(), trial.calls);
+    assert_eq!(rt; ended.calls, trial.calls.len());
+    assert_eq!(rt; ended.reads, reads);
+}
+
+/// The run ended with this error, when the writer had served so many calls.
+fn ended_early(rt: &impl Abort, ended: &Ended, trial: Trial<'_>, error: RunError, served: usize) {
+    assert_eq!(rt; ended.result, Err(error));
+    assert_eq!(rt; trial.calls.get(..served), Some(ended.done.as_slice()));
+}
+
+/// So often each device was called.
+fn called(rt: &impl Abort, ended: &Ended, reads: usize, calls: usize) {
+    assert_eq!(rt; ended.reads, reads);
+    assert_eq!(rt; ended.calls, calls);
+}
+
+/// The run takes and gives one byte a call.
+fn goes_by_bytes(rt: &impl Abort, alloc: Global, trial: Trial<'_>) {
+    let reader = dripping(trial.input);
+    let ended = run(rt, alloc, trial.mode, reader, narrow(alloc));
+    ended_well(rt, &ended, trial, trial.input.len().wrapping_add(1));
+}
+
 #[test]
 fn one_byte_a_call(rt: HostRuntime) -> Result<(), Fail> {
     for (mode, cases) in CASES {
         for (input, wanted) in cases {
             let calls = calls_of(rt.alloc(), mode, wanted)?;
-            let ended = run(&rt, rt.alloc(), mode, dripping(input), narrow(rt.alloc()));
-            assert_eq!(rt; ended.result, Ok(()));
-            assert_eq!(rt; ended.done.as_slice(), calls.as_slice());
-            assert_eq!(rt; ended.calls, calls.len());
-            assert_eq!(rt; ended.reads, input.len() + 1);
+            let calls = calls.as_slice();
+            goes_by_bytes(&rt, rt.alloc(), Trial { mode, input, calls });
         }
     }
     Ok(())
@@ -280,23 +312,61 @@ const TRIED: [(Mode, &[(&[u8], &[u8])]); 3] = [
     ),
 ];
 
+/// The first piece has so many bytes, and the second all others.
+fn goes_in_two(rt: &impl Abort, alloc: Global, trial: Trial<'_>, first: usize) {
+    let input = trial.input;
+    let reader = pieces(input, first, input.len());
+    let ended = run(rt, alloc, trial.mode, reader, narrow(alloc));
+    let reads = if first == input.len() { 2 } else { 3 };
+    ended_well(rt, &ended, trial, reads);
+}
+
+fn goes_in_two_anywhere(rt: &impl Abort, alloc: Global, trial: Trial<'_>) {
+    for first in 1..=trial.input.len() {
+        goes_in_two(rt, alloc, trial, first);
+    }
+}
+
 // A piece of each length comes first, and then the others in one.
 #[test]
 fn cut_after_each_byte(rt: HostRuntime) -> Result<(), Fail> {
     for (mode, cases) in TRIED {
         for (input, wanted) in cases {
             let calls = calls_of(rt.alloc(), mode, wanted)?;
-            for first in 1..=input.len() {
-                let reader = pieces(input, first, input.len());
-                let ended = run(&rt, rt.alloc(), mode, reader, narrow(rt.alloc()));
-                assert_eq!(rt; ended.result, Ok(()));
-                assert_eq!(rt; ended.done.as_slice(), calls.as_slice());
-                assert_eq!(rt; ended.calls, calls.len());
-                assert_eq!(rt; ended.reads, if first == input.len() { 2 } else { 3 });
-            }
+            let calls = calls.as_slice();
+            goes_in_two_anywhere(&rt, rt.alloc(), Trial { mode, input, calls });
         }
     }
     Ok(())
+}
+
+/// How many calls of the writer come before the read after so many bytes: a leader has answered the whole lines of them.
+fn calls_before(trial: Trial<'_>, came: usize) -> usize {
+    if trial.mode != Mode::Lead {
+        return calls_until(trial.calls, 0);
+    }
+    let bytes = trial.input.iter().take(came);
+    let ends = bytes.filter(|byte| **byte == b'\n').count();
+    calls_until(trial.calls, ends)
+}
+
+/// The read fails that comes after so many bytes.
+fn read_fails(rt: &impl Abort, alloc: Global, trial: Trial<'_>, came: usize, fault: Fault) {
+    let mut reader = dripping(trial.input);
+    reader.fails = came.wrapping_add(1);
+    reader.fault = fault;
+    let ended = run(rt, alloc, trial.mode, reader, narrow(alloc));
+    let served = calls_before(trial, came);
+    ended_early(rt, &ended, trial, RunError::Read, served);
+    called(rt, &ended, came.wrapping_add(1), served);
+}
+
+fn all_reads_fail(rt: &impl Abort, alloc: Global, trial: Trial<'_>) {
+    for came in 0..=trial.input.len() {
+        for fault in [Fault::Broken, Fault::Interrupted] {
+            read_fails(rt, alloc, trial, came, fault);
+        }
+    }
 }
 
 // Each read fails in turn, with an error or interrupted: a leader has answered the whole lines before it, the others have
@@ -306,28 +376,31 @@ fn each_read_fails(rt: HostRuntime) -> Result<(), Fail> {
     for (mode, cases) in TRIED {
         for (input, wanted) in cases {
             let calls = calls_of(rt.alloc(), mode, wanted)?;
-            for came in 0..=input.len() {
-                for fault in [Fault::Broken, Fault::Interrupted] {
-                    let mut reader = dripping(input);
-                    reader.fails = came + 1;
-                    reader.fault = fault;
-                    let ended = run(&rt, rt.alloc(), mode, reader, narrow(rt.alloc()));
-                    assert_eq!(rt; ended.result, Err(RunError::Read));
-                    assert_eq!(rt; ended.reads, came + 1);
-                    let ends = input
-                        .iter()
-                        .take(came)
-                        .filter(|byte| **byte == b'\n')
-                        .count();
-                    let answered = if mode == Mode::Lead { ends } else { 0 };
-                    let done = calls_until(calls.as_slice(), answered);
-                    assert_eq!(rt; calls.get(..done), Some(ended.done.as_slice()));
-                    assert_eq!(rt; ended.calls, done);
-                }
-            }
+            let calls = calls.as_slice();
+            all_reads_fail(&rt, rt.alloc(), Trial { mode, input, calls });
         }
     }
     Ok(())
+}
+
+/// The call of the writer fails that comes after so many.
+fn write_fails(rt: &impl Abort, alloc: Global, trial: Trial<'_>, served: usize, fault: Fault) {
+    let mut writer = narrow(alloc);
+    writer.fails = served.wrapping_add(1);
+    writer.fault = fault;
+    let ended = run(rt, alloc, trial.mode, dripping(trial.input), writer);
+    ended_early(rt, &ended, trial, RunError::Write, served);
+    let flushes = ended.done.iter().filter(|call| call.is_none()).count();
+    let reads = read_for(trial.mode, trial.input, flushes);
+    called(rt, &ended, reads, served.wrapping_add(1));
+}
+
+fn all_writes_fail(rt: &impl Abort, alloc: Global, trial: Trial<'_>) {
+    for served in 0..trial.calls.len() {
+        for fault in [Fault::Broken, Fault::Interrupted, Fault::Nothing] {
+            write_fails(rt, alloc, trial, served, fault);
+        }
+    }
 }
 
 // Each write and each flush fails in turn, with an error or interrupted, or the write takes nothing: the bytes before it are
@@ -338,19 +411,8 @@ fn each_write_fails(rt: HostRuntime) -> Result<(), Fail> {
     for (mode, cases) in TRIED {
         for (input, wanted) in cases {
             let calls = calls_of(rt.alloc(), mode, wanted)?;
-            for done in 0..calls.len() {
-                for fault in [Fault::Broken, Fault::Interrupted, Fault::Nothing] {
-                    let mut writer = narrow(rt.alloc());
-                    writer.fails = done + 1;
-                    writer.fault = fault;
-                    let ended = run(&rt, rt.alloc(), mode, dripping(input), writer);
-                    assert_eq!(rt; ended.result, Err(RunError::Write));
-                    assert_eq!(rt; calls.get(..done), Some(ended.done.as_slice()));
-                    assert_eq!(rt; ended.calls, done + 1);
-                    let flushes = ended.done.iter().filter(|call| call.is_none()).count();
-                    assert_eq!(rt; ended.reads, read_for(mode, input, flushes));
-                }
-            }
+            let calls = calls.as_slice();
+            all_writes_fail(&rt, rt.alloc(), Trial { mode, input, calls });
         }
     }
     Ok(())
@@ -379,6 +441,35 @@ fn bytes_of(alloc: Global, done: &[Option<u8>]) -> Result<Vec<u8>, AllocError> {
         bytes.push(byte)?;
     }
     Ok(bytes)
+}
+
+/// The run wrote these bytes.
+fn holds(rt: &impl Abort, alloc: Global, ended: &Ended, wanted: &[u8]) -> Result<(), AllocError> {
+    let held = bytes_of(alloc, ended.done.as_slice())?;
+    assert_eq!(rt; held.as_slice(), wanted);
+    Ok(())
+}
+
+/// The run ended so, after so many reads.
+fn ended_as(rt: &impl Abort, ended: &Ended, wanted: Result<(), RunError>, reads: usize) {
+    assert_eq!(rt; ended.result, wanted);
+    assert_eq!(rt; ended.reads, reads);
+}
+
+/// The run ends at the call of this writer that fails, and these bytes are held then.
+fn write_ends(
+    rt: &impl Abort,
+    alloc: Global,
+    mode: Mode,
+    input: &[u8],
+    writer: Held,
+    wanted: &[u8],
+) -> Result<(), AllocError> {
+    let fails = writer.fails;
+    let ended = run(rt, alloc, mode, dripping(input), writer);
+    assert_eq!(rt; ended.result, Err(RunError::Write));
+    assert_eq!(rt; ended.calls, fails);
+    holds(rt, alloc, &ended, wanted)
 }
 
 // Each flush fails that comes after a closing line, or at the end: the line is held with its line end, and nothing more is
@@ -417,11 +508,7 @@ fn each_flush_fails(rt: HostRuntime) -> Result<(), Fail> {
         let mut writer = narrow(rt.alloc());
         writer.most = 80;
         writer.fails = calls;
-        let ended = run(&rt, rt.alloc(), mode, dripping(input), writer);
-        assert_eq!(rt; ended.result, Err(RunError::Write));
-        let held = bytes_of(rt.alloc(), ended.done.as_slice())?;
-        assert_eq!(rt; held.as_slice(), wanted);
-        assert_eq!(rt; ended.calls, calls);
+        write_ends(&rt, rt.alloc(), mode, input, writer, wanted)?;
     }
     Ok(())
 }
@@ -434,8 +521,7 @@ fn a_read_fails_after_a_whole_line(rt: HostRuntime) -> Result<(), Fail> {
     reader.fails = input.len() + 1;
     let ended = run(&rt, rt.alloc(), Mode::Lead, reader, narrow(rt.alloc()));
     assert_eq!(rt; ended.result, Err(RunError::Read));
-    let held = bytes_of(rt.alloc(), ended.done.as_slice())?;
-    assert_eq!(rt; held.as_slice(), b"set 10.0.0.0/8 1\nok\n".as_slice());
+    holds(&rt, rt.alloc(), &ended, b"set 10.0.0.0/8 1\nok\n")?;
     Ok(())
 }
 
@@ -453,11 +539,7 @@ fn a_write_fails_after_five_bytes(rt: HostRuntime) -> Result<(), Fail> {
     ] {
         let mut writer = narrow(rt.alloc());
         writer.fails = 6;
-        let ended = run(&rt, rt.alloc(), mode, dripping(input), writer);
-        assert_eq!(rt; ended.result, Err(RunError::Write));
-        let held = bytes_of(rt.alloc(), ended.done.as_slice())?;
-        assert_eq!(rt; held.as_slice(), wanted);
-        assert_eq!(rt; ended.calls, 6);
+        write_ends(&rt, rt.alloc(), mode, input, writer, wanted)?;
     }
     Ok(())
 }
@@ -482,32 +564,35 @@ fn a_foreign_line_before_a_fault(rt: HostRuntime) {
     }
 }
 
-// Lines of 80 and of 81 bytes: a leader answers both `bad`, the others read no further than the first.
-#[test]
-fn two_long_lines(rt: HostRuntime) -> Result<(), Fail> {
-    let mut input = Vec::new(rt.alloc());
+/// A run over lines of 80 and of 81 bytes.
+fn run_long_lines(rt: &impl Abort, alloc: Global, mode: Mode) -> Result<Ended, AllocError> {
+    let mut input = Vec::new(alloc);
     for count in [80, 81] {
         for _at in 0..count {
             input.push(b'x')?;
         }
         input.push(b'\n')?;
     }
-    for (mode, wanted, reads, output) in [
-        (Mode::Lead, Ok(()), 164, b"bad\nbad\n".as_slice()),
-        (Mode::Follow, Err(RunError::Line), 81, b""),
-        (Mode::Shorten, Err(RunError::Line), 81, b""),
-    ] {
-        let ended = run(
-            &rt,
-            rt.alloc(),
-            mode,
-            dripping(input.as_slice()),
-            narrow(rt.alloc()),
-        );
-        assert_eq!(rt; ended.result, wanted);
-        assert_eq!(rt; ended.reads, reads);
-        let held = bytes_of(rt.alloc(), ended.done.as_slice())?;
-        assert_eq!(rt; held.as_slice(), output);
+    let reader = dripping(input.as_slice());
+    Ok(run(rt, alloc, mode, reader, narrow(alloc)))
+}
+
+// A leader answers lines of 80 and of 81 bytes both `bad`.
+#[test]
+fn two_long_lines(rt: HostRuntime) -> Result<(), Fail> {
+    let ended = run_long_lines(&rt, rt.alloc(), Mode::Lead)?;
+    ended_as(&rt, &ended, Ok(()), 164);
+    holds(&rt, rt.alloc(), &ended, b"bad\nbad\n")?;
+    Ok(())
+}
+
+// The others read no further than the first of them.
+#[test]
+fn the_first_long_line_is_no_reply(rt: HostRuntime) -> Result<(), Fail> {
+    for mode in [Mode::Follow, Mode::Shorten] {
+        let ended = run_long_lines(&rt, rt.alloc(), mode)?;
+        ended_as(&rt, &ended, Err(RunError::Line), 81);
+        holds(&rt, rt.alloc(), &ended, b"")?;
     }
     Ok(())
 }
