@@ -1,5 +1,6 @@
 -- The steps of the code that makes a plan.
-use Rattle.std.proofs.Common.{◌≡◌, ℕ, suc, ◌+◌, ◌-◌, ◌<◌, ◌≤◌, Bool, true, false, List, [], ◌∷◌, ◌++◌, length, take, drop, Option, Some, All, IsTrue, refl, sym, ap, ap₂, ◌∙◌, subst, arith, add-one, length-drop, slice_get}
+use Rattle.std.proofs.Common.{◌≡◌, ℕ, suc, ◌+◌, ◌-◌, ◌<◌, ◌≤◌, Bool, true, false, List, [], ◌∷◌, ◌++◌, length, take, drop, Option, Some, None, All, IsTrue, refl, sym, ap, ap₂, ◌∙◌, subst, arith, add-one, length-drop, slice_get, slice_index_or}
+use Rattle.std.proofs.lemmas.Option.{slice_get_read}
 use Rattle.std.proofs.lemmas.List.{take-append-drop}
 use Rattle.ipnet_blocks.specs.BitStrings.{begins}
 use Rattle.least_table.specs.Tables.{half_of}
@@ -7,10 +8,14 @@ use Rattle.least_table.specs.Pieces.{hop_at}
 use Rattle.least_table.specs.Trees.{Tree, Leaf, Fork, Skip, IsPlan, inner_of}
 use Rattle.least_table.specs.InnerPieces.{IsAscending, beyond, AllBegin, shared}
 use Rattle.least_table.specs.InnerRising.{IsRising}
-use Rattle.least_table.specs.InnerPlans.{plan_best, tree_of, IsFork, IsLifted, IsMade, between, Fits, AllFit}
-use Rattle.least_table.specs.declared.plan.Plan as code
+use Rattle.least_table.specs.HopSets.{AreMerged}
+use Rattle.least_table.specs.InnerHops.{members}
+use Rattle.least_table.specs.InnerSteps.{step_best}
+use Rattle.least_table.specs.InnerPlans.{Plan, top, tree_of, IsMade, between, Fits, AllFit}
+use Rattle.least_table.specs.InnerPlans as plans
+use Rattle.least_table.specs.declared.hops.Hops.{Hops}
 use Rattle.least_table.proofs.Cuts.{hop_at-low, hop_at-high, first_of_all}
-use Rattle.least_table.proofs.Growths.{best_of_tree, length_between}
+use Rattle.least_table.proofs.Growths.{best_of_tree, length_between, skip_plan}
 use Rattle.least_table.proofs.Shares.{AllShare, none_outside, hop_inside, all_share, shared_left, shared_right, shared_short, last_step, ascending_deeper}
 
 pub plan_same : (w : ℕ) (h g : List Bool → Option ℕ) (t : Tree) → ((x : List Bool) → h x ≡ g x) → IsPlan w g t → IsPlan w h t
@@ -26,17 +31,15 @@ fits_plan w h (Fork hops l r) plan = (plan.0, plan.1, fits_plan plan.0 (half_of 
 fits_plan w h (Skip k ds t) plan = (plan.0, plan.1, plan.2.0, fits_plan plan.0 (inner_of ds h) t plan.4)
 
 module _ {B : Type 0} (string : B → List Bool) where
-  fork_plan : (v d : ℕ) (h : List Bool → Option ℕ) (low high p : code.Plan B) → IsFork low high p → IsPlan v (half_of false h) (tree_of string (suc d) low) → IsPlan v (half_of true h) (tree_of string (suc d) high) → IsPlan (suc v) h (tree_of string d p)
-  fork_plan v d h low high (code.Leaf k) f l r = absurd f
-  fork_plan v d h low high (code.Skip' q k b t) f l r = absurd f
-  fork_plan v d h low high (code.Fork' q hops x z) f l r =
-      (v, refl, rw (best_of_tree string (suc d) x, best_of_tree string (suc d) z, f.0, f.1) f.2, rw (f.0) l, rw (f.1) r)
+  fork_plan : (v d : ℕ) (h : List Bool → Option ℕ) (hops : Hops) (low high : Plan B) → AreMerged (step_best (top low)) (step_best (top high)) (members hops) → IsPlan v (half_of false h) (tree_of string (suc d) low) → IsPlan v (half_of true h) (tree_of string (suc d) high)
+      → IsPlan (suc v) h (tree_of string d (plans.Fork hops low high))
+  fork_plan v d h hops low high m l r = (v, refl, rw (best_of_tree string (suc d) low, best_of_tree string (suc d) high) m, l, r)
 
-  pub tree_cut : (w d m : ℕ) (ps : List (B × ℕ)) (low high p : code.Plan B) → d < w → AllBegin false (beyond string d (take m ps)) → AllBegin true (beyond string d (drop m ps)) → IsFork low high p
-      → IsPlan (w - suc d) (hop_at (beyond string (suc d) (take m ps))) (tree_of string (suc d) low) → IsPlan (w - suc d) (hop_at (beyond string (suc d) (drop m ps))) (tree_of string (suc d) high) → IsPlan (w - d) (hop_at (beyond string d ps)) (tree_of string d p)
-  tree_cut w d m ps low high p i f g fork l r =
-      subst (λ v. IsPlan v (hop_at (beyond string d ps)) (tree_of string d p)) more
-      (fork_plan (w - suc d) d (hop_at (beyond string d ps)) low high p fork
+  tree_cut : (w d m : ℕ) (ps : List (B × ℕ)) (hops : Hops) (low high : Plan B) → d < w → AllBegin false (beyond string d (take m ps)) → AllBegin true (beyond string d (drop m ps)) → AreMerged (step_best (top low)) (step_best (top high)) (members hops)
+      → IsPlan (w - suc d) (hop_at (beyond string (suc d) (take m ps))) (tree_of string (suc d) low) → IsPlan (w - suc d) (hop_at (beyond string (suc d) (drop m ps))) (tree_of string (suc d) high) → IsPlan (w - d) (hop_at (beyond string d ps)) (tree_of string d (plans.Fork hops low high))
+  tree_cut w d m ps hops low high i f g merged l r =
+      subst (λ v. IsPlan v (hop_at (beyond string d ps)) (tree_of string d (plans.Fork hops low high))) more
+      (fork_plan (w - suc d) d (hop_at (beyond string d ps)) hops low high merged
       (plan_same _ _ _ (tree_of string (suc d) low) at_low l)
       (plan_same _ _ _ (tree_of string (suc d) high) at_high r))
     where
@@ -49,22 +52,22 @@ module _ {B : Type 0} (string : B → List Bool) where
       at_high : (x : List Bool) → hop_at (beyond string d ps) (true ∷ x) ≡ hop_at (beyond string (suc d) (drop m ps)) x
       at_high x = ap (λ qs. hop_at (beyond string d qs) (true ∷ x)) (sym (take-append-drop m ps)) ∙ hop_at-high string d (take m ps) (drop m ps) f g x
 
-  -- the plan of the pieces beyond their common bits, lifted, is the plan of the pieces
-  pub lift_plan : (fits : B → Bool) (w d c : ℕ) (first : B) (ps : List (B × ℕ)) (plan p : code.Plan B) → d ≤ c → c ≤ w → c ≤ length (string first) → AllShare (between d c (string first)) (beyond string d ps)
-      → IsLifted string fits first d c plan p → IsPlan (w - c) (hop_at (beyond string c ps)) (tree_of string c plan) → IsMade string fits w d ps p
-  lift_plan fits w d c first ps plan p i j k share lifted inner = record {
-    plans = subst (λ v. IsPlan v (hop_at (beyond string d ps)) (tree_of string d p)) whole
-        (lifted.plans (w - c) (hop_at (beyond string d ps)) (plan_same (w - c) _ (hop_at (beyond string c ps)) (tree_of string c plan) inside inner)
+  -- the plan of the pieces, by that of the pieces beyond their common bits
+  pub skip_made : (fits : B → Bool) (w d c : ℕ) (first b : B) (ps : List (B × ℕ)) (plan : Plan B) → suc d < c → c ≤ w → c ≤ length (string first) → AllShare (between d c (string first)) (beyond string d ps)
+      → string b ≡ take c (string first) → IsTrue (fits b) → IsMade string fits w c ps plan → IsMade string fits w d ps (plans.Skip None b plan)
+  skip_made fits w d c first b ps plan i j k share e f inner = record {
+    plans = subst (λ v. IsPlan v (hop_at (beyond string d ps)) (tree_of string d (plans.Skip None b plan))) whole
+        (skip_plan string first b d c plan e i k (w - c) (hop_at (beyond string d ps)) (plan_same (w - c) _ (hop_at (beyond string c ps)) (tree_of string c plan) inside inner.plans)
         (λ x l e. none_outside string ds d ps share x e));
-    rising = lifted.rising;
-    fit = lifted.fit;
+    rising = (tt, tt);
+    fit = (f, inner.fit);
   }
     where
       ds : List Bool
       ds = between d c (string first)
 
       long : length (between d c (string first)) ≡ c - d
-      long = length_between d c (string first) k i
+      long = length_between d c (string first) k (omega (arith, i))
 
       deep : d + length (between d c (string first)) ≡ c
       deep = omega (arith, long, i)
@@ -105,6 +108,10 @@ module _ {B : Type 0} (string : B → List Bool) where
       let deep : d + length (between d c (string first)) ≡ c = omega (arith, long, i) in
       subst (λ n. IsAscending (beyond string n ps)) deep (ascending_deeper string (between d c (string first)) d ps share h)
 
+  last_read : (ps : List (B × ℕ)) (x y : B × ℕ) → slice_get ps 0 ≡ Some x → y ≡ slice_index_or ps (length ps - 1) y → slice_get ps (length ps - 1) ≡ Some y
+  last_read [] x y e f = cc
+  last_read (p ∷ ps) x y e f = slice_get_read (p ∷ ps) (length (p ∷ ps)) (length (p ∷ ps) - 1) y refl (omega arith) f
+
   -- what the pieces have in common, from the facts of the calls
   pub record Common (w d n : ℕ) (x : B) (ps : List (B × ℕ)) : Type 0 where
     pub deep : d ≤ n
@@ -113,32 +120,26 @@ module _ {B : Type 0} (string : B → List Bool) where
     pub share : AllShare (between d n (string x)) (beyond string d ps)
 
   pub in_common : (fits : B → Bool) (w : ℕ) (ps : List (B × ℕ)) (x y : B × ℕ) (d n m : ℕ) (s t : List Bool) → All (λ p. IsTrue (fits p.0)) ps → IsAscending (beyond string d ps)
-      → slice_get ps 0 ≡ Some x → slice_get ps (length ps - 1) ≡ Some y → m ≡ length (string x.0) → (IsTrue (fits x.0) → m ≤ w) → d ≤ m → s ≡ string x.0 → t ≡ string y.0 → n ≡ d + shared (drop d s) (drop d t) → Common w d n x.0 ps
+      → slice_get ps 0 ≡ Some x → y ≡ slice_index_or ps (length ps - 1) y → m ≡ length (string x.0) → (IsTrue (fits x.0) → m ≤ w) → d ≤ m → s ≡ string x.0 → t ≡ string y.0 → n ≡ d + shared (drop d s) (drop d t) → Common w d n x.0 ps
   in_common fits w ps x y d n m s t f a i j k l o p q e =
       let r : n ≡ d + shared (drop d (string x.0)) (drop d (string y.0)) = e ∙ ap₂ (λ u v. d + shared (drop d u) (drop d v)) p q in
       record {
         deep = omega (arith, r);
         inside = common_short (string x.0) (string y.0) d n r (omega (arith, k, o));
         short = omega (arith, k, l (first_of_all string (λ p. IsTrue (fits p.0)) ps x i f));
-        share = shares ps x y d n i j r a;
+        share = shares ps x y d n i (last_read ps x y i j) r a;
       }
 
-  step : (fits : B → Bool) (w d : ℕ) (ps qs : List (B × ℕ)) (p : code.Plan B) → qs ≡ ps → IsMade string fits w (d + 1) qs p → IsPlan (w - suc d) (hop_at (beyond string (suc d) ps)) (tree_of string (suc d) p)
-  step fits w d ps qs p e m =
+  deeper_by_one : (fits : B → Bool) (w d : ℕ) (ps qs : List (B × ℕ)) (p : Plan B) → qs ≡ ps → IsMade string fits w (d + 1) qs p → IsPlan (w - suc d) (hop_at (beyond string (suc d) ps)) (tree_of string (suc d) p)
+  deeper_by_one fits w d ps qs p e m =
       let f : d + 1 ≡ suc d = add-one d in
       subst (λ n. IsPlan (w - n) (hop_at (beyond string n ps)) (tree_of string n p)) f (subst (λ rs. IsPlan (w - (d + 1)) (hop_at (beyond string (d + 1) rs)) (tree_of string (d + 1) p)) e m.plans)
 
   -- the plan of the pieces, by those of the halves
-  pub halves_plan : (fits : B → Bool) (w d m : ℕ) (ps front back : List (B × ℕ)) (low high p : code.Plan B) → d < w → AllBegin false (beyond string d (take m ps)) → AllBegin true (beyond string d (drop m ps)) → IsFork low high p
-      → front ≡ take m ps → back ≡ drop m ps → IsMade string fits w (d + 1) front low → IsMade string fits w (d + 1) back high → IsPlan (w - d) (hop_at (beyond string d ps)) (tree_of string d p)
-  halves_plan fits w d m ps front back low high p i f g fork e z l r = tree_cut w d m ps low high p i f g fork (step fits w d (take m ps) front low e l) (step fits w d (drop m ps) back high z r)
-
-pub fork_rises : {B : Type 0} (low high p : code.Plan B) → IsFork low high p → IsRising (plan_best p)
-fork_rises low high (code.Leaf k) f = absurd f
-fork_rises low high (code.Skip' q k b t) f = absurd f
-fork_rises low high (code.Fork' q hops x z) f = f.3
-
-pub fork_fits : {B : Type 0} (fits : B → Bool) (low high p : code.Plan B) → IsFork low high p → AllFit fits low → AllFit fits high → AllFit fits p
-fork_fits fits low high (code.Leaf k) f l r = absurd f
-fork_fits fits low high (code.Skip' q k b t) f l r = absurd f
-fork_fits fits low high (code.Fork' q hops x z) f l r = (subst (λ t. AllFit fits t) (sym f.0) l, subst (λ t. AllFit fits t) (sym f.1) r)
+  pub fork_made : (fits : B → Bool) (w d m : ℕ) (ps front back : List (B × ℕ)) (hops : Hops) (low high : Plan B) → d < w → AllBegin false (beyond string d (take m ps)) → AllBegin true (beyond string d (drop m ps))
+      → AreMerged (step_best (top low)) (step_best (top high)) (members hops) → IsRising (members hops) → front ≡ take m ps → back ≡ drop m ps → IsMade string fits w (d + 1) front low → IsMade string fits w (d + 1) back high → IsMade string fits w d ps (plans.Fork hops low high)
+  fork_made fits w d m ps front back hops low high i f g merged rises e z l r = record {
+    plans = tree_cut w d m ps hops low high i f g merged (deeper_by_one fits w d (take m ps) front low e l) (deeper_by_one fits w d (drop m ps) back high z r);
+    rising = rises;
+    fit = (l.fit, r.fit);
+  }

@@ -1,58 +1,119 @@
--- What the code stores for a plan, as the routes of its tree.
-use Rattle.std.proofs.Common.{◌≡◌, ℕ, suc, ◌≤◌, ◌⊎◌, inl, inr, Bool, true, false, cond, List, [], ◌∷◌, ◌++◌, length, drop, Option, refl, sym, ap, ap₂, ◌∙◌, subst, arith, append_assoc, append-nil, length-append, length-drop}
+-- What the steps of a plan store, as the routes of its tree.
+use Rattle.std.proofs.Common.{◌≡◌, ℕ, suc, ◌-◌, ◌≤◌, Bool, true, false, ◌||◌, cond, List, [], ◌∷◌, ◌++◌, length, drop, reverse, Option, refl, sym, ap, ap₂, ◌∙◌, subst, arith, append_assoc, append-nil, length-append, length-drop}
+use Rattle.std.proofs.lemmas.List.{reverse-append}
 use Rattle.least_table.specs.HopSets.{holds, same_hop, first_of}
-use Rattle.least_table.specs.Trees.{inside, within, Tree, routes_of}
-use Rattle.least_table.specs.InnerPlans.{tree_of, Fits}
-use Rattle.least_table.specs.Trees as trees
-use Rattle.least_table.specs.declared.plan.Plan.{Plan}
-use Rattle.least_table.proofs.Stores.{within-halves, Begins}
-
-module _ (b : List Bool) (L H : Option ℕ → List (List Bool × Option ℕ)) (hops : List (Option ℕ)) (s k : Option ℕ) (t0 t1 t2 t3 : List (List Bool × Option ℕ))
-    (after_low : t2 ≡ t1 ++ within (b ++ false ∷ []) (L k)) (after_high : t3 ≡ t2 ++ within (b ++ true ∷ []) (H k)) where
-  both_halves : t3 ≡ t1 ++ within b (inside false (L k) ++ inside true (H k))
-  both_halves = after_high ∙ rw (after_low, within-halves b (L k) (H k), append_assoc t1 (within (b ++ false ∷ []) (L k)) (within (b ++ true ∷ []) (H k))) refl
-
-  halves_stored : Begins b hops s k t0 t1 → t3 ≡ t0 ++ within b (cond (holds hops s) (inside false (L s) ++ inside true (H s)) (([], first_of hops) ∷ inside false (L (first_of hops)) ++ inside true (H (first_of hops))))
-  halves_stored (inl p) = both_halves ∙ rw (p.0, p.1, p.2) refl
-  halves_stored (inr p) = both_halves ∙ rw (p.0, p.1, p.2, append_assoc t0 ((b, first_of hops) ∷ []) (within b (inside false (L (first_of hops)) ++ inside true (H (first_of hops)))), append-nil b) refl
+use Rattle.least_table.specs.Trees.{inside, within, routes_of}
+use Rattle.least_table.specs.InnerHops.{members}
+use Rattle.least_table.specs.InnerSteps.{passed, all_routes, HaveRoom}
+use Rattle.least_table.specs.InnerPlans.{Plan, Leaf, Fork, Skip, steps_of, tree_of, AllFit, Fits}
+use Rattle.least_table.specs.declared.plan.Step.{Step}
+use Rattle.least_table.specs.declared.plan.Step.TheVariants as steps
+use Rattle.least_table.proofs.Sets.{same_hop-true}
+use Rattle.least_table.proofs.Stores.{within-halves}
 
 half_length : (b : List Bool) (c : Bool) → length (b ++ c ∷ []) ≡ suc (length b)
 half_length b c = length-append b (c ∷ []) ∙ omega arith
 
-pub stored_fork : {B : Type 0} (string : B → List Bool) (b b0 b1 : List Bool) (whole l r l' r' : Plan B) (hops : List (Option ℕ)) (s k : Option ℕ) (t0 t1 t2 t3 : List (List Bool × Option ℕ))
-    → tree_of string (length b) whole ≡ trees.Fork hops (tree_of string (suc (length b)) l) (tree_of string (suc (length b)) r)
-    → b0 ≡ b ++ false ∷ [] → b1 ≡ b ++ true ∷ [] → l' ≡ l → r' ≡ r → Begins b hops s k t0 t1
-    → t2 ≡ t1 ++ within b0 (routes_of (tree_of string (length b0) l') k) → t3 ≡ t2 ++ within b1 (routes_of (tree_of string (length b1) r') k)
-    → t3 ≡ t0 ++ within b (routes_of (tree_of string (length b) whole) s)
-stored_fork string b b0 b1 whole l r l' r' hops s k t0 t1 t2 t3 w e0 e1 el er begin f0 f1 =
-    rw w (halves_stored b (λ j. routes_of (tree_of string (suc (length b)) l) j) (λ j. routes_of (tree_of string (suc (length b)) r) j) hops s k t0 t1 t2 t3
-    (f0 ∙ rw (e0, el, half_length b false) refl) (f1 ∙ rw (e1, er, half_length b true) refl) begin)
+inner_length : (b s : List Bool) → length b ≤ length s → length (b ++ drop (length b) s) ≡ length s
+inner_length b s l = length-append b (drop (length b) s) ∙ omega (arith, length-drop (length b) s, l)
 
 within_within : (b ds : List Bool) (t : List (List Bool × Option ℕ)) → within b (within ds t) ≡ within (b ++ ds) t
 within_within b ds [] = refl
 within_within b ds (r ∷ t) = ap₂ (λ x y. (x, r.1) ∷ y) (sym (append_assoc b ds r.0)) (within_within b ds t)
 
--- how the routes of a block that is skipped begin
-abbrev pub SkipBegins : List Bool → Option ℕ → Option ℕ → List (List Bool × Option ℕ) → List (List Bool × Option ℕ) → Type 0
-SkipBegins b s k t0 t1 = ((same_hop s k ≡ true) × (t1 ≡ t0)) ⊎ ((same_hop s k ≡ false) × (t1 ≡ t0 ++ (b, k) ∷ []))
+-- ---- the routes of a block and of those in it
 
-skipped : (b b' ds : List Bool) (R : List (List Bool × Option ℕ)) (s k : Option ℕ) (t0 t1 t2 : List (List Bool × Option ℕ)) → b' ≡ b ++ ds → SkipBegins b s k t0 t1 → t2 ≡ t1 ++ within b' R
-    → t2 ≡ t0 ++ within b (cond (same_hop s k) (within ds R) (([], k) ∷ within ds R))
-skipped b b' ds R s k t0 t1 t2 e (inl p) f = f ∙ rw (p.0, p.1, e, within_within b ds R) refl
-skipped b b' ds R s k t0 t1 t2 e (inr p) f = f ∙ rw (p.0, p.1, e, within_within b ds R, append_assoc t0 ((b, k) ∷ []) (within (b ++ ds) R), append-nil b) refl
+leaf_stored : (c : Bool) (b : List Bool) (k : Option ℕ) → cond c [] ((b, k) ∷ []) ≡ within b (cond c [] (([], k) ∷ []))
+leaf_stored true b k = refl
+leaf_stored false b k = ap (λ x. (x, k) ∷ []) (sym (append-nil b))
 
-pub stored_skip : {B : Type 0} (string : B → List Bool) (b b' : List Bool) (x : B) (whole p p' : Plan B) (s k : Option ℕ) (t0 t1 t2 : List (List Bool × Option ℕ))
-    → tree_of string (length b) whole ≡ trees.Skip k (drop (length b) (string x)) (tree_of string (length (string x)) p)
-    → b' ≡ b ++ drop (length b) (string x) → length b ≤ length (string x) → p' ≡ p → SkipBegins b s k t0 t1
-    → t2 ≡ t1 ++ within b' (routes_of (tree_of string (length b') p') k)
-    → t2 ≡ t0 ++ within b (routes_of (tree_of string (length b) whole) s)
-stored_skip string b b' x whole p p' s k t0 t1 t2 w e l q begin f =
-    rw w (skipped b b' (drop (length b) (string x)) (routes_of (tree_of string (length (string x)) p) k) s k t0 t1 t2 e begin (f ∙ rw (long, q) refl))
+fork_stored : (c : Bool) (b : List Bool) (L H : Option ℕ → List (List Bool × Option ℕ)) (s f : Option ℕ)
+    → cond c [] ((b, f) ∷ []) ++ (within (b ++ false ∷ []) (L (cond c s f)) ++ within (b ++ true ∷ []) (H (cond c s f))) ≡ within b (cond c (inside false (L s) ++ inside true (H s)) (([], f) ∷ inside false (L f) ++ inside true (H f)))
+fork_stored true b L H s f = sym (within-halves b (L s) (H s))
+fork_stored false b L H s f = ap₂ (λ x y. (x, f) ∷ y) (sym (append-nil b)) (sym (within-halves b (L f) (H f)))
+
+skip_stored : (c : Bool) (b ds : List Bool) (t : List (List Bool × Option ℕ)) (k : Option ℕ) → cond c [] ((b, k) ∷ []) ++ within (b ++ ds) t ≡ within b (cond c (within ds t) (([], k) ∷ within ds t))
+skip_stored true b ds t k = sym (within_within b ds t)
+skip_stored false b ds t k = ap₂ (λ x y. (x, k) ∷ y) (sym (append-nil b)) (sym (within_within b ds t))
+
+-- a set of one hop
+one_holds : (k s : Option ℕ) → holds (k ∷ []) s ≡ same_hop s k
+one_holds k s = go (same_hop s k)
   where
-    long : length b' ≡ length (string x)
-    long = ap length e ∙ length-append b (drop (length b) (string x)) ∙ omega (arith, length-drop (length b) (string x), l)
+    go : (c : Bool) → (c || false) ≡ c
+    go true = refl
+    go false = refl
 
-pub room : {B : Type 0} (string : B → List Bool) (w d : ℕ) (whole p : Plan B) (x : B) (k : Option ℕ) → tree_of string d whole ≡ trees.Skip k (drop d (string x)) (tree_of string (length (string x)) p) → Fits w (tree_of string d whole) → d ≤ length (string x)
-room string w d whole p x k e f =
-    let g : Fits w (trees.Skip k (drop d (string x)) (tree_of string (length (string x)) p)) = subst (λ (t : Tree). Fits w t) e f in
-    omega (arith, g.2, length-drop d (string x))
+one_passed : (k s : Option ℕ) → passed (k ∷ []) s ≡ k
+one_passed k s = ap (λ c. cond c s k) (one_holds k s) ∙ go (same_hop s k) refl
+  where
+    go : (c : Bool) → same_hop s k ≡ c → cond c s k ≡ k
+    go true e = same_hop-true s k e
+    go false e = refl
+
+-- ---- the steps in turn
+
+one_last : {X : Type 0} (xs ys : List X) (x : X) → reverse (xs ++ x ∷ []) ++ ys ≡ x ∷ (reverse xs ++ ys)
+one_last xs ys x = ap (λ t. t ++ ys) (reverse-append xs (x ∷ []))
+
+two_last : {X : Type 0} (rs ls ys : List X) (x : X) → reverse ((rs ++ ls) ++ x ∷ []) ++ ys ≡ x ∷ (reverse ls ++ (reverse rs ++ ys))
+two_last rs ls ys x = one_last (rs ++ ls) ys x ∙ ap (λ t. x ∷ (t ++ ys)) (reverse-append rs ls) ∙ ap (λ t. x ∷ t) (append_assoc (reverse ls) (reverse rs) ys)
+
+module _ {B : Type 0} (string : B → List Bool) where
+  -- the steps of a plan store the routes of its tree
+  pub stored : (w : ℕ) (p : Plan B) (b : List Bool) (s : Option ℕ) (xs : List (Step B)) (bs : List (List Bool × Option ℕ)) → Fits w (tree_of string (length b) p)
+      → all_routes string (reverse (steps_of p) ++ xs) ((b, s) ∷ bs) ≡ within b (routes_of (tree_of string (length b) p) s) ++ all_routes string xs bs
+  stored w (Leaf k) b s xs bs f = ap (λ t. t ++ all_routes string xs bs) (ap (λ c. cond c [] ((b, k) ∷ [])) (one_holds k s) ∙ leaf_stored (same_hop s k) b k)
+  stored w (Fork hops l r) b s xs bs f =
+      ap (λ ys. all_routes string ys ((b, s) ∷ bs)) (two_last (steps_of r) (steps_of l) xs (steps.Fork hops))
+      ∙ ap (λ t. route ++ t) (stored f.0 l (b ++ false ∷ []) k (reverse (steps_of r) ++ xs) ((b ++ true ∷ [], k) ∷ bs) (subst (λ d. Fits f.0 (tree_of string d l)) (sym (half_length b false)) f.2)
+      ∙ ap₂ (λ d t. within (b ++ false ∷ []) (routes_of (tree_of string d l) k) ++ t) (half_length b false)
+      (stored f.0 r (b ++ true ∷ []) k xs bs (subst (λ d. Fits f.0 (tree_of string d r)) (sym (half_length b true)) f.3)
+      ∙ ap (λ d. within (b ++ true ∷ []) (routes_of (tree_of string d r) k) ++ all_routes string xs bs) (half_length b true)))
+      ∙ together route _ _ (all_routes string xs bs)
+      ∙ ap (λ t. t ++ all_routes string xs bs) (fork_stored (holds (members hops) s) b (λ j. routes_of (tree_of string (suc (length b)) l) j) (λ j. routes_of (tree_of string (suc (length b)) r) j) s (first_of (members hops)))
+    where
+      k : Option ℕ
+      k = cond (holds (members hops) s) s (first_of (members hops))
+
+      route : List (List Bool × Option ℕ)
+      route = cond (holds (members hops) s) [] ((b, first_of (members hops)) ∷ [])
+
+      together : {X : Type 0} (as' bs cs ds : List X) → as' ++ (bs ++ (cs ++ ds)) ≡ (as' ++ (bs ++ cs)) ++ ds
+      together as' bs cs ds = ap (λ t. as' ++ t) (sym (append_assoc bs cs ds)) ∙ sym (append_assoc as' (bs ++ cs) ds)
+  stored w (Skip k x t) b s xs bs f =
+      ap (λ ys. all_routes string ys ((b, s) ∷ bs)) (one_last (steps_of t) xs (steps.Skip k x))
+      ∙ ap₂ (λ c u. cond c [] ((b, k) ∷ []) ++ u) (one_holds k s)
+      (stored f.0 t (b ++ drop (length b) (string x)) (passed (k ∷ []) s) xs bs (subst (λ d. Fits f.0 (tree_of string d t)) (sym long) f.3)
+      ∙ ap₂ (λ d j. within (b ++ drop (length b) (string x)) (routes_of (tree_of string d t) j) ++ all_routes string xs bs) long (one_passed k s))
+      ∙ sym (append_assoc (cond (same_hop s k) [] ((b, k) ∷ [])) (within (b ++ drop (length b) (string x)) (routes_of (tree_of string (length (string x)) t) k)) (all_routes string xs bs))
+      ∙ ap (λ u. u ++ all_routes string xs bs) (skip_stored (same_hop s k) b (drop (length b) (string x)) (routes_of (tree_of string (length (string x)) t) k) k)
+    where
+      long : length (b ++ drop (length b) (string x)) ≡ length (string x)
+      long = inner_length b (string x) (omega (arith, f.2, length-drop (length b) (string x)))
+
+  -- they have room where the tree cuts no block into more
+  pub rooms : (fits : B → Bool) (w : ℕ) (p : Plan B) (b : List Bool) (s : Option ℕ) (xs : List (Step B)) (bs : List (List Bool × Option ℕ)) → length b ≤ w → Fits (w - length b) (tree_of string (length b) p) → AllFit fits p
+      → HaveRoom string fits w xs bs → HaveRoom string fits w (reverse (steps_of p) ++ xs) ((b, s) ∷ bs)
+  rooms fits w (Leaf k) b s xs bs l f a h = (l, h)
+  rooms fits w (Fork hops x y) b s xs bs l f a h =
+      subst (λ ys. HaveRoom string fits w ys ((b, s) ∷ bs)) (sym (two_last (steps_of y) (steps_of x) xs (steps.Fork hops))) (
+        omega (arith, f.1),
+        rooms fits w x (b ++ false ∷ []) _ (reverse (steps_of y) ++ xs) ((b ++ true ∷ [], _) ∷ bs) (omega (arith, half_length b false, f.1)) (half x false f.2) a.0
+            (rooms fits w y (b ++ true ∷ []) _ xs bs (omega (arith, half_length b true, f.1)) (half y true f.3) a.1 h),
+      )
+    where
+      half : (q : Plan B) (c : Bool) → Fits f.0 (tree_of string (suc (length b)) q) → Fits (w - length (b ++ c ∷ [])) (tree_of string (length (b ++ c ∷ [])) q)
+      half q c g = let e : w - suc (length b) ≡ f.0 = omega (arith, f.1) in rw (half_length b c, e) g
+  rooms fits w (Skip k x t) b s xs bs l f a h =
+      subst (λ ys. HaveRoom string fits w ys ((b, s) ∷ bs)) (sym (one_last (steps_of t) xs (steps.Skip k x)))
+      ((l, a.0), rooms fits w t (b ++ drop (length b) (string x)) _ xs bs (omega (arith, long, f.1, length-drop (length b) (string x), deep)) inner a.1 h)
+    where
+      deep : length b ≤ length (string x)
+      deep = omega (arith, f.2, length-drop (length b) (string x))
+
+      long : length (b ++ drop (length b) (string x)) ≡ length (string x)
+      long = inner_length b (string x) deep
+
+      inner : Fits (w - length (b ++ drop (length b) (string x))) (tree_of string (length (b ++ drop (length b) (string x))) t)
+      inner = let e : w - length (string x) ≡ f.0 = omega (arith, f.1, length-drop (length b) (string x), deep) in rw (long, e) f.3

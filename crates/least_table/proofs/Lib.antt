@@ -7,6 +7,8 @@ pub mod Risings
 pub mod Stores
 pub mod Growths
 pub mod GrownStores
+pub mod Tops
+pub mod Turns
 pub mod Shares
 pub mod Builds
 pub mod Orders

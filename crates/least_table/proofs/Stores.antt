@@ -16,17 +16,6 @@ pub within-whole : (t : List (List Bool × Option ℕ)) → within [] t ≡ t
 within-whole [] = refl
 within-whole (r ∷ t) = ap (λ y. r ∷ y) (within-whole t)
 
-pub on_ok_map : {T E : Type 0} {P Q : Type 0} (r : Result T E) → (P → Q) → OnOk r P → OnOk r Q
-on_ok_map (Ok x) f p = f p
-on_ok_map (Err e) f p = p
-
-pub strings-push : {B : Type 0} (string : B → List Bool) (ts : List (B × Option ℕ)) (b : B) (k : Option ℕ) → strings string (ts ++ (b, k) ∷ []) ≡ strings string ts ++ (string b, k) ∷ []
-strings-push string ts b k = map-append _ ts ((b, k) ∷ [])
-
--- how the routes of a block that is cut begin: nothing of its own, or one route
-abbrev pub Begins : List Bool → List (Option ℕ) → Option ℕ → Option ℕ → List (List Bool × Option ℕ) → List (List Bool × Option ℕ) → Type 0
-Begins b hops s k t0 t1 = ((holds hops s ≡ true) × (k ≡ s) × (t1 ≡ t0)) ⊎ ((holds hops s ≡ false) × (k ≡ first_of hops) × (t1 ≡ t0 ++ (b, first_of hops) ∷ []))
-
 pub if_ok_map : {T E : Type 0} {P Q : T → Type 0} (r : Result T E) → ((x : T) → P x → Q x) → IfOk r P → IfOk r Q
 if_ok_map (Ok x) f p = f x p
 if_ok_map (Err e) f p = p

@@ -7,4 +7,5 @@ pub mod InnerHops
 pub mod InnerPieces
 pub mod InnerRising
 pub mod InnerOrders
+pub mod InnerSteps
 pub mod InnerPlans

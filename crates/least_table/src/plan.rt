@@ -1,103 +1,67 @@
-//! Plans: which hops each block is best handed.
-ghost use Rattle.std.specs.Prelude.{◌≡◌, ◌-◌, ◌≤◌, ◌<◌, ◌++◌, ◌∷◌, [], IsTrue, length, IfOk, OnOk};
+//! Plans: which hops each block is best handed, as steps that are taken in turn.
+ghost use Rattle.std.specs.Prelude.{◌≡◌, ◌≤◌, ◌++◌, ◌∷◌, [], None, length, reverse, IfOk, OnOk};
 ghost use Rattle.least_table.specs.Pieces.{strings};
-ghost use Rattle.least_table.specs.Trees.{routes_of, within};
-ghost use Rattle.least_table.specs.InnerRising.{IsRising};
-ghost use Rattle.least_table.specs.InnerPlans.{plan_best, tree_of, IsFork, IsLifted, Fits, AllFit, AreNetworks};
+ghost use Rattle.least_table.specs.InnerSteps.{step_best, step_routes, step_blocks, all_routes, HasRoom, HaveRoom, AreNetworks};
 
-use crate::bits::{bit, onto};
-use crate::hops::{Hops, first, is_among, is_same, merge};
+use crate::bits::onto;
+use crate::hops::{Hops, first, is_among};
 use std::alloc::{AllocError, Global};
 use std::slice;
 use trie_core::Path;
-use trie_keys::{Prefix, path_of, prefix_of, shortened};
+use trie_keys::{Prefix, path_of, prefix_of};
 
-/// A block cut into halves.
+/// What a plan does with a block. The step of a block stands behind those of the smaller blocks that it is cut into.
 #[derive(Drop)]
-#[cycle(plan)]
-pub(crate) struct Fork<P: Copy> {
-    /// The hops that the block is best handed, rising.
-    hops: Hops,
-    /// The half whose next bit is 0.
-    low: Plan<P>,
-    /// The half whose next bit is 1.
-    high: Plan<P>,
-}
-
-/// A block whose addresses have one hop but for those of a smaller block.
-#[derive(Drop)]
-#[cycle(plan)]
-pub(crate) struct Skip<P: Copy> {
-    /// The hop outside the smaller block.
-    hop: Option<u32>,
-    /// The smaller block.
-    inner: P,
-    /// The plan of the smaller block.
-    plan: Plan<P>,
-}
-
-/// How a block is cut, and which hops it is best handed.
-#[derive(Drop)]
-#[cycle(plan)]
-pub(crate) enum Plan<P: Copy> {
-    /// A block whose addresses all have one hop.
+pub(crate) enum Step<P: Copy> {
+    /// All its addresses have one hop.
     Leaf(Option<u32>),
-    /// A block cut into halves.
-    Fork(Box<Fork<P>>),
-    /// A block with a smaller one that differs.
-    Skip(Box<Skip<P>>),
+    /// It is cut into halves, the upper first, and is best handed these hops, which rise.
+    Fork(Hops),
+    /// Its addresses have this hop but for those of a smaller block.
+    Skip(Option<u32>, P),
 }
 
-impl<P: Prefix + Copy> Plan<P> {
+impl<P: Prefix + Copy> Step<P> {
     /// The hops that the block is best handed.
-    fn best(&self) -> &[Option<u32>]
-        ensures { result.now ≡ plan_best self.now }
+    pub(crate) fn best(&self) -> &[Option<u32>]
+        ensures { result.now ≡ step_best self.now }
     {
         match self {
-            Plan::Leaf(hop) => slice::from_ref(hop),
-            Plan::Fork(fork) => fork.hops.as_slice(),
-            Plan::Skip(skip) => slice::from_ref(&skip.hop),
+            Step::Leaf(hop) => slice::from_ref(hop),
+            Step::Fork(hops) => hops.as_slice(),
+            Step::Skip(hop, _) => slice::from_ref(hop),
         }
     }
 
-    /// Adds the routes of the block at `path`, where `handed` is handed down.
-    pub(crate) fn store(
-        &self,
+    /// Adds the route of the block at `path`, where `handed` is handed down, if it needs one, and the smaller blocks with the hops
+    /// that these are handed.
+    fn take(
+        self,
         path: &Path,
         handed: Option<u32>,
+        waiting: &mut Vec<(Path, Option<u32>)>,
         table: &mut Vec<(P, Option<u32>)>,
     ) -> Result<(), AllocError>
         requires width { P.R.width ≤ 128 }
-        requires path { length path.now ≤ P.R.width }
-        requires room { Fits (P.R.width - length path.now) (tree_of P.bits (length path.now) self.now) }
-        requires fit { AllFit P.fits self.now }
-        ensures routes { OnOk result (strings P.bits table.new.items ≡ strings P.bits table.old.items ++ within path.now (routes_of (tree_of P.bits (length path.now) self.now) handed)) }
+        requires room { HasRoom P.bits P.fits P.R.width self path.now }
+        ensures routes { OnOk result (strings P.bits table.new.items ≡ strings P.bits table.old.items ++ step_routes self (path.now, handed)) }
         ensures networks { OnOk result (AreNetworks P.fits P.of_bits P.bits table.old.items → AreNetworks P.fits P.of_bits P.bits table.new.items) }
+        ensures waiting { OnOk result (reverse waiting.new.items ≡ step_blocks P.bits self (path.now, handed) ++ reverse waiting.old.items) }
     {
-        match self {
-            Plan::Leaf(hop) => {
-                if !is_same(handed, *hop) {
-                    add(table, path, *hop)?;
-                }
-                Ok(())
-            }
-            Plan::Fork(fork) => {
-                let mut passed = handed;
-                if !is_among(fork.hops.as_slice(), handed) {
-                    passed = first(fork.hops.as_slice());
-                    add(table, path, passed)?;
-                }
-                fork.low.store(&path.extended(false), passed, table)?;
-                fork.high.store(&path.extended(true), passed, table)
-            }
-            Plan::Skip(skip) => {
-                if !is_same(handed, skip.hop) {
-                    add(table, path, skip.hop)?;
-                }
-                let inner = onto(path, &path_of(&skip.inner));
-                skip.plan.store(&inner, skip.hop, table)
-            }
+        let mut passed = handed;
+        if !is_among(self.best(), handed) {
+            passed = first(self.best());
+            add(table, path, passed)?;
         }
+        match &self {
+            Step::Leaf(_) => {}
+            Step::Fork(_) => {
+                waiting.push((path.extended(true), passed))?;
+                waiting.push((path.extended(false), passed))?;
+            }
+            Step::Skip(_, inner) => waiting.push((onto(path, &path_of(inner)), passed))?,
+        }
+        Ok(())
     }
 }
 
@@ -115,49 +79,25 @@ fn add<P: Prefix + Copy>(
     Ok(())
 }
 
-/// The plan of a block by those of its halves.
-pub(crate) fn join<P: Prefix + Copy>(
+/// The routes of the plan of all addresses, which are handed no hop.
+pub(crate) fn routes<P: Prefix + Copy>(
     alloc: Global,
-    low: Plan<P>,
-    high: Plan<P>,
-) -> Result<Plan<P>, AllocError>
-    requires low { IsRising (plan_best low) }
-    requires high { IsRising (plan_best high) }
-    ensures { IfOk result (λ p. IsFork low high p) }
+    plan: Vec<Step<P>>,
+) -> Result<Vec<(P, Option<u32>)>, AllocError>
+    requires width { P.R.width ≤ 128 }
+    requires room { HaveRoom P.bits P.fits P.R.width (reverse plan.items) (([], None) ∷ []) }
+    ensures routes { IfOk result (λ table. strings P.bits table.items ≡ all_routes P.bits (reverse plan.items) (([], None) ∷ [])) }
+    ensures networks { IfOk result (λ table. AreNetworks P.fits P.of_bits P.bits table.items) }
 {
-    let hops = merge(alloc, low.best(), high.best())?;
-    Ok(Plan::Fork(Box::new(alloc, Fork { hops, low, high })?))
-}
-
-/// The plan of a block of `depth` bits that has no hop outside the first `common` bits of `first`, by the plan of these.
-pub(crate) fn lifted<P: Prefix + Copy>(
-    alloc: Global,
-    first: P,
-    plan: Plan<P>,
-    depth: u8,
-    common: u8,
-) -> Result<Plan<P>, AllocError>
-    requires fits { IsTrue (P.fits first) }
-    requires deeper { depth ≤ common }
-    requires in_bits { common ≤ length (P.bits first) }
-    requires rising { IsRising (plan_best plan) }
-    requires fit { AllFit P.fits plan }
-    ensures { IfOk result (λ p. IsLifted P.bits P.fits first depth common plan p) }
-{
-    if common == depth {
-        return Ok(plan);
+    let mut steps = plan;
+    let mut table: Vec<(P, Option<u32>)> = Vec::new(alloc);
+    let mut waiting: Vec<(Path, Option<u32>)> = Vec::new(alloc);
+    waiting.push((Path::new(0, 0), None))?;
+    while let Some(step) = steps.pop() {
+        let Some((path, handed)) = waiting.pop() else {
+            break;
+        };
+        step.take(&path, handed, &mut waiting, &mut table)?;
     }
-    if common - depth == 1 && !is_among(plan.best(), None) {
-        let gap = Plan::Leaf(None);
-        if bit(&path_of(&first), depth) {
-            return join(alloc, gap, plan);
-        }
-        return join(alloc, plan, gap);
-    }
-    let skip = Skip {
-        hop: None,
-        inner: shortened(&first, common),
-        plan,
-    };
-    Ok(Plan::Skip(Box::new(alloc, skip)?))
+    Ok(table)
 }

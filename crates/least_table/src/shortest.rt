@@ -1,17 +1,17 @@
 //! The routes of a shortest table.
-ghost use Rattle.std.specs.Prelude.{◌≡◌, ◌<◌, ◌≤◌, All, AllPairs, IfOk, IsTrue, length, take, drop, false, true};
+ghost use Rattle.std.specs.Prelude.{◌≡◌, ◌<◌, ◌≤◌, All, AllPairs, IfOk, OnOk, IsTrue, length, take, drop, false, true};
 ghost use Rattle.std.specs.declared.cmp.Ordering.TheVariants.{Less};
 ghost use Rattle.ipnet_blocks.specs.BitStrings.{bits_cmp};
 ghost use Rattle.least_table.specs.Pieces.{AreDisjoint, hop_at, strings};
 ghost use Rattle.least_table.specs.Tables.{IsLeast};
 ghost use Rattle.least_table.specs.InnerPieces.{IsAscending, AllBegin, beyond};
-ghost use Rattle.least_table.specs.InnerPlans.{IsMade};
+ghost use Rattle.least_table.specs.InnerPlans.{IsPlanned};
 
 use crate::bits::{bit, common};
-use crate::plan::{Plan, join, lifted};
+use crate::hops::merge;
+use crate::plan::{Step, routes};
 use std::alloc::{AllocError, Global};
-use trie_core::Path;
-use trie_keys::{Key, Prefix, path_of};
+use trie_keys::{Key, Prefix, path_of, shortened};
 
 /// How many of the pieces lie in the lower half, by the bit at `depth`.
 fn cut<P: Prefix + Copy>(pieces: &[(P, u32)], depth: u8) -> usize
@@ -35,35 +35,42 @@ fn cut<P: Prefix + Copy>(pieces: &[(P, u32)], depth: u8) -> usize
     low
 }
 
-/// The plan of a block of `depth` bits for the pieces in it.
-fn make_plan<P: Prefix + Copy>(
+/// Adds the steps of a plan of a block of `depth` bits for the pieces in it. Where these have two bits or more in common, the levels
+/// between are one step; where they have one, or none, the block is cut into halves, of which one may be empty.
+fn add_plan<P: Prefix + Copy>(
     alloc: Global,
     pieces: &[(P, u32)],
     depth: u8,
-) -> Result<Plan<P>, AllocError>
+    steps: &mut Vec<Step<P>>,
+) -> Result<(), AllocError>
     requires fits { All (λ p. IsTrue (P.fits p.0)) pieces.now }
     requires ascending { IsAscending (beyond P.bits depth pieces.now) }
-    ensures { IfOk result (λ p. IsMade P.bits P.fits P.R.width depth pieces.now p) }
+    ensures { OnOk result (IsPlanned P.bits P.fits P.R.width depth pieces.now steps.old.items steps.new.items) }
 {
     let Some(first) = pieces.first() else {
-        return Ok(Plan::Leaf(None));
-    };
-    let Some(last) = pieces.last() else {
-        return Ok(Plan::Leaf(None));
+        steps.push(Step::Leaf(None))?;
+        return Ok(());
     };
     if first.0.prefix_len() <= depth {
-        return Ok(Plan::Leaf(Some(first.1)));
+        steps.push(Step::Leaf(Some(first.1)))?;
+        return Ok(());
     }
+    let end = pieces.len() - 1;
+    let last = &pieces[end];
     let common = common(&path_of(&first.0), &path_of(&last.0), depth);
-    if first.0.prefix_len() <= common {
-        return lifted(alloc, first.0, Plan::Leaf(Some(first.1)), depth, common);
+    if common - depth > 1 {
+        add_plan(alloc, pieces, common, steps)?;
+        steps.push(Step::Skip(None, shortened(&first.0, common)))?;
+        return Ok(());
     }
-    let middle = cut(pieces, common);
-    let (below, above) = pieces.split_at(middle);
-    let low = make_plan(alloc, below, common + 1)?;
-    let high = make_plan(alloc, above, common + 1)?;
-    let plan = join(alloc, low, high)?;
-    lifted(alloc, first.0, plan, depth, common)
+    let (below, above) = pieces.split_at(cut(pieces, depth));
+    add_plan(alloc, above, depth + 1, steps)?;
+    let high = steps.len() - 1;
+    add_plan(alloc, below, depth + 1, steps)?;
+    let low = steps.len() - 1;
+    let hops = merge(alloc, steps[low].best(), steps[high].best())?;
+    steps.push(Step::Fork(hops))?;
+    Ok(())
 }
 
 /// The routes of a table with the hops of these pieces and the fewest members of all such tables, ascending. `None` is
@@ -81,9 +88,8 @@ pub fn least<P: Prefix + Copy>(
     ensures ordered { IfOk result (λ table. AllPairs (λ r s. bits_cmp r.0 s.0 ≡ Less) (strings P.bits table.items)) }
     ensures least { IfOk result (λ table. IsLeast P.R.width (hop_at (strings P.bits pieces.now)) (strings P.bits table.items)) }
 {
-    let plan = make_plan(alloc, pieces, 0)?;
+    let mut steps: Vec<Step<P>> = Vec::new(alloc);
+    add_plan(alloc, pieces, 0, &mut steps)?;
     let _width = <P::R as Key>::width();
-    let mut table: Vec<(P, Option<u32>)> = Vec::new(alloc);
-    plan.store(&Path::new(0, 0), None, &mut table)?;
-    Ok(table)
+    routes(alloc, steps)
 }
