@@ -1,8 +1,6 @@
 -- What the routes of the halves are as routes of the whole.
-use Rattle.std.proofs.Common.{◌≡◌, ℕ, Bool, true, false, List, [], ◌∷◌, ◌++◌, Option, refl, sym, ap, ap₂, ◌∙◌, append_assoc, Result, Ok, Err, OnOk, IfOk, ◌⊎◌}
+use Rattle.std.proofs.Common.{◌≡◌, ℕ, Bool, true, false, List, [], ◌∷◌, ◌++◌, Option, refl, sym, ap, ap₂, ◌∙◌, append_assoc, Result, Ok, Err, IfOk}
 use Rattle.std.proofs.lemmas.List.{map-append}
-use Rattle.least_table.specs.Pieces.{strings}
-use Rattle.least_table.specs.HopSets.{holds, first_of}
 use Rattle.least_table.specs.Trees.{inside, within}
 
 within-inside : (b : List Bool) (c : Bool) (t : List (List Bool × Option ℕ)) → within b (inside c t) ≡ within (b ++ c ∷ []) t

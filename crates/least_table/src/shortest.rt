@@ -88,6 +88,9 @@ pub fn least<P: Prefix + Copy>(
     ensures ordered { IfOk result (λ table. AllPairs (λ r s. bits_cmp r.0 s.0 ≡ Less) (strings P.bits table.items)) }
     ensures least { IfOk result (λ table. IsLeast P.R.width (hop_at (strings P.bits pieces.now)) (strings P.bits table.items)) }
 {
+    if pieces.is_empty() {
+        return Ok(Vec::new(alloc));
+    }
     let mut steps: Vec<Step<P>> = Vec::new(alloc);
     add_plan(alloc, pieces, 0, &mut steps)?;
     let _width = <P::R as Key>::width();
