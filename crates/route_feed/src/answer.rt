@@ -245,6 +245,21 @@ fn tell_change<W: Write>(
     if table.is_leaf(net) {
         return reply(writer, Some(change_line(net.trunc(), after)));
     }
+    tell_governed(table, net, after, writer)
+}
+
+/// Replies with a line for each block that the network governs.
+#[inline(never)]
+fn tell_governed<W: Write>(
+    table: &RouteTable,
+    net: &IpNet,
+    after: Option<u32>,
+    writer: &mut Counted<W>,
+) -> Result<(), RunError>
+    requires { CanCount writer.old }
+    ensures { (blocks : List Block) × IsMaximal (table_of.Governed (routes_of table.now) (block net.now)) blocks
+        × Closes W.contents 1 writer.old writer.new result (printed (map (change_line after) blocks ++ Reply.Close Closing.Done ∷ [])) }
+{
     let lines = ChangeLines {
         blocks: table.governed(net),
         hop: after,

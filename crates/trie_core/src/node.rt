@@ -12,7 +12,7 @@ ghost use Rattle.trie_core.specs.Search.{NoBeginning, IsLongest, IsShortest};
 
 use crate::path::Path;
 use crate::slots::{
-    first_place, get_at, last_place, put_at, reserve_one, slot, take_at, taken_below,
+    first_place, get_at, last_place, put_at, reserve_some, slot, take_at, taken_below,
 };
 use crate::tables::{bit, place_length, places_between};
 use std::alloc::Global;
@@ -321,7 +321,8 @@ impl<T: Drop> Node<T> {
             let child = &mut self.children[at];
             return child.exchange(path.rest(), held, may_grow, room);
         }
-        if !may_grow || room == 0 || reserve_one(&mut self.children).is_err() {
+        let more = self.children.len().clamp(1, 16);
+        if !may_grow || room == 0 || reserve_some(&mut self.children, more).is_err() {
             return None;
         }
         let mut child = Node::new(*self.children.allocator());

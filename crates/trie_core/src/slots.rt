@@ -55,10 +55,10 @@ pub(crate) fn get_at<X>(taken: u32, items: &[X], place: u8) -> Option<&X>
     }
 }
 
-/// Makes room for one thing more, and mostly for no other: most lists stay short, and there are many of them. A list
-/// of half the things that there can be gets room for all.
+/// Makes room for one thing more: where there is none, for so many.
 #[inline]
-pub(crate) fn reserve_one<X>(items: &mut Vec<X>) -> Result<(), AllocError>
+pub(crate) fn reserve_some<X>(items: &mut Vec<X>, more: usize) -> Result<(), AllocError>
+    requires { 0 < more }
     ensures items { items.new.items ≡ items.old.items }
     ensures ok { OnOk result (vec_len items.new < vec_capacity items.new) }
     ensures succeeds { vec_len items.old < vec_capacity items.old → IsOk result }
@@ -66,7 +66,7 @@ pub(crate) fn reserve_one<X>(items: &mut Vec<X>) -> Result<(), AllocError>
     if items.len() < items.capacity() {
         return Ok(());
     }
-    items.reserve_exact(if items.len() < 16 { 1 } else { 16 })
+    items.reserve_exact(more)
 }
 
 /// Stores the thing at the place, and answers what stood there.
@@ -100,7 +100,9 @@ pub(crate) fn put_at<X>(
             Ok(Some(mem::replace(item, thing)))
         }
         None => {
-            if !may_grow || reserve_one(items).is_err() {
+            // Most lists stay short, and there are many of them. One of half the things that there can be gets room for all.
+            let more = if items.len() < 16 { 1 } else { 16 };
+            if !may_grow || reserve_some(items, more).is_err() {
                 return Err(thing);
             }
             match items.insert(taken_below(word, place), thing) {

@@ -17,6 +17,3 @@ returns-then-is_leaf-clause-differs g c = λ _.
     let cleared = ap block c.trunc.ensures.value ∙ of_network_at (block c.args.net.now) in
     let line = c.change_line.ensures.value (c.trunc.ensures.value ∙ sym (ap network_at cleared)) ∙ ap (change_line c.args.after) cleared in
     (block c.args.net.now ∷ [], c.is_leaf.ensures.governed c.if-is_leaf.true, subst (λ (l : Reply). Closes g.W.Write.contents 1 c.args.writer.now c.reply.new.writer c.reply.result (printed (l ∷ Close Done ∷ []))) line c.reply.ensures)
-
-pub returns-clause-differs : goal.returns-clause-differs
-returns-clause-differs g c = λ _. (c.governed.result, c.governed.ensures.maximal, c.reply-2.ensures)

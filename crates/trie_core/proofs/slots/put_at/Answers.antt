@@ -18,7 +18,7 @@ returns-then-not-may_grow-clause-absent g c = sym (missing c.args.place c.args.t
 pub insert-requires : goal.insert-requires
 insert-requires g c =
     let f = free c.args.place c.taken_below.result c.args.taken.now c.args.items.now.items c.requires.below (omega arith) c.in-None.ensures c.taken_below.ensures c.requires.counted in
-    omega (arith, f.within, c.reserve_one.new.items.ok.0, ap length c.reserve_one.ensures.items)
+    omega (arith, f.within, c.reserve_some.new.items.ok.0, ap length c.reserve_some.ensures.items)
 
 pub overflow_add-taken : goal.overflow_add-taken
 overflow_add-taken g c =
@@ -41,12 +41,12 @@ returns-in-Ok-clause-old g c = missing c.args.place c.args.taken.now c.args.item
 pub returns-in-Ok-clause-items : goal.returns-in-Ok-clause-items
 returns-in-Ok-clause-items g c =
     let f = free c.args.place c.taken_below.result c.args.taken.now c.args.items.now.items c.requires.below (omega arith) c.in-None.ensures c.taken_below.ensures c.requires.counted in
-    (put_in c.args.place c.taken_below.result c.args.taken.now c.bit.result c.args.thing c.args.items.now.items c.insert.new.self.items f c.bit.ensures (c.in-Ok.ensures.items ∙ ap (λ l. insert l c.taken_below.result c.args.thing) c.reserve_one.ensures.items)).0
+    (put_in c.args.place c.taken_below.result c.args.taken.now c.bit.result c.args.thing c.args.items.now.items c.insert.new.self.items f c.bit.ensures (c.in-Ok.ensures.items ∙ ap (λ l. insert l c.taken_below.result c.args.thing) c.reserve_some.ensures.items)).0
 
 pub returns-in-Ok-clause-counted : goal.returns-in-Ok-clause-counted
 returns-in-Ok-clause-counted g c =
     let f = free c.args.place c.taken_below.result c.args.taken.now c.args.items.now.items c.requires.below (omega arith) c.in-None.ensures c.taken_below.ensures c.requires.counted in
-    (put_in c.args.place c.taken_below.result c.args.taken.now c.bit.result c.args.thing c.args.items.now.items c.insert.new.self.items f c.bit.ensures (c.in-Ok.ensures.items ∙ ap (λ l. insert l c.taken_below.result c.args.thing) c.reserve_one.ensures.items)).1
+    (put_in c.args.place c.taken_below.result c.args.taken.now c.bit.result c.args.thing c.args.items.now.items c.insert.new.self.items f c.bit.ensures (c.in-Ok.ensures.items ∙ ap (λ l. insert l c.taken_below.result c.args.thing) c.reserve_some.ensures.items)).1
 
 pub returns-in-Err-clause-absent : goal.returns-in-Err-clause-absent
 returns-in-Err-clause-absent g c = sym (missing c.args.place c.args.taken.now c.args.items.now.items c.in-None.ensures)

@@ -118,27 +118,27 @@ pub invariant_of-self-2 : goal.invariant_of-self-2
 invariant_of-self-2 g t c =
     let h : 5 ≤ length c.args.path = grind (arith, nat_tests) in
     let (v, i) = some_of c.args.held.now c.requires in
-    (hung c.args.path v c.exchange-2.new.self (seen c.self.invariant c.self.view_is) h c.five-number.ensures.value c.in_default.ensures c.reserve_one.ensures.items c.in-Ok.ensures.items c.in-Ok.ensures.counted (c.in-Ok.ensures.below 32 c.five-number.ensures.below c.self.invariant.children_below)
+    (hung c.args.path v c.exchange-2.new.self (seen c.self.invariant c.self.view_is) h c.five-number.ensures.value c.in_default.ensures c.reserve_some.ensures.items c.in-Ok.ensures.items c.in-Ok.ensures.counted (c.in-Ok.ensures.below 32 c.five-number.ensures.below c.self.invariant.children_below)
     (c.in_ok-made.ensures.map v i ∙ (λ j. insert (c.new-child.ensures.map j) (c.rest-2.ensures j) v))).slots
 
 pub returns-clause-map : goal.returns-clause-map
 returns-clause-map g t c v i =
     let h : 5 ≤ length c.args.path = grind (arith, nat_tests) in
-    (hung c.args.path v c.exchange-2.new.self (seen c.self.invariant c.self.view_is) h c.five-number.ensures.value c.in_default.ensures c.reserve_one.ensures.items c.in-Ok.ensures.items c.in-Ok.ensures.counted (c.in-Ok.ensures.below 32 c.five-number.ensures.below c.self.invariant.children_below)
+    (hung c.args.path v c.exchange-2.new.self (seen c.self.invariant c.self.view_is) h c.five-number.ensures.value c.in_default.ensures c.reserve_some.ensures.items c.in-Ok.ensures.items c.in-Ok.ensures.counted (c.in-Ok.ensures.below 32 c.five-number.ensures.below c.self.invariant.children_below)
     (c.in_ok-made.ensures.map v i ∙ (λ j. insert (c.new-child.ensures.map j) (c.rest-2.ensures j) v))).map
 
 pub returns-clause-spares : goal.returns-clause-spares
 returns-clause-spares g t c =
     let h : 5 ≤ length c.args.path = grind (arith, nat_tests) in
     let (v, i) = some_of c.args.held.now c.requires in
-    hung_off _ c.args.path v c.exchange-2.new.self (seen c.self.invariant c.self.view_is) h c.five-number.ensures.value c.in_default.ensures c.reserve_one.ensures.items c.in-Ok.ensures.items (c.in-Ok.ensures.below 32 c.five-number.ensures.below c.self.invariant.children_below)
+    hung_off _ c.args.path v c.exchange-2.new.self (seen c.self.invariant c.self.view_is) h c.five-number.ensures.value c.in_default.ensures c.reserve_some.ensures.items c.in-Ok.ensures.items (c.in-Ok.ensures.below 32 c.five-number.ensures.below c.self.invariant.children_below)
     (c.in_ok-made.ensures.map v i ∙ (λ j. insert (c.new-child.ensures.map j) (c.rest-2.ensures j) v)) (c.in_ok-made.ensures.spares ∙ off_none c.new-child.result.spares c.rest-2.result c.new-child.ensures.spares)
 
 pub returns-clause-count : goal.returns-clause-count
 returns-clause-count g t c =
     let h : 5 ≤ length c.args.path = grind (arith, nat_tests) in
     let (v, i) = some_of c.args.held.now c.requires in
-    let k = hung c.args.path v c.exchange-2.new.self (seen c.self.invariant c.self.view_is) h c.five-number.ensures.value c.in_default.ensures c.reserve_one.ensures.items c.in-Ok.ensures.items c.in-Ok.ensures.counted (c.in-Ok.ensures.below 32 c.five-number.ensures.below c.self.invariant.children_below)
+    let k = hung c.args.path v c.exchange-2.new.self (seen c.self.invariant c.self.view_is) h c.five-number.ensures.value c.in_default.ensures c.reserve_some.ensures.items c.in-Ok.ensures.items c.in-Ok.ensures.counted (c.in-Ok.ensures.below 32 c.five-number.ensures.below c.self.invariant.children_below)
     (c.in_ok-made.ensures.map v i ∙ (λ j. insert (c.new-child.ensures.map j) (c.rest-2.ensures j) v)) in
     omega (arith, k.count, c.in_ok-made.ensures.count, new_nodes c.new-child.result c.new-child.ensures.map (no_spares c.new-child.result c.new-child.ensures.spares))
 
@@ -146,6 +146,6 @@ pub returns-clause-levels : goal.returns-clause-levels
 returns-clause-levels g t c =
     let h : 5 ≤ length c.args.path = grind (arith, nat_tests) in
     let (v, i) = some_of c.args.held.now c.requires in
-    let k = hung c.args.path v c.exchange-2.new.self (seen c.self.invariant c.self.view_is) h c.five-number.ensures.value c.in_default.ensures c.reserve_one.ensures.items c.in-Ok.ensures.items c.in-Ok.ensures.counted (c.in-Ok.ensures.below 32 c.five-number.ensures.below c.self.invariant.children_below)
+    let k = hung c.args.path v c.exchange-2.new.self (seen c.self.invariant c.self.view_is) h c.five-number.ensures.value c.in_default.ensures c.reserve_some.ensures.items c.in-Ok.ensures.items c.in-Ok.ensures.counted (c.in-Ok.ensures.below 32 c.five-number.ensures.below c.self.invariant.children_below)
     (c.in_ok-made.ensures.map v i ∙ (λ j. insert (c.new-child.ensures.map j) (c.rest-2.ensures j) v)) in
     omega (arith, k.height, c.in_ok-made.ensures.levels, c.new-child.ensures.levels, ap (λ q. length q / 5 + 1) c.rest-2.ensures, depth_rest c.args.path h)
