@@ -16,7 +16,8 @@ is the most that was resident. Each feed ends with `flat`, and the follower's ou
 leader of the shortest table answers. No line of a feed was answered `bad` or `refused`.
 
 Machine: {machine}.
-{beside} Times differ from machine to machine; ratios less.
+{beside} Times differ from machine to machine; ratios less. Where a host lends
+a machine's processors to others in turns, a single ratio can be a third off, and a second run tells.
 
 The synthetic feeds are the same for everyone (`bench/feeds.py`): `load` adds so many networks, `churn` does as many adds,
 dels and gets after that, `walks` a tenth as many `list`, `cover`, `from`, `after` and `count`. The real feed is every
@@ -47,7 +48,7 @@ writes as its buffer fills, which ours does while more lines are here.
 
 What limits us on feeds in random order, by a profile of `churn`: a sixth of the time is `malloc`, `realloc` and `free`, of the lists
 of nodes, which the crate puts into whole blocks; a seventh of `lead`, a fifth with IPv6, waits for nodes in the longest match; the
-rest is spread over reading, walking and printing, with no function above a ninth. `least` keeps its plan, up to six steps
+rest is spread over reading, walking and printing, with no function above an eighth. `least` keeps its plan, up to six steps
 for a block of the flat list, where the peer keeps 12 bytes for a node of its own and the hops of all in one list.
 
 """
