@@ -8,6 +8,7 @@ ghost use Rattle.route_feed.specs.Leads.{LeadEnds};
 ghost use Rattle.route_feed.specs.Output.{output};
 
 use crate::answer::{answer, answer_rest};
+use crate::at_end::AtEnd;
 use crate::counted::Counted;
 use crate::error::RunError;
 use crate::sink::{PIECE, Sink, run};
@@ -53,6 +54,39 @@ pub fn lead<R: Read, W: Write>(
     ensures known { OnOk result (IfSome (R.remaining (inner reader.old)) (λ bytes.
         (refusals : List Bool) × Appends (W.contents (inner writer.old)) (W.contents (inner writer.new)) (output bytes refusals))) }
 {
+    led(alloc, reader, writer, AtEnd::Free)
+}
+
+/// The same as `lead`, for a process that ends next: the memory of its table is leaked, for the system to take as a whole.
+/// To give it back list by list, as `lead` does, takes up to an eighth of a run.
+pub fn lead_leaking<R: Read, W: Write>(
+    alloc: Global,
+    reader: &mut Counted<R>,
+    writer: &mut Counted<W>,
+) -> Result<(), RunError>
+    requires reads { reads_of reader.old < 2 ^ 63 }
+    requires reader { faults_of reader.old < 2 ^ 63 }
+    requires writer { faults_of writer.old < 2 ^ 63 }
+    ensures ends { LeadEnds R.remaining W.contents reader.old reader.new writer.old writer.new result }
+    ensures known { OnOk result (IfSome (R.remaining (inner reader.old)) (λ bytes.
+        (refusals : List Bool) × Appends (W.contents (inner writer.old)) (W.contents (inner writer.new)) (output bytes refusals))) }
+{
+    led(alloc, reader, writer, AtEnd::Leak)
+}
+
+fn led<R: Read, W: Write>(
+    alloc: Global,
+    reader: &mut Counted<R>,
+    writer: &mut Counted<W>,
+    at_end: AtEnd,
+) -> Result<(), RunError>
+    requires reads { reads_of reader.old < 2 ^ 63 }
+    requires reader { faults_of reader.old < 2 ^ 63 }
+    requires writer { faults_of writer.old < 2 ^ 63 }
+    ensures ends { LeadEnds R.remaining W.contents reader.old reader.new writer.old writer.new result }
+    ensures known { OnOk result (IfSome (R.remaining (inner reader.old)) (λ bytes.
+        (refusals : List Bool) × Appends (W.contents (inner writer.old)) (W.contents (inner writer.new)) (output bytes refusals))) }
+{
     let Ok(mut buf) = vec![in alloc; 0; PIECE] else {
         return Err(RunError::Memory);
     };
@@ -60,5 +94,7 @@ pub fn lead<R: Read, W: Write>(
         return Err(RunError::Memory);
     };
     let rest = run(&mut table, buf.as_mut_slice(), reader, writer)?;
-    answer_rest(rest, writer)
+    let result = answer_rest(rest, writer);
+    at_end.give_up(table);
+    result
 }

@@ -4,11 +4,12 @@
 pub use counted::Counted;
 pub use error::RunError;
 pub use follower::{FollowError, Follower};
-pub use leader::lead;
-pub use reading::follow;
+pub use leader::{lead, lead_leaking};
+pub use reading::{follow, follow_leaking};
 pub use shortening::shorten;
 
 mod answer;
+mod at_end;
 mod body;
 mod counted;
 mod error;

@@ -7,6 +7,7 @@ ghost use Rattle.route_feed.specs.InnerFollowing.{FollowsLine};
 ghost use Rattle.route_feed.specs.InnerReaching.{Reaches};
 ghost use Rattle.route_lines.specs.Bytes.{lines};
 
+use crate::at_end::AtEnd;
 use crate::counted::Counted;
 use crate::error::RunError;
 use crate::follower::{FollowError, Follower};
@@ -78,6 +79,40 @@ pub fn follow<R: Read, W: Write>(
     ensures known { OnOk result (IfSome (R.remaining (inner reader.old)) (λ bytes.
         AreReplies (lines bytes) × Appends (W.contents (inner writer.old)) (W.contents (inner writer.new)) (followed bytes))) }
 {
+    followed_to(alloc, reader, writer, AtEnd::Free)
+}
+
+/// The same as `follow`, for a process that ends next: the memory of its table is leaked, for the system to take as a whole.
+pub fn follow_leaking<R: Read, W: Write>(
+    alloc: Global,
+    reader: &mut Counted<R>,
+    writer: &mut Counted<W>,
+) -> Result<(), RunError>
+    requires reads { reads_of reader.old < 2 ^ 63 }
+    requires reader { faults_of reader.old < 2 ^ 63 }
+    requires writer { faults_of writer.old < 2 ^ 63 }
+    ensures ends { FollowEnds R.remaining W.contents reader.old reader.new writer.old writer.new result }
+    ensures known { OnOk result (IfSome (R.remaining (inner reader.old)) (λ bytes.
+        AreReplies (lines bytes) × Appends (W.contents (inner writer.old)) (W.contents (inner writer.new)) (followed bytes))) }
+{
+    followed_to(alloc, reader, writer, AtEnd::Leak)
+}
+
+fn followed_to<R: Read, W: Write>(
+    alloc: Global,
+    reader: &mut Counted<R>,
+    writer: &mut Counted<W>,
+    at_end: AtEnd,
+) -> Result<(), RunError>
+    requires reads { reads_of reader.old < 2 ^ 63 }
+    requires reader { faults_of reader.old < 2 ^ 63 }
+    requires writer { faults_of writer.old < 2 ^ 63 }
+    ensures ends { FollowEnds R.remaining W.contents reader.old reader.new writer.old writer.new result }
+    ensures known { OnOk result (IfSome (R.remaining (inner reader.old)) (λ bytes.
+        AreReplies (lines bytes) × Appends (W.contents (inner writer.old)) (W.contents (inner writer.new)) (followed bytes))) }
+{
     let follower = follow_all(alloc, reader, writer)?;
-    reply(writer, follower.pieces())
+    let result = reply(writer, follower.pieces());
+    at_end.give_up(follower);
+    result
 }

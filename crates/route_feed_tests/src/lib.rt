@@ -4,6 +4,8 @@
 #[cfg(test)]
 mod devices;
 #[cfg(test)]
+mod leaking;
+#[cfg(test)]
 mod manual;
 #[cfg(test)]
 mod streams;

@@ -13,7 +13,7 @@ mod output;
 
 use input::Input;
 use output::Output;
-use route_feed::{Counted, RunError, follow, lead, shorten};
+use route_feed::{Counted, RunError, follow_leaking, lead_leaking, shorten};
 use std::alloc::Global;
 use std::cell::Cell;
 use std::env;
@@ -85,7 +85,8 @@ fn asked_mode<R: Env + Alloc>(rt: &R) -> Result<Mode, Fault> {
 }
 
 // Leads, follows or shortens from the input to the output, and hands the output back. A reply is written out once no more
-// lines are here. What a failed write left unwritten is let go. A leader meets no lines that are none.
+// lines are here. What a failed write left unwritten is let go. A leader meets no lines that are none. The program ends next,
+// so a table's memory is left to the system.
 fn run_mode<R: Read, W: Write + Drop>(
     mode: Mode,
     alloc: Global,
@@ -104,8 +105,8 @@ fn run_mode<R: Read, W: Write + Drop>(
     };
     let mut writer = Counted::new(Output::new(buffered, more));
     let result = match mode {
-        Mode::Lead => lead(alloc, reader, &mut writer),
-        Mode::Follow => follow(alloc, reader, &mut writer),
+        Mode::Lead => lead_leaking(alloc, reader, &mut writer),
+        Mode::Follow => follow_leaking(alloc, reader, &mut writer),
         Mode::Least => shorten(alloc, reader, &mut writer),
     };
     match result {

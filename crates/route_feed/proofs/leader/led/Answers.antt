@@ -1,20 +1,20 @@
 use Rattle.std.proofs.Common.{arith}
 use Rattle.std.proofs.lemmas.Result.{err_from_is_err_and}
 use Rattle.route_feed.proofs.Leading.{lead_stopped, lead_counts, lead_ended, lead_known}
-use Rattle.route_feed.proofs.leader.lead.Goals as goal
+use Rattle.route_feed.proofs.leader.led.Goals as goal
 
 pub returns-in_err-rest-clause-ends : goal.returns-in_err-rest-clause-ends
 returns-in_err-rest-clause-ends g c =
     let p = err_from_is_err_and c.from_residual.result c.from_residual.ensures.1 in
     rw (p.1, p.2) (lead_stopped g.R.Read.remaining g.W.Write.contents c.args.reader.now c.run.new.reader c.args.writer.now c.in-Ok-new.table c.run.new.sink c.in-Ok-new.ensures.networks c.in_err-rest.field-0.0 c.run.new.writer c.in_err-rest.ensures)
 
-pub answer_rest-requires : goal.answer_rest-requires
-answer_rest-requires g c =
+pub answer_rest-result-requires : goal.answer_rest-result-requires
+answer_rest-result-requires g c =
     lead_counts g.R.Read.remaining g.W.Write.contents c.args.reader.now c.run.new.reader c.args.writer.now c.in-Ok-new.table c.run.new.sink c.in-Ok-new.ensures.networks c.in_ok-rest.rest c.run.new.writer c.in_ok-rest.ensures (omega (arith, c.requires.writer))
 
 pub returns-clause-ends : goal.returns-clause-ends
 returns-clause-ends g c =
-    lead_ended g.R.Read.remaining g.W.Write.contents c.args.reader.now c.run.new.reader c.args.writer.now c.in-Ok-new.table c.run.new.sink c.in-Ok-new.ensures.networks c.in_ok-rest.rest c.run.new.writer c.in_ok-rest.ensures c.answer_rest.new.writer c.answer_rest.result c.answer_rest.ensures
+    lead_ended g.R.Read.remaining g.W.Write.contents c.args.reader.now c.run.new.reader c.args.writer.now c.in-Ok-new.table c.run.new.sink c.in-Ok-new.ensures.networks c.in_ok-rest.rest c.run.new.writer c.in_ok-rest.ensures c.answer_rest-result.new.writer c.answer_rest-result.result c.answer_rest-result.ensures
 
 pub returns-clause-known : goal.returns-clause-known
-returns-clause-known g c = lead_known g.R.Read.remaining g.W.Write.contents c.args.reader.now c.run.new.reader c.args.writer.now c.answer_rest.new.writer c.answer_rest.result (returns-clause-ends g c)
+returns-clause-known g c = lead_known g.R.Read.remaining g.W.Write.contents c.args.reader.now c.run.new.reader c.args.writer.now c.answer_rest-result.new.writer c.answer_rest-result.result (returns-clause-ends g c)
