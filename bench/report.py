@@ -46,10 +46,11 @@ array of eight too, run in turns with ours; its outputs were compared with ours,
 memory as ours over its: above 1 we are faster, and use more. It writes each reply by itself; the second column is over one that
 writes as its buffer fills, which ours does while more lines are here.
 
-What limits us on feeds in random order, by a profile of `churn`: a sixth of the time is `malloc`, `realloc` and `free`, of the lists
-of nodes, which the crate puts into whole blocks; a seventh of `lead`, a fifth with IPv6, waits for nodes in the longest match; the
-rest is spread over reading, walking and printing, with no function above an eighth. `least` keeps its plan, up to six steps
-for a block of the flat list, where the peer keeps 12 bytes for a node of its own and the hops of all in one list.
+What limits us on feeds in random order, by a profile of `churn`: 6 to 13 % of the time is `malloc`, `realloc` and `free`, of the
+lists of nodes, which the crate puts into whole blocks; a seventh of `lead`, a fifth with IPv6, waits for nodes in the longest
+match, as much of `follow` for nodes to change; the rest is spread over reading, walking and printing, with no function above
+an eighth. `least` keeps its plan, up to six steps for a block of the flat list, where the peer keeps 12 bytes for a node of its
+own and the hops of all in one list.
 
 """
 
