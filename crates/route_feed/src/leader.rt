@@ -74,6 +74,7 @@ pub fn lead_leaking<R: Read, W: Write>(
     led(alloc, reader, writer, AtEnd::Leak)
 }
 
+/// The run of both.
 fn led<R: Read, W: Write>(
     alloc: Global,
     reader: &mut Counted<R>,

@@ -98,6 +98,7 @@ pub fn follow_leaking<R: Read, W: Write>(
     followed_to(alloc, reader, writer, AtEnd::Leak)
 }
 
+/// The run of both.
 fn followed_to<R: Read, W: Write>(
     alloc: Global,
     reader: &mut Counted<R>,
