@@ -14,4 +14,3 @@ pub mod Builds
 pub mod Orders
 pub mod Disjoint
 pub mod PathBits
-pub mod Apart

@@ -6,7 +6,5 @@ mod hops;
 pub mod laws;
 mod plan;
 mod shortest;
-#[cfg(test)]
-mod tests;
 
 pub use shortest::least;

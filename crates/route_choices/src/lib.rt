@@ -10,6 +10,4 @@ mod choice;
 mod choices;
 mod hop;
 pub mod laws;
-#[cfg(test)]
-mod tests;
 mod too_many;

@@ -1,6 +1,8 @@
-//! Tests of `route_feed`.
+//! Tests of `route_lines` and `route_feed`.
 #![tactic(auto)]
 
+#[cfg(test)]
+mod cutter;
 #[cfg(test)]
 mod devices;
 #[cfg(test)]
@@ -9,3 +11,5 @@ mod leaking;
 mod manual;
 #[cfg(test)]
 mod streams;
+#[cfg(test)]
+mod texts;

@@ -17,7 +17,3 @@ pub mod laws;
 mod phrase;
 mod printer;
 mod reply;
-#[cfg(test)]
-mod tests;
-#[cfg(test)]
-mod text_tests;

@@ -1,8 +1,31 @@
 //! Several routes a network: which is the best, what takes memory, and what is refused.
 use crate::changes::{empty, net, overwrite, put};
+use route_choices::{Choices, TooMany};
 use route_table::{AddRefused, Hop, RouteTable};
 use std::alloc::Global;
 use std::process::Abort;
+
+#[test]
+fn the_next_takes_over(rt: HostRuntime) {
+    let mut choices: Choices<8> = Choices::one(Hop::Number(5), 100);
+    assert_eq!(rt; choices.add(Hop::Number(3), 100), Ok(()));
+    assert_eq!(rt; choices.add(Hop::Drop, 200), Ok(()));
+    assert_eq!(rt; choices.best(), (Hop::Drop, 200));
+    assert!(rt; choices.remove(Hop::Drop));
+    assert_eq!(rt; choices.best(), (Hop::Number(3), 100));
+    for number in 6..12 {
+        assert_eq!(rt; choices.add(Hop::Number(number), 100), Ok(()));
+    }
+    assert_eq!(rt; choices.add(Hop::Drop, 200), Err(TooMany));
+}
+
+/// A choice takes eight bytes, and the number of choices the rest.
+#[test]
+fn bytes_of_choices(rt: HostRuntime) {
+    assert_eq!(rt; std::mem::size_of::<Choices<8>>(), 72);
+    assert_eq!(rt; std::mem::size_of::<Choices<1>>(), 16);
+    assert_eq!(rt; Hop::default(), Hop::Drop);
+}
 
 /// The routes of the network are these.
 fn all_are(rt: &impl Abort, table: &RouteTable, text: &str, wanted: &[(Hop, u16)]) {

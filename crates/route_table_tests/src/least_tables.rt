@@ -115,10 +115,9 @@ fn all_but_the_ends(rt: HostRuntime) {
         ("0.0.0.0/0", Hop::Number(3)),
         ("0.0.0.0/32", Hop::Drop),
         ("255.255.255.255/32", Hop::Number(9)),
-        (
-            "ffff:ffff:ffff:ffff:ffff:ffff:ffff:ffff/128",
-            Hop::Number(4),
-        ),
+        ("::/0", Hop::Number(4)),
+        ("::/128", Hop::Drop),
+        ("ffff:ffff:ffff:ffff:ffff:ffff:ffff:ffff/128", Hop::Drop),
     ];
     least_is(&rt, rt.alloc(), &routes, &routes);
 }

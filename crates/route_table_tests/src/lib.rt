@@ -1,4 +1,4 @@
-//! Tests of `route_table`.
+//! Tests of `route_choices`, `least_table` and `route_table`.
 #![tactic(auto)]
 
 #[cfg(test)]
@@ -9,5 +9,7 @@ mod choices;
 mod flat_lists;
 #[cfg(test)]
 mod least_tables;
+#[cfg(test)]
+mod pieces;
 #[cfg(test)]
 mod walks;

@@ -3,8 +3,6 @@
 
 pub mod laws;
 mod prefix;
-#[cfg(test)]
-mod tests;
 
 pub use ipnet_addr::key::Key;
 pub use prefix::{Prefix, path_of, prefix_of, shortened};

@@ -1,10 +1,12 @@
-//! Tests of `trie_map`.
+//! Tests of `trie_keys`, `trie_core` and `trie_map`.
 #![tactic(auto)]
 
 #[cfg(test)]
 mod changes;
 #[cfg(test)]
 mod entries;
+#[cfg(test)]
+mod keys;
 #[cfg(test)]
 mod lookups;
 #[cfg(test)]

@@ -1,5 +1,5 @@
 //! Texts as rows: what is read, and what is printed again.
-use crate::{Closing, Command, NotALine, Reply};
+use route_lines::{Closing, Command, NotALine, Reply};
 use route_table::Hop;
 use std::process::Abort;
 use std::test::Fail;

@@ -1,5 +1,5 @@
 //! The cutter on bytes from outside, fed one by one; lines in place.
-use crate::{Line, LineCutter, Rest, line_text};
+use route_lines::{Line, LineCutter, Rest, line_text};
 use std::test::Fail;
 
 #[test]

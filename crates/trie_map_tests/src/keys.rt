@@ -1,11 +1,9 @@
 //! Each generic function at concrete types, called through its bound.
 ghost use Rattle.std.specs.Prelude.{◌≤◌, length, IsTrue};
 
-use crate::{Key, Prefix, path_of, shortened};
-use ipnet::{Ipv4Net, Ipv6Net};
-use std::process::Abort;
-use std::str::FromStr;
+use crate::maps::{net, wide_net};
 use trie_core::Path;
+use trie_keys::{Key, Prefix, path_of, shortened};
 
 /// The width, the key with zeros after the bits that count, and whether the other prefix is contained.
 fn parts<P: Prefix>(prefix: &P, other: &P) -> (u32, u128, bool)
@@ -26,16 +24,6 @@ fn beginning<P: Prefix + Drop>(prefix: &P, len: u8) -> (u128, u8)
 {
     let shorter = shortened(prefix, len);
     (shorter.repr().to_bits(), shorter.prefix_len())
-}
-
-/// An IPv4 network.
-fn net(rt: &impl Abort, text: &str) -> Ipv4Net {
-    Ipv4Net::from_str(text).expect(rt, "a network")
-}
-
-/// An IPv6 network.
-fn wide_net(rt: &impl Abort, text: &str) -> Ipv6Net {
-    Ipv6Net::from_str(text).expect(rt, "a network")
 }
 
 #[test]
