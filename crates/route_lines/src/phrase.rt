@@ -28,6 +28,12 @@ impl Phrase for IpNet {
     ghost spells = { IsNet };
 
     fn read(s: &[u8]) -> Option<IpNet> {
+        // an IPv6 network mostly has its first colon there
+        if s.get(4) == Some(&b':') {
+            if let Ok(net) = Ipv6Net::parse_ascii(s) {
+                return Some(IpNet::V6(net.trunc()));
+            }
+        }
         if let Ok(net) = Ipv4Net::parse_ascii(s) {
             return Some(IpNet::V4(net.trunc()));
         }
