@@ -6,9 +6,9 @@ ghost use Rattle.route_feed.specs.Replies.{printed};
 ghost use Rattle.route_feed.specs.Steps.{flat_line};
 ghost use Rattle.route_lines.specs.declared.reply.Closing.TheVariants.{Done};
 ghost use Rattle.route_lines.specs.declared.reply.Reply.TheVariants.{Close};
-ghost use Rattle.route_table.specs.Flats.{flat_of};
-ghost use Rattle.route_table.specs.Networks.{routes_of};
-ghost use Rattle.route_table.specs.Tables.{hop_at};
+ghost use Rattle.route_laws.specs.Flats.{flat_of};
+ghost use Rattle.route_laws.specs.Networks.{routes_of};
+ghost use Rattle.route_laws.specs.Tables.{hop_at};
 
 use route_feed::laws::followed;
 use route_feed::{Counted, RunError, follow, lead};

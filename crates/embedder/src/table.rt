@@ -4,8 +4,8 @@ ghost use Rattle.std.specs.Option.{option_map};
 ghost use Rattle.ipnet.specs.IpNets.{block};
 ghost use Rattle.ipnet_blocks.specs.Blocks.{is_inside};
 ghost use Rattle.route_choices.specs.Choices.{choices_with};
-ghost use Rattle.route_table.specs.Networks.{best_route, choices_at, routes_of};
-ghost use Rattle.route_table.specs.Tables.{longer, match_of, item_of};
+ghost use Rattle.route_laws.specs.Networks.{best_route, choices_at, routes_of};
+ghost use Rattle.route_laws.specs.Tables.{longer, match_of, item_of};
 
 use ipnet::IpNet;
 use route_table::laws::{best_routes, held};

@@ -13,7 +13,7 @@ ghost use Rattle.trie_core.specs.Inside.{outside};
 ghost use Rattle.trie_core.specs.Ways.{AreIdle, off_way, IsPruned, IsCut, IsKept};
 ghost use Rattle.trie_core.specs.Search.{NoBeginning};
 ghost use Rattle.trie_map.specs.Covered.{covered_count};
-ghost use Rattle.trie_map.specs.Iterators.{GivesKey};
+ghost use Rattle.trie_iterators.specs.Iterators.{GivesKey};
 ghost use Rattle.trie_map.specs.Made.{inserted};
 ghost use Rattle.trie_map.specs.Maps.{IsLongestKey, IsShortestKey};
 ghost use Rattle.trie_map.specs.Refusals.{no_room};

@@ -9,8 +9,8 @@ use Rattle.ipnet_blocks.specs.Networks.{IsTruncated}
 use Rattle.route_lines.specs.declared.command.Command.TheVariants.{Add}
 use Rattle.route_choices.specs.Choices.{default_preference}
 use Rattle.route_choices.specs.declared.hop.Hop.{Hop}
-use Rattle.route_table.specs.LeastTables.{routes_for}
-use Rattle.route_table.specs.Tables.{route_of}
+use Rattle.route_laws.specs.LeastTables.{routes_for}
+use Rattle.route_laws.specs.Tables.{route_of}
 use Rattle.route_feed.specs.declared.counted.Counted.{Counted}
 use Rattle.route_feed.specs.AddLines.{add_command, add_lines, command_line}
 use Rattle.route_feed.specs.InnerReplies.{Torn, Written}

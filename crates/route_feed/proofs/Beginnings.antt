@@ -17,11 +17,11 @@ use Rattle.route_lines.specs.declared.reply.Closing.{Closing}
 use Rattle.route_lines.specs.declared.reply.Reply.{Reply}
 use Rattle.route_lines.specs.declared.reply.Reply.TheVariants.{Close}
 use Rattle.route_choices.specs.Choices.{AreChoices}
-use Rattle.route_table.specs.Networks.{Stored, IsStoredTable, routes_of}
-use Rattle.route_table.specs.Tables.{hop_at}
-use Rattle.route_table.specs.Flats.{flat_of}
-use Rattle.route_table.proofs.Flats.{same_flat}
-use Rattle.route_table.proofs.FlatSearch.{search_is_flat}
+use Rattle.route_laws.specs.Networks.{Stored, IsStoredTable, routes_of}
+use Rattle.route_laws.specs.Tables.{hop_at}
+use Rattle.route_laws.specs.Flats.{flat_of}
+use Rattle.route_laws.proofs.Flats.{same_flat}
+use Rattle.route_laws.proofs.FlatSearch.{search_is_flat}
 use Rattle.route_feed.specs.Commands.{command_in}
 use Rattle.route_feed.specs.Laws.{table_told, AllAreAnswered, OutputIsFollowed, BeginningsAgree, FlatListsAgree}
 use Rattle.route_feed.specs.Output.{replies, table_after, first_or_false, refusals_after, whole_commands, at_end, lines_output, output}
@@ -31,7 +31,7 @@ use Rattle.route_feed.specs.Replies.{printed}
 use Rattle.route_lines.specs.declared.reply.Closing.TheVariants.{Done}
 use Rattle.std.proofs.lemmas.List.{append-nil, take_all}
 use Rattle.std.proofs.Common.{arith}
-use Rattle.route_table.specs.Flats.{Piece}
+use Rattle.route_laws.specs.Flats.{Piece}
 use Rattle.route_feed.specs.Streams.{Change, change_of, closes, is_done, ends_well, committed, closings, painted, painted_over, replies_in}
 use Rattle.route_feed.proofs.ReadNets.{IsInRange, line_in_range}
 use Rattle.route_feed.proofs.Reread.{AreClean, AreClean-append, AreOpen, told_is_clean, closing_is_clean, closing_read, read_again, reread, reread_open, reread_changes}

@@ -20,11 +20,11 @@ use Rattle.route_lines.specs.declared.reply.Reply.{Reply}
 use Rattle.route_lines.specs.declared.reply.Reply.TheVariants.{Close}
 use Rattle.route_lines.proofs.Replies.{short_reply}
 use Rattle.route_lines.proofs.Spells.{reply_found}
-use Rattle.route_table.specs.Flats.{Piece, IsFlat, flat_of}
-use Rattle.route_table.specs.Networks.{routes_of}
-use Rattle.route_table.specs.Tables.{hop_at}
-use Rattle.route_table.proofs.FlatSearch.{search_is_flat}
-use Rattle.route_table.proofs.Flats.{same_flat}
+use Rattle.route_laws.specs.Flats.{Piece, IsFlat, flat_of}
+use Rattle.route_laws.specs.Networks.{routes_of}
+use Rattle.route_laws.specs.Tables.{hop_at}
+use Rattle.route_laws.proofs.FlatSearch.{search_is_flat}
+use Rattle.route_laws.proofs.Flats.{same_flat}
 use Rattle.route_feed.specs.declared.counted.Counted.{Counted}
 use Rattle.route_feed.specs.declared.error.RunError.{RunError}
 use Rattle.route_feed.specs.declared.error.RunError.TheVariants as Why

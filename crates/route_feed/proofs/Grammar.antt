@@ -18,8 +18,8 @@ use Rattle.route_lines.specs.declared.reply.Reply.{Reply}
 use Rattle.route_lines.specs.declared.reply.Reply.TheVariants.{Close}
 use Rattle.route_choices.specs.Choices.{Choice, choices_with, choices_without, holds_hop}
 use Rattle.route_choices.proofs.Kept.{length-apart, length-kept}
-use Rattle.route_table.specs.Networks.{Stored, IsStoredTable, best_route, choices_at, routes_of, with_choices, with_stored}
-use Rattle.route_table.specs.Tables.{Route, hop_at, match_of}
+use Rattle.route_laws.specs.Networks.{Stored, IsStoredTable, best_route, choices_at, routes_of, with_choices, with_stored}
+use Rattle.route_laws.specs.Tables.{Route, hop_at, match_of}
 use Rattle.route_feed.specs.Commands.{command_in}
 use Rattle.route_feed.specs.Follows.{AreReplies}
 use Rattle.route_feed.specs.Laws.{BeginningsAreReplies}

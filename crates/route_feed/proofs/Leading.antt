@@ -9,7 +9,7 @@ use Rattle.route_lines.specs.Lines.{lines_in, rest_of}
 use Rattle.route_lines.specs.declared.command.Command.{Command}
 use Rattle.route_lines.specs.declared.cutter.Line.{Line}
 use Rattle.route_lines.specs.declared.cutter.Rest.{Rest}
-use Rattle.route_table.specs.Networks.{Stored}
+use Rattle.route_laws.specs.Networks.{Stored}
 use Rattle.route_feed.specs.declared.counted.Counted.{Counted}
 use Rattle.route_feed.specs.declared.error.RunError.{RunError}
 use Rattle.route_feed.specs.Commands.{command_in}

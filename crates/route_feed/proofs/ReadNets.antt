@@ -19,7 +19,7 @@ use Rattle.route_choices.specs.Choices.{default_preference}
 use Rattle.route_choices.specs.Hops.{IsHop}
 use Rattle.route_choices.specs.declared.hop.Hop.{Hop}
 use Rattle.route_choices.specs.declared.hop.Hop.TheVariants.{Number, Drop}
-use Rattle.route_table.proofs.Gaps.{of_network_at}
+use Rattle.route_laws.proofs.NetworksAt.{of_network_at}
 use Rattle.route_feed.specs.Commands.{command_in}
 
 pub net_is_block : (text : List ℕ) (net : IpNet) → word.IsNet text net → IsBlock (block net)

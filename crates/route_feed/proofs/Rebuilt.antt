@@ -17,11 +17,11 @@ use Rattle.route_lines.proofs.Commands.{clean_command, short_command}
 use Rattle.route_lines.proofs.PrintedCommands.{prints}
 use Rattle.route_choices.specs.Choices.{Choice, default_preference, is_one_too_many}
 use Rattle.route_choices.specs.Hops.{IsHop}
-use Rattle.route_table.specs.Networks.{Stored, best_route, choices_at, routes_of, with_choice}
-use Rattle.route_table.specs.Tables.{Route, IsTable, hop_at}
-use Rattle.route_table.proofs.Gaps.{of_network_at}
-use Rattle.route_table.proofs.Listed.{added_last, hops_same, none_at}
-use Rattle.route_table.proofs.Networks.{routes_are_table}
+use Rattle.route_laws.specs.Networks.{Stored, best_route, choices_at, routes_of, with_choice}
+use Rattle.route_laws.specs.Tables.{Route, IsTable, hop_at}
+use Rattle.route_laws.proofs.NetworksAt.{of_network_at}
+use Rattle.route_laws.proofs.Listed.{added_last, hops_same, none_at}
+use Rattle.route_laws.proofs.Networks.{routes_are_table}
 use Rattle.route_feed.specs.AddLines.{add_command, add_lines}
 use Rattle.route_feed.specs.Commands.{command_in}
 use Rattle.route_feed.specs.Laws.{LinesRebuild, NoHopsNoLines, ShortenedAgree, alone, table_given}

@@ -29,9 +29,9 @@ use Rattle.route_feed.proofs.Carried.{reply_is}
 use Rattle.route_choices.specs.Hops.{IsHop, number_of}
 use Rattle.route_choices.specs.declared.hop.Hop.{Hop}
 use Rattle.route_choices.specs.declared.hop.Hop.TheVariants.{Number, Drop}
-use Rattle.route_table.specs.Tables.{Route, IsTable, hop_at, match_of, match_number}
-use Rattle.route_table.proofs.Gaps.{of_network_at}
-use Rattle.route_table.proofs.Matches.{match_meets}
+use Rattle.route_laws.specs.Tables.{Route, IsTable, hop_at, match_of, match_number}
+use Rattle.route_laws.proofs.NetworksAt.{of_network_at}
+use Rattle.route_laws.proofs.Matches.{match_meets}
 use Rattle.route_feed.specs.Replies.{printed}
 use Rattle.route_feed.specs.Steps.{change_line}
 use Rattle.route_feed.specs.Streams.{change_of, closes, replies_in}

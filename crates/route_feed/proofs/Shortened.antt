@@ -4,9 +4,9 @@ use Rattle.std.specs.Result.{OnOk}
 use Rattle.std.proofs.KnownBytes.{Consumes-whole}
 use Rattle.ipnet_addr.specs.Addresses.{Address, IsAddress}
 use Rattle.route_lines.specs.Bytes.{lines}
-use Rattle.route_table.specs.LeastTables.{HasHops, IsLeast}
-use Rattle.route_table.specs.Networks.{routes_of}
-use Rattle.route_table.specs.Tables.{Route, hop_at}
+use Rattle.route_laws.specs.LeastTables.{HasHops, IsLeast}
+use Rattle.route_laws.specs.Networks.{routes_of}
+use Rattle.route_laws.specs.Tables.{Route, hop_at}
 use Rattle.route_feed.specs.declared.counted.Counted.{Counted}
 use Rattle.route_feed.specs.declared.error.RunError.{RunError}
 use Rattle.route_feed.specs.declared.error.RunError.TheVariants as Why

@@ -10,8 +10,8 @@ use Rattle.route_lines.specs.declared.cutter.Line.{Line}
 use Rattle.route_lines.specs.declared.reply.Closing.{Closing}
 use Rattle.route_lines.specs.declared.reply.Reply.{Reply}
 use Rattle.route_lines.specs.declared.reply.Reply.TheVariants.{Set, Unset, Route, Flat, Own, Count, Close}
-use Rattle.route_table.specs.Networks.{routes_of}
-use Rattle.route_table.specs.Tables.{hop_at}
+use Rattle.route_laws.specs.Networks.{routes_of}
+use Rattle.route_laws.specs.Tables.{hop_at}
 use Rattle.route_feed.specs.declared.counted.Counted.{Counted}
 use Rattle.route_feed.specs.declared.error.RunError.{RunError}
 use Rattle.route_feed.specs.declared.error.RunError.TheVariants as Why

@@ -27,22 +27,22 @@ use Rattle.route_choices.specs.declared.hop.Hop.{Hop}
 use Rattle.route_choices.specs.Choices.{Choice, AreChoices, choices_without, holds_hop}
 use Rattle.route_choices.proofs.ChoiceLists.{none_of}
 use Rattle.route_choices.proofs.Kept.{all_kept}
-use Rattle.route_table.specs.Changes.{changed, same_number}
-use Rattle.route_table.specs.Flats.{Piece, IsFlat, flat_of}
-use Rattle.route_table.proofs.FlatSearch.{search_is_flat}
-use Rattle.route_table.proofs.Flats.{same_flat}
-use Rattle.route_table.proofs.Gaps.{of_network_at}
-use Rattle.route_table.specs.Networks.{Stored, IsStoredTable, best_route, choices_at, routes_of, with_choices, with_stored, without_choice}
-use Rattle.route_table.specs.Refusals.{IsRefused}
-use Rattle.route_table.specs.declared.refused.AddRefused.{AddRefused}
-use Rattle.route_table.specs.declared.refused.AddRefused.TheVariants.{Store, TooMany}
-use Rattle.route_table.specs.Tables.{Route, Changed, Governed, match_of, match_number, hop_at, without_block, item_of}
-use Rattle.route_table.proofs.Alterations.{governed_after, no_blocks}
-use Rattle.route_table.proofs.ChoiceChanges.{blocks_of_choices, changed_by_choices, choices_have_one_hop}
-use Rattle.route_table.proofs.Changes.{changed_is_maximal, same_from_test, same_itself}
-use Rattle.route_table.proofs.Networks.{at_cases, at_some, del_none, routes_are_table, routes_with, routes_without, stored_block, stored_choices}
-use Rattle.route_table.proofs.Ordered.{put_itself}
-use Rattle.route_table.proofs.Updates.{left_back, left_other}
+use Rattle.route_laws.specs.Changes.{changed, same_number}
+use Rattle.route_laws.specs.Flats.{Piece, IsFlat, flat_of}
+use Rattle.route_laws.proofs.FlatSearch.{search_is_flat}
+use Rattle.route_laws.proofs.Flats.{same_flat}
+use Rattle.route_laws.proofs.NetworksAt.{of_network_at}
+use Rattle.route_laws.specs.Networks.{Stored, IsStoredTable, best_route, choices_at, routes_of, with_choices, with_stored, without_choice}
+use Rattle.route_sides.specs.Refusals.{IsRefused}
+use Rattle.route_sides.specs.declared.refused.AddRefused.{AddRefused}
+use Rattle.route_sides.specs.declared.refused.AddRefused.TheVariants.{Store, TooMany}
+use Rattle.route_laws.specs.Tables.{Route, Changed, Governed, match_of, match_number, hop_at, without_block, item_of}
+use Rattle.route_laws.proofs.Alterations.{governed_after, no_blocks}
+use Rattle.route_laws.proofs.ChoiceChanges.{blocks_of_choices, changed_by_choices, choices_have_one_hop}
+use Rattle.route_laws.proofs.Changes.{changed_is_maximal, same_from_test, same_itself}
+use Rattle.route_laws.proofs.Networks.{at_cases, at_some, del_none, routes_are_table, routes_with, routes_without, stored_block, stored_choices}
+use Rattle.route_laws.proofs.Ordered.{put_itself}
+use Rattle.route_laws.proofs.Updates.{left_back, left_other}
 use Rattle.route_feed.specs.declared.counted.Counted.{Counted}
 use Rattle.route_feed.specs.declared.error.RunError.{RunError}
 use Rattle.route_feed.specs.Replies.{printed}

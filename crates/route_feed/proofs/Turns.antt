@@ -16,16 +16,16 @@ use Rattle.route_choices.specs.Choices.{Choice, AreChoices, best_preference, cho
 use Rattle.route_choices.specs.Hops.{IsHop}
 use Rattle.route_choices.proofs.Kept.{In-from_filter, In-map}
 use Rattle.route_choices.proofs.ChoiceLists.{with_are, without_are}
-use Rattle.route_table.specs.Changes.{changed}
-use Rattle.route_table.specs.Flats.{Piece, blocks_of, flat_of}
-use Rattle.route_table.specs.Onwards.{count_of}
-use Rattle.route_table.specs.Networks.{Stored, IsStoredTable, best_route, choices_at, routes_of, with_choices, without_choice}
-use Rattle.route_table.specs.Tables.{Route, IsTable, hop_at, match_of, match_number, covering}
-use Rattle.route_table.proofs.Changes.{changed_is_maximal}
-use Rattle.route_table.proofs.FlatSearch.{search_is_flat}
-use Rattle.route_table.proofs.Matches.{AtLeast, best_of}
-use Rattle.route_table.proofs.ChoiceChanges.{choices_have_one_hop}
-use Rattle.route_table.proofs.Networks.{at_are, routes_are_table, stored_choices, with_choices_is}
+use Rattle.route_laws.specs.Changes.{changed}
+use Rattle.route_laws.specs.Flats.{Piece, blocks_of, flat_of}
+use Rattle.route_laws.specs.Onwards.{count_of}
+use Rattle.route_laws.specs.Networks.{Stored, IsStoredTable, best_route, choices_at, routes_of, with_choices, without_choice}
+use Rattle.route_laws.specs.Tables.{Route, IsTable, hop_at, match_of, match_number, covering}
+use Rattle.route_laws.proofs.Changes.{changed_is_maximal}
+use Rattle.route_laws.proofs.FlatSearch.{search_is_flat}
+use Rattle.route_laws.proofs.Matches.{AtLeast, best_of}
+use Rattle.route_laws.proofs.ChoiceChanges.{choices_have_one_hop}
+use Rattle.route_laws.proofs.Networks.{at_are, routes_are_table, stored_choices, with_choices_is}
 use Rattle.route_feed.proofs.Owned.{map_twice}
 use Rattle.route_feed.specs.Steps.{Turn, closed, told, change_line, change_lines, changed_to, route_line, choice_line, flat_line, one_or_missing, is_too_many, may_refuse, accepted, step, own_line}
 use Rattle.route_feed.specs.Streams.{Change, change_of, is_done, painted_over}

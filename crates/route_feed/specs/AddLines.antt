@@ -6,7 +6,7 @@ use Rattle.route_lines.specs.CommandText.{command_text}
 use Rattle.route_lines.specs.declared.command.Command.{Command}
 use Rattle.route_lines.specs.declared.command.Command.TheVariants.{Add}
 use Rattle.route_choices.specs.Choices.{default_preference}
-use Rattle.route_table.specs.Tables.{Route}
+use Rattle.route_laws.specs.Tables.{Route}
 
 -- a command with its line end
 abbrev pub command_line : Command → List ℕ

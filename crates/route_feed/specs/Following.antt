@@ -3,8 +3,8 @@ use Rattle.std.specs.Prelude.{◌≡◌, ℕ, Bool, List, if◌then◌else◌, O
 use Rattle.ipnet_addr.specs.Addresses.{Address, IsAddress}
 use Rattle.route_lines.specs.declared.reply.Closing.{Closing}
 use Rattle.route_lines.specs.declared.reply.Reply.{Reply}
-use Rattle.route_table.specs.Networks.{Stored, routes_of}
-use Rattle.route_table.specs.Tables.{hop_at}
+use Rattle.route_laws.specs.Networks.{Stored, routes_of}
+use Rattle.route_laws.specs.Tables.{hop_at}
 use Rattle.route_feed.specs.Streams.{Change, is_done, change_of, closes, painted_over, pending_after}
 
 -- a table for the hops, the changes that wait for a closing line, and whether there was a fault

@@ -7,7 +7,7 @@ use Rattle.route_lines.specs.Spelled.{reply_of}
 use Rattle.route_lines.specs.declared.reply.Closing.TheVariants.{Done}
 use Rattle.route_lines.specs.declared.reply.Reply.{Reply}
 use Rattle.route_lines.specs.declared.reply.Reply.TheVariants.{Close}
-use Rattle.route_table.specs.Flats.{flat_of}
+use Rattle.route_laws.specs.Flats.{flat_of}
 use Rattle.route_feed.specs.declared.counted.Counted.{Counted}
 use Rattle.route_feed.specs.declared.error.RunError.{RunError}
 use Rattle.route_feed.specs.declared.error.RunError.TheVariants as Why

@@ -8,7 +8,7 @@ use Rattle.route_lines.specs.declared.cutter.Rest.TheVariants.{Empty, Held}
 use Rattle.route_lines.specs.declared.reply.Closing.TheVariants.{Bad}
 use Rattle.route_lines.specs.declared.reply.Reply.{Reply}
 use Rattle.route_lines.specs.declared.reply.Reply.TheVariants.{Close}
-use Rattle.route_table.specs.Networks.{Stored}
+use Rattle.route_laws.specs.Networks.{Stored}
 use Rattle.route_feed.specs.declared.counted.Counted.{Counted}
 use Rattle.route_feed.specs.declared.error.RunError.{RunError}
 use Rattle.route_feed.specs.declared.error.RunError.TheVariants.{Write}

@@ -5,9 +5,9 @@ use Rattle.route_lines.specs.Bytes.{lines, rest}
 use Rattle.route_lines.specs.declared.reply.Closing.TheVariants.{Done}
 use Rattle.route_lines.specs.declared.reply.Reply.TheVariants.{Close}
 use Rattle.route_choices.specs.Choices.{default_preference}
-use Rattle.route_table.specs.Flats.{flat_of}
-use Rattle.route_table.specs.Networks.{Stored, routes_of}
-use Rattle.route_table.specs.Tables.{Route, IsTable, hop_at}
+use Rattle.route_laws.specs.Flats.{flat_of}
+use Rattle.route_laws.specs.Networks.{Stored, routes_of}
+use Rattle.route_laws.specs.Tables.{Route, IsTable, hop_at}
 use Rattle.route_feed.specs.AddLines.{add_lines}
 use Rattle.route_feed.specs.Follows.{AreReplies, followed}
 use Rattle.route_feed.specs.Replies.{printed}

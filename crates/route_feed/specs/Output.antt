@@ -4,7 +4,7 @@ use Rattle.route_lines.specs.Bytes.{rest}
 use Rattle.route_lines.specs.Lines.{lines_in}
 use Rattle.route_lines.specs.declared.command.Command.{Command}
 use Rattle.route_lines.specs.declared.reply.Reply.{Reply}
-use Rattle.route_table.specs.Networks.{Stored}
+use Rattle.route_laws.specs.Networks.{Stored}
 use Rattle.route_feed.specs.Commands.{command_in}
 use Rattle.route_feed.specs.Replies.{printed}
 use Rattle.route_feed.specs.Steps as turn

@@ -2,8 +2,8 @@
 use Rattle.std.specs.Prelude.{◌≡◌, ℕ, List, ◌++◌, ◌⊎◌, Option, Result, Ok, Err}
 use Rattle.std.specs.Io.KnownBytes.{Appends, Consumes, IsAtEnd}
 use Rattle.route_lines.specs.Bytes.{lines}
-use Rattle.route_table.specs.LeastTables.{IsLeast}
-use Rattle.route_table.specs.Tables.{Route}
+use Rattle.route_laws.specs.LeastTables.{IsLeast}
+use Rattle.route_laws.specs.Tables.{Route}
 use Rattle.route_feed.specs.declared.counted.Counted.{Counted}
 use Rattle.route_feed.specs.declared.error.RunError.{RunError}
 use Rattle.route_feed.specs.declared.error.RunError.TheVariants as Why

@@ -11,12 +11,12 @@ use Rattle.route_lines.specs.declared.reply.Closing.TheVariants.{Done, Missing, 
 use Rattle.route_lines.specs.declared.reply.Reply.{Reply}
 use Rattle.route_lines.specs.declared.reply.Reply.TheVariants.{Set, Unset, Route, Flat, Own, Count, Close}
 use Rattle.route_choices.specs.Choices.{Choice, has_none, holds_hop, is_one_too_many}
-use Rattle.route_table.specs.Changes.{changed}
-use Rattle.route_table.specs.Flats.{Piece, blocks_of, flat_of}
-use Rattle.route_table.specs.Networks.{Stored, choices_at, routes_of, with_choice, without_choice}
-use Rattle.route_table.specs.Onwards.{count_of, routes_from, routes_after}
-use Rattle.route_table.specs.Tables as table
-use Rattle.route_table.specs.Tables.{hop_at, match_of, covering, routes_inside}
+use Rattle.route_laws.specs.Changes.{changed}
+use Rattle.route_laws.specs.Flats.{Piece, blocks_of, flat_of}
+use Rattle.route_laws.specs.Networks.{Stored, choices_at, routes_of, with_choice, without_choice}
+use Rattle.route_laws.specs.Onwards.{count_of, routes_from, routes_after}
+use Rattle.route_laws.specs.Tables as table
+use Rattle.route_laws.specs.Tables.{hop_at, match_of, covering, routes_inside}
 
 -- a reply: its lines, the one that closes it, and the table after it
 pub record Turn : Type 0 where

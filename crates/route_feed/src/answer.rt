@@ -9,8 +9,8 @@ ghost use Rattle.route_feed.specs.InnerReplies.{Answers, Closes, replies_to_rest
 ghost use Rattle.route_feed.specs.Replies.{printed};
 ghost use Rattle.route_feed.specs.Steps.{change_line};
 ghost use Rattle.route_lines.specs.Lines.{as_line};
-ghost use Rattle.route_table.specs.Networks.{routes_of};
-ghost use Rattle.route_table.specs.Tables as table_of;
+ghost use Rattle.route_laws.specs.Networks.{routes_of};
+ghost use Rattle.route_laws.specs.Tables as table_of;
 
 use crate::body::{ChangeLines, ChoiceLines, PageLines, change_line};
 use crate::counted::Counted;

@@ -2,7 +2,7 @@
 ghost use Rattle.std.specs.Prelude.{◌++◌, ◌∷◌, [], All};
 ghost use Rattle.ipnet.specs.IpNets.{family, parts};
 ghost use Rattle.ipnet_blocks.specs.Networks.{IsTruncated};
-ghost use Rattle.route_table.specs.LeastTables.{routes_for};
+ghost use Rattle.route_laws.specs.LeastTables.{routes_for};
 ghost use Rattle.route_feed.specs.AddLines.{add_lines, command_line};
 ghost use Rattle.route_feed.specs.Counted.{CanCount};
 ghost use Rattle.route_feed.specs.Replies.{reply_line, printed};

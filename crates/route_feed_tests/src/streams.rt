@@ -3,7 +3,7 @@ ghost use Rattle.std.specs.Prelude.{◌≡◌, List, Bool, IfOk};
 ghost use Rattle.route_feed.specs.AddLines.{add_lines};
 ghost use Rattle.route_feed.specs.Output.{output};
 ghost use Rattle.route_feed.specs.Shortens.{IsLeastFor};
-ghost use Rattle.route_table.specs.Tables.{Route};
+ghost use Rattle.route_laws.specs.Tables.{Route};
 
 use route_feed::{Counted, FollowError, Follower, RunError, follow, lead, shorten};
 use std::alloc::Global;

@@ -1,7 +1,7 @@
 -- What is printed reads as that reply line.
 use Rattle.std.proofs.Common.{◌≡◌, ℕ, ◌≤◌, Some, None, List, ◌++◌, codes, decimal, refl, arith, sym, ap, ◌∙◌, append_assoc}
 use Rattle.std.specs.Prelude.{⊤, IfSome}
-use Rattle.route_table.proofs.Gaps.{of_network_at}
+use Rattle.route_laws.proofs.NetworksAt.{of_network_at}
 use Rattle.ipnet.specs.IpNetText.{net_text, Reads}
 use Rattle.ipnet.specs.IpNets.{block, network_at}
 use Rattle.ipnet.specs.declared.ip_net.IpNet.{IpNet}

@@ -17,9 +17,9 @@ use Rattle.trie_core.specs.Bits.{number_from}
 use Rattle.trie_core.proofs.Longer.{own_digits}
 use Rattle.trie_core.proofs.Numbers.{number_bound}
 use Rattle.route_choices.proofs.Kept.{In-map, map_In, Rising-kept, In-from_filter, In-filter}
-use Rattle.route_table.specs.Flats.{Piece, IsFlat}
+use Rattle.route_laws.specs.Flats.{Piece, IsFlat}
 use Rattle.route_table.specs.InnerLeast.{ArePieces, address_at, pieces_of}
-use Rattle.route_table.proofs.Flats.{Sooner, piece_at, tells}
+use Rattle.route_laws.proofs.Flats.{Sooner, piece_at, tells}
 
 pub Rising-map : {A B : Type 0} (f : A → B) (S : A → A → Type 0) (R : B → B → Type 0) (xs : List A) → ((a b : A) → In a xs → In b xs → S a b → R (f a) (f b)) → Rising S xs → Rising R (map f xs)
 Rising-map f S R [] h up = tt

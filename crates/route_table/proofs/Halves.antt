@@ -1,15 +1,12 @@
 -- The halves of a network: one bit longer, of its least and of its greatest address.
-use Rattle.std.proofs.Common.{◌≡◌, ℕ, suc, ◌+◌, ◌-◌, ◌*◌, ◌/◌, ◌^◌, ◌<◌, refl, ap, ◌∙◌, arith, pow-suc, pow_pos}
+use Rattle.std.proofs.Common.{◌≡◌, ℕ, suc, ◌+◌, ◌-◌, ◌*◌, ◌/◌, ◌^◌, ◌<◌, ap, ◌∙◌, arith, pow-suc, pow_pos}
 use Rattle.std.proofs.Math.Pow.{shl-shr, high}
-use Rattle.ipnet_addr.specs.Addresses.{Family, Ipv4, Ipv6, width}
+use Rattle.ipnet_addr.specs.Addresses.{Family, width}
 use Rattle.ipnet_blocks.specs.Blocks.{Block, first, last, left, right}
-use Rattle.ipnet_blocks.specs.Networks.{Network, block_of}
+use Rattle.ipnet_blocks.specs.Networks.{block_of}
 use Rattle.ipnet_blocks.proofs.BlockLaws.{block_path}
 use Rattle.ipnet.specs.IpNets.{block, net_in}
-
-pub block_of-net_in : (f : Family) (n : Network) → block (net_in f n) ≡ block_of f n
-block_of-net_in Ipv4 n = refl
-block_of-net_in Ipv6 n = refl
+use Rattle.route_laws.proofs.NetworksAt.{block_of-net_in}
 
 -- a multiple of 2 ^ suc k, and the number before the next one
 low : (q k : ℕ) → q * 2 ^ suc k / 2 ^ k ≡ 2 * q

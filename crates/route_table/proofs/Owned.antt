@@ -1,6 +1,5 @@
 -- The addresses that the routes of a number govern are those with that hop.
-use Rattle.std.proofs.Common.{◌≡◌, ℕ, ◌⊎◌, inl, inr, ⊎_elim, ◌↔◌, ◌==◌, List, [], ◌∷◌, ◌++◌, map, filter, Option, Some, None, Any, refl, sym, ap, ◌∙◌, subst, arith, Result, Ok, Err}
-use Rattle.std.specs.Prelude.{IfErr, IfOk, IfSome, OnErr, OnOk}
+use Rattle.std.proofs.Common.{◌≡◌, ℕ, ◌⊎◌, inl, inr, ⊎_elim, ◌↔◌, ◌==◌, List, [], ◌∷◌, ◌++◌, map, filter, Option, Some, None, Any, refl, sym, ap, ◌∙◌, subst, arith}
 use Rattle.ipnet_addr.specs.Addresses.{Address, IsAddress}
 use Rattle.ipnet_addr.proofs.Members.{In, one_or_all}
 use Rattle.ipnet_addr.proofs.Ascending.{In-from_Any, Any-from_In, In-from_Contains, Contains-from_In}
@@ -15,13 +14,13 @@ use Rattle.ipnet_blocks.proofs.Unions.{maximal_same}
 use Rattle.ipnet.specs.IpNets.{block}
 use Rattle.ipnet.specs.declared.ip_net.IpNet.{IpNet}
 use Rattle.route_choices.specs.Hops.{number_of}
-use Rattle.route_table.specs.Flats.{blocks_of, flat_of}
+use Rattle.route_laws.specs.Flats.{blocks_of, flat_of}
 use Rattle.route_table.specs.InnerOwning.{Owns, IsOwned, GrowsBy}
-use Rattle.route_table.specs.Tables.{Route, IsTable, Governed, match_of, match_number, hop_at}
-use Rattle.route_table.proofs.Bounds.{decide_has}
-use Rattle.route_table.proofs.FlatSearch.{search_is_flat}
-use Rattle.route_table.proofs.Matches.{block_in, match_meets, match_from, governed_match}
-use Rattle.route_table.proofs.Own.{own_is_maximal}
+use Rattle.route_laws.specs.Tables.{Route, IsTable, Governed, match_of, match_number, hop_at}
+use Rattle.route_laws.proofs.Bounds.{decide_has}
+use Rattle.route_laws.proofs.FlatSearch.{search_is_flat}
+use Rattle.route_laws.proofs.Matches.{block_in, match_meets, match_from, governed_match}
+use Rattle.route_laws.proofs.Own.{own_is_maximal}
 
 module _ (M : List Route) (table : IsTable M) where
   -- whether a block governs an address
@@ -139,26 +138,6 @@ grows_by_governed M table k r ns ms bs ok is m e x a = (
   λ h. ⊎_elim (λ i. inl i) (λ i. inr (is, (governed_union M table r.block ok bs m x a).1 i)) (any_cases (λ b. HasAddress b x) (map block ns) bs (subst (λ cs. InSome cs x) e h)),
   λ h. subst (λ cs. InSome cs x) (sym e) (⊎_elim (λ i. any_left (λ b. HasAddress b x) (map block ns) bs i) (λ o. any_right (λ b. HasAddress b x) (map block ns) bs ((governed_union M table r.block ok bs m x a).0 o.1)) h),
 )
-
-pub if_ok : {T E : Type 0} (P Q : T → Type 0) (r : Result T E) → ((v : T) → P v → Q v) → IfOk r P → IfOk r Q
-if_ok P Q (Ok v) f h = f v h
-if_ok P Q (Err e) f h = h
-
-pub if_some : {T : Type 0} (P Q : T → Type 0) (o : Option T) → ((v : T) → P v → Q v) → IfSome o P → IfSome o Q
-if_some P Q None f h = h
-if_some P Q (Some v) f h = f v h
-
-pub if_err : {T E : Type 0} (P Q : E → Type 0) (r : Result T E) → ((e : E) → P e → Q e) → IfErr r P → IfErr r Q
-if_err P Q (Ok v) f h = h
-if_err P Q (Err e) f h = f e h
-
-pub on_ok : {T E : Type 0} (P Q : Type 0) (r : Result T E) → (P → Q) → OnOk r P → OnOk r Q
-on_ok P Q (Ok v) f h = f h
-on_ok P Q (Err e) f h = h
-
-pub on_err : {T E : Type 0} (P Q : Type 0) (r : Result T E) → (P → Q) → OnErr r P → OnErr r Q
-on_err P Q (Ok v) f h = h
-on_err P Q (Err e) f h = f h
 
 -- before the first route
 pub keeps_all : (M : List Route) (k : ℕ) (ns : List IpNet) (all rs : List Route) → rs ≡ all → Keeps M k (λ x. InSome (map block ns) x ⊎ IsOwned M k all x) ns ns rs

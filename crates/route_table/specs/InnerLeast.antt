@@ -1,5 +1,5 @@
 -- Shortest tables of one family, as lists of bit strings.
-use Rattle.std.specs.Prelude.{◌≡◌, ℕ, Bool, List, ◌++◌, All, Option, Some, None, filter, length, map}
+use Rattle.std.specs.Prelude.{◌≡◌, ℕ, Bool, List, ◌++◌, All, Option, filter, length, map}
 use Rattle.ipnet_addr.specs.Addresses.{Family, Ipv4, Ipv6, Address, width, same_family}
 use Rattle.ipnet_blocks.specs.Blocks.{bit_string}
 use Rattle.ipnet_blocks.specs.Networks.{Network, IsTruncated}
@@ -10,10 +10,10 @@ use Rattle.least_table.specs.Tables as bits
 use Rattle.trie_core.specs.Bits.{number_from}
 use Rattle.route_choices.specs.Hops.{number_of}
 use Rattle.route_choices.specs.declared.hop.Hop.{Hop}
-use Rattle.route_choices.specs.declared.hop.Hop.TheVariants.{Number, Drop}
-use Rattle.route_table.specs.Flats.{Piece}
-use Rattle.route_table.specs.LeastTables.{IsLeast, routes_for}
-use Rattle.route_table.specs.Tables.{Route, IsTable}
+use Rattle.route_laws.specs.InnerHops.{hop_from}
+use Rattle.route_laws.specs.Flats.{Piece}
+use Rattle.route_laws.specs.LeastTables.{IsLeast, routes_for}
+use Rattle.route_laws.specs.Tables.{Route, IsTable}
 
 -- a route by the bits that its addresses begin with
 abbrev pub entry_of : Route → List Bool × Option ℕ
@@ -37,10 +37,6 @@ pieces_of f ps = map (λ p. (bit_string p.block, p.number)) (filter (λ p. same_
 pub record ArePieces (f : Family) (h : Address → Option ℕ) (ps : List (List Bool × ℕ)) : Type 0 where
   pub disjoint : AreDisjoint ps
   pub same : (s : List Bool) → length s ≡ width f → hop_at ps s ≡ hops_of f h s
-
-abbrev pub hop_from : Option ℕ → Hop
-hop_from (Some k) = Number k
-hop_from None = Drop
 
 -- networks of one family as those of either, each with its hop
 abbrev pub items_of : Family → {P : Type 0} → (P → Network) → List (P × Option ℕ) → List (IpNet × Hop)

@@ -5,7 +5,7 @@ use Rattle.ipnet_blocks.specs.Aggregated.{InSome}
 use Rattle.ipnet.specs.IpNets.{block}
 use Rattle.ipnet.specs.declared.ip_net.IpNet.{IpNet}
 use Rattle.route_choices.specs.Hops.{number_of}
-use Rattle.route_table.specs.Tables.{Route, Governed}
+use Rattle.route_laws.specs.Tables.{Route, Governed}
 
 -- the route has this number and governs the address
 abbrev pub Owns : List Route → ℕ → Address → Route → Type 0

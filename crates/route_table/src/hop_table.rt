@@ -2,15 +2,14 @@
 ghost use Rattle.std.specs.Prelude.{◌≡◌, ◌≤◌, ◌+◌, [], ◌++◌, All, IfOk, IsOk, List, length};
 ghost use Rattle.ipnet_addr.specs.Addresses.{Family, Ipv4, Ipv6};
 ghost use Rattle.ipnet_blocks.specs.Blocks.{Block};
-ghost use Rattle.route_table.specs.Bounds.{lengths_in, pieces_in};
-ghost use Rattle.route_table.specs.Flats.{IsAdmissible, IsFlat};
-ghost use Rattle.route_table.specs.Networks.{IsStoredTable, routes_of};
-ghost use Rattle.route_table.specs.Tables.{IsTable, hop_at};
+ghost use Rattle.route_laws.specs.Bounds.{lengths_in, pieces_in};
+ghost use Rattle.route_laws.specs.Flats.{IsAdmissible, IsFlat};
+ghost use Rattle.route_laws.specs.Networks.{IsStoredTable, routes_of};
+ghost use Rattle.route_laws.specs.Tables.{IsTable, hop_at};
 
-use crate::flat::Flat;
-use crate::routes::Routes;
 use crate::table::Table;
 use prefix_trie::Refused;
+use route_sides::{Flat, Routes};
 use std::alloc::Global;
 
 /// A hop for each of some networks of both families, as a follower keeps them. A network takes less than a quarter of

@@ -1,28 +1,17 @@
 //! Route tables: a hop for each of some networks, the longest match, and which addresses a change concerns.
 #![tactic(auto)]
 
-pub use flat::Flat;
-pub use governed::Governed;
 pub use hop_table::HopTable;
 pub use prefix_trie::Refused;
-pub use refused::AddRefused;
 pub use route_choices::{All, DEFAULT_PREFERENCE, Hop};
-pub use routes::Routes;
+pub use route_laws::laws;
+pub use route_sides::{AddRefused, Flat, Governed, Routes};
 pub use table::{RouteTable, Table};
 
-mod address_family;
-mod family;
 mod flat;
-mod governed;
 mod hop_table;
-pub mod laws;
 mod overwrite;
 mod own_blocks;
-mod refused;
-mod routes;
-mod runs;
 mod shortest;
-mod side;
-mod side_routes;
 mod table;
 mod walks;

@@ -6,8 +6,8 @@ ghost use Rattle.ipnet.specs.IpNets.{block, family, parts};
 ghost use Rattle.trie_map.specs.declared.refused.Refused.TheVariants.{Memory};
 ghost use Rattle.route_choices.specs.Choices.{default_preference};
 ghost use Rattle.route_choices.specs.Hops.{number_of};
-ghost use Rattle.route_table.specs.Networks.{IsStoredTable, choices_at, networks_outside, overwritten_by, routes_of};
-ghost use Rattle.route_table.specs.Tables.{hop_at};
+ghost use Rattle.route_laws.specs.Networks.{IsStoredTable, choices_at, networks_outside, overwritten_by, routes_of};
+ghost use Rattle.route_laws.specs.Tables.{hop_at};
 
 use crate::table::{Table, cleared};
 use ipnet::IpNet;

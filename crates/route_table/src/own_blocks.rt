@@ -3,18 +3,17 @@ ghost use Rattle.std.specs.Prelude.{◌≡◌, ◌==◌, ◌++◌, ◌⊎◌, ma
 ghost use Rattle.ipnet.specs.IpNets.{block, family, parts};
 ghost use Rattle.ipnet_blocks.specs.Maximal.{IsMaximal, IsShortest};
 ghost use Rattle.ipnet_blocks.specs.Networks.{IsTruncated};
-ghost use Rattle.route_table.specs.Flats.{blocks_of, flat_of};
+ghost use Rattle.route_laws.specs.Flats.{blocks_of, flat_of};
 ghost use Rattle.route_table.specs.InnerOwning.{GrowsBy, IsOwned, Owns};
-ghost use Rattle.route_table.specs.Networks.{routes_of};
-ghost use Rattle.route_table.specs.Tables.{IsTable, hop_at, route_of};
+ghost use Rattle.route_laws.specs.Networks.{routes_of};
+ghost use Rattle.route_laws.specs.Tables.{IsTable, hop_at, route_of};
 ghost use Rattle.trie_map.specs.declared.refused.Refused.TheVariants.{Memory};
 
-use crate::governed::Governed;
-use crate::routes::Routes;
 use crate::table::{RouteTable, cleared};
 use ipnet::IpNet;
 use prefix_trie::Refused;
 use route_choices::Hop;
+use route_sides::{Governed, Routes};
 use std::alloc::AllocError;
 
 /// Appends the blocks.

@@ -7,20 +7,20 @@ ghost use Rattle.ipnet.specs.IpNets.{family, parts};
 ghost use Rattle.least_table.specs.Pieces.{AreDisjoint, strings};
 ghost use Rattle.trie_map.specs.declared.refused.Refused.TheVariants.{Memory};
 ghost use Rattle.route_choices.specs.Hops.{IsHop};
-ghost use Rattle.route_table.specs.InnerLeast.{AreLeastOf, ArePieces, GrowsByLeast, hop_from, items_of};
-ghost use Rattle.route_table.specs.Flats.{IsFlat};
-ghost use Rattle.route_table.specs.LeastTables.{IsLeast, routes_for};
-ghost use Rattle.route_table.specs.Networks.{routes_of};
-ghost use Rattle.route_table.specs.Tables.{hop_at};
+ghost use Rattle.route_laws.specs.InnerHops.{hop_from};
+ghost use Rattle.route_table.specs.InnerLeast.{AreLeastOf, ArePieces, GrowsByLeast, items_of};
+ghost use Rattle.route_laws.specs.Flats.{IsFlat};
+ghost use Rattle.route_laws.specs.LeastTables.{IsLeast, routes_for};
+ghost use Rattle.route_laws.specs.Networks.{routes_of};
+ghost use Rattle.route_laws.specs.Tables.{hop_at};
 
-use crate::family::OfFamily;
-use crate::flat::Flat;
 use crate::hop_table::HopTable;
 use crate::table::RouteTable;
 use ipnet::{IpNet, Ipv4Net, Ipv6Net};
 use least_table::least;
 use prefix_trie::Refused;
 use route_choices::Hop;
+use route_sides::{Flat, OfFamily};
 use std::alloc::{AllocError, Global};
 
 /// The hop of a number, or nowhere.

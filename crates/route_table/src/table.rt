@@ -9,19 +9,16 @@ ghost use Rattle.trie_core.specs.Count.{nodes, visit_count};
 ghost use Rattle.trie_map.specs.declared.refused.Refused.TheVariants.{Memory};
 ghost use Rattle.route_choices.specs.Choices.{holds_hop, is_one_too_many};
 ghost use Rattle.route_choices.specs.Hops.{IsHop};
-ghost use Rattle.route_table.specs.Bounds.{excess};
-ghost use Rattle.route_table.specs.Tries.{map_of};
-ghost use Rattle.route_table.specs.Networks.{IsLeaf, IsStoredTable, choices_at, routes_of, with_choice, with_choices, without_choice};
-ghost use Rattle.route_table.specs.Refusals.{IsRefused};
-ghost use Rattle.route_table.specs.Tables.{Governed as GovernedBy, IsTable, match_number, match_of, routes_inside, item_of};
+ghost use Rattle.route_laws.specs.Bounds.{excess};
+ghost use Rattle.route_sides.specs.Tries.{map_of};
+ghost use Rattle.route_laws.specs.Networks.{IsLeaf, IsStoredTable, choices_at, routes_of, with_choice, with_choices, without_choice};
+ghost use Rattle.route_sides.specs.Refusals.{IsRefused};
+ghost use Rattle.route_laws.specs.Tables.{Governed as GovernedBy, IsTable, match_number, match_of, routes_inside, item_of};
 
-use crate::governed::Governed;
-use crate::refused::AddRefused;
-use crate::routes::Routes;
-use crate::side::Side;
 use ipnet::{IpNet, Ipv4Net, Ipv6Net};
 use prefix_trie::Refused;
 use route_choices::Hop;
+use route_sides::{AddRefused, Governed, Routes, Side};
 use std::alloc::Global;
 use std::marker::Model;
 
@@ -45,8 +42,8 @@ pub struct Table<const ROOM: usize> {
 impl<const ROOM: usize> Model for Table<ROOM> {
     ghost use Rattle.std.specs.Prelude.{List, ◌++◌};
     ghost use Rattle.ipnet_addr.specs.Addresses.{Ipv4, Ipv6};
-    ghost use Rattle.route_table.specs.InnerSides.{IsSide};
-    ghost use Rattle.route_table.specs.Networks.{Stored};
+    ghost use Rattle.route_sides.specs.Sides.{IsSide};
+    ghost use Rattle.route_laws.specs.Networks.{Stored};
 
     ghost Value = { List Stored };
 
@@ -169,16 +166,6 @@ impl RouteTable {
         ensures governed { IsTrue result → IsMaximal (GovernedBy (routes_of self.now) (block net.now)) (block net.now ∷ []) }
     {
         self.has_none_inside(&cleared(net))
-    }
-
-    /// The routes of either family, ascending.
-    pub(crate) fn families(&self) -> (Routes<'_>, Routes<'_>)
-        ensures routes { result.0 ++ result.1 ≡ routes_of self.now }
-        ensures table { IsTable (routes_of self.now) }
-        ensures ipv4 { All (λ r. r.block.family ≡ Ipv4) result.0 }
-        ensures ipv6 { All (λ r. r.block.family ≡ Ipv6) result.1 }
-    {
-        (Routes::v4(self.v4.iter()), Routes::v6(self.v6.iter()))
     }
 
     /// How many nodes the tries of the two families have: one, and one for each distinct bit string of positive

@@ -2,13 +2,13 @@
 ghost use Rattle.std.specs.Prelude.{◌≡◌};
 ghost use Rattle.ipnet_addr.specs.Addresses.{Ipv4, Ipv6};
 ghost use Rattle.ipnet.specs.IpNets.{block};
-ghost use Rattle.route_table.specs.Onwards.{count_of, routes_after, routes_from};
-ghost use Rattle.route_table.specs.Networks.{routes_of};
-ghost use Rattle.route_table.specs.Tables.{IsTable, covering};
+ghost use Rattle.route_laws.specs.Onwards.{count_of, routes_after, routes_from};
+ghost use Rattle.route_laws.specs.Networks.{routes_of};
+ghost use Rattle.route_laws.specs.Tables.{IsTable, covering};
 
-use crate::routes::Routes;
 use crate::table::{RouteTable, cleared};
 use ipnet::IpNet;
+use route_sides::Routes;
 
 impl RouteTable {
     /// How many networks are stored: of IPv4 and of IPv6. It takes no memory.

@@ -1,6 +1,5 @@
 pub mod Seen
 pub mod Maps
-pub mod Iterators
 pub mod Lending
 pub mod Refusals
 pub mod Entry

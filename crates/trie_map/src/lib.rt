@@ -15,11 +15,11 @@ mod prune;
 mod refused;
 mod retain;
 
-pub use cover::{Cover, CoverKeys, CoverValues};
 pub use entry::{Entry, OccupiedEntry, VacantEntry};
-pub use into_iter::{IntoIter, IntoKeys, IntoValues};
-pub use iter::{Iter, Keys, Values};
 pub use iter_mut::{IterMut, ValuesMut};
 pub use map::PrefixMap;
 pub use refused::Refused;
+pub use trie_iterators::{
+    Cover, CoverKeys, CoverValues, IntoIter, IntoKeys, IntoValues, Iter, Keys, Values,
+};
 pub use trie_keys::{Key, Prefix, laws};

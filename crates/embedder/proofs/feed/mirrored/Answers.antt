@@ -5,7 +5,7 @@ use Rattle.route_feed.specs.Replies.{printed}
 use Rattle.route_feed.specs.Steps.{flat_line}
 use Rattle.route_lines.specs.declared.reply.Closing.TheVariants.{Done}
 use Rattle.route_lines.specs.declared.reply.Reply.TheVariants.{Close}
-use Rattle.route_table.specs.Flats.{Piece}
+use Rattle.route_laws.specs.Flats.{Piece}
 use Rattle.embedder.proofs.feed.mirrored.Goals as goal
 
 pub returns : goal.returns

@@ -9,7 +9,7 @@ use Rattle.ipnet.specs.IpNetText.{ip_net_of}
 use Rattle.ipnet.specs.declared.ip_net.IpNet.{IpNet}
 use Rattle.ipnet.specs.declared.ip_net.IpNet.TheVariants.{V4}
 use Rattle.route_choices.specs.declared.hop.Hop.TheVariants.{Number}
-use Rattle.route_table.specs.Laws.{EmptyIsFlat, OneRouteIsChanged, OneRouteIsFlat}
+use Rattle.route_laws.specs.Laws.{EmptyIsFlat, OneRouteIsChanged, OneRouteIsFlat}
 use Rattle.route_feed.specs.Output.{output, replies, first_or_false, whole_commands, at_end}
 use Rattle.route_feed.specs.Replies.{printed}
 use Rattle.route_feed.specs.Steps.{change_lines}

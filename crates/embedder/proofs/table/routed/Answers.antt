@@ -3,8 +3,8 @@ use Rattle.std.specs.Option.{option_map}
 use Rattle.ipnet.specs.IpNets.{block, family, parts}
 use Rattle.ipnet_blocks.proofs.NetworkBlocks.{block_is}
 use Rattle.route_choices.specs.Choices.{Choice, choices_with}
-use Rattle.route_table.specs.Networks.{best_route, choices_at, routes_of}
-use Rattle.route_table.specs.Tables.{Route, IsTable, match_of, item_of}
+use Rattle.route_laws.specs.Networks.{best_route, choices_at, routes_of}
+use Rattle.route_laws.specs.Tables.{Route, IsTable, match_of, item_of}
 use Rattle.embedder.proofs.table.routed.Goals as goal
 
 pub returns : goal.returns

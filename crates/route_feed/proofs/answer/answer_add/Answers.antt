@@ -2,8 +2,8 @@ use Rattle.std.proofs.Common.{false, subst, Some}
 use Rattle.ipnet.specs.IpNets.{block}
 use Rattle.route_lines.specs.declared.command.Command.TheVariants.{Add}
 use Rattle.route_choices.specs.Choices.{Choice, choices_with}
-use Rattle.route_table.specs.Networks.{IsStoredTable, choices_at}
-use Rattle.route_table.proofs.Networks.{with_some}
+use Rattle.route_laws.specs.Networks.{IsStoredTable, choices_at}
+use Rattle.route_laws.proofs.Networks.{with_some}
 use Rattle.route_feed.proofs.Told.{Closes-change, changed_is, plain_step, refused_step, on_ok}
 use Rattle.route_feed.proofs.answer.answer_add.Goals as goal
 

@@ -2,8 +2,8 @@ use Rattle.std.proofs.Common.{◌≡◌, sym, ◌∙◌, true, false}
 use Rattle.ipnet.specs.IpNets.{block}
 use Rattle.route_choices.specs.Choices.{choices_without, holds_hop}
 use Rattle.route_choices.proofs.ChoiceLists.{without_are}
-use Rattle.route_table.specs.Networks.{choices_at}
-use Rattle.route_table.proofs.Networks.{at_are}
+use Rattle.route_laws.specs.Networks.{choices_at}
+use Rattle.route_laws.proofs.Networks.{at_are}
 use Rattle.route_feed.proofs.Told.{Closes-change, held_is, none_left, on_ok}
 use Rattle.route_feed.proofs.answer.answer_del.Goals as goal
 

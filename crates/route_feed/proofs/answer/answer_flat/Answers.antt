@@ -1,7 +1,7 @@
 use Rattle.std.proofs.Common.{◌++◌, ◌∷◌, [], false, map, refl, subst}
 use Rattle.route_lines.specs.declared.reply.Closing.TheVariants.{Done}
 use Rattle.route_lines.specs.declared.reply.Reply.TheVariants.{Close}
-use Rattle.route_table.specs.Networks.{routes_of}
+use Rattle.route_laws.specs.Networks.{routes_of}
 use Rattle.route_feed.specs.Replies.{printed}
 use Rattle.route_feed.specs.InnerReplies.{Closes}
 use Rattle.route_feed.specs.Steps.{flat_line}

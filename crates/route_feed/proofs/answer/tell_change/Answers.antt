@@ -3,7 +3,7 @@ use Rattle.ipnet.specs.IpNets.{block, network_at}
 use Rattle.route_lines.specs.declared.reply.Closing.TheVariants.{Done}
 use Rattle.route_lines.specs.declared.reply.Reply.{Reply}
 use Rattle.route_lines.specs.declared.reply.Reply.TheVariants.{Close}
-use Rattle.route_table.proofs.Gaps.{of_network_at}
+use Rattle.route_laws.proofs.NetworksAt.{of_network_at}
 use Rattle.route_feed.specs.Replies.{printed}
 use Rattle.route_feed.specs.InnerReplies.{Closes}
 use Rattle.route_feed.specs.Steps.{change_line}

@@ -2,8 +2,8 @@ use Rattle.std.proofs.Common.{◌<◌, ◌∙◌, ap, cond, length, arith}
 use Rattle.ipnet.specs.IpNets.{block}
 use Rattle.ipnet_blocks.specs.Blocks.{has_address}
 use Rattle.route_choices.specs.Hops.{number_of}
-use Rattle.route_table.specs.Networks.{routes_of}
-use Rattle.route_table.specs.Tables.{hop_at}
+use Rattle.route_laws.specs.Networks.{routes_of}
+use Rattle.route_laws.specs.Tables.{hop_at}
 use Rattle.route_feed.proofs.Carried.{one_more}
 use Rattle.route_feed.proofs.follower.carry_out.Goals as goal
 

@@ -1,7 +1,7 @@
 use Rattle.std.proofs.Common.{◌≡◌, take}
 use Rattle.ipnet_addr.specs.Addresses.{Address, IsAddress}
-use Rattle.route_table.specs.Networks.{routes_of}
-use Rattle.route_table.specs.Tables.{hop_at}
+use Rattle.route_laws.specs.Networks.{routes_of}
+use Rattle.route_laws.specs.Tables.{hop_at}
 use Rattle.route_feed.specs.Streams.{painted_over}
 use Rattle.route_feed.specs.InnerWaiting.{changes_of}
 use Rattle.route_feed.proofs.follower.carry_out.Given as goal

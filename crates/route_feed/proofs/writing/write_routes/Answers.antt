@@ -1,7 +1,7 @@
 use Rattle.std.proofs.Common.{◌+◌, ◌<◌, length, take, drop, sym, subst, arith}
 use Rattle.std.proofs.lemmas.List.{take_all}
 use Rattle.std.proofs.lemmas.Result.{err_from_is_err_and}
-use Rattle.route_table.specs.LeastTables.{routes_for}
+use Rattle.route_laws.specs.LeastTables.{routes_for}
 use Rattle.route_feed.specs.AddLines.{add_lines}
 use Rattle.route_feed.specs.InnerReplies.{Torn, Written}
 use Rattle.route_feed.proofs.Adding.{Added-more, Added-torn, at_place, before_place, cut_at, truncated_is}

@@ -1,5 +1,5 @@
 use Rattle.std.proofs.Common.{take}
-use Rattle.route_table.specs.LeastTables.{routes_for}
+use Rattle.route_laws.specs.LeastTables.{routes_for}
 use Rattle.route_feed.specs.AddLines.{add_lines}
 use Rattle.route_feed.specs.InnerReplies.{Written}
 use Rattle.route_feed.proofs.writing.write_routes.Given as goal

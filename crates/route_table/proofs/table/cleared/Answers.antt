@@ -2,7 +2,7 @@ use Rattle.std.proofs.Common.{◌∙◌, ap, subst, sym}
 use Rattle.ipnet_blocks.specs.Blocks.{IsBlock}
 use Rattle.ipnet_blocks.proofs.NetworkBlocks.{block_is}
 use Rattle.ipnet.specs.IpNets.{block, family, parts}
-use Rattle.route_table.proofs.Gaps.{of_network_at}
+use Rattle.route_laws.proofs.NetworksAt.{of_network_at}
 use Rattle.route_table.proofs.table.cleared.Goals as goal
 
 pub returns-clause-block : goal.returns-clause-block

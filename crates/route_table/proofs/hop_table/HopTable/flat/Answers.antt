@@ -1,9 +1,9 @@
 use Rattle.std.proofs.Common.{subst}
-use Rattle.route_table.specs.Flats.{IsFlat}
-use Rattle.route_table.specs.Tables.{hop_at}
-use Rattle.route_table.specs.Networks.{routes_of}
-use Rattle.route_table.proofs.FlatBounds.{flat_bound}
-use Rattle.route_table.proofs.Flats.{flat_is_shortest}
+use Rattle.route_laws.specs.Flats.{IsFlat}
+use Rattle.route_laws.specs.Tables.{hop_at}
+use Rattle.route_laws.specs.Networks.{routes_of}
+use Rattle.route_laws.proofs.FlatBounds.{flat_bound}
+use Rattle.route_laws.proofs.Flats.{flat_is_shortest}
 use Rattle.route_table.proofs.hop_table.HopTable.flat.Goals as goal
 
 pub returns-clause-shortest : goal.returns-clause-shortest

@@ -2,7 +2,7 @@ use Rattle.std.proofs.Common.{◌⊎◌, map}
 use Rattle.ipnet_blocks.specs.Aggregated.{InSome}
 use Rattle.ipnet.specs.IpNets.{block}
 use Rattle.route_table.specs.InnerOwning.{IsOwned}
-use Rattle.route_table.specs.Networks.{routes_of}
+use Rattle.route_laws.specs.Networks.{routes_of}
 use Rattle.route_table.proofs.Owned.{grows, keeps_all}
 use Rattle.route_table.proofs.own_blocks.RouteTable.push_owned.Goals as goal
 

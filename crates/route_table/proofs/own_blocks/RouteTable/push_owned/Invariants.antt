@@ -3,7 +3,7 @@ use Rattle.ipnet_addr.specs.Addresses.{Address, IsAddress}
 use Rattle.ipnet_blocks.specs.Aggregated.{InSome}
 use Rattle.ipnet.specs.IpNets.{block}
 use Rattle.route_table.specs.InnerOwning.{IsOwned}
-use Rattle.route_table.specs.Networks.{routes_of}
+use Rattle.route_laws.specs.Networks.{routes_of}
 use Rattle.route_table.proofs.own_blocks.RouteTable.push_owned.Given as goal
 
 -- the addresses of the networks, and those that the routes left have, stay the same

@@ -1,5 +1,5 @@
-use Rattle.route_table.specs.Networks.{routes_of}
-use Rattle.route_table.specs.Tables.{hop_at}
+use Rattle.route_laws.specs.Networks.{routes_of}
+use Rattle.route_laws.specs.Tables.{hop_at}
 use Rattle.route_table.proofs.shortest.RouteTable.least.Goals as goal
 
 pub shortest-requires-clause-ipv4 : goal.shortest-requires-clause-ipv4

@@ -4,9 +4,9 @@ use Rattle.ipnet.specs.IpNets.{block}
 use Rattle.ipnet_blocks.specs.Blocks.{Block}
 use Rattle.ipnet_blocks.specs.Maximal.{IsMaximal}
 use Rattle.ipnet_blocks.proofs.Maximals.{maximal_is_shortest}
-use Rattle.route_table.specs.Bounds.{excess}
-use Rattle.route_table.specs.Tables.{Governed}
-use Rattle.route_table.specs.Networks.{routes_of}
+use Rattle.route_laws.specs.Bounds.{excess}
+use Rattle.route_laws.specs.Tables.{Governed}
+use Rattle.route_laws.specs.Networks.{routes_of}
 use Rattle.route_table.proofs.table.RouteTable.governed.Goals as goal
 
 pub returns-clause-maximal : goal.returns-clause-maximal

@@ -3,10 +3,10 @@ use Rattle.ipnet_addr.specs.Addresses.{Ipv4, Ipv6}
 use Rattle.ipnet_blocks.specs.Networks.{block_of}
 use Rattle.ipnet.specs.IpNets.{block}
 use Rattle.std.specs.Option.{option_map}
-use Rattle.route_table.specs.Tables.{match_of, item_of}
-use Rattle.route_table.specs.Tables.{IsTable}
-use Rattle.route_table.specs.Networks.{routes_of}
-use Rattle.route_table.proofs.Sides.{is_table, match_side}
+use Rattle.route_laws.specs.Tables.{match_of, item_of}
+use Rattle.route_laws.specs.Tables.{IsTable}
+use Rattle.route_laws.specs.Networks.{routes_of}
+use Rattle.route_sides.proofs.Sides.{is_table, match_side}
 use Rattle.route_table.proofs.table.RouteTable.longest.Goals as goal
 
 pub returns-in-V4-clause-found : goal.returns-in-V4-clause-found

@@ -3,10 +3,10 @@ use Rattle.std.specs.Prelude.{Result, Ok, Err, OnErr}
 use Rattle.ipnet_blocks.specs.Blocks.{Block, IsBlock}
 use Rattle.ipnet.specs.IpNets.{block}
 use Rattle.route_choices.specs.Choices.{default_preference}
-use Rattle.route_table.specs.Networks.{Stored, choices_at, overwritten_by, routes_of}
-use Rattle.route_table.specs.Tables.{hop_at, route_of}
-use Rattle.route_table.proofs.Networks.{routes_are_table}
-use Rattle.route_table.proofs.Overwritten.{leaf_overwritten, networks_placed, over_hops, room_inside, halves_overwritten, routes_overwritten}
+use Rattle.route_laws.specs.Networks.{Stored, choices_at, overwritten_by, routes_of}
+use Rattle.route_laws.specs.Tables.{hop_at, route_of}
+use Rattle.route_laws.proofs.Networks.{routes_are_table}
+use Rattle.route_laws.proofs.Overwritten.{leaf_overwritten, networks_placed, over_hops, room_inside, halves_overwritten, routes_overwritten}
 use Rattle.route_table.proofs.table.Table.overwrite.Goals as goal
 
 always : {T E P : Type 0} (r : Result T E) → P → OnErr r P

@@ -1,0 +1,80 @@
+-- Least tables, from those of the two families.
+use Rattle.std.proofs.Common.{◌≡◌, ℕ, ◌+◌, ◌-◌, ◌/◌, ◌^◌, ◌≤◌, inl, true, List, ◌++◌, length, Option, Some, None, refl, sym, ap, ◌∙◌, arith, length-append}
+use Rattle.std.proofs.lemmas.Bool.{and_parts}
+use Rattle.ipnet_addr.specs.Addresses.{Family, Ipv4, Ipv6, Address, IsAddress, rank, width}
+use Rattle.ipnet_addr.proofs.Families.{family_from_test}
+use Rattle.ipnet_blocks.specs.Blocks.{Block, HasAddress, IsInside, IsBefore, is_inside, host, family_block, first_of}
+use Rattle.ipnet_blocks.proofs.BlockLaws.{has_first}
+use Rattle.ipnet_blocks.proofs.Maximals.{member_is_address}
+use Rattle.ipnet_blocks.proofs.Search.{whole_is_block, inside_whole}
+use Rattle.std.proofs.Math.Nat.{div-eq_of_lt}
+use Rattle.route_laws.specs.Fewest.{handed, hop_under, GivesInside, IsFewest, LeastIsFewest}
+use Rattle.route_laws.specs.LeastTables.{HasHops, IsLeast}
+use Rattle.route_laws.specs.Tables.{Route, hop_at, match_number, match_of}
+use Rattle.route_laws.proofs.Insides.{within, within_gives, sound, few, joined_table, joined_first, joined_second}
+
+families_apart : Ipv4 ≡ Ipv6 → ⊥
+families_apart e = let r = ap rank e in absurd (omega arith)
+
+family_tested : (a b : Block) → is_inside a b ≡ true → a.family ≡ b.family
+family_tested a b e = family_from_test a.family b.family (and_parts _ _ (and_parts _ _ e).0).0
+
+apart : (b : Block) → is_inside b (family_block Ipv4) ≡ true → is_inside b (family_block Ipv6) ≡ true → ⊥
+apart b e f = families_apart (sym (family_tested b (family_block Ipv4) e) ∙ family_tested b (family_block Ipv6) f)
+
+separate : (x : Address) → HasAddress (family_block Ipv4) x → HasAddress (family_block Ipv6) x → ⊥
+separate x h k = families_apart (sym h.0 ∙ k.0)
+
+order : (a b : Block) → IsInside a (family_block Ipv4) → IsInside b (family_block Ipv6) → IsBefore a b
+order a b h k =
+    let f = ap rank (h (first_of a) (has_first a)).0 in
+    let g = ap rank (k (first_of b) (has_first b)).0 in
+    inl (omega arith)
+
+pub in_family : (x : Address) → IsAddress x → HasAddress (family_block x.family) x
+in_family x a = (refl, let z : width x.family - 0 ≡ width x.family = omega arith in ap (λ n. x.number / 2 ^ n) z ∙ div-eq_of_lt a)
+
+pub hop_is : (N : List Route) (x : Address) → hop_under None N x ≡ hop_at N x
+hop_is N x = go (match_of N (host x))
+  where
+    go : (o : Option Route) → handed None o ≡ match_number o
+    go None = refl
+    go (Some r) = refl
+
+-- the routes of one family
+pub part_gives : (h : Address → Option ℕ) (N : List Route) → HasHops h N → (f : Family) → GivesInside h (family_block f) None (within (family_block f) N)
+part_gives h N g f = within_gives (family_block f) (whole_is_block f) N g.table h None
+    (λ x m r i k. inside_whole r.block f (sound N g.table r i).0 (sym k.0 ∙ m.0))
+    (λ x m. hop_is N x ∙ g.same x (member_is_address (family_block f) x (whole_is_block f) m))
+
+module _ (h : Address → Option ℕ) (L N : List Route) (gl : GivesInside h (family_block Ipv4) None L) (gn : GivesInside h (family_block Ipv6) None N) where
+  both_have : HasHops h (L ++ N)
+  both_have = record {
+    table = joined_table (family_block Ipv4) (family_block Ipv6) (whole_is_block Ipv4) (whole_is_block Ipv6) apart separate order h None L N gl gn;
+    same = λ x a. sym (hop_is (L ++ N) x) ∙ at x (in_family x a);
+  }
+    where
+      at : (x : Address) → HasAddress (family_block x.family) x → hop_under None (L ++ N) x ≡ h x
+      at x m = go x.family m
+        where
+          go : (f : Family) → HasAddress (family_block f) x → hop_under None (L ++ N) x ≡ h x
+          go Ipv4 k = joined_first (family_block Ipv4) (family_block Ipv6) (whole_is_block Ipv4) (whole_is_block Ipv6) apart separate order h None L N gl gn x k
+          go Ipv6 k = joined_second (family_block Ipv4) (family_block Ipv6) (whole_is_block Ipv4) (whole_is_block Ipv6) apart separate order h None L N gl gn x k
+
+-- a table needs what its families need
+at_least : (h : Address → Option ℕ) (n m : ℕ) → IsFewest h (family_block Ipv4) None n → IsFewest h (family_block Ipv6) None m → (M : List Route) → HasHops h M → n + m ≤ length M
+at_least h n m a b M g = omega (arith, few (family_block Ipv4) (family_block Ipv6) (whole_is_block Ipv4) (whole_is_block Ipv6) apart separate order M, a.least (within (family_block Ipv4) M) (part_gives h M g Ipv4), b.least (within (family_block Ipv6) M) (part_gives h M g Ipv6))
+
+-- the fewest routes of both families, one after the other
+pub least_of_families : (h : Address → Option ℕ) (L N : List Route) → GivesInside h (family_block Ipv4) None L → GivesInside h (family_block Ipv6) None N
+    → IsFewest h (family_block Ipv4) None (length L) → IsFewest h (family_block Ipv6) None (length N) → IsLeast h (L ++ N)
+least_of_families h L N gl gn a b = record {
+  hops = both_have h L N gl gn;
+  fewest = λ M g. omega (arith, length-append L N, at_least h (length L) (length N) a b M g);
+}
+
+pub least_is_fewest : LeastIsFewest
+least_is_fewest h N n m least a b =
+    let L = a.reached.0 in
+    let R = b.reached.0 in
+    omega (arith, at_least h n m a b N least.hops, least.fewest (L ++ R) (both_have h L R a.reached.1 b.reached.1), length-append L R, a.reached.2, b.reached.2)

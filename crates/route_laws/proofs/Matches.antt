@@ -1,0 +1,118 @@
+-- What the longest match is.
+use Rattle.std.proofs.Common.{◌≡◌, ◌<◌, ◌≤◌, ◌-◌, ◌/◌, ◌^◌, inl, inr, ⊎_elim, Bool, true, false, cond, nat_lt, List, [], ◌∷◌, filter, Option, Some, None, MatchOption, refl, sym, ap, ◌∙◌, subst, arith}
+use Rattle.std.proofs.lemmas.Bool.Decides.{nat_tests}
+use Rattle.ipnet_addr.specs.Addresses.{Address, IsAddress, width}
+use Rattle.ipnet_blocks.specs.Blocks.{Block, IsBlock, free_bits, HasAddress, IsInside, IsBefore, is_inside, host, first_of}
+use Rattle.ipnet_addr.proofs.Members.{In}
+use Rattle.ipnet_addr.proofs.Ascending.{In-from_Contains, Contains-from_In, In-from_All, Rising, Rising-from_pairs}
+use Rattle.ipnet_blocks.proofs.BlockLaws.{block_path, nested, has_first, strict, inside_by_numbers}
+use Rattle.ipnet_blocks.proofs.Parents.{decide_inside}
+use Rattle.ipnet_blocks.proofs.Maximals.{host_is_block, in_host, has_host}
+use Rattle.route_choices.proofs.Kept.{In-from_filter, In-filter}
+use Rattle.route_laws.specs.Tables.{Route, IsTable, IsMatch, covering, longer, longest, match_of, Governed}
+
+pub filter_same : {A : Type 0} (p q : A → Bool) (xs : List A) → ((a : A) → In a xs → p a ≡ q a) → filter p xs ≡ filter q xs
+filter_same p q [] h = refl
+filter_same p q (a ∷ xs) h =
+    ap (λ b. cond b (a ∷ filter p xs) (filter p xs)) (h a (inl refl)) ∙ ap (λ ys. cond (q a) (a ∷ ys) ys) (filter_same p q xs (λ b i. h b (inr i)))
+
+pub bools_same : (a b : Bool) → (a ≡ true → b ≡ true) → (b ≡ true → a ≡ true) → a ≡ b
+bools_same true b f g = sym (f refl)
+bools_same false true f g = g refl
+bools_same false false f g = refl
+
+pub same_length : (a b : Block) (x : Address) → HasAddress a x → HasAddress b x → a.len ≡ b.len → a ≡ b
+same_length a b x h k l =
+    let f : a.family ≡ b.family = sym h.0 ∙ k.0 in
+    let w : free_bits a ≡ free_bits b = ap (λ g. width g - a.len) f ∙ ap (λ n. width b.family - n) l in
+    block_path a b f l (sym h.1 ∙ ap (λ n. x.number / 2 ^ n) w ∙ k.1)
+
+pub inside_from_test : (a b : Block) → IsBlock a → IsBlock b → is_inside a b ≡ true → IsInside a b
+inside_from_test a b p q = (inside_by_numbers a b p q).1
+
+pub test_from_inside : (a b : Block) → IsBlock a → IsBlock b → IsInside a b → is_inside a b ≡ true
+test_from_inside a b p q = (inside_by_numbers a b p q).0
+
+abbrev pub AtLeast : Route → List Route → Type 0
+AtLeast r rs = In r rs × ((s : Route) → In s rs → Block.len s.block ≤ Block.len r.block)
+
+pick : (r : Route) (rs : List Route) (o : Option Route) → MatchOption o ((s : Route) → In s rs → ⊥) (λ s. AtLeast s rs) → AtLeast (longer r o) (r ∷ rs)
+pick r rs None none = (inl refl, λ s i. ⊎_elim (λ e. let l : Block.len s.block ≡ Block.len r.block = ap (λ (t : Route). Block.len t.block) e in omega arith) (λ j. absurd (none s j)) i)
+pick r rs (Some s) best = go (nat_lt (Block.len r.block) (Block.len s.block)) refl
+  where
+    go : (c : Bool) → nat_lt (Block.len r.block) (Block.len s.block) ≡ c → AtLeast (cond c s r) (r ∷ rs)
+    go true e =
+        let l : Block.len r.block < Block.len s.block = grind (arith, nat_tests, e) in
+        (inr best.0, λ t i. ⊎_elim (λ q. let m : Block.len t.block ≡ Block.len r.block = ap (λ (u : Route). Block.len u.block) q in omega arith) (λ j. best.1 t j) i)
+    go false e =
+        let l : Block.len s.block ≤ Block.len r.block = grind (arith, nat_tests, e) in
+        (inl refl, λ t i. ⊎_elim (λ q. let m : Block.len t.block ≡ Block.len r.block = ap (λ (u : Route). Block.len u.block) q in omega arith) (λ j. let b = best.1 t j in omega arith) i)
+
+pub best_of : (rs : List Route) → MatchOption (longest rs) ((s : Route) → In s rs → ⊥) (λ s. AtLeast s rs)
+best_of [] = λ s i. i
+best_of (r ∷ rs) = pick r rs (longest rs) (best_of rs)
+
+-- a route of a table is told by its block
+pub one_route : (M : List Route) → Rising (λ r s. IsBefore (Route.block r) (Route.block s)) M → (r s : Route) → In r M → In s M → r.block ≡ s.block → r ≡ s
+one_route [] h r s i j e = absurd i
+one_route (t ∷ M) h r s i j e =
+    ⊎_elim
+    (λ p. ⊎_elim (λ q. p ∙ sym q) (λ k. absurd (apart t s (h.0 s k) (sym (ap Route.block p) ∙ e))) j)
+    (λ k. ⊎_elim (λ q. absurd (apart t r (h.0 r k) (sym (ap Route.block q) ∙ sym e))) (λ l. one_route M h.1 r s k l e) j)
+    i
+  where
+    apart : (a b : Route) → IsBefore a.block b.block → a.block ≡ b.block → ⊥
+    apart a b l q = strict b.block b.block (subst (λ (c : Block). IsBefore c b.block) q l) (subst (λ (c : Block). IsBefore c b.block) q l)
+
+module _ (M : List Route) (table : IsTable M) where
+  pub block_in : (r : Route) → In r M → IsBlock r.block
+  block_in r i = In-from_All (λ s. IsBlock s.block) M table.blocks r i
+
+  module _ (n : Block) (ok : IsBlock n) where
+    covers_in : (r : Route) → In r M → IsInside n r.block → In r (covering M n)
+    covers_in r i h = In-filter (λ s. is_inside n s.block) M r i (test_from_inside n r.block ok (block_in r i) h)
+
+    in_covers : (r : Route) → In r (covering M n) → In r M × IsInside n r.block
+    in_covers r i =
+        let t = In-from_filter (λ s. is_inside n s.block) M r i in
+        (t.0, inside_from_test n r.block ok (block_in r t.0) t.1)
+
+    pub no_match : match_of M n ≡ None → (r : Route) → In r M → IsInside n r.block → ⊥
+    no_match e r i h =
+        let b = best_of (covering M n) in
+        let none : (s : Route) → In s (covering M n) → ⊥ = subst (λ (o : Option Route). MatchOption o ((s : Route) → In s (covering M n) → ⊥) (λ s. AtLeast s (covering M n))) e b in
+        none r (covers_in r i h)
+
+    pub match_meets : (r : Route) → match_of M n ≡ Some r → IsMatch M n r
+    match_meets r e =
+        let b = best_of (covering M n) in
+        let best : AtLeast r (covering M n) = subst (λ (o : Option Route). MatchOption o ((s : Route) → In s (covering M n) → ⊥) (λ s. AtLeast s (covering M n))) e b in
+        let t = in_covers r best.0 in
+        record { member = Contains-from_In M r t.0; holds = t.1; longest = λ s c h. best.1 s (covers_in s (In-from_Contains M s c) h) }
+
+    pub match_from : (r : Route) → IsMatch M n r → match_of M n ≡ Some r
+    match_from r m = go (match_of M n) refl
+      where
+        go : (o : Option Route) → match_of M n ≡ o → match_of M n ≡ Some r
+        go None e = absurd (no_match e r (In-from_Contains M r m.member) m.holds)
+        go (Some s) e =
+            let k = match_meets s e in
+            let p = m.longest s k.member k.holds in
+            let q = k.longest r m.member m.holds in
+            let l : Block.len s.block ≡ Block.len r.block = omega arith in
+            let same = same_length s.block r.block (first_of n) (k.holds (first_of n) (has_first n)) (m.holds (first_of n) (has_first n)) l in
+            let one = one_route M (Rising-from_pairs (λ r s. IsBefore r.block s.block) M table.ascending) s r (In-from_Contains M s k.member) (In-from_Contains M r m.member) same in
+            e ∙ ap (λ (t : Route). Some t) one
+
+    -- the match of an address that n governs is the match of n
+    pub governed_match : (x : Address) → IsAddress x → Governed M n x → match_of M (host x) ≡ match_of M n
+    governed_match x a g = ap longest (filter_same (λ r. is_inside (host x) r.block) (λ r. is_inside n r.block) M (λ r i.
+        bools_same (is_inside (host x) r.block) (is_inside n r.block)
+        (λ e. test_from_inside n r.block ok (block_in r i) (up r i (inside_from_test (host x) r.block (host_is_block x a) (block_in r i) e x (has_host x))))
+        (λ e. test_from_inside (host x) r.block (host_is_block x a) (block_in r i)
+        (λ y m. inside_from_test n r.block ok (block_in r i) e y (subst (λ (z : Address). HasAddress n z) (sym (in_host x y m)) g.inside)))))
+      where
+        up : (r : Route) → In r M → HasAddress r.block x → IsInside n r.block
+        up r i h = ⊎_elim (λ k. k)
+            (λ k. ⊎_elim (λ l. l) (λ no. absurd (g.free r (Contains-from_In M r i) (k, no) h)) (decide_inside n r.block ok (block_in r i)))
+            (nested n r.block x ok (block_in r i) g.inside h)

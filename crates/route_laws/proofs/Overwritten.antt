@@ -1,0 +1,238 @@
+-- One thing in the place of all those inside its block: its members, how it is made, and the hops of a table then.
+use Rattle.std.proofs.Common.{◌≡◌, ◌-◌, ◌/◌, ◌^◌, ◌<◌, ◌⊎◌, inl, inr, ⊎_elim, Bool, true, false, not, cond, List, [], ◌∷◌, filter, Option, Some, None, IsTrue, ◌↔◌, nat_lt, refl, sym, ap, ◌∙◌, subst, arith, div-one}
+use Rattle.std.proofs.lemmas.Bool.Decides.{nat_tests}
+use Rattle.ipnet_addr.specs.Addresses.{Address, IsAddress, width}
+use Rattle.ipnet_addr.proofs.Members.{In}
+use Rattle.ipnet_addr.proofs.Ascending.{In-from_Contains, Contains-from_In, In-from_All, All-from_In, Rising, Rising-from_pairs, pairs_from_Rising, same_rising}
+use Rattle.ipnet_blocks.specs.Blocks.{Block, IsBlock, HasAddress, IsInside, IsLarger, free_bits, is_inside, has_address, host, left, right}
+use Rattle.ipnet_blocks.proofs.BlockLaws.{block_path, nested, numbers_from_inside, same_sets, strict}
+use Rattle.ipnet_blocks.proofs.BlockTests.{has_from_test, test_from_has}
+use Rattle.ipnet_blocks.proofs.Maximals.{host_is_block, has_host}
+use Rattle.ipnet_blocks.proofs.Search.{left_is_block, right_is_block, left_inside, right_inside, in_a_half}
+use Rattle.ipnet.specs.IpNets.{block}
+use Rattle.ipnet.specs.declared.ip_net.IpNet.{IpNet}
+use Rattle.route_choices.specs.Hops.{IsHop, number_of}
+use Rattle.route_choices.specs.Choices.{Choice, AreChoices}
+use Rattle.route_choices.proofs.Kept.{Rising-kept, filter_map_swap, In-from_filter, In-filter}
+use Rattle.route_laws.specs.Overwritten.{without_inside, overwritten}
+use Rattle.route_laws.specs.Tables.{Route, IsTable, match_of, match_number, hop_at, with_route}
+use Rattle.route_laws.proofs.Alterations.{host_inside, match_is, no_matches}
+use Rattle.route_laws.specs.Networks.{IsLeaf, Stored, IsStoredTable, best_route, networks_outside, overwritten_by, routes_of}
+use Rattle.route_laws.proofs.Matches.{block_in, match_meets, inside_from_test, test_from_inside}
+use Rattle.route_laws.proofs.Networks.{routes_with, stored_block, stored_some, stored_choices}
+use Rattle.route_laws.proofs.Ordered.{Earlier, put, put_back, put_itself, put_other, put_rises}
+use Rattle.route_laws.proofs.Updates.{Sooner, added_is_table}
+
+not_cases : (b : Bool) → not b ≡ true → b ≡ true → ⊥
+not_cases true e f = cc
+not_cases false e f = cc
+
+not_from : (b : Bool) → (b ≡ true → ⊥) → not b ≡ true
+not_from true f = absurd (f refl)
+not_from false f = refl
+
+-- a block is in neither of its halves
+not_in_left : (b : Block) → IsBlock b → 0 < free_bits b → IsInside b (left b) → ⊥
+not_in_left b ok h i = let n = (numbers_from_inside b (left b) ok (left_is_block b ok h) i).long in omega arith
+
+not_in_right : (b : Block) → IsBlock b → 0 < free_bits b → IsInside b (right b) → ⊥
+not_in_right b ok h i = let n = (numbers_from_inside b (right b) ok (right_is_block b ok h) i).long in omega arith
+
+-- a host block has nothing inside but itself
+alone : (b d : Block) → IsBlock b → IsBlock d → free_bits b ≡ 0 → IsInside d b → d ≡ b
+alone b d okb okd h i =
+    let n = numbers_from_inside d b okd okb i in
+    let w = okd.in_width in
+    let v = okb.in_width in
+    let e : width d.family ≡ width b.family = ap width n.family in
+    let g = n.long in
+    let l : d.len ≡ b.len = omega arith in
+    let z : d.len - b.len ≡ 0 = omega arith in
+    block_path d b n.family l (sym (ap (λ k. d.quotient / 2 ^ k) z ∙ div-one d.quotient) ∙ n.quotient)
+
+-- a block inside itself
+inside_itself : (a b : Block) → a ≡ b → IsInside a b
+inside_itself a b e x h = subst (λ (c : Block). HasAddress c x) e h
+
+-- things at blocks, ascending
+module _ {X : Type 0} (at : X → Block) where
+  pub record AreAt (M : List X) : Type 0 where
+    pub blocks : (x : X) → In x M → IsBlock (at x)
+    pub rising : Rising (Earlier at) M
+
+  -- those that are not inside n
+  abbrev pub outside : List X → Block → List X
+  outside M n = filter (λ y. not (is_inside (at y) n)) M
+
+  -- x in the place of all those inside its block
+  abbrev pub over : List X → X → List X
+  over M x = put at (outside M (at x)) x
+
+  module _ (M : List X) (m : AreAt M) (n : Block) (ok : IsBlock n) where
+    pub outside_back : (y : X) → In y (outside M n) → In y M × (IsInside (at y) n → ⊥)
+    outside_back y i = let t = In-from_filter (λ y. not (is_inside (at y) n)) M y i in
+        (t.0, λ h. not_cases (is_inside (at y) n) t.1 (test_from_inside (at y) n (m.blocks y t.0) ok h))
+
+    pub outside_other : (y : X) → In y M → (IsInside (at y) n → ⊥) → In y (outside M n)
+    outside_other y i f = In-filter (λ y. not (is_inside (at y) n)) M y i (not_from (is_inside (at y) n) (λ e. f (inside_from_test (at y) n (m.blocks y i) ok e)))
+
+    pub outside_are : AreAt (outside M n)
+    outside_are = record {
+      blocks = λ y i. m.blocks y (outside_back y i).0;
+      rising = Rising-kept (Earlier at) (λ y. not (is_inside (at y) n)) M m.rising;
+    }
+
+  module _ (M : List X) (m : AreAt M) (x : X) (ok : IsBlock (at x)) where
+    pub put_are : AreAt (put at M x)
+    put_are = record {
+      blocks = λ y i. ⊎_elim (λ e. subst (λ (z : X). IsBlock (at z)) (sym e) ok) (λ t. m.blocks y t.0) (put_back at M x y i);
+      rising = put_rises at M x m.rising;
+    }
+
+  module _ (M : List X) (m : AreAt M) (x : X) (ok : IsBlock (at x)) where
+    rest : AreAt (outside M (at x))
+    rest = outside_are M m (at x) ok
+
+    -- the members
+    pub over_back : (y : X) → In y (over M x) → (y ≡ x) ⊎ (In y M × (IsInside (at y) (at x) → ⊥))
+    over_back y i = ⊎_elim (λ e. inl e) (λ t. inr (outside_back M m (at x) ok y t.0)) (put_back at (outside M (at x)) x y i)
+
+    pub over_other : (y : X) → In y M → (IsInside (at y) (at x) → ⊥) → In y (over M x)
+    over_other y i f = put_other at (outside M (at x)) x y (outside_other M m (at x) ok y i f) (λ e. f (inside_itself (at y) (at x) e))
+
+    pub over_itself : In x (over M x)
+    over_itself = put_itself at (outside M (at x)) x
+
+    pub over_are : AreAt (over M x)
+    over_are = put_are (outside M (at x)) rest x ok
+
+    -- it is the one list with these members
+    pub over_is : (N : List X) → AreAt N → ((y : X) → In y N → (y ≡ x) ⊎ (In y M × (IsInside (at y) (at x) → ⊥))) → In x N → ((y : X) → In y M → (IsInside (at y) (at x) → ⊥) → In y N) → N ≡ over M x
+    over_is N t back itself other = same_rising (Earlier at) (λ y z. strict (at y) (at z)) N (over M x) t.rising over_are.rising
+        (λ y i. ⊎_elim (λ e. subst (λ (z : X). In z (over M x)) (sym e) over_itself) (λ u. over_other y u.0 u.1) (back y i))
+        (λ y i. ⊎_elim (λ e. subst (λ (z : X). In z N) (sym e) itself) (λ u. other y u.0 u.1) (over_back y i))
+
+    -- where nothing lies strictly inside its block
+    pub over_leaf : ((y : X) → In y (put at M x) → IsLarger (at x) (at y) → ⊥) → put at M x ≡ over M x
+    over_leaf leaf = over_is (put at M x) (put_are M m x ok)
+        (λ y i. ⊎_elim (λ e. inl e) (λ t. inr (t.0, λ l. leaf y i (l, λ k. t.1 (same_sets (at y) (at x) (m.blocks y t.0) ok l k)))) (put_back at M x y i))
+        (put_itself at M x)
+        (λ y i out. put_other at M x y i (λ e. out (inside_itself (at y) (at x) e)))
+
+    module _ (h : 0 < free_bits (at x)) where
+      okl : IsBlock (left (at x))
+      okl = left_is_block (at x) ok h
+
+      okr : IsBlock (right (at x))
+      okr = right_is_block (at x) ok h
+
+      whole : AreAt (put at M x)
+      whole = put_are M m x ok
+
+      low : AreAt (outside (put at M x) (left (at x)))
+      low = outside_are (put at M x) whole (left (at x)) okl
+
+      abbrev emptied : List X
+      emptied = outside (outside (put at M x) (left (at x))) (right (at x))
+
+      kept : (y : X) → In y (put at M x) → (IsInside (at y) (left (at x)) → ⊥) → (IsInside (at y) (right (at x)) → ⊥) → In y emptied
+      kept y i f g = outside_other (outside (put at M x) (left (at x))) low (right (at x)) okr y (outside_other (put at M x) whole (left (at x)) okl y i f) g
+
+      back : (y : X) → In y emptied → (y ≡ x) ⊎ (In y M × (IsInside (at y) (at x) → ⊥))
+      back y i =
+          let t = outside_back (outside (put at M x) (left (at x))) low (right (at x)) okr y i in
+          let u = outside_back (put at M x) whole (left (at x)) okl y t.0 in
+          ⊎_elim
+          (λ e. inl e)
+          (λ w. inr (w.0, λ l. ⊎_elim u.1 t.1 (in_a_half (at x) ok h (at y) (m.blocks y w.0) (l, λ k. w.1 (same_sets (at y) (at x) (m.blocks y w.0) ok l k)))))
+          (put_back at M x y u.0)
+
+      pub over_halves : emptied ≡ over M x
+      over_halves = over_is emptied (outside_are (outside (put at M x) (left (at x))) low (right (at x)) okr) back
+          (kept x (put_itself at M x) (not_in_left (at x) ok h) (not_in_right (at x) ok h))
+          (λ y i out. kept y (put_other at M x y i (λ e. out (inside_itself (at y) (at x) e)))
+          (λ l. out (λ z k. left_inside (at x) ok h z (l z k)))
+          (λ l. out (λ z k. right_inside (at x) ok h z (l z k))))
+
+    -- the same, as the call makes it
+    pub halves_overwritten : 0 < free_bits (at x) → (l u : IpNet) → block l ≡ left (at x) → block u ≡ right (at x) → (S L U : List X) → S ≡ put at M x → L ≡ outside S (block l) → U ≡ outside L (block u) → U ≡ over M x
+    halves_overwritten h l u el eu S L U s q p =
+        p ∙ ap (outside L) eu ∙ ap (λ T. outside T (right (at x))) (q ∙ ap (outside S) el ∙ ap (λ T. outside T (left (at x))) s)
+        ∙ over_halves h
+
+-- ---- tables
+
+pub routes_placed : (M : List Route) → IsTable M → AreAt Route.block M
+routes_placed M m = record { blocks = block_in M m; rising = Rising-from_pairs Sooner M m.ascending }
+
+pub networks_placed : (T : List Stored) → IsStoredTable T → AreAt Stored.block T
+networks_placed T t = record { blocks = stored_block T t; rising = Rising-from_pairs (Earlier Stored.block) T t.ascending }
+
+-- the network that is put where nothing lies strictly inside
+pub leaf_overwritten : (T : List Stored) → IsStoredTable T → (s : Stored) → IsBlock s.block → (S : List Stored) → S ≡ put Stored.block T s → IsLeaf S s.block → S ≡ over Stored.block T s
+leaf_overwritten T t s ok S e leaf = e ∙ over_leaf Stored.block T (networks_placed T t) s ok (λ y i l. leaf y (Contains-from_In S y (subst (In y) (sym e) i)) l)
+
+-- a host has room for nothing
+pub host_is_leaf : (T : List Stored) → IsStoredTable T → (b : Block) → IsBlock b → free_bits b ≡ 0 → IsLeaf T b
+host_is_leaf T t b ok h s c l = l.1 (inside_itself b s.block (sym (alone b s.block ok (stored_block T t s (In-from_Contains T s c)) h l.0)))
+
+-- a network with another inside is no host
+pub room_inside : (T : List Stored) → IsStoredTable T → (b : Block) → IsBlock b → (leaf : Bool) → IsTrue leaf ↔ IsLeaf T b → leaf ≡ false → 0 < free_bits b
+room_inside T t b ok leaf h e = by (nat_lt 0 (free_bits b)) refl
+  where
+    by : (s : Bool) → nat_lt 0 (free_bits b) ≡ s → 0 < free_bits b
+    by true f = grind (arith, nat_tests)
+    by false f = absurd (let z = sym e ∙ h.1 (host_is_leaf T t b ok (grind (arith, nat_tests))) in cc)
+
+-- a part of a table of networks is one
+pub outside_is_stored : (T : List Stored) → IsStoredTable T → (n : Block) → IsStoredTable (networks_outside T n)
+outside_is_stored T t n = record {
+  blocks = All-from_In (λ s. IsBlock s.block) (networks_outside T n) (λ s i. stored_block T t s (member s i));
+  some = All-from_In (λ s. s.choices ≡ [] → ⊥) (networks_outside T n) (λ s i. stored_some T t s (member s i));
+  choices = All-from_In (λ s. AreChoices s.choices) (networks_outside T n) (λ s i. stored_choices T t s (member s i));
+  ascending = pairs_from_Rising (Earlier Stored.block) (networks_outside T n) (Rising-kept (Earlier Stored.block) (λ s. not (is_inside s.block n)) T (Rising-from_pairs (Earlier Stored.block) T t.ascending));
+}
+  where
+    member : (s : Stored) → In s (networks_outside T n) → In s T
+    member s i = (In-from_filter (λ s. not (is_inside s.block n)) T s i).0
+
+pub routes_overwritten : (T : List Stored) (b : Block) (c : Choice) → routes_of (overwritten_by T b c) ≡ overwritten (routes_of T) (record { block = b; hop = c.hop; pref = c.pref })
+routes_overwritten T b c =
+    routes_with (networks_outside T b) (record { block = b; choices = c ∷ [] })
+    ∙ ap (λ M. with_route M (record { block = b; hop = c.hop; pref = c.pref })) (sym (filter_map_swap best_route (λ r. not (is_inside r.block b)) T))
+
+module _ (M : List Route) (m : IsTable M) (r : Route) (ok : IsBlock r.block) where
+  module _ (hop : IsHop r.hop) where
+    pub over_is_table : IsTable (overwritten M r)
+    over_is_table = added_is_table (without_inside M r.block) (record {
+      blocks = All-from_In (λ s. IsBlock s.block) (without_inside M r.block) (λ s i. block_in M m s (member s i));
+      hops = All-from_In (λ s. IsHop s.hop) (without_inside M r.block) (λ s i. In-from_All (λ s. IsHop s.hop) M m.hops s (member s i));
+      ascending = pairs_from_Rising Sooner (without_inside M r.block) (Rising-kept Sooner (λ s. not (is_inside s.block r.block)) M (Rising-from_pairs Sooner M m.ascending));
+    }) r ok hop
+      where
+        member : (s : Route) → In s (without_inside M r.block) → In s M
+        member s i = (In-from_filter (λ s. not (is_inside s.block r.block)) M s i).0
+
+    pub over_hops : (x : Address) → IsAddress x → hop_at (overwritten M r) x ≡ cond (has_address r.block x) (number_of r.hop) (hop_at M x)
+    over_hops x a = go (has_address r.block x) refl
+      where
+        go : (b : Bool) → has_address r.block x ≡ b → hop_at (overwritten M r) x ≡ cond b (number_of r.hop) (hop_at M x)
+        go true e =
+            let h = has_from_test r.block x e in
+            ap match_number (match_is (overwritten M r) over_is_table x a r (over_itself Route.block M (routes_placed M m) r ok) h (λ u i k.
+            ⊎_elim (λ f. let l : Block.len u.block ≡ Block.len r.block = ap (λ (s : Route). Block.len s.block) f in omega arith)
+            (λ t. ⊎_elim (λ l. (numbers_from_inside r.block u.block ok (block_in M m u t.0) l).long) (λ l. absurd (t.1 l)) (nested r.block u.block x ok (block_in M m u t.0) h k))
+            (over_back Route.block M (routes_placed M m) r ok u i)))
+        go false e = by (match_of M (host x)) refl (λ h. let f = test_from_has r.block x h in cc)
+          where
+            by : (o : Option Route) → match_of M (host x) ≡ o → (HasAddress r.block x → ⊥) → hop_at (overwritten M r) x ≡ hop_at M x
+            by None q out =
+                ap match_number (no_matches (overwritten M r) M over_is_table m x a q (λ s i h. ⊎_elim (λ f. absurd (out (subst (λ (t : Route). HasAddress t.block x) f h))) (λ t. (s, t.0, h)) (over_back Route.block M (routes_placed M m) r ok s i)))
+                ∙ sym (ap match_number q)
+            by (Some s) q out =
+                let k = match_meets M m (host x) (host_is_block x a) s q in
+                let i = In-from_Contains M s k.member in
+                let h = k.holds x (has_host x) in
+                ap match_number (match_is (overwritten M r) over_is_table x a s (over_other Route.block M (routes_placed M m) r ok s i (λ l. out (l x h))) h (λ u j w.
+                ⊎_elim (λ f. absurd (out (subst (λ (t : Route). HasAddress t.block x) f w))) (λ t. k.longest u (Contains-from_In M u t.0) (host_inside x u.block w)) (over_back Route.block M (routes_placed M m) r ok u j)))
+                ∙ sym (ap match_number q)

@@ -1,0 +1,45 @@
+-- The blocks of one number in a flat list.
+use Rattle.std.proofs.Common.{◌≡◌, ℕ, ◌==◌, Bool, true, false, cond, List, [], ◌∷◌, filter, Option, Some, sym, subst, arith}
+use Rattle.std.proofs.lemmas.Bool.Decides.{nat_tests}
+use Rattle.ipnet_addr.specs.Addresses.{Address}
+use Rattle.ipnet_blocks.specs.Blocks.{Block, IsBefore}
+use Rattle.ipnet_blocks.specs.Maximal.{IsMaximalBlock, IsMaximal}
+use Rattle.ipnet_addr.proofs.Members.{In}
+use Rattle.ipnet_addr.proofs.Ascending.{In-from_Contains, Contains-from_In, Rising, Rising-from_pairs, pairs_from_Rising}
+use Rattle.route_choices.proofs.Kept.{In-from_filter, In-filter}
+use Rattle.route_laws.specs.Flats.{Piece, IsFlat, blocks_of}
+use Rattle.route_laws.proofs.Flats.{Sooner, In-map, In-map_back, Rising-map}
+
+module _ {A : Type 0} (R : A → A → Type 0) (p : A → Bool) where
+  kept_or_not : (b : Bool) (a : A) (xs : List A) → ((c : A) → In c xs → R a c) → Rising R xs → Rising R (cond b (a ∷ xs) xs)
+  kept_or_not true a xs f h = (f, h)
+  kept_or_not false a xs f h = h
+
+  pub Rising-filter : (xs : List A) → Rising R xs → Rising R (filter p xs)
+  Rising-filter [] h = tt
+  Rising-filter (a ∷ xs) h = kept_or_not (p a) a (filter p xs) (λ c i. h.0 c (In-from_filter p xs c i).0) (Rising-filter xs h.1)
+
+pub own_is_maximal : (h : Address → Option ℕ) (ps : List Piece) (k : ℕ) → IsFlat h ps → IsMaximal (λ x. h x ≡ Some k) (blocks_of (filter (λ p. p.number == k) ps))
+own_is_maximal h ps k f = record {
+  ascending = pairs_from_Rising IsBefore (blocks_of (filter test ps)) (Rising-map (filter test ps) (Rising-filter Sooner test ps (Rising-from_pairs Sooner ps f.ascending)));
+  exact = λ b. (
+    (λ c.
+        let t = In-map_back b (filter test ps) (In-from_Contains (blocks_of (filter test ps)) b c) in
+        let s = In-from_filter test ps t.0 t.1 in
+        let e : Piece.number t.0 ≡ k = number_is (Piece.number t.0) s.1 in
+        let m = (f.exact t.0).0 (Contains-from_In ps t.0 s.0) in
+        subst (λ (a : Block). IsMaximalBlock (λ x. h x ≡ Some k) a) (sym t.2) (subst (λ (n : ℕ). IsMaximalBlock (λ x. h x ≡ Some n) (Piece.block t.0)) e m)),
+    (λ m.
+        let p : Piece = record { block = b; number = k } in
+        Contains-from_In (blocks_of (filter test ps)) b (In-map p (filter test ps) (In-filter test ps p (In-from_Contains ps p ((f.exact p).1 m)) (itself k)))),
+  );
+}
+  where
+    test : Piece → Bool
+    test p = p.number == k
+
+    number_is : (n : ℕ) → (n == k) ≡ true → n ≡ k
+    number_is n e = grind (arith, nat_tests, e)
+
+    itself : (n : ℕ) → (n == n) ≡ true
+    itself n = grind (arith, nat_tests)

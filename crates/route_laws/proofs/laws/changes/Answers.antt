@@ -1,0 +1,19 @@
+use Rattle.ipnet_blocks.specs.Maximal.{maximal_of}
+use Rattle.ipnet_blocks.proofs.Maximals.{maximal_is_shortest, shortest_is_maximal, maximal_is_unique}
+use Rattle.route_laws.specs.Changes.{changed}
+use Rattle.route_laws.specs.Tables.{Changed}
+use Rattle.route_laws.proofs.laws.changes.Goals as goal
+use Rattle.route_laws.proofs.Updates.{added_is_table, left_is_table}
+use Rattle.route_laws.proofs.Changes.{changed_is_maximal}
+use Rattle.route_laws.proofs.OneHop.{added_lines, left_lines}
+
+pub returns : goal.returns
+returns c = record {
+  table = λ M t. (λ r ok hop. added_is_table M t r ok hop, λ n. left_is_table M t n);
+  maximal = changed_is_maximal;
+  shortest = λ M N. maximal_is_shortest (Changed M N) (maximal_of (changed M N)) (changed_is_maximal M N);
+  only = λ M N bs u up few. shortest_is_maximal (Changed M N) (maximal_of (changed M N)) bs (changed_is_maximal M N) u up few;
+  found = λ M N bs m. maximal_is_unique (Changed M N) (maximal_of (changed M N)) bs (changed_is_maximal M N) m;
+  added = added_lines;
+  left = left_lines;
+}

@@ -1,0 +1,10 @@
+use Rattle.route_laws.proofs.Families.{least_is_fewest}
+use Rattle.route_laws.proofs.Fewest.{fewest_of_host, fewest_by_halves}
+use Rattle.route_laws.proofs.laws.fewest.Goals as goal
+
+pub returns : goal.returns
+returns c = record {
+  host = fewest_of_host;
+  halves = fewest_by_halves;
+  least = least_is_fewest;
+}

@@ -1,0 +1,12 @@
+pub mod Tables
+pub mod Networks
+pub mod Flats
+pub mod LeastTables
+pub mod Fewest
+pub mod Changes
+pub mod Bounds
+pub mod Onwards
+pub mod Overwritten
+pub mod Pages
+pub mod InnerHops
+pub mod Laws

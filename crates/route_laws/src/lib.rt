@@ -1,0 +1,4 @@
+//! What a table of routes is, its matches, hops, changes, flat lists and shortest tables, and their laws.
+#![tactic(auto)]
+
+pub mod laws;

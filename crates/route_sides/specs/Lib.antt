@@ -1,0 +1,11 @@
+pub mod Sides
+pub mod Refusals
+pub mod Tries
+pub mod Items
+pub mod InnerFamilies
+pub mod InnerSides
+pub mod InnerEntries
+pub mod InnerRoutes
+pub mod InnerGoverning
+pub mod InnerRunning
+pub mod InnerFlattening

@@ -1,0 +1,20 @@
+//! The networks of one family with their routes, and what lists of routes govern and share: walks, gaps, flat lists.
+#![tactic(auto)]
+
+pub use family::OfFamily;
+pub use flat::Flat;
+pub use governed::Governed;
+pub use refused::AddRefused;
+pub use routes::Routes;
+pub use side::Side;
+pub use side_routes::SideRoutes;
+
+mod address_family;
+mod family;
+mod flat;
+mod governed;
+mod refused;
+mod routes;
+mod runs;
+mod side;
+mod side_routes;

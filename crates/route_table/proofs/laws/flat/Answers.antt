@@ -1,9 +1,0 @@
-use Rattle.route_table.proofs.laws.flat.Goals as goal
-use Rattle.route_table.proofs.Flats.{flat_is_shortest, shortest_is_flat, flat_is_admissible, same_flat}
-use Rattle.route_table.proofs.FlatBounds.{flat_bound}
-use Rattle.route_table.proofs.Rebuilds.{flat_rebuilds}
-use Rattle.route_table.proofs.FlatSearch.{search_is_flat}
-use Rattle.route_table.proofs.Own.{own_is_maximal}
-
-pub returns : goal.returns
-returns c = record { shortest = flat_is_shortest; only = shortest_is_flat; admissible = flat_is_admissible; same = same_flat; search = search_is_flat; own = own_is_maximal; bound = λ M ps table flat. flat_bound M table ps flat; rebuilds = flat_rebuilds }
