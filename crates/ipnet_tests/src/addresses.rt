@@ -1,16 +1,12 @@
-//! What no contract says: the text of an error, and each call once on values from outside.
+//! Each call once on values from outside.
 ghost use Rattle.std.specs.Prelude.{◌≤◌};
 
 use ipnet_addr::ipext::{IpAdd, IpBitAnd, IpBitOr, IpStep, IpSub};
 use ipnet_addr::key::Key;
-use ipnet_addr::mask::{
-    PrefixLenError, ip_mask_to_prefix, ipv4_mask_to_prefix, ipv6_mask_to_prefix,
-};
+use ipnet_addr::mask::{ip_mask_to_prefix, ipv4_mask_to_prefix, ipv6_mask_to_prefix};
 use ipnet_addr::ranges::Ipv4AddrRange;
-use std::fmt::Write;
 use std::net::{IpAddr, Ipv4Addr, Ipv6Addr};
 use std::process::Abort;
-use std::test::Fail;
 
 const TOP4: Ipv4Addr = Ipv4Addr::BROADCAST;
 
@@ -109,7 +105,7 @@ fn ipv6_bits(rt: HostRuntime) {
 }
 
 #[test]
-fn masks(rt: HostRuntime) -> Result<(), Fail> {
+fn ipv4_masks(rt: HostRuntime) {
     for (octets, len) in [
         ([0, 0, 0, 0], Some(0)),
         ([128, 0, 0, 0], Some(1)),
@@ -121,6 +117,10 @@ fn masks(rt: HostRuntime) -> Result<(), Fail> {
         assert_eq!(rt; ipv4_mask_to_prefix(mask).ok(), len);
         assert_eq!(rt; ip_mask_to_prefix(IpAddr::V4(mask)).ok(), len);
     }
+}
+
+#[test]
+fn ipv6_masks(rt: HostRuntime) {
     for (number, len) in [
         (0, Some(0)),
         (u128::MAX << 1, Some(127)),
@@ -132,11 +132,6 @@ fn masks(rt: HostRuntime) -> Result<(), Fail> {
         assert_eq!(rt; ipv6_mask_to_prefix(mask).ok(), len);
         assert_eq!(rt; ip_mask_to_prefix(IpAddr::V6(mask)).ok(), len);
     }
-    assert_eq!(rt;
-        format!(in rt.alloc(); "{PrefixLenError}")?.as_str(),
-        "invalid IP prefix length"
-    );
-    Ok(())
 }
 
 #[test]

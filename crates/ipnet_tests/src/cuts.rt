@@ -227,6 +227,11 @@ fn subnets(rt: HostRuntime) -> Result<(), Fail> {
     assert_eq!(rt; halves.next(), Some(v4(&rt, "10.0.0.0/9")));
     assert_eq!(rt; halves.next(), Some(v4(&rt, "10.128.0.0/9")));
     assert_eq!(rt; halves.next(), None);
+    Ok(())
+}
+
+#[test]
+fn subnets_of_other_lengths(rt: HostRuntime) -> Result<(), Fail> {
     assert_eq!(rt; v6(&rt, "::/64").subnets(63), Err(PrefixLenError));
     assert_eq!(rt; any(&rt, "::/64").subnets(129), Err(PrefixLenError));
     let mut one = any(&rt, "10.0.0.0/8").subnets(8)?;
