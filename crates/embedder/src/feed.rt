@@ -16,6 +16,9 @@ use route_table::laws::one_route;
 use std::alloc::Global;
 
 /// What a leader answers, cut anywhere, and what a follower of that prints: the flat list of the leader's table there.
+///
+/// # Errors
+/// Those of `lead` and of `follow`; this contract says nothing of them.
 pub fn mirrored(alloc: Global, input: &[u8], cut: usize) -> Result<(Vec<u8>, Vec<u8>), RunError>
     ensures { IfOk result (λ p. (refusals : List Bool) × (p.0.items ≡ output input.now refusals)
         × (p.1.items ≡ printed (map flat_line (flat_of (hop_at (routes_of (table_told input.now refusals (take cut p.0.items))))) ++ Close Done ∷ []))) }
@@ -33,6 +36,9 @@ pub fn mirrored(alloc: Global, input: &[u8], cut: usize) -> Result<(Vec<u8>, Vec
 }
 
 /// A whole session, byte for byte; the `add` may be refused for want of memory.
+///
+/// # Errors
+/// Those of `lead`; this contract says nothing of them.
 pub fn session(alloc: Global) -> Result<Vec<u8>, RunError>
     ensures { IfOk result (λ out.
         (out.items ≡ codes "set 10.0.0.0/8 1\nok\nflat 10.0.0.0/8 1\nok\n") ⊎ (out.items ≡ codes "refused\nok\n")) }

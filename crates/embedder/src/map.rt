@@ -42,6 +42,9 @@ impl Prefix for Region {
 }
 
 /// The longest match of a region after it was stored: itself, with zeros after the bits that count, and its value.
+///
+/// # Errors
+/// Those of `PrefixMap::insert`; this contract says nothing of them.
 pub fn matched(
     map: &mut PrefixMap<Region, u32>,
     region: Region,
@@ -58,6 +61,9 @@ pub fn matched(
 }
 
 /// Stores a new region, and takes it out again: the map has what it had.
+///
+/// # Errors
+/// Those of `PrefixMap::insert`; this contract says nothing of them.
 pub fn restored(map: &mut PrefixMap<Region, u32>, region: Region) -> Result<(), (Refused, u32)>
     requires fits { IsTrue (nat_le region.len 16) }
     requires absent { get map.old.entries (prefix_bits 16 region.label region.len) ≡ None }
@@ -69,6 +75,9 @@ pub fn restored(map: &mut PrefixMap<Region, u32>, region: Region) -> Result<(), 
 }
 
 /// Stores all entries of a map in another, in the order of a walk.
+///
+/// # Errors
+/// Those of `PrefixMap::insert`; this contract says nothing of them.
 pub fn copied<P: Prefix + Drop>(
     map: &PrefixMap<P, u32>,
     other: &mut PrefixMap<P, u32>,
@@ -104,6 +113,9 @@ pub fn in_parts(map: &mut PrefixMap<Region, u32>, whole: u32)
 }
 
 /// Stores a network. No condition is asked of it.
+///
+/// # Errors
+/// Those of `PrefixMap::insert`; this contract says nothing of them.
 pub fn stored(
     map: &mut PrefixMap<Ipv4Net, u32>,
     net: Ipv4Net,

@@ -13,6 +13,9 @@ use route_table::{AddRefused, Hop, RouteTable};
 
 /// What `get` answers after an accepted `add`: the best route of the network then, where it contains the asked network
 /// and no longer one does, and else what it answered before.
+///
+/// # Errors
+/// Those of `RouteTable::add`; this contract says nothing of them.
 pub fn routed(
     table: &mut RouteTable,
     net: IpNet,

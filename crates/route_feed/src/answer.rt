@@ -22,6 +22,9 @@ use route_table::{Hop, RouteTable};
 use std::io::Write;
 
 /// Answers the line of these bytes; without them, one that is too long.
+///
+/// # Errors
+/// `Write` alone: at an error of `write` or `flush`, or where `write` takes nothing. Then a beginning of the reply was written.
 pub fn answer<W: Write>(
     table: &mut RouteTable,
     text: Option<&[u8]>,
@@ -40,6 +43,9 @@ pub fn answer<W: Write>(
 }
 
 /// Answers what stands after the last line end.
+///
+/// # Errors
+/// `Write` alone: at an error of `write` or `flush`, or where `write` takes nothing. Then a beginning of the reply was written.
 pub fn answer_rest<W: Write>(rest: Rest, writer: &mut Counted<W>) -> Result<(), RunError>
     requires { CanCount writer.old }
     ensures { Closes W.contents (replies_to_rest rest) writer.old writer.new result (reply_to_rest rest) }

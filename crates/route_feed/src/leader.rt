@@ -59,6 +59,9 @@ pub fn lead<R: Read, W: Write>(
 
 /// The same as `lead`, for a process that ends next: the memory of its table is leaked, for the system to take as a whole.
 /// To give it back list by list, as `lead` does, takes up to an eighth of a run.
+///
+/// # Errors
+/// As `lead`.
 pub fn lead_leaking<R: Read, W: Write>(
     alloc: Global,
     reader: &mut Counted<R>,

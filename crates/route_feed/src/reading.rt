@@ -83,6 +83,9 @@ pub fn follow<R: Read, W: Write>(
 }
 
 /// The same as `follow`, for a process that ends next: the memory of its table is leaked, for the system to take as a whole.
+///
+/// # Errors
+/// As `follow`.
 pub fn follow_leaking<R: Read, W: Write>(
     alloc: Global,
     reader: &mut Counted<R>,

@@ -28,6 +28,9 @@ pub trait Sink<W: Write> {
     ghost takes: { Self → Line → Counted W → Result Unit RunError → Self → Counted W → Type 0 };
 
     /// Takes the line of these bytes; without them, one that is too long.
+    ///
+    /// # Errors
+    /// Those that `takes` allows.
     fn take(&mut self, text: Option<&[u8]>, writer: &mut Counted<W>) -> Result<(), RunError>
         requires { can_take self.old writer.old }
         ensures takes { takes self.old (as_line text.entry) writer.old result self.new writer.new }
@@ -89,6 +92,10 @@ fn take_piece<W: Write, S: Sink<W>>(
 }
 
 /// Reads to the end, and hands the sink each line. Answers what stands after the last line end.
+///
+/// # Errors
+/// `Read` at an error of `read`, or where 2^62 calls of `read` didn't reach the end: then the sink has taken each whole line
+/// that was read. Else the sink's own, at the first line that it didn't take.
 pub fn run<R: Read, W: Write, S: Sink<W>>(
     sink: &mut S,
     buf: &mut [u8],

@@ -40,6 +40,9 @@ fn write_piece<W: Write>(writer: &mut Counted<W>, piece: &[u8]) -> Result<(), Ru
 }
 
 /// Writes a line.
+///
+/// # Errors
+/// `Write` alone: at an error of `write`, or where it takes nothing. Then a beginning of the line was written.
 pub fn write_line<W: Write>(writer: &mut Counted<W>, line: &Reply) -> Result<(), RunError>
     requires faults { CanCount writer.old }
     requires printable { IsPrintable line.now }
@@ -69,6 +72,9 @@ fn flush<W: Write>(writer: &mut Counted<W>) -> Result<(), RunError>
 }
 
 /// Writes the line that closes a reply, and flushes.
+///
+/// # Errors
+/// `Write` alone: at an error of `write` or `flush`, or where `write` takes nothing. Then a beginning of the line was written.
 pub fn close<W: Write>(writer: &mut Counted<W>, closing: Closing) -> Result<(), RunError>
     requires { CanCount writer.old }
     ensures { Closes W.contents 1 writer.old writer.new result (reply_line (Reply.Close closing)) }
@@ -78,6 +84,9 @@ pub fn close<W: Write>(writer: &mut Counted<W>, closing: Closing) -> Result<(), 
 }
 
 /// Writes a reply: its lines, and `ok`, and flushes.
+///
+/// # Errors
+/// `Write` alone: at an error of `write` or `flush`, or where `write` takes nothing. Then a beginning of the reply was written.
 pub fn reply<W: Write, B: Body>(writer: &mut Counted<W>, mut body: B) -> Result<(), RunError>
     requires counts { CanCount writer.old }
     requires body { B.can_give body }
@@ -90,6 +99,9 @@ pub fn reply<W: Write, B: Body>(writer: &mut Counted<W>, mut body: B) -> Result<
 }
 
 /// Writes the lines that add the routes, and flushes.
+///
+/// # Errors
+/// `Write` alone: at an error of `write` or `flush`, or where `write` takes nothing. Then a beginning of the lines was written.
 pub fn write_routes<W: Write>(
     writer: &mut Counted<W>,
     routes: &[(IpNet, Hop)],

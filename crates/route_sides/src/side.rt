@@ -58,6 +58,9 @@ impl<P: OfFamily, const ROOM: usize> Model for Side<P, ROOM> {
 
 impl<P: OfFamily, const ROOM: usize> Side<P, ROOM> {
     /// No networks.
+    ///
+    /// # Errors
+    /// None, as of `PrefixMap::new`.
     pub fn new(alloc: Global) -> Result<Side<P, ROOM>, Refused>
         requires some { 0 < ROOM }
         requires few { ROOM ≤ 8 }
@@ -70,6 +73,9 @@ impl<P: OfFamily, const ROOM: usize> Side<P, ROOM> {
     }
 
     /// Stores one route at the network, in the place of all that it has.
+    ///
+    /// # Errors
+    /// `Memory` where there is none for a network that is not stored. The side is as it was.
     pub fn store(&mut self, net: P, hop: Hop, pref: u16) -> Result<(), Refused>
         requires { IsBlock (block_of P.family (P.parts net)) }
         ensures hop { IsHop hop }
@@ -124,6 +130,10 @@ impl<P: OfFamily> Side<P, 8> {
 
     /// Adds a route to the network, or gives the one of this hop the new preference. Answers the numbers of the best hop
     /// at the longest match before and after.
+    ///
+    /// # Errors
+    /// `TooMany` exactly where eight other hops are stored at the network. `Store` where there is no memory for a network
+    /// that is not stored. The side is as it was.
     pub fn add(
         &mut self,
         net: P,

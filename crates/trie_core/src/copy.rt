@@ -15,8 +15,10 @@ fn cloned<X: Clone>(alloc: Global, items: &[X]) -> Result<Vec<X>, AllocError>
 }
 
 impl<T: Clone> Node<T> {
-    /// A node with clones of the values, and with as many nodes below. Where there is no memory for all of it,
-    /// nothing is left of it.
+    /// A node with clones of the values, and with as many nodes below.
+    ///
+    /// # Errors
+    /// `AllocError` where there is no memory for all of it. Nothing is left of it then.
     pub fn try_clone(&self, alloc: Global) -> Result<Node<T>, AllocError>
         requires { (x y : T) → T.is_clone x y → y ≡ x }
         ensures { IfOk result (λ n. n ≡ self.now) }

@@ -262,6 +262,10 @@ impl<T: Drop> Node<T> {
     ///
     /// A new entry is taken in only where there `may` be one more, and with at most `room` new nodes. The memory
     /// for a new node is requested before the node is made, and the nodes below it are made before it is hung in.
+    ///
+    /// # Errors
+    /// The value, and the node is as it was: never where one stands at the path; always where none does and there may not
+    /// be one more entry; else for want of memory, or where more than `room` nodes would be made.
     pub fn insert(
         &mut self,
         path: Path,
