@@ -1,8 +1,8 @@
 //! The input, which tells whether more lines are here.
 ghost use Rattle.std.specs.Io.{ReadsAtMost};
 ghost use Rattle.std.specs.Io.KnownBytes.{ReadConsumes, prepend_known};
-ghost use Rattle.std.specs.Prelude.{◌≡◌, ◌<◌, ◌≤◌, drop, is_err, length};
-ghost use Rattle.route_feed.specs.Counted.{faults_of, inner, more_if, one_more, reads_of};
+ghost use Rattle.std.specs.Prelude.{◌≡◌, ◌<◌, ◌≤◌, ◌+◌, drop, is_err, length};
+ghost use Rattle.route_feed.specs.Counted.{faults_of, inner, more_if, reads_of};
 
 use arrayvec::ArrayVec;
 use route_feed::Counted;
@@ -67,7 +67,7 @@ impl<'a, R: Read> Read for Input<'a, R> {
     fn read(&mut self, buf: &mut [u8]) -> io::Result<usize>
         ensures bound { ReadsAtMost result buf.new }
         ensures bytes { ReadConsumes (prepend_known (drop self.old.start self.old.kept.items) (R.remaining (inner self.old.device))) (prepend_known (drop self.new.start self.new.kept.items) (R.remaining (inner self.new.device))) result buf.new }
-        ensures reads { reads_of self.new.device ≤ one_more (reads_of self.old.device) }
+        ensures reads { reads_of self.new.device ≤ reads_of self.old.device + 1 }
         ensures faults { faults_of self.new.device ≡ more_if (is_err result) (faults_of self.old.device) }
     {
         let left = self.left();
