@@ -4,4 +4,5 @@
 
 pub mod feed;
 pub mod map;
+pub mod over_bytes;
 pub mod table;

@@ -1,4 +1,4 @@
-//! The networks of one family with their routes, and what lists of routes govern and share: walks, gaps, flat lists.
+//! The networks of one family with their routes; which addresses a route decides, and the flat list.
 #![tactic(auto)]
 
 pub use family::OfFamily;
