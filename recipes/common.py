@@ -42,7 +42,7 @@ def run(main):
         elif main(*sys.argv[1:]) is False:
             sys.exit(usage)
     except OSError as error:
-        fault(error)
+        fault(f"{error.filename}: {error.strerror}" if error.filename else error)
 
 
 def text(lines):
@@ -136,9 +136,9 @@ def same(what, left, right):
         fault(f"{what}: {left!r} and {right!r}")
 
 
-def shown():
-    """The indented blocks of the recipe's page, in order."""
-    blocks = re.findall(r"(?:^    .*\n|^\n(?=    ))+", (HERE / f"{NAME}.md").read_text(), re.MULTILINE)
+def shown(page):
+    """The indented blocks of a page, in order."""
+    blocks = re.findall(r"(?:^    .*\n|^\n(?=    ))+", page.read_text(), re.MULTILINE)
     return [textwrap.dedent(block).lstrip("\n") for block in blocks if block.strip()]
 
 
@@ -146,8 +146,8 @@ class Page:
     """The recipe's page, block by block, in a folder of its own. A command is run as it stands there, by a shell that fails where
     a part of a pipe does; beside it are `recipes`, `examples`, `routes`, and tools that are told where to work: `{}` is the real one."""
 
-    def __init__(self, folder, **tools):
-        self.folder, self.blocks = folder, shown()
+    def __init__(self, folder, blocks=None, **tools):
+        self.folder, self.blocks = folder, shown(HERE / f"{NAME}.md") if blocks is None else blocks
         os.makedirs(f"{folder}/bin")
         os.symlink(HERE, f"{folder}/recipes")
         os.symlink(HERE.parent / "examples", f"{folder}/examples")
