@@ -269,19 +269,25 @@ class Numbers:
 def differing(old, new):
     """The lines of each network that differ between two tables, in the order of text. These are lists of lines `WORD NET ..`."""
     old, new = (sorted(table) + [""] for table in (old, new))
-    at, to = 0, 0
+    if not old[0] or not new[0]:
+        raise ValueError("an empty line")
+    at, to, ahead = 0, 0, 32
     while old[at] or new[to]:
-        if step := 32 if old[at:at + 32] == new[to:to + 32] else old[at] == new[to]:
-            at, to = min(at + step, len(old) - 1), min(to + step, len(new) - 1)
-            continue
-        key = min(start(line) for line in (old[at], new[to]) if line)
-        (before, at), (after, to) = lines_from(old, at, key), lines_from(new, to, key)
-        yield before, after
+        while old[at + ahead - 1:at + ahead] and old[at:at + ahead] == new[to:to + ahead]:
+            at, to = at + ahead, to + ahead
+            if not old[at - 1]:
+                return
+        while old[at] == new[to] and old[at]:
+            at, to = at + 1, to + 1
+        if old[at] or new[to]:
+            key = min(start(line) for line in (old[at], new[to]) if line)
+            (before, at), (after, to) = lines_from(old, at, key), lines_from(new, to, key)
+            yield before, after
 
 
 def start(line):
     """A line up to the space after its network."""
-    return line[:line.index(" ", line.index(" ") + 1) + 1]
+    return line[:line.find(" ", line.find(" ") + 1) + 1] or line
 
 
 def lines_from(lines, at, key):
