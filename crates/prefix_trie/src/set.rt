@@ -52,6 +52,11 @@ impl<P: Prefix> PrefixSet<P> {
     ///
     /// # Errors
     /// None, as of `PrefixMap::new`.
+    ///
+    /// # Examples
+    /// ```rust
+    /// let mut set: PrefixSet<(u32, u8)> = PrefixSet::new(rt.alloc())?;
+    /// ```
     pub fn new(alloc: Global) -> Result<PrefixSet<P>, Refused>
         ensures set { IfOk result (λ s. s.entries ≡ fin.empty) }
         ensures tidy { IfOk result (λ s. s.spares ≡ fin.empty) }
@@ -116,6 +121,13 @@ impl<P: Prefix> PrefixSet<P> {
     }
 
     /// The member that this very prefix is, with zeros after the bits that count.
+    ///
+    /// # Examples
+    /// Where 10.1.0.0/16 is `inner`, a member:
+    ///
+    /// ```rust
+    /// assert_eq!(rt; set.get(&(0x0a01_0203, 16)), Some(inner));
+    /// ```
     pub fn get(&self, prefix: &P) -> Option<P>
         requires { IsTrue (P.fits prefix.now) }
         ensures { MatchOption result (fin.contains_key self.now.entries (P.bits prefix.now) ≡ false) (λ k. (fin.contains_key self.now.entries (P.bits prefix.now) ≡ true) × (k ≡ P.of_bits (P.bits prefix.now)) × (P.bits k ≡ P.bits prefix.now) × IsTrue (P.fits k)) }
@@ -127,6 +139,16 @@ impl<P: Prefix> PrefixSet<P> {
     }
 
     /// The longest member that contains the asked prefix, which itself counts.
+    ///
+    /// # Examples
+    /// In a set of `inner`, 10.1.0.0/16:
+    ///
+    /// ```rust
+    /// let wide = (0x0a00_0000, 8);
+    /// assert_eq!(rt; set.insert(wide), Ok(true));
+    /// assert_eq!(rt; set.get_lpm(&(0x0a01_0203, 32)), Some(inner));
+    /// assert_eq!(rt; set.get_lpm(&(0x0a09_0000, 16)), Some(wide));
+    /// ```
     pub fn get_lpm(&self, prefix: &P) -> Option<P>
         requires { IsTrue (P.fits prefix.now) }
         ensures { MatchOption result (NoBeginning self.now.entries (P.bits prefix.now)) (λ k. IsLongestKey P.fits P.bits P.of_bits self.now.entries (P.bits prefix.now) k tt) }
@@ -151,6 +173,16 @@ impl<P: Prefix> PrefixSet<P> {
     }
 
     /// All members, in the order of a walk.
+    ///
+    /// # Examples
+    /// In a set of `inner`, 10.1.0.0/16, and `wide`, 10.0.0.0/8:
+    ///
+    /// ```rust
+    /// let mut members = set.iter();
+    /// assert_eq!(rt; members.next(), Some(wide));
+    /// assert_eq!(rt; members.next(), Some(inner));
+    /// assert_eq!(rt; members.next(), None);
+    /// ```
     pub fn iter(&self) -> Iter<'_, P>
         ensures { result ≡ fin.keys self.now.entries }
     {
@@ -218,6 +250,13 @@ impl<P: Prefix + Drop> PrefixSet<P> {
     ///
     /// # Errors
     /// `Memory` as `PrefixMap::insert`, and the set is as it was.
+    ///
+    /// # Examples
+    /// ```rust
+    /// let inner = (0x0a01_0000, 16);
+    /// assert_eq!(rt; set.insert(inner), Ok(true));
+    /// assert_eq!(rt; set.insert((0x0a01_0203, 16)), Ok(false));
+    /// ```
     pub fn insert(&mut self, prefix: P) -> Result<bool, Refused>
         requires { IsTrue (P.fits prefix) }
         ensures new { IfOk result (λ new. new ≡ not (fin.contains_key self.old.entries (P.bits prefix))) }
@@ -236,6 +275,12 @@ impl<P: Prefix + Drop> PrefixSet<P> {
 
     /// Takes the prefix out, and answers whether it was a member. Nodes go as by `PrefixMap::remove`. It takes no
     /// memory.
+    ///
+    /// # Examples
+    /// ```rust
+    /// assert!(rt; set.remove(&wide));
+    /// assert!(rt; !set.remove(&wide));
+    /// ```
     pub fn remove(&mut self, prefix: &P) -> bool
         requires { IsTrue (P.fits prefix.now) }
         ensures member { result ≡ fin.contains_key self.old.entries (P.bits prefix.now) }

@@ -2,4 +2,6 @@
 #![tactic(auto)]
 
 #[cfg(test)]
+mod first_calls;
+#[cfg(test)]
 mod rows;

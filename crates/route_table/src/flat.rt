@@ -24,6 +24,18 @@ impl RouteTable {
     /// The maximal blocks of the addresses of each hop number, each with that number, ascending, IPv4 before IPv6. No
     /// list of blocks of one hop that covers all addresses with a hop is shorter, and in each family there are at most
     /// one and the sum of the lengths of the stored networks. It takes no memory.
+    ///
+    /// # Examples
+    /// ```rust
+    /// table.add(IpNet::from_str("10.0.0.0/8")?, Hop::Number(1), 100)?;
+    /// table.add(IpNet::from_str("10.0.0.0/9")?, Hop::Number(2), 100)?;
+    /// let mut flat = table.flat();
+    /// let half = IpNet::from_str("10.0.0.0/9")?;
+    /// assert_eq!(rt; flat.next(), Some((half, 2)));
+    /// let other_half = IpNet::from_str("10.128.0.0/9")?;
+    /// assert_eq!(rt; flat.next(), Some((other_half, 1)));
+    /// assert_eq!(rt; flat.next(), None);
+    /// ```
     pub fn flat(&self) -> Flat<'_>
         ensures flat { IsFlat (hop_at (routes_of self.now)) result }
         ensures shortest { (bs : List Block) → IsAdmissible (hop_at (routes_of self.now)) bs → length result ≤ length bs }

@@ -103,6 +103,17 @@ impl RouteTable {
     ///
     /// # Errors
     /// `Memory` where there is none for the list, or on the way to it.
+    ///
+    /// # Examples
+    /// ```rust
+    /// let quarter = IpNet::from_str("10.0.0.0/10")?;
+    /// table.add(quarter, Hop::Number(2), 100)?;
+    /// table.add(IpNet::from_str("10.64.0.0/10")?, Hop::Number(1), 100)?;
+    /// table.add(IpNet::from_str("10.128.0.0/9")?, Hop::Number(1), 100)?;
+    /// let whole = IpNet::from_str("10.0.0.0/8")?;
+    /// let fewest = [(whole, Hop::Number(1)), (quarter, Hop::Number(2))];
+    /// assert_eq!(rt; table.least()?.as_slice(), fewest.as_slice());
+    /// ```
     pub fn least(&self) -> Result<Vec<(IpNet, Hop)>, Refused>
         ensures least { IfOk result (λ routes. IsLeast (hop_at (routes_of self.now)) (routes_for routes.items)) }
         ensures truncated { IfOk result (λ routes. All (λ r. IsTruncated (family r.0) (parts r.0)) routes.items) }

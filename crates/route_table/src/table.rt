@@ -66,6 +66,11 @@ impl RouteTable {
     ///
     /// # Errors
     /// None: the `Result` is for the tables that need memory at once.
+    ///
+    /// # Examples
+    /// ```rust
+    /// let mut table = RouteTable::new(rt.alloc())?;
+    /// ```
     pub fn new(alloc: Global) -> Result<RouteTable, Refused>
         ensures networks { IfOk result (λ t. t ≡ []) }
         ensures table { IfOk result IsStoredTable }
@@ -82,6 +87,14 @@ impl RouteTable {
     /// # Errors
     /// `TooMany` exactly where eight other hops are stored at the network. `Store` where there is no memory for a network
     /// that is not stored. The table is as it was. No route of a stored network takes memory.
+    ///
+    /// # Examples
+    /// ```rust
+    /// let wide = IpNet::from_str("10.0.0.0/8")?;
+    /// assert_eq!(rt; table.add(wide, Hop::Number(1), 100)?, (None, Some(1)));
+    /// let half = IpNet::from_str("10.0.0.0/9")?;
+    /// assert_eq!(rt; table.add(half, Hop::Number(2), 100)?, (Some(1), Some(2)));
+    /// ```
     pub fn add(
         &mut self,
         net: IpNet,
@@ -101,6 +114,14 @@ impl RouteTable {
     /// Takes the route of this hop out of the network, where there is one, and the network with its last route. Answers
     /// the hop that the addresses which the network governs had, and the one that they have: the numbers at the longest
     /// match of the network before and after. It takes no memory.
+    ///
+    /// # Examples
+    /// Where 10.0.0.0/8 has the hop 1 and `half`, 10.0.0.0/9, the hop 2:
+    ///
+    /// ```rust
+    /// assert_eq!(rt; table.del(&half, Hop::Number(2)), Some((Some(2), Some(1))));
+    /// assert_eq!(rt; table.del(&half, Hop::Number(2)), None);
+    /// ```
     pub fn del(&mut self, net: &IpNet, hop: Hop) -> Option<(Option<u32>, Option<u32>)>
         ensures stored { is_some result ≡ holds_hop (choices_at self.old (block net.now)) hop }
         ensures networks { self.new ≡ without_choice self.old (block net.now) hop }
@@ -122,6 +143,14 @@ impl RouteTable {
 
     /// The longest match: of the stored networks that contain this one, itself included, the longest, with its best hop
     /// and the preference of that one.
+    ///
+    /// # Examples
+    /// Where 10.0.0.0/8 has the hop 1 and `half`, 10.0.0.0/9, the hop 2:
+    ///
+    /// ```rust
+    /// let host = IpNet::from_str("10.1.2.3/32")?;
+    /// assert_eq!(rt; table.get(&host), Some((half, Hop::Number(2), 100)));
+    /// ```
     pub fn get(&self, net: &IpNet) -> Option<(IpNet, Hop, u16)>
         ensures found { result ≡ option_map item_of (match_of (routes_of self.now) (block net.now)) }
         ensures table { IsTable (routes_of self.now) }
@@ -141,6 +170,18 @@ impl RouteTable {
     }
 
     /// The best routes of the networks inside this one, itself included, ascending. It takes no memory.
+    ///
+    /// # Examples
+    /// ```rust
+    /// let wide = IpNet::from_str("10.0.0.0/8")?;
+    /// let half = IpNet::from_str("10.0.0.0/9")?;
+    /// table.add(wide, Hop::Number(1), 100)?;
+    /// table.add(half, Hop::Number(2), 100)?;
+    /// let mut routes = table.list(&IpNet::from_str("0.0.0.0/0")?);
+    /// assert_eq!(rt; routes.next(), Some((wide, Hop::Number(1), 100)));
+    /// assert_eq!(rt; routes.next(), Some((half, Hop::Number(2), 100)));
+    /// assert_eq!(rt; routes.next(), None);
+    /// ```
     pub fn list(&self, net: &IpNet) -> Routes<'_>
         ensures { result ≡ routes_inside (routes_of self.now) (block net.now) }
     {

@@ -6,6 +6,8 @@ mod changes;
 #[cfg(test)]
 mod choices;
 #[cfg(test)]
+mod first_calls;
+#[cfg(test)]
 mod flat_lists;
 #[cfg(test)]
 mod least_tables;

@@ -49,6 +49,11 @@ impl<P: Prefix, T> PrefixMap<P, T> {
     ///
     /// # Errors
     /// None: the `Result` is for the maps that need memory at once.
+    ///
+    /// # Examples
+    /// ```rust
+    /// let mut map: PrefixMap<Ipv4Net, u32> = PrefixMap::new(rt.alloc())?;
+    /// ```
     pub fn new(alloc: Global) -> Result<PrefixMap<P, T>, Refused>
         ensures map { IfOk result (λ m. m.entries ≡ map.empty) }
         ensures tidy { IfOk result (λ m. m.spares ≡ map.empty) }
@@ -95,6 +100,15 @@ impl<P: Prefix, T> PrefixMap<P, T> {
     }
 
     /// The value at this very key.
+    ///
+    /// # Examples
+    /// ```rust
+    /// let inner = Ipv4Net::from_str("10.1.0.0/16")?;
+    /// assert!(rt; matches!(map.insert(inner, 2), Ok(None)));
+    /// assert_eq!(rt; map.get(&inner), Some(&2));
+    /// let host = Ipv4Net::from_str("10.1.2.3/32")?;
+    /// assert_eq!(rt; map.get(&host), None);
+    /// ```
     pub fn get(&self, prefix: &P) -> Option<&T>
         requires { IsTrue (P.fits prefix.now) }
         ensures { option_copied result ≡ map.get self.now.entries (P.bits prefix.now) }
@@ -125,6 +139,15 @@ impl<P: Prefix, T> PrefixMap<P, T> {
     }
 
     /// The longest key that contains the asked prefix, which itself counts, and its value.
+    ///
+    /// # Examples
+    /// In a map of 10.0.0.0/8 and of `inner`, 10.1.0.0/16, at 2:
+    ///
+    /// ```rust
+    /// let host = Ipv4Net::from_str("10.1.2.3/32")?;
+    /// assert_eq!(rt; map.get(&host), None);
+    /// assert_eq!(rt; map.get_lpm(&host), Some((inner, &2)));
+    /// ```
     pub fn get_lpm(&self, prefix: &P) -> Option<(P, &T)>
         requires { IsTrue (P.fits prefix.now) }
         ensures { MatchOption result (NoBeginning self.now.entries (P.bits prefix.now)) (λ r. IsLongestKey P.fits P.bits P.of_bits self.now.entries (P.bits prefix.now) r.0 r.1.now) }
@@ -241,6 +264,13 @@ impl<P: Prefix + Drop, T: Drop> PrefixMap<P, T> {
     /// # Errors
     /// `Memory` where there is none for the key, or one more entry or node could not be counted. The map is as it
     /// was, and the value comes back.
+    ///
+    /// # Examples
+    /// ```rust
+    /// let wide = Ipv4Net::from_str("10.0.0.0/8")?;
+    /// assert!(rt; matches!(map.insert(wide, 1), Ok(None)));
+    /// assert!(rt; matches!(map.insert(wide, 3), Ok(Some(1))));
+    /// ```
     pub fn insert(&mut self, prefix: P, value: T) -> Result<Option<T>, (Refused, T)>
         requires { IsTrue (P.fits prefix) }
         ensures old { IfOk result (λ old. old ≡ map.get self.old.entries (P.bits prefix)) }
@@ -271,6 +301,12 @@ impl<P: Prefix + Drop, T: Drop> PrefixMap<P, T> {
 
     /// Takes the entry out and answers its value. Then the last node on the way to the key goes, and each above it,
     /// while it has neither value nor child and is not the root; also where the key is not stored. It takes no memory.
+    ///
+    /// # Examples
+    /// ```rust
+    /// assert_eq!(rt; map.remove(&inner), Some(2));
+    /// assert_eq!(rt; map.remove(&inner), None);
+    /// ```
     pub fn remove(&mut self, prefix: &P) -> Option<T>
         requires { IsTrue (P.fits prefix.now) }
         ensures value { result ≡ map.get self.old.entries (P.bits prefix.now) }

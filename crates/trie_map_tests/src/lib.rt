@@ -6,6 +6,8 @@ mod changes;
 #[cfg(test)]
 mod entries;
 #[cfg(test)]
+mod first_calls;
+#[cfg(test)]
 mod keys;
 #[cfg(test)]
 mod lookups;
