@@ -8,7 +8,7 @@ class NotUnderstood(Exception):
 
 # Why a function has no proof, in the checker's words.
 REASONS = [re.compile(it) for it in (
-    r"expected \w+ in \./proofs/\S+",
+    r"expected (?:\w+|`\S+`) in \./proofs/\S+",
     r"(`search` did not prove .+)",
     r"it calls `.+, which (?:is|are) not proved",
     r"it passes the blocks? `.+, which (?:is|are) not proved",
@@ -95,6 +95,7 @@ READ = [
     (S + "\nonly=1 proved=0", ["c::a"], []),
     (S + "; it calls `c::b`, which is not proved\nlogic=not-proved", ["c::a"], []),
     ("fn c::a: no proof: it calls `c::b`, which is not proved\nfn c::b: not proved\n./proofs/b/Answers.antt:1:2: error: `x`: y\nlogic=not-proved", ["c::b"], []),
+    ("fn c::a: no proof: expected `a_spec` in ./proofs/a/Proof.antt\n./proofs/a/Proof.antt:1:2: error: `x`: y\nlogic=not-proved", ["c::a"], []),
     ("fn c::m::a: not proved\n./proofs/m/+a/Invariants.antt:1:2: error: x\nlogic=not-proved", ["c::m::a"], []),
     (A + "fn c::ab: not proved\n./proofs/ab/Answers.antt:1:2: error: x\nlogic=not-proved", ["c::ab"], []),
     ("./specs/A.antt:1:2: error: x\n" + A + "logic=not-proved", [], ["specs/A.antt"]),
