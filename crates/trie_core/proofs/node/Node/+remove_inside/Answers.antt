@@ -1,4 +1,4 @@
-use Rattle.std.proofs.Common.{◌≡◌, ◌^◌, ◌∙◌, length, drop, refl, ap, subst, arith}
+use Rattle.std.proofs.Common.{◌^◌, ◌∙◌, length, drop, refl, ap, subst, arith}
 use Rattle.std.proofs.lemmas.Bool.Decides.{nat_tests}
 use Rattle.std.proofs.Math.ListN.{length-drop}
 use Rattle.ipnet_blocks.specs.BitStrings.{begins}
