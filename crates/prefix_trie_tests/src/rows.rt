@@ -209,6 +209,12 @@ fn addresses_of_halves(rt: HostRuntime) {
 }
 
 #[test]
+fn addresses_of_ipv4_halves(rt: HostRuntime) {
+    let set = set_with(&rt, rt.alloc(), &[(0, 1), (0x8000_0000, 1)]);
+    assert_eq!(rt; set.address_count(), None);
+}
+
+#[test]
 fn addresses_of_all(rt: HostRuntime) {
     let mut all: PrefixMap<(u128, u8), u32> = PrefixMap::new(rt.alloc()).expect(&rt, "a map");
     assert!(rt; all.insert((0, 0), 1).is_ok());

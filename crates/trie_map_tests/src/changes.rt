@@ -1,5 +1,5 @@
 //! Rows on changes of many entries at once.
-use crate::maps::plain_map_of;
+use crate::maps::{digits, plain_map_of};
 use std::alloc::Global;
 use std::process::Abort;
 use trie_map::PrefixMap;
@@ -40,6 +40,7 @@ fn inside_a_prefix(rt: HostRuntime) {
     store(&rt, &mut map, (0, 11), 300);
     counts(&rt, &map, 2, 5);
     has(&rt, &map, &[((0, 11), 300), ((0x8000_0000, 11), 200)]);
+    assert_eq!(rt; digits(map.iter()), 3200);
 }
 
 #[test]

@@ -66,6 +66,25 @@ fn onwards(rt: HostRuntime) {
     }
 }
 
+/// Six networks, their values in the order of a walk.
+const SIX: [(&str, u32); 6] = [
+    ("10.0.0.0/8", 1),
+    ("10.1.0.0/16", 2),
+    ("10.2.0.0/16", 3),
+    ("10.2.0.0/24", 4),
+    ("10.3.0.0/16", 5),
+    ("10.4.0.0/16", 6),
+];
+
+#[test]
+fn onwards_to_the_last(rt: HostRuntime) {
+    let map = map_of(&rt, rt.alloc(), &SIX);
+    for (inclusive, expected) in [(true, 3456), (false, 456)].iter() {
+        let entries = map.iter_from(&net(&rt, "10.2.0.0/16"), *inclusive);
+        assert_eq!(rt; digits(entries), *expected);
+    }
+}
+
 /// Three networks, one inside the other.
 fn three_networks(rt: &impl Abort, alloc: Global) -> PrefixMap<Ipv4Net, u32> {
     let stored = [("10.1.1.0/24", 3), ("10.0.0.0/8", 1), ("10.1.0.0/16", 2)];
