@@ -1,6 +1,7 @@
 """What the recipes have in common. The program is the one that the environment names as ROUTES, else the tree's ./routes."""
 import contextlib
 import ipaddress
+import itertools
 import os
 import random
 import re
@@ -17,6 +18,11 @@ HERE = Path(__file__).resolve().parent
 PROGRAM = os.environ.get("ROUTES", str(HERE.parent / "routes"))
 NAME = Path(sys.argv[0]).name
 NETWORK = re.compile(r"[0-9a-f:.]+/[0-9]+")
+ANY = re.compile("[^\r]*")
+REPLIES = re.compile(r"(?:(?:(?:set|flat) {0} \d+|(?:unset|own) {0}|route {0} (?:\d+|drop)(?: \d+)?|count \d+ \d+"
+                     r"|ok|none|bad|refused)\n)*".format(NETWORK.pattern))
+CLOSING = ("ok", "none", "bad", "refused")
+PIECE = 1 << 20
 PASSED_OVER = 77
 
 sys.stdin.reconfigure(errors="backslashreplace")
@@ -29,11 +35,23 @@ def fault(text):
 def run(main):
     """A recipe. A file that can't be had is named too, and wrong arguments get the usage."""
     signal.signal(signal.SIGTERM, lambda *_: fault("ended by a signal"))
+    usage = sys.modules["__main__"].__doc__
     try:
-        if main(*sys.argv[1:]) is False:
-            sys.exit(sys.modules["__main__"].__doc__)
+        if sys.argv[1:] in (["--help"], ["-h"]):
+            print(usage)
+        elif main(*sys.argv[1:]) is False:
+            sys.exit(usage)
     except OSError as error:
-        fault(error)
+        fault(f"{error.filename}: {error.strerror}" if error.filename else error)
+
+
+def text(lines):
+    return "".join(f"{line}\n" for line in lines)
+
+
+def put(lines):
+    """Writes all lines, once there can be no fault any more."""
+    sys.stdout.write(text(lines))
 
 
 def pass_over(text):
@@ -85,9 +103,9 @@ def settled(control):
         last, count = count, tool("birdc", "-s", control, "show", "route", "count")
 
 
-def tool(*command, given=None):
+def tool(*command, given=None, **where):
     """The output of a tool, which may not fail."""
-    done = subprocess.run(command, input=given, capture_output=True, text=True)
+    done = subprocess.run(command, input=given, capture_output=True, text=True, **where)
     if done.returncode != 0:
         fault(f"{' '.join(command)}: status {done.returncode}: {(done.stderr or done.stdout).strip()}")
     return done.stdout
@@ -98,10 +116,10 @@ def routes(mode, given):
     return tool(PROGRAM, mode, given=given).splitlines()
 
 
-def refused(*command, given=""):
+def refused(*command, given="", **where):
     """The one line in which a command says why it doesn't take this."""
-    done = subprocess.run(command, input=given, capture_output=True, text=True)
-    if done.returncode == 0 or len(done.stderr.splitlines()) != 1:
+    done = subprocess.run(command, input=given, capture_output=True, text=True, **where)
+    if done.returncode != 1 or len(done.stderr.splitlines()) != 1 or done.stdout:
         fault(f"{' '.join(command)} took what it mustn't, or said more than a line: {done.stderr}")
     return done.stderr.strip()
 
@@ -118,15 +136,105 @@ def same(what, left, right):
         fault(f"{what}: {left!r} and {right!r}")
 
 
-def shown():
-    """The indented blocks of the recipe's page, in order."""
-    blocks = re.findall(r"(?:^    .*\n|^\n(?=    ))+", (HERE / f"{NAME}.md").read_text(), re.MULTILINE)
+def shown(page):
+    """The indented blocks of a page, in order."""
+    blocks = re.findall(r"(?:^    .*\n|^\n(?=    ))+", page.read_text(), re.MULTILINE)
     return [textwrap.dedent(block).lstrip("\n") for block in blocks if block.strip()]
 
 
-def lines_of(path):
-    with open(path, errors="backslashreplace") as file:
-        return file.readlines()
+class Page:
+    """The recipe's page, block by block, in a folder of its own. A command is run as it stands there, by a shell that fails where
+    a part of a pipe does; beside it are `recipes`, `examples`, `routes`, and tools that are told where to work: `{}` is the real one."""
+
+    def __init__(self, folder, blocks=None, **tools):
+        self.folder, self.blocks = folder, shown(HERE / f"{NAME}.md") if blocks is None else blocks
+        os.makedirs(f"{folder}/bin")
+        os.symlink(HERE, f"{folder}/recipes")
+        os.symlink(HERE.parent / "examples", f"{folder}/examples")
+        os.symlink(shutil.which(PROGRAM), f"{folder}/bin/routes")
+        for name, command in tools.items():
+            Path(folder, "bin", name).write_text(f"#!/bin/sh\nexec {command.format(shutil.which(name))}\n")
+            Path(folder, "bin", name).chmod(0o755)
+
+    def text(self, path=None):
+        """The next block, which is written to a file where that is named."""
+        block = self.blocks.pop(0)
+        if path:
+            Path(self.folder, path).write_text(block)
+        return block
+
+    def where(self):
+        path = f"{self.folder}/bin:{os.environ['PATH']}"
+        return {"cwd": self.folder, "env": os.environ | {"PATH": path, "ROUTES": f"{self.folder}/bin/routes"}}
+
+    def run(self, command=None):
+        """The output of the next block, or of this command."""
+        return tool("bash", "-euo", "pipefail", "-c", command or self.text(), **self.where())
+
+    def refuses(self, command, given=""):
+        """This command says in one line why it doesn't take what it is given, and writes nothing."""
+        print("refused:", refused("bash", "-c", command, given=given, **self.where()))
+
+    def gives(self, output):
+        """The next block is this output."""
+        same("the page", output, self.text())
+
+    def end(self):
+        same("blocks of the page that were not looked at", self.blocks, [])
+
+
+def pieces(file, title, form=ANY):
+    """The text of a file, in pieces of about a megabyte; each is of whole lines of this form. What failed before, so that the
+    file is empty or cut off, must not be taken for a table."""
+    before, file = 0, getattr(file, "buffer", file)
+    while text := (file.read(PIECE) + file.readline()).decode(errors="backslashreplace"):
+        held = form.match(text).end()
+        if held < len(text) or text[-1] != "\n":
+            wrong_line(title, before, text, held)
+        yield text
+        before += text.count("\n")
+    if not before:
+        fault(f"{title}: empty")
+
+
+def stream(file, title, form=ANY):
+    """The lines of a file, one by one."""
+    return itertools.chain.from_iterable(text[:-1].split("\n") for text in pieces(file, title, form))
+
+
+def wrong_line(title, before, text, held):
+    start = text.rfind("\n", 0, min(held, len(text) - 1)) + 1
+    line, end, _ = text[start:].partition("\n")
+    why = "not understood"
+    if "\r" in line:
+        line, why = line.replace("\r", ""), "a carriage return, which `tr -d '\\r'` takes out"
+    elif not end:
+        why = "cut off, without a line end"
+    fault(f"line {before + text.count(chr(10), 0, start) + 1} of {title}: {why}: {line}")
+
+
+def lines_of(path, title=None, form=ANY):
+    """All lines of a file, or of what has been opened, each of this form."""
+    with open(path, "rb") if isinstance(path, str) else path as file:
+        return list(stream(file, title or path, form))
+
+
+def taken(replies, commands=None):
+    """These replies of a leader, as lines, where it took each command. What is named is the first that it didn't take."""
+    if answers := [replies.index(word) for word in ("bad", "refused") if word in replies]:
+        at = min(answers)
+        number = sum(line in CLOSING for line in replies[:at + 1])
+        text = commands.split("\n")[number - 1] if commands else f"`sed -n {number}p` of the commands shows it"
+        fault(f"the leader answered `{replies[at]}` to command {number}: {text}")
+    if not replies or replies[-1] not in CLOSING:
+        fault("the leader's output has no end, or isn't whole: its last line closes no reply")
+    return replies
+
+
+def replies_of(file):
+    """The whole output of a leader, as lines; each command has to be taken."""
+    return taken(lines_of(file, "the leader's output", REPLIES))
+
 
 
 class Numbers:
@@ -134,7 +242,7 @@ class Numbers:
 
     def __init__(self, path):
         self.path, self.of_name, seen = path, {}, set()
-        for at, line in enumerate(lines_of(path) if os.path.exists(path) else [], 1):
+        for at, line in enumerate(lines_of(path) if os.path.exists(path) and os.path.getsize(path) else [], 1):
             number, _, name = line.rstrip("\n").partition(" ")
             if not is_number(number) or not name.strip() or name in self.of_name or number in seen:
                 fault(f"{path}, line {at}: not understood: {line.rstrip()}")
@@ -156,6 +264,40 @@ class Numbers:
         with open(f"{self.path}.new", "w") as file:
             file.writelines(f"{number} {name}\n" for name, number in self.of_name.items())
         os.replace(f"{self.path}.new", self.path)
+
+
+def differing(old, new):
+    """The lines of each network that differ between two tables, in the order of text. These are lists of lines `WORD NET ..`."""
+    old, new = (sorted(table) + [""] for table in (old, new))
+    if not old[0] or not new[0]:
+        raise ValueError("an empty line")
+    at, to, ahead = 0, 0, 32
+    while old[at] or new[to]:
+        while old[at + ahead - 1:at + ahead] and old[at:at + ahead] == new[to:to + ahead]:
+            at, to = at + ahead, to + ahead
+            if not old[at - 1]:
+                return
+        while old[at] == new[to] and old[at]:
+            at, to = at + 1, to + 1
+        if old[at] or new[to]:
+            key = min(start(line) for line in (old[at], new[to]) if line)
+            (before, at), (after, to) = lines_from(old, at, key), lines_from(new, to, key)
+            yield before, after
+
+
+def start(line):
+    """A line up to the space after its network."""
+    return line[:line.find(" ", line.find(" ") + 1) + 1] or line
+
+
+def lines_from(lines, at, key):
+    """The lines that start with the key, of which some may lie before this place, and the place after them."""
+    first = at
+    while first and lines[first - 1].startswith(key):
+        first -= 1
+    while lines[at].startswith(key):
+        at += 1
+    return lines[first:at], at
 
 
 def is_number(word):
@@ -193,9 +335,8 @@ def question(address):
 
 def hops_of(commands, addresses):
     """The hop that `routes lead` answers for each address after these commands, None where it is `drop` or there is no route."""
-    replies = routes("lead", commands + "".join(map(question, addresses)))
-    if "bad" in replies or "refused" in replies:
-        fault("`routes lead` did not take a command")
+    commands += "".join(map(question, addresses))
+    replies = taken(routes("lead", commands), commands)
     found, hop = [], None
     for line in replies:
         if line.startswith("route "):

@@ -5,6 +5,7 @@ use Rattle.std.specs.Net.Reader.{Read, read_byte}
 use Rattle.ipnet_addr.specs.AddressReader.{read_short, read_ipv4, read_ipv6}
 use Rattle.ipnet_blocks.specs.Networks.{Network}
 
+-- goes on by f with the value, where there is one
 infixl 10 ◌>>=◌
 abbrev ◌>>=◌ : {A B : Type 0} → Option A → (A → Option B) → Option B
 o >>= f = option_and_then f o

@@ -1,5 +1,6 @@
 //! Networks as text: read by the grammar, printed in one way.
 ghost use Rattle.std.specs.Prelude.{◌≡◌, ℕ, ◌≤◌, ◌+◌, ◌++◌, List, Some, length};
+ghost use Rattle.std.specs.Fmt.{DisplaysOnOk, DisplaysStyledOnOk};
 ghost use Rattle.std.specs.Net.Grammar.{Parses};
 ghost use Rattle.arrayvec.specs.ArrayVec.{array_vec_len};
 ghost use Rattle.ipnet_blocks.specs.Networks.{Network};
@@ -88,7 +89,10 @@ impl<N: Written> fmt::Display for Net<N> {
 impl<N: Written> fmt::Debug for Net<N> {
     ghost debug_output = { λ n. Some (N.text n) };
 
-    fn fmt<W: fmt::Write>(&self, f: &mut fmt::Formatter<W>) -> fmt::Result {
+    fn fmt<W: fmt::Write>(&self, f: &mut fmt::Formatter<W>) -> fmt::Result
+        ensures writes { DisplaysOnOk W.write_str_gives f.old result (Some (N.text self.now)) f.new }
+        ensures styled { DisplaysStyledOnOk W.write_str_gives f.old result (Some (N.text self.now)) f.new }
+    {
         fmt::Display::fmt(self, f)
     }
 }
@@ -161,7 +165,10 @@ impl fmt::Display for IpNet {
 impl fmt::Debug for IpNet {
     ghost debug_output = { λ n. Some (net_text n) };
 
-    fn fmt<W: fmt::Write>(&self, f: &mut fmt::Formatter<W>) -> fmt::Result {
+    fn fmt<W: fmt::Write>(&self, f: &mut fmt::Formatter<W>) -> fmt::Result
+        ensures writes { DisplaysOnOk W.write_str_gives f.old result (Some (net_text self.now)) f.new }
+        ensures styled { DisplaysStyledOnOk W.write_str_gives f.old result (Some (net_text self.now)) f.new }
+    {
         fmt::Display::fmt(self, f)
     }
 }

@@ -3,6 +3,7 @@ use Rattle.std.specs.Prelude.{ℕ, zero, suc, ◌-◌, Bool, true, false, List, 
 use Rattle.std.specs.Net.Addr.{segments_of}
 use Rattle.std.specs.Net.Reader.{Read, read_byte, read_number, read_separator, map_or, Segments, after, dot, colon}
 
+-- goes on by f with the value, where there is one
 infixl 10 ◌>>=◌
 abbrev ◌>>=◌ : {A B : Type 0} → Option A → (A → Option B) → Option B
 o >>= f = option_and_then f o

@@ -33,13 +33,15 @@ pub record Address : Type 0 where
 abbrev pub IsAddress : Address → Type 0
 IsAddress x = x.number < 2 ^ width x.family
 
--- std's addresses, as family and number
+-- the address of an IPv4 address of std, whose number is its bits
 abbrev pub ipv4_address : Ipv4Addr → Address
 ipv4_address a = record { family = Ipv4; number = ipv4_bits a }
 
+-- the address of an IPv6 address of std, whose number is its bits
 abbrev pub ipv6_address : Ipv6Addr → Address
 ipv6_address a = record { family = Ipv6; number = ipv6_bits a }
 
+-- the address of one of either family
 abbrev pub address_of : IpAddr → Address
 address_of (V4 a) = ipv4_address a
 address_of (V6 a) = ipv6_address a

@@ -8,6 +8,7 @@ pub record Block : Type 0 where
   pub len : ℕ
   pub quotient : ℕ
 
+-- its length is within the width of the family, and its quotient has no more bits than the length
 pub record IsBlock (b : Block) : Type 0 where
   pub in_width : b.len ≤ width b.family
   pub in_range : b.quotient < 2 ^ b.len
@@ -54,6 +55,7 @@ IsBefore a b = (rank a.family < rank b.family)
     ⊎ ((rank a.family ≡ rank b.family) × (first a < first b))
     ⊎ ((rank a.family ≡ rank b.family) × (first a ≡ first b) × (a.len < b.len))
 
+-- each block comes before all that stand after it
 abbrev pub IsAscending : List Block → Type 0
 IsAscending bs = AllPairs IsBefore bs
 
@@ -62,6 +64,7 @@ abbrev pub digits : ℕ → ℕ → List Bool
 digits zero q = []
 digits (suc p) q = digits p (q / 2) ++ (q % 2 == 1) ∷ []
 
+-- the digits of the quotient, as many as the length: the first bits of each of its addresses
 abbrev pub bit_string : Block → List Bool
 bit_string b = digits b.len b.quotient
 
@@ -69,13 +72,15 @@ bit_string b = digits b.len b.quotient
 abbrev pub family_block : Family → Block
 family_block f = record { family = f; len = 0; quotient = 0 }
 
--- the two halves of a block that is not a host block
+-- the half of a block with the lesser addresses; the block is no host block
 abbrev pub left : Block → Block
 left b = record { family = b.family; len = b.len + 1; quotient = 2 * b.quotient }
 
+-- its other half, with the greater addresses
 abbrev pub right : Block → Block
 right b = record { family = b.family; len = b.len + 1; quotient = 2 * b.quotient + 1 }
 
+-- the least address of the block
 abbrev pub first_of : Block → Address
 first_of b = record { family = b.family; number = first b }
 
@@ -88,6 +93,7 @@ abbrev pub is_before : Block → Block → Bool
 is_before a b = nat_lt (rank a.family) (rank b.family)
     || ((rank a.family == rank b.family) && (nat_lt (first a) (first b) || ((first a == first b) && nat_lt a.len b.len)))
 
+-- the test that two blocks are one
 abbrev pub same_block : Block → Block → Bool
 same_block a b = same_family a.family b.family && (a.len == b.len) && (a.quotient == b.quotient)
 

@@ -4,6 +4,7 @@ pub mod Maximal
 pub mod Networks
 pub mod Cuts
 pub mod Hosts
+pub mod Halves
 pub mod Aggregated
 pub mod Laws
 pub mod InnerSpans

@@ -33,18 +33,22 @@ pub record IsCutBlock (family : Family) (start end shortest : ℕ) (b : Block) :
   pub long : shortest ≤ b.len
   pub largest : (c : Block) → shortest ≤ c.len → IsWithin (λ x. (x.family ≡ family) × (start ≤ x.number) × (x.number ≤ end)) c → IsLarger c b → ⊥
 
+-- all blocks of the cut, ascending
 pub record IsCut (family : Family) (start end shortest : ℕ) (bs : List Block) : Type 0 where
   pub ascending : IsAscending bs
   pub exact : (b : Block) → Contains bs b ↔ IsCutBlock family start end shortest b
 
--- the maximal blocks of a set by search: `k` is the number of free bits of the block that is searched
+-- whether all addresses of the block are in the set; here and below `k` is the number of the free bits of the block
 unfoldable pub all_in : (Address → Bool) → ℕ → Block → Bool
 all_in s zero b = s (first_of b)
 all_in s (suc k) b = all_in s k (left b) && all_in s k (right b)
 
+-- the maximal blocks of the set inside the block: itself, where all of it is in the set, else those of its halves, the lower
+-- one first
 unfoldable pub maximal_in : (Address → Bool) → ℕ → Block → List Block
 maximal_in s zero b = if s (first_of b) then b ∷ [] else []
 maximal_in s (suc k) b = if all_in s (suc k) b then b ∷ [] else (maximal_in s k (left b) ++ maximal_in s k (right b))
 
+-- the maximal blocks of the set: those of IPv4, then those of IPv6
 unfoldable pub maximal_of : (Address → Bool) → List Block
 maximal_of s = maximal_in s (width Ipv4) (family_block Ipv4) ++ maximal_in s (width Ipv6) (family_block Ipv6)

@@ -145,6 +145,35 @@ fn either_displayed(rt: HostRuntime) -> Result<(), Fail> {
 }
 
 #[test]
+fn longest_displayed(rt: HostRuntime) -> Result<(), Fail> {
+    let net = net(&rt, "255.255.255.255/32");
+    assert_eq!(rt;
+        format!(in rt.alloc(); "{net} {net:?}")?.as_str(),
+        "255.255.255.255/32 255.255.255.255/32"
+    );
+    Ok(())
+}
+
+/// The one text of the greatest IPv6 address has 43 bytes.
+const LONGEST: &str = "ffff:ffff:ffff:ffff:ffff:ffff:ffff:ffff/128";
+
+#[test]
+fn longest_ipv6_displayed(rt: HostRuntime) -> Result<(), Fail> {
+    let net = net6(&rt, LONGEST);
+    assert_eq!(rt; format!(in rt.alloc(); "{net}")?.as_str(), LONGEST);
+    assert_eq!(rt; format!(in rt.alloc(); "{net:?}")?.as_str(), LONGEST);
+    Ok(())
+}
+
+#[test]
+fn longest_of_either_displayed(rt: HostRuntime) -> Result<(), Fail> {
+    let net = any(&rt, LONGEST);
+    assert_eq!(rt; format!(in rt.alloc(); "{net}")?.as_str(), LONGEST);
+    assert_eq!(rt; format!(in rt.alloc(); "{net:?}")?.as_str(), LONGEST);
+    Ok(())
+}
+
+#[test]
 fn too_long_prefixes(rt: HostRuntime) {
     let long = Ipv4Net::new(Ipv4Addr::new(10, 0, 0, 0), 33);
     assert_eq!(rt; long, Err(PrefixLenError));

@@ -1,6 +1,7 @@
 -- The fewest routes inside a block, from those inside its halves.
 use Rattle.std.proofs.Common.{◌≡◌, ◌≢◌, ℕ, zero, suc, ◌+◌, ◌≤◌, Bool, true, false, cond, List, [], ◌∷◌, length, Option, refl, sym, ap, ◌∙◌, subst, arith, inl, inr, ◌⊎◌, add-one}
-use Rattle.least_table.specs.Tables.{Absent, hop_under, Gives, IsFewest, half_of, IsLesser}
+use Rattle.least_table.specs.Tables.{Absent, hop_under, Gives, IsFewest, half_of}
+use Rattle.ipnet_blocks.specs.Halves.{IsLesser}
 use Rattle.least_table.specs.Laws.{HostLaw, HalvesLaw}
 use Rattle.least_table.proofs.Split.{half, own, passed, own_count, hop-half, own-none, longest-empty, length-halves, IsTable-half, joined, half-joined, own_count-joined, own_count-absent, IsTable-joined, Absent-joined, length-joined}
 

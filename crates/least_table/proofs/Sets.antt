@@ -2,7 +2,8 @@
 use Rattle.std.proofs.Common.{◌≡◌, ℕ, suc, ◌+◌, ◌≤◌, Bool, true, false, cond, ◌&&◌, ◌||◌, List, [], ◌∷◌, length, replicate, Option, Some, None, refl, sym, ap, ◌∙◌, arith, inl, inr, add-one}
 use Rattle.std.proofs.lemmas.Bool.{eqb-true, eq-eqb}
 use Rattle.std.proofs.Math.ListN.{length-replicate}
-use Rattle.least_table.specs.Tables.{Gives, IsFewest, half_of, IsLesser}
+use Rattle.least_table.specs.Tables.{Gives, IsFewest, half_of}
+use Rattle.ipnet_blocks.specs.Halves.{IsLesser}
 use Rattle.least_table.specs.HopSets.{same_hop, holds, meets, AreMerged, AreBest, fee, first_of}
 use Rattle.least_table.specs.Laws.{SetsLaw}
 use Rattle.least_table.proofs.Split.{joined, length-joined, Absent-joined}

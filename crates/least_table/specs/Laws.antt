@@ -1,6 +1,7 @@
 -- What the fewest routes of a block are, and which hops it is best handed.
 use Rattle.std.specs.Prelude.{◌≡◌, ◌≢◌, ℕ, ◌+◌, Bool, true, false, List, [], length, Option, None, ◌↔◌, ◌⊎◌}
-use Rattle.least_table.specs.Tables.{IsLeast, IsFewest, half_of, IsLesser}
+use Rattle.least_table.specs.Tables.{IsLeast, IsFewest, half_of}
+use Rattle.ipnet_blocks.specs.Halves.{IsLesser}
 use Rattle.least_table.specs.HopSets.{meets, AreMerged, AreBest, fee}
 use Rattle.least_table.specs.Trees.{Tree, IsPlan, OneOutside, inner_of, routes_of, chain_hops, chain_fee}
 

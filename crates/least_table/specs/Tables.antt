@@ -53,9 +53,3 @@ pub record IsFewest (w : ℕ) (h : List Bool → Option ℕ) (s : Option ℕ) (n
 -- the hops of the half of a block that begins with the bit b
 abbrev pub half_of : Bool → (List Bool → Option ℕ) → List Bool → Option ℕ
 half_of b h x = h (b ∷ x)
-
--- n is the lesser of both halves' sum under s, and one more than their least sum under any one hop or none
-pub record IsLesser (f g : Option ℕ → ℕ) (s : Option ℕ) (n : ℕ) : Type 0 where
-  pub reached : (n ≡ f s + g s) ⊎ ((k : Option ℕ) × (n ≡ f k + g k + 1))
-  pub under_s : n ≤ f s + g s
-  pub under_any : (k : Option ℕ) → n ≤ f k + g k + 1

@@ -16,15 +16,17 @@ pub enum FeedCall {
     Lead,
     Follow,
     Shorten,
+    New,
     Change,
     Commit,
     Cut,
 }
 
-pub static SCENARIOS: [(&str, FeedCall); 6] = [
+pub static SCENARIOS: [(&str, FeedCall); 7] = [
     ("lead", FeedCall::Lead),
     ("follow", FeedCall::Follow),
     ("shorten", FeedCall::Shorten),
+    ("free-follower-new", FeedCall::New),
     ("follower-change", FeedCall::Change),
     ("follower-commit", FeedCall::Commit),
     ("free-lines", FeedCall::Cut),
@@ -32,6 +34,7 @@ pub static SCENARIOS: [(&str, FeedCall); 6] = [
 
 pub fn run(rt: &HostRuntime, call: FeedCall) -> Result<(), Fault> {
     match call {
+        FeedCall::New => make(rt),
         FeedCall::Change | FeedCall::Commit => run_follower(rt, call),
         FeedCall::Cut => cut(rt),
         _ => run_over(rt, call),
@@ -71,6 +74,19 @@ fn show_reads(rt: &HostRuntime, reader: &Counted<Stdin>) -> Result<(), Fault> {
 fn write_kept(rt: &HostRuntime, kept: &Vec<u8>) -> Result<(), Fault> {
     rt.stdout().write_all(kept.as_slice())?;
     Ok(())
+}
+
+/// A follower that is given nothing to keep, and its flat list.
+fn make(rt: &HostRuntime) -> Result<(), Fault> {
+    begin(rt)?;
+    let mut follower = Follower::new(rt.alloc())?;
+    made(rt, &mut follower)
+}
+
+fn made(rt: &HostRuntime, follower: &mut Follower) -> Result<(), Fault> {
+    show_next(rt, follower)?;
+    show_flat(rt, follower)?;
+    end(rt)
 }
 
 /// Owns the follower of the calls that need one.

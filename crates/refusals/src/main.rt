@@ -7,10 +7,13 @@
 mod fault;
 mod feeds;
 mod map_changes;
+mod map_gifts;
 mod map_reads;
 mod map_stores;
 mod maps;
+mod net_walks;
 mod nets;
+mod set_calls;
 mod sets;
 mod show;
 mod tables;

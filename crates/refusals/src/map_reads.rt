@@ -1,10 +1,10 @@
 //! Look-ups and walks of maps of networks, which take no memory.
 use crate::fault::Fault;
-use crate::maps::{Map, fill, show};
+use crate::maps::{Map, show};
 use crate::nets::ipv4_network;
 use crate::show::{begin, debug_line, debug_pair, end, entry, line};
 use ipnet::Ipv4Net;
-use prefix_trie::PrefixMap;
+use prefix_trie::map::{Cover, CoverKeys, CoverValues, Iter, Keys, Values};
 
 /// The calls that read.
 #[derive(Clone, Copy)]
@@ -15,6 +15,7 @@ pub enum MapRead {
     Covers,
     WalksInPart,
     WalksLent,
+    CopiedWalks,
 }
 
 pub fn run(rt: &HostRuntime, map: &mut Map, call: MapRead) -> Result<(), Fault> {
@@ -41,6 +42,7 @@ fn read(
         MapRead::WalksInPart => walk_in_part(rt, map, outer),
         MapRead::WalksLent => walk_lent(rt, map, outer),
         MapRead::Covers => cover(rt, map, inner),
+        MapRead::CopiedWalks => copy_walks(rt, map, inner),
     }
 }
 
@@ -60,6 +62,7 @@ fn look_up(rt: &HostRuntime, map: &Map, net: &Ipv4Net) -> Result<(), Fault> {
     look_up_longest(rt, map, net)?;
     look_up_shortest(rt, map, net)?;
     look_up_visits(rt, map, net)?;
+    look_up_length(rt, map, net)?;
     count(rt, map)
 }
 
@@ -80,21 +83,24 @@ fn look_up_visits(rt: &HostRuntime, map: &Map, net: &Ipv4Net) -> Result<(), Faul
     debug_pair(rt, &map.get_lpm_visits(net), &map.is_covered(net))
 }
 
+fn look_up_length(rt: &HostRuntime, map: &Map, net: &Ipv4Net) -> Result<(), Fault> {
+    debug_pair(rt, &map.longest_match(net), &map.is_leaf(net))
+}
+
+/// What is told of the whole map, which equals itself.
 fn count(rt: &HostRuntime, map: &Map) -> Result<(), Fault> {
-    println!(rt;
-        "{} {} {:?}",
-        map.len(),
-        map.is_empty(),
-        map.address_count()
-    )?;
-    Ok(())
+    debug_pair(rt, &map.len(), &map.is_empty())?;
+    debug_pair(rt, &map.address_count(), &(map == map))
 }
 
 /// Values that are lent and written.
 fn lend(rt: &HostRuntime, map: &mut Map, net: &Ipv4Net) -> Result<(), Fault> {
     lend_exact(map, &ipv4_network("10.1.0.0/16")?);
     lend_longest(rt, map, net)?;
-    lend_longest_value(rt, map, net)
+    lend_longest_value(rt, map, net)?;
+    lend_match(rt, map, net)?;
+    lend_entry(map, ipv4_network("10.64.0.0/10")?);
+    Ok(())
 }
 
 fn lend_exact(map: &mut Map, net: &Ipv4Net) {
@@ -117,6 +123,23 @@ fn lend_longest_value(rt: &HostRuntime, map: &mut Map, net: &Ipv4Net) -> Result<
         *value = 31;
     }
     Ok(())
+}
+
+/// The value at the first bits that the longest match is of.
+fn lend_match(rt: &HostRuntime, map: &mut Map, net: &Ipv4Net) -> Result<(), Fault> {
+    let Some((len, _)) = map.longest_match(net) else {
+        return Ok(());
+    };
+    let (key, value) = map.match_mut(net, len);
+    entry(rt, &key, *value)?;
+    *value = 32;
+    Ok(())
+}
+
+fn lend_entry(map: &mut Map, net: Ipv4Net) {
+    if let Some(value) = map.entry(net).get_mut() {
+        *value = 40;
+    }
 }
 
 /// All entries, keys and values.
@@ -181,11 +204,13 @@ fn part(rt: &HostRuntime, word: &str, net: &Ipv4Net, value: u32) -> Result<(), F
     Ok(())
 }
 
-/// The values of all entries, then of those inside a network, lent and written.
+/// The values of all entries, then of those inside a network, from it on, and all again, lent and written.
 fn walk_lent(rt: &HostRuntime, map: &mut Map, net: &Ipv4Net) -> Result<(), Fault> {
     let count = map.len();
     lend_all(rt, map, count)?;
-    lend_inside(rt, map, net, count)
+    lend_inside(rt, map, net, count)?;
+    lend_from(rt, map, net, count)?;
+    lend_values(rt, map, count)
 }
 
 fn lend_all(rt: &HostRuntime, map: &mut Map, count: usize) -> Result<(), Fault> {
@@ -203,6 +228,26 @@ fn lend_inside(rt: &HostRuntime, map: &mut Map, net: &Ipv4Net, count: usize) -> 
     for _ in 0..count {
         if let Some(value) = values.next() {
             add(rt, value, 100)?;
+        }
+    }
+    Ok(())
+}
+
+fn lend_from(rt: &HostRuntime, map: &mut Map, net: &Ipv4Net, count: usize) -> Result<(), Fault> {
+    let mut values = map.iter_from_mut(net, true);
+    for _ in 0..count {
+        if let Some(value) = values.next() {
+            add(rt, value, 1000)?;
+        }
+    }
+    Ok(())
+}
+
+fn lend_values(rt: &HostRuntime, map: &mut Map, count: usize) -> Result<(), Fault> {
+    let mut values = map.values_mut();
+    for _ in 0..count {
+        if let Some(value) = values.next() {
+            add(rt, value, 10000)?;
         }
     }
     Ok(())
@@ -243,24 +288,48 @@ fn cover_values(rt: &HostRuntime, map: &Map, net: &Ipv4Net) -> Result<(), Fault>
     Ok(())
 }
 
-/// The entries of a map that is given away: nothing is left to be shown.
-pub fn give_away(rt: &HostRuntime) -> Result<(), Fault> {
-    let mut map = PrefixMap::new(rt.alloc())?;
-    match begin_to_give(rt, &mut map) {
-        Ok(()) => give_out(rt, map),
-        Err(fault) => Err(fault),
-    }
+/// What a copy of each walk gives first, and one that has nothing left.
+fn copy_walks(rt: &HostRuntime, map: &Map, net: &Ipv4Net) -> Result<(), Fault> {
+    copy_entries(rt, map)?;
+    copy_keys(rt, map)?;
+    copy_values(rt, map)?;
+    copy_cover(rt, map, net)?;
+    copy_cover_keys(rt, map, net)?;
+    copy_cover_values(rt, map, net)
 }
 
-fn begin_to_give(rt: &HostRuntime, map: &mut Map) -> Result<(), Fault> {
-    fill(map)?;
-    show(rt, map)?;
-    begin(rt)
+fn copy_entries(rt: &HostRuntime, map: &Map) -> Result<(), Fault> {
+    let mut copy = map.iter().clone()?;
+    let mut none: Iter<'_, Ipv4Net, u32> = Iter::default();
+    debug_pair(rt, &copy.next(), &none.next())
 }
 
-fn give_out(rt: &HostRuntime, map: Map) -> Result<(), Fault> {
-    for (key, value) in map {
-        entry(rt, &key, value)?;
-    }
-    end(rt)
+fn copy_keys(rt: &HostRuntime, map: &Map) -> Result<(), Fault> {
+    let mut copy = map.keys().clone()?;
+    let mut none: Keys<'_, Ipv4Net, u32> = Keys::default();
+    debug_pair(rt, &copy.next(), &none.next())
+}
+
+fn copy_values(rt: &HostRuntime, map: &Map) -> Result<(), Fault> {
+    let mut copy = map.values().clone()?;
+    let mut none: Values<'_, Ipv4Net, u32> = Values::default();
+    debug_pair(rt, &copy.next(), &none.next())
+}
+
+fn copy_cover(rt: &HostRuntime, map: &Map, net: &Ipv4Net) -> Result<(), Fault> {
+    let mut copy = map.cover(net).clone()?;
+    let mut none: Cover<'_, Ipv4Net, u32> = Cover::default();
+    debug_pair(rt, &copy.next(), &none.next())
+}
+
+fn copy_cover_keys(rt: &HostRuntime, map: &Map, net: &Ipv4Net) -> Result<(), Fault> {
+    let mut copy = map.cover_keys(net).clone()?;
+    let mut none: CoverKeys<'_, Ipv4Net, u32> = CoverKeys::default();
+    debug_pair(rt, &copy.next(), &none.next())
+}
+
+fn copy_cover_values(rt: &HostRuntime, map: &Map, net: &Ipv4Net) -> Result<(), Fault> {
+    let mut copy = map.cover_values(net).clone()?;
+    let mut none: CoverValues<'_, Ipv4Net, u32> = CoverValues::default();
+    debug_pair(rt, &copy.next(), &none.next())
 }

@@ -11,6 +11,7 @@ use prefix_trie::map::Entry;
 #[derive(Clone, Copy)]
 pub enum MapStore {
     Insert,
+    InsertSixNodes,
     EntryInsert,
     OrInsert,
     OrInsertWith,
@@ -24,7 +25,7 @@ pub enum MapStore {
 type Stored = Result<(), (Refused, u32)>;
 
 pub fn run(rt: &HostRuntime, map: &mut Map, call: MapStore) -> Result<(), Fault> {
-    let net = ipv4_network("10.1.3.3/32")?;
+    let net = ipv4_network(text_of(call))?;
     show(rt, map)?;
     given(rt, value_of(call))?;
     begin(rt)?;
@@ -32,6 +33,14 @@ pub fn run(rt: &HostRuntime, map: &mut Map, call: MapStore) -> Result<(), Fault>
     end(rt)?;
     answered(rt, outcome)?;
     show(rt, map)
+}
+
+/// The network that the call stores: one for which two nodes are made, or six.
+fn text_of(call: MapStore) -> &'static str {
+    match call {
+        MapStore::InsertSixNodes => "1.2.3.0/32",
+        _ => "10.1.3.3/32",
+    }
 }
 
 /// The value that the call stores: the default one, or 9.
@@ -51,7 +60,7 @@ fn answered(rt: &HostRuntime, outcome: Stored) -> Result<(), Fault> {
 
 fn stored(map: &mut Map, net: Ipv4Net, call: MapStore) -> Stored {
     match call {
-        MapStore::Insert => insert(map, net),
+        MapStore::Insert | MapStore::InsertSixNodes => insert(map, net),
         MapStore::EntryInsert => entry_insert(map, net),
         MapStore::OrInsert => or_insert(map, net),
         MapStore::OrInsertWith => or_insert_with(map, net),

@@ -1,11 +1,13 @@
-//! Maps of networks. One function owns the map of all scenarios but `free-map-given-away`, and lends it to them.
+//! Maps of networks. One function owns the map of all scenarios but of those that make one or give one away, and lends it to
+//! them.
 use crate::fault::Fault;
 use crate::map_changes::MapChange;
+use crate::map_gifts::MapGift;
 use crate::map_reads::MapRead;
 use crate::map_stores::MapStore;
 use crate::nets::ipv4_network;
 use crate::show::{answer, begin, end, entry, refused};
-use crate::{map_changes, map_reads, map_stores};
+use crate::{map_changes, map_gifts, map_reads, map_stores};
 use ipnet::Ipv4Net;
 use prefix_trie::{PrefixMap, Refused};
 
@@ -14,15 +16,21 @@ pub type Map = PrefixMap<Ipv4Net, u32>;
 /// The calls of a map.
 #[derive(Clone, Copy)]
 pub enum MapCall {
+    New,
     Store(MapStore),
     TryClone,
-    GivenAway,
+    Given(MapGift),
     Read(MapRead),
     Change(MapChange),
 }
 
-pub static SCENARIOS: [(&str, MapCall); 26] = [
+pub static SCENARIOS: [(&str, MapCall); 32] = [
+    ("free-map-new", MapCall::New),
     ("map-insert", MapCall::Store(MapStore::Insert)),
+    (
+        "map-insert-six-nodes",
+        MapCall::Store(MapStore::InsertSixNodes),
+    ),
     ("map-entry-insert", MapCall::Store(MapStore::EntryInsert)),
     ("map-entry-or-insert", MapCall::Store(MapStore::OrInsert)),
     (
@@ -49,7 +57,11 @@ pub static SCENARIOS: [(&str, MapCall); 26] = [
     ),
     ("free-map-walks-lent", MapCall::Read(MapRead::WalksLent)),
     ("free-map-covers", MapCall::Read(MapRead::Covers)),
-    ("free-map-given-away", MapCall::GivenAway),
+    ("free-map-copied-walks", MapCall::Read(MapRead::CopiedWalks)),
+    ("free-map-into-iter", MapCall::Given(MapGift::Entries)),
+    ("free-map-into-keys", MapCall::Given(MapGift::Keys)),
+    ("free-map-into-values", MapCall::Given(MapGift::Values)),
+    ("free-map-into-children", MapCall::Given(MapGift::Children)),
     ("free-map-insert-stored", MapCall::Change(MapChange::Insert)),
     (
         "free-map-entry-insert-stored",
@@ -79,9 +91,22 @@ pub static SCENARIOS: [(&str, MapCall); 26] = [
 
 pub fn run(rt: &HostRuntime, call: MapCall) -> Result<(), Fault> {
     match call {
-        MapCall::GivenAway => map_reads::give_away(rt),
+        MapCall::New => make(rt),
+        MapCall::Given(gift) => map_gifts::run(rt, gift),
         _ => run_filled(rt, call),
     }
+}
+
+/// An empty map.
+fn make(rt: &HostRuntime) -> Result<(), Fault> {
+    begin(rt)?;
+    let map = PrefixMap::new(rt.alloc())?;
+    made(rt, &map)
+}
+
+fn made(rt: &HostRuntime, map: &Map) -> Result<(), Fault> {
+    end(rt)?;
+    show(rt, map)
 }
 
 /// Owns the map that the calls are lent.

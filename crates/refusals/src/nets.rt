@@ -1,5 +1,6 @@
 //! Networks: their aggregation, their values, and their texts and bytes.
 use crate::fault::Fault;
+use crate::net_walks;
 use crate::show::{answer, begin, debug_line, debug_pair, end, line, refused};
 use ipnet::{IpNet, Ipv4Net, Ipv6Net};
 use serde_json::Value;
@@ -18,9 +19,10 @@ pub enum NetCall {
     ToValueMixed,
     Read,
     Print,
+    Walk,
 }
 
-pub static SCENARIOS: [(&str, NetCall); 8] = [
+pub static SCENARIOS: [(&str, NetCall); 9] = [
     ("aggregate-ipv4", NetCall::AggregateIpv4),
     ("aggregate-ipv6", NetCall::AggregateIpv6),
     ("aggregate-mixed", NetCall::AggregateMixed),
@@ -29,6 +31,7 @@ pub static SCENARIOS: [(&str, NetCall); 8] = [
     ("to-value-mixed", NetCall::ToValueMixed),
     ("free-net-read", NetCall::Read),
     ("free-net-print", NetCall::Print),
+    ("free-net-walks", NetCall::Walk),
 ];
 
 const IPV4: [&str; 6] = [
@@ -58,6 +61,7 @@ pub fn run(rt: &HostRuntime, call: NetCall) -> Result<(), Fault> {
         NetCall::ToValueMixed => to_value_mixed(rt),
         NetCall::Read => read(rt),
         NetCall::Print => print(rt),
+        NetCall::Walk => net_walks::run(rt),
     }
 }
 
@@ -65,7 +69,7 @@ pub fn ipv4_network(text: &str) -> Result<Ipv4Net, Fault> {
     Ok(Ipv4Net::from_str(text)?)
 }
 
-fn ipv6_network(text: &str) -> Result<Ipv6Net, Fault> {
+pub fn ipv6_network(text: &str) -> Result<Ipv6Net, Fault> {
     Ok(Ipv6Net::from_str(text)?)
 }
 
@@ -194,13 +198,14 @@ fn to_value_mixed(rt: &HostRuntime) -> Result<(), Fault> {
     valued(rt, &net, &outcome)
 }
 
-/// Networks read of texts, of bytes and of a value.
+/// Networks read of texts, of bytes and of values.
 fn read(rt: &HostRuntime) -> Result<(), Fault> {
-    let value = network("10.1.2.3/8")?.to_value(rt.alloc())?;
-    read_over(rt, &value)
+    let ipv4 = network("10.1.2.3/8")?.to_value(rt.alloc())?;
+    let ipv6 = network("2001:db8::1/32")?.to_value(rt.alloc())?;
+    read_over(rt, &ipv4, &ipv6)
 }
 
-fn read_over(rt: &HostRuntime, value: &Value) -> Result<(), Fault> {
+fn read_over(rt: &HostRuntime, ipv4: &Value, ipv6: &Value) -> Result<(), Fault> {
     begin(rt)?;
     for text in IPV4 {
         read_ipv4(rt, text)?;
@@ -208,10 +213,25 @@ fn read_over(rt: &HostRuntime, value: &Value) -> Result<(), Fault> {
     for text in IPV6 {
         read_ipv6(rt, text)?;
     }
-    debug_line(rt, &Ipv4Net::from_bytes(&[10, 1, 2, 3, 8]))?;
-    debug_line(rt, &IpNet::from_bytes(&[0, 10, 1, 2, 3, 8]))?;
-    debug_line(rt, &IpNet::from_value(value))?;
+    read_bytes(rt)?;
+    read_value(rt, ipv4)?;
+    read_value(rt, ipv6)?;
     end(rt)
+}
+
+fn read_bytes(rt: &HostRuntime) -> Result<(), Fault> {
+    debug_line(rt, &Ipv4Net::from_bytes(&[10, 1, 2, 3, 8]))?;
+    debug_line(
+        rt,
+        &Ipv6Net::from_bytes(&[32, 1, 13, 184, 0, 0, 0, 0, 0, 0, 0, 0, 0, 0, 0, 1, 32]),
+    )?;
+    debug_line(rt, &IpNet::from_bytes(&[0, 10, 1, 2, 3, 8]))
+}
+
+/// A value, as each family reads it and as both do.
+fn read_value(rt: &HostRuntime, value: &Value) -> Result<(), Fault> {
+    debug_pair(rt, &Ipv4Net::from_value(value), &Ipv6Net::from_value(value))?;
+    debug_line(rt, &IpNet::from_value(value))
 }
 
 /// A text of IPv4, as each family reads it.
@@ -221,7 +241,7 @@ fn read_ipv4(rt: &HostRuntime, text: &str) -> Result<(), Fault> {
         &Ipv4Net::from_str(text),
         &Ipv4Net::parse_ascii(text.as_bytes()),
     )?;
-    debug_line(rt, &Ipv6Net::from_str(text))
+    debug_pair(rt, &Ipv6Net::from_str(text), &IpNet::from_str(text))
 }
 
 /// A text of IPv6, as its family reads it and as both do.

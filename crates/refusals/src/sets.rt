@@ -2,33 +2,54 @@
 use crate::fault::Fault;
 use crate::maps::{Map, show_entries};
 use crate::nets::ipv4_network;
+use crate::set_calls;
+use crate::set_calls::FreeCall;
 use crate::show::{answer, begin, end, line, refused};
 use ipnet::Ipv4Net;
 use prefix_trie::{PrefixMap, PrefixSet, Refused};
 use std::alloc::Global;
 
-type Set = PrefixSet<Ipv4Net>;
+pub type Set = PrefixSet<Ipv4Net>;
 
 /// The calls of a set; `MapFromIter` makes a map.
 #[derive(Clone, Copy)]
 pub enum SetCall {
+    New,
     Insert,
+    InsertSixNodes,
     TryClone,
     TryFromIter,
     MapFromIter,
+    Free(FreeCall),
+    Given,
 }
 
-pub static SCENARIOS: [(&str, SetCall); 4] = [
+pub static SCENARIOS: [(&str, SetCall); 14] = [
+    ("free-set-new", SetCall::New),
     ("set-insert", SetCall::Insert),
+    ("set-insert-six-nodes", SetCall::InsertSixNodes),
     ("set-try-clone", SetCall::TryClone),
     ("set-try-from-iter", SetCall::TryFromIter),
     ("map-try-from-iter", SetCall::MapFromIter),
+    ("free-set-look-ups", SetCall::Free(FreeCall::LookUps)),
+    ("free-set-walks", SetCall::Free(FreeCall::Walks)),
+    ("free-set-insert-stored", SetCall::Free(FreeCall::Insert)),
+    ("free-set-remove", SetCall::Free(FreeCall::Remove)),
+    (
+        "free-set-remove-children",
+        SetCall::Free(FreeCall::RemoveChildren),
+    ),
+    ("free-set-clear", SetCall::Free(FreeCall::Clear)),
+    ("free-set-retain", SetCall::Free(FreeCall::Retain)),
+    ("free-set-into-iter", SetCall::Given),
 ];
 
 pub fn run(rt: &HostRuntime, call: SetCall) -> Result<(), Fault> {
     match call {
+        SetCall::New => make(rt),
         SetCall::TryFromIter => try_from_iter(rt),
         SetCall::MapFromIter => map_from_iter(rt),
+        SetCall::Given => set_calls::give_away(rt),
         _ => run_filled(rt, call),
     }
 }
@@ -43,7 +64,9 @@ fn run_over(rt: &HostRuntime, set: &mut Set, call: SetCall) -> Result<(), Fault>
     fill(set)?;
     show(rt, set)?;
     match call {
-        SetCall::Insert => insert(rt, set)?,
+        SetCall::Insert => insert(rt, set, "10.1.3.3/32")?,
+        SetCall::InsertSixNodes => insert(rt, set, "1.2.3.0/32")?,
+        SetCall::Free(call) => set_calls::run(rt, set, call)?,
         _ => try_clone(rt, set)?,
     }
     show(rt, set)
@@ -58,7 +81,7 @@ const NETWORKS: [&str; 5] = [
 ];
 
 /// Puts five networks into an empty set, with nodes that lead to no member.
-fn fill(set: &mut Set) -> Result<(), Fault> {
+pub fn fill(set: &mut Set) -> Result<(), Fault> {
     for text in NETWORKS {
         set.insert(ipv4_network(text)?)?;
     }
@@ -69,7 +92,7 @@ fn fill(set: &mut Set) -> Result<(), Fault> {
 }
 
 /// The members in order, and the number of nodes.
-fn show(rt: &HostRuntime, set: &Set) -> Result<(), Fault> {
+pub fn show(rt: &HostRuntime, set: &Set) -> Result<(), Fault> {
     for net in set.iter() {
         line(rt, &net)?;
     }
@@ -81,8 +104,21 @@ fn show_counts(rt: &HostRuntime, set: &Set) -> Result<(), Fault> {
     Ok(())
 }
 
-fn insert(rt: &HostRuntime, set: &mut Set) -> Result<(), Fault> {
-    let net = ipv4_network("10.1.3.3/32")?;
+/// An empty set.
+fn make(rt: &HostRuntime) -> Result<(), Fault> {
+    begin(rt)?;
+    let set = PrefixSet::new(rt.alloc())?;
+    made(rt, &set)
+}
+
+fn made(rt: &HostRuntime, set: &Set) -> Result<(), Fault> {
+    end(rt)?;
+    show(rt, set)
+}
+
+/// A network that isn't a member: two nodes are made for it, or six.
+fn insert(rt: &HostRuntime, set: &mut Set, text: &str) -> Result<(), Fault> {
+    let net = ipv4_network(text)?;
     begin(rt)?;
     let outcome = set.insert(net);
     end(rt)?;

@@ -1,4 +1,4 @@
-//! Route tables. One function owns the table of all scenarios, and lends it to them.
+//! Route tables. One function owns the table of all scenarios but of the one that makes one, and lends it to them.
 use crate::fault::Fault;
 use crate::nets::{answer_all, network};
 use crate::show::{answer, begin, debug_line, debug_pair, end, line, refused};
@@ -8,6 +8,7 @@ use route_table::{AddRefused, Hop, HopTable, Refused, RouteTable, Routes};
 /// The calls of tables.
 #[derive(Clone, Copy)]
 pub enum TableCall {
+    New,
     AddIpv4,
     AddIpv6,
     Overwrite,
@@ -22,7 +23,8 @@ pub enum TableCall {
     Flat,
 }
 
-pub static SCENARIOS: [(&str, TableCall); 12] = [
+pub static SCENARIOS: [(&str, TableCall); 13] = [
+    ("free-table-new", TableCall::New),
     ("table-add-ipv4", TableCall::AddIpv4),
     ("table-add-ipv6", TableCall::AddIpv6),
     ("table-overwrite", TableCall::Overwrite),
@@ -38,6 +40,26 @@ pub static SCENARIOS: [(&str, TableCall); 12] = [
 ];
 
 pub fn run(rt: &HostRuntime, call: TableCall) -> Result<(), Fault> {
+    match call {
+        TableCall::New => make(rt),
+        _ => run_empty(rt, call),
+    }
+}
+
+/// An empty table.
+fn make(rt: &HostRuntime) -> Result<(), Fault> {
+    begin(rt)?;
+    let table = RouteTable::new(rt.alloc())?;
+    made(rt, &table)
+}
+
+fn made(rt: &HostRuntime, table: &RouteTable) -> Result<(), Fault> {
+    end(rt)?;
+    show_counts(rt, table)
+}
+
+/// Owns the table that the calls are lent.
+fn run_empty(rt: &HostRuntime, call: TableCall) -> Result<(), Fault> {
     let mut table = RouteTable::new(rt.alloc())?;
     run_over(rt, &mut table, call)
 }
@@ -254,6 +276,7 @@ fn del(rt: &HostRuntime, table: &mut RouteTable, text: &str, hop: Hop) -> Result
 /// Look-ups, and what networks govern.
 fn look_up(rt: &HostRuntime, table: &RouteTable, net: &IpNet) -> Result<(), Fault> {
     debug_pair(rt, &table.get(net), &table.get_visits(net))?;
+    show_network(rt, table, net)?;
     show_routes(rt, table.cover(net))?;
     show_governed(rt, table, "10.0.0.0/8")?;
     show_governed(rt, table, "2001:db8::/32")

@@ -10,6 +10,7 @@ pub record Choice : Type 0 where
   pub hop : Hop
   pub pref : ℕ
 
+-- the test that two hops are one
 abbrev pub same_hop : Hop → Hop → Bool
 same_hop (Number j) (Number k) = j == k
 same_hop (Number j) Drop = false
@@ -42,6 +43,7 @@ pub record AreChoices (cs : List Choice) : Type 0 where
   pub best_first : AllPairs (λ c d. beats c d ≡ true) cs
   pub once : AllPairs (λ c d. c.hop ≢ d.hop) cs
 
+-- the first choice, which no other beats where they stand best first
 abbrev pub best : List Choice → Option Choice
 best [] = None
 best (c ∷ cs) = Some c
@@ -51,22 +53,26 @@ pub record IsBest (cs : List Choice) (c : Choice) : Type 0 where
   pub member : Contains cs c
   pub unbeaten : (d : Choice) → Contains cs d → beats d c ≡ false
 
--- the hop of the best choice and its preference; `Drop` and 0 where there is none, which no stored network has
+-- the hop of the best choice; `Drop` where there is none, which no stored network has
 abbrev pub best_hop : List Choice → Hop
 best_hop [] = Drop
 best_hop (c ∷ cs) = c.hop
 
+-- the preference of the best choice; 0 where there is none
 abbrev pub best_preference : List Choice → ℕ
 best_preference [] = 0
 best_preference (c ∷ cs) = c.pref
 
+-- the test that there is no choice
 abbrev pub has_none : List Choice → Bool
 has_none [] = true
 has_none (c ∷ cs) = false
 
+-- the test that a choice has this hop
 abbrev pub holds_hop : List Choice → Hop → Bool
 holds_hop cs h = list_any (λ d. same_hop d.hop h) cs
 
+-- the choices with other hops than this one, in their order
 abbrev pub choices_without : List Choice → Hop → List Choice
 choices_without cs h = filter (λ d. not (same_hop d.hop h)) cs
 

@@ -1,5 +1,10 @@
 //! Laws of choices: public functions without a body, whose contracts are the laws.
+ghost use Rattle.std.specs.Prelude.{◌≡◌, ◌↔◌, IsTrue};
 ghost use Rattle.route_choices.specs.Laws.{BestIsUnbeaten, ChoicesWith, ChoicesWithout, OneBeats, SameChoices, StayChoices};
+ghost use Rattle.route_choices.specs.declared.hop.Hop.{Hop as AnyHop};
+ghost use Rattle.route_choices.specs.declared.hop.Hop.TheVariants.{Drop as DropHop};
+
+use crate::hop::Hop;
 
 /// The choices of one network: the first is the one that no other beats; with a choice, those of other hops and it;
 /// without a hop, those of other hops; and they stay in order, at most eight, no hop twice.
@@ -10,4 +15,12 @@ pub fn choices()
     ensures without_one { ChoicesWithout }
     ensures stay { StayChoices }
     ensures same { SameChoices }
+{}
+
+/// `==` holds of one hop alone; a clone of a hop is the same one, and cloning never fails; the default hop is `Drop`.
+pub fn hops()
+    ensures equality { (a b : AnyHop) → IsTrue (⟦<Hop as PartialEq>⟧.eq a b) ↔ (a ≡ b) }
+    ensures clones { (a b : AnyHop) → ⟦<Hop as Clone>⟧.is_clone a b → b ≡ a }
+    ensures made { (a : AnyHop) → ⟦<Hop as Clone>⟧.is_infallible a }
+    ensures default { (a : AnyHop) → ⟦<Hop as Default>⟧.is_default a → a ≡ DropHop }
 {}

@@ -25,23 +25,27 @@ abbrev pub took_some : {E : Type 0} → Result ℕ E → Bool
 took_some (Ok n) = nat_lt 0 n
 took_some (Err e) = false
 
--- the device, how often it was read, how often it failed, and whether its last call did
+-- the device
 abbrev pub inner : {D : Type 0} → Counted D → D
 inner c = c.device
 
+-- how often its device was asked to read
 abbrev pub reads_of : {D : Type 0} → Counted D → ℕ
 reads_of c = c.reads
 
+-- how many calls of its device failed
 abbrev pub faults_of : {D : Type 0} → Counted D → ℕ
 faults_of c = c.faults
 
+-- whether the last call of its device failed
 abbrev pub failing_of : {D : Type 0} → Counted D → Bool
 failing_of c = c.failing
 
--- whether it took bytes that no `flush` has followed, and how often a `flush` followed such bytes
+-- whether it took bytes that no `flush` has followed
 abbrev pub waiting_of : {D : Type 0} → Counted D → Bool
 waiting_of c = c.waiting
 
+-- how often a `flush` followed bytes that waited
 abbrev pub flushes_of : {D : Type 0} → Counted D → ℕ
 flushes_of c = c.flushes
 
@@ -66,6 +70,7 @@ waits_after (suc times) waits = false
 abbrev pub Flushed : {W : Type 0} → ℕ → Counted W → Counted W → Type 0
 Flushed times old new = (flushes_of new ≡ more_by times (flushes_of old)) × (waiting_of new ≡ waits_after times (waiting_of old))
 
+-- the test that a text has a byte
 abbrev pub has_bytes : List ℕ → Bool
 has_bytes [] = false
 has_bytes (b ∷ bs) = true

@@ -17,6 +17,7 @@ pub record Change : Type 0 where
   pub block : Block
   pub number : Option ℕ
 
+-- whether the closing line is `ok`
 abbrev pub is_done : Closing → Bool
 is_done Done = true
 is_done Missing = false
@@ -43,6 +44,7 @@ closes (Own net) = None
 closes (Count v4 v6) = None
 closes (Close closing) = Some closing
 
+-- whether a closing line is `ok`; where there is none, what is said of the later lines
 abbrev pub done_or : Option Closing → Bool → Bool
 done_or (Some closing) later = is_done closing
 done_or None later = later
@@ -81,6 +83,7 @@ abbrev pub painted_over : Option ℕ → List Change → Address → Option ℕ
 painted_over now [] x = now
 painted_over now (c ∷ cs) x = painted_over (if has_address c.block x then c.number else now) cs x
 
+-- the hop of an address after these changes, one after another, where none had a hop before
 abbrev pub painted : List Change → Address → Option ℕ
 painted cs x = painted_over None cs x
 

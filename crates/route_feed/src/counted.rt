@@ -116,6 +116,8 @@ impl<R: Read> Read for Counted<R> {
         ensures reads { reads_of self.new ≡ one_more (reads_of self.old) }
         ensures faults { faults_of self.new ≡ more_if (is_err result) (faults_of self.old) }
         ensures failing { failing_of self.new ≡ is_err result }
+        ensures waiting { waiting_of self.new ≡ waiting_of self.old }
+        ensures flushes { flushes_of self.new ≡ flushes_of self.old }
     {
         self.reads = self.reads.saturating_add(1);
         let result = self.device.read(buf);

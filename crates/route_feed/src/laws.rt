@@ -1,5 +1,11 @@
 //! Laws of reply streams: public functions without a body, whose contracts are the laws.
+ghost use Rattle.std.specs.Prelude.{◌≡◌, ◌↔◌, IsTrue};
+ghost use Rattle.route_feed.specs.declared.error.RunError.{RunError as AnyRunError};
+ghost use Rattle.route_feed.specs.declared.follower.FollowError.{FollowError as AnyFollowError};
 ghost use Rattle.route_feed.specs.Laws.{AllAreAnswered, BeginningsAgree, BeginningsAreReplies, FlatListsAgree, LinesRebuild, NoHopsNoLines, OutputIsFollowed, SameFlatBytes, ShortenedAgree};
+
+use crate::error::RunError;
+use crate::follower::FollowError;
 
 /// Whoever reads any beginning of the output of a leader, cut at any byte, and takes the changes of the replies that end
 /// there in `ok`, has each address at the hop that it has in the leader's table after as many commands as replies end
@@ -27,4 +33,14 @@ pub fn shortened()
     ensures rebuild { LinesRebuild }
     ensures hops { ShortenedAgree }
     ensures nothing { NoHopsNoLines }
+{}
+
+/// `==` holds of one error alone; a clone of an error is the same, and cloning never fails.
+pub fn errors()
+    ensures runs { (a b : AnyRunError) → IsTrue (⟦<RunError as PartialEq>⟧.eq a b) ↔ (a ≡ b) }
+    ensures followers { (a b : AnyFollowError) → IsTrue (⟦<FollowError as PartialEq>⟧.eq a b) ↔ (a ≡ b) }
+    ensures same_runs { (a b : AnyRunError) → ⟦<RunError as Clone>⟧.is_clone a b → b ≡ a }
+    ensures same_followers { (a b : AnyFollowError) → ⟦<FollowError as Clone>⟧.is_clone a b → b ≡ a }
+    ensures made_runs { (a : AnyRunError) → ⟦<RunError as Clone>⟧.is_infallible a }
+    ensures made_followers { (a : AnyFollowError) → ⟦<FollowError as Clone>⟧.is_infallible a }
 {}

@@ -11,7 +11,7 @@ use Rattle.ipnet_blocks.proofs.BlockLaws.{has_first, longer_inside, same_sets, s
 use Rattle.ipnet_blocks.proofs.Maximals.{member_is_address}
 use Rattle.ipnet_blocks.proofs.Parents.{larger_is_shorter}
 use Rattle.ipnet_blocks.proofs.Search.{left_is_block, right_is_block, left_inside, right_inside, in_a_half, address_in_a_half, first_within, leaf_address, halves_in_order}
-use Rattle.least_table.specs.Tables.{IsLesser}
+use Rattle.ipnet_blocks.specs.Halves.{IsLesser}
 use Rattle.route_choices.specs.Hops.{IsHop, number_of}
 use Rattle.route_laws.specs.Fewest.{handed, hop_under, GivesInside, IsFewest, AreHops, FewestOfHost, FewestByHalves}
 use Rattle.route_laws.specs.InnerHops.{hop_from}

@@ -2,7 +2,7 @@
 use Rattle.std.specs.Prelude.{◌≡◌, ◌≢◌, ◌^◌, ◌<◌, ◌≤◌, ◌+◌, ◌⊎◌, ◌↔◌, ℕ, List, Option, Some, None, All, IfSome, length}
 use Rattle.ipnet_addr.specs.Addresses.{Ipv4, Ipv6, Address, IsAddress, width}
 use Rattle.ipnet_blocks.specs.Blocks.{Block, IsBlock, HasAddress, IsInside, family_block, first_of, host, left, right}
-use Rattle.least_table.specs.Tables.{IsLesser}
+use Rattle.ipnet_blocks.specs.Halves.{IsLesser}
 use Rattle.route_choices.specs.Hops.{number_of}
 use Rattle.route_laws.specs.LeastTables.{IsLeast}
 use Rattle.route_laws.specs.Tables.{Route, IsTable, match_of}

@@ -14,6 +14,7 @@ pub record IsFlat (h : Address → Option ℕ) (ps : List Piece) : Type 0 where
   pub ascending : AllPairs (λ p q. IsBefore p.block q.block) ps
   pub exact : (p : Piece) → Contains ps p ↔ IsMaximalBlock (λ x. h x ≡ Some p.number) p.block
 
+-- the blocks of a flat list
 abbrev pub blocks_of : List Piece → List Block
 blocks_of ps = map (λ p. p.block) ps
 
@@ -28,23 +29,27 @@ pub record IsAdmissible (h : Address → Option ℕ) (bs : List Block) : Type 0 
   pub one_hop : All (HasOneHop h) bs
   pub covers : (x : Address) → IsAddress x → IsSome (h x) → Any (λ b. HasAddress b x) bs
 
--- the flat list by search: `k` is the number of free bits of the block that is searched
+-- the number that two hops share. Below `k` is the number of the free bits of the block
 abbrev pub common : Option ℕ → Option ℕ → Option ℕ
 common None o = None
 common (Some j) None = None
 common (Some j) (Some k) = if j == k then Some j else None
 
+-- the number that all addresses of the block have; none where they differ, or where one has none
 unfoldable pub one_hop_in : (Address → Option ℕ) → ℕ → Block → Option ℕ
 one_hop_in h zero b = h (first_of b)
 one_hop_in h (suc k) b = common (one_hop_in h k (left b)) (one_hop_in h k (right b))
 
+-- the block with its number alone, where it has one; else the pieces that are given
 abbrev pub piece_or : Block → Option ℕ → List Piece → List Piece
 piece_or b None ps = ps
 piece_or b (Some n) ps = record { block = b; number = n } ∷ []
 
+-- the flat list inside the block: itself, where all its addresses have one number, else those of its halves, the lower one first
 unfoldable pub flat_in : (Address → Option ℕ) → ℕ → Block → List Piece
 flat_in h zero b = piece_or b (h (first_of b)) []
 flat_in h (suc k) b = piece_or b (one_hop_in h (suc k) b) (flat_in h k (left b) ++ flat_in h k (right b))
 
+-- the flat list: that of IPv4, then that of IPv6
 unfoldable pub flat_of : (Address → Option ℕ) → List Piece
 flat_of h = flat_in h (width Ipv4) (family_block Ipv4) ++ flat_in h (width Ipv6) (family_block Ipv6)

@@ -34,6 +34,7 @@ routes_of T = map best_route T
 abbrev pub with_stored : List Stored → Stored → List Stored
 with_stored T s = filter (λ t. is_before t.block s.block) T ++ s ∷ filter (λ t. is_before s.block t.block) T
 
+-- the table without this block
 abbrev pub without_stored : List Stored → Block → List Stored
 without_stored T b = filter (λ t. not (same_block t.block b)) T
 

@@ -41,6 +41,7 @@ abbrev pub longer : Route → Option Route → Route
 longer r None = r
 longer r (Some s) = if nat_lt r.block.len s.block.len then s else r
 
+-- the longest of these routes
 abbrev pub longest : List Route → Option Route
 longest [] = None
 longest (r ∷ rs) = Some (longer r (longest rs))
@@ -49,6 +50,7 @@ longest (r ∷ rs) = Some (longer r (longest rs))
 abbrev pub match_of : List Route → Block → Option Route
 match_of M n = longest (covering M n)
 
+-- the number of the hop of a match; none where there is no match, or where it is `drop`
 abbrev pub match_number : Option Route → Option ℕ
 match_number None = None
 match_number (Some r) = number_of r.hop

@@ -28,6 +28,7 @@ net_of_text s = option_map (λ n. network_at (block n)) (ip_net_of s)
 abbrev pub number_of_text : ℕ → ℕ → List ℕ → Option ℕ
 number_of_text low high s = if bytes_eq s (decimal (digits_value 10 s)) && nat_le low (digits_value 10 s) && nat_le (digits_value 10 s) high then Some (digits_value 10 s) else None
 
+-- the hop: `drop`, or a number below 2^32
 abbrev pub hop_of_text : List ℕ → Option Hop
 hop_of_text s = if bytes_eq s (codes "drop") then Some Drop else option_map Number (number_of_text 0 0xffffffff s)
 

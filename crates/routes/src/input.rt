@@ -1,8 +1,11 @@
 //! The input, which tells whether more lines are here.
-ghost use Rattle.std.specs.Io.KnownBytes.{prepend_known};
-ghost use Rattle.std.specs.Prelude.{◌≡◌, ◌<◌, ◌≤◌, drop, length};
+ghost use Rattle.std.specs.Io.{ReadsAtMost};
+ghost use Rattle.std.specs.Io.KnownBytes.{ReadConsumes, prepend_known};
+ghost use Rattle.std.specs.Prelude.{◌≡◌, ◌<◌, ◌≤◌, ◌+◌, drop, is_err, length};
+ghost use Rattle.route_feed.specs.Counted.{faults_of, inner, more_if, reads_of};
 
 use arrayvec::ArrayVec;
+use route_feed::Counted;
 use std::cell::Cell;
 use std::io;
 use std::io::Read;
@@ -11,10 +14,11 @@ use std::io::Read;
 const KEPT: usize = 1 << 16;
 
 /// A reader that hands out the whole lines of a piece but for the last, and this last one, with what stands after it, at
-/// the next read. `more` tells whether what is kept so ends a line: then the next read does not wait for the device.
+/// the next read. `more` tells whether what is kept so ends a line: then the next read does not wait for the device. A fault of
+/// the device is handed on, and the device is read once at most.
 #[derive(Drop)]
 pub struct Input<'a, R> {
-    device: R,
+    device: Counted<R>,
     kept: ArrayVec<u8, KEPT>,
     start: usize,
     more: &'a Cell<bool>,
@@ -23,7 +27,7 @@ pub struct Input<'a, R> {
 impl<'a, R> Input<'a, R> {
     pub fn new(device: R, more: &'a Cell<bool>) -> Input<'a, R> {
         Input {
-            device,
+            device: Counted::new(device),
             kept: ArrayVec::new(),
             start: 0,
             more,
@@ -58,9 +62,14 @@ impl<'a, R> Input<'a, R> {
 }
 
 impl<'a, R: Read> Read for Input<'a, R> {
-    ghost remaining = { λ input. prepend_known (drop input.start input.kept.items) (R.remaining input.device) };
+    ghost remaining = { λ input. prepend_known (drop input.start input.kept.items) (R.remaining (inner input.device)) };
 
-    fn read(&mut self, buf: &mut [u8]) -> io::Result<usize> {
+    fn read(&mut self, buf: &mut [u8]) -> io::Result<usize>
+        ensures bound { ReadsAtMost result buf.new }
+        ensures bytes { ReadConsumes (prepend_known (drop self.old.start self.old.kept.items) (R.remaining (inner self.old.device))) (prepend_known (drop self.new.start self.new.kept.items) (R.remaining (inner self.new.device))) result buf.new }
+        ensures reads { reads_of self.new.device ≤ reads_of self.old.device + 1 }
+        ensures faults { faults_of self.new.device ≡ more_if (is_err result) (faults_of self.old.device) }
+    {
         let left = self.left();
         if left.is_empty() {
             let count = self.device.read(buf)?;

@@ -3,9 +3,10 @@
 
 ghost use Rattle.std.specs.Io.Buffered.{writer_contents};
 ghost use Rattle.std.specs.Io.KnownBytes.{Keeps};
-ghost use Rattle.std.specs.Prelude.{◌≡◌, ◌<◌, ◌^◌, ◌⊎◌, IfErr, IfOk, IfSome, IsErrOf};
+ghost use Rattle.std.specs.Prelude.{◌≡◌, ◌<◌, ◌^◌, ◌⊎◌, IfErr, IfOk, IfSome, IsErrOf, OnOk};
 ghost use Rattle.route_feed.specs.Counted.{ReadFault, faults_of, inner, reads_of};
-ghost use Rattle.routes.specs.Runs.{Writes};
+ghost use Rattle.route_feed.specs.Follows.{MeetsAnother};
+ghost use Rattle.routes.specs.Runs.{Ends, Writes};
 ghost use Rattle.routes.specs.Status.{status_of};
 
 mod input;
@@ -84,9 +85,28 @@ fn asked_mode<R: Env + Alloc>(rt: &R) -> Result<Mode, Fault> {
     }
 }
 
-// Leads, follows or shortens from the input to the output, and hands the output back. A reply is written out once no more
-// lines are here. What a failed write left unwritten is let go. A leader meets no lines that are none. The program ends next,
-// so a table's memory is left to the system.
+// Leads, follows or shortens. The program ends next, so a table's memory is left to the system.
+fn run_as<R: Read, W: Write>(
+    mode: Mode,
+    alloc: Global,
+    reader: &mut Counted<R>,
+    writer: &mut Counted<W>,
+) -> Result<(), RunError>
+    requires reads { reads_of reader.old < 2 ^ 63 }
+    requires reader { faults_of reader.old < 2 ^ 63 }
+    requires writer { faults_of writer.old < 2 ^ 63 }
+    ensures ends { Ends R.remaining W.contents mode reader.old reader.new writer.old writer.new result }
+    ensures known { OnOk result (IfSome (R.remaining (inner reader.old)) (λ bytes. Writes mode bytes (W.contents (inner writer.old)) (W.contents (inner writer.new)))) }
+{
+    match mode {
+        Mode::Lead => lead_leaking(alloc, reader, writer),
+        Mode::Follow => follow_leaking(alloc, reader, writer),
+        Mode::Least => shorten(alloc, reader, writer),
+    }
+}
+
+// Runs in this mode from the input to the output, and hands the output back. A reply is written out once no more lines are
+// here. What a failed write left unwritten is let go. A leader meets no lines that are none.
 fn run_mode<R: Read, W: Write + Drop>(
     mode: Mode,
     alloc: Global,
@@ -98,18 +118,14 @@ fn run_mode<R: Read, W: Write + Drop>(
     requires faults { faults_of reader.old < 2 ^ 63 }
     ensures known { IfOk result (λ w. IfSome (R.remaining (inner reader.old)) (λ bytes. Writes mode bytes (W.contents output) (W.contents w))) }
     ensures read { IsErrOf result RunError.Read → ReadFault reader.old reader.new }
-    ensures line { IsErrOf result RunError.Line → (mode ≡ Mode.Follow) ⊎ (mode ≡ Mode.Least) }
+    ensures line { IsErrOf result RunError.Line → ((mode ≡ Mode.Follow) ⊎ (mode ≡ Mode.Least)) × MeetsAnother R.remaining reader.old reader.new }
+    ensures read_well { (IsErrOf result RunError.Read → ⊥) → faults_of reader.new ≡ faults_of reader.old }
 {
     let Ok(buffered) = BufWriter::with_capacity(alloc, REPLY, output) else {
         return Err(RunError::Memory);
     };
     let mut writer = Counted::new(Output::new(buffered, more));
-    let result = match mode {
-        Mode::Lead => lead_leaking(alloc, reader, &mut writer),
-        Mode::Follow => follow_leaking(alloc, reader, &mut writer),
-        Mode::Least => shorten(alloc, reader, &mut writer),
-    };
-    match result {
+    match run_as(mode, alloc, reader, &mut writer) {
         Ok(()) => write_out(writer.into_inner().into_inner()),
         Err(error) => {
             let_go(writer.into_inner().into_inner());

@@ -1,41 +1,56 @@
 //! The output, whose flush waits while more lines are here.
-ghost use Rattle.std.specs.Prelude.{◌≡◌};
+ghost use Rattle.std.specs.Io.{WritesAtMost};
+ghost use Rattle.std.specs.Io.KnownBytes.{Keeps, WriteAppends};
+ghost use Rattle.std.specs.Prelude.{◌≡◌, is_err, length};
+ghost use Rattle.route_feed.specs.Counted.{faults_of, inner, more_if, took_none};
 
+use route_feed::Counted;
 use std::cell::Cell;
 use std::io;
 use std::io::Write;
 
-/// A writer that is flushed only where no more lines are here to be answered: `more` says whether there are.
+/// A writer that is flushed only where no more lines are here to be answered: `more` says whether there are. A fault of the device
+/// is handed on.
 #[derive(Drop)]
 pub struct Output<'a, W: Drop> {
-    device: W,
+    device: Counted<W>,
     more: &'a Cell<bool>,
 }
 
 impl<'a, W: Drop> Output<'a, W> {
     pub fn new(device: W, more: &'a Cell<bool>) -> Output<'a, W>
-        ensures { result.device ≡ device }
+        ensures { inner result.device ≡ device }
     {
-        Output { device, more }
+        Output {
+            device: Counted::new(device),
+            more,
+        }
     }
 
     /// The writer itself.
     pub fn into_inner(self) -> W
-        ensures { result ≡ self.entry.device }
+        ensures { result ≡ inner self.entry.device }
     {
         let Output { device, more: _ } = self;
-        device
+        device.into_inner()
     }
 }
 
 impl<'a, W: Write + Drop> Write for Output<'a, W> {
-    ghost contents = { λ output. W.contents output.device };
+    ghost contents = { λ output. W.contents (inner output.device) };
 
-    fn write(&mut self, buf: &[u8]) -> io::Result<usize> {
+    fn write(&mut self, buf: &[u8]) -> io::Result<usize>
+        ensures bound { WritesAtMost result buf.now }
+        ensures bytes { WriteAppends (W.contents (inner self.old.device)) (W.contents (inner self.new.device)) result buf.now }
+        ensures faults { faults_of self.new.device ≡ more_if (took_none result (length buf.now)) (faults_of self.old.device) }
+    {
         self.device.write(buf)
     }
 
-    fn flush(&mut self) -> io::Result<()> {
+    fn flush(&mut self) -> io::Result<()>
+        ensures bytes { Keeps (W.contents (inner self.old.device)) (W.contents (inner self.new.device)) }
+        ensures faults { faults_of self.new.device ≡ more_if (is_err result) (faults_of self.old.device) }
+    {
         if self.more.get() {
             return Ok(());
         }

@@ -30,5 +30,7 @@ pub mod Inside
 pub mod Leaves
 pub mod Ways
 pub mod Left
+pub mod Exchanges
+pub mod Removals
 pub mod Staying
 pub mod Covers

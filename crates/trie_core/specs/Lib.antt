@@ -12,6 +12,8 @@ pub mod InnerHeights
 pub mod InnerCount
 pub mod InnerSearch
 pub mod InnerLending
+pub mod InnerExchanges
+pub mod InnerRemovals
 pub mod InnerWalks
 pub mod InnerFrames
 pub mod InnerTrails

@@ -1,8 +1,9 @@
 //! A node of the trie: five levels of bits, with the values at strings of fewer than five bits and the children at five.
-ghost use Rattle.std.specs.Prelude.{◌≡◌, ◌+◌, ◌*◌, ◌/◌, ◌<◌, ◌≤◌, ◌^◌, length, None, Some, IfOk, IfErr, IfNone, IfSome, OnErr, OnOk, OnSome, IsTrue, ◌↔◌, MatchOption, max, count_ones};
-ghost use Rattle.std.specs.Option.{ForSome, IsSome, option_copied};
+ghost use Rattle.std.specs.Prelude.{◌≡◌, ◌+◌, ◌*◌, ◌/◌, ◌<◌, ◌≤◌, ◌^◌, length, None, Some, IfOk, IfErr, IfNone, IfSome, OnErr, OnOk, IsTrue, ◌↔◌, MatchOption, max, count_ones};
+ghost use Rattle.std.specs.Option.{IsSome, option_copied};
 ghost use Rattle.std.specs.FinMap as map;
 ghost use Rattle.trie_core.specs.InnerNodes.{HasSlots};
+ghost use Rattle.trie_core.specs.InnerExchanges.{IsExchanged};
 ghost use Rattle.trie_core.specs.InnerCount.{all_nodes, spare_count};
 ghost use Rattle.trie_core.specs.Count.{visit_count, node_visits};
 ghost use Rattle.trie_core.specs.Ways.{off_way, IsPruned, IsKept};
@@ -306,13 +307,7 @@ impl<T: Drop> Node<T> {
         room: usize,
     ) -> Option<usize>
         requires { IsSome held.old }
-        ensures old { OnSome result (held.new ≡ map.get self.old.entries path) }
-        ensures map { OnSome result (ForSome held.old (λ v. self.new.entries ≡ map.insert self.old.entries path v)) }
-        ensures spares { OnSome result (self.new.spares ≡ off_way self.old.spares path) }
-        ensures count { IfSome result (λ made. all_nodes self.new ≡ all_nodes self.old + made) }
-        ensures levels { OnSome result (self.new.levels ≤ max self.old.levels (length path / 5 + 1)) }
-        ensures within { IfSome result (λ made. made ≤ room) }
-        ensures grows { OnSome result (map.get self.old.entries path ≡ None → IsTrue may_grow) }
+        ensures stored { IfSome result (λ made. IsExchanged path held.old may_grow room self.old made held.new self.new) }
         ensures unchanged { IfNone result (self.new ≡ self.old) }
         ensures absent { IfNone result (map.get self.old.entries path ≡ None) }
         ensures held { IfNone result (held.new ≡ held.old) }
@@ -348,13 +343,7 @@ impl<T: Drop> Node<T> {
     fn exchange_here(&mut self, path: Path, held: &mut Option<T>, may_grow: bool) -> Option<usize>
         requires short { length path < 5 }
         requires held { IsSome held.old }
-        ensures made { IfSome result (λ made. made ≡ 0) }
-        ensures old { OnSome result (held.new ≡ map.get self.old.entries path) }
-        ensures map { OnSome result (ForSome held.old (λ v. self.new.entries ≡ map.insert self.old.entries path v)) }
-        ensures spares { OnSome result (self.new.spares ≡ off_way self.old.spares path) }
-        ensures count { IfSome result (λ made. all_nodes self.new ≡ all_nodes self.old + made) }
-        ensures levels { OnSome result (self.new.levels ≤ max self.old.levels (length path / 5 + 1)) }
-        ensures grows { OnSome result (map.get self.old.entries path ≡ None → IsTrue may_grow) }
+        ensures stored { IfSome result (λ made. IsExchanged path held.old may_grow 0 self.old made held.new self.new) }
         ensures unchanged { IfNone result (self.new ≡ self.old) }
         ensures absent { IfNone result (map.get self.old.entries path ≡ None) }
         ensures held { IfNone result (held.new ≡ held.old) }

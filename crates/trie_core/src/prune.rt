@@ -3,6 +3,7 @@ ghost use Rattle.std.specs.Prelude.{◌≡◌, ◌+◌, ◌<◌, ◌≤◌, ◌^
 ghost use Rattle.std.specs.FinMap as map;
 ghost use Rattle.trie_core.specs.InnerCount.{all_nodes};
 ghost use Rattle.trie_core.specs.InnerNodes.{AreBelow};
+ghost use Rattle.trie_core.specs.InnerRemovals.{IsRemoved};
 ghost use Rattle.trie_core.specs.Ways.{IsCut};
 ghost use Rattle.trie_core.specs.Inside.{outside};
 
@@ -46,12 +47,9 @@ impl<T: Drop> Node<T> {
         requires five { length path.now ≡ 5 }
         requires entries { map.len self.old.entries < 2 ^ 64 }
         requires nodes { all_nodes self.old < 2 ^ 64 }
-        ensures map { self.new.entries ≡ outside self.old.entries path.now }
-        ensures entries { map.len self.new.entries + result.0 ≡ map.len self.old.entries }
-        ensures count { all_nodes self.new + result.1 ≡ all_nodes self.old }
+        ensures removed { IsRemoved path.now self.old result self.new }
         ensures spares { self.new.spares ≡ outside self.old.spares path.now }
         ensures below { AreBelow self.new.spares }
-        ensures levels { self.new.levels ≤ self.old.levels }
     {
         let number = path.five();
         match slot(self.child_bits, number) {
@@ -70,12 +68,9 @@ impl<T: Drop> Node<T> {
         requires short { length path.now ≤ 5 }
         requires entries { map.len self.old.entries < 2 ^ 64 }
         requires nodes { all_nodes self.old < 2 ^ 64 }
-        ensures map { self.new.entries ≡ outside self.old.entries path.now }
-        ensures entries { map.len self.new.entries + result.0 ≡ map.len self.old.entries }
-        ensures count { all_nodes self.new + result.1 ≡ all_nodes self.old }
+        ensures removed { IsRemoved path.now self.old result self.new }
         ensures spares { self.new.spares ≡ outside self.old.spares path.now }
         ensures below { AreBelow self.new.spares }
-        ensures levels { self.new.levels ≤ self.old.levels }
     {
         if !path.is_short() {
             return self.take_child(path);
@@ -109,6 +104,16 @@ impl<T: Drop> Node<T> {
         ensures spares { IsCut path.now self.old.spares self.new.entries self.new.spares }
         ensures levels { self.new.levels ≤ self.old.levels }
     {
+        self.remove_inside(path)
+    }
+
+    /// The same.
+    fn remove_inside(&mut self, path: &Path) -> (usize, usize)
+        requires entries { map.len self.old.entries < 2 ^ 64 }
+        requires nodes { all_nodes self.old < 2 ^ 64 }
+        ensures removed { IsRemoved path.now self.old result self.new }
+        ensures spares { IsCut path.now self.old.spares self.new.entries self.new.spares }
+    {
         if path.len() <= 5 {
             return self.take_inside(path);
         }
@@ -117,7 +122,7 @@ impl<T: Drop> Node<T> {
             None => (0, 0),
             Some(at) => {
                 let child = &mut self.children[at];
-                let (entries, nodes) = child.remove_children(&path.rest());
+                let (entries, nodes) = child.remove_inside(&path.rest());
                 if child.is_bare() {
                     let _ = self.children.remove(at);
                     self.child_bits -= bit(number);

@@ -9,6 +9,7 @@ mod equal;
 mod into_iter;
 mod iter;
 mod iter_mut;
+pub mod laws;
 mod lend;
 mod map;
 mod prune;
@@ -22,4 +23,4 @@ pub use refused::Refused;
 pub use trie_iterators::{
     Cover, CoverKeys, CoverValues, IntoIter, IntoKeys, IntoValues, Iter, Keys, Values,
 };
-pub use trie_keys::{Key, Prefix, laws};
+pub use trie_keys::{Key, Prefix};

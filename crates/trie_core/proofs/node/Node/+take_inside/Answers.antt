@@ -1,13 +1,19 @@
-use Rattle.std.proofs.Common.{◌∙◌}
+use Rattle.std.proofs.Common.{◌∙◌, arith}
 use Rattle.trie_core.specs.Inside.{outside}
 use Rattle.trie_core.proofs.Inside.{outside_split}
+use Rattle.trie_core.proofs.Removals.{as_number, removed_parts}
 use Rattle.trie_core.proofs.node.Node.+take_inside.Goals as goal
 
-pub returns-clause-map : goal.returns-clause-map
-returns-clause-map g t c =
-    c.take_inside-right.ensures.map
-    ∙ (λ i. outside ((c.take_inside-left.ensures.map ∙ (λ j. outside (c.take_value.ensures.map j) (c.extended.ensures j))) i) (c.extended-2.ensures i))
-    ∙ outside_split c.args.self.now.entries c.args.path.now
+pub overflow_add-result : goal.overflow_add-result
+overflow_add-result g t c = omega (arith, as_number c.take_value.result)
+
+pub overflow_add-result-2 : goal.overflow_add-result-2
+overflow_add-result-2 g t c = omega (arith, as_number c.take_value.result)
+
+pub returns-clause-removed : goal.returns-clause-removed
+returns-clause-removed g t c =
+    removed_parts c.from-here.result c.args.path.now c.take_value.ensures.map (omega (arith, as_number c.take_value.result)) c.take_value.ensures.count c.take_value.ensures.levels
+    c.extended.ensures c.take_inside-left.ensures.removed c.extended-2.ensures c.take_inside-right.ensures.removed
 
 pub returns-clause-spares : goal.returns-clause-spares
 returns-clause-spares g t c =

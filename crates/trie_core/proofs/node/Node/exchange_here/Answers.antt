@@ -12,40 +12,25 @@ use Rattle.trie_core.proofs.node.Node.exchange_here.Goals as goal
 pub invariant_of-self : goal.invariant_of-self
 invariant_of-self g c = value_slots (seen c.self.invariant c.self.view_is) c.put_at.ensures.counted (c.put_at.ensures.below 31 c.place.ensures.below c.self.invariant.values_below)
 
-pub returns-clause-old : goal.returns-clause-old
-returns-clause-old g c = elim c.match-put_at.branch [
-  | in-Ok w ↦ rw (w.result-is, w.held-is) (w.in-Ok.ensures.old ∙ ap (λ n. find nat_cmp n (at_places 32 0 c.self.inside.value_bits c.self.inside.values.items)) c.place.ensures.value ∙ value_at c.args.path (seen c.self.invariant c.self.view_is) c.requires.short)
-  | in-Err w ↦ rw w.result-is tt
-]
-
-pub returns-clause-map : goal.returns-clause-map
-returns-clause-map g c = elim c.match-put_at.branch [
-  | in-Ok w ↦ rw w.result-is (λ v i.
-      let e : Some c.in-Some.value ≡ Some v = sym c.in-Some.is ∙ c.take.ensures.value ∙ i in
-      let f : c.in-Some.value ≡ v = cc in
-      value_put_map c.args.path c.in-Some.value (seen c.self.invariant c.self.view_is) (invariant_of-self g c) c.requires.short c.place.ensures.value w.in-Ok.ensures.items ∙ ap (insert c.args.self.now.entries c.args.path) f)
-  | in-Err w ↦ rw w.result-is tt
-]
-
-pub returns-clause-spares : goal.returns-clause-spares
-returns-clause-spares g c =
+pub returns-clause-stored : goal.returns-clause-stored
+returns-clause-stored g c =
     let s = seen c.self.invariant c.self.view_is in
+    let stood = ap (λ n. find nat_cmp n (at_places 32 0 c.self.inside.value_bits c.self.inside.values.items)) c.place.ensures.value ∙ value_at c.args.path s c.requires.short in
     elim c.match-put_at.branch [
-      | in-Ok w ↦ rw w.result-is (s.spare ∙ short_off c.args.path s c.requires.short)
+      | in-Ok w ↦ rw (w.result-is, w.held-is) (record {
+        old = w.in-Ok.ensures.old ∙ stood;
+        map = λ v i.
+            let e : Some c.in-Some.value ≡ Some v = sym c.in-Some.is ∙ c.take.ensures.value ∙ i in
+            let f : c.in-Some.value ≡ v = cc in
+            value_put_map c.args.path c.in-Some.value s (invariant_of-self g c) c.requires.short c.place.ensures.value w.in-Ok.ensures.items ∙ ap (insert c.args.self.now.entries c.args.path) f;
+        spares = s.spare ∙ short_off c.args.path s c.requires.short;
+        count = omega (arith, value_count s (invariant_of-self g c));
+        levels = omega (arith, s.height);
+        within = omega arith;
+        grows = λ e. w.in-Ok.ensures.grows (w.in-Ok.ensures.old ∙ stood ∙ e);
+      })
       | in-Err w ↦ rw w.result-is tt
     ]
-
-pub returns-clause-count : goal.returns-clause-count
-returns-clause-count g c = elim c.match-put_at.branch [
-  | in-Ok w ↦ rw w.result-is (omega (arith, value_count (seen c.self.invariant c.self.view_is) (invariant_of-self g c)))
-  | in-Err w ↦ rw w.result-is tt
-]
-
-pub returns-clause-grows : goal.returns-clause-grows
-returns-clause-grows g c = elim c.match-put_at.branch [
-  | in-Ok w ↦ rw w.result-is (λ e. w.in-Ok.ensures.grows (w.in-Ok.ensures.old ∙ ap (λ n. find nat_cmp n (at_places 32 0 c.self.inside.value_bits c.self.inside.values.items)) c.place.ensures.value ∙ value_at c.args.path (seen c.self.invariant c.self.view_is) c.requires.short ∙ e))
-  | in-Err w ↦ rw w.result-is tt
-]
 
 pub returns-clause-absent : goal.returns-clause-absent
 returns-clause-absent g c = elim c.match-put_at.branch [

@@ -1,0 +1,74 @@
+//! Maps of networks that are given away: their entries, keys and values, owned. Nothing is left to be shown.
+use crate::fault::Fault;
+use crate::maps::{Map, fill, show};
+use crate::nets::ipv4_network;
+use crate::show::{begin, end, entry, line};
+use ipnet::Ipv4Net;
+use prefix_trie::PrefixMap;
+
+/// The calls that take a map.
+#[derive(Clone, Copy)]
+pub enum MapGift {
+    Entries,
+    Keys,
+    Values,
+    Children,
+}
+
+pub fn run(rt: &HostRuntime, gift: MapGift) -> Result<(), Fault> {
+    let mut map = PrefixMap::new(rt.alloc())?;
+    match begin_to_give(rt, &mut map) {
+        Ok(()) => give(rt, map, gift),
+        Err(fault) => Err(fault),
+    }
+}
+
+fn begin_to_give(rt: &HostRuntime, map: &mut Map) -> Result<(), Fault> {
+    fill(map)?;
+    show(rt, map)?;
+    begin(rt)
+}
+
+fn give(rt: &HostRuntime, map: Map, gift: MapGift) -> Result<(), Fault> {
+    match gift {
+        MapGift::Entries => entries(rt, map),
+        MapGift::Keys => keys(rt, map),
+        MapGift::Values => values(rt, map),
+        MapGift::Children => children(rt, map),
+    }
+}
+
+fn entries(rt: &HostRuntime, map: Map) -> Result<(), Fault> {
+    for (key, value) in map {
+        entry(rt, &key, value)?;
+    }
+    end(rt)
+}
+
+fn keys(rt: &HostRuntime, map: Map) -> Result<(), Fault> {
+    for key in map.into_keys() {
+        line(rt, &key)?;
+    }
+    end(rt)
+}
+
+fn values(rt: &HostRuntime, map: Map) -> Result<(), Fault> {
+    for value in map.into_values() {
+        line(rt, &value)?;
+    }
+    end(rt)
+}
+
+fn children(rt: &HostRuntime, map: Map) -> Result<(), Fault> {
+    match ipv4_network("10.1.0.0/16") {
+        Ok(net) => entries_inside(rt, map, &net),
+        Err(fault) => Err(fault),
+    }
+}
+
+fn entries_inside(rt: &HostRuntime, map: Map, net: &Ipv4Net) -> Result<(), Fault> {
+    for (key, value) in map.into_children(net) {
+        entry(rt, &key, value)?;
+    }
+    end(rt)
+}

@@ -1,0 +1,126 @@
+//! Calls of sets of networks that take no memory.
+use crate::fault::Fault;
+use crate::nets::ipv4_network;
+use crate::sets::{Set, fill, show};
+use crate::show::{begin, debug_line, debug_pair, end, line};
+use ipnet::Ipv4Net;
+use prefix_trie::PrefixSet;
+use prefix_trie::set::Iter;
+
+/// The calls of a set that is lent.
+#[derive(Clone, Copy)]
+pub enum FreeCall {
+    LookUps,
+    Walks,
+    Insert,
+    Remove,
+    RemoveChildren,
+    Clear,
+    Retain,
+}
+
+pub fn run(rt: &HostRuntime, set: &mut Set, call: FreeCall) -> Result<(), Fault> {
+    let member = ipv4_network("10.1.2.4/30")?;
+    let outer = ipv4_network("10.0.0.0/9")?;
+    begin(rt)?;
+    match call {
+        FreeCall::LookUps => look_up_both(rt, set, &member, &outer)?,
+        FreeCall::Walks => walk(rt, set, &outer)?,
+        FreeCall::Insert => debug_line(rt, &set.insert(member))?,
+        FreeCall::Remove => remove(rt, set, &member)?,
+        FreeCall::RemoveChildren => set.remove_children(&outer),
+        FreeCall::Clear => set.clear(),
+        FreeCall::Retain => set.retain(|net| net.prefix_len() < 24),
+    }
+    end(rt)
+}
+
+fn look_up_both(
+    rt: &HostRuntime,
+    set: &Set,
+    member: &Ipv4Net,
+    outer: &Ipv4Net,
+) -> Result<(), Fault> {
+    look_up(rt, set, member)?;
+    look_up(rt, set, outer)
+}
+
+/// Each look-up of a network, and what is told of the whole set, which equals itself.
+fn look_up(rt: &HostRuntime, set: &Set, net: &Ipv4Net) -> Result<(), Fault> {
+    debug_pair(rt, &set.get(net), &set.contains(net))?;
+    debug_pair(rt, &set.get_lpm(net), &set.get_spm(net))?;
+    debug_pair(rt, &set.is_covered(net), &set.is_empty())?;
+    debug_pair(rt, &set.address_count(), &(set == set))
+}
+
+/// All members, those inside a network and from it on, those that contain one, and copies.
+fn walk(rt: &HostRuntime, set: &Set, net: &Ipv4Net) -> Result<(), Fault> {
+    walk_all(rt, set)?;
+    walk_inside(rt, set, net)?;
+    walk_from(rt, set, net)?;
+    walk_above(rt, set, net)?;
+    copy_walk(rt, set)
+}
+
+fn walk_all(rt: &HostRuntime, set: &Set) -> Result<(), Fault> {
+    for net in set {
+        line(rt, &net)?;
+    }
+    Ok(())
+}
+
+fn walk_inside(rt: &HostRuntime, set: &Set, net: &Ipv4Net) -> Result<(), Fault> {
+    for net in set.children(net) {
+        line(rt, &net)?;
+    }
+    Ok(())
+}
+
+fn walk_from(rt: &HostRuntime, set: &Set, net: &Ipv4Net) -> Result<(), Fault> {
+    for net in set.iter_from(net, true) {
+        line(rt, &net)?;
+    }
+    Ok(())
+}
+
+fn walk_above(rt: &HostRuntime, set: &Set, net: &Ipv4Net) -> Result<(), Fault> {
+    for net in set.cover(net) {
+        line(rt, &net)?;
+    }
+    Ok(())
+}
+
+/// What a copy of a walk gives first, and a walk that has nothing left.
+fn copy_walk(rt: &HostRuntime, set: &Set) -> Result<(), Fault> {
+    let mut copy = set.iter().clone()?;
+    let mut none: Iter<'_, Ipv4Net> = Iter::default();
+    debug_pair(rt, &copy.next(), &none.next())
+}
+
+/// A member is taken out, its nodes too, and then another, whose nodes stay.
+fn remove(rt: &HostRuntime, set: &mut Set, member: &Ipv4Net) -> Result<(), Fault> {
+    let other = ipv4_network("192.168.0.0/24")?;
+    debug_pair(rt, &set.remove(member), &set.remove_keep_tree(&other))
+}
+
+/// The members of a set that is given away: nothing is left to be shown.
+pub fn give_away(rt: &HostRuntime) -> Result<(), Fault> {
+    let mut set = PrefixSet::new(rt.alloc())?;
+    match begin_to_give(rt, &mut set) {
+        Ok(()) => give_out(rt, set),
+        Err(fault) => Err(fault),
+    }
+}
+
+fn begin_to_give(rt: &HostRuntime, set: &mut Set) -> Result<(), Fault> {
+    fill(set)?;
+    show(rt, set)?;
+    begin(rt)
+}
+
+fn give_out(rt: &HostRuntime, set: Set) -> Result<(), Fault> {
+    for net in set {
+        line(rt, &net)?;
+    }
+    end(rt)
+}

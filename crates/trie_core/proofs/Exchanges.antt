@@ -1,0 +1,69 @@
+-- A value that is stored in a child, or in a new one, is stored in the node.
+use Rattle.std.proofs.Common.{◌≡◌, ℕ, ◌+◌, ◌/◌, ◌^◌, ◌<◌, ◌≤◌, ◌∙◌, Bool, false, List, length, drop, get_or, set, refl, sym, ap, arith}
+use Rattle.std.specs.Prelude.{Option, Some, None, nat_lt, count_ones, IsTrue}
+use Rattle.std.specs.Option.{IsSome}
+use Rattle.std.specs.Ordering.{nat_cmp}
+use Rattle.std.specs.FinMap.{get, insert, put, empty}
+use Rattle.std.proofs.lemmas.Bool.Decides.{nat_tests}
+use Rattle.std.proofs.lemmas.List.{set-get_or}
+use Rattle.trie_core.specs.InnerPlaces.{child_of, at_places, IsUnset}
+use Rattle.trie_core.specs.Nodes.{Seen}
+use Rattle.trie_core.specs.InnerExchanges.{IsExchanged}
+use Rattle.trie_core.specs.Ways.{off_way}
+use Rattle.trie_core.proofs.Maps.{get_none}
+use Rattle.trie_core.proofs.Taken.{IsTaken}
+use Rattle.trie_core.proofs.Seen.{IsSeen, viewed}
+use Rattle.trie_core.proofs.Changes.{was, set_put, set_count, set_height, was_lower, absent, hung, depth_rest, new_nodes}
+use Rattle.trie_core.proofs.Marks.{no_spares}
+use Rattle.trie_core.proofs.Ways.{off_none, below_off, hung_off}
+
+pub not_short : {b : Bool} (q : List Bool) → b ≡ nat_lt (length q) 5 → b ≡ false → 5 ≤ length q
+not_short q e f = let g : nat_lt (length q) 5 ≡ false = sym e ∙ f in grind (arith, nat_tests)
+
+module _ {X : Type 0} where
+  some_of : (o : Option X) → IsSome o → (v : X) × (o ≡ Some v)
+  some_of None h = absurd (cc)
+  some_of (Some v) h = (v, refl)
+
+  -- what makes no node fits any room
+  pub in_room : {q : List Bool} {h out : Option X} {may_grow : Bool} {m n : Seen X} {made : ℕ} (room : ℕ) → IsExchanged q h may_grow 0 m made out n → IsExchanged q h may_grow room m made out n
+  in_room room x = record { old = x.old; map = x.map; spares = x.spares; count = x.count; levels = x.levels; within = omega (arith, x.within); grows = x.grows }
+
+  pub same_below : {m : Seen X} (vb at : ℕ) (vs : List X) (cb : ℕ) (cs : List (Seen X)) (e d : Seen X) → viewed vb vs cb cs ≡ m → e ≡ get_or cs at e → d ≡ e → viewed vb vs cb (set cs at d) ≡ m
+  same_below vb at vs cb cs e d s k f = ap (λ c. viewed vb vs cb (set cs at c)) (f ∙ k) ∙ ap (viewed vb vs cb) (set-get_or cs at e) ∙ s
+
+  -- in the child on the way, which is e and becomes d
+  pub exchanged_below : {vb at : ℕ} {vs : List X} {cb : ℕ} {cs : List (Seen X)} {m : Seen X} {h out : Option X} {may_grow : Bool} {room made : ℕ} {r : List Bool} (q : List Bool) (e d : Seen X) → IsSeen vb vs cb cs m → 5 ≤ length q → IsTaken (child_of q) at cb cs → e ≡ get_or cs at e
+      → r ≡ drop 5 q → IsSome h → IsExchanged r h may_grow room e made out d → IsExchanged q h may_grow room m made out (viewed vb vs cb (set cs at d))
+  exchanged_below {at = at} {h = h} q e d s l t k f g x =
+      let (v, i) = some_of h g in
+      let w = was q e s l t k in
+      let put = λ (u : X) (j : h ≡ Some u). x.map u j ∙ ap (λ p. insert e.entries p u) f in
+      record {
+        old = x.old ∙ ap (get e.entries) f ∙ w;
+        map = λ u j. set_put q u e d s l t k (put u j);
+        spares = below_off q v e d s l t k (put v i) (x.spares ∙ ap (off_way e.spares) f);
+        count = omega (arith, set_count q e d s t k, x.count);
+        levels = omega (arith, set_height at d s, was_lower q e s t k, x.levels, ap (λ p. length p / 5 + 1) f, depth_rest q l);
+        within = x.within;
+        grows = λ z. x.grows (ap (get e.entries) f ∙ w ∙ z);
+      }
+
+  -- in a new child, which is e and becomes d
+  pub exchanged_new : {vb n db : ℕ} {vs : List X} {cb : ℕ} {cs ls : List (Seen X)} {m : Seen X} {h out : Option X} {may_grow b : Bool} {room less made : ℕ} {r : List Bool} (ds : List (Seen X)) (q : List Bool) (e d : Seen X) → IsSeen vb vs cb cs m → 5 ≤ length q → n ≡ child_of q → IsUnset n cb
+      → ls ≡ cs → at_places 32 0 db ds ≡ put nat_cmp n d (at_places 32 0 cb ls) → count_ones db ≡ length ds → db < 2 ^ 32
+      → e.entries ≡ empty → e.spares ≡ empty → e.levels ≡ 1 → r ≡ drop 5 q → IsSome h → IsTrue may_grow → made + 1 ≤ room → IsExchanged r h b less e made out d
+      → IsExchanged q h may_grow room m (made + 1) out (viewed vb vs db ds)
+  exchanged_new {h = h} {r = r} ds q e d s l k u a w c b f z y p g grow fit x =
+      let (v, i) = some_of h g in
+      let new = λ (o : X) (j : h ≡ Some o). x.map o j ∙ (λ i. insert (f i) (p i) o) in
+      let made = hung q v d s l k u a w c b (new v i) in
+      record {
+        old = x.old ∙ ap (λ o. get o r) f ∙ get_none r ∙ sym (absent q s l k u);
+        map = λ o j. (hung q o d s l k u a w c b (new o j)).map;
+        spares = hung_off ds q v d s l k u a w b (new v i) (x.spares ∙ off_none e.spares r z);
+        count = omega (arith, made.count, x.count, new_nodes e f (no_spares e z));
+        levels = omega (arith, made.height, x.levels, y, ap (λ o. length o / 5 + 1) p, depth_rest q l);
+        within = fit;
+        grows = λ _. grow;
+      }

@@ -1,0 +1,17 @@
+-- What becomes of a node, as a value is stored that is held.
+use Rattle.std.specs.Prelude.{◌≡◌, ℕ, ◌+◌, ◌/◌, ◌≤◌, List, Bool, Option, None, length, max, IsTrue}
+use Rattle.std.specs.Option.{ForSome}
+use Rattle.std.specs.FinMap.{get, insert}
+use Rattle.trie_core.specs.Nodes.{Seen}
+use Rattle.trie_core.specs.InnerCount.{all_nodes}
+use Rattle.trie_core.specs.Ways.{off_way}
+
+-- n is m with the held value at q, and with so many nodes more; what stood there is out. A new key needs leave to grow
+pub record IsExchanged {X : Type 0} (q : List Bool) (held : Option X) (may_grow : Bool) (room : ℕ) (m : Seen X) (made : ℕ) (out : Option X) (n : Seen X) : Type 0 where
+  pub old : out ≡ get m.entries q
+  pub map : ForSome held (λ v. n.entries ≡ insert m.entries q v)
+  pub spares : n.spares ≡ off_way m.spares q
+  pub count : all_nodes n ≡ all_nodes m + made
+  pub levels : n.levels ≤ max m.levels (length q / 5 + 1)
+  pub within : made ≤ room
+  pub grows : get m.entries q ≡ None → IsTrue may_grow

@@ -1,0 +1,177 @@
+"""What comes of a stream of reply lines, worked out from docs/ROUTES.md alone: its committed changes, their flat list, and the
+fewest routes with their hops."""
+import re
+
+
+def number(text, below):
+    """A decimal number without leading zeros."""
+    if re.fullmatch(rb"0|[1-9][0-9]*", text) is None or int(text) >= below:
+        raise ValueError
+    return int(text)
+
+
+def ipv4_address(text):
+    octets = text.split(b".")
+    if len(octets) != 4 or any(re.fullmatch(rb"[0-9]{1,3}", octet) is None or int(octet) > 255 for octet in octets):
+        raise ValueError
+    return sum(int(octet) << 8 * (3 - at) for at, octet in enumerate(octets))
+
+
+def units(text, is_last):
+    """The units of a part of an IPv6 address; the last two of it all may be an IPv4 address."""
+    if text == b"":
+        return []
+    found = text.split(b":")
+    numbers = []
+    if is_last and b"." in found[-1]:
+        address = ipv4_address(found.pop())
+        numbers = [address >> 16, address & 0xFFFF]
+    if any(re.fullmatch(rb"[0-9a-fA-F]{1,4}", unit) is None for unit in found):
+        raise ValueError
+    return [int(unit, 16) for unit in found] + numbers
+
+
+def ipv6_address(text):
+    halves = text.split(b"::")
+    if len(halves) == 1:
+        found = units(text, True)
+    elif len(halves) == 2:
+        before, after = units(halves[0], False), units(halves[1], True)
+        if len(before) > 7 or len(before) + len(after) > 8:
+            raise ValueError
+        found = before + [0] * (8 - len(before) - len(after)) + after
+    else:
+        raise ValueError
+    if len(found) != 8:
+        raise ValueError
+    return sum(unit << 16 * (7 - at) for at, unit in enumerate(found))
+
+
+def network(text):
+    """The width of the family, and the first and the last address of the network."""
+    address, slash, length = text.partition(b"/")
+    width, digits, read = (128, 3, ipv6_address) if b":" in address else (32, 2, ipv4_address)
+    if not slash or re.fullmatch(rb"[0-9]{1,%d}" % digits, length) is None or int(length) > width:
+        raise ValueError
+    size = 1 << width - int(length)
+    first = read(address) // size * size
+    return width, first, first + size - 1
+
+
+def hop(text):
+    return None if text == b"drop" else number(text, 1 << 32)
+
+
+def change(line):
+    """The change that a reply line tells, if it tells one; the line has to be a reply line."""
+    if len(line) > 80:
+        raise ValueError
+    match line.split(b" "):
+        case [b"ok" | b"none" | b"bad" | b"refused"]:
+            return None
+        case [b"set", net, number_text]:
+            return network(net), number(number_text, 1 << 32)
+        case [b"unset", net]:
+            return network(net), None
+        case [b"own", net]:
+            network(net)
+        case [b"flat", net, number_text]:
+            network(net), number(number_text, 1 << 32)
+        case [b"route", net, hop_text]:
+            network(net), hop(hop_text)
+        case [b"route", net, hop_text, pref]:
+            network(net), hop(hop_text), number(pref, 1 << 16)
+        case [b"count", v4, v6]:
+            number(v4, 1 << 64), number(v6, 1 << 64)
+        case _:
+            raise ValueError
+    return None
+
+
+def committed(stream):
+    """The changes of the replies that end in `ok`."""
+    changes, waiting = [], []
+    for line in stream.split(b"\n")[:-1]:
+        told = change(line)
+        if told is not None:
+            waiting.append(told)
+        elif line == b"ok":
+            changes += waiting
+            waiting = []
+        elif line in (b"none", b"bad", b"refused"):
+            waiting = []
+    return changes
+
+
+def painted(changes, width):
+    """Ascending pieces of addresses, each with its hop, neighbours with other hops."""
+    edges = sorted({0, 1 << width} | {edge for (w, first, last), _ in changes if w == width for edge in (first, last + 1)})
+    pieces = []
+    for start, end in zip(edges, edges[1:]):
+        found = None
+        for (w, first, last), to in changes:
+            if w == width and first <= start <= last:
+                found = to
+        if pieces and pieces[-1][2] == found:
+            pieces[-1][1] = end
+        else:
+            pieces.append([start, end, found])
+    return [piece for piece in pieces if piece[2] is not None]
+
+
+def written(width, first, length):
+    if width == 32:
+        return ".".join(str(first >> 8 * at & 255) for at in (3, 2, 1, 0)) + f"/{length}"
+    found = [first >> 16 * at & 0xFFFF for at in range(7, -1, -1)]
+    if found[:6] == [0] * 5 + [0xFFFF]:
+        return "::ffff:" + written(32, first & 0xFFFFFFFF, length)
+    runs = [(at, to) for at in range(8) for to in range(at + 2, 9) if not any(found[at:to])]
+    text = [f"{unit:x}" for unit in found]
+    if runs:
+        at, to = max(runs, key=lambda run: (run[1] - run[0], -run[0]))
+        return ":".join(text[:at]) + "::" + ":".join(text[to:]) + f"/{length}"
+    return ":".join(text) + f"/{length}"
+
+
+def flat(changes):
+    """The flat list: of each piece the largest blocks, from its start on."""
+    lines = []
+    for width in (32, 128):
+        for start, end, to in painted(changes, width):
+            while start < end:
+                free = width if start == 0 else (start & -start).bit_length() - 1
+                while start + (1 << free) > end:
+                    free -= 1
+                lines.append(f"flat {written(width, start, width - free)} {to}\n")
+                start += 1 << free
+    return "".join(lines).encode() + b"ok\n"
+
+
+def fewest(changes, width):
+    """How many routes a table of one family has at least that gives these hops, by the halves of each block: under what the
+    routes outside hand down it needs no route of its own, or one, of any hop or none."""
+    pieces = painted(changes, width)
+    hops = {None} | {to for _, _, to in pieces}
+
+    def needs(start, size, inside):
+        """Of the block from this start on, and for each hop that is handed down; the pieces are those that meet it."""
+        covered = inside[0][2] if inside else None
+        if not inside or (inside[0][0] <= start and start + size <= inside[0][1]):
+            return {hop: int(hop != covered) for hop in hops}
+        middle = start + size // 2
+        low = needs(start, size // 2, [piece for piece in inside if piece[0] < middle])
+        high = needs(middle, size // 2, [piece for piece in inside if piece[1] > middle])
+        both = {hop: low[hop] + high[hop] for hop in hops}
+        with_one = 1 + min(both.values())
+        return {hop: min(both[hop], with_one) for hop in hops}
+
+    return needs(0, 1 << width, pieces)[None]
+
+
+def expected(stream):
+    """The flat list and the fewest routes of the committed changes; nothing where a line is none."""
+    try:
+        changes = committed(stream)
+    except ValueError:
+        return None
+    return flat(changes), fewest(changes, 32) + fewest(changes, 128)

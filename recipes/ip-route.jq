@@ -1,0 +1,14 @@
+# Of `ip -j route` or `ip -j -6 route`: a line `NET PREF HOP` for each route, for recipes/number. A smaller metric is better.
+def net($six):
+    if .dst == "default" then (if $six then "::/0" else "0.0.0.0/0" end)
+    elif .dst | contains("/") then .dst
+    else .dst + (if $six then "/128" else "/32" end) end;
+def gateway:
+    (if .gateway then "via \(.gateway) " elif .via then "via \(.via.family) \(.via.host) " else "" end) + "dev \(.dev)";
+def hop:
+    if .nexthops then [.nexthops[] | "nexthop " + gateway + (if .weight > 1 then " weight \(.weight)" else "" end)] | join(" ")
+    elif (.type // "unicast") == "unicast" then gateway
+    elif .type == "blackhole" or .type == "unreachable" or .type == "prohibit" then "drop"
+    else error("not a route that leads or drops: \(.)") end;
+any(.[]; (.dst + (.gateway // "") | contains(":")) or .pref) as $six
+| .[] | select(.flags | index("dead") | not) | "\(net($six)) \([65535 - (.metric // 0), 0] | max) \(hop)"

@@ -1,0 +1,123 @@
+"""Edits of the wrong bodies, and where the bodies of a text are."""
+import re
+import sys
+
+
+class Edit:
+    def __init__(self, file):
+        self.file, self.name, self.is_alone = file, file.stem, False
+        self.pairs, self.refused, self.proved = [], [], []
+        path = after = old = None
+        for line in file.read_text().split("\n"):
+            if line.startswith("file: "):
+                path = line[6:].strip()
+            elif line.startswith("after: "):
+                after = line[7:]
+            elif line.startswith("old: "):
+                old = line[5:]
+            elif line.startswith("new:") and path and old:
+                self.pairs.append((path, after, old, line[4:].removeprefix(" ")))
+                after = old = None
+            elif line.startswith(("# refused: ", "# proved: ")):
+                kind, _, names = line[2:].partition(": ")
+                getattr(self, kind).extend(it.strip() for it in names.split(","))
+            elif line == "# alone":
+                self.is_alone = True
+            elif line:
+                sys.exit(f"{file}: a line that is not read: {line}")
+        if not self.pairs or bool(self.refused) == bool(self.proved):
+            sys.exit(f"{file}: an edit has pairs of lines, and either '# refused: FUNCTION' or '# proved: FUNCTION'")
+        self.functions = {*self.refused, *self.proved}
+
+    def put(self, texts, folder):
+        """The texts with this edit made in them, or None where it does not fit beside those made before."""
+        made = dict(texts)
+        for path, after, old, new in self.pairs:
+            before, found, text = ("", "", made.get(path) or (folder / path).read_text())
+            if after:
+                if text.count(after) != 1:
+                    return None
+                before, found, text = text.partition(after)
+            if old not in text or old == new or not after and text.count(old) != 1:
+                return None
+            made[path] = before + found + text.replace(old, new, 1)
+        return made
+
+    def leaves_open(self, texts, goals):
+        """Whether one of these open goals is of a function of that name, in the files that this edit changes."""
+        for path in {it[0] for it in self.pairs}:
+            text, last = texts[path], 0
+            for name, _, end in bodies_of(text):
+                lines = range(text.count("\n", 0, last) + 1, text.count("\n", 0, end) + 2)
+                if name in self.own_names() and any(file == path and line in lines for file, line in goals):
+                    return True
+                last = end
+        return False
+
+    def own_names(self):
+        return {it.rpartition("::")[2] for it in self.functions}
+
+    def strays(self, folder):
+        """What is amiss with this edit: that it cannot be made, or changes anything but the bodies of the functions that it names."""
+        texts = self.put({}, folder)
+        if texts is None:
+            return "it cannot be applied: each 'old:' text stands once in its file, or behind an 'after:' text that does"
+        changed = set()
+        for path, wrong in texts.items():
+            text = (folder / path).read_text()
+            bodies, others = bodies_of(text), bodies_of(wrong)
+            if around(text, bodies) != around(wrong, others):
+                return f"it changes more of {path} than bodies: mark it '# alone'"
+            changed |= {name for (name, start, end), (_, begin, stop) in zip(bodies, others) if text[start:end] != wrong[begin:stop]}
+        return None if changed == self.own_names() else f"it changes {', '.join(sorted(changed))}, and names {', '.join(sorted(self.functions))}"
+
+
+TOKENS = re.compile(r"//[^\n]*|/\*.*?\*/|\"(?:\\.|[^\"\\])*\"|b?'(?:\\.[^']*|[^'\\])'|\bfn\s+\w+|\w+|\s+|.", re.S)
+
+
+def bodies_of(text):
+    """Where the body of each outermost function of this text is: name, start and end."""
+    found, name, is_clause, depth, outside, start, at = [], None, False, 0, 0, None, 0
+    for token in TOKENS.findall(text):
+        if token == "{" and name and depth == outside and start is None and not is_clause:
+            start = at
+        at += len(token)
+        if token in ("{", "(", "["):
+            depth += 1
+        elif token in ("}", ")", "]"):
+            depth -= 1
+            if name and depth == outside and token == "}":
+                is_clause = False
+                if start is not None:
+                    found.append((name, start, at))
+                    name = start = None
+        elif name is None and token.startswith("fn "):
+            name, outside = token.split()[1], depth
+        elif start is None and token in ("requires", "ensures", "ghost", "decreases"):
+            is_clause = name is not None
+        elif start is None and token == ";" and depth == outside:
+            name = None
+    return found
+
+
+def around(text, bodies):
+    ends = [0, *(end for _, _, end in bodies)]
+    starts = [*(start for _, start, _ in bodies), len(text)]
+    return [text[end:start] for end, start in zip(ends, starts)]
+
+
+# A text, and the names and bodies of its functions.
+PARTED = [
+    ("fn a(b: [u8; 2]) -> u8 where B: C\n    requires { b }\n    ensures c { d } { 1 }", [("a", "{ 1 }")]),
+    ("impl A { ghost b = { c }; fn d(self) { |e| requires { f } { g } } fn h(); } // fn i() {", [("d", "{ |e| requires { f } { g } }")]),
+    ("fn a() { '{'; \"}\" } fn b<'a>(c: &'a C) {}", [("a", "{ '{'; \"}\" }"), ("b", "{}")]),
+]
+
+
+def parts_wrongly():
+    """What `bodies_of` says otherwise than it must."""
+    for text, want in PARTED:
+        found = [(name, text[start:end]) for name, start, end in bodies_of(text)]
+        if found != want:
+            return f"{text!r}: {found}, and not {want}"
+    return None

@@ -1,0 +1,123 @@
+"""What a check says of a crate's functions."""
+import re
+
+
+class NotUnderstood(Exception):
+    """What a check said is no verdict that this file knows."""
+
+
+# Why a function has no proof, in the checker's words.
+REASONS = [re.compile(it) for it in (
+    r"expected \w+ in \./proofs/\S+",
+    r"(`search` did not prove .+)",
+    r"it calls `.+, which (?:is|are) not proved",
+    r"it passes the blocks? `.+, which (?:is|are) not proved",
+)]
+# An error that a proof file has since the edit took away a name.
+NAMES = re.compile(r"has no field|is not in scope|has no `|was not admitted|that can be named from here|was rejected, was not checked")
+
+
+def verdict(crate, said):
+    """The functions that a check tells of, which of them failed by themselves, the files with errors that are none of theirs, and those
+    that failed for the want of a name alone, as far as their own lines tell. A function fails by itself where a goal of its own is open,
+    or its own proof files are refused."""
+    lines = said.rstrip().split("\n")
+    last = next((it for it in reversed(lines) if it.startswith(("logic=", "holes=", "only=", "rattle: "))), "")
+    if not last.startswith(("logic=proved", "logic=not-proved", "only=")):
+        raise NotUnderstood(next((it for it in lines if "error[" in it), last or lines[-1])[:160])
+    errors = {}
+    for it in re.finditer(r"^(?:\./)?((?:src|specs|proofs)/\S+?):\d+:\d+: error\b(.*)$", said, re.M):
+        errors.setdefault(it[1], []).append(it[2])
+    odd = re.search(r"^(?!(?:\./)?(?:src|specs|proofs)/).*\berror(?:\[|: ).*$", said, re.M)
+    if odd:
+        raise NotUnderstood(odd[0][:160])
+    functions, fell, nameless = set(), set(), set()
+    for name, state in re.findall(r"^fn (\S+): (.*)$", said, re.M):
+        own = {it: errors[it] for it in errors if re.fullmatch(proof_files(crate, name), it)}
+        why = reasons(name, state)
+        is_open = any(it.startswith("`search` did not prove ") for it in why)
+        if name in functions:
+            raise NotUnderstood(f"two lines for {name}")
+        functions.add(name)
+        if why is PROVED:
+            continue
+        for it in own:
+            del errors[it]
+        if is_open or own:
+            fell.add(name)
+        elif not why:
+            raise NotUnderstood(f"fn {name}: {state}, and nothing says why")
+        if not is_open and all(NAMES.search(it) for every in own.values() for it in every):
+            nameless.add(name)
+    if fell and last.startswith("logic=proved"):
+        raise NotUnderstood("functions failed, and the crate is proved")
+    return functions, fell, {*errors}, nameless
+
+
+def opened(said):
+    """Where in the source a check left a goal open: files and lines."""
+    return {(it[1], int(it[2])) for it in re.finditer(r"^note: (src/\S+?):(\d+):\d+: it is not proved that ", said, re.M)}
+
+
+PROVED = ()
+
+
+def reasons(name, state):
+    """Why this function has no proof; PROVED where it has one."""
+    # (the second is a closure's line)
+    if state in ("proved", "proved where its callers give what it asks"):
+        return PROVED
+    head, *why = state.removeprefix("no proof: ").split("; ")
+    if state.startswith("no proof: "):
+        why = [head, *why]
+    elif head != "not proved":
+        raise NotUnderstood(f"fn {name}: {state}"[:160])
+    for it in why:
+        if not any(reason.fullmatch(it) for reason in REASONS):
+            raise NotUnderstood(f"fn {name}: {it}"[:160])
+    return why
+
+
+def proof_files(crate, name):
+    """The proof files of this function. (Those of a function in a cycle of calls stand in a folder whose name begins with +.)"""
+    above, _, own = name.removeprefix(f"{crate}::").replace("::", "/").rpartition("/")
+    return re.escape(f"proofs/{above}/".replace("//", "/")) + r"\+?" + re.escape(own) + r"/\w+\.antt"
+
+
+A = "fn c::a: proved\n"
+S = "fn c::a: no proof: expected answers in ./proofs/a/Answers.antt; `search` did not prove `returns`"
+# Outputs, made up, with the functions that fell and the files with stray errors; None: no verdict that is known.
+READ = [
+    (A + "logic=proved functions=1", [], []),
+    (A + "only=1 proved=1", [], []),
+    ("fn c::fn::a::a: proved where its callers give what it asks\nlogic=proved", [], []),
+    (S + "\nlogic=not-proved", ["c::a"], []),
+    (S + "\nonly=1 proved=0", ["c::a"], []),
+    (S + "; it calls `c::b`, which is not proved\nlogic=not-proved", ["c::a"], []),
+    ("fn c::a: no proof: it calls `c::b`, which is not proved\nfn c::b: not proved\n./proofs/b/Answers.antt:1:2: error: `x`: y\nlogic=not-proved", ["c::b"], []),
+    ("fn c::m::a: not proved\n./proofs/m/+a/Invariants.antt:1:2: error: x\nlogic=not-proved", ["c::m::a"], []),
+    (A + "fn c::ab: not proved\n./proofs/ab/Answers.antt:1:2: error: x\nlogic=not-proved", ["c::ab"], []),
+    ("./specs/A.antt:1:2: error: x\n" + A + "logic=not-proved", [], ["specs/A.antt"]),
+    ("fn c::b: not proved\nlogic=not-proved", None),
+    ("fn c::a: could not tell\nrattle: no verdict: antt ran out of steps", None),
+    ("fn c::a: could not tell\nlogic=not-proved", None),
+    ("fn c::a: no proof: the moon is full\nlogic=not-proved", None),
+    ("fn c::a: not proved; it calls `c::b`, which is on strike\nlogic=not-proved", None),
+    ("src/lib.rt:1:2: error[type]: no\n", None),
+    ("error: the disk is full\n" + A + "logic=not-proved", None),
+    (A, None), (A + A + "logic=proved", None), (A + "holes=3", None), ("", None), ("fn c::a: assumed\nlogic=proved", None),
+    (S + "\nlogic=proved", None),
+]
+
+
+def reads_wrongly():
+    """What `verdict` reads otherwise than it must."""
+    for said, *want in READ:
+        try:
+            _, fell, strays, _ = verdict("c", said)
+            found = [sorted(fell), sorted(strays)]
+        except NotUnderstood:
+            found = [None]
+        if found != want:
+            return f"{said!r}: {found}, and not {want}"
+    return None
