@@ -168,8 +168,8 @@ class Page:
         return {"cwd": self.folder, "env": os.environ | {"PATH": path, "ROUTES": f"{self.folder}/bin/routes"}}
 
     def run(self, command=None):
-        """The output of the next block, or of this command."""
-        return tool("bash", "-euo", "pipefail", "-c", command or self.text(), **self.where())
+        """The output of the next block, or of this command, which may take five minutes."""
+        return tool("timeout", "300", "bash", "-euo", "pipefail", "-c", command or self.text(), **self.where())
 
     def refuses(self, command, given=""):
         """This command says in one line why it doesn't take what it is given, and writes nothing."""

@@ -55,7 +55,7 @@ impl<P: Prefix> PrefixSet<P> {
     ///
     /// # Examples
     /// ```rust
-    /// let mut set: PrefixSet<(u32, u8)> = PrefixSet::new(rt.alloc())?;
+    /// let mut set: PrefixSet<(u32, u8)> = PrefixSet::new(rt.alloc()).expect(&rt, "a set");
     /// ```
     pub fn new(alloc: Global) -> Result<PrefixSet<P>, Refused>
         ensures set { IfOk result (λ s. s.entries ≡ fin.empty) }
@@ -141,11 +141,9 @@ impl<P: Prefix> PrefixSet<P> {
     /// The longest member that contains the asked prefix, which itself counts.
     ///
     /// # Examples
-    /// In a set of `inner`, 10.1.0.0/16:
+    /// In a set of `inner`, 10.1.0.0/16, and `wide`, 10.0.0.0/8:
     ///
     /// ```rust
-    /// let wide = (0x0a00_0000, 8);
-    /// assert_eq!(rt; set.insert(wide), Ok(true));
     /// assert_eq!(rt; set.get_lpm(&(0x0a01_0203, 32)), Some(inner));
     /// assert_eq!(rt; set.get_lpm(&(0x0a09_0000, 16)), Some(wide));
     /// ```

@@ -1,23 +1,47 @@
 //! The calls of a set that are met first, as the comments of these calls show them.
 use prefix_trie::PrefixSet;
-use std::test::Fail;
+use std::alloc::Global;
+use std::process::Abort;
+
+/// 10.1.0.0/16 and 10.0.0.0/8, as numbers and lengths.
+fn two_members(rt: &impl Abort, alloc: Global) -> PrefixSet<(u32, u8)> {
+    let mut set = PrefixSet::new(alloc).expect(rt, "a set");
+    assert!(rt; set.insert((0x0a01_0000, 16)).is_ok());
+    assert!(rt; set.insert((0x0a00_0000, 8)).is_ok());
+    set
+}
 
 #[test]
-fn members(rt: HostRuntime) -> Result<(), Fail> {
-    let mut set: PrefixSet<(u32, u8)> = PrefixSet::new(rt.alloc())?;
+fn stored(rt: HostRuntime) {
+    let mut set: PrefixSet<(u32, u8)> = PrefixSet::new(rt.alloc()).expect(&rt, "a set");
     let inner = (0x0a01_0000, 16);
     assert_eq!(rt; set.insert(inner), Ok(true));
     assert_eq!(rt; set.insert((0x0a01_0203, 16)), Ok(false));
+}
+
+#[test]
+fn found(rt: HostRuntime) {
+    let set = two_members(&rt, rt.alloc());
+    let (inner, wide) = ((0x0a01_0000, 16), (0x0a00_0000, 8));
     assert_eq!(rt; set.get(&(0x0a01_0203, 16)), Some(inner));
-    let wide = (0x0a00_0000, 8);
-    assert_eq!(rt; set.insert(wide), Ok(true));
     assert_eq!(rt; set.get_lpm(&(0x0a01_0203, 32)), Some(inner));
     assert_eq!(rt; set.get_lpm(&(0x0a09_0000, 16)), Some(wide));
+}
+
+#[test]
+fn walked(rt: HostRuntime) {
+    let set = two_members(&rt, rt.alloc());
+    let (inner, wide) = ((0x0a01_0000, 16), (0x0a00_0000, 8));
     let mut members = set.iter();
     assert_eq!(rt; members.next(), Some(wide));
     assert_eq!(rt; members.next(), Some(inner));
     assert_eq!(rt; members.next(), None);
+}
+
+#[test]
+fn taken_out(rt: HostRuntime) {
+    let mut set = two_members(&rt, rt.alloc());
+    let wide = (0x0a00_0000, 8);
     assert!(rt; set.remove(&wide));
     assert!(rt; !set.remove(&wide));
-    Ok(())
 }

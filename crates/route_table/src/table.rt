@@ -69,7 +69,7 @@ impl RouteTable {
     ///
     /// # Examples
     /// ```rust
-    /// let mut table = RouteTable::new(rt.alloc())?;
+    /// let mut table = RouteTable::new(rt.alloc()).expect(&rt, "a table");
     /// ```
     pub fn new(alloc: Global) -> Result<RouteTable, Refused>
         ensures networks { IfOk result (λ t. t ≡ []) }
@@ -89,11 +89,11 @@ impl RouteTable {
     /// that is not stored. The table is as it was. No route of a stored network takes memory.
     ///
     /// # Examples
+    /// Of `wide`, 10.0.0.0/8, and its first half to an empty table:
+    ///
     /// ```rust
-    /// let wide = IpNet::from_str("10.0.0.0/8")?;
-    /// assert_eq!(rt; table.add(wide, Hop::Number(1), 100)?, (None, Some(1)));
-    /// let half = IpNet::from_str("10.0.0.0/9")?;
-    /// assert_eq!(rt; table.add(half, Hop::Number(2), 100)?, (Some(1), Some(2)));
+    /// assert_eq!(rt; table.add(wide, Hop::Number(1), 100), Ok((None, Some(1))));
+    /// assert_eq!(rt; table.add(half, Hop::Number(2), 100), Ok((Some(1), Some(2))));
     /// ```
     pub fn add(
         &mut self,
@@ -148,7 +148,6 @@ impl RouteTable {
     /// Where 10.0.0.0/8 has the hop 1 and `half`, 10.0.0.0/9, the hop 2:
     ///
     /// ```rust
-    /// let host = IpNet::from_str("10.1.2.3/32")?;
     /// assert_eq!(rt; table.get(&host), Some((half, Hop::Number(2), 100)));
     /// ```
     pub fn get(&self, net: &IpNet) -> Option<(IpNet, Hop, u16)>
@@ -172,12 +171,10 @@ impl RouteTable {
     /// The best routes of the networks inside this one, itself included, ascending. It takes no memory.
     ///
     /// # Examples
+    /// Where `wide`, 10.0.0.0/8, has the hop 1 and `half`, 10.0.0.0/9, the hop 2, and `all` is 0.0.0.0/0:
+    ///
     /// ```rust
-    /// let wide = IpNet::from_str("10.0.0.0/8")?;
-    /// let half = IpNet::from_str("10.0.0.0/9")?;
-    /// table.add(wide, Hop::Number(1), 100)?;
-    /// table.add(half, Hop::Number(2), 100)?;
-    /// let mut routes = table.list(&IpNet::from_str("0.0.0.0/0")?);
+    /// let mut routes = table.list(&all);
     /// assert_eq!(rt; routes.next(), Some((wide, Hop::Number(1), 100)));
     /// assert_eq!(rt; routes.next(), Some((half, Hop::Number(2), 100)));
     /// assert_eq!(rt; routes.next(), None);

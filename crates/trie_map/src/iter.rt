@@ -38,15 +38,16 @@ impl<P: Prefix, T> PrefixMap<P, T> {
     /// All entries.
     ///
     /// # Examples
+    /// In a map of `inner`, 10.1.0.0/16, at 2, and then of `wide`, 10.0.0.0/8, at 1:
+    ///
     /// ```rust
-    /// let inner = Ipv4Net::from_str("10.1.0.0/16")?;
-    /// assert!(rt; map.insert(inner, 2).is_ok());
-    /// let wide = Ipv4Net::from_str("10.0.0.0/8")?;
-    /// assert!(rt; map.insert(wide, 1).is_ok());
     /// let mut entries = map.iter();
     /// assert_eq!(rt; entries.next(), Some((wide, &1)));
     /// assert_eq!(rt; entries.next(), Some((inner, &2)));
     /// assert!(rt; entries.next().is_none());
+    /// ```
+    ///
+    /// ```rust
     /// let mut most = 0;
     /// for (_, value) in &map {
     ///     most = most.max(*value);

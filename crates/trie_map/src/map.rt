@@ -52,7 +52,7 @@ impl<P: Prefix, T> PrefixMap<P, T> {
     ///
     /// # Examples
     /// ```rust
-    /// let mut map: PrefixMap<Ipv4Net, u32> = PrefixMap::new(rt.alloc())?;
+    /// let mut map: PrefixMap<Ipv4Net, u32> = PrefixMap::new(rt.alloc()).expect(&rt, "a map");
     /// ```
     pub fn new(alloc: Global) -> Result<PrefixMap<P, T>, Refused>
         ensures map { IfOk result (λ m. m.entries ≡ map.empty) }
@@ -102,11 +102,10 @@ impl<P: Prefix, T> PrefixMap<P, T> {
     /// The value at this very key.
     ///
     /// # Examples
+    /// In a map of 10.0.0.0/8 and of `inner`, 10.1.0.0/16, at 2, where `host` is 10.1.2.3/32:
+    ///
     /// ```rust
-    /// let inner = Ipv4Net::from_str("10.1.0.0/16")?;
-    /// assert!(rt; matches!(map.insert(inner, 2), Ok(None)));
     /// assert_eq!(rt; map.get(&inner), Some(&2));
-    /// let host = Ipv4Net::from_str("10.1.2.3/32")?;
     /// assert_eq!(rt; map.get(&host), None);
     /// ```
     pub fn get(&self, prefix: &P) -> Option<&T>
@@ -141,11 +140,9 @@ impl<P: Prefix, T> PrefixMap<P, T> {
     /// The longest key that contains the asked prefix, which itself counts, and its value.
     ///
     /// # Examples
-    /// In a map of 10.0.0.0/8 and of `inner`, 10.1.0.0/16, at 2:
+    /// In a map of 10.0.0.0/8 and of `inner`, 10.1.0.0/16, at 2, where `host` is 10.1.2.3/32:
     ///
     /// ```rust
-    /// let host = Ipv4Net::from_str("10.1.2.3/32")?;
-    /// assert_eq!(rt; map.get(&host), None);
     /// assert_eq!(rt; map.get_lpm(&host), Some((inner, &2)));
     /// ```
     pub fn get_lpm(&self, prefix: &P) -> Option<(P, &T)>
@@ -267,7 +264,6 @@ impl<P: Prefix + Drop, T: Drop> PrefixMap<P, T> {
     ///
     /// # Examples
     /// ```rust
-    /// let wide = Ipv4Net::from_str("10.0.0.0/8")?;
     /// assert!(rt; matches!(map.insert(wide, 1), Ok(None)));
     /// assert!(rt; matches!(map.insert(wide, 3), Ok(Some(1))));
     /// ```
