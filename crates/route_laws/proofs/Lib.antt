@@ -14,10 +14,12 @@ pub mod Alterations
 pub mod Overwritten
 pub mod Paging
 pub mod FlatBounds
+pub mod TableHops
 pub mod Rebuilds
 pub mod Listed
 pub mod Held
 pub mod OneRoute
 pub mod Insides
 pub mod Fewest
+pub mod Rows
 pub mod Families

@@ -1,21 +1,20 @@
 -- A table made of the pieces of a flat list has the same hops.
-use Rattle.std.proofs.Common.{◌≡◌, ℕ, ◌<◌, ◌^◌, ◌⊎◌, inl, inr, ⊎_elim, List, [], ◌∷◌, Option, Some, None, refl, sym, ap, ◌∙◌, subst, arith}
+use Rattle.std.proofs.Common.{◌≡◌, ℕ, ◌<◌, ◌^◌, ◌⊎◌, inl, inr, ⊎_elim, List, [], ◌∷◌, Option, Some, None, IfSome, refl, sym, ap, ◌∙◌, subst, arith}
 use Rattle.ipnet_addr.specs.Addresses.{Address, IsAddress}
 use Rattle.ipnet_addr.proofs.Members.{In}
-use Rattle.ipnet_addr.proofs.Ascending.{In-from_All, All-from_In, In-from_Contains, Contains-from_In, Rising, Rising-from_pairs, pairs_from_Rising}
+use Rattle.ipnet_addr.proofs.Ascending.{All-from_In, In-from_Contains, Contains-from_In, Rising, Rising-from_pairs, pairs_from_Rising}
 use Rattle.ipnet_blocks.specs.Blocks.{Block, IsBlock, HasAddress, IsBefore, first_of, host}
 use Rattle.ipnet_blocks.specs.Maximal.{IsMaximalBlock}
 use Rattle.ipnet_blocks.proofs.BlockLaws.{has_first, nested, strict}
 use Rattle.ipnet_blocks.proofs.Maximals.{host_is_block, in_host, has_host, member_is_address, maximal_is_top}
-use Rattle.route_choices.specs.Hops.{IsHop, number_of}
-use Rattle.route_choices.specs.declared.hop.Hop.{Hop}
-use Rattle.route_choices.specs.declared.hop.Hop.TheVariants.{Number, Drop}
+use Rattle.route_choices.specs.Hops.{IsHop}
 use Rattle.route_laws.specs.Changes.{route_for, with_pieces}
 use Rattle.route_laws.specs.Flats.{Piece, IsFlat}
 use Rattle.route_laws.specs.Laws.{FlatRebuilds}
 use Rattle.route_laws.specs.Tables.{Route, IsTable, IsMatch, match_of, match_number, hop_at, with_route}
 use Rattle.route_laws.proofs.Flats.{Sooner, piece_at, tells, maximal_same}
 use Rattle.route_laws.proofs.Matches.{match_from, match_meets}
+use Rattle.route_laws.proofs.TableHops.{hops_of_table}
 use Rattle.route_laws.proofs.Updates.{added_back, added_itself, added_other, added_is_table}
 
 -- pieces that can be added
@@ -57,26 +56,13 @@ built_has (q ∷ ps) M table ok up p i =
 empty_is_table : IsTable []
 empty_is_table = record { blocks = All-from_In (λ r. IsBlock r.block) [] (λ r i. absurd i); hops = All-from_In (λ r. IsHop r.hop) [] (λ r i. absurd i); ascending = pairs_from_Rising (λ r s. IsBefore r.block s.block) [] tt }
 
--- the number of a hop of a table is in range
-hop_in_range : (M : List Route) → IsTable M → (x : Address) → IsAddress x → (k : ℕ) → hop_at M x ≡ Some k → k < 2 ^ 32
-hop_in_range M table x a k e = go (match_of M (host x)) refl
-  where
-    of_hop : (o : Hop) → IsHop o → number_of o ≡ Some k → k < 2 ^ 32
-    of_hop (Number j) h q = let same : j ≡ k = cc in subst (λ (n : ℕ). n < 2 ^ 32) same h
-    of_hop Drop h q = absurd (cc)
-
-    go : (o : Option Route) → match_of M (host x) ≡ o → k < 2 ^ 32
-    go None q = absurd (let z : None ≡ Some k = sym (ap match_number q) ∙ e in cc)
-    go (Some r) q =
-        let m = match_meets M table (host x) (host_is_block x a) r q in
-        of_hop r.hop (In-from_All (λ (s : Route). IsHop s.hop) M table.hops r (In-from_Contains M r m.member)) (sym (ap match_number q) ∙ e)
-
 module _ (M : List Route) (table : IsTable M) (ps : List Piece) (flat : IsFlat (hop_at M) ps) where
   addable : AreAddable ps
   addable p i =
       let m = (flat.exact p).0 (Contains-from_In ps p i) in
       let x = first_of p.block in
-      (m.within.block, hop_in_range M table x (member_is_address p.block x m.within.block (has_first p.block)) p.number (m.within.all x (has_first p.block)))
+      let small = hops_of_table M table x (member_is_address p.block x m.within.block (has_first p.block)) in
+      (m.within.block, subst (λ o. IfSome o (λ k. k < 2 ^ 32)) (m.within.all x (has_first p.block)) small)
 
   abbrev N : List Route
   N = with_pieces [] ps

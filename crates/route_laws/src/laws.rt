@@ -1,5 +1,5 @@
 //! Laws of tables: public functions without a body, whose contracts are the laws.
-ghost use Rattle.route_laws.specs.Fewest.{FewestByHalves, FewestOfHost, LeastIsFewest};
+ghost use Rattle.route_laws.specs.Fewest.{FewestByHalves, FewestOfHost, GivenHops, HopsOfTable, LeastIsFewest};
 ghost use Rattle.route_laws.specs.Laws.{AllThenDel, BlocksOfChoices, ChangedByChoices, ChoicesAfter, ChoicesHaveOneHop, MatchOfChoices, NetworkRestored, NoneIsFree, OthersAreFree, RoutesAreTable, RoutesOfAdd, RoutesOfDel, RoutesOfOverwrite, SameTables, StaysStored, MatchIsLongest, GovernedMatch, GovernedBound, StaysTable, ChangedIsMaximal, AddedHaveOneHop, LeftHaveOneHop, ChangedByAdd, ChangedByDel, BlocksOfAdd, BlocksOfDel, GovernedAfter, AddThenDel, OtherFamilyAfterAdd, OtherFamilyAfterDel, FlatIsShortest, ShortestIsFlat, FlatIsAdmissible, SameFlat, SearchIsFlat, OwnIsMaximal, FlatIsBounded, FlatRebuilds, OverwriteIsTable, HopsOfOverwrite, PagesAreRoutes, PagesEnd, MembersAfterAdd, MembersAfterDel, MatchAfterAdd, MatchAfterDel, ChangedIsShortest, ShortestIsChanged, MaximalIsChanged, EmptyIsFlat, OneRouteIsChanged, OneRouteHops, OneRouteIsFlat};
 
 pub use route_choices::laws::choices;
@@ -119,9 +119,12 @@ pub fn changed_networks()
 
 /// The fewest routes inside a block by which each of its addresses has a given hop, where the routes outside hand down a
 /// hop or none: for the block of one address; and for any other by what its halves need. A least table has as many as all
-/// IPv4 addresses and all IPv6 addresses need where nothing is handed down.
+/// IPv4 addresses and all IPv6 addresses need where nothing is handed down. The hops of a table are numbers that a route can
+/// have, as `host` and `halves` ask of them, and so are the hops that some table gives.
 pub fn fewest()
     ensures host { FewestOfHost }
     ensures halves { FewestByHalves }
     ensures least { LeastIsFewest }
+    ensures hops { HopsOfTable }
+    ensures given { GivenHops }
 {}
