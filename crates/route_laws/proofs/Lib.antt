@@ -14,9 +14,10 @@ pub mod Alterations
 pub mod Overwritten
 pub mod Paging
 pub mod FlatBounds
-pub mod TableHops
-pub mod Rebuilds
 pub mod Listed
+pub mod TableHops
+pub mod FlatTables
+pub mod Rebuilds
 pub mod Held
 pub mod OneRoute
 pub mod Insides
