@@ -18,6 +18,7 @@ pub mod Listed
 pub mod TableHops
 pub mod FlatTables
 pub mod Rebuilds
+pub mod Readded
 pub mod Held
 pub mod OneRoute
 pub mod Insides

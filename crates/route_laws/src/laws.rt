@@ -1,6 +1,6 @@
 //! Laws of tables: public functions without a body, whose contracts are the laws.
 ghost use Rattle.route_laws.specs.Fewest.{FewestByHalves, FewestOfHost, GivenHops, HopsOfTable, LeastIsFewest};
-ghost use Rattle.route_laws.specs.Laws.{AllThenDel, BlocksOfChoices, ChangedByChoices, ChoicesAfter, ChoicesHaveOneHop, MatchOfChoices, NetworkRestored, NoneIsFree, OthersAreFree, RoutesAreTable, RoutesOfAdd, RoutesOfDel, RoutesOfOverwrite, SameTables, StaysStored, MatchIsLongest, GovernedMatch, GovernedBound, StaysTable, ChangedIsMaximal, AddedHaveOneHop, LeftHaveOneHop, ChangedByAdd, ChangedByDel, BlocksOfAdd, BlocksOfDel, GovernedAfter, AddThenDel, OtherFamilyAfterAdd, OtherFamilyAfterDel, FlatIsShortest, ShortestIsFlat, FlatIsAdmissible, SameFlat, SearchIsFlat, OwnIsMaximal, FlatIsBounded, FlatIsTable, FlatRebuilds, OverwriteIsTable, HopsOfOverwrite, PagesAreRoutes, PagesEnd, MembersAfterAdd, MembersAfterDel, MatchAfterAdd, MatchAfterDel, ChangedIsShortest, ShortestIsChanged, MaximalIsChanged, EmptyIsFlat, OneRouteIsChanged, OneRouteHops, OneRouteIsFlat};
+ghost use Rattle.route_laws.specs.Laws.{AllThenDel, BlocksOfChoices, ChangedByChoices, ChoicesAfter, ChoicesHaveOneHop, MatchOfChoices, NetworkRestored, NoneIsFree, OthersAreFree, RoutesAreTable, RoutesOfAdd, RoutesOfDel, RoutesOfOverwrite, SameTables, StaysStored, MatchIsLongest, GovernedMatch, GovernedBound, StaysTable, ChangedIsMaximal, AddedHaveOneHop, LeftHaveOneHop, ChangedByAdd, ChangedByDel, BlocksOfAdd, BlocksOfDel, GovernedAfter, AddThenDel, OtherFamilyAfterAdd, OtherFamilyAfterDel, FlatIsShortest, ShortestIsFlat, FlatIsAdmissible, SameFlat, SearchIsFlat, OwnIsMaximal, FlatIsBounded, FlatIsTable, FlatReadded, FlatRebuilds, ReaddedAreNew, OverwriteIsTable, HopsOfOverwrite, PagesAreRoutes, PagesEnd, MembersAfterAdd, MembersAfterDel, MatchAfterAdd, MatchAfterDel, ChangedIsShortest, ShortestIsChanged, MaximalIsChanged, EmptyIsFlat, OneRouteIsChanged, OneRouteHops, OneRouteIsFlat};
 
 pub use route_choices::laws::choices;
 
@@ -67,7 +67,8 @@ pub fn pages()
 /// A hop function has one flat list: no list of one-hop blocks that covers all hops is shorter, and an
 /// ascending one as short is that list; equal hops have equal flat lists; its blocks of one number are
 /// the maximal blocks of the addresses with that hop. In each family it has at most one block and the lengths of the
-/// stored networks; and an empty table given each of its lines by an `add` has the same hops and the same flat list.
+/// stored networks. Its pieces are a table of routes with its hops; and an empty table given each of its lines by an `add` has
+/// these routes, the same hops and the same flat list: no `add` of them is of a network that is stored already.
 pub fn flat()
     ensures shortest { FlatIsShortest }
     ensures only { ShortestIsFlat }
@@ -78,6 +79,8 @@ pub fn flat()
     ensures bound { FlatIsBounded }
     ensures table { FlatIsTable }
     ensures rebuilds { FlatRebuilds }
+    ensures readded { FlatReadded }
+    ensures new { ReaddedAreNew }
 {}
 
 /// The flat list of the empty table; and of a table of one route with a number what an `add` to the empty table changes,
