@@ -17,3 +17,4 @@ pub mod Turns
 pub mod Beginnings
 pub mod Grammar
 pub mod Rebuilt
+pub mod Rows

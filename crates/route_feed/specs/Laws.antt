@@ -1,11 +1,12 @@
 -- What a follower knows that has read any beginning of what a leader wrote.
-use Rattle.std.specs.Prelude.{◌≡◌, ◌↔◌, ◌<◌, ◌^◌, ℕ, Bool, List, [], ◌∷◌, ◌++◌, None, map, take, length}
+use Rattle.std.specs.Prelude.{◌≡◌, ◌↔◌, ◌<◌, ◌^◌, ℕ, Bool, List, [], ◌∷◌, ◌++◌, Option, None, map, take, length}
 use Rattle.ipnet_addr.specs.Addresses.{Address, IsAddress}
 use Rattle.route_lines.specs.Bytes.{lines, rest}
 use Rattle.route_lines.specs.declared.reply.Closing.TheVariants.{Done}
 use Rattle.route_lines.specs.declared.reply.Reply.TheVariants.{Close}
 use Rattle.route_choices.specs.Choices.{default_preference}
 use Rattle.route_laws.specs.Flats.{flat_of}
+use Rattle.route_laws.specs.LeastTables.{HasHops, IsLeast}
 use Rattle.route_laws.specs.Networks.{Stored, routes_of}
 use Rattle.route_laws.specs.Tables.{Route, IsTable, hop_at}
 use Rattle.route_feed.specs.AddLines.{add_lines}
@@ -62,6 +63,14 @@ alone r = record { block = r.block; choices = record { hop = r.hop; pref = defau
 -- a leader that is given the lines that add the routes of a table has these networks, with these hops, and no others
 abbrev pub LinesRebuild : Type 0
 LinesRebuild = (N : List Route) → IsTable N → table_given (add_lines N) ≡ map alone N
+
+-- so it has the hops of that table
+abbrev pub LinesKeepHops : Type 0
+LinesKeepHops = (h : Address → Option ℕ) (N : List Route) → HasHops h N → HasHops h (routes_of (table_given (add_lines N)))
+
+-- and as few routes; so the lines of a least table make a least table
+abbrev pub LinesStayLeast : Type 0
+LinesStayLeast = (h : Address → Option ℕ) (N : List Route) → IsLeast h N → IsLeast h (routes_of (table_given (add_lines N)))
 
 -- a leader that is given the lines of a least table of what was told in a beginning of the output of another has the hops that
 -- this one had there

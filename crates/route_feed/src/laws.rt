@@ -2,7 +2,7 @@
 ghost use Rattle.std.specs.Prelude.{◌≡◌, ◌↔◌, IsTrue};
 ghost use Rattle.route_feed.specs.declared.error.RunError.{RunError as AnyRunError};
 ghost use Rattle.route_feed.specs.declared.follower.FollowError.{FollowError as AnyFollowError};
-ghost use Rattle.route_feed.specs.Laws.{AllAreAnswered, BeginningsAgree, BeginningsAreReplies, FlatListsAgree, LinesRebuild, NoHopsNoLines, OutputIsFollowed, SameFlatBytes, ShortenedAgree};
+ghost use Rattle.route_feed.specs.Laws.{AllAreAnswered, BeginningsAgree, BeginningsAreReplies, FlatListsAgree, LinesKeepHops, LinesRebuild, LinesStayLeast, NoHopsNoLines, OutputIsFollowed, SameFlatBytes, ShortenedAgree};
 
 use crate::error::RunError;
 use crate::follower::FollowError;
@@ -28,11 +28,14 @@ pub fn same_flat_bytes()
 
 /// A leader with memory that is given the lines of a least table for any beginning of the output of another leader, as
 /// `shorten` writes them, has at every address the hop that this one had there. Its networks are those of the lines, with one
-/// route each. Where no address has a hop, there are no lines.
+/// route each. Where no address has a hop, there are no lines. The lines of any table make a table with the same hops, and
+/// those of a least table, as `RouteTable::least` gives one, a least table.
 pub fn shortened()
     ensures rebuild { LinesRebuild }
     ensures hops { ShortenedAgree }
     ensures nothing { NoHopsNoLines }
+    ensures kept { LinesKeepHops }
+    ensures least { LinesStayLeast }
 {}
 
 /// `==` holds of one error alone; a clone of an error is the same, and cloning never fails.

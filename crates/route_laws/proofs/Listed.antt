@@ -1,15 +1,16 @@
 -- Networks added one after another, ascending; and hops, which do not depend on preferences.
-use Rattle.std.proofs.Common.{◌≡◌, ℕ, ⊎_elim, Bool, true, false, nat_lt, cond, List, [], ◌∷◌, ◌++◌, map, Option, Some, None, refl, ap, ◌∙◌}
+use Rattle.std.proofs.Common.{◌≡◌, ℕ, ⊎_elim, Bool, true, false, nat_lt, cond, List, [], ◌∷◌, ◌++◌, map, Option, Some, None, refl, sym, ap, ◌∙◌, subst}
 use Rattle.std.specs.Option.{option_map}
 use Rattle.ipnet_addr.specs.Addresses.{Address}
 use Rattle.ipnet_addr.proofs.Members.{In}
 use Rattle.ipnet_blocks.specs.Blocks.{Block, IsBefore, host, is_inside}
 use Rattle.route_choices.specs.Choices.{Choice, choices_with}
-use Rattle.route_choices.proofs.Kept.{filter_map_swap}
+use Rattle.route_choices.proofs.Kept.{In-map, filter_map_swap}
 use Rattle.route_laws.specs.Networks.{Stored, choices_at, with_choice, with_choices}
-use Rattle.route_laws.specs.Tables.{Route, covering, hop_at, longer, longest, match_number}
+use Rattle.route_laws.specs.Tables.{Route, IsTable, covering, hop_at, longer, longest, match_number}
+use Rattle.route_laws.proofs.Insides.{Sooner, Sound, rising, sound, table_of}
 use Rattle.route_laws.proofs.Networks.{at_cases}
-use Rattle.route_laws.proofs.Ordered.{before_apart, put_last}
+use Rattle.route_laws.proofs.Ordered.{before_apart, put_last, rising_map}
 
 -- a network that comes after all stored ones
 module _ (T : List Stored) (b : Block) (after : (s : Stored) → In s T → IsBefore s.block b) where
@@ -46,3 +47,8 @@ module _ (pref : ℕ) where
       ap (λ rs. match_number (longest rs)) (filter_map_swap preferring (λ r. is_inside (host x) r.block) M)
       ∙ ap match_number (longest_same (covering M (host x)))
       ∙ number_same (longest (covering M (host x)))
+
+  pub preferring_table : (M : List Route) → IsTable M → IsTable (map preferring M)
+  preferring_table M table = table_of (map preferring M)
+      (λ r i. let t = In-map preferring M r i in subst Sound (sym t.2) (sound M table t.0 t.1))
+      (rising_map Sooner Sooner preferring (λ r s l. l) M (rising M table))
