@@ -5,9 +5,10 @@ use Rattle.route_lines.specs.Bytes.{lines, rest}
 use Rattle.route_lines.specs.declared.reply.Closing.TheVariants.{Done}
 use Rattle.route_lines.specs.declared.reply.Reply.TheVariants.{Close}
 use Rattle.route_choices.specs.Choices.{default_preference}
+use Rattle.route_laws.specs.Changes.{route_for}
 use Rattle.route_laws.specs.Flats.{flat_of}
 use Rattle.route_laws.specs.LeastTables.{HasHops, IsLeast}
-use Rattle.route_laws.specs.Networks.{Stored, routes_of}
+use Rattle.route_laws.specs.Networks.{Stored, IsStoredTable, routes_of}
 use Rattle.route_laws.specs.Tables.{Route, IsTable, hop_at}
 use Rattle.route_feed.specs.AddLines.{add_lines}
 use Rattle.route_feed.specs.Follows.{AreReplies, followed}
@@ -77,6 +78,15 @@ LinesStayLeast = (h : Address → Option ℕ) (N : List Route) → IsLeast h N �
 abbrev pub ShortenedAgree : Type 0
 ShortenedAgree = (bytes front back : List ℕ) (refusals : List Bool) (N : List Route) → output bytes refusals ≡ front ++ back → IsLeastFor front N
     → (x : Address) → IsAddress x → hop_at (routes_of (table_given (add_lines N))) x ≡ hop_at (routes_of (table_told bytes refusals front)) x
+
+-- and so has one that is given the lines that add the flat list of what was told there, as a follower prints it
+abbrev pub RestartedAgree : Type 0
+RestartedAgree = (bytes front back : List ℕ) (refusals : List Bool) → output bytes refusals ≡ front ++ back
+    → (x : Address) → IsAddress x → hop_at (routes_of (table_given (add_lines (map route_for (flat_of (painted (committed (replies_in front)))))))) x ≡ hop_at (routes_of (table_told bytes refusals front)) x
+
+-- the tables of a leader are tables of networks
+abbrev pub ToldIsTable : Type 0
+ToldIsTable = (bytes front : List ℕ) (refusals : List Bool) → IsStoredTable (table_told bytes refusals front)
 
 -- where no address has a hop, there are no lines
 abbrev pub NoHopsNoLines : Type 0

@@ -2,7 +2,7 @@
 ghost use Rattle.std.specs.Prelude.{◌≡◌, ◌↔◌, IsTrue};
 ghost use Rattle.route_feed.specs.declared.error.RunError.{RunError as AnyRunError};
 ghost use Rattle.route_feed.specs.declared.follower.FollowError.{FollowError as AnyFollowError};
-ghost use Rattle.route_feed.specs.Laws.{AllAreAnswered, BeginningsAgree, BeginningsAreReplies, FlatListsAgree, LinesKeepHops, LinesRebuild, LinesStayLeast, NoHopsNoLines, OutputIsFollowed, SameFlatBytes, ShortenedAgree};
+ghost use Rattle.route_feed.specs.Laws.{AllAreAnswered, BeginningsAgree, BeginningsAreReplies, FlatListsAgree, LinesKeepHops, LinesRebuild, LinesStayLeast, NoHopsNoLines, OutputIsFollowed, RestartedAgree, SameFlatBytes, ShortenedAgree, ToldIsTable};
 
 use crate::error::RunError;
 use crate::follower::FollowError;
@@ -11,13 +11,16 @@ use crate::follower::FollowError;
 /// there in `ok`, has each address at the hop that it has in the leader's table after as many commands as replies end
 /// there; and so the flat list of that table. Each line of the beginning is a reply line, so that a follower of it never
 /// answers `Line`. The whole output has a closing line for each line of the input, and a follower of it prints the flat
-/// list of the leader's last table.
+/// list of the leader's last table. Another leader with memory that is given a line `add NET HOP` for each line of a follower's
+/// flat list has these hops too. The tables of a leader are tables of networks with their routes.
 pub fn followed()
     ensures hops { BeginningsAgree }
     ensures flat { FlatListsAgree }
     ensures replies { BeginningsAreReplies }
     ensures answered { AllAreAnswered }
     ensures whole { OutputIsFollowed }
+    ensures restarted { RestartedAgree }
+    ensures table { ToldIsTable }
 {}
 
 /// Two tables print the same bytes for `flat` exactly where each address has the same hop in both.
