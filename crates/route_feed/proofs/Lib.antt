@@ -17,3 +17,5 @@ pub mod Turns
 pub mod Beginnings
 pub mod Grammar
 pub mod Rebuilt
+pub mod Restarted
+pub mod Rows

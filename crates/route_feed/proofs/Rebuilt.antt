@@ -1,9 +1,9 @@
 -- A leader that is given the lines that add the routes of a table.
 use Rattle.std.proofs.Common.{◌≡◌, ◌≢◌, ℕ, ◌≤◌, inl, inr, ⊎_elim, Bool, true, false, nat_lt, cond, List, [], ◌∷◌, ◌++◌, drop, length, map, Some, refl, sym, ap, ◌∙◌, subst, append_assoc, append-nil, arith}
 use Rattle.std.specs.List.{AllByRecursion}
+use Rattle.std.proofs.lemmas.List.{length-map}
 use Rattle.std.proofs.lemmas.Bool.Decides.{nat_tests}
 use Rattle.std.proofs.lemmas.List.Elements.{recursion_from_All}
-use Rattle.ipnet_addr.specs.Addresses.{Address}
 use Rattle.ipnet_addr.proofs.Members.{In, In-cases}
 use Rattle.ipnet_addr.proofs.Ascending.{In-from_All, Rising, Rising-from_pairs}
 use Rattle.ipnet_blocks.specs.Blocks.{IsBlock, IsBefore}
@@ -17,16 +17,18 @@ use Rattle.route_lines.proofs.Commands.{clean_command, short_command}
 use Rattle.route_lines.proofs.PrintedCommands.{prints}
 use Rattle.route_choices.specs.Choices.{Choice, default_preference, is_one_too_many}
 use Rattle.route_choices.specs.Hops.{IsHop}
+use Rattle.route_laws.specs.LeastTables.{HasHops}
 use Rattle.route_laws.specs.Networks.{Stored, best_route, choices_at, routes_of, with_choice}
-use Rattle.route_laws.specs.Tables.{Route, IsTable, hop_at}
+use Rattle.route_laws.specs.Tables.{Route, IsTable}
 use Rattle.route_laws.proofs.NetworksAt.{of_network_at}
-use Rattle.route_laws.proofs.Listed.{added_last, hops_same, none_at}
+use Rattle.route_laws.proofs.Listed.{added_last, hops_same, none_at, preferring, preferring_table}
 use Rattle.route_laws.proofs.Networks.{routes_are_table}
 use Rattle.route_feed.specs.AddLines.{add_command, add_lines}
 use Rattle.route_feed.specs.Commands.{command_in}
-use Rattle.route_feed.specs.Laws.{LinesRebuild, NoHopsNoLines, ShortenedAgree, alone, table_given}
+use Rattle.route_feed.specs.Laws.{LinesKeepHops, LinesRebuild, LinesStayLeast, NoHopsNoLines, ShortenedAgree, alone, table_given}
 use Rattle.route_feed.specs.Output.{at_end, table_after, whole_commands}
 use Rattle.route_feed.specs.Steps.{Turn, is_too_many, may_refuse, step}
+use Rattle.route_feed.specs.Streams.{committed, painted, replies_in}
 use Rattle.route_feed.proofs.Beginnings.{beginnings_agree, empty_is_table}
 use Rattle.route_feed.proofs.Owned.{map_twice}
 use Rattle.route_feed.proofs.Reread.{first_line, is_cut, word_hop}
@@ -118,16 +120,25 @@ lines_rebuild N n =
     ap (λ cs. table_after [] cs []) (given_is N (table_routes N n))
     ∙ all_added N [] (Rising-from_pairs (λ r s. IsBefore r.block s.block) N n.ascending) (λ s r i. absurd i)
 
--- its hops are those of the table
-rebuilt_hops : (N : List Route) → IsTable N → (x : Address) → hop_at (routes_of (table_given (add_lines N))) x ≡ hop_at N x
-rebuilt_hops N n x =
-    ap (λ T. hop_at (routes_of T) x) (lines_rebuild N n)
-    ∙ ap (λ rs. hop_at rs x) (sym (map_twice best_route alone N))
-    ∙ hops_same default_preference N x
+-- its best routes are those of the table, with the default preference
+best_are : (N : List Route) → IsTable N → routes_of (table_given (add_lines N)) ≡ map (preferring default_preference) N
+best_are N n = ap routes_of (lines_rebuild N n) ∙ sym (map_twice best_route alone N)
+
+pub lines_keep_hops : LinesKeepHops
+lines_keep_hops h N has = subst (HasHops h) (sym (best_are N has.table)) (record {
+  table = preferring_table default_preference N has.table;
+  same = λ x a. hops_same default_preference N x ∙ has.same x a;
+})
+
+pub lines_stay_least : LinesStayLeast
+lines_stay_least h N least = record {
+  hops = lines_keep_hops h N least.hops;
+  fewest = λ L has. omega (arith, least.fewest L has, ap length (best_are N least.hops.table), length-map N (preferring default_preference));
+}
 
 pub shortened_agree : ShortenedAgree
 shortened_agree bytes front back refusals N e least x a =
-    rebuilt_hops N least.hops.table x ∙ least.hops.same x a ∙ beginnings_agree bytes front back refusals e x a
+    (lines_keep_hops (painted (committed (replies_in front))) N least.hops).same x a ∙ beginnings_agree bytes front back refusals e x a
 
 no_routes : (N : List Route) → length N ≤ 0 → N ≡ []
 no_routes [] h = refl

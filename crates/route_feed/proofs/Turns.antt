@@ -50,7 +50,7 @@ no_changes : {A : Type 0} (f : A → Reply) → ((x : A) → change_of (f x) ≡
 no_changes f h [] = refl
 no_changes f h (x ∷ xs) = rw (h x) (no_changes f h xs)
 
-In-take : {A : Type 0} (n : ℕ) (xs : List A) (a : A) → In a (take n xs) → In a xs
+pub In-take : {A : Type 0} (n : ℕ) (xs : List A) (a : A) → In a (take n xs) → In a xs
 In-take zero xs a i = absurd (i)
 In-take (suc n) [] a i = absurd (i)
 In-take (suc n) (x ∷ xs) a (inl e) = inl e

@@ -1,12 +1,14 @@
 -- What a follower knows that has read any beginning of what a leader wrote.
-use Rattle.std.specs.Prelude.{◌≡◌, ◌↔◌, ◌<◌, ◌^◌, ℕ, Bool, List, [], ◌∷◌, ◌++◌, None, map, take, length}
+use Rattle.std.specs.Prelude.{◌≡◌, ◌↔◌, ◌<◌, ◌^◌, ℕ, Bool, List, [], ◌∷◌, ◌++◌, Option, None, map, take, length}
 use Rattle.ipnet_addr.specs.Addresses.{Address, IsAddress}
 use Rattle.route_lines.specs.Bytes.{lines, rest}
 use Rattle.route_lines.specs.declared.reply.Closing.TheVariants.{Done}
 use Rattle.route_lines.specs.declared.reply.Reply.TheVariants.{Close}
 use Rattle.route_choices.specs.Choices.{default_preference}
+use Rattle.route_laws.specs.Changes.{route_for}
 use Rattle.route_laws.specs.Flats.{flat_of}
-use Rattle.route_laws.specs.Networks.{Stored, routes_of}
+use Rattle.route_laws.specs.LeastTables.{HasHops, IsLeast}
+use Rattle.route_laws.specs.Networks.{Stored, IsStoredTable, routes_of}
 use Rattle.route_laws.specs.Tables.{Route, IsTable, hop_at}
 use Rattle.route_feed.specs.AddLines.{add_lines}
 use Rattle.route_feed.specs.Follows.{AreReplies, followed}
@@ -63,11 +65,28 @@ alone r = record { block = r.block; choices = record { hop = r.hop; pref = defau
 abbrev pub LinesRebuild : Type 0
 LinesRebuild = (N : List Route) → IsTable N → table_given (add_lines N) ≡ map alone N
 
+-- so it has the hops of that table
+abbrev pub LinesKeepHops : Type 0
+LinesKeepHops = (h : Address → Option ℕ) (N : List Route) → HasHops h N → HasHops h (routes_of (table_given (add_lines N)))
+
+-- and as few routes; so the lines of a least table make a least table
+abbrev pub LinesStayLeast : Type 0
+LinesStayLeast = (h : Address → Option ℕ) (N : List Route) → IsLeast h N → IsLeast h (routes_of (table_given (add_lines N)))
+
 -- a leader that is given the lines of a least table of what was told in a beginning of the output of another has the hops that
 -- this one had there
 abbrev pub ShortenedAgree : Type 0
 ShortenedAgree = (bytes front back : List ℕ) (refusals : List Bool) (N : List Route) → output bytes refusals ≡ front ++ back → IsLeastFor front N
     → (x : Address) → IsAddress x → hop_at (routes_of (table_given (add_lines N))) x ≡ hop_at (routes_of (table_told bytes refusals front)) x
+
+-- and so has one that is given the lines that add the flat list of what was told there, as a follower prints it
+abbrev pub RestartedAgree : Type 0
+RestartedAgree = (bytes front back : List ℕ) (refusals : List Bool) → output bytes refusals ≡ front ++ back
+    → (x : Address) → IsAddress x → hop_at (routes_of (table_given (add_lines (map route_for (flat_of (painted (committed (replies_in front)))))))) x ≡ hop_at (routes_of (table_told bytes refusals front)) x
+
+-- the tables of a leader are tables of networks
+abbrev pub ToldIsTable : Type 0
+ToldIsTable = (bytes front : List ℕ) (refusals : List Bool) → IsStoredTable (table_told bytes refusals front)
 
 -- where no address has a hop, there are no lines
 abbrev pub NoHopsNoLines : Type 0

@@ -2,7 +2,7 @@
 ghost use Rattle.std.specs.Prelude.{◌≡◌, ◌↔◌, IsTrue};
 ghost use Rattle.route_feed.specs.declared.error.RunError.{RunError as AnyRunError};
 ghost use Rattle.route_feed.specs.declared.follower.FollowError.{FollowError as AnyFollowError};
-ghost use Rattle.route_feed.specs.Laws.{AllAreAnswered, BeginningsAgree, BeginningsAreReplies, FlatListsAgree, LinesRebuild, NoHopsNoLines, OutputIsFollowed, SameFlatBytes, ShortenedAgree};
+ghost use Rattle.route_feed.specs.Laws.{AllAreAnswered, BeginningsAgree, BeginningsAreReplies, FlatListsAgree, LinesKeepHops, LinesRebuild, LinesStayLeast, NoHopsNoLines, OutputIsFollowed, RestartedAgree, SameFlatBytes, ShortenedAgree, ToldIsTable};
 
 use crate::error::RunError;
 use crate::follower::FollowError;
@@ -11,13 +11,16 @@ use crate::follower::FollowError;
 /// there in `ok`, has each address at the hop that it has in the leader's table after as many commands as replies end
 /// there; and so the flat list of that table. Each line of the beginning is a reply line, so that a follower of it never
 /// answers `Line`. The whole output has a closing line for each line of the input, and a follower of it prints the flat
-/// list of the leader's last table.
+/// list of the leader's last table. Another leader with memory that is given a line `add NET HOP` for each line of a follower's
+/// flat list has these hops too. The tables of a leader are tables of networks with their routes.
 pub fn followed()
     ensures hops { BeginningsAgree }
     ensures flat { FlatListsAgree }
     ensures replies { BeginningsAreReplies }
     ensures answered { AllAreAnswered }
     ensures whole { OutputIsFollowed }
+    ensures restarted { RestartedAgree }
+    ensures table { ToldIsTable }
 {}
 
 /// Two tables print the same bytes for `flat` exactly where each address has the same hop in both.
@@ -28,11 +31,14 @@ pub fn same_flat_bytes()
 
 /// A leader with memory that is given the lines of a least table for any beginning of the output of another leader, as
 /// `shorten` writes them, has at every address the hop that this one had there. Its networks are those of the lines, with one
-/// route each. Where no address has a hop, there are no lines.
+/// route each. Where no address has a hop, there are no lines. The lines of any table make a table with the same hops, and
+/// those of a least table, as `RouteTable::least` gives one, a least table.
 pub fn shortened()
     ensures rebuild { LinesRebuild }
     ensures hops { ShortenedAgree }
     ensures nothing { NoHopsNoLines }
+    ensures kept { LinesKeepHops }
+    ensures least { LinesStayLeast }
 {}
 
 /// `==` holds of one error alone; a clone of an error is the same, and cloning never fails.

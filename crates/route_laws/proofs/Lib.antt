@@ -14,10 +14,14 @@ pub mod Alterations
 pub mod Overwritten
 pub mod Paging
 pub mod FlatBounds
-pub mod Rebuilds
 pub mod Listed
+pub mod TableHops
+pub mod FlatTables
+pub mod Rebuilds
+pub mod Readded
 pub mod Held
 pub mod OneRoute
 pub mod Insides
 pub mod Fewest
+pub mod Rows
 pub mod Families

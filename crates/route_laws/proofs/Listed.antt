@@ -1,18 +1,16 @@
 -- Networks added one after another, ascending; and hops, which do not depend on preferences.
-use Rattle.std.proofs.Common.{◌≡◌, ℕ, ⊎_elim, Bool, true, false, nat_lt, cond, List, [], ◌∷◌, ◌++◌, filter, map, Option, Some, None, refl, ap, ◌∙◌}
+use Rattle.std.proofs.Common.{◌≡◌, ℕ, ⊎_elim, Bool, true, false, nat_lt, cond, List, [], ◌∷◌, ◌++◌, map, Option, Some, None, refl, sym, ap, ◌∙◌, subst}
 use Rattle.std.specs.Option.{option_map}
-use Rattle.std.proofs.lemmas.Bool.{false_from_ne_true}
 use Rattle.ipnet_addr.specs.Addresses.{Address}
 use Rattle.ipnet_addr.proofs.Members.{In}
-use Rattle.ipnet_blocks.specs.Blocks.{Block, IsBefore, host, is_before, is_inside}
-use Rattle.ipnet_blocks.proofs.BlockLaws.{strict}
-use Rattle.ipnet_blocks.proofs.BlockTests.{before_from_test, test_from_before}
+use Rattle.ipnet_blocks.specs.Blocks.{Block, IsBefore, host, is_inside}
 use Rattle.route_choices.specs.Choices.{Choice, choices_with}
-use Rattle.route_choices.proofs.Kept.{all_kept, filter_map_swap, none_kept}
+use Rattle.route_choices.proofs.Kept.{In-map, filter_map_swap}
 use Rattle.route_laws.specs.Networks.{Stored, choices_at, with_choice, with_choices}
-use Rattle.route_laws.specs.Tables.{Route, covering, hop_at, longer, longest, match_number}
+use Rattle.route_laws.specs.Tables.{Route, IsTable, covering, hop_at, longer, longest, match_number}
+use Rattle.route_laws.proofs.Insides.{Sooner, Sound, rising, sound, table_of}
 use Rattle.route_laws.proofs.Networks.{at_cases}
-use Rattle.route_laws.proofs.Ordered.{before_apart}
+use Rattle.route_laws.proofs.Ordered.{before_apart, put_last, rising_map}
 
 -- a network that comes after all stored ones
 module _ (T : List Stored) (b : Block) (after : (s : Stored) → In s T → IsBefore s.block b) where
@@ -21,11 +19,7 @@ module _ (T : List Stored) (b : Block) (after : (s : Stored) → In s T → IsBe
 
   -- stands last once it is added
   pub added_last : (c : Choice) → with_choice T b c ≡ T ++ record { block = b; choices = c ∷ [] } ∷ []
-  added_last c =
-      let s : Stored = record { block = b; choices = c ∷ [] } in
-      ap (λ cs. with_choices T b (choices_with cs c)) none_at
-      ∙ ap (λ ts. ts ++ s ∷ filter (λ t. is_before b t.block) T) (all_kept (λ t. is_before t.block b) T (λ t i. test_from_before t.block b (after t i)))
-      ∙ ap (λ ts. T ++ s ∷ ts) (none_kept (λ t. is_before b t.block) T (λ t i. false_from_ne_true (is_before b t.block) (λ e. strict t.block b (after t i) (before_from_test b t.block e))))
+  added_last c = ap (λ cs. with_choices T b (choices_with cs c)) none_at ∙ put_last Stored.block T (record { block = b; choices = c ∷ [] }) after
 
 -- routes with one preference
 module _ (pref : ℕ) where
@@ -53,3 +47,8 @@ module _ (pref : ℕ) where
       ap (λ rs. match_number (longest rs)) (filter_map_swap preferring (λ r. is_inside (host x) r.block) M)
       ∙ ap match_number (longest_same (covering M (host x)))
       ∙ number_same (longest (covering M (host x)))
+
+  pub preferring_table : (M : List Route) → IsTable M → IsTable (map preferring M)
+  preferring_table M table = table_of (map preferring M)
+      (λ r i. let t = In-map preferring M r i in subst Sound (sym t.2) (sound M table t.0 t.1))
+      (rising_map Sooner Sooner preferring (λ r s l. l) M (rising M table))

@@ -1,17 +1,22 @@
 -- Lists of things at blocks, ascending by these: one put in the place of any other of its block, or taken out.
-use Rattle.std.proofs.Common.{◌≡◌, ◌⊎◌, inl, inr, ⊎_elim, Bool, true, false, not, List, [], ◌∷◌, ◌++◌, filter, sym, refl, ap, ◌∙◌, subst}
+use Rattle.std.proofs.Common.{◌≡◌, ◌⊎◌, inl, inr, ⊎_elim, Bool, true, false, not, List, [], ◌∷◌, ◌++◌, filter, map, sym, refl, ap, ◌∙◌, subst}
+use Rattle.std.proofs.lemmas.Bool.{false_from_ne_true}
 use Rattle.ipnet_addr.proofs.Members.{In, In-left, In-right, In-cases}
 use Rattle.ipnet_addr.proofs.Ascending.{Rising}
 use Rattle.ipnet_blocks.specs.Blocks.{Block, IsBefore, is_before, same_block}
 use Rattle.ipnet_blocks.proofs.BlockLaws.{strict, total, transitive}
 use Rattle.ipnet_blocks.proofs.BlockTests.{before_from_test, test_from_before, same_from_test, test_from_same}
-use Rattle.route_choices.proofs.Kept.{Rising-kept, Rising-joined, In-from_filter, In-filter}
+use Rattle.route_choices.proofs.Kept.{Rising-kept, Rising-joined, In-from_filter, In-filter, In-map, all_kept, none_kept}
 
 pub before_apart : (a b : Block) → IsBefore a b → a ≡ b → ⊥
 before_apart a b l q = strict b b (subst (λ (c : Block). IsBefore c b) q l) (subst (λ (c : Block). IsBefore c b) q l)
 
 pub same_or_not : (a b : Block) → (a ≡ b) ⊎ (a ≡ b → ⊥)
 same_or_not a b = ⊎_elim (λ l. inr (λ e. before_apart a b l e)) (λ r. ⊎_elim (λ e. inl e) (λ l. inr (λ e. before_apart b a l (sym e))) r) (total a b)
+
+pub rising_map : {A B : Type 0} (R : A → A → Type 0) (S : B → B → Type 0) (f : A → B) → ((a b : A) → R a b → S (f a) (f b)) → (xs : List A) → Rising R xs → Rising S (map f xs)
+rising_map R S f h [] up = tt
+rising_map R S f h (x ∷ xs) up = ((λ y i. let t = In-map f xs y i in subst (λ z. S (f x) z) (sym t.2) (h x t.0 (up.0 t.0 t.1))), rising_map R S f h xs up.1)
 
 module _ {X : Type 0} (at : X → Block) where
   abbrev pub Earlier : X → X → Type 0
@@ -57,6 +62,12 @@ module _ {X : Type 0} (at : X → Block) where
         let l = before_from_test (at y) (at x) (In-from_filter (before x) M y i).1 in
         ⊎_elim (λ e. subst (λ (t : X). Earlier y t) (sym e) l)
         (λ k. transitive (at y) (at x) (at z) l (before_from_test (at x) (at z) (In-from_filter (behind x) M z k).1)) j)
+
+    -- what comes after all others stands last
+    pub put_last : ((y : X) → In y M → Earlier y x) → put M x ≡ M ++ x ∷ []
+    put_last after =
+        ap (λ ys. ys ++ x ∷ filter (behind x) M) (all_kept (before x) M (λ y i. test_from_before (at y) (at x) (after y i)))
+        ∙ ap (λ ys. M ++ x ∷ ys) (none_kept (behind x) M (λ y i. false_from_ne_true (behind x y) (λ e. strict (at y) (at x) (after y i) (before_from_test (at x) (at y) e))))
 
   module _ (M : List X) (b : Block) where
     pub gone_back : (y : X) → In y (without M b) → In y M × (at y ≡ b → ⊥)

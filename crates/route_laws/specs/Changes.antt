@@ -5,6 +5,7 @@ use Rattle.route_choices.specs.Choices.{default_preference}
 use Rattle.route_choices.specs.declared.hop.Hop.TheVariants.{Number}
 use Rattle.route_laws.specs.Tables.{Route, hop_at, with_route}
 use Rattle.route_laws.specs.Flats.{Piece}
+use Rattle.route_laws.specs.Networks.{Stored, with_choice}
 
 -- whether two hops of addresses are the same
 abbrev pub same_number : Option ℕ → Option ℕ → Bool
@@ -25,3 +26,8 @@ route_for p = record { block = p.block; hop = Number p.number; pref = default_pr
 abbrev pub with_pieces : List Route → List Piece → List Route
 with_pieces M [] = M
 with_pieces M (p ∷ ps) = with_pieces (with_route M (route_for p)) ps
+
+-- the networks after an accepted `add` of each piece with the default preference, in order
+abbrev pub with_each : List Stored → List Piece → List Stored
+with_each T [] = T
+with_each T (p ∷ ps) = with_each (with_choice T p.block (record { hop = Number p.number; pref = default_preference })) ps

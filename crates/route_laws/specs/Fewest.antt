@@ -4,8 +4,8 @@ use Rattle.ipnet_addr.specs.Addresses.{Ipv4, Ipv6, Address, IsAddress, width}
 use Rattle.ipnet_blocks.specs.Blocks.{Block, IsBlock, HasAddress, IsInside, family_block, first_of, host, left, right}
 use Rattle.ipnet_blocks.specs.Halves.{IsLesser}
 use Rattle.route_choices.specs.Hops.{number_of}
-use Rattle.route_laws.specs.LeastTables.{IsLeast}
-use Rattle.route_laws.specs.Tables.{Route, IsTable, match_of}
+use Rattle.route_laws.specs.LeastTables.{HasHops, IsLeast}
+use Rattle.route_laws.specs.Tables.{Route, IsTable, hop_at, match_of}
 
 -- the hop of a match; s where there is none
 abbrev pub handed : Option ℕ → Option Route → Option ℕ
@@ -30,6 +30,14 @@ pub record IsFewest (h : Address → Option ℕ) (b : Block) (s : Option ℕ) (n
 -- the hops are numbers that a route can have
 abbrev pub AreHops : (Address → Option ℕ) → Type 0
 AreHops h = (x : Address) → IsAddress x → IfSome (h x) (λ k. k < 2 ^ 32)
+
+-- as the hops of a table are
+abbrev pub HopsOfTable : Type 0
+HopsOfTable = (M : List Route) → IsTable M → AreHops (hop_at M)
+
+-- and those that some table gives
+abbrev pub GivenHops : Type 0
+GivenHops = (h : Address → Option ℕ) (N : List Route) → HasHops h N → AreHops h
 
 -- the block of one address needs no route where the hop of that address is handed down, and else one
 abbrev pub FewestOfHost : Type 0

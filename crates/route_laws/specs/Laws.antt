@@ -1,5 +1,5 @@
 -- The laws of tables, as statements.
-use Rattle.std.specs.Prelude.{◌≡◌, ◌≢◌, ◌⊎◌, false, [], ◌∷◌, ℕ, ◌^◌, ◌≤◌, ◌<◌, if◌then◌else◌, ◌↔◌, ◌==◌, ◌+◌, List, Option, Some, None, MatchOption, Contains, length, sum_by, filter}
+use Rattle.std.specs.Prelude.{◌≡◌, ◌≢◌, ◌⊎◌, false, [], ◌∷◌, ◌++◌, ℕ, ◌^◌, ◌≤◌, ◌<◌, if◌then◌else◌, ◌↔◌, ◌==◌, ◌+◌, List, Option, Some, None, MatchOption, Contains, length, map, sum_by, filter}
 use Rattle.std.specs.List.{flat_map}
 use Rattle.ipnet_addr.specs.Addresses.{Family, Address, IsAddress, same_family}
 use Rattle.ipnet_blocks.specs.Blocks.{Block, IsBlock, HasAddress, IsAscending, has_address, is_inside, host}
@@ -10,7 +10,9 @@ use Rattle.route_choices.specs.declared.hop.Hop.TheVariants.{Number}
 use Rattle.route_choices.specs.Choices.{Choice, AreChoices, best, default_preference, holds_hop, is_one_too_many, choices_with, choices_without}
 use Rattle.route_laws.specs.Tables.{Route, IsTable, IsMatch, is_stored, longer, match_of, match_number, hop_at, Governed, Changed, with_route, without_block}
 use Rattle.route_laws.specs.Flats.{Piece, IsFlat, IsAdmissible, blocks_of, flat_of}
-use Rattle.route_laws.specs.Changes.{changed, with_pieces}
+use Rattle.route_laws.specs.Changes.{changed, route_for, with_each, with_pieces}
+use Rattle.route_laws.specs.Fewest.{AreHops}
+use Rattle.route_laws.specs.LeastTables.{HasHops}
 use Rattle.route_laws.specs.Bounds.{excess, lengths_in, pieces_in}
 use Rattle.route_laws.specs.Onwards.{routes_from}
 use Rattle.route_laws.specs.Overwritten.{overwritten}
@@ -55,6 +57,19 @@ FlatIsBounded = (M : List Route) (ps : List Piece) → IsTable M → IsFlat (hop
 abbrev pub FlatRebuilds : Type 0
 FlatRebuilds = (M : List Route) (ps : List Piece) → IsTable M → IsFlat (hop_at M) ps →
     IsTable (with_pieces [] ps) × ((x : Address) → IsAddress x → hop_at (with_pieces [] ps) x ≡ hop_at M x) × IsFlat (hop_at (with_pieces [] ps)) ps
+
+-- the pieces as routes are a table with these hops
+abbrev pub FlatIsTable : Type 0
+FlatIsTable = (h : Address → Option ℕ) (ps : List Piece) → AreHops h → IsFlat h ps → HasHops h (map route_for ps)
+
+-- so has an empty table of networks; its best routes are the pieces
+abbrev pub FlatReadded : Type 0
+FlatReadded = (h : Address → Option ℕ) (ps : List Piece) → AreHops h → IsFlat h ps →
+    IsStoredTable (with_each [] ps) × (routes_of (with_each [] ps) ≡ map route_for ps) × HasHops h (routes_of (with_each [] ps)) × IsFlat (hop_at (routes_of (with_each [] ps))) ps
+
+-- each of the networks is new when it is added, so that no `add` of them is one too many
+abbrev pub ReaddedAreNew : Type 0
+ReaddedAreNew = (h : Address → Option ℕ) (front back : List Piece) (p : Piece) → IsFlat h (front ++ p ∷ back) → choices_at (with_each [] front) p.block ≡ []
 
 -- the bound on the blocks that n governs
 abbrev pub GovernedBound : Type 0

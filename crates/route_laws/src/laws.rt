@@ -1,6 +1,6 @@
 //! Laws of tables: public functions without a body, whose contracts are the laws.
-ghost use Rattle.route_laws.specs.Fewest.{FewestByHalves, FewestOfHost, LeastIsFewest};
-ghost use Rattle.route_laws.specs.Laws.{AllThenDel, BlocksOfChoices, ChangedByChoices, ChoicesAfter, ChoicesHaveOneHop, MatchOfChoices, NetworkRestored, NoneIsFree, OthersAreFree, RoutesAreTable, RoutesOfAdd, RoutesOfDel, RoutesOfOverwrite, SameTables, StaysStored, MatchIsLongest, GovernedMatch, GovernedBound, StaysTable, ChangedIsMaximal, AddedHaveOneHop, LeftHaveOneHop, ChangedByAdd, ChangedByDel, BlocksOfAdd, BlocksOfDel, GovernedAfter, AddThenDel, OtherFamilyAfterAdd, OtherFamilyAfterDel, FlatIsShortest, ShortestIsFlat, FlatIsAdmissible, SameFlat, SearchIsFlat, OwnIsMaximal, FlatIsBounded, FlatRebuilds, OverwriteIsTable, HopsOfOverwrite, PagesAreRoutes, PagesEnd, MembersAfterAdd, MembersAfterDel, MatchAfterAdd, MatchAfterDel, ChangedIsShortest, ShortestIsChanged, MaximalIsChanged, EmptyIsFlat, OneRouteIsChanged, OneRouteHops, OneRouteIsFlat};
+ghost use Rattle.route_laws.specs.Fewest.{FewestByHalves, FewestOfHost, GivenHops, HopsOfTable, LeastIsFewest};
+ghost use Rattle.route_laws.specs.Laws.{AllThenDel, BlocksOfChoices, ChangedByChoices, ChoicesAfter, ChoicesHaveOneHop, MatchOfChoices, NetworkRestored, NoneIsFree, OthersAreFree, RoutesAreTable, RoutesOfAdd, RoutesOfDel, RoutesOfOverwrite, SameTables, StaysStored, MatchIsLongest, GovernedMatch, GovernedBound, StaysTable, ChangedIsMaximal, AddedHaveOneHop, LeftHaveOneHop, ChangedByAdd, ChangedByDel, BlocksOfAdd, BlocksOfDel, GovernedAfter, AddThenDel, OtherFamilyAfterAdd, OtherFamilyAfterDel, FlatIsShortest, ShortestIsFlat, FlatIsAdmissible, SameFlat, SearchIsFlat, OwnIsMaximal, FlatIsBounded, FlatIsTable, FlatReadded, FlatRebuilds, ReaddedAreNew, OverwriteIsTable, HopsOfOverwrite, PagesAreRoutes, PagesEnd, MembersAfterAdd, MembersAfterDel, MatchAfterAdd, MatchAfterDel, ChangedIsShortest, ShortestIsChanged, MaximalIsChanged, EmptyIsFlat, OneRouteIsChanged, OneRouteHops, OneRouteIsFlat};
 
 pub use route_choices::laws::choices;
 
@@ -67,7 +67,8 @@ pub fn pages()
 /// A hop function has one flat list: no list of one-hop blocks that covers all hops is shorter, and an
 /// ascending one as short is that list; equal hops have equal flat lists; its blocks of one number are
 /// the maximal blocks of the addresses with that hop. In each family it has at most one block and the lengths of the
-/// stored networks; and an empty table given each of its lines by an `add` has the same hops and the same flat list.
+/// stored networks. Its pieces are a table of routes with its hops; and an empty table given each of its lines by an `add` has
+/// these routes, the same hops and the same flat list: no `add` of them is of a network that is stored already.
 pub fn flat()
     ensures shortest { FlatIsShortest }
     ensures only { ShortestIsFlat }
@@ -76,7 +77,10 @@ pub fn flat()
     ensures search { SearchIsFlat }
     ensures own { OwnIsMaximal }
     ensures bound { FlatIsBounded }
+    ensures table { FlatIsTable }
     ensures rebuilds { FlatRebuilds }
+    ensures readded { FlatReadded }
+    ensures new { ReaddedAreNew }
 {}
 
 /// The flat list of the empty table; and of a table of one route with a number what an `add` to the empty table changes,
@@ -119,9 +123,12 @@ pub fn changed_networks()
 
 /// The fewest routes inside a block by which each of its addresses has a given hop, where the routes outside hand down a
 /// hop or none: for the block of one address; and for any other by what its halves need. A least table has as many as all
-/// IPv4 addresses and all IPv6 addresses need where nothing is handed down.
+/// IPv4 addresses and all IPv6 addresses need where nothing is handed down. The hops of a table are numbers that a route can
+/// have, as `host` and `halves` ask of them, and so are the hops that some table gives.
 pub fn fewest()
     ensures host { FewestOfHost }
     ensures halves { FewestByHalves }
     ensures least { LeastIsFewest }
+    ensures hops { HopsOfTable }
+    ensures given { GivenHops }
 {}

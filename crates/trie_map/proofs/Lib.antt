@@ -7,3 +7,4 @@ pub mod Lent
 pub mod Asked
 pub mod Within
 pub mod Spares
+pub mod Governed

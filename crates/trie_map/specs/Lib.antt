@@ -8,5 +8,6 @@ pub mod Made
 pub mod Equal
 pub mod IterMut
 pub mod Retain
+pub mod Laws
 pub mod InnerEqual
 pub mod InnerRoots

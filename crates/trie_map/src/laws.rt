@@ -1,9 +1,17 @@
-//! Laws of the refusals, and those of keys: public functions without a body, whose contracts are the laws.
+//! Laws of matches, of the refusals, and those of keys: public functions without a body, whose contracts are the laws.
 ghost use Rattle.std.specs.Prelude.{◌≡◌, ◌↔◌, IsTrue};
+ghost use Rattle.trie_map.specs.Laws.{GovernedMatch};
 ghost use Rattle.trie_map.specs.declared.refused.Refused.{Refused as AnyRefused};
 
 use crate::refused::Refused;
 pub use trie_keys::laws::networks;
+
+/// A prefix governs what it contains and no longer stored key does. The longest match of what it governs is its own: where
+/// 10.0.0.0/8 and 10.1.0.0/16 are stored, that of 10.2.0.1, which 10.0.0.0/8 governs, and 10.2.0.0/16 too, is 10.0.0.0/8. It
+/// governs no address of 10.1.0.0/16.
+pub fn matches<T>()
+    ensures governed { GovernedMatch T }
+{}
 
 /// `==` holds of one refusal alone; a clone of a refusal is the same one, and cloning never fails.
 pub fn refusals()

@@ -1,5 +1,6 @@
 use Rattle.route_laws.proofs.Families.{least_is_fewest}
 use Rattle.route_laws.proofs.Fewest.{fewest_of_host, fewest_by_halves}
+use Rattle.route_laws.proofs.TableHops.{given_hops, hops_of_table}
 use Rattle.route_laws.proofs.laws.fewest.Goals as goal
 
 pub returns : goal.returns
@@ -7,4 +8,6 @@ returns c = record {
   host = fewest_of_host;
   halves = fewest_by_halves;
   least = least_is_fewest;
+  hops = hops_of_table;
+  given = given_hops;
 }
