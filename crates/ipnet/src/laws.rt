@@ -16,13 +16,15 @@ ghost use Rattle.ipnet.specs.NetworkText.{ReadsIpv4, ReadsIpv6, ipv4_net_text, i
 ghost use Rattle.ipnet.specs.NetworkReader.{ipv4_net_of, ipv6_net_of};
 ghost use Rattle.ipnet.specs.declared.ip_net.IpNet.{IpNet as AnyNet};
 ghost use Rattle.ipnet.specs.declared.subnets.IpSubnets.{IpSubnets as AnySubnets};
+ghost use Rattle.ipnet.specs.declared.text.AddrParseError.{AddrParseError as AnyError};
 
 use crate::ip_net::IpNet;
 use crate::networks::{Ipv4Net, Ipv6Net};
 use crate::subnets::{IpSubnets, Ipv4Subnets, Ipv6Subnets};
+use crate::text::AddrParseError;
 pub use ipnet_addr::laws::{
-    address_number, address_texts, mask_length, range_calls, range_clones, range_equality,
-    range_hashes, range_order, range_stays_empty, same_number,
+    address_number, address_texts, mask_length, prefix_len_errors, range_calls, range_clones,
+    range_equality, range_hashes, range_order, range_stays_empty, same_number,
 };
 pub use ipnet_blocks::laws::{
     aggregated, begins_is_inside, blocks, cuts, hosts, inside_by_numbers, masks, maximal, nested,
@@ -142,4 +144,11 @@ pub fn subnets_hashes()
     ensures v6 { (l : Limits) → ⟦<Ipv6Subnets as Hash>⟧.hash_input l ≡ fed.u128 l.start ++ (fed.u128 l.end ++ fed.u8 l.shortest) }
     ensures either_v4 { (l : Limits) → ⟦<IpSubnets as Hash>⟧.hash_input (IpSubnets.V4 l) ≡ fed.isize (pos 0) ++ ⟦<Ipv4Subnets as Hash>⟧.hash_input l }
     ensures either_v6 { (l : Limits) → ⟦<IpSubnets as Hash>⟧.hash_input (IpSubnets.V6 l) ≡ fed.isize (pos 1) ++ ⟦<Ipv6Subnets as Hash>⟧.hash_input l }
+{}
+
+/// `==` holds of one error of a text alone; a clone of an error is the same, and cloning never fails.
+pub fn addr_parse_errors()
+    ensures equality { (a b : AnyError) → IsTrue (⟦<AddrParseError as PartialEq>⟧.eq a b) ↔ (a ≡ b) }
+    ensures clones { (a b : AnyError) → ⟦<AddrParseError as Clone>⟧.is_clone a b → b ≡ a }
+    ensures made { (a : AnyError) → ⟦<AddrParseError as Clone>⟧.is_infallible a }
 {}

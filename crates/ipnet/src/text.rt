@@ -37,6 +37,9 @@ pub trait Written: Number {
         ensures len { length result.items ≤ longest };
 
     /// The network that these bytes spell.
+    ///
+    /// # Errors
+    /// `AddrParseError` exactly where they spell none.
     fn parse_ascii(bytes: &[u8]) -> Result<Net<Self>, AddrParseError>
         ensures { Parses reads bytes.now result };
 }

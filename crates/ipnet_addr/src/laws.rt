@@ -12,9 +12,11 @@ ghost use Rattle.ipnet_addr.specs.Laws.{GivesEachOnce, StaysEmpty, ShortIsRead, 
 ghost use Rattle.ipnet_addr.specs.Masks.{IsMask};
 ghost use Rattle.ipnet_addr.specs.Ranges.{Ends, IsEndsBefore};
 ghost use Rattle.ipnet_addr.specs.declared.ip_range.IpAddrRange.{IpAddrRange as AnyRange};
+ghost use Rattle.ipnet_addr.specs.declared.mask.PrefixLenError.{PrefixLenError as AnyError};
 
 use crate::addr_range::{Ipv4AddrRange, Ipv6AddrRange};
 use crate::ip_range::IpAddrRange;
+use crate::mask::PrefixLenError;
 use std::hash::Hash;
 
 /// The number of an address is the one that its octets, or its units of 16 bits, write, the most significant first.
@@ -84,4 +86,11 @@ pub fn range_hashes()
     ensures v6 { (e : Ends) → ⟦<Ipv6AddrRange as Hash>⟧.hash_input e ≡ fed.u128 e.start ++ fed.u128 e.end }
     ensures either_v4 { (e : Ends) → ⟦<IpAddrRange as Hash>⟧.hash_input (IpAddrRange.V4 e) ≡ fed.isize (pos 0) ++ ⟦<Ipv4AddrRange as Hash>⟧.hash_input e }
     ensures either_v6 { (e : Ends) → ⟦<IpAddrRange as Hash>⟧.hash_input (IpAddrRange.V6 e) ≡ fed.isize (pos 1) ++ ⟦<Ipv6AddrRange as Hash>⟧.hash_input e }
+{}
+
+/// `==` holds of one error of a length alone; a clone of an error is the same, and cloning never fails.
+pub fn prefix_len_errors()
+    ensures equality { (a b : AnyError) → IsTrue (⟦<PrefixLenError as PartialEq>⟧.eq a b) ↔ (a ≡ b) }
+    ensures clones { (a b : AnyError) → ⟦<PrefixLenError as Clone>⟧.is_clone a b → b ≡ a }
+    ensures made { (a : AnyError) → ⟦<PrefixLenError as Clone>⟧.is_infallible a }
 {}

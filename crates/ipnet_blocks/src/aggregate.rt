@@ -64,6 +64,9 @@ pub trait OfFamily: Copy {
         ensures fits { result.last < 2 ^ width family };
 
     /// Appends the largest blocks of the span, ascending.
+    ///
+    /// # Errors
+    /// `AllocError` where memory is refused; which of the blocks are appended then is open.
     fn push_blocks(blocks: &mut Vec<Self>, span: &Span) -> Result<(), AllocError>
         requires some { HasNumber span.now }
         requires fits { span.now.last < 2 ^ width family }

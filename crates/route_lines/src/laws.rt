@@ -10,8 +10,10 @@ ghost use Rattle.route_lines.specs.declared.command.Command.{Command};
 ghost use Rattle.route_lines.specs.declared.reply.Reply.{Reply};
 ghost use Rattle.route_lines.specs.declared.cutter.Rest.{Rest as AnyRest};
 ghost use Rattle.route_lines.specs.declared.reply.Closing.{Closing as AnyClosing};
+ghost use Rattle.route_lines.specs.declared.NotALine.{NotALine as AnyError};
 ghost use Rattle.route_lines.specs.Lines.{kept_of, answers, fed_all, rest_in, rest_of, lines_in};
 
+use crate::NotALine;
 use crate::command::Command;
 use crate::cutter::Rest;
 use crate::reply::{Closing, Reply};
@@ -63,18 +65,22 @@ pub fn earlier()
     ensures { (text : List ℕ) (a : Reply) → IsEarlierReply text a → IsReply text a }
 {}
 
-/// `==` holds of one command alone, and so of one reply line, closing and rest; a clone is the same, and cloning never fails.
+/// `==` holds of one command alone, and so of one reply line, closing, rest and error; a clone is the same, and cloning never
+/// fails.
 pub fn equality()
     ensures commands { (a b : Command) → IsTrue (⟦<Command as PartialEq>⟧.eq a b) ↔ (a ≡ b) }
     ensures replies { (a b : Reply) → IsTrue (⟦<Reply as PartialEq>⟧.eq a b) ↔ (a ≡ b) }
     ensures closings { (a b : AnyClosing) → IsTrue (⟦<Closing as PartialEq>⟧.eq a b) ↔ (a ≡ b) }
     ensures rests { (a b : AnyRest) → IsTrue (⟦<Rest as PartialEq>⟧.eq a b) ↔ (a ≡ b) }
+    ensures errors { (a b : AnyError) → IsTrue (⟦<NotALine as PartialEq>⟧.eq a b) ↔ (a ≡ b) }
     ensures same_commands { (a b : Command) → ⟦<Command as Clone>⟧.is_clone a b → b ≡ a }
     ensures same_replies { (a b : Reply) → ⟦<Reply as Clone>⟧.is_clone a b → b ≡ a }
     ensures same_closings { (a b : AnyClosing) → ⟦<Closing as Clone>⟧.is_clone a b → b ≡ a }
     ensures same_rests { (a b : AnyRest) → ⟦<Rest as Clone>⟧.is_clone a b → b ≡ a }
+    ensures same_errors { (a b : AnyError) → ⟦<NotALine as Clone>⟧.is_clone a b → b ≡ a }
     ensures made_commands { (a : Command) → ⟦<Command as Clone>⟧.is_infallible a }
     ensures made_replies { (a : Reply) → ⟦<Reply as Clone>⟧.is_infallible a }
     ensures made_closings { (a : AnyClosing) → ⟦<Closing as Clone>⟧.is_infallible a }
     ensures made_rests { (a : AnyRest) → ⟦<Rest as Clone>⟧.is_infallible a }
+    ensures made_errors { (a : AnyError) → ⟦<NotALine as Clone>⟧.is_infallible a }
 {}

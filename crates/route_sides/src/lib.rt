@@ -13,6 +13,7 @@ mod address_family;
 mod family;
 mod flat;
 mod governed;
+pub mod laws;
 mod refused;
 mod routes;
 mod runs;

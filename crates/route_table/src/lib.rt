@@ -4,12 +4,12 @@
 pub use hop_table::HopTable;
 pub use prefix_trie::Refused;
 pub use route_choices::{All, DEFAULT_PREFERENCE, Hop};
-pub use route_laws::laws;
 pub use route_sides::{AddRefused, Flat, Governed, Routes};
 pub use table::{RouteTable, Table};
 
 mod flat;
 mod hop_table;
+pub mod laws;
 mod overwrite;
 mod own_blocks;
 mod shortest;

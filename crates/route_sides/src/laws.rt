@@ -1,0 +1,12 @@
+//! Laws of the refusals of a side: public functions without a body, whose contracts are the laws.
+ghost use Rattle.std.specs.Prelude.{◌≡◌, ◌↔◌, IsTrue};
+ghost use Rattle.route_sides.specs.declared.refused.AddRefused.{AddRefused as AnyRefused};
+
+use crate::refused::AddRefused;
+
+/// `==` holds of one refusal alone; a clone of a refusal is the same one, and cloning never fails.
+pub fn add_refusals()
+    ensures equality { (a b : AnyRefused) → IsTrue (⟦<AddRefused as PartialEq>⟧.eq a b) ↔ (a ≡ b) }
+    ensures clones { (a b : AnyRefused) → ⟦<AddRefused as Clone>⟧.is_clone a b → b ≡ a }
+    ensures made { (a : AnyRefused) → ⟦<AddRefused as Clone>⟧.is_infallible a }
+{}
