@@ -53,4 +53,4 @@ module _ {W : Type 0} (contents : W → Option (List ℕ)) (a b c : Counted W) (
   Added-torn q =
       let all = ap (λ t. add_lines (routes_for done) ++ t) (ap (λ t. t ++ add_lines (routes_for later)) (sym one_line) ∙ sym (add_lines-append ((net, hop) ∷ []) later)) ∙ sym (add_lines-append done ((net, hop) ∷ later)) in
       subst (Torn contents a c) all
-      (Torn-after contents a b c (add_lines (routes_for done)) _ p.appended p.faults (Torn-longer contents b c (command_line (Add net hop default_preference)) (add_lines (routes_for later)) q))
+      (Torn-after contents a b c (add_lines (routes_for done)) _ p (Torn-longer contents b c (command_line (Add net hop default_preference)) (add_lines (routes_for later)) q))

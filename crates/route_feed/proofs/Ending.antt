@@ -188,7 +188,7 @@ module _ {R W : Type 0} (remaining : R → Option (List ℕ)) (contents : W → 
       go (Err e) q =
           let torn = q.1 in
           subst (λ k. FollowEnds remaining contents from to old new (Err k)) (sym q.0)
-          (record { bytes = end.bytes; front = torn.front; back = torn.back; read = end.read; replies = end.replies; is_front = torn.is_front; written = torn.appended }, end.at_end, end.faults, torn.failed)
+          (record { bytes = end.bytes; front = torn.front; back = torn.back; read = end.read; replies = end.replies; is_front = torn.is_front; written = torn.appended; flushes = torn.flushes }, end.at_end, end.faults, torn.failed)
 
 -- where the reader tells its bytes
 pub follow_known : {R W : Type 0} (remaining : R → Option (List ℕ)) (contents : W → Option (List ℕ)) (from to : Counted R) (old new : Counted W) (r : Result Unit RunError) → FollowEnds remaining contents from to old new r

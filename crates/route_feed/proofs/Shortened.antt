@@ -75,6 +75,7 @@ module _ {R W : Type 0} (remaining : R → Option (List ℕ)) (contents : W → 
                 least = is_least;
                 is_front = torn.is_front;
                 written = torn.appended;
+                flushes = torn.flushes;
               },
               end.at_end,
               end.faults,

@@ -31,7 +31,7 @@ module _ {W : Type 0} (contents : W → Option (List ℕ)) (a b c : Counted W) (
   pub Told-torn : Torn contents b c (reply_line line) → Torn contents a c (printed all)
   Told-torn q =
       subst (Torn contents a c) (sym one_more)
-      (Torn-after contents a b c p.done (reply_line line ++ printed later) p.written.appended p.written.faults (Torn-longer contents b c (reply_line line) (printed later) q))
+      (Torn-after contents a b c p.done (reply_line line ++ printed later) p.written (Torn-longer contents b c (reply_line line) (printed later) q))
 
   -- the next line is the last one
   pub Told-last : {T : Type 0} (r : Result T RunError) → later ≡ [] → Closes contents 1 b c r (reply_line line) → Closes contents 1 a c r (printed all)

@@ -1,11 +1,10 @@
 -- Writes one after another.
 use Rattle.std.proofs.Common.{◌≡◌, ℕ, zero, suc, ◌<◌, ◌+◌, Bool, true, false, ◌||◌, codes, List, [], ◌∷◌, ◌++◌, length, Option, Result, Ok, Err, refl, sym, ap, ◌∙◌, subst, append_assoc, append-nil, arith}
-use Rattle.std.specs.Result.{IsErr}
 use Rattle.std.specs.Io.KnownBytes.{Appends}
 use Rattle.std.proofs.KnownBytes.{Appends-nil, Appends-trans}
 use Rattle.route_feed.specs.declared.error.RunError.{RunError}
 use Rattle.route_feed.specs.declared.counted.Counted.{Counted}
-use Rattle.route_feed.specs.Counted.{inner, faults_of, has_bytes, flushes_of, waiting_of, one_more, more_by, more_if, waits_after, Flushed}
+use Rattle.route_feed.specs.Counted.{inner, has_bytes, flushes_of, waiting_of, one_more, more_by, more_if, waits_after, Flushed}
 use Rattle.route_feed.specs.InnerReplies.{Written, Closed, Delivers, Torn, Closes}
 
 or_true : (b : Bool) → (b || true) ≡ true
@@ -58,13 +57,14 @@ module _ {W : Type 0} (contents : W → Option (List ℕ)) where
     waits = q.waits ∙ ap (λ w. has_bytes t || w) p.waits ∙ one_has s t (waiting_of a);
   }
 
-  pub Torn-after : (a b c : Counted W) (s t : List ℕ) → Appends (contents (inner a)) (contents (inner b)) s → faults_of b ≡ faults_of a → Torn contents b c t → Torn contents a c (s ++ t)
-  Torn-after a b c s t p e q = record {
+  pub Torn-after : (a b c : Counted W) (s t : List ℕ) → Written contents a b s → Torn contents b c t → Torn contents a c (s ++ t)
+  Torn-after a b c s t p q = record {
     front = s ++ q.front;
     back = q.back;
     is_front = ap (λ l. s ++ l) q.is_front ∙ sym (append_assoc s q.front q.back);
-    appended = Appends-trans _ _ _ s q.front p q.appended;
-    failed = (q.failed.0 ∙ ap (λ n. n + 1) e, q.failed.1);
+    appended = Appends-trans _ _ _ s q.front p.appended q.appended;
+    failed = (q.failed.0 ∙ ap (λ n. n + 1) p.faults, q.failed.1);
+    flushes = q.flushes ∙ p.flushes;
   }
 
   -- what is torn in a text is torn in a longer one
@@ -75,12 +75,13 @@ module _ {W : Type 0} (contents : W → Option (List ℕ)) where
     is_front = ap (λ l. l ++ t) p.is_front ∙ append_assoc p.front p.back t;
     appended = p.appended;
     failed = p.failed;
+    flushes = p.flushes;
   }
 
   -- the end of a reply after its beginning
   pub Closes-written : {T : Type 0} (a b c : Counted W) (r : Result T RunError) (s t : List ℕ) → Written contents a b s → Closes contents 1 b c r t → Closes contents 1 a c r (s ++ t)
   Closes-written a b c (Ok x) s t p q = record { appended = Appends-trans _ _ _ s t p.appended q.appended; faults = q.faults ∙ p.faults; flushed = (q.flushed.0 ∙ ap one_more p.flushes, q.flushed.1) }
-  Closes-written a b c (Err e) s t p q = (q.0, Torn-after a b c s t p.appended p.faults q.1)
+  Closes-written a b c (Err e) s t p q = (q.0, Torn-after a b c s t p q.1)
 
   -- the end of a text after its beginning, and then all is flushed
   pub Delivers-after : {T : Type 0} (a b c : Counted W) (r : Result T RunError) (s : List ℕ) → Written contents a b s → Delivers contents b c r [] → Delivers contents a c r s
@@ -89,7 +90,7 @@ module _ {W : Type 0} (contents : W → Option (List ℕ)) where
     faults = q.faults ∙ p.faults;
     flushed = (q.flushed.0 ∙ ap (λ w. more_if w (flushes_of b)) p.waits ∙ ap (more_if (has_bytes s || waiting_of a)) p.flushes, q.flushed.1);
   }
-  Delivers-after a b c (Err e) s p q = (q.0, subst (Torn contents a c) (append-nil s) (Torn-after a b c s [] p.appended p.faults q.1))
+  Delivers-after a b c (Err e) s p q = (q.0, subst (Torn contents a c) (append-nil s) (Torn-after a b c s [] p q.1))
 
   -- a flush of bytes that waited closes a reply
   pub Closes-delivered : {T : Type 0} (a b : Counted W) (r : Result T RunError) → waiting_of a ≡ true → Delivers contents a b r [] → Closes contents 1 a b r []
@@ -104,12 +105,5 @@ module _ {W : Type 0} (contents : W → Option (List ℕ)) where
   Closed-nil w = record { appended = Appends-nil (contents w.device); faults = refl; flushed = (refl, refl) }
 
   -- replies after replies
-  pub Closes-after : {A T : Type 0} (xs ys : List A) (a b c : Counted W) (r : Result T RunError) (s t : List ℕ)
-      → Closed contents (length xs) a b s → Closes contents (length ys) b c r t → Closes contents (length (xs ++ ys)) a c r (s ++ t)
-  Closes-after xs ys a b c (Ok x) s t p q = record { appended = Appends-trans _ _ _ s t p.appended q.appended; faults = q.faults ∙ p.faults; flushed = Flushed-append xs ys a b c p.flushed q.flushed }
-  Closes-after xs ys a b c (Err e) s t p q = (q.0, Torn-after a b c s t p.appended p.faults q.1)
-
-  -- the writer failed in a text, so in a longer one
-  pub Closes-longer : {T : Type 0} (j k : ℕ) (a b : Counted W) (r : Result T RunError) (s t : List ℕ) → IsErr r → Closes contents j a b r s → Closes contents k a b r (s ++ t)
-  Closes-longer j k a b (Ok x) s t e q = absurd (cc)
-  Closes-longer j k a b (Err x) s t e q = (q.0, Torn-longer a b s t q.1)
+  pub Closed-after : {A : Type 0} (xs ys : List A) (a b c : Counted W) (s t : List ℕ) → Closed contents (length xs) a b s → Closed contents (length ys) b c t → Closed contents (length (xs ++ ys)) a c (s ++ t)
+  Closed-after xs ys a b c s t p q = record { appended = Appends-trans _ _ _ s t p.appended q.appended; faults = q.faults ∙ p.faults; flushed = Flushed-append xs ys a b c p.flushed q.flushed }

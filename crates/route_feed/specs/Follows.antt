@@ -11,7 +11,7 @@ use Rattle.route_laws.specs.Flats.{flat_of}
 use Rattle.route_feed.specs.declared.counted.Counted.{Counted}
 use Rattle.route_feed.specs.declared.error.RunError.{RunError}
 use Rattle.route_feed.specs.declared.error.RunError.TheVariants as Why
-use Rattle.route_feed.specs.Counted.{inner, faults_of, FailedLast, Flushed, ReadFault}
+use Rattle.route_feed.specs.Counted.{inner, faults_of, flushes_of, FailedLast, Flushed, ReadFault}
 use Rattle.route_feed.specs.Replies.{printed}
 use Rattle.route_feed.specs.Steps.{flat_line}
 use Rattle.route_feed.specs.Streams.{committed, painted, pending_over, replies_in, WantsMemory}
@@ -58,7 +58,7 @@ module _ {R W : Type 0} (remaining : R → Option (List ℕ)) (contents : W → 
     pub replies : AreReplies (lines bytes)
     pub written : Appends (contents (inner old)) (contents (inner new)) (followed bytes)
 
-  -- the same, but only a beginning was written
+  -- the same, but only a beginning was written, and not flushed
   pub record FollowsPart (from to : Counted R) (old new : Counted W) : Type 0 where
     pub bytes : List ℕ
     pub front : List ℕ
@@ -67,6 +67,7 @@ module _ {R W : Type 0} (remaining : R → Option (List ℕ)) (contents : W → 
     pub replies : AreReplies (lines bytes)
     pub is_front : followed bytes ≡ front ++ back
     pub written : Appends (contents (inner old)) (contents (inner new)) front
+    pub flushes : flushes_of new ≡ flushes_of old
 
   -- at `Ok` all was read, each line is a reply line, the flat list was written and flushed, and nothing failed; at `Read`
   -- each line so far is one, and the reader failed, in its last call; at `Line` one of them is none; at `Write` all was read,

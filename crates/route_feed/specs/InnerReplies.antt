@@ -40,13 +40,14 @@ module _ {W : Type 0} (contents : W → Option (List ℕ)) where
     pub faults : faults_of new ≡ faults_of old
     pub flushed : Flushed times old new
 
-  -- a beginning of the text was written, and then the writer failed
+  -- a beginning of the text was written, nothing of it was flushed, and then the writer failed
   pub record Torn (old new : Counted W) (text : List ℕ) : Type 0 where
     pub front : List ℕ
     pub back : List ℕ
     pub is_front : text ≡ front ++ back
     pub appended : Appends (contents (inner old)) (contents (inner new)) front
     pub failed : FailedLast old new
+    pub flushes : flushes_of new ≡ flushes_of old
 
   -- the text was written, or a beginning of it and then the writer failed
   abbrev pub Writes : {T : Type 0} → Counted W → Counted W → Result T RunError → List ℕ → Type 0
@@ -58,7 +59,7 @@ module _ {W : Type 0} (contents : W → Option (List ℕ)) where
   Delivers old new (Ok x) text = Delivered old new text
   Delivers old new (Err e) text = (e ≡ Write) × Torn old new text
 
-  -- the text of so many replies was written, and each was flushed; or a beginning of it, and then the writer failed
+  -- the text of one reply or of none was written, and flushed; or a beginning of it, and then the writer failed
   abbrev pub Closes : {T : Type 0} → ℕ → Counted W → Counted W → Result T RunError → List ℕ → Type 0
   Closes times old new (Ok x) text = Closed times old new text
   Closes times old new (Err e) text = (e ≡ Write) × Torn old new text

@@ -1,5 +1,5 @@
 -- The whole output, as a function of the bytes and of the refusals.
-use Rattle.std.specs.Prelude.{ℕ, drop, Bool, false, List, [], ◌∷◌, ◌++◌, if◌then◌else◌, Option, None, map}
+use Rattle.std.specs.Prelude.{◌≡◌, ℕ, suc, ◌<◌, drop, take, length, Bool, false, List, [], ◌∷◌, ◌++◌, if◌then◌else◌, Option, None, map}
 use Rattle.route_lines.specs.Bytes.{rest}
 use Rattle.route_lines.specs.Lines.{lines_in}
 use Rattle.route_lines.specs.declared.command.Command.{Command}
@@ -30,6 +30,14 @@ abbrev pub table_after : List Stored → List (Option Command) → List Bool →
 table_after M [] refusals = M
 table_after M (command ∷ commands) refusals =
     table_after (turn.step M command (first_or_false refusals)).next commands (refusals_after M command refusals)
+
+-- the text is the printed replies to so many of the commands, and then a beginning of the reply to the next one, or all of it
+pub record IsCutAfter (M : List Stored) (commands : List (Option Command)) (refusals : List Bool) (answered : ℕ) (text : List ℕ) : Type 0 where
+  pub begun : List ℕ
+  pub missing : List ℕ
+  pub another : answered < length commands
+  pub is : text ≡ printed (replies M (take answered commands) refusals) ++ begun
+  pub next : printed (replies M (take (suc answered) commands) refusals) ≡ text ++ missing
 
 -- the commands of the whole lines
 abbrev pub whole_commands : List ℕ → List (Option Command)

@@ -8,7 +8,7 @@ use Rattle.route_feed.specs.declared.counted.Counted.{Counted}
 use Rattle.route_feed.specs.declared.error.RunError.{RunError}
 use Rattle.route_feed.specs.declared.error.RunError.TheVariants as Why
 use Rattle.route_feed.specs.AddLines.{add_lines}
-use Rattle.route_feed.specs.Counted.{inner, faults_of, FailedLast, FlushedAll, ReadFault}
+use Rattle.route_feed.specs.Counted.{inner, faults_of, flushes_of, FailedLast, FlushedAll, ReadFault}
 use Rattle.route_feed.specs.Follows.{AreReplies, MeetsAnother, MeetsReplies, MeetsWant}
 use Rattle.route_feed.specs.Streams.{committed, painted, replies_in}
 
@@ -32,7 +32,7 @@ module _ {R W : Type 0} (remaining : R → Option (List ℕ)) (contents : W → 
     pub written : Appends (contents (inner old)) (contents (inner new)) (add_lines routes)
     pub flushed : FlushedAll (add_lines routes) old new
 
-  -- the same, but only a beginning was written
+  -- the same, but only a beginning was written, and not flushed
   pub record ShortensPart (from to : Counted R) (old new : Counted W) : Type 0 where
     pub bytes : List ℕ
     pub routes : List Route
@@ -43,6 +43,7 @@ module _ {R W : Type 0} (remaining : R → Option (List ℕ)) (contents : W → 
     pub least : IsLeastFor bytes routes
     pub is_front : add_lines routes ≡ front ++ back
     pub written : Appends (contents (inner old)) (contents (inner new)) front
+    pub flushes : flushes_of new ≡ flushes_of old
 
   -- at `Ok` all was read, each line is a reply line, the lines of a least table were written and flushed, and nothing failed;
   -- at `Read` each line so far is one, and the reader failed, in its last call; at `Line` one of them is none; at `Write` all was

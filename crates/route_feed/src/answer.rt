@@ -1,5 +1,5 @@
 //! One line answered.
-ghost use Rattle.std.specs.Prelude.{◌≡◌, ◌≢◌, [], ◌∷◌, ◌++◌, List, Some, map};
+ghost use Rattle.std.specs.Prelude.{◌≡◌, ◌≢◌, [], ◌∷◌, ◌++◌, IsErr, List, Some, map};
 ghost use Rattle.ipnet.specs.IpNets.{block};
 ghost use Rattle.ipnet_blocks.specs.Blocks.{Block};
 ghost use Rattle.ipnet_blocks.specs.Maximal.{IsMaximal};
@@ -48,7 +48,8 @@ pub fn answer<W: Write>(
 /// `Write` alone: at an error of `write` or `flush`, or where `write` takes nothing. Then a beginning of the reply was written.
 pub fn answer_rest<W: Write>(rest: Rest, writer: &mut Counted<W>) -> Result<(), RunError>
     requires { CanCount writer.old }
-    ensures { Closes W.contents (replies_to_rest rest) writer.old writer.new result (reply_to_rest rest) }
+    ensures closes { Closes W.contents (replies_to_rest rest) writer.old writer.new result (reply_to_rest rest) }
+    ensures held { IsErr result → rest ≡ Rest.Held }
 {
     match rest {
         Rest::Empty => Ok(()),

@@ -35,13 +35,13 @@ impl<W: Write> Sink<W> for RouteTable {
 /// answered `refused`, and changes nothing. What is written is
 /// a function of the bytes read and of the refusals met, whatever pieces the bytes came in; a reader or
 /// a writer that doesn't tell its bytes, as a file, is used alike, and nothing is claimed of its bytes.
-/// The writer is flushed after each reply.
+/// The writer is flushed after each reply, before the next one is begun.
 ///
 /// # Errors
 /// `Memory` before anything is read or written; `Read` at an error of `read`, after the replies to the
 /// whole lines before it, or where 2^62 calls of `read` didn't reach the end; `Write` at an error of
-/// `write` or `flush`, or where `write` takes nothing: then a beginning of the output was written.
-/// Never `Line`.
+/// `write` or `flush`, or where `write` takes nothing: then a beginning of the output was written, and
+/// each reply before the last one in it was flushed. Never `Line`.
 pub fn lead<R: Read, W: Write>(
     alloc: Global,
     reader: &mut Counted<R>,

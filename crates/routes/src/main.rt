@@ -3,9 +3,12 @@
 
 ghost use Rattle.std.specs.Io.Buffered.{writer_contents};
 ghost use Rattle.std.specs.Io.KnownBytes.{Keeps};
-ghost use Rattle.std.specs.Prelude.{◌≡◌, ◌<◌, ◌^◌, ◌⊎◌, IfErr, IfOk, IfSome, IsErrOf, OnOk};
+ghost use Rattle.std.specs.Prelude.{◌≡◌, ◌↔◌, ◌<◌, ◌^◌, ◌⊎◌, [], ◌∷◌, drop, map, IfErr, IfOk, IfSome, IsErrOf, Ok, OnOk};
+ghost use Rattle.std.specs.String.{string_bytes};
+ghost use Rattle.std.specs.Vec.Iter.{into_iter_items};
 ghost use Rattle.route_feed.specs.Counted.{ReadFault, faults_of, inner, reads_of};
 ghost use Rattle.route_feed.specs.Follows.{MeetsAnother};
+ghost use Rattle.routes.specs.Asked.{AnyMode, word_of};
 ghost use Rattle.routes.specs.Runs.{Ends, Writes};
 ghost use Rattle.routes.specs.Status.{status_of};
 
@@ -15,10 +18,10 @@ mod output;
 use input::Input;
 use output::Output;
 use route_feed::{Counted, RunError, follow_leaking, lead_leaking, shorten};
-use std::alloc::Global;
+use std::alloc::{Allocator, Global};
 use std::cell::Cell;
 use std::env;
-use std::env::Env;
+use std::env::{Args, Env};
 use std::io::{BufWriter, Read, Write};
 use std::process::ExitCode;
 use thiserror::Error;
@@ -67,20 +70,29 @@ impl Fault {
     }
 }
 
-// The mode that the arguments name.
-fn asked_mode<R: Env + Alloc>(rt: &R) -> Result<Mode, Fault> {
-    let Ok(mut args) = env::args(rt) else {
-        return Err(Fault::Arguments);
-    };
-    let _program = args.next();
-    let first = args.next();
-    if args.next().is_some() {
-        return Err(Fault::Usage);
+// The mode that the arguments ask for.
+fn asked_mode<R: Env + Alloc>(rt: &R) -> Result<Mode, Fault>
+    ensures { IfErr result (λ e. (e ≡ Fault.Arguments) ⊎ (e ≡ Fault.Usage)) }
+{
+    match env::args(rt) {
+        Ok(args) => mode_of(args),
+        Err(_) => Err(Fault::Arguments),
     }
-    match first {
-        Some(word) if word.as_str() == "lead" => Ok(Mode::Lead),
-        Some(word) if word.as_str() == "follow" => Ok(Mode::Follow),
-        Some(word) if word.as_str() == "least" => Ok(Mode::Least),
+}
+
+// The mode that these arguments ask for: after the program's name stands exactly one word, that of the mode.
+fn mode_of<A: Allocator>(mut args: Args<A>) -> Result<Mode, Fault>
+    ensures asks { (mode : AnyMode) → (result ≡ Ok mode) ↔ (drop 1 (map string_bytes (into_iter_items args)) ≡ word_of mode ∷ []) }
+    ensures usage { IfErr result (λ e. e ≡ Fault.Usage) }
+{
+    let _program = args.next();
+    let (Some(word), None) = (args.next(), args.next()) else {
+        return Err(Fault::Usage);
+    };
+    match word.as_str() {
+        "lead" => Ok(Mode::Lead),
+        "follow" => Ok(Mode::Follow),
+        "least" => Ok(Mode::Least),
         _ => Err(Fault::Usage),
     }
 }

@@ -14,7 +14,7 @@ answer_rest-result-requires g c =
 
 pub returns-clause-ends : goal.returns-clause-ends
 returns-clause-ends g c =
-    lead_ended g.R.Read.remaining g.W.Write.contents c.args.reader.now c.run.new.reader c.args.writer.now c.in-Ok-new.table c.run.new.sink c.in-Ok-new.ensures.networks c.in_ok-rest.rest c.run.new.writer c.in_ok-rest.ensures c.answer_rest-result.new.writer c.answer_rest-result.result c.answer_rest-result.ensures
+    lead_ended g.R.Read.remaining g.W.Write.contents c.args.reader.now c.run.new.reader c.args.writer.now c.in-Ok-new.table c.run.new.sink c.in-Ok-new.ensures.networks c.in_ok-rest.rest c.run.new.writer c.in_ok-rest.ensures c.answer_rest-result.new.writer c.answer_rest-result.result c.answer_rest-result.ensures.closes c.answer_rest-result.ensures.held
 
 pub returns-clause-known : goal.returns-clause-known
 returns-clause-known g c = lead_known g.R.Read.remaining g.W.Write.contents c.args.reader.now c.run.new.reader c.args.writer.now c.answer_rest-result.new.writer c.answer_rest-result.result (returns-clause-ends g c)
