@@ -10,6 +10,7 @@ use Rattle.route_choices.proofs.Kept.{Rising-kept, Rising-joined, none_kept, len
 use Rattle.route_laws.specs.Fewest.{handed, hop_under, GivesInside}
 use Rattle.route_laws.specs.Tables.{Route, IsTable, covering, longer, longest}
 use Rattle.route_laws.proofs.Matches.{AtLeast, best_of, inside_from_test, test_from_inside}
+use Rattle.route_laws.proofs.Ordered.{one_of_block}
 
 abbrev pub Sooner : Route → Route → Type 0
 Sooner r s = IsBefore r.block s.block
@@ -22,6 +23,10 @@ rising M t = Rising-from_pairs Sooner M t.ascending
 
 pub sound : (M : List Route) → IsTable M → (r : Route) → In r M → Sound r
 sound M t r i = (In-from_All (λ s. IsBlock s.block) M t.blocks r i, In-from_All (λ s. IsHop s.hop) M t.hops r i)
+
+-- two routes of a table with one block are one
+pub same_in : (M : List Route) → IsTable M → (r s : Route) → In r M → In s M → r.block ≡ s.block → r ≡ s
+same_in M t = one_of_block Route.block M (rising M t)
 
 pub table_of : (M : List Route) → ((r : Route) → In r M → Sound r) → Rising Sooner M → IsTable M
 table_of M k up = record {

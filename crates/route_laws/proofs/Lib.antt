@@ -25,3 +25,12 @@ pub mod Insides
 pub mod Fewest
 pub mod Rows
 pub mod Families
+pub mod Turning
+pub mod Between
+pub mod FewestOperations
+pub mod Painted
+pub mod Handed
+pub mod OperationCounts
+pub mod Batches
+pub mod Runs
+pub mod OperationRows

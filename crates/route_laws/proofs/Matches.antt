@@ -2,13 +2,14 @@
 use Rattle.std.proofs.Common.{◌≡◌, ◌<◌, ◌≤◌, ◌-◌, ◌/◌, ◌^◌, inl, inr, ⊎_elim, Bool, true, false, cond, nat_lt, List, [], ◌∷◌, filter, Option, Some, None, MatchOption, refl, sym, ap, ◌∙◌, subst, arith}
 use Rattle.std.proofs.lemmas.Bool.Decides.{nat_tests}
 use Rattle.ipnet_addr.specs.Addresses.{Address, IsAddress, width}
-use Rattle.ipnet_blocks.specs.Blocks.{Block, IsBlock, free_bits, HasAddress, IsInside, IsBefore, is_inside, host, first_of}
+use Rattle.ipnet_blocks.specs.Blocks.{Block, IsBlock, free_bits, HasAddress, IsInside, is_inside, host, first_of}
 use Rattle.ipnet_addr.proofs.Members.{In}
-use Rattle.ipnet_addr.proofs.Ascending.{In-from_Contains, Contains-from_In, In-from_All, Rising, Rising-from_pairs}
-use Rattle.ipnet_blocks.proofs.BlockLaws.{block_path, nested, has_first, strict, inside_by_numbers}
+use Rattle.ipnet_addr.proofs.Ascending.{In-from_Contains, Contains-from_In, In-from_All, Rising-from_pairs}
+use Rattle.ipnet_blocks.proofs.BlockLaws.{block_path, nested, has_first, inside_by_numbers}
 use Rattle.ipnet_blocks.proofs.Parents.{decide_inside}
 use Rattle.ipnet_blocks.proofs.Maximals.{host_is_block, in_host, has_host}
 use Rattle.route_choices.proofs.Kept.{In-from_filter, In-filter}
+use Rattle.route_laws.proofs.Ordered.{Earlier, one_of_block}
 use Rattle.route_laws.specs.Tables.{Route, IsTable, IsMatch, covering, longer, longest, match_of, Governed}
 
 pub filter_same : {A : Type 0} (p q : A → Bool) (xs : List A) → ((a : A) → In a xs → p a ≡ q a) → filter p xs ≡ filter q xs
@@ -52,18 +53,6 @@ pub best_of : (rs : List Route) → MatchOption (longest rs) ((s : Route) → In
 best_of [] = λ s i. i
 best_of (r ∷ rs) = pick r rs (longest rs) (best_of rs)
 
--- a route of a table is told by its block
-pub one_route : (M : List Route) → Rising (λ r s. IsBefore (Route.block r) (Route.block s)) M → (r s : Route) → In r M → In s M → r.block ≡ s.block → r ≡ s
-one_route [] h r s i j e = absurd i
-one_route (t ∷ M) h r s i j e =
-    ⊎_elim
-    (λ p. ⊎_elim (λ q. p ∙ sym q) (λ k. absurd (apart t s (h.0 s k) (sym (ap Route.block p) ∙ e))) j)
-    (λ k. ⊎_elim (λ q. absurd (apart t r (h.0 r k) (sym (ap Route.block q) ∙ sym e))) (λ l. one_route M h.1 r s k l e) j)
-    i
-  where
-    apart : (a b : Route) → IsBefore a.block b.block → a.block ≡ b.block → ⊥
-    apart a b l q = strict b.block b.block (subst (λ (c : Block). IsBefore c b.block) q l) (subst (λ (c : Block). IsBefore c b.block) q l)
-
 module _ (M : List Route) (table : IsTable M) where
   pub block_in : (r : Route) → In r M → IsBlock r.block
   block_in r i = In-from_All (λ s. IsBlock s.block) M table.blocks r i
@@ -101,7 +90,7 @@ module _ (M : List Route) (table : IsTable M) where
             let q = k.longest r m.member m.holds in
             let l : Block.len s.block ≡ Block.len r.block = omega arith in
             let same = same_length s.block r.block (first_of n) (k.holds (first_of n) (has_first n)) (m.holds (first_of n) (has_first n)) l in
-            let one = one_route M (Rising-from_pairs (λ r s. IsBefore r.block s.block) M table.ascending) s r (In-from_Contains M s k.member) (In-from_Contains M r m.member) same in
+            let one = one_of_block Route.block M (Rising-from_pairs (Earlier Route.block) M table.ascending) s r (In-from_Contains M s k.member) (In-from_Contains M r m.member) same in
             e ∙ ap (λ (t : Route). Some t) one
 
     -- the match of an address that n governs is the match of n

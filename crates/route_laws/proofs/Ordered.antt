@@ -8,6 +8,12 @@ use Rattle.ipnet_blocks.proofs.BlockLaws.{strict, total, transitive}
 use Rattle.ipnet_blocks.proofs.BlockTests.{before_from_test, test_from_before, same_from_test, test_from_same}
 use Rattle.route_choices.proofs.Kept.{Rising-kept, Rising-joined, In-from_filter, In-filter, In-map, all_kept, none_kept}
 
+-- of each pair in order the images are in order
+pub Rising-map : {A B : Type 0} (R : A → A → Type 0) (S : B → B → Type 0) (f : A → B) → ((a b : A) → R a b → S (f a) (f b)) → (xs : List A) → Rising R xs → Rising S (map f xs)
+Rising-map R S f h [] up = tt
+Rising-map {A} {B} R S f h (x ∷ xs) up =
+    ((λ y i. let t = In-map f xs y i in subst (S (f x)) (sym t.2) (h x t.0 (up.0 t.0 t.1))), Rising-map R S f h xs up.1)
+
 pub before_apart : (a b : Block) → IsBefore a b → a ≡ b → ⊥
 before_apart a b l q = strict b b (subst (λ (c : Block). IsBefore c b) q l) (subst (λ (c : Block). IsBefore c b) q l)
 

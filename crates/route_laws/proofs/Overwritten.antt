@@ -3,7 +3,7 @@ use Rattle.std.proofs.Common.{◌≡◌, ◌-◌, ◌/◌, ◌^◌, ◌<◌, ◌
 use Rattle.std.proofs.lemmas.Bool.Decides.{nat_tests}
 use Rattle.ipnet_addr.specs.Addresses.{Address, IsAddress, width}
 use Rattle.ipnet_addr.proofs.Members.{In}
-use Rattle.ipnet_addr.proofs.Ascending.{In-from_Contains, Contains-from_In, In-from_All, All-from_In, Rising, Rising-from_pairs, pairs_from_Rising, same_rising}
+use Rattle.ipnet_addr.proofs.Ascending.{In-from_Contains, Contains-from_In, All-from_In, Rising, Rising-from_pairs, pairs_from_Rising, same_rising}
 use Rattle.ipnet_blocks.specs.Blocks.{Block, IsBlock, HasAddress, IsInside, IsLarger, free_bits, is_inside, has_address, host, left, right}
 use Rattle.ipnet_blocks.proofs.BlockLaws.{block_path, nested, numbers_from_inside, same_sets, strict}
 use Rattle.ipnet_blocks.proofs.BlockTests.{has_from_test, test_from_has}
@@ -18,10 +18,11 @@ use Rattle.route_laws.specs.Overwritten.{without_inside, overwritten}
 use Rattle.route_laws.specs.Tables.{Route, IsTable, match_of, match_number, hop_at, with_route}
 use Rattle.route_laws.proofs.Alterations.{host_inside, match_is, no_matches}
 use Rattle.route_laws.specs.Networks.{IsLeaf, Stored, IsStoredTable, best_route, networks_outside, overwritten_by, routes_of}
+use Rattle.route_laws.proofs.Insides.{Sooner, rising, sound, table_of}
 use Rattle.route_laws.proofs.Matches.{block_in, match_meets, inside_from_test, test_from_inside}
 use Rattle.route_laws.proofs.Networks.{routes_with, stored_block, stored_some, stored_choices}
 use Rattle.route_laws.proofs.Ordered.{Earlier, put, put_back, put_itself, put_other, put_rises}
-use Rattle.route_laws.proofs.Updates.{Sooner, added_is_table}
+use Rattle.route_laws.proofs.Updates.{added_is_table}
 
 not_cases : (b : Bool) → not b ≡ true → b ≡ true → ⊥
 not_cases true e f = cc
@@ -202,16 +203,14 @@ routes_overwritten T b c =
     ∙ ap (λ M. with_route M (record { block = b; hop = c.hop; pref = c.pref })) (sym (filter_map_swap best_route (λ r. not (is_inside r.block b)) T))
 
 module _ (M : List Route) (m : IsTable M) (r : Route) (ok : IsBlock r.block) where
+  pub outside_is_table : IsTable (without_inside M r.block)
+  outside_is_table = table_of (without_inside M r.block)
+      (λ s i. sound M m s (In-from_filter (λ s. not (is_inside s.block r.block)) M s i).0)
+      (Rising-kept Sooner (λ s. not (is_inside s.block r.block)) M (rising M m))
+
   module _ (hop : IsHop r.hop) where
     pub over_is_table : IsTable (overwritten M r)
-    over_is_table = added_is_table (without_inside M r.block) (record {
-      blocks = All-from_In (λ s. IsBlock s.block) (without_inside M r.block) (λ s i. block_in M m s (member s i));
-      hops = All-from_In (λ s. IsHop s.hop) (without_inside M r.block) (λ s i. In-from_All (λ s. IsHop s.hop) M m.hops s (member s i));
-      ascending = pairs_from_Rising Sooner (without_inside M r.block) (Rising-kept Sooner (λ s. not (is_inside s.block r.block)) M (Rising-from_pairs Sooner M m.ascending));
-    }) r ok hop
-      where
-        member : (s : Route) → In s (without_inside M r.block) → In s M
-        member s i = (In-from_filter (λ s. not (is_inside s.block r.block)) M s i).0
+    over_is_table = added_is_table (without_inside M r.block) outside_is_table r ok hop
 
     pub over_hops : (x : Address) → IsAddress x → hop_at (overwritten M r) x ≡ cond (has_address r.block x) (number_of r.hop) (hop_at M x)
     over_hops x a = go (has_address r.block x) refl

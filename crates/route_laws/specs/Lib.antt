@@ -8,5 +8,9 @@ pub mod Bounds
 pub mod Onwards
 pub mod Overwritten
 pub mod Pages
+pub mod Operations
+pub mod Batches
+pub mod Runs
 pub mod InnerHops
 pub mod Laws
+pub mod OperationLaws

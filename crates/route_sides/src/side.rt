@@ -109,6 +109,16 @@ impl<P: OfFamily, const ROOM: usize> Side<P, ROOM> {
     {
         self.networks.is_leaf(&net)
     }
+
+    /// The longest match.
+    pub fn get(&self, net: P) -> Option<(IpNet, Hop, u16)>
+        requires { IsBlock (block_of P.family (P.parts net)) }
+        ensures { result ≡ option_map item_of (match_of (routes_of self.now) (block_of P.family (P.parts net))) }
+    {
+        let (found, choices) = self.networks.get_lpm(&net)?;
+        let (hop, pref) = choices.best();
+        Some((found.ip_net(), hop, pref))
+    }
 }
 
 impl<P: OfFamily> Side<P, 8> {
@@ -213,16 +223,6 @@ impl<P: OfFamily> Side<P, 8> {
             Some(choices) => choices.all(),
             None => All::none(),
         }
-    }
-
-    /// The longest match.
-    pub fn get(&self, net: P) -> Option<(IpNet, Hop, u16)>
-        requires { IsBlock (block_of P.family (P.parts net)) }
-        ensures { result ≡ option_map item_of (match_of (routes_of self.now) (block_of P.family (P.parts net))) }
-    {
-        let (found, choices) = self.networks.get_lpm(&net)?;
-        let (hop, pref) = choices.best();
-        Some((found.ip_net(), hop, pref))
     }
 
     /// How many nodes of the trie the search for the longest match visits.

@@ -2,3 +2,4 @@ pub mod Halves
 pub mod Owned
 pub mod FlatPieces
 pub mod LeastBits
+pub mod Looks

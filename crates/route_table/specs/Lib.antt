@@ -1,2 +1,4 @@
 pub mod InnerOwning
 pub mod InnerLeast
+pub mod Operations
+pub mod InnerBetween

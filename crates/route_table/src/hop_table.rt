@@ -33,7 +33,7 @@ impl HopTable {
     }
 
     /// The routes of either family, ascending.
-    fn families(&self) -> (Routes<'_>, Routes<'_>)
+    pub(crate) fn families(&self) -> (Routes<'_>, Routes<'_>)
         ensures routes { result.0 ++ result.1 ≡ routes_of self.now }
         ensures table { IsTable (routes_of self.now) }
         ensures ipv4 { All (λ r. r.block.family ≡ Ipv4) result.0 }

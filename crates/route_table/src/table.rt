@@ -141,22 +141,6 @@ impl RouteTable {
         }
     }
 
-    /// The longest match: of the stored networks that contain this one, itself included, the longest, with its best hop
-    /// and the preference of that one.
-    ///
-    /// # Examples
-    /// Where 10.0.0.0/8 has the hop 1 and `half`, 10.0.0.0/9, the hop 2:
-    ///
-    /// ```rust
-    /// assert_eq!(rt; table.get(&host), Some((half, Hop::Number(2), 100)));
-    /// ```
-    pub fn get(&self, net: &IpNet) -> Option<(IpNet, Hop, u16)>
-        ensures found { result ≡ option_map item_of (match_of (routes_of self.now) (block net.now)) }
-        ensures table { IsTable (routes_of self.now) }
-    {
-        self.longest(&cleared(net))
-    }
-
     /// What `get` answers, and how many nodes of the family's trie the search visited: one, and one for each bit
     /// string of positive length divisible by five that begins both the asked network and a stored one.
     pub fn get_visits(&self, net: &IpNet) -> (Option<(IpNet, Hop, u16)>, u32)
@@ -251,18 +235,6 @@ impl RouteTable {
         }
     }
 
-    /// The longest match.
-    fn longest(&self, net: &IpNet) -> Option<(IpNet, Hop, u16)>
-        requires { IsBlock (block net.now) }
-        ensures found { result ≡ option_map item_of (match_of (routes_of self.now) (block net.now)) }
-        ensures table { IsTable (routes_of self.now) }
-    {
-        match *net {
-            IpNet::V4(net) => self.v4.get(net),
-            IpNet::V6(net) => self.v6.get(net),
-        }
-    }
-
     /// How many nodes the search for the longest match visits.
     fn visits(&self, net: &IpNet) -> u32
         requires { IsBlock (block net.now) }
@@ -299,6 +271,34 @@ impl RouteTable {
 }
 
 impl<const ROOM: usize> Table<ROOM> {
+    /// The longest match: of the stored networks that contain this one, itself included, the longest, with its best hop
+    /// and the preference of that one.
+    ///
+    /// # Examples
+    /// Where 10.0.0.0/8 has the hop 1 and `half`, 10.0.0.0/9, the hop 2:
+    ///
+    /// ```rust
+    /// assert_eq!(rt; table.get(&host), Some((half, Hop::Number(2), 100)));
+    /// ```
+    pub fn get(&self, net: &IpNet) -> Option<(IpNet, Hop, u16)>
+        ensures found { result ≡ option_map item_of (match_of (routes_of self.now) (block net.now)) }
+        ensures table { IsTable (routes_of self.now) }
+    {
+        self.longest(&cleared(net))
+    }
+
+    /// The longest match.
+    fn longest(&self, net: &IpNet) -> Option<(IpNet, Hop, u16)>
+        requires { IsBlock (block net.now) }
+        ensures found { result ≡ option_map item_of (match_of (routes_of self.now) (block net.now)) }
+        ensures table { IsTable (routes_of self.now) }
+    {
+        match *net {
+            IpNet::V4(net) => self.v4.get(net),
+            IpNet::V6(net) => self.v6.get(net),
+        }
+    }
+
     /// The table without networks.
     pub(crate) fn empty(alloc: Global) -> Result<Table<ROOM>, Refused>
         requires some { 0 < ROOM }

@@ -12,6 +12,8 @@ mod flat_lists;
 #[cfg(test)]
 mod least_tables;
 #[cfg(test)]
+mod operations;
+#[cfg(test)]
 mod pieces;
 #[cfg(test)]
 mod walks;

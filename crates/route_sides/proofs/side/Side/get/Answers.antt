@@ -6,7 +6,7 @@ use Rattle.trie_map.specs.Maps.{IsLongestKey}
 use Rattle.route_laws.specs.Tables.{match_of, item_of}
 use Rattle.route_laws.specs.Networks.{routes_of}
 use Rattle.route_sides.proofs.Calls.{longest_is}
-use Rattle.route_sides.proofs.side.Side+P+8.get.Goals as goal
+use Rattle.route_sides.proofs.side.Side.get.Goals as goal
 
 pub get_lpm-requires : goal.get_lpm-requires
 get_lpm-requires g c = g.met.P.OfFamily.always_fits c.args.net

@@ -1,0 +1,136 @@
+-- An installer's table has the hops that were told, and its operations make it.
+use Rattle.std.proofs.Common.{◌≡◌, ℕ, zero, suc, inl, inr, ⊎_elim, arith, Bool, true, false, cond, List, [], ◌∷◌, ◌++◌, take, Option, None, refl, sym, ap, ◌∙◌, subst}
+use Rattle.ipnet_addr.specs.Addresses.{Address, IsAddress}
+use Rattle.route_laws.specs.LeastTables.{IsLeast}
+use Rattle.route_laws.specs.Tables.{Route, IsTable, hop_at}
+use Rattle.route_laws.proofs.Families.{least_too}
+use Rattle.route_laws.proofs.Insides.{table_of}
+use Rattle.route_laws.proofs.Updates.{added_is_table}
+use Rattle.ipnet_addr.proofs.Ascending.{Rising-from_pairs}
+use Rattle.route_laws.specs.Batches.{AreChanges, batch, hop_over, painted, painted_all}
+use Rattle.route_laws.specs.Operations.{IsHitless, after_all}
+use Rattle.route_laws.specs.Runs.{Event, Have, Told, Sync, Installer, IsApart, IsMade, MayCome, MayAllCome, after_event, after_events, gives, start, told}
+use Rattle.route_laws.proofs.Batches.{Apart, Changes, batch_hops, batch_reaches, batch_turns, between_hitless, between_reaches, changes_from}
+use Rattle.route_laws.proofs.Painted.{painted_is_table}
+
+pub nothing_turns : (M : List Route) → IsHitless M []
+nothing_turns M = record { turns = λ x a i j l. inl (go i x) }
+  where
+    go : (i : ℕ) (x : Address) → hop_at (after_all M (take i [])) x ≡ hop_at M x
+    go zero x = refl
+    go (suc i) x = refl
+
+painted_all_is_table : (M rs : List Route) → IsTable M → Changes rs → IsTable (painted_all M rs)
+painted_all_is_table M [] m c = m
+painted_all_is_table M (r ∷ rs) m c =
+    let k = c r (inl refl) in
+    painted_all_is_table (painted M r) rs (painted_is_table M m r k.0 k.1) (λ s i. c s (inr i))
+
+-- a state in which h was told
+pub record Holds (h : Address → Option ℕ) (s : Installer) : Type 0 where
+  pub table : IsTable s.table
+  pub installed : IsTable s.installed
+  pub same : s.kept ≡ true → s.installed ≡ s.table
+  pub hops : (x : Address) → IsAddress x → hop_at s.table x ≡ h x
+
+holds_have : (h : Address → Option ℕ) (s : Installer) (r : Route) → Holds h s → MayCome s (Have r) → Holds h (after_event s (Have r))
+holds_have h s r g m = record {
+  table = g.table;
+  installed = added_is_table s.installed g.installed r m.1 m.2;
+  same = λ e. let f = sym (m.0) ∙ e in absurd (cc);
+  hops = g.hops;
+}
+
+holds_told : (h : Address → Option ℕ) (s : Installer) (rs : List Route) → Holds h s → AreChanges rs → Holds (λ x. hop_over (h x) rs x) (after_event s (Told rs))
+holds_told h s rs g c =
+    let k = changes_from rs c in
+    let t = painted_all_is_table s.table rs g.table k in
+    record {
+      table = t;
+      installed = kept t s.kept;
+      same = same s.kept;
+      hops = λ x a. batch_hops s.table rs g.table k x a ∙ ap (λ o. hop_over o rs x) (g.hops x a);
+    }
+  where
+    kept : IsTable (painted_all s.table rs) → (b : Bool) → IsTable (cond b (painted_all s.table rs) s.installed)
+    kept t true = t
+    kept t false = g.installed
+
+    same : (b : Bool) → b ≡ true → cond b (painted_all s.table rs) s.installed ≡ painted_all s.table rs
+    same true e = refl
+    same false e = absurd (cc)
+
+holds_sync : (h : Address → Option ℕ) (s : Installer) (N : List Route) → Holds h s → IsLeast (hop_at s.table) N → Holds h (after_event s (Sync N))
+holds_sync h s N g l = record {
+  table = l.hops.table;
+  installed = l.hops.table;
+  same = λ e. refl;
+  hops = λ x a. l.hops.same x a ∙ g.hops x a;
+}
+
+holds_after : (es : List Event) (h : Address → Option ℕ) (s : Installer) → Holds h s → MayAllCome s es → Holds (λ x. told (h x) es x) (after_events s es)
+holds_after [] h s g m = g
+holds_after (Have r ∷ es) h s g m = holds_after es h (after_event s (Have r)) (holds_have h s r g m.0) m.1
+holds_after (Told rs ∷ es) h s g m = holds_after es (λ x. hop_over (h x) rs x) (after_event s (Told rs)) (holds_told h s rs g m.0) m.1
+holds_after (Sync N ∷ es) h s g m = holds_after es h (after_event s (Sync N)) (holds_sync h s N g m.0) m.1
+
+holds_start : Holds (λ x. None) start
+holds_start = record {
+  table = table_of [] (λ r i. absurd i) tt;
+  installed = table_of [] (λ r i. absurd i) tt;
+  same = λ e. refl;
+  hops = λ x a. refl;
+}
+
+pub holds : (es : List Event) → MayAllCome start es → Holds (told None es) (after_events start es)
+holds es m = holds_after es (λ x. None) start holds_start m
+
+before_last : (es : List Event) (e : Event) (s : Installer) → MayAllCome s (es ++ e ∷ []) → MayAllCome s es × MayCome (after_events s es) e
+before_last [] e s m = (tt, m.0)
+before_last (d ∷ es) e s m = let t = before_last es e (after_event s d) m.1 in ((m.0, t.0), t.1)
+
+after_last : (es : List Event) (e : Event) (s : Installer) → after_events s (es ++ e ∷ []) ≡ after_event (after_events s es) e
+after_last [] e s = refl
+after_last (d ∷ es) e s = after_last es e (after_event s d)
+
+made : (h : Address → Option ℕ) (s : Installer) (e : Event) → Holds h s → MayCome s e → IsMade s e
+made h s (Have r) g m = refl
+made h s (Told rs) g m = go s.kept (λ e. g.same e)
+  where
+    go : (b : Bool) → (b ≡ true → s.installed ≡ s.table) → after_all s.installed (cond b (batch s.installed rs) []) ≡ cond b (painted_all s.table rs) s.installed
+    go true e = batch_reaches s.installed rs g.installed (changes_from rs m) ∙ ap (λ T. painted_all T rs) (e refl)
+    go false e = refl
+made h s (Sync N) g m = between_reaches s.installed N g.installed m.hops.table
+
+hitless : (h : Address → Option ℕ) (s : Installer) (e : Event) → Holds h s → MayCome s e → IsApart e → IsHitless s.installed (gives s e)
+hitless h s (Have r) g m p = nothing_turns s.installed
+hitless h s (Told rs) g m p = go s.kept
+  where
+    go : (b : Bool) → IsHitless s.installed (cond b (batch s.installed rs) [])
+    go true = record { turns = λ x a i j l. batch_turns s.installed rs g.installed (changes_from rs m) (Rising-from_pairs Apart rs p) x a i j l }
+    go false = nothing_turns s.installed
+hitless h s (Sync N) g m p = between_hitless s.installed N g.installed m.hops.table
+
+pub gives_what_it_says : (es : List Event) (e : Event) → MayAllCome start (es ++ e ∷ []) → IsMade (after_events start es) e
+gives_what_it_says es e m = let t = before_last es e start m in made (told None es) (after_events start es) e (holds es t.0) t.1
+
+pub gives_hitless : (es : List Event) (e : Event) → MayAllCome start (es ++ e ∷ []) → IsApart e → IsHitless (Installer.installed (after_events start es)) (gives (after_events start es) e)
+gives_hitless es e m p = let t = before_last es e start m in hitless (told None es) (after_events start es) e (holds es t.0) t.1 p
+
+pub keeps_hops : (es : List Event) → MayAllCome start es → Installer.kept (after_events start es) ≡ true → (x : Address) → IsAddress x → hop_at (Installer.installed (after_events start es)) x ≡ told None es x
+keeps_hops es m k x a = let g = holds es m in ap (λ T. hop_at T x) (g.same k) ∙ g.hops x a
+
+pub sync_is_least : (es : List Event) (N : List Route) → MayAllCome start (es ++ Sync N ∷ []) → IsLeast (told None es) (Installer.installed (after_events start (es ++ Sync N ∷ [])))
+sync_is_least es N m =
+    let t = before_last es (Sync N) start m in
+    subst (λ (s : Installer). IsLeast (told None es) s.installed) (sym (after_last es (Sync N) start))
+    (least_too (hop_at (Installer.table (after_events start es))) (told None es) (Holds.hops (holds es t.0)) N t.1)
+
+pub sync_is_unseen : (es : List Event) (N : List Route) → MayAllCome start (es ++ Sync N ∷ []) → Installer.kept (after_events start es) ≡ true → (x : Address) → IsAddress x → (i : ℕ)
+    → hop_at (after_all (Installer.installed (after_events start es)) (take i (gives (after_events start es) (Sync N)))) x ≡ hop_at (Installer.installed (after_events start es)) x
+sync_is_unseen es N m k x a i =
+    let t = before_last es (Sync N) start m in
+    let g = holds es t.0 in
+    ⊎_elim (λ e. e)
+    (λ e. e ∙ ap (λ T. hop_at T x) (gives_what_it_says es (Sync N) m) ∙ t.1.hops.same x a ∙ ap (λ T. hop_at T x) (sym (g.same k)))
+    (IsHitless.turns (gives_hitless es (Sync N) m tt) x a i i (omega arith))

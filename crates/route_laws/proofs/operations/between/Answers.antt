@@ -1,0 +1,6 @@
+use Rattle.route_laws.proofs.Batches.{between_hitless, between_reaches}
+use Rattle.route_laws.proofs.FewestOperations.{fewest}
+use Rattle.route_laws.proofs.operations.between.Goals as goal
+
+pub returns : goal.returns
+returns c = record { reaches = between_reaches; hitless = between_hitless; fewest = fewest }

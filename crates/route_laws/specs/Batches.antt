@@ -1,0 +1,48 @@
+-- The operations of changes, each of which gives all addresses of one block one hop.
+use Rattle.std.specs.Prelude.{ℕ, if◌then◌else◌, not, ◌&&◌, List, [], ◌∷◌, ◌++◌, All, AllPairs, Option, filter, map}
+use Rattle.ipnet_addr.specs.Addresses.{Address}
+use Rattle.ipnet_blocks.specs.Blocks.{Block, IsBlock, HasAddress, has_address, is_inside, same_block}
+use Rattle.route_choices.specs.Choices.{default_preference}
+use Rattle.route_choices.specs.declared.hop.Hop.{Hop}
+use Rattle.route_choices.specs.Hops.{IsHop, number_of}
+use Rattle.route_laws.specs.Changes.{same_number}
+use Rattle.route_laws.specs.Operations.{Operation, between}
+use Rattle.route_laws.specs.Overwritten.{overwritten, without_inside}
+use Rattle.route_laws.specs.Tables.{Route, match_of, match_number}
+
+-- The table after all addresses of the block of r got its hop: no route is inside that block but r, and not r either where
+-- the routes outside hand down its hop.
+abbrev pub painted : List Route → Route → List Route
+painted M r = if same_number (match_number (match_of (without_inside M r.block) r.block)) (number_of r.hop) then without_inside M r.block else overwritten M r
+
+-- after one change and the next
+abbrev pub painted_all : List Route → List Route → List Route
+painted_all M [] = M
+painted_all M (r ∷ rs) = painted_all (painted M r) rs
+
+-- the operations of one change and the next
+abbrev pub batch : List Route → List Route → List Operation
+batch M [] = []
+batch M (r ∷ rs) = between M (painted M r) ++ batch (painted M r) rs
+
+-- changes of blocks, to hops
+pub record AreChanges (rs : List Route) : Type 0 where
+  pub blocks : All (λ r. IsBlock r.block) rs
+  pub hops : All (λ r. IsHop r.hop) rs
+
+-- no two of them have an address in common
+abbrev pub AreApart : List Route → Type 0
+AreApart rs = AllPairs (λ r s. (x : Address) → HasAddress r.block x → HasAddress s.block x → ⊥) rs
+
+-- the routes strictly inside a block
+abbrev pub strictly_inside : List Route → Block → List Route
+strictly_inside M n = filter (λ s. is_inside s.block n && not (same_block s.block n)) M
+
+-- the hop of the last change whose block has the address; `now` where none has it
+abbrev pub hop_over : Option ℕ → List Route → Address → Option ℕ
+hop_over now [] x = now
+hop_over now (r ∷ rs) x = hop_over (if has_address r.block x then number_of r.hop else now) rs x
+
+-- blocks whose addresses all get one hop, as a reply tells them
+abbrev pub changes_to : Hop → List Block → List Route
+changes_to hop bs = map (λ b. record { block = b; hop = hop; pref = default_preference }) bs
