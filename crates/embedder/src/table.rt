@@ -1,15 +1,16 @@
 //! A route table.
-ghost use Rattle.std.specs.Prelude.{◌≡◌, Some, IfOk, if◌then◌else◌};
+ghost use Rattle.std.specs.Prelude.{◌≡◌, [], Some, IfOk, OnOk, if◌then◌else◌};
 ghost use Rattle.std.specs.Option.{option_map};
+ghost use Rattle.ipnet_addr.specs.Addresses.{Address, IsAddress};
 ghost use Rattle.ipnet.specs.IpNets.{block};
 ghost use Rattle.ipnet_blocks.specs.Blocks.{is_inside};
 ghost use Rattle.route_choices.specs.Choices.{choices_with};
 ghost use Rattle.route_laws.specs.Networks.{best_route, choices_at, routes_of};
-ghost use Rattle.route_laws.specs.Tables.{longer, match_of, item_of};
+ghost use Rattle.route_laws.specs.Tables.{hop_at, longer, match_of, item_of};
 
 use ipnet::IpNet;
-use route_table::laws::{best_routes, held};
-use route_table::{AddRefused, Hop, RouteTable};
+use route_table::laws::{best_routes, fewest, flat, held};
+use route_table::{AddRefused, DEFAULT_PREFERENCE, Hop, RouteTable};
 
 /// What `get` answers after an accepted `add`: the best route of the network then, where it contains the asked network
 /// and no longer one does, and else what it answered before.
@@ -32,4 +33,20 @@ pub fn routed(
     let _asked = asked.trunc();
     table.add(net, hop, pref)?;
     Ok(table.get(asked))
+}
+
+/// Adds each block of a table's flat list to an empty table: every address has the same hop there.
+///
+/// # Errors
+/// Those of `RouteTable::add`; this contract says nothing of them.
+pub fn rebuilt(table: &RouteTable, empty: &mut RouteTable) -> Result<(), AddRefused>
+    requires { empty.old ≡ [] }
+    ensures { OnOk result ((x : Address) → IsAddress x → hop_at (routes_of empty.new) x ≡ hop_at (routes_of table.now) x) }
+{
+    flat();
+    fewest();
+    for (net, number) in table.flat() {
+        empty.add(net, Hop::Number(number), DEFAULT_PREFERENCE)?;
+    }
+    Ok(())
 }
