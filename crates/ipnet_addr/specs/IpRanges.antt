@@ -5,10 +5,12 @@ use Rattle.ipnet_addr.specs.Ranges.{Ends, IsEndsBefore, numbers}
 use Rattle.ipnet_addr.specs.declared.ip_range.IpAddrRange.{IpAddrRange}
 use Rattle.ipnet_addr.specs.declared.ip_range.IpAddrRange.TheVariants.{V4, V6}
 
+-- its family
 abbrev pub family_of : IpAddrRange → Family
 family_of (V4 e) = Ipv4
 family_of (V6 e) = Ipv6
 
+-- its two ends
 abbrev pub ends_of : IpAddrRange → Ends
 ends_of (V4 e) = e
 ends_of (V6 e) = e

@@ -30,8 +30,10 @@ ReadsGrammar read Spells = ReadsFront read Spells × ReadsWhole read Spells
 abbrev pub ShortIsRead : Type 0
 ShortIsRead = (radix digits max : ℕ) → radix ≤ 36 → ReadsGrammar (read_short radix digits max) (IsShort radix digits max)
 
+-- of IPv4 addresses
 abbrev pub Ipv4IsRead : Type 0
 Ipv4IsRead = ReadsGrammar read_ipv4 IsIpv4
 
+-- of IPv6 addresses
 abbrev pub Ipv6IsRead : Type 0
 Ipv6IsRead = ReadsGrammar read_ipv6 IsIpv6

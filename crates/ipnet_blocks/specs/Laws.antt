@@ -28,9 +28,11 @@ BeginsIsInside = (a b : Block) → IsBlock a → IsBlock b → a.family ≡ b.fa
 abbrev pub OrderIsTotal : Type 0
 OrderIsTotal = (a b : Block) → IsBefore a b ⊎ (a ≡ b) ⊎ IsBefore b a
 
+-- of two blocks one at most comes before the other
 abbrev pub OrderIsStrict : Type 0
 OrderIsStrict = (a b : Block) → IsBefore a b → IsBefore b a → ⊥
 
+-- what comes before the earlier of two comes before the later
 abbrev pub OrderIsTransitive : Type 0
 OrderIsTransitive = (a b c : Block) → IsBefore a b → IsBefore b c → IsBefore a c
 

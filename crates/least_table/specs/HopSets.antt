@@ -3,6 +3,7 @@ use Rattle.std.specs.Prelude.{◌≡◌, ℕ, ◌+◌, Bool, true, false, cond, 
 use Rattle.std.specs.List.{list_any}
 use Rattle.least_table.specs.Tables.{IsFewest}
 
+-- whether two hops are the same, no hop among them
 abbrev pub same_hop : Option ℕ → Option ℕ → Bool
 same_hop None None = true
 same_hop (Some j) (Some k) = j == k

@@ -58,6 +58,7 @@ chain_hops k hops [] = hops
 chain_hops k hops (b ∷ []) = cond (holds hops k) (k ∷ []) (k ∷ hops)
 chain_hops k hops (b ∷ c ∷ ds) = k ∷ []
 
+-- and how many routes more that takes
 abbrev pub chain_fee : Option ℕ → List (Option ℕ) → List Bool → ℕ
 chain_fee k hops [] = 0
 chain_fee k hops (b ∷ ds) = fee (holds hops k)

@@ -27,13 +27,15 @@ MatchIsLongest = (M : List Route) (n : Block) → IsTable M → IsBlock n → (r
 abbrev pub GovernedMatch : Type 0
 GovernedMatch = (M : List Route) (n : Block) (x : Address) → IsTable M → IsBlock n → IsAddress x → Governed M n x → match_of M (host x) ≡ match_of M n
 
--- no admissible list is shorter, and an ascending one as short is the flat list
+-- no admissible list is shorter
 abbrev pub FlatIsShortest : Type 0
 FlatIsShortest = (h : Address → Option ℕ) (ps : List Piece) (bs : List Block) → IsFlat h ps → IsAdmissible h bs → length ps ≤ length bs
 
+-- an ascending list as short is the flat list
 abbrev pub ShortestIsFlat : Type 0
 ShortestIsFlat = (h : Address → Option ℕ) (ps : List Piece) (bs : List Block) → IsFlat h ps → IsAdmissible h bs → IsAscending bs → length bs ≤ length ps → blocks_of ps ≡ bs
 
+-- the flat list is such a list itself
 abbrev pub FlatIsAdmissible : Type 0
 FlatIsAdmissible = (h : Address → Option ℕ) (ps : List Piece) → IsFlat h ps → IsAdmissible h (blocks_of ps)
 
@@ -83,10 +85,11 @@ StaysTable = (M : List Route) → IsTable M → ((r : Route) → IsBlock r.block
 abbrev pub ChangedIsMaximal : Type 0
 ChangedIsMaximal = (M N : List Route) → IsMaximal (Changed M N) (maximal_of (changed M N))
 
--- no list of blocks with those addresses is shorter, and an ascending one as short is that one
+-- no list of blocks with those addresses is shorter
 abbrev pub ChangedIsShortest : Type 0
 ChangedIsShortest = (M N : List Route) → IsShortest (Changed M N) (maximal_of (changed M N))
 
+-- an ascending list as short is that one
 abbrev pub ShortestIsChanged : Type 0
 ShortestIsChanged = (M N : List Route) (bs : List Block) → IsUnion (Changed M N) bs → IsAscending bs → length bs ≤ length (maximal_of (changed M N)) → maximal_of (changed M N) ≡ bs
 
@@ -120,6 +123,7 @@ BlocksOfAdd = (M : List Route) (r : Route) (bs : List Block) → IsTable M → I
     ((match_number (match_of M r.block) ≢ number_of r.hop) → IsMaximal (Changed M (with_route M r)) bs)
     × (match_number (match_of M r.block) ≡ number_of r.hop → IsMaximal (Changed M (with_route M r)) [])
 
+-- the same after a `del`
 abbrev pub BlocksOfDel : Type 0
 BlocksOfDel = (M : List Route) (n : Block) (bs : List Block) → IsTable M → IsBlock n → IsMaximal (Governed M n) bs →
     ((match_number (match_of M n) ≢ match_number (match_of (without_block M n) n)) → IsMaximal (Changed M (without_block M n)) bs)
@@ -157,6 +161,7 @@ OtherFamilyAfterAdd = (M : List Route) (r : Route) → IsTable M → IsBlock r.b
     ((f : Family) → (r.block.family ≡ f → ⊥) → filter (λ s. same_family s.block.family f) (with_route M r) ≡ filter (λ s. same_family s.block.family f) M)
     × ((x : Address) → IsAddress x → (x.family ≡ r.block.family → ⊥) → hop_at (with_route M r) x ≡ hop_at M x)
 
+-- the same after a `del`
 abbrev pub OtherFamilyAfterDel : Type 0
 OtherFamilyAfterDel = (M : List Route) (n : Block) → IsTable M → IsBlock n →
     ((f : Family) → (n.family ≡ f → ⊥) → filter (λ s. same_family s.block.family f) (without_block M n) ≡ filter (λ s. same_family s.block.family f) M)
@@ -174,17 +179,19 @@ one_route b k = record { block = b; hop = Number k; pref = default_preference } 
 abbrev pub OneRouteIsChanged : Type 0
 OneRouteIsChanged = (b : Block) (k : ℕ) → IsBlock b → k < 2 ^ 32 → maximal_of (changed [] (one_route b k)) ≡ b ∷ []
 
--- they have its hop, and its flat list is its block
+-- they have its hop
 abbrev pub OneRouteHops : Type 0
 OneRouteHops = (b : Block) (k : ℕ) (x : Address) → IsBlock b → k < 2 ^ 32 → IsAddress x → hop_at (one_route b k) x ≡ (if has_address b x then Some k else None)
 
+-- and the flat list is that block
 abbrev pub OneRouteIsFlat : Type 0
 OneRouteIsFlat = (b : Block) (k : ℕ) → IsBlock b → k < 2 ^ 32 → flat_of (hop_at (one_route b k)) ≡ record { block = b; number = k } ∷ []
 
--- an `overwrite` leaves a table; all addresses of the block have the new hop then, and all others keep theirs
+-- an `overwrite` leaves a table
 abbrev pub OverwriteIsTable : Type 0
 OverwriteIsTable = (M : List Route) (r : Route) → IsTable M → IsBlock r.block → IsHop r.hop → IsTable (overwritten M r)
 
+-- all addresses of the block have the new hop then, and all others keep theirs
 abbrev pub HopsOfOverwrite : Type 0
 HopsOfOverwrite = (M : List Route) (r : Route) → IsTable M → IsBlock r.block → IsHop r.hop → (x : Address) → IsAddress x →
     hop_at (overwritten M r) x ≡ (if has_address r.block x then number_of r.hop else hop_at M x)
@@ -251,15 +258,18 @@ RoutesOfOverwrite = (T : List Stored) (b : Block) (c : Choice) → routes_of (ov
 
 -- ---- what a change of the choices of a block changes: the same for `add` and `del`
 
+-- just what the block governs changes its hop, where the numbers at its match before and after differ; else nothing does
 abbrev pub ChangedByChoices : Type 0
 ChangedByChoices = (T : List Stored) (b : Block) (cs : List Choice) → IsStoredTable T → IsBlock b → AreChoices cs → (x : Address) → IsAddress x →
     Changed (routes_of T) (routes_of (with_choices T b cs)) x ↔ (Governed (routes_of T) b x × (match_number (match_of (routes_of T) b) ≢ match_number (match_of (routes_of (with_choices T b cs)) b)))
 
+-- so the maximal blocks of the change are those of what the block governs, or none
 abbrev pub BlocksOfChoices : Type 0
 BlocksOfChoices = (T : List Stored) (b : Block) (cs : List Choice) (bs : List Block) → IsStoredTable T → IsBlock b → AreChoices cs → IsMaximal (Governed (routes_of T) b) bs →
     ((match_number (match_of (routes_of T) b) ≢ match_number (match_of (routes_of (with_choices T b cs)) b)) → IsMaximal (Changed (routes_of T) (routes_of (with_choices T b cs))) bs)
     × (match_number (match_of (routes_of T) b) ≡ match_number (match_of (routes_of (with_choices T b cs)) b) → IsMaximal (Changed (routes_of T) (routes_of (with_choices T b cs))) [])
 
+-- and all addresses of these have one hop then
 abbrev pub ChoicesHaveOneHop : Type 0
 ChoicesHaveOneHop = (T : List Stored) (b : Block) (cs : List Choice) → IsStoredTable T → IsBlock b → AreChoices cs → (d : Block) → Contains (maximal_of (changed (routes_of T) (routes_of (with_choices T b cs)))) d →
     (x : Address) → HasAddress d x → hop_at (routes_of (with_choices T b cs)) x ≡ match_number (match_of (routes_of (with_choices T b cs)) b)

@@ -55,10 +55,11 @@ HopsOfBatch = (M rs : List Route) → IsTable M → AreChanges rs → (x : Addre
 abbrev pub ToldAreChanges : Type 0
 ToldAreChanges = (M N : List Route) (bs : List Block) (hop : Hop) → IsMaximal (Changed M N) bs → IsHop hop → AreChanges (changes_to hop bs) × AreApart (changes_to hop bs)
 
--- what the routes outside a block hand down is the match of its parent; to all addresses of a family nothing is
+-- what the routes outside a block hand down is the match of its parent
 abbrev pub HandedByParent : Type 0
 HandedByParent = (M : List Route) (b : Block) → IsTable M → IsBlock b → 0 < b.len → match_of (without_inside M b) b ≡ match_of M (parent b)
 
+-- to all addresses of a family nothing is handed down
 abbrev pub HandedByNone : Type 0
 HandedByNone = (M : List Route) (b : Block) → IsTable M → IsBlock b → b.len ≡ 0 → match_of (without_inside M b) b ≡ None
 

@@ -20,5 +20,6 @@ pages_up_to (suc most) M limit (r ∷ rs) = (r ∷ rs) ∷ pages_up_to most M li
 abbrev pub first_page : List Route → Block → ℕ → List Route
 first_page M n limit = take limit (routes_from M n)
 
+-- the first page, and those after it until none is left
 abbrev pub pages : List Route → Block → ℕ → List (List Route)
 pages M n limit = pages_up_to (length M) M limit (first_page M n limit)

@@ -19,5 +19,6 @@ pub record Seen (X : Type 0) : Type 0 where
   pub spares : BitSet
   pub levels : ℕ
 
+-- how it is coded, where its values are
 abbrev pub code : {X : Type 0} → Coded X → Coded (Seen X)
 code {X} x = code_by (BitMap X × (BitSet × ℕ)) (coded× (map_code (coded_list coded_bool) x) (coded× (map_code (coded_list coded_bool) coded_unit) coded_ℕ)) (λ s. (s.entries, (s.spares, s.levels))) (λ p. record { entries = p.0; spares = p.1.0; levels = p.1.1 }) (λ _. refl)

@@ -10,6 +10,7 @@ pub record SeenMap (X : Type 0) : Type 0 where
   pub entries : BitMap X
   pub spares : BitSet
 
+-- how it is coded, where its values are
 abbrev pub code : {X : Type 0} → Coded X → Coded (SeenMap X)
 code {X} x = code_by (BitMap X × BitSet) (coded× (map_code (coded_list coded_bool) x) (map_code (coded_list coded_bool) coded_unit)) (λ s. (s.entries, s.spares)) (λ p. record { entries = p.0; spares = p.1 }) (λ _. refl)
 
