@@ -9,7 +9,7 @@ use Rattle.route_laws.specs.Changes.{route_for, with_each}
 use Rattle.route_laws.specs.Fewest.{IsFewest}
 use Rattle.route_laws.specs.Flats.{Piece}
 use Rattle.route_laws.specs.Laws.{one_route}
-use Rattle.route_laws.specs.Networks.{routes_of}
+use Rattle.route_laws.specs.Networks.{choices_at, routes_of}
 use Rattle.route_laws.specs.Tables.{Route, IsTable, hop_at}
 use Rattle.route_laws.proofs.Fewest.{fewest_of_host}
 use Rattle.route_laws.proofs.Insides.{table_of}
@@ -48,6 +48,10 @@ upper = record { block = record { family = Ipv4; len = 9; quotient = 21 }; numbe
 -- added to an empty table they are its best routes
 best_row : routes_of (with_each [] (lower ∷ upper ∷ [])) ≡ map route_for (lower ∷ upper ∷ [])
 best_row = refl
+
+-- the second is new when it is added
+new_row : choices_at (with_each [] (lower ∷ [])) (Piece.block upper) ≡ []
+new_row = refl
 
 -- in any order
 order_row : with_each [] (upper ∷ lower ∷ []) ≡ with_each [] (lower ∷ upper ∷ [])

@@ -8,3 +8,4 @@ pub mod Asked
 pub mod Within
 pub mod Spares
 pub mod Governed
+pub mod Rows

@@ -7,8 +7,8 @@ use crate::refused::Refused;
 pub use trie_keys::laws::networks;
 
 /// A prefix governs what it contains and no longer stored key does. The longest match of what it governs is its own: where
-/// 10.0.0.0/8 and 10.1.0.0/16 are stored, that of 10.2.0.1, which 10.0.0.0/8 governs, and 10.2.0.0/16 too, is 10.0.0.0/8. It
-/// governs no address of 10.1.0.0/16.
+/// 10.0.0.0/8 and 10.1.0.0/16 are stored, 10.2.0.0/16 governs 10.2.0.1, and the match of both is 10.0.0.0/8; but 10.0.0.0/8
+/// does not govern 10.1.0.1, whose match is 10.1.0.0/16.
 pub fn matches<T>()
     ensures governed { GovernedMatch T }
 {}
