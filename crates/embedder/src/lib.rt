@@ -6,3 +6,4 @@ pub mod feed;
 pub mod map;
 pub mod over_bytes;
 pub mod table;
+pub mod threads;

@@ -30,7 +30,8 @@ use trie_map::{CoverKeys, IntoKeys, Iter as Entries, Prefix, PrefixMap, Refused}
 /// A set of prefixes: two prefixes are one member where the same bits count.
 ///
 /// It is the map from its members to nothing, and what is said of a map is said of it: the members that are handed
-/// out have zeros after the bits that count, and every call but `remove_keep_tree` keeps a tidy set tidy.
+/// out have zeros after the bits that count, and every call but `remove_keep_tree` keeps a tidy set tidy. It is `Send`
+/// or `Sync` where its members are.
 #[derive(Drop)]
 pub struct PrefixSet<P: Prefix> {
     members: PrefixMap<P, ()>,

@@ -16,7 +16,7 @@ use std::alloc::Global;
 /// the memory that it takes in a `RouteTable`, which has room for eight routes of it.
 ///
 /// Contracts see the list that they see of a `RouteTable`; each network has one route. Only `into_least`, and `overwrite` of
-/// a network that is not stored, take memory.
+/// a network that is not stored, take memory. It is `Send` and `Sync`.
 pub type HopTable = Table<1>;
 
 impl HopTable {

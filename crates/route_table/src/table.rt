@@ -28,7 +28,7 @@ use std::marker::Model;
 ///
 /// Contracts see it as the ascending list of its stored networks, each with its routes, best first; what they say of
 /// matches and hops, they say of the list of the best routes. Host bits of an argument are ignored everywhere. Only
-/// `own`, `least`, and `add` and `overwrite` of a network that is not stored, take memory.
+/// `own`, `least`, and `add` and `overwrite` of a network that is not stored, take memory. It is `Send` and `Sync`.
 pub type RouteTable = Table<8>;
 
 /// A table of networks of both families with room for so many routes of each: `RouteTable` for eight, `HopTable` for one.

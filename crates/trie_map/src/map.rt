@@ -22,7 +22,7 @@ use trie_keys::{Key, Prefix, path_of, shortened};
 ///
 /// As in the Rust crate prefix-trie 0.10.1 a key is stored by its bits alone: the keys that are handed out have
 /// zeros after them. A map that has no node without use is tidy; every call but `remove_keep_tree` and
-/// `OccupiedEntry::remove` keeps it so.
+/// `OccupiedEntry::remove` keeps it so. It is `Send` or `Sync` where its keys and values are.
 #[derive(Drop)]
 pub struct PrefixMap<P: Prefix, T> {
     pub(crate) root: Node<T>,
