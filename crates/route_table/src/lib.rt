@@ -14,6 +14,7 @@ mod flat;
 mod hop_table;
 mod overwrite;
 mod own_blocks;
+mod paint;
 mod shortest;
 mod table;
 mod walks;
