@@ -3,3 +3,4 @@ pub mod Owned
 pub mod FlatPieces
 pub mod LeastBits
 pub mod Looks
+pub mod Paints

@@ -153,19 +153,8 @@ impl HopTable {
     ///
     /// The list is ascending, its networks are without host bits, and none stands in it twice, as `least` gives it.
     ///
-    /// # Examples
-    /// Where `old` has the hop 1 at `wide`, 10.0.0.0/8, and the hop 2 at `half`, 10.0.0.0/9, and `list` has the hop 2 at
-    /// `wide` and the hop 1 at `quarter`, 10.64.0.0/10:
-    ///
-    /// ```rust
-    /// let mut operations = old.between(list.as_slice());
-    /// let (net, hop) = (quarter, Hop::Number(1));
-    /// assert_eq!(rt; operations.next(), Some(Operation::Install { net, hop }));
-    /// let (net, hop) = (wide, Hop::Number(2));
-    /// assert_eq!(rt; operations.next(), Some(Operation::Install { net, hop }));
-    /// assert_eq!(rt; operations.next(), Some(Operation::Remove { net: half }));
-    /// assert_eq!(rt; operations.next(), None);
-    /// ```
+    /// Where this one has the hop 1 at 10.0.0.0/8 and the hop 2 at 10.0.0.0/9, and the list the hop 2 at 10.0.0.0/8 and the
+    /// hop 1 at 10.64.0.0/10, they install 10.64.0.0/10, install 10.0.0.0/8 and remove 10.0.0.0/9.
     pub fn between<'a>(&'a self, list: &'a [(IpNet, Hop)]) -> Between<'a>
         requires table { IsTable (routes_for list.now) }
         requires truncated { All (λ r. IsTruncated (family r.0) (parts r.0)) list.now }

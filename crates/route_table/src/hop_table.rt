@@ -15,8 +15,8 @@ use std::alloc::Global;
 /// A hop for each of some networks of both families, as a follower keeps them. A network takes less than a quarter of
 /// the memory that it takes in a `RouteTable`, which has room for eight routes of it.
 ///
-/// Contracts see the list that they see of a `RouteTable`; each network has one route. Only `into_least`, and `overwrite` of
-/// a network that is not stored, take memory. It is `Send` and `Sync`.
+/// Contracts see the list that they see of a `RouteTable`; each network has one route. Only `least`, `into_least`, and
+/// `overwrite` and `paint` of a network that is not stored, take memory. It is `Send` and `Sync`.
 pub type HopTable = Table<1>;
 
 impl HopTable {

@@ -14,6 +14,7 @@ mod hop_table;
 pub mod laws;
 mod overwrite;
 mod own_blocks;
+mod paint;
 mod shortest;
 mod table;
 mod walks;

@@ -54,10 +54,10 @@ impl<const ROOM: usize> Table<ROOM> {
     }
 
     /// Takes out every network inside this one, itself included.
-    fn remove_inside(&mut self, net: &IpNet)
+    pub(crate) fn remove_inside(&mut self, net: &IpNet)
         requires { IsBlock (block net.now) }
         ensures networks { self.new ≡ networks_outside self.old (block net.now) }
-        ensures table { IsStoredTable self.new }
+        ensures tables { IsStoredTable self.old × IsStoredTable self.new }
     {
         match *net {
             IpNet::V4(net) => self.v4.remove_inside(net),

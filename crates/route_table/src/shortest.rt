@@ -97,6 +97,22 @@ fn pieces(
     Ok((v4, v6))
 }
 
+/// The routes of a shortest table with the hops of this flat list.
+fn least_of(alloc: Global, flat: Flat<'_>) -> Result<Vec<(IpNet, Hop)>, Refused>
+    requires { (h : Address → Option ℕ) × IsFlat h flat }
+    ensures least { IfOk result (λ routes. (h : Address → Option ℕ) → IsFlat h flat.entry → IsLeast h (routes_for routes.items)) }
+    ensures truncated { IfOk result (λ routes. All (λ r. IsTruncated (family r.0) (parts r.0)) routes.items) }
+    ensures memory { IfErr result (λ e. e ≡ Memory) }
+{
+    let Ok((v4, v6)) = pieces(alloc, flat) else {
+        return Err(Refused::Memory);
+    };
+    match shortest(alloc, v4, v6) {
+        Ok(routes) => Ok(routes),
+        Err(_) => Err(Refused::Memory),
+    }
+}
+
 impl RouteTable {
     /// The routes of a table with the same hop at every address and the fewest routes of all tables that have it,
     /// nested ones and `drop` included; ascending, as networks without host bits. Which of several such tables is open.
@@ -117,19 +133,27 @@ impl RouteTable {
         ensures truncated { IfOk result (λ routes. All (λ r. IsTruncated (family r.0) (parts r.0)) routes.items) }
         ensures memory { IfErr result (λ e. e ≡ Memory) }
     {
-        let Ok((v4, v6)) = pieces(self.alloc(), self.flat()) else {
-            return Err(Refused::Memory);
-        };
-        match shortest(self.alloc(), v4, v6) {
-            Ok(routes) => Ok(routes),
-            Err(_) => Err(Refused::Memory),
-        }
+        least_of(self.alloc(), self.flat())
     }
 }
 
 impl HopTable {
     /// The routes of a table with the same hop at every address and the fewest routes of all tables that have it,
-    /// as `RouteTable::least` gives them. Its own memory is given back before most of what that takes.
+    /// as `RouteTable::least` gives them.
+    ///
+    /// # Errors
+    /// `Memory` where there is none for the list, or on the way to it.
+    pub fn least(&self) -> Result<Vec<(IpNet, Hop)>, Refused>
+        ensures least { IfOk result (λ routes. IsLeast (hop_at (routes_of self.now)) (routes_for routes.items)) }
+        ensures truncated { IfOk result (λ routes. All (λ r. IsTruncated (family r.0) (parts r.0)) routes.items) }
+        ensures memory { IfErr result (λ e. e ≡ Memory) }
+    {
+        let flat = self.flat();
+        least_of(self.alloc(), flat)
+    }
+
+    /// The routes of a table with the same hop at every address and the fewest routes of all tables that have it,
+    /// as `least` gives them. Its own memory is given back before most of what that takes.
     ///
     /// # Errors
     /// `Memory` where there is none for the list, or on the way to it.

@@ -1,13 +1,10 @@
+use Rattle.std.proofs.lemmas.Result.{IfOk-weaker}
 use Rattle.route_laws.specs.Networks.{routes_of}
 use Rattle.route_laws.specs.Tables.{hop_at}
 use Rattle.route_table.proofs.shortest.RouteTable.least.Goals as goal
 
-pub shortest-requires-clause-ipv4 : goal.shortest-requires-clause-ipv4
-shortest-requires-clause-ipv4 c = (c.in-Ok.ensures.ipv4 (hop_at (routes_of c.args.self.now)) c.flat.ensures.flat).disjoint
+pub least_of-requires : goal.least_of-requires
+least_of-requires c = (hop_at (routes_of c.args.self.now), c.flat.ensures.flat)
 
-pub shortest-requires-clause-ipv6 : goal.shortest-requires-clause-ipv6
-shortest-requires-clause-ipv6 c = (c.in-Ok.ensures.ipv6 (hop_at (routes_of c.args.self.now)) c.flat.ensures.flat).disjoint
-
-pub returns-in-Ok-shortest-clause-least : goal.returns-in-Ok-shortest-clause-least
-returns-in-Ok-shortest-clause-least c =
-    c.in-Ok-shortest.ensures.least (hop_at (routes_of c.args.self.now)) (c.in-Ok.ensures.ipv4 (hop_at (routes_of c.args.self.now)) c.flat.ensures.flat) (c.in-Ok.ensures.ipv6 (hop_at (routes_of c.args.self.now)) c.flat.ensures.flat)
+pub returns-clause-least : goal.returns-clause-least
+returns-clause-least c = IfOk-weaker c.least_of.result _ _ (λ routes f. f (hop_at (routes_of c.args.self.now)) c.flat.ensures.flat) c.least_of.ensures.least

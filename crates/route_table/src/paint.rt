@@ -1,0 +1,51 @@
+//! All addresses of a network get one hop.
+ghost use Rattle.std.specs.Prelude.{◌≡◌, [], IfErr, OnErr, OnOk, if◌then◌else◌};
+ghost use Rattle.ipnet_addr.specs.Addresses.{Address, IsAddress};
+ghost use Rattle.ipnet_blocks.specs.Blocks.{IsBlock, has_address};
+ghost use Rattle.ipnet.specs.IpNets.{block};
+ghost use Rattle.trie_map.specs.declared.refused.Refused.TheVariants.{Memory};
+ghost use Rattle.route_choices.specs.Choices.{default_preference};
+ghost use Rattle.route_choices.specs.Hops.{number_of};
+ghost use Rattle.route_laws.specs.Batches.{painted};
+ghost use Rattle.route_laws.specs.Networks.{IsStoredTable, choices_at, routes_of};
+ghost use Rattle.route_laws.specs.Overwritten.{without_inside};
+ghost use Rattle.route_laws.specs.Tables.{IsTable, hop_at, match_number, match_of, route_of};
+
+use crate::hop_table::HopTable;
+use crate::table::cleared;
+use ipnet::IpNet;
+use prefix_trie::Refused;
+use route_choices::Hop;
+
+impl HopTable {
+    /// Gives all addresses of the network this hop, and leaves all others the hop that they have, as `overwrite` does; but
+    /// stores no route where the routes outside give the addresses this hop already. Then it takes no memory.
+    ///
+    /// # Errors
+    /// `Memory` where there is none for a network that is not stored. The table is as it was. A stored network is
+    /// never refused.
+    pub fn paint(&mut self, net: IpNet, hop: Hop) -> Result<(), Refused>
+        ensures routes { OnOk result (routes_of self.new ≡ painted (routes_of self.old) (route_of net hop default_preference)) }
+        ensures tables { IsStoredTable self.old × IsStoredTable self.new }
+        ensures hops { OnOk result ((x : Address) → IsAddress x → hop_at (routes_of self.new) x ≡ (if has_address (block net) x then number_of hop else hop_at (routes_of self.old) x)) }
+        ensures memory { IfErr result (λ e. e ≡ Memory) }
+        ensures unchanged { OnErr result (self.new ≡ self.old) }
+        ensures absent { OnErr result (choices_at self.old (block net) ≡ []) }
+    {
+        let net = cleared(&net);
+        if self.handed(&net) == hop.number() {
+            self.remove_inside(&net);
+            return Ok(());
+        }
+        self.overwrite(net, hop)
+    }
+
+    /// The number of the hop that the routes outside the network give its addresses.
+    fn handed(&self, net: &IpNet) -> Option<u32>
+        requires { IsBlock (block net.now) }
+        ensures { IsTable (routes_of self.now) → result ≡ match_number (match_of (without_inside (routes_of self.now) (block net.now)) (block net.now)) }
+    {
+        let (_, hop, _) = self.get(&net.supernet()?)?;
+        hop.number()
+    }
+}
