@@ -1,5 +1,5 @@
 -- What `lead_line` does to its table and to its writer, by how it ends.
-use Rattle.std.specs.Prelude.{◌≡◌, ℕ, Bool, List, ◌++◌, Option, Result, Ok, Err, OnOk}
+use Rattle.std.specs.Prelude.{◌≡◌, ℕ, Bool, List, ◌++◌, Option, Result, Ok, Err}
 use Rattle.std.specs.Io.KnownBytes.{Appends}
 use Rattle.route_lines.specs.Lines.{line_of}
 use Rattle.route_laws.specs.Networks.{Stored}
@@ -26,9 +26,9 @@ module _ {W : Type 0} (contents : W → Option (List ℕ)) where
   ReplyEnds reply old new (Ok done) = Appends (contents (inner old)) (contents (inner new)) reply × Flushed 1 old new × (faults_of new ≡ faults_of old)
   ReplyEnds reply old new (Err why) = (why ≡ Why.Write) × ReplyPart reply old new
 
-  -- the line was answered as a step of the table, where its command may be refused for want of memory; at `Ok` the table is the
-  -- one after the step
+  -- the line was answered as a step of the table, where its command may be refused for want of memory, and the table is the one after
+  -- the step, also where the writer failed
   pub record LineEnds (M N : List Stored) (line : List ℕ) (old new : Counted W) (result : Result Unit RunError) : Type 0 where
     pub refused : Bool
     pub reply : ReplyEnds (printed (turn_lines (step M (command_in (line_of line)) refused))) old new result
-    pub table : OnOk result (N ≡ (step M (command_in (line_of line)) refused).next)
+    pub table : N ≡ (step M (command_in (line_of line)) refused).next

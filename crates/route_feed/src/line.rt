@@ -11,10 +11,11 @@ use std::io::Write;
 
 /// Answers one line, given without its line end, as `lead` does: by the same reply lines to the writer, which is flushed after them.
 ///
-/// The table goes on from the one that is given. A line over 80 bytes is answered `bad`.
+/// A line over 80 bytes is answered `bad`.
 ///
 /// # Errors
-/// `Write` alone: at an error of `write` or `flush`, or where `write` takes nothing. Then a beginning of the reply was written.
+/// `Write` alone: at an error of `write` or `flush`, or where `write` takes nothing. Then a beginning of the reply was
+/// written, and the table is the one after the line.
 pub fn lead_line<W: Write>(
     table: &mut RouteTable,
     line: &[u8],
