@@ -5,6 +5,7 @@ pub mod Carried
 pub mod Owned
 pub mod Taking
 pub mod Leading
+pub mod LeadingLine
 pub mod Stepping
 pub mod Ending
 pub mod Shortened

@@ -1,8 +1,7 @@
 -- The lines of a change, by the blocks that the changed network governs.
-use Rattle.std.proofs.Common.{◌≡◌, ◌≢◌, ℕ, ◌⊎◌, inl, inr, ⊎_elim, Bool, true, false, not, ◌&&◌, cond, List, [], ◌∷◌, ◌++◌, map, Option, Some, None, Result, Ok, Err, refl, sym, ap, ◌∙◌, subst}
+use Rattle.std.proofs.Common.{◌≡◌, ◌≢◌, ℕ, ◌⊎◌, inl, inr, ⊎_elim, Bool, true, false, not, ◌&&◌, cond, List, [], ◌∷◌, ◌++◌, map, Option, Some, None, Result, refl, sym, ap, ◌∙◌, subst}
 use Rattle.std.specs.Option.{option_map}
 use Rattle.std.proofs.lemmas.Bool.{false_from_ne_true, not_from_false}
-use Rattle.std.specs.Result.{OnOk}
 use Rattle.ipnet_addr.proofs.Members.{In}
 use Rattle.ipnet_addr.proofs.Ascending.{In-from_Contains, Contains-from_In}
 use Rattle.ipnet_addr.specs.Addresses.{Address, IsAddress}
@@ -143,10 +142,6 @@ module _ {W : Type 0} (contents : W → Option (List ℕ)) (M T : List Stored) (
       let lines = choices_differ M m b ok cs are bs (λ q. d (was ∙ q ∙ sym now)) (subst (λ (U : List Stored). IsMaximal (Governed (routes_of U) b) bs) is governed) in
       subst (λ ls. Closes contents 1 old new result (printed (ls ++ Close Done ∷ []))) (ap (λ (k : Option ℕ). map (change_line k) bs) now ∙ sym lines) written)
       (same_or_not before after)
-
-pub on_ok : {T E P : Type 0} (r : Result T E) → P → OnOk r P
-on_ok (Ok x) p = p
-on_ok (Err e) p = tt
 
 plain_if : {A : Type 0} (b : Bool) (x y : A) → cond (b && false) x y ≡ y
 plain_if true x y = refl

@@ -1,5 +1,5 @@
 -- How replies are written.
-use Rattle.std.specs.Prelude.{◌≡◌, ℕ, Bool, ◌||◌, List, [], ◌∷◌, ◌++◌, Option, Result, Ok, Err, OnOk, MatchOption}
+use Rattle.std.specs.Prelude.{◌≡◌, ℕ, Bool, ◌||◌, List, [], ◌∷◌, ◌++◌, Option, Result, Ok, Err, MatchOption}
 use Rattle.std.specs.Io.KnownBytes.{Appends}
 use Rattle.route_lines.specs.Texts.{IsPrintable}
 use Rattle.route_lines.specs.declared.command.Command.{Command}
@@ -64,11 +64,11 @@ module _ {W : Type 0} (contents : W → Option (List ℕ)) where
   Closes times old new (Ok x) text = Closed times old new text
   Closes times old new (Err e) text = (e ≡ Write) × Torn old new text
 
-  -- a command was answered, and the table went on, or the writer failed
+  -- a command was answered, or the writer failed; the table went on
   pub record Answers (M next : List Stored) (command : Option Command) (old new : Counted W) (result : Result Unit RunError) : Type 0 where
     pub refusal : Bool
     pub writes : Closes 1 old new result (printed (turn_lines (step M command refusal)))
-    pub table : OnOk result (next ≡ (step M command refusal).next)
+    pub table : next ≡ (step M command refusal).next
 
 -- how many replies there are to what stands after the last line end, and their text
 abbrev pub replies_to_rest : Rest → ℕ

@@ -5,6 +5,7 @@ pub mod Streams
 pub mod Steps
 pub mod Output
 pub mod Leads
+pub mod LeadsLine
 pub mod Following
 pub mod Follows
 pub mod AddLines

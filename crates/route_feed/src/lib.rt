@@ -5,6 +5,7 @@ pub use counted::Counted;
 pub use error::RunError;
 pub use follower::{FollowError, Follower};
 pub use leader::{lead, lead_leaking};
+pub use line::lead_line;
 pub use reading::{follow, follow_leaking};
 pub use shortening::shorten;
 
@@ -16,6 +17,7 @@ mod error;
 mod follower;
 pub mod laws;
 mod leader;
+mod line;
 mod reading;
 mod shortening;
 mod sink;

@@ -2,14 +2,14 @@ use Rattle.std.proofs.Common.{◌≡◌, ◌∙◌, sym, subst, ap, refl, Some, 
 use Rattle.route_lines.specs.Lines.{as_line}
 use Rattle.route_feed.specs.Commands.{command_in}
 use Rattle.route_feed.specs.InnerReplies.{Answers}
-use Rattle.route_feed.proofs.Told.{read_is, read_none, on_ok}
+use Rattle.route_feed.proofs.Told.{read_is, read_none}
 use Rattle.route_feed.proofs.answer.answer.Goals as goal
 
 pub returns-in_default-read : goal.returns-in_default-read
 returns-in_default-read g c =
     let e : command_in (as_line c.args.text) ≡ None = ap (λ o. command_in (as_line o)) c.in-Some.is ∙ read_none c.in-Some.text.now c.in_default-read.ensures in
     subst (λ k. Answers g.W.Write.contents c.args.table.now c.args.table.now k c.args.writer.now c.close-in_default-read.new.writer c.close-in_default-read.result) (sym e)
-    (record { refusal = false; writes = c.close-in_default-read.ensures; table = on_ok c.close-in_default-read.result refl })
+    (record { refusal = false; writes = c.close-in_default-read.ensures; table = refl })
 
 pub returns : goal.returns
 returns g c =

@@ -4,7 +4,7 @@ use Rattle.route_lines.specs.declared.command.Command.TheVariants.{Add}
 use Rattle.route_choices.specs.Choices.{Choice, choices_with}
 use Rattle.route_laws.specs.Networks.{IsStoredTable, choices_at}
 use Rattle.route_laws.proofs.Networks.{with_some}
-use Rattle.route_feed.proofs.Told.{Closes-change, changed_is, plain_step, refused_step, on_ok}
+use Rattle.route_feed.proofs.Told.{Closes-change, changed_is, plain_step, refused_step}
 use Rattle.route_feed.proofs.answer.answer_add.Goals as goal
 
 pub returns-in-Ok : goal.returns-in-Ok
@@ -19,11 +19,11 @@ returns-in-Ok g c =
     record {
       refusal = false;
       writes = rw same (Closes-change g.W.Write.contents M c.add.new.self e.tables.0 b new.0 cs new.1 e.networks c.in-Ok.before c.in-Ok.after e.hops.0 e.hops.1 c.args.writer.now c.tell_change.new.writer c.tell_change.result c.tell_change.ensures.same c.tell_change.ensures.differs);
-      table = rw same (on_ok c.tell_change.result e.networks);
+      table = rw same e.networks;
     }
 
 pub returns-in-Err : goal.returns-in-Err
 returns-in-Err g c =
     let e = c.in-Err.ensures in
     let (refusal, is) = refused_step c.args.table.now c.args.net c.args.hop c.args.pref c.in-Err.field-0 e.refused in
-    record { refusal = refusal; writes = rw is c.close.ensures; table = rw is (on_ok c.close.result e.unchanged) }
+    record { refusal = refusal; writes = rw is c.close.ensures; table = rw is e.unchanged }

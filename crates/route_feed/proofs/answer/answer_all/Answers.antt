@@ -6,7 +6,6 @@ use Rattle.route_laws.proofs.NetworksAt.{of_network_at}
 use Rattle.route_feed.specs.Replies.{printed}
 use Rattle.route_feed.specs.InnerReplies.{Closes}
 use Rattle.route_feed.specs.Steps.{choice_line}
-use Rattle.route_feed.proofs.Told.{on_ok}
 use Rattle.route_feed.proofs.answer.answer_all.Goals as goal
 
 pub reply-requires-clause-body : goal.reply-requires-clause-body
@@ -19,5 +18,5 @@ returns g c =
     record {
       refusal = false;
       writes = subst (λ ls. Closes g.W.Write.contents 1 c.args.writer.now c.reply.new.writer c.reply.result (printed (ls ++ Close Done ∷ []))) lines c.reply.ensures;
-      table = on_ok c.reply.result refl;
+      table = refl;
     }

@@ -4,7 +4,7 @@ use Rattle.route_choices.specs.Choices.{choices_without, holds_hop}
 use Rattle.route_choices.proofs.ChoiceLists.{without_are}
 use Rattle.route_laws.specs.Networks.{choices_at}
 use Rattle.route_laws.proofs.Networks.{at_are}
-use Rattle.route_feed.proofs.Told.{Closes-change, held_is, none_left, on_ok}
+use Rattle.route_feed.proofs.Told.{Closes-change, held_is, none_left}
 use Rattle.route_feed.proofs.answer.answer_del.Goals as goal
 
 pub returns-in-Some : goal.returns-in-Some
@@ -18,7 +18,7 @@ returns-in-Some g c =
     record {
       refusal = false;
       writes = rw held (Closes-change g.W.Write.contents M c.del.new.self e.tables.0 b (held_is M e.tables.0 b c.args.hop held) cs are e.networks c.in-Some.before c.in-Some.after e.hops.0 e.hops.1 c.args.writer.now c.tell_change.new.writer c.tell_change.result c.tell_change.ensures.same c.tell_change.ensures.differs);
-      table = rw held (on_ok c.tell_change.result e.networks);
+      table = rw held e.networks;
     }
 
 pub returns-in-None : goal.returns-in-None
@@ -30,5 +30,5 @@ returns-in-None g c =
     record {
       refusal = false;
       writes = rw none c.close.ensures;
-      table = rw none (on_ok c.close.result (e.networks ∙ none_left M e.tables.0 b c.args.hop none));
+      table = rw none (e.networks ∙ none_left M e.tables.0 b c.args.hop none);
     }

@@ -5,7 +5,7 @@ use Rattle.route_laws.specs.Networks.{routes_of}
 use Rattle.route_feed.specs.Replies.{printed}
 use Rattle.route_feed.specs.InnerReplies.{Closes}
 use Rattle.route_feed.specs.Steps.{flat_line}
-use Rattle.route_feed.proofs.Told.{flat_is, on_ok}
+use Rattle.route_feed.proofs.Told.{flat_is}
 use Rattle.route_feed.proofs.answer.answer_flat.Goals as goal
 
 pub returns : goal.returns
@@ -13,5 +13,5 @@ returns g c = record {
   refusal = false;
   writes = subst (λ ps. Closes g.W.Write.contents 1 c.args.writer.now c.reply.new.writer c.reply.result (printed (map flat_line ps ++ Close Done ∷ [])))
       (flat_is (routes_of c.args.table.now) c.flat.result c.flat.ensures.flat) c.reply.ensures;
-  table = on_ok c.reply.result refl;
+  table = refl;
 }

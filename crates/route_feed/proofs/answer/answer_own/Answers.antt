@@ -6,7 +6,6 @@ use Rattle.route_feed.specs.Replies.{printed}
 use Rattle.route_feed.specs.InnerReplies.{Closes}
 use Rattle.route_feed.specs.Steps.{own_line}
 use Rattle.route_feed.proofs.Owned.{map_twice}
-use Rattle.route_feed.proofs.Told.{on_ok}
 use Rattle.route_feed.proofs.answer.answer_own.Goals as goal
 
 pub returns-in-Ok : goal.returns-in-Ok
@@ -16,5 +15,5 @@ returns-in-Ok g c =
     record {
       refusal = false;
       writes = subst (λ ls. Closes g.W.Write.contents 1 c.args.writer.now c.reply.new.writer c.reply.result (printed (ls ++ Close Done ∷ []))) lines c.reply.ensures;
-      table = on_ok c.reply.result refl;
+      table = refl;
     }
