@@ -93,7 +93,10 @@ impl RouteTable {
     ///
     /// ```rust
     /// assert_eq!(rt; table.add(wide, Hop::Number(1), 100), Ok((None, Some(1))));
-    /// assert_eq!(rt; table.add(half, Hop::Number(2), 100), Ok((Some(1), Some(2))));
+    /// assert_eq!(rt;
+    ///     table.add(half, Hop::Number(2), 100),
+    ///     Ok((Some(1), Some(2)))
+    /// );
     /// ```
     pub fn add(
         &mut self,

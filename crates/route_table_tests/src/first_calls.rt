@@ -18,7 +18,10 @@ fn added(rt: HostRuntime) {
     let wide = net(&rt, "10.0.0.0/8");
     let half = net(&rt, "10.0.0.0/9");
     assert_eq!(rt; table.add(wide, Hop::Number(1), 100), Ok((None, Some(1))));
-    assert_eq!(rt; table.add(half, Hop::Number(2), 100), Ok((Some(1), Some(2))));
+    assert_eq!(rt;
+        table.add(half, Hop::Number(2), 100),
+        Ok((Some(1), Some(2)))
+    );
 }
 
 #[test]
