@@ -1,12 +1,12 @@
 -- What `shorten` has at the end of its input.
-use Rattle.std.proofs.Common.{◌≡◌, ℕ, inl, inr, ⊎_elim, List, Option, IfSome, Result, Ok, Err, sym, ◌∙◌, subst}
+use Rattle.std.proofs.Common.{◌≡◌, ℕ, inl, inr, ⊎_elim, List, Option, IfSome, Result, Ok, Err, sym, subst}
 use Rattle.std.specs.Result.{OnOk}
 use Rattle.std.proofs.KnownBytes.{Consumes-whole}
-use Rattle.ipnet_addr.specs.Addresses.{Address, IsAddress}
 use Rattle.route_lines.specs.Bytes.{lines}
-use Rattle.route_laws.specs.LeastTables.{HasHops, IsLeast}
+use Rattle.route_laws.specs.LeastTables.{IsLeast}
 use Rattle.route_laws.specs.Networks.{routes_of}
 use Rattle.route_laws.specs.Tables.{Route, hop_at}
+use Rattle.route_laws.proofs.Families.{least_too}
 use Rattle.route_feed.specs.declared.counted.Counted.{Counted}
 use Rattle.route_feed.specs.declared.error.RunError.{RunError}
 use Rattle.route_feed.specs.declared.error.RunError.TheVariants as Why
@@ -18,17 +18,6 @@ use Rattle.route_feed.specs.InnerReaching.{Reached, Stops}
 use Rattle.route_feed.specs.InnerReplies.{Delivers}
 use Rattle.route_feed.specs.Shortens.{AppendsLeast, IsLeastFor, ShortenEnds}
 use Rattle.route_feed.specs.Streams.{committed, painted, replies_in}
-
--- tables with equal hops have the same least tables
-module _ (g h : Address → Option ℕ) (same : (x : Address) → IsAddress x → g x ≡ h x) where
-  hops_too : (N : List Route) → HasHops g N → HasHops h N
-  hops_too N k = record { table = k.table; same = λ x a. k.same x a ∙ same x a }
-
-  hops_back : (N : List Route) → HasHops h N → HasHops g N
-  hops_back N k = record { table = k.table; same = λ x a. k.same x a ∙ sym (same x a) }
-
-  pub least_too : (N : List Route) → IsLeast g N → IsLeast h N
-  least_too N k = record { hops = hops_too N k.hops; fewest = λ L l. k.fewest L (hops_back L l) }
 
 module _ {R W : Type 0} (remaining : R → Option (List ℕ)) (contents : W → Option (List ℕ)) (from to : Counted R) (old : Counted W) where
   pub shorten_stopped : (e : RunError) (new : Counted W) → Stops remaining from to e × (new ≡ old) → ShortenEnds remaining contents from to old new (Err e)
