@@ -1,9 +1,5 @@
 -- What searches of a map hand out.
-use Rattle.std.specs.Prelude.{◌≡◌, ◌&&◌, length, take, Bool, false, IsTrue, List, [], ◌∷◌, Option, Some, None}
-use Rattle.std.specs.FinMap.{entries}
-use Rattle.std.specs.FinMap.Entries.{where_key}
-use Rattle.trie_core.specs.Bits.{is_from}
-use Rattle.ipnet_blocks.specs.BitStrings.{bits_cmp, begins}
+use Rattle.std.specs.Prelude.{◌≡◌, length, take, Bool, IsTrue, List, [], ◌∷◌, Option, Some, None}
 use Rattle.trie_core.specs.Nodes.{BitMap}
 use Rattle.trie_core.specs.Search.{IsLongest, IsShortest}
 
@@ -26,7 +22,3 @@ module _ {K X : Type 0} (fits : K → Bool) (bits : K → List Bool) (of_bits : 
 abbrev pub first_key : {X : Type 0} → List (List Bool × X) → Option (List Bool)
 first_key [] = None
 first_key (e ∷ es) = Some e.0
-
--- the first key after q, of those that begin with a string
-abbrev pub key_after : {X : Type 0} → BitMap X → List Bool → List Bool → Option (List Bool)
-key_after m inside q = first_key (where_key bits_cmp (λ k. is_from q false k && begins inside k) (entries m))

@@ -1,17 +1,16 @@
 //! Iterators that lend the values of a map, one at a time. They take no memory.
-ghost use Rattle.std.specs.Prelude.{◌≡◌, ◌≤◌, length, true, [], ◌&&◌, IfNone, IfSome, None, Some, option_map, IsTrue};
+ghost use Rattle.std.specs.Prelude.{◌≡◌, ◌≤◌, length, false, true, [], ◌&&◌, IfSome, Some, MatchOption, option_map, IsTrue};
 ghost use Rattle.std.specs.Borrow.{sem};
-ghost use Rattle.std.specs.Option.{IsSome, option_and_then, option_copied_mut};
+ghost use Rattle.std.specs.Option.{IsSome, option_copied_mut};
 ghost use Rattle.std.specs.FinMap.{get, entries};
 ghost use Rattle.std.specs.FinMap.Entries.{where_key};
 ghost use Rattle.std.proofs.Props.{props};
 ghost use Rattle.trie_core.specs.Bits.{is_from};
 ghost use Rattle.ipnet_blocks.specs.BitStrings.{bits_cmp, begins};
-ghost use Rattle.trie_map.specs.Maps.{first_key, key_after};
+ghost use Rattle.trie_map.specs.Maps.{first_key};
 
 use crate::equal::is_same;
 use crate::map::PrefixMap;
-use std::marker::PhantomData;
 use trie_core::{Path, Walk};
 use trie_keys::{Prefix, path_of, prefix_of};
 
@@ -24,32 +23,23 @@ fn is_begun(path: &Path, key: &Path) -> bool
     path.len() <= key.len() && is_same(path, &Path::new(key.to_bits(), path.len()))
 }
 
-/// How far the values of a map are lent: the bit string that all keys that are left lie inside, and the key that comes next.
-#[derive(Drop)]
-pub struct Position<P: Prefix> {
-    inside: Path,
-    next: Option<Path>,
-    keys: PhantomData<P>,
-    ghost whole: { length inside ≤ 128 },
-    ghost begun: { IfSome next (λ q. begins inside q ≡ true) } by { Prim.hlevel props },
-    ghost within: { IfSome next (λ q. (length q ≤ 128) × (length q ≤ P.R.width)) } by { Prim.hlevel props },
-}
-
 /// The entries that are left to be lent: what `iter_mut`, `iter_from_mut` and `children_mut` give. All lie inside one
 /// bit string.
 #[derive(Drop)]
-pub enum IterMut<'a, P: Prefix, T> {
-    /// Those of no map: none.
-    Nothing,
-    /// Those of a map.
-    Of(&'a mut PrefixMap<P, T>, Position<P>),
+pub struct IterMut<'a, P: Prefix, T> {
+    map: &'a mut PrefixMap<P, T>,
+    inside: Path,
+    next: Option<Path>,
+    ghost whole: { length inside ≤ 128 },
+    ghost begun: { IfSome next (λ q. begins inside q ≡ true) } by { Prim.hlevel props },
+    ghost stored: { IfSome next (λ q. (length q ≤ 128) × (length q ≤ P.R.width) × IsSome (get map.now.entries q)) } by { Prim.hlevel props },
 }
 
 /// What `values_mut` gives: an `IterMut` lends values, and tells their keys where asked.
 pub type ValuesMut<'a, P, T> = IterMut<'a, P, T>;
 
 impl<P: Prefix, T> PrefixMap<P, T> {
-    ghost use Rattle.trie_map.specs.IterMut.{lent_name, lent_map, lent_inside, next_bits};
+    ghost use Rattle.trie_map.specs.IterMut.{lent_map_ref, lent_map, lent_inside, next_bits};
 
     /// The first key from a path on.
     pub(crate) fn key_from(&self, path: Path, inclusive: bool) -> Option<Path>
@@ -84,20 +74,24 @@ impl<P: Prefix, T> PrefixMap<P, T> {
 
     /// Lends the values in turn, in the order of their keys.
     pub fn iter_mut(&mut self) -> IterMut<'_, P, T>
-        ensures same_map { lent_name result ≡ Some self.entry.ghost_name }
-        ensures unchanged { lent_map result ≡ Some self.old }
+        ensures same_map { (lent_map_ref result).ghost_name ≡ self.entry.ghost_name }
+        ensures unchanged { lent_map result ≡ self.old }
         ensures inside { lent_inside result ≡ [] }
         ensures first { next_bits result ≡ first_key (entries self.old.entries) }
     {
         let inside = Path::new(0, 0);
         let next = self.key_from(Path::new(0, 0), true);
-        IterMut::Of(self, Position::new(inside, next))
+        IterMut {
+            map: self,
+            inside,
+            next,
+        }
     }
 
     /// Lends the values in turn, in the order of their keys.
     pub fn values_mut(&mut self) -> ValuesMut<'_, P, T>
-        ensures same_map { lent_name result ≡ Some self.entry.ghost_name }
-        ensures unchanged { lent_map result ≡ Some self.old }
+        ensures same_map { (lent_map_ref result).ghost_name ≡ self.entry.ghost_name }
+        ensures unchanged { lent_map result ≡ self.old }
         ensures inside { lent_inside result ≡ [] }
         ensures first { next_bits result ≡ first_key (entries self.old.entries) }
     {
@@ -107,76 +101,40 @@ impl<P: Prefix, T> PrefixMap<P, T> {
     /// Lends in turn the values of the keys that come after a prefix, and its own first where `inclusive` says so.
     pub fn iter_from_mut(&mut self, prefix: &P, inclusive: bool) -> IterMut<'_, P, T>
         requires { IsTrue (P.fits prefix.now) }
-        ensures same_map { lent_name result ≡ Some self.entry.ghost_name }
-        ensures unchanged { lent_map result ≡ Some self.old }
+        ensures same_map { (lent_map_ref result).ghost_name ≡ self.entry.ghost_name }
+        ensures unchanged { lent_map result ≡ self.old }
         ensures inside { lent_inside result ≡ [] }
         ensures first { next_bits result ≡ first_key (where_key bits_cmp (is_from (P.bits prefix.now) inclusive) (entries self.old.entries)) }
     {
         let inside = Path::new(0, 0);
         let next = self.key_from(path_of(prefix), inclusive);
-        IterMut::Of(self, Position::new(inside, next))
+        IterMut {
+            map: self,
+            inside,
+            next,
+        }
     }
 
     /// Lends in turn the values of the keys that a prefix contains, itself included.
     pub fn children_mut(&mut self, prefix: &P) -> IterMut<'_, P, T>
         requires { IsTrue (P.fits prefix.now) }
-        ensures same_map { lent_name result ≡ Some self.entry.ghost_name }
-        ensures unchanged { lent_map result ≡ Some self.old }
+        ensures same_map { (lent_map_ref result).ghost_name ≡ self.entry.ghost_name }
+        ensures unchanged { lent_map result ≡ self.old }
         ensures inside { lent_inside result ≡ P.bits prefix.now }
         ensures first { next_bits result ≡ first_key (where_key bits_cmp (begins (P.bits prefix.now)) (entries self.old.entries)) }
     {
         let inside = path_of(prefix);
         let next = self.key_within(path_of(prefix), true, &inside);
-        IterMut::Of(self, Position::new(inside, next))
-    }
-}
-
-impl<P: Prefix> Position<P> {
-    /// At a key, or behind the last.
-    fn new(inside: Path, next: Option<Path>) -> Position<P>
-        requires whole { length inside ≤ 128 }
-        requires begun { IfSome next (λ q. begins inside q ≡ true) }
-        requires within { IfSome next (λ q. (length q ≤ 128) × (length q ≤ P.R.width)) }
-        ensures inside { result.inside ≡ inside }
-        ensures next { result.next ≡ next }
-    {
-        Position {
+        IterMut {
+            map: self,
             inside,
             next,
-            keys: PhantomData,
         }
-    }
-
-    /// The key that comes next, where it is stored, and the one after it.
-    fn ahead<T>(&self, map: &PrefixMap<P, T>) -> (Option<Path>, Option<Path>)
-        ensures key { IfSome result.0 (λ q. self.now.next ≡ Some q) }
-        ensures within { IfSome result.0 (λ q. length q ≤ 128) }
-        ensures stored { IfSome result.0 (λ q. IsSome (get map.now.entries q)) }
-        ensures absent { IfNone result.0 (option_and_then (get map.now.entries) self.now.next ≡ None) }
-        ensures next { result.1 ≡ option_and_then (key_after map.now.entries self.now.inside) result.0 }
-        ensures next_begun { IfSome result.1 (λ q. begins self.now.inside q ≡ true) }
-        ensures next_within { IfSome result.1 (λ q. (length q ≤ 128) × (length q ≤ P.R.width)) }
-    {
-        let Some(path) = &self.next else {
-            return (None, None);
-        };
-        if map
-            .root
-            .get(Path::new(path.to_bits(), path.len()))
-            .is_none()
-        {
-            return (None, None);
-        }
-        let after = Path::new(path.to_bits(), path.len());
-        (
-            Some(Path::new(path.to_bits(), path.len())),
-            map.key_within(after, false, &self.inside),
-        )
     }
 }
 
 impl<'a, P: Prefix, T> IterMut<'a, P, T> {
-    ghost use Rattle.trie_map.specs.IterMut.{iter_lends, lent_map_ref, lent_inside, next_bits, next_value, after_bits, IsLentKey};
+    ghost use Rattle.trie_map.specs.IterMut.{iter_lends, next_bits, next_value};
 
     /// The key whose value comes next, with zeros after the bits that count.
     pub fn key(&self) -> Option<P>
@@ -184,46 +142,10 @@ impl<'a, P: Prefix, T> IterMut<'a, P, T> {
         ensures bits { IfSome result (λ k. next_bits self.now ≡ Some (P.bits k)) }
         ensures fits { IfSome result (λ k. IsTrue (P.fits k)) }
     {
-        match self {
-            IterMut::Nothing => None,
-            IterMut::Of(_, position) => match &position.next {
-                None => None,
-                Some(path) => Some(prefix_of(path)),
-            },
+        match &self.next {
+            None => None,
+            Some(path) => Some(prefix_of(path)),
         }
-    }
-
-    /// The key whose value is lent next, and the one after it.
-    fn ahead(&self) -> (Option<Path>, Option<Path>)
-        ensures key { IfSome result.0 (λ q. next_bits self.now ≡ Some q) }
-        ensures within { IfSome result.0 (λ q. length q ≤ 128) }
-        ensures stored { IfSome result.0 (λ q. IsLentKey self.now q) }
-        ensures absent { IfNone result.0 (next_value self.now ≡ None) }
-        ensures next { result.1 ≡ option_and_then (after_bits self.now) result.0 }
-        ensures next_begun { IfSome result.1 (λ q. begins (lent_inside self.now) q ≡ true) }
-        ensures next_within { IfSome result.1 (λ q. (length q ≤ 128) × (length q ≤ P.R.width)) }
-    {
-        match self {
-            IterMut::Nothing => (None, None),
-            IterMut::Of(map, position) => position.ahead(map),
-        }
-    }
-
-    /// The key whose value is lent next; the iterator goes on to the one after it.
-    fn step(&mut self) -> Option<Path>
-        ensures key { IfSome result (λ q. next_bits self.old ≡ Some q) }
-        ensures within { IfSome result (λ q. length q ≤ 128) }
-        ensures stored { IfSome result (λ q. IsLentKey self.new q) }
-        ensures absent { IfNone result (next_value self.old ≡ None) }
-        ensures same_map { lent_map_ref self.new ≡ lent_map_ref self.old }
-        ensures inside { lent_inside self.new ≡ lent_inside self.old }
-        ensures next { next_bits self.new ≡ option_and_then (after_bits self.old) result }
-    {
-        let (path, after) = self.ahead();
-        if let IterMut::Of(_, position) = self {
-            position.next = after;
-        }
-        path
     }
 
     /// Lends the next value; what is left there is the value of its key afterwards.
@@ -231,23 +153,11 @@ impl<'a, P: Prefix, T> IterMut<'a, P, T> {
         ensures* writes_back { sem 𝓛 (iter_lends P.row T.row P.R.row self.entry result) }
         ensures value { option_copied_mut result ≡ next_value self.old }
     {
-        let Some(path) = self.step() else {
+        let Some(path) = self.next.take() else {
             return None;
         };
-        match self {
-            IterMut::Nothing => None,
-            IterMut::Of(map, _) => Some(map.value_mut(&path)),
-        }
-    }
-}
-
-impl<'a, P: Prefix, T> Default for IterMut<'a, P, T> {
-    ghost use Rattle.trie_map.specs.IterMut.{next_bits};
-
-    ghost is_default = { λ it. next_bits it ≡ None };
-
-    /// Nothing to lend.
-    fn default() -> IterMut<'a, P, T> {
-        IterMut::Nothing
+        let after = Path::new(path.to_bits(), path.len());
+        self.next = self.map.key_within(after, false, &self.inside);
+        Some(self.map.value_mut(&path))
     }
 }

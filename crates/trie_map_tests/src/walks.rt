@@ -3,7 +3,7 @@ use crate::maps::{digits, is_key, map_of, net, value_digits, wide_map_of, wide_n
 use ipnet::Ipv4Net;
 use std::alloc::Global;
 use std::process::Abort;
-use trie_map::{IterMut, PrefixMap, ValuesMut};
+use trie_map::PrefixMap;
 
 /// Seven networks, their values in the order of a walk.
 fn seven_networks(rt: &impl Abort, alloc: Global) -> PrefixMap<Ipv4Net, u32> {
@@ -173,13 +173,4 @@ fn covers_of_128_bits(rt: HostRuntime) {
     for (network, expected) in [("::1/128", 12), ("::/126", 1)].iter() {
         assert_eq!(rt; digits(map.cover(&wide_net(&rt, network))), *expected);
     }
-}
-
-#[test]
-fn a_default_lends_nothing(rt: HostRuntime) {
-    let mut entries: IterMut<'_, Ipv4Net, u32> = IterMut::default();
-    assert!(rt; entries.key().is_none());
-    assert!(rt; entries.next().is_none());
-    let mut values: ValuesMut<'_, Ipv4Net, u32> = ValuesMut::default();
-    assert!(rt; values.next().is_none());
 }

@@ -13,5 +13,5 @@ key_within-next-requires-clause-begun g c = (λ i. begins (c.path_of-inside.ensu
 
 pub returns-clause-first : goal.returns-clause-first
 returns-clause-first g c =
-    c.new.ensures.next ∙ c.key_within-next.ensures.key ∙ (λ i. first_key (where_key bits_cmp (λ k. is_from (c.path_of.ensures.value i) true k && begins (c.path_of-inside.ensures.value i) k) (entries c.args.self.now.entries)))
+    c.key_within-next.ensures.key ∙ (λ i. first_key (where_key bits_cmp (λ k. is_from (c.path_of.ensures.value i) true k && begins (c.path_of-inside.ensures.value i) k) (entries c.args.self.now.entries)))
     ∙ ap (λ p. first_key (where_key bits_cmp p (entries c.args.self.now.entries))) (all_inside (g.P.Prefix.bits c.args.prefix.now))

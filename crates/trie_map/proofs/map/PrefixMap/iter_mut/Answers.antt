@@ -9,4 +9,4 @@ use Rattle.trie_map.proofs.map.PrefixMap.iter_mut.Goals as goal
 
 pub returns-clause-first : goal.returns-clause-first
 returns-clause-first g c =
-    c.new-2.ensures.next ∙ c.key_from-next.ensures.key ∙ ap (λ s. first_key (where_key bits_cmp (is_from s true) (entries c.args.self.now.entries))) c.new.ensures ∙ ap first_key (all_from (entries c.args.self.now.entries))
+    c.key_from-next.ensures.key ∙ ap (λ s. first_key (where_key bits_cmp (is_from s true) (entries c.args.self.now.entries))) c.new.ensures ∙ ap first_key (all_from (entries c.args.self.now.entries))
