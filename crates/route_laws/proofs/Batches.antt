@@ -16,6 +16,7 @@ use Rattle.route_laws.specs.Tables.{Route, IsTable, hop_at}
 use Rattle.route_laws.specs.Batches.{AreApart, AreChanges, batch, changes_to, hop_over, painted, painted_all}
 use Rattle.route_laws.specs.Operations.{Operation, IsHitless, after, after_all, between}
 use Rattle.route_laws.proofs.Between.{leads}
+use Rattle.route_laws.proofs.Insides.{not_held}
 use Rattle.route_laws.proofs.Painted.{painted_is_table, painted_hops}
 use Rattle.route_laws.proofs.Turning.{Once, Settled, hitless_from, leads_once, leads_settled, once_then_settled, reaches, settled_joined, settled_then_once}
 
@@ -69,15 +70,11 @@ module _ (x : Address) (a : IsAddress x) where
   none_turn M (r ∷ rs) m c none =
       let k = c r (inl refl) in
       let p = painted_is_table M m r k.0 k.1 in
-      let e = by (has_address r.block x) refl (none r (inl refl)) in
+      let e = not_held (has_address r.block x) (λ f. none r (inl refl) (has_from_test r.block x f)) in
       settled_joined x M (between M (painted M r)) (batch (painted M r) rs) (hop_at M x) (left_alone M m r k e)
       (next M m r k (hop_at M x) (Settled x) (batch (painted M r) rs)
       (subst (Settled x (painted M r) (batch (painted M r) rs)) (painted_hops M m r k.0 k.1 x a ∙ ap (λ b. cond b (number_of r.hop) (hop_at M x)) e)
       (none_turn (painted M r) rs p (λ s i. c s (inr i)) (λ s i. none s (inr i)))))
-    where
-      by : (b : Bool) → has_address r.block x ≡ b → (HasAddress r.block x → ⊥) → has_address r.block x ≡ false
-      by true e f = absurd (f (has_from_test r.block x e))
-      by false e f = e
 
   pub batch_once : (M rs : List Route) → IsTable M → Changes rs → Rising Apart rs → (h : Option ℕ) × Once x M (batch M rs) h
   batch_once M [] m c u = (hop_at M x, refl)
