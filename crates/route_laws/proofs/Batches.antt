@@ -1,5 +1,5 @@
 -- Operations one after the other, each of which turns addresses that the others leave.
-use Rattle.std.proofs.Common.{◌≡◌, ℕ, zero, suc, ◌+◌, ◌<◌, ◌≤◌, ◌⊎◌, inl, inr, ⊎_elim, Bool, true, false, cond, List, [], ◌∷◌, ◌++◌, length, take, Option, refl, sym, ap, ◌∙◌, subst, arith}
+use Rattle.std.proofs.Common.{◌≡◌, ℕ, inl, inr, ⊎_elim, Bool, true, false, cond, List, [], ◌∷◌, ◌++◌, Option, refl, sym, ap, ◌∙◌, subst}
 use Rattle.ipnet_addr.specs.Addresses.{Address, IsAddress}
 use Rattle.ipnet_addr.proofs.Members.{In}
 use Rattle.ipnet_addr.proofs.Ascending.{In-from_All, All-from_In, Contains-from_In, Rising, Rising-from_pairs, pairs_from_Rising}
@@ -12,81 +12,23 @@ use Rattle.route_choices.specs.declared.hop.Hop.{Hop}
 use Rattle.route_choices.proofs.Kept.{In-map}
 use Rattle.ipnet_blocks.proofs.BlockTests.{has_from_test}
 use Rattle.route_choices.specs.Hops.{IsHop, number_of}
-use Rattle.route_laws.specs.Tables.{Route, IsTable, hop_at, match_number, match_of}
-use Rattle.ipnet_blocks.specs.Blocks.{host}
+use Rattle.route_laws.specs.Tables.{Route, IsTable, hop_at}
 use Rattle.route_laws.specs.Batches.{AreApart, AreChanges, batch, changes_to, hop_over, painted, painted_all}
 use Rattle.route_laws.specs.Operations.{Operation, IsHitless, after, after_all, between}
 use Rattle.route_laws.proofs.Between.{leads}
+use Rattle.route_laws.proofs.Insides.{not_held}
 use Rattle.route_laws.proofs.Painted.{painted_is_table, painted_hops}
-use Rattle.route_laws.proofs.Turning.{reaches, turns}
+use Rattle.route_laws.proofs.Turning.{Once, Settled, hitless_from, leads_once, leads_settled, once_then_settled, reaches, settled_joined, settled_then_once}
 
 pub between_reaches : (M N : List Route) → IsTable M → IsTable N → after_all M (between M N) ≡ N
-between_reaches M N old new = reaches N new M (between M N) (leads N new M old)
+between_reaches M N old new = reaches N M (between M N) (leads N new M old)
 
 pub between_hitless : (M N : List Route) → IsTable M → IsTable N → IsHitless M (between M N)
-between_hitless M N old new = record {
-  turns = λ x a i j h. ⊎_elim
-      (λ e. inl (ap match_number e))
-      (λ e. inr (ap match_number (e ∙ ap (λ T. match_of T (host x)) (sym (between_reaches M N old new)))))
-      (turns N new x a M (between M N) (leads N new M old) i j h);
-}
+between_hitless M N old new = hitless_from M (between M N) (λ x a. (hop_at N x, leads_once x a N M (between M N) (leads N new M old)))
 
-pub after-append : (M : List Route) (os ps : List Operation) → after_all M (os ++ ps) ≡ after_all (after_all M os) ps
+after-append : (M : List Route) (os ps : List Operation) → after_all M (os ++ ps) ≡ after_all (after_all M os) ps
 after-append M [] ps = refl
 after-append M (o ∷ os) ps = after-append (after M o) os ps
-
--- a moment of two lists, one after the other, is one of the first or one of the second
-data At (os ps : List Operation) (i : ℕ) : Type 0 where
-  early : i < length os → take i (os ++ ps) ≡ take i os → At os ps i
-  late : (k : ℕ) → i ≡ length os + k → take i (os ++ ps) ≡ os ++ take k ps → At os ps i
-
-at : (os ps : List Operation) (i : ℕ) → At os ps i
-at [] ps i = late i (omega arith) refl
-at (o ∷ os) ps zero = early (omega arith) refl
-at (o ∷ os) ps (suc i) = more (at os ps i)
-  where
-    more : At os ps i → At (o ∷ os) ps (suc i)
-    more (early l e) = early (omega arith) (ap (λ qs. o ∷ qs) e)
-    more (late k l e) = late k (omega arith) (ap (λ qs. o ∷ qs) e)
-
-module _ (M : List Route) (os ps : List Operation) (x : Address) where
-  abbrev mid : List Route
-  mid = after_all M os
-
-  abbrev hop : ℕ → Option ℕ
-  hop i = hop_at (after_all M (take i (os ++ ps))) x
-
-  abbrev end : Option ℕ
-  end = hop_at (after_all M (os ++ ps)) x
-
-  at_early : (i : ℕ) → take i (os ++ ps) ≡ take i os → hop i ≡ hop_at (after_all M (take i os)) x
-  at_early i e = ap (λ qs. hop_at (after_all M qs) x) e
-
-  at_late : (i k : ℕ) → take i (os ++ ps) ≡ os ++ take k ps → hop i ≡ hop_at (after_all mid (take k ps)) x
-  at_late i k e = ap (λ qs. hop_at (after_all M qs) x) e ∙ ap (λ T. hop_at T x) (after-append M os (take k ps))
-
-  at_end : end ≡ hop_at (after_all mid ps) x
-  at_end = ap (λ T. hop_at T x) (after-append M os ps)
-
-  module _ (one : (i j : ℕ) → i ≤ j → (hop_at (after_all M (take i os)) x ≡ hop_at M x) ⊎ (hop_at (after_all M (take j os)) x ≡ hop_at mid x))
-      (two : (i j : ℕ) → i ≤ j → (hop_at (after_all mid (take i ps)) x ≡ hop_at mid x) ⊎ (hop_at (after_all mid (take j ps)) x ≡ hop_at (after_all mid ps) x)) where
-    -- an address that the first leaves
-    pub second_turns : hop_at M x ≡ hop_at mid x → (i j : ℕ) → i ≤ j → (hop i ≡ hop_at M x) ⊎ (hop j ≡ end)
-    second_turns e i j l = go (at os ps i) (at os ps j)
-      where
-        go : At os ps i → At os ps j → (hop i ≡ hop_at M x) ⊎ (hop j ≡ end)
-        go (early p q) b = inl (at_early i q ∙ ⊎_elim (λ f. f) (λ f. f ∙ sym e) (one i i (omega arith)))
-        go (late k p q) (early r s) = absurd (omega arith)
-        go (late k p q) (late n r s) = ⊎_elim (λ f. inl (at_late i k q ∙ f ∙ sym e)) (λ f. inr (at_late j n s ∙ f ∙ sym at_end)) (two k n (omega arith))
-
-    -- an address that the second leaves
-    pub first_turns : hop_at mid x ≡ hop_at (after_all mid ps) x → (i j : ℕ) → i ≤ j → (hop i ≡ hop_at M x) ⊎ (hop j ≡ end)
-    first_turns e i j l = go (at os ps i) (at os ps j)
-      where
-        go : At os ps i → At os ps j → (hop i ≡ hop_at M x) ⊎ (hop j ≡ end)
-        go (early p q) (early r s) = ⊎_elim (λ f. inl (at_early i q ∙ f)) (λ f. inr (at_early j s ∙ f ∙ e ∙ sym at_end)) (one i j l)
-        go (late k p q) (early r s) = absurd (omega arith)
-        go a (late n r s) = inr (at_late j n s ∙ ⊎_elim (λ f. f ∙ e) (λ f. f) (two n n (omega arith)) ∙ sym at_end)
 
 abbrev pub Apart : Route → Route → Type 0
 Apart r s = (x : Address) → HasAddress r.block x → HasAddress s.block x → ⊥
@@ -98,18 +40,6 @@ Changes rs = (r : Route) → In r rs → IsBlock r.block × IsHop r.hop
 pub changes_from : (rs : List Route) → AreChanges rs → Changes rs
 changes_from rs c r i = (In-from_All (λ s. IsBlock s.block) rs c.blocks r i, In-from_All (λ s. IsHop s.hop) rs c.hops r i)
 
--- the hop of an address that no change has
-unpainted : (M rs : List Route) → IsTable M → Changes rs → (x : Address) → IsAddress x → ((r : Route) → In r rs → HasAddress r.block x → ⊥) → hop_at (painted_all M rs) x ≡ hop_at M x
-unpainted M [] m c x a none = refl
-unpainted M (r ∷ rs) m c x a none =
-    let k = c r (inl refl) in
-    unpainted (painted M r) rs (painted_is_table M m r k.0 k.1) (λ s i. c s (inr i)) x a (λ s i. none s (inr i))
-    ∙ painted_hops M m r k.0 k.1 x a ∙ ap (λ b. cond b (number_of r.hop) (hop_at M x)) (by (has_address r.block x) refl (none r (inl refl)))
-  where
-    by : (b : Bool) → has_address r.block x ≡ b → (HasAddress r.block x → ⊥) → b ≡ false
-    by true e f = absurd (f (has_from_test r.block x e))
-    by false e f = refl
-
 pub batch_reaches : (M rs : List Route) → IsTable M → Changes rs → after_all M (batch M rs) ≡ painted_all M rs
 batch_reaches M [] m c = refl
 batch_reaches M (r ∷ rs) m c =
@@ -119,32 +49,51 @@ batch_reaches M (r ∷ rs) m c =
     ∙ ap (λ T. after_all T (batch (painted M r) rs)) (between_reaches M (painted M r) m p)
     ∙ batch_reaches (painted M r) rs p (λ s i. c s (inr i))
 
-abbrev pub Turning : Address → List Operation → List Route → Type 0
-Turning x os M = (i j : ℕ) → i ≤ j → (hop_at (after_all M (take i os)) x ≡ hop_at M x) ⊎ (hop_at (after_all M (take j os)) x ≡ hop_at (after_all M os) x)
+module _ (x : Address) (a : IsAddress x) where
+  module _ (M : List Route) (m : IsTable M) (r : Route) (k : IsBlock r.block × IsHop r.hop) where
+    p : IsTable (painted M r)
+    p = painted_is_table M m r k.0 k.1
 
-pub batch_turns : (M rs : List Route) → IsTable M → Changes rs → Rising Apart rs → (x : Address) → IsAddress x → Turning x (batch M rs) M
-batch_turns M [] m c u x a zero j l = inl refl
-batch_turns M [] m c u x a (suc i) j l = inl refl
-batch_turns M (r ∷ rs) m c u x a i j l = go (has_address r.block x) refl
-    (λ p. batch_turns (painted M r) rs p (λ s i. c s (inr i)) u.1 x a)
-    (c r (inl refl))
-  where
-    p : IsBlock r.block × IsHop r.hop → IsTable (painted M r)
-    p k = painted_is_table M m r k.0 k.1
+    -- what holds of operations from the table after one change on
+    pub next : (h : Option ℕ) (F : List Route → List Operation → Option ℕ → Type 0) (ps : List Operation) → F (painted M r) ps h → F (after_all M (between M (painted M r))) ps h
+    next h F ps = subst (λ T. F T ps h) (sym (between_reaches M (painted M r) m p))
 
-    go : (b : Bool) → has_address r.block x ≡ b → (IsTable (painted M r) → Turning x (batch (painted M r) rs) (painted M r)) → IsBlock r.block × IsHop r.hop
-        → (hop_at (after_all M (take i (batch M (r ∷ rs)))) x ≡ hop_at M x) ⊎ (hop_at (after_all M (take j (batch M (r ∷ rs)))) x ≡ hop_at (after_all M (batch M (r ∷ rs))) x)
-    go true e rest k =
-        let q = between_reaches M (painted M r) m (p k) in
-        first_turns M (between M (painted M r)) (batch (painted M r) rs) x (IsHitless.turns (between_hitless M (painted M r) m (p k)) x a)
-        (subst (Turning x (batch (painted M r) rs)) (sym q) (rest (p k)))
-        (ap (λ T. hop_at T x) q ∙ sym (unpainted (painted M r) rs (p k) (λ s i. c s (inr i)) x a (λ s i h. u.0 s i x (has_from_test r.block x e) h))
-        ∙ ap (λ T. hop_at T x) (sym (batch_reaches (painted M r) rs (p k) (λ s i. c s (inr i)))) ∙ ap (λ T. hop_at (after_all T (batch (painted M r) rs)) x) (sym q)) i j l
-    go false e rest k =
-        let q = between_reaches M (painted M r) m (p k) in
-        second_turns M (between M (painted M r)) (batch (painted M r) rs) x (IsHitless.turns (between_hitless M (painted M r) m (p k)) x a)
-        (subst (Turning x (batch (painted M r) rs)) (sym q) (rest (p k)))
-        (sym (painted_hops M m r k.0 k.1 x a ∙ ap (λ b. cond b (number_of r.hop) (hop_at M x)) e) ∙ ap (λ T. hop_at T x) (sym q)) i j l
+    -- an address that the change hasn't
+    pub left_alone : has_address r.block x ≡ false → Settled x M (between M (painted M r)) (hop_at M x)
+    left_alone e =
+        let same = painted_hops M m r k.0 k.1 x a ∙ ap (λ b. cond b (number_of r.hop) (hop_at M x)) e in
+        subst (Settled x M (between M (painted M r))) same (leads_settled x a (painted M r) M (between M (painted M r)) (leads (painted M r) p M m) (sym same))
+
+  -- an address that no change has
+  none_turn : (M rs : List Route) → IsTable M → Changes rs → ((r : Route) → In r rs → HasAddress r.block x → ⊥) → Settled x M (batch M rs) (hop_at M x)
+  none_turn M [] m c none = refl
+  none_turn M (r ∷ rs) m c none =
+      let k = c r (inl refl) in
+      let p = painted_is_table M m r k.0 k.1 in
+      let e = not_held (has_address r.block x) (λ f. none r (inl refl) (has_from_test r.block x f)) in
+      settled_joined x M (between M (painted M r)) (batch (painted M r) rs) (hop_at M x) (left_alone M m r k e)
+      (next M m r k (hop_at M x) (Settled x) (batch (painted M r) rs)
+      (subst (Settled x (painted M r) (batch (painted M r) rs)) (painted_hops M m r k.0 k.1 x a ∙ ap (λ b. cond b (number_of r.hop) (hop_at M x)) e)
+      (none_turn (painted M r) rs p (λ s i. c s (inr i)) (λ s i. none s (inr i)))))
+
+  pub batch_once : (M rs : List Route) → IsTable M → Changes rs → Rising Apart rs → (h : Option ℕ) × Once x M (batch M rs) h
+  batch_once M [] m c u = (hop_at M x, refl)
+  batch_once M (r ∷ rs) m c u = go (has_address r.block x) refl (c r (inl refl)) (λ p. batch_once (painted M r) rs p (λ s i. c s (inr i)) u.1)
+    where
+      go : (b : Bool) → has_address r.block x ≡ b → IsBlock r.block × IsHop r.hop → (IsTable (painted M r) → (h : Option ℕ) × Once x (painted M r) (batch (painted M r) rs) h) → (h : Option ℕ) × Once x M (batch M (r ∷ rs)) h
+      go true e k rest =
+          let p = painted_is_table M m r k.0 k.1 in
+          let h = hop_at (painted M r) x in (
+            h,
+            once_then_settled x M (between M (painted M r)) (batch (painted M r) rs) h (leads_once x a (painted M r) M (between M (painted M r)) (leads (painted M r) p M m))
+                (next M m r k h (Settled x) (batch (painted M r) rs) (none_turn (painted M r) rs p (λ s i. c s (inr i)) (λ s i. u.0 s i x (has_from_test r.block x e)))),
+          )
+      go false e k rest =
+          let t = rest (painted_is_table M m r k.0 k.1) in
+          (t.0, settled_then_once x M (between M (painted M r)) (batch (painted M r) rs) (hop_at M x) t.0 (left_alone M m r k e) (next M m r k t.0 (Once x) (batch (painted M r) rs) t.1))
+
+pub batch_hitless : (M rs : List Route) → IsTable M → AreChanges rs → AreApart rs → IsHitless M (batch M rs)
+batch_hitless M rs m c p = hitless_from M (batch M rs) (λ x a. batch_once x a M rs m (changes_from rs c) (Rising-from_pairs Apart rs p))
 
 pub batch_hops : (M rs : List Route) → IsTable M → Changes rs → (x : Address) → IsAddress x → hop_at (painted_all M rs) x ≡ hop_over (hop_at M x) rs x
 batch_hops M [] m c x a = refl

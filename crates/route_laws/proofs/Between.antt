@@ -98,13 +98,11 @@ surplus_back M N r i =
 module _ (N : List Route) (new : IsTable N) where
   -- all of N is there, and the rest is to be removed, ascending
   pub second : (K : List Route) (T : List Route) → IsTable T → ((s : Route) → In s N → In s T) → ((s : Route) → In s T → In s N ⊎ In s K) → Rising Sooner K
-      → ((s : Route) → In s K → IsBlock s.block × ((u : Route) → In u N → u.block ≡ s.block → ⊥)) → Leads N new T (removes K)
+      → ((s : Route) → In s K → IsBlock s.block × ((u : Route) → In u N → u.block ≡ s.block → ⊥)) → Leads N T (removes K)
   second [] T table holds only up apart = same_rising Sooner (λ s u. strict s.block u.block) T N (rising T table) (rising N new)
       (λ s i. ⊎_elim (λ j. j) (λ j. absurd j) (only s i)) holds
   second (k ∷ K) T table holds only up apart =
       let here = apart k (inl refl) in (
-        table,
-        here.1,
         (λ x a. remove_turns N new T table x a k.block here.0 here.1 holds (λ s i l. ⊎_elim (λ j. j) (λ j. absurd (⊎_elim
             (λ e. let m = subst (λ (u : Route). IsBefore u.block k.block) e l in strict k.block k.block m m)
             (λ j. strict s.block k.block l (up.0 s j)) j)) (only s i))),
@@ -117,7 +115,7 @@ module _ (N : List Route) (new : IsTable N) where
   module _ (M : List Route) (old : IsTable M) where
     -- each route of N is there or yet to come, descending, and what is there is of M or of N
     pub first : (L : List Route) (T : List Route) → IsTable T → ((s : Route) → In s N → In s T ⊎ In s L) → ((s : Route) → In s T → In s M ⊎ In s N) → Rising Later L
-        → ((s : Route) → In s L → In s N) → Leads N new T (installs L ++ removes (surplus M N))
+        → ((s : Route) → In s L → In s N) → Leads N T (installs L ++ removes (surplus M N))
     first [] T table holds only down come = second (surplus M N) T table there
         (λ s i. ⊎_elim
         (λ j. ⊎_elim (λ t. inl (subst (λ (u : Route). In u N) (same_in T table t.0 s (there t.0 t.1) i t.2) t.1)) (λ k. inr k) (stored_or_surplus M N s j))
@@ -130,8 +128,6 @@ module _ (N : List Route) (new : IsTable N) where
     first (r ∷ L) T table holds only down come =
         let i = come r (inl refl) in
         let ok = block_in N new r i in (
-          table,
-          i,
           (λ x a. install_turns N new T table x a r i (λ s j l. ⊎_elim (λ k. k) (λ k. absurd (⊎_elim
               (λ e. let m = subst (λ (u : Route). IsBefore r.block u.block) e l in strict r.block r.block m m)
               (λ k. strict r.block s.block l (down.0 s k)) k)) (holds s j))),
@@ -147,7 +143,7 @@ module _ (N : List Route) (new : IsTable N) where
             (λ f. added_other T table r ok s k f)
             (same_or_not s.block r.block)
 
-    pub leads : Leads N new M (between M N)
+    pub leads : Leads N M (between M N)
     leads = first (reverse (missing M N)) M old
         (λ s i. ⊎_elim (λ j. inl j) (λ j. inr (In-reverse (missing M N) s j)) (held_or_missing M N s i))
         (λ s i. inl i)

@@ -11,6 +11,7 @@ use Rattle.ipnet_blocks.proofs.BlockLaws.{same_sets, nested, has_first, strict}
 use Rattle.ipnet_blocks.proofs.Parents.{climb}
 use Rattle.ipnet_blocks.proofs.Maximals.{host_is_block, in_host, has_host, member_is_address, maximal_is_top}
 use Rattle.route_laws.specs.Flats.{Piece, IsFlat, blocks_of, HasOneHop, IsAdmissible}
+use Rattle.route_laws.proofs.Ordered as Ordered
 
 pub In-map : (p : Piece) (ps : List Piece) → In p ps → In (Piece.block p) (blocks_of ps)
 In-map p [] i = absurd i
@@ -28,9 +29,7 @@ abbrev pub Sooner : Piece → Piece → Type 0
 Sooner p q = IsBefore p.block q.block
 
 pub Rising-map : (ps : List Piece) → Rising Sooner ps → Rising IsBefore (blocks_of ps)
-Rising-map [] h = tt
-Rising-map (p ∷ ps) h =
-    ((λ y i. let t = In-map_back y ps i in subst (λ (b : Block). IsBefore p.block b) (sym t.2) (h.0 t.0 t.1)), Rising-map ps h.1)
+Rising-map = Ordered.Rising-map Sooner IsBefore Piece.block (λ p q l. l)
 
 pub decide_number : (o : Option ℕ) (k : ℕ) → (o ≡ Some k) ⊎ (o ≡ Some k → ⊥)
 decide_number None k = inr (λ e. cc)

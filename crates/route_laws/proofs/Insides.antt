@@ -35,6 +35,10 @@ table_of M k up = record {
   ascending = pairs_from_Rising Sooner M up;
 }
 
+pub not_held : (b : Bool) → (b ≡ true → ⊥) → b ≡ false
+not_held true f = absurd (f refl)
+not_held false f = refl
+
 module _ (x : Address) (a : IsAddress x) where
   abbrev pub holds : Route → Bool
   holds r = is_inside (host x) r.block
@@ -44,10 +48,6 @@ module _ (x : Address) (a : IsAddress x) where
 
   pub test_from_has : (r : Route) → IsBlock r.block → HasAddress r.block x → holds r ≡ true
   test_from_has r p h = test_from_inside (host x) r.block (host_is_block x a) p (λ y m. subst (λ (z : Address). HasAddress r.block z) (sym (in_host x y m)) h)
-
-  not_held : (b : Bool) → (b ≡ true → ⊥) → b ≡ false
-  not_held true f = absurd (f refl)
-  not_held false f = refl
 
   none_holds : (M : List Route) → IsTable M → ((r : Route) → In r M → HasAddress r.block x → ⊥) → covering M (host x) ≡ []
   none_holds M t n = none_kept holds M (λ r i. not_held (holds r) (λ e. n r i (has_from_test r (sound M t r i).0 e)))
@@ -61,7 +61,7 @@ filter-append {A} p (x ∷ xs) ys = ap (λ zs. cond (p x) (x ∷ zs) zs) (filter
     go false = refl
 
 -- a second test that passes whatever the first does changes nothing
-filter_again : {A : Type 0} (p q : A → Bool) (xs : List A) → ((a : A) → In a xs → q a ≡ true → p a ≡ true) → filter q (filter p xs) ≡ filter q xs
+pub filter_again : {A : Type 0} (p q : A → Bool) (xs : List A) → ((a : A) → In a xs → q a ≡ true → p a ≡ true) → filter q (filter p xs) ≡ filter q xs
 filter_again p q [] h = refl
 filter_again {A} p q (x ∷ xs) h = go (p x) (q x) refl refl (filter_again p q xs (λ a i. h a (inr i)))
   where

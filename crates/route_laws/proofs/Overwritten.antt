@@ -24,11 +24,11 @@ use Rattle.route_laws.proofs.Networks.{routes_with, stored_block, stored_some, s
 use Rattle.route_laws.proofs.Ordered.{Earlier, put, put_back, put_itself, put_other, put_rises}
 use Rattle.route_laws.proofs.Updates.{added_is_table}
 
-not_cases : (b : Bool) → not b ≡ true → b ≡ true → ⊥
+pub not_cases : (b : Bool) → not b ≡ true → b ≡ true → ⊥
 not_cases true e f = cc
 not_cases false e f = cc
 
-not_from : (b : Bool) → (b ≡ true → ⊥) → not b ≡ true
+pub not_from : (b : Bool) → (b ≡ true → ⊥) → not b ≡ true
 not_from true f = absurd (f refl)
 not_from false f = refl
 

@@ -1,27 +1,17 @@
 -- The blocks of one number in a flat list.
-use Rattle.std.proofs.Common.{◌≡◌, ℕ, ◌==◌, Bool, true, false, cond, List, [], ◌∷◌, filter, Option, Some, sym, subst, arith}
+use Rattle.std.proofs.Common.{◌≡◌, ℕ, ◌==◌, Bool, true, List, filter, Option, Some, sym, subst, arith}
 use Rattle.std.proofs.lemmas.Bool.Decides.{nat_tests}
 use Rattle.ipnet_addr.specs.Addresses.{Address}
 use Rattle.ipnet_blocks.specs.Blocks.{Block, IsBefore}
 use Rattle.ipnet_blocks.specs.Maximal.{IsMaximalBlock, IsMaximal}
-use Rattle.ipnet_addr.proofs.Members.{In}
-use Rattle.ipnet_addr.proofs.Ascending.{In-from_Contains, Contains-from_In, Rising, Rising-from_pairs, pairs_from_Rising}
-use Rattle.route_choices.proofs.Kept.{In-from_filter, In-filter}
+use Rattle.ipnet_addr.proofs.Ascending.{In-from_Contains, Contains-from_In, Rising-from_pairs, pairs_from_Rising}
+use Rattle.route_choices.proofs.Kept.{Rising-kept, In-from_filter, In-filter}
 use Rattle.route_laws.specs.Flats.{Piece, IsFlat, blocks_of}
 use Rattle.route_laws.proofs.Flats.{Sooner, In-map, In-map_back, Rising-map}
 
-module _ {A : Type 0} (R : A → A → Type 0) (p : A → Bool) where
-  kept_or_not : (b : Bool) (a : A) (xs : List A) → ((c : A) → In c xs → R a c) → Rising R xs → Rising R (cond b (a ∷ xs) xs)
-  kept_or_not true a xs f h = (f, h)
-  kept_or_not false a xs f h = h
-
-  pub Rising-filter : (xs : List A) → Rising R xs → Rising R (filter p xs)
-  Rising-filter [] h = tt
-  Rising-filter (a ∷ xs) h = kept_or_not (p a) a (filter p xs) (λ c i. h.0 c (In-from_filter p xs c i).0) (Rising-filter xs h.1)
-
 pub own_is_maximal : (h : Address → Option ℕ) (ps : List Piece) (k : ℕ) → IsFlat h ps → IsMaximal (λ x. h x ≡ Some k) (blocks_of (filter (λ p. p.number == k) ps))
 own_is_maximal h ps k f = record {
-  ascending = pairs_from_Rising IsBefore (blocks_of (filter test ps)) (Rising-map (filter test ps) (Rising-filter Sooner test ps (Rising-from_pairs Sooner ps f.ascending)));
+  ascending = pairs_from_Rising IsBefore (blocks_of (filter test ps)) (Rising-map (filter test ps) (Rising-kept Sooner test ps (Rising-from_pairs Sooner ps f.ascending)));
   exact = λ b. (
     (λ c.
         let t = In-map_back b (filter test ps) (In-from_Contains (blocks_of (filter test ps)) b c) in

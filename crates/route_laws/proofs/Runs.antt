@@ -1,24 +1,20 @@
 -- An installer's table has the hops that were told, and its operations make it.
-use Rattle.std.proofs.Common.{◌≡◌, ℕ, zero, suc, inl, inr, ⊎_elim, arith, Bool, true, false, cond, List, [], ◌∷◌, ◌++◌, take, Option, None, refl, sym, ap, ◌∙◌, subst}
+use Rattle.std.proofs.Common.{◌≡◌, ℕ, inl, inr, ⊎_elim, arith, Bool, true, false, cond, List, [], ◌∷◌, ◌++◌, take, Option, None, refl, sym, ap, ◌∙◌, subst}
 use Rattle.ipnet_addr.specs.Addresses.{Address, IsAddress}
 use Rattle.route_laws.specs.LeastTables.{IsLeast}
 use Rattle.route_laws.specs.Tables.{Route, IsTable, hop_at}
 use Rattle.route_laws.proofs.Families.{least_too}
 use Rattle.route_laws.proofs.Insides.{table_of}
 use Rattle.route_laws.proofs.Updates.{added_is_table}
-use Rattle.ipnet_addr.proofs.Ascending.{Rising-from_pairs}
 use Rattle.route_laws.specs.Batches.{AreChanges, batch, hop_over, painted, painted_all}
 use Rattle.route_laws.specs.Operations.{IsHitless, after_all}
 use Rattle.route_laws.specs.Runs.{Event, Have, Told, Sync, Installer, IsApart, IsMade, MayCome, MayAllCome, after_event, after_events, gives, start, told}
-use Rattle.route_laws.proofs.Batches.{Apart, Changes, batch_hops, batch_reaches, batch_turns, between_hitless, between_reaches, changes_from}
+use Rattle.route_laws.proofs.Batches.{Changes, batch_hitless, batch_hops, batch_reaches, between_hitless, between_reaches, changes_from}
 use Rattle.route_laws.proofs.Painted.{painted_is_table}
+use Rattle.route_laws.proofs.Turning.{hitless_from}
 
-pub nothing_turns : (M : List Route) → IsHitless M []
-nothing_turns M = record { turns = λ x a i j l. inl (go i x) }
-  where
-    go : (i : ℕ) (x : Address) → hop_at (after_all M (take i [])) x ≡ hop_at M x
-    go zero x = refl
-    go (suc i) x = refl
+nothing_turns : (M : List Route) → IsHitless M []
+nothing_turns M = hitless_from M [] (λ x a. (hop_at M x, refl))
 
 painted_all_is_table : (M rs : List Route) → IsTable M → Changes rs → IsTable (painted_all M rs)
 painted_all_is_table M [] m c = m
@@ -107,7 +103,7 @@ hitless h s (Have r) g m p = nothing_turns s.installed
 hitless h s (Told rs) g m p = go s.kept
   where
     go : (b : Bool) → IsHitless s.installed (cond b (batch s.installed rs) [])
-    go true = record { turns = λ x a i j l. batch_turns s.installed rs g.installed (changes_from rs m) (Rising-from_pairs Apart rs p) x a i j l }
+    go true = batch_hitless s.installed rs g.installed m p
     go false = nothing_turns s.installed
 hitless h s (Sync N) g m p = between_hitless s.installed N g.installed m.hops.table
 

@@ -1,36 +1,22 @@
 -- Operations towards a table, on whose way the match of each address turns once.
-use Rattle.std.proofs.Common.{◌≡◌, ℕ, zero, suc, ◌<◌, ◌≤◌, ◌⊎◌, inl, inr, ⊎_elim, Bool, true, false, cond, nat_lt, List, [], ◌∷◌, take, Option, Some, None, refl, sym, ap, ◌∙◌, subst, arith}
+use Rattle.std.proofs.Common.{◌≡◌, ℕ, zero, suc, ◌<◌, ◌≤◌, ◌⊎◌, inl, inr, ⊎_elim, Bool, true, false, cond, nat_lt, List, [], ◌∷◌, ◌++◌, take, Option, Some, None, refl, sym, ap, ◌∙◌, subst, arith}
 use Rattle.std.proofs.lemmas.Bool.Decides.{nat_tests}
 use native.Mathlib.Decide.{dec_le}
 use Rattle.ipnet_addr.specs.Addresses.{Address, IsAddress, rank}
 use Rattle.ipnet_addr.proofs.Members.{In}
-use Rattle.ipnet_addr.proofs.Ascending.{In-from_Contains, Contains-from_In, same_rising}
+use Rattle.ipnet_addr.proofs.Ascending.{In-from_Contains, Contains-from_In}
 use Rattle.ipnet_blocks.specs.Blocks.{Block, IsBlock, HasAddress, IsInside, IsBefore, first, first_of, is_inside, host}
-use Rattle.ipnet_blocks.proofs.BlockLaws.{common, has_first, strict}
+use Rattle.ipnet_blocks.proofs.BlockLaws.{common, has_first}
 use Rattle.ipnet_blocks.proofs.Maximals.{host_is_block, has_host}
 use Rattle.ipnet_blocks.proofs.Search.{first_within}
-use Rattle.route_laws.specs.Operations.{Operation, Install, Remove, after, after_all}
-use Rattle.route_laws.specs.Tables.{Route, IsTable, longer, match_of, with_route, without_block}
+use Rattle.route_laws.specs.Operations.{Operation, IsHitless, after, after_all}
+use Rattle.route_laws.specs.Tables.{Route, IsTable, hop_at, longer, match_number, match_of, with_route, without_block}
 use Rattle.route_laws.proofs.Alterations.{host_inside, match_is, no_matches}
 use Rattle.route_laws.proofs.Held.{match_after_add, match_after_del}
-use Rattle.route_laws.proofs.Insides.{Sooner, has_from_test, rising, same_in, sound}
+use Rattle.route_laws.proofs.Insides.{has_from_test, sound}
 use Rattle.route_laws.proofs.Matches.{block_in, match_meets, no_match, same_length}
 use Rattle.route_laws.proofs.Ordered.{same_or_not}
-use Rattle.route_laws.proofs.Updates.{added_back, added_is_table, added_itself, added_other, left_back, left_is_table, left_other}
-
--- a route that is held changes nothing
-held_again : (M : List Route) → IsTable M → (r : Route) → In r M → with_route M r ≡ M
-held_again M t r i =
-    let s = sound M t r i in
-    same_rising Sooner (λ s u. strict s.block u.block) (with_route M r) M (rising (with_route M r) (added_is_table M t r s.0 s.1)) (rising M t)
-    (λ s j. ⊎_elim (λ e. subst (λ (u : Route). In u M) (sym e) i) (λ u. u.0) (added_back M t r ok s j))
-    (λ s j. ⊎_elim
-    (λ e. subst (λ (u : Route). In u (with_route M r)) (sym (same_in M t s r j i e)) (added_itself M t r ok))
-    (λ f. added_other M t r ok s j f)
-    (same_or_not s.block r.block))
-  where
-    ok : IsBlock r.block
-    ok = block_in M t r i
+use Rattle.route_laws.proofs.Updates.{added_is_table, left_back, left_is_table, left_other}
 
 -- of two blocks with a common address the shorter comes first
 shorter_first : (a b : Block) (x : Address) → IsBlock a → IsBlock b → HasAddress a x → HasAddress b x → a.len < b.len → IsBefore a b
@@ -43,11 +29,6 @@ shorter_first a b x p q h k l =
     go (yes y) f low short = inr (inr (f, omega arith, short))
 
 module _ (N : List Route) (new : IsTable N) where
-  -- an operation that a table may undergo on its way to N
-  abbrev pub Towards : Operation → Type 0
-  Towards (Install r) = In r N
-  Towards (Remove b) = (s : Route) → In s N → s.block ≡ b → ⊥
-
   -- a table with a route of N
   pub with_one : (T : List Route) → IsTable T → (r : Route) → In r N → IsTable (with_route T r)
   with_one T table r i = let s = sound N new r i in added_is_table T table r s.0 s.1
@@ -56,22 +37,9 @@ module _ (N : List Route) (new : IsTable N) where
     abbrev its_match : List Route → Option Route
     its_match M = match_of M (host x)
 
-    abbrev added : Route → Option Route → Option Route
-    added r o = cond (is_inside (host x) r.block) (Some (longer r o)) o
-
     -- the match stays, or is that in N
     abbrev Turns : List Route → Type 0
     Turns M = (its_match M ≡ its_match T) ⊎ (its_match M ≡ its_match N)
-
-    -- a match that is the one in N stays
-    stays : (o : Operation) → Towards o → its_match T ≡ its_match N → its_match (after T o) ≡ its_match N
-    stays (Install r) i e =
-        match_after_add T r (host x) table (with_one T table r i) (host_is_block x a)
-        ∙ ap (added r) e
-        ∙ sym (match_after_add N r (host x) new (with_one N new r i) (host_is_block x a))
-        ∙ ap its_match (held_again N new r i)
-    stays (Remove b) apart e = match_after_del T (host x) b table (host_is_block x a)
-        (λ r q. apart r (In-from_Contains N r (match_meets N new (host x) (host_is_block x a) r (sym e ∙ q)).member)) ∙ e
 
     -- a route that is installed after those of N that come behind it
     pub install_turns : (r : Route) → In r N → ((s : Route) → In s N → IsBefore r.block s.block → In s T) → Turns (with_route T r)
@@ -147,30 +115,79 @@ module _ (N : List Route) (new : IsTable N) where
                 match_is (without_block T b) left x a n (left_other T table b n (holds n i) (apart n i)) (m.holds x (has_host x))
                 (λ u j h. m.longest u (Contains-from_In N u (in_new e u j h)) (host_inside x u.block h)) ∙ sym p
 
+module _ (N : List Route) where
   -- operations that lead to N: each leaves the match of an address, or makes it that in N
   abbrev pub Leads : List Route → List Operation → Type 0
   Leads T [] = T ≡ N
-  Leads T (o ∷ os) = IsTable T × Towards o
-      × ((x : Address) → IsAddress x → (match_of (after T o) (host x) ≡ match_of T (host x)) ⊎ (match_of (after T o) (host x) ≡ match_of N (host x)))
-      × Leads (after T o) os
+  Leads T (o ∷ os) = ((x : Address) → IsAddress x → (match_of (after T o) (host x) ≡ match_of T (host x)) ⊎ (match_of (after T o) (host x) ≡ match_of N (host x))) × Leads (after T o) os
 
   pub reaches : (T : List Route) (os : List Operation) → Leads T os → after_all T os ≡ N
   reaches T [] l = l
-  reaches T (o ∷ os) l = reaches (after T o) os l.3
+  reaches T (o ∷ os) l = reaches (after T o) os l.1
 
-  module _ (x : Address) (a : IsAddress x) where
-    from_new : (T : List Route) (os : List Operation) → Leads T os → match_of T (host x) ≡ match_of N (host x) → (j : ℕ) → match_of (after_all T (take j os)) (host x) ≡ match_of N (host x)
-    from_new T [] l e zero = e
-    from_new T [] l e (suc j) = e
-    from_new T (o ∷ os) l e zero = e
-    from_new T (o ∷ os) l e (suc j) = from_new (after T o) os l.3 (stays T l.0 x a o l.1 e) j
+module _ (x : Address) where
+  -- from here on the hop is h
+  abbrev pub Settled : List Route → List Operation → Option ℕ → Type 0
+  Settled M [] h = hop_at M x ≡ h
+  Settled M (o ∷ os) h = (hop_at M x ≡ h) × Settled (after M o) os h
 
-    pub turns : (T : List Route) (os : List Operation) → Leads T os → (i j : ℕ) → i ≤ j
-        → (match_of (after_all T (take i os)) (host x) ≡ match_of T (host x)) ⊎ (match_of (after_all T (take j os)) (host x) ≡ match_of N (host x))
-    turns T os l zero j h = inl refl
-    turns T [] l (suc i) j h = inl refl
-    turns T (o ∷ os) l (suc i) zero h = absurd (omega arith)
-    turns T (o ∷ os) l (suc i) (suc j) h = ⊎_elim
-        (λ e. ⊎_elim (λ f. inl (f ∙ e)) (λ f. inr f) (turns (after T o) os l.3 i j (omega arith)))
-        (λ e. inr (from_new (after T o) os l.3 e j))
-        (l.2 x a)
+  -- it stays as it is until it is h, from then on
+  abbrev pub Once : List Route → List Operation → Option ℕ → Type 0
+  Once M [] h = hop_at M x ≡ h
+  Once M (o ∷ os) h = ((hop_at (after M o) x ≡ hop_at M x) × Once (after M o) os h) ⊎ Settled (after M o) os h
+
+  settled_at : (M : List Route) (os : List Operation) (h : Option ℕ) → Settled M os h → (i : ℕ) → hop_at (after_all M (take i os)) x ≡ h
+  settled_at M [] h s zero = s
+  settled_at M [] h s (suc i) = s
+  settled_at M (o ∷ os) h s zero = s.0
+  settled_at M (o ∷ os) h s (suc i) = settled_at (after M o) os h s.1 i
+
+  settled_end : (M : List Route) (os : List Operation) (h : Option ℕ) → Settled M os h → hop_at (after_all M os) x ≡ h
+  settled_end M [] h s = s
+  settled_end M (o ∷ os) h s = settled_end (after M o) os h s.1
+
+  once_end : (M : List Route) (os : List Operation) (h : Option ℕ) → Once M os h → hop_at (after_all M os) x ≡ h
+  once_end M [] h t = t
+  once_end M (o ∷ os) h (inl t) = once_end (after M o) os h t.1
+  once_end M (o ∷ os) h (inr s) = settled_end (after M o) os h s
+
+  once_turns : (M : List Route) (os : List Operation) (h : Option ℕ) → Once M os h → (i j : ℕ) → i ≤ j → (hop_at (after_all M (take i os)) x ≡ hop_at M x) ⊎ (hop_at (after_all M (take j os)) x ≡ h)
+  once_turns M os h t zero j l = inl refl
+  once_turns M [] h t (suc i) j l = inl refl
+  once_turns M (o ∷ os) h t (suc i) zero l = absurd (omega arith)
+  once_turns M (o ∷ os) h (inl t) (suc i) (suc j) l = ⊎_elim (λ e. inl (e ∙ t.0)) (λ e. inr e) (once_turns (after M o) os h t.1 i j (omega arith))
+  once_turns M (o ∷ os) h (inr s) (suc i) (suc j) l = inr (settled_at (after M o) os h s j)
+
+  -- one list of operations after the other
+  pub settled_joined : (M : List Route) (os ps : List Operation) (h : Option ℕ) → Settled M os h → Settled (after_all M os) ps h → Settled M (os ++ ps) h
+  settled_joined M [] ps h s t = t
+  settled_joined M (o ∷ os) ps h s t = (s.0, settled_joined (after M o) os ps h s.1 t)
+
+  pub once_then_settled : (M : List Route) (os ps : List Operation) (h : Option ℕ) → Once M os h → Settled (after_all M os) ps h → Once M (os ++ ps) h
+  once_then_settled M [] [] h t s = s
+  once_then_settled M [] (p ∷ ps) h t s = inr s.1
+  once_then_settled M (o ∷ os) ps h (inl t) s = inl (t.0, once_then_settled (after M o) os ps h t.1 s)
+  once_then_settled M (o ∷ os) ps h (inr t) s = inr (settled_joined (after M o) os ps h t s)
+
+  pub settled_then_once : (M : List Route) (os ps : List Operation) (g h : Option ℕ) → Settled M os g → Once (after_all M os) ps h → Once M (os ++ ps) h
+  settled_then_once M [] ps g h s t = t
+  settled_then_once M (o ∷ os) ps g h s t = inl (settled_at (after M o) os g s.1 zero ∙ sym s.0, settled_then_once (after M o) os ps g h s.1 t)
+
+  module _ (a : IsAddress x) (N : List Route) where
+    -- an address whose hop is that in N
+    pub leads_settled : (T : List Route) (os : List Operation) → Leads N T os → hop_at T x ≡ hop_at N x → Settled T os (hop_at N x)
+    leads_settled T [] l e = e
+    leads_settled T (o ∷ os) l e = (e, leads_settled (after T o) os l.1 (⊎_elim (λ f. ap match_number f ∙ e) (λ f. ap match_number f) (l.0 x a)))
+
+    pub leads_once : (T : List Route) (os : List Operation) → Leads N T os → Once T os (hop_at N x)
+    leads_once T [] l = ap (λ M. hop_at M x) l
+    leads_once T (o ∷ os) l = ⊎_elim
+        (λ e. inl (ap match_number e, leads_once (after T o) os l.1))
+        (λ e. inr (leads_settled (after T o) os l.1 (ap match_number e)))
+        (l.0 x a)
+
+pub hitless_from : (M : List Route) (os : List Operation) → ((x : Address) → IsAddress x → (h : Option ℕ) × Once x M os h) → IsHitless M os
+hitless_from M os f = record {
+  turns = λ x a i j l. let t = f x a in
+      ⊎_elim (λ e. inl e) (λ e. inr (e ∙ sym (once_end x M os t.0 t.1))) (once_turns x M os t.0 t.1 i j l);
+}

@@ -1,6 +1,5 @@
-use Rattle.ipnet_addr.proofs.Ascending.{Rising-from_pairs}
 use Rattle.route_laws.specs.Tables.{Changed}
-use Rattle.route_laws.proofs.Batches.{Apart, batch_hops, batch_reaches, batch_turns, changes_from, told_are_changes}
+use Rattle.route_laws.proofs.Batches.{batch_hops, batch_reaches, batch_hitless, changes_from, told_are_changes}
 use Rattle.route_laws.proofs.OperationCounts.{counted}
 use Rattle.route_laws.proofs.Handed.{handed_by_none, handed_by_parent}
 use Rattle.route_laws.proofs.Painted.{painted_hops, painted_is_table}
@@ -16,5 +15,5 @@ returns c = record {
   few = λ M r m ok hop. counted M r m ok hop;
   hops_after = λ M rs m c. batch_hops M rs m (changes_from rs c);
   told = λ M N. told_are_changes (Changed M N);
-  hitless = λ M rs m c p. record { turns = λ x a i j l. batch_turns M rs m (changes_from rs c) (Rising-from_pairs Apart rs p) x a i j l };
+  hitless = batch_hitless;
 }
