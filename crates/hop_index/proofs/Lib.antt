@@ -1,0 +1,4 @@
+pub mod Searches
+pub mod Lookups
+pub mod Pieces
+pub mod Indexes

@@ -1,0 +1,2 @@
+pub mod InnerRanges
+pub mod Indexes
