@@ -1,17 +1,17 @@
 -- The hops of an index of the ranges of a flat list.
-use Rattle.std.proofs.Common.{◌≡◌, ℕ, List, Option, Result, Ok, Err, IfOk, ap, ◌∙◌}
+use Rattle.std.proofs.Common.{◌≡◌, ℕ, List, Option, Result, Ok, Err, IfOk, ◌∙◌}
 use Rattle.ipnet_addr.specs.Addresses.{Address, Family, IsAddress, Ipv4, Ipv6}
 use Rattle.route_laws.specs.Flats.{Piece, IsFlat}
 use Rattle.hop_index.specs.Indexes.{Index, hop_of, ranges_of}
-use Rattle.hop_index.specs.InnerRanges.{hop_in, ranges_in}
+use Rattle.hop_index.specs.InnerRanges.{Replaces, ranges_in}
 use Rattle.hop_index.proofs.Pieces.{same_hops}
 
-ranges_are : (i : Index) (ps : List Piece) → i.v4 ≡ ranges_in Ipv4 ps → i.v6 ≡ ranges_in Ipv6 ps → (f : Family) → ranges_of f i ≡ ranges_in f ps
+ranges_are : (i : Index) (ps : List Piece) → Replaces (ranges_in Ipv4 ps) i.v4 → Replaces (ranges_in Ipv6 ps) i.v6 → (f : Family) → Replaces (ranges_in f ps) (ranges_of f i)
 ranges_are i ps v4 v6 Ipv4 = v4
 ranges_are i ps v4 v6 Ipv6 = v6
 
-pub index_hops : (i : Index) (ps : List Piece) → i.v4 ≡ ranges_in Ipv4 ps → i.v6 ≡ ranges_in Ipv6 ps → (h : Address → Option ℕ) → IsFlat h ps → (x : Address) → IsAddress x → hop_of i x ≡ h x
-index_hops i ps v4 v6 h flat x a = ap (λ rs. hop_in rs x.number) (ranges_are i ps v4 v6 x.family) ∙ same_hops h ps flat x a
+pub index_hops : (i : Index) (ps : List Piece) → Replaces (ranges_in Ipv4 ps) i.v4 → Replaces (ranges_in Ipv6 ps) i.v6 → (h : Address → Option ℕ) → IsFlat h ps → (x : Address) → IsAddress x → hop_of i x ≡ h x
+index_hops i ps v4 v6 h flat x a = (ranges_are i ps v4 v6 x.family).hops x.number ∙ same_hops h ps flat x a
 
 -- the hops of the one function that has the flat list
 pub hops_of_flat : {E : Type 0} (r : Result Index E) (ps : List Piece) (h : Address → Option ℕ) → IsFlat h ps

@@ -2,3 +2,4 @@ pub mod Searches
 pub mod Lookups
 pub mod Pieces
 pub mod Indexes
+pub mod Joins

@@ -4,7 +4,8 @@ use Rattle.std.proofs.lemmas.Bool.{cases_lt}
 use Rattle.std.proofs.lemmas.Bool.Decides.{nat_tests}
 use Rattle.std.proofs.lemmas.List.{get_or_default}
 use Rattle.ipnet_addr.proofs.Members.{In}
-use Rattle.hop_index.specs.InnerRanges.{AreRanges, BeginsFrom, HopRange, IsIn, hop_in, is_in}
+use Rattle.hop_index.specs.Ranges.{HopRange, IsIn, hop_in, is_in}
+use Rattle.hop_index.specs.InnerRanges.{AreRanges, BeginsFrom}
 use Rattle.hop_index.proofs.Searches.{first_before}
 
 pub in_test : (x : ℕ) (r : HopRange) → IsIn x r → is_in x r ≡ true
@@ -13,7 +14,7 @@ in_test x r h = grind (arith, nat_tests, h)
 pub out_test : (x : ℕ) (r : HopRange) → (IsIn x r → ⊥) → is_in x r ≡ false
 out_test x r h = ⊎_elim (λ less. grind (arith, nat_tests)) (λ more. ⊎_elim (λ less. grind (arith, nat_tests)) (λ le. absurd (h (more, le))) (cases_lt r.last x)) (cases_lt x r.first)
 
-in_from_test : (x : ℕ) (r : HopRange) → is_in x r ≡ true → IsIn x r
+pub in_from_test : (x : ℕ) (r : HopRange) → is_in x r ≡ true → IsIn x r
 in_from_test x r e = grind (arith, nat_tests, e)
 
 -- the number is in one of the ranges, and has its hop, or it is in none

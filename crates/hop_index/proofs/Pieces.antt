@@ -14,7 +14,8 @@ use Rattle.route_choices.proofs.Kept.{In-map, map_In, Rising-kept, In-from_filte
 use Rattle.route_laws.specs.Flats.{Piece, IsFlat}
 use Rattle.route_laws.proofs.Flats.{Sooner, piece_at, tells}
 use Rattle.route_table.proofs.FlatPieces.{Rising-map}
-use Rattle.hop_index.specs.InnerRanges.{AreRanges, EndsBefore, HopRange, IsIn, hop_in, range_of, ranges_in}
+use Rattle.hop_index.specs.Ranges.{HopRange, IsIn, hop_in}
+use Rattle.hop_index.specs.InnerRanges.{AreRanges, EndsBefore, range_of, ranges_in}
 use Rattle.hop_index.proofs.Lookups.{in_or_none}
 
 module _ (h : Address → Option ℕ) (ps : List Piece) (flat : IsFlat h ps) where

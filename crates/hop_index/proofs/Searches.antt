@@ -3,7 +3,8 @@ use Rattle.std.proofs.Common.{◌≡◌, ℕ, ◌+◌, ◌*◌, ◌<◌, ◌≤�
 use Rattle.std.proofs.lemmas.Bool.{cases_lt}
 use Rattle.std.proofs.lemmas.List.{get_or_append_left, get_or_default, get_or_push}
 use Rattle.std.proofs.Math.Nat.{mul-le-mul_right}
-use Rattle.hop_index.specs.InnerRanges.{AreRanges, BeginsBelow, BeginsFrom, HopRange}
+use Rattle.hop_index.specs.Ranges.{HopRange}
+use Rattle.hop_index.specs.InnerRanges.{AreRanges, BeginsBelow, BeginsFrom}
 
 -- where one begins, the earlier ones have ended
 pub first_before : (rs : List HopRange) (k m : ℕ) (e d : HopRange) → AreRanges rs → k < m → m < length rs → (get_or rs k e).last < (get_or rs m d).first
@@ -40,12 +41,9 @@ begins_from rs y m d h m_in f = record {
       (cases_lt m k);
 }
 
--- a later bound, and an earlier one
+-- a later bound
 pub below_later : (rs : List HopRange) (y z i : ℕ) → y ≤ z → BeginsBelow rs y i → BeginsBelow rs z i
 below_later rs y z i le b = record { within = b.within; below = λ k d l. let f : (get_or rs k d).first < y = b.below k d l in omega arith }
-
-pub from_earlier : (rs : List HopRange) (y z i : ℕ) → z ≤ y → BeginsFrom rs y i → BeginsFrom rs z i
-from_earlier rs y z i le b = record { within = b.within; from = λ k d l m. let f : y ≤ (get_or rs k d).first = b.from k d l m in omega arith }
 
 -- no range is left
 pub from_end : (rs : List HopRange) (y i : ℕ) → i ≤ length rs → length rs ≤ i → BeginsFrom rs y i

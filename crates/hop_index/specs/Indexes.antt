@@ -1,7 +1,7 @@
 -- The hops that an index has.
 use Rattle.std.specs.Prelude.{ℕ, List, Option}
 use Rattle.ipnet_addr.specs.Addresses.{Address, Family, Ipv4, Ipv6}
-use Rattle.hop_index.specs.InnerRanges.{HopRange, hop_in}
+use Rattle.hop_index.specs.Ranges.{HopRange, hop_in}
 
 -- ranges of addresses of either family, each with its hop
 pub record Index : Type 0 where

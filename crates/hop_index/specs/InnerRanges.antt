@@ -1,27 +1,9 @@
--- Ascending ranges of numbers, each with a hop.
-use Rattle.std.specs.Prelude.{◌≡◌, ℕ, ◌-◌, ◌*◌, ◌^◌, ◌<◌, ◌≤◌, ◌&&◌, nat_le, if◌then◌else◌, Bool, List, [], ◌∷◌, Option, Some, None, All, AllPairs, filter, length, map, slice_index, slice_index_or}
+-- Ascending ranges, the index by their first bits, and the ranges of a flat list.
+use Rattle.std.specs.Prelude.{◌≡◌, ℕ, ◌-◌, ◌*◌, ◌^◌, ◌<◌, ◌≤◌, List, All, AllPairs, filter, length, map, slice_index, slice_index_or}
 use Rattle.ipnet_addr.specs.Addresses.{Family, same_family, width}
 use Rattle.ipnet_blocks.specs.Blocks.{first, last}
 use Rattle.route_laws.specs.Flats.{Piece}
-
--- the numbers from first to last have this hop
-pub record HopRange : Type 0 where
-  pub first : ℕ
-  pub last : ℕ
-  pub hop : ℕ
-
--- the number is one of the range's
-abbrev pub IsIn : ℕ → HopRange → Type 0
-IsIn x r = (r.first ≤ x) × (x ≤ r.last)
-
--- the test of `IsIn`
-abbrev pub is_in : ℕ → HopRange → Bool
-is_in x r = nat_le r.first x && nat_le x r.last
-
--- the hop of the range that has the number
-abbrev pub hop_in : List HopRange → ℕ → Option ℕ
-hop_in [] x = None
-hop_in (r ∷ rs) x = if is_in x r then Some r.hop else hop_in rs x
+use Rattle.hop_index.specs.Ranges.{HopRange, hop_in}
 
 -- the earlier range ends before the later one begins
 abbrev pub EndsBefore : HopRange → HopRange → Type 0
@@ -31,6 +13,11 @@ EndsBefore r s = r.last < s.first
 pub record AreRanges (rs : List HopRange) : Type 0 where
   pub filled : All (λ r. r.first ≤ r.last) rs
   pub apart : AllPairs EndsBefore rs
+
+-- ranges with the hops of others
+pub record Replaces (rs ss : List HopRange) : Type 0 where
+  pub ranges : AreRanges ss
+  pub hops : (x : ℕ) → hop_in ss x ≡ hop_in rs x
 
 -- the first i ranges begin below y
 pub record BeginsBelow (rs : List HopRange) (y i : ℕ) : Type 0 where

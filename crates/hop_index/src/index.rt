@@ -6,9 +6,9 @@ ghost use Rattle.route_laws.specs.Networks.{routes_of};
 ghost use Rattle.route_laws.specs.Tables.{hop_at};
 ghost use Rattle.trie_map.specs.declared.refused.Refused.TheVariants.{Memory};
 ghost use Rattle.hop_index.specs.Indexes.{hop_of};
-ghost use Rattle.hop_index.specs.InnerRanges.{ranges_in};
+ghost use Rattle.hop_index.specs.InnerRanges.{Replaces, ranges_in};
 
-use crate::ranges::{Range, Ranges};
+use crate::ranges::{Range, Ranges, push};
 use ipnet::{IpAddr, IpNet};
 use ipnet_addr::number::Number;
 use prefix_trie::Refused;
@@ -17,17 +17,18 @@ use route_table::{HopTable, RouteTable};
 use std::alloc::{AllocError, Global};
 use std::marker::Model;
 
-/// The ranges of the blocks of a flat list, by family.
+/// The ranges of the blocks of a flat list, by family; those that touch and have one hop are one.
 fn ranges(alloc: Global, flat: Flat<'_>) -> Result<(Vec<Range<u32>>, Vec<Range<u128>>), AllocError>
-    ensures ipv4 { IfOk result (λ r. r.0.items ≡ ranges_in Ipv4 flat.entry) }
-    ensures ipv6 { IfOk result (λ r. r.1.items ≡ ranges_in Ipv6 flat.entry) }
+    requires { (h : Address → Option ℕ) × IsFlat h flat }
+    ensures ipv4 { IfOk result (λ r. Replaces (ranges_in Ipv4 flat.entry) r.0.items) }
+    ensures ipv6 { IfOk result (λ r. Replaces (ranges_in Ipv6 flat.entry) r.1.items) }
 {
     let mut v4 = Vec::new(alloc);
     let mut v6 = Vec::new(alloc);
     for (net, hop) in flat {
         match net {
-            IpNet::V4(net) => v4.push(Range::of_net(&net, hop))?,
-            IpNet::V6(net) => v6.push(Range::of_net(&net, hop))?,
+            IpNet::V4(net) => push(&mut v4, Range::of_net(&net, hop))?,
+            IpNet::V6(net) => push(&mut v6, Range::of_net(&net, hop))?,
         }
     }
     Ok((v4, v6))
@@ -55,11 +56,21 @@ impl HopIndex {
     ///
     /// # Errors
     /// `Memory` where there is none for it.
+    ///
+    /// # Examples
+    /// ```rust
+    /// table.add(IpNet::from_str("10.0.0.0/8")?, Hop::Number(1), 100)?;
+    /// table.add(IpNet::from_str("10.1.0.0/16")?, Hop::Drop, 100)?;
+    /// let index = HopIndex::of_table(rt.alloc(), &table)?;
+    /// assert_eq!(rt; index.hop(IpAddr::from_str("10.2.3.4")?), Some(1));
+    /// assert_eq!(rt; index.hop(IpAddr::from_str("10.1.2.3")?), None);
+    /// ```
     pub fn of_table(alloc: Global, table: &RouteTable) -> Result<HopIndex, Refused>
         ensures hops { IfOk result (λ i. (x : Address) → IsAddress x → hop_of i x ≡ hop_at (routes_of table.now) x) }
         ensures memory { IfErr result (λ e. e ≡ Memory) }
     {
-        HopIndex::from_flat(alloc, table.flat())
+        let flat = table.flat();
+        HopIndex::from_flat(alloc, flat)
     }
 
     /// The hops of a table with one route a network; `drop` and no route are both none.
@@ -70,7 +81,8 @@ impl HopIndex {
         ensures hops { IfOk result (λ i. (x : Address) → IsAddress x → hop_of i x ≡ hop_at (routes_of table.now) x) }
         ensures memory { IfErr result (λ e. e ≡ Memory) }
     {
-        HopIndex::from_flat(alloc, table.flat())
+        let flat = table.flat();
+        HopIndex::from_flat(alloc, flat)
     }
 
     /// The hops of the blocks of a flat list, such as `flat` of a table gives; all other addresses have none.

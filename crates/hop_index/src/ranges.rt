@@ -1,8 +1,9 @@
 //! Ascending ranges of addresses of one family, each with a hop, found by their first bits.
-ghost use Rattle.std.specs.Prelude.{◌≡◌, ◌+◌, ◌*◌, ◌-◌, ◌^◌, ◌<◌, ◌≤◌, IfOk};
+ghost use Rattle.std.specs.Prelude.{◌≡◌, ◌+◌, ◌*◌, ◌-◌, ◌^◌, ◌<◌, ◌≤◌, ◌↔◌, ◌∷◌, ◌++◌, IfOk, IsTrue, List, OnOk};
 ghost use Rattle.ipnet_addr.specs.Addresses.{width};
 ghost use Rattle.ipnet_blocks.specs.Networks.{block_of};
-ghost use Rattle.hop_index.specs.InnerRanges.{AreRanges, AreStarts, BeginsBelow, BeginsFrom, chunk_size, hop_in, range_of};
+ghost use Rattle.hop_index.specs.Ranges.{HopRange, hop_in};
+ghost use Rattle.hop_index.specs.InnerRanges.{AreRanges, AreStarts, BeginsBelow, BeginsFrom, Replaces, chunk_size, range_of};
 
 use ipnet::Net;
 use ipnet_addr::number::Number;
@@ -26,7 +27,7 @@ pub(crate) struct Range<N: Number> {
 }
 
 impl<N: Number> Model for Range<N> {
-    ghost use Rattle.hop_index.specs.InnerRanges.{HopRange};
+    ghost use Rattle.hop_index.specs.Ranges.{HopRange};
 
     ghost Value = { HopRange };
 
@@ -66,6 +67,42 @@ impl<N: Number> Range<N> {
     {
         self.hop
     }
+
+    /// Whether the next range begins just after this one, and has its hop.
+    fn goes_on(&self, next: &Range<N>) -> bool
+        ensures { IsTrue result ↔ (self.now.last + 1 ≡ next.now.first) × (self.now.hop ≡ next.now.hop) }
+    {
+        let (last, first) = (self.last(), next.first());
+        self.hop() == next.hop() && last < first && first - last == 1
+    }
+
+    /// From the beginning of this range to the end of the next one, whose hop it has.
+    fn joined(&self, next: &Range<N>) -> Range<N>
+        ensures { result ≡ record { first = self.now.first; last = next.now.last; hop = next.now.hop } }
+    {
+        Range {
+            first: self.first,
+            last: next.last,
+            hop: next.hop,
+        }
+    }
+}
+
+/// Appends a range; where the one before it touches it and has its hop, the two become one.
+pub(crate) fn push<N: Number>(ranges: &mut Vec<Range<N>>, range: Range<N>) -> Result<(), AllocError>
+    ensures { OnOk result ((rest : List HopRange) → AreRanges (ranges.old.items ++ range ∷ rest) → Replaces (ranges.old.items ++ range ∷ rest) (ranges.new.items ++ rest)) }
+{
+    let Some(before) = ranges.pop() else {
+        ranges.push(range)?;
+        return Ok(());
+    };
+    if before.goes_on(&range) {
+        ranges.push(before.joined(&range))?;
+        return Ok(());
+    }
+    ranges.push(before)?;
+    ranges.push(range)?;
+    Ok(())
 }
 
 /// The first bits of a number, which name its chunk.
@@ -128,7 +165,8 @@ pub(crate) struct Ranges<N: Number> {
 
 impl<N: Number> Model for Ranges<N> {
     ghost use Rattle.std.specs.Prelude.{List};
-    ghost use Rattle.hop_index.specs.InnerRanges.{AreRanges, AreStarts, HopRange};
+    ghost use Rattle.hop_index.specs.Ranges.{HopRange};
+    ghost use Rattle.hop_index.specs.InnerRanges.{AreRanges, AreStarts};
 
     ghost Value = { List HopRange };
 

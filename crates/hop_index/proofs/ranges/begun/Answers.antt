@@ -1,5 +1,5 @@
 use Rattle.std.proofs.Common.{ap, arith}
-use Rattle.hop_index.specs.InnerRanges.{HopRange}
+use Rattle.hop_index.specs.Ranges.{HopRange}
 use Rattle.hop_index.proofs.Searches.{begins_below, begins_from}
 use Rattle.hop_index.proofs.ranges.begun.Goals as goal
 

@@ -1,6 +1,7 @@
 use Rattle.std.proofs.Common.{◌≡◌, ℕ, ◌+◌, ◌*◌, ◌<◌, ◌≤◌, ◌++◌, [], ◌∷◌, List, length, get_or, arith, length-append, ap, sym, subst}
 use Rattle.std.proofs.Math.Nat.{mul-le-mul_right}
-use Rattle.hop_index.specs.InnerRanges.{BeginsBelow, BeginsFrom, HopRange, chunk_size}
+use Rattle.hop_index.specs.Ranges.{HopRange}
+use Rattle.hop_index.specs.InnerRanges.{BeginsBelow, BeginsFrom, chunk_size}
 use Rattle.hop_index.proofs.Searches.{begins_below, begins_from, below_later, chunk_after, chunk_from, from_end, one_more}
 use Rattle.hop_index.proofs.ranges.starts.Goals as goal
 use Rattle.hop_index.proofs.ranges.starts.Goals.{then-loop-count-test+else-chunk_of-chunk, else-loop-count-test}

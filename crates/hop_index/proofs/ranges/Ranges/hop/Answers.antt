@@ -1,5 +1,6 @@
 use Rattle.std.proofs.Common.{◌≡◌, ◌+◌, ◌-◌, ◌<◌, ◌≤◌, ℕ, List, Some, length, get_or, sym, ap, ◌∙◌, arith}
-use Rattle.hop_index.specs.InnerRanges.{BeginsBelow, BeginsFrom, HopRange}
+use Rattle.hop_index.specs.Ranges.{HopRange}
+use Rattle.hop_index.specs.InnerRanges.{BeginsBelow, BeginsFrom}
 use Rattle.hop_index.proofs.Lookups.{found, in_gap, none_begun}
 use Rattle.hop_index.proofs.ranges.Ranges.hop.Goals as goal
 
