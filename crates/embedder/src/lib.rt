@@ -3,6 +3,7 @@
 #![tactic(auto)]
 
 pub mod feed;
+pub mod index;
 pub mod map;
 pub mod over_bytes;
 pub mod table;

@@ -1,4 +1,4 @@
-//! Tests of `route_choices`, `least_table` and `route_table`.
+//! Tests of `route_choices`, `least_table`, `route_table` and `hop_index`.
 #![tactic(auto)]
 
 #[cfg(test)]
@@ -9,6 +9,8 @@ mod choices;
 mod first_calls;
 #[cfg(test)]
 mod flat_lists;
+#[cfg(test)]
+mod indexes;
 #[cfg(test)]
 mod least_tables;
 #[cfg(test)]

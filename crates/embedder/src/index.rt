@@ -1,0 +1,25 @@
+//! An index of a table.
+ghost use Rattle.std.specs.Prelude.{◌≡◌, IfOk};
+ghost use Rattle.ipnet_addr.specs.Addresses.{address_of};
+ghost use Rattle.route_laws.specs.Networks.{routes_of};
+ghost use Rattle.route_laws.specs.Tables.{hop_at};
+
+use hop_index::{HopIndex, Refused};
+use ipnet::IpAddr;
+use route_table::RouteTable;
+use std::alloc::Global;
+
+/// The hop of an address by an index of the table: the one that the table has for it.
+///
+/// # Errors
+/// `Memory` where there is none for the index.
+pub fn looked_up(
+    alloc: Global,
+    table: &RouteTable,
+    addr: IpAddr,
+) -> Result<Option<u32>, Refused>
+    ensures { IfOk result (λ hop. hop ≡ hop_at (routes_of table.now) (address_of addr)) }
+{
+    let index = HopIndex::of_table(alloc, table)?;
+    Ok(index.hop(addr))
+}

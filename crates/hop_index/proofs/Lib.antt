@@ -1,0 +1,5 @@
+pub mod Searches
+pub mod Lookups
+pub mod Pieces
+pub mod Indexes
+pub mod Joins

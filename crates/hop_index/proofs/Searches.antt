@@ -1,0 +1,65 @@
+-- How many of ascending ranges begin below a number.
+use Rattle.std.proofs.Common.{◌≡◌, ℕ, ◌+◌, ◌*◌, ◌<◌, ◌≤◌, List, [], ◌∷◌, ◌++◌, length, get_or, sym, subst, arith, ⊎_elim}
+use Rattle.std.proofs.lemmas.Bool.{cases_lt}
+use Rattle.std.proofs.lemmas.List.{get_or_append_left, get_or_default, get_or_push}
+use Rattle.std.proofs.Math.Nat.{mul-le-mul_right}
+use Rattle.hop_index.specs.Ranges.{HopRange}
+use Rattle.hop_index.specs.InnerRanges.{AreRanges, BeginsBelow, BeginsFrom}
+
+-- where one begins, the earlier ones have ended
+pub first_before : (rs : List HopRange) (k m : ℕ) (e d : HopRange) → AreRanges rs → k < m → m < length rs → (get_or rs k e).last < (get_or rs m d).first
+first_before rs k m e d h l m_in =
+    let same : get_or rs m e ≡ get_or rs m d = get_or_default rs m e d m_in in
+    let P : HopRange → Type 0 = λ r. (get_or rs k e).last < r.first in
+    subst P same (h.apart k m e l m_in)
+
+-- a range that begins below y, and those before it
+pub begins_below : (rs : List HopRange) (y m : ℕ) (d : HopRange) → AreRanges rs → m < length rs → (get_or rs m d).first < y → BeginsBelow rs y (m + 1)
+begins_below rs y m d h m_in f = record {
+  within = omega arith;
+  below = λ k e l. ⊎_elim
+      (λ less. let b : (get_or rs k e).last < (get_or rs m d).first = first_before rs k m e d h less m_in in
+      let r : (get_or rs k e).first ≤ (get_or rs k e).last = h.filled k e (omega arith) in omega arith)
+      (λ more. let is : m ≡ k = omega arith in
+      let P : ℕ → Type 0 = λ j. (get_or rs j e).first < y in
+      let Q : HopRange → Type 0 = λ r. r.first < y in
+      subst P is (subst Q (get_or_default rs m d e m_in) f))
+      (cases_lt k m);
+}
+
+-- a range that begins at y or above, and those after it
+pub begins_from : (rs : List HopRange) (y m : ℕ) (d : HopRange) → AreRanges rs → m < length rs → y ≤ (get_or rs m d).first → BeginsFrom rs y m
+begins_from rs y m d h m_in f = record {
+  within = omega arith;
+  from = λ k e l k_in. ⊎_elim
+      (λ more. let b : (get_or rs m d).last < (get_or rs k e).first = first_before rs m k d e h more k_in in
+      let r : (get_or rs m d).first ≤ (get_or rs m d).last = h.filled m d m_in in omega arith)
+      (λ less. let is : m ≡ k = omega arith in
+      let P : ℕ → Type 0 = λ j. y ≤ (get_or rs j e).first in
+      let Q : HopRange → Type 0 = λ r. y ≤ r.first in
+      subst P is (subst Q (get_or_default rs m d e m_in) f))
+      (cases_lt m k);
+}
+
+-- a later bound
+pub below_later : (rs : List HopRange) (y z i : ℕ) → y ≤ z → BeginsBelow rs y i → BeginsBelow rs z i
+below_later rs y z i le b = record { within = b.within; below = λ k d l. let f : (get_or rs k d).first < y = b.below k d l in omega arith }
+
+-- no range is left
+pub from_end : (rs : List HopRange) (y i : ℕ) → i ≤ length rs → length rs ≤ i → BeginsFrom rs y i
+from_end rs y i le ge = record { within = le; from = λ k d l m. absurd (omega arith) }
+
+-- one more start
+pub one_more : (P : ℕ → ℕ → Type 0) (xs : List ℕ) (n v : ℕ) → length xs ≡ n → ((t : ℕ) → t < n → P t (get_or xs t 0)) → P n v → (t : ℕ) → t < n + 1 → P t (get_or (xs ++ v ∷ []) t 0)
+one_more P xs n v len h last t l = ⊎_elim
+    (λ less. subst (P t) (sym (get_or_append_left xs (v ∷ []) 0 t (omega arith))) (h t less))
+    (λ more. let is : n ≡ t = omega arith in
+    subst (λ (j : ℕ). P j (get_or (xs ++ v ∷ []) j 0)) is (subst (P n) (sym (get_or_push xs v 0 n len)) last))
+    (cases_lt t n)
+
+-- a number of a chunk, and where other chunks begin
+pub chunk_after : (n c t size : ℕ) → n < (c + 1) * size → c < t → n < t * size
+chunk_after n c t size h l = let m : (c + 1) * size ≤ t * size = mul-le-mul_right size (omega arith) in omega arith
+
+pub chunk_from : (n c t size : ℕ) → c * size ≤ n → t ≤ c → t * size ≤ n
+chunk_from n c t size h l = let m : t * size ≤ c * size = mul-le-mul_right size l in omega arith

@@ -1,0 +1,5 @@
+use Rattle.hop_index.proofs.Indexes.{index_hops}
+use Rattle.hop_index.proofs.index.HopIndex.compiled.Goals as goal
+
+pub returns : goal.returns
+returns c = index_hops (record { v4 = c.in_ok-new.field-0; v6 = c.in_ok-new-2.field-0 }) c.args.flat (rw c.in_ok-new.ensures c.in_ok-v4.ensures.ipv4) (rw c.in_ok-new-2.ensures c.in_ok-v4.ensures.ipv6)

@@ -1,0 +1,135 @@
+//! The hops of the addresses of both families.
+ghost use Rattle.std.specs.Prelude.{◌≡◌, ℕ, IfErr, IfOk, Option, length, map};
+ghost use Rattle.ipnet_addr.specs.Addresses.{Address, IsAddress, Ipv4, Ipv6, address_of};
+ghost use Rattle.route_laws.specs.Flats.{IsFlat};
+ghost use Rattle.route_laws.specs.Networks.{routes_of};
+ghost use Rattle.route_laws.specs.Tables.{hop_at};
+ghost use Rattle.trie_map.specs.declared.refused.Refused.TheVariants.{Memory};
+ghost use Rattle.hop_index.specs.Indexes.{hop_of};
+ghost use Rattle.hop_index.specs.InnerRanges.{Replaces, ranges_in};
+
+use crate::ranges::{Range, Ranges, push};
+use ipnet::{IpAddr, IpNet};
+use ipnet_addr::number::Number;
+use prefix_trie::Refused;
+use route_sides::Flat;
+use route_table::{HopTable, RouteTable};
+use std::alloc::{AllocError, Global};
+use std::marker::Model;
+
+/// The ranges of the blocks of a flat list, by family; those that touch and have one hop are one.
+fn ranges(alloc: Global, flat: Flat<'_>) -> Result<(Vec<Range<u32>>, Vec<Range<u128>>), AllocError>
+    requires { (h : Address → Option ℕ) × IsFlat h flat }
+    ensures ipv4 { IfOk result (λ r. Replaces (ranges_in Ipv4 flat.entry) r.0.items) }
+    ensures ipv6 { IfOk result (λ r. Replaces (ranges_in Ipv6 flat.entry) r.1.items) }
+{
+    let mut v4 = Vec::new(alloc);
+    let mut v6 = Vec::new(alloc);
+    for (net, hop) in flat {
+        match net {
+            IpNet::V4(net) => push(&mut v4, Range::of_net(&net, hop))?,
+            IpNet::V6(net) => push(&mut v6, Range::of_net(&net, hop))?,
+        }
+    }
+    Ok((v4, v6))
+}
+
+/// The hop of each address, as a table had it when the index was made: a copy, which no later change of the table reaches.
+///
+/// Contracts see it by `hop_of`, the hop of each address.
+#[derive(Drop)]
+pub struct HopIndex {
+    v4: Ranges<u32>,
+    v6: Ranges<u128>,
+}
+
+impl Model for HopIndex {
+    ghost use Rattle.hop_index.specs.Indexes.{Index};
+
+    ghost Value = { Index };
+
+    ghost view = { λ i. record { v4 = i.v4; v6 = i.v6 } };
+}
+
+impl HopIndex {
+    /// The hops of a table; `drop` and no route are both none.
+    ///
+    /// # Errors
+    /// `Memory` where there is none for it.
+    ///
+    /// # Examples
+    /// ```rust
+    /// table.add(IpNet::from_str("10.0.0.0/8")?, Hop::Number(1), 100)?;
+    /// table.add(IpNet::from_str("10.1.0.0/16")?, Hop::Drop, 100)?;
+    /// let index = HopIndex::of_table(rt.alloc(), &table)?;
+    /// assert_eq!(rt; index.hop(IpAddr::from_str("10.2.3.4")?), Some(1));
+    /// assert_eq!(rt; index.hop(IpAddr::from_str("10.1.2.3")?), None);
+    /// ```
+    pub fn of_table(alloc: Global, table: &RouteTable) -> Result<HopIndex, Refused>
+        ensures hops { IfOk result (λ i. (x : Address) → IsAddress x → hop_of i x ≡ hop_at (routes_of table.now) x) }
+        ensures memory { IfErr result (λ e. e ≡ Memory) }
+    {
+        let flat = table.flat();
+        HopIndex::from_flat(alloc, flat)
+    }
+
+    /// The hops of a table with one route a network; `drop` and no route are both none.
+    ///
+    /// # Errors
+    /// `Memory` where there is none for it.
+    pub fn of_hops(alloc: Global, table: &HopTable) -> Result<HopIndex, Refused>
+        ensures hops { IfOk result (λ i. (x : Address) → IsAddress x → hop_of i x ≡ hop_at (routes_of table.now) x) }
+        ensures memory { IfErr result (λ e. e ≡ Memory) }
+    {
+        let flat = table.flat();
+        HopIndex::from_flat(alloc, flat)
+    }
+
+    /// The hops of the blocks of a flat list, such as `flat` of a table gives; all other addresses have none.
+    ///
+    /// # Errors
+    /// `Memory` where there is none for it.
+    pub fn from_flat(alloc: Global, flat: Flat<'_>) -> Result<HopIndex, Refused>
+        requires { (h : Address → Option ℕ) × IsFlat h flat }
+        ensures hops { IfOk result (λ i. (h : Address → Option ℕ) → IsFlat h flat.entry → (x : Address) → IsAddress x → hop_of i x ≡ h x) }
+        ensures memory { IfErr result (λ e. e ≡ Memory) }
+    {
+        match HopIndex::compiled(alloc, flat) {
+            Ok(index) => Ok(index),
+            Err(_) => Err(Refused::Memory),
+        }
+    }
+
+    /// The same, with the allocator's own refusal.
+    fn compiled(alloc: Global, flat: Flat<'_>) -> Result<HopIndex, AllocError>
+        requires { (h : Address → Option ℕ) × IsFlat h flat }
+        ensures { IfOk result (λ i. (h : Address → Option ℕ) → IsFlat h flat.entry → (x : Address) → IsAddress x → hop_of i x ≡ h x) }
+    {
+        let (v4, v6) = ranges(alloc, flat)?;
+        Ok(HopIndex {
+            v4: Ranges::new(alloc, v4)?,
+            v6: Ranges::new(alloc, v6)?,
+        })
+    }
+
+    /// The hop of an address. It takes no memory.
+    pub fn hop(&self, addr: IpAddr) -> Option<u32>
+        ensures hop { result ≡ hop_of self.now (address_of addr) }
+        ensures address { IsAddress (address_of addr) }
+    {
+        match addr {
+            IpAddr::V4(addr) => self.v4.hop(u32::of_addr(addr)),
+            IpAddr::V6(addr) => self.v6.hop(u128::of_addr(addr)),
+        }
+    }
+
+    /// The hops of as many addresses, in their order. It takes no memory.
+    pub fn hops(&self, addrs: &[IpAddr], hops: &mut [Option<u32>])
+        requires { length hops.old ≡ length addrs.now }
+        ensures { hops.new ≡ map (λ addr. hop_of self.now (address_of addr)) addrs.now }
+    {
+        for place in 0..addrs.len() {
+            hops[place] = self.hop(addrs[place]);
+        }
+    }
+}

@@ -1,0 +1,8 @@
+//! A look-up table of the hops of addresses, compiled from a route table.
+#![tactic(auto)]
+
+pub use index::HopIndex;
+pub use prefix_trie::Refused;
+
+mod index;
+mod ranges;

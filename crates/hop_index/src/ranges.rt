@@ -1,0 +1,209 @@
+//! Ascending ranges of addresses of one family, each with a hop, found by their first bits.
+ghost use Rattle.std.specs.Prelude.{◌≡◌, ◌+◌, ◌*◌, ◌-◌, ◌^◌, ◌<◌, ◌≤◌, ◌↔◌, ◌∷◌, ◌++◌, IfOk, IsTrue, List, OnOk};
+ghost use Rattle.ipnet_addr.specs.Addresses.{width};
+ghost use Rattle.ipnet_blocks.specs.Networks.{block_of};
+ghost use Rattle.hop_index.specs.Ranges.{HopRange, hop_in};
+ghost use Rattle.hop_index.specs.InnerRanges.{AreRanges, AreStarts, BeginsBelow, BeginsFrom, Replaces, chunk_size, range_of};
+
+use ipnet::Net;
+use ipnet_addr::number::Number;
+use std::alloc::{AllocError, Global};
+use std::marker::Model;
+
+/// The index of the ranges is by the first `CHUNK_BITS` bits of an address.
+const CHUNK_BITS: u8 = 18;
+
+/// How many chunks there are, and one.
+const STARTS: usize = 262_145;
+
+/// Addresses in a row with one hop.
+///
+/// Contracts see the numbers of the first and the last of them, and the hop.
+#[derive(Drop)]
+pub(crate) struct Range<N: Number> {
+    first: N,
+    last: N,
+    hop: u32,
+}
+
+impl<N: Number> Model for Range<N> {
+    ghost use Rattle.hop_index.specs.Ranges.{HopRange};
+
+    ghost Value = { HopRange };
+
+    ghost view = { λ r. record { first = N.number r.first; last = N.number r.last; hop = r.hop } };
+}
+
+impl<N: Number> Range<N> {
+    /// The addresses of a network, with this hop.
+    pub(crate) fn of_net(net: &Net<N>, hop: u32) -> Range<N>
+        ensures { result ≡ range_of (record { block = block_of N.family net.now; number = hop }) }
+    {
+        Range {
+            first: N::of_addr(net.network()),
+            last: N::of_addr(net.broadcast()),
+            hop,
+        }
+    }
+
+    /// The number of its first address.
+    fn first(&self) -> u128
+        ensures value { result ≡ self.now.first }
+        ensures within { result < 2 ^ width N.family }
+    {
+        self.first.to_bits()
+    }
+
+    /// The number of its last address.
+    fn last(&self) -> u128
+        ensures { result ≡ self.now.last }
+    {
+        self.last.to_bits()
+    }
+
+    /// Its hop.
+    fn hop(&self) -> u32
+        ensures { result ≡ self.now.hop }
+    {
+        self.hop
+    }
+
+    /// Whether the next range begins just after this one, and has its hop.
+    fn goes_on(&self, next: &Range<N>) -> bool
+        ensures { IsTrue result ↔ (self.now.last + 1 ≡ next.now.first) × (self.now.hop ≡ next.now.hop) }
+    {
+        let (last, first) = (self.last(), next.first());
+        self.hop() == next.hop() && last < first && first - last == 1
+    }
+
+    /// From the beginning of this range to the end of the next one, whose hop it has.
+    fn joined(&self, next: &Range<N>) -> Range<N>
+        ensures { result ≡ record { first = self.now.first; last = next.now.last; hop = next.now.hop } }
+    {
+        Range {
+            first: self.first,
+            last: next.last,
+            hop: next.hop,
+        }
+    }
+}
+
+/// Appends a range; where the one before it touches it and has its hop, the two become one.
+pub(crate) fn push<N: Number>(ranges: &mut Vec<Range<N>>, range: Range<N>) -> Result<(), AllocError>
+    ensures { OnOk result ((rest : List HopRange) → AreRanges (ranges.old.items ++ range ∷ rest) → Replaces (ranges.old.items ++ range ∷ rest) (ranges.new.items ++ rest)) }
+{
+    let Some(before) = ranges.pop() else {
+        ranges.push(range)?;
+        return Ok(());
+    };
+    if before.goes_on(&range) {
+        ranges.push(before.joined(&range))?;
+        return Ok(());
+    }
+    ranges.push(before)?;
+    ranges.push(range)?;
+    Ok(())
+}
+
+/// The first bits of a number, which name its chunk.
+fn chunk_of<N: Number>(number: u128) -> usize
+    requires { number < 2 ^ width N.family }
+    ensures first { result * chunk_size N.family ≤ number }
+    ensures last { number < (result + 1) * chunk_size N.family }
+    ensures within { result < 262144 }
+{
+    (number >> (N::width() - CHUNK_BITS)) as usize
+}
+
+/// How many of the ranges begin at or below the number: at least `low`, and at most `high`.
+fn begun<N: Number>(ranges: &[Range<N>], mut low: usize, mut high: usize, number: N) -> usize
+    requires ranges { AreRanges ranges.now }
+    requires low { BeginsBelow ranges.now (N.number number + 1) low }
+    requires high { BeginsFrom ranges.now (N.number number + 1) high }
+    ensures below { BeginsBelow ranges.now (N.number number + 1) result }
+    ensures from { BeginsFrom ranges.now (N.number number + 1) result }
+{
+    while low < high {
+        let middle = low + (high - low) / 2;
+        if ranges[middle].first() <= number.to_bits() {
+            low = middle + 1;
+        } else {
+            high = middle;
+        }
+    }
+    low
+}
+
+/// How many ranges begin before each chunk, and before the end of the last one.
+fn starts<N: Number>(alloc: Global, ranges: &[Range<N>]) -> Result<Vec<u32>, AllocError>
+    requires { AreRanges ranges.now }
+    ensures { IfOk result (λ starts. AreStarts N.family ranges.now starts.items) }
+{
+    let mut starts = Vec::with_capacity(alloc, STARTS)?;
+    let mut count = 0;
+    for chunk in 0..STARTS {
+        while count < ranges.len() && chunk_of::<N>(ranges[count].first()) < chunk {
+            count += 1;
+        }
+        let Ok(begun) = u32::try_from(count) else {
+            return Err(AllocError);
+        };
+        starts.push(begun)?;
+    }
+    Ok(starts)
+}
+
+/// Ascending ranges of addresses of one family, and for each chunk, which are the numbers with the same first bits, how
+/// many of the ranges begin before it.
+///
+/// Contracts see the list of the ranges.
+#[derive(Drop)]
+pub(crate) struct Ranges<N: Number> {
+    ranges: Vec<Range<N>>,
+    starts: Vec<u32>,
+}
+
+impl<N: Number> Model for Ranges<N> {
+    ghost use Rattle.std.specs.Prelude.{List};
+    ghost use Rattle.hop_index.specs.Ranges.{HopRange};
+    ghost use Rattle.hop_index.specs.InnerRanges.{AreRanges, AreStarts};
+
+    ghost Value = { List HopRange };
+
+    ghost view = { λ a. a.ranges.items };
+
+    ghost invariant = { λ a. AreRanges a.ranges.items × AreStarts N.family a.ranges.items a.starts.items };
+}
+
+impl<N: Number> Ranges<N> {
+    /// The look-up table of the ranges.
+    ///
+    /// # Errors
+    /// `AllocError` where there is no memory for it.
+    pub(crate) fn new(alloc: Global, ranges: Vec<Range<N>>) -> Result<Ranges<N>, AllocError>
+        requires { AreRanges ranges.items }
+        ensures { IfOk result (λ r. r ≡ ranges.items) }
+    {
+        let starts = starts(alloc, &ranges)?;
+        Ok(Ranges { ranges, starts })
+    }
+
+    /// The hop of the range that has the number.
+    pub(crate) fn hop(&self, number: N) -> Option<u32>
+        ensures { result ≡ hop_in self.now (N.number number) }
+    {
+        let chunk = chunk_of::<N>(number.to_bits());
+        let low = self.starts[chunk] as usize;
+        let high = self.starts[chunk + 1] as usize;
+        let count = begun(&self.ranges, low, high, number);
+        if count == 0 {
+            return None;
+        }
+        let range = &self.ranges[count - 1];
+        if number.to_bits() <= range.last() {
+            Some(range.hop())
+        } else {
+            None
+        }
+    }
+}
