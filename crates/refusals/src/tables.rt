@@ -2,7 +2,8 @@
 use crate::fault::Fault;
 use crate::nets::{answer_all, network};
 use crate::show::{answer, begin, debug_line, debug_pair, end, line, refused};
-use ipnet::IpNet;
+use hop_index::HopIndex;
+use ipnet::{IpAddr, IpNet};
 use route_table::{AddRefused, Hop, HopTable, Refused, RouteTable, Routes};
 
 /// The calls of tables.
@@ -15,15 +16,18 @@ pub enum TableCall {
     Own,
     Least,
     IntoLeast,
+    Index,
+    IndexOfHops,
     AddRoutes,
     OverwriteStored,
     Del,
     LookUps,
     Pages,
     Flat,
+    Hops,
 }
 
-pub static SCENARIOS: [(&str, TableCall); 13] = [
+pub static SCENARIOS: [(&str, TableCall); 16] = [
     ("free-table-new", TableCall::New),
     ("table-add-ipv4", TableCall::AddIpv4),
     ("table-add-ipv6", TableCall::AddIpv6),
@@ -31,12 +35,15 @@ pub static SCENARIOS: [(&str, TableCall); 13] = [
     ("table-own", TableCall::Own),
     ("table-least", TableCall::Least),
     ("table-into-least", TableCall::IntoLeast),
+    ("table-index", TableCall::Index),
+    ("table-index-of-hops", TableCall::IndexOfHops),
     ("free-table-add-routes", TableCall::AddRoutes),
     ("free-table-overwrite-stored", TableCall::OverwriteStored),
     ("free-table-del", TableCall::Del),
     ("free-table-look-ups", TableCall::LookUps),
     ("free-table-pages", TableCall::Pages),
     ("free-table-flat", TableCall::Flat),
+    ("free-table-hops", TableCall::Hops),
 ];
 
 pub fn run(rt: &HostRuntime, call: TableCall) -> Result<(), Fault> {
@@ -76,6 +83,9 @@ fn run_over(rt: &HostRuntime, table: &mut RouteTable, call: TableCall) -> Result
         TableCall::Overwrite => overwrite(rt, table)?,
         TableCall::Own => own(rt, table)?,
         TableCall::Least => least(rt, table)?,
+        TableCall::Index => index(rt, table)?,
+        TableCall::IndexOfHops => index_of_hops(rt, table)?,
+        TableCall::Hops => hops(rt, table)?,
         _ => free(rt, table, call)?,
     }
     show(rt, table)
@@ -316,4 +326,62 @@ fn flat(rt: &HostRuntime, table: &RouteTable) -> Result<(), Fault> {
 fn show_block(rt: &HostRuntime, block: &IpNet, number: u32) -> Result<(), Fault> {
     println!(rt; "{block} {number}")?;
     Ok(())
+}
+
+/// An index of a table of both families.
+fn index(rt: &HostRuntime, table: &RouteTable) -> Result<(), Fault> {
+    begin(rt)?;
+    let outcome = HopIndex::of_table(rt.alloc(), table);
+    indexed(rt, &outcome)
+}
+
+/// An index of a table of one route a network.
+fn index_of_hops(rt: &HostRuntime, routes: &RouteTable) -> Result<(), Fault> {
+    let mut table = HopTable::new(rt.alloc())?;
+    begin_with(rt, &mut table, routes)?;
+    let outcome = HopIndex::of_hops(rt.alloc(), &table);
+    indexed(rt, &outcome)
+}
+
+/// What an index answers, or that there is none.
+fn indexed(rt: &HostRuntime, outcome: &Result<HopIndex, Refused>) -> Result<(), Fault> {
+    end(rt)?;
+    match outcome {
+        Ok(index) => answer_hops(rt, index),
+        Err(error) => refused(rt, error),
+    }
+}
+
+/// The network addresses of some networks.
+fn addresses() -> Result<[IpAddr; 4], Fault> {
+    Ok([
+        network("10.1.2.4/32")?.addr(),
+        network("10.64.0.1/32")?.addr(),
+        network("2001:db8::1/128")?.addr(),
+        network("2001:db8:8000::/128")?.addr(),
+    ])
+}
+
+fn answer_hops(rt: &HostRuntime, index: &HopIndex) -> Result<(), Fault> {
+    for addr in addresses()? {
+        answer_hop(rt, index.hop(addr))?;
+    }
+    Ok(())
+}
+
+fn answer_hop(rt: &HostRuntime, hop: Option<u32>) -> Result<(), Fault> {
+    println!(rt; "answer {hop:?}")?;
+    Ok(())
+}
+
+/// Look-ups in an index, one by one and together.
+fn hops(rt: &HostRuntime, table: &RouteTable) -> Result<(), Fault> {
+    let index = HopIndex::of_table(rt.alloc(), table)?;
+    let addrs = addresses()?;
+    let mut hops = [None; 4];
+    begin(rt)?;
+    answer_hops(rt, &index)?;
+    index.hops(&addrs, &mut hops);
+    debug_line(rt, &hops)?;
+    end(rt)
 }
