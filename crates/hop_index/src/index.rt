@@ -58,12 +58,12 @@ impl HopIndex {
     /// `Memory` where there is none for it.
     ///
     /// # Examples
+    /// Where 10.0.0.0/8 has the hop 1 and 10.0.0.0/9 the hop 2, and `address` reads a text:
+    ///
     /// ```rust
-    /// table.add(IpNet::from_str("10.0.0.0/8")?, Hop::Number(1), 100)?;
-    /// table.add(IpNet::from_str("10.1.0.0/16")?, Hop::Drop, 100)?;
-    /// let index = HopIndex::of_table(rt.alloc(), &table)?;
-    /// assert_eq!(rt; index.hop(IpAddr::from_str("10.2.3.4")?), Some(1));
-    /// assert_eq!(rt; index.hop(IpAddr::from_str("10.1.2.3")?), None);
+    /// let index = HopIndex::of_table(rt.alloc(), &table).expect(&rt, "an index");
+    /// assert_eq!(rt; index.hop(address(&rt, "10.1.2.3")), Some(2));
+    /// assert_eq!(rt; index.hop(address(&rt, "11.0.0.1")), None);
     /// ```
     pub fn of_table(alloc: Global, table: &RouteTable) -> Result<HopIndex, Refused>
         ensures hops { IfOk result (λ i. (x : Address) → IsAddress x → hop_of i x ≡ hop_at (routes_of table.now) x) }

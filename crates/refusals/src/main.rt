@@ -6,6 +6,7 @@
 
 mod fault;
 mod feeds;
+mod hop_tables;
 mod map_changes;
 mod map_gifts;
 mod map_reads;
@@ -20,6 +21,7 @@ mod tables;
 
 use fault::Fault;
 use feeds::FeedCall;
+use hop_tables::HopTableCall;
 use maps::MapCall;
 use nets::NetCall;
 use sets::SetCall;
@@ -52,6 +54,7 @@ fn list_all(rt: &HostRuntime) -> Result<(), Fault> {
     list(rt, &maps::SCENARIOS)?;
     list(rt, &sets::SCENARIOS)?;
     list(rt, &tables::SCENARIOS)?;
+    list(rt, &hop_tables::SCENARIOS)?;
     list(rt, &feeds::SCENARIOS)
 }
 
@@ -67,6 +70,9 @@ fn run_named(rt: &HostRuntime, name: &str) -> Result<(), Fault> {
     }
     if let Some(call) = named::<TableCall>(&tables::SCENARIOS, name) {
         return tables::run(rt, call);
+    }
+    if let Some(call) = named::<HopTableCall>(&hop_tables::SCENARIOS, name) {
+        return hop_tables::run(rt, call);
     }
     if let Some(call) = named::<FeedCall>(&feeds::SCENARIOS, name) {
         return feeds::run(rt, call);

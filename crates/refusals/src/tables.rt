@@ -206,7 +206,10 @@ fn owned(rt: &HostRuntime, outcome: &Result<Vec<IpNet>, Refused>) -> Result<(), 
 }
 
 /// A least table, or that there is none.
-fn shortened(rt: &HostRuntime, outcome: &Result<Vec<(IpNet, Hop)>, Refused>) -> Result<(), Fault> {
+pub fn shortened(
+    rt: &HostRuntime,
+    outcome: &Result<Vec<(IpNet, Hop)>, Refused>,
+) -> Result<(), Fault> {
     end(rt)?;
     match outcome {
         Ok(routes) => answer_routes(rt, routes),

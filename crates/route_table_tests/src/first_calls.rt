@@ -1,5 +1,7 @@
 //! The calls of a table that are met first, as the comments of these calls show them.
 use crate::changes::{empty, net, put};
+use crate::indexes::address;
+use hop_index::HopIndex;
 use route_table::{Hop, RouteTable};
 use std::alloc::Global;
 use std::process::Abort;
@@ -74,4 +76,12 @@ fn two_in_place_of_three(rt: HostRuntime) {
     let least = table.least().expect(&rt, "a least table");
     let fewest = [(whole, Hop::Number(1)), (quarter, Hop::Number(2))];
     assert_eq!(rt; least.as_slice(), fewest.as_slice());
+}
+
+#[test]
+fn indexed(rt: HostRuntime) {
+    let table = two_routes(&rt, rt.alloc());
+    let index = HopIndex::of_table(rt.alloc(), &table).expect(&rt, "an index");
+    assert_eq!(rt; index.hop(address(&rt, "10.1.2.3")), Some(2));
+    assert_eq!(rt; index.hop(address(&rt, "11.0.0.1")), None);
 }

@@ -61,7 +61,7 @@ const HOPS: [(&str, Option<u32>); 26] = [
     ("ffff:ffff:ffff:ffff:ffff:ffff:ffff:ffff", Some(11)),
 ];
 
-fn address(rt: &impl Abort, text: &str) -> IpAddr {
+pub(crate) fn address(rt: &impl Abort, text: &str) -> IpAddr {
     IpAddr::from_str(text).expect(rt, "an address")
 }
 
