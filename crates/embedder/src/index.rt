@@ -13,11 +13,7 @@ use std::alloc::Global;
 ///
 /// # Errors
 /// `Memory` where there is none for the index.
-pub fn looked_up(
-    alloc: Global,
-    table: &RouteTable,
-    addr: IpAddr,
-) -> Result<Option<u32>, Refused>
+pub fn looked_up(alloc: Global, table: &RouteTable, addr: IpAddr) -> Result<Option<u32>, Refused>
     ensures { IfOk result (λ hop. hop ≡ hop_at (routes_of table.now) (address_of addr)) }
 {
     let index = HopIndex::of_table(alloc, table)?;
