@@ -1,0 +1,215 @@
+/* Every call, over random turns, against a table that is kept as a plain list of routes. */
+#include "routes.h"
+#include <stddef.h>
+#include <stdio.h>
+#include <string.h>
+
+_Static_assert(sizeof(routes_table) == 16 && offsetof(routes_table, is_open) == 8, "layout");
+_Static_assert(sizeof(routes_route) == 32 && offsetof(routes_route, pref) == 24 && offsetof(routes_route, len) == 27, "layout");
+_Static_assert(sizeof(routes_piece) == 24 && offsetof(routes_piece, family) == 20, "layout");
+
+#ifndef TURNS
+#define TURNS 20000
+#endif
+#define MOST 4096
+
+typedef unsigned __int128 number;
+struct kept {
+    int family, len, pref;
+    number addr;
+    uint64_t hop;
+};
+
+static struct kept kept[MOST];
+static size_t count;
+static long checks, failed;
+static uint64_t seed = 88172645463325252u;
+
+#define CHECK(x) (checks++, (x) ? (void)0 : (failed++, (void)printf("line %d: %s\n", __LINE__, #x)))
+
+static uint64_t drawn(void) {
+    seed ^= seed << 13;
+    seed ^= seed >> 7;
+    return seed ^= seed << 17;
+}
+
+static int width(int family) { return family == 4 ? 32 : 128; }
+
+static number masked(int family, number addr, int len) {
+    int rest = width(family) - len;
+    return rest == 128 ? 0 : addr >> rest << rest;
+}
+
+static number joined(uint64_t high, uint64_t low) { return (number)high << 64 | low; }
+
+/* the greater preference, then the least hop */
+static int beats(const struct kept *a, const struct kept *b) { return a->pref != b->pref ? a->pref > b->pref : a->hop < b->hop; }
+
+/* the longest match among networks of at most this length */
+static const struct kept *match(int family, number addr, int most) {
+    const struct kept *best = NULL;
+    for (const struct kept *k = kept; k < kept + count; k++) {
+        if (k->family != family || k->len > most || masked(family, addr, k->len) != k->addr) continue;
+        if (!best || k->len > best->len || (k->len == best->len && beats(k, best))) best = k;
+    }
+    return best;
+}
+
+static uint64_t hop_of(const struct kept *k) { return k ? k->hop : ROUTES_DROP; }
+
+static uint32_t get(routes_table *t, int family, number addr, routes_route *r) {
+    return family == 4 ? routes_get4(t, (uint32_t)addr, r) : routes_get6(t, (uint64_t)(addr >> 64), (uint64_t)addr, r);
+}
+
+static uint32_t add(routes_table *t, const struct kept *k, number addr, routes_change *c) {
+    return k->family == 4 ? routes_add4(t, (uint32_t)addr, (uint8_t)k->len, k->hop, (uint16_t)k->pref, c)
+                          : routes_add6(t, (uint64_t)(addr >> 64), (uint64_t)addr, (uint8_t)k->len, k->hop, (uint16_t)k->pref, c);
+}
+
+static uint32_t del(routes_table *t, const struct kept *k, number addr, routes_change *c) {
+    return k->family == 4 ? routes_del4(t, (uint32_t)addr, (uint8_t)k->len, k->hop, c)
+                          : routes_del6(t, (uint64_t)(addr >> 64), (uint64_t)addr, (uint8_t)k->len, k->hop, c);
+}
+
+/* A look-up answers as the model; at no match the route stays. */
+static void looked_up(routes_table *t, int family, number addr) {
+    const struct kept *k = match(family, addr, 128);
+    routes_route r, mark;
+    memset(&mark, 0x5a, sizeof mark);
+    r = mark;
+    uint32_t code = get(t, family, addr, &r);
+    CHECK(code == (k ? ROUTES_OK : ROUTES_MISSING));
+    if (!k)
+        CHECK(memcmp(&r, &mark, sizeof r) == 0);
+    else
+        CHECK(r.family == family && r.len == k->len && joined(r.high, r.low) == k->addr && r.hop == k->hop && r.pref == k->pref);
+}
+
+/* One route in or out, and what changed. */
+static void changed(routes_table *t) {
+    int family = drawn() & 1 ? 4 : 6;
+    number addr = family == 4 ? drawn() & 0x0303ffff : joined((drawn() & 3) << 61 | (drawn() & 0xffff), drawn() & 0xf00000000000000f);
+    int len = (int)(drawn() % (width(family) + 1));
+    struct kept k = {family, len, (int)(drawn() % 3), masked(family, addr, len), drawn() % 4 == 0 ? ROUTES_DROP : drawn() % 10};
+    if (drawn() % 4 == 0 && count) k.addr = masked(k.family = kept[0].family, kept[0].addr, k.len = kept[0].len), addr = k.addr;
+    size_t at = count, others = 0;
+    for (size_t i = 0; i < count; i++)
+        if (kept[i].family == k.family && kept[i].len == k.len && kept[i].addr == k.addr) {
+            if (kept[i].hop == k.hop) at = i;
+            else others++;
+        }
+    uint64_t before = hop_of(match(k.family, addr, k.len));
+    routes_change c = {77, 78};
+    if (drawn() % 3) {
+        uint32_t code = add(t, &k, addr, &c);
+        CHECK(code == (others == 8 ? ROUTES_FULL : ROUTES_OK));
+        if (code == ROUTES_OK) {
+            if (at == count) count++;
+            kept[at] = k;
+        }
+    } else {
+        uint32_t code = del(t, &k, addr, &c);
+        CHECK(code == (at == count ? ROUTES_MISSING : ROUTES_OK));
+        if (code == ROUTES_OK) kept[at] = kept[--count];
+    }
+    uint64_t after = hop_of(match(k.family, addr, k.len));
+    CHECK((c.before == before && c.after == after) || (c.before == 77 && c.after == 78 && before == after));
+    looked_up(t, k.family, addr);
+    looked_up(t, k.family, addr ^ (drawn() & 0x3ff));
+    looked_up(t, k.family, addr ^ ((number)(drawn() & 0xff) << (width(k.family) - 20)));
+}
+
+/* The blocks of the flat list ascend, and have the hops of the model; the list of another time stays until it is made again. */
+static void listed(routes_table *t) {
+    routes_piece p, last = {0, 0, 0, 0, 0};
+    size_t pieces = 0;
+    CHECK(routes_flat(t) == ROUTES_OK);
+    for (; routes_piece_at(t, pieces, &p) == ROUTES_OK; pieces++, last = p) {
+        number addr = joined(p.high, p.low), end = addr + (((number)1 << (width(p.family) - p.len) % 128) - 1);
+        const struct kept *first = match(p.family, addr, 128), *final = match(p.family, end, 128);
+        CHECK(first && first->hop == p.hop && final && final->hop == p.hop);
+        CHECK(masked(p.family, addr, p.len) == addr);
+        CHECK(pieces == 0 || last.family < p.family || joined(last.high, last.low) < addr);
+    }
+    memset(&p, 0x5a, sizeof p);
+    CHECK(routes_piece_at(t, pieces, &p) == ROUTES_MISSING && p.hop == 0x5a5a5a5a);
+    for (int i = 0; i < 50; i++) {
+        const struct kept *k = count ? &kept[drawn() % count] : NULL;
+        if (!k) break;
+        uint64_t hop = hop_of(match(k->family, k->addr, 128)), found = ROUTES_DROP;
+        for (size_t at = 0; routes_piece_at(t, at, &p) == ROUTES_OK; at++)
+            if (p.family == k->family && masked(k->family, k->addr, p.len) == joined(p.high, p.low)) found = p.hop;
+        CHECK(hop == found);
+    }
+}
+
+/* A line and its reply, which is read in parts of every length. */
+static void answered(routes_table *t) {
+    static const char line[] = "cover ::/0", wanted[] = "route ::/0 7 100\nok\n";
+    char out[64];
+    routes_change c;
+    struct kept k = {6, 0, 100, 0, 7};
+    while (routes_del6(t, 0, 0, 0, 7, &c) == ROUTES_OK) {}
+    for (uint64_t hop = 0; hop <= 10; hop++) (void)routes_del6(t, 0, 0, 0, hop == 10 ? ROUTES_DROP : hop, &c);
+    CHECK(add(t, &k, 0, &c) == ROUTES_OK);
+    CHECK(routes_line(t, (const uint8_t *)line, sizeof line - 1) == ROUTES_OK);
+    for (size_t room = 0; room <= sizeof wanted; room++) {
+        size_t from = 0, got;
+        memset(out, '#', sizeof out);
+        do {
+            got = routes_reply(t, from, (uint8_t *)out + from, room);
+            CHECK(out[from + got] == '#');
+            from += got;
+        } while (got);
+        CHECK(from == (room ? sizeof wanted - 1 : 0) && memcmp(out, wanted, from) == 0);
+    }
+    CHECK(routes_reply(t, 1000, (uint8_t *)out, sizeof out) == 0);
+    CHECK(routes_line(t, (const uint8_t *)"nothing", 7) == ROUTES_OK && routes_reply(t, 0, (uint8_t *)out, sizeof out) == 4);
+    CHECK(memcmp(out, "bad\n", 4) == 0);
+    CHECK(routes_line(t, (const uint8_t *)"", 0) == ROUTES_OK && routes_reply(t, 0, (uint8_t *)out, sizeof out) == 4);
+}
+
+/* A closed table answers each call so, and changes nothing. */
+static void closed(routes_table *t) {
+    routes_route r, no_route;
+    routes_change c = {77, 78};
+    routes_piece p, no_piece;
+    uint8_t out[4] = {'#', '#', '#', '#'};
+    memset(&no_route, 0x5a, sizeof r);
+    memset(&no_piece, 0x5a, sizeof p);
+    r = no_route, p = no_piece;
+    CHECK(routes_get4(t, 1, &r) == ROUTES_CLOSED && routes_get6(t, 1, 1, &r) == ROUTES_CLOSED);
+    CHECK(routes_add4(t, 1, 8, 1, 1, &c) == ROUTES_CLOSED && routes_add6(t, 1, 1, 8, 1, 1, &c) == ROUTES_CLOSED);
+    CHECK(routes_del4(t, 1, 8, 1, &c) == ROUTES_CLOSED && routes_del6(t, 1, 1, 8, 1, &c) == ROUTES_CLOSED);
+    CHECK(routes_flat(t) == ROUTES_CLOSED && routes_piece_at(t, 0, &p) == ROUTES_CLOSED);
+    CHECK(routes_line(t, (const uint8_t *)"count", 5) == ROUTES_CLOSED && routes_reply(t, 0, out, 4) == 0);
+    CHECK(memcmp(&r, &no_route, sizeof r) == 0 && memcmp(&p, &no_piece, sizeof p) == 0);
+    CHECK(c.before == 77 && c.after == 78 && out[0] == '#' && t->at == NULL && !t->is_open);
+    routes_close(t);
+    CHECK(t->at == NULL && !t->is_open);
+}
+
+int main(void) {
+    routes_table t = ROUTES_TABLE, other = ROUTES_TABLE;
+    routes_change c = {77, 78};
+    closed(&t);
+    CHECK(routes_open(&t) == ROUTES_OK && routes_open(&t) == ROUTES_OPEN && routes_open(&other) == ROUTES_OK);
+    CHECK(routes_add4(&t, 0, 33, 1, 1, &c) == ROUTES_TOO_LONG && routes_add6(&t, 0, 0, 129, 1, 1, &c) == ROUTES_TOO_LONG);
+    CHECK(routes_del4(&t, 0, 255, 1, &c) == ROUTES_TOO_LONG && routes_del6(&t, 0, 0, 255, 1, &c) == ROUTES_TOO_LONG);
+    CHECK(c.before == 77 && c.after == 78);
+    for (int turn = 0; turn < TURNS && count < MOST; turn++) {
+        changed(&t);
+        if (turn % 2000 == 0) listed(&t);
+    }
+    listed(&t);
+    answered(&t);
+    routes_route r;
+    CHECK(routes_get4(&other, 1, &r) == ROUTES_MISSING);
+    routes_close(&other);
+    routes_close(&t);
+    closed(&t);
+    CHECK(routes_open(&t) == ROUTES_OK && routes_get4(&t, 0, &r) == ROUTES_MISSING);
+    routes_close(&t);
+    printf("%ld checks, %ld failed\n", checks, failed);
+    return failed != 0;
+}

@@ -1,0 +1,93 @@
+/* Each request for memory is refused in turn, alone: nothing crashes or leaks, the answer says so, and the table is as it was.
+ * Link with -Wl,--wrap=malloc,--wrap=realloc. An argument is the greatest number of requests that is tried. */
+#include "routes.h"
+#include <stdio.h>
+#include <stdlib.h>
+#include <string.h>
+
+#define NETWORKS 120
+
+void *__real_malloc(size_t size);
+void *__real_realloc(void *block, size_t size);
+static long left = -1, asked, refused, runs;
+
+static int is_refused(void) {
+    asked++;
+    return left >= 0 && left-- == 0;
+}
+
+void *__wrap_malloc(size_t size) { return is_refused() ? NULL : __real_malloc(size); }
+void *__wrap_realloc(void *block, size_t size) { return is_refused() ? NULL : __real_realloc(block, size); }
+
+#define WANT(x) do { if (!(x)) { printf("request %ld: line %d: %s\n", runs, __LINE__, #x); exit(1); } } while (0)
+
+static uint32_t addr_of(uint32_t i) { return i * 2654435761u; }
+static uint8_t len_of(uint32_t i) { return (uint8_t)(8 + i % 25); }
+
+/* An `add`, again where there was no memory: the first left the table and the change as they were. */
+static void added(routes_table *t, uint32_t i) {
+    routes_route before = {0}, after = {0}, now = {0};
+    routes_change c = {77, 78};
+    uint32_t was = routes_get4(t, addr_of(i), &before);
+    uint32_t code = routes_add4(t, addr_of(i), len_of(i), i, 100, &c);
+    if (code == ROUTES_NO_MEMORY) {
+        refused++;
+        WANT(c.before == 77 && c.after == 78);
+        WANT(routes_get4(t, addr_of(i), &after) == was && memcmp(&before, &after, sizeof before) == 0);
+        code = routes_add4(t, addr_of(i), len_of(i), i, 100, &c);
+    }
+    WANT(code == ROUTES_OK && routes_get4(t, addr_of(i), &now) == ROUTES_OK && now.hop == i);
+}
+
+/* A list and a reply: where there is no memory the list is as it was, and the reply a beginning. */
+static void told(routes_table *t) {
+    routes_piece p = {0, 0, 0, 0, 0};
+    static const uint8_t line[] = "list 0.0.0.0/0";
+    static uint8_t whole[16384], cut[16384];
+    uint32_t code = routes_flat(t);
+    if (code == ROUTES_NO_MEMORY) {
+        refused++;
+        WANT(routes_piece_at(t, 0, &p) == ROUTES_MISSING);
+        code = routes_flat(t);
+    }
+    WANT(code == ROUTES_OK && routes_piece_at(t, 0, &p) == ROUTES_OK);
+    code = routes_line(t, line, sizeof line - 1);
+    size_t some = routes_reply(t, 0, cut, sizeof cut);
+    if (code == ROUTES_NO_MEMORY) refused++;
+    WANT(code == ROUTES_OK || code == ROUTES_NO_MEMORY);
+    long count = left;
+    left = -1;
+    WANT(routes_line(t, line, sizeof line - 1) == ROUTES_OK);
+    left = count;
+    size_t all = routes_reply(t, 0, whole, sizeof whole);
+    WANT(some <= all && memcmp(cut, whole, some) == 0 && (code == ROUTES_NO_MEMORY || some == all));
+}
+
+/* All of it with one request refused; how many there were. */
+static long tried(long request) {
+    routes_table t = ROUTES_TABLE;
+    routes_change c;
+    left = request;
+    asked = 0;
+    uint32_t code = routes_open(&t);
+    if (code == ROUTES_NO_MEMORY) {
+        refused++;
+        WANT(t.at == NULL && !t.is_open);
+        code = routes_open(&t);
+    }
+    WANT(code == ROUTES_OK);
+    for (uint32_t i = 0; i < NETWORKS; i++) added(&t, i);
+    told(&t);
+    long all = asked;
+    for (uint32_t i = 0; i < NETWORKS; i++) WANT(routes_del4(&t, addr_of(i), len_of(i), i, &c) == ROUTES_OK);
+    WANT(asked == all); /* a `del` asks for no memory */
+    routes_close(&t);
+    return all;
+}
+
+int main(int argc, char **argv) {
+    long most = argc > 1 ? atol(argv[1]) : 1000000;
+    while (runs < most && runs < tried(runs)) runs++;
+    printf("%ld runs, %ld refusals, no difference\n", runs, refused);
+    return refused == 0;
+}

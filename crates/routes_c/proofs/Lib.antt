@@ -1,0 +1,2 @@
+pub mod HeldFields
+pub mod Steps

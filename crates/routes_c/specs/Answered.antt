@@ -1,0 +1,23 @@
+-- What `routes_line` does.
+use Rattle.std.specs.Prelude.{◌≡◌, ◌⊎◌, ℕ, Bool, List, [], ◌++◌, Option, None, Some}
+use Rattle.route_feed.specs.Commands.{command_in}
+use Rattle.route_feed.specs.Replies.{printed}
+use Rattle.route_feed.specs.Steps.{step, turn_lines}
+use Rattle.route_lines.specs.Lines.{line_of}
+use Rattle.routes_c.specs.declared.session.Session.{Session}
+
+-- the reply that is kept
+abbrev pub reply_in : Option Session → List ℕ
+reply_in None = []
+reply_in (Some s) = s.reply.items
+
+-- the line is one step of a leader, where its command may be refused for want of memory: at 0 the printed reply is kept, at 2 a
+-- beginning of it. The table is the one after the step, and the list stays
+pub record Answered (s t : Session) (line : List ℕ) (code : ℕ) : Type 0 where
+  pub refused : Bool
+  pub cut : List ℕ
+  pub answers : (code ≡ 0) ⊎ (code ≡ 2)
+  pub whole : code ≡ 0 → cut ≡ []
+  pub reply : printed (turn_lines (step s.table (command_in (line_of line)) refused)) ≡ t.reply.items ++ cut
+  pub table : t.table ≡ (step s.table (command_in (line_of line)) refused).next
+  pub list : t.pieces ≡ s.pieces

@@ -1,0 +1,7 @@
+pub mod Answered
+pub mod Calls
+pub mod Handles
+pub mod Held
+pub mod Lists
+pub mod Opens
+pub mod Shown

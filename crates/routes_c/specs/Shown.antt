@@ -1,0 +1,41 @@
+-- Networks, hops and routes as C has them.
+use Rattle.std.specs.Prelude.{◌≡◌, ℕ, ◌/◌, ◌%◌, ◌^◌, nat_lt, if◌then◌else◌, Option, Some, None}
+use Rattle.ipnet.specs.IpNets.{network_at}
+use Rattle.ipnet.specs.declared.ip_net.IpNet.{IpNet}
+use Rattle.ipnet.specs.declared.ip_net.IpNet.TheVariants.{V4, V6}
+use Rattle.route_choices.specs.declared.hop.Hop.{Hop}
+use Rattle.route_choices.specs.declared.hop.Hop.TheVariants.{Number, Drop}
+use Rattle.route_laws.specs.Flats.{Piece as FlatPiece}
+use Rattle.routes_c.specs.declared.shown.Piece.{Piece}
+use Rattle.routes_c.specs.declared.shown.Route.{Route}
+
+-- the hop of a number: `drop` from 2^32 on
+abbrev pub hop_from : ℕ → Hop
+hop_from k = if nat_lt k (2 ^ 32) then Number k else Drop
+
+-- the number of a hop: 2^32 for `drop`
+abbrev pub hop_shown : Hop → ℕ
+hop_shown (Number k) = k
+hop_shown Drop = 2 ^ 32
+
+-- the number of the addresses' hop, or 2^32 where they have none
+abbrev pub number_shown : Option ℕ → ℕ
+number_shown None = 2 ^ 32
+number_shown (Some k) = k
+
+-- the route: the address of an IPv6 network in two halves
+abbrev pub shown : IpNet → Hop → ℕ → Route
+shown (V4 n) k p = record { high = 0; low = n.number; hop = hop_shown k; pref = p; family = 4; len = n.len }
+shown (V6 n) k p = record { high = n.number / 2 ^ 64; low = n.number % 2 ^ 64; hop = hop_shown k; pref = p; family = 6; len = n.len }
+
+-- what a query answers: 0 and the route; or 1 where there is none, and the route stays as it was
+abbrev pub Shows : Option (IpNet × Hop × ℕ) → ℕ → Route → Route → Type 0
+Shows None code old new = (code ≡ 1) × (new ≡ old)
+Shows (Some f) code old new = (code ≡ 0) × (new ≡ shown f.0 f.1 f.2)
+
+abbrev pub piece_of : Route → ℕ → Piece
+piece_of r k = record { high = r.high; low = r.low; hop = k; family = r.family; len = r.len }
+
+-- a block with its hop
+abbrev pub piece_shown : FlatPiece → Piece
+piece_shown p = piece_of (shown (network_at p.block) (Number p.number) 0) p.number

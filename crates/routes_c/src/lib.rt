@@ -1,0 +1,14 @@
+//! Route tables for C: a table behind a handle that the caller owns, and its calls, on numbers and buffers.
+//!
+//! include/routes.h has the C declarations. Nothing checks a C caller: it owes each `requires`, and what the types say.
+#![tactic(auto)]
+
+pub mod change;
+pub mod handle;
+mod held;
+pub mod lines;
+pub mod lists;
+mod loose;
+pub mod matches;
+pub mod session;
+pub mod shown;

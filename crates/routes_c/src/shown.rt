@@ -1,0 +1,166 @@
+//! Networks, hops and routes as C has them.
+ghost use Rattle.std.specs.Prelude.{◌≡◌, ◌+◌, ◌*◌, ◌^◌, ◌≤◌, ◌↔◌, IsSome, IfSome};
+ghost use Rattle.ipnet.specs.declared.ip_net.IpNet.TheVariants.{V4, V6};
+ghost use Rattle.ipnet.specs.IpNets.{block, network_at};
+ghost use Rattle.routes_c.specs.Shown.{hop_from, hop_shown, number_shown, piece_shown, shown, Shows};
+
+use ipnet::{IpNet, Ipv4Net, Ipv6Net};
+use ipnet_addr::bits::{ipv4_of, ipv6_of};
+use route_table::Hop;
+
+/// A route: its network, its hop (2^32 is `drop`) and its preference.
+#[repr(C)]
+#[derive(Drop)]
+pub struct Route {
+    pub high: u64,
+    pub low: u64,
+    pub hop: u64,
+    pub pref: u16,
+    pub family: u8,
+    pub len: u8,
+}
+
+/// What a change changed: the hop of the addresses that the network governs, before and after; 2^32 is none.
+#[repr(C)]
+#[derive(Drop)]
+pub struct Change {
+    pub before: u64,
+    pub after: u64,
+}
+
+/// A block with its one hop.
+#[repr(C)]
+#[derive(Clone, Copy)]
+pub struct Piece {
+    pub high: u64,
+    pub low: u64,
+    pub hop: u32,
+    pub family: u8,
+    pub len: u8,
+}
+
+/// 2^64: an IPv6 address is two numbers below it.
+const HALF: u128 = 18_446_744_073_709_551_616;
+
+/// The number for `drop`, and for no hop.
+const NONE: u64 = 4_294_967_296;
+
+/// The IPv4 network of an address, if the length is one.
+pub(crate) fn net4(addr: u32, len: u8) -> Option<IpNet>
+    ensures fits { IsSome result ↔ (len ≤ 32) }
+    ensures net { IfSome result (λ n. n ≡ V4 (record { number = addr; len = len })) }
+{
+    match Ipv4Net::new(ipv4_of(addr), len) {
+        Ok(net) => Some(IpNet::V4(net)),
+        Err(_) => None,
+    }
+}
+
+/// The IPv6 network of an address, if the length is one.
+pub(crate) fn net6(high: u64, low: u64, len: u8) -> Option<IpNet>
+    ensures fits { IsSome result ↔ (len ≤ 128) }
+    ensures net { IfSome result (λ n. n ≡ V6 (record { number = high * 2 ^ 64 + low; len = len })) }
+{
+    let number = high as u128 * HALF + low as u128;
+    match Ipv6Net::new(ipv6_of(number), len) {
+        Ok(net) => Some(IpNet::V6(net)),
+        Err(_) => None,
+    }
+}
+
+/// The hop of a number: `drop` from 2^32 on.
+pub(crate) fn hop_from(hop: u64) -> Hop
+    ensures { result ≡ hop_from hop }
+{
+    match u32::try_from(hop) {
+        Ok(number) => Hop::Number(number),
+        Err(_) => Hop::Drop,
+    }
+}
+
+/// The number of a hop: 2^32 for `drop`.
+fn shown_hop(hop: Hop) -> u64
+    ensures { result ≡ hop_shown hop }
+{
+    match hop {
+        Hop::Number(number) => number as u64,
+        Hop::Drop => NONE,
+    }
+}
+
+/// The number of a hop, or 2^32 for none.
+fn shown_number(hop: Option<u32>) -> u64
+    ensures { result ≡ number_shown hop }
+{
+    match hop {
+        Some(number) => number as u64,
+        None => NONE,
+    }
+}
+
+/// A change as C has it.
+pub(crate) fn shown_change(before: Option<u32>, after: Option<u32>) -> Change
+    ensures before { result.before ≡ number_shown before }
+    ensures after { result.after ≡ number_shown after }
+{
+    Change {
+        before: shown_number(before),
+        after: shown_number(after),
+    }
+}
+
+/// A route as C has it.
+fn shown_route(net: IpNet, hop: Hop, pref: u16) -> Route
+    ensures { result ≡ shown net hop pref }
+{
+    let hop = shown_hop(hop);
+    match net {
+        IpNet::V4(net) => Route {
+            high: 0,
+            low: net.addr().to_bits() as u64,
+            hop,
+            pref,
+            family: 4,
+            len: net.prefix_len(),
+        },
+        IpNet::V6(net) => {
+            let number = net.addr().to_bits();
+            Route {
+                high: (number / HALF) as u64,
+                low: (number % HALF) as u64,
+                hop,
+                pref,
+                family: 6,
+                len: net.prefix_len(),
+            }
+        }
+    }
+}
+
+/// What `get` answers, as C has it.
+pub(crate) fn show(found: Option<(IpNet, Hop, u16)>, route: &mut Route) -> u32
+    ensures { Shows found result route.old route.new }
+{
+    match found {
+        Some((net, hop, pref)) => {
+            *route = shown_route(net, hop, pref);
+            0
+        }
+        None => 1,
+    }
+}
+
+/// A piece of a flat list as C has it.
+pub(crate) fn shown_piece(net: IpNet, number: u32) -> Piece
+    requires { net ≡ network_at (block net) }
+    ensures { result ≡ piece_shown (record { block = block net; number = number }) }
+{
+    let route = shown_route(net, Hop::Number(number), 0);
+    Piece {
+        high: route.high,
+        low: route.low,
+        hop: number,
+        family: route.family,
+        len: route.len,
+    }
+}

@@ -1,0 +1,129 @@
+/* Jolmidda's route table for C: the proved calls of the crate routes_c.
+ *
+ * What each call answers and changes is proved for every input, as long as the caller does its part. Nothing checks that:
+ *
+ *   1. A table is a routes_table of zero bytes (ROUTES_TABLE, or memory from calloc), or what earlier calls left in it. It is
+ *      never copied, moved while it is open or written otherwise. It may be anywhere, also on the stack; what it holds is on the
+ *      heap, until routes_close.
+ *   2. Every other pointer has room for what it points to, also where the answer leaves that alone, and what it points to
+ *      has been given a value. No two pointers of a call overlap. No pointer is null, also where a length is 0.
+ *   3. One call at a time is made on a table, look-ups too, and a table stays on the thread that opened it. Other threads may
+ *      have tables of their own at the same time.
+ *   4. malloc, realloc and free are those of one allocator, and no call is made in a signal handler, or in the forked child of a
+ *      process with threads.
+ *
+ * Numbers are in the order of the host: an IPv4 address is ntohl(in_addr.s_addr); an IPv6 address is two numbers, its upper and
+ * its lower half, which routes_half reads from the 16 bytes of an in6_addr. Where a call takes a network, the bits of the address
+ * past the length are ignored; where it gives one, they are 0.
+ *
+ * A call that can fail answers a number of routes_answer. At every answer but ROUTES_OK the table, what it keeps and what the
+ * pointers point to are as they were, with one exception, at routes_line. */
+#ifndef ROUTES_H
+#define ROUTES_H
+
+#include <stdbool.h>
+#include <stddef.h>
+#include <stdint.h>
+
+#ifdef __cplusplus
+extern "C" {
+#endif
+
+enum routes_answer {
+    ROUTES_OK = 0,
+    ROUTES_MISSING = 1,   /* no network contains the address; the network has no such hop; the index is past the end */
+    ROUTES_NO_MEMORY = 2, /* malloc or realloc gave none */
+    ROUTES_CLOSED = 3,    /* the table is not open */
+    ROUTES_OPEN = 4,      /* the table is open already */
+    ROUTES_FULL = 5,      /* eight other hops are stored at the network, which is the most */
+    ROUTES_TOO_LONG = 6   /* the length is over 32 for IPv4, or over 128 for IPv6 */
+};
+
+/* As the hop of a route: packets go nowhere, a null route. In a change: the addresses have no hop. */
+#define ROUTES_DROP (UINT64_C(1) << 32)
+/* The preference of a command line that names none. The greatest preference wins, and of equal ones the least hop, a number
+ * before ROUTES_DROP. */
+#define ROUTES_PREFERENCE 100
+
+/* A table, which is the caller's: 16 bytes. Zero bytes are a closed table. */
+typedef struct routes_table {
+    void *at;
+    bool is_open;
+} routes_table;
+#define ROUTES_TABLE {NULL, false}
+
+/* A route: 32 bytes. */
+typedef struct routes_route {
+    uint64_t high, low; /* the network's address; of IPv4 the number is low, and high is 0 */
+    uint64_t hop;       /* a number below 2^32, or ROUTES_DROP */
+    uint16_t pref;
+    uint8_t family;     /* 4 or 6 */
+    uint8_t len;
+} routes_route;
+
+/* What a change changed: the hop that the addresses of the network had which no longer stored network inside it contains, and the
+ * one that they have now. Where the two are equal, no address has another hop. */
+typedef struct routes_change {
+    uint64_t before, after; /* a number below 2^32, or ROUTES_DROP for no hop */
+} routes_change;
+
+/* A block of addresses with one hop: 24 bytes. */
+typedef struct routes_piece {
+    uint64_t high, low;
+    uint32_t hop;
+    uint8_t family;
+    uint8_t len;
+} routes_piece;
+
+/* Opens a closed table, without networks. ROUTES_OK, ROUTES_NO_MEMORY, or ROUTES_OPEN. */
+uint32_t routes_open(routes_table *table);
+
+/* Closes a table, and gives its memory back. A closed one stays closed; it may be opened again. */
+void routes_close(routes_table *table);
+
+/* The longest match of an address: of the stored networks that contain it the longest, with its best route. ROUTES_OK and the
+ * route; ROUTES_MISSING where none contains it; or ROUTES_CLOSED. */
+uint32_t routes_get4(routes_table *table, uint32_t addr, routes_route *route);
+uint32_t routes_get6(routes_table *table, uint64_t high, uint64_t low, routes_route *route);
+
+/* Stores a route of the network, or gives the one of this hop that it has the new preference. A hop from 2^32 on is ROUTES_DROP.
+ * ROUTES_OK and the change; ROUTES_FULL just where eight other hops are stored there; ROUTES_NO_MEMORY, which happens only where
+ * the network is not stored; ROUTES_TOO_LONG; or ROUTES_CLOSED. */
+uint32_t routes_add4(routes_table *table, uint32_t addr, uint8_t len, uint64_t hop, uint16_t pref, routes_change *change);
+uint32_t routes_add6(routes_table *table, uint64_t high, uint64_t low, uint8_t len, uint64_t hop, uint16_t pref,
+                     routes_change *change);
+
+/* Takes the route of this hop out, and the network with its last route. It takes no memory. ROUTES_OK and the change;
+ * ROUTES_MISSING where the network has no such hop; ROUTES_TOO_LONG; or ROUTES_CLOSED. */
+uint32_t routes_del4(routes_table *table, uint32_t addr, uint8_t len, uint64_t hop, routes_change *change);
+uint32_t routes_del6(routes_table *table, uint64_t high, uint64_t low, uint8_t len, uint64_t hop, routes_change *change);
+
+/* Makes the flat list, in the table's memory: the blocks of one hop that cover just the addresses which have a hop, as few as there
+ * can be, IPv4 first, ascending. It stays until the next routes_flat, whatever changes. ROUTES_OK, ROUTES_NO_MEMORY, or
+ * ROUTES_CLOSED. */
+uint32_t routes_flat(routes_table *table);
+
+/* The block at an index of that list, which is empty before the first. ROUTES_OK; ROUTES_MISSING past its end; or
+ * ROUTES_CLOSED. */
+uint32_t routes_piece_at(routes_table *table, size_t index, routes_piece *piece);
+
+/* Answers a command line of `routes lead`, given without its line end, and keeps the reply, which is the bytes that `routes lead`
+ * prints for it. ROUTES_OK, also where the reply is `bad`, `none` or `refused`. ROUTES_NO_MEMORY where there is none for the reply:
+ * then the table is the one after the line, and a beginning of the reply is kept. Or ROUTES_CLOSED. */
+uint32_t routes_line(routes_table *table, const uint8_t *line, size_t len);
+
+/* Copies the kept reply from byte `from` on, as far as there is room, and answers how many bytes it copied: 0 at the end, and for a
+ * closed table. The rest of `out` stays. The reply stays until the next routes_line. */
+size_t routes_reply(routes_table *table, size_t from, uint8_t *out, size_t room);
+
+/* Eight bytes in network order as a number: of an in6_addr, routes_half(a) is the upper half and routes_half(a + 8) the lower. */
+static inline uint64_t routes_half(const uint8_t *bytes) {
+    uint64_t number = 0;
+    for (int i = 0; i < 8; i++) number = number << 8 | bytes[i];
+    return number;
+}
+
+#ifdef __cplusplus
+}
+#endif
+#endif
