@@ -30,10 +30,11 @@ impl Table {
 
     /// The best route of the longest stored network that contains the address.
     pub fn get(&self, addr: impl Into<IpAddr>) -> Option<Route> {
+        let addr = addr.into();
         let mut route = raw::Route::default();
         // SAFETY: the table is as `raw` says, and `route` is ours.
         let code = unsafe {
-            match addr.into() {
+            match addr {
                 IpAddr::V4(addr) => raw::routes_get4(self.raw.get(), addr.into(), &mut route),
                 IpAddr::V6(addr) => {
                     let (high, low) = halves(addr);
