@@ -76,8 +76,9 @@ class Table:
     A network has up to eight routes, each by another hop, a number below 2**32 or DROP. Its best route is that of the greatest
     preference, and among equals that of the smallest number, with DROP the last. Host bits of networks are ignored.
 
-    Where a call raises, the table is as it was. MemoryError says that there was no memory, ValueError that an argument is out of
-    range or that the table is closed, and RuntimeError that the call came from another thread than the one that made the table.
+    Where another call than `line` raises, the table is as it was. MemoryError says that there was no memory, ValueError that an
+    argument is out of range or that the table is closed, and RuntimeError that the call came from another thread than the one that
+    made the table.
     """
 
     def __init__(self) -> None:
@@ -131,7 +132,8 @@ class Table:
     def line(self, line: str | bytes) -> str:
         """The reply of `routes lead` to a line of its input, which is given without its line end.
 
-        Where this raises MemoryError, the command may have been carried out.
+        MemoryError says that there was no memory for the whole reply. The line has been answered all the same, and the table is the
+        one after it.
         """
         line = line.encode() if isinstance(line, str) else line
         _is_found(_library.routes_line(self._own(), line, len(line)))

@@ -11,9 +11,9 @@ use std::net::{IpAddr, Ipv4Addr, Ipv6Addr};
 ///
 /// A table stays on its thread: it is neither `Send` nor `Sync`.
 pub struct Table {
-    /// Open until it is dropped. The cell and the pointer in it keep `Table` on one thread, so that no
-    /// call is made while another runs.
-    raw: UnsafeCell<raw::Table>,
+    /// Open until it is dropped, and boxed, since an open table may not move. The cell and the pointer
+    /// in it keep `Table` on one thread, so that no call is made while another runs.
+    raw: Box<UnsafeCell<raw::Table>>,
 }
 
 impl Table {
@@ -22,10 +22,11 @@ impl Table {
     /// # Errors
     /// `NoMemory`.
     pub fn new() -> Result<Table, Error> {
-        let mut raw = raw::Table::CLOSED;
-        // SAFETY: `raw` is a closed table, and ours alone.
-        check(unsafe { raw::routes_open(&mut raw) })?;
-        Ok(Table { raw: raw.into() })
+        let raw = Box::new(UnsafeCell::new(raw::Table::CLOSED));
+        let table = Table { raw };
+        // SAFETY: the table is closed, and ours alone.
+        check(unsafe { raw::routes_open(table.raw.get()) })?;
+        Ok(table)
     }
 
     /// The best route of the longest stored network that contains the address.
@@ -115,7 +116,8 @@ impl Table {
     /// line of the reply has its own.
     ///
     /// # Errors
-    /// `NoMemory` where there is none for the whole reply: the command may have been carried out.
+    /// `NoMemory` where there is none for the whole reply. The line has been answered all the same,
+    /// and the table is the one after it.
     pub fn line(&mut self, line: impl AsRef<[u8]>) -> Result<String, Error> {
         let line = line.as_ref();
         // SAFETY: the table is as `raw` says, and `line` is a slice.
