@@ -1,0 +1,172 @@
+"""Tests of routes.py: sessions of the manual, and random turns beside a plain model."""
+
+import doctest
+import ipaddress
+import random
+import unittest
+from concurrent.futures import ThreadPoolExecutor
+from pathlib import Path
+
+import routes
+from routes import DROP, Change, Full, Piece, Route, Table
+
+EXAMPLES = Path(__file__).resolve().parents[2] / "examples"
+# The random turns change these two networks, of 16 addresses each, and networks inside them.
+ROOTS = [ipaddress.ip_network("10.0.0.240/28"), ipaddress.ip_network("2001:db8:0:ffff::/124")]
+
+
+def order(hop):
+    """Of routes with one preference the least is best."""
+    return 1 << 32 if hop == DROP else hop
+
+
+class Model:
+    """A map of networks to their routes, each a hop with a preference."""
+
+    def __init__(self):
+        self.routes = {}
+
+    def get(self, net):
+        """The best route of the longest stored network that contains all of this one."""
+        around = [other for other in self.routes if other.version == net.version and net.subnet_of(other)]
+        if not around:
+            return None
+        longest = max(around, key=lambda other: other.prefixlen)
+        hop, preference = max(self.routes[longest].items(), key=lambda route: (route[1], -order(route[0])))
+        return Route(longest, hop, preference)
+
+    def hop(self, net):
+        route = self.get(net)
+        return None if route is None or route.hop == DROP else route.hop
+
+    def add(self, net, hop, preference):
+        before = self.hop(net)
+        routes = self.routes.setdefault(net, {})
+        if len(routes) == 8 and hop not in routes:
+            raise Full
+        routes[hop] = preference
+        return Change(before, self.hop(net))
+
+    def remove(self, net, hop):
+        before = self.hop(net)
+        routes = self.routes.get(net, {})
+        del routes[hop]
+        if not routes:
+            del self.routes[net]
+        return Change(before, self.hop(net))
+
+    def flat(self, block):
+        """The flat list of the addresses of a block."""
+        if block.prefixlen == block.max_prefixlen:
+            hop = self.hop(block)
+            return [] if hop is None else [Piece(block, hop)]
+        halves = list(block.subnets())
+        pieces = [piece for half in halves for piece in self.flat(half)]
+        if [piece.net for piece in pieces] == halves and pieces[0].hop == pieces[1].hop:
+            return [Piece(block, pieces[0].hop)]
+        return pieces
+
+
+def outcome(call, *arguments):
+    """What a call answers, or the type of what it raises."""
+    try:
+        return call(*arguments)
+    except (Full, KeyError) as error:
+        return type(error)
+
+
+class Turns(unittest.TestCase):
+    def test_random_turns(self):
+        draw = random.Random(7)
+        model = Model()
+        outcomes = []
+        with Table() as table:
+            for turn in range(3000):
+                root = draw.choice(ROOTS)
+                net = draw.choice(list(root.subnets(draw.randrange(5))))
+                hop = draw.choice([DROP, (1 << 32) - 1, *range(9)])
+                # Tables grow for a while, and then shrink.
+                if draw.random() < (0.8 if turn % 1000 < 600 else 0.2):
+                    arguments = "add", net, hop, draw.choice([0, 100, 65535])
+                else:
+                    arguments = "remove", net, hop
+                name, *rest = arguments
+                outcomes.append(outcome(getattr(model, name), *rest))
+                self.assertEqual(outcome(getattr(table, name), *rest), outcomes[-1], arguments)
+                addr = draw.choice(list(root))
+                self.assertEqual(table.get(addr), model.get(ipaddress.ip_network(addr)), addr)
+                if turn % 20 == 0:
+                    self.assertEqual(table.flat(), [piece for root in ROOTS for piece in model.flat(root)])
+        self.assertTrue({Full, KeyError} < set(outcomes))
+
+    def test_both_ends_of_both_families(self):
+        with Table() as table:
+            for net in map(ipaddress.ip_network, ("0.0.0.0/0", "::/0")):
+                self.assertIsNone(table.get(net[0]))
+                table.add(net, 1, 0)
+                table.add(str(net[-1]), DROP, 65535)
+                self.assertEqual(table.get(net[0]), (net, 1, 0))
+                self.assertEqual(table.get(str(net[-1])), (ipaddress.ip_network(net[-1]), DROP, 65535))
+            self.assertEqual(table.line("count"), "count 2 2\nok\n")
+
+
+class Lines(unittest.TestCase):
+    def test_sessions_of_the_manual(self):
+        for name in ("session", "add", "del", "all", "pages", "count", "ninth", "bad-routes"):
+            with self.subTest(name), Table() as table:
+                lines = (EXAMPLES / f"{name}.txt").read_text().splitlines()
+                self.assertEqual("".join(map(table.line, lines)), (EXAMPLES / f"{name}.out").read_text())
+
+    def test_a_line_of_any_bytes(self):
+        with Table() as table:
+            for line in ("", "\0", b"\xff", "count\n", "é", b"a" * 100_000):
+                self.assertEqual(table.line(line), "bad\n", line[:10])
+
+    def test_a_long_reply(self):
+        """It is longer than what is copied at once."""
+        with Table() as table:
+            for part in range(256):
+                table.add(f"10.{part}.0.0/16", 7)
+            routes = "".join(f"route 10.{part}.0.0/16 7 100\n" for part in range(256))
+            self.assertEqual(table.line("list 0.0.0.0/0"), routes + "ok\n")
+
+
+class Rules(unittest.TestCase):
+    def test_arguments_out_of_range(self):
+        with Table() as table:
+            for net, hop, preference in [
+                ("10.0.0.0/33", 1, 100), ("::/129", 1, 100), ("10.0.0.0/8", 1 << 32, 100), ("10.0.0.0/8", -1, 100),
+                ("10.0.0.0/8", 1, 1 << 16), ("10.0.0.0/8", 1, -1), ("ten", 1, 100),
+            ]:
+                with self.subTest((net, hop, preference)), self.assertRaises(ValueError):
+                    table.add(net, hop, preference)
+            self.assertEqual(table.line("count"), "count 0 0\nok\n")
+
+    def test_host_bits_are_ignored(self):
+        with Table() as table:
+            table.add("10.1.2.3/8", 1)
+            self.assertEqual(table.remove("10.0.0.0/8", 1), Change(1, None))
+
+    def test_a_closed_table(self):
+        table = Table()
+        table.close()
+        table.close()
+        for call in (lambda: table.get("::"), lambda: table.add("::/0", 1), lambda: table.remove("::/0", 1), table.flat,
+                     lambda: table.line("flat")):
+            with self.assertRaisesRegex(ValueError, "closed"):
+                call()
+
+    def test_a_table_stays_on_its_thread(self):
+        with Table() as table, ThreadPoolExecutor(1) as other:
+            for call in (table.flat, table.close):
+                with self.assertRaisesRegex(RuntimeError, "thread"):
+                    other.submit(call).result()
+
+
+def load_tests(_loader, tests, _pattern):
+    tests.addTests(doctest.DocTestSuite(routes))
+    return tests
+
+
+if __name__ == "__main__":
+    unittest.main()

@@ -1,0 +1,32 @@
+//! Route tables for IPv4 and IPv6: the longest match of an address, the hop that a change changed,
+//! and the shortest list of blocks with one hop each.
+//!
+//! This is a safe wrapper of the C library `routes`. What the library answers is proved for every
+//! caller that keeps the rules of its header; the types of this crate keep them.
+//!
+//! ```
+//! use routes::{Change, Hop, Table, PREFERENCE};
+//! use std::net::Ipv4Addr;
+//!
+//! let mut table = Table::new()?;
+//! table.add("10.0.0.0/8".parse()?, Hop::Number(1), PREFERENCE)?;
+//! let change = table.add("10.1.0.0/16".parse()?, Hop::Drop, PREFERENCE)?;
+//! assert_eq!(change, Change { before: Some(1), after: None });
+//!
+//! let route = table.get(Ipv4Addr::new(10, 2, 3, 4)).expect("10.0.0.0/8 contains it");
+//! assert_eq!(route.to_string(), "10.0.0.0/8 1 100");
+//! # Ok::<(), Box<dyn std::error::Error>>(())
+//! ```
+
+#![warn(missing_docs)]
+
+mod error;
+mod net;
+mod raw;
+mod route;
+mod table;
+
+pub use error::{Error, ParseNetError};
+pub use net::Net;
+pub use route::{Change, Hop, Piece, Route, PREFERENCE};
+pub use table::Table;

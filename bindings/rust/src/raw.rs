@@ -1,0 +1,89 @@
+//! The declarations of `routes.h`.
+
+use std::ptr::null_mut;
+
+pub const OK: u32 = 0;
+pub const MISSING: u32 = 1;
+pub const NO_MEMORY: u32 = 2;
+pub const FULL: u32 = 5;
+
+pub const DROP: u64 = 1 << 32;
+
+#[repr(C)]
+pub struct Table {
+    at: *mut u8,
+    is_open: bool,
+}
+
+impl Table {
+    pub const CLOSED: Table = Table {
+        at: null_mut(),
+        is_open: false,
+    };
+}
+
+#[repr(C)]
+#[derive(Default)]
+pub struct Route {
+    pub high: u64,
+    pub low: u64,
+    pub hop: u64,
+    pub pref: u16,
+    pub family: u8,
+    pub len: u8,
+}
+
+#[repr(C)]
+#[derive(Default)]
+pub struct Change {
+    pub before: u64,
+    pub after: u64,
+}
+
+#[repr(C)]
+#[derive(Default)]
+pub struct Piece {
+    pub high: u64,
+    pub low: u64,
+    pub hop: u32,
+    pub family: u8,
+    pub len: u8,
+}
+
+extern "C" {
+    pub fn routes_open(table: *mut Table) -> u32;
+    pub fn routes_close(table: *mut Table);
+    pub fn routes_get4(table: *mut Table, addr: u32, route: *mut Route) -> u32;
+    pub fn routes_get6(table: *mut Table, high: u64, low: u64, route: *mut Route) -> u32;
+    pub fn routes_add4(
+        table: *mut Table,
+        addr: u32,
+        len: u8,
+        hop: u64,
+        pref: u16,
+        change: *mut Change,
+    ) -> u32;
+    pub fn routes_add6(
+        table: *mut Table,
+        high: u64,
+        low: u64,
+        len: u8,
+        hop: u64,
+        pref: u16,
+        change: *mut Change,
+    ) -> u32;
+    pub fn routes_del4(table: *mut Table, addr: u32, len: u8, hop: u64, change: *mut Change)
+        -> u32;
+    pub fn routes_del6(
+        table: *mut Table,
+        high: u64,
+        low: u64,
+        len: u8,
+        hop: u64,
+        change: *mut Change,
+    ) -> u32;
+    pub fn routes_flat(table: *mut Table) -> u32;
+    pub fn routes_piece_at(table: *mut Table, index: usize, piece: *mut Piece) -> u32;
+    pub fn routes_line(table: *mut Table, line: *const u8, len: usize) -> u32;
+    pub fn routes_reply(table: *mut Table, from: usize, out: *mut u8, room: usize) -> usize;
+}

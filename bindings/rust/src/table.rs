@@ -1,0 +1,205 @@
+use crate::{raw, Change, Error, Hop, Net, Piece, Route};
+use std::cell::UnsafeCell;
+use std::fmt;
+use std::net::{IpAddr, Ipv4Addr, Ipv6Addr};
+
+/// A route table for IPv4 and IPv6.
+///
+/// A network has up to eight routes, each by another hop. Its best route is that of the greatest
+/// preference, and among equals that of the smallest hop. The hop of an address is that of the best
+/// route of the longest stored network that contains it.
+///
+/// A table stays on its thread: it is neither `Send` nor `Sync`.
+pub struct Table {
+    /// Open until it is dropped, and boxed, since an open table may not move. The cell and the pointer
+    /// in it keep `Table` on one thread, so that no call is made while another runs.
+    raw: Box<UnsafeCell<raw::Table>>,
+}
+
+impl Table {
+    /// A table without routes.
+    ///
+    /// # Errors
+    /// `NoMemory`.
+    pub fn new() -> Result<Table, Error> {
+        let raw = Box::new(UnsafeCell::new(raw::Table::CLOSED));
+        let table = Table { raw };
+        // SAFETY: the table is closed, and ours alone.
+        check(unsafe { raw::routes_open(table.raw.get()) })?;
+        Ok(table)
+    }
+
+    /// The best route of the longest stored network that contains the address.
+    pub fn get(&self, addr: impl Into<IpAddr>) -> Option<Route> {
+        let addr = addr.into();
+        let mut route = raw::Route::default();
+        // SAFETY: the table is as `raw` says, and `route` is ours.
+        let code = unsafe {
+            match addr {
+                IpAddr::V4(addr) => raw::routes_get4(self.raw.get(), addr.into(), &mut route),
+                IpAddr::V6(addr) => {
+                    let (high, low) = halves(addr);
+                    raw::routes_get6(self.raw.get(), high, low, &mut route)
+                }
+            }
+        };
+        found(code).then(|| Route {
+            net: net(route.family, route.high, route.low, route.len),
+            hop: number(route.hop).map_or(Hop::Drop, Hop::Number),
+            preference: route.pref,
+        })
+    }
+
+    /// Adds a route, or gives the network's route by this hop another preference.
+    ///
+    /// # Errors
+    /// `Full` where the network has routes by eight other hops, and `NoMemory`. The table is then as
+    /// it was.
+    pub fn add(&mut self, net: Net, hop: Hop, preference: u16) -> Result<Change, Error> {
+        let (len, hop) = (net.prefix_len(), raw_hop(hop));
+        let mut change = raw::Change::default();
+        let table = self.raw.get_mut();
+        // SAFETY: the table is as `raw` says, and `change` is ours.
+        check(unsafe {
+            match net.addr() {
+                IpAddr::V4(addr) => {
+                    raw::routes_add4(table, addr.into(), len, hop, preference, &mut change)
+                }
+                IpAddr::V6(addr) => {
+                    let (high, low) = halves(addr);
+                    raw::routes_add6(table, high, low, len, hop, preference, &mut change)
+                }
+            }
+        })?;
+        Ok(change.into())
+    }
+
+    /// Takes the network's route by this hop out; `None` where there is none.
+    pub fn del(&mut self, net: Net, hop: Hop) -> Option<Change> {
+        let (len, hop) = (net.prefix_len(), raw_hop(hop));
+        let mut change = raw::Change::default();
+        let table = self.raw.get_mut();
+        // SAFETY: the table is as `raw` says, and `change` is ours.
+        let code = unsafe {
+            match net.addr() {
+                IpAddr::V4(addr) => raw::routes_del4(table, addr.into(), len, hop, &mut change),
+                IpAddr::V6(addr) => {
+                    let (high, low) = halves(addr);
+                    raw::routes_del6(table, high, low, len, hop, &mut change)
+                }
+            }
+        };
+        found(code).then(|| change.into())
+    }
+
+    /// The fewest blocks with one hop each that hold all addresses with a hop, in ascending order.
+    ///
+    /// # Errors
+    /// `NoMemory`.
+    pub fn flat(&self) -> Result<Vec<Piece>, Error> {
+        // SAFETY: the table is as `raw` says.
+        check(unsafe { raw::routes_flat(self.raw.get()) })?;
+        Ok((0..).map_while(|index| self.piece_at(index)).collect())
+    }
+
+    fn piece_at(&self, index: usize) -> Option<Piece> {
+        let mut piece = raw::Piece::default();
+        // SAFETY: the table is as `raw` says, and `piece` is ours.
+        let code = unsafe { raw::routes_piece_at(self.raw.get(), index, &mut piece) };
+        found(code).then(|| Piece {
+            net: net(piece.family, piece.high, piece.low, piece.len),
+            hop: piece.hop,
+        })
+    }
+
+    /// The reply of `routes lead` to a line of its input, which is given without its line end. Each
+    /// line of the reply has its own.
+    ///
+    /// # Errors
+    /// `NoMemory` where there is none for the whole reply. The line has been answered all the same,
+    /// and the table is the one after it.
+    pub fn line(&mut self, line: impl AsRef<[u8]>) -> Result<String, Error> {
+        let line = line.as_ref();
+        // SAFETY: the table is as `raw` says, and `line` is a slice.
+        check(unsafe { raw::routes_line(self.raw.get_mut(), line.as_ptr(), line.len()) })?;
+        let mut reply = String::new();
+        let mut out = [0; 4096];
+        loop {
+            // SAFETY: the table is as `raw` says, and `out` is ours.
+            let count = unsafe {
+                let table = self.raw.get_mut();
+                raw::routes_reply(table, reply.len(), out.as_mut_ptr(), out.len())
+            };
+            if count == 0 {
+                return Ok(reply);
+            }
+            reply.extend(out[..count].iter().map(|&byte| char::from(byte)));
+        }
+    }
+}
+
+impl Drop for Table {
+    fn drop(&mut self) {
+        // SAFETY: the table is as `raw` says, and is not used again.
+        unsafe { raw::routes_close(self.raw.get_mut()) }
+    }
+}
+
+impl fmt::Debug for Table {
+    fn fmt(&self, f: &mut fmt::Formatter<'_>) -> fmt::Result {
+        f.debug_struct("Table").finish_non_exhaustive()
+    }
+}
+
+impl From<raw::Change> for Change {
+    fn from(change: raw::Change) -> Change {
+        Change {
+            before: number(change.before),
+            after: number(change.after),
+        }
+    }
+}
+
+/// What an answer says of an open table and a network whose length is right.
+fn check(code: u32) -> Result<(), Error> {
+    match code {
+        raw::OK => Ok(()),
+        raw::NO_MEMORY => Err(Error::NoMemory),
+        raw::FULL => Err(Error::Full),
+        _ => panic!("the library answered {code}, which its header does not allow here"),
+    }
+}
+
+/// Whether that which was asked for is there.
+fn found(code: u32) -> bool {
+    match code {
+        raw::OK => true,
+        raw::MISSING => false,
+        _ => panic!("the library answered {code}, which its header does not allow here"),
+    }
+}
+
+fn halves(addr: Ipv6Addr) -> (u64, u64) {
+    let bits = u128::from(addr);
+    ((bits >> 64) as u64, bits as u64)
+}
+
+fn net(family: u8, high: u64, low: u64, len: u8) -> Net {
+    let addr: IpAddr = match family {
+        4 => Ipv4Addr::from(low as u32).into(),
+        _ => Ipv6Addr::from(u128::from(high) << 64 | u128::from(low)).into(),
+    };
+    Net::new(addr, len).expect("the length fits the family")
+}
+
+fn raw_hop(hop: Hop) -> u64 {
+    match hop {
+        Hop::Number(number) => number.into(),
+        Hop::Drop => raw::DROP,
+    }
+}
+
+/// The number of a hop, if it is one.
+fn number(hop: u64) -> Option<u32> {
+    hop.try_into().ok()
+}

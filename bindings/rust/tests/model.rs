@@ -1,0 +1,197 @@
+//! Random turns of a table, each compared with a plain model: a map of networks to their routes.
+
+use routes::{Change, Error, Hop, Net, Piece, Route, Table};
+use std::collections::BTreeMap;
+use std::net::{IpAddr, Ipv4Addr, Ipv6Addr};
+
+/// The turns change these two networks, of 16 addresses each, and networks inside them.
+const ROOTS: [(IpAddr, u8); 2] = [
+    (IpAddr::V4(Ipv4Addr::new(10, 0, 0, 240)), 28),
+    (
+        IpAddr::V6(Ipv6Addr::new(0x2001, 0xdb8, 0, 0xffff, 0, 0, 0, 0)),
+        124,
+    ),
+];
+const SIZE: u32 = 16;
+
+/// An address of a root.
+fn addr(root: (IpAddr, u8), index: u32) -> IpAddr {
+    match root.0 {
+        IpAddr::V4(first) => Ipv4Addr::from(u32::from(first) + index).into(),
+        IpAddr::V6(first) => Ipv6Addr::from(u128::from(first) + u128::from(index)).into(),
+    }
+}
+
+/// The network of this size, a power of two, that contains this address of a root.
+fn net(root: (IpAddr, u8), index: u32, size: u32) -> Net {
+    let len = root.1 + (SIZE / size).ilog2() as u8;
+    Net::new(addr(root, index), len).unwrap()
+}
+
+#[derive(Default)]
+struct Model(BTreeMap<Net, BTreeMap<Hop, u16>>);
+
+impl Model {
+    /// The best route of the longest stored network that contains all of this one.
+    fn get(&self, net: Net) -> Option<Route> {
+        let around = self.0.iter().filter(|(other, _)| {
+            other.prefix_len() <= net.prefix_len() && other.contains(net.addr())
+        });
+        let (&net, routes) = around.max_by_key(|(other, _)| other.prefix_len())?;
+        let best = routes
+            .iter()
+            .rev()
+            .max_by_key(|(_, &preference)| preference);
+        best.map(|(&hop, &preference)| Route {
+            net,
+            hop,
+            preference,
+        })
+    }
+
+    fn hop(&self, net: Net) -> Option<u32> {
+        match self.get(net)?.hop {
+            Hop::Number(number) => Some(number),
+            Hop::Drop => None,
+        }
+    }
+
+    fn add(&mut self, net: Net, hop: Hop, preference: u16) -> Result<Change, Error> {
+        let before = self.hop(net);
+        let routes = self.0.entry(net).or_default();
+        if routes.len() == 8 && !routes.contains_key(&hop) {
+            return Err(Error::Full);
+        }
+        routes.insert(hop, preference);
+        Ok(Change {
+            before,
+            after: self.hop(net),
+        })
+    }
+
+    fn del(&mut self, net: Net, hop: Hop) -> Option<Change> {
+        let before = self.hop(net);
+        let routes = self.0.get_mut(&net)?;
+        routes.remove(&hop)?;
+        if routes.is_empty() {
+            self.0.remove(&net);
+        }
+        Some(Change {
+            before,
+            after: self.hop(net),
+        })
+    }
+
+    /// The flat list of a block of a root.
+    fn flat(&self, root: (IpAddr, u8), index: u32, size: u32) -> Vec<Piece> {
+        let block = net(root, index, size);
+        if size == 1 {
+            return self
+                .hop(block)
+                .map(|hop| Piece { net: block, hop })
+                .into_iter()
+                .collect();
+        }
+        let half = size / 2;
+        let mut pieces = self.flat(root, index, half);
+        pieces.extend(self.flat(root, index + half, half));
+        match pieces[..] {
+            [low, high] if low.hop == high.hop && is_half(low, block) && is_half(high, block) => {
+                vec![Piece {
+                    net: block,
+                    hop: low.hop,
+                }]
+            }
+            _ => pieces,
+        }
+    }
+}
+
+fn is_half(piece: Piece, block: Net) -> bool {
+    piece.net.prefix_len() == block.prefix_len() + 1
+}
+
+/// Xorshift: numbers that look random, and are the same in each run.
+struct Random(u64);
+
+impl Random {
+    fn below(&mut self, bound: u32) -> u32 {
+        self.0 ^= self.0 << 13;
+        self.0 ^= self.0 >> 7;
+        self.0 ^= self.0 << 17;
+        ((self.0 >> 32) % u64::from(bound)) as u32
+    }
+
+    fn hop(&mut self) -> Hop {
+        match self.below(11) {
+            10 => Hop::Drop,
+            9 => Hop::Number(u32::MAX),
+            number => Hop::Number(number),
+        }
+    }
+}
+
+#[test]
+fn random_turns() {
+    let mut random = Random(0x9e37_79b9_7f4a_7c15);
+    let mut table = Table::new().unwrap();
+    let mut model = Model::default();
+    let mut full = 0;
+    for turn in 0..4000 {
+        let root = ROOTS[random.below(2) as usize];
+        let net = net(root, random.below(SIZE), 1 << random.below(5));
+        let (hop, preference) = (random.hop(), [0, 100, 65535][random.below(3) as usize]);
+        // Tables grow for a while, and then shrink.
+        if random.below(10) < if turn % 1000 < 600 { 8 } else { 2 } {
+            let added = model.add(net, hop, preference);
+            full += u32::from(added.is_err());
+            assert_eq!(
+                table.add(net, hop, preference),
+                added,
+                "add {net} {hop} {preference}"
+            );
+        } else {
+            assert_eq!(table.del(net, hop), model.del(net, hop), "del {net} {hop}");
+        }
+        let (addr, host) = (addr(root, random.below(SIZE)), root.1 + 4);
+        assert_eq!(
+            table.get(addr),
+            model.get(Net::new(addr, host).unwrap()),
+            "get {addr}"
+        );
+        if turn % 20 == 0 {
+            let pieces = ROOTS.iter().flat_map(|&root| model.flat(root, 0, SIZE));
+            assert_eq!(table.flat().unwrap(), pieces.collect::<Vec<_>>());
+        }
+    }
+    assert!(full > 0, "no network was full");
+}
+
+#[test]
+fn both_ends_of_both_families() {
+    let mut table = Table::new().unwrap();
+    for (first, last, len) in [
+        (IpAddr::from([0; 4]), IpAddr::from([255; 4]), 32),
+        (IpAddr::from([0; 16]), IpAddr::from([255; 16]), 128),
+    ] {
+        let all = Net::new(last, 0).unwrap();
+        assert_eq!(table.get(first), None);
+        table.add(all, Hop::Number(1), 0).unwrap();
+        table
+            .add(Net::new(last, len).unwrap(), Hop::Drop, 65535)
+            .unwrap();
+        let route = Route {
+            net: all,
+            hop: Hop::Number(1),
+            preference: 0,
+        };
+        assert_eq!(table.get(first), Some(route));
+        assert_eq!(
+            table.get(last).map(|route| route.to_string()),
+            Some(format!("{last}/{len} drop 65535"))
+        );
+        assert_eq!(table.flat().unwrap().last().unwrap().net.prefix_len(), len);
+    }
+    let count = table.line("count").unwrap();
+    assert_eq!(count, "count 2 2\nok\n");
+}
