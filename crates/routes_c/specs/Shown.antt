@@ -33,6 +33,7 @@ abbrev pub Shows : Option (IpNet × Hop × ℕ) → ℕ → Route → Route → 
 Shows None code old new = (code ≡ 1) × (new ≡ old)
 Shows (Some f) code old new = (code ≡ 0) × (new ≡ shown f.0 f.1 f.2)
 
+-- the block of a route, with this hop
 abbrev pub piece_of : Route → ℕ → Piece
 piece_of r k = record { high = r.high; low = r.low; hop = k; family = r.family; len = r.len }
 
