@@ -29,19 +29,11 @@ less_from_T Less h = refl
 less_from_T Equal h = absurd h
 less_from_T Greater h = absurd h
 
-pub less_from_test : (o : Ordering) → is_lt o ≡ true → o ≡ Less
-less_from_test Less e = refl
-less_from_test Equal e = cc
-less_from_test Greater e = cc
-
 -- ---- numbers
 
 -- a number is twice its half, or one more
 pub even_or_odd : (x q : ℕ) → x / 2 ≡ q → (x ≡ 2 * q) ⊎ (x ≡ 2 * q + 1)
 even_or_odd x q h = grind arith
-
-pub ones_min : (a b : ℕ) → min a b ≡ 1 → a < 2 → b < 2 → (a ≡ 1) × (b ≡ 1)
-ones_min a b e l m = (omega (arith, e, l, m), omega (arith, e, l, m))
 
 pub no_ones : (bits : ℕ) → count_ones (bits % 2 ^ 0) ≡ 0
 no_ones bits = omega (arith, ones_le_self (bits % 2 ^ 0))

@@ -63,9 +63,6 @@ shared_nothing : (s : List Bool) → shared s [] ≡ 0
 shared_nothing [] = refl
 shared_nothing (x ∷ s) = refl
 
-pub shared_end : (s t : List Bool) (n : ℕ) → length s ≤ n → shared (drop n s) (drop n t) ≡ 0
-shared_end s t n l = rw (drop_of_length-le s {i = n} l) refl
-
 pub shared_other_end : (s t : List Bool) (n : ℕ) → length t ≤ n → shared (drop n s) (drop n t) ≡ 0
 shared_other_end s t n l = rw (drop_of_length-le t {i = n} l) (shared_nothing (drop n s))
 

@@ -211,9 +211,6 @@ module _ (low high out a b : List (Option ℕ)) (la : 0 < length a) (lb : 0 < le
 pub common_begin : (low high out : List (Option ℕ)) → out ≡ [] → IsRising low → IsRising high → CommonLeft low high out low high
 common_begin low high out e h k = rw e (record { low_rises = h; high_rises = k; same = λ j. refl })
 
-pub all_begin : (low high out : List (Option ℕ)) → out ≡ [] → IsRising low → IsRising high → AllLeft low high out low high
-all_begin low high out e h k = rw e (record { low_rises = h; high_rises = k; same = λ j. refl })
-
 or_none : (u : Bool) → (u || false) ≡ u
 or_none true = refl
 or_none false = refl
@@ -236,11 +233,6 @@ all_end low high out (x ∷ a) (y ∷ b) (inl e) h = absurd (omega (arith, e))
 all_end low high out (x ∷ a) (y ∷ b) (inr e) h = absurd (omega (arith, e))
 
 -- what the two make of the best hops of both halves
-apart_bools : (u v : Bool) → (u ≡ true → v ≡ true → ⊥) → (u && v) ≡ false
-apart_bools true true f = absurd (f refl refl)
-apart_bools true false f = refl
-apart_bools false v f = refl
-
 pub common_merged : (as' bs cs : List (Option ℕ)) → AreCommon as' bs cs → (length cs ≡ 0 → ⊥) → AreMerged as' bs cs
 common_merged as' bs [] c n k = absurd (n refl)
 common_merged as' bs (x ∷ cs) c n k = go (meets as' bs) refl

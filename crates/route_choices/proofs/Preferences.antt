@@ -32,13 +32,6 @@ same_itself Drop = refl
 pub test_from_hop : (j k : Hop) → j ≡ k → same_hop j k ≡ true
 test_from_hop j k e = ap (same_hop j) (sym e) ∙ same_itself j
 
-pub hop_or_not : (j k : Hop) → (j ≡ k) ⊎ (j ≢ k)
-hop_or_not j k = go (same_hop j k) refl
-  where
-    go : (b : Bool) → same_hop j k ≡ b → (j ≡ k) ⊎ (j ≢ k)
-    go true e = inl (hop_from_test j k e)
-    go false e = inr (λ q. let t = test_from_hop j k q in cc)
-
 pub apart_from_test : (j k : Hop) → not (same_hop j k) ≡ true → j ≢ k
 apart_from_test j k e = λ q. let t = ap not (test_from_hop j k q) in cc
 

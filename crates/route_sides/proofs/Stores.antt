@@ -139,8 +139,3 @@ gone_twice m n p q cs e f s = ap (λ x. get x s) f ∙ get-remove bits_total n q
     go : (t : Bool) → cond t None (cond t (Some cs) (get m s)) ≡ cond t None (get m s)
     go true = refl
     go false = refl
-
--- a key that is not contained
-pub absent_from : {X : Type 0} (o : Option X) (t : Bool) → IsTrue t ↔ IsSome o → t ≡ false → o ≡ None
-absent_from None t h e = refl
-absent_from (Some x) t h e = absurd (let f = h.1 refl in cc)
