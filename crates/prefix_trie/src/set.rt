@@ -1,9 +1,9 @@
 //! The set, and its iterators.
-ghost use Rattle.std.specs.Prelude.{◌≡◌, ◌+◌, ◌<◌, ◌≤◌, ◌^◌, List, [], length, not, true, false, IfOk, IfErr, IsOk, IsTrue, ◌↔◌, OnErr, OnOk, MatchOption, map, ⊤};
+ghost use Rattle.std.specs.Prelude.{◌≡◌, ◌+◌, ◌<◌, ◌≤◌, ◌^◌, List, length, not, true, false, IfOk, IfErr, IsOk, IsTrue, ◌↔◌, OnErr, OnOk, MatchOption, map};
 ghost use Rattle.std.specs.Cmp.{partial_equiv_from_equiv};
 ghost use Rattle.std.specs.FinMap as fin;
 ghost use Rattle.std.specs.FinMap.Entries.{where_key};
-ghost use Rattle.std.specs.Iterator.{Drains, HoldsAlong, IsFinite, item_count};
+ghost use Rattle.std.specs.Iterator.{Drains, HoldsAlong, IsFinite};
 ghost use Rattle.std.specs.List.{All};
 ghost use Rattle.std.specs.List.Retain.{IsFiltered};
 ghost use Rattle.trie_core.specs.Bits.{is_from};
@@ -13,7 +13,6 @@ ghost use Rattle.trie_core.specs.Inside.{outside};
 ghost use Rattle.trie_core.specs.Ways.{AreIdle, off_way, IsPruned, IsCut, IsKept};
 ghost use Rattle.trie_core.specs.Search.{NoBeginning};
 ghost use Rattle.trie_map.specs.Covered.{covered_count};
-ghost use Rattle.trie_iterators.specs.Iterators.{GivesKey};
 ghost use Rattle.trie_map.specs.Made.{inserted};
 ghost use Rattle.trie_map.specs.Maps.{IsLongestKey, IsShortestKey};
 ghost use Rattle.trie_map.specs.Refusals.{no_room};
@@ -23,9 +22,9 @@ ghost use Rattle.prefix_trie.specs.Members.{TakesMember, AnswersAtMember};
 ghost use Rattle.prefix_trie.specs.InnerSets.{same_sets-equivalence};
 ghost use Rattle.trie_map.specs.declared.refused.Refused.TheVariants.{Full, Memory};
 
-use std::alloc::{AllocError, Global};
+use std::alloc::Global;
 use std::marker::Model;
-use trie_map::{CoverKeys, IntoKeys, Iter as Entries, Prefix, PrefixMap, Refused};
+use trie_map::{CoverKeys, IntoKeys, Keys, Prefix, PrefixMap, Refused};
 
 /// A set of prefixes: two prefixes are one member where the same bits count.
 ///
@@ -185,9 +184,7 @@ impl<P: Prefix> PrefixSet<P> {
     pub fn iter(&self) -> Iter<'_, P>
         ensures { result ≡ fin.keys self.now.entries }
     {
-        Iter {
-            entries: self.members.iter(),
-        }
+        self.members.keys()
     }
 
     /// The members from a prefix on, in the order of a walk: those that come after it, among them the longer ones
@@ -196,9 +193,7 @@ impl<P: Prefix> PrefixSet<P> {
         requires { IsTrue (P.fits prefix.now) }
         ensures { result ≡ map (λ e. e.0) (where_key bits_cmp (is_from (P.bits prefix.now) inclusive) (fin.entries self.now.entries)) }
     {
-        Iter {
-            entries: self.members.iter_from(prefix, inclusive),
-        }
+        Iter::of_entries(self.members.iter_from(prefix, inclusive))
     }
 
     /// The members that the prefix contains, itself included.
@@ -206,9 +201,7 @@ impl<P: Prefix> PrefixSet<P> {
         requires { IsTrue (P.fits prefix.now) }
         ensures { result ≡ map (λ e. e.0) (where_key bits_cmp (begins (P.bits prefix.now)) (fin.entries self.now.entries)) }
     {
-        Iter {
-            entries: self.members.children(prefix),
-        }
+        Iter::of_entries(self.members.children(prefix))
     }
 
     /// The members that contain the prefix, itself included, the shortest first.
@@ -355,60 +348,7 @@ impl<P: Prefix> Eq for PrefixSet<P> {
 }
 
 /// The members that are left: what `iter`, `iter_from` and `children` give.
-#[derive(Drop)]
-pub struct Iter<'a, P: Prefix> {
-    entries: Entries<'a, P, ()>,
-}
-
-impl<'a, P: Prefix> Model for Iter<'a, P> {
-    ghost use Rattle.std.specs.Prelude.{List, Bool, map};
-    ghost use Rattle.std.specs.Coded.{coded_list, coded_bool};
-
-    ghost Value = { List (List Bool) };
-
-    ghost coded = { coded_list (coded_list coded_bool) };
-
-    ghost view = { λ a. map (λ e. e.0) a.entries };
-}
-
-impl<'a, P: Prefix> Iterator for Iter<'a, P> {
-    type Item = P;
-
-    ghost next_gives = { GivesKey P.fits P.bits P.of_bits };
-
-    ghost remaining = { item_count (λ it. it) };
-
-    fn next(&mut self) -> Option<P> {
-        match self.entries.next() {
-            None => None,
-            Some((key, _)) => Some(key),
-        }
-    }
-}
-
-impl<'a, P: Prefix> Clone for Iter<'a, P> {
-    ghost is_clone = { λ it r. r ≡ it };
-
-    ghost is_infallible = { λ _. ⊤ };
-
-    /// A second iterator over what is left. It takes no memory.
-    fn clone(&self) -> Result<Iter<'a, P>, AllocError> {
-        Ok(Iter {
-            entries: self.entries.clone()?,
-        })
-    }
-}
-
-impl<'a, P: Prefix> Default for Iter<'a, P> {
-    ghost is_default = { λ it. it ≡ [] };
-
-    /// No members.
-    fn default() -> Iter<'a, P> {
-        Iter {
-            entries: Entries::default(),
-        }
-    }
-}
+pub type Iter<'a, P> = Keys<'a, P, ()>;
 
 impl<'a, P: Prefix> IntoIterator for &'a PrefixSet<P> {
     type Item = P;
@@ -423,33 +363,7 @@ impl<'a, P: Prefix> IntoIterator for &'a PrefixSet<P> {
 }
 
 /// The members that are left, owned: what `into_iter` gives.
-#[derive(Drop)]
-pub struct IntoIter<P: Prefix> {
-    keys: IntoKeys<P, ()>,
-}
-
-impl<P: Prefix> Model for IntoIter<P> {
-    ghost use Rattle.std.specs.Prelude.{List, Bool};
-    ghost use Rattle.std.specs.Coded.{coded_list, coded_bool};
-
-    ghost Value = { List (List Bool) };
-
-    ghost coded = { coded_list (coded_list coded_bool) };
-
-    ghost view = { λ a. a.keys };
-}
-
-impl<P: Prefix> Iterator for IntoIter<P> {
-    type Item = P;
-
-    ghost next_gives = { GivesKey P.fits P.bits P.of_bits };
-
-    ghost remaining = { item_count (λ it. it) };
-
-    fn next(&mut self) -> Option<P> {
-        self.keys.next()
-    }
-}
+pub type IntoIter<P> = IntoKeys<P, ()>;
 
 impl<P: Prefix> IntoIterator for PrefixSet<P> {
     type Item = P;
@@ -460,8 +374,6 @@ impl<P: Prefix> IntoIterator for PrefixSet<P> {
 
     /// All members, owned.
     fn into_iter(self) -> IntoIter<P> {
-        IntoIter {
-            keys: self.members.into_keys(),
-        }
+        self.members.into_keys()
     }
 }

@@ -1,16 +1,23 @@
--- What iterators give.
+-- What walks and iterators give.
 use Rattle.std.specs.Prelude.{◌≡◌, List, [], ◌∷◌, Bool, IsTrue, Option, MatchOption}
-use Rattle.std.specs.Borrow.{Bor}
+
+-- the first entry was given, its value as contracts see it; or nothing was left
+abbrev pub GivesFirst : {X G : Type 0} → (G → X) → List (List Bool × X) → Option (List Bool × G) → List (List Bool × X) → Type 0
+GivesFirst value es r fs = MatchOption r ((es ≡ []) × (fs ≡ [])) (λ p. es ≡ (p.0, value p.1) ∷ fs)
+
+-- the first item was given, or nothing was left
+abbrev pub GivesItem : {S I : Type 0} → (List S → I → List S → Type 0) → List S → Option I → List S → Type 0
+GivesItem is_first es r fs = MatchOption r ((es ≡ []) × (fs ≡ [])) (λ p. is_first es p fs)
 
 module _ {K : Type 0} (fits : K → Bool) (bits : K → List Bool) (of_bits : List Bool → K) where
-  -- the first entry was given, with the key that is made of its bits, which fits; or nothing was left
-  abbrev pub GivesEntry : {X : Type 0} → List (List Bool × X) → Option (K × Bor X) → List (List Bool × X) → Type 0
-  GivesEntry es r fs = MatchOption r ((es ≡ []) × (fs ≡ [])) (λ p. (es ≡ (bits p.0, p.1.now) ∷ fs) × (p.0 ≡ of_bits (bits p.0)) × IsTrue (fits p.0))
+  -- the key is made of the bits of the first entry, and fits
+  abbrev pub IsFirstKey : List (List Bool) → K → List (List Bool) → Type 0
+  IsFirstKey ss k ts = (ss ≡ bits k ∷ ts) × (k ≡ of_bits (bits k)) × IsTrue (fits k)
 
-  -- the same of a key alone
-  abbrev pub GivesKey : List (List Bool) → Option K → List (List Bool) → Type 0
-  GivesKey ss r ts = MatchOption r ((ss ≡ []) × (ts ≡ [])) (λ k. (ss ≡ bits k ∷ ts) × (k ≡ of_bits (bits k)) × IsTrue (fits k))
+  -- the same of a key with its value
+  abbrev pub IsFirstEntry : {X G : Type 0} → (G → X) → List (List Bool × X) → K × G → List (List Bool × X) → Type 0
+  IsFirstEntry value es p fs = (es ≡ (bits p.0, value p.1) ∷ fs) × (p.0 ≡ of_bits (bits p.0)) × IsTrue (fits p.0)
 
-  -- GivesEntry, where the value is given away
+  -- the first entry was given, or nothing was left
   abbrev pub GivesOwned : {X : Type 0} → List (List Bool × X) → Option (K × X) → List (List Bool × X) → Type 0
-  GivesOwned es r fs = MatchOption r ((es ≡ []) × (fs ≡ [])) (λ p. (es ≡ (bits p.0, p.1) ∷ fs) × (p.0 ≡ of_bits (bits p.0)) × IsTrue (fits p.0))
+  GivesOwned = GivesItem (IsFirstEntry (λ v. v))

@@ -23,7 +23,7 @@ impl<P: Prefix, T> PrefixMap<P, T> {
         requires { IsTrue (P.fits prefix.now) }
         ensures { result ≡ map (λ e. e.0) (where_key bits_cmp (λ k. begins k (P.bits prefix.now)) (entries self.now.entries)) }
     {
-        CoverKeys::new(self.cover(prefix))
+        CoverKeys::of_entries(self.cover(prefix))
     }
 
     /// The values of the keys that contain the prefix, itself included, that of the shortest first.
@@ -31,6 +31,6 @@ impl<P: Prefix, T> PrefixMap<P, T> {
         requires { IsTrue (P.fits prefix.now) }
         ensures { result ≡ map (λ e. e.1) (where_key bits_cmp (λ k. begins k (P.bits prefix.now)) (entries self.now.entries)) }
     {
-        CoverValues::new(Way::new(self.walked(), path_of(prefix)))
+        CoverValues::of_entries(self.cover(prefix))
     }
 }

@@ -47,13 +47,13 @@ impl<P: Prefix, T: Drop> PrefixMap<P, T> {
     pub fn into_keys(self) -> IntoKeys<P, T>
         ensures { result ≡ keys self.entries }
     {
-        IntoKeys::new(self.into_iter())
+        IntoKeys::of_entries(self.into_iter())
     }
 
     /// All values, owned, in the order of their keys.
     pub fn into_values(self) -> IntoValues<P, T>
         ensures { result ≡ values self.entries }
     {
-        IntoValues::new(OwnedWalk::new(self.into_root()))
+        IntoValues::of_entries(self.into_iter())
     }
 }

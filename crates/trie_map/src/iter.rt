@@ -81,13 +81,13 @@ impl<P: Prefix, T> PrefixMap<P, T> {
     pub fn keys(&self) -> Keys<'_, P, T>
         ensures { result ≡ keys self.now.entries }
     {
-        Keys::new(self.iter())
+        Keys::of_entries(self.iter())
     }
 
     /// All values, in the order of their keys.
     pub fn values(&self) -> Values<'_, P, T>
         ensures { result ≡ values self.now.entries }
     {
-        Values::new(Walk::new(self.walked()))
+        Values::of_entries(self.iter())
     }
 }
