@@ -1,6 +1,6 @@
 //! Texts as rows: what is read, and what is printed again.
-use route_lines::{Closing, Command, NotALine, Reply};
-use route_table::Hop;
+use route_lines::{Closing, Command, NotALine, Note, Reply, Update};
+use route_table::{Hop, Operation};
 use std::process::Abort;
 use std::test::Fail;
 
@@ -18,6 +18,29 @@ fn printed_command(rt: &impl Abort, text: &str, expected: &str) {
         Ok(command) => assert_eq!(rt; command.print().as_slice(), expected.as_bytes()),
         Err(_) => assert_eq!(rt; expected, ""),
     }
+}
+
+/// The same of a line that an installer writes.
+fn printed_update(rt: &impl Abort, text: &str, expected: &str) {
+    match Update::read(text.as_bytes()) {
+        Ok(update) => assert_eq!(rt; update.print().as_slice(), expected.as_bytes()),
+        Err(_) => assert_eq!(rt; expected, ""),
+    }
+}
+
+/// The text tells an installer that the network has this hop.
+fn had(rt: &impl Abort, text: &str, network: &str, expected: Hop) {
+    let Ok(Note::Have { net, hop }) = Note::read(text.as_bytes()) else {
+        panic!(rt; "no `have`")
+    };
+    assert_eq!(rt; net.to_text().as_slice(), network.as_bytes());
+    assert_eq!(rt; hop, expected);
+}
+
+/// The text tells the operation.
+fn told(rt: &impl Abort, text: &str, operation: Operation) {
+    let update = Update::read(text.as_bytes()).expect(rt, "an update");
+    assert!(rt; update == Update::from(operation));
 }
 
 #[test]
@@ -119,6 +142,159 @@ fn commands(rt: HostRuntime) {
     ] {
         printed_command(&rt, text, expected);
     }
+}
+
+/// The longest line that an installer writes and reads, of 70 bytes.
+const LONGEST_UPDATE: &str =
+    "install ::ffff:ffff:ffff:ffff:ffff:ffff:255.255.255.255/128 4294967295";
+
+/// The longest that is printed, of 63.
+const LONGEST_PRINTED_UPDATE: &str =
+    "install ffff:ffff:ffff:ffff:ffff:ffff:ffff:ffff/128 4294967295\n";
+
+#[test]
+fn updates(rt: HostRuntime) {
+    for (text, expected) in [
+        ("install 10.0.0.0/8 7", "install 10.0.0.0/8 7\n"),
+        ("install 10.1.2.3/08 7", "install 10.0.0.0/8 7\n"),
+        ("install 10.0.0.0/8 drop", "install 10.0.0.0/8 drop\n"),
+        ("install 2001:DB8::1/32 0", "install 2001:db8::/32 0\n"),
+        (
+            "install 0.0.0.0/0 4294967295",
+            "install 0.0.0.0/0 4294967295\n",
+        ),
+        (LONGEST_UPDATE, LONGEST_PRINTED_UPDATE),
+        ("install 10.0.0.0/8 4294967296", ""),
+        ("install 10.0.0.0/8 07", ""),
+        ("install 10.0.0.0/8 Drop", ""),
+        ("install 10.0.0.0/8 7 100", ""),
+        ("install 10.0.0.0/8  7", ""),
+        ("install  10.0.0.0/8 7", ""),
+        ("install 10.0.0.0/8 7 ", ""),
+        ("install 10.0.0.0/33 7", ""),
+        ("install 10.0.0.0/8 ", ""),
+        ("install 10.0.0.0/8", ""),
+        ("install ", ""),
+        ("install", ""),
+        ("Install 10.0.0.0/8 7", ""),
+        (" install 10.0.0.0/8 7", ""),
+        ("remove 10.1.2.3/8", "remove 10.0.0.0/8\n"),
+        ("remove FFFF::1/0", "remove ::/0\n"),
+        ("remove 10.0.0.0/8 7", ""),
+        ("remove 10.0.0.0/8 ", ""),
+        ("remove  10.0.0.0/8", ""),
+        ("remove", ""),
+        ("REMOVE 10.0.0.0/8", ""),
+        ("ok", "ok\n"),
+        ("ok ", ""),
+        ("OK", ""),
+        ("okay", ""),
+        ("set 10.0.0.0/8 7", ""),
+        ("have 10.0.0.0/8 7", ""),
+        ("sync", ""),
+        ("", ""),
+    ] {
+        printed_update(&rt, text, expected);
+    }
+    assert_eq!(rt; LONGEST_UPDATE.len(), 70);
+    assert_eq!(rt; LONGEST_PRINTED_UPDATE.len(), 63);
+}
+
+#[test]
+fn haves(rt: HostRuntime) {
+    for (text, network, hop) in [
+        ("have 10.0.0.0/8 7", "10.0.0.0/8", Hop::Number(7)),
+        ("have 10.1.2.3/08 0", "10.0.0.0/8", Hop::Number(0)),
+        ("have 0.0.0.0/0 drop", "0.0.0.0/0", Hop::Drop),
+        (
+            "have 2001:DB8::1/32 4294967295",
+            "2001:db8::/32",
+            Hop::Number(4294967295),
+        ),
+        (
+            "have ::ffff:ffff:ffff:ffff:ffff:ffff:255.255.255.255/128 4294967295",
+            "ffff:ffff:ffff:ffff:ffff:ffff:ffff:ffff/128",
+            Hop::Number(4294967295),
+        ),
+    ] {
+        had(&rt, text, network, hop);
+    }
+}
+
+/// What no reader of an installer takes.
+const NO_NOTES: [&str; 31] = [
+    "have 10.0.0.0/8 4294967296",
+    "have 10.0.0.0/8 07",
+    "have 10.0.0.0/8 +7",
+    "have 10.0.0.0/8 Drop",
+    "have 10.0.0.0/8 dro",
+    "have 10.0.0.0/8 7 100",
+    "have 10.0.0.0/8  7",
+    "have  10.0.0.0/8 7",
+    "have 10.0.0.0/8 7 ",
+    "have 10.0.0.0/8 7\r",
+    "have 10.0.0.0 7",
+    "have 10.0.0.0/33 7",
+    "have 10.0.0.0/8 ",
+    "have 10.0.0.0/8",
+    "have ",
+    "have",
+    "Have 10.0.0.0/8 7",
+    " have 10.0.0.0/8 7",
+    "sync ",
+    " sync",
+    "syn",
+    "synced",
+    "Sync",
+    "SYNC",
+    "sync 10.0.0.0/8 7",
+    "install 10.0.0.0/8 7",
+    "set 10.0.0.0/8  7",
+    "ok ",
+    "add 10.0.0.0/8 7",
+    "have 10.0.0.0/8 00000000000000000000000000000000000000000000000000000000000000007",
+    "",
+];
+
+#[test]
+fn no_notes(rt: HostRuntime) {
+    for text in NO_NOTES {
+        assert!(rt; Note::read(text.as_bytes()).is_err());
+    }
+}
+
+/// A reply line is read as it is by a reader of reply lines.
+#[test]
+fn notes(rt: HostRuntime) {
+    assert!(rt; Note::read(b"sync") == Ok(Note::Sync));
+    for text in [
+        "set 10.1.2.3/8 5",
+        "unset FFFF::1/16",
+        "route 10.1.2.3/8 drop 100",
+        "route 10.1.2.3/8 1",
+        "flat 1.2.3.4/0 0",
+        "own 1.2.3.4/32",
+        "count 0 18446744073709551615",
+        "ok",
+        "none",
+        "bad",
+        "refused",
+    ] {
+        let reply = Reply::read(text.as_bytes()).expect(&rt, "a reply line");
+        assert!(rt; Note::read(text.as_bytes()) == Ok(Note::Reply(reply)));
+    }
+}
+
+#[test]
+fn operations(rt: HostRuntime) {
+    let Ok(Update::Install { net, hop }) = Update::read(b"install 10.1.2.3/8 7") else {
+        panic!(&rt; "no `install`")
+    };
+    told(&rt, "install 10.0.0.0/8 7", Operation::Install { net, hop });
+    let Ok(Update::Remove { net }) = Update::read(b"remove 10.1.2.3/8") else {
+        panic!(&rt; "no `remove`")
+    };
+    told(&rt, "remove 10.0.0.0/8", Operation::Remove { net });
 }
 
 #[test]

@@ -3,6 +3,8 @@ pub mod Words
 pub mod Good
 pub mod Commands
 pub mod Replies
+pub mod Notes
+pub mod Updates
 pub mod Exits
 pub mod Printed
 pub mod PrintedCommands

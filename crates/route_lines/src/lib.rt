@@ -3,8 +3,10 @@
 
 pub use command::Command;
 pub use cutter::{Line, LineCutter, Rest, line_text};
+pub use note::Note;
 pub use reply::{Closing, Reply};
 use thiserror::Error;
+pub use update::Update;
 
 /// The text is no line of the grammar.
 #[derive(Clone, Copy, Debug, PartialEq, Eq, Error)]
@@ -14,6 +16,8 @@ pub struct NotALine;
 mod command;
 mod cutter;
 pub mod laws;
+mod note;
 mod phrase;
 mod printer;
 mod reply;
+mod update;
