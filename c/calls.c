@@ -7,11 +7,13 @@
 _Static_assert(sizeof(routes_table) == 16 && offsetof(routes_table, is_open) == 8, "layout");
 _Static_assert(sizeof(routes_route) == 32 && offsetof(routes_route, pref) == 24 && offsetof(routes_route, len) == 27, "layout");
 _Static_assert(sizeof(routes_piece) == 24 && offsetof(routes_piece, family) == 20, "layout");
+_Static_assert(sizeof(routes_addr6) == 16 && offsetof(routes_addr6, low) == 8, "layout");
 
 #ifndef TURNS
 #define TURNS 20000
 #endif
 #define MOST 4096
+#define MANY 40
 
 typedef unsigned __int128 number;
 struct kept {
@@ -83,6 +85,29 @@ static void looked_up(routes_table *t, int family, number addr) {
         CHECK(memcmp(&r, &mark, sizeof r) == 0);
     else
         CHECK(r.family == family && r.len == k->len && joined(r.high, r.low) == k->addr && r.hop == k->hop && r.pref == k->pref);
+}
+
+/* Many look-ups at once answer as one by one, as far as there are addresses and room; the rest of the room stays. */
+static void looked_up_at_once(routes_table *t) {
+    uint32_t addrs4[MANY];
+    routes_addr6 addrs6[MANY];
+    uint64_t hops4[MANY + 1], hops6[MANY + 1];
+    size_t given = drawn() % (MANY + 1), room = drawn() % (MANY + 1), answered = given < room ? given : room;
+    for (size_t i = 0; i < MANY; i++) {
+        const struct kept *k = count ? &kept[drawn() % count] : NULL;
+        number addr = k ? k->addr ^ (drawn() & 0xff) : drawn();
+        addrs4[i] = (uint32_t)addr;
+        addrs6[i] = (routes_addr6){(uint64_t)(addr >> 64), (uint64_t)addr};
+    }
+    for (size_t i = 0; i <= MANY; i++) hops4[i] = hops6[i] = 77;
+    CHECK(routes_get4_many(t, addrs4, given, hops4, room) == ROUTES_OK);
+    CHECK(routes_get6_many(t, addrs6, given, hops6, room) == ROUTES_OK);
+    for (size_t i = 0; i <= MANY; i++) {
+        const struct kept *k4 = i < answered ? match(4, addrs4[i], 128) : NULL;
+        const struct kept *k6 = i < answered ? match(6, joined(addrs6[i].high, addrs6[i].low), 128) : NULL;
+        CHECK(hops4[i] == (i >= answered ? 77 : k4 ? k4->hop : ROUTES_NO_MATCH));
+        CHECK(hops6[i] == (i >= answered ? 77 : k6 ? k6->hop : ROUTES_NO_MATCH));
+    }
 }
 
 /* One route in or out, and what changed. */
@@ -175,10 +200,14 @@ static void closed(routes_table *t) {
     routes_change c = {77, 78};
     routes_piece p, no_piece;
     uint8_t out[4] = {'#', '#', '#', '#'};
+    uint32_t addr4 = 1;
+    routes_addr6 addr6 = {1, 1};
+    uint64_t hop = 77;
     memset(&no_route, 0x5a, sizeof r);
     memset(&no_piece, 0x5a, sizeof p);
     r = no_route, p = no_piece;
     CHECK(routes_get4(t, 1, &r) == ROUTES_CLOSED && routes_get6(t, 1, 1, &r) == ROUTES_CLOSED);
+    CHECK(routes_get4_many(t, &addr4, 1, &hop, 1) == ROUTES_CLOSED && routes_get6_many(t, &addr6, 1, &hop, 1) == ROUTES_CLOSED && hop == 77);
     CHECK(routes_add4(t, 1, 8, 1, 1, &c) == ROUTES_CLOSED && routes_add6(t, 1, 1, 8, 1, 1, &c) == ROUTES_CLOSED);
     CHECK(routes_del4(t, 1, 8, 1, &c) == ROUTES_CLOSED && routes_del6(t, 1, 1, 8, 1, &c) == ROUTES_CLOSED);
     CHECK(routes_flat(t) == ROUTES_CLOSED && routes_piece_at(t, 0, &p) == ROUTES_CLOSED);
@@ -200,6 +229,7 @@ int main(void) {
     for (int turn = 0; turn < TURNS && count < MOST; turn++) {
         changed(&t);
         if (turn % 2000 == 0) listed(&t);
+        if (turn % 100 == 0) looked_up_at_once(&t);
     }
     listed(&t);
     answered(&t);

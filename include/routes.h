@@ -41,6 +41,8 @@ enum routes_answer {
 
 /* As the hop of a route: packets go nowhere, a null route. In a change: the addresses have no hop. */
 #define ROUTES_DROP (UINT64_C(1) << 32)
+/* Where many addresses are looked up: no network contains the address. */
+#define ROUTES_NO_MATCH (UINT64_C(1) << 33)
 /* The preference of a command line that names none. The greatest preference wins, and of equal ones the least hop, a number
  * before ROUTES_DROP. */
 #define ROUTES_PREFERENCE 100
@@ -75,6 +77,11 @@ typedef struct routes_piece {
     uint8_t len;
 } routes_piece;
 
+/* An IPv6 address: 16 bytes. */
+typedef struct routes_addr6 {
+    uint64_t high, low;
+} routes_addr6;
+
 /* Opens a closed table, without networks. ROUTES_OK, ROUTES_NO_MEMORY, or ROUTES_OPEN. */
 uint32_t routes_open(routes_table *table);
 
@@ -85,6 +92,12 @@ void routes_close(routes_table *table);
  * route; ROUTES_MISSING where none contains it; or ROUTES_CLOSED. */
 uint32_t routes_get4(routes_table *table, uint32_t addr, routes_route *route);
 uint32_t routes_get6(routes_table *table, uint64_t high, uint64_t low, routes_route *route);
+
+/* The hops of the longest matches of many addresses: each is what a look-up of its own tells, as one number, the hop or
+ * ROUTES_NO_MATCH. As many are answered as there are addresses and room; what is left of `hops` stays. They take no memory.
+ * ROUTES_OK, or ROUTES_CLOSED. */
+uint32_t routes_get4_many(routes_table *table, const uint32_t *addrs, size_t count, uint64_t *hops, size_t room);
+uint32_t routes_get6_many(routes_table *table, const routes_addr6 *addrs, size_t count, uint64_t *hops, size_t room);
 
 /* Stores a route of the network, or gives the one of this hop that it has the new preference. A hop from 2^32 on is ROUTES_DROP.
  * ROUTES_OK and the change; ROUTES_FULL just where eight other hops are stored there; ROUTES_NO_MEMORY, which happens only where

@@ -9,6 +9,7 @@ mod held;
 pub mod lines;
 pub mod lists;
 mod loose;
+pub mod many;
 pub mod matches;
 pub mod session;
 pub mod shown;

@@ -2,7 +2,7 @@
 ghost use Rattle.std.specs.Prelude.{◌≡◌, ◌+◌, ◌*◌, ◌^◌, ◌≤◌, ◌↔◌, IsSome, IfSome};
 ghost use Rattle.ipnet.specs.declared.ip_net.IpNet.TheVariants.{V4, V6};
 ghost use Rattle.ipnet.specs.IpNets.{block, network_at};
-ghost use Rattle.routes_c.specs.Shown.{hop_from, hop_shown, number_shown, piece_shown, shown, Shows};
+ghost use Rattle.routes_c.specs.Shown.{hop_from, hop_shown, match_shown, number_shown, piece_shown, shown, Shows};
 
 use ipnet::{IpNet, Ipv4Net, Ipv6Net};
 use ipnet_addr::bits::{ipv4_of, ipv6_of};
@@ -39,11 +39,22 @@ pub struct Piece {
     pub len: u8,
 }
 
+/// An IPv6 address: its upper and its lower half.
+#[repr(C)]
+#[derive(Clone, Copy)]
+pub struct Addr6 {
+    pub high: u64,
+    pub low: u64,
+}
+
 /// 2^64: an IPv6 address is two numbers below it.
 const HALF: u128 = 18_446_744_073_709_551_616;
 
 /// The number for `drop`, and for no hop.
 const NONE: u64 = 4_294_967_296;
+
+/// The number for no match, where many are looked up.
+const NO_MATCH: u64 = 8_589_934_592;
 
 /// The IPv4 network of an address, if the length is one.
 pub(crate) fn net4(addr: u32, len: u8) -> Option<IpNet>
@@ -147,6 +158,16 @@ pub(crate) fn show(found: Option<(IpNet, Hop, u16)>, route: &mut Route) -> u32
             0
         }
         None => 1,
+    }
+}
+
+/// The hop that `get` answers, as one number.
+pub(crate) fn shown_match(found: Option<(IpNet, Hop, u16)>) -> u64
+    ensures { result ≡ match_shown found }
+{
+    match found {
+        Some((_, hop, _)) => shown_hop(hop),
+        None => NO_MATCH,
     }
 }
 
