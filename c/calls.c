@@ -110,6 +110,17 @@ static void looked_up_at_once(routes_table *t) {
     }
 }
 
+/* The networks of each family are counted. */
+static void counted(routes_table *t) {
+    size_t ipv4 = 77, ipv6 = 77, wanted[2] = {0, 0};
+    for (size_t i = 0; i < count; i++) {
+        size_t j = 0;
+        while (kept[j].family != kept[i].family || kept[j].len != kept[i].len || kept[j].addr != kept[i].addr) j++;
+        wanted[kept[i].family == 6] += i == j;
+    }
+    CHECK(routes_count(t, &ipv4, &ipv6) == ROUTES_OK && ipv4 == wanted[0] && ipv6 == wanted[1]);
+}
+
 /* One route in or out, and what changed. */
 static void changed(routes_table *t) {
     int family = drawn() & 1 ? 4 : 6;
@@ -203,11 +214,13 @@ static void closed(routes_table *t) {
     uint32_t addr4 = 1;
     routes_addr6 addr6 = {1, 1};
     uint64_t hop = 77;
+    size_t ipv4 = 77, ipv6 = 78;
     memset(&no_route, 0x5a, sizeof r);
     memset(&no_piece, 0x5a, sizeof p);
     r = no_route, p = no_piece;
     CHECK(routes_get4(t, 1, &r) == ROUTES_CLOSED && routes_get6(t, 1, 1, &r) == ROUTES_CLOSED);
     CHECK(routes_get4_many(t, &addr4, 1, &hop, 1) == ROUTES_CLOSED && routes_get6_many(t, &addr6, 1, &hop, 1) == ROUTES_CLOSED && hop == 77);
+    CHECK(routes_count(t, &ipv4, &ipv6) == ROUTES_CLOSED && ipv4 == 77 && ipv6 == 78);
     CHECK(routes_add4(t, 1, 8, 1, 1, &c) == ROUTES_CLOSED && routes_add6(t, 1, 1, 8, 1, 1, &c) == ROUTES_CLOSED);
     CHECK(routes_del4(t, 1, 8, 1, &c) == ROUTES_CLOSED && routes_del6(t, 1, 1, 8, 1, &c) == ROUTES_CLOSED);
     CHECK(routes_flat(t) == ROUTES_CLOSED && routes_piece_at(t, 0, &p) == ROUTES_CLOSED);
@@ -229,6 +242,7 @@ int main(void) {
     for (int turn = 0; turn < TURNS && count < MOST; turn++) {
         changed(&t);
         if (turn % 2000 == 0) listed(&t);
+        if (turn % 500 == 0) counted(&t);
         if (turn % 100 == 0) looked_up_at_once(&t);
     }
     listed(&t);

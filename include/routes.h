@@ -99,6 +99,9 @@ uint32_t routes_get6(routes_table *table, uint64_t high, uint64_t low, routes_ro
 uint32_t routes_get4_many(routes_table *table, const uint32_t *addrs, size_t count, uint64_t *hops, size_t room);
 uint32_t routes_get6_many(routes_table *table, const routes_addr6 *addrs, size_t count, uint64_t *hops, size_t room);
 
+/* How many networks of each family are stored. It takes no memory. ROUTES_OK and the numbers, or ROUTES_CLOSED. */
+uint32_t routes_count(routes_table *table, size_t *ipv4, size_t *ipv6);
+
 /* Stores a route of the network, or gives the one of this hop that it has the new preference. A hop from 2^32 on is ROUTES_DROP.
  * ROUTES_OK and the change; ROUTES_FULL just where eight other hops are stored there; ROUTES_NO_MEMORY, which happens only where
  * the network is not stored; ROUTES_TOO_LONG; or ROUTES_CLOSED. */

@@ -4,6 +4,7 @@
 #![tactic(auto)]
 
 pub mod change;
+pub mod count;
 pub mod handle;
 mod held;
 pub mod lines;
