@@ -2,6 +2,7 @@
 #include "routes.h"
 #include <stddef.h>
 #include <stdio.h>
+#include <stdlib.h>
 #include <string.h>
 
 _Static_assert(sizeof(routes_table) == 16 && offsetof(routes_table, is_open) == 8, "layout");
@@ -179,6 +180,162 @@ static void listed(routes_table *t) {
     }
 }
 
+/* Ascending, and the routes of a network best first. */
+static int order(const void *left, const void *right) {
+    const struct kept *a = left, *b = right;
+    if (a->family != b->family) return a->family - b->family;
+    if (a->addr != b->addr) return a->addr < b->addr ? -1 : 1;
+    if (a->len != b->len) return a->len - b->len;
+    return beats(a, b) ? -1 : beats(b, a);
+}
+
+static int is_of(const struct kept *k, const struct kept *n) { return k->family == n->family && k->len == n->len && k->addr == n->addr; }
+
+enum { LIST, COVER, FROM, AFTER, ALL, GOVERNED };
+
+static uint32_t list4(routes_table *t, int kind, uint32_t addr, uint8_t len, size_t limit) {
+    switch (kind) {
+    case LIST: return routes_list4(t, addr, len);
+    case COVER: return routes_cover4(t, addr, len);
+    case FROM: return routes_from4(t, addr, len, limit);
+    case AFTER: return routes_after4(t, addr, len, limit);
+    case ALL: return routes_all4(t, addr, len);
+    default: return routes_governed4(t, addr, len);
+    }
+}
+
+static uint32_t list6(routes_table *t, int kind, uint64_t high, uint64_t low, uint8_t len, size_t limit) {
+    switch (kind) {
+    case LIST: return routes_list6(t, high, low, len);
+    case COVER: return routes_cover6(t, high, low, len);
+    case FROM: return routes_from6(t, high, low, len, limit);
+    case AFTER: return routes_after6(t, high, low, len, limit);
+    case ALL: return routes_all6(t, high, low, len);
+    default: return routes_governed6(t, high, low, len);
+    }
+}
+
+/* The list is made for the network, whose host bits do not count. */
+static void made(routes_table *t, int kind, const struct kept *n, size_t limit) {
+    number host = width(n->family) - n->len ? drawn() & 1 : 0, addr = n->addr | host;
+    CHECK((n->family == 4 ? list4(t, kind, (uint32_t)addr, (uint8_t)n->len, limit)
+                          : list6(t, kind, (uint64_t)(addr >> 64), (uint64_t)addr, (uint8_t)n->len, limit)) == ROUTES_OK);
+}
+
+static int is_shown(const routes_route *r, const struct kept *k) {
+    return r->family == k->family && r->len == k->len && joined(r->high, r->low) == k->addr && r->hop == k->hop && r->pref == k->pref;
+}
+
+/* The list has just these routes, read one by one and in parts. */
+static void has(routes_table *t, const struct kept *wanted, size_t length) {
+    routes_route r, mark, part[8];
+    size_t from = 0, got;
+    for (size_t i = 0; i < length; i++) CHECK(routes_route_at(t, i, &r) == ROUTES_OK && is_shown(&r, &wanted[i]));
+    memset(&mark, 0x5a, sizeof mark);
+    r = part[7] = mark;
+    CHECK(routes_route_at(t, length, &r) == ROUTES_MISSING && memcmp(&r, &mark, sizeof r) == 0);
+    for (; (got = routes_read(t, from, part, 7)) > 0 && from + got <= length; from += got)
+        for (size_t i = 0; i < got; i++) CHECK(is_shown(&part[i], &wanted[from + i]));
+    CHECK(got == 0 && from == length && memcmp(&part[7], &mark, sizeof mark) == 0);
+}
+
+/* Whether the stored network is of the list of this kind. */
+static int is_listed(int kind, const struct kept *k, const struct kept *n) {
+    int later = k->addr != n->addr ? k->addr > n->addr : k->len >= n->len;
+    if (k->family != n->family) return 0;
+    if (kind == LIST) return k->len >= n->len && masked(k->family, k->addr, n->len) == n->addr;
+    if (kind == COVER) return k->len <= n->len && masked(k->family, n->addr, k->len) == k->addr;
+    return kind == FROM ? later : later && !is_of(k, n);
+}
+
+/* how many addresses a block has; 0 for all of IPv6 */
+static number size_of(int family, int len) { return width(family) - len == 128 ? 0 : (number)1 << (width(family) - len); }
+
+/* What the network governs: ascending blocks inside it that no stored network strictly inside it meets, as many addresses as are
+ * left, and no two blocks that are the halves of one. */
+static void governed(routes_table *t, const struct kept *sorted, const struct kept *n) {
+    const struct kept *found = match(n->family, n->addr, n->len);
+    number left = size_of(n->family, n->len), end = n->addr;
+    routes_route r, last = {0, 0, 0, 0, 0, 0};
+    made(t, GOVERNED, n, 0);
+    for (const struct kept *k = sorted; k < sorted + count; k++)
+        if (is_listed(LIST, k, n) && k->len > n->len && k->addr >= end) {
+            left -= size_of(k->family, k->len);
+            end = k->addr + size_of(k->family, k->len);
+            if (end == 0) break;
+        }
+    for (size_t i = 0; routes_route_at(t, i, &r) == ROUTES_OK; i++, last = r) {
+        struct kept b = {r.family, r.len, r.pref, joined(r.high, r.low), r.hop};
+        int looked = i < 200 || drawn() % 256 == 0;
+        CHECK(is_listed(LIST, &b, n) && b.hop == hop_of(found) && b.pref == ROUTES_PREFERENCE && masked(b.family, b.addr, b.len) == b.addr);
+        CHECK(i == 0 || joined(last.high, last.low) < b.addr);
+        CHECK(i == 0 || last.len != b.len || masked(b.family, b.addr, b.len - 1) != joined(last.high, last.low));
+        for (const struct kept *k = sorted; looked && k < sorted + count; k++)
+            if (k->len > n->len && is_listed(LIST, k, n)) CHECK(!is_listed(LIST, k, &b) && !is_listed(LIST, &b, k));
+        left -= size_of(b.family, b.len);
+    }
+    CHECK(left == 0);
+}
+
+/* The blocks of a hop number are those of the flat list. */
+static void owned(routes_table *t, uint32_t hop) {
+    routes_piece p;
+    routes_route r;
+    size_t at = 0;
+    CHECK(routes_own(t, hop) == ROUTES_OK && routes_flat(t) == ROUTES_OK);
+    for (size_t i = 0; routes_piece_at(t, i, &p) == ROUTES_OK; i++)
+        if (p.hop == hop) {
+            CHECK(routes_route_at(t, at++, &r) == ROUTES_OK && r.hop == hop && r.pref == ROUTES_PREFERENCE);
+            CHECK(r.family == p.family && r.len == p.len && r.high == p.high && r.low == p.low);
+        }
+    CHECK(routes_route_at(t, at, &r) == ROUTES_MISSING);
+}
+
+/* The shortest table has no more routes than there are networks, and the same hops, of which some are looked at. */
+static void shortest(routes_table *t, size_t networks) {
+    static routes_route least[MOST];
+    CHECK(routes_least(t) == ROUTES_OK);
+    size_t length = routes_read(t, 0, least, MOST);
+    CHECK(length <= networks && routes_read(t, length, least, MOST) == 0);
+    for (int i = 0; i < 200 && count; i++) {
+        const struct kept *k = &kept[drawn() % count];
+        number addr = k->addr ^ (width(k->family) - k->len ? drawn() & 1 : 0);
+        const routes_route *best = NULL;
+        for (const routes_route *r = least; r < least + length; r++)
+            if (r->family == k->family && masked(k->family, addr, r->len) == joined(r->high, r->low) && (!best || best->len < r->len)) best = r;
+        CHECK(hop_of(match(k->family, addr, 128)) == (best ? best->hop : ROUTES_DROP));
+    }
+}
+
+/* Each list of routes is that of the model. */
+static void listed_routes(routes_table *t) {
+    static struct kept sorted[MOST], best[MOST], wanted[MOST];
+    size_t networks = 0;
+    memcpy(sorted, kept, count * sizeof *kept);
+    qsort(sorted, count, sizeof *sorted, order);
+    for (size_t i = 0; i < count; i++)
+        if (i == 0 || !is_of(&sorted[i], &sorted[i - 1])) best[networks++] = sorted[i];
+    for (int i = 0; i < 12 && count; i++) {
+        struct kept n = kept[drawn() % count];
+        size_t limit = drawn() % 20, length = 0;
+        n.len = i % 3 == 0 ? n.len : (int)(drawn() % (width(n.family) + 1));
+        n.addr = masked(n.family, n.addr, n.len);
+        for (int kind = LIST; kind <= AFTER; kind++, length = 0) {
+            for (size_t j = 0; j < networks && (kind < FROM || length < limit); j++)
+                if (is_listed(kind, &best[j], &n)) wanted[length++] = best[j];
+            made(t, kind, &n, limit);
+            has(t, wanted, length);
+        }
+        for (size_t j = 0; j < count; j++)
+            if (is_of(&sorted[j], &n)) wanted[length++] = sorted[j];
+        made(t, ALL, &n, 0);
+        has(t, wanted, length);
+        governed(t, sorted, &n);
+        owned(t, (uint32_t)(drawn() % 12));
+    }
+    shortest(t, networks);
+}
+
 /* A line and its reply, which is read in parts of every length. */
 static void answered(routes_table *t) {
     static const char line[] = "cover ::/0", wanted[] = "route ::/0 7 100\nok\n";
@@ -224,6 +381,10 @@ static void closed(routes_table *t) {
     CHECK(routes_add4(t, 1, 8, 1, 1, &c) == ROUTES_CLOSED && routes_add6(t, 1, 1, 8, 1, 1, &c) == ROUTES_CLOSED);
     CHECK(routes_del4(t, 1, 8, 1, &c) == ROUTES_CLOSED && routes_del6(t, 1, 1, 8, 1, &c) == ROUTES_CLOSED);
     CHECK(routes_flat(t) == ROUTES_CLOSED && routes_piece_at(t, 0, &p) == ROUTES_CLOSED);
+    for (int kind = LIST; kind <= GOVERNED; kind++)
+        CHECK(list4(t, kind, 1, 8, 1) == ROUTES_CLOSED && list6(t, kind, 1, 1, 8, 1) == ROUTES_CLOSED);
+    CHECK(routes_own(t, 1) == ROUTES_CLOSED && routes_least(t) == ROUTES_CLOSED);
+    CHECK(routes_route_at(t, 0, &r) == ROUTES_CLOSED && routes_read(t, 0, &r, 1) == 0);
     CHECK(routes_line(t, (const uint8_t *)"count", 5) == ROUTES_CLOSED && routes_reply(t, 0, out, 4) == 0);
     CHECK(memcmp(&r, &no_route, sizeof r) == 0 && memcmp(&p, &no_piece, sizeof p) == 0);
     CHECK(c.before == 77 && c.after == 78 && out[0] == '#' && t->at == NULL && !t->is_open);
@@ -239,10 +400,15 @@ int main(void) {
     CHECK(routes_add4(&t, 0, 33, 1, 1, &c) == ROUTES_TOO_LONG && routes_add6(&t, 0, 0, 129, 1, 1, &c) == ROUTES_TOO_LONG);
     CHECK(routes_del4(&t, 0, 255, 1, &c) == ROUTES_TOO_LONG && routes_del6(&t, 0, 0, 255, 1, &c) == ROUTES_TOO_LONG);
     CHECK(c.before == 77 && c.after == 78);
+    for (int kind = LIST; kind <= GOVERNED; kind++)
+        CHECK(list4(&t, kind, 1, 33, 1) == ROUTES_TOO_LONG && list6(&t, kind, 1, 1, 129, 1) == ROUTES_TOO_LONG);
+    routes_route none = {0, 0, 0, 0, 0, 0};
+    CHECK(routes_route_at(&t, 0, &none) == ROUTES_MISSING && routes_read(&t, 0, &none, 1) == 0);
     for (int turn = 0; turn < TURNS && count < MOST; turn++) {
         changed(&t);
         if (turn % 2000 == 0) listed(&t);
         if (turn % 500 == 0) counted(&t);
+        if (turn % 1000 == 0) listed_routes(&t);
         if (turn % 100 == 0) looked_up_at_once(&t);
     }
     listed(&t);

@@ -123,6 +123,50 @@ uint32_t routes_flat(routes_table *table);
  * ROUTES_CLOSED. */
 uint32_t routes_piece_at(routes_table *table, size_t index, routes_piece *piece);
 
+/* The list of routes, in the table's memory: each of these calls makes it anew, and it stays until the next one, whatever changes.
+ * ROUTES_OK, ROUTES_NO_MEMORY, ROUTES_TOO_LONG where they take a length, or ROUTES_CLOSED. routes_route_at and routes_read read it.
+ *
+ * routes_list: the best routes of the stored networks inside the network, itself included, ascending; a network comes before those
+ * inside it. */
+uint32_t routes_list4(routes_table *table, uint32_t addr, uint8_t len);
+uint32_t routes_list6(routes_table *table, uint64_t high, uint64_t low, uint8_t len);
+
+/* The best routes of the stored networks that contain the network, itself included, the shortest first. */
+uint32_t routes_cover4(routes_table *table, uint32_t addr, uint8_t len);
+uint32_t routes_cover6(routes_table *table, uint64_t high, uint64_t low, uint8_t len);
+
+/* A page: the best routes of the family's stored networks from the network on, or after it, ascending, `limit` of them at most. The
+ * network need not be stored. The next page is what comes after the last network of this one. */
+uint32_t routes_from4(routes_table *table, uint32_t addr, uint8_t len, size_t limit);
+uint32_t routes_from6(routes_table *table, uint64_t high, uint64_t low, uint8_t len, size_t limit);
+uint32_t routes_after4(routes_table *table, uint32_t addr, uint8_t len, size_t limit);
+uint32_t routes_after6(routes_table *table, uint64_t high, uint64_t low, uint8_t len, size_t limit);
+
+/* All routes of exactly the network, best first; none where it is not stored. */
+uint32_t routes_all4(routes_table *table, uint32_t addr, uint8_t len);
+uint32_t routes_all6(routes_table *table, uint64_t high, uint64_t low, uint8_t len);
+
+/* The addresses that the network governs, which are those of it that no stored network strictly inside it contains: their maximal
+ * blocks, ascending, each with the hop that they have, ROUTES_DROP for none, and ROUTES_PREFERENCE. After a change of the network
+ * that told two hops, these are the addresses whose hop changed. */
+uint32_t routes_governed4(routes_table *table, uint32_t addr, uint8_t len);
+uint32_t routes_governed6(routes_table *table, uint64_t high, uint64_t low, uint8_t len);
+
+/* The blocks that routes_flat gives this hop number, IPv4 first, ascending, each with the number and ROUTES_PREFERENCE. */
+uint32_t routes_own(routes_table *table, uint32_t number);
+
+/* The routes of a table with the same hop at every address, and no table that has it has fewer: IPv4 first, ascending, with
+ * ROUTES_PREFERENCE. Of several such tables it is one. */
+uint32_t routes_least(routes_table *table);
+
+/* The route at an index of that list, which is empty before the first. ROUTES_OK; ROUTES_MISSING past its end; or
+ * ROUTES_CLOSED. */
+uint32_t routes_route_at(routes_table *table, size_t index, routes_route *route);
+
+/* Copies that list from index `from` on, as far as there is room, and answers how many routes it copied: 0 at the end, and for a
+ * closed table. The rest of `routes` stays. */
+size_t routes_read(routes_table *table, size_t from, routes_route *routes, size_t room);
+
 /* Answers a command line of `routes lead`, given without its line end, and keeps the reply, which is the bytes that `routes lead`
  * prints for it. ROUTES_OK, also where the reply is `bad`, `none` or `refused`. ROUTES_NO_MEMORY where there is none for the reply:
  * then the table is the one after the line, and a beginning of the reply is kept. Or ROUTES_CLOSED. */

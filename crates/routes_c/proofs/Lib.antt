@@ -1,2 +1,3 @@
 pub mod HeldFields
+pub mod Pages
 pub mod Steps

@@ -5,4 +5,5 @@ pub mod Held
 pub mod Lists
 pub mod Many
 pub mod Opens
+pub mod RouteLists
 pub mod Shown

@@ -3,6 +3,7 @@
 //! include/routes.h has the C declarations. Nothing checks a C caller: it owes each `requires`, and what the types say.
 #![tactic(auto)]
 
+pub mod asked;
 pub mod change;
 pub mod count;
 pub mod handle;
@@ -12,5 +13,6 @@ pub mod lists;
 mod loose;
 pub mod many;
 pub mod matches;
+pub mod route_lists;
 pub mod session;
 pub mod shown;

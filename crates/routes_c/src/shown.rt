@@ -2,6 +2,8 @@
 ghost use Rattle.std.specs.Prelude.{◌≡◌, ◌+◌, ◌*◌, ◌^◌, ◌≤◌, ◌↔◌, IsSome, IfSome};
 ghost use Rattle.ipnet.specs.declared.ip_net.IpNet.TheVariants.{V4, V6};
 ghost use Rattle.ipnet.specs.IpNets.{block, network_at};
+ghost use Rattle.route_laws.specs.Tables.{route_of};
+ghost use Rattle.routes_c.specs.RouteLists.{route_shown};
 ghost use Rattle.routes_c.specs.Shown.{hop_from, hop_shown, match_shown, number_shown, piece_shown, shown, Shows};
 
 use ipnet::{IpNet, Ipv4Net, Ipv6Net};
@@ -10,7 +12,7 @@ use route_table::Hop;
 
 /// A route: its network, its hop (2^32 is `drop`) and its preference.
 #[repr(C)]
-#[derive(Drop)]
+#[derive(Clone, Copy)]
 pub struct Route {
     pub high: u64,
     pub low: u64,
@@ -146,6 +148,13 @@ fn shown_route(net: IpNet, hop: Hop, pref: u16) -> Route
             }
         }
     }
+}
+
+/// A route of a network as C has it; host bits do not count.
+pub(crate) fn shown_at(net: &IpNet, hop: Hop, pref: u16) -> Route
+    ensures { result ≡ route_shown (route_of net.now hop pref) }
+{
+    shown_route(net.trunc(), hop, pref)
 }
 
 /// What `get` answers, as C has it.
