@@ -8,6 +8,7 @@
 _Static_assert(sizeof(routes_table) == 16 && offsetof(routes_table, is_open) == 8, "layout");
 _Static_assert(sizeof(routes_route) == 32 && offsetof(routes_route, pref) == 24 && offsetof(routes_route, len) == 27, "layout");
 _Static_assert(sizeof(routes_piece) == 24 && offsetof(routes_piece, family) == 20, "layout");
+_Static_assert(sizeof(routes_index) == 16 && offsetof(routes_index, is_open) == 8, "layout");
 _Static_assert(sizeof(routes_addr6) == 16 && offsetof(routes_addr6, low) == 8, "layout");
 
 #ifndef TURNS
@@ -109,6 +110,58 @@ static void looked_up_at_once(routes_table *t) {
         CHECK(hops4[i] == (i >= answered ? 77 : k4 ? k4->hop : ROUTES_NO_MATCH));
         CHECK(hops6[i] == (i >= answered ? 77 : k6 ? k6->hop : ROUTES_NO_MATCH));
     }
+}
+
+static uint64_t indexed(routes_index *index, int family, number addr) {
+    uint64_t hop = 77;
+    CHECK((family == 4 ? routes_index_hop4(index, (uint32_t)addr, &hop) : routes_index_hop6(index, (uint64_t)(addr >> 64), (uint64_t)addr, &hop)) == ROUTES_OK);
+    return hop;
+}
+
+/* An index has the hops of the table, one by one and many at once. */
+static void has_hops(routes_index *index) {
+    uint32_t addrs4[MANY];
+    routes_addr6 addrs6[MANY];
+    uint64_t hops4[MANY + 1], hops6[MANY + 1];
+    size_t given = drawn() % (MANY + 1), room = drawn() % (MANY + 1), answered = given < room ? given : room;
+    for (size_t i = 0; i < MANY; i++) {
+        const struct kept *k = count ? &kept[drawn() % count] : NULL;
+        number addr = k ? k->addr ^ (drawn() & 0xff) : drawn();
+        addrs4[i] = (uint32_t)addr;
+        addrs6[i] = (routes_addr6){(uint64_t)(addr >> 64), (uint64_t)addr};
+        CHECK(indexed(index, 4, addrs4[i]) == hop_of(match(4, addrs4[i], 128)));
+        CHECK(indexed(index, 6, addr) == hop_of(match(6, addr, 128)));
+    }
+    for (size_t i = 0; i <= MANY; i++) hops4[i] = hops6[i] = 77;
+    CHECK(routes_index_hop4_many(index, addrs4, given, hops4, room) == ROUTES_OK);
+    CHECK(routes_index_hop6_many(index, addrs6, given, hops6, room) == ROUTES_OK);
+    for (size_t i = 0; i <= MANY; i++) {
+        CHECK(hops4[i] == (i >= answered ? 77 : hop_of(match(4, addrs4[i], 128))));
+        CHECK(hops6[i] == (i >= answered ? 77 : hop_of(match(6, joined(addrs6[i].high, addrs6[i].low), 128))));
+    }
+}
+
+/* An index is a copy: a change of the table does not reach it. A closed one answers nothing. */
+static void copied(routes_table *t) {
+    static routes_index index = ROUTES_INDEX;
+    routes_table shut = ROUTES_TABLE;
+    routes_change c;
+    uint32_t addr4 = 1;
+    routes_addr6 addr6 = {1, 1};
+    uint64_t hop = 77, was;
+    CHECK(routes_index_open(&index, &shut) == ROUTES_CLOSED && !index.is_open && !shut.is_open);
+    CHECK(routes_index_hop4(&index, 1, &hop) == ROUTES_CLOSED && routes_index_hop6(&index, 1, 1, &hop) == ROUTES_CLOSED);
+    CHECK(routes_index_hop4_many(&index, &addr4, 1, &hop, 1) == ROUTES_CLOSED && routes_index_hop6_many(&index, &addr6, 1, &hop, 1) == ROUTES_CLOSED);
+    CHECK(hop == 77 && routes_index_open(&index, t) == ROUTES_OK);
+    has_hops(&index);
+    was = indexed(&index, 4, 0xff000001);
+    CHECK(routes_add4(t, 0xff000001, 32, 123, 65535, &c) == ROUTES_OK && indexed(&index, 4, 0xff000001) == was);
+    CHECK(routes_index_open(&index, t) == ROUTES_OPEN && indexed(&index, 4, 0xff000001) == was);
+    CHECK(routes_del4(t, 0xff000001, 32, 123, &c) == ROUTES_OK);
+    has_hops(&index);
+    routes_index_close(&index);
+    CHECK(index.at == NULL && !index.is_open);
+    routes_index_close(&index);
 }
 
 /* The networks of each family are counted. */
@@ -409,6 +462,7 @@ int main(void) {
         if (turn % 2000 == 0) listed(&t);
         if (turn % 500 == 0) counted(&t);
         if (turn % 1000 == 0) listed_routes(&t);
+        if (turn % 1000 == 0) copied(&t);
         if (turn % 100 == 0) looked_up_at_once(&t);
     }
     listed(&t);

@@ -85,6 +85,26 @@ static void listed(routes_table *t) {
     }
 }
 
+/* An index: where there is no memory it stays closed, and the next try opens it. Its look-ups ask for none. */
+static void indexed(routes_table *t) {
+    routes_index index = ROUTES_INDEX;
+    uint32_t code = routes_index_open(&index, t);
+    uint64_t hop = 0;
+    if (code == ROUTES_NO_MEMORY) {
+        refused++;
+        WANT(index.at == NULL && !index.is_open);
+        code = routes_index_open(&index, t);
+    }
+    WANT(code == ROUTES_OK);
+    long before = asked;
+    for (uint32_t i = 0; i < NETWORKS; i++) {
+        routes_route r = {0, 0, 0, 0, 0, 0};
+        WANT(routes_get4(t, addr_of(i), &r) == ROUTES_OK && routes_index_hop4(&index, addr_of(i), &hop) == ROUTES_OK && hop == r.hop);
+    }
+    WANT(asked == before);
+    routes_index_close(&index);
+}
+
 /* All of it with one request refused; how many there were. */
 static long tried(long request) {
     routes_table t = ROUTES_TABLE;
@@ -101,6 +121,7 @@ static long tried(long request) {
     for (uint32_t i = 0; i < NETWORKS; i++) added(&t, i);
     told(&t);
     listed(&t);
+    indexed(&t);
     long all = asked;
     for (uint32_t i = 0; i < NETWORKS; i++) WANT(routes_del4(&t, addr_of(i), len_of(i), i, &c) == ROUTES_OK);
     WANT(asked == all); /* a `del` asks for no memory */

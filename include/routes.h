@@ -4,11 +4,11 @@
  *
  *   1. A table is a routes_table of zero bytes (ROUTES_TABLE, or memory from calloc), or what earlier calls left in it. It is
  *      never copied, moved while it is open or written otherwise. It may be anywhere, also on the stack; what it holds is on the
- *      heap, until routes_close.
+ *      heap, until routes_close. The same is true of an index, a routes_index.
  *   2. Every other pointer has room for what it points to, also where the answer leaves that alone, and what it points to
  *      has been given a value. No two pointers of a call overlap. No pointer is null, also where a length is 0.
- *   3. One call at a time is made on a table, look-ups too, and a table stays on the thread that opened it. Other threads may
- *      have tables of their own at the same time.
+ *   3. One call at a time is made on a table or an index, look-ups too, and it stays on the thread that opened it. Other threads may
+ *      have tables and indexes of their own at the same time.
  *   4. malloc, realloc and free are those of one allocator, and no call is made in a signal handler, or in the forked child of a
  *      process with threads.
  *
@@ -33,13 +33,13 @@ enum routes_answer {
     ROUTES_OK = 0,
     ROUTES_MISSING = 1,   /* no network contains the address; the network has no such hop; the index is past the end */
     ROUTES_NO_MEMORY = 2, /* malloc or realloc gave none */
-    ROUTES_CLOSED = 3,    /* the table is not open */
-    ROUTES_OPEN = 4,      /* the table is open already */
+    ROUTES_CLOSED = 3,    /* the table or the index is not open */
+    ROUTES_OPEN = 4,      /* the table or the index is open already */
     ROUTES_FULL = 5,      /* eight other hops are stored at the network, which is the most */
     ROUTES_TOO_LONG = 6   /* the length is over 32 for IPv4, or over 128 for IPv6 */
 };
 
-/* As the hop of a route: packets go nowhere, a null route. In a change: the addresses have no hop. */
+/* As the hop of a route: packets go nowhere, a null route. In a change, and of an index: the addresses have no hop. */
 #define ROUTES_DROP (UINT64_C(1) << 32)
 /* Where many addresses are looked up: no network contains the address. */
 #define ROUTES_NO_MATCH (UINT64_C(1) << 33)
@@ -175,6 +175,31 @@ uint32_t routes_line(routes_table *table, const uint8_t *line, size_t len);
 /* Copies the kept reply from byte `from` on, as far as there is room, and answers how many bytes it copied: 0 at the end, and for a
  * closed table. The rest of `out` stays. The reply stays until the next routes_line. */
 size_t routes_reply(routes_table *table, size_t from, uint8_t *out, size_t room);
+
+/* An index, which is the caller's: the hop of each address, as a table had it when the index was opened. It is a copy, which no later
+ * change of the table reaches; so it is made anew where it is to have one. Its look-ups are faster than the table's. 16 bytes; zero
+ * bytes are a closed index. */
+typedef struct routes_index {
+    void *at;
+    bool is_open;
+} routes_index;
+#define ROUTES_INDEX {NULL, false}
+
+/* Opens a closed index, with the hops that the table has now. ROUTES_OK; ROUTES_NO_MEMORY; ROUTES_CLOSED, where the table is not open;
+ * or ROUTES_OPEN, where the index is. */
+uint32_t routes_index_open(routes_index *index, routes_table *table);
+
+/* Closes an index, and gives its memory back. A closed one stays closed; it may be opened again. */
+void routes_index_close(routes_index *index);
+
+/* The hop of an address: a number below 2^32, or ROUTES_DROP for no hop, be it that no network contains the address or that the longest
+ * one which does has a null route. They take no memory. ROUTES_OK and the hop, or ROUTES_CLOSED. */
+uint32_t routes_index_hop4(routes_index *index, uint32_t addr, uint64_t *hop);
+uint32_t routes_index_hop6(routes_index *index, uint64_t high, uint64_t low, uint64_t *hop);
+
+/* The same of many addresses. As many are answered as there are addresses and room; what is left of `hops` stays. */
+uint32_t routes_index_hop4_many(routes_index *index, const uint32_t *addrs, size_t count, uint64_t *hops, size_t room);
+uint32_t routes_index_hop6_many(routes_index *index, const routes_addr6 *addrs, size_t count, uint64_t *hops, size_t room);
 
 /* Eight bytes in network order as a number: of an in6_addr, routes_half(a) is the upper half and routes_half(a + 8) the lower. */
 static inline uint64_t routes_half(const uint8_t *bytes) {

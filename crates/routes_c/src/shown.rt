@@ -1,12 +1,13 @@
 //! Networks, hops and routes as C has them.
 ghost use Rattle.std.specs.Prelude.{◌≡◌, ◌+◌, ◌*◌, ◌^◌, ◌≤◌, ◌↔◌, IsSome, IfSome};
+ghost use Rattle.ipnet_addr.specs.Addresses.{Ipv4, Ipv6, address_of};
 ghost use Rattle.ipnet.specs.declared.ip_net.IpNet.TheVariants.{V4, V6};
 ghost use Rattle.ipnet.specs.IpNets.{block, network_at};
 ghost use Rattle.route_laws.specs.Tables.{route_of};
 ghost use Rattle.routes_c.specs.RouteLists.{route_shown};
 ghost use Rattle.routes_c.specs.Shown.{hop_from, hop_shown, match_shown, number_shown, piece_shown, shown, Shows};
 
-use ipnet::{IpNet, Ipv4Net, Ipv6Net};
+use ipnet::{IpAddr, IpNet, Ipv4Net, Ipv6Net};
 use ipnet_addr::bits::{ipv4_of, ipv6_of};
 use route_table::Hop;
 
@@ -58,6 +59,20 @@ const NONE: u64 = 4_294_967_296;
 /// The number for no match, where many are looked up.
 const NO_MATCH: u64 = 8_589_934_592;
 
+/// The IPv4 address of a number.
+pub(crate) fn ip4(addr: u32) -> IpAddr
+    ensures { address_of result ≡ record { family = Ipv4; number = addr } }
+{
+    IpAddr::V4(ipv4_of(addr))
+}
+
+/// The IPv6 address of two halves.
+pub(crate) fn ip6(high: u64, low: u64) -> IpAddr
+    ensures { address_of result ≡ record { family = Ipv6; number = high * 2 ^ 64 + low } }
+{
+    IpAddr::V6(ipv6_of(high as u128 * HALF + low as u128))
+}
+
 /// The IPv4 network of an address, if the length is one.
 pub(crate) fn net4(addr: u32, len: u8) -> Option<IpNet>
     ensures fits { IsSome result ↔ (len ≤ 32) }
@@ -102,7 +117,7 @@ fn shown_hop(hop: Hop) -> u64
 }
 
 /// The number of a hop, or 2^32 for none.
-fn shown_number(hop: Option<u32>) -> u64
+pub(crate) fn shown_number(hop: Option<u32>) -> u64
     ensures { result ≡ number_shown hop }
 {
     match hop {
