@@ -2,16 +2,20 @@
 #include "routes.h"
 #include <stddef.h>
 #include <stdio.h>
+#include <stdlib.h>
 #include <string.h>
 
 _Static_assert(sizeof(routes_table) == 16 && offsetof(routes_table, is_open) == 8, "layout");
 _Static_assert(sizeof(routes_route) == 32 && offsetof(routes_route, pref) == 24 && offsetof(routes_route, len) == 27, "layout");
 _Static_assert(sizeof(routes_piece) == 24 && offsetof(routes_piece, family) == 20, "layout");
+_Static_assert(sizeof(routes_index) == 16 && offsetof(routes_index, is_open) == 8, "layout");
+_Static_assert(sizeof(routes_addr6) == 16 && offsetof(routes_addr6, low) == 8, "layout");
 
 #ifndef TURNS
 #define TURNS 20000
 #endif
 #define MOST 4096
+#define MANY 40
 
 typedef unsigned __int128 number;
 struct kept {
@@ -85,6 +89,92 @@ static void looked_up(routes_table *t, int family, number addr) {
         CHECK(r.family == family && r.len == k->len && joined(r.high, r.low) == k->addr && r.hop == k->hop && r.pref == k->pref);
 }
 
+/* Many look-ups at once answer as one by one, as far as there are addresses and room; the rest of the room stays. */
+static void looked_up_at_once(routes_table *t) {
+    uint32_t addrs4[MANY];
+    routes_addr6 addrs6[MANY];
+    uint64_t hops4[MANY + 1], hops6[MANY + 1];
+    size_t given = drawn() % (MANY + 1), room = drawn() % (MANY + 1), answered = given < room ? given : room;
+    for (size_t i = 0; i < MANY; i++) {
+        const struct kept *k = count ? &kept[drawn() % count] : NULL;
+        number addr = k ? k->addr ^ (drawn() & 0xff) : drawn();
+        addrs4[i] = (uint32_t)addr;
+        addrs6[i] = (routes_addr6){(uint64_t)(addr >> 64), (uint64_t)addr};
+    }
+    for (size_t i = 0; i <= MANY; i++) hops4[i] = hops6[i] = 77;
+    CHECK(routes_get4_many(t, addrs4, given, hops4, room) == ROUTES_OK);
+    CHECK(routes_get6_many(t, addrs6, given, hops6, room) == ROUTES_OK);
+    for (size_t i = 0; i <= MANY; i++) {
+        const struct kept *k4 = i < answered ? match(4, addrs4[i], 128) : NULL;
+        const struct kept *k6 = i < answered ? match(6, joined(addrs6[i].high, addrs6[i].low), 128) : NULL;
+        CHECK(hops4[i] == (i >= answered ? 77 : k4 ? k4->hop : ROUTES_NO_MATCH));
+        CHECK(hops6[i] == (i >= answered ? 77 : k6 ? k6->hop : ROUTES_NO_MATCH));
+    }
+}
+
+static uint64_t indexed(routes_index *index, int family, number addr) {
+    uint64_t hop = 77;
+    CHECK((family == 4 ? routes_index_hop4(index, (uint32_t)addr, &hop) : routes_index_hop6(index, (uint64_t)(addr >> 64), (uint64_t)addr, &hop)) == ROUTES_OK);
+    return hop;
+}
+
+/* An index has the hops of the table, one by one and many at once. */
+static void has_hops(routes_index *index) {
+    uint32_t addrs4[MANY];
+    routes_addr6 addrs6[MANY];
+    uint64_t hops4[MANY + 1], hops6[MANY + 1];
+    size_t given = drawn() % (MANY + 1), room = drawn() % (MANY + 1), answered = given < room ? given : room;
+    for (size_t i = 0; i < MANY; i++) {
+        const struct kept *k = count ? &kept[drawn() % count] : NULL;
+        number addr = k ? k->addr ^ (drawn() & 0xff) : drawn();
+        addrs4[i] = (uint32_t)addr;
+        addrs6[i] = (routes_addr6){(uint64_t)(addr >> 64), (uint64_t)addr};
+        CHECK(indexed(index, 4, addrs4[i]) == hop_of(match(4, addrs4[i], 128)));
+        CHECK(indexed(index, 6, addr) == hop_of(match(6, addr, 128)));
+    }
+    for (size_t i = 0; i <= MANY; i++) hops4[i] = hops6[i] = 77;
+    CHECK(routes_index_hop4_many(index, addrs4, given, hops4, room) == ROUTES_OK);
+    CHECK(routes_index_hop6_many(index, addrs6, given, hops6, room) == ROUTES_OK);
+    for (size_t i = 0; i <= MANY; i++) {
+        CHECK(hops4[i] == (i >= answered ? 77 : hop_of(match(4, addrs4[i], 128))));
+        CHECK(hops6[i] == (i >= answered ? 77 : hop_of(match(6, joined(addrs6[i].high, addrs6[i].low), 128))));
+    }
+}
+
+/* An index is a copy: a change of the table does not reach it. A closed one answers nothing. */
+static void copied(routes_table *t) {
+    static routes_index index = ROUTES_INDEX;
+    routes_table shut = ROUTES_TABLE;
+    routes_change c;
+    uint32_t addr4 = 1;
+    routes_addr6 addr6 = {1, 1};
+    uint64_t hop = 77, was;
+    CHECK(routes_index_open(&index, &shut) == ROUTES_CLOSED && !index.is_open && !shut.is_open);
+    CHECK(routes_index_hop4(&index, 1, &hop) == ROUTES_CLOSED && routes_index_hop6(&index, 1, 1, &hop) == ROUTES_CLOSED);
+    CHECK(routes_index_hop4_many(&index, &addr4, 1, &hop, 1) == ROUTES_CLOSED && routes_index_hop6_many(&index, &addr6, 1, &hop, 1) == ROUTES_CLOSED);
+    CHECK(hop == 77 && routes_index_open(&index, t) == ROUTES_OK);
+    has_hops(&index);
+    was = indexed(&index, 4, 0xff000001);
+    CHECK(routes_add4(t, 0xff000001, 32, 123, 65535, &c) == ROUTES_OK && indexed(&index, 4, 0xff000001) == was);
+    CHECK(routes_index_open(&index, t) == ROUTES_OPEN && indexed(&index, 4, 0xff000001) == was);
+    CHECK(routes_del4(t, 0xff000001, 32, 123, &c) == ROUTES_OK);
+    has_hops(&index);
+    routes_index_close(&index);
+    CHECK(index.at == NULL && !index.is_open);
+    routes_index_close(&index);
+}
+
+/* The networks of each family are counted. */
+static void counted(routes_table *t) {
+    size_t ipv4 = 77, ipv6 = 77, wanted[2] = {0, 0};
+    for (size_t i = 0; i < count; i++) {
+        size_t j = 0;
+        while (kept[j].family != kept[i].family || kept[j].len != kept[i].len || kept[j].addr != kept[i].addr) j++;
+        wanted[kept[i].family == 6] += i == j;
+    }
+    CHECK(routes_count(t, &ipv4, &ipv6) == ROUTES_OK && ipv4 == wanted[0] && ipv6 == wanted[1]);
+}
+
 /* One route in or out, and what changed. */
 static void changed(routes_table *t) {
     int family = drawn() & 1 ? 4 : 6;
@@ -143,6 +233,162 @@ static void listed(routes_table *t) {
     }
 }
 
+/* Ascending, and the routes of a network best first. */
+static int order(const void *left, const void *right) {
+    const struct kept *a = left, *b = right;
+    if (a->family != b->family) return a->family - b->family;
+    if (a->addr != b->addr) return a->addr < b->addr ? -1 : 1;
+    if (a->len != b->len) return a->len - b->len;
+    return beats(a, b) ? -1 : beats(b, a);
+}
+
+static int is_of(const struct kept *k, const struct kept *n) { return k->family == n->family && k->len == n->len && k->addr == n->addr; }
+
+enum { LIST, COVER, FROM, AFTER, ALL, GOVERNED };
+
+static uint32_t list4(routes_table *t, int kind, uint32_t addr, uint8_t len, size_t limit) {
+    switch (kind) {
+    case LIST: return routes_list4(t, addr, len);
+    case COVER: return routes_cover4(t, addr, len);
+    case FROM: return routes_from4(t, addr, len, limit);
+    case AFTER: return routes_after4(t, addr, len, limit);
+    case ALL: return routes_all4(t, addr, len);
+    default: return routes_governed4(t, addr, len);
+    }
+}
+
+static uint32_t list6(routes_table *t, int kind, uint64_t high, uint64_t low, uint8_t len, size_t limit) {
+    switch (kind) {
+    case LIST: return routes_list6(t, high, low, len);
+    case COVER: return routes_cover6(t, high, low, len);
+    case FROM: return routes_from6(t, high, low, len, limit);
+    case AFTER: return routes_after6(t, high, low, len, limit);
+    case ALL: return routes_all6(t, high, low, len);
+    default: return routes_governed6(t, high, low, len);
+    }
+}
+
+/* The list is made for the network, whose host bits do not count. */
+static void made(routes_table *t, int kind, const struct kept *n, size_t limit) {
+    number host = width(n->family) - n->len ? drawn() & 1 : 0, addr = n->addr | host;
+    CHECK((n->family == 4 ? list4(t, kind, (uint32_t)addr, (uint8_t)n->len, limit)
+                          : list6(t, kind, (uint64_t)(addr >> 64), (uint64_t)addr, (uint8_t)n->len, limit)) == ROUTES_OK);
+}
+
+static int is_shown(const routes_route *r, const struct kept *k) {
+    return r->family == k->family && r->len == k->len && joined(r->high, r->low) == k->addr && r->hop == k->hop && r->pref == k->pref;
+}
+
+/* The list has just these routes, read one by one and in parts. */
+static void has(routes_table *t, const struct kept *wanted, size_t length) {
+    routes_route r, mark, part[8];
+    size_t from = 0, got;
+    for (size_t i = 0; i < length; i++) CHECK(routes_route_at(t, i, &r) == ROUTES_OK && is_shown(&r, &wanted[i]));
+    memset(&mark, 0x5a, sizeof mark);
+    r = part[7] = mark;
+    CHECK(routes_route_at(t, length, &r) == ROUTES_MISSING && memcmp(&r, &mark, sizeof r) == 0);
+    for (; (got = routes_read(t, from, part, 7)) > 0 && from + got <= length; from += got)
+        for (size_t i = 0; i < got; i++) CHECK(is_shown(&part[i], &wanted[from + i]));
+    CHECK(got == 0 && from == length && memcmp(&part[7], &mark, sizeof mark) == 0);
+}
+
+/* Whether the stored network is of the list of this kind. */
+static int is_listed(int kind, const struct kept *k, const struct kept *n) {
+    int later = k->addr != n->addr ? k->addr > n->addr : k->len >= n->len;
+    if (k->family != n->family) return 0;
+    if (kind == LIST) return k->len >= n->len && masked(k->family, k->addr, n->len) == n->addr;
+    if (kind == COVER) return k->len <= n->len && masked(k->family, n->addr, k->len) == k->addr;
+    return kind == FROM ? later : later && !is_of(k, n);
+}
+
+/* how many addresses a block has; 0 for all of IPv6 */
+static number size_of(int family, int len) { return width(family) - len == 128 ? 0 : (number)1 << (width(family) - len); }
+
+/* What the network governs: ascending blocks inside it that no stored network strictly inside it meets, as many addresses as are
+ * left, and no two blocks that are the halves of one. */
+static void governed(routes_table *t, const struct kept *sorted, const struct kept *n) {
+    const struct kept *found = match(n->family, n->addr, n->len);
+    number left = size_of(n->family, n->len), end = n->addr;
+    routes_route r, last = {0, 0, 0, 0, 0, 0};
+    made(t, GOVERNED, n, 0);
+    for (const struct kept *k = sorted; k < sorted + count; k++)
+        if (is_listed(LIST, k, n) && k->len > n->len && k->addr >= end) {
+            left -= size_of(k->family, k->len);
+            end = k->addr + size_of(k->family, k->len);
+            if (end == 0) break;
+        }
+    for (size_t i = 0; routes_route_at(t, i, &r) == ROUTES_OK; i++, last = r) {
+        struct kept b = {r.family, r.len, r.pref, joined(r.high, r.low), r.hop};
+        int looked = i < 200 || drawn() % 256 == 0;
+        CHECK(is_listed(LIST, &b, n) && b.hop == hop_of(found) && b.pref == ROUTES_PREFERENCE && masked(b.family, b.addr, b.len) == b.addr);
+        CHECK(i == 0 || joined(last.high, last.low) < b.addr);
+        CHECK(i == 0 || last.len != b.len || masked(b.family, b.addr, b.len - 1) != joined(last.high, last.low));
+        for (const struct kept *k = sorted; looked && k < sorted + count; k++)
+            if (k->len > n->len && is_listed(LIST, k, n)) CHECK(!is_listed(LIST, k, &b) && !is_listed(LIST, &b, k));
+        left -= size_of(b.family, b.len);
+    }
+    CHECK(left == 0);
+}
+
+/* The blocks of a hop number are those of the flat list. */
+static void owned(routes_table *t, uint32_t hop) {
+    routes_piece p;
+    routes_route r;
+    size_t at = 0;
+    CHECK(routes_own(t, hop) == ROUTES_OK && routes_flat(t) == ROUTES_OK);
+    for (size_t i = 0; routes_piece_at(t, i, &p) == ROUTES_OK; i++)
+        if (p.hop == hop) {
+            CHECK(routes_route_at(t, at++, &r) == ROUTES_OK && r.hop == hop && r.pref == ROUTES_PREFERENCE);
+            CHECK(r.family == p.family && r.len == p.len && r.high == p.high && r.low == p.low);
+        }
+    CHECK(routes_route_at(t, at, &r) == ROUTES_MISSING);
+}
+
+/* The shortest table has no more routes than there are networks, and the same hops, of which some are looked at. */
+static void shortest(routes_table *t, size_t networks) {
+    static routes_route least[MOST];
+    CHECK(routes_least(t) == ROUTES_OK);
+    size_t length = routes_read(t, 0, least, MOST);
+    CHECK(length <= networks && routes_read(t, length, least, MOST) == 0);
+    for (int i = 0; i < 200 && count; i++) {
+        const struct kept *k = &kept[drawn() % count];
+        number addr = k->addr ^ (width(k->family) - k->len ? drawn() & 1 : 0);
+        const routes_route *best = NULL;
+        for (const routes_route *r = least; r < least + length; r++)
+            if (r->family == k->family && masked(k->family, addr, r->len) == joined(r->high, r->low) && (!best || best->len < r->len)) best = r;
+        CHECK(hop_of(match(k->family, addr, 128)) == (best ? best->hop : ROUTES_DROP));
+    }
+}
+
+/* Each list of routes is that of the model. */
+static void listed_routes(routes_table *t) {
+    static struct kept sorted[MOST], best[MOST], wanted[MOST];
+    size_t networks = 0;
+    memcpy(sorted, kept, count * sizeof *kept);
+    qsort(sorted, count, sizeof *sorted, order);
+    for (size_t i = 0; i < count; i++)
+        if (i == 0 || !is_of(&sorted[i], &sorted[i - 1])) best[networks++] = sorted[i];
+    for (int i = 0; i < 12 && count; i++) {
+        struct kept n = kept[drawn() % count];
+        size_t limit = drawn() % 20, length = 0;
+        n.len = i % 3 == 0 ? n.len : (int)(drawn() % (width(n.family) + 1));
+        n.addr = masked(n.family, n.addr, n.len);
+        for (int kind = LIST; kind <= AFTER; kind++, length = 0) {
+            for (size_t j = 0; j < networks && (kind < FROM || length < limit); j++)
+                if (is_listed(kind, &best[j], &n)) wanted[length++] = best[j];
+            made(t, kind, &n, limit);
+            has(t, wanted, length);
+        }
+        for (size_t j = 0; j < count; j++)
+            if (is_of(&sorted[j], &n)) wanted[length++] = sorted[j];
+        made(t, ALL, &n, 0);
+        has(t, wanted, length);
+        governed(t, sorted, &n);
+        owned(t, (uint32_t)(drawn() % 12));
+    }
+    shortest(t, networks);
+}
+
 /* A line and its reply, which is read in parts of every length. */
 static void answered(routes_table *t) {
     static const char line[] = "cover ::/0", wanted[] = "route ::/0 7 100\nok\n";
@@ -175,13 +421,23 @@ static void closed(routes_table *t) {
     routes_change c = {77, 78};
     routes_piece p, no_piece;
     uint8_t out[4] = {'#', '#', '#', '#'};
+    uint32_t addr4 = 1;
+    routes_addr6 addr6 = {1, 1};
+    uint64_t hop = 77;
+    size_t ipv4 = 77, ipv6 = 78;
     memset(&no_route, 0x5a, sizeof r);
     memset(&no_piece, 0x5a, sizeof p);
     r = no_route, p = no_piece;
     CHECK(routes_get4(t, 1, &r) == ROUTES_CLOSED && routes_get6(t, 1, 1, &r) == ROUTES_CLOSED);
+    CHECK(routes_get4_many(t, &addr4, 1, &hop, 1) == ROUTES_CLOSED && routes_get6_many(t, &addr6, 1, &hop, 1) == ROUTES_CLOSED && hop == 77);
+    CHECK(routes_count(t, &ipv4, &ipv6) == ROUTES_CLOSED && ipv4 == 77 && ipv6 == 78);
     CHECK(routes_add4(t, 1, 8, 1, 1, &c) == ROUTES_CLOSED && routes_add6(t, 1, 1, 8, 1, 1, &c) == ROUTES_CLOSED);
     CHECK(routes_del4(t, 1, 8, 1, &c) == ROUTES_CLOSED && routes_del6(t, 1, 1, 8, 1, &c) == ROUTES_CLOSED);
     CHECK(routes_flat(t) == ROUTES_CLOSED && routes_piece_at(t, 0, &p) == ROUTES_CLOSED);
+    for (int kind = LIST; kind <= GOVERNED; kind++)
+        CHECK(list4(t, kind, 1, 8, 1) == ROUTES_CLOSED && list6(t, kind, 1, 1, 8, 1) == ROUTES_CLOSED);
+    CHECK(routes_own(t, 1) == ROUTES_CLOSED && routes_least(t) == ROUTES_CLOSED);
+    CHECK(routes_route_at(t, 0, &r) == ROUTES_CLOSED && routes_read(t, 0, &r, 1) == 0);
     CHECK(routes_line(t, (const uint8_t *)"count", 5) == ROUTES_CLOSED && routes_reply(t, 0, out, 4) == 0);
     CHECK(memcmp(&r, &no_route, sizeof r) == 0 && memcmp(&p, &no_piece, sizeof p) == 0);
     CHECK(c.before == 77 && c.after == 78 && out[0] == '#' && t->at == NULL && !t->is_open);
@@ -197,9 +453,17 @@ int main(void) {
     CHECK(routes_add4(&t, 0, 33, 1, 1, &c) == ROUTES_TOO_LONG && routes_add6(&t, 0, 0, 129, 1, 1, &c) == ROUTES_TOO_LONG);
     CHECK(routes_del4(&t, 0, 255, 1, &c) == ROUTES_TOO_LONG && routes_del6(&t, 0, 0, 255, 1, &c) == ROUTES_TOO_LONG);
     CHECK(c.before == 77 && c.after == 78);
+    for (int kind = LIST; kind <= GOVERNED; kind++)
+        CHECK(list4(&t, kind, 1, 33, 1) == ROUTES_TOO_LONG && list6(&t, kind, 1, 1, 129, 1) == ROUTES_TOO_LONG);
+    routes_route none = {0, 0, 0, 0, 0, 0};
+    CHECK(routes_route_at(&t, 0, &none) == ROUTES_MISSING && routes_read(&t, 0, &none, 1) == 0);
     for (int turn = 0; turn < TURNS && count < MOST; turn++) {
         changed(&t);
         if (turn % 2000 == 0) listed(&t);
+        if (turn % 500 == 0) counted(&t);
+        if (turn % 1000 == 0) listed_routes(&t);
+        if (turn % 1000 == 0) copied(&t);
+        if (turn % 100 == 0) looked_up_at_once(&t);
     }
     listed(&t);
     answered(&t);

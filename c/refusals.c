@@ -63,6 +63,48 @@ static void told(routes_table *t) {
     WANT(some <= all && memcmp(cut, whole, some) == 0 && (code == ROUTES_NO_MEMORY || some == all));
 }
 
+/* Lists of routes: where there is no memory the list is as it was, and the next try makes it. */
+static void listed(routes_table *t) {
+    for (int kind = 0; kind < 8; kind++) {
+        routes_route before = {0, 0, 0, 0, 0, 0}, after = before;
+        uint32_t was = routes_route_at(t, 0, &before), code = ROUTES_NO_MEMORY;
+        for (int tries = 0; code == ROUTES_NO_MEMORY && tries < 2; tries++) {
+            code = kind == 0   ? routes_list4(t, 0, 0)
+                   : kind == 1 ? routes_cover4(t, addr_of(1), 32)
+                   : kind == 2 ? routes_from4(t, 0, 0, 50)
+                   : kind == 3 ? routes_after4(t, 0, 0, 50)
+                   : kind == 4 ? routes_all4(t, addr_of(1), len_of(1))
+                   : kind == 5 ? routes_governed4(t, 0, 0)
+                   : kind == 6 ? routes_own(t, 1)
+                               : routes_least(t);
+            if (code != ROUTES_NO_MEMORY) break;
+            refused++;
+            WANT(routes_route_at(t, 0, &after) == was && memcmp(&before, &after, sizeof before) == 0);
+        }
+        WANT(code == ROUTES_OK && routes_route_at(t, 0, &after) == ROUTES_OK);
+    }
+}
+
+/* An index: where there is no memory it stays closed, and the next try opens it. Its look-ups ask for none. */
+static void indexed(routes_table *t) {
+    routes_index index = ROUTES_INDEX;
+    uint32_t code = routes_index_open(&index, t);
+    uint64_t hop = 0;
+    if (code == ROUTES_NO_MEMORY) {
+        refused++;
+        WANT(index.at == NULL && !index.is_open);
+        code = routes_index_open(&index, t);
+    }
+    WANT(code == ROUTES_OK);
+    long before = asked;
+    for (uint32_t i = 0; i < NETWORKS; i++) {
+        routes_route r = {0, 0, 0, 0, 0, 0};
+        WANT(routes_get4(t, addr_of(i), &r) == ROUTES_OK && routes_index_hop4(&index, addr_of(i), &hop) == ROUTES_OK && hop == r.hop);
+    }
+    WANT(asked == before);
+    routes_index_close(&index);
+}
+
 /* All of it with one request refused; how many there were. */
 static long tried(long request) {
     routes_table t = ROUTES_TABLE;
@@ -78,6 +120,8 @@ static long tried(long request) {
     WANT(code == ROUTES_OK);
     for (uint32_t i = 0; i < NETWORKS; i++) added(&t, i);
     told(&t);
+    listed(&t);
+    indexed(&t);
     long all = asked;
     for (uint32_t i = 0; i < NETWORKS; i++) WANT(routes_del4(&t, addr_of(i), len_of(i), i, &c) == ROUTES_OK);
     WANT(asked == all); /* a `del` asks for no memory */

@@ -4,11 +4,11 @@
  *
  *   1. A table is a routes_table of zero bytes (ROUTES_TABLE, or memory from calloc), or what earlier calls left in it. It is
  *      never copied, moved while it is open or written otherwise. It may be anywhere, also on the stack; what it holds is on the
- *      heap, until routes_close.
+ *      heap, until routes_close. The same is true of an index, a routes_index.
  *   2. Every other pointer has room for what it points to, also where the answer leaves that alone, and what it points to
  *      has been given a value. No two pointers of a call overlap. No pointer is null, also where a length is 0.
- *   3. One call at a time is made on a table, look-ups too, and a table stays on the thread that opened it. Other threads may
- *      have tables of their own at the same time.
+ *   3. One call at a time is made on a table or an index, look-ups too, and it stays on the thread that opened it. Other threads may
+ *      have tables and indexes of their own at the same time.
  *   4. malloc, realloc and free are those of one allocator, and no call is made in a signal handler, or in the forked child of a
  *      process with threads.
  *
@@ -33,14 +33,16 @@ enum routes_answer {
     ROUTES_OK = 0,
     ROUTES_MISSING = 1,   /* no network contains the address; the network has no such hop; the index is past the end */
     ROUTES_NO_MEMORY = 2, /* malloc or realloc gave none */
-    ROUTES_CLOSED = 3,    /* the table is not open */
-    ROUTES_OPEN = 4,      /* the table is open already */
+    ROUTES_CLOSED = 3,    /* the table or the index is not open */
+    ROUTES_OPEN = 4,      /* the table or the index is open already */
     ROUTES_FULL = 5,      /* eight other hops are stored at the network, which is the most */
     ROUTES_TOO_LONG = 6   /* the length is over 32 for IPv4, or over 128 for IPv6 */
 };
 
-/* As the hop of a route: packets go nowhere, a null route. In a change: the addresses have no hop. */
+/* As the hop of a route: packets go nowhere, a null route. In a change, and of an index: the addresses have no hop. */
 #define ROUTES_DROP (UINT64_C(1) << 32)
+/* Where many addresses are looked up: no network contains the address. */
+#define ROUTES_NO_MATCH (UINT64_C(1) << 33)
 /* The preference of a command line that names none. The greatest preference wins, and of equal ones the least hop, a number
  * before ROUTES_DROP. */
 #define ROUTES_PREFERENCE 100
@@ -75,6 +77,11 @@ typedef struct routes_piece {
     uint8_t len;
 } routes_piece;
 
+/* An IPv6 address: 16 bytes. */
+typedef struct routes_addr6 {
+    uint64_t high, low;
+} routes_addr6;
+
 /* Opens a closed table, without networks. ROUTES_OK, ROUTES_NO_MEMORY, or ROUTES_OPEN. */
 uint32_t routes_open(routes_table *table);
 
@@ -85,6 +92,15 @@ void routes_close(routes_table *table);
  * route; ROUTES_MISSING where none contains it; or ROUTES_CLOSED. */
 uint32_t routes_get4(routes_table *table, uint32_t addr, routes_route *route);
 uint32_t routes_get6(routes_table *table, uint64_t high, uint64_t low, routes_route *route);
+
+/* The hops of the longest matches of many addresses: each is what a look-up of its own tells, as one number, the hop or
+ * ROUTES_NO_MATCH. As many are answered as there are addresses and room; what is left of `hops` stays. They take no memory.
+ * ROUTES_OK, or ROUTES_CLOSED. */
+uint32_t routes_get4_many(routes_table *table, const uint32_t *addrs, size_t count, uint64_t *hops, size_t room);
+uint32_t routes_get6_many(routes_table *table, const routes_addr6 *addrs, size_t count, uint64_t *hops, size_t room);
+
+/* How many networks of each family are stored. It takes no memory. ROUTES_OK and the numbers, or ROUTES_CLOSED. */
+uint32_t routes_count(routes_table *table, size_t *ipv4, size_t *ipv6);
 
 /* Stores a route of the network, or gives the one of this hop that it has the new preference. A hop from 2^32 on is ROUTES_DROP.
  * ROUTES_OK and the change; ROUTES_FULL just where eight other hops are stored there; ROUTES_NO_MEMORY, which happens only where
@@ -107,6 +123,50 @@ uint32_t routes_flat(routes_table *table);
  * ROUTES_CLOSED. */
 uint32_t routes_piece_at(routes_table *table, size_t index, routes_piece *piece);
 
+/* The list of routes, in the table's memory: each of these calls makes it anew, and it stays until the next one, whatever changes.
+ * ROUTES_OK, ROUTES_NO_MEMORY, ROUTES_TOO_LONG where they take a length, or ROUTES_CLOSED. routes_route_at and routes_read read it.
+ *
+ * routes_list: the best routes of the stored networks inside the network, itself included, ascending; a network comes before those
+ * inside it. */
+uint32_t routes_list4(routes_table *table, uint32_t addr, uint8_t len);
+uint32_t routes_list6(routes_table *table, uint64_t high, uint64_t low, uint8_t len);
+
+/* The best routes of the stored networks that contain the network, itself included, the shortest first. */
+uint32_t routes_cover4(routes_table *table, uint32_t addr, uint8_t len);
+uint32_t routes_cover6(routes_table *table, uint64_t high, uint64_t low, uint8_t len);
+
+/* A page: the best routes of the family's stored networks from the network on, or after it, ascending, `limit` of them at most. The
+ * network need not be stored. The next page is what comes after the last network of this one. */
+uint32_t routes_from4(routes_table *table, uint32_t addr, uint8_t len, size_t limit);
+uint32_t routes_from6(routes_table *table, uint64_t high, uint64_t low, uint8_t len, size_t limit);
+uint32_t routes_after4(routes_table *table, uint32_t addr, uint8_t len, size_t limit);
+uint32_t routes_after6(routes_table *table, uint64_t high, uint64_t low, uint8_t len, size_t limit);
+
+/* All routes of exactly the network, best first; none where it is not stored. */
+uint32_t routes_all4(routes_table *table, uint32_t addr, uint8_t len);
+uint32_t routes_all6(routes_table *table, uint64_t high, uint64_t low, uint8_t len);
+
+/* The addresses that the network governs, which are those of it that no stored network strictly inside it contains: their maximal
+ * blocks, ascending, each with the hop that they have, ROUTES_DROP for none, and ROUTES_PREFERENCE. After a change of the network
+ * that told two hops, these are the addresses whose hop changed. */
+uint32_t routes_governed4(routes_table *table, uint32_t addr, uint8_t len);
+uint32_t routes_governed6(routes_table *table, uint64_t high, uint64_t low, uint8_t len);
+
+/* The blocks that routes_flat gives this hop number, IPv4 first, ascending, each with the number and ROUTES_PREFERENCE. */
+uint32_t routes_own(routes_table *table, uint32_t number);
+
+/* The routes of a table with the same hop at every address, and no table that has it has fewer: IPv4 first, ascending, with
+ * ROUTES_PREFERENCE. Of several such tables it is one. */
+uint32_t routes_least(routes_table *table);
+
+/* The route at an index of that list, which is empty before the first. ROUTES_OK; ROUTES_MISSING past its end; or
+ * ROUTES_CLOSED. */
+uint32_t routes_route_at(routes_table *table, size_t index, routes_route *route);
+
+/* Copies that list from index `from` on, as far as there is room, and answers how many routes it copied: 0 at the end, and for a
+ * closed table. The rest of `routes` stays. */
+size_t routes_read(routes_table *table, size_t from, routes_route *routes, size_t room);
+
 /* Answers a command line of `routes lead`, given without its line end, and keeps the reply, which is the bytes that `routes lead`
  * prints for it. ROUTES_OK, also where the reply is `bad`, `none` or `refused`. ROUTES_NO_MEMORY where there is none for the reply:
  * then the table is the one after the line, and a beginning of the reply is kept. Or ROUTES_CLOSED. */
@@ -115,6 +175,31 @@ uint32_t routes_line(routes_table *table, const uint8_t *line, size_t len);
 /* Copies the kept reply from byte `from` on, as far as there is room, and answers how many bytes it copied: 0 at the end, and for a
  * closed table. The rest of `out` stays. The reply stays until the next routes_line. */
 size_t routes_reply(routes_table *table, size_t from, uint8_t *out, size_t room);
+
+/* An index, which is the caller's: the hop of each address, as a table had it when the index was opened. It is a copy, which no later
+ * change of the table reaches; so it is made anew where it is to have one. Its look-ups are faster than the table's. 16 bytes; zero
+ * bytes are a closed index. */
+typedef struct routes_index {
+    void *at;
+    bool is_open;
+} routes_index;
+#define ROUTES_INDEX {NULL, false}
+
+/* Opens a closed index, with the hops that the table has now. ROUTES_OK; ROUTES_NO_MEMORY; ROUTES_CLOSED, where the table is not open;
+ * or ROUTES_OPEN, where the index is. */
+uint32_t routes_index_open(routes_index *index, routes_table *table);
+
+/* Closes an index, and gives its memory back. A closed one stays closed; it may be opened again. */
+void routes_index_close(routes_index *index);
+
+/* The hop of an address: a number below 2^32, or ROUTES_DROP for no hop, be it that no network contains the address or that the longest
+ * one which does has a null route. They take no memory. ROUTES_OK and the hop, or ROUTES_CLOSED. */
+uint32_t routes_index_hop4(routes_index *index, uint32_t addr, uint64_t *hop);
+uint32_t routes_index_hop6(routes_index *index, uint64_t high, uint64_t low, uint64_t *hop);
+
+/* The same of many addresses. As many are answered as there are addresses and room; what is left of `hops` stays. */
+uint32_t routes_index_hop4_many(routes_index *index, const uint32_t *addrs, size_t count, uint64_t *hops, size_t room);
+uint32_t routes_index_hop6_many(routes_index *index, const routes_addr6 *addrs, size_t count, uint64_t *hops, size_t room);
 
 /* Eight bytes in network order as a number: of an in6_addr, routes_half(a) is the upper half and routes_half(a + 8) the lower. */
 static inline uint64_t routes_half(const uint8_t *bytes) {

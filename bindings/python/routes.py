@@ -29,9 +29,9 @@ import ipaddress
 import os
 import threading
 from ctypes import POINTER, c_bool, c_char, c_char_p, c_size_t, c_uint8, c_uint16, c_uint32, c_uint64, c_void_p
-from typing import Final, Literal, NamedTuple, Optional, Union
+from typing import Final, Iterable, Literal, NamedTuple, Optional, Union
 
-__all__ = ["Change", "DROP", "Full", "PREFERENCE", "Piece", "Route", "Table"]
+__all__ = ["Change", "Count", "DROP", "Full", "Index", "PREFERENCE", "Piece", "Route", "Table"]
 
 DROP: Final = "drop"
 """The hop of a null route: its addresses have no hop."""
@@ -64,6 +64,13 @@ class Piece(NamedTuple):
 
     net: Net
     hop: int
+
+
+class Count(NamedTuple):
+    """How many networks of each family are stored."""
+
+    ipv4: int
+    ipv6: int
 
 
 class Full(Exception):
@@ -103,9 +110,19 @@ class Table:
     def get(self, addr: Address | str) -> Route | None:
         """The best route of the longest stored network that contains the address."""
         route = _Route()
-        if self._call("routes_get", ipaddress.ip_address(addr), route):
-            return Route(_net(route), DROP if route.hop == _DROP else route.hop, route.pref)
+        if self._call("routes_get", _address(addr), route):
+            return _route(route)
         return None
+
+    def hops(self, addrs: Iterable[Address | str]) -> list[Hop | None]:
+        """The hop of the route that `get` finds for each address, None where it finds none: in two calls of the library at most."""
+        return [None if hop == _NO_MATCH else _hop(hop) for hop in _many("routes_get{}_many", self._own(), addrs)]
+
+    def count(self) -> Count:
+        """How many networks of each family are stored."""
+        ipv4, ipv6 = c_size_t(), c_size_t()
+        _is_found(_library.routes_count(self._own(), ipv4, ipv6))
+        return Count(ipv4.value, ipv6.value)
 
     def add(self, net: Net | str, hop: Hop, preference: int = PREFERENCE) -> Change:
         """Adds a route, or gives the network's route by this hop another preference.
@@ -129,6 +146,44 @@ class Table:
             pieces.append(Piece(_net(piece), piece.hop))
         return pieces
 
+    def inside(self, net: Net | str) -> list[Route]:
+        """The best routes of the stored networks inside this one, itself included, in ascending order."""
+        return self._list("routes_list", net)
+
+    def cover(self, net: Net | str) -> list[Route]:
+        """The best routes of the stored networks that contain this one, itself included, the shortest first."""
+        return self._list("routes_cover", net)
+
+    def page_from(self, net: Net | str, limit: int) -> list[Route]:
+        """The best routes of the family's stored networks from this one on, in ascending order, `limit` of them at most."""
+        return self._list("routes_from", net, _limit(limit))
+
+    def page_after(self, net: Net | str, limit: int) -> list[Route]:
+        """The same of those that come after this network, which need not be stored: the page after one that ends with it."""
+        return self._list("routes_after", net, _limit(limit))
+
+    def all(self, net: Net | str) -> list[Route]:
+        """All routes of exactly this network, the best first."""
+        return self._list("routes_all", net)
+
+    def governed(self, net: Net | str) -> list[Route]:
+        """The maximal blocks of the addresses that the network governs, each with the hop that they have, DROP for none.
+
+        It governs those of its addresses that lie in no stored network strictly inside it. After a change of the network they are
+        the addresses whose hop changed, where the change tells two hops.
+        """
+        return self._list("routes_governed", net)
+
+    def own(self, hop: int) -> list[Route]:
+        """The blocks that `flat` gives this hop, in ascending order."""
+        _is_found(_library.routes_own(self._own(), _number_of(hop)))
+        return self._read()
+
+    def least(self) -> list[Route]:
+        """The routes of a table with the same hop at each address, and no such table has fewer."""
+        _is_found(_library.routes_least(self._own()))
+        return self._read()
+
     def line(self, line: str | bytes) -> str:
         """The reply of `routes lead` to a line of its input, which is given without its line end.
 
@@ -150,6 +205,19 @@ class Table:
             raise KeyError((net, hop))
         return Change(_number(change.before), _number(change.after))
 
+    def _list(self, name: str, net: Net | str, *limit: int) -> list[Route]:
+        net = ipaddress.ip_network(net, strict=False)
+        self._call(name, net.network_address, net.prefixlen, *limit)
+        return self._read()
+
+    def _read(self) -> list[Route]:
+        """The list of routes that was made last."""
+        routes: list[Route] = []
+        part = (_Route * 1024)()
+        while count := _library.routes_read(self._raw, len(routes), part, len(part)):
+            routes.extend(map(_route, part[:count]))
+        return routes
+
     def _call(self, name: str, addr: Address, *rest: object) -> bool:
         """Calls the function of this name for the address's family."""
         number = int(addr)
@@ -163,11 +231,60 @@ class Table:
         return self._raw
 
 
+class Index:
+    """The hop of each address, as a table had it when the index was made: a copy, which no later change of the table reaches.
+
+    It is a context manager, which closes it, and faster than the table. Calls raise as those of a table do.
+    """
+
+    def __init__(self, table: Table) -> None:
+        self._thread = threading.get_ident()
+        self._raw = _Index()
+        _is_found(_library.routes_index_open(self._raw, table._own()))
+
+    def __enter__(self) -> Index:
+        return self
+
+    def __exit__(self, *_: object) -> None:
+        self.close()
+
+    def close(self) -> None:
+        """Gives the memory of the index back. A closed index stays closed."""
+        _library.routes_index_close(self._own())
+
+    def __del__(self) -> None:
+        if threading.get_ident() == self._thread:
+            self.close()
+
+    def hop(self, addr: Address | str) -> int | None:
+        """The hop of the address, None where it had no route, or a null route."""
+        return self.hops([addr])[0]
+
+    def hops(self, addrs: Iterable[Address | str]) -> list[int | None]:
+        """The hops of the addresses: in two calls of the library at most."""
+        return list(map(_number, _many("routes_index_hop{}_many", self._own(), addrs)))
+
+    def _own(self) -> _Index:
+        """The index of the library, for its thread."""
+        if threading.get_ident() != self._thread:
+            raise RuntimeError("an index stays on the thread that made it")
+        return self._raw
+
+
 _DROP = 1 << 32
+_NO_MATCH = 1 << 33
 
 
 class _Table(ctypes.Structure):
     _fields_ = [("at", c_void_p), ("is_open", c_bool)]
+
+
+class _Index(ctypes.Structure):
+    _fields_ = [("at", c_void_p), ("is_open", c_bool)]
+
+
+class _Addr6(ctypes.Structure):
+    _fields_ = [("high", c_uint64), ("low", c_uint64)]
 
 
 class _Route(ctypes.Structure):
@@ -187,17 +304,33 @@ def _load() -> ctypes.PyDLL:
     folder = os.environ.get("ROUTES_LIB")
     library = ctypes.PyDLL(os.path.join(folder, "libroutes.so") if folder else "libroutes.so.1")
     table, route, change, piece = POINTER(_Table), POINTER(_Route), POINTER(_Change), POINTER(_Piece)
+    index, addrs4, addrs6, hops, size = POINTER(_Index), POINTER(c_uint32), POINTER(_Addr6), POINTER(c_uint64), POINTER(c_size_t)
+    net4, net6 = (c_uint32, c_uint8), (c_uint64, c_uint64, c_uint8)
     for name, result, *arguments in (
         ("open", c_uint32, table),
         ("close", None, table),
         ("get4", c_uint32, table, c_uint32, route),
         ("get6", c_uint32, table, c_uint64, c_uint64, route),
+        ("get4_many", c_uint32, table, addrs4, c_size_t, hops, c_size_t),
+        ("get6_many", c_uint32, table, addrs6, c_size_t, hops, c_size_t),
+        ("count", c_uint32, table, size, size),
         ("add4", c_uint32, table, c_uint32, c_uint8, c_uint64, c_uint16, change),
         ("add6", c_uint32, table, c_uint64, c_uint64, c_uint8, c_uint64, c_uint16, change),
         ("del4", c_uint32, table, c_uint32, c_uint8, c_uint64, change),
         ("del6", c_uint32, table, c_uint64, c_uint64, c_uint8, c_uint64, change),
         ("flat", c_uint32, table),
         ("piece_at", c_uint32, table, c_size_t, piece),
+        *((f"{name}4", c_uint32, table, *net4) for name in ("list", "cover", "all", "governed")),
+        *((f"{name}6", c_uint32, table, *net6) for name in ("list", "cover", "all", "governed")),
+        *((f"{name}4", c_uint32, table, *net4, c_size_t) for name in ("from", "after")),
+        *((f"{name}6", c_uint32, table, *net6, c_size_t) for name in ("from", "after")),
+        ("own", c_uint32, table, c_uint32),
+        ("least", c_uint32, table),
+        ("read", c_size_t, table, c_size_t, route, c_size_t),
+        ("index_open", c_uint32, index, table),
+        ("index_close", None, index),
+        ("index_hop4_many", c_uint32, index, addrs4, c_size_t, hops, c_size_t),
+        ("index_hop6_many", c_uint32, index, addrs6, c_size_t, hops, c_size_t),
         ("line", c_uint32, table, c_char_p, c_size_t),
         ("reply", c_size_t, table, c_size_t, POINTER(c_char), c_size_t),
     ):
@@ -216,10 +349,44 @@ def _is_found(answer: int) -> bool:
     if answer == 2:
         raise MemoryError("there is no memory for the table")
     if answer == 3:
-        raise ValueError("the table is closed")
+        raise ValueError("the table or the index is closed")
     if answer == 5:
         raise Full("the network has routes by eight other hops")
     raise AssertionError(f"the library answered {answer}, which its header does not allow here")
+
+
+def _many(name: str, raw: _Table | _Index, addrs: Iterable[Address | str]) -> list[int]:
+    """What the library answers of many addresses, as one number each, by one call for each family that is among them."""
+    addrs = list(map(_address, addrs))
+    answers = [0] * len(addrs)
+    for version, type_ in ((4, c_uint32), (6, _Addr6)):
+        places = [place for place, addr in enumerate(addrs) if addr.version == version]
+        numbers = (int(addrs[place]) for place in places)
+        asked = (type_ * len(places))(*(numbers if version == 4 else ((n >> 64, n & (1 << 64) - 1) for n in numbers)))
+        hops = (c_uint64 * len(places))()
+        _is_found(getattr(_library, name.format(version))(raw, asked, len(places), hops, len(places)))
+        for place, hop in zip(places, hops):
+            answers[place] = hop
+    return answers
+
+
+def _address(addr: Address | str) -> Address:
+    """The address; `ip_address` would print one that is one already, and read it again."""
+    return addr if isinstance(addr, (ipaddress.IPv4Address, ipaddress.IPv6Address)) else ipaddress.ip_address(addr)
+
+
+def _route(raw: _Route) -> Route:
+    return Route(_net(raw), _hop(raw.hop), raw.pref)
+
+
+def _hop(hop: int) -> Hop:
+    return DROP if hop == _DROP else hop
+
+
+def _limit(limit: int) -> int:
+    if not 0 <= limit <= ctypes.c_size_t(-1).value:
+        raise ValueError(f"{limit!r} is no limit")
+    return limit
 
 
 def _net(raw: _Route | _Piece) -> Net:
@@ -229,8 +396,10 @@ def _net(raw: _Route | _Piece) -> Net:
 
 
 def _raw_hop(hop: Hop) -> int:
-    if hop == DROP:
-        return _DROP
+    return _DROP if hop == DROP else _number_of(hop)
+
+
+def _number_of(hop: int) -> int:
     if not 0 <= hop < 1 << 32:
         raise ValueError(f"{hop!r} is no hop")
     return hop

@@ -8,7 +8,7 @@ from concurrent.futures import ThreadPoolExecutor
 from pathlib import Path
 
 import routes
-from routes import DROP, Change, Full, Piece, Route, Table
+from routes import DROP, PREFERENCE, Change, Count, Full, Index, Piece, Route, Table
 
 EXAMPLES = Path(__file__).resolve().parents[2] / "examples"
 # The random turns change these two networks, of 16 addresses each, and networks inside them.
@@ -18,6 +18,11 @@ ROOTS = [ipaddress.ip_network("10.0.0.240/28"), ipaddress.ip_network("2001:db8:0
 def order(hop):
     """Of routes with one preference the least is best."""
     return 1 << 32 if hop == DROP else hop
+
+
+def place(net):
+    """Ascending: a network comes before those inside it."""
+    return net.version, int(net.network_address), net.prefixlen
 
 
 class Model:
@@ -66,6 +71,40 @@ class Model:
             return [Piece(block, pieces[0].hop)]
         return pieces
 
+    def best(self, net):
+        """The best routes of the networks of this one's family, ascending."""
+        return [self.get(other) for other in sorted(self.routes, key=place) if other.version == net.version]
+
+    def inside(self, net):
+        return [route for route in self.best(net) if route.net.subnet_of(net)]
+
+    def cover(self, net):
+        return [route for route in self.best(net) if net.subnet_of(route.net)]
+
+    def page_from(self, net, limit):
+        return [route for route in self.best(net) if place(route.net) >= place(net)][:limit]
+
+    def page_after(self, net, limit):
+        return [route for route in self.best(net) if place(route.net) > place(net)][:limit]
+
+    def all(self, net):
+        routes = [Route(net, hop, preference) for hop, preference in self.routes.get(net, {}).items()]
+        return sorted(routes, key=lambda route: (-route.preference, order(route.hop)))
+
+    def governed(self, net):
+        """The blocks of the addresses of this network that no network strictly inside it contains."""
+        inner = [other for other in self.routes if other.version == net.version and other != net and other.subnet_of(net)]
+        found = self.get(net)
+
+        def blocks(block):
+            if not any(other.overlaps(block) for other in inner):
+                return [Route(block, found.hop if found else DROP, PREFERENCE)]
+            if any(block.subnet_of(other) for other in inner):
+                return []
+            return [route for half in block.subnets() for route in blocks(half)]
+
+        return blocks(net)
+
 
 def outcome(call, *arguments):
     """What a call answers, or the type of what it raises."""
@@ -97,7 +136,48 @@ class Turns(unittest.TestCase):
                 self.assertEqual(table.get(addr), model.get(ipaddress.ip_network(addr)), addr)
                 if turn % 20 == 0:
                     self.assertEqual(table.flat(), [piece for root in ROOTS for piece in model.flat(root)])
+                    self.compare(draw, table, model)
         self.assertTrue({Full, KeyError} < set(outcomes))
+
+    def compare(self, draw, table, model):
+        """The lists, the look-ups of many addresses and an index say what the model says."""
+        net = draw.choice(list(draw.choice(ROOTS).subnets(draw.randrange(5))))
+        limit = draw.randrange(6)
+        for name in ("inside", "cover", "all", "governed"):
+            self.assertEqual(getattr(table, name)(net), getattr(model, name)(net), (name, net))
+        for name in ("page_from", "page_after"):
+            self.assertEqual(getattr(table, name)(net, limit), getattr(model, name)(net, limit), (name, net, limit))
+        pieces = table.flat()
+        for hop in range(9):
+            self.assertEqual(table.own(hop), [Route(piece.net, hop, PREFERENCE) for piece in pieces if piece.hop == hop])
+        self.assertEqual(table.count(), Count(*(sum(other.version == version for other in model.routes) for version in (4, 6))))
+        addrs = draw.sample([addr for root in ROOTS for addr in root], 20)
+        found = [model.get(ipaddress.ip_network(addr)) for addr in addrs]
+        self.assertEqual(table.hops(addrs), [route and route.hop for route in found])
+        hops = [model.hop(ipaddress.ip_network(addr)) for addr in addrs]
+        with Index(table) as index:
+            self.assertEqual(index.hops(map(str, addrs)), hops)
+            self.assertEqual(index.hop(addrs[0]), hops[0])
+        least = Model()
+        for route in table.least():
+            least.add(*route)
+        self.assertLessEqual(len(least.routes), len(model.routes))
+        self.assertEqual([least.hop(ipaddress.ip_network(addr)) for addr in addrs], hops)
+
+    def test_an_index_is_a_copy(self):
+        with Table() as table:
+            table.add("10.0.0.0/8", 1)
+            with Index(table) as index:
+                table.add("10.0.0.0/8", 2, 200)
+                self.assertEqual((index.hop("10.0.0.1"), index.hop("::"), table.get("10.0.0.1").hop), (1, None, 2))
+            self.assertEqual(table.hops([]), [])
+
+    def test_a_long_list(self):
+        """It is longer than what is copied at once."""
+        with Table() as table:
+            for part in range(3000):
+                table.add(f"10.{part // 256}.{part % 256}.0/24", part)
+            self.assertEqual([route.hop for route in table.inside("0.0.0.0/0")], list(range(3000)))
 
     def test_both_ends_of_both_families(self):
         with Table() as table:
@@ -152,9 +232,24 @@ class Rules(unittest.TestCase):
         table.close()
         table.close()
         for call in (lambda: table.get("::"), lambda: table.add("::/0", 1), lambda: table.remove("::/0", 1), table.flat,
-                     lambda: table.line("flat")):
+                     lambda: table.line("flat"), lambda: table.inside("::/0"), table.least, table.count, lambda: table.hops(["::"]),
+                     lambda: Index(table)):
             with self.assertRaisesRegex(ValueError, "closed"):
                 call()
+
+    def test_a_closed_index(self):
+        with Table() as table:
+            index = Index(table)
+        index.close()
+        index.close()
+        with self.assertRaisesRegex(ValueError, "closed"):
+            index.hop("::")
+
+    def test_limits_out_of_range(self):
+        with Table() as table:
+            for limit in (-1, 1 << 64):
+                with self.subTest(limit), self.assertRaises(ValueError):
+                    table.page_from("::/0", limit)
 
     def test_a_table_stays_on_its_thread(self):
         with Table() as table, ThreadPoolExecutor(1) as other:

@@ -21,12 +21,15 @@
 #![warn(missing_docs)]
 
 mod error;
+mod index;
+mod many;
 mod net;
 mod raw;
 mod route;
 mod table;
 
 pub use error::{Error, ParseNetError};
+pub use index::Index;
 pub use net::Net;
-pub use route::{Change, Hop, Piece, Route, PREFERENCE};
+pub use route::{Change, Count, Hop, Piece, Route, PREFERENCE};
 pub use table::Table;

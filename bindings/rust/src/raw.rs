@@ -8,6 +8,7 @@ pub const NO_MEMORY: u32 = 2;
 pub const FULL: u32 = 5;
 
 pub const DROP: u64 = 1 << 32;
+pub const NO_MATCH: u64 = 1 << 33;
 
 #[repr(C)]
 pub struct Table {
@@ -23,7 +24,27 @@ impl Table {
 }
 
 #[repr(C)]
-#[derive(Default)]
+pub struct Index {
+    at: *mut u8,
+    is_open: bool,
+}
+
+impl Index {
+    pub const CLOSED: Index = Index {
+        at: null_mut(),
+        is_open: false,
+    };
+}
+
+#[repr(C)]
+#[derive(Clone, Copy)]
+pub struct Addr6 {
+    pub high: u64,
+    pub low: u64,
+}
+
+#[repr(C)]
+#[derive(Clone, Copy, Default)]
 pub struct Route {
     pub high: u64,
     pub low: u64,
@@ -84,6 +105,54 @@ extern "C" {
     ) -> u32;
     pub fn routes_flat(table: *mut Table) -> u32;
     pub fn routes_piece_at(table: *mut Table, index: usize, piece: *mut Piece) -> u32;
+    pub fn routes_get4_many(
+        table: *mut Table,
+        addrs: *const u32,
+        count: usize,
+        hops: *mut u64,
+        room: usize,
+    ) -> u32;
+    pub fn routes_get6_many(
+        table: *mut Table,
+        addrs: *const Addr6,
+        count: usize,
+        hops: *mut u64,
+        room: usize,
+    ) -> u32;
+    pub fn routes_count(table: *mut Table, ipv4: *mut usize, ipv6: *mut usize) -> u32;
+    pub fn routes_list4(table: *mut Table, addr: u32, len: u8) -> u32;
+    pub fn routes_list6(table: *mut Table, high: u64, low: u64, len: u8) -> u32;
+    pub fn routes_cover4(table: *mut Table, addr: u32, len: u8) -> u32;
+    pub fn routes_cover6(table: *mut Table, high: u64, low: u64, len: u8) -> u32;
+    pub fn routes_from4(table: *mut Table, addr: u32, len: u8, limit: usize) -> u32;
+    pub fn routes_from6(table: *mut Table, high: u64, low: u64, len: u8, limit: usize) -> u32;
+    pub fn routes_after4(table: *mut Table, addr: u32, len: u8, limit: usize) -> u32;
+    pub fn routes_after6(table: *mut Table, high: u64, low: u64, len: u8, limit: usize) -> u32;
+    pub fn routes_all4(table: *mut Table, addr: u32, len: u8) -> u32;
+    pub fn routes_all6(table: *mut Table, high: u64, low: u64, len: u8) -> u32;
+    pub fn routes_governed4(table: *mut Table, addr: u32, len: u8) -> u32;
+    pub fn routes_governed6(table: *mut Table, high: u64, low: u64, len: u8) -> u32;
+    pub fn routes_own(table: *mut Table, number: u32) -> u32;
+    pub fn routes_least(table: *mut Table) -> u32;
+    pub fn routes_read(table: *mut Table, from: usize, routes: *mut Route, room: usize) -> usize;
+    pub fn routes_index_open(index: *mut Index, table: *mut Table) -> u32;
+    pub fn routes_index_close(index: *mut Index);
+    pub fn routes_index_hop4(index: *mut Index, addr: u32, hop: *mut u64) -> u32;
+    pub fn routes_index_hop6(index: *mut Index, high: u64, low: u64, hop: *mut u64) -> u32;
+    pub fn routes_index_hop4_many(
+        index: *mut Index,
+        addrs: *const u32,
+        count: usize,
+        hops: *mut u64,
+        room: usize,
+    ) -> u32;
+    pub fn routes_index_hop6_many(
+        index: *mut Index,
+        addrs: *const Addr6,
+        count: usize,
+        hops: *mut u64,
+        room: usize,
+    ) -> u32;
     pub fn routes_line(table: *mut Table, line: *const u8, len: usize) -> u32;
     pub fn routes_reply(table: *mut Table, from: usize, out: *mut u8, room: usize) -> usize;
 }

@@ -49,6 +49,15 @@ pub struct Change {
     pub after: Option<u32>,
 }
 
+/// How many networks of each family are stored.
+#[derive(Clone, Copy, Debug, PartialEq, Eq, Hash)]
+pub struct Count {
+    /// Of IPv4.
+    pub ipv4: usize,
+    /// Of IPv6.
+    pub ipv6: usize,
+}
+
 /// A block of a flat list, and the one hop that all its addresses have.
 #[derive(Clone, Copy, Debug, PartialEq, Eq, Hash)]
 pub struct Piece {

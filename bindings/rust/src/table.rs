@@ -1,4 +1,5 @@
-use crate::{raw, Change, Error, Hop, Net, Piece, Route};
+use crate::many::answers;
+use crate::{raw, Change, Count, Error, Hop, Net, Piece, Route};
 use std::cell::UnsafeCell;
 use std::fmt;
 use std::net::{IpAddr, Ipv4Addr, Ipv6Addr};
@@ -13,7 +14,7 @@ use std::net::{IpAddr, Ipv4Addr, Ipv6Addr};
 pub struct Table {
     /// Open until it is dropped, and boxed, since an open table may not move. The cell and the pointer
     /// in it keep `Table` on one thread, so that no call is made while another runs.
-    raw: Box<UnsafeCell<raw::Table>>,
+    pub(crate) raw: Box<UnsafeCell<raw::Table>>,
 }
 
 impl Table {
@@ -43,11 +44,48 @@ impl Table {
                 }
             }
         };
-        found(code).then(|| Route {
-            net: net(route.family, route.high, route.low, route.len),
-            hop: number(route.hop).map_or(Hop::Drop, Hop::Number),
-            preference: route.pref,
-        })
+        found(code).then(|| route.into())
+    }
+
+    /// The hop of the route that `get` finds for each address; `None` where it finds none.
+    ///
+    /// The library is called twice at most.
+    pub fn hops(&self, addrs: &[IpAddr]) -> Vec<Option<Hop>> {
+        let table = self.raw.get();
+        // SAFETY: the table is as `raw` says, and the slices are ours.
+        let hops = answers(
+            addrs,
+            |addrs, hops| unsafe {
+                let (from, to) = (addrs.as_ptr(), hops.as_mut_ptr());
+                check(raw::routes_get4_many(
+                    table,
+                    from,
+                    addrs.len(),
+                    to,
+                    hops.len(),
+                ))
+            },
+            |addrs, hops| unsafe {
+                let (from, to) = (addrs.as_ptr(), hops.as_mut_ptr());
+                check(raw::routes_get6_many(
+                    table,
+                    from,
+                    addrs.len(),
+                    to,
+                    hops.len(),
+                ))
+            },
+        );
+        let shown = |found| (found != raw::NO_MATCH).then(|| hop(found));
+        hops.into_iter().map(shown).collect()
+    }
+
+    /// How many networks of each family are stored.
+    pub fn count(&self) -> Count {
+        let (mut ipv4, mut ipv6) = (0, 0);
+        // SAFETY: the table is as `raw` says, and the numbers are ours.
+        found(unsafe { raw::routes_count(self.raw.get(), &mut ipv4, &mut ipv6) });
+        Count { ipv4, ipv6 }
     }
 
     /// Adds a route, or gives the network's route by this hop another preference.
@@ -112,6 +150,133 @@ impl Table {
         })
     }
 
+    /// The best routes of the stored networks inside this one, itself included, in ascending order.
+    ///
+    /// # Errors
+    /// `NoMemory`, as of all that list routes.
+    pub fn list(&self, net: Net) -> Result<Vec<Route>, Error> {
+        self.listed(net, raw::routes_list4, raw::routes_list6)
+    }
+
+    /// The best routes of the stored networks that contain this one, itself included, the shortest
+    /// first.
+    ///
+    /// # Errors
+    /// `NoMemory`.
+    pub fn cover(&self, net: Net) -> Result<Vec<Route>, Error> {
+        self.listed(net, raw::routes_cover4, raw::routes_cover6)
+    }
+
+    /// All routes of exactly this network, the best first.
+    ///
+    /// # Errors
+    /// `NoMemory`.
+    pub fn all(&self, net: Net) -> Result<Vec<Route>, Error> {
+        self.listed(net, raw::routes_all4, raw::routes_all6)
+    }
+
+    /// The maximal blocks of the addresses that the network governs, each with the hop that they
+    /// have, `Drop` for none.
+    ///
+    /// It governs those of its addresses that lie in no stored network strictly inside it. After a
+    /// change of the network they are the addresses whose hop changed, where the change tells two
+    /// hops.
+    ///
+    /// # Errors
+    /// `NoMemory`.
+    pub fn governed(&self, net: Net) -> Result<Vec<Route>, Error> {
+        self.listed(net, raw::routes_governed4, raw::routes_governed6)
+    }
+
+    /// The best routes of the family's stored networks from this one on, in ascending order, `limit`
+    /// of them at most.
+    ///
+    /// # Errors
+    /// `NoMemory`.
+    pub fn page_from(&self, net: Net, limit: usize) -> Result<Vec<Route>, Error> {
+        self.page(net, limit, raw::routes_from4, raw::routes_from6)
+    }
+
+    /// The same of those that come after this network, which need not be stored: the page after one
+    /// that ends with it.
+    ///
+    /// # Errors
+    /// `NoMemory`.
+    pub fn page_after(&self, net: Net, limit: usize) -> Result<Vec<Route>, Error> {
+        self.page(net, limit, raw::routes_after4, raw::routes_after6)
+    }
+
+    /// The blocks that `flat` gives this hop, in ascending order.
+    ///
+    /// # Errors
+    /// `NoMemory`.
+    pub fn own(&self, hop: u32) -> Result<Vec<Route>, Error> {
+        // SAFETY: the table is as `raw` says.
+        check(unsafe { raw::routes_own(self.raw.get(), hop) })?;
+        Ok(self.read())
+    }
+
+    /// The routes of a table with the same hop at each address, and no such table has fewer.
+    ///
+    /// # Errors
+    /// `NoMemory`.
+    pub fn least(&self) -> Result<Vec<Route>, Error> {
+        // SAFETY: the table is as `raw` says.
+        check(unsafe { raw::routes_least(self.raw.get()) })?;
+        Ok(self.read())
+    }
+
+    fn listed(&self, net: Net, list4: List4, list6: List6) -> Result<Vec<Route>, Error> {
+        let (table, len) = (self.raw.get(), net.prefix_len());
+        // SAFETY: the table is as `raw` says.
+        check(unsafe {
+            match net.addr() {
+                IpAddr::V4(addr) => list4(table, addr.into(), len),
+                IpAddr::V6(addr) => {
+                    let (high, low) = halves(addr);
+                    list6(table, high, low, len)
+                }
+            }
+        })?;
+        Ok(self.read())
+    }
+
+    fn page(
+        &self,
+        net: Net,
+        limit: usize,
+        page4: Page4,
+        page6: Page6,
+    ) -> Result<Vec<Route>, Error> {
+        let (table, len) = (self.raw.get(), net.prefix_len());
+        // SAFETY: the table is as `raw` says.
+        check(unsafe {
+            match net.addr() {
+                IpAddr::V4(addr) => page4(table, addr.into(), len, limit),
+                IpAddr::V6(addr) => {
+                    let (high, low) = halves(addr);
+                    page6(table, high, low, len, limit)
+                }
+            }
+        })?;
+        Ok(self.read())
+    }
+
+    /// The list of routes that was made last.
+    fn read(&self) -> Vec<Route> {
+        let mut routes = Vec::new();
+        let mut part = [raw::Route::default(); 256];
+        loop {
+            let (from, out) = (routes.len(), part.as_mut_ptr());
+            // SAFETY: the table is as `raw` says, and `part` is ours.
+            let count = unsafe { raw::routes_read(self.raw.get(), from, out, part.len()) };
+            if count == 0 {
+                return routes;
+            }
+            routes.extend(part[..count].iter().map(|&route| Route::from(route)));
+        }
+    }
+
     /// The reply of `routes lead` to a line of its input, which is given without its line end. Each
     /// line of the reply has its own.
     ///
@@ -151,6 +316,21 @@ impl fmt::Debug for Table {
     }
 }
 
+type List4 = unsafe extern "C" fn(*mut raw::Table, u32, u8) -> u32;
+type List6 = unsafe extern "C" fn(*mut raw::Table, u64, u64, u8) -> u32;
+type Page4 = unsafe extern "C" fn(*mut raw::Table, u32, u8, usize) -> u32;
+type Page6 = unsafe extern "C" fn(*mut raw::Table, u64, u64, u8, usize) -> u32;
+
+impl From<raw::Route> for Route {
+    fn from(route: raw::Route) -> Route {
+        Route {
+            net: net(route.family, route.high, route.low, route.len),
+            hop: hop(route.hop),
+            preference: route.pref,
+        }
+    }
+}
+
 impl From<raw::Change> for Change {
     fn from(change: raw::Change) -> Change {
         Change {
@@ -161,7 +341,7 @@ impl From<raw::Change> for Change {
 }
 
 /// What an answer says of an open table and a network whose length is right.
-fn check(code: u32) -> Result<(), Error> {
+pub(crate) fn check(code: u32) -> Result<(), Error> {
     match code {
         raw::OK => Ok(()),
         raw::NO_MEMORY => Err(Error::NoMemory),
@@ -179,7 +359,7 @@ fn found(code: u32) -> bool {
     }
 }
 
-fn halves(addr: Ipv6Addr) -> (u64, u64) {
+pub(crate) fn halves(addr: Ipv6Addr) -> (u64, u64) {
     let bits = u128::from(addr);
     ((bits >> 64) as u64, bits as u64)
 }
@@ -199,7 +379,11 @@ fn raw_hop(hop: Hop) -> u64 {
     }
 }
 
+fn hop(hop: u64) -> Hop {
+    number(hop).map_or(Hop::Drop, Hop::Number)
+}
+
 /// The number of a hop, if it is one.
-fn number(hop: u64) -> Option<u32> {
+pub(crate) fn number(hop: u64) -> Option<u32> {
     hop.try_into().ok()
 }

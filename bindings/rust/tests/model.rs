@@ -1,6 +1,6 @@
 //! Random turns of a table, each compared with a plain model: a map of networks to their routes.
 
-use routes::{Change, Error, Hop, Net, Piece, Route, Table};
+use routes::{Change, Count, Error, Hop, Index, Net, Piece, Route, Table, PREFERENCE};
 use std::collections::BTreeMap;
 use std::net::{IpAddr, Ipv4Addr, Ipv6Addr};
 
@@ -82,6 +82,52 @@ impl Model {
         })
     }
 
+    /// The best routes of the networks of this one's family, ascending.
+    fn best(&self, net: Net) -> impl Iterator<Item = Route> + '_ {
+        let nets = self.0.keys().copied();
+        let nets = nets.filter(move |other| other.addr().is_ipv4() == net.addr().is_ipv4());
+        nets.map(|other| self.get(other).unwrap())
+    }
+
+    fn count(&self) -> Count {
+        let ipv4 = self.0.keys().filter(|net| net.addr().is_ipv4()).count();
+        let ipv6 = self.0.len() - ipv4;
+        Count { ipv4, ipv6 }
+    }
+
+    /// All routes of the network, best first.
+    fn all(&self, net: Net) -> Vec<Route> {
+        let mut routes: Vec<_> = self.0.get(&net).into_iter().flatten().collect();
+        routes.sort_by_key(|&(&hop, &preference)| (u16::MAX - preference, hop));
+        let route = |(&hop, &preference)| Route {
+            net,
+            hop,
+            preference,
+        };
+        routes.into_iter().map(route).collect()
+    }
+
+    /// The blocks of a block of a root that no network strictly inside `net` meets, with the hop of
+    /// the match of `net`.
+    fn governed(&self, net: Net, root: (IpAddr, u8), index: u32, size: u32) -> Vec<Route> {
+        let block = self::net(root, index, size);
+        let mut inner = self
+            .0
+            .keys()
+            .filter(|other| is_inside(**other, net) && **other != net);
+        if inner.clone().any(|other| is_inside(block, *other)) {
+            return Vec::new();
+        }
+        if !inner.any(|other| is_inside(*other, block)) {
+            let hop = self.get(net).map_or(Hop::Drop, |route| route.hop);
+            return vec![route_of(block, hop)];
+        }
+        let half = size / 2;
+        let mut blocks = self.governed(net, root, index, half);
+        blocks.extend(self.governed(net, root, index + half, half));
+        blocks
+    }
+
     /// The flat list of a block of a root.
     fn flat(&self, root: (IpAddr, u8), index: u32, size: u32) -> Vec<Piece> {
         let block = net(root, index, size);
@@ -105,6 +151,85 @@ impl Model {
             _ => pieces,
         }
     }
+}
+
+fn is_inside(inner: Net, outer: Net) -> bool {
+    outer.prefix_len() <= inner.prefix_len() && outer.contains(inner.addr())
+}
+
+/// A route of the preference that lists of blocks have.
+fn route_of(net: Net, hop: Hop) -> Route {
+    Route {
+        net,
+        hop,
+        preference: PREFERENCE,
+    }
+}
+
+/// The lists, the look-ups of many addresses and an index say what the model says.
+fn compare(random: &mut Random, table: &Table, model: &Model) {
+    let root = ROOTS[random.below(2) as usize];
+    let size = 1 << random.below(5);
+    let index = random.below(SIZE) / size * size;
+    let (net, limit) = (net(root, index, size), random.below(6) as usize);
+    let best = |wanted: &dyn Fn(Net) -> bool, limit| -> Vec<Route> {
+        let routes = model.best(net).filter(|route| wanted(route.net));
+        routes.take(limit).collect()
+    };
+    let all = usize::MAX;
+    assert_eq!(
+        table.list(net),
+        Ok(best(&|other| is_inside(other, net), all))
+    );
+    assert_eq!(
+        table.cover(net),
+        Ok(best(&|other| is_inside(net, other), all))
+    );
+    assert_eq!(
+        table.page_from(net, limit),
+        Ok(best(&|other| other >= net, limit))
+    );
+    assert_eq!(
+        table.page_after(net, limit),
+        Ok(best(&|other| other > net, limit))
+    );
+    assert_eq!(table.all(net), Ok(model.all(net)));
+    assert_eq!(
+        table.governed(net),
+        Ok(model.governed(net, root, index, size))
+    );
+    assert_eq!(table.count(), model.count());
+    for hop in 0..9 {
+        let pieces = table.flat().unwrap().into_iter();
+        let own = pieces.filter(|piece| piece.hop == hop);
+        let own = own.map(|piece| route_of(piece.net, Hop::Number(hop)));
+        assert_eq!(table.own(hop), Ok(own.collect()));
+    }
+    let addrs: Vec<_> = (0..40)
+        .map(|_| addr(ROOTS[random.below(2) as usize], random.below(SIZE)))
+        .collect();
+    let host = |addr: &IpAddr| Net::new(*addr, if addr.is_ipv4() { 32 } else { 128 }).unwrap();
+    let found: Vec<_> = addrs
+        .iter()
+        .map(|addr| model.get(host(addr)).map(|route| route.hop))
+        .collect();
+    assert_eq!(table.hops(&addrs), found);
+    let hops: Vec<_> = addrs.iter().map(|addr| model.hop(host(addr))).collect();
+    let index = Index::new(table).unwrap();
+    assert_eq!(index.hops(&addrs), hops);
+    assert_eq!(index.hop(addrs[0]), hops[0]);
+    let mut least = Model::default();
+    for route in table.least().unwrap() {
+        least.add(route.net, route.hop, route.preference).unwrap();
+    }
+    assert!(least.0.len() <= model.0.len());
+    assert_eq!(
+        addrs
+            .iter()
+            .map(|addr| least.hop(host(addr)))
+            .collect::<Vec<_>>(),
+        hops
+    );
 }
 
 fn is_half(piece: Piece, block: Net) -> bool {
@@ -162,9 +287,41 @@ fn random_turns() {
         if turn % 20 == 0 {
             let pieces = ROOTS.iter().flat_map(|&root| model.flat(root, 0, SIZE));
             assert_eq!(table.flat().unwrap(), pieces.collect::<Vec<_>>());
+            compare(&mut random, &table, &model);
         }
     }
     assert!(full > 0, "no network was full");
+}
+
+#[test]
+fn an_index_is_a_copy() {
+    let mut table = Table::new().unwrap();
+    let net = "10.0.0.0/8".parse().unwrap();
+    let addr = Ipv4Addr::new(10, 0, 0, 1);
+    table.add(net, Hop::Number(1), PREFERENCE).unwrap();
+    let index = Index::new(&table).unwrap();
+    table.add(net, Hop::Number(2), 200).unwrap();
+    assert_eq!((index.hop(addr), index.hop([0; 16])), (Some(1), None));
+    assert_eq!(table.hops(&[addr.into()]), [Some(Hop::Number(2))]);
+    drop(table);
+    assert_eq!(index.hop(addr), Some(1));
+}
+
+/// A list that is longer than what is copied at once.
+#[test]
+fn a_long_list() {
+    let mut table = Table::new().unwrap();
+    for part in 0..1000_u32 {
+        let addr = Ipv4Addr::from(0x0a00_0000 | part << 8);
+        table
+            .add(Net::new(addr, 24).unwrap(), Hop::Number(part), 1)
+            .unwrap();
+    }
+    let routes = table.list(Net::new([0; 4], 0).unwrap()).unwrap();
+    assert!(routes
+        .iter()
+        .map(|route| route.hop)
+        .eq((0..1000).map(Hop::Number)));
 }
 
 #[test]

@@ -13,7 +13,6 @@ use Rattle.std.specs.Global.{Global}
 use Rattle.std_heap.specs.contracts.Global.{the_row as G, the_field, the_type as global-declared}
 use Rattle.std_heap.proofs.Global.TheLaws as global
 use Rattle.routes_c.specs.contracts.held.Held.{the_type, the_row as held-row}
-use Rattle.routes_c.specs.contracts.session.Session.{the_row as S}
 use Rattle.routes_c.specs.contracts.loose.Loose as loose
 use Rattle.routes_c.specs.declared.held.Held.{Held}
 use Rattle.std_alloc.specs.contracts.boxed.Box as box

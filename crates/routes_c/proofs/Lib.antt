@@ -1,2 +1,4 @@
 pub mod HeldFields
+pub mod IndexHeldFields
+pub mod Pages
 pub mod Steps

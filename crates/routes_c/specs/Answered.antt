@@ -12,7 +12,7 @@ reply_in None = []
 reply_in (Some s) = s.reply.items
 
 -- the line is one step of a leader, where its command may be refused for want of memory: at 0 the printed reply is kept, at 2 a
--- beginning of it. The table is the one after the step, and the list stays
+-- beginning of it. The table is the one after the step, and the lists stay
 pub record Answered (s t : Session) (line : List ℕ) (code : ℕ) : Type 0 where
   pub refused : Bool
   pub cut : List ℕ
@@ -20,4 +20,5 @@ pub record Answered (s t : Session) (line : List ℕ) (code : ℕ) : Type 0 wher
   pub whole : code ≡ 0 → cut ≡ []
   pub reply : printed (turn_lines (step s.table (command_in (line_of line)) refused)) ≡ t.reply.items ++ cut
   pub table : t.table ≡ (step s.table (command_in (line_of line)) refused).next
-  pub list : t.pieces ≡ s.pieces
+  pub pieces : t.pieces ≡ s.pieces
+  pub routes : t.routes ≡ s.routes

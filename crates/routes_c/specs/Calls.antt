@@ -1,5 +1,5 @@
 -- What the calls of C do, by the number that they answer.
-use Rattle.std.specs.Prelude.{◌≡◌, ◌≢◌, ◌⊎◌, ◌↔◌, ℕ, Bool, true, false, List, [], Option, None, Some}
+use Rattle.std.specs.Prelude.{◌≡◌, ◌≢◌, ◌⊎◌, ℕ, true, false, List, []}
 use Rattle.ipnet_blocks.specs.Blocks.{Block}
 use Rattle.route_choices.specs.declared.hop.Hop.{Hop}
 use Rattle.route_choices.specs.Choices.{holds_hop, is_one_too_many}
@@ -9,9 +9,9 @@ use Rattle.routes_c.specs.Shown.{number_shown}
 use Rattle.routes_c.specs.declared.session.Session.{Session}
 use Rattle.routes_c.specs.declared.shown.Change.{Change}
 
--- the reply and the list that are kept stay
+-- the reply and the lists that are kept stay
 abbrev pub KeepsLists : Session → Session → Type 0
-KeepsLists s t = (t.reply ≡ s.reply) × (t.pieces ≡ s.pieces)
+KeepsLists s t = (t.reply ≡ s.reply) × (t.pieces ≡ s.pieces) × (t.routes ≡ s.routes)
 
 -- what a change tells: the hops of the addresses that the network governs, before and after
 pub record Tells (T U : List Stored) (b : Block) (change : Change) : Type 0 where

@@ -1,5 +1,5 @@
 -- A handle as C passes it, and what it has.
-use Rattle.std.specs.Prelude.{◌≡◌, Option, None, Some, is_some, IfSome, MatchOption}
+use Rattle.std.specs.Prelude.{◌≡◌, Option, None, is_some, IfSome, MatchOption}
 use Rattle.routes_c.specs.declared.handle.Handle.{Handle}
 use Rattle.routes_c.specs.declared.session.Session.{Session}
 

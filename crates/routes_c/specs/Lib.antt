@@ -2,6 +2,10 @@ pub mod Answered
 pub mod Calls
 pub mod Handles
 pub mod Held
+pub mod IndexHandles
+pub mod IndexHeld
 pub mod Lists
+pub mod Many
 pub mod Opens
+pub mod RouteLists
 pub mod Shown

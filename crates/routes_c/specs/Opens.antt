@@ -1,5 +1,5 @@
 -- What `routes_open` does.
-use Rattle.std.specs.Prelude.{◌≡◌, ◌⊎◌, ℕ, [], Option, None, Some}
+use Rattle.std.specs.Prelude.{◌≡◌, ℕ, [], Option, None, Some}
 use Rattle.routes_c.specs.declared.session.Session.{Session}
 
 -- a new table
@@ -7,6 +7,7 @@ pub record IsNew (s : Session) : Type 0 where
   pub table : s.table ≡ []
   pub reply : s.reply.items ≡ []
   pub pieces : s.pieces.items ≡ []
+  pub routes : s.routes.items ≡ []
 
 -- an open handle stays as it was, with 4; a closed one has a new table, with 0, or stays closed, with 2
 abbrev pub Opens : Option Session → Option Session → ℕ → Type 0

@@ -23,6 +23,11 @@ abbrev pub number_shown : Option ℕ → ℕ
 number_shown None = 2 ^ 32
 number_shown (Some k) = k
 
+-- the hop of what a query answers, as one number: 2^32 for `drop`, and 2^33 where there is none
+abbrev pub match_shown : Option (IpNet × Hop × ℕ) → ℕ
+match_shown None = 2 ^ 33
+match_shown (Some f) = hop_shown f.1
+
 -- the route: the address of an IPv6 network in two halves
 abbrev pub shown : IpNet → Hop → ℕ → Route
 shown (V4 n) k p = record { high = 0; low = n.number; hop = hop_shown k; pref = p; family = 4; len = n.len }

@@ -3,12 +3,20 @@
 //! include/routes.h has the C declarations. Nothing checks a C caller: it owes each `requires`, and what the types say.
 #![tactic(auto)]
 
+pub mod asked;
 pub mod change;
+pub mod count;
 pub mod handle;
 mod held;
+pub mod index_handle;
+mod index_held;
+pub mod index_hops;
+pub mod index_session;
 pub mod lines;
 pub mod lists;
 mod loose;
+pub mod many;
 pub mod matches;
+pub mod route_lists;
 pub mod session;
 pub mod shown;

@@ -8,20 +8,23 @@ ghost use Rattle.route_laws.specs.Tables.{hop_at, item_of, match_of};
 ghost use Rattle.routes_c.specs.Answered.{Answered};
 ghost use Rattle.routes_c.specs.Calls.{Adds, KeepsLists, Removes};
 ghost use Rattle.routes_c.specs.Lists.{Lists, PieceAt};
+ghost use Rattle.routes_c.specs.RouteLists.{AreAsked, Makes, RouteAt};
 ghost use Rattle.routes_c.specs.Shown.{piece_shown, Shows};
 
+use crate::asked::Asked;
 use crate::shown::{Change, Piece, Route, show, shown_change, shown_piece};
 use ipnet::IpNet;
 use route_feed::{Counted, lead_line};
 use route_table::{AddRefused, Flat, Hop, RouteTable};
 use std::alloc::{AllocError, Global};
 
-/// A table, the reply to the last line, and the list that was made last.
+/// A table, the reply to the last line, and the lists that were made last.
 #[derive(Drop)]
 pub struct Session {
     pub(crate) table: RouteTable,
     pub(crate) reply: Vec<u8>,
     pub(crate) pieces: Vec<Piece>,
+    pub(crate) routes: Vec<Route>,
 }
 
 /// Appends the pieces as C has them.
@@ -35,11 +38,11 @@ fn push_pieces(pieces: &mut Vec<Piece>, flat: Flat<'_>) -> Result<(), AllocError
 }
 
 /// Copies what stands from a place on, as far as there is room.
-fn copy_from(bytes: &[u8], from: usize, out: &mut [u8]) -> usize
-    ensures count { result ≡ min (length out.old) (length bytes.now - from) }
-    ensures copied { out.new ≡ take result (drop from bytes.now) ++ drop result out.old }
+fn copy_from<T: Copy>(items: &[T], from: usize, out: &mut [T]) -> usize
+    ensures count { result ≡ min (length out.old) (length items.now - from) }
+    ensures copied { out.new ≡ take result (drop from items.now) ++ drop result out.old }
 {
-    let left = &bytes[from.min(bytes.len())..];
+    let left = &items[from.min(items.len())..];
     let count = left.len().min(out.len());
     out[..count].copy_from_slice(&left[..count]);
     count
@@ -51,11 +54,13 @@ impl Session {
         ensures table { result.table ≡ table }
         ensures reply { result.reply.items ≡ [] }
         ensures pieces { result.pieces.items ≡ [] }
+        ensures routes { result.routes.items ≡ [] }
     {
         Session {
             table,
             reply: Vec::new(alloc),
             pieces: Vec::new(alloc),
+            routes: Vec::new(alloc),
         }
     }
 
@@ -128,6 +133,40 @@ impl Session {
             }
             Err(_) => 2,
         }
+    }
+
+    /// Makes the list of routes that is asked for.
+    pub(crate) fn list(&mut self, alloc: Global, asked: Asked) -> u32
+        ensures { Makes self.old self.new (AreAsked asked self.old.table) result }
+    {
+        match asked.list(alloc, &self.table) {
+            Ok(routes) => {
+                self.routes = routes;
+                0
+            }
+            Err(_) => 2,
+        }
+    }
+
+    /// The route at an index.
+    pub(crate) fn route_at(&self, index: usize, route: &mut Route) -> u32
+        ensures { RouteAt (slice_get self.now.routes.items index) result route.old route.new }
+    {
+        match self.routes.get(index) {
+            Some(found) => {
+                *route = *found;
+                0
+            }
+            None => 1,
+        }
+    }
+
+    /// Copies the list of routes from an index on.
+    pub(crate) fn read(&self, from: usize, out: &mut [Route]) -> usize
+        ensures count { result ≡ min (length out.old) (length self.now.routes.items - from) }
+        ensures copied { out.new ≡ take result (drop from self.now.routes.items) ++ drop result out.old }
+    {
+        copy_from(self.routes.as_slice(), from, out)
     }
 
     /// The piece at an index.

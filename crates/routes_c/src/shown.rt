@@ -1,16 +1,19 @@
 //! Networks, hops and routes as C has them.
 ghost use Rattle.std.specs.Prelude.{◌≡◌, ◌+◌, ◌*◌, ◌^◌, ◌≤◌, ◌↔◌, IsSome, IfSome};
+ghost use Rattle.ipnet_addr.specs.Addresses.{Ipv4, Ipv6, address_of};
 ghost use Rattle.ipnet.specs.declared.ip_net.IpNet.TheVariants.{V4, V6};
 ghost use Rattle.ipnet.specs.IpNets.{block, network_at};
-ghost use Rattle.routes_c.specs.Shown.{hop_from, hop_shown, number_shown, piece_shown, shown, Shows};
+ghost use Rattle.route_laws.specs.Tables.{route_of};
+ghost use Rattle.routes_c.specs.RouteLists.{route_shown};
+ghost use Rattle.routes_c.specs.Shown.{hop_from, hop_shown, match_shown, number_shown, piece_shown, shown, Shows};
 
-use ipnet::{IpNet, Ipv4Net, Ipv6Net};
+use ipnet::{IpAddr, IpNet, Ipv4Net, Ipv6Net};
 use ipnet_addr::bits::{ipv4_of, ipv6_of};
 use route_table::Hop;
 
 /// A route: its network, its hop (2^32 is `drop`) and its preference.
 #[repr(C)]
-#[derive(Drop)]
+#[derive(Clone, Copy)]
 pub struct Route {
     pub high: u64,
     pub low: u64,
@@ -39,11 +42,36 @@ pub struct Piece {
     pub len: u8,
 }
 
+/// An IPv6 address: its upper and its lower half.
+#[repr(C)]
+#[derive(Clone, Copy)]
+pub struct Addr6 {
+    pub high: u64,
+    pub low: u64,
+}
+
 /// 2^64: an IPv6 address is two numbers below it.
 const HALF: u128 = 18_446_744_073_709_551_616;
 
 /// The number for `drop`, and for no hop.
 const NONE: u64 = 4_294_967_296;
+
+/// The number for no match, where many are looked up.
+const NO_MATCH: u64 = 8_589_934_592;
+
+/// The IPv4 address of a number.
+pub(crate) fn ip4(addr: u32) -> IpAddr
+    ensures { address_of result ≡ record { family = Ipv4; number = addr } }
+{
+    IpAddr::V4(ipv4_of(addr))
+}
+
+/// The IPv6 address of two halves.
+pub(crate) fn ip6(high: u64, low: u64) -> IpAddr
+    ensures { address_of result ≡ record { family = Ipv6; number = high * 2 ^ 64 + low } }
+{
+    IpAddr::V6(ipv6_of(high as u128 * HALF + low as u128))
+}
 
 /// The IPv4 network of an address, if the length is one.
 pub(crate) fn net4(addr: u32, len: u8) -> Option<IpNet>
@@ -89,7 +117,7 @@ fn shown_hop(hop: Hop) -> u64
 }
 
 /// The number of a hop, or 2^32 for none.
-fn shown_number(hop: Option<u32>) -> u64
+pub(crate) fn shown_number(hop: Option<u32>) -> u64
     ensures { result ≡ number_shown hop }
 {
     match hop {
@@ -137,6 +165,13 @@ fn shown_route(net: IpNet, hop: Hop, pref: u16) -> Route
     }
 }
 
+/// A route of a network as C has it; host bits do not count.
+pub(crate) fn shown_at(net: &IpNet, hop: Hop, pref: u16) -> Route
+    ensures { result ≡ route_shown (route_of net.now hop pref) }
+{
+    shown_route(net.trunc(), hop, pref)
+}
+
 /// What `get` answers, as C has it.
 pub(crate) fn show(found: Option<(IpNet, Hop, u16)>, route: &mut Route) -> u32
     ensures { Shows found result route.old route.new }
@@ -147,6 +182,16 @@ pub(crate) fn show(found: Option<(IpNet, Hop, u16)>, route: &mut Route) -> u32
             0
         }
         None => 1,
+    }
+}
+
+/// The hop that `get` answers, as one number.
+pub(crate) fn shown_match(found: Option<(IpNet, Hop, u16)>) -> u64
+    ensures { result ≡ match_shown found }
+{
+    match found {
+        Some((_, hop, _)) => shown_hop(hop),
+        None => NO_MATCH,
     }
 }
 

@@ -1,13 +1,12 @@
 -- The box made again: the call takes the block that the parts own.
-use Rattle.routes_c.proofs.Steps.{◌≡◌, [], ◌∷◌, refl, sym, proved, full_share, ftrue, flft, id⊢, tables, fact, Val, ‵, raw, ◌⊛◌, some, later, at_ret, ◌$◌, ◌∵◌, !, qed, move, keep, drop, use1, use2, done, join, split, fsplit, fjoin, pick, await, suffices, enter, of_opd, fld, stop, and_then, no_more, blocks, first, exec, returns, alloc_all, pass_all, free_all, look_at, get, get_in, sets, lands_last, env, whole, sub, RawPtr, rawptr_Makes, rawptr_Lawful, ptr_val, plain, nothing, owned, heard, peeks, shows, lasts, Is, Stays, walk_of, says, stay_dropped, Goes-dropped, ends_at, calls_at_last, triple_of, framed, lft_new}
-use Rattle.routes_c.proofs.HeldFields.{Box-row, Loose-row, allocator_is, allocator_made, allocator_typed, box_tells, box_typed, box_vals, loose_tells, loose_typed, loose_vals}
+use Rattle.routes_c.proofs.Steps.{◌≡◌, [], ◌∷◌, refl, sym, proved, full_share, ftrue, flft, id⊢, tables, fact, ‵, raw, ◌⊛◌, some, later, at_ret, ◌$◌, ◌∵◌, !, qed, move, keep, drop, use1, use2, done, join, split, fsplit, pick, await, suffices, enter, of_opd, fld, stop, and_then, no_more, blocks, first, exec, returns, alloc_all, pass_all, free_all, look_at, get, get_in, sets, lands_last, env, whole, sub, RawPtr, rawptr_Makes, rawptr_Lawful, ptr_val, plain, nothing, owned, heard, peeks, shows, lasts, Is, Stays, walk_of, says, stay_dropped, Goes-dropped, ends_at, calls_at_last, triple_of, framed, lft_new}
+use Rattle.routes_c.proofs.HeldFields.{Box-row, Loose-row, allocator_is, allocator_made, allocator_typed, box_tells, box_typed, loose_tells, loose_typed, loose_vals}
 use denote.Exit.{no}
 use denote.Laws.{Typed}
 use denote.Param.{layout, arg}
 use denote.Param.Laws.{arg_laws}
 use denote.Param.NoDrop.{glues, function}
 use denote.RattleType.{RattleType}
-use denote.Signature.{type_at}
 use denote.Triple.Clauses.{Lasts}
 use contract.BorrowLft.{◌⊑◌}
 use contract.Monad.{fact_i}
@@ -18,7 +17,6 @@ use mir.Syntax.{impl, tcons, tnil, Dict, dnil}
 use prog.Routine.{Env}
 use prog.Wired.{Wired, node, end}
 use Rattle.std.proofs.Common.{subst}
-use Rattle.std.specs.Box.Ownership.{box_owns}
 use Rattle.routes_c.specs.contracts.loose.Loose.into_box as f
 use Rattle.routes_c.proofs.loose.Loose.into_box.Statement.{statement}
 use Rattle.routes_c.proofs.loose.Loose.into_box.Code as code

@@ -1,5 +1,5 @@
 -- A box taken apart: the call hands over the block.
-use Rattle.routes_c.proofs.Steps.{◌≡◌, [], ◌∷◌, refl, proved, full_share, ftrue, flft, id⊢, tables, fact, Val, ‵, raw, ◌⊛◌, some, later, at_ret, ◌$◌, ◌∵◌, !, qed, move, keep, drop, use1, use2, done, join, split, fsplit, fjoin, feq_l, pick, await, suffices, enter, of_opd, fld, stop, and_then, no_more, returns, alloc_all, pass_all, free_all, look_at, get, get_in, sets, lands_as, agg, whole, sub, plain, nothing, owned, heard, Is, Stays, walk_of, says, stay_dropped, Goes-dropped, ends_at, to, calls_at, triple_of, framed, lft_new, facts, shows, only, lasts, rewrite, rawptr_Lawful, ptr_val, ap, sym, ◌∙◌, ◌++◌}
+use Rattle.routes_c.proofs.Steps.{◌≡◌, [], ◌∷◌, refl, proved, full_share, ftrue, flft, id⊢, tables, fact, ‵, raw, ◌⊛◌, some, later, ◌$◌, ◌∵◌, !, qed, move, keep, drop, use1, use2, done, join, split, fjoin, pick, await, suffices, enter, of_opd, fld, stop, and_then, no_more, returns, alloc_all, pass_all, free_all, look_at, get, get_in, sets, lands_as, agg, whole, sub, plain, nothing, owned, heard, Is, Stays, walk_of, says, stay_dropped, Goes-dropped, ends_at, to, calls_at, triple_of, framed, lft_new, facts, shows, only, lasts, rewrite, rawptr_Lawful, ptr_val, ap, sym, ◌∙◌, ◌++◌}
 use Rattle.routes_c.proofs.HeldFields.{Box-row, LooseFields, Loose-row, allocator_typed, box_vals, box_tells, box_typed, loose_fields_are, loose_fields_made, loose_typed, loose_vals}
 use denote.Exit.{no}
 use mir.Raw.{raw as raw_type}

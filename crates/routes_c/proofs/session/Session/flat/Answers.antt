@@ -13,4 +13,5 @@ returns-in-Ok c =
       no_memory = λ e. absurd (omega (arith, e));
       table = refl;
       reply = refl;
+      routes = refl;
     }

@@ -1,0 +1,89 @@
+use crate::many::answers;
+use crate::table::{check, halves, number};
+use crate::{raw, Error, Table};
+use std::cell::UnsafeCell;
+use std::fmt;
+use std::net::IpAddr;
+
+/// The hop of each address, as a table had it when the index was made: a copy, which no later change
+/// of the table reaches. Its look-ups are faster than the table's.
+///
+/// An index stays on its thread, as a table does.
+pub struct Index {
+    /// As that of a table.
+    raw: Box<UnsafeCell<raw::Index>>,
+}
+
+impl Index {
+    /// The hops that the table has now.
+    ///
+    /// # Errors
+    /// `NoMemory`.
+    pub fn new(table: &Table) -> Result<Index, Error> {
+        let raw = Box::new(UnsafeCell::new(raw::Index::CLOSED));
+        let index = Index { raw };
+        // SAFETY: the index is closed, and ours alone; the table is as its `raw` says.
+        check(unsafe { raw::routes_index_open(index.raw.get(), table.raw.get()) })?;
+        Ok(index)
+    }
+
+    /// The hop of the address; `None` where it had no route, or a null route.
+    pub fn hop(&self, addr: impl Into<IpAddr>) -> Option<u32> {
+        let mut hop = 0;
+        // SAFETY: the index is as `raw` says, and `hop` is ours.
+        let code = unsafe {
+            match addr.into() {
+                IpAddr::V4(addr) => raw::routes_index_hop4(self.raw.get(), addr.into(), &mut hop),
+                IpAddr::V6(addr) => {
+                    let (high, low) = halves(addr);
+                    raw::routes_index_hop6(self.raw.get(), high, low, &mut hop)
+                }
+            }
+        };
+        check(code).expect("a look-up takes no memory");
+        number(hop)
+    }
+
+    /// The hops of the addresses. The library is called twice.
+    pub fn hops(&self, addrs: &[IpAddr]) -> Vec<Option<u32>> {
+        let index = self.raw.get();
+        // SAFETY: the index is as `raw` says, and the slices are ours.
+        let hops = answers(
+            addrs,
+            |addrs, hops| unsafe {
+                let (from, to) = (addrs.as_ptr(), hops.as_mut_ptr());
+                check(raw::routes_index_hop4_many(
+                    index,
+                    from,
+                    addrs.len(),
+                    to,
+                    hops.len(),
+                ))
+            },
+            |addrs, hops| unsafe {
+                let (from, to) = (addrs.as_ptr(), hops.as_mut_ptr());
+                check(raw::routes_index_hop6_many(
+                    index,
+                    from,
+                    addrs.len(),
+                    to,
+                    hops.len(),
+                ))
+            },
+        );
+        hops.into_iter().map(number).collect()
+    }
+}
+
+impl Drop for Index {
+    fn drop(&mut self) {
+        // SAFETY: the index is as `raw` says.
+        unsafe { raw::routes_index_close(self.raw.get_mut()) }
+    }
+}
+
+impl fmt::Debug for Index {
+    fn fmt(&self, f: &mut fmt::Formatter<'_>) -> fmt::Result {
+        f.debug_struct("Index").finish_non_exhaustive()
+    }
+}

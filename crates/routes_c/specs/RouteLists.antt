@@ -1,0 +1,77 @@
+-- The list of routes that a handle keeps.
+use Rattle.std.specs.Prelude.{◌≡◌, ◌==◌, ◌⊎◌, ℕ, List, [], Option, None, Some, filter, map, take}
+use Rattle.ipnet.specs.IpNets.{block, network_at}
+use Rattle.ipnet_blocks.specs.Blocks.{Block}
+use Rattle.ipnet_blocks.specs.Maximal.{IsMaximal}
+use Rattle.route_choices.specs.Choices.{default_preference}
+use Rattle.route_choices.specs.declared.hop.Hop.{Hop}
+use Rattle.route_choices.specs.declared.hop.Hop.TheVariants.{Number, Drop}
+use Rattle.route_laws.specs.Flats.{blocks_of, flat_of}
+use Rattle.route_laws.specs.LeastTables.{IsLeast}
+use Rattle.route_laws.specs.Networks.{Stored, choices_at, routes_of}
+use Rattle.route_laws.specs.Onwards.{routes_after, routes_from}
+use Rattle.route_laws.specs.Tables.{Governed, Route as TableRoute, covering, hop_at, match_of, routes_inside}
+use Rattle.routes_c.specs.Shown.{shown}
+use Rattle.routes_c.specs.declared.asked.Asked.{Asked}
+use Rattle.routes_c.specs.declared.asked.Asked.TheVariants as ask
+use Rattle.routes_c.specs.declared.session.Session.{Session}
+use Rattle.routes_c.specs.declared.shown.Route.{Route}
+
+-- a route as C has it
+abbrev pub route_shown : TableRoute → Route
+route_shown r = shown (network_at r.block) r.hop r.pref
+
+-- these are routes of which the property holds, in their order
+abbrev pub Shown : (List TableRoute → Type 0) → List Route → Type 0
+Shown P items = (rs : List TableRoute) × P rs × (items ≡ map route_shown rs)
+
+-- at 0 the list of routes has just routes of which the property holds, in their order; at 2 it is as it was. All else stays
+pub record Makes (s t : Session) (P : List TableRoute → Type 0) (code : ℕ) : Type 0 where
+  pub answers : (code ≡ 0) ⊎ (code ≡ 2)
+  pub made : code ≡ 0 → Shown P t.routes.items
+  pub no_memory : code ≡ 2 → t.routes ≡ s.routes
+  pub table : t.table ≡ s.table
+  pub reply : t.reply ≡ s.reply
+  pub pieces : t.pieces ≡ s.pieces
+
+-- all routes of a network, best first
+abbrev pub all_routes : List Stored → Block → List TableRoute
+all_routes T b = map (λ c. record { block = b; hop = c.hop; pref = c.pref }) (choices_at T b)
+
+-- a route of the default preference
+abbrev pub default_route : Hop → Block → TableRoute
+default_route k b = record { block = b; hop = k; pref = default_preference }
+
+-- the blocks of the flat list with this number
+abbrev pub own_routes : List TableRoute → ℕ → List TableRoute
+own_routes M k = map (default_route (Number k)) (blocks_of (filter (λ p. p.number == k) (flat_of (hop_at M))))
+
+-- the hop of a match; `drop` where there is none
+abbrev pub hop_or_drop : Option TableRoute → Hop
+hop_or_drop None = Drop
+hop_or_drop (Some r) = r.hop
+
+-- the maximal blocks of the addresses that the network governs, each with the hop of its longest match
+abbrev pub AreGoverned : List TableRoute → Block → List TableRoute → Type 0
+AreGoverned M n rs = (bs : List Block) × IsMaximal (Governed M n) bs × (rs ≡ map (default_route (hop_or_drop (match_of M n))) bs)
+
+-- what is asked for
+abbrev pub AreAsked : Asked → List Stored → List TableRoute → Type 0
+AreAsked (ask.Inside n) T rs = rs ≡ routes_inside (routes_of T) (block n)
+AreAsked (ask.Cover n) T rs = rs ≡ covering (routes_of T) (block n)
+AreAsked (ask.From n limit) T rs = rs ≡ take limit (routes_from (routes_of T) (block n))
+AreAsked (ask.After n limit) T rs = rs ≡ take limit (routes_after (routes_of T) (block n))
+AreAsked (ask.All n) T rs = rs ≡ all_routes T (block n)
+AreAsked (ask.Governed n) T rs = AreGoverned (routes_of T) (block n) rs
+AreAsked (ask.Own k) T rs = rs ≡ own_routes (routes_of T) k
+AreAsked ask.Least T rs = IsLeast (hop_at (routes_of T)) rs
+
+-- 0 and the route; or 1 past the end, and the route stays as it was
+abbrev pub RouteAt : Option Route → ℕ → Route → Route → Type 0
+RouteAt None code old new = (code ≡ 1) × (new ≡ old)
+RouteAt (Some r) code old new = (code ≡ 0) × (new ≡ r)
+
+-- the list of routes that is kept
+abbrev pub routes_in : Option Session → List Route
+routes_in None = []
+routes_in (Some s) = s.routes.items

@@ -1,0 +1,9 @@
+//! What an open handle of an index has.
+
+use hop_index::HopIndex;
+
+/// An index.
+#[derive(Drop)]
+pub struct IndexSession {
+    pub(crate) index: HopIndex,
+}
