@@ -4,18 +4,22 @@ use crate::nets::network;
 use crate::show::{answer, begin, debug_line, end, refused};
 use crate::tables::shortened;
 use ipnet::IpNet;
-use route_table::{Hop, HopTable};
+use route_table::{Hop, HopTable, Refused};
 
 /// The calls of such tables, and those that take no memory.
 #[derive(Clone, Copy)]
 pub enum HopTableCall {
+    Install,
     Paint,
+    FromRoutes,
     Least,
     Free,
 }
 
-pub static SCENARIOS: [(&str, HopTableCall); 3] = [
+pub static SCENARIOS: [(&str, HopTableCall); 5] = [
+    ("hop-table-install", HopTableCall::Install),
     ("hop-table-paint", HopTableCall::Paint),
+    ("hop-table-from-routes", HopTableCall::FromRoutes),
     ("hop-table-least", HopTableCall::Least),
     ("free-hop-table", HopTableCall::Free),
 ];
@@ -30,7 +34,9 @@ fn run_over(rt: &HostRuntime, table: &mut HopTable, call: HopTableCall) -> Resul
     fill(table)?;
     show(rt, table)?;
     match call {
+        HopTableCall::Install => install(rt, table)?,
         HopTableCall::Paint => paint(rt, table)?,
+        HopTableCall::FromRoutes => from_routes(rt, table)?,
         HopTableCall::Least => least(rt, table)?,
         HopTableCall::Free => free(rt, table)?,
     }
@@ -65,16 +71,58 @@ fn show_block(rt: &HostRuntime, net: &IpNet, number: u32) -> Result<(), Fault> {
     Ok(())
 }
 
+/// A route of a network that isn't stored.
+fn install(rt: &HostRuntime, table: &mut HopTable) -> Result<(), Fault> {
+    let net = network("10.1.0.0/20")?;
+    begin(rt)?;
+    let outcome = table.install(net, Hop::Number(9));
+    changed(rt, &outcome)
+}
+
 /// Another hop for the addresses of a network that isn't stored.
 fn paint(rt: &HostRuntime, table: &mut HopTable) -> Result<(), Fault> {
     let net = network("10.1.2.0/24")?;
     begin(rt)?;
     let outcome = table.paint(net, Hop::Number(9));
+    changed(rt, &outcome)
+}
+
+/// Whether the table was changed.
+fn changed(rt: &HostRuntime, outcome: &Result<(), Refused>) -> Result<(), Fault> {
     end(rt)?;
     match outcome {
-        Ok(()) => answer(rt, &"painted"),
-        Err(error) => refused(rt, &error),
+        Ok(()) => answer(rt, &"changed"),
+        Err(error) => refused(rt, error),
     }
+}
+
+/// Another table, of the routes of a least one.
+fn from_routes(rt: &HostRuntime, table: &HopTable) -> Result<(), Fault> {
+    let list = table.least()?;
+    begin(rt)?;
+    let outcome = HopTable::from_routes(rt.alloc(), list.as_slice());
+    made(rt, &outcome)
+}
+
+/// The flat list of the other table, or that there is none.
+fn made(rt: &HostRuntime, outcome: &Result<HopTable, Refused>) -> Result<(), Fault> {
+    end(rt)?;
+    match outcome {
+        Ok(table) => answer_flat(rt, table),
+        Err(error) => refused(rt, error),
+    }
+}
+
+fn answer_flat(rt: &HostRuntime, table: &HopTable) -> Result<(), Fault> {
+    for (net, number) in table.flat() {
+        answer_block(rt, &net, number)?;
+    }
+    Ok(())
+}
+
+fn answer_block(rt: &HostRuntime, net: &IpNet, number: u32) -> Result<(), Fault> {
+    println!(rt; "answer {net} {number}")?;
+    Ok(())
 }
 
 fn least(rt: &HostRuntime, table: &HopTable) -> Result<(), Fault> {
@@ -83,16 +131,27 @@ fn least(rt: &HostRuntime, table: &HopTable) -> Result<(), Fault> {
     shortened(rt, &outcome)
 }
 
-/// A stored network, and one that the routes outside give the hop already; a look-up; the operations to a least table.
+/// A stored network, twice, and one that the routes outside give the hop already; a look-up; the operations to a least table,
+/// and those of a change.
 fn free(rt: &HostRuntime, table: &mut HopTable) -> Result<(), Fault> {
     let list = table.least()?;
     let (stored, handed) = (network("10.1.2.4/30")?, network("10.1.2.0/24")?);
     begin(rt)?;
+    debug_line(rt, &table.install(stored, Hop::Number(8)))?;
     debug_line(rt, &table.paint(stored, Hop::Number(7)))?;
     debug_line(rt, &table.paint(handed, Hop::Number(2)))?;
     debug_line(rt, &table.get(&stored))?;
     for operation in table.between(list.as_slice()) {
         debug_line(rt, &operation)?;
     }
+    repaint(rt, table, handed)?;
     end(rt)
+}
+
+/// The operations of a change of a network with another inside.
+fn repaint(rt: &HostRuntime, table: &HopTable, net: IpNet) -> Result<(), Fault> {
+    for operation in table.repaint(net, Hop::Number(9)) {
+        debug_line(rt, &operation)?;
+    }
+    Ok(())
 }

@@ -49,3 +49,150 @@ fn two_installs_and_a_removal(rt: HostRuntime) {
     next_is(&rt, &mut operations, Some(Operation::Remove { net: half }));
     next_is(&rt, &mut operations, None);
 }
+
+/// Networks of both families, one inside another.
+fn nested(rt: &impl Abort, alloc: Global) -> HopTable {
+    let changes = [
+        ("10.0.0.0/8", Hop::Number(1)),
+        ("10.0.0.0/9", Hop::Number(2)),
+        ("10.0.0.0/16", Hop::Number(1)),
+        ("2001:db8::/32", Hop::Number(1)),
+        ("2001:db8::/33", Hop::Number(2)),
+        ("2001:db8:4000::/34", Hop::Drop),
+    ];
+    painted(rt, alloc, &changes)
+}
+
+/// A change, whether its network is installed, and what is removed then.
+static REPAINTS: [(&str, Hop, bool, &[&str]); 13] = [
+    // handed down by the route outside: of a stored network, of one that isn't, and where there is no route
+    (
+        "10.0.0.0/9",
+        Hop::Number(1),
+        false,
+        &["10.0.0.0/9", "10.0.0.0/16"],
+    ),
+    ("10.128.0.0/9", Hop::Number(1), false, &[]),
+    ("11.0.0.0/8", Hop::Drop, false, &[]),
+    (
+        "2001:db8::/33",
+        Hop::Number(1),
+        false,
+        &["2001:db8::/33", "2001:db8:4000::/34"],
+    ),
+    // held already
+    ("10.0.0.0/9", Hop::Number(2), false, &["10.0.0.0/16"]),
+    ("10.0.0.0/16", Hop::Number(1), false, &[]),
+    ("2001:db8:4000::/34", Hop::Drop, false, &[]),
+    // another hop of a stored network, one of them `drop`, and one with host bits
+    ("10.0.0.0/9", Hop::Number(3), true, &["10.0.0.0/16"]),
+    (
+        "2001:db8::/32",
+        Hop::Drop,
+        false,
+        &["2001:db8::/32", "2001:db8::/33", "2001:db8:4000::/34"],
+    ),
+    ("2001:db8::1/33", Hop::Drop, true, &["2001:db8:4000::/34"]),
+    // of a network that isn't stored, between others, and outside all
+    ("10.0.0.0/12", Hop::Number(4), true, &["10.0.0.0/16"]),
+    (
+        "0.0.0.0/0",
+        Hop::Number(5),
+        true,
+        &["10.0.0.0/8", "10.0.0.0/9", "10.0.0.0/16"],
+    ),
+    (
+        "::/0",
+        Hop::Drop,
+        false,
+        &["2001:db8::/32", "2001:db8::/33", "2001:db8:4000::/34"],
+    ),
+];
+
+/// The operations of a change are these.
+fn repaints(
+    rt: &impl Abort,
+    table: &HopTable,
+    text: &str,
+    hop: Hop,
+    is_installed: bool,
+    removed: &[&str],
+) {
+    let changed = net(rt, text);
+    let mut operations = table.repaint(changed, hop);
+    if is_installed {
+        let net = changed.trunc();
+        assert!(rt;
+            operations.next() == Some(Operation::Install { net, hop }),
+            "{text}"
+        );
+    }
+    for inside in removed {
+        let net = net(rt, inside);
+        assert!(rt;
+            operations.next() == Some(Operation::Remove { net }),
+            "{text}"
+        );
+    }
+    assert!(rt; operations.next().is_none(), "{text}");
+}
+
+#[test]
+fn the_operations_of_a_change(rt: HostRuntime) {
+    let table = nested(&rt, rt.alloc());
+    for (text, hop, is_installed, removed) in REPAINTS {
+        repaints(&rt, &table, text, hop, is_installed, removed);
+    }
+}
+
+fn install(rt: &impl Abort, table: &mut HopTable, text: &str, hop: Hop) {
+    table.install(net(rt, text), hop).expect(rt, "memory");
+}
+
+/// The longest match of a network is this one, with this hop.
+fn matches(rt: &impl Abort, table: &HopTable, text: &str, wanted: &str, hop: Hop) {
+    let found = table.get(&net(rt, text));
+    assert!(rt; found == Some((net(rt, wanted), hop, 100)), "{text}");
+}
+
+#[test]
+fn what_is_inside_stays(rt: HostRuntime) {
+    let mut table = nested(&rt, rt.alloc());
+    install(&rt, &mut table, "10.0.0.0/12", Hop::Number(4));
+    install(&rt, &mut table, "10.0.0.0/9", Hop::Drop);
+    install(&rt, &mut table, "2001:db8::1/33", Hop::Number(5));
+    install(&rt, &mut table, "::/0", Hop::Number(6));
+    matches(&rt, &table, "10.1.0.0/16", "10.0.0.0/12", Hop::Number(4));
+    matches(&rt, &table, "10.0.0.0/16", "10.0.0.0/16", Hop::Number(1));
+    matches(&rt, &table, "10.64.0.0/10", "10.0.0.0/9", Hop::Drop);
+    matches(
+        &rt,
+        &table,
+        "2001:db8::/48",
+        "2001:db8::/33",
+        Hop::Number(5),
+    );
+    matches(
+        &rt,
+        &table,
+        "2001:db8:4000::/48",
+        "2001:db8:4000::/34",
+        Hop::Drop,
+    );
+    matches(&rt, &table, "2001:db9::/32", "::/0", Hop::Number(6));
+}
+
+/// A table of the routes of the least one has just these.
+fn is_rebuilt(rt: &impl Abort, alloc: Global, table: &HopTable) {
+    let list = table.least().expect(rt, "memory");
+    let copy = HopTable::from_routes(alloc, list.as_slice()).expect(rt, "memory");
+    assert!(rt; copy.between(list.as_slice()).next().is_none());
+}
+
+#[test]
+fn a_table_of_a_list(rt: HostRuntime) {
+    let table = nested(&rt, rt.alloc());
+    is_rebuilt(&rt, rt.alloc(), &table);
+    let table = HopTable::new(rt.alloc()).expect(&rt, "a table");
+    is_rebuilt(&rt, rt.alloc(), &table);
+}
