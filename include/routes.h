@@ -29,6 +29,7 @@
 extern "C" {
 #endif
 
+/* What a call that can fail answers. */
 enum routes_answer {
     ROUTES_OK = 0,
     ROUTES_MISSING = 1,   /* no network contains the address; the network has no such hop; the index is past the end */
