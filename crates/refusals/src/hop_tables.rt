@@ -28,13 +28,18 @@ pub fn run(rt: &HostRuntime, call: HopTableCall) -> Result<(), Fault> {
 
 fn run_over(rt: &HostRuntime, table: &mut HopTable, call: HopTableCall) -> Result<(), Fault> {
     fill(table)?;
-    show(rt, table)?;
+    show(rt, table);
+    call_table(rt, table, call)?;
+    show(rt, table);
+    Ok(())
+}
+
+fn call_table(rt: &HostRuntime, table: &mut HopTable, call: HopTableCall) -> Result<(), Fault> {
     match call {
-        HopTableCall::Paint => paint(rt, table)?,
-        HopTableCall::Least => least(rt, table)?,
-        HopTableCall::Free => free(rt, table)?,
+        HopTableCall::Paint => paint(rt, table),
+        HopTableCall::Least => least(rt, table),
+        HopTableCall::Free => free(rt, table),
     }
-    show(rt, table)
 }
 
 /// Networks of both families, some inside others.
@@ -53,16 +58,14 @@ fn fill(table: &mut HopTable) -> Result<(), Fault> {
 }
 
 /// The flat list.
-fn show(rt: &HostRuntime, table: &HopTable) -> Result<(), Fault> {
+fn show(rt: &HostRuntime, table: &HopTable) {
     for (net, number) in table.flat() {
-        show_block(rt, &net, number)?;
+        show_block(rt, &net, number);
     }
-    Ok(())
 }
 
-fn show_block(rt: &HostRuntime, net: &IpNet, number: u32) -> Result<(), Fault> {
-    println!(rt; "{net} {number}")?;
-    Ok(())
+fn show_block(rt: &HostRuntime, net: &IpNet, number: u32) {
+    let _ = println!(rt; "{net} {number}");
 }
 
 /// Another hop for the addresses of a network that isn't stored.
@@ -75,6 +78,7 @@ fn paint(rt: &HostRuntime, table: &mut HopTable) -> Result<(), Fault> {
         Ok(()) => answer(rt, &"painted"),
         Err(error) => refused(rt, &error),
     }
+    Ok(())
 }
 
 fn least(rt: &HostRuntime, table: &HopTable) -> Result<(), Fault> {
@@ -88,11 +92,11 @@ fn free(rt: &HostRuntime, table: &mut HopTable) -> Result<(), Fault> {
     let list = table.least()?;
     let (stored, handed) = (network("10.1.2.4/30")?, network("10.1.2.0/24")?);
     begin(rt)?;
-    debug_line(rt, &table.paint(stored, Hop::Number(7)))?;
-    debug_line(rt, &table.paint(handed, Hop::Number(2)))?;
-    debug_line(rt, &table.get(&stored))?;
+    debug_line(rt, &table.paint(stored, Hop::Number(7)));
+    debug_line(rt, &table.paint(handed, Hop::Number(2)));
+    debug_line(rt, &table.get(&stored));
     for operation in table.between(list.as_slice()) {
-        debug_line(rt, &operation)?;
+        debug_line(rt, &operation);
     }
     end(rt)
 }
