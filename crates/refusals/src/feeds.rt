@@ -45,7 +45,7 @@ pub fn run(rt: &HostRuntime, call: FeedCall) -> Result<(), Fault> {
 fn run_over(rt: &HostRuntime, call: FeedCall) -> Result<(), Fault> {
     let mut reader = Counted::new(rt.stdin());
     let mut writer = Counted::new(Vec::with_capacity(rt.alloc(), OUTPUT)?);
-    show_reads(rt, &reader)?;
+    show_reads(rt, &reader);
     begin(rt)?;
     let outcome = match call {
         FeedCall::Lead => lead(rt.alloc(), &mut reader, &mut writer),
@@ -53,7 +53,7 @@ fn run_over(rt: &HostRuntime, call: FeedCall) -> Result<(), Fault> {
         _ => shorten(rt.alloc(), &mut reader, &mut writer),
     };
     ended(rt, &outcome)?;
-    show_reads(rt, &reader)?;
+    show_reads(rt, &reader);
     write_kept(rt, &writer.into_inner())
 }
 
@@ -64,11 +64,11 @@ fn ended(rt: &HostRuntime, outcome: &Result<(), RunError>) -> Result<(), Fault> 
         Ok(()) => answer(rt, &"ended"),
         Err(error) => refused(rt, error),
     }
+    Ok(())
 }
 
-fn show_reads(rt: &HostRuntime, reader: &Counted<Stdin>) -> Result<(), Fault> {
-    println!(rt; "{} reads", reader.reads())?;
-    Ok(())
+fn show_reads(rt: &HostRuntime, reader: &Counted<Stdin>) {
+    let _ = println!(rt; "{} reads", reader.reads());
 }
 
 fn write_kept(rt: &HostRuntime, kept: &Vec<u8>) -> Result<(), Fault> {
@@ -84,8 +84,8 @@ fn make(rt: &HostRuntime) -> Result<(), Fault> {
 }
 
 fn made(rt: &HostRuntime, follower: &mut Follower) -> Result<(), Fault> {
-    show_next(rt, follower)?;
-    show_flat(rt, follower)?;
+    show_next(rt, follower);
+    show_flat(rt, follower);
     end(rt)
 }
 
@@ -124,35 +124,33 @@ fn followed(
 ) -> Result<(), Fault> {
     end(rt)?;
     match outcome {
-        Ok(()) => answer(rt, &"followed")?,
-        Err(error) => refused(rt, error)?,
+        Ok(()) => answer(rt, &"followed"),
+        Err(error) => refused(rt, error),
     }
-    show_next(rt, follower)?;
-    show_flat(rt, follower)
-}
-
-fn show_next(rt: &HostRuntime, follower: &mut Follower) -> Result<(), Fault> {
-    println!(rt; "then {:?}", follower.line(b"ok"))?;
+    show_next(rt, follower);
+    show_flat(rt, follower);
     Ok(())
 }
 
-fn show_flat(rt: &HostRuntime, follower: &Follower) -> Result<(), Fault> {
+fn show_next(rt: &HostRuntime, follower: &mut Follower) {
+    let _ = println!(rt; "then {:?}", follower.line(b"ok"));
+}
+
+fn show_flat(rt: &HostRuntime, follower: &Follower) {
     match follower.flat() {
         Some(blocks) => show_blocks(rt, blocks),
         None => line(rt, &"no flat list"),
     }
 }
 
-fn show_blocks(rt: &HostRuntime, blocks: Flat<'_>) -> Result<(), Fault> {
+fn show_blocks(rt: &HostRuntime, blocks: Flat<'_>) {
     for (block, number) in blocks {
-        show_block(rt, &block, number)?;
+        show_block(rt, &block, number);
     }
-    Ok(())
 }
 
-fn show_block(rt: &HostRuntime, block: &IpNet, number: u32) -> Result<(), Fault> {
-    println!(rt; "flat {block} {number}")?;
-    Ok(())
+fn show_block(rt: &HostRuntime, block: &IpNet, number: u32) {
+    let _ = println!(rt; "flat {block} {number}");
 }
 
 /// Bytes cut into lines, which are read.
@@ -161,17 +159,16 @@ fn cut(rt: &HostRuntime) -> Result<(), Fault> {
     begin(rt)?;
     for byte in b"add 10.0.0.0/8 1\nset 10.0.0.0/8 1\n\nflat\nadd 10.0.0.0/8 1 1000000\nok" {
         if let Some(Line::Text(text)) = cutter.feed(*byte) {
-            read(rt, text.as_slice())?;
+            read(rt, text.as_slice());
         }
     }
-    debug_line(rt, &cutter.rest())?;
+    debug_line(rt, &cutter.rest());
     end(rt)
 }
 
 /// The line as a command and as one of a reply.
-fn read(rt: &HostRuntime, text: &[u8]) -> Result<(), Fault> {
+fn read(rt: &HostRuntime, text: &[u8]) {
     let is_command = Command::read(text).is_ok();
     let is_reply = Reply::read(text).is_ok();
-    println!(rt; "{} bytes {is_command} {is_reply}", text.len())?;
-    Ok(())
+    let _ = println!(rt; "{} bytes {is_command} {is_reply}", text.len());
 }

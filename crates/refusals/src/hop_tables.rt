@@ -32,15 +32,20 @@ pub fn run(rt: &HostRuntime, call: HopTableCall) -> Result<(), Fault> {
 
 fn run_over(rt: &HostRuntime, table: &mut HopTable, call: HopTableCall) -> Result<(), Fault> {
     fill(table)?;
-    show(rt, table)?;
+    show(rt, table);
+    call_table(rt, table, call)?;
+    show(rt, table);
+    Ok(())
+}
+
+fn call_table(rt: &HostRuntime, table: &mut HopTable, call: HopTableCall) -> Result<(), Fault> {
     match call {
-        HopTableCall::Install => install(rt, table)?,
-        HopTableCall::Paint => paint(rt, table)?,
-        HopTableCall::FromRoutes => from_routes(rt, table)?,
-        HopTableCall::Least => least(rt, table)?,
-        HopTableCall::Free => free(rt, table)?,
+        HopTableCall::Install => install(rt, table),
+        HopTableCall::Paint => paint(rt, table),
+        HopTableCall::FromRoutes => from_routes(rt, table),
+        HopTableCall::Least => least(rt, table),
+        HopTableCall::Free => free(rt, table),
     }
-    show(rt, table)
 }
 
 /// Networks of both families, some inside others.
@@ -59,16 +64,14 @@ fn fill(table: &mut HopTable) -> Result<(), Fault> {
 }
 
 /// The flat list.
-fn show(rt: &HostRuntime, table: &HopTable) -> Result<(), Fault> {
+fn show(rt: &HostRuntime, table: &HopTable) {
     for (net, number) in table.flat() {
-        show_block(rt, &net, number)?;
+        show_block(rt, &net, number);
     }
-    Ok(())
 }
 
-fn show_block(rt: &HostRuntime, net: &IpNet, number: u32) -> Result<(), Fault> {
-    println!(rt; "{net} {number}")?;
-    Ok(())
+fn show_block(rt: &HostRuntime, net: &IpNet, number: u32) {
+    let _ = println!(rt; "{net} {number}");
 }
 
 /// A route of a network that isn't stored.
@@ -94,6 +97,7 @@ fn changed(rt: &HostRuntime, outcome: &Result<(), Refused>) -> Result<(), Fault>
         Ok(()) => answer(rt, &"changed"),
         Err(error) => refused(rt, error),
     }
+    Ok(())
 }
 
 /// Another table, of the routes of a least one.
@@ -111,18 +115,17 @@ fn made(rt: &HostRuntime, outcome: &Result<HopTable, Refused>) -> Result<(), Fau
         Ok(table) => answer_flat(rt, table),
         Err(error) => refused(rt, error),
     }
+    Ok(())
 }
 
-fn answer_flat(rt: &HostRuntime, table: &HopTable) -> Result<(), Fault> {
+fn answer_flat(rt: &HostRuntime, table: &HopTable) {
     for (net, number) in table.flat() {
-        answer_block(rt, &net, number)?;
+        answer_block(rt, &net, number);
     }
-    Ok(())
 }
 
-fn answer_block(rt: &HostRuntime, net: &IpNet, number: u32) -> Result<(), Fault> {
-    println!(rt; "answer {net} {number}")?;
-    Ok(())
+fn answer_block(rt: &HostRuntime, net: &IpNet, number: u32) {
+    let _ = println!(rt; "answer {net} {number}");
 }
 
 fn least(rt: &HostRuntime, table: &HopTable) -> Result<(), Fault> {
@@ -137,21 +140,20 @@ fn free(rt: &HostRuntime, table: &mut HopTable) -> Result<(), Fault> {
     let list = table.least()?;
     let (stored, handed) = (network("10.1.2.4/30")?, network("10.1.2.0/24")?);
     begin(rt)?;
-    debug_line(rt, &table.install(stored, Hop::Number(8)))?;
-    debug_line(rt, &table.paint(stored, Hop::Number(7)))?;
-    debug_line(rt, &table.paint(handed, Hop::Number(2)))?;
-    debug_line(rt, &table.get(&stored))?;
+    debug_line(rt, &table.install(stored, Hop::Number(8)));
+    debug_line(rt, &table.paint(stored, Hop::Number(7)));
+    debug_line(rt, &table.paint(handed, Hop::Number(2)));
+    debug_line(rt, &table.get(&stored));
     for operation in table.between(list.as_slice()) {
-        debug_line(rt, &operation)?;
+        debug_line(rt, &operation);
     }
-    repaint(rt, table, handed)?;
+    repaint(rt, table, handed);
     end(rt)
 }
 
 /// The operations of a change of a network with another inside.
-fn repaint(rt: &HostRuntime, table: &HopTable, net: IpNet) -> Result<(), Fault> {
+fn repaint(rt: &HostRuntime, table: &HopTable, net: IpNet) {
     for operation in table.repaint(net, Hop::Number(9)) {
-        debug_line(rt, &operation)?;
+        debug_line(rt, &operation);
     }
-    Ok(())
 }

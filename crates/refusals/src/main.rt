@@ -42,20 +42,19 @@ fn named<C: Copy>(scenarios: &[(&'static str, C)], name: &str) -> Option<C> {
 }
 
 /// Writes the names.
-fn list<C>(rt: &HostRuntime, scenarios: &[(&'static str, C)]) -> Result<(), Fault> {
+fn list<C>(rt: &HostRuntime, scenarios: &[(&'static str, C)]) {
     for (name, _) in scenarios {
-        line(rt, name)?;
+        line(rt, name);
     }
-    Ok(())
 }
 
-fn list_all(rt: &HostRuntime) -> Result<(), Fault> {
-    list(rt, &nets::SCENARIOS)?;
-    list(rt, &maps::SCENARIOS)?;
-    list(rt, &sets::SCENARIOS)?;
-    list(rt, &tables::SCENARIOS)?;
-    list(rt, &hop_tables::SCENARIOS)?;
-    list(rt, &feeds::SCENARIOS)
+fn list_all(rt: &HostRuntime) {
+    list(rt, &nets::SCENARIOS);
+    list(rt, &maps::SCENARIOS);
+    list(rt, &sets::SCENARIOS);
+    list(rt, &tables::SCENARIOS);
+    list(rt, &hop_tables::SCENARIOS);
+    list(rt, &feeds::SCENARIOS);
 }
 
 fn run_named(rt: &HostRuntime, name: &str) -> Result<(), Fault> {
@@ -94,10 +93,11 @@ fn argument<R: Env + Alloc>(rt: &R) -> Result<Option<String<R::A>>, Fault> {
 }
 
 fn run(rt: &HostRuntime) -> Result<(), Fault> {
-    match argument(rt)? {
-        Some(name) => run_named(rt, name.as_str()),
-        None => list_all(rt),
-    }
+    let Some(name) = argument(rt)? else {
+        list_all(rt);
+        return Ok(());
+    };
+    run_named(rt, name.as_str())
 }
 
 fn main(rt: HostRuntime) -> ExitCode {

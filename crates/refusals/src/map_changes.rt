@@ -39,17 +39,18 @@ fn call_networks() -> Result<Networks, Fault> {
 
 pub fn run(rt: &HostRuntime, map: &mut Map, call: MapChange) -> Result<(), Fault> {
     let nets = call_networks()?;
-    show_before(rt, map, call)?;
+    show_before(rt, map, call);
     begin(rt)?;
     change(rt, map, &nets, call)?;
     end(rt)?;
-    show(rt, map)
+    show(rt, map);
+    Ok(())
 }
 
 /// The map before the call. A call of an entry has what the entry held among its answers.
-fn show_before(rt: &HostRuntime, map: &Map, call: MapChange) -> Result<(), Fault> {
+fn show_before(rt: &HostRuntime, map: &Map, call: MapChange) {
     match call {
-        MapChange::EntryModify | MapChange::Occupied | MapChange::OccupiedRemove => Ok(()),
+        MapChange::EntryModify | MapChange::Occupied | MapChange::OccupiedRemove => (),
         _ => show(rt, map),
     }
 }
@@ -59,86 +60,72 @@ fn change(rt: &HostRuntime, map: &mut Map, nets: &Networks, call: MapChange) -> 
         MapChange::Insert => insert(rt, map, nets.stored),
         MapChange::EntryInsert => entry_insert(rt, map, nets.stored),
         MapChange::EntryModify => modify(rt, map, nets.stored, nets.absent),
-        MapChange::Occupied => occupied(rt, map, nets.stored),
-        MapChange::OccupiedRemove => occupied_remove(rt, map, nets.stored),
+        MapChange::Occupied => return occupied(rt, map, nets.stored),
+        MapChange::OccupiedRemove => return occupied_remove(rt, map, nets.stored),
         MapChange::Remove => remove(rt, map, &nets.stored, &nets.outer),
         MapChange::RemoveKeepTree => remove_keep_tree(rt, map, &nets.stored),
-        MapChange::RemoveChildren => remove_children(map, &nets.outer),
-        MapChange::Clear => clear(map),
+        MapChange::RemoveChildren => map.remove_children(&nets.outer),
+        MapChange::Clear => map.clear(),
         MapChange::Retain => retain(map),
     }
-}
-
-fn insert(rt: &HostRuntime, map: &mut Map, net: Ipv4Net) -> Result<(), Fault> {
-    debug_line(rt, &map.insert(net, 7))
-}
-
-fn entry_insert(rt: &HostRuntime, map: &mut Map, net: Ipv4Net) -> Result<(), Fault> {
-    debug_line(rt, &map.entry(net).insert(7))
-}
-
-fn remove(rt: &HostRuntime, map: &mut Map, net: &Ipv4Net, other: &Ipv4Net) -> Result<(), Fault> {
-    debug_pair(rt, &map.remove(net), &map.remove(other))
-}
-
-fn remove_keep_tree(rt: &HostRuntime, map: &mut Map, net: &Ipv4Net) -> Result<(), Fault> {
-    debug_line(rt, &map.remove_keep_tree(net))
-}
-
-fn remove_children(map: &mut Map, net: &Ipv4Net) -> Result<(), Fault> {
-    map.remove_children(net);
     Ok(())
 }
 
-fn clear(map: &mut Map) -> Result<(), Fault> {
-    map.clear();
-    Ok(())
+fn insert(rt: &HostRuntime, map: &mut Map, net: Ipv4Net) {
+    debug_line(rt, &map.insert(net, 7));
 }
 
-fn retain(map: &mut Map) -> Result<(), Fault> {
+fn entry_insert(rt: &HostRuntime, map: &mut Map, net: Ipv4Net) {
+    debug_line(rt, &map.entry(net).insert(7));
+}
+
+fn remove(rt: &HostRuntime, map: &mut Map, net: &Ipv4Net, other: &Ipv4Net) {
+    debug_pair(rt, &map.remove(net), &map.remove(other));
+}
+
+fn remove_keep_tree(rt: &HostRuntime, map: &mut Map, net: &Ipv4Net) {
+    debug_line(rt, &map.remove_keep_tree(net));
+}
+
+fn retain(map: &mut Map) {
     map.retain(|key, value| key.prefix_len() < 24 && *value > 1);
-    Ok(())
 }
 
 /// The entries of a stored network and of one that isn't, looked at and written.
-fn modify(rt: &HostRuntime, map: &mut Map, net: Ipv4Net, absent: Ipv4Net) -> Result<(), Fault> {
-    and_modify(rt, map, net)?;
-    look_at(rt, map, absent)?;
-    or_insert(rt, map, net)?;
-    or_insert_with(rt, map, net)?;
-    or_default(rt, map, net)
+fn modify(rt: &HostRuntime, map: &mut Map, net: Ipv4Net, absent: Ipv4Net) {
+    and_modify(rt, map, net);
+    look_at(rt, map, absent);
+    or_insert(rt, map, net);
+    or_insert_with(rt, map, net);
+    or_default(rt, map, net);
 }
 
-fn and_modify(rt: &HostRuntime, map: &mut Map, net: Ipv4Net) -> Result<(), Fault> {
+fn and_modify(rt: &HostRuntime, map: &mut Map, net: Ipv4Net) {
     let entry = map.entry(net).and_modify(|value| *value = 8);
     let (key, value) = (*entry.key(), entry.get().copied());
-    key_and_value(rt, &key, value)
+    key_and_value(rt, &key, value);
 }
 
-fn look_at(rt: &HostRuntime, map: &mut Map, net: Ipv4Net) -> Result<(), Fault> {
+fn look_at(rt: &HostRuntime, map: &mut Map, net: Ipv4Net) {
     let entry = map.entry(net);
     let (key, value) = (*entry.key(), entry.get().copied());
-    key_and_value(rt, &key, value)
+    key_and_value(rt, &key, value);
 }
 
-fn key_and_value(rt: &HostRuntime, key: &Ipv4Net, value: Option<u32>) -> Result<(), Fault> {
-    println!(rt; "{key} {value:?}")?;
-    Ok(())
+fn key_and_value(rt: &HostRuntime, key: &Ipv4Net, value: Option<u32>) {
+    let _ = println!(rt; "{key} {value:?}");
 }
 
-fn or_insert(rt: &HostRuntime, map: &mut Map, net: Ipv4Net) -> Result<(), Fault> {
-    println!(rt; "{:?}", map.entry(net).or_insert(9))?;
-    Ok(())
+fn or_insert(rt: &HostRuntime, map: &mut Map, net: Ipv4Net) {
+    debug_line(rt, &map.entry(net).or_insert(9));
 }
 
-fn or_insert_with(rt: &HostRuntime, map: &mut Map, net: Ipv4Net) -> Result<(), Fault> {
-    println!(rt; "{:?}", map.entry(net).or_insert_with(|| 9))?;
-    Ok(())
+fn or_insert_with(rt: &HostRuntime, map: &mut Map, net: Ipv4Net) {
+    debug_line(rt, &map.entry(net).or_insert_with(|| 9));
 }
 
-fn or_default(rt: &HostRuntime, map: &mut Map, net: Ipv4Net) -> Result<(), Fault> {
-    println!(rt; "{:?}", map.entry(net).or_default())?;
-    Ok(())
+fn or_default(rt: &HostRuntime, map: &mut Map, net: Ipv4Net) {
+    debug_line(rt, &map.entry(net).or_default());
 }
 
 /// Writes by the entry of a stored network, and by what it turns into.
@@ -149,20 +136,19 @@ fn occupied(rt: &HostRuntime, map: &mut Map, net: Ipv4Net) -> Result<(), Fault> 
     let key = *entry.key();
     let old = entry.insert(7);
     *entry.get_mut() = 10;
-    let value = *entry.get();
-    key_and_values(rt, &key, old, value)?;
+    key_and_values(rt, &key, old, *entry.get());
     *entry.into_mut() = 12;
     Ok(())
 }
 
-fn key_and_values(rt: &HostRuntime, key: &Ipv4Net, old: u32, value: u32) -> Result<(), Fault> {
-    println!(rt; "{key} {old} {value}")?;
-    Ok(())
+fn key_and_values(rt: &HostRuntime, key: &Ipv4Net, old: u32, value: u32) {
+    let _ = println!(rt; "{key} {old} {value}");
 }
 
 fn occupied_remove(rt: &HostRuntime, map: &mut Map, net: Ipv4Net) -> Result<(), Fault> {
     let Entry::Occupied(entry) = map.entry(net) else {
         return Err(Fault::Values);
     };
-    line(rt, &entry.remove())
+    line(rt, &entry.remove());
+    Ok(())
 }

@@ -2,7 +2,7 @@
 use crate::fault::Fault;
 use crate::maps::{Map, fill, show};
 use crate::nets::ipv4_network;
-use crate::show::{begin, end, entry, line};
+use crate::show::{begin, end, entries, lines};
 use ipnet::Ipv4Net;
 use prefix_trie::PrefixMap;
 
@@ -25,37 +25,31 @@ pub fn run(rt: &HostRuntime, gift: MapGift) -> Result<(), Fault> {
 
 fn begin_to_give(rt: &HostRuntime, map: &mut Map) -> Result<(), Fault> {
     fill(map)?;
-    show(rt, map)?;
+    show(rt, map);
     begin(rt)
 }
 
 fn give(rt: &HostRuntime, map: Map, gift: MapGift) -> Result<(), Fault> {
     match gift {
-        MapGift::Entries => entries(rt, map),
+        MapGift::Entries => give_entries(rt, map),
         MapGift::Keys => keys(rt, map),
         MapGift::Values => values(rt, map),
         MapGift::Children => children(rt, map),
     }
 }
 
-fn entries(rt: &HostRuntime, map: Map) -> Result<(), Fault> {
-    for (key, value) in map {
-        entry(rt, &key, value)?;
-    }
+fn give_entries(rt: &HostRuntime, map: Map) -> Result<(), Fault> {
+    entries(rt, "", map.into_iter());
     end(rt)
 }
 
 fn keys(rt: &HostRuntime, map: Map) -> Result<(), Fault> {
-    for key in map.into_keys() {
-        line(rt, &key)?;
-    }
+    lines(rt, map.into_keys());
     end(rt)
 }
 
 fn values(rt: &HostRuntime, map: Map) -> Result<(), Fault> {
-    for value in map.into_values() {
-        line(rt, &value)?;
-    }
+    lines(rt, map.into_values());
     end(rt)
 }
 
@@ -67,8 +61,6 @@ fn children(rt: &HostRuntime, map: Map) -> Result<(), Fault> {
 }
 
 fn entries_inside(rt: &HostRuntime, map: Map, net: &Ipv4Net) -> Result<(), Fault> {
-    for (key, value) in map.into_children(net) {
-        entry(rt, &key, value)?;
-    }
+    entries(rt, "", map.into_children(net));
     end(rt)
 }

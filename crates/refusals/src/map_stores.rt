@@ -26,13 +26,14 @@ type Stored = Result<(), (Refused, u32)>;
 
 pub fn run(rt: &HostRuntime, map: &mut Map, call: MapStore) -> Result<(), Fault> {
     let net = ipv4_network(text_of(call))?;
-    show(rt, map)?;
-    given(rt, value_of(call))?;
+    show(rt, map);
+    given(rt, value_of(call));
     begin(rt)?;
     let outcome = stored(map, net, call);
     end(rt)?;
-    answered(rt, outcome)?;
-    show(rt, map)
+    answered(rt, outcome);
+    show(rt, map);
+    Ok(())
 }
 
 /// The network that the call stores: one for which two nodes are made, or six.
@@ -51,7 +52,7 @@ fn value_of(call: MapStore) -> u32 {
     }
 }
 
-fn answered(rt: &HostRuntime, outcome: Stored) -> Result<(), Fault> {
+fn answered(rt: &HostRuntime, outcome: Stored) {
     match outcome {
         Ok(()) => answer(rt, &"stored"),
         Err((error, value)) => handed_back(rt, &error, value),

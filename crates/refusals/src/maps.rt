@@ -6,7 +6,7 @@ use crate::map_gifts::MapGift;
 use crate::map_reads::MapRead;
 use crate::map_stores::MapStore;
 use crate::nets::ipv4_network;
-use crate::show::{answer, begin, end, entry, refused};
+use crate::show::{answer, begin, end, entries, refused};
 use crate::{map_changes, map_gifts, map_reads, map_stores};
 use ipnet::Ipv4Net;
 use prefix_trie::{PrefixMap, Refused};
@@ -106,7 +106,8 @@ fn make(rt: &HostRuntime) -> Result<(), Fault> {
 
 fn made(rt: &HostRuntime, map: &Map) -> Result<(), Fault> {
     end(rt)?;
-    show(rt, map)
+    show(rt, map);
+    Ok(())
 }
 
 /// Owns the map that the calls are lent.
@@ -147,25 +148,17 @@ fn store(map: &mut Map, text: &str, value: u32) -> Result<(), Fault> {
 }
 
 /// The entries in order, and the number of nodes.
-pub fn show(rt: &HostRuntime, map: &Map) -> Result<(), Fault> {
-    show_entries(rt, map)?;
-    show_counts(rt, map)
+pub fn show(rt: &HostRuntime, map: &Map) {
+    entries(rt, "", map.into_iter());
+    show_counts(rt, map);
 }
 
-pub fn show_entries(rt: &HostRuntime, map: &Map) -> Result<(), Fault> {
-    for (net, value) in map {
-        entry(rt, &net, *value)?;
-    }
-    Ok(())
-}
-
-fn show_counts(rt: &HostRuntime, map: &Map) -> Result<(), Fault> {
-    println!(rt; "{} entries, {} nodes", map.len(), map.node_count())?;
-    Ok(())
+fn show_counts(rt: &HostRuntime, map: &Map) {
+    let _ = println!(rt; "{} entries, {} nodes", map.len(), map.node_count());
 }
 
 fn try_clone(rt: &HostRuntime, map: &Map) -> Result<(), Fault> {
-    show(rt, map)?;
+    show(rt, map);
     begin(rt)?;
     let outcome = map.try_clone(rt.alloc());
     copied(rt, map, &outcome)
@@ -176,10 +169,11 @@ fn copied(rt: &HostRuntime, map: &Map, outcome: &Result<Map, Refused>) -> Result
     end(rt)?;
     match outcome {
         Ok(copy) => {
-            answer(rt, &"copied")?;
-            show(rt, copy)?;
+            answer(rt, &"copied");
+            show(rt, copy);
         }
-        Err(error) => refused(rt, error)?,
+        Err(error) => refused(rt, error),
     }
-    show(rt, map)
+    show(rt, map);
+    Ok(())
 }

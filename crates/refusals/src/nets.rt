@@ -1,7 +1,7 @@
 //! Networks: their aggregation, their values, and their texts and bytes.
 use crate::fault::Fault;
 use crate::net_walks;
-use crate::show::{answer, begin, debug_line, debug_pair, end, line, refused};
+use crate::show::{answer, answers, begin, debug_line, debug_pair, end, line, lines, refused};
 use ipnet::{IpNet, Ipv4Net, Ipv6Net};
 use serde_json::Value;
 use std::alloc::{AllocError, Global};
@@ -78,13 +78,6 @@ pub fn network(text: &str) -> Result<IpNet, Fault> {
     Ok(IpNet::from_str(text)?)
 }
 
-fn show<T: Display>(rt: &HostRuntime, nets: &Vec<T>) -> Result<(), Fault> {
-    for net in nets.iter() {
-        line(rt, net)?;
-    }
-    Ok(())
-}
-
 /// What `aggregate` answered, and the networks then.
 fn aggregated<T: Display>(
     rt: &HostRuntime,
@@ -93,16 +86,10 @@ fn aggregated<T: Display>(
 ) -> Result<(), Fault> {
     end(rt)?;
     match outcome {
-        Ok(least) => answer_all(rt, least)?,
-        Err(error) => refused(rt, error)?,
+        Ok(least) => answers(rt, least.iter()),
+        Err(error) => refused(rt, error),
     }
-    show(rt, nets)
-}
-
-pub fn answer_all<T: Display>(rt: &HostRuntime, nets: &Vec<T>) -> Result<(), Fault> {
-    for net in nets.iter() {
-        answer(rt, net)?;
-    }
+    lines(rt, nets.iter());
     Ok(())
 }
 
@@ -135,7 +122,7 @@ fn mixed_networks(alloc: Global) -> Result<Vec<IpNet>, Fault> {
 }
 
 fn show_and_begin<T: Display>(rt: &HostRuntime, nets: &Vec<T>) -> Result<(), Fault> {
-    show(rt, nets)?;
+    lines(rt, nets.iter());
     begin(rt)
 }
 
@@ -168,15 +155,16 @@ fn valued<T: Display>(
 ) -> Result<(), Fault> {
     end(rt)?;
     match outcome {
-        Ok(value) => answer(rt, &value.as_str().unwrap_or("no string"))?,
-        Err(error) => refused(rt, error)?,
+        Ok(value) => answer(rt, &value.as_str().unwrap_or("no string")),
+        Err(error) => refused(rt, error),
     }
-    line(rt, net)
+    line(rt, net);
+    Ok(())
 }
 
 fn to_value_ipv4(rt: &HostRuntime) -> Result<(), Fault> {
     let net = ipv4_network("10.1.2.3/8")?;
-    line(rt, &net)?;
+    line(rt, &net);
     begin(rt)?;
     let outcome = net.to_value(rt.alloc());
     valued(rt, &net, &outcome)
@@ -184,7 +172,7 @@ fn to_value_ipv4(rt: &HostRuntime) -> Result<(), Fault> {
 
 fn to_value_ipv6(rt: &HostRuntime) -> Result<(), Fault> {
     let net = ipv6_network("2001:db8::1/32")?;
-    line(rt, &net)?;
+    line(rt, &net);
     begin(rt)?;
     let outcome = net.to_value(rt.alloc());
     valued(rt, &net, &outcome)
@@ -192,7 +180,7 @@ fn to_value_ipv6(rt: &HostRuntime) -> Result<(), Fault> {
 
 fn to_value_mixed(rt: &HostRuntime) -> Result<(), Fault> {
     let net = network("::ffff:10.1.2.3/104")?;
-    line(rt, &net)?;
+    line(rt, &net);
     begin(rt)?;
     let outcome = net.to_value(rt.alloc());
     valued(rt, &net, &outcome)
@@ -208,49 +196,49 @@ fn read(rt: &HostRuntime) -> Result<(), Fault> {
 fn read_over(rt: &HostRuntime, ipv4: &Value, ipv6: &Value) -> Result<(), Fault> {
     begin(rt)?;
     for text in IPV4 {
-        read_ipv4(rt, text)?;
+        read_ipv4(rt, text);
     }
     for text in IPV6 {
-        read_ipv6(rt, text)?;
+        read_ipv6(rt, text);
     }
-    read_bytes(rt)?;
-    read_value(rt, ipv4)?;
-    read_value(rt, ipv6)?;
+    read_bytes(rt);
+    read_value(rt, ipv4);
+    read_value(rt, ipv6);
     end(rt)
 }
 
-fn read_bytes(rt: &HostRuntime) -> Result<(), Fault> {
-    debug_line(rt, &Ipv4Net::from_bytes(&[10, 1, 2, 3, 8]))?;
+fn read_bytes(rt: &HostRuntime) {
+    debug_line(rt, &Ipv4Net::from_bytes(&[10, 1, 2, 3, 8]));
     debug_line(
         rt,
         &Ipv6Net::from_bytes(&[32, 1, 13, 184, 0, 0, 0, 0, 0, 0, 0, 0, 0, 0, 0, 1, 32]),
-    )?;
-    debug_line(rt, &IpNet::from_bytes(&[0, 10, 1, 2, 3, 8]))
+    );
+    debug_line(rt, &IpNet::from_bytes(&[0, 10, 1, 2, 3, 8]));
 }
 
 /// A value, as each family reads it and as both do.
-fn read_value(rt: &HostRuntime, value: &Value) -> Result<(), Fault> {
-    debug_pair(rt, &Ipv4Net::from_value(value), &Ipv6Net::from_value(value))?;
-    debug_line(rt, &IpNet::from_value(value))
+fn read_value(rt: &HostRuntime, value: &Value) {
+    debug_pair(rt, &Ipv4Net::from_value(value), &Ipv6Net::from_value(value));
+    debug_line(rt, &IpNet::from_value(value));
 }
 
 /// A text of IPv4, as each family reads it.
-fn read_ipv4(rt: &HostRuntime, text: &str) -> Result<(), Fault> {
+fn read_ipv4(rt: &HostRuntime, text: &str) {
     debug_pair(
         rt,
         &Ipv4Net::from_str(text),
         &Ipv4Net::parse_ascii(text.as_bytes()),
-    )?;
-    debug_pair(rt, &Ipv6Net::from_str(text), &IpNet::from_str(text))
+    );
+    debug_pair(rt, &Ipv6Net::from_str(text), &IpNet::from_str(text));
 }
 
 /// A text of IPv6, as its family reads it and as both do.
-fn read_ipv6(rt: &HostRuntime, text: &str) -> Result<(), Fault> {
+fn read_ipv6(rt: &HostRuntime, text: &str) {
     debug_pair(
         rt,
         &Ipv6Net::from_str(text),
         &IpNet::parse_ascii(text.as_bytes()),
-    )
+    );
 }
 
 /// Networks printed, as texts and as bytes.
@@ -262,13 +250,12 @@ fn print(rt: &HostRuntime) -> Result<(), Fault> {
 fn print_all(rt: &HostRuntime, nets: &Vec<IpNet>) -> Result<(), Fault> {
     begin(rt)?;
     for net in nets.iter() {
-        print_text(rt, net)?;
-        debug_pair(rt, &net.to_text().as_slice(), &net.to_bytes().as_slice())?;
+        print_one(rt, net);
     }
     end(rt)
 }
 
-fn print_text(rt: &HostRuntime, net: &IpNet) -> Result<(), Fault> {
-    println!(rt; "{net} {net:?}")?;
-    Ok(())
+fn print_one(rt: &HostRuntime, net: &IpNet) {
+    let _ = println!(rt; "{net} {net:?}");
+    debug_pair(rt, &net.to_text().as_slice(), &net.to_bytes().as_slice());
 }

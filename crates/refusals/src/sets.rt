@@ -1,10 +1,10 @@
 //! Sets of networks, and a map that is made of entries.
 use crate::fault::Fault;
-use crate::maps::{Map, show_entries};
+use crate::maps::Map;
 use crate::nets::ipv4_network;
 use crate::set_calls;
 use crate::set_calls::FreeCall;
-use crate::show::{answer, begin, end, line, refused};
+use crate::show::{answer, begin, end, entries, lines, refused};
 use ipnet::Ipv4Net;
 use prefix_trie::{PrefixMap, PrefixSet, Refused};
 use std::alloc::Global;
@@ -62,14 +62,19 @@ fn run_filled(rt: &HostRuntime, call: SetCall) -> Result<(), Fault> {
 
 fn run_over(rt: &HostRuntime, set: &mut Set, call: SetCall) -> Result<(), Fault> {
     fill(set)?;
-    show(rt, set)?;
+    show(rt, set);
+    call_set(rt, set, call)?;
+    show(rt, set);
+    Ok(())
+}
+
+fn call_set(rt: &HostRuntime, set: &mut Set, call: SetCall) -> Result<(), Fault> {
     match call {
-        SetCall::Insert => insert(rt, set, "10.1.3.3/32")?,
-        SetCall::InsertSixNodes => insert(rt, set, "1.2.3.0/32")?,
-        SetCall::Free(call) => set_calls::run(rt, set, call)?,
-        _ => try_clone(rt, set)?,
+        SetCall::Insert => insert(rt, set, "10.1.3.3/32"),
+        SetCall::InsertSixNodes => insert(rt, set, "1.2.3.0/32"),
+        SetCall::Free(call) => set_calls::run(rt, set, call),
+        _ => try_clone(rt, set),
     }
-    show(rt, set)
 }
 
 const NETWORKS: [&str; 5] = [
@@ -83,25 +88,26 @@ const NETWORKS: [&str; 5] = [
 /// Puts five networks into an empty set, with nodes that lead to no member.
 pub fn fill(set: &mut Set) -> Result<(), Fault> {
     for text in NETWORKS {
-        set.insert(ipv4_network(text)?)?;
+        store(set, text)?;
     }
-    let net = ipv4_network("10.1.2.0/31")?;
-    set.insert(net)?;
-    set.remove_keep_tree(&net);
+    store(set, "10.1.2.0/31")?;
+    set.remove_keep_tree(&ipv4_network("10.1.2.0/31")?);
+    Ok(())
+}
+
+fn store(set: &mut Set, text: &str) -> Result<(), Fault> {
+    set.insert(ipv4_network(text)?)?;
     Ok(())
 }
 
 /// The members in order, and the number of nodes.
-pub fn show(rt: &HostRuntime, set: &Set) -> Result<(), Fault> {
-    for net in set.iter() {
-        line(rt, &net)?;
-    }
-    show_counts(rt, set)
+pub fn show(rt: &HostRuntime, set: &Set) {
+    lines(rt, set.iter());
+    show_counts(rt, set);
 }
 
-fn show_counts(rt: &HostRuntime, set: &Set) -> Result<(), Fault> {
-    println!(rt; "{} members, {} nodes", set.len(), set.node_count())?;
-    Ok(())
+fn show_counts(rt: &HostRuntime, set: &Set) {
+    let _ = println!(rt; "{} members, {} nodes", set.len(), set.node_count());
 }
 
 /// An empty set.
@@ -113,7 +119,8 @@ fn make(rt: &HostRuntime) -> Result<(), Fault> {
 
 fn made(rt: &HostRuntime, set: &Set) -> Result<(), Fault> {
     end(rt)?;
-    show(rt, set)
+    show(rt, set);
+    Ok(())
 }
 
 /// A network that isn't a member: two nodes are made for it, or six.
@@ -126,6 +133,7 @@ fn insert(rt: &HostRuntime, set: &mut Set, text: &str) -> Result<(), Fault> {
         Ok(is_new) => answer(rt, &is_new),
         Err(error) => refused(rt, &error),
     }
+    Ok(())
 }
 
 fn try_clone(rt: &HostRuntime, set: &Set) -> Result<(), Fault> {
@@ -143,11 +151,12 @@ fn answered(
     end(rt)?;
     match outcome {
         Ok(set) => {
-            answer(rt, &word)?;
-            show(rt, set)
+            answer(rt, &word);
+            show(rt, set);
         }
         Err(error) => refused(rt, error),
     }
+    Ok(())
 }
 
 /// The five networks.
@@ -167,7 +176,7 @@ fn try_from_iter(rt: &HostRuntime) -> Result<(), Fault> {
 }
 
 /// The five networks, each with its length.
-fn entries(alloc: Global) -> Result<Vec<(Ipv4Net, u32)>, Fault> {
+fn with_lengths(alloc: Global) -> Result<Vec<(Ipv4Net, u32)>, Fault> {
     let mut entries = Vec::new(alloc);
     for text in NETWORKS {
         let net = ipv4_network(text)?;
@@ -177,7 +186,7 @@ fn entries(alloc: Global) -> Result<Vec<(Ipv4Net, u32)>, Fault> {
 }
 
 fn map_from_iter(rt: &HostRuntime) -> Result<(), Fault> {
-    let entries = entries(rt.alloc())?;
+    let entries = with_lengths(rt.alloc())?;
     begin(rt)?;
     let outcome = PrefixMap::try_from_iter(rt.alloc(), entries);
     map_answered(rt, &outcome)
@@ -186,16 +195,14 @@ fn map_from_iter(rt: &HostRuntime) -> Result<(), Fault> {
 fn map_answered(rt: &HostRuntime, outcome: &Result<Map, Refused>) -> Result<(), Fault> {
     end(rt)?;
     match outcome {
-        Ok(map) => {
-            answer(rt, &"made")?;
-            show_entries(rt, map)?;
-            show_nodes(rt, map)
-        }
+        Ok(map) => show_made(rt, map),
         Err(error) => refused(rt, error),
     }
+    Ok(())
 }
 
-fn show_nodes(rt: &HostRuntime, map: &Map) -> Result<(), Fault> {
-    println!(rt; "{} nodes", map.node_count())?;
-    Ok(())
+fn show_made(rt: &HostRuntime, map: &Map) {
+    answer(rt, &"made");
+    entries(rt, "", map.into_iter());
+    let _ = println!(rt; "{} nodes", map.node_count());
 }

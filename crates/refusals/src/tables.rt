@@ -1,7 +1,7 @@
 //! Route tables. One function owns the table of all scenarios but of the one that makes one, and lends it to them.
 use crate::fault::Fault;
-use crate::nets::{answer_all, network};
-use crate::show::{answer, begin, debug_line, debug_pair, end, line, refused};
+use crate::nets::network;
+use crate::show::{answer, answers, begin, debug_line, debug_pair, end, line, refused};
 use hop_index::HopIndex;
 use ipnet::{IpAddr, IpNet};
 use route_table::{AddRefused, Hop, HopTable, Refused, RouteTable, Routes};
@@ -62,7 +62,8 @@ fn make(rt: &HostRuntime) -> Result<(), Fault> {
 
 fn made(rt: &HostRuntime, table: &RouteTable) -> Result<(), Fault> {
     end(rt)?;
-    show_counts(rt, table)
+    show_counts(rt, table);
+    Ok(())
 }
 
 /// Owns the table that the calls are lent.
@@ -73,37 +74,56 @@ fn run_empty(rt: &HostRuntime, call: TableCall) -> Result<(), Fault> {
 
 fn run_over(rt: &HostRuntime, table: &mut RouteTable, call: TableCall) -> Result<(), Fault> {
     fill(table)?;
-    if let TableCall::IntoLeast = call {
-        return into_least(rt, table);
-    }
-    show(rt, table)?;
     match call {
-        TableCall::AddIpv4 => add(rt, table, "10.1.2.3/32")?,
-        TableCall::AddIpv6 => add(rt, table, "2001:db8:8000::1/128")?,
-        TableCall::Overwrite => overwrite(rt, table)?,
-        TableCall::Own => own(rt, table)?,
-        TableCall::Least => least(rt, table)?,
-        TableCall::Index => index(rt, table)?,
-        TableCall::IndexOfHops => index_of_hops(rt, table)?,
-        TableCall::Hops => hops(rt, table)?,
-        _ => free(rt, table, call)?,
+        TableCall::IntoLeast => into_least(rt, table),
+        _ => run_shown(rt, table, call),
     }
+}
+
+/// The table is shown before the call and after it.
+fn run_shown(rt: &HostRuntime, table: &mut RouteTable, call: TableCall) -> Result<(), Fault> {
+    show(rt, table)?;
+    call_table(rt, table, call)?;
     show(rt, table)
+}
+
+fn call_table(rt: &HostRuntime, table: &mut RouteTable, call: TableCall) -> Result<(), Fault> {
+    match call {
+        TableCall::AddIpv4 => add(rt, table, "10.1.2.3/32"),
+        TableCall::AddIpv6 => add(rt, table, "2001:db8:8000::1/128"),
+        TableCall::Overwrite => overwrite(rt, table),
+        TableCall::Own => own(rt, table),
+        TableCall::Least => least(rt, table),
+        TableCall::Index => index(rt, table),
+        TableCall::IndexOfHops => index_of_hops(rt, table),
+        TableCall::Hops => hops(rt, table),
+        _ => free(rt, table, call),
+    }
 }
 
 /// The calls that take no memory.
 fn free(rt: &HostRuntime, table: &mut RouteTable, call: TableCall) -> Result<(), Fault> {
     let net = network("10.1.2.4/30")?;
     begin(rt)?;
-    match call {
-        TableCall::AddRoutes => add_routes(rt, table, &net)?,
-        TableCall::OverwriteStored => overwrite_stored(rt, table, net)?,
-        TableCall::Del => del_all(rt, table)?,
-        TableCall::LookUps => look_up(rt, table, &net)?,
-        TableCall::Pages => pages(rt, table)?,
-        _ => flat(rt, table)?,
-    }
+    call_free(rt, table, call, &net)?;
     end(rt)
+}
+
+fn call_free(
+    rt: &HostRuntime,
+    table: &mut RouteTable,
+    call: TableCall,
+    net: &IpNet,
+) -> Result<(), Fault> {
+    match call {
+        TableCall::AddRoutes => add_routes(rt, table, net),
+        TableCall::OverwriteStored => debug_line(rt, &table.overwrite(*net, Hop::Drop)),
+        TableCall::Del => return del_all(rt, table),
+        TableCall::LookUps => return look_up(rt, table, net),
+        TableCall::Pages => return pages(rt, table),
+        _ => flat(rt, table),
+    }
+    Ok(())
 }
 
 /// Puts routes into an empty table: networks of both families, one of them with three routes.
@@ -128,41 +148,38 @@ fn store(table: &mut RouteTable, text: &str, hop: Hop, pref: u16) -> Result<(), 
     Ok(())
 }
 
-fn show_route(rt: &HostRuntime, net: &IpNet, hop: Hop, pref: u16) -> Result<(), Fault> {
-    println!(rt; "{net} {hop:?} {pref}")?;
-    Ok(())
+fn show_route(rt: &HostRuntime, net: &IpNet, hop: Hop, pref: u16) {
+    let _ = println!(rt; "{net} {hop:?} {pref}");
 }
 
 /// All routes of one network.
-fn show_network(rt: &HostRuntime, table: &RouteTable, net: &IpNet) -> Result<(), Fault> {
+fn show_network(rt: &HostRuntime, table: &RouteTable, net: &IpNet) {
     for (hop, pref) in table.all(net) {
-        show_route(rt, net, hop, pref)?;
+        show_route(rt, net, hop, pref);
     }
-    Ok(())
 }
 
 /// All routes of the networks inside this one.
-fn show_inside(rt: &HostRuntime, table: &RouteTable, net: &IpNet) -> Result<(), Fault> {
+fn show_inside(rt: &HostRuntime, table: &RouteTable, net: &IpNet) {
     for (net, _, _) in table.list(net) {
-        show_network(rt, table, &net)?;
+        show_network(rt, table, &net);
     }
-    Ok(())
 }
 
 /// All routes, and the numbers of networks and of nodes.
 fn show(rt: &HostRuntime, table: &RouteTable) -> Result<(), Fault> {
-    show_inside(rt, table, &network("0.0.0.0/0")?)?;
-    show_inside(rt, table, &network("::/0")?)?;
-    show_counts(rt, table)
+    show_inside(rt, table, &network("0.0.0.0/0")?);
+    show_inside(rt, table, &network("::/0")?);
+    show_counts(rt, table);
+    Ok(())
 }
 
-fn show_counts(rt: &HostRuntime, table: &RouteTable) -> Result<(), Fault> {
-    println!(rt;
+fn show_counts(rt: &HostRuntime, table: &RouteTable) {
+    let _ = println!(rt;
         "{:?} networks, {:?} nodes",
         table.count(),
         table.node_counts()
-    )?;
-    Ok(())
+    );
 }
 
 /// A network that isn't stored is added.
@@ -176,6 +193,7 @@ fn add(rt: &HostRuntime, table: &mut RouteTable, text: &str) -> Result<(), Fault
         Err(AddRefused::Store(error)) => refused(rt, &error),
         Err(error) => refused(rt, &error),
     }
+    Ok(())
 }
 
 /// A network that isn't stored is put in the place of those inside it.
@@ -188,6 +206,7 @@ fn overwrite(rt: &HostRuntime, table: &mut RouteTable) -> Result<(), Fault> {
         Ok(()) => answer(rt, &"stored"),
         Err(error) => refused(rt, &error),
     }
+    Ok(())
 }
 
 fn own(rt: &HostRuntime, table: &RouteTable) -> Result<(), Fault> {
@@ -200,9 +219,10 @@ fn own(rt: &HostRuntime, table: &RouteTable) -> Result<(), Fault> {
 fn owned(rt: &HostRuntime, outcome: &Result<Vec<IpNet>, Refused>) -> Result<(), Fault> {
     end(rt)?;
     match outcome {
-        Ok(nets) => answer_all(rt, nets),
+        Ok(nets) => answers(rt, nets.iter()),
         Err(error) => refused(rt, error),
     }
+    Ok(())
 }
 
 /// A least table, or that there is none.
@@ -215,18 +235,17 @@ pub fn shortened(
         Ok(routes) => answer_routes(rt, routes),
         Err(error) => refused(rt, error),
     }
+    Ok(())
 }
 
-fn answer_routes(rt: &HostRuntime, routes: &Vec<(IpNet, Hop)>) -> Result<(), Fault> {
+fn answer_routes(rt: &HostRuntime, routes: &Vec<(IpNet, Hop)>) {
     for (net, hop) in routes.iter() {
-        answer_route(rt, net, *hop)?;
+        answer_route(rt, net, *hop);
     }
-    Ok(())
 }
 
-fn answer_route(rt: &HostRuntime, net: &IpNet, hop: Hop) -> Result<(), Fault> {
-    println!(rt; "answer {net} {hop:?}")?;
-    Ok(())
+fn answer_route(rt: &HostRuntime, net: &IpNet, hop: Hop) {
+    let _ = println!(rt; "answer {net} {hop:?}");
 }
 
 fn least(rt: &HostRuntime, table: &RouteTable) -> Result<(), Fault> {
@@ -253,25 +272,15 @@ fn begin_with(rt: &HostRuntime, table: &mut HopTable, routes: &RouteTable) -> Re
 }
 
 /// A second to an eighth route of a network, a ninth, and another preference of the first.
-fn add_routes(rt: &HostRuntime, table: &mut RouteTable, net: &IpNet) -> Result<(), Fault> {
+fn add_routes(rt: &HostRuntime, table: &mut RouteTable, net: &IpNet) {
     for number in 10..18 {
-        add_route(rt, table, net, number, 150)?;
+        add_route(rt, table, net, number, 150);
     }
-    add_route(rt, table, net, 3, 200)
+    add_route(rt, table, net, 3, 200);
 }
 
-fn add_route(
-    rt: &HostRuntime,
-    table: &mut RouteTable,
-    net: &IpNet,
-    number: u32,
-    pref: u16,
-) -> Result<(), Fault> {
-    debug_line(rt, &table.add(*net, Hop::Number(number), pref))
-}
-
-fn overwrite_stored(rt: &HostRuntime, table: &mut RouteTable, net: IpNet) -> Result<(), Fault> {
-    debug_line(rt, &table.overwrite(net, Hop::Drop))
+fn add_route(rt: &HostRuntime, table: &mut RouteTable, net: &IpNet, number: u32, pref: u16) {
+    debug_line(rt, &table.add(*net, Hop::Number(number), pref));
 }
 
 /// Routes that are taken out: the best one, the last one, and one that isn't there.
@@ -283,52 +292,53 @@ fn del_all(rt: &HostRuntime, table: &mut RouteTable) -> Result<(), Fault> {
 }
 
 fn del(rt: &HostRuntime, table: &mut RouteTable, text: &str, hop: Hop) -> Result<(), Fault> {
-    debug_line(rt, &table.del(&network(text)?, hop))
+    let net = network(text)?;
+    debug_line(rt, &table.del(&net, hop));
+    Ok(())
 }
 
 /// Look-ups, and what networks govern.
 fn look_up(rt: &HostRuntime, table: &RouteTable, net: &IpNet) -> Result<(), Fault> {
-    debug_pair(rt, &table.get(net), &table.get_visits(net))?;
-    show_network(rt, table, net)?;
-    show_routes(rt, table.cover(net))?;
-    show_governed(rt, table, "10.0.0.0/8")?;
-    show_governed(rt, table, "2001:db8::/32")
-}
-
-fn show_governed(rt: &HostRuntime, table: &RouteTable, text: &str) -> Result<(), Fault> {
-    for block in table.governed(&network(text)?) {
-        line(rt, &block)?;
-    }
+    let (ipv4, ipv6) = (network("10.0.0.0/8")?, network("2001:db8::/32")?);
+    debug_pair(rt, &table.get(net), &table.get_visits(net));
+    show_network(rt, table, net);
+    show_routes(rt, table.cover(net));
+    show_governed(rt, table, &ipv4);
+    show_governed(rt, table, &ipv6);
     Ok(())
 }
 
-fn show_routes(rt: &HostRuntime, routes: Routes<'_>) -> Result<(), Fault> {
+fn show_governed(rt: &HostRuntime, table: &RouteTable, net: &IpNet) {
+    for block in table.governed(net) {
+        line(rt, &block);
+    }
+}
+
+fn show_routes(rt: &HostRuntime, routes: Routes<'_>) {
     for (net, hop, pref) in routes {
-        show_route(rt, &net, hop, pref)?;
+        show_route(rt, &net, hop, pref);
     }
-    Ok(())
 }
 
 /// The routes from a network on, after it, and inside it.
 fn pages(rt: &HostRuntime, table: &RouteTable) -> Result<(), Fault> {
     let net = network("10.1.0.0/16")?;
-    show_routes(rt, table.from(&net))?;
-    show_routes(rt, table.after(&net))?;
-    show_routes(rt, table.list(&net))?;
-    debug_line(rt, &table.count())
+    show_routes(rt, table.from(&net));
+    show_routes(rt, table.after(&net));
+    show_routes(rt, table.list(&net));
+    debug_line(rt, &table.count());
+    Ok(())
 }
 
 /// The blocks of one hop.
-fn flat(rt: &HostRuntime, table: &RouteTable) -> Result<(), Fault> {
+fn flat(rt: &HostRuntime, table: &RouteTable) {
     for (block, number) in table.flat() {
-        show_block(rt, &block, number)?;
+        show_block(rt, &block, number);
     }
-    Ok(())
 }
 
-fn show_block(rt: &HostRuntime, block: &IpNet, number: u32) -> Result<(), Fault> {
-    println!(rt; "{block} {number}")?;
-    Ok(())
+fn show_block(rt: &HostRuntime, block: &IpNet, number: u32) {
+    let _ = println!(rt; "{block} {number}");
 }
 
 /// An index of a table of both families.
@@ -350,9 +360,10 @@ fn index_of_hops(rt: &HostRuntime, routes: &RouteTable) -> Result<(), Fault> {
 fn indexed(rt: &HostRuntime, outcome: &Result<HopIndex, Refused>) -> Result<(), Fault> {
     end(rt)?;
     match outcome {
-        Ok(index) => answer_hops(rt, index),
+        Ok(index) => return answer_hops(rt, index),
         Err(error) => refused(rt, error),
     }
+    Ok(())
 }
 
 /// The network addresses of some networks.
@@ -367,14 +378,13 @@ fn addresses() -> Result<[IpAddr; 4], Fault> {
 
 fn answer_hops(rt: &HostRuntime, index: &HopIndex) -> Result<(), Fault> {
     for addr in addresses()? {
-        answer_hop(rt, index.hop(addr))?;
+        answer_hop(rt, index.hop(addr));
     }
     Ok(())
 }
 
-fn answer_hop(rt: &HostRuntime, hop: Option<u32>) -> Result<(), Fault> {
-    println!(rt; "answer {hop:?}")?;
-    Ok(())
+fn answer_hop(rt: &HostRuntime, hop: Option<u32>) {
+    let _ = println!(rt; "answer {hop:?}");
 }
 
 /// Look-ups in an index, one by one and together.
@@ -385,6 +395,6 @@ fn hops(rt: &HostRuntime, table: &RouteTable) -> Result<(), Fault> {
     begin(rt)?;
     answer_hops(rt, &index)?;
     index.hops(&addrs, &mut hops);
-    debug_line(rt, &hops)?;
+    debug_line(rt, &hops);
     end(rt)
 }

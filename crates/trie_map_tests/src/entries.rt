@@ -1,5 +1,5 @@
 //! Rows on entries.
-use crate::maps::{map_of, net};
+use crate::maps::{is_equal, is_text, map_of, net};
 use ipnet::Ipv4Net;
 use std::alloc::Global;
 use std::process::Abort;
@@ -11,43 +11,52 @@ fn empty(rt: &impl Abort, alloc: Global) -> PrefixMap<Ipv4Net, u32> {
 
 /// The map has 10.0.0.0/8 alone, with this value.
 fn has_ten(rt: &impl Abort, map: &PrefixMap<Ipv4Net, u32>, value: u32) {
-    assert_eq!(rt; map.len(), 1);
-    assert_eq!(rt; map.node_count(), 2);
-    assert_eq!(rt; map.get(&net(rt, "10.0.0.0/8")).copied(), Some(value));
+    is_equal(rt, map.len(), 1);
+    is_equal(rt, map.node_count(), 2);
+    is_equal(rt, map.get(&net(rt, "10.0.0.0/8")).copied(), Some(value));
+}
+
+/// A storing call lends what it stored.
+fn lent_is(rt: &impl Abort, outcome: Result<&mut u32, (Refused, u32)>, wanted: u32) {
+    is_equal(rt, *outcome.expect(rt, "memory"), wanted);
+}
+
+/// A storing call answers what was stored before.
+fn had_is(rt: &impl Abort, outcome: Result<Option<u32>, (Refused, u32)>, wanted: Option<u32>) {
+    is_equal(rt, outcome.expect(rt, "memory"), wanted);
 }
 
 #[test]
 fn the_key_of_a_vacant_entry(rt: HostRuntime) {
     let mut map = empty(&rt, rt.alloc());
     let entry = map.entry(net(&rt, "10.1.2.3/16"));
-    assert_eq!(rt; entry.key().to_text().as_slice(), "10.1.2.3/16".as_bytes());
-    assert!(rt; entry.get().is_none());
-    assert!(rt; entry.or_insert(7).is_ok());
+    is_text(&rt, *entry.key(), "10.1.2.3/16");
+    is_equal(&rt, entry.get().is_none(), true);
+    is_equal(&rt, entry.or_insert(7).is_ok(), true);
 }
 
 #[test]
 fn the_key_of_a_stored_entry(rt: HostRuntime) {
     let mut map = map_of(&rt, rt.alloc(), &[("10.1.2.3/16", 7)]);
     let entry = map.entry(net(&rt, "10.1.2.3/16"));
-    assert_eq!(rt; entry.key().to_text().as_slice(), "10.1.0.0/16".as_bytes());
-    assert_eq!(rt; entry.get().copied(), Some(7));
+    is_text(&rt, *entry.key(), "10.1.0.0/16");
+    is_equal(&rt, entry.get().copied(), Some(7));
 }
 
 #[test]
 fn or_insert_into_an_empty_map(rt: HostRuntime) {
     let mut map = empty(&rt, rt.alloc());
-    assert!(rt; matches!(map.entry(net(&rt, "10.1.2.3/8")).or_insert(1), Ok(1)));
+    lent_is(&rt, map.entry(net(&rt, "10.1.2.3/8")).or_insert(1), 1);
     has_ten(&rt, &map, 1);
 }
 
 #[test]
 fn or_insert_with_into_an_empty_map(rt: HostRuntime) {
     let mut map = empty(&rt, rt.alloc());
-    assert!(rt;
-        matches!(
-            map.entry(net(&rt, "10.1.2.3/8")).or_insert_with(|| 2),
-            Ok(2)
-        )
+    lent_is(
+        &rt,
+        map.entry(net(&rt, "10.1.2.3/8")).or_insert_with(|| 2),
+        2,
     );
     has_ten(&rt, &map, 2);
 }
@@ -55,7 +64,7 @@ fn or_insert_with_into_an_empty_map(rt: HostRuntime) {
 #[test]
 fn or_default_into_an_empty_map(rt: HostRuntime) {
     let mut map = empty(&rt, rt.alloc());
-    assert!(rt; matches!(map.entry(net(&rt, "10.1.2.3/8")).or_default(), Ok(0)));
+    lent_is(&rt, map.entry(net(&rt, "10.1.2.3/8")).or_default(), 0);
     has_ten(&rt, &map, 0);
 }
 
@@ -65,8 +74,8 @@ fn a_vacant_entry_stores(rt: HostRuntime) {
     let Entry::Vacant(entry) = map.entry(net(&rt, "10.1.2.3/8")) else {
         panic!(&rt; "occupied")
     };
-    assert_eq!(rt; entry.key().to_text().as_slice(), "10.1.2.3/8".as_bytes());
-    assert!(rt; matches!(entry.insert(3), Ok(3)));
+    is_text(&rt, *entry.key(), "10.1.2.3/8");
+    lent_is(&rt, entry.insert(3), 3);
     has_ten(&rt, &map, 3);
 }
 
@@ -76,7 +85,7 @@ fn a_vacant_entry_stores_what_a_closure_gives(rt: HostRuntime) {
     let Entry::Vacant(entry) = map.entry(net(&rt, "10.1.2.3/8")) else {
         panic!(&rt; "occupied")
     };
-    assert!(rt; matches!(entry.insert_with(|| 4), Ok(4)));
+    lent_is(&rt, entry.insert_with(|| 4), 4);
     has_ten(&rt, &map, 4);
 }
 
@@ -86,7 +95,7 @@ fn a_vacant_entry_stores_the_default(rt: HostRuntime) {
     let Entry::Vacant(entry) = map.entry(net(&rt, "10.1.2.3/8")) else {
         panic!(&rt; "occupied")
     };
-    assert!(rt; matches!(entry.default(), Ok(0)));
+    lent_is(&rt, entry.default(), 0);
     has_ten(&rt, &map, 0);
 }
 
@@ -102,11 +111,11 @@ fn or_insert_lends_what_it_stored(rt: HostRuntime) {
 #[test]
 fn or_insert_keeps_what_is_stored(rt: HostRuntime) {
     let mut map = map_of(&rt, rt.alloc(), &[("10.0.0.0/8", 5)]);
-    assert!(rt; matches!(map.entry(net(&rt, "10.0.0.0/8")).or_insert(9), Ok(5)));
+    lent_is(&rt, map.entry(net(&rt, "10.0.0.0/8")).or_insert(9), 5);
     let entry = map
         .entry(net(&rt, "10.0.0.0/8"))
         .and_modify(|value| *value = 6);
-    assert_eq!(rt; entry.get().copied(), Some(6));
+    is_equal(&rt, entry.get().copied(), Some(6));
 }
 
 #[test]
@@ -124,10 +133,10 @@ fn an_occupied_entry_is_written(rt: HostRuntime) {
     let Entry::Occupied(mut entry) = map.entry(net(&rt, "10.9.9.9/8")) else {
         panic!(&rt; "vacant")
     };
-    assert_eq!(rt; entry.key().to_text().as_slice(), "10.0.0.0/8".as_bytes());
-    assert_eq!(rt; entry.insert(8), 7);
+    is_text(&rt, *entry.key(), "10.0.0.0/8");
+    is_equal(&rt, entry.insert(8), 7);
     *entry.get_mut() = 10;
-    assert_eq!(rt; *entry.get(), 10);
+    is_equal(&rt, *entry.get(), 10);
     *entry.into_mut() = 11;
     has_ten(&rt, &map, 11);
 }
@@ -138,14 +147,9 @@ fn an_occupied_entry_is_taken_out(rt: HostRuntime) {
     let Entry::Occupied(entry) = map.entry(net(&rt, "10.9.9.9/8")) else {
         panic!(&rt; "vacant")
     };
-    assert_eq!(rt; entry.remove(), 11);
-    assert!(rt; map.is_empty());
-    assert_eq!(rt; map.node_count(), 2);
-}
-
-/// The key has this text.
-fn is_text(rt: &impl Abort, key: Ipv4Net, text: &str) {
-    assert_eq!(rt; key.to_text().as_slice(), text.as_bytes());
+    is_equal(&rt, entry.remove(), 11);
+    is_equal(&rt, map.is_empty(), true);
+    is_equal(&rt, map.node_count(), 2);
 }
 
 /// The map has these entries and no other, in this order.
@@ -156,24 +160,24 @@ fn has_in_order(rt: &impl Abort, map: &PrefixMap<Ipv4Net, u32>, entries: &[(&str
             panic!(rt; "too few entries")
         };
         is_text(rt, key, text);
-        assert_eq!(rt; *value, *stored);
+        is_equal(rt, *value, *stored);
     }
-    assert!(rt; left.next().is_none());
+    is_equal(rt, left.next().is_none(), true);
 }
 
 /// The map has these entries and no other, in this order, and so many nodes.
 fn is_whole(rt: &impl Abort, map: &PrefixMap<Ipv4Net, u32>, entries: &[(&str, u32)], nodes: usize) {
     has_in_order(rt, map, entries);
-    assert_eq!(rt; map.len(), entries.len());
-    assert_eq!(rt; map.node_count(), nodes);
+    is_equal(rt, map.len(), entries.len());
+    is_equal(rt, map.node_count(), nodes);
 }
 
 #[test]
 fn stored_through_an_entry(rt: HostRuntime) {
     let mut map = empty(&rt, rt.alloc());
-    assert!(rt; matches!(map.entry(net(&rt, "10.1.2.3/8")).insert(1), Ok(None)));
+    had_is(&rt, map.entry(net(&rt, "10.1.2.3/8")).insert(1), None);
     has_ten(&rt, &map, 1);
-    assert!(rt; matches!(map.entry(net(&rt, "10.9.9.9/8")).insert(2), Ok(Some(1))));
+    had_is(&rt, map.entry(net(&rt, "10.9.9.9/8")).insert(2), Some(1));
     has_ten(&rt, &map, 2);
 }
 
@@ -181,10 +185,10 @@ fn stored_through_an_entry(rt: HostRuntime) {
 fn stored_twice(rt: HostRuntime) {
     let mut map = empty(&rt, rt.alloc());
     let mut entry = map.entry(net(&rt, "10.9.9.9/8"));
-    assert!(rt; matches!(entry.insert(3), Ok(None)));
-    assert_eq!(rt; entry.get().copied(), Some(3));
-    assert!(rt; matches!(entry.insert(4), Ok(Some(3))));
-    assert!(rt; matches!(entry.or_insert(8), Ok(4)));
+    had_is(&rt, entry.insert(3), None);
+    is_equal(&rt, entry.get().copied(), Some(3));
+    had_is(&rt, entry.insert(4), Some(3));
+    lent_is(&rt, entry.or_insert(8), 4);
     has_ten(&rt, &map, 4);
 }
 
@@ -192,12 +196,12 @@ fn stored_twice(rt: HostRuntime) {
 fn written_after_a_store(rt: HostRuntime) {
     let mut map = empty(&rt, rt.alloc());
     let mut entry = map.entry(net(&rt, "10.0.0.0/8"));
-    assert!(rt; matches!(entry.insert(3), Ok(None)));
+    had_is(&rt, entry.insert(3), None);
     if let Some(value) = entry.get_mut() {
         *value = 5;
     }
     let entry = entry.and_modify(|value| *value = 6);
-    assert!(rt; matches!(entry.or_default(), Ok(6)));
+    lent_is(&rt, entry.or_default(), 6);
     has_ten(&rt, &map, 6);
 }
 
@@ -205,7 +209,7 @@ fn written_after_a_store(rt: HostRuntime) {
 fn two_and_spares(rt: &impl Abort, alloc: Global) -> PrefixMap<Ipv4Net, u32> {
     let stored = [("10.0.0.0/8", 1), ("10.1.0.0/16", 2), ("10.2.3.0/24", 3)];
     let mut map = map_of(rt, alloc, &stored);
-    assert_eq!(rt; map.remove_keep_tree(&net(rt, "10.2.3.0/24")), Some(3));
+    is_equal(rt, map.remove_keep_tree(&net(rt, "10.2.3.0/24")), Some(3));
     is_whole(rt, &map, &[("10.0.0.0/8", 1), ("10.1.0.0/16", 2)], 6);
     map
 }
@@ -213,14 +217,22 @@ fn two_and_spares(rt: &impl Abort, alloc: Global) -> PrefixMap<Ipv4Net, u32> {
 #[test]
 fn no_match_is_lent(rt: HostRuntime) {
     let mut map = two_and_spares(&rt, rt.alloc());
-    assert!(rt; map.get_lpm_mut(&net(&rt, "11.0.0.0/8")).is_none());
+    is_equal(
+        &rt,
+        map.get_lpm_mut(&net(&rt, "11.0.0.0/8")).is_none(),
+        true,
+    );
     is_whole(&rt, &map, &[("10.0.0.0/8", 1), ("10.1.0.0/16", 2)], 6);
 }
 
 #[test]
 fn no_entry_is_lent(rt: HostRuntime) {
     let mut map = two_and_spares(&rt, rt.alloc());
-    assert!(rt; map.entry(net(&rt, "10.2.3.0/24")).get_mut().is_none());
+    is_equal(
+        &rt,
+        map.entry(net(&rt, "10.2.3.0/24")).get_mut().is_none(),
+        true,
+    );
     is_whole(&rt, &map, &[("10.0.0.0/8", 1), ("10.1.0.0/16", 2)], 6);
 }
 
@@ -230,7 +242,7 @@ fn one_match_is_lent(rt: HostRuntime) {
     let Some((key, value)) = map.get_lpm_mut(&net(&rt, "10.2.3.4/32")) else {
         panic!(&rt; "no match")
     };
-    assert_eq!(rt; key.to_text().as_slice(), "10.0.0.0/8".as_bytes());
+    is_text(&rt, key, "10.0.0.0/8");
     *value = 7;
     is_whole(&rt, &map, &[("10.0.0.0/8", 7), ("10.1.0.0/16", 2)], 6);
 }
@@ -246,9 +258,9 @@ fn one_entry_is_lent(rt: HostRuntime) {
 
 /// The map is empty and has its root alone, or it has 1.2.3.0/32 below five more nodes, with this value.
 fn is_refused_or_stored(rt: &impl Abort, map: &PrefixMap<Ipv4Net, u32>, value: Option<u32>) {
-    assert_eq!(rt; map.get(&net(rt, "1.2.3.0/32")).copied(), value);
-    assert_eq!(rt; map.len(), usize::from(value.is_some()));
-    assert_eq!(rt; map.node_count(), if value.is_some() { 7 } else { 1 });
+    is_equal(rt, map.get(&net(rt, "1.2.3.0/32")).copied(), value);
+    is_equal(rt, map.len(), usize::from(value.is_some()));
+    is_equal(rt, map.node_count(), if value.is_some() { 7 } else { 1 });
 }
 
 /// What a storing call answered: the value where it was stored, none where it was refused and came back.
@@ -256,8 +268,8 @@ fn answered(rt: &impl Abort, outcome: Result<&mut u32, (Refused, u32)>, value: u
     match outcome {
         Ok(stored) => Some(*stored),
         Err((refused, back)) => {
-            assert_eq!(rt; refused, Refused::Memory);
-            assert_eq!(rt; back, value);
+            is_equal(rt, refused, Refused::Memory);
+            is_equal(rt, back, value);
             None
         }
     }
@@ -326,8 +338,8 @@ fn refused_store(rt: HostRuntime) {
     let stored = match map.entry(net(&rt, "1.2.3.0/32")).insert(5) {
         Ok(_) => Some(5),
         Err((refused, back)) => {
-            assert_eq!(rt; refused, Refused::Memory);
-            assert_eq!(rt; back, 5);
+            is_equal(&rt, refused, Refused::Memory);
+            is_equal(&rt, back, 5);
             None
         }
     };

@@ -1,7 +1,7 @@
 //! Each generic function at concrete types, called through its bound.
 ghost use Rattle.std.specs.Prelude.{◌≤◌, length, IsTrue};
 
-use crate::maps::{net, wide_net};
+use crate::maps::{is_equal, net, wide_net};
 use trie_core::Path;
 use trie_keys::{Key, Prefix, path_of, shortened};
 
@@ -28,36 +28,42 @@ fn beginning<P: Prefix + Drop>(prefix: &P, len: u8) -> (u128, u8)
 
 #[test]
 fn prefixes(rt: HostRuntime) {
-    assert_eq!(rt; parts(&(0x93_u8, 3), &(0x9f_u8, 5)), (8, 0x80, true));
-    assert_eq!(rt; parts(&(0x93_u8, 5), &(0x9f_u8, 5)), (8, 0x90, false));
-    assert_eq!(rt; parts(&(0x9f_u8, 5), &(0x9f_u8, 3)), (8, 0x98, false));
-    assert_eq!(rt; parts(&(0x9f_u8, 0), &(0x00_u8, 0)), (8, 0, true));
-    assert_eq!(rt;
+    is_equal(&rt, parts(&(0x93_u8, 3), &(0x9f_u8, 5)), (8, 0x80, true));
+    is_equal(&rt, parts(&(0x93_u8, 5), &(0x9f_u8, 5)), (8, 0x90, false));
+    is_equal(&rt, parts(&(0x9f_u8, 5), &(0x9f_u8, 3)), (8, 0x98, false));
+    is_equal(&rt, parts(&(0x9f_u8, 0), &(0x00_u8, 0)), (8, 0, true));
+    is_equal(
+        &rt,
         parts(&(u128::MAX, 127), &(u128::MAX, 128)),
-        (128, u128::MAX - 1, true)
+        (128, u128::MAX - 1, true),
     );
-    assert_eq!(rt;
+    is_equal(
+        &rt,
         parts(&(u128::MAX, 128), &(u128::MAX - 1, 128)),
-        (128, u128::MAX, false)
+        (128, u128::MAX, false),
     );
     let short = net(&rt, "10.1.2.3/16");
-    assert_eq!(rt;
+    is_equal(
+        &rt,
         parts(&short, &net(&rt, "10.1.9.9/32")),
-        (32, 0x0a01_0000, true)
+        (32, 0x0a01_0000, true),
     );
-    assert_eq!(rt;
+    is_equal(
+        &rt,
         parts(&short, &net(&rt, "10.2.2.3/16")),
-        (32, 0x0a01_0000, false)
+        (32, 0x0a01_0000, false),
     );
     let wide = wide_net(&rt, "2001:db8::1/32");
     let top = 0x2001_0db8_u128 << 96;
-    assert_eq!(rt;
+    is_equal(
+        &rt,
         parts(&wide, &wide_net(&rt, "2001:db8:ffff::/48")),
-        (128, top, true)
+        (128, top, true),
     );
-    assert_eq!(rt;
+    is_equal(
+        &rt,
         parts(&wide, &wide_net(&rt, "2001:db8::/31")),
-        (128, top, false)
+        (128, top, false),
     );
 }
 
@@ -73,14 +79,14 @@ fn beginnings(rt: HostRuntime) {
 #[test]
 fn paths(rt: HostRuntime) {
     let path: Path = path_of(&(0x9b_u8, 8));
-    assert_eq!(rt; path.len(), 8);
-    assert_eq!(rt; path.depth(), 1);
-    assert!(rt; !path.is_short());
-    assert_eq!(rt; path.five(), 19);
+    is_equal(&rt, path.len(), 8);
+    is_equal(&rt, path.depth(), 1);
+    is_equal(&rt, path.is_short(), false);
+    is_equal(&rt, path.five(), 19);
     let rest = path.rest();
-    assert!(rt; rest.is_short());
-    assert_eq!(rt; rest.place(), 13);
-    assert_eq!(rt; rest.beginnings(), 1 + 2 + 512 + 8192);
-    assert_eq!(rt; path.extended(true).len(), 9);
-    assert_eq!(rt; rest.extended(false).place(), 14);
+    is_equal(&rt, rest.is_short(), true);
+    is_equal(&rt, rest.place(), 13);
+    is_equal(&rt, rest.beginnings(), 1 + 2 + 512 + 8192);
+    is_equal(&rt, path.extended(true).len(), 9);
+    is_equal(&rt, rest.extended(false).place(), 14);
 }

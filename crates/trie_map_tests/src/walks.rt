@@ -1,5 +1,5 @@
 //! Rows on walks.
-use crate::maps::{digits, is_key, map_of, net, value_digits, wide_map_of, wide_net};
+use crate::maps::{digits, is_equal, is_key, map_of, net, value_digits, wide_map_of, wide_net};
 use ipnet::Ipv4Net;
 use std::alloc::Global;
 use std::process::Abort;
@@ -22,8 +22,8 @@ fn seven_networks(rt: &impl Abort, alloc: Global) -> PrefixMap<Ipv4Net, u32> {
 #[test]
 fn all_in_order(rt: HostRuntime) {
     let map = seven_networks(&rt, rt.alloc());
-    assert_eq!(rt; digits(map.iter()), 1234567);
-    assert_eq!(rt; value_digits(map.values()), 1234567);
+    is_equal(&rt, digits(map.iter()), 1234567);
+    is_equal(&rt, value_digits(map.values()), 1234567);
 }
 
 #[test]
@@ -41,7 +41,7 @@ fn children(rt: HostRuntime) {
         ("11.0.0.0/8", 0),
     ];
     for (network, expected) in children.iter() {
-        assert_eq!(rt; digits(map.children(&net(&rt, network))), *expected);
+        is_equal(&rt, digits(map.children(&net(&rt, network))), *expected);
     }
 }
 
@@ -59,9 +59,10 @@ fn onwards(rt: HostRuntime) {
         ("10.4.0.1/32", false, 0),
     ];
     for (network, inclusive, expected) in onwards.iter() {
-        assert_eq!(rt;
+        is_equal(
+            &rt,
             digits(map.iter_from(&net(&rt, network), *inclusive)),
-            *expected
+            *expected,
         );
     }
 }
@@ -81,7 +82,7 @@ fn onwards_to_the_last(rt: HostRuntime) {
     let map = map_of(&rt, rt.alloc(), &SIX);
     for (inclusive, expected) in [(true, 3456), (false, 456)].iter() {
         let entries = map.iter_from(&net(&rt, "10.2.0.0/16"), *inclusive);
-        assert_eq!(rt; digits(entries), *expected);
+        is_equal(&rt, digits(entries), *expected);
     }
 }
 
@@ -104,8 +105,8 @@ fn covers(rt: HostRuntime) {
     ];
     for (network, expected) in covers.iter() {
         let network = net(&rt, network);
-        assert_eq!(rt; digits(map.cover(&network)), *expected);
-        assert_eq!(rt; value_digits(map.cover_values(&network)), *expected);
+        is_equal(&rt, digits(map.cover(&network)), *expected);
+        is_equal(&rt, value_digits(map.cover_values(&network)), *expected);
     }
 }
 
@@ -125,7 +126,7 @@ fn from_what_is_not_stored(rt: HostRuntime) {
     let map = map_of(&rt, rt.alloc(), &[("10.0.0.0/8", 1), ("10.2.0.0/16", 2)]);
     for inclusive in [true, false].iter() {
         let entries = map.iter_from(&net(&rt, "10.1.0.0/16"), *inclusive);
-        assert_eq!(rt; digits(entries), 2);
+        is_equal(&rt, digits(entries), 2);
     }
 }
 
@@ -133,12 +134,12 @@ fn from_what_is_not_stored(rt: HostRuntime) {
 fn walked_twice(rt: HostRuntime) {
     let map = map_of(&rt, rt.alloc(), &[("10.0.0.0/8", 1), ("10.2.0.0/16", 2)]);
     let mut entries = (&map).into_iter();
-    assert!(rt; entries.next().is_some());
+    is_equal(&rt, entries.next().is_some(), true);
     let Ok(copy) = entries.clone() else {
         panic!(&rt; "no copy")
     };
-    assert_eq!(rt; digits(copy), 2);
-    assert_eq!(rt; digits(entries), 2);
+    is_equal(&rt, digits(copy), 2);
+    is_equal(&rt, digits(entries), 2);
 }
 
 /// The network of all, its second address and its last.
@@ -152,7 +153,11 @@ const ENDS: [(&str, u32); 3] = [
 fn children_of_128_bits(rt: HostRuntime) {
     let map = wide_map_of(&rt, rt.alloc(), &ENDS);
     for (network, expected) in [("::1/128", 2), ("::/126", 2), ("::/0", 123)].iter() {
-        assert_eq!(rt; digits(map.children(&wide_net(&rt, network))), *expected);
+        is_equal(
+            &rt,
+            digits(map.children(&wide_net(&rt, network))),
+            *expected,
+        );
     }
 }
 
@@ -160,9 +165,10 @@ fn children_of_128_bits(rt: HostRuntime) {
 fn onwards_of_128_bits(rt: HostRuntime) {
     let map = wide_map_of(&rt, rt.alloc(), &ENDS);
     for (network, expected) in [("::1/128", 3), ("::/126", 23), ("8000::/1", 3)].iter() {
-        assert_eq!(rt;
+        is_equal(
+            &rt,
             digits(map.iter_from(&wide_net(&rt, network), false)),
-            *expected
+            *expected,
         );
     }
 }
@@ -171,6 +177,6 @@ fn onwards_of_128_bits(rt: HostRuntime) {
 fn covers_of_128_bits(rt: HostRuntime) {
     let map = wide_map_of(&rt, rt.alloc(), &ENDS);
     for (network, expected) in [("::1/128", 12), ("::/126", 1)].iter() {
-        assert_eq!(rt; digits(map.cover(&wide_net(&rt, network))), *expected);
+        is_equal(&rt, digits(map.cover(&wide_net(&rt, network))), *expected);
     }
 }
