@@ -1,5 +1,5 @@
 //! A follower: a leader's reply lines in, the hops that they tell out.
-ghost use Rattle.std.specs.Prelude.{◌≡◌, ◌⊎◌, None, Err, IfErr, IfOk, IfSome, false, slice_get};
+ghost use Rattle.std.specs.Prelude.{◌≡◌, None, Err, IfErr, IfOk, IfSome, false, slice_get};
 ghost use Rattle.routes_c.specs.Followers.{FollowerGoesOn, FollowerLists, Follows, IsClosedFollower, IsFollowerHandle, IsNoIndex, OpensIndexOf, follower_of};
 ghost use Rattle.routes_c.specs.IndexHandles.{HasHopsOf, IsIndexHandle, index_of};
 ghost use Rattle.routes_c.specs.Lists.{PieceAt};

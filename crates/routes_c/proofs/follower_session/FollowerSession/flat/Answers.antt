@@ -1,4 +1,4 @@
-use Rattle.std.proofs.Common.{◌≡◌, ◌∙◌, ◌++◌, Bool, true, false, true≢false, Option, None, Some, is_some, ap, arith, inl, map, refl}
+use Rattle.std.proofs.Common.{◌≡◌, ◌∙◌, ◌++◌, Bool, true, false, true≢false, None, Some, is_some, ap, arith, inl, map, refl}
 use Rattle.route_feed.proofs.Told.{flat_is}
 use Rattle.route_laws.specs.Networks.{routes_of}
 use Rattle.routes_c.specs.Shown.{piece_shown}
