@@ -9,6 +9,7 @@ _Static_assert(sizeof(routes_table) == 16 && offsetof(routes_table, is_open) == 
 _Static_assert(sizeof(routes_route) == 32 && offsetof(routes_route, pref) == 24 && offsetof(routes_route, len) == 27, "layout");
 _Static_assert(sizeof(routes_piece) == 24 && offsetof(routes_piece, family) == 20, "layout");
 _Static_assert(sizeof(routes_index) == 16 && offsetof(routes_index, is_open) == 8, "layout");
+_Static_assert(sizeof(routes_follower) == 16 && offsetof(routes_follower, is_open) == 8, "layout");
 _Static_assert(sizeof(routes_addr6) == 16 && offsetof(routes_addr6, low) == 8, "layout");
 
 #ifndef TURNS
@@ -415,6 +416,46 @@ static void answered(routes_table *t) {
     CHECK(routes_line(t, (const uint8_t *)"", 0) == ROUTES_OK && routes_reply(t, 0, (uint8_t *)out, sizeof out) == 4);
 }
 
+static uint32_t follow(routes_follower *f, const char *line) { return routes_follower_line(f, (const uint8_t *)line, strlen(line)); }
+
+/* A follower that has the lines of the flat list as its changes has the hops of the table; a change waits for `ok`. */
+static void followed(routes_table *t) {
+    routes_follower f = ROUTES_FOLLOWER;
+    routes_index index = ROUTES_INDEX;
+    routes_piece p, q;
+    char line[80], out[80];
+    size_t pieces = 0;
+    memset(&p, 0x5a, sizeof p);
+    q = p;
+    CHECK(follow(&f, "ok") == ROUTES_CLOSED && routes_follower_flat(&f) == ROUTES_CLOSED && routes_follower_piece_at(&f, 0, &p) == ROUTES_CLOSED);
+    CHECK(routes_follower_index(&index, &f) == ROUTES_CLOSED && !index.is_open && memcmp(&p, &q, sizeof p) == 0);
+    CHECK(routes_follower_open(&f) == ROUTES_OK && routes_follower_open(&f) == ROUTES_OPEN);
+    CHECK(routes_flat(t) == ROUTES_OK && routes_line(t, (const uint8_t *)"flat", 4) == ROUTES_OK);
+    for (size_t from = 0, got; (got = routes_reply(t, from, (uint8_t *)out, sizeof out)) > 0 && memcmp(out, "ok", 2) != 0; pieces++) {
+        size_t len = (size_t)((char *)memchr(out, '\n', got) - out);
+        from += len + 1;
+        out[len] = 0;
+        CHECK(strncmp(out, "flat ", 5) == 0);
+        snprintf(line, sizeof line, "set %s", out + 5);
+        CHECK(follow(&f, line) == ROUTES_OK);
+    }
+    CHECK(routes_follower_flat(&f) == ROUTES_OK && routes_follower_piece_at(&f, 0, &p) == ROUTES_MISSING);
+    CHECK(follow(&f, "ok") == ROUTES_OK && routes_follower_flat(&f) == ROUTES_OK && routes_follower_index(&index, &f) == ROUTES_OK);
+    for (size_t i = 0; i < pieces; i++) {
+        CHECK(routes_piece_at(t, i, &p) == ROUTES_OK && routes_follower_piece_at(&f, i, &q) == ROUTES_OK);
+        CHECK(p.family == q.family && p.len == q.len && p.high == q.high && p.low == q.low && p.hop == q.hop);
+    }
+    CHECK(routes_follower_piece_at(&f, pieces, &q) == ROUTES_MISSING);
+    has_hops(&index);
+    CHECK(routes_follower_index(&index, &f) == ROUTES_OPEN);
+    routes_index_close(&index);
+    CHECK(follow(&f, "no line") == ROUTES_NOT_A_LINE && follow(&f, "ok") == ROUTES_FAILED && routes_follower_flat(&f) == ROUTES_FAILED);
+    CHECK(routes_follower_index(&index, &f) == ROUTES_FAILED && !index.is_open);
+    routes_follower_close(&f);
+    CHECK(f.at == NULL && !f.is_open);
+    routes_follower_close(&f);
+}
+
 /* A closed table answers each call so, and changes nothing. */
 static void closed(routes_table *t) {
     routes_route r, no_route;
@@ -466,6 +507,7 @@ int main(void) {
         if (turn % 100 == 0) looked_up_at_once(&t);
     }
     listed(&t);
+    followed(&t);
     answered(&t);
     routes_route r;
     CHECK(routes_get4(&other, 1, &r) == ROUTES_MISSING);

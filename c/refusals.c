@@ -105,6 +105,45 @@ static void indexed(routes_table *t) {
     routes_index_close(&index);
 }
 
+static uint32_t follow(routes_follower *f, const char *line) { return routes_follower_line(f, (const uint8_t *)line, strlen(line)); }
+
+/* The lines of two changes; the first that is not taken is answered so, and is the last that is. */
+static uint32_t followed(routes_follower *f) {
+    static const char *lines[] = {"set 10.0.0.0/8 1", "set 10.0.0.0/16 2", "ok", "unset 10.0.0.0/12", "ok"};
+    uint32_t code = ROUTES_OK;
+    for (size_t i = 0; code == ROUTES_OK && i < sizeof lines / sizeof *lines; i++) code = follow(f, lines[i]);
+    return code;
+}
+
+/* A follower: a line without memory is a fault; a list and an index are tried again. */
+static void told_of(void) {
+    routes_follower f = ROUTES_FOLLOWER;
+    routes_index index = ROUTES_INDEX;
+    routes_piece p = {0, 0, 0, 0, 0};
+    uint32_t code = ROUTES_NO_MEMORY;
+    for (int tries = 0; code == ROUTES_NO_MEMORY && tries < 2; tries++) {
+        uint32_t opened = routes_follower_open(&f);
+        code = opened == ROUTES_OK ? followed(&f) : opened;
+        if (code == ROUTES_OK) break;
+        refused++;
+        WANT(code == ROUTES_NO_MEMORY && (opened != ROUTES_OK || follow(&f, "ok") == ROUTES_FAILED));
+        routes_follower_close(&f);
+        WANT(f.at == NULL && !f.is_open);
+    }
+    WANT(code == ROUTES_OK);
+    if (routes_follower_flat(&f) == ROUTES_NO_MEMORY) {
+        refused++;
+        WANT(routes_follower_piece_at(&f, 0, &p) == ROUTES_MISSING && routes_follower_flat(&f) == ROUTES_OK);
+    }
+    WANT(routes_follower_piece_at(&f, 0, &p) == ROUTES_OK && p.hop == 1 && p.low == 0x0a100000 && p.len == 12);
+    if (routes_follower_index(&index, &f) == ROUTES_NO_MEMORY) {
+        refused++;
+        WANT(!index.is_open && routes_follower_index(&index, &f) == ROUTES_OK);
+    }
+    routes_index_close(&index);
+    routes_follower_close(&f);
+}
+
 /* All of it with one request refused; how many there were. */
 static long tried(long request) {
     routes_table t = ROUTES_TABLE;
@@ -122,6 +161,7 @@ static long tried(long request) {
     told(&t);
     listed(&t);
     indexed(&t);
+    told_of();
     long all = asked;
     for (uint32_t i = 0; i < NETWORKS; i++) WANT(routes_del4(&t, addr_of(i), len_of(i), i, &c) == ROUTES_OK);
     WANT(asked == all); /* a `del` asks for no memory */

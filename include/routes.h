@@ -4,11 +4,12 @@
  *
  *   1. A table is a routes_table of zero bytes (ROUTES_TABLE, or memory from calloc), or what earlier calls left in it. It is
  *      never copied, moved while it is open or written otherwise. It may be anywhere, also on the stack; what it holds is on the
- *      heap, until routes_close. The same is true of an index, a routes_index.
+ *      heap, until routes_close. The same is true of an index, a routes_index, and of
+ *      a follower, a routes_follower.
  *   2. Every other pointer has room for what it points to, also where the answer leaves that alone, and what it points to
  *      has been given a value. No two pointers of a call overlap. No pointer is null, also where a length is 0.
- *   3. One call at a time is made on a table or an index, look-ups too, and it stays on the thread that opened it. Other threads may
- *      have tables and indexes of their own at the same time.
+ *   3. One call at a time is made on a table, an index or a follower, look-ups too, and it stays on the thread that opened it. Other
+ *      threads may have some of their own at the same time.
  *   4. malloc, realloc and free are those of one allocator, and no call is made in a signal handler, or in the forked child of a
  *      process with threads.
  *
@@ -17,7 +18,7 @@
  * past the length are ignored; where it gives one, they are 0.
  *
  * A call that can fail answers a number of routes_answer. At every answer but ROUTES_OK the table, what it keeps and what the
- * pointers point to are as they were, with one exception, at routes_line. */
+ * pointers point to are as they were, with two exceptions, at routes_line and routes_follower_line. */
 #ifndef ROUTES_H
 #define ROUTES_H
 
@@ -34,10 +35,12 @@ enum routes_answer {
     ROUTES_OK = 0,
     ROUTES_MISSING = 1,   /* no network contains the address; the network has no such hop; the index is past the end */
     ROUTES_NO_MEMORY = 2, /* malloc or realloc gave none */
-    ROUTES_CLOSED = 3,    /* the table or the index is not open */
-    ROUTES_OPEN = 4,      /* the table or the index is open already */
+    ROUTES_CLOSED = 3,    /* the table, the index or the follower is not open */
+    ROUTES_OPEN = 4,      /* it is open already */
     ROUTES_FULL = 5,      /* eight other hops are stored at the network, which is the most */
-    ROUTES_TOO_LONG = 6   /* the length is over 32 for IPv4, or over 128 for IPv6 */
+    ROUTES_TOO_LONG = 6,  /* the length is over 32 for IPv4, or over 128 for IPv6 */
+    ROUTES_NOT_A_LINE = 7, /* the text is no reply line of `routes lead` */
+    ROUTES_FAILED = 8     /* the follower had a fault before */
 };
 
 /* As the hop of a route: packets go nowhere, a null route. In a change, and of an index: the addresses have no hop. */
@@ -201,6 +204,34 @@ uint32_t routes_index_hop6(routes_index *index, uint64_t high, uint64_t low, uin
 /* The same of many addresses. As many are answered as there are addresses and room; what is left of `hops` stays. */
 uint32_t routes_index_hop4_many(routes_index *index, const uint32_t *addrs, size_t count, uint64_t *hops, size_t room);
 uint32_t routes_index_hop6_many(routes_index *index, const routes_addr6 *addrs, size_t count, uint64_t *hops, size_t room);
+
+/* A follower, which is the caller's: the hops that the reply lines of `routes lead` tell. A change of a reply waits for the line that
+ * closes it, and is carried out at `ok`. 16 bytes; zero bytes are a closed follower. */
+typedef struct routes_follower {
+    void *at;
+    bool is_open;
+} routes_follower;
+#define ROUTES_FOLLOWER {NULL, false}
+
+/* Opens a closed follower: no address has a hop. ROUTES_OK, ROUTES_NO_MEMORY, or ROUTES_OPEN. */
+uint32_t routes_follower_open(routes_follower *follower);
+
+/* Closes a follower, and gives its memory back. A closed one stays closed; it may be opened again. */
+void routes_follower_close(routes_follower *follower);
+
+/* Takes a reply line, given without its line end. ROUTES_OK; ROUTES_NO_MEMORY where there is none for a change, to keep it or to carry
+ * it out; ROUTES_NOT_A_LINE; ROUTES_FAILED; or ROUTES_CLOSED. ROUTES_NO_MEMORY and ROUTES_NOT_A_LINE are faults: after one the follower
+ * takes no more lines, and gives neither a list nor an index, until it is closed and opened. */
+uint32_t routes_follower_line(routes_follower *follower, const uint8_t *line, size_t len);
+
+/* Makes the flat list of the hops, in the follower's memory, as routes_flat does, and the block at an index of it. ROUTES_OK;
+ * ROUTES_NO_MEMORY, ROUTES_FAILED or ROUTES_CLOSED; ROUTES_MISSING past the end. */
+uint32_t routes_follower_flat(routes_follower *follower);
+uint32_t routes_follower_piece_at(routes_follower *follower, size_t index, routes_piece *piece);
+
+/* Opens a closed index, with the hops that the follower has now: a copy, which no later line reaches. ROUTES_OK; ROUTES_NO_MEMORY;
+ * ROUTES_CLOSED, where the follower is not open; ROUTES_FAILED; or ROUTES_OPEN, where the index is. */
+uint32_t routes_follower_index(routes_index *index, routes_follower *follower);
 
 /* Eight bytes in network order as a number: of an in6_addr, routes_half(a) is the upper half and routes_half(a + 8) the lower. */
 static inline uint64_t routes_half(const uint8_t *bytes) {

@@ -1,5 +1,5 @@
 -- What the fields of an `IndexHeld` own, as HeldFields.antt has it of a `Held`.
-use Rattle.std.proofs.Common.{◌≡◌, List, [], ◌∷◌, refl}
+use Rattle.std.proofs.Common.{List, [], ◌∷◌, refl}
 use seplogic.Ra.Ura.{Ura}
 use mir.Val.{Val}
 use types.Logic.{Logic}

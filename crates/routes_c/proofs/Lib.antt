@@ -1,3 +1,4 @@
+pub mod FollowerHeldFields
 pub mod HeldFields
 pub mod IndexHeldFields
 pub mod Pages

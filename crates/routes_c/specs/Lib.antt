@@ -1,5 +1,7 @@
 pub mod Answered
 pub mod Calls
+pub mod FollowerHeld
+pub mod Followers
 pub mod Handles
 pub mod Held
 pub mod IndexHandles

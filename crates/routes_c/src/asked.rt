@@ -1,7 +1,6 @@
 //! Lists of routes of a table, as C has them.
 ghost use Rattle.std.specs.Prelude.{◌≡◌, IfOk, map, take};
 ghost use Rattle.ipnet.specs.IpNets.{block};
-ghost use Rattle.ipnet_blocks.specs.Blocks.{Block};
 ghost use Rattle.route_laws.specs.LeastTables.{IsLeast, routes_for};
 ghost use Rattle.route_laws.specs.Networks.{routes_of};
 ghost use Rattle.route_laws.specs.Tables.{hop_at};

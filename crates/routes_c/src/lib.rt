@@ -6,6 +6,10 @@
 pub mod asked;
 pub mod change;
 pub mod count;
+pub mod follower_handle;
+mod follower_held;
+pub mod follower_session;
+pub mod following;
 pub mod handle;
 mod held;
 pub mod index_handle;

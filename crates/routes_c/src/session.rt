@@ -28,13 +28,26 @@ pub struct Session {
 }
 
 /// Appends the pieces as C has them.
-fn push_pieces(pieces: &mut Vec<Piece>, flat: Flat<'_>) -> Result<(), AllocError>
+pub(crate) fn push_pieces(pieces: &mut Vec<Piece>, flat: Flat<'_>) -> Result<(), AllocError>
     ensures { OnOk result (pieces.new.items ≡ pieces.old.items ++ map piece_shown flat.entry) }
 {
     for piece in flat {
         pieces.push(shown_piece(piece.0, piece.1))?;
     }
     Ok(())
+}
+
+/// The piece at an index.
+pub(crate) fn piece_in(pieces: &[Piece], index: usize, piece: &mut Piece) -> u32
+    ensures { PieceAt (slice_get pieces.now index) result piece.old piece.new }
+{
+    match pieces.get(index) {
+        Some(found) => {
+            *piece = *found;
+            0
+        }
+        None => 1,
+    }
 }
 
 /// Copies what stands from a place on, as far as there is room.
@@ -173,12 +186,6 @@ impl Session {
     pub(crate) fn piece_at(&self, index: usize, piece: &mut Piece) -> u32
         ensures { PieceAt (slice_get self.now.pieces.items index) result piece.old piece.new }
     {
-        match self.pieces.get(index) {
-            Some(found) => {
-                *piece = *found;
-                0
-            }
-            None => 1,
-        }
+        piece_in(&self.pieces, index, piece)
     }
 }

@@ -1,5 +1,5 @@
 -- The pointer has its type again. What the handle owned is what the parts own, since it has a index.
-use Rattle.routes_c.proofs.Steps.{[], ◌∷◌, refl, Option, proved, ftrue, fact, ‵, raw, ◌⊛◌, ◌$◌, ◌∵◌, !, qed, move, keep, drop, done, join, split, fsplit, fjoin, rewrite, suffices, enter, of_opd, fld, stop, and_then, no_more, returns, alloc_all, pass_all, free_all, look_at, get, get_in, sets, agg, whole, sub, yes, rawptr_Lawful, plain, nothing, owned, heard, Is, Stays, walk_of, says, stay_dropped, Goes-dropped, ends_at, to}
+use Rattle.routes_c.proofs.Steps.{[], ◌∷◌, refl, Option, proved, ftrue, fact, ‵, raw, ◌⊛◌, ◌$◌, ◌∵◌, !, qed, move, keep, done, join, split, fsplit, fjoin, rewrite, suffices, enter, of_opd, fld, stop, and_then, no_more, returns, alloc_all, pass_all, free_all, look_at, get, get_in, sets, agg, whole, sub, yes, rawptr_Lawful, plain, nothing, owned, heard, Is, Stays, walk_of, says, stay_dropped, Goes-dropped, ends_at, to}
 use Rattle.routes_c.proofs.HeldFields.{LooseFields, Loose-row, allocator_typed, loose_fields_are, loose_fields_made, loose_typed, loose_vals, taken}
 use Rattle.routes_c.proofs.IndexHeldFields.{held_vals, held_tells, held_typed}
 use Rattle.routes_c.specs.IndexHeld.{index_owns}

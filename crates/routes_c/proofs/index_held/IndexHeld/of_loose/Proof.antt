@@ -1,5 +1,5 @@
 -- The pointer's type changes, and its value doesn't: what the parts owned is what the handle owns.
-use Rattle.routes_c.proofs.Steps.{[], ◌∷◌, refl, Some, proved, ftrue, ‵, ◌⊛◌, ◌$◌, ◌∵◌, !, qed, move, keep, drop, done, join, split, fsplit, fjoin, suffices, enter, of_opd, fld, stop, and_then, no_more, returns, alloc_all, pass_all, free_all, look_at, get, get_in, sets, agg, whole, sub, yes, rawptr_Lawful, plain, nothing, owned, Is, Stays, walk_of, says, stay_dropped, Goes-dropped, ends_at, to}
+use Rattle.routes_c.proofs.Steps.{[], ◌∷◌, refl, Some, proved, ftrue, ‵, ◌⊛◌, ◌$◌, ◌∵◌, !, qed, move, keep, done, join, split, fsplit, fjoin, suffices, enter, of_opd, fld, stop, and_then, no_more, returns, alloc_all, pass_all, free_all, look_at, get, get_in, sets, agg, whole, sub, yes, rawptr_Lawful, plain, nothing, owned, Is, Stays, walk_of, says, stay_dropped, Goes-dropped, ends_at, to}
 use Rattle.routes_c.proofs.HeldFields.{Loose-row, allocator_typed, loose_vals, loose_tells, loose_typed}
 use Rattle.routes_c.proofs.IndexHeldFields.{Fields, fields_are, fields_made, fields_typed}
 use Rattle.routes_c.specs.contracts.index_held.IndexHeld.of_loose as f

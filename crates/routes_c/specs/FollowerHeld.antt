@@ -1,0 +1,17 @@
+-- What a handle owns.
+use Rattle.std.specs.Prelude.{Option, None, Some}
+use Rattle.std.specs.Coded.{Coded, coded_option}
+use base.Fml.{Fml, ftrue}
+use denote.RawPtr.{Ptr}
+use Rattle.std.specs.Box.Ownership.{box_owns}
+use Rattle.std.specs.Global.{Global}
+use Rattle.std_heap.specs.contracts.GlobalAllocator.TheImpl.{ghosts}
+use Rattle.routes_c.specs.contracts.follower_session.FollowerSession.{the_row}
+
+-- the follower at the pointer with the right to free its block, or nothing
+abbrev pub follower_owns : Global → Ptr → Option the_row.Denot → Fml
+follower_owns alloc p None = ftrue
+follower_owns alloc p (Some s) = box_owns (ghosts.dealloc_token alloc) the_row p s
+
+abbrev pub follower_coded : Coded (Option the_row.Denot)
+follower_coded = coded_option the_row.coded
