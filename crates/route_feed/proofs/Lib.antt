@@ -16,6 +16,7 @@ pub mod Reread
 pub mod SameBytes
 pub mod Turns
 pub mod Beginnings
+pub mod Apart
 pub mod Grammar
 pub mod Rebuilt
 pub mod Restarted
