@@ -26,7 +26,7 @@ between_reaches M N old new = reaches N M (between M N) (leads N new M old)
 pub between_hitless : (M N : List Route) → IsTable M → IsTable N → IsHitless M (between M N)
 between_hitless M N old new = hitless_from M (between M N) (λ x a. (hop_at N x, leads_once x a N M (between M N) (leads N new M old)))
 
-after-append : (M : List Route) (os ps : List Operation) → after_all M (os ++ ps) ≡ after_all (after_all M os) ps
+pub after-append : (M : List Route) (os ps : List Operation) → after_all M (os ++ ps) ≡ after_all (after_all M os) ps
 after-append M [] ps = refl
 after-append M (o ∷ os) ps = after-append (after M o) os ps
 

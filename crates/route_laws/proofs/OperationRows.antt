@@ -7,6 +7,7 @@ use Rattle.route_choices.specs.declared.hop.Hop.TheVariants.{Number, Drop}
 use Rattle.route_laws.specs.Tables.{Route, hop_at}
 use Rattle.route_laws.specs.Operations.{Install, Remove, after_all, between}
 use Rattle.route_laws.specs.Batches.{batch}
+use Rattle.route_laws.specs.Runs.{Event, Have, Sync, Told, given, haves, start}
 
 abbrev net : ℕ → ℕ → Block
 net len quotient = record { family = Ipv4; len = len; quotient = quotient }
@@ -55,3 +56,13 @@ two_row = refl
 -- the same operations, outer before inner: the address turns twice
 naive_row : map (λ i. hop_at (after_all old (take i (Install (route 8 10 (Number 2)) ∷ Install (route 9 21 (Number 1)) ∷ Remove (net 9 20) ∷ []))) (at 176160768)) (0 ∷ 1 ∷ 2 ∷ 3 ∷ []) ≡ Some 1 ∷ Some 2 ∷ Some 1 ∷ Some 1 ∷ []
 naive_row = refl
+
+-- 10.0.0.0/8 1 is installed already, and a change is told; then another with a least table of the hops after both, and one more
+abbrev run : List Event
+run = Have (route 8 10 (Number 1)) ∷ Told (route 8 10 (Number 2) ∷ []) ∷ Sync (route 9 21 (Number 3) ∷ []) (route 8 10 (Number 2) ∷ route 9 21 (Number 3) ∷ []) ∷ Told (route 9 20 (Number 4) ∷ []) ∷ []
+
+run_row : given start run ≡ Install (route 9 21 (Number 3)) ∷ Install (route 8 10 (Number 2)) ∷ Install (route 9 20 (Number 4)) ∷ []
+run_row = refl
+
+run_reached_row : after_all (haves run) (given start run) ≡ route 8 10 (Number 2) ∷ route 9 20 (Number 4) ∷ route 9 21 (Number 3) ∷ []
+run_reached_row = refl

@@ -7,9 +7,9 @@ use Rattle.route_laws.proofs.Families.{least_too}
 use Rattle.route_laws.proofs.Insides.{table_of}
 use Rattle.route_laws.proofs.Updates.{added_is_table}
 use Rattle.route_laws.specs.Batches.{AreChanges, batch, hop_over, painted, painted_all}
-use Rattle.route_laws.specs.Operations.{IsHitless, after_all}
-use Rattle.route_laws.specs.Runs.{Event, Have, Told, Sync, Installer, IsApart, IsMade, MayCome, MayAllCome, after_event, after_events, gives, start, told}
-use Rattle.route_laws.proofs.Batches.{Changes, batch_hitless, batch_hops, batch_reaches, between_hitless, between_reaches, changes_from}
+use Rattle.route_laws.specs.Operations.{IsHitless, Operation, after_all}
+use Rattle.route_laws.specs.Runs.{Event, Have, Told, Sync, Installer, IsApart, IsMade, MayCome, MayAllCome, after_event, after_events, given, gives, haves, start, told, with_haves}
+use Rattle.route_laws.proofs.Batches.{Changes, after-append, batch_hitless, batch_hops, batch_reaches, between_hitless, between_reaches, changes_from}
 use Rattle.route_laws.proofs.Painted.{painted_is_table}
 use Rattle.route_laws.proofs.Turning.{hitless_from}
 
@@ -56,19 +56,21 @@ holds_told h s rs g c =
     same true e = refl
     same false e = absurd (cc)
 
-holds_sync : (h : Address → Option ℕ) (s : Installer) (N : List Route) → Holds h s → IsLeast (hop_at s.table) N → Holds h (after_event s (Sync N))
-holds_sync h s N g l = record {
-  table = l.hops.table;
-  installed = l.hops.table;
-  same = λ e. refl;
-  hops = λ x a. l.hops.same x a ∙ g.hops x a;
-}
+holds_sync : (h : Address → Option ℕ) (s : Installer) (rs N : List Route) → Holds h s → MayCome s (Sync rs N) → Holds (λ x. hop_over (h x) rs x) (after_event s (Sync rs N))
+holds_sync h s rs N g m =
+    let t = holds_told h s rs g m.0 in
+    record {
+      table = m.1.hops.table;
+      installed = m.1.hops.table;
+      same = λ e. refl;
+      hops = λ x a. m.1.hops.same x a ∙ t.hops x a;
+    }
 
 holds_after : (es : List Event) (h : Address → Option ℕ) (s : Installer) → Holds h s → MayAllCome s es → Holds (λ x. told (h x) es x) (after_events s es)
 holds_after [] h s g m = g
 holds_after (Have r ∷ es) h s g m = holds_after es h (after_event s (Have r)) (holds_have h s r g m.0) m.1
 holds_after (Told rs ∷ es) h s g m = holds_after es (λ x. hop_over (h x) rs x) (after_event s (Told rs)) (holds_told h s rs g m.0) m.1
-holds_after (Sync N ∷ es) h s g m = holds_after es h (after_event s (Sync N)) (holds_sync h s N g m.0) m.1
+holds_after (Sync rs N ∷ es) h s g m = holds_after es (λ x. hop_over (h x) rs x) (after_event s (Sync rs N)) (holds_sync h s rs N g m.0) m.1
 
 holds_start : Holds (λ x. None) start
 holds_start = record {
@@ -96,7 +98,7 @@ made h s (Told rs) g m = go s.kept (λ e. g.same e)
     go : (b : Bool) → (b ≡ true → s.installed ≡ s.table) → after_all s.installed (cond b (batch s.installed rs) []) ≡ cond b (painted_all s.table rs) s.installed
     go true e = batch_reaches s.installed rs g.installed (changes_from rs m) ∙ ap (λ T. painted_all T rs) (e refl)
     go false e = refl
-made h s (Sync N) g m = between_reaches s.installed N g.installed m.hops.table
+made h s (Sync rs N) g m = between_reaches s.installed N g.installed m.1.hops.table
 
 hitless : (h : Address → Option ℕ) (s : Installer) (e : Event) → Holds h s → MayCome s e → IsApart e → IsHitless s.installed (gives s e)
 hitless h s (Have r) g m p = nothing_turns s.installed
@@ -105,7 +107,7 @@ hitless h s (Told rs) g m p = go s.kept
     go : (b : Bool) → IsHitless s.installed (cond b (batch s.installed rs) [])
     go true = batch_hitless s.installed rs g.installed m p
     go false = nothing_turns s.installed
-hitless h s (Sync N) g m p = between_hitless s.installed N g.installed m.hops.table
+hitless h s (Sync rs N) g m p = between_hitless s.installed N g.installed m.1.hops.table
 
 pub gives_what_it_says : (es : List Event) (e : Event) → MayAllCome start (es ++ e ∷ []) → IsMade (after_events start es) e
 gives_what_it_says es e m = let t = before_last es e start m in made (told None es) (after_events start es) e (holds es t.0) t.1
@@ -116,17 +118,64 @@ gives_hitless es e m p = let t = before_last es e start m in hitless (told None 
 pub keeps_hops : (es : List Event) → MayAllCome start es → Installer.kept (after_events start es) ≡ true → (x : Address) → IsAddress x → hop_at (Installer.installed (after_events start es)) x ≡ told None es x
 keeps_hops es m k x a = let g = holds es m in ap (λ T. hop_at T x) (g.same k) ∙ g.hops x a
 
-pub sync_is_least : (es : List Event) (N : List Route) → MayAllCome start (es ++ Sync N ∷ []) → IsLeast (told None es) (Installer.installed (after_events start (es ++ Sync N ∷ [])))
-sync_is_least es N m =
-    let t = before_last es (Sync N) start m in
-    subst (λ (s : Installer). IsLeast (told None es) s.installed) (sym (after_last es (Sync N) start))
-    (least_too (hop_at (Installer.table (after_events start es))) (told None es) (Holds.hops (holds es t.0)) N t.1)
+pub sync_is_least : (es : List Event) (rs N : List Route) → MayAllCome start (es ++ Sync rs N ∷ []) → IsLeast (told None (es ++ Sync rs N ∷ [])) (Installer.installed (after_events start (es ++ Sync rs N ∷ [])))
+sync_is_least es rs N m =
+    let t = before_last es (Sync rs N) start m in
+    let s = after_events start es in
+    let e = after_last es (Sync rs N) start in
+    subst (λ (u : Installer). IsLeast (told None (es ++ Sync rs N ∷ [])) u.installed) (sym e)
+    (least_too (hop_at (painted_all s.table rs)) (told None (es ++ Sync rs N ∷ []))
+    (λ x a. sym (t.1.1.hops.same x a) ∙ ap (λ (u : Installer). hop_at u.table x) (sym e) ∙ Holds.hops (holds (es ++ Sync rs N ∷ []) m) x a) N t.1.1)
 
-pub sync_is_unseen : (es : List Event) (N : List Route) → MayAllCome start (es ++ Sync N ∷ []) → Installer.kept (after_events start es) ≡ true → (x : Address) → IsAddress x → (i : ℕ)
-    → hop_at (after_all (Installer.installed (after_events start es)) (take i (gives (after_events start es) (Sync N)))) x ≡ hop_at (Installer.installed (after_events start es)) x
+pub sync_is_unseen : (es : List Event) (N : List Route) → MayAllCome start (es ++ Sync [] N ∷ []) → Installer.kept (after_events start es) ≡ true → (x : Address) → IsAddress x → (i : ℕ)
+    → hop_at (after_all (Installer.installed (after_events start es)) (take i (gives (after_events start es) (Sync [] N)))) x ≡ hop_at (Installer.installed (after_events start es)) x
 sync_is_unseen es N m k x a i =
-    let t = before_last es (Sync N) start m in
+    let t = before_last es (Sync [] N) start m in
     let g = holds es t.0 in
     ⊎_elim (λ e. e)
-    (λ e. e ∙ ap (λ T. hop_at T x) (gives_what_it_says es (Sync N) m) ∙ t.1.hops.same x a ∙ ap (λ T. hop_at T x) (sym (g.same k)))
-    (IsHitless.turns (gives_hitless es (Sync N) m tt) x a i i (omega arith))
+    (λ e. e ∙ ap (λ T. hop_at T x) (gives_what_it_says es (Sync [] N) m) ∙ t.1.1.hops.same x a ∙ ap (λ T. hop_at T x) (sym (g.same k)))
+    (IsHitless.turns (gives_hitless es (Sync [] N) m tt) x a i i (omega arith))
+
+-- ---- all events together
+
+-- once the table is kept, nothing else is installed already
+no_haves : (M : List Route) (es : List Event) (s : Installer) → s.kept ≡ true → MayAllCome s es → with_haves M es ≡ M
+no_haves M [] s k m = refl
+no_haves M (Have r ∷ es) s k m = let e = sym k ∙ m.0.0 in absurd (cc)
+no_haves M (Told rs ∷ es) s k m = no_haves M es (after_event s (Told rs)) k m.1
+no_haves M (Sync rs N ∷ es) s k m = no_haves M es (after_event s (Sync rs N)) refl m.1
+
+-- from here on the table is kept: the operations of an event, and then those of the others
+kept_then : (s t : Installer) (os : List Operation) (es : List Event) → after_all s.installed os ≡ t.installed → t.kept ≡ true → MayAllCome t es
+    → after_all (with_haves t.installed es) (given t es) ≡ Installer.installed (after_events t es) → after_all (with_haves s.installed es) (os ++ given t es) ≡ Installer.installed (after_events t es)
+kept_then s t os es e k m rest =
+    ap (λ M. after_all M (os ++ given t es)) (no_haves s.installed es t k m)
+    ∙ after-append s.installed os (given t es)
+    ∙ ap (λ M. after_all M (given t es)) (e ∙ sym (no_haves t.installed es t k m))
+    ∙ rest
+
+-- what was given from an event on
+abbrev Reaches : Installer → List Event → Type 0
+Reaches s es = after_all (with_haves s.installed es) (given s es) ≡ Installer.installed (after_events s es)
+
+-- told, the table is kept already, or nothing is given
+told_then : (s : Installer) (rs : List Route) (es : List Event) → IsMade s (Told rs) → MayAllCome (after_event s (Told rs)) es → Reaches (after_event s (Told rs)) es → Reaches s (Told rs ∷ es)
+told_then s rs es e m rest = go s.kept refl
+  where
+    go : (b : Bool) → s.kept ≡ b → Reaches s (Told rs ∷ es)
+    go true k = kept_then s (after_event s (Told rs)) (gives s (Told rs)) es e k m rest
+    go false k =
+        ap (λ c. after_all (with_haves (cond c (painted_all s.table rs) s.installed) es) (given s (Told rs ∷ es))) (sym k)
+        ∙ ap (λ c. after_all (with_haves (Installer.installed (after_event s (Told rs))) es) (cond c (batch s.installed rs) [] ++ given (after_event s (Told rs)) es)) k
+        ∙ rest
+
+reaches_after : (es : List Event) (h : Address → Option ℕ) (s : Installer) → Holds h s → MayAllCome s es → Reaches s es
+reaches_after [] h s g m = refl
+reaches_after (Have r ∷ es) h s g m = reaches_after es h (after_event s (Have r)) (holds_have h s r g m.0) m.1
+reaches_after (Told rs ∷ es) h s g m = told_then s rs es (made h s (Told rs) g m.0) m.1 (reaches_after es (λ x. hop_over (h x) rs x) (after_event s (Told rs)) (holds_told h s rs g m.0) m.1)
+reaches_after (Sync rs N ∷ es) h s g m =
+    kept_then s (after_event s (Sync rs N)) (gives s (Sync rs N)) es (made h s (Sync rs N) g m.0) refl m.1
+    (reaches_after es (λ x. hop_over (h x) rs x) (after_event s (Sync rs N)) (holds_sync h s rs N g m.0) m.1)
+
+pub given_reaches : (es : List Event) → MayAllCome start es → after_all (haves es) (given start es) ≡ Installer.installed (after_events start es)
+given_reaches es m = reaches_after es (λ x. None) start holds_start m

@@ -9,7 +9,7 @@ use Rattle.route_laws.specs.Batches.{AreApart, AreChanges, batch, changes_to, ho
 use Rattle.route_laws.specs.LeastTables.{IsLeast}
 use Rattle.route_laws.specs.Operations.{IsFewestOperations, IsHitless, after_all, between}
 use Rattle.route_laws.specs.Overwritten.{without_inside}
-use Rattle.route_laws.specs.Runs.{Event, Sync, IsApart, IsMade, MayAllCome, after_events, gives, start, told}
+use Rattle.route_laws.specs.Runs.{Event, Sync, IsApart, IsMade, MayAllCome, after_events, given, gives, haves, start, told}
 use Rattle.route_laws.specs.Tables.{Route, Changed, IsTable, hop_at, match_of}
 
 -- the operations between two tables make the second of the first
@@ -79,12 +79,17 @@ abbrev pub KeepsHops : Type 0
 KeepsHops = (es : List Event) → MayAllCome start es → (after_events start es).kept ≡ true →
     (x : Address) → IsAddress x → hop_at (after_events start es).installed x ≡ told None es x
 
--- after a `Sync` it is a least table of the hops that were told
-abbrev pub SyncIsLeast : Type 0
-SyncIsLeast = (es : List Event) (N : List Route) → MayAllCome start (es ++ Sync N ∷ []) → IsLeast (told None es) (after_events start (es ++ Sync N ∷ [])).installed
+-- the operations of all events make of what was installed before them what is installed after them
+abbrev pub GivenReaches : Type 0
+GivenReaches = (es : List Event) → MayAllCome start es → after_all (haves es) (given start es) ≡ (after_events start es).installed
 
--- a later `Sync` turns no address at any moment
+-- after a `Sync` it is a least table of the hops that were told, its own changes included
+abbrev pub SyncIsLeast : Type 0
+SyncIsLeast = (es : List Event) (rs N : List Route) → MayAllCome start (es ++ Sync rs N ∷ []) →
+    IsLeast (told None (es ++ Sync rs N ∷ [])) (after_events start (es ++ Sync rs N ∷ [])).installed
+
+-- a later `Sync` without changes turns no address at any moment
 abbrev pub SyncIsUnseen : Type 0
-SyncIsUnseen = (es : List Event) (N : List Route) → MayAllCome start (es ++ Sync N ∷ []) → (after_events start es).kept ≡ true →
+SyncIsUnseen = (es : List Event) (N : List Route) → MayAllCome start (es ++ Sync [] N ∷ []) → (after_events start es).kept ≡ true →
     (x : Address) → IsAddress x → (i : ℕ) →
-    hop_at (after_all (after_events start es).installed (take i (gives (after_events start es) (Sync N)))) x ≡ hop_at (after_events start es).installed x
+    hop_at (after_all (after_events start es).installed (take i (gives (after_events start es) (Sync [] N)))) x ≡ hop_at (after_events start es).installed x
