@@ -1,8 +1,7 @@
 -- Notes as events on a table that is kept installed, and what an installer writes of them.
-use Rattle.std.specs.Prelude.{◌≡◌, ℕ, suc, ◌+◌, nat_lt, length, Bool, false, ◌&&◌, List, [], ◌∷◌, ◌++◌, if◌then◌else◌, Some, map}
+use Rattle.std.specs.Prelude.{◌≡◌, ℕ, suc, ◌+◌, nat_lt, length, Bool, true, false, ◌&&◌, List, [], ◌∷◌, ◌++◌, if◌then◌else◌, Option, Some, None, map}
 use Rattle.std.specs.List.{flat_map}
 use Rattle.std.specs.Prelude.{codes}
-use Rattle.route_lines.specs.Bytes.{lines}
 use Rattle.route_lines.specs.Spelled.{note_of}
 use Rattle.route_lines.specs.Texts.{update_text}
 use Rattle.route_lines.specs.declared.note.Note.{Note}
@@ -15,7 +14,7 @@ use Rattle.route_laws.specs.Operations.{Operation, Install, Remove}
 use Rattle.route_laws.specs.Runs.{Event, Have, Told, Sync, Installer, MayAllCome, after_event, after_events, gives, start}
 use Rattle.route_laws.specs.Tables.{Route, route_of}
 use Rattle.ipnet.specs.IpNets.{network_at}
-use Rattle.route_feed.specs.Streams.{Change, change_of, closes, done_or, pending_after}
+use Rattle.route_feed.specs.Streams.{Change, change_of, closes, done_or, pending_after, WantsMemory}
 
 -- a change as a route
 abbrev pub route_to : Change → Route
@@ -68,10 +67,10 @@ abbrev pub events : Installing → List Noted → List Event
 events s [] = []
 events s (n ∷ ns) = event_of s n.note n.least ++ events (after_note s n) ns
 
--- Each line of the bytes is the note that stands at its place; no route is told as installed once the table is kept; and each
--- table that is installed is a least one of the hops that hold then.
-pub record AreNotes (bytes : List ℕ) (ns : List Noted) : Type 0 where
-  pub notes : map note_of (lines bytes) ≡ map (λ n. Some n.note) ns
+-- Each piece spells the note that stands at its place; no route is told as installed once the table is kept; and each table that
+-- is installed where a least one is asked for is a least one of the hops that hold then.
+pub record AreNotes (pieces : List (List ℕ)) (ns : List Noted) : Type 0 where
+  pub spelled : map note_of pieces ≡ map (λ n. Some n.note) ns
   pub may : MayAllCome start (events begin ns)
 
 -- the line of an operation
@@ -93,10 +92,31 @@ abbrev pub batches : Installer → List Event → ℕ
 batches s [] = 0
 batches s (e ∷ es) = if (after_event s e).kept then suc (batches (after_event s e) es) else batches (after_event s e) es
 
--- lines, printed one after another
+-- these lines, printed one after another
 abbrev pub printed_updates : List Update → List ℕ
 printed_updates us = flat_map (λ u. update_text u ++ codes "\n") us
+
+-- what is written at a note
+abbrev pub noted_bytes : Installing → Noted → List ℕ
+noted_bytes s n = printed_updates (update_lines s.tables (event_of s n.note n.least))
 
 -- the output of an installer that is given these notes
 abbrev pub installed_bytes : List Noted → List ℕ
 installed_bytes ns = printed_updates (update_lines start (events begin ns))
+
+-- how many batches that is
+abbrev pub batches_given : List Noted → ℕ
+batches_given ns = batches start (events begin ns)
+
+-- what can't be taken as a note: what spells none, and once the table is kept a route that is told as installed
+abbrev pub IsUnfit : Installing → Option Note → Type 0
+IsUnfit s None = Unit {0}
+IsUnfit s (Some (N.Have net hop)) = s.tables.kept ≡ true
+IsUnfit s (Some N.Sync) = ⊥
+IsUnfit s (Some (N.Reply line)) = ⊥
+
+-- the note may want memory: a route that is installed, a `sync`, a change, which is kept, or `ok` where some wait
+abbrev pub MayWant : Installing → Note → Type 0
+MayWant s (N.Have net hop) = s.tables.kept ≡ false
+MayWant s N.Sync = Unit {0}
+MayWant s (N.Reply line) = WantsMemory s.pending line
