@@ -82,6 +82,6 @@ module _ (x : Address) where
           ∙ ap (λ cs. painted_over now (s.pending ++ cs) x) (sym (closed_more (ends_well ls) (committed ls)))
       go false = h now ∙ ap (λ cs. painted_over now cs x) (sym (closed_more (ends_well ls) (committed ls)))
 
-  told_notes : (ns : List Noted) (s : Installing) (now : Option ℕ) → told now (events s ns) x ≡ painted_over now (committed_from s.pending (replies_of ns)) x
+  pub told_notes : (ns : List Noted) (s : Installing) (now : Option ℕ) → told now (events s ns) x ≡ painted_over now (committed_from s.pending (replies_of ns)) x
   told_notes [] s now = refl
   told_notes (n ∷ ns) s now = told_event s n.note n.least (replies_of ns) (events (after_note s n) ns) (told_notes ns (after_note s n)) now

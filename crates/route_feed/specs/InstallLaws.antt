@@ -1,10 +1,21 @@
--- What stands installed that is kept by a log of a leader.
-use Rattle.std.specs.Prelude.{List, Option, Some, None}
+-- What stands installed that is kept by the lines of a leader.
+use Rattle.std.specs.Prelude.{◌≡◌, ◌⊎◌, ℕ, Bool, List, [], ◌∷◌, ◌++◌, Any, Option, Some, None, take}
 use Rattle.std.specs.List.{filter_map}
+use Rattle.ipnet.specs.declared.ip_net.IpNet.{IpNet}
+use Rattle.ipnet_addr.specs.Addresses.{Address, IsAddress}
+use Rattle.route_choices.specs.declared.hop.Hop.{Hop}
+use Rattle.route_lines.specs.Bytes.{rest}
 use Rattle.route_lines.specs.declared.note.Note.{Note}
 use Rattle.route_lines.specs.declared.note.Note.TheVariants as N
 use Rattle.route_lines.specs.declared.reply.Reply.{Reply}
-use Rattle.route_feed.specs.Installing.{Noted}
+use Rattle.route_laws.specs.LeastTables.{IsLeast}
+use Rattle.route_laws.specs.Networks.{Stored, routes_of}
+use Rattle.route_laws.specs.Operations.{Operation, IsHitless, after_all}
+use Rattle.route_laws.specs.Runs.{MayAllCome, given, haves, start}
+use Rattle.route_laws.specs.Tables.{Route, hop_at}
+use Rattle.route_feed.specs.Installing.{Noted, after_notes, begin, event_of, events}
+use Rattle.route_feed.specs.Output.{at_end, output, table_after, whole_commands}
+use Rattle.route_feed.specs.Streams.{closings, committed, painted, replies_in}
 
 -- the reply line of a note
 abbrev pub reply_in : Note → Option Reply
@@ -15,3 +26,60 @@ reply_in (N.Reply line) = Some line
 -- the reply lines among notes
 abbrev pub replies_of : List Noted → List Reply
 replies_of ns = filter_map (λ n. reply_in n.note) ns
+
+-- these reply lines are the first of those that a leader writes which is given these bytes
+abbrev pub AreFirst : List ℕ → List Bool → List Reply → Type 0
+AreFirst bytes refusals ls = (later : List Reply) × (replies_in (output bytes refusals) ≡ ls ++ later)
+
+-- the leader's table after as many commands as these lines end replies
+abbrev pub table_by : List ℕ → List Bool → List Reply → List Stored
+table_by bytes refusals ls = table_after [] (take (closings ls) (whole_commands bytes ++ at_end (rest bytes))) refusals
+
+-- the operations that are given at a note, after others
+abbrev pub operations_at : List Noted → Noted → List Operation
+operations_at ns n = given (after_notes begin ns).tables (event_of (after_notes begin ns) n.note n.least)
+
+-- the table of the routes that notes tell as installed, after all operations that are given at them
+abbrev pub installed_by : List Noted → List Route
+installed_by ns = after_all (haves (events begin ns)) (given start (events begin ns))
+
+-- a `sync` stands among them
+abbrev pub HasSync : List Noted → Type 0
+HasSync ns = Any (λ n. n.note ≡ N.Sync) ns
+
+-- no route is told as installed
+abbrev pub IsNoHave : Note → Type 0
+IsNoHave note = (net : IpNet) (hop : Hop) → note ≡ N.Have net hop → ⊥
+
+-- ---- of the notes of a leader's replies, with other notes anywhere between them
+
+-- once there was a `sync` it has each address at the hop of the leader's table after as many commands as replies end there
+abbrev pub InstalledAgrees : Type 0
+InstalledAgrees = (bytes : List ℕ) (refusals : List Bool) (ns : List Noted) → AreFirst bytes refusals (replies_of ns)
+    → MayAllCome start (events begin ns) → HasSync ns
+    → (x : Address) → IsAddress x → hop_at (installed_by ns) x ≡ hop_at (routes_of (table_by bytes refusals (replies_of ns))) x
+
+-- at each note each address turns at most once
+abbrev pub InstalledIsHitless : Type 0
+InstalledIsHitless = (bytes : List ℕ) (refusals : List Bool) (ns later : List Noted) (n : Noted) → AreFirst bytes refusals (replies_of (ns ++ n ∷ later))
+    → MayAllCome start (events begin (ns ++ n ∷ later)) → IsHitless (installed_by ns) (operations_at ns n)
+
+-- So after a `sync` it has at each moment one of two hops: that of the leader's table before the reply, or that after it.
+abbrev pub InstalledAtAllTimes : Type 0
+InstalledAtAllTimes = (bytes : List ℕ) (refusals : List Bool) (ns later : List Noted) (n : Noted) → AreFirst bytes refusals (replies_of (ns ++ n ∷ later))
+    → MayAllCome start (events begin (ns ++ n ∷ later)) → HasSync ns
+    → (x : Address) → IsAddress x → (i : ℕ)
+    → (hop_at (after_all (installed_by ns) (take i (operations_at ns n))) x ≡ hop_at (routes_of (table_by bytes refusals (replies_of ns))) x)
+    ⊎ (hop_at (after_all (installed_by ns) (take i (operations_at ns n))) x ≡ hop_at (routes_of (table_by bytes refusals (replies_of (ns ++ n ∷ [])))) x)
+
+-- ---- of all notes
+
+-- the operations that are given at a note make of what was installed what is installed then
+abbrev pub OperationsReach : Type 0
+OperationsReach = (ns : List Noted) (n : Noted) → MayAllCome start (events begin (ns ++ n ∷ [])) → IsNoHave n.note
+    → after_all (installed_by ns) (operations_at ns n) ≡ installed_by (ns ++ n ∷ [])
+
+-- right after a `sync` it is a least table of the hops that the reply lines commit
+abbrev pub SyncsAreLeast : Type 0
+SyncsAreLeast = (ns : List Noted) (least : List Route) → MayAllCome start (events begin (ns ++ record { note = N.Sync; least = least } ∷ []))
+    → IsLeast (painted (committed (replies_of ns))) (installed_by (ns ++ record { note = N.Sync; least = least } ∷ []))

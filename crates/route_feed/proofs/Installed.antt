@@ -1,0 +1,227 @@
+-- What is installed has the hops of the leader, turns no address twice, and is least after a `sync`.
+use Rattle.std.proofs.Common.{◌≡◌, ◌≤◌, ◌⊎◌, ℕ, Bool, true, false, cond, nat_lt, length, List, [], ◌∷◌, ◌++◌, map, take, Option, Some, None, inl, inr, ⊎_elim, refl, sym, ap, ◌∙◌, subst, arith, append_assoc, append-nil}
+use Rattle.std.specs.Prelude.{◌&&◌}
+use Rattle.ipnet_addr.specs.Addresses.{Address, IsAddress}
+use Rattle.ipnet_addr.proofs.Members.{In}
+use Rattle.ipnet_addr.proofs.Ascending.{Rising, pairs_from_Rising}
+use Rattle.ipnet.specs.declared.ip_net.IpNet.{IpNet}
+use Rattle.route_choices.specs.declared.hop.Hop.{Hop}
+use Rattle.route_choices.proofs.Kept.{In-map}
+use Rattle.route_lines.specs.declared.note.Note.{Note}
+use Rattle.route_lines.specs.declared.note.Note.TheVariants as N
+use Rattle.route_lines.specs.declared.reply.Closing.TheVariants.{Done, Missing, Bad, Refused}
+use Rattle.route_lines.specs.declared.reply.Reply.{Reply}
+use Rattle.route_lines.specs.declared.reply.Reply.TheVariants as R
+use Rattle.route_laws.specs.Batches.{AreApart}
+use Rattle.route_laws.specs.LeastTables.{IsLeast}
+use Rattle.route_laws.specs.Networks.{routes_of}
+use Rattle.route_laws.specs.Operations.{Operation, IsHitless, after_all}
+use Rattle.route_laws.specs.Runs.{Event, Have, Told, Sync, Installer, IsApart, IsMade, MayAllCome, after_event, after_events, given, gives, haves, start, told}
+use Rattle.route_laws.specs.Tables.{Route, hop_at}
+use Rattle.route_laws.proofs.Batches as batch
+use Rattle.route_laws.proofs.Families.{least_too}
+use Rattle.route_laws.proofs.Runs.{gives_hitless, gives_what_it_says, given_reaches, keeps_hops, sync_is_least}
+use Rattle.route_laws.proofs.Turning.{hitless_from}
+use Rattle.route_feed.specs.Installing.{Installing, Noted, after_note, after_notes, begin, committing, event_of, events, route_to}
+use Rattle.route_feed.specs.InstallLaws.{AreFirst, HasSync, InstalledAgrees, InstalledAtAllTimes, InstalledIsHitless, IsNoHave, OperationsReach, SyncsAreLeast, installed_by, operations_at, replies_of, table_by}
+use Rattle.route_feed.specs.Output.{output}
+use Rattle.route_feed.specs.Streams.{Change, committed, ends_well, painted, painted_over, pending_over, replies_in}
+use Rattle.route_feed.proofs.Apart.{waiting_apart}
+use Rattle.route_feed.proofs.Beginnings.{all_in_range, commands_of, empty_is_table, followed, output_read}
+use Rattle.route_feed.proofs.Noted.{after_events-append, events-append, is_kept, may_split, sync_too, pending_after_notes, replies_of-append, tables_after}
+use Rattle.route_feed.proofs.Noting.{committed_from, told_notes}
+use Rattle.route_feed.proofs.Seam.{Apart}
+
+-- ---- the hops
+
+nothing_before : (ls : List Reply) → committed_from [] ls ≡ committed ls
+nothing_before ls = go (ends_well ls)
+  where
+    go : (b : Bool) → cond b [] [] ++ committed ls ≡ committed ls
+    go true = refl
+    go false = refl
+
+-- the hops that notes tell are those that their reply lines commit
+told_is_committed : (ns : List Noted) (x : Address) → told None (events begin ns) x ≡ painted (committed (replies_of ns)) x
+told_is_committed ns x = told_notes x ns begin None ∙ ap (λ cs. painted cs x) (nothing_before (replies_of ns))
+
+pub installed_agrees : InstalledAgrees
+installed_agrees bytes refusals ns first may has x a =
+    let es = events begin ns in
+    let (later, split) = first in
+    ap (λ M. hop_at M x) (given_reaches es may)
+    ∙ keeps_hops es may (is_kept ns has) x a
+    ∙ told_is_committed ns x
+    ∙ followed [] (commands_of bytes) refusals (replies_of ns) later empty_is_table (all_in_range bytes) (sym split ∙ output_read bytes refusals) x a
+
+-- ---- one event at most
+
+abbrev AtMostOne : (Event → Type 0) → List Event → Type 0
+AtMostOne P es = (es ≡ []) ⊎ ((e : Event) × (es ≡ e ∷ []) × P e)
+
+-- changes without a common address, as an event
+committing_apart : (kept : Bool) (cs : List Change) (N : List Route) → AreApart (map route_to cs) → AtMostOne IsApart (committing kept cs N)
+committing_apart kept [] N h = inl refl
+committing_apart kept (c ∷ cs) N h = go (kept && nat_lt 256 (length (c ∷ cs)))
+  where
+    go : (b : Bool) → AtMostOne IsApart (cond b (Sync (map route_to (c ∷ cs)) N) (Told (map route_to (c ∷ cs))) ∷ [])
+    go true = inr (Sync (map route_to (c ∷ cs)) N, refl, tt)
+    go false = inr (Told (map route_to (c ∷ cs)), refl, h)
+
+event_apart : (s : Installing) (note : Note) (M : List Route) → (note ≡ N.Reply (R.Close Done) → AreApart (map route_to s.pending)) → AtMostOne IsApart (event_of s note M)
+event_apart s (N.Have net hop) M h = inr (_, refl, tt)
+event_apart s N.Sync M h = inr (_, refl, tt)
+event_apart s (N.Reply (R.Set net n)) M h = inl refl
+event_apart s (N.Reply (R.Unset net)) M h = inl refl
+event_apart s (N.Reply (R.Route net hop pref)) M h = inl refl
+event_apart s (N.Reply (R.Flat net n)) M h = inl refl
+event_apart s (N.Reply (R.Own net)) M h = inl refl
+event_apart s (N.Reply (R.Count v4 v6)) M h = inl refl
+event_apart s (N.Reply (R.Close Done)) M h = committing_apart s.tables.kept s.pending M (h refl)
+event_apart s (N.Reply (R.Close Missing)) M h = inl refl
+event_apart s (N.Reply (R.Close Bad)) M h = inl refl
+event_apart s (N.Reply (R.Close Refused)) M h = inl refl
+
+routes_apart : (cs : List Change) → Rising Apart cs → Rising batch.Apart (map route_to cs)
+routes_apart [] u = tt
+routes_apart (c ∷ cs) u = (
+  (λ r i. let t = In-map route_to cs r i in subst (λ (s : Route). batch.Apart (route_to c) s) (sym t.2) (u.0 t.0 t.1)),
+  routes_apart cs u.1,
+)
+
+module _ (ns later : List Noted) (n : Noted) where
+  abbrev es : List Event
+  es = events begin ns
+
+  abbrev at : Installing
+  at = after_notes begin ns
+
+  abbrev now : List Event
+  now = event_of at n.note n.least
+
+  whole : events begin (ns ++ n ∷ later) ≡ (es ++ now) ++ events (after_note at n) later
+  whole = events-append begin ns (n ∷ later) ∙ sym (append_assoc es now (events (after_note at n) later))
+
+  module _ (may : MayAllCome start (events begin (ns ++ n ∷ later))) where
+    may_now : MayAllCome start (es ++ now)
+    may_now = (may_split start (es ++ now) (events (after_note at n) later) (subst (MayAllCome start) whole may)).0
+
+    may_before : MayAllCome start es
+    may_before = (may_split start es now may_now).0
+
+    given_one : (e : Event) → now ≡ e ∷ [] → operations_at ns n ≡ gives (after_events start es) e
+    given_one e is =
+        ap (given at.tables) is ∙ append-nil (gives at.tables e) ∙ ap (λ T. gives T e) (tables_after begin ns)
+
+    hitless_at : AtMostOne IsApart now → IsHitless (installed_by ns) (operations_at ns n)
+    hitless_at (inl none) = subst (IsHitless (installed_by ns)) (sym (ap (given at.tables) none)) (hitless_from (installed_by ns) [] (λ x a. (hop_at (installed_by ns) x, refl)))
+    hitless_at (inr (e, is, apart)) =
+        subst (IsHitless (installed_by ns)) (sym (given_one e is))
+        (subst (λ M. IsHitless M (gives (after_events start es) e)) (sym (given_reaches es may_before))
+        (gives_hitless es e (subst (λ fs. MayAllCome start (es ++ fs)) is may_now) apart))
+
+-- where the note is an `ok` of the leader, the changes that wait have no address in common
+ok_apart : (bytes : List ℕ) (refusals : List Bool) (ns later : List Noted) (n : Noted) → AreFirst bytes refusals (replies_of (ns ++ n ∷ later))
+    → n.note ≡ N.Reply (R.Close Done) → AreApart (map route_to (Installing.pending (after_notes begin ns)))
+ok_apart bytes refusals ns later n first is =
+    let (more, split) = first in
+    let ok : replies_of (n ∷ later) ≡ R.Close Done ∷ replies_of later = ap (λ (note : Note). replies_of (record { note = note; least = n.least } ∷ later)) is in
+    let lines = split ∙ ap (λ ls. ls ++ more) (replies_of-append ns (n ∷ later) ∙ ap (λ ls. replies_of ns ++ ls) ok) ∙ append_assoc (replies_of ns) (R.Close Done ∷ replies_of later) more in
+    pairs_from_Rising batch.Apart (map route_to (Installing.pending (after_notes begin ns)))
+    (routes_apart (Installing.pending (after_notes begin ns))
+    (subst (Rising Apart) (sym (pending_after_notes begin ns)) (waiting_apart bytes refusals (replies_of ns) (replies_of later ++ more) lines)))
+
+pub installed_is_hitless : InstalledIsHitless
+installed_is_hitless bytes refusals ns later n first may =
+    hitless_at ns later n may (event_apart (after_notes begin ns) n.note n.least (ok_apart bytes refusals ns later n first))
+
+-- ---- what is installed after a note
+
+-- an event that is no route that was installed already
+abbrev IsNoRoute : Event → Type 0
+IsNoRoute e = (r : Route) → e ≡ Have r → ⊥
+
+made_is_installed : (s : Installer) (e : Event) → IsNoRoute e → IsMade s e → after_all s.installed (gives s e) ≡ Installer.installed (after_event s e)
+made_is_installed s (Have r) other made = absurd (other r refl)
+made_is_installed s (Told rs) other made = made
+made_is_installed s (Sync rs N) other made = made
+
+committing_no_route : (kept : Bool) (cs : List Change) (N : List Route) → AtMostOne IsNoRoute (committing kept cs N)
+committing_no_route kept [] N = inl refl
+committing_no_route kept (c ∷ cs) N = go (kept && nat_lt 256 (length (c ∷ cs)))
+  where
+    go : (b : Bool) → AtMostOne IsNoRoute (cond b (Sync (map route_to (c ∷ cs)) N) (Told (map route_to (c ∷ cs))) ∷ [])
+    go true = inr (Sync (map route_to (c ∷ cs)) N, refl, λ r e. cc)
+    go false = inr (Told (map route_to (c ∷ cs)), refl, λ r e. cc)
+
+no_route : (s : Installing) (note : Note) (M : List Route) → IsNoHave note → AtMostOne IsNoRoute (event_of s note M)
+no_route s (N.Have net hop) M other = absurd (other net hop refl)
+no_route s N.Sync M other = inr (Sync [] M, refl, λ r e. cc)
+no_route s (N.Reply (R.Set net n)) M other = inl refl
+no_route s (N.Reply (R.Unset net)) M other = inl refl
+no_route s (N.Reply (R.Route net hop pref)) M other = inl refl
+no_route s (N.Reply (R.Flat net n)) M other = inl refl
+no_route s (N.Reply (R.Own net)) M other = inl refl
+no_route s (N.Reply (R.Count v4 v6)) M other = inl refl
+no_route s (N.Reply (R.Close Done)) M other = committing_no_route s.tables.kept s.pending M
+no_route s (N.Reply (R.Close Missing)) M other = inl refl
+no_route s (N.Reply (R.Close Bad)) M other = inl refl
+no_route s (N.Reply (R.Close Refused)) M other = inl refl
+
+module _ (ns : List Noted) (n : Noted) (may : MayAllCome start (events begin (ns ++ n ∷ []))) where
+  reach_at : AtMostOne IsNoRoute (now ns [] n) → after_all (Installer.installed (after_events start (es ns [] n))) (operations_at ns n) ≡ Installer.installed (after_events start (es ns [] n ++ now ns [] n))
+  reach_at (inl none) =
+      ap (λ fs. after_all (Installer.installed (after_events start (es ns [] n))) (given (Installing.tables (after_notes begin ns)) fs)) none
+      ∙ ap (λ fs. Installer.installed (after_events start fs)) (sym (ap (λ fs. es ns [] n ++ fs) none ∙ append-nil (es ns [] n)))
+  reach_at (inr (e, is, other)) =
+      let before = after_events start (es ns [] n) in
+      ap (after_all before.installed) (given_one ns [] n may e is)
+      ∙ made_is_installed before e other (gives_what_it_says (es ns [] n) e (subst (λ fs. MayAllCome start (es ns [] n ++ fs)) is (may_now ns [] n may)))
+      ∙ ap Installer.installed (sym (ap (λ fs. after_events start (es ns [] n ++ fs)) is ∙ after_events-append start (es ns [] n) (e ∷ [])))
+
+pub operations_reach : OperationsReach
+operations_reach ns n may other =
+    ap (λ M. after_all M (operations_at ns n)) (given_reaches (events begin ns) (may_before ns [] n may))
+    ∙ reach_at ns n may (no_route (after_notes begin ns) n.note n.least other)
+    ∙ ap (λ fs. Installer.installed (after_events start fs)) (sym (whole ns [] n ∙ append-nil (es ns [] n ++ now ns [] n)))
+    ∙ sym (given_reaches (events begin (ns ++ n ∷ [])) may)
+
+-- ---- a beginning of the notes
+
+first_too : (bytes : List ℕ) (refusals : List Bool) (ns later : List Noted) → AreFirst bytes refusals (replies_of (ns ++ later)) → AreFirst bytes refusals (replies_of ns)
+first_too bytes refusals ns later first =
+    let (more, split) = first in
+    (replies_of later ++ more, split ∙ ap (λ ls. ls ++ more) (replies_of-append ns later) ∙ append_assoc (replies_of ns) (replies_of later) more)
+
+-- once the table is kept no route is told as installed
+kept_no_have : (ns : List Noted) (n : Noted) → MayAllCome start (events begin (ns ++ n ∷ [])) → Installer.kept (after_events start (events begin ns)) ≡ true → IsNoHave n.note
+kept_no_have ns n may kept net hop e =
+    let m = (may_split start (es ns [] n) (now ns [] n) (may_now ns [] n may)).1 in
+    let k = (subst (λ (note : Note). MayAllCome (after_events start (es ns [] n)) (event_of (at ns [] n) note n.least)) e m).0.0 in
+    let both = sym k ∙ kept in
+    cc
+
+pub installed_at_all_times : InstalledAtAllTimes
+installed_at_all_times bytes refusals ns later n first may has x a i =
+    let t = first_too bytes refusals ns (n ∷ later) first in
+    let u = first_too bytes refusals (ns ++ n ∷ []) later (subst (λ ls. AreFirst bytes refusals (replies_of ls)) (sym (append_assoc ns (n ∷ []) later)) first) in
+    let m = subst (MayAllCome start) (sym (whole ns [] n ∙ append-nil (es ns [] n ++ now ns [] n))) (may_now ns later n may) in
+    ⊎_elim
+    (λ e. inl (e ∙ installed_agrees bytes refusals ns t (may_before ns later n may) has x a))
+    (λ e. inr (e ∙ ap (λ M. hop_at M x) (operations_reach ns n m (kept_no_have ns n m (is_kept ns has)))
+        ∙ installed_agrees bytes refusals (ns ++ n ∷ []) u m (sync_too ns (n ∷ []) has) x a))
+    (IsHitless.turns (installed_is_hitless bytes refusals ns later n first may) x a i i (omega arith))
+
+-- ---- after a `sync`
+
+pub syncs_are_least : SyncsAreLeast
+syncs_are_least ns least may =
+    let n : Noted = record { note = N.Sync; least = least } in
+    let log = ns ++ n ∷ [] in
+    let split : events begin log ≡ events begin ns ++ Sync [] least ∷ [] = events-append begin ns (n ∷ []) in
+    let lines : replies_of log ≡ replies_of ns = replies_of-append ns (n ∷ []) ∙ append-nil (replies_of ns) in
+    subst (IsLeast (painted (committed (replies_of ns)))) (sym (given_reaches (events begin log) may))
+    (least_too (told None (events begin log)) (painted (committed (replies_of ns)))
+    (λ x a. told_is_committed log x ∙ ap (λ ls. painted (committed ls) x) lines) _
+    (subst (λ fs. IsLeast (told None fs) (Installer.installed (after_events start fs))) (sym split)
+    (sync_is_least (events begin ns) [] least (subst (MayAllCome start) split may))))
