@@ -29,7 +29,7 @@ use Rattle.route_feed.specs.Streams.{Change, committed, ends_well, painted, pain
 use Rattle.route_feed.proofs.Apart.{waiting_apart}
 use Rattle.route_feed.proofs.Beginnings.{all_in_range, commands_of, empty_is_table, followed, output_read}
 use Rattle.route_feed.proofs.Noted.{after_events-append, events-append, is_kept, may_split, sync_too, pending_after_notes, replies_of-append, tables_after}
-use Rattle.route_feed.proofs.Noting.{committed_from, told_notes}
+use Rattle.route_feed.proofs.ToldNotes.{committed_from, told_notes}
 use Rattle.route_feed.proofs.Seam.{Apart}
 
 -- ---- the hops
