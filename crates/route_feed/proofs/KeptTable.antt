@@ -28,7 +28,7 @@ use Rattle.route_feed.specs.Output.{output}
 use Rattle.route_feed.specs.Streams.{Change, committed, ends_well, painted, painted_over, pending_over, replies_in}
 use Rattle.route_feed.proofs.Apart.{waiting_apart}
 use Rattle.route_feed.proofs.Beginnings.{all_in_range, commands_of, empty_is_table, followed, output_read}
-use Rattle.route_feed.proofs.Noted.{after_events-append, events-append, is_kept, may_split, sync_too, pending_after_notes, replies_of-append, tables_after}
+use Rattle.route_feed.proofs.NotesInTurn.{after_events-append, events-append, is_kept, may_split, sync_too, pending_after_notes, replies_of-append, tables_after}
 use Rattle.route_feed.proofs.ToldNotes.{committed_from, told_notes}
 use Rattle.route_feed.proofs.Seam.{Apart}
 
