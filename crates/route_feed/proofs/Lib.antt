@@ -21,3 +21,7 @@ pub mod Grammar
 pub mod Rebuilt
 pub mod Restarted
 pub mod Rows
+pub mod Batching
+pub mod Noting
+pub mod ChangesInRange
+pub mod Installed

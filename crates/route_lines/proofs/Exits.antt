@@ -2,7 +2,7 @@
 use Rattle.std.proofs.Common.{◌≢◌, ℕ, List, codes, Option, Some, None}
 use Rattle.route_lines.specs.Phrase.{Then, After}
 use Rattle.route_lines.specs.Words.{IsNet, IsNumber, IsLimit, IsCount, IsHop, IsPreference, IsOptional, IsPreferred}
-use Rattle.route_lines.specs.Texts.{IsCommand, IsReply, closing_text}
+use Rattle.route_lines.specs.Texts.{IsCommand, IsReply, IsNote, closing_text}
 use Rattle.route_choices.specs.declared.hop.Hop.{Hop}
 use Rattle.route_lines.specs.declared.command.Command.{Command}
 use Rattle.route_lines.specs.declared.command.Command.TheVariants as C
@@ -10,6 +10,8 @@ use Rattle.route_lines.specs.declared.reply.Closing.{Closing}
 use Rattle.route_lines.specs.declared.reply.Closing.TheVariants.{Done, Missing, Bad, Refused}
 use Rattle.route_lines.specs.declared.reply.Reply.{Reply}
 use Rattle.route_lines.specs.declared.reply.Reply.TheVariants as R
+use Rattle.route_lines.specs.declared.note.Note.{Note}
+use Rattle.route_lines.specs.declared.note.Note.TheVariants as N
 
 -- no value stands after this word
 abbrev No : {A : Type 0} → (List ℕ → A → Type 0) → List ℕ → List ℕ → Type 0
@@ -69,3 +71,8 @@ no_reply line set unset route flat own count close (R.Flat net n) h = flat (net,
 no_reply line set unset route flat own count close (R.Own net) h = own net h
 no_reply line set unset route flat own count close (R.Count v4 v6) h = count (v4, v6) h
 no_reply line set unset route flat own count close (R.Close c) h = close c h
+
+pub no_note : (line : List ℕ) → No (Then IsNet IsHop) (codes "have ") line → line ≢ codes "sync" → ((r : Reply) → ¬ (IsReply line r)) → (n : Note) → ¬ (IsNote line n)
+no_note line have sync reply (N.Have net hop) h = have (net, hop) h
+no_note line have sync reply N.Sync h = sync h
+no_note line have sync reply (N.Reply r) h = reply r h

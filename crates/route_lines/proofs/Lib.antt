@@ -3,6 +3,7 @@ pub mod Words
 pub mod Good
 pub mod Commands
 pub mod Replies
+pub mod Notes
 pub mod Exits
 pub mod Printed
 pub mod PrintedCommands

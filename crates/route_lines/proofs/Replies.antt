@@ -137,6 +137,20 @@ one_reply text a b h k =
     let q = parts text b k in
     sym p.is ∙ one_line Value make Spells 74 code told back starts good text p.kind q.kind p.value q.value p.spells q.spells ∙ q.is
 
+-- no reply line begins with three bytes that are those of no kind
+begins : (text : List ℕ) (a : Reply) (other : ℕ) → told other ≡ refused → code refused ≢ other → IsReply text a → start text ≢ other
+begins text a other last apart h e =
+    let p = parts text a h in
+    let same : code p.kind ≡ other = sym (starts p.kind text p.value p.spells) ∙ e in
+    let kind : p.kind ≡ refused = sym (back p.kind) ∙ ap told same ∙ last in
+    apart (sym (ap code kind) ∙ same)
+
+pub not_have : (text : List ℕ) (a : Reply) → IsReply text a → start text ≢ start (codes "have ")
+not_have text a = begins text a (start (codes "have ")) refl (omega arith)
+
+pub not_sync : (text : List ℕ) (a : Reply) → IsReply text a → start text ≢ start (codes "sync")
+not_sync text a = begins text a (start (codes "sync")) refl (omega arith)
+
 pub short_reply : (text : List ℕ) (a : Reply) → IsReply text a → length text ≤ 74
 short_reply text a h = (let p = parts text a h in (good p.kind).short text p.value p.spells)
 

@@ -19,15 +19,17 @@ use Rattle.route_lines.specs.Phrase.{IsUnspaced, IsDecimal, Then, After}
 use Rattle.route_lines.specs.InnerPhrase.{Gives, IsFree}
 use Rattle.route_lines.specs.Words.{IsNet, IsHop, IsNumber, IsLimit, IsCount, IsPreference, IsOptional, IsPreferred}
 use Rattle.route_choices.specs.Choices.{default_preference}
-use Rattle.route_lines.specs.Texts.{IsCommand, IsReply, closing_text}
-use Rattle.route_lines.specs.Spelled.{split, net_of_text, number_of_text, hop_of_text, optional_of_text, preferred_of_text, of_word, of_both, after_prefix, or_else, command_of, closing_of_text, reply_of}
+use Rattle.route_lines.specs.Texts.{IsCommand, IsReply, IsNote, closing_text}
+use Rattle.route_lines.specs.Spelled.{split, net_of_text, number_of_text, hop_of_text, optional_of_text, preferred_of_text, of_word, of_both, after_prefix, or_else, command_of, closing_of_text, reply_of, note_of}
 use Rattle.route_lines.specs.declared.command.Command.TheVariants as C
 use Rattle.route_lines.specs.declared.reply.Closing.{Closing}
 use Rattle.route_lines.specs.declared.reply.Closing.TheVariants.{Done, Missing, Bad, Refused}
 use Rattle.route_lines.specs.declared.reply.Reply.{Reply}
 use Rattle.route_lines.specs.declared.reply.Reply.TheVariants as R
+use Rattle.route_lines.specs.declared.note.Note.{Note}
+use Rattle.route_lines.specs.declared.note.Note.TheVariants as N
 use Rattle.route_lines.proofs.Words.{not_two, no_first, no_second, both, gives_after}
-use Rattle.route_lines.proofs.Exits.{no_optional, no_preferred, no_command, no_closing, no_reply}
+use Rattle.route_lines.proofs.Exits.{no_optional, no_preferred, no_command, no_closing, no_reply, no_note}
 
 -- ---- words
 
@@ -199,3 +201,17 @@ reply_found s =
     (gives_prefix (Then IsCount IsCount) (codes "count ") (of_both (number_of_text 0 0xffffffffffffffff) (number_of_text 0 0xffffffffffffffff))
     (gives_both IsCount IsCount (number_of_text 0 0xffffffffffffffff) (number_of_text 0 0xffffffffffffffff) (Free.decimal_word 0 0xffffffffffffffff (omega arith)) (gives_number 0 0xffffffffffffffff (omega arith)) (gives_number 0 0xffffffffffffffff (omega arith))) s) (λ count.
     closes s (closing_of_text s) (closing_found s) (λ close. no_reply s set unset route flat own count close)))))))
+
+gives_net_hop : (s : List ℕ) → Gives (Then IsNet IsHop) s (of_both net_of_text hop_of_text s)
+gives_net_hop = gives_net_and IsHop hop_of_text gives_hop
+
+replies : (s : List ℕ) (o : Option Reply) → Gives IsReply s o → (((r : Reply) → ¬ (IsReply s r)) → (n : Note) → ¬ (IsNote s n)) → Gives IsNote s (option_map N.Reply o)
+replies s None h none = none h
+replies s (Some r) h none = h
+
+pub note_found : (s : List ℕ) → Gives IsNote s (note_of s)
+unfolding note_of
+note_found s =
+    or_kind (After (codes "have ") (Then IsNet IsHop)) IsNote (λ x. N.Have x.0 x.1) s _ _ (λ x h. h) (gives_prefix (Then IsNet IsHop) (codes "have ") (of_both net_of_text hop_of_text) gives_net_hop s) (λ have.
+    or_word IsNote (codes "sync") N.Sync s _ (λ h. h) (λ sync.
+    replies s (reply_of s) (reply_found s) (λ reply. no_note s have sync reply)))

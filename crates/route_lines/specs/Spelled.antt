@@ -14,6 +14,8 @@ use Rattle.route_lines.specs.declared.reply.Closing.{Closing}
 use Rattle.route_lines.specs.declared.reply.Closing.TheVariants.{Done, Missing, Bad, Refused}
 use Rattle.route_lines.specs.declared.reply.Reply.{Reply}
 use Rattle.route_lines.specs.declared.reply.Reply.TheVariants as R
+use Rattle.route_lines.specs.declared.note.Note.{Note}
+use Rattle.route_lines.specs.declared.note.Note.TheVariants as N
 
 -- what stands before and after the first space
 abbrev pub split : List ℕ → Option (List ℕ × List ℕ)
@@ -86,3 +88,10 @@ reply_of s =
     (or_else (option_map R.Own (after_prefix (codes "own ") net_of_text s))
     (or_else (option_map (λ x. R.Count x.0 x.1) (after_prefix (codes "count ") (of_both (number_of_text 0 0xffffffffffffffff) (number_of_text 0 0xffffffffffffffff)) s))
     (option_map R.Close (closing_of_text s)))))))
+
+-- the line that an installer reads
+unfoldable pub note_of : List ℕ → Option Note
+note_of s =
+    or_else (option_map (λ x. N.Have x.0 x.1) (after_prefix (codes "have ") (of_both net_of_text hop_of_text) s))
+    (or_else (of_word (codes "sync") N.Sync s)
+    (option_map N.Reply (reply_of s)))

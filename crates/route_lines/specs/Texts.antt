@@ -1,4 +1,4 @@
--- The texts of commands and reply lines, by cases on whole texts.
+-- The texts of commands, reply lines and what an installer reads, by cases on whole texts.
 use Rattle.std.specs.Prelude.{◌≡◌, ℕ, List, ◌++◌, codes, decimal, ⊤, Some, None}
 use Rattle.ipnet.specs.IpNetText.{net_text}
 use Rattle.ipnet.specs.IpNets.{block, network_at}
@@ -12,6 +12,8 @@ use Rattle.route_lines.specs.declared.reply.Closing.{Closing}
 use Rattle.route_lines.specs.declared.reply.Closing.TheVariants.{Done, Missing, Bad, Refused}
 use Rattle.route_lines.specs.declared.reply.Reply.{Reply}
 use Rattle.route_lines.specs.declared.reply.Reply.TheVariants as R
+use Rattle.route_lines.specs.declared.note.Note.{Note}
+use Rattle.route_lines.specs.declared.note.Note.TheVariants as N
 
 -- a command
 abbrev pub IsCommand : List ℕ → Command → Type 0
@@ -43,6 +45,12 @@ IsReply text (R.Flat net number) = After (codes "flat ") (Then IsNet IsNumber) t
 IsReply text (R.Own net) = After (codes "own ") IsNet text net
 IsReply text (R.Count v4 v6) = After (codes "count ") (Then IsCount IsCount) text (v4, v6)
 IsReply text (R.Close closing) = text ≡ closing_text closing
+
+-- a line that an installer reads
+abbrev pub IsNote : List ℕ → Note → Type 0
+IsNote text (N.Have net hop) = After (codes "have ") (Then IsNet IsHop) text (net, hop)
+IsNote text N.Sync = text ≡ codes "sync"
+IsNote text (N.Reply reply) = IsReply text reply
 
 -- the word of a hop
 abbrev pub hop_text : Hop → List ℕ

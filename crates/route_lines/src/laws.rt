@@ -1,12 +1,17 @@
 //! Laws of lines: public functions without a body, whose contracts are the laws.
-ghost use Rattle.std.specs.Prelude.{◌≡◌, ◌≢◌, ◌≤◌, ◌↔◌, ℕ, List, [], ◌∷◌, ◌++◌, All, IsTrue, MatchOption, length};
+ghost use Rattle.std.specs.Prelude.{◌≡◌, ◌≢◌, ◌≤◌, ◌↔◌, ℕ, List, [], ◌∷◌, ◌++◌, All, IsTrue, MatchOption, Option, Some, length};
 ghost use Rattle.std.specs.List.{flat_map};
 ghost use Rattle.route_lines.specs.Bytes.{lines, rest};
 ghost use Rattle.route_lines.specs.CommandText.{IsPrintableCommand, command_text};
 ghost use Rattle.route_lines.specs.Earlier.{IsEarlierReply};
-ghost use Rattle.route_lines.specs.Spelled.{command_of, reply_of};
-ghost use Rattle.route_lines.specs.Texts.{IsCommand, IsPrintable, IsReply};
+ghost use Rattle.ipnet.specs.IpNets.{block, network_at};
+ghost use Rattle.ipnet.specs.declared.ip_net.IpNet.{IpNet};
+ghost use Rattle.route_choices.specs.declared.hop.Hop.{Hop};
+ghost use Rattle.route_lines.specs.Spelled.{command_of, note_of, reply_of};
+ghost use Rattle.route_lines.specs.Texts.{IsCommand, IsNote, IsPrintable, IsReply};
 ghost use Rattle.route_lines.specs.declared.command.Command.{Command};
+ghost use Rattle.route_lines.specs.declared.note.Note.{Note};
+ghost use Rattle.route_lines.specs.declared.note.Note.TheVariants as Notes;
 ghost use Rattle.route_lines.specs.declared.reply.Reply.{Reply};
 ghost use Rattle.route_lines.specs.declared.cutter.Rest.{Rest as AnyRest};
 ghost use Rattle.route_lines.specs.declared.reply.Closing.{Closing as AnyClosing};
@@ -16,6 +21,7 @@ ghost use Rattle.route_lines.specs.Lines.{kept_of, answers, fed_all, rest_in, re
 use crate::NotALine;
 use crate::command::Command;
 use crate::cutter::Rest;
+use crate::note::Note;
 use crate::reply::{Closing, Reply};
 
 /// Over any bytes fed to a new cutter, its answers are, in order, `Text` of each piece of at most 80
@@ -65,21 +71,37 @@ pub fn earlier()
     ensures { (text : List ℕ) (a : Reply) → IsEarlierReply text a → IsReply text a }
 {}
 
-/// `==` holds of one command alone, and so of one reply line, closing, rest and error; a clone is the same, and cloning never
+/// No text spells two of the lines that an installer reads, none has more than 74 bytes, and none has a line end. The
+/// network of a `have` has no host bits. A function finds the one that a text spells; it finds a reply line exactly
+/// where a reader of reply lines does, and the same one.
+pub fn notes()
+    ensures one { (text : List ℕ) (a b : Note) → IsNote text a → IsNote text b → a ≡ b }
+    ensures short { (text : List ℕ) (a : Note) → IsNote text a → length text ≤ 74 }
+    ensures clean { (text : List ℕ) (a : Note) → IsNote text a → All (λ c. c ≢ 10) text }
+    ensures cut { (text : List ℕ) (net : IpNet) (hop : Hop) → IsNote text (Notes.Have net hop) → net ≡ network_at (block net) }
+    ensures found { (text : List ℕ) → MatchOption (note_of text) ((a : Note) → IsNote text a → ⊥) (IsNote text) }
+    ensures replies { (text : List ℕ) (r : Reply) → (note_of text ≡ Some (Notes.Reply r)) ↔ (reply_of text ≡ Some r) }
+    ensures apart { (text : List ℕ) (a : Note) (r : Reply) → IsNote text a → IsReply text r → a ≡ Notes.Reply r }
+{}
+
+/// `==` holds of one command alone, and so of one reply line, note, closing, rest and error; a clone is the same, and cloning never
 /// fails.
 pub fn equality()
     ensures commands { (a b : Command) → IsTrue (⟦<Command as PartialEq>⟧.eq a b) ↔ (a ≡ b) }
     ensures replies { (a b : Reply) → IsTrue (⟦<Reply as PartialEq>⟧.eq a b) ↔ (a ≡ b) }
+    ensures notes { (a b : Note) → IsTrue (⟦<Note as PartialEq>⟧.eq a b) ↔ (a ≡ b) }
     ensures closings { (a b : AnyClosing) → IsTrue (⟦<Closing as PartialEq>⟧.eq a b) ↔ (a ≡ b) }
     ensures rests { (a b : AnyRest) → IsTrue (⟦<Rest as PartialEq>⟧.eq a b) ↔ (a ≡ b) }
     ensures errors { (a b : AnyError) → IsTrue (⟦<NotALine as PartialEq>⟧.eq a b) ↔ (a ≡ b) }
     ensures same_commands { (a b : Command) → ⟦<Command as Clone>⟧.is_clone a b → b ≡ a }
     ensures same_replies { (a b : Reply) → ⟦<Reply as Clone>⟧.is_clone a b → b ≡ a }
+    ensures same_notes { (a b : Note) → ⟦<Note as Clone>⟧.is_clone a b → b ≡ a }
     ensures same_closings { (a b : AnyClosing) → ⟦<Closing as Clone>⟧.is_clone a b → b ≡ a }
     ensures same_rests { (a b : AnyRest) → ⟦<Rest as Clone>⟧.is_clone a b → b ≡ a }
     ensures same_errors { (a b : AnyError) → ⟦<NotALine as Clone>⟧.is_clone a b → b ≡ a }
     ensures made_commands { (a : Command) → ⟦<Command as Clone>⟧.is_infallible a }
     ensures made_replies { (a : Reply) → ⟦<Reply as Clone>⟧.is_infallible a }
+    ensures made_notes { (a : Note) → ⟦<Note as Clone>⟧.is_infallible a }
     ensures made_closings { (a : AnyClosing) → ⟦<Closing as Clone>⟧.is_infallible a }
     ensures made_rests { (a : AnyRest) → ⟦<Rest as Clone>⟧.is_infallible a }
     ensures made_errors { (a : AnyError) → ⟦<NotALine as Clone>⟧.is_infallible a }

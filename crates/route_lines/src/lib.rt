@@ -3,6 +3,7 @@
 
 pub use command::Command;
 pub use cutter::{Line, LineCutter, Rest, line_text};
+pub use note::Note;
 pub use reply::{Closing, Reply};
 use thiserror::Error;
 
@@ -14,6 +15,7 @@ pub struct NotALine;
 mod command;
 mod cutter;
 pub mod laws;
+mod note;
 mod phrase;
 mod printer;
 mod reply;

@@ -1,0 +1,186 @@
+-- What an installer does at a note.
+use Rattle.std.proofs.Common.{◌≡◌, ℕ, ◌<◌, ◌≤◌, inl, inr, Bool, true, false, nat_lt, cond, List, [], ◌∷◌, ◌++◌, length, map, Option, None, Some, Result, Ok, Err, refl, sym, ap, ◌∙◌, subst, append-nil, arith}
+use Rattle.std.specs.Prelude.{OnErr, OnOk}
+use Rattle.std.proofs.lemmas.Bool.Decides.{nat_tests}
+use Rattle.ipnet.specs.declared.ip_net.IpNet.{IpNet}
+use Rattle.route_choices.specs.Choices.{default_preference}
+use Rattle.route_choices.specs.declared.hop.Hop.{Hop}
+use Rattle.route_choices.specs.declared.hop.Hop.TheVariants.{Number, Drop}
+use Rattle.route_choices.specs.Hops.{number_of}
+use Rattle.route_laws.specs.Batches.{AreChanges, batch, painted_all}
+use Rattle.route_laws.specs.InnerHops.{hop_from}
+use Rattle.route_laws.specs.LeastTables.{IsLeast}
+use Rattle.route_laws.specs.Networks.{Stored, routes_of}
+use Rattle.route_laws.specs.Operations.{between}
+use Rattle.route_laws.specs.Runs.{Event, Have, Told, Sync, Installer, after_event, after_events, gives}
+use Rattle.route_laws.specs.Tables.{Route, hop_at, route_of}
+use Rattle.route_lines.specs.declared.note.Note.{Note}
+use Rattle.route_lines.specs.declared.note.Note.TheVariants as N
+use Rattle.route_lines.specs.declared.reply.Closing.TheVariants.{Done}
+use Rattle.route_lines.specs.declared.reply.Reply.{Reply}
+use Rattle.route_lines.specs.declared.reply.Reply.TheVariants.{Close}
+use Rattle.route_feed.specs.declared.counted.Counted.{Counted}
+use Rattle.route_feed.specs.declared.error.RunError.{RunError}
+use Rattle.route_feed.specs.declared.error.RunError.TheVariants as Why
+use Rattle.route_feed.specs.declared.follower.Waiting.{Waiting}
+use Rattle.route_feed.specs.InnerInstalling.{AllFit, Begun, GivesChanges, Has, IsFit, Replaces, Takes, TakesNote, Wants, batch_bytes, routes_waiting, route_waiting, tables_of}
+use Rattle.route_feed.specs.InnerReplies.{Closed, Torn}
+use Rattle.route_feed.specs.InnerWaiting.{changes_of, waiting_change}
+use Rattle.route_feed.specs.Installing.{Installing, MayWant, Noted, after_note, batches, committing, event_of, noted_bytes, pending_past, printed_updates, route_to, update_lines}
+use Rattle.route_feed.specs.Streams.{Change, change_of, closes, done_or, pending_after}
+use Rattle.route_feed.proofs.Written.{Closed-nil, Written-nil}
+
+-- waiting changes as routes
+hop_back : (hop : Hop) → hop_from (number_of hop) ≡ hop
+hop_back (Number n) = refl
+hop_back Drop = refl
+
+pub routes_are : (ws : List Waiting) → map route_to (changes_of ws) ≡ routes_waiting ws
+routes_are [] = refl
+routes_are (w ∷ ws) = λ i. route_of w.net (hop_back w.hop i) default_preference ∷ routes_are ws i
+
+-- what is installed, and is kept
+abbrev pub kept_at : List Route → List Change → Installing
+kept_at M cs = record { tables = record { table = M; installed = M; kept = true }; pending = cs }
+
+pub none_before : (table : List Stored) (before : Option (List Stored)) → (tables_of table before).kept ≡ true → before ≡ None
+none_before table None k = refl
+none_before table (Some before) k = absurd (cc)
+
+-- ---- which event it is
+
+few_told : (cs : List Change) (L : List Route) → 0 < length cs → length cs ≤ 256 → committing true cs L ≡ Told (map route_to cs) ∷ []
+few_told [] L some few = absurd (omega arith)
+few_told (c ∷ cs) L some few = let is : nat_lt 256 (length (c ∷ cs)) ≡ false = grind (arith, nat_tests) in rw is refl
+
+many_synced : (cs : List Change) (L : List Route) → 256 < length cs → committing true cs L ≡ Sync (map route_to cs) L ∷ []
+many_synced [] L many = absurd (omega arith)
+many_synced (c ∷ cs) L many = let is : nat_lt 256 (length (c ∷ cs)) ≡ true = grind (arith, nat_tests) in rw is refl
+
+module _ {W : Type 0} (contents : W → Option (List ℕ)) where
+  -- a note of these events
+  Takes-of : (a b : Installing) (note : Note) (L : List Route) (old new : Counted W) (es : List Event) → event_of a note L ≡ es → AllFit a.tables es
+      → b ≡ record { tables = after_events a.tables es; pending = pending_past a.pending note } → Closed contents (batches a.tables es) old new (printed_updates (update_lines a.tables es))
+      → Takes contents a b (record { note = note; least = L }) old new
+  Takes-of a b note L old new es e fit next closed = record {
+    fit = subst (AllFit a.tables) (sym e) fit;
+    next = next ∙ ap (λ l. record { tables = after_events a.tables l; pending = pending_past a.pending note }) (sym e);
+    closed = subst (λ l. Closed contents (batches a.tables l) old new (printed_updates (update_lines a.tables l))) (sym e) closed;
+  }
+
+  -- memory was wanting, and nothing was written
+  pub Wants-nothing : (a : Installing) (note : Note) (old : Counted W) → MayWant a note → Wants contents a note old old
+  Wants-nothing a note old may = record { may_want = may; begun = []; missing = λ L. noted_bytes a (record { note = note; least = L }); is_front = λ L. refl; written = Written-nil contents old }
+
+  -- an event where the table is not kept
+  silent : (s : Installer) (e : Event) (old : Counted W) → (after_event s e).kept ≡ false → Closed contents (batches s (e ∷ [])) old old (printed_updates (update_lines s (e ∷ [])))
+  silent s e old k = rw k (Closed-nil contents old)
+
+  -- a route that is installed already
+  pub taken_have : (a b : Installing) (net : IpNet) (hop : Hop) (old : Counted W) (r : Result Unit RunError) → Has a (route_of net hop default_preference) r b → TakesNote contents a (N.Have net hop) old r b old
+  taken_have a b net hop old (Ok done) h =
+      let r = route_of net hop default_preference in
+      ([], Takes-of a b (N.Have net hop) [] old old (Have r ∷ []) refl (h.0, tt) h.1 (silent a.tables (Have r) old h.0))
+  taken_have a b net hop old (Err Why.Line) h = (h, refl)
+  taken_have a b net hop old (Err Why.Memory) h = Wants-nothing a (N.Have net hop) old h
+  taken_have a b net hop old (Err Why.Read) h = absurd h
+  taken_have a b net hop old (Err Why.Write) h = absurd h
+
+  -- a `sync`
+  pub taken_sync : (a b : Installing) (L : List Route) (old new : Counted W) (r : Result Unit RunError) → IsLeast (hop_at a.tables.table) L → Replaces contents a L old r b new → TakesNote contents a N.Sync old r b new
+  taken_sync a b L old new (Ok done) least h =
+      (L, Takes-of a b N.Sync L old new (Sync [] L ∷ []) refl ((λ are. least), tt) h.0 (subst (Closed contents 1 old new) (ap printed_updates (sym (append-nil _))) h.1))
+  taken_sync a b L old new (Err Why.Memory) least h = subst (λ w. Wants contents a N.Sync old w) (sym h) (Wants-nothing a N.Sync old tt)
+  taken_sync a b L old new (Err Why.Write) least h = (L, record { fit = ((λ are. least), tt); torn = subst (Torn contents old new) (ap printed_updates (sym (append-nil _))) h })
+  taken_sync a b L old new (Err Why.Read) least h = absurd h
+  taken_sync a b L old new (Err Why.Line) least h = absurd h
+
+  -- ---- reply lines
+
+  -- one that commits nothing
+  pub taken_quiet : (a b : Installing) (line : Reply) (old : Counted W) → done_or (closes line) false ≡ false
+      → b ≡ record { tables = a.tables; pending = pending_after a.pending (closes line) (change_of line) } → TakesNote contents a (N.Reply line) old (Ok tt) b old
+  taken_quiet a b line old e next =
+      ([], Takes-of a b (N.Reply line) [] old old [] (ap (λ d. cond d (committing a.tables.kept a.pending []) []) e) tt next (Closed-nil contents old))
+
+  -- `ok` where the table is not kept
+  pub taken_unseen : (a b : Installing) (old : Counted W) → a.tables.kept ≡ false
+      → b ≡ record { tables = record { table = painted_all a.tables.table (map route_to a.pending); installed = a.tables.installed; kept = false }; pending = [] }
+      → TakesNote contents a (N.Reply (Close Done)) old (Ok tt) b old
+  taken_unseen a b old k next = go a.pending refl
+    where
+      M : List Route
+      M = a.tables.table
+
+      I : List Route
+      I = a.tables.installed
+
+      -- the state, with what is known of it
+      state : (cs : List Change) → Installing
+      state cs = record { tables = record { table = M; installed = I; kept = false }; pending = cs }
+
+      here : (cs : List Change) → a.pending ≡ cs → a ≡ state cs
+      unfolding state
+      here cs e = λ i. record { tables = record { table = M; installed = I; kept = k i }; pending = e i }
+
+      go : (cs : List Change) → a.pending ≡ cs → TakesNote contents a (N.Reply (Close Done)) old (Ok tt) b old
+      unfolding state
+      go [] e = subst (λ s. TakesNote contents s (N.Reply (Close Done)) old (Ok tt) b old) (sym (here [] e))
+          ([], Takes-of (state []) b (N.Reply (Close Done)) [] old old [] refl tt (next ∙ ap (λ l. record { tables = record { table = painted_all M (map route_to l); installed = I; kept = false }; pending = [] }) e) (Closed-nil contents old))
+      go (c ∷ cs) e = subst (λ s. TakesNote contents s (N.Reply (Close Done)) old (Ok tt) b old) (sym (here (c ∷ cs) e))
+          ([], Takes-of (state (c ∷ cs)) b (N.Reply (Close Done)) [] old old (Told (map route_to (c ∷ cs)) ∷ []) refl (tt, tt)
+          (next ∙ ap (λ l. record { tables = record { table = painted_all M (map route_to l); installed = I; kept = false }; pending = [] }) e) (Closed-nil contents old))
+
+  -- `ok` where nothing waits
+  pub taken_nothing : (a : Installing) (old : Counted W) → a.pending ≡ [] → TakesNote contents a (N.Reply (Close Done)) old (Ok tt) a old
+  taken_nothing a old e =
+      ([], Takes-of a a (N.Reply (Close Done)) [] old old [] (ap (λ l. committing a.tables.kept l []) e) tt (λ i. record { tables = a.tables; pending = e i }) (Closed-nil contents old))
+
+  -- a few changes, one after another
+  pub taken_each : (M T : List Route) (cs : List Change) (rs : List Route) (old new : Counted W) (r : Result Unit RunError) (b : Installing) → map route_to cs ≡ rs → 0 < length cs → length cs ≤ 256
+      → GivesChanges contents M rs old r T new → OnOk r (b ≡ kept_at T []) → TakesNote contents (kept_at M cs) (N.Reply (Close Done)) old r b new
+  taken_each M T cs rs old new r b routes some few h next = go r (subst (λ l. GivesChanges contents M l old r T new) (sym routes) h) next
+    where
+      -- which least table there is makes no difference
+      told : (L : List Route) → committing true cs L ≡ Told (map route_to cs) ∷ []
+      told L = few_told cs L some few
+
+      text : batch_bytes (batch M (map route_to cs)) ≡ printed_updates (update_lines (record { table = M; installed = M; kept = true }) (Told (map route_to cs) ∷ []))
+      text = ap printed_updates (sym (append-nil _))
+
+      noted : (L : List Route) → batch_bytes (batch M (map route_to cs)) ≡ noted_bytes (kept_at M cs) (record { note = N.Reply (Close Done); least = L })
+      noted L = text ∙ ap (λ es. printed_updates (update_lines (record { table = M; installed = M; kept = true }) es)) (sym (told L))
+
+      go : (k : Result Unit RunError) → GivesChanges contents M (map route_to cs) old k T new → OnOk k (b ≡ kept_at T []) → TakesNote contents (kept_at M cs) (N.Reply (Close Done)) old k b new
+      go (Ok done) g e =
+          ([], Takes-of (kept_at M cs) b (N.Reply (Close Done)) [] old new (Told (map route_to cs) ∷ []) (told []) (tt, tt) (e ∙ ap (λ S. kept_at S []) g.0) (subst (Closed contents 1 old new) text g.1))
+      go (Err Why.Memory) g e = record { may_want = inr (refl, some); begun = g.front; missing = λ L. g.back; is_front = λ L. sym (noted L) ∙ g.is_front; written = g.written }
+      go (Err Why.Write) g e = ([], record { fit = subst (AllFit (record { table = M; installed = M; kept = true })) (sym (told [])) (tt, tt); torn = subst (Torn contents old new) (noted []) g })
+      go (Err Why.Read) g e = absurd g
+      go (Err Why.Line) g e = absurd g
+
+  -- many, by a least table
+  pub taken_least : (M L : List Route) (cs : List Change) (rs : List Route) (old new : Counted W) (r : Result Unit RunError) (b c : Installing) → map route_to cs ≡ rs → 256 < length cs
+      → (AreChanges rs → IsLeast (hop_at (painted_all M rs)) L) → Replaces contents (kept_at M cs) L old r b new → OnOk r (c ≡ record { tables = b.tables; pending = [] })
+      → TakesNote contents (kept_at M cs) (N.Reply (Close Done)) old r c new
+  taken_least M L cs rs old new r b c routes many least h next = go r h next
+    where
+      synced : committing true cs L ≡ Sync (map route_to cs) L ∷ []
+      synced = many_synced cs L many
+
+      is_least : AreChanges (map route_to cs) → IsLeast (hop_at (painted_all M (map route_to cs))) L
+      is_least = subst (λ l. AreChanges l → IsLeast (hop_at (painted_all M l)) L) (sym routes) least
+
+      text : batch_bytes (between M L) ≡ printed_updates (update_lines (record { table = M; installed = M; kept = true }) (Sync (map route_to cs) L ∷ []))
+      text = ap printed_updates (sym (append-nil _))
+
+      go : (k : Result Unit RunError) → Replaces contents (kept_at M cs) L old k b new → OnOk k (c ≡ record { tables = b.tables; pending = [] }) → TakesNote contents (kept_at M cs) (N.Reply (Close Done)) old k c new
+      go (Ok done) g e =
+          (L, Takes-of (kept_at M cs) c (N.Reply (Close Done)) L old new (Sync (map route_to cs) L ∷ []) synced (is_least, tt) (e ∙ ap (λ (s : Installing). record { tables = s.tables; pending = [] }) g.0) (subst (Closed contents 1 old new) text g.1))
+      go (Err Why.Memory) g e = subst (λ w. Wants contents (kept_at M cs) (N.Reply (Close Done)) old w) (sym g) (Wants-nothing (kept_at M cs) (N.Reply (Close Done)) old (inr (refl, omega (arith, many))))
+      go (Err Why.Write) g e = (L, record {
+        fit = subst (AllFit (record { table = M; installed = M; kept = true })) (sym synced) (is_least, tt);
+        torn = subst (Torn contents old new) (text ∙ ap (λ es. printed_updates (update_lines (record { table = M; installed = M; kept = true }) es)) (sym synced)) g;
+      })
+      go (Err Why.Read) g e = absurd g
+      go (Err Why.Line) g e = absurd g
