@@ -1,19 +1,24 @@
 -- What stands installed that is kept by the lines of a leader.
-use Rattle.std.specs.Prelude.{◌≡◌, ◌⊎◌, ℕ, Bool, List, [], ◌∷◌, ◌++◌, Any, Option, Some, None, take}
+use Rattle.std.specs.Prelude.{◌≡◌, ◌⊎◌, ℕ, Bool, true, false, List, [], ◌∷◌, ◌++◌, Any, Option, Some, None, filter, length, map, take}
 use Rattle.std.specs.List.{filter_map}
 use Rattle.ipnet.specs.declared.ip_net.IpNet.{IpNet}
 use Rattle.ipnet_addr.specs.Addresses.{Address, IsAddress}
 use Rattle.route_choices.specs.declared.hop.Hop.{Hop}
-use Rattle.route_lines.specs.Bytes.{rest}
+use Rattle.route_choices.specs.Choices.{default_preference}
+use Rattle.ipnet.specs.IpNets.{block}
+use Rattle.route_lines.specs.Bytes.{lines, rest}
+use Rattle.route_lines.specs.Spelled.{update_of}
 use Rattle.route_lines.specs.declared.note.Note.{Note}
 use Rattle.route_lines.specs.declared.note.Note.TheVariants as N
 use Rattle.route_lines.specs.declared.reply.Reply.{Reply}
+use Rattle.route_lines.specs.declared.update.Update.{Update}
+use Rattle.route_lines.specs.declared.update.Update.TheVariants as U
 use Rattle.route_laws.specs.LeastTables.{IsLeast}
 use Rattle.route_laws.specs.Networks.{Stored, routes_of}
 use Rattle.route_laws.specs.Operations.{Operation, IsHitless, after_all}
 use Rattle.route_laws.specs.Runs.{MayAllCome, given, haves, start}
-use Rattle.route_laws.specs.Tables.{Route, hop_at}
-use Rattle.route_feed.specs.Installing.{Noted, after_notes, begin, event_of, events}
+use Rattle.route_laws.specs.Tables.{Route, hop_at, route_of, with_route, without_block}
+use Rattle.route_feed.specs.Installing.{Noted, after_notes, begin, event_of, events, installed_bytes, update_for, update_lines}
 use Rattle.route_feed.specs.Output.{at_end, output, table_after, whole_commands}
 use Rattle.route_feed.specs.Streams.{closings, committed, painted, replies_in}
 
@@ -83,3 +88,38 @@ OperationsReach = (ns : List Noted) (n : Noted) → MayAllCome start (events beg
 abbrev pub SyncsAreLeast : Type 0
 SyncsAreLeast = (ns : List Noted) (least : List Route) → MayAllCome start (events begin (ns ++ record { note = N.Sync; least = least } ∷ []))
     → IsLeast (painted (committed (replies_of ns))) (installed_by (ns ++ record { note = N.Sync; least = least } ∷ []))
+
+-- ---- of the lines that are written
+
+-- whether a line is an operation
+abbrev pub is_operation : Update → Bool
+is_operation (U.Install net hop) = true
+is_operation (U.Remove net) = true
+is_operation U.Done = false
+
+-- the update lines that stand whole in the bytes
+abbrev pub updates_in : List ℕ → List Update
+updates_in bytes = filter_map update_of (lines bytes)
+
+-- a table after lines are carried out, one after another
+abbrev pub carried_out : List Route → List Update → List Route
+carried_out M [] = M
+carried_out M (U.Install net hop ∷ us) = carried_out (with_route M (route_of net hop default_preference)) us
+carried_out M (U.Remove net ∷ us) = carried_out (without_block M (block net)) us
+carried_out M (U.Done ∷ us) = carried_out M us
+
+-- the lines are those of the operations that are given, and `ok`
+abbrev pub OutputIsGiven : Type 0
+OutputIsGiven = (ns : List Noted) → filter is_operation (update_lines start (events begin ns)) ≡ map update_for (given start (events begin ns))
+
+-- they are read again as they were written
+abbrev pub OutputReadsBack : Type 0
+OutputReadsBack = (ns : List Noted) → MayAllCome start (events begin ns) → updates_in (installed_bytes ns) ≡ update_lines start (events begin ns)
+
+-- Whoever carries out the lines that stand whole in any beginning of the output, on the table of the routes that notes tell as
+-- installed, has at each address the hop of that table after as many of the operations.
+abbrev pub BeginningsAreCarriedOut : Type 0
+BeginningsAreCarriedOut = (ns : List Noted) (front back : List ℕ) → MayAllCome start (events begin ns) → installed_bytes ns ≡ front ++ back
+    → (x : Address) → IsAddress x
+    → hop_at (carried_out (haves (events begin ns)) (updates_in front)) x
+    ≡ hop_at (after_all (haves (events begin ns)) (take (length (filter is_operation (updates_in front))) (given start (events begin ns)))) x
