@@ -39,24 +39,24 @@ not_none [] q l e = cc
 not_none (x ∷ p) q l e = cc
 
 -- a closing line closes the first reply, or a later one
-which_reply : (p q body : List Reply) (done closing : Closing) (tail : List Reply) → AreOpen body → p ++ Close done ∷ q ≡ body ++ Close closing ∷ tail
-    → (p ≡ body) ⊎ ((later : List Reply) × (p ≡ body ++ Close closing ∷ later) × (later ++ Close done ∷ q ≡ tail))
-which_reply [] q [] done closing tail o e = inl refl
-which_reply [] q (y ∷ body) done closing tail o e =
-    let first : Close done ≡ y = cc in
-    let none : closes (Close done) ≡ None = ap closes first ∙ o.0 in
+which_reply : (p q body : List Reply) (ends closing : Closing) (tail : List Reply) → AreOpen body → p ++ Close ends ∷ q ≡ body ++ Close closing ∷ tail
+    → (p ≡ body) ⊎ ((later : List Reply) × (p ≡ body ++ Close closing ∷ later) × (later ++ Close ends ∷ q ≡ tail))
+which_reply [] q [] ends closing tail o e = inl refl
+which_reply [] q (y ∷ body) ends closing tail o e =
+    let first : Close ends ≡ y = cc in
+    let none : closes (Close ends) ≡ None = ap closes first ∙ o.0 in
     absurd (cc)
-which_reply (x ∷ p) q [] done closing tail o e =
+which_reply (x ∷ p) q [] ends closing tail o e =
     let first : x ≡ Close closing = cc in
-    let later : p ++ Close done ∷ q ≡ tail = cc in
+    let later : p ++ Close ends ∷ q ≡ tail = cc in
     inr (p, ap (λ y. y ∷ p) first, later)
-which_reply (x ∷ p) q (y ∷ body) done closing tail o e =
+which_reply (x ∷ p) q (y ∷ body) ends closing tail o e =
     let first : x ≡ y = cc in
-    let later : p ++ Close done ∷ q ≡ body ++ Close closing ∷ tail = cc in
+    let later : p ++ Close ends ∷ q ≡ body ++ Close closing ∷ tail = cc in
     ⊎_elim
     (λ h. inl (ap (λ z. z ∷ p) first ∙ ap (λ l. y ∷ l) h))
     (λ h. inr (h.0, ap (λ z. z ∷ p) first ∙ ap (λ l. y ∷ l) h.1, h.2))
-    (which_reply p q body done closing tail o.1 later)
+    (which_reply p q body ends closing tail o.1 later)
 
 committed_apart : (M : List Stored) (commands : List (Option Command)) (r : List Bool) (p q : List Reply) → IsStoredTable M → AreInRange commands
     → p ++ Close Done ∷ q ≡ reread (replies M commands r) → Rising Apart (pending_over [] p)

@@ -8,7 +8,8 @@ use Rattle.route_choices.specs.Choices.{default_preference}
 use Rattle.route_choices.proofs.Kept.{filter_map_swap, map_append}
 use Rattle.route_lines.specs.declared.update.Update.{Update}
 use Rattle.route_lines.specs.declared.update.Update.TheVariants as U
-use Rattle.route_laws.specs.Operations.{Operation, Install, Remove, after, after_all}
+use Rattle.route_laws.specs.Batches.{batch}
+use Rattle.route_laws.specs.Operations.{Operation, Install, Remove, after_all, between}
 use Rattle.route_laws.specs.Runs.{Event, Have, Told, Sync, Installer, after_event, given, gives, start}
 use Rattle.route_laws.specs.Tables.{Route, covering, hop_at, longer, longest, match_number, match_of, route_of, with_route, without_block}
 use Rattle.route_laws.proofs.NetworksAt.{of_network_at}
@@ -19,11 +20,11 @@ use Rattle.route_feed.specs.InstallLaws.{OutputIsGiven, carried_out, is_operatio
 
 kept-append : {A : Type 0} (p : A → Bool) (xs ys : List A) → filter p (xs ++ ys) ≡ filter p xs ++ filter p ys
 kept-append p [] ys = refl
-kept-append p (x ∷ xs) ys = go (p x)
+kept-append p (x ∷ xs) ys = go (p x) (kept-append p xs ys)
   where
-    go : (b : Bool) → cond b (x ∷ filter p (xs ++ ys)) (filter p (xs ++ ys)) ≡ cond b (x ∷ filter p xs) (filter p xs) ++ filter p ys
-    go true = ap (λ zs. x ∷ zs) (kept-append p xs ys)
-    go false = kept-append p xs ys
+    go : (b : Bool) → filter p (xs ++ ys) ≡ filter p xs ++ filter p ys → cond b (x ∷ filter p (xs ++ ys)) (filter p (xs ++ ys)) ≡ cond b (x ∷ filter p xs) (filter p xs) ++ filter p ys
+    go true h = ap (λ zs. x ∷ zs) h
+    go false h = h
 
 all_operations : (os : List Operation) → filter is_operation (map update_for os) ≡ map update_for os
 all_operations [] = refl
@@ -42,10 +43,10 @@ event_operations s (Have r) = go s.kept
     go false = refl
 event_operations s (Told rs) = go s.kept
   where
-    go : (b : Bool) → filter is_operation (cond b (map update_for (cond b _ []) ++ U.Done ∷ []) []) ≡ map update_for (cond b _ [])
-    go true = batch_operations _
+    go : (b : Bool) → filter is_operation (cond b (map update_for (cond b (batch s.installed rs) []) ++ U.Done ∷ []) []) ≡ map update_for (cond b (batch s.installed rs) [])
+    go true = batch_operations (batch s.installed rs)
     go false = refl
-event_operations s (Sync rs N) = batch_operations _
+event_operations s (Sync rs N) = batch_operations (between s.installed N)
 
 lines_operations : (s : Installer) (es : List Event) → filter is_operation (update_lines s es) ≡ map update_for (given s es)
 lines_operations s [] = refl

@@ -25,3 +25,7 @@ pub mod Batching
 pub mod Noting
 pub mod ChangesInRange
 pub mod Installed
+pub mod ToldNotes
+pub mod NotesInTurn
+pub mod KeptTable
+pub mod GivenLines

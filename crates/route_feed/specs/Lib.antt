@@ -13,6 +13,7 @@ pub mod Shortens
 pub mod Installing
 pub mod Installs
 pub mod Laws
+pub mod InstallLaws
 pub mod InnerReplies
 pub mod InnerRun
 pub mod InnerWaiting

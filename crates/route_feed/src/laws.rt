@@ -2,6 +2,7 @@
 ghost use Rattle.std.specs.Prelude.{◌≡◌, ◌↔◌, IsTrue};
 ghost use Rattle.route_feed.specs.declared.error.RunError.{RunError as AnyRunError};
 ghost use Rattle.route_feed.specs.declared.follower.FollowError.{FollowError as AnyFollowError};
+ghost use Rattle.route_feed.specs.InstallLaws.{BeginningsAreCarriedOut, InstalledAgrees, InstalledAtAllTimes, InstalledIsHitless, OperationsReach, OutputIsGiven, OutputReadsBack, SyncsAreLeast};
 ghost use Rattle.route_feed.specs.Laws.{AllAreAnswered, BeginningsAgree, BeginningsAreReplies, FlatListsAgree, LinesKeepHops, LinesRebuild, LinesStayLeast, NoHopsNoLines, OutputIsFollowed, RestartedAgree, SameFlatBytes, ShortenedAgree, ToldIsTable};
 
 use crate::error::RunError;
@@ -39,6 +40,16 @@ pub fn shortened()
     ensures nothing { NoHopsNoLines }
     ensures kept { LinesKeepHops }
     ensures least { LinesStayLeast }
+{}
+
+/// What stands installed where an installer reads the replies of a leader, with `have` and `sync` lines anywhere between them.
+pub fn installed()
+    ensures agrees { InstalledAgrees }
+    ensures hitless { InstalledIsHitless }
+    ensures times { InstalledAtAllTimes }
+    ensures reaches { OperationsReach }
+    ensures least { SyncsAreLeast }
+    ensures given { OutputIsGiven }
 {}
 
 /// `==` holds of one error alone; a clone of an error is the same, and cloning never fails.
