@@ -29,3 +29,5 @@ pub mod ToldNotes
 pub mod NotesInTurn
 pub mod KeptTable
 pub mod GivenLines
+pub mod SpelledLines
+pub mod LogNotes

@@ -1,5 +1,5 @@
 -- What stands installed that is kept by the lines of a leader.
-use Rattle.std.specs.Prelude.{◌≡◌, ◌⊎◌, ℕ, Bool, true, false, List, [], ◌∷◌, ◌++◌, Any, Option, Some, None, filter, length, map, take}
+use Rattle.std.specs.Prelude.{◌≡◌, ◌⊎◌, ◌<◌, ◌^◌, ℕ, Bool, All, IsSome, true, false, List, [], ◌∷◌, ◌++◌, Any, Option, Some, None, filter, length, map, take}
 use Rattle.std.specs.List.{filter_map}
 use Rattle.ipnet.specs.declared.ip_net.IpNet.{IpNet}
 use Rattle.ipnet_addr.specs.Addresses.{Address, IsAddress}
@@ -7,7 +7,7 @@ use Rattle.route_choices.specs.declared.hop.Hop.{Hop}
 use Rattle.route_choices.specs.Choices.{default_preference}
 use Rattle.ipnet.specs.IpNets.{block}
 use Rattle.route_lines.specs.Bytes.{lines, rest}
-use Rattle.route_lines.specs.Spelled.{update_of}
+use Rattle.route_lines.specs.Spelled.{note_of, update_of}
 use Rattle.route_lines.specs.declared.note.Note.{Note}
 use Rattle.route_lines.specs.declared.note.Note.TheVariants as N
 use Rattle.route_lines.specs.declared.reply.Reply.{Reply}
@@ -18,7 +18,8 @@ use Rattle.route_laws.specs.Networks.{Stored, routes_of}
 use Rattle.route_laws.specs.Operations.{Operation, IsHitless, after_all}
 use Rattle.route_laws.specs.Runs.{MayAllCome, given, haves, start}
 use Rattle.route_laws.specs.Tables.{Route, hop_at, route_of, with_route, without_block}
-use Rattle.route_feed.specs.Installing.{Noted, after_notes, begin, event_of, events, installed_bytes, update_for, update_lines}
+use Rattle.route_feed.specs.Installing.{AreNotes, Noted, after_notes, begin, event_of, events, installed_bytes, update_for, update_lines}
+use Rattle.route_feed.specs.Laws.{table_told}
 use Rattle.route_feed.specs.Output.{at_end, output, table_after, whole_commands}
 use Rattle.route_feed.specs.Streams.{closings, committed, painted, replies_in}
 
@@ -77,6 +78,11 @@ InstalledAtAllTimes = (bytes : List ℕ) (refusals : List Bool) (ns later : List
     → (hop_at (after_all (installed_by ns) (take i (operations_at ns n))) x ≡ hop_at (routes_of (table_by bytes refusals (replies_of ns))) x)
     ⊎ (hop_at (after_all (installed_by ns) (take i (operations_at ns n))) x ≡ hop_at (routes_of (table_by bytes refusals (replies_of (ns ++ n ∷ [])))) x)
 
+-- so where the lines of a log are such notes, and its reply lines are those in a beginning of the leader's output
+abbrev pub LogsAreFirst : Type 0
+LogsAreFirst = (bytes : List ℕ) (refusals : List Bool) (front back log : List ℕ) (ns : List Noted) → output bytes refusals ≡ front ++ back
+    → AreNotes (lines log) ns → replies_in log ≡ replies_in front → AreFirst bytes refusals (replies_of ns)
+
 -- ---- of all notes
 
 -- the operations that are given at a note make of what was installed what is installed then
@@ -123,3 +129,17 @@ BeginningsAreCarriedOut = (ns : List Noted) (front back : List ℕ) → MayAllCo
     → (x : Address) → IsAddress x
     → hop_at (carried_out (haves (events begin ns)) (updates_in front)) x
     ≡ hop_at (after_all (haves (events begin ns)) (take (length (filter is_operation (updates_in front))) (given start (events begin ns)))) x
+
+-- ---- from bytes to bytes
+
+-- each line of a leader is a note, where the input of that leader has fewer than 2^64 bytes, as every input has
+abbrev pub BeginningsAreNotes : Type 0
+BeginningsAreNotes = (bytes front back : List ℕ) (refusals : List Bool) → length bytes < 2 ^ 64 → output bytes refusals ≡ front ++ back → All (λ piece. IsSome (note_of piece)) (lines front)
+
+-- Whoever carries out the output of an installer that is given such a log has at each address the hop of the leader's table after
+-- as many commands as replies end there.
+abbrev pub OutputAgrees : Type 0
+OutputAgrees = (bytes : List ℕ) (refusals : List Bool) (front back log : List ℕ) (ns : List Noted) → output bytes refusals ≡ front ++ back
+    → AreNotes (lines log) ns → replies_in log ≡ replies_in front → HasSync ns
+    → (x : Address) → IsAddress x
+    → hop_at (carried_out (haves (events begin ns)) (updates_in (installed_bytes ns))) x ≡ hop_at (routes_of (table_told bytes refusals front)) x

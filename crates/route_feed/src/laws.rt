@@ -2,7 +2,7 @@
 ghost use Rattle.std.specs.Prelude.{◌≡◌, ◌↔◌, IsTrue};
 ghost use Rattle.route_feed.specs.declared.error.RunError.{RunError as AnyRunError};
 ghost use Rattle.route_feed.specs.declared.follower.FollowError.{FollowError as AnyFollowError};
-ghost use Rattle.route_feed.specs.InstallLaws.{BeginningsAreCarriedOut, InstalledAgrees, InstalledAtAllTimes, InstalledIsHitless, OperationsReach, OutputIsGiven, OutputReadsBack, SyncsAreLeast};
+ghost use Rattle.route_feed.specs.InstallLaws.{BeginningsAreCarriedOut, BeginningsAreNotes, InstalledAgrees, InstalledAtAllTimes, InstalledIsHitless, LogsAreFirst, OperationsReach, OutputAgrees, OutputIsGiven, OutputReadsBack, SyncsAreLeast};
 ghost use Rattle.route_feed.specs.Laws.{AllAreAnswered, BeginningsAgree, BeginningsAreReplies, FlatListsAgree, LinesKeepHops, LinesRebuild, LinesStayLeast, NoHopsNoLines, OutputIsFollowed, RestartedAgree, SameFlatBytes, ShortenedAgree, ToldIsTable};
 
 use crate::error::RunError;
@@ -50,6 +50,11 @@ pub fn installed()
     ensures reaches { OperationsReach }
     ensures least { SyncsAreLeast }
     ensures given { OutputIsGiven }
+    ensures read { OutputReadsBack }
+    ensures carried { BeginningsAreCarriedOut }
+    ensures logs { LogsAreFirst }
+    ensures notes { BeginningsAreNotes }
+    ensures output { OutputAgrees }
 {}
 
 /// `==` holds of one error alone; a clone of an error is the same, and cloning never fails.
