@@ -18,7 +18,7 @@ use Rattle.route_feed.specs.InstallLaws.{OutputIsGiven, carried_out, is_operatio
 
 -- ---- the lines of operations
 
-kept-append : {A : Type 0} (p : A → Bool) (xs ys : List A) → filter p (xs ++ ys) ≡ filter p xs ++ filter p ys
+pub kept-append : {A : Type 0} (p : A → Bool) (xs ys : List A) → filter p (xs ++ ys) ≡ filter p xs ++ filter p ys
 kept-append p [] ys = refl
 kept-append p (x ∷ xs) ys = go (p x) (kept-append p xs ys)
   where
@@ -48,7 +48,7 @@ event_operations s (Told rs) = go s.kept
     go false = refl
 event_operations s (Sync rs N) = batch_operations (between s.installed N)
 
-lines_operations : (s : Installer) (es : List Event) → filter is_operation (update_lines s es) ≡ map update_for (given s es)
+pub lines_operations : (s : Installer) (es : List Event) → filter is_operation (update_lines s es) ≡ map update_for (given s es)
 lines_operations s [] = refl
 lines_operations s (e ∷ es) =
     kept-append is_operation (event_lines s e) (update_lines (after_event s e) es)

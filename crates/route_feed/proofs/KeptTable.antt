@@ -1,6 +1,7 @@
 -- What is installed has the hops of the leader, turns no address twice, and is least after a `sync`.
-use Rattle.std.proofs.Common.{◌≡◌, ◌≤◌, ◌⊎◌, ℕ, Bool, true, false, cond, nat_lt, length, List, [], ◌∷◌, ◌++◌, map, take, Option, Some, None, inl, inr, ⊎_elim, refl, sym, ap, ◌∙◌, subst, arith, append_assoc, append-nil}
+use Rattle.std.proofs.Common.{◌≡◌, ◌≤◌, ◌<◌, ◌⊎◌, ℕ, Bool, true, false, cond, nat_lt, length, List, [], ◌∷◌, ◌++◌, map, take, Option, Some, None, inl, inr, ⊎_elim, refl, sym, ap, ◌∙◌, subst, arith, append_assoc, append-nil}
 use Rattle.std.specs.Prelude.{◌&&◌}
+use Rattle.std.proofs.lemmas.Bool.Decides.{nat_tests}
 use Rattle.ipnet_addr.specs.Addresses.{Address, IsAddress}
 use Rattle.ipnet_addr.proofs.Members.{In}
 use Rattle.ipnet_addr.proofs.Ascending.{Rising, pairs_from_Rising}
@@ -23,12 +24,12 @@ use Rattle.route_laws.proofs.Families.{least_too}
 use Rattle.route_laws.proofs.Runs.{gives_hitless, gives_what_it_says, given_reaches, keeps_hops, sync_is_least}
 use Rattle.route_laws.proofs.Turning.{hitless_from}
 use Rattle.route_feed.specs.Installing.{Installing, Noted, after_note, after_notes, begin, committing, event_of, events, route_to}
-use Rattle.route_feed.specs.InstallLaws.{AreFirst, HasSync, InstalledAgrees, InstalledAtAllTimes, InstalledIsHitless, IsNoHave, OperationsReach, SyncsAreLeast, installed_by, operations_at, replies_of, table_by}
+use Rattle.route_feed.specs.InstallLaws.{AreFirst, HasSync, InstalledAgrees, InstalledAtAllTimes, InstalledIsHitless, IsNoHave, LargeRepliesAreLeast, OperationsReach, SyncsAreLeast, installed_by, operations_at, replies_of, table_by}
 use Rattle.route_feed.specs.Output.{output}
-use Rattle.route_feed.specs.Streams.{Change, committed, ends_well, painted, painted_over, pending_over, replies_in}
+use Rattle.route_feed.specs.Streams.{Change, closes, committed, done_or, ends_well, painted, painted_over, pending_over, replies_in}
 use Rattle.route_feed.proofs.Apart.{waiting_apart}
 use Rattle.route_feed.proofs.Beginnings.{all_in_range, commands_of, empty_is_table, followed, output_read}
-use Rattle.route_feed.proofs.NotesInTurn.{after_events-append, events-append, is_kept, may_split, sync_too, pending_after_notes, replies_of-append, tables_after}
+use Rattle.route_feed.proofs.NotesInTurn.{after_events-append, events-append, is_kept, kept_later, may_split, pending_after_notes, replies_of-append, tables_after}
 use Rattle.route_feed.proofs.ToldNotes.{committed_from, told_notes}
 use Rattle.route_feed.proofs.Seam.{Apart}
 
@@ -45,19 +46,38 @@ nothing_before ls = go (ends_well ls)
 told_is_committed : (ns : List Noted) (x : Address) → told None (events begin ns) x ≡ painted (committed (replies_of ns)) x
 told_is_committed ns x = told_notes x ns begin None ∙ ap (λ cs. painted cs x) (nothing_before (replies_of ns))
 
-pub installed_agrees : InstalledAgrees
-installed_agrees bytes refusals ns first may has x a =
+-- once the table is kept
+pub kept_agrees : (bytes : List ℕ) (refusals : List Bool) (ns : List Noted) → AreFirst bytes refusals (replies_of ns) → MayAllCome start (events begin ns)
+    → Installer.kept (after_events start (events begin ns)) ≡ true → (x : Address) → IsAddress x → hop_at (installed_by ns) x ≡ hop_at (routes_of (table_by bytes refusals (replies_of ns))) x
+kept_agrees bytes refusals ns first may kept x a =
     let es = events begin ns in
     let (later, split) = first in
     ap (λ M. hop_at M x) (given_reaches es may)
-    ∙ keeps_hops es may (is_kept ns has) x a
+    ∙ keeps_hops es may kept x a
     ∙ told_is_committed ns x
     ∙ followed [] (commands_of bytes) refusals (replies_of ns) later empty_is_table (all_in_range bytes) (sym split ∙ output_read bytes refusals) x a
 
+pub installed_agrees : InstalledAgrees
+installed_agrees bytes refusals ns first may has x a = kept_agrees bytes refusals ns first may (is_kept ns has) x a
+
 -- ---- one event at most
 
-abbrev AtMostOne : (Event → Type 0) → List Event → Type 0
+abbrev pub AtMostOne : (Event → Type 0) → List Event → Type 0
 AtMostOne P es = (es ≡ []) ⊎ ((e : Event) × (es ≡ e ∷ []) × P e)
+
+-- a note is one event at most
+committing_one : (kept : Bool) (cs : List Change) (M : List Route) → AtMostOne (λ e. Unit {0}) (committing kept cs M)
+committing_one kept [] M = inl refl
+committing_one kept (c ∷ cs) M = inr (_, refl, tt)
+
+pub one_event : (s : Installing) (note : Note) (M : List Route) → AtMostOne (λ e. Unit {0}) (event_of s note M)
+one_event s (N.Have net hop) M = inr (_, refl, tt)
+one_event s N.Sync M = inr (_, refl, tt)
+one_event s (N.Reply line) M = go (done_or (closes line) false)
+  where
+    go : (d : Bool) → AtMostOne (λ e. Unit {0}) (cond d (committing s.tables.kept s.pending M) [])
+    go true = committing_one s.tables.kept s.pending M
+    go false = inl refl
 
 -- changes without a common address, as an event
 committing_apart : (kept : Bool) (cs : List Change) (N : List Route) → AreApart (map route_to cs) → AtMostOne IsApart (committing kept cs N)
@@ -188,7 +208,7 @@ operations_reach ns n may other =
 
 -- ---- a beginning of the notes
 
-first_too : (bytes : List ℕ) (refusals : List Bool) (ns later : List Noted) → AreFirst bytes refusals (replies_of (ns ++ later)) → AreFirst bytes refusals (replies_of ns)
+pub first_too : (bytes : List ℕ) (refusals : List Bool) (ns later : List Noted) → AreFirst bytes refusals (replies_of (ns ++ later)) → AreFirst bytes refusals (replies_of ns)
 first_too bytes refusals ns later first =
     let (more, split) = first in
     (replies_of later ++ more, split ∙ ap (λ ls. ls ++ more) (replies_of-append ns later) ∙ append_assoc (replies_of ns) (replies_of later) more)
@@ -201,27 +221,52 @@ kept_no_have ns n may kept net hop e =
     let both = sym k ∙ kept in
     cc
 
+module _ (bytes : List ℕ) (refusals : List Bool) (ns later : List Noted) (n : Noted) (first : AreFirst bytes refusals (replies_of (ns ++ n ∷ later))) (may : MayAllCome start (events begin (ns ++ n ∷ later))) where
+  pub kept_at_all_times : Installer.kept (after_events start (events begin ns)) ≡ true → (x : Address) → IsAddress x → (i : ℕ)
+      → (hop_at (after_all (installed_by ns) (take i (operations_at ns n))) x ≡ hop_at (routes_of (table_by bytes refusals (replies_of ns))) x)
+      ⊎ (hop_at (after_all (installed_by ns) (take i (operations_at ns n))) x ≡ hop_at (routes_of (table_by bytes refusals (replies_of (ns ++ n ∷ [])))) x)
+  kept_at_all_times kept x a i =
+      let t = first_too bytes refusals ns (n ∷ later) first in
+      let u = first_too bytes refusals (ns ++ n ∷ []) later (subst (λ ls. AreFirst bytes refusals (replies_of ls)) (sym (append_assoc ns (n ∷ []) later)) first) in
+      let m = subst (MayAllCome start) (sym (whole ns [] n ∙ append-nil (es ns [] n ++ now ns [] n))) (may_now ns later n may) in
+      let still = ap (λ fs. Installer.kept (after_events start fs)) (whole ns [] n ∙ append-nil (es ns [] n ++ now ns [] n)) ∙ kept_later start (es ns [] n) (now ns [] n) kept in
+      ⊎_elim
+      (λ e. inl (e ∙ kept_agrees bytes refusals ns t (may_before ns later n may) kept x a))
+      (λ e. inr (e ∙ ap (λ M. hop_at M x) (operations_reach ns n m (kept_no_have ns n m kept)) ∙ kept_agrees bytes refusals (ns ++ n ∷ []) u m still x a))
+      (IsHitless.turns (installed_is_hitless bytes refusals ns later n first may) x a i i (omega arith))
+
 pub installed_at_all_times : InstalledAtAllTimes
-installed_at_all_times bytes refusals ns later n first may has x a i =
-    let t = first_too bytes refusals ns (n ∷ later) first in
-    let u = first_too bytes refusals (ns ++ n ∷ []) later (subst (λ ls. AreFirst bytes refusals (replies_of ls)) (sym (append_assoc ns (n ∷ []) later)) first) in
-    let m = subst (MayAllCome start) (sym (whole ns [] n ∙ append-nil (es ns [] n ++ now ns [] n))) (may_now ns later n may) in
-    ⊎_elim
-    (λ e. inl (e ∙ installed_agrees bytes refusals ns t (may_before ns later n may) has x a))
-    (λ e. inr (e ∙ ap (λ M. hop_at M x) (operations_reach ns n m (kept_no_have ns n m (is_kept ns has)))
-        ∙ installed_agrees bytes refusals (ns ++ n ∷ []) u m (sync_too ns (n ∷ []) has) x a))
-    (IsHitless.turns (installed_is_hitless bytes refusals ns later n first may) x a i i (omega arith))
+installed_at_all_times bytes refusals ns later n first may has x a i = kept_at_all_times bytes refusals ns later n first may (is_kept ns has) x a i
 
 -- ---- after a `sync`
+
+-- after notes whose last event asks for a least table
+asked_is_least : (ns : List Noted) (n : Noted) (rs N : List Route) → event_of (after_notes begin ns) n.note n.least ≡ Sync rs N ∷ [] → MayAllCome start (events begin (ns ++ n ∷ []))
+    → IsLeast (painted (committed (replies_of (ns ++ n ∷ [])))) (installed_by (ns ++ n ∷ []))
+asked_is_least ns n rs N is may =
+    let log = ns ++ n ∷ [] in
+    let split : events begin log ≡ events begin ns ++ Sync rs N ∷ [] = events-append begin ns (n ∷ []) ∙ ap (λ fs. events begin ns ++ fs) (append-nil (event_of (after_notes begin ns) n.note n.least) ∙ is) in
+    subst (IsLeast (painted (committed (replies_of log)))) (sym (given_reaches (events begin log) may))
+    (least_too (told None (events begin log)) (painted (committed (replies_of log))) (λ x a. told_is_committed log x) _
+    (subst (λ fs. IsLeast (told None fs) (Installer.installed (after_events start fs))) (sym split)
+    (sync_is_least (events begin ns) rs N (subst (MayAllCome start) split may))))
 
 pub syncs_are_least : SyncsAreLeast
 syncs_are_least ns least may =
     let n : Noted = record { note = N.Sync; least = least } in
-    let log = ns ++ n ∷ [] in
-    let split : events begin log ≡ events begin ns ++ Sync [] least ∷ [] = events-append begin ns (n ∷ []) in
-    let lines : replies_of log ≡ replies_of ns = replies_of-append ns (n ∷ []) ∙ append-nil (replies_of ns) in
-    subst (IsLeast (painted (committed (replies_of ns)))) (sym (given_reaches (events begin log) may))
-    (least_too (told None (events begin log)) (painted (committed (replies_of ns)))
-    (λ x a. told_is_committed log x ∙ ap (λ ls. painted (committed ls) x) lines) _
-    (subst (λ fs. IsLeast (told None fs) (Installer.installed (after_events start fs))) (sym split)
-    (sync_is_least (events begin ns) [] least (subst (MayAllCome start) split may))))
+    subst (λ ls. IsLeast (painted (committed ls)) (installed_by (ns ++ n ∷ []))) (replies_of-append ns (n ∷ []) ∙ append-nil (replies_of ns))
+    (asked_is_least ns n [] least refl may)
+
+many_asked : (kept : Bool) (cs : List Change) (M : List Route) → kept ≡ true → 256 < length cs → committing kept cs M ≡ Sync (map route_to cs) M ∷ []
+many_asked kept [] M k many = absurd (omega arith)
+many_asked kept (c ∷ cs) M k many =
+    let more : nat_lt 256 (length (c ∷ cs)) ≡ true = grind (arith, nat_tests) in
+    ap (λ b. cond (b && nat_lt 256 (length (c ∷ cs))) (Sync (map route_to (c ∷ cs)) M) (Told (map route_to (c ∷ cs))) ∷ []) k
+    ∙ ap (λ b. cond b (Sync (map route_to (c ∷ cs)) M) (Told (map route_to (c ∷ cs))) ∷ []) more
+
+pub large_replies_are_least : LargeRepliesAreLeast
+large_replies_are_least ns least may has many =
+    let n : Noted = record { note = N.Reply (R.Close Done); least = least } in
+    let s = after_notes begin ns in
+    asked_is_least ns n (map route_to s.pending) least
+    (many_asked s.tables.kept s.pending least (ap Installer.kept (tables_after begin ns) ∙ is_kept ns has) (subst (λ (cs : List Change). 256 < length cs) (sym (pending_after_notes begin ns)) many)) may

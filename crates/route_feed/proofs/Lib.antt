@@ -31,3 +31,6 @@ pub mod KeptTable
 pub mod GivenLines
 pub mod SpelledLines
 pub mod LogNotes
+pub mod CutLines
+pub mod CutOutput
+pub mod InstallRows

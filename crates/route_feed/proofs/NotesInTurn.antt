@@ -1,8 +1,8 @@
 -- Notes one after another.
 use Rattle.std.proofs.Common.{◌≡◌, ℕ, Bool, true, false, cond, List, [], ◌∷◌, ◌++◌, map, Option, Some, None, inl, inr, ⊎_elim, refl, sym, ap, ◌∙◌, subst, append_assoc, append-nil}
 use Rattle.std.proofs.lemmas.List.Elements.{filter_map-append}
-use Rattle.ipnet_addr.proofs.Members.{In, In-left}
-use Rattle.ipnet_addr.proofs.Ascending.{Any-from_In, In-from_Any}
+use Rattle.ipnet_addr.proofs.Members.{In}
+use Rattle.ipnet_addr.proofs.Ascending.{In-from_Any}
 use Rattle.route_lines.specs.declared.note.Note.{Note}
 use Rattle.route_lines.specs.declared.note.Note.TheVariants as N
 use Rattle.route_laws.specs.Operations.{Operation}
@@ -47,11 +47,14 @@ replies_of-append ns ms = filter_map-append (λ (n : Noted). reply_in n.note) ns
 
 -- ---- once the table is kept
 
-kept_stays : (es : List Event) (s : Installer) → s.kept ≡ true → Installer.kept (after_events s es) ≡ true
+pub kept_stays : (es : List Event) (s : Installer) → s.kept ≡ true → Installer.kept (after_events s es) ≡ true
 kept_stays [] s k = k
 kept_stays (Have r ∷ es) s k = kept_stays es (after_event s (Have r)) k
 kept_stays (Told rs ∷ es) s k = kept_stays es (after_event s (Told rs)) k
 kept_stays (Sync rs N ∷ es) s k = kept_stays es (after_event s (Sync rs N)) refl
+
+pub kept_later : (s : Installer) (es fs : List Event) → Installer.kept (after_events s es) ≡ true → Installer.kept (after_events s (es ++ fs)) ≡ true
+kept_later s es fs k = ap Installer.kept (after_events-append s es fs) ∙ kept_stays fs (after_events s es) k
 
 sync_keeps : (ns : List Noted) (s : Installing) (n : Noted) → In n ns → n.note ≡ N.Sync → Installer.kept (after_events s.tables (events s ns)) ≡ true
 sync_keeps [] s n i e = absurd i
@@ -63,8 +66,3 @@ sync_keeps (m ∷ ns) s n (inr i) e =
 
 pub is_kept : (ns : List Noted) → HasSync ns → Installer.kept (after_events start (events begin ns)) ≡ true
 is_kept ns h = let t = In-from_Any (λ (n : Noted). n.note ≡ N.Sync) ns h in sync_keeps ns begin t.0 t.1 t.2
-
-pub sync_too : (ns ms : List Noted) → HasSync ns → HasSync (ns ++ ms)
-sync_too ns ms h =
-    let t = In-from_Any (λ (n : Noted). n.note ≡ N.Sync) ns h in
-    Any-from_In (λ (n : Noted). n.note ≡ N.Sync) (ns ++ ms) t.0 (In-left t.0 ns ms t.1) t.2

@@ -132,7 +132,7 @@ pub output_reads_back : OutputReadsBack
 output_reads_back ns may = updates_read (update_lines start (events begin ns)) (lines_spelled (events begin ns) [] may)
 
 pub beginnings_are_carried_out : BeginningsAreCarriedOut
-beginnings_are_carried_out ns front back may e x a =
+beginnings_are_carried_out ns front back may e x =
     let (more, first) = first_lines front back in
     first_carried _ (events begin ns) (updates_in front) (filter_map update_of more)
     (sym (output_reads_back ns may) ∙ ap updates_in e ∙ ap (filter_map update_of) first ∙ filter_map-append update_of (lines front) more) x

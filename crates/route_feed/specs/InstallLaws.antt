@@ -1,5 +1,5 @@
 -- What stands installed that is kept by the lines of a leader.
-use Rattle.std.specs.Prelude.{◌≡◌, ◌⊎◌, ◌<◌, ◌^◌, ℕ, Bool, All, IsSome, true, false, List, [], ◌∷◌, ◌++◌, Any, Option, Some, None, filter, length, map, take}
+use Rattle.std.specs.Prelude.{◌≡◌, ◌⊎◌, ◌<◌, ◌^◌, ℕ, Bool, All, IsSome, true, false, List, [], ◌∷◌, ◌++◌, Any, Option, Some, None, Contains, filter, length, map, not, suc, take}
 use Rattle.std.specs.List.{filter_map}
 use Rattle.ipnet.specs.declared.ip_net.IpNet.{IpNet}
 use Rattle.ipnet_addr.specs.Addresses.{Address, IsAddress}
@@ -10,7 +10,9 @@ use Rattle.route_lines.specs.Bytes.{lines, rest}
 use Rattle.route_lines.specs.Spelled.{note_of, update_of}
 use Rattle.route_lines.specs.declared.note.Note.{Note}
 use Rattle.route_lines.specs.declared.note.Note.TheVariants as N
+use Rattle.route_lines.specs.declared.reply.Closing.TheVariants.{Done}
 use Rattle.route_lines.specs.declared.reply.Reply.{Reply}
+use Rattle.route_lines.specs.declared.reply.Reply.TheVariants.{Close}
 use Rattle.route_lines.specs.declared.update.Update.{Update}
 use Rattle.route_lines.specs.declared.update.Update.TheVariants as U
 use Rattle.route_laws.specs.LeastTables.{IsLeast}
@@ -18,10 +20,10 @@ use Rattle.route_laws.specs.Networks.{Stored, routes_of}
 use Rattle.route_laws.specs.Operations.{Operation, IsHitless, after_all}
 use Rattle.route_laws.specs.Runs.{MayAllCome, given, haves, start}
 use Rattle.route_laws.specs.Tables.{Route, hop_at, route_of, with_route, without_block}
-use Rattle.route_feed.specs.Installing.{AreNotes, Noted, after_notes, begin, event_of, events, installed_bytes, update_for, update_lines}
+use Rattle.route_feed.specs.Installing.{AreNotes, Noted, after_notes, batches_given, begin, event_of, events, installed_bytes, update_for, update_lines}
 use Rattle.route_feed.specs.Laws.{table_told}
 use Rattle.route_feed.specs.Output.{at_end, output, table_after, whole_commands}
-use Rattle.route_feed.specs.Streams.{closings, committed, painted, replies_in}
+use Rattle.route_feed.specs.Streams.{closings, committed, painted, pending_over, replies_in}
 
 -- the reply line of a note
 abbrev pub reply_in : Note → Option Reply
@@ -37,9 +39,13 @@ replies_of ns = filter_map (λ n. reply_in n.note) ns
 abbrev pub AreFirst : List ℕ → List Bool → List Reply → Type 0
 AreFirst bytes refusals ls = (later : List Reply) × (replies_in (output bytes refusals) ≡ ls ++ later)
 
--- the leader's table after as many commands as these lines end replies
+-- the leader's table after so many of its commands
+abbrev pub table_at : List ℕ → List Bool → ℕ → List Stored
+table_at bytes refusals count = table_after [] (take count (whole_commands bytes ++ at_end (rest bytes))) refusals
+
+-- after as many as these lines end replies
 abbrev pub table_by : List ℕ → List Bool → List Reply → List Stored
-table_by bytes refusals ls = table_after [] (take (closings ls) (whole_commands bytes ++ at_end (rest bytes))) refusals
+table_by bytes refusals ls = table_at bytes refusals (closings ls)
 
 -- the operations that are given at a note, after others
 abbrev pub operations_at : List Noted → Noted → List Operation
@@ -95,6 +101,13 @@ abbrev pub SyncsAreLeast : Type 0
 SyncsAreLeast = (ns : List Noted) (least : List Route) → MayAllCome start (events begin (ns ++ record { note = N.Sync; least = least } ∷ []))
     → IsLeast (painted (committed (replies_of ns))) (installed_by (ns ++ record { note = N.Sync; least = least } ∷ []))
 
+-- and so it is after an `ok` where more than 256 changes wait
+abbrev pub LargeRepliesAreLeast : Type 0
+LargeRepliesAreLeast = (ns : List Noted) (least : List Route) → MayAllCome start (events begin (ns ++ record { note = N.Reply (Close Done); least = least } ∷ []))
+    → HasSync ns → 256 < length (pending_over [] (replies_of ns))
+    → IsLeast (painted (committed (replies_of (ns ++ record { note = N.Reply (Close Done); least = least } ∷ []))))
+    (installed_by (ns ++ record { note = N.Reply (Close Done); least = least } ∷ []))
+
 -- ---- of the lines that are written
 
 -- whether a line is an operation
@@ -102,6 +115,10 @@ abbrev pub is_operation : Update → Bool
 is_operation (U.Install net hop) = true
 is_operation (U.Remove net) = true
 is_operation U.Done = false
+
+-- how many of the lines are `ok`
+abbrev pub oks : List Update → ℕ
+oks us = length (filter (λ u. not (is_operation u)) us)
 
 -- the update lines that stand whole in the bytes
 abbrev pub updates_in : List ℕ → List Update
@@ -125,8 +142,7 @@ OutputReadsBack = (ns : List Noted) → MayAllCome start (events begin ns) → u
 -- Whoever carries out the lines that stand whole in any beginning of the output, on the table of the routes that notes tell as
 -- installed, has at each address the hop of that table after as many of the operations.
 abbrev pub BeginningsAreCarriedOut : Type 0
-BeginningsAreCarriedOut = (ns : List Noted) (front back : List ℕ) → MayAllCome start (events begin ns) → installed_bytes ns ≡ front ++ back
-    → (x : Address) → IsAddress x
+BeginningsAreCarriedOut = (ns : List Noted) (front back : List ℕ) → MayAllCome start (events begin ns) → installed_bytes ns ≡ front ++ back → (x : Address)
     → hop_at (carried_out (haves (events begin ns)) (updates_in front)) x
     ≡ hop_at (after_all (haves (events begin ns)) (take (length (filter is_operation (updates_in front))) (given start (events begin ns)))) x
 
@@ -143,3 +159,14 @@ OutputAgrees = (bytes : List ℕ) (refusals : List Bool) (front back log : List 
     → AreNotes (lines log) ns → replies_in log ≡ replies_in front → HasSync ns
     → (x : Address) → IsAddress x
     → hop_at (carried_out (haves (events begin ns)) (updates_in (installed_bytes ns))) x ≡ hop_at (routes_of (table_told bytes refusals front)) x
+
+-- And so at all times from the first `ok` on: whoever carries out the lines that stand whole in a beginning of this output, cut at any
+-- byte, has each address at one of two hops: that of the leader's table after so many commands, or after one more. The notes whose
+-- replies these commands ended had given as many batches as lines there are `ok`.
+abbrev pub CutsAgree : Type 0
+CutsAgree = (bytes : List ℕ) (refusals : List Bool) (front back log : List ℕ) (ns : List Noted) (written missing : List ℕ) → output bytes refusals ≡ front ++ back
+    → AreNotes (lines log) ns → replies_in log ≡ replies_in front → installed_bytes ns ≡ written ++ missing → Contains (updates_in written) U.Done
+    → (before : List Noted) × (later : List Noted) × (ns ≡ before ++ later) × (batches_given before ≡ oks (updates_in written))
+    × ((x : Address) → IsAddress x
+    → (hop_at (carried_out (haves (events begin ns)) (updates_in written)) x ≡ hop_at (routes_of (table_at bytes refusals (closings (replies_of before)))) x)
+    ⊎ (hop_at (carried_out (haves (events begin ns)) (updates_in written)) x ≡ hop_at (routes_of (table_at bytes refusals (suc (closings (replies_of before))))) x))
