@@ -1,17 +1,16 @@
 -- Where a beginning of the lines of an installer ends.
-use Rattle.std.proofs.Common.{◌≡◌, ◌⊎◌, ℕ, suc, ◌+◌, Bool, true, false, not, cond, List, [], ◌∷◌, ◌++◌, map, filter, length, take, Option, Some, None, inl, inr, ⊎_elim, refl, sym, ap, ◌∙◌, subst, arith, append_assoc, append-nil}
+use Rattle.std.proofs.Common.{◌≡◌, ◌⊎◌, suc, ◌+◌, Bool, true, false, not, cond, List, [], ◌∷◌, ◌++◌, map, filter, length, inl, inr, ⊎_elim, refl, sym, ap, ◌∙◌, arith, append_assoc, append-nil}
 use Rattle.std.proofs.lemmas.List.{length-append}
 use Rattle.ipnet_addr.proofs.Members.{In, In-cases}
-use Rattle.route_lines.specs.declared.note.Note.{Note}
 use Rattle.route_lines.specs.declared.update.Update.{Update}
 use Rattle.route_lines.specs.declared.update.Update.TheVariants as U
 use Rattle.route_laws.specs.Operations.{Operation, Install, Remove}
-use Rattle.route_laws.specs.Runs.{Event, Have, Told, Sync, Installer, MayAllCome, after_event, after_events, given, gives, start, with_haves}
+use Rattle.route_laws.specs.Runs.{Event, Have, Told, Sync, Installer, MayAllCome, after_event, after_events, gives, with_haves}
 use Rattle.route_laws.specs.Tables.{Route, with_route}
 use Rattle.route_feed.specs.Installing.{Installing, Noted, after_note, after_notes, batches, event_lines, event_of, events, update_for, update_lines}
 use Rattle.route_feed.specs.InstallLaws.{is_operation, oks}
 use Rattle.route_feed.proofs.GivenLines.{kept-append}
-use Rattle.route_feed.proofs.KeptTable.{AtMostOne, one_event}
+use Rattle.route_feed.proofs.KeptTable.{one_event}
 use Rattle.route_feed.proofs.NotesInTurn.{kept_stays}
 
 pub lines-append : (s : Installer) (es fs : List Event) → update_lines s (es ++ fs) ≡ update_lines s es ++ update_lines (after_events s es) fs

@@ -1,5 +1,5 @@
 -- Whoever carries out a beginning of the output of an installer has one of two hops at each address.
-use Rattle.std.proofs.Common.{◌≡◌, ◌⊎◌, ℕ, zero, suc, ◌+◌, Bool, true, false, not, cond, List, [], ◌∷◌, ◌++◌, map, filter, length, take, Option, Some, None, inl, inr, ⊎_elim, refl, sym, ap, ◌∙◌, subst, arith, append_assoc, append-nil}
+use Rattle.std.proofs.Common.{◌≡◌, ◌⊎◌, ℕ, suc, ◌+◌, Bool, true, false, cond, List, [], ◌∷◌, ◌++◌, map, filter, length, take, Option, Some, None, inl, inr, ⊎_elim, refl, sym, ap, ◌∙◌, subst, arith}
 use Rattle.std.specs.Prelude.{is_some}
 use Rattle.std.specs.List.{cons_option, filter_map}
 use Rattle.std.proofs.lemmas.List.Elements.{filter_map-append}
@@ -23,7 +23,7 @@ use Rattle.route_feed.proofs.CutLines.{Cut, batches_are_oks, haves-append, no_ha
 use Rattle.route_feed.proofs.GivenLines.{carried_hops, first_of_map, kept-append, lines_operations, only_operations}
 use Rattle.route_feed.proofs.KeptTable.{first_too, kept_agrees, kept_at_all_times}
 use Rattle.route_feed.proofs.LogNotes.{logs_are_first}
-use Rattle.route_feed.proofs.NotesInTurn.{events-append, may_split, replies_of-append, tables_after}
+use Rattle.route_feed.proofs.NotesInTurn.{events-append, may_split, replies_of-append}
 use Rattle.route_feed.proofs.SpelledLines.{output_reads_back}
 
 after_all-append : (M : List Route) (os ps : List Operation) → after_all M (os ++ ps) ≡ after_all (after_all M os) ps

@@ -1,9 +1,9 @@
 -- The lines of an installer are its operations, and what they make is what the operations make.
-use Rattle.std.proofs.Common.{◌≡◌, ℕ, zero, suc, Bool, true, false, not, cond, nat_lt, List, [], ◌∷◌, ◌++◌, map, filter, take, length, Option, Some, None, refl, sym, ap, ◌∙◌, subst, append-nil}
+use Rattle.std.proofs.Common.{◌≡◌, Bool, true, false, not, cond, nat_lt, List, [], ◌∷◌, ◌++◌, map, filter, take, length, Option, Some, None, refl, sym, ap, ◌∙◌, append-nil}
 use Rattle.std.specs.Option.{option_map}
 use Rattle.ipnet_addr.specs.Addresses.{Address}
 use Rattle.ipnet_blocks.specs.Blocks.{Block, host, is_before, is_inside, same_block}
-use Rattle.ipnet.specs.IpNets.{block, network_at}
+use Rattle.ipnet.specs.IpNets.{block}
 use Rattle.route_choices.specs.Choices.{default_preference}
 use Rattle.route_choices.proofs.Kept.{filter_map_swap, map_append}
 use Rattle.route_lines.specs.declared.update.Update.{Update}

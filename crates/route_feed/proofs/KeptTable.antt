@@ -1,12 +1,9 @@
 -- What is installed has the hops of the leader, turns no address twice, and is least after a `sync`.
-use Rattle.std.proofs.Common.{◌≡◌, ◌≤◌, ◌<◌, ◌⊎◌, ℕ, Bool, true, false, cond, nat_lt, length, List, [], ◌∷◌, ◌++◌, map, take, Option, Some, None, inl, inr, ⊎_elim, refl, sym, ap, ◌∙◌, subst, arith, append_assoc, append-nil}
+use Rattle.std.proofs.Common.{◌≡◌, ◌<◌, ◌⊎◌, ℕ, Bool, true, false, cond, nat_lt, length, List, [], ◌∷◌, ◌++◌, map, take, None, inl, inr, ⊎_elim, refl, sym, ap, ◌∙◌, subst, arith, append_assoc, append-nil}
 use Rattle.std.specs.Prelude.{◌&&◌}
 use Rattle.std.proofs.lemmas.Bool.Decides.{nat_tests}
 use Rattle.ipnet_addr.specs.Addresses.{Address, IsAddress}
-use Rattle.ipnet_addr.proofs.Members.{In}
 use Rattle.ipnet_addr.proofs.Ascending.{Rising, pairs_from_Rising}
-use Rattle.ipnet.specs.declared.ip_net.IpNet.{IpNet}
-use Rattle.route_choices.specs.declared.hop.Hop.{Hop}
 use Rattle.route_choices.proofs.Kept.{In-map}
 use Rattle.route_lines.specs.declared.note.Note.{Note}
 use Rattle.route_lines.specs.declared.note.Note.TheVariants as N
@@ -16,17 +13,16 @@ use Rattle.route_lines.specs.declared.reply.Reply.TheVariants as R
 use Rattle.route_laws.specs.Batches.{AreApart}
 use Rattle.route_laws.specs.LeastTables.{IsLeast}
 use Rattle.route_laws.specs.Networks.{routes_of}
-use Rattle.route_laws.specs.Operations.{Operation, IsHitless, after_all}
-use Rattle.route_laws.specs.Runs.{Event, Have, Told, Sync, Installer, IsApart, IsMade, MayAllCome, after_event, after_events, given, gives, haves, start, told}
+use Rattle.route_laws.specs.Operations.{IsHitless, after_all}
+use Rattle.route_laws.specs.Runs.{Event, Have, Told, Sync, Installer, IsApart, IsMade, MayAllCome, after_event, after_events, given, gives, start, told}
 use Rattle.route_laws.specs.Tables.{Route, hop_at}
 use Rattle.route_laws.proofs.Batches as batch
 use Rattle.route_laws.proofs.Families.{least_too}
 use Rattle.route_laws.proofs.Runs.{gives_hitless, gives_what_it_says, given_reaches, keeps_hops, sync_is_least}
 use Rattle.route_laws.proofs.Turning.{hitless_from}
 use Rattle.route_feed.specs.Installing.{Installing, Noted, after_note, after_notes, begin, committing, event_of, events, route_to}
-use Rattle.route_feed.specs.InstallLaws.{AreFirst, HasSync, InstalledAgrees, InstalledAtAllTimes, InstalledIsHitless, IsNoHave, LargeRepliesAreLeast, OperationsReach, SyncsAreLeast, installed_by, operations_at, replies_of, table_by}
-use Rattle.route_feed.specs.Output.{output}
-use Rattle.route_feed.specs.Streams.{Change, closes, committed, done_or, ends_well, painted, painted_over, pending_over, replies_in}
+use Rattle.route_feed.specs.InstallLaws.{AreFirst, InstalledAgrees, InstalledAtAllTimes, InstalledIsHitless, IsNoHave, LargeRepliesAreLeast, OperationsReach, SyncsAreLeast, installed_by, operations_at, replies_of, table_by}
+use Rattle.route_feed.specs.Streams.{Change, closes, committed, done_or, ends_well, painted}
 use Rattle.route_feed.proofs.Apart.{waiting_apart}
 use Rattle.route_feed.proofs.Beginnings.{all_in_range, commands_of, empty_is_table, followed, output_read}
 use Rattle.route_feed.proofs.NotesInTurn.{after_events-append, events-append, is_kept, kept_later, may_split, pending_after_notes, replies_of-append, tables_after}

@@ -1,10 +1,8 @@
 -- The reply lines of a log are those of its notes.
-use Rattle.std.proofs.Common.{◌≡◌, ℕ, ◌<◌, ◌^◌, List, [], ◌∷◌, ◌++◌, length, map, All, Option, Some, None, refl, sym, ap, ◌∙◌, subst, append-nil}
+use Rattle.std.proofs.Common.{◌≡◌, ℕ, List, [], ◌∷◌, ◌++◌, map, Option, Some, None, refl, sym, ap, ◌∙◌, subst}
 use Rattle.std.specs.Prelude.{IsSome}
 use Rattle.std.specs.List.{cons_option, filter_map}
 use Rattle.std.proofs.lemmas.List.Elements.{All-weaker}
-use Rattle.ipnet_addr.specs.Addresses.{Address, IsAddress}
-use Rattle.ipnet.specs.declared.ip_net.IpNet.{IpNet}
 use Rattle.route_lines.specs.Bytes.{lines}
 use Rattle.route_lines.specs.Spelled.{note_of, reply_of}
 use Rattle.route_lines.specs.declared.note.Note.{Note}
@@ -12,12 +10,10 @@ use Rattle.route_lines.specs.declared.note.Note.TheVariants as N
 use Rattle.route_lines.specs.declared.reply.Reply.{Reply}
 use Rattle.route_lines.proofs.Notes.{replies}
 use Rattle.route_laws.specs.Networks.{routes_of}
-use Rattle.route_laws.specs.Operations.{after_all}
 use Rattle.route_laws.specs.Runs.{given, haves, start}
 use Rattle.route_laws.specs.Tables.{hop_at}
-use Rattle.route_feed.specs.Installing.{AreNotes, Noted, begin, events, installed_bytes, update_lines}
+use Rattle.route_feed.specs.Installing.{Noted, begin, events, update_lines}
 use Rattle.route_feed.specs.InstallLaws.{BeginningsAreNotes, LogsAreFirst, OutputAgrees, carried_out, reply_in, replies_of, table_by}
-use Rattle.route_feed.specs.Streams.{closings, replies_in}
 use Rattle.route_feed.proofs.Beginnings.{first_replies}
 use Rattle.route_feed.proofs.Grammar.{beginnings_are_replies}
 use Rattle.route_feed.proofs.GivenLines.{carried_hops, only_operations, output_is_given}

@@ -1,13 +1,11 @@
 -- Notes one after another.
-use Rattle.std.proofs.Common.{◌≡◌, ℕ, Bool, true, false, cond, List, [], ◌∷◌, ◌++◌, map, Option, Some, None, inl, inr, ⊎_elim, refl, sym, ap, ◌∙◌, subst, append_assoc, append-nil}
+use Rattle.std.proofs.Common.{◌≡◌, true, List, [], ◌∷◌, ◌++◌, inl, inr, refl, sym, ap, ◌∙◌, subst, append_assoc}
 use Rattle.std.proofs.lemmas.List.Elements.{filter_map-append}
 use Rattle.ipnet_addr.proofs.Members.{In}
 use Rattle.ipnet_addr.proofs.Ascending.{In-from_Any}
 use Rattle.route_lines.specs.declared.note.Note.{Note}
 use Rattle.route_lines.specs.declared.note.Note.TheVariants as N
-use Rattle.route_laws.specs.Operations.{Operation}
-use Rattle.route_laws.specs.Runs.{Event, Have, Told, Sync, Installer, MayCome, MayAllCome, after_event, after_events, given, gives, start}
-use Rattle.route_laws.specs.Tables.{Route}
+use Rattle.route_laws.specs.Runs.{Event, Have, Told, Sync, Installer, MayAllCome, after_event, after_events, start}
 use Rattle.route_feed.specs.Streams.{pending_over}
 use Rattle.route_feed.specs.Installing.{Installing, Noted, after_note, after_notes, begin, event_of, events, pending_past}
 use Rattle.route_feed.specs.InstallLaws.{HasSync, replies_of, reply_in}

@@ -1,13 +1,11 @@
 -- The lines of an installer are read again as they were written.
-use Rattle.std.proofs.Common.{◌≡◌, ◌≢◌, ◌==◌, ℕ, Bool, true, false, cond, List, [], ◌∷◌, ◌++◌, map, Option, Some, None, inl, inr, ⊎_elim, refl, sym, ap, ◌∙◌, subst, append_assoc, append-nil}
+use Rattle.std.proofs.Common.{◌≡◌, ◌≢◌, ℕ, Bool, true, false, cond, List, [], ◌∷◌, ◌++◌, map, Option, Some, None, inl, inr, ⊎_elim, refl, sym, ap, ◌∙◌, subst, append_assoc}
 use Rattle.std.specs.List.{filter_map}
 use Rattle.std.proofs.lemmas.List.Elements.{filter_map-append, recursion_from_All}
 use mathlib.Core.List.{reverse}
-use Rattle.ipnet_addr.specs.Addresses.{Address, IsAddress}
 use Rattle.ipnet_addr.proofs.Members.{In, In-cases}
 use Rattle.ipnet_addr.proofs.Ascending.{In-from_All}
 use Rattle.ipnet_blocks.specs.Blocks.{IsBlock}
-use Rattle.ipnet.specs.IpNets.{network_at}
 use Rattle.ipnet.proofs.Spelled.{net_reads}
 use Rattle.route_choices.specs.Hops.{IsHop}
 use Rattle.route_choices.proofs.Kept.{In-from_filter, In-map}
@@ -27,7 +25,7 @@ use Rattle.route_laws.proofs.Batches.{Changes, changes_from}
 use Rattle.route_laws.proofs.Between.{reverse_In}
 use Rattle.route_laws.proofs.Painted.{painted_is_table}
 use Rattle.route_laws.proofs.Runs.{Holds, holds}
-use Rattle.route_feed.specs.Installing.{begin, event_lines, events, installed_bytes, printed_updates, update_for, update_lines}
+use Rattle.route_feed.specs.Installing.{begin, event_lines, events, printed_updates, update_for, update_lines}
 use Rattle.route_feed.specs.InstallLaws.{BeginningsAreCarriedOut, OutputReadsBack, updates_in}
 use Rattle.route_feed.proofs.Beginnings.{first_lines}
 use Rattle.route_feed.proofs.GivenLines.{first_carried}

@@ -1,14 +1,12 @@
 -- The hops that notes tell are those that their reply lines commit.
-use Rattle.std.proofs.Common.{◌≡◌, ℕ, Bool, true, false, nat_lt, length, cond, List, [], ◌∷◌, ◌++◌, map, Option, Some, None, inl, inr, ⊎_elim, refl, sym, ap, ◌∙◌, append_assoc}
+use Rattle.std.proofs.Common.{◌≡◌, ℕ, Bool, true, false, nat_lt, length, cond, List, [], ◌∷◌, ◌++◌, map, Option, Some, None, refl, sym, ap, ◌∙◌, append_assoc}
 use Rattle.std.specs.Prelude.{◌&&◌}
-use Rattle.std.specs.List.{filter_map, cons_option}
+use Rattle.std.specs.List.{cons_option}
 use Rattle.std.specs.Option.{option_to_list}
 use Rattle.ipnet_addr.specs.Addresses.{Address}
 use Rattle.ipnet_blocks.specs.Blocks.{has_address}
 use Rattle.route_lines.specs.declared.note.Note.{Note}
 use Rattle.route_lines.specs.declared.note.Note.TheVariants as N
-use Rattle.route_lines.specs.declared.reply.Closing.{Closing}
-use Rattle.route_lines.specs.declared.reply.Closing.TheVariants.{Done, Missing, Bad, Refused}
 use Rattle.route_lines.specs.declared.reply.Reply.{Reply}
 use Rattle.route_lines.specs.declared.reply.Reply.TheVariants as R
 use Rattle.route_choices.specs.Hops.{number_of}
@@ -16,7 +14,7 @@ use Rattle.route_laws.specs.Batches.{hop_over}
 use Rattle.route_laws.specs.InnerHops.{hop_from}
 use Rattle.route_laws.specs.Runs.{Event, told}
 use Rattle.route_laws.specs.Tables.{Route}
-use Rattle.route_feed.specs.Streams.{Change, change_of, closes, committed, done_or, ends_well, is_done, painted_over, pending_after}
+use Rattle.route_feed.specs.Streams.{Change, change_of, closes, committed, ends_well, is_done, painted_over}
 use Rattle.route_feed.specs.Installing.{Installing, Noted, after_note, committing, event_of, events, pending_past, route_to}
 use Rattle.route_feed.specs.InstallLaws.{replies_of, reply_in}
 
