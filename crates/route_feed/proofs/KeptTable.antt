@@ -4,6 +4,9 @@ use Rattle.std.specs.Prelude.{◌&&◌}
 use Rattle.std.proofs.lemmas.Bool.Decides.{nat_tests}
 use Rattle.ipnet_addr.specs.Addresses.{Address, IsAddress}
 use Rattle.ipnet_addr.proofs.Ascending.{Rising, pairs_from_Rising}
+use Rattle.ipnet.specs.declared.ip_net.IpNet.{IpNet}
+use Rattle.route_choices.specs.Choices.{default_preference}
+use Rattle.route_choices.specs.declared.hop.Hop.{Hop}
 use Rattle.route_choices.proofs.Kept.{In-map}
 use Rattle.route_lines.specs.declared.note.Note.{Note}
 use Rattle.route_lines.specs.declared.note.Note.TheVariants as N
@@ -15,7 +18,7 @@ use Rattle.route_laws.specs.LeastTables.{IsLeast}
 use Rattle.route_laws.specs.Networks.{routes_of}
 use Rattle.route_laws.specs.Operations.{IsHitless, after_all}
 use Rattle.route_laws.specs.Runs.{Event, Have, Told, Sync, Installer, IsApart, IsMade, MayAllCome, after_event, after_events, given, gives, start, told}
-use Rattle.route_laws.specs.Tables.{Route, hop_at}
+use Rattle.route_laws.specs.Tables.{Route, hop_at, route_of}
 use Rattle.route_laws.proofs.Batches as batch
 use Rattle.route_laws.proofs.Families.{least_too}
 use Rattle.route_laws.proofs.Runs.{gives_hitless, gives_what_it_says, given_reaches, keeps_hops, sync_is_least}
@@ -61,42 +64,43 @@ installed_agrees bytes refusals ns first may has x a = kept_agrees bytes refusal
 abbrev pub AtMostOne : (Event → Type 0) → List Event → Type 0
 AtMostOne P es = (es ≡ []) ⊎ ((e : Event) × (es ≡ e ∷ []) × P e)
 
--- a note is one event at most
-committing_one : (kept : Bool) (cs : List Change) (M : List Route) → AtMostOne (λ e. Unit {0}) (committing kept cs M)
-committing_one kept [] M = inl refl
-committing_one kept (c ∷ cs) M = inr (_, refl, tt)
+committing_is : (P : Event → Type 0) (kept : Bool) (cs : List Change) (M : List Route) → P (Told (map route_to cs)) → P (Sync (map route_to cs) M) → AtMostOne P (committing kept cs M)
+committing_is P kept [] M told synced = inl refl
+committing_is P kept (c ∷ cs) M told synced = go (kept && nat_lt 256 (length (c ∷ cs)))
+  where
+    go : (b : Bool) → AtMostOne P (cond b (Sync (map route_to (c ∷ cs)) M) (Told (map route_to (c ∷ cs))) ∷ [])
+    go true = inr (Sync (map route_to (c ∷ cs)) M, refl, synced)
+    go false = inr (Told (map route_to (c ∷ cs)), refl, told)
+
+-- a line is `ok`, or commits nothing
+ok_or_quiet : (line : Reply) → (line ≡ R.Close Done) ⊎ (done_or (closes line) false ≡ false)
+ok_or_quiet (R.Set net n) = inr refl
+ok_or_quiet (R.Unset net) = inr refl
+ok_or_quiet (R.Route net hop pref) = inr refl
+ok_or_quiet (R.Flat net n) = inr refl
+ok_or_quiet (R.Own net) = inr refl
+ok_or_quiet (R.Count v4 v6) = inr refl
+ok_or_quiet (R.Close Done) = inl refl
+ok_or_quiet (R.Close Missing) = inr refl
+ok_or_quiet (R.Close Bad) = inr refl
+ok_or_quiet (R.Close Refused) = inr refl
+
+-- what holds of the event of a note, which is one at most
+module _ (P : Event → Type 0) (s : Installing) (M : List Route) where
+  event_is : (note : Note) → ((net : IpNet) (hop : Hop) → note ≡ N.Have net hop → P (Have (route_of net hop default_preference))) → P (Sync [] M)
+      → (note ≡ N.Reply (R.Close Done) → P (Told (map route_to s.pending)) × P (Sync (map route_to s.pending) M)) → AtMostOne P (event_of s note M)
+  event_is (N.Have net hop) have sync ok = inr (Have (route_of net hop default_preference), refl, have net hop refl)
+  event_is N.Sync have sync ok = inr (Sync [] M, refl, sync)
+  event_is (N.Reply line) have sync ok = ⊎_elim
+      (λ e. let t = ok (ap N.Reply e) in subst (λ l. AtMostOne P (event_of s (N.Reply l) M)) (sym e) (committing_is P s.tables.kept s.pending M t.0 t.1))
+      (λ e. inl (ap (λ b. cond b (committing s.tables.kept s.pending M) []) e))
+      (ok_or_quiet line)
 
 pub one_event : (s : Installing) (note : Note) (M : List Route) → AtMostOne (λ e. Unit {0}) (event_of s note M)
-one_event s (N.Have net hop) M = inr (_, refl, tt)
-one_event s N.Sync M = inr (_, refl, tt)
-one_event s (N.Reply line) M = go (done_or (closes line) false)
-  where
-    go : (d : Bool) → AtMostOne (λ e. Unit {0}) (cond d (committing s.tables.kept s.pending M) [])
-    go true = committing_one s.tables.kept s.pending M
-    go false = inl refl
-
--- changes without a common address, as an event
-committing_apart : (kept : Bool) (cs : List Change) (N : List Route) → AreApart (map route_to cs) → AtMostOne IsApart (committing kept cs N)
-committing_apart kept [] N h = inl refl
-committing_apart kept (c ∷ cs) N h = go (kept && nat_lt 256 (length (c ∷ cs)))
-  where
-    go : (b : Bool) → AtMostOne IsApart (cond b (Sync (map route_to (c ∷ cs)) N) (Told (map route_to (c ∷ cs))) ∷ [])
-    go true = inr (Sync (map route_to (c ∷ cs)) N, refl, tt)
-    go false = inr (Told (map route_to (c ∷ cs)), refl, h)
+one_event s note M = event_is (λ e. Unit {0}) s M note (λ net hop e. tt) tt (λ e. (tt, tt))
 
 event_apart : (s : Installing) (note : Note) (M : List Route) → (note ≡ N.Reply (R.Close Done) → AreApart (map route_to s.pending)) → AtMostOne IsApart (event_of s note M)
-event_apart s (N.Have net hop) M h = inr (_, refl, tt)
-event_apart s N.Sync M h = inr (_, refl, tt)
-event_apart s (N.Reply (R.Set net n)) M h = inl refl
-event_apart s (N.Reply (R.Unset net)) M h = inl refl
-event_apart s (N.Reply (R.Route net hop pref)) M h = inl refl
-event_apart s (N.Reply (R.Flat net n)) M h = inl refl
-event_apart s (N.Reply (R.Own net)) M h = inl refl
-event_apart s (N.Reply (R.Count v4 v6)) M h = inl refl
-event_apart s (N.Reply (R.Close Done)) M h = committing_apart s.tables.kept s.pending M (h refl)
-event_apart s (N.Reply (R.Close Missing)) M h = inl refl
-event_apart s (N.Reply (R.Close Bad)) M h = inl refl
-event_apart s (N.Reply (R.Close Refused)) M h = inl refl
+event_apart s note M h = event_is IsApart s M note (λ net hop e. tt) tt (λ e. (h e, tt))
 
 routes_apart : (cs : List Change) → Rising Apart cs → Rising batch.Apart (map route_to cs)
 routes_apart [] u = tt
@@ -162,27 +166,8 @@ made_is_installed s (Have r) other made = absurd (other r refl)
 made_is_installed s (Told rs) other made = made
 made_is_installed s (Sync rs N) other made = made
 
-committing_no_route : (kept : Bool) (cs : List Change) (N : List Route) → AtMostOne IsNoRoute (committing kept cs N)
-committing_no_route kept [] N = inl refl
-committing_no_route kept (c ∷ cs) N = go (kept && nat_lt 256 (length (c ∷ cs)))
-  where
-    go : (b : Bool) → AtMostOne IsNoRoute (cond b (Sync (map route_to (c ∷ cs)) N) (Told (map route_to (c ∷ cs))) ∷ [])
-    go true = inr (Sync (map route_to (c ∷ cs)) N, refl, λ r e. cc)
-    go false = inr (Told (map route_to (c ∷ cs)), refl, λ r e. cc)
-
 no_route : (s : Installing) (note : Note) (M : List Route) → IsNoHave note → AtMostOne IsNoRoute (event_of s note M)
-no_route s (N.Have net hop) M other = absurd (other net hop refl)
-no_route s N.Sync M other = inr (Sync [] M, refl, λ r e. cc)
-no_route s (N.Reply (R.Set net n)) M other = inl refl
-no_route s (N.Reply (R.Unset net)) M other = inl refl
-no_route s (N.Reply (R.Route net hop pref)) M other = inl refl
-no_route s (N.Reply (R.Flat net n)) M other = inl refl
-no_route s (N.Reply (R.Own net)) M other = inl refl
-no_route s (N.Reply (R.Count v4 v6)) M other = inl refl
-no_route s (N.Reply (R.Close Done)) M other = committing_no_route s.tables.kept s.pending M
-no_route s (N.Reply (R.Close Missing)) M other = inl refl
-no_route s (N.Reply (R.Close Bad)) M other = inl refl
-no_route s (N.Reply (R.Close Refused)) M other = inl refl
+no_route s note M other = event_is IsNoRoute s M note (λ net hop e. absurd (other net hop e)) (λ r e. cc) (λ e. ((λ r f. cc), (λ r f. cc)))
 
 module _ (ns : List Noted) (n : Noted) (may : MayAllCome start (events begin (ns ++ n ∷ []))) where
   reach_at : AtMostOne IsNoRoute (now ns [] n) → after_all (Installer.installed (after_events start (es ns [] n))) (operations_at ns n) ≡ Installer.installed (after_events start (es ns [] n ++ now ns [] n))

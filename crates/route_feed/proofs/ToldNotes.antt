@@ -15,6 +15,7 @@ use Rattle.route_laws.specs.InnerHops.{hop_from}
 use Rattle.route_laws.specs.Runs.{Event, told}
 use Rattle.route_laws.specs.Tables.{Route}
 use Rattle.route_feed.specs.Streams.{Change, change_of, closes, committed, ends_well, is_done, painted_over}
+use Rattle.route_feed.proofs.Carried.{painted-append}
 use Rattle.route_feed.specs.Installing.{Installing, Noted, after_note, committing, event_of, events, pending_past, route_to}
 use Rattle.route_feed.specs.InstallLaws.{replies_of, reply_in}
 
@@ -33,10 +34,6 @@ open_more false pending more cs = refl
 closed_more : (d : Bool) (cs : List Change) → cond d cs cs ≡ cond d [] [] ++ cs
 closed_more true cs = refl
 closed_more false cs = refl
-
-painted_from-append : (now : Option ℕ) (cs ds : List Change) (x : Address) → painted_over now (cs ++ ds) x ≡ painted_over (painted_over now cs x) ds x
-painted_from-append now [] ds x = refl
-painted_from-append now (c ∷ cs) ds x = painted_from-append (cond (has_address c.block x) c.number now) cs ds x
 
 number_back : (o : Option ℕ) → number_of (hop_from o) ≡ o
 number_back None = refl
@@ -76,7 +73,7 @@ module _ (x : Address) where
       go true =
           told_committing s.tables.kept s.pending N now es
           ∙ h (painted_over now s.pending x)
-          ∙ sym (painted_from-append now s.pending (committed_from [] ls) x)
+          ∙ sym (painted-append now s.pending (committed_from [] ls) x)
           ∙ ap (λ cs. painted_over now (s.pending ++ cs) x) (sym (closed_more (ends_well ls) (committed ls)))
       go false = h now ∙ ap (λ cs. painted_over now cs x) (sym (closed_more (ends_well ls) (committed ls)))
 
