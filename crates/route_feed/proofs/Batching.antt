@@ -7,7 +7,12 @@ use Rattle.route_laws.specs.Operations.{Operation, between}
 use Rattle.route_laws.specs.Tables.{Route}
 use Rattle.route_lines.specs.declared.reply.Closing.TheVariants.{Done}
 use Rattle.route_lines.specs.declared.reply.Reply.TheVariants.{Close}
+use Rattle.route_lines.specs.declared.update.Update.{Update}
 use Rattle.route_lines.specs.declared.update.Update.TheVariants as U
+use Rattle.route_table.specs.Operations.{network_of, operation_of}
+use Rattle.route_table.specs.declared.between.Operation as Given
+use Rattle.route_table.specs.declared.between.Operation.TheVariants as One
+use Rattle.ipnet.specs.IpNets.{block, network_at}
 use Rattle.route_feed.specs.declared.counted.Counted.{Counted}
 use Rattle.route_feed.specs.declared.error.RunError.{RunError}
 use Rattle.route_feed.specs.declared.follower.Waiting.{Waiting}
@@ -16,7 +21,7 @@ use Rattle.route_feed.specs.InnerReplies.{Closed, Closes, Torn, Written}
 use Rattle.route_feed.specs.Installing.{printed_updates, update_for}
 use Rattle.route_feed.specs.Replies.{reply_line}
 use Rattle.route_feed.proofs.Adding.{before_place}
-use Rattle.route_feed.proofs.Written.{Closes-written, Torn-after, Torn-longer, Written-trans}
+use Rattle.route_feed.proofs.Written.{Closes-written, Torn-after, Torn-longer, Written-nil, Written-trans}
 
 batch-append : (M rs ss : List Route) → batch M (rs ++ ss) ≡ batch M rs ++ batch (painted_all M rs) ss
 batch-append M [] ss = refl
@@ -50,6 +55,46 @@ module _ {W : Type 0} (contents : W → Option (List ℕ)) where
     is_front = sym (batch_is os) ∙ ap (λ t. t ++ reply_line (Close Done)) p.is_front ∙ append_assoc p.front p.back (reply_line (Close Done));
     written = p.written;
   }
+
+-- all operations but those that are left were written
+pub record Wrote {W : Type 0} (contents : W → Option (List ℕ)) (old new : Counted W) (all left : List Operation) : Type 0 where
+  pub done : List ℕ
+  pub split : operation_bytes all ≡ done ++ operation_bytes left
+  pub written : Written contents old new done
+
+-- an operation that is given, as an update
+abbrev pub update_given : Given.Operation → Update
+update_given (One.Install net hop) = U.Install net hop
+update_given (One.Remove net) = U.Remove net
+
+same_update : (o : Given.Operation) → network_of o ≡ network_at (block (network_of o)) → update_given o ≡ update_for (operation_of o)
+same_update (One.Install net hop) e = λ i. U.Install (e i) hop
+same_update (One.Remove net) e = λ i. U.Remove (e i)
+
+module _ {W : Type 0} (contents : W → Option (List ℕ)) where
+  pub Wrote-nil : (w : Counted W) (os : List Operation) → Wrote contents w w os os
+  Wrote-nil w os = record { done = []; split = refl; written = Written-nil contents w }
+
+  module _ (a b c : Counted W) (all left later : List Operation) (o : Given.Operation) (p : Wrote contents a b all left) (e : left ≡ operation_of o ∷ later) (cleared : network_of o ≡ network_at (block (network_of o)))
+      (u : Update) (is : u ≡ update_given o) where
+    next_split : operation_bytes all ≡ p.done ++ (update_line u ++ operation_bytes later)
+    next_split = p.split ∙ ap (λ l. p.done ++ operation_bytes l) e ∙ ap (λ v. p.done ++ (update_line v ++ operation_bytes later)) (sym (is ∙ same_update o cleared))
+
+    pub Wrote-more : Written contents b c (update_line u) → Wrote contents a c all later
+    Wrote-more q = record {
+      done = p.done ++ update_line u;
+      split = next_split ∙ sym (append_assoc p.done (update_line u) (operation_bytes later));
+      written = Written-trans contents a b c p.done (update_line u) p.written q;
+    }
+
+    -- the writer failed in the next line
+    pub Wrote-torn : Torn contents b c (update_line u) → Torn contents a c (operation_bytes all)
+    Wrote-torn q =
+        subst (Torn contents a c) (sym next_split)
+        (Torn-after contents a b c p.done (update_line u ++ operation_bytes later) p.written (Torn-longer contents b c (update_line u) (operation_bytes later) q))
+
+  pub Wrote-all : (a b : Counted W) (all left : List Operation) → Wrote contents a b all left → left ≡ [] → Written contents a b (operation_bytes all)
+  Wrote-all a b all left p e = subst (Written contents a b) (sym (p.split ∙ ap (λ l. p.done ++ operation_bytes l) e ∙ append-nil p.done)) p.written
 
 -- the next change of some
 module _ {W : Type 0} (contents : W → Option (List ℕ)) (M : List Route) (ws : List Waiting) (i : ℕ) (w : Waiting) (within : i < length ws) (is : w ≡ slice_index_or ws i w) where

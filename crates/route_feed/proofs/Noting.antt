@@ -43,6 +43,10 @@ routes_are (w ∷ ws) = λ i. route_of w.net (hop_back w.hop i) default_preferen
 abbrev pub kept_at : List Route → List Change → Installing
 kept_at M cs = record { tables = record { table = M; installed = M; kept = true }; pending = cs }
 
+-- what is installed, and is not kept
+abbrev pub unkept_at : List Route → List Route → List Change → Installing
+unkept_at M I cs = record { tables = record { table = M; installed = I; kept = false }; pending = cs }
+
 pub none_before : (table : List Stored) (before : Option (List Stored)) → (tables_of table before).kept ≡ true → before ≡ None
 none_before table None k = refl
 none_before table (Some before) k = absurd (cc)
@@ -105,31 +109,23 @@ module _ {W : Type 0} (contents : W → Option (List ℕ)) where
 
   -- `ok` where the table is not kept
   pub taken_unseen : (a b : Installing) (old : Counted W) → a.tables.kept ≡ false
-      → b ≡ record { tables = record { table = painted_all a.tables.table (map route_to a.pending); installed = a.tables.installed; kept = false }; pending = [] }
+      → b ≡ unkept_at (painted_all a.tables.table (map route_to a.pending)) a.tables.installed []
       → TakesNote contents a (N.Reply (Close Done)) old (Ok tt) b old
   taken_unseen a b old k next = go a.pending refl
     where
-      M : List Route
-      M = a.tables.table
+      here : (cs : List Change) → a.pending ≡ cs → a ≡ unkept_at a.tables.table a.tables.installed cs
+      here cs e = λ i. record { tables = record { table = a.tables.table; installed = a.tables.installed; kept = k i }; pending = e i }
 
-      I : List Route
-      I = a.tables.installed
-
-      -- the state, with what is known of it
-      state : (cs : List Change) → Installing
-      state cs = record { tables = record { table = M; installed = I; kept = false }; pending = cs }
-
-      here : (cs : List Change) → a.pending ≡ cs → a ≡ state cs
-      unfolding state
-      here cs e = λ i. record { tables = record { table = M; installed = I; kept = k i }; pending = e i }
+      after : (cs : List Change) → a.pending ≡ cs → b ≡ unkept_at (painted_all a.tables.table (map route_to cs)) a.tables.installed []
+      after cs e = next ∙ ap (λ l. unkept_at (painted_all a.tables.table (map route_to l)) a.tables.installed []) e
 
       go : (cs : List Change) → a.pending ≡ cs → TakesNote contents a (N.Reply (Close Done)) old (Ok tt) b old
-      unfolding state
-      go [] e = subst (λ s. TakesNote contents s (N.Reply (Close Done)) old (Ok tt) b old) (sym (here [] e))
-          ([], Takes-of (state []) b (N.Reply (Close Done)) [] old old [] refl tt (next ∙ ap (λ l. record { tables = record { table = painted_all M (map route_to l); installed = I; kept = false }; pending = [] }) e) (Closed-nil contents old))
-      go (c ∷ cs) e = subst (λ s. TakesNote contents s (N.Reply (Close Done)) old (Ok tt) b old) (sym (here (c ∷ cs) e))
-          ([], Takes-of (state (c ∷ cs)) b (N.Reply (Close Done)) [] old old (Told (map route_to (c ∷ cs)) ∷ []) refl (tt, tt)
-          (next ∙ ap (λ l. record { tables = record { table = painted_all M (map route_to l); installed = I; kept = false }; pending = [] }) e) (Closed-nil contents old))
+      go [] e =
+          subst (λ s. TakesNote contents s (N.Reply (Close Done)) old (Ok tt) b old) (sym (here [] e))
+          ([], Takes-of (unkept_at a.tables.table a.tables.installed []) b (N.Reply (Close Done)) [] old old [] refl tt (after [] e) (Closed-nil contents old))
+      go (c ∷ cs) e =
+          subst (λ s. TakesNote contents s (N.Reply (Close Done)) old (Ok tt) b old) (sym (here (c ∷ cs) e))
+          ([], Takes-of (unkept_at a.tables.table a.tables.installed (c ∷ cs)) b (N.Reply (Close Done)) [] old old (Told (map route_to (c ∷ cs)) ∷ []) refl (tt, tt) (after (c ∷ cs) e) (Closed-nil contents old))
 
   -- `ok` where nothing waits
   pub taken_nothing : (a : Installing) (old : Counted W) → a.pending ≡ [] → TakesNote contents a (N.Reply (Close Done)) old (Ok tt) a old

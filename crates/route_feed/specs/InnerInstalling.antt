@@ -132,6 +132,10 @@ module _ {W : Type 0} (contents : W → Option (List ℕ)) where
   TakesNote a note old (Err Why.Write) b new = (N : List Route) × Fails a (record { note = note; least = N }) old new
   TakesNote a note old (Err Why.Read) b new = ⊥
 
+  -- a line that spells no note
+  abbrev pub TakesNone : Counted W → Result Unit RunError → Counted W → Type 0
+  TakesNone old result new = (result ≡ Err Why.Line) × (new ≡ old)
+
   -- the same of a line
   abbrev pub TakesNoteLine : Installing → Line → Counted W → Result Unit RunError → Installing → Counted W → Type 0
-  TakesNoteLine a line old result b new = MatchOption (note_in line) ((result ≡ Err Why.Line) × (new ≡ old)) (λ note. TakesNote a note old result b new)
+  TakesNoteLine a line old result b new = MatchOption (note_in line) (TakesNone old result new) (λ note. TakesNote a note old result b new)
