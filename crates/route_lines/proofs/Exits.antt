@@ -2,7 +2,7 @@
 use Rattle.std.proofs.Common.{◌≢◌, ℕ, List, codes, Option, Some, None}
 use Rattle.route_lines.specs.Phrase.{Then, After}
 use Rattle.route_lines.specs.Words.{IsNet, IsNumber, IsLimit, IsCount, IsHop, IsPreference, IsOptional, IsPreferred}
-use Rattle.route_lines.specs.Texts.{IsCommand, IsReply, IsNote, closing_text}
+use Rattle.route_lines.specs.Texts.{IsCommand, IsReply, IsNote, IsUpdate, closing_text}
 use Rattle.route_choices.specs.declared.hop.Hop.{Hop}
 use Rattle.route_lines.specs.declared.command.Command.{Command}
 use Rattle.route_lines.specs.declared.command.Command.TheVariants as C
@@ -12,6 +12,8 @@ use Rattle.route_lines.specs.declared.reply.Reply.{Reply}
 use Rattle.route_lines.specs.declared.reply.Reply.TheVariants as R
 use Rattle.route_lines.specs.declared.note.Note.{Note}
 use Rattle.route_lines.specs.declared.note.Note.TheVariants as N
+use Rattle.route_lines.specs.declared.update.Update.{Update}
+use Rattle.route_lines.specs.declared.update.Update.TheVariants as U
 
 -- no value stands after this word
 abbrev No : {A : Type 0} → (List ℕ → A → Type 0) → List ℕ → List ℕ → Type 0
@@ -76,3 +78,8 @@ pub no_note : (line : List ℕ) → No (Then IsNet IsHop) (codes "have ") line �
 no_note line have sync reply (N.Have net hop) h = have (net, hop) h
 no_note line have sync reply N.Sync h = sync h
 no_note line have sync reply (N.Reply r) h = reply r h
+
+pub no_update : (line : List ℕ) → No (Then IsNet IsHop) (codes "install ") line → No IsNet (codes "remove ") line → line ≢ codes "ok" → (u : Update) → ¬ (IsUpdate line u)
+no_update line install remove done (U.Install net hop) h = install (net, hop) h
+no_update line install remove done (U.Remove net) h = remove net h
+no_update line install remove done U.Done h = done h

@@ -4,6 +4,7 @@ pub mod Good
 pub mod Commands
 pub mod Replies
 pub mod Notes
+pub mod Updates
 pub mod Exits
 pub mod Printed
 pub mod PrintedCommands

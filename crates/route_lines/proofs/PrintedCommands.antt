@@ -32,10 +32,10 @@ Words C.Count = ⊤
 Words C.Flat = ⊤
 
 -- a word and a phrase, and a word and two
-alone : {A : Type 0} {P : List ℕ → A → Type 0} (prefix rest : List ℕ) (x : A) → P rest x → After prefix P (prefix ++ rest) x
+pub alone : {A : Type 0} {P : List ℕ → A → Type 0} (prefix rest : List ℕ) (x : A) → P rest x → After prefix P (prefix ++ rest) x
 alone prefix rest x h = record { rest = rest; spelled = refl; phrase = h }
 
-both : {A B : Type 0} {P : List ℕ → A → Type 0} {Q : List ℕ → B → Type 0} (prefix front back : List ℕ) (x : A × B) → P front x.0 → Q back x.1
+pub both : {A B : Type 0} {P : List ℕ → A → Type 0} {Q : List ℕ → B → Type 0} (prefix front back : List ℕ) (x : A × B) → P front x.0 → Q back x.1
     → After prefix (Then P Q) (prefix ++ front ++ codes " " ++ back) x
 both prefix front back x h k = record { rest = front ++ codes " " ++ back; spelled = simp append_assoc; phrase = then front back x h k }
 
@@ -76,10 +76,10 @@ printable_command text (C.Own n) h = tt
 printable_command text C.Count h = tt
 printable_command text C.Flat h = tt
 
-net_again : (text : List ℕ) (net : IpNet) → IsNet text net → Reads (net_text net) net
+pub net_again : (text : List ℕ) (net : IpNet) → IsNet text net → Reads (net_text net) net
 net_again text net h = subst (λ n. Reads (net_text n) n) (sym h.2) (cut_reads text h.0 h.1)
 
-hop_again : (text : List ℕ) (hop : Hop) → IsHop text hop → IsHop (hop_text hop) hop
+pub hop_again : (text : List ℕ) (hop : Hop) → IsHop text hop → IsHop (hop_text hop) hop
 hop_again text (Number n) h = (refl, h.1, h.2)
 hop_again text Drop h = refl
 

@@ -19,8 +19,8 @@ use Rattle.route_lines.specs.Phrase.{IsUnspaced, IsDecimal, Then, After}
 use Rattle.route_lines.specs.InnerPhrase.{Gives, IsFree}
 use Rattle.route_lines.specs.Words.{IsNet, IsHop, IsNumber, IsLimit, IsCount, IsPreference, IsOptional, IsPreferred}
 use Rattle.route_choices.specs.Choices.{default_preference}
-use Rattle.route_lines.specs.Texts.{IsCommand, IsReply, IsNote, closing_text}
-use Rattle.route_lines.specs.Spelled.{split, net_of_text, number_of_text, hop_of_text, optional_of_text, preferred_of_text, of_word, of_both, after_prefix, or_else, command_of, closing_of_text, reply_of, note_of}
+use Rattle.route_lines.specs.Texts.{IsCommand, IsReply, IsNote, IsUpdate, closing_text}
+use Rattle.route_lines.specs.Spelled.{split, net_of_text, number_of_text, hop_of_text, optional_of_text, preferred_of_text, of_word, of_both, after_prefix, or_else, command_of, closing_of_text, reply_of, note_of, update_of}
 use Rattle.route_lines.specs.declared.command.Command.TheVariants as C
 use Rattle.route_lines.specs.declared.reply.Closing.{Closing}
 use Rattle.route_lines.specs.declared.reply.Closing.TheVariants.{Done, Missing, Bad, Refused}
@@ -28,8 +28,9 @@ use Rattle.route_lines.specs.declared.reply.Reply.{Reply}
 use Rattle.route_lines.specs.declared.reply.Reply.TheVariants as R
 use Rattle.route_lines.specs.declared.note.Note.{Note}
 use Rattle.route_lines.specs.declared.note.Note.TheVariants as N
+use Rattle.route_lines.specs.declared.update.Update.TheVariants as U
 use Rattle.route_lines.proofs.Words.{not_two, no_first, no_second, both, gives_after}
-use Rattle.route_lines.proofs.Exits.{no_optional, no_preferred, no_command, no_closing, no_reply, no_note}
+use Rattle.route_lines.proofs.Exits.{no_optional, no_preferred, no_command, no_closing, no_reply, no_note, no_update}
 
 -- ---- words
 
@@ -215,3 +216,10 @@ note_found s =
     or_kind (After (codes "have ") (Then IsNet IsHop)) IsNote (λ x. N.Have x.0 x.1) s _ _ (λ x h. h) (gives_prefix (Then IsNet IsHop) (codes "have ") (of_both net_of_text hop_of_text) gives_net_hop s) (λ have.
     or_word IsNote (codes "sync") N.Sync s _ (λ h. h) (λ sync.
     replies s (reply_of s) (reply_found s) (λ reply. no_note s have sync reply)))
+
+pub update_found : (s : List ℕ) → Gives IsUpdate s (update_of s)
+unfolding update_of
+update_found s =
+    or_kind (After (codes "install ") (Then IsNet IsHop)) IsUpdate (λ x. U.Install x.0 x.1) s _ _ (λ x h. h) (gives_prefix (Then IsNet IsHop) (codes "install ") (of_both net_of_text hop_of_text) gives_net_hop s) (λ install.
+    or_kind (After (codes "remove ") IsNet) IsUpdate U.Remove s _ _ (λ x h. h) (gives_prefix IsNet (codes "remove ") net_of_text gives_net s) (λ remove.
+    last_word IsUpdate (codes "ok") U.Done s (λ h. h) (λ done. no_update s install remove done)))

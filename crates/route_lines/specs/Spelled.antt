@@ -16,6 +16,8 @@ use Rattle.route_lines.specs.declared.reply.Reply.{Reply}
 use Rattle.route_lines.specs.declared.reply.Reply.TheVariants as R
 use Rattle.route_lines.specs.declared.note.Note.{Note}
 use Rattle.route_lines.specs.declared.note.Note.TheVariants as N
+use Rattle.route_lines.specs.declared.update.Update.{Update}
+use Rattle.route_lines.specs.declared.update.Update.TheVariants as U
 
 -- what stands before and after the first space
 abbrev pub split : List ℕ → Option (List ℕ × List ℕ)
@@ -95,3 +97,10 @@ note_of s =
     or_else (option_map (λ x. N.Have x.0 x.1) (after_prefix (codes "have ") (of_both net_of_text hop_of_text) s))
     (or_else (of_word (codes "sync") N.Sync s)
     (option_map N.Reply (reply_of s)))
+
+-- the line that an installer writes
+unfoldable pub update_of : List ℕ → Option Update
+update_of s =
+    or_else (option_map (λ x. U.Install x.0 x.1) (after_prefix (codes "install ") (of_both net_of_text hop_of_text) s))
+    (or_else (option_map U.Remove (after_prefix (codes "remove ") net_of_text s))
+    (of_word (codes "ok") U.Done s))

@@ -1,4 +1,4 @@
--- The texts of commands, reply lines and what an installer reads, by cases on whole texts.
+-- The texts of commands, of reply lines, and of what an installer reads and writes, by cases on whole texts.
 use Rattle.std.specs.Prelude.{◌≡◌, ℕ, List, ◌++◌, codes, decimal, ⊤, Some, None}
 use Rattle.ipnet.specs.IpNetText.{net_text}
 use Rattle.ipnet.specs.IpNets.{block, network_at}
@@ -14,6 +14,10 @@ use Rattle.route_lines.specs.declared.reply.Reply.{Reply}
 use Rattle.route_lines.specs.declared.reply.Reply.TheVariants as R
 use Rattle.route_lines.specs.declared.note.Note.{Note}
 use Rattle.route_lines.specs.declared.note.Note.TheVariants as N
+use Rattle.route_lines.specs.declared.update.Update.{Update}
+use Rattle.route_lines.specs.declared.update.Update.TheVariants as U
+use Rattle.route_table.specs.declared.between.Operation.{Operation}
+use Rattle.route_table.specs.declared.between.Operation.TheVariants as O
 
 -- a command
 abbrev pub IsCommand : List ℕ → Command → Type 0
@@ -52,6 +56,17 @@ IsNote text (N.Have net hop) = After (codes "have ") (Then IsNet IsHop) text (ne
 IsNote text N.Sync = text ≡ codes "sync"
 IsNote text (N.Reply reply) = IsReply text reply
 
+-- a line that an installer writes
+abbrev pub IsUpdate : List ℕ → Update → Type 0
+IsUpdate text (U.Install net hop) = After (codes "install ") (Then IsNet IsHop) text (net, hop)
+IsUpdate text (U.Remove net) = After (codes "remove ") IsNet text net
+IsUpdate text U.Done = text ≡ codes "ok"
+
+-- the line that tells an operation
+abbrev pub update_for : Operation → Update
+update_for (O.Install net hop) = U.Install net hop
+update_for (O.Remove net) = U.Remove net
+
 -- the word of a hop
 abbrev pub hop_text : Hop → List ℕ
 hop_text (Hops.Number n) = decimal n
@@ -77,3 +92,15 @@ IsPrintable (R.Flat net number) = net ≡ network_at (block net)
 IsPrintable (R.Own net) = net ≡ network_at (block net)
 IsPrintable (R.Count v4 v6) = ⊤
 IsPrintable (R.Close closing) = ⊤
+
+-- the printed text of a line that an installer writes
+abbrev pub update_text : Update → List ℕ
+update_text (U.Install net hop) = codes "install " ++ net_text net ++ codes " " ++ hop_text hop
+update_text (U.Remove net) = codes "remove " ++ net_text net
+update_text U.Done = codes "ok"
+
+-- its network, if it has one, has no host bits
+abbrev pub IsPrintableUpdate : Update → Type 0
+IsPrintableUpdate (U.Install net hop) = net ≡ network_at (block net)
+IsPrintableUpdate (U.Remove net) = net ≡ network_at (block net)
+IsPrintableUpdate U.Done = ⊤

@@ -7,12 +7,15 @@ ghost use Rattle.route_lines.specs.Earlier.{IsEarlierReply};
 ghost use Rattle.ipnet.specs.IpNets.{block, network_at};
 ghost use Rattle.ipnet.specs.declared.ip_net.IpNet.{IpNet};
 ghost use Rattle.route_choices.specs.declared.hop.Hop.{Hop};
-ghost use Rattle.route_lines.specs.Spelled.{command_of, note_of, reply_of};
-ghost use Rattle.route_lines.specs.Texts.{IsCommand, IsNote, IsPrintable, IsReply};
+ghost use Rattle.route_table.specs.Operations.{network_of};
+ghost use Rattle.route_table.specs.declared.between.Operation.{Operation};
+ghost use Rattle.route_lines.specs.Spelled.{command_of, note_of, reply_of, update_of};
+ghost use Rattle.route_lines.specs.Texts.{IsCommand, IsNote, IsPrintable, IsPrintableUpdate, IsReply, IsUpdate, update_for, update_text};
 ghost use Rattle.route_lines.specs.declared.command.Command.{Command};
 ghost use Rattle.route_lines.specs.declared.note.Note.{Note};
 ghost use Rattle.route_lines.specs.declared.note.Note.TheVariants as Notes;
 ghost use Rattle.route_lines.specs.declared.reply.Reply.{Reply};
+ghost use Rattle.route_lines.specs.declared.update.Update.{Update};
 ghost use Rattle.route_lines.specs.declared.cutter.Rest.{Rest as AnyRest};
 ghost use Rattle.route_lines.specs.declared.reply.Closing.{Closing as AnyClosing};
 ghost use Rattle.route_lines.specs.declared.NotALine.{NotALine as AnyError};
@@ -23,6 +26,7 @@ use crate::command::Command;
 use crate::cutter::Rest;
 use crate::note::Note;
 use crate::reply::{Closing, Reply};
+use crate::update::Update;
 
 /// Over any bytes fed to a new cutter, its answers are, in order, `Text` of each piece of at most 80
 /// bytes and `TooLong` for each longer one, and `rest` tells whether anything stands after the last
@@ -84,24 +88,45 @@ pub fn notes()
     ensures apart { (text : List ℕ) (a : Note) (r : Reply) → IsNote text a → IsReply text r → a ≡ Notes.Reply r }
 {}
 
-/// `==` holds of one command alone, and so of one reply line, note, closing, rest and error; a clone is the same, and cloning never
-/// fails.
+/// No text spells two of the lines that an installer writes, none has more than 70 bytes, and none has a line end. What
+/// is read can be printed, and so can an operation just where its network has no host bits. A function finds the one
+/// that a text spells.
+pub fn updates()
+    ensures one { (text : List ℕ) (a b : Update) → IsUpdate text a → IsUpdate text b → a ≡ b }
+    ensures short { (text : List ℕ) (a : Update) → IsUpdate text a → length text ≤ 70 }
+    ensures clean { (text : List ℕ) (a : Update) → IsUpdate text a → All (λ c. c ≢ 10) text }
+    ensures printable { (text : List ℕ) (a : Update) → IsUpdate text a → IsPrintableUpdate a }
+    ensures operations { (o : Operation) → IsPrintableUpdate (update_for o) ↔ (network_of o ≡ network_at (block (network_of o))) }
+    ensures found { (text : List ℕ) → MatchOption (update_of text) ((a : Update) → IsUpdate text a → ⊥) (IsUpdate text) }
+{}
+
+/// The printed text of a line that an installer writes, and that some text spells, reads as this line, and no other has it.
+pub fn printed_updates()
+    ensures reads { (text : List ℕ) (a : Update) → IsUpdate text a → IsUpdate (update_text a) a }
+    ensures apart { (s t : List ℕ) (a b : Update) → IsUpdate s a → IsUpdate t b → update_text a ≡ update_text b → a ≡ b }
+{}
+
+/// `==` holds of one command alone, and so of one reply line, note, update, closing, rest and error; a clone is the same, and
+/// cloning never fails.
 pub fn equality()
     ensures commands { (a b : Command) → IsTrue (⟦<Command as PartialEq>⟧.eq a b) ↔ (a ≡ b) }
     ensures replies { (a b : Reply) → IsTrue (⟦<Reply as PartialEq>⟧.eq a b) ↔ (a ≡ b) }
     ensures notes { (a b : Note) → IsTrue (⟦<Note as PartialEq>⟧.eq a b) ↔ (a ≡ b) }
+    ensures updates { (a b : Update) → IsTrue (⟦<Update as PartialEq>⟧.eq a b) ↔ (a ≡ b) }
     ensures closings { (a b : AnyClosing) → IsTrue (⟦<Closing as PartialEq>⟧.eq a b) ↔ (a ≡ b) }
     ensures rests { (a b : AnyRest) → IsTrue (⟦<Rest as PartialEq>⟧.eq a b) ↔ (a ≡ b) }
     ensures errors { (a b : AnyError) → IsTrue (⟦<NotALine as PartialEq>⟧.eq a b) ↔ (a ≡ b) }
     ensures same_commands { (a b : Command) → ⟦<Command as Clone>⟧.is_clone a b → b ≡ a }
     ensures same_replies { (a b : Reply) → ⟦<Reply as Clone>⟧.is_clone a b → b ≡ a }
     ensures same_notes { (a b : Note) → ⟦<Note as Clone>⟧.is_clone a b → b ≡ a }
+    ensures same_updates { (a b : Update) → ⟦<Update as Clone>⟧.is_clone a b → b ≡ a }
     ensures same_closings { (a b : AnyClosing) → ⟦<Closing as Clone>⟧.is_clone a b → b ≡ a }
     ensures same_rests { (a b : AnyRest) → ⟦<Rest as Clone>⟧.is_clone a b → b ≡ a }
     ensures same_errors { (a b : AnyError) → ⟦<NotALine as Clone>⟧.is_clone a b → b ≡ a }
     ensures made_commands { (a : Command) → ⟦<Command as Clone>⟧.is_infallible a }
     ensures made_replies { (a : Reply) → ⟦<Reply as Clone>⟧.is_infallible a }
     ensures made_notes { (a : Note) → ⟦<Note as Clone>⟧.is_infallible a }
+    ensures made_updates { (a : Update) → ⟦<Update as Clone>⟧.is_infallible a }
     ensures made_closings { (a : AnyClosing) → ⟦<Closing as Clone>⟧.is_infallible a }
     ensures made_rests { (a : AnyRest) → ⟦<Rest as Clone>⟧.is_infallible a }
     ensures made_errors { (a : AnyError) → ⟦<NotALine as Clone>⟧.is_infallible a }

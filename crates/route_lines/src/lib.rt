@@ -6,6 +6,7 @@ pub use cutter::{Line, LineCutter, Rest, line_text};
 pub use note::Note;
 pub use reply::{Closing, Reply};
 use thiserror::Error;
+pub use update::Update;
 
 /// The text is no line of the grammar.
 #[derive(Clone, Copy, Debug, PartialEq, Eq, Error)]
@@ -19,3 +20,4 @@ mod note;
 mod phrase;
 mod printer;
 mod reply;
+mod update;
