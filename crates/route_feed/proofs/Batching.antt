@@ -7,6 +7,7 @@ use Rattle.route_laws.specs.Operations.{Operation, between}
 use Rattle.route_laws.specs.Tables.{Route}
 use Rattle.route_lines.specs.declared.reply.Closing.TheVariants.{Done}
 use Rattle.route_lines.specs.declared.reply.Reply.TheVariants.{Close}
+use Rattle.route_lines.specs.Texts as text
 use Rattle.route_lines.specs.declared.update.Update.{Update}
 use Rattle.route_lines.specs.declared.update.Update.TheVariants as U
 use Rattle.route_table.specs.Operations.{network_of, operation_of}
@@ -63,11 +64,7 @@ pub record Wrote {W : Type 0} (contents : W → Option (List ℕ)) (old new : Co
   pub written : Written contents old new done
 
 -- an operation that is given, as an update
-abbrev pub update_given : Given.Operation → Update
-update_given (One.Install net hop) = U.Install net hop
-update_given (One.Remove net) = U.Remove net
-
-same_update : (o : Given.Operation) → network_of o ≡ network_at (block (network_of o)) → update_given o ≡ update_for (operation_of o)
+same_update : (o : Given.Operation) → network_of o ≡ network_at (block (network_of o)) → text.update_for o ≡ update_for (operation_of o)
 same_update (One.Install net hop) e = λ i. U.Install (e i) hop
 same_update (One.Remove net) e = λ i. U.Remove (e i)
 
@@ -76,7 +73,7 @@ module _ {W : Type 0} (contents : W → Option (List ℕ)) where
   Wrote-nil w os = record { done = []; split = refl; written = Written-nil contents w }
 
   module _ (a b c : Counted W) (all left later : List Operation) (o : Given.Operation) (p : Wrote contents a b all left) (e : left ≡ operation_of o ∷ later) (cleared : network_of o ≡ network_at (block (network_of o)))
-      (u : Update) (is : u ≡ update_given o) where
+      (u : Update) (is : u ≡ text.update_for o) where
     next_split : operation_bytes all ≡ p.done ++ (update_line u ++ operation_bytes later)
     next_split = p.split ∙ ap (λ l. p.done ++ operation_bytes l) e ∙ ap (λ v. p.done ++ (update_line v ++ operation_bytes later)) (sym (is ∙ same_update o cleared))
 
