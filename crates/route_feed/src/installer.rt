@@ -133,12 +133,13 @@ fn least_after(
     table: &HopTable,
     changes: &[Waiting],
 ) -> Result<Vec<(IpNet, Hop)>, RunError>
-    ensures least { IfOk result (λ list. AreChanges (routes_waiting changes.now) → IsLeast (hop_at (painted_all (routes_of table.now) (routes_waiting changes.now))) (routes_for list.items)) }
+    ensures least { IfOk result (λ list. IsTable (routes_of table.now) → AreChanges (routes_waiting changes.now) → IsLeast (hop_at (painted_all (routes_of table.now) (routes_waiting changes.now))) (routes_for list.items)) }
     ensures table { IfOk result (λ list. IsTable (routes_for list.items)) }
     ensures truncated { IfOk result (λ list. All (λ r. IsTruncated (family r.0) (parts r.0)) list.items) }
     ensures memory { IfErr result (λ e. e ≡ RunError.Memory) }
 {
-    let mut after = table_of(alloc, least(table)?.as_slice())?;
+    let same = least(table)?;
+    let mut after = table_of(alloc, same.as_slice())?;
     paint_all(&mut after, changes)?;
     least(&after)
 }
