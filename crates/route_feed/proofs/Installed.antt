@@ -25,10 +25,10 @@ use Rattle.route_feed.specs.declared.counted.Counted.{Counted}
 use Rattle.route_feed.specs.declared.error.RunError.{RunError}
 use Rattle.route_feed.specs.declared.error.RunError.TheVariants as Why
 use Rattle.route_feed.specs.Counted.{inner, faults_of, flushes_of, more_by, one_more, waits_after, FailedLast, Flushed}
-use Rattle.route_feed.specs.InnerInstalling.{AllFit, IsFit, Fails, Takes, TakesNote, TakesNoteLine, Wants, note_in, update_line}
+use Rattle.route_feed.specs.InnerInstalling.{AllFit, IsFit, Fails, Takes, TakesNone, TakesNote, TakesNoteLine, Wants, note_in, update_line}
 use Rattle.route_feed.specs.InnerReplies.{Closed, Torn}
 use Rattle.route_feed.specs.InnerRun.{Runs, TakesAll}
-use Rattle.route_feed.specs.Installing.{AreNotes, Installing, IsUnfit, Noted, after_note, after_notes, batches, batches_given, begin, committing, event_of, events, installed_bytes, noted_bytes, printed_updates, route_to, update_lines}
+use Rattle.route_feed.specs.Installing.{AreNotes, Installing, IsUnfit, Noted, after_note, after_notes, batches, batches_given, begin, committing, event_lines, event_of, events, installed_bytes, noted_bytes, printed_updates, route_to, update_lines}
 use Rattle.route_feed.specs.Installs.{AppendsInstalled, Gives as GivesOutput, GivesThen, InstallEnds, Installs, Meets}
 use Rattle.route_feed.specs.Streams.{Change, closes, done_or}
 use Rattle.route_feed.proofs.ChangesInRange.{AreInRange, NoteInRange, are_changes, note_in_range, past_in_range}
@@ -54,30 +54,30 @@ fit-back s (e ∷ es) fs p = fit-back (after_event s e) es fs p.1
 
 lines-append : (s : Installer) (es fs : List Event) → update_lines s (es ++ fs) ≡ update_lines s es ++ update_lines (after_events s es) fs
 lines-append s [] fs = refl
-lines-append s (e ∷ es) fs = ap (λ l. _ ++ l) (lines-append (after_event s e) es fs) ∙ sym (append_assoc _ (update_lines (after_event s e) es) (update_lines (after_events (after_event s e) es) fs))
+lines-append s (e ∷ es) fs = ap (λ l. event_lines s e ++ l) (lines-append (after_event s e) es fs) ∙ sym (append_assoc (event_lines s e) (update_lines (after_event s e) es) (update_lines (after_events (after_event s e) es) fs))
 
 printed-append : (us vs : List Update) → printed_updates (us ++ vs) ≡ printed_updates us ++ printed_updates vs
 printed-append us vs = flat_map-append update_line us vs
 
 one_if : (b : Bool) (x y z : ℕ) → x ≡ y + z → cond b (suc x) x ≡ cond b (suc y) y + z
-one_if true x y z e = ap suc e
+one_if true x y z e = let h : suc x ≡ suc y + z = omega (arith, e) in h
 one_if false x y z e = e
 
 batches-append : (s : Installer) (es fs : List Event) → batches s (es ++ fs) ≡ batches s es + batches (after_events s es) fs
-batches-append s [] fs = refl
+batches-append s [] fs = let h : batches s fs ≡ 0 + batches s fs = omega arith in h
 batches-append s (e ∷ es) fs = one_if (after_event s e).kept _ (batches (after_event s e) es) _ (batches-append (after_event s e) es fs)
 
 more_plus : (m n x : ℕ) → more_by (m + n) x ≡ more_by n (more_by m x)
-more_plus zero n x = refl
-more_plus (suc m) n x = more_plus m n (one_more x)
+more_plus zero n x = let h : 0 + n ≡ n = omega arith in ap (λ k. more_by k x) h
+more_plus (suc m) n x = let h : suc m + n ≡ suc (m + n) = omega arith in ap (λ k. more_by k x) h ∙ more_plus m n (one_more x)
 
 waits_none : (n : ℕ) → waits_after n false ≡ false
 waits_none zero = refl
 waits_none (suc n) = refl
 
 waits_plus : (m n : ℕ) (w : Bool) → waits_after (m + n) w ≡ waits_after n (waits_after m w)
-waits_plus zero n w = refl
-waits_plus (suc m) n w = sym (waits_none n)
+waits_plus zero n w = let h : 0 + n ≡ n = omega arith in ap (λ k. waits_after k w) h
+waits_plus (suc m) n w = let h : suc m + n ≡ suc (m + n) = omega arith in ap (λ k. waits_after k w) h ∙ sym (waits_none n)
 
 -- ---- pieces as lines
 
@@ -216,9 +216,9 @@ module _ {W : Type 0} (contents : W → Option (List ℕ)) where
 
   -- a line that was taken
   line_taken : (a b : Installing) (p : List ℕ) (old new : Counted W) → TakesNoteLine contents a (line_of p) old (Ok tt) b new → (n : Noted) × (note_of p ≡ Some n.note) × Takes contents a b n old new
-  line_taken a b p old new t = go (note_of p) refl (subst (λ o. MatchOption o ((Ok {E = RunError} tt ≡ Err Why.Line) × (new ≡ old)) (λ note. TakesNote contents a note old (Ok tt) b new)) (piece_note p) t)
+  line_taken a b p old new t = go (note_of p) refl (subst (λ o. MatchOption o (TakesNone contents old (Ok tt) new) (λ note. TakesNote contents a note old (Ok tt) b new)) (piece_note p) t)
     where
-      go : (o : Option Note) → note_of p ≡ o → MatchOption o ((Ok {E = RunError} tt ≡ Err Why.Line) × (new ≡ old)) (λ note. TakesNote contents a note old (Ok tt) b new) → (n : Noted) × (note_of p ≡ Some n.note) × Takes contents a b n old new
+      go : (o : Option Note) → note_of p ≡ o → MatchOption o (TakesNone contents old (Ok tt) new) (λ note. TakesNote contents a note old (Ok tt) b new) → (n : Noted) × (note_of p ≡ Some n.note) × Takes contents a b n old new
       go None e m = absurd (let f = m.0 in cc)
       go (Some note) e m = (record { note = note; least = m.0 }, e, m.1)
 
@@ -293,7 +293,7 @@ module _ {W : Type 0} (contents : W → Option (List ℕ)) where
 -- what comes of a line that was not taken
 module _ {W : Type 0} (contents : W → Option (List ℕ)) (c last : Installing) (p : List ℕ) (mid new : Counted W) where
   abbrev Why_not : RunError → Option Note → Type 0
-  Why_not e o = MatchOption o ((Err {T = Unit {0}} e ≡ Err Why.Line) × (new ≡ mid)) (λ note. TakesNote contents c note mid (Err e) last new)
+  Why_not e o = MatchOption o (TakesNone contents mid (Err e) new) (λ note. TakesNote contents c note mid (Err e) last new)
 
   why_not : (e : RunError) → TakesNoteLine contents c (line_of p) mid (Err e) last new → Why_not e (note_of p)
   why_not e t = subst (Why_not e) (piece_note p) t
@@ -330,6 +330,7 @@ module _ {R W : Type 0} (remaining : R → Option (List ℕ)) (contents : W → 
     }
 
     line_ends : (e : RunError) → Stops contents begin (lines bytes) e old new → InstallEnds remaining contents from to old new (Err e)
+    unfolding meets
     line_ends Why.Line s =
         let c = after_notes begin s.notes in
         let u = unfit contents c s.last s.piece s.mid new (note_of s.piece) (why_not contents c s.last s.piece s.mid new Why.Line s.stops) in (

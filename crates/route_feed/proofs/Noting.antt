@@ -1,33 +1,39 @@
 -- What an installer does at a note.
 use Rattle.std.proofs.Common.{◌≡◌, ℕ, ◌<◌, ◌≤◌, inl, inr, Bool, true, false, nat_lt, cond, List, [], ◌∷◌, ◌++◌, length, map, Option, None, Some, Result, Ok, Err, refl, sym, ap, ◌∙◌, subst, append-nil, arith}
-use Rattle.std.specs.Prelude.{OnErr, OnOk}
+use Rattle.std.specs.Prelude.{IfErr, IsSome, OnErr, OnOk, is_some, not}
+use Rattle.std.specs.Option.{option_to_list}
 use Rattle.std.proofs.lemmas.Bool.Decides.{nat_tests}
 use Rattle.ipnet.specs.declared.ip_net.IpNet.{IpNet}
 use Rattle.route_choices.specs.Choices.{default_preference}
 use Rattle.route_choices.specs.declared.hop.Hop.{Hop}
 use Rattle.route_choices.specs.declared.hop.Hop.TheVariants.{Number, Drop}
 use Rattle.route_choices.specs.Hops.{number_of}
-use Rattle.route_laws.specs.Batches.{AreChanges, batch, painted_all}
+use Rattle.route_laws.specs.Batches.{AreChanges, batch, hop_over, painted_all}
+use Rattle.route_laws.proofs.Batches.{batch_hops, changes_from}
+use Rattle.route_laws.proofs.Families.{least_too}
 use Rattle.route_laws.specs.InnerHops.{hop_from}
 use Rattle.route_laws.specs.LeastTables.{IsLeast}
 use Rattle.route_laws.specs.Networks.{Stored, routes_of}
-use Rattle.route_laws.specs.Operations.{between}
+use Rattle.route_laws.specs.Operations.{Operation, between}
 use Rattle.route_laws.specs.Runs.{Event, Have, Told, Sync, Installer, after_event, after_events, gives}
-use Rattle.route_laws.specs.Tables.{Route, hop_at, route_of}
+use Rattle.route_laws.specs.Tables.{Route, IsTable, hop_at, route_of}
 use Rattle.route_lines.specs.declared.note.Note.{Note}
 use Rattle.route_lines.specs.declared.note.Note.TheVariants as N
-use Rattle.route_lines.specs.declared.reply.Closing.TheVariants.{Done}
+use Rattle.route_lines.specs.declared.reply.Closing.{Closing}
+use Rattle.route_lines.specs.declared.reply.Closing.TheVariants.{Bad, Done, Missing, Refused}
 use Rattle.route_lines.specs.declared.reply.Reply.{Reply}
 use Rattle.route_lines.specs.declared.reply.Reply.TheVariants.{Close}
 use Rattle.route_feed.specs.declared.counted.Counted.{Counted}
 use Rattle.route_feed.specs.declared.error.RunError.{RunError}
 use Rattle.route_feed.specs.declared.error.RunError.TheVariants as Why
 use Rattle.route_feed.specs.declared.follower.Waiting.{Waiting}
-use Rattle.route_feed.specs.InnerInstalling.{AllFit, Begun, GivesChanges, Has, IsFit, Replaces, Takes, TakesNote, Wants, batch_bytes, routes_waiting, route_waiting, tables_of}
-use Rattle.route_feed.specs.InnerReplies.{Closed, Torn}
+use Rattle.route_feed.specs.InnerInstalling.{AllFit, Begun, GivesChanges, Has, IsFit, Replaces, Takes, TakesNote, Wants, batch_bytes, operation_bytes, routes_waiting, route_waiting, tables_of}
+use Rattle.route_feed.specs.InnerReplies.{Closed, Closes, Torn, Written}
 use Rattle.route_feed.specs.InnerWaiting.{changes_of, waiting_change}
 use Rattle.route_feed.specs.Installing.{Installing, MayWant, Noted, after_note, batches, committing, event_of, noted_bytes, pending_past, printed_updates, route_to, update_lines}
-use Rattle.route_feed.specs.Streams.{Change, change_of, closes, done_or, pending_after}
+use Rattle.route_feed.specs.Streams.{Change, change_of, closes, done_or, is_done, pending_after}
+use Rattle.route_feed.specs.Replies.{reply_line}
+use Rattle.route_feed.proofs.Batching.{Closes-batch, Torn-batch}
 use Rattle.route_feed.proofs.Written.{Closed-nil, Written-nil}
 
 -- waiting changes as routes
@@ -43,9 +49,20 @@ routes_are (w ∷ ws) = λ i. route_of w.net (hop_back w.hop i) default_preferen
 abbrev pub kept_at : List Route → List Change → Installing
 kept_at M cs = record { tables = record { table = M; installed = M; kept = true }; pending = cs }
 
+-- what is installed, and is not kept
+abbrev pub unkept_at : List Route → List Route → List Change → Installing
+unkept_at M I cs = record { tables = record { table = M; installed = I; kept = false }; pending = cs }
+
 pub none_before : (table : List Stored) (before : Option (List Stored)) → (tables_of table before).kept ≡ true → before ≡ None
 none_before table None k = refl
 none_before table (Some before) k = absurd (cc)
+
+-- a least table of the hops after changes, where those before them are told by another table
+pub least_too_after : (M L T : List Route) (rs : List Route) (K : List Route) → IsLeast (hop_at M) L → T ≡ painted_all L rs → IsLeast (hop_at T) K → IsTable M → AreChanges rs → IsLeast (hop_at (painted_all M rs)) K
+least_too_after M L T rs K same is least m are =
+    let c = changes_from rs are in
+    least_too (hop_at T) (hop_at (painted_all M rs))
+    (λ x a. ap (λ S. hop_at S x) is ∙ batch_hops L rs same.hops.table c x a ∙ ap (λ o. hop_over o rs x) (same.hops.same x a) ∙ sym (batch_hops M rs m c x a)) K least
 
 -- ---- which event it is
 
@@ -89,9 +106,9 @@ module _ {W : Type 0} (contents : W → Option (List ℕ)) where
   -- a `sync`
   pub taken_sync : (a b : Installing) (L : List Route) (old new : Counted W) (r : Result Unit RunError) → IsLeast (hop_at a.tables.table) L → Replaces contents a L old r b new → TakesNote contents a N.Sync old r b new
   taken_sync a b L old new (Ok done) least h =
-      (L, Takes-of a b N.Sync L old new (Sync [] L ∷ []) refl ((λ are. least), tt) h.0 (subst (Closed contents 1 old new) (ap printed_updates (sym (append-nil _))) h.1))
+      (L, Takes-of a b N.Sync L old new (Sync [] L ∷ []) refl ((λ are. least), tt) h.0 (subst (Closed contents 1 old new) (ap printed_updates (sym (append-nil _))) h.2))
   taken_sync a b L old new (Err Why.Memory) least h = subst (λ w. Wants contents a N.Sync old w) (sym h) (Wants-nothing a N.Sync old tt)
-  taken_sync a b L old new (Err Why.Write) least h = (L, record { fit = ((λ are. least), tt); torn = subst (Torn contents old new) (ap printed_updates (sym (append-nil _))) h })
+  taken_sync a b L old new (Err Why.Write) least h = (L, record { fit = ((λ are. least), tt); torn = subst (Torn contents old new) (ap printed_updates (sym (append-nil _))) h.1 })
   taken_sync a b L old new (Err Why.Read) least h = absurd h
   taken_sync a b L old new (Err Why.Line) least h = absurd h
 
@@ -105,31 +122,23 @@ module _ {W : Type 0} (contents : W → Option (List ℕ)) where
 
   -- `ok` where the table is not kept
   pub taken_unseen : (a b : Installing) (old : Counted W) → a.tables.kept ≡ false
-      → b ≡ record { tables = record { table = painted_all a.tables.table (map route_to a.pending); installed = a.tables.installed; kept = false }; pending = [] }
+      → b ≡ unkept_at (painted_all a.tables.table (map route_to a.pending)) a.tables.installed []
       → TakesNote contents a (N.Reply (Close Done)) old (Ok tt) b old
   taken_unseen a b old k next = go a.pending refl
     where
-      M : List Route
-      M = a.tables.table
+      here : (cs : List Change) → a.pending ≡ cs → a ≡ unkept_at a.tables.table a.tables.installed cs
+      here cs e = λ i. record { tables = record { table = a.tables.table; installed = a.tables.installed; kept = k i }; pending = e i }
 
-      I : List Route
-      I = a.tables.installed
-
-      -- the state, with what is known of it
-      state : (cs : List Change) → Installing
-      state cs = record { tables = record { table = M; installed = I; kept = false }; pending = cs }
-
-      here : (cs : List Change) → a.pending ≡ cs → a ≡ state cs
-      unfolding state
-      here cs e = λ i. record { tables = record { table = M; installed = I; kept = k i }; pending = e i }
+      after : (cs : List Change) → a.pending ≡ cs → b ≡ unkept_at (painted_all a.tables.table (map route_to cs)) a.tables.installed []
+      after cs e = next ∙ ap (λ l. unkept_at (painted_all a.tables.table (map route_to l)) a.tables.installed []) e
 
       go : (cs : List Change) → a.pending ≡ cs → TakesNote contents a (N.Reply (Close Done)) old (Ok tt) b old
-      unfolding state
-      go [] e = subst (λ s. TakesNote contents s (N.Reply (Close Done)) old (Ok tt) b old) (sym (here [] e))
-          ([], Takes-of (state []) b (N.Reply (Close Done)) [] old old [] refl tt (next ∙ ap (λ l. record { tables = record { table = painted_all M (map route_to l); installed = I; kept = false }; pending = [] }) e) (Closed-nil contents old))
-      go (c ∷ cs) e = subst (λ s. TakesNote contents s (N.Reply (Close Done)) old (Ok tt) b old) (sym (here (c ∷ cs) e))
-          ([], Takes-of (state (c ∷ cs)) b (N.Reply (Close Done)) [] old old (Told (map route_to (c ∷ cs)) ∷ []) refl (tt, tt)
-          (next ∙ ap (λ l. record { tables = record { table = painted_all M (map route_to l); installed = I; kept = false }; pending = [] }) e) (Closed-nil contents old))
+      go [] e =
+          subst (λ s. TakesNote contents s (N.Reply (Close Done)) old (Ok tt) b old) (sym (here [] e))
+          ([], Takes-of (unkept_at a.tables.table a.tables.installed []) b (N.Reply (Close Done)) [] old old [] refl tt (after [] e) (Closed-nil contents old))
+      go (c ∷ cs) e =
+          subst (λ s. TakesNote contents s (N.Reply (Close Done)) old (Ok tt) b old) (sym (here (c ∷ cs) e))
+          ([], Takes-of (unkept_at a.tables.table a.tables.installed (c ∷ cs)) b (N.Reply (Close Done)) [] old old (Told (map route_to (c ∷ cs)) ∷ []) refl (tt, tt) (after (c ∷ cs) e) (Closed-nil contents old))
 
   -- `ok` where nothing waits
   pub taken_nothing : (a : Installing) (old : Counted W) → a.pending ≡ [] → TakesNote contents a (N.Reply (Close Done)) old (Ok tt) a old
@@ -161,26 +170,97 @@ module _ {W : Type 0} (contents : W → Option (List ℕ)) where
 
   -- many, by a least table
   pub taken_least : (M L : List Route) (cs : List Change) (rs : List Route) (old new : Counted W) (r : Result Unit RunError) (b c : Installing) → map route_to cs ≡ rs → 256 < length cs
-      → (AreChanges rs → IsLeast (hop_at (painted_all M rs)) L) → Replaces contents (kept_at M cs) L old r b new → OnOk r (c ≡ record { tables = b.tables; pending = [] })
+      → (IsTable M → AreChanges rs → IsLeast (hop_at (painted_all M rs)) L) → Replaces contents (kept_at M cs) L old r b new → OnOk r (c ≡ record { tables = b.tables; pending = [] })
       → TakesNote contents (kept_at M cs) (N.Reply (Close Done)) old r c new
   taken_least M L cs rs old new r b c routes many least h next = go r h next
     where
       synced : committing true cs L ≡ Sync (map route_to cs) L ∷ []
       synced = many_synced cs L many
 
-      is_least : AreChanges (map route_to cs) → IsLeast (hop_at (painted_all M (map route_to cs))) L
-      is_least = subst (λ l. AreChanges l → IsLeast (hop_at (painted_all M l)) L) (sym routes) least
+      is_least : IsTable M → AreChanges (map route_to cs) → IsLeast (hop_at (painted_all M (map route_to cs))) L
+      is_least m = subst (λ l. AreChanges l → IsLeast (hop_at (painted_all M l)) L) (sym routes) (least m)
 
       text : batch_bytes (between M L) ≡ printed_updates (update_lines (record { table = M; installed = M; kept = true }) (Sync (map route_to cs) L ∷ []))
       text = ap printed_updates (sym (append-nil _))
 
       go : (k : Result Unit RunError) → Replaces contents (kept_at M cs) L old k b new → OnOk k (c ≡ record { tables = b.tables; pending = [] }) → TakesNote contents (kept_at M cs) (N.Reply (Close Done)) old k c new
       go (Ok done) g e =
-          (L, Takes-of (kept_at M cs) c (N.Reply (Close Done)) L old new (Sync (map route_to cs) L ∷ []) synced (is_least, tt) (e ∙ ap (λ (s : Installing). record { tables = s.tables; pending = [] }) g.0) (subst (Closed contents 1 old new) text g.1))
+          (L, Takes-of (kept_at M cs) c (N.Reply (Close Done)) L old new (Sync (map route_to cs) L ∷ []) synced (is_least g.1, tt) (e ∙ ap (λ (s : Installing). record { tables = s.tables; pending = [] }) g.0) (subst (Closed contents 1 old new) text g.2))
       go (Err Why.Memory) g e = subst (λ w. Wants contents (kept_at M cs) (N.Reply (Close Done)) old w) (sym g) (Wants-nothing (kept_at M cs) (N.Reply (Close Done)) old (inr (refl, omega (arith, many))))
       go (Err Why.Write) g e = (L, record {
-        fit = subst (AllFit (record { table = M; installed = M; kept = true })) (sym synced) (is_least, tt);
-        torn = subst (Torn contents old new) (text ∙ ap (λ es. printed_updates (update_lines (record { table = M; installed = M; kept = true }) es)) (sym synced)) g;
+        fit = subst (AllFit (record { table = M; installed = M; kept = true })) (sym synced) (is_least g.0, tt);
+        torn = subst (Torn contents old new) (text ∙ ap (λ es. printed_updates (update_lines (record { table = M; installed = M; kept = true }) es)) (sym synced)) g.1;
       })
       go (Err Why.Read) g e = absurd g
       go (Err Why.Line) g e = absurd g
+
+  -- memory was wanting before anything was written
+  pub nothing_wanted : (a b : Installing) (note : Note) (old : Counted W) (e : RunError) → e ≡ Why.Memory → MayWant a note → TakesNote contents a note old (Err e) b old
+  nothing_wanted a b note old e is may = subst (λ k. TakesNote contents a note old (Err k) b old) (sym is) (Wants-nothing a note old may)
+
+  -- ---- a table in the place of another
+
+  module _ (a b : Installing) (L : List Route) (old mid new : Counted W) (I : List Route) (os : List Operation) (installed : I ≡ a.tables.installed) (is : os ≡ between I L) (m : IsTable I) where
+    same_batch : os ≡ between a.tables.installed L
+    same_batch = is ∙ ap (λ M. between M L) installed
+
+    pub replaces_torn : (e : RunError) → (e ≡ Why.Write) × Torn contents old new (operation_bytes os) → Replaces contents a L old (Err e) b new
+    replaces_torn e q = subst (λ k. Replaces contents a L old (Err k) b new) (sym q.0) (subst IsTable installed m, subst (λ ps. Torn contents old new (batch_bytes ps)) same_batch (Torn-batch contents old new os q.1))
+
+    pub replaces_closing : (e : RunError) → Written contents old mid (operation_bytes os) → Closes contents 1 mid new (Err {Unit {0}} {RunError} e) (reply_line (Close Done)) → Replaces contents a L old (Err e) b new
+    replaces_closing e w q =
+        let t = Closes-batch contents old mid new (Err e) os w q in
+        subst (λ k. Replaces contents a L old (Err k) b new) (sym t.0) (subst IsTable installed m, subst (λ ps. Torn contents old new (batch_bytes ps)) same_batch t.1)
+
+    pub replaces : Written contents old mid (operation_bytes os) → Closed contents 1 mid new (reply_line (Close Done)) → b ≡ record { tables = record { table = L; installed = L; kept = true }; pending = a.pending } → Replaces contents a L old (Ok tt) b new
+    replaces w q next = (next, subst IsTable installed m, subst (λ ps. Closed contents 1 old new (batch_bytes ps)) same_batch (Closes-batch contents old mid new (Ok tt) os w q))
+
+-- ---- an installer by its parts
+
+kept_is : (table : List Stored) (before : Option (List Stored)) (cs : List Change) → not (is_some before) ≡ true → record { tables = tables_of table before; pending = cs } ≡ kept_at (routes_of table) cs
+kept_is table None cs k = refl
+kept_is table (Some before) cs k = absurd (cc)
+
+pub after_each : (table : List Stored) (before : Option (List Stored)) (vs : List Waiting) → not (is_some before) ≡ true → vs ≡ [] → record { tables = tables_of table before; pending = changes_of vs } ≡ kept_at (routes_of table) []
+after_each table before vs k e = ap (λ l. record { tables = tables_of table before; pending = changes_of l }) e ∙ kept_is table before [] k
+
+-- a closing line that is not `ok`
+pub not_done : (closing : Closing) → (closing ≡ Done → ⊥) → is_done closing ≡ false
+not_done Done h = absurd (h refl)
+not_done Missing h = refl
+not_done Bad h = refl
+not_done Refused h = refl
+
+module _ {W : Type 0} (contents : W → Option (List ℕ)) where
+  -- the parts of an installer whose table is kept
+  module _ (a : Installing) (table : List Stored) (before : Option (List Stored)) (ws : List Waiting) (is : record { tables = tables_of table before; pending = changes_of ws } ≡ a) (k : a.tables.kept ≡ true) (old new : Counted W) (r : Result Unit RunError) where
+    parts : kept_at (routes_of table) (changes_of ws) ≡ a
+    parts = sym (kept_is table before (changes_of ws) (ap (λ s. s.tables.kept) is ∙ k)) ∙ is
+
+    length_is : length (changes_of ws) ≡ length a.pending
+    length_is = ap (λ s. length s.pending) is
+
+    pub each_of : (T : List Route) (b : Installing) → 0 < length a.pending → length a.pending ≤ 256 → GivesChanges contents (routes_of table) (routes_waiting ws) old r T new → OnOk r (b ≡ kept_at T []) → TakesNote contents a (N.Reply (Close Done)) old r b new
+    each_of T b some few h next =
+        subst (λ s. TakesNote contents s (N.Reply (Close Done)) old r b new) parts
+        (taken_each contents (routes_of table) T (changes_of ws) (routes_waiting ws) old new r b (routes_are ws) (omega (arith, length_is, some)) (omega (arith, length_is, few)) h next)
+
+    pub least_of : (L : List Route) (b c : Installing) → 256 < length a.pending → (IsTable (routes_of table) → AreChanges (routes_waiting ws) → IsLeast (hop_at (painted_all (routes_of table) (routes_waiting ws))) L) → Replaces contents a L old r b new
+        → OnOk r (c ≡ record { tables = b.tables; pending = [] }) → TakesNote contents a (N.Reply (Close Done)) old r c new
+    least_of L b c many least h next =
+        subst (λ s. TakesNote contents s (N.Reply (Close Done)) old r c new) parts
+        (taken_least contents (routes_of table) L (changes_of ws) (routes_waiting ws) old new r b c (routes_are ws) (omega (arith, length_is, many)) least (subst (λ s. Replaces contents s L old r b new) (sym parts) h) next)
+
+  -- changes that were carried out unseen
+  pub unseen_of : (a b : Installing) (old : Counted W) (r : Result Unit RunError) → a.tables.kept ≡ false → OnOk r (b.tables ≡ record { table = painted_all a.tables.table (map route_to a.pending); installed = a.tables.installed; kept = false })
+      → OnOk r (b.pending ≡ []) → IfErr r (λ e. e ≡ Why.Memory) → OnErr r (0 < length a.pending) → TakesNote contents a (N.Reply (Close Done)) old r b old
+  unseen_of a b old (Ok done) k tables pending memory some = taken_unseen contents a b old k (λ i. record { tables = tables i; pending = pending i })
+  unseen_of a b old (Err e) k tables pending memory some = nothing_wanted contents a b (N.Reply (Close Done)) old e memory (inr (refl, some))
+
+  -- a change that was kept
+  pub keep_of : (a b : Installing) (line : Reply) (c : Change) (old : Counted W) (r : Result Unit RunError) → closes line ≡ None → change_of line ≡ Some c → b.tables ≡ a.tables → OnOk r (b.pending ≡ a.pending ++ c ∷ []) → IfErr r (λ e. e ≡ Why.Memory)
+      → TakesNote contents a (N.Reply line) old r b old
+  keep_of a b line c old (Ok done) open is tables pending memory =
+      taken_quiet contents a b line old (ap (λ o. done_or o false) open)
+      (λ i. record { tables = tables i; pending = (pending ∙ sym (ap (λ o. pending_after a.pending o (change_of line)) open ∙ ap (λ o. a.pending ++ option_to_list o) is)) i })
+  keep_of a b line c old (Err e) open is tables pending memory = nothing_wanted contents a b (N.Reply line) old e memory (inl (subst IsSome (sym is) refl))

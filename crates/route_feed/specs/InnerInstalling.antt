@@ -1,5 +1,5 @@
 -- What an installer does with the lines of its input.
-use Rattle.std.specs.Prelude.{◌≡◌, ℕ, true, false, List, [], ◌∷◌, ◌++◌, map, Option, None, Some, MatchOption, Result, Ok, Err, codes}
+use Rattle.std.specs.Prelude.{◌≡◌, ℕ, true, false, not, List, [], ◌∷◌, ◌++◌, map, Option, None, Some, is_some, unwrap_or, MatchOption, Result, Ok, Err, codes}
 use Rattle.std.specs.Io.KnownBytes.{Appends}
 use Rattle.route_lines.specs.Spelled.{note_of}
 use Rattle.route_lines.specs.Texts.{update_text}
@@ -17,7 +17,7 @@ use Rattle.route_laws.specs.LeastTables.{IsLeast}
 use Rattle.route_laws.specs.Networks.{Stored, routes_of}
 use Rattle.route_laws.specs.Operations.{Operation, between}
 use Rattle.route_laws.specs.Runs.{Event, Have, Told, Sync, Installer, after_event, after_events}
-use Rattle.route_laws.specs.Tables.{Route, hop_at, route_of}
+use Rattle.route_laws.specs.Tables.{Route, IsTable, hop_at, route_of}
 use Rattle.route_feed.specs.declared.counted.Counted.{Counted}
 use Rattle.route_feed.specs.declared.error.RunError.{RunError}
 use Rattle.route_feed.specs.declared.error.RunError.TheVariants as Why
@@ -32,8 +32,7 @@ note_in TooLong = None
 
 -- the tables of an installer: before the first `sync` another one is installed
 abbrev pub tables_of : List Stored → Option (List Stored) → Installer
-tables_of table None = record { table = routes_of table; installed = routes_of table; kept = true }
-tables_of table (Some before) = record { table = routes_of table; installed = routes_of before; kept = false }
+tables_of table before = record { table = routes_of table; installed = routes_of (unwrap_or before table); kept = not (is_some before) }
 
 -- waiting changes as routes
 abbrev pub route_waiting : Waiting → Route
@@ -96,12 +95,12 @@ module _ {W : Type 0} (contents : W → Option (List ℕ)) where
   GivesChanges M rs old (Err Why.Read) N new = ⊥
   GivesChanges M rs old (Err Why.Line) N new = ⊥
 
-  -- a table was installed in the place of another, and is kept
+  -- a table was installed in the place of another, which is one too, and is kept
   abbrev pub Replaces : Installing → List Route → Counted W → Result Unit RunError → Installing → Counted W → Type 0
   Replaces a N old (Ok done) b new =
-      (b ≡ record { tables = record { table = N; installed = N; kept = true }; pending = a.pending }) × Closed contents 1 old new (batch_bytes (between a.tables.installed N))
+      (b ≡ record { tables = record { table = N; installed = N; kept = true }; pending = a.pending }) × IsTable a.tables.installed × Closed contents 1 old new (batch_bytes (between a.tables.installed N))
   Replaces a N old (Err Why.Memory) b new = new ≡ old
-  Replaces a N old (Err Why.Write) b new = Torn contents old new (batch_bytes (between a.tables.installed N))
+  Replaces a N old (Err Why.Write) b new = IsTable a.tables.installed × Torn contents old new (batch_bytes (between a.tables.installed N))
   Replaces a N old (Err Why.Read) b new = ⊥
   Replaces a N old (Err Why.Line) b new = ⊥
 
@@ -132,6 +131,10 @@ module _ {W : Type 0} (contents : W → Option (List ℕ)) where
   TakesNote a note old (Err Why.Write) b new = (N : List Route) × Fails a (record { note = note; least = N }) old new
   TakesNote a note old (Err Why.Read) b new = ⊥
 
+  -- a line that spells no note
+  abbrev pub TakesNone : Counted W → Result Unit RunError → Counted W → Type 0
+  TakesNone old result new = (result ≡ Err Why.Line) × (new ≡ old)
+
   -- the same of a line
   abbrev pub TakesNoteLine : Installing → Line → Counted W → Result Unit RunError → Installing → Counted W → Type 0
-  TakesNoteLine a line old result b new = MatchOption (note_in line) ((result ≡ Err Why.Line) × (new ≡ old)) (λ note. TakesNote a note old result b new)
+  TakesNoteLine a line old result b new = MatchOption (note_in line) (TakesNone old result new) (λ note. TakesNote a note old result b new)

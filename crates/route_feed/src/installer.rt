@@ -1,16 +1,16 @@
 //! An installer: a table that is kept installed while a leader's reply lines and others come.
-ghost use Rattle.std.specs.Prelude.{◌≡◌, ◌≤◌, ◌<◌, ◌++◌, ◌∷◌, [], All, IfErr, IfOk, IsOk, OnErr, OnOk, length, false, true};
+ghost use Rattle.std.specs.Prelude.{◌≡◌, ◌≤◌, ◌<◌, ◌++◌, ◌∷◌, [], All, IfErr, IfOk, IsOk, OnErr, OnOk, length, map, false, true};
 ghost use Rattle.ipnet.specs.IpNets.{family, parts};
 ghost use Rattle.ipnet_blocks.specs.Networks.{IsTruncated};
 ghost use Rattle.route_choices.specs.Choices.{default_preference};
-ghost use Rattle.route_laws.specs.Batches.{AreChanges, painted_all};
+ghost use Rattle.route_laws.specs.Batches.{AreChanges, painted, painted_all};
 ghost use Rattle.route_laws.specs.LeastTables.{IsLeast, routes_for};
 ghost use Rattle.route_laws.specs.Networks.{routes_of};
 ghost use Rattle.route_laws.specs.Tables.{IsTable, hop_at, route_of};
 ghost use Rattle.route_lines.specs.declared.note.Note.{Note};
 ghost use Rattle.route_feed.specs.Counted.{CanCount};
-ghost use Rattle.route_feed.specs.Installing.{Installing, begin};
-ghost use Rattle.route_feed.specs.InnerInstalling.{GivesChanges, Has, Replaces, TakesNote, WritesChanges, routes_waiting, tables_of};
+ghost use Rattle.route_feed.specs.Installing.{begin, route_to};
+ghost use Rattle.route_feed.specs.InnerInstalling.{GivesChanges, Has, Replaces, TakesNote, WritesChanges, route_waiting, routes_waiting};
 ghost use Rattle.route_feed.specs.InnerWaiting.{changes_of, waiting_change};
 ghost use Rattle.route_lines.specs.declared.reply.Closing.{Closing};
 ghost use Rattle.route_lines.specs.declared.reply.Reply.{Reply};
@@ -117,8 +117,7 @@ fn least(table: &HopTable) -> Result<Vec<(IpNet, Hop)>, RunError>
 
 /// The table of a list, as `least` gives it.
 fn table_of(alloc: Global, list: &[(IpNet, Hop)]) -> Result<HopTable, RunError>
-    requires table { IsTable (routes_for list.now) }
-    requires truncated { All (λ r. IsTruncated (family r.0) (parts r.0)) list.now }
+    requires { IsTable (routes_for list.now) }
     ensures routes { IfOk result (λ table. routes_of table ≡ routes_for list.now) }
     ensures memory { IfErr result (λ e. e ≡ RunError.Memory) }
 {
@@ -134,12 +133,13 @@ fn least_after(
     table: &HopTable,
     changes: &[Waiting],
 ) -> Result<Vec<(IpNet, Hop)>, RunError>
-    ensures least { IfOk result (λ list. AreChanges (routes_waiting changes.now) → IsLeast (hop_at (painted_all (routes_of table.now) (routes_waiting changes.now))) (routes_for list.items)) }
+    ensures least { IfOk result (λ list. IsTable (routes_of table.now) → AreChanges (routes_waiting changes.now) → IsLeast (hop_at (painted_all (routes_of table.now) (routes_waiting changes.now))) (routes_for list.items)) }
     ensures table { IfOk result (λ list. IsTable (routes_for list.items)) }
     ensures truncated { IfOk result (λ list. All (λ r. IsTruncated (family r.0) (parts r.0)) list.items) }
     ensures memory { IfErr result (λ e. e ≡ RunError.Memory) }
 {
-    let mut after = table_of(alloc, least(table)?.as_slice())?;
+    let same = least(table)?;
+    let mut after = table_of(alloc, same.as_slice())?;
     paint_all(&mut after, changes)?;
     least(&after)
 }

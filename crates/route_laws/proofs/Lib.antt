@@ -29,6 +29,7 @@ pub mod Turning
 pub mod Between
 pub mod FewestOperations
 pub mod Painted
+pub mod Repaints
 pub mod Handed
 pub mod OperationCounts
 pub mod Batches

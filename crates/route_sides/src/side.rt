@@ -295,4 +295,12 @@ impl<P: OfFamily> Side<P, 1> {
     {
         SideRoutes::new(Entries::Hops(self.networks.iter()))
     }
+
+    /// The routes of the networks inside this one, itself included.
+    pub fn list(&self, net: P) -> SideRoutes<'_, P>
+        requires { IsBlock (block_of P.family (P.parts net)) }
+        ensures { result ≡ routes_inside (routes_of self.now) (block_of P.family (P.parts net)) }
+    {
+        SideRoutes::new(Entries::Hops(self.networks.children(&net)))
+    }
 }

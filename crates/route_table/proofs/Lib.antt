@@ -4,3 +4,4 @@ pub mod FlatPieces
 pub mod LeastBits
 pub mod Looks
 pub mod Paints
+pub mod Repaints

@@ -1,8 +1,9 @@
 -- What is left to install and to remove, when one more route was looked at.
-use Rattle.std.proofs.Common.{◌≡◌, ◌↔◌, ℕ, inl, inr, ⊎_elim, Bool, true, false, not, ◌&&◌, ◌||◌, cond, List, [], ◌∷◌, ◌++◌, Option, Some, None, refl, sym, ap, ◌∙◌, subst}
+use Rattle.std.proofs.Common.{◌≡◌, ◌<◌, ◌+◌, ◌↔◌, ℕ, inl, inr, ⊎_elim, Bool, true, false, not, ◌&&◌, ◌||◌, cond, List, [], ◌∷◌, ◌++◌, length, take, drop, Option, Some, None, refl, sym, ap, ◌∙◌, subst, arith, append_assoc}
 use Rattle.std.specs.Option.{option_eq, option_map}
 use Rattle.std.proofs.lemmas.Bool.{and_parts}
-use Rattle.std.proofs.lemmas.List.{map-append, reverse-append}
+use Rattle.std.specs.List.{slice_index_or}
+use Rattle.std.proofs.lemmas.List.{map-append, reverse-append, take-append-drop, take_more}
 use Rattle.std.proofs.lemmas.List.Elements.{filter-append}
 use mathlib.Core.List.{reverse}
 use Rattle.ipnet_addr.proofs.Basics.{In-from_list_any, list_any-from_In}
@@ -11,6 +12,7 @@ use Rattle.ipnet_addr.proofs.Ascending.{In-from_All, All-from_In, In-from_Contai
 use Rattle.ipnet_blocks.specs.Blocks.{Block, IsBlock, IsBefore, same_block}
 use Rattle.ipnet_blocks.specs.Networks.{IsTruncated}
 use Rattle.ipnet_blocks.proofs.BlockLaws.{strict}
+use Rattle.ipnet_blocks.proofs.Lists.{rising_cross}
 use Rattle.ipnet_blocks.proofs.BlockTests.{same_from_test, test_from_same}
 use Rattle.ipnet.specs.IpNets.{block, family, parts, network_at}
 use Rattle.ipnet.specs.declared.ip_net.IpNet.{IpNet}
@@ -20,12 +22,13 @@ use Rattle.route_choices.specs.declared.hop.Hop.{Hop}
 use Rattle.route_choices.proofs.Kept.{map_In}
 use Rattle.route_laws.specs.LeastTables.{routes_for}
 use Rattle.route_laws.specs.Operations.{Remove, is_held, missing, removes, same_route, surplus}
-use Rattle.route_laws.specs.Tables.{Route, IsTable, is_stored, item_of, match_of, route_of}
+use Rattle.route_laws.specs.Tables.{Route, IsTable, is_stored, item_of, match_of, route_of, with_route}
 use Rattle.route_laws.proofs.Between.{route_from_test, route_itself}
 use Rattle.route_laws.proofs.ChoiceChanges.{match_of_own}
 use Rattle.route_laws.proofs.Insides.{Sooner, rising, sound, table_of}
 use Rattle.route_laws.proofs.Matches.{bools_same, filter_same, match_meets}
 use Rattle.route_laws.proofs.NetworksAt.{of_network_at}
+use Rattle.route_laws.proofs.Ordered.{put_last}
 use Rattle.route_table.specs.InnerBetween.{AreComing}
 
 -- a network without host bits is that of its block
@@ -186,3 +189,23 @@ module _ (p : IpNet × Hop) (rest : List (IpNet × Hop)) (n : IpNet) where
       go : (c : Bool) → is_stored (routes_for (p ∷ rest)) (block n) ≡ c → false ≡ c
       go false e = refl
       go true e = let w = In-from_list_any (λ (s : Route). same_block s.block (block n)) (routes_for (p ∷ rest)) e in absurd (later w.0 w.1 (same_from_test (Route.block w.0) (block n) w.2))
+
+-- ---- a table made of a list
+
+-- the next route of the list comes after those before it
+pub added_next : (xs : List (IpNet × Hop)) (i : ℕ) (p : IpNet × Hop) → IsTable (routes_for xs) → i < length xs → p ≡ slice_index_or xs i p
+    → with_route (routes_for (take i xs)) (route_for p) ≡ routes_for (take (i + 1) xs)
+added_next xs i p t h is =
+    put_last Route.block (routes_for (take i xs)) (route_for p)
+    (λ r j. rising_cross Sooner (routes_for (take i xs)) (routes_for (p ∷ drop (i + 1) xs)) (rising (routes_for (take i xs) ++ routes_for (p ∷ drop (i + 1) xs)) cut) r (route_for p) j (inl refl))
+    ∙ sym (map-append route_for (take i xs) (p ∷ []))
+    ∙ ap routes_for (sym here)
+  where
+    here : take (i + 1) xs ≡ take i xs ++ p ∷ []
+    here = ap (λ k. take k xs) (omega arith) ∙ take_more xs i p h ∙ ap (λ y. take i xs ++ y ∷ []) (sym is)
+
+    parts_of : xs ≡ take i xs ++ p ∷ drop (i + 1) xs
+    parts_of = sym (take-append-drop (i + 1) xs) ∙ ap (λ l. l ++ drop (i + 1) xs) here ∙ append_assoc (take i xs) (p ∷ []) (drop (i + 1) xs)
+
+    cut : IsTable (routes_for (take i xs) ++ routes_for (p ∷ drop (i + 1) xs))
+    cut = subst IsTable (ap routes_for parts_of ∙ map-append route_for (take i xs) (p ∷ drop (i + 1) xs)) t

@@ -2,3 +2,4 @@ pub mod InnerOwning
 pub mod InnerLeast
 pub mod Operations
 pub mod InnerBetween
+pub mod InnerRepaint

@@ -176,7 +176,7 @@ impl HopTable {
     }
 
     /// Whether the table has just this route, with the default preference.
-    fn holds(&self, net: &IpNet, hop: Hop) -> bool
+    pub(crate) fn holds(&self, net: &IpNet, hop: Hop) -> bool
         requires block { IsBlock (block net.now) }
         requires truncated { net.now ≡ network_at (block net.now) }
         ensures { result ≡ is_held (routes_of self.now) (route_of net.now hop default_preference) }

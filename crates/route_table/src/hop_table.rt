@@ -1,22 +1,28 @@
 //! A table with one route a network.
-ghost use Rattle.std.specs.Prelude.{◌≡◌, ◌≤◌, ◌+◌, [], ◌++◌, All, IfOk, IsOk, List, length};
+ghost use Rattle.std.specs.Prelude.{◌≡◌, ◌≤◌, ◌+◌, [], ◌++◌, All, IfErr, IfOk, IsOk, List, OnErr, OnOk, length};
 ghost use Rattle.ipnet_addr.specs.Addresses.{Family, Ipv4, Ipv6};
-ghost use Rattle.ipnet_blocks.specs.Blocks.{Block};
+ghost use Rattle.ipnet_blocks.specs.Blocks.{Block, IsBlock};
+ghost use Rattle.ipnet.specs.IpNets.{block};
+ghost use Rattle.trie_map.specs.declared.refused.Refused.TheVariants.{Memory};
+ghost use Rattle.route_choices.specs.Choices.{default_preference};
 ghost use Rattle.route_laws.specs.Bounds.{lengths_in, pieces_in};
 ghost use Rattle.route_laws.specs.Flats.{IsAdmissible, IsFlat};
-ghost use Rattle.route_laws.specs.Networks.{IsStoredTable, routes_of};
-ghost use Rattle.route_laws.specs.Tables.{IsTable, hop_at};
+ghost use Rattle.route_laws.specs.LeastTables.{routes_for};
+ghost use Rattle.route_laws.specs.Networks.{IsStoredTable, choices_at, routes_of};
+ghost use Rattle.route_laws.specs.Tables.{IsTable, hop_at, route_of, routes_inside, with_route};
 
-use crate::table::Table;
+use crate::table::{Table, cleared};
+use ipnet::IpNet;
 use prefix_trie::Refused;
+use route_choices::{DEFAULT_PREFERENCE, Hop};
 use route_sides::{Flat, Routes};
 use std::alloc::Global;
 
 /// A hop for each of some networks of both families, as a follower keeps them. A network takes less than a quarter of
 /// the memory that it takes in a `RouteTable`, which has room for eight routes of it.
 ///
-/// Contracts see the list that they see of a `RouteTable`; each network has one route. Only `least`, `into_least`, and
-/// `overwrite` and `paint` of a network that is not stored, take memory. It is `Send` and `Sync`.
+/// Contracts see the list that they see of a `RouteTable`; each network has one route. Only `from_routes`, `least`,
+/// `into_least`, and `install`, `overwrite` and `paint` of a network that is not stored, take memory. It is `Send` and `Sync`.
 pub type HopTable = Table<1>;
 
 impl HopTable {
@@ -30,6 +36,51 @@ impl HopTable {
         ensures ok { IsOk result }
     {
         Table::empty(alloc)
+    }
+
+    /// The table of these routes, an ascending list with each network once, as `least` gives it.
+    ///
+    /// # Errors
+    /// `Memory` where there is none for the table.
+    pub fn from_routes(alloc: Global, list: &[(IpNet, Hop)]) -> Result<HopTable, Refused>
+        requires { IsTable (routes_for list.now) }
+        ensures routes { IfOk result (λ t. routes_of t ≡ routes_for list.now) }
+        ensures table { IfOk result IsStoredTable }
+        ensures memory { IfErr result (λ e. e ≡ Memory) }
+    {
+        let mut table = HopTable::new(alloc)?;
+        for (net, hop) in list {
+            table.install(*net, *hop)?;
+        }
+        Ok(table)
+    }
+
+    /// Stores this route, with preference 100, in the place of the one that the network has. The routes inside the
+    /// network stay.
+    ///
+    /// # Errors
+    /// `Memory` where there is none for a network that is not stored. The table is as it was. A stored network is
+    /// never refused.
+    pub fn install(&mut self, net: IpNet, hop: Hop) -> Result<(), Refused>
+        ensures routes { OnOk result (routes_of self.new ≡ with_route (routes_of self.old) (route_of net hop default_preference)) }
+        ensures tables { IsStoredTable self.old × IsStoredTable self.new }
+        ensures memory { IfErr result (λ e. e ≡ Memory) }
+        ensures unchanged { OnErr result (self.new ≡ self.old) }
+        ensures absent { OnErr result (choices_at self.old (block net) ≡ []) }
+    {
+        self.store(cleared(&net), hop, DEFAULT_PREFERENCE)
+    }
+
+    /// The routes inside the network, ascending.
+    pub(crate) fn inside(&self, net: &IpNet) -> Routes<'_>
+        requires { IsBlock (block net.now) }
+        ensures routes { result ≡ routes_inside (routes_of self.now) (block net.now) }
+        ensures table { IsTable (routes_of self.now) }
+    {
+        match *net {
+            IpNet::V4(net) => Routes::v4(self.v4.list(net)),
+            IpNet::V6(net) => Routes::v6(self.v6.list(net)),
+        }
     }
 
     /// The routes of either family, ascending.

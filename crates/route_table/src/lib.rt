@@ -4,6 +4,7 @@
 pub use between::{Between, Operation};
 pub use hop_table::HopTable;
 pub use prefix_trie::Refused;
+pub use repaint::Repaint;
 pub use route_choices::{All, DEFAULT_PREFERENCE, Hop};
 pub use route_sides::{AddRefused, Flat, Governed, Routes};
 pub use table::{RouteTable, Table};
@@ -15,6 +16,7 @@ pub mod laws;
 mod overwrite;
 mod own_blocks;
 mod paint;
+mod repaint;
 mod shortest;
 mod table;
 mod walks;

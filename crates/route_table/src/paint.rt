@@ -41,7 +41,7 @@ impl HopTable {
     }
 
     /// The number of the hop that the routes outside the network give its addresses.
-    fn handed(&self, net: &IpNet) -> Option<u32>
+    pub(crate) fn handed(&self, net: &IpNet) -> Option<u32>
         requires { IsBlock (block net.now) }
         ensures { IsTable (routes_of self.now) → result ≡ match_number (match_of (without_inside (routes_of self.now) (block net.now)) (block net.now)) }
     {
