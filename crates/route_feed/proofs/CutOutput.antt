@@ -134,6 +134,10 @@ cuts_agree bytes refusals front back log ns written missing e are same out has =
     let c = where_cut ns begin us (filter_map update_of more) whole in
     let count : oks us ≡ oks (update_lines start (events begin c.before)) + oks c.begun = ap oks c.lines ∙ oks-append (update_lines start (events begin c.before)) c.begun in
     let none = c.open_batch in
-    let batches = batches_are_oks start (events begin c.before) in
-    (c.before, c.later, c.is, batches ∙ (let all : oks (update_lines start (events begin c.before)) ≡ oks us = omega (arith, count, none) in all),
-    two_hops bytes refusals ns (logs_are_first bytes refusals front back log ns e are same) are.may us c (In-from_Contains us U.Done has))
+    let batches = batches_are_oks start (events begin c.before) in (
+      c.before,
+      c.later,
+      c.is,
+      batches ∙ (let all : oks (update_lines start (events begin c.before)) ≡ oks us = omega (arith, count, none) in all),
+      two_hops bytes refusals ns (logs_are_first bytes refusals front back log ns e are same) are.may us c (In-from_Contains us U.Done has),
+    )
