@@ -267,10 +267,10 @@ module _ {W : Type 0} (contents : W → Option (List ℕ)) where
   -- a change that was kept
   pub keep_of : (a b : Installing) (line : Reply) (c : Change) (old : Counted W) (r : Result Unit RunError) → closes line ≡ None → change_of line ≡ Some c → b.tables ≡ a.tables → OnOk r (b.pending ≡ a.pending ++ c ∷ []) → IfErr r (λ e. e ≡ Why.Memory)
       → TakesNote contents a (N.Reply line) old r b old
-  keep_of a b line c old (Ok done) open is tables pending memory =
-      taken_quiet contents a b line old (ap (λ o. done_or o false) open)
-      (λ i. record { tables = tables i; pending = (pending ∙ sym (ap (λ o. pending_after a.pending o (change_of line)) open ∙ ap (λ o. a.pending ++ option_to_list o) is)) i })
-  keep_of a b line c old (Err e) open is tables pending memory = nothing_wanted contents a b (N.Reply line) old e memory (inl (subst IsSome (sym is) refl))
+  keep_of a b line c old (Ok done) shut is tables pending memory =
+      taken_quiet contents a b line old (ap (λ o. done_or o false) shut)
+      (λ i. record { tables = tables i; pending = (pending ∙ sym (ap (λ o. pending_after a.pending o (change_of line)) shut ∙ ap (λ o. a.pending ++ option_to_list o) is)) i })
+  keep_of a b line c old (Err e) shut is tables pending memory = nothing_wanted contents a b (N.Reply line) old e memory (inl (subst IsSome (sym is) refl))
 
 -- ---- lines
 
