@@ -1,3 +1,4 @@
+use Rattle.std.proofs.Common.{Ok}
 use Rattle.std.proofs.lemmas.Result.{err_from_is_err_and}
 use Rattle.route_feed.proofs.Installed.{install_ended, install_known, install_none, install_stopped}
 use Rattle.route_feed.proofs.installing.install.Goals as goal
@@ -17,4 +18,4 @@ returns-clause-ends g c =
     install_ended g.R.Read.remaining g.W.Write.contents c.args.reader.now c.run.new.reader c.args.writer.now c.run.new.writer c.in_ok-installer.installer c.run.new.sink c.in_ok-installer.ensures.state c.in_ok-run.field-0 c.in_ok-run.ensures
 
 pub returns-clause-known : goal.returns-clause-known
-returns-clause-known g c = install_known g.R.Read.remaining g.W.Write.contents c.args.reader.now c.run.new.reader c.args.writer.now c.run.new.writer _ (returns-clause-ends g c)
+returns-clause-known g c = install_known g.R.Read.remaining g.W.Write.contents c.args.reader.now c.run.new.reader c.args.writer.now c.run.new.writer (Ok tt) (returns-clause-ends g c)
