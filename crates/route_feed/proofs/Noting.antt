@@ -1,5 +1,5 @@
 -- What an installer does at a note.
-use Rattle.std.proofs.Common.{◌≡◌, ℕ, ◌<◌, ◌≤◌, inl, inr, Bool, true, false, nat_lt, cond, List, [], ◌∷◌, ◌++◌, length, map, Option, None, Some, Result, Ok, Err, refl, sym, ap, ◌∙◌, subst, append-nil, arith}
+use Rattle.std.proofs.Common.{◌≡◌, ℕ, ◌<◌, ◌≤◌, inl, inr, true, false, nat_lt, cond, List, [], ◌∷◌, ◌++◌, length, map, Option, None, Some, Result, Ok, Err, refl, sym, ap, ◌∙◌, subst, append-nil, arith}
 use Rattle.std.specs.Prelude.{IfErr, IsSome, MatchOption, OnErr, OnOk, is_some, not}
 use Rattle.std.specs.Option.{option_to_list}
 use Rattle.std.proofs.lemmas.Bool.Decides.{nat_tests}
@@ -15,7 +15,7 @@ use Rattle.route_laws.specs.InnerHops.{hop_from}
 use Rattle.route_laws.specs.LeastTables.{IsLeast}
 use Rattle.route_laws.specs.Networks.{Stored, routes_of}
 use Rattle.route_laws.specs.Operations.{Operation, between}
-use Rattle.route_laws.specs.Runs.{Event, Have, Told, Sync, Installer, after_event, after_events, gives}
+use Rattle.route_laws.specs.Runs.{Event, Have, Told, Sync, Installer, after_event, after_events}
 use Rattle.route_laws.specs.Tables.{Route, IsTable, hop_at, route_of}
 use Rattle.route_lines.specs.InnerPhrase.{Gives}
 use Rattle.route_lines.specs.Spelled.{note_of}
@@ -34,10 +34,10 @@ use Rattle.route_feed.specs.declared.counted.Counted.{Counted}
 use Rattle.route_feed.specs.declared.error.RunError.{RunError}
 use Rattle.route_feed.specs.declared.error.RunError.TheVariants as Why
 use Rattle.route_feed.specs.declared.follower.Waiting.{Waiting}
-use Rattle.route_feed.specs.InnerInstalling.{AllFit, Begun, GivesChanges, Has, IsFit, Replaces, Takes, TakesNone, TakesNote, TakesNoteLine, Wants, note_in, batch_bytes, operation_bytes, routes_waiting, route_waiting, tables_of}
+use Rattle.route_feed.specs.InnerInstalling.{AllFit, GivesChanges, Has, Replaces, Takes, TakesNone, TakesNote, TakesNoteLine, Wants, note_in, batch_bytes, operation_bytes, routes_waiting, tables_of}
 use Rattle.route_feed.specs.InnerReplies.{Closed, Closes, Torn, Written}
-use Rattle.route_feed.specs.InnerWaiting.{changes_of, waiting_change}
-use Rattle.route_feed.specs.Installing.{Installing, MayWant, Noted, after_note, batches, committing, event_of, noted_bytes, pending_past, printed_updates, route_to, update_lines}
+use Rattle.route_feed.specs.InnerWaiting.{changes_of}
+use Rattle.route_feed.specs.Installing.{Installing, MayWant, batches, committing, event_of, noted_bytes, pending_past, printed_updates, route_to, update_lines}
 use Rattle.route_feed.specs.Streams.{Change, change_of, closes, done_or, is_done, pending_after}
 use Rattle.route_feed.specs.Replies.{reply_line}
 use Rattle.route_feed.proofs.Batching.{Closes-batch, Torn-batch}
@@ -194,10 +194,13 @@ module _ {W : Type 0} (contents : W → Option (List ℕ)) where
       go (Ok done) g e =
           (L, Takes-of (kept_at M cs) c (N.Reply (Close Done)) L old new (Sync (map route_to cs) L ∷ []) synced (is_least g.1, tt) (e ∙ ap (λ (s : Installing). record { tables = s.tables; pending = [] }) g.0) (subst (Closed contents 1 old new) text g.2))
       go (Err Why.Memory) g e = subst (λ w. Wants contents (kept_at M cs) (N.Reply (Close Done)) old w) (sym g) (Wants-nothing (kept_at M cs) (N.Reply (Close Done)) old (inr (refl, omega (arith, many))))
-      go (Err Why.Write) g e = (L, record {
-        fit = subst (AllFit (record { table = M; installed = M; kept = true })) (sym synced) (is_least g.0, tt);
-        torn = subst (Torn contents old new) (text ∙ ap (λ es. printed_updates (update_lines (record { table = M; installed = M; kept = true }) es)) (sym synced)) g.1;
-      })
+      go (Err Why.Write) g e = (
+        L,
+        record {
+          fit = subst (AllFit (record { table = M; installed = M; kept = true })) (sym synced) (is_least g.0, tt);
+          torn = subst (Torn contents old new) (text ∙ ap (λ es. printed_updates (update_lines (record { table = M; installed = M; kept = true }) es)) (sym synced)) g.1;
+        },
+      )
       go (Err Why.Read) g e = absurd g
       go (Err Why.Line) g e = absurd g
 

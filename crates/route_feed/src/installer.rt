@@ -232,11 +232,7 @@ impl Installer {
     }
 
     /// Takes a reply line.
-    fn reply<W: Write>(
-        &mut self,
-        line: Reply,
-        writer: &mut Counted<W>,
-    ) -> Result<(), RunError>
+    fn reply<W: Write>(&mut self, line: Reply, writer: &mut Counted<W>) -> Result<(), RunError>
         requires { CanCount writer.old }
         ensures { TakesNote W.contents self.old (Note.Reply line) writer.old result self.new writer.new }
     {

@@ -59,10 +59,7 @@ pub(crate) const GIVEN: [(&[u8], &[u8]); 14] = [
 
 /// What has a line that is none, or that comes too late, and what is written of the lines before it.
 const STOPPED: [(&[u8], &[u8]); 6] = [
-    (
-        b"sync\nhave 10.0.0.0/8 1\nsync\n",
-        b"ok\n",
-    ),
+    (b"sync\nhave 10.0.0.0/8 1\nsync\n", b"ok\n"),
     (
         b"sync\nset 10.0.0.0/8 1\nok\nhave 10.0.0.0/8\n",
         b"ok\ninstall 10.0.0.0/8 1\nok\n",

@@ -1,12 +1,7 @@
-use Rattle.std.proofs.Common.{◌≡◌, ◌<◌, length, take, ap, subst, arith}
-use Rattle.std.proofs.lemmas.List.{take_all}
+use Rattle.std.proofs.Common.{◌<◌, length, arith}
 use Rattle.std.proofs.lemmas.Result.{err_from_is_err_and}
-use Rattle.route_laws.specs.Batches.{batch, painted_all}
 use Rattle.route_laws.specs.Networks.{routes_of}
-use Rattle.route_feed.specs.InnerInstalling.{operation_bytes, routes_waiting}
-use Rattle.route_feed.specs.InnerReplies.{Written}
 use Rattle.route_feed.proofs.Batching.{next_begun, next_painted, next_torn, next_written}
-use Rattle.route_feed.proofs.Written.{Written-nil}
 use Rattle.route_feed.proofs.installer.write_changes.Goals as goal
 
 pub write_operations-requires : goal.write_operations-requires
