@@ -1,5 +1,5 @@
 -- Operations of changes, written one change after another.
-use Rattle.std.proofs.Common.{◌≡◌, ℕ, ◌+◌, ◌<◌, List, [], ◌∷◌, ◌++◌, length, map, take, drop, slice_index_or, Option, Result, Ok, Err, refl, sym, ap, ◌∙◌, subst, append_assoc, append-nil, take-append-drop, arith}
+use Rattle.std.proofs.Common.{◌≡◌, ℕ, ◌+◌, ◌<◌, List, [], ◌∷◌, ◌++◌, length, map, take, drop, slice_index_or, Option, Result, Ok, Err, refl, sym, ap, ◌∙◌, subst, append_assoc, append-nil, take-append-drop}
 use Rattle.std.proofs.lemmas.Grind.{flat_map-append}
 use Rattle.std.proofs.lemmas.List.{map-append}
 use Rattle.route_laws.specs.Batches.{batch, painted, painted_all}
@@ -19,7 +19,7 @@ use Rattle.route_feed.specs.declared.error.RunError.{RunError}
 use Rattle.route_feed.specs.declared.error.RunError.TheVariants as Why
 use Rattle.route_feed.specs.declared.follower.Waiting.{Waiting}
 use Rattle.route_feed.specs.InnerInstalling.{Begun, GivesChanges, WritesChanges, batch_bytes, operation_bytes, routes_waiting, route_waiting, update_line}
-use Rattle.route_feed.specs.InnerReplies.{Closed, Closes, Torn, Written}
+use Rattle.route_feed.specs.InnerReplies.{Closes, Torn, Written}
 use Rattle.route_feed.specs.Installing.{printed_updates, update_for}
 use Rattle.route_feed.specs.Replies.{reply_line}
 use Rattle.route_feed.proofs.Adding.{before_place}

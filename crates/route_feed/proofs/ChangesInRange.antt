@@ -1,13 +1,11 @@
 -- The changes and the routes of notes are of blocks, and their hops are in range.
-use Rattle.std.proofs.Common.{◌≡◌, ℕ, inl, inr, ⊎_elim, List, [], ◌∷◌, ◌++◌, map, Option, None, Some, refl, sym, ap, ◌∙◌, subst, arith}
+use Rattle.std.proofs.Common.{◌≡◌, ℕ, ⊎_elim, List, [], ◌∷◌, ◌++◌, map, Option, None, Some, sym, subst, arith}
 use Rattle.std.specs.Option.{option_to_list}
 use Rattle.ipnet_addr.proofs.Members.{In}
 use Rattle.ipnet_addr.proofs.Ascending.{All-from_In}
 use Rattle.ipnet_blocks.specs.Blocks.{IsBlock}
 use Rattle.ipnet.specs.IpNets.{block}
-use Rattle.ipnet.specs.declared.ip_net.IpNet.{IpNet}
 use Rattle.route_choices.specs.Hops.{IsHop}
-use Rattle.route_choices.specs.declared.hop.Hop.{Hop}
 use Rattle.route_laws.specs.Batches.{AreChanges}
 use Rattle.route_laws.specs.InnerHops.{hop_from}
 use Rattle.route_laws.specs.Tables.{Route}
@@ -17,7 +15,6 @@ use Rattle.route_lines.specs.Texts.{IsNote}
 use Rattle.route_lines.specs.declared.note.Note.{Note}
 use Rattle.route_lines.specs.declared.note.Note.TheVariants as N
 use Rattle.route_lines.specs.declared.reply.Closing.{Closing}
-use Rattle.route_lines.specs.declared.reply.Reply.{Reply}
 use Rattle.route_lines.specs.declared.reply.Reply.TheVariants as R
 use Rattle.route_lines.proofs.Spells.{note_found}
 use Rattle.route_feed.specs.Installing.{pending_past, route_to}

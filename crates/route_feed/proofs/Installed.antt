@@ -2,12 +2,10 @@
 use Rattle.std.proofs.Common.{◌≡◌, ℕ, zero, suc, ◌+◌, ◌<◌, inl, inr, ⊎_elim, Bool, true, false, nat_lt, ◌&&◌, cond, List, [], ◌∷◌, ◌++◌, length, map, IfSome, Option, None, Some, Result, Ok, Err, refl, sym, ap, ◌∙◌, subst, append_assoc, append-nil, arith}
 use Rattle.std.specs.Prelude.{MatchOption, OnOk}
 use Rattle.std.specs.Io.KnownBytes.{Appends, Consumes}
-use Rattle.std.proofs.KnownBytes.{Appends-nil, Appends-trans, Consumes-whole}
+use Rattle.std.proofs.KnownBytes.{Appends-trans, Consumes-whole}
 use Rattle.std.proofs.lemmas.Bool.Decides.{nat_tests}
 use Rattle.std.proofs.lemmas.Grind.{flat_map-append}
-use Rattle.std.proofs.lemmas.List.{map-append}
-use Rattle.route_laws.specs.Batches.{AreChanges}
-use Rattle.route_laws.specs.Runs.{Event, Have, Told, Sync, Installer, MayAllCome, after_event, after_events, start}
+use Rattle.route_laws.specs.Runs.{Event, Told, Sync, Installer, MayAllCome, after_event, after_events, start}
 use Rattle.route_laws.specs.Tables.{Route}
 use Rattle.route_lines.specs.Bytes.{lines}
 use Rattle.route_lines.specs.InnerPhrase.{Gives}
@@ -24,11 +22,11 @@ use Rattle.route_lines.proofs.Spells.{note_found}
 use Rattle.route_feed.specs.declared.counted.Counted.{Counted}
 use Rattle.route_feed.specs.declared.error.RunError.{RunError}
 use Rattle.route_feed.specs.declared.error.RunError.TheVariants as Why
-use Rattle.route_feed.specs.Counted.{inner, faults_of, flushes_of, more_by, one_more, waits_after, FailedLast, Flushed}
-use Rattle.route_feed.specs.InnerInstalling.{AllFit, IsFit, Fails, Takes, TakesNone, TakesNote, TakesNoteLine, Wants, note_in, update_line}
-use Rattle.route_feed.specs.InnerReplies.{Closed, Torn}
+use Rattle.route_feed.specs.Counted.{inner, faults_of, flushes_of, more_by, one_more, waits_after}
+use Rattle.route_feed.specs.InnerInstalling.{AllFit, Fails, Takes, TakesNone, TakesNote, TakesNoteLine, Wants, note_in, update_line}
+use Rattle.route_feed.specs.InnerReplies.{Closed}
 use Rattle.route_feed.specs.InnerRun.{Runs, TakesAll}
-use Rattle.route_feed.specs.Installing.{AreNotes, Installing, IsUnfit, Noted, after_note, after_notes, batches, batches_given, begin, committing, event_lines, event_of, events, installed_bytes, noted_bytes, printed_updates, route_to, update_lines}
+use Rattle.route_feed.specs.Installing.{AreNotes, Installing, IsUnfit, Noted, after_note, after_notes, batches, begin, committing, event_lines, event_of, events, installed_bytes, printed_updates, route_to, update_lines}
 use Rattle.route_feed.specs.Installs.{AppendsInstalled, Gives as GivesOutput, GivesThen, InstallEnds, Installs, Meets}
 use Rattle.route_feed.specs.Streams.{Change, closes, done_or}
 use Rattle.route_feed.proofs.ChangesInRange.{AreInRange, NoteInRange, are_changes, note_in_range, past_in_range}
@@ -394,6 +392,10 @@ module _ {R W : Type 0} (remaining : R → Option (List ℕ)) (contents : W → 
     -- that did
     pub install_ended : (left : Rest) → Runs (TakesNoteLine contents) remaining a from old (Ok left) b to new → InstallEnds remaining contents from to old new (Ok tt)
     install_ended left x = let all = all_are x.bytes x.read x.ends.0 in (all.0, x.ends.2, x.ends.3, all.1)
+
+-- no memory was found for the start
+pub install_none : {R W : Type 0} (remaining : R → Option (List ℕ)) (contents : W → Option (List ℕ)) (from : Counted R) (old : Counted W) (e : RunError) → e ≡ Why.Memory → InstallEnds remaining contents from from old old (Err e)
+install_none remaining contents from old e is = subst (λ k. InstallEnds remaining contents from from old old (Err k)) (sym is) (inl (refl, refl))
 
 -- where the reader tells its bytes
 pub install_known : {R W : Type 0} (remaining : R → Option (List ℕ)) (contents : W → Option (List ℕ)) (from to : Counted R) (old new : Counted W) (r : Result Unit RunError) → InstallEnds remaining contents from to old new r

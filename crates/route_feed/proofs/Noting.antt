@@ -1,6 +1,6 @@
 -- What an installer does at a note.
-use Rattle.std.proofs.Common.{◌≡◌, ℕ, ◌<◌, ◌≤◌, inl, inr, Bool, true, false, nat_lt, cond, List, [], ◌∷◌, ◌++◌, length, map, Option, None, Some, Result, Ok, Err, refl, sym, ap, ◌∙◌, subst, append-nil, arith}
-use Rattle.std.specs.Prelude.{IfErr, IsSome, OnErr, OnOk, is_some, not}
+use Rattle.std.proofs.Common.{◌≡◌, ℕ, ◌<◌, ◌≤◌, inl, inr, true, false, nat_lt, cond, List, [], ◌∷◌, ◌++◌, length, map, Option, None, Some, Result, Ok, Err, refl, sym, ap, ◌∙◌, subst, append-nil, arith}
+use Rattle.std.specs.Prelude.{IfErr, IsSome, MatchOption, OnErr, OnOk, is_some, not}
 use Rattle.std.specs.Option.{option_to_list}
 use Rattle.std.proofs.lemmas.Bool.Decides.{nat_tests}
 use Rattle.ipnet.specs.declared.ip_net.IpNet.{IpNet}
@@ -15,8 +15,15 @@ use Rattle.route_laws.specs.InnerHops.{hop_from}
 use Rattle.route_laws.specs.LeastTables.{IsLeast}
 use Rattle.route_laws.specs.Networks.{Stored, routes_of}
 use Rattle.route_laws.specs.Operations.{Operation, between}
-use Rattle.route_laws.specs.Runs.{Event, Have, Told, Sync, Installer, after_event, after_events, gives}
+use Rattle.route_laws.specs.Runs.{Event, Have, Told, Sync, Installer, after_event, after_events}
 use Rattle.route_laws.specs.Tables.{Route, IsTable, hop_at, route_of}
+use Rattle.route_lines.specs.InnerPhrase.{Gives}
+use Rattle.route_lines.specs.Spelled.{note_of}
+use Rattle.route_lines.specs.Texts.{IsNote}
+use Rattle.route_lines.specs.declared.cutter.Line.{Line}
+use Rattle.route_lines.proofs.Notes.{one_note}
+use Rattle.route_lines.proofs.Spells.{note_found}
+use Rattle.route_feed.specs.Counted.{CanCount}
 use Rattle.route_lines.specs.declared.note.Note.{Note}
 use Rattle.route_lines.specs.declared.note.Note.TheVariants as N
 use Rattle.route_lines.specs.declared.reply.Closing.{Closing}
@@ -27,10 +34,10 @@ use Rattle.route_feed.specs.declared.counted.Counted.{Counted}
 use Rattle.route_feed.specs.declared.error.RunError.{RunError}
 use Rattle.route_feed.specs.declared.error.RunError.TheVariants as Why
 use Rattle.route_feed.specs.declared.follower.Waiting.{Waiting}
-use Rattle.route_feed.specs.InnerInstalling.{AllFit, Begun, GivesChanges, Has, IsFit, Replaces, Takes, TakesNote, Wants, batch_bytes, operation_bytes, routes_waiting, route_waiting, tables_of}
+use Rattle.route_feed.specs.InnerInstalling.{AllFit, GivesChanges, Has, Replaces, Takes, TakesNone, TakesNote, TakesNoteLine, Wants, note_in, batch_bytes, operation_bytes, routes_waiting, tables_of}
 use Rattle.route_feed.specs.InnerReplies.{Closed, Closes, Torn, Written}
-use Rattle.route_feed.specs.InnerWaiting.{changes_of, waiting_change}
-use Rattle.route_feed.specs.Installing.{Installing, MayWant, Noted, after_note, batches, committing, event_of, noted_bytes, pending_past, printed_updates, route_to, update_lines}
+use Rattle.route_feed.specs.InnerWaiting.{changes_of}
+use Rattle.route_feed.specs.Installing.{Installing, MayWant, batches, committing, event_of, noted_bytes, pending_past, printed_updates, route_to, update_lines}
 use Rattle.route_feed.specs.Streams.{Change, change_of, closes, done_or, is_done, pending_after}
 use Rattle.route_feed.specs.Replies.{reply_line}
 use Rattle.route_feed.proofs.Batching.{Closes-batch, Torn-batch}
@@ -187,10 +194,13 @@ module _ {W : Type 0} (contents : W → Option (List ℕ)) where
       go (Ok done) g e =
           (L, Takes-of (kept_at M cs) c (N.Reply (Close Done)) L old new (Sync (map route_to cs) L ∷ []) synced (is_least g.1, tt) (e ∙ ap (λ (s : Installing). record { tables = s.tables; pending = [] }) g.0) (subst (Closed contents 1 old new) text g.2))
       go (Err Why.Memory) g e = subst (λ w. Wants contents (kept_at M cs) (N.Reply (Close Done)) old w) (sym g) (Wants-nothing (kept_at M cs) (N.Reply (Close Done)) old (inr (refl, omega (arith, many))))
-      go (Err Why.Write) g e = (L, record {
-        fit = subst (AllFit (record { table = M; installed = M; kept = true })) (sym synced) (is_least g.0, tt);
-        torn = subst (Torn contents old new) (text ∙ ap (λ es. printed_updates (update_lines (record { table = M; installed = M; kept = true }) es)) (sym synced)) g.1;
-      })
+      go (Err Why.Write) g e = (
+        L,
+        record {
+          fit = subst (AllFit (record { table = M; installed = M; kept = true })) (sym synced) (is_least g.0, tt);
+          torn = subst (Torn contents old new) (text ∙ ap (λ es. printed_updates (update_lines (record { table = M; installed = M; kept = true }) es)) (sym synced)) g.1;
+        },
+      )
       go (Err Why.Read) g e = absurd g
       go (Err Why.Line) g e = absurd g
 
@@ -207,7 +217,7 @@ module _ {W : Type 0} (contents : W → Option (List ℕ)) where
     pub replaces_torn : (e : RunError) → (e ≡ Why.Write) × Torn contents old new (operation_bytes os) → Replaces contents a L old (Err e) b new
     replaces_torn e q = subst (λ k. Replaces contents a L old (Err k) b new) (sym q.0) (subst IsTable installed m, subst (λ ps. Torn contents old new (batch_bytes ps)) same_batch (Torn-batch contents old new os q.1))
 
-    pub replaces_closing : (e : RunError) → Written contents old mid (operation_bytes os) → Closes contents 1 mid new (Err {Unit {0}} {RunError} e) (reply_line (Close Done)) → Replaces contents a L old (Err e) b new
+    pub replaces_closing : (e : RunError) → Written contents old mid (operation_bytes os) → Closes contents {T = Unit {0}} 1 mid new (Err e) (reply_line (Close Done)) → Replaces contents a L old (Err e) b new
     replaces_closing e w q =
         let t = Closes-batch contents old mid new (Err e) os w q in
         subst (λ k. Replaces contents a L old (Err k) b new) (sym t.0) (subst IsTable installed m, subst (λ ps. Torn contents old new (batch_bytes ps)) same_batch t.1)
@@ -260,7 +270,51 @@ module _ {W : Type 0} (contents : W → Option (List ℕ)) where
   -- a change that was kept
   pub keep_of : (a b : Installing) (line : Reply) (c : Change) (old : Counted W) (r : Result Unit RunError) → closes line ≡ None → change_of line ≡ Some c → b.tables ≡ a.tables → OnOk r (b.pending ≡ a.pending ++ c ∷ []) → IfErr r (λ e. e ≡ Why.Memory)
       → TakesNote contents a (N.Reply line) old r b old
-  keep_of a b line c old (Ok done) open is tables pending memory =
-      taken_quiet contents a b line old (ap (λ o. done_or o false) open)
-      (λ i. record { tables = tables i; pending = (pending ∙ sym (ap (λ o. pending_after a.pending o (change_of line)) open ∙ ap (λ o. a.pending ++ option_to_list o) is)) i })
-  keep_of a b line c old (Err e) open is tables pending memory = nothing_wanted contents a b (N.Reply line) old e memory (inl (subst IsSome (sym is) refl))
+  keep_of a b line c old (Ok done) shut is tables pending memory =
+      taken_quiet contents a b line old (ap (λ o. done_or o false) shut)
+      (λ i. record { tables = tables i; pending = (pending ∙ sym (ap (λ o. pending_after a.pending o (change_of line)) shut ∙ ap (λ o. a.pending ++ option_to_list o) is)) i })
+  keep_of a b line c old (Err e) shut is tables pending memory = nothing_wanted contents a b (N.Reply line) old e memory (inl (subst IsSome (sym is) refl))
+
+-- ---- lines
+
+-- the note that was read
+pub note_is : (text : List ℕ) (note : Note) → IsNote text note → note_of text ≡ Some note
+note_is text note h = go (note_of text) (note_found text)
+  where
+    go : (o : Option Note) → Gives IsNote text o → o ≡ Some note
+    go None none = absurd (none note h)
+    go (Some other) found = ap Some (one_note text other note found h)
+
+pub note_none : (text : List ℕ) → ((note : Note) → IsNote text note → ⊥) → note_of text ≡ None
+note_none text none = go (note_of text) (note_found text)
+  where
+    go : (o : Option Note) → Gives IsNote text o → o ≡ None
+    go None h = refl
+    go (Some note) h = absurd (none note h)
+
+module _ {W : Type 0} (contents : W → Option (List ℕ)) (a b : Installing) (line : Line) (old new : Counted W) (r : Result Unit RunError) where
+  pub line_none : note_in line ≡ None → TakesNone contents old r new → TakesNoteLine contents a line old r b new
+  line_none e t = subst (λ o. MatchOption o (TakesNone contents old r new) (λ note. TakesNote contents a note old r b new)) (sym e) t
+
+  pub line_some : (note : Note) → note_in line ≡ Some note → TakesNote contents a note old r b new → TakesNoteLine contents a line old r b new
+  line_some note e t = subst (λ o. MatchOption o (TakesNone contents old r new) (λ n. TakesNote contents a n old r b new)) (sym e) t
+
+  -- another fault can be counted after a line
+  pub line_counts : TakesNoteLine contents a line old r b new → CanCount old → OnOk r (CanCount new)
+  line_counts t h = go r (note_in line) t
+    where
+      go : (k : Result Unit RunError) (o : Option Note) → MatchOption o (TakesNone contents old k new) (λ note. TakesNote contents a note old k b new) → OnOk k (CanCount new)
+      go (Ok done) None m = absurd (let e = m.0 in cc)
+      go (Ok done) (Some note) m = rw m.1.closed.faults h
+      go (Err e) o m = tt
+
+-- the tables after changes that were carried out unseen
+pub unseen_tables : (a : Installing) (table T : List Stored) (before : Option (List Stored)) (ws vs : List Waiting) → record { tables = tables_of table before; pending = changes_of ws } ≡ a → a.tables.kept ≡ false → vs ≡ ws
+    → routes_of T ≡ painted_all (routes_of table) (routes_waiting vs) → tables_of T before ≡ record { table = painted_all a.tables.table (map route_to a.pending); installed = a.tables.installed; kept = false }
+unseen_tables a table T None ws vs is k same e = let f = ap (λ s. s.tables.kept) is ∙ k in absurd (cc)
+unseen_tables a table T (Some before) ws vs is k same e = λ i. record { table = painted i; installed = ap (λ (s : Installing). s.tables.installed) is i; kept = false }
+  where
+    painted : routes_of T ≡ painted_all a.tables.table (map route_to a.pending)
+    painted =
+        e ∙ ap (λ l. painted_all (routes_of table) (routes_waiting l)) same ∙ sym (ap (painted_all (routes_of table)) (routes_are ws))
+        ∙ ap (λ (s : Installing). painted_all s.tables.table (map route_to s.pending)) is

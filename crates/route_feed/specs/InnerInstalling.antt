@@ -1,22 +1,18 @@
 -- What an installer does with the lines of its input.
 use Rattle.std.specs.Prelude.{◌≡◌, ℕ, true, false, not, List, [], ◌∷◌, ◌++◌, map, Option, None, Some, is_some, unwrap_or, MatchOption, Result, Ok, Err, codes}
-use Rattle.std.specs.Io.KnownBytes.{Appends}
 use Rattle.route_lines.specs.Spelled.{note_of}
 use Rattle.route_lines.specs.Texts.{update_text}
 use Rattle.route_lines.specs.declared.cutter.Line.{Line}
 use Rattle.route_lines.specs.declared.cutter.Line.TheVariants.{Text, TooLong}
 use Rattle.route_lines.specs.declared.note.Note.{Note}
-use Rattle.route_lines.specs.declared.note.Note.TheVariants as N
 use Rattle.route_lines.specs.declared.update.Update.{Update}
 use Rattle.route_lines.specs.declared.update.Update.TheVariants as U
 use Rattle.route_choices.specs.Choices.{default_preference}
-use Rattle.route_choices.specs.declared.hop.Hop.{Hop}
-use Rattle.ipnet.specs.declared.ip_net.IpNet.{IpNet}
 use Rattle.route_laws.specs.Batches.{AreChanges, batch, painted_all}
 use Rattle.route_laws.specs.LeastTables.{IsLeast}
 use Rattle.route_laws.specs.Networks.{Stored, routes_of}
 use Rattle.route_laws.specs.Operations.{Operation, between}
-use Rattle.route_laws.specs.Runs.{Event, Have, Told, Sync, Installer, after_event, after_events}
+use Rattle.route_laws.specs.Runs.{Event, Have, Told, Sync, Installer, after_event}
 use Rattle.route_laws.specs.Tables.{Route, IsTable, hop_at, route_of}
 use Rattle.route_feed.specs.declared.counted.Counted.{Counted}
 use Rattle.route_feed.specs.declared.error.RunError.{RunError}

@@ -21,7 +21,7 @@ use crate::follower::Waiting;
 use crate::updates::write_operations;
 use crate::writing::close;
 use ipnet::IpNet;
-use route_lines::{Closing, Reply};
+use route_lines::{Closing, Note, Reply};
 use route_table::{Hop, HopTable};
 use std::alloc::Global;
 use std::io::Write;
@@ -174,8 +174,24 @@ impl Installer {
         }
     }
 
+    /// Takes a note.
+    pub(crate) fn take_note<W: Write>(
+        &mut self,
+        note: Note,
+        writer: &mut Counted<W>,
+    ) -> Result<(), RunError>
+        requires { CanCount writer.old }
+        ensures { TakesNote W.contents self.old note writer.old result self.new writer.new }
+    {
+        match note {
+            Note::Have { net, hop } => self.have(net, hop),
+            Note::Sync => self.sync(writer),
+            Note::Reply(line) => self.reply(line, writer),
+        }
+    }
+
     /// Takes a route that is installed already.
-    pub(crate) fn have(&mut self, net: IpNet, hop: Hop) -> Result<(), RunError>
+    fn have(&mut self, net: IpNet, hop: Hop) -> Result<(), RunError>
         ensures { Has self.old (route_of net hop default_preference) result self.new }
     {
         let Some(before) = &mut self.before else {
@@ -207,7 +223,7 @@ impl Installer {
     }
 
     /// Brings what is installed to a least table of the hops that hold.
-    pub(crate) fn sync<W: Write>(&mut self, writer: &mut Counted<W>) -> Result<(), RunError>
+    fn sync<W: Write>(&mut self, writer: &mut Counted<W>) -> Result<(), RunError>
         requires { CanCount writer.old }
         ensures { TakesNote W.contents self.old Note.Sync writer.old result self.new writer.new }
     {
@@ -216,11 +232,7 @@ impl Installer {
     }
 
     /// Takes a reply line.
-    pub(crate) fn reply<W: Write>(
-        &mut self,
-        line: Reply,
-        writer: &mut Counted<W>,
-    ) -> Result<(), RunError>
+    fn reply<W: Write>(&mut self, line: Reply, writer: &mut Counted<W>) -> Result<(), RunError>
         requires { CanCount writer.old }
         ensures { TakesNote W.contents self.old (Note.Reply line) writer.old result self.new writer.new }
     {

@@ -23,12 +23,10 @@ impl<W: Write> Sink<W> for Installer {
         let Some(text) = text else {
             return Err(RunError::Line);
         };
-        match Note::read(text) {
-            Ok(Note::Have { net, hop }) => self.have(net, hop),
-            Ok(Note::Sync) => self.sync(writer),
-            Ok(Note::Reply(line)) => self.reply(line, writer),
-            Err(_) => Err(RunError::Line),
-        }
+        let Ok(note) = Note::read(text) else {
+            return Err(RunError::Line);
+        };
+        self.take_note(note, writer)
     }
 }
 

@@ -1,12 +1,7 @@
-use Rattle.std.proofs.Common.{◌≡◌, ◌<◌, length, take, ap, subst, arith}
-use Rattle.std.proofs.lemmas.List.{take_all}
+use Rattle.std.proofs.Common.{◌<◌, length, arith}
 use Rattle.std.proofs.lemmas.Result.{err_from_is_err_and}
-use Rattle.route_laws.specs.Batches.{batch, painted_all}
 use Rattle.route_laws.specs.Networks.{routes_of}
-use Rattle.route_feed.specs.InnerInstalling.{operation_bytes, routes_waiting}
-use Rattle.route_feed.specs.InnerReplies.{Written}
 use Rattle.route_feed.proofs.Batching.{next_begun, next_painted, next_torn, next_written}
-use Rattle.route_feed.proofs.Written.{Written-nil}
 use Rattle.route_feed.proofs.installer.write_changes.Goals as goal
 
 pub write_operations-requires : goal.write_operations-requires
@@ -29,7 +24,7 @@ returns-in_err-write_operations g c =
     let inv = c.loop-change.invariant in
     let i = c.loop-change.change-index in
     let within : i < length c.args.changes.now = omega arith in
-    let p = err_from_is_err_and c.from_residual-in_err-write_operations.result c.from_residual-in_err-write_operations.ensures.1 in
+    let p = err_from_is_err_and c.from_residual.result c.from_residual.ensures.1 in
     rw (p.1, p.2) (next_torn (routes_of c.args.table.now) c.args.changes.now i c.change-item.result within c.change-item.is g.W.Write.contents (routes_of c.loop-change.table) inv.painted c.args.writer.now c.loop-change.writer c.write_operations.new.writer inv.written c.repaint.result c.repaint.ensures.operations _ _ c.in_err-write_operations.ensures)
 
 pub returns-in_err-paint : goal.returns-in_err-paint

@@ -1,4 +1,3 @@
-use Rattle.std.proofs.Common.{subst}
 use Rattle.std.proofs.lemmas.Result.{err_from_is_err_and}
 use Rattle.route_feed.proofs.Batching.{Wrote-all, Wrote-more, Wrote-nil, Wrote-torn}
 use Rattle.route_feed.proofs.updates.write_operations.Goals as goal
