@@ -108,7 +108,7 @@ commits (l ∷ body) closing p o =
 
 -- ---- the reply lines of an output
 
-reread_turn : (t : turn.Turn) (ls : List Reply) → reread (turn.turn_lines t ++ ls) ≡ reread t.body ++ Close t.closing ∷ reread ls
+pub reread_turn : (t : turn.Turn) (ls : List Reply) → reread (turn.turn_lines t ++ ls) ≡ reread t.body ++ Close t.closing ∷ reread ls
 reread_turn t ls =
     ap reread (append_assoc t.body (Close t.closing ∷ []) ls)
     ∙ filter_map-append (λ l. reply_of (reply_text l)) t.body (Close t.closing ∷ ls)
@@ -132,7 +132,7 @@ nothing_left (x ∷ p) q e = cc
 
 -- ---- the law
 
-followed : (M : List Stored) (commands : List (Option Command)) (r : List Bool) (p q : List Reply) → IsStoredTable M → AreInRange commands → p ++ q ≡ reread (replies M commands r)
+pub followed : (M : List Stored) (commands : List (Option Command)) (r : List Bool) (p q : List Reply) → IsStoredTable M → AreInRange commands → p ++ q ≡ reread (replies M commands r)
     → (x : Address) → IsAddress x → painted_over (hop_at (routes_of M) x) (committed p) x ≡ hop_at (routes_of (table_after M (take (closings p) commands) r)) x
 followed M [] r p q m h e x a =
     subst (λ l. painted_over (hop_at (routes_of M) x) (committed l) x ≡ hop_at (routes_of (table_after M (take (closings l) []) r)) x) (sym (nothing_left p q e)) refl
@@ -179,21 +179,21 @@ commands_of bytes = whole_commands bytes ++ at_end (rest bytes)
 pub all_in_range : (bytes : List ℕ) → AreInRange (commands_of bytes)
 all_in_range bytes c i = ⊎_elim (lines_in_range (lines_in bytes) c) (end_in_range (rest bytes) c) (In-cases c (whole_commands bytes) (at_end (rest bytes)) i)
 
--- the replies in a beginning are the first of those that are read of the output
-first_replies : (bytes front back : List ℕ) (refusals : List Bool) → output bytes refusals ≡ front ++ back
-    → (later : List Reply) × (replies_in front ++ later ≡ reread (replies [] (commands_of bytes) refusals))
+-- what is read of the output
+pub output_read : (bytes : List ℕ) (refusals : List Bool) → replies_in (output bytes refusals) ≡ reread (replies [] (commands_of bytes) refusals)
+output_read bytes refusals = read_again (replies [] (commands_of bytes) refusals) (replies_clean [] (commands_of bytes) refusals empty_is_table (all_in_range bytes))
+
+-- the replies in a beginning are the first of those in the output
+pub first_replies : (bytes front back : List ℕ) (refusals : List Bool) → output bytes refusals ≡ front ++ back
+    → (later : List Reply) × (replies_in front ++ later ≡ replies_in (output bytes refusals))
 first_replies bytes front back refusals e =
-    let ls = replies [] (commands_of bytes) refusals in
-    let (later, first) = first_lines front back in (
-      filter_map reply_of later,
-      sym (filter_map-append reply_of (lines front) later) ∙ ap (filter_map reply_of) (sym first) ∙ ap replies_in (sym e)
-          ∙ read_again ls (replies_clean [] (commands_of bytes) refusals empty_is_table (all_in_range bytes)),
-    )
+    let (later, first) = first_lines front back in
+    (filter_map reply_of later, sym (filter_map-append reply_of (lines front) later) ∙ ap (filter_map reply_of) (sym first) ∙ ap replies_in (sym e))
 
 pub beginnings_agree : BeginningsAgree
 beginnings_agree bytes front back refusals e x a =
     let (later, split) = first_replies bytes front back refusals e in
-    followed [] (commands_of bytes) refusals (replies_in front) later empty_is_table (all_in_range bytes) split x a
+    followed [] (commands_of bytes) refusals (replies_in front) later empty_is_table (all_in_range bytes) (split ∙ output_read bytes refusals) x a
 
 pub flat_lists_agree : FlatListsAgree
 flat_lists_agree bytes front back refusals e =

@@ -12,7 +12,7 @@ use Rattle.route_feed.specs.LeadsLine.{LineEnds, ReplyEnds}
 module _ {W : Type 0} (contents : W → Option (List ℕ)) (old new : Counted W) where
   reply_ends : (r : Result Unit RunError) (text : List ℕ) → Closes contents 1 old new r text → ReplyEnds contents text old new r
   reply_ends (Ok done) text w = (w.appended, w.flushed, w.faults)
-  reply_ends (Err e) text w = (w.0, record { front = w.1.front; back = w.1.back; is_front = w.1.is_front; written = w.1.appended; failed = w.1.failed })
+  reply_ends (Err e) text w = (w.0, record { front = w.1.front; back = w.1.back; is_front = w.1.is_front; written = w.1.appended; failed = w.1.failed; flushes = w.1.flushes })
 
   pub line_ends : (M N : List Stored) (l : Line) (line : List ℕ) → l ≡ line_of line → (r : Result Unit RunError) → Answers contents M N (command_in l) old new r
       → LineEnds contents M N line old new r

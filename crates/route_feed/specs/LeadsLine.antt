@@ -7,18 +7,19 @@ use Rattle.route_feed.specs.declared.counted.Counted.{Counted}
 use Rattle.route_feed.specs.declared.error.RunError.{RunError}
 use Rattle.route_feed.specs.declared.error.RunError.TheVariants as Why
 use Rattle.route_feed.specs.Commands.{command_in}
-use Rattle.route_feed.specs.Counted.{inner, faults_of, FailedLast, Flushed}
+use Rattle.route_feed.specs.Counted.{inner, faults_of, flushes_of, FailedLast, Flushed}
 use Rattle.route_feed.specs.Replies.{printed}
 use Rattle.route_feed.specs.Steps.{step, turn_lines}
 
 module _ {W : Type 0} (contents : W → Option (List ℕ)) where
-  -- a beginning of the reply was written, and then the writer failed, in its last call
+  -- a beginning of the reply was written, nothing of it was flushed, and then the writer failed, in its last call
   pub record ReplyPart (reply : List ℕ) (old new : Counted W) : Type 0 where
     pub front : List ℕ
     pub back : List ℕ
     pub is_front : reply ≡ front ++ back
     pub written : Appends (contents (inner old)) (contents (inner new)) front
     pub failed : FailedLast old new
+    pub flushes : flushes_of new ≡ flushes_of old
 
   -- at `Ok` the reply was written, the writer was flushed once, after the whole, and nothing failed; at `Write` a beginning of it
   -- was written; and it ends in no other error

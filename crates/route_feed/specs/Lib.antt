@@ -10,9 +10,13 @@ pub mod Following
 pub mod Follows
 pub mod AddLines
 pub mod Shortens
+pub mod Installing
+pub mod Installs
 pub mod Laws
+pub mod InstallLaws
 pub mod InnerReplies
 pub mod InnerRun
 pub mod InnerWaiting
 pub mod InnerFollowing
 pub mod InnerReaching
+pub mod InnerInstalling

@@ -37,9 +37,9 @@ pub enum FollowError {
 
 /// A change that waits for the line that closes its reply.
 #[derive(Clone, Copy)]
-struct Waiting {
-    net: IpNet,
-    hop: Hop,
+pub(crate) struct Waiting {
+    pub net: IpNet,
+    pub hop: Hop,
 }
 
 /// The hops that the reply lines of a leader tell, in a table of its own.

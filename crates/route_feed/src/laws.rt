@@ -2,6 +2,7 @@
 ghost use Rattle.std.specs.Prelude.{◌≡◌, ◌↔◌, IsTrue};
 ghost use Rattle.route_feed.specs.declared.error.RunError.{RunError as AnyRunError};
 ghost use Rattle.route_feed.specs.declared.follower.FollowError.{FollowError as AnyFollowError};
+ghost use Rattle.route_feed.specs.InstallLaws.{BeginningsAreCarriedOut, BeginningsAreNotes, CutsAgree, InstalledAgrees, InstalledAtAllTimes, InstalledIsHitless, LargeRepliesAreLeast, LogsAreFirst, OperationsReach, OutputAgrees, OutputIsGiven, OutputReadsBack, SyncsAreLeast};
 ghost use Rattle.route_feed.specs.Laws.{AllAreAnswered, BeginningsAgree, BeginningsAreReplies, FlatListsAgree, LinesKeepHops, LinesRebuild, LinesStayLeast, NoHopsNoLines, OutputIsFollowed, RestartedAgree, SameFlatBytes, ShortenedAgree, ToldIsTable};
 
 use crate::error::RunError;
@@ -39,6 +40,37 @@ pub fn shortened()
     ensures nothing { NoHopsNoLines }
     ensures kept { LinesKeepHops }
     ensures least { LinesStayLeast }
+{}
+
+/// What stands installed where an installer reads the replies of a leader, with `have` and `sync` lines anywhere between
+/// them: the routes that the `have` lines tell, after all operations that are given. From the first `sync` on it has each
+/// address at the hop of the leader's table after as many commands as replies end among the lines. The operations that are given at
+/// a line make of what stood installed before it what stands installed after it, and each address turns at most once; so at
+/// each moment it has its hop of before the reply or that of after it. Right after a `sync`, and after a reply of more than
+/// 256 changes, no table with the hops that were told has fewer routes.
+pub fn installed()
+    ensures hops { InstalledAgrees }
+    ensures hitless { InstalledIsHitless }
+    ensures times { InstalledAtAllTimes }
+    ensures reaches { OperationsReach }
+    ensures least { SyncsAreLeast }
+    ensures large { LargeRepliesAreLeast }
+{}
+
+/// What an installer writes: the lines of these operations, and `ok` after those of each batch; they are read again as they
+/// were written. Each line of a leader is one that an installer reads. Where a log has the reply lines of any beginning of a
+/// leader's output, and a `sync`, whoever carries out the lines that the installer writes of it has each address at the hop of the
+/// leader's table after as many commands as replies end there. Of a beginning of them, cut at any byte after the first `ok`,
+/// each address has the hop of the leader's table before one of its commands, or after this one: one before which as many
+/// batches were given as lines there are `ok`.
+pub fn carried_out()
+    ensures lines { OutputIsGiven }
+    ensures read { OutputReadsBack }
+    ensures notes { BeginningsAreNotes }
+    ensures logs { LogsAreFirst }
+    ensures hops { OutputAgrees }
+    ensures operations { BeginningsAreCarriedOut }
+    ensures times { CutsAgree }
 {}
 
 /// `==` holds of one error alone; a clone of an error is the same, and cloning never fails.

@@ -20,7 +20,7 @@ use route_table::{DEFAULT_PREFERENCE, Hop};
 use std::io::Write;
 
 /// Writes all of the piece, or a beginning of it.
-fn write_piece<W: Write>(writer: &mut Counted<W>, piece: &[u8]) -> Result<(), RunError>
+pub fn write_piece<W: Write>(writer: &mut Counted<W>, piece: &[u8]) -> Result<(), RunError>
     requires { CanCount writer.old }
     ensures { Writes W.contents writer.old writer.new result piece.now }
 {

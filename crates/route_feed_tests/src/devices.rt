@@ -1,8 +1,9 @@
 //! Readers and writers by a script: a few bytes a call, and a fault at each call in turn.
 //!
 //! A scripted device counts its own calls, and would serve those after a fault.
+use crate::installing::GIVEN;
 use crate::streams::{LEAST, ROWS, STREAMS};
-use route_feed::{Counted, RunError, follow, lead, shorten};
+use route_feed::{Counted, RunError, follow, install, lead, shorten};
 use std::alloc::{AllocError, Global};
 use std::io;
 use std::io::{Read, Write};
@@ -15,6 +16,7 @@ enum Mode {
     Lead,
     Follow,
     Shorten,
+    Install,
 }
 
 /// What a call answers that fails.
@@ -150,6 +152,7 @@ fn run(rt: &impl Abort, alloc: Global, mode: Mode, reader: Given<'_>, writer: He
         Mode::Lead => lead(alloc, &mut reader, &mut writer),
         Mode::Follow => follow(alloc, &mut reader, &mut writer),
         Mode::Shorten => shorten(alloc, &mut reader, &mut writer),
+        Mode::Install => install(alloc, &mut reader, &mut writer),
     };
     assert_eq!(rt; reader.failing(), ended == Err(RunError::Read));
     assert_eq!(rt; writer.failing(), ended == Err(RunError::Write));
@@ -223,11 +226,12 @@ fn calls_until(calls: &[Option<u8>], flushes: usize) -> usize {
     calls.len()
 }
 
-/// What is led, what is followed, what is shortened, and all that is written of each.
-const CASES: [(Mode, &[(&[u8], &[u8])]); 3] = [
+/// What is led, what is followed, what is shortened, what is installed, and all that is written of each.
+const CASES: [(Mode, &[(&[u8], &[u8])]); 4] = [
     (Mode::Lead, &ROWS),
     (Mode::Follow, &STREAMS),
     (Mode::Shorten, &LEAST),
+    (Mode::Install, &GIVEN),
 ];
 
 /// What is tried: which run, what it is given, and the calls of its writer where nothing fails.
@@ -279,7 +283,7 @@ fn one_byte_a_call(rt: HostRuntime) -> Result<(), Fail> {
 
 /// What is cut, and fails at each call: each line of a reply and each closing line stands in it, and a least table with `drop`
 /// in both families, and one without a route.
-const TRIED: [(Mode, &[(&[u8], &[u8])]); 3] = [
+const TRIED: [(Mode, &[(&[u8], &[u8])]); 4] = [
     (
         Mode::Lead,
         &[
@@ -310,7 +314,38 @@ const TRIED: [(Mode, &[(&[u8], &[u8])]); 3] = [
             (b"set 10.0.0.0/8 1\nok\nunset 10.0.0.0/8\nok\n", b""),
         ],
     ),
+    (
+        Mode::Install,
+        &[(
+            b"have 10.0.0.0/9 1\nsync\nset 10.0.0.0/8 1\nok\nset 10.0.0.0/10 2\nunset ::1/128\nok\nset ::/0 2\nbad\nsync\nset 1",
+            b"remove 10.0.0.0/9\nok\ninstall 10.0.0.0/8 1\nok\ninstall 10.0.0.0/10 2\nok\nok\n",
+        )],
+    ),
 ];
+
+/// Whether the line is answered: by a leader each, by an installer, in what is tried here, each `ok` and `sync`.
+fn is_answered(mode: Mode, line: &[u8]) -> bool {
+    match mode {
+        Mode::Lead => true,
+        Mode::Install => line == b"ok".as_slice() || line == b"sync".as_slice(),
+        _ => false,
+    }
+}
+
+/// How many of the lines that end in the first bytes are answered.
+fn answered(mode: Mode, input: &[u8], came: usize) -> usize {
+    let mut count = 0usize;
+    let mut start = 0usize;
+    for (at, byte) in input.iter().enumerate().take(came) {
+        if *byte == b'\n' {
+            if is_answered(mode, input.get(start..at).unwrap_or(b"")) {
+                count = count.wrapping_add(1);
+            }
+            start = at.wrapping_add(1);
+        }
+    }
+    count
+}
 
 /// The first piece has so many bytes, and the second all others.
 fn goes_in_two(rt: &impl Abort, alloc: Global, trial: Trial<'_>, first: usize) {
@@ -340,14 +375,9 @@ fn cut_after_each_byte(rt: HostRuntime) -> Result<(), Fail> {
     Ok(())
 }
 
-/// How many calls of the writer come before the read after so many bytes: a leader has answered the whole lines of them.
+/// How many calls of the writer come before the read after so many bytes: those for the lines that end in them.
 fn calls_before(trial: Trial<'_>, came: usize) -> usize {
-    if trial.mode != Mode::Lead {
-        return calls_until(trial.calls, 0);
-    }
-    let bytes = trial.input.iter().take(came);
-    let ends = bytes.filter(|byte| **byte == b'\n').count();
-    calls_until(trial.calls, ends)
+    calls_until(trial.calls, answered(trial.mode, trial.input, came))
 }
 
 /// The read fails that comes after so many bytes.
@@ -369,8 +399,8 @@ fn all_reads_fail(rt: &impl Abort, alloc: Global, trial: Trial<'_>) {
     }
 }
 
-// Each read fails in turn, with an error or interrupted: a leader has answered the whole lines before it, the others have
-// written nothing, and no call is made after it.
+// Each read fails in turn, with an error or interrupted: a leader and an installer have answered the whole lines before it, the others
+// have written nothing, and no call is made after it.
 #[test]
 fn each_read_fails(rt: HostRuntime) -> Result<(), Fail> {
     for (mode, cases) in TRIED {
@@ -404,8 +434,8 @@ fn all_writes_fail(rt: &impl Abort, alloc: Global, trial: Trial<'_>) {
 }
 
 // Each write and each flush fails in turn, with an error or interrupted, or the write takes nothing: the bytes before it are
-// held, no call of the writer comes after it, and a leader has read no further than to the line that it answers, the others to
-// the end.
+// held, no call of the writer comes after it, and a leader or an installer has read no further than to the line that it answers, the
+// others to the end.
 #[test]
 fn each_write_fails(rt: HostRuntime) -> Result<(), Fail> {
     for (mode, cases) in TRIED {
@@ -420,15 +450,9 @@ fn each_write_fails(rt: HostRuntime) -> Result<(), Fail> {
 
 /// How many reads of one byte have come before the reply after so many.
 fn read_for(mode: Mode, input: &[u8], replies: usize) -> usize {
-    let mut before = replies;
-    if mode == Mode::Lead {
-        for (at, byte) in input.iter().enumerate() {
-            if *byte == b'\n' {
-                if before == 0 {
-                    return at.wrapping_add(1);
-                }
-                before -= 1;
-            }
+    for came in 1..=input.len() {
+        if answered(mode, input, came) > replies {
+            return came;
         }
     }
     input.len().wrapping_add(1)

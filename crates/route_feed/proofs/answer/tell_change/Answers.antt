@@ -1,4 +1,4 @@
-use Rattle.std.proofs.Common.{◌++◌, ◌∷◌, [], List, ◌∙◌, ap, map, refl, subst, sym}
+use Rattle.std.proofs.Common.{◌∷◌, [], ◌∙◌, ap, subst, sym}
 use Rattle.ipnet.specs.IpNets.{block, network_at}
 use Rattle.route_lines.specs.declared.reply.Closing.TheVariants.{Done}
 use Rattle.route_lines.specs.declared.reply.Reply.{Reply}

@@ -1,0 +1,136 @@
+-- The lines of an installer are read again as they were written.
+use Rattle.std.proofs.Common.{◌≡◌, ◌≢◌, ℕ, Bool, true, false, cond, List, [], ◌∷◌, ◌++◌, map, Option, Some, None, inl, inr, ⊎_elim, refl, sym, ap, ◌∙◌, subst, append_assoc}
+use Rattle.std.specs.List.{filter_map}
+use Rattle.std.proofs.lemmas.List.Elements.{filter_map-append, recursion_from_All}
+use mathlib.Core.List.{reverse}
+use Rattle.ipnet_addr.proofs.Members.{In, In-cases}
+use Rattle.ipnet_addr.proofs.Ascending.{In-from_All}
+use Rattle.ipnet_blocks.specs.Blocks.{IsBlock}
+use Rattle.ipnet.proofs.Spelled.{net_reads}
+use Rattle.route_choices.specs.Hops.{IsHop}
+use Rattle.route_choices.proofs.Kept.{In-from_filter, In-map}
+use Rattle.route_lines.specs.Bytes.{lines}
+use Rattle.route_lines.specs.InnerPhrase.{Gives}
+use Rattle.route_lines.specs.Spelled.{update_of}
+use Rattle.route_lines.specs.Texts.{IsUpdate, update_text}
+use Rattle.route_lines.specs.declared.update.Update.{Update}
+use Rattle.route_lines.specs.declared.update.Update.TheVariants as U
+use Rattle.route_lines.proofs.Spells.{update_found}
+use Rattle.route_lines.proofs.Updates.{clean_update, one_update, prints}
+use Rattle.route_laws.specs.Batches.{batch, painted}
+use Rattle.route_laws.specs.Operations.{Operation, Install, Remove, between, missing, surplus}
+use Rattle.route_laws.specs.Runs.{Event, Have, Told, Sync, Installer, MayCome, MayAllCome, after_event, after_events, gives, start}
+use Rattle.route_laws.specs.Tables.{Route, IsTable}
+use Rattle.route_laws.proofs.Batches.{Changes, changes_from}
+use Rattle.route_laws.proofs.Between.{reverse_In}
+use Rattle.route_laws.proofs.Painted.{painted_is_table}
+use Rattle.route_laws.proofs.Runs.{Holds, holds}
+use Rattle.route_feed.specs.Installing.{begin, event_lines, events, printed_updates, update_for, update_lines}
+use Rattle.route_feed.specs.InstallLaws.{BeginningsAreCarriedOut, OutputReadsBack, updates_in}
+use Rattle.route_feed.proofs.Beginnings.{first_lines}
+use Rattle.route_feed.proofs.GivenLines.{first_carried}
+use Rattle.route_feed.proofs.NotesInTurn.{after_events-append, may_split}
+use Rattle.route_feed.proofs.Reread.{first_line, is_cut, word_hop}
+
+-- ---- lines that spell what they print
+
+abbrev pub AreSpelled : List Update → Type 0
+AreSpelled [] = Unit {0}
+AreSpelled (u ∷ us) = IsUpdate (update_text u) u × AreSpelled us
+
+AreSpelled-append : (us vs : List Update) → AreSpelled us → AreSpelled vs → AreSpelled (us ++ vs)
+AreSpelled-append [] vs p q = q
+AreSpelled-append (u ∷ us) vs p q = (p.0, AreSpelled-append us vs p.1 q)
+
+update_is : (text : List ℕ) (u : Update) → IsUpdate text u → update_of text ≡ Some u
+update_is text u h = go (update_of text) (update_found text)
+  where
+    go : (o : Option Update) → Gives IsUpdate text o → o ≡ Some u
+    go None none = absurd (none u h)
+    go (Some other) found = ap Some (one_update text other u found h)
+
+updates_read : (us : List Update) → AreSpelled us → updates_in (printed_updates us) ≡ us
+updates_read [] s = refl
+updates_read (u ∷ us) s =
+    let text = update_text u in
+    ap updates_in (append_assoc text (10 ∷ []) (printed_updates us))
+    ∙ ap (filter_map update_of) (first_line text (printed_updates us) (recursion_from_All (λ c. c ≢ 10) text (clean_update text u s.0)))
+    ∙ filter_map-append update_of (text ∷ []) (lines (printed_updates us))
+    ∙ ap (λ o. filter_map (λ (p : Option Update). p) (o ∷ []) ++ updates_in (printed_updates us)) (update_is text u s.0)
+    ∙ ap (λ vs. u ∷ vs) (updates_read us s.1)
+
+-- ---- operations of networks and hops
+
+abbrev Sound : Operation → Type 0
+Sound (Install r) = IsBlock r.block × IsHop r.hop
+Sound (Remove b) = IsBlock b
+
+sound_spelled : (o : Operation) → Sound o → IsUpdate (update_text (update_for o)) (update_for o)
+sound_spelled (Install r) s = prints (update_for (Install r)) (is_cut r.block) (net_reads r.block s.0, word_hop r.hop s.1)
+sound_spelled (Remove b) s = prints (update_for (Remove b)) (is_cut b) (net_reads b s)
+
+abbrev AllSound : List Operation → Type 0
+AllSound os = (o : Operation) → In o os → Sound o
+
+sound_lines : (os : List Operation) → AllSound os → AreSpelled (map update_for os)
+sound_lines [] h = tt
+sound_lines (o ∷ os) h = (sound_spelled o (h o (inl refl)), sound_lines os (λ p i. h p (inr i)))
+
+between_sound : (M N : List Route) → IsTable M → IsTable N → AllSound (between M N)
+between_sound M N m n o i = ⊎_elim installed removed (In-cases o (map Install (reverse (missing M N))) (map (λ (r : Route). Remove r.block) (surplus M N)) i)
+  where
+    installed : In o (map Install (reverse (missing M N))) → Sound o
+    installed j =
+        let t = In-map Install (reverse (missing M N)) o j in
+        let k = (In-from_filter _ N t.0 (reverse_In (missing M N) t.0 t.1)).0 in
+        subst Sound (sym t.2) (In-from_All (λ (r : Route). IsBlock r.block) N n.blocks t.0 k, In-from_All (λ (r : Route). IsHop r.hop) N n.hops t.0 k)
+
+    removed : In o (map (λ (r : Route). Remove r.block) (surplus M N)) → Sound o
+    removed j =
+        let t = In-map (λ (r : Route). Remove r.block) (surplus M N) o j in
+        let k = (In-from_filter _ M t.0 t.1).0 in
+        subst Sound (sym t.2) (In-from_All (λ (r : Route). IsBlock r.block) M m.blocks t.0 k)
+
+batch_sound : (M rs : List Route) → IsTable M → Changes rs → AllSound (batch M rs)
+batch_sound M [] m c o i = absurd i
+batch_sound M (r ∷ rs) m c o i =
+    let k = c r (inl refl) in
+    let p = painted_is_table M m r k.0 k.1 in
+    ⊎_elim (between_sound M (painted M r) m p o) (batch_sound (painted M r) rs p (λ s j. c s (inr j)) o) (In-cases o (between M (painted M r)) (batch (painted M r) rs) i)
+
+gives_sound : (s : Installer) (e : Event) → IsTable s.installed → MayCome s e → AllSound (gives s e)
+gives_sound s (Have r) m c o i = absurd i
+gives_sound s (Told rs) m c o i = go s.kept i
+  where
+    go : (b : Bool) → In o (cond b (batch s.installed rs) []) → Sound o
+    go true j = batch_sound s.installed rs m (changes_from rs c) o j
+    go false j = absurd j
+gives_sound s (Sync rs N) m c o i = between_sound s.installed N m c.1.hops.table o i
+
+-- ---- all lines
+
+event_spelled : (s : Installer) (e : Event) → IsTable s.installed → MayCome s e → AreSpelled (event_lines s e)
+event_spelled s e m c = go (Installer.kept (after_event s e))
+  where
+    go : (b : Bool) → AreSpelled (cond b (map update_for (gives s e) ++ U.Done ∷ []) [])
+    go true = AreSpelled-append (map update_for (gives s e)) (U.Done ∷ []) (sound_lines (gives s e) (gives_sound s e m c)) (refl, tt)
+    go false = tt
+
+lines_spelled : (fs es : List Event) → MayAllCome start (es ++ fs) → AreSpelled (update_lines (after_events start es) fs)
+lines_spelled [] es may = tt
+lines_spelled (e ∷ fs) es may =
+    let s = after_events start es in
+    let t = may_split start es (e ∷ fs) may in
+    let more = lines_spelled fs (es ++ e ∷ []) (subst (MayAllCome start) (sym (append_assoc es (e ∷ []) fs)) may) in
+    AreSpelled-append (event_lines s e) (update_lines (after_event s e) fs)
+    (event_spelled s e (Holds.installed (holds es t.0)) t.1.0)
+    (subst (λ (r : Installer). AreSpelled (update_lines r fs)) (after_events-append start es (e ∷ [])) more)
+
+pub output_reads_back : OutputReadsBack
+output_reads_back ns may = updates_read (update_lines start (events begin ns)) (lines_spelled (events begin ns) [] may)
+
+pub beginnings_are_carried_out : BeginningsAreCarriedOut
+beginnings_are_carried_out ns front back may e x =
+    let (more, first) = first_lines front back in
+    first_carried _ (events begin ns) (updates_in front) (filter_map update_of more)
+    (sym (output_reads_back ns may) ∙ ap updates_in e ∙ ap (filter_map update_of) first ∙ filter_map-append update_of (lines front) more) x

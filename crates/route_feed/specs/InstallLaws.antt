@@ -1,0 +1,172 @@
+-- What stands installed that is kept by the lines of a leader.
+use Rattle.std.specs.Prelude.{◌≡◌, ◌⊎◌, ◌<◌, ◌^◌, ℕ, Bool, All, IsSome, true, false, List, [], ◌∷◌, ◌++◌, Any, Option, Some, None, Contains, filter, length, map, not, suc, take}
+use Rattle.std.specs.List.{filter_map}
+use Rattle.ipnet.specs.declared.ip_net.IpNet.{IpNet}
+use Rattle.ipnet_addr.specs.Addresses.{Address, IsAddress}
+use Rattle.route_choices.specs.declared.hop.Hop.{Hop}
+use Rattle.route_choices.specs.Choices.{default_preference}
+use Rattle.ipnet.specs.IpNets.{block}
+use Rattle.route_lines.specs.Bytes.{lines, rest}
+use Rattle.route_lines.specs.Spelled.{note_of, update_of}
+use Rattle.route_lines.specs.declared.note.Note.{Note}
+use Rattle.route_lines.specs.declared.note.Note.TheVariants as N
+use Rattle.route_lines.specs.declared.reply.Closing.TheVariants.{Done}
+use Rattle.route_lines.specs.declared.reply.Reply.{Reply}
+use Rattle.route_lines.specs.declared.reply.Reply.TheVariants.{Close}
+use Rattle.route_lines.specs.declared.update.Update.{Update}
+use Rattle.route_lines.specs.declared.update.Update.TheVariants as U
+use Rattle.route_laws.specs.LeastTables.{IsLeast}
+use Rattle.route_laws.specs.Networks.{Stored, routes_of}
+use Rattle.route_laws.specs.Operations.{Operation, IsHitless, after_all}
+use Rattle.route_laws.specs.Runs.{MayAllCome, given, haves, start}
+use Rattle.route_laws.specs.Tables.{Route, hop_at, route_of, with_route, without_block}
+use Rattle.route_feed.specs.Installing.{AreNotes, Noted, after_notes, batches_given, begin, event_of, events, installed_bytes, update_for, update_lines}
+use Rattle.route_feed.specs.Laws.{table_told}
+use Rattle.route_feed.specs.Output.{at_end, output, table_after, whole_commands}
+use Rattle.route_feed.specs.Streams.{closings, committed, painted, pending_over, replies_in}
+
+-- the reply line of a note
+abbrev pub reply_in : Note → Option Reply
+reply_in (N.Have net hop) = None
+reply_in N.Sync = None
+reply_in (N.Reply line) = Some line
+
+-- the reply lines among notes
+abbrev pub replies_of : List Noted → List Reply
+replies_of ns = filter_map (λ n. reply_in n.note) ns
+
+-- these reply lines are the first of those that a leader writes which is given these bytes
+abbrev pub AreFirst : List ℕ → List Bool → List Reply → Type 0
+AreFirst bytes refusals ls = (later : List Reply) × (replies_in (output bytes refusals) ≡ ls ++ later)
+
+-- the leader's table after so many of its commands
+abbrev pub table_at : List ℕ → List Bool → ℕ → List Stored
+table_at bytes refusals count = table_after [] (take count (whole_commands bytes ++ at_end (rest bytes))) refusals
+
+-- after as many as these lines end replies
+abbrev pub table_by : List ℕ → List Bool → List Reply → List Stored
+table_by bytes refusals ls = table_at bytes refusals (closings ls)
+
+-- the operations that are given at a note, after others
+abbrev pub operations_at : List Noted → Noted → List Operation
+operations_at ns n = given (after_notes begin ns).tables (event_of (after_notes begin ns) n.note n.least)
+
+-- the table of the routes that notes tell as installed, after all operations that are given at them
+abbrev pub installed_by : List Noted → List Route
+installed_by ns = after_all (haves (events begin ns)) (given start (events begin ns))
+
+-- a `sync` stands among them
+abbrev pub HasSync : List Noted → Type 0
+HasSync ns = Any (λ n. n.note ≡ N.Sync) ns
+
+-- no route is told as installed
+abbrev pub IsNoHave : Note → Type 0
+IsNoHave note = (net : IpNet) (hop : Hop) → note ≡ N.Have net hop → ⊥
+
+-- ---- of the notes of a leader's replies, with other notes anywhere between them
+
+-- once there was a `sync` it has each address at the hop of the leader's table after as many commands as replies end there
+abbrev pub InstalledAgrees : Type 0
+InstalledAgrees = (bytes : List ℕ) (refusals : List Bool) (ns : List Noted) → AreFirst bytes refusals (replies_of ns)
+    → MayAllCome start (events begin ns) → HasSync ns
+    → (x : Address) → IsAddress x → hop_at (installed_by ns) x ≡ hop_at (routes_of (table_by bytes refusals (replies_of ns))) x
+
+-- at each note each address turns at most once
+abbrev pub InstalledIsHitless : Type 0
+InstalledIsHitless = (bytes : List ℕ) (refusals : List Bool) (ns later : List Noted) (n : Noted) → AreFirst bytes refusals (replies_of (ns ++ n ∷ later))
+    → MayAllCome start (events begin (ns ++ n ∷ later)) → IsHitless (installed_by ns) (operations_at ns n)
+
+-- So after a `sync` it has at each moment one of two hops: that of the leader's table before the reply, or that after it.
+abbrev pub InstalledAtAllTimes : Type 0
+InstalledAtAllTimes = (bytes : List ℕ) (refusals : List Bool) (ns later : List Noted) (n : Noted) → AreFirst bytes refusals (replies_of (ns ++ n ∷ later))
+    → MayAllCome start (events begin (ns ++ n ∷ later)) → HasSync ns
+    → (x : Address) → IsAddress x → (i : ℕ)
+    → (hop_at (after_all (installed_by ns) (take i (operations_at ns n))) x ≡ hop_at (routes_of (table_by bytes refusals (replies_of ns))) x)
+    ⊎ (hop_at (after_all (installed_by ns) (take i (operations_at ns n))) x ≡ hop_at (routes_of (table_by bytes refusals (replies_of (ns ++ n ∷ [])))) x)
+
+-- so where the lines of a log are such notes, and its reply lines are those in a beginning of the leader's output
+abbrev pub LogsAreFirst : Type 0
+LogsAreFirst = (bytes : List ℕ) (refusals : List Bool) (front back log : List ℕ) (ns : List Noted) → output bytes refusals ≡ front ++ back
+    → AreNotes (lines log) ns → replies_in log ≡ replies_in front → AreFirst bytes refusals (replies_of ns)
+
+-- ---- of all notes
+
+-- the operations that are given at a note make of what was installed what is installed then
+abbrev pub OperationsReach : Type 0
+OperationsReach = (ns : List Noted) (n : Noted) → MayAllCome start (events begin (ns ++ n ∷ [])) → IsNoHave n.note
+    → after_all (installed_by ns) (operations_at ns n) ≡ installed_by (ns ++ n ∷ [])
+
+-- right after a `sync` it is a least table of the hops that the reply lines commit
+abbrev pub SyncsAreLeast : Type 0
+SyncsAreLeast = (ns : List Noted) (least : List Route) → MayAllCome start (events begin (ns ++ record { note = N.Sync; least = least } ∷ []))
+    → IsLeast (painted (committed (replies_of ns))) (installed_by (ns ++ record { note = N.Sync; least = least } ∷ []))
+
+-- and so it is after an `ok` where more than 256 changes wait
+abbrev pub LargeRepliesAreLeast : Type 0
+LargeRepliesAreLeast = (ns : List Noted) (least : List Route) → MayAllCome start (events begin (ns ++ record { note = N.Reply (Close Done); least = least } ∷ []))
+    → HasSync ns → 256 < length (pending_over [] (replies_of ns))
+    → IsLeast (painted (committed (replies_of (ns ++ record { note = N.Reply (Close Done); least = least } ∷ []))))
+    (installed_by (ns ++ record { note = N.Reply (Close Done); least = least } ∷ []))
+
+-- ---- of the lines that are written
+
+-- whether a line is an operation
+abbrev pub is_operation : Update → Bool
+is_operation (U.Install net hop) = true
+is_operation (U.Remove net) = true
+is_operation U.Done = false
+
+-- how many of the lines are `ok`
+abbrev pub oks : List Update → ℕ
+oks us = length (filter (λ u. not (is_operation u)) us)
+
+-- the update lines that stand whole in the bytes
+abbrev pub updates_in : List ℕ → List Update
+updates_in bytes = filter_map update_of (lines bytes)
+
+-- a table after lines are carried out, one after another
+abbrev pub carried_out : List Route → List Update → List Route
+carried_out M [] = M
+carried_out M (U.Install net hop ∷ us) = carried_out (with_route M (route_of net hop default_preference)) us
+carried_out M (U.Remove net ∷ us) = carried_out (without_block M (block net)) us
+carried_out M (U.Done ∷ us) = carried_out M us
+
+-- the lines are those of the operations that are given, and `ok`
+abbrev pub OutputIsGiven : Type 0
+OutputIsGiven = (ns : List Noted) → filter is_operation (update_lines start (events begin ns)) ≡ map update_for (given start (events begin ns))
+
+-- they are read again as they were written
+abbrev pub OutputReadsBack : Type 0
+OutputReadsBack = (ns : List Noted) → MayAllCome start (events begin ns) → updates_in (installed_bytes ns) ≡ update_lines start (events begin ns)
+
+-- Whoever carries out the lines that stand whole in any beginning of the output, on the table of the routes that notes tell as
+-- installed, has at each address the hop of that table after as many of the operations.
+abbrev pub BeginningsAreCarriedOut : Type 0
+BeginningsAreCarriedOut = (ns : List Noted) (front back : List ℕ) → MayAllCome start (events begin ns) → installed_bytes ns ≡ front ++ back → (x : Address)
+    → hop_at (carried_out (haves (events begin ns)) (updates_in front)) x
+    ≡ hop_at (after_all (haves (events begin ns)) (take (length (filter is_operation (updates_in front))) (given start (events begin ns)))) x
+
+-- ---- from bytes to bytes
+
+-- each line of a leader is a note, where the input of that leader has fewer than 2^64 bytes, as every input has
+abbrev pub BeginningsAreNotes : Type 0
+BeginningsAreNotes = (bytes front back : List ℕ) (refusals : List Bool) → length bytes < 2 ^ 64 → output bytes refusals ≡ front ++ back → All (λ piece. IsSome (note_of piece)) (lines front)
+
+-- Whoever carries out the output of an installer that is given such a log has at each address the hop of the leader's table after
+-- as many commands as replies end there.
+abbrev pub OutputAgrees : Type 0
+OutputAgrees = (bytes : List ℕ) (refusals : List Bool) (front back log : List ℕ) (ns : List Noted) → output bytes refusals ≡ front ++ back
+    → AreNotes (lines log) ns → replies_in log ≡ replies_in front → HasSync ns
+    → (x : Address) → IsAddress x
+    → hop_at (carried_out (haves (events begin ns)) (updates_in (installed_bytes ns))) x ≡ hop_at (routes_of (table_told bytes refusals front)) x
+
+-- And so at all times from the first `ok` on: whoever carries out the lines that stand whole in a beginning of this output, cut at any
+-- byte, has each address at one of two hops: that of the leader's table after so many commands, or after one more. The notes whose
+-- replies these commands ended had given as many batches as lines there are `ok`.
+abbrev pub CutsAgree : Type 0
+CutsAgree = (bytes : List ℕ) (refusals : List Bool) (front back log : List ℕ) (ns : List Noted) (written missing : List ℕ) → output bytes refusals ≡ front ++ back
+    → AreNotes (lines log) ns → replies_in log ≡ replies_in front → installed_bytes ns ≡ written ++ missing → Contains (updates_in written) U.Done
+    → (before : List Noted) × (later : List Noted) × (ns ≡ before ++ later) × (batches_given before ≡ oks (updates_in written))
+    × ((x : Address) → IsAddress x
+    → (hop_at (carried_out (haves (events begin ns)) (updates_in written)) x ≡ hop_at (routes_of (table_at bytes refusals (closings (replies_of before)))) x)
+    ⊎ (hop_at (carried_out (haves (events begin ns)) (updates_in written)) x ≡ hop_at (routes_of (table_at bytes refusals (suc (closings (replies_of before))))) x))

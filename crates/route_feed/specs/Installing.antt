@@ -1,0 +1,122 @@
+-- Notes as events on a table that is kept installed, and what an installer writes of them.
+use Rattle.std.specs.Prelude.{◌≡◌, ℕ, suc, nat_lt, length, Bool, true, false, ◌&&◌, List, [], ◌∷◌, ◌++◌, if◌then◌else◌, Option, Some, None, map}
+use Rattle.std.specs.List.{flat_map}
+use Rattle.std.specs.Prelude.{codes}
+use Rattle.route_lines.specs.Spelled.{note_of}
+use Rattle.route_lines.specs.Texts.{update_text}
+use Rattle.route_lines.specs.declared.note.Note.{Note}
+use Rattle.route_lines.specs.declared.note.Note.TheVariants as N
+use Rattle.route_lines.specs.declared.update.Update.{Update}
+use Rattle.route_lines.specs.declared.update.Update.TheVariants as U
+use Rattle.route_choices.specs.Choices.{default_preference}
+use Rattle.route_laws.specs.InnerHops.{hop_from}
+use Rattle.route_laws.specs.Operations.{Operation, Install, Remove}
+use Rattle.route_laws.specs.Runs.{Event, Have, Told, Sync, Installer, MayAllCome, after_event, after_events, gives, start}
+use Rattle.route_laws.specs.Tables.{Route, route_of}
+use Rattle.ipnet.specs.IpNets.{network_at}
+use Rattle.route_feed.specs.Streams.{Change, change_of, closes, done_or, pending_after, WantsMemory}
+
+-- a change as a route
+abbrev pub route_to : Change → Route
+route_to c = record { block = c.block; hop = hop_from c.number; pref = default_preference }
+
+-- a table that is kept installed, and the changes that wait for a closing line
+pub record Installing : Type 0 where
+  pub tables : Installer
+  pub pending : List Change
+
+-- nothing is installed, and nothing waits
+abbrev pub begin : Installing
+begin = record { tables = start; pending = [] }
+
+-- Changes that are committed are an event, if there are any. Where they are more than 256, and the table is kept, it becomes at
+-- once a least one of the hops after them, which is N.
+abbrev pub committing : Bool → List Change → List Route → List Event
+committing kept [] N = []
+committing kept (c ∷ cs) N =
+    (if kept && nat_lt 256 (length (c ∷ cs)) then Sync (map route_to (c ∷ cs)) N else Told (map route_to (c ∷ cs))) ∷ []
+
+-- the event of a note, or none; N is the table that is installed where a least one is asked for
+abbrev pub event_of : Installing → Note → List Route → List Event
+event_of s (N.Have net hop) N = Have (route_of net hop default_preference) ∷ []
+event_of s N.Sync N = Sync [] N ∷ []
+event_of s (N.Reply line) N = if done_or (closes line) false then committing s.tables.kept s.pending N else []
+
+-- the changes that wait after a note
+abbrev pub pending_past : List Change → Note → List Change
+pending_past changes (N.Have net hop) = changes
+pending_past changes N.Sync = changes
+pending_past changes (N.Reply line) = pending_after changes (closes line) (change_of line)
+
+-- a note, and the table that is installed where it asks for a least one
+pub record Noted : Type 0 where
+  pub note : Note
+  pub least : List Route
+
+-- after a note
+abbrev pub after_note : Installing → Noted → Installing
+after_note s n = record { tables = after_events s.tables (event_of s n.note n.least); pending = pending_past s.pending n.note }
+
+-- after all of them
+abbrev pub after_notes : Installing → List Noted → Installing
+after_notes s [] = s
+after_notes s (n ∷ ns) = after_notes (after_note s n) ns
+
+-- their events
+abbrev pub events : Installing → List Noted → List Event
+events s [] = []
+events s (n ∷ ns) = event_of s n.note n.least ++ events (after_note s n) ns
+
+-- Each piece spells the note that stands at its place; no route is told as installed once the table is kept; and each table that
+-- is installed where a least one is asked for is a least one of the hops that hold then.
+pub record AreNotes (pieces : List (List ℕ)) (ns : List Noted) : Type 0 where
+  pub spelled : map note_of pieces ≡ map (λ n. Some n.note) ns
+  pub may : MayAllCome start (events begin ns)
+
+-- the line of an operation
+abbrev pub update_for : Operation → Update
+update_for (Install r) = U.Install (network_at r.block) r.hop
+update_for (Remove b) = U.Remove (network_at b)
+
+-- what is written at an event: once the table is kept, its operations, and `ok`
+abbrev pub event_lines : Installer → Event → List Update
+event_lines s e = if (after_event s e).kept then map update_for (gives s e) ++ U.Done ∷ [] else []
+
+-- what is written at these events
+abbrev pub update_lines : Installer → List Event → List Update
+update_lines s [] = []
+update_lines s (e ∷ es) = event_lines s e ++ update_lines (after_event s e) es
+
+-- at how many of them something is written
+abbrev pub batches : Installer → List Event → ℕ
+batches s [] = 0
+batches s (e ∷ es) = if (after_event s e).kept then suc (batches (after_event s e) es) else batches (after_event s e) es
+
+-- these lines, printed one after another
+abbrev pub printed_updates : List Update → List ℕ
+printed_updates us = flat_map (λ u. update_text u ++ codes "\n") us
+
+-- what is written at a note
+abbrev pub noted_bytes : Installing → Noted → List ℕ
+noted_bytes s n = printed_updates (update_lines s.tables (event_of s n.note n.least))
+
+-- the output of an installer that is given these notes
+abbrev pub installed_bytes : List Noted → List ℕ
+installed_bytes ns = printed_updates (update_lines start (events begin ns))
+
+-- how many batches that is
+abbrev pub batches_given : List Noted → ℕ
+batches_given ns = batches start (events begin ns)
+
+-- what can't be taken as a note: what spells none, and once the table is kept a route that is told as installed
+abbrev pub IsUnfit : Installing → Option Note → Type 0
+IsUnfit s None = Unit {0}
+IsUnfit s (Some (N.Have net hop)) = s.tables.kept ≡ true
+IsUnfit s (Some N.Sync) = ⊥
+IsUnfit s (Some (N.Reply line)) = ⊥
+
+-- the note may want memory: a route that is installed, a `sync`, a change, which is kept, or `ok` where some wait
+abbrev pub MayWant : Installing → Note → Type 0
+MayWant s (N.Have net hop) = s.tables.kept ≡ false
+MayWant s N.Sync = Unit {0}
+MayWant s (N.Reply line) = WantsMemory s.pending line

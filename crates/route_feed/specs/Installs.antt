@@ -1,0 +1,89 @@
+-- What `install` does to its devices, by how it ends.
+use Rattle.std.specs.Prelude.{◌≡◌, ℕ, ◌⊎◌, List, [], ◌∷◌, ◌++◌, Option, Some, Result, Ok, Err}
+use Rattle.std.specs.Io.KnownBytes.{Appends, Consumes, IsAtEnd}
+use Rattle.route_lines.specs.Bytes.{lines}
+use Rattle.route_lines.specs.Spelled.{note_of}
+use Rattle.route_lines.specs.declared.note.Note.{Note}
+use Rattle.route_laws.specs.Tables.{Route}
+use Rattle.route_feed.specs.declared.counted.Counted.{Counted}
+use Rattle.route_feed.specs.declared.error.RunError.{RunError}
+use Rattle.route_feed.specs.declared.error.RunError.TheVariants as Why
+use Rattle.route_feed.specs.Counted.{inner, faults_of, flushes_of, more_by, FailedLast, Flushed, ReadFault}
+use Rattle.route_feed.specs.Installing.{AreNotes, IsUnfit, MayWant, Noted, after_notes, batches_given, begin, installed_bytes, noted_bytes}
+
+-- the pieces are notes, and their output was written
+abbrev pub AppendsInstalled : List (List ℕ) → Option (List ℕ) → Option (List ℕ) → Type 0
+AppendsInstalled pieces old new = (notes : List Noted) × AreNotes pieces notes × Appends old new (installed_bytes notes)
+
+module _ {W : Type 0} (contents : W → Option (List ℕ)) where
+  -- the output of these notes was written, and flushed after each batch
+  pub record Gives (notes : List Noted) (old new : Counted W) : Type 0 where
+    pub written : Appends (contents (inner old)) (contents (inner new)) (installed_bytes notes)
+    pub flushed : Flushed (batches_given notes) old new
+
+  -- and then this text, which is not flushed
+  pub record GivesThen (notes : List Noted) (begun : List ℕ) (old new : Counted W) : Type 0 where
+    pub written : Appends (contents (inner old)) (contents (inner new)) (installed_bytes notes ++ begun)
+    pub flushes : flushes_of new ≡ more_by (batches_given notes) (flushes_of old)
+
+module _ {R : Type 0} (remaining : R → Option (List ℕ)) where
+  -- the reader gave some bytes, and the lines before one of them are notes
+  pub record Meets (from to : Counted R) : Type 0 where
+    pub bytes : List ℕ
+    pub notes : List Noted
+    pub before : List (List ℕ)
+    pub piece : List ℕ
+    pub after : List (List ℕ)
+    pub read : Consumes (remaining (inner from)) (remaining (inner to)) bytes
+    pub split : lines bytes ≡ before ++ piece ∷ after
+    pub are : AreNotes before notes
+
+module _ {R W : Type 0} (remaining : R → Option (List ℕ)) (contents : W → Option (List ℕ)) where
+  -- the reader gave some bytes, each of their lines is a note, and the output of the notes was written, and flushed
+  pub record Installs (from to : Counted R) (old new : Counted W) : Type 0 where
+    pub bytes : List ℕ
+    pub notes : List Noted
+    pub read : Consumes (remaining (inner from)) (remaining (inner to)) bytes
+    pub are : AreNotes (lines bytes) notes
+    pub gives : Gives contents notes old new
+
+  -- this line can't be taken as a note; the output of those before it was written, and flushed
+  pub record MeetsUnfit (from to : Counted R) (old new : Counted W) : Type 0 where
+    pub meets : Meets remaining from to
+    pub unfit : IsUnfit (after_notes begin meets.notes) (note_of meets.piece)
+    pub gives : Gives contents meets.notes old new
+
+  -- this line is a note that may want memory; the output of those before it was written, and flushed, and then a beginning of
+  -- its own, whichever least table it had got
+  pub record MeetsWanting (from to : Counted R) (old new : Counted W) : Type 0 where
+    pub meets : Meets remaining from to
+    pub note : Note
+    pub begun : List ℕ
+    pub missing : List Route → List ℕ
+    pub is_note : note_of meets.piece ≡ Some note
+    pub wants : MayWant (after_notes begin meets.notes) note
+    pub is_front : (N : List Route) → noted_bytes (after_notes begin meets.notes) (record { note = note; least = N }) ≡ begun ++ missing N
+    pub gives : GivesThen contents meets.notes begun old new
+
+  -- this line is a note too; the output of those before it was written, and flushed, and then a beginning of its own
+  pub record MeetsFault (from to : Counted R) (old new : Counted W) : Type 0 where
+    pub meets : Meets remaining from to
+    pub last : Noted
+    pub begun : List ℕ
+    pub missing : List ℕ
+    pub are_too : AreNotes (meets.before ++ meets.piece ∷ []) (meets.notes ++ last ∷ [])
+    pub is_front : noted_bytes (after_notes begin meets.notes) last ≡ begun ++ missing
+    pub gives : GivesThen contents meets.notes begun old new
+
+  -- At `Ok` all was read, each line is a note, their output was written and flushed after each batch, and nothing failed; at `Read`
+  -- the same of what was read till then, and only the reader failed, in its last call; at `Line` one of the lines can't be taken as
+  -- a note, and the output of those before it was written and flushed; at `Memory` nothing was done, or a note came that may want
+  -- memory; at `Write` the writer failed, in its last call, at a note. At these two a beginning of the output of this note was
+  -- written as well, and not flushed.
+  abbrev pub InstallEnds : Counted R → Counted R → Counted W → Counted W → Result Unit RunError → Type 0
+  InstallEnds from to old new (Ok done) = Installs from to old new × IsAtEnd (remaining (inner to)) × (faults_of to ≡ faults_of from) × (faults_of new ≡ faults_of old)
+  InstallEnds from to old new (Err Why.Read) = Installs from to old new × ReadFault from to × (faults_of new ≡ faults_of old)
+  InstallEnds from to old new (Err Why.Line) = MeetsUnfit from to old new × (faults_of to ≡ faults_of from) × (faults_of new ≡ faults_of old)
+  InstallEnds from to old new (Err Why.Write) = MeetsFault from to old new × (faults_of to ≡ faults_of from) × FailedLast old new
+  InstallEnds from to old new (Err Why.Memory) =
+      ((to ≡ from) × (new ≡ old)) ⊎ (MeetsWanting from to old new × (faults_of to ≡ faults_of from) × (faults_of new ≡ faults_of old))

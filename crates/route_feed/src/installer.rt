@@ -1,0 +1,317 @@
+//! An installer: a table that is kept installed while a leader's reply lines and others come.
+ghost use Rattle.std.specs.Prelude.{◌≡◌, ◌≤◌, ◌<◌, ◌++◌, ◌∷◌, [], All, IfErr, IfOk, IsOk, OnErr, OnOk, length, map, false, true};
+ghost use Rattle.ipnet.specs.IpNets.{family, parts};
+ghost use Rattle.ipnet_blocks.specs.Networks.{IsTruncated};
+ghost use Rattle.route_choices.specs.Choices.{default_preference};
+ghost use Rattle.route_laws.specs.Batches.{AreChanges, painted, painted_all};
+ghost use Rattle.route_laws.specs.LeastTables.{IsLeast, routes_for};
+ghost use Rattle.route_laws.specs.Networks.{routes_of};
+ghost use Rattle.route_laws.specs.Tables.{IsTable, hop_at, route_of};
+ghost use Rattle.route_lines.specs.declared.note.Note.{Note};
+ghost use Rattle.route_feed.specs.Counted.{CanCount};
+ghost use Rattle.route_feed.specs.Installing.{begin, route_to};
+ghost use Rattle.route_feed.specs.InnerInstalling.{GivesChanges, Has, Replaces, TakesNote, WritesChanges, route_waiting, routes_waiting};
+ghost use Rattle.route_feed.specs.InnerWaiting.{changes_of, waiting_change};
+ghost use Rattle.route_lines.specs.declared.reply.Closing.{Closing};
+ghost use Rattle.route_lines.specs.declared.reply.Reply.{Reply};
+
+use crate::counted::Counted;
+use crate::error::RunError;
+use crate::follower::Waiting;
+use crate::updates::write_operations;
+use crate::writing::close;
+use ipnet::IpNet;
+use route_lines::{Closing, Note, Reply};
+use route_table::{Hop, HopTable};
+use std::alloc::Global;
+use std::io::Write;
+use std::marker::Model;
+
+/// The most changes of a reply that are carried out one after another. More of them lead to a least table at once.
+const MOST_CHANGES: usize = 256;
+
+/// The hops that a leader's reply lines tell, as a table, and what is installed elsewhere. From the first `sync` on they
+/// are one table.
+#[derive(Drop)]
+pub(crate) struct Installer {
+    alloc: Global,
+    table: HopTable,
+    /// What is installed before the first `sync`.
+    before: Option<HopTable>,
+    waiting: Vec<Waiting>,
+}
+
+impl Model for Installer {
+    ghost use Rattle.route_feed.specs.Installing.{Installing};
+    ghost use Rattle.route_feed.specs.InnerInstalling.{tables_of};
+    ghost use Rattle.route_feed.specs.InnerWaiting.{changes_of};
+
+    ghost Value = { Installing };
+
+    ghost view = { λ i. record { tables = tables_of i.table i.before; pending = changes_of i.waiting.items } };
+}
+
+/// Carries a change out.
+fn paint(table: &mut HopTable, change: &Waiting) -> Result<(), RunError>
+    ensures routes { OnOk result (routes_of table.new ≡ painted (routes_of table.old) (route_waiting change.now)) }
+    ensures memory { IfErr result (λ e. e ≡ RunError.Memory) }
+{
+    match table.paint(change.net, change.hop) {
+        Ok(()) => Ok(()),
+        Err(_) => Err(RunError::Memory),
+    }
+}
+
+/// Carries the changes out, in order.
+fn paint_all(table: &mut HopTable, changes: &[Waiting]) -> Result<(), RunError>
+    ensures routes { OnOk result (routes_of table.new ≡ painted_all (routes_of table.old) (routes_waiting changes.now)) }
+    ensures memory { IfErr result (λ e. e ≡ RunError.Memory) }
+    ensures some { OnErr result (0 < length changes.now) }
+{
+    for change in changes {
+        paint(table, change)?;
+    }
+    Ok(())
+}
+
+/// Writes the operations of the changes, one change after another, and carries each out.
+fn write_changes<W: Write>(
+    table: &mut HopTable,
+    changes: &[Waiting],
+    writer: &mut Counted<W>,
+) -> Result<(), RunError>
+    requires { CanCount writer.old }
+    ensures { WritesChanges W.contents (routes_of table.old) (routes_waiting changes.now) writer.old result (routes_of table.new) writer.new }
+{
+    for change in changes {
+        write_operations(writer, table.repaint(change.net, change.hop))?;
+        paint(table, change)?;
+    }
+    Ok(())
+}
+
+/// Gives the batch of the changes.
+fn give_changes<W: Write>(
+    table: &mut HopTable,
+    changes: &[Waiting],
+    writer: &mut Counted<W>,
+) -> Result<(), RunError>
+    requires { CanCount writer.old }
+    ensures { GivesChanges W.contents (routes_of table.old) (routes_waiting changes.now) writer.old result (routes_of table.new) writer.new }
+{
+    write_changes(table, changes, writer)?;
+    close(writer, Closing::Done)
+}
+
+/// A least table.
+fn least(table: &HopTable) -> Result<Vec<(IpNet, Hop)>, RunError>
+    ensures least { IfOk result (λ list. IsLeast (hop_at (routes_of table.now)) (routes_for list.items)) }
+    ensures truncated { IfOk result (λ list. All (λ r. IsTruncated (family r.0) (parts r.0)) list.items) }
+    ensures memory { IfErr result (λ e. e ≡ RunError.Memory) }
+{
+    match table.least() {
+        Ok(list) => Ok(list),
+        Err(_) => Err(RunError::Memory),
+    }
+}
+
+/// The table of a list, as `least` gives it.
+fn table_of(alloc: Global, list: &[(IpNet, Hop)]) -> Result<HopTable, RunError>
+    requires { IsTable (routes_for list.now) }
+    ensures routes { IfOk result (λ table. routes_of table ≡ routes_for list.now) }
+    ensures memory { IfErr result (λ e. e ≡ RunError.Memory) }
+{
+    match HopTable::from_routes(alloc, list) {
+        Ok(table) => Ok(table),
+        Err(_) => Err(RunError::Memory),
+    }
+}
+
+/// A least table of the hops after the changes, where those of the table are as they are.
+fn least_after(
+    alloc: Global,
+    table: &HopTable,
+    changes: &[Waiting],
+) -> Result<Vec<(IpNet, Hop)>, RunError>
+    ensures least { IfOk result (λ list. IsTable (routes_of table.now) → AreChanges (routes_waiting changes.now) → IsLeast (hop_at (painted_all (routes_of table.now) (routes_waiting changes.now))) (routes_for list.items)) }
+    ensures table { IfOk result (λ list. IsTable (routes_for list.items)) }
+    ensures truncated { IfOk result (λ list. All (λ r. IsTruncated (family r.0) (parts r.0)) list.items) }
+    ensures memory { IfErr result (λ e. e ≡ RunError.Memory) }
+{
+    let same = least(table)?;
+    let mut after = table_of(alloc, same.as_slice())?;
+    paint_all(&mut after, changes)?;
+    least(&after)
+}
+
+impl Installer {
+    /// Nothing is installed, no address has a hop.
+    ///
+    /// # Errors
+    /// None: the `Result` is for a table that needs memory at once.
+    pub(crate) fn new(alloc: Global) -> Result<Installer, RunError>
+        ensures state { IfOk result (λ i. i ≡ begin) }
+        ensures memory { IfErr result (λ e. e ≡ RunError.Memory) }
+    {
+        let (Ok(table), Ok(before)) = (HopTable::new(alloc), HopTable::new(alloc)) else {
+            return Err(RunError::Memory);
+        };
+        Ok(Installer {
+            alloc,
+            table,
+            before: Some(before),
+            waiting: Vec::new(alloc),
+        })
+    }
+
+    /// What is installed.
+    fn installed(&self) -> &HopTable
+        ensures { routes_of result.now ≡ self.now.tables.installed }
+    {
+        match &self.before {
+            Some(before) => before,
+            None => &self.table,
+        }
+    }
+
+    /// Takes a note.
+    pub(crate) fn take_note<W: Write>(
+        &mut self,
+        note: Note,
+        writer: &mut Counted<W>,
+    ) -> Result<(), RunError>
+        requires { CanCount writer.old }
+        ensures { TakesNote W.contents self.old note writer.old result self.new writer.new }
+    {
+        match note {
+            Note::Have { net, hop } => self.have(net, hop),
+            Note::Sync => self.sync(writer),
+            Note::Reply(line) => self.reply(line, writer),
+        }
+    }
+
+    /// Takes a route that is installed already.
+    fn have(&mut self, net: IpNet, hop: Hop) -> Result<(), RunError>
+        ensures { Has self.old (route_of net hop default_preference) result self.new }
+    {
+        let Some(before) = &mut self.before else {
+            return Err(RunError::Line);
+        };
+        match before.install(net, hop) {
+            Ok(()) => Ok(()),
+            Err(_) => Err(RunError::Memory),
+        }
+    }
+
+    /// Gives the operations that make the table of the list of what is installed, and keeps that one from now on.
+    fn replace<W: Write>(
+        &mut self,
+        list: &[(IpNet, Hop)],
+        writer: &mut Counted<W>,
+    ) -> Result<(), RunError>
+        requires counts { CanCount writer.old }
+        requires table { IsTable (routes_for list.now) }
+        requires truncated { All (λ r. IsTruncated (family r.0) (parts r.0)) list.now }
+        ensures { Replaces W.contents self.old (routes_for list.now) writer.old result self.new writer.new }
+    {
+        let table = table_of(self.alloc, list)?;
+        write_operations(writer, self.installed().between(list))?;
+        close(writer, Closing::Done)?;
+        self.table = table;
+        self.before = None;
+        Ok(())
+    }
+
+    /// Brings what is installed to a least table of the hops that hold.
+    fn sync<W: Write>(&mut self, writer: &mut Counted<W>) -> Result<(), RunError>
+        requires { CanCount writer.old }
+        ensures { TakesNote W.contents self.old Note.Sync writer.old result self.new writer.new }
+    {
+        let list = least(&self.table)?;
+        self.replace(list.as_slice(), writer)
+    }
+
+    /// Takes a reply line.
+    fn reply<W: Write>(&mut self, line: Reply, writer: &mut Counted<W>) -> Result<(), RunError>
+        requires { CanCount writer.old }
+        ensures { TakesNote W.contents self.old (Note.Reply line) writer.old result self.new writer.new }
+    {
+        match line {
+            Reply::Set { net, number } => self.keep(net, Hop::Number(number)),
+            Reply::Unset { net } => self.keep(net, Hop::Drop),
+            Reply::Close(Closing::Done) => self.commit(writer),
+            Reply::Close(_) => {
+                self.waiting.clear();
+                Ok(())
+            }
+            _ => Ok(()),
+        }
+    }
+
+    /// Keeps a change until its reply is closed.
+    fn keep(&mut self, net: IpNet, hop: Hop) -> Result<(), RunError>
+        ensures tables { self.new.tables ≡ self.old.tables }
+        ensures pending { OnOk result (self.new.pending ≡ self.old.pending ++ waiting_change (record { net = net; hop = hop }) ∷ []) }
+        ensures memory { IfErr result (λ e. e ≡ RunError.Memory) }
+    {
+        match self.waiting.push(Waiting { net, hop }) {
+            Ok(()) => Ok(()),
+            Err(_) => Err(RunError::Memory),
+        }
+    }
+
+    /// Carries out what waits.
+    fn commit<W: Write>(&mut self, writer: &mut Counted<W>) -> Result<(), RunError>
+        requires { CanCount writer.old }
+        ensures { TakesNote W.contents self.old (Note.Reply (Reply.Close Closing.Done)) writer.old result self.new writer.new }
+    {
+        if self.before.is_some() {
+            self.commit_unseen()
+        } else if self.waiting.is_empty() {
+            Ok(())
+        } else if self.waiting.len() <= MOST_CHANGES {
+            self.commit_each(writer)
+        } else {
+            self.commit_least(writer)
+        }
+    }
+
+    /// Carries out what waits where the installed table is not kept.
+    fn commit_unseen(&mut self) -> Result<(), RunError>
+        requires { self.old.tables.kept ≡ false }
+        ensures table { OnOk result (self.new.tables ≡ record { table = painted_all self.old.tables.table (map route_to self.old.pending); installed = self.old.tables.installed; kept = false }) }
+        ensures pending { OnOk result (self.new.pending ≡ []) }
+        ensures memory { IfErr result (λ e. e ≡ RunError.Memory) }
+        ensures some { OnErr result (0 < length self.old.pending) }
+    {
+        paint_all(&mut self.table, self.waiting.as_slice())?;
+        self.waiting.clear();
+        Ok(())
+    }
+
+    /// Carries out what waits, one change after another.
+    fn commit_each<W: Write>(&mut self, writer: &mut Counted<W>) -> Result<(), RunError>
+        requires counts { CanCount writer.old }
+        requires kept { self.old.tables.kept ≡ true }
+        requires some { 0 < length self.old.pending }
+        requires few { length self.old.pending ≤ 256 }
+        ensures { TakesNote W.contents self.old (Note.Reply (Reply.Close Closing.Done)) writer.old result self.new writer.new }
+    {
+        give_changes(&mut self.table, self.waiting.as_slice(), writer)?;
+        self.waiting.clear();
+        Ok(())
+    }
+
+    /// Carries out what waits by a least table.
+    fn commit_least<W: Write>(&mut self, writer: &mut Counted<W>) -> Result<(), RunError>
+        requires counts { CanCount writer.old }
+        requires kept { self.old.tables.kept ≡ true }
+        requires many { 256 < length self.old.pending }
+        ensures { TakesNote W.contents self.old (Note.Reply (Reply.Close Closing.Done)) writer.old result self.new writer.new }
+    {
+        let list = least_after(self.alloc, &self.table, self.waiting.as_slice())?;
+        self.replace(list.as_slice(), writer)?;
+        self.waiting.clear();
+        Ok(())
+    }
+}
