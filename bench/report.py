@@ -7,6 +7,7 @@ from collections import namedtuple
 
 Measure = namedtuple("Measure", "seconds kilobytes")
 Counts = namedtuple("Counts", "flat least drops")
+Installed = namedtuple("Installed", "measure operations batches")
 
 HEAD = """# Speed and memory
 
@@ -35,6 +36,15 @@ SHORTEST = """
 
 How many blocks the flat list has, and how many routes the shortest table with the same hops, of which some are `drop`. The time
 is that of `routes least`, which reads the leader's output first.
+
+"""
+
+INSTALLER = """
+## The installer
+
+`routes_fib` over the leader's output, beside `routes follow` on the same lines. Where `sync` stands first, each change is carried out and
+written by itself; where it stands last, as at a start, the least table is installed at once. What was written makes a table with the
+leader's hops each time.
 
 """
 
@@ -68,8 +78,9 @@ crate asks for whole blocks of nodes. Nodes with thin lists in blocks of their o
 """
 
 
-class Row(namedtuple("Row", "title given answered lead follow least counts")):
-    """One feed: its lines and bytes, those of the leader's output, what each program took, and the lengths of the lists."""
+class Row(namedtuple("Row", "title given answered lead follow least counts kept begun")):
+    """One feed: its lines and bytes, those of the leader's output, what each program took, the lengths of the lists, and what an
+    installer took that keeps a table from the start, and one that begins at the end."""
 
     def cells(self, name):
         lead, follow = self.lead[name], self.follow[name]
@@ -101,9 +112,23 @@ class Row(namedtuple("Row", "title given answered lead follow least counts")):
         least = self.least["ours"]
         return [f"{self.counts.flat:,}", f"{self.counts.least:,}", f"{self.counts.drops:,}", f"{least.seconds:.2f}", f"{least.kilobytes / 1024:.1f}"]
 
+    def installed(self):
+        kept, begun = self.kept, self.begun
+        return [
+            f"{self.follow['ours'].seconds:.2f}",
+            f"{kept.measure.seconds:.2f}",
+            f"{rate(self.answered[0], kept.measure.seconds):,.0f}",
+            f"{kept.measure.kilobytes / 1024:.1f}",
+            f"{kept.batches:,}",
+            f"{kept.operations:,}",
+            f"{begun.measure.seconds:.2f}",
+            f"{begun.measure.kilobytes / 1024:.1f}",
+            f"{begun.operations:,}",
+        ]
+
     def text(self):
         told = "; ".join(f"{name}: {', '.join(self.cells(name))}" for name in self.follow)
-        return f"{self.title}: {self.given[0]} lines in, {self.answered[0]} out; {told}"
+        return f"{self.title}: {self.given[0]} lines in, {self.answered[0]} out; {told}; installer: {', '.join(self.installed())}"
 
 
 def ratio(theirs, ours):
@@ -157,6 +182,8 @@ def write(docs, feeds, growth, maps, runs, load):
     text += figures(rows)
     text += "\n![Time for each line read, by loads of 10,000 to 1,000,000 networks](performance.svg)\n"
     text += SHORTEST + table(["feed", "flat blocks", "routes", "of them `drop`", "least s", "MB"], [[row.title] + row.shortest() for row in rows])
+    head = ["feed", "follow s", "kept s", "lines/s", "MB", "batches", "operations", "at once s", "MB", "operations"]
+    text += INSTALLER + table(head, [[row.title] + row.installed() for row in rows])
     if all("peer" in row.lead for row in rows):
         head = ["feed", "lead", "lead, replies together", "follow", "least", "memory of lead", "memory of follow", "memory of least"]
         text += BESIDE + table(head, [[row.title] + row.ratios() for row in rows])

@@ -1,6 +1,6 @@
 //! The examples of the manual: the bytes of the files in examples/, in the order of their names.
 use crate::streams::{followed, led, shortened};
-use route_feed::{Counted, RunError, follow};
+use route_feed::{Counted, RunError, follow, install};
 use std::test::Fail;
 
 // What a leader is given, and all that it writes.
@@ -136,6 +136,22 @@ const SHORTENED: [(&[u8], &[u8]); 4] = [
     ),
 ];
 
+// What an installer is given, and all that it writes.
+const INSTALLED: [(&[u8], &[u8]); 3] = [
+    (
+        b"have 10.0.0.0/8 2\nhave 10.64.0.0/10 2\nhave 10.128.0.0/9 2\nset 10.0.0.0/8 1\nok\nset 10.0.0.0/9 2\nok\nset 10.64.0.0/10 1\nok\nset 2001:db8::/32 7\nok\nset 10.128.0.0/9 2\nok\nroute 10.128.0.0/9 2 100\nok\nunset 2001:db8::/32\nok\nset 10.64.0.0/10 2\nok\nsync\n",
+        b"remove 10.64.0.0/10\nremove 10.128.0.0/9\nok\n",
+    ),
+    (
+        b"have 10.0.0.0/8 1\nhave 10.1.0.0/16 drop\nhave 192.0.2.0/24 7\nset 10.0.0.0/8 1\nok\nset 10.0.0.0/9 2\nok\nset 10.64.0.0/10 1\nok\nset 2001:db8::/32 7\nok\nsync\nset 10.128.0.0/9 2\nok\nroute 10.128.0.0/9 2 100\nok\nunset 2001:db8::/32\nok\nset 10.64.0.0/10 2\nok\nsync\n",
+        b"install 2001:db8::/32 7\ninstall 10.0.0.0/10 2\nremove 10.1.0.0/16\nremove 192.0.2.0/24\nok\ninstall 10.128.0.0/9 2\nok\nremove 2001:db8::/32\nok\ninstall 10.64.0.0/10 2\nok\ninstall 10.0.0.0/8 2\nremove 10.0.0.0/10\nremove 10.64.0.0/10\nremove 10.128.0.0/9\nok\n",
+    ),
+    (
+        b"set 10.0.0.0/8 1\nok\nset 10.0.0.0/10 2\nsync\nok\nset 10.0.0.0/8 3\nrefused\nsync\n",
+        b"install 10.0.0.0/8 1\nok\ninstall 10.0.0.0/10 2\nok\nok\n",
+    ),
+];
+
 const FOREIGN: &[u8] = b"set 10.0.0.0/8 1\nok\nadd 10.0.0.0/9 2\n";
 
 #[test]
@@ -163,6 +179,18 @@ fn shortened_examples(rt: HostRuntime) -> Result<(), Fail> {
         assert_eq!(rt; out.as_slice(), wanted);
     }
     Ok(())
+}
+
+#[test]
+fn installed_examples(rt: HostRuntime) {
+    for (input, wanted) in INSTALLED {
+        let mut reader = Counted::new(input);
+        let mut writer = Counted::new(Vec::new(rt.alloc()));
+        let result = install(rt.alloc(), &mut reader, &mut writer);
+        assert_eq!(rt; result, Ok(()));
+        let out = writer.into_inner();
+        assert_eq!(rt; out.as_slice(), wanted);
+    }
 }
 
 #[test]

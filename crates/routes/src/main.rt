@@ -1,8 +1,6 @@
 //! The program `routes`: a route table by lines from standard input, and replies to standard output.
 #![tactic(auto)]
 
-ghost use Rattle.std.specs.Io.Buffered.{writer_contents};
-ghost use Rattle.std.specs.Io.KnownBytes.{Keeps};
 ghost use Rattle.std.specs.Prelude.{◌≡◌, ◌↔◌, ◌<◌, ◌^◌, ◌⊎◌, [], ◌∷◌, drop, map, IfErr, IfOk, IfSome, IsErrOf, Ok, OnOk};
 ghost use Rattle.std.specs.String.{string_bytes};
 ghost use Rattle.std.specs.Vec.Iter.{into_iter_items};
@@ -12,11 +10,7 @@ ghost use Rattle.routes.specs.Asked.{AnyMode, word_of};
 ghost use Rattle.routes.specs.Runs.{Ends, Writes};
 ghost use Rattle.routes.specs.Status.{status_of};
 
-mod input;
-mod output;
-
-use input::Input;
-use output::Output;
+use program_io::{Input, Output, REPLY, let_go, write_out};
 use route_feed::{Counted, RunError, follow_leaking, lead_leaking, shorten};
 use std::alloc::{Allocator, Global};
 use std::cell::Cell;
@@ -25,9 +19,6 @@ use std::env::{Args, Env};
 use std::io::{BufWriter, Read, Write};
 use std::process::ExitCode;
 use thiserror::Error;
-
-/// How many bytes of a reply are put together before they are written.
-const REPLY: usize = 1 << 16;
 
 /// What the program does.
 #[derive(Clone, Copy, PartialEq, Eq)]
@@ -144,25 +135,6 @@ fn run_mode<R: Read, W: Write + Drop>(
             Err(error)
         }
     }
-}
-
-// The output, with all that was gathered for it.
-fn write_out<W: Write + Drop>(buffered: BufWriter<W>) -> Result<W, RunError>
-    ensures written { IfOk result (λ w. Keeps (writer_contents W.contents buffered) (W.contents w)) }
-    ensures fault { IfErr result (λ e. e ≡ RunError.Write) }
-{
-    match buffered.into_inner() {
-        Ok(output) => Ok(output),
-        Err(error) => {
-            let_go(error.into_inner());
-            Err(RunError::Write)
-        }
-    }
-}
-
-// Drops a writer, and what it has gathered unwritten.
-fn let_go<W: Write + Drop>(buffered: BufWriter<W>) {
-    let (_output, _unwritten) = buffered.into_parts();
 }
 
 fn run(rt: &HostRuntime) -> Result<(), Fault> {

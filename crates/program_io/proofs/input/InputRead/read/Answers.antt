@@ -1,7 +1,7 @@
 use Rattle.std.proofs.Common.{◌≡◌, ◌-◌, ◌<◌, ◌≤◌, [], ◌++◌, length, take, drop, sym, ap, ap₂, ◌∙◌, arith}
 use Rattle.std.proofs.lemmas.List.{take-append-drop, take-take}
-use Rattle.routes.proofs.Kept.{kept_back, handed_on, none_left, some_left, nothing_kept, left_after, copied}
-use Rattle.routes.proofs.input.InputRead.read.Goals as goal
+use Rattle.program_io.proofs.Kept.{kept_back, handed_on, none_left, some_left, nothing_kept, left_after, copied}
+use Rattle.program_io.proofs.input.InputRead.read.Goals as goal
 
 pub returns-then-is_empty-clause-bytes : goal.returns-then-is_empty-clause-bytes
 returns-then-is_empty-clause-bytes g c =

@@ -18,6 +18,7 @@ pub struct Output<'a, W: Drop> {
 }
 
 impl<'a, W: Drop> Output<'a, W> {
+    /// The output to a device.
     pub fn new(device: W, more: &'a Cell<bool>) -> Output<'a, W>
         ensures { inner result.device ≡ device }
     {

@@ -1,7 +1,7 @@
 //! The input, which tells whether more lines are here.
 ghost use Rattle.std.specs.Io.{ReadsAtMost};
 ghost use Rattle.std.specs.Io.KnownBytes.{ReadConsumes, prepend_known};
-ghost use Rattle.std.specs.Prelude.{◌≡◌, ◌<◌, ◌≤◌, ◌+◌, drop, is_err, length};
+ghost use Rattle.std.specs.Prelude.{◌≡◌, ◌<◌, ◌≤◌, ◌+◌, [], drop, is_err, length};
 ghost use Rattle.route_feed.specs.Counted.{faults_of, inner, more_if, reads_of};
 
 use arrayvec::ArrayVec;
@@ -25,7 +25,11 @@ pub struct Input<'a, R> {
 }
 
 impl<'a, R> Input<'a, R> {
-    pub fn new(device: R, more: &'a Cell<bool>) -> Input<'a, R> {
+    /// The input from a device, of which nothing is kept.
+    pub fn new(device: R, more: &'a Cell<bool>) -> Input<'a, R>
+        ensures device { inner result.device ≡ device }
+        ensures kept { drop result.start result.kept.items ≡ [] }
+    {
         Input {
             device: Counted::new(device),
             kept: ArrayVec::new(),

@@ -1,0 +1,118 @@
+//! The program `routes_fib`: a leader's reply lines from standard input, and operations on a forwarding table to standard output.
+#![tactic(auto)]
+
+ghost use Rattle.std.specs.Prelude.{◌≡◌, ◌↔◌, ◌<◌, ◌^◌, ◌⊎◌, [], drop, IfErr, IfOk, IfSome, IsErrOf, IsOk};
+ghost use Rattle.std.specs.Vec.Iter.{into_iter_items};
+ghost use Rattle.route_feed.specs.Counted.{ReadFault, faults_of, inner, reads_of};
+ghost use Rattle.route_feed.specs.Installs.{AppendsInstalled};
+ghost use Rattle.route_lines.specs.Bytes.{lines};
+ghost use Rattle.routes_fib.specs.Ends.{MeetsUnfitLine, MeetsWantingLine};
+ghost use Rattle.routes_fib.specs.Status.{status_of};
+
+use program_io::{REPLY, let_go, write_out};
+use route_feed::{Counted, RunError, install};
+use std::alloc::{Allocator, Global};
+use std::env;
+use std::env::{Args, Env};
+use std::io::{BufWriter, Read, Write};
+use std::process::ExitCode;
+use thiserror::Error;
+
+/// Why the program ends with a status above 0. Each prints its line on standard error.
+#[derive(Clone, Copy, Debug, PartialEq, Eq, Error)]
+enum Fault {
+    /// The arguments can't be had.
+    #[error("routes_fib: no memory")]
+    Arguments,
+    /// There is an argument.
+    #[error("usage: routes_fib")]
+    Usage,
+    /// The run ended early.
+    #[error("routes_fib: {0}")]
+    Run(RunError),
+}
+
+impl Fault {
+    /// The exit status.
+    fn status(&self) -> u8
+        ensures { result ≡ status_of self.now }
+    {
+        match self {
+            Fault::Arguments => 1,
+            Fault::Usage => 2,
+            Fault::Run(RunError::Memory) => 1,
+            Fault::Run(RunError::Read) => 3,
+            Fault::Run(RunError::Write) => 4,
+            Fault::Run(RunError::Line) => 5,
+        }
+    }
+}
+
+// Sees that there are no arguments.
+fn see_arguments<R: Env + Alloc>(rt: &R) -> Result<(), Fault>
+    ensures { IfErr result (λ e. (e ≡ Fault.Arguments) ⊎ (e ≡ Fault.Usage)) }
+{
+    match env::args(rt) {
+        Ok(args) => see_none(args),
+        Err(_) => Err(Fault::Arguments),
+    }
+}
+
+// Sees that after the program's name stands nothing.
+fn see_none<A: Allocator>(mut args: Args<A>) -> Result<(), Fault>
+    ensures none { IsOk result ↔ (drop 1 (into_iter_items args) ≡ []) }
+    ensures usage { IfErr result (λ e. e ≡ Fault.Usage) }
+{
+    let _program = args.next();
+    match args.next() {
+        None => Ok(()),
+        Some(_) => Err(Fault::Usage),
+    }
+}
+
+// Keeps a table installed, from the input to the output, and hands the output back. Each batch is written out before another line is
+// taken. What a failed write left unwritten is let go.
+fn install_by<R: Read, W: Write + Drop>(
+    alloc: Global,
+    reader: &mut Counted<R>,
+    output: W,
+) -> Result<W, RunError>
+    requires reads { reads_of reader.old < 2 ^ 63 }
+    requires faults { faults_of reader.old < 2 ^ 63 }
+    ensures known { IfOk result (λ w. IfSome (R.remaining (inner reader.old)) (λ bytes. AppendsInstalled (lines bytes) (W.contents output) (W.contents w))) }
+    ensures read { IsErrOf result RunError.Read → ReadFault reader.old reader.new }
+    ensures line { IsErrOf result RunError.Line → MeetsUnfitLine R.remaining reader.old reader.new }
+    ensures memory { IsErrOf result RunError.Memory → (reader.new ≡ reader.old) ⊎ MeetsWantingLine R.remaining reader.old reader.new }
+    ensures read_well { (IsErrOf result RunError.Read → ⊥) → faults_of reader.new ≡ faults_of reader.old }
+{
+    let Ok(buffered) = BufWriter::with_capacity(alloc, REPLY, output) else {
+        return Err(RunError::Memory);
+    };
+    let mut writer = Counted::new(buffered);
+    match install(alloc, reader, &mut writer) {
+        Ok(()) => write_out(writer.into_inner()),
+        Err(error) => {
+            let_go(writer.into_inner());
+            Err(error)
+        }
+    }
+}
+
+fn run(rt: &HostRuntime) -> Result<(), Fault> {
+    see_arguments(rt)?;
+    let mut reader = Counted::new(rt.stdin());
+    match install_by(rt.alloc(), &mut reader, rt.stdout()) {
+        Ok(_output) => Ok(()),
+        Err(error) => Err(Fault::Run(error)),
+    }
+}
+
+fn main(rt: HostRuntime) -> ExitCode {
+    match run(&rt) {
+        Ok(()) => ExitCode::SUCCESS,
+        Err(fault) => {
+            let _ = eprintln!(rt; "{fault}");
+            ExitCode::from(fault.status())
+        }
+    }
+}
