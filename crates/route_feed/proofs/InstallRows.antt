@@ -1,7 +1,7 @@
 -- A worked row: a session of three commands, with a route that is installed already, and a `sync` after the first reply.
-use Rattle.std.proofs.Common.{◌≡◌, ℕ, ◌≤◌, ◌<◌, ◌^◌, List, [], ◌∷◌, ◌++◌, Option, Some, None, map, take, length, ⊎_elim, refl, sym, subst, arith}
+use Rattle.std.proofs.Common.{◌≡◌, ℕ, ◌≤◌, List, [], ◌∷◌, ◌++◌, Option, Some, None, map, take, length, ⊎_elim, refl, sym, subst, arith}
 use Rattle.std.proofs.lemmas.List.Elements.{All-cons, All-nil}
-use Rattle.ipnet_addr.specs.Addresses.{Address, Ipv4}
+use Rattle.ipnet_addr.specs.Addresses.{Ipv4}
 use Rattle.ipnet_blocks.specs.Blocks.{Block, IsBlock}
 use Rattle.ipnet.specs.IpNets.{network_at}
 use Rattle.ipnet.specs.declared.ip_net.IpNet.{IpNet}
