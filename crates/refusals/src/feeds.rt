@@ -1,8 +1,9 @@
-//! Leaders, followers and least tables, and the lines of a feed. What is led, followed or shortened is standard input.
+//! Leaders, followers, least tables and installers, and the lines of a feed. What is led, followed, shortened or installed is
+//! standard input.
 use crate::fault::Fault;
 use crate::show::{answer, begin, debug_line, end, line, refused};
 use ipnet::IpNet;
-use route_feed::{Counted, FollowError, Follower, RunError, follow, lead, shorten};
+use route_feed::{Counted, FollowError, Follower, RunError, follow, install, lead, shorten};
 use route_lines::{Command, Line, LineCutter, Reply};
 use route_table::Flat;
 use std::io::{Stdin, Write};
@@ -16,16 +17,18 @@ pub enum FeedCall {
     Lead,
     Follow,
     Shorten,
+    Install,
     New,
     Change,
     Commit,
     Cut,
 }
 
-pub static SCENARIOS: [(&str, FeedCall); 7] = [
+pub static SCENARIOS: [(&str, FeedCall); 8] = [
     ("lead", FeedCall::Lead),
     ("follow", FeedCall::Follow),
     ("shorten", FeedCall::Shorten),
+    ("install", FeedCall::Install),
     ("free-follower-new", FeedCall::New),
     ("follower-change", FeedCall::Change),
     ("follower-commit", FeedCall::Commit),
@@ -50,6 +53,7 @@ fn run_over(rt: &HostRuntime, call: FeedCall) -> Result<(), Fault> {
     let outcome = match call {
         FeedCall::Lead => lead(rt.alloc(), &mut reader, &mut writer),
         FeedCall::Follow => follow(rt.alloc(), &mut reader, &mut writer),
+        FeedCall::Install => install(rt.alloc(), &mut reader, &mut writer),
         _ => shorten(rt.alloc(), &mut reader, &mut writer),
     };
     ended(rt, &outcome)?;
