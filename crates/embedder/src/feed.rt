@@ -1,17 +1,23 @@
-//! A leader and a follower over memory.
-ghost use Rattle.std.specs.Prelude.{◌≡◌, ◌⊎◌, ◌++◌, ◌∷◌, [], Bool, List, IfOk, codes, map, take};
+//! A leader, a follower and an installer over memory.
+ghost use Rattle.std.specs.Prelude.{◌≡◌, ◌⊎◌, ◌++◌, ◌∷◌, [], ℕ, Bool, List, IfOk, codes, map, take};
+ghost use Rattle.ipnet_addr.specs.Addresses.{Address, IsAddress};
+ghost use Rattle.route_feed.specs.Installing.{AreNotes, Noted, begin, events};
+ghost use Rattle.route_feed.specs.InstallLaws.{HasSync, carried_out as table_of_lines, updates_in};
 ghost use Rattle.route_feed.specs.Laws.{table_told};
 ghost use Rattle.route_feed.specs.Output.{output};
 ghost use Rattle.route_feed.specs.Replies.{printed};
 ghost use Rattle.route_feed.specs.Steps.{flat_line};
+ghost use Rattle.route_feed.specs.Streams.{replies_in};
+ghost use Rattle.route_lines.specs.Bytes.{lines};
 ghost use Rattle.route_lines.specs.declared.reply.Closing.TheVariants.{Done};
 ghost use Rattle.route_lines.specs.declared.reply.Reply.TheVariants.{Close};
 ghost use Rattle.route_laws.specs.Flats.{flat_of};
 ghost use Rattle.route_laws.specs.Networks.{routes_of};
+ghost use Rattle.route_laws.specs.Runs.{haves};
 ghost use Rattle.route_laws.specs.Tables.{hop_at};
 
-use route_feed::laws::followed;
-use route_feed::{Counted, RunError, follow, lead};
+use route_feed::laws::{carried_out, followed};
+use route_feed::{Counted, RunError, follow, install, lead};
 use route_table::laws::one_route;
 use std::alloc::Global;
 
@@ -33,6 +39,24 @@ pub fn mirrored(alloc: Global, input: &[u8], cut: usize) -> Result<(Vec<u8>, Vec
     let mut out = Counted::new(Vec::new(alloc));
     follow(alloc, &mut tail, &mut out)?;
     Ok((told, out.into_inner()))
+}
+
+/// What an installer writes of a log. Where the reply lines of the log are those in a beginning of a leader's output, and there is
+/// a `sync`, whoever carries out what is written, on the routes that the `have` lines tell, has each address at the hop of the
+/// leader's table there.
+///
+/// # Errors
+/// Those of `install`; this contract says nothing of them.
+pub fn installed(alloc: Global, log: &[u8]) -> Result<Vec<u8>, RunError>
+    ensures { IfOk result (λ out. (notes : List Noted) × AreNotes (lines log.now) notes × ((bytes front back : List ℕ) (refusals : List Bool)
+        → output bytes refusals ≡ front ++ back → replies_in log.now ≡ replies_in front → HasSync notes → (x : Address) → IsAddress x
+        → hop_at (table_of_lines (haves (events begin notes)) (updates_in out.items)) x ≡ hop_at (routes_of (table_told bytes refusals front)) x)) }
+{
+    carried_out();
+    let mut reader = Counted::new(log);
+    let mut writer = Counted::new(Vec::new(alloc));
+    install(alloc, &mut reader, &mut writer)?;
+    Ok(writer.into_inner())
 }
 
 /// A whole session, byte for byte; the `add` may be refused for want of memory.

@@ -11,13 +11,7 @@ use Rattle.route_feed.specs.Installing.{Installing, Noted, after_note, after_not
 use Rattle.route_feed.specs.InstallLaws.{is_operation, oks}
 use Rattle.route_feed.proofs.GivenLines.{kept-append}
 use Rattle.route_feed.proofs.KeptTable.{one_event}
-use Rattle.route_feed.proofs.NotesInTurn.{kept_stays}
-
-pub lines-append : (s : Installer) (es fs : List Event) → update_lines s (es ++ fs) ≡ update_lines s es ++ update_lines (after_events s es) fs
-lines-append s [] fs = refl
-lines-append s (e ∷ es) fs =
-    ap (λ us. event_lines s e ++ us) (lines-append (after_event s e) es fs)
-    ∙ sym (append_assoc (event_lines s e) (update_lines (after_event s e) es) (update_lines (after_events (after_event s e) es) fs))
+use Rattle.route_feed.proofs.NotesInTurn.{kept_stays, lines-append}
 
 pub oks-append : (us vs : List Update) → oks (us ++ vs) ≡ oks us + oks vs
 oks-append us vs = ap length (kept-append (λ (u : Update). not (is_operation u)) us vs) ∙ length-append (filter (λ (u : Update). not (is_operation u)) us) (filter (λ (u : Update). not (is_operation u)) vs)

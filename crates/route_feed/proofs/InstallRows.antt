@@ -1,7 +1,7 @@
 -- A worked row: a session of three commands, with a route that is installed already, and a `sync` after the first reply.
-use Rattle.std.proofs.Common.{◌≡◌, ℕ, ◌≤◌, ◌<◌, ◌^◌, List, [], ◌∷◌, ◌++◌, Option, Some, None, map, take, length, ⊎_elim, refl, sym, subst, arith}
+use Rattle.std.proofs.Common.{◌≡◌, ℕ, ◌≤◌, List, [], ◌∷◌, ◌++◌, Option, Some, None, map, take, length, ⊎_elim, refl, sym, subst, arith}
 use Rattle.std.proofs.lemmas.List.Elements.{All-cons, All-nil}
-use Rattle.ipnet_addr.specs.Addresses.{Address, Ipv4}
+use Rattle.ipnet_addr.specs.Addresses.{Ipv4}
 use Rattle.ipnet_blocks.specs.Blocks.{Block, IsBlock}
 use Rattle.ipnet.specs.IpNets.{network_at}
 use Rattle.ipnet.specs.declared.ip_net.IpNet.{IpNet}
@@ -83,10 +83,16 @@ may_row : MayAllCome start (events begin three_replies)
 may_row =
     let eight : IsBlock (at 8 10) = record { in_width = omega arith; in_range = omega arith } in (
       (refl, eight, omega arith),
-      (one_change 8 10 (Number 1) eight (omega arith),
-      ((record { blocks = All-nil (λ (r : Route). IsBlock r.block); hops = All-nil (λ (r : Route). IsHop r.hop) }, least_row),
-      (one_change 9 20 (Number 2) (record { in_width = omega arith; in_range = omega arith }) (omega arith),
-      (one_change 9 21 Drop (record { in_width = omega arith; in_range = omega arith }) tt, tt)))),
+      (
+        one_change 8 10 (Number 1) eight (omega arith),
+        (
+          (record { blocks = All-nil (λ (r : Route). IsBlock r.block); hops = All-nil (λ (r : Route). IsHop r.hop) }, least_row),
+          (
+            one_change 9 20 (Number 2) (record { in_width = omega arith; in_range = omega arith }) (omega arith),
+            (one_change 9 21 Drop (record { in_width = omega arith; in_range = omega arith }) tt, tt),
+          ),
+        ),
+      ),
     )
 
 -- install 10.0.0.0/8 1; ok; install 10.0.0.0/9 2; ok; install 10.128.0.0/9 drop; ok

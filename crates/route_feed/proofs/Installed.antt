@@ -1,5 +1,5 @@
 -- What an installer has done at the end of its input.
-use Rattle.std.proofs.Common.{◌≡◌, ℕ, zero, suc, ◌+◌, ◌<◌, inl, inr, ⊎_elim, Bool, true, false, nat_lt, ◌&&◌, cond, List, [], ◌∷◌, ◌++◌, length, map, IfSome, Option, None, Some, Result, Ok, Err, refl, sym, ap, ◌∙◌, subst, append_assoc, append-nil, arith}
+use Rattle.std.proofs.Common.{◌≡◌, ℕ, zero, suc, ◌+◌, ◌<◌, inl, inr, ⊎_elim, Bool, true, false, nat_lt, ◌&&◌, cond, List, [], ◌∷◌, ◌++◌, length, map, IfSome, Option, None, Some, Result, Ok, Err, refl, sym, ap, ◌∙◌, subst, append-nil, arith}
 use Rattle.std.specs.Prelude.{MatchOption, OnOk}
 use Rattle.std.specs.Io.KnownBytes.{Appends, Consumes}
 use Rattle.std.proofs.KnownBytes.{Appends-trans, Consumes-whole}
@@ -26,10 +26,11 @@ use Rattle.route_feed.specs.Counted.{inner, faults_of, flushes_of, more_by, one_
 use Rattle.route_feed.specs.InnerInstalling.{AllFit, Fails, Takes, TakesNone, TakesNote, TakesNoteLine, Wants, note_in, update_line}
 use Rattle.route_feed.specs.InnerReplies.{Closed}
 use Rattle.route_feed.specs.InnerRun.{Runs, TakesAll}
-use Rattle.route_feed.specs.Installing.{AreNotes, Installing, IsUnfit, Noted, after_note, after_notes, batches, begin, committing, event_lines, event_of, events, installed_bytes, printed_updates, route_to, update_lines}
+use Rattle.route_feed.specs.Installing.{AreNotes, Installing, IsUnfit, Noted, after_note, after_notes, batches, begin, committing, event_of, events, installed_bytes, printed_updates, route_to, update_lines}
 use Rattle.route_feed.specs.Installs.{AppendsInstalled, Gives as GivesOutput, GivesThen, InstallEnds, Installs, Meets}
 use Rattle.route_feed.specs.Streams.{Change, closes, done_or}
 use Rattle.route_feed.proofs.ChangesInRange.{AreInRange, NoteInRange, are_changes, note_in_range, past_in_range}
+use Rattle.route_feed.proofs.NotesInTurn.{events-append, lines-append, tables_after}
 use Rattle.route_feed.proofs.Written.{Closed-nil}
 
 -- ---- events after events
@@ -49,10 +50,6 @@ fit-front s (e ∷ es) fs p = (p.0, fit-front (after_event s e) es fs p.1)
 fit-back : (s : Installer) (es fs : List Event) → AllFit s (es ++ fs) → AllFit (after_events s es) fs
 fit-back s [] fs p = p
 fit-back s (e ∷ es) fs p = fit-back (after_event s e) es fs p.1
-
-lines-append : (s : Installer) (es fs : List Event) → update_lines s (es ++ fs) ≡ update_lines s es ++ update_lines (after_events s es) fs
-lines-append s [] fs = refl
-lines-append s (e ∷ es) fs = ap (λ l. event_lines s e ++ l) (lines-append (after_event s e) es fs) ∙ sym (append_assoc (event_lines s e) (update_lines (after_event s e) es) (update_lines (after_events (after_event s e) es) fs))
 
 printed-append : (us vs : List Update) → printed_updates (us ++ vs) ≡ printed_updates us ++ printed_updates vs
 printed-append us vs = flat_map-append update_line us vs
@@ -144,19 +141,6 @@ all_may a (p ∷ ps) (n ∷ ns) r s f =
     (note_may a n.note n.least r q (fit-front a.tables es later f))
     (all_may (after_note a n) ps ns (past_in_range a.pending n.note r q) s.1 (fit-back a.tables es later f))
 
--- the events of notes, and of one more
-events-append : (a : Installing) (ns ms : List Noted) → events a (ns ++ ms) ≡ events a ns ++ events (after_notes a ns) ms
-events-append a [] ms = refl
-events-append a (n ∷ ns) ms = ap (λ l. event_of a n.note n.least ++ l) (events-append (after_note a n) ns ms) ∙ sym (append_assoc (event_of a n.note n.least) (events (after_note a n) ns) (events (after_notes (after_note a n) ns) ms))
-
-after_events-append : (s : Installer) (es fs : List Event) → after_events s (es ++ fs) ≡ after_events (after_events s es) fs
-after_events-append s [] fs = refl
-after_events-append s (e ∷ es) fs = after_events-append (after_event s e) es fs
-
-tables_after : (a : Installing) (ns : List Noted) → after_events a.tables (events a ns) ≡ (after_notes a ns).tables
-tables_after a [] = refl
-tables_after a (n ∷ ns) = after_events-append a.tables (event_of a n.note n.least) (events (after_note a n) ns) ∙ tables_after (after_note a n) ns
-
 -- notes that are taken may come, and so may one more
 are_notes : (ps : List (List ℕ)) (ns : List Noted) → AreSpelled ps ns → AllFit start (events begin ns) → AreNotes ps ns
 are_notes ps ns s f = record { spelled = spelled_map ps ns s; may = all_may begin ps ns tt s f }
@@ -168,7 +152,7 @@ are_notes_too ps p ns n s f e g =
     are_notes (ps ++ p ∷ []) (ns ++ n ∷ []) (spelled-append ps (p ∷ []) ns (n ∷ []) s (e, tt))
     (subst (AllFit start) (sym (events-append begin ns (n ∷ [])))
     (fit-append start (events begin ns) (events (after_notes begin ns) (n ∷ [])) f
-    (subst (λ t. AllFit t (events (after_notes begin ns) (n ∷ []))) (sym (tables_after begin ns))
+    (subst (λ t. AllFit t (events (after_notes begin ns) (n ∷ []))) (tables_after begin ns)
     (subst (AllFit (after_notes begin ns).tables) (sym (append-nil (event_of (after_notes begin ns) n.note n.least))) g))))
 
 -- ---- notes after notes

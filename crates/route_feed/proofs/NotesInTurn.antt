@@ -7,12 +7,18 @@ use Rattle.route_lines.specs.declared.note.Note.{Note}
 use Rattle.route_lines.specs.declared.note.Note.TheVariants as N
 use Rattle.route_laws.specs.Runs.{Event, Have, Told, Sync, Installer, MayAllCome, after_event, after_events, start}
 use Rattle.route_feed.specs.Streams.{pending_over}
-use Rattle.route_feed.specs.Installing.{Installing, Noted, after_note, after_notes, begin, event_of, events, pending_past}
+use Rattle.route_feed.specs.Installing.{Installing, Noted, after_note, after_notes, begin, event_lines, event_of, events, pending_past, update_lines}
 use Rattle.route_feed.specs.InstallLaws.{HasSync, replies_of, reply_in}
 
 pub after_events-append : (s : Installer) (es fs : List Event) → after_events s (es ++ fs) ≡ after_events (after_events s es) fs
 after_events-append s [] fs = refl
 after_events-append s (e ∷ es) fs = after_events-append (after_event s e) es fs
+
+pub lines-append : (s : Installer) (es fs : List Event) → update_lines s (es ++ fs) ≡ update_lines s es ++ update_lines (after_events s es) fs
+lines-append s [] fs = refl
+lines-append s (e ∷ es) fs =
+    ap (λ us. event_lines s e ++ us) (lines-append (after_event s e) es fs)
+    ∙ sym (append_assoc (event_lines s e) (update_lines (after_event s e) es) (update_lines (after_events (after_event s e) es) fs))
 
 -- the first of some events may come, and then the later ones
 pub may_split : (s : Installer) (es fs : List Event) → MayAllCome s (es ++ fs) → MayAllCome s es × MayAllCome (after_events s es) fs

@@ -13,7 +13,7 @@ pub enum RunError {
     /// A `write` or a `flush` failed, or a `write` took nothing.
     #[error("write fault")]
     Write,
-    /// The input has a line that is no reply line.
+    /// The input has a line that is no reply line; of an installer, none of its lines, or a `have` line after a `sync`.
     #[error("not a reply line")]
     Line,
 }

@@ -450,9 +450,17 @@ fn each_write_fails(rt: HostRuntime) -> Result<(), Fail> {
 
 /// How many reads of one byte have come before the reply after so many.
 fn read_for(mode: Mode, input: &[u8], replies: usize) -> usize {
-    for came in 1..=input.len() {
-        if answered(mode, input, came) > replies {
-            return came;
+    let mut before = replies;
+    let mut start = 0usize;
+    for (at, byte) in input.iter().enumerate() {
+        if *byte == b'\n' {
+            if is_answered(mode, input.get(start..at).unwrap_or(b"")) {
+                if before == 0 {
+                    return at.wrapping_add(1);
+                }
+                before -= 1;
+            }
+            start = at.wrapping_add(1);
         }
     }
     input.len().wrapping_add(1)
