@@ -38,5 +38,6 @@ OpensIndex None (Some s) (Some i) code = (code ≡ 0) × HasHopsOf s.table i.ind
 abbrev pub index_hop4 : Index → ℕ → ℕ
 index_hop4 i addr = number_shown (hop_of i (record { family = Ipv4; number = addr }))
 
+-- the same of an IPv6 address
 abbrev pub index_hop6 : Index → Addr6 → ℕ
 index_hop6 i a = number_shown (hop_of i (record { family = Ipv6; number = a.high * 2 ^ 64 + a.low }))

@@ -12,6 +12,7 @@ use Rattle.routes_c.specs.declared.shown.Addr6.{Addr6}
 abbrev pub hop4_at : List Stored → ℕ → ℕ
 hop4_at T addr = match_shown (option_map item_of (match_of (routes_of T) (block_of Ipv4 (record { number = addr; len = 32 }))))
 
+-- the same of an IPv6 address
 abbrev pub hop6_at : List Stored → Addr6 → ℕ
 hop6_at T a = match_shown (option_map item_of (match_of (routes_of T) (block_of Ipv6 (record { number = a.high * 2 ^ 64 + a.low; len = 128 }))))
 
