@@ -392,6 +392,8 @@ fn dropped_outside(rt: HostRuntime) {
     };
     assert_eq!(rt; key, (0x8000_0000, 1));
     assert!(rt; entries.next().is_none());
+    drop(entries);
+    assert_eq!(rt; drops.get(), 2);
     drop(value);
     assert_eq!(rt; drops.get(), 3);
 }

@@ -136,22 +136,32 @@ fn very_many_changes(rt: HostRuntime) -> Result<(), Fail> {
     Ok(())
 }
 
+/// The table answers the line so, and flushes once.
+fn answers(rt: &HostRuntime, table: &mut RouteTable, line: &[u8], wanted: &[u8]) {
+    let mut writer = Counted::new(Vec::new(rt.alloc()));
+    assert_eq!(rt; lead_line(table, line, &mut writer), Ok(()));
+    assert_eq!(rt; writer.flushes(), 1);
+    assert!(rt; !writer.waiting());
+    assert_eq!(rt; writer.into_inner().as_slice(), wanted);
+}
+
 /// A line is answered as `lead` answers it, and the table keeps it.
 #[test]
 fn a_line(rt: HostRuntime) {
     let mut table = RouteTable::new(rt.alloc()).expect(&rt, "a table");
-    let mut writer = Counted::new(Vec::new(rt.alloc()));
     let long = [b'x'; 81];
-    for line in [
-        b"add 10.0.0.0/8 1".as_slice(),
-        b"get 10.1.0.0/16".as_slice(),
-        b"add".as_slice(),
-        long.as_slice(),
+    for (line, wanted) in [
+        (
+            b"add 10.0.0.0/8 1".as_slice(),
+            b"set 10.0.0.0/8 1\nok\n".as_slice(),
+        ),
+        (
+            b"get 10.1.0.0/16".as_slice(),
+            b"route 10.0.0.0/8 1 100\nok\n".as_slice(),
+        ),
+        (b"add".as_slice(), b"bad\n".as_slice()),
+        (long.as_slice(), b"bad\n".as_slice()),
     ] {
-        assert_eq!(rt; lead_line(&mut table, line, &mut writer), Ok(()));
-        assert!(rt; !writer.waiting());
+        answers(&rt, &mut table, line, wanted);
     }
-    assert_eq!(rt; writer.flushes(), 4);
-    let wanted = b"set 10.0.0.0/8 1\nok\nroute 10.0.0.0/8 1 100\nok\nbad\nbad\n";
-    assert_eq!(rt; writer.into_inner().as_slice(), wanted.as_slice());
 }
