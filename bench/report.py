@@ -105,7 +105,8 @@ SAME = "All sides stored as many networks, and told the same hop for each addres
 MATCHED = "; the crate, whose numbers were those of the feed's lines, found the same networks"
 
 AIMS = """How many times as fast the index is as the other ways, of one address in a call; the last column is of 64. Below 1 it is slower.
-Aimed at were, over the table's longest match, 5 for IPv4 and 2 for IPv6, and over the crate's map 3 and 1.5. {met}"""
+Aimed at were, over the table's longest match, 5 for IPv4 and 2 for IPv6, and over the crate's map 3 and 1.5. {met}
+Other work takes of the caches, too, so that a ratio near its aim falls on either side of it from run to run."""
 AIMED = {"v4": {"routes": 5, "crate": 3}, "v6": {"routes": 2, "crate": 1.5}}
 
 
