@@ -3,6 +3,7 @@ import math
 import os
 import re
 import subprocess
+import textwrap
 from collections import namedtuple
 
 Measure = namedtuple("Measure", "seconds kilobytes")
@@ -76,6 +77,37 @@ since a node has 56 bytes, and its lists lie where `malloc` put them; of an inse
 crate asks for whole blocks of nodes. Nodes with thin lists in blocks of their own would bring both nearer.
 
 """
+
+FROM_C = """
+## From C
+
+{what}
+
+Machine: {machine}.
+{beside} The programs took turns, so ratios tell more than nanoseconds.
+
+{answers}
+
+An address is drawn evenly from a network. For `even` that network is drawn evenly too; for `Zipf` by its place in a random order, the
+first r times as often as the one at place r. Every address lies in a network of the feed.
+
+"""
+
+WHAT = """The calls of the C library (docs/C.md) on the real feed, by `c/bench.c`: each network of a family is added, in the feed's order,
+1,000,000 addresses are looked up, and each network is taken out, in another order. Look-ups are of one address in a call, or of 64. Each
+program ran {runs} times; a figure is the least, in nanoseconds of the processor's time for one network or one address."""
+CRATE = """`PrefixMap` is the map of the Rust crate `prefix-trie` 0.10.1, called from Rust. It keeps one number a network; a table keeps up to
+eight routes, and its `add` and `del` tell the hop before and after."""
+DPDK = """`rte_rib` and `rte_fib` are DPDK's, {version}, for IPv6 `rte_rib6` and `rte_fib6`, without huge pages; the fib is DIR24_8, for IPv6
+TRIE, with four bytes a hop. Like an index it tells hops alone; unlike an index it takes changes, which its `add` and `del` are."""
+LEFT_OUT = "{name} was not at hand, and is left out."
+SAME = "All sides stored as many networks, and told the same hop for each address"
+MATCHED = "; the crate, whose numbers were those of the feed's lines, found the same networks"
+
+AIMS = """How many times as fast the index is as the other ways, of one address in a call; the last column is of 64. Below 1 it is slower.
+Aimed at were, over the table's longest match, 5 for IPv4 and 2 for IPv6, and over the crate's map 3 and 1.5. {met}
+Other work takes of the caches, too, so that a ratio near its aim falls on either side of it from run to run."""
+AIMED = {"v4": {"routes": 5, "crate": 3}, "v6": {"routes": 2, "crate": 1.5}}
 
 
 class Row(namedtuple("Row", "title given answered lead follow least counts kept begun")):
@@ -157,11 +189,11 @@ def figures(rows):
     return table(head, [[row.title, f"{row.given[0]:,}", f"{row.answered[0]:,}"] + row.cells("ours") for row in rows])
 
 
-def beside(load):
+def beside(load, work=None):
     """What else ran on the machine, by how many processors were busy before the run."""
     if load < 0.5:
         return "Nothing else ran on it."
-    return f"Measured beside other work, which took {load:.1f} processors when the run began."
+    return f"Measured beside other work{f' ({work})' if work else ''}, which took {load:.1f} processors when the run began."
 
 
 def map_calls(maps):
@@ -175,9 +207,87 @@ def map_calls(maps):
     return MAPS.format(beside=told) + table(head, rows)
 
 
-def write(docs, feeds, growth, maps, runs, load):
+def c_changes(parts, sides):
+    """A row for each family and change."""
+    for part in parts:
+        for call, title in (("add", "add"), ("del", "del"), ("index_open", "make the index")):
+            yield [f"IP{part.family}, {part.networks:,}", title] + [nanoseconds(part.least.get((side, call, None))) for side in sides]
+
+
+def c_look_ups(parts, sides):
+    """A row for each family, mix and look-up. A fib stands beside the index."""
+    for part, mix in mixed(parts):
+        for call, title in (("match", "longest match"), ("match_many", "longest match, 64"), ("index", "index"), ("index_many", "index, 64")):
+            yield [f"IP{part.family}, {mix}", title] + [nanoseconds(part.least.get((side, call, mix))) for side in sides]
+
+
+def c_ratios(parts, sides):
+    """A row for each family and mix: how often as fast the index is as the other ways, one address in a call; and 64."""
+    for part, mix in mixed(parts):
+        row = [f"IP{part.family}, {mix}"]
+        for side, way, like in (("routes", "match", "index"), ("crate", "match", "index"), ("rib", "match", "index"),
+                                ("fib", "index", "index"), ("fib", "index_many", "index_many")):
+            if side in sides:
+                row.append(f"{part.least[side, way, mix] / part.least['routes', like, mix]:.2f}")
+        yield row
+
+
+def mixed(parts):
+    return [(part, mix) for part in parts for mix in sorted({mix for _, _, mix in part.least if mix}, key=str.lower)]
+
+
+def nanoseconds(taken):
+    return "-" if taken is None else f"{taken:.0f}"
+
+
+def met(parts, sides):
+    """How many of the aims were met, and which were not, of those that were measured."""
+    missed, count = [], 0
+    for part, mix in mixed(parts):
+        for side, aim in AIMED[part.family].items():
+            if side in sides:
+                count += 1
+                if part.least[side, "match", mix] < aim * part.least["routes", "index", mix]:
+                    missed.append(f"IP{part.family}, {mix}, over {'the table' if side == 'routes' else 'the map'}")
+    return f"Of these {count}, {count - len(missed)} are met. Missed: {'; '.join(missed)}." if missed else f"All {count} are met."
+
+
+def from_c(parts, runs, beside):
+    """The part on calls from C. Sides that weren't there have no column, and a sentence says so."""
+    sides = [side for side in ("routes", "crate", "rib", "fib") if any(side == known for part in parts for known, _, _ in part.least)]
+    names = {"routes": "C library", "crate": "`PrefixMap`", "rib": "`rte_rib`", "fib": "`rte_fib`"}
+    head = [names[side] for side in sides]
+    what = [WHAT.format(runs=runs)]
+    what.append(CRATE if "crate" in sides else LEFT_OUT.format(name="The Rust crate's map"))
+    what.append(DPDK.format(version=dpdk()) if "fib" in sides else LEFT_OUT.format(name="DPDK"))
+    answers = SAME + (MATCHED if "crate" in sides else "") + ". What a side has not is `-`."
+    text = FROM_C.format(what=filled(" ".join(what)), answers=filled(answers), machine=machine(), beside=beside)
+    text += table(["networks", "call", *head], c_changes(parts, sides)) + "\n"
+    text += table(["addresses", "look-up", *head], c_look_ups(parts, sides))
+    over = {"routes": ["over the table"], "crate": ["over `PrefixMap`"], "rib": ["over `rte_rib`"], "fib": ["over `rte_fib`", "64, over `rte_fib`"]}
+    text += "\n" + filled(AIMS.format(met=met(parts, sides))) + "\n\n"
+    return text + table(["addresses", *(name for side in sides for name in over[side])], c_ratios(parts, sides))
+
+
+def filled(text):
+    return textwrap.fill(" ".join(text.split()), 132, break_long_words=False, break_on_hyphens=False)
+
+
+def dpdk():
+    return subprocess.run(["pkg-config", "--modversion", "libdpdk"], capture_output=True, text=True).stdout.strip()
+
+
+def write_from_c(docs, text):
+    """Puts the part on calls from C in place of the one that stands there, or at the end; the rest stays."""
+    page = (docs / "PERFORMANCE.md").read_text()
+    before, _, after = page.partition("\n## From C\n")
+    _, more, rest = after.partition("\n## ")
+    (docs / "PERFORMANCE.md").write_text(before + text + more + rest)
+
+
+def write(docs, feeds, growth, maps, c_part, runs, beside):
     rows = feeds + [row for family in growth.values() for count, row in family if count in (100000, 1000000)]
-    text = HEAD.format(runs=runs, machine=machine(), beside=beside(load))
+    text = HEAD.format(runs=runs, machine=machine(), beside=beside)
     text += "\n## Times and memory\n\nCommands and MB a second are of the leader (bytes read and written), lines a second of the follower.\n\n"
     text += figures(rows)
     text += "\n![Time for each line read, by loads of 10,000 to 1,000,000 networks](performance.svg)\n"
@@ -187,7 +297,7 @@ def write(docs, feeds, growth, maps, runs, load):
     if all("peer" in row.lead for row in rows):
         head = ["feed", "lead", "lead, replies together", "follow", "least", "memory of lead", "memory of follow", "memory of least"]
         text += BESIDE + table(head, [[row.title] + row.ratios() for row in rows])
-    text += map_calls(maps)
+    text += map_calls(maps) + c_part
     (docs / "PERFORMANCE.md").write_text(text)
     (docs / "performance.svg").write_text(plot(growth))
 

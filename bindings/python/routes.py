@@ -27,6 +27,7 @@ from __future__ import annotations
 import ctypes
 import ipaddress
 import os
+import struct
 import threading
 from ctypes import POINTER, c_bool, c_char, c_char_p, c_size_t, c_uint8, c_uint16, c_uint32, c_uint64, c_void_p
 from typing import Final, Iterable, Literal, NamedTuple, Optional, Union
@@ -114,8 +115,11 @@ class Table:
             return _route(route)
         return None
 
-    def hops(self, addrs: Iterable[Address | str]) -> list[Hop | None]:
-        """The hop of the route that `get` finds for each address, None where it finds none: in two calls of the library at most."""
+    def hops(self, addrs: Iterable[Address | str | bytes]) -> list[Hop | None]:
+        """The hop of the route that `get` finds for each address, None where it finds none: in two calls of the library at most.
+
+        An address may also be its 4 or 16 bytes, as `socket.inet_pton` gives them, which is the fastest.
+        """
         return [None if hop == _NO_MATCH else _hop(hop) for hop in _many("routes_get{}_many", self._own(), addrs)]
 
     def count(self) -> Count:
@@ -196,6 +200,8 @@ class Table:
         out = ctypes.create_string_buffer(4096)
         while count := _library.routes_reply(self._raw, len(reply), out, len(out)):
             reply += out.raw[:count]
+            if count < len(out):
+                break
         return reply.decode("ascii")
 
     def _change(self, name: str, net: Net | str, hop: Hop, *preference: int) -> Change:
@@ -260,8 +266,8 @@ class Index:
         """The hop of the address, None where it had no route, or a null route."""
         return self.hops([addr])[0]
 
-    def hops(self, addrs: Iterable[Address | str]) -> list[int | None]:
-        """The hops of the addresses: in two calls of the library at most."""
+    def hops(self, addrs: Iterable[Address | str | bytes]) -> list[int | None]:
+        """The hops of the addresses, which may be bytes, too, as those of a table's `hops`: in two calls of the library at most."""
         return list(map(_number, _many("routes_index_hop{}_many", self._own(), addrs)))
 
     def _own(self) -> _Index:
@@ -355,22 +361,30 @@ def _is_found(answer: int) -> bool:
     raise AssertionError(f"the library answered {answer}, which its header does not allow here")
 
 
-def _many(name: str, raw: _Table | _Index, addrs: Iterable[Address | str]) -> list[int]:
+def _many(name: str, raw: _Table | _Index, addrs: Iterable[Address | str | bytes]) -> list[int]:
     """What the library answers of many addresses, as one number each, by one call for each family that is among them."""
-    addrs = list(map(_address, addrs))
-    answers = [0] * len(addrs)
-    for version, type_ in ((4, c_uint32), (6, _Addr6)):
-        places = [place for place, addr in enumerate(addrs) if addr.version == version]
-        numbers = (int(addrs[place]) for place in places)
-        asked = (type_ * len(places))(*(numbers if version == 4 else ((n >> 64, n & (1 << 64) - 1) for n in numbers)))
+    packed = list(map(_packed, addrs))
+    answers = [0] * len(packed)
+    for version, size, type_, letter in ((4, 4, c_uint32, "I"), (6, 16, _Addr6, "Q")):
+        places = [place for place, addr in enumerate(packed) if len(addr) == size]
+        form = f"{len(places) * size // struct.calcsize('=' + letter)}{letter}"
+        numbers = struct.unpack(">" + form, b"".join([packed[place] for place in places]))
+        asked = (type_ * len(places)).from_buffer_copy(struct.pack("=" + form, *numbers))
         hops = (c_uint64 * len(places))()
         _is_found(getattr(_library, name.format(version))(raw, asked, len(places), hops, len(places)))
-        for place, hop in zip(places, hops):
+        for place, hop in zip(places, hops[:]):
             answers[place] = hop
     return answers
 
 
-def _address(addr: Address | str) -> Address:
+def _packed(addr: Address | str | bytes) -> bytes:
+    """The bytes of the address, in network order."""
+    if isinstance(addr, bytes) and len(addr) in (4, 16):
+        return addr
+    return _address(addr).packed
+
+
+def _address(addr: Address | str | bytes) -> Address:
     """The address; `ip_address` would print one that is one already, and read it again."""
     return addr if isinstance(addr, (ipaddress.IPv4Address, ipaddress.IPv6Address)) else ipaddress.ip_address(addr)
 

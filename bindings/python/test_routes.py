@@ -157,6 +157,7 @@ class Turns(unittest.TestCase):
         hops = [model.hop(ipaddress.ip_network(addr)) for addr in addrs]
         with Index(table) as index:
             self.assertEqual(index.hops(map(str, addrs)), hops)
+            self.assertEqual(index.hops(addr.packed for addr in addrs), hops)
             self.assertEqual(index.hop(addrs[0]), hops[0])
         least = Model()
         for route in table.least():
@@ -171,6 +172,8 @@ class Turns(unittest.TestCase):
                 table.add("10.0.0.0/8", 2, 200)
                 self.assertEqual((index.hop("10.0.0.1"), index.hop("::"), table.get("10.0.0.1").hop), (1, None, 2))
             self.assertEqual(table.hops([]), [])
+            with self.assertRaises(ValueError):
+                table.hops([bytes(5)])
 
     def test_a_long_list(self):
         """It is longer than what is copied at once."""

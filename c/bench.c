@@ -1,0 +1,400 @@
+/* Times calls of the library, or of DPDK where it is compiled with -DDPDK, over networks and addresses from files: bench/c_calls.py
+ * builds and runs it.
+ *
+ * usage: bench routes|rib|fib v4|v6 NETWORKS ADDRESSES ..
+ *
+ * NETWORKS has lines `NET HOP`, each network once, ADDRESSES lines `ADDRESS/LEN`, each address in one of the networks. Each call is made
+ * for each line of its file, the dels in another order than the adds, and a line `CALL FILE NANOSECONDS RESULT` says how long one took,
+ * of the processor's time: FILE counts the files of addresses from 1, and is 0 for changes. RESULT is one number for all hops that a
+ * look-up told, or how many networks are stored after a change. A line `matched FILE 0 SUM` at the end sums, over the addresses, the
+ * line number of the matched network, from 0, and its length. */
+#ifndef _GNU_SOURCE
+#define _GNU_SOURCE
+#endif
+#include "routes.h"
+#include <arpa/inet.h>
+#include <stdio.h>
+#include <stdlib.h>
+#include <string.h>
+#include <time.h>
+#ifdef DPDK
+#include <rte_eal.h>
+#include <rte_fib.h>
+#include <rte_fib6.h>
+#include <rte_memory.h>
+#include <rte_rib.h>
+#include <rte_rib6.h>
+#include <sched.h>
+#endif
+
+#define MANY 64
+
+struct line {
+    uint64_t high, low, hop;
+    uint8_t bytes[16], len;
+};
+struct lines {
+    size_t count, room;
+    struct line *at;
+};
+/* The addresses of a file as each library takes them, and the hops that it tells. */
+struct asked {
+    size_t count;
+    uint32_t *v4;
+    routes_addr6 *v6;
+    uint8_t (*bytes)[16];
+    uint64_t *hops;
+};
+typedef void change(const struct line *line);
+typedef void look_up(struct asked *asked);
+
+static routes_table table;
+static routes_index indexed;
+static int is_v6;
+
+static void fail(const char *what) {
+    fprintf(stderr, "bench: %s\n", what);
+    exit(1);
+}
+
+static void *taken(size_t count, size_t size) {
+    void *at = malloc(count * size + 1);
+    if (!at) fail("no memory");
+    return memset(at, 0, count * size + 1);
+}
+
+static void held(int is_right, const char *what) {
+    if (!is_right) fail(what);
+}
+
+static double now(void) {
+    struct timespec t;
+    clock_gettime(CLOCK_PROCESS_CPUTIME_ID, &t);
+    return (double)t.tv_sec * 1e9 + (double)t.tv_nsec;
+}
+
+static struct line parsed(char *text) {
+    struct line line = {0};
+    char *slash = strchr(text, '/'), *end;
+    held(slash != NULL, "a line without a length");
+    *slash = 0;
+    line.len = (uint8_t)strtoul(slash + 1, &end, 10);
+    line.hop = strtoull(end, NULL, 10);
+    held(inet_pton(is_v6 ? AF_INET6 : AF_INET, text, line.bytes) == 1, "a line without an address of the family");
+    line.high = is_v6 ? routes_half(line.bytes) : 0;
+    line.low = is_v6 ? routes_half(line.bytes + 8) : routes_half(line.bytes) >> 32;
+    return line;
+}
+
+static struct lines lines_of(const char *path) {
+    struct lines lines = {0, 0, NULL};
+    char text[128];
+    FILE *file = fopen(path, "r");
+    held(file != NULL, path);
+    while (fgets(text, sizeof text, file)) {
+        if (lines.count == lines.room) {
+            lines.room = lines.room ? 2 * lines.room : 1024;
+            lines.at = realloc(lines.at, lines.room * sizeof *lines.at);
+            held(lines.at != NULL, "no memory");
+        }
+        lines.at[lines.count++] = parsed(text);
+    }
+    fclose(file);
+    held(lines.count > 0, path);
+    return lines;
+}
+
+static struct asked asked_of(const char *path) {
+    struct lines lines = lines_of(path);
+    struct asked asked = {lines.count, taken(lines.count, 4), taken(lines.count, 16), taken(lines.count, 16), taken(lines.count, 8)};
+    for (size_t i = 0; i < lines.count; i++) {
+        asked.v4[i] = (uint32_t)lines.at[i].low;
+        asked.v6[i] = (routes_addr6){lines.at[i].high, lines.at[i].low};
+        memcpy(asked.bytes[i], lines.at[i].bytes, 16);
+    }
+    free(lines.at);
+    return asked;
+}
+
+static size_t divisor(size_t a, size_t b) { return b ? divisor(b, a % b) : a; }
+
+/* The same lines in an order that isn't that of the file. */
+static struct lines shuffled(const struct lines *lines) {
+    struct lines other = {lines->count, lines->count, taken(lines->count, sizeof *lines->at)};
+    size_t step = 7368787 % lines->count;
+    while (divisor(step, lines->count) != 1) step++;
+    for (size_t i = 0, from = 0; i < lines->count; i++, from = (from + step) % lines->count) other.at[i] = lines->at[from];
+    return other;
+}
+
+static void told(const char *call, int file, double spent, size_t count, uint64_t result) {
+    printf("%s %d %.2f %llu\n", call, file, spent / (double)count, (unsigned long long)result);
+}
+
+static void changed(const char *call, change *made, const struct lines *lines, size_t (*stored)(void)) {
+    double start = now();
+    for (const struct line *line = lines->at; line < lines->at + lines->count; line++) made(line);
+    double spent = now() - start;
+    told(call, 0, spent, lines->count, stored());
+}
+
+/* One number for all hops in their order. */
+static uint64_t digest(const struct asked *asked) {
+    uint64_t all = 14695981039346656037u;
+    for (size_t i = 0; i < asked->count; i++) all = (all ^ asked->hops[i]) * 1099511628211u;
+    return all;
+}
+
+static void looked_up(const char *call, int file, look_up *all, struct asked *asked) {
+    memset(asked->hops, 0x5a, asked->count * sizeof *asked->hops);
+    double start = now();
+    all(asked);
+    double spent = now() - start;
+    told(call, file, spent, asked->count, digest(asked));
+}
+
+/* How many addresses the next call of many takes. */
+static size_t part(const struct asked *asked, size_t from) { return asked->count - from < MANY ? asked->count - from : MANY; }
+
+/* The library. */
+
+static void add4(const struct line *line) {
+    routes_change c;
+    held(routes_add4(&table, (uint32_t)line->low, line->len, line->hop, ROUTES_PREFERENCE, &c) == ROUTES_OK, "add");
+}
+
+static void add6(const struct line *line) {
+    routes_change c;
+    held(routes_add6(&table, line->high, line->low, line->len, line->hop, ROUTES_PREFERENCE, &c) == ROUTES_OK, "add");
+}
+
+static void del4(const struct line *line) {
+    routes_change c;
+    held(routes_del4(&table, (uint32_t)line->low, line->len, line->hop, &c) == ROUTES_OK, "del");
+}
+
+static void del6(const struct line *line) {
+    routes_change c;
+    held(routes_del6(&table, line->high, line->low, line->len, line->hop, &c) == ROUTES_OK, "del");
+}
+
+static size_t stored(void) {
+    size_t ipv4, ipv6;
+    held(routes_count(&table, &ipv4, &ipv6) == ROUTES_OK, "count");
+    return ipv4 + ipv6;
+}
+
+static void get4(struct asked *a) {
+    routes_route r;
+    for (size_t i = 0; i < a->count; i++) a->hops[i] = routes_get4(&table, a->v4[i], &r) == ROUTES_OK ? r.hop : ROUTES_DROP;
+}
+
+static void get6(struct asked *a) {
+    routes_route r;
+    for (size_t i = 0; i < a->count; i++)
+        a->hops[i] = routes_get6(&table, a->v6[i].high, a->v6[i].low, &r) == ROUTES_OK ? r.hop : ROUTES_DROP;
+}
+
+static void get4_many(struct asked *a) {
+    for (size_t i = 0; i < a->count; i += MANY) routes_get4_many(&table, a->v4 + i, part(a, i), a->hops + i, part(a, i));
+}
+
+static void get6_many(struct asked *a) {
+    for (size_t i = 0; i < a->count; i += MANY) routes_get6_many(&table, a->v6 + i, part(a, i), a->hops + i, part(a, i));
+}
+
+static void hop4(struct asked *a) {
+    for (size_t i = 0; i < a->count; i++) routes_index_hop4(&indexed, a->v4[i], a->hops + i);
+}
+
+static void hop6(struct asked *a) {
+    for (size_t i = 0; i < a->count; i++) routes_index_hop6(&indexed, a->v6[i].high, a->v6[i].low, a->hops + i);
+}
+
+static void hop4_many(struct asked *a) {
+    for (size_t i = 0; i < a->count; i += MANY) routes_index_hop4_many(&indexed, a->v4 + i, part(a, i), a->hops + i, part(a, i));
+}
+
+static void hop6_many(struct asked *a) {
+    for (size_t i = 0; i < a->count; i += MANY) routes_index_hop6_many(&indexed, a->v6 + i, part(a, i), a->hops + i, part(a, i));
+}
+
+/* A table whose hops are the line numbers shows which network is matched. */
+static void matched(const struct lines *lines, const struct asked *asked, int file) {
+    uint64_t sum = 0;
+    routes_route r;
+    for (size_t i = 0; i < lines->count; i++) {
+        struct line line = lines->at[i];
+        line.hop = i;
+        (is_v6 ? add6 : add4)(&line);
+    }
+    for (size_t i = 0; i < asked->count; i++)
+        if ((is_v6 ? routes_get6(&table, asked->v6[i].high, asked->v6[i].low, &r) : routes_get4(&table, asked->v4[i], &r)) == ROUTES_OK)
+            sum += r.hop + r.len;
+    told("matched", file, 0, 1, sum);
+    routes_close(&table);
+    held(routes_open(&table) == ROUTES_OK, "open");
+}
+
+static void routes(const struct lines *lines, struct asked *asked, int files) {
+    struct lines other = shuffled(lines);
+    held(routes_open(&table) == ROUTES_OK, "open");
+    changed("add", is_v6 ? add6 : add4, lines, stored);
+    for (int i = 0; i < files; i++) {
+        looked_up("match", i + 1, is_v6 ? get6 : get4, asked + i);
+        looked_up("match_many", i + 1, is_v6 ? get6_many : get4_many, asked + i);
+    }
+    double start = now();
+    held(routes_index_open(&indexed, &table) == ROUTES_OK, "index");
+    told("index_open", 0, now() - start, lines->count, stored());
+    for (int i = 0; i < files; i++) {
+        looked_up("index", i + 1, is_v6 ? hop6 : hop4, asked + i);
+        looked_up("index_many", i + 1, is_v6 ? hop6_many : hop4_many, asked + i);
+    }
+    routes_index_close(&indexed);
+    changed("del", is_v6 ? del6 : del4, &other, stored);
+    for (int i = 0; i < files; i++) matched(lines, asked + i, i + 1);
+    routes_close(&table);
+}
+
+#ifdef DPDK
+/* DPDK's tables, in memory that isn't of huge pages. */
+
+#define NO_HOP 0x7fffffff
+
+static struct rte_rib *rib;
+static struct rte_rib6 *rib6;
+static struct rte_fib *fib;
+static struct rte_fib6 *fib6;
+static size_t kept;
+
+static size_t kept_now(void) { return kept; }
+
+static void rib_add(const struct line *line) {
+    struct rte_rib_node *node = rte_rib_insert(rib, (uint32_t)line->low, line->len);
+    held(node && rte_rib_set_nh(node, line->hop) == 0, "rte_rib_insert");
+    kept++;
+}
+
+static void rib6_add(const struct line *line) {
+    struct rte_rib6_node *node = rte_rib6_insert(rib6, line->bytes, line->len);
+    held(node && rte_rib6_set_nh(node, line->hop) == 0, "rte_rib6_insert");
+    kept++;
+}
+
+static void rib_del(const struct line *line) {
+    rte_rib_remove(rib, (uint32_t)line->low, line->len);
+    kept--;
+}
+
+static void rib6_del(const struct line *line) {
+    rte_rib6_remove(rib6, line->bytes, line->len);
+    kept--;
+}
+
+static void rib_get(struct asked *a) {
+    for (size_t i = 0; i < a->count; i++) {
+        struct rte_rib_node *node = rte_rib_lookup(rib, a->v4[i]);
+        if (!node || rte_rib_get_nh(node, a->hops + i)) a->hops[i] = ROUTES_DROP;
+    }
+}
+
+static void rib6_get(struct asked *a) {
+    for (size_t i = 0; i < a->count; i++) {
+        struct rte_rib6_node *node = rte_rib6_lookup(rib6, a->bytes[i]);
+        if (!node || rte_rib6_get_nh(node, a->hops + i)) a->hops[i] = ROUTES_DROP;
+    }
+}
+
+static void fib_add(const struct line *line) {
+    held(rte_fib_add(fib, (uint32_t)line->low, line->len, line->hop) == 0, "rte_fib_add");
+    kept++;
+}
+
+static void fib6_add(const struct line *line) {
+    held(rte_fib6_add(fib6, line->bytes, line->len, line->hop) == 0, "rte_fib6_add");
+    kept++;
+}
+
+static void fib_del(const struct line *line) {
+    held(rte_fib_delete(fib, (uint32_t)line->low, line->len) == 0, "rte_fib_delete");
+    kept--;
+}
+
+static void fib6_del(const struct line *line) {
+    held(rte_fib6_delete(fib6, line->bytes, line->len) == 0, "rte_fib6_delete");
+    kept--;
+}
+
+static void fib_get(struct asked *a) {
+    for (size_t i = 0; i < a->count; i++) rte_fib_lookup_bulk(fib, a->v4 + i, a->hops + i, 1);
+}
+
+static void fib6_get(struct asked *a) {
+    for (size_t i = 0; i < a->count; i++) rte_fib6_lookup_bulk(fib6, a->bytes + i, a->hops + i, 1);
+}
+
+static void fib_get_many(struct asked *a) {
+    for (size_t i = 0; i < a->count; i += MANY) rte_fib_lookup_bulk(fib, a->v4 + i, a->hops + i, (int)part(a, i));
+}
+
+static void fib6_get_many(struct asked *a) {
+    for (size_t i = 0; i < a->count; i += MANY) rte_fib6_lookup_bulk(fib6, a->bytes + i, a->hops + i, (unsigned)part(a, i));
+}
+
+static void prepared(void) {
+    char core[16];
+    snprintf(core, sizeof core, "%d", sched_getcpu());
+    char *words[] = {"bench", "--no-huge", "-m", "2048", "--no-pci", "--no-telemetry", "--no-shconf", "--log-level=4", "-l", core};
+    held(rte_eal_init(sizeof words / sizeof *words, words) >= 0, "rte_eal_init");
+}
+
+static void by_rib(const struct lines *lines, struct asked *asked, int files) {
+    struct lines other = shuffled(lines);
+    struct rte_rib_conf conf = {.ext_sz = 0, .max_nodes = 2 * (int)lines->count};
+    struct rte_rib6_conf conf6 = {.ext_sz = 0, .max_nodes = 2 * (int)lines->count};
+    prepared();
+    held(is_v6 ? (rib6 = rte_rib6_create("rib6", SOCKET_ID_ANY, &conf6)) != NULL : (rib = rte_rib_create("rib", SOCKET_ID_ANY, &conf)) != NULL,
+         "rte_rib_create");
+    changed("add", is_v6 ? rib6_add : rib_add, lines, kept_now);
+    for (int i = 0; i < files; i++) looked_up("match", i + 1, is_v6 ? rib6_get : rib_get, asked + i);
+    changed("del", is_v6 ? rib6_del : rib_del, &other, kept_now);
+}
+
+static void by_fib(const struct lines *lines, struct asked *asked, int files) {
+    struct lines other = shuffled(lines);
+    struct rte_fib_conf conf = {.type = RTE_FIB_DIR24_8, .default_nh = NO_HOP, .max_routes = 2 * (int)lines->count,
+                                .dir24_8 = {.nh_sz = RTE_FIB_DIR24_8_4B, .num_tbl8 = 1 << 16}};
+    struct rte_fib6_conf conf6 = {.type = RTE_FIB6_TRIE, .default_nh = NO_HOP, .max_routes = 2 * (int)lines->count,
+                                  .trie = {.nh_sz = RTE_FIB6_TRIE_4B, .num_tbl8 = 1 << 19}};
+    prepared();
+    held(is_v6 ? (fib6 = rte_fib6_create("fib6", SOCKET_ID_ANY, &conf6)) != NULL : (fib = rte_fib_create("fib", SOCKET_ID_ANY, &conf)) != NULL,
+         "rte_fib_create");
+    changed("add", is_v6 ? fib6_add : fib_add, lines, kept_now);
+    for (int i = 0; i < files; i++) {
+        looked_up("index", i + 1, is_v6 ? fib6_get : fib_get, asked + i);
+        looked_up("index_many", i + 1, is_v6 ? fib6_get_many : fib_get_many, asked + i);
+    }
+    changed("del", is_v6 ? fib6_del : fib_del, &other, kept_now);
+}
+#endif
+
+int main(int argc, char **argv) {
+    struct asked asked[8];
+    int files = argc - 4;
+    if (files < 1 || files > 8) fail("usage: bench routes|rib|fib v4|v6 NETWORKS ADDRESSES ..");
+    is_v6 = strcmp(argv[2], "v6") == 0;
+    struct lines lines = lines_of(argv[3]);
+    for (int i = 0; i < files; i++) asked[i] = asked_of(argv[4 + i]);
+    if (strcmp(argv[1], "routes") == 0)
+        routes(&lines, asked, files);
+#ifdef DPDK
+    else if (strcmp(argv[1], "rib") == 0)
+        by_rib(&lines, asked, files);
+    else if (strcmp(argv[1], "fib") == 0)
+        by_fib(&lines, asked, files);
+#endif
+    else
+        fail("there is no such side");
+    return 0;
+}
