@@ -2,10 +2,13 @@
 """Writes a feed for `routes lead` to standard output, the same for the same arguments.
 
 usage: feeds.py load|churn|walks v4|v6 COUNT [SEED]
+       feeds.py over FEED COUNT [SEED]
 
     load    COUNT adds of distinct networks, then flat
     churn   COUNT adds, then COUNT lines: adds of new networks, adds of routes to stored ones, dels, gets; then flat
     walks   COUNT adds, then COUNT / 10 lines: list, cover, from, after and count; then flat
+    over    COUNT changes of the networks that FEED adds, each with one hop: some are withdrawn, some announced again, with any hop of
+            FEED, and some get another hop, by an `add` and a `del`
 
 The lengths lie as in a table of the public internet: most are /24 (IPv4) or /48 (IPv6), and they lie inside
 allocations, some of which are announced themselves. Hops are few, and some are far more frequent than others. A route that is
@@ -136,7 +139,30 @@ class Feed:
             self.say("from" if kind == 2 else "after", network, "20")
 
 
+def over(path, count, seed):
+    """The changes of the networks of a feed."""
+    draw = random.Random(f"over {count} {seed}")
+    with open(path, encoding="ascii") as file:
+        held = dict(line.split()[1:3] for line in file if line.startswith("add "))
+    networks, hops, gone, lines = list(held), list(held.values()), [], []
+    while len(lines) < count:
+        kind, network, hop = draw.random(), draw.choice(networks), draw.choice(hops)
+        if kind < 0.35 and network in held:
+            lines.append(f"del {network} {held.pop(network)}\n")
+            gone.append(network)
+        elif kind < 0.6 and gone:
+            network = gone.pop(draw.randrange(len(gone)))
+            held[network] = hop
+            lines.append(f"add {network} {hop}\n")
+        elif kind >= 0.6 and held.get(network, hop) != hop:
+            lines += [f"add {network} {hop} 200\n", f"del {network} {held[network]}\n"]
+            held[network] = hop
+    return lines[:count]
+
+
 def main():
+    if len(sys.argv) in (4, 5) and sys.argv[1] == "over":
+        return sys.stdout.writelines(over(sys.argv[2], int(sys.argv[3]), sys.argv[4] if len(sys.argv) == 5 else "1"))
     if len(sys.argv) not in (4, 5) or sys.argv[1] not in ("load", "churn", "walks") or sys.argv[2] not in WIDTH:
         sys.exit(__doc__)
     kind, family, count = sys.argv[1], sys.argv[2], int(sys.argv[3])

@@ -9,6 +9,7 @@ from collections import namedtuple
 Measure = namedtuple("Measure", "seconds kilobytes")
 Counts = namedtuple("Counts", "flat least drops")
 Installed = namedtuple("Installed", "measure operations batches")
+Changed = namedtuple("Changed", "commands begun batches large follow measure")
 
 HEAD = """# Speed and memory
 
@@ -47,6 +48,15 @@ INSTALLER = """
 written by itself; where it stands last, as at a start, the least table is installed at once. What was written makes a table with the
 leader's hops each time.
 
+"""
+
+CHANGED = """
+Where all networks of the real feed are installed as it has them, a first `sync` takes {installs:,} installs and {removes:,} removes. Where its
+least table of {least:,} routes is installed, {commands:,} commands that follow it (`bench/feeds.py over`: networks are withdrawn, announced
+again, and get another hop) give {batches:,} batches with {operations:,} operations: 999 of 1,000 have at most {usual:,}, and the largest has
+{largest:,}. {large} of the replies had more than 256 blocks and led to a least table at once. After them {before:,} routes are installed;
+a second `sync`, of {last:,} operations, leaves {after:,}. `routes_fib` took {seconds:.2f} s and {megabytes:.1f} MB for the feed, these commands and
+both `sync`; `routes follow` of the same replies {follow_seconds:.2f} s and {follow_megabytes:.1f} MB.
 """
 
 BESIDE = """
@@ -277,23 +287,55 @@ def dpdk():
     return subprocess.run(["pkg-config", "--modversion", "libdpdk"], capture_output=True, text=True).stdout.strip()
 
 
-def write_from_c(docs, text):
-    """Puts the part on calls from C in place of the one that stands there, or at the end; the rest stays."""
+def write_part(docs, title, text):
+    """Puts a part of the page in place of the one with its title that stands there, or at the end; the rest stays."""
     page = (docs / "PERFORMANCE.md").read_text()
-    before, _, after = page.partition("\n## From C\n")
+    before, _, after = page.partition(f"\n## {title}\n")
     _, more, rest = after.partition("\n## ")
     (docs / "PERFORMANCE.md").write_text(before + text + more + rest)
 
 
-def write(docs, feeds, growth, maps, c_part, runs, beside):
+def installer(rows, changed):
+    """The part on the installer: a row for each feed, and what the changes of the real one took."""
+    head = ["feed", "follow s", "kept s", "lines/s", "MB", "batches", "operations", "at once s", "MB", "operations"]
+    text = INSTALLER + table(head, [[row.title] + row.installed() for row in rows])
+    if changed is None:
+        return text
+    first, *between, last = changed.batches
+    counts = sorted(operations for operations, _ in between)
+    return text + CHANGED.format(
+        installs=changed.begun[0],
+        removes=changed.begun[1],
+        least=first[1],
+        commands=changed.commands,
+        batches=len(counts),
+        operations=sum(counts),
+        usual=counts[len(counts) * 999 // 1000],
+        largest=counts[-1],
+        large=changed.large,
+        before=between[-1][1],
+        last=last[0],
+        after=last[1],
+        seconds=changed.measure.seconds,
+        megabytes=changed.measure.kilobytes / 1024,
+        follow_seconds=changed.follow.seconds,
+        follow_megabytes=changed.follow.kilobytes / 1024,
+    )
+
+
+def measured(runs, beside):
+    """On what a part was measured that isn't of the page's own run."""
+    return f"\nThis part is of a run of its own: the least of {runs} runs on {machine()}. {beside}\n"
+
+
+def write(docs, feeds, growth, maps, c_part, changed, runs, beside):
     rows = feeds + [row for family in growth.values() for count, row in family if count in (100000, 1000000)]
     text = HEAD.format(runs=runs, machine=machine(), beside=beside)
     text += "\n## Times and memory\n\nCommands and MB a second are of the leader (bytes read and written), lines a second of the follower.\n\n"
     text += figures(rows)
     text += "\n![Time for each line read, by loads of 10,000 to 1,000,000 networks](performance.svg)\n"
     text += SHORTEST + table(["feed", "flat blocks", "routes", "of them `drop`", "least s", "MB"], [[row.title] + row.shortest() for row in rows])
-    head = ["feed", "follow s", "kept s", "lines/s", "MB", "batches", "operations", "at once s", "MB", "operations"]
-    text += INSTALLER + table(head, [[row.title] + row.installed() for row in rows])
+    text += installer(rows, changed)
     if all("peer" in row.lead for row in rows):
         head = ["feed", "lead", "lead, replies together", "follow", "least", "memory of lead", "memory of follow", "memory of least"]
         text += BESIDE + table(head, [[row.title] + row.ratios() for row in rows])
