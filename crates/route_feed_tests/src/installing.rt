@@ -137,8 +137,8 @@ fn very_many_changes(rt: HostRuntime) -> Result<(), Fail> {
 }
 
 /// The table answers the line so, and flushes once.
-fn answers(rt: &HostRuntime, table: &mut RouteTable, line: &[u8], wanted: &[u8]) {
-    let mut writer = Counted::new(Vec::new(rt.alloc()));
+fn answers(rt: &impl Abort, alloc: Global, table: &mut RouteTable, line: &[u8], wanted: &[u8]) {
+    let mut writer = Counted::new(Vec::new(alloc));
     assert_eq!(rt; lead_line(table, line, &mut writer), Ok(()));
     assert_eq!(rt; writer.flushes(), 1);
     assert!(rt; !writer.waiting());
@@ -162,6 +162,6 @@ fn a_line(rt: HostRuntime) {
         (b"add".as_slice(), b"bad\n".as_slice()),
         (long.as_slice(), b"bad\n".as_slice()),
     ] {
-        answers(&rt, &mut table, line, wanted);
+        answers(&rt, rt.alloc(), &mut table, line, wanted);
     }
 }
