@@ -10,8 +10,8 @@ use Rattle.std.proofs.lemmas.Option.{none-some}
 use Rattle.trie_core.specs.Nodes.{BitMap}
 use Rattle.trie_core.specs.Search.{NoBeginning}
 use Rattle.trie_core.proofs.Strings.{bits_total, bits_same, same, same-Decides}
-use Rattle.trie_map.specs.Maps.{IsLongestKey}
-use Rattle.trie_map.specs.Retain.{CallableInTurn}
+use Rattle.prefix_trie.specs.Maps.{IsLongestKey}
+use Rattle.prefix_trie.specs.Retain.{CallableInTurn}
 
 -- a closure that takes each element with P may be called at elements that all have it
 pub callable_at : {F E : Type 0} (R : F → E → Bool → F → Type 0) (Q : F → E → Type 0) (P : E → Type 0) → ((f : F) (e : E) → P e → Q f e) → (f : F) (es : List E) → All P es → CallableInTurn R Q f es

@@ -7,7 +7,7 @@ ghost use Rattle.ipnet_blocks.specs.Blocks.{bit_string};
 ghost use Rattle.ipnet_blocks.specs.Networks.{block_of};
 ghost use Rattle.trie_core.specs.Bits.{number_from};
 ghost use Rattle.trie_core.specs.Prefixes.{prefix_bits};
-ghost use Rattle.trie_map.specs.Made.{inserted};
+ghost use Rattle.prefix_trie.specs.Made.{inserted};
 
 use ipnet::Ipv4Net;
 use prefix_trie::{Prefix, PrefixMap, PrefixSet, Refused};

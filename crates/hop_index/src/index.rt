@@ -4,7 +4,7 @@ ghost use Rattle.ipnet_addr.specs.Addresses.{Address, IsAddress, Ipv4, Ipv6, add
 ghost use Rattle.route_laws.specs.Flats.{IsFlat};
 ghost use Rattle.route_laws.specs.Networks.{routes_of};
 ghost use Rattle.route_laws.specs.Tables.{hop_at};
-ghost use Rattle.trie_map.specs.declared.refused.Refused.TheVariants.{Memory};
+ghost use Rattle.prefix_trie.specs.declared.refused.Refused.TheVariants.{Memory};
 ghost use Rattle.hop_index.specs.Indexes.{hop_of};
 ghost use Rattle.hop_index.specs.InnerRanges.{Replaces, ranges_in};
 

@@ -5,10 +5,10 @@ ghost use Rattle.least_table.specs.InnerSteps.{step_best, step_routes, step_bloc
 
 use crate::bits::onto;
 use crate::hops::{Hops, first, is_among};
+use prefix_trie::{Prefix, path_of, prefix_of};
 use std::alloc::{AllocError, Global};
 use std::slice;
 use trie_core::Path;
-use trie_keys::{Prefix, path_of, prefix_of};
 
 /// What a plan does with a block. The step of a block stands behind those of the smaller blocks that it is cut into.
 #[derive(Drop)]

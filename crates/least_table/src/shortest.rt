@@ -10,8 +10,8 @@ ghost use Rattle.least_table.specs.InnerPlans.{IsPlanned};
 use crate::bits::{bit, common};
 use crate::hops::merge;
 use crate::plan::{Step, routes};
+use prefix_trie::{Key, Prefix, path_of, shortened};
 use std::alloc::{AllocError, Global};
-use trie_keys::{Key, Prefix, path_of, shortened};
 
 /// How many of the pieces lie in the lower half, by the bit at `depth`.
 fn cut<P: Prefix + Copy>(pieces: &[(P, u32)], depth: u8) -> usize

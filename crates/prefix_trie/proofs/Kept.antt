@@ -4,7 +4,7 @@ use Rattle.std.proofs.lemmas.List.{map-append}
 use Rattle.std.specs.Prelude.{map}
 use Rattle.std.specs.List.{items_where_true, FoldsTo}
 use Rattle.std.specs.List.Retain.{ReturnsInTurn, IsFiltered}
-use Rattle.trie_map.specs.Retain.{CallableInTurn}
+use Rattle.prefix_trie.specs.Retain.{CallableInTurn}
 
 module _ {F G K X : Type 0} (R : F → K × X → Bool → F → Type 0) (S : G → K → Bool → G → Type 0) (state : F → G) (says : (f : F) (e : K × X) (b : Bool) (g : F) → R f e b g → S (state f) e.0 b (state g)) where
   answers_by : (f : F) (bs : List Bool) (es : List (K × X)) (g : F) → ReturnsInTurn R f bs es g → ReturnsInTurn S (state f) bs (map (λ e. e.0) es) (state g)

@@ -1,2 +1,15 @@
+pub mod Cleared
+pub mod Rebuilt
+pub mod Entries
+pub mod KeyLengths
+pub mod Written
+pub mod Covered
+pub mod Same
+pub mod Lent
+pub mod Asked
+pub mod Within
+pub mod Spares
+pub mod Governed
+pub mod Rows
 pub mod Sets
 pub mod Kept

@@ -2,7 +2,7 @@
 use Rattle.std.proofs.Common.{◌≡◌, List, [], ◌∷◌, ◌++◌, Bool, map, refl}
 use Rattle.std.specs.FinMap.{insert}
 use Rattle.trie_core.specs.Nodes.{BitMap}
-use Rattle.trie_map.specs.Made.{inserted}
+use Rattle.prefix_trie.specs.Made.{inserted}
 
 pub taken_last : {K : Type 0} (bits : K → List Bool) (m : BitMap (Unit {0})) (ps : List K) (p : K) → inserted bits m (map (λ k. (k, tt)) (ps ++ p ∷ [])) ≡ insert (inserted bits m (map (λ k. (k, tt)) ps)) (bits p) tt
 taken_last bits m [] p = refl

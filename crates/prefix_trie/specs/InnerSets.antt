@@ -1,7 +1,7 @@
 -- Equality of sets is one.
 use Rattle.std.specs.Prelude.{refl}
 use Rattle.std.specs.Cmp.{IsEquivalence}
-use Rattle.trie_map.specs.InnerEqual.{same_maps-total}
+use Rattle.prefix_trie.specs.InnerEqual.{same_maps-total}
 use Rattle.prefix_trie.specs.Sets.{same_sets}
 
 pub same_sets-equivalence : IsEquivalence same_sets

@@ -1,3 +1,17 @@
+pub mod Seen
+pub mod Maps
+pub mod Lending
+pub mod Refusals
+pub mod Entry
+pub mod Covered
+pub mod Made
+pub mod Equal
+pub mod IterMut
+pub mod Iterators
+pub mod Retain
+pub mod Laws
 pub mod Sets
 pub mod Members
+pub mod InnerEqual
+pub mod InnerRoots
 pub mod InnerSets

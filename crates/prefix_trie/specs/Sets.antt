@@ -1,7 +1,7 @@
 -- When two sets are equal.
 use Rattle.std.specs.Prelude.{Bool, true}
-use Rattle.trie_map.specs.Seen.{SeenMap}
-use Rattle.trie_map.specs.Equal.{same_maps}
+use Rattle.prefix_trie.specs.Seen.{SeenMap}
+use Rattle.prefix_trie.specs.Equal.{same_maps}
 
 -- the same bit strings; spare nodes do not count
 abbrev pub same_sets : SeenMap (Unit {0}) → SeenMap (Unit {0}) → Bool

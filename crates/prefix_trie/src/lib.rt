@@ -1,12 +1,32 @@
 //! Maps and sets of prefixes, searched by the longest or the shortest prefix that contains an asked one.
 //!
-//! As the Rust crate prefix-trie 0.10.1, without its views, aggregation and joint maps. The map is built in the crate
-//! `trie_map`, and the set is that map with nothing at each key.
+//! As the Rust crate prefix-trie 0.10.1, without its views, aggregation and joint maps. The set is the map with nothing at
+//! each key.
 #![tactic(auto)]
 
+mod copy;
+mod count;
+mod cover;
+mod entry;
+mod entry_walk;
+mod equal;
+mod into_iter;
+mod iter;
+mod iter_mut;
+mod iterators;
+pub mod laws;
+mod lend;
 pub mod map;
+mod part;
+mod parts;
+mod prefix;
+mod prune;
+mod refused;
+mod retain;
 pub mod set;
 
+pub use ipnet_addr::key::Key;
 pub use map::PrefixMap;
+pub use prefix::{Prefix, path_of, prefix_of, shortened};
+pub use refused::Refused;
 pub use set::PrefixSet;
-pub use trie_map::{Key, Prefix, Refused, laws};

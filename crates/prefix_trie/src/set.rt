@@ -12,19 +12,22 @@ ghost use Rattle.trie_core.specs.Count.{nodes};
 ghost use Rattle.trie_core.specs.Inside.{outside};
 ghost use Rattle.trie_core.specs.Ways.{AreIdle, off_way, IsPruned, IsCut, IsKept};
 ghost use Rattle.trie_core.specs.Search.{NoBeginning};
-ghost use Rattle.trie_map.specs.Covered.{covered_count};
-ghost use Rattle.trie_map.specs.Made.{inserted};
-ghost use Rattle.trie_map.specs.Maps.{IsLongestKey, IsShortestKey};
-ghost use Rattle.trie_map.specs.Refusals.{no_room};
-ghost use Rattle.trie_map.specs.Retain.{CallableInTurn};
+ghost use Rattle.prefix_trie.specs.Covered.{covered_count};
+ghost use Rattle.prefix_trie.specs.Made.{inserted};
+ghost use Rattle.prefix_trie.specs.Maps.{IsLongestKey, IsShortestKey};
+ghost use Rattle.prefix_trie.specs.Refusals.{no_room};
+ghost use Rattle.prefix_trie.specs.Retain.{CallableInTurn};
 ghost use Rattle.prefix_trie.specs.Sets.{same_sets};
 ghost use Rattle.prefix_trie.specs.Members.{TakesMember, AnswersAtMember};
 ghost use Rattle.prefix_trie.specs.InnerSets.{same_sets-equivalence};
-ghost use Rattle.trie_map.specs.declared.refused.Refused.TheVariants.{Full, Memory};
+ghost use Rattle.prefix_trie.specs.declared.refused.Refused.TheVariants.{Full, Memory};
 
+use crate::iterators::{CoverKeys, IntoKeys, Keys};
+use crate::map::PrefixMap;
+use crate::prefix::Prefix;
+use crate::refused::Refused;
 use std::alloc::Global;
 use std::marker::Model;
-use trie_map::{CoverKeys, IntoKeys, Keys, Prefix, PrefixMap, Refused};
 
 /// A set of prefixes: two prefixes are one member where the same bits count.
 ///
@@ -38,7 +41,7 @@ pub struct PrefixSet<P: Prefix> {
 
 impl<P: Prefix> Model for PrefixSet<P> {
     ghost use base.Stored.{coded_unit};
-    ghost use Rattle.trie_map.specs.Seen.{SeenMap, code};
+    ghost use Rattle.prefix_trie.specs.Seen.{SeenMap, code};
 
     ghost Value = { SeenMap (Unit {0}) };
 

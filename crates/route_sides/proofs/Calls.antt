@@ -16,7 +16,7 @@ use Rattle.ipnet_blocks.specs.BitStrings.{bits_cmp}
 use Rattle.trie_core.specs.Nodes.{BitMap}
 use Rattle.trie_core.specs.Search.{NoBeginning}
 use Rattle.trie_core.proofs.Strings.{bits_total, bits_same}
-use Rattle.trie_map.specs.Maps.{IsLongestKey}
+use Rattle.prefix_trie.specs.Maps.{IsLongestKey}
 use Rattle.route_choices.specs.Choices.{Choice, best_hop, best_preference}
 use Rattle.route_choices.proofs.Kept.{all_kept, filter_map_swap}
 use Rattle.route_laws.specs.Networks.{Stored, best_route, choices_at, routes_of}

@@ -7,7 +7,7 @@ use Rattle.ipnet_addr.proofs.Ascending.{In-from_All, All-from_In}
 use Rattle.ipnet_blocks.specs.Networks.{Network}
 use Rattle.ipnet.specs.IpNets.{block, net_in, network_at}
 use Rattle.trie_core.specs.Bits.{number_from}
-use Rattle.trie_iterators.specs.Iterators.{GivesOwned}
+use Rattle.prefix_trie.specs.Iterators.{GivesOwned}
 use Rattle.route_choices.specs.Choices.{Choice, best_hop, best_preference}
 use Rattle.route_sides.specs.InnerSides.{block_at, route_at}
 use Rattle.route_sides.specs.InnerEntries.{KeysUpTo}

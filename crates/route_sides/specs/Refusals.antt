@@ -1,6 +1,6 @@
 -- When a route is refused, and why.
 use Rattle.std.specs.Prelude.{◌≡◌, true, List, []}
-use Rattle.trie_map.specs.declared.refused.Refused.TheVariants.{Memory}
+use Rattle.prefix_trie.specs.declared.refused.Refused.TheVariants.{Memory}
 use Rattle.route_choices.specs.Choices.{Choice, is_one_too_many}
 use Rattle.route_choices.specs.declared.hop.Hop.{Hop}
 use Rattle.route_sides.specs.declared.refused.AddRefused.{AddRefused}

@@ -2,7 +2,7 @@
 ghost use Rattle.std.specs.Prelude.{◌≡◌, List, map};
 ghost use Rattle.std.specs.Iterator.{item_count};
 ghost use Rattle.ipnet_addr.specs.Addresses.{width};
-ghost use Rattle.trie_iterators.specs.Iterators.{GivesOwned};
+ghost use Rattle.prefix_trie.specs.Iterators.{GivesOwned};
 ghost use Rattle.route_sides.specs.InnerEntries.{KeysUpTo, entries_left};
 ghost use Rattle.route_sides.specs.Items.{GivesRoute};
 ghost use Rattle.route_sides.specs.InnerSides.{route_at};

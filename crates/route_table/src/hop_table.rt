@@ -3,7 +3,7 @@ ghost use Rattle.std.specs.Prelude.{◌≡◌, ◌≤◌, ◌+◌, [], ◌++◌,
 ghost use Rattle.ipnet_addr.specs.Addresses.{Family, Ipv4, Ipv6};
 ghost use Rattle.ipnet_blocks.specs.Blocks.{Block, IsBlock};
 ghost use Rattle.ipnet.specs.IpNets.{block};
-ghost use Rattle.trie_map.specs.declared.refused.Refused.TheVariants.{Memory};
+ghost use Rattle.prefix_trie.specs.declared.refused.Refused.TheVariants.{Memory};
 ghost use Rattle.route_choices.specs.Choices.{default_preference};
 ghost use Rattle.route_laws.specs.Bounds.{lengths_in, pieces_in};
 ghost use Rattle.route_laws.specs.Flats.{IsAdmissible, IsFlat};

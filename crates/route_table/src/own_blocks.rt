@@ -7,7 +7,7 @@ ghost use Rattle.route_laws.specs.Flats.{blocks_of, flat_of};
 ghost use Rattle.route_table.specs.InnerOwning.{GrowsBy, IsOwned, Owns};
 ghost use Rattle.route_laws.specs.Networks.{routes_of};
 ghost use Rattle.route_laws.specs.Tables.{IsTable, hop_at, route_of};
-ghost use Rattle.trie_map.specs.declared.refused.Refused.TheVariants.{Memory};
+ghost use Rattle.prefix_trie.specs.declared.refused.Refused.TheVariants.{Memory};
 
 use crate::table::{RouteTable, cleared};
 use ipnet::IpNet;

@@ -3,7 +3,7 @@ ghost use Rattle.std.specs.Prelude.{◌≡◌, [], IfErr, OnErr, OnOk, if◌then
 ghost use Rattle.ipnet_addr.specs.Addresses.{Address, IsAddress};
 ghost use Rattle.ipnet_blocks.specs.Blocks.{IsBlock, has_address};
 ghost use Rattle.ipnet.specs.IpNets.{block};
-ghost use Rattle.trie_map.specs.declared.refused.Refused.TheVariants.{Memory};
+ghost use Rattle.prefix_trie.specs.declared.refused.Refused.TheVariants.{Memory};
 ghost use Rattle.route_choices.specs.Choices.{default_preference};
 ghost use Rattle.route_choices.specs.Hops.{number_of};
 ghost use Rattle.route_laws.specs.Batches.{painted};

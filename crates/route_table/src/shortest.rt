@@ -5,7 +5,7 @@ ghost use Rattle.ipnet_blocks.specs.Blocks.{bit_string};
 ghost use Rattle.ipnet_blocks.specs.Networks.{IsTruncated, block_of};
 ghost use Rattle.ipnet.specs.IpNets.{family, parts};
 ghost use Rattle.least_table.specs.Pieces.{AreDisjoint, strings};
-ghost use Rattle.trie_map.specs.declared.refused.Refused.TheVariants.{Memory};
+ghost use Rattle.prefix_trie.specs.declared.refused.Refused.TheVariants.{Memory};
 ghost use Rattle.route_choices.specs.Hops.{IsHop};
 ghost use Rattle.route_laws.specs.InnerHops.{hop_from};
 ghost use Rattle.route_table.specs.InnerLeast.{AreLeastOf, ArePieces, GrowsByLeast, items_of};

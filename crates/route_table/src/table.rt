@@ -6,7 +6,7 @@ ghost use Rattle.ipnet_blocks.specs.Blocks.{IsBlock, bit_string};
 ghost use Rattle.ipnet.specs.IpNets.{block, family, parts, network_at};
 ghost use Rattle.ipnet_blocks.specs.Maximal.{IsMaximal, IsShortest};
 ghost use Rattle.trie_core.specs.Count.{nodes, visit_count};
-ghost use Rattle.trie_map.specs.declared.refused.Refused.TheVariants.{Memory};
+ghost use Rattle.prefix_trie.specs.declared.refused.Refused.TheVariants.{Memory};
 ghost use Rattle.route_choices.specs.Choices.{holds_hop, is_one_too_many};
 ghost use Rattle.route_choices.specs.Hops.{IsHop};
 ghost use Rattle.route_laws.specs.Bounds.{excess};

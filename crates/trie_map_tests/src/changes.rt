@@ -1,8 +1,8 @@
 //! Rows on changes of many entries at once.
 use crate::maps::{digits, is_equal, plain_map_of};
+use prefix_trie::PrefixMap;
 use std::alloc::Global;
 use std::process::Abort;
-use trie_map::PrefixMap;
 
 /// The map has so many entries and nodes.
 fn counts(rt: &impl Abort, map: &PrefixMap<(u32, u8), u32>, entries: usize, nodes: usize) {

@@ -1,9 +1,10 @@
 //! Rows on entries.
 use crate::maps::{is_equal, is_text, map_of, net};
 use ipnet::Ipv4Net;
+use prefix_trie::map::Entry;
+use prefix_trie::{PrefixMap, Refused};
 use std::alloc::Global;
 use std::process::Abort;
-use trie_map::{Entry, PrefixMap, Refused};
 
 fn empty(rt: &impl Abort, alloc: Global) -> PrefixMap<Ipv4Net, u32> {
     PrefixMap::new(alloc).expect(rt, "a map")

@@ -1,9 +1,9 @@
 //! The calls of a map that are met first, as the comments of these calls show them.
 use crate::maps::{map_of, net};
 use ipnet::Ipv4Net;
+use prefix_trie::PrefixMap;
 use std::alloc::Global;
 use std::process::Abort;
-use trie_map::PrefixMap;
 
 /// 10.0.0.0/8 with 1, and 10.1.0.0/16 with 2.
 fn two_entries(rt: &impl Abort, alloc: Global) -> PrefixMap<Ipv4Net, u32> {

@@ -2,8 +2,8 @@
 ghost use Rattle.std.specs.Prelude.{◌≤◌, length, IsTrue};
 
 use crate::maps::{is_equal, net, wide_net};
+use prefix_trie::{Key, Prefix, path_of, shortened};
 use trie_core::Path;
-use trie_keys::{Key, Prefix, path_of, shortened};
 
 /// The width, the key with zeros after the bits that count, and whether the other prefix is contained.
 fn parts<P: Prefix>(prefix: &P, other: &P) -> (u32, u128, bool)

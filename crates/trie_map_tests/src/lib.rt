@@ -1,4 +1,4 @@
-//! Tests of `trie_keys`, `trie_core` and `trie_map`.
+//! Tests of `trie_core`, and of the keys and the maps of `prefix_trie`.
 #![tactic(auto)]
 
 #[cfg(test)]

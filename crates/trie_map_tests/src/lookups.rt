@@ -1,10 +1,10 @@
 //! What no contract says: that calls succeed, each through its bound at concrete types, with values from outside.
 use crate::maps::{is_equal, is_key, is_text, is_wide_text, map_of, net, wide_map_of, wide_net};
 use ipnet::{Ipv4Net, Ipv6Net};
+use prefix_trie::{PrefixMap, Refused};
 use std::alloc::Global;
 use std::process::Abort;
 use trie_core::{Node, Path};
-use trie_map::{PrefixMap, Refused};
 
 /// The longest match, and how many nodes its search visits.
 fn visited_is(

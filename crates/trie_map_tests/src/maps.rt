@@ -2,11 +2,11 @@
 ghost use Rattle.std.specs.Iterator.{IsFinite};
 
 use ipnet::{Ipv4Net, Ipv6Net};
+use prefix_trie::PrefixMap;
 use std::alloc::Global;
 use std::fmt::Debug;
 use std::process::Abort;
 use std::str::FromStr;
-use trie_map::PrefixMap;
 
 /// The answer is the one that is wanted. A call of it is proved in a tenth of the time of an `assert_eq!`.
 pub(crate) fn is_equal<T: Copy + PartialEq + Debug>(rt: &impl Abort, found: T, wanted: T) {

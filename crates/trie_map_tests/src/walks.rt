@@ -1,9 +1,9 @@
 //! Rows on walks.
 use crate::maps::{digits, is_equal, is_key, map_of, net, value_digits, wide_map_of, wide_net};
 use ipnet::Ipv4Net;
+use prefix_trie::PrefixMap;
 use std::alloc::Global;
 use std::process::Abort;
-use trie_map::PrefixMap;
 
 /// Seven networks, their values in the order of a walk.
 fn seven_networks(rt: &impl Abort, alloc: Global) -> PrefixMap<Ipv4Net, u32> {

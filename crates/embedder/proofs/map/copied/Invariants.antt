@@ -1,6 +1,6 @@
 use Rattle.std.proofs.Common.{◌≡◌}
 use Rattle.std.specs.FinMap.{entries}
-use Rattle.trie_map.specs.Made.{inserted}
+use Rattle.prefix_trie.specs.Made.{inserted}
 use Rattle.embedder.proofs.map.copied.Given as goal
 
 abbrev pub invariant-loop-key : goal.invariant-loop-key

@@ -1,6 +1,6 @@
 use Rattle.std.proofs.Common.{◌≡◌, map}
 use Rattle.std.specs.FinMap.{empty}
-use Rattle.trie_map.specs.Made.{inserted}
+use Rattle.prefix_trie.specs.Made.{inserted}
 use Rattle.prefix_trie.proofs.set.PrefixSet.try_from_iter.Given as goal
 
 abbrev pub invariant-item : goal.invariant-item

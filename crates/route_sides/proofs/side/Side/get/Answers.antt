@@ -2,7 +2,7 @@ use Rattle.std.proofs.Common.{◌∙◌, ap, subst, Some, None}
 use Rattle.std.specs.Option.{option_map}
 use Rattle.ipnet_blocks.specs.Networks.{block_of}
 use Rattle.trie_core.specs.Search.{NoBeginning}
-use Rattle.trie_map.specs.Maps.{IsLongestKey}
+use Rattle.prefix_trie.specs.Maps.{IsLongestKey}
 use Rattle.route_laws.specs.Tables.{match_of, item_of}
 use Rattle.route_laws.specs.Networks.{routes_of}
 use Rattle.route_sides.proofs.Calls.{longest_is}

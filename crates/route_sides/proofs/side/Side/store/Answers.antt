@@ -1,7 +1,7 @@
 use Rattle.std.proofs.Common.{[], ◌∷◌, List, unwrap_or, ◌∙◌, sym, ap, subst}
 use Rattle.std.specs.FinMap.{get, insert}
 use Rattle.ipnet_blocks.specs.Networks.{block_of}
-use Rattle.trie_map.specs.Seen.{SeenMap}
+use Rattle.prefix_trie.specs.Seen.{SeenMap}
 use Rattle.route_choices.specs.Choices.{Choice}
 use Rattle.route_sides.specs.InnerSides.{IsStored, stored_in}
 use Rattle.route_laws.specs.Networks.{choices_at, with_choices, with_stored}

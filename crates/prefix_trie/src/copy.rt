@@ -1,0 +1,61 @@
+//! Maps made of another map, and of entries in any order.
+ghost use Rattle.std.specs.Prelude.{◌≡◌, List, IfOk, IfErr, IsTrue};
+ghost use Rattle.std.specs.Iterator.{Drains, HoldsAlong, IsFinite};
+ghost use Rattle.std.specs.List.{All};
+ghost use Rattle.std.specs.FinMap as map;
+ghost use Rattle.prefix_trie.specs.Made.{inserted};
+ghost use Rattle.prefix_trie.specs.declared.refused.Refused.TheVariants.{Memory};
+
+use crate::map::PrefixMap;
+use crate::prefix::Prefix;
+use crate::refused::Refused;
+use std::alloc::Global;
+use std::marker::PhantomData;
+
+impl<P: Prefix, T: Clone> PrefixMap<P, T> {
+    /// An equal map with as many nodes, its values clones of these, which have to equal them.
+    ///
+    /// # Errors
+    /// `Memory` where there is none for all of it, or a value's clone has none. Nothing is left of it then.
+    pub fn try_clone(&self, alloc: Global) -> Result<PrefixMap<P, T>, Refused>
+        requires { (x y : T) → T.is_clone x y → y ≡ x }
+        ensures same { IfOk result (λ m. m ≡ self.now) }
+        ensures memory { IfErr result (λ e. e ≡ Memory) }
+    {
+        match self.root.try_clone(alloc) {
+            Ok(root) => Ok(PrefixMap {
+                root,
+                len: self.len,
+                nodes: self.nodes,
+                keys: PhantomData,
+            }),
+            Err(_) => Err(Refused::Memory),
+        }
+    }
+}
+
+impl<P: Prefix + Drop, T: Drop> PrefixMap<P, T> {
+    /// The map of these entries, stored in their order: of several values for one key the last one stays. The map
+    /// is tidy.
+    ///
+    /// # Errors
+    /// `Memory` where there is none for an entry, as of `insert`. Then there is no map.
+    pub fn try_from_iter<U: IntoIterator<Item = (P, T)>>(
+        alloc: Global,
+        items: U,
+    ) -> Result<PrefixMap<P, T>, Refused>
+        requires { (it : U.IntoIter) → U.into_iter_gives items it → U.IntoIter.can_next it × IsFinite (U.IntoIter.remaining it) × HoldsAlong U.IntoIter.next_gives it (All (λ e. IsTrue (P.fits e.0))) }
+        ensures map { IfOk result (λ m. (it : U.IntoIter) × (es : List (P × T)) × U.into_iter_gives items it × Drains U.IntoIter.next_gives it es × (m.entries ≡ inserted P.bits map.empty es)) }
+        ensures tidy { IfOk result (λ m. m.spares ≡ map.empty) }
+        ensures memory { IfErr result (λ e. e ≡ Memory) }
+    {
+        let mut made = PrefixMap::empty(alloc);
+        for (prefix, value) in items {
+            match made.insert(prefix, value) {
+                Ok(old) => drop(old),
+                Err(_) => return Err(Refused::Memory),
+            }
+        }
+        Ok(made)
+    }
+}

@@ -1,0 +1,36 @@
+//! The entries whose keys contain a prefix. They take no memory.
+ghost use Rattle.std.specs.Prelude.{◌≡◌, map, IsTrue};
+ghost use Rattle.std.specs.FinMap.{entries};
+ghost use Rattle.std.specs.FinMap.Entries.{where_key};
+ghost use Rattle.ipnet_blocks.specs.BitStrings.{bits_cmp, begins};
+
+use crate::iterators::{Cover, CoverKeys, CoverValues};
+use crate::map::PrefixMap;
+use crate::prefix::{Prefix, path_of};
+use trie_core::Cover as Way;
+
+impl<P: Prefix, T> PrefixMap<P, T> {
+    /// The entries whose keys contain the prefix, its own included, the shortest key first.
+    pub fn cover(&self, prefix: &P) -> Cover<'_, P, T>
+        requires { IsTrue (P.fits prefix.now) }
+        ensures { result ≡ where_key bits_cmp (λ k. begins k (P.bits prefix.now)) (entries self.now.entries) }
+    {
+        Cover::new(Way::new(self.walked(), path_of(prefix)))
+    }
+
+    /// The keys that contain the prefix, itself included, the shortest first.
+    pub fn cover_keys(&self, prefix: &P) -> CoverKeys<'_, P, T>
+        requires { IsTrue (P.fits prefix.now) }
+        ensures { result ≡ map (λ e. e.0) (where_key bits_cmp (λ k. begins k (P.bits prefix.now)) (entries self.now.entries)) }
+    {
+        CoverKeys::of_entries(self.cover(prefix))
+    }
+
+    /// The values of the keys that contain the prefix, itself included, that of the shortest first.
+    pub fn cover_values(&self, prefix: &P) -> CoverValues<'_, P, T>
+        requires { IsTrue (P.fits prefix.now) }
+        ensures { result ≡ map (λ e. e.1) (where_key bits_cmp (λ k. begins k (P.bits prefix.now)) (entries self.now.entries)) }
+    {
+        CoverValues::of_entries(self.cover(prefix))
+    }
+}

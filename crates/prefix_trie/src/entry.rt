@@ -1,0 +1,395 @@
+//! The entry of a prefix, which the map has or lacks.
+ghost use Rattle.std.specs.Prelude.{◌≡◌, ◌+◌, Some, None, IfOk, IfErr, OnErr, OnOk, is_some, MatchOption, unwrap_or, IsTrue};
+ghost use Rattle.std.specs.Borrow.{MutBor, sem};
+ghost use Rattle.std.specs.Map.Calls.{ModifiesValue};
+ghost use Rattle.std.specs.Option.{IsSome, option_copied, option_copied_mut, UnwrapsOrElse};
+ghost use Rattle.std.specs.FinMap.{get, len, remove as without_key};
+ghost use Rattle.trie_core.specs.Ways.{IsKept};
+ghost use Rattle.trie_core.specs.Count.{nodes};
+ghost use Rattle.prefix_trie.specs.Refusals.{no_room};
+ghost use Rattle.prefix_trie.specs.declared.refused.Refused.TheVariants.{Full};
+
+use crate::map::PrefixMap;
+use crate::prefix::{Prefix, path_of, shortened};
+use crate::refused::Refused;
+use ipnet_addr::key::Key;
+use std::mem::replace;
+
+/// A key that the map has, with its value. Its key has zeros after the bits that count.
+#[derive(Drop)]
+pub struct OccupiedEntry<'a, P: Prefix, T> {
+    map: &'a mut PrefixMap<P, T>,
+    key: P,
+    ghost fits: { IsTrue (P.fits key) },
+    ghost stored: { IsSome (get map.now.entries (P.bits key)) },
+}
+
+/// A key that the map lacked, as it was asked for. Only `Entry::insert` may have stored it since.
+#[derive(Drop)]
+pub struct VacantEntry<'a, P: Prefix, T> {
+    map: &'a mut PrefixMap<P, T>,
+    key: P,
+    is_stored: bool,
+    ghost fits: { IsTrue (P.fits key) },
+    ghost found: { is_some (get map.now.entries (P.bits key)) ≡ is_stored },
+}
+
+/// The entry of a key, which the map has or lacks.
+#[derive(Drop)]
+pub enum Entry<'a, P: Prefix, T> {
+    /// The map lacks the key.
+    Vacant(VacantEntry<'a, P, T>),
+    /// The map has the key.
+    Occupied(OccupiedEntry<'a, P, T>),
+}
+
+impl<P: Prefix, T> PrefixMap<P, T> {
+    ghost use Rattle.prefix_trie.specs.Entry.{entry_map_ref, entry_map, entry_key, MatchEntry};
+
+    /// The entry of a prefix, to read, store or change in place. It only looks, and takes no memory.
+    pub fn entry(&mut self, prefix: P) -> Entry<'_, P, T>
+    where
+        P: Drop,
+        requires { IsTrue (P.fits prefix) }
+        ensures same_map { (entry_map_ref result).ghost_name ≡ self.entry.ghost_name }
+        ensures unchanged { entry_map result ≡ self.old }
+        ensures key { MatchEntry result (entry_key result ≡ P.of_bits (P.bits prefix)) (entry_key result ≡ prefix) }
+        ensures bits { P.bits (entry_key result) ≡ P.bits prefix }
+        ensures found { MatchEntry result (IsSome (get self.old.entries (P.bits prefix))) (get self.old.entries (P.bits prefix) ≡ None) }
+    {
+        if self.get(&prefix).is_some() {
+            let key = shortened(&prefix, prefix.prefix_len());
+            Entry::Occupied(OccupiedEntry { map: self, key })
+        } else {
+            Entry::Vacant(VacantEntry {
+                map: self,
+                key: prefix,
+                is_stored: false,
+            })
+        }
+    }
+}
+
+impl<'a, P: Prefix, T> OccupiedEntry<'a, P, T> {
+    ghost use Rattle.prefix_trie.specs.Entry.{Occupied, entry_map, entry_key, entry_value, IsWritten, with_entry_value, entry_lends, occupied_lends};
+
+    /// The key, with zeros after the bits that count.
+    pub fn key(&self) -> &P
+        ensures key { result.now ≡ entry_key (Occupied self.now) }
+        ensures fits { IsTrue (P.fits result.now) }
+    {
+        &self.key
+    }
+
+    /// The value.
+    pub fn get(&self) -> &T
+        ensures { entry_value (Occupied self.now) ≡ Some result.now }
+    {
+        self.map.get(&self.key).unwrap()
+    }
+
+    /// The value, lent to be written.
+    pub fn get_mut(&mut self) -> &mut T
+        ensures* writes_back { sem 𝓛 (occupied_lends P.row T.row P.R.row self.entry result) }
+        ensures value { entry_value (Occupied self.old) ≡ Some result.now }
+        ensures written { (w : T) → IsWritten (Occupied self.old) w (Occupied (with_entry_value self.old w)) }
+    {
+        let path = path_of(&self.key);
+        self.map.value_mut(&path)
+    }
+
+    /// Stores the value, and answers the one that stood there. It takes no memory and is never refused.
+    pub fn insert(&mut self, value: T) -> T
+        ensures old { entry_value (Occupied self.old) ≡ Some result }
+        ensures written { IsWritten (Occupied self.old) value (Occupied self.new) }
+    {
+        replace(self.get_mut(), value)
+    }
+
+    /// The value, lent to be written for as long as the map is lent.
+    pub fn into_mut(self) -> &'a mut T
+    where
+        P: Drop,
+        ensures* writes_back { sem 𝓛 (entry_lends P.row T.row P.R.row (Occupied self.entry) result) }
+        ensures value { entry_value (Occupied self.entry) ≡ Some result.now }
+    {
+        let path = path_of(&self.key);
+        let lender = self.map;
+        lender.value_mut(&path)
+    }
+
+    /// Takes the entry out, and answers its value. Every node stays. It takes no memory.
+    pub fn remove(self) -> T
+    where
+        P: Drop,
+        T: Drop,
+        ensures value { entry_value (Occupied self.entry) ≡ Some result }
+        ensures removed { self.exit.0.now.entries ≡ without_key (entry_map (Occupied self.entry)).entries (P.bits (entry_key (Occupied self.entry))) }
+        ensures spares { IsKept (P.bits (entry_key (Occupied self.entry))) (entry_map (Occupied self.entry)).entries (entry_map (Occupied self.entry)).spares self.exit.0.now.entries self.exit.0.now.spares }
+        ensures count { nodes self.exit.0.now.entries + len self.exit.0.now.spares ≡ nodes (entry_map (Occupied self.entry)).entries + len (entry_map (Occupied self.entry)).spares }
+    {
+        let key = self.key;
+        self.map.remove_keep_tree(&key).unwrap()
+    }
+}
+
+impl<'a, P: Prefix, T> VacantEntry<'a, P, T> {
+    ghost use Rattle.prefix_trie.specs.Entry.{Vacant, entry_map, entry_key, entry_value, entry_lends_ok, IsStored};
+
+    /// The key, as it was asked for.
+    pub fn key(&self) -> &P
+        ensures key { result.now ≡ entry_key (Vacant self.now) }
+        ensures fits { IsTrue (P.fits result.now) }
+    {
+        &self.key
+    }
+
+    /// Stores the value, and answers the one that stood there. The entry stays the one of its key.
+    fn store(&mut self, value: T) -> Result<Option<T>, (Refused, T)>
+    where
+        P: Drop,
+        T: Drop,
+        ensures same_map { self.new.map.ghost_name ≡ self.old.map.ghost_name }
+        ensures same_key { entry_key (Vacant self.new) ≡ entry_key (Vacant self.old) }
+        ensures old { IfOk result (λ old. old ≡ entry_value (Vacant self.old)) }
+        ensures stored { OnOk result (IsStored (entry_map (Vacant self.old)) (P.bits (entry_key (Vacant self.old))) value (entry_map (Vacant self.new))) }
+        ensures unchanged { OnErr result (entry_map (Vacant self.new) ≡ entry_map (Vacant self.old)) }
+        ensures absent { OnErr result (entry_value (Vacant self.old) ≡ None) }
+        ensures full { IfErr result (λ e. e.0 ≡ Full → no_room (entry_map (Vacant self.old))) }
+        ensures value_returned { IfErr result (λ e. e.1 ≡ value) }
+    {
+        let key = shortened(&self.key, self.key.prefix_len());
+        let old = self.map.insert(key, value)?;
+        self.is_stored = true;
+        Ok(old)
+    }
+
+    /// Stores the value, and lends it.
+    ///
+    /// # Errors
+    /// `Memory` as `PrefixMap::insert`. The map is as it was, and the value comes back.
+    pub fn insert(self, value: T) -> Result<&'a mut T, (Refused, T)>
+    where
+        P: Drop,
+        T: Drop,
+        ensures* writes_back { sem 𝓛 (entry_lends_ok P.row T.row P.R.row (Vacant self.entry) result) }
+        ensures value { IfOk result (λ x. x.now ≡ value) }
+        ensures full { IfErr result (λ e. e.0 ≡ Full → no_room (entry_map (Vacant self.entry))) }
+        ensures value_returned { IfErr result (λ e. e.1 ≡ value) }
+    {
+        let path = path_of(&self.key);
+        let map = self.map;
+        match map.insert(self.key, value) {
+            Ok(_) => Ok(map.value_mut(&path)),
+            Err(refused) => Err(refused),
+        }
+    }
+
+    /// Lends the value that was stored since, or stores what `f` gives.
+    fn or_insert_with<F: FnOnce() -> T>(self, f: F) -> Result<&'a mut T, (Refused, T)>
+    where
+        P: Drop,
+        T: Drop,
+        requires { entry_value (Vacant self) ≡ None → F.pre f }
+        ensures* writes_back { sem 𝓛 (entry_lends_ok P.row T.row P.R.row (Vacant self.entry) result) }
+        ensures value { IfOk result (λ x. UnwrapsOrElse (entry_value (Vacant self.entry)) (F.post f) x.now) }
+        ensures full { IfErr result (λ e. e.0 ≡ Full → no_room (entry_map (Vacant self.entry))) }
+        ensures value_returned { IfErr result (λ e. F.post f e.1) }
+        ensures absent { OnErr result (entry_value (Vacant self.entry) ≡ None) }
+    {
+        if !self.is_stored {
+            return self.insert_with(f);
+        }
+        let path = path_of(&self.key);
+        let map = self.map;
+        Ok(map.value_mut(&path))
+    }
+
+    /// Stores what `f` gives, and lends it. `f` is called once.
+    ///
+    /// # Errors
+    /// `Memory` as `PrefixMap::insert`. The map is as it was, and the value comes back.
+    pub fn insert_with<F: FnOnce() -> T>(self, f: F) -> Result<&'a mut T, (Refused, T)>
+    where
+        P: Drop,
+        T: Drop,
+        requires { F.pre f }
+        ensures* writes_back { sem 𝓛 (entry_lends_ok P.row T.row P.R.row (Vacant self.entry) result) }
+        ensures value { IfOk result (λ x. F.post f x.now) }
+        ensures full { IfErr result (λ e. e.0 ≡ Full → no_room (entry_map (Vacant self.entry))) }
+        ensures value_returned { IfErr result (λ e. F.post f e.1) }
+    {
+        self.insert(f())
+    }
+
+    /// Stores the default value, and lends it.
+    ///
+    /// # Errors
+    /// `Memory` as `PrefixMap::insert`. The map is as it was, and the value comes back.
+    pub fn default(self) -> Result<&'a mut T, (Refused, T)>
+    where
+        P: Drop,
+        T: Default + Drop,
+        ensures* writes_back { sem 𝓛 (entry_lends_ok P.row T.row P.R.row (Vacant self.entry) result) }
+        ensures value { IfOk result (λ x. T.is_default x.now) }
+        ensures full { IfErr result (λ e. e.0 ≡ Full → no_room (entry_map (Vacant self.entry))) }
+        ensures value_returned { IfErr result (λ e. T.is_default e.1) }
+    {
+        self.insert(T::default())
+    }
+}
+
+impl<'a, P: Prefix, T> Entry<'a, P, T> {
+    ghost use Rattle.prefix_trie.specs.Seen.{with_value};
+    ghost use Rattle.prefix_trie.specs.Entry.{entry_map_ref, entry_map, entry_key, entry_value, entry_lends_ok, IsStored};
+
+    /// The key: with zeros after the bits that count where the map had it, and as it was asked for where it had not.
+    pub fn key(&self) -> &P
+        ensures key { result.now ≡ entry_key self.now }
+        ensures fits { IsTrue (P.fits result.now) }
+    {
+        match self {
+            Entry::Vacant(entry) => entry.key(),
+            Entry::Occupied(entry) => entry.key(),
+        }
+    }
+
+    /// The value, where the key is stored.
+    pub fn get(&self) -> Option<&T>
+        ensures { option_copied result ≡ entry_value self.now }
+    {
+        match self {
+            Entry::Vacant(entry) => entry.map.get(&entry.key),
+            Entry::Occupied(entry) => Some(entry.get()),
+        }
+    }
+
+    /// The value lent to be written, where the key is stored.
+    pub fn get_mut(&mut self) -> Option<&mut T>
+        ensures { option_copied_mut result ≡ entry_value self.old }
+    {
+        match self {
+            Entry::Vacant(entry) => {
+                let path = path_of(&entry.key);
+                if entry.is_stored {
+                    Some(entry.map.value_mut(&path))
+                } else {
+                    None
+                }
+            }
+            Entry::Occupied(entry) => Some(entry.get_mut()),
+        }
+    }
+
+    /// Stores the value, and answers the one that stood there. On a stored key it takes no memory and is never refused.
+    /// The entry stays the one of its key.
+    ///
+    /// # Errors
+    /// As `PrefixMap::insert`. The map is as it was, and the value comes back.
+    pub fn insert(&mut self, value: T) -> Result<Option<T>, (Refused, T)>
+    where
+        P: Drop,
+        T: Drop,
+        ensures same_map { (entry_map_ref self.new).ghost_name ≡ (entry_map_ref self.old).ghost_name }
+        ensures same_key { entry_key self.new ≡ entry_key self.old }
+        ensures old { IfOk result (λ old. old ≡ entry_value self.old) }
+        ensures stored { OnOk result (IsStored (entry_map self.old) (P.bits (entry_key self.old)) value (entry_map self.new)) }
+        ensures unchanged { OnErr result (entry_map self.new ≡ entry_map self.old) }
+        ensures absent { OnErr result (entry_value self.old ≡ None) }
+        ensures full { IfErr result (λ e. e.0 ≡ Full → no_room (entry_map self.old)) }
+        ensures value_returned { IfErr result (λ e. e.1 ≡ value) }
+    {
+        match self {
+            Entry::Vacant(entry) => entry.store(value),
+            Entry::Occupied(entry) => Ok(Some(entry.insert(value))),
+        }
+    }
+
+    /// Calls `f` on the value, where the key is stored.
+    pub fn and_modify<F: FnOnce(&mut T)>(self, f: F) -> Entry<'a, P, T>
+        requires { (p : MutBor T) → entry_value self ≡ Some p.now → F.pre f p }
+        ensures same_map { (entry_map_ref result).ghost_name ≡ (entry_map_ref self.entry).ghost_name }
+        ensures same_key { entry_key result ≡ entry_key self.entry }
+        ensures update { ModifiesValue F.FnOnce f (entry_value self.entry) (entry_value result) }
+        ensures rest { MatchOption (entry_value result) (entry_map result ≡ entry_map self.entry) (λ w. entry_map result ≡ with_value (entry_map self.entry) (P.bits (entry_key self.entry)) w) }
+    {
+        match self {
+            Entry::Vacant(mut entry) => {
+                if !entry.is_stored {
+                    return Entry::Vacant(entry);
+                }
+                let path = path_of(&entry.key);
+                f(entry.map.value_mut(&path));
+                Entry::Vacant(entry)
+            }
+            Entry::Occupied(mut entry) => {
+                f(entry.get_mut());
+                Entry::Occupied(entry)
+            }
+        }
+    }
+
+    /// The value lent to be written, after storing this one where there is none.
+    ///
+    /// # Errors
+    /// Where the key is not stored, as `VacantEntry::insert`.
+    pub fn or_insert(self, value: T) -> Result<&'a mut T, (Refused, T)>
+    where
+        P: Drop,
+        T: Drop,
+        ensures* writes_back { sem 𝓛 (entry_lends_ok P.row T.row P.R.row self.entry result) }
+        ensures value { IfOk result (λ x. x.now ≡ unwrap_or (entry_value self.entry) value) }
+        ensures full { IfErr result (λ e. e.0 ≡ Full → no_room (entry_map self.entry)) }
+        ensures value_returned { IfErr result (λ e. e.1 ≡ value) }
+        ensures absent { OnErr result (entry_value self.entry ≡ None) }
+    {
+        match self {
+            Entry::Vacant(entry) => entry.or_insert_with(|| value),
+            Entry::Occupied(entry) => Ok(entry.into_mut()),
+        }
+    }
+
+    /// The value lent to be written, after storing what `f` gives where there is none. `f` is called once, and only then.
+    ///
+    /// # Errors
+    /// Where the key is not stored, as `VacantEntry::insert`.
+    pub fn or_insert_with<F: FnOnce() -> T>(self, f: F) -> Result<&'a mut T, (Refused, T)>
+    where
+        P: Drop,
+        T: Drop,
+        requires { entry_value self ≡ None → F.pre f }
+        ensures* writes_back { sem 𝓛 (entry_lends_ok P.row T.row P.R.row self.entry result) }
+        ensures value { IfOk result (λ x. UnwrapsOrElse (entry_value self.entry) (F.post f) x.now) }
+        ensures full { IfErr result (λ e. e.0 ≡ Full → no_room (entry_map self.entry)) }
+        ensures value_returned { IfErr result (λ e. F.post f e.1) }
+        ensures absent { OnErr result (entry_value self.entry ≡ None) }
+    {
+        match self {
+            Entry::Vacant(entry) => entry.or_insert_with(f),
+            Entry::Occupied(entry) => Ok(entry.into_mut()),
+        }
+    }
+
+    /// The value lent to be written, after storing the default one where there is none.
+    ///
+    /// # Errors
+    /// Where the key is not stored, as `VacantEntry::insert`.
+    pub fn or_default(self) -> Result<&'a mut T, (Refused, T)>
+    where
+        P: Drop,
+        T: Default + Drop,
+        ensures* writes_back { sem 𝓛 (entry_lends_ok P.row T.row P.R.row self.entry result) }
+        ensures value { IfOk result (λ x. UnwrapsOrElse (entry_value self.entry) T.is_default x.now) }
+        ensures full { IfErr result (λ e. e.0 ≡ Full → no_room (entry_map self.entry)) }
+        ensures value_returned { IfErr result (λ e. T.is_default e.1) }
+        ensures absent { OnErr result (entry_value self.entry ≡ None) }
+    {
+        match self {
+            Entry::Vacant(entry) => {
+                let value = T::default();
+                entry.or_insert_with(|| value)
+            }
+            Entry::Occupied(entry) => Ok(entry.into_mut()),
+        }
+    }
+}

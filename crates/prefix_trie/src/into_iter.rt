@@ -1,0 +1,60 @@
+//! Walks that own the entries of a map. They take no memory, and drop with them what they have not given.
+ghost use Rattle.std.specs.Prelude.{◌≡◌, ◌≤◌, map, IsTrue};
+ghost use Rattle.std.specs.FinMap.{entries, keys, values};
+ghost use Rattle.std.specs.FinMap.Entries.{where_key};
+ghost use Rattle.ipnet_blocks.specs.BitStrings.{bits_cmp, begins};
+ghost use Rattle.trie_core.specs.InnerWalks.{KeysWithin};
+
+use crate::iterators::{IntoIter, IntoKeys, IntoValues};
+use crate::map::PrefixMap;
+use crate::prefix::{Prefix, path_of};
+use ipnet_addr::key::Key;
+use trie_core::{Node, OwnedWalk};
+
+impl<P: Prefix, T: Drop> IntoIterator for PrefixMap<P, T> {
+    type Item = (P, T);
+
+    type IntoIter = IntoIter<P, T>;
+
+    ghost into_iter_gives = { λ m r. r ≡ entries m.entries };
+
+    /// All entries, owned.
+    fn into_iter(self) -> IntoIter<P, T> {
+        IntoIter::new(OwnedWalk::new(self.into_root()))
+    }
+}
+
+impl<P: Prefix, T: Drop> PrefixMap<P, T> {
+    /// The node that walks start at, owned.
+    fn into_root(self) -> Node<T>
+        ensures map { result.entries ≡ self.entries }
+        ensures levels { result.levels ≤ 26 }
+        ensures keys { KeysWithin P.R.width (entries result.entries) }
+        ensures within { KeysWithin 128 (entries result.entries) }
+    {
+        let _width = <P::R as Key>::width();
+        self.root
+    }
+
+    /// The entries whose keys the prefix contains, itself included, owned. The other entries are dropped.
+    pub fn into_children(self, prefix: &P) -> IntoIter<P, T>
+        requires { IsTrue (P.fits prefix.now) }
+        ensures { result ≡ where_key bits_cmp (begins (P.bits prefix.now)) (entries self.entries) }
+    {
+        IntoIter::new(OwnedWalk::inside(self.into_root(), path_of(prefix)))
+    }
+
+    /// All keys, in the order of a walk. The values are dropped.
+    pub fn into_keys(self) -> IntoKeys<P, T>
+        ensures { result ≡ keys self.entries }
+    {
+        IntoKeys::of_entries(self.into_iter())
+    }
+
+    /// All values, owned, in the order of their keys.
+    pub fn into_values(self) -> IntoValues<P, T>
+        ensures { result ≡ values self.entries }
+    {
+        IntoValues::of_entries(self.into_iter())
+    }
+}

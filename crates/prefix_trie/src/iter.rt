@@ -1,0 +1,94 @@
+//! Walks along the entries of a map. They take no memory.
+ghost use Rattle.std.specs.Prelude.{◌≡◌, ◌≤◌, IsTrue};
+ghost use Rattle.std.specs.FinMap.{entries, keys, values};
+ghost use Rattle.std.specs.FinMap.Entries.{where_key};
+ghost use Rattle.trie_core.specs.Bits.{is_from};
+ghost use Rattle.ipnet_blocks.specs.BitStrings.{bits_cmp, begins};
+ghost use Rattle.trie_core.specs.InnerWalks.{KeysWithin};
+
+use crate::iterators::{Iter, Keys, Values};
+use crate::map::PrefixMap;
+use crate::prefix::{Prefix, path_of};
+use ipnet_addr::key::Key;
+use trie_core::{Node, Walk};
+
+impl<'a, P: Prefix, T> IntoIterator for &'a PrefixMap<P, T> {
+    type Item = (P, &'a T);
+
+    type IntoIter = Iter<'a, P, T>;
+
+    ghost into_iter_gives = { λ m r. r ≡ entries m.now.entries };
+
+    fn into_iter(self) -> Iter<'a, P, T> {
+        self.iter()
+    }
+}
+
+impl<P: Prefix, T> PrefixMap<P, T> {
+    /// The node that walks start at.
+    pub(crate) fn walked(&self) -> &Node<T>
+        ensures map { result.now.entries ≡ self.now.entries }
+        ensures levels { result.now.levels ≤ 26 }
+        ensures keys { KeysWithin P.R.width (entries result.now.entries) }
+        ensures within { KeysWithin 128 (entries result.now.entries) }
+    {
+        let _width = <P::R as Key>::width();
+        &self.root
+    }
+
+    /// All entries.
+    ///
+    /// # Examples
+    /// In a map of `inner`, 10.1.0.0/16, at 2, and then of `wide`, 10.0.0.0/8, at 1:
+    ///
+    /// ```rust
+    /// let mut entries = map.iter();
+    /// assert_eq!(rt; entries.next(), Some((wide, &1)));
+    /// assert_eq!(rt; entries.next(), Some((inner, &2)));
+    /// assert!(rt; entries.next().is_none());
+    /// ```
+    ///
+    /// ```rust
+    /// let mut most = 0;
+    /// for (_, value) in &map {
+    ///     most = most.max(*value);
+    /// }
+    /// assert_eq!(rt; most, 2);
+    /// ```
+    pub fn iter(&self) -> Iter<'_, P, T>
+        ensures { result ≡ entries self.now.entries }
+    {
+        Iter::new(Walk::new(self.walked()))
+    }
+
+    /// The entries whose keys the prefix contains, itself included.
+    pub fn children(&self, prefix: &P) -> Iter<'_, P, T>
+        requires { IsTrue (P.fits prefix.now) }
+        ensures { result ≡ where_key bits_cmp (begins (P.bits prefix.now)) (entries self.now.entries) }
+    {
+        Iter::new(Walk::inside(self.walked(), path_of(prefix)))
+    }
+
+    /// The entries from a prefix on, in the order of a walk: those whose keys come after it, among them the longer
+    /// ones inside it, and where `inclusive` says so its own.
+    pub fn iter_from(&self, prefix: &P, inclusive: bool) -> Iter<'_, P, T>
+        requires { IsTrue (P.fits prefix.now) }
+        ensures { result ≡ where_key bits_cmp (is_from (P.bits prefix.now) inclusive) (entries self.now.entries) }
+    {
+        Iter::new(Walk::onwards(self.walked(), path_of(prefix), inclusive))
+    }
+
+    /// All keys.
+    pub fn keys(&self) -> Keys<'_, P, T>
+        ensures { result ≡ keys self.now.entries }
+    {
+        Keys::of_entries(self.iter())
+    }
+
+    /// All values, in the order of their keys.
+    pub fn values(&self) -> Values<'_, P, T>
+        ensures { result ≡ values self.now.entries }
+    {
+        Values::of_entries(self.iter())
+    }
+}

@@ -1,0 +1,80 @@
+//! The value of the longest match, lent to be written.
+ghost use Rattle.std.specs.Prelude.{◌≡◌, ◌≤◌, ℕ, Some, length, take, MatchOption, IsTrue};
+ghost use Rattle.std.specs.Borrow.{sem};
+ghost use Rattle.std.specs.Option.{IsSome};
+ghost use Rattle.std.specs.FinMap as map;
+ghost use Rattle.trie_core.specs.Search.{NoBeginning, IsLongest};
+ghost use Rattle.prefix_trie.specs.Maps.{IsLongestKey};
+ghost use Rattle.prefix_trie.specs.Lending.{lends_value, lends_longest};
+
+use crate::map::PrefixMap;
+use crate::prefix::{Prefix, path_of, shortened};
+use ipnet_addr::key::Key;
+use trie_core::Path;
+
+/// The way to the first `len` bits of a prefix.
+fn first_bits<P: Prefix>(prefix: &P, len: u8) -> Path
+    requires fits { IsTrue (P.fits prefix.now) }
+    requires within { len ≤ length (P.bits prefix.now) }
+    ensures value { result ≡ take len (P.bits prefix.now) }
+    ensures within { length result ≤ 128 }
+{
+    Path::new(path_of(prefix).to_bits(), len)
+}
+
+impl<P: Prefix, T> PrefixMap<P, T> {
+    /// How long the longest key is that contains the asked prefix.
+    fn lpm_len(&self, prefix: &P) -> Option<u8>
+        requires { IsTrue (P.fits prefix.now) }
+        ensures { MatchOption result (NoBeginning self.now.entries (P.bits prefix.now)) (λ n. (v : T) × IsLongest self.now.entries (P.bits prefix.now) n v) }
+    {
+        match self.root.longest(path_of(prefix)) {
+            None => None,
+            Some((len, _)) => Some(len),
+        }
+    }
+
+    /// The key of the first `len` bits of a prefix, which is stored, and its value, lent to be written: what is left
+    /// there is the key's value afterwards.
+    pub fn match_mut(&mut self, prefix: &P, len: u8) -> (P, &mut T)
+        requires fits { IsTrue (P.fits prefix.now) }
+        requires within { len ≤ length (P.bits prefix.now) }
+        requires stored { IsSome (map.get self.old.entries (take len (P.bits prefix.now))) }
+        ensures* writes_back { sem 𝓛 (lends_value P.row T.row P.R.row ⟦<P as Prefix>⟧ ⟦<P::R as Key>⟧ self.entry (take len (P.bits prefix.now)) result.1) }
+        ensures key { result.0 ≡ P.of_bits (take len (P.bits prefix.now)) }
+        ensures fits { IsTrue (P.fits result.0) }
+        ensures bits { P.bits result.0 ≡ take len (P.bits prefix.now) }
+        ensures value { map.get self.old.entries (take len (P.bits prefix.now)) ≡ Some result.1.now }
+    {
+        let path = first_bits(prefix, len);
+        (shortened(prefix, len), self.value_mut(&path))
+    }
+
+    /// The longest key that contains the asked prefix, which itself counts, and its value, lent to be written. What
+    /// is written back is told by `match_mut`, which lends it, and by `get_lpm_value_mut`.
+    pub fn get_lpm_mut(&mut self, prefix: &P) -> Option<(P, &mut T)>
+        requires { IsTrue (P.fits prefix.now) }
+        ensures { MatchOption result (NoBeginning self.old.entries (P.bits prefix.now)) (λ r. IsLongestKey P.fits P.bits P.of_bits self.old.entries (P.bits prefix.now) r.0 r.1.now) }
+    {
+        match self.lpm_len(prefix) {
+            None => None,
+            Some(len) => Some(self.match_mut(prefix, len)),
+        }
+    }
+
+    /// The value of the longest key that contains the asked prefix, lent to be written: what is left there is the
+    /// value of that key afterwards.
+    pub fn get_lpm_value_mut(&mut self, prefix: &P) -> Option<&mut T>
+        requires { IsTrue (P.fits prefix.now) }
+        ensures* writes_back { sem 𝓛 (lends_longest P.row T.row P.R.row ⟦<P as Prefix>⟧ ⟦<P::R as Key>⟧ self.entry (P.bits prefix.now) result) }
+        ensures value { MatchOption result (NoBeginning self.old.entries (P.bits prefix.now)) (λ r. (n : ℕ) × IsLongest self.old.entries (P.bits prefix.now) n r.now) }
+    {
+        match self.lpm_len(prefix) {
+            None => None,
+            Some(len) => {
+                let path = first_bits(prefix, len);
+                Some(self.value_mut(&path))
+            }
+        }
+    }
+}

@@ -1,0 +1,41 @@
+//! Many entries at once, taken out of a map.
+ghost use Rattle.std.specs.Prelude.{◌≡◌, ◌+◌, ◌≤◌, length, IsTrue};
+ghost use Rattle.std.specs.FinMap as map;
+ghost use Rattle.trie_core.specs.Count.{nodes};
+ghost use Rattle.trie_core.specs.Inside.{outside};
+ghost use Rattle.trie_core.specs.Ways.{IsCut};
+
+use crate::map::PrefixMap;
+use crate::prefix::{Prefix, path_of};
+
+impl<P: Prefix + Drop, T: Drop> PrefixMap<P, T> {
+    /// Takes out every entry, and leaves the root alone. It takes no memory.
+    pub fn clear(&mut self)
+        ensures map { self.new.entries ≡ map.empty }
+        ensures tidy { self.new.spares ≡ map.empty }
+    {
+        self.root.clear();
+        self.len = 0;
+        self.nodes = 1;
+    }
+
+    /// Takes out every entry whose key the prefix contains, which itself counts. Then the last node on the way to the
+    /// prefix goes, and each above it, while it has neither value nor child and is not the root. A prefix of length 0
+    /// clears the map. It takes no memory.
+    pub fn remove_children(&mut self, prefix: &P)
+        requires { IsTrue (P.fits prefix.now) }
+        ensures map { self.new.entries ≡ outside self.old.entries (P.bits prefix.now) }
+        ensures spares { IsCut (P.bits prefix.now) self.old.spares self.new.entries self.new.spares }
+        ensures tidy { self.old.spares ≡ map.empty → self.new.spares ≡ map.empty }
+        ensures cleared { length (P.bits prefix.now) ≡ 0 → self.new.spares ≡ map.empty }
+        ensures count { nodes self.new.entries + map.len self.new.spares ≤ nodes self.old.entries + map.len self.old.spares }
+    {
+        if prefix.prefix_len() == 0 {
+            self.clear();
+            return;
+        }
+        let (entries, nodes) = self.root.remove_children(&path_of(prefix));
+        self.len -= entries;
+        self.nodes -= nodes;
+    }
+}

@@ -1,2 +1,0 @@
-pub mod Cleared
-pub mod Rebuilt

@@ -1,6 +1,0 @@
--- When a call that stores is refused for want of room.
-use Rattle.trie_map.specs.Seen.{SeenMap}
-
--- no map is out of room: each node owns its lists
-abbrev pub no_room : {X : Type 0} → SeenMap X → Type 0
-no_room m = ⊥
