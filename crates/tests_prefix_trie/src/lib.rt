@@ -1,4 +1,4 @@
-//! Tests of `trie_core`, and of the keys and the maps of `prefix_trie`.
+//! Tests of `trie_core`, and of the prefixes, the maps and the sets of `prefix_trie`.
 #![tactic(auto)]
 
 #[cfg(test)]
@@ -6,12 +6,16 @@ mod changes;
 #[cfg(test)]
 mod entries;
 #[cfg(test)]
-mod first_calls;
+mod first_map_calls;
+#[cfg(test)]
+mod first_set_calls;
 #[cfg(test)]
 mod keys;
 #[cfg(test)]
 mod lookups;
 #[cfg(test)]
 mod maps;
+#[cfg(test)]
+mod rows;
 #[cfg(test)]
 mod walks;

@@ -4,8 +4,8 @@ use Rattle.std.specs.List.{All}
 use Rattle.std.specs.Vec.Iter.{into_iter_items}
 use Rattle.std.proofs.Math.Seq.{take-append_seam}
 use Rattle.std.proofs.lemmas.List.Elements.{All-take}
-use Rattle.prefix_trie_tests.proofs.Runs.{taken_front}
-use Rattle.prefix_trie_tests.proofs.rows.set_of.Goals as goal
+use Rattle.tests_prefix_trie.proofs.Runs.{taken_front}
+use Rattle.tests_prefix_trie.proofs.rows.set_of.Goals as goal
 
 pub try_from_iter-requires : goal.try_from_iter-requires
 try_from_iter-requires g c it h =
