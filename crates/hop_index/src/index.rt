@@ -12,8 +12,7 @@ use crate::ranges::{Range, Ranges, push};
 use ipnet::{IpAddr, IpNet};
 use ipnet_addr::number::Number;
 use prefix_trie::Refused;
-use route_sides::Flat;
-use route_table::{HopTable, RouteTable};
+use route_table::{Flat, HopTable, RouteTable};
 use std::alloc::{AllocError, Global};
 use std::marker::Model;
 

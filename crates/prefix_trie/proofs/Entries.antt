@@ -29,6 +29,10 @@ module _ {X : Type 0} where
   some_is None h = cc
   some_is (Some x) h = refl
 
+  pub kept_some : (b : Bool) (o : Option X) → is_some (cond b o None) ≡ true → is_some o ≡ true
+  kept_some true o e = e
+  kept_some false o e = cc
+
   -- a write at a key that is there
   pub len_kept : (m : BitMap X) (q : List Bool) (v : X) → IsSome (get m q) → len (insert m q v) ≡ len m
   len_kept m q v h = one_more m q v (get m q) true refl (some_is (get m q) h)
@@ -50,11 +54,7 @@ module _ {X : Type 0} where
   keys_kept n m q v k h = keys_insert n m (insert m q v) q v k (k q (some_is (get m q) h)) refl
 
   pub keys_outside : (n : ℕ) (m w : BitMap X) (q : List Bool) → KeysUpTo n m → w ≡ outside m q → KeysUpTo n w
-  keys_outside n m w q k e x s = k x (kept (not (begins q x)) (get m x) (sym (ap is_some (ap (λ y. get y x) e ∙ get-outside m q x)) ∙ s))
-    where
-      kept : (b : Bool) (o : Option X) → is_some (cond b o None) ≡ true → is_some o ≡ true
-      kept true o e = e
-      kept false o e = cc
+  keys_outside n m w q k e x s = k x (kept_some (not (begins q x)) (get m x) (sym (ap is_some (ap (λ y. get y x) e ∙ get-outside m q x)) ∙ s))
 
   -- an empty string has no bits, and nothing lies outside it
   pub outside_none : (m : BitMap X) (q : List Bool) → length q ≡ 0 → empty ≡ outside m q

@@ -11,6 +11,7 @@ use Rattle.trie_core.proofs.Strings.{bits_total, same-refl}
 use Rattle.trie_core.specs.Nodes.{BitMap}
 use Rattle.trie_core.specs.InnerWalks.{KeysWithin}
 use Rattle.trie_core.proofs.Frames.{bits_alike}
+use Rattle.prefix_trie.proofs.Entries.{kept_some}
 use Rattle.prefix_trie.proofs.KeyLengths.{keys_where}
 
 from_none : (k : List Bool) → is_from [] true k ≡ true
@@ -22,10 +23,6 @@ module _ {X : Type 0} where
   pub all_from : (es : List (List Bool × X)) → where_key bits_cmp (is_from [] true) es ≡ es
   all_from [] = refl
   all_from (e ∷ es) = ap (λ b. cond b (e ∷ where_key bits_cmp (is_from [] true) es) (where_key bits_cmp (is_from [] true) es)) (from_none e.0) ∙ ap (λ l. e ∷ l) (all_from es)
-
-  kept_some : (b : Bool) (o : Option X) → is_some (cond b o None) ≡ true → is_some o ≡ true
-  kept_some true o e = e
-  kept_some false o e = cc
 
   -- the first of some entries of a map is stored, and no longer than its keys
   pub first_within : (n : ℕ) (p : List Bool → Bool) (m : BitMap X) (q : List Bool) (v : X) (es : List (List Bool × X)) → where_key bits_cmp p (entries m) ≡ (q, v) ∷ es → KeysWithin n (entries m) → length q ≤ n

@@ -1,5 +1,5 @@
--- When two maps are equal.
-use Rattle.std.specs.Prelude.{Bool, List, ◌&&◌}
+-- When two maps are equal, and when two sets.
+use Rattle.std.specs.Prelude.{Bool, List, ◌&&◌, true}
 use Rattle.std.specs.Ordering.{eq_by_cmp}
 use Rattle.std.specs.Cmp.Lexicographic.{pointwise}
 use Rattle.std.specs.FinMap.{entries}
@@ -14,3 +14,7 @@ module _ {X : Type 0} (E : X → X → Bool) where
   -- the same bit strings with equal values, in the order of a walk; spare nodes do not count
   abbrev pub same_maps : SeenMap X → SeenMap X → Bool
   same_maps m n = pointwise same_entry (entries m.entries) (entries n.entries)
+
+-- the same bit strings; spare nodes do not count
+abbrev pub same_sets : SeenMap (Unit {0}) → SeenMap (Unit {0}) → Bool
+same_sets = same_maps (λ _ _. true)

@@ -10,8 +10,5 @@ pub mod IterMut
 pub mod Iterators
 pub mod Retain
 pub mod Laws
-pub mod Sets
-pub mod Members
 pub mod InnerEqual
 pub mod InnerRoots
-pub mod InnerSets

@@ -1,4 +1,4 @@
--- What a closure that is asked of entries takes and answers.
+-- What a closure that is asked of entries, or of members, takes and answers.
 use Rattle.std.specs.Prelude.{◌≡◌, List, ◌∷◌, ◌++◌, Bool, IsTrue}
 use Rattle.std.specs.Borrow.{Bor}
 use Rattle.std.specs.Fn.{Mut, Called, Takes}
@@ -15,6 +15,17 @@ module _ {F K X : Type 0} (g : Mut F (Bor K × (Bor X × Unit {0})) Bool) (fits 
     pub value : Bor X
     pub shows : (bits key.now ≡ e.0) × (key.now ≡ of_bits e.0) × IsTrue (fits key.now) × (value.now ≡ e.1)
     pub called : Called g f (key, (value, tt)) b f'
+
+module _ {F K : Type 0} (g : Mut F (Bor K × Unit {0}) Bool) (fits : K → Bool) (bits : K → List Bool) (of_bits : List Bool → K) where
+  -- f may be called at the member of the bits s, which fits
+  abbrev pub TakesMember : F → List Bool → Type 0
+  TakesMember f s = (member : Bor K) → bits member.now ≡ s → member.now ≡ of_bits s → IsTrue (fits member.now) → Takes g f (member, tt)
+
+  -- f, called there, may answer b and be f' then
+  pub record AnswersAtMember (f : F) (s : List Bool) (b : Bool) (f' : F) : Type 0 where
+    pub member : Bor K
+    pub shows : (bits member.now ≡ s) × (member.now ≡ of_bits s) × IsTrue (fits member.now)
+    pub called : Called g f (member, tt) b f'
 
 -- Q holds at each element of es in turn, of f as the calls R at those before have left it
 pub record CallableInTurn {F E : Type 0} (R : F → E → Bool → F → Type 0) (Q : F → E → Type 0) (f : F) (es : List E) : Type 0 where

@@ -35,7 +35,7 @@ impl<P: Prefix, T, W: EntryWalk<T>, S: Part<P, T, W>> Model for Parts<P, T, W, S
 
 impl<P: Prefix, T, W: EntryWalk<T>, S: Part<P, T, W>> Parts<P, T, W, S> {
     /// Those that a walk has left.
-    pub fn new(walk: W) -> Parts<P, T, W, S>
+    pub(crate) fn new(walk: W) -> Parts<P, T, W, S>
         requires { KeysWithin P.R.width (W.left walk) }
         ensures { result ≡ S.seen (W.left walk) }
     {
@@ -48,7 +48,7 @@ impl<P: Prefix, T, W: EntryWalk<T>, S: Part<P, T, W>> Parts<P, T, W, S> {
     }
 
     /// Those of the entries that an iterator has left.
-    pub fn of_entries(entries: Parts<P, T, W, Pair>) -> Parts<P, T, W, S>
+    pub(crate) fn of_entries(entries: Parts<P, T, W, Pair>) -> Parts<P, T, W, S>
         ensures { result ≡ S.seen entries }
     {
         Parts::new(entries.walk)

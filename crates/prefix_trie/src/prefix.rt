@@ -70,7 +70,7 @@ pub trait Prefix {
 
 /// A key with zeros after its first `len` bits.
 #[inline]
-pub fn masked_key<R: Key>(key: R, len: u8) -> R
+fn masked_key<R: Key>(key: R, len: u8) -> R
     requires { len ≤ R.width }
     ensures number { R.number result ≡ number_from R.width (prefix_bits R.width (R.number key) len) }
     ensures masked { IsMasked R.width (R.number result) len }

@@ -16,10 +16,9 @@ ghost use Rattle.prefix_trie.specs.Covered.{covered_count};
 ghost use Rattle.prefix_trie.specs.Made.{inserted};
 ghost use Rattle.prefix_trie.specs.Maps.{IsLongestKey, IsShortestKey};
 ghost use Rattle.prefix_trie.specs.Refusals.{no_room};
-ghost use Rattle.prefix_trie.specs.Retain.{CallableInTurn};
-ghost use Rattle.prefix_trie.specs.Sets.{same_sets};
-ghost use Rattle.prefix_trie.specs.Members.{TakesMember, AnswersAtMember};
-ghost use Rattle.prefix_trie.specs.InnerSets.{same_sets-equivalence};
+ghost use Rattle.prefix_trie.specs.Retain.{AnswersAtMember, CallableInTurn, TakesMember};
+ghost use Rattle.prefix_trie.specs.Equal.{same_sets};
+ghost use Rattle.prefix_trie.specs.InnerEqual.{same_sets-equivalence};
 ghost use Rattle.prefix_trie.specs.declared.refused.Refused.TheVariants.{Full, Memory};
 
 use crate::iterators::{CoverKeys, IntoKeys, Keys};

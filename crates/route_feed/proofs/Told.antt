@@ -32,9 +32,9 @@ use Rattle.route_laws.proofs.FlatSearch.{search_is_flat}
 use Rattle.route_laws.proofs.Flats.{same_flat}
 use Rattle.route_laws.proofs.NetworksAt.{of_network_at}
 use Rattle.route_laws.specs.Networks.{Stored, IsStoredTable, best_route, choices_at, routes_of, with_choices, with_stored, without_choice}
-use Rattle.route_sides.specs.Refusals.{IsRefused}
-use Rattle.route_sides.specs.declared.refused.AddRefused.{AddRefused}
-use Rattle.route_sides.specs.declared.refused.AddRefused.TheVariants.{Store, TooMany}
+use Rattle.route_table.specs.Refusals.{IsRefused}
+use Rattle.route_table.specs.declared.refused.AddRefused.{AddRefused}
+use Rattle.route_table.specs.declared.refused.AddRefused.TheVariants.{Store, TooMany}
 use Rattle.route_laws.specs.Tables.{Route, Changed, Governed, match_of, match_number, hop_at, without_block, item_of}
 use Rattle.route_laws.proofs.Alterations.{governed_after, no_blocks}
 use Rattle.route_laws.proofs.ChoiceChanges.{blocks_of_choices, changed_by_choices, choices_have_one_hop}

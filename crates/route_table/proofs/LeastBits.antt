@@ -27,7 +27,7 @@ use Rattle.route_choices.proofs.Kept.{In-map, map_In, map_append}
 use Rattle.route_laws.specs.Fewest.{handed, hop_under, GivesInside, IsFewest}
 use Rattle.route_laws.specs.InnerHops.{hop_from}
 use Rattle.route_table.specs.InnerLeast.{ArePieces, AreLeast, GrowsByLeast, AreLeastOf, address_at, entry_of, entries_of, items_of}
-use Rattle.route_sides.specs.InnerSides.{block_at}
+use Rattle.route_table.specs.InnerSides.{block_at}
 use Rattle.route_laws.specs.LeastTables.{IsLeast, routes_for}
 use Rattle.route_laws.specs.Tables.{Route, IsTable, covering, longer, longest, match_of, route_of}
 use Rattle.route_laws.proofs.Families.{in_family, least_of_families}
@@ -37,8 +37,8 @@ use Rattle.route_laws.proofs.NetworksAt.{of_network_at}
 use Rattle.route_laws.proofs.Insides.{Sooner, sound, rising, table_of, has_from_test, test_from_has}
 use Rattle.route_laws.proofs.Matches.{bools_same}
 use Rattle.route_laws.proofs.Ordered.{before_apart}
-use Rattle.route_sides.proofs.Strings.{same_string, string_of_block, block_at_is_block}
-use Rattle.route_sides.proofs.Walked.{network_of_key}
+use Rattle.route_table.proofs.Strings.{same_string, string_of_block, block_at_is_block}
+use Rattle.route_table.proofs.Walked.{network_of_key}
 
 -- ---- from blocks to bit strings
 

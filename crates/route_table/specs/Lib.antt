@@ -1,5 +1,16 @@
+pub mod Sides
+pub mod Refusals
+pub mod Tries
+pub mod Items
+pub mod Operations
+pub mod InnerFamilies
+pub mod InnerSides
+pub mod InnerEntries
+pub mod InnerRoutes
+pub mod InnerGoverning
+pub mod InnerRunning
+pub mod InnerFlattening
 pub mod InnerOwning
 pub mod InnerLeast
-pub mod Operations
 pub mod InnerBetween
 pub mod InnerRepaint

@@ -9,15 +9,15 @@ ghost use Rattle.route_laws.specs.LeastTables.{routes_for};
 ghost use Rattle.route_laws.specs.Networks.{routes_of};
 ghost use Rattle.route_laws.specs.Operations.{between, is_held};
 ghost use Rattle.route_laws.specs.Tables.{IsTable, is_stored, route_of};
-ghost use Rattle.route_sides.specs.Items.{GivesRoute};
+ghost use Rattle.route_table.specs.Items.{GivesRoute};
 ghost use Rattle.route_table.specs.InnerBetween.{AreComing, AreRemoves, GivesInstall, GivesRemove, installs_left, removes_left, routes_left};
 ghost use Rattle.route_table.specs.Operations.{GivesOperation};
 
 use crate::hop_table::HopTable;
+use crate::routes::Routes;
 use ipnet::IpNet;
 use ipnet::laws::{network_blocks, network_equality, network_order};
 use route_choices::{DEFAULT_PREFERENCE, Hop};
-use route_sides::Routes;
 use std::cmp::Ordering;
 use std::marker::Model;
 

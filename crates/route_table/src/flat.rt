@@ -1,14 +1,137 @@
 //! The flat list of a table: the shortest list of blocks of one hop.
-ghost use Rattle.std.specs.Prelude.{◌≡◌, ◌≤◌, ◌+◌, ◌++◌, List, All, length};
+ghost use Rattle.std.specs.Prelude.{◌≡◌, ◌≤◌, ◌+◌, ◌++◌, [], List, All, length};
+ghost use Rattle.std.specs.Iterator.{item_count};
 ghost use Rattle.ipnet_addr.specs.Addresses.{Family, Ipv4, Ipv6};
 ghost use Rattle.ipnet_blocks.specs.Blocks.{Block};
 ghost use Rattle.route_laws.specs.Bounds.{lengths_in, pieces_in};
 ghost use Rattle.route_laws.specs.Flats.{IsAdmissible, IsFlat};
+ghost use Rattle.route_table.specs.InnerFlattening.{AreBoth, GivesPieces, pieces_of};
+ghost use Rattle.route_table.specs.Items.{GivesPiece};
 ghost use Rattle.route_laws.specs.Networks.{routes_of};
 ghost use Rattle.route_laws.specs.Tables.{IsTable, hop_at};
 
+use crate::address_family::AddressFamily;
+use crate::governed::{blocks, no_blocks};
+use crate::routes::Routes;
+use crate::runs::Runs;
 use crate::table::RouteTable;
-use route_sides::{Flat, Routes};
+use ipnet::{IpNet, IpSubnets};
+use std::marker::Model;
+
+/// The blocks that are left of a run, and its number.
+#[derive(Drop)]
+struct Pieces {
+    blocks: IpSubnets,
+    number: u32,
+}
+
+impl Pieces {
+    /// No blocks.
+    fn none() -> Pieces
+        ensures { pieces_of result ≡ [] }
+    {
+        Pieces {
+            blocks: no_blocks(),
+            number: 0,
+        }
+    }
+
+    /// The first block, with the number.
+    fn next(&mut self) -> Option<(IpNet, u32)>
+        ensures { GivesPiece (pieces_of self.old) result (pieces_of self.new) }
+    {
+        let number = self.number;
+        match self.blocks.next() {
+            Some(net) => Some((net, number)),
+            None => None,
+        }
+    }
+}
+
+/// The runs of both families.
+#[derive(Drop)]
+struct BothRuns<'a> {
+    v4: Runs<'a>,
+    v6: Runs<'a>,
+}
+
+impl<'a> BothRuns<'a> {
+    /// The blocks of the next run.
+    fn next(&mut self) -> Option<Pieces>
+        requires { AreBoth self.old }
+        ensures both { AreBoth self.new }
+        ensures pieces { GivesPieces self.old result self.new }
+    {
+        if let Some(run) = self.v4.next() {
+            return Some(Pieces {
+                blocks: blocks(AddressFamily::V4, run.span),
+                number: run.number,
+            });
+        }
+        match self.v6.next() {
+            Some(run) => Some(Pieces {
+                blocks: blocks(AddressFamily::V6, run.span),
+                number: run.number,
+            }),
+            None => None,
+        }
+    }
+}
+
+/// The blocks of one hop that lie in no larger one, as networks without host bits, each with the number of its hop,
+/// ascending. It takes no memory.
+#[derive(Drop)]
+pub struct Flat<'a> {
+    pieces: Pieces,
+    runs: BothRuns<'a>,
+}
+
+impl<'a> Model for Flat<'a> {
+    ghost use Rattle.std.specs.Prelude.{List};
+    ghost use Rattle.route_laws.specs.Bounds.{lengths_in, pieces_in};
+    ghost use Rattle.route_laws.specs.Flats.{Piece};
+    ghost use Rattle.route_table.specs.InnerFlattening.{AreBoth, pieces_left};
+
+    ghost Value = { List Piece };
+
+    ghost view = { λ a. pieces_left a.pieces a.runs };
+
+    ghost invariant = { λ a. AreBoth a.runs };
+}
+
+impl<'a> Flat<'a> {
+    /// The flat list of a table: of its IPv4 routes and of its IPv6 routes, each ascending.
+    pub fn new(v4: Routes<'a>, v6: Routes<'a>) -> Flat<'a>
+        requires routes { IsTable (v4 ++ v6) }
+        requires ipv4 { All (λ r. r.block.family ≡ Ipv4) v4 }
+        requires ipv6 { All (λ r. r.block.family ≡ Ipv6) v6 }
+        ensures { IsFlat (hop_at (v4.entry ++ v6.entry)) result }
+    {
+        Flat {
+            pieces: Pieces::none(),
+            runs: BothRuns {
+                v4: Runs::new(AddressFamily::V4, v4),
+                v6: Runs::new(AddressFamily::V6, v6),
+            },
+        }
+    }
+}
+
+impl<'a> Iterator for Flat<'a> {
+    type Item = (IpNet, u32);
+
+    ghost next_gives = { GivesPiece };
+
+    ghost remaining = { item_count (λ ps. ps) };
+
+    fn next(&mut self) -> Option<(IpNet, u32)> {
+        if let Some(piece) = self.pieces.next() {
+            return Some(piece);
+        }
+        self.pieces = self.runs.next()?;
+        self.pieces.next()
+    }
+}
 
 impl RouteTable {
     /// The routes of either family, ascending.

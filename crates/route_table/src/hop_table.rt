@@ -11,11 +11,12 @@ ghost use Rattle.route_laws.specs.LeastTables.{routes_for};
 ghost use Rattle.route_laws.specs.Networks.{IsStoredTable, choices_at, routes_of};
 ghost use Rattle.route_laws.specs.Tables.{IsTable, hop_at, route_of, routes_inside, with_route};
 
+use crate::flat::Flat;
+use crate::routes::Routes;
 use crate::table::{Table, cleared};
 use ipnet::IpNet;
 use prefix_trie::Refused;
 use route_choices::{DEFAULT_PREFERENCE, Hop};
-use route_sides::{Flat, Routes};
 use std::alloc::Global;
 
 /// A hop for each of some networks of both families, as a follower keeps them. A network takes less than a quarter of

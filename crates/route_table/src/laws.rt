@@ -1,8 +1,18 @@
 //! Laws of tables, and those of hops and refusals: public functions without a body, whose contracts are the laws.
+ghost use Rattle.std.specs.Prelude.{◌≡◌, ◌↔◌, IsTrue};
+ghost use Rattle.route_table.specs.declared.refused.AddRefused.{AddRefused as AnyRefused};
+
+use crate::refused::AddRefused;
 pub use prefix_trie::laws::refusals;
 pub use route_choices::laws::hops;
 pub use route_laws::laws::{
     best_routes, changed, changed_networks, changes, choices, fewest, flat, held, kept, matches,
     networks, one_route, overwrites, pages,
 };
-pub use route_sides::laws::add_refusals;
+
+/// `==` holds of one refusal alone; a clone of a refusal is the same one, and cloning never fails.
+pub fn add_refusals()
+    ensures equality { (a b : AnyRefused) → IsTrue (⟦<AddRefused as PartialEq>⟧.eq a b) ↔ (a ≡ b) }
+    ensures clones { (a b : AnyRefused) → ⟦<AddRefused as Clone>⟧.is_clone a b → b ≡ a }
+    ensures made { (a : AnyRefused) → ⟦<AddRefused as Clone>⟧.is_infallible a }
+{}

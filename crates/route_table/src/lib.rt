@@ -2,21 +2,32 @@
 #![tactic(auto)]
 
 pub use between::{Between, Operation};
+pub use flat::Flat;
+pub use governed::Governed;
 pub use hop_table::HopTable;
 pub use prefix_trie::Refused;
+pub use refused::AddRefused;
 pub use repaint::Repaint;
 pub use route_choices::{All, DEFAULT_PREFERENCE, Hop};
-pub use route_sides::{AddRefused, Flat, Governed, Routes};
+pub use routes::Routes;
 pub use table::{RouteTable, Table};
 
+mod address_family;
 mod between;
+mod family;
 mod flat;
+mod governed;
 mod hop_table;
 pub mod laws;
 mod overwrite;
 mod own_blocks;
 mod paint;
+mod refused;
 mod repaint;
+mod routes;
+mod runs;
 mod shortest;
+mod side;
+mod side_routes;
 mod table;
 mod walks;

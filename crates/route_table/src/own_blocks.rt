@@ -9,11 +9,12 @@ ghost use Rattle.route_laws.specs.Networks.{routes_of};
 ghost use Rattle.route_laws.specs.Tables.{IsTable, hop_at, route_of};
 ghost use Rattle.prefix_trie.specs.declared.refused.Refused.TheVariants.{Memory};
 
+use crate::governed::Governed;
+use crate::routes::Routes;
 use crate::table::{RouteTable, cleared};
 use ipnet::IpNet;
 use prefix_trie::Refused;
 use route_choices::Hop;
-use route_sides::{Governed, Routes};
 use std::alloc::AllocError;
 
 /// Appends the blocks.

@@ -13,11 +13,11 @@ ghost use Rattle.route_table.specs.Operations.{GivesOperation};
 
 use crate::between::Operation;
 use crate::hop_table::HopTable;
+use crate::routes::Routes;
 use crate::table::cleared;
 use ipnet::IpNet;
 use ipnet::laws::network_equality;
 use route_choices::Hop;
-use route_sides::Routes;
 use std::marker::Model;
 
 /// The networks to remove that are left: those of the routes, ascending, without the one that stays.

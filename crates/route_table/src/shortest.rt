@@ -14,13 +14,14 @@ ghost use Rattle.route_laws.specs.LeastTables.{IsLeast, routes_for};
 ghost use Rattle.route_laws.specs.Networks.{routes_of};
 ghost use Rattle.route_laws.specs.Tables.{hop_at};
 
+use crate::family::OfFamily;
+use crate::flat::Flat;
 use crate::hop_table::HopTable;
 use crate::table::RouteTable;
 use ipnet::{IpNet, Ipv4Net, Ipv6Net};
 use least_table::least;
 use prefix_trie::Refused;
 use route_choices::Hop;
-use route_sides::{Flat, OfFamily};
 use std::alloc::{AllocError, Global};
 
 /// The hop of a number, or nowhere.

@@ -10,15 +10,18 @@ ghost use Rattle.prefix_trie.specs.declared.refused.Refused.TheVariants.{Memory}
 ghost use Rattle.route_choices.specs.Choices.{holds_hop, is_one_too_many};
 ghost use Rattle.route_choices.specs.Hops.{IsHop};
 ghost use Rattle.route_laws.specs.Bounds.{excess};
-ghost use Rattle.route_sides.specs.Tries.{map_of};
+ghost use Rattle.route_table.specs.Tries.{map_of};
 ghost use Rattle.route_laws.specs.Networks.{IsLeaf, IsStoredTable, choices_at, routes_of, with_choice, with_choices, without_choice};
-ghost use Rattle.route_sides.specs.Refusals.{IsRefused};
+ghost use Rattle.route_table.specs.Refusals.{IsRefused};
 ghost use Rattle.route_laws.specs.Tables.{Governed as GovernedBy, IsTable, match_number, match_of, routes_inside, item_of};
 
+use crate::governed::Governed;
+use crate::refused::AddRefused;
+use crate::routes::Routes;
+use crate::side::Side;
 use ipnet::{IpNet, Ipv4Net, Ipv6Net};
 use prefix_trie::Refused;
 use route_choices::Hop;
-use route_sides::{AddRefused, Governed, Routes, Side};
 use std::alloc::Global;
 use std::marker::Model;
 
@@ -42,7 +45,7 @@ pub struct Table<const ROOM: usize> {
 impl<const ROOM: usize> Model for Table<ROOM> {
     ghost use Rattle.std.specs.Prelude.{List, ◌++◌};
     ghost use Rattle.ipnet_addr.specs.Addresses.{Ipv4, Ipv6};
-    ghost use Rattle.route_sides.specs.Sides.{IsSide};
+    ghost use Rattle.route_table.specs.Sides.{IsSide};
     ghost use Rattle.route_laws.specs.Networks.{Stored};
 
     ghost Value = { List Stored };

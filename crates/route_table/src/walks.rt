@@ -6,9 +6,9 @@ ghost use Rattle.route_laws.specs.Onwards.{count_of, routes_after, routes_from};
 ghost use Rattle.route_laws.specs.Networks.{routes_of};
 ghost use Rattle.route_laws.specs.Tables.{IsTable, covering};
 
+use crate::routes::Routes;
 use crate::table::{RouteTable, cleared};
 use ipnet::IpNet;
-use route_sides::Routes;
 
 impl RouteTable {
     /// How many networks are stored: of IPv4 and of IPv6. It takes no memory.

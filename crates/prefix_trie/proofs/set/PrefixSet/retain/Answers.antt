@@ -1,6 +1,6 @@
 use Rattle.std.proofs.Common.{rules, of_calls}
 use Rattle.std.specs.FinMap.{entries}
-use Rattle.prefix_trie.specs.Members.{AnswersAtMember, TakesMember}
+use Rattle.prefix_trie.specs.Retain.{AnswersAtMember, TakesMember}
 use Rattle.prefix_trie.proofs.Kept.{callable_by, keys_kept}
 use Rattle.prefix_trie.proofs.set.PrefixSet.retain.Goals as goal
 

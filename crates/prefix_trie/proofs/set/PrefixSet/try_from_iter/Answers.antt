@@ -1,9 +1,11 @@
-use Rattle.std.proofs.Common.{[], ◌∷◌, ◌++◌, ◌∙◌, IsTrue, refl, sym, ap}
+use Rattle.std.proofs.Common.{[], ◌∷◌, ◌++◌, ◌∙◌, map, IsTrue, refl, sym, ap}
 use Rattle.std.specs.declared.option.Option.TheVariants.{Some}
 use Rattle.std.specs.FinMap.{empty, insert}
 use Rattle.std.proofs.iter.Next.{Yields-more}
+use Rattle.std.proofs.lemmas.List.{map-append}
 use Rattle.std.proofs.lemmas.List.Elements.{All-pop}
-use Rattle.prefix_trie.proofs.Sets.{taken_last}
+use Rattle.prefix_trie.specs.Made.{inserted}
+use Rattle.prefix_trie.proofs.Same.{inserted_last}
 use Rattle.prefix_trie.proofs.set.PrefixSet.try_from_iter.Goals as goal
 
 pub insert-requires : goal.insert-requires
@@ -16,6 +18,6 @@ insert-requires g c =
 
 pub item-preserved : goal.item-preserved
 item-preserved g c = record {
-  set = c.in-Ok.ensures.set ∙ ap (λ m. insert m (g.P.Prefix.bits c.in-Some.prefix) tt) c.item.invariant.set ∙ sym (taken_last g.P.Prefix.bits empty c.item.yielded c.in-Some.prefix);
+  set = c.in-Ok.ensures.set ∙ ap (λ m. insert m (g.P.Prefix.bits c.in-Some.prefix) tt) c.item.invariant.set ∙ sym (ap (inserted g.P.Prefix.bits empty) (map-append (λ p. (p, tt)) c.item.yielded (c.in-Some.prefix ∷ [])) ∙ inserted_last g.P.Prefix.bits empty (map (λ p. (p, tt)) c.item.yielded) (c.in-Some.prefix, tt));
   tidy = c.in-Ok.ensures.tidy c.item.invariant.tidy;
 }

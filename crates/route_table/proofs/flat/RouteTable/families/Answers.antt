@@ -2,7 +2,7 @@ use Rattle.std.proofs.Common.{◌∙◌, subst}
 use Rattle.ipnet_addr.specs.Addresses.{Ipv4, Ipv6}
 use Rattle.route_laws.specs.Networks.{routes_of}
 use Rattle.route_laws.specs.Tables.{IsTable}
-use Rattle.route_sides.proofs.Sides.{is_table, routes_of_side}
+use Rattle.route_table.proofs.Sides.{is_table, routes_of_side}
 use Rattle.route_table.proofs.flat.RouteTable.families.Goals as goal
 
 pub returns-clause-table : goal.returns-clause-table

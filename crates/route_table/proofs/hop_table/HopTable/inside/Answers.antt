@@ -4,7 +4,7 @@ use Rattle.ipnet_blocks.specs.Networks.{block_of}
 use Rattle.ipnet.specs.IpNets.{block}
 use Rattle.route_laws.specs.Tables.{IsTable, routes_inside}
 use Rattle.route_laws.specs.Networks.{routes_of}
-use Rattle.route_sides.proofs.Sides.{is_table, inside_side}
+use Rattle.route_table.proofs.Sides.{is_table, inside_side}
 use Rattle.route_table.proofs.hop_table.HopTable.inside.Goals as goal
 
 pub returns-in-V4-clause-routes : goal.returns-in-V4-clause-routes

@@ -3,7 +3,7 @@ use Rattle.ipnet_blocks.proofs.Maximals.{maximal_is_shortest}
 use Rattle.route_laws.specs.Tables.{hop_at}
 use Rattle.ipnet.specs.IpNets.{block}
 use Rattle.route_laws.specs.Networks.{routes_of}
-use Rattle.route_sides.proofs.Outcomes.{if_ok}
+use Rattle.route_table.proofs.Outcomes.{if_ok}
 use Rattle.route_table.proofs.Owned.{owned_blocks, owned_is_flat}
 use Rattle.route_table.proofs.own_blocks.RouteTable.owned.Goals as goal
 

@@ -4,7 +4,7 @@ use Rattle.ipnet_blocks.specs.Maximal.{IsMaximal}
 use Rattle.route_choices.specs.Hops.{number_of}
 use Rattle.route_laws.specs.Networks.{routes_of}
 use Rattle.route_laws.specs.Tables.{Governed, route_of}
-use Rattle.route_sides.proofs.Outcomes.{on_ok}
+use Rattle.route_table.proofs.Outcomes.{on_ok}
 use Rattle.route_table.proofs.Owned.{grows_by_governed}
 use Rattle.route_table.proofs.own_blocks.RouteTable.push_route.Goals as goal
 

@@ -1,7 +1,7 @@
 use Rattle.std.proofs.Common.{◌∙◌, ap}
 use Rattle.ipnet_blocks.specs.Blocks.{Block, bit_string}
 use Rattle.trie_core.specs.Count.{visit_count}
-use Rattle.route_sides.specs.Tries.{map_of}
+use Rattle.route_table.specs.Tries.{map_of}
 use Rattle.route_table.proofs.table.RouteTable.get_visits.Goals as goal
 
 pub returns-clause-visits : goal.returns-clause-visits

@@ -1,7 +1,7 @@
 use Rattle.ipnet.specs.IpNets.{block}
 use Rattle.route_laws.specs.Networks.{routes_of}
 use Rattle.route_laws.proofs.Bounds.{governed_bound}
-use Rattle.route_sides.proofs.Governings.{governed_in_part, part_is_inside, part_is_table}
+use Rattle.route_table.proofs.Governings.{governed_in_part, part_is_inside, part_is_table}
 use Rattle.route_table.proofs.table.RouteTable.governs.Goals as goal
 
 pub new-requires-clause-table : goal.new-requires-clause-table

@@ -1,8 +1,8 @@
 use Rattle.std.proofs.Common.{◌∙◌, sym, ap}
 use Rattle.ipnet_addr.specs.Addresses.{Ipv4, Ipv6}
 use Rattle.trie_core.specs.Count.{nodes}
-use Rattle.route_sides.specs.Tries.{map_of}
-use Rattle.route_sides.proofs.Sides.{map_side}
+use Rattle.route_table.specs.Tries.{map_of}
+use Rattle.route_table.proofs.Sides.{map_side}
 use Rattle.route_table.proofs.table.RouteTable.node_counts.Goals as goal
 
 pub returns : goal.returns

@@ -4,8 +4,8 @@ use Rattle.ipnet_blocks.specs.Blocks.{bit_string}
 use Rattle.ipnet_blocks.specs.Networks.{block_of}
 use Rattle.ipnet.specs.IpNets.{block, family}
 use Rattle.trie_core.specs.Count.{visit_count}
-use Rattle.route_sides.specs.Tries.{map_of}
-use Rattle.route_sides.proofs.Sides.{map_side}
+use Rattle.route_table.specs.Tries.{map_of}
+use Rattle.route_table.proofs.Sides.{map_side}
 use Rattle.route_table.proofs.table.RouteTable.visits.Goals as goal
 
 pub returns-in-V4-clause-visits : goal.returns-in-V4-clause-visits

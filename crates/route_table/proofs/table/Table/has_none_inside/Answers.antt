@@ -4,7 +4,7 @@ use Rattle.ipnet_blocks.specs.Networks.{block_of}
 use Rattle.ipnet.specs.IpNets.{block}
 use Rattle.ipnet.specs.declared.ip_net.IpNet.{IpNet}
 use Rattle.route_laws.specs.Networks.{IsLeaf, Stored}
-use Rattle.route_sides.proofs.Leaves.{leaf_side}
+use Rattle.route_table.proofs.Leaves.{leaf_side}
 use Rattle.route_table.proofs.table.Table.has_none_inside.Goals as goal
 
 pub returns-in-V4 : goal.returns-in-V4

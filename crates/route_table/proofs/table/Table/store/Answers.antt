@@ -3,8 +3,8 @@ use Rattle.ipnet_addr.specs.Addresses.{Ipv4, Ipv6}
 use Rattle.ipnet_blocks.specs.Networks.{block_of}
 use Rattle.ipnet.specs.IpNets.{block}
 use Rattle.route_laws.specs.Networks.{IsStoredTable, choices_at, with_choices}
-use Rattle.route_sides.proofs.Outcomes.{on_err, on_ok}
-use Rattle.route_sides.proofs.Sides.{is_stored_table, choices_side, with_choices_side}
+use Rattle.route_table.proofs.Outcomes.{on_err, on_ok}
+use Rattle.route_table.proofs.Sides.{is_stored_table, choices_side, with_choices_side}
 use Rattle.route_table.proofs.table.Table.store.Goals as goal
 
 pub returns-in-V4-clause-networks : goal.returns-in-V4-clause-networks

@@ -1,8 +1,0 @@
--- The families that the code names.
-use Rattle.ipnet_addr.specs.Addresses.{Family, Ipv4, Ipv6}
-use Rattle.route_sides.specs.declared.address_family.AddressFamily.{AddressFamily}
-use Rattle.route_sides.specs.declared.address_family.AddressFamily.TheVariants.{V4, V6}
-
-abbrev pub family_of : AddressFamily → Family
-family_of V4 = Ipv4
-family_of V6 = Ipv6

@@ -1,0 +1,44 @@
+use Rattle.std.proofs.Common.{[], ◌∷◌, List, unwrap_or, ◌∙◌, sym, ap, subst}
+use Rattle.std.specs.FinMap.{get, insert}
+use Rattle.ipnet_blocks.specs.Networks.{block_of}
+use Rattle.prefix_trie.specs.Seen.{SeenMap}
+use Rattle.route_choices.specs.Choices.{Choice}
+use Rattle.route_table.specs.InnerSides.{IsStored, stored_in}
+use Rattle.route_laws.specs.Networks.{choices_at, with_choices, with_stored}
+use Rattle.route_table.proofs.Calls.{choices_are}
+use Rattle.route_table.proofs.Room.{room_fits}
+use Rattle.route_table.proofs.Seams.{is_side}
+use Rattle.route_table.proofs.Stores.{put_is_stored, put_side}
+use Rattle.route_table.proofs.side.Side.store.Goals as goal
+
+pub one-choices-requires : goal.one-choices-requires
+one-choices-requires g c = (room_fits _ c.self.invariant.3, c.self.invariant.2)
+
+pub insert-requires : goal.insert-requires
+insert-requires g c = g.met.P.OfFamily.always_fits c.args.net
+
+pub returns-in-Err-clause-side : goal.returns-in-Err-clause-side
+returns-in-Err-clause-side g c = is_side _ _ (subst (λ (h : SeenMap (List Choice)). IsStored g.P.OfFamily.family h.entries) (sym c.in-Err.ensures.unchanged) c.self.invariant.0)
+
+pub returns-in-Err-clause-absent : goal.returns-in-Err-clause-absent
+returns-in-Err-clause-absent g c =
+    sym (ap (λ T. choices_at T (block_of g.P.OfFamily.family (g.P.OfFamily.parts c.args.net))) c.self.view_is)
+    ∙ choices_are (block_of g.P.OfFamily.family (g.P.OfFamily.parts c.args.net)) c.requires _ c.self.invariant.0
+    ∙ ap (λ o. unwrap_or o []) (sym (ap (get c.self.inside.networks.entries) (g.met.P.OfFamily.bits_are c.args.net)) ∙ c.in-Err.ensures.absent)
+
+pub invariant_of-self-2 : goal.invariant_of-self-2
+invariant_of-self-2 g c = (
+  put_is_stored (block_of g.P.OfFamily.family (g.P.OfFamily.parts c.args.net)) c.requires _ c.self.invariant.0 _ c.one-choices.result c.one-choices.ensures.are (λ e. let f = sym c.one-choices.ensures.choices ∙ e in cc) (c.in_default.ensures.map ∙ ap (λ s. insert c.self.inside.networks.entries s c.one-choices.result) (g.met.P.OfFamily.bits_are c.args.net)),
+  c.in_default.ensures.tidy c.self.invariant.1,
+  c.self.invariant.2,
+  c.self.invariant.3,
+)
+
+pub returns-clause-networks : goal.returns-clause-networks
+returns-clause-networks g c =
+    put_side (block_of g.P.OfFamily.family (g.P.OfFamily.parts c.args.net)) c.requires _ c.self.invariant.0 _ c.one-choices.result c.one-choices.ensures.are (λ e. let f = sym c.one-choices.ensures.choices ∙ e in cc) (c.in_default.ensures.map ∙ ap (λ s. insert c.self.inside.networks.entries s c.one-choices.result) (g.met.P.OfFamily.bits_are c.args.net))
+    ∙ ap (λ cs. with_stored (stored_in g.P.OfFamily.family c.self.inside.networks.entries) (record { block = (block_of g.P.OfFamily.family (g.P.OfFamily.parts c.args.net)); choices = cs })) c.one-choices.ensures.choices
+    ∙ (λ i. with_choices (c.self.view_is i) (block_of g.P.OfFamily.family (g.P.OfFamily.parts c.args.net)) (record { hop = c.args.hop; pref = c.args.pref } ∷ []))
+
+pub returns-clause-side : goal.returns-clause-side
+returns-clause-side g c = is_side _ _ (put_is_stored (block_of g.P.OfFamily.family (g.P.OfFamily.parts c.args.net)) c.requires _ c.self.invariant.0 _ c.one-choices.result c.one-choices.ensures.are (λ e. let f = sym c.one-choices.ensures.choices ∙ e in cc) (c.in_default.ensures.map ∙ ap (λ s. insert c.self.inside.networks.entries s c.one-choices.result) (g.met.P.OfFamily.bits_are c.args.net)))

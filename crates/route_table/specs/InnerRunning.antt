@@ -1,0 +1,118 @@
+-- The runs of one number that routes leave where each is painted over those before it.
+use Rattle.std.specs.Prelude.{◌≡◌, ℕ, ◌+◌, ◌-◌, ◌*◌, ◌<◌, ◌≤◌, ◌&&◌, ◌==◌, true, nat_le, nat_lt, Bool, cond, length, take, List, [], ◌∷◌, ◌++◌, Option, Some, None, MatchOption, All, AllPairs, map}
+use Rattle.ipnet_blocks.specs.Blocks.{first, last}
+use Rattle.ipnet_blocks.specs.declared.aggregate.Span.{Span}
+use Rattle.route_choices.specs.Hops.{number_of}
+use Rattle.route_laws.specs.Tables.{Route}
+use Rattle.route_table.specs.declared.runs.Reach.{Reach}
+use Rattle.route_table.specs.declared.runs.Run.{Run}
+use Rattle.route_table.specs.declared.runs.Runs.{Runs}
+use Rattle.route_table.specs.declared.runs.Step.{Step}
+use Rattle.route_table.specs.declared.runs.Step.TheVariants as step
+
+-- the numbers of a route's addresses, its length and the number of its hop
+abbrev pub reach_of : Route → Reach
+reach_of r = record { first = first r.block; last = last r.block; len = r.block.len; number = number_of r.hop }
+
+-- the number of a hop that x has where each route is painted over those before it: that of the last one at x, or k
+abbrev pub topmost : Option ℕ → List Reach → ℕ → Option ℕ
+topmost k [] x = k
+topmost k (r ∷ rs) x = topmost (cond (nat_le r.first x && nat_le x r.last) r.number k) rs x
+
+-- the routes that come: the next one and those after it
+abbrev pub coming : Option Reach → List Route → List Reach
+coming None rs = []
+coming (Some r) rs = r ∷ map reach_of rs
+
+-- what the innermost of the open routes ends at, and its number
+abbrev pub innermost : ℕ × Option ℕ → List Reach → ℕ × Option ℕ
+innermost k [] = k
+innermost k (r ∷ rs) = innermost (r.last, r.number) rs
+
+-- a run over other numbers
+abbrev pub over : Option Run → Option ℕ → ℕ → Option ℕ
+over None k x = k
+over (Some r) k x = cond (nat_le r.span.first x && nat_le x r.span.last) (Some r.number) k
+
+-- from a place on
+abbrev pub from_on : Bool → ℕ → (ℕ → Option ℕ) → ℕ → Option ℕ
+from_on done at h x = cond done None (cond (nat_le at x) (h x) None)
+
+-- the hops that are left: those of the run at hand, and from the place on those that the routes paint
+abbrev pub hops_left : Runs → ℕ → Option ℕ
+hops_left w x = over w.run (from_on w.done w.at (topmost None (w.stack.items ++ coming w.next w.rest)) x) x
+
+-- the later of two routes lies apart from the earlier, or inside it
+pub record IsApartOrInside (a b : Reach) : Type 0 where
+  pub order : a.first ≤ b.first
+  pub inside : b.first ≤ a.last → (b.last ≤ a.last) × (a.len < b.len)
+
+-- a route is open at a place, or ended just before it
+pub record IsOpen (at end : ℕ) (r : Reach) : Type 0 where
+  pub begun : r.first ≤ at
+  pub ends : at ≤ r.last + 1
+  pub fits : r.last ≤ end
+  pub long : r.len ≤ 128
+
+-- a route comes at a place or later
+pub record IsComing (at end : ℕ) (r : Reach) : Type 0 where
+  pub later : at ≤ r.first
+  pub some : r.first ≤ r.last
+  pub fits : r.last ≤ end
+  pub long : r.len ≤ 128
+
+-- the open routes and those that come, at a place
+pub record ArePlaced (stack coming : List Reach) (at end : ℕ) : Type 0 where
+  pub order : at ≤ end
+  pub opened : All (IsOpen at end) stack
+  pub nested : AllPairs (λ a b. (b.last ≤ a.last) × (a.len < b.len)) stack
+  pub coming' : All (IsComing at end) coming
+  pub follow : AllPairs IsApartOrInside (stack ++ coming)
+
+-- the run at hand ends just before the place
+abbrev pub IsAtHand : Option Run → Bool → ℕ → ℕ → Type 0
+IsAtHand None done at end = Unit {0}
+IsAtHand (Some r) done at end = (r.span.first ≤ r.span.last) × (r.span.last + 1 ≡ cond done (end + 1) at)
+
+pub record AreRuns (w : Runs) : Type 0 where
+  pub placed : ArePlaced w.stack.items (coming w.next w.rest) w.at w.end
+  pub hand : IsAtHand w.run w.done w.at w.end
+
+-- the first of the runs that numbers have, and the numbers without it
+pub record IsFirstRun (h : ℕ → Option ℕ) (r : Run) (later : ℕ → Option ℕ) : Type 0 where
+  pub some : r.span.first ≤ r.span.last
+  pub before : (x : ℕ) → x < r.span.first → h x ≡ None
+  pub within : (x : ℕ) → r.span.first ≤ x → x ≤ r.span.last → h x ≡ Some r.number
+  pub ends : h (r.span.last + 1) ≡ Some r.number → ⊥
+  pub gone : (x : ℕ) → x ≤ r.span.last → later x ≡ None
+  pub kept : (x : ℕ) → r.span.last < x → later x ≡ h x
+
+-- the first run was given, or there was none
+abbrev pub GivesRun : Runs → Option Run → Runs → Type 0
+GivesRun w run v = MatchOption run (((x : ℕ) → hops_left w x ≡ None) × ((x : ℕ) → hops_left v x ≡ None)) (λ r. IsFirstRun (hops_left w) r (hops_left v) × (r.span.last ≤ w.end))
+
+-- how many changes are left: each route that comes opens and ends, and so does the family
+abbrev pub changes_left : Runs → ℕ
+changes_left w = 2 * length (coming w.next w.rest) + length w.stack.items + cond w.done 0 1
+
+-- a step gave the first run, or made a change that ended none, or none was left
+abbrev pub StepsRun : Runs → Step → Runs → Type 0
+StepsRun w (step.Run r) v = IsFirstRun (hops_left w) r (hops_left v) × (r.span.last ≤ w.end)
+StepsRun w step.Passed v = ((x : ℕ) → hops_left w x ≡ hops_left v x) × (changes_left v < changes_left w)
+StepsRun w step.Done v = ((x : ℕ) → hops_left w x ≡ None) × ((x : ℕ) → hops_left v x ≡ None)
+
+-- the run that ends, and the one at hand, once the numbers of a span have this number
+abbrev pub joined : Option Run → Span → Option ℕ → Option Run × Option Run
+joined run s None = (run, None)
+joined None s (Some k) = (None, Some (record { span = s; number = k }))
+joined (Some r) s (Some k) = cond (r.number == k) (None, Some (record { span = record { first = r.span.first; last = s.last }; number = k })) (Some r, Some (record { span = s; number = k }))
+
+abbrev pub step_of : Option Run → Step
+step_of None = step.Passed
+step_of (Some r) = step.Run r
+
+-- the innermost open route is closed, or the whole family is
+abbrev pub IsPast : Runs → ℕ → Runs → Type 0
+IsPast w last v = cond (nat_lt last w.end)
+    ((v.done ≡ w.done) × (v.at ≡ last + 1) × (v.stack.items ≡ take (length w.stack.items - 1) w.stack.items))
+    ((v.done ≡ true) × (v.at ≡ w.at) × (v.stack.items ≡ w.stack.items))

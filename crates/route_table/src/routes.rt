@@ -1,0 +1,69 @@
+//! Routes in ascending order.
+ghost use Rattle.std.specs.Prelude.{◌≡◌, List};
+ghost use Rattle.std.specs.Iterator.{item_count};
+ghost use Rattle.route_table.specs.InnerRoutes.{routes_left};
+ghost use Rattle.route_table.specs.Items.{GivesRoute};
+
+use crate::side_routes::SideRoutes;
+use ipnet::{IpNet, Ipv4Net, Ipv6Net};
+use route_choices::Hop;
+use std::marker::Model;
+
+/// The routes of either side that are left.
+#[derive(Drop)]
+pub(crate) enum Source<'a> {
+    V4(SideRoutes<'a, Ipv4Net>),
+    V6(SideRoutes<'a, Ipv6Net>),
+}
+
+/// The routes that are left, ascending: the network of each, without host bits, its best hop, and the preference
+/// of that one. It takes no memory.
+#[derive(Drop)]
+pub struct Routes<'a> {
+    source: Source<'a>,
+}
+
+impl<'a> Model for Routes<'a> {
+    ghost use Rattle.std.specs.Prelude.{List};
+    ghost use Rattle.route_laws.specs.Tables.{Route};
+    ghost use Rattle.route_table.specs.InnerRoutes.{routes_left};
+
+    ghost Value = { List Route };
+
+    ghost view = { λ a. routes_left a.source };
+}
+
+impl<'a> Routes<'a> {
+    /// Those of IPv4.
+    pub fn v4(routes: SideRoutes<'a, Ipv4Net>) -> Routes<'a>
+        ensures { result ≡ routes.entry }
+    {
+        Routes {
+            source: Source::V4(routes),
+        }
+    }
+
+    /// Those of IPv6.
+    pub fn v6(routes: SideRoutes<'a, Ipv6Net>) -> Routes<'a>
+        ensures { result ≡ routes.entry }
+    {
+        Routes {
+            source: Source::V6(routes),
+        }
+    }
+}
+
+impl<'a> Iterator for Routes<'a> {
+    type Item = (IpNet, Hop, u16);
+
+    ghost next_gives = { GivesRoute };
+
+    ghost remaining = { item_count (λ rs. rs) };
+
+    fn next(&mut self) -> Option<(IpNet, Hop, u16)> {
+        match &mut self.source {
+            Source::V4(routes) => routes.next(),
+            Source::V6(routes) => routes.next(),
+        }
+    }
+}

@@ -1,0 +1,306 @@
+//! One side of a table: the networks of one family.
+ghost use Rattle.std.specs.Prelude.{◌≡◌, ◌≢◌, ◌<◌, ◌≤◌, ◌+◌, ◌/◌, [], ◌∷◌, IfErr, IfOk, IfSome, IsOk, IsTrue, OnErr, OnOk, ◌↔◌, false, is_some, not};
+ghost use Rattle.std.specs.Option.{option_map};
+ghost use Rattle.ipnet_blocks.specs.Blocks.{IsBlock, bit_string};
+ghost use Rattle.ipnet_blocks.specs.Networks.{block_of};
+ghost use Rattle.trie_core.specs.Count.{nodes, visit_count};
+ghost use Rattle.prefix_trie.specs.declared.refused.Refused.TheVariants.{Memory};
+ghost use Rattle.route_choices.specs.Choices.{has_none, holds_hop, is_one_too_many};
+ghost use Rattle.route_choices.specs.Hops.{IsHop};
+ghost use Rattle.route_table.specs.Sides.{IsSide};
+ghost use Rattle.route_laws.specs.Onwards.{count_of, routes_after, routes_from};
+ghost use Rattle.route_laws.specs.Networks.{IsLeaf, choices_at, networks_outside, routes_of, with_choice, with_choices, without_choice};
+ghost use Rattle.route_table.specs.Refusals.{IsRefused};
+ghost use Rattle.route_table.specs.Tries.{map_of};
+ghost use Rattle.route_laws.specs.Tables.{covering, match_of, match_number, routes_inside, item_of};
+
+use crate::family::OfFamily;
+use crate::refused::AddRefused;
+use crate::side_routes::{Entries, SideRoutes};
+use ipnet::IpNet;
+use prefix_trie::{PrefixMap, Refused};
+use route_choices::{All, Choices, Hop, TooMany};
+use std::alloc::Global;
+use std::marker::Model;
+
+/// The hops of a change before and after it, where there was one.
+fn change(
+    changed: bool,
+    before: Option<u32>,
+    after: Option<u32>,
+) -> Option<(Option<u32>, Option<u32>)>
+    ensures some { is_some result ≡ changed }
+    ensures hops { IfSome result (λ r. (r.0 ≡ before) × (r.1 ≡ after)) }
+{
+    if changed { Some((before, after)) } else { None }
+}
+
+/// Some networks of one family with their routes, ascending, with room for so many routes of each.
+///
+/// The calls ask for networks whose bits name a block: the host bits of an argument are cleared above.
+#[derive(Drop)]
+pub struct Side<P: OfFamily, const ROOM: usize> {
+    networks: PrefixMap<P, Choices<ROOM>>,
+}
+
+impl<P: OfFamily, const ROOM: usize> Model for Side<P, ROOM> {
+    ghost use Rattle.std.specs.Prelude.{List, ◌≡◌, ◌<◌, ◌≤◌};
+    ghost use Rattle.std.specs.FinMap.{empty};
+    ghost use Rattle.route_laws.specs.Networks.{Stored};
+    ghost use Rattle.route_table.specs.InnerSides.{IsStored, stored_in};
+
+    ghost Value = { List Stored };
+
+    ghost view = { λ a. stored_in P.family a.networks.entries };
+
+    ghost invariant = { λ a. IsStored P.family a.networks.entries × (a.networks.spares ≡ empty) × (0 < ROOM) × (ROOM ≤ 8) };
+}
+
+impl<P: OfFamily, const ROOM: usize> Side<P, ROOM> {
+    /// No networks.
+    ///
+    /// # Errors
+    /// None, as of `PrefixMap::new`.
+    pub fn new(alloc: Global) -> Result<Side<P, ROOM>, Refused>
+        requires some { 0 < ROOM }
+        requires few { ROOM ≤ 8 }
+        ensures networks { IfOk result (λ s. s ≡ []) }
+        ensures ok { IsOk result }
+    {
+        Ok(Side {
+            networks: PrefixMap::new(alloc)?,
+        })
+    }
+
+    /// Stores one route at the network, in the place of all that it has.
+    ///
+    /// # Errors
+    /// `Memory` where there is none for a network that is not stored. The side is as it was.
+    pub fn store(&mut self, net: P, hop: Hop, pref: u16) -> Result<(), Refused>
+        requires { IsBlock (block_of P.family (P.parts net)) }
+        ensures hop { IsHop hop }
+        ensures networks { OnOk result (self.new ≡ with_choices self.old (block_of P.family (P.parts net)) (record { hop = hop; pref = pref } ∷ [])) }
+        ensures side { IsSide P.family self.new }
+        ensures memory { IfErr result (λ e. e ≡ Memory) }
+        ensures unchanged { OnErr result (self.new ≡ self.old) }
+        ensures absent { OnErr result (choices_at self.old (block_of P.family (P.parts net)) ≡ []) }
+    {
+        let networks = &mut self.networks;
+        let choices = Choices::one(hop, pref);
+        if let Err((refused, _)) = networks.insert(net, choices) {
+            return Err(refused);
+        }
+        Ok(())
+    }
+
+    /// Takes out every network inside this one, itself included.
+    pub fn remove_inside(&mut self, net: P)
+        requires { IsBlock (block_of P.family (P.parts net)) }
+        ensures networks { self.new ≡ networks_outside self.old (block_of P.family (P.parts net)) }
+        ensures side { IsSide P.family self.new }
+    {
+        self.networks.remove_children(&net);
+    }
+
+    /// Whether no network lies strictly inside this one.
+    pub fn is_leaf(&self, net: P) -> bool
+        requires { IsBlock (block_of P.family (P.parts net)) }
+        ensures { IsTrue result ↔ IsLeaf self.now (block_of P.family (P.parts net)) }
+    {
+        self.networks.is_leaf(&net)
+    }
+
+    /// The longest match.
+    pub fn get(&self, net: P) -> Option<(IpNet, Hop, u16)>
+        requires { IsBlock (block_of P.family (P.parts net)) }
+        ensures { result ≡ option_map item_of (match_of (routes_of self.now) (block_of P.family (P.parts net))) }
+    {
+        let (found, choices) = self.networks.get_lpm(&net)?;
+        let (hop, pref) = choices.best();
+        Some((found.ip_net(), hop, pref))
+    }
+}
+
+impl<P: OfFamily> Side<P, 8> {
+    /// The number of the best hop at the longest match, and whether the network itself is stored.
+    fn look(&self, net: P) -> (Option<u32>, bool)
+        requires { IsBlock (block_of P.family (P.parts net)) }
+        ensures number { result.0 ≡ match_number (match_of (routes_of self.now) (block_of P.family (P.parts net))) }
+        ensures stored { result.1 ≡ not (has_none (choices_at self.now (block_of P.family (P.parts net)))) }
+        ensures side { IsSide P.family self.now }
+    {
+        match self.networks.longest_match(&net) {
+            None => (None, false),
+            Some((len, choices)) => {
+                let (hop, _) = choices.best();
+                (hop.number(), len == net.prefix_len())
+            }
+        }
+    }
+
+    /// Adds a route to the network, or gives the one of this hop the new preference. Answers the numbers of the best hop
+    /// at the longest match before and after.
+    ///
+    /// # Errors
+    /// `TooMany` exactly where eight other hops are stored at the network. `Store` where there is no memory for a network
+    /// that is not stored. The side is as it was.
+    pub fn add(
+        &mut self,
+        net: P,
+        hop: Hop,
+        pref: u16,
+    ) -> Result<(Option<u32>, Option<u32>), AddRefused>
+        requires { IsBlock (block_of P.family (P.parts net)) }
+        ensures before { IfOk result (λ r. r.0 ≡ match_number (match_of (routes_of self.old) (block_of P.family (P.parts net)))) }
+        ensures after { IfOk result (λ r. r.1 ≡ match_number (match_of (routes_of self.new) (block_of P.family (P.parts net)))) }
+        ensures networks { OnOk result (self.new ≡ with_choice self.old (block_of P.family (P.parts net)) (record { hop = hop; pref = pref })) }
+        ensures room { OnOk result (is_one_too_many (choices_at self.old (block_of P.family (P.parts net))) hop ≡ false) }
+        ensures side { IsSide P.family self.new }
+        ensures refused { IfErr result (IsRefused (choices_at self.old (block_of P.family (P.parts net))) hop) }
+        ensures unchanged { OnErr result (self.new ≡ self.old) }
+    {
+        let (before, is_stored) = self.look(net);
+        if is_stored {
+            let after = self.add_stored(net, hop, pref)?;
+            return Ok((before, after));
+        }
+        match self.store(net, hop, pref) {
+            Ok(()) => Ok((before, hop.number())),
+            Err(refused) => Err(AddRefused::Store(refused)),
+        }
+    }
+
+    /// Adds the route to a stored network, in place, and answers the number of its best hop then.
+    fn add_stored(&mut self, net: P, hop: Hop, pref: u16) -> Result<Option<u32>, AddRefused>
+        requires block { IsBlock (block_of P.family (P.parts net)) }
+        requires stored { choices_at self.old (block_of P.family (P.parts net)) ≢ [] }
+        ensures number { IfOk result (λ k. k ≡ match_number (match_of (routes_of self.new) (block_of P.family (P.parts net)))) }
+        ensures networks { OnOk result (self.new ≡ with_choice self.old (block_of P.family (P.parts net)) (record { hop = hop; pref = pref })) }
+        ensures room { OnOk result (is_one_too_many (choices_at self.old (block_of P.family (P.parts net))) hop ≡ false) }
+        ensures side { IsSide P.family self.new }
+        ensures refused { IfErr result (IsRefused (choices_at self.old (block_of P.family (P.parts net))) hop) }
+        ensures unchanged { OnErr result (self.new ≡ self.old) }
+    {
+        let (_, choices) = self.networks.match_mut(&net, net.prefix_len());
+        if let Err(TooMany) = choices.add(hop, pref) {
+            return Err(AddRefused::TooMany);
+        }
+        let (best, _) = choices.best();
+        Ok(best.number())
+    }
+
+    /// Takes the route of this hop out of the network, where there is one, and the network with its last route. Answers
+    /// the numbers of the best hop at the longest match before and after.
+    pub fn remove(&mut self, net: P, hop: Hop) -> Option<(Option<u32>, Option<u32>)>
+        requires { IsBlock (block_of P.family (P.parts net)) }
+        ensures held { is_some result ≡ holds_hop (choices_at self.old (block_of P.family (P.parts net))) hop }
+        ensures before { IfSome result (λ r. r.0 ≡ match_number (match_of (routes_of self.old) (block_of P.family (P.parts net)))) }
+        ensures after { IfSome result (λ r. r.1 ≡ match_number (match_of (routes_of self.new) (block_of P.family (P.parts net)))) }
+        ensures networks { self.new ≡ without_choice self.old (block_of P.family (P.parts net)) hop }
+        ensures side { IsSide P.family self.new }
+    {
+        let (before, is_stored) = self.look(net);
+        if !is_stored {
+            return None;
+        }
+        let (_, choices) = self.networks.match_mut(&net, net.prefix_len());
+        let held = choices.remove(hop);
+        if choices.is_empty() {
+            self.networks.remove(&net);
+            let (after, _) = self.look(net);
+            return change(held, before, after);
+        }
+        let (best, _) = choices.best();
+        change(held, before, best.number())
+    }
+
+    /// The routes of this very network, best first.
+    pub fn all(&self, net: P) -> All<'_>
+        requires { IsBlock (block_of P.family (P.parts net)) }
+        ensures { result ≡ choices_at self.now (block_of P.family (P.parts net)) }
+    {
+        match self.networks.get(&net) {
+            Some(choices) => choices.all(),
+            None => All::none(),
+        }
+    }
+
+    /// How many nodes of the trie the search for the longest match visits.
+    pub fn visits(&self, net: P) -> u32
+        requires { IsBlock (block_of P.family (P.parts net)) }
+        ensures visits { result ≡ visit_count (map_of P.family self.now) (bit_string (block_of P.family (P.parts net))) }
+        ensures bound { result ≤ (P.parts net).len / 5 + 1 }
+    {
+        self.networks.get_lpm_visits(&net).1
+    }
+
+    /// How many networks there are.
+    pub fn count(&self) -> usize
+        ensures { result ≡ count_of P.family (routes_of self.now) }
+    {
+        self.networks.len()
+    }
+
+    /// How many nodes the trie has.
+    pub fn node_count(&self) -> usize
+        ensures { result ≡ nodes (map_of P.family self.now) }
+    {
+        self.networks.node_count()
+    }
+
+    /// The best routes of all networks.
+    pub fn iter(&self) -> SideRoutes<'_, P>
+        ensures { result ≡ routes_of self.now }
+    {
+        SideRoutes::new(Entries::Walk(self.networks.iter()))
+    }
+
+    /// The best routes of the networks inside this one, itself included.
+    pub fn list(&self, net: P) -> SideRoutes<'_, P>
+        requires { IsBlock (block_of P.family (P.parts net)) }
+        ensures { result ≡ routes_inside (routes_of self.now) (block_of P.family (P.parts net)) }
+    {
+        SideRoutes::new(Entries::Walk(self.networks.children(&net)))
+    }
+
+    /// The best routes of the networks that contain this one, itself included, the shortest first.
+    pub fn cover(&self, net: P) -> SideRoutes<'_, P>
+        requires { IsBlock (block_of P.family (P.parts net)) }
+        ensures { result ≡ covering (routes_of self.now) (block_of P.family (P.parts net)) }
+    {
+        SideRoutes::new(Entries::Cover(self.networks.cover(&net)))
+    }
+
+    /// The best routes of the networks that do not come before this one.
+    pub fn from(&self, net: P) -> SideRoutes<'_, P>
+        requires { IsBlock (block_of P.family (P.parts net)) }
+        ensures { result ≡ routes_from (routes_of self.now) (block_of P.family (P.parts net)) }
+    {
+        SideRoutes::new(Entries::Walk(self.networks.iter_from(&net, true)))
+    }
+
+    /// The best routes of the networks that come after this one.
+    pub fn after(&self, net: P) -> SideRoutes<'_, P>
+        requires { IsBlock (block_of P.family (P.parts net)) }
+        ensures { result ≡ routes_after (routes_of self.now) (block_of P.family (P.parts net)) }
+    {
+        SideRoutes::new(Entries::Walk(self.networks.iter_from(&net, false)))
+    }
+}
+
+impl<P: OfFamily> Side<P, 1> {
+    /// The routes of all networks.
+    pub fn iter(&self) -> SideRoutes<'_, P>
+        ensures { result ≡ routes_of self.now }
+    {
+        SideRoutes::new(Entries::Hops(self.networks.iter()))
+    }
+
+    /// The routes of the networks inside this one, itself included.
+    pub fn list(&self, net: P) -> SideRoutes<'_, P>
+        requires { IsBlock (block_of P.family (P.parts net)) }
+        ensures { result ≡ routes_inside (routes_of self.now) (block_of P.family (P.parts net)) }
+    {
+        SideRoutes::new(Entries::Hops(self.networks.children(&net)))
+    }
+}
