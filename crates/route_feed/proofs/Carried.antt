@@ -6,7 +6,7 @@ use Rattle.route_lines.specs.InnerPhrase.{Gives}
 use Rattle.route_lines.specs.Spelled.{reply_of}
 use Rattle.route_lines.specs.Texts.{IsReply}
 use Rattle.route_lines.specs.declared.reply.Reply.{Reply}
-use Rattle.route_lines.proofs.Replies.{one_reply}
+use Rattle.route_lines.proofs.Replies.{replies}
 use Rattle.route_lines.proofs.Spells.{reply_found}
 use Rattle.route_choices.specs.Hops.{number_of}
 use Rattle.route_feed.specs.InnerWaiting.{waiting_change, changes_of}
@@ -33,7 +33,7 @@ reply_is text line h = go (reply_of text) (reply_found text)
   where
     go : (o : Option Reply) → Gives IsReply text o → o ≡ Some line
     go None none = absurd (none line h)
-    go (Some other) found = ap Some (one_reply text other line found h)
+    go (Some other) found = ap Some (replies.one text other line found h)
 
 pub reply_none : (text : List ℕ) → ((line : Reply) → IsReply text line → ⊥) → reply_of text ≡ None
 reply_none text none = go (reply_of text) (reply_found text)

@@ -18,7 +18,7 @@ use Rattle.route_lines.specs.declared.cutter.Rest.{Rest}
 use Rattle.route_lines.specs.declared.reply.Closing.TheVariants.{Done}
 use Rattle.route_lines.specs.declared.reply.Reply.{Reply}
 use Rattle.route_lines.specs.declared.reply.Reply.TheVariants.{Close}
-use Rattle.route_lines.proofs.Replies.{short_reply}
+use Rattle.route_lines.proofs.Replies as grammar
 use Rattle.route_lines.proofs.Spells.{reply_found}
 use Rattle.route_laws.specs.Flats.{Piece, IsFlat, flat_of}
 use Rattle.route_laws.specs.Networks.{routes_of}
@@ -47,7 +47,7 @@ piece_reply piece = go (nat_lt 80 (length piece)) refl
   where
     long : 80 < length piece → (o : Option Reply) → Gives IsReply piece o → o ≡ None
     long h None g = refl
-    long h (Some l) g = let s = short_reply piece l g in absurd (omega arith)
+    long h (Some l) g = let s = grammar.replies.short piece l g in absurd (omega arith)
 
     go : (b : Bool) → nat_lt 80 (length piece) ≡ b → reply_in (line_of piece) ≡ reply_of piece
     go true e = let h : 80 < length piece = grind (arith, nat_tests, e) in rw e (sym (long h (reply_of piece) (reply_found piece)))

@@ -17,7 +17,7 @@ use Rattle.route_lines.specs.declared.cutter.Rest.{Rest}
 use Rattle.route_lines.specs.declared.note.Note.{Note}
 use Rattle.route_lines.specs.declared.note.Note.TheVariants as N
 use Rattle.route_lines.specs.declared.update.Update.{Update}
-use Rattle.route_lines.proofs.Notes.{short_note}
+use Rattle.route_lines.proofs.Notes as grammar
 use Rattle.route_lines.proofs.Spells.{note_found}
 use Rattle.route_feed.specs.declared.counted.Counted.{Counted}
 use Rattle.route_feed.specs.declared.error.RunError.{RunError}
@@ -81,7 +81,7 @@ piece_note piece = go (nat_lt 80 (length piece)) refl
   where
     long : 80 < length piece → (o : Option Note) → Gives IsNote piece o → o ≡ None
     long h None g = refl
-    long h (Some l) g = let s = short_note piece l g in absurd (omega arith)
+    long h (Some l) g = let s = grammar.notes.short piece l g in absurd (omega arith)
 
     go : (b : Bool) → nat_lt 80 (length piece) ≡ b → note_in (line_of piece) ≡ note_of piece
     go true e = let h : 80 < length piece = grind (arith, nat_tests, e) in rw e (sym (long h (note_of piece) (note_found piece)))

@@ -21,7 +21,7 @@ use Rattle.route_lines.specs.InnerPhrase.{Gives}
 use Rattle.route_lines.specs.Spelled.{note_of}
 use Rattle.route_lines.specs.Texts.{IsNote}
 use Rattle.route_lines.specs.declared.cutter.Line.{Line}
-use Rattle.route_lines.proofs.Notes.{one_note}
+use Rattle.route_lines.proofs.Notes.{notes}
 use Rattle.route_lines.proofs.Spells.{note_found}
 use Rattle.route_feed.specs.Counted.{CanCount}
 use Rattle.route_lines.specs.declared.note.Note.{Note}
@@ -283,7 +283,7 @@ note_is text note h = go (note_of text) (note_found text)
   where
     go : (o : Option Note) → Gives IsNote text o → o ≡ Some note
     go None none = absurd (none note h)
-    go (Some other) found = ap Some (one_note text other note found h)
+    go (Some other) found = ap Some (notes.one text other note found h)
 
 pub note_none : (text : List ℕ) → ((note : Note) → IsNote text note → ⊥) → note_of text ≡ None
 note_none text none = go (note_of text) (note_found text)

@@ -13,7 +13,7 @@ use Rattle.route_lines.specs.CommandText.{command_text}
 use Rattle.route_lines.specs.Lines.{line_of}
 use Rattle.route_lines.specs.Texts.{IsCommand}
 use Rattle.route_lines.specs.declared.command.Command.{Command}
-use Rattle.route_lines.proofs.Commands.{clean_command, short_command}
+use Rattle.route_lines.proofs.Commands.{commands}
 use Rattle.route_lines.proofs.PrintedCommands.{prints}
 use Rattle.route_choices.specs.Choices.{Choice, default_preference, is_one_too_many}
 use Rattle.route_choices.specs.Hops.{IsHop}
@@ -52,7 +52,7 @@ line_spells : (r : Route) → IsBlock r.block → IsHop r.hop → IsCommand (com
 line_spells r ok hop = prints (add_command r) (is_cut r.block) (net_reads r.block ok, word_hop r.hop hop, omega arith)
 
 clean : (r : Route) → IsBlock r.block → IsHop r.hop → AllByRecursion (λ c. c ≢ 10) (command_text (add_command r))
-clean r ok hop = recursion_from_All (λ c. c ≢ 10) (command_text (add_command r)) (clean_command (command_text (add_command r)) (add_command r) (line_spells r ok hop))
+clean r ok hop = recursion_from_All (λ c. c ≢ 10) (command_text (add_command r)) (commands.clean (command_text (add_command r)) (add_command r) (line_spells r ok hop))
 
 lines_are : (N : List Route) → AreRoutes N → lines (add_lines N) ≡ map (λ r. command_text (add_command r)) N
 lines_are [] h = refl
@@ -70,7 +70,7 @@ rest_is (r ∷ N) h =
 
 command_read : (text : List ℕ) (c : Command) → IsCommand text c → command_in (line_of text) ≡ Some c
 command_read text c h =
-    let short = short_command text c h in
+    let short = commands.short text c h in
     let fits : nat_lt 80 (length text) ≡ false = grind (arith, nat_tests, short) in
     rw fits (read_is text c h)
 

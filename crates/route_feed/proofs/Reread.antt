@@ -23,7 +23,7 @@ use Rattle.route_lines.specs.declared.reply.Reply.{Reply}
 use Rattle.route_lines.specs.declared.reply.Reply.TheVariants as R
 use Rattle.route_lines.proofs.Good.{written}
 use Rattle.route_lines.proofs.Printed.{prints}
-use Rattle.route_lines.proofs.Replies.{clean_reply}
+use Rattle.route_lines.proofs.Replies.{replies}
 use Rattle.route_lines.proofs.Spells.{reply_found}
 use Rattle.route_feed.proofs.Carried.{reply_is}
 use Rattle.route_choices.specs.Hops.{IsHop, number_of}
@@ -127,11 +127,11 @@ pub closing_read : (closing : Closing) → reply_of (closing_text closing) ≡ S
 closing_read closing = reply_is (closing_text closing) (R.Close closing) refl
 
 pub closing_is_clean : (closing : Closing) → IsClean (R.Close closing)
-closing_is_clean closing = clean_reply (closing_text closing) (R.Close closing) refl
+closing_is_clean closing = replies.clean (closing_text closing) (R.Close closing) refl
 
 told_if_read : (l : Reply) → closes l ≡ None → IsReply (reply_text l) l → IsTold l
 told_if_read l none h = record {
-  clean = clean_reply (reply_text l) l h;
+  clean = replies.clean (reply_text l) l h;
   spelled = λ _. h;
   kept = subst (Keeps l) (sym (reply_is (reply_text l) l h)) (none, refl);
 }

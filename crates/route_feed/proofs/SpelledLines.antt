@@ -16,7 +16,7 @@ use Rattle.route_lines.specs.Texts.{IsUpdate, update_text}
 use Rattle.route_lines.specs.declared.update.Update.{Update}
 use Rattle.route_lines.specs.declared.update.Update.TheVariants as U
 use Rattle.route_lines.proofs.Spells.{update_found}
-use Rattle.route_lines.proofs.Updates.{clean_update, one_update, prints}
+use Rattle.route_lines.proofs.Updates.{updates, prints}
 use Rattle.route_laws.specs.Batches.{batch, painted}
 use Rattle.route_laws.specs.Operations.{Operation, Install, Remove, between, missing, surplus}
 use Rattle.route_laws.specs.Runs.{Event, Have, Told, Sync, Installer, MayCome, MayAllCome, after_event, after_events, gives, start}
@@ -47,14 +47,14 @@ update_is text u h = go (update_of text) (update_found text)
   where
     go : (o : Option Update) → Gives IsUpdate text o → o ≡ Some u
     go None none = absurd (none u h)
-    go (Some other) found = ap Some (one_update text other u found h)
+    go (Some other) found = ap Some (updates.one text other u found h)
 
 updates_read : (us : List Update) → AreSpelled us → updates_in (printed_updates us) ≡ us
 updates_read [] s = refl
 updates_read (u ∷ us) s =
     let text = update_text u in
     ap updates_in (append_assoc text (10 ∷ []) (printed_updates us))
-    ∙ ap (filter_map update_of) (first_line text (printed_updates us) (recursion_from_All (λ c. c ≢ 10) text (clean_update text u s.0)))
+    ∙ ap (filter_map update_of) (first_line text (printed_updates us) (recursion_from_All (λ c. c ≢ 10) text (updates.clean text u s.0)))
     ∙ filter_map-append update_of (text ∷ []) (lines (printed_updates us))
     ∙ ap (λ o. filter_map (λ (p : Option Update). p) (o ∷ []) ++ updates_in (printed_updates us)) (update_is text u s.0)
     ∙ ap (λ vs. u ∷ vs) (updates_read us s.1)

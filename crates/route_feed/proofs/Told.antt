@@ -20,7 +20,7 @@ use Rattle.route_lines.specs.declared.reply.Reply.TheVariants.{Close}
 use Rattle.route_lines.specs.InnerPhrase.{Gives}
 use Rattle.route_lines.specs.Spelled.{command_of}
 use Rattle.route_lines.specs.Texts.{IsCommand}
-use Rattle.route_lines.proofs.Commands.{one_command}
+use Rattle.route_lines.proofs.Commands.{commands}
 use Rattle.route_lines.proofs.Spells.{command_found}
 use Rattle.route_choices.specs.declared.hop.Hop.{Hop}
 use Rattle.route_choices.specs.Choices.{Choice, AreChoices, choices_without, holds_hop}
@@ -163,7 +163,7 @@ read_is text command h = go (command_of text) (command_found text)
   where
     go : (o : Option Command) → Gives IsCommand text o → o ≡ Some command
     go None none = absurd (none command h)
-    go (Some other) found = ap Some (one_command text other command found h)
+    go (Some other) found = ap Some (commands.one text other command found h)
 
 pub read_none : (text : List ℕ) → ((command : Command) → IsCommand text command → ⊥) → command_of text ≡ None
 read_none text none = go (command_of text) (command_found text)

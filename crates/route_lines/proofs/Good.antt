@@ -1,5 +1,5 @@
 -- What the laws ask of each relation of the grammar: one value, a longest text, no line end. Built up word by word.
-use Rattle.std.proofs.Common.{◌≡◌, ◌≢◌, ℕ, ◌+◌, ◌*◌, ◌^◌, ◌<◌, ◌≤◌, true, List, [], ◌∷◌, ◌++◌, length, get_or, All, codes, decimal, refl, sym, ap, ap₂, ◌∙◌, subst, arith, length-append, Option, Some, None}
+use Rattle.std.proofs.Common.{◌≡◌, ◌≢◌, ℕ, ◌+◌, ◌^◌, ◌<◌, ◌≤◌, true, List, [], ◌∷◌, ◌++◌, length, All, codes, decimal, refl, sym, ap, ap₂, ◌∙◌, subst, arith, length-append, Option, Some, None}
 use Rattle.std.specs.Prelude.{⊤, ltb, unwrap_or}
 use Rattle.std.specs.List.{list_all}
 use Rattle.std.proofs.lemmas.Bool.{ltb-true}
@@ -16,7 +16,7 @@ use Rattle.ipnet.proofs.Longest.{longest}
 use Rattle.ipnet.proofs.IpNetworks.{ip_unique}
 use Rattle.route_lines.specs.Phrase.{IsDecimal, Then, After}
 use Rattle.route_lines.specs.InnerPhrase.{IsFree}
-use Rattle.route_lines.specs.Words.{IsNet, IsNumber, IsHop, IsPreference, IsOptional, IsPreferred}
+use Rattle.route_lines.specs.Words.{IsNet, IsNumber, IsLimit, IsCount, IsHop, IsPreference, IsOptional, IsPreferred}
 use Rattle.route_choices.specs.Choices.{default_preference}
 use Rattle.route_choices.specs.declared.hop.Hop.{Hop}
 use Rattle.route_choices.specs.declared.hop.Hop.TheVariants.{Number, Drop}
@@ -57,6 +57,12 @@ number low high count some small fits = record {
   short = λ t a h. omega (arith, ap length h.0, length-decimal-le count a some (omega (arith, h.2)) (omega (arith, h.2)));
   clean = λ t a h. rw h.0 (digits (decimal a) (decimal_is_IsNumeral a (omega (arith, h.2))).0.1);
 }
+
+pub limit : Good IsLimit 4
+limit = number 1 1000 4 (omega arith) (omega arith) (omega arith)
+
+pub u64 : Good IsCount 20
+u64 = number 0 0xffffffffffffffff 20 (omega arith) (omega arith) (omega arith)
 
 pub u32 : Good IsNumber 10
 u32 = number 0 0xffffffff 10 (omega arith) (omega arith) (omega arith)
@@ -130,15 +136,3 @@ after {A} {P} {n} prefix limit e within p = record {
   short = λ t x h. omega (arith, within, ap length h.spelled, length-append prefix h.rest, p.short h.rest x h.phrase);
   clean = λ t x h. rw h.spelled (and prefix h.rest (written prefix e) (p.clean h.rest x h.phrase));
 }
-
--- the first three bytes
-abbrev pub start : List ℕ → ℕ
-start text = get_or text 0 0 * 65536 + get_or text 1 0 * 256 + get_or text 2 0
-
--- Kinds of lines, each told by the first bytes of its texts, spell one line at most.
-pub one_line : {Kind Line : Type 0} (Value : Kind → Type 0) (make : (k : Kind) → Value k → Line) (Spells : (k : Kind) → List ℕ → Value k → Type 0) (limit : ℕ)
-    (code : Kind → ℕ) (told : ℕ → Kind) → ((k : Kind) → told (code k) ≡ k) → ((k : Kind) (text : List ℕ) (x : Value k) → Spells k text x → start text ≡ code k)
-    → ((k : Kind) → Good (Spells k) limit) → (text : List ℕ) (k j : Kind) (x : Value k) (y : Value j) → Spells k text x → Spells j text y → make k x ≡ make j y
-one_line Value make Spells limit code told back starts good text k j x y h g =
-    let same : k ≡ j = sym (back k) ∙ ap told (sym (starts k text x h) ∙ starts j text y g) ∙ back j in
-    subst (λ i. (z : Value i) → Spells i text z → make k x ≡ make i z) same (λ z s. ap (make k) ((good k).one text x z h s)) y g

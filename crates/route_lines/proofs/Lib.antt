@@ -1,6 +1,7 @@
 pub mod Cutting
 pub mod Words
 pub mod Good
+pub mod Forms
 pub mod Commands
 pub mod Replies
 pub mod Notes

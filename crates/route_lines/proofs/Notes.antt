@@ -13,10 +13,11 @@ use Rattle.route_lines.specs.Words.{IsNet, IsHop}
 use Rattle.route_lines.specs.declared.note.Note.{Note}
 use Rattle.route_lines.specs.declared.note.Note.TheVariants as N
 use Rattle.route_lines.specs.declared.reply.Reply.{Reply}
-use Rattle.route_lines.proofs.Good.{Good, start}
+use Rattle.route_lines.proofs.Good.{Good}
 use Rattle.route_lines.proofs.Good as Good
+use Rattle.route_lines.proofs.Forms.{start}
 use Rattle.route_lines.proofs.Printed.{cut}
-use Rattle.route_lines.proofs.Replies.{one_reply, short_reply, clean_reply, not_have, not_sync}
+use Rattle.route_lines.proofs.Replies.{replies as reply_lines, not_have, not_sync}
 use Rattle.route_lines.proofs.Spells.{note_found, reply_found}
 
 have : Good (After (codes "have ") (Then IsNet IsHop)) 74
@@ -31,7 +32,7 @@ begins_have text x h = ap start h.spelled
 have_or_sync : (text : List ℕ) (x : IpNet × Hop) → After (codes "have ") (Then IsNet IsHop) text x → text ≢ codes "sync"
 have_or_sync text x h e = omega (arith, sym (begins_have text x h) ∙ ap start e)
 
-pub one_note : (text : List ℕ) (a b : Note) → IsNote text a → IsNote text b → a ≡ b
+one_note : (text : List ℕ) (a b : Note) → IsNote text a → IsNote text b → a ≡ b
 one_note text (N.Have net hop) (N.Have other next) h k = ap (λ (x : IpNet × Hop). N.Have x.0 x.1) (have.one text (net, hop) (other, next) h k)
 one_note text (N.Have net hop) N.Sync h k = absurd (have_or_sync text (net, hop) h k)
 one_note text (N.Have net hop) (N.Reply r) h k = absurd (not_have text r k (begins_have text (net, hop) h))
@@ -40,17 +41,20 @@ one_note text N.Sync N.Sync h k = refl
 one_note text N.Sync (N.Reply r) h k = absurd (not_sync text r k (ap start h))
 one_note text (N.Reply r) (N.Have net hop) h k = absurd (not_have text r h (begins_have text (net, hop) k))
 one_note text (N.Reply r) N.Sync h k = absurd (not_sync text r h (ap start k))
-one_note text (N.Reply r) (N.Reply s) h k = ap N.Reply (one_reply text r s h k)
+one_note text (N.Reply r) (N.Reply s) h k = ap N.Reply (reply_lines.one text r s h k)
 
-pub short_note : (text : List ℕ) (a : Note) → IsNote text a → length text ≤ 74
+short_note : (text : List ℕ) (a : Note) → IsNote text a → length text ≤ 74
 short_note text (N.Have net hop) h = have.short text (net, hop) h
 short_note text N.Sync h = sync.short text tt h
-short_note text (N.Reply r) h = short_reply text r h
+short_note text (N.Reply r) h = reply_lines.short text r h
 
-pub clean_note : (text : List ℕ) (a : Note) → IsNote text a → All (λ c. c ≢ 10) text
+clean_note : (text : List ℕ) (a : Note) → IsNote text a → All (λ c. c ≢ 10) text
 clean_note text (N.Have net hop) h = have.clean text (net, hop) h
 clean_note text N.Sync h = sync.clean text tt h
-clean_note text (N.Reply r) h = clean_reply text r h
+clean_note text (N.Reply r) h = reply_lines.clean text r h
+
+pub notes : Good IsNote 74
+notes = record { one = one_note; short = short_note; clean = clean_note }
 
 pub cut_note : (text : List ℕ) (net : IpNet) (hop : Hop) → IsNote text (N.Have net hop) → net ≡ network_at (block net)
 cut_note text net hop h = cut h.phrase.front net h.phrase.first
@@ -65,6 +69,6 @@ found P s (Some x) a one h k = ap Some (one x h)
 
 pub replies : (text : List ℕ) (r : Reply) → (note_of text ≡ Some (N.Reply r)) ↔ (reply_of text ≡ Some r)
 replies text r = (
-  λ e. found IsReply text (reply_of text) r (λ x h. one_reply text x r h (spelled IsNote text (note_of text) (N.Reply r) (note_found text) e)) (reply_found text) (spelled IsNote text (note_of text) (N.Reply r) (note_found text) e),
+  λ e. found IsReply text (reply_of text) r (λ x h. reply_lines.one text x r h (spelled IsNote text (note_of text) (N.Reply r) (note_found text) e)) (reply_found text) (spelled IsNote text (note_of text) (N.Reply r) (note_found text) e),
   λ e. found IsNote text (note_of text) (N.Reply r) (λ x h. one_note text x (N.Reply r) h (spelled IsReply text (reply_of text) r (reply_found text) e)) (note_found text) (spelled IsReply text (reply_of text) r (reply_found text) e),
 )

@@ -14,7 +14,7 @@ use Rattle.route_lines.specs.Texts.{IsCommand, hop_text}
 use Rattle.route_lines.specs.CommandText.{command_text, preference_text, IsPrintableCommand}
 use Rattle.route_lines.specs.declared.command.Command.{Command}
 use Rattle.route_lines.specs.declared.command.Command.TheVariants as C
-use Rattle.route_lines.proofs.Commands.{one_command}
+use Rattle.route_lines.proofs.Commands.{commands}
 use Rattle.route_lines.proofs.Printed.{then, cut}
 
 -- its words read as what they stand for
@@ -107,4 +107,4 @@ pub reads : (text : List ℕ) (c : Command) → IsCommand text c → IsCommand (
 reads text c h = prints c (printable_command text c h) (words text c h)
 
 pub apart : (s t : List ℕ) (a b : Command) → IsCommand s a → IsCommand t b → command_text a ≡ command_text b → a ≡ b
-apart s t a b h k e = one_command (command_text a) a b (reads s a h) (subst (λ text. IsCommand text b) (sym e) (reads t b k))
+apart s t a b h k e = commands.one (command_text a) a b (reads s a h) (subst (λ text. IsCommand text b) (sym e) (reads t b k))

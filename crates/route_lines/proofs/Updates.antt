@@ -1,62 +1,36 @@
 -- The lines that an installer writes: one value, a longest text, no line end; and what is printed reads as that line.
-use Rattle.std.proofs.Common.{◌≡◌, ◌≢◌, ◌↔◌, ℕ, ◌≤◌, List, length, All, codes, refl, sym, ap, subst, ◌∙◌, arith}
+use Rattle.std.proofs.Common.{◌≡◌, ◌↔◌, ℕ, List, [], ◌∷◌, codes, refl, sym, subst, arith}
 use Rattle.std.specs.Prelude.{⊤}
 use Rattle.ipnet.specs.IpNetText.{net_text, Reads}
 use Rattle.ipnet.specs.IpNets.{block, network_at}
-use Rattle.ipnet.specs.declared.ip_net.IpNet.{IpNet}
-use Rattle.route_choices.specs.declared.hop.Hop.{Hop}
 use Rattle.route_table.specs.Operations.{network_of}
 use Rattle.route_table.specs.declared.between.Operation.{Operation}
 use Rattle.route_table.specs.declared.between.Operation.TheVariants as O
-use Rattle.route_lines.specs.Phrase.{Then, After}
 use Rattle.route_lines.specs.InnerFree as Free
 use Rattle.route_lines.specs.Texts.{IsUpdate, IsPrintableUpdate, hop_text, update_for, update_text}
-use Rattle.route_lines.specs.Words.{IsNet, IsHop}
+use Rattle.route_lines.specs.Words.{IsHop}
 use Rattle.route_lines.specs.declared.update.Update.{Update}
 use Rattle.route_lines.specs.declared.update.Update.TheVariants as U
-use Rattle.route_lines.proofs.Good.{Good, start}
+use Rattle.route_lines.proofs.Good.{Good}
 use Rattle.route_lines.proofs.Good as Good
+use Rattle.route_lines.proofs.Forms.{Form, Made, phrase, word, lines}
 use Rattle.route_lines.proofs.Printed.{cut}
 use Rattle.route_lines.proofs.PrintedCommands.{alone, both, net_again, hop_again}
 
-install : Good (After (codes "install ") (Then IsNet IsHop)) 70
-install = Good.after (codes "install ") 70 refl (omega arith) (Good.then Free.net Good.net Good.hop)
+abbrev forms : List (Form Update 70)
+forms =
+    phrase (codes "install ") (λ rest. refl) refl (omega arith) (Good.then Free.net Good.net Good.hop) (λ x. U.Install x.0 x.1)
+    ∷ phrase (codes "remove ") (λ rest. refl) refl (omega arith) Good.net U.Remove
+    ∷ word (codes "ok") refl (omega arith) U.Done
+    ∷ []
 
-remove : Good (After (codes "remove ") IsNet) 70
-remove = Good.after (codes "remove ") 70 refl (omega arith) Good.net
+made : (text : List ℕ) (u : Update) → IsUpdate text u → Made forms text u
+made text (U.Install net hop) h = record { at = 0; value = (net, hop); is = refl; spells = h }
+made text (U.Remove net) h = record { at = 1; value = net; is = refl; spells = h }
+made text U.Done h = record { at = 2; value = tt; is = refl; spells = h }
 
-done : Good {A = ⊤} (λ text x. text ≡ codes "ok") 70
-done = Good.word (codes "ok") 70 refl (omega arith)
-
-install_or_remove : (text : List ℕ) (x : IpNet × Hop) (y : IpNet) → After (codes "install ") (Then IsNet IsHop) text x → ¬ (After (codes "remove ") IsNet text y)
-install_or_remove text x y h k = omega (arith, sym (ap start h.spelled) ∙ ap start k.spelled)
-
-install_or_done : (text : List ℕ) (x : IpNet × Hop) → After (codes "install ") (Then IsNet IsHop) text x → text ≢ codes "ok"
-install_or_done text x h e = omega (arith, sym (ap start h.spelled) ∙ ap start e)
-
-remove_or_done : (text : List ℕ) (y : IpNet) → After (codes "remove ") IsNet text y → text ≢ codes "ok"
-remove_or_done text y h e = omega (arith, sym (ap start h.spelled) ∙ ap start e)
-
-pub one_update : (text : List ℕ) (a b : Update) → IsUpdate text a → IsUpdate text b → a ≡ b
-one_update text (U.Install net hop) (U.Install other next) h k = ap (λ (x : IpNet × Hop). U.Install x.0 x.1) (install.one text (net, hop) (other, next) h k)
-one_update text (U.Install net hop) (U.Remove other) h k = absurd (install_or_remove text (net, hop) other h k)
-one_update text (U.Install net hop) U.Done h k = absurd (install_or_done text (net, hop) h k)
-one_update text (U.Remove net) (U.Install other hop) h k = absurd (install_or_remove text (other, hop) net k h)
-one_update text (U.Remove net) (U.Remove other) h k = ap U.Remove (remove.one text net other h k)
-one_update text (U.Remove net) U.Done h k = absurd (remove_or_done text net h k)
-one_update text U.Done (U.Install net hop) h k = absurd (install_or_done text (net, hop) k h)
-one_update text U.Done (U.Remove net) h k = absurd (remove_or_done text net k h)
-one_update text U.Done U.Done h k = refl
-
-pub short_update : (text : List ℕ) (a : Update) → IsUpdate text a → length text ≤ 70
-short_update text (U.Install net hop) h = install.short text (net, hop) h
-short_update text (U.Remove net) h = remove.short text net h
-short_update text U.Done h = done.short text tt h
-
-pub clean_update : (text : List ℕ) (a : Update) → IsUpdate text a → All (λ c. c ≢ 10) text
-clean_update text (U.Install net hop) h = install.clean text (net, hop) h
-clean_update text (U.Remove net) h = remove.clean text net h
-clean_update text U.Done h = done.clean text tt h
+pub updates : Good IsUpdate 70
+updates = lines forms IsUpdate refl made
 
 -- ---- what is printed
 
@@ -85,7 +59,7 @@ pub reads : (text : List ℕ) (u : Update) → IsUpdate text u → IsUpdate (upd
 reads text u h = prints u (printable_update text u h) (words text u h)
 
 pub apart : (s t : List ℕ) (a b : Update) → IsUpdate s a → IsUpdate t b → update_text a ≡ update_text b → a ≡ b
-apart s t a b h k e = one_update (update_text a) a b (reads s a h) (subst (λ text. IsUpdate text b) (sym e) (reads t b k))
+apart s t a b h k e = updates.one (update_text a) a b (reads s a h) (subst (λ text. IsUpdate text b) (sym e) (reads t b k))
 
 pub printable_operation : (o : Operation) → IsPrintableUpdate (update_for o) ↔ (network_of o ≡ network_at (block (network_of o)))
 printable_operation (O.Install net hop) = (λ h. h, λ h. h)

@@ -1,5 +1,5 @@
 use Rattle.std.proofs.Common.{rules}
-use Rattle.route_lines.proofs.Commands.{clean_command}
+use Rattle.route_lines.proofs.Commands.{commands}
 use Rattle.route_lines.proofs.PrintedCommands.{prints, Words}
 use Rattle.route_lines.proofs.command.Command.print_to.Goals.{in-Add, in-Del, in-Get, in-Cover, in-List, in-All, in-PageFrom, in-PageAfter, in-Own, in-Count, in-Flat}
 use Rattle.route_lines.proofs.command.Command.print_to.Goals as goal
@@ -22,4 +22,4 @@ returns-clause-reads c =
     prints _ c.requires words
 
 pub returns-clause-one_line : goal.returns-clause-one_line
-returns-clause-one_line c = clean_command _ _ (returns-clause-reads c)
+returns-clause-one_line c = commands.clean _ _ (returns-clause-reads c)

@@ -1,6 +1,6 @@
 use Rattle.std.proofs.Common.{rules}
 use Rattle.route_lines.proofs.Printed.{prints, Words}
-use Rattle.route_lines.proofs.Replies.{clean_reply}
+use Rattle.route_lines.proofs.Replies.{replies}
 use Rattle.route_lines.proofs.reply.Reply.print_to.Goals.{in-Set, in-Unset, in-Route+in-Some, in-Route+in_default, in-Flat, in-Own, in-Count}
 use Rattle.route_lines.proofs.reply.Reply.print_to.Goals as goal
 
@@ -18,4 +18,4 @@ returns-clause-reads c =
     prints _ c.requires words
 
 pub returns-clause-one_line : goal.returns-clause-one_line
-returns-clause-one_line c = clean_reply _ _ (returns-clause-reads c)
+returns-clause-one_line c = replies.clean _ _ (returns-clause-reads c)

@@ -1,5 +1,5 @@
 use Rattle.std.proofs.Common.{rules}
-use Rattle.route_lines.proofs.Updates.{clean_update, prints, Words}
+use Rattle.route_lines.proofs.Updates.{updates, prints, Words}
 use Rattle.route_lines.proofs.update.Update.print_to.Goals.{in-Install, in-Remove, in-Done}
 use Rattle.route_lines.proofs.update.Update.print_to.Goals as goal
 
@@ -13,4 +13,4 @@ returns-clause-reads c =
     prints _ c.requires words
 
 pub returns-clause-one_line : goal.returns-clause-one_line
-returns-clause-one_line c = clean_update _ _ (returns-clause-reads c)
+returns-clause-one_line c = updates.clean _ _ (returns-clause-reads c)
