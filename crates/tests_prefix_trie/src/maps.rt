@@ -13,6 +13,11 @@ pub(crate) fn is_equal<T: Copy + PartialEq + Debug>(rt: &impl Abort, found: T, w
     assert_eq!(rt; found, wanted);
 }
 
+/// The fact holds.
+pub(crate) fn holds(rt: &impl Abort, fact: bool) {
+    assert!(rt; fact);
+}
+
 /// The network has this text.
 pub(crate) fn is_text(rt: &impl Abort, key: Ipv4Net, text: &str) {
     assert_eq!(rt; key.to_text().as_slice(), text.as_bytes());

@@ -3,11 +3,11 @@ ghost use Rattle.std.specs.Prelude.{IsTrue, nat_le};
 ghost use Rattle.std.specs.Iterator.{IsFinite};
 ghost use Rattle.std.specs.List.{All};
 
+use crate::maps::{holds, is_equal};
 use prefix_trie::{PrefixMap, PrefixSet, Refused};
 use std::alloc::Global;
 use std::cell::Cell;
 use std::process::Abort;
-use std::test::Fail;
 
 /// A map of these entries.
 fn map_of<const N: usize>(
@@ -47,7 +47,7 @@ fn set_with(rt: &impl Abort, alloc: Global, members: &[(u32, u8)]) -> PrefixSet<
     let mut set = PrefixSet::new(alloc).expect(rt, "a set");
     for member in members.iter() {
         assert!(rt; member.1 <= 32);
-        assert!(rt; matches!(set.insert(*member), Ok(true)));
+        is_equal(rt, set.insert(*member), Ok(true));
     }
     set
 }
@@ -60,120 +60,122 @@ fn three(rt: &impl Abort, alloc: Global) -> PrefixSet<(u32, u8)> {
 
 /// The set has so many members and nodes.
 fn counts(rt: &impl Abort, set: &PrefixSet<(u32, u8)>, members: usize, nodes: usize) {
-    assert_eq!(rt; set.len(), members);
-    assert_eq!(rt; set.node_count(), nodes);
+    is_equal(rt, set.len(), members);
+    is_equal(rt, set.node_count(), nodes);
+}
+
+/// The set has no member, and its root alone.
+fn is_cleared(rt: &impl Abort, set: &PrefixSet<(u32, u8)>) {
+    holds(rt, set.is_empty());
+    is_equal(rt, set.node_count(), 1);
 }
 
 /// The map has these entries.
 fn has(rt: &impl Abort, map: &PrefixMap<(u32, u8), u32>, entries: &[((u32, u8), u32)]) {
     for (key, value) in entries.iter() {
         assert!(rt; key.1 <= 32);
-        assert_eq!(rt; map.get(key).copied(), Some(*value));
+        is_equal(rt, map.get(key).copied(), Some(*value));
     }
 }
 
 #[test]
 fn stored_once(rt: HostRuntime) {
     let mut set: PrefixSet<(u32, u8)> = PrefixSet::new(rt.alloc()).expect(&rt, "a set");
-    assert!(rt; matches!(set.insert((0x0a00_0000, 8)), Ok(true)));
-    assert!(rt; matches!(set.insert((0x0a00_0000, 8)), Ok(false)));
-    assert!(rt; set.contains(&(0x0a01_0203, 8)));
-    assert!(rt; !set.contains(&(0x0a00_0000, 9)));
-    assert_eq!(rt; set.len(), 1);
-    assert_eq!(rt; set.node_count(), 2);
+    is_equal(&rt, set.insert((0x0a00_0000, 8)), Ok(true));
+    is_equal(&rt, set.insert((0x0a00_0000, 8)), Ok(false));
+    holds(&rt, set.contains(&(0x0a01_0203, 8)));
+    holds(&rt, !set.contains(&(0x0a00_0000, 9)));
+    is_equal(&rt, set.len(), 1);
+    is_equal(&rt, set.node_count(), 2);
 }
 
 #[test]
 fn taken_out_once(rt: HostRuntime) {
     let mut set = set_with(&rt, rt.alloc(), &[(0x0a00_0000, 8)]);
-    assert!(rt; set.remove(&(0x0a00_0000, 8)));
-    assert!(rt; !set.remove(&(0x0a00_0000, 8)));
-    assert!(rt; set.is_empty());
-    assert_eq!(rt; set.node_count(), 1);
+    holds(&rt, set.remove(&(0x0a00_0000, 8)));
+    holds(&rt, !set.remove(&(0x0a00_0000, 8)));
+    is_cleared(&rt, &set);
 }
 
 #[test]
 fn made_of_members(rt: HostRuntime) {
-    let Ok(set) = set_of(
-        &rt,
-        rt.alloc(),
-        [
-            (0x0a09_0000, 16),
-            (0x0a07_0707, 8),
-            (0x0a01_0000, 16),
-            (0x0a09_0808, 16),
-        ],
-    ) else {
-        panic!(&rt; "no set")
-    };
-    assert_eq!(rt; digits(set.iter()), 1019);
-    assert_eq!(rt; set.len(), 3);
-    assert_eq!(rt; set.node_count(), 5);
-    assert!(rt; set.contains(&(0x0a00_0000, 8)));
+    let members = [
+        (0x0a09_0000, 16),
+        (0x0a07_0707, 8),
+        (0x0a01_0000, 16),
+        (0x0a09_0808, 16),
+    ];
+    let set = set_of(&rt, rt.alloc(), members).expect(&rt, "a set");
+    is_equal(&rt, digits(set.iter()), 1019);
+    is_equal(&rt, set.len(), 3);
+    is_equal(&rt, set.node_count(), 5);
+    holds(&rt, set.contains(&(0x0a00_0000, 8)));
 }
 
 #[test]
 fn searched(rt: HostRuntime) {
     let set = three(&rt, rt.alloc());
-    assert!(rt; matches!(set.get(&(0x0a01_0203, 16)), Some((0x0a01_0000, 16))));
-    assert!(rt; matches!(set.get_lpm(&(0x0a01_0203, 32)), Some((0x0a01_0000, 16))));
-    assert!(rt; matches!(set.get_spm(&(0x0a01_0203, 32)), Some((0x0a00_0000, 8))));
+    is_equal(&rt, set.get(&(0x0a01_0203, 16)), Some((0x0a01_0000, 16)));
+    is_equal(
+        &rt,
+        set.get_lpm(&(0x0a01_0203, 32)),
+        Some((0x0a01_0000, 16)),
+    );
+    is_equal(&rt, set.get_spm(&(0x0a01_0203, 32)), Some((0x0a00_0000, 8)));
 }
 
 #[test]
 fn covered(rt: HostRuntime) {
     let set = three(&rt, rt.alloc());
-    assert!(rt; set.is_covered(&(0x0a02_0000, 16)));
-    assert!(rt; !set.is_covered(&(0x0b00_0000, 8)));
+    holds(&rt, set.is_covered(&(0x0a02_0000, 16)));
+    holds(&rt, !set.is_covered(&(0x0b00_0000, 8)));
 }
 
 #[test]
 fn walked(rt: HostRuntime) {
     let set = three(&rt, rt.alloc());
-    assert_eq!(rt; digits(set.iter()), 1019);
+    is_equal(&rt, digits(set.iter()), 1019);
 }
 
 #[test]
 fn walked_by_reference(rt: HostRuntime) {
     let set = three(&rt, rt.alloc());
-    assert_eq!(rt; digits((&set).into_iter()), 1019);
+    is_equal(&rt, digits((&set).into_iter()), 1019);
 }
 
 #[test]
 fn walked_after_a_member(rt: HostRuntime) {
     let set = three(&rt, rt.alloc());
-    assert_eq!(rt; digits(set.iter_from(&(0x0a00_0000, 8), false)), 119);
+    is_equal(&rt, digits(set.iter_from(&(0x0a00_0000, 8), false)), 119);
 }
 
 #[test]
 fn walked_from_a_member(rt: HostRuntime) {
     let set = three(&rt, rt.alloc());
-    assert_eq!(rt; digits(set.iter_from(&(0x0a01_0000, 16), true)), 119);
+    is_equal(&rt, digits(set.iter_from(&(0x0a01_0000, 16), true)), 119);
 }
 
 #[test]
 fn walked_inside_and_above(rt: HostRuntime) {
     let set = three(&rt, rt.alloc());
-    assert_eq!(rt; digits(set.children(&(0x0a00_0000, 12))), 119);
-    assert_eq!(rt; digits(set.cover(&(0x0a09_0909, 32))), 109);
+    is_equal(&rt, digits(set.children(&(0x0a00_0000, 12))), 119);
+    is_equal(&rt, digits(set.cover(&(0x0a09_0909, 32))), 109);
 }
 
 #[test]
 fn walked_twice(rt: HostRuntime) {
     let set = three(&rt, rt.alloc());
     let mut members = set.iter();
-    assert!(rt; members.next().is_some());
-    let Ok(copy) = members.clone() else {
-        panic!(&rt; "no copy")
-    };
-    assert_eq!(rt; digits(copy), 119);
+    holds(&rt, members.next().is_some());
+    let copy = members.clone().expect(&rt, "a copy");
+    is_equal(&rt, digits(copy), 119);
 }
 
 #[test]
 fn taken_out_inside(rt: HostRuntime) {
     let mut set = three(&rt, rt.alloc());
-    assert!(rt; set.remove_keep_tree(&(0x0a01_0000, 16)));
-    assert_eq!(rt; set.node_count(), 5);
+    holds(&rt, set.remove_keep_tree(&(0x0a01_0000, 16)));
+    is_equal(&rt, set.node_count(), 5);
     set.remove_children(&(0x0a00_0000, 9));
     counts(&rt, &set, 1, 2);
 }
@@ -182,53 +184,52 @@ fn taken_out_inside(rt: HostRuntime) {
 fn cleared(rt: HostRuntime) {
     let mut set = set_with(&rt, rt.alloc(), &[(0x0a07_0707, 8)]);
     set.clear();
-    assert!(rt; set.is_empty());
-    assert_eq!(rt; set.node_count(), 1);
+    is_cleared(&rt, &set);
 }
 
 #[test]
 fn addresses_of_none(rt: HostRuntime) {
     let set: PrefixSet<(u32, u8)> = PrefixSet::new(rt.alloc()).expect(&rt, "a set");
-    assert_eq!(rt; set.address_count(), Some(0));
+    is_equal(&rt, set.address_count(), Some(0));
 }
 
 #[test]
 fn addresses_count_once(rt: HostRuntime) {
     let members = [(0xc000_0200, 24), (0xc000_0280, 25), (0xc633_6400, 24)];
     let set = set_with(&rt, rt.alloc(), &members);
-    assert_eq!(rt; set.address_count(), Some(512));
+    is_equal(&rt, set.address_count(), Some(512));
 }
 
 #[test]
 fn addresses_of_halves(rt: HostRuntime) {
     let mut halves: PrefixSet<(u128, u8)> = PrefixSet::new(rt.alloc()).expect(&rt, "a set");
-    assert!(rt; halves.insert((0, 1)).is_ok());
-    assert_eq!(rt; halves.address_count(), Some(1 << 127));
-    assert!(rt; halves.insert((1 << 127, 1)).is_ok());
-    assert_eq!(rt; halves.address_count(), None);
+    holds(&rt, halves.insert((0, 1)).is_ok());
+    is_equal(&rt, halves.address_count(), Some(1 << 127));
+    holds(&rt, halves.insert((1 << 127, 1)).is_ok());
+    is_equal(&rt, halves.address_count(), None);
 }
 
 #[test]
 fn addresses_of_ipv4_halves(rt: HostRuntime) {
     let set = set_with(&rt, rt.alloc(), &[(0, 1), (0x8000_0000, 1)]);
-    assert_eq!(rt; set.address_count(), None);
+    is_equal(&rt, set.address_count(), None);
 }
 
 #[test]
 fn addresses_of_all(rt: HostRuntime) {
     let mut all: PrefixMap<(u128, u8), u32> = PrefixMap::new(rt.alloc()).expect(&rt, "a map");
-    assert!(rt; all.insert((0, 0), 1).is_ok());
-    assert_eq!(rt; all.address_count(), None);
+    holds(&rt, all.insert((0, 0), 1).is_ok());
+    is_equal(&rt, all.address_count(), None);
 }
 
 #[test]
 fn addresses_of_eight_bits(rt: HostRuntime) {
     let mut small: PrefixMap<(u8, u8), u32> = PrefixMap::new(rt.alloc()).expect(&rt, "a map");
-    assert!(rt; small.insert((0, 1), 1).is_ok());
-    assert!(rt; small.insert((0x80, 1), 2).is_ok());
-    assert_eq!(rt; small.address_count(), None);
-    assert_eq!(rt; small.remove(&(0, 1)), Some(1));
-    assert_eq!(rt; small.address_count(), Some(128));
+    holds(&rt, small.insert((0, 1), 1).is_ok());
+    holds(&rt, small.insert((0x80, 1), 2).is_ok());
+    is_equal(&rt, small.address_count(), None);
+    is_equal(&rt, small.remove(&(0, 1)), Some(1));
+    is_equal(&rt, small.address_count(), Some(128));
 }
 
 /// 10.0.0.0/8 with 3, which was stored twice, and 10.1.0.0/16 with 2.
@@ -244,93 +245,109 @@ fn two_entries(rt: &impl Abort, alloc: Global) -> PrefixMap<(u32, u8), u32> {
 /// 10.0.0.0/8 with 3, and the spare nodes of 10.1.0.0/16.
 fn one_and_spares(rt: &impl Abort, alloc: Global) -> PrefixMap<(u32, u8), u32> {
     let mut map = two_entries(rt, alloc);
-    assert_eq!(rt; map.remove_keep_tree(&(0x0a01_0000, 16)), Some(2));
+    is_equal(rt, map.remove_keep_tree(&(0x0a01_0000, 16)), Some(2));
     map
 }
 
 #[test]
 fn made_of_entries(rt: HostRuntime) {
     let map = two_entries(&rt, rt.alloc());
-    assert_eq!(rt; map.len(), 2);
-    assert_eq!(rt; map.get(&(0x0a00_0000, 8)).copied(), Some(3));
-    assert_eq!(rt; map.node_count(), 4);
+    is_equal(&rt, map.len(), 2);
+    is_equal(&rt, map.get(&(0x0a00_0000, 8)).copied(), Some(3));
+    is_equal(&rt, map.node_count(), 4);
 }
 
 #[test]
 fn copied(rt: HostRuntime) {
     let map = one_and_spares(&rt, rt.alloc());
     let copy = map.try_clone(rt.alloc()).expect(&rt, "a copy");
-    assert!(rt; copy == map);
-    assert_eq!(rt; copy.node_count(), 4);
+    holds(&rt, copy == map);
+    is_equal(&rt, copy.node_count(), 4);
 }
 
 #[test]
 fn equal_by_values(rt: HostRuntime) {
     let mut map = one_and_spares(&rt, rt.alloc());
     let copy = map.try_clone(rt.alloc()).expect(&rt, "a copy");
-    assert!(rt; map.insert((0x0a00_0000, 8), 4).is_ok());
-    assert!(rt; copy != map);
-    assert!(rt; map.insert((0x0a00_0000, 8), 3).is_ok());
-    assert!(rt; copy == map);
+    holds(&rt, map.insert((0x0a00_0000, 8), 4).is_ok());
+    holds(&rt, copy != map);
+    holds(&rt, map.insert((0x0a00_0000, 8), 3).is_ok());
+    holds(&rt, copy == map);
 }
 
 #[test]
 fn equal_without_spares(rt: HostRuntime) {
     let mut map = one_and_spares(&rt, rt.alloc());
     let copy = map.try_clone(rt.alloc()).expect(&rt, "a copy");
-    assert_eq!(rt; map.remove(&(0x0a01_0000, 16)), None);
-    assert_eq!(rt; map.node_count(), 2);
-    assert!(rt; copy == map);
+    is_equal(&rt, map.remove(&(0x0a01_0000, 16)), None);
+    is_equal(&rt, map.node_count(), 2);
+    holds(&rt, copy == map);
 }
 
 #[test]
 fn unequal_by_one_more(rt: HostRuntime) {
     let mut map = one_and_spares(&rt, rt.alloc());
     let copy = map.try_clone(rt.alloc()).expect(&rt, "a copy");
-    assert!(rt; map.insert((0x0a00_0000, 9), 3).is_ok());
-    assert!(rt; copy != map);
-    assert!(rt; map != copy);
+    holds(&rt, map.insert((0x0a00_0000, 9), 3).is_ok());
+    holds(&rt, copy != map);
+    holds(&rt, map != copy);
 }
 
 #[test]
 fn sets_copied(rt: HostRuntime) {
     let set = three(&rt, rt.alloc());
     let copy = set.try_clone(rt.alloc()).expect(&rt, "a copy");
-    assert!(rt; copy == set);
-    assert_eq!(rt; copy.node_count(), set.node_count());
+    holds(&rt, copy == set);
+    is_equal(&rt, copy.node_count(), set.node_count());
     let mut members = set.iter();
-    assert!(rt; members.next().is_some());
+    holds(&rt, members.next().is_some());
+}
+
+/// The refusal is printed so.
+fn is_printed(rt: &impl Abort, alloc: Global, refused: Refused, wanted: &str) {
+    let text = format!(in alloc; "{refused}").expect(rt, "memory");
+    is_equal(rt, text.as_str(), wanted);
 }
 
 #[test]
-fn errors(rt: HostRuntime) -> Result<(), Fail> {
-    assert_eq!(rt;
-        format!(in rt.alloc(); "{}", Refused::Memory)?.as_str(),
-        "out of memory"
-    );
-    assert_eq!(rt;
-        format!(in rt.alloc(); "{}", Refused::Full)?.as_str(),
-        "the map is full"
-    );
-    Ok(())
+fn errors(rt: HostRuntime) {
+    is_printed(&rt, rt.alloc(), Refused::Memory, "out of memory");
+    is_printed(&rt, rt.alloc(), Refused::Full, "the map is full");
+}
+
+/// The set has nothing, and stores after all.
+fn stores_yet(rt: &impl Abort, set: &mut PrefixSet<(u32, u8)>) {
+    counts(rt, set, 0, 1);
+    is_equal(rt, set.insert((0x0102_0300, 32)), Ok(true));
+}
+
+/// Stores a member of 32 bits, at once or where a request for memory was refused.
+fn stores_at_last(rt: &impl Abort, set: &mut PrefixSet<(u32, u8)>) {
+    match set.insert((0x0102_0300, 32)) {
+        Ok(is_new) => holds(rt, is_new),
+        Err(refused) => {
+            is_equal(rt, refused, Refused::Memory);
+            stores_yet(rt, set);
+        }
+    }
+}
+
+/// The set is copied, or memory is refused.
+fn is_copied_or_refused(rt: &impl Abort, alloc: Global, set: &PrefixSet<(u32, u8)>) {
+    match set.try_clone(alloc) {
+        Ok(copy) => holds(rt, copy == *set),
+        Err(refused) => is_equal(rt, refused, Refused::Memory),
+    }
 }
 
 /// Each request for memory may be refused: the set is as it was.
 #[test]
 fn refused(rt: HostRuntime) {
     let mut set: PrefixSet<(u32, u8)> = PrefixSet::new(rt.alloc()).expect(&rt, "a set");
-    if let Err(refused) = set.insert((0x0102_0300, 32)) {
-        assert_eq!(rt; refused, Refused::Memory);
-        assert!(rt; set.is_empty());
-        assert_eq!(rt; set.node_count(), 1);
-        assert!(rt; matches!(set.insert((0x0102_0300, 32)), Ok(true)));
-    }
-    assert_eq!(rt; set.node_count(), 7);
-    match set.try_clone(rt.alloc()) {
-        Ok(copy) => assert!(rt; copy == set),
-        Err(refused) => assert_eq!(rt; refused, Refused::Memory),
-    }
-    assert_eq!(rt; set.node_count(), 7);
+    stores_at_last(&rt, &mut set);
+    is_equal(&rt, set.node_count(), 7);
+    is_copied_or_refused(&rt, rt.alloc(), &set);
+    is_equal(&rt, set.node_count(), 7);
 }
 
 /// A value that counts how many of its kind were dropped.
@@ -352,9 +369,9 @@ fn three_counted<'a>(
     drops: &'a Cell<u32>,
 ) -> PrefixMap<(u32, u8), Counted<'a>> {
     let mut map = PrefixMap::new(alloc).expect(rt, "a map");
-    assert!(rt; map.insert((0, 0), Counted { drops }).is_ok());
-    assert!(rt; map.insert((0, 1), Counted { drops }).is_ok());
-    assert!(rt; map.insert((0x8000_0000, 1), Counted { drops }).is_ok());
+    holds(rt, map.insert((0, 0), Counted { drops }).is_ok());
+    holds(rt, map.insert((0, 1), Counted { drops }).is_ok());
+    holds(rt, map.insert((0x8000_0000, 1), Counted { drops }).is_ok());
     map
 }
 
@@ -362,40 +379,36 @@ fn three_counted<'a>(
 fn dropped_with_the_map(rt: HostRuntime) {
     let drops = Cell::new(0);
     let map = three_counted(&rt, rt.alloc(), &drops);
-    assert_eq!(rt; drops.get(), 0);
+    is_equal(&rt, drops.get(), 0);
     drop(map);
-    assert_eq!(rt; drops.get(), 3);
+    is_equal(&rt, drops.get(), 3);
 }
 
 #[test]
 fn dropped_with_the_iterator(rt: HostRuntime) {
     let drops = Cell::new(0);
     let mut entries = three_counted(&rt, rt.alloc(), &drops).into_iter();
-    let Some((key, value)) = entries.next() else {
-        panic!(&rt; "no entry")
-    };
-    assert_eq!(rt; key, (0, 0));
-    assert_eq!(rt; drops.get(), 0);
+    let (key, value) = entries.next().expect(&rt, "an entry");
+    is_equal(&rt, key, (0, 0));
+    is_equal(&rt, drops.get(), 0);
     drop(value);
-    assert_eq!(rt; drops.get(), 1);
+    is_equal(&rt, drops.get(), 1);
     drop(entries);
-    assert_eq!(rt; drops.get(), 3);
+    is_equal(&rt, drops.get(), 3);
 }
 
 #[test]
 fn dropped_outside(rt: HostRuntime) {
     let drops = Cell::new(0);
     let mut entries = three_counted(&rt, rt.alloc(), &drops).into_children(&(0x8000_0000, 1));
-    assert_eq!(rt; drops.get(), 2);
-    let Some((key, value)) = entries.next() else {
-        panic!(&rt; "no entry")
-    };
-    assert_eq!(rt; key, (0x8000_0000, 1));
-    assert!(rt; entries.next().is_none());
+    is_equal(&rt, drops.get(), 2);
+    let (key, value) = entries.next().expect(&rt, "an entry");
+    is_equal(&rt, key, (0x8000_0000, 1));
+    holds(&rt, entries.next().is_none());
     drop(entries);
-    assert_eq!(rt; drops.get(), 2);
+    is_equal(&rt, drops.get(), 2);
     drop(value);
-    assert_eq!(rt; drops.get(), 3);
+    is_equal(&rt, drops.get(), 3);
 }
 
 /// The values that are left, one after another, as digits.
@@ -424,14 +437,14 @@ fn four_entries(rt: &impl Abort, alloc: Global) -> PrefixMap<(u32, u8), u32> {
 fn owned_values(rt: HostRuntime) {
     let map = four_entries(&rt, rt.alloc());
     let copy = map.try_clone(rt.alloc()).expect(&rt, "a copy");
-    assert_eq!(rt; value_digits(copy.into_values()), 1234);
+    is_equal(&rt, value_digits(copy.into_values()), 1234);
 }
 
 #[test]
 fn owned_keys(rt: HostRuntime) {
     let map = four_entries(&rt, rt.alloc());
     let copy = map.try_clone(rt.alloc()).expect(&rt, "a copy");
-    assert_eq!(rt; digits(copy.into_keys()), 10110);
+    is_equal(&rt, digits(copy.into_keys()), 10110);
 }
 
 #[test]
@@ -441,12 +454,12 @@ fn owned_children(rt: HostRuntime) {
     for (_, value) in map.into_children(&(0x0a01_0000, 10)) {
         values = values.wrapping_mul(10).wrapping_add(value);
     }
-    assert_eq!(rt; values, 23);
+    is_equal(&rt, values, 23);
 }
 
 #[test]
 fn owned_members(rt: HostRuntime) {
-    assert_eq!(rt; digits(three(&rt, rt.alloc()).into_iter()), 1019);
+    is_equal(&rt, digits(three(&rt, rt.alloc()).into_iter()), 1019);
 }
 
 /// 10.0.0.0/8 with 1, and 10.1.0.0/16 with 2.
@@ -455,14 +468,17 @@ fn ten_and_inner(rt: &impl Abort, alloc: Global) -> PrefixMap<(u32, u8), u32> {
     map_of(rt, alloc, entries).expect(rt, "a map")
 }
 
+/// This value is lent.
+fn lent_is(rt: &impl Abort, lent: Option<&mut u32>, wanted: u32) {
+    is_equal(rt, *lent.expect(rt, "a value"), wanted);
+}
+
 #[test]
 fn lent_at_the_longest(rt: HostRuntime) {
     let mut map = ten_and_inner(&rt, rt.alloc());
-    let Some((key, value)) = map.get_lpm_mut(&(0x0a01_0203, 32)) else {
-        panic!(&rt; "no match")
-    };
-    assert_eq!(rt; key, (0x0a01_0000, 16));
-    assert_eq!(rt; *value, 2);
+    let (key, value) = map.get_lpm_mut(&(0x0a01_0203, 32)).expect(&rt, "a match");
+    is_equal(&rt, key, (0x0a01_0000, 16));
+    is_equal(&rt, *value, 2);
     *value = 7;
     has(&rt, &map, &[((0x0a01_0000, 16), 7)]);
 }
@@ -474,7 +490,7 @@ fn lent_value_at_the_longest(rt: HostRuntime) {
         *value = 8;
     }
     has(&rt, &map, &[((0x0a00_0000, 8), 8)]);
-    assert!(rt; map.get_lpm_mut(&(0x0b00_0000, 8)).is_none());
+    holds(&rt, map.get_lpm_mut(&(0x0b00_0000, 8)).is_none());
 }
 
 /// Three entries, of which 11.0.0.0/8 is the last.
@@ -491,11 +507,11 @@ fn three_entries(rt: &impl Abort, alloc: Global) -> PrefixMap<(u32, u8), u32> {
 fn lent_in_turn(rt: HostRuntime) {
     let mut map = three_entries(&rt, rt.alloc());
     let mut entries = map.iter_mut();
-    assert!(rt; matches!(entries.key(), Some((0x0a00_0000, 8))));
+    is_equal(&rt, entries.key(), Some((0x0a00_0000, 8)));
     if let Some(value) = entries.next() {
         *value = value.wrapping_add(10);
     }
-    assert!(rt; matches!(entries.key(), Some((0x0a01_0000, 16))));
+    is_equal(&rt, entries.key(), Some((0x0a01_0000, 16)));
     if let Some(value) = entries.next() {
         *value = value.wrapping_add(20);
     }
@@ -515,10 +531,10 @@ fn lent_to_the_end(rt: HostRuntime) {
     let mut map = three_entries(&rt, rt.alloc());
     let mut entries = map.iter_mut();
     for _ in 0..3 {
-        assert!(rt; entries.next().is_some());
+        holds(&rt, entries.next().is_some());
     }
-    assert!(rt; entries.key().is_none());
-    assert!(rt; entries.next().is_none());
+    holds(&rt, entries.key().is_none());
+    holds(&rt, entries.next().is_none());
 }
 
 #[test]
@@ -529,10 +545,8 @@ fn lent_onwards(rt: HostRuntime) {
         ((0x0b00_0000, 8), 3),
     ];
     let mut map = map_of(&rt, rt.alloc(), entries).expect(&rt, "a map");
-    let mut entries = map.iter_from_mut(&(0x0a00_0000, 8), false);
-    assert!(rt; matches!(entries.next(), Some(22)));
-    let mut entries = map.iter_from_mut(&(0x0a01_0000, 16), true);
-    assert!(rt; matches!(entries.next(), Some(22)));
+    lent_is(&rt, map.iter_from_mut(&(0x0a00_0000, 8), false).next(), 22);
+    lent_is(&rt, map.iter_from_mut(&(0x0a01_0000, 16), true).next(), 22);
 }
 
 /// Four entries, of which two lie inside 10.1.0.0/16.
@@ -550,15 +564,15 @@ fn two_inside(rt: &impl Abort, alloc: Global) -> PrefixMap<(u32, u8), u32> {
 fn lent_inside(rt: HostRuntime) {
     let mut map = two_inside(&rt, rt.alloc());
     let mut entries = map.children_mut(&(0x0a01_0203, 16));
-    assert!(rt; matches!(entries.key(), Some((0x0a01_0000, 16))));
+    is_equal(&rt, entries.key(), Some((0x0a01_0000, 16)));
     if let Some(value) = entries.next() {
         *value = 20;
     }
     if let Some(value) = entries.next() {
         *value = 30;
     }
-    assert!(rt; entries.key().is_none());
-    assert!(rt; entries.next().is_none());
+    holds(&rt, entries.key().is_none());
+    holds(&rt, entries.next().is_none());
     has(
         &rt,
         &map,
@@ -574,8 +588,8 @@ fn lent_inside(rt: HostRuntime) {
 #[test]
 fn lent_first_inside(rt: HostRuntime) {
     let mut map = two_inside(&rt, rt.alloc());
-    assert!(rt; map.children_mut(&(0x0a03_0000, 16)).next().is_none());
-    assert!(rt; matches!(map.children_mut(&(0, 0)).next(), Some(1)));
+    holds(&rt, map.children_mut(&(0x0a03_0000, 16)).next().is_none());
+    lent_is(&rt, map.children_mut(&(0, 0)).next(), 1);
 }
 
 #[test]
@@ -586,18 +600,28 @@ fn kept_members(rt: HostRuntime) {
         asked = asked.wrapping_mul(100).wrapping_add(u32::from(member.1));
         member.0 != 0x0a01_0000
     });
-    assert_eq!(rt; asked, 81616);
-    assert_eq!(rt; digits(set.iter()), 109);
-    assert_eq!(rt; set.node_count(), 4);
+    is_equal(&rt, asked, 81616);
+    is_equal(&rt, digits(set.iter()), 109);
+    is_equal(&rt, set.node_count(), 4);
 }
 
 #[test]
 fn tidied(rt: HostRuntime) {
     let mut set = set_with(&rt, rt.alloc(), &[(0x0a09_0000, 16), (0x0a07_0707, 8)]);
-    assert!(rt; set.remove_keep_tree(&(0x0a09_0000, 16)));
-    assert_eq!(rt; set.node_count(), 4);
+    holds(&rt, set.remove_keep_tree(&(0x0a09_0000, 16)));
+    is_equal(&rt, set.node_count(), 4);
     set.retain(|_| true);
     counts(&rt, &set, 1, 2);
+}
+
+/// The map has eight nodes, and is copied, or memory is refused.
+fn is_whole_or_refused(rt: &impl Abort, alloc: Global, map: &PrefixMap<(u32, u8), u32>) {
+    is_equal(rt, map.node_count(), 8);
+    match map.try_clone(alloc) {
+        Ok(copy) => holds(rt, copy == *map),
+        Err(refused) => is_equal(rt, refused, Refused::Memory),
+    }
+    is_equal(rt, map.len(), 2);
 }
 
 /// Each request for memory may be refused: then there is no map, and no copy.
@@ -605,14 +629,7 @@ fn tidied(rt: HostRuntime) {
 fn refused_whole(rt: HostRuntime) {
     let entries = [((0x0102_0300, 32), 1), ((0x0a00_0000, 8), 2)];
     match map_of(&rt, rt.alloc(), entries) {
-        Err(refused) => assert_eq!(rt; refused, Refused::Memory),
-        Ok(map) => {
-            assert_eq!(rt; map.node_count(), 8);
-            match map.try_clone(rt.alloc()) {
-                Ok(copy) => assert!(rt; copy == map),
-                Err(refused) => assert_eq!(rt; refused, Refused::Memory),
-            }
-            assert_eq!(rt; map.len(), 2);
-        }
+        Ok(map) => is_whole_or_refused(&rt, rt.alloc(), &map),
+        Err(refused) => is_equal(&rt, refused, Refused::Memory),
     }
 }
