@@ -77,13 +77,15 @@ def ratios(parts):
 def met(parts):
     """How many of the aims were met, and which were not, of those that were measured."""
     titles = {side: title for side, way, _, title in WAYS if way == "match"}
-    asked = [(family, mix, side) for family in parts for mix in feeds.MIXES for side in AIMED[family] if (side, "match", mix) in parts[family][1]]
-    missed = []
-    for family, mix, side in asked:
-        least = parts[family][1]
-        if least[side, "match", mix] < AIMED[family][side] * least["routes", "index", mix]:
-            missed.append(f"IP{family}, {mix}, {titles[side]}")
-    return f"Of these {len(asked)}, {len(asked) - len(missed)} are met." + (f" Missed: {'; '.join(missed)}." if missed else "")
+    count, missed = 0, []
+    for family, (_, least) in parts.items():
+        for mix in feeds.MIXES:
+            for side, aim in AIMED[family].items():
+                taken = least.get((side, "match", mix))
+                count += taken is not None
+                if taken is not None and taken < aim * least["routes", "index", mix]:
+                    missed.append(f"IP{family}, {mix}, {titles[side]}")
+    return f"Of these {count}, {count - len(missed)} are met." + (f" Missed: {'; '.join(missed)}." if missed else "")
 
 
 def aims():

@@ -69,13 +69,14 @@ def beside(bench, led, sessions):
     batches of each."""
     ours, installer, followed = bench.programs["ours"], bench.installer(), bench.folder / "followed"
     sides = {"follow": lambda: measure.once([*bench.pin, ours, "follow"], led, followed)}
+    given, done = ({name: bench.folder / f"{kind}-{name}" for name in sessions} for kind in ("session", "done"))
     for name, session in sessions.items():
-        (bench.folder / f"session-{name}").write_bytes(session)
-        sides[name] = lambda name=name: measure.once([*bench.pin, installer], bench.folder / f"session-{name}", bench.folder / f"done-{name}")
+        given[name].write_bytes(session)
+        sides[name] = lambda name=name: measure.once([*bench.pin, installer], given[name], done[name])
     seen = {name: measure.least(runs) for name, runs in measure.in_turns(bench.runs, sides).items()}
     batches = {}
     for name in sessions:
-        table, batches[name] = replayed(bench.folder / f"done-{name}")
+        table, batches[name] = replayed(done[name])
         program.rebuilt(ours, table, followed)
     return seen, batches
 
@@ -108,7 +109,8 @@ def changed(bench, feed, count):
     feed are installed."""
     commands, led = bench.folder / "commands", bench.folder / "led"
     adds = [line for line in feed.read_bytes().splitlines(keepends=True) if line.startswith(b"add ")]
-    changes = subprocess.run([sys.executable, bench.root / "bench/feeds.py", "over", feed, str(count)], capture_output=True, check=True).stdout
+    making = [sys.executable, bench.root / "bench/feeds.py", "over", feed, str(count)]
+    changes = subprocess.run(making, stdout=subprocess.PIPE, check=True).stdout
 
     def answers(lines):
         commands.write_bytes(lines)

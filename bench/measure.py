@@ -9,8 +9,9 @@ import tempfile
 import time
 from collections import namedtuple
 
-# What a run of a program took: seconds of the processor, and the greatest resident memory.
-Measure = namedtuple("Measure", "seconds kilobytes")
+# What a program took in a run, or in the least of some: seconds of the processor, the greatest resident memory, and how many times as
+# long the slowest run was.
+Measure = namedtuple("Measure", "seconds kilobytes spread", defaults=(1,))
 
 TICKS = os.sysconf("SC_CLK_TCK")
 
@@ -51,7 +52,8 @@ def in_turns(runs, sides):
 
 def least(seen):
     """The least time and the greatest memory of some runs."""
-    return Measure(min(one.seconds for one in seen), max(one.kilobytes for one in seen))
+    seconds = [one.seconds for one in seen]
+    return Measure(min(seconds), max(one.kilobytes for one in seen), max(seconds) / min(seconds))
 
 
 def built(root, folder, name, uses):

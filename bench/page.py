@@ -44,8 +44,9 @@ def put(path, title, blocks):
 
 def headline(readme, networks, rate, megabytes):
     """The README's line on speed says what the real feed took."""
-    told = f"On a real feed of {networks:,} networks it answers {round(rate, -3):,.0f} commands a second on one core, with {megabytes:.0f} MB"
-    text, found = re.subn(r"On a real feed of [\d,]+ networks it answers [\d,]+ commands a second on one core, with \d+ MB", told, readme.read_text())
+    told = "On a real feed of {} networks it answers {} commands a second on one core, with {} MB"
+    line = told.format(f"{networks:,}", f"{round(rate, -3):,.0f}", f"{megabytes:.0f}")
+    text, found = re.subn(told.format(r"[\d,]+", r"[\d,]+", r"\d+"), line, readme.read_text())
     if found != 1:
         raise SystemExit("bench: the README has no line on the real feed")
     readme.write_text(text)

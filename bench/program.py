@@ -29,7 +29,8 @@ time is that of `routes least`, which reads the leader's output first."""
 BESIDE = """A plain program with the same modes over the Rust crate `prefix-trie` 0.10.1, whose leader keeps a network's routes in an array
 of eight too; its outputs were compared with ours, and its shortest tables in length. Speed and memory as ours over its: above 1 we are
 faster, and use more. It writes each reply by itself; the second column is over one that writes as its buffer fills, which ours does while
-more lines are here. Of runs that are over at once no ratio is told: they have `-`."""
+more lines are here. Of runs that are over at once no ratio is told: they have `-`. Of the others the slowest of one program on one feed
+took up to {spread:.2f} times as long as its fastest, by what else the machine did: so far off may a ratio of single runs be."""
 
 
 def sizes(path):
@@ -121,11 +122,21 @@ def shortest(row):
     return [row.title, *(f"{count:,}" for count in row.counts), f"{least.seconds:.2f}", f"{least.kilobytes / 1024:.1f}"]
 
 
+def is_told(*measures):
+    return min(one.seconds for one in measures) >= 0.05
+
+
+def spread(rows):
+    """How many times as long as the fastest the slowest run of one program on one feed was."""
+    return max((one.spread for row in rows for mode in row.modes.values() for one in mode.values() if is_told(one)), default=1)
+
+
 def ratios(row):
-    speeds = [(row.modes["lead"], "peer"), (row.modes["lead"], "unflushed"), (row.modes["follow"], "peer"), (row.modes["least"], "peer")]
-    for mode, name in speeds:
-        theirs, ours = mode[name].seconds if name in mode else 0, mode["ours"].seconds
-        yield f"{theirs / ours:.2f}" if min(theirs, ours) >= 0.05 else "-"
+    """Their time over ours, and our memory over theirs."""
+    lead, follow, least = row.modes.values()
+    for mode, name in ((lead, "peer"), (lead, "unflushed"), (follow, "peer"), (least, "peer")):
+        told = name in mode and is_told(mode[name], mode["ours"])
+        yield f"{mode[name].seconds / mode['ours'].seconds:.2f}" if told else "-"
     for mode in row.modes.values():
         yield f"{mode['ours'].kilobytes / mode['peer'].kilobytes:.2f}"
 
@@ -179,7 +190,8 @@ def measured(bench):
     yield "Shortest tables", [page.filled(SHORTEST), page.table(head, map(shortest, rows)), told]
     if "peer" in programs:
         head = ["feed", "lead", "lead, replies together", "follow", "least", "memory of lead", "memory of follow", "memory of least"]
-        yield "Beside a Rust program", [page.filled(BESIDE), page.table(head, ([row.title, *ratios(row)] for row in rows)), told]
+        text = page.filled(BESIDE.format(spread=spread(rows)))
+        yield "Beside a Rust program", [text, page.table(head, ([row.title, *ratios(row)] for row in rows)), told]
     if real:
         lead = rows[0].modes["lead"]["ours"]
         bench.headline(rows[0].given[0] - 1, rows[0].given[0] / lead.seconds, lead.kilobytes / 1024)
