@@ -55,12 +55,14 @@ def timed(bench, program, sides, feed, family):
 
 
 def changes(parts):
+    """A row for each family and change."""
     for family, (count, least) in parts.items():
         for call, title in CHANGES.items():
             yield [f"IP{family}, {count:,}", title, *(calls.nanoseconds(least.get((side, call, None))) for side in SIDES)]
 
 
 def look_ups(parts):
+    """A row for each family, mix and look-up. A fib stands beside the index."""
     for family, (_, least) in parts.items():
         for mix in feeds.MIXES:
             for call, title in LOOK_UPS.items():
@@ -68,6 +70,7 @@ def look_ups(parts):
 
 
 def ratios(parts):
+    """A row for each family and mix: how many times as fast the index is as each other way."""
     for family, (_, least) in parts.items():
         for mix in feeds.MIXES:
             cells = [calls.times_as_fast(least.get((side, way, mix)), least["routes", of, mix]) for side, way, of, _ in WAYS]
@@ -89,6 +92,7 @@ def met(parts):
 
 
 def aims():
+    """What is aimed at, in words."""
     titles = {side: title for side, way, _, title in WAYS if way == "match"}
     return ", ".join(f"{aim} {titles[side]} for IP{family}" for family, of in AIMED.items() for side, aim in of.items())
 

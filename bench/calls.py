@@ -50,6 +50,7 @@ def of_crate(peer, family, stored, asked):
 
 
 def named(call, mix):
+    """Under which name all sides have to tell the same."""
     return f"{call}, {mix} addresses" if mix else call
 
 
@@ -88,6 +89,7 @@ def nanoseconds(taken):
 
 
 def times_as_fast(theirs, ours):
+    """A cell for how many times as long they take."""
     return "-" if theirs is None or ours is None else f"{theirs / ours:.2f}"
 
 

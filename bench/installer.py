@@ -128,6 +128,7 @@ def changed(bench, feed, count):
 
 
 def changes_told(commands, changed):
+    """The paragraph on the changes."""
     first, *between, last = changed.batches
     counts = sorted(operations for operations, _ in between)
     return CHANGED.format(

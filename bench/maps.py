@@ -74,6 +74,7 @@ def sides_of(bench, programs, family, count):
 
 
 def rows(family, count, least):
+    """A row for each call."""
     for call, mix, title in ROWS:
         taken = {side: least.get((side, call, mix)) for side in SIDES}
         if call == "match":

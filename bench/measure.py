@@ -17,6 +17,7 @@ TICKS = os.sysconf("SC_CLK_TCK")
 
 
 def fail(text):
+    """Ends the run with a message."""
     sys.exit(f"bench: {text}")
 
 
@@ -91,8 +92,8 @@ class Others:
 
     def told(self, runs):
         """The last lines of a part: where and when it was measured, and what else ran."""
-        text = f"Measured on {datetime.date.today():%-d %B %Y} on {machine()}: the least of {runs} runs. Other work took {self.work:.2f} of the "
-        text += f"{os.cpu_count()} processors meanwhile, and the host kept back {self.stolen:.2f} of them."
+        text = f"Measured on {datetime.date.today():%-d %B %Y} on {machine()}: the least of {runs} runs. Other work took {self.work:.2f} "
+        text += f"of the {os.cpu_count()} processors meanwhile, and the host kept back {self.stolen:.2f} of them."
         if self.work + self.stolen > 0.1:
             text += " That is more than a tenth of a processor: the times are those of a busy machine, and the ratios tell more, since the"
             text += " programs took turns."
@@ -100,6 +101,7 @@ class Others:
 
 
 def machine():
+    """The processor, how many there are, and the kit."""
     with open("/proc/cpuinfo", encoding="utf-8") as file:
         model = next((line.split(":")[1].strip() for line in file if line.startswith("model name")), "an unknown processor")
     kit = subprocess.run(["rt", "version"], capture_output=True, text=True).stdout.splitlines() if shutil.which("rt") else []

@@ -29,6 +29,7 @@ def plot(series):
 
 
 def axes(at, sizes, most):
+    """Both axes with their marks."""
     step = 10 ** math.floor(math.log10(most / 2))
     for mark in range(int(most / step) + 1):
         _, y = at(sizes[0], mark * step)

@@ -102,6 +102,7 @@ def of_feed(bench, title, feed, programs):
 
 
 def times(row):
+    """A row of the first table."""
     lead, follow = row.modes["lead"]["ours"], row.modes["follow"]["ours"]
     return [
         row.title,
@@ -118,11 +119,13 @@ def times(row):
 
 
 def shortest(row):
+    """A row of the table on shortest tables."""
     least = row.modes["least"]["ours"]
     return [row.title, *(f"{count:,}" for count in row.counts), f"{least.seconds:.2f}", f"{least.kilobytes / 1024:.1f}"]
 
 
 def is_told(*measures):
+    """Runs that are over at once tell nothing."""
     return min(one.seconds for one in measures) >= 0.05
 
 
