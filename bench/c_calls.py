@@ -1,112 +1,123 @@
-"""The calls of the C library on a real feed, timed by c/bench.c, beside DPDK's and those of the Rust crate's map."""
-import math
-import os
-import random
+"""The part on the calls of the C library on a real feed, timed by c/bench.c, beside DPDK's and those of the Rust crate's map."""
 import shutil
-import socket
 import subprocess
 import sys
-from collections import namedtuple
 
-COUNT = 1_000_000
-MIXES = ("even", "Zipf")
+import calls
+import feeds
+import measure
+import page
 
-# The networks of a family, and for each side, call and mix the least nanoseconds: {(side, call, mix): ns}, without a mix for changes.
-Timed = namedtuple("Timed", "family networks least")
+SIDES = {"routes": "C library", "crate": "the crate's map", "rib": "`rte_rib`", "fib": "`rte_fib`"}
+CHANGES = {"add": "add", "del": "del", "index_open": "make the index"}
+LOOK_UPS = {"match": "longest match", "match_many": "longest match, 64", "index": "index", "index_many": "index, 64"}
+# The ways that stand beside the index, and of which of its calls.
+WAYS = (("routes", "match", "index", "over the table"), ("crate", "match", "index", "over the crate's map"),
+        ("rib", "match", "index", "over `rte_rib`"), ("fib", "index", "index", "over `rte_fib`"),
+        ("fib", "index_many", "index_many", "64, over `rte_fib`"))
+# How many times as fast as them the index is meant to be.
+AIMED = {"v4": {"routes": 5, "crate": 3}, "v6": {"routes": 2, "crate": 1.5}}
 
+TEXT = """The calls of the C library (docs/C.md) on the real feed, by `c/bench.c`: each network of a family is added, in the feed's order,
+{asked} addresses of each mix are looked up, and each network is taken out, in another order. Look-ups are of one address in a call, or of
+64. Each run is a process; a figure is in nanoseconds of its processor's time for one network or one address, as each reads it from the
+clock of its own process between the calls. The crate's map keeps one number a network, and is called from Rust; a table keeps up to eight
+routes, and its `add` and `del` tell the hop before and after. `rte_rib` and `rte_fib` are DPDK's{version}, for IPv6 `rte_rib6` and
+`rte_fib6`, without huge pages; the fib is DIR24_8, for IPv6 TRIE, with four bytes a hop. Like an index it tells hops alone; unlike an
+index it takes changes, which its `add` and `del` are. All sides stored as many networks and told the same hop for each address; the crate
+found the same networks. What a side has not is `-`.{missing}"""
 
-def build(root, folder, archive):
-    """The program, and the sides that it has: with DPDK where its package is here."""
-    if shutil.which(os.environ.get("CC", "cc")) is None:
-        return None, ()
-    library = folder / "library"
-    made([root / "c/library", library, "/usr"], env=os.environ | {"ARCHIVE": str(archive)}, stdout=subprocess.DEVNULL)
-    told = subprocess.run(["pkg-config", "--cflags", "--libs", "libdpdk"], capture_output=True, text=True) if shutil.which("pkg-config") else None
-    dpdk = ["-DDPDK", *told.stdout.split()] if told and told.returncode == 0 else []
-    compiler = [os.environ.get("CC", "cc"), "-std=c11", "-O2", f"-I{root}/include"]
-    made([*compiler, root / "c/bench.c", library / "libroutes.a", *dpdk, "-o", folder / "c_bench"])
-    return folder / "c_bench", ("routes", "rib", "fib") if dpdk else ("routes",)
-
-
-def made(command, **more):
-    if subprocess.run(command, **more).returncode != 0:
-        sys.exit(f"bench: {' '.join(map(str, command))} failed")
-
-
-def drawn(networks, mix, draw):
-    """Addresses, each drawn evenly from a network that is drawn evenly, or by its rank in a random order: that of rank r is r times as
-    rare as the first."""
-    networks = draw.sample(networks, len(networks))
-    for _ in range(COUNT):
-        rank = draw.random() * len(networks) if mix == "even" else math.exp(draw.random() * math.log(len(networks) + 1)) - 1
-        text, length = networks[min(int(rank), len(networks) - 1)].split("/")
-        family, width = (socket.AF_INET6, 128) if ":" in text else (socket.AF_INET, 32)
-        number = int.from_bytes(socket.inet_pton(family, text), "big") | draw.getrandbits(128) & (1 << width - int(length)) - 1
-        yield f"{socket.inet_ntop(family, number.to_bytes(width // 8, 'big'))}/{width}\n"
+RATIOS = """How many times as fast the index is as the other ways, of one address in a call; the last column is of 64. Below 1 it is slower.
+Aimed at are {aims}. {met}"""
 
 
-def files(feed, family, folder):
-    """The networks with their hops, the networks alone, and the addresses of each mix."""
+def networks_of(feed, family, folder):
+    """The networks of a family; and in files, these with their hops, and alone."""
     with open(feed, encoding="ascii") as file:
         lines = [line[4:] for line in file if line.startswith("add ") and (":" in line) == (family == "v6")]
     networks = [line.split()[0] for line in lines]
-    routes, stored = folder / f"routes-{family}", folder / f"stored-{family}"
+    routes, alone = folder / f"routes-{family}", folder / f"stored-{family}"
     routes.write_text("".join(lines))
-    stored.write_text("\n".join(networks))
-    asked = [folder / f"asked-{family}-{mix}" for mix in MIXES]
-    for path, mix in zip(asked, MIXES):
-        with open(path, "w", encoding="ascii") as file:
-            file.writelines(drawn(networks, mix, random.Random(f"{family} {mix}")))
-    return networks, routes, stored, asked
+    alone.write_text("\n".join(networks))
+    return networks, routes, alone
 
 
-def run(command):
-    told = subprocess.run(list(map(str, command)), capture_output=True, text=True)
-    if told.returncode != 0:
-        sys.exit(f"bench: {' '.join(map(str, command))}: {told.stderr.strip()}")
-    return told.stdout.splitlines()
-
-
-def of_side(program, side, family, routes, asked):
-    """What each call took and gave: {(call, mix): (ns, result)}."""
+def timed(bench, program, sides, feed, family):
+    """How many networks the family has, and the least times."""
+    networks, routes, alone = networks_of(feed, family, bench.folder)
+    asked = calls.asked(bench.folder, family, networks, bench.asked)
     found = {}
-    for call, file, taken, result in map(str.split, run([*program, side, family, routes, *asked])):
-        found[call, MIXES[int(file) - 1] if int(file) else None] = float(taken), int(result)
-    return found
+    for side in sides:
+        found[side] = lambda side=side: calls.of_lines(measure.run([*bench.pin, program, side, family, routes, *asked]))
+    if bench.given.map_peer:
+        found["crate"] = lambda: calls.of_crate([*bench.pin, bench.given.map_peer], family, alone, asked)
+    return len(networks), calls.timed(f"IP{family}", bench.runs, found)
 
 
-def of_crate(peer, family, stored, asked):
-    """The same of the crate's map, by the peer's program `micro`, of one round."""
-    found = {}
-    for mix, path in zip(MIXES, asked):
-        rows = {row[0]: row for row in (line.split(",") for line in run([*peer, family, stored, path, 1]))}
-        for call, name, key in (("add", "insert", None), ("match", "get_lpm", mix), ("del", "remove", None)):
-            row = float(rows[name][4]), int(rows[name][5])
-            found[call, key] = min(row, found.get((call, key), row))
-    return found
+def changes(parts):
+    """A row for each family and change."""
+    for family, (count, least) in parts.items():
+        for call, title in CHANGES.items():
+            yield [f"IP{family}, {count:,}", title, *(calls.nanoseconds(least.get((side, call, None))) for side in SIDES)]
 
 
-def agreed(family, seen):
-    """All sides store as many networks, and each look-up of a mix tells the same hops; the crate's, the same networks."""
-    ours = seen["routes"]
-    for side, found in seen.items():
-        for (call, mix), (_, result) in found.items():
-            like = ("matched" if side == "crate" else "match", mix) if mix else ("add", None) if call == "index_open" else (call, None)
-            if call != "matched" and result != ours[like][1]:
-                sys.exit(f"bench: {call} of {side} with IP{family}, {mix} addresses, gives {result}, and {like[0]} of the library {ours[like][1]}")
+def look_ups(parts):
+    """A row for each family, mix and look-up. A fib stands beside the index."""
+    for family, (_, least) in parts.items():
+        for mix in feeds.MIXES:
+            for call, title in LOOK_UPS.items():
+                yield [f"IP{family}, {mix}", title, *(calls.nanoseconds(least.get((side, call, mix))) for side in SIDES)]
 
 
-def timed(program, sides, peer, pin, feed, folder, runs):
-    """Each family: the sides take turns, and each has the least of its runs."""
-    for family in ("v4", "v6"):
-        networks, routes, stored, asked = files(feed, family, folder)
-        least = {}
-        for _ in range(runs):
-            seen = {side: of_side([*pin, program], side, family, routes, asked) for side in sides}
-            if peer:
-                seen["crate"] = of_crate([*pin, peer], family, stored, asked)
-            agreed(family, seen)
-            for side, found in seen.items():
-                for (call, mix), (taken, _) in found.items():
-                    least[side, call, mix] = min(taken, least.get((side, call, mix), taken))
-        yield Timed(family, len(networks), least)
+def ratios(parts):
+    """A row for each family and mix: how many times as fast the index is as each other way."""
+    for family, (_, least) in parts.items():
+        for mix in feeds.MIXES:
+            cells = [calls.times_as_fast(least.get((side, way, mix)), least["routes", of, mix]) for side, way, of, _ in WAYS]
+            yield [f"IP{family}, {mix}", *cells]
+
+
+def met(parts):
+    """How many of the aims were met, and which were not, of those that were measured."""
+    titles = {side: title for side, way, _, title in WAYS if way == "match"}
+    count, missed = 0, []
+    for family, (_, least) in parts.items():
+        for mix in feeds.MIXES:
+            for side, aim in AIMED[family].items():
+                taken = least.get((side, "match", mix))
+                count += taken is not None
+                if taken is not None and taken < aim * least["routes", "index", mix]:
+                    missed.append(f"IP{family}, {mix}, {titles[side]}")
+    return f"Of these {count}, {count - len(missed)} are met." + (f" Missed: {'; '.join(missed)}." if missed else "")
+
+
+def aims():
+    """What is aimed at, in words."""
+    titles = {side: title for side, way, _, title in WAYS if way == "match"}
+    return ", ".join(f"{aim} {titles[side]} for IP{family}" for family, of in AIMED.items() for side, aim in of.items())
+
+
+def version():
+    """That of DPDK, where it is here."""
+    told = subprocess.run(["pkg-config", "--modversion", "libdpdk"], capture_output=True, text=True) if shutil.which("pkg-config") else None
+    return f", {told.stdout.strip()}" if told and told.returncode == 0 else ""
+
+
+def measured(bench):
+    """The part, measured; none without the real feed or a C compiler."""
+    feed, (program, sides) = bench.real(), calls.build(bench.root, bench.folder, bench.library())
+    if not feed or not program:
+        print("bench: the calls from C are left out, which need the real feed and a C compiler", file=sys.stderr)
+        return
+    with measure.Others() as others:
+        parts = {family: timed(bench, program, sides, feed, family) for family in ("v4", "v6")}
+    seen = {key for _, least in parts.values() for key in least}
+    text = TEXT.format(asked=f"{bench.asked:,}", version=version(), missing=calls.missing(SIDES, seen))
+    yield "From C", [
+        page.filled(text),
+        page.table(["networks", "call", *SIDES.values()], changes(parts)),
+        page.table(["addresses", "look-up", *SIDES.values()], look_ups(parts)),
+        page.filled(RATIOS.format(aims=aims(), met=met(parts))),
+        page.table(["addresses", *(title for *_, title in WAYS)], ratios(parts)),
+        page.filled(others.told(bench.runs)),
+    ]

@@ -14,7 +14,9 @@ The lengths lie as in a table of the public internet: most are /24 (IPv4) or /48
 allocations, some of which are announced themselves. Hops are few, and some are far more frequent than others. A route that is
 added to a stored network has one of three preferences; no network is given a ninth hop."""
 import ipaddress
+import math
 import random
+import socket
 import sys
 
 LENGTHS = {
@@ -26,6 +28,7 @@ WIDTH = {"v4": 32, "v6": 128}
 HOPS = 24
 MOST = 8
 PREFERENCES = ("50", "100", "200")
+MIXES = ("even", "Zipf")
 
 
 class Networks:
@@ -158,6 +161,19 @@ def over(path, count, seed):
             lines += [f"add {network} {hop} 200\n", f"del {network} {held[network]}\n"]
             held[network] = hop
     return lines[:count]
+
+
+def addresses(networks, mix, count):
+    """Addresses to look up, each drawn evenly from a network. For `even` that network is drawn evenly too; for `Zipf` by its place in a
+    random order, the first r times as often as the one at place r."""
+    draw = random.Random(f"{mix} {len(networks)}")
+    networks = draw.sample(networks, len(networks))
+    for _ in range(count):
+        place = draw.random() * len(networks) if mix == "even" else math.exp(draw.random() * math.log(len(networks) + 1)) - 1
+        text, length = networks[min(int(place), len(networks) - 1)].split("/")
+        family, width = (socket.AF_INET6, 128) if ":" in text else (socket.AF_INET, 32)
+        number = int.from_bytes(socket.inet_pton(family, text), "big") | draw.getrandbits(128) & (1 << width - int(length)) - 1
+        yield f"{socket.inet_ntop(family, number.to_bytes(width // 8, 'big'))}/{width}"
 
 
 def main():

@@ -1,81 +1,98 @@
-"""The calls of a map of prefixes, timed in a program of their own (bench/map_calls.rattle)."""
+"""The part on the calls of a map of prefixes: ours in a program of its own (bench/map_calls.rattle), beside other maps."""
 import random
-import shutil
 import subprocess
 import sys
-from collections import namedtuple
 from math import gcd
 
+import calls
 import feeds
+import measure
+import page
 
-CALLS = ("insert", "longest match", "walk", "remove")
+SIDES = {"ours": "`PrefixMap`", "crate": "the crate's", "rib": "`rte_rib`", "fib": "`rte_fib`", "radix": "py-radix"}
+ROWS = (("add", None, "insert"), ("match", "even", "longest match, even"), ("match", "Zipf", "longest match, Zipf"),
+        ("walk", None, "walk"), ("del", None, "remove"))
 
-# One call over a map of `count` networks: nanoseconds a network, ours and, where there is one, the peer's.
-Timed = namedtuple("Timed", "family count call ours peer")
-
-
-def build(root, folder):
-    """The program, proved and built over a copy of the crates that it stands on, since it is none of them."""
-    lines = (root / "crates.txt").read_text().splitlines()
-    under = lines[: next(place for place, line in enumerate(lines) if line.startswith("prefix_trie:")) + 1]
-    for line in under:
-        if not line.startswith("#"):
-            name = line.split(":")[0]
-            shutil.copytree(root / "crates" / name, folder / "crates" / name)
-    (folder / "crates/map_calls/src").mkdir(parents=True)
-    shutil.copy(root / "bench/map_calls.rattle", folder / "crates/map_calls/src/main.rt")
-    (folder / "crates.txt").write_text("\n".join([*under, "map_calls: ipnet prefix_trie", ""]))
-    made = subprocess.run(["rt", "run", "--", "v4"], cwd=folder / "crates/map_calls", stdin=subprocess.DEVNULL, capture_output=True, text=True)
-    if made.returncode != 0:
-        sys.exit(f"bench: map_calls can't be built\n{made.stdout}{made.stderr}")
-    return folder / "crates/map_calls/out/map_calls"
-
-
-def stride(count):
-    """A step through the list in an order that isn't that of storing."""
-    step = 7_368_787 % count
-    while gcd(step, count) != 1:
-        step += 1
-    return step
+TEXT = """`PrefixMap` alone, in a program of its own over `prefix_trie`: so many networks are stored, {asked} addresses of each mix are
+looked up, all networks are walked, and all are taken out in another order. Beside it the map of the Rust crate `prefix-trie` 0.10.1,
+called from Rust; DPDK's tables, as in "From C", of which `rte_fib` finds a hop and no network; and py-radix, called from Python, whose
+loop and reading of texts is a part of its times. Each run is a process; a figure is in nanoseconds of its processor's time for one
+network or one address, as each reads it from the clock of its own process between the calls. All stored as many networks, and found the
+same in each look-up. The last column is the crate's time over ours: above 1 we are faster.{missing}"""
 
 
 def lists(family, count):
-    """Networks to store, hosts to ask for (four of five inside one that is stored), and the networks in another order."""
+    """Networks to store, and the same in another order."""
     networks = feeds.Networks(random.Random(f"maps {family} {count}"), family, count)
     stored = {}
     while len(stored) < count:
         stored[networks.network()] = None
-    stored = list(stored)
-    asked = [networks.host(networks.draw.choice(stored) if networks.draw.random() < 0.8 else networks.network()) for _ in range(count)]
-    taken = [stored[place * stride(count) % count] for place in range(count)]
-    return [[networks.text(network) for network in part] for part in (stored, asked, taken)]
+    return shuffled([networks.text(network) for network in stored])
 
 
-def ours(program, pin, family, parts):
-    told = subprocess.run([*pin, program, family], input="\n\n".join("\n".join(part) for part in parts), capture_output=True, text=True, check=True)
-    lines = [tuple(map(int, line.split())) for line in told.stdout.splitlines()]
-    least = [min(lines[call :: len(CALLS)]) for call in range(len(CALLS))]
-    return [(time / len(parts[0]), result) for time, result in least]
+def shuffled(stored):
+    """The networks, and the same in an order that isn't that of storing: c/bench.c and the crate's program take this one too."""
+    step = 7_368_787 % len(stored)
+    while gcd(step, len(stored)) != 1:
+        step += 1
+    return stored, [stored[place * step % len(stored)] for place in range(len(stored))]
 
 
-def theirs(program, pin, family, parts, folder):
-    """The peer's program `micro`, on the same networks: the least of its rounds, and what came of each call."""
-    stored, asked = folder / "stored", folder / "asked"
-    stored.write_text("\n".join(parts[0]))
-    asked.write_text("\n".join(parts[1]))
-    told = subprocess.run([*pin, program, family, stored, asked], capture_output=True, text=True, check=True)
-    rows = {row.split(",")[0]: row.split(",") for row in told.stdout.splitlines()}
-    return [(float(rows[call][4]), int(rows[call][5])) for call in ("insert", "get_lpm", "iter", "remove")]
+def ours(program, pin, family, given):
+    """The map's calls, of which the program prints the nanoseconds of all networks or addresses, and of how many."""
+    with open(given, encoding="ascii") as file:
+        lines = [line.split() for line in measure.run([*pin, program, family], stdin=file)]
+    return calls.of_lines(f"{call} {mix} {int(taken) / int(count)} {result}" for call, mix, count, taken, result in lines)
 
 
-def timed(program, peer, pin, folder, counts):
-    """Each call over each map. The run ends with a message where a call of the peer gives another result."""
-    for family in ("v4", "v6"):
-        for count in counts:
-            parts = lists(family, count)
-            left = ours(program, pin, family, parts)
-            right = theirs(peer, pin, family, parts, folder) if peer else [None] * len(CALLS)
-            for call, our, their in zip(CALLS, left, right):
-                if their and our[1] != their[1]:
-                    sys.exit(f"bench: {call} of {count} networks of IP{family} gives {our[1]}, and the peer {their[1]}")
-                yield Timed(family, count, call, our[0], their and their[0])
+def python_with_radix():
+    """This Python, or the system's, where py-radix is one of its modules."""
+    for python in (sys.executable, "/usr/bin/python3"):
+        if subprocess.run([python, "-c", "import radix"], capture_output=True).returncode == 0:
+            return python
+    return None
+
+
+def sides_of(bench, programs, family, count):
+    """For each side that is here, a call that runs it."""
+    stored, taken = lists(family, count)
+    asked = calls.asked(bench.folder, family, stored, bench.asked)
+    given, alone, routes = (bench.folder / name for name in ("given", "stored", "routes"))
+    given.write_text("\n\n".join(["\n".join(stored), *(path.read_text().strip() for path in asked), "\n".join(taken)]))
+    alone.write_text("\n".join(stored))
+    routes.write_text("".join(f"{network} {place}\n" for place, network in enumerate(stored)))
+    program, (c_program, c_sides), peer, python = programs
+    found = {"ours": lambda: ours(program, bench.pin, family, given)}
+    if peer:
+        found["crate"] = lambda: calls.of_crate([*bench.pin, peer], family, alone, asked)
+    for side in c_sides:
+        found[side] = lambda side=side: calls.of_lines(measure.run([*bench.pin, c_program, side, family, routes, *asked]))
+    if python:
+        command = [*bench.pin, python, bench.root / "bench/radix_calls.py", alone, *asked]
+        found["radix"] = lambda: calls.of_lines(measure.run(command))
+    return found
+
+
+def rows(family, count, least):
+    """A row for each call."""
+    for call, mix, title in ROWS:
+        taken = {side: least.get((side, call, mix)) for side in SIDES}
+        if call == "match":
+            taken["fib"] = least.get(("fib", "index", mix))
+        cells = [calls.nanoseconds(one) for one in taken.values()]
+        yield [f"IP{family}, {count:,}", title, *cells, calls.times_as_fast(taken["crate"], taken["ours"])]
+
+
+def measured(bench):
+    """The part, measured."""
+    programs = bench.map_calls(), calls.build(bench.root, bench.folder), bench.given.map_peer, python_with_radix()
+    body, seen = [], {}
+    with measure.Others() as others:
+        for family in ("v4", "v6"):
+            for count in bench.counts(100_000, 1_000_000):
+                title = f"IP{family}, {count:,} networks"
+                least = calls.timed(title, bench.runs, sides_of(bench, programs, family, count))
+                seen |= least
+                body += rows(family, count, least)
+    text = page.filled(TEXT.format(asked=f"{bench.asked:,}", missing=calls.missing(SIDES, seen)))
+    yield "Map calls", [text, page.table(["networks", "call", *SIDES.values(), "speed"], body), page.filled(others.told(bench.runs))]

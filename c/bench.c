@@ -1,5 +1,5 @@
-/* Times calls of the library, or of DPDK where it is compiled with -DDPDK, over networks and addresses from files: bench/c_calls.py
- * builds and runs it.
+/* Times calls of the library, where it isn't compiled with -DNO_LIBRARY, and of DPDK where it is with -DDPDK, over networks and addresses
+ * from files: bench/calls.py builds it, bench/c_calls.py and bench/maps.py run it.
  *
  * usage: bench routes|rib|fib v4|v6 NETWORKS ADDRESSES ..
  *
@@ -48,8 +48,6 @@ struct asked {
 typedef void change(const struct line *line);
 typedef void look_up(struct asked *asked);
 
-static routes_table table;
-static routes_index indexed;
 static int is_v6;
 
 static void fail(const char *what) {
@@ -156,7 +154,11 @@ static void looked_up(const char *call, int file, look_up *all, struct asked *as
 /* How many addresses the next call of many takes. */
 static size_t part(const struct asked *asked, size_t from) { return asked->count - from < MANY ? asked->count - from : MANY; }
 
+#ifndef NO_LIBRARY
 /* The library. */
+
+static routes_table table;
+static routes_index indexed;
 
 static void add4(const struct line *line) {
     routes_change c;
@@ -256,6 +258,7 @@ static void routes(const struct lines *lines, struct asked *asked, int files) {
     for (int i = 0; i < files; i++) matched(lines, asked + i, i + 1);
     routes_close(&table);
 }
+#endif
 
 #ifdef DPDK
 /* DPDK's tables, in memory that isn't of huge pages. */
@@ -345,7 +348,7 @@ static void fib6_get_many(struct asked *a) {
 static void prepared(void) {
     char core[16];
     snprintf(core, sizeof core, "%d", sched_getcpu());
-    char *words[] = {"bench", "--no-huge", "-m", "2048", "--no-pci", "--no-telemetry", "--no-shconf", "--log-level=4", "-l", core};
+    char *words[] = {"bench", "--no-huge", "-m", "4096", "--no-pci", "--no-telemetry", "--no-shconf", "--log-level=4", "-l", core};
     held(rte_eal_init(sizeof words / sizeof *words, words) >= 0, "rte_eal_init");
 }
 
@@ -366,7 +369,7 @@ static void by_fib(const struct lines *lines, struct asked *asked, int files) {
     struct rte_fib_conf conf = {.type = RTE_FIB_DIR24_8, .default_nh = NO_HOP, .max_routes = 2 * (int)lines->count,
                                 .dir24_8 = {.nh_sz = RTE_FIB_DIR24_8_4B, .num_tbl8 = 1 << 16}};
     struct rte_fib6_conf conf6 = {.type = RTE_FIB6_TRIE, .default_nh = NO_HOP, .max_routes = 2 * (int)lines->count,
-                                  .trie = {.nh_sz = RTE_FIB6_TRIE_4B, .num_tbl8 = 1 << 19}};
+                                  .trie = {.nh_sz = RTE_FIB6_TRIE_4B, .num_tbl8 = (1 << 19) + 2 * lines->count}};
     prepared();
     held(is_v6 ? (fib6 = rte_fib6_create("fib6", SOCKET_ID_ANY, &conf6)) != NULL : (fib = rte_fib_create("fib", SOCKET_ID_ANY, &conf)) != NULL,
          "rte_fib_create");
@@ -386,15 +389,12 @@ int main(int argc, char **argv) {
     is_v6 = strcmp(argv[2], "v6") == 0;
     struct lines lines = lines_of(argv[3]);
     for (int i = 0; i < files; i++) asked[i] = asked_of(argv[4 + i]);
-    if (strcmp(argv[1], "routes") == 0)
-        routes(&lines, asked, files);
-#ifdef DPDK
-    else if (strcmp(argv[1], "rib") == 0)
-        by_rib(&lines, asked, files);
-    else if (strcmp(argv[1], "fib") == 0)
-        by_fib(&lines, asked, files);
+#ifndef NO_LIBRARY
+    if (strcmp(argv[1], "routes") == 0) return routes(&lines, asked, files), 0;
 #endif
-    else
-        fail("there is no such side");
-    return 0;
+#ifdef DPDK
+    if (strcmp(argv[1], "rib") == 0) return by_rib(&lines, asked, files), 0;
+    if (strcmp(argv[1], "fib") == 0) return by_fib(&lines, asked, files), 0;
+#endif
+    fail("there is no such side");
 }

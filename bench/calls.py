@@ -1,0 +1,99 @@
+"""Programs that time calls, each side in a process of its own: how they are built, what they print, and whether all tell the same."""
+import os
+import shutil
+import subprocess
+from collections import namedtuple
+
+import feeds
+from measure import fail, in_turns, run
+
+# Nanoseconds for one call, {(call, mix): ns}, without a mix for changes and walks; and what came of the calls, as pairs of a name and a
+# number.
+Calls = namedtuple("Calls", "times results")
+
+
+def build(root, folder, library=None):
+    """The program of c/bench.c, and the sides that it has: the library in this folder, if any, and DPDK where its package is here."""
+    compiler = os.environ.get("CC", "cc")
+    told = None
+    if shutil.which("pkg-config"):
+        told = subprocess.run(["pkg-config", "--cflags", "--libs", "libdpdk"], capture_output=True, text=True)
+    dpdk = ["-DDPDK", *told.stdout.split()] if told and told.returncode == 0 else []
+    if shutil.which(compiler) is None or not (dpdk or library):
+        return None, ()
+    ours = [library / "libroutes.a"] if library else ["-DNO_LIBRARY"]
+    program = folder / f"c_bench{'' if library else '_alone'}"
+    run([compiler, "-std=c11", "-O2", f"-I{root}/include", root / "c/bench.c", *ours, *dpdk, "-o", program])
+    return program, (("routes",) if library else ()) + (("rib", "fib") if dpdk else ())
+
+
+def of_lines(lines, count=1):
+    """What a program prints in lines `CALL FILE NANOSECONDS RESULT`, whose nanoseconds are of so many calls (c/bench.c says more)."""
+    calls = Calls({}, [])
+    for call, file, taken, result in map(str.split, lines):
+        mix = feeds.MIXES[int(file) - 1] if int(file) else None
+        if call != "matched":
+            calls.times[call, mix] = float(taken) / count
+        calls.results.append((named("hops" if mix and call != "matched" else "add" if call == "index_open" else call, mix), int(result)))
+    return calls
+
+
+def of_crate(peer, family, stored, asked):
+    """The same of the crate's map, by one round of the peer's program `micro` for each file of addresses."""
+    calls = Calls({}, [])
+    for mix, path in zip(feeds.MIXES, asked):
+        rows = {row[0]: row for row in (line.split(",") for line in run([*peer, family, stored, path, 1]))}
+        for call, row, of in (("add", "insert", None), ("matched", "get_lpm", mix), ("walk", "iter", None), ("del", "remove", None)):
+            calls.times.setdefault(("match" if of else call, of), float(rows[row][4]))
+            calls.results.append((named(call, of), int(rows[row][5])))
+    return calls
+
+
+def named(call, mix):
+    """Under which name all sides have to tell the same."""
+    return f"{call}, {mix} addresses" if mix else call
+
+
+def agreed(title, seen):
+    """All sides tell the same under one name."""
+    first = {}
+    for side, runs in seen.items():
+        for name, result in (pair for calls in runs for pair in calls.results):
+            known = first.setdefault(name, (side, result))
+            if known[1] != result:
+                fail(f"{title}: {name}: {result} by {side}, and {known[1]} by {known[0]}")
+
+
+def timed(title, runs, sides):
+    """The least nanoseconds of the runs, {(side, call, mix): ns}; the sides take turns, and agree."""
+    seen = in_turns(runs, sides)
+    agreed(title, seen)
+    least = {}
+    for side, calls in ((side, calls) for side, all_runs in seen.items() for calls in all_runs):
+        for (call, mix), taken in calls.times.items():
+            least[side, call, mix] = min(taken, least.get((side, call, mix), taken))
+    return least
+
+
+def asked(folder, family, networks, count):
+    """Files of addresses, one for each mix."""
+    paths = [folder / f"asked-{family}-{mix}" for mix in feeds.MIXES]
+    for path, mix in zip(paths, feeds.MIXES):
+        path.write_text("".join(f"{address}\n" for address in feeds.addresses(networks, mix, count)))
+    return paths
+
+
+def nanoseconds(taken):
+    """A cell of a table: a side that isn't here, or hasn't the call, has `-`."""
+    return "-" if taken is None else f"{taken:.0f}"
+
+
+def times_as_fast(theirs, ours):
+    """A cell for how many times as long they take."""
+    return "-" if theirs is None or ours is None else f"{theirs / ours:.2f}"
+
+
+def missing(sides, least):
+    """A sentence on the sides that aren't here."""
+    names = [name for side, name in sides.items() if not any(side == known for known, _, _ in least)]
+    return f" Not at hand, and so without figures: {', '.join(names)}." if names else ""

@@ -1,0 +1,200 @@
+"""The parts on the program: its modes over feeds, beside another program with these modes."""
+import os
+import subprocess
+import tempfile
+from collections import namedtuple
+from pathlib import Path
+
+import measure
+import page
+import plot
+
+MODES = ("lead", "follow", "least")
+GROWTH = (10_000, 30_000, 100_000, 300_000, 1_000_000)
+SHOWN = (100_000, 1_000_000)
+
+# A feed: its lines and bytes, those of the leader's output, {mode: {program: Measure}}, and the lengths of the lists.
+Row = namedtuple("Row", "title given answered modes counts")
+Counts = namedtuple("Counts", "flat least drops")
+
+TIMES = """Each feed is given to `routes lead`, whose output goes to a file and then to `routes follow` and `routes least`; theirs goes to
+files too. Each feed ends with `flat`, and the follower's output was compared with the leader's answer to it, and so was what a leader of
+the shortest table answers. No line of a feed was answered `bad` or `refused`. Commands and MB a second are of the leader (bytes read and
+written), lines a second of the follower.{real}"""
+REAL = " The real feed has {v4:,} networks of IPv4 and {v6:,} of IPv6."
+
+SHORTEST = """How many blocks the flat list has, and how many routes the shortest table with the same hops, of which some are `drop`. The
+time is that of `routes least`, which reads the leader's output first."""
+
+BESIDE = """A plain program with the same modes over the Rust crate `prefix-trie` 0.10.1, whose leader keeps a network's routes in an array
+of eight too; its outputs were compared with ours, and its shortest tables in length. Speed and memory as ours over its: above 1 we are
+faster, and use more. It writes each reply by itself; the second column is over one that writes as its buffer fills, which ours does while
+more lines are here. Of runs that are over at once no ratio is told: they have `-`. Of the others the slowest of one program on one feed
+took up to {spread:.2f} times as long as its fastest, by what else the machine did: so far off may a ratio of single runs be."""
+
+
+def sizes(path):
+    """Lines and bytes of a file."""
+    lines = total = 0
+    with open(path, "rb") as file:
+        while piece := file.read(1 << 20):
+            lines += piece.count(b"\n")
+            total += len(piece)
+    return lines, total
+
+
+def drops(path):
+    """How many lines give a network no hop."""
+    with open(path, "rb") as file:
+        return sum(line.endswith(b" drop\n") for line in file)
+
+
+def accepted(title, led):
+    """Every line of the feed was a command, and there was memory for it."""
+    found = subprocess.run(["grep", "-nxE", "-m", "1", "bad|refused", led], capture_output=True, text=True)
+    if found.returncode != 1:
+        measure.fail(f"{title}: line {found.stdout.strip() or found.stderr.strip()} of the leader's output")
+
+
+def check(led, followed):
+    """The follower's output is the leader's last reply."""
+    length = os.path.getsize(followed)
+    with open(led, "rb") as left, open(followed, "rb") as right:
+        left.seek(-length, os.SEEK_END)
+        while piece := right.read(1 << 20):
+            if left.read(1 << 20) != piece:
+                measure.fail(f"the follower's output is not the leader's flat list ({led})")
+
+
+def rebuilt(program, table, followed):
+    """A leader that is given this table has the same flat list."""
+    with tempfile.NamedTemporaryFile() as given, tempfile.NamedTemporaryFile() as led:
+        given.write(table + b"flat\n")
+        given.flush()
+        measure.once([program, "lead"], given.name, led.name)
+        check(led.name, followed)
+
+
+def in_mode(bench, mode, programs, source):
+    """What each program took in this mode, {program: Measure}, and its output."""
+    paths = {name: bench.folder / f"{mode}-{name}" for name in programs}
+    sides = {name: lambda name=name: measure.once([*bench.pin, programs[name], mode], source, paths[name]) for name in programs}
+    return {name: measure.least(seen) for name, seen in measure.in_turns(bench.runs, sides).items()}, paths
+
+
+def of_feed(bench, title, feed, programs):
+    """The programs over a feed. The leader whose replies are together runs in that mode alone."""
+    lead, led = in_mode(bench, "lead", programs, feed)
+    accepted(title, led["ours"])
+    whole = {name: program for name, program in programs.items() if name != "unflushed"}
+    follow, followed = in_mode(bench, "follow", whole, led["ours"])
+    least, shortened = in_mode(bench, "least", whole, led["ours"])
+    for name in programs:
+        if subprocess.run(["cmp", "-s", led["ours"], led[name]]).returncode != 0:
+            measure.fail(f"the two leaders differ on {title}")
+    for name in whole:
+        check(led["ours"], followed[name])
+        if sizes(shortened[name])[0] != sizes(shortened["ours"])[0]:
+            measure.fail(f"two shortest tables of {title} differ in length")
+    rebuilt(programs["ours"], shortened["ours"].read_bytes(), followed["ours"])
+    counts = Counts(sizes(followed["ours"])[0] - 1, sizes(shortened["ours"])[0], drops(shortened["ours"]))
+    return Row(title, sizes(feed), sizes(led["ours"]), dict(zip(MODES, (lead, follow, least))), counts)
+
+
+def times(row):
+    """A row of the first table."""
+    lead, follow = row.modes["lead"]["ours"], row.modes["follow"]["ours"]
+    return [
+        row.title,
+        f"{row.given[0]:,}",
+        f"{row.answered[0]:,}",
+        f"{lead.seconds:.2f}",
+        f"{row.given[0] / lead.seconds:,.0f}",
+        f"{(row.given[1] + row.answered[1]) / 1e6 / lead.seconds:.0f}",
+        f"{lead.kilobytes / 1024:.1f}",
+        f"{follow.seconds:.2f}",
+        f"{row.answered[0] / follow.seconds:,.0f}",
+        f"{follow.kilobytes / 1024:.1f}",
+    ]
+
+
+def shortest(row):
+    """A row of the table on shortest tables."""
+    least = row.modes["least"]["ours"]
+    return [row.title, *(f"{count:,}" for count in row.counts), f"{least.seconds:.2f}", f"{least.kilobytes / 1024:.1f}"]
+
+
+def is_told(*measures):
+    """Runs that are over at once tell nothing."""
+    return min(one.seconds for one in measures) >= 0.05
+
+
+def spread(rows):
+    """How many times as long as the fastest the slowest run of one program on one feed was."""
+    return max((one.spread for row in rows for mode in row.modes.values() for one in mode.values() if is_told(one)), default=1)
+
+
+def ratios(row):
+    """Their time over ours, and our memory over theirs."""
+    lead, follow, least = row.modes.values()
+    for mode, name in ((lead, "peer"), (lead, "unflushed"), (follow, "peer"), (least, "peer")):
+        told = name in mode and is_told(mode[name], mode["ours"])
+        yield f"{mode[name].seconds / mode['ours'].seconds:.2f}" if told else "-"
+    for mode in row.modes.values():
+        yield f"{mode['ours'].kilobytes / mode['peer'].kilobytes:.2f}"
+
+
+def rows_of(bench, programs, real):
+    """A row for each feed of the tables, and {family: [(count, row)]} for the plot, in which there are more loads."""
+    rows, growth = [], {"v4": [], "v6": []}
+    if real:
+        rows.append(of_feed(bench, "real, both families", real, programs))
+    for kind in ("churn", "walks"):
+        for family in growth:
+            for count in bench.counts(*SHOWN[:1]):
+                rows.append(of_feed(bench, f"{kind}, IP{family}, {count:,}", bench.made(kind, family, count), programs))
+    for family, grown in growth.items():
+        for count in bench.counts(*GROWTH):
+            shown = count in bench.counts(*SHOWN)
+            feed = bench.made("load", family, count)
+            row = of_feed(bench, f"load, IP{family}, {count:,}", feed, programs if shown else {"ours": programs["ours"]})
+            grown.append((count, row))
+            rows += [row] if shown else []
+    return rows, growth
+
+
+def points(growth):
+    """For each mode and family the number of networks and the nanoseconds for each line read."""
+    for mode in ("lead", "follow"):
+        for family, rows in growth.items():
+            lines = [(count, row.given[0] if mode == "lead" else row.answered[0], row.modes[mode]["ours"].seconds) for count, row in rows]
+            yield f"{mode}, IP{family}", [(count, seconds / lines * 1e9) for count, lines, seconds in lines]
+
+
+def networks_of(feed):
+    """How many networks of each family a feed adds."""
+    adds = [line for line in Path(feed).read_bytes().splitlines() if line.startswith(b"add ")]
+    v6 = sum(b":" in line for line in adds)
+    return {"v4": len(adds) - v6, "v6": v6}
+
+
+def measured(bench):
+    """The parts, measured; that beside another program where it is here."""
+    programs, real = bench.programs, bench.real()
+    with measure.Others() as others:
+        rows, growth = rows_of(bench, programs, real)
+    told = page.filled(others.told(bench.runs))
+    bench.plotted(plot.plot(list(points(growth))))
+    text = page.filled(TIMES.format(real=REAL.format(**networks_of(real)) if real else ""))
+    head = ["feed", "lines in", "lines out", "lead s", "commands/s", "MB/s", "MB", "follow s", "lines/s", "MB"]
+    picture = "![Time for each line read, by loads of networks in growing number](performance.svg)\n"
+    yield "Times and memory", [text, page.table(head, map(times, rows)), picture, told]
+    head = ["feed", "flat blocks", "routes", "of them `drop`", "least s", "MB"]
+    yield "Shortest tables", [page.filled(SHORTEST), page.table(head, map(shortest, rows)), told]
+    if "peer" in programs:
+        head = ["feed", "lead", "lead, replies together", "follow", "least", "memory of lead", "memory of follow", "memory of least"]
+        text = page.filled(BESIDE.format(spread=spread(rows)))
+        yield "Beside a Rust program", [text, page.table(head, ([row.title, *ratios(row)] for row in rows)), told]
+    if real:
+        lead = rows[0].modes["lead"]["ours"]
+        bench.headline(rows[0].given[0] - 1, rows[0].given[0] / lead.seconds, lead.kilobytes / 1024)
