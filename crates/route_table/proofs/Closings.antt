@@ -10,7 +10,7 @@ use Rattle.route_table.specs.declared.runs.Run.{Run}
 use Rattle.route_table.specs.declared.runs.Runs.{Runs}
 use Rattle.route_table.specs.declared.runs.Step.TheVariants as step
 use Rattle.route_table.specs.InnerRunning.{reach_of, topmost, coming, innermost, over, from_on, hops_left, ArePlaced, AreRuns, changes_left, StepsRun, IsPast, joined, step_of}
-use Rattle.route_table.proofs.Runs.{IsSpanOf, EndsBefore}
+use Rattle.route_table.proofs.PaintedRuns.{IsSpanOf, EndsBefore}
 use Rattle.route_table.proofs.Openings.{last_of, popped, inner_pushed, in_turn, ends_within, ends_from, closed_are, closed_here, closed_later, family_closes}
 use Rattle.route_table.proofs.Turns.{turned, hops_are, placed_as, changes_as, hand_from, ends_from_hand}
 

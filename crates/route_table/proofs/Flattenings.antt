@@ -12,10 +12,9 @@ use Rattle.ipnet.specs.IpSubnets.{ip_subnets}
 use Rattle.ipnet.specs.declared.ip_net.IpNet.{IpNet}
 use Rattle.ipnet_addr.specs.Addresses.{IsAddress}
 use Rattle.ipnet_addr.proofs.Members.{In, In-left, In-right, In-cases}
-use Rattle.ipnet_addr.proofs.Ascending.{In-from_All, All-from_In, Rising-from_pairs, pairs_from_Rising}
-use Rattle.ipnet_blocks.specs.Blocks.{Block, IsBlock}
+use Rattle.ipnet_addr.proofs.Ascending.{In-from_All}
+use Rattle.ipnet_blocks.specs.Blocks.{Block}
 use Rattle.ipnet_blocks.proofs.Lists.{rising_front}
-use Rattle.route_choices.specs.Hops.{IsHop}
 use Rattle.route_laws.specs.Tables.{Route, IsTable, hop_at}
 use Rattle.route_table.specs.declared.flat.Pieces.{Pieces}
 use Rattle.route_laws.specs.Flats.{Piece, IsFlat, flat_of}
@@ -28,6 +27,7 @@ use Rattle.route_table.proofs.FlatRuns.{IsFirstSpan, IsPastSpan, first_then_rest
 use Rattle.std.proofs.lemmas.Option.{none-some}
 use Rattle.route_table.proofs.Painted.{topmost_is}
 use Rattle.route_table.proofs.Openings.{rising_back}
+use Rattle.route_laws.proofs.Insides.{rising, sound, table_of}
 use Rattle.route_laws.proofs.Updates.{Sooner}
 use Rattle.route_table.proofs.Gaps.{blocks_given, some_cut, cut_of_limits}
 
@@ -132,18 +132,10 @@ module _ (w : BothRuns) (a : AreBoth w) (v : Runs) (r : Run) (s : IpSubnets) whe
 -- ---- the whole walk
 
 pub table_left : (rs ss : List Route) → IsTable (rs ++ ss) → IsTable rs
-table_left rs ss t = record {
-  blocks = All-from_In (λ (r : Route). IsBlock r.block) rs (λ r i. In-from_All (λ (r : Route). IsBlock r.block) (rs ++ ss) t.blocks r (In-left r rs ss i));
-  hops = All-from_In (λ (r : Route). IsHop r.hop) rs (λ r i. In-from_All (λ (r : Route). IsHop r.hop) (rs ++ ss) t.hops r (In-left r rs ss i));
-  ascending = pairs_from_Rising Sooner rs (rising_front Sooner rs ss (Rising-from_pairs Sooner (rs ++ ss) t.ascending));
-}
+table_left rs ss t = table_of rs (λ r i. sound (rs ++ ss) t r (In-left r rs ss i)) (rising_front Sooner rs ss (rising (rs ++ ss) t))
 
 pub table_right : (rs ss : List Route) → IsTable (rs ++ ss) → IsTable ss
-table_right rs ss t = record {
-  blocks = All-from_In (λ (r : Route). IsBlock r.block) ss (λ r i. In-from_All (λ (r : Route). IsBlock r.block) (rs ++ ss) t.blocks r (In-right r rs ss i));
-  hops = All-from_In (λ (r : Route). IsHop r.hop) ss (λ r i. In-from_All (λ (r : Route). IsHop r.hop) (rs ++ ss) t.hops r (In-right r rs ss i));
-  ascending = pairs_from_Rising Sooner ss (rising_back Sooner rs ss (Rising-from_pairs Sooner (rs ++ ss) t.ascending));
-}
+table_right rs ss t = table_of ss (λ r i. sound (rs ++ ss) t r (In-right r rs ss i)) (rising_back Sooner rs ss (rising (rs ++ ss) t))
 
 abbrev OfFamily : Family → List Route → Type 0
 OfFamily f rs = All (λ (r : Route). r.block.family ≡ f) rs
@@ -162,9 +154,9 @@ module _ (rs ss : List Route) (table : IsTable (rs ++ ss)) (ipv4 : OfFamily Ipv4
   both_paint h g p q x a = at x.family x.number a
     where
       at : (f : Family) (y : ℕ) → IsAddress (record { family = f; number = y }) → hops_in h g f y ≡ hop_at (rs ++ ss) (record { family = f; number = y })
-      at Ipv4 y a = p y ∙ topmost_is (rs ++ ss) table Ipv4 rs (rising_front Sooner rs ss (Rising-from_pairs Sooner (rs ++ ss) table.ascending))
+      at Ipv4 y a = p y ∙ topmost_is (rs ++ ss) table Ipv4 rs (rising_front Sooner rs ss (rising (rs ++ ss) table))
           (λ r i. (In-left r rs ss i, is_four r i)) (λ r i e. ⊎_elim (λ j. j) (λ j. absurd (apart r.block.family e (is_six r j))) (In-cases r rs ss i)) (record { family = Ipv4; number = y }) a refl
-      at Ipv6 y a = q y ∙ topmost_is (rs ++ ss) table Ipv6 ss (rising_back Sooner rs ss (Rising-from_pairs Sooner (rs ++ ss) table.ascending))
+      at Ipv6 y a = q y ∙ topmost_is (rs ++ ss) table Ipv6 ss (rising_back Sooner rs ss (rising (rs ++ ss) table))
           (λ r i. (In-right r rs ss i, is_six r i)) (λ r i e. ⊎_elim (λ j. absurd (apart r.block.family (is_four r j) e)) (λ j. j) (In-cases r rs ss i)) (record { family = Ipv6; number = y }) a refl
 
   pub whole_flat : (p : Pieces) (w : BothRuns) → pieces_of p ≡ [] → ((x : ℕ) → hops_left w.v4 x ≡ topmost None (map reach_of rs) x) → ((x : ℕ) → hops_left w.v6 x ≡ topmost None (map reach_of ss) x) → IsFlat (hop_at (rs ++ ss)) (pieces_left p w)

@@ -18,8 +18,7 @@ use Rattle.trie_core.specs.Nodes.{BitMap}
 use Rattle.trie_core.proofs.Leaves.{goes_on}
 use Rattle.route_choices.specs.Choices.{Choice}
 use Rattle.route_choices.proofs.Kept.{In-map}
-use Rattle.route_table.specs.InnerSides.{IsStored, block_at, stored_in}
-use Rattle.route_table.specs.Sides.{IsSide}
+use Rattle.route_table.specs.InnerSides.{IsStored, block_at, stored_in, IsSide}
 use Rattle.route_laws.specs.Networks.{IsLeaf, Stored, best_route, routes_of}
 use Rattle.route_laws.specs.Tables.{Governed, Route}
 use Rattle.route_table.proofs.Seams.{has_stored, in_side}

@@ -15,7 +15,7 @@ pub mod Governings
 pub mod Sides
 pub mod Leaves
 pub mod Emptied
-pub mod Runs
+pub mod PaintedRuns
 pub mod Openings
 pub mod Painted
 pub mod Turns

@@ -8,12 +8,12 @@ use Rattle.std.proofs.lemmas.List.Elements.{filter-append}
 use mathlib.Core.List.{reverse}
 use Rattle.ipnet_addr.proofs.Basics.{In-from_list_any, list_any-from_In}
 use Rattle.ipnet_addr.proofs.Members.{In, In-left}
-use Rattle.ipnet_addr.proofs.Ascending.{In-from_All, All-from_In, In-from_Contains, Rising}
+use Rattle.ipnet_addr.proofs.Ascending.{In-from_All, All-from_In, In-from_Contains}
 use Rattle.ipnet_blocks.specs.Blocks.{Block, IsBlock, IsBefore, same_block}
 use Rattle.ipnet_blocks.specs.Networks.{IsTruncated}
 use Rattle.ipnet_blocks.proofs.BlockLaws.{strict}
 use Rattle.ipnet_blocks.proofs.Lists.{rising_cross}
-use Rattle.ipnet_blocks.proofs.BlockTests.{same_from_test, test_from_same}
+use Rattle.ipnet_blocks.proofs.BlockTests.{same_from_test}
 use Rattle.ipnet.specs.IpNets.{block, family, parts, network_at}
 use Rattle.ipnet.specs.declared.ip_net.IpNet.{IpNet}
 use Rattle.ipnet.specs.declared.ip_net.IpNet.TheVariants.{V4, V6}
@@ -30,6 +30,7 @@ use Rattle.route_laws.proofs.Matches.{bools_same, filter_same, match_meets}
 use Rattle.route_laws.proofs.NetworksAt.{of_network_at}
 use Rattle.route_laws.proofs.Ordered.{put_last}
 use Rattle.route_table.specs.InnerBetween.{AreComing}
+use Rattle.route_table.proofs.Flattenings.{table_left}
 
 -- a network without host bits is that of its block
 pub network_is : (n : IpNet) → IsTruncated (family n) (parts n) → n ≡ network_at (block n)
@@ -41,13 +42,6 @@ is_truncated (V4 n) e = ap parts e
 is_truncated (V6 n) e = ap parts e
 
 -- ---- parts of tables
-
-rising_front : (M K : List Route) → Rising Sooner (M ++ K) → Rising Sooner M
-rising_front [] K h = tt
-rising_front (r ∷ M) K h = ((λ s i. h.0 s (In-left s M K i)), rising_front M K h.1)
-
-front_is_table : (M K : List Route) → IsTable (M ++ K) → IsTable M
-front_is_table M K t = table_of M (λ r i. sound (M ++ K) t r (In-left r M K i)) (rising_front M K (rising (M ++ K) t))
 
 pub rest_is_table : (r : Route) (M : List Route) → IsTable (r ∷ M) → IsTable M
 rest_is_table r M t = table_of M (λ s i. sound (r ∷ M) t s (inr i)) (rising (r ∷ M) t).1
@@ -61,7 +55,7 @@ IsPlain p = IsTruncated (family p.0) (parts p.0)
 pub front_comes : (xs front : List (IpNet × Hop)) (p : IpNet × Hop) → xs ≡ front ++ p ∷ [] → AreComing xs → AreComing front × IsBlock (block p.0) × (p.0 ≡ network_at (block p.0))
 front_comes xs front p e c = (
   record {
-    table = front_is_table (routes_for front) (routes_for (p ∷ [])) (subst IsTable (ap routes_for e ∙ map-append route_for front (p ∷ [])) c.table);
+    table = table_left (routes_for front) (routes_for (p ∷ [])) (subst IsTable (ap routes_for e ∙ map-append route_for front (p ∷ [])) c.table);
     truncated = All-from_In IsPlain front (λ q i. plain q (In-left q front (p ∷ []) i));
   },
   (sound (routes_for xs) c.table (route_for p) (subst (λ (ys : List (IpNet × Hop)). In (route_for p) (routes_for ys)) (sym e) (map_In route_for (front ++ p ∷ []) p (last front)))).0,
@@ -170,9 +164,6 @@ module _ (p : IpNet × Hop) (rest : List (IpNet × Hop)) (n : IpNet) where
       go : (c : Bool) → same_block (block p.0) b ≡ c → is_stored (routes_for rest) b ≡ is_stored (routes_for (p ∷ rest)) b
       go true e = absurd (behind (subst (λ (d : Block). IsBefore d (block n)) (same_from_test (block p.0) b e) l))
       go false e = ap (λ c. c || is_stored (routes_for rest) b) (sym e)
-
-  pub found_first : p.0 ≡ n → true ≡ is_stored (routes_for (p ∷ rest)) (block n)
-  found_first e = ap (λ c. c || is_stored (routes_for rest) (block n)) (sym (test_from_same (block p.0) (block n) (ap block e)))
 
   pub not_there : IsTable (routes_for (p ∷ rest)) → IsBefore (block n) (block p.0) → false ≡ is_stored (routes_for (p ∷ rest)) (block n)
   not_there t l = go (is_stored (routes_for (p ∷ rest)) (block n)) refl

@@ -7,7 +7,7 @@ use Rattle.ipnet_addr.proofs.Ascending.{In-from_All, All-from_In, Rising, Rising
 use Rattle.ipnet_blocks.proofs.Lists.{rising_append, rising_cross, rising_front}
 use Rattle.route_table.specs.declared.runs.Reach.{Reach}
 use Rattle.route_table.specs.InnerRunning.{topmost, innermost, from_on, IsApartOrInside, IsOpen, IsComing, ArePlaced}
-use Rattle.route_table.proofs.Runs.{lies, lies_before, lies_after, IsSpanOf}
+use Rattle.route_table.proofs.PaintedRuns.{lies, lies_before, lies_after, IsSpanOf}
 
 -- ---- the topmost of some routes
 

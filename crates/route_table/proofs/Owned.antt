@@ -126,12 +126,6 @@ module _ (M : List Route) (k : ℕ) (B : Address → Type 0) (ns : List IpNet) w
       with_it : Any (Owns M k x) (r ∷ fs) → Any (Owns M k x) rs
       with_it o = subst (λ ss. Any (Owns M k x) ss) (sym e) o
 
-pub grown : (M : List Route) (k : ℕ) (ns ms : List IpNet) (all rs : List Route) → rs ≡ [] → Keeps M k (λ x. InSome (map block ns) x ⊎ IsOwned M k all x) ns ms rs → GrowsBy ns (IsOwned M k all) ms
-grown M k ns ms all rs e keeps x a = (
-  λ h. (keeps x a).0 (inl h),
-  λ b. ⊎_elim (λ h. h) (λ o. let t = In-from_Any (Owns M k x) rs o in absurd (subst (λ ss. In t.0 ss) e t.1)) ((keeps x a).1 b),
-)
-
 -- by the blocks that a route of the number governs
 pub grows_by_governed : (M : List Route) → IsTable M → (k : ℕ) (r : Route) (ns ms : List IpNet) (bs : List Block) → IsBlock r.block → number_of r.hop ≡ Some k → IsMaximal (Governed M r.block) bs → map block ms ≡ map block ns ++ bs → GrowsBy ns (λ x. Owns M k x r) ms
 grows_by_governed M table k r ns ms bs ok is m e x a = (

@@ -15,7 +15,7 @@ use Rattle.route_table.specs.InnerRunning.{IsApartOrInside, IsOpen, IsComing, Ar
 use Rattle.route_table.specs.declared.runs.Reach.{Reach}
 use Rattle.route_table.proofs.Governings.{first_to_last}
 use Rattle.route_laws.proofs.Matches.{block_in, match_from, match_meets}
-use Rattle.route_table.proofs.Runs.{lies, lies_before, lies_after}
+use Rattle.route_table.proofs.PaintedRuns.{lies, lies_before, lies_after}
 use Rattle.route_laws.proofs.Updates.{Sooner}
 
 abbrev Has : ℕ → Route → Type 0

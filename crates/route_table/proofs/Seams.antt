@@ -12,8 +12,7 @@ use Rattle.ipnet_blocks.proofs.Order.{order_of_strings}
 use Rattle.trie_core.specs.Nodes.{BitMap}
 use Rattle.route_choices.specs.Choices.{Choice, AreChoices}
 use Rattle.route_choices.proofs.Kept.{In-map, map_In}
-use Rattle.route_table.specs.InnerSides.{block_at, route_at, stored_at, stored_in, IsStored}
-use Rattle.route_table.specs.Sides.{IsSide}
+use Rattle.route_table.specs.InnerSides.{block_at, route_at, stored_at, stored_in, IsStored, IsSide}
 use Rattle.route_laws.specs.Networks.{Stored, IsStoredTable, routes_of}
 use Rattle.route_table.proofs.Entries.{KeysRise, rising, in_entries, get_of}
 use Rattle.route_laws.proofs.Ordered.{Earlier}

@@ -11,7 +11,7 @@ use Rattle.ipnet_blocks.specs.BitStrings.{bits_cmp}
 use Rattle.route_choices.specs.Choices.{Choice, AreChoices, choices_with, choices_without}
 use Rattle.route_choices.specs.declared.hop.Hop.{Hop}
 use Rattle.route_choices.proofs.Kept.{In-map, Rising-joined, all_kept, none_kept, filter_map_swap}
-use Rattle.route_table.specs.Sides.{IsSide}
+use Rattle.route_table.specs.InnerSides.{IsSide}
 use Rattle.route_laws.specs.Networks.{Stored, IsStoredTable, best_route, choices_at, networks_outside, routes_of, with_choice, with_choices, with_stored, without_choice, without_stored}
 use Rattle.route_laws.specs.Onwards.{count_of}
 use Rattle.route_laws.specs.Tables.{Route, IsTable, covering, longest, match_of, routes_inside}

@@ -1,6 +1,5 @@
 -- A change at one key of a side's map is a change of one network.
-use Rattle.std.proofs.Common.{◌≡◌, ◌≤◌, ◌⊎◌, inl, inr, ⊎_elim, Bool, true, false, cond, List, [], ◌∷◌, length, Option, Some, None, IsSome, ◌↔◌, unwrap_or, refl, sym, ap, ◌∙◌, subst, arith}
-use Rattle.std.specs.Prelude.{IsTrue}
+use Rattle.std.proofs.Common.{◌≡◌, ◌≤◌, ◌⊎◌, inl, inr, ⊎_elim, Bool, true, false, cond, List, [], ◌∷◌, length, Option, Some, None, IsSome, unwrap_or, refl, sym, ap, ◌∙◌, subst, arith}
 use Rattle.std.specs.FinMap.{get, insert, remove, get-insert, get-remove}
 use Rattle.ipnet_addr.specs.Addresses.{width}
 use Rattle.ipnet_blocks.specs.Blocks.{Block, IsBlock, bit_string}
@@ -112,13 +111,6 @@ module _ (b : Block) (okb : IsBlock b) (m : BitMap (List Choice)) (ok : IsStored
 
   pub some_at : (cs : List Choice) → get m (bit_string b) ≡ Some cs → choices_at side b ≡ cs
   some_at cs e = choices_are b okb m ok ∙ ap (λ o. unwrap_or o []) e
-
-  pub not_none_at : IsSome (get m (bit_string b)) → choices_at side b ≡ [] → ⊥
-  not_none_at = go (get m (bit_string b)) refl
-    where
-      go : (o : Option (List Choice)) → get m (bit_string b) ≡ o → IsSome o → choices_at side b ≡ [] → ⊥
-      go None e s q = cc
-      go (Some cs) e s q = ok.some (bit_string b) cs e (sym (some_at cs e) ∙ q)
 
   pub is_some_at : (choices_at side b ≡ [] → ⊥) → IsSome (get m (bit_string b))
   is_some_at some = go (get m (bit_string b)) refl

@@ -8,7 +8,7 @@ use Rattle.route_table.specs.declared.runs.Run.{Run}
 use Rattle.route_table.specs.declared.runs.Runs.{Runs}
 use Rattle.route_table.specs.declared.runs.Step.TheVariants as step
 use Rattle.route_table.specs.InnerRunning.{reach_of, topmost, coming, innermost, over, from_on, hops_left, ArePlaced, IsAtHand, AreRuns, changes_left, StepsRun, joined, step_of}
-use Rattle.route_table.proofs.Runs.{IsSpanOf, EndsBefore, Ends, joins}
+use Rattle.route_table.proofs.PaintedRuns.{IsSpanOf, EndsBefore, Ends, joins}
 use Rattle.route_table.proofs.Openings.{comes, last_of, inner_pushed, room, opened_are, opened_here, opened_later}
 
 -- ---- the innermost of the stack

@@ -1,13 +1,18 @@
--- One side of a table as it is stored: a finite map from the bit strings of one family to the choices of networks.
-use Rattle.std.specs.Prelude.{◌≡◌, ◌≤◌, Bool, List, [], Some, length, map}
+-- One side of a table, and as it is stored: a finite map from the bit strings of one family to the choices of networks.
+use Rattle.std.specs.Prelude.{◌≡◌, ◌≤◌, Bool, List, [], Some, length, map, All}
 use Rattle.std.specs.FinMap.{get, entries}
 use Rattle.ipnet_addr.specs.Addresses.{Family, width}
 use Rattle.ipnet_blocks.specs.Blocks.{Block}
 use Rattle.trie_core.specs.Bits.{number_from}
 use Rattle.trie_core.specs.Nodes.{BitMap}
 use Rattle.route_choices.specs.Choices.{Choice, AreChoices}
-use Rattle.route_laws.specs.Networks.{Stored, best_route}
+use Rattle.route_laws.specs.Networks.{Stored, IsStoredTable, best_route}
 use Rattle.route_laws.specs.Tables.{Route}
+
+-- a table of networks of one family
+pub record IsSide (f : Family) (T : List Stored) : Type 0 where
+  pub table : IsStoredTable T
+  pub family : All (λ s. s.block.family ≡ f) T
 
 -- the block of a family whose bit string is given
 abbrev pub block_at : Family → List Bool → Block

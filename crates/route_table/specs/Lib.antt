@@ -1,4 +1,3 @@
-pub mod Sides
 pub mod Refusals
 pub mod Tries
 pub mod Items

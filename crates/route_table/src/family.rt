@@ -10,7 +10,7 @@ use ipnet::{IpNet, Ipv4Net, Ipv6Net};
 use prefix_trie::Prefix;
 
 /// The networks of one family, as the keys of a trie.
-pub trait OfFamily: Prefix + Copy + Drop {
+pub(crate) trait OfFamily: Prefix + Copy + Drop {
     ghost family: { Family };
 
     /// The number of its address, and its length.

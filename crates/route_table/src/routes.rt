@@ -35,7 +35,7 @@ impl<'a> Model for Routes<'a> {
 
 impl<'a> Routes<'a> {
     /// Those of IPv4.
-    pub fn v4(routes: SideRoutes<'a, Ipv4Net>) -> Routes<'a>
+    pub(crate) fn v4(routes: SideRoutes<'a, Ipv4Net>) -> Routes<'a>
         ensures { result ≡ routes.entry }
     {
         Routes {
@@ -44,7 +44,7 @@ impl<'a> Routes<'a> {
     }
 
     /// Those of IPv6.
-    pub fn v6(routes: SideRoutes<'a, Ipv6Net>) -> Routes<'a>
+    pub(crate) fn v6(routes: SideRoutes<'a, Ipv6Net>) -> Routes<'a>
         ensures { result ≡ routes.entry }
     {
         Routes {

@@ -7,9 +7,9 @@ ghost use Rattle.trie_core.specs.Count.{nodes, visit_count};
 ghost use Rattle.prefix_trie.specs.declared.refused.Refused.TheVariants.{Memory};
 ghost use Rattle.route_choices.specs.Choices.{has_none, holds_hop, is_one_too_many};
 ghost use Rattle.route_choices.specs.Hops.{IsHop};
-ghost use Rattle.route_table.specs.Sides.{IsSide};
 ghost use Rattle.route_laws.specs.Onwards.{count_of, routes_after, routes_from};
 ghost use Rattle.route_laws.specs.Networks.{IsLeaf, choices_at, networks_outside, routes_of, with_choice, with_choices, without_choice};
+ghost use Rattle.route_table.specs.InnerSides.{IsSide};
 ghost use Rattle.route_table.specs.Refusals.{IsRefused};
 ghost use Rattle.route_table.specs.Tries.{map_of};
 ghost use Rattle.route_laws.specs.Tables.{covering, match_of, match_number, routes_inside, item_of};
@@ -39,7 +39,7 @@ fn change(
 ///
 /// The calls ask for networks whose bits name a block: the host bits of an argument are cleared above.
 #[derive(Drop)]
-pub struct Side<P: OfFamily, const ROOM: usize> {
+pub(crate) struct Side<P: OfFamily, const ROOM: usize> {
     networks: PrefixMap<P, Choices<ROOM>>,
 }
 
@@ -61,7 +61,7 @@ impl<P: OfFamily, const ROOM: usize> Side<P, ROOM> {
     ///
     /// # Errors
     /// None, as of `PrefixMap::new`.
-    pub fn new(alloc: Global) -> Result<Side<P, ROOM>, Refused>
+    pub(crate) fn new(alloc: Global) -> Result<Side<P, ROOM>, Refused>
         requires some { 0 < ROOM }
         requires few { ROOM ≤ 8 }
         ensures networks { IfOk result (λ s. s ≡ []) }
@@ -76,7 +76,7 @@ impl<P: OfFamily, const ROOM: usize> Side<P, ROOM> {
     ///
     /// # Errors
     /// `Memory` where there is none for a network that is not stored. The side is as it was.
-    pub fn store(&mut self, net: P, hop: Hop, pref: u16) -> Result<(), Refused>
+    pub(crate) fn store(&mut self, net: P, hop: Hop, pref: u16) -> Result<(), Refused>
         requires { IsBlock (block_of P.family (P.parts net)) }
         ensures hop { IsHop hop }
         ensures networks { OnOk result (self.new ≡ with_choices self.old (block_of P.family (P.parts net)) (record { hop = hop; pref = pref } ∷ [])) }
@@ -94,7 +94,7 @@ impl<P: OfFamily, const ROOM: usize> Side<P, ROOM> {
     }
 
     /// Takes out every network inside this one, itself included.
-    pub fn remove_inside(&mut self, net: P)
+    pub(crate) fn remove_inside(&mut self, net: P)
         requires { IsBlock (block_of P.family (P.parts net)) }
         ensures networks { self.new ≡ networks_outside self.old (block_of P.family (P.parts net)) }
         ensures side { IsSide P.family self.new }
@@ -103,7 +103,7 @@ impl<P: OfFamily, const ROOM: usize> Side<P, ROOM> {
     }
 
     /// Whether no network lies strictly inside this one.
-    pub fn is_leaf(&self, net: P) -> bool
+    pub(crate) fn is_leaf(&self, net: P) -> bool
         requires { IsBlock (block_of P.family (P.parts net)) }
         ensures { IsTrue result ↔ IsLeaf self.now (block_of P.family (P.parts net)) }
     {
@@ -111,7 +111,7 @@ impl<P: OfFamily, const ROOM: usize> Side<P, ROOM> {
     }
 
     /// The longest match.
-    pub fn get(&self, net: P) -> Option<(IpNet, Hop, u16)>
+    pub(crate) fn get(&self, net: P) -> Option<(IpNet, Hop, u16)>
         requires { IsBlock (block_of P.family (P.parts net)) }
         ensures { result ≡ option_map item_of (match_of (routes_of self.now) (block_of P.family (P.parts net))) }
     {
@@ -144,7 +144,7 @@ impl<P: OfFamily> Side<P, 8> {
     /// # Errors
     /// `TooMany` exactly where eight other hops are stored at the network. `Store` where there is no memory for a network
     /// that is not stored. The side is as it was.
-    pub fn add(
+    pub(crate) fn add(
         &mut self,
         net: P,
         hop: Hop,
@@ -191,7 +191,7 @@ impl<P: OfFamily> Side<P, 8> {
 
     /// Takes the route of this hop out of the network, where there is one, and the network with its last route. Answers
     /// the numbers of the best hop at the longest match before and after.
-    pub fn remove(&mut self, net: P, hop: Hop) -> Option<(Option<u32>, Option<u32>)>
+    pub(crate) fn remove(&mut self, net: P, hop: Hop) -> Option<(Option<u32>, Option<u32>)>
         requires { IsBlock (block_of P.family (P.parts net)) }
         ensures held { is_some result ≡ holds_hop (choices_at self.old (block_of P.family (P.parts net))) hop }
         ensures before { IfSome result (λ r. r.0 ≡ match_number (match_of (routes_of self.old) (block_of P.family (P.parts net)))) }
@@ -215,7 +215,7 @@ impl<P: OfFamily> Side<P, 8> {
     }
 
     /// The routes of this very network, best first.
-    pub fn all(&self, net: P) -> All<'_>
+    pub(crate) fn all(&self, net: P) -> All<'_>
         requires { IsBlock (block_of P.family (P.parts net)) }
         ensures { result ≡ choices_at self.now (block_of P.family (P.parts net)) }
     {
@@ -226,7 +226,7 @@ impl<P: OfFamily> Side<P, 8> {
     }
 
     /// How many nodes of the trie the search for the longest match visits.
-    pub fn visits(&self, net: P) -> u32
+    pub(crate) fn visits(&self, net: P) -> u32
         requires { IsBlock (block_of P.family (P.parts net)) }
         ensures visits { result ≡ visit_count (map_of P.family self.now) (bit_string (block_of P.family (P.parts net))) }
         ensures bound { result ≤ (P.parts net).len / 5 + 1 }
@@ -235,28 +235,28 @@ impl<P: OfFamily> Side<P, 8> {
     }
 
     /// How many networks there are.
-    pub fn count(&self) -> usize
+    pub(crate) fn count(&self) -> usize
         ensures { result ≡ count_of P.family (routes_of self.now) }
     {
         self.networks.len()
     }
 
     /// How many nodes the trie has.
-    pub fn node_count(&self) -> usize
+    pub(crate) fn node_count(&self) -> usize
         ensures { result ≡ nodes (map_of P.family self.now) }
     {
         self.networks.node_count()
     }
 
     /// The best routes of all networks.
-    pub fn iter(&self) -> SideRoutes<'_, P>
+    pub(crate) fn iter(&self) -> SideRoutes<'_, P>
         ensures { result ≡ routes_of self.now }
     {
         SideRoutes::new(Entries::Walk(self.networks.iter()))
     }
 
     /// The best routes of the networks inside this one, itself included.
-    pub fn list(&self, net: P) -> SideRoutes<'_, P>
+    pub(crate) fn list(&self, net: P) -> SideRoutes<'_, P>
         requires { IsBlock (block_of P.family (P.parts net)) }
         ensures { result ≡ routes_inside (routes_of self.now) (block_of P.family (P.parts net)) }
     {
@@ -264,7 +264,7 @@ impl<P: OfFamily> Side<P, 8> {
     }
 
     /// The best routes of the networks that contain this one, itself included, the shortest first.
-    pub fn cover(&self, net: P) -> SideRoutes<'_, P>
+    pub(crate) fn cover(&self, net: P) -> SideRoutes<'_, P>
         requires { IsBlock (block_of P.family (P.parts net)) }
         ensures { result ≡ covering (routes_of self.now) (block_of P.family (P.parts net)) }
     {
@@ -272,7 +272,7 @@ impl<P: OfFamily> Side<P, 8> {
     }
 
     /// The best routes of the networks that do not come before this one.
-    pub fn from(&self, net: P) -> SideRoutes<'_, P>
+    pub(crate) fn from(&self, net: P) -> SideRoutes<'_, P>
         requires { IsBlock (block_of P.family (P.parts net)) }
         ensures { result ≡ routes_from (routes_of self.now) (block_of P.family (P.parts net)) }
     {
@@ -280,7 +280,7 @@ impl<P: OfFamily> Side<P, 8> {
     }
 
     /// The best routes of the networks that come after this one.
-    pub fn after(&self, net: P) -> SideRoutes<'_, P>
+    pub(crate) fn after(&self, net: P) -> SideRoutes<'_, P>
         requires { IsBlock (block_of P.family (P.parts net)) }
         ensures { result ≡ routes_after (routes_of self.now) (block_of P.family (P.parts net)) }
     {
@@ -290,14 +290,14 @@ impl<P: OfFamily> Side<P, 8> {
 
 impl<P: OfFamily> Side<P, 1> {
     /// The routes of all networks.
-    pub fn iter(&self) -> SideRoutes<'_, P>
+    pub(crate) fn iter(&self) -> SideRoutes<'_, P>
         ensures { result ≡ routes_of self.now }
     {
         SideRoutes::new(Entries::Hops(self.networks.iter()))
     }
 
     /// The routes of the networks inside this one, itself included.
-    pub fn list(&self, net: P) -> SideRoutes<'_, P>
+    pub(crate) fn list(&self, net: P) -> SideRoutes<'_, P>
         requires { IsBlock (block_of P.family (P.parts net)) }
         ensures { result ≡ routes_inside (routes_of self.now) (block_of P.family (P.parts net)) }
     {

@@ -45,7 +45,7 @@ impl<'a, P: Prefix> Entries<'a, P> {
 
 /// The routes of one side that are left.
 #[derive(Drop)]
-pub struct SideRoutes<'a, P: OfFamily> {
+pub(crate) struct SideRoutes<'a, P: OfFamily> {
     entries: Entries<'a, P>,
 }
 

@@ -45,7 +45,7 @@ pub struct Table<const ROOM: usize> {
 impl<const ROOM: usize> Model for Table<ROOM> {
     ghost use Rattle.std.specs.Prelude.{List, ◌++◌};
     ghost use Rattle.ipnet_addr.specs.Addresses.{Ipv4, Ipv6};
-    ghost use Rattle.route_table.specs.Sides.{IsSide};
+    ghost use Rattle.route_table.specs.InnerSides.{IsSide};
     ghost use Rattle.route_laws.specs.Networks.{Stored};
 
     ghost Value = { List Stored };

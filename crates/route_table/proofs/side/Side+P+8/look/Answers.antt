@@ -2,7 +2,7 @@ use Rattle.std.proofs.Common.{◌∙◌, List, Bool, length, nat_eq, not, ap, su
 use Rattle.ipnet_blocks.specs.Networks.{block_of}
 use Rattle.route_choices.specs.Choices.{has_none}
 use Rattle.route_choices.specs.Hops.{number_of}
-use Rattle.route_table.specs.Sides.{IsSide}
+use Rattle.route_table.specs.InnerSides.{IsSide}
 use Rattle.route_laws.specs.Networks.{choices_at, routes_of}
 use Rattle.route_laws.specs.Tables.{match_number, match_of}
 use Rattle.trie_core.specs.Search.{IsLongest, NoBeginning}
