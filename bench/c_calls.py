@@ -24,8 +24,8 @@ TEXT = """The calls of the C library (docs/C.md) on the real feed, by `c/bench.c
 clock of its own process between the calls. The crate's map keeps one number a network, and is called from Rust; a table keeps up to eight
 routes, and its `add` and `del` tell the hop before and after. `rte_rib` and `rte_fib` are DPDK's{version}, for IPv6 `rte_rib6` and
 `rte_fib6`, without huge pages; the fib is DIR24_8, for IPv6 TRIE, with four bytes a hop. Like an index it tells hops alone; unlike an
-index it takes changes, which its `add` and `del` are. All sides stored as many networks and told the same hop for each address; the crate
-found the same networks. What a side has not is `-`.{missing}"""
+index it takes changes, which its `add` and `del` are. Those with figures stored as many networks and told the same hop for each address, the
+crate's map the same network. What a side has not is `-`.{missing}"""
 
 RATIOS = """How many times as fast the index is as the other ways, of one address in a call; the last column is of 64. Below 1 it is slower.
 Aimed at are {aims}. {met}"""

@@ -27,14 +27,15 @@ def build(root, folder, library=None):
     return program, (("routes",) if library else ()) + (("rib", "fib") if dpdk else ())
 
 
-def of_lines(lines, count=1):
-    """What a program prints in lines `CALL FILE NANOSECONDS RESULT`, whose nanoseconds are of so many calls (c/bench.c says more)."""
+def of_lines(lines):
+    """What a program prints in lines `CALL FILE NANOSECONDS RESULT`, of which c/bench.c says more."""
     calls = Calls({}, [])
     for call, file, taken, result in map(str.split, lines):
         mix = feeds.MIXES[int(file) - 1] if int(file) else None
         if call != "matched":
-            calls.times[call, mix] = float(taken) / count
-        calls.results.append((named("hops" if mix and call != "matched" else "add" if call == "index_open" else call, mix), int(result)))
+            calls.times[call, mix] = float(taken)
+            call = "hops" if mix else "add" if call == "index_open" else call
+        calls.results.append((named(call, mix), int(result)))
     return calls
 
 
