@@ -9,11 +9,9 @@ use Rattle.least_table.specs.Trees.{Tree, Leaf, Fork, Skip, IsPlan, inner_of}
 use Rattle.least_table.specs.InnerPieces.{IsAscending, beyond, AllBegin, shared}
 use Rattle.least_table.specs.InnerRising.{IsRising}
 use Rattle.least_table.specs.HopSets.{AreMerged}
-use Rattle.least_table.specs.InnerHops.{members}
-use Rattle.least_table.specs.InnerSteps.{step_best}
+use Rattle.least_table.specs.InnerSteps.{Step, step_best}
 use Rattle.least_table.specs.InnerPlans.{Plan, top, tree_of, IsMade, between, Fits, AllFit}
 use Rattle.least_table.specs.InnerPlans as plans
-use Rattle.least_table.specs.declared.hops.Hops.{Hops}
 use Rattle.least_table.proofs.Cuts.{hop_at-low, hop_at-high, first_of_all}
 use Rattle.least_table.proofs.Growths.{best_of_tree, length_between, skip_plan}
 use Rattle.least_table.proofs.Shares.{AllShare, none_outside, hop_inside, all_share, shared_left, shared_right, shared_short, last_step, ascending_deeper}
@@ -31,11 +29,11 @@ fits_plan w h (Fork hops l r) plan = (plan.0, plan.1, fits_plan plan.0 (half_of 
 fits_plan w h (Skip k ds t) plan = (plan.0, plan.1, plan.2.0, fits_plan plan.0 (inner_of ds h) t plan.4)
 
 module _ {B : Type 0} (string : B → List Bool) where
-  fork_plan : (v d : ℕ) (h : List Bool → Option ℕ) (hops : Hops) (low high : Plan B) → AreMerged (step_best (top low)) (step_best (top high)) (members hops) → IsPlan v (half_of false h) (tree_of string (suc d) low) → IsPlan v (half_of true h) (tree_of string (suc d) high)
+  fork_plan : (v d : ℕ) (h : List Bool → Option ℕ) (hops : List (Option ℕ)) (low high : Plan B) → AreMerged (step_best (top low)) (step_best (top high)) hops → IsPlan v (half_of false h) (tree_of string (suc d) low) → IsPlan v (half_of true h) (tree_of string (suc d) high)
       → IsPlan (suc v) h (tree_of string d (plans.Fork hops low high))
   fork_plan v d h hops low high m l r = (v, refl, rw (best_of_tree string (suc d) low, best_of_tree string (suc d) high) m, l, r)
 
-  tree_cut : (w d m : ℕ) (ps : List (B × ℕ)) (hops : Hops) (low high : Plan B) → d < w → AllBegin false (beyond string d (take m ps)) → AllBegin true (beyond string d (drop m ps)) → AreMerged (step_best (top low)) (step_best (top high)) (members hops)
+  tree_cut : (w d m : ℕ) (ps : List (B × ℕ)) (hops : List (Option ℕ)) (low high : Plan B) → d < w → AllBegin false (beyond string d (take m ps)) → AllBegin true (beyond string d (drop m ps)) → AreMerged (step_best (top low)) (step_best (top high)) hops
       → IsPlan (w - suc d) (hop_at (beyond string (suc d) (take m ps))) (tree_of string (suc d) low) → IsPlan (w - suc d) (hop_at (beyond string (suc d) (drop m ps))) (tree_of string (suc d) high) → IsPlan (w - d) (hop_at (beyond string d ps)) (tree_of string d (plans.Fork hops low high))
   tree_cut w d m ps hops low high i f g merged l r =
       subst (λ v. IsPlan v (hop_at (beyond string d ps)) (tree_of string d (plans.Fork hops low high))) more
@@ -136,8 +134,8 @@ module _ {B : Type 0} (string : B → List Bool) where
       subst (λ n. IsPlan (w - n) (hop_at (beyond string n ps)) (tree_of string n p)) f (subst (λ rs. IsPlan (w - (d + 1)) (hop_at (beyond string (d + 1) rs)) (tree_of string (d + 1) p)) e m.plans)
 
   -- the plan of the pieces, by those of the halves
-  pub fork_made : (fits : B → Bool) (w d m : ℕ) (ps front back : List (B × ℕ)) (hops : Hops) (low high : Plan B) → d < w → AllBegin false (beyond string d (take m ps)) → AllBegin true (beyond string d (drop m ps))
-      → AreMerged (step_best (top low)) (step_best (top high)) (members hops) → IsRising (members hops) → front ≡ take m ps → back ≡ drop m ps → IsMade string fits w (d + 1) front low → IsMade string fits w (d + 1) back high → IsMade string fits w d ps (plans.Fork hops low high)
+  pub fork_made : (fits : B → Bool) (w d m : ℕ) (ps front back : List (B × ℕ)) (hops : List (Option ℕ)) (low high : Plan B) → d < w → AllBegin false (beyond string d (take m ps)) → AllBegin true (beyond string d (drop m ps))
+      → AreMerged (step_best (top low)) (step_best (top high)) hops → IsRising hops → front ≡ take m ps → back ≡ drop m ps → IsMade string fits w (d + 1) front low → IsMade string fits w (d + 1) back high → IsMade string fits w d ps (plans.Fork hops low high)
   fork_made fits w d m ps front back hops low high i f g merged rises e z l r = record {
     plans = tree_cut w d m ps hops low high i f g merged (deeper_by_one fits w d (take m ps) front low e l) (deeper_by_one fits w d (drop m ps) back high z r);
     rising = rises;

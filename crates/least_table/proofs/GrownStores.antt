@@ -3,11 +3,9 @@ use Rattle.std.proofs.Common.{◌≡◌, ℕ, suc, ◌-◌, ◌≤◌, Bool, tru
 use Rattle.std.proofs.lemmas.List.{reverse-append}
 use Rattle.least_table.specs.HopSets.{holds, same_hop, first_of}
 use Rattle.least_table.specs.Trees.{inside, within, routes_of}
-use Rattle.least_table.specs.InnerHops.{members}
-use Rattle.least_table.specs.InnerSteps.{passed, all_routes, HaveRoom}
+use Rattle.least_table.specs.InnerSteps.{Step, passed, all_routes, HaveRoom}
 use Rattle.least_table.specs.InnerPlans.{Plan, Leaf, Fork, Skip, steps_of, tree_of, AllFit, Fits}
-use Rattle.least_table.specs.declared.plan.Step.{Step}
-use Rattle.least_table.specs.declared.plan.Step.TheVariants as steps
+use Rattle.least_table.specs.InnerSteps as steps
 use Rattle.least_table.proofs.Sets.{same_hop-true}
 use Rattle.least_table.proofs.Stores.{within-halves}
 
@@ -71,13 +69,13 @@ module _ {B : Type 0} (string : B → List Bool) where
       (stored f.0 r (b ++ true ∷ []) k xs bs (subst (λ d. Fits f.0 (tree_of string d r)) (sym (half_length b true)) f.3)
       ∙ ap (λ d. within (b ++ true ∷ []) (routes_of (tree_of string d r) k) ++ all_routes string xs bs) (half_length b true)))
       ∙ together route _ _ (all_routes string xs bs)
-      ∙ ap (λ t. t ++ all_routes string xs bs) (fork_stored (holds (members hops) s) b (λ j. routes_of (tree_of string (suc (length b)) l) j) (λ j. routes_of (tree_of string (suc (length b)) r) j) s (first_of (members hops)))
+      ∙ ap (λ t. t ++ all_routes string xs bs) (fork_stored (holds hops s) b (λ j. routes_of (tree_of string (suc (length b)) l) j) (λ j. routes_of (tree_of string (suc (length b)) r) j) s (first_of hops))
     where
       k : Option ℕ
-      k = cond (holds (members hops) s) s (first_of (members hops))
+      k = cond (holds hops s) s (first_of hops)
 
       route : List (List Bool × Option ℕ)
-      route = cond (holds (members hops) s) [] ((b, first_of (members hops)) ∷ [])
+      route = cond (holds hops s) [] ((b, first_of hops) ∷ [])
 
       together : {X : Type 0} (as' bs cs ds : List X) → as' ++ (bs ++ (cs ++ ds)) ≡ (as' ++ (bs ++ cs)) ++ ds
       together as' bs cs ds = ap (λ t. as' ++ t) (sym (append_assoc bs cs ds)) ∙ sym (append_assoc as' (bs ++ cs) ds)

@@ -14,3 +14,4 @@ pub mod Builds
 pub mod Orders
 pub mod Disjoint
 pub mod PathBits
+pub mod Packed

@@ -1,9 +1,9 @@
 -- Where the steps of a plan stand among others.
-use Rattle.std.proofs.Common.{◌≡◌, ℕ, ◌+◌, ◌-◌, ◌<◌, List, [], ◌∷◌, ◌++◌, length, slice_index_or, Option, refl, sym, ap, ap₂, ◌∙◌, arith, append_assoc, length-append}
+use Rattle.std.proofs.Common.{◌≡◌, ℕ, ◌+◌, ◌-◌, ◌<◌, List, [], ◌∷◌, ◌++◌, length, slice_index_or, None, refl, sym, ap, ap₂, ◌∙◌, arith, append_assoc, length-append}
 use Rattle.std.proofs.Math.Seq.{get_or-append_seam}
 use Rattle.least_table.specs.InnerPlans.{Plan, Leaf, Fork, Skip, top, steps_of}
-use Rattle.least_table.specs.InnerSteps.{step_best}
-use Rattle.least_table.specs.declared.plan.Step.{Step}
+use Rattle.least_table.specs.InnerSteps.{Step, step_best}
+use Rattle.least_table.specs.InnerSteps as steps
 
 -- all steps but that of the block itself
 abbrev below : {B : Type 0} → Plan B → List (Step B)
@@ -33,11 +33,5 @@ module _ {B : Type 0} (p : Plan B) (old new rest all : List (Step B)) (e : new �
       ap₂ (λ xs i. slice_index_or xs i d) (f ∙ ap (λ t. t ++ rest) parts ∙ append_assoc (old ++ below p) (top p ∷ []) rest) n ∙ get_or-append_seam (old ++ below p) (top p) rest d
 
   -- so what is read there is best handed what the block is
-  pub best_at : (n : ℕ) (x : Step B) (hops : List (Option ℕ)) → n ≡ length new → x ≡ slice_index_or all (n - 1) x → hops ≡ step_best x → hops ≡ step_best (top p)
-  best_at n x hops i r b = b ∙ ap step_best (r ∙ ap (λ m. slice_index_or all (m - 1) x) i ∙ top_at x)
-
-pub after_one : {X : Type 0} (old mid new xs : List X) (x : X) → mid ≡ old ++ xs → new ≡ mid ++ x ∷ [] → new ≡ old ++ (xs ++ x ∷ [])
-after_one old mid new xs x e f = f ∙ ap (λ t. t ++ x ∷ []) e ∙ append_assoc old xs (x ∷ [])
-
-pub after_two : {X : Type 0} (old mid all new rs ls : List X) (x : X) → mid ≡ old ++ rs → all ≡ mid ++ ls → new ≡ all ++ x ∷ [] → new ≡ old ++ ((rs ++ ls) ++ x ∷ [])
-after_two old mid all new rs ls x e f g = after_one old all new (rs ++ ls) x (f ∙ ap (λ t. t ++ ls) e ∙ append_assoc old rs ls) g
+  pub read_top : (n : ℕ) → n ≡ length new → step_best (slice_index_or all (n - 1) (steps.Leaf None)) ≡ step_best (top p)
+  read_top n i = ap (λ m. step_best (slice_index_or all (m - 1) (steps.Leaf None))) i ∙ ap step_best (top_at (steps.Leaf None))

@@ -1,8 +1,7 @@
 -- One step of a plan is taken at the next block.
 use Rattle.std.proofs.Common.{◌≡◌, ℕ, Bool, ◌⊎◌, inl, inr, List, [], ◌∷◌, ◌++◌, length, reverse, Option, refl, sym, ap, ◌∙◌, subst, append_assoc, append-nil}
 use Rattle.std.proofs.lemmas.List.{reverse-append}
-use Rattle.least_table.specs.InnerSteps.{step_routes, step_blocks, all_routes, HasRoom, HaveRoom}
-use Rattle.least_table.specs.declared.plan.Step.{Step}
+use Rattle.least_table.specs.InnerSteps.{Step, step_routes, step_blocks, all_routes, HasRoom, HaveRoom}
 
 popped : {X : Type 0} (old new : List X) (x : X) → old ≡ new ++ x ∷ [] → reverse old ≡ x ∷ reverse new
 popped old new x e = ap reverse e ∙ reverse-append new (x ∷ [])

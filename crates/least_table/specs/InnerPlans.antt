@@ -2,19 +2,18 @@
 use Rattle.std.specs.Prelude.{◌≡◌, ℕ, suc, ◌+◌, ◌-◌, ◌<◌, Bool, List, [], ◌∷◌, ◌++◌, length, take, drop, Option, IsTrue, ⊤}
 use Rattle.least_table.specs.Pieces.{hop_at}
 use Rattle.least_table.specs.InnerPieces.{beyond}
-use Rattle.least_table.specs.InnerHops.{members}
 use Rattle.least_table.specs.InnerRising.{IsRising}
-use Rattle.least_table.specs.InnerSteps.{step_best}
+use Rattle.least_table.specs.InnerSteps.{Step, step_best}
+use Rattle.least_table.specs.InnerSteps as steps
 use Rattle.least_table.specs.Trees.{Tree, IsPlan}
 use Rattle.least_table.specs.Trees as trees
-use Rattle.least_table.specs.declared.hops.Hops.{Hops}
-use Rattle.least_table.specs.declared.plan.Step.{Step}
-use Rattle.least_table.specs.declared.plan.Step.TheVariants as steps
+use Rattle.least_table.specs.InnerPacked.{Grows}
+use Rattle.least_table.specs.declared.plan.Steps.{Steps}
 
 -- what the steps of a block and of the smaller ones in it are together
 pub data Plan (B : Type 0) : Type 0 where
   Leaf : Option ℕ → Plan B
-  Fork : Hops → Plan B → Plan B → Plan B
+  Fork : List (Option ℕ) → Plan B → Plan B → Plan B
   Skip : Option ℕ → B → Plan B → Plan B
 
 -- the step of the block itself
@@ -32,7 +31,7 @@ steps_of (Skip k b t) = steps_of t ++ steps.Skip k b ∷ []
 -- the tree of a plan at depth d: a skip goes on to the depth of its inner block
 abbrev pub tree_of : {B : Type 0} → (B → List Bool) → ℕ → Plan B → Tree
 tree_of string d (Leaf k) = trees.Leaf k
-tree_of string d (Fork hops l r) = trees.Fork (members hops) (tree_of string (suc d) l) (tree_of string (suc d) r)
+tree_of string d (Fork hops l r) = trees.Fork hops (tree_of string (suc d) l) (tree_of string (suc d) r)
 tree_of string d (Skip k b t) = trees.Skip k (drop d (string b)) (tree_of string (length (string b)) t)
 
 -- the bits between two depths
@@ -58,7 +57,7 @@ pub record IsMade {B : Type 0} (string : B → List Bool) (fits : B → Bool) (w
   pub fit : AllFit fits p
 
 -- the new steps are the old ones, and then those of a plan of a block of d bits for the pieces in it
-pub record IsPlanned {B : Type 0} (string : B → List Bool) (fits : B → Bool) (w d : ℕ) (ps : List (B × ℕ)) (old new : List (Step B)) : Type 0 where
+pub record IsPlanned {B : Type 0} (string : B → List Bool) (fits : B → Bool) (w d : ℕ) (ps : List (B × ℕ)) (old new : Steps B) : Type 0 where
   pub plan : Plan B
   pub made : IsMade string fits w d ps plan
-  pub adds : new ≡ old ++ steps_of plan
+  pub adds : Grows old new (steps_of plan)

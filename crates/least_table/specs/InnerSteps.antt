@@ -1,14 +1,18 @@
 -- The steps of a plan, and what is stored as they are taken in turn.
 use Rattle.std.specs.Prelude.{◌≡◌, ℕ, ◌<◌, ◌≤◌, Bool, true, false, cond, List, [], ◌∷◌, ◌++◌, length, drop, Option, All, IsTrue, ⊤}
 use Rattle.least_table.specs.HopSets.{holds, first_of}
-use Rattle.least_table.specs.InnerHops.{members}
-use Rattle.least_table.specs.declared.plan.Step.{Step}
-use Rattle.least_table.specs.declared.plan.Step.TheVariants.{Leaf, Fork, Skip}
+
+-- a block whose addresses all have one hop; a block cut into halves, the upper first, and what it is best handed; and a block
+-- whose addresses have this hop but for those of a smaller block
+pub data Step (B : Type 0) : Type 0 where
+  Leaf : Option ℕ → Step B
+  Fork : List (Option ℕ) → Step B
+  Skip : Option ℕ → B → Step B
 
 -- the hops that the block is best handed
 abbrev pub step_best : {B : Type 0} → Step B → List (Option ℕ)
 step_best (Leaf k) = k ∷ []
-step_best (Fork hops) = members hops
+step_best (Fork hops) = hops
 step_best (Skip k b) = k ∷ []
 
 -- the hop that is handed down: s where that is one of the best, else the first of these
@@ -22,7 +26,7 @@ step_routes x (b, s) = cond (holds (step_best x) s) [] ((b, first_of (step_best 
 -- the smaller blocks, with the hop that each is handed
 abbrev pub step_blocks : {B : Type 0} → (B → List Bool) → Step B → List Bool × Option ℕ → List (List Bool × Option ℕ)
 step_blocks string (Leaf k) (b, s) = []
-step_blocks string (Fork hops) (b, s) = (b ++ false ∷ [], passed (members hops) s) ∷ (b ++ true ∷ [], passed (members hops) s) ∷ []
+step_blocks string (Fork hops) (b, s) = (b ++ false ∷ [], passed hops s) ∷ (b ++ true ∷ [], passed hops s) ∷ []
 step_blocks string (Skip k x) (b, s) = (b ++ drop (length b) (string x), passed (k ∷ []) s) ∷ []
 
 -- the routes that the steps store, taken in turn, each at the next of the blocks

@@ -8,4 +8,5 @@ pub mod InnerPieces
 pub mod InnerRising
 pub mod InnerOrders
 pub mod InnerSteps
+pub mod InnerPacked
 pub mod InnerPlans

@@ -1,65 +1,237 @@
 //! Plans: which hops each block is best handed, as steps that are taken in turn.
-ghost use Rattle.std.specs.Prelude.{◌≡◌, ◌≤◌, ◌++◌, ◌∷◌, [], None, length, reverse, IfOk, OnOk};
+ghost use Rattle.std.specs.Prelude.{◌≡◌, ◌+◌, ◌<◌, ◌≤◌, ◌++◌, ◌∷◌, [], None, cond, length, reverse, IfOk, OnOk};
+ghost use Rattle.least_table.specs.HopSets.{AreMerged, first_of, holds};
 ghost use Rattle.least_table.specs.Pieces.{strings};
-ghost use Rattle.least_table.specs.InnerSteps.{step_best, step_routes, step_blocks, all_routes, HasRoom, HaveRoom, AreNetworks};
+ghost use Rattle.least_table.specs.InnerPacked.{AreWhole, Grows, IsKept, Joins, best_at, hops_in, set_at, size_at, step_of, steps_in};
+ghost use Rattle.least_table.specs.InnerHops.{members};
+ghost use Rattle.least_table.specs.InnerRising.{IsRising};
+ghost use Rattle.least_table.specs.InnerSteps.{passed, step_best, step_routes, step_blocks, all_routes, HasRoom, HaveRoom, AreNetworks};
+ghost use Rattle.least_table.specs.InnerSteps.{Leaf, Fork, Skip};
 
 use crate::bits::onto;
+<<<<<<< HEAD
 use crate::hops::{Hops, first, is_among};
 use prefix_trie::{Prefix, path_of, prefix_of};
+=======
+use crate::hops::{Hops, first, is_among, merge};
+>>>>>>> h3
 use std::alloc::{AllocError, Global};
 use std::slice;
 use trie_core::Path;
 
-/// What a plan does with a block. The step of a block stands behind those of the smaller blocks that it is cut into.
-#[derive(Drop)]
-pub(crate) enum Step<P: Copy> {
-    /// All its addresses have one hop.
-    Leaf(Option<u32>),
-    /// It is cut into halves, the upper first, and is best handed these hops, which rise.
-    Fork(Hops),
-    /// Its addresses have this hop but for those of a smaller block.
-    Skip(Option<u32>, P),
+/// What a plan does with a block, in eight bytes. The step of a block stands behind those of the smaller blocks that it is cut
+/// into.
+#[derive(Clone, Copy)]
+enum Packed {
+    /// All its addresses have this hop.
+    Leaf(u32),
+    /// None of its addresses has a hop.
+    Gap,
+    /// It is cut into halves, the upper first, and is best handed this hop.
+    One(u32),
+    /// It is cut into halves, the upper first, and is best handed none.
+    Nowhere,
+    /// It is cut into halves, the upper first, and is best handed the hops of the set that begins here.
+    Several(u32),
+    /// None of its addresses has a hop, but for those of the smaller block that stands here.
+    Skip(u32),
 }
 
-impl<P: Prefix + Copy> Step<P> {
-    /// The hops that the block is best handed.
-    pub(crate) fn best(&self) -> &[Option<u32>]
-        ensures { result.now ≡ step_best self.now }
+/// The hops that a block is best handed, rising.
+#[derive(Drop)]
+enum Best<'a> {
+    /// This one.
+    One(Option<u32>),
+    /// These.
+    Several(&'a [Option<u32>]),
+}
+
+impl<'a> Best<'a> {
+    /// The hops, rising.
+    fn as_slice(&self) -> &[Option<u32>]
+        ensures { result.now ≡ hops_in self.now }
     {
         match self {
-            Step::Leaf(hop) => slice::from_ref(hop),
-            Step::Fork(hops) => hops.as_slice(),
-            Step::Skip(hop, _) => slice::from_ref(hop),
+            Best::One(hop) => slice::from_ref(hop),
+            Best::Several(hops) => hops,
+        }
+    }
+}
+
+/// The set of hops that begins at a place of the common list.
+fn set(sets: &[Option<u32>], at: usize) -> &[Option<u32>]
+    requires { at + 1 + size_at sets.now at ≤ length sets.now }
+    ensures { result.now ≡ set_at sets.now at }
+{
+    let len = match sets[at] {
+        Some(len) => len as usize,
+        None => 0,
+    };
+    &sets[at + 1..at + 1 + len]
+}
+
+/// The steps of a plan.
+#[derive(Drop)]
+pub(crate) struct Steps<P: Copy> {
+    steps: Vec<Packed>,
+    /// The sets of several hops one after the other, each behind the number of its hops.
+    sets: Vec<Option<u32>>,
+    /// The smaller blocks of steps that skip levels.
+    inner: Vec<P>,
+}
+
+impl<P: Prefix + Copy> Steps<P> {
+    /// No steps.
+    pub(crate) fn new(alloc: Global) -> Steps<P>
+        ensures steps { steps_in result ≡ [] }
+        ensures whole { AreWhole result }
+    {
+        Steps {
+            steps: Vec::new(alloc),
+            sets: Vec::new(alloc),
+            inner: Vec::new(alloc),
         }
     }
 
-    /// Adds the route of the block at `path`, where `handed` is handed down, if it needs one, and the smaller blocks with the hops
-    /// that these are handed.
+    /// How many there are.
+    pub(crate) fn len(&self) -> usize
+        ensures { result ≡ length (steps_in self.now) }
+    {
+        self.steps.len()
+    }
+
+    /// Appends a step.
+    fn push(&mut self, step: Packed) -> Result<(), AllocError>
+        requires whole { AreWhole self.old }
+        requires kept { IsKept self.old.sets.items (length self.old.inner.items) step }
+        ensures { OnOk result (Grows self.old self.new (step_of self.old.sets.items self.old.inner.items step ∷ [])) }
+    {
+        self.steps.push(step)?;
+        Ok(())
+    }
+
+    /// Appends the step of a block whose addresses all have this hop.
+    pub(crate) fn push_leaf(&mut self, hop: Option<u32>) -> Result<(), AllocError>
+        requires { AreWhole self.old }
+        ensures { OnOk result (Grows self.old self.new (Leaf hop ∷ [])) }
+    {
+        match hop {
+            Some(hop) => self.push(Packed::Leaf(hop)),
+            None => self.push(Packed::Gap),
+        }
+    }
+
+    /// Appends the step of a block whose addresses have no hop, but for those of a smaller one.
+    pub(crate) fn push_skip(&mut self, inner: P) -> Result<(), AllocError>
+        requires { AreWhole self.old }
+        ensures { OnOk result (Grows self.old self.new (Skip None inner ∷ [])) }
+    {
+        let Ok(at) = u32::try_from(self.inner.len()) else {
+            return Err(AllocError);
+        };
+        self.inner.push(inner)?;
+        self.steps.push(Packed::Skip(at))?;
+        Ok(())
+    }
+
+    /// Appends the step of a block that is cut into halves, and is best handed the hops of this set.
+    fn push_several(&mut self, hops: &[Option<u32>]) -> Result<(), AllocError>
+        requires { AreWhole self.old }
+        ensures { OnOk result (Grows self.old self.new (Fork hops.now ∷ [])) }
+    {
+        let Ok(at) = u32::try_from(self.sets.len()) else {
+            return Err(AllocError);
+        };
+        let Ok(len) = u32::try_from(hops.len()) else {
+            return Err(AllocError);
+        };
+        self.sets.push(Some(len))?;
+        self.sets.extend_from_slice(hops)?;
+        self.steps.push(Packed::Several(at))?;
+        Ok(())
+    }
+
+    /// Appends the step of a block that is cut into halves, and is best handed these hops.
+    fn push_fork(&mut self, hops: &[Option<u32>]) -> Result<(), AllocError>
+        requires { AreWhole self.old }
+        ensures { OnOk result (Grows self.old self.new (Fork hops.now ∷ [])) }
+    {
+        match hops {
+            [Some(hop)] => self.push(Packed::One(*hop)),
+            [None] => self.push(Packed::Nowhere),
+            _ => self.push_several(hops),
+        }
+    }
+
+    /// The hops that the block of a step is best handed.
+    fn best(&self, step: Packed) -> Best<'_>
+        requires { IsKept self.now.sets.items (length self.now.inner.items) step }
+        ensures { hops_in result ≡ step_best (step_of self.now.sets.items self.now.inner.items step) }
+    {
+        match step {
+            Packed::Leaf(hop) | Packed::One(hop) => Best::One(Some(hop)),
+            Packed::Gap | Packed::Nowhere | Packed::Skip(_) => Best::One(None),
+            Packed::Several(at) => Best::Several(set(&self.sets, at as usize)),
+        }
+    }
+
+    /// The hops that a block is best handed whose halves have the steps at these places.
+    fn merged(&self, alloc: Global, low: usize, high: usize) -> Result<Hops, AllocError>
+        requires whole { AreWhole self.now }
+        requires low { low < length (steps_in self.now) }
+        requires high { high < length (steps_in self.now) }
+        requires low_rises { IsRising (best_at self.now low) }
+        requires high_rises { IsRising (best_at self.now high) }
+        ensures merged { IfOk result (λ hops. AreMerged (best_at self.now low) (best_at self.now high) (members hops)) }
+        ensures rising { IfOk result (λ hops. IsRising (members hops)) }
+    {
+        let below = self.best(self.steps[low]);
+        let above = self.best(self.steps[high]);
+        merge(alloc, below.as_slice(), above.as_slice())
+    }
+
+    /// Appends the step of a block whose halves have the steps at these places.
+    pub(crate) fn join(&mut self, alloc: Global, low: usize, high: usize) -> Result<(), AllocError>
+        requires whole { AreWhole self.old }
+        requires low { low < length (steps_in self.old) }
+        requires high { high < length (steps_in self.old) }
+        requires low_rises { IsRising (best_at self.old low) }
+        requires high_rises { IsRising (best_at self.old high) }
+        ensures { OnOk result (Joins self.old self.new (best_at self.old low) (best_at self.old high)) }
+    {
+        let hops = self.merged(alloc, low, high)?;
+        self.push_fork(hops.as_slice())
+    }
+
+    /// Adds the route of the block at `path`, where `handed` is handed down, if its step needs one, and the smaller blocks with the
+    /// hops that these are handed.
     fn take(
-        self,
+        &self,
+        step: Packed,
         path: &Path,
         handed: Option<u32>,
         waiting: &mut Vec<(Path, Option<u32>)>,
         table: &mut Vec<(P, Option<u32>)>,
     ) -> Result<(), AllocError>
         requires width { P.R.width ≤ 128 }
-        requires room { HasRoom P.bits P.fits P.R.width self path.now }
-        ensures routes { OnOk result (strings P.bits table.new.items ≡ strings P.bits table.old.items ++ step_routes self (path.now, handed)) }
+        requires kept { IsKept self.now.sets.items (length self.now.inner.items) step }
+        requires room { HasRoom P.bits P.fits P.R.width (step_of self.now.sets.items self.now.inner.items step) path.now }
+        ensures routes { OnOk result (strings P.bits table.new.items ≡ strings P.bits table.old.items ++ step_routes (step_of self.now.sets.items self.now.inner.items step) (path.now, handed)) }
         ensures networks { OnOk result (AreNetworks P.fits P.of_bits P.bits table.old.items → AreNetworks P.fits P.of_bits P.bits table.new.items) }
-        ensures waiting { OnOk result (reverse waiting.new.items ≡ step_blocks P.bits self (path.now, handed) ++ reverse waiting.old.items) }
+        ensures waiting { OnOk result (reverse waiting.new.items ≡ step_blocks P.bits (step_of self.now.sets.items self.now.inner.items step) (path.now, handed) ++ reverse waiting.old.items) }
     {
-        let mut passed = handed;
-        if !is_among(self.best(), handed) {
-            passed = first(self.best());
-            add(table, path, passed)?;
-        }
-        match &self {
-            Step::Leaf(_) => {}
-            Step::Fork(_) => {
+        let best = self.best(step);
+        let passed = hand_down(best.as_slice(), path, handed, table)?;
+        match step {
+            Packed::Leaf(_) | Packed::Gap => {}
+            Packed::One(_) | Packed::Nowhere | Packed::Several(_) => {
                 waiting.push((path.extended(true), passed))?;
                 waiting.push((path.extended(false), passed))?;
             }
-            Step::Skip(_, inner) => waiting.push((onto(path, &path_of(inner)), passed))?,
+            Packed::Skip(at) => {
+                let inner = path_of(&self.inner[at as usize]);
+                waiting.push((onto(path, &inner), passed))?;
+            }
         }
         Ok(())
     }
@@ -79,25 +251,47 @@ fn add<P: Prefix + Copy>(
     Ok(())
 }
 
+/// The hop that a block at `path` hands down which is best handed the hops `best`, and is handed `handed`. Adds its route, if it needs
+/// one.
+fn hand_down<P: Prefix + Copy>(
+    best: &[Option<u32>],
+    path: &Path,
+    handed: Option<u32>,
+    table: &mut Vec<(P, Option<u32>)>,
+) -> Result<Option<u32>, AllocError>
+    requires { length path.now ≤ P.R.width }
+    ensures passed { IfOk result (λ hop. hop ≡ passed best.now handed) }
+    ensures routes { OnOk result (strings P.bits table.new.items ≡ strings P.bits table.old.items ++ cond (holds best.now handed) [] ((path.now, first_of best.now) ∷ [])) }
+    ensures networks { OnOk result (AreNetworks P.fits P.of_bits P.bits table.old.items → AreNetworks P.fits P.of_bits P.bits table.new.items) }
+{
+    if is_among(best, handed) {
+        return Ok(handed);
+    }
+    let hop = first(best);
+    add(table, path, hop)?;
+    Ok(hop)
+}
+
 /// The routes of the plan of all addresses, which are handed no hop.
 pub(crate) fn routes<P: Prefix + Copy>(
     alloc: Global,
-    plan: Vec<Step<P>>,
+    plan: Steps<P>,
 ) -> Result<Vec<(P, Option<u32>)>, AllocError>
     requires width { P.R.width ≤ 128 }
-    requires room { HaveRoom P.bits P.fits P.R.width (reverse plan.items) (([], None) ∷ []) }
-    ensures routes { IfOk result (λ table. strings P.bits table.items ≡ all_routes P.bits (reverse plan.items) (([], None) ∷ [])) }
+    requires whole { AreWhole plan }
+    requires room { HaveRoom P.bits P.fits P.R.width (reverse (steps_in plan)) (([], None) ∷ []) }
+    ensures routes { IfOk result (λ table. strings P.bits table.items ≡ all_routes P.bits (reverse (steps_in plan)) (([], None) ∷ [])) }
     ensures networks { IfOk result (λ table. AreNetworks P.fits P.of_bits P.bits table.items) }
 {
-    let mut steps = plan;
+    let mut left = plan;
     let mut table: Vec<(P, Option<u32>)> = Vec::new(alloc);
     let mut waiting: Vec<(Path, Option<u32>)> = Vec::new(alloc);
     waiting.push((Path::new(0, 0), None))?;
-    while let Some(step) = steps.pop() {
+    while let Some(step) = left.steps.pop() {
         let Some((path, handed)) = waiting.pop() else {
             break;
         };
-        step.take(&path, handed, &mut waiting, &mut table)?;
+        left.take(step, &path, handed, &mut waiting, &mut table)?;
     }
     Ok(table)
 }

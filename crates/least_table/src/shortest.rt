@@ -5,11 +5,11 @@ ghost use Rattle.ipnet_blocks.specs.BitStrings.{bits_cmp};
 ghost use Rattle.least_table.specs.Pieces.{AreDisjoint, hop_at, strings};
 ghost use Rattle.least_table.specs.Tables.{IsLeast};
 ghost use Rattle.least_table.specs.InnerPieces.{IsAscending, AllBegin, beyond};
+ghost use Rattle.least_table.specs.InnerPacked.{AreWhole};
 ghost use Rattle.least_table.specs.InnerPlans.{IsPlanned};
 
 use crate::bits::{bit, common};
-use crate::hops::merge;
-use crate::plan::{Step, routes};
+use crate::plan::{Steps, routes};
 use prefix_trie::{Key, Prefix, path_of, shortened};
 use std::alloc::{AllocError, Global};
 
@@ -41,36 +41,32 @@ fn add_plan<P: Prefix + Copy>(
     alloc: Global,
     pieces: &[(P, u32)],
     depth: u8,
-    steps: &mut Vec<Step<P>>,
+    plan: &mut Steps<P>,
 ) -> Result<(), AllocError>
+    requires whole { AreWhole plan.old }
     requires fits { All (λ p. IsTrue (P.fits p.0)) pieces.now }
     requires ascending { IsAscending (beyond P.bits depth pieces.now) }
-    ensures { OnOk result (IsPlanned P.bits P.fits P.R.width depth pieces.now steps.old.items steps.new.items) }
+    ensures { OnOk result (IsPlanned P.bits P.fits P.R.width depth pieces.now plan.old plan.new) }
 {
     let Some(first) = pieces.first() else {
-        steps.push(Step::Leaf(None))?;
-        return Ok(());
+        return plan.push_leaf(None);
     };
     if first.0.prefix_len() <= depth {
-        steps.push(Step::Leaf(Some(first.1)))?;
-        return Ok(());
+        return plan.push_leaf(Some(first.1));
     }
     let end = pieces.len() - 1;
     let last = &pieces[end];
     let common = common(&path_of(&first.0), &path_of(&last.0), depth);
     if common - depth > 1 {
-        add_plan(alloc, pieces, common, steps)?;
-        steps.push(Step::Skip(None, shortened(&first.0, common)))?;
-        return Ok(());
+        add_plan(alloc, pieces, common, plan)?;
+        return plan.push_skip(shortened(&first.0, common));
     }
     let (below, above) = pieces.split_at(cut(pieces, depth));
-    add_plan(alloc, above, depth + 1, steps)?;
-    let high = steps.len() - 1;
-    add_plan(alloc, below, depth + 1, steps)?;
-    let low = steps.len() - 1;
-    let hops = merge(alloc, steps[low].best(), steps[high].best())?;
-    steps.push(Step::Fork(hops))?;
-    Ok(())
+    add_plan(alloc, above, depth + 1, plan)?;
+    let high = plan.len() - 1;
+    add_plan(alloc, below, depth + 1, plan)?;
+    let low = plan.len() - 1;
+    plan.join(alloc, low, high)
 }
 
 /// The routes of a table with the hops of these pieces and the fewest members of all such tables, ascending. `None` is
@@ -91,8 +87,8 @@ pub fn least<P: Prefix + Copy>(
     if pieces.is_empty() {
         return Ok(Vec::new(alloc));
     }
-    let mut steps: Vec<Step<P>> = Vec::new(alloc);
-    add_plan(alloc, pieces, 0, &mut steps)?;
+    let mut plan: Steps<P> = Steps::new(alloc);
+    add_plan(alloc, pieces, 0, &mut plan)?;
     let _width = <P::R as Key>::width();
-    routes(alloc, steps)
+    routes(alloc, plan)
 }

@@ -5,9 +5,9 @@ use Rattle.least_table.specs.Pieces.{strings, hop_at}
 use Rattle.least_table.specs.Tables.{IsLeast}
 use Rattle.least_table.specs.Trees.{Tree, IsPlan, routes_of, within}
 use Rattle.least_table.specs.InnerPieces.{beyond}
-use Rattle.least_table.specs.InnerSteps.{all_routes, HaveRoom}
+use Rattle.least_table.specs.InnerPacked.{steps_in}
+use Rattle.least_table.specs.InnerSteps.{Step, all_routes, HaveRoom}
 use Rattle.least_table.specs.InnerPlans.{Plan, steps_of, tree_of, Fits}
-use Rattle.least_table.specs.declared.plan.Step.{Step}
 use Rattle.least_table.proofs.Builds.{fits_plan}
 use Rattle.least_table.proofs.Chains.{trees_are_least}
 use Rattle.least_table.proofs.GrownStores.{stored, rooms}
@@ -23,7 +23,7 @@ pub routes-requires-clause-room : goal.routes-requires-clause-room
 routes-requires-clause-room g c =
     let bits = g.P.Prefix.bits in
     let made = c.in_ok-add_plan.ensures.made in
-    rw (c.in_ok-add_plan.ensures.adds, c.new-steps.ensures.items) (subst (λ xs. HaveRoom bits g.P.Prefix.fits g.P.R.Key.width xs (([], None) ∷ [])) (append-nil (reverse (steps_of c.in_ok-add_plan.ensures.plan)))
+    rw (c.in_ok-add_plan.ensures.adds.steps, c.new-plan.ensures.steps) (subst (λ xs. HaveRoom bits g.P.Prefix.fits g.P.R.Key.width xs (([], None) ∷ [])) (append-nil (reverse (steps_of c.in_ok-add_plan.ensures.plan)))
     (rooms bits g.P.Prefix.fits g.P.R.Key.width c.in_ok-add_plan.ensures.plan [] None [] [] (omega arith) (fits_plan (g.P.R.Key.width - 0) (hop_at (beyond bits 0 c.args.pieces.now)) (tree_of bits 0 c.in_ok-add_plan.ensures.plan) made.plans) made.fit tt))
 
 least_from : (w : ℕ) (h : List Bool → Option ℕ) (t : Tree) (ts : List (List Bool × Option ℕ)) → ts ≡ routes_of t None → IsPlan (w - 0) h t → IsLeast w h ts
@@ -44,7 +44,7 @@ returns-clause-ordered g c =
     let t = tree_of bits 0 p in
     let fits = fits_plan (g.P.R.Key.width - 0) (hop_at (beyond bits 0 c.args.pieces.now)) t c.in_ok-add_plan.ensures.made.plans in
     if_ok_map c.routes.result
-    (λ table e. ordered_from (g.P.R.Key.width - 0) t (strings bits table.items) (e ∙ all_stored bits (g.P.R.Key.width - 0) p c.new-steps.result.items c.add_plan.new.steps.items c.in_ok-add_plan.ensures.adds c.new-steps.ensures.items fits) fits)
+    (λ table e. ordered_from (g.P.R.Key.width - 0) t (strings bits table.items) (e ∙ all_stored bits (g.P.R.Key.width - 0) p (steps_in c.new-plan.result) (steps_in c.add_plan.new.plan) c.in_ok-add_plan.ensures.adds.steps c.new-plan.ensures.steps fits) fits)
     c.routes.ensures.routes
 
 pub returns-clause-least : goal.returns-clause-least
@@ -55,6 +55,6 @@ returns-clause-least g c =
     let h = hop_at (beyond bits 0 c.args.pieces.now) in
     if_ok_map c.routes.result
     (λ table e. least_from g.P.R.Key.width (hop_at (strings bits c.args.pieces.now)) t (strings bits table.items)
-    (e ∙ all_stored bits (g.P.R.Key.width - 0) p c.new-steps.result.items c.add_plan.new.steps.items c.in_ok-add_plan.ensures.adds c.new-steps.ensures.items (fits_plan (g.P.R.Key.width - 0) h t c.in_ok-add_plan.ensures.made.plans))
+    (e ∙ all_stored bits (g.P.R.Key.width - 0) p (steps_in c.new-plan.result) (steps_in c.add_plan.new.plan) c.in_ok-add_plan.ensures.adds.steps c.new-plan.ensures.steps (fits_plan (g.P.R.Key.width - 0) h t c.in_ok-add_plan.ensures.made.plans))
     c.in_ok-add_plan.ensures.made.plans)
     c.routes.ensures.routes
