@@ -20,7 +20,7 @@ use Rattle.route_feed.specs.declared.error.RunError.TheVariants as Why
 use Rattle.route_feed.specs.declared.follower.Waiting.{Waiting}
 use Rattle.route_feed.specs.InnerInstalling.{Begun, GivesChanges, WritesChanges, batch_bytes, operation_bytes, routes_waiting, route_waiting, update_line}
 use Rattle.route_feed.specs.InnerReplies.{Closes, Torn, Written}
-use Rattle.route_feed.specs.Installing.{printed_updates, update_for}
+use Rattle.route_feed.specs.Installing.{operation_line, printed_updates}
 use Rattle.route_feed.specs.Replies.{reply_line}
 use Rattle.route_feed.proofs.Adding.{before_place}
 use Rattle.route_feed.proofs.Written.{Closes-written, Torn-after, Torn-longer, Written-nil, Written-trans}
@@ -34,11 +34,11 @@ painted_all-append M [] ss = refl
 painted_all-append M (r ∷ rs) ss = painted_all-append (painted M r) rs ss
 
 pub operations-append : (os ps : List Operation) → operation_bytes (os ++ ps) ≡ operation_bytes os ++ operation_bytes ps
-operations-append os ps = ap printed_updates (map-append update_for os ps) ∙ flat_map-append update_line (map update_for os) (map update_for ps)
+operations-append os ps = ap printed_updates (map-append operation_line os ps) ∙ flat_map-append update_line (map operation_line os) (map operation_line ps)
 
 -- a batch is its operations and `ok`
 pub batch_is : (os : List Operation) → operation_bytes os ++ reply_line (Close Done) ≡ batch_bytes os
-batch_is os = ap (λ t. operation_bytes os ++ t) (sym (append-nil (update_line U.Done))) ∙ sym (flat_map-append update_line (map update_for os) (U.Done ∷ []))
+batch_is os = ap (λ t. operation_bytes os ++ t) (sym (append-nil (update_line U.Done))) ∙ sym (flat_map-append update_line (map operation_line os) (U.Done ∷ []))
 
 module _ {W : Type 0} (contents : W → Option (List ℕ)) where
   -- a batch whose operations were written
@@ -65,7 +65,7 @@ pub record Wrote {W : Type 0} (contents : W → Option (List ℕ)) (old new : Co
   pub written : Written contents old new done
 
 -- an operation that is given, as an update
-same_update : (o : Given.Operation) → network_of o ≡ network_at (block (network_of o)) → text.update_for o ≡ update_for (operation_of o)
+same_update : (o : Given.Operation) → network_of o ≡ network_at (block (network_of o)) → text.update_for o ≡ operation_line (operation_of o)
 same_update (One.Install net hop) e = λ i. U.Install (e i) hop
 same_update (One.Remove net) e = λ i. U.Remove (e i)
 

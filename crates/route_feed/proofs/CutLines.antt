@@ -7,7 +7,7 @@ use Rattle.route_lines.specs.declared.update.Update.TheVariants as U
 use Rattle.route_laws.specs.Operations.{Operation, Install, Remove}
 use Rattle.route_laws.specs.Runs.{Event, Have, Told, Sync, Installer, MayAllCome, after_event, after_events, gives, with_haves}
 use Rattle.route_laws.specs.Tables.{Route, with_route}
-use Rattle.route_feed.specs.Installing.{Installing, Noted, after_note, after_notes, batches, event_lines, event_of, events, update_for, update_lines}
+use Rattle.route_feed.specs.Installing.{Installing, Noted, after_note, after_notes, batches, event_lines, event_of, events, operation_line, update_lines}
 use Rattle.route_feed.specs.InstallLaws.{is_operation, oks}
 use Rattle.route_feed.proofs.GivenLines.{kept-append}
 use Rattle.route_feed.proofs.KeptTable.{one_event}
@@ -16,7 +16,7 @@ use Rattle.route_feed.proofs.NotesInTurn.{kept_stays, lines-append}
 pub oks-append : (us vs : List Update) → oks (us ++ vs) ≡ oks us + oks vs
 oks-append us vs = ap length (kept-append (λ (u : Update). not (is_operation u)) us vs) ∙ length-append (filter (λ (u : Update). not (is_operation u)) us) (filter (λ (u : Update). not (is_operation u)) vs)
 
-no_oks : (os : List Operation) → oks (map update_for os) ≡ 0
+no_oks : (os : List Operation) → oks (map operation_line os) ≡ 0
 no_oks [] = refl
 no_oks (Install r ∷ os) = no_oks os
 no_oks (Remove b ∷ os) = no_oks os
@@ -27,10 +27,10 @@ batches_are_oks s [] = refl
 batches_are_oks s (e ∷ es) = go (Installer.kept (after_event s e)) (batches_are_oks (after_event s e) es)
   where
     go : (b : Bool) → batches (after_event s e) es ≡ oks (update_lines (after_event s e) es)
-        → cond b (suc (batches (after_event s e) es)) (batches (after_event s e) es) ≡ oks (cond b (map update_for (gives s e) ++ U.Done ∷ []) [] ++ update_lines (after_event s e) es)
+        → cond b (suc (batches (after_event s e) es)) (batches (after_event s e) es) ≡ oks (cond b (map operation_line (gives s e) ++ U.Done ∷ []) [] ++ update_lines (after_event s e) es)
     go true h =
-        let one : oks (map update_for (gives s e) ++ U.Done ∷ []) ≡ 1 = oks-append (map update_for (gives s e)) (U.Done ∷ []) ∙ ap (λ k. k + 1) (no_oks (gives s e)) in
-        let all = oks-append (map update_for (gives s e) ++ U.Done ∷ []) (update_lines (after_event s e) es) in
+        let one : oks (map operation_line (gives s e) ++ U.Done ∷ []) ≡ 1 = oks-append (map operation_line (gives s e)) (U.Done ∷ []) ∙ ap (λ k. k + 1) (no_oks (gives s e)) in
+        let all = oks-append (map operation_line (gives s e) ++ U.Done ∷ []) (update_lines (after_event s e) es) in
         omega (arith, h, one, all)
     go false h = h
 
@@ -39,7 +39,7 @@ pub ok_keeps : (es : List Event) (s : Installer) → In U.Done (update_lines s e
 ok_keeps [] s i = absurd i
 ok_keeps (e ∷ es) s i = ⊎_elim (λ j. kept_stays es (after_event s e) (go (Installer.kept (after_event s e)) j)) (ok_keeps es (after_event s e)) (In-cases U.Done (event_lines s e) (update_lines (after_event s e) es) i)
   where
-    go : (b : Bool) → In U.Done (cond b (map update_for (gives s e) ++ U.Done ∷ []) []) → b ≡ true
+    go : (b : Bool) → In U.Done (cond b (map operation_line (gives s e) ++ U.Done ∷ []) []) → b ≡ true
     go true j = refl
     go false j = absurd j
 
@@ -84,17 +84,17 @@ begins (u ∷ us) rest (v ∷ vs) ws e =
     begins_more u v us rest vs ws (let first : u ≡ v = cc in first) (begins us rest vs ws (let more : us ++ rest ≡ vs ++ ws = cc in more))
 
 -- before the `ok` of a batch there are its operations alone
-open_lines : (os : List Operation) (us : List Update) (t : Update) (tail : List Update) → map update_for os ++ U.Done ∷ [] ≡ us ++ t ∷ tail → oks us ≡ 0
+open_lines : (os : List Operation) (us : List Update) (t : Update) (tail : List Update) → map operation_line os ++ U.Done ∷ [] ≡ us ++ t ∷ tail → oks us ≡ 0
 open_lines os [] t tail e = refl
 open_lines [] (u ∷ []) t tail e = absurd (let none : [] ≡ t ∷ tail = cc in cc)
 open_lines [] (u ∷ v ∷ us) t tail e = absurd (let none : [] ≡ v ∷ (us ++ t ∷ tail) = cc in cc)
 open_lines (Install r ∷ os) (u ∷ us) t tail e =
-    let first : update_for (Install r) ≡ u = cc in
-    let more : map update_for os ++ U.Done ∷ [] ≡ us ++ t ∷ tail = cc in
+    let first : operation_line (Install r) ≡ u = cc in
+    let more : map operation_line os ++ U.Done ∷ [] ≡ us ++ t ∷ tail = cc in
     ap (λ v. oks (v ∷ us)) (sym first) ∙ open_lines os us t tail more
 open_lines (Remove b ∷ os) (u ∷ us) t tail e =
-    let first : update_for (Remove b) ≡ u = cc in
-    let more : map update_for os ++ U.Done ∷ [] ≡ us ++ t ∷ tail = cc in
+    let first : operation_line (Remove b) ≡ u = cc in
+    let more : map operation_line os ++ U.Done ∷ [] ≡ us ++ t ∷ tail = cc in
     ap (λ v. oks (v ∷ us)) (sym first) ∙ open_lines os us t tail more
 
 not_empty : {A : Type 0} (us : List A) (t : A) (tail : List A) → [] ≡ us ++ t ∷ tail → ⊥
@@ -104,7 +104,7 @@ not_empty (u ∷ us) t tail e = cc
 event_open : (s : Installer) (e : Event) (us : List Update) (t : Update) (tail : List Update) → event_lines s e ≡ us ++ t ∷ tail → oks us ≡ 0
 event_open s e us t tail h = go (Installer.kept (after_event s e)) h
   where
-    go : (b : Bool) → cond b (map update_for (gives s e) ++ U.Done ∷ []) [] ≡ us ++ t ∷ tail → oks us ≡ 0
+    go : (b : Bool) → cond b (map operation_line (gives s e) ++ U.Done ∷ []) [] ≡ us ++ t ∷ tail → oks us ≡ 0
     go true k = open_lines (gives s e) us t tail k
     go false k = absurd (not_empty us t tail k)
 

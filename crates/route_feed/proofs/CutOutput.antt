@@ -15,7 +15,7 @@ use Rattle.route_laws.specs.Networks.{routes_of}
 use Rattle.route_laws.specs.Operations.{Operation, after, after_all}
 use Rattle.route_laws.specs.Runs.{Event, Installer, MayAllCome, after_events, given, haves, start}
 use Rattle.route_laws.specs.Tables.{Route, hop_at}
-use Rattle.route_feed.specs.Installing.{Installing, Noted, after_notes, begin, event_of, events, update_for, update_lines}
+use Rattle.route_feed.specs.Installing.{Installing, Noted, after_notes, begin, event_of, events, operation_line, update_lines}
 use Rattle.route_feed.specs.InstallLaws.{AreFirst, CutsAgree, carried_out, installed_by, is_operation, oks, operations_at, replies_of, reply_in, table_at, updates_in}
 use Rattle.route_feed.specs.Streams.{closes, closings}
 use Rattle.route_feed.proofs.Beginnings.{first_lines}
@@ -93,7 +93,7 @@ module _ (bytes : List ℕ) (refusals : List Bool) where
     haves_are = ap haves split ∙ haves-append first_events (events at c.later) [] ∙ no_haves (events at c.later) (after_events start first_events) (haves first_events) kept may_both.1
 
     -- the lines make what these operations make of what was installed at the note
-    made : (os : List Operation) → filter is_operation c.begun ≡ map update_for os → (x : Address) → hop_at (carried_out (haves (events begin ns)) us) x ≡ hop_at (after_all (installed_by c.before) os) x
+    made : (os : List Operation) → filter is_operation c.begun ≡ map operation_line os → (x : Address) → hop_at (carried_out (haves (events begin ns)) us) x ≡ hop_at (after_all (installed_by c.before) os) x
     made os e x =
         let H = haves first_events in
         let G = given start first_events in
@@ -102,8 +102,8 @@ module _ (bytes : List ℕ) (refusals : List Bool) where
         ∙ ap (λ l. hop_at (carried_out H (filter is_operation l)) x) c.lines
         ∙ ap (λ l. hop_at (carried_out H l) x) (kept-append is_operation (update_lines start first_events) c.begun)
         ∙ ap (λ l. hop_at (carried_out H (l ++ filter is_operation c.begun)) x) (lines_operations start first_events)
-        ∙ ap (λ l. hop_at (carried_out H (map update_for G ++ l)) x) e
-        ∙ ap (λ l. hop_at (carried_out H l) x) (map_both update_for G os)
+        ∙ ap (λ l. hop_at (carried_out H (map operation_line G ++ l)) x) e
+        ∙ ap (λ l. hop_at (carried_out H l) x) (map_both operation_line G os)
         ∙ carried_hops H (G ++ os) x
         ∙ ap (λ M. hop_at M x) (after_all-append H G os)
 
@@ -118,7 +118,7 @@ module _ (bytes : List ℕ) (refusals : List Bool) where
         let part = sym (kept-append is_operation c.begun tail) ∙ ap (filter is_operation) (sym begins) ∙ lines_operations at.tables (event_of at n.note n.least) in
         let i = length (filter is_operation c.begun) in
         let is = c.is ∙ ap (λ l. c.before ++ l) later_is in
-        let done = made (take i ops) (first_of_map update_for ops (filter is_operation c.begun) (filter is_operation tail) part) x in
+        let done = made (take i ops) (first_of_map operation_line ops (filter is_operation c.begun) (filter is_operation tail) part) x in
         ⊎_elim
         (λ e. inl (done ∙ e))
         (λ e. after_one c.before n x _ (done ∙ e))

@@ -13,7 +13,7 @@ use Rattle.route_laws.specs.Operations.{Operation, Install, Remove, after_all, b
 use Rattle.route_laws.specs.Runs.{Event, Have, Told, Sync, Installer, after_event, given, gives, start}
 use Rattle.route_laws.specs.Tables.{Route, covering, hop_at, longer, longest, match_number, match_of, route_of, with_route, without_block}
 use Rattle.route_laws.proofs.NetworksAt.{of_network_at}
-use Rattle.route_feed.specs.Installing.{begin, event_lines, events, update_for, update_lines}
+use Rattle.route_feed.specs.Installing.{begin, event_lines, events, operation_line, update_lines}
 use Rattle.route_feed.specs.InstallLaws.{OutputIsGiven, carried_out, is_operation}
 
 -- ---- the lines of operations
@@ -26,16 +26,16 @@ kept-append p (x ∷ xs) ys = go (p x) (kept-append p xs ys)
     go true h = ap (λ zs. x ∷ zs) h
     go false h = h
 
-all_operations : (os : List Operation) → filter is_operation (map update_for os) ≡ map update_for os
+all_operations : (os : List Operation) → filter is_operation (map operation_line os) ≡ map operation_line os
 all_operations [] = refl
-all_operations (Install r ∷ os) = ap (λ us. update_for (Install r) ∷ us) (all_operations os)
-all_operations (Remove b ∷ os) = ap (λ us. update_for (Remove b) ∷ us) (all_operations os)
+all_operations (Install r ∷ os) = ap (λ us. operation_line (Install r) ∷ us) (all_operations os)
+all_operations (Remove b ∷ os) = ap (λ us. operation_line (Remove b) ∷ us) (all_operations os)
 
-batch_operations : (os : List Operation) → filter is_operation (map update_for os ++ U.Done ∷ []) ≡ map update_for os
-batch_operations os = kept-append is_operation (map update_for os) (U.Done ∷ []) ∙ append-nil (filter is_operation (map update_for os)) ∙ all_operations os
+batch_operations : (os : List Operation) → filter is_operation (map operation_line os ++ U.Done ∷ []) ≡ map operation_line os
+batch_operations os = kept-append is_operation (map operation_line os) (U.Done ∷ []) ∙ append-nil (filter is_operation (map operation_line os)) ∙ all_operations os
 
 -- where the table is not kept nothing is given
-event_operations : (s : Installer) (e : Event) → filter is_operation (event_lines s e) ≡ map update_for (gives s e)
+event_operations : (s : Installer) (e : Event) → filter is_operation (event_lines s e) ≡ map operation_line (gives s e)
 event_operations s (Have r) = go s.kept
   where
     go : (b : Bool) → filter is_operation (cond b (U.Done ∷ []) []) ≡ []
@@ -43,18 +43,18 @@ event_operations s (Have r) = go s.kept
     go false = refl
 event_operations s (Told rs) = go s.kept
   where
-    go : (b : Bool) → filter is_operation (cond b (map update_for (cond b (batch s.installed rs) []) ++ U.Done ∷ []) []) ≡ map update_for (cond b (batch s.installed rs) [])
+    go : (b : Bool) → filter is_operation (cond b (map operation_line (cond b (batch s.installed rs) []) ++ U.Done ∷ []) []) ≡ map operation_line (cond b (batch s.installed rs) [])
     go true = batch_operations (batch s.installed rs)
     go false = refl
 event_operations s (Sync rs N) = batch_operations (between s.installed N)
 
-pub lines_operations : (s : Installer) (es : List Event) → filter is_operation (update_lines s es) ≡ map update_for (given s es)
+pub lines_operations : (s : Installer) (es : List Event) → filter is_operation (update_lines s es) ≡ map operation_line (given s es)
 lines_operations s [] = refl
 lines_operations s (e ∷ es) =
     kept-append is_operation (event_lines s e) (update_lines (after_event s e) es)
     ∙ ap (λ us. us ++ filter is_operation (update_lines (after_event s e) es)) (event_operations s e)
-    ∙ ap (λ us. map update_for (gives s e) ++ us) (lines_operations (after_event s e) es)
-    ∙ sym (map_append update_for (gives s e) (given (after_event s e) es))
+    ∙ ap (λ us. map operation_line (gives s e) ++ us) (lines_operations (after_event s e) es)
+    ∙ sym (map_append operation_line (gives s e) (given (after_event s e) es))
 
 pub output_is_given : OutputIsGiven
 output_is_given ns = lines_operations start (events begin ns)
@@ -91,16 +91,16 @@ plain_carried (U.Install net hop ∷ us) M = plain_carried us (with_route M (rou
 plain_carried (U.Remove net ∷ us) M = plain_carried us (without_block M (block net)) ∙ ap (λ T. carried_out T us) (sym (plain_without M (block net)))
 plain_carried (U.Done ∷ us) M = plain_carried us M
 
-plain_operations : (os : List Operation) (M : List Route) → carried_out (map plain M) (map update_for os) ≡ map plain (after_all M os)
+plain_operations : (os : List Operation) (M : List Route) → carried_out (map plain M) (map operation_line os) ≡ map plain (after_all M os)
 unfolding plain
 plain_operations [] M = refl
 plain_operations (Install r ∷ os) M =
-    ap (λ (b : Block). carried_out (with_route (map plain M) (record { block = b; hop = r.hop; pref = default_preference })) (map update_for os)) (of_network_at r.block)
-    ∙ ap (λ T. carried_out T (map update_for os)) (plain_with M r)
+    ap (λ (b : Block). carried_out (with_route (map plain M) (record { block = b; hop = r.hop; pref = default_preference })) (map operation_line os)) (of_network_at r.block)
+    ∙ ap (λ T. carried_out T (map operation_line os)) (plain_with M r)
     ∙ plain_operations os (with_route M r)
 plain_operations (Remove b ∷ os) M =
-    ap (λ (c : Block). carried_out (without_block (map plain M) c) (map update_for os)) (of_network_at b)
-    ∙ ap (λ T. carried_out T (map update_for os)) (plain_without M b)
+    ap (λ (c : Block). carried_out (without_block (map plain M) c) (map operation_line os)) (of_network_at b)
+    ∙ ap (λ T. carried_out T (map operation_line os)) (plain_without M b)
     ∙ plain_operations os (without_block M b)
 
 -- preferences turn no address
@@ -130,10 +130,10 @@ plain_hop M x =
     ∙ plain_number (match_of M (host x))
 
 -- the lines of operations make the hops that the operations make
-pub carried_hops : (M : List Route) (os : List Operation) (x : Address) → hop_at (carried_out M (map update_for os)) x ≡ hop_at (after_all M os) x
+pub carried_hops : (M : List Route) (os : List Operation) (x : Address) → hop_at (carried_out M (map operation_line os)) x ≡ hop_at (after_all M os) x
 carried_hops M os x =
-    sym (plain_hop (carried_out M (map update_for os)) x)
-    ∙ ap (λ T. hop_at T x) (plain_carried (map update_for os) M ∙ plain_operations os M)
+    sym (plain_hop (carried_out M (map operation_line os)) x)
+    ∙ ap (λ T. hop_at T x) (plain_carried (map operation_line os) M ∙ plain_operations os M)
     ∙ plain_hop (after_all M os) x
 
 -- ---- a beginning
@@ -152,5 +152,5 @@ pub first_carried : (M : List Route) (es : List Event) (us later : List Update) 
 first_carried M es us later e x =
     let whole = sym (kept-append is_operation us later) ∙ ap (filter is_operation) (sym e) ∙ lines_operations start es in
     ap (λ T. hop_at T x) (only_operations M us)
-    ∙ ap (λ vs. hop_at (carried_out M vs) x) (first_of_map update_for (given start es) (filter is_operation us) (filter is_operation later) whole)
+    ∙ ap (λ vs. hop_at (carried_out M vs) x) (first_of_map operation_line (given start es) (filter is_operation us) (filter is_operation later) whole)
     ∙ carried_hops M (take (length (filter is_operation us)) (given start es)) x

@@ -25,7 +25,7 @@ use Rattle.route_laws.proofs.Batches.{Changes, changes_from}
 use Rattle.route_laws.proofs.Between.{reverse_In}
 use Rattle.route_laws.proofs.Painted.{painted_is_table}
 use Rattle.route_laws.proofs.Runs.{Holds, holds}
-use Rattle.route_feed.specs.Installing.{begin, event_lines, events, printed_updates, update_for, update_lines}
+use Rattle.route_feed.specs.Installing.{begin, event_lines, events, operation_line, printed_updates, update_lines}
 use Rattle.route_feed.specs.InstallLaws.{BeginningsAreCarriedOut, OutputReadsBack, updates_in}
 use Rattle.route_feed.proofs.Beginnings.{first_lines}
 use Rattle.route_feed.proofs.GivenLines.{first_carried}
@@ -65,14 +65,14 @@ abbrev Sound : Operation → Type 0
 Sound (Install r) = IsBlock r.block × IsHop r.hop
 Sound (Remove b) = IsBlock b
 
-sound_spelled : (o : Operation) → Sound o → IsUpdate (update_text (update_for o)) (update_for o)
-sound_spelled (Install r) s = prints (update_for (Install r)) (is_cut r.block) (net_reads r.block s.0, word_hop r.hop s.1)
-sound_spelled (Remove b) s = prints (update_for (Remove b)) (is_cut b) (net_reads b s)
+sound_spelled : (o : Operation) → Sound o → IsUpdate (update_text (operation_line o)) (operation_line o)
+sound_spelled (Install r) s = prints (operation_line (Install r)) (is_cut r.block) (net_reads r.block s.0, word_hop r.hop s.1)
+sound_spelled (Remove b) s = prints (operation_line (Remove b)) (is_cut b) (net_reads b s)
 
 abbrev AllSound : List Operation → Type 0
 AllSound os = (o : Operation) → In o os → Sound o
 
-sound_lines : (os : List Operation) → AllSound os → AreSpelled (map update_for os)
+sound_lines : (os : List Operation) → AllSound os → AreSpelled (map operation_line os)
 sound_lines [] h = tt
 sound_lines (o ∷ os) h = (sound_spelled o (h o (inl refl)), sound_lines os (λ p i. h p (inr i)))
 
@@ -112,8 +112,8 @@ gives_sound s (Sync rs N) m c o i = between_sound s.installed N m c.1.hops.table
 event_spelled : (s : Installer) (e : Event) → IsTable s.installed → MayCome s e → AreSpelled (event_lines s e)
 event_spelled s e m c = go (Installer.kept (after_event s e))
   where
-    go : (b : Bool) → AreSpelled (cond b (map update_for (gives s e) ++ U.Done ∷ []) [])
-    go true = AreSpelled-append (map update_for (gives s e)) (U.Done ∷ []) (sound_lines (gives s e) (gives_sound s e m c)) (refl, tt)
+    go : (b : Bool) → AreSpelled (cond b (map operation_line (gives s e) ++ U.Done ∷ []) [])
+    go true = AreSpelled-append (map operation_line (gives s e)) (U.Done ∷ []) (sound_lines (gives s e) (gives_sound s e m c)) (refl, tt)
     go false = tt
 
 lines_spelled : (fs es : List Event) → MayAllCome start (es ++ fs) → AreSpelled (update_lines (after_events start es) fs)

@@ -19,7 +19,7 @@ use Rattle.route_feed.specs.declared.error.RunError.{RunError}
 use Rattle.route_feed.specs.declared.error.RunError.TheVariants as Why
 use Rattle.route_feed.specs.declared.follower.Waiting.{Waiting}
 use Rattle.route_feed.specs.InnerReplies.{Closed, Torn, Written}
-use Rattle.route_feed.specs.Installing.{Installing, IsUnfit, MayWant, Noted, after_note, batches, event_of, noted_bytes, printed_updates, update_for}
+use Rattle.route_feed.specs.Installing.{Installing, IsUnfit, MayWant, Noted, after_note, batches, event_of, noted_bytes, operation_line, printed_updates}
 
 -- the note that a line spells: none where it is too long
 abbrev pub note_in : Line → Option Note
@@ -43,10 +43,10 @@ update_line u = update_text u ++ codes "\n"
 
 -- the lines of operations, and then `ok`
 abbrev pub operation_bytes : List Operation → List ℕ
-operation_bytes os = printed_updates (map update_for os)
+operation_bytes os = printed_updates (map operation_line os)
 
 abbrev pub batch_bytes : List Operation → List ℕ
-batch_bytes os = printed_updates (map update_for os ++ U.Done ∷ [])
+batch_bytes os = printed_updates (map operation_line os ++ U.Done ∷ [])
 
 -- no route is told as installed once the table is kept, and a least table is one of the hops after its changes
 abbrev pub IsFit : Installer → Event → Type 0

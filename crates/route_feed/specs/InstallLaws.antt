@@ -9,7 +9,7 @@ use Rattle.ipnet.specs.IpNets.{block}
 use Rattle.route_lines.specs.Bytes.{lines, rest}
 use Rattle.route_lines.specs.Spelled.{note_of, update_of}
 use Rattle.route_lines.specs.declared.note.Note.{Note}
-use Rattle.route_lines.specs.declared.note.Note.TheVariants as N
+use Rattle.route_lines.specs.declared.note.Note.TheVariants as Notes
 use Rattle.route_lines.specs.declared.reply.Closing.TheVariants.{Done}
 use Rattle.route_lines.specs.declared.reply.Reply.{Reply}
 use Rattle.route_lines.specs.declared.reply.Reply.TheVariants.{Close}
@@ -20,16 +20,16 @@ use Rattle.route_laws.specs.Networks.{Stored, routes_of}
 use Rattle.route_laws.specs.Operations.{Operation, IsHitless, after_all}
 use Rattle.route_laws.specs.Runs.{MayAllCome, given, haves, start}
 use Rattle.route_laws.specs.Tables.{Route, hop_at, route_of, with_route, without_block}
-use Rattle.route_feed.specs.Installing.{AreNotes, Noted, after_notes, batches_given, begin, event_of, events, installed_bytes, update_for, update_lines}
+use Rattle.route_feed.specs.Installing.{AreNotes, Noted, after_notes, batches_given, begin, event_of, events, installed_bytes, operation_line, update_lines}
 use Rattle.route_feed.specs.Laws.{table_told}
 use Rattle.route_feed.specs.Output.{at_end, output, table_after, whole_commands}
 use Rattle.route_feed.specs.Streams.{closings, committed, painted, pending_over, replies_in}
 
 -- the reply line of a note
 abbrev pub reply_in : Note → Option Reply
-reply_in (N.Have net hop) = None
-reply_in N.Sync = None
-reply_in (N.Reply line) = Some line
+reply_in (Notes.Have net hop) = None
+reply_in Notes.Sync = None
+reply_in (Notes.Reply line) = Some line
 
 -- the reply lines among notes
 abbrev pub replies_of : List Noted → List Reply
@@ -57,11 +57,11 @@ installed_by ns = after_all (haves (events begin ns)) (given start (events begin
 
 -- a `sync` stands among them
 abbrev pub HasSync : List Noted → Type 0
-HasSync ns = Any (λ n. n.note ≡ N.Sync) ns
+HasSync ns = Any (λ n. n.note ≡ Notes.Sync) ns
 
 -- no route is told as installed
 abbrev pub IsNoHave : Note → Type 0
-IsNoHave note = (net : IpNet) (hop : Hop) → note ≡ N.Have net hop → ⊥
+IsNoHave note = (net : IpNet) (hop : Hop) → note ≡ Notes.Have net hop → ⊥
 
 -- ---- of the notes of a leader's replies, with other notes anywhere between them
 
@@ -98,15 +98,15 @@ OperationsReach = (ns : List Noted) (n : Noted) → MayAllCome start (events beg
 
 -- right after a `sync` it is a least table of the hops that the reply lines commit
 abbrev pub SyncsAreLeast : Type 0
-SyncsAreLeast = (ns : List Noted) (least : List Route) → MayAllCome start (events begin (ns ++ record { note = N.Sync; least = least } ∷ []))
-    → IsLeast (painted (committed (replies_of ns))) (installed_by (ns ++ record { note = N.Sync; least = least } ∷ []))
+SyncsAreLeast = (ns : List Noted) (least : List Route) → MayAllCome start (events begin (ns ++ record { note = Notes.Sync; least = least } ∷ []))
+    → IsLeast (painted (committed (replies_of ns))) (installed_by (ns ++ record { note = Notes.Sync; least = least } ∷ []))
 
 -- and so it is after an `ok` where more than 256 changes wait
 abbrev pub LargeRepliesAreLeast : Type 0
-LargeRepliesAreLeast = (ns : List Noted) (least : List Route) → MayAllCome start (events begin (ns ++ record { note = N.Reply (Close Done); least = least } ∷ []))
+LargeRepliesAreLeast = (ns : List Noted) (least : List Route) → MayAllCome start (events begin (ns ++ record { note = Notes.Reply (Close Done); least = least } ∷ []))
     → HasSync ns → 256 < length (pending_over [] (replies_of ns))
-    → IsLeast (painted (committed (replies_of (ns ++ record { note = N.Reply (Close Done); least = least } ∷ []))))
-    (installed_by (ns ++ record { note = N.Reply (Close Done); least = least } ∷ []))
+    → IsLeast (painted (committed (replies_of (ns ++ record { note = Notes.Reply (Close Done); least = least } ∷ []))))
+    (installed_by (ns ++ record { note = Notes.Reply (Close Done); least = least } ∷ []))
 
 -- ---- of the lines that are written
 
@@ -133,7 +133,7 @@ carried_out M (U.Done ∷ us) = carried_out M us
 
 -- the lines are those of the operations that are given, and `ok`
 abbrev pub OutputIsGiven : Type 0
-OutputIsGiven = (ns : List Noted) → filter is_operation (update_lines start (events begin ns)) ≡ map update_for (given start (events begin ns))
+OutputIsGiven = (ns : List Noted) → filter is_operation (update_lines start (events begin ns)) ≡ map operation_line (given start (events begin ns))
 
 -- they are read again as they were written
 abbrev pub OutputReadsBack : Type 0

@@ -5,7 +5,7 @@ use Rattle.std.specs.Prelude.{codes}
 use Rattle.route_lines.specs.Spelled.{note_of}
 use Rattle.route_lines.specs.Texts.{update_text}
 use Rattle.route_lines.specs.declared.note.Note.{Note}
-use Rattle.route_lines.specs.declared.note.Note.TheVariants as N
+use Rattle.route_lines.specs.declared.note.Note.TheVariants as Notes
 use Rattle.route_lines.specs.declared.update.Update.{Update}
 use Rattle.route_lines.specs.declared.update.Update.TheVariants as U
 use Rattle.route_choices.specs.Choices.{default_preference}
@@ -38,15 +38,15 @@ committing kept (c ∷ cs) N =
 
 -- the event of a note, or none; N is the table that is installed where a least one is asked for
 abbrev pub event_of : Installing → Note → List Route → List Event
-event_of s (N.Have net hop) N = Have (route_of net hop default_preference) ∷ []
-event_of s N.Sync N = Sync [] N ∷ []
-event_of s (N.Reply line) N = if done_or (closes line) false then committing s.tables.kept s.pending N else []
+event_of s (Notes.Have net hop) N = Have (route_of net hop default_preference) ∷ []
+event_of s Notes.Sync N = Sync [] N ∷ []
+event_of s (Notes.Reply line) N = if done_or (closes line) false then committing s.tables.kept s.pending N else []
 
 -- the changes that wait after a note
 abbrev pub pending_past : List Change → Note → List Change
-pending_past changes (N.Have net hop) = changes
-pending_past changes N.Sync = changes
-pending_past changes (N.Reply line) = pending_after changes (closes line) (change_of line)
+pending_past changes (Notes.Have net hop) = changes
+pending_past changes Notes.Sync = changes
+pending_past changes (Notes.Reply line) = pending_after changes (closes line) (change_of line)
 
 -- a note, and the table that is installed where it asks for a least one
 pub record Noted : Type 0 where
@@ -74,13 +74,13 @@ pub record AreNotes (pieces : List (List ℕ)) (ns : List Noted) : Type 0 where
   pub may : MayAllCome start (events begin ns)
 
 -- the line of an operation
-abbrev pub update_for : Operation → Update
-update_for (Install r) = U.Install (network_at r.block) r.hop
-update_for (Remove b) = U.Remove (network_at b)
+abbrev pub operation_line : Operation → Update
+operation_line (Install r) = U.Install (network_at r.block) r.hop
+operation_line (Remove b) = U.Remove (network_at b)
 
 -- what is written at an event: once the table is kept, its operations, and `ok`
 abbrev pub event_lines : Installer → Event → List Update
-event_lines s e = if (after_event s e).kept then map update_for (gives s e) ++ U.Done ∷ [] else []
+event_lines s e = if (after_event s e).kept then map operation_line (gives s e) ++ U.Done ∷ [] else []
 
 -- what is written at these events
 abbrev pub update_lines : Installer → List Event → List Update
@@ -111,12 +111,12 @@ batches_given ns = batches start (events begin ns)
 -- what can't be taken as a note: what spells none, and once the table is kept a route that is told as installed
 abbrev pub IsUnfit : Installing → Option Note → Type 0
 IsUnfit s None = Unit {0}
-IsUnfit s (Some (N.Have net hop)) = s.tables.kept ≡ true
-IsUnfit s (Some N.Sync) = ⊥
-IsUnfit s (Some (N.Reply line)) = ⊥
+IsUnfit s (Some (Notes.Have net hop)) = s.tables.kept ≡ true
+IsUnfit s (Some Notes.Sync) = ⊥
+IsUnfit s (Some (Notes.Reply line)) = ⊥
 
 -- the note may want memory: a route that is installed, a `sync`, a change, which is kept, or `ok` where some wait
 abbrev pub MayWant : Installing → Note → Type 0
-MayWant s (N.Have net hop) = s.tables.kept ≡ false
-MayWant s N.Sync = Unit {0}
-MayWant s (N.Reply line) = WantsMemory s.pending line
+MayWant s (Notes.Have net hop) = s.tables.kept ≡ false
+MayWant s Notes.Sync = Unit {0}
+MayWant s (Notes.Reply line) = WantsMemory s.pending line

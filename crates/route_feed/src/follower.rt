@@ -1,6 +1,6 @@
 //! A follower: what a leader's reply lines say of the hops.
-ghost use Rattle.std.specs.Prelude.{◌≡◌, ◌<◌, ◌++◌, ◌∷◌, [], true, false, length, Some, None, All, IfErr, IfNone, IfOk, IfSome, IsErrOf, IsOk, OnErr, OnOk};
-ghost use Rattle.ipnet_addr.specs.Addresses.{Address, IsAddress};
+ghost use Rattle.std.specs.Prelude.{◌≡◌, ◌<◌, ◌++◌, ◌∷◌, [], true, false, length, Some, None, All, IfErr, IfNone, IfOk, IfSome, IsErrOf, IsOk, Ok, OnErr, OnOk};
+ghost use Rattle.ipnet_addr.specs.Addresses.{Address, IsAddress, address_of};
 ghost use Rattle.ipnet.specs.IpNets.{family, parts};
 ghost use Rattle.ipnet_blocks.specs.Networks.{IsTruncated};
 ghost use Rattle.route_lines.specs.Spelled.{reply_of};
@@ -14,7 +14,7 @@ ghost use Rattle.route_feed.specs.Streams.{painted_over, WantsMemory};
 ghost use Rattle.route_feed.specs.InnerWaiting.{changes_of, waiting_change};
 
 use crate::error::RunError;
-use ipnet::IpNet;
+use ipnet::{IpAddr, IpNet};
 use route_lines::{Closing, Reply};
 use route_table::{Flat, Hop, HopTable};
 use std::alloc::Global;
@@ -114,6 +114,38 @@ impl Follower {
             return None;
         }
         Some(self.pieces())
+    }
+
+    /// The hop of an address, none where it has none. It takes no memory.
+    ///
+    /// After a want of memory at `ok` only some of the changes of that reply may have been carried out; so who asks then looks at
+    /// `failed` first.
+    pub fn hop(&self, addr: IpAddr) -> Option<u32>
+        ensures { result ≡ hop_at (routes_of self.now.table) (address_of addr) }
+    {
+        let (_, hop, _) = self.table.get(&IpNet::from(addr))?;
+        hop.number()
+    }
+
+    /// The routes of a table with these hops and the fewest routes of all such tables, nested ones and `drop` included; ascending, as
+    /// networks without host bits. None after a fault. Which of several such tables is open.
+    ///
+    /// # Errors
+    /// `Memory` where there is none for the list, or on the way to it. The next call may have some: the follower has not failed.
+    pub fn least(&self) -> Result<Option<Vec<(IpNet, Hop)>>, RunError>
+        ensures works { IfOk result (λ found. IfNone found (self.now.failed ≡ true)) }
+        ensures failed { self.now.failed ≡ true → result ≡ Ok None }
+        ensures least { IfOk result (λ found. IfSome found (λ routes. IsLeast (hop_at (routes_of self.now.table)) (routes_for routes.items))) }
+        ensures truncated { IfOk result (λ found. IfSome found (λ routes. All (λ r. IsTruncated (family r.0) (parts r.0)) routes.items)) }
+        ensures memory { IfErr result (λ e. e ≡ RunError.Memory) }
+    {
+        if self.failed {
+            return Ok(None);
+        }
+        match self.table.least() {
+            Ok(routes) => Ok(Some(routes)),
+            Err(_) => Err(RunError::Memory),
+        }
     }
 
     /// The flat list of the hops.

@@ -130,7 +130,7 @@ fn errors(rt: HostRuntime) -> Result<(), Fail> {
         (RunError::Memory, "no memory"),
         (RunError::Read, "read fault"),
         (RunError::Write, "write fault"),
-        (RunError::Line, "not a reply line"),
+        (RunError::Line, "unexpected line"),
     ] {
         assert_eq!(rt; format!(in rt.alloc(); "{error}")?.as_str(), wanted);
     }
