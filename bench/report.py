@@ -71,8 +71,9 @@ What limits us on feeds in random order, by a profile of `churn`: 6 to 13 % of t
 lists of nodes, which the crate puts into whole blocks; a seventh of `lead`, a fifth with IPv6, waits for nodes in the longest
 match, and an eighth to a sixth of `follow` is the search for the node to change; the rest is spread over reading, walking and
 printing, with no function above an eighth. Ours leaves its table's memory to the system when `lead` or `follow` ends, which was
-4 to 14 % of a run; the peer has no such step, and frees its own. `least` keeps its plan, up to six steps for a block of the flat list, where the peer keeps 12 bytes for a node of its
-own and the hops of all in one list.
+4 to 14 % of a run; the peer has no such step, and frees its own. `least` keeps the flat list, 12 bytes for a block of IPv4 and 48 for one of
+IPv6, beside its table and then beside its plan, of up to six steps of 8 bytes for a block; the peer keeps a number and a hop for a range
+of addresses, and 12 bytes for a node of its own. The hops of larger sets stand in one list in both.
 
 """
 
