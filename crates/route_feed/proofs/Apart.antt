@@ -2,6 +2,7 @@
 use Rattle.std.proofs.Common.{◌≡◌, ℕ, ◌⊎◌, inl, inr, ⊎_elim, Bool, List, [], ◌∷◌, ◌++◌, Option, Some, None, refl, sym, ap, ◌∙◌, subst, append_assoc, append-nil}
 use Rattle.std.specs.List.{cons_option}
 use Rattle.std.specs.Option.{option_to_list}
+use Rattle.std.specs.Prelude.{get_or, false}
 use Rattle.ipnet_addr.proofs.Ascending.{Rising}
 use Rattle.route_lines.specs.declared.command.Command.{Command}
 use Rattle.route_lines.specs.declared.reply.Closing.{Closing}
@@ -9,7 +10,7 @@ use Rattle.route_lines.specs.declared.reply.Closing.TheVariants.{Done}
 use Rattle.route_lines.specs.declared.reply.Reply.{Reply}
 use Rattle.route_lines.specs.declared.reply.Reply.TheVariants.{Close}
 use Rattle.route_laws.specs.Networks.{Stored, IsStoredTable}
-use Rattle.route_feed.specs.Output.{replies, first_or_false, refusals_after, output}
+use Rattle.route_feed.specs.Output.{replies, refusals_after, output}
 use Rattle.route_feed.specs.Steps as turn
 use Rattle.route_feed.specs.Streams.{Change, change_of, closes, pending_after, pending_over, replies_in}
 use Rattle.route_feed.proofs.Beginnings.{AreInRange, all_in_range, commands_of, empty_is_table, output_read, reread_turn}
@@ -62,9 +63,9 @@ committed_apart : (M : List Stored) (commands : List (Option Command)) (r : List
     → p ++ Close Done ∷ q ≡ reread (replies M commands r) → Rising Apart (pending_over [] p)
 committed_apart M [] r p q m h e = absurd (not_none p q (Close Done) e)
 committed_apart M (c ∷ cs) r p q m h e =
-    let t = turn.step M c (first_or_false r) in
+    let t = turn.step M c (get_or r 0 false) in
     let rs = refusals_after M c r in
-    let form = form_step M m c (first_or_false r) (h c (inl refl)) in
+    let form = form_step M m c (get_or r 0 false) (h c (inl refl)) in
     let open_lines = reread_open t.body form.body_told in
     ⊎_elim
     (λ same. subst (Rising Apart) (sym (ap (pending_over []) same ∙ open_pending [] (reread t.body) open_lines ∙ reread_changes t.body form.body_told)) form.apart)

@@ -19,9 +19,9 @@ use Rattle.route_feed.specs.declared.error.RunError.{RunError}
 use Rattle.route_feed.specs.declared.error.RunError.TheVariants as Why
 use Rattle.route_feed.specs.declared.follower.Waiting.{Waiting}
 use Rattle.route_feed.specs.InnerInstalling.{Begun, GivesChanges, WritesChanges, batch_bytes, operation_bytes, routes_waiting, route_waiting, update_line}
-use Rattle.route_feed.specs.InnerReplies.{Closes, Torn, Written}
+use Rattle.route_feed.specs.InnerReplies.{Written, reply_line}
 use Rattle.route_feed.specs.Installing.{operation_line, printed_updates}
-use Rattle.route_feed.specs.Replies.{reply_line}
+use Rattle.route_feed.specs.Devices.{Closes, Torn}
 use Rattle.route_feed.proofs.Adding.{before_place}
 use Rattle.route_feed.proofs.Written.{Closes-written, Torn-after, Torn-longer, Written-nil, Written-trans}
 

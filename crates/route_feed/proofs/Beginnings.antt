@@ -8,11 +8,9 @@ use Rattle.ipnet_addr.proofs.Members.{In, In-cases}
 use Rattle.ipnet_addr.proofs.Ascending.{pairs_from_Rising}
 use Rattle.ipnet_blocks.specs.Blocks.{IsBlock, IsBefore}
 use Rattle.route_lines.specs.Bytes.{lines, rest, onto_first}
-use Rattle.route_lines.specs.Lines.{lines_in}
-use Rattle.route_lines.specs.Spelled.{reply_of}
+use Rattle.route_lines.specs.Spelled.{command_of, reply_of}
 use Rattle.route_lines.specs.Texts.{reply_text}
 use Rattle.route_lines.specs.declared.command.Command.{Command}
-use Rattle.route_lines.specs.declared.cutter.Line.{Line}
 use Rattle.route_lines.specs.declared.reply.Closing.{Closing}
 use Rattle.route_lines.specs.declared.reply.Reply.{Reply}
 use Rattle.route_lines.specs.declared.reply.Reply.TheVariants.{Close}
@@ -22,18 +20,18 @@ use Rattle.route_laws.specs.Tables.{hop_at}
 use Rattle.route_laws.specs.Flats.{flat_of}
 use Rattle.route_laws.proofs.Flats.{same_flat}
 use Rattle.route_laws.proofs.FlatSearch.{search_is_flat}
-use Rattle.route_feed.specs.Commands.{command_in}
 use Rattle.route_feed.specs.Laws.{table_told, AllAreAnswered, OutputIsFollowed, BeginningsAgree, FlatListsAgree}
-use Rattle.route_feed.specs.Output.{replies, table_after, first_or_false, refusals_after, whole_commands, at_end, lines_output, output}
+use Rattle.route_feed.specs.Output.{replies, table_after, refusals_after, whole_commands, at_end, lines_output, output}
 use Rattle.route_feed.specs.Steps as turn
 use Rattle.route_feed.specs.Steps.{flat_line}
 use Rattle.route_feed.specs.Replies.{printed}
 use Rattle.route_lines.specs.declared.reply.Closing.TheVariants.{Done}
 use Rattle.std.proofs.lemmas.List.{append-nil, take_all}
 use Rattle.std.proofs.Common.{arith}
+use Rattle.std.specs.Prelude.{get_or}
 use Rattle.route_laws.specs.Flats.{Piece}
 use Rattle.route_feed.specs.Streams.{Change, change_of, closes, is_done, ends_well, committed, closings, painted, painted_over, replies_in}
-use Rattle.route_feed.proofs.ReadNets.{IsInRange, line_in_range}
+use Rattle.route_feed.proofs.ReadNets.{IsInRange, piece_in_range}
 use Rattle.route_feed.proofs.Reread.{AreClean, AreClean-append, AreOpen, told_is_clean, closing_is_clean, closing_read, read_again, reread, reread_open, reread_changes}
 use Rattle.route_feed.proofs.Seam.{changes_in}
 use Rattle.route_feed.proofs.Carried.{painted-append}
@@ -120,8 +118,8 @@ AreInRange commands = (c : Option Command) → In c commands → IsInRange c
 pub replies_clean : (M : List Stored) (commands : List (Option Command)) (r : List Bool) → IsStoredTable M → AreInRange commands → AreClean (replies M commands r)
 replies_clean M [] r m h = tt
 replies_clean M (c ∷ cs) r m h =
-    let t = turn.step M c (first_or_false r) in
-    let form = form_step M m c (first_or_false r) (h c (inl refl)) in
+    let t = turn.step M c (get_or r 0 false) in
+    let form = form_step M m c (get_or r 0 false) (h c (inl refl)) in
     AreClean-append (turn.turn_lines t) (replies t.next cs (refusals_after M c r))
     (AreClean-append t.body (Close t.closing ∷ []) (told_is_clean t.body form.body_told) (closing_is_clean t.closing, tt))
     (replies_clean t.next cs (refusals_after M c r) form.table (λ d i. h d (inr i)))
@@ -137,9 +135,9 @@ pub followed : (M : List Stored) (commands : List (Option Command)) (r : List Bo
 followed M [] r p q m h e x a =
     subst (λ l. painted_over (hop_at (routes_of M) x) (committed l) x ≡ hop_at (routes_of (table_after M (take (closings l) []) r)) x) (sym (nothing_left p q e)) refl
 followed M (c ∷ cs) r p q m h e x a =
-    let t = turn.step M c (first_or_false r) in
+    let t = turn.step M c (get_or r 0 false) in
     let rs = refusals_after M c r in
-    let form = form_step M m c (first_or_false r) (h c (inl refl)) in
+    let form = form_step M m c (get_or r 0 false) (h c (inl refl)) in
     let tail = reread (replies t.next cs rs) in
     let open_lines = reread_open t.body form.body_told in
     ⊎_elim
@@ -163,10 +161,10 @@ empty_is_table = record {
   ascending = pairs_from_Rising (λ (s t : Stored). IsBefore s.block t.block) [] tt;
 }
 
-lines_in_range : (ls : List Line) → AreInRange (map command_in ls)
+lines_in_range : (pieces : List (List ℕ)) → AreInRange (map command_of pieces)
 lines_in_range [] c i = absurd i
-lines_in_range (l ∷ ls) c (inl e) = subst IsInRange (sym e) (line_in_range l)
-lines_in_range (l ∷ ls) c (inr i) = lines_in_range ls c i
+lines_in_range (p ∷ ps) c (inl e) = subst IsInRange (sym e) (piece_in_range p)
+lines_in_range (p ∷ ps) c (inr i) = lines_in_range ps c i
 
 end_in_range : (bytes : List ℕ) → AreInRange (at_end bytes)
 end_in_range [] c i = absurd i
@@ -177,7 +175,7 @@ abbrev pub commands_of : List ℕ → List (Option Command)
 commands_of bytes = whole_commands bytes ++ at_end (rest bytes)
 
 pub all_in_range : (bytes : List ℕ) → AreInRange (commands_of bytes)
-all_in_range bytes c i = ⊎_elim (lines_in_range (lines_in bytes) c) (end_in_range (rest bytes) c) (In-cases c (whole_commands bytes) (at_end (rest bytes)) i)
+all_in_range bytes c i = ⊎_elim (lines_in_range (lines bytes) c) (end_in_range (rest bytes) c) (In-cases c (whole_commands bytes) (at_end (rest bytes)) i)
 
 -- what is read of the output
 pub output_read : (bytes : List ℕ) (refusals : List Bool) → replies_in (output bytes refusals) ≡ reread (replies [] (commands_of bytes) refusals)
@@ -204,9 +202,9 @@ flat_lists_agree bytes front back refusals e =
 answered : (M : List Stored) (commands : List (Option Command)) (r : List Bool) → IsStoredTable M → AreInRange commands → closings (reread (replies M commands r)) ≡ length commands
 answered M [] r m h = refl
 answered M (c ∷ cs) r m h =
-    let t = turn.step M c (first_or_false r) in
+    let t = turn.step M c (get_or r 0 false) in
     let rs = refusals_after M c r in
-    let form = form_step M m c (first_or_false r) (h c (inl refl)) in
+    let form = form_step M m c (get_or r 0 false) (h c (inl refl)) in
     ap closings (reread_turn t (replies t.next cs rs))
     ∙ (commits (reread t.body) t.closing (reread (replies t.next cs rs)) (reread_open t.body form.body_told)).closings
     ∙ ap suc (answered t.next cs rs form.table (λ d i. h d (inr i)))
@@ -218,7 +216,7 @@ pub all_answered : AllAreAnswered
 all_answered bytes refusals = commands_answered (commands_of bytes) refusals (all_in_range bytes)
 
 pub lines_answered : (bytes : List ℕ) (refusals : List Bool) → closings (replies_in (lines_output bytes refusals)) ≡ length (whole_commands bytes)
-lines_answered bytes refusals = commands_answered (whole_commands bytes) refusals (lines_in_range (lines_in bytes))
+lines_answered bytes refusals = commands_answered (whole_commands bytes) refusals (lines_in_range (lines bytes))
 
 pub output_followed : OutputIsFollowed
 output_followed bytes refusals =

@@ -28,16 +28,15 @@ use Rattle.route_laws.proofs.Flats.{same_flat}
 use Rattle.route_feed.specs.declared.counted.Counted.{Counted}
 use Rattle.route_feed.specs.declared.error.RunError.{RunError}
 use Rattle.route_feed.specs.declared.error.RunError.TheVariants as Why
-use Rattle.route_feed.specs.Counted.{inner}
 use Rattle.route_feed.specs.Following.{State}
 use Rattle.route_feed.specs.Follows.{AreReplies, followed, FollowEnds}
 use Rattle.route_feed.specs.InnerFollowing.{reply_in, hop_once, AllReplies}
 use Rattle.route_feed.specs.InnerReaching.{Reached, Stops}
-use Rattle.route_feed.specs.InnerReplies.{Closes}
 use Rattle.route_feed.specs.InnerRun.{Runs, TakesAll}
 use Rattle.route_feed.specs.Replies.{printed}
 use Rattle.route_feed.specs.Steps.{flat_line}
 use Rattle.route_feed.specs.Streams.{Change, ends_well, committed, painted, painted_over, pending_over, replies_in, WantsMemory}
+use Rattle.route_feed.specs.Devices.{Closes}
 use Rattle.route_feed.proofs.Stepping.{Followed, Takes, followed_all, not_all, unwritten, no_read, no_write}
 
 -- ---- pieces as lines
@@ -77,7 +76,7 @@ no_pending : (e : Bool) → cond {A = List Change} e [] [] ≡ []
 no_pending true = refl
 no_pending false = refl
 
--- one of the pieces is a reply line that wanted memory, and those before it were taken
+-- one of the pieces is a reply line that wanted memory, and those before it were taken: `MeetsWant`, from any state
 record Wanted (a : State) (pieces : List (List ℕ)) : Type 0 where
   before : List (List ℕ)
   piece : List ℕ
@@ -136,7 +135,7 @@ module _ {R W : Type 0} (remaining : R → Option (List ℕ)) (from to : Counted
       (λ p.
       let w = wanted new_state b (lines x.bytes) old new (subst (λ s. TakesAll Takes s (lines_in x.bytes) old (Err Why.Memory) b new) new_follower p.0) in (
         (
-          inr (record { bytes = x.bytes; before = w.before; piece = w.piece; after = w.after; reply = w.reply; read = x.read; split = w.split; replies = w.replies; is_reply = w.is_reply; wants = w.wants }),
+          inr (record { bytes = x.bytes; read = x.read; holds = record { before = w.before; piece = w.piece; after = w.after; reply = w.reply; split = w.split; replies = w.replies; is_reply = w.is_reply; wants = w.wants } }),
           p.1,
         ),
         unwritten a b (lines_in x.bytes) old new (Err Why.Memory) p.0,
@@ -144,7 +143,7 @@ module _ {R W : Type 0} (remaining : R → Option (List ℕ)) (from to : Counted
       x.ends
   stopped Why.Read x = ⊎_elim
       (λ p. (
-        (record { bytes = x.bytes; read = x.read; replies = are_replies (lines x.bytes) (followed_all a b (lines_in x.bytes) old new p.0).replies }, p.2),
+        (record { bytes = x.bytes; read = x.read; holds = are_replies (lines x.bytes) (followed_all a b (lines_in x.bytes) old new p.0).replies }, p.2),
         unwritten a b (lines_in x.bytes) old new (Ok tt) p.0,
       ))
       (λ p. absurd (no_read a b (lines_in x.bytes) old new p.0)) x.ends
@@ -152,7 +151,7 @@ module _ {R W : Type 0} (remaining : R → Option (List ℕ)) (from to : Counted
   stopped Why.Line x = ⊎_elim
       (λ p. absurd (let e = p.1 in cc))
       (λ p. (
-        (record { bytes = x.bytes; read = x.read; another = λ h. not_all a b (lines_in x.bytes) old new p.0 (all_replies (lines x.bytes) h) }, p.1),
+        (record { bytes = x.bytes; read = x.read; holds = λ h. not_all a b (lines_in x.bytes) old new p.0 (all_replies (lines x.bytes) h) }, p.1),
         unwritten a b (lines_in x.bytes) old new (Err Why.Line) p.0,
       ))
       x.ends
@@ -184,14 +183,13 @@ module _ {R W : Type 0} (remaining : R → Option (List ℕ)) (contents : W → 
       end = x.0
 
       go : (k : Result Unit RunError) → Closes contents 1 old new k (followed end.bytes) → FollowEnds remaining contents from to old new k
-      go (Ok done) q = (record { bytes = end.bytes; read = end.read; replies = end.replies; written = q.appended }, q.flushed, end.at_end, end.faults, q.faults)
+      go (Ok done) q = (record { bytes = end.bytes; read = end.read; holds = (end.replies, q) }, end.at_end, end.faults)
       go (Err e) q =
-          let torn = q.1 in
           subst (λ k. FollowEnds remaining contents from to old new (Err k)) (sym q.0)
-          (record { bytes = end.bytes; front = torn.front; back = torn.back; read = end.read; replies = end.replies; is_front = torn.is_front; written = torn.appended; flushes = torn.flushes }, end.at_end, end.faults, torn.failed)
+          (record { bytes = end.bytes; read = end.read; holds = (end.replies, q.1) }, end.at_end, end.faults)
 
 -- where the reader tells its bytes
 pub follow_known : {R W : Type 0} (remaining : R → Option (List ℕ)) (contents : W → Option (List ℕ)) (from to : Counted R) (old new : Counted W) (r : Result Unit RunError) → FollowEnds remaining contents from to old new r
-    → OnOk r (IfSome (remaining (inner from)) (λ bytes. AreReplies (lines bytes) × Appends (contents (inner old)) (contents (inner new)) (followed bytes)))
-follow_known remaining contents from to old new (Ok done) x = Consumes-whole (remaining (inner from)) (remaining (inner to)) x.0.bytes _ x.0.read x.2 (x.0.replies, x.0.written)
+    → OnOk r (IfSome (remaining from.device) (λ bytes. AreReplies (lines bytes) × Appends (contents old.device) (contents new.device) (followed bytes)))
+follow_known remaining contents from to old new (Ok done) x = Consumes-whole (remaining from.device) (remaining to.device) x.0.bytes _ x.0.read x.1 (x.0.holds.0, x.0.holds.1.appended)
 follow_known remaining contents from to old new (Err e) x = tt

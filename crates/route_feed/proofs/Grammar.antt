@@ -1,30 +1,31 @@
 -- Each line of an output is a reply line.
 use Rattle.std.proofs.Common.{◌≡◌, ◌≢◌, ◌==◌, ℕ, suc, ◌+◌, ◌≤◌, ◌<◌, ◌^◌, Bool, true, false, ◌&&◌, cond, List, [], ◌∷◌, ◌++◌, map, filter, length, All, Option, Some, None, refl, sym, ap, ◌∙◌, subst, inl, inr, arith, append_assoc}
-use Rattle.std.specs.Prelude.{IsSome, not}
+use Rattle.std.specs.Prelude.{IsSome, not, get_or}
 use Rattle.std.proofs.lemmas.List.Elements.{All-nil, All-cons, All-head, All-tail, recursion_from_All}
 use Rattle.std.proofs.lemmas.List.{length-append, length-map}
+use Rattle.std.specs.Option.{option_map_or}
 use Rattle.ipnet_addr.specs.Addresses.{Ipv4, Ipv6, same_family}
 use Rattle.ipnet_blocks.specs.Blocks.{Block, first_of, is_before, same_block}
 use Rattle.ipnet_blocks.proofs.BlockLaws.{strict}
 use Rattle.ipnet_blocks.proofs.BlockTests.{before_from_test}
 use Rattle.ipnet.specs.IpNets.{block}
 use Rattle.route_lines.specs.Bytes.{lines, rest}
-use Rattle.route_lines.specs.Lines.{line_of, lines_in}
-use Rattle.route_lines.specs.Spelled.{reply_of}
+use Rattle.route_lines.specs.Spelled.{command_of, reply_of}
 use Rattle.route_lines.specs.Texts.{IsReply, reply_text}
 use Rattle.route_lines.specs.declared.command.Command.{Command}
 use Rattle.route_lines.specs.declared.command.Command.TheVariants as C
+use Rattle.route_lines.specs.declared.reply.Closing.TheVariants.{Missing}
 use Rattle.route_lines.specs.declared.reply.Reply.{Reply}
 use Rattle.route_lines.specs.declared.reply.Reply.TheVariants.{Close}
 use Rattle.route_choices.specs.Choices.{Choice, choices_with, choices_without, holds_hop}
 use Rattle.route_choices.proofs.Kept.{length-apart, length-kept}
 use Rattle.route_laws.specs.Networks.{Stored, IsStoredTable, best_route, choices_at, routes_of, with_choices, with_stored}
 use Rattle.route_laws.specs.Tables.{Route, hop_at, match_of}
-use Rattle.route_feed.specs.Commands.{command_in}
 use Rattle.route_feed.specs.Follows.{AreReplies}
 use Rattle.route_feed.specs.Laws.{BeginningsAreReplies}
-use Rattle.route_feed.specs.Output.{replies, first_or_false, refusals_after, whole_commands, at_end}
+use Rattle.route_feed.specs.Output.{replies, refusals_after, whole_commands, at_end}
 use Rattle.route_feed.specs.Replies.{printed}
+use Rattle.route_feed.specs.InnerReplies.{choice_line, own_line}
 use Rattle.route_feed.specs.Steps as turn
 use Rattle.route_feed.proofs.Beginnings.{AreInRange, all_in_range, commands_of, empty_is_table, first_lines, replies_clean}
 use Rattle.route_feed.proofs.Reread.{AreClean, AreTold, IsSmall, first_line}
@@ -78,7 +79,7 @@ module _ (M : List Stored) where
   same_length : length M ≤ length M + 1
   same_length = omega arith
 
-  found_length : (o : Option Route) → length (turn.one_or_missing M o).next ≤ length M + 1
+  found_length : (o : Option Route) → length (option_map_or (λ r. turn.told M (turn.route_line r ∷ [])) o (turn.closed M Missing)).next ≤ length M + 1
   found_length None = same_length
   found_length (Some r) = same_length
 
@@ -122,7 +123,7 @@ small_or true t u h k = h
 small_or false t u h k = k
 
 module _ (M : List Stored) (few : length M < 2 ^ 64) where
-  found_small : (o : Option Route) → AreSmall (turn.one_or_missing M o).body
+  found_small : (o : Option Route) → AreSmall (option_map_or (λ r. turn.told M (turn.route_line r ∷ [])) o (turn.closed M Missing)).body
   found_small None = tt
   found_small (Some r) = (tt, tt)
 
@@ -136,10 +137,10 @@ module _ (M : List Stored) (few : length M < 2 ^ 64) where
   answer_small (Some (C.Get net)) = found_small (match_of (routes_of M) (block net))
   answer_small (Some (C.Cover net)) = AreSmall-map turn.route_line (λ r. tt) _
   answer_small (Some (C.List net)) = AreSmall-map turn.route_line (λ r. tt) _
-  answer_small (Some (C.All net)) = AreSmall-map (turn.choice_line (block net)) (λ c. tt) _
+  answer_small (Some (C.All net)) = AreSmall-map (choice_line (block net)) (λ c. tt) _
   answer_small (Some (C.PageFrom net limit)) = AreSmall-map turn.route_line (λ r. tt) _
   answer_small (Some (C.PageAfter net limit)) = AreSmall-map turn.route_line (λ r. tt) _
-  answer_small (Some (C.Own number)) = AreSmall-map turn.own_line (λ b. tt) _
+  answer_small (Some (C.Own number)) = AreSmall-map own_line (λ b. tt) _
   answer_small (Some C.Count) =
       let all = length-map M best_route in
       let v4 = length-kept (λ (r : Route). same_family r.block.family Ipv4) (routes_of M) in
@@ -160,11 +161,11 @@ told_spelled (l ∷ ls) t s = (t.0.spelled s.0, told_spelled ls t.1 s.1)
 replies_spelled : (M : List Stored) (commands : List (Option Command)) (r : List Bool) → IsStoredTable M → AreInRange commands → length M + length commands < 2 ^ 64 → AreSpelled (replies M commands r)
 replies_spelled M [] r m h few = tt
 replies_spelled M (c ∷ cs) r m h few =
-    let t = turn.step M c (first_or_false r) in
-    let form = form_step M m c (first_or_false r) (h c (inl refl)) in
-    let grown = step_length M c (first_or_false r) in
+    let t = turn.step M c (get_or r 0 false) in
+    let form = form_step M m c (get_or r 0 false) (h c (inl refl)) in
+    let grown = step_length M c (get_or r 0 false) in
     AreSpelled-append (turn.turn_lines t) (replies t.next cs (refusals_after M c r))
-    (AreSpelled-append t.body (Close t.closing ∷ []) (told_spelled t.body form.body_told (step_small M (omega (arith, few)) c (first_or_false r))) (refl, tt))
+    (AreSpelled-append t.body (Close t.closing ∷ []) (told_spelled t.body form.body_told (step_small M (omega (arith, few)) c (get_or r 0 false))) (refl, tt))
     (replies_spelled t.next cs (refusals_after M c r) form.table (λ d i. h d (inr i)) (omega (arith, few, grown)))
 
 -- each line has its line end, and a rest that is not empty a byte
@@ -181,9 +182,8 @@ commands_length (b ∷ bs) = go (b == 10) (lines bs) refl refl (commands_length 
 few_commands : (bytes : List ℕ) → length (commands_of bytes) ≤ length bytes
 few_commands bytes =
     let n = commands_length bytes in
-    let whole = length-map (lines_in bytes) command_in in
-    let cut = length-map (lines bytes) line_of in
-    omega (arith, n, whole, cut, length-append (whole_commands bytes) (at_end (rest bytes)))
+    let whole = length-map (lines bytes) command_of in
+    omega (arith, n, whole, length-append (whole_commands bytes) (at_end (rest bytes)))
 
 pub beginnings_are_replies : BeginningsAreReplies
 beginnings_are_replies bytes front back refusals few e =

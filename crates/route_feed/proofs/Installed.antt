@@ -5,6 +5,7 @@ use Rattle.std.specs.Io.KnownBytes.{Appends, Consumes}
 use Rattle.std.proofs.KnownBytes.{Appends-trans, Consumes-whole}
 use Rattle.std.proofs.lemmas.Bool.Decides.{nat_tests}
 use Rattle.std.proofs.lemmas.Grind.{flat_map-append}
+use Rattle.std.specs.Option.{option_map_or}
 use Rattle.route_laws.specs.Runs.{Event, Told, Sync, Installer, MayAllCome, after_event, after_events, start}
 use Rattle.route_laws.specs.Tables.{Route}
 use Rattle.route_lines.specs.Bytes.{lines}
@@ -22,16 +23,16 @@ use Rattle.route_lines.proofs.Spells.{note_found}
 use Rattle.route_feed.specs.declared.counted.Counted.{Counted}
 use Rattle.route_feed.specs.declared.error.RunError.{RunError}
 use Rattle.route_feed.specs.declared.error.RunError.TheVariants as Why
-use Rattle.route_feed.specs.Counted.{inner, faults_of, flushes_of, more_by, one_more, waits_after}
+use Rattle.route_feed.specs.Counted.{more_by, one_more}
 use Rattle.route_feed.specs.InnerInstalling.{AllFit, Fails, Takes, TakesNone, TakesNote, TakesNoteLine, Wants, note_in, update_line}
-use Rattle.route_feed.specs.InnerReplies.{Closed}
 use Rattle.route_feed.specs.InnerRun.{Runs, TakesAll}
 use Rattle.route_feed.specs.Installing.{AreNotes, Installing, IsUnfit, Noted, after_note, after_notes, batches, begin, committing, event_of, events, installed_bytes, printed_updates, route_to, update_lines}
 use Rattle.route_feed.specs.Installs.{AppendsInstalled, Gives as GivesOutput, GivesThen, InstallEnds, Installs, Meets}
-use Rattle.route_feed.specs.Streams.{Change, closes, done_or}
+use Rattle.route_feed.specs.Streams.{Change, closes, is_done}
+use Rattle.route_feed.specs.Devices.{Closed}
 use Rattle.route_feed.proofs.ChangesInRange.{AreInRange, NoteInRange, are_changes, note_in_range, past_in_range}
 use Rattle.route_feed.proofs.NotesInTurn.{events-append, lines-append, tables_after}
-use Rattle.route_feed.proofs.Written.{Closed-nil}
+use Rattle.route_feed.proofs.Written.{Closed-nil, waits_after, waits_more, waits_none}
 
 -- ---- events after events
 
@@ -66,13 +67,11 @@ more_plus : (m n x : ℕ) → more_by (m + n) x ≡ more_by n (more_by m x)
 more_plus zero n x = let h : 0 + n ≡ n = omega arith in ap (λ k. more_by k x) h
 more_plus (suc m) n x = let h : suc m + n ≡ suc (m + n) = omega arith in ap (λ k. more_by k x) h ∙ more_plus m n (one_more x)
 
-waits_none : (n : ℕ) → waits_after n false ≡ false
-waits_none zero = refl
-waits_none (suc n) = refl
-
 waits_plus : (m n : ℕ) (w : Bool) → waits_after (m + n) w ≡ waits_after n (waits_after m w)
 waits_plus zero n w = let h : 0 + n ≡ n = omega arith in ap (λ k. waits_after k w) h
-waits_plus (suc m) n w = let h : suc m + n ≡ suc (m + n) = omega arith in ap (λ k. waits_after k w) h ∙ sym (waits_none n)
+waits_plus (suc m) n w =
+    let h : suc m + n ≡ suc (m + n) = omega arith in
+    ap (λ k. waits_after k w) h ∙ waits_more (m + n) w ∙ sym (waits_none n) ∙ ap (waits_after n) (sym (waits_more m w))
 
 -- ---- pieces as lines
 
@@ -93,7 +92,7 @@ piece_note piece = go (nat_lt 80 (length piece)) refl
 note_may : (a : Installing) (note : Note) (L : List Route) → AreInRange a.pending → NoteInRange note → AllFit a.tables (event_of a note L) → MayAllCome a.tables (event_of a note L)
 note_may a (N.Have net hop) L p q f = ((f.0, q.0, q.1), tt)
 note_may a N.Sync L p q f = let are = are_changes [] tt in ((are, f.0 are), tt)
-note_may a (N.Reply line) L p q f = go (done_or (closes line) false) f
+note_may a (N.Reply line) L p q f = go (option_map_or is_done (closes line) false) f
   where
     told : (cs : List Change) (b : Bool) → AreInRange cs → AllFit a.tables ((cond b (Sync (map route_to cs) L) (Told (map route_to cs))) ∷ [])
         → MayAllCome a.tables ((cond b (Sync (map route_to cs) L) (Told (map route_to cs))) ∷ [])
@@ -264,7 +263,7 @@ module _ {W : Type 0} (contents : W → Option (List ℕ)) where
 
   -- and then a text that was not flushed
   gives_then : (b : Installing) (ps : List (List ℕ)) (ns : List Noted) (begun : List ℕ) (old mid new : Counted W) → TakesPieces begin b ps ns old mid
-      → Appends (contents (inner mid)) (contents (inner new)) begun → flushes_of new ≡ flushes_of mid → GivesThen contents ns begun old new
+      → Appends (contents mid.device) (contents new.device) begun → new.flushes ≡ mid.flushes → GivesThen contents ns begun old new
   gives_then b ps ns begun old mid new t w f = record {
     written = Appends-trans _ _ _ (installed_bytes ns) begun t.closed.appended w;
     flushes = f ∙ t.closed.flushed.0;
@@ -298,7 +297,7 @@ module _ {W : Type 0} (contents : W → Option (List ℕ)) (c last : Installing)
 
 module _ {R W : Type 0} (remaining : R → Option (List ℕ)) (contents : W → Option (List ℕ)) (from to : Counted R) (old new : Counted W) where
   -- a line was not taken
-  module _ (bytes : List ℕ) (read : Consumes (remaining (inner from)) (remaining (inner to)) bytes) (none_read : faults_of to ≡ faults_of from) where
+  module _ (bytes : List ℕ) (read : Consumes (remaining from.device) (remaining to.device) bytes) (none_read : to.faults ≡ from.faults) where
     meets : (e : RunError) → Stops contents begin (lines bytes) e old new → Meets remaining from to
     meets e s = record {
       bytes = bytes;
@@ -318,7 +317,7 @@ module _ {R W : Type 0} (remaining : R → Option (List ℕ)) (contents : W → 
         let u = unfit contents c s.last s.piece s.mid new (note_of s.piece) (why_not contents c s.last s.piece s.mid new Why.Line s.stops) in (
           record { meets = meets Why.Line s; unfit = u.0; gives = subst (GivesOutput contents s.notes old) (sym u.1) (gives_output contents c s.before s.notes old s.mid s.taken) },
           none_read,
-          ap (λ w. faults_of w) u.1 ∙ s.taken.closed.faults,
+          ap (λ w. w.faults) u.1 ∙ s.taken.closed.faults,
         )
     line_ends Why.Memory s =
         let c = after_notes begin s.notes in
@@ -358,7 +357,7 @@ module _ {R W : Type 0} (remaining : R → Option (List ℕ)) (contents : W → 
 
   module _ (a b : Installing) (is_new : a ≡ begin) where
     -- all lines of these bytes were taken
-    all_are : (bytes : List ℕ) → Consumes (remaining (inner from)) (remaining (inner to)) bytes → TakesLines contents a (lines_in bytes) old (Ok tt) b new → Installs remaining contents from to old new × (faults_of new ≡ faults_of old)
+    all_are : (bytes : List ℕ) → Consumes (remaining from.device) (remaining to.device) bytes → TakesLines contents a (lines_in bytes) old (Ok tt) b new → Installs remaining contents from to old new × (new.faults ≡ old.faults)
     all_are bytes read t =
         let p = all_taken contents begin b (lines bytes) old new (subst (λ s. TakesLines contents s (lines_in bytes) old (Ok tt) b new) is_new t) in
         let ns = p.0 in (
@@ -383,8 +382,8 @@ install_none remaining contents from old e is = subst (λ k. InstallEnds remaini
 
 -- where the reader tells its bytes
 pub install_known : {R W : Type 0} (remaining : R → Option (List ℕ)) (contents : W → Option (List ℕ)) (from to : Counted R) (old new : Counted W) (r : Result Unit RunError) → InstallEnds remaining contents from to old new r
-    → OnOk r (IfSome (remaining (inner from)) (λ bytes. AppendsInstalled (lines bytes) (contents (inner old)) (contents (inner new))))
+    → OnOk r (IfSome (remaining from.device) (λ bytes. AppendsInstalled (lines bytes) (contents old.device) (contents new.device)))
 install_known remaining contents from to old new (Ok done) x =
     let s = x.0 in
-    Consumes-whole (remaining (inner from)) (remaining (inner to)) s.bytes _ s.read x.1 (s.notes, s.are, s.gives.written)
+    Consumes-whole (remaining from.device) (remaining to.device) s.bytes _ s.read x.1 (s.notes, s.are, s.gives.written)
 install_known remaining contents from to old new (Err e) x = tt

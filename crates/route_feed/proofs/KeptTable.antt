@@ -2,6 +2,7 @@
 use Rattle.std.proofs.Common.{◌≡◌, ◌<◌, ◌⊎◌, ℕ, Bool, true, false, cond, nat_lt, length, List, [], ◌∷◌, ◌++◌, map, take, None, inl, inr, ⊎_elim, refl, sym, ap, ◌∙◌, subst, arith, append_assoc, append-nil}
 use Rattle.std.specs.Prelude.{◌&&◌}
 use Rattle.std.proofs.lemmas.Bool.Decides.{nat_tests}
+use Rattle.std.specs.Option.{option_map_or}
 use Rattle.ipnet_addr.specs.Addresses.{Address, IsAddress}
 use Rattle.ipnet_addr.proofs.Ascending.{Rising, pairs_from_Rising}
 use Rattle.ipnet.specs.declared.ip_net.IpNet.{IpNet}
@@ -25,7 +26,7 @@ use Rattle.route_laws.proofs.Runs.{gives_hitless, gives_what_it_says, given_reac
 use Rattle.route_laws.proofs.Turning.{hitless_from}
 use Rattle.route_feed.specs.Installing.{Installing, Noted, after_note, after_notes, begin, committing, event_of, events, route_to}
 use Rattle.route_feed.specs.InstallLaws.{AreFirst, InstalledAgrees, InstalledAtAllTimes, InstalledIsHitless, IsNoHave, LargeRepliesAreLeast, OperationsReach, SyncsAreLeast, installed_by, operations_at, replies_of, table_by}
-use Rattle.route_feed.specs.Streams.{Change, closes, committed, done_or, ends_well, painted}
+use Rattle.route_feed.specs.Streams.{Change, closes, committed, ends_well, painted, is_done}
 use Rattle.route_feed.proofs.Apart.{waiting_apart}
 use Rattle.route_feed.proofs.Beginnings.{all_in_range, commands_of, empty_is_table, followed, output_read}
 use Rattle.route_feed.proofs.NotesInTurn.{after_events-append, events-append, is_kept, kept_later, may_split, pending_after_notes, replies_of-append, tables_after}
@@ -73,7 +74,7 @@ committing_is P kept (c ∷ cs) M told synced = go (kept && nat_lt 256 (length (
     go false = inr (Told (map route_to (c ∷ cs)), refl, told)
 
 -- a line is `ok`, or commits nothing
-ok_or_quiet : (line : Reply) → (line ≡ R.Close Done) ⊎ (done_or (closes line) false ≡ false)
+ok_or_quiet : (line : Reply) → (line ≡ R.Close Done) ⊎ (option_map_or is_done (closes line) false ≡ false)
 ok_or_quiet (R.Set net n) = inr refl
 ok_or_quiet (R.Unset net) = inr refl
 ok_or_quiet (R.Route net hop pref) = inr refl

@@ -1,11 +1,12 @@
 -- What a leader writes, as a function of the bytes and of the refusals.
 use Rattle.std.proofs.Common.{◌≡◌, ℕ, suc, ◌+◌, ⊎_elim, Bool, true, false, List, [], ◌∷◌, ◌++◌, length, map, take, Option, IfSome, Result, Ok, Err, refl, sym, ap, ◌∙◌, subst, append_assoc, append-nil, arith}
 use Rattle.std.specs.Result.{IsErr, OnOk}
-use Rattle.std.specs.Io.KnownBytes.{Appends, Consumes}
+use Rattle.std.specs.Io.KnownBytes.{Appends}
 use Rattle.std.proofs.KnownBytes.{Appends-trans, Consumes-whole}
 use Rattle.std.proofs.Math.Seq.{take-append_seam}
 use Rattle.std.proofs.lemmas.Grind.{flat_map-append}
 use Rattle.std.proofs.lemmas.List.{length-append, take_all}
+use Rattle.std.specs.Prelude.{get_or}
 use Rattle.route_lines.specs.Bytes.{rest}
 use Rattle.route_lines.specs.Lines.{lines_in, rest_of}
 use Rattle.route_lines.specs.declared.command.Command.{Command}
@@ -16,14 +17,15 @@ use Rattle.route_laws.specs.Networks.{Stored}
 use Rattle.route_feed.specs.declared.counted.Counted.{Counted}
 use Rattle.route_feed.specs.declared.error.RunError.{RunError}
 use Rattle.route_feed.specs.declared.error.RunError.TheVariants as Why
-use Rattle.route_feed.specs.Commands.{command_in}
-use Rattle.route_feed.specs.Counted.{CanCount, FailedLast, Flushed, faults_of, flushes_of, inner, more_by}
-use Rattle.route_feed.specs.InnerReplies.{Answers, Closed, Closes, Torn, replies_to_rest, reply_to_rest}
+use Rattle.route_feed.specs.Counted.{CanCount, more_by}
+use Rattle.route_feed.specs.InnerReplies.{Answers, replies_to_rest, reply_to_rest, command_in, reply_line}
 use Rattle.route_feed.specs.InnerRun.{TakesAll, Runs}
-use Rattle.route_feed.specs.Leads.{LeadEnds}
-use Rattle.route_feed.specs.Output.{replies, refusals_after, first_or_false, whole_commands, at_end, lines_output, output, IsCutAfter}
-use Rattle.route_feed.specs.Replies.{reply_line, printed}
+use Rattle.route_feed.specs.Leads.{LeadEnds, Stopped}
+use Rattle.route_feed.specs.Output.{replies, refusals_after, whole_commands, at_end, lines_output, output}
+use Rattle.route_feed.specs.Replies.{printed}
 use Rattle.route_feed.specs.Steps.{step, may_refuse, turn_lines}
+use Rattle.route_feed.specs.Devices.{Closed, Closes, Torn}
+use Rattle.route_feed.proofs.ReadNets.{commands_in}
 use Rattle.route_feed.proofs.Beginnings.{all_answered, commands_of, lines_answered}
 use Rattle.route_feed.proofs.Written.{Closed-nil, Closed-after}
 
@@ -56,7 +58,7 @@ replies_end : (M : List Stored) (commands : List (Option Command)) (v : List Boo
 replies_end M [] v [] = refl
 replies_end M [] v (b ∷ bs) = refl
 replies_end M (command ∷ commands) v bs =
-    let t = step M command (first_or_false v) in
+    let t = step M command (get_or v 0 false) in
     let later = refusals_after M command v in
     flat_map-append reply_line (turn_lines t) (replies t.next (commands ++ at_end bs) later)
     ∙ ap (λ l. printed (turn_lines t) ++ l) (replies_end t.next commands later bs)
@@ -79,23 +81,12 @@ module _ {W : Type 0} (contents : W → Option (List ℕ)) where
   abbrev Takes : List Stored → Line → Counted W → Result Unit RunError → List Stored → Counted W → Type 0
   Takes M line old r N new = Answers contents M N (command_in line) old new r
 
-  -- the replies to some of the commands were written, and each was flushed; and a beginning of the next one, when the writer failed
-  record Stopped (M : List Stored) (commands : List (Option Command)) (refusals : List Bool) (old new : Counted W) : Type 0 where
-    front : List ℕ
-    back : List ℕ
-    answered : ℕ
-    is_front : printed (replies M commands refusals) ≡ front ++ back
-    appended : Appends (contents (inner old)) (contents (inner new)) front
-    cut : IsCutAfter M commands refusals answered front
-    flushed : flushes_of new ≡ more_by answered (flushes_of old)
-    failed : FailedLast old new
-
   module _ (M : List Stored) (command : Option Command) (x : Bool) (commands : List (Option Command)) (old new : Counted W) where
     abbrev reply_text : List ℕ
     reply_text = printed (turn_lines (step M command x))
 
     -- in the first reply
-    Stopped-first : Torn contents old new reply_text → Stopped M (command ∷ commands) (refusals_of (may_refuse M command) x ++ []) old new
+    Stopped-first : Torn contents old new reply_text → Stopped contents M (command ∷ commands) (refusals_of (may_refuse M command) x ++ []) old new
     Stopped-first q =
         let later = printed (replies (step M command x).next commands []) in
         record {
@@ -104,20 +95,18 @@ module _ {W : Type 0} (contents : W → Option (List ℕ)) where
           answered = 0;
           is_front = turn_printed M command x commands [] ∙ ap (λ t. t ++ later) q.is_front ∙ append_assoc q.front q.back later;
           appended = q.appended;
-          cut = record {
-            begun = q.front;
-            missing = q.back;
-            another = omega arith;
-            is = refl;
-            next = turn_printed M command x [] [] ∙ append-nil reply_text ∙ q.is_front;
-          };
+          begun = q.front;
+          missing = q.back;
+          another = omega arith;
+          is = refl;
+          next = turn_printed M command x [] [] ∙ append-nil reply_text ∙ q.is_front;
           flushed = q.flushes;
           failed = q.failed;
         }
 
     -- after the first reply
-    Stopped-later : (mid : Counted W) (refusals : List Bool) → Closed contents 1 old mid reply_text → Stopped (step M command x).next commands refusals mid new
-        → Stopped M (command ∷ commands) (refusals_of (may_refuse M command) x ++ refusals) old new
+    Stopped-later : (mid : Counted W) (refusals : List Bool) → Closed contents 1 old mid reply_text → Stopped contents (step M command x).next commands refusals mid new
+        → Stopped contents M (command ∷ commands) (refusals_of (may_refuse M command) x ++ refusals) old new
     Stopped-later mid refusals p q =
         let first = λ (n : ℕ). turn_printed M command x (take n commands) refusals in
         let done = printed (replies (step M command x).next (take q.answered commands) refusals) in
@@ -127,13 +116,11 @@ module _ {W : Type 0} (contents : W → Option (List ℕ)) where
           answered = suc q.answered;
           is_front = turn_printed M command x commands refusals ∙ ap (λ t. reply_text ++ t) q.is_front ∙ sym (append_assoc reply_text q.front q.back);
           appended = Appends-trans _ _ _ reply_text q.front p.appended q.appended;
-          cut = record {
-            begun = q.cut.begun;
-            missing = q.cut.missing;
-            another = omega (arith, q.cut.another);
-            is = ap (λ t. reply_text ++ t) q.cut.is ∙ sym (append_assoc reply_text done q.cut.begun) ∙ ap (λ t. t ++ q.cut.begun) (sym (first q.answered));
-            next = first (suc q.answered) ∙ ap (λ t. reply_text ++ t) q.cut.next ∙ sym (append_assoc reply_text q.front q.cut.missing);
-          };
+          begun = q.begun;
+          missing = q.missing;
+          another = omega (arith, q.another);
+          is = ap (λ t. reply_text ++ t) q.is ∙ sym (append_assoc reply_text done q.begun) ∙ ap (λ t. t ++ q.begun) (sym (first q.answered));
+          next = first (suc q.answered) ∙ ap (λ t. reply_text ++ t) q.next ∙ sym (append_assoc reply_text q.front q.missing);
           flushed = q.flushed ∙ ap (more_by q.answered) p.flushed.0;
           failed = (q.failed.0 ∙ ap (λ n. n + 1) p.faults, q.failed.1);
         }
@@ -156,7 +143,7 @@ module _ {W : Type 0} (contents : W → Option (List ℕ)) where
 
   -- the writer failed, whatever comes after the lines
   stopped : (M N : List Stored) (ls : List Line) (more : List (Option Command)) (old new : Counted W) (e : RunError) → TakesAll Takes M ls old (Err e) N new
-      → (refusals : List Bool) × (e ≡ Why.Write) × Stopped M (map command_in ls ++ more) refusals old new
+      → (refusals : List Bool) × (e ≡ Why.Write) × Stopped contents M (map command_in ls ++ more) refusals old new
   stopped M N [] more old new e t = absurd (cc (t.0))
   stopped M N (l ∷ ls) more old new e t = ⊎_elim
       (λ p.
@@ -164,7 +151,7 @@ module _ {W : Type 0} (contents : W → Option (List ℕ)) where
       let later = stopped p.0 N ls more p.1 new e p.3 in (
         refusals_of (may_refuse M (command_in l)) a.refusal ++ later.0,
         later.1,
-        Stopped-later M (command_in l) a.refusal (map command_in ls ++ more) old new p.1 later.0 a.writes (subst (λ T. Stopped T (map command_in ls ++ more) later.0 p.1 new) a.table later.2),
+        Stopped-later M (command_in l) a.refusal (map command_in ls ++ more) old new p.1 later.0 a.writes (subst (λ T. Stopped contents T (map command_in ls ++ more) later.0 p.1 new) a.table later.2),
       ))
       (λ p.
       let a = p.1 in
@@ -173,7 +160,7 @@ module _ {W : Type 0} (contents : W → Option (List ℕ)) where
 
   -- or it failed in the reply to what stands after the last line end
   stopped_at_end : (bytes : List ℕ) (refusals : List Bool) (old mid new : Counted W) → rest_of (rest bytes) ≡ Held → Closed contents (length (whole_commands bytes)) old mid (lines_output bytes refusals)
-      → Torn contents mid new (reply_to_rest (rest_of (rest bytes))) → Stopped [] (whole_commands bytes ++ at_end (rest bytes)) refusals old new
+      → Torn contents mid new (reply_to_rest (rest_of (rest bytes))) → Stopped contents [] (whole_commands bytes ++ at_end (rest bytes)) refusals old new
   stopped_at_end bytes refusals old mid new held p q =
       let before = whole_commands bytes in
       let last = at_end (rest bytes) in
@@ -185,54 +172,45 @@ module _ {W : Type 0} (contents : W → Option (List ℕ)) where
         answered = length before;
         is_front = is_front;
         appended = Appends-trans _ _ _ (lines_output bytes refusals) q.front p.appended q.appended;
-        cut = record {
-          begun = q.front;
-          missing = q.back;
-          another = omega (arith, length-append before last, one);
-          is = ap (λ cs. printed (replies [] cs refusals) ++ q.front) (sym (take-append_seam before last));
-          next = ap (λ cs. printed (replies [] cs refusals)) (take_all (suc (length before)) (before ++ last) (omega (arith, length-append before last, one))) ∙ is_front;
-        };
+        begun = q.front;
+        missing = q.back;
+        another = omega (arith, length-append before last, one);
+        is = ap (λ cs. printed (replies [] cs refusals) ++ q.front) (sym (take-append_seam before last));
+        next = ap (λ cs. printed (replies [] cs refusals)) (take_all (suc (length before)) (before ++ last) (omega (arith, length-append before last, one))) ∙ is_front;
         flushed = q.flushes ∙ p.flushed.0;
         failed = (q.failed.0 ∙ ap (λ n. n + 1) p.faults, q.failed.1);
       }
 
 module _ {R W : Type 0} (remaining : R → Option (List ℕ)) (contents : W → Option (List ℕ)) (from to : Counted R) (old : Counted W) (M N : List Stored) (none : M ≡ []) where
-  -- a run in which the writer failed
-  lead_torn : (new : Counted W) (bytes : List ℕ) (refusals : List Bool) → Consumes (remaining (inner from)) (remaining (inner to)) bytes → Stopped contents [] (commands_of bytes) refusals old new → faults_of to ≡ faults_of from
-      → LeadEnds remaining contents from to old new (Err Why.Write)
-  lead_torn new bytes refusals read s none_read = (
-    record {
-      bytes = bytes;
-      refusals = refusals;
-      front = s.front;
-      back = s.back;
-      answered = s.answered;
-      read = read;
-      is_front = s.is_front;
-      written = s.appended;
-      cut = s.cut;
-      flushed = s.flushed;
-    },
-    s.failed,
-    none_read,
-  )
+  -- the lines that were taken, as commands
+  lines_answered_in : (bytes : List ℕ) (new : Counted W) → TakesAll (Takes contents) M (lines_in bytes) old (Ok tt) N new
+      → (refusals : List Bool) × Closed contents (length (whole_commands bytes)) old new (lines_output bytes refusals)
+  lines_answered_in bytes new t =
+      subst (λ cs. (refusals : List Bool) × Closed contents (length cs) old new (printed (replies [] cs refusals))) (commands_in bytes)
+      (answered contents [] N (lines_in bytes) old new (subst (λ T. TakesAll (Takes contents) T (lines_in bytes) old (Ok tt) N new) none t))
+
+  lines_stopped_in : (bytes : List ℕ) (new : Counted W) (e : RunError) → TakesAll (Takes contents) M (lines_in bytes) old (Err e) N new
+      → (refusals : List Bool) × (e ≡ Why.Write) × Stopped contents [] (commands_of bytes) refusals old new
+  lines_stopped_in bytes new e t =
+      subst (λ cs. (refusals : List Bool) × (e ≡ Why.Write) × Stopped contents [] (cs ++ at_end (rest bytes)) refusals old new) (commands_in bytes)
+      (stopped contents [] N (lines_in bytes) (at_end (rest bytes)) old new e (subst (λ T. TakesAll (Takes contents) T (lines_in bytes) old (Err e) N new) none t))
 
   -- a run that did not reach the end
   pub lead_stopped : (e : RunError) (new : Counted W) → Runs (Takes contents) remaining M from old (Err e) N to new → LeadEnds remaining contents from to old new (Err e)
   lead_stopped e new x = ⊎_elim
       (λ p.
-      let a = answered contents [] N (lines_in x.bytes) old new (subst (λ T. TakesAll (Takes contents) T (lines_in x.bytes) old (Ok tt) N new) none p.0) in
+      let a = lines_answered_in x.bytes new p.0 in
       subst (λ k. LeadEnds remaining contents from to old new (Err k)) (sym p.1)
-      (record { bytes = x.bytes; refusals = a.0; read = x.read; written = a.1.appended; flushed = subst (λ n. Flushed n old new) (sym (lines_answered x.bytes a.0)) a.1.flushed }, p.2, a.1.faults))
+      (record { bytes = x.bytes; read = x.read; holds = (a.0, subst (λ n. Closed contents n old new (lines_output x.bytes a.0)) (sym (lines_answered x.bytes a.0)) a.1) }, p.2))
       (λ p.
-      let a = stopped contents [] N (lines_in x.bytes) (at_end (rest x.bytes)) old new e (subst (λ T. TakesAll (Takes contents) T (lines_in x.bytes) old (Err e) N new) none p.0) in
-      subst (λ k. LeadEnds remaining contents from to old new (Err k)) (sym a.1) (lead_torn new x.bytes a.0 x.read a.2 p.1))
+      let a = lines_stopped_in x.bytes new e p.0 in
+      subst (λ k. LeadEnds remaining contents from to old new (Err k)) (sym a.1) (record { bytes = x.bytes; read = x.read; holds = (a.0, a.2) }, p.1))
       x.ends
 
   module _ (left : Rest) (mid : Counted W) (x : Runs (Takes contents) remaining M from old (Ok left) N to mid) where
     -- a run to the end wrote the replies to the lines
     replied : (refusals : List Bool) × Closed contents (length (whole_commands x.bytes)) old mid (lines_output x.bytes refusals)
-    replied = answered contents [] N (lines_in x.bytes) old mid (subst (λ T. TakesAll (Takes contents) T (lines_in x.bytes) old (Ok tt) N mid) none x.ends.0)
+    replied = lines_answered_in x.bytes mid x.ends.0
 
     pub lead_counts : CanCount old → CanCount mid
     lead_counts h = rw replied.1.faults h
@@ -247,21 +225,18 @@ module _ {R W : Type 0} (remaining : R → Option (List ℕ)) (contents : W → 
             let all = Closed-after contents (whole_commands x.bytes) (at_end (rest x.bytes)) old mid new (lines_output x.bytes replied.0) (reply_to_rest (rest_of (rest x.bytes))) replied.1 last in (
               record {
                 bytes = x.bytes;
-                refusals = replied.0;
                 read = x.read;
-                written = subst (Appends (contents old.device) (contents new.device)) (sym (output_is x.bytes replied.0)) all.appended;
-                flushed = subst (λ n. Flushed n old new) (sym (all_answered x.bytes replied.0)) all.flushed;
+                holds = (replied.0, subst (λ n. Closed contents n old new (output x.bytes replied.0)) (sym (all_answered x.bytes replied.0)) (subst (Closed contents _ old new) (sym (output_is x.bytes replied.0)) all));
               },
               x.ends.2,
               x.ends.3,
-              all.faults,
             )
         go (Err e) q h =
             subst (λ k. LeadEnds remaining contents from to old new (Err k)) (sym q.0)
-            (lead_torn new x.bytes replied.0 x.read (stopped_at_end contents x.bytes replied.0 old mid new (sym x.ends.1 ∙ h refl) replied.1 q.1) x.ends.3)
+            (record { bytes = x.bytes; read = x.read; holds = (replied.0, stopped_at_end contents x.bytes replied.0 old mid new (sym x.ends.1 ∙ h refl) replied.1 q.1) }, x.ends.3)
 
 -- where the reader tells its bytes
 pub lead_known : {R W : Type 0} (remaining : R → Option (List ℕ)) (contents : W → Option (List ℕ)) (from to : Counted R) (old new : Counted W) (r : Result Unit RunError) → LeadEnds remaining contents from to old new r
-    → OnOk r (IfSome (remaining (inner from)) (λ bytes. (refusals : List Bool) × Appends (contents (inner old)) (contents (inner new)) (output bytes refusals)))
-lead_known remaining contents from to old new (Ok done) x = Consumes-whole (remaining (inner from)) (remaining (inner to)) x.0.bytes _ x.0.read x.1 (x.0.refusals, x.0.written)
+    → OnOk r (IfSome (remaining from.device) (λ bytes. (refusals : List Bool) × Appends (contents old.device) (contents new.device) (output bytes refusals)))
+lead_known remaining contents from to old new (Ok done) x = Consumes-whole (remaining from.device) (remaining to.device) x.0.bytes _ x.0.read x.1 (x.0.holds.0, x.0.holds.1.appended)
 lead_known remaining contents from to old new (Err e) x = tt

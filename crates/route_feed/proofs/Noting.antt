@@ -1,7 +1,7 @@
 -- What an installer does at a note.
 use Rattle.std.proofs.Common.{◌≡◌, ℕ, ◌<◌, ◌≤◌, inl, inr, true, false, nat_lt, cond, List, [], ◌∷◌, ◌++◌, length, map, Option, None, Some, Result, Ok, Err, refl, sym, ap, ◌∙◌, subst, append-nil, arith}
 use Rattle.std.specs.Prelude.{IfErr, IsSome, MatchOption, OnErr, OnOk, is_some, not}
-use Rattle.std.specs.Option.{option_to_list}
+use Rattle.std.specs.Option.{option_to_list, option_map_or}
 use Rattle.std.proofs.lemmas.Bool.Decides.{nat_tests}
 use Rattle.ipnet.specs.declared.ip_net.IpNet.{IpNet}
 use Rattle.route_choices.specs.Choices.{default_preference}
@@ -35,11 +35,11 @@ use Rattle.route_feed.specs.declared.error.RunError.{RunError}
 use Rattle.route_feed.specs.declared.error.RunError.TheVariants as Why
 use Rattle.route_feed.specs.declared.follower.Waiting.{Waiting}
 use Rattle.route_feed.specs.InnerInstalling.{AllFit, GivesChanges, Has, Replaces, Takes, TakesNone, TakesNote, TakesNoteLine, Wants, note_in, batch_bytes, operation_bytes, routes_waiting, tables_of}
-use Rattle.route_feed.specs.InnerReplies.{Closed, Closes, Torn, Written}
+use Rattle.route_feed.specs.InnerReplies.{Written, reply_line}
 use Rattle.route_feed.specs.InnerWaiting.{changes_of}
 use Rattle.route_feed.specs.Installing.{Installing, MayWant, batches, committing, event_of, noted_bytes, pending_past, printed_updates, route_to, update_lines}
-use Rattle.route_feed.specs.Streams.{Change, change_of, closes, done_or, is_done, pending_after}
-use Rattle.route_feed.specs.Replies.{reply_line}
+use Rattle.route_feed.specs.Streams.{Change, change_of, closes, is_done, pending_after}
+use Rattle.route_feed.specs.Devices.{Closed, Closes, Torn}
 use Rattle.route_feed.proofs.Batching.{Closes-batch, Torn-batch}
 use Rattle.route_feed.proofs.Written.{Closed-nil, Written-nil}
 
@@ -122,7 +122,7 @@ module _ {W : Type 0} (contents : W → Option (List ℕ)) where
   -- ---- reply lines
 
   -- one that commits nothing
-  pub taken_quiet : (a b : Installing) (line : Reply) (old : Counted W) → done_or (closes line) false ≡ false
+  pub taken_quiet : (a b : Installing) (line : Reply) (old : Counted W) → option_map_or is_done (closes line) false ≡ false
       → b ≡ record { tables = a.tables; pending = pending_after a.pending (closes line) (change_of line) } → TakesNote contents a (N.Reply line) old (Ok tt) b old
   taken_quiet a b line old e next =
       ([], Takes-of a b (N.Reply line) [] old old [] (ap (λ d. cond d (committing a.tables.kept a.pending []) []) e) tt next (Closed-nil contents old))
@@ -271,7 +271,7 @@ module _ {W : Type 0} (contents : W → Option (List ℕ)) where
   pub keep_of : (a b : Installing) (line : Reply) (c : Change) (old : Counted W) (r : Result Unit RunError) → closes line ≡ None → change_of line ≡ Some c → b.tables ≡ a.tables → OnOk r (b.pending ≡ a.pending ++ c ∷ []) → IfErr r (λ e. e ≡ Why.Memory)
       → TakesNote contents a (N.Reply line) old r b old
   keep_of a b line c old (Ok done) shut is tables pending memory =
-      taken_quiet contents a b line old (ap (λ o. done_or o false) shut)
+      taken_quiet contents a b line old (ap (λ o. option_map_or is_done o false) shut)
       (λ i. record { tables = tables i; pending = (pending ∙ sym (ap (λ o. pending_after a.pending o (change_of line)) shut ∙ ap (λ o. a.pending ++ option_to_list o) is)) i })
   keep_of a b line c old (Err e) shut is tables pending memory = nothing_wanted contents a b (N.Reply line) old e memory (inl (subst IsSome (sym is) refl))
 

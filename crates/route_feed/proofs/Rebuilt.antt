@@ -2,17 +2,16 @@
 use Rattle.std.proofs.Common.{◌≡◌, ◌≢◌, ℕ, ◌≤◌, inl, inr, ⊎_elim, Bool, true, false, nat_lt, cond, List, [], ◌∷◌, ◌++◌, drop, length, map, Some, refl, sym, ap, ◌∙◌, subst, append_assoc, append-nil, arith}
 use Rattle.std.specs.List.{AllByRecursion}
 use Rattle.std.proofs.lemmas.List.{length-map}
-use Rattle.std.proofs.lemmas.Bool.Decides.{nat_tests}
 use Rattle.std.proofs.lemmas.List.Elements.{recursion_from_All}
 use Rattle.ipnet_addr.proofs.Members.{In, In-cases}
 use Rattle.ipnet_addr.proofs.Ascending.{In-from_All, Rising, Rising-from_pairs}
 use Rattle.ipnet_blocks.specs.Blocks.{IsBlock, IsBefore}
 use Rattle.ipnet.proofs.Spelled.{net_reads}
+use Rattle.ipnet.specs.IpNets.{network_at}
 use Rattle.route_lines.specs.Bytes.{lines, rest, if_no_piece}
 use Rattle.route_lines.specs.CommandText.{command_text}
-use Rattle.route_lines.specs.Lines.{line_of}
+use Rattle.route_lines.specs.Spelled.{command_of}
 use Rattle.route_lines.specs.Texts.{IsCommand}
-use Rattle.route_lines.specs.declared.command.Command.{Command}
 use Rattle.route_lines.proofs.Commands.{commands}
 use Rattle.route_lines.proofs.PrintedCommands.{prints}
 use Rattle.route_choices.specs.Choices.{Choice, default_preference, is_one_too_many}
@@ -23,13 +22,14 @@ use Rattle.route_laws.specs.Tables.{Route, IsTable}
 use Rattle.route_laws.proofs.NetworksAt.{of_network_at}
 use Rattle.route_laws.proofs.Listed.{added_last, hops_same, none_at, preferring, preferring_table}
 use Rattle.route_laws.proofs.Networks.{routes_are_table}
-use Rattle.route_feed.specs.AddLines.{add_command, add_lines}
-use Rattle.route_feed.specs.Commands.{command_in}
+use Rattle.route_feed.specs.AddLines.{add_lines}
 use Rattle.route_feed.specs.Laws.{LinesKeepHops, LinesRebuild, LinesStayLeast, NoHopsNoLines, ShortenedAgree, alone, table_given}
 use Rattle.route_feed.specs.Output.{at_end, table_after, whole_commands}
 use Rattle.route_feed.specs.Steps.{Turn, is_too_many, may_refuse, step}
 use Rattle.route_feed.specs.Streams.{committed, painted, replies_in}
+use Rattle.route_feed.specs.InnerAddLines.{add_command}
 use Rattle.route_feed.proofs.Beginnings.{beginnings_agree, empty_is_table}
+use Rattle.route_feed.proofs.Adding.{line_is}
 use Rattle.route_feed.proofs.Owned.{map_twice}
 use Rattle.route_feed.proofs.Reread.{first_line, is_cut, word_hop}
 use Rattle.route_feed.proofs.Told.{plain_step, read_is}
@@ -54,31 +54,28 @@ line_spells r ok hop = prints (add_command r) (is_cut r.block) (net_reads r.bloc
 clean : (r : Route) → IsBlock r.block → IsHop r.hop → AllByRecursion (λ c. c ≢ 10) (command_text (add_command r))
 clean r ok hop = recursion_from_All (λ c. c ≢ 10) (command_text (add_command r)) (commands.clean (command_text (add_command r)) (add_command r) (line_spells r ok hop))
 
+more_lines : (r : Route) (N : List Route) → add_lines (r ∷ N) ≡ command_text (add_command r) ++ 10 ∷ add_lines N
+more_lines r N = ap (λ t. t ++ add_lines N) (line_is (network_at r.block) r.hop) ∙ append_assoc (command_text (add_command r)) (10 ∷ []) (add_lines N)
+
 lines_are : (N : List Route) → AreRoutes N → lines (add_lines N) ≡ map (λ r. command_text (add_command r)) N
 lines_are [] h = refl
 lines_are (r ∷ N) h =
     let is = h r (inl refl) in
     let text = command_text (add_command r) in
-    ap lines (append_assoc text (10 ∷ []) (add_lines N)) ∙ first_line text (add_lines N) (clean r is.0 is.1) ∙ ap (λ ls. text ∷ ls) (lines_are N (λ s i. h s (inr i)))
+    ap lines (more_lines r N) ∙ first_line text (add_lines N) (clean r is.0 is.1) ∙ ap (λ ls. text ∷ ls) (lines_are N (λ s i. h s (inr i)))
 
 rest_is : (N : List Route) → AreRoutes N → rest (add_lines N) ≡ []
 rest_is [] h = refl
 rest_is (r ∷ N) h =
     let is = h r (inl refl) in
     let text = command_text (add_command r) in
-    ap rest (append_assoc text (10 ∷ []) (add_lines N)) ∙ rest_after text (add_lines N) (clean r is.0 is.1) ∙ rest_is N (λ s i. h s (inr i))
+    ap rest (more_lines r N) ∙ rest_after text (add_lines N) (clean r is.0 is.1) ∙ rest_is N (λ s i. h s (inr i))
 
-command_read : (text : List ℕ) (c : Command) → IsCommand text c → command_in (line_of text) ≡ Some c
-command_read text c h =
-    let short = commands.short text c h in
-    let fits : nat_lt 80 (length text) ≡ false = grind (arith, nat_tests, short) in
-    rw fits (read_is text c h)
-
-commands_are : (N : List Route) → AreRoutes N → map command_in (map line_of (map (λ r. command_text (add_command r)) N)) ≡ map (λ r. Some (add_command r)) N
+commands_are : (N : List Route) → AreRoutes N → map command_of (map (λ r. command_text (add_command r)) N) ≡ map (λ r. Some (add_command r)) N
 commands_are [] h = refl
 commands_are (r ∷ N) h =
     let is = h r (inl refl) in
-    let first = command_read (command_text (add_command r)) (add_command r) (line_spells r is.0 is.1) in
+    let first = read_is (command_text (add_command r)) (add_command r) (line_spells r is.0 is.1) in
     let later = commands_are N (λ s i. h s (inr i)) in
     λ i. first i ∷ later i
 
@@ -86,7 +83,7 @@ given_is : (N : List Route) → AreRoutes N → whole_commands (add_lines N) ++ 
 given_is N h =
     ap (λ bs. whole_commands (add_lines N) ++ at_end bs) (rest_is N h)
     ∙ append-nil (whole_commands (add_lines N))
-    ∙ ap (λ ls. map command_in (map line_of ls)) (lines_are N h)
+    ∙ ap (map command_of) (lines_are N h)
     ∙ commands_are N h
 
 -- ---- the table

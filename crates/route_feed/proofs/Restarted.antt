@@ -1,5 +1,6 @@
 -- A leader that is given the lines that add the flat list of what was told in a beginning of an output.
 use Rattle.std.proofs.Common.{inl, inr, Bool, List, [], ◌∷◌, map, take, Option, refl, ap, ◌∙◌}
+use Rattle.std.specs.Prelude.{get_or, false}
 use Rattle.route_laws.specs.Changes.{route_for}
 use Rattle.route_laws.specs.Flats.{flat_of}
 use Rattle.route_laws.specs.Networks.{Stored, IsStoredTable, routes_of}
@@ -11,7 +12,7 @@ use Rattle.route_laws.proofs.TableHops.{hops_of_table}
 use Rattle.route_lines.specs.declared.command.Command.{Command}
 use Rattle.route_feed.specs.AddLines.{add_lines}
 use Rattle.route_feed.specs.Laws.{RestartedAgree, ToldIsTable, table_given, table_told}
-use Rattle.route_feed.specs.Output.{table_after, first_or_false, refusals_after}
+use Rattle.route_feed.specs.Output.{table_after, refusals_after}
 use Rattle.route_feed.specs.Steps.{step}
 use Rattle.route_feed.specs.Streams.{closings, replies_in}
 use Rattle.route_feed.proofs.Beginnings.{AreInRange, all_in_range, commands_of, empty_is_table, flat_lists_agree}
@@ -21,7 +22,7 @@ use Rattle.route_feed.proofs.Turns.{In-take, form_step}
 -- a table of networks stays one after any commands
 after_is : (M : List Stored) (commands : List (Option Command)) (r : List Bool) → IsStoredTable M → AreInRange commands → IsStoredTable (table_after M commands r)
 after_is M [] r m h = m
-after_is M (c ∷ cs) r m h = after_is (step M c (first_or_false r)).next cs (refusals_after M c r) (form_step M m c (first_or_false r) (h c (inl refl))).table (λ d i. h d (inr i))
+after_is M (c ∷ cs) r m h = after_is (step M c (get_or r 0 false)).next cs (refusals_after M c r) (form_step M m c (get_or r 0 false) (h c (inl refl))).table (λ d i. h d (inr i))
 
 pub told_is_table : ToldIsTable
 told_is_table bytes front refusals =

@@ -11,7 +11,6 @@ use Rattle.route_feed.specs.declared.counted.Counted.{Counted}
 use Rattle.route_feed.specs.declared.error.RunError.{RunError}
 use Rattle.route_feed.specs.declared.error.RunError.TheVariants as Why
 use Rattle.route_feed.specs.AddLines.{add_lines}
-use Rattle.route_feed.specs.Counted.{inner}
 use Rattle.route_feed.specs.Following.{State}
 use Rattle.route_feed.specs.Follows.{AreReplies}
 use Rattle.route_feed.specs.InnerReaching.{Reached, Stops}
@@ -32,7 +31,7 @@ module _ {R W : Type 0} (remaining : R → Option (List ℕ)) (contents : W → 
     shorten_wants e is =
         let end = x.0 in
         subst (λ k. ShortenEnds remaining contents from to old mid (Err k)) (sym is)
-        (inr (inr (record { bytes = end.bytes; read = end.read; replies = end.replies }, end.at_end)), end.faults, x.1)
+        (inr (inr (record { bytes = end.bytes; read = end.read; holds = end.replies }, end.at_end)), end.faults, x.1)
 
     -- all was read, and the lines written
     pub shorten_ended : (new : Counted W) (routes : List Route) (r : Result Unit RunError) → IsLeast (hop_at (routes_of b.table)) routes → Delivers contents mid new r (add_lines routes) → ShortenEnds remaining contents from to old new r
@@ -45,36 +44,15 @@ module _ {R W : Type 0} (remaining : R → Option (List ℕ)) (contents : W → 
         is_least = least_too (hop_at (routes_of b.table)) (painted (committed (replies_in end.bytes))) end.hops routes least
 
         go : (k : Result Unit RunError) → Delivers contents old new k (add_lines routes) → ShortenEnds remaining contents from to old new k
-        go (Ok done) q = (
-          record { bytes = end.bytes; routes = routes; read = end.read; replies = end.replies; least = is_least; written = q.appended; flushed = q.flushed },
-          end.at_end,
-          end.faults,
-          q.faults,
-        )
+        go (Ok done) q = (record { bytes = end.bytes; read = end.read; holds = (end.replies, (routes, is_least, q)) }, end.at_end, end.faults)
         go (Err e) q =
-            let torn = q.1 in
-            subst (λ k. ShortenEnds remaining contents from to old new (Err k)) (sym q.0) (
-              record {
-                bytes = end.bytes;
-                routes = routes;
-                front = torn.front;
-                back = torn.back;
-                read = end.read;
-                replies = end.replies;
-                least = is_least;
-                is_front = torn.is_front;
-                written = torn.appended;
-                flushes = torn.flushes;
-              },
-              end.at_end,
-              end.faults,
-              torn.failed,
-            )
+            subst (λ k. ShortenEnds remaining contents from to old new (Err k)) (sym q.0)
+            (record { bytes = end.bytes; read = end.read; holds = (end.replies, (routes, is_least, q.1)) }, end.at_end, end.faults)
 
 -- where the reader tells its bytes
 pub shorten_known : {R W : Type 0} (remaining : R → Option (List ℕ)) (contents : W → Option (List ℕ)) (from to : Counted R) (old new : Counted W) (r : Result Unit RunError) → ShortenEnds remaining contents from to old new r
-    → OnOk r (IfSome (remaining (inner from)) (λ bytes. AreReplies (lines bytes) × AppendsLeast bytes (contents (inner old)) (contents (inner new))))
+    → OnOk r (IfSome (remaining from.device) (λ bytes. AreReplies (lines bytes) × AppendsLeast bytes (contents old.device) (contents new.device)))
 shorten_known remaining contents from to old new (Ok done) x =
     let s = x.0 in
-    Consumes-whole (remaining (inner from)) (remaining (inner to)) s.bytes _ s.read x.1 (s.replies, (s.routes, s.least, s.written))
+    Consumes-whole (remaining from.device) (remaining to.device) s.bytes _ s.read x.1 (s.holds.0, (s.holds.1.0, s.holds.1.1, s.holds.1.2.appended))
 shorten_known remaining contents from to old new (Err e) x = tt

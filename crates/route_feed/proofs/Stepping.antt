@@ -2,7 +2,7 @@
 use Rattle.std.proofs.Common.{◌≡◌, ℕ, inl, ⊎_elim, Bool, true, false, cond, List, [], ◌∷◌, ◌++◌, Option, Some, None, Result, Ok, Err, refl, sym, ap, ◌∙◌, subst, append_assoc}
 use Rattle.std.specs.Prelude.{IsSome}
 use Rattle.std.specs.List.{filter_map}
-use Rattle.std.specs.Option.{option_to_list}
+use Rattle.std.specs.Option.{option_to_list, option_map_or}
 use Rattle.std.proofs.lemmas.List.Elements.{All-nil, All-tail}
 use Rattle.ipnet_addr.specs.Addresses.{Address, IsAddress}
 use Rattle.ipnet_addr.proofs.Ascending.{In-from_All, All-from_In}
@@ -18,7 +18,7 @@ use Rattle.route_feed.specs.declared.error.RunError.TheVariants as Why
 use Rattle.route_feed.specs.Following.{State, TakesLine, hop_after}
 use Rattle.route_feed.specs.InnerFollowing.{reply_in, FollowsLine, hop_once, AllReplies}
 use Rattle.route_feed.specs.InnerRun.{TakesAll}
-use Rattle.route_feed.specs.Streams.{Change, change_of, closes, is_done, done_or, ends_well, committed, painted_over, pending_after}
+use Rattle.route_feed.specs.Streams.{Change, change_of, closes, is_done, ends_well, committed, painted_over, pending_after}
 use Rattle.route_feed.proofs.Carried.{painted-append}
 
 -- ---- one line
@@ -43,7 +43,7 @@ closes_without_change (Count v4 v6) s = refl
 closes_without_change (Close closing) s = refl
 
 over_reply : (s : State) (o : Option Closing) (ch : Option Change) (more : List Reply) (x : Address) → (IsSome o → ch ≡ None)
-    → painted_over (hop_at (routes_of s.table) x) (cond (done_or o (ends_well more)) s.pending [] ++ cond (ends_well more) (option_to_list ch ++ committed more) (committed more)) x
+    → painted_over (hop_at (routes_of s.table) x) (cond (option_map_or is_done o (ends_well more)) s.pending [] ++ cond (ends_well more) (option_to_list ch ++ committed more) (committed more)) x
     ≡ painted_over (hop_after s o x) (cond (ends_well more) (pending_after s.pending o ch) [] ++ committed more) x
 over_reply s None ch more x f = over_line (hop_at (routes_of s.table) x) s.pending (option_to_list ch) (committed more) (ends_well more) x
 over_reply s (Some closing) ch more x f =

@@ -15,7 +15,6 @@ use Rattle.std.proofs.lemmas.List.{take_rest}
 use Rattle.route_lines.specs.declared.cutter.Line.{Line}
 use Rattle.route_feed.specs.declared.counted.Counted.{Counted}
 use Rattle.route_feed.specs.declared.error.RunError.{RunError}
-use Rattle.route_feed.specs.Counted.{inner}
 use Rattle.route_feed.specs.InnerRun.{TakesAll}
 
 pub fed_all-append : (c : Kept) (bs cs : List ℕ) → fed_all c (bs ++ cs) ≡ fed_all (fed_all c bs) cs
@@ -84,7 +83,7 @@ module _ {S W : Type 0} (takes : S → Line → Counted W → Result Unit RunErr
 pub record Went {S R W : Type 0} (takes : S → Line → Counted W → Result Unit RunError → S → Counted W → Type 0) (remaining : R → Option (List ℕ))
     (a : S) (from : Counted R) (old : Counted W) (result : Result Unit RunError) (b : S) (to : Counted R) (new : Counted W) (cutter : Kept) : Type 0 where
   pub bytes : List ℕ
-  pub read : Consumes (remaining (inner from)) (remaining (inner to)) bytes
+  pub read : Consumes (remaining from.device) (remaining to.device) bytes
   pub taken : TakesAll takes a (answers (kept_of []) bytes) old result b new
   pub kept : OnOk result (cutter ≡ fed_all (kept_of []) bytes)
 
@@ -94,7 +93,7 @@ module _ {S R W : Type 0} (takes : S → Line → Counted W → Result Unit RunE
 
   -- some more bytes came
   pub Went-more : (a b c : S) (p q r : Counted R) (u v w : Counted W) (k m : Kept) (piece : List ℕ) (result : Result Unit RunError) → Went takes remaining a p u (Ok tt) b q v k
-      → Consumes (remaining (inner q)) (remaining (inner r)) piece → TakesAll takes b (answers k piece) v result c w → OnOk result (m ≡ fed_all k piece)
+      → Consumes (remaining q.device) (remaining r.device) piece → TakesAll takes b (answers k piece) v result c w → OnOk result (m ≡ fed_all k piece)
       → Went takes remaining a p u result c r w m
   Went-more a b c p q r u v w k m piece result x read taken fed = record {
     bytes = x.bytes ++ piece;

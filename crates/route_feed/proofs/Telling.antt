@@ -3,8 +3,9 @@ use Rattle.std.proofs.Common.{◌≡◌, ℕ, List, [], ◌∷◌, ◌++◌, Opt
 use Rattle.route_lines.specs.declared.reply.Reply.{Reply}
 use Rattle.route_feed.specs.declared.counted.Counted.{Counted}
 use Rattle.route_feed.specs.declared.error.RunError.{RunError}
-use Rattle.route_feed.specs.Replies.{reply_line, printed}
-use Rattle.route_feed.specs.InnerReplies.{Written, Torn, Closes}
+use Rattle.route_feed.specs.Replies.{printed}
+use Rattle.route_feed.specs.InnerReplies.{Written, reply_line}
+use Rattle.route_feed.specs.Devices.{Torn, Closes}
 use Rattle.route_feed.proofs.Written.{Written-nil, Written-trans, Torn-after, Torn-longer, Closes-written}
 
 -- all lines but those that are left were written

@@ -1,5 +1,6 @@
 -- What each reply tells, and that it paints the hops of the table after it.
 use Rattle.std.proofs.Common.{◌≡◌, ◌==◌, ℕ, zero, suc, ◌<◌, ◌^◌, arith, inl, inr, Bool, true, false, ◌&&◌, cond, List, [], ◌∷◌, map, take, filter, Option, Some, None, MatchOption, refl, sym, ap, subst, ⊎_elim}
+use Rattle.std.specs.Option.{option_map_or}
 use Rattle.ipnet_addr.specs.Addresses.{Address, IsAddress, Ipv4, Ipv6}
 use Rattle.ipnet_addr.proofs.Members.{In}
 use Rattle.ipnet_addr.proofs.Ascending.{In-from_All, Contains-from_In, Rising}
@@ -27,8 +28,9 @@ use Rattle.route_laws.proofs.Matches.{AtLeast, best_of}
 use Rattle.route_laws.proofs.ChoiceChanges.{choices_have_one_hop}
 use Rattle.route_laws.proofs.Networks.{at_are, routes_are_table, stored_choices, with_choices_is}
 use Rattle.route_feed.proofs.Owned.{map_twice}
-use Rattle.route_feed.specs.Steps.{Turn, closed, told, change_line, change_lines, changed_to, route_line, choice_line, flat_line, one_or_missing, is_too_many, may_refuse, accepted, step, own_line}
+use Rattle.route_feed.specs.Steps.{Turn, closed, told, change_line, change_lines, changed_to, route_line, flat_line, is_too_many, may_refuse, accepted, step}
 use Rattle.route_feed.specs.Streams.{Change, change_of, is_done, painted_over}
+use Rattle.route_feed.specs.InnerReplies.{choice_line, own_line}
 use Rattle.route_feed.proofs.ReadNets.{IsInRange}
 use Rattle.route_feed.proofs.Reread.{IsTold, AreTold, AreTold-map, route_told, piece_told, change_told, count_told, own_told}
 use Rattle.route_feed.proofs.Seam.{Apart, changes_in, change_painted, changes_apart}
@@ -119,10 +121,10 @@ module _ (M : List Stored) (m : IsStoredTable M) where
   form_page : (limit : ℕ) (p : Route → Bool) → Form M (told M (map route_line (take limit (filter p routes))))
   form_page limit p = form_routes (take limit (filter p routes)) (λ r i. (In-from_filter p routes r (In-take limit (filter p routes) r i)).0)
 
-  form_match : (n : Block) → Form M (one_or_missing M (match_of routes n))
+  form_match : (n : Block) → Form M (option_map_or (λ r. told M (route_line r ∷ [])) (match_of routes n) (closed M Missing))
   form_match n = go (match_of routes n) (best_of (covering routes n))
     where
-      go : (o : Option Route) → MatchOption o ((s : Route) → In s (covering routes n) → ⊥) (λ s. AtLeast s (covering routes n)) → Form M (one_or_missing M o)
+      go : (o : Option Route) → MatchOption o ((s : Route) → In s (covering routes n) → ⊥) (λ s. AtLeast s (covering routes n)) → Form M (option_map_or (λ r. told M (route_line r ∷ [])) o (closed M Missing))
       go None h = form_closed Missing
       go (Some r) h = form_routes (r ∷ []) (λ s i. ⊎_elim (λ e. subst (λ (t : Route). In t routes) (sym e) (In-from_filter _ routes r h.0).0) (λ none. absurd none) i)
 

@@ -1,11 +1,12 @@
 -- Writes one after another.
-use Rattle.std.proofs.Common.{◌≡◌, ℕ, zero, suc, ◌<◌, ◌+◌, Bool, true, false, ◌||◌, codes, List, [], ◌∷◌, ◌++◌, length, Option, Result, Ok, Err, refl, sym, ap, ◌∙◌, subst, append_assoc, append-nil, arith}
+use Rattle.std.proofs.Common.{◌≡◌, ◌==◌, ne_eqb, ℕ, zero, suc, ◌<◌, ◌+◌, Bool, true, false, ◌&&◌, ◌||◌, codes, List, [], ◌∷◌, ◌++◌, length, Option, Result, Ok, Err, refl, sym, ap, ◌∙◌, subst, append_assoc, append-nil, arith}
 use Rattle.std.specs.Io.KnownBytes.{Appends}
 use Rattle.std.proofs.KnownBytes.{Appends-nil, Appends-trans}
 use Rattle.route_feed.specs.declared.error.RunError.{RunError}
 use Rattle.route_feed.specs.declared.counted.Counted.{Counted}
-use Rattle.route_feed.specs.Counted.{inner, has_bytes, flushes_of, waiting_of, one_more, more_by, more_if, waits_after, Flushed}
-use Rattle.route_feed.specs.InnerReplies.{Written, Closed, Delivers, Torn, Closes}
+use Rattle.route_feed.specs.Counted.{one_more, more_by, more_if, Flushed}
+use Rattle.route_feed.specs.InnerReplies.{Written, Delivers, has_bytes}
+use Rattle.route_feed.specs.Devices.{Closed, Torn, Closes}
 
 or_true : (b : Bool) → (b || true) ≡ true
 or_true true = refl
@@ -25,9 +26,19 @@ pub line_has : (text : List ℕ) → has_bytes (text ++ codes "\n") ≡ true
 line_has [] = refl
 line_has (b ∷ text) = refl
 
-waits_false : (times : ℕ) → waits_after times false ≡ false
-waits_false zero = refl
-waits_false (suc times) = refl
+-- whether bytes wait after so many flushes
+abbrev pub waits_after : ℕ → Bool → Bool
+waits_after times waits = (times == 0) && waits
+
+pub waits_none : (times : ℕ) → waits_after times false ≡ false
+waits_none times = go (times == 0)
+  where
+    go : (b : Bool) → (b && false) ≡ false
+    go true = refl
+    go false = refl
+
+pub waits_more : (times : ℕ) (w : Bool) → waits_after (suc times) w ≡ false
+waits_more times w = ap (λ b. b && w) (ne_eqb (suc times) 0 (omega arith))
 
 -- flushes after flushes
 more_append : {A : Type 0} (xs ys : List A) (n : ℕ) → more_by (length (xs ++ ys)) n ≡ more_by (length ys) (more_by (length xs) n)
@@ -36,7 +47,7 @@ more_append (x ∷ xs) ys n = more_append xs ys (one_more n)
 
 waits_append : {A : Type 0} (xs ys : List A) (w : Bool) → waits_after (length (xs ++ ys)) w ≡ waits_after (length ys) (waits_after (length xs) w)
 waits_append [] ys w = refl
-waits_append (x ∷ xs) ys w = sym (waits_false (length ys))
+waits_append (x ∷ xs) ys w = waits_more (length (xs ++ ys)) w ∙ sym (waits_none (length ys)) ∙ ap (waits_after (length ys)) (sym (waits_more (length xs) w))
 
 module _ {W : Type 0} where
   Flushed-append : {A : Type 0} (xs ys : List A) (a b c : Counted W) → Flushed (length xs) a b → Flushed (length ys) b c → Flushed (length (xs ++ ys)) a c
@@ -54,7 +65,7 @@ module _ {W : Type 0} (contents : W → Option (List ℕ)) where
     appended = Appends-trans _ _ _ s t p.appended q.appended;
     faults = q.faults ∙ p.faults;
     flushes = q.flushes ∙ p.flushes;
-    waits = q.waits ∙ ap (λ w. has_bytes t || w) p.waits ∙ one_has s t (waiting_of a);
+    waits = q.waits ∙ ap (λ w. has_bytes t || w) p.waits ∙ one_has s t a.waiting;
   }
 
   pub Torn-after : (a b c : Counted W) (s t : List ℕ) → Written contents a b s → Torn contents b c t → Torn contents a c (s ++ t)
@@ -86,15 +97,15 @@ module _ {W : Type 0} (contents : W → Option (List ℕ)) where
   -- the end of a text after its beginning, and then all is flushed
   pub Delivers-after : {T : Type 0} (a b c : Counted W) (r : Result T RunError) (s : List ℕ) → Written contents a b s → Delivers contents b c r [] → Delivers contents a c r s
   Delivers-after a b c (Ok x) s p q = record {
-    appended = subst (Appends (contents (inner a)) (contents (inner c))) (append-nil s) (Appends-trans _ _ _ s [] p.appended q.appended);
+    appended = subst (Appends (contents a.device) (contents c.device)) (append-nil s) (Appends-trans _ _ _ s [] p.appended q.appended);
     faults = q.faults ∙ p.faults;
-    flushed = (q.flushed.0 ∙ ap (λ w. more_if w (flushes_of b)) p.waits ∙ ap (more_if (has_bytes s || waiting_of a)) p.flushes, q.flushed.1);
+    flushed = (q.flushed.0 ∙ ap (λ w. more_if w b.flushes) p.waits ∙ ap (more_if (has_bytes s || a.waiting)) p.flushes, q.flushed.1);
   }
   Delivers-after a b c (Err e) s p q = (q.0, subst (Torn contents a c) (append-nil s) (Torn-after a b c s [] p q.1))
 
   -- a flush of bytes that waited closes a reply
-  pub Closes-delivered : {T : Type 0} (a b : Counted W) (r : Result T RunError) → waiting_of a ≡ true → Delivers contents a b r [] → Closes contents 1 a b r []
-  Closes-delivered a b (Ok x) waits q = record { appended = q.appended; faults = q.faults; flushed = (q.flushed.0 ∙ ap (λ w. more_if w (flushes_of a)) waits, q.flushed.1) }
+  pub Closes-delivered : {T : Type 0} (a b : Counted W) (r : Result T RunError) → a.waiting ≡ true → Delivers contents a b r [] → Closes contents 1 a b r []
+  Closes-delivered a b (Ok x) waits q = record { appended = q.appended; faults = q.faults; flushed = (q.flushed.0 ∙ ap (λ w. more_if w a.flushes) waits, q.flushed.1) }
   Closes-delivered a b (Err e) waits q = q
 
   -- and then nothing more

@@ -1,5 +1,5 @@
 -- What a counted device counts.
-use Rattle.std.specs.Prelude.{◌≡◌, ℕ, zero, suc, ◌⊎◌, ◌≤◌, ◌+◌, ◌-◌, ◌^◌, ◌<◌, ◌==◌, min, nat_lt, Bool, true, false, ◌&&◌, ◌||◌, if◌then◌else◌, List, [], ◌∷◌, Result, Ok, Err}
+use Rattle.std.specs.Prelude.{◌≡◌, ℕ, zero, suc, ◌⊎◌, ◌≤◌, ◌+◌, ◌-◌, ◌^◌, ◌<◌, ◌==◌, min, nat_lt, Bool, true, false, ◌&&◌, ◌||◌, if◌then◌else◌, is_some, slice_get, List, Result, Ok, Err}
 use Rattle.route_feed.specs.declared.counted.Counted.{Counted}
 
 -- one more, up to the greatest u64
@@ -25,56 +25,22 @@ abbrev pub took_some : {E : Type 0} → Result ℕ E → Bool
 took_some (Ok n) = nat_lt 0 n
 took_some (Err e) = false
 
--- the device
-abbrev pub inner : {D : Type 0} → Counted D → D
-inner c = c.device
-
--- how often its device was asked to read
-abbrev pub reads_of : {D : Type 0} → Counted D → ℕ
-reads_of c = c.reads
-
--- how many calls of its device failed
-abbrev pub faults_of : {D : Type 0} → Counted D → ℕ
-faults_of c = c.faults
-
--- whether the last call of its device failed
-abbrev pub failing_of : {D : Type 0} → Counted D → Bool
-failing_of c = c.failing
-
--- whether it took bytes that no `flush` has followed
-abbrev pub waiting_of : {D : Type 0} → Counted D → Bool
-waiting_of c = c.waiting
-
--- how often a `flush` followed bytes that waited
-abbrev pub flushes_of : {D : Type 0} → Counted D → ℕ
-flushes_of c = c.flushes
-
 -- one more fault of it can be counted
 abbrev pub CanCount : {D : Type 0} → Counted D → Type 0
-CanCount c = faults_of c < 2 ^ 64 - 1
+CanCount c = c.faults < 2 ^ 64 - 1
 
 -- it failed once, in its last call
 abbrev pub FailedLast : {D : Type 0} → Counted D → Counted D → Type 0
-FailedLast from to = (faults_of to ≡ faults_of from + 1) × (failing_of to ≡ true)
+FailedLast from to = (to.faults ≡ from.faults + 1) × (to.failing ≡ true)
 
 -- the reader failed, and was not called again; or it was called 2^62 times, and never failed
 abbrev pub ReadFault : {R : Type 0} → Counted R → Counted R → Type 0
-ReadFault from to = FailedLast from to ⊎ ((reads_of from + 2 ^ 62 ≤ reads_of to) × (faults_of to ≡ faults_of from))
-
--- whether bytes wait after so many flushes
-abbrev pub waits_after : ℕ → Bool → Bool
-waits_after zero waits = waits
-waits_after (suc times) waits = false
+ReadFault from to = FailedLast from to ⊎ ((from.reads + 2 ^ 62 ≤ to.reads) × (to.faults ≡ from.faults))
 
 -- so often bytes were written and then flushed, and nothing was written after that
 abbrev pub Flushed : {W : Type 0} → ℕ → Counted W → Counted W → Type 0
-Flushed times old new = (flushes_of new ≡ more_by times (flushes_of old)) × (waiting_of new ≡ waits_after times (waiting_of old))
-
--- the test that a text has a byte
-abbrev pub has_bytes : List ℕ → Bool
-has_bytes [] = false
-has_bytes (b ∷ bs) = true
+Flushed times old new = (new.flushes ≡ more_by times old.flushes) × (new.waiting ≡ (times == 0 && old.waiting))
 
 -- what waited before and this text were flushed, once, and nothing waits; where there was nothing, no flush counts
 abbrev pub FlushedAll : {W : Type 0} → List ℕ → Counted W → Counted W → Type 0
-FlushedAll text old new = (flushes_of new ≡ more_if (has_bytes text || waiting_of old) (flushes_of old)) × (waiting_of new ≡ false)
+FlushedAll text old new = (new.flushes ≡ if is_some (slice_get text 0) || old.waiting then one_more old.flushes else old.flushes) × (new.waiting ≡ false)

@@ -18,8 +18,9 @@ use Rattle.route_feed.specs.declared.counted.Counted.{Counted}
 use Rattle.route_feed.specs.declared.error.RunError.{RunError}
 use Rattle.route_feed.specs.declared.error.RunError.TheVariants as Why
 use Rattle.route_feed.specs.declared.follower.Waiting.{Waiting}
-use Rattle.route_feed.specs.InnerReplies.{Closed, Torn, Written}
+use Rattle.route_feed.specs.InnerReplies.{Written}
 use Rattle.route_feed.specs.Installing.{Installing, IsUnfit, MayWant, Noted, after_note, batches, event_of, noted_bytes, operation_line, printed_updates}
+use Rattle.route_feed.specs.Devices.{Closed, Torn}
 
 -- the note that a line spells: none where it is too long
 abbrev pub note_in : Line → Option Note

@@ -8,27 +8,28 @@ use Rattle.route_laws.specs.Tables.{hop_at}
 use Rattle.route_feed.specs.declared.counted.Counted.{Counted}
 use Rattle.route_feed.specs.declared.error.RunError.{RunError}
 use Rattle.route_feed.specs.declared.error.RunError.TheVariants as Why
-use Rattle.route_feed.specs.Counted.{inner, faults_of, ReadFault}
+use Rattle.route_feed.specs.Counted.{ReadFault}
 use Rattle.route_feed.specs.Following.{State}
-use Rattle.route_feed.specs.Follows.{AreReplies, MeetsAnother, MeetsReplies, MeetsWant}
+use Rattle.route_feed.specs.Devices.{HasRead}
+use Rattle.route_feed.specs.Follows.{AreReplies, MeetsAnother, MeetsWant}
 use Rattle.route_feed.specs.Streams.{committed, painted, replies_in}
 
 module _ {R : Type 0} (remaining : R → Option (List ℕ)) where
   -- all was read, each line is a reply line, and the follower has the hops that the committed changes paint
   pub record Reached (from to : Counted R) (follower : State) : Type 0 where
     pub bytes : List ℕ
-    pub read : Consumes (remaining (inner from)) (remaining (inner to)) bytes
+    pub read : Consumes (remaining from.device) (remaining to.device) bytes
     pub replies : AreReplies (lines bytes)
     pub hops : (x : Address) → IsAddress x → hop_at (routes_of follower.table) x ≡ painted (committed (replies_in bytes)) x
-    pub at_end : IsAtEnd (remaining (inner to))
-    pub faults : faults_of to ≡ faults_of from
+    pub at_end : IsAtEnd (remaining to.device)
+    pub faults : to.faults ≡ from.faults
 
   -- why the end was not reached
   abbrev pub Stops : Counted R → Counted R → RunError → Type 0
-  Stops from to Why.Read = MeetsReplies remaining from to × ReadFault from to
-  Stops from to Why.Line = MeetsAnother remaining from to × (faults_of to ≡ faults_of from)
+  Stops from to Why.Read = HasRead remaining (λ bytes. AreReplies (lines bytes)) from to × ReadFault from to
+  Stops from to Why.Line = MeetsAnother remaining from to × (to.faults ≡ from.faults)
   Stops from to Why.Write = ⊥
-  Stops from to Why.Memory = ((to ≡ from) ⊎ MeetsWant remaining from to) × (faults_of to ≡ faults_of from)
+  Stops from to Why.Memory = ((to ≡ from) ⊎ HasRead remaining (λ bytes. MeetsWant (lines bytes)) from to) × (to.faults ≡ from.faults)
 
   -- the end was reached or not, and nothing was written
   abbrev pub Reaches : {W : Type 0} → Counted R → Counted R → Counted W → Counted W → Result State RunError → Type 0

@@ -1,20 +1,47 @@
 -- How replies are written.
-use Rattle.std.specs.Prelude.{◌≡◌, ℕ, Bool, ◌||◌, List, [], ◌∷◌, ◌++◌, Option, Result, Ok, Err, MatchOption}
+use Rattle.std.specs.Prelude.{◌≡◌, ℕ, Bool, ◌||◌, List, [], ◌∷◌, ◌++◌, Option, None, Some, is_some, slice_get, Result, Ok, Err, MatchOption, codes}
 use Rattle.std.specs.Io.KnownBytes.{Appends}
-use Rattle.route_lines.specs.Texts.{IsPrintable}
+use Rattle.ipnet.specs.IpNets.{network_at}
+use Rattle.ipnet_blocks.specs.Blocks.{Block}
+use Rattle.route_lines.specs.Texts.{IsPrintable, reply_text}
+use Rattle.route_lines.specs.Spelled.{command_of}
 use Rattle.route_lines.specs.declared.command.Command.{Command}
+use Rattle.route_lines.specs.declared.cutter.Line.{Line}
+use Rattle.route_lines.specs.declared.cutter.Line.TheVariants.{Text, TooLong}
 use Rattle.route_lines.specs.declared.cutter.Rest.{Rest}
 use Rattle.route_lines.specs.declared.cutter.Rest.TheVariants.{Empty, Held}
 use Rattle.route_lines.specs.declared.reply.Closing.TheVariants.{Bad}
 use Rattle.route_lines.specs.declared.reply.Reply.{Reply}
-use Rattle.route_lines.specs.declared.reply.Reply.TheVariants.{Close}
+use Rattle.route_lines.specs.declared.reply.Reply.TheVariants.{Close, Own, Route}
+use Rattle.route_choices.specs.Choices.{Choice}
 use Rattle.route_laws.specs.Networks.{Stored}
 use Rattle.route_feed.specs.declared.counted.Counted.{Counted}
 use Rattle.route_feed.specs.declared.error.RunError.{RunError}
 use Rattle.route_feed.specs.declared.error.RunError.TheVariants.{Write}
-use Rattle.route_feed.specs.Counted.{inner, faults_of, has_bytes, flushes_of, waiting_of, FailedLast, Flushed, FlushedAll}
-use Rattle.route_feed.specs.Replies.{reply_line, printed}
+use Rattle.route_feed.specs.Devices.{Closes, Delivered, Torn}
+use Rattle.route_feed.specs.Replies.{printed}
 use Rattle.route_feed.specs.Steps.{step, turn_lines}
+
+-- a reply line with its line end
+abbrev pub reply_line : Reply → List ℕ
+reply_line reply = reply_text reply ++ codes "\n"
+
+-- the line of a choice of a block
+abbrev pub choice_line : Block → Choice → Reply
+choice_line b c = Route (network_at b) c.hop (Some c.pref)
+
+-- the line of a block of the hop that was asked for
+abbrev pub own_line : Block → Reply
+own_line b = Own (network_at b)
+
+-- the command that a line spells: none where it is too long
+abbrev pub command_in : Line → Option Command
+command_in (Text text) = command_of text.items
+command_in TooLong = None
+
+-- the test that a text has a byte
+abbrev pub has_bytes : List ℕ → Bool
+has_bytes text = is_some (slice_get text 0)
 
 -- the first line was given, and it can be printed; or none was left
 abbrev pub GivesLine : List Reply → Option Reply → List Reply → Type 0
@@ -23,51 +50,25 @@ GivesLine lines line left = MatchOption line ((lines ≡ []) × (left ≡ [])) (
 module _ {W : Type 0} (contents : W → Option (List ℕ)) where
   -- the text was written, and waits to be flushed
   pub record Written (old new : Counted W) (text : List ℕ) : Type 0 where
-    pub appended : Appends (contents (inner old)) (contents (inner new)) text
-    pub faults : faults_of new ≡ faults_of old
-    pub flushes : flushes_of new ≡ flushes_of old
-    pub waits : waiting_of new ≡ (has_bytes text || waiting_of old)
-
-  -- the text was written, and all that waited was flushed
-  pub record Delivered (old new : Counted W) (text : List ℕ) : Type 0 where
-    pub appended : Appends (contents (inner old)) (contents (inner new)) text
-    pub faults : faults_of new ≡ faults_of old
-    pub flushed : FlushedAll text old new
-
-  -- the text of so many replies was written, and each was flushed
-  pub record Closed (times : ℕ) (old new : Counted W) (text : List ℕ) : Type 0 where
-    pub appended : Appends (contents (inner old)) (contents (inner new)) text
-    pub faults : faults_of new ≡ faults_of old
-    pub flushed : Flushed times old new
-
-  -- a beginning of the text was written, nothing of it was flushed, and then the writer failed
-  pub record Torn (old new : Counted W) (text : List ℕ) : Type 0 where
-    pub front : List ℕ
-    pub back : List ℕ
-    pub is_front : text ≡ front ++ back
-    pub appended : Appends (contents (inner old)) (contents (inner new)) front
-    pub failed : FailedLast old new
-    pub flushes : flushes_of new ≡ flushes_of old
+    pub appended : Appends (contents old.device) (contents new.device) text
+    pub faults : new.faults ≡ old.faults
+    pub flushes : new.flushes ≡ old.flushes
+    pub waits : new.waiting ≡ (has_bytes text || old.waiting)
 
   -- the text was written, or a beginning of it and then the writer failed
   abbrev pub Writes : {T : Type 0} → Counted W → Counted W → Result T RunError → List ℕ → Type 0
   Writes old new (Ok x) text = Written old new text
-  Writes old new (Err e) text = (e ≡ Write) × Torn old new text
+  Writes old new (Err e) text = (e ≡ Write) × Torn contents old new text
 
   -- the text was written and flushed; or a beginning of it was written, and then the writer failed
   abbrev pub Delivers : {T : Type 0} → Counted W → Counted W → Result T RunError → List ℕ → Type 0
-  Delivers old new (Ok x) text = Delivered old new text
-  Delivers old new (Err e) text = (e ≡ Write) × Torn old new text
-
-  -- the text of one reply or of none was written, and flushed; or a beginning of it, and then the writer failed
-  abbrev pub Closes : {T : Type 0} → ℕ → Counted W → Counted W → Result T RunError → List ℕ → Type 0
-  Closes times old new (Ok x) text = Closed times old new text
-  Closes times old new (Err e) text = (e ≡ Write) × Torn old new text
+  Delivers old new (Ok x) text = Delivered contents old new text
+  Delivers old new (Err e) text = (e ≡ Write) × Torn contents old new text
 
   -- a command was answered, or the writer failed; the table went on
   pub record Answers (M next : List Stored) (command : Option Command) (old new : Counted W) (result : Result Unit RunError) : Type 0 where
     pub refusal : Bool
-    pub writes : Closes 1 old new result (printed (turn_lines (step M command refusal)))
+    pub writes : Closes contents 1 old new result (printed (turn_lines (step M command refusal)))
     pub table : next ≡ (step M command refusal).next
 
 -- how many replies there are to what stands after the last line end, and their text

@@ -8,7 +8,7 @@ use Rattle.route_lines.specs.declared.cutter.Rest.{Rest}
 use Rattle.route_feed.specs.declared.counted.Counted.{Counted}
 use Rattle.route_feed.specs.declared.error.RunError.{RunError}
 use Rattle.route_feed.specs.declared.error.RunError.TheVariants.{Read}
-use Rattle.route_feed.specs.Counted.{inner, faults_of, ReadFault}
+use Rattle.route_feed.specs.Counted.{ReadFault}
 
 -- `takes` says what it is to take a line, by the result
 module _ {S W : Type 0} (takes : S → Line → Counted W → Result Unit RunError → S → Counted W → Type 0) where
@@ -23,13 +23,13 @@ module _ {S W : Type 0} (takes : S → Line → Counted W → Result Unit RunErr
     -- how a run over these bytes ends: at the end of the input, by a fault of the reader, or by a line that was not taken
     abbrev pub Ends : List ℕ → S → Counted R → Counted W → Result Rest RunError → S → Counted R → Counted W → Type 0
     Ends bytes a from old (Ok left) b to new =
-        TakesAll a (lines_in bytes) old (Ok tt) b new × (left ≡ rest_of (rest bytes)) × IsAtEnd (remaining (inner to)) × (faults_of to ≡ faults_of from)
+        TakesAll a (lines_in bytes) old (Ok tt) b new × (left ≡ rest_of (rest bytes)) × IsAtEnd (remaining to.device) × (to.faults ≡ from.faults)
     Ends bytes a from old (Err e) b to new =
         (TakesAll a (lines_in bytes) old (Ok tt) b new × (e ≡ Read) × ReadFault from to)
-        ⊎ (TakesAll a (lines_in bytes) old (Err e) b new × (faults_of to ≡ faults_of from))
+        ⊎ (TakesAll a (lines_in bytes) old (Err e) b new × (to.faults ≡ from.faults))
 
     -- the reader gave some bytes, and the run over them ended so
     pub record Runs (a : S) (from : Counted R) (old : Counted W) (result : Result Rest RunError) (b : S) (to : Counted R) (new : Counted W) : Type 0 where
       pub bytes : List ℕ
-      pub read : Consumes (remaining (inner from)) (remaining (inner to)) bytes
+      pub read : Consumes (remaining from.device) (remaining to.device) bytes
       pub ends : Ends bytes a from old result b to new

@@ -1,6 +1,7 @@
 -- Notes as events on a table that is kept installed, and what an installer writes of them.
 use Rattle.std.specs.Prelude.{◌≡◌, ℕ, suc, nat_lt, length, Bool, true, false, ◌&&◌, List, [], ◌∷◌, ◌++◌, if◌then◌else◌, Option, Some, None, map}
 use Rattle.std.specs.List.{flat_map}
+use Rattle.std.specs.Option.{option_map_or}
 use Rattle.std.specs.Prelude.{codes}
 use Rattle.route_lines.specs.Spelled.{note_of}
 use Rattle.route_lines.specs.Texts.{update_text}
@@ -14,7 +15,7 @@ use Rattle.route_laws.specs.Operations.{Operation, Install, Remove}
 use Rattle.route_laws.specs.Runs.{Event, Have, Told, Sync, Installer, MayAllCome, after_event, after_events, gives, start}
 use Rattle.route_laws.specs.Tables.{Route, route_of}
 use Rattle.ipnet.specs.IpNets.{network_at}
-use Rattle.route_feed.specs.Streams.{Change, change_of, closes, done_or, pending_after, WantsMemory}
+use Rattle.route_feed.specs.Streams.{Change, change_of, closes, is_done, pending_after, WantsMemory}
 
 -- a change as a route
 abbrev pub route_to : Change → Route
@@ -40,7 +41,7 @@ committing kept (c ∷ cs) N =
 abbrev pub event_of : Installing → Note → List Route → List Event
 event_of s (Notes.Have net hop) N = Have (route_of net hop default_preference) ∷ []
 event_of s Notes.Sync N = Sync [] N ∷ []
-event_of s (Notes.Reply line) N = if done_or (closes line) false then committing s.tables.kept s.pending N else []
+event_of s (Notes.Reply line) N = if option_map_or is_done (closes line) false then committing s.tables.kept s.pending N else []
 
 -- the changes that wait after a note
 abbrev pub pending_past : List Change → Note → List Change

@@ -8,7 +8,7 @@ use Rattle.route_laws.specs.Tables.{Route}
 use Rattle.route_feed.specs.declared.counted.Counted.{Counted}
 use Rattle.route_feed.specs.declared.error.RunError.{RunError}
 use Rattle.route_feed.specs.declared.error.RunError.TheVariants as Why
-use Rattle.route_feed.specs.Counted.{inner, faults_of, flushes_of, more_by, FailedLast, Flushed, ReadFault}
+use Rattle.route_feed.specs.Counted.{more_by, FailedLast, Flushed, ReadFault}
 use Rattle.route_feed.specs.Installing.{AreNotes, IsUnfit, MayWant, Noted, after_notes, batches_given, begin, installed_bytes, noted_bytes}
 
 -- the pieces are notes, and their output was written
@@ -18,13 +18,13 @@ AppendsInstalled pieces old new = (notes : List Noted) × AreNotes pieces notes 
 module _ {W : Type 0} (contents : W → Option (List ℕ)) where
   -- the output of these notes was written, and flushed after each batch
   pub record Gives (notes : List Noted) (old new : Counted W) : Type 0 where
-    pub written : Appends (contents (inner old)) (contents (inner new)) (installed_bytes notes)
+    pub written : Appends (contents old.device) (contents new.device) (installed_bytes notes)
     pub flushed : Flushed (batches_given notes) old new
 
   -- and then this text, which is not flushed
   pub record GivesThen (notes : List Noted) (begun : List ℕ) (old new : Counted W) : Type 0 where
-    pub written : Appends (contents (inner old)) (contents (inner new)) (installed_bytes notes ++ begun)
-    pub flushes : flushes_of new ≡ more_by (batches_given notes) (flushes_of old)
+    pub written : Appends (contents old.device) (contents new.device) (installed_bytes notes ++ begun)
+    pub flushes : new.flushes ≡ more_by (batches_given notes) old.flushes
 
 module _ {R : Type 0} (remaining : R → Option (List ℕ)) where
   -- the reader gave some bytes, and the lines before one of them are notes
@@ -34,7 +34,7 @@ module _ {R : Type 0} (remaining : R → Option (List ℕ)) where
     pub before : List (List ℕ)
     pub piece : List ℕ
     pub after : List (List ℕ)
-    pub read : Consumes (remaining (inner from)) (remaining (inner to)) bytes
+    pub read : Consumes (remaining from.device) (remaining to.device) bytes
     pub split : lines bytes ≡ before ++ piece ∷ after
     pub are : AreNotes before notes
 
@@ -43,7 +43,7 @@ module _ {R W : Type 0} (remaining : R → Option (List ℕ)) (contents : W → 
   pub record Installs (from to : Counted R) (old new : Counted W) : Type 0 where
     pub bytes : List ℕ
     pub notes : List Noted
-    pub read : Consumes (remaining (inner from)) (remaining (inner to)) bytes
+    pub read : Consumes (remaining from.device) (remaining to.device) bytes
     pub are : AreNotes (lines bytes) notes
     pub gives : Gives contents notes old new
 
@@ -81,9 +81,9 @@ module _ {R W : Type 0} (remaining : R → Option (List ℕ)) (contents : W → 
   -- memory; at `Write` the writer failed, in its last call, at a note. At these two a beginning of the output of this note was
   -- written as well, and not flushed.
   abbrev pub InstallEnds : Counted R → Counted R → Counted W → Counted W → Result Unit RunError → Type 0
-  InstallEnds from to old new (Ok done) = Installs from to old new × IsAtEnd (remaining (inner to)) × (faults_of to ≡ faults_of from) × (faults_of new ≡ faults_of old)
-  InstallEnds from to old new (Err Why.Read) = Installs from to old new × ReadFault from to × (faults_of new ≡ faults_of old)
-  InstallEnds from to old new (Err Why.Line) = MeetsUnfit from to old new × (faults_of to ≡ faults_of from) × (faults_of new ≡ faults_of old)
-  InstallEnds from to old new (Err Why.Write) = MeetsFault from to old new × (faults_of to ≡ faults_of from) × FailedLast old new
+  InstallEnds from to old new (Ok done) = Installs from to old new × IsAtEnd (remaining to.device) × (to.faults ≡ from.faults) × (new.faults ≡ old.faults)
+  InstallEnds from to old new (Err Why.Read) = Installs from to old new × ReadFault from to × (new.faults ≡ old.faults)
+  InstallEnds from to old new (Err Why.Line) = MeetsUnfit from to old new × (to.faults ≡ from.faults) × (new.faults ≡ old.faults)
+  InstallEnds from to old new (Err Why.Write) = MeetsFault from to old new × (to.faults ≡ from.faults) × FailedLast old new
   InstallEnds from to old new (Err Why.Memory) =
-      ((to ≡ from) × (new ≡ old)) ⊎ (MeetsWanting from to old new × (faults_of to ≡ faults_of from) × (faults_of new ≡ faults_of old))
+      ((to ≡ from) × (new ≡ old)) ⊎ (MeetsWanting from to old new × (to.faults ≡ from.faults) × (new.faults ≡ old.faults))

@@ -27,7 +27,7 @@ abbrev pub BeginningsAgree : Type 0
 BeginningsAgree = (bytes front back : List ℕ) (refusals : List Bool) → output bytes refusals ≡ front ++ back
     → (x : Address) → IsAddress x → painted (committed (replies_in front)) x ≡ hop_at (routes_of (table_told bytes refusals front)) x
 
--- so it has the flat list of that table
+-- so a follower of any beginning of the output has the flat list of that table
 abbrev pub FlatListsAgree : Type 0
 FlatListsAgree = (bytes front back : List ℕ) (refusals : List Bool) → output bytes refusals ≡ front ++ back
     → flat_of (painted (committed (replies_in front))) ≡ flat_of (hop_at (routes_of (table_told bytes refusals front)))
@@ -65,11 +65,11 @@ alone r = record { block = r.block; choices = record { hop = r.hop; pref = defau
 abbrev pub LinesRebuild : Type 0
 LinesRebuild = (N : List Route) → IsTable N → table_given (add_lines N) ≡ map alone N
 
--- so it has the hops of that table
+-- so a leader that is given the lines that add the routes of a table has its hops
 abbrev pub LinesKeepHops : Type 0
 LinesKeepHops = (h : Address → Option ℕ) (N : List Route) → HasHops h N → HasHops h (routes_of (table_given (add_lines N)))
 
--- and as few routes; so the lines of a least table make a least table
+-- and the lines of a least table make a least table
 abbrev pub LinesStayLeast : Type 0
 LinesStayLeast = (h : Address → Option ℕ) (N : List Route) → IsLeast h N → IsLeast h (routes_of (table_given (add_lines N)))
 
@@ -79,7 +79,7 @@ abbrev pub ShortenedAgree : Type 0
 ShortenedAgree = (bytes front back : List ℕ) (refusals : List Bool) (N : List Route) → output bytes refusals ≡ front ++ back → IsLeastFor front N
     → (x : Address) → IsAddress x → hop_at (routes_of (table_given (add_lines N))) x ≡ hop_at (routes_of (table_told bytes refusals front)) x
 
--- and so has one that is given the lines that add the flat list of what was told there, as a follower prints it
+-- a leader that is given the line `add NET HOP` for each line of a follower's flat list has each address at that hop too
 abbrev pub RestartedAgree : Type 0
 RestartedAgree = (bytes front back : List ℕ) (refusals : List Bool) → output bytes refusals ≡ front ++ back
     → (x : Address) → IsAddress x → hop_at (routes_of (table_given (add_lines (map route_for (flat_of (painted (committed (replies_in front)))))))) x ≡ hop_at (routes_of (table_told bytes refusals front)) x

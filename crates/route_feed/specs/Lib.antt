@@ -1,5 +1,5 @@
 pub mod Counted
-pub mod Commands
+pub mod Devices
 pub mod Replies
 pub mod Streams
 pub mod Steps
@@ -15,6 +15,7 @@ pub mod Installs
 pub mod Laws
 pub mod InstallLaws
 pub mod InnerReplies
+pub mod InnerAddLines
 pub mod InnerRun
 pub mod InnerWaiting
 pub mod InnerFollowing

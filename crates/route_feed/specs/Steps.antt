@@ -1,5 +1,6 @@
 -- What a leader answers to each command, and the table that it has then.
 use Rattle.std.specs.Prelude.{◌&&◌, ◌==◌, ℕ, Bool, true, false, List, [], ◌∷◌, ◌++◌, if◌then◌else◌, Option, Some, None, map, take, filter}
+use Rattle.std.specs.Option.{option_map_or}
 use Rattle.ipnet_addr.specs.Addresses.{Ipv4, Ipv6}
 use Rattle.ipnet_blocks.specs.Blocks.{Block, first_of}
 use Rattle.ipnet_blocks.specs.Maximal.{maximal_of}
@@ -10,7 +11,7 @@ use Rattle.route_lines.specs.declared.reply.Closing.{Closing}
 use Rattle.route_lines.specs.declared.reply.Closing.TheVariants.{Done, Missing, Bad, Refused}
 use Rattle.route_lines.specs.declared.reply.Reply.{Reply}
 use Rattle.route_lines.specs.declared.reply.Reply.TheVariants.{Set, Unset, Route, Flat, Own, Count, Close}
-use Rattle.route_choices.specs.Choices.{Choice, has_none, holds_hop, is_one_too_many}
+use Rattle.route_choices.specs.Choices.{has_none, holds_hop, is_one_too_many}
 use Rattle.route_laws.specs.Changes.{changed}
 use Rattle.route_laws.specs.Flats.{Piece, blocks_of, flat_of}
 use Rattle.route_laws.specs.Networks.{Stored, choices_at, routes_of, with_choice, without_choice}
@@ -28,11 +29,11 @@ pub record Turn : Type 0 where
 abbrev pub turn_lines : Turn → List Reply
 turn_lines t = t.body ++ Close t.closing ∷ []
 
--- a reply of the closing line alone, which leaves this table
+-- a reply of its closing line alone; the table stays
 abbrev pub closed : List Stored → Closing → Turn
 closed M closing = record { body = []; closing = closing; next = M }
 
--- a reply with these lines, which leaves this table
+-- a reply of these lines and `ok`; the table stays
 abbrev pub told : List Stored → List Reply → Turn
 told M lines = record { body = lines; closing = Done; next = M }
 
@@ -45,7 +46,7 @@ change_line None b = Unset (network_at b)
 unfoldable pub change_lines : List table.Route → List table.Route → List Reply
 change_lines M N = map (λ b. change_line (hop_at N (first_of b)) b) (maximal_of (changed M N))
 
--- the reply to a change of the table
+-- the reply to a change of the table: the lines of the change and `ok`; the new table is kept
 abbrev pub changed_to : List Stored → List Stored → Turn
 changed_to M N = record { body = change_lines (routes_of M) (routes_of N); closing = Done; next = N }
 
@@ -53,64 +54,32 @@ changed_to M N = record { body = change_lines (routes_of M) (routes_of N); closi
 abbrev pub route_line : table.Route → Reply
 route_line r = Route (network_at r.block) r.hop (Some r.pref)
 
--- the line of a choice of a block
-abbrev pub choice_line : Block → Choice → Reply
-choice_line b c = Route (network_at b) c.hop (Some c.pref)
-
 -- the line of a block of the flat list
 abbrev pub flat_line : Piece → Reply
 flat_line p = Flat (network_at p.block) p.number
 
--- the line of a block of the hop that was asked for
-abbrev pub own_line : Block → Reply
-own_line b = Own (network_at b)
-
--- the stored route, if there is one
-abbrev pub one_or_missing : List Stored → Option table.Route → Turn
-one_or_missing M None = closed M Missing
-one_or_missing M (Some r) = told M (route_line r ∷ [])
-
 -- whether a command may be refused for want of memory at its turn: an `add` of a network that isn't stored, and an `own`
 abbrev pub may_refuse : List Stored → Option Command → Bool
 may_refuse M (Some (C.Add net hop pref)) = has_none (choices_at M (block net))
-may_refuse M (Some (C.Del net hop)) = false
-may_refuse M (Some (C.Get net)) = false
-may_refuse M (Some (C.Cover net)) = false
-may_refuse M (Some (C.List net)) = false
-may_refuse M (Some (C.All net)) = false
-may_refuse M (Some (C.PageFrom net limit)) = false
-may_refuse M (Some (C.PageAfter net limit)) = false
 may_refuse M (Some (C.Own number)) = true
-may_refuse M (Some C.Count) = false
-may_refuse M (Some C.Flat) = false
-may_refuse M None = false
+may_refuse M command = false
 
 -- whether a command is an `add` of one hop too many: eight other hops are stored at its network
 abbrev pub is_too_many : List Stored → Option Command → Bool
 is_too_many M (Some (C.Add net hop pref)) = is_one_too_many (choices_at M (block net)) hop
-is_too_many M (Some (C.Del net hop)) = false
-is_too_many M (Some (C.Get net)) = false
-is_too_many M (Some (C.Cover net)) = false
-is_too_many M (Some (C.List net)) = false
-is_too_many M (Some (C.All net)) = false
-is_too_many M (Some (C.PageFrom net limit)) = false
-is_too_many M (Some (C.PageAfter net limit)) = false
-is_too_many M (Some (C.Own number)) = false
-is_too_many M (Some C.Count) = false
-is_too_many M (Some C.Flat) = false
-is_too_many M None = false
+is_too_many M command = false
 
 -- the answer where nothing is refused
 abbrev pub accepted : List Stored → Option Command → Turn
 accepted M (Some (C.Add net hop pref)) = changed_to M (with_choice M (block net) (record { hop = hop; pref = pref }))
 accepted M (Some (C.Del net hop)) = if holds_hop (choices_at M (block net)) hop then changed_to M (without_choice M (block net) hop) else closed M Missing
-accepted M (Some (C.Get net)) = one_or_missing M (match_of (routes_of M) (block net))
+accepted M (Some (C.Get net)) = option_map_or (λ r. told M (route_line r ∷ [])) (match_of (routes_of M) (block net)) (closed M Missing)
 accepted M (Some (C.Cover net)) = told M (map route_line (covering (routes_of M) (block net)))
 accepted M (Some (C.List net)) = told M (map route_line (routes_inside (routes_of M) (block net)))
-accepted M (Some (C.All net)) = told M (map (choice_line (block net)) (choices_at M (block net)))
+accepted M (Some (C.All net)) = told M (map (λ c. Route (network_at (block net)) c.hop (Some c.pref)) (choices_at M (block net)))
 accepted M (Some (C.PageFrom net limit)) = told M (map route_line (take limit (routes_from (routes_of M) (block net))))
 accepted M (Some (C.PageAfter net limit)) = told M (map route_line (take limit (routes_after (routes_of M) (block net))))
-accepted M (Some (C.Own number)) = told M (map own_line (blocks_of (filter (λ p. p.number == number) (flat_of (hop_at (routes_of M))))))
+accepted M (Some (C.Own number)) = told M (map (λ b. Own (network_at b)) (blocks_of (filter (λ p. p.number == number) (flat_of (hop_at (routes_of M))))))
 accepted M (Some C.Count) = told M (Count (count_of Ipv4 (routes_of M)) (count_of Ipv6 (routes_of M)) ∷ [])
 accepted M (Some C.Flat) = told M (map flat_line (flat_of (hop_at (routes_of M))))
 accepted M None = closed M Bad

@@ -1,16 +1,16 @@
 -- Reply streams: which changes are committed, and which hop they paint each address with.
 use Rattle.std.specs.Prelude.{◌≡◌, ℕ, suc, ◌<◌, ◌⊎◌, length, Bool, true, false, List, [], ◌∷◌, ◌++◌, if◌then◌else◌, Option, Some, None, is_some, IsSome}
 use Rattle.std.specs.List.{filter_map}
-use Rattle.std.specs.Option.{option_to_list}
+use Rattle.std.specs.Option.{option_map_or, option_to_list}
 use Rattle.ipnet_addr.specs.Addresses.{Address}
 use Rattle.ipnet_blocks.specs.Blocks.{Block, has_address}
 use Rattle.ipnet.specs.IpNets.{block}
 use Rattle.route_lines.specs.Bytes.{lines}
 use Rattle.route_lines.specs.Spelled.{reply_of}
 use Rattle.route_lines.specs.declared.reply.Closing.{Closing}
-use Rattle.route_lines.specs.declared.reply.Closing.TheVariants.{Done, Missing, Bad, Refused}
+use Rattle.route_lines.specs.declared.reply.Closing.TheVariants.{Done}
 use Rattle.route_lines.specs.declared.reply.Reply.{Reply}
-use Rattle.route_lines.specs.declared.reply.Reply.TheVariants.{Set, Unset, Route, Flat, Own, Count, Close}
+use Rattle.route_lines.specs.declared.reply.Reply.TheVariants.{Set, Unset, Close}
 
 -- a block's addresses have this hop from now on, or none
 pub record Change : Type 0 where
@@ -20,39 +20,23 @@ pub record Change : Type 0 where
 -- whether the closing line is `ok`
 abbrev pub is_done : Closing → Bool
 is_done Done = true
-is_done Missing = false
-is_done Bad = false
-is_done Refused = false
+is_done closing = false
 
 -- the change that a line tells
 abbrev pub change_of : Reply → Option Change
 change_of (Set net number) = Some (record { block = block net; number = Some number })
 change_of (Unset net) = Some (record { block = block net; number = None })
-change_of (Route net hop pref) = None
-change_of (Flat net number) = None
-change_of (Own net) = None
-change_of (Count v4 v6) = None
-change_of (Close closing) = None
+change_of line = None
 
 -- how a line closes a reply
 abbrev pub closes : Reply → Option Closing
-closes (Set net number) = None
-closes (Unset net) = None
-closes (Route net hop pref) = None
-closes (Flat net number) = None
-closes (Own net) = None
-closes (Count v4 v6) = None
 closes (Close closing) = Some closing
-
--- whether a closing line is `ok`; where there is none, what is said of the later lines
-abbrev pub done_or : Option Closing → Bool → Bool
-done_or (Some closing) later = is_done closing
-done_or None later = later
+closes line = None
 
 -- whether there is a closing line, and the first one is `ok`
 abbrev pub ends_well : List Reply → Bool
 ends_well [] = false
-ends_well (l ∷ ls) = done_or (closes l) (ends_well ls)
+ends_well (l ∷ ls) = option_map_or is_done (closes l) (ends_well ls)
 
 -- the changes after which the first closing line is `ok`
 abbrev pub committed : List Reply → List Change

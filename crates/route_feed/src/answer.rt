@@ -3,11 +3,11 @@ ghost use Rattle.std.specs.Prelude.{◌≡◌, ◌≢◌, [], ◌∷◌, ◌++�
 ghost use Rattle.ipnet.specs.IpNets.{block};
 ghost use Rattle.ipnet_blocks.specs.Blocks.{Block};
 ghost use Rattle.ipnet_blocks.specs.Maximal.{IsMaximal};
-ghost use Rattle.route_feed.specs.Commands.{command_in};
 ghost use Rattle.route_feed.specs.Counted.{CanCount};
-ghost use Rattle.route_feed.specs.InnerReplies.{Answers, Closes, replies_to_rest, reply_to_rest};
+ghost use Rattle.route_feed.specs.InnerReplies.{Answers, replies_to_rest, reply_to_rest, command_in};
 ghost use Rattle.route_feed.specs.Replies.{printed};
 ghost use Rattle.route_feed.specs.Steps.{change_line};
+ghost use Rattle.route_feed.specs.Devices.{Closes};
 ghost use Rattle.route_lines.specs.Lines.{as_line};
 ghost use Rattle.route_laws.specs.Networks.{routes_of};
 ghost use Rattle.route_laws.specs.Tables as table_of;

@@ -3,8 +3,8 @@ ghost use Rattle.std.specs.Prelude.{◌≡◌, ⊤, List, map, take, All, IfSome
 ghost use Rattle.std.specs.Option.{option_to_list};
 ghost use Rattle.ipnet.specs.IpNets.{block, family, network_at, parts};
 ghost use Rattle.ipnet_blocks.specs.Networks.{IsTruncated};
-ghost use Rattle.route_feed.specs.InnerReplies.{GivesLine};
-ghost use Rattle.route_feed.specs.Steps.{change_line, choice_line, flat_line, own_line, route_line};
+ghost use Rattle.route_feed.specs.InnerReplies.{GivesLine, choice_line, own_line};
+ghost use Rattle.route_feed.specs.Steps.{change_line, flat_line, route_line};
 ghost use Rattle.route_lines.specs.Texts.{IsPrintable};
 ghost use Rattle.route_lines.specs.declared.reply.Reply.{Reply};
 

@@ -2,7 +2,7 @@
 ghost use Rattle.std.specs.Prelude.{◌≡◌, ℕ, ◌<◌, ◌&&◌, ◌||◌, false, not, List, length, is_err, OnErr};
 ghost use Rattle.std.specs.Io.{ReadsAtMost, WritesAtMost};
 ghost use Rattle.std.specs.Io.KnownBytes.{Keeps, ReadConsumes, WriteAppends};
-ghost use Rattle.route_feed.specs.Counted.{one_more, more_if, took_none, took_some, inner, reads_of, faults_of, failing_of, waiting_of, flushes_of};
+ghost use Rattle.route_feed.specs.Counted.{one_more, more_if, took_none, took_some};
 
 use std::io;
 use std::io::{Read, Write};
@@ -23,12 +23,12 @@ pub struct Counted<D> {
 impl<D> Counted<D> {
     /// The device, with no read, no fault and no flush counted.
     pub fn new(device: D) -> Counted<D>
-        ensures device { inner result ≡ device }
-        ensures reads { reads_of result ≡ 0 }
-        ensures faults { faults_of result ≡ 0 }
-        ensures failing { failing_of result ≡ false }
-        ensures waiting { waiting_of result ≡ false }
-        ensures flushes { flushes_of result ≡ 0 }
+        ensures device { result.device ≡ device }
+        ensures reads { result.reads ≡ 0 }
+        ensures faults { result.faults ≡ 0 }
+        ensures failing { result.failing ≡ false }
+        ensures waiting { result.waiting ≡ false }
+        ensures flushes { result.flushes ≡ 0 }
     {
         Counted {
             device,
@@ -42,7 +42,7 @@ impl<D> Counted<D> {
 
     /// The device alone.
     pub fn into_inner(self) -> D
-        ensures { result ≡ inner self }
+        ensures { result ≡ self.device }
     {
         let Counted {
             device,
@@ -57,7 +57,7 @@ impl<D> Counted<D> {
 
     /// How often `read` was called, staying at the greatest `u64`.
     pub fn reads(&self) -> u64
-        ensures { result ≡ reads_of self.now }
+        ensures { result ≡ self.now.reads }
     {
         self.reads
     }
@@ -65,40 +65,40 @@ impl<D> Counted<D> {
     /// How many faults there were, staying at the greatest `u64`: each error of `read`, `write` and
     /// `flush`, and each `write` that took nothing of a nonempty piece.
     pub fn faults(&self) -> u64
-        ensures { result ≡ faults_of self.now }
+        ensures { result ≡ self.now.faults }
     {
         self.faults
     }
 
     /// Whether the last call was a fault.
     pub fn failing(&self) -> bool
-        ensures { result ≡ failing_of self.now }
+        ensures { result ≡ self.now.failing }
     {
         self.failing
     }
 
     /// Whether bytes were taken that no `flush` has followed.
     pub fn waiting(&self) -> bool
-        ensures { result ≡ waiting_of self.now }
+        ensures { result ≡ self.now.waiting }
     {
         self.waiting
     }
 
     /// How often a `flush` followed bytes that were taken, staying at the greatest `u64`.
     pub fn flushes(&self) -> u64
-        ensures { result ≡ flushes_of self.now }
+        ensures { result ≡ self.now.flushes }
     {
         self.flushes
     }
 
     /// Counts a call, which may have been a fault.
     fn count(&mut self, fault: bool)
-        ensures device { inner self.new ≡ inner self.old }
-        ensures reads { reads_of self.new ≡ reads_of self.old }
-        ensures faults { faults_of self.new ≡ more_if fault (faults_of self.old) }
-        ensures failing { failing_of self.new ≡ fault }
-        ensures waiting { waiting_of self.new ≡ waiting_of self.old }
-        ensures flushes { flushes_of self.new ≡ flushes_of self.old }
+        ensures device { self.new.device ≡ self.old.device }
+        ensures reads { self.new.reads ≡ self.old.reads }
+        ensures faults { self.new.faults ≡ more_if fault self.old.faults }
+        ensures failing { self.new.failing ≡ fault }
+        ensures waiting { self.new.waiting ≡ self.old.waiting }
+        ensures flushes { self.new.flushes ≡ self.old.flushes }
     {
         self.failing = fault;
         if fault {
@@ -108,16 +108,16 @@ impl<D> Counted<D> {
 }
 
 impl<R: Read> Read for Counted<R> {
-    ghost remaining = { λ c. R.remaining (inner c) };
+    ghost remaining = { λ c. R.remaining c.device };
 
     fn read(&mut self, buf: &mut [u8]) -> io::Result<usize>
         ensures bound { ReadsAtMost result buf.new }
-        ensures bytes { ReadConsumes (R.remaining (inner self.old)) (R.remaining (inner self.new)) result buf.new }
-        ensures reads { reads_of self.new ≡ one_more (reads_of self.old) }
-        ensures faults { faults_of self.new ≡ more_if (is_err result) (faults_of self.old) }
-        ensures failing { failing_of self.new ≡ is_err result }
-        ensures waiting { waiting_of self.new ≡ waiting_of self.old }
-        ensures flushes { flushes_of self.new ≡ flushes_of self.old }
+        ensures bytes { ReadConsumes (R.remaining self.old.device) (R.remaining self.new.device) result buf.new }
+        ensures reads { self.new.reads ≡ one_more self.old.reads }
+        ensures faults { self.new.faults ≡ more_if (is_err result) self.old.faults }
+        ensures failing { self.new.failing ≡ is_err result }
+        ensures waiting { self.new.waiting ≡ self.old.waiting }
+        ensures flushes { self.new.flushes ≡ self.old.flushes }
     {
         self.reads = self.reads.saturating_add(1);
         let result = self.device.read(buf);
@@ -127,16 +127,16 @@ impl<R: Read> Read for Counted<R> {
 }
 
 impl<W: Write> Write for Counted<W> {
-    ghost contents = { λ c. W.contents (inner c) };
+    ghost contents = { λ c. W.contents c.device };
 
     fn write(&mut self, buf: &[u8]) -> io::Result<usize>
         ensures bound { WritesAtMost result buf.now }
-        ensures bytes { WriteAppends (W.contents (inner self.old)) (W.contents (inner self.new)) result buf.now }
-        ensures reads { reads_of self.new ≡ reads_of self.old }
-        ensures faults { faults_of self.new ≡ more_if (took_none result (length buf.now)) (faults_of self.old) }
-        ensures failing { failing_of self.new ≡ took_none result (length buf.now) }
-        ensures waiting { waiting_of self.new ≡ (took_some result || waiting_of self.old) }
-        ensures flushes { flushes_of self.new ≡ flushes_of self.old }
+        ensures bytes { WriteAppends (W.contents self.old.device) (W.contents self.new.device) result buf.now }
+        ensures reads { self.new.reads ≡ self.old.reads }
+        ensures faults { self.new.faults ≡ more_if (took_none result (length buf.now)) self.old.faults }
+        ensures failing { self.new.failing ≡ took_none result (length buf.now) }
+        ensures waiting { self.new.waiting ≡ (took_some result || self.old.waiting) }
+        ensures flushes { self.new.flushes ≡ self.old.flushes }
     {
         let result = self.device.write(buf);
         let (taken, fault) = match &result {
@@ -149,12 +149,12 @@ impl<W: Write> Write for Counted<W> {
     }
 
     fn flush(&mut self) -> io::Result<()>
-        ensures bytes { Keeps (W.contents (inner self.old)) (W.contents (inner self.new)) }
-        ensures reads { reads_of self.new ≡ reads_of self.old }
-        ensures faults { faults_of self.new ≡ more_if (is_err result) (faults_of self.old) }
-        ensures failing { failing_of self.new ≡ is_err result }
-        ensures waiting { waiting_of self.new ≡ (is_err result && waiting_of self.old) }
-        ensures flushes { flushes_of self.new ≡ more_if (not (is_err result) && waiting_of self.old) (flushes_of self.old) }
+        ensures bytes { Keeps (W.contents self.old.device) (W.contents self.new.device) }
+        ensures reads { self.new.reads ≡ self.old.reads }
+        ensures faults { self.new.faults ≡ more_if (is_err result) self.old.faults }
+        ensures failing { self.new.failing ≡ is_err result }
+        ensures waiting { self.new.waiting ≡ (is_err result && self.old.waiting) }
+        ensures flushes { self.new.flushes ≡ more_if (not (is_err result) && self.old.waiting) self.old.flushes }
     {
         let result = self.device.flush();
         self.count(result.is_err());

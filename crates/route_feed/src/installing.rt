@@ -1,6 +1,6 @@
 //! A table that is kept installed, by the lines of an input.
 ghost use Rattle.std.specs.Prelude.{◌<◌, ◌^◌, IfSome, OnOk};
-ghost use Rattle.route_feed.specs.Counted.{CanCount, faults_of, inner, reads_of};
+ghost use Rattle.route_feed.specs.Counted.{CanCount};
 ghost use Rattle.route_feed.specs.InnerInstalling.{TakesNoteLine};
 ghost use Rattle.route_feed.specs.Installs.{AppendsInstalled, InstallEnds};
 ghost use Rattle.route_lines.specs.Bytes.{lines};
@@ -54,12 +54,12 @@ pub fn install<R: Read, W: Write>(
     reader: &mut Counted<R>,
     writer: &mut Counted<W>,
 ) -> Result<(), RunError>
-    requires reads { reads_of reader.old < 2 ^ 63 }
-    requires reader { faults_of reader.old < 2 ^ 63 }
-    requires writer { faults_of writer.old < 2 ^ 63 }
+    requires reads { reader.old.reads < 2 ^ 63 }
+    requires reader { reader.old.faults < 2 ^ 63 }
+    requires writer { writer.old.faults < 2 ^ 63 }
     ensures ends { InstallEnds R.remaining W.contents reader.old reader.new writer.old writer.new result }
-    ensures known { OnOk result (IfSome (R.remaining (inner reader.old)) (λ bytes.
-        AppendsInstalled (lines bytes) (W.contents (inner writer.old)) (W.contents (inner writer.new)))) }
+    ensures known { OnOk result (IfSome (R.remaining reader.old.device) (λ bytes.
+        AppendsInstalled (lines bytes) (W.contents writer.old.device) (W.contents writer.new.device))) }
 {
     let Ok(mut buf) = vec![in alloc; 0; PIECE] else {
         return Err(RunError::Memory);

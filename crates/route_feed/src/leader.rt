@@ -1,9 +1,8 @@
 //! The leader.
 ghost use Rattle.std.specs.Prelude.{◌<◌, ◌^◌, List, Bool, OnOk, IfSome};
 ghost use Rattle.std.specs.Io.KnownBytes.{Appends};
-ghost use Rattle.route_feed.specs.Commands.{command_in};
-ghost use Rattle.route_feed.specs.Counted.{CanCount, inner, reads_of, faults_of};
-ghost use Rattle.route_feed.specs.InnerReplies.{Answers};
+ghost use Rattle.route_feed.specs.Counted.{CanCount};
+ghost use Rattle.route_feed.specs.InnerReplies.{Answers, command_in};
 ghost use Rattle.route_feed.specs.Leads.{LeadEnds};
 ghost use Rattle.route_feed.specs.Output.{output};
 
@@ -47,12 +46,12 @@ pub fn lead<R: Read, W: Write>(
     reader: &mut Counted<R>,
     writer: &mut Counted<W>,
 ) -> Result<(), RunError>
-    requires reads { reads_of reader.old < 2 ^ 63 }
-    requires reader { faults_of reader.old < 2 ^ 63 }
-    requires writer { faults_of writer.old < 2 ^ 63 }
+    requires reads { reader.old.reads < 2 ^ 63 }
+    requires reader { reader.old.faults < 2 ^ 63 }
+    requires writer { writer.old.faults < 2 ^ 63 }
     ensures ends { LeadEnds R.remaining W.contents reader.old reader.new writer.old writer.new result }
-    ensures known { OnOk result (IfSome (R.remaining (inner reader.old)) (λ bytes.
-        (refusals : List Bool) × Appends (W.contents (inner writer.old)) (W.contents (inner writer.new)) (output bytes refusals))) }
+    ensures known { OnOk result (IfSome (R.remaining reader.old.device) (λ bytes.
+        (refusals : List Bool) × Appends (W.contents writer.old.device) (W.contents writer.new.device) (output bytes refusals))) }
 {
     led(alloc, reader, writer, AtEnd::Free)
 }
@@ -67,12 +66,12 @@ pub fn lead_leaking<R: Read, W: Write>(
     reader: &mut Counted<R>,
     writer: &mut Counted<W>,
 ) -> Result<(), RunError>
-    requires reads { reads_of reader.old < 2 ^ 63 }
-    requires reader { faults_of reader.old < 2 ^ 63 }
-    requires writer { faults_of writer.old < 2 ^ 63 }
+    requires reads { reader.old.reads < 2 ^ 63 }
+    requires reader { reader.old.faults < 2 ^ 63 }
+    requires writer { writer.old.faults < 2 ^ 63 }
     ensures ends { LeadEnds R.remaining W.contents reader.old reader.new writer.old writer.new result }
-    ensures known { OnOk result (IfSome (R.remaining (inner reader.old)) (λ bytes.
-        (refusals : List Bool) × Appends (W.contents (inner writer.old)) (W.contents (inner writer.new)) (output bytes refusals))) }
+    ensures known { OnOk result (IfSome (R.remaining reader.old.device) (λ bytes.
+        (refusals : List Bool) × Appends (W.contents writer.old.device) (W.contents writer.new.device) (output bytes refusals))) }
 {
     led(alloc, reader, writer, AtEnd::Leak)
 }
@@ -84,12 +83,12 @@ fn led<R: Read, W: Write>(
     writer: &mut Counted<W>,
     at_end: AtEnd,
 ) -> Result<(), RunError>
-    requires reads { reads_of reader.old < 2 ^ 63 }
-    requires reader { faults_of reader.old < 2 ^ 63 }
-    requires writer { faults_of writer.old < 2 ^ 63 }
+    requires reads { reader.old.reads < 2 ^ 63 }
+    requires reader { reader.old.faults < 2 ^ 63 }
+    requires writer { writer.old.faults < 2 ^ 63 }
     ensures ends { LeadEnds R.remaining W.contents reader.old reader.new writer.old writer.new result }
-    ensures known { OnOk result (IfSome (R.remaining (inner reader.old)) (λ bytes.
-        (refusals : List Bool) × Appends (W.contents (inner writer.old)) (W.contents (inner writer.new)) (output bytes refusals))) }
+    ensures known { OnOk result (IfSome (R.remaining reader.old.device) (λ bytes.
+        (refusals : List Bool) × Appends (W.contents writer.old.device) (W.contents writer.new.device) (output bytes refusals))) }
 {
     let Ok(mut buf) = vec![in alloc; 0; PIECE] else {
         return Err(RunError::Memory);

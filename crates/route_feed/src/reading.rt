@@ -1,7 +1,6 @@
 //! Following a stream of reply lines.
 ghost use Rattle.std.specs.Prelude.{◌≡◌, ◌<◌, ◌^◌, false, IfSome, OnOk};
 ghost use Rattle.std.specs.Io.KnownBytes.{Appends};
-ghost use Rattle.route_feed.specs.Counted.{faults_of, inner, reads_of};
 ghost use Rattle.route_feed.specs.Follows.{AreReplies, FollowEnds, followed};
 ghost use Rattle.route_feed.specs.InnerFollowing.{FollowsLine};
 ghost use Rattle.route_feed.specs.InnerReaching.{Reaches};
@@ -40,8 +39,8 @@ pub(crate) fn follow_all<R: Read, W: Write>(
     reader: &mut Counted<R>,
     writer: &mut Counted<W>,
 ) -> Result<Follower, RunError>
-    requires reads { reads_of reader.old < 2 ^ 63 }
-    requires reader { faults_of reader.old < 2 ^ 63 }
+    requires reads { reader.old.reads < 2 ^ 63 }
+    requires reader { reader.old.faults < 2 ^ 63 }
     ensures { Reaches R.remaining reader.old reader.new writer.old writer.new result }
 {
     let Ok(mut buf) = vec![in alloc; 0; PIECE] else {
@@ -72,12 +71,12 @@ pub fn follow<R: Read, W: Write>(
     reader: &mut Counted<R>,
     writer: &mut Counted<W>,
 ) -> Result<(), RunError>
-    requires reads { reads_of reader.old < 2 ^ 63 }
-    requires reader { faults_of reader.old < 2 ^ 63 }
-    requires writer { faults_of writer.old < 2 ^ 63 }
+    requires reads { reader.old.reads < 2 ^ 63 }
+    requires reader { reader.old.faults < 2 ^ 63 }
+    requires writer { writer.old.faults < 2 ^ 63 }
     ensures ends { FollowEnds R.remaining W.contents reader.old reader.new writer.old writer.new result }
-    ensures known { OnOk result (IfSome (R.remaining (inner reader.old)) (λ bytes.
-        AreReplies (lines bytes) × Appends (W.contents (inner writer.old)) (W.contents (inner writer.new)) (followed bytes))) }
+    ensures known { OnOk result (IfSome (R.remaining reader.old.device) (λ bytes.
+        AreReplies (lines bytes) × Appends (W.contents writer.old.device) (W.contents writer.new.device) (followed bytes))) }
 {
     followed_to(alloc, reader, writer, AtEnd::Free)
 }
@@ -91,12 +90,12 @@ pub fn follow_leaking<R: Read, W: Write>(
     reader: &mut Counted<R>,
     writer: &mut Counted<W>,
 ) -> Result<(), RunError>
-    requires reads { reads_of reader.old < 2 ^ 63 }
-    requires reader { faults_of reader.old < 2 ^ 63 }
-    requires writer { faults_of writer.old < 2 ^ 63 }
+    requires reads { reader.old.reads < 2 ^ 63 }
+    requires reader { reader.old.faults < 2 ^ 63 }
+    requires writer { writer.old.faults < 2 ^ 63 }
     ensures ends { FollowEnds R.remaining W.contents reader.old reader.new writer.old writer.new result }
-    ensures known { OnOk result (IfSome (R.remaining (inner reader.old)) (λ bytes.
-        AreReplies (lines bytes) × Appends (W.contents (inner writer.old)) (W.contents (inner writer.new)) (followed bytes))) }
+    ensures known { OnOk result (IfSome (R.remaining reader.old.device) (λ bytes.
+        AreReplies (lines bytes) × Appends (W.contents writer.old.device) (W.contents writer.new.device) (followed bytes))) }
 {
     followed_to(alloc, reader, writer, AtEnd::Leak)
 }
@@ -108,12 +107,12 @@ fn followed_to<R: Read, W: Write>(
     writer: &mut Counted<W>,
     at_end: AtEnd,
 ) -> Result<(), RunError>
-    requires reads { reads_of reader.old < 2 ^ 63 }
-    requires reader { faults_of reader.old < 2 ^ 63 }
-    requires writer { faults_of writer.old < 2 ^ 63 }
+    requires reads { reader.old.reads < 2 ^ 63 }
+    requires reader { reader.old.faults < 2 ^ 63 }
+    requires writer { writer.old.faults < 2 ^ 63 }
     ensures ends { FollowEnds R.remaining W.contents reader.old reader.new writer.old writer.new result }
-    ensures known { OnOk result (IfSome (R.remaining (inner reader.old)) (λ bytes.
-        AreReplies (lines bytes) × Appends (W.contents (inner writer.old)) (W.contents (inner writer.new)) (followed bytes))) }
+    ensures known { OnOk result (IfSome (R.remaining reader.old.device) (λ bytes.
+        AreReplies (lines bytes) × Appends (W.contents writer.old.device) (W.contents writer.new.device) (followed bytes))) }
 {
     let follower = follow_all(alloc, reader, writer)?;
     let result = reply(writer, follower.pieces());

@@ -1,6 +1,5 @@
 //! The shortest table for a stream of reply lines.
 ghost use Rattle.std.specs.Prelude.{◌<◌, ◌^◌, IfSome, OnOk};
-ghost use Rattle.route_feed.specs.Counted.{faults_of, inner, reads_of};
 ghost use Rattle.route_feed.specs.Follows.{AreReplies};
 ghost use Rattle.route_feed.specs.Shortens.{AppendsLeast, ShortenEnds};
 ghost use Rattle.route_lines.specs.Bytes.{lines};
@@ -29,12 +28,12 @@ pub fn shorten<R: Read, W: Write>(
     reader: &mut Counted<R>,
     writer: &mut Counted<W>,
 ) -> Result<(), RunError>
-    requires reads { reads_of reader.old < 2 ^ 63 }
-    requires reader { faults_of reader.old < 2 ^ 63 }
-    requires writer { faults_of writer.old < 2 ^ 63 }
+    requires reads { reader.old.reads < 2 ^ 63 }
+    requires reader { reader.old.faults < 2 ^ 63 }
+    requires writer { writer.old.faults < 2 ^ 63 }
     ensures ends { ShortenEnds R.remaining W.contents reader.old reader.new writer.old writer.new result }
-    ensures known { OnOk result (IfSome (R.remaining (inner reader.old)) (λ bytes.
-        AreReplies (lines bytes) × AppendsLeast bytes (W.contents (inner writer.old)) (W.contents (inner writer.new)))) }
+    ensures known { OnOk result (IfSome (R.remaining reader.old.device) (λ bytes.
+        AreReplies (lines bytes) × AppendsLeast bytes (W.contents writer.old.device) (W.contents writer.new.device))) }
 {
     let follower = follow_all(alloc, reader, writer)?;
     let routes = follower.into_least()?;

@@ -1,6 +1,5 @@
 //! What takes the lines of an input, and the run that hands them on.
 ghost use Rattle.std.specs.Prelude.{◌≡◌, ◌≢◌, ◌<◌, ◌^◌, [], ◌∷◌, ◌++◌, length, All, OnOk, Result};
-ghost use Rattle.route_feed.specs.Counted.{faults_of, reads_of};
 ghost use Rattle.route_feed.specs.InnerRun.{Runs, TakesAll};
 ghost use Rattle.route_feed.specs.declared.counted.Counted.{Counted};
 ghost use Rattle.route_feed.specs.declared.error.RunError.{RunError};
@@ -104,8 +103,8 @@ pub fn run<R: Read, W: Write, S: Sink<W>>(
 ) -> Result<Rest, RunError>
     requires room { 0 < length buf.old }
     requires sink { S.can_take sink.old writer.old }
-    requires reads { reads_of reader.old < 2 ^ 63 }
-    requires reader { faults_of reader.old < 2 ^ 63 }
+    requires reads { reader.old.reads < 2 ^ 63 }
+    requires reader { reader.old.faults < 2 ^ 63 }
     ensures { Runs S.takes R.remaining sink.old reader.old writer.old result sink.new reader.new writer.new }
 {
     let mut cutter = LineCutter::new();

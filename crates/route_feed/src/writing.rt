@@ -3,10 +3,12 @@ ghost use Rattle.std.specs.Prelude.{◌++◌, ◌∷◌, [], All};
 ghost use Rattle.ipnet.specs.IpNets.{family, parts};
 ghost use Rattle.ipnet_blocks.specs.Networks.{IsTruncated};
 ghost use Rattle.route_laws.specs.LeastTables.{routes_for};
-ghost use Rattle.route_feed.specs.AddLines.{add_lines, command_line};
+ghost use Rattle.route_feed.specs.AddLines.{add_lines};
 ghost use Rattle.route_feed.specs.Counted.{CanCount};
-ghost use Rattle.route_feed.specs.Replies.{reply_line, printed};
-ghost use Rattle.route_feed.specs.InnerReplies.{Closes, Delivers, Writes};
+ghost use Rattle.route_feed.specs.Replies.{printed};
+ghost use Rattle.route_feed.specs.InnerReplies.{Delivers, Writes, reply_line};
+ghost use Rattle.route_feed.specs.InnerAddLines.{command_line};
+ghost use Rattle.route_feed.specs.Devices.{Closes};
 ghost use Rattle.route_lines.specs.CommandText.{IsPrintableCommand};
 ghost use Rattle.route_lines.specs.Texts.{IsPrintable};
 

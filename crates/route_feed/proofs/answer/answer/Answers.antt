@@ -1,7 +1,6 @@
 use Rattle.std.proofs.Common.{◌≡◌, ◌∙◌, sym, subst, ap, refl, Some, None, false}
 use Rattle.route_lines.specs.Lines.{as_line}
-use Rattle.route_feed.specs.Commands.{command_in}
-use Rattle.route_feed.specs.InnerReplies.{Answers}
+use Rattle.route_feed.specs.InnerReplies.{Answers, command_in}
 use Rattle.route_feed.proofs.Told.{read_is, read_none}
 use Rattle.route_feed.proofs.answer.answer.Goals as goal
 

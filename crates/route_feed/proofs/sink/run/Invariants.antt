@@ -1,5 +1,4 @@
 use Rattle.std.proofs.Common.{◌≡◌, ◌+◌, Ok}
-use Rattle.route_feed.specs.Counted.{reads_of, faults_of}
 use Rattle.route_feed.proofs.Taking.{Went}
 use Rattle.route_feed.proofs.sink.run.Given as goal
 
@@ -7,6 +6,6 @@ abbrev pub invariant-loop-turn : goal.invariant-loop-turn
 invariant-loop-turn g l = record {
   went : Went g.S.Sink.takes g.R.Read.remaining l.fn.sink l.fn.reader l.fn.writer (Ok tt) l.sink l.reader l.writer l.cutter;
   can : g.S.Sink.can_take l.sink l.writer;
-  reads : reads_of l.reader ≡ reads_of l.fn.reader + l._turn;
-  faults : faults_of l.reader ≡ faults_of l.fn.reader;
+  reads : l.reader.reads ≡ l.fn.reader.reads + l._turn;
+  faults : l.reader.faults ≡ l.fn.reader.faults;
 }

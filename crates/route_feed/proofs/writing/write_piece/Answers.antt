@@ -1,7 +1,6 @@
 use Rattle.std.proofs.Common.{◌≡◌, ℕ, ◌-◌, true, false, ◌||◌, eqb, nat_lt, arith, List, ◌++◌, length, take, drop, sym, ap, ◌∙◌, append_assoc, take-append-drop, ne_eqb}
 use Rattle.std.proofs.lemmas.List.{length-take-le, take_rest}
 use Rattle.std.proofs.lemmas.Bool.Decides.{nat_tests}
-use Rattle.route_feed.specs.Counted.{waiting_of}
 use Rattle.route_feed.proofs.Written.{Written-trans, has_some}
 use Rattle.route_feed.proofs.writing.write_piece.Goals as goal
 
@@ -23,6 +22,6 @@ loop-left-preserved g c =
         appended = c.in-Ok.ensures.bytes;
         faults = rw took at c.in-Ok.ensures.faults;
         flushes = c.in-Ok.ensures.flushes;
-        waits = c.in-Ok.ensures.waiting ∙ ap (λ b. b || waiting_of c.loop-left.writer) (some ∙ sym has);
+        waits = c.in-Ok.ensures.waiting ∙ ap (λ b. b || c.loop-left.writer.waiting) (some ∙ sym has);
       }),
     )

@@ -3,7 +3,8 @@ use Rattle.std.proofs.lemmas.List.{take_all}
 use Rattle.std.proofs.lemmas.Result.{err_from_is_err_and}
 use Rattle.route_laws.specs.LeastTables.{routes_for}
 use Rattle.route_feed.specs.AddLines.{add_lines}
-use Rattle.route_feed.specs.InnerReplies.{Torn, Written}
+use Rattle.route_feed.specs.InnerReplies.{Written}
+use Rattle.route_feed.specs.Devices.{Torn}
 use Rattle.route_feed.proofs.Adding.{Added-more, Added-torn, at_place, before_place, cut_at, truncated_is}
 use Rattle.route_feed.proofs.Written.{Delivers-after}
 use Rattle.route_feed.proofs.writing.write_routes.Goals as goal

@@ -1,5 +1,5 @@
 use Rattle.route_lines.specs.Lines.{as_line}
-use Rattle.route_feed.specs.Commands.{command_in}
+use Rattle.route_feed.specs.InnerReplies.{command_in}
 use Rattle.route_feed.proofs.Leading.{answer_counts}
 use Rattle.route_feed.proofs.leader.RouteTableSink.take.Goals as goal
 

@@ -1,0 +1,40 @@
+-- What devices give and take: bytes that are read, and texts of replies that are written and flushed.
+use Rattle.std.specs.Prelude.{◌≡◌, ℕ, List, ◌++◌, Option, Result, Ok, Err}
+use Rattle.std.specs.Io.KnownBytes.{Appends, Consumes}
+use Rattle.route_feed.specs.declared.counted.Counted.{Counted}
+use Rattle.route_feed.specs.declared.error.RunError.{RunError}
+use Rattle.route_feed.specs.declared.error.RunError.TheVariants.{Write}
+use Rattle.route_feed.specs.Counted.{FailedLast, Flushed, FlushedAll}
+
+-- the reader gave some bytes, of which P holds
+pub record HasRead {R : Type 0} (remaining : R → Option (List ℕ)) (P : List ℕ → Type 0) (from to : Counted R) : Type 0 where
+  pub bytes : List ℕ
+  pub read : Consumes (remaining from.device) (remaining to.device) bytes
+  pub holds : P bytes
+
+module _ {W : Type 0} (contents : W → Option (List ℕ)) where
+  -- the text of so many replies was written, each was flushed, and nothing failed
+  pub record Closed (times : ℕ) (old new : Counted W) (text : List ℕ) : Type 0 where
+    pub appended : Appends (contents old.device) (contents new.device) text
+    pub faults : new.faults ≡ old.faults
+    pub flushed : Flushed times old new
+
+  -- the text was written, all that waited was flushed, and nothing failed
+  pub record Delivered (old new : Counted W) (text : List ℕ) : Type 0 where
+    pub appended : Appends (contents old.device) (contents new.device) text
+    pub faults : new.faults ≡ old.faults
+    pub flushed : FlushedAll text old new
+
+  -- a beginning of the text was written, nothing of it was flushed, and then the writer failed, in its last call
+  pub record Torn (old new : Counted W) (text : List ℕ) : Type 0 where
+    pub front : List ℕ
+    pub back : List ℕ
+    pub is_front : text ≡ front ++ back
+    pub appended : Appends (contents old.device) (contents new.device) front
+    pub failed : FailedLast old new
+    pub flushes : new.flushes ≡ old.flushes
+
+  -- the text of so many replies, one or none, was written, and flushed; or, at `Write`, a beginning of it
+  abbrev pub Closes : {T : Type 0} → ℕ → Counted W → Counted W → Result T RunError → List ℕ → Type 0
+  Closes times old new (Ok x) text = Closed times old new text
+  Closes times old new (Err e) text = (e ≡ Write) × Torn old new text
