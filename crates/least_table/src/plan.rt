@@ -9,12 +9,8 @@ ghost use Rattle.least_table.specs.InnerSteps.{passed, step_best, step_routes, s
 ghost use Rattle.least_table.specs.InnerSteps.{Leaf, Fork, Skip};
 
 use crate::bits::onto;
-<<<<<<< HEAD
-use crate::hops::{Hops, first, is_among};
-use prefix_trie::{Prefix, path_of, prefix_of};
-=======
 use crate::hops::{Hops, first, is_among, merge};
->>>>>>> h3
+use prefix_trie::{Prefix, path_of, prefix_of};
 use std::alloc::{AllocError, Global};
 use std::slice;
 use trie_core::Path;

@@ -25,7 +25,10 @@ pub record Form (Line : Type 0) (limit : ℕ) : Type 1 where
 abbrev pub phrase : {Line A : Type 0} {P : List ℕ → A → Type 0} {n limit : ℕ} (first : List ℕ) → ((rest : List ℕ) → start (first ++ rest) ≡ start first) → list_all (ltb 10) first ≡ true → length first + n ≤ limit
     → Good P n → (A → Line) → Form Line limit
 phrase {Line} {A} {P} {n} {limit} first begins clean within good make = record {
-  Value = A; make = make; Spells = After first P; code = start first;
+  Value = A;
+  make = make;
+  Spells = After first P;
+  code = start first;
   starts = λ text x h. ap start h.spelled ∙ begins h.rest;
   good = Good.after first limit clean within good;
 }
@@ -33,7 +36,10 @@ phrase {Line} {A} {P} {n} {limit} first begins clean within good make = record {
 -- a word alone
 abbrev pub word : {Line : Type 0} {limit : ℕ} (text : List ℕ) → list_all (ltb 10) text ≡ true → length text ≤ limit → Line → Form Line limit
 word {Line} {limit} whole clean within line = record {
-  Value = ⊤; make = λ x. line; Spells = λ text x. text ≡ whole; code = start whole;
+  Value = ⊤;
+  make = λ x. line;
+  Spells = λ text x. text ≡ whole;
+  code = start whole;
   starts = λ text x h. ap start h;
   good = Good.word whole limit clean within;
 }
@@ -42,7 +48,10 @@ module _ {Line : Type 0} {limit : ℕ} where
   -- the form at a place; past the end none has a value
   abbrev pub form : List (Form Line limit) → ℕ → Form Line limit
   form [] n = record {
-    Value = ⊥; make = λ x. absurd x; Spells = λ text x. ⊤; code = 0;
+    Value = ⊥;
+    make = λ x. absurd x;
+    Spells = λ text x. ⊤;
+    code = 0;
     starts = λ text x h. absurd x;
     good = record { one = λ text x y h k. absurd x; short = λ text x h. absurd x; clean = λ text x h. absurd x };
   }

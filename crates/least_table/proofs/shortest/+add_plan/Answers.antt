@@ -73,8 +73,10 @@ add_plan-requires-2 g t c κs within =
           search rules,
           (
             c.requires.whole,
-            (rw c.split_at.ensures.back (All-drop (λ p. IsTrue (g.P.Prefix.fits p.0)) c.cut.result c.args.pieces.now c.requires.fits),
-            rw c.split_at.ensures.back (IsAscending-high g.P.Prefix.bits c.args.depth c.cut.result c.args.pieces.now c.cut.ensures.high c.requires.ascending)),
+            (
+              rw c.split_at.ensures.back (All-drop (λ p. IsTrue (g.P.Prefix.fits p.0)) c.cut.result c.args.pieces.now c.requires.fits),
+              rw c.split_at.ensures.back (IsAscending-high g.P.Prefix.bits c.args.depth c.cut.result c.args.pieces.now c.cut.ensures.high c.requires.ascending),
+            ),
           ),
         ),
       ),
@@ -90,8 +92,10 @@ add_plan-requires-3 g t c κs within =
           search rules,
           (
             c.in_ok-add_plan-2.ensures.adds.whole,
-            (rw c.split_at.ensures.front (All-take (λ p. IsTrue (g.P.Prefix.fits p.0)) c.cut.result c.args.pieces.now c.requires.fits),
-            rw c.split_at.ensures.front (IsAscending-low g.P.Prefix.bits c.args.depth c.cut.result c.args.pieces.now c.cut.ensures.low c.requires.ascending)),
+            (
+              rw c.split_at.ensures.front (All-take (λ p. IsTrue (g.P.Prefix.fits p.0)) c.cut.result c.args.pieces.now c.requires.fits),
+              rw c.split_at.ensures.front (IsAscending-low g.P.Prefix.bits c.args.depth c.cut.result c.args.pieces.now c.cut.ensures.low c.requires.ascending),
+            ),
           ),
         ),
       ),
