@@ -1,4 +1,4 @@
-use Rattle.std.proofs.Common.{rules, arith, ◌∙◌, ◌-◌, [], sym, subst, append-nil, slice_index_or, Some, None, IsTrue}
+use Rattle.std.proofs.Common.{rules, arith, ◌-◌, [], sym, subst, append-nil, slice_index_or, Some, None, IsTrue}
 use Rattle.std.proofs.lemmas.List.Elements.{All-take, All-drop}
 use Rattle.least_table.specs.HopSets.{AreMerged}
 use Rattle.least_table.specs.InnerPacked.{steps_in}
@@ -73,8 +73,10 @@ add_plan-requires-2 g t c κs within =
           search rules,
           (
             c.requires.whole,
-            (rw c.split_at.ensures.back (All-drop (λ p. IsTrue (g.P.Prefix.fits p.0)) c.cut.result c.args.pieces.now c.requires.fits),
-            rw c.split_at.ensures.back (IsAscending-high g.P.Prefix.bits c.args.depth c.cut.result c.args.pieces.now c.cut.ensures.high c.requires.ascending)),
+            (
+              rw c.split_at.ensures.back (All-drop (λ p. IsTrue (g.P.Prefix.fits p.0)) c.cut.result c.args.pieces.now c.requires.fits),
+              rw c.split_at.ensures.back (IsAscending-high g.P.Prefix.bits c.args.depth c.cut.result c.args.pieces.now c.cut.ensures.high c.requires.ascending),
+            ),
           ),
         ),
       ),
@@ -90,8 +92,10 @@ add_plan-requires-3 g t c κs within =
           search rules,
           (
             c.in_ok-add_plan-2.ensures.adds.whole,
-            (rw c.split_at.ensures.front (All-take (λ p. IsTrue (g.P.Prefix.fits p.0)) c.cut.result c.args.pieces.now c.requires.fits),
-            rw c.split_at.ensures.front (IsAscending-low g.P.Prefix.bits c.args.depth c.cut.result c.args.pieces.now c.cut.ensures.low c.requires.ascending)),
+            (
+              rw c.split_at.ensures.front (All-take (λ p. IsTrue (g.P.Prefix.fits p.0)) c.cut.result c.args.pieces.now c.requires.fits),
+              rw c.split_at.ensures.front (IsAscending-low g.P.Prefix.bits c.args.depth c.cut.result c.args.pieces.now c.cut.ensures.low c.requires.ascending),
+            ),
           ),
         ),
       ),
