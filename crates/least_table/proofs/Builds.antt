@@ -9,8 +9,8 @@ use Rattle.least_table.specs.Trees.{Tree, Leaf, Fork, Skip, IsPlan, inner_of}
 use Rattle.least_table.specs.InnerPieces.{IsAscending, beyond, AllBegin, shared}
 use Rattle.least_table.specs.InnerRising.{IsRising}
 use Rattle.least_table.specs.HopSets.{AreMerged}
-use Rattle.least_table.specs.InnerSteps.{Step, step_best}
-use Rattle.least_table.specs.InnerPlans.{Plan, top, tree_of, IsMade, between, Fits, AllFit}
+use Rattle.least_table.specs.InnerSteps.{step_best}
+use Rattle.least_table.specs.InnerPlans.{Plan, top, tree_of, IsMade, between, Fits}
 use Rattle.least_table.specs.InnerPlans as plans
 use Rattle.least_table.proofs.Cuts.{hop_at-low, hop_at-high, first_of_all}
 use Rattle.least_table.proofs.Growths.{best_of_tree, length_between, skip_plan}

@@ -1,4 +1,4 @@
-use Rattle.std.proofs.Common.{rules, arith, ◌∙◌, ◌-◌, [], sym, subst, append-nil, slice_index_or, Some, None, IsTrue}
+use Rattle.std.proofs.Common.{rules, arith, ◌-◌, [], sym, subst, append-nil, slice_index_or, Some, None, IsTrue}
 use Rattle.std.proofs.lemmas.List.Elements.{All-take, All-drop}
 use Rattle.least_table.specs.HopSets.{AreMerged}
 use Rattle.least_table.specs.InnerPacked.{steps_in}

@@ -1,4 +1,4 @@
-use Rattle.std.proofs.Common.{◌≡◌, ◌∙◌, sym, subst, IfOk}
+use Rattle.std.proofs.Common.{◌∙◌, sym, subst, IfOk}
 use Rattle.least_table.specs.HopSets.{AreMerged}
 use Rattle.least_table.specs.InnerHops.{members}
 use Rattle.least_table.specs.InnerRising.{IsRising}

@@ -1,4 +1,4 @@
-use Rattle.std.proofs.Common.{◌≡◌, ◌∙◌, ◌++◌, ◌∷◌, [], Some, arith, length, sym, ap, append_assoc, append-nil}
+use Rattle.std.proofs.Common.{◌≡◌, ◌∙◌, ◌++◌, ◌∷◌, [], Some, length, sym, ap, append_assoc, append-nil}
 use Rattle.least_table.specs.InnerSteps.{Fork}
 use Rattle.least_table.specs.declared.plan.Packed.TheVariants as packed
 use Rattle.least_table.proofs.Packed.{grown, several_kept}

@@ -1,4 +1,4 @@
-use Rattle.std.proofs.Common.{◌≡◌, ◌∙◌, ◌++◌, ◌∷◌, [], length, drop, reverse, sym, ap, ap₂}
+use Rattle.std.proofs.Common.{◌∙◌, ◌++◌, ◌∷◌, [], length, drop, reverse, sym, ap, ap₂}
 use Rattle.std.proofs.lemmas.List.{reverse-append}
 use Rattle.least_table.specs.InnerSteps.{passed}
 use Rattle.least_table.proofs.Packed.{skip_blocks}
