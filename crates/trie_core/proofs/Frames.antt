@@ -16,7 +16,7 @@ use Rattle.trie_core.specs.Prefixes.{prefix_bits}
 use Rattle.trie_core.specs.Nodes.{Seen}
 use Rattle.trie_core.specs.InnerNodes.{under, node_height, IsNode}
 use Rattle.trie_core.specs.InnerCount.{all_nodes, total}
-use Rattle.trie_core.specs.InnerWalks.{first_value, KeysWithin, levels_of, nodes_of, part_map, part_rest, AreInOrder, AreParts, IsFrame}
+use Rattle.trie_core.specs.InnerWalks.{first_value, KeysWithin, levels_of, nodes_of, part_map, AreInOrder, AreParts, Left}
 use Rattle.trie_core.proofs.Strings.{bits_total, bits_same, both}
 use Rattle.trie_core.proofs.Maps.{child_get, get_none, get-short, get-long}
 use Rattle.trie_core.proofs.Order.{walk_value, walk_child, walk_none, starts_after, values_after}
@@ -77,20 +77,24 @@ module _ {X : Type 0} where
     children_long = children_long cs;
   }
 
-  pub whole_frame : {m : Seen X} {vs : List (ℕ × X)} {cs : List (ℕ × Seen X)} (trail : List Bool) → AreParts m vs cs → length trail + 5 * m.levels ≤ 130 → KeysWithin 128 (under trail (entries m.entries)) → IsFrame vs cs trail
-  whole_frame {m} {vs} {cs} trail p l k = record {
-    order = p.order;
-    levels = omega (arith, p.levels, l);
-    keys = subst (λ n. KeysWithin 128 (under trail (entries n))) (sym p.map) k;
-  }
+  -- its entries, where the way to the node is the trail
+  abbrev pub part_rest : List (ℕ × X) → List (ℕ × Seen X) → List Bool → List (List Bool × X)
+  part_rest vs cs trail = under trail (entries (part_map vs cs))
+
+  -- no key of some values and children of a node, nor the way to one of the nodes below, is longer than 128 bits
+  pub record IsFrame (vs : List (ℕ × X)) (cs : List (ℕ × Seen X)) (trail : List Bool) : Type 0 where
+    pub order : AreInOrder vs cs
+    pub levels : length trail + 5 * levels_of cs ≤ 125
+    pub keys : KeysWithin 128 (part_rest vs cs trail)
+
+  pub is_frame : {vs : List (ℕ × X)} {cs : List (ℕ × Seen X)} {s : Left X} {w : ℕ} (trail : List Bool) → AreInOrder vs cs → (entries (part_map vs cs), levels_of cs + 1, w) ≡ s → length trail + 5 * s.1 ≤ 130 → KeysWithin 128 (under trail s.0) → IsFrame vs cs trail
+  is_frame trail o e l k = record { order = o; levels = omega (arith, l, ap (λ s. s.1) e); keys = subst (λ es. KeysWithin 128 (under trail es)) (sym (ap (λ s. s.0) e)) k }
 
   -- ---- what stands first
 
   -- the first value is next
   pub record IsValueNext (vs ws : List (ℕ × X)) (cs : List (ℕ × Seen X)) (trail : List Bool) (place : ℕ) (value : X) : Type 0 where
-    pub place_below : place < 31
     pub within : length trail + length (place_string place) ≤ 128
-    pub room : length trail < 128
     pub frame : IsFrame ws cs trail
     pub rest : part_rest vs cs trail ≡ (trail ++ place_string place, value) ∷ part_rest ws cs trail
 
@@ -103,9 +107,7 @@ module _ {X : Type 0} where
       ap (λ us. part_rest us cs trail) e ∙ ap (under trail) (walk_value n (starts_after (place_string place, value) (named place_string ws) (named child_string cs) b)) in
       let k = subst (KeysWithin 128) r f.keys in
       record {
-        place_below = o.values_below.0;
         within = omega (arith, k.0, length-append trail (place_string place));
-        room = omega (arith, f.levels);
         frame = record {
           order = record { values_rise = (both _ _ o.values_rise).1; values_below = o.values_below.1; children_rise = o.children_rise; children_below = o.children_below };
           levels = f.levels;
@@ -116,10 +118,7 @@ module _ {X : Type 0} where
 
   -- the first child is next
   pub record IsChildNext (vs : List (ℕ × X)) (cs ds : List (ℕ × Seen X)) (trail : List Bool) (child : ℕ) (m : Seen X) : Type 0 where
-    pub below : child < 32
     pub within : length trail + 5 ≤ 128
-    pub levels : length (trail ++ child_string child) + 5 * m.levels ≤ 130
-    pub keys : KeysWithin 128 (under (trail ++ child_string child) (entries m.entries))
     pub frame : IsFrame vs ds trail
     pub rest : part_rest vs cs trail ≡ under (trail ++ child_string child) (entries m.entries) ++ part_rest vs ds trail
     pub less : (m.levels ≤ levels_of cs) × (levels_of ds ≤ levels_of cs) × (all_nodes m + nodes_of ds ≡ nodes_of cs)
@@ -137,10 +136,7 @@ module _ {X : Type 0} where
       let k = keys_split 128 (under (trail ++ child_string child) (entries m.entries)) (part_rest vs ds trail) (subst (KeysWithin 128) r f.keys) in
       let levels : levels_of cs ≡ max m.levels (levels_of ds) = ap levels_of e in
       record {
-        below = o.children_below.0;
         within = omega (arith, f.levels, levels, l);
-        levels = omega (arith, length-append trail (child_string child), length-child_string child, f.levels, levels);
-        keys = k.0;
         frame = record {
           order = record { values_rise = o.values_rise; values_below = o.values_below; children_rise = (both _ _ o.children_rise).1; children_below = o.children_below.1 };
           levels = omega (arith, f.levels, levels);
@@ -251,41 +247,26 @@ module _ {X : Type 0} where
       (λ q. sym (get-entries (part_map (where_key nat_cmp f vs) (where_key nat_cmp g cs)) q) ∙ part_get f g o t q (nat_lt (length q) 5) refl ∙ ap (λ r. cond (p q) r None) (get-entries (part_map vs cs) q)
       ∙ sym (find-where_key bits_cmp p q (bits_alike p q) (entries (part_map vs cs))))
 
-  -- the frame of the keys that p tells
-  pub record IsKept (p : List Bool → Bool) (m : Seen X) (vs : List (ℕ × X)) (cs : List (ℕ × Seen X)) (trail : List Bool) : Type 0 where
-    pub frame : IsFrame vs cs trail
-    pub rest : part_rest vs cs trail ≡ under trail (where_key bits_cmp p (entries m.entries))
+  -- the values and children of the keys that p tells of the node that is seen as m
+  pub record IsPart (p : List Bool → Bool) (m : Seen X) (vs : List (ℕ × X)) (cs : List (ℕ × Seen X)) : Type 0 where
+    pub order : AreInOrder vs cs
+    pub rest : entries (part_map vs cs) ≡ where_key bits_cmp p (entries m.entries)
     pub levels : levels_of cs + 1 ≤ m.levels
 
-  pub part_left : {p : List Bool → Bool} (f g : ℕ → Bool) {m : Seen X} {vs : List (ℕ × X)} {cs : List (ℕ × Seen X)} (trail : List Bool) → AreParts m vs cs → IsTold p f g → part_rest (where_key nat_cmp f vs) (where_key nat_cmp g cs) trail ≡ under trail (where_key bits_cmp p (entries m.entries))
-  part_left {p} f g trail a t = ap (under trail) (part_where f g a.order t ∙ ap (λ n. where_key bits_cmp p (entries n)) a.map)
-
-  pub kept_left : {p : List Bool → Bool} (f g : ℕ → Bool) {m : Seen X} {vs : List (ℕ × X)} {cs : List (ℕ × Seen X)} {trail : List Bool} → AreParts m vs cs → IsTold p f g → length trail + 5 * m.levels ≤ 130 → KeysWithin 128 (under trail (where_key bits_cmp p (entries m.entries)))
-      → IsKept p m (where_key nat_cmp f vs) (where_key nat_cmp g cs) trail
-  kept_left {p} f g {m} {vs} {cs} {trail} a t l k =
-      let r = part_left f g trail a t in
-      record {
-        frame = record {
-          order = order_where f g a.order;
-          levels = omega (arith, levels_where g cs, a.levels, l);
-          keys = subst (KeysWithin 128) (sym r) k;
-        };
-        rest = r;
-        levels = omega (arith, levels_where g cs, a.levels);
-      }
-
-  kept : {p : List Bool → Bool} (f g : ℕ → Bool) {m : Seen X} {vs : List (ℕ × X)} {cs : List (ℕ × Seen X)} {trail : List Bool} → AreParts m vs cs → IsTold p f g → length trail + 5 * m.levels ≤ 130 → KeysWithin 128 (under trail (entries m.entries))
-      → IsKept p m (where_key nat_cmp f vs) (where_key nat_cmp g cs) trail
-  kept {p} f g {m} {trail = trail} a t l k = kept_left f g a t l (keys_where 128 trail p (entries m.entries) k)
+  pub part_left : {p : List Bool → Bool} (f g : ℕ → Bool) {m : Seen X} {vs : List (ℕ × X)} {cs : List (ℕ × Seen X)} → AreParts m vs cs → IsTold p f g → IsPart p m (where_key nat_cmp f vs) (where_key nat_cmp g cs)
+  part_left {p} f g {cs = cs} a t = record {
+    order = order_where f g a.order;
+    rest = part_where f g a.order t ∙ ap (λ n. where_key bits_cmp p (entries n)) a.map;
+    levels = omega (arith, levels_where g cs, a.levels);
+  }
 
   -- ---- the keys that begin with a short string
 
-  pub inside_frame : {m : Seen X} {vs : List (ℕ × X)} {cs : List (ℕ × Seen X)} {trail : List Bool} (q : List Bool) {len place child : ℕ} {vs1 vs2 : List (ℕ × X)} {cs1 cs2 : List (ℕ × Seen X)}
+  pub inside_part : {m : Seen X} {vs : List (ℕ × X)} {cs : List (ℕ × Seen X)} (q : List Bool) {len place child : ℕ} {vs1 vs2 : List (ℕ × X)} {cs1 cs2 : List (ℕ × Seen X)}
       → AreParts m vs cs → length q < 5 → len ≡ length q → place ≡ place_of q → child ≡ child_of q
       → vs1 ≡ where_key nat_cmp (λ k. not (nat_lt k place)) vs → vs2 ≡ where_key nat_cmp (λ k. nat_lt k (place + 31 / 2 ^ len)) vs1
-      → cs1 ≡ where_key nat_cmp (λ k. not (nat_lt k child)) cs → cs2 ≡ where_key nat_cmp (λ k. nat_lt k (child + 32 / 2 ^ len)) cs1
-      → length trail + 5 * m.levels ≤ 130 → KeysWithin 128 (under trail (entries m.entries)) → IsKept (begins q) m vs2 cs2 trail
-  inside_frame {m} {vs} {cs} {trail} q {len} {place} {child} {vs1} {vs2} {cs1} {cs2} a h e ep ec v1 v2 c1 c2 l k =
+      → cs1 ≡ where_key nat_cmp (λ k. not (nat_lt k child)) cs → cs2 ≡ where_key nat_cmp (λ k. nat_lt k (child + 32 / 2 ^ len)) cs1 → IsPart (begins q) m vs2 cs2
+  inside_part {m} {vs} {cs} q {len} {place} {child} {vs1} {vs2} {cs1} {cs2} a h e ep ec v1 v2 c1 c2 =
       let f : ℕ → Bool = λ k. not (nat_lt k (place_of q)) && nat_lt k (place_of q + 31 / 2 ^ length q) in
       let g : ℕ → Bool = λ k. not (nat_lt k (child_of q)) && nat_lt k (child_of q + 32 / 2 ^ length q) in
       let v : vs2 ≡ where_key nat_cmp f vs =
@@ -294,8 +275,8 @@ module _ {X : Type 0} where
       let d : cs2 ≡ where_key nat_cmp g cs =
       c2 ∙ ap (where_key nat_cmp (λ k. nat_lt k (child + 32 / 2 ^ len))) c1 ∙ where_twice nat_cmp (λ k. nat_lt k (child + 32 / 2 ^ len)) (λ k. not (nat_lt k child)) cs
       ∙ (λ i. where_key nat_cmp (λ k. not (nat_lt k (ec i)) && nat_lt k (ec i + 32 / 2 ^ e i)) cs) in
-      subst (λ (x : List (ℕ × X) × List (ℕ × Seen X)). IsKept (begins q) m x.0 x.1 trail) (λ i. (sym v i, sym d i))
-      (kept f g a (inside_told q h) l k)
+      subst (λ (x : List (ℕ × X) × List (ℕ × Seen X)). IsPart (begins q) m x.0 x.1) (λ i. (sym v i, sym d i))
+      (part_left f g a (inside_told q h))
 
   -- ---- which comes first
 
@@ -316,23 +297,9 @@ unfolding child_string
 child_bits child = let z : child / 2 ^ (5 - 5) ≡ child = omega arith in ap (digits 5) z
 
 module _ {X : Type 0} where
-  -- the whole node below is the frame of the child
-  pub child_frame : {vs us : List (ℕ × X)} {cs ds es : List (ℕ × Seen X)} {trail way : List Bool} {child : ℕ} {m : Seen X} → IsChildNext vs cs ds trail child m → way ≡ trail ++ prefix_bits 5 child 5 → AreParts m us es → IsFrame us es way × (part_rest vs cs trail ≡ part_rest us es way ++ part_rest vs ds trail)
-  child_frame {vs} {us} {cs} {ds} {es} {trail} {way} {child} {m} n w a =
-      let b : way ≡ trail ++ child_string child = w ∙ ap (λ s. trail ++ s) (child_bits child) in (
-        whole_frame way a (omega (arith, ap length b, n.levels)) (subst (λ s. KeysWithin 128 (under s (entries m.entries))) (sym b) n.keys),
-        n.rest ∙ (λ i. under (sym b i) (entries (sym a.map i)) ++ part_rest vs ds trail),
-      )
+  -- all of the node below stands first
+  pub child_rest : {vs us : List (ℕ × X)} {cs ds es : List (ℕ × Seen X)} {trail way : List Bool} {child : ℕ} {m : Seen X} → IsChildNext vs cs ds trail child m → way ≡ trail ++ prefix_bits 5 child 5 → AreParts m us es → part_rest vs cs trail ≡ part_rest us es way ++ part_rest vs ds trail
+  child_rest {vs} {ds = ds} {trail = trail} {child = child} n w a = let b = w ∙ ap (λ s. trail ++ s) (child_bits child) in n.rest ∙ (λ i. under (sym b i) (entries (sym a.map i)) ++ part_rest vs ds trail)
 
 pub value_key : {key : List Bool} (trail : List Bool) (place number : ℕ) {len : ℕ} → key ≡ trail ++ prefix_bits 5 number len → len ≡ length (place_string place) → prefix_bits 5 number (length (place_string place)) ≡ place_string place → key ≡ trail ++ place_string place
 value_key trail place number e l b = e ∙ ap (λ n. trail ++ prefix_bits 5 number n) l ∙ ap (λ s. trail ++ s) b
-
-module _ {X : Type 0} where
-  pub empty_frame : {vs : List (ℕ × X)} {cs : List (ℕ × Seen X)} {trail : List Bool} → vs ≡ [] → cs ≡ [] → length trail ≡ 0 → IsFrame vs cs trail
-  empty_frame {vs} {cs} {trail} e f z =
-      subst (λ (x : List (ℕ × X) × List (ℕ × Seen X)). IsFrame x.0 x.1 trail) (λ i. (sym e i, sym f i))
-      (record {
-        order = record { values_rise = tt; values_below = tt; children_rise = tt; children_below = tt };
-        levels = omega (arith, z);
-        keys = subst (λ es. KeysWithin 128 (under trail es)) (sym walk_none) tt;
-      })

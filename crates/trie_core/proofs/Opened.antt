@@ -13,7 +13,7 @@ use Rattle.std.proofs.lemmas.Nat.Bits.{bit_at_and, bit_at-lt, bit_at-suc, bit_at
 use Rattle.trie_core.specs.Bits.{is_from}
 use Rattle.ipnet_blocks.specs.BitStrings.{bits_cmp, begins}
 use Rattle.trie_core.specs.InnerPlaces.{place_of, child_of, place_string, child_string, placed, without, AllBelow, named, first_place_of, IsFirstPlace}
-use Rattle.trie_core.specs.InnerWalks.{is_past, first_value, KeysWithin, Left, part_rest}
+use Rattle.trie_core.specs.InnerWalks.{is_past, first_value, KeysWithin, Left}
 use Rattle.std.proofs.Math.ListN.{length-append}
 use Rattle.trie_core.proofs.Strings.{both, front, take_front, take_take}
 use Rattle.trie_core.proofs.Numbers.{place_bound, number_bound, number-take, length-child_string}
@@ -24,7 +24,7 @@ use Rattle.trie_core.specs.InnerFrames.{has_bit, is_open, place_first, open_weig
 use Rattle.trie_core.proofs.Edits.{at_sorted, bit_within, half_less, low_less, without_front}
 use Rattle.trie_core.proofs.Taken.{taken, missing}
 use Rattle.trie_core.proofs.Seen.{IsSeen}
-use Rattle.trie_core.proofs.Frames.{IsTold, nat_alike, where_twice, are_parts, kept_left, part_left, order_where, under_none, IsKept, value_is_first, value_next, child_next, nothing_next, inside_told}
+use Rattle.trie_core.proofs.Frames.{IsTold, nat_alike, where_twice, are_parts, IsPart, part_left, part_rest, IsFrame, under_none, value_is_first, value_next, child_next, nothing_next, inside_told}
 
 -- ---- bits
 
@@ -206,17 +206,22 @@ module _ {X : Type 0} where
     keys = subst (λ es. KeysWithin 128 (under trail es)) (sym (ap (λ s. s.0) w) ∙ ap (λ o. frame_rest o v c) e) k;
   }
 
-  opened : {vb : ℕ} {vs : List X} {cb : ℕ} {cs : List (Seen X)} {m : Seen X} {trail : List Bool} (v c : ℕ) → IsSeen vb vs cb cs m → IsOpened m trail v c → IsKept (is_open v c) m (where_key nat_cmp (has_bit v) (placed vb vs)) (where_key nat_cmp (has_bit c) (placed cb cs)) trail
-  opened v c s t = kept_left (has_bit v) (has_bit c) (are_parts s) (told_open v c) t.levels t.keys
+  part_open : {vb : ℕ} {vs : List X} {cb : ℕ} {cs : List (Seen X)} {m : Seen X} (v c : ℕ) → IsSeen vb vs cb cs m → IsPart (is_open v c) m (where_key nat_cmp (has_bit v) (placed vb vs)) (where_key nat_cmp (has_bit c) (placed cb cs))
+  part_open v c s = part_left (has_bit v) (has_bit c) (are_parts s) (told_open v c)
 
   left_open : {vb : ℕ} {vs : List X} {cb : ℕ} {cs : List (Seen X)} {m : Seen X} (trail : List Bool) (v c : ℕ) → IsSeen vb vs cb cs m → part_rest (where_key nat_cmp (has_bit v) (placed vb vs)) (where_key nat_cmp (has_bit c) (placed cb cs)) trail ≡ under trail (where_key bits_cmp (is_open v c) (entries m.entries))
-  left_open trail v c s = part_left (has_bit v) (has_bit c) trail (are_parts s) (told_open v c)
+  left_open trail v c s = ap (under trail) (part_open v c s).rest
+
+  opened : {vb : ℕ} {vs : List X} {cb : ℕ} {cs : List (Seen X)} {m : Seen X} {trail : List Bool} (v c : ℕ) → IsSeen vb vs cb cs m → IsOpened m trail v c → IsFrame (where_key nat_cmp (has_bit v) (placed vb vs)) (where_key nat_cmp (has_bit c) (placed cb cs)) trail
+  opened {trail = trail} v c s t =
+      let p = part_open v c s in
+      record { order = p.order; levels = omega (arith, p.levels, t.levels); keys = subst (KeysWithin 128) (sym (left_open trail v c s)) t.keys }
 
   first_told : {vb : ℕ} {vs : List X} {cb : ℕ} {cs : List (Seen X)} {m : Seen X} (v c : ℕ) (p q : Option ℕ) → IsSeen vb vs cb cs m
       → MatchOption p (bit_and v vb ≡ 0) (IsFirstPlace (bit_and v vb)) → MatchOption q (bit_and c cb ≡ 0) (IsFirstPlace (bit_and c cb))
       → first_value (named place_string (where_key nat_cmp (has_bit v) (placed vb vs))) (named child_string (where_key nat_cmp (has_bit c) (placed cb cs))) ≡ place_first p q
   first_told {vb} {vs} {cb} {cs} v c p q s f g =
-      let o = order_where (has_bit v) (has_bit c) (are_parts s).order in
+      let o = (part_open v c s).order in
       first_by_places _ _ o.values_below o.children_below ∙ (λ i. place_first (first_open p v vb vs s.slots.values_counted f i) (first_open q c cb cs s.slots.children_counted g i))
 
   -- the value at the first open place is next
@@ -227,7 +232,7 @@ module _ {X : Type 0} where
   pub value_open : {vb : ℕ} {vs : List X} {cb : ℕ} {cs : List (Seen X)} {m : Seen X} {trail : List Bool} (v c place : ℕ) (value : X) (q : Option ℕ) → IsSeen vb vs cb cs m → IsOpened m trail v c
       → IsFirstPlace (bit_and v vb) place → MatchOption q (bit_and c cb ≡ 0) (IsFirstPlace (bit_and c cb)) → place_first (Some place) q ≡ true → find nat_cmp place (placed vb vs) ≡ Some value → IsValueOpen m trail v c place value
   value_open {vb} {vs} {cb} {cs} {m} {trail} v c place value q s t f g h e =
-      let n = value_next (opened v c s t).frame (open_first v vb place vs value f e) (first_told v c (Some place) q s f g ∙ h) in
+      let n = value_next (opened v c s t) (open_first v vb place vs value f e) (first_told v c (Some place) q s f g ∙ h) in
       record {
         within = n.within;
         rest = sym (left_open trail v c s) ∙ n.rest ∙ ap (λ es. (trail ++ place_string place, value) ∷ es) (left_open trail (v - 2 ^ place) c s);
@@ -242,11 +247,10 @@ module _ {X : Type 0} where
   pub child_open : {vb : ℕ} {vs : List X} {cb : ℕ} {cs : List (Seen X)} {m : Seen X} {trail : List Bool} (v c place : ℕ) (d : Seen X) (p : Option ℕ) → IsSeen vb vs cb cs m → IsOpened m trail v c
       → MatchOption p (bit_and v vb ≡ 0) (IsFirstPlace (bit_and v vb)) → IsFirstPlace (bit_and c cb) place → place_first p (Some place) ≡ false → find nat_cmp place (placed cb cs) ≡ Some d → 0 < d.levels → IsChildOpen m trail v c place d
   child_open {vb} {vs} {cb} {cs} {m} {trail} v c place d p s t f g h e l =
-      let k = opened v c s t in
-      let n = child_next k.frame (open_first c cb place cs d g e) (first_told v c p (Some place) s f g ∙ h) (omega (arith, l)) in
+      let n = child_next (opened v c s t) (open_first c cb place cs d g e) (first_told v c p (Some place) s f g ∙ h) (omega (arith, l)) in
       record {
         within = n.within;
-        smaller = omega (arith, n.less.0, k.levels);
+        smaller = omega (arith, n.less.0, (part_open v c s).levels);
         rest = sym (left_open trail v c s) ∙ n.rest ∙ ap (λ es. under (trail ++ child_string place) (entries d.entries) ++ es) (left_open trail v (c - 2 ^ place) s);
       }
 

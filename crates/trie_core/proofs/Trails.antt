@@ -121,6 +121,10 @@ module _ {X : Type 0} where
         p.top.weight ∙ ap (λ v. f.2 + 1 + walk_weight (along v fs)) (sym u),
       )
 
+  -- a walk without frames
+  pub no_frames : {fs : List (Left X)} (way : List Bool) → fs ≡ [] → IsWalk fs way × (walk_rest (along way fs) ≡ [])
+  no_frames way e = subst (λ fs. IsWalk fs way × (walk_rest (along way fs) ≡ [])) (sym e) (record { fit = tt; reach = tt; keys = tt }, refl)
+
   -- a walk of one frame
   pub one_frame : {gs fs : List (Left X)} (f : Left X) (way : List Bool) → fs ≡ [] → gs ≡ fs ++ f ∷ [] → 0 < f.1 → f.1 ≤ 26 → length way + 5 * f.1 ≤ 130 → KeysWithin 128 (under way f.0) → IsWalk gs way × (walk_rest (along way gs) ≡ under way f.0)
   one_frame {gs} {fs} f way z e p l h k =

@@ -6,7 +6,7 @@ use Rattle.std.specs.FinMap.{is_sorted, entries}
 use Rattle.ipnet_blocks.specs.BitStrings.{bits_cmp, begins}
 use Rattle.trie_core.specs.InnerPlaces.{place_string, child_string, AllBelow, named}
 use Rattle.trie_core.specs.Nodes.{BitMap, Seen}
-use Rattle.trie_core.specs.InnerNodes.{under, node_map}
+use Rattle.trie_core.specs.InnerNodes.{node_map}
 use Rattle.trie_core.specs.InnerCount.{all_nodes}
 
 -- a string after b, and after all that begin with b
@@ -38,10 +38,6 @@ module _ {X : Type 0} where
   abbrev pub part_map : List (ℕ × X) → List (ℕ × Seen X) → BitMap X
   part_map vs cs = node_map (named place_string vs) (named child_string cs)
 
-  -- its entries, where the way to the node is the trail
-  abbrev pub part_rest : List (ℕ × X) → List (ℕ × Seen X) → List Bool → List (List Bool × X)
-  part_rest vs cs trail = under trail (entries (part_map vs cs))
-
   -- values and children at places of a node, in order
   pub record AreInOrder (vs : List (ℕ × X)) (cs : List (ℕ × Seen X)) : Type 0 where
     pub values_rise : T (is_sorted nat_cmp vs)
@@ -55,12 +51,6 @@ module _ {X : Type 0} where
     pub map : part_map vs cs ≡ m.entries
     pub levels : levels_of cs + 1 ≡ m.levels
     pub nodes : nodes_of cs + 1 ≡ all_nodes m
-
-  -- no key of some values and children of a node, nor the way to one of the nodes below, is longer than 128 bits
-  pub record IsFrame (vs : List (ℕ × X)) (cs : List (ℕ × Seen X)) (trail : List Bool) : Type 0 where
-    pub order : AreInOrder vs cs
-    pub levels : length trail + 5 * levels_of cs ≤ 125
-    pub keys : KeysWithin 128 (part_rest vs cs trail)
 
 -- the entries that are left, the levels of nodes that they lie in, and a number that falls with each node that is opened
 abbrev pub Left : Type 0 → Type 0

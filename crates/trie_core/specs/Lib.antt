@@ -20,4 +20,3 @@ pub mod InnerTrails
 pub mod InnerSteps
 pub mod InnerCovers
 pub mod InnerHeld
-pub mod InnerOwned

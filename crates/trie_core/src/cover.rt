@@ -69,8 +69,8 @@ impl<'a, T> Cover<'a, T> {
     }
 
     /// Gives the next entry of the node, or goes on to the node below.
-    fn step(&mut self) -> Step<'a, T>
-        ensures { Stepped self.old result self.new }
+    fn step(&mut self) -> Step<&'a T>
+        ensures { Stepped (λ v. v.now) self.old result self.new }
     {
         let Some(node) = self.node else {
             return Step::Done;

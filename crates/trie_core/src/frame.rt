@@ -1,205 +1,95 @@
-//! What a walk has left of one node.
-ghost use Rattle.std.specs.Prelude.{◌≡◌, ◌+◌, ◌-◌, ◌*◌, ◌<◌, ◌≤◌, ◌^◌, List, Bool, length, take, MatchOption, ⊤};
+//! What a walk has left of one node, and stacks of that, whether nodes are lent or owned.
+ghost use Rattle.std.specs.Prelude.{◌≡◌, ◌+◌, ◌*◌, ◌<◌, ◌≤◌, List, [], ◌∷◌, ◌++◌, MatchOption, length};
 ghost use Rattle.std.specs.FinMap.{entries};
 ghost use Rattle.std.specs.FinMap.Entries.{where_key};
-ghost use Rattle.trie_core.specs.Bits.{is_from};
 ghost use Rattle.ipnet_blocks.specs.BitStrings.{bits_cmp, begins};
-ghost use Rattle.trie_core.specs.InnerPlaces.{place_of, child_of, IsFirstPlace};
-ghost use Rattle.trie_core.specs.InnerWalks.{is_past, KeysWithin};
+ghost use Rattle.trie_core.specs.Nodes.{Seen};
 ghost use Rattle.trie_core.specs.InnerNodes.{under};
-ghost use Rattle.trie_core.specs.InnerFrames.{is_open, place_first, open_weight};
+ghost use Rattle.trie_core.specs.InnerSearch.{IsChild, HasNoChild};
+ghost use Rattle.trie_core.specs.InnerWalks.{KeysWithin, Left};
 ghost use Rattle.trie_core.specs.InnerSteps.{GivesNext};
 
-use crate::node::Node;
 use crate::path::Path;
-use crate::slots::{first_place, taken_below};
-use crate::tables::{bit, first_child, place_length, places_between};
-use std::alloc::AllocError;
-use std::marker::Model;
-
-/// What stands in a node at the places that are open: a word of them for its values, and one for its children.
-#[derive(Drop)]
-pub(crate) struct Frame<'a, T> {
-    node: Option<&'a Node<T>>,
-    values: u32,
-    children: u32,
-}
-
-impl<'a, T> Model for Frame<'a, T> {
-    ghost use Rattle.std.specs.Prelude.{◌<◌, MatchOption, ⊤};
-    ghost use Rattle.trie_core.specs.InnerWalks.{Left, left_code};
-    ghost use Rattle.trie_core.specs.InnerFrames.{frame_rest, frame_levels, frame_weight};
-
-    ghost Value = { Left T };
-
-    ghost coded = { left_code T.code };
-
-    ghost view = { λ a. (frame_rest a.node a.values a.children, frame_levels a.node, frame_weight a.node a.children) };
-
-    ghost invariant = { λ a. MatchOption a.node ⊤ (λ m. 0 < m.now.levels) };
-}
-
-impl<'a, T> Clone for Frame<'a, T> {
-    ghost is_clone = { λ f r. r ≡ f };
-
-    ghost is_infallible = { λ _. ⊤ };
-
-    fn clone(&self) -> Result<Frame<'a, T>, AllocError> {
-        Ok(Frame {
-            node: self.node,
-            values: self.values,
-            children: self.children,
-        })
-    }
-}
-
-/// A frame of nothing.
-impl<'a, T> Default for Frame<'a, T> {
-    fn default() -> Frame<'a, T> {
-        Frame {
-            node: None,
-            values: 0,
-            children: 0,
-        }
-    }
-}
 
 /// What stands first in a frame: an entry, or a node below, with the way to it.
-pub(crate) enum Next<'a, T> {
-    Entry(Path, &'a T),
-    Below(Frame<'a, T>, Path),
+pub enum Next<G, F> {
+    /// A key and its value.
+    Entry(Path, G),
+    /// All of the node below, and the way to it.
+    Below(F, Path),
+    /// There is nothing left.
     Nothing,
 }
 
-/// The first place after those of the beginnings of five bits.
-fn after_beginnings(five: u8) -> u8
-    requires { five < 32 }
-    ensures { (q : List Bool) → 5 ≤ length q → child_of q ≡ five → result ≡ place_of (take 4 q) + 1 }
-{
-    let four = five - five % 2;
-    four + 5 - four.count_ones() as u8
-}
+/// What a walk has left of one node with values of type `T`, lent or owned.
+pub trait Frame<T>: Drop {
+    /// A node as a walk is given it: lent, or owned.
+    type Node: Drop;
 
-/// The first place that is taken.
-#[inline]
-fn first_in(taken: u32) -> Option<u8>
-    ensures { MatchOption result (taken ≡ 0) (IsFirstPlace taken) }
-{
-    if taken == 0 {
-        return None;
-    }
-    Some(first_place(taken))
-}
+    /// A value as a walk gives it: lent, or owned.
+    type Given: Drop;
 
-/// Whether the value at its first place comes next, and not what is below the first child.
-#[inline]
-fn value_first(value: Option<u8>, child: Option<u8>) -> bool
-    requires { MatchOption value ⊤ (λ p. p < 31) }
-    ensures { result ≡ place_first value child }
-{
-    match (value, child) {
-        (None, _) => false,
-        (Some(_), None) => true,
-        (Some(value), Some(child)) => first_child(value) <= child,
-    }
-}
+    /// What contracts see of a node.
+    ghost seen: { Self.Node → Seen T };
 
-impl<'a, T> Frame<'a, T> {
-    /// What stands in a node at some places.
-    #[inline]
-    fn open(node: &'a Node<T>, values: u32, children: u32) -> Frame<'a, T>
-        ensures rest { result.0 ≡ where_key bits_cmp (is_open values children) (entries node.now.entries) }
-        ensures levels { result.1 ≡ node.now.levels }
-        ensures positive { 0 < result.1 }
-        ensures weight { result.2 ≡ open_weight node.now children }
-    {
-        // Read so that its levels are known to be one or more.
-        let _levels = node.child_bits;
-        Frame {
-            node: Some(node),
-            values,
-            children,
-        }
-    }
+    /// What contracts see of a given value.
+    ghost value: { Self.Given → T };
+
+    /// What is left.
+    ghost left: { Self → Left T };
+
+    /// The node below the first five bits.
+    fn child(node: Self::Node, path: &Path) -> Option<Self::Node>
+        requires { 5 ≤ length path.now }
+        ensures { MatchOption result (HasNoChild path.now (seen node)) (λ c. IsChild path.now (seen node) (seen c)) };
 
     /// All of a node.
-    #[inline]
-    pub(crate) fn whole(node: &'a Node<T>) -> Frame<'a, T>
-        ensures rest { result.0 ≡ entries node.now.entries }
-        ensures levels { result.1 ≡ node.now.levels }
-        ensures positive { 0 < result.1 }
-        ensures weight { result.2 ≡ open_weight node.now (2 ^ 32 - 1) }
-    {
-        Frame::open(node, u32::MAX, u32::MAX)
-    }
+    fn whole(node: Self::Node) -> Self
+        ensures rest { (left result).0 ≡ entries (seen node).entries }
+        ensures levels { (left result).1 ≡ (seen node).levels }
+        ensures positive { 0 < (left result).1 };
 
     /// Of a node the keys that begin with a string of fewer than five bits.
-    pub(crate) fn inside(node: &'a Node<T>, path: &Path) -> Frame<'a, T>
+    fn inside(node: Self::Node, path: &Path) -> Self
         requires short { length path.now < 5 }
-        ensures rest { result.0 ≡ where_key bits_cmp (begins path.now) (entries node.now.entries) }
-        ensures levels { result.1 ≤ node.now.levels }
-        ensures positive { 0 < result.1 }
-    {
-        let (len, place, child) = (path.len(), path.place(), path.five());
-        let values = places_between(place, place + (31 >> len));
-        let children = places_between(child, child + (32 >> len));
-        Frame::open(node, values, children)
-    }
-
-    /// Of a node the keys that come after all that begin with the first five bits of a path.
-    pub(crate) fn past(node: &'a Node<T>, path: &Path) -> Frame<'a, T>
-        requires long { 5 ≤ length path.now }
-        ensures rest { result.0 ≡ where_key bits_cmp (is_past (take 5 path.now)) (entries node.now.entries) }
-        ensures levels { result.1 ≤ node.now.levels }
-        ensures positive { 0 < result.1 }
-    {
-        let five = path.five();
-        let values = places_between(after_beginnings(five), 32);
-        let children = places_between(five + 1, 32);
-        Frame::open(node, values, children)
-    }
-
-    /// Of a node the keys from a string of fewer than five bits on: those that come after it, and itself where asked.
-    pub(crate) fn onwards(node: &'a Node<T>, path: &Path, inclusive: bool) -> Frame<'a, T>
-        requires short { length path.now < 5 }
-        ensures rest { result.0 ≡ where_key bits_cmp (is_from path.now inclusive) (entries node.now.entries) }
-        ensures levels { result.1 ≤ node.now.levels }
-        ensures positive { 0 < result.1 }
-    {
-        let place = path.place();
-        let values = places_between(if inclusive { place } else { place + 1 }, 32);
-        let children = places_between(path.five(), 32);
-        Frame::open(node, values, children)
-    }
+        ensures rest { (left result).0 ≡ where_key bits_cmp (begins path.now) (entries (seen node).entries) }
+        ensures levels { (left result).1 ≤ (seen node).levels }
+        ensures positive { 0 < (left result).1 };
 
     /// Takes out what stands first, in the node at the way.
-    pub(crate) fn next(&mut self, way: &Path) -> Next<'a, T>
-        requires levels { length way.now + 5 * self.old.1 ≤ 130 }
-        requires keys { KeysWithin 128 (under way.now self.old.0) }
-        ensures next { GivesNext way.now self.old result self.new }
-        ensures levels { 0 < self.new.1 }
-    {
-        let Some(node) = self.node else {
-            return Next::Nothing;
-        };
-        let value_place = first_in(self.values & node.value_bits);
-        let child_place = first_in(self.children & node.child_bits);
-        if value_first(value_place, child_place) {
-            let Some(place) = value_place else {
-                unreachable!()
-            };
-            let value = &node.values[taken_below(node.value_bits, place)];
-            self.values -= bit(place);
-            let key = way.with(first_child(place), place_length(place));
-            return Next::Entry(key, value);
-        }
-        let Some(place) = child_place else {
-            return Next::Nothing;
-        };
-        let below = &node.children[taken_below(node.child_bits, place)];
-        // Read so that its levels are known to be one or more.
-        let _levels = below.child_bits;
-        self.children -= bit(place);
-        Next::Below(Frame::whole(below), way.with(place, 5))
-    }
+    fn next(&mut self, way: &Path) -> Next<Self::Given, Self>
+        requires levels { length way.now + 5 * (left self.old).1 ≤ 130 }
+        requires keys { KeysWithin 128 (under way.now (left self.old).0) }
+        ensures next { GivesNext value left way.now (left self.old) result (left self.new) }
+        ensures levels { 0 < (left self.new).1 };
+}
+
+/// A stack of at most 26 frames.
+///
+/// It is a type of its own for each kind of frame: that an array of frames has a size is known of a known frame alone.
+pub trait FrameStack<T>: Drop {
+    type Frame: Frame<T>;
+
+    /// What is left of each frame, the last one last.
+    ghost frames: { Self → List (Left T) };
+
+    /// A stack without frames.
+    fn empty() -> Self
+        ensures { frames result ≡ [] };
+
+    /// Takes off the last frame.
+    fn pop(&mut self) -> Option<Self::Frame>
+        ensures { MatchOption result ((frames self.old ≡ []) × (frames self.new ≡ [])) (λ f. frames self.old ≡ frames self.new ++ Self.Frame.left f ∷ []) };
+
+    /// Puts a frame on top.
+    fn push(&mut self, frame: Self::Frame)
+        requires { length (frames self.old) < 26 }
+        ensures { frames self.new ≡ frames self.old ++ Self.Frame.left frame ∷ [] };
+}
+
+/// A stack of frames of nodes that are lent, of which there can be a second one.
+pub trait LentStack<T>: FrameStack<T> {
+    /// A second stack of the same frames. It takes no memory.
+    fn copied(&self) -> Self
+        ensures { Self.frames result ≡ Self.frames self.now };
 }

@@ -1,32 +1,42 @@
 //! Walks over the entries of a node in order. They take no memory.
-ghost use Rattle.std.specs.Prelude.{◌≡◌, ℕ, ◌+◌, ◌-◌, ◌*◌, ◌<◌, ◌≤◌, [], length, take, ⊤};
+ghost use Rattle.std.specs.Prelude.{◌≡◌, ◌+◌, ◌-◌, ◌*◌, ◌<◌, ◌≤◌, [], length, take, ⊤};
 ghost use Rattle.std.specs.FinMap.{entries};
 ghost use Rattle.std.specs.FinMap.Entries.{where_key};
 ghost use Rattle.std.specs.Iterator.{YieldsFirstBy, item_count};
 ghost use Rattle.trie_core.specs.Bits.{is_from};
 ghost use Rattle.ipnet_blocks.specs.BitStrings.{bits_cmp, begins};
 ghost use Rattle.trie_core.specs.InnerNodes.{under};
-ghost use Rattle.trie_core.specs.InnerWalks.{KeysWithin};
+ghost use Rattle.trie_core.specs.InnerWalks.{KeysWithin, walk_rest, walk_weight};
+ghost use Rattle.trie_core.specs.InnerTrails.{along, IsWalk};
 ghost use Rattle.trie_core.specs.InnerSteps.{Stepped};
 
-use crate::frame::{Frame, Next};
+use crate::frame::{Frame, FrameStack, LentStack, Next};
+use crate::lent_frame::LentFrame;
 use crate::node::Node;
+use crate::owned_frame::OwnedFrame;
 use crate::path::Path;
 use arrayvec::ArrayVec;
 use std::alloc::AllocError;
-use std::marker::Model;
+use std::marker::{Model, PhantomData};
 
 /// The entries that are left of a walk: those of the frames on the stack, the last frame first. The trail is the way to
 /// the node of the last frame, and each frame stands five bits below the one before it.
 ///
 /// A node has at most 25 levels of nodes below it, and a walk has one frame open at each level.
 #[derive(Drop)]
-pub struct Walk<'a, T> {
-    stack: ArrayVec<Frame<'a, T>, 26>,
+pub struct FrameWalk<T, S: FrameStack<T>> {
+    stack: S,
     trail: Path,
+    values: PhantomData<T>,
 }
 
-impl<'a, T> Model for Walk<'a, T> {
+/// The entries that are left, with values that are lent.
+pub type Walk<'a, T> = FrameWalk<T, ArrayVec<LentFrame<'a, T>, 26>>;
+
+/// The entries that are left, owned. What it has not given is dropped with it.
+pub type OwnedWalk<T> = FrameWalk<T, ArrayVec<OwnedFrame<T>, 26>>;
+
+impl<T, S: FrameStack<T>> Model for FrameWalk<T, S> {
     ghost use Rattle.std.specs.Prelude.{ℕ, List, Bool};
     ghost use Rattle.std.specs.Coded.{coded×, coded_ℕ, coded_list, coded_bool};
     ghost use Rattle.trie_core.specs.InnerWalks.{walk_rest, walk_weight};
@@ -36,14 +46,14 @@ impl<'a, T> Model for Walk<'a, T> {
 
     ghost coded = { coded× (coded_list (coded× (coded_list coded_bool) T.code)) coded_ℕ };
 
-    ghost view = { λ a. (walk_rest (along a.trail a.stack.items), walk_weight (along a.trail a.stack.items)) };
+    ghost view = { λ a. (walk_rest (along a.trail (S.frames a.stack)), walk_weight (along a.trail (S.frames a.stack))) };
 
-    ghost invariant = { λ a. IsWalk a.stack.items a.trail };
+    ghost invariant = { λ a. IsWalk (S.frames a.stack) a.trail };
 }
 
 /// What one step of a walk came to.
-pub(crate) enum Step<'a, T> {
-    Entry(Path, &'a T),
+pub(crate) enum Step<G> {
+    Entry(Path, G),
     Moved,
     Done,
 }
@@ -57,77 +67,65 @@ fn above(way: &Path) -> Path
     Path::new(way.to_bits(), way.len().saturating_sub(5))
 }
 
-impl<'a, T> Walk<'a, T> {
-    /// A walk that starts with one frame, of the node at the trail.
-    fn start(frame: Frame<'a, T>, trail: Path) -> Walk<'a, T>
-        requires positive { 0 < frame.1 }
-        requires levels { frame.1 ≤ 26 }
-        requires reach { length trail + 5 * frame.1 ≤ 130 }
-        requires keys { KeysWithin 128 (under trail frame.0) }
-        ensures { result.0 ≡ under trail frame.entry.0 }
+impl<T, S: FrameStack<T>> FrameWalk<T, S> {
+    /// A walk over the frames of a stack, where the trail leads to the last.
+    fn over(stack: S, trail: Path) -> FrameWalk<T, S>
+        requires { IsWalk (S.frames stack) trail }
+        ensures { result ≡ (walk_rest (along trail (S.frames stack)), walk_weight (along trail (S.frames stack))) }
     {
-        let mut stack = ArrayVec::new();
+        FrameWalk {
+            stack,
+            trail,
+            values: PhantomData,
+        }
+    }
+
+    /// A walk that starts with one frame, of the node at the trail.
+    fn start(frame: S::Frame, trail: Path) -> FrameWalk<T, S>
+        requires positive { 0 < (S.Frame.left frame).1 }
+        requires levels { (S.Frame.left frame).1 ≤ 26 }
+        requires reach { length trail + 5 * (S.Frame.left frame).1 ≤ 130 }
+        requires keys { KeysWithin 128 (under trail (S.Frame.left frame).0) }
+        ensures { result.0 ≡ under trail (S.Frame.left frame).0 }
+    {
+        let mut stack = S::empty();
         stack.push(frame);
-        Walk { stack, trail }
+        FrameWalk::over(stack, trail)
     }
 
     /// The entries of a node.
-    pub fn new(node: &'a Node<T>) -> Walk<'a, T>
-        requires levels { node.now.levels ≤ 26 }
-        requires keys { KeysWithin 128 (entries node.now.entries) }
-        ensures { result.0 ≡ entries node.now.entries }
+    pub fn new(node: <S::Frame as Frame<T>>::Node) -> FrameWalk<T, S>
+        requires levels { (S.Frame.seen node).levels ≤ 26 }
+        requires keys { KeysWithin 128 (entries (S.Frame.seen node).entries) }
+        ensures { result.0 ≡ entries (S.Frame.seen node).entries }
     {
-        Walk::start(Frame::whole(node), Path::new(0, 0))
+        FrameWalk::start(S::Frame::whole(node), Path::new(0, 0))
     }
 
-    /// The entries whose keys begin with a path, itself included.
-    pub fn inside(node: &'a Node<T>, path: Path) -> Walk<'a, T>
+    /// The entries whose keys begin with a path, itself included. Where it owns the others, it drops them.
+    pub fn inside(node: <S::Frame as Frame<T>>::Node, path: Path) -> FrameWalk<T, S>
         requires within { length path ≤ 128 }
-        requires levels { node.now.levels ≤ 26 }
-        requires keys { KeysWithin 128 (entries node.now.entries) }
-        ensures { result.0 ≡ where_key bits_cmp (begins path) (entries node.now.entries) }
+        requires levels { (S.Frame.seen node).levels ≤ 26 }
+        requires keys { KeysWithin 128 (entries (S.Frame.seen node).entries) }
+        ensures { result.0 ≡ where_key bits_cmp (begins path) (entries (S.Frame.seen node).entries) }
     {
         let mut node = node;
         let mut path = path;
         let mut trail = Path::new(0, 0);
         'way: while !path.is_short() {
-            match node.child(&path) {
-                None => return Walk::default(),
+            match S::Frame::child(node, &path) {
+                None => return FrameWalk::default(),
                 Some(child) => node = child,
             }
             trail = trail.with(path.five(), 5);
             path = path.rest();
         }
-        Walk::start(Frame::inside(node, &path), trail)
-    }
-
-    /// The entries from a path on, in the order of a walk: those whose keys come after it, and its own where asked.
-    pub fn onwards(node: &'a Node<T>, path: Path, inclusive: bool) -> Walk<'a, T>
-        requires within { length path ≤ 128 }
-        requires levels { node.now.levels ≤ 26 }
-        requires keys { KeysWithin 128 (entries node.now.entries) }
-        ensures { result.0 ≡ where_key bits_cmp (is_from path inclusive) (entries node.now.entries) }
-    {
-        let mut stack = ArrayVec::new();
-        let mut node = node;
-        let mut path = path;
-        let mut trail = Path::new(0, 0);
-        'way: while !path.is_short() {
-            stack.push(Frame::past(node, &path));
-            match node.child(&path) {
-                None => return Walk { stack, trail },
-                Some(child) => node = child,
-            }
-            trail = trail.with(path.five(), 5);
-            path = path.rest();
-        }
-        stack.push(Frame::onwards(node, &path, inclusive));
-        Walk { stack, trail }
+        FrameWalk::start(S::Frame::inside(node, &path), trail)
     }
 
     /// Takes one entry off the last frame, or opens a node, or takes off an empty frame.
-    fn step(&mut self) -> Step<'a, T>
-        ensures { Stepped self.old result self.new }
+    fn step(&mut self) -> Step<<S::Frame as Frame<T>>::Given>
+        ensures { Stepped S.Frame.value self.old result self.new }
     {
         let Some(mut frame) = self.stack.pop() else {
             return Step::Done;
@@ -144,6 +142,7 @@ impl<'a, T> Walk<'a, T> {
                 Step::Moved
             }
             Next::Nothing => {
+                drop(frame);
                 self.trail = above(&self.trail);
                 Step::Moved
             }
@@ -151,39 +150,61 @@ impl<'a, T> Walk<'a, T> {
     }
 }
 
-impl<'a, T> Clone for Walk<'a, T> {
+impl<'a, T> FrameWalk<T, ArrayVec<LentFrame<'a, T>, 26>> {
+    /// The entries from a path on, in the order of a walk: those whose keys come after it, and its own where asked.
+    pub fn onwards(node: &'a Node<T>, path: Path, inclusive: bool) -> Walk<'a, T>
+        requires within { length path ≤ 128 }
+        requires levels { node.now.levels ≤ 26 }
+        requires keys { KeysWithin 128 (entries node.now.entries) }
+        ensures { result.0 ≡ where_key bits_cmp (is_from path inclusive) (entries node.now.entries) }
+    {
+        let mut stack = ArrayVec::new();
+        let mut node = node;
+        let mut path = path;
+        let mut trail = Path::new(0, 0);
+        'way: while !path.is_short() {
+            stack.push(LentFrame::past(node, &path));
+            match node.child(&path) {
+                None => return FrameWalk::over(stack, trail),
+                Some(child) => node = child,
+            }
+            trail = trail.with(path.five(), 5);
+            path = path.rest();
+        }
+        stack.push(LentFrame::onwards(node, &path, inclusive));
+        FrameWalk::over(stack, trail)
+    }
+}
+
+impl<T, S: LentStack<T>> Clone for FrameWalk<T, S> {
     ghost is_clone = { λ w r. r ≡ w };
 
     ghost is_infallible = { λ _. ⊤ };
 
     /// A second walk from here on. It takes no memory.
-    fn clone(&self) -> Result<Walk<'a, T>, AllocError> {
-        Ok(Walk {
-            stack: self.stack.clone()?,
-            trail: self.trail.clone()?,
-        })
+    fn clone(&self) -> Result<FrameWalk<T, S>, AllocError> {
+        let trail = self.trail.clone()?;
+        Ok(FrameWalk::over(self.stack.copied(), trail))
     }
 }
 
-impl<'a, T> Default for Walk<'a, T> {
+/// A walk over nothing.
+impl<T, S: FrameStack<T>> Default for FrameWalk<T, S> {
     ghost is_default = { λ w. w.0 ≡ [] };
 
-    fn default() -> Walk<'a, T> {
-        Walk {
-            stack: ArrayVec::new(),
-            trail: Path::new(0, 0),
-        }
+    fn default() -> FrameWalk<T, S> {
+        FrameWalk::over(S::empty(), Path::new(0, 0))
     }
 }
 
-impl<'a, T> Iterator for Walk<'a, T> {
-    type Item = (Path, &'a T);
+impl<T, S: FrameStack<T>> Iterator for FrameWalk<T, S> {
+    type Item = (Path, <S::Frame as Frame<T>>::Given);
 
-    ghost next_gives = { YieldsFirstBy (λ p. (p.0, p.1.now)) (λ w. w.0) };
+    ghost next_gives = { YieldsFirstBy (λ p. (p.0, S.Frame.value p.1)) (λ w. w.0) };
 
     ghost remaining = { item_count (λ w. w.0) };
 
-    fn next(&mut self) -> Option<(Path, &'a T)> {
+    fn next(&mut self) -> Option<(Path, <S::Frame as Frame<T>>::Given)> {
         'step: loop {
             match self.step() {
                 Step::Entry(key, value) => return Some((key, value)),

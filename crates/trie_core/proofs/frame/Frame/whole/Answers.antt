@@ -1,7 +1,0 @@
-use Rattle.std.proofs.Common.{◌∙◌}
-use Rattle.std.specs.FinMap.{entries}
-use Rattle.trie_core.proofs.Opened.{all_open}
-use Rattle.trie_core.proofs.frame.Frame.whole.Goals as goal
-
-pub returns-clause-rest : goal.returns-clause-rest
-returns-clause-rest g c = c.open.ensures.rest ∙ all_open (entries c.args.node.now.entries)

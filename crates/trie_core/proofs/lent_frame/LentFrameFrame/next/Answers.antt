@@ -1,0 +1,104 @@
+use Rattle.std.proofs.Common.{◌∙◌, ◌∷◌, ◌++◌, ◌-◌, sym, ap, arith}
+use Rattle.std.specs.FinMap.{entries}
+use Rattle.trie_core.specs.InnerNodes.{under}
+use Rattle.trie_core.specs.InnerFrames.{place_first, frame_rest, frame_levels, frame_weight, open_weight}
+use Rattle.trie_core.proofs.Seen.{seen}
+use Rattle.trie_core.proofs.Frames.{value_key, child_bits}
+use Rattle.trie_core.proofs.Opened.{all_open, is_opened, value_open, child_open, nothing_open, found_at, index_at, bit_open, lighter, below_way}
+use Rattle.trie_core.proofs.lent_frame.LentFrameFrame.next.Goals as goal
+
+pub index-value-requires : goal.index-value-requires
+index-value-requires g c = omega (arith, index_at c.self.inside.values c.node.inside.value_bits c.in-Some-value_place.place c.taken_below.result c.node.inside.values.items c.in-Some-value_place.ensures c.node.invariant.values_counted c.taken_below.ensures, c.node.inside.values.ok.0)
+
+pub overflow_sub-self : goal.overflow_sub-self
+overflow_sub-self g c = omega (arith, c.bit.ensures, bit_open c.self.inside.values c.node.inside.value_bits c.in-Some-value_place.place c.in-Some-value_place.ensures)
+
+pub with-key-requires-clause-room : goal.with-key-requires-clause-room
+with-key-requires-clause-room g c =
+    let s = seen c.node.invariant c.node.view_is in
+    omega (arith, c.requires.levels, ap (λ s. s.1) c.self.view_is, ap frame_levels c.in-Some.is, s.height)
+
+pub with-key-requires-clause-within : goal.with-key-requires-clause-within
+with-key-requires-clause-within g c =
+    let s = seen c.node.invariant c.node.view_is in
+    let p = c.in-Some-value_place.place in
+    let f = c.in-Some-value_place.ensures in
+    let x = c.index-value.result.now in
+    let e = found_at c.self.inside.values c.node.inside.value_bits p c.taken_below.result c.node.inside.values.items x f s.slots.values_counted c.taken_below.ensures c.index-value.ensures in
+    let h = ap (λ o. place_first o c.first_in-child_place.result) (sym c.in-Some-value_place.is) ∙ sym c.if-value_first.ensures in
+    let o = is_opened c.args.way.now c.self.inside.values c.self.inside.children c.in-Some.is c.self.view_is c.requires.levels c.requires.keys in
+    let n = value_open c.self.inside.values c.self.inside.children p x c.first_in-child_place.result s o f c.first_in-child_place.ensures h e in
+    omega (arith, n.within, c.place_length.ensures.value)
+
+pub returns-then-value_first-clause-next : goal.returns-then-value_first-clause-next
+returns-then-value_first-clause-next g c =
+    let s = seen c.node.invariant c.node.view_is in
+    let p = c.in-Some-value_place.place in
+    let f = c.in-Some-value_place.ensures in
+    let x = c.index-value.result.now in
+    let e = found_at c.self.inside.values c.node.inside.value_bits p c.taken_below.result c.node.inside.values.items x f s.slots.values_counted c.taken_below.ensures c.index-value.ensures in
+    let h = ap (λ o. place_first o c.first_in-child_place.result) (sym c.in-Some-value_place.is) ∙ sym c.if-value_first.ensures in
+    let o = is_opened c.args.way.now c.self.inside.values c.self.inside.children c.in-Some.is c.self.view_is c.requires.levels c.requires.keys in
+    let n = value_open c.self.inside.values c.self.inside.children p x c.first_in-child_place.result s o f c.first_in-child_place.ensures h e in
+    let way = c.args.way.now in (
+      ap (λ s. under way s.0) (sym c.self.view_is)
+          ∙ ap (λ o. under way (frame_rest o c.self.inside.values c.self.inside.children)) c.in-Some.is
+          ∙ n.rest
+          ∙ sym (λ i. (value_key way p c.first_child.result c.with-key.ensures c.place_length.ensures.value c.first_child.ensures.bits i, x) ∷ under way (frame_rest (c.in-Some.is i) (c.self.inside.values - c.bit.ensures i) c.self.inside.children)),
+      omega (arith, ap (λ s. s.1) c.self.view_is),
+    )
+
+pub returns-in_default-child_place-clause-next : goal.returns-in_default-child_place-clause-next
+returns-in_default-child_place-clause-next g c =
+    let s = seen c.node.invariant c.node.view_is in
+    let h = ap (place_first c.first_in-value_place.result) (sym c.in_default-child_place.is) ∙ sym c.if-value_first.ensures in
+    ap (λ s. s.0) (sym c.self.view_is)
+    ∙ ap (λ o. frame_rest o c.self.inside.values c.self.inside.children) c.in-Some.is
+    ∙ nothing_open c.self.inside.values c.self.inside.children c.first_in-value_place.result s c.first_in-value_place.ensures c.in_default-child_place.ensures h
+
+pub index-below-requires : goal.index-below-requires
+index-below-requires g c = omega (arith, index_at c.self.inside.children c.node.inside.child_bits c.in-Some-child_place.place c.taken_below-2.result c.node.inside.children.items c.in-Some-child_place.ensures c.node.invariant.children_counted c.taken_below-2.ensures, c.node.inside.children.ok.0)
+
+pub overflow_sub-self-2 : goal.overflow_sub-self-2
+overflow_sub-self-2 g c = omega (arith, c.bit-2.ensures, bit_open c.self.inside.children c.node.inside.child_bits c.in-Some-child_place.place c.in-Some-child_place.ensures)
+
+pub with-requires-clause-within : goal.with-requires-clause-within
+with-requires-clause-within g c =
+    let s = seen c.node.invariant c.node.view_is in
+    let b = seen c.below.invariant c.below.view_is in
+    let p = c.in-Some-child_place.place in
+    let f = c.in-Some-child_place.ensures in
+    let d = c.index-below.result.now in
+    let e = found_at c.self.inside.children c.node.inside.child_bits p c.taken_below-2.result c.node.inside.children.items d f s.slots.children_counted c.taken_below-2.ensures c.index-below.ensures in
+    let h = ap (place_first c.first_in-value_place.result) (sym c.in-Some-child_place.is) ∙ sym c.if-value_first.ensures in
+    let o = is_opened c.args.way.now c.self.inside.values c.self.inside.children c.in-Some.is c.self.view_is c.requires.levels c.requires.keys in
+    let n = child_open c.self.inside.values c.self.inside.children p d c.first_in-value_place.result s o c.first_in-value_place.ensures f h e (omega (arith, b.height)) in
+    n.within
+
+pub returns-clause-next : goal.returns-clause-next
+returns-clause-next g c =
+    let s = seen c.node.invariant c.node.view_is in
+    let b = seen c.below.invariant c.below.view_is in
+    let p = c.in-Some-child_place.place in
+    let f = c.in-Some-child_place.ensures in
+    let d = c.index-below.result.now in
+    let e = found_at c.self.inside.children c.node.inside.child_bits p c.taken_below-2.result c.node.inside.children.items d f s.slots.children_counted c.taken_below-2.ensures c.index-below.ensures in
+    let h = ap (place_first c.first_in-value_place.result) (sym c.in-Some-child_place.is) ∙ sym c.if-value_first.ensures in
+    let o = is_opened c.args.way.now c.self.inside.values c.self.inside.children c.in-Some.is c.self.view_is c.requires.levels c.requires.keys in
+    let n = child_open c.self.inside.values c.self.inside.children p d c.first_in-value_place.result s o c.first_in-value_place.ensures f h e (omega (arith, b.height)) in
+    let way = c.args.way.now in
+    let m = c.in-Some.node.now in
+    let w = c.with.ensures ∙ ap (λ t. way ++ t) (child_bits p) in
+    let u = below_way way p w in
+    let l = lighter m d c.self.inside.children p n.smaller (bit_open c.self.inside.children c.node.inside.child_bits p f) in (
+      ap (λ s. under way s.0) (sym c.self.view_is)
+          ∙ ap (λ o. under way (frame_rest o c.self.inside.values c.self.inside.children)) c.in-Some.is
+          ∙ n.rest
+          ∙ sym (λ i. under (w i) ((c.open.ensures.rest ∙ all_open (entries d.entries)) i) ++ under way (frame_rest (c.in-Some.is i) c.self.inside.values (c.self.inside.children - c.bit-2.ensures i))),
+      c.open.ensures.positive,
+      omega (arith, ap (λ s. s.1) c.self.view_is, ap frame_levels c.in-Some.is, c.open.ensures.levels, n.smaller),
+      omega (arith, ap (λ s. s.1) c.self.view_is),
+      omega (arith, l, ap (λ s. s.2) c.self.view_is, c.open.ensures.weight, ap (λ o. frame_weight o (c.self.inside.children - c.bit-2.result)) c.in-Some.is, ap (λ j. open_weight m (c.self.inside.children - j)) c.bit-2.ensures, ap (λ o. frame_weight o c.self.inside.children) c.in-Some.is),
+      u.0,
+      u.1,
+    )
