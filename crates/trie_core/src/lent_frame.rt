@@ -192,7 +192,10 @@ impl<'a, T> Frame<T> for LentFrame<'a, T> {
         // Read so that its levels are known to be one or more.
         let _levels = below.child_bits;
         self.children -= bit(place);
-        Next::Below(LentFrame::open(below, u32::MAX, u32::MAX), way.with(place, 5))
+        Next::Below(
+            LentFrame::open(below, u32::MAX, u32::MAX),
+            way.with(place, 5),
+        )
     }
 }
 
