@@ -2,7 +2,7 @@
 ghost use Rattle.std.specs.Io.{ReadsAtMost};
 ghost use Rattle.std.specs.Io.KnownBytes.{ReadConsumes, prepend_known};
 ghost use Rattle.std.specs.Prelude.{◌≡◌, ◌<◌, ◌≤◌, ◌+◌, [], drop, is_err, length};
-ghost use Rattle.route_feed.specs.Counted.{faults_of, inner, more_if, reads_of};
+ghost use Rattle.route_feed.specs.Counted.{more_if};
 
 use arrayvec::ArrayVec;
 use route_feed::Counted;
@@ -27,7 +27,7 @@ pub struct Input<'a, R> {
 impl<'a, R> Input<'a, R> {
     /// The input from a device, of which nothing is kept.
     pub fn new(device: R, more: &'a Cell<bool>) -> Input<'a, R>
-        ensures device { inner result.device ≡ device }
+        ensures device { result.device.device ≡ device }
         ensures kept { drop result.start result.kept.items ≡ [] }
     {
         Input {
@@ -66,13 +66,13 @@ impl<'a, R> Input<'a, R> {
 }
 
 impl<'a, R: Read> Read for Input<'a, R> {
-    ghost remaining = { λ input. prepend_known (drop input.start input.kept.items) (R.remaining (inner input.device)) };
+    ghost remaining = { λ input. prepend_known (drop input.start input.kept.items) (R.remaining input.device.device) };
 
     fn read(&mut self, buf: &mut [u8]) -> io::Result<usize>
         ensures bound { ReadsAtMost result buf.new }
-        ensures bytes { ReadConsumes (prepend_known (drop self.old.start self.old.kept.items) (R.remaining (inner self.old.device))) (prepend_known (drop self.new.start self.new.kept.items) (R.remaining (inner self.new.device))) result buf.new }
-        ensures reads { reads_of self.new.device ≤ reads_of self.old.device + 1 }
-        ensures faults { faults_of self.new.device ≡ more_if (is_err result) (faults_of self.old.device) }
+        ensures bytes { ReadConsumes (prepend_known (drop self.old.start self.old.kept.items) (R.remaining self.old.device.device)) (prepend_known (drop self.new.start self.new.kept.items) (R.remaining self.new.device.device)) result buf.new }
+        ensures reads { self.new.device.reads ≤ self.old.device.reads + 1 }
+        ensures faults { self.new.device.faults ≡ more_if (is_err result) self.old.device.faults }
     {
         let left = self.left();
         if left.is_empty() {

@@ -2,7 +2,7 @@
 ghost use Rattle.std.specs.Io.{WritesAtMost};
 ghost use Rattle.std.specs.Io.KnownBytes.{Keeps, WriteAppends};
 ghost use Rattle.std.specs.Prelude.{◌≡◌, is_err, length};
-ghost use Rattle.route_feed.specs.Counted.{faults_of, inner, more_if, took_none};
+ghost use Rattle.route_feed.specs.Counted.{more_if, took_none};
 
 use route_feed::Counted;
 use std::cell::Cell;
@@ -20,7 +20,7 @@ pub struct Output<'a, W: Drop> {
 impl<'a, W: Drop> Output<'a, W> {
     /// The output to a device.
     pub fn new(device: W, more: &'a Cell<bool>) -> Output<'a, W>
-        ensures { inner result.device ≡ device }
+        ensures { result.device.device ≡ device }
     {
         Output {
             device: Counted::new(device),
@@ -30,7 +30,7 @@ impl<'a, W: Drop> Output<'a, W> {
 
     /// The writer itself.
     pub fn into_inner(self) -> W
-        ensures { result ≡ inner self.entry.device }
+        ensures { result ≡ self.entry.device.device }
     {
         let Output { device, more: _ } = self;
         device.into_inner()
@@ -38,19 +38,19 @@ impl<'a, W: Drop> Output<'a, W> {
 }
 
 impl<'a, W: Write + Drop> Write for Output<'a, W> {
-    ghost contents = { λ output. W.contents (inner output.device) };
+    ghost contents = { λ output. W.contents output.device.device };
 
     fn write(&mut self, buf: &[u8]) -> io::Result<usize>
         ensures bound { WritesAtMost result buf.now }
-        ensures bytes { WriteAppends (W.contents (inner self.old.device)) (W.contents (inner self.new.device)) result buf.now }
-        ensures faults { faults_of self.new.device ≡ more_if (took_none result (length buf.now)) (faults_of self.old.device) }
+        ensures bytes { WriteAppends (W.contents self.old.device.device) (W.contents self.new.device.device) result buf.now }
+        ensures faults { self.new.device.faults ≡ more_if (took_none result (length buf.now)) self.old.device.faults }
     {
         self.device.write(buf)
     }
 
     fn flush(&mut self) -> io::Result<()>
-        ensures bytes { Keeps (W.contents (inner self.old.device)) (W.contents (inner self.new.device)) }
-        ensures faults { faults_of self.new.device ≡ more_if (is_err result) (faults_of self.old.device) }
+        ensures bytes { Keeps (W.contents self.old.device.device) (W.contents self.new.device.device) }
+        ensures faults { self.new.device.faults ≡ more_if (is_err result) self.old.device.faults }
     {
         if self.more.get() {
             return Ok(());
