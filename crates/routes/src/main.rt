@@ -4,7 +4,7 @@
 ghost use Rattle.std.specs.Prelude.{◌≡◌, ◌↔◌, ◌<◌, ◌^◌, ◌⊎◌, [], ◌∷◌, drop, map, IfErr, IfOk, IfSome, IsErrOf, Ok, OnOk};
 ghost use Rattle.std.specs.String.{string_bytes};
 ghost use Rattle.std.specs.Vec.Iter.{into_iter_items};
-ghost use Rattle.route_feed.specs.Counted.{ReadFault, faults_of, inner, reads_of};
+ghost use Rattle.route_feed.specs.Counted.{ReadFault};
 ghost use Rattle.route_feed.specs.Follows.{MeetsAnother};
 ghost use Rattle.routes.specs.Asked.{AnyMode, word_of};
 ghost use Rattle.routes.specs.Runs.{Ends, Writes};
@@ -95,11 +95,11 @@ fn run_as<R: Read, W: Write>(
     reader: &mut Counted<R>,
     writer: &mut Counted<W>,
 ) -> Result<(), RunError>
-    requires reads { reads_of reader.old < 2 ^ 63 }
-    requires reader { faults_of reader.old < 2 ^ 63 }
-    requires writer { faults_of writer.old < 2 ^ 63 }
+    requires reads { reader.old.reads < 2 ^ 63 }
+    requires reader { reader.old.faults < 2 ^ 63 }
+    requires writer { writer.old.faults < 2 ^ 63 }
     ensures ends { Ends R.remaining W.contents mode reader.old reader.new writer.old writer.new result }
-    ensures known { OnOk result (IfSome (R.remaining (inner reader.old)) (λ bytes. Writes mode bytes (W.contents (inner writer.old)) (W.contents (inner writer.new)))) }
+    ensures known { OnOk result (IfSome (R.remaining reader.old.device) (λ bytes. Writes mode bytes (W.contents writer.old.device) (W.contents writer.new.device))) }
 {
     match mode {
         Mode::Lead => lead_leaking(alloc, reader, writer),
@@ -117,12 +117,12 @@ fn run_mode<R: Read, W: Write + Drop>(
     output: W,
     more: &Cell<bool>,
 ) -> Result<W, RunError>
-    requires reads { reads_of reader.old < 2 ^ 63 }
-    requires faults { faults_of reader.old < 2 ^ 63 }
-    ensures known { IfOk result (λ w. IfSome (R.remaining (inner reader.old)) (λ bytes. Writes mode bytes (W.contents output) (W.contents w))) }
+    requires reads { reader.old.reads < 2 ^ 63 }
+    requires faults { reader.old.faults < 2 ^ 63 }
+    ensures known { IfOk result (λ w. IfSome (R.remaining reader.old.device) (λ bytes. Writes mode bytes (W.contents output) (W.contents w))) }
     ensures read { IsErrOf result RunError.Read → ReadFault reader.old reader.new }
     ensures line { IsErrOf result RunError.Line → ((mode ≡ Mode.Follow) ⊎ (mode ≡ Mode.Least)) × MeetsAnother R.remaining reader.old reader.new }
-    ensures read_well { (IsErrOf result RunError.Read → ⊥) → faults_of reader.new ≡ faults_of reader.old }
+    ensures read_well { (IsErrOf result RunError.Read → ⊥) → reader.new.faults ≡ reader.old.faults }
 {
     let Ok(buffered) = BufWriter::with_capacity(alloc, REPLY, output) else {
         return Err(RunError::Memory);

@@ -1,8 +1,8 @@
 -- What `routes_line` does.
 use Rattle.std.specs.Prelude.{◌≡◌, ◌⊎◌, ℕ, Bool, List, [], ◌++◌, Option, None, Some}
-use Rattle.route_feed.specs.Commands.{command_in}
 use Rattle.route_feed.specs.Replies.{printed}
 use Rattle.route_feed.specs.Steps.{step, turn_lines}
+use Rattle.route_feed.specs.InnerReplies.{command_in}
 use Rattle.route_lines.specs.Lines.{line_of}
 use Rattle.routes_c.specs.declared.session.Session.{Session}
 

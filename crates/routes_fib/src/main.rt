@@ -3,7 +3,7 @@
 
 ghost use Rattle.std.specs.Prelude.{◌≡◌, ◌↔◌, ◌<◌, ◌^◌, ◌⊎◌, [], drop, IfErr, IfOk, IfSome, IsErrOf, IsOk};
 ghost use Rattle.std.specs.Vec.Iter.{into_iter_items};
-ghost use Rattle.route_feed.specs.Counted.{ReadFault, faults_of, inner, reads_of};
+ghost use Rattle.route_feed.specs.Counted.{ReadFault};
 ghost use Rattle.route_feed.specs.Installs.{AppendsInstalled};
 ghost use Rattle.route_lines.specs.Bytes.{lines};
 ghost use Rattle.routes_fib.specs.Ends.{MeetsUnfitLine, MeetsWantingLine};
@@ -77,13 +77,13 @@ fn install_by<R: Read, W: Write + Drop>(
     reader: &mut Counted<R>,
     output: W,
 ) -> Result<W, RunError>
-    requires reads { reads_of reader.old < 2 ^ 63 }
-    requires faults { faults_of reader.old < 2 ^ 63 }
-    ensures known { IfOk result (λ w. IfSome (R.remaining (inner reader.old)) (λ bytes. AppendsInstalled (lines bytes) (W.contents output) (W.contents w))) }
+    requires reads { reader.old.reads < 2 ^ 63 }
+    requires faults { reader.old.faults < 2 ^ 63 }
+    ensures known { IfOk result (λ w. IfSome (R.remaining reader.old.device) (λ bytes. AppendsInstalled (lines bytes) (W.contents output) (W.contents w))) }
     ensures read { IsErrOf result RunError.Read → ReadFault reader.old reader.new }
     ensures line { IsErrOf result RunError.Line → MeetsUnfitLine R.remaining reader.old reader.new }
     ensures memory { IsErrOf result RunError.Memory → (reader.new ≡ reader.old) ⊎ MeetsWantingLine R.remaining reader.old reader.new }
-    ensures read_well { (IsErrOf result RunError.Read → ⊥) → faults_of reader.new ≡ faults_of reader.old }
+    ensures read_well { (IsErrOf result RunError.Read → ⊥) → reader.new.faults ≡ reader.old.faults }
 {
     let Ok(buffered) = BufWriter::with_capacity(alloc, REPLY, output) else {
         return Err(RunError::Memory);

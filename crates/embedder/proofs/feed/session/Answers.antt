@@ -1,4 +1,5 @@
 use Rattle.std.proofs.Common.{◌≡◌, ◌∙◌, ◌⊎◌, ◌++◌, inl, inr, ⊎_elim, List, [], ◌∷◌, Bool, true, false, ℕ, Some, refl, ap, arith, decimal, codes, Vec, Global}
+use Rattle.std.specs.Prelude.{get_or}
 use Rattle.std.proofs.lemmas.Fmt.{decimal_digit, decimal_step}
 use Rattle.std.specs.Net.Reader.{read_number}
 use Rattle.ipnet_addr.specs.AddressReader.{read_ipv4, read_short}
@@ -10,7 +11,7 @@ use Rattle.ipnet.specs.declared.ip_net.IpNet.{IpNet}
 use Rattle.ipnet.specs.declared.ip_net.IpNet.TheVariants.{V4}
 use Rattle.route_choices.specs.declared.hop.Hop.TheVariants.{Number}
 use Rattle.route_laws.specs.Laws.{EmptyIsFlat, OneRouteIsChanged, OneRouteIsFlat}
-use Rattle.route_feed.specs.Output.{output, replies, first_or_false, whole_commands, at_end}
+use Rattle.route_feed.specs.Output.{output, replies, whole_commands, at_end}
 use Rattle.route_feed.specs.Replies.{printed}
 use Rattle.route_feed.specs.Steps.{change_lines}
 use Rattle.route_lines.specs.Bytes.{rest}
@@ -49,7 +50,7 @@ module _ (empty : EmptyIsFlat) (changes : OneRouteIsChanged) (flat : OneRouteIsF
   unfolding b net
   ok = record { in_width = omega arith; in_range = omega arith }
 
-  answers : (refusals : List Bool) → (refused : Bool) → first_or_false refusals ≡ refused →
+  answers : (refusals : List Bool) → (refused : Bool) → get_or refusals 0 false ≡ refused →
       (printed (replies [] (Some (C.Add net (Number 1) 100) ∷ Some C.Flat ∷ []) refusals) ≡ codes "set 10.0.0.0/8 1\nok\nflat 10.0.0.0/8 1\nok\n")
       ⊎ (printed (replies [] (Some (C.Add net (Number 1) 100) ∷ Some C.Flat ∷ []) refusals) ≡ codes "refused\nok\n")
   unfolding change_lines net b
@@ -57,7 +58,7 @@ module _ (empty : EmptyIsFlat) (changes : OneRouteIsChanged) (flat : OneRouteIsF
   answers refusals false e = inl (rw (e, changes b 1 ok (omega arith), flat b 1 ok (omega arith), ten_text, eight_text, one_text, zero_text) refl)
 
   outputs : (refusals : List Bool) → (output told refusals ≡ codes "set 10.0.0.0/8 1\nok\nflat 10.0.0.0/8 1\nok\n") ⊎ (output told refusals ≡ codes "refused\nok\n")
-  outputs refusals = rw commands (answers refusals (first_or_false refusals) refl)
+  outputs refusals = rw commands (answers refusals (get_or refusals 0 false) refl)
 
 pub returns : goal.returns
 unfolding told
