@@ -63,3 +63,14 @@ chunk_after n c t size h l = let m : (c + 1) * size ≤ t * size = mul-le-mul_ri
 
 pub chunk_from : (n c t size : ℕ) → c * size ≤ n → t ≤ c → t * size ≤ n
 chunk_from n c t size h l = let m : t * size ≤ c * size = mul-le-mul_right size l in omega arith
+
+-- all of the ranges, and none of them
+pub all_from : (rs : List HopRange) (y : ℕ) → BeginsFrom rs y (length rs)
+all_from rs y = from_end rs y (length rs) (omega arith) (omega arith)
+
+pub none_below : (rs : List HopRange) (y : ℕ) → BeginsBelow rs y 0
+none_below rs y = record { within = omega arith; below = λ k d l. absurd (omega arith) }
+
+-- an earlier bound
+pub from_sooner : (rs : List HopRange) (y z i : ℕ) → z ≤ y → BeginsFrom rs y i → BeginsFrom rs z i
+from_sooner rs y z i le b = record { within = b.within; from = λ k d l m. let f : y ≤ (get_or rs k d).first = b.from k d l m in omega arith }

@@ -1,6 +1,6 @@
 -- Ascending ranges, the index by their first bits, and the ranges of a flat list.
-use Rattle.std.specs.Prelude.{◌≡◌, ℕ, ◌-◌, ◌*◌, ◌^◌, ◌<◌, ◌≤◌, List, All, AllPairs, filter, length, map, slice_index, slice_index_or}
-use Rattle.ipnet_addr.specs.Addresses.{Family, same_family, width}
+use Rattle.std.specs.Prelude.{◌≡◌, ℕ, ◌+◌, ◌*◌, ◌<◌, ◌≤◌, List, All, AllPairs, filter, length, map, slice_index, slice_index_or}
+use Rattle.ipnet_addr.specs.Addresses.{Family, same_family}
 use Rattle.ipnet_blocks.specs.Blocks.{first, last}
 use Rattle.route_laws.specs.Flats.{Piece}
 use Rattle.hop_index.specs.Ranges.{HopRange, hop_in}
@@ -29,15 +29,11 @@ pub record BeginsFrom (rs : List HopRange) (y i : ℕ) : Type 0 where
   pub within : i ≤ length rs
   pub from : (k : ℕ) (d : HopRange) → i ≤ k → k < length rs → y ≤ (slice_index_or rs k d).first
 
--- how many numbers of a family have the same first eighteen bits
-abbrev pub chunk_size : Family → ℕ
-chunk_size f = 2 ^ (width f - 18)
-
--- for each number of eighteen bits, and the one after, how many ranges begin below the numbers that begin with it
-pub record AreStarts (f : Family) (rs : List HopRange) (starts : List ℕ) : Type 0 where
+-- for the chunks of so many numbers from a first one on, one more at the end, how many ranges begin below the numbers of each
+pub record AreStarts (first_chunk size : ℕ) (rs : List HopRange) (starts : List ℕ) : Type 0 where
   pub all : length starts ≡ 262145
-  pub below : (t : ℕ) → t < 262145 → BeginsBelow rs (t * chunk_size f) (slice_index starts t)
-  pub from : (t : ℕ) → t < 262145 → BeginsFrom rs (t * chunk_size f) (slice_index starts t)
+  pub below : (t : ℕ) → t < 262145 → BeginsBelow rs ((first_chunk + t) * size) (slice_index starts t)
+  pub from : (t : ℕ) → t < 262145 → BeginsFrom rs ((first_chunk + t) * size) (slice_index starts t)
 
 -- a piece of a flat list as a range, and those of a family
 abbrev pub range_of : Piece → HopRange

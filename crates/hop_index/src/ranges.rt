@@ -1,19 +1,16 @@
 //! Ascending ranges of addresses of one family, each with a hop, found by their first bits.
-ghost use Rattle.std.specs.Prelude.{◌≡◌, ◌+◌, ◌*◌, ◌-◌, ◌^◌, ◌<◌, ◌≤◌, ◌↔◌, ◌∷◌, ◌++◌, IfOk, IsTrue, List, OnOk};
+ghost use Rattle.std.specs.Prelude.{ℕ, ◌≡◌, ◌+◌, ◌*◌, ◌-◌, ◌^◌, ◌<◌, ◌≤◌, ◌↔◌, ◌∷◌, ◌++◌, IfOk, IsTrue, List, OnOk};
 ghost use Rattle.ipnet_addr.specs.Addresses.{width};
 ghost use Rattle.ipnet_blocks.specs.Networks.{block_of};
 ghost use Rattle.hop_index.specs.Ranges.{HopRange, hop_in};
-ghost use Rattle.hop_index.specs.InnerRanges.{AreRanges, AreStarts, BeginsBelow, BeginsFrom, Replaces, chunk_size, range_of};
+ghost use Rattle.hop_index.specs.InnerRanges.{AreRanges, AreStarts, BeginsBelow, BeginsFrom, Replaces, range_of};
 
 use ipnet::Net;
 use ipnet_addr::number::Number;
 use std::alloc::{AllocError, Global};
 use std::marker::Model;
 
-/// The index of the ranges is by the first `CHUNK_BITS` bits of an address.
-const CHUNK_BITS: u8 = 18;
-
-/// How many chunks there are, and one.
+/// How many chunks have a count, and one.
 const STARTS: usize = 262_145;
 
 /// Addresses in a row with one hop.
@@ -105,14 +102,58 @@ pub(crate) fn push<N: Number>(ranges: &mut Vec<Range<N>>, range: Range<N>) -> Re
     Ok(())
 }
 
-/// The first bits of a number, which name its chunk.
-fn chunk_of<N: Number>(number: u128) -> usize
-    requires { number < 2 ^ width N.family }
-    ensures first { result * chunk_size N.family ≤ number }
-    ensures last { number < (result + 1) * chunk_size N.family }
-    ensures within { result < 262144 }
-{
-    (number >> (N::width() - CHUNK_BITS)) as usize
+/// Numbers of addresses in chunks, which are those with the same first bits.
+pub(crate) trait Chunked: Number {
+    /// How many numbers a chunk has.
+    ghost chunk_size: { ℕ };
+
+    /// The first chunk that an index has a count for.
+    ghost first_chunk: { ℕ };
+
+    /// The chunk of a number, which its first bits name.
+    fn chunk_of(number: u128) -> usize
+        requires { number < 2 ^ width Self.family }
+        ensures first { result * chunk_size ≤ number }
+        ensures last { number < (result + 1) * chunk_size };
+
+    /// The first chunk that an index has a count for.
+    fn first_chunk() -> usize
+        ensures value { result ≡ first_chunk }
+        ensures within { result ≤ 262144 };
+}
+
+/// The chunks are of 18 bits, and all have a count.
+impl Chunked for u32 {
+    ghost chunk_size = { 2 ^ 14 };
+
+    ghost first_chunk = { 0 };
+
+    #[inline]
+    fn chunk_of(number: u128) -> usize {
+        (number >> 14) as usize
+    }
+
+    #[inline]
+    fn first_chunk() -> usize {
+        0
+    }
+}
+
+/// The chunks are of 21 bits, and those of 2000::/3, where the global unicast addresses are, have a count.
+impl Chunked for u128 {
+    ghost chunk_size = { 2 ^ 107 };
+
+    ghost first_chunk = { 262144 };
+
+    #[inline]
+    fn chunk_of(number: u128) -> usize {
+        (number >> 107) as usize
+    }
+
+    #[inline]
+    fn first_chunk() -> usize {
+        262_144
+    }
 }
 
 /// How many of the ranges begin at or below the number: at least `low`, and at most `high`.
@@ -134,15 +175,36 @@ fn begun<N: Number>(ranges: &[Range<N>], mut low: usize, mut high: usize, number
     low
 }
 
-/// How many ranges begin before each chunk, and before the end of the last one.
-fn starts<N: Number>(alloc: Global, ranges: &[Range<N>]) -> Result<Vec<u32>, AllocError>
+/// The hop of the number, where so many of the ranges begin at or below it: the last of these has it or none.
+#[inline]
+fn hop_after<N: Number>(ranges: &[Range<N>], count: usize, number: N) -> Option<u32>
+    requires ranges { AreRanges ranges.now }
+    requires below { BeginsBelow ranges.now (N.number number + 1) count }
+    requires from { BeginsFrom ranges.now (N.number number + 1) count }
+    ensures { result ≡ hop_in ranges.now (N.number number) }
+{
+    if count == 0 {
+        return None;
+    }
+    let range = &ranges[count - 1];
+    if number.to_bits() <= range.last() {
+        Some(range.hop())
+    } else {
+        None
+    }
+}
+
+/// How many ranges begin before each chunk that has a count, and before the end of the last one.
+fn starts<N: Chunked>(alloc: Global, ranges: &[Range<N>]) -> Result<Vec<u32>, AllocError>
     requires { AreRanges ranges.now }
-    ensures { IfOk result (λ starts. AreStarts N.family ranges.now starts.items) }
+    ensures { IfOk result (λ starts. AreStarts N.first_chunk N.chunk_size ranges.now starts.items) }
 {
     let mut starts = Vec::with_capacity(alloc, STARTS)?;
     let mut count = 0;
-    for chunk in 0..STARTS {
-        while count < ranges.len() && chunk_of::<N>(ranges[count].first()) < chunk {
+    let from = N::first_chunk();
+    for step in 0..STARTS {
+        let chunk = from + step;
+        while count < ranges.len() && N::chunk_of(ranges[count].first()) < chunk {
             count += 1;
         }
         let Ok(begun) = u32::try_from(count) else {
@@ -153,17 +215,33 @@ fn starts<N: Number>(alloc: Global, ranges: &[Range<N>]) -> Result<Vec<u32>, All
     Ok(starts)
 }
 
-/// Ascending ranges of addresses of one family, and for each chunk, which are the numbers with the same first bits, how
-/// many of the ranges begin before it.
+/// Two counts of the ranges, between which is how many begin at or below the number.
+#[inline]
+fn bounds<N: Chunked>(ranges: &[Range<N>], starts: &[u32], number: N) -> (usize, usize)
+    requires { AreStarts N.first_chunk N.chunk_size ranges.now starts.now }
+    ensures low { BeginsBelow ranges.now (N.number number + 1) result.0 }
+    ensures high { BeginsFrom ranges.now (N.number number + 1) result.1 }
+{
+    let chunk = N::chunk_of(number.to_bits());
+    let from = N::first_chunk();
+    if chunk < from || chunk - from >= STARTS - 1 {
+        return (0, ranges.len());
+    }
+    let place = chunk - from;
+    (starts[place] as usize, starts[place + 1] as usize)
+}
+
+/// Ascending ranges of addresses of one family, and for some chunks, which are the numbers with the same first bits, how
+/// many of the ranges begin before each.
 ///
 /// Contracts see the list of the ranges.
 #[derive(Drop)]
-pub(crate) struct Ranges<N: Number> {
+pub(crate) struct Ranges<N: Chunked> {
     ranges: Vec<Range<N>>,
     starts: Vec<u32>,
 }
 
-impl<N: Number> Model for Ranges<N> {
+impl<N: Chunked> Model for Ranges<N> {
     ghost use Rattle.std.specs.Prelude.{List};
     ghost use Rattle.hop_index.specs.Ranges.{HopRange};
     ghost use Rattle.hop_index.specs.InnerRanges.{AreRanges, AreStarts};
@@ -172,10 +250,10 @@ impl<N: Number> Model for Ranges<N> {
 
     ghost view = { λ a. a.ranges.items };
 
-    ghost invariant = { λ a. AreRanges a.ranges.items × AreStarts N.family a.ranges.items a.starts.items };
+    ghost invariant = { λ a. AreRanges a.ranges.items × AreStarts N.first_chunk N.chunk_size a.ranges.items a.starts.items };
 }
 
-impl<N: Number> Ranges<N> {
+impl<N: Chunked> Ranges<N> {
     /// The look-up table of the ranges.
     ///
     /// # Errors
@@ -192,18 +270,8 @@ impl<N: Number> Ranges<N> {
     pub(crate) fn hop(&self, number: N) -> Option<u32>
         ensures { result ≡ hop_in self.now (N.number number) }
     {
-        let chunk = chunk_of::<N>(number.to_bits());
-        let low = self.starts[chunk] as usize;
-        let high = self.starts[chunk + 1] as usize;
+        let (low, high) = bounds(&self.ranges, &self.starts, number);
         let count = begun(&self.ranges, low, high, number);
-        if count == 0 {
-            return None;
-        }
-        let range = &self.ranges[count - 1];
-        if number.to_bits() <= range.last() {
-            Some(range.hop())
-        } else {
-            None
-        }
+        hop_after(&self.ranges, count, number)
     }
 }

@@ -7,8 +7,8 @@ use std::alloc::Global;
 use std::process::Abort;
 use std::str::FromStr;
 
-/// Routes that meet, nest and leave gaps, at both ends of both families and at the ends of a chunk of the index.
-const ROUTES: [(&str, Hop); 14] = [
+/// Routes that meet, nest and leave gaps, at both ends of both families, of 2000::/3, and of a chunk of the index.
+const ROUTES: [(&str, Hop); 18] = [
     ("0.0.0.0/30", Hop::Number(1)),
     ("0.0.64.0/18", Hop::Number(2)),
     ("0.0.128.0/32", Hop::Number(2)),
@@ -19,8 +19,12 @@ const ROUTES: [(&str, Hop); 14] = [
     ("255.255.255.254/31", Hop::Number(5)),
     ("255.255.255.255/32", Hop::Number(6)),
     ("::/128", Hop::Number(7)),
+    ("1fff:ff00::/24", Hop::Number(12)),
+    ("2000::/20", Hop::Number(13)),
     ("2001:db8::/32", Hop::Number(8)),
     ("2001:db8:8000::/33", Hop::Number(9)),
+    ("3fff:f000::/20", Hop::Number(14)),
+    ("4000::/16", Hop::Number(15)),
     (
         "ffff:ffff:ffff:ffff:ffff:ffff:ffff:fffe/127",
         Hop::Number(10),
@@ -32,7 +36,7 @@ const ROUTES: [(&str, Hop); 14] = [
 ];
 
 /// Addresses with the hops that the routes give them, worked out by hand.
-const HOPS: [(&str, Option<u32>); 26] = [
+const HOPS: [(&str, Option<u32>); 36] = [
     ("0.0.0.0", Some(1)),
     ("0.0.0.3", Some(1)),
     ("0.0.0.4", None),
@@ -53,10 +57,20 @@ const HOPS: [(&str, Option<u32>); 26] = [
     ("255.255.255.255", Some(6)),
     ("::", Some(7)),
     ("::1", None),
+    ("1fff:feff:ffff:ffff:ffff:ffff:ffff:ffff", None),
+    ("1fff:ffff:ffff:ffff:ffff:ffff:ffff:ffff", Some(12)),
+    ("2000::", Some(13)),
+    ("2000:7ff:ffff:ffff:ffff:ffff:ffff:ffff", Some(13)),
+    ("2000:800::", Some(13)),
+    ("2000:1000::", None),
     ("2001:db7:ffff:ffff:ffff:ffff:ffff:ffff", None),
     ("2001:db8:7fff:ffff:ffff:ffff:ffff:ffff", Some(8)),
     ("2001:db8:8000::", Some(9)),
     ("2001:db9::", None),
+    ("3fff:efff:ffff:ffff:ffff:ffff:ffff:ffff", None),
+    ("3fff:ffff:ffff:ffff:ffff:ffff:ffff:ffff", Some(14)),
+    ("4000::", Some(15)),
+    ("4001::", None),
     ("ffff:ffff:ffff:ffff:ffff:ffff:ffff:fffe", Some(10)),
     ("ffff:ffff:ffff:ffff:ffff:ffff:ffff:ffff", Some(11)),
 ];
@@ -67,12 +81,12 @@ pub(crate) fn address(rt: &impl Abort, text: &str) -> IpAddr {
 
 /// Each address has its hop, asked for alone and with the others.
 fn hops_are(rt: &impl Abort, index: &HopIndex) {
-    let mut addrs = [address(rt, "::"); 26];
+    let mut addrs = [address(rt, "::"); 36];
     for (place, (text, hop)) in HOPS.iter().enumerate() {
         addrs[place] = address(rt, text);
         assert_eq!(rt; index.hop(addrs[place]), *hop);
     }
-    let mut hops = [None; 26];
+    let mut hops = [None; 36];
     index.hops(&addrs, &mut hops);
     for (place, (_, hop)) in HOPS.iter().enumerate() {
         assert_eq!(rt; hops[place], *hop);
