@@ -418,16 +418,68 @@ static void answered(routes_table *t) {
 
 static uint32_t follow(routes_follower *f, const char *line) { return routes_follower_line(f, (const uint8_t *)line, strlen(line)); }
 
+static uint32_t told(routes_follower *f, int family, number addr, uint32_t *hop) {
+    return family == 4 ? routes_follower_get4(f, (uint32_t)addr, hop) : routes_follower_get6(f, (uint64_t)(addr >> 64), (uint64_t)addr, hop);
+}
+
+/* The follower tells the hop that the model has, at some addresses; at none the number stays. */
+static void tells_hops(routes_follower *f) {
+    for (int i = 0; i < 500; i++) {
+        const struct kept *k = count ? &kept[drawn() % count] : NULL;
+        int family = k ? k->family : 4;
+        number addr = masked(family, (k ? k->addr : 0) ^ (drawn() & 0xff), width(family));
+        uint64_t wanted = hop_of(match(family, addr, 128));
+        uint32_t hop = 77, code = told(f, family, addr, &hop);
+        CHECK(code == (wanted == ROUTES_DROP ? ROUTES_MISSING : ROUTES_OK) && hop == (wanted == ROUTES_DROP ? 77 : wanted));
+    }
+}
+
+/* Its least table is as long as the table's, and has the hops of the model; the list is read one by one and in parts. */
+static void tells_least(routes_table *t, routes_follower *f) {
+    static routes_route whole[MOST], part[MOST];
+    routes_route r;
+    size_t length = 0, from = 0, got;
+    CHECK(routes_least(t) == ROUTES_OK && routes_follower_least(f) == ROUTES_OK);
+    for (; routes_follower_route_at(f, length, &r) == ROUTES_OK && length < MOST; length++) whole[length] = r;
+    CHECK(length == routes_read(t, 0, part, MOST));
+    for (memset(part, 0, sizeof part); (got = routes_follower_read(f, from, part + from, 7)) > 0 && from + got <= length; from += got) {}
+    CHECK(from == length && got == 0 && memcmp(whole, part, length * sizeof *whole) == 0);
+    for (int i = 0; i < 200 && count; i++) {
+        const struct kept *k = &kept[drawn() % count];
+        const routes_route *best = NULL;
+        for (const routes_route *s = whole; s < whole + length; s++)
+            if (s->family == k->family && masked(k->family, k->addr, s->len) == joined(s->high, s->low) && (!best || best->len < s->len)) best = s;
+        CHECK(hop_of(match(k->family, k->addr, 128)) == (best ? best->hop : ROUTES_DROP) && (!best || best->pref == ROUTES_PREFERENCE));
+    }
+}
+
+/* After a fault it tells and makes nothing, and what it made before can be read; a closed one has nothing. */
+static void tells_nothing(routes_follower *f, uint32_t code) {
+    routes_route r, mark;
+    uint32_t hop = 77;
+    memset(&mark, 0x5a, sizeof mark);
+    r = mark;
+    CHECK(routes_follower_get4(f, 1, &hop) == code && routes_follower_get6(f, 1, 1, &hop) == code && hop == 77);
+    CHECK(routes_follower_flat(f) == code && routes_follower_least(f) == code);
+    if (code == ROUTES_CLOSED)
+        CHECK(routes_follower_route_at(f, 0, &r) == code && routes_follower_read(f, 0, &r, 1) == 0 && memcmp(&r, &mark, sizeof r) == 0);
+    else
+        CHECK(routes_follower_route_at(f, 0, &r) == ROUTES_OK && routes_follower_read(f, 0, &mark, 1) == 1 && memcmp(&r, &mark, sizeof r) == 0);
+}
+
 /* A follower that has the lines of the flat list as its changes has the hops of the table; a change waits for `ok`. */
 static void followed(routes_table *t) {
     routes_follower f = ROUTES_FOLLOWER;
     routes_index index = ROUTES_INDEX;
     routes_piece p, q;
+    routes_route none;
     char line[80], out[80];
     size_t pieces = 0;
+    memset(&none, 0x5a, sizeof none);
     memset(&p, 0x5a, sizeof p);
     q = p;
-    CHECK(follow(&f, "ok") == ROUTES_CLOSED && routes_follower_flat(&f) == ROUTES_CLOSED && routes_follower_piece_at(&f, 0, &p) == ROUTES_CLOSED);
+    CHECK(follow(&f, "ok") == ROUTES_CLOSED && routes_follower_piece_at(&f, 0, &p) == ROUTES_CLOSED);
+    tells_nothing(&f, ROUTES_CLOSED);
     CHECK(routes_follower_index(&index, &f) == ROUTES_CLOSED && !index.is_open && memcmp(&p, &q, sizeof p) == 0);
     CHECK(routes_follower_open(&f) == ROUTES_OK && routes_follower_open(&f) == ROUTES_OPEN);
     CHECK(routes_flat(t) == ROUTES_OK && routes_line(t, (const uint8_t *)"flat", 4) == ROUTES_OK);
@@ -440,6 +492,7 @@ static void followed(routes_table *t) {
         CHECK(follow(&f, line) == ROUTES_OK);
     }
     CHECK(routes_follower_flat(&f) == ROUTES_OK && routes_follower_piece_at(&f, 0, &p) == ROUTES_MISSING);
+    CHECK(routes_follower_least(&f) == ROUTES_OK && routes_follower_read(&f, 0, &none, 1) == 0 && routes_follower_route_at(&f, 0, &none) == ROUTES_MISSING);
     CHECK(follow(&f, "ok") == ROUTES_OK && routes_follower_flat(&f) == ROUTES_OK && routes_follower_index(&index, &f) == ROUTES_OK);
     for (size_t i = 0; i < pieces; i++) {
         CHECK(routes_piece_at(t, i, &p) == ROUTES_OK && routes_follower_piece_at(&f, i, &q) == ROUTES_OK);
@@ -447,9 +500,12 @@ static void followed(routes_table *t) {
     }
     CHECK(routes_follower_piece_at(&f, pieces, &q) == ROUTES_MISSING);
     has_hops(&index);
+    tells_hops(&f);
+    tells_least(t, &f);
     CHECK(routes_follower_index(&index, &f) == ROUTES_OPEN);
     routes_index_close(&index);
-    CHECK(follow(&f, "no line") == ROUTES_NOT_A_LINE && follow(&f, "ok") == ROUTES_FAILED && routes_follower_flat(&f) == ROUTES_FAILED);
+    CHECK(follow(&f, "no line") == ROUTES_NOT_A_LINE && follow(&f, "ok") == ROUTES_FAILED);
+    tells_nothing(&f, ROUTES_FAILED);
     CHECK(routes_follower_index(&index, &f) == ROUTES_FAILED && !index.is_open);
     routes_follower_close(&f);
     CHECK(f.at == NULL && !f.is_open);

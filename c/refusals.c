@@ -115,6 +115,21 @@ static uint32_t followed(routes_follower *f) {
     return code;
 }
 
+/* A follower's list of routes: where there is no memory it is as it was, and the next try makes it. Look-ups ask for none. */
+static void least_of(routes_follower *f) {
+    routes_route r = {0, 0, 0, 0, 0, 0};
+    uint32_t hop = 77;
+    long before = asked;
+    WANT(routes_follower_get4(f, 0x0a100000, &hop) == ROUTES_OK && hop == 1 && routes_follower_get4(f, 0x0a010000, &hop) == ROUTES_MISSING && hop == 1);
+    WANT(asked == before);
+    if (routes_follower_least(f) == ROUTES_NO_MEMORY) {
+        refused++;
+        WANT(routes_follower_route_at(f, 0, &r) == ROUTES_MISSING && routes_follower_least(f) == ROUTES_OK);
+    }
+    WANT(routes_follower_read(f, 0, &r, 1) == 1 && r.hop == 1 && r.low == 0x0a000000 && r.len == 8 && routes_follower_read(f, 1, &r, 1) == 1);
+    WANT(r.hop == ROUTES_DROP && r.low == 0x0a000000 && r.len == 12 && routes_follower_read(f, 2, &r, 1) == 0);
+}
+
 /* A follower: a line without memory is a fault; a list and an index are tried again. */
 static void told_of(void) {
     routes_follower f = ROUTES_FOLLOWER;
@@ -136,6 +151,7 @@ static void told_of(void) {
         WANT(routes_follower_piece_at(&f, 0, &p) == ROUTES_MISSING && routes_follower_flat(&f) == ROUTES_OK);
     }
     WANT(routes_follower_piece_at(&f, 0, &p) == ROUTES_OK && p.hop == 1 && p.low == 0x0a100000 && p.len == 12);
+    least_of(&f);
     if (routes_follower_index(&index, &f) == ROUTES_NO_MEMORY) {
         refused++;
         WANT(!index.is_open && routes_follower_index(&index, &f) == ROUTES_OK);

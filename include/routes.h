@@ -8,10 +8,10 @@
  *      a follower, a routes_follower.
  *   2. Every other pointer has room for what it points to, also where the answer leaves that alone, and what it points to
  *      has been given a value. No two pointers of a call overlap. No pointer is null, also where a length is 0.
- *   3. One call at a time is made on a table, an index or a follower, look-ups too, and it stays on the thread that opened it. Other
- *      threads may have some of their own at the same time.
- *   4. malloc, realloc and free are those of one allocator, and no call is made in a signal handler, or in the forked child of a
- *      process with threads.
+ *   3. One call at a time is made on a table, an index or a follower, look-ups too. Any thread may make it, if the call before has
+ *      returned and its thread has told the other so, as by a mutex, a queue or pthread_join. Calls on others may run at the same time.
+ *   4. malloc, realloc and free are those of one allocator, on all threads: one may give back what another was given, as those of the
+ *      C library do. No call is made in a signal handler, or in the forked child of a process with threads.
  *
  * Numbers are in the order of the host: an IPv4 address is ntohl(in_addr.s_addr); an IPv6 address is two numbers, its upper and
  * its lower half, which routes_half reads from the 16 bytes of an in6_addr. Where a call takes a network, the bits of the address
@@ -33,7 +33,7 @@ extern "C" {
 /* What a call that can fail answers. */
 enum routes_answer {
     ROUTES_OK = 0,
-    ROUTES_MISSING = 1,   /* no network contains the address; the network has no such hop; the index is past the end */
+    ROUTES_MISSING = 1,   /* no network contains the address, or it has no hop; the network has no such hop; the index is past the end */
     ROUTES_NO_MEMORY = 2, /* malloc or realloc gave none */
     ROUTES_CLOSED = 3,    /* the table, the index or the follower is not open */
     ROUTES_OPEN = 4,      /* it is open already */
@@ -221,13 +221,30 @@ void routes_follower_close(routes_follower *follower);
 
 /* Takes a reply line, given without its line end. ROUTES_OK; ROUTES_NO_MEMORY where there is none for a change, to keep it or to carry
  * it out; ROUTES_NOT_A_LINE; ROUTES_FAILED; or ROUTES_CLOSED. ROUTES_NO_MEMORY and ROUTES_NOT_A_LINE are faults: after one the follower
- * takes no more lines, and gives neither a list nor an index, until it is closed and opened. */
+ * takes no more lines, and tells no hop and makes neither a list nor an index, until it is closed and opened. What it made before
+ * can still be read. */
 uint32_t routes_follower_line(routes_follower *follower, const uint8_t *line, size_t len);
+
+/* The hop of an address: a number. They take no memory. ROUTES_OK and the hop; ROUTES_MISSING where the address has none; ROUTES_FAILED;
+ * or ROUTES_CLOSED. An index of the follower is faster, for many look-ups between changes. */
+uint32_t routes_follower_get4(routes_follower *follower, uint32_t addr, uint32_t *hop);
+uint32_t routes_follower_get6(routes_follower *follower, uint64_t high, uint64_t low, uint32_t *hop);
 
 /* Makes the flat list of the hops, in the follower's memory, as routes_flat does, and the block at an index of it. ROUTES_OK;
  * ROUTES_NO_MEMORY, ROUTES_FAILED or ROUTES_CLOSED; ROUTES_MISSING past the end. */
 uint32_t routes_follower_flat(routes_follower *follower);
 uint32_t routes_follower_piece_at(routes_follower *follower, size_t index, routes_piece *piece);
+
+/* Makes the list of the routes of a table with the same hop at every address, and no table that has it has fewer, in the follower's
+ * memory, as routes_least does. It stays until the next routes_follower_least. ROUTES_OK, ROUTES_NO_MEMORY, ROUTES_FAILED or
+ * ROUTES_CLOSED. The list is empty before the first. */
+uint32_t routes_follower_least(routes_follower *follower);
+
+/* The route at an index of that list. ROUTES_OK; ROUTES_MISSING past its end; or ROUTES_CLOSED. */
+uint32_t routes_follower_route_at(routes_follower *follower, size_t index, routes_route *route);
+
+/* Copies that list from index `from` on, as routes_read does: 0 at the end, and for a closed follower. */
+size_t routes_follower_read(routes_follower *follower, size_t from, routes_route *routes, size_t room);
 
 /* Opens a closed index, with the hops that the follower has now: a copy, which no later line reaches. ROUTES_OK; ROUTES_NO_MEMORY;
  * ROUTES_CLOSED, where the follower is not open; ROUTES_FAILED; or ROUTES_OPEN, where the index is. */

@@ -30,9 +30,9 @@ import os
 import struct
 import threading
 from ctypes import POINTER, c_bool, c_char, c_char_p, c_size_t, c_uint8, c_uint16, c_uint32, c_uint64, c_void_p
-from typing import Final, Iterable, Literal, NamedTuple, Optional, Union
+from typing import Final, Iterable, Literal, NamedTuple, Optional, TypeVar, Union
 
-__all__ = ["Change", "Count", "DROP", "Full", "Index", "PREFERENCE", "Piece", "Route", "Table"]
+__all__ = ["Change", "Count", "DROP", "Failed", "Follower", "Full", "Index", "PREFERENCE", "Piece", "Route", "Table"]
 
 DROP: Final = "drop"
 """The hop of a null route: its addresses have no hop."""
@@ -78,7 +78,75 @@ class Full(Exception):
     """The network has routes by eight other hops."""
 
 
-class Table:
+class Failed(Exception):
+    """The follower had a fault before."""
+
+
+class _Handle:
+    """What the library opens and closes, and the thread that may call it."""
+
+    _name = ""  # what the names of the library's calls begin with
+    _raw: ctypes.Structure
+
+    def __init__(self) -> None:
+        self._thread = threading.get_ident()
+
+    def __enter__(self: _H) -> _H:
+        return self
+
+    def __exit__(self, *_: object) -> None:
+        self.close()
+
+    def close(self) -> None:
+        """Gives the memory back. What is closed stays closed."""
+        self._own()
+        self._close()
+
+    def __del__(self) -> None:
+        self._close()  # whichever thread does this is the last that has it
+
+    def _close(self) -> None:
+        getattr(_library, f"routes_{self._name}close")(self._raw)
+
+    def _own(self) -> ctypes.Structure:
+        """The handle of the library, for its thread."""
+        if threading.get_ident() != self._thread:
+            raise RuntimeError(f"this {type(self).__name__} stays on the thread that made it")
+        return self._raw
+
+    def _call(self, name: str, addr: Address, *rest: object) -> bool:
+        """Calls the function of this name for the address's family."""
+        number = int(addr)
+        halves = (number,) if addr.version == 4 else (number >> 64, number & (1 << 64) - 1)
+        return _is_found(getattr(_library, f"routes_{self._name}{name}{addr.version}")(self._own(), *halves, *rest))
+
+    def _pieces(self) -> list[Piece]:
+        """The flat list, made and read."""
+        _is_found(getattr(_library, f"routes_{self._name}flat")(self._own()))
+        pieces: list[Piece] = []
+        piece = _Piece()
+        while _is_found(getattr(_library, f"routes_{self._name}piece_at")(self._raw, len(pieces), piece)):
+            pieces.append(Piece(_net(piece), piece.hop))
+        return pieces
+
+    def _read(self) -> list[Route]:
+        """The list of routes that was made last."""
+        routes: list[Route] = []
+        part = (_Route * 1024)()
+        while count := getattr(_library, f"routes_{self._name}read")(self._raw, len(routes), part, len(part)):
+            routes.extend(map(_route, part[:count]))
+        return routes
+
+    def _least(self) -> list[Route]:
+        """A least table, made and read."""
+        _is_found(getattr(_library, f"routes_{self._name}least")(self._own()))
+        return self._read()
+
+
+_H = TypeVar("_H", bound=_Handle)
+
+
+class Table(_Handle):
     """A route table: a context manager, which closes it.
 
     A network has up to eight routes, each by another hop, a number below 2**32 or DROP. Its best route is that of the greatest
@@ -90,28 +158,14 @@ class Table:
     """
 
     def __init__(self) -> None:
-        self._thread = threading.get_ident()
+        super().__init__()
         self._raw = _Table()
         _is_found(_library.routes_open(self._raw))
-
-    def __enter__(self) -> Table:
-        return self
-
-    def __exit__(self, *_: object) -> None:
-        self.close()
-
-    def close(self) -> None:
-        """Gives the memory of the table back. A closed table stays closed."""
-        _library.routes_close(self._own())
-
-    def __del__(self) -> None:
-        if threading.get_ident() == self._thread:
-            self.close()
 
     def get(self, addr: Address | str) -> Route | None:
         """The best route of the longest stored network that contains the address."""
         route = _Route()
-        if self._call("routes_get", _address(addr), route):
+        if self._call("get", _address(addr), route):
             return _route(route)
         return None
 
@@ -135,40 +189,35 @@ class Table:
         """
         if not 0 <= preference < 1 << 16:
             raise ValueError(f"{preference!r} is no preference")
-        return self._change("routes_add", net, hop, preference)
+        return self._change("add", net, hop, preference)
 
     def remove(self, net: Net | str, hop: Hop) -> Change:
         """Takes the network's route by this hop out. Raises KeyError where there is none."""
-        return self._change("routes_del", net, hop)
+        return self._change("del", net, hop)
 
     def flat(self) -> list[Piece]:
         """The fewest blocks with one hop each that hold all addresses with a hop, in ascending order."""
-        _is_found(_library.routes_flat(self._own()))
-        pieces: list[Piece] = []
-        piece = _Piece()
-        while _is_found(_library.routes_piece_at(self._raw, len(pieces), piece)):
-            pieces.append(Piece(_net(piece), piece.hop))
-        return pieces
+        return self._pieces()
 
     def inside(self, net: Net | str) -> list[Route]:
         """The best routes of the stored networks inside this one, itself included, in ascending order."""
-        return self._list("routes_list", net)
+        return self._list("list", net)
 
     def cover(self, net: Net | str) -> list[Route]:
         """The best routes of the stored networks that contain this one, itself included, the shortest first."""
-        return self._list("routes_cover", net)
+        return self._list("cover", net)
 
     def page_from(self, net: Net | str, limit: int) -> list[Route]:
         """The best routes of the family's stored networks from this one on, in ascending order, `limit` of them at most."""
-        return self._list("routes_from", net, _limit(limit))
+        return self._list("from", net, _limit(limit))
 
     def page_after(self, net: Net | str, limit: int) -> list[Route]:
         """The same of those that come after this network, which need not be stored: the page after one that ends with it."""
-        return self._list("routes_after", net, _limit(limit))
+        return self._list("after", net, _limit(limit))
 
     def all(self, net: Net | str) -> list[Route]:
         """All routes of exactly this network, the best first."""
-        return self._list("routes_all", net)
+        return self._list("all", net)
 
     def governed(self, net: Net | str) -> list[Route]:
         """The maximal blocks of the addresses that the network governs, each with the hop that they have, DROP for none.
@@ -176,7 +225,7 @@ class Table:
         It governs those of its addresses that lie in no stored network strictly inside it. After a change of the network they are
         the addresses whose hop changed, where the change tells two hops.
         """
-        return self._list("routes_governed", net)
+        return self._list("governed", net)
 
     def own(self, hop: int) -> list[Route]:
         """The blocks that `flat` gives this hop, in ascending order."""
@@ -185,8 +234,7 @@ class Table:
 
     def least(self) -> list[Route]:
         """The routes of a table with the same hop at each address, and no such table has fewer."""
-        _is_found(_library.routes_least(self._own()))
-        return self._read()
+        return self._least()
 
     def line(self, line: str | bytes) -> str:
         """The reply of `routes lead` to a line of its input, which is given without its line end.
@@ -216,51 +264,21 @@ class Table:
         self._call(name, net.network_address, net.prefixlen, *limit)
         return self._read()
 
-    def _read(self) -> list[Route]:
-        """The list of routes that was made last."""
-        routes: list[Route] = []
-        part = (_Route * 1024)()
-        while count := _library.routes_read(self._raw, len(routes), part, len(part)):
-            routes.extend(map(_route, part[:count]))
-        return routes
 
-    def _call(self, name: str, addr: Address, *rest: object) -> bool:
-        """Calls the function of this name for the address's family."""
-        number = int(addr)
-        halves = (number,) if addr.version == 4 else (number >> 64, number & (1 << 64) - 1)
-        return _is_found(getattr(_library, f"{name}{addr.version}")(self._own(), *halves, *rest))
+class Index(_Handle):
+    """The hop of each address, as a table or a follower had it when the index was made: a copy, which no later change or line reaches.
 
-    def _own(self) -> _Table:
-        """The table of the library, for its thread."""
-        if threading.get_ident() != self._thread:
-            raise RuntimeError("a table stays on the thread that made it")
-        return self._raw
-
-
-class Index:
-    """The hop of each address, as a table had it when the index was made: a copy, which no later change of the table reaches.
-
-    It is a context manager, which closes it, and faster than the table. Calls raise as those of a table do.
+    It is a context manager, which closes it, and faster than the table. Calls raise as those of a table do, and of a follower that
+    failed none is made.
     """
 
-    def __init__(self, table: Table) -> None:
-        self._thread = threading.get_ident()
+    _name = "index_"
+
+    def __init__(self, source: Table | Follower) -> None:
+        super().__init__()
         self._raw = _Index()
-        _is_found(_library.routes_index_open(self._raw, table._own()))
-
-    def __enter__(self) -> Index:
-        return self
-
-    def __exit__(self, *_: object) -> None:
-        self.close()
-
-    def close(self) -> None:
-        """Gives the memory of the index back. A closed index stays closed."""
-        _library.routes_index_close(self._own())
-
-    def __del__(self) -> None:
-        if threading.get_ident() == self._thread:
-            self.close()
+        opens = _library.routes_follower_index if isinstance(source, Follower) else _library.routes_index_open
+        _is_found(opens(self._raw, source._own()))
 
     def hop(self, addr: Address | str) -> int | None:
         """The hop of the address, None where it had no route, or a null route."""
@@ -270,11 +288,48 @@ class Index:
         """The hops of the addresses, which may be bytes, too, as those of a table's `hops`: in two calls of the library at most."""
         return list(map(_number, _many("routes_index_hop{}_many", self._own(), addrs)))
 
-    def _own(self) -> _Index:
-        """The index of the library, for its thread."""
-        if threading.get_ident() != self._thread:
-            raise RuntimeError("an index stays on the thread that made it")
-        return self._raw
+
+class Follower(_Handle):
+    """The hops that the reply lines of a leader tell, `routes lead` or the `line` of a table: a context manager, which closes it.
+
+    `set` and `unset` lines wait; `ok` carries those that wait out, in order, and `none`, `bad` and `refused` drop them. All other lines
+    of a reply change nothing. After a fault, which is a text that is no reply line or a want of memory at a line, every call but `close`
+    raises Failed; a new follower begins anew. Else calls raise as those of a table do.
+
+    >>> with Table() as leader, Follower() as follower:
+    ...     for line in leader.line("add 10.0.0.0/8 1").splitlines():
+    ...         follower.line(line)
+    ...     follower.hop("10.2.3.4")
+    1
+    """
+
+    _name = "follower_"
+
+    def __init__(self) -> None:
+        super().__init__()
+        self._raw = _Follower()
+        _is_found(_library.routes_follower_open(self._raw))
+
+    def line(self, line: str | bytes) -> None:
+        """Takes a line of a reply, which is given without its line end.
+
+        Raises ValueError where it is no reply line, and MemoryError where there is no memory for a change: both are faults.
+        """
+        line = line.encode() if isinstance(line, str) else line
+        _is_found(_library.routes_follower_line(self._own(), line, len(line)))
+
+    def hop(self, addr: Address | str) -> int | None:
+        """The hop of the address, None where it has none."""
+        hop = c_uint32()
+        return hop.value if self._call("get", _address(addr), hop) else None
+
+    def flat(self) -> list[Piece]:
+        """The fewest blocks with one hop each that hold all addresses with a hop, in ascending order."""
+        return self._pieces()
+
+    def least(self) -> list[Route]:
+        """The routes of a table with the same hop at each address, and no such table has fewer."""
+        return self._least()
 
 
 _DROP = 1 << 32
@@ -286,6 +341,10 @@ class _Table(ctypes.Structure):
 
 
 class _Index(ctypes.Structure):
+    _fields_ = [("at", c_void_p), ("is_open", c_bool)]
+
+
+class _Follower(ctypes.Structure):
     _fields_ = [("at", c_void_p), ("is_open", c_bool)]
 
 
@@ -312,6 +371,7 @@ def _load() -> ctypes.PyDLL:
     table, route, change, piece = POINTER(_Table), POINTER(_Route), POINTER(_Change), POINTER(_Piece)
     index, addrs4, addrs6, hops, size = POINTER(_Index), POINTER(c_uint32), POINTER(_Addr6), POINTER(c_uint64), POINTER(c_size_t)
     net4, net6 = (c_uint32, c_uint8), (c_uint64, c_uint64, c_uint8)
+    follower, hop = POINTER(_Follower), POINTER(c_uint32)
     for name, result, *arguments in (
         ("open", c_uint32, table),
         ("close", None, table),
@@ -337,6 +397,16 @@ def _load() -> ctypes.PyDLL:
         ("index_close", None, index),
         ("index_hop4_many", c_uint32, index, addrs4, c_size_t, hops, c_size_t),
         ("index_hop6_many", c_uint32, index, addrs6, c_size_t, hops, c_size_t),
+        ("follower_open", c_uint32, follower),
+        ("follower_close", None, follower),
+        ("follower_line", c_uint32, follower, c_char_p, c_size_t),
+        ("follower_get4", c_uint32, follower, c_uint32, hop),
+        ("follower_get6", c_uint32, follower, c_uint64, c_uint64, hop),
+        ("follower_flat", c_uint32, follower),
+        ("follower_piece_at", c_uint32, follower, c_size_t, piece),
+        ("follower_least", c_uint32, follower),
+        ("follower_read", c_size_t, follower, c_size_t, route, c_size_t),
+        ("follower_index", c_uint32, index, follower),
         ("line", c_uint32, table, c_char_p, c_size_t),
         ("reply", c_size_t, table, c_size_t, POINTER(c_char), c_size_t),
     ):
@@ -353,11 +423,15 @@ def _is_found(answer: int) -> bool:
     if answer in (0, 1):
         return answer == 0
     if answer == 2:
-        raise MemoryError("there is no memory for the table")
+        raise MemoryError("there is no memory")
     if answer == 3:
-        raise ValueError("the table or the index is closed")
+        raise ValueError("the table, the index or the follower is closed")
     if answer == 5:
         raise Full("the network has routes by eight other hops")
+    if answer == 7:
+        raise ValueError("this is no reply line")
+    if answer == 8:
+        raise Failed("the follower had a fault before")
     raise AssertionError(f"the library answered {answer}, which its header does not allow here")
 
 

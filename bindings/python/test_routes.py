@@ -8,7 +8,7 @@ from concurrent.futures import ThreadPoolExecutor
 from pathlib import Path
 
 import routes
-from routes import DROP, PREFERENCE, Change, Count, Full, Index, Piece, Route, Table
+from routes import DROP, PREFERENCE, Change, Count, Failed, Follower, Full, Index, Piece, Route, Table
 
 EXAMPLES = Path(__file__).resolve().parents[2] / "examples"
 # The random turns change these two networks, of 16 addresses each, and networks inside them.
@@ -214,6 +214,63 @@ class Lines(unittest.TestCase):
             self.assertEqual(table.line("list 0.0.0.0/0"), routes + "ok\n")
 
 
+def follow(table, follower, line):
+    """A command line for the table, and its reply for the follower."""
+    for told in table.line(line).splitlines():
+        follower.line(told)
+
+
+class Followers(unittest.TestCase):
+    def test_random_turns(self):
+        draw = random.Random(8)
+        with Table() as table, Follower() as follower:
+            for turn in range(1500):
+                net = draw.choice(list(draw.choice(ROOTS).subnets(draw.randrange(5))))
+                word = "add" if draw.random() < (0.8 if turn % 500 < 300 else 0.2) else "del"
+                follow(table, follower, f"{word} {net} {draw.choice([DROP, *range(4)])}")
+                if turn % 10 == 0:
+                    self.compare(table, follower)
+
+    def compare(self, table, follower):
+        """A follower has the hops of its leader."""
+        addrs = [addr for root in ROOTS for addr in root]
+        with Index(table) as index, Index(follower) as copy:
+            hops = index.hops(addrs)
+            self.assertEqual(copy.hops(addrs), hops)
+        self.assertEqual([follower.hop(addr) for addr in addrs], hops)
+        self.assertEqual(follower.flat(), table.flat())
+        with Table() as made:
+            for route in follower.least():
+                made.add(*route)
+            self.assertEqual(made.flat(), table.flat())
+            self.assertEqual(sum(made.count()), len(table.least()))
+
+    def test_a_change_waits(self):
+        with Follower() as follower:
+            for line in ("set 10.0.0.0/8 1", "refused", "set 10.0.0.0/9 2"):
+                follower.line(line)
+                self.assertIsNone(follower.hop("10.0.0.0"))
+            follower.line(b"ok")
+            self.assertEqual((follower.hop("10.0.0.0"), follower.hop("10.128.0.0")), (2, None))
+            self.assertEqual(follower.least(), [Route(ipaddress.ip_network("10.0.0.0/9"), 2, PREFERENCE)])
+
+    def test_a_fault(self):
+        with Follower() as follower:
+            with self.assertRaisesRegex(ValueError, "reply line"):
+                follower.line("ok\n")
+            for call in (lambda: follower.line("ok"), lambda: follower.hop("::"), follower.flat, follower.least, lambda: Index(follower)):
+                with self.assertRaises(Failed):
+                    call()
+
+    def test_a_closed_follower(self):
+        follower = Follower()
+        follower.close()
+        follower.close()
+        for call in (lambda: follower.line("ok"), lambda: follower.hop("::"), follower.flat, follower.least, lambda: Index(follower)):
+            with self.assertRaisesRegex(ValueError, "closed"):
+                call()
+
+
 class Rules(unittest.TestCase):
     def test_arguments_out_of_range(self):
         with Table() as table:
@@ -255,10 +312,17 @@ class Rules(unittest.TestCase):
                     table.page_from("::/0", limit)
 
     def test_a_table_stays_on_its_thread(self):
-        with Table() as table, ThreadPoolExecutor(1) as other:
-            for call in (table.flat, table.close):
+        with Table() as table, Follower() as follower, Index(table) as index, ThreadPoolExecutor(1) as other:
+            for call in (table.flat, table.close, follower.flat, follower.close, index.close, lambda: index.hop("::")):
                 with self.assertRaisesRegex(RuntimeError, "thread"):
                     other.submit(call).result()
+
+    def test_another_thread_may_be_the_last(self):
+        """Then it gives the memory back, as whoever has a table last does."""
+        tables = [Table() for _ in range(3)]
+        with ThreadPoolExecutor(1) as other:
+            other.submit(tables.clear).result()
+        self.assertEqual(tables, [])
 
 
 def load_tests(_loader, tests, _pattern):

@@ -1,7 +1,7 @@
 use std::error;
 use std::fmt;
 
-/// Why a table did not do what it was asked.
+/// Why a table or a follower did not do what it was asked.
 #[derive(Clone, Copy, Debug, PartialEq, Eq)]
 #[non_exhaustive]
 pub enum Error {
@@ -9,6 +9,10 @@ pub enum Error {
     NoMemory,
     /// The network has routes by eight other hops.
     Full,
+    /// The text is no reply line of `routes lead`.
+    NotALine,
+    /// The follower had a fault before.
+    Failed,
 }
 
 impl fmt::Display for Error {
@@ -16,6 +20,8 @@ impl fmt::Display for Error {
         f.write_str(match self {
             Error::NoMemory => "there is no memory",
             Error::Full => "the network has routes by eight other hops",
+            Error::NotALine => "this is no reply line",
+            Error::Failed => "the follower had a fault before",
         })
     }
 }

@@ -8,11 +8,14 @@ use std::net::IpAddr;
 /// The hop of each address, as a table had it when the index was made: a copy, which no later change
 /// of the table reaches. Its look-ups are faster than the table's.
 ///
-/// An index stays on its thread, as a table does.
+/// An index is `Send` and not `Sync`, as a table is.
 pub struct Index {
     /// As that of a table.
     raw: Box<UnsafeCell<raw::Index>>,
 }
+
+// SAFETY: as of a table.
+unsafe impl Send for Index {}
 
 impl Index {
     /// The hops that the table has now.
@@ -20,10 +23,15 @@ impl Index {
     /// # Errors
     /// `NoMemory`.
     pub fn new(table: &Table) -> Result<Index, Error> {
+        // SAFETY: the index is closed, and ours alone; the table is as its `raw` says.
+        Index::opened(|index| unsafe { raw::routes_index_open(index, table.raw.get()) })
+    }
+
+    /// What a call makes of a closed index.
+    pub(crate) fn opened(open: impl FnOnce(*mut raw::Index) -> u32) -> Result<Index, Error> {
         let raw = Box::new(UnsafeCell::new(raw::Index::CLOSED));
         let index = Index { raw };
-        // SAFETY: the index is closed, and ours alone; the table is as its `raw` says.
-        check(unsafe { raw::routes_index_open(index.raw.get(), table.raw.get()) })?;
+        check(open(index.raw.get()))?;
         Ok(index)
     }
 

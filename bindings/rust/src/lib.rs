@@ -21,7 +21,9 @@
 #![warn(missing_docs)]
 
 mod error;
+mod follower;
 mod index;
+mod lists;
 mod many;
 mod net;
 mod raw;
@@ -29,6 +31,7 @@ mod route;
 mod table;
 
 pub use error::{Error, ParseNetError};
+pub use follower::Follower;
 pub use index::Index;
 pub use net::Net;
 pub use route::{Change, Count, Hop, Piece, Route, PREFERENCE};

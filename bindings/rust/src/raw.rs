@@ -6,6 +6,8 @@ pub const OK: u32 = 0;
 pub const MISSING: u32 = 1;
 pub const NO_MEMORY: u32 = 2;
 pub const FULL: u32 = 5;
+pub const NOT_A_LINE: u32 = 7;
+pub const FAILED: u32 = 8;
 
 pub const DROP: u64 = 1 << 32;
 pub const NO_MATCH: u64 = 1 << 33;
@@ -31,6 +33,19 @@ pub struct Index {
 
 impl Index {
     pub const CLOSED: Index = Index {
+        at: null_mut(),
+        is_open: false,
+    };
+}
+
+#[repr(C)]
+pub struct Follower {
+    at: *mut u8,
+    is_open: bool,
+}
+
+impl Follower {
+    pub const CLOSED: Follower = Follower {
         at: null_mut(),
         is_open: false,
     };
@@ -153,6 +168,26 @@ extern "C" {
         hops: *mut u64,
         room: usize,
     ) -> u32;
+    pub fn routes_follower_open(follower: *mut Follower) -> u32;
+    pub fn routes_follower_close(follower: *mut Follower);
+    pub fn routes_follower_line(follower: *mut Follower, line: *const u8, len: usize) -> u32;
+    pub fn routes_follower_get4(follower: *mut Follower, addr: u32, hop: *mut u32) -> u32;
+    pub fn routes_follower_get6(follower: *mut Follower, high: u64, low: u64, hop: *mut u32)
+        -> u32;
+    pub fn routes_follower_flat(follower: *mut Follower) -> u32;
+    pub fn routes_follower_piece_at(
+        follower: *mut Follower,
+        index: usize,
+        piece: *mut Piece,
+    ) -> u32;
+    pub fn routes_follower_least(follower: *mut Follower) -> u32;
+    pub fn routes_follower_read(
+        follower: *mut Follower,
+        from: usize,
+        routes: *mut Route,
+        room: usize,
+    ) -> usize;
+    pub fn routes_follower_index(index: *mut Index, follower: *mut Follower) -> u32;
     pub fn routes_line(table: *mut Table, line: *const u8, len: usize) -> u32;
     pub fn routes_reply(table: *mut Table, from: usize, out: *mut u8, room: usize) -> usize;
 }

@@ -1,3 +1,4 @@
+use crate::lists::{pieces, routes};
 use crate::many::answers;
 use crate::{raw, Change, Count, Error, Hop, Net, Piece, Route};
 use std::cell::UnsafeCell;
@@ -10,12 +11,22 @@ use std::net::{IpAddr, Ipv4Addr, Ipv6Addr};
 /// preference, and among equals that of the smallest hop. The hop of an address is that of the best
 /// route of the longest stored network that contains it.
 ///
-/// A table stays on its thread: it is neither `Send` nor `Sync`.
+/// A table may go to another thread: it is `Send`. It is not `Sync`, since each call, a look-up too,
+/// has the table for itself:
+///
+/// ```compile_fail,E0277
+/// fn shared<T: Sync>() {}
+/// shared::<routes::Table>();
+/// ```
 pub struct Table {
-    /// Open until it is dropped, and boxed, since an open table may not move. The cell and the pointer
-    /// in it keep `Table` on one thread, so that no call is made while another runs.
+    /// Open until it is dropped, and boxed, since an open table may not move. The cell keeps `Table`
+    /// from being shared by threads, so that no call is made while another runs.
     pub(crate) raw: Box<UnsafeCell<raw::Table>>,
 }
+
+// SAFETY: the library lets any thread make a call after the one before has returned, if it is told
+// so; who has a table that another thread had was given it by that one.
+unsafe impl Send for Table {}
 
 impl Table {
     /// A table without routes.
@@ -137,17 +148,10 @@ impl Table {
     pub fn flat(&self) -> Result<Vec<Piece>, Error> {
         // SAFETY: the table is as `raw` says.
         check(unsafe { raw::routes_flat(self.raw.get()) })?;
-        Ok((0..).map_while(|index| self.piece_at(index)).collect())
-    }
-
-    fn piece_at(&self, index: usize) -> Option<Piece> {
-        let mut piece = raw::Piece::default();
-        // SAFETY: the table is as `raw` says, and `piece` is ours.
-        let code = unsafe { raw::routes_piece_at(self.raw.get(), index, &mut piece) };
-        found(code).then(|| Piece {
-            net: net(piece.family, piece.high, piece.low, piece.len),
-            hop: piece.hop,
-        })
+        // SAFETY: the table is as `raw` says, and `piece` is a reference.
+        Ok(pieces(|index, piece| unsafe {
+            raw::routes_piece_at(self.raw.get(), index, piece)
+        }))
     }
 
     /// The best routes of the stored networks inside this one, itself included, in ascending order.
@@ -264,17 +268,10 @@ impl Table {
 
     /// The list of routes that was made last.
     fn read(&self) -> Vec<Route> {
-        let mut routes = Vec::new();
-        let mut part = [raw::Route::default(); 256];
-        loop {
-            let (from, out) = (routes.len(), part.as_mut_ptr());
-            // SAFETY: the table is as `raw` says, and `part` is ours.
-            let count = unsafe { raw::routes_read(self.raw.get(), from, out, part.len()) };
-            if count == 0 {
-                return routes;
-            }
-            routes.extend(part[..count].iter().map(|&route| Route::from(route)));
-        }
+        // SAFETY: the table is as `raw` says, and `part` is a slice.
+        routes(|from, part| unsafe {
+            raw::routes_read(self.raw.get(), from, part.as_mut_ptr(), part.len())
+        })
     }
 
     /// The reply of `routes lead` to a line of its input, which is given without its line end. Each
@@ -340,18 +337,20 @@ impl From<raw::Change> for Change {
     }
 }
 
-/// What an answer says of an open table and a network whose length is right.
+/// What an answer says of what is open, and of a network whose length is right.
 pub(crate) fn check(code: u32) -> Result<(), Error> {
     match code {
         raw::OK => Ok(()),
         raw::NO_MEMORY => Err(Error::NoMemory),
         raw::FULL => Err(Error::Full),
+        raw::NOT_A_LINE => Err(Error::NotALine),
+        raw::FAILED => Err(Error::Failed),
         _ => panic!("the library answered {code}, which its header does not allow here"),
     }
 }
 
 /// Whether that which was asked for is there.
-fn found(code: u32) -> bool {
+pub(crate) fn found(code: u32) -> bool {
     match code {
         raw::OK => true,
         raw::MISSING => false,
@@ -364,7 +363,7 @@ pub(crate) fn halves(addr: Ipv6Addr) -> (u64, u64) {
     ((bits >> 64) as u64, bits as u64)
 }
 
-fn net(family: u8, high: u64, low: u64, len: u8) -> Net {
+pub(crate) fn net(family: u8, high: u64, low: u64, len: u8) -> Net {
     let addr: IpAddr = match family {
         4 => Ipv4Addr::from(low as u32).into(),
         _ => Ipv6Addr::from(u128::from(high) << 64 | u128::from(low)).into(),

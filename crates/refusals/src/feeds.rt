@@ -2,10 +2,11 @@
 //! standard input.
 use crate::fault::Fault;
 use crate::show::{answer, begin, debug_line, end, line, refused};
-use ipnet::IpNet;
+use crate::tables::answer_routes;
+use ipnet::{IpAddr, IpNet, Ipv4Addr};
 use route_feed::{Counted, FollowError, Follower, RunError, follow, install, lead, shorten};
 use route_lines::{Command, Line, LineCutter, Reply};
-use route_table::Flat;
+use route_table::{Flat, Hop};
 use std::io::{Stdin, Write};
 
 /// How many bytes of output are kept.
@@ -21,10 +22,12 @@ pub enum FeedCall {
     New,
     Change,
     Commit,
+    Least,
+    Hop,
     Cut,
 }
 
-pub static SCENARIOS: [(&str, FeedCall); 8] = [
+pub static SCENARIOS: [(&str, FeedCall); 10] = [
     ("lead", FeedCall::Lead),
     ("follow", FeedCall::Follow),
     ("shorten", FeedCall::Shorten),
@@ -32,13 +35,15 @@ pub static SCENARIOS: [(&str, FeedCall); 8] = [
     ("free-follower-new", FeedCall::New),
     ("follower-change", FeedCall::Change),
     ("follower-commit", FeedCall::Commit),
+    ("least-of-follower", FeedCall::Least),
+    ("free-follower-hop", FeedCall::Hop),
     ("free-lines", FeedCall::Cut),
 ];
 
 pub fn run(rt: &HostRuntime, call: FeedCall) -> Result<(), Fault> {
     match call {
         FeedCall::New => make(rt),
-        FeedCall::Change | FeedCall::Commit => run_follower(rt, call),
+        FeedCall::Change | FeedCall::Commit | FeedCall::Least | FeedCall::Hop => run_follower(rt, call),
         FeedCall::Cut => cut(rt),
         _ => run_over(rt, call),
     }
@@ -98,7 +103,9 @@ fn run_follower(rt: &HostRuntime, call: FeedCall) -> Result<(), Fault> {
     let mut follower = Follower::new(rt.alloc())?;
     match call {
         FeedCall::Change => change(rt, &mut follower),
-        _ => commit(rt, &mut follower),
+        FeedCall::Commit => commit(rt, &mut follower),
+        FeedCall::Least => least(rt, &mut follower),
+        _ => hops(rt, &mut follower),
     }
 }
 
@@ -118,6 +125,51 @@ fn commit(rt: &HostRuntime, follower: &mut Follower) -> Result<(), Fault> {
     begin(rt)?;
     let outcome = follower.line(b"ok");
     followed(rt, follower, &outcome)
+}
+
+/// Three changes that are carried out, the last of them inside the first.
+fn tell(follower: &mut Follower) -> Result<(), Fault> {
+    follower.line(b"set 10.0.0.0/8 1")?;
+    follower.line(b"set 2001:db8::/32 2")?;
+    follower.line(b"set 10.1.0.0/16 3")?;
+    follower.line(b"ok")?;
+    Ok(())
+}
+
+/// A least table of a follower's hops, which stay.
+fn least(rt: &HostRuntime, follower: &mut Follower) -> Result<(), Fault> {
+    tell(follower)?;
+    show_flat(rt, follower);
+    begin(rt)?;
+    let outcome = follower.least();
+    shortened(rt, &outcome)?;
+    show_flat(rt, follower);
+    Ok(())
+}
+
+/// The routes of a least table, or that there is none.
+fn shortened(
+    rt: &HostRuntime,
+    outcome: &Result<Option<Vec<(IpNet, Hop)>>, RunError>,
+) -> Result<(), Fault> {
+    end(rt)?;
+    match outcome {
+        Ok(Some(routes)) => answer_routes(rt, routes),
+        Ok(None) => answer(rt, &"failed before"),
+        Err(error) => refused(rt, error),
+    }
+    Ok(())
+}
+
+/// The hops of addresses that a follower was told, and of one that it wasn't.
+fn hops(rt: &HostRuntime, follower: &mut Follower) -> Result<(), Fault> {
+    tell(follower)?;
+    begin(rt)?;
+    for first in [10, 11] {
+        let addr = IpAddr::V4(Ipv4Addr::new(first, 1, 2, 3));
+        debug_line(rt, &follower.hop(addr));
+    }
+    end(rt)
 }
 
 /// What a line was answered, what the next is answered, and the flat list.

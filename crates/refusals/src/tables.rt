@@ -238,7 +238,8 @@ pub fn shortened(
     Ok(())
 }
 
-fn answer_routes(rt: &HostRuntime, routes: &Vec<(IpNet, Hop)>) {
+/// The routes of a least table.
+pub fn answer_routes(rt: &HostRuntime, routes: &Vec<(IpNet, Hop)>) {
     for (net, hop) in routes.iter() {
         answer_route(rt, net, *hop);
     }

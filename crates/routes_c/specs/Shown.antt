@@ -10,8 +10,8 @@ use Rattle.routes_c.specs.declared.shown.Piece.{Piece}
 use Rattle.routes_c.specs.declared.shown.Route.{Route}
 
 -- the hop of a number: `drop` from 2^32 on
-abbrev pub hop_from : ℕ → Hop
-hop_from k = if nat_lt k (2 ^ 32) then Number k else Drop
+abbrev pub given_hop : ℕ → Hop
+given_hop k = if nat_lt k (2 ^ 32) then Number k else Drop
 
 -- the number of a hop: 2^32 for `drop`
 abbrev pub hop_shown : Hop → ℕ

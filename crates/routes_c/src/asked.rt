@@ -91,7 +91,7 @@ fn networks(alloc: Global, networks: &[IpNet], hop: Hop) -> Result<Vec<Route>, A
 }
 
 /// The networks, each with its hop.
-fn items(alloc: Global, items: &[(IpNet, Hop)]) -> Result<Vec<Route>, AllocError>
+pub(crate) fn items(alloc: Global, items: &[(IpNet, Hop)]) -> Result<Vec<Route>, AllocError>
     ensures { IfOk result (λ v. v.items ≡ map route_shown (routes_for items.now)) }
 {
     let mut list = Vec::new(alloc);

@@ -5,10 +5,10 @@ ghost use Rattle.ipnet_addr.specs.Addresses.{Ipv4, Ipv6};
 ghost use Rattle.ipnet_blocks.specs.Networks.{block_of};
 ghost use Rattle.routes_c.specs.Calls.{Adds, KeepsLists, Removes};
 ghost use Rattle.routes_c.specs.Handles.{GoesOn, IsClosed, IsHandle, session_of};
-ghost use Rattle.routes_c.specs.Shown.{hop_from};
+ghost use Rattle.routes_c.specs.Shown.{given_hop};
 
 use crate::handle::Handle;
-use crate::shown::{Change, hop_from, net4, net6};
+use crate::shown::{Change, given_hop, net4, net6};
 use ipnet::IpNet;
 use std::alloc::Global;
 
@@ -24,13 +24,13 @@ fn add(
     requires { IsHandle handle.old }
     ensures handle { IsHandle handle.new }
     ensures closed { IsClosed handle.old → (result ≡ 3) × IsClosed handle.new × (change.new ≡ change.old) }
-    ensures adds { GoesOn handle.old handle.new (λ s t. Adds s.table t.table (block net) (hop_from hop) pref result change.old change.new) }
+    ensures adds { GoesOn handle.old handle.new (λ s t. Adds s.table t.table (block net) (given_hop hop) pref result change.old change.new) }
     ensures lists { GoesOn handle.old handle.new KeepsLists }
 {
     let Some(mut session) = handle.take(alloc) else {
         return 3;
     };
-    let code = session.add(net, hop_from(hop), pref, change);
+    let code = session.add(net, given_hop(hop), pref, change);
     handle.put(session);
     code
 }
@@ -40,13 +40,13 @@ fn del(alloc: Global, handle: &mut Handle, net: &IpNet, hop: u64, change: &mut C
     requires { IsHandle handle.old }
     ensures handle { IsHandle handle.new }
     ensures closed { IsClosed handle.old → (result ≡ 3) × IsClosed handle.new × (change.new ≡ change.old) }
-    ensures removes { GoesOn handle.old handle.new (λ s t. Removes s.table t.table (block net.now) (hop_from hop) result change.old change.new) }
+    ensures removes { GoesOn handle.old handle.new (λ s t. Removes s.table t.table (block net.now) (given_hop hop) result change.old change.new) }
     ensures lists { GoesOn handle.old handle.new KeepsLists }
 {
     let Some(mut session) = handle.take(alloc) else {
         return 3;
     };
-    let code = session.del(net, hop_from(hop), change);
+    let code = session.del(net, given_hop(hop), change);
     handle.put(session);
     code
 }
@@ -70,7 +70,7 @@ pub extern "C" fn routes_add4(
     ensures handle { IsHandle handle.new }
     ensures long { 32 < len → (result ≡ 6) × (session_of handle.new ≡ session_of handle.old) × (change.new ≡ change.old) }
     ensures closed { len ≤ 32 → IsClosed handle.old → (result ≡ 3) × IsClosed handle.new × (change.new ≡ change.old) }
-    ensures adds { len ≤ 32 → GoesOn handle.old handle.new (λ s t. Adds s.table t.table (block_of Ipv4 (record { number = addr; len = len })) (hop_from hop) pref result change.old change.new) }
+    ensures adds { len ≤ 32 → GoesOn handle.old handle.new (λ s t. Adds s.table t.table (block_of Ipv4 (record { number = addr; len = len })) (given_hop hop) pref result change.old change.new) }
     ensures lists { len ≤ 32 → GoesOn handle.old handle.new KeepsLists }
 {
     match net4(addr, len) {
@@ -98,7 +98,7 @@ pub extern "C" fn routes_add6(
     ensures handle { IsHandle handle.new }
     ensures long { 128 < len → (result ≡ 6) × (session_of handle.new ≡ session_of handle.old) × (change.new ≡ change.old) }
     ensures closed { len ≤ 128 → IsClosed handle.old → (result ≡ 3) × IsClosed handle.new × (change.new ≡ change.old) }
-    ensures adds { len ≤ 128 → GoesOn handle.old handle.new (λ s t. Adds s.table t.table (block_of Ipv6 (record { number = high * 2 ^ 64 + low; len = len })) (hop_from hop) pref result change.old change.new) }
+    ensures adds { len ≤ 128 → GoesOn handle.old handle.new (λ s t. Adds s.table t.table (block_of Ipv6 (record { number = high * 2 ^ 64 + low; len = len })) (given_hop hop) pref result change.old change.new) }
     ensures lists { len ≤ 128 → GoesOn handle.old handle.new KeepsLists }
 {
     match net6(high, low, len) {
@@ -124,7 +124,7 @@ pub extern "C" fn routes_del4(
     ensures handle { IsHandle handle.new }
     ensures long { 32 < len → (result ≡ 6) × (session_of handle.new ≡ session_of handle.old) × (change.new ≡ change.old) }
     ensures closed { len ≤ 32 → IsClosed handle.old → (result ≡ 3) × IsClosed handle.new × (change.new ≡ change.old) }
-    ensures removes { len ≤ 32 → GoesOn handle.old handle.new (λ s t. Removes s.table t.table (block_of Ipv4 (record { number = addr; len = len })) (hop_from hop) result change.old change.new) }
+    ensures removes { len ≤ 32 → GoesOn handle.old handle.new (λ s t. Removes s.table t.table (block_of Ipv4 (record { number = addr; len = len })) (given_hop hop) result change.old change.new) }
     ensures lists { len ≤ 32 → GoesOn handle.old handle.new KeepsLists }
 {
     match net4(addr, len) {
@@ -151,7 +151,7 @@ pub extern "C" fn routes_del6(
     ensures handle { IsHandle handle.new }
     ensures long { 128 < len → (result ≡ 6) × (session_of handle.new ≡ session_of handle.old) × (change.new ≡ change.old) }
     ensures closed { len ≤ 128 → IsClosed handle.old → (result ≡ 3) × IsClosed handle.new × (change.new ≡ change.old) }
-    ensures removes { len ≤ 128 → GoesOn handle.old handle.new (λ s t. Removes s.table t.table (block_of Ipv6 (record { number = high * 2 ^ 64 + low; len = len })) (hop_from hop) result change.old change.new) }
+    ensures removes { len ≤ 128 → GoesOn handle.old handle.new (λ s t. Removes s.table t.table (block_of Ipv6 (record { number = high * 2 ^ 64 + low; len = len })) (given_hop hop) result change.old change.new) }
     ensures lists { len ≤ 128 → GoesOn handle.old handle.new KeepsLists }
 {
     match net6(high, low, len) {

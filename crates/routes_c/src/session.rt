@@ -50,8 +50,21 @@ pub(crate) fn piece_in(pieces: &[Piece], index: usize, piece: &mut Piece) -> u32
     }
 }
 
+/// The route at an index.
+pub(crate) fn route_in(routes: &[Route], index: usize, route: &mut Route) -> u32
+    ensures { RouteAt (slice_get routes.now index) result route.old route.new }
+{
+    match routes.get(index) {
+        Some(found) => {
+            *route = *found;
+            0
+        }
+        None => 1,
+    }
+}
+
 /// Copies what stands from a place on, as far as there is room.
-fn copy_from<T: Copy>(items: &[T], from: usize, out: &mut [T]) -> usize
+pub(crate) fn copy_from<T: Copy>(items: &[T], from: usize, out: &mut [T]) -> usize
     ensures count { result ≡ min (length out.old) (length items.now - from) }
     ensures copied { out.new ≡ take result (drop from items.now) ++ drop result out.old }
 {
@@ -165,13 +178,7 @@ impl Session {
     pub(crate) fn route_at(&self, index: usize, route: &mut Route) -> u32
         ensures { RouteAt (slice_get self.now.routes.items index) result route.old route.new }
     {
-        match self.routes.get(index) {
-            Some(found) => {
-                *route = *found;
-                0
-            }
-            None => 1,
-        }
+        route_in(&self.routes, index, route)
     }
 
     /// Copies the list of routes from an index on.

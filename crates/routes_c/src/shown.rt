@@ -5,7 +5,7 @@ ghost use Rattle.ipnet.specs.declared.ip_net.IpNet.TheVariants.{V4, V6};
 ghost use Rattle.ipnet.specs.IpNets.{block, network_at};
 ghost use Rattle.route_laws.specs.Tables.{route_of};
 ghost use Rattle.routes_c.specs.RouteLists.{route_shown};
-ghost use Rattle.routes_c.specs.Shown.{hop_from, hop_shown, match_shown, number_shown, piece_shown, shown, Shows};
+ghost use Rattle.routes_c.specs.Shown.{given_hop, hop_shown, match_shown, number_shown, piece_shown, shown, Shows};
 
 use ipnet::{IpAddr, IpNet, Ipv4Net, Ipv6Net};
 use ipnet_addr::bits::{ipv4_of, ipv6_of};
@@ -97,8 +97,8 @@ pub(crate) fn net6(high: u64, low: u64, len: u8) -> Option<IpNet>
 }
 
 /// The hop of a number: `drop` from 2^32 on.
-pub(crate) fn hop_from(hop: u64) -> Hop
-    ensures { result ≡ hop_from hop }
+pub(crate) fn given_hop(hop: u64) -> Hop
+    ensures { result ≡ given_hop hop }
 {
     match u32::try_from(hop) {
         Ok(number) => Hop::Number(number),

@@ -6,6 +6,8 @@ mod cutter;
 #[cfg(test)]
 mod devices;
 #[cfg(test)]
+mod followers;
+#[cfg(test)]
 mod installing;
 #[cfg(test)]
 mod leaking;

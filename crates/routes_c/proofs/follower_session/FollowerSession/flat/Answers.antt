@@ -19,4 +19,5 @@ returns-in-Ok c =
       failed = λ e. absurd (omega (arith, e));
       works = λ _. works_at c.args.self.now.follower.failed c.in-Some.flat c.in-Some.ensures.failed;
       follower = refl;
+      routes = refl;
     }

@@ -1,0 +1,78 @@
+//! Tables, indexes and followers go from thread to thread: made on one, used on others, dropped on another.
+
+use routes::{Follower, Hop, Index, Net, Table, PREFERENCE};
+use std::net::Ipv4Addr;
+use std::sync::mpsc::{channel, Receiver, Sender};
+use std::sync::{Arc, Mutex};
+use std::thread;
+
+type Moved = (Table, Follower, Option<Index>, u32);
+
+const STEPS: u32 = 200;
+
+/// The address of a step.
+fn addr(step: u32) -> Ipv4Addr {
+    Ipv4Addr::from(0x0a00_0000 | step)
+}
+
+/// One step more: its address gets a hop, and that of the step before has one.
+fn stepped((mut table, mut follower, index, step): Moved) -> Moved {
+    let net = Net::new(addr(step), 32).unwrap();
+    table.add(net, Hop::Number(step), PREFERENCE).unwrap();
+    follower.line(format!("set {net} {step}")).unwrap();
+    follower.line("ok").unwrap();
+    let flat = table.flat().unwrap();
+    assert_eq!(flat.len() as u32, step + 1);
+    assert_eq!(follower.flat().unwrap(), flat);
+    assert_eq!(follower.hop(addr(step)), Ok(Some(step)));
+    if let Some(index) = index {
+        assert_eq!(index.hop(addr(step - 1)), Some(step - 1));
+        assert_eq!(index.hop(addr(step)), None);
+    }
+    let index = follower.index().unwrap();
+    (table, follower, Some(index), step + 1)
+}
+
+/// Takes what comes, one step each, and hands it on; at the last step it is dropped here.
+fn work(from: Receiver<Moved>, to: Sender<Moved>) {
+    for moved in from {
+        let moved = stepped(moved);
+        if moved.3 == STEPS || to.send(moved).is_err() {
+            return;
+        }
+    }
+}
+
+#[test]
+fn from_thread_to_thread() {
+    let ((to_second, from_first), (to_first, from_second)) = (channel(), channel());
+    let made = (Table::new().unwrap(), Follower::new().unwrap(), None, 0);
+    to_first.send(made).unwrap();
+    let first = thread::spawn(move || work(from_second, to_second));
+    let second = thread::spawn(move || work(from_first, to_first));
+    first.join().unwrap();
+    second.join().unwrap();
+}
+
+/// Behind a lock a table is shared.
+#[test]
+fn behind_a_lock() {
+    let table = Arc::new(Mutex::new(Table::new().unwrap()));
+    let threads: Vec<_> = (0..4)
+        .map(|thread| {
+            let table = Arc::clone(&table);
+            thread::spawn(move || {
+                for step in 0..STEPS {
+                    let net = Net::new(addr(thread << 16 | step), 32).unwrap();
+                    let hop = Hop::Number(thread);
+                    table.lock().unwrap().add(net, hop, PREFERENCE).unwrap();
+                }
+            })
+        })
+        .collect();
+    for thread in threads {
+        thread.join().unwrap();
+    }
+    let count = table.lock().unwrap().count();
+    assert_eq!(count.ipv4 as u32, 4 * STEPS);
+}
