@@ -43,7 +43,9 @@ pub static SCENARIOS: [(&str, FeedCall); 10] = [
 pub fn run(rt: &HostRuntime, call: FeedCall) -> Result<(), Fault> {
     match call {
         FeedCall::New => make(rt),
-        FeedCall::Change | FeedCall::Commit | FeedCall::Least | FeedCall::Hop => run_follower(rt, call),
+        FeedCall::Change | FeedCall::Commit | FeedCall::Least | FeedCall::Hop => run_follower(
+            rt, call,
+        ),
         FeedCall::Cut => cut(rt),
         _ => run_over(rt, call),
     }
