@@ -1,6 +1,5 @@
 use Rattle.std.proofs.Common.{◌≡◌, ◌+◌, ◌-◌, ◌<◌, ◌≤◌, ℕ, List, Some, length, get_or, sym, ap, ◌∙◌, arith}
 use Rattle.hop_index.specs.Ranges.{HopRange}
-use Rattle.hop_index.specs.InnerRanges.{BeginsFrom}
 use Rattle.hop_index.proofs.Lookups.{found, in_gap, none_begun}
 use Rattle.hop_index.proofs.ranges.hop_after.Goals as goal
 
