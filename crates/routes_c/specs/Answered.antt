@@ -2,8 +2,7 @@
 use Rattle.std.specs.Prelude.{◌≡◌, ◌⊎◌, ℕ, Bool, List, [], ◌++◌, Option, None, Some}
 use Rattle.route_feed.specs.Replies.{printed}
 use Rattle.route_feed.specs.Steps.{step, turn_lines}
-use Rattle.route_feed.specs.InnerReplies.{command_in}
-use Rattle.route_lines.specs.Lines.{line_of}
+use Rattle.route_lines.specs.Spelled.{command_of}
 use Rattle.routes_c.specs.declared.session.Session.{Session}
 
 -- the reply that is kept
@@ -18,7 +17,7 @@ pub record Answered (s t : Session) (line : List ℕ) (code : ℕ) : Type 0 wher
   pub cut : List ℕ
   pub answers : (code ≡ 0) ⊎ (code ≡ 2)
   pub whole : code ≡ 0 → cut ≡ []
-  pub reply : printed (turn_lines (step s.table (command_in (line_of line)) refused)) ≡ t.reply.items ++ cut
-  pub table : t.table ≡ (step s.table (command_in (line_of line)) refused).next
+  pub reply : printed (turn_lines (step s.table (command_of line) refused)) ≡ t.reply.items ++ cut
+  pub table : t.table ≡ (step s.table (command_of line) refused).next
   pub pieces : t.pieces ≡ s.pieces
   pub routes : t.routes ≡ s.routes
