@@ -80,7 +80,7 @@ fn waiting(rt: HostRuntime) {
 fn least(rt: HostRuntime) {
     let follower = told(&rt, rt.alloc(), &LINES);
     let wanted = [
-        ("10.0.0.0/10", Hop::Number(1)),
+        ("10.0.0.0/9", Hop::Number(1)),
         ("10.64.0.0/10", Hop::Number(2)),
         ("2001:db8::/32", Hop::Number(3)),
     ];
