@@ -12,8 +12,6 @@ mod installing;
 #[cfg(test)]
 mod leaking;
 #[cfg(test)]
-mod manual;
-#[cfg(test)]
 mod streams;
 #[cfg(test)]
 mod texts;
