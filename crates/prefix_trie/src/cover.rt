@@ -11,6 +11,7 @@ use trie_core::Cover as Way;
 
 impl<P: Prefix, T> PrefixMap<P, T> {
     /// The entries whose keys contain the prefix, its own included, the shortest key first.
+    #[tactic(auto, using(crate::proofs::KeyLengths::keys_where))]
     pub fn cover(&self, prefix: &P) -> Cover<'_, P, T>
         requires { IsTrue (P.fits prefix.now) }
         ensures { result ≡ where_key bits_cmp (λ k. begins k (P.bits prefix.now)) (entries self.now.entries) }

@@ -37,6 +37,7 @@ impl<P: Prefix, T: Drop> PrefixMap<P, T> {
     }
 
     /// The entries whose keys the prefix contains, itself included, owned. The other entries are dropped.
+    #[tactic(auto, using(crate::proofs::KeyLengths::keys_where))]
     pub fn into_children(self, prefix: &P) -> IntoIter<P, T>
         requires { IsTrue (P.fits prefix.now) }
         ensures { result ≡ where_key bits_cmp (begins (P.bits prefix.now)) (entries self.entries) }

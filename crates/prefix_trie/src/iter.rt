@@ -62,6 +62,7 @@ impl<P: Prefix, T> PrefixMap<P, T> {
     }
 
     /// The entries whose keys the prefix contains, itself included.
+    #[tactic(auto, using(crate::proofs::KeyLengths::keys_where))]
     pub fn children(&self, prefix: &P) -> Iter<'_, P, T>
         requires { IsTrue (P.fits prefix.now) }
         ensures { result ≡ where_key bits_cmp (begins (P.bits prefix.now)) (entries self.now.entries) }
@@ -71,6 +72,7 @@ impl<P: Prefix, T> PrefixMap<P, T> {
 
     /// The entries from a prefix on, in the order of a walk: those whose keys come after it, among them the longer
     /// ones inside it, and where `inclusive` says so its own.
+    #[tactic(auto, using(crate::proofs::KeyLengths::keys_where))]
     pub fn iter_from(&self, prefix: &P, inclusive: bool) -> Iter<'_, P, T>
         requires { IsTrue (P.fits prefix.now) }
         ensures { result ≡ where_key bits_cmp (is_from (P.bits prefix.now) inclusive) (entries self.now.entries) }

@@ -34,13 +34,11 @@ use Rattle.route_feed.specs.declared.counted.Counted.{Counted}
 use Rattle.route_feed.specs.declared.error.RunError.{RunError}
 use Rattle.route_feed.specs.declared.error.RunError.TheVariants as Why
 use Rattle.route_feed.specs.declared.follower.Waiting.{Waiting}
-use Rattle.route_feed.specs.InnerInstalling.{AllFit, GivesChanges, Has, Replaces, Takes, TakesNone, TakesNote, TakesNoteLine, Wants, note_in, batch_bytes, operation_bytes, routes_waiting, tables_of}
-use Rattle.route_feed.specs.InnerReplies.{Written, reply_line}
+use Rattle.route_feed.specs.InnerInstalling.{AllFit, GivesChanges, Has, Replaces, Takes, TakesNone, TakesNote, TakesNoteLine, Wants, note_in, batch_bytes, routes_waiting, tables_of}
 use Rattle.route_feed.specs.InnerWaiting.{changes_of}
 use Rattle.route_feed.specs.Installing.{Installing, MayWant, batches, committing, event_of, noted_bytes, pending_past, printed_updates, route_to, update_lines}
 use Rattle.route_feed.specs.Streams.{Change, change_of, closes, is_done, pending_after}
 use Rattle.route_feed.specs.Devices.{Closed, Closes, Torn}
-use Rattle.route_feed.proofs.Batching.{Closes-batch, Torn-batch}
 use Rattle.route_feed.proofs.Written.{Closed-nil, Written-nil}
 
 -- waiting changes as routes
@@ -210,20 +208,15 @@ module _ {W : Type 0} (contents : W → Option (List ℕ)) where
 
   -- ---- a table in the place of another
 
-  module _ (a b : Installing) (L : List Route) (old mid new : Counted W) (I : List Route) (os : List Operation) (installed : I ≡ a.tables.installed) (is : os ≡ between I L) (m : IsTable I) where
+  module _ (a b : Installing) (L : List Route) (old new : Counted W) (I : List Route) (os : List Operation) (installed : I ≡ a.tables.installed) (is : os ≡ between I L) (m : IsTable I) where
     same_batch : os ≡ between a.tables.installed L
     same_batch = is ∙ ap (λ M. between M L) installed
 
-    pub replaces_torn : (e : RunError) → (e ≡ Why.Write) × Torn contents old new (operation_bytes os) → Replaces contents a L old (Err e) b new
-    replaces_torn e q = subst (λ k. Replaces contents a L old (Err k) b new) (sym q.0) (subst IsTable installed m, subst (λ ps. Torn contents old new (batch_bytes ps)) same_batch (Torn-batch contents old new os q.1))
+    pub replaces_torn : (e : RunError) → Closes contents {T = Unit {0}} 1 old new (Err e) (batch_bytes os) → Replaces contents a L old (Err e) b new
+    replaces_torn e q = subst (λ k. Replaces contents a L old (Err k) b new) (sym q.0) (subst IsTable installed m, subst (λ ps. Torn contents old new (batch_bytes ps)) same_batch q.1)
 
-    pub replaces_closing : (e : RunError) → Written contents old mid (operation_bytes os) → Closes contents {T = Unit {0}} 1 mid new (Err e) (reply_line (Close Done)) → Replaces contents a L old (Err e) b new
-    replaces_closing e w q =
-        let t = Closes-batch contents old mid new (Err e) os w q in
-        subst (λ k. Replaces contents a L old (Err k) b new) (sym t.0) (subst IsTable installed m, subst (λ ps. Torn contents old new (batch_bytes ps)) same_batch t.1)
-
-    pub replaces : Written contents old mid (operation_bytes os) → Closed contents 1 mid new (reply_line (Close Done)) → b ≡ record { tables = record { table = L; installed = L; kept = true }; pending = a.pending } → Replaces contents a L old (Ok tt) b new
-    replaces w q next = (next, subst IsTable installed m, subst (λ ps. Closed contents 1 old new (batch_bytes ps)) same_batch (Closes-batch contents old mid new (Ok tt) os w q))
+    pub replaces : Closed contents 1 old new (batch_bytes os) → b ≡ record { tables = record { table = L; installed = L; kept = true }; pending = a.pending } → Replaces contents a L old (Ok tt) b new
+    replaces q next = (next, subst IsTable installed m, subst (λ ps. Closed contents 1 old new (batch_bytes ps)) same_batch q)
 
 -- ---- an installer by its parts
 

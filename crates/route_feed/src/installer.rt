@@ -9,8 +9,9 @@ ghost use Rattle.route_laws.specs.Networks.{routes_of};
 ghost use Rattle.route_laws.specs.Tables.{IsTable, hop_at, route_of};
 ghost use Rattle.route_lines.specs.declared.note.Note.{Note};
 ghost use Rattle.route_feed.specs.Counted.{CanCount};
+ghost use Rattle.route_feed.specs.Devices.{Closes};
 ghost use Rattle.route_feed.specs.Installing.{begin, route_to};
-ghost use Rattle.route_feed.specs.InnerInstalling.{GivesChanges, Has, Replaces, TakesNote, WritesChanges, route_waiting, routes_waiting};
+ghost use Rattle.route_feed.specs.InnerInstalling.{GivesChanges, Has, Replaces, TakesNote, WritesChanges, batch_bytes, route_waiting, routes_waiting};
 ghost use Rattle.route_feed.specs.InnerWaiting.{changes_of, waiting_change};
 ghost use Rattle.route_lines.specs.declared.reply.Closing.{Closing};
 ghost use Rattle.route_lines.specs.declared.reply.Reply.{Reply};
@@ -18,7 +19,7 @@ ghost use Rattle.route_lines.specs.declared.reply.Reply.{Reply};
 use crate::counted::Counted;
 use crate::error::RunError;
 use crate::follower::Waiting;
-use crate::updates::write_operations;
+use crate::updates::{Operations, write_operations};
 use crate::writing::close;
 use ipnet::IpNet;
 use route_lines::{Closing, Note, Reply};
@@ -100,6 +101,18 @@ fn give_changes<W: Write>(
     ensures { GivesChanges W.contents (routes_of table.old) (routes_waiting changes.now) writer.old result (routes_of table.new) writer.new }
 {
     write_changes(table, changes, writer)?;
+    close(writer, Closing::Done)
+}
+
+/// Gives the batch of the operations.
+fn give_batch<W: Write, O: Operations>(
+    writer: &mut Counted<W>,
+    operations: O,
+) -> Result<(), RunError>
+    requires { CanCount writer.old }
+    ensures { Closes W.contents 1 writer.old writer.new result (batch_bytes (O.left operations)) }
+{
+    write_operations(writer, operations)?;
     close(writer, Closing::Done)
 }
 
@@ -215,11 +228,18 @@ impl Installer {
         ensures { Replaces W.contents self.old (routes_for list.now) writer.old result self.new writer.new }
     {
         let table = table_of(self.alloc, list)?;
-        write_operations(writer, self.installed().between(list))?;
-        close(writer, Closing::Done)?;
+        give_batch(writer, self.installed().between(list))?;
+        self.keep_table(table);
+        Ok(())
+    }
+
+    /// Keeps this table installed.
+    fn keep_table(&mut self, table: HopTable)
+        ensures tables { self.new.tables ≡ record { table = routes_of table; installed = routes_of table; kept = true } }
+        ensures pending { self.new.pending ≡ self.old.pending }
+    {
         self.table = table;
         self.before = None;
-        Ok(())
     }
 
     /// Brings what is installed to a least table of the hops that hold.

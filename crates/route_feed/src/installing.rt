@@ -1,6 +1,7 @@
 //! A table that is kept installed, by the lines of an input.
-ghost use Rattle.std.specs.Prelude.{◌<◌, ◌^◌, IfSome, OnOk};
+ghost use Rattle.std.specs.Prelude.{◌≡◌, ◌<◌, ◌^◌, IfSome, OnOk, length};
 ghost use Rattle.route_feed.specs.Counted.{CanCount};
+ghost use Rattle.route_feed.specs.Installing.{begin};
 ghost use Rattle.route_feed.specs.InnerInstalling.{TakesNoteLine};
 ghost use Rattle.route_feed.specs.Installs.{AppendsInstalled, InstallEnds};
 ghost use Rattle.route_lines.specs.Bytes.{lines};
@@ -65,6 +66,25 @@ pub fn install<R: Read, W: Write>(
         return Err(RunError::Memory);
     };
     let mut installer = Installer::new(alloc)?;
-    run(&mut installer, buf.as_mut_slice(), reader, writer)?;
+    let result = take_lines(&mut installer, buf.as_mut_slice(), reader, writer);
+    drop(installer);
+    result
+}
+
+/// Hands a new installer the lines of the reader.
+fn take_lines<R: Read, W: Write>(
+    installer: &mut Installer,
+    buf: &mut [u8],
+    reader: &mut Counted<R>,
+    writer: &mut Counted<W>,
+) -> Result<(), RunError>
+    requires new { installer.old ≡ begin }
+    requires room { 0 < length buf.old }
+    requires reads { reader.old.reads < 2 ^ 63 }
+    requires reader { reader.old.faults < 2 ^ 63 }
+    requires writer { writer.old.faults < 2 ^ 63 }
+    ensures { InstallEnds R.remaining W.contents reader.old reader.new writer.old writer.new result }
+{
+    run(installer, buf, reader, writer)?;
     Ok(())
 }
