@@ -3,3 +3,5 @@ pub mod Lookups
 pub mod Pieces
 pub mod Indexes
 pub mod Joins
+pub mod Bits
+pub mod Counts

@@ -1,5 +1,5 @@
 -- Ascending ranges, the index by their first bits, and the ranges of a flat list.
-use Rattle.std.specs.Prelude.{◌≡◌, ℕ, ◌+◌, ◌*◌, ◌<◌, ◌≤◌, List, All, AllPairs, filter, length, map, slice_index, slice_index_or}
+use Rattle.std.specs.Prelude.{◌≡◌, ℕ, ◌+◌, ◌*◌, ◌/◌, ◌%◌, ◌^◌, ◌<◌, ◌≤◌, List, All, AllPairs, count_ones, filter, length, map, slice_index, slice_index_or}
 use Rattle.ipnet_addr.specs.Addresses.{Family, same_family}
 use Rattle.ipnet_blocks.specs.Blocks.{first, last}
 use Rattle.route_laws.specs.Flats.{Piece}
@@ -34,6 +34,34 @@ pub record AreStarts (first_chunk size : ℕ) (rs : List HopRange) (starts : Lis
   pub all : length starts ≡ 262145
   pub below : (t : ℕ) → t < 262145 → BeginsBelow rs ((first_chunk + t) * size) (slice_index starts t)
   pub from : (t : ℕ) → t < 262145 → BeginsFrom rs ((first_chunk + t) * size) (slice_index starts t)
+
+-- a word for the 64 blocks of 256 numbers from a start on, before which so many ranges begin: unless it is zero, as many ranges
+-- begin before each block, and before the end, as these and the bits set below the block's
+pub record AreMarksOf (rs : List HopRange) (start count word : ℕ) : Type 0 where
+  pub below : (word ≡ 0 → ⊥) → (j : ℕ) → j ≤ 64 → BeginsBelow rs (start + j * 2 ^ 8) (count + count_ones (word % 2 ^ j))
+  pub from : (word ≡ 0 → ⊥) → (j : ℕ) → j ≤ 64 → BeginsFrom rs (start + j * 2 ^ 8) (count + count_ones (word % 2 ^ j))
+
+-- such words for the chunks of IPv4
+pub record AreMarks (rs : List HopRange) (starts words : List ℕ) : Type 0 where
+  pub all : length words ≡ 262144
+  pub marks : (t : ℕ) → t < 262144 → AreMarksOf rs (t * 2 ^ 14) (slice_index starts t) (slice_index words t)
+
+-- a word for the 64 blocks of 2 ^ 101 numbers from a start on: unless it is zero, how many ranges begin before a block, and before
+-- the end, is the count that stands as many places after a first one as bits are set below the block's
+pub record AreCountsOf (rs : List HopRange) (start : ℕ) (counts : List ℕ) (place word : ℕ) : Type 0 where
+  pub within : (word ≡ 0 → ⊥) → (j : ℕ) → j ≤ 64 → place + count_ones (word % 2 ^ j) < length counts
+  pub below : (word ≡ 0 → ⊥) → (j : ℕ) → j ≤ 64 → BeginsBelow rs (start + j * 2 ^ 101) (slice_index counts (place + count_ones (word % 2 ^ j)))
+  pub from : (word ≡ 0 → ⊥) → (j : ℕ) → j ≤ 64 → BeginsFrom rs (start + j * 2 ^ 101) (slice_index counts (place + count_ones (word % 2 ^ j)))
+
+-- such words for the chunks of 2000::/3
+pub record AreBlockCounts (rs : List HopRange) (words places counts : List ℕ) : Type 0 where
+  pub all_words : length words ≡ 262144
+  pub all_places : length places ≡ 262144
+  pub counted : (t : ℕ) → t < 262144 → AreCountsOf rs ((262144 + t) * 2 ^ 107) counts (slice_index places t) (slice_index words t)
+
+-- the first halves of the numbers of IPv6 that ranges begin with
+abbrev pub AreHalves : List HopRange → List ℕ → Type 0
+AreHalves rs halves = halves ≡ map (λ r. r.first / 2 ^ 64) rs
 
 -- a piece of a flat list as a range, and those of a family
 abbrev pub range_of : Piece → HopRange

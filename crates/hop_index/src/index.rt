@@ -112,6 +112,7 @@ impl HopIndex {
     }
 
     /// The hop of an address. It takes no memory.
+    #[inline(always)]
     pub fn hop(&self, addr: IpAddr) -> Option<u32>
         ensures hop { result ≡ hop_of self.now (address_of addr) }
         ensures address { IsAddress (address_of addr) }

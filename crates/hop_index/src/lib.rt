@@ -4,5 +4,7 @@
 pub use index::HopIndex;
 pub use prefix_trie::Refused;
 
+mod halves;
 mod index;
+mod marks;
 mod ranges;

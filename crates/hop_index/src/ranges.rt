@@ -11,7 +11,7 @@ use std::alloc::{AllocError, Global};
 use std::marker::Model;
 
 /// How many chunks have a count, and one.
-const STARTS: usize = 262_145;
+pub(crate) const STARTS: usize = 262_145;
 
 /// Addresses in a row with one hop.
 ///
@@ -44,7 +44,7 @@ impl<N: Number> Range<N> {
     }
 
     /// The number of its first address.
-    fn first(&self) -> u128
+    pub(crate) fn first(&self) -> u128
         ensures value { result ≡ self.now.first }
         ensures within { result < 2 ^ width N.family }
     {
@@ -217,7 +217,7 @@ fn starts<N: Chunked>(alloc: Global, ranges: &[Range<N>]) -> Result<Vec<u32>, Al
 
 /// Two counts of the ranges, between which is how many begin at or below the number.
 #[inline]
-fn bounds<N: Chunked>(ranges: &[Range<N>], starts: &[u32], number: N) -> (usize, usize)
+pub(crate) fn bounds<N: Chunked>(ranges: &[Range<N>], starts: &[u32], number: N) -> (usize, usize)
     requires { AreStarts N.first_chunk N.chunk_size ranges.now starts.now }
     ensures low { BeginsBelow ranges.now (N.number number + 1) result.0 }
     ensures high { BeginsFrom ranges.now (N.number number + 1) result.1 }
@@ -231,17 +231,50 @@ fn bounds<N: Chunked>(ranges: &[Range<N>], starts: &[u32], number: N) -> (usize,
     (starts[place] as usize, starts[place + 1] as usize)
 }
 
-/// Ascending ranges of addresses of one family, and for some chunks, which are the numbers with the same first bits, how
-/// many of the ranges begin before each.
+/// Numbers whose ranges have marks beside them, by which a search is narrowed.
+pub(crate) trait Narrowing: Chunked {
+    /// The marks of ranges.
+    type Marks: Drop;
+
+    /// What the marks say of the ranges, and of how many begin before each chunk.
+    ghost narrows: { List HopRange → List ℕ → Self.Marks → Type 0 };
+
+    /// The marks of the ranges.
+    fn marks(
+        alloc: Global,
+        ranges: &[Range<Self>],
+        starts: &[u32],
+    ) -> Result<Self::Marks, AllocError>
+        requires ranges { AreRanges ranges.now }
+        requires starts { AreStarts Self.first_chunk Self.chunk_size ranges.now starts.now }
+        ensures { IfOk result (λ marks. Self.narrows ranges.now starts.now marks) };
+
+    /// Two counts of the ranges, between which is how many begin at or below the number; mostly no more than one apart.
+    fn narrowed(
+        ranges: &[Range<Self>],
+        starts: &[u32],
+        marks: &Self::Marks,
+        number: Self,
+    ) -> (usize, usize)
+        requires ranges { AreRanges ranges.now }
+        requires starts { AreStarts Self.first_chunk Self.chunk_size ranges.now starts.now }
+        requires marks { Self.narrows ranges.now starts.now marks.now }
+        ensures low { BeginsBelow ranges.now (Self.number number + 1) result.0 }
+        ensures high { BeginsFrom ranges.now (Self.number number + 1) result.1 };
+}
+
+/// Ascending ranges of addresses of one family, for some chunks, which are the numbers with the same first bits, how many of
+/// the ranges begin before each, and marks that narrow a search.
 ///
 /// Contracts see the list of the ranges.
 #[derive(Drop)]
-pub(crate) struct Ranges<N: Chunked> {
+pub(crate) struct Ranges<N: Narrowing> {
     ranges: Vec<Range<N>>,
     starts: Vec<u32>,
+    marks: N::Marks,
 }
 
-impl<N: Chunked> Model for Ranges<N> {
+impl<N: Narrowing> Model for Ranges<N> {
     ghost use Rattle.std.specs.Prelude.{List};
     ghost use Rattle.hop_index.specs.Ranges.{HopRange};
     ghost use Rattle.hop_index.specs.InnerRanges.{AreRanges, AreStarts};
@@ -250,10 +283,10 @@ impl<N: Chunked> Model for Ranges<N> {
 
     ghost view = { λ a. a.ranges.items };
 
-    ghost invariant = { λ a. AreRanges a.ranges.items × AreStarts N.first_chunk N.chunk_size a.ranges.items a.starts.items };
+    ghost invariant = { λ a. AreRanges a.ranges.items × AreStarts N.first_chunk N.chunk_size a.ranges.items a.starts.items × N.narrows a.ranges.items a.starts.items a.marks };
 }
 
-impl<N: Chunked> Ranges<N> {
+impl<N: Narrowing> Ranges<N> {
     /// The look-up table of the ranges.
     ///
     /// # Errors
@@ -263,14 +296,19 @@ impl<N: Chunked> Ranges<N> {
         ensures { IfOk result (λ r. r ≡ ranges.items) }
     {
         let starts = starts(alloc, &ranges)?;
-        Ok(Ranges { ranges, starts })
+        let marks = N::marks(alloc, &ranges, &starts)?;
+        Ok(Ranges {
+            ranges,
+            starts,
+            marks,
+        })
     }
 
     /// The hop of the range that has the number.
     pub(crate) fn hop(&self, number: N) -> Option<u32>
         ensures { result ≡ hop_in self.now (N.number number) }
     {
-        let (low, high) = bounds(&self.ranges, &self.starts, number);
+        let (low, high) = N::narrowed(&self.ranges, &self.starts, &self.marks, number);
         let count = begun(&self.ranges, low, high, number);
         hop_after(&self.ranges, count, number)
     }

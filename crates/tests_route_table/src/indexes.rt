@@ -7,8 +7,9 @@ use std::alloc::Global;
 use std::process::Abort;
 use std::str::FromStr;
 
-/// Routes that meet, nest and leave gaps, at both ends of both families, of 2000::/3, and of a chunk of the index.
-const ROUTES: [(&str, Hop); 18] = [
+/// Routes that meet, nest and leave gaps, at both ends of both families, of 2000::/3, and of a chunk of the index; some begin in
+/// blocks of their own, some in one block of 256 addresses, or in one /64.
+const ROUTES: [(&str, Hop); 24] = [
     ("0.0.0.0/30", Hop::Number(1)),
     ("0.0.64.0/18", Hop::Number(2)),
     ("0.0.128.0/32", Hop::Number(2)),
@@ -16,6 +17,9 @@ const ROUTES: [(&str, Hop); 18] = [
     ("10.1.0.0/16", Hop::Drop),
     ("10.1.2.0/24", Hop::Number(4294967295)),
     ("10.1.2.3/32", Hop::Number(0)),
+    ("20.0.1.0/24", Hop::Number(16)),
+    ("20.0.3.0/24", Hop::Number(17)),
+    ("20.0.5.128/25", Hop::Number(18)),
     ("255.255.255.254/31", Hop::Number(5)),
     ("255.255.255.255/32", Hop::Number(6)),
     ("::/128", Hop::Number(7)),
@@ -23,6 +27,9 @@ const ROUTES: [(&str, Hop); 18] = [
     ("2000::/20", Hop::Number(13)),
     ("2001:db8::/32", Hop::Number(8)),
     ("2001:db8:8000::/33", Hop::Number(9)),
+    ("2a00:1:0:0:4000::/66", Hop::Number(19)),
+    ("2a00:1:0:0:8000::/65", Hop::Number(20)),
+    ("2a00:20::/32", Hop::Number(21)),
     ("3fff:f000::/20", Hop::Number(14)),
     ("4000::/16", Hop::Number(15)),
     (
@@ -36,7 +43,7 @@ const ROUTES: [(&str, Hop); 18] = [
 ];
 
 /// Addresses with the hops that the routes give them, worked out by hand.
-const HOPS: [(&str, Option<u32>); 36] = [
+const HOPS: [(&str, Option<u32>); 51] = [
     ("0.0.0.0", Some(1)),
     ("0.0.0.3", Some(1)),
     ("0.0.0.4", None),
@@ -52,6 +59,13 @@ const HOPS: [(&str, Option<u32>); 36] = [
     ("10.1.2.3", Some(0)),
     ("10.1.2.4", Some(4294967295)),
     ("10.255.255.255", Some(4)),
+    ("20.0.0.255", None),
+    ("20.0.1.0", Some(16)),
+    ("20.0.2.0", None),
+    ("20.0.3.255", Some(17)),
+    ("20.0.5.127", None),
+    ("20.0.5.128", Some(18)),
+    ("20.0.63.255", None),
     ("255.255.255.253", None),
     ("255.255.255.254", Some(5)),
     ("255.255.255.255", Some(6)),
@@ -67,6 +81,14 @@ const HOPS: [(&str, Option<u32>); 36] = [
     ("2001:db8:7fff:ffff:ffff:ffff:ffff:ffff", Some(8)),
     ("2001:db8:8000::", Some(9)),
     ("2001:db9::", None),
+    ("2a00:1:0:0:3fff:ffff:ffff:ffff", None),
+    ("2a00:1:0:0:4000::", Some(19)),
+    ("2a00:1:0:0:7fff:ffff:ffff:ffff", Some(19)),
+    ("2a00:1:0:0:8000::", Some(20)),
+    ("2a00:1:0:1::", None),
+    ("2a00:1f::", None),
+    ("2a00:20::", Some(21)),
+    ("2a00:21::", None),
     ("3fff:efff:ffff:ffff:ffff:ffff:ffff:ffff", None),
     ("3fff:ffff:ffff:ffff:ffff:ffff:ffff:ffff", Some(14)),
     ("4000::", Some(15)),
@@ -81,12 +103,12 @@ pub(crate) fn address(rt: &impl Abort, text: &str) -> IpAddr {
 
 /// Each address has its hop, asked for alone and with the others.
 fn hops_are(rt: &impl Abort, index: &HopIndex) {
-    let mut addrs = [address(rt, "::"); 36];
+    let mut addrs = [address(rt, "::"); 51];
     for (place, (text, hop)) in HOPS.iter().enumerate() {
         addrs[place] = address(rt, text);
         assert_eq!(rt; index.hop(addrs[place]), *hop);
     }
-    let mut hops = [None; 36];
+    let mut hops = [None; 51];
     index.hops(&addrs, &mut hops);
     for (place, (_, hop)) in HOPS.iter().enumerate() {
         assert_eq!(rt; hops[place], *hop);
