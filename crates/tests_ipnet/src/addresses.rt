@@ -1,6 +1,7 @@
 //! Each call once on values from outside.
 ghost use Rattle.std.specs.Prelude.{◌≤◌};
 
+use crate::compare::{is_equal, row_is};
 use ipnet_addr::ipext::{IpAdd, IpBitAnd, IpBitOr, IpStep, IpSub};
 use ipnet_addr::key::Key;
 use ipnet_addr::mask::{ip_mask_to_prefix, ipv4_mask_to_prefix, ipv6_mask_to_prefix};
@@ -14,123 +15,102 @@ fn v6(low: u16) -> Ipv6Addr {
     Ipv6Addr::new(0x2001, 0xdb8, 0, 0, 0, 0, 0, low)
 }
 
-fn is_v4(rt: &impl Abort, addr: Ipv4Addr, wanted: Ipv4Addr) {
-    assert_eq!(rt; addr, wanted);
-}
-
-fn is_v6(rt: &impl Abort, addr: Ipv6Addr, wanted: Ipv6Addr) {
-    assert_eq!(rt; addr, wanted);
-}
-
 #[test]
 fn ipv4_steps(rt: HostRuntime) {
-    let addr = Ipv4Addr::new(10, 0, 0, 255);
-    is_v4(&rt, addr.add_one(), Ipv4Addr::new(10, 0, 1, 0));
-    is_v4(&rt, addr.sub_one(), Ipv4Addr::new(10, 0, 0, 254));
-    is_v4(&rt, TOP4.add_one(), TOP4);
-    let bottom = Ipv4Addr::UNSPECIFIED;
-    is_v4(&rt, bottom.sub_one(), Ipv4Addr::UNSPECIFIED);
-}
-
-#[test]
-fn ipv4_replacements(rt: HostRuntime) {
     let mut addr = Ipv4Addr::new(10, 0, 0, 255);
-    is_v4(&rt, addr.replace_one(), Ipv4Addr::new(10, 0, 0, 255));
-    is_v4(&rt, addr.replace_zero(), Ipv4Addr::new(0, 0, 0, 1));
-    is_v4(&rt, addr, Ipv4Addr::UNSPECIFIED);
+    is_equal(&rt, addr.add_one(), Ipv4Addr::new(10, 0, 1, 0));
+    is_equal(&rt, addr.sub_one(), Ipv4Addr::new(10, 0, 0, 254));
+    is_equal(&rt, TOP4.add_one(), TOP4);
+    let bottom = Ipv4Addr::UNSPECIFIED;
+    is_equal(&rt, bottom.sub_one(), Ipv4Addr::UNSPECIFIED);
+    is_equal(&rt, addr.replace_one(), Ipv4Addr::new(10, 0, 0, 255));
+    is_equal(&rt, addr.replace_zero(), Ipv4Addr::new(0, 0, 0, 1));
+    is_equal(&rt, addr, Ipv4Addr::UNSPECIFIED);
 }
 
 #[test]
 fn ipv6_steps(rt: HostRuntime) {
-    let addr = v6(0xffff);
-    let after = Ipv6Addr::new(0x2001, 0xdb8, 0, 0, 0, 0, 1, 0);
-    is_v6(&rt, addr.add_one(), after);
-    is_v6(&rt, addr.sub_one(), v6(0xfffe));
-    let top = Ipv6Addr::from_bits(u128::MAX);
-    is_v6(&rt, top.add_one(), Ipv6Addr::from_bits(u128::MAX));
-}
-
-#[test]
-fn ipv6_replacements(rt: HostRuntime) {
     let mut addr = v6(0xffff);
-    is_v6(&rt, addr.replace_zero(), v6(0xffff));
-    is_v6(&rt, addr.replace_one(), Ipv6Addr::UNSPECIFIED);
-    is_v6(&rt, addr, Ipv6Addr::LOCALHOST);
+    let after = Ipv6Addr::new(0x2001, 0xdb8, 0, 0, 0, 0, 1, 0);
+    is_equal(&rt, addr.add_one(), after);
+    is_equal(&rt, addr.sub_one(), v6(0xfffe));
+    let top = Ipv6Addr::from_bits(u128::MAX);
+    is_equal(&rt, top.add_one(), Ipv6Addr::from_bits(u128::MAX));
+    is_equal(&rt, addr.replace_zero(), v6(0xffff));
+    is_equal(&rt, addr.replace_one(), Ipv6Addr::UNSPECIFIED);
+    is_equal(&rt, addr, Ipv6Addr::LOCALHOST);
 }
 
 #[test]
 fn ipv4_sums_and_differences(rt: HostRuntime) {
     let addr = Ipv4Addr::new(10, 0, 0, 1);
     let sum = IpAdd::saturating_add(addr, 256);
-    is_v4(&rt, sum, Ipv4Addr::new(10, 0, 1, 1));
-    is_v4(&rt, IpAdd::saturating_add(TOP4, 1), TOP4);
+    is_equal(&rt, sum, Ipv4Addr::new(10, 0, 1, 1));
+    is_equal(&rt, IpAdd::saturating_add(TOP4, 1), TOP4);
     let difference = IpSub::<u32>::saturating_sub(addr, 2);
-    is_v4(&rt, difference, Ipv4Addr::new(9, 255, 255, 255));
-}
-
-#[test]
-fn ipv4_distances(rt: HostRuntime) {
-    let addr = Ipv4Addr::new(10, 0, 0, 1);
+    is_equal(&rt, difference, Ipv4Addr::new(9, 255, 255, 255));
     let network = Ipv4Addr::new(10, 0, 0, 0);
-    assert_eq!(rt; IpSub::<Ipv4Addr>::saturating_sub(addr, network), 1);
-    assert_eq!(rt; IpSub::<Ipv4Addr>::saturating_sub(addr, TOP4), 0);
+    is_equal(&rt, IpSub::<Ipv4Addr>::saturating_sub(addr, network), 1);
+    is_equal(&rt, IpSub::<Ipv4Addr>::saturating_sub(addr, TOP4), 0);
 }
 
 #[test]
 fn ipv4_bits(rt: HostRuntime) {
     let addr = Ipv4Addr::new(10, 0, 0, 1);
-    is_v4(&rt, IpBitAnd::<u32>::bitand(addr, 0xff00_00ff), addr);
+    is_equal(&rt, IpBitAnd::<u32>::bitand(addr, 0xff00_00ff), addr);
     let and = IpBitAnd::<Ipv4Addr>::bitand(addr, Ipv4Addr::new(255, 0, 0, 0));
-    is_v4(&rt, and, Ipv4Addr::new(10, 0, 0, 0));
+    is_equal(&rt, and, Ipv4Addr::new(10, 0, 0, 0));
     let filled = IpBitOr::<u32>::bitor(addr, 0xff);
-    is_v4(&rt, filled, Ipv4Addr::new(10, 0, 0, 255));
+    is_equal(&rt, filled, Ipv4Addr::new(10, 0, 0, 255));
     let or = IpBitOr::<Ipv4Addr>::bitor(addr, Ipv4Addr::new(0, 0, 0, 6));
-    is_v4(&rt, or, Ipv4Addr::new(10, 0, 0, 7));
+    is_equal(&rt, or, Ipv4Addr::new(10, 0, 0, 7));
 }
 
 #[test]
-fn ipv6_sums_and_differences(rt: HostRuntime) {
-    is_v6(&rt, IpAdd::saturating_add(v6(1), 2), v6(3));
-    is_v6(&rt, IpSub::<u128>::saturating_sub(v6(3), 2), v6(1));
-    assert_eq!(rt; IpSub::<Ipv6Addr>::saturating_sub(v6(3), v6(1)), 2);
-}
-
-#[test]
-fn ipv6_bits(rt: HostRuntime) {
+fn ipv6_sums_and_bits(rt: HostRuntime) {
+    is_equal(&rt, IpAdd::saturating_add(v6(1), 2), v6(3));
+    is_equal(&rt, IpSub::<u128>::saturating_sub(v6(3), 2), v6(1));
+    is_equal(&rt, IpSub::<Ipv6Addr>::saturating_sub(v6(3), v6(1)), 2);
     let two = Ipv6Addr::from_bits(2);
-    is_v6(&rt, IpBitAnd::<u128>::bitand(v6(3), 2), two);
-    is_v6(&rt, IpBitAnd::<Ipv6Addr>::bitand(v6(3), v6(6)), v6(2));
-    is_v6(&rt, IpBitOr::<u128>::bitor(v6(3), 4), v6(7));
-    is_v6(&rt, IpBitOr::<Ipv6Addr>::bitor(v6(3), v6(4)), v6(7));
+    is_equal(&rt, IpBitAnd::<u128>::bitand(v6(3), 2), two);
+    is_equal(&rt, IpBitAnd::<Ipv6Addr>::bitand(v6(3), v6(6)), v6(2));
+    is_equal(&rt, IpBitOr::<u128>::bitor(v6(3), 4), v6(7));
+    is_equal(&rt, IpBitOr::<Ipv6Addr>::bitor(v6(3), v6(4)), v6(7));
 }
+
+/// Masks, and the lengths that they tell.
+const IPV4_MASKS: [(&str, [u8; 4], Option<u8>); 5] = [
+    ("0.0.0.0", [0, 0, 0, 0], Some(0)),
+    ("128.0.0.0", [128, 0, 0, 0], Some(1)),
+    ("255.255.255.255", [255, 255, 255, 255], Some(32)),
+    ("255.0.255.0", [255, 0, 255, 0], None),
+    ("0.0.0.1", [0, 0, 0, 1], None),
+];
 
 #[test]
 fn ipv4_masks(rt: HostRuntime) {
-    for (octets, len) in [
-        ([0, 0, 0, 0], Some(0)),
-        ([128, 0, 0, 0], Some(1)),
-        ([255, 255, 255, 255], Some(32)),
-        ([255, 0, 255, 0], None),
-        ([0, 0, 0, 1], None),
-    ] {
+    for (row, octets, len) in IPV4_MASKS {
         let mask = Ipv4Addr::from_octets(octets);
-        assert_eq!(rt; ipv4_mask_to_prefix(mask).ok(), len);
-        assert_eq!(rt; ip_mask_to_prefix(IpAddr::V4(mask)).ok(), len);
+        row_is(&rt, row, ipv4_mask_to_prefix(mask).ok(), len);
+        row_is(&rt, row, ip_mask_to_prefix(IpAddr::V4(mask)).ok(), len);
     }
 }
 
+/// Masks, and the lengths that they tell.
+const IPV6_MASKS: [(&str, u128, Option<u8>); 5] = [
+    ("::", 0, Some(0)),
+    ("all but the last", u128::MAX << 1, Some(127)),
+    ("all", u128::MAX, Some(128)),
+    ("all but the first", u128::MAX >> 1, None),
+    ("::1", 1, None),
+];
+
 #[test]
 fn ipv6_masks(rt: HostRuntime) {
-    for (number, len) in [
-        (0, Some(0)),
-        (u128::MAX << 1, Some(127)),
-        (u128::MAX, Some(128)),
-        (u128::MAX >> 1, None),
-        (1, None),
-    ] {
+    for (row, number, len) in IPV6_MASKS {
         let mask = Ipv6Addr::from_bits(number);
-        assert_eq!(rt; ipv6_mask_to_prefix(mask).ok(), len);
-        assert_eq!(rt; ip_mask_to_prefix(IpAddr::V6(mask)).ok(), len);
+        row_is(&rt, row, ipv6_mask_to_prefix(mask).ok(), len);
+        row_is(&rt, row, ip_mask_to_prefix(IpAddr::V6(mask)).ok(), len);
     }
 }
 
@@ -156,15 +136,20 @@ fn moved<K: Key>(key: K, count: u8) -> (u128, u128, u128)
 
 #[test]
 fn keys(rt: HostRuntime) {
-    assert_eq!(rt; moved(0x93_u8, 3), (0xe0, 0x98, 0x12));
-    assert_eq!(rt; moved(0x93_u8, 8), (0xff, 0, 0));
-    assert_eq!(rt; moved(0x8001_u16, 1), (0x8000, 2, 0x4000));
-    assert_eq!(rt; moved(0x8000_0001_u32, 0), (0, 0x8000_0001, 0x8000_0001));
-    assert_eq!(rt; moved(0x8000_0001_u32, 32), (0xffff_ffff, 0, 0));
-    assert_eq!(rt;
-        moved(0xff_u64, 60),
-        (0xffff_ffff_ffff_fff0, 0xf000_0000_0000_0000, 0)
+    is_equal(&rt, moved(0x93_u8, 3), (0xe0, 0x98, 0x12));
+    is_equal(&rt, moved(0x93_u8, 8), (0xff, 0, 0));
+    is_equal(&rt, moved(0x8001_u16, 1), (0x8000, 2, 0x4000));
+    is_equal(
+        &rt,
+        moved(0x8000_0001_u32, 0),
+        (0, 0x8000_0001, 0x8000_0001),
     );
-    assert_eq!(rt; moved(u128::MAX, 127), (u128::MAX - 1, 1 << 127, 1));
-    assert_eq!(rt; moved(u128::MAX, 128), (u128::MAX, 0, 0));
+    is_equal(&rt, moved(0x8000_0001_u32, 32), (0xffff_ffff, 0, 0));
+    is_equal(
+        &rt,
+        moved(0xff_u64, 60),
+        (0xffff_ffff_ffff_fff0, 0xf000_0000_0000_0000, 0),
+    );
+    is_equal(&rt, moved(u128::MAX, 127), (u128::MAX - 1, 1 << 127, 1));
+    is_equal(&rt, moved(u128::MAX, 128), (u128::MAX, 0, 0));
 }

@@ -1,125 +1,107 @@
 //! Networks as bytes and as JSON values, on rows from outside.
+use crate::compare::{any, is_equal, row_is, v4, v6};
 use ipnet::{IpNet, Ipv4Net, Ipv6Net};
 use serde_json::{Value, json};
+use std::alloc::Global;
 use std::process::Abort;
-use std::str::FromStr;
-use std::test::Fail;
-
-fn v4(rt: &impl Abort, text: &str) -> Ipv4Net {
-    Ipv4Net::from_str(text).expect(rt, "an IPv4 network")
-}
-
-fn v6(rt: &impl Abort, text: &str) -> Ipv6Net {
-    Ipv6Net::from_str(text).expect(rt, "an IPv6 network")
-}
 
 #[test]
-fn ipv4_bytes(rt: HostRuntime) {
+fn bytes_of_one_family(rt: HostRuntime) {
     let net = v4(&rt, "10.1.2.3/16");
-    assert_eq!(rt; net.to_bytes(), [0x0a, 1, 2, 3, 0x10]);
-    assert_eq!(rt; Ipv4Net::from_bytes(&net.to_bytes()), Ok(net));
-}
-
-#[test]
-fn ipv6_bytes(rt: HostRuntime) {
+    is_equal(&rt, net.to_bytes(), [0x0a, 1, 2, 3, 0x10]);
+    is_equal(&rt, &Ipv4Net::from_bytes(&net.to_bytes()), &Ok(net));
     let net = v6(&rt, "2001:db8::1/64");
-    assert_eq!(rt;
-        net.to_bytes(),
-        [0x20, 1, 0x0d, 0xb8, 0, 0, 0, 0, 0, 0, 0, 0, 0, 0, 0, 1, 64]
-    );
-    assert_eq!(rt; Ipv6Net::from_bytes(&net.to_bytes()), Ok(net));
+    let bytes = [0x20, 1, 0x0d, 0xb8, 0, 0, 0, 0, 0, 0, 0, 0, 0, 0, 0, 1, 64];
+    is_equal(&rt, net.to_bytes(), bytes);
+    is_equal(&rt, &Ipv6Net::from_bytes(&net.to_bytes()), &Ok(net));
 }
 
-/// The network of the text comes back from its bytes.
-fn comes_back(rt: &impl Abort, text: &str) {
-    let net = IpNet::from_str(text).expect(rt, "a network");
-    assert_eq!(rt; IpNet::from_bytes(net.to_bytes().as_slice()), Ok(net));
-}
+/// Networks that come back from their bytes.
+const COME_BACK: [&str; 3] = ["2001:db8::1/64", "::ffff:10.0.0.0/104", "10.0.0.0/8"];
 
 #[test]
 fn bytes_of_either_family(rt: HostRuntime) {
     let net = IpNet::V4(v4(&rt, "10.1.2.3/16"));
-    assert_eq!(rt;
-        net.to_bytes().as_slice(),
-        [0, 0x0a, 1, 2, 3, 0x10].as_slice()
-    );
-    comes_back(&rt, "2001:db8::1/64");
-    comes_back(&rt, "::ffff:10.0.0.0/104");
-    comes_back(&rt, "10.0.0.0/8");
+    let bytes = [0, 0x0a, 1, 2, 3, 0x10];
+    is_equal(&rt, net.to_bytes().as_slice(), bytes.as_slice());
+    for text in COME_BACK {
+        let net = any(&rt, text);
+        let back = IpNet::from_bytes(net.to_bytes().as_slice());
+        row_is(&rt, text, &back, &Ok(net));
+    }
 }
 
 #[test]
 fn refused_bytes(rt: HostRuntime) {
-    assert!(rt; Ipv4Net::from_bytes(&[0x0a, 0, 0, 0, 0x21]).is_err());
-    assert!(rt; Ipv4Net::from_bytes(&[0x0a, 0, 0, 0]).is_err());
-    assert!(rt; Ipv4Net::from_bytes(&[0x0a, 0, 0, 0, 0, 8]).is_err());
-    assert!(rt; IpNet::from_bytes(&[2, 0x0a, 0, 0, 0, 8]).is_err());
-    assert!(rt; IpNet::from_bytes(&[]).is_err());
+    is_equal(
+        &rt,
+        Ipv4Net::from_bytes(&[0x0a, 0, 0, 0, 0x21]).is_err(),
+        true,
+    );
+    is_equal(&rt, Ipv4Net::from_bytes(&[0x0a, 0, 0, 0]).is_err(), true);
+    is_equal(
+        &rt,
+        Ipv4Net::from_bytes(&[0x0a, 0, 0, 0, 0, 8]).is_err(),
+        true,
+    );
+    is_equal(
+        &rt,
+        IpNet::from_bytes(&[2, 0x0a, 0, 0, 0, 8]).is_err(),
+        true,
+    );
+    is_equal(&rt, IpNet::from_bytes(&[]).is_err(), true);
 }
 
-/// The value is a string, this one.
-fn is_string(rt: &impl Abort, value: &Value, text: &str) {
-    assert_eq!(rt; value.as_str(), Some(text));
+/// The value is a string, this one, and spells this network, of either family.
+fn is_value(rt: &impl Abort, value: &Value, text: &str, net: IpNet) {
+    row_is(rt, text, value.as_str(), Some(text));
+    row_is(rt, text, &IpNet::from_value(value), &Ok(net));
 }
 
-/// The value spells this network, of either family.
-fn spells(rt: &impl Abort, value: &Value, net: IpNet) {
-    assert_eq!(rt; IpNet::from_value(value), Ok(net));
+/// The value of an IPv4 network spells it, and no IPv6 network.
+fn ipv4_value_is(rt: &impl Abort, alloc: Global, given: &str, text: &str) {
+    let net = v4(rt, given);
+    let value = net.to_value(alloc).expect(rt, "memory");
+    is_value(rt, &value, text, IpNet::V4(net));
+    row_is(rt, text, &Ipv4Net::from_value(&value), &Ok(net));
+    row_is(rt, text, Ipv6Net::from_value(&value).is_err(), true);
+}
+
+/// The value of an IPv6 network spells it.
+fn ipv6_value_is(rt: &impl Abort, alloc: Global, given: &str, text: &str) {
+    let net = v6(rt, given);
+    let value = net.to_value(alloc).expect(rt, "memory");
+    is_value(rt, &value, text, IpNet::V6(net));
+    row_is(rt, text, &Ipv6Net::from_value(&value), &Ok(net));
+}
+
+/// The value of a network of either family spells it.
+fn value_is(rt: &impl Abort, alloc: Global, given: &str, text: &str) {
+    let net = any(rt, given);
+    let value = net.to_value(alloc).expect(rt, "memory");
+    is_value(rt, &value, text, net);
+}
+
+#[test]
+fn values(rt: HostRuntime) {
+    ipv4_value_is(&rt, rt.alloc(), "10.1.2.3/16", "10.1.2.3/16");
+    ipv6_value_is(&rt, rt.alloc(), "2001:DB8::1/32", "2001:db8::1/32");
+    value_is(&rt, rt.alloc(), "2001:DB8::1/32", "2001:db8::1/32");
 }
 
 /// The value spells no IPv4 network.
 fn is_no_ipv4(rt: &impl Abort, value: &Value) {
-    assert!(rt; Ipv4Net::from_value(value).is_err());
-}
-
-/// The value of an IPv4 network spells it, and no IPv6 network.
-fn is_of_ipv4(rt: &impl Abort, value: &Value, net: Ipv4Net) {
-    assert_eq!(rt; Ipv4Net::from_value(value), Ok(net));
-    assert!(rt; Ipv6Net::from_value(value).is_err());
-}
-
-/// The value of an IPv6 network spells it.
-fn is_of_ipv6(rt: &impl Abort, value: &Value, net: Ipv6Net) {
-    assert_eq!(rt; Ipv6Net::from_value(value), Ok(net));
+    is_equal(rt, Ipv4Net::from_value(value).is_err(), true);
 }
 
 #[test]
-fn ipv4_values(rt: HostRuntime) -> Result<(), Fail> {
-    let net = v4(&rt, "10.1.2.3/16");
-    let value = net.to_value(rt.alloc())?;
-    is_string(&rt, &value, "10.1.2.3/16");
-    is_of_ipv4(&rt, &value, net);
-    spells(&rt, &value, IpNet::V4(net));
-    Ok(())
-}
-
-#[test]
-fn ipv6_values(rt: HostRuntime) -> Result<(), Fail> {
-    let net = v6(&rt, "2001:DB8::1/32");
-    let value = net.to_value(rt.alloc())?;
-    is_string(&rt, &value, "2001:db8::1/32");
-    is_of_ipv6(&rt, &value, net);
-    Ok(())
-}
-
-#[test]
-fn values_of_either_family(rt: HostRuntime) -> Result<(), Fail> {
-    let net = IpNet::V6(v6(&rt, "2001:DB8::1/32"));
-    let value = net.to_value(rt.alloc())?;
-    spells(&rt, &value, net);
-    Ok(())
-}
-
-#[test]
-fn a_number_is_no_network(rt: HostRuntime) -> Result<(), Fail> {
-    let number: Value = json!(in rt.alloc(); 10)?;
+fn a_number_is_no_network(rt: HostRuntime) {
+    let number: Value = json!(in rt.alloc(); 10).expect(&rt, "memory");
     is_no_ipv4(&rt, &number);
-    Ok(())
 }
 
 #[test]
-fn an_address_is_no_network(rt: HostRuntime) -> Result<(), Fail> {
-    let host: Value = json!(in rt.alloc(); "10.0.0.0")?;
+fn an_address_is_no_network(rt: HostRuntime) {
+    let host: Value = json!(in rt.alloc(); "10.0.0.0").expect(&rt, "memory");
     is_no_ipv4(&rt, &host);
-    Ok(())
 }

@@ -4,6 +4,8 @@
 #[cfg(test)]
 mod addresses;
 #[cfg(test)]
+mod compare;
+#[cfg(test)]
 mod cuts;
 #[cfg(test)]
 mod forms;

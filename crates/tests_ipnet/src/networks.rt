@@ -1,200 +1,117 @@
 //! What no contract says: texts of errors, and each call once on values from outside.
-use ipnet::{
-    AddrParseError, Contains, IpAddr, IpNet, Ipv4Addr, Ipv4Net, Ipv6Addr, Ipv6Net, PrefixLenError,
-};
-use std::fmt::Write;
+use crate::compare::{any, is_equal, row_is, v4, v6};
+use ipnet::{Contains, IpAddr, IpNet, Ipv4Addr, Ipv4Net, Ipv6Addr, Ipv6Net, PrefixLenError};
+use std::alloc::Global;
+use std::fmt::{Debug, Display, Write};
 use std::process::Abort;
 use std::str::FromStr;
-use std::test::Fail;
 
-fn net(rt: &impl Abort, text: &str) -> Ipv4Net {
-    Ipv4Net::from_str(text).expect(rt, "an IPv4 network")
-}
-
-fn net6(rt: &impl Abort, text: &str) -> Ipv6Net {
-    Ipv6Net::from_str(text).expect(rt, "an IPv6 network")
-}
-
-fn any(rt: &impl Abort, text: &str) -> IpNet {
-    IpNet::from_str(text).expect(rt, "a network")
-}
-
-/// The text spells a network, which is printed so.
-fn prints(rt: &impl Abort, text: &str, printed: &str) {
-    assert_eq!(rt;
-        any(rt, text).to_text().as_slice(),
-        printed.as_bytes(),
-        "{text}"
-    );
-}
-
-/// The text spells no network.
-fn is_refused(rt: &impl Abort, text: &str) {
-    assert!(rt; IpNet::from_str(text).is_err(), "{text}");
-}
-
-fn is_len(rt: &impl Abort, len: u8, wanted: u8) {
-    assert_eq!(rt; len, wanted);
-}
-
-fn is_addr(rt: &impl Abort, addr: Ipv4Addr, wanted: Ipv4Addr) {
-    assert_eq!(rt; addr, wanted);
-}
-
-fn is_net(rt: &impl Abort, net: Ipv4Net, wanted: Ipv4Net) {
-    assert_eq!(rt; net, wanted);
-}
-
-fn is_net6(rt: &impl Abort, net: Ipv6Net, wanted: Ipv6Net) {
-    assert_eq!(rt; net, wanted);
-}
-
-fn is_any(rt: &impl Abort, net: IpNet, wanted: IpNet) {
-    assert_eq!(rt; net, wanted);
-}
-
-#[test]
-fn ipv4_texts(rt: HostRuntime) {
-    prints(&rt, "010.001.000.255/08", "10.1.0.255/8");
-    prints(&rt, "0.0.0.0/0", "0.0.0.0/0");
-    prints(&rt, "255.255.255.255/32", "255.255.255.255/32");
-}
-
-#[test]
-fn refused_ipv4_texts(rt: HostRuntime) {
-    is_refused(&rt, "10.0.0.0");
-    is_refused(&rt, "10.0.0.256/8");
-    is_refused(&rt, "10.0.0.0/33");
-    is_refused(&rt, "10.0.0.0/008");
-    is_refused(&rt, "0010.0.0.0/8");
-    is_refused(&rt, "10.0.0/8");
-    is_refused(&rt, "10.0.0.0/");
-    is_refused(&rt, " 10.0.0.0/8");
-    is_refused(&rt, "10.0.0.0/8 ");
-    is_refused(&rt, "+1.0.0.0/8");
-    is_refused(&rt, "");
-    assert!(rt; Ipv4Net::from_str("::/0").is_err());
-}
-
-#[test]
-fn ipv6_texts(rt: HostRuntime) {
-    prints(&rt, "::/0", "::/0");
-    prints(&rt, "2001:0DB8:0:0:1:0:0:1/64", "2001:db8::1:0:0:1/64");
-    prints(&rt, "1:2:3:4:5:6:7::8/128", "1:2:3:4:5:6:7:8/128");
-    prints(
-        &rt,
+/// Texts of networks, and how these are printed.
+const PRINTED: [(&str, &str); 13] = [
+    ("010.001.000.255/08", "10.1.0.255/8"),
+    ("0.0.0.0/0", "0.0.0.0/0"),
+    ("255.255.255.255/32", "255.255.255.255/32"),
+    ("::/0", "::/0"),
+    ("2001:0DB8:0:0:1:0:0:1/64", "2001:db8::1:0:0:1/64"),
+    ("1:2:3:4:5:6:7::8/128", "1:2:3:4:5:6:7:8/128"),
+    (
         "::1:2:3:4:5:6:255.255.255.255/128",
         "1:2:3:4:5:6:ffff:ffff/128",
-    );
-    prints(&rt, "1:2:3:4:5:6:7::/0", "1:2:3:4:5:6:7:0/0");
-    prints(&rt, "::1:2:3:4:5:6:7:8/128", "1:2:3:4:5:6:7:8/128");
-    prints(&rt, "1:0:0:2:0:0:0:3/1", "1:0:0:2::3/1");
-    prints(&rt, "::ffff:1.2.3.4/96", "::ffff:1.2.3.4/96");
-    prints(&rt, "FFFF::0001:0:0:1/064", "ffff::1:0:0:1/64");
-    prints(
-        &rt,
-        "ffff:ffff:ffff:ffff:ffff:ffff:ffff:ffff/128",
-        "ffff:ffff:ffff:ffff:ffff:ffff:ffff:ffff/128",
-    );
-}
+    ),
+    ("1:2:3:4:5:6:7::/0", "1:2:3:4:5:6:7:0/0"),
+    ("::1:2:3:4:5:6:7:8/128", "1:2:3:4:5:6:7:8/128"),
+    ("1:0:0:2:0:0:0:3/1", "1:0:0:2::3/1"),
+    ("::ffff:1.2.3.4/96", "::ffff:1.2.3.4/96"),
+    ("FFFF::0001:0:0:1/064", "ffff::1:0:0:1/64"),
+    (LONGEST, LONGEST),
+];
 
 #[test]
-fn refused_ipv6_texts(rt: HostRuntime) {
-    is_refused(&rt, "1:2:3:4:5:6:7:8::/128");
-    is_refused(&rt, "1.2.3.4::/64");
-    is_refused(&rt, "1:2:3:4:5:6:7:1.2.3.4/96");
-    is_refused(&rt, "ffff::1/129");
-    is_refused(&rt, "ffff::1/0064");
-    is_refused(&rt, "fffff::1/64");
-    is_refused(&rt, "1::2::3/64");
-    is_refused(&rt, ":1:2:3:4:5:6:7:8/64");
-    is_refused(&rt, "::");
-    assert!(rt; Ipv6Net::from_str("0.0.0.0/0").is_err());
+fn texts(rt: HostRuntime) {
+    for (text, printed) in PRINTED {
+        let net = any(&rt, text);
+        row_is(&rt, text, net.to_text().as_slice(), printed.as_bytes());
+    }
 }
 
-#[test]
-fn displayed(rt: HostRuntime) -> Result<(), Fail> {
-    let net = net(&rt, "10.1.2.3/16");
-    assert_eq!(rt; format!(in rt.alloc(); "{net}")?.as_str(), "10.1.2.3/16");
-    assert_eq!(rt;
-        format!(in rt.alloc(); "{net:>20}")?.as_str(),
-        "10.1.2.3/16"
-    );
-    assert_eq!(rt; format!(in rt.alloc(); "{net:?}")?.as_str(), "10.1.2.3/16");
-    Ok(())
-}
+/// Texts that spell no network.
+const REFUSED: [&str; 20] = [
+    "10.0.0.0",
+    "10.0.0.256/8",
+    "10.0.0.0/33",
+    "10.0.0.0/008",
+    "0010.0.0.0/8",
+    "10.0.0/8",
+    "10.0.0.0/",
+    " 10.0.0.0/8",
+    "10.0.0.0/8 ",
+    "+1.0.0.0/8",
+    "",
+    "1:2:3:4:5:6:7:8::/128",
+    "1.2.3.4::/64",
+    "1:2:3:4:5:6:7:1.2.3.4/96",
+    "ffff::1/129",
+    "ffff::1/0064",
+    "fffff::1/64",
+    "1::2::3/64",
+    ":1:2:3:4:5:6:7:8/64",
+    "::",
+];
 
 #[test]
-fn ipv6_displayed(rt: HostRuntime) -> Result<(), Fail> {
-    let net = net6(&rt, "2001:db8::/32");
-    assert_eq!(rt;
-        format!(in rt.alloc(); "{net:>20} {net:?}")?.as_str(),
-        "2001:db8::/32 2001:db8::/32"
-    );
-    Ok(())
+fn refused_texts(rt: HostRuntime) {
+    for text in REFUSED {
+        row_is(&rt, text, IpNet::from_str(text).is_err(), true);
+    }
+    is_equal(&rt, Ipv4Net::from_str("::/0").is_err(), true);
+    is_equal(&rt, Ipv6Net::from_str("0.0.0.0/0").is_err(), true);
 }
 
-#[test]
-fn either_displayed(rt: HostRuntime) -> Result<(), Fail> {
-    let net = IpNet::from(net6(&rt, "2001:db8::/32"));
-    assert_eq!(rt;
-        format!(in rt.alloc(); "{net:>20} {net:?}")?.as_str(),
-        "2001:db8::/32 2001:db8::/32"
-    );
-    Ok(())
+/// The value is displayed so.
+fn shows<T: Display>(rt: &impl Abort, alloc: Global, value: &T, text: &str) {
+    let shown = format!(in alloc; "{value}").expect(rt, "memory");
+    row_is(rt, text, shown.as_str(), text);
 }
 
-#[test]
-fn longest_displayed(rt: HostRuntime) -> Result<(), Fail> {
-    let net = net(&rt, "255.255.255.255/32");
-    assert_eq!(rt;
-        format!(in rt.alloc(); "{net} {net:?}")?.as_str(),
-        "255.255.255.255/32 255.255.255.255/32"
-    );
-    Ok(())
+/// The network is displayed so, where more bytes are asked too, and for debugging.
+fn shows_always<T: Display + Debug>(rt: &impl Abort, alloc: Global, net: &T, text: &str) {
+    shows(rt, alloc, net, text);
+    let padded = format!(in alloc; "{net:>20}").expect(rt, "memory");
+    row_is(rt, text, padded.as_str(), text);
+    let debugged = format!(in alloc; "{net:?}").expect(rt, "memory");
+    row_is(rt, text, debugged.as_str(), text);
 }
 
 /// The one text of the greatest IPv6 address has 43 bytes.
 const LONGEST: &str = "ffff:ffff:ffff:ffff:ffff:ffff:ffff:ffff/128";
 
 #[test]
-fn longest_ipv6_displayed(rt: HostRuntime) -> Result<(), Fail> {
-    let net = net6(&rt, LONGEST);
-    assert_eq!(rt; format!(in rt.alloc(); "{net}")?.as_str(), LONGEST);
-    assert_eq!(rt; format!(in rt.alloc(); "{net:?}")?.as_str(), LONGEST);
-    Ok(())
-}
-
-#[test]
-fn longest_of_either_displayed(rt: HostRuntime) -> Result<(), Fail> {
-    let net = any(&rt, LONGEST);
-    assert_eq!(rt; format!(in rt.alloc(); "{net}")?.as_str(), LONGEST);
-    assert_eq!(rt; format!(in rt.alloc(); "{net:?}")?.as_str(), LONGEST);
-    Ok(())
+fn displayed(rt: HostRuntime) {
+    for text in ["10.1.2.3/16", "255.255.255.255/32"] {
+        shows_always(&rt, rt.alloc(), &v4(&rt, text), text);
+    }
+    for text in ["2001:db8::/32", LONGEST] {
+        shows_always(&rt, rt.alloc(), &v6(&rt, text), text);
+        shows_always(&rt, rt.alloc(), &any(&rt, text), text);
+    }
 }
 
 #[test]
 fn too_long_prefixes(rt: HostRuntime) {
     let long = Ipv4Net::new(Ipv4Addr::new(10, 0, 0, 0), 33);
-    assert_eq!(rt; long, Err(PrefixLenError));
-    assert!(rt; Ipv6Net::new(Ipv6Addr::LOCALHOST, 129).is_err());
-    assert!(rt; IpNet::new(IpAddr::V4(Ipv4Addr::LOCALHOST), 64).is_err());
+    is_equal(&rt, &long, &Err(PrefixLenError));
+    is_equal(&rt, Ipv6Net::new(Ipv6Addr::LOCALHOST, 129).is_err(), true);
+    let host = IpAddr::V4(Ipv4Addr::LOCALHOST);
+    is_equal(&rt, IpNet::new(host, 64).is_err(), true);
 }
 
 #[test]
-fn errors(rt: HostRuntime) -> Result<(), Fail> {
-    assert_eq!(rt;
-        format!(in rt.alloc(); "{PrefixLenError}")?.as_str(),
-        "invalid IP prefix length"
-    );
+fn errors(rt: HostRuntime) {
+    shows(&rt, rt.alloc(), &PrefixLenError, "invalid IP prefix length");
     let Err(error) = Ipv4Net::parse_ascii(b"10.0.0.0") else {
-        return Err(Fail::from("read"));
+        panic!(&rt; "read")
     };
-    assert_eq!(rt;
-        format!(in rt.alloc(); "{error}")?.as_str(),
-        "invalid IP address syntax"
-    );
-    Ok(())
+    shows(&rt, rt.alloc(), &error, "invalid IP address syntax");
 }
 
 fn made(rt: &impl Abort, addr: Ipv4Addr, len: u8) -> Ipv4Net {
@@ -205,178 +122,193 @@ fn made(rt: &impl Abort, addr: Ipv4Addr, len: u8) -> Ipv4Net {
 fn ipv4_parts(rt: HostRuntime) {
     let addr = Ipv4Addr::new(10, 1, 2, 3);
     let net = made(&rt, addr, 16);
-    is_addr(&rt, net.addr(), addr);
-    is_len(&rt, net.prefix_len(), 16);
-    is_len(&rt, net.max_prefix_len(), 32);
-    is_net(&rt, net.trunc(), made(&rt, Ipv4Addr::new(10, 1, 0, 0), 16));
-    is_net(&rt, Ipv4Net::from(addr), Ipv4Net::new_assert(addr, 32));
-}
-
-#[test]
-fn ipv4_masks_and_ends(rt: HostRuntime) {
-    let net = made(&rt, Ipv4Addr::new(10, 1, 2, 3), 16);
-    is_addr(&rt, net.netmask(), Ipv4Addr::new(255, 255, 0, 0));
-    is_addr(&rt, net.hostmask(), Ipv4Addr::new(0, 0, 255, 255));
-    is_addr(&rt, net.network(), Ipv4Addr::new(10, 1, 0, 0));
-    is_addr(&rt, net.broadcast(), Ipv4Addr::new(10, 1, 255, 255));
+    is_equal(&rt, net.addr(), addr);
+    is_equal(&rt, net.prefix_len(), 16);
+    is_equal(&rt, net.max_prefix_len(), 32);
+    is_equal(&rt, net.trunc(), made(&rt, Ipv4Addr::new(10, 1, 0, 0), 16));
+    is_equal(&rt, Ipv4Net::from(addr), Ipv4Net::new_assert(addr, 32));
+    is_equal(&rt, net.netmask(), Ipv4Addr::new(255, 255, 0, 0));
+    is_equal(&rt, net.hostmask(), Ipv4Addr::new(0, 0, 255, 255));
+    is_equal(&rt, net.network(), Ipv4Addr::new(10, 1, 0, 0));
+    is_equal(&rt, net.broadcast(), Ipv4Addr::new(10, 1, 255, 255));
 }
 
 /// The IPv6 address is that of the text.
 fn is_addr6(rt: &impl Abort, addr: Ipv6Addr, text: &str) {
-    is_net6(rt, Ipv6Net::from(addr), net6(rt, text));
+    row_is(rt, text, Ipv6Net::from(addr), v6(rt, text));
 }
+
+/// The last address of 2001:db8::/32.
+const LAST: &str = "2001:db8:ffff:ffff:ffff:ffff:ffff:ffff/128";
 
 #[test]
 fn ipv6_parts(rt: HostRuntime) {
-    let net = net6(&rt, "2001:db8::1/32");
+    let net = v6(&rt, "2001:db8::1/32");
     let same = Ipv6Net::new(net.addr(), 32).expect(&rt, "an IPv6 network");
-    is_net6(&rt, net, same);
-    is_len(&rt, net.max_prefix_len(), 128);
+    is_equal(&rt, net, same);
+    is_equal(&rt, net.max_prefix_len(), 128);
     is_addr6(&rt, net.netmask(), "ffff:ffff::/128");
     is_addr6(&rt, net.hostmask(), "::ffff:ffff:ffff:ffff:ffff:ffff/128");
     is_addr6(&rt, net.network(), "2001:db8::/128");
-    is_addr6(
-        &rt,
-        net.broadcast(),
-        "2001:db8:ffff:ffff:ffff:ffff:ffff:ffff/128",
-    );
+    is_addr6(&rt, net.broadcast(), LAST);
     let greatest = Ipv6Addr::from_bits(u128::MAX);
-    assert_eq!(rt; Ipv6Net::default().broadcast(), greatest);
+    is_equal(&rt, Ipv6Net::default().broadcast(), greatest);
 }
 
 /// The network is made of its address and its length.
 fn is_made_of_parts(rt: &impl Abort, net: IpNet) {
     let made = IpNet::new(net.addr(), net.prefix_len());
-    is_any(rt, made.expect(rt, "a network"), net);
-    is_any(rt, IpNet::new_assert(net.addr(), net.prefix_len()), net);
+    is_equal(rt, made.expect(rt, "a network"), net);
+    is_equal(rt, IpNet::new_assert(net.addr(), net.prefix_len()), net);
 }
 
 /// The address of either family is that of the text.
 fn is_either_addr(rt: &impl Abort, addr: IpAddr, text: &str) {
-    is_any(rt, IpNet::from(addr), any(rt, text));
+    row_is(rt, text, IpNet::from(addr), any(rt, text));
 }
 
 #[test]
 fn parts_of_either_family(rt: HostRuntime) {
     let net = any(&rt, "2001:db8::1/32");
     is_made_of_parts(&rt, net);
-    is_len(&rt, net.max_prefix_len(), 128);
+    is_equal(&rt, net.max_prefix_len(), 128);
     let masked = IpNet::with_netmask(net.addr(), net.netmask());
-    is_any(&rt, masked.expect(&rt, "a network"), net);
-    is_any(&rt, IpNet::default(), IpNet::from(Ipv4Net::default()));
-}
-
-#[test]
-fn ends_of_either_family(rt: HostRuntime) {
-    let net = any(&rt, "2001:db8::1/32");
-    is_either_addr(
-        &rt,
-        net.broadcast(),
-        "2001:db8:ffff:ffff:ffff:ffff:ffff:ffff/128",
-    );
+    is_equal(&rt, masked.expect(&rt, "a network"), net);
+    is_equal(&rt, IpNet::default(), IpNet::from(Ipv4Net::default()));
+    is_either_addr(&rt, net.broadcast(), LAST);
     is_either_addr(&rt, net.hostmask(), "::ffff:ffff:ffff:ffff:ffff:ffff/128");
     is_either_addr(&rt, net.network(), "2001:db8::/128");
 }
 
-/// The mask has this length, for a network of either family.
-fn is_mask(rt: &impl Abort, mask: Ipv4Addr, len: Option<u8>) {
-    let v4 = Ipv4Net::with_netmask(Ipv4Addr::new(10, 1, 2, 3), mask);
-    assert_eq!(rt; v4.ok().map(|net| net.prefix_len()), len);
-    let both = IpNet::with_netmask(IpAddr::V6(Ipv6Addr::LOCALHOST), IpAddr::V4(mask));
-    assert_eq!(rt; both.ok().map(|net| net.prefix_len()), len);
+/// The length of the network, where there is one.
+fn length(net: Option<Ipv4Net>) -> Option<u8> {
+    match net {
+        Some(net) => Some(net.prefix_len()),
+        None => None,
+    }
 }
+
+/// The same of either family.
+fn length_of_either(net: Option<IpNet>) -> Option<u8> {
+    match net {
+        Some(net) => Some(net.prefix_len()),
+        None => None,
+    }
+}
+
+/// IPv4 masks, and their lengths, for a network of either family.
+const IPV4_MASKS: [(&str, [u8; 4], Option<u8>); 6] = [
+    ("0.0.0.0", [0, 0, 0, 0], Some(0)),
+    ("255.254.0.0", [255, 254, 0, 0], Some(15)),
+    ("255.255.255.255", [255, 255, 255, 255], Some(32)),
+    ("255.0.255.0", [255, 0, 255, 0], None),
+    ("0.0.0.255", [0, 0, 0, 255], None),
+    ("127.0.0.0", [127, 0, 0, 0], None),
+];
 
 #[test]
 fn ipv4_masks(rt: HostRuntime) {
-    is_mask(&rt, Ipv4Addr::new(0, 0, 0, 0), Some(0));
-    is_mask(&rt, Ipv4Addr::new(255, 254, 0, 0), Some(15));
-    is_mask(&rt, Ipv4Addr::new(255, 255, 255, 255), Some(32));
-    is_mask(&rt, Ipv4Addr::new(255, 0, 255, 0), None);
-    is_mask(&rt, Ipv4Addr::new(0, 0, 0, 255), None);
-    is_mask(&rt, Ipv4Addr::new(127, 0, 0, 0), None);
+    for (row, octets, len) in IPV4_MASKS {
+        let mask = Ipv4Addr::from_octets(octets);
+        let v4 = Ipv4Net::with_netmask(Ipv4Addr::new(10, 1, 2, 3), mask);
+        row_is(&rt, row, length(v4.ok()), len);
+        let both = IpNet::with_netmask(IpAddr::V6(Ipv6Addr::LOCALHOST), IpAddr::V4(mask));
+        row_is(&rt, row, length_of_either(both.ok()), len);
+    }
 }
 
-/// The address of the text has this length as a mask, for an IPv4 network.
-fn is_mask6(rt: &impl Abort, text: &str, len: Option<u8>) {
-    let addr = IpAddr::V4(Ipv4Addr::new(10, 1, 2, 3));
-    let both = IpNet::with_netmask(addr, IpAddr::V6(net6(rt, text).addr()));
-    assert_eq!(rt; both.ok().map(|net| net.prefix_len()), len);
-}
+/// IPv6 masks, as the addresses of networks, and their lengths for an IPv4 network.
+const IPV6_MASKS: [(&str, Option<u8>); 5] = [
+    ("::/0", Some(0)),
+    ("ffff:fffe::/0", Some(31)),
+    ("ffff:ffff::/0", Some(32)),
+    ("ffff:ffff:8000::/0", None),
+    ("ffff::1/0", None),
+];
 
 #[test]
 fn ipv6_masks(rt: HostRuntime) {
-    is_mask6(&rt, "::/0", Some(0));
-    is_mask6(&rt, "ffff:fffe::/0", Some(31));
-    is_mask6(&rt, "ffff:ffff::/0", Some(32));
-    is_mask6(&rt, "ffff:ffff:8000::/0", None);
-    is_mask6(&rt, "ffff::1/0", None);
+    for (text, len) in IPV6_MASKS {
+        let addr = IpAddr::V4(Ipv4Addr::new(10, 1, 2, 3));
+        let both = IpNet::with_netmask(addr, IpAddr::V6(v6(&rt, text).addr()));
+        row_is(&rt, text, length_of_either(both.ok()), len);
+    }
 }
 
 #[test]
 fn ipv4_neighbours(rt: HostRuntime) {
-    let half = net(&rt, "10.200.0.1/9");
-    assert_eq!(rt; half.supernet(), Some(net(&rt, "10.0.0.0/8")));
-    assert_eq!(rt; Ipv4Net::default().supernet(), None);
-    assert!(rt; half.is_sibling(&net(&rt, "10.0.0.0/9")));
-    assert!(rt; !half.is_sibling(&net(&rt, "11.0.0.0/9")));
-    assert!(rt; !Ipv4Net::default().is_sibling(&Ipv4Net::default()));
+    let half = v4(&rt, "10.200.0.1/9");
+    is_equal(&rt, half.supernet(), Some(v4(&rt, "10.0.0.0/8")));
+    is_equal(&rt, Ipv4Net::default().supernet(), None);
+    is_equal(&rt, half.is_sibling(&v4(&rt, "10.0.0.0/9")), true);
+    is_equal(&rt, half.is_sibling(&v4(&rt, "11.0.0.0/9")), false);
+    let all = Ipv4Net::default();
+    is_equal(&rt, all.is_sibling(&Ipv4Net::default()), false);
 }
 
 #[test]
 fn ipv6_neighbours(rt: HostRuntime) {
-    let half = net6(&rt, "8000::1/1");
-    assert_eq!(rt; half.supernet(), Some(Ipv6Net::default()));
-    assert_eq!(rt; Ipv6Net::default().supernet(), None);
-    assert!(rt; half.is_sibling(&net6(&rt, "::/1")));
+    let half = v6(&rt, "8000::1/1");
+    is_equal(&rt, half.supernet(), Some(Ipv6Net::default()));
+    is_equal(&rt, Ipv6Net::default().supernet(), None);
+    is_equal(&rt, half.is_sibling(&v6(&rt, "::/1")), true);
 }
 
 #[test]
 fn neighbours_of_either_family(rt: HostRuntime) {
     let half = any(&rt, "8000::/1");
-    assert_eq!(rt; half.supernet(), Some(any(&rt, "::/0")));
-    assert!(rt; half.is_sibling(&any(&rt, "::/1")));
-    assert!(rt; !half.is_sibling(&any(&rt, "0.0.0.0/1")));
-    is_any(&rt, any(&rt, "8000::1/1").trunc(), half);
+    is_equal(&rt, half.supernet(), Some(any(&rt, "::/0")));
+    is_equal(&rt, half.is_sibling(&any(&rt, "::/1")), true);
+    is_equal(&rt, half.is_sibling(&any(&rt, "0.0.0.0/1")), false);
+    is_equal(&rt, any(&rt, "8000::1/1").trunc(), half);
 }
 
-fn has(rt: &impl Abort, wide: &str, narrow: &str) -> bool {
-    net(rt, wide).contains(&net(rt, narrow))
-}
+/// Networks, others, and whether the first contain those.
+const INCLUSIONS: [(&str, &str, bool); 5] = [
+    ("10.9.9.9/8", "10.1.0.0/16", true),
+    ("10.1.0.0/16", "10.9.9.9/8", false),
+    ("0.0.0.0/0", "10.9.9.9/8", true),
+    ("11.0.0.0/8", "10.1.0.0/16", false),
+    ("10.1.0.0/16", "10.1.0.0/16", true),
+];
 
 #[test]
 fn ipv4_inclusion(rt: HostRuntime) {
-    assert!(rt; has(&rt, "10.9.9.9/8", "10.1.0.0/16"));
-    assert!(rt; !has(&rt, "10.1.0.0/16", "10.9.9.9/8"));
-    assert!(rt; has(&rt, "0.0.0.0/0", "10.9.9.9/8"));
-    assert!(rt; !has(&rt, "11.0.0.0/8", "10.1.0.0/16"));
-    assert!(rt; has(&rt, "10.1.0.0/16", "10.1.0.0/16"));
-    let narrow = net(&rt, "10.1.0.0/16");
-    assert!(rt; narrow.contains(&Ipv4Addr::new(10, 1, 255, 255)));
-    assert!(rt; !narrow.contains(&Ipv4Addr::new(10, 2, 0, 0)));
-    assert!(rt; Contains::contains(&net(&rt, "0.0.0.0/0"), &narrow));
+    for (wide, narrow, has) in INCLUSIONS {
+        row_is(&rt, wide, v4(&rt, wide).contains(&v4(&rt, narrow)), has);
+    }
+    let narrow = v4(&rt, "10.1.0.0/16");
+    is_equal(&rt, narrow.contains(&Ipv4Addr::new(10, 1, 255, 255)), true);
+    is_equal(&rt, narrow.contains(&Ipv4Addr::new(10, 2, 0, 0)), false);
+    let all = v4(&rt, "0.0.0.0/0");
+    is_equal(&rt, Contains::contains(&all, &narrow), true);
 }
 
 #[test]
 fn ipv4_order(rt: HostRuntime) {
-    let narrow = net(&rt, "10.1.0.0/16");
-    assert!(rt; narrow < net(&rt, "10.1.0.0/17"));
-    assert!(rt; narrow < net(&rt, "10.9.9.9/8"));
+    let narrow = v4(&rt, "10.1.0.0/16");
+    is_equal(&rt, narrow < v4(&rt, "10.1.0.0/17"), true);
+    is_equal(&rt, narrow < v4(&rt, "10.9.9.9/8"), true);
 }
 
 #[test]
 fn ipv6_inclusion(rt: HostRuntime) {
-    let wide = net6(&rt, "2001:db8::/32");
-    assert!(rt; wide.contains(&net6(&rt, "2001:db8:1::/48")));
-    assert!(rt; !wide.contains(&net6(&rt, "2001:db9::/48")));
-    assert!(rt; wide.contains(&net6(&rt, "2001:db8:1::/48").addr()));
+    let wide = v6(&rt, "2001:db8::/32");
+    let inside = v6(&rt, "2001:db8:1::/48");
+    is_equal(&rt, wide.contains(&inside), true);
+    is_equal(&rt, wide.contains(&v6(&rt, "2001:db9::/48")), false);
+    is_equal(&rt, wide.contains(&inside.addr()), true);
 }
 
 #[test]
 fn inclusion_in_either_family(rt: HostRuntime) {
-    let wide = IpNet::from(net6(&rt, "2001:db8::/32"));
-    assert!(rt; wide.contains(&any(&rt, "2001:db8:1::/48")));
-    assert!(rt; wide.contains(&any(&rt, "2001:db8:1::/48").addr()));
-    assert!(rt; !wide.contains(&any(&rt, "0.0.0.0/0")));
-    assert!(rt; !any(&rt, "::/0").contains(&any(&rt, "1.2.3.4/32").addr()));
-    assert!(rt; any(&rt, "255.255.255.255/32") < any(&rt, "::/0"));
+    let wide = IpNet::from(v6(&rt, "2001:db8::/32"));
+    let inside = any(&rt, "2001:db8:1::/48");
+    is_equal(&rt, wide.contains(&inside), true);
+    is_equal(&rt, wide.contains(&inside.addr()), true);
+    is_equal(&rt, wide.contains(&any(&rt, "0.0.0.0/0")), false);
+    let host = any(&rt, "1.2.3.4/32").addr();
+    is_equal(&rt, any(&rt, "::/0").contains(&host), false);
+    let greatest = any(&rt, "255.255.255.255/32");
+    is_equal(&rt, greatest < any(&rt, "::/0"), true);
 }

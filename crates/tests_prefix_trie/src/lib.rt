@@ -2,8 +2,6 @@
 #![tactic(auto)]
 
 #[cfg(test)]
-mod changes;
-#[cfg(test)]
 mod entries;
 #[cfg(test)]
 mod first_map_calls;
@@ -17,5 +15,11 @@ mod lookups;
 mod maps;
 #[cfg(test)]
 mod rows;
+#[cfg(test)]
+mod scripts;
+#[cfg(test)]
+mod set_steps;
+#[cfg(test)]
+mod steps;
 #[cfg(test)]
 mod walks;

@@ -23,11 +23,6 @@ pub(crate) fn is_text(rt: &impl Abort, key: Ipv4Net, text: &str) {
     assert_eq!(rt; key.to_text().as_slice(), text.as_bytes());
 }
 
-/// The network of IPv6 has this text.
-pub(crate) fn is_wide_text(rt: &impl Abort, key: Ipv6Net, text: &str) {
-    assert_eq!(rt; key.to_text().as_slice(), text.as_bytes());
-}
-
 /// An IPv4 network.
 pub(crate) fn net(rt: &impl Abort, text: &str) -> Ipv4Net {
     Ipv4Net::from_str(text).expect(rt, "a network")
@@ -47,19 +42,6 @@ pub(crate) fn map_of(
     let mut map = PrefixMap::new(alloc).expect(rt, "a map");
     for (network, value) in networks.iter() {
         is_equal(rt, map.insert(net(rt, network), *value).is_ok(), true);
-    }
-    map
-}
-
-/// A map of these IPv6 networks, stored in this order.
-pub(crate) fn wide_map_of(
-    rt: &impl Abort,
-    alloc: Global,
-    networks: &[(&str, u32)],
-) -> PrefixMap<Ipv6Net, u32> {
-    let mut map = PrefixMap::new(alloc).expect(rt, "a map");
-    for (network, value) in networks.iter() {
-        is_equal(rt, map.insert(wide_net(rt, network), *value).is_ok(), true);
     }
     map
 }
@@ -103,4 +85,14 @@ pub(crate) fn value_digits<'a, I: Iterator<Item = &'a u32>>(values: I) -> u32
         digits = digits.wrapping_mul(10).wrapping_add(*value);
     }
     digits
+}
+
+/// What a step of a script answers is what is wanted; else the script is told, and how many steps came before.
+pub(crate) fn step_is<T: Copy + PartialEq + Debug>(
+    rt: &impl Abort,
+    at: (&str, usize),
+    found: T,
+    wanted: T,
+) {
+    assert_eq!(rt; found, wanted, "{}, after {} steps", at.0, at.1);
 }

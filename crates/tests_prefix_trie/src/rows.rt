@@ -3,7 +3,8 @@ ghost use Rattle.std.specs.Prelude.{IsTrue, nat_le};
 ghost use Rattle.std.specs.Iterator.{IsFinite};
 ghost use Rattle.std.specs.List.{All};
 
-use crate::maps::{holds, is_equal};
+use crate::maps::{holds, is_equal, plain_map_of};
+use crate::set_steps::digits;
 use prefix_trie::{PrefixMap, PrefixSet, Refused};
 use std::alloc::Global;
 use std::cell::Cell;
@@ -31,17 +32,6 @@ fn set_of<const N: usize>(
     PrefixSet::try_from_iter(alloc, Vec::from_array(alloc, members).expect(rt, "members"))
 }
 
-/// The second bytes of the members that are left, one after another, as digits after a 1.
-fn digits<I: Iterator<Item = (u32, u8)>>(members: I) -> u32
-    requires { I.can_next members × IsFinite (I.remaining members) }
-{
-    let mut digits = 1u32;
-    for (number, _) in members {
-        digits = digits.wrapping_mul(10).wrapping_add((number >> 16) % 256);
-    }
-    digits
-}
-
 /// A set that these members were put into, one after another.
 fn set_with(rt: &impl Abort, alloc: Global, members: &[(u32, u8)]) -> PrefixSet<(u32, u8)> {
     let mut set = PrefixSet::new(alloc).expect(rt, "a set");
@@ -64,37 +54,12 @@ fn counts(rt: &impl Abort, set: &PrefixSet<(u32, u8)>, members: usize, nodes: us
     is_equal(rt, set.node_count(), nodes);
 }
 
-/// The set has no member, and its root alone.
-fn is_cleared(rt: &impl Abort, set: &PrefixSet<(u32, u8)>) {
-    holds(rt, set.is_empty());
-    is_equal(rt, set.node_count(), 1);
-}
-
 /// The map has these entries.
 fn has(rt: &impl Abort, map: &PrefixMap<(u32, u8), u32>, entries: &[((u32, u8), u32)]) {
     for (key, value) in entries.iter() {
         assert!(rt; key.1 <= 32);
         is_equal(rt, map.get(key).copied(), Some(*value));
     }
-}
-
-#[test]
-fn stored_once(rt: HostRuntime) {
-    let mut set: PrefixSet<(u32, u8)> = PrefixSet::new(rt.alloc()).expect(&rt, "a set");
-    is_equal(&rt, set.insert((0x0a00_0000, 8)), Ok(true));
-    is_equal(&rt, set.insert((0x0a00_0000, 8)), Ok(false));
-    holds(&rt, set.contains(&(0x0a01_0203, 8)));
-    holds(&rt, !set.contains(&(0x0a00_0000, 9)));
-    is_equal(&rt, set.len(), 1);
-    is_equal(&rt, set.node_count(), 2);
-}
-
-#[test]
-fn taken_out_once(rt: HostRuntime) {
-    let mut set = set_with(&rt, rt.alloc(), &[(0x0a00_0000, 8)]);
-    holds(&rt, set.remove(&(0x0a00_0000, 8)));
-    holds(&rt, !set.remove(&(0x0a00_0000, 8)));
-    is_cleared(&rt, &set);
 }
 
 #[test]
@@ -107,97 +72,21 @@ fn made_of_members(rt: HostRuntime) {
     ];
     let set = set_of(&rt, rt.alloc(), members).expect(&rt, "a set");
     is_equal(&rt, digits(set.iter()), 1019);
-    is_equal(&rt, set.len(), 3);
-    is_equal(&rt, set.node_count(), 5);
+    counts(&rt, &set, 3, 5);
     holds(&rt, set.contains(&(0x0a00_0000, 8)));
 }
 
-#[test]
-fn searched(rt: HostRuntime) {
-    let set = three(&rt, rt.alloc());
-    is_equal(&rt, set.get(&(0x0a01_0203, 16)), Some((0x0a01_0000, 16)));
-    is_equal(
-        &rt,
-        set.get_lpm(&(0x0a01_0203, 32)),
-        Some((0x0a01_0000, 16)),
-    );
-    is_equal(&rt, set.get_spm(&(0x0a01_0203, 32)), Some((0x0a00_0000, 8)));
-}
-
-#[test]
-fn covered(rt: HostRuntime) {
-    let set = three(&rt, rt.alloc());
-    holds(&rt, set.is_covered(&(0x0a02_0000, 16)));
-    holds(&rt, !set.is_covered(&(0x0b00_0000, 8)));
-}
-
-#[test]
-fn walked(rt: HostRuntime) {
-    let set = three(&rt, rt.alloc());
-    is_equal(&rt, digits(set.iter()), 1019);
-}
-
-#[test]
-fn walked_by_reference(rt: HostRuntime) {
-    let set = three(&rt, rt.alloc());
-    is_equal(&rt, digits((&set).into_iter()), 1019);
-}
-
-#[test]
-fn walked_after_a_member(rt: HostRuntime) {
-    let set = three(&rt, rt.alloc());
-    is_equal(&rt, digits(set.iter_from(&(0x0a00_0000, 8), false)), 119);
-}
-
-#[test]
-fn walked_from_a_member(rt: HostRuntime) {
-    let set = three(&rt, rt.alloc());
-    is_equal(&rt, digits(set.iter_from(&(0x0a01_0000, 16), true)), 119);
-}
-
-#[test]
-fn walked_inside_and_above(rt: HostRuntime) {
-    let set = three(&rt, rt.alloc());
-    is_equal(&rt, digits(set.children(&(0x0a00_0000, 12))), 119);
-    is_equal(&rt, digits(set.cover(&(0x0a09_0909, 32))), 109);
+/// The walk that is left once a member was taken, by a copy of it.
+fn rest_is(rt: &impl Abort, set: &PrefixSet<(u32, u8)>, wanted: u32) {
+    let mut members = set.iter();
+    holds(rt, members.next().is_some());
+    is_equal(rt, digits(members.clone().expect(rt, "a copy")), wanted);
 }
 
 #[test]
 fn walked_twice(rt: HostRuntime) {
     let set = three(&rt, rt.alloc());
-    let mut members = set.iter();
-    holds(&rt, members.next().is_some());
-    let copy = members.clone().expect(&rt, "a copy");
-    is_equal(&rt, digits(copy), 119);
-}
-
-#[test]
-fn taken_out_inside(rt: HostRuntime) {
-    let mut set = three(&rt, rt.alloc());
-    holds(&rt, set.remove_keep_tree(&(0x0a01_0000, 16)));
-    is_equal(&rt, set.node_count(), 5);
-    set.remove_children(&(0x0a00_0000, 9));
-    counts(&rt, &set, 1, 2);
-}
-
-#[test]
-fn cleared(rt: HostRuntime) {
-    let mut set = set_with(&rt, rt.alloc(), &[(0x0a07_0707, 8)]);
-    set.clear();
-    is_cleared(&rt, &set);
-}
-
-#[test]
-fn addresses_of_none(rt: HostRuntime) {
-    let set: PrefixSet<(u32, u8)> = PrefixSet::new(rt.alloc()).expect(&rt, "a set");
-    is_equal(&rt, set.address_count(), Some(0));
-}
-
-#[test]
-fn addresses_count_once(rt: HostRuntime) {
-    let members = [(0xc000_0200, 24), (0xc000_0280, 25), (0xc633_6400, 24)];
-    let set = set_with(&rt, rt.alloc(), &members);
-    is_equal(&rt, set.address_count(), Some(512));
+    rest_is(&rt, &set, 119);
 }
 
 #[test]
@@ -207,29 +96,6 @@ fn addresses_of_halves(rt: HostRuntime) {
     is_equal(&rt, halves.address_count(), Some(1 << 127));
     holds(&rt, halves.insert((1 << 127, 1)).is_ok());
     is_equal(&rt, halves.address_count(), None);
-}
-
-#[test]
-fn addresses_of_ipv4_halves(rt: HostRuntime) {
-    let set = set_with(&rt, rt.alloc(), &[(0, 1), (0x8000_0000, 1)]);
-    is_equal(&rt, set.address_count(), None);
-}
-
-#[test]
-fn addresses_of_all(rt: HostRuntime) {
-    let mut all: PrefixMap<(u128, u8), u32> = PrefixMap::new(rt.alloc()).expect(&rt, "a map");
-    holds(&rt, all.insert((0, 0), 1).is_ok());
-    is_equal(&rt, all.address_count(), None);
-}
-
-#[test]
-fn addresses_of_eight_bits(rt: HostRuntime) {
-    let mut small: PrefixMap<(u8, u8), u32> = PrefixMap::new(rt.alloc()).expect(&rt, "a map");
-    holds(&rt, small.insert((0, 1), 1).is_ok());
-    holds(&rt, small.insert((0x80, 1), 2).is_ok());
-    is_equal(&rt, small.address_count(), None);
-    is_equal(&rt, small.remove(&(0, 1)), Some(1));
-    is_equal(&rt, small.address_count(), Some(128));
 }
 
 /// 10.0.0.0/8 with 3, which was stored twice, and 10.1.0.0/16 with 2.
@@ -257,40 +123,31 @@ fn made_of_entries(rt: HostRuntime) {
     is_equal(&rt, map.node_count(), 4);
 }
 
+/// The copy is equal to the map as long as both have the same entries, whatever nodes are spare.
+fn compares(
+    rt: &impl Abort,
+    map: &mut PrefixMap<(u32, u8), u32>,
+    copy: &PrefixMap<(u32, u8), u32>,
+) {
+    holds(rt, *copy == *map);
+    is_equal(rt, copy.node_count(), 4);
+    holds(rt, map.insert((0x0a00_0000, 8), 4).is_ok());
+    holds(rt, *copy != *map);
+    holds(rt, map.insert((0x0a00_0000, 8), 3).is_ok());
+    holds(rt, *copy == *map);
+    is_equal(rt, map.remove(&(0x0a01_0000, 16)), None);
+    is_equal(rt, map.node_count(), 2);
+    holds(rt, *copy == *map);
+    holds(rt, map.insert((0x0a00_0000, 9), 3).is_ok());
+    holds(rt, *copy != *map);
+    holds(rt, *map != *copy);
+}
+
 #[test]
 fn copied(rt: HostRuntime) {
-    let map = one_and_spares(&rt, rt.alloc());
-    let copy = map.try_clone(rt.alloc()).expect(&rt, "a copy");
-    holds(&rt, copy == map);
-    is_equal(&rt, copy.node_count(), 4);
-}
-
-#[test]
-fn equal_by_values(rt: HostRuntime) {
     let mut map = one_and_spares(&rt, rt.alloc());
     let copy = map.try_clone(rt.alloc()).expect(&rt, "a copy");
-    holds(&rt, map.insert((0x0a00_0000, 8), 4).is_ok());
-    holds(&rt, copy != map);
-    holds(&rt, map.insert((0x0a00_0000, 8), 3).is_ok());
-    holds(&rt, copy == map);
-}
-
-#[test]
-fn equal_without_spares(rt: HostRuntime) {
-    let mut map = one_and_spares(&rt, rt.alloc());
-    let copy = map.try_clone(rt.alloc()).expect(&rt, "a copy");
-    is_equal(&rt, map.remove(&(0x0a01_0000, 16)), None);
-    is_equal(&rt, map.node_count(), 2);
-    holds(&rt, copy == map);
-}
-
-#[test]
-fn unequal_by_one_more(rt: HostRuntime) {
-    let mut map = one_and_spares(&rt, rt.alloc());
-    let copy = map.try_clone(rt.alloc()).expect(&rt, "a copy");
-    holds(&rt, map.insert((0x0a00_0000, 9), 3).is_ok());
-    holds(&rt, copy != map);
-    holds(&rt, map != copy);
+    compares(&rt, &mut map, &copy);
 }
 
 #[test]
@@ -299,8 +156,7 @@ fn sets_copied(rt: HostRuntime) {
     let copy = set.try_clone(rt.alloc()).expect(&rt, "a copy");
     holds(&rt, copy == set);
     is_equal(&rt, copy.node_count(), set.node_count());
-    let mut members = set.iter();
-    holds(&rt, members.next().is_some());
+    holds(&rt, set.iter().next().is_some());
 }
 
 /// The refusal is printed so.
@@ -436,8 +292,7 @@ fn four_entries(rt: &impl Abort, alloc: Global) -> PrefixMap<(u32, u8), u32> {
 #[test]
 fn owned_values(rt: HostRuntime) {
     let map = four_entries(&rt, rt.alloc());
-    let copy = map.try_clone(rt.alloc()).expect(&rt, "a copy");
-    is_equal(&rt, value_digits(copy.into_values()), 1234);
+    is_equal(&rt, value_digits(map.into_values()), 1234);
 }
 
 #[test]
@@ -447,14 +302,21 @@ fn owned_keys(rt: HostRuntime) {
     is_equal(&rt, digits(copy.into_keys()), 10110);
 }
 
+/// The values of the entries that are left, one after another, as digits.
+fn entry_digits<I: Iterator<Item = ((u32, u8), u32)>>(entries: I) -> u32
+    requires { I.can_next entries × IsFinite (I.remaining entries) }
+{
+    let mut digits = 0u32;
+    for (_, value) in entries {
+        digits = digits.wrapping_mul(10).wrapping_add(value);
+    }
+    digits
+}
+
 #[test]
 fn owned_children(rt: HostRuntime) {
     let map = four_entries(&rt, rt.alloc());
-    let mut values = 0u32;
-    for (_, value) in map.into_children(&(0x0a01_0000, 10)) {
-        values = values.wrapping_mul(10).wrapping_add(value);
-    }
-    is_equal(&rt, values, 23);
+    is_equal(&rt, entry_digits(map.into_children(&(0x0a01_0000, 10))), 23);
 }
 
 #[test]
@@ -462,134 +324,110 @@ fn owned_members(rt: HostRuntime) {
     is_equal(&rt, digits(three(&rt, rt.alloc()).into_iter()), 1019);
 }
 
-/// 10.0.0.0/8 with 1, and 10.1.0.0/16 with 2.
-fn ten_and_inner(rt: &impl Abort, alloc: Global) -> PrefixMap<(u32, u8), u32> {
-    let entries = [((0x0a00_0000, 8), 1), ((0x0a01_0000, 16), 2)];
-    map_of(rt, alloc, entries).expect(rt, "a map")
+/// The next value is lent, and written.
+fn write_next(rt: &impl Abort, lent: Option<&mut u32>, had: u32, written: u32) {
+    let value = lent.expect(rt, "a value");
+    is_equal(rt, *value, had);
+    *value = written;
 }
 
-/// This value is lent.
-fn lent_is(rt: &impl Abort, lent: Option<&mut u32>, wanted: u32) {
-    is_equal(rt, *lent.expect(rt, "a value"), wanted);
+/// 10.0.0.0/8 with 1, and 10.1.0.0/16 with 2.
+const TWO: [((u32, u8), u32); 2] = [((0x0a00_0000, 8), 1), ((0x0a01_0000, 16), 2)];
+
+/// The same, and 11.0.0.0/8 with 3.
+const THREE: [((u32, u8), u32); 3] = [
+    ((0x0a01_0000, 16), 2),
+    ((0x0a00_0000, 8), 1),
+    ((0x0b00_0000, 8), 3),
+];
+
+/// The longest match is lent, and its value.
+fn lends_the_longest(rt: &impl Abort, map: &mut PrefixMap<(u32, u8), u32>) {
+    let (key, value) = map.get_lpm_mut(&(0x0a01_0203, 32)).expect(rt, "a match");
+    is_equal(rt, key, (0x0a01_0000, 16));
+    write_next(rt, Some(value), 2, 7);
+    has(rt, map, &[((0x0a01_0000, 16), 7)]);
+    write_next(rt, map.get_lpm_value_mut(&(0x0a02_0000, 16)), 1, 8);
+    has(rt, map, &[((0x0a00_0000, 8), 8)]);
+    holds(rt, map.get_lpm_mut(&(0x0b00_0000, 8)).is_none());
 }
 
 #[test]
 fn lent_at_the_longest(rt: HostRuntime) {
-    let mut map = ten_and_inner(&rt, rt.alloc());
-    let (key, value) = map.get_lpm_mut(&(0x0a01_0203, 32)).expect(&rt, "a match");
-    is_equal(&rt, key, (0x0a01_0000, 16));
-    is_equal(&rt, *value, 2);
-    *value = 7;
-    has(&rt, &map, &[((0x0a01_0000, 16), 7)]);
+    let mut map = plain_map_of(&rt, rt.alloc(), &TWO);
+    lends_the_longest(&rt, &mut map);
 }
 
-#[test]
-fn lent_value_at_the_longest(rt: HostRuntime) {
-    let mut map = ten_and_inner(&rt, rt.alloc());
-    if let Some(value) = map.get_lpm_value_mut(&(0x0a02_0000, 16)) {
-        *value = 8;
+/// The first two values are lent in turn.
+fn lends_in_turn(rt: &impl Abort, map: &mut PrefixMap<(u32, u8), u32>) {
+    let mut entries = map.iter_mut();
+    is_equal(rt, entries.key(), Some((0x0a00_0000, 8)));
+    write_next(rt, entries.next(), 1, 11);
+    is_equal(rt, entries.key(), Some((0x0a01_0000, 16)));
+    write_next(rt, entries.next(), 2, 22);
+}
+
+/// Three values are lent, and no other.
+fn lends_to_the_end(rt: &impl Abort, map: &mut PrefixMap<(u32, u8), u32>) {
+    let mut entries = map.iter_mut();
+    for _ in 0..3 {
+        holds(rt, entries.next().is_some());
     }
-    has(&rt, &map, &[((0x0a00_0000, 8), 8)]);
-    holds(&rt, map.get_lpm_mut(&(0x0b00_0000, 8)).is_none());
-}
-
-/// Three entries, of which 11.0.0.0/8 is the last.
-fn three_entries(rt: &impl Abort, alloc: Global) -> PrefixMap<(u32, u8), u32> {
-    let entries = [
-        ((0x0a01_0000, 16), 2),
-        ((0x0a00_0000, 8), 1),
-        ((0x0b00_0000, 8), 3),
-    ];
-    map_of(rt, alloc, entries).expect(rt, "a map")
+    holds(rt, entries.key().is_none());
+    holds(rt, entries.next().is_none());
 }
 
 #[test]
 fn lent_in_turn(rt: HostRuntime) {
-    let mut map = three_entries(&rt, rt.alloc());
-    let mut entries = map.iter_mut();
-    is_equal(&rt, entries.key(), Some((0x0a00_0000, 8)));
-    if let Some(value) = entries.next() {
-        *value = value.wrapping_add(10);
-    }
-    is_equal(&rt, entries.key(), Some((0x0a01_0000, 16)));
-    if let Some(value) = entries.next() {
-        *value = value.wrapping_add(20);
-    }
-    has(
-        &rt,
-        &map,
-        &[
-            ((0x0a00_0000, 8), 11),
-            ((0x0a01_0000, 16), 22),
-            ((0x0b00_0000, 8), 3),
-        ],
-    );
-}
-
-#[test]
-fn lent_to_the_end(rt: HostRuntime) {
-    let mut map = three_entries(&rt, rt.alloc());
-    let mut entries = map.iter_mut();
-    for _ in 0..3 {
-        holds(&rt, entries.next().is_some());
-    }
-    holds(&rt, entries.key().is_none());
-    holds(&rt, entries.next().is_none());
-}
-
-#[test]
-fn lent_onwards(rt: HostRuntime) {
-    let entries = [
-        ((0x0a01_0000, 16), 22),
+    let mut map = plain_map_of(&rt, rt.alloc(), &THREE);
+    lends_in_turn(&rt, &mut map);
+    let wanted = [
         ((0x0a00_0000, 8), 11),
+        ((0x0a01_0000, 16), 22),
         ((0x0b00_0000, 8), 3),
     ];
-    let mut map = map_of(&rt, rt.alloc(), entries).expect(&rt, "a map");
+    has(&rt, &map, &wanted);
+    lends_to_the_end(&rt, &mut map);
     lent_is(&rt, map.iter_from_mut(&(0x0a00_0000, 8), false).next(), 22);
     lent_is(&rt, map.iter_from_mut(&(0x0a01_0000, 16), true).next(), 22);
 }
 
 /// Four entries, of which two lie inside 10.1.0.0/16.
-fn two_inside(rt: &impl Abort, alloc: Global) -> PrefixMap<(u32, u8), u32> {
-    let entries = [
-        ((0x0a01_0000, 16), 2),
-        ((0x0a00_0000, 8), 1),
-        ((0x0a01_8000, 17), 3),
-        ((0x0a02_0000, 16), 4),
-    ];
-    map_of(rt, alloc, entries).expect(rt, "a map")
+const TWO_INSIDE: [((u32, u8), u32); 4] = [
+    ((0x0a01_0000, 16), 2),
+    ((0x0a00_0000, 8), 1),
+    ((0x0a01_8000, 17), 3),
+    ((0x0a02_0000, 16), 4),
+];
+
+/// The two values inside are lent, and no other.
+fn lends_inside(rt: &impl Abort, map: &mut PrefixMap<(u32, u8), u32>) {
+    let mut entries = map.children_mut(&(0x0a01_0203, 16));
+    is_equal(rt, entries.key(), Some((0x0a01_0000, 16)));
+    write_next(rt, entries.next(), 2, 20);
+    write_next(rt, entries.next(), 3, 30);
+    holds(rt, entries.key().is_none());
+    holds(rt, entries.next().is_none());
 }
 
 #[test]
 fn lent_inside(rt: HostRuntime) {
-    let mut map = two_inside(&rt, rt.alloc());
-    let mut entries = map.children_mut(&(0x0a01_0203, 16));
-    is_equal(&rt, entries.key(), Some((0x0a01_0000, 16)));
-    if let Some(value) = entries.next() {
-        *value = 20;
-    }
-    if let Some(value) = entries.next() {
-        *value = 30;
-    }
-    holds(&rt, entries.key().is_none());
-    holds(&rt, entries.next().is_none());
-    has(
-        &rt,
-        &map,
-        &[
-            ((0x0a00_0000, 8), 1),
-            ((0x0a01_0000, 16), 20),
-            ((0x0a01_8000, 17), 30),
-            ((0x0a02_0000, 16), 4),
-        ],
-    );
-}
-
-#[test]
-fn lent_first_inside(rt: HostRuntime) {
-    let mut map = two_inside(&rt, rt.alloc());
+    let mut map = plain_map_of(&rt, rt.alloc(), &TWO_INSIDE);
+    lends_inside(&rt, &mut map);
+    let wanted = [
+        ((0x0a00_0000, 8), 1),
+        ((0x0a01_0000, 16), 20),
+        ((0x0a01_8000, 17), 30),
+        ((0x0a02_0000, 16), 4),
+    ];
+    has(&rt, &map, &wanted);
     holds(&rt, map.children_mut(&(0x0a03_0000, 16)).next().is_none());
     lent_is(&rt, map.children_mut(&(0, 0)).next(), 1);
+}
+
+/// This value is lent.
+fn lent_is(rt: &impl Abort, lent: Option<&mut u32>, wanted: u32) {
+    is_equal(rt, *lent.expect(rt, "a value"), wanted);
 }
 
 #[test]
@@ -603,15 +441,6 @@ fn kept_members(rt: HostRuntime) {
     is_equal(&rt, asked, 81616);
     is_equal(&rt, digits(set.iter()), 109);
     is_equal(&rt, set.node_count(), 4);
-}
-
-#[test]
-fn tidied(rt: HostRuntime) {
-    let mut set = set_with(&rt, rt.alloc(), &[(0x0a09_0000, 16), (0x0a07_0707, 8)]);
-    holds(&rt, set.remove_keep_tree(&(0x0a09_0000, 16)));
-    is_equal(&rt, set.node_count(), 4);
-    set.retain(|_| true);
-    counts(&rt, &set, 1, 2);
 }
 
 /// The map has eight nodes, and is copied, or memory is refused.
