@@ -1,7 +1,7 @@
 //! The program `routes`: a route table by lines from standard input, and replies to standard output.
 #![tactic(auto)]
 
-ghost use Rattle.std.specs.Prelude.{◌≡◌, ◌↔◌, ◌<◌, ◌^◌, ◌⊎◌, [], ◌∷◌, drop, map, IfErr, IfOk, IfSome, IsErrOf, Ok, OnOk};
+ghost use Rattle.std.specs.Prelude.{◌≡◌, ◌↔◌, ◌<◌, ◌^◌, ◌⊎◌, [], ◌∷◌, drop, map, IfErr, IfOk, IfSome, IsErrOf, Ok, OnOk, Some};
 ghost use Rattle.std.specs.String.{string_bytes};
 ghost use Rattle.std.specs.Vec.Iter.{into_iter_items};
 ghost use Rattle.route_feed.specs.Counted.{ReadFault};
@@ -71,6 +71,18 @@ fn asked_mode<R: Env + Alloc>(rt: &R) -> Result<Mode, Fault>
     }
 }
 
+// The mode that this word asks for.
+fn named(word: &str) -> Option<Mode>
+    ensures { (mode : AnyMode) → (result ≡ Some mode) ↔ (word.now ≡ word_of mode) }
+{
+    match word {
+        "lead" => Some(Mode::Lead),
+        "follow" => Some(Mode::Follow),
+        "least" => Some(Mode::Least),
+        _ => None,
+    }
+}
+
 // The mode that these arguments ask for: after the program's name stands exactly one word, that of the mode.
 fn mode_of<A: Allocator>(mut args: Args<A>) -> Result<Mode, Fault>
     ensures asks { (mode : AnyMode) → (result ≡ Ok mode) ↔ (drop 1 (map string_bytes (into_iter_items args)) ≡ word_of mode ∷ []) }
@@ -80,11 +92,9 @@ fn mode_of<A: Allocator>(mut args: Args<A>) -> Result<Mode, Fault>
     let (Some(word), None) = (args.next(), args.next()) else {
         return Err(Fault::Usage);
     };
-    match word.as_str() {
-        "lead" => Ok(Mode::Lead),
-        "follow" => Ok(Mode::Follow),
-        "least" => Ok(Mode::Least),
-        _ => Err(Fault::Usage),
+    match named(word.as_str()) {
+        Some(mode) => Ok(mode),
+        None => Err(Fault::Usage),
     }
 }
 
