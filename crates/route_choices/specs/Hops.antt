@@ -12,3 +12,8 @@ IsHop Drop = Unit {0}
 abbrev pub number_of : Hop → Option ℕ
 number_of (Number k) = Some k
 number_of Drop = None
+
+-- the hop of a number; `drop` where there is none
+abbrev pub hop_from : Option ℕ → Hop
+hop_from (Some k) = Number k
+hop_from None = Drop

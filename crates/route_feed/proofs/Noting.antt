@@ -7,11 +7,10 @@ use Rattle.ipnet.specs.declared.ip_net.IpNet.{IpNet}
 use Rattle.route_choices.specs.Choices.{default_preference}
 use Rattle.route_choices.specs.declared.hop.Hop.{Hop}
 use Rattle.route_choices.specs.declared.hop.Hop.TheVariants.{Number, Drop}
-use Rattle.route_choices.specs.Hops.{number_of}
+use Rattle.route_choices.specs.Hops.{hop_from, number_of}
 use Rattle.route_laws.specs.Batches.{AreChanges, batch, hop_over, painted_all}
 use Rattle.route_laws.proofs.Batches.{batch_hops, changes_from}
 use Rattle.route_laws.proofs.Families.{least_too}
-use Rattle.route_laws.specs.InnerHops.{hop_from}
 use Rattle.route_laws.specs.LeastTables.{IsLeast}
 use Rattle.route_laws.specs.Networks.{Stored, routes_of}
 use Rattle.route_laws.specs.Operations.{Operation, between}

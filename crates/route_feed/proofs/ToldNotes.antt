@@ -9,9 +9,8 @@ use Rattle.route_lines.specs.declared.note.Note.{Note}
 use Rattle.route_lines.specs.declared.note.Note.TheVariants as N
 use Rattle.route_lines.specs.declared.reply.Reply.{Reply}
 use Rattle.route_lines.specs.declared.reply.Reply.TheVariants as R
-use Rattle.route_choices.specs.Hops.{number_of}
+use Rattle.route_choices.specs.Hops.{hop_from, number_of}
 use Rattle.route_laws.specs.Batches.{hop_over}
-use Rattle.route_laws.specs.InnerHops.{hop_from}
 use Rattle.route_laws.specs.Runs.{Event, told}
 use Rattle.route_laws.specs.Tables.{Route}
 use Rattle.route_feed.specs.Streams.{Change, change_of, closes, committed, ends_well, is_done, painted_over}

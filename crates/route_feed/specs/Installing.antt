@@ -10,7 +10,7 @@ use Rattle.route_lines.specs.declared.note.Note.TheVariants as Notes
 use Rattle.route_lines.specs.declared.update.Update.{Update}
 use Rattle.route_lines.specs.declared.update.Update.TheVariants as U
 use Rattle.route_choices.specs.Choices.{default_preference}
-use Rattle.route_laws.specs.InnerHops.{hop_from}
+use Rattle.route_choices.specs.Hops.{hop_from}
 use Rattle.route_laws.specs.Operations.{Operation, Install, Remove}
 use Rattle.route_laws.specs.Runs.{Event, Have, Told, Sync, Installer, MayAllCome, after_event, after_events, gives, start}
 use Rattle.route_laws.specs.Tables.{Route, route_of}

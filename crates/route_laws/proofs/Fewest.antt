@@ -12,9 +12,8 @@ use Rattle.ipnet_blocks.proofs.Maximals.{member_is_address}
 use Rattle.ipnet_blocks.proofs.Parents.{larger_is_shorter}
 use Rattle.ipnet_blocks.proofs.Search.{left_is_block, right_is_block, left_inside, right_inside, in_a_half, address_in_a_half, first_within, leaf_address, halves_in_order}
 use Rattle.ipnet_blocks.specs.Halves.{IsLesser}
-use Rattle.route_choices.specs.Hops.{IsHop, number_of}
+use Rattle.route_choices.specs.Hops.{IsHop, hop_from, number_of}
 use Rattle.route_laws.specs.Fewest.{handed, hop_under, GivesInside, IsFewest, AreHops, FewestOfHost, FewestByHalves}
-use Rattle.route_laws.specs.InnerHops.{hop_from}
 use Rattle.route_laws.specs.Tables.{Route, IsTable, match_of}
 use Rattle.route_laws.proofs.Insides.{Sooner, sound, rising, table_of, within, within_gives, under_route, few, joined_gives}
 use Rattle.route_laws.proofs.Ordered.{same_or_not, before_apart}

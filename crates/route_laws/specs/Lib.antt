@@ -11,6 +11,5 @@ pub mod Pages
 pub mod Operations
 pub mod Batches
 pub mod Runs
-pub mod InnerHops
 pub mod Laws
 pub mod OperationLaws

@@ -21,11 +21,10 @@ use Rattle.least_table.specs.Tables as bits
 use Rattle.trie_core.specs.Bits.{number_from}
 use Rattle.trie_core.proofs.Numbers.{number_bound, number-digits, one_power}
 use Rattle.route_choices.specs.Choices.{default_preference}
-use Rattle.route_choices.specs.Hops.{IsHop}
+use Rattle.route_choices.specs.Hops.{IsHop, hop_from}
 use Rattle.route_choices.specs.declared.hop.Hop.{Hop}
 use Rattle.route_choices.proofs.Kept.{In-map, map_In, map_append}
 use Rattle.route_laws.specs.Fewest.{handed, hop_under, GivesInside, IsFewest}
-use Rattle.route_laws.specs.InnerHops.{hop_from}
 use Rattle.route_table.specs.InnerLeast.{ArePieces, AreLeast, GrowsByLeast, AreLeastOf, address_at, entry_of, entries_of, items_of}
 use Rattle.route_table.specs.InnerSides.{block_at}
 use Rattle.route_laws.specs.LeastTables.{IsLeast, routes_for}

@@ -8,9 +8,8 @@ use Rattle.ipnet.specs.declared.ip_net.IpNet.{IpNet}
 use Rattle.least_table.specs.Pieces.{AreDisjoint, hop_at}
 use Rattle.least_table.specs.Tables as bits
 use Rattle.trie_core.specs.Bits.{number_from}
-use Rattle.route_choices.specs.Hops.{number_of}
+use Rattle.route_choices.specs.Hops.{hop_from, number_of}
 use Rattle.route_choices.specs.declared.hop.Hop.{Hop}
-use Rattle.route_laws.specs.InnerHops.{hop_from}
 use Rattle.route_laws.specs.Flats.{Piece}
 use Rattle.route_laws.specs.LeastTables.{IsLeast, routes_for}
 use Rattle.route_laws.specs.Tables.{Route, IsTable}
