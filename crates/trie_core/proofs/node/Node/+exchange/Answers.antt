@@ -1,8 +1,8 @@
-use Rattle.std.proofs.Common.{◌∙◌, sym, ap, arith}
+use Rattle.std.proofs.Common.{◌∙◌, sym, ap, length, arith}
 use Rattle.std.specs.Prelude.{Option, Some, None, IfSome, IfNone}
 use Rattle.std.specs.FinMap.{get}
 use Rattle.trie_core.proofs.Seen.{seen, viewed}
-use Rattle.trie_core.proofs.Changes.{way, was, absent}
+use Rattle.trie_core.proofs.Changes.{way, was, set_slots, absent}
 use Rattle.trie_core.proofs.Exchanges.{not_short, in_room, same_below, exchanged_below, exchanged_new}
 use Rattle.trie_core.proofs.node.Node.+exchange.Goals as goal
 
@@ -26,6 +26,11 @@ returns-then-is_short-clause-stored g t c = if_some c.exchange_here.result (λ n
 pub index_mut-child-requires : goal.index_mut-child-requires
 index_mut-child-requires g t c = omega (arith, (way c.args.path (seen c.self.invariant c.self.view_is) c.five-number.ensures.value c.in-Some.ensures).within, c.self.inside.children.ok.0)
 
+pub invariant_of-self : goal.invariant_of-self
+invariant_of-self g t c =
+    let s = seen c.self.invariant c.self.view_is in
+    set_slots c.args.path c.exchange.new.self s (way c.args.path s c.five-number.ensures.value c.in-Some.ensures)
+
 pub returns-in-Some-clause-stored : goal.returns-in-Some-clause-stored
 returns-in-Some-clause-stored g t c =
     let s = seen c.self.invariant c.self.view_is in
@@ -47,6 +52,22 @@ returns-in-Some-clause-absent g t c =
 pub returns-then-not-may_grow-clause-absent : goal.returns-then-not-may_grow-clause-absent
 returns-then-not-may_grow-clause-absent g t c =
     absent c.args.path (seen c.self.invariant c.self.view_is) (not_short c.args.path c.is_short.ensures c.if-is_short.false) c.five-number.ensures.value c.in_default.ensures
+
+pub invariant_of-self-then-is_err : goal.invariant_of-self-then-is_err
+invariant_of-self-then-is_err g t c = record {
+  values_counted = c.self.invariant.values_counted;
+  values_below = c.self.invariant.values_below;
+  children_counted = c.self.invariant.children_counted ∙ ap length (sym c.reserve_some.ensures.items);
+  children_below = c.self.invariant.children_below;
+}
+
+pub invariant_of-self-in_err-made : goal.invariant_of-self-in_err-made
+invariant_of-self-in_err-made g t c = record {
+  values_counted = c.self.invariant.values_counted;
+  values_below = c.self.invariant.values_below;
+  children_counted = c.self.invariant.children_counted ∙ ap length (sym c.reserve_some.ensures.items);
+  children_below = c.self.invariant.children_below;
+}
 
 pub returns-in_err-made-clause-unchanged : goal.returns-in_err-made-clause-unchanged
 returns-in_err-made-clause-unchanged g t c = if_none c.from_residual.result (ap (viewed c.self.inside.value_bits c.self.inside.values.items c.self.inside.child_bits) c.reserve_some.ensures.items ∙ c.self.view_is)

@@ -1,11 +1,11 @@
-use Rattle.std.proofs.Common.{◌≡◌, ◌-◌, ◌≤◌, ◌^◌, ◌∙◌, refl, sym, ap, subst, false, length, length-drop, arith}
+use Rattle.std.proofs.Common.{◌≡◌, ◌-◌, ◌^◌, ◌∙◌, refl, sym, ap, subst, false, length, length-drop, arith}
 use Rattle.std.specs.FinMap.{get, remove}
-use Rattle.std.proofs.lemmas.Bool.Decides.{nat_tests}
 use Rattle.trie_core.specs.Ways.{IsPruned}
 use Rattle.trie_core.proofs.Maps.{remove_absent}
 use Rattle.trie_core.proofs.Seen.{seen}
-use Rattle.trie_core.proofs.Changes.{way, was, set_taken, set_count, set_height, was_lower, not_bare, absent, pruned}
+use Rattle.trie_core.proofs.Changes.{way, was, set_slots, set_taken, set_count, set_height, was_lower, not_bare, absent, pruned}
 use Rattle.trie_core.proofs.Left.{left_none, left_set, left_removed}
+use Rattle.trie_core.proofs.Exchanges.{not_short}
 use Rattle.trie_core.proofs.node.Node.+withdraw.Goals as goal
 
 pub index_mut-child-requires : goal.index_mut-child-requires
@@ -16,43 +16,48 @@ remove-requires g t c = omega (arith, (way c.args.path (seen c.self.invariant c.
 
 pub returns-in-None-clause-value : goal.returns-in-None-clause-value
 returns-in-None-clause-value g t c =
-    let h : 5 ≤ length c.args.path = grind (arith, nat_tests) in
+    let h = not_short c.args.path c.is_short.ensures c.if-is_short.false in
     c.requires.held ∙ sym (absent c.args.path (seen c.self.invariant c.self.view_is) h c.five-number.ensures.value c.in-None.ensures)
 
 pub returns-in-None-clause-map : goal.returns-in-None-clause-map
 returns-in-None-clause-map g t c =
-    let h : 5 ≤ length c.args.path = grind (arith, nat_tests) in
+    let h = not_short c.args.path c.is_short.ensures c.if-is_short.false in
     sym (remove_absent c.args.self.now.entries c.args.path (absent c.args.path (seen c.self.invariant c.self.view_is) h c.five-number.ensures.value c.in-None.ensures))
 
 pub returns-in-None-clause-spares : goal.returns-in-None-clause-spares
 returns-in-None-clause-spares g t c =
-    let h : 5 ≤ length c.args.path = grind (arith, nat_tests) in
+    let h = not_short c.args.path c.is_short.ensures c.if-is_short.false in
     left_none (λ x. false) c.args.path (seen c.self.invariant c.self.view_is) h (λ x l e. refl) c.five-number.ensures.value c.in-None.ensures
 
 -- ---- the child goes
 
+pub overflow_add-result : goal.overflow_add-result
+overflow_add-result g t c =
+    let l : length c.rest.result ≡ length c.args.path - 5 = ap length c.rest.ensures ∙ length-drop 5 c.args.path in
+    omega (arith, l, c.withdraw-gone.ensures.within, c.requires.path)
+
 pub invariant_of-self : goal.invariant_of-self
 invariant_of-self g t c =
-    let h : 5 ≤ length c.args.path = grind (arith, nat_tests) in
+    let h = not_short c.args.path c.is_short.ensures c.if-is_short.false in
     let s = seen c.self.invariant c.self.view_is in
     (pruned c.args.path c.index_mut-child.result.now c.withdraw-gone.new.self s h (way c.args.path s c.five-number.ensures.value c.in-Some.ensures) c.index_mut-child.ensures.value (c.withdraw-gone.ensures.map ∙ ap (remove c.index_mut-child.result.now.entries) c.rest.ensures) (c.if-is_bare.ensures.bare.0 refl).0 (c.bit.ensures ∙ ap (λ i. 2 ^ i) c.five-number.ensures.value) c.remove.ensures.items).slots
 
 pub returns-then-is_bare-clause-value : goal.returns-then-is_bare-clause-value
 returns-then-is_bare-clause-value g t c =
-    let h : 5 ≤ length c.args.path = grind (arith, nat_tests) in
+    let h = not_short c.args.path c.is_short.ensures c.if-is_short.false in
     let s = seen c.self.invariant c.self.view_is in
     c.withdraw-gone.ensures.value ∙ ap (get c.index_mut-child.result.now.entries) c.rest.ensures
     ∙ was c.args.path c.index_mut-child.result.now s h (way c.args.path s c.five-number.ensures.value c.in-Some.ensures) c.index_mut-child.ensures.value
 
 pub returns-then-is_bare-clause-map : goal.returns-then-is_bare-clause-map
 returns-then-is_bare-clause-map g t c =
-    let h : 5 ≤ length c.args.path = grind (arith, nat_tests) in
+    let h = not_short c.args.path c.is_short.ensures c.if-is_short.false in
     let s = seen c.self.invariant c.self.view_is in
     (pruned c.args.path c.index_mut-child.result.now c.withdraw-gone.new.self s h (way c.args.path s c.five-number.ensures.value c.in-Some.ensures) c.index_mut-child.ensures.value (c.withdraw-gone.ensures.map ∙ ap (remove c.index_mut-child.result.now.entries) c.rest.ensures) (c.if-is_bare.ensures.bare.0 refl).0 (c.bit.ensures ∙ ap (λ i. 2 ^ i) c.five-number.ensures.value) c.remove.ensures.items).map
 
 pub returns-then-is_bare-clause-spares : goal.returns-then-is_bare-clause-spares
 returns-then-is_bare-clause-spares g t c =
-    let h : 5 ≤ length c.args.path = grind (arith, nat_tests) in
+    let h = not_short c.args.path c.is_short.ensures c.if-is_short.false in
     let s = seen c.self.invariant c.self.view_is in
     left_removed (λ x. false) c.args.path s h (λ x l e. refl) (λ x. false) c.index_mut-child.result.now c.withdraw-gone.new.self (way c.args.path s c.five-number.ensures.value c.in-Some.ensures) c.index_mut-child.ensures.value (λ x. refl)
     (subst (λ q. IsPruned q c.index_mut-child.result.now.spares c.withdraw-gone.new.self.entries c.withdraw-gone.new.self.spares) c.rest.ensures c.withdraw-gone.ensures.spares)
@@ -60,20 +65,20 @@ returns-then-is_bare-clause-spares g t c =
 
 pub returns-then-is_bare-clause-count : goal.returns-then-is_bare-clause-count
 returns-then-is_bare-clause-count g t c =
-    let h : 5 ≤ length c.args.path = grind (arith, nat_tests) in
+    let h = not_short c.args.path c.is_short.ensures c.if-is_short.false in
     let s = seen c.self.invariant c.self.view_is in
     let p = pruned c.args.path c.index_mut-child.result.now c.withdraw-gone.new.self s h (way c.args.path s c.five-number.ensures.value c.in-Some.ensures) c.index_mut-child.ensures.value (c.withdraw-gone.ensures.map ∙ ap (remove c.index_mut-child.result.now.entries) c.rest.ensures) (c.if-is_bare.ensures.bare.0 refl).0 (c.bit.ensures ∙ ap (λ i. 2 ^ i) c.five-number.ensures.value) c.remove.ensures.items in
     omega (arith, p.count, c.withdraw-gone.ensures.count, c.if-is_bare.ensures.count refl)
 
 pub returns-then-is_bare-clause-levels : goal.returns-then-is_bare-clause-levels
 returns-then-is_bare-clause-levels g t c =
-    let h : 5 ≤ length c.args.path = grind (arith, nat_tests) in
+    let h = not_short c.args.path c.is_short.ensures c.if-is_short.false in
     let s = seen c.self.invariant c.self.view_is in
     (pruned c.args.path c.index_mut-child.result.now c.withdraw-gone.new.self s h (way c.args.path s c.five-number.ensures.value c.in-Some.ensures) c.index_mut-child.ensures.value (c.withdraw-gone.ensures.map ∙ ap (remove c.index_mut-child.result.now.entries) c.rest.ensures) (c.if-is_bare.ensures.bare.0 refl).0 (c.bit.ensures ∙ ap (λ i. 2 ^ i) c.five-number.ensures.value) c.remove.ensures.items).height
 
 pub returns-then-is_bare-clause-within : goal.returns-then-is_bare-clause-within
 returns-then-is_bare-clause-within g t c =
-    let h : 5 ≤ length c.args.path = grind (arith, nat_tests) in
+    let h = not_short c.args.path c.is_short.ensures c.if-is_short.false in
     let l : length c.rest.result ≡ length c.args.path - 5 = ap length c.rest.ensures ∙ length-drop 5 c.args.path in
     omega (arith, h, l, c.withdraw-gone.ensures.within)
 
@@ -81,20 +86,20 @@ returns-then-is_bare-clause-within g t c =
 
 pub returns-else-is_bare-clause-value : goal.returns-else-is_bare-clause-value
 returns-else-is_bare-clause-value g t c =
-    let h : 5 ≤ length c.args.path = grind (arith, nat_tests) in
+    let h = not_short c.args.path c.is_short.ensures c.if-is_short.false in
     let s = seen c.self.invariant c.self.view_is in
     c.withdraw-gone.ensures.value ∙ ap (get c.index_mut-child.result.now.entries) c.rest.ensures
     ∙ was c.args.path c.index_mut-child.result.now s h (way c.args.path s c.five-number.ensures.value c.in-Some.ensures) c.index_mut-child.ensures.value
 
 pub returns-else-is_bare-clause-map : goal.returns-else-is_bare-clause-map
 returns-else-is_bare-clause-map g t c =
-    let h : 5 ≤ length c.args.path = grind (arith, nat_tests) in
+    let h = not_short c.args.path c.is_short.ensures c.if-is_short.false in
     let s = seen c.self.invariant c.self.view_is in
     set_taken c.args.path c.index_mut-child.result.now c.withdraw-gone.new.self s h (way c.args.path s c.five-number.ensures.value c.in-Some.ensures) c.index_mut-child.ensures.value (c.withdraw-gone.ensures.map ∙ ap (remove c.index_mut-child.result.now.entries) c.rest.ensures)
 
 pub returns-else-is_bare-clause-spares : goal.returns-else-is_bare-clause-spares
 returns-else-is_bare-clause-spares g t c =
-    let h : 5 ≤ length c.args.path = grind (arith, nat_tests) in
+    let h = not_short c.args.path c.is_short.ensures c.if-is_short.false in
     let s = seen c.self.invariant c.self.view_is in
     left_set (λ x. false) c.args.path s h (λ x l e. refl) (λ x. false) c.index_mut-child.result.now c.withdraw-gone.new.self (way c.args.path s c.five-number.ensures.value c.in-Some.ensures) c.index_mut-child.ensures.value (λ x. refl)
     (subst (λ q. IsPruned q c.index_mut-child.result.now.spares c.withdraw-gone.new.self.entries c.withdraw-gone.new.self.spares) c.rest.ensures c.withdraw-gone.ensures.spares)
@@ -110,3 +115,14 @@ returns-else-is_bare-clause-levels g t c =
     let s = seen c.self.invariant c.self.view_is in
     let w = way c.args.path s c.five-number.ensures.value c.in-Some.ensures in
     omega (arith, set_height c.in-Some.at c.withdraw-gone.new.self s, was_lower c.args.path c.index_mut-child.result.now s w c.index_mut-child.ensures.value, c.withdraw-gone.ensures.levels)
+
+pub returns-else-is_bare-clause-within : goal.returns-else-is_bare-clause-within
+returns-else-is_bare-clause-within g t c =
+    let h = not_short c.args.path c.is_short.ensures c.if-is_short.false in
+    let l : length c.rest.result ≡ length c.args.path - 5 = ap length c.rest.ensures ∙ length-drop 5 c.args.path in
+    omega (arith, h, l, c.withdraw-gone.ensures.within)
+
+pub invariant_of-self-else-is_bare : goal.invariant_of-self-else-is_bare
+invariant_of-self-else-is_bare g t c =
+    let s = seen c.self.invariant c.self.view_is in
+    set_slots c.args.path c.withdraw-gone.new.self s (way c.args.path s c.five-number.ensures.value c.in-Some.ensures)
