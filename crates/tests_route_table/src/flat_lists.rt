@@ -1,17 +1,15 @@
 //! Rows of flat lists, with values from outside.
-use crate::changes::is_text;
+use crate::tables::{is_text, net, row_is};
 use ipnet::IpNet;
 use route_table::{Hop, RouteTable};
 use std::alloc::Global;
 use std::process::Abort;
-use std::str::FromStr;
 
 /// A table of these routes, added in order.
 pub(crate) fn table(rt: &impl Abort, alloc: Global, routes: &[(&str, Hop)]) -> RouteTable {
     let mut table = RouteTable::new(alloc).expect(rt, "a table");
     for (text, hop) in routes {
-        let net = IpNet::from_str(text).expect(rt, "a network");
-        table.add(net, *hop, 100).expect(rt, "a route");
+        table.add(net(rt, text), *hop, 100).expect(rt, text);
     }
     table
 }
@@ -21,13 +19,11 @@ fn flat_is(rt: &impl Abort, alloc: Global, routes: &[(&str, Hop)], pieces: &[(&s
     let table = table(rt, alloc, routes);
     let mut flat = table.flat();
     for (text, number) in pieces {
-        let Some((net, hop)) = flat.next() else {
-            panic!(rt; "too few pieces")
-        };
+        let (net, hop) = flat.next().expect(rt, text);
         is_text(rt, net, text);
-        assert_eq!(rt; hop, *number);
+        row_is(rt, text, hop, *number);
     }
-    assert!(rt; flat.next().is_none());
+    row_is(rt, "the end", flat.next(), None);
 }
 
 #[test]
@@ -41,70 +37,72 @@ fn nested_routes(rt: HostRuntime) {
     flat_is(&rt, rt.alloc(), &routes, &pieces);
 }
 
-#[test]
-fn neighbours_join(rt: HostRuntime) {
-    let routes = [
-        ("0.0.0.0/1", Hop::Number(7)),
-        ("128.0.0.0/1", Hop::Number(7)),
-    ];
-    flat_is(&rt, rt.alloc(), &routes, &[("0.0.0.0/0", 7)]);
-}
-
-#[test]
-fn a_nested_route_of_the_same_hop(rt: HostRuntime) {
-    let routes = [
-        ("10.0.0.0/8", Hop::Number(1)),
-        ("10.1.0.0/16", Hop::Number(1)),
-    ];
-    flat_is(&rt, rt.alloc(), &routes, &[("10.0.0.0/8", 1)]);
-}
-
-#[test]
-fn dropped_addresses_are_left_out(rt: HostRuntime) {
-    let routes = [("10.0.0.0/30", Hop::Number(1)), ("10.0.0.1/32", Hop::Drop)];
-    flat_is(
-        &rt,
-        rt.alloc(),
-        &routes,
+/// Routes, and the flat list of a table of them.
+const FLAT: [(&[(&str, Hop)], &[(&str, u32)]); 6] = [
+    // neighbours join
+    (
+        &[
+            ("0.0.0.0/1", Hop::Number(7)),
+            ("128.0.0.0/1", Hop::Number(7)),
+        ],
+        &[("0.0.0.0/0", 7)],
+    ),
+    // a nested route of the same hop
+    (
+        &[
+            ("10.0.0.0/8", Hop::Number(1)),
+            ("10.1.0.0/16", Hop::Number(1)),
+        ],
+        &[("10.0.0.0/8", 1)],
+    ),
+    // dropped addresses are left out
+    (
+        &[("10.0.0.0/30", Hop::Number(1)), ("10.0.0.1/32", Hop::Drop)],
         &[("10.0.0.0/32", 1), ("10.0.0.2/31", 1)],
-    );
-}
+    ),
+    // at the greatest address
+    (
+        &[
+            ("255.255.255.255/32", Hop::Number(9)),
+            ("255.255.255.252/30", Hop::Number(5)),
+            (
+                "ffff:ffff:ffff:ffff:ffff:ffff:ffff:ffff/128",
+                Hop::Number(9),
+            ),
+            (
+                "ffff:ffff:ffff:ffff:ffff:ffff:ffff:fffc/126",
+                Hop::Number(5),
+            ),
+        ],
+        &[
+            ("255.255.255.252/31", 5),
+            ("255.255.255.254/32", 5),
+            ("255.255.255.255/32", 9),
+            ("ffff:ffff:ffff:ffff:ffff:ffff:ffff:fffc/127", 5),
+            ("ffff:ffff:ffff:ffff:ffff:ffff:ffff:fffe/128", 5),
+            ("ffff:ffff:ffff:ffff:ffff:ffff:ffff:ffff/128", 9),
+        ],
+    ),
+    // IPv4 before IPv6
+    (
+        &[("::/0", Hop::Number(4)), ("0.0.0.0/0", Hop::Number(3))],
+        &[("0.0.0.0/0", 3), ("::/0", 4)],
+    ),
+    // nothing in an empty table
+    (&[], &[]),
+];
 
 #[test]
-fn at_the_greatest_address(rt: HostRuntime) {
-    let routes = [
-        ("255.255.255.255/32", Hop::Number(9)),
-        ("255.255.255.252/30", Hop::Number(5)),
-        (
-            "ffff:ffff:ffff:ffff:ffff:ffff:ffff:ffff/128",
-            Hop::Number(9),
-        ),
-        (
-            "ffff:ffff:ffff:ffff:ffff:ffff:ffff:fffc/126",
-            Hop::Number(5),
-        ),
-    ];
-    let pieces = [
-        ("255.255.255.252/31", 5),
-        ("255.255.255.254/32", 5),
-        ("255.255.255.255/32", 9),
-        ("ffff:ffff:ffff:ffff:ffff:ffff:ffff:fffc/127", 5),
-        ("ffff:ffff:ffff:ffff:ffff:ffff:ffff:fffe/128", 5),
-        ("ffff:ffff:ffff:ffff:ffff:ffff:ffff:ffff/128", 9),
-    ];
-    flat_is(&rt, rt.alloc(), &routes, &pieces);
-}
-
-#[test]
-fn ipv4_before_ipv6(rt: HostRuntime) {
-    let routes = [("::/0", Hop::Number(4)), ("0.0.0.0/0", Hop::Number(3))];
-    flat_is(&rt, rt.alloc(), &routes, &[("0.0.0.0/0", 3), ("::/0", 4)]);
+fn flat_lists(rt: HostRuntime) {
+    for (routes, pieces) in &FLAT {
+        flat_is(&rt, rt.alloc(), routes, pieces);
+    }
 }
 
 /// The piece is that of the text, by the hop 2.
 fn is_end(rt: &impl Abort, net: &IpNet, hop: u32, text: &str) {
     is_text(rt, *net, text);
-    assert_eq!(rt; hop, 2);
+    row_is(rt, text, hop, 2);
 }
 
 /// How many pieces there are, with the first and the last, both by the hop 2.
@@ -119,44 +117,51 @@ fn ends_are(rt: &impl Abort, table: &RouteTable, first: &str, last: &str, count:
             is_end(rt, &net, hop, last);
         }
     }
-    assert_eq!(rt; left, 0);
+    row_is(rt, last, left, 0);
 }
 
-#[test]
-fn both_ends_of_ipv4(rt: HostRuntime) {
-    let routes = [
-        ("0.0.0.0/0", Hop::Number(1)),
-        ("0.0.0.0/32", Hop::Number(2)),
-        ("255.255.255.255/32", Hop::Number(2)),
-    ];
-    let table = table(&rt, rt.alloc(), &routes);
-    ends_are(&rt, &table, "0.0.0.0/32", "255.255.255.255/32", 64);
-}
+/// Routes, and the first and the last piece of the flat list, and how many there are.
+const ENDS: [(&[(&str, Hop)], &str, &str, u32); 2] = [
+    (
+        &[
+            ("0.0.0.0/0", Hop::Number(1)),
+            ("0.0.0.0/32", Hop::Number(2)),
+            ("255.255.255.255/32", Hop::Number(2)),
+        ],
+        "0.0.0.0/32",
+        "255.255.255.255/32",
+        64,
+    ),
+    (
+        &[
+            ("::/0", Hop::Number(1)),
+            ("::/128", Hop::Number(2)),
+            (
+                "ffff:ffff:ffff:ffff:ffff:ffff:ffff:ffff/128",
+                Hop::Number(2),
+            ),
+        ],
+        "::/128",
+        "ffff:ffff:ffff:ffff:ffff:ffff:ffff:ffff/128",
+        256,
+    ),
+];
 
 #[test]
-fn both_ends_of_ipv6(rt: HostRuntime) {
-    let greatest = "ffff:ffff:ffff:ffff:ffff:ffff:ffff:ffff/128";
-    let routes = [
-        ("::/0", Hop::Number(1)),
-        ("::/128", Hop::Number(2)),
-        (greatest, Hop::Number(2)),
-    ];
-    let table = table(&rt, rt.alloc(), &routes);
-    ends_are(&rt, &table, "::/128", greatest, 256);
-}
-
-#[test]
-fn nothing_in_an_empty_table(rt: HostRuntime) {
-    flat_is(&rt, rt.alloc(), &[], &[]);
+fn both_ends(rt: HostRuntime) {
+    for (routes, first, last, count) in &ENDS {
+        let table = table(&rt, rt.alloc(), routes);
+        ends_are(&rt, &table, first, last, *count);
+    }
 }
 
 /// The blocks of the number.
 fn own_is(rt: &impl Abort, table: &RouteTable, number: u32, blocks: &[&str]) {
     let own = table.own(number).expect(rt, "memory");
-    assert_eq!(rt; own.len(), blocks.len());
+    row_is(rt, "own blocks", own.len(), blocks.len());
     let mut left = own.iter();
     for text in blocks {
-        is_text(rt, *left.next().expect(rt, "too few blocks"), text);
+        is_text(rt, *left.next().expect(rt, text), text);
     }
 }
 
@@ -180,7 +185,7 @@ fn own_is_counted(rt: &impl Abort, table: &RouteTable, number: u32) {
             left = left.checked_sub(1).expect(rt, "as many blocks");
         }
     }
-    assert_eq!(rt; left, 0);
+    row_is(rt, "as many pieces", left, 0);
 }
 
 #[test]

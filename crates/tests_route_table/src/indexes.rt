@@ -1,7 +1,8 @@
 //! Indexes of tables: each address has the hop that the table has for it.
 use crate::flat_lists::table;
+use crate::tables::{net, put, row_is};
 use hop_index::HopIndex;
-use ipnet::{IpAddr, IpNet};
+use ipnet::IpAddr;
 use route_table::{Hop, HopTable, RouteTable};
 use std::alloc::Global;
 use std::process::Abort;
@@ -98,7 +99,7 @@ const HOPS: [(&str, Option<u32>); 51] = [
 ];
 
 pub(crate) fn address(rt: &impl Abort, text: &str) -> IpAddr {
-    IpAddr::from_str(text).expect(rt, "an address")
+    IpAddr::from_str(text).expect(rt, text)
 }
 
 /// Each address has its hop, asked for alone and with the others.
@@ -106,12 +107,12 @@ fn hops_are(rt: &impl Abort, index: &HopIndex) {
     let mut addrs = [address(rt, "::"); 51];
     for (place, (text, hop)) in HOPS.iter().enumerate() {
         addrs[place] = address(rt, text);
-        assert_eq!(rt; index.hop(addrs[place]), *hop);
+        row_is(rt, text, index.hop(addrs[place]), *hop);
     }
     let mut hops = [None; 51];
     index.hops(&addrs, &mut hops);
-    for (place, (_, hop)) in HOPS.iter().enumerate() {
-        assert_eq!(rt; hops[place], *hop);
+    for (place, (text, hop)) in HOPS.iter().enumerate() {
+        row_is(rt, text, hops[place], *hop);
     }
 }
 
@@ -126,8 +127,7 @@ fn of_a_table(rt: HostRuntime) {
 fn best(rt: &impl Abort, alloc: Global, routes: &RouteTable) -> HopTable {
     let mut table = HopTable::new(alloc).expect(rt, "a table");
     for text in ["0.0.0.0/0", "::/0"] {
-        let all = IpNet::from_str(text).expect(rt, "a network");
-        for (net, hop, _) in routes.list(&all) {
+        for (net, hop, _) in routes.list(&net(rt, text)) {
             table.overwrite(net, hop).expect(rt, "a route");
         }
     }
@@ -145,8 +145,7 @@ fn of_hops(rt: HostRuntime) {
 fn of_no_routes_and_a_copy(rt: HostRuntime) {
     let mut table = RouteTable::new(rt.alloc()).expect(&rt, "a table");
     let index = HopIndex::of_table(rt.alloc(), &table).expect(&rt, "an index");
-    let all = IpNet::from_str("0.0.0.0/0").expect(&rt, "a network");
-    table.add(all, Hop::Number(1), 100).expect(&rt, "a route");
-    assert_eq!(rt; index.hop(address(&rt, "10.0.0.1")), None);
-    assert_eq!(rt; index.hop(address(&rt, "::1")), None);
+    put(&rt, &mut table, "0.0.0.0/0", Hop::Number(1));
+    row_is(&rt, "10.0.0.1", index.hop(address(&rt, "10.0.0.1")), None);
+    row_is(&rt, "::1", index.hop(address(&rt, "::1")), None);
 }

@@ -1,44 +1,148 @@
 //! Rows of shortest tables, with values from outside.
-use crate::changes::{empty, is_text, net};
 use crate::flat_lists::table;
+use crate::tables::{empty, is_text, net, row_is};
 use ipnet::IpNet;
 use route_table::{Hop, HopTable, Refused, RouteTable};
 use std::alloc::Global;
 use std::process::Abort;
 
 /// The shortest table of one of these routes.
-fn least_is(rt: &impl Abort, alloc: Global, routes: &[(&str, Hop)], wanted: &[(&str, Hop)]) {
+fn least_is(
+    rt: &impl Abort,
+    alloc: Global,
+    row: &str,
+    routes: &[(&str, Hop)],
+    wanted: &[(&str, Hop)],
+) {
     let table = table(rt, alloc, routes);
     let least = table.least().expect(rt, "memory");
+    row_is(rt, row, least.len(), wanted.len());
     routes_are(rt, least.as_slice(), wanted);
 }
 
 fn is_route(rt: &impl Abort, route: &(IpNet, Hop), text: &str, wanted: Hop) {
     let (net, hop) = *route;
     is_text(rt, net, text);
-    assert_eq!(rt; hop, wanted);
+    row_is(rt, text, hop, wanted);
 }
 
 fn routes_are(rt: &impl Abort, least: &[(IpNet, Hop)], routes: &[(&str, Hop)]) {
-    assert_eq!(rt; least.len(), routes.len());
+    row_is(rt, "routes", least.len(), routes.len());
     let mut left = least.iter();
     for (text, hop) in routes {
-        is_route(rt, left.next().expect(rt, "too few routes"), text, *hop);
+        is_route(rt, left.next().expect(rt, text), text, *hop);
     }
 }
 
+/// Routes, and the shortest table of one of them.
+const LEAST: [(&str, &[(&str, Hop)], &[(&str, Hop)]); 6] = [
+    (
+        "a route inside another",
+        &[
+            ("10.0.0.0/8", Hop::Number(1)),
+            ("10.0.0.0/9", Hop::Number(2)),
+            ("10.64.0.0/10", Hop::Number(1)),
+        ],
+        &[
+            ("10.0.0.0/8", Hop::Number(1)),
+            ("10.0.0.0/10", Hop::Number(2)),
+        ],
+    ),
+    (
+        "drop inside a route of each family",
+        &[
+            ("2001:db8::/33", Hop::Number(7)),
+            ("2001:db8:8000::/33", Hop::Number(7)),
+            ("2001:db8::1/128", Hop::Drop),
+            ("10.0.0.0/8", Hop::Number(1)),
+            ("10.0.0.1/32", Hop::Drop),
+            ("10.0.0.2/32", Hop::Number(1)),
+        ],
+        &[
+            ("10.0.0.0/8", Hop::Number(1)),
+            ("10.0.0.1/32", Hop::Drop),
+            ("2001:db8::/32", Hop::Number(7)),
+            ("2001:db8::1/128", Hop::Drop),
+        ],
+    ),
+    (
+        "all but the ends",
+        &[
+            ("0.0.0.0/0", Hop::Number(3)),
+            ("0.0.0.0/32", Hop::Drop),
+            ("255.255.255.255/32", Hop::Number(9)),
+            ("::/0", Hop::Number(4)),
+            ("::/128", Hop::Drop),
+            ("ffff:ffff:ffff:ffff:ffff:ffff:ffff:ffff/128", Hop::Drop),
+        ],
+        &[
+            ("0.0.0.0/0", Hop::Number(3)),
+            ("0.0.0.0/32", Hop::Drop),
+            ("255.255.255.255/32", Hop::Number(9)),
+            ("::/0", Hop::Number(4)),
+            ("::/128", Hop::Drop),
+            ("ffff:ffff:ffff:ffff:ffff:ffff:ffff:ffff/128", Hop::Drop),
+        ],
+    ),
+    // The greatest address of both families has its own hop, in a table with a route of the others around it.
+    (
+        "the greatest addresses",
+        &[
+            ("255.255.255.252/31", Hop::Number(5)),
+            ("255.255.255.254/32", Hop::Number(5)),
+            ("255.255.255.255/32", Hop::Number(9)),
+            (
+                "ffff:ffff:ffff:ffff:ffff:ffff:ffff:fffc/127",
+                Hop::Number(5),
+            ),
+            (
+                "ffff:ffff:ffff:ffff:ffff:ffff:ffff:fffe/128",
+                Hop::Number(5),
+            ),
+            (
+                "ffff:ffff:ffff:ffff:ffff:ffff:ffff:ffff/128",
+                Hop::Number(9),
+            ),
+        ],
+        &[
+            ("255.255.255.252/30", Hop::Number(5)),
+            ("255.255.255.255/32", Hop::Number(9)),
+            (
+                "ffff:ffff:ffff:ffff:ffff:ffff:ffff:fffc/126",
+                Hop::Number(5),
+            ),
+            (
+                "ffff:ffff:ffff:ffff:ffff:ffff:ffff:ffff/128",
+                Hop::Number(9),
+            ),
+        ],
+    ),
+    // A route with `drop` stays where a number is handed down to it, and only there.
+    (
+        "drop under a number",
+        &[
+            ("0.0.0.0/0", Hop::Number(1)),
+            ("10.0.0.0/8", Hop::Drop),
+            ("10.1.0.0/16", Hop::Number(1)),
+            ("10.2.0.0/16", Hop::Drop),
+            ("::/1", Hop::Drop),
+            ("8000::/1", Hop::Number(2)),
+        ],
+        &[
+            ("0.0.0.0/0", Hop::Number(1)),
+            ("10.0.0.0/8", Hop::Drop),
+            ("10.1.0.0/16", Hop::Number(1)),
+            ("8000::/1", Hop::Number(2)),
+        ],
+    ),
+    ("nothing in an empty table", &[], &[]),
+];
+
 #[test]
-fn a_route_inside_another(rt: HostRuntime) {
-    let routes = [
-        ("10.0.0.0/8", Hop::Number(1)),
-        ("10.0.0.0/9", Hop::Number(2)),
-        ("10.64.0.0/10", Hop::Number(1)),
-    ];
-    let least = [
-        ("10.0.0.0/8", Hop::Number(1)),
-        ("10.0.0.0/10", Hop::Number(2)),
-    ];
-    least_is(&rt, rt.alloc(), &routes, &least);
+fn least(rt: HostRuntime) {
+    for (row, routes, wanted) in &LEAST {
+        least_is(&rt, rt.alloc(), row, routes, wanted);
+    }
 }
 
 /// A table of one hop a network.
@@ -60,9 +164,9 @@ fn hop_table(rt: &impl Abort, alloc: Global) -> HopTable {
 fn hop_flat_is(rt: &impl Abort, table: &HopTable, pieces: &[(&str, u32)]) {
     let mut flat = table.flat();
     for (text, number) in pieces {
-        assert!(rt; flat.next() == Some((net(rt, text), *number)), "{text}");
+        row_is(rt, text, flat.next(), Some((net(rt, text), *number)));
     }
-    assert!(rt; flat.next().is_none());
+    row_is(rt, "the end", flat.next(), None);
 }
 
 #[test]
@@ -84,102 +188,10 @@ fn a_table_of_one_hop_a_network(rt: HostRuntime) {
     routes_are(&rt, least.as_slice(), &wanted);
 }
 
-#[test]
-fn nothing_in_an_empty_table(rt: HostRuntime) {
-    let table = table(&rt, rt.alloc(), &[]);
-    least_is(&rt, rt.alloc(), &[], &[]);
-}
-
-#[test]
-fn drop_inside_a_route_of_each_family(rt: HostRuntime) {
-    let routes = [
-        ("2001:db8::/33", Hop::Number(7)),
-        ("2001:db8:8000::/33", Hop::Number(7)),
-        ("2001:db8::1/128", Hop::Drop),
-        ("10.0.0.0/8", Hop::Number(1)),
-        ("10.0.0.1/32", Hop::Drop),
-        ("10.0.0.2/32", Hop::Number(1)),
-    ];
-    let least = [
-        ("10.0.0.0/8", Hop::Number(1)),
-        ("10.0.0.1/32", Hop::Drop),
-        ("2001:db8::/32", Hop::Number(7)),
-        ("2001:db8::1/128", Hop::Drop),
-    ];
-    least_is(&rt, rt.alloc(), &routes, &least);
-}
-
-#[test]
-fn all_but_the_ends(rt: HostRuntime) {
-    let routes = [
-        ("0.0.0.0/0", Hop::Number(3)),
-        ("0.0.0.0/32", Hop::Drop),
-        ("255.255.255.255/32", Hop::Number(9)),
-        ("::/0", Hop::Number(4)),
-        ("::/128", Hop::Drop),
-        ("ffff:ffff:ffff:ffff:ffff:ffff:ffff:ffff/128", Hop::Drop),
-    ];
-    least_is(&rt, rt.alloc(), &routes, &routes);
-}
-
-/// The greatest address of both families has its own hop, in a table with a route of the others around it.
-#[test]
-fn the_greatest_addresses(rt: HostRuntime) {
-    let routes = [
-        ("255.255.255.252/31", Hop::Number(5)),
-        ("255.255.255.254/32", Hop::Number(5)),
-        ("255.255.255.255/32", Hop::Number(9)),
-        (
-            "ffff:ffff:ffff:ffff:ffff:ffff:ffff:fffc/127",
-            Hop::Number(5),
-        ),
-        (
-            "ffff:ffff:ffff:ffff:ffff:ffff:ffff:fffe/128",
-            Hop::Number(5),
-        ),
-        (
-            "ffff:ffff:ffff:ffff:ffff:ffff:ffff:ffff/128",
-            Hop::Number(9),
-        ),
-    ];
-    let least = [
-        ("255.255.255.252/30", Hop::Number(5)),
-        ("255.255.255.255/32", Hop::Number(9)),
-        (
-            "ffff:ffff:ffff:ffff:ffff:ffff:ffff:fffc/126",
-            Hop::Number(5),
-        ),
-        (
-            "ffff:ffff:ffff:ffff:ffff:ffff:ffff:ffff/128",
-            Hop::Number(9),
-        ),
-    ];
-    least_is(&rt, rt.alloc(), &routes, &least);
-}
-
-/// A route with `drop` stays where a number is handed down to it, and only there.
-#[test]
-fn drop_under_a_number(rt: HostRuntime) {
-    let routes = [
-        ("0.0.0.0/0", Hop::Number(1)),
-        ("10.0.0.0/8", Hop::Drop),
-        ("10.1.0.0/16", Hop::Number(1)),
-        ("10.2.0.0/16", Hop::Drop),
-        ("::/1", Hop::Drop),
-        ("8000::/1", Hop::Number(2)),
-    ];
-    let least = [
-        ("0.0.0.0/0", Hop::Number(1)),
-        ("10.0.0.0/8", Hop::Drop),
-        ("10.1.0.0/16", Hop::Number(1)),
-        ("8000::/1", Hop::Number(2)),
-    ];
-    least_is(&rt, rt.alloc(), &routes, &least);
-}
-
 fn is_same_piece(rt: &impl Abort, piece: (IpNet, u32), other: (IpNet, u32)) {
-    assert_eq!(rt; other.0.to_text().as_slice(), piece.0.to_text().as_slice());
-    assert_eq!(rt; other.1, piece.1);
+    let (net, wanted) = (other.0.to_text(), piece.0.to_text());
+    row_is(rt, "a piece", net.as_slice(), wanted.as_slice());
+    row_is(rt, "its hop", other.1, piece.1);
 }
 
 /// How many blocks the flat list has, which is that of the other table too.
@@ -190,13 +202,14 @@ fn same_flat(rt: &impl Abort, table: &RouteTable, other: &RouteTable) -> usize {
         is_same_piece(rt, piece, pieces.next().expect(rt, "too few pieces"));
         count = count.wrapping_add(1);
     }
-    assert!(rt; pieces.next().is_none());
+    row_is(rt, "the end", pieces.next(), None);
     count
 }
 
 /// Tables of both families, and how many routes the least ones have.
-const TABLES: [(&[(&str, Hop)], usize); 5] = [
+const TABLES: [(&str, &[(&str, Hop)], usize); 5] = [
     (
+        "one inside another",
         &[
             ("10.0.0.0/8", Hop::Number(1)),
             ("10.0.0.0/9", Hop::Number(2)),
@@ -208,6 +221,7 @@ const TABLES: [(&[(&str, Hop)], usize); 5] = [
         4,
     ),
     (
+        "drop inside another",
         &[
             ("10.0.0.0/30", Hop::Number(1)),
             ("10.0.0.1/32", Hop::Drop),
@@ -218,6 +232,7 @@ const TABLES: [(&[(&str, Hop)], usize); 5] = [
         3,
     ),
     (
+        "the greatest addresses",
         &[
             ("255.255.255.255/32", Hop::Number(9)),
             ("255.255.255.252/30", Hop::Number(5)),
@@ -231,6 +246,7 @@ const TABLES: [(&[(&str, Hop)], usize); 5] = [
         5,
     ),
     (
+        "quarters in turn",
         &[
             ("0.0.0.0/2", Hop::Number(1)),
             ("64.0.0.0/2", Hop::Number(2)),
@@ -244,6 +260,7 @@ const TABLES: [(&[(&str, Hop)], usize); 5] = [
         6,
     ),
     (
+        "routes that say nothing",
         &[
             ("0.0.0.0/0", Hop::Number(1)),
             ("0.0.0.0/1", Hop::Number(1)),
@@ -266,19 +283,20 @@ fn built(rt: &impl Abort, alloc: Global, routes: &[(IpNet, Hop)]) -> RouteTable 
 }
 
 /// A table that is built of the least routes has the same flat list, with no more routes than the table and than this list.
-fn is_built_back(rt: &impl Abort, alloc: Global, routes: &[(&str, Hop)], wanted: usize) {
+fn is_built_back(rt: &impl Abort, alloc: Global, row: &str, routes: &[(&str, Hop)], wanted: usize) {
     let table = table(rt, alloc, routes);
     let least = table.least().expect(rt, "memory");
-    assert_eq!(rt; least.len(), wanted);
-    assert!(rt; least.len() <= routes.len());
+    row_is(rt, row, least.len(), wanted);
+    row_is(rt, row, least.len() <= routes.len(), true);
     let other = built(rt, alloc, least.as_slice());
-    assert!(rt; least.len() <= same_flat(rt, &table, &other));
+    let count = same_flat(rt, &table, &other);
+    row_is(rt, row, least.len() <= count, true);
 }
 
 #[test]
 fn built_back(rt: HostRuntime) {
-    for (routes, wanted) in TABLES {
-        is_built_back(&rt, rt.alloc(), routes, wanted);
+    for (row, routes, wanted) in &TABLES {
+        is_built_back(&rt, rt.alloc(), row, routes, *wanted);
     }
 }
 
@@ -292,8 +310,8 @@ fn add_again(rt: &impl Abort, table: &mut RouteTable, text: &str, hop: Hop) {
 /// The shortest table has three routes, or memory is refused.
 fn least_is_three(rt: &impl Abort, table: &RouteTable) {
     match table.least() {
-        Ok(least) => assert_eq!(rt; least.len(), 3),
-        Err(refused) => assert_eq!(rt; refused, Refused::Memory),
+        Ok(least) => row_is(rt, "routes", least.len(), 3),
+        Err(refused) => row_is(rt, "refused", refused, Refused::Memory),
     }
 }
 

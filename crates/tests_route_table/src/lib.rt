@@ -2,8 +2,6 @@
 #![tactic(auto)]
 
 #[cfg(test)]
-mod changes;
-#[cfg(test)]
 mod choices;
 #[cfg(test)]
 mod first_calls;
@@ -18,4 +16,8 @@ mod operations;
 #[cfg(test)]
 mod pieces;
 #[cfg(test)]
-mod walks;
+mod scripts;
+#[cfg(test)]
+mod steps;
+#[cfg(test)]
+mod tables;

@@ -1,5 +1,5 @@
 //! The operations between two tables.
-use crate::changes::net;
+use crate::tables::{net, row_is};
 use route_table::{Between, Hop, HopTable, Operation};
 use std::alloc::Global;
 use std::process::Abort;
@@ -13,9 +13,21 @@ fn painted(rt: &impl Abort, alloc: Global, changes: &[(&str, Hop)]) -> HopTable 
     table
 }
 
-/// The next operation is this one.
-fn next_is(rt: &impl Abort, operations: &mut Between<'_>, wanted: Option<Operation>) {
-    assert!(rt; operations.next() == wanted);
+/// The operations that are left: the network and the hop of each that is installed, and the network of each that is removed.
+fn operations_are(rt: &impl Abort, left: &mut Between<'_>, wanted: &[(&str, Option<Hop>)]) {
+    for (text, hop) in wanted {
+        row_is(rt, text, left.next(), Some(operation(rt, text, *hop)));
+    }
+    row_is(rt, "the end", left.next(), None);
+}
+
+/// The network of the text is installed, or removed where there is no hop.
+fn operation(rt: &impl Abort, text: &str, hop: Option<Hop>) -> Operation {
+    let net = net(rt, text);
+    match hop {
+        Some(hop) => Operation::Install { net, hop },
+        None => Operation::Remove { net },
+    }
 }
 
 #[test]
@@ -32,22 +44,12 @@ fn two_installs_and_a_removal(rt: HostRuntime) {
     ];
     let new = painted(&rt, rt.alloc(), &changes);
     let list = new.least().expect(&rt, "memory");
-    let mut operations = old.between(list.as_slice());
-    let (quarter, hop) = (net(&rt, "10.64.0.0/10"), Hop::Number(1));
-    next_is(
-        &rt,
-        &mut operations,
-        Some(Operation::Install { net: quarter, hop }),
-    );
-    let (wide, hop) = (net(&rt, "10.0.0.0/8"), Hop::Number(2));
-    next_is(
-        &rt,
-        &mut operations,
-        Some(Operation::Install { net: wide, hop }),
-    );
-    let half = net(&rt, "10.0.0.0/9");
-    next_is(&rt, &mut operations, Some(Operation::Remove { net: half }));
-    next_is(&rt, &mut operations, None);
+    let wanted = [
+        ("10.64.0.0/10", Some(Hop::Number(1))),
+        ("10.0.0.0/8", Some(Hop::Number(2))),
+        ("10.0.0.0/9", None),
+    ];
+    operations_are(&rt, &mut old.between(list.as_slice()), &wanted);
 }
 
 /// Networks of both families, one inside another.
@@ -122,19 +124,14 @@ fn repaints(
     let mut operations = table.repaint(changed, hop);
     if is_installed {
         let net = changed.trunc();
-        assert!(rt;
-            operations.next() == Some(Operation::Install { net, hop }),
-            "{text}"
-        );
+        let wanted = Some(Operation::Install { net, hop });
+        row_is(rt, text, operations.next(), wanted);
     }
     for inside in removed {
-        let net = net(rt, inside);
-        assert!(rt;
-            operations.next() == Some(Operation::Remove { net }),
-            "{text}"
-        );
+        let wanted = Some(operation(rt, inside, None));
+        row_is(rt, text, operations.next(), wanted);
     }
-    assert!(rt; operations.next().is_none(), "{text}");
+    row_is(rt, text, operations.next(), None);
 }
 
 #[test]
@@ -145,48 +142,46 @@ fn the_operations_of_a_change(rt: HostRuntime) {
     }
 }
 
-fn install(rt: &impl Abort, table: &mut HopTable, text: &str, hop: Hop) {
-    table.install(net(rt, text), hop).expect(rt, "memory");
-}
+/// What is installed in turn.
+const INSTALLED: [(&str, Hop); 4] = [
+    ("10.0.0.0/12", Hop::Number(4)),
+    ("10.0.0.0/9", Hop::Drop),
+    ("2001:db8::1/33", Hop::Number(5)),
+    ("::/0", Hop::Number(6)),
+];
 
-/// The longest match of a network is this one, with this hop.
-fn matches(rt: &impl Abort, table: &HopTable, text: &str, wanted: &str, hop: Hop) {
-    let found = table.get(&net(rt, text));
-    assert!(rt; found == Some((net(rt, wanted), hop, 100)), "{text}");
+/// Networks, and their longest matches then, with their hops.
+const MATCHES: [(&str, &str, Hop); 6] = [
+    ("10.1.0.0/16", "10.0.0.0/12", Hop::Number(4)),
+    ("10.0.0.0/16", "10.0.0.0/16", Hop::Number(1)),
+    ("10.64.0.0/10", "10.0.0.0/9", Hop::Drop),
+    ("2001:db8::/48", "2001:db8::/33", Hop::Number(5)),
+    ("2001:db8:4000::/48", "2001:db8:4000::/34", Hop::Drop),
+    ("2001:db9::/32", "::/0", Hop::Number(6)),
+];
+
+/// The table has these longest matches.
+fn matches_are(rt: &impl Abort, table: &HopTable) {
+    for (text, wanted, hop) in &MATCHES {
+        let found = table.get(&net(rt, text));
+        row_is(rt, text, found, Some((net(rt, wanted), *hop, 100)));
+    }
 }
 
 #[test]
 fn what_is_inside_stays(rt: HostRuntime) {
     let mut table = nested(&rt, rt.alloc());
-    install(&rt, &mut table, "10.0.0.0/12", Hop::Number(4));
-    install(&rt, &mut table, "10.0.0.0/9", Hop::Drop);
-    install(&rt, &mut table, "2001:db8::1/33", Hop::Number(5));
-    install(&rt, &mut table, "::/0", Hop::Number(6));
-    matches(&rt, &table, "10.1.0.0/16", "10.0.0.0/12", Hop::Number(4));
-    matches(&rt, &table, "10.0.0.0/16", "10.0.0.0/16", Hop::Number(1));
-    matches(&rt, &table, "10.64.0.0/10", "10.0.0.0/9", Hop::Drop);
-    matches(
-        &rt,
-        &table,
-        "2001:db8::/48",
-        "2001:db8::/33",
-        Hop::Number(5),
-    );
-    matches(
-        &rt,
-        &table,
-        "2001:db8:4000::/48",
-        "2001:db8:4000::/34",
-        Hop::Drop,
-    );
-    matches(&rt, &table, "2001:db9::/32", "::/0", Hop::Number(6));
+    for (text, hop) in &INSTALLED {
+        table.install(net(&rt, text), *hop).expect(&rt, text);
+    }
+    matches_are(&rt, &table);
 }
 
 /// A table of the routes of the least one has just these.
 fn is_rebuilt(rt: &impl Abort, alloc: Global, table: &HopTable) {
     let list = table.least().expect(rt, "memory");
     let copy = HopTable::from_routes(alloc, list.as_slice()).expect(rt, "memory");
-    assert!(rt; copy.between(list.as_slice()).next().is_none());
+    row_is(rt, "a copy", copy.between(list.as_slice()).next(), None);
 }
 
 #[test]

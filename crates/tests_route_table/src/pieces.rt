@@ -1,4 +1,5 @@
 //! Shortest tables of known hops.
+use crate::tables::row_is;
 use least_table::least;
 use std::test::Fail;
 
@@ -22,37 +23,32 @@ fn a_route_and_one_inside(rt: HostRuntime) -> Result<(), Fail> {
 }
 
 #[test]
-fn four_quarters(rt: HostRuntime) -> Result<(), Fail> {
+fn four_quarters(rt: HostRuntime) {
     let pieces = [
         ((0_u32, 2_u8), 1_u32),
         ((0x4000_0000, 2), 2),
         ((0x8000_0000, 2), 1),
         ((0xc000_0000, 2), 2),
     ];
-    let table = least(rt.alloc(), &pieces)?;
-    assert_eq!(rt;
-        table.as_slice(),
-        [
-            ((0_u32, 0_u8), Some(1_u32)),
-            ((0x4000_0000, 2), Some(2)),
-            ((0xc000_0000, 2), Some(2)),
-        ]
-        .as_slice()
-    );
-    Ok(())
+    let table = least(rt.alloc(), &pieces).expect(&rt, "memory");
+    let wanted = [
+        ((0_u32, 0_u8), Some(1_u32)),
+        ((0x4000_0000, 2), Some(2)),
+        ((0xc000_0000, 2), Some(2)),
+    ];
+    row_is(&rt, "quarters", table.as_slice(), wanted.as_slice());
 }
 
 #[test]
-fn no_pieces(rt: HostRuntime) -> Result<(), Fail> {
+fn no_pieces(rt: HostRuntime) {
     let pieces: [((u32, u8), u32); 0] = [];
-    let table = least(rt.alloc(), &pieces)?;
-    assert_eq!(rt; table.len(), 0);
-    Ok(())
+    let table = least(rt.alloc(), &pieces).expect(&rt, "memory");
+    row_is(&rt, "none", table.len(), 0);
 }
 
 /// 2001:db8::/34 has another hop than the rest of 2001:db8::/32.
 #[test]
-fn a_wide_route_and_one_inside(rt: HostRuntime) -> Result<(), Fail> {
+fn a_wide_route_and_one_inside(rt: HostRuntime) {
     let top = 0x2001_0db8_u128 << 96;
     let pieces = [
         (
@@ -62,22 +58,16 @@ fn a_wide_route_and_one_inside(rt: HostRuntime) -> Result<(), Fail> {
         ((0x2001_0db8_4000_0000_0000_0000_0000_0000, 34), 1),
         ((0x2001_0db8_8000_0000_0000_0000_0000_0000, 33), 1),
     ];
-    let table = least(rt.alloc(), &pieces)?;
-    assert_eq!(rt;
-        table.as_slice(),
-        [((top, 32_u8), Some(1_u32)), ((top, 34), Some(2))].as_slice()
-    );
-    Ok(())
+    let table = least(rt.alloc(), &pieces).expect(&rt, "memory");
+    let wanted = [((top, 32_u8), Some(1_u32)), ((top, 34), Some(2))];
+    row_is(&rt, "inside", table.as_slice(), wanted.as_slice());
 }
 
 /// Two hosts, at the ends of all addresses.
 #[test]
-fn wide_ends(rt: HostRuntime) -> Result<(), Fail> {
+fn wide_ends(rt: HostRuntime) {
     let pieces = [((0_u128, 128_u8), 7_u32), ((u128::MAX, 128), 7)];
-    let table = least(rt.alloc(), &pieces)?;
-    assert_eq!(rt;
-        table.as_slice(),
-        [((0_u128, 128_u8), Some(7_u32)), ((u128::MAX, 128), Some(7))].as_slice()
-    );
-    Ok(())
+    let table = least(rt.alloc(), &pieces).expect(&rt, "memory");
+    let wanted = [((0_u128, 128_u8), Some(7_u32)), ((u128::MAX, 128), Some(7))];
+    row_is(&rt, "ends", table.as_slice(), wanted.as_slice());
 }
