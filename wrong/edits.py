@@ -4,13 +4,15 @@ import sys
 
 
 class Edit:
-    def __init__(self, file):
-        self.file, self.name, self.is_alone = file, file.stem, False
+    """An edit of a crate's files, which stand in a folder of the crate's name."""
+
+    def __init__(self, file, crate):
+        self.file, self.name, self.crate, self.is_apart = file, file.stem, crate, False
         self.pairs, self.refused, self.proved = [], [], []
         path = after = old = None
         for line in file.read_text().split("\n"):
             if line.startswith("file: "):
-                path = line[6:].strip()
+                path = f"{crate}/{line[6:].strip()}"
             elif line.startswith("after: "):
                 after = line[7:]
             elif line.startswith("old: "):
@@ -21,13 +23,13 @@ class Edit:
             elif line.startswith(("# refused: ", "# proved: ")):
                 kind, _, names = line[2:].partition(": ")
                 getattr(self, kind).extend(it.strip() for it in names.split(","))
-            elif line == "# alone":
-                self.is_alone = True
+            elif line == "# apart":
+                self.is_apart = True
             elif line:
                 sys.exit(f"{file}: a line that is not read: {line}")
         if not self.pairs or bool(self.refused) == bool(self.proved):
             sys.exit(f"{file}: an edit has pairs of lines, and either '# refused: FUNCTION' or '# proved: FUNCTION'")
-        self.functions = {*self.refused, *self.proved}
+        self.functions, self.files = {*self.refused, *self.proved}, {it[0] for it in self.pairs}
 
     def put(self, texts, folder):
         """The texts with this edit made in them, or None where it does not fit beside those made before."""
@@ -45,7 +47,7 @@ class Edit:
 
     def leaves_open(self, texts, goals):
         """Whether one of these open goals is of a function of that name, in the files that this edit changes."""
-        for path in {it[0] for it in self.pairs}:
+        for path in self.files:
             text, last = texts[path], 0
             for name, _, end in bodies_of(text):
                 lines = range(text.count("\n", 0, last) + 1, text.count("\n", 0, end) + 2)
@@ -67,7 +69,7 @@ class Edit:
             text = (folder / path).read_text()
             bodies, others = bodies_of(text), bodies_of(wrong)
             if around(text, bodies) != around(wrong, others):
-                return f"it changes more of {path} than bodies: mark it '# alone'"
+                return f"it changes more of {path} than bodies: mark it '# apart'"
             changed |= {name for (name, start, end), (_, begin, stop) in zip(bodies, others) if text[start:end] != wrong[begin:stop]}
         return None if changed == self.own_names() else f"it changes {', '.join(sorted(changed))}, and names {', '.join(sorted(self.functions))}"
 

@@ -8,7 +8,7 @@ class NotUnderstood(Exception):
 
 # Why a function has no proof, in the checker's words.
 REASONS = [re.compile(it) for it in (
-    r"expected (?:\w+|`\S+`) in \./proofs/\S+",
+    r"expected (?:\w+|`\S+`) in \w+/proofs/\S+",
     r"(`search` did not prove .+)",
     r"it calls `.+, which (?:is|are) not proved",
     r"it passes the blocks? `.+, which (?:is|are) not proved",
@@ -17,7 +17,7 @@ REASONS = [re.compile(it) for it in (
 NAMES = re.compile(r"has no field|is not in scope|has no `|was not admitted|that can be named from here|was rejected, was not checked")
 
 
-def verdict(crate, said):
+def verdict(said):
     """The functions that a check tells of, which of them failed by themselves, the files with errors that are none of theirs, and those
     that failed for the want of a name alone, as far as their own lines tell. A function fails by itself where a goal of its own is open,
     or its own proof files are refused."""
@@ -26,14 +26,14 @@ def verdict(crate, said):
     if not last.startswith(("logic=proved", "logic=not-proved", "only=")):
         raise NotUnderstood(next((it for it in lines if "error[" in it), last or lines[-1])[:160])
     errors = {}
-    for it in re.finditer(r"^(?:\./)?((?:src|specs|proofs)/\S+?):\d+:\d+: error\b(.*)$", said, re.M):
+    for it in re.finditer(r"^(\w+/(?:src|specs|proofs)/\S+?):\d+:\d+: error\b(.*)$", said, re.M):
         errors.setdefault(it[1], []).append(it[2])
-    odd = re.search(r"^(?!(?:\./)?(?:src|specs|proofs)/).*\berror(?:\[|: ).*$", said, re.M)
+    odd = re.search(r"^(?!\w+/(?:src|specs|proofs)/).*\berror(?:\[|: ).*$", said, re.M)
     if odd:
         raise NotUnderstood(odd[0][:160])
     functions, fell, nameless = set(), set(), set()
     for name, state in re.findall(r"^fn (\S+): (.*)$", said, re.M):
-        own = {it: errors[it] for it in errors if re.fullmatch(proof_files(crate, name), it)}
+        own = {it: errors[it] for it in errors if re.fullmatch(proof_files(name), it)}
         why = reasons(name, state)
         is_open = any(it.startswith("`search` did not prove ") for it in why)
         if name in functions:
@@ -56,7 +56,7 @@ def verdict(crate, said):
 
 def opened(said):
     """Where in the source a check left a goal open: files and lines."""
-    return {(it[1], int(it[2])) for it in re.finditer(r"^note: (src/\S+?):(\d+):\d+: it is not proved that ", said, re.M)}
+    return {(it[1], int(it[2])) for it in re.finditer(r"^note: (\w+/src/\S+?):(\d+):\d+: it is not proved that ", said, re.M)}
 
 
 PROVED = ()
@@ -78,14 +78,14 @@ def reasons(name, state):
     return why
 
 
-def proof_files(crate, name):
+def proof_files(name):
     """The proof files of this function. (Those of a function in a cycle of calls stand in a folder whose name begins with +.)"""
-    above, _, own = name.removeprefix(f"{crate}::").replace("::", "/").rpartition("/")
-    return re.escape(f"proofs/{above}/".replace("//", "/")) + r"\+?" + re.escape(own) + r"/\w+\.antt"
+    crate, *above, own = name.split("::")
+    return re.escape("/".join([crate, "proofs", *above, ""])) + r"\+?" + re.escape(own) + r"/\w+\.antt"
 
 
 A = "fn c::a: proved\n"
-S = "fn c::a: no proof: expected answers in ./proofs/a/Answers.antt; `search` did not prove `returns`"
+S = "fn c::a: no proof: expected answers in c/proofs/a/Answers.antt; `search` did not prove `returns`"
 # Outputs, made up, with the functions that fell and the files with stray errors; None: no verdict that is known.
 READ = [
     (A + "logic=proved functions=1", [], []),
@@ -94,17 +94,17 @@ READ = [
     (S + "\nlogic=not-proved", ["c::a"], []),
     (S + "\nonly=1 proved=0", ["c::a"], []),
     (S + "; it calls `c::b`, which is not proved\nlogic=not-proved", ["c::a"], []),
-    ("fn c::a: no proof: it calls `c::b`, which is not proved\nfn c::b: not proved\n./proofs/b/Answers.antt:1:2: error: `x`: y\nlogic=not-proved", ["c::b"], []),
-    ("fn c::a: no proof: expected `a_spec` in ./proofs/a/Proof.antt\n./proofs/a/Proof.antt:1:2: error: `x`: y\nlogic=not-proved", ["c::a"], []),
-    ("fn c::m::a: not proved\n./proofs/m/+a/Invariants.antt:1:2: error: x\nlogic=not-proved", ["c::m::a"], []),
-    (A + "fn c::ab: not proved\n./proofs/ab/Answers.antt:1:2: error: x\nlogic=not-proved", ["c::ab"], []),
-    ("./specs/A.antt:1:2: error: x\n" + A + "logic=not-proved", [], ["specs/A.antt"]),
+    ("fn c::a: no proof: it calls `c::b`, which is not proved\nfn c::b: not proved\nc/proofs/b/Answers.antt:1:2: error: `x`: y\nlogic=not-proved", ["c::b"], []),
+    ("fn c::a: no proof: expected `a_spec` in c/proofs/a/Proof.antt\nc/proofs/a/Proof.antt:1:2: error: `x`: y\nlogic=not-proved", ["c::a"], []),
+    ("fn c::m::a: not proved\nc/proofs/m/+a/Invariants.antt:1:2: error: x\nlogic=not-proved", ["c::m::a"], []),
+    (A + "fn c::ab: not proved\nc/proofs/ab/Answers.antt:1:2: error: x\nlogic=not-proved", ["c::ab"], []),
+    ("c/specs/A.antt:1:2: error: x\n" + A + "logic=not-proved", [], ["c/specs/A.antt"]),
     ("fn c::b: not proved\nlogic=not-proved", None),
     ("fn c::a: could not tell\nrattle: no verdict: antt ran out of steps", None),
     ("fn c::a: could not tell\nlogic=not-proved", None),
     ("fn c::a: no proof: the moon is full\nlogic=not-proved", None),
     ("fn c::a: not proved; it calls `c::b`, which is on strike\nlogic=not-proved", None),
-    ("src/lib.rt:1:2: error[type]: no\n", None),
+    ("c/src/lib.rt:1:2: error[type]: no\n", None),
     ("error: the disk is full\n" + A + "logic=not-proved", None),
     (A, None), (A + A + "logic=proved", None), (A + "holes=3", None), ("", None), ("fn c::a: assumed\nlogic=proved", None),
     (S + "\nlogic=proved", None),
@@ -115,7 +115,7 @@ def reads_wrongly():
     """What `verdict` reads otherwise than it must."""
     for said, *want in READ:
         try:
-            _, fell, strays, _ = verdict("c", said)
+            _, fell, strays, _ = verdict(said)
             found = [sorted(fell), sorted(strays)]
         except NotUnderstood:
             found = [None]
