@@ -1,13 +1,13 @@
 //! Leaders, followers, least tables and installers, and the lines of a feed. What is led, followed, shortened or installed is
 //! standard input.
 use crate::fault::Fault;
-use crate::show::{answer, begin, debug_line, end, entries, line, part, refused};
+use crate::show::{answer, begin, bytes, debug_line, end, entries, line, part, refused};
 use crate::tables::answer_routes;
 use ipnet::{IpAddr, IpNet, Ipv4Addr};
 use route_feed::{Counted, FollowError, Follower, RunError, follow, install, lead, shorten};
 use route_lines::{Command, Line, LineCutter, Reply};
 use route_table::Hop;
-use std::io::{Stdin, Write};
+use std::io::Stdin;
 
 /// How many bytes of output are kept.
 const OUTPUT: usize = 1 << 16;
@@ -65,7 +65,8 @@ fn run_over(rt: &HostRuntime, call: FeedCall) -> Result<(), Fault> {
     };
     ended(rt, &outcome)?;
     show_reads(rt, &reader);
-    write_kept(rt, &writer.into_inner())
+    let kept = writer.into_inner();
+    bytes(rt, kept.as_slice())
 }
 
 /// What a run answered.
@@ -80,11 +81,6 @@ fn ended(rt: &HostRuntime, outcome: &Result<(), RunError>) -> Result<(), Fault> 
 
 fn show_reads(rt: &HostRuntime, reader: &Counted<Stdin>) {
     let _ = println!(rt; "{} reads", reader.reads());
-}
-
-fn write_kept(rt: &HostRuntime, kept: &Vec<u8>) -> Result<(), Fault> {
-    rt.stdout().write_all(kept.as_slice())?;
-    Ok(())
 }
 
 /// A follower that is given nothing to keep, and its flat list.

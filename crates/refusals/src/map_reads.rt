@@ -133,13 +133,13 @@ fn walk_in_part(rt: &HostRuntime, map: &Map, net: &Ipv4Net) {
 /// The values of all entries, then of those inside a network, from it on, and all again, lent and written.
 fn walk_lent(rt: &HostRuntime, map: &mut Map, net: &Ipv4Net) {
     let count = map.len();
-    lend_left(rt, map.iter_mut(), count, 10);
-    lend_left(rt, map.children_mut(net), count, 100);
-    lend_left(rt, map.iter_from_mut(net, true), count, 1000);
-    lend_left(rt, map.values_mut(), count, 10000);
+    lend_left(rt, &mut map.iter_mut(), count, 10);
+    lend_left(rt, &mut map.children_mut(net), count, 100);
+    lend_left(rt, &mut map.iter_from_mut(net, true), count, 1000);
+    lend_left(rt, &mut map.values_mut(), count, 10000);
 }
 
-fn lend_left(rt: &HostRuntime, mut values: IterMut<'_, Ipv4Net, u32>, count: usize, more: u32) {
+fn lend_left(rt: &HostRuntime, values: &mut IterMut<'_, Ipv4Net, u32>, count: usize, more: u32) {
     for _ in 0..count {
         if let Some(value) = values.next() {
             add(rt, value, more);

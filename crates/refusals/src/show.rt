@@ -9,13 +9,17 @@ use std::io::Write;
 
 /// The mark before the call. It is one call of the system, as the other is.
 pub fn begin(rt: &HostRuntime) -> Result<(), Fault> {
-    rt.stdout().write_all(b"-- begin\n")?;
-    Ok(())
+    bytes(rt, b"-- begin\n")
 }
 
 /// The mark after the call.
 pub fn end(rt: &HostRuntime) -> Result<(), Fault> {
-    rt.stdout().write_all(b"-- end\n")?;
+    bytes(rt, b"-- end\n")
+}
+
+/// Bytes as they are.
+pub fn bytes(rt: &HostRuntime, bytes: &[u8]) -> Result<(), Fault> {
+    rt.stdout().write_all(bytes)?;
     Ok(())
 }
 

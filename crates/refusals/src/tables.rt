@@ -1,4 +1,6 @@
 //! Route tables. One function owns the table of all scenarios but of the one that makes one, and lends it to them.
+ghost use Rattle.std.specs.Iterator.{IsFinite};
+
 use crate::fault::Fault;
 use crate::nets::network;
 use crate::show::{
@@ -7,7 +9,7 @@ use crate::show::{
 };
 use hop_index::HopIndex;
 use ipnet::{IpAddr, IpNet};
-use route_table::{AddRefused, Hop, HopTable, Refused, RouteTable, Routes};
+use route_table::{AddRefused, Hop, HopTable, Refused, RouteTable};
 
 /// The calls of tables.
 #[derive(Clone, Copy)]
@@ -166,17 +168,20 @@ fn show_network(rt: &HostRuntime, table: &RouteTable, net: &IpNet) {
     }
 }
 
-/// All routes of the networks inside this one.
-fn show_inside(rt: &HostRuntime, table: &RouteTable, net: &IpNet) {
-    for (net, _, _) in table.list(net) {
+/// All routes of the networks of these.
+fn show_all<I: Iterator<Item = (IpNet, Hop, u16)>>(rt: &HostRuntime, table: &RouteTable, routes: I)
+    requires { I.can_next routes × IsFinite (I.remaining routes) }
+{
+    for (net, _, _) in routes {
         show_network(rt, table, &net);
     }
 }
 
 /// All routes, and the numbers of networks and of nodes.
 fn show(rt: &HostRuntime, table: &RouteTable) -> Result<(), Fault> {
-    show_inside(rt, table, &network("0.0.0.0/0")?);
-    show_inside(rt, table, &network("::/0")?);
+    let (ipv4, ipv6) = (network("0.0.0.0/0")?, network("::/0")?);
+    show_all(rt, table, table.list(&ipv4));
+    show_all(rt, table, table.list(&ipv6));
     show_counts(rt, table);
     Ok(())
 }
@@ -318,7 +323,9 @@ fn look_up(rt: &HostRuntime, table: &RouteTable, net: &IpNet) -> Result<(), Faul
     Ok(())
 }
 
-fn show_routes(rt: &HostRuntime, routes: Routes<'_>) {
+fn show_routes<I: Iterator<Item = (IpNet, Hop, u16)>>(rt: &HostRuntime, routes: I)
+    requires { I.can_next routes × IsFinite (I.remaining routes) }
+{
     for (net, hop, pref) in routes {
         show_route(rt, &net, hop, pref);
     }
