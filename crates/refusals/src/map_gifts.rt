@@ -8,7 +8,7 @@ use prefix_trie::PrefixMap;
 use prefix_trie::map::{IntoIter, IntoKeys, IntoValues};
 
 /// How often what owns entries is asked for the next: once at least after the last.
-pub const ASKS: usize = 8;
+const ASKS: usize = 8;
 
 /// The calls that take a map.
 #[derive(Clone, Copy)]
@@ -81,7 +81,8 @@ fn next_entry(entries: &mut IntoIter<Ipv4Net, u32>) -> Option<(Ipv4Net, u32)> {
     entries.next()
 }
 
-fn write_keys(rt: &HostRuntime, keys: &mut IntoKeys<Ipv4Net, u32>) {
+/// The keys of a map, or the members of a set, which is a map of nothing.
+pub fn write_keys<V: Drop>(rt: &HostRuntime, keys: &mut IntoKeys<Ipv4Net, V>) {
     for _ in 0..ASKS {
         if let Some(net) = next_key(keys) {
             line(rt, &net);
@@ -89,7 +90,7 @@ fn write_keys(rt: &HostRuntime, keys: &mut IntoKeys<Ipv4Net, u32>) {
     }
 }
 
-fn next_key(keys: &mut IntoKeys<Ipv4Net, u32>) -> Option<Ipv4Net> {
+fn next_key<V: Drop>(keys: &mut IntoKeys<Ipv4Net, V>) -> Option<Ipv4Net> {
     keys.next()
 }
 

@@ -1,12 +1,11 @@
 //! Calls of sets of networks that take no memory.
 use crate::fault::Fault;
-use crate::map_gifts::ASKS;
+use crate::map_gifts::write_keys;
 use crate::nets::ipv4_network;
 use crate::sets::{Set, fill, show};
-use crate::show::{begin, copy_first, debug_line, debug_pair, end, line, lines};
+use crate::show::{begin, copy_first, debug_line, debug_pair, end, lines};
 use ipnet::Ipv4Net;
 use prefix_trie::PrefixSet;
-use prefix_trie::set::IntoIter;
 
 /// The calls of a set that is lent.
 #[derive(Clone, Copy)]
@@ -92,18 +91,6 @@ fn begin_to_give(rt: &HostRuntime, set: &mut Set) -> Result<(), Fault> {
 }
 
 fn give_out(rt: &HostRuntime, set: Set) -> Result<(), Fault> {
-    write_members(rt, &mut set.into_iter());
+    write_keys(rt, &mut set.into_iter());
     end(rt)
-}
-
-fn write_members(rt: &HostRuntime, members: &mut IntoIter<Ipv4Net>) {
-    for _ in 0..ASKS {
-        if let Some(net) = next_member(members) {
-            line(rt, &net);
-        }
-    }
-}
-
-fn next_member(members: &mut IntoIter<Ipv4Net>) -> Option<Ipv4Net> {
-    members.next()
 }
