@@ -1,13 +1,13 @@
 //! Leaders, followers, least tables and installers, and the lines of a feed. What is led, followed, shortened or installed is
 //! standard input.
 use crate::fault::Fault;
-use crate::show::{answer, begin, debug_line, end, line, refused};
+use crate::show::{answer, begin, bytes, debug_line, end, entries, line, part, refused};
 use crate::tables::answer_routes;
 use ipnet::{IpAddr, IpNet, Ipv4Addr};
 use route_feed::{Counted, FollowError, Follower, RunError, follow, install, lead, shorten};
 use route_lines::{Command, Line, LineCutter, Reply};
-use route_table::{Flat, Hop};
-use std::io::{Stdin, Write};
+use route_table::Hop;
+use std::io::Stdin;
 
 /// How many bytes of output are kept.
 const OUTPUT: usize = 1 << 16;
@@ -65,7 +65,8 @@ fn run_over(rt: &HostRuntime, call: FeedCall) -> Result<(), Fault> {
     };
     ended(rt, &outcome)?;
     show_reads(rt, &reader);
-    write_kept(rt, &writer.into_inner())
+    let kept = writer.into_inner();
+    bytes(rt, kept.as_slice())
 }
 
 /// What a run answered.
@@ -80,11 +81,6 @@ fn ended(rt: &HostRuntime, outcome: &Result<(), RunError>) -> Result<(), Fault> 
 
 fn show_reads(rt: &HostRuntime, reader: &Counted<Stdin>) {
     let _ = println!(rt; "{} reads", reader.reads());
-}
-
-fn write_kept(rt: &HostRuntime, kept: &Vec<u8>) -> Result<(), Fault> {
-    rt.stdout().write_all(kept.as_slice())?;
-    Ok(())
 }
 
 /// A follower that is given nothing to keep, and its flat list.
@@ -191,24 +187,15 @@ fn followed(
 }
 
 fn show_next(rt: &HostRuntime, follower: &mut Follower) {
-    let _ = println!(rt; "then {:?}", follower.line(b"ok"));
+    part(rt, &"then ");
+    debug_line(rt, &follower.line(b"ok"));
 }
 
 fn show_flat(rt: &HostRuntime, follower: &Follower) {
     match follower.flat() {
-        Some(blocks) => show_blocks(rt, blocks),
+        Some(blocks) => entries(rt, "flat ", blocks),
         None => line(rt, &"no flat list"),
     }
-}
-
-fn show_blocks(rt: &HostRuntime, blocks: Flat<'_>) {
-    for (block, number) in blocks {
-        show_block(rt, &block, number);
-    }
-}
-
-fn show_block(rt: &HostRuntime, block: &IpNet, number: u32) {
-    let _ = println!(rt; "flat {block} {number}");
 }
 
 /// Bytes cut into lines, which are read.
@@ -228,5 +215,9 @@ fn cut(rt: &HostRuntime) -> Result<(), Fault> {
 fn read(rt: &HostRuntime, text: &[u8]) {
     let is_command = Command::read(text).is_ok();
     let is_reply = Reply::read(text).is_ok();
-    let _ = println!(rt; "{} bytes {is_command} {is_reply}", text.len());
+    part(rt, &text.len());
+    part(rt, &" bytes ");
+    part(rt, &is_command);
+    part(rt, &" ");
+    line(rt, &is_reply);
 }

@@ -1,9 +1,8 @@
 //! The calls of tables with one route a network.
 use crate::fault::Fault;
 use crate::nets::network;
-use crate::show::{answer, begin, debug_line, end, refused};
+use crate::show::{answer, begin, debug_line, debug_lines, end, entries, refused};
 use crate::tables::shortened;
-use ipnet::IpNet;
 use route_table::{Hop, HopTable, Refused};
 
 /// The calls of such tables, and those that take no memory.
@@ -65,13 +64,7 @@ fn fill(table: &mut HopTable) -> Result<(), Fault> {
 
 /// The flat list.
 fn show(rt: &HostRuntime, table: &HopTable) {
-    for (net, number) in table.flat() {
-        show_block(rt, &net, number);
-    }
-}
-
-fn show_block(rt: &HostRuntime, net: &IpNet, number: u32) {
-    let _ = println!(rt; "{net} {number}");
+    entries(rt, "", table.flat());
 }
 
 /// A route of a network that isn't stored.
@@ -112,20 +105,10 @@ fn from_routes(rt: &HostRuntime, table: &HopTable) -> Result<(), Fault> {
 fn made(rt: &HostRuntime, outcome: &Result<HopTable, Refused>) -> Result<(), Fault> {
     end(rt)?;
     match outcome {
-        Ok(table) => answer_flat(rt, table),
+        Ok(table) => entries(rt, "answer ", table.flat()),
         Err(error) => refused(rt, error),
     }
     Ok(())
-}
-
-fn answer_flat(rt: &HostRuntime, table: &HopTable) {
-    for (net, number) in table.flat() {
-        answer_block(rt, &net, number);
-    }
-}
-
-fn answer_block(rt: &HostRuntime, net: &IpNet, number: u32) {
-    let _ = println!(rt; "answer {net} {number}");
 }
 
 fn least(rt: &HostRuntime, table: &HopTable) -> Result<(), Fault> {
@@ -135,7 +118,7 @@ fn least(rt: &HostRuntime, table: &HopTable) -> Result<(), Fault> {
 }
 
 /// A stored network, twice, and one that the routes outside give the hop already; a look-up; the operations to a least table,
-/// and those of a change.
+/// and those of a change of a network with another inside.
 fn free(rt: &HostRuntime, table: &mut HopTable) -> Result<(), Fault> {
     let list = table.least()?;
     let (stored, handed) = (network("10.1.2.4/30")?, network("10.1.2.0/24")?);
@@ -144,16 +127,7 @@ fn free(rt: &HostRuntime, table: &mut HopTable) -> Result<(), Fault> {
     debug_line(rt, &table.paint(stored, Hop::Number(7)));
     debug_line(rt, &table.paint(handed, Hop::Number(2)));
     debug_line(rt, &table.get(&stored));
-    for operation in table.between(list.as_slice()) {
-        debug_line(rt, &operation);
-    }
-    repaint(rt, table, handed);
+    debug_lines(rt, table.between(list.as_slice()));
+    debug_lines(rt, table.repaint(handed, Hop::Number(9)));
     end(rt)
-}
-
-/// The operations of a change of a network with another inside.
-fn repaint(rt: &HostRuntime, table: &HopTable, net: IpNet) {
-    for operation in table.repaint(net, Hop::Number(9)) {
-        debug_line(rt, &operation);
-    }
 }

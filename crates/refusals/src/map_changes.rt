@@ -2,7 +2,7 @@
 use crate::fault::Fault;
 use crate::maps::{Map, show};
 use crate::nets::ipv4_network;
-use crate::show::{begin, debug_line, debug_pair, end, line};
+use crate::show::{begin, debug_line, debug_pair, end, line, part};
 use ipnet::Ipv4Net;
 use prefix_trie::map::Entry;
 
@@ -96,8 +96,6 @@ fn modify(rt: &HostRuntime, map: &mut Map, net: Ipv4Net, absent: Ipv4Net) {
     and_modify(rt, map, net);
     look_at(rt, map, absent);
     or_insert(rt, map, net);
-    or_insert_with(rt, map, net);
-    or_default(rt, map, net);
 }
 
 fn and_modify(rt: &HostRuntime, map: &mut Map, net: Ipv4Net) {
@@ -113,18 +111,14 @@ fn look_at(rt: &HostRuntime, map: &mut Map, net: Ipv4Net) {
 }
 
 fn key_and_value(rt: &HostRuntime, key: &Ipv4Net, value: Option<u32>) {
-    let _ = println!(rt; "{key} {value:?}");
+    part(rt, key);
+    part(rt, &" ");
+    debug_line(rt, &value);
 }
 
 fn or_insert(rt: &HostRuntime, map: &mut Map, net: Ipv4Net) {
     debug_line(rt, &map.entry(net).or_insert(9));
-}
-
-fn or_insert_with(rt: &HostRuntime, map: &mut Map, net: Ipv4Net) {
     debug_line(rt, &map.entry(net).or_insert_with(|| 9));
-}
-
-fn or_default(rt: &HostRuntime, map: &mut Map, net: Ipv4Net) {
     debug_line(rt, &map.entry(net).or_default());
 }
 
@@ -142,7 +136,11 @@ fn occupied(rt: &HostRuntime, map: &mut Map, net: Ipv4Net) -> Result<(), Fault> 
 }
 
 fn key_and_values(rt: &HostRuntime, key: &Ipv4Net, old: u32, value: u32) {
-    let _ = println!(rt; "{key} {old} {value}");
+    part(rt, key);
+    part(rt, &" ");
+    part(rt, &old);
+    part(rt, &" ");
+    line(rt, &value);
 }
 
 fn occupied_remove(rt: &HostRuntime, map: &mut Map, net: Ipv4Net) -> Result<(), Fault> {

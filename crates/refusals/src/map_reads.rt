@@ -2,9 +2,9 @@
 use crate::fault::Fault;
 use crate::maps::{Map, show};
 use crate::nets::ipv4_network;
-use crate::show::{begin, debug_line, debug_pair, end, entries, entry, line, lines};
+use crate::show::{begin, copy_first, debug_line, debug_pair, end, entries, entry, line, lines};
 use ipnet::Ipv4Net;
-use prefix_trie::map::{Cover, CoverKeys, CoverValues, Iter, Keys, Values};
+use prefix_trie::map::IterMut;
 
 /// The calls that read.
 #[derive(Clone, Copy)]
@@ -55,33 +55,13 @@ fn look_up_both(rt: &HostRuntime, map: &Map, inner: &Ipv4Net, outer: &Ipv4Net) {
 
 /// Each look-up of a network.
 fn look_up(rt: &HostRuntime, map: &Map, net: &Ipv4Net) {
-    look_up_exact(rt, map, net);
-    look_up_longest(rt, map, net);
-    look_up_shortest(rt, map, net);
-    look_up_visits(rt, map, net);
-    look_up_length(rt, map, net);
-    count(rt, map);
-}
-
-fn look_up_exact(rt: &HostRuntime, map: &Map, net: &Ipv4Net) {
     debug_pair(rt, &map.get(net), &map.contains_key(net));
     debug_line(rt, &map.get_key_value(net));
-}
-
-fn look_up_longest(rt: &HostRuntime, map: &Map, net: &Ipv4Net) {
     debug_pair(rt, &map.get_lpm(net), &map.get_lpm_prefix(net));
-}
-
-fn look_up_shortest(rt: &HostRuntime, map: &Map, net: &Ipv4Net) {
     debug_pair(rt, &map.get_spm(net), &map.get_spm_prefix(net));
-}
-
-fn look_up_visits(rt: &HostRuntime, map: &Map, net: &Ipv4Net) {
     debug_pair(rt, &map.get_lpm_visits(net), &map.is_covered(net));
-}
-
-fn look_up_length(rt: &HostRuntime, map: &Map, net: &Ipv4Net) {
     debug_pair(rt, &map.longest_match(net), &map.is_leaf(net));
+    count(rt, map);
 }
 
 /// What is told of the whole map, which equals itself.
@@ -153,44 +133,16 @@ fn walk_in_part(rt: &HostRuntime, map: &Map, net: &Ipv4Net) {
 /// The values of all entries, then of those inside a network, from it on, and all again, lent and written.
 fn walk_lent(rt: &HostRuntime, map: &mut Map, net: &Ipv4Net) {
     let count = map.len();
-    lend_all(rt, map, count);
-    lend_inside(rt, map, net, count);
-    lend_from(rt, map, net, count);
-    lend_values(rt, map, count);
+    lend_left(rt, &mut map.iter_mut(), count, 10);
+    lend_left(rt, &mut map.children_mut(net), count, 100);
+    lend_left(rt, &mut map.iter_from_mut(net, true), count, 1000);
+    lend_left(rt, &mut map.values_mut(), count, 10000);
 }
 
-fn lend_all(rt: &HostRuntime, map: &mut Map, count: usize) {
-    let mut values = map.iter_mut();
+fn lend_left(rt: &HostRuntime, values: &mut IterMut<'_, Ipv4Net, u32>, count: usize, more: u32) {
     for _ in 0..count {
         if let Some(value) = values.next() {
-            add(rt, value, 10);
-        }
-    }
-}
-
-fn lend_inside(rt: &HostRuntime, map: &mut Map, net: &Ipv4Net, count: usize) {
-    let mut values = map.children_mut(net);
-    for _ in 0..count {
-        if let Some(value) = values.next() {
-            add(rt, value, 100);
-        }
-    }
-}
-
-fn lend_from(rt: &HostRuntime, map: &mut Map, net: &Ipv4Net, count: usize) {
-    let mut values = map.iter_from_mut(net, true);
-    for _ in 0..count {
-        if let Some(value) = values.next() {
-            add(rt, value, 1000);
-        }
-    }
-}
-
-fn lend_values(rt: &HostRuntime, map: &mut Map, count: usize) {
-    let mut values = map.values_mut();
-    for _ in 0..count {
-        if let Some(value) = values.next() {
-            add(rt, value, 10000);
+            add(rt, value, more);
         }
     }
 }
@@ -210,52 +162,14 @@ fn cover(rt: &HostRuntime, map: &Map, net: &Ipv4Net) {
 
 /// What a copy of each walk gives first, and one that has nothing left.
 fn copy_walks(rt: &HostRuntime, map: &Map, net: &Ipv4Net) -> Result<(), Fault> {
-    copy_entries(rt, map)?;
-    copy_keys(rt, map)?;
-    copy_values(rt, map)?;
-    copy_cover(rt, map, net)?;
-    copy_cover_keys(rt, map, net)?;
-    copy_cover_values(rt, map, net)
+    copy_first(rt, &map.iter())?;
+    copy_first(rt, &map.keys())?;
+    copy_first(rt, &map.values())?;
+    copy_covers(rt, map, net)
 }
 
-fn copy_entries(rt: &HostRuntime, map: &Map) -> Result<(), Fault> {
-    let mut copy = map.iter().clone()?;
-    let mut none: Iter<'_, Ipv4Net, u32> = Iter::default();
-    debug_pair(rt, &copy.next(), &none.next());
-    Ok(())
-}
-
-fn copy_keys(rt: &HostRuntime, map: &Map) -> Result<(), Fault> {
-    let mut copy = map.keys().clone()?;
-    let mut none: Keys<'_, Ipv4Net, u32> = Keys::default();
-    debug_pair(rt, &copy.next(), &none.next());
-    Ok(())
-}
-
-fn copy_values(rt: &HostRuntime, map: &Map) -> Result<(), Fault> {
-    let mut copy = map.values().clone()?;
-    let mut none: Values<'_, Ipv4Net, u32> = Values::default();
-    debug_pair(rt, &copy.next(), &none.next());
-    Ok(())
-}
-
-fn copy_cover(rt: &HostRuntime, map: &Map, net: &Ipv4Net) -> Result<(), Fault> {
-    let mut copy = map.cover(net).clone()?;
-    let mut none: Cover<'_, Ipv4Net, u32> = Cover::default();
-    debug_pair(rt, &copy.next(), &none.next());
-    Ok(())
-}
-
-fn copy_cover_keys(rt: &HostRuntime, map: &Map, net: &Ipv4Net) -> Result<(), Fault> {
-    let mut copy = map.cover_keys(net).clone()?;
-    let mut none: CoverKeys<'_, Ipv4Net, u32> = CoverKeys::default();
-    debug_pair(rt, &copy.next(), &none.next());
-    Ok(())
-}
-
-fn copy_cover_values(rt: &HostRuntime, map: &Map, net: &Ipv4Net) -> Result<(), Fault> {
-    let mut copy = map.cover_values(net).clone()?;
-    let mut none: CoverValues<'_, Ipv4Net, u32> = CoverValues::default();
-    debug_pair(rt, &copy.next(), &none.next());
-    Ok(())
+fn copy_covers(rt: &HostRuntime, map: &Map, net: &Ipv4Net) -> Result<(), Fault> {
+    copy_first(rt, &map.cover(net))?;
+    copy_first(rt, &map.cover_keys(net))?;
+    copy_first(rt, &map.cover_values(net))
 }

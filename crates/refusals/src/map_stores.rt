@@ -62,13 +62,10 @@ fn answered(rt: &HostRuntime, outcome: Stored) {
 fn stored(map: &mut Map, net: Ipv4Net, call: MapStore) -> Stored {
     match call {
         MapStore::Insert | MapStore::InsertSixNodes => insert(map, net),
-        MapStore::EntryInsert => entry_insert(map, net),
-        MapStore::OrInsert => or_insert(map, net),
-        MapStore::OrInsertWith => or_insert_with(map, net),
-        MapStore::OrDefault => or_default(map, net),
-        MapStore::VacantInsert => vacant_insert(map, net),
-        MapStore::VacantInsertWith => vacant_insert_with(map, net),
-        MapStore::VacantDefault => vacant_default(map, net),
+        MapStore::VacantInsert | MapStore::VacantInsertWith | MapStore::VacantDefault => vacant(
+            map, net, call,
+        ),
+        _ => at_entry(map, net, call),
     }
 }
 
@@ -77,43 +74,41 @@ fn insert(map: &mut Map, net: Ipv4Net) -> Stored {
     Ok(())
 }
 
-fn entry_insert(map: &mut Map, net: Ipv4Net) -> Stored {
-    map.entry(net).insert(9)?;
-    Ok(())
-}
-
-fn or_insert(map: &mut Map, net: Ipv4Net) -> Stored {
-    map.entry(net).or_insert(9)?;
-    Ok(())
-}
-
-fn or_insert_with(map: &mut Map, net: Ipv4Net) -> Stored {
-    map.entry(net).or_insert_with(|| 9)?;
-    Ok(())
-}
-
-fn or_default(map: &mut Map, net: Ipv4Net) -> Stored {
-    map.entry(net).or_default()?;
-    Ok(())
-}
-
-fn vacant_insert(map: &mut Map, net: Ipv4Net) -> Stored {
-    if let Entry::Vacant(entry) = map.entry(net) {
-        entry.insert(9)?;
+/// The calls of an entry.
+fn at_entry(map: &mut Map, net: Ipv4Net, call: MapStore) -> Stored {
+    let mut entry = map.entry(net);
+    match call {
+        MapStore::EntryInsert => {
+            entry.insert(9)?;
+        }
+        MapStore::OrInsert => {
+            entry.or_insert(9)?;
+        }
+        MapStore::OrInsertWith => {
+            entry.or_insert_with(|| 9)?;
+        }
+        _ => {
+            entry.or_default()?;
+        }
     }
     Ok(())
 }
 
-fn vacant_insert_with(map: &mut Map, net: Ipv4Net) -> Stored {
-    if let Entry::Vacant(entry) = map.entry(net) {
-        entry.insert_with(|| 9)?;
-    }
-    Ok(())
-}
-
-fn vacant_default(map: &mut Map, net: Ipv4Net) -> Stored {
-    if let Entry::Vacant(entry) = map.entry(net) {
-        entry.default()?;
+/// The calls of an entry of a network that isn't stored.
+fn vacant(map: &mut Map, net: Ipv4Net, call: MapStore) -> Stored {
+    let Entry::Vacant(entry) = map.entry(net) else {
+        return Ok(());
+    };
+    match call {
+        MapStore::VacantInsert => {
+            entry.insert(9)?;
+        }
+        MapStore::VacantInsertWith => {
+            entry.insert_with(|| 9)?;
+        }
+        _ => {
+            entry.default()?;
+        }
     }
     Ok(())
 }

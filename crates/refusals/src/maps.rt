@@ -6,7 +6,7 @@ use crate::map_gifts::MapGift;
 use crate::map_reads::MapRead;
 use crate::map_stores::MapStore;
 use crate::nets::ipv4_network;
-use crate::show::{answer, begin, end, entries, refused};
+use crate::show::{answer, begin, counts, end, entries, refused};
 use crate::{map_changes, map_gifts, map_reads, map_stores};
 use ipnet::Ipv4Net;
 use prefix_trie::{PrefixMap, Refused};
@@ -150,11 +150,7 @@ fn store(map: &mut Map, text: &str, value: u32) -> Result<(), Fault> {
 /// The entries in order, and the number of nodes.
 pub fn show(rt: &HostRuntime, map: &Map) {
     entries(rt, "", map.into_iter());
-    show_counts(rt, map);
-}
-
-fn show_counts(rt: &HostRuntime, map: &Map) {
-    let _ = println!(rt; "{} entries, {} nodes", map.len(), map.node_count());
+    counts(rt, map.len(), " entries, ", map.node_count());
 }
 
 fn try_clone(rt: &HostRuntime, map: &Map) -> Result<(), Fault> {

@@ -1,7 +1,9 @@
 //! Networks: their aggregation, their values, and their texts and bytes.
 use crate::fault::Fault;
 use crate::net_walks;
-use crate::show::{answer, answers, begin, debug_line, debug_pair, end, line, lines, refused};
+use crate::show::{
+    answer, answers, begin, debug_line, debug_pair, end, line, lines, part, refused,
+};
 use ipnet::{IpNet, Ipv4Net, Ipv6Net};
 use serde_json::Value;
 use std::alloc::{AllocError, Global};
@@ -93,9 +95,10 @@ fn aggregated<T: Display>(
     Ok(())
 }
 
-fn ipv4_networks(alloc: Global) -> Result<Vec<Ipv4Net>, Fault> {
+/// The networks of these texts.
+pub fn ipv4_networks(alloc: Global, texts: &[&'static str]) -> Result<Vec<Ipv4Net>, Fault> {
     let mut nets = Vec::new(alloc);
-    for text in IPV4 {
+    for text in texts {
         nets.push(ipv4_network(text)?)?;
     }
     Ok(nets)
@@ -127,7 +130,7 @@ fn show_and_begin<T: Display>(rt: &HostRuntime, nets: &Vec<T>) -> Result<(), Fau
 }
 
 fn aggregate_ipv4(rt: &HostRuntime) -> Result<(), Fault> {
-    let nets = ipv4_networks(rt.alloc())?;
+    let nets = ipv4_networks(rt.alloc(), &IPV4)?;
     show_and_begin(rt, &nets)?;
     let outcome = Ipv4Net::aggregate(rt.alloc(), &nets);
     aggregated(rt, &nets, &outcome)
@@ -256,6 +259,8 @@ fn print_all(rt: &HostRuntime, nets: &Vec<IpNet>) -> Result<(), Fault> {
 }
 
 fn print_one(rt: &HostRuntime, net: &IpNet) {
-    let _ = println!(rt; "{net} {net:?}");
+    part(rt, net);
+    part(rt, &" ");
+    debug_line(rt, net);
     debug_pair(rt, &net.to_text().as_slice(), &net.to_bytes().as_slice());
 }

@@ -1,11 +1,11 @@
 //! Calls of sets of networks that take no memory.
 use crate::fault::Fault;
+use crate::map_gifts::write_keys;
 use crate::nets::ipv4_network;
 use crate::sets::{Set, fill, show};
-use crate::show::{begin, debug_line, debug_pair, end, lines};
+use crate::show::{begin, copy_first, debug_line, debug_pair, end, lines};
 use ipnet::Ipv4Net;
 use prefix_trie::PrefixSet;
-use prefix_trie::set::Iter;
 
 /// The calls of a set that is lent.
 #[derive(Clone, Copy)]
@@ -65,15 +65,7 @@ fn walk(rt: &HostRuntime, set: &Set, net: &Ipv4Net) -> Result<(), Fault> {
     lines(rt, set.children(net));
     lines(rt, set.iter_from(net, true));
     lines(rt, set.cover(net));
-    copy_walk(rt, set)
-}
-
-/// What a copy of a walk gives first, and a walk that has nothing left.
-fn copy_walk(rt: &HostRuntime, set: &Set) -> Result<(), Fault> {
-    let mut copy = set.iter().clone()?;
-    let mut none: Iter<'_, Ipv4Net> = Iter::default();
-    debug_pair(rt, &copy.next(), &none.next());
-    Ok(())
+    copy_first(rt, &set.iter())
 }
 
 /// A member is taken out, its nodes too, and then another, whose nodes stay.
@@ -99,6 +91,6 @@ fn begin_to_give(rt: &HostRuntime, set: &mut Set) -> Result<(), Fault> {
 }
 
 fn give_out(rt: &HostRuntime, set: Set) -> Result<(), Fault> {
-    lines(rt, set.into_iter());
+    write_keys(rt, &mut set.into_iter());
     end(rt)
 }

@@ -1,10 +1,10 @@
 //! Sets of networks, and a map that is made of entries.
 use crate::fault::Fault;
 use crate::maps::Map;
-use crate::nets::ipv4_network;
+use crate::nets::{ipv4_network, ipv4_networks};
 use crate::set_calls;
 use crate::set_calls::FreeCall;
-use crate::show::{answer, begin, end, entries, lines, refused};
+use crate::show::{answer, begin, counts, end, entries, line, lines, part, refused};
 use ipnet::Ipv4Net;
 use prefix_trie::{PrefixMap, PrefixSet, Refused};
 use std::alloc::Global;
@@ -103,11 +103,7 @@ fn store(set: &mut Set, text: &str) -> Result<(), Fault> {
 /// The members in order, and the number of nodes.
 pub fn show(rt: &HostRuntime, set: &Set) {
     lines(rt, set.iter());
-    show_counts(rt, set);
-}
-
-fn show_counts(rt: &HostRuntime, set: &Set) {
-    let _ = println!(rt; "{} members, {} nodes", set.len(), set.node_count());
+    counts(rt, set.len(), " members, ", set.node_count());
 }
 
 /// An empty set.
@@ -159,17 +155,8 @@ fn answered(
     Ok(())
 }
 
-/// The five networks.
-fn networks(alloc: Global) -> Result<Vec<Ipv4Net>, Fault> {
-    let mut nets = Vec::new(alloc);
-    for text in NETWORKS {
-        nets.push(ipv4_network(text)?)?;
-    }
-    Ok(nets)
-}
-
 fn try_from_iter(rt: &HostRuntime) -> Result<(), Fault> {
-    let nets = networks(rt.alloc())?;
+    let nets = ipv4_networks(rt.alloc(), &NETWORKS)?;
     begin(rt)?;
     let outcome = PrefixSet::try_from_iter(rt.alloc(), nets);
     answered(rt, &outcome, "made")
@@ -204,5 +191,6 @@ fn map_answered(rt: &HostRuntime, outcome: &Result<Map, Refused>) -> Result<(), 
 fn show_made(rt: &HostRuntime, map: &Map) {
     answer(rt, &"made");
     entries(rt, "", map.into_iter());
-    let _ = println!(rt; "{} nodes", map.node_count());
+    part(rt, &map.node_count());
+    line(rt, &" nodes");
 }

@@ -1,10 +1,15 @@
 //! Route tables. One function owns the table of all scenarios but of the one that makes one, and lends it to them.
+ghost use Rattle.std.specs.Iterator.{IsFinite};
+
 use crate::fault::Fault;
 use crate::nets::network;
-use crate::show::{answer, answers, begin, debug_line, debug_pair, end, line, refused};
+use crate::show::{
+    answer, answers, begin, debug_line, debug_pair, debug_part, end, entries, line, lines, part,
+    refused,
+};
 use hop_index::HopIndex;
 use ipnet::{IpAddr, IpNet};
-use route_table::{AddRefused, Hop, HopTable, Refused, RouteTable, Routes};
+use route_table::{AddRefused, Hop, HopTable, Refused, RouteTable};
 
 /// The calls of tables.
 #[derive(Clone, Copy)]
@@ -121,7 +126,7 @@ fn call_free(
         TableCall::Del => return del_all(rt, table),
         TableCall::LookUps => return look_up(rt, table, net),
         TableCall::Pages => return pages(rt, table),
-        _ => flat(rt, table),
+        _ => entries(rt, "", table.flat()),
     }
     Ok(())
 }
@@ -149,7 +154,11 @@ fn store(table: &mut RouteTable, text: &str, hop: Hop, pref: u16) -> Result<(), 
 }
 
 fn show_route(rt: &HostRuntime, net: &IpNet, hop: Hop, pref: u16) {
-    let _ = println!(rt; "{net} {hop:?} {pref}");
+    part(rt, net);
+    part(rt, &" ");
+    debug_part(rt, &hop);
+    part(rt, &" ");
+    line(rt, &pref);
 }
 
 /// All routes of one network.
@@ -159,27 +168,29 @@ fn show_network(rt: &HostRuntime, table: &RouteTable, net: &IpNet) {
     }
 }
 
-/// All routes of the networks inside this one.
-fn show_inside(rt: &HostRuntime, table: &RouteTable, net: &IpNet) {
-    for (net, _, _) in table.list(net) {
+/// All routes of the networks of these.
+fn show_all<I: Iterator<Item = (IpNet, Hop, u16)>>(rt: &HostRuntime, table: &RouteTable, routes: I)
+    requires { I.can_next routes × IsFinite (I.remaining routes) }
+{
+    for (net, _, _) in routes {
         show_network(rt, table, &net);
     }
 }
 
 /// All routes, and the numbers of networks and of nodes.
 fn show(rt: &HostRuntime, table: &RouteTable) -> Result<(), Fault> {
-    show_inside(rt, table, &network("0.0.0.0/0")?);
-    show_inside(rt, table, &network("::/0")?);
+    let (ipv4, ipv6) = (network("0.0.0.0/0")?, network("::/0")?);
+    show_all(rt, table, table.list(&ipv4));
+    show_all(rt, table, table.list(&ipv6));
     show_counts(rt, table);
     Ok(())
 }
 
 fn show_counts(rt: &HostRuntime, table: &RouteTable) {
-    let _ = println!(rt;
-        "{:?} networks, {:?} nodes",
-        table.count(),
-        table.node_counts()
-    );
+    debug_part(rt, &table.count());
+    part(rt, &" networks, ");
+    debug_part(rt, &table.node_counts());
+    line(rt, &" nodes");
 }
 
 /// A network that isn't stored is added.
@@ -246,7 +257,10 @@ pub fn answer_routes(rt: &HostRuntime, routes: &Vec<(IpNet, Hop)>) {
 }
 
 fn answer_route(rt: &HostRuntime, net: &IpNet, hop: Hop) {
-    let _ = println!(rt; "answer {net} {hop:?}");
+    part(rt, &"answer ");
+    part(rt, net);
+    part(rt, &" ");
+    debug_line(rt, &hop);
 }
 
 fn least(rt: &HostRuntime, table: &RouteTable) -> Result<(), Fault> {
@@ -304,18 +318,14 @@ fn look_up(rt: &HostRuntime, table: &RouteTable, net: &IpNet) -> Result<(), Faul
     debug_pair(rt, &table.get(net), &table.get_visits(net));
     show_network(rt, table, net);
     show_routes(rt, table.cover(net));
-    show_governed(rt, table, &ipv4);
-    show_governed(rt, table, &ipv6);
+    lines(rt, table.governed(&ipv4));
+    lines(rt, table.governed(&ipv6));
     Ok(())
 }
 
-fn show_governed(rt: &HostRuntime, table: &RouteTable, net: &IpNet) {
-    for block in table.governed(net) {
-        line(rt, &block);
-    }
-}
-
-fn show_routes(rt: &HostRuntime, routes: Routes<'_>) {
+fn show_routes<I: Iterator<Item = (IpNet, Hop, u16)>>(rt: &HostRuntime, routes: I)
+    requires { I.can_next routes × IsFinite (I.remaining routes) }
+{
     for (net, hop, pref) in routes {
         show_route(rt, &net, hop, pref);
     }
@@ -329,17 +339,6 @@ fn pages(rt: &HostRuntime, table: &RouteTable) -> Result<(), Fault> {
     show_routes(rt, table.list(&net));
     debug_line(rt, &table.count());
     Ok(())
-}
-
-/// The blocks of one hop.
-fn flat(rt: &HostRuntime, table: &RouteTable) {
-    for (block, number) in table.flat() {
-        show_block(rt, &block, number);
-    }
-}
-
-fn show_block(rt: &HostRuntime, block: &IpNet, number: u32) {
-    let _ = println!(rt; "{block} {number}");
 }
 
 /// An index of a table of both families.
