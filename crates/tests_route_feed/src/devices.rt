@@ -1,6 +1,6 @@
 //! Runs over devices that give and take a few bytes a call, and with a fault at each call in turn.
 use crate::runs::Mode;
-use crate::scripted::{End, FLUSHED, Fault, Script, ends};
+use crate::scripted::{End, FLUSHED, Fault, Script, ends, flushes_in};
 use crate::streams::READ_TO_THE_END;
 use route_feed::RunError;
 use std::alloc::Global;
@@ -31,10 +31,16 @@ fn first_calls<'a>(rt: &impl Abort, calls: &'a str, count: usize) -> &'a str {
 }
 
 /// How many of these calls there are until so many of them are a `flush`.
-fn calls_until(calls: &str, flushes: usize) -> usize {
+fn calls_until(calls: &str, flushes: u64) -> usize {
+    let mut left = flushes;
     let mut count = 0usize;
-    for reply in calls.split_inclusive(FLUSHED).take(flushes) {
-        count = count.wrapping_add(reply.len());
+    for call in calls.as_bytes() {
+        if left > 0 {
+            count = count.wrapping_add(1);
+            if *call == b'|' {
+                left -= 1;
+            }
+        }
     }
     count
 }
@@ -49,8 +55,8 @@ fn is_answered(mode: Mode, line: &str) -> bool {
 }
 
 /// How many of the lines that end in the first bytes are answered.
-fn answered(mode: Mode, input: &str, came: usize) -> usize {
-    let mut count = 0usize;
+fn answered(mode: Mode, input: &str, came: usize) -> u64 {
+    let mut count = 0u64;
     let mut end = 0usize;
     for line in input.split_inclusive('\n') {
         end = end.wrapping_add(line.len());
@@ -61,20 +67,16 @@ fn answered(mode: Mode, input: &str, came: usize) -> usize {
     count
 }
 
-/// How many reads of one byte have come before the call of the writer after these.
+/// How many reads of one byte come before the call of the writer after these: as long as no more lines are answered.
 fn reads_for(mode: Mode, input: &str, done: &str) -> usize {
-    let mut before = done.matches(FLUSHED).count();
-    let mut end = 0usize;
-    for line in input.split_inclusive('\n') {
-        end = end.wrapping_add(line.len());
-        if is_answered(mode, line) {
-            if before == 0 {
-                return end;
-            }
-            before -= 1;
+    let replies = flushes_in(done.as_bytes());
+    let mut reads = 0usize;
+    for came in 0..=input.len() {
+        if answered(mode, input, came) <= replies {
+            reads = reads.wrapping_add(1);
         }
     }
-    end.wrapping_add(1)
+    reads
 }
 
 /// The run takes and gives one byte a call.

@@ -60,19 +60,26 @@ fn takes(rt: &impl Abort, follower: &mut Follower, lines: &str) {
     }
 }
 
+fn address(rt: &impl Abort, text: &str) -> IpAddr {
+    IpAddr::from_str(text).expect(rt, text)
+}
+
 fn hops_are(rt: &impl Abort, follower: &Follower, hops: &[(&str, Option<u32>)]) {
     for (text, hop) in hops {
-        let address = IpAddr::from_str(text).expect(rt, text);
-        row_is(rt, text, follower.hop(address), *hop);
+        row_is(rt, text, follower.hop(address(rt, text)), *hop);
     }
+}
+
+/// The network of the text.
+pub(crate) fn net(rt: &impl Abort, text: &str) -> IpNet {
+    IpNet::from_str(text).expect(rt, text)
 }
 
 fn routes_are(rt: &impl Abort, routes: &[(IpNet, Hop)], wanted: &[(&str, Hop)]) {
     row_is(rt, "routes", routes.len(), wanted.len());
     let mut left = routes.iter().copied();
     for (text, hop) in wanted {
-        let net = IpNet::from_str(text).expect(rt, text);
-        row_is(rt, text, left.next(), Some((net, *hop)));
+        row_is(rt, text, left.next(), Some((net(rt, text), *hop)));
     }
 }
 

@@ -16,7 +16,7 @@ pub(crate) fn row_is<R: Copy + Debug, T: Copy + PartialEq + Debug>(
 
 /// The same of bytes that spell a text.
 pub(crate) fn text_is<R: Copy + Debug>(rt: &impl Abort, row: R, found: &[u8], wanted: &str) {
-    row_is(rt, row, from_utf8(found).ok(), Some(wanted));
+    row_is(rt, row, from_utf8(found).unwrap_or("no text"), wanted);
 }
 
 /// The value is printed so.

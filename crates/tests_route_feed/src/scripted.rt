@@ -114,7 +114,7 @@ impl Write for Held {
 }
 
 /// How often a `flush` followed a byte.
-fn flushes_in(done: &[u8]) -> u64 {
+pub(crate) fn flushes_in(done: &[u8]) -> u64 {
     let mut count = 0u64;
     let mut waiting = false;
     for byte in done {

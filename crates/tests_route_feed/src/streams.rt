@@ -397,8 +397,8 @@ const HELD: [(usize, &str); 6] = [
 /// The flat list that holds once so many bytes of the output have come.
 fn held_at(end: usize) -> &'static str {
     let mut held: &'static str = "ok\n";
-    for (from, flat) in HELD {
-        if from <= end {
+    for (from, flat) in &HELD {
+        if *from <= end {
             held = flat;
         }
     }

@@ -1,10 +1,9 @@
 //! Texts as rows: what is read, and what is printed again.
+use crate::followers::net;
 use crate::rows::{prints, row_is, text_is};
-use ipnet::IpNet;
 use route_lines::{Closing, Command, NotALine, Note, Reply, Update};
 use route_table::{Hop, Operation};
 use std::process::Abort;
-use std::str::FromStr;
 
 /// The text spells a reply line, which is printed so; or none, where nothing is expected.
 fn printed(rt: &impl Abort, text: &str, expected: &str) {
@@ -308,18 +307,28 @@ fn notes(rt: HostRuntime) {
 
 /// The text tells the operation.
 fn is_operation(rt: &impl Abort, text: &str, operation: Operation) {
-    let update = Update::read(text.as_bytes());
-    row_is(rt, text, update == Ok(Update::from(operation)), true);
+    let update = Update::read(text.as_bytes()).expect(rt, text);
+    row_is(rt, text, update == Update::from(operation), true);
 }
 
 #[test]
 fn operations(rt: HostRuntime) {
-    let net = IpNet::from_str("10.0.0.0/8").expect(&rt, "a network");
     let hop = Hop::Number(7);
-    is_operation(&rt, "install 10.1.2.3/8 7", Operation::Install { net, hop });
-    is_operation(&rt, "install 10.0.0.0/8 7", Operation::Install { net, hop });
-    is_operation(&rt, "remove 10.1.2.3/8", Operation::Remove { net });
-    is_operation(&rt, "remove 10.0.0.0/8", Operation::Remove { net });
+    for text in ["install 10.1.2.3/8 7", "install 10.0.0.0/8 7"] {
+        let net = net(&rt, "10.0.0.0/8");
+        is_operation(
+            &rt,
+            text,
+            Operation::Install {
+                net,
+                hop: Hop::Number(7),
+            },
+        );
+    }
+    for text in ["remove 10.1.2.3/8", "remove 10.0.0.0/8"] {
+        let net = net(&rt, "10.0.0.0/8");
+        is_operation(&rt, text, Operation::Remove { net });
+    }
 }
 
 #[test]
