@@ -1,5 +1,5 @@
 //! A follower line by line: the hops of addresses, and a least table of them.
-use crate::rows::row_is;
+use crate::rows::{net, row_is};
 use ipnet::{IpAddr, IpNet};
 use route_feed::Follower;
 use route_table::Hop;
@@ -68,11 +68,6 @@ fn hops_are(rt: &impl Abort, follower: &Follower, hops: &[(&str, Option<u32>)]) 
     for (text, hop) in hops {
         row_is(rt, text, follower.hop(address(rt, text)), *hop);
     }
-}
-
-/// The network of the text.
-pub(crate) fn net(rt: &impl Abort, text: &str) -> IpNet {
-    IpNet::from_str(text).expect(rt, text)
 }
 
 fn routes_are(rt: &impl Abort, routes: &[(IpNet, Hop)], wanted: &[(&str, Hop)]) {
