@@ -1,50 +1,67 @@
 //! The cutter on bytes from outside, fed one by one; lines in place.
+use crate::rows::row_is;
 use route_lines::{Line, LineCutter, Rest, line_text};
-use std::test::Fail;
+use std::process::Abort;
 
-#[test]
-fn cuts(rt: HostRuntime) -> Result<(), Fail> {
-    let mut bytes = Vec::new(rt.alloc());
-    bytes.extend_from_slice(b"ok\r\n\n")?;
-    for count in [80, 81] {
-        for _ in 0..count {
-            bytes.push(b'x')?;
-        }
-        bytes.push(b'\n')?;
+/// Pieces, and how long the line is that the last byte of each ends; none where it ends none, 1000 for one that is too long.
+const PIECES: [(&str, Option<usize>); 5] = [
+    ("ok\r\n", Some(3)),
+    ("\n", Some(0)),
+    (
+        "xxxxxxxxxxxxxxxxxxxxxxxxxxxxxxxxxxxxxxxxxxxxxxxxxxxxxxxxxxxxxxxxxxxxxxxxxxxxxxxx\n",
+        Some(80),
+    ),
+    (
+        "xxxxxxxxxxxxxxxxxxxxxxxxxxxxxxxxxxxxxxxxxxxxxxxxxxxxxxxxxxxxxxxxxxxxxxxxxxxxxxxxx\n",
+        Some(1000),
+    ),
+    ("fl", None),
+];
+
+/// No byte ends a line.
+fn feeds(rt: &impl Abort, cutter: &mut LineCutter, bytes: &[u8]) {
+    for byte in bytes {
+        row_is(rt, bytes.len(), cutter.feed(*byte).is_some(), false);
     }
-    bytes.extend_from_slice(b"fl")?;
-    let mut cutter = LineCutter::new();
-    let mut lengths = Vec::new(rt.alloc());
-    assert_eq!(rt; cutter.rest(), Rest::Empty);
-    for byte in &bytes {
-        match cutter.feed(*byte) {
-            None => {}
-            Some(Line::Text(text)) => lengths.push(text.len())?,
-            Some(Line::TooLong) => lengths.push(1000)?,
-        }
-    }
-    assert_eq!(rt; lengths.as_slice(), [3, 0, 80, 1000].as_slice());
-    assert_eq!(rt; cutter.rest(), Rest::Held);
-    Ok(())
+}
+
+/// The last byte alone ends a line, of this length.
+fn cuts(rt: &impl Abort, cutter: &mut LineCutter, piece: &str, wanted: Option<usize>) {
+    let (last, others) = piece.as_bytes().split_last().expect(rt, "a byte");
+    feeds(rt, cutter, others);
+    let length = match cutter.feed(*last) {
+        None => None,
+        Some(Line::Text(text)) => Some(text.len()),
+        Some(Line::TooLong) => Some(1000),
+    };
+    row_is(rt, piece, length, wanted);
 }
 
 #[test]
-fn in_place(rt: HostRuntime) -> Result<(), Fail> {
-    let mut bytes = Vec::new(rt.alloc());
-    for count in 0..82 {
-        let piece = bytes.as_slice();
-        let mut cutter = LineCutter::new();
-        for byte in piece {
-            assert!(rt; cutter.feed(*byte).is_none());
-        }
-        assert_eq!(rt; cutter.is_new(), count == 0);
-        match cutter.feed(b'\n') {
-            Some(line) => assert_eq!(rt; line.text(), line_text(piece)),
-            None => panic!(&rt; "no line"),
-        }
-        assert!(rt; cutter.is_new());
-        assert_eq!(rt; line_text(piece).is_some(), count <= 80);
-        bytes.push(b'x')?;
+fn pieces(rt: HostRuntime) {
+    let mut cutter = LineCutter::new();
+    row_is(&rt, "at first", cutter.rest(), Rest::Empty);
+    for (piece, wanted) in &PIECES {
+        cuts(&rt, &mut cutter, piece, *wanted);
     }
-    Ok(())
+    row_is(&rt, "at the end", cutter.rest(), Rest::Held);
+}
+
+/// The line of these bytes is the same in place.
+fn is_in_place(rt: &impl Abort, cutter: &mut LineCutter, piece: &[u8]) {
+    let row = piece.len();
+    feeds(rt, cutter, piece);
+    row_is(rt, row, cutter.is_new(), piece.is_empty());
+    let line = cutter.feed(b'\n').expect(rt, "a line");
+    row_is(rt, row, line.text(), line_text(piece));
+    row_is(rt, row, cutter.is_new(), true);
+    row_is(rt, row, line_text(piece).is_some(), row <= 80);
+}
+
+#[test]
+fn in_place(rt: HostRuntime) {
+    let longest = [b'x'; 81];
+    for length in 0..82 {
+        is_in_place(&rt, &mut LineCutter::new(), &longest[..length]);
+    }
 }

@@ -10,7 +10,11 @@ mod followers;
 #[cfg(test)]
 mod installing;
 #[cfg(test)]
-mod leaking;
+mod rows;
+#[cfg(test)]
+mod runs;
+#[cfg(test)]
+mod scripted;
 #[cfg(test)]
 mod streams;
 #[cfg(test)]
