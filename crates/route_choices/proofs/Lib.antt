@@ -1,4 +1,5 @@
 pub mod Kept
 pub mod Preferences
 pub mod ChoiceLists
+pub mod Slots
 pub mod Places

@@ -1,5 +1,5 @@
 pub mod Hops
 pub mod Choices
 pub mod Items
-pub mod InnerPacked
+pub mod InnerSlots
 pub mod Laws

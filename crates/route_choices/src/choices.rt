@@ -1,58 +1,78 @@
 //! The choices of one network.
-ghost use Rattle.std.specs.Prelude.{◌≡◌, ◌<◌, [], ◌∷◌, false, OnErr, OnOk, true};
+ghost use Rattle.std.specs.Prelude.{◌≡◌, ◌+◌, ◌-◌, ◌<◌, [], ◌∷◌, ◌++◌, None, drop, false, length, OnErr, OnOk, take, true};
 ghost use Rattle.std.specs.List.{position_or_len};
 ghost use Rattle.std.specs.Iterator.{item_count};
 ghost use Rattle.route_choices.specs.Items.{GivesChoice};
-ghost use Rattle.route_choices.specs.Choices.{AreChoices, beats, best_hop, best_preference, choices_with, choices_without, has_none, holds_hop, is_one_too_many, same_hop};
+ghost use Rattle.route_choices.specs.Choices.{AreChoices, best_hop, best_preference, choices_with, choices_without, has_none, holds_hop, is_one_too_many};
 ghost use Rattle.route_choices.specs.Hops.{IsHop};
+ghost use Rattle.route_choices.specs.InnerSlots.{ends_at, ends_before};
 
-use crate::choice::Choice;
 use crate::hop::Hop;
+use crate::slot::Slot;
 use crate::too_many::TooMany;
-use arrayvec::ArrayVec;
 use std::marker::Model;
 
-/// At most eight hops with their preferences, best first, no hop twice, and room for `ROOM` of them. They take no memory.
+/// At most eight hops with their preferences, best first, no hop twice, and room for `ROOM` of them, eight bytes each. They take no
+/// memory.
 ///
 /// Contracts see the list of the choices.
 #[derive(Drop)]
 pub struct Choices<const ROOM: usize> {
-    items: ArrayVec<Choice, ROOM>,
+    slots: [Slot; ROOM],
 }
 
 impl<const ROOM: usize> Model for Choices<ROOM> {
-    ghost use Rattle.std.specs.Prelude.{List};
+    ghost use Rattle.std.specs.Prelude.{◌≡◌, List};
     ghost use Rattle.route_choices.specs.Choices.{AreChoices, Choice};
+    ghost use Rattle.route_choices.specs.InnerSlots.{filled, padded};
 
     ghost Value = { List Choice };
 
-    ghost view = { λ c. c.items.items };
+    ghost view = { λ c. filled c.slots };
 
-    ghost invariant = { λ c. AreChoices c.items.items };
+    ghost invariant = { λ c. (c.slots ≡ padded ROOM (filled c.slots)) × AreChoices (filled c.slots) };
 }
 
-/// The place of the hop, or the length.
-fn place(choices: &[Choice], hop: Hop) -> usize
-    ensures { result ≡ position_or_len (λ d. same_hop d.hop hop) choices.now }
+/// The first place that has the hop or is free, or how many there are.
+fn place(slots: &[Slot], hop: Hop) -> usize
+    ensures { result ≡ position_or_len (ends_at hop) slots.now }
 {
-    for (i, choice) in choices.iter().enumerate() {
-        if choice.is_of(hop) {
+    for (i, slot) in slots.iter().enumerate() {
+        if slot.ends_at(hop) {
             return i;
         }
     }
-    choices.len()
+    slots.len()
 }
 
-/// The place of the first that the choice beats, or the length.
-fn first_beaten(choices: &[Choice], choice: &Choice) -> usize
-    ensures { result ≡ position_or_len (λ d. beats choice.now d) choices.now }
+/// The first place that has a worse choice or is free, or how many there are.
+fn first_beaten(slots: &[Slot], choice: (Hop, u16)) -> usize
+    ensures { result ≡ position_or_len (ends_before (record { hop = choice.0; pref = choice.1 })) slots.now }
 {
-    for (i, other) in choices.iter().enumerate() {
-        if choice.beats(other) {
+    for (i, slot) in slots.iter().enumerate() {
+        if slot.ends_before(choice) {
             return i;
         }
     }
-    choices.len()
+    slots.len()
+}
+
+/// Puts a choice at a place. What stood there, and each choice after it, goes to the next place, and the last place is lost.
+fn put(slots: &mut [Slot], at: usize, slot: Slot)
+    requires { at < length slots.old }
+    ensures { slots.new ≡ take at slots.old ++ slot ∷ take (length slots.old - (at + 1)) (drop at slots.old) }
+{
+    slots[at..].rotate_right(1);
+    slots[at] = slot;
+}
+
+/// Frees a place. Each choice after it goes to the place before.
+fn take_out(slots: &mut [Slot], at: usize)
+    requires { at < length slots.old }
+    ensures { slots.new ≡ take at slots.old ++ drop (at + 1) slots.old ++ None ∷ [] }
+{
+    slots[at] = Slot::default();
+    slots[at..].rotate_left(1);
 }
 
 impl Choices<8> {
@@ -69,12 +89,11 @@ impl Choices<8> {
     {
         self.are_choices();
         self.remove(hop);
-        if self.items.is_full() {
+        if self.slots[7].get().is_some() {
             return Err(TooMany);
         }
-        let choice = Choice::new(hop, pref);
-        let to = first_beaten(self.items.as_slice(), &choice);
-        self.items.insert(to, choice);
+        let to = first_beaten(&self.slots, (hop, pref));
+        put(&mut self.slots, to, Slot::new(hop, pref));
         Ok(())
     }
 }
@@ -87,9 +106,9 @@ impl<const ROOM: usize> Choices<ROOM> {
         ensures are { AreChoices result }
         ensures in_range { IsHop hop }
     {
-        let mut items = ArrayVec::new();
-        items.push(Choice::new(hop, pref));
-        Choices { items }
+        let mut slots: [Slot; ROOM] = Default::default();
+        slots[0] = Slot::new(hop, pref);
+        Choices { slots }
     }
 
     /// Takes the hop out, if it is stored.
@@ -98,13 +117,15 @@ impl<const ROOM: usize> Choices<ROOM> {
         ensures choices { self.new ≡ choices_without self.old hop }
         ensures are { AreChoices self.new }
     {
-        let at = place(self.items.as_slice(), hop);
-        if at < self.items.len() {
-            self.items.remove(at);
-            true
-        } else {
-            false
+        let at = place(&self.slots, hop);
+        let Some(slot) = self.slots.get(at) else {
+            return false;
+        };
+        if slot.get().is_none() {
+            return false;
         }
+        take_out(&mut self.slots, at);
+        true
     }
 
     /// The best: the one that no other beats. Where there is none, which no stored network has, `drop` and 0.
@@ -118,7 +139,7 @@ impl<const ROOM: usize> Choices<ROOM> {
     pub fn is_empty(&self) -> bool
         ensures { result ≡ has_none self.now }
     {
-        self.items.is_empty()
+        self.slots.first().is_none_or(|first| first.get().is_none())
     }
 
     /// All of them, best first.
@@ -126,7 +147,7 @@ impl<const ROOM: usize> Choices<ROOM> {
         ensures { result ≡ self.now }
     {
         All {
-            left: self.items.as_slice(),
+            left: &self.slots,
         }
     }
 
@@ -134,23 +155,24 @@ impl<const ROOM: usize> Choices<ROOM> {
     pub fn are_choices(&self)
         ensures { AreChoices self.now }
     {
-        let _ = self.items.is_empty();
+        let _ = &self.slots;
     }
 }
 
 /// Hops with their preferences, best first. It takes no memory.
 #[derive(Drop)]
 pub struct All<'a> {
-    left: &'a [Choice],
+    left: &'a [Slot],
 }
 
 impl<'a> Model for All<'a> {
     ghost use Rattle.std.specs.Prelude.{List};
     ghost use Rattle.route_choices.specs.Choices.{Choice};
+    ghost use Rattle.route_choices.specs.InnerSlots.{filled};
 
     ghost Value = { List Choice };
 
-    ghost view = { λ a. a.left.now };
+    ghost view = { λ a. filled a.left.now };
 }
 
 impl<'a> All<'a> {
@@ -167,7 +189,7 @@ impl<'a> All<'a> {
     {
         match self.left.first() {
             None => (Hop::Drop, 0),
-            Some(choice) => (choice.hop(), choice.pref()),
+            Some(slot) => slot.get().unwrap_or((Hop::Drop, 0)),
         }
     }
 }
@@ -180,10 +202,9 @@ impl<'a> Iterator for All<'a> {
     ghost remaining = { item_count (λ cs. cs) };
 
     fn next(&mut self) -> Option<(Hop, u16)> {
-        let Some((first, rest)) = self.left.split_first() else {
-            return None;
-        };
+        let (first, rest) = self.left.split_first()?;
+        let choice = first.get()?;
         self.left = rest;
-        Some((first.hop(), first.pref()))
+        Some(choice)
     }
 }

@@ -18,10 +18,10 @@ fn the_next_takes_over(rt: HostRuntime) {
     assert_eq!(rt; choices.add(Hop::Drop, 200), Err(TooMany));
 }
 
-/// A choice takes eight bytes, and the number of choices the rest.
+/// A choice takes eight bytes, and nothing else does.
 #[test]
 fn bytes_of_choices(rt: HostRuntime) {
-    row_is(&rt, "eight", std::mem::size_of::<Choices<8>>(), 72);
-    row_is(&rt, "one", std::mem::size_of::<Choices<1>>(), 16);
+    row_is(&rt, "eight", std::mem::size_of::<Choices<8>>(), 64);
+    row_is(&rt, "one", std::mem::size_of::<Choices<1>>(), 8);
     row_is(&rt, "default", Hop::default(), Hop::Drop);
 }

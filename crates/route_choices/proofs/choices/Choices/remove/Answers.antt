@@ -1,52 +1,69 @@
-use Rattle.std.proofs.Common.{◌≡◌, sym, ap, ◌∙◌, subst, List, arith}
-use Rattle.std.specs.List.{position_or_len}
-use Rattle.route_choices.specs.Choices.{Choice, AreChoices, choices_without, holds_hop, same_hop}
-use Rattle.route_choices.proofs.ChoiceLists.{without_are, without_none, none_of}
-use Rattle.route_choices.proofs.Places.{taken_at, held_at, not_held_at}
+use Rattle.std.proofs.Common.{◌≡◌, ◌<◌, sym, ap, ◌∙◌, subst, length, arith}
+use Rattle.std.proofs.lemmas.Bool.Decides.{nat_tests}
+use Rattle.route_choices.specs.Choices.{AreChoices, choices_without, holds_hop}
+use Rattle.route_choices.specs.InnerSlots.{filled, padded}
+use Rattle.route_choices.proofs.ChoiceLists.{without_are}
+use Rattle.route_choices.proofs.Places.{at_free, at_taken, beyond, held_here, left_here, no_given, not_held_here, one_given, same_here, without_here}
 use Rattle.route_choices.proofs.choices.Choices.remove.Goals as goal
+
+pub returns-in_default-clause-held : goal.returns-in_default-clause-held
+returns-in_default-clause-held g c =
+    let xs = c.self.inside.slots in let v : filled xs ≡ c.args.self.now = c.self.view_is in
+    let test = c.in_default.ensures.lookup.0 in
+    let past = beyond g.row.ROOM xs c.self.invariant.0 c.place-at.result (grind (arith, nat_tests, test)) in
+    sym (not_held_here g.row.ROOM xs c.self.invariant.0 c.self.invariant.1 c.args.hop c.place-at.result c.place-at.ensures past) ∙ ap (λ cs. holds_hop cs c.args.hop) v
+
+pub returns-in_default-clause-choices : goal.returns-in_default-clause-choices
+returns-in_default-clause-choices g c =
+    let xs = c.self.inside.slots in let v : filled xs ≡ c.args.self.now = c.self.view_is in
+    let test = c.in_default.ensures.lookup.0 in
+    let past = beyond g.row.ROOM xs c.self.invariant.0 c.place-at.result (grind (arith, nat_tests, test)) in
+    sym v ∙ sym (same_here g.row.ROOM xs c.self.invariant.0 c.self.invariant.1 c.args.hop c.place-at.result c.place-at.ensures past) ∙ ap (λ cs. choices_without cs c.args.hop) v
+
+pub returns-then-is_none-clause-held : goal.returns-then-is_none-clause-held
+returns-then-is_none-clause-held g c =
+    let xs = c.self.inside.slots in let v : filled xs ≡ c.args.self.now = c.self.view_is in
+    let look = c.in-Some.ensures.lookup in let test = look.0 in
+    let l : c.place-at.result < length xs = grind (arith, nat_tests, test) in
+    let past = at_free g.row.ROOM xs c.self.invariant.0 c.place-at.result c.in-Some.slot.now l (sym look.1 ∙ c.get-2.ensures ∙ no_given c.get-2.result c.if-is_none.ensures) in
+    sym (not_held_here g.row.ROOM xs c.self.invariant.0 c.self.invariant.1 c.args.hop c.place-at.result c.place-at.ensures past) ∙ ap (λ cs. holds_hop cs c.args.hop) v
+
+pub returns-then-is_none-clause-choices : goal.returns-then-is_none-clause-choices
+returns-then-is_none-clause-choices g c =
+    let xs = c.self.inside.slots in let v : filled xs ≡ c.args.self.now = c.self.view_is in
+    let look = c.in-Some.ensures.lookup in let test = look.0 in
+    let l : c.place-at.result < length xs = grind (arith, nat_tests, test) in
+    let past = at_free g.row.ROOM xs c.self.invariant.0 c.place-at.result c.in-Some.slot.now l (sym look.1 ∙ c.get-2.ensures ∙ no_given c.get-2.result c.if-is_none.ensures) in
+    sym v ∙ sym (same_here g.row.ROOM xs c.self.invariant.0 c.self.invariant.1 c.args.hop c.place-at.result c.place-at.ensures past) ∙ ap (λ cs. choices_without cs c.args.hop) v
+
+pub returns-clause-held : goal.returns-clause-held
+returns-clause-held g c =
+    let xs = c.self.inside.slots in let v : filled xs ≡ c.args.self.now = c.self.view_is in
+    let look = c.in-Some.ensures.lookup in let test = look.0 in
+    let l : c.place-at.result < length xs = grind (arith, nat_tests, test) in
+    let some = one_given c.get-2.result c.if-is_none.ensures in
+    let m = at_taken g.row.ROOM xs c.self.invariant.0 c.place-at.result c.in-Some.slot.now some.0 l (sym look.1 ∙ c.get-2.ensures ∙ some.1) in
+    sym (held_here g.row.ROOM xs c.self.invariant.0 c.self.invariant.1 c.args.hop c.place-at.result c.place-at.ensures m) ∙ ap (λ cs. holds_hop cs c.args.hop) v
+
+pub returns-clause-choices : goal.returns-clause-choices
+returns-clause-choices g c =
+    let xs = c.self.inside.slots in let v : filled xs ≡ c.args.self.now = c.self.view_is in
+    let look = c.in-Some.ensures.lookup in let test = look.0 in
+    let l : c.place-at.result < length xs = grind (arith, nat_tests, test) in
+    let some = one_given c.get-2.result c.if-is_none.ensures in
+    let m = at_taken g.row.ROOM xs c.self.invariant.0 c.place-at.result c.in-Some.slot.now some.0 l (sym look.1 ∙ c.get-2.ensures ∙ some.1) in
+    ap filled c.take_out.ensures ∙ left_here g.row.ROOM xs c.self.invariant.0 c.self.invariant.1 c.args.hop c.place-at.result c.place-at.ensures m ∙ ap (λ cs. choices_without cs c.args.hop) v
 
 pub invariant_of-self : goal.invariant_of-self
 invariant_of-self g c =
-    let xs = c.self.inside.items.items in
-    let l = c.if-at-len.true in
-    let n = c.len.ensures.value in
-    let t = taken_at xs c.self.invariant c.args.hop c.place-at.result (c.place-at.ensures ∙ ap (position_or_len (λ d. same_hop d.hop c.args.hop)) c.as_slice.ensures.value) (omega arith) in
-    subst (λ (ys : List Choice). AreChoices ys) (sym (c.remove.ensures.items ∙ t)) (without_are xs c.self.invariant c.args.hop)
+    let xs = c.self.inside.slots in let v : filled xs ≡ c.args.self.now = c.self.view_is in
+    let look = c.in-Some.ensures.lookup in let test = look.0 in
+    let l : c.place-at.result < length xs = grind (arith, nat_tests, test) in
+    let some = one_given c.get-2.result c.if-is_none.ensures in
+    let m = at_taken g.row.ROOM xs c.self.invariant.0 c.place-at.result c.in-Some.slot.now some.0 l (sym look.1 ∙ c.get-2.ensures ∙ some.1) in
+    let left : filled c.take_out.new.slots ≡ choices_without (filled xs) c.args.hop = ap filled c.take_out.ensures ∙ left_here g.row.ROOM xs c.self.invariant.0 c.self.invariant.1 c.args.hop c.place-at.result c.place-at.ensures m in
+    (c.take_out.ensures ∙ without_here g.row.ROOM xs c.self.invariant.0 c.self.invariant.1 c.args.hop c.place-at.result c.place-at.ensures m ∙ ap (padded g.row.ROOM) (sym left),
+    subst AreChoices (sym left) (without_are (filled xs) c.self.invariant.1 c.args.hop))
 
-pub returns-then-at-len-clause-held : goal.returns-then-at-len-clause-held
-returns-then-at-len-clause-held g c =
-    let xs = c.self.inside.items.items in
-    let l = c.if-at-len.true in
-    let n = c.len.ensures.value in
-    let v : xs ≡ c.args.self.now = (let w = c.self.view_is in cc) in
-    sym (ap (λ ys. holds_hop ys c.args.hop) (sym v) ∙ held_at xs c.args.hop c.place-at.result (c.place-at.ensures ∙ ap (position_or_len (λ d. same_hop d.hop c.args.hop)) c.as_slice.ensures.value) (omega arith))
-
-pub returns-then-at-len-clause-choices : goal.returns-then-at-len-clause-choices
-returns-then-at-len-clause-choices g c =
-    let xs = c.self.inside.items.items in
-    let l = c.if-at-len.true in
-    let n = c.len.ensures.value in
-    let v : xs ≡ c.args.self.now = (let w = c.self.view_is in cc) in
-    c.remove.ensures.items
-    ∙ taken_at xs c.self.invariant c.args.hop c.place-at.result (c.place-at.ensures ∙ ap (position_or_len (λ d. same_hop d.hop c.args.hop)) c.as_slice.ensures.value) (omega arith)
-    ∙ ap (λ ys. choices_without ys c.args.hop) v
-
-pub returns-else-at-len-clause-held : goal.returns-else-at-len-clause-held
-returns-else-at-len-clause-held g c =
-    let xs = c.self.inside.items.items in
-    let l = c.if-at-len.false in
-    let n = c.len.ensures.value in
-    let v : xs ≡ c.args.self.now = (let w = c.self.view_is in cc) in
-    sym (ap (λ ys. holds_hop ys c.args.hop) (sym v) ∙ not_held_at xs c.args.hop c.place-at.result (c.place-at.ensures ∙ ap (position_or_len (λ d. same_hop d.hop c.args.hop)) c.as_slice.ensures.value) (omega arith))
-
-pub returns-else-at-len-clause-choices : goal.returns-else-at-len-clause-choices
-returns-else-at-len-clause-choices g c =
-    let xs = c.self.inside.items.items in
-    let l = c.if-at-len.false in
-    let n = c.len.ensures.value in
-    let v : xs ≡ c.args.self.now = (let w = c.self.view_is in cc) in
-    let e = not_held_at xs c.args.hop c.place-at.result (c.place-at.ensures ∙ ap (position_or_len (λ d. same_hop d.hop c.args.hop)) c.as_slice.ensures.value) (omega arith) in
-    sym v ∙ sym (without_none xs c.self.invariant c.args.hop (none_of xs c.args.hop e)) ∙ ap (λ ys. choices_without ys c.args.hop) v
-
-pub returns-then-at-len-clause-are : goal.returns-then-at-len-clause-are
-returns-then-at-len-clause-are g c = invariant_of-self g c
+pub returns-clause-are : goal.returns-clause-are
+returns-clause-are g c = (invariant_of-self g c).1

@@ -1,0 +1,129 @@
+//! A place for a choice.
+ghost use Rattle.std.specs.Prelude.{◌≡◌, None, Some};
+ghost use Rattle.route_choices.specs.Hops.{IsHop};
+ghost use Rattle.route_choices.specs.Choices.{beats, hop_before, same_hop};
+ghost use Rattle.route_choices.specs.InnerSlots.{ends_at, ends_before, given};
+
+use crate::hop::Hop;
+use std::marker::Model;
+
+/// The preference of a route that is given none.
+pub const DEFAULT_PREFERENCE: u16 = 100;
+
+/// A place for a hop with its preference. It has the eight bytes of a number, a preference and two flags.
+///
+/// Contracts see the choice, or none where the place is free.
+#[derive(Drop)]
+pub(crate) struct Slot {
+    number: u32,
+    pref: u16,
+    is_drop: bool,
+    is_free: bool,
+}
+
+impl Model for Slot {
+    ghost use Rattle.std.specs.Prelude.{Option};
+    ghost use Rattle.route_choices.specs.Choices.{Choice};
+    ghost use Rattle.route_choices.specs.InnerSlots.{slot_in};
+
+    ghost Value = { Option Choice };
+
+    ghost view = { λ s. slot_in s.is_free s.is_drop s.number s.pref };
+}
+
+impl Default for Slot {
+    ghost use Rattle.std.specs.Prelude.{None};
+
+    ghost is_default = { λ s. s ≡ None };
+
+    /// A free place.
+    fn default() -> Slot {
+        Slot {
+            number: 0,
+            pref: 0,
+            is_drop: true,
+            is_free: true,
+        }
+    }
+}
+
+/// Whether two hops are the same.
+fn is_same(a: Hop, b: Hop) -> bool
+    ensures { result ≡ same_hop a b }
+{
+    match (a, b) {
+        (Hop::Number(a), Hop::Number(b)) => a == b,
+        (Hop::Number(_), Hop::Drop) => false,
+        (Hop::Drop, Hop::Number(_)) => false,
+        (Hop::Drop, Hop::Drop) => true,
+    }
+}
+
+/// Whether the hop comes first among equal preferences.
+fn is_before(a: Hop, b: Hop) -> bool
+    ensures { result ≡ hop_before a b }
+{
+    match (a, b) {
+        (Hop::Number(a), Hop::Number(b)) => a < b,
+        (Hop::Number(_), Hop::Drop) => true,
+        (Hop::Drop, _) => false,
+    }
+}
+
+/// Whether the first of two choices is the better one.
+fn is_better(one: (Hop, u16), other: (Hop, u16)) -> bool
+    ensures { result ≡ beats (record { hop = one.0; pref = one.1 }) (record { hop = other.0; pref = other.1 }) }
+{
+    one.1 > other.1 || (one.1 == other.1 && is_before(one.0, other.0))
+}
+
+impl Slot {
+    pub(crate) fn new(hop: Hop, pref: u16) -> Slot
+        ensures value { result ≡ Some (record { hop = hop; pref = pref }) }
+        ensures in_range { IsHop hop }
+    {
+        let (number, is_drop) = match hop {
+            Hop::Number(number) => (number, false),
+            Hop::Drop => (0, true),
+        };
+        Slot {
+            number,
+            pref,
+            is_drop,
+            is_free: false,
+        }
+    }
+
+    /// The choice, if there is one.
+    pub(crate) fn get(&self) -> Option<(Hop, u16)>
+        ensures { self.now ≡ given result }
+    {
+        if self.is_free {
+            None
+        } else if self.is_drop {
+            Some((Hop::Drop, self.pref))
+        } else {
+            Some((Hop::Number(self.number), self.pref))
+        }
+    }
+
+    /// Whether it has the hop, or is free.
+    pub(crate) fn ends_at(&self, hop: Hop) -> bool
+        ensures { result ≡ ends_at hop self.now }
+    {
+        match self.get() {
+            None => true,
+            Some(choice) => is_same(choice.0, hop),
+        }
+    }
+
+    /// Whether it has a choice that is worse than this one, or is free.
+    pub(crate) fn ends_before(&self, choice: (Hop, u16)) -> bool
+        ensures { result ≡ ends_before (record { hop = choice.0; pref = choice.1 }) self.now }
+    {
+        match self.get() {
+            None => true,
+            Some(other) => is_better(choice, other),
+        }
+    }
+}
