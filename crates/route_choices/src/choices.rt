@@ -146,9 +146,7 @@ impl<const ROOM: usize> Choices<ROOM> {
     pub fn all(&self) -> All<'_>
         ensures { result ≡ self.now }
     {
-        All {
-            left: &self.slots,
-        }
+        All { left: &self.slots }
     }
 
     /// They are choices, so that the laws can be cited of them.

@@ -40,10 +40,11 @@ invariant_of-self c =
     let new : Choice = record { hop = c.args.hop; pref = c.args.pref } in
     let v : filled xs ≡ c.remove.new.self = c.self.view_is in
     let free = c.get.ensures ∙ no_given c.get.result (sym c.if-is_some.ensures) in
-    let is : filled c.put.new.slots ≡ choices_with c.args.self.now new = returns-clause-choices c in
-    (c.put.ensures ∙ ap (λ (s : Option Choice). take k xs ++ s ∷ take (length xs - (k + 1)) (drop k xs)) c.new.ensures.value
-    ∙ with_put xs c.self.invariant.0 c.args.self.now c.are_choices.ensures new (v ∙ c.remove.ensures.choices) k c.first_beaten-to.ensures c.index-self-7.result free ∙ ap (padded 8) (sym is),
-    subst AreChoices (sym is) (put_are xs c.self.invariant.0 c.args.self.now c.are_choices.ensures new (v ∙ c.remove.ensures.choices) k c.first_beaten-to.ensures c.index-self-7.result free c.new.ensures.in_range c.ranges.pref.fits))
+    let is : filled c.put.new.slots ≡ choices_with c.args.self.now new = returns-clause-choices c in (
+      c.put.ensures ∙ ap (λ (s : Option Choice). take k xs ++ s ∷ take (length xs - (k + 1)) (drop k xs)) c.new.ensures.value
+          ∙ with_put xs c.self.invariant.0 c.args.self.now c.are_choices.ensures new (v ∙ c.remove.ensures.choices) k c.first_beaten-to.ensures c.index-self-7.result free ∙ ap (padded 8) (sym is),
+      subst AreChoices (sym is) (put_are xs c.self.invariant.0 c.args.self.now c.are_choices.ensures new (v ∙ c.remove.ensures.choices) k c.first_beaten-to.ensures c.index-self-7.result free c.new.ensures.in_range c.ranges.pref.fits),
+    )
 
 pub returns-clause-are : goal.returns-clause-are
 returns-clause-are c = (invariant_of-self c).1

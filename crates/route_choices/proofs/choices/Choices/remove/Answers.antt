@@ -61,9 +61,10 @@ invariant_of-self g c =
     let l : c.place-at.result < length xs = grind (arith, nat_tests, test) in
     let some = one_given c.get-2.result c.if-is_none.ensures in
     let m = at_taken g.row.ROOM xs c.self.invariant.0 c.place-at.result c.in-Some.slot.now some.0 l (sym look.1 ∙ c.get-2.ensures ∙ some.1) in
-    let left : filled c.take_out.new.slots ≡ choices_without (filled xs) c.args.hop = ap filled c.take_out.ensures ∙ left_here g.row.ROOM xs c.self.invariant.0 c.self.invariant.1 c.args.hop c.place-at.result c.place-at.ensures m in
-    (c.take_out.ensures ∙ without_here g.row.ROOM xs c.self.invariant.0 c.self.invariant.1 c.args.hop c.place-at.result c.place-at.ensures m ∙ ap (padded g.row.ROOM) (sym left),
-    subst AreChoices (sym left) (without_are (filled xs) c.self.invariant.1 c.args.hop))
+    let left : filled c.take_out.new.slots ≡ choices_without (filled xs) c.args.hop = ap filled c.take_out.ensures ∙ left_here g.row.ROOM xs c.self.invariant.0 c.self.invariant.1 c.args.hop c.place-at.result c.place-at.ensures m in (
+      c.take_out.ensures ∙ without_here g.row.ROOM xs c.self.invariant.0 c.self.invariant.1 c.args.hop c.place-at.result c.place-at.ensures m ∙ ap (padded g.row.ROOM) (sym left),
+      subst AreChoices (sym left) (without_are (filled xs) c.self.invariant.1 c.args.hop),
+    )
 
 pub returns-clause-are : goal.returns-clause-are
 returns-clause-are g c = (invariant_of-self g c).1
