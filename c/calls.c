@@ -512,8 +512,8 @@ static void followed(routes_table *t) {
     routes_follower_close(&f);
 }
 
-/* A closed table answers each call so, and changes nothing. */
-static void closed(routes_table *t) {
+/* What is no open table answers each call so, and changes nothing. */
+static void answers_closed(routes_table *t) {
     routes_route r, no_route;
     routes_change c = {77, 78};
     routes_piece p, no_piece;
@@ -537,9 +537,26 @@ static void closed(routes_table *t) {
     CHECK(routes_route_at(t, 0, &r) == ROUTES_CLOSED && routes_read(t, 0, &r, 1) == 0);
     CHECK(routes_line(t, (const uint8_t *)"count", 5) == ROUTES_CLOSED && routes_reply(t, 0, out, 4) == 0);
     CHECK(memcmp(&r, &no_route, sizeof r) == 0 && memcmp(&p, &no_piece, sizeof p) == 0);
-    CHECK(c.before == 77 && c.after == 78 && out[0] == '#' && t->at == NULL && !t->is_open);
+    CHECK(c.before == 77 && c.after == 78 && out[0] == '#');
+}
+
+/* A closed table. */
+static void closed(routes_table *t) {
+    answers_closed(t);
+    CHECK(t->at == NULL && !t->is_open);
     routes_close(t);
     CHECK(t->at == NULL && !t->is_open);
+}
+
+/* A follower in the place of a table; it has what it had. */
+static void of_another_kind(void) {
+    routes_follower f = ROUTES_FOLLOWER;
+    uint32_t hop = 77;
+    CHECK(routes_follower_open(&f) == ROUTES_OK && follow(&f, "set 10.0.0.0/8 1") == ROUTES_OK && follow(&f, "ok") == ROUTES_OK);
+    answers_closed((routes_table *)&f);
+    CHECK(routes_open((routes_table *)&f) == ROUTES_OPEN);
+    CHECK(routes_follower_get4(&f, 0x0a000001, &hop) == ROUTES_OK && hop == 1);
+    routes_follower_close(&f);
 }
 
 int main(void) {
@@ -564,6 +581,7 @@ int main(void) {
     }
     listed(&t);
     followed(&t);
+    of_another_kind();
     answered(&t);
     routes_route r;
     CHECK(routes_get4(&other, 1, &r) == ROUTES_MISSING);

@@ -35,8 +35,8 @@ enum routes_answer {
     ROUTES_OK = 0,
     ROUTES_MISSING = 1,   /* no network contains the address, or it has no hop; the network has no such hop; the index is past the end */
     ROUTES_NO_MEMORY = 2, /* malloc or realloc gave none */
-    ROUTES_CLOSED = 3,    /* the table, the index or the follower is not open */
-    ROUTES_OPEN = 4,      /* it is open already */
+    ROUTES_CLOSED = 3,    /* the table, the index or the follower is not open, or what lies there is open as another of the three */
+    ROUTES_OPEN = 4,      /* it is open already, as any of the three */
     ROUTES_FULL = 5,      /* eight other hops are stored at the network, which is the most */
     ROUTES_TOO_LONG = 6,  /* the length is over 32 for IPv4, or over 128 for IPv6 */
     ROUTES_NOT_A_LINE = 7, /* the text is no reply line of `routes lead` */

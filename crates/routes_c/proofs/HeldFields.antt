@@ -104,7 +104,7 @@ module _ {M : Type 1} {𝓤 : Ura M} (𝓛 : Logic 𝓤) where
   pub held_typed : (h : Held) → Typed held-row.mir (held_vals h)
   held_typed h = fields_typed 𝓛 h
 
--- the session that a handle has
+-- the content that a handle has
 pub taken : {X : Type 0} (o : Option X) → is_some o ≡ true → (x : X) × (o ≡ Some x)
 taken (Some x) e = (x, refl)
 taken None e = absurd (true≢false (sym e))

@@ -1,14 +1,9 @@
 -- What `routes_line` does.
-use Rattle.std.specs.Prelude.{◌≡◌, ◌⊎◌, ℕ, Bool, List, [], ◌++◌, Option, None, Some}
+use Rattle.std.specs.Prelude.{◌≡◌, ◌⊎◌, ℕ, Bool, List, [], ◌++◌}
 use Rattle.route_feed.specs.Replies.{printed}
 use Rattle.route_feed.specs.Steps.{step, turn_lines}
 use Rattle.route_lines.specs.Spelled.{command_of}
 use Rattle.routes_c.specs.declared.session.Session.{Session}
-
--- the reply that is kept
-abbrev pub reply_in : Option Session → List ℕ
-reply_in None = []
-reply_in (Some s) = s.reply.items
 
 -- the line is one step of a leader, where its command may be refused for want of memory: at 0 the printed reply is kept, at 2 a
 -- beginning of it. The table is the one after the step, and the lists stay
@@ -19,5 +14,4 @@ pub record Answered (s t : Session) (line : List ℕ) (code : ℕ) : Type 0 wher
   pub whole : code ≡ 0 → cut ≡ []
   pub reply : printed (turn_lines (step s.table (command_of line) refused)) ≡ t.reply.items ++ cut
   pub table : t.table ≡ (step s.table (command_of line) refused).next
-  pub pieces : t.pieces ≡ s.pieces
-  pub routes : t.routes ≡ s.routes
+  pub kept : t.kept ≡ s.kept

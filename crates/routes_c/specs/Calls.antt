@@ -1,17 +1,19 @@
--- What the calls of C do, by the number that they answer.
-use Rattle.std.specs.Prelude.{◌≡◌, ◌≢◌, ◌⊎◌, ℕ, true, false, List, []}
+-- What the calls of C that change a table do, by the number that they answer.
+use Rattle.std.specs.Prelude.{◌≡◌, ◌≢◌, ◌⊎◌, ◌<◌, ◌≤◌, ℕ, true, false, List, []}
 use Rattle.ipnet_blocks.specs.Blocks.{Block}
 use Rattle.route_choices.specs.declared.hop.Hop.{Hop}
 use Rattle.route_choices.specs.Choices.{holds_hop, is_one_too_many}
 use Rattle.route_laws.specs.Networks.{Stored, choices_at, routes_of, with_choice, without_choice}
 use Rattle.route_laws.specs.Tables.{match_of, match_number}
+use Rattle.routes_c.specs.Handles.{GoesOn, Keeps, session_of}
 use Rattle.routes_c.specs.Shown.{number_shown}
+use Rattle.routes_c.specs.declared.handle.Handle.{Handle}
 use Rattle.routes_c.specs.declared.session.Session.{Session}
 use Rattle.routes_c.specs.declared.shown.Change.{Change}
 
 -- the reply and the lists that are kept stay
 abbrev pub KeepsLists : Session → Session → Type 0
-KeepsLists s t = (t.reply ≡ s.reply) × (t.pieces ≡ s.pieces) × (t.routes ≡ s.routes)
+KeepsLists s t = (t.reply ≡ s.reply) × (t.kept ≡ s.kept)
 
 -- what a change tells: the hops of the addresses that the network governs, before and after
 pub record Tells (T U : List Stored) (b : Block) (change : Change) : Type 0 where
@@ -34,3 +36,11 @@ pub record Removes (T U : List Stored) (b : Block) (k : Hop) (code : ℕ) (old n
   pub removed : U ≡ without_choice T b k
   pub done : code ≡ 0 → (holds_hop (choices_at T b) k ≡ true) × Tells T U b new
   pub missing : code ≡ 1 → (holds_hop (choices_at T b) k ≡ false) × (new ≡ old)
+
+-- a call that changes a table so, and tells of it; 3 where there is none, and then nothing is told
+abbrev pub Changes : Handle → Handle → (List Stored → List Stored → ℕ → Change → Change → Type 0) → ℕ → Change → Change → Type 0
+Changes old new does code was now = GoesOn session_of old new ((code ≡ 3) × (now ≡ was)) (λ s t. does s.table t.table code was now × KeepsLists s t)
+
+-- the same at a network of this length; 6 where it is over the most, and then nothing is told
+abbrev pub ChangesAt : ℕ → ℕ → Handle → Handle → (List Stored → List Stored → ℕ → Change → Change → Type 0) → ℕ → Change → Change → Type 0
+ChangesAt most len old new does code was now = (most < len → (code ≡ 6) × (now ≡ was) × Keeps old new) × (len ≤ most → Changes old new does code was now)

@@ -1,13 +1,12 @@
 pub mod Answered
 pub mod Calls
-pub mod FollowerHeld
+pub mod Contents
 pub mod Followers
 pub mod Handles
 pub mod Held
-pub mod IndexHandles
-pub mod IndexHeld
 pub mod Lists
 pub mod Many
 pub mod Opens
 pub mod RouteLists
+pub mod Runs
 pub mod Shown

@@ -1,22 +1,46 @@
--- What `routes_flat` makes, and what `routes_piece_at` reads.
-use Rattle.std.specs.Prelude.{◌≡◌, ◌⊎◌, ℕ, Option, None, Some, map}
-use Rattle.route_laws.specs.Flats.{flat_of}
-use Rattle.route_laws.specs.Networks.{routes_of}
-use Rattle.route_laws.specs.Tables.{hop_at}
+-- The lists that are kept, of pieces and of routes: made, and then read.
+use Rattle.std.specs.Prelude.{◌≡◌, ◌≢◌, ◌⊎◌, ◌<◌, ◌≤◌, ℕ, List, map}
+use Rattle.route_laws.specs.Flats.{Piece as FlatPiece, flat_of}
+use Rattle.route_laws.specs.Networks.{Stored, routes_of}
+use Rattle.route_laws.specs.Tables.{Route as TableRoute, hop_at}
+use Rattle.routes_c.specs.Handles.{GoesOn, Keeps, session_of}
+use Rattle.routes_c.specs.RouteLists.{Shown}
 use Rattle.routes_c.specs.Shown.{piece_shown}
+use Rattle.routes_c.specs.declared.handle.Handle.{Handle}
+use Rattle.routes_c.specs.declared.kept.Kept.{Kept}
 use Rattle.routes_c.specs.declared.session.Session.{Session}
-use Rattle.routes_c.specs.declared.shown.Piece.{Piece}
 
--- at 0 the list is the flat list of the table's hops; at 2 it is as it was. All else stays
-pub record Lists (s t : Session) (code : ℕ) : Type 0 where
+-- at 0 the list of pieces is this one, and else it is as it was. The routes stay
+pub record MakesPieces (k l : Kept) (ps : List FlatPiece) (code : ℕ) : Type 0 where
+  pub made : code ≡ 0 → l.pieces.items ≡ map piece_shown ps
+  pub kept : code ≢ 0 → l.pieces ≡ k.pieces
+  pub routes : l.routes ≡ k.routes
+
+-- at 0 the list of routes has just routes of which the property holds, in their order, and else it is as it was. The pieces stay
+pub record MakesRoutes (k l : Kept) (P : List TableRoute → Type 0) (code : ℕ) : Type 0 where
+  pub made : code ≡ 0 → Shown P l.routes.items
+  pub kept : code ≢ 0 → l.routes ≡ k.routes
+  pub pieces : l.pieces ≡ k.pieces
+
+-- a list of a table: 0 where it is made, 2 where there is no memory. All else stays
+pub record Makes (s t : Session) (list : Kept → Kept → ℕ → Type 0) (code : ℕ) : Type 0 where
   pub answers : (code ≡ 0) ⊎ (code ≡ 2)
-  pub made : code ≡ 0 → t.pieces.items ≡ map piece_shown (flat_of (hop_at (routes_of s.table)))
-  pub no_memory : code ≡ 2 → t.pieces ≡ s.pieces
+  pub made : list s.kept t.kept code
   pub table : t.table ≡ s.table
   pub reply : t.reply ≡ s.reply
-  pub routes : t.routes ≡ s.routes
 
--- 0 and the piece; or 1 past the end, and the piece stays as it was
-abbrev pub PieceAt : Option Piece → ℕ → Piece → Piece → Type 0
-PieceAt None code old new = (code ≡ 1) × (new ≡ old)
-PieceAt (Some p) code old new = (code ≡ 0) × (new ≡ p)
+-- the flat list of the table's hops
+abbrev pub Flattens : Session → Session → ℕ → Type 0
+Flattens s t code = Makes s t (λ k l. MakesPieces k l (flat_of (hop_at (routes_of s.table)))) code
+
+-- a list of routes
+abbrev pub Lists : Session → Session → (List TableRoute → Type 0) → ℕ → Type 0
+Lists s t P code = Makes s t (λ k l. MakesRoutes k l P) code
+
+-- a call that lists routes of a table; 3 where there is none
+abbrev pub ListsOf : Handle → Handle → (List Stored → List TableRoute → Type 0) → ℕ → Type 0
+ListsOf old new P code = GoesOn session_of old new (code ≡ 3) (λ s t. Lists s t (P s.table) code)
+
+-- the same at a network of this length; 6 where it is over the most
+abbrev pub ListsAt : ℕ → ℕ → Handle → Handle → (List Stored → List TableRoute → Type 0) → ℕ → Type 0
+ListsAt most len old new P code = (most < len → (code ≡ 6) × Keeps old new) × (len ≤ most → ListsOf old new P code)

@@ -1,16 +1,52 @@
--- What `routes_open` does.
-use Rattle.std.specs.Prelude.{◌≡◌, ℕ, [], Option, None, Some}
+-- What the calls that open a handle do.
+use Rattle.std.specs.Prelude.{◌≡◌, ◌⊎◌, ℕ, [], true, false, List, Option, None, Some, MatchOption}
+use Rattle.ipnet_addr.specs.Addresses.{Address, IsAddress}
+use Rattle.hop_index.specs.Indexes.{Index, hop_of}
+use Rattle.route_laws.specs.Networks.{Stored, routes_of}
+use Rattle.route_laws.specs.Tables.{hop_at}
+use Rattle.routes_c.specs.Contents.{follower_in, index_in, table_in}
+use Rattle.routes_c.specs.declared.content.Content.{Content}
+use Rattle.routes_c.specs.declared.follower_session.FollowerSession.{FollowerSession}
+use Rattle.routes_c.specs.declared.kept.Kept.{Kept}
 use Rattle.routes_c.specs.declared.session.Session.{Session}
 
--- a new table
-pub record IsNew (s : Session) : Type 0 where
-  pub table : s.table ≡ []
-  pub reply : s.reply.items ≡ []
-  pub pieces : s.pieces.items ≡ []
-  pub routes : s.routes.items ≡ []
+-- an open handle stays as it was, with 4; a closed one has new content of this property, with 0, or stays closed, with a number of this one
+abbrev pub Opens : Option Content → Option Content → (ℕ → Type 0) → (Content → Type 0) → ℕ → Type 0
+Opens (Some c) after refused opened code = (code ≡ 4) × (after ≡ Some c)
+Opens None None refused opened code = refused code
+Opens None (Some d) refused opened code = (code ≡ 0) × opened d
 
--- an open handle stays as it was, with 4; a closed one has a new table, with 0, or stays closed, with 2
-abbrev pub Opens : Option Session → Option Session → ℕ → Type 0
-Opens (Some s) after code = (code ≡ 4) × (after ≡ Some s)
-Opens None (Some t) code = (code ≡ 0) × IsNew t
-Opens None None code = code ≡ 2
+-- no list was made yet
+pub record IsEmpty (k : Kept) : Type 0 where
+  pub pieces : k.pieces.items ≡ []
+  pub routes : k.routes.items ≡ []
+
+-- a new table
+abbrev pub IsNewTable : Content → Type 0
+IsNewTable c = MatchOption (table_in c) ⊥ (λ s. (s.table ≡ []) × (s.reply.items ≡ []) × IsEmpty s.kept)
+
+-- a follower that has taken no line
+abbrev pub IsNewFollower : Content → Type 0
+IsNewFollower c = MatchOption (follower_in c) ⊥ (λ s. (s.follower ≡ record { table = []; pending = []; failed = false }) × IsEmpty s.kept)
+
+-- the index has the hops of the table
+abbrev pub HasHopsOf : List Stored → Index → Type 0
+HasHopsOf T i = (x : Address) → IsAddress x → hop_of i x ≡ hop_at (routes_of T) x
+
+-- an index with the hops of the table
+abbrev pub IsIndexOf : List Stored → Content → Type 0
+IsIndexOf T c = MatchOption (index_in c) ⊥ (λ i. HasHopsOf T i.index)
+
+-- an index of a table: 3 where there is no table, 2 where there is no memory
+abbrev pub OpensIndex : Option Content → Option Content → Option Session → ℕ → Type 0
+OpensIndex before after None code = Opens before after (λ k. k ≡ 3) (λ c. ⊥) code
+OpensIndex before after (Some s) code = Opens before after (λ k. k ≡ 2) (IsIndexOf s.table) code
+
+-- the number of a refused index: 8 just after a fault, else 2
+abbrev pub IsNoIndex : FollowerSession → ℕ → Type 0
+IsNoIndex s code = ((code ≡ 8) × (s.follower.failed ≡ true)) ⊎ ((code ≡ 2) × (s.follower.failed ≡ false))
+
+-- an index of a follower: 3 where there is no follower
+abbrev pub OpensIndexOf : Option Content → Option Content → Option FollowerSession → ℕ → Type 0
+OpensIndexOf before after None code = Opens before after (λ k. k ≡ 3) (λ c. ⊥) code
+OpensIndexOf before after (Some s) code = Opens before after (IsNoIndex s) (λ c. (s.follower.failed ≡ false) × IsIndexOf s.follower.table c) code

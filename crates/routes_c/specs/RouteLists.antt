@@ -1,5 +1,5 @@
--- The list of routes that a handle keeps.
-use Rattle.std.specs.Prelude.{◌≡◌, ◌==◌, ◌⊎◌, ℕ, List, [], Option, None, Some, filter, map, take}
+-- Lists of routes of a table, as C has them.
+use Rattle.std.specs.Prelude.{◌≡◌, ◌==◌, ℕ, List, Option, None, Some, filter, map, take}
 use Rattle.ipnet.specs.IpNets.{block, network_at}
 use Rattle.ipnet_blocks.specs.Blocks.{Block}
 use Rattle.ipnet_blocks.specs.Maximal.{IsMaximal}
@@ -14,7 +14,6 @@ use Rattle.route_laws.specs.Tables.{Governed, Route as TableRoute, covering, hop
 use Rattle.routes_c.specs.Shown.{shown}
 use Rattle.routes_c.specs.declared.asked.Asked.{Asked}
 use Rattle.routes_c.specs.declared.asked.Asked.TheVariants as ask
-use Rattle.routes_c.specs.declared.session.Session.{Session}
 use Rattle.routes_c.specs.declared.shown.Route.{Route}
 
 -- a route as C has it
@@ -24,15 +23,6 @@ route_shown r = shown (network_at r.block) r.hop r.pref
 -- these are routes of which the property holds, in their order
 abbrev pub Shown : (List TableRoute → Type 0) → List Route → Type 0
 Shown P items = (rs : List TableRoute) × P rs × (items ≡ map route_shown rs)
-
--- at 0 the list of routes has just routes of which the property holds, in their order; at 2 it is as it was. All else stays
-pub record Makes (s t : Session) (P : List TableRoute → Type 0) (code : ℕ) : Type 0 where
-  pub answers : (code ≡ 0) ⊎ (code ≡ 2)
-  pub made : code ≡ 0 → Shown P t.routes.items
-  pub no_memory : code ≡ 2 → t.routes ≡ s.routes
-  pub table : t.table ≡ s.table
-  pub reply : t.reply ≡ s.reply
-  pub pieces : t.pieces ≡ s.pieces
 
 -- all routes of a network, best first
 abbrev pub all_routes : List Stored → Block → List TableRoute
@@ -65,13 +55,3 @@ AreAsked (ask.All n) T rs = rs ≡ all_routes T (block n)
 AreAsked (ask.Governed n) T rs = AreGoverned (routes_of T) (block n) rs
 AreAsked (ask.Own k) T rs = rs ≡ own_routes (routes_of T) k
 AreAsked ask.Least T rs = IsLeast (hop_at (routes_of T)) rs
-
--- 0 and the route; or 1 past the end, and the route stays as it was
-abbrev pub RouteAt : Option Route → ℕ → Route → Route → Type 0
-RouteAt None code old new = (code ≡ 1) × (new ≡ old)
-RouteAt (Some r) code old new = (code ≡ 0) × (new ≡ r)
-
--- the list of routes that is kept
-abbrev pub routes_in : Option Session → List Route
-routes_in None = []
-routes_in (Some s) = s.routes.items

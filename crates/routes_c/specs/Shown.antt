@@ -1,11 +1,15 @@
 -- Networks, hops and routes as C has them.
-use Rattle.std.specs.Prelude.{◌≡◌, ℕ, ◌/◌, ◌%◌, ◌^◌, nat_lt, if◌then◌else◌, Option, Some, None}
+use Rattle.std.specs.Prelude.{ℕ, ◌/◌, ◌%◌, ◌^◌, nat_lt, if◌then◌else◌, List, Option, Some, None}
+use Rattle.std.specs.Option.{option_map}
 use Rattle.ipnet.specs.IpNets.{network_at}
 use Rattle.ipnet.specs.declared.ip_net.IpNet.{IpNet}
 use Rattle.ipnet.specs.declared.ip_net.IpNet.TheVariants.{V4, V6}
+use Rattle.ipnet_blocks.specs.Blocks.{Block}
 use Rattle.route_choices.specs.declared.hop.Hop.{Hop}
 use Rattle.route_choices.specs.declared.hop.Hop.TheVariants.{Number, Drop}
 use Rattle.route_laws.specs.Flats.{Piece as FlatPiece}
+use Rattle.route_laws.specs.Networks.{Stored, routes_of}
+use Rattle.route_laws.specs.Tables.{item_of, match_of}
 use Rattle.routes_c.specs.declared.shown.Piece.{Piece}
 use Rattle.routes_c.specs.declared.shown.Route.{Route}
 
@@ -33,10 +37,13 @@ abbrev pub shown : IpNet → Hop → ℕ → Route
 shown (V4 n) k p = record { high = 0; low = n.number; hop = hop_shown k; pref = p; family = 4; len = n.len }
 shown (V6 n) k p = record { high = n.number / 2 ^ 64; low = n.number % 2 ^ 64; hop = hop_shown k; pref = p; family = 6; len = n.len }
 
--- what a query answers: 0 and the route; or 1 where there is none, and the route stays as it was
-abbrev pub Shows : Option (IpNet × Hop × ℕ) → ℕ → Route → Route → Type 0
-Shows None code old new = (code ≡ 1) × (new ≡ old)
-Shows (Some f) code old new = (code ≡ 0) × (new ≡ shown f.0 f.1 f.2)
+-- what a query answers, as C has it
+abbrev pub found_shown : IpNet × Hop × ℕ → Route
+found_shown f = shown f.0 f.1 f.2
+
+-- the longest match of a block in a table, as C has it
+abbrev pub found_at : List Stored → Block → Option Route
+found_at T b = option_map found_shown (option_map item_of (match_of (routes_of T) b))
 
 -- the block of a route, with this hop
 abbrev pub piece_of : Route → ℕ → Piece

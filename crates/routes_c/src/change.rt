@@ -1,13 +1,14 @@
 //! Changes of the table.
-ghost use Rattle.std.specs.Prelude.{◌≡◌, ◌+◌, ◌*◌, ◌^◌, ◌<◌, ◌≤◌, IfSome, None, Some};
+ghost use Rattle.std.specs.Prelude.{◌≡◌, ◌+◌, ◌*◌, ◌^◌};
 ghost use Rattle.ipnet.specs.IpNets.{block};
 ghost use Rattle.ipnet_addr.specs.Addresses.{Ipv4, Ipv6};
 ghost use Rattle.ipnet_blocks.specs.Networks.{block_of};
-ghost use Rattle.routes_c.specs.Calls.{Adds, KeepsLists, Removes};
-ghost use Rattle.routes_c.specs.Handles.{GoesOn, IsClosed, IsHandle, session_of};
+ghost use Rattle.routes_c.specs.Calls.{Adds, Changes, ChangesAt, Removes};
+ghost use Rattle.routes_c.specs.Handles.{IsHandle};
 ghost use Rattle.routes_c.specs.Shown.{given_hop};
 
 use crate::handle::Handle;
+use crate::session::Session;
 use crate::shown::{Change, given_hop, net4, net6};
 use ipnet::IpNet;
 use std::alloc::Global;
@@ -22,33 +23,21 @@ fn add(
     change: &mut Change,
 ) -> u32
     requires { IsHandle handle.old }
-    ensures handle { IsHandle handle.new }
-    ensures closed { IsClosed handle.old → (result ≡ 3) × IsClosed handle.new × (change.new ≡ change.old) }
-    ensures adds { GoesOn handle.old handle.new (λ s t. Adds s.table t.table (block net) (given_hop hop) pref result change.old change.new) }
-    ensures lists { GoesOn handle.old handle.new KeepsLists }
+    ensures { Changes handle.old handle.new (λ T U. Adds T U (block net) (given_hop hop) pref) result change.old change.new }
 {
-    let Some(mut session) = handle.take(alloc) else {
-        return 3;
-    };
-    let code = session.add(net, given_hop(hop), pref, change);
-    handle.put(session);
-    code
+    handle.on_with(alloc, change, 3, |session: &mut Session, change| {
+        session.add(net, given_hop(hop), pref, change)
+    })
 }
 
 /// Takes a route of the network out.
 fn del(alloc: Global, handle: &mut Handle, net: &IpNet, hop: u64, change: &mut Change) -> u32
     requires { IsHandle handle.old }
-    ensures handle { IsHandle handle.new }
-    ensures closed { IsClosed handle.old → (result ≡ 3) × IsClosed handle.new × (change.new ≡ change.old) }
-    ensures removes { GoesOn handle.old handle.new (λ s t. Removes s.table t.table (block net.now) (given_hop hop) result change.old change.new) }
-    ensures lists { GoesOn handle.old handle.new KeepsLists }
+    ensures { Changes handle.old handle.new (λ T U. Removes T U (block net.now) (given_hop hop)) result change.old change.new }
 {
-    let Some(mut session) = handle.take(alloc) else {
-        return 3;
-    };
-    let code = session.del(net, given_hop(hop), change);
-    handle.put(session);
-    code
+    handle.on_with(alloc, change, 3, |session: &mut Session, change| {
+        session.del(net, given_hop(hop), change)
+    })
 }
 
 /// Adds a route of an IPv4 network, or gives the route of this hop that it has the new preference. Bits of the address past the
@@ -66,12 +55,8 @@ pub extern "C" fn routes_add4(
     pref: u16,
     change: &mut Change,
 ) -> u32
-    requires handle { IsHandle handle.old }
-    ensures handle { IsHandle handle.new }
-    ensures long { 32 < len → (result ≡ 6) × (session_of handle.new ≡ session_of handle.old) × (change.new ≡ change.old) }
-    ensures closed { len ≤ 32 → IsClosed handle.old → (result ≡ 3) × IsClosed handle.new × (change.new ≡ change.old) }
-    ensures adds { len ≤ 32 → GoesOn handle.old handle.new (λ s t. Adds s.table t.table (block_of Ipv4 (record { number = addr; len = len })) (given_hop hop) pref result change.old change.new) }
-    ensures lists { len ≤ 32 → GoesOn handle.old handle.new KeepsLists }
+    requires { IsHandle handle.old }
+    ensures { ChangesAt 32 len handle.old handle.new (λ T U. Adds T U (block_of Ipv4 (record { number = addr; len = len })) (given_hop hop) pref) result change.old change.new }
 {
     match net4(addr, len) {
         Some(net) => add(alloc, handle, net, hop, pref, change),
@@ -94,12 +79,8 @@ pub extern "C" fn routes_add6(
     pref: u16,
     change: &mut Change,
 ) -> u32
-    requires handle { IsHandle handle.old }
-    ensures handle { IsHandle handle.new }
-    ensures long { 128 < len → (result ≡ 6) × (session_of handle.new ≡ session_of handle.old) × (change.new ≡ change.old) }
-    ensures closed { len ≤ 128 → IsClosed handle.old → (result ≡ 3) × IsClosed handle.new × (change.new ≡ change.old) }
-    ensures adds { len ≤ 128 → GoesOn handle.old handle.new (λ s t. Adds s.table t.table (block_of Ipv6 (record { number = high * 2 ^ 64 + low; len = len })) (given_hop hop) pref result change.old change.new) }
-    ensures lists { len ≤ 128 → GoesOn handle.old handle.new KeepsLists }
+    requires { IsHandle handle.old }
+    ensures { ChangesAt 128 len handle.old handle.new (λ T U. Adds T U (block_of Ipv6 (record { number = high * 2 ^ 64 + low; len = len })) (given_hop hop) pref) result change.old change.new }
 {
     match net6(high, low, len) {
         Some(net) => add(alloc, handle, net, hop, pref, change),
@@ -120,12 +101,8 @@ pub extern "C" fn routes_del4(
     hop: u64,
     change: &mut Change,
 ) -> u32
-    requires handle { IsHandle handle.old }
-    ensures handle { IsHandle handle.new }
-    ensures long { 32 < len → (result ≡ 6) × (session_of handle.new ≡ session_of handle.old) × (change.new ≡ change.old) }
-    ensures closed { len ≤ 32 → IsClosed handle.old → (result ≡ 3) × IsClosed handle.new × (change.new ≡ change.old) }
-    ensures removes { len ≤ 32 → GoesOn handle.old handle.new (λ s t. Removes s.table t.table (block_of Ipv4 (record { number = addr; len = len })) (given_hop hop) result change.old change.new) }
-    ensures lists { len ≤ 32 → GoesOn handle.old handle.new KeepsLists }
+    requires { IsHandle handle.old }
+    ensures { ChangesAt 32 len handle.old handle.new (λ T U. Removes T U (block_of Ipv4 (record { number = addr; len = len })) (given_hop hop)) result change.old change.new }
 {
     match net4(addr, len) {
         Some(net) => del(alloc, handle, &net, hop, change),
@@ -147,12 +124,8 @@ pub extern "C" fn routes_del6(
     hop: u64,
     change: &mut Change,
 ) -> u32
-    requires handle { IsHandle handle.old }
-    ensures handle { IsHandle handle.new }
-    ensures long { 128 < len → (result ≡ 6) × (session_of handle.new ≡ session_of handle.old) × (change.new ≡ change.old) }
-    ensures closed { len ≤ 128 → IsClosed handle.old → (result ≡ 3) × IsClosed handle.new × (change.new ≡ change.old) }
-    ensures removes { len ≤ 128 → GoesOn handle.old handle.new (λ s t. Removes s.table t.table (block_of Ipv6 (record { number = high * 2 ^ 64 + low; len = len })) (given_hop hop) result change.old change.new) }
-    ensures lists { len ≤ 128 → GoesOn handle.old handle.new KeepsLists }
+    requires { IsHandle handle.old }
+    ensures { ChangesAt 128 len handle.old handle.new (λ T U. Removes T U (block_of Ipv6 (record { number = high * 2 ^ 64 + low; len = len })) (given_hop hop)) result change.old change.new }
 {
     match net6(high, low, len) {
         Some(net) => del(alloc, handle, &net, hop, change),

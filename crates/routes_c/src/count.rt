@@ -1,11 +1,12 @@
 //! How many networks are stored.
-ghost use Rattle.std.specs.Prelude.{◌≡◌, IfSome};
+ghost use Rattle.std.specs.Prelude.{◌≡◌};
 ghost use Rattle.ipnet_addr.specs.Addresses.{Ipv4, Ipv6};
 ghost use Rattle.route_laws.specs.Networks.{routes_of};
 ghost use Rattle.route_laws.specs.Onwards.{count_of};
-ghost use Rattle.routes_c.specs.Handles.{IsClosed, IsHandle, session_of};
+ghost use Rattle.routes_c.specs.Handles.{IsHandle, Reads, session_of};
 
 use crate::handle::Handle;
+use crate::session::Session;
 use std::alloc::Global;
 
 /// How many networks of each family are stored. It takes no memory.
@@ -18,18 +19,15 @@ pub extern "C" fn routes_count(
     ipv4: &mut usize,
     ipv6: &mut usize,
 ) -> u32
-    requires handle { IsHandle handle.old }
-    ensures handle { IsHandle handle.new }
-    ensures same { session_of handle.new ≡ session_of handle.old }
-    ensures closed { IsClosed handle.old → (result ≡ 3) × (ipv4.new ≡ ipv4.old) × (ipv6.new ≡ ipv6.old) }
-    ensures counts { IfSome (session_of handle.old) (λ s. (result ≡ 0) × (ipv4.new ≡ count_of Ipv4 (routes_of s.table)) × (ipv6.new ≡ count_of Ipv6 (routes_of s.table))) }
+    requires { IsHandle handle.old }
+    ensures { Reads session_of handle.old handle.new ((result ≡ 3) × (ipv4.new ≡ ipv4.old) × (ipv6.new ≡ ipv6.old)) (λ s. (result ≡ 0) × (ipv4.new ≡ count_of Ipv4 (routes_of s.table)) × (ipv6.new ≡ count_of Ipv6 (routes_of s.table))) }
 {
-    let Some(session) = handle.take(alloc) else {
+    let Some((v4, v6)) = handle.on(alloc, None, |session: &mut Session| {
+        Some(session.table.count())
+    }) else {
         return 3;
     };
-    let (v4, v6) = session.table.count();
     *ipv4 = v4;
     *ipv6 = v6;
-    handle.put(session);
     0
 }

@@ -1,17 +1,16 @@
 //! What an open handle of a follower has.
-ghost use Rattle.std.specs.Prelude.{◌≡◌, ◌++◌, ◌-◌, [], IfErr, IfOk, drop, false, length, min, slice_get, take};
+ghost use Rattle.std.specs.Prelude.{◌≡◌, IfErr, IfOk, false};
 ghost use Rattle.ipnet_addr.specs.Addresses.{address_of};
 ghost use Rattle.route_laws.specs.LeastTables.{IsLeast};
 ghost use Rattle.route_laws.specs.Networks.{routes_of};
 ghost use Rattle.route_laws.specs.Tables.{hop_at};
-ghost use Rattle.routes_c.specs.Followers.{FollowerLists, FollowerMakes, Follows, IsNoIndex, TellsHop};
-ghost use Rattle.routes_c.specs.IndexHandles.{HasHopsOf};
-ghost use Rattle.routes_c.specs.Lists.{PieceAt};
-ghost use Rattle.routes_c.specs.RouteLists.{RouteAt, Shown};
+ghost use Rattle.routes_c.specs.Followers.{FollowerFlattens, FollowerLists, Follows, TellsHop};
+ghost use Rattle.routes_c.specs.Opens.{HasHopsOf, IsEmpty, IsNoIndex};
+ghost use Rattle.routes_c.specs.RouteLists.{Shown};
 
 use crate::asked::items;
-use crate::session::{copy_from, piece_in, push_pieces, route_in};
-use crate::shown::{Piece, Route};
+use crate::kept::Kept;
+use crate::shown::Route;
 use hop_index::HopIndex;
 use ipnet::IpAddr;
 use route_feed::{FollowError, Follower};
@@ -21,8 +20,7 @@ use std::alloc::{AllocError, Global};
 #[derive(Drop)]
 pub struct FollowerSession {
     pub(crate) follower: Follower,
-    pub(crate) pieces: Vec<Piece>,
-    pub(crate) routes: Vec<Route>,
+    pub(crate) kept: Kept,
 }
 
 /// The routes of a least table of the hops, if the follower has not failed.
@@ -39,13 +37,11 @@ impl FollowerSession {
     /// A follower, without a list.
     pub(crate) fn new(alloc: Global, follower: Follower) -> FollowerSession
         ensures follower { result.follower ≡ follower }
-        ensures pieces { result.pieces.items ≡ [] }
-        ensures routes { result.routes.items ≡ [] }
+        ensures kept { IsEmpty result.kept }
     {
         FollowerSession {
             follower,
-            pieces: Vec::new(alloc),
-            routes: Vec::new(alloc),
+            kept: Kept::new(alloc),
         }
     }
 
@@ -79,57 +75,26 @@ impl FollowerSession {
 
     /// Makes the flat list.
     pub(crate) fn flat(&mut self, alloc: Global) -> u32
-        ensures { FollowerLists self.old self.new result }
+        ensures { FollowerFlattens self.old self.new result }
     {
-        let mut pieces = Vec::new(alloc);
         let Some(flat) = self.follower.flat() else {
             return 8;
         };
-        match push_pieces(&mut pieces, flat) {
-            Ok(()) => {
-                self.pieces = pieces;
-                0
-            }
-            Err(_) => 2,
-        }
-    }
-
-    /// The piece at an index.
-    pub(crate) fn piece_at(&self, index: usize, piece: &mut Piece) -> u32
-        ensures { PieceAt (slice_get self.now.pieces.items index) result piece.old piece.new }
-    {
-        piece_in(&self.pieces, index, piece)
+        self.kept.flat(alloc, flat)
     }
 
     /// Makes the list of routes: a least table.
     pub(crate) fn least(&mut self, alloc: Global) -> u32
-        ensures { FollowerMakes self.old self.new result }
+        ensures { FollowerLists self.old self.new result }
     {
         if self.follower.failed() {
             return 8;
         }
-        match least_of(alloc, &self.follower) {
-            Ok(routes) => {
-                self.routes = routes;
-                0
-            }
-            Err(_) => 2,
-        }
-    }
-
-    /// The route at an index.
-    pub(crate) fn route_at(&self, index: usize, route: &mut Route) -> u32
-        ensures { RouteAt (slice_get self.now.routes.items index) result route.old route.new }
-    {
-        route_in(&self.routes, index, route)
-    }
-
-    /// Copies the list of routes from an index on.
-    pub(crate) fn read(&self, from: usize, out: &mut [Route]) -> usize
-        ensures count { result ≡ min (length out.old) (length self.now.routes.items - from) }
-        ensures copied { out.new ≡ take result (drop from self.now.routes.items) ++ drop result out.old }
-    {
-        copy_from(self.routes.as_slice(), from, out)
+        let Ok(routes) = least_of(alloc, &self.follower) else {
+            return 2;
+        };
+        self.kept.routes = routes;
+        0
     }
 
     /// The hops, in an index.

@@ -1,15 +1,15 @@
-//! A handle, opened and closed.
-ghost use Rattle.std.specs.Prelude.{◌≡◌, ◌≢◌, [], None, Some, IfNone, IfSome, IsSome, true, false};
-ghost use Rattle.routes_c.specs.Handles.{GoesOn, IsClosed, IsHandle, session_of};
-ghost use Rattle.routes_c.specs.Opens.{Opens};
+//! A handle, and calls on what it has.
+ghost use Rattle.std.specs.Prelude.{◌≡◌, None, Some, Err, IfErr, IfNone, IfOk, IfSome, MatchOption, true, false};
+ghost use Rattle.std.specs.Fn.{FnOnceReturnsAtMut};
+ghost use Rattle.routes_c.specs.Handles.{GoesOn, IsClosed, IsHandle, content_of, of_kind};
+ghost use Rattle.routes_c.specs.Runs.{ReturnsAtBoth};
 
+use crate::content::{Content, Kind};
 use crate::held::Held;
-use crate::session::Session;
-use route_table::RouteTable;
 use std::alloc::Global;
 use std::mem::replace;
 
-/// A table, open or closed. Zeroed memory is a closed one.
+/// A table, an index or a follower, open or closed. Zeroed memory is a closed one.
 #[repr(C)]
 pub struct Handle {
     pub held: Held,
@@ -18,12 +18,12 @@ pub struct Handle {
 
 impl Handle {
     /// Takes what an open handle has, and leaves it closed.
-    pub(crate) fn take(&mut self, alloc: Global) -> Option<Box<Session>>
-        requires handle { IsHandle self.old }
+    pub(crate) fn take(&mut self, alloc: Global) -> Option<Box<Content>>
+        requires { IsHandle self.old }
         ensures handle { IsHandle self.new }
         ensures closed { IsClosed self.new }
         ensures none { IfNone result (IsClosed self.old) }
-        ensures some { IfSome result (λ b. session_of self.old ≡ Some b.value) }
+        ensures some { IfSome result (λ b. content_of self.old ≡ Some b.value) }
     {
         if !self.is_open {
             return None;
@@ -33,43 +33,96 @@ impl Handle {
     }
 
     /// Gives it back.
-    pub(crate) fn put(&mut self, session: Box<Session>)
+    fn put(&mut self, content: Box<Content>)
         ensures handle { IsHandle self.new }
-        ensures open { session_of self.new ≡ Some session.value }
+        ensures open { content_of self.new ≡ Some content.value }
     {
-        self.held = Held::of(session);
+        self.held = Held::of(content);
         self.is_open = true;
     }
-}
 
-/// Opens a closed handle, on a table without networks.
-///
-/// 0; 2 where there is no memory; 4 where it is open already. At 2 and 4 it is as it was.
-#[unsafe(no_mangle)]
-pub extern "C" fn routes_open(alloc: Global, handle: &mut Handle) -> u32
-    requires handle { IsHandle handle.old }
-    ensures handle { IsHandle handle.new }
-    ensures opens { Opens (session_of handle.old) (session_of handle.new) result }
-{
-    if handle.is_open {
-        return 4;
+    /// Opens a closed handle: 0; 2 where there is no memory for a box, and then it stays closed.
+    pub(crate) fn open(&mut self, alloc: Global, content: Content) -> u32
+        requires closed { IsClosed self.old }
+        requires handle { IsHandle self.old }
+        ensures handle { IsHandle self.new }
+        ensures opens { MatchOption (content_of self.new) (result ≡ 2) (λ c. (result ≡ 0) × (c ≡ content)) }
+    {
+        let Ok(content) = Box::new(alloc, content) else {
+            return 2;
+        };
+        self.put(content);
+        0
     }
-    let Ok(table) = RouteTable::new(alloc) else {
-        return 2;
-    };
-    let Ok(session) = Box::new(alloc, Session::new(alloc, table)) else {
-        return 2;
-    };
-    handle.put(session);
-    0
-}
 
-/// Closes a handle, and gives its memory back. A closed one stays closed.
-#[unsafe(no_mangle)]
-pub extern "C" fn routes_close(alloc: Global, handle: &mut Handle)
-    requires handle { IsHandle handle.old }
-    ensures handle { IsHandle handle.new }
-    ensures closed { IsClosed handle.new }
-{
-    drop(handle.take(alloc));
+    /// Makes this call on what the handle has of the kind, if anything.
+    pub(crate) fn on<K: Kind, R: Drop, F: FnOnce(&mut K) -> R>(
+        &mut self,
+        alloc: Global,
+        closed: R,
+        call: F,
+    ) -> R
+        requires handle { IsHandle self.old }
+        requires call { F.IsAlwaysCallable call }
+        ensures { GoesOn (λ h. of_kind K.part (content_of h)) self.old self.new (result ≡ closed) (λ s t. FnOnceReturnsAtMut F.FnOnce call s result t) }
+    {
+        let Some(mut content) = self.take(alloc) else {
+            return closed;
+        };
+        let Some(part) = K::of(&mut content) else {
+            self.put(content);
+            return closed;
+        };
+        let answer = call(part);
+        self.put(content);
+        answer
+    }
+
+    /// Makes this call on it, which also writes what it tells.
+    pub(crate) fn on_with<K: Kind, T, R: Drop, F: FnOnce(&mut K, &mut T) -> R>(
+        &mut self,
+        alloc: Global,
+        told: &mut T,
+        closed: R,
+        call: F,
+    ) -> R
+        requires handle { IsHandle self.old }
+        requires call { F.IsAlwaysCallable call }
+        ensures { GoesOn (λ h. of_kind K.part (content_of h)) self.old self.new ((result ≡ closed) × (told.new ≡ told.old)) (λ s t. ReturnsAtBoth F.FnOnce call s told.old result t told.new) }
+    {
+        let Some(mut content) = self.take(alloc) else {
+            return closed;
+        };
+        let Some(part) = K::of(&mut content) else {
+            self.put(content);
+            return closed;
+        };
+        let answer = call(part, told);
+        self.put(content);
+        answer
+    }
+
+    /// Makes this call on it, which also writes as much as there is room for.
+    pub(crate) fn on_slice<K: Kind, T, R: Drop, F: FnOnce(&mut K, &mut [T]) -> R>(
+        &mut self,
+        alloc: Global,
+        out: &mut [T],
+        closed: R,
+        call: F,
+    ) -> R
+        requires handle { IsHandle self.old }
+        requires call { F.IsAlwaysCallable call }
+        ensures { GoesOn (λ h. of_kind K.part (content_of h)) self.old self.new ((result ≡ closed) × (out.new ≡ out.old)) (λ s t. ReturnsAtBoth F.FnOnce call s out.old result t out.new) }
+    {
+        let Some(mut content) = self.take(alloc) else {
+            return closed;
+        };
+        let Some(part) = K::of(&mut content) else {
+            self.put(content);
+            return closed;
+        };
+        let answer = call(part, out);
+        self.put(content);
+        answer
+    }
 }

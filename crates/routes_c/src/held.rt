@@ -1,34 +1,34 @@
-//! A boxed session behind a pointer that C may keep.
+//! What an open handle has, behind a pointer that C may keep.
 ghost use Rattle.std.specs.Prelude.{◌≡◌, Option, Some, None, is_some, true};
 ghost use Rattle.std.specs.Global.{Global};
 ghost use Rattle.routes_c.specs.Held.{held_owns, held_coded};
-ghost use Rattle.routes_c.specs.declared.session.Session.{Session};
+ghost use Rattle.routes_c.specs.declared.content.Content.{Content};
 
+use crate::content::Content;
 use crate::loose::Loose;
-use crate::session::Session;
 use std::alloc::Global;
 use std::marker::Model;
 use std::ptr::null_mut;
 
-/// A session, or none. C has one pointer of it, which is null where there is none.
+/// A content, or none. C has one pointer of it, which is null where there is none.
 ///
-/// The cast hides the session's type from C. The ghost field has the session, and the struct owns its box.
+/// The cast hides the content's type from C. The ghost field has the content, and the struct owns its box.
 #[repr(C)]
 #[derive(Drop)]
 pub struct Held {
     at: *mut u8,
     alloc: Global,
-    pub ghost session: { Option Session } by { held_coded },
+    pub ghost content: { Option Content } by { held_coded },
 }
 
 impl Model for Held {
-    ghost also_owns = { λ h. held_owns h.alloc h.at h.session };
+    ghost also_owns = { λ h. held_owns h.alloc h.at h.content };
 }
 
 impl Held {
-    /// No session.
+    /// No content.
     pub(crate) fn none(alloc: Global) -> Held
-        ensures { result.session ≡ None }
+        ensures { result.content ≡ None }
     {
         Held {
             at: null_mut(),
@@ -36,15 +36,15 @@ impl Held {
         }
     }
 
-    /// The session of this box.
-    pub(crate) fn of(session: Box<Session>) -> Held
-        ensures { result.session ≡ Some session.value }
+    /// The content of this box.
+    pub(crate) fn of(content: Box<Content>) -> Held
+        ensures { result.content ≡ Some content.value }
     {
-        Held::of_loose(Loose::of(session))
+        Held::of_loose(Loose::of(content))
     }
 
-    fn of_loose(loose: Loose<Session>) -> Held
-        ensures { result.session ≡ Some loose.value }
+    fn of_loose(loose: Loose<Content>) -> Held
+        ensures { result.content ≡ Some loose.value }
     {
         let Loose { at, alloc } = loose;
         Held {
@@ -53,21 +53,21 @@ impl Held {
         }
     }
 
-    /// The session, in its box.
-    pub(crate) fn into_box(self) -> Box<Session>
-        requires { is_some self.session ≡ true }
-        ensures { self.session ≡ Some result.value }
+    /// The content, in its box.
+    pub(crate) fn into_box(self) -> Box<Content>
+        requires { is_some self.content ≡ true }
+        ensures { self.content ≡ Some result.value }
     {
         self.into_loose().into_box()
     }
 
-    fn into_loose(self) -> Loose<Session>
-        requires { is_some self.session ≡ true }
-        ensures { self.session ≡ Some result.value }
+    fn into_loose(self) -> Loose<Content>
+        requires { is_some self.content ≡ true }
+        ensures { self.content ≡ Some result.value }
     {
         let Held { at, alloc } = self;
         Loose {
-            at: at as *mut Session,
+            at: at as *mut Content,
             alloc,
         }
     }

@@ -1,33 +1,25 @@
 //! Look-ups.
-ghost use Rattle.std.specs.Prelude.{◌≡◌, ◌+◌, ◌*◌, ◌^◌, IfSome, Some};
-ghost use Rattle.std.specs.Option.{option_map};
+ghost use Rattle.std.specs.Prelude.{◌≡◌, ◌+◌, ◌*◌, ◌^◌};
 ghost use Rattle.ipnet.specs.IpNets.{block};
 ghost use Rattle.ipnet_addr.specs.Addresses.{Ipv4, Ipv6};
 ghost use Rattle.ipnet_blocks.specs.Networks.{block_of};
-ghost use Rattle.route_laws.specs.Networks.{routes_of};
-ghost use Rattle.route_laws.specs.Tables.{item_of, match_of};
-ghost use Rattle.routes_c.specs.Handles.{IsClosed, IsHandle, session_of};
-ghost use Rattle.routes_c.specs.Shown.{Shows};
+ghost use Rattle.routes_c.specs.Handles.{Finds, IsHandle, session_of};
+ghost use Rattle.routes_c.specs.Shown.{found_at};
 
 use crate::handle::Handle;
+use crate::session::Session;
 use crate::shown::{Route, net4, net6};
 use ipnet::IpNet;
 use std::alloc::Global;
 
 /// The longest match of a network.
 fn get(alloc: Global, handle: &mut Handle, net: &IpNet, route: &mut Route) -> u32
-    requires handle { IsHandle handle.old }
-    ensures handle { IsHandle handle.new }
-    ensures same { session_of handle.new ≡ session_of handle.old }
-    ensures closed { IsClosed handle.old → (result ≡ 3) × (route.new ≡ route.old) }
-    ensures found { IfSome (session_of handle.old) (λ s. Shows (option_map item_of (match_of (routes_of s.table) (block net.now))) result route.old route.new) }
+    requires { IsHandle handle.old }
+    ensures { Finds session_of handle.old handle.new (λ s. found_at s.table (block net.now)) result route.old route.new }
 {
-    let Some(session) = handle.take(alloc) else {
-        return 3;
-    };
-    let code = session.get(net, route);
-    handle.put(session);
-    code
+    handle.on_with(alloc, route, 3, |session: &mut Session, route| {
+        session.get(net, route)
+    })
 }
 
 /// The longest match of an IPv4 address.
@@ -40,11 +32,8 @@ pub extern "C" fn routes_get4(
     addr: u32,
     route: &mut Route,
 ) -> u32
-    requires handle { IsHandle handle.old }
-    ensures handle { IsHandle handle.new }
-    ensures same { session_of handle.new ≡ session_of handle.old }
-    ensures closed { IsClosed handle.old → (result ≡ 3) × (route.new ≡ route.old) }
-    ensures found { IfSome (session_of handle.old) (λ s. Shows (option_map item_of (match_of (routes_of s.table) (block_of Ipv4 (record { number = addr; len = 32 })))) result route.old route.new) }
+    requires { IsHandle handle.old }
+    ensures { Finds session_of handle.old handle.new (λ s. found_at s.table (block_of Ipv4 (record { number = addr; len = 32 }))) result route.old route.new }
 {
     match net4(addr, 32) {
         Some(net) => get(alloc, handle, &net, route),
@@ -63,11 +52,8 @@ pub extern "C" fn routes_get6(
     low: u64,
     route: &mut Route,
 ) -> u32
-    requires handle { IsHandle handle.old }
-    ensures handle { IsHandle handle.new }
-    ensures same { session_of handle.new ≡ session_of handle.old }
-    ensures closed { IsClosed handle.old → (result ≡ 3) × (route.new ≡ route.old) }
-    ensures found { IfSome (session_of handle.old) (λ s. Shows (option_map item_of (match_of (routes_of s.table) (block_of Ipv6 (record { number = high * 2 ^ 64 + low; len = 128 })))) result route.old route.new) }
+    requires { IsHandle handle.old }
+    ensures { Finds session_of handle.old handle.new (λ s. found_at s.table (block_of Ipv6 (record { number = high * 2 ^ 64 + low; len = 128 }))) result route.old route.new }
 {
     match net6(high, low, 128) {
         Some(net) => get(alloc, handle, &net, route),

@@ -1,11 +1,13 @@
 //! Networks, hops and routes as C has them.
 ghost use Rattle.std.specs.Prelude.{◌≡◌, ◌+◌, ◌*◌, ◌^◌, ◌≤◌, ◌↔◌, IsSome, IfSome};
+ghost use Rattle.std.specs.Option.{option_map};
 ghost use Rattle.ipnet_addr.specs.Addresses.{Ipv4, Ipv6, address_of};
 ghost use Rattle.ipnet.specs.declared.ip_net.IpNet.TheVariants.{V4, V6};
 ghost use Rattle.ipnet.specs.IpNets.{block, network_at};
 ghost use Rattle.route_laws.specs.Tables.{route_of};
+ghost use Rattle.routes_c.specs.Handles.{Told};
 ghost use Rattle.routes_c.specs.RouteLists.{route_shown};
-ghost use Rattle.routes_c.specs.Shown.{given_hop, hop_shown, match_shown, number_shown, piece_shown, shown, Shows};
+ghost use Rattle.routes_c.specs.Shown.{found_shown, given_hop, hop_shown, match_shown, number_shown, piece_shown, shown};
 
 use ipnet::{IpAddr, IpNet, Ipv4Net, Ipv6Net};
 use ipnet_addr::bits::{ipv4_of, ipv6_of};
@@ -174,7 +176,7 @@ pub(crate) fn shown_at(net: &IpNet, hop: Hop, pref: u16) -> Route
 
 /// What `get` answers, as C has it.
 pub(crate) fn show(found: Option<(IpNet, Hop, u16)>, route: &mut Route) -> u32
-    ensures { Shows found result route.old route.new }
+    ensures { Told (option_map found_shown found) result route.old route.new }
 {
     match found {
         Some((net, hop, pref)) => {

@@ -1,7 +1,7 @@
-use Rattle.std.proofs.Common.{◌≡◌, ◌∙◌, ◌++◌, Bool, true, false, true≢false, None, Some, is_some, ap, arith, inl, map, refl}
+use Rattle.std.proofs.Common.{◌≡◌, Bool, true, false, true≢false, None, Some, is_some, ap, arith, inl, inr, refl, subst}
 use Rattle.route_feed.proofs.Told.{flat_is}
 use Rattle.route_laws.specs.Networks.{routes_of}
-use Rattle.routes_c.specs.Shown.{piece_shown}
+use Rattle.routes_c.specs.Lists.{MakesPieces}
 use Rattle.routes_c.proofs.follower_session.FollowerSession.flat.Goals as goal
 
 -- where there is a list, there was no fault
@@ -9,15 +9,12 @@ works_at : {A : Type 0} (b : Bool) (x : A) → (b ≡ true → Some x ≡ None) 
 works_at true x h = absurd (true≢false (ap is_some (h refl)))
 works_at false x h = refl
 
-pub returns-in-Ok : goal.returns-in-Ok
-returns-in-Ok c =
+pub returns : goal.returns
+returns c =
     record {
-      answers = inl refl;
-      made = λ _. c.in-Ok.ensures ∙ ap (λ l. l ++ map piece_shown c.in-Some.flat) c.new-pieces.ensures.items
-          ∙ ap (map piece_shown) (flat_is (routes_of c.args.self.now.follower.table) c.in-Some.flat c.in-Some.ensures.flat);
-      kept = λ ne. absurd (ne refl);
-      failed = λ e. absurd (omega (arith, e));
+      answers = elim c.flat-2.ensures.answers [ inl e ↦ inl e | inr e ↦ inr (inl e) ];
+      made = subst (λ ps. MakesPieces c.args.self.now.kept c.flat-2.new.self ps c.flat-2.result) (flat_is (routes_of c.args.self.now.follower.table) c.in-Some.flat c.in-Some.ensures.flat) c.flat-2.ensures.list;
+      failed = λ e. absurd (elim c.flat-2.ensures.answers [ inl z ↦ omega (arith, e, z) | inr z ↦ omega (arith, e, z) ]);
       works = λ _. works_at c.args.self.now.follower.failed c.in-Some.flat c.in-Some.ensures.failed;
       follower = refl;
-      routes = refl;
     }

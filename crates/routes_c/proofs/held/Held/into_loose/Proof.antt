@@ -1,11 +1,11 @@
--- The pointer has its type again. What the handle owned is what the parts own, since it has a session.
+-- The pointer has its type again. What the handle owned is what the parts own, since it has one.
 use Rattle.routes_c.proofs.Steps.{[], ◌∷◌, refl, Option, proved, ftrue, fact, ‵, raw, ◌⊛◌, ◌$◌, ◌∵◌, !, qed, move, keep, done, join, split, fsplit, fjoin, rewrite, suffices, enter, of_opd, fld, stop, and_then, no_more, returns, alloc_all, pass_all, free_all, look_at, get, get_in, sets, agg, whole, sub, yes, rawptr_Lawful, plain, nothing, owned, heard, Is, Stays, walk_of, says, stay_dropped, Goes-dropped, ends_at, to}
 use Rattle.routes_c.proofs.HeldFields.{LooseFields, Loose-row, allocator_typed, held_vals, held_tells, held_typed, loose_fields_are, loose_fields_made, loose_typed, loose_vals, taken}
 use Rattle.routes_c.specs.Held.{held_owns}
 use Rattle.routes_c.specs.contracts.held.Held.into_loose as f
 use Rattle.routes_c.specs.contracts.held.Held.{the_row as H}
 use Rattle.routes_c.specs.contracts.loose.Loose.{the_type}
-use Rattle.routes_c.specs.contracts.session.Session.{the_row as S}
+use Rattle.routes_c.specs.contracts.content.Content.{the_row as S}
 use Rattle.routes_c.proofs.held.Held.into_loose.Statement.{statement}
 use Rattle.routes_c.proofs.held.Held.into_loose.Code as code
 
@@ -21,12 +21,12 @@ into_loose_spec 𝓤 𝓛 𝓜 𝓡 wired =
     let h = a.0 in
     let y : W.Ghost = ((κs, qs, bounds, a, (held_vals h, tt)), tt) in
     qed 𝓛 ((‵ ftrue ⊛ ‵ (H.own_val h (held_vals h)) ⊛ ‵ ftrue) ∷ raw (fact 𝓤 _) ∷ []) ∵
-    move ! (1 ∷ []) $ heard ! _ (λ has. let s = taken h.session has in
+    move ! (1 ∷ []) $ heard ! _ (λ has. let s = taken h.content has in
     let l : (Loose-row S).Denot = record { at = h.at; alloc = h.alloc; value = s.0 } in
     split ! $ move ! (1 ∷ []) $ split ! $ fsplit ! $ keep ! (1 ∷ []) $
     rewrite ! 0 (λ (o : Option S.Denot). ‵ (held_owns h.alloc h.at o)) s.1 refl $
     enter ! _ _ _ _ _ $ alloc_all ! (λ b. pass_all ! refl (held_typed 𝓛 h) $
-    -- [the session and its block; the locals]
+    -- [the content and its block; the locals]
     sets ! (of_opd ! (get_in ! (fld ! refl (stop !)) (sub ! 0 refl (whole !)))) refl ((rawptr_Lawful 𝓛).typed h.at _ refl).0 $
     sets ! (of_opd ! (get_in ! (fld ! refl (stop !)) (sub ! 1 refl (whole !)))) refl (allocator_typed 𝓛 h.alloc).0 $
     sets ! (of_opd ! (get ! refl)) refl ((rawptr_Lawful 𝓛).typed h.at _ refl).0 $

@@ -1,4 +1,4 @@
--- A handle without a session: a null pointer, which owns nothing.
+-- A handle without a content: a null pointer, which owns nothing.
 use Rattle.routes_c.proofs.Steps.{[], ◌∷◌, refl, None, proved, ftrue, ‵, raw, ◌$◌, ◌∵◌, !, qed, drop, done, join, fjoin, suffices, enter, lit, and_then, no_more, returns, alloc_all, pass_all, free_all, look_at, get, sets, agg, yes, null_ptr, plain, nothing, owned, on_entry, Is, Stays, walk_of, says, stay_dropped, Goes-dropped, ends_at, to}
 use Rattle.routes_c.proofs.HeldFields.{Fields, allocator_typed, fields_are, fields_made, fields_typed}
 use Rattle.std_heap.specs.contracts.Global.{the_row as G}
@@ -19,7 +19,7 @@ none_spec 𝓤 𝓛 𝓜 𝓡 wired =
     proved 𝓛 f.ended stayed c 𝓜 𝓡 (Goes-dropped 𝓛 0 (plain (λ _. G)) yes (λ κs x w. refl), tt)
     f.Key.name code.function (code.unfolded 𝓤 𝓛.H 𝓜 𝓡 wired)
     (λ κs. ((λ g. global.lowered g ∷ []), tt)) (λ κs. (global.lowers.val_is, tt)) (λ κs qs bounds a n are.
-    let h : Held = record { at = null_ptr; alloc = a.0; session = None } in
+    let h : Held = record { at = null_ptr; alloc = a.0; content = None } in
     let y : W.Ghost = ((κs, qs, bounds, a, (global.lowered a.0 ∷ [], tt)), tt) in
     qed 𝓛 (raw (on_entry 𝓛 f.signature κs qs a y.0.4) ∷ ‵ ftrue ∷ []) ∵ drop ! $ drop ! $
     enter ! _ _ _ _ _ $ alloc_all ! (λ l. pass_all ! refl (allocator_typed 𝓛 a.0) $

@@ -3,7 +3,7 @@ use Rattle.routes_c.proofs.Steps.{[], ◌∷◌, refl, Some, proved, ftrue, ‵,
 use Rattle.routes_c.proofs.HeldFields.{Fields, Loose-row, allocator_typed, fields_are, fields_made, fields_typed, loose_vals, loose_tells, loose_typed}
 use Rattle.routes_c.specs.contracts.held.Held.of_loose as f
 use Rattle.routes_c.specs.contracts.held.Held.{the_type}
-use Rattle.routes_c.specs.contracts.session.Session.{the_row as S}
+use Rattle.routes_c.specs.contracts.content.Content.{the_row as S}
 use Rattle.routes_c.specs.declared.held.Held.{Held}
 use Rattle.routes_c.proofs.held.Held.TheLaws as laws
 use Rattle.routes_c.proofs.held.Held.of_loose.Statement.{statement}
@@ -18,12 +18,12 @@ of_loose_spec 𝓤 𝓛 𝓜 𝓡 wired =
     proved 𝓛 f.ended stayed c 𝓜 𝓡 (Goes-dropped 𝓛 0 (plain (λ _. Loose-row S)) yes (λ κs x w. refl), tt)
     f.Key.name code.function (code.unfolded 𝓤 𝓛.H 𝓜 𝓡 wired)
     (λ κs. (loose_vals S, tt)) (λ κs. (loose_tells S, tt)) (λ κs qs bounds a n are.
-    let h : Held = record { at = a.0.at; alloc = a.0.alloc; session = Some a.0.value } in
+    let h : Held = record { at = a.0.at; alloc = a.0.alloc; content = Some a.0.value } in
     let y : W.Ghost = ((κs, qs, bounds, a, (loose_vals S a.0, tt)), tt) in
     qed 𝓛 ((‵ ftrue ⊛ ‵ ((Loose-row S).own_val a.0 (loose_vals S a.0)) ⊛ ‵ ftrue) ∷ ‵ ftrue ∷ []) ∵
     split ! $ move ! (1 ∷ []) $ split ! $ fsplit ! $ keep ! (1 ∷ []) $
     enter ! _ _ _ _ _ $ alloc_all ! (λ l. pass_all ! refl (loose_typed 𝓛 S a.0) $
-    -- [the session and its block; the locals]
+    -- [the content and its block; the locals]
     sets ! (of_opd ! (get_in ! (fld ! refl (stop !)) (sub ! 0 refl (whole !)))) refl ((rawptr_Lawful 𝓛).typed a.0.at _ refl).0 $
     sets ! (of_opd ! (get_in ! (fld ! refl (stop !)) (sub ! 1 refl (whole !)))) refl (allocator_typed 𝓛 a.0.alloc).0 $
     sets ! (of_opd ! (get ! refl)) refl ((rawptr_Lawful 𝓛).typed a.0.at _ refl).0 $

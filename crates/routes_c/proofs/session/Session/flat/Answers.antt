@@ -1,17 +1,14 @@
-use Rattle.std.proofs.Common.{◌∙◌, ◌++◌, ap, arith, inl, map, refl}
+use Rattle.std.proofs.Common.{refl, subst}
 use Rattle.route_feed.proofs.Told.{flat_is}
 use Rattle.route_laws.specs.Networks.{routes_of}
-use Rattle.routes_c.specs.Shown.{piece_shown}
+use Rattle.routes_c.specs.Lists.{MakesPieces}
 use Rattle.routes_c.proofs.session.Session.flat.Goals as goal
 
-pub returns-in-Ok : goal.returns-in-Ok
-returns-in-Ok c =
+pub returns : goal.returns
+returns c =
     record {
-      answers = inl refl;
-      made = λ _. c.in-Ok.ensures ∙ ap (λ l. l ++ map piece_shown c.flat.result) c.new-pieces.ensures.items
-          ∙ ap (map piece_shown) (flat_is (routes_of c.args.self.now.table) c.flat.result c.flat.ensures.flat);
-      no_memory = λ e. absurd (omega (arith, e));
+      answers = c.flat-2.ensures.answers;
+      made = subst (λ ps. MakesPieces c.args.self.now.kept c.flat-2.new.self ps c.flat-2.result) (flat_is (routes_of c.args.self.now.table) c.flat.result c.flat.ensures.flat) c.flat-2.ensures.list;
       table = refl;
       reply = refl;
-      routes = refl;
     }

@@ -1,0 +1,199 @@
+//! Hops of addresses as numbers, of a table and of an index: one, or many in one call.
+ghost use Rattle.std.specs.Prelude.{◌≡◌, ℕ, Some, length, map};
+ghost use Rattle.routes_c.specs.Handles.{Finds, IsHandle, index_of, session_of};
+ghost use Rattle.routes_c.specs.Many.{Answers, Fills, hop4_at, hop6_at, index_hop4, index_hop6};
+
+use crate::handle::Handle;
+use crate::index_session::IndexSession;
+use crate::session::Session;
+use crate::shown::{Addr6, ip4, ip6, net4, net6, shown_match, shown_number};
+use hop_index::HopIndex;
+use route_table::RouteTable;
+use std::alloc::Global;
+
+/// What tells the hop of an address as one number.
+pub(crate) trait Hops<A> {
+    ghost number: { Self → A → ℕ };
+
+    /// The hop of this address.
+    fn hop_number(&self, addr: A) -> u64
+        ensures { result ≡ number self.now addr };
+}
+
+impl Hops<u32> for RouteTable {
+    ghost number = { hop4_at };
+
+    fn hop_number(&self, addr: u32) -> u64 {
+        match net4(addr, 32) {
+            Some(net) => shown_match(self.get(&net)),
+            None => shown_match(None),
+        }
+    }
+}
+
+impl Hops<Addr6> for RouteTable {
+    ghost number = { hop6_at };
+
+    fn hop_number(&self, addr: Addr6) -> u64 {
+        match net6(addr.high, addr.low, 128) {
+            Some(net) => shown_match(self.get(&net)),
+            None => shown_match(None),
+        }
+    }
+}
+
+impl Hops<u32> for HopIndex {
+    ghost number = { index_hop4 };
+
+    fn hop_number(&self, addr: u32) -> u64 {
+        shown_number(self.hop(ip4(addr)))
+    }
+}
+
+impl Hops<Addr6> for HopIndex {
+    ghost number = { index_hop6 };
+
+    fn hop_number(&self, addr: Addr6) -> u64 {
+        shown_number(self.hop(ip6(addr.high, addr.low)))
+    }
+}
+
+/// The hops of as many addresses.
+fn fill_all<A: Copy, T: Hops<A>>(told: &T, addrs: &[A], hops: &mut [u64])
+    requires { length hops.old ≡ length addrs.now }
+    ensures { hops.new ≡ map (T.number told.now) addrs.now }
+{
+    for place in 0..addrs.len() {
+        hops[place] = told.hop_number(addrs[place]);
+    }
+}
+
+/// The hops of as many addresses as there is room for.
+fn fill<A: Copy, T: Hops<A>>(told: &T, addrs: &[A], hops: &mut [u64]) -> u32
+    ensures answers { result ≡ 0 }
+    ensures hops { Fills (T.number told.now) addrs.now hops.old hops.new }
+{
+    let count = addrs.len().min(hops.len());
+    fill_all(told, &addrs[..count], &mut hops[..count]);
+    0
+}
+
+/// The hop of one address.
+fn tell_hop<A, T: Hops<A>>(told: &T, addr: A, hop: &mut u64) -> u32
+    ensures answers { result ≡ 0 }
+    ensures hop { hop.new ≡ T.number told.now addr }
+{
+    *hop = told.hop_number(addr);
+    0
+}
+
+/// The hops of the longest matches of many IPv4 addresses, each as one number: 2^32 is `drop`, and 2^33 no match. As many are
+/// answered as there are addresses and room; what is left of `hops` stays. It takes no memory.
+///
+/// 0; 3 where the handle is closed, and then `hops` is as it was.
+#[unsafe(no_mangle)]
+pub extern "C" fn routes_get4_many(
+    alloc: Global,
+    handle: &mut Handle,
+    addrs: &[u32],
+    hops: &mut [u64],
+) -> u32
+    requires { IsHandle handle.old }
+    ensures { Answers session_of handle.old handle.new (λ s. hop4_at s.table) addrs.now result hops.old hops.new }
+{
+    handle.on_slice(alloc, hops, 3, |session: &mut Session, hops| {
+        fill(&session.table, addrs, hops)
+    })
+}
+
+/// The hops of the longest matches of many IPv6 addresses, as `routes_get4_many` answers them. It takes no memory.
+///
+/// 0; 3 where the handle is closed, and then `hops` is as it was.
+#[unsafe(no_mangle)]
+pub extern "C" fn routes_get6_many(
+    alloc: Global,
+    handle: &mut Handle,
+    addrs: &[Addr6],
+    hops: &mut [u64],
+) -> u32
+    requires { IsHandle handle.old }
+    ensures { Answers session_of handle.old handle.new (λ s. hop6_at s.table) addrs.now result hops.old hops.new }
+{
+    handle.on_slice(alloc, hops, 3, |session: &mut Session, hops| {
+        fill(&session.table, addrs, hops)
+    })
+}
+
+/// The hop of an IPv4 address; 2^32 where it has none. It takes no memory.
+///
+/// 0; 3 where the handle is closed, and then `hop` is as it was.
+#[unsafe(no_mangle)]
+pub extern "C" fn routes_index_hop4(
+    alloc: Global,
+    index: &mut Handle,
+    addr: u32,
+    hop: &mut u64,
+) -> u32
+    requires { IsHandle index.old }
+    ensures { Finds index_of index.old index.new (λ s. Some (index_hop4 s.index addr)) result hop.old hop.new }
+{
+    index.on_with(alloc, hop, 3, |session: &mut IndexSession, hop| {
+        tell_hop(&session.index, addr, hop)
+    })
+}
+
+/// The hop of an IPv6 address; 2^32 where it has none. It takes no memory.
+///
+/// 0; 3 where the handle is closed, and then `hop` is as it was.
+#[unsafe(no_mangle)]
+pub extern "C" fn routes_index_hop6(
+    alloc: Global,
+    index: &mut Handle,
+    high: u64,
+    low: u64,
+    hop: &mut u64,
+) -> u32
+    requires { IsHandle index.old }
+    ensures { Finds index_of index.old index.new (λ s. Some (index_hop6 s.index (record { high = high; low = low }))) result hop.old hop.new }
+{
+    index.on_with(alloc, hop, 3, |session: &mut IndexSession, hop| {
+        tell_hop(&session.index, Addr6 { high, low }, hop)
+    })
+}
+
+/// The hops of many IPv4 addresses, as `routes_index_hop4` tells them. As many are answered as there are addresses and room; what is
+/// left of `hops` stays. It takes no memory.
+///
+/// 0; 3 where the handle is closed, and then `hops` is as it was.
+#[unsafe(no_mangle)]
+pub extern "C" fn routes_index_hop4_many(
+    alloc: Global,
+    index: &mut Handle,
+    addrs: &[u32],
+    hops: &mut [u64],
+) -> u32
+    requires { IsHandle index.old }
+    ensures { Answers index_of index.old index.new (λ s. index_hop4 s.index) addrs.now result hops.old hops.new }
+{
+    index.on_slice(alloc, hops, 3, |session: &mut IndexSession, hops| {
+        fill(&session.index, addrs, hops)
+    })
+}
+
+/// The hops of many IPv6 addresses, as `routes_index_hop4_many` tells those of IPv4. It takes no memory.
+///
+/// 0; 3 where the handle is closed, and then `hops` is as it was.
+#[unsafe(no_mangle)]
+pub extern "C" fn routes_index_hop6_many(
+    alloc: Global,
+    index: &mut Handle,
+    addrs: &[Addr6],
+    hops: &mut [u64],
+) -> u32
+    requires { IsHandle index.old }
+    ensures { Answers index_of index.old index.new (λ s. index_hop6 s.index) addrs.now result hops.old hops.new }
+{
+    index.on_slice(alloc, hops, 3, |session: &mut IndexSession, hops| {
+        fill(&session.index, addrs, hops)
+    })
+}

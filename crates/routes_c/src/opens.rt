@@ -1,0 +1,129 @@
+//! Handles opened and closed.
+ghost use Rattle.std.specs.Prelude.{◌≡◌, Err, IfErr, IfOk, MatchOption, true, false, ⊤};
+ghost use Rattle.routes_c.specs.Handles.{IsClosed, IsHandle, Reads, content_of, follower_of, session_of};
+ghost use Rattle.routes_c.specs.Opens.{IsNewFollower, IsNewTable, Opens, OpensIndex, OpensIndexOf};
+
+use crate::content::Content;
+use crate::follower_session::FollowerSession;
+use crate::handle::Handle;
+use crate::index_session::IndexSession;
+use crate::session::Session;
+use hop_index::HopIndex;
+use route_feed::Follower;
+use route_table::RouteTable;
+use std::alloc::Global;
+
+/// Opens a closed handle, on a table without networks.
+///
+/// 0; 2 where there is no memory; 4 where it is open already. At 2 and 4 it is as it was.
+#[unsafe(no_mangle)]
+pub extern "C" fn routes_open(alloc: Global, handle: &mut Handle) -> u32
+    requires { IsHandle handle.old }
+    ensures handle { IsHandle handle.new }
+    ensures opens { Opens (content_of handle.old) (content_of handle.new) (λ k. k ≡ 2) IsNewTable result }
+{
+    if handle.is_open {
+        return 4;
+    }
+    let Ok(table) = RouteTable::new(alloc) else {
+        return 2;
+    };
+    handle.open(alloc, Content::Table(Session::new(alloc, table)))
+}
+
+/// Closes a handle, and gives its memory back. A closed one stays closed.
+#[unsafe(no_mangle)]
+pub extern "C" fn routes_close(alloc: Global, handle: &mut Handle)
+    requires { IsHandle handle.old }
+    ensures handle { IsHandle handle.new }
+    ensures closed { IsClosed handle.new }
+{
+    drop(handle.take(alloc));
+}
+
+/// Opens a closed handle, on a follower that has taken no line: no address has a hop.
+///
+/// 0; 2 where there is no memory; 4 where it is open already. At 2 and 4 it is as it was.
+#[unsafe(no_mangle)]
+pub extern "C" fn routes_follower_open(alloc: Global, follower: &mut Handle) -> u32
+    requires { IsHandle follower.old }
+    ensures handle { IsHandle follower.new }
+    ensures opens { Opens (content_of follower.old) (content_of follower.new) (λ k. k ≡ 2) IsNewFollower result }
+{
+    if follower.is_open {
+        return 4;
+    }
+    let Ok(made) = Follower::new(alloc) else {
+        return 2;
+    };
+    follower.open(alloc, Content::Follower(FollowerSession::new(alloc, made)))
+}
+
+/// Closes a handle, as `routes_close` does.
+#[unsafe(no_mangle)]
+pub extern "C" fn routes_follower_close(alloc: Global, follower: &mut Handle)
+    requires { IsHandle follower.old }
+    ensures handle { IsHandle follower.new }
+    ensures closed { IsClosed follower.new }
+{
+    drop(follower.take(alloc));
+}
+
+/// Opens a closed handle, on the hops that an open table has now: a copy, which no later change of the table reaches.
+///
+/// 0; 2 where there is no memory; 3 where the table is closed; 4 where the handle is open already. At all but 0 it is as it was.
+#[unsafe(no_mangle)]
+pub extern "C" fn routes_index_open(alloc: Global, index: &mut Handle, table: &mut Handle) -> u32
+    requires index { IsHandle index.old }
+    requires table { IsHandle table.old }
+    ensures index { IsHandle index.new }
+    ensures table { Reads session_of table.old table.new ⊤ (λ s. ⊤) }
+    ensures opens { OpensIndex (content_of index.old) (content_of index.new) (session_of table.old) result }
+{
+    if index.is_open {
+        return 4;
+    }
+    match table.on(alloc, Err(3), |session: &mut Session| session.index(alloc)) {
+        Ok(made) => index.open(alloc, Content::Index(IndexSession { index: made })),
+        Err(code) => code,
+    }
+}
+
+/// Opens a closed handle of an index, on the hops that an open follower has now: a copy, which no later line reaches.
+///
+/// 0; 2 where there is no memory; 3 where the follower is closed; 4 where the index is open already; 8 after a fault of the follower. At
+/// all but 0 the index is as it was.
+#[unsafe(no_mangle)]
+pub extern "C" fn routes_follower_index(
+    alloc: Global,
+    index: &mut Handle,
+    follower: &mut Handle,
+) -> u32
+    requires index { IsHandle index.old }
+    requires follower { IsHandle follower.old }
+    ensures index { IsHandle index.new }
+    ensures follower { Reads follower_of follower.old follower.new ⊤ (λ s. ⊤) }
+    ensures opens { OpensIndexOf (content_of index.old) (content_of index.new) (follower_of follower.old) result }
+{
+    if index.is_open {
+        return 4;
+    }
+    match follower.on(
+        alloc,
+        Err(3),
+        |session: &mut FollowerSession| session.index(alloc),
+    ) {
+        Ok(made) => index.open(alloc, Content::Index(IndexSession { index: made })),
+        Err(code) => code,
+    }
+}
+
+/// Closes a handle, as `routes_close` does.
+#[unsafe(no_mangle)]
+pub extern "C" fn routes_index_close(alloc: Global, index: &mut Handle)
+    requires { IsHandle index.old }
+    ensures handle { IsHandle index.new }
+    ensures closed { IsClosed index.new }
+{
+    drop(index.take(alloc));
+}
