@@ -18,20 +18,20 @@ use Rattle.route_feed.specs.declared.counted.Counted.{Counted}
 use Rattle.route_feed.specs.declared.error.RunError.{RunError}
 use Rattle.route_feed.specs.declared.error.RunError.TheVariants as Why
 use Rattle.route_feed.specs.declared.follower.Waiting.{Waiting}
-use Rattle.route_feed.specs.InnerInstalling.{Begun, GivesChanges, WritesChanges, batch_bytes, operation_bytes, routes_waiting, route_waiting, update_line}
-use Rattle.route_feed.specs.InnerReplies.{Written, reply_line}
+use Rattle.route_feed.specs.InnerInstalling.{Begun, GivesChanges, WritesChanges, batch_bytes, operation_bytes, routes_waiting, route_waiting}
+use Rattle.route_feed.specs.InnerLines.{reply_line, update_line}
+use Rattle.route_feed.specs.InnerReplies.{Written}
 use Rattle.route_feed.specs.Installing.{operation_line, printed_updates}
 use Rattle.route_feed.specs.Devices.{Closes, Torn}
-use Rattle.route_feed.proofs.Adding.{before_place}
+use Rattle.route_feed.proofs.InTurn.{after-append, made-append}
+use Rattle.route_feed.proofs.Carried.{before_place}
 use Rattle.route_feed.proofs.Written.{Closes-written, Torn-after, Torn-longer, Written-nil, Written-trans}
 
 batch-append : (M rs ss : List Route) → batch M (rs ++ ss) ≡ batch M rs ++ batch (painted_all M rs) ss
-batch-append M [] ss = refl
-batch-append M (r ∷ rs) ss = ap (λ l. between M (painted M r) ++ l) (batch-append (painted M r) rs ss) ∙ sym (append_assoc (between M (painted M r)) (batch (painted M r) rs) (batch (painted_all (painted M r) rs) ss))
+batch-append = made-append painted painted_all (λ s. refl) (λ s e es. refl) (λ M r. between M (painted M r)) batch (λ s. refl) (λ s e es. refl)
 
 painted_all-append : (M rs ss : List Route) → painted_all M (rs ++ ss) ≡ painted_all (painted_all M rs) ss
-painted_all-append M [] ss = refl
-painted_all-append M (r ∷ rs) ss = painted_all-append (painted M r) rs ss
+painted_all-append = after-append painted painted_all (λ s. refl) (λ s e es. refl)
 
 pub operations-append : (os ps : List Operation) → operation_bytes (os ++ ps) ≡ operation_bytes os ++ operation_bytes ps
 operations-append os ps = ap printed_updates (map-append operation_line os ps) ∙ flat_map-append update_line (map operation_line os) (map operation_line ps)
@@ -58,41 +58,15 @@ module _ {W : Type 0} (contents : W → Option (List ℕ)) where
     written = p.written;
   }
 
--- all operations but those that are left were written
-pub record Wrote {W : Type 0} (contents : W → Option (List ℕ)) (old new : Counted W) (all left : List Operation) : Type 0 where
-  pub done : List ℕ
-  pub split : operation_bytes all ≡ done ++ operation_bytes left
-  pub written : Written contents old new done
-
 -- an operation that is given, as an update
 same_update : (o : Given.Operation) → network_of o ≡ network_at (block (network_of o)) → text.update_for o ≡ operation_line (operation_of o)
 same_update (One.Install net hop) e = λ i. U.Install (e i) hop
 same_update (One.Remove net) e = λ i. U.Remove (e i)
 
-module _ {W : Type 0} (contents : W → Option (List ℕ)) where
-  pub Wrote-nil : (w : Counted W) (os : List Operation) → Wrote contents w w os os
-  Wrote-nil w os = record { done = []; split = refl; written = Written-nil contents w }
-
-  module _ (a b c : Counted W) (all left later : List Operation) (o : Given.Operation) (p : Wrote contents a b all left) (e : left ≡ operation_of o ∷ later) (cleared : network_of o ≡ network_at (block (network_of o)))
-      (u : Update) (is : u ≡ text.update_for o) where
-    next_split : operation_bytes all ≡ p.done ++ (update_line u ++ operation_bytes later)
-    next_split = p.split ∙ ap (λ l. p.done ++ operation_bytes l) e ∙ ap (λ v. p.done ++ (update_line v ++ operation_bytes later)) (sym (is ∙ same_update o cleared))
-
-    pub Wrote-more : Written contents b c (update_line u) → Wrote contents a c all later
-    Wrote-more q = record {
-      done = p.done ++ update_line u;
-      split = next_split ∙ sym (append_assoc p.done (update_line u) (operation_bytes later));
-      written = Written-trans contents a b c p.done (update_line u) p.written q;
-    }
-
-    -- the writer failed in the next line
-    pub Wrote-torn : Torn contents b c (update_line u) → Torn contents a c (operation_bytes all)
-    Wrote-torn q =
-        subst (Torn contents a c) (sym next_split)
-        (Torn-after contents a b c p.done (update_line u ++ operation_bytes later) p.written (Torn-longer contents b c (update_line u) (operation_bytes later) q))
-
-  pub Wrote-all : (a b : Counted W) (all left : List Operation) → Wrote contents a b all left → left ≡ [] → Written contents a b (operation_bytes all)
-  Wrote-all a b all left p e = subst (Written contents a b) (sym (p.split ∙ ap (λ l. p.done ++ operation_bytes l) e ∙ append-nil p.done)) p.written
+-- the line of the next operation
+pub next_line : (left later : List Operation) (o : Given.Operation) → left ≡ operation_of o ∷ later → network_of o ≡ network_at (block (network_of o)) → (u : Update) → u ≡ text.update_for o
+    → operation_bytes left ≡ update_line u ++ operation_bytes later
+next_line left later o e cleared u is = ap operation_bytes e ∙ ap (λ v. update_line v ++ operation_bytes later) (sym (is ∙ same_update o cleared))
 
 -- the next change of some
 module _ (M : List Route) (ws : List Waiting) (i : ℕ) (w : Waiting) (within : i < length ws) (is : w ≡ slice_index_or ws i w) where

@@ -4,22 +4,17 @@ use Rattle.std.specs.List.{filter_map}
 use Rattle.std.specs.Prelude.{IfSome, IsSome, OnOk}
 use Rattle.std.specs.Io.KnownBytes.{Appends}
 use Rattle.std.proofs.KnownBytes.{Consumes-whole}
-use Rattle.std.proofs.lemmas.Bool.Decides.{nat_tests}
 use Rattle.std.proofs.lemmas.List.Elements.{All-cons, All-nil}
 use Rattle.ipnet_addr.specs.Addresses.{Address, IsAddress}
 use Rattle.ipnet_addr.proofs.Ascending.{In-from_All, All-from_In}
 use Rattle.route_lines.specs.Bytes.{lines}
 use Rattle.route_lines.specs.Lines.{line_of, lines_in}
-use Rattle.route_lines.specs.InnerPhrase.{Gives}
 use Rattle.route_lines.specs.Spelled.{reply_of}
-use Rattle.route_lines.specs.Texts.{IsReply}
 use Rattle.route_lines.specs.declared.cutter.Line.{Line}
 use Rattle.route_lines.specs.declared.cutter.Rest.{Rest}
 use Rattle.route_lines.specs.declared.reply.Closing.TheVariants.{Done}
 use Rattle.route_lines.specs.declared.reply.Reply.{Reply}
 use Rattle.route_lines.specs.declared.reply.Reply.TheVariants.{Close}
-use Rattle.route_lines.proofs.Replies as grammar
-use Rattle.route_lines.proofs.Spells.{reply_found}
 use Rattle.route_laws.specs.Flats.{Piece, IsFlat, flat_of}
 use Rattle.route_laws.specs.Networks.{routes_of}
 use Rattle.route_laws.specs.Tables.{hop_at}
@@ -30,31 +25,22 @@ use Rattle.route_feed.specs.declared.error.RunError.{RunError}
 use Rattle.route_feed.specs.declared.error.RunError.TheVariants as Why
 use Rattle.route_feed.specs.Following.{State}
 use Rattle.route_feed.specs.Follows.{AreReplies, followed, FollowEnds}
-use Rattle.route_feed.specs.InnerFollowing.{reply_in, hop_once, AllReplies}
+use Rattle.route_feed.specs.InnerFollowing.{hop_once, AllReplies}
+use Rattle.route_feed.specs.InnerLines.{reply_in}
 use Rattle.route_feed.specs.InnerReaching.{Reached, Stops}
 use Rattle.route_feed.specs.InnerRun.{Runs, TakesAll}
 use Rattle.route_feed.specs.Replies.{printed}
 use Rattle.route_feed.specs.Steps.{flat_line}
 use Rattle.route_feed.specs.Streams.{Change, ends_well, committed, painted, painted_over, pending_over, replies_in, WantsMemory}
 use Rattle.route_feed.specs.Devices.{Closes}
+use Rattle.route_feed.proofs.ReadLines.{of_replies, piece_spells}
 use Rattle.route_feed.proofs.Stepping.{Followed, Takes, followed_all, not_all, unwritten, no_read, no_write}
 
 -- ---- pieces as lines
 
-pub piece_reply : (piece : List ℕ) → reply_in (line_of piece) ≡ reply_of piece
-piece_reply piece = go (nat_lt 80 (length piece)) refl
-  where
-    long : 80 < length piece → (o : Option Reply) → Gives IsReply piece o → o ≡ None
-    long h None g = refl
-    long h (Some l) g = let s = grammar.replies.short piece l g in absurd (omega arith)
-
-    go : (b : Bool) → nat_lt 80 (length piece) ≡ b → reply_in (line_of piece) ≡ reply_of piece
-    go true e = let h : 80 < length piece = grind (arith, nat_tests, e) in rw e (sym (long h (reply_of piece) (reply_found piece)))
-    go false e = rw e refl
-
 pub lines_replies : (pieces : List (List ℕ)) → filter_map reply_in (map line_of pieces) ≡ filter_map reply_of pieces
 lines_replies [] = refl
-lines_replies (p ∷ ps) = rw (piece_reply p, lines_replies ps) refl
+lines_replies (p ∷ ps) = rw (piece_spells of_replies p, lines_replies ps) refl
 
 are_replies : (pieces : List (List ℕ)) → AllReplies (map line_of pieces) → AreReplies pieces
 are_replies [] h = All-from_In (λ piece. IsSome (reply_of piece)) [] (λ p i. absurd i)
@@ -62,7 +48,7 @@ are_replies (p ∷ ps) h =
     let all = In-from_All (λ l. IsSome (reply_in l)) (map line_of (p ∷ ps)) h in
     let rest = are_replies ps (All-from_In (λ l. IsSome (reply_in l)) (map line_of ps) (λ l i. all l (inr i))) in
     All-from_In (λ piece. IsSome (reply_of piece)) (p ∷ ps)
-    (λ q i. ⊎_elim (λ e. subst (λ (r : List ℕ). IsSome (reply_of r)) (sym e) (subst IsSome (piece_reply p) (all (line_of p) (inl refl)))) (λ j. In-from_All (λ piece. IsSome (reply_of piece)) ps rest q j) i)
+    (λ q i. ⊎_elim (λ e. subst (λ (r : List ℕ). IsSome (reply_of r)) (sym e) (subst IsSome (piece_spells of_replies p) (all (line_of p) (inl refl)))) (λ j. In-from_All (λ piece. IsSome (reply_of piece)) ps rest q j) i)
 
 all_replies : (pieces : List (List ℕ)) → AreReplies pieces → AllReplies (map line_of pieces)
 all_replies [] h = All-from_In (λ l. IsSome (reply_in l)) [] (λ p i. absurd i)
@@ -70,7 +56,7 @@ all_replies (p ∷ ps) h =
     let all = In-from_All (λ piece. IsSome (reply_of piece)) (p ∷ ps) h in
     let rest = all_replies ps (All-from_In (λ piece. IsSome (reply_of piece)) ps (λ l i. all l (inr i))) in
     All-from_In (λ l. IsSome (reply_in l)) (line_of p ∷ map line_of ps)
-    (λ q i. ⊎_elim (λ e. subst (λ (r : Line). IsSome (reply_in r)) (sym e) (subst IsSome (sym (piece_reply p)) (all p (inl refl)))) (λ j. In-from_All (λ l. IsSome (reply_in l)) (map line_of ps) rest q j) i)
+    (λ q i. ⊎_elim (λ e. subst (λ (r : Line). IsSome (reply_in r)) (sym e) (subst IsSome (sym (piece_spells of_replies p)) (all p (inl refl)))) (λ j. In-from_All (λ l. IsSome (reply_in l)) (map line_of ps) rest q j) i)
 
 no_pending : (e : Bool) → cond {A = List Change} e [] [] ≡ []
 no_pending true = refl
@@ -92,7 +78,7 @@ wanted a b [] old new t = absurd (let e = t.0 in cc)
 wanted a b (p ∷ ps) old new t = ⊎_elim
     (λ q.
     let w = wanted q.0 b ps q.1 new q.3 in
-    let is : reply_of p ≡ Some q.2.0.0 = sym (piece_reply p) ∙ q.2.0.1 in
+    let is : reply_of p ≡ Some q.2.0.0 = sym (piece_spells of_replies p) ∙ q.2.0.1 in
     record {
       before = p ∷ w.before;
       piece = w.piece;
@@ -103,7 +89,7 @@ wanted a b (p ∷ ps) old new t = ⊎_elim
       is_reply = w.is_reply;
       wants = rw is (subst (λ c. WantsMemory (pending_over c (filter_map reply_of w.before)) w.reply) q.2.0.2.pending w.wants);
     })
-    (λ q. record { before = []; piece = p; after = ps; reply = q.1.0.0; split = refl; replies = All-nil (λ r. IsSome (reply_of r)); is_reply = sym (piece_reply p) ∙ q.1.0.1; wants = q.1.0.2 })
+    (λ q. record { before = []; piece = p; after = ps; reply = q.1.0.0; split = refl; replies = All-nil (λ r. IsSome (reply_of r)); is_reply = sym (piece_spells of_replies p) ∙ q.1.0.1; wants = q.1.0.2 })
     t
 
 -- ---- a new follower

@@ -29,7 +29,7 @@ use Rattle.route_feed.specs.InnerReplies.{choice_line, own_line}
 use Rattle.route_feed.specs.Steps as turn
 use Rattle.route_feed.proofs.Beginnings.{AreInRange, all_in_range, commands_of, empty_is_table, first_lines, replies_clean}
 use Rattle.route_feed.proofs.Reread.{AreClean, AreTold, IsSmall, first_line}
-use Rattle.route_feed.proofs.Carried.{reply_is}
+use Rattle.route_feed.proofs.ReadLines.{of_replies, read_is}
 use Rattle.route_feed.proofs.Turns.{form_step}
 
 -- ---- lines that spell what they print
@@ -52,7 +52,7 @@ printed_replies (l ∷ ls) c s =
     let pieces : lines (printed (l ∷ ls)) ≡ reply_text l ∷ lines (printed ls) =
     ap lines (append_assoc (reply_text l) (10 ∷ []) (printed ls))
     ∙ first_line (reply_text l) (printed ls) (recursion_from_All (λ x. x ≢ 10) (reply_text l) c.0) in
-    subst AreReplies (sym pieces) (All-cons (λ piece. IsSome (reply_of piece)) (reply_text l) (lines (printed ls)) (some_reply (reply_text l) l (reply_is (reply_text l) l s.0)) (printed_replies ls c.1 s.1))
+    subst AreReplies (sym pieces) (All-cons (λ piece. IsSome (reply_of piece)) (reply_text l) (lines (printed ls)) (some_reply (reply_text l) l (read_is of_replies (reply_text l) l s.0)) (printed_replies ls c.1 s.1))
 
 first_all : (P : List ℕ → Type 0) (xs ys : List (List ℕ)) → All P (xs ++ ys) → All P xs
 first_all P [] ys h = All-nil P

@@ -3,28 +3,24 @@ use Rattle.std.proofs.Common.{◌≡◌, ℕ, zero, suc, ◌+◌, ◌<◌, inl, 
 use Rattle.std.specs.Prelude.{MatchOption, OnOk}
 use Rattle.std.specs.Io.KnownBytes.{Appends, Consumes}
 use Rattle.std.proofs.KnownBytes.{Appends-trans, Consumes-whole}
-use Rattle.std.proofs.lemmas.Bool.Decides.{nat_tests}
 use Rattle.std.proofs.lemmas.Grind.{flat_map-append}
 use Rattle.std.specs.Option.{option_map_or}
 use Rattle.route_laws.specs.Runs.{Event, Told, Sync, Installer, MayAllCome, after_event, after_events, start}
 use Rattle.route_laws.specs.Tables.{Route}
 use Rattle.route_lines.specs.Bytes.{lines}
-use Rattle.route_lines.specs.InnerPhrase.{Gives}
 use Rattle.route_lines.specs.Lines.{line_of, lines_in}
 use Rattle.route_lines.specs.Spelled.{note_of}
-use Rattle.route_lines.specs.Texts.{IsNote}
 use Rattle.route_lines.specs.declared.cutter.Line.{Line}
 use Rattle.route_lines.specs.declared.cutter.Rest.{Rest}
 use Rattle.route_lines.specs.declared.note.Note.{Note}
 use Rattle.route_lines.specs.declared.note.Note.TheVariants as N
 use Rattle.route_lines.specs.declared.update.Update.{Update}
-use Rattle.route_lines.proofs.Notes as grammar
-use Rattle.route_lines.proofs.Spells.{note_found}
 use Rattle.route_feed.specs.declared.counted.Counted.{Counted}
 use Rattle.route_feed.specs.declared.error.RunError.{RunError}
 use Rattle.route_feed.specs.declared.error.RunError.TheVariants as Why
 use Rattle.route_feed.specs.Counted.{more_by, one_more}
-use Rattle.route_feed.specs.InnerInstalling.{AllFit, Fails, Takes, TakesNone, TakesNote, TakesNoteLine, Wants, note_in, update_line}
+use Rattle.route_feed.specs.InnerInstalling.{AllFit, Fails, Takes, TakesNone, TakesNote, TakesNoteLine, Wants}
+use Rattle.route_feed.specs.InnerLines.{update_line}
 use Rattle.route_feed.specs.InnerRun.{Runs, TakesAll}
 use Rattle.route_feed.specs.Installing.{AreNotes, Installing, IsUnfit, Noted, after_note, after_notes, batches, begin, committing, event_of, events, installed_bytes, printed_updates, route_to, update_lines}
 use Rattle.route_feed.specs.Installs.{AppendsInstalled, Gives as GivesOutput, GivesThen, InstallEnds, Installs, Meets}
@@ -32,6 +28,7 @@ use Rattle.route_feed.specs.Streams.{Change, closes, is_done}
 use Rattle.route_feed.specs.Devices.{Closed}
 use Rattle.route_feed.proofs.ChangesInRange.{AreInRange, NoteInRange, are_changes, note_in_range, past_in_range}
 use Rattle.route_feed.proofs.NotesInTurn.{events-append, lines-append, tables_after}
+use Rattle.route_feed.proofs.ReadLines.{of_notes, piece_spells}
 use Rattle.route_feed.proofs.Written.{Closed-nil, waits_after, waits_more, waits_none}
 
 -- ---- events after events
@@ -72,19 +69,6 @@ waits_plus zero n w = let h : 0 + n ≡ n = omega arith in ap (λ k. waits_after
 waits_plus (suc m) n w =
     let h : suc m + n ≡ suc (m + n) = omega arith in
     ap (λ k. waits_after k w) h ∙ waits_more (m + n) w ∙ sym (waits_none n) ∙ ap (waits_after n) (sym (waits_more m w))
-
--- ---- pieces as lines
-
-piece_note : (piece : List ℕ) → note_in (line_of piece) ≡ note_of piece
-piece_note piece = go (nat_lt 80 (length piece)) refl
-  where
-    long : 80 < length piece → (o : Option Note) → Gives IsNote piece o → o ≡ None
-    long h None g = refl
-    long h (Some l) g = let s = grammar.notes.short piece l g in absurd (omega arith)
-
-    go : (b : Bool) → nat_lt 80 (length piece) ≡ b → note_in (line_of piece) ≡ note_of piece
-    go true e = let h : 80 < length piece = grind (arith, nat_tests, e) in rw e (sym (long h (note_of piece) (note_found piece)))
-    go false e = rw e refl
 
 -- ---- what may come
 
@@ -197,7 +181,7 @@ module _ {W : Type 0} (contents : W → Option (List ℕ)) where
 
   -- a line that was taken
   line_taken : (a b : Installing) (p : List ℕ) (old new : Counted W) → TakesNoteLine contents a (line_of p) old (Ok tt) b new → (n : Noted) × (note_of p ≡ Some n.note) × Takes contents a b n old new
-  line_taken a b p old new t = go (note_of p) refl (subst (λ o. MatchOption o (TakesNone contents old (Ok tt) new) (λ note. TakesNote contents a note old (Ok tt) b new)) (piece_note p) t)
+  line_taken a b p old new t = go (note_of p) refl (subst (λ o. MatchOption o (TakesNone contents old (Ok tt) new) (λ note. TakesNote contents a note old (Ok tt) b new)) (piece_spells of_notes p) t)
     where
       go : (o : Option Note) → note_of p ≡ o → MatchOption o (TakesNone contents old (Ok tt) new) (λ note. TakesNote contents a note old (Ok tt) b new) → (n : Noted) × (note_of p ≡ Some n.note) × Takes contents a b n old new
       go None e m = absurd (let f = m.0 in cc)
@@ -277,7 +261,7 @@ module _ {W : Type 0} (contents : W → Option (List ℕ)) (c last : Installing)
   Why_not e o = MatchOption o (TakesNone contents mid (Err e) new) (λ note. TakesNote contents c note mid (Err e) last new)
 
   why_not : (e : RunError) → TakesNoteLine contents c (line_of p) mid (Err e) last new → Why_not e (note_of p)
-  why_not e t = subst (Why_not e) (piece_note p) t
+  why_not e t = subst (Why_not e) (piece_spells of_notes p) t
 
   unfit : (o : Option Note) → Why_not Why.Line o → IsUnfit c o × (new ≡ mid)
   unfit None w = (tt, w.1)

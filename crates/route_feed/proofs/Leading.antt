@@ -18,8 +18,10 @@ use Rattle.route_feed.specs.declared.counted.Counted.{Counted}
 use Rattle.route_feed.specs.declared.error.RunError.{RunError}
 use Rattle.route_feed.specs.declared.error.RunError.TheVariants as Why
 use Rattle.route_feed.specs.Counted.{CanCount, more_by}
-use Rattle.route_feed.specs.InnerReplies.{Answers, replies_to_rest, reply_to_rest, command_in, reply_line}
+use Rattle.route_feed.specs.InnerReplies.{replies_to_rest, reply_to_rest}
+use Rattle.route_feed.specs.InnerLines.{command_in, reply_line}
 use Rattle.route_feed.specs.InnerRun.{TakesAll, Runs}
+use Rattle.route_feed.specs.LeadsLine.{Answers}
 use Rattle.route_feed.specs.Leads.{LeadEnds, Stopped}
 use Rattle.route_feed.specs.Output.{replies, refusals_after, whole_commands, at_end, lines_output, output}
 use Rattle.route_feed.specs.Replies.{printed}
@@ -75,7 +77,7 @@ output_is bytes v = replies_end [] (whole_commands bytes) v (rest bytes)
 module _ {W : Type 0} (contents : W → Option (List ℕ)) where
   -- another fault can be counted after an answer
   pub answer_counts : (M N : List Stored) (command : Option Command) (old new : Counted W) (r : Result Unit RunError) → Answers contents M N command old new r → CanCount old → OnOk r (CanCount new)
-  answer_counts M N command old new (Ok x) a h = rw a.writes.faults h
+  answer_counts M N command old new (Ok x) a h = rw a.reply.faults h
   answer_counts M N command old new (Err e) a h = tt
 
   abbrev Takes : List Stored → Line → Counted W → Result Unit RunError → List Stored → Counted W → Type 0
@@ -133,9 +135,9 @@ module _ {W : Type 0} (contents : W → Option (List ℕ)) where
       (λ p.
       let a = p.2 in
       let later = answered p.0 N ls p.1 new p.3 in (
-        refusals_of (may_refuse M (command_in l)) a.refusal ++ later.0,
-        subst (Closed contents (length (map command_in (l ∷ ls))) old new) (sym (turn_printed M (command_in l) a.refusal (map command_in ls) later.0))
-            (Closed-after contents (command_in l ∷ []) (map command_in ls) old p.1 new _ _ a.writes
+        refusals_of (may_refuse M (command_in l)) a.refused ++ later.0,
+        subst (Closed contents (length (map command_in (l ∷ ls))) old new) (sym (turn_printed M (command_in l) a.refused (map command_in ls) later.0))
+            (Closed-after contents (command_in l ∷ []) (map command_in ls) old p.1 new _ _ a.reply
             (subst (λ T. Closed contents (length (map command_in ls)) p.1 new (printed (replies T (map command_in ls) later.0))) a.table later.1)),
       ))
       (λ p. absurd (cc (p.0)))
@@ -149,13 +151,13 @@ module _ {W : Type 0} (contents : W → Option (List ℕ)) where
       (λ p.
       let a = p.2 in
       let later = stopped p.0 N ls more p.1 new e p.3 in (
-        refusals_of (may_refuse M (command_in l)) a.refusal ++ later.0,
+        refusals_of (may_refuse M (command_in l)) a.refused ++ later.0,
         later.1,
-        Stopped-later M (command_in l) a.refusal (map command_in ls ++ more) old new p.1 later.0 a.writes (subst (λ T. Stopped contents T (map command_in ls ++ more) later.0 p.1 new) a.table later.2),
+        Stopped-later M (command_in l) a.refused (map command_in ls ++ more) old new p.1 later.0 a.reply (subst (λ T. Stopped contents T (map command_in ls ++ more) later.0 p.1 new) a.table later.2),
       ))
       (λ p.
       let a = p.1 in
-      (refusals_of (may_refuse M (command_in l)) a.refusal ++ [], a.writes.0, Stopped-first M (command_in l) a.refusal (map command_in ls ++ more) old new a.writes.1))
+      (refusals_of (may_refuse M (command_in l)) a.refused ++ [], a.reply.0, Stopped-first M (command_in l) a.refused (map command_in ls ++ more) old new a.reply.1))
       t
 
   -- or it failed in the reply to what stands after the last line end

@@ -3,14 +3,15 @@ pub mod Telling
 pub mod Told
 pub mod Carried
 pub mod Owned
+pub mod InTurn
 pub mod Taking
 pub mod Leading
-pub mod LeadingLine
 pub mod Stepping
 pub mod Ending
 pub mod Shortened
 pub mod Adding
 pub mod Seam
+pub mod ReadLines
 pub mod ReadNets
 pub mod Reread
 pub mod SameBytes
@@ -34,3 +35,4 @@ pub mod LogNotes
 pub mod CutLines
 pub mod CutOutput
 pub mod InstallRows
+pub mod Kept

@@ -8,17 +8,14 @@ use Rattle.route_lines.specs.declared.note.Note.TheVariants as N
 use Rattle.route_laws.specs.Runs.{Event, Have, Told, Sync, Installer, MayAllCome, after_event, after_events, start}
 use Rattle.route_feed.specs.Streams.{pending_over}
 use Rattle.route_feed.specs.Installing.{Installing, Noted, after_note, after_notes, begin, event_lines, event_of, events, pending_past, update_lines}
+use Rattle.route_feed.proofs.InTurn.{after-append, made-append}
 use Rattle.route_feed.specs.InstallLaws.{HasSync, replies_of, reply_in}
 
 pub after_events-append : (s : Installer) (es fs : List Event) → after_events s (es ++ fs) ≡ after_events (after_events s es) fs
-after_events-append s [] fs = refl
-after_events-append s (e ∷ es) fs = after_events-append (after_event s e) es fs
+after_events-append = after-append after_event after_events (λ s. refl) (λ s e es. refl)
 
 pub lines-append : (s : Installer) (es fs : List Event) → update_lines s (es ++ fs) ≡ update_lines s es ++ update_lines (after_events s es) fs
-lines-append s [] fs = refl
-lines-append s (e ∷ es) fs =
-    ap (λ us. event_lines s e ++ us) (lines-append (after_event s e) es fs)
-    ∙ sym (append_assoc (event_lines s e) (update_lines (after_event s e) es) (update_lines (after_events (after_event s e) es) fs))
+lines-append = made-append after_event after_events (λ s. refl) (λ s e es. refl) event_lines update_lines (λ s. refl) (λ s e es. refl)
 
 -- the first of some events may come, and then the later ones
 pub may_split : (s : Installer) (es fs : List Event) → MayAllCome s (es ++ fs) → MayAllCome s es × MayAllCome (after_events s es) fs
@@ -26,10 +23,7 @@ may_split s [] fs m = (tt, m)
 may_split s (e ∷ es) fs m = let t = may_split (after_event s e) es fs m.1 in ((m.0, t.0), t.1)
 
 pub events-append : (s : Installing) (ns ms : List Noted) → events s (ns ++ ms) ≡ events s ns ++ events (after_notes s ns) ms
-events-append s [] ms = refl
-events-append s (n ∷ ns) ms =
-    ap (λ es. event_of s n.note n.least ++ es) (events-append (after_note s n) ns ms)
-    ∙ sym (append_assoc (event_of s n.note n.least) (events (after_note s n) ns) (events (after_notes (after_note s n) ns) ms))
+events-append = made-append after_note after_notes (λ s. refl) (λ s e es. refl) (λ s n. event_of s n.note n.least) events (λ s. refl) (λ s e es. refl)
 
 -- the tables after notes are those after their events
 pub tables_after : (s : Installing) (ns : List Noted) → Installing.tables (after_notes s ns) ≡ after_events s.tables (events s ns)

@@ -16,12 +16,7 @@ use Rattle.route_laws.specs.Networks.{Stored, routes_of}
 use Rattle.route_laws.specs.Operations.{Operation, between}
 use Rattle.route_laws.specs.Runs.{Event, Have, Told, Sync, Installer, after_event, after_events}
 use Rattle.route_laws.specs.Tables.{Route, IsTable, hop_at, route_of}
-use Rattle.route_lines.specs.InnerPhrase.{Gives}
-use Rattle.route_lines.specs.Spelled.{note_of}
-use Rattle.route_lines.specs.Texts.{IsNote}
 use Rattle.route_lines.specs.declared.cutter.Line.{Line}
-use Rattle.route_lines.proofs.Notes.{notes}
-use Rattle.route_lines.proofs.Spells.{note_found}
 use Rattle.route_feed.specs.Counted.{CanCount}
 use Rattle.route_lines.specs.declared.note.Note.{Note}
 use Rattle.route_lines.specs.declared.note.Note.TheVariants as N
@@ -33,7 +28,8 @@ use Rattle.route_feed.specs.declared.counted.Counted.{Counted}
 use Rattle.route_feed.specs.declared.error.RunError.{RunError}
 use Rattle.route_feed.specs.declared.error.RunError.TheVariants as Why
 use Rattle.route_feed.specs.declared.follower.Waiting.{Waiting}
-use Rattle.route_feed.specs.InnerInstalling.{AllFit, GivesChanges, Has, Replaces, Takes, TakesNone, TakesNote, TakesNoteLine, Wants, note_in, batch_bytes, routes_waiting, tables_of}
+use Rattle.route_feed.specs.InnerInstalling.{AllFit, GivesChanges, Has, Replaces, Takes, TakesNone, TakesNote, TakesNoteLine, Wants, batch_bytes, routes_waiting, tables_of}
+use Rattle.route_feed.specs.InnerLines.{note_in}
 use Rattle.route_feed.specs.InnerWaiting.{changes_of}
 use Rattle.route_feed.specs.Installing.{Installing, MayWant, batches, committing, event_of, noted_bytes, pending_past, printed_updates, route_to, update_lines}
 use Rattle.route_feed.specs.Streams.{Change, change_of, closes, is_done, pending_after}
@@ -268,21 +264,6 @@ module _ {W : Type 0} (contents : W → Option (List ℕ)) where
   keep_of a b line c old (Err e) shut is tables pending memory = nothing_wanted contents a b (N.Reply line) old e memory (inl (subst IsSome (sym is) refl))
 
 -- ---- lines
-
--- the note that was read
-pub note_is : (text : List ℕ) (note : Note) → IsNote text note → note_of text ≡ Some note
-note_is text note h = go (note_of text) (note_found text)
-  where
-    go : (o : Option Note) → Gives IsNote text o → o ≡ Some note
-    go None none = absurd (none note h)
-    go (Some other) found = ap Some (notes.one text other note found h)
-
-pub note_none : (text : List ℕ) → ((note : Note) → IsNote text note → ⊥) → note_of text ≡ None
-note_none text none = go (note_of text) (note_found text)
-  where
-    go : (o : Option Note) → Gives IsNote text o → o ≡ None
-    go None h = refl
-    go (Some note) h = absurd (none note h)
 
 module _ {W : Type 0} (contents : W → Option (List ℕ)) (a b : Installing) (line : Line) (old new : Counted W) (r : Result Unit RunError) where
   pub line_none : note_in line ≡ None → TakesNone contents old r new → TakesNoteLine contents a line old r b new

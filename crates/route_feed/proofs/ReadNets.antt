@@ -1,7 +1,6 @@
 -- What a line spells, and what a command's words may be: networks and hops in range.
 use Rattle.std.proofs.Common.{◌≡◌, ℕ, ◌^◌, ◌<◌, Bool, true, false, nat_lt, List, [], ◌∷◌, length, map, Option, Some, None, refl, sym, subst, arith}
 use Rattle.std.specs.Prelude.{unwrap_or}
-use Rattle.std.proofs.lemmas.Bool.Decides.{nat_tests}
 use Rattle.ipnet_blocks.specs.Blocks.{IsBlock}
 use Rattle.ipnet_blocks.proofs.NetworkBlocks.{block_is}
 use Rattle.ipnet.specs.IpNets.{block, family, parts}
@@ -15,15 +14,15 @@ use Rattle.route_lines.specs.Texts.{IsCommand}
 use Rattle.route_lines.specs.Words as word
 use Rattle.route_lines.specs.declared.command.Command.{Command}
 use Rattle.route_lines.specs.declared.command.Command.TheVariants as C
-use Rattle.route_lines.proofs.Commands.{commands}
 use Rattle.route_lines.proofs.Spells.{command_found}
 use Rattle.route_choices.specs.Choices.{default_preference}
 use Rattle.route_choices.specs.Hops.{IsHop}
 use Rattle.route_choices.specs.declared.hop.Hop.{Hop}
 use Rattle.route_choices.specs.declared.hop.Hop.TheVariants.{Number, Drop}
 use Rattle.route_laws.proofs.NetworksAt.{of_network_at}
-use Rattle.route_feed.specs.InnerReplies.{command_in}
+use Rattle.route_feed.specs.InnerLines.{command_in}
 use Rattle.route_feed.specs.Output.{whole_commands}
+use Rattle.route_feed.proofs.ReadLines.{of_commands, piece_spells}
 
 pub net_is_block : (text : List ℕ) (net : IpNet) → word.IsNet text net → IsBlock (block net)
 net_is_block text net h =
@@ -73,21 +72,9 @@ spelled_in_range text (Some C.Flat) h = tt
 pub piece_in_range : (piece : List ℕ) → IsInRange (command_of piece)
 piece_in_range piece = spelled_in_range piece (command_of piece) (command_found piece)
 
--- a line that is too long spells no command, and so does its text
-pub piece_command : (piece : List ℕ) → command_in (line_of piece) ≡ command_of piece
-piece_command piece = go (nat_lt 80 (length piece)) refl
-  where
-    long : 80 < length piece → (o : Option Command) → Gives IsCommand piece o → o ≡ None
-    long h None g = refl
-    long h (Some c) g = let s = commands.short piece c g in absurd (omega arith)
-
-    go : (b : Bool) → nat_lt 80 (length piece) ≡ b → command_in (line_of piece) ≡ command_of piece
-    go true e = let h : 80 < length piece = grind (arith, nat_tests, e) in rw e (sym (long h (command_of piece) (command_found piece)))
-    go false e = rw e refl
-
 piece_commands : (pieces : List (List ℕ)) → map command_in (map line_of pieces) ≡ map command_of pieces
 piece_commands [] = refl
-piece_commands (p ∷ ps) = λ i. piece_command p i ∷ piece_commands ps i
+piece_commands (p ∷ ps) = λ i. piece_spells of_commands p i ∷ piece_commands ps i
 
 pub commands_in : (bytes : List ℕ) → map command_in (lines_in bytes) ≡ whole_commands bytes
 commands_in bytes = piece_commands (lines bytes)

@@ -27,12 +27,13 @@ use Rattle.route_feed.specs.Laws.{LinesKeepHops, LinesRebuild, LinesStayLeast, N
 use Rattle.route_feed.specs.Output.{at_end, table_after, whole_commands}
 use Rattle.route_feed.specs.Steps.{Turn, is_too_many, may_refuse, step}
 use Rattle.route_feed.specs.Streams.{committed, painted, replies_in}
-use Rattle.route_feed.specs.InnerAddLines.{add_command}
+use Rattle.route_feed.specs.InnerLines.{add_command}
 use Rattle.route_feed.proofs.Beginnings.{beginnings_agree, empty_is_table}
 use Rattle.route_feed.proofs.Adding.{line_is}
 use Rattle.route_feed.proofs.Owned.{map_twice}
 use Rattle.route_feed.proofs.Reread.{first_line, is_cut, word_hop}
-use Rattle.route_feed.proofs.Told.{plain_step, read_is}
+use Rattle.route_feed.proofs.ReadLines.{of_commands, read_is}
+use Rattle.route_feed.proofs.Told.{plain_step}
 
 -- ---- the lines
 
@@ -75,7 +76,7 @@ commands_are : (N : List Route) → AreRoutes N → map command_of (map (λ r. c
 commands_are [] h = refl
 commands_are (r ∷ N) h =
     let is = h r (inl refl) in
-    let first = read_is (command_text (add_command r)) (add_command r) (line_spells r is.0 is.1) in
+    let first = read_is of_commands (command_text (add_command r)) (add_command r) (line_spells r is.0 is.1) in
     let later = commands_are N (λ s i. h s (inr i)) in
     λ i. first i ∷ later i
 

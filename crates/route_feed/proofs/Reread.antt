@@ -25,7 +25,7 @@ use Rattle.route_lines.proofs.Good.{written}
 use Rattle.route_lines.proofs.Printed.{prints}
 use Rattle.route_lines.proofs.Replies.{replies}
 use Rattle.route_lines.proofs.Spells.{reply_found}
-use Rattle.route_feed.proofs.Carried.{reply_is}
+use Rattle.route_feed.proofs.ReadLines.{of_replies, read_is}
 use Rattle.route_choices.specs.Hops.{IsHop, number_of}
 use Rattle.route_choices.specs.declared.hop.Hop.{Hop}
 use Rattle.route_choices.specs.declared.hop.Hop.TheVariants.{Number, Drop}
@@ -124,7 +124,7 @@ reread_changes (l ∷ ls) h = go (reply_of (reply_text l)) h.0.kept (reread_chan
     go (Some m) k later = rw k.1 (ap (cons_option (change_of l)) later)
 
 pub closing_read : (closing : Closing) → reply_of (closing_text closing) ≡ Some (R.Close closing)
-closing_read closing = reply_is (closing_text closing) (R.Close closing) refl
+closing_read closing = read_is of_replies (closing_text closing) (R.Close closing) refl
 
 pub closing_is_clean : (closing : Closing) → IsClean (R.Close closing)
 closing_is_clean closing = replies.clean (closing_text closing) (R.Close closing) refl
@@ -133,7 +133,7 @@ told_if_read : (l : Reply) → closes l ≡ None → IsReply (reply_text l) l �
 told_if_read l none h = record {
   clean = replies.clean (reply_text l) l h;
   spelled = λ _. h;
-  kept = subst (Keeps l) (sym (reply_is (reply_text l) l h)) (none, refl);
+  kept = subst (Keeps l) (sym (read_is of_replies (reply_text l) l h)) (none, refl);
 }
 
 -- ---- networks, hops and numbers

@@ -22,7 +22,7 @@ use Rattle.route_feed.specs.Replies.{printed}
 use Rattle.route_feed.specs.Laws.{flat_bytes}
 use Rattle.route_feed.specs.Steps.{flat_line}
 use Rattle.route_feed.specs.Streams.{replies_in}
-use Rattle.route_feed.proofs.Carried.{reply_is}
+use Rattle.route_feed.proofs.ReadLines.{of_replies, read_is}
 use Rattle.route_feed.proofs.Reread.{IsClean, AreClean, closing_is_clean, closing_read, piece_told, read_again, reread}
 
 -- a line that is read as it was printed
@@ -64,7 +64,7 @@ module _ (M : List Route) (m : IsTable M) where
   piece_read p i =
       let w = (((search_is_flat (hop_at M)).exact p).0 (Contains-from_In (flat_of (hop_at M)) p i)).within in
       let t = piece_told M m p.block p.number w.block (w.all (first_of p.block) (has_first p.block)) in
-      record { clean = t.clean; same = reply_is (reply_text (flat_line p)) (flat_line p) (t.spelled tt) }
+      record { clean = t.clean; same = read_is of_replies (reply_text (flat_line p)) (flat_line p) (t.spelled tt) }
 
   lines_read : (ps : List Piece) → ((p : Piece) → In p ps → In p (flat_of (hop_at M))) → AreRead (map flat_line ps ++ R.Close Done ∷ [])
   unfolding AreRead

@@ -10,12 +10,10 @@ use Rattle.ipnet.proofs.Spelled.{net_reads}
 use Rattle.route_choices.specs.Hops.{IsHop}
 use Rattle.route_choices.proofs.Kept.{In-from_filter, In-map}
 use Rattle.route_lines.specs.Bytes.{lines}
-use Rattle.route_lines.specs.InnerPhrase.{Gives}
 use Rattle.route_lines.specs.Spelled.{update_of}
 use Rattle.route_lines.specs.Texts.{IsUpdate, update_text}
 use Rattle.route_lines.specs.declared.update.Update.{Update}
 use Rattle.route_lines.specs.declared.update.Update.TheVariants as U
-use Rattle.route_lines.proofs.Spells.{update_found}
 use Rattle.route_lines.proofs.Updates.{updates, prints}
 use Rattle.route_laws.specs.Batches.{batch, painted}
 use Rattle.route_laws.specs.Operations.{Operation, Install, Remove, between, missing, surplus}
@@ -30,6 +28,7 @@ use Rattle.route_feed.specs.InstallLaws.{BeginningsAreCarriedOut, OutputReadsBac
 use Rattle.route_feed.proofs.Beginnings.{first_lines}
 use Rattle.route_feed.proofs.GivenLines.{first_carried}
 use Rattle.route_feed.proofs.NotesInTurn.{after_events-append, may_split}
+use Rattle.route_feed.proofs.ReadLines.{of_updates, read_is}
 use Rattle.route_feed.proofs.Reread.{first_line, is_cut, word_hop}
 
 -- ---- lines that spell what they print
@@ -42,13 +41,6 @@ AreSpelled-append : (us vs : List Update) → AreSpelled us → AreSpelled vs �
 AreSpelled-append [] vs p q = q
 AreSpelled-append (u ∷ us) vs p q = (p.0, AreSpelled-append us vs p.1 q)
 
-update_is : (text : List ℕ) (u : Update) → IsUpdate text u → update_of text ≡ Some u
-update_is text u h = go (update_of text) (update_found text)
-  where
-    go : (o : Option Update) → Gives IsUpdate text o → o ≡ Some u
-    go None none = absurd (none u h)
-    go (Some other) found = ap Some (updates.one text other u found h)
-
 updates_read : (us : List Update) → AreSpelled us → updates_in (printed_updates us) ≡ us
 updates_read [] s = refl
 updates_read (u ∷ us) s =
@@ -56,7 +48,7 @@ updates_read (u ∷ us) s =
     ap updates_in (append_assoc text (10 ∷ []) (printed_updates us))
     ∙ ap (filter_map update_of) (first_line text (printed_updates us) (recursion_from_All (λ c. c ≢ 10) text (updates.clean text u s.0)))
     ∙ filter_map-append update_of (text ∷ []) (lines (printed_updates us))
-    ∙ ap (λ o. filter_map (λ (p : Option Update). p) (o ∷ []) ++ updates_in (printed_updates us)) (update_is text u s.0)
+    ∙ ap (λ o. filter_map (λ (p : Option Update). p) (o ∷ []) ++ updates_in (printed_updates us)) (read_is of_updates text u s.0)
     ∙ ap (λ vs. u ∷ vs) (updates_read us s.1)
 
 -- ---- operations of networks and hops

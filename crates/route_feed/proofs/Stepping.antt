@@ -16,7 +16,8 @@ use Rattle.route_feed.specs.declared.counted.Counted.{Counted}
 use Rattle.route_feed.specs.declared.error.RunError.{RunError}
 use Rattle.route_feed.specs.declared.error.RunError.TheVariants as Why
 use Rattle.route_feed.specs.Following.{State, TakesLine, hop_after}
-use Rattle.route_feed.specs.InnerFollowing.{reply_in, FollowsLine, hop_once, AllReplies}
+use Rattle.route_feed.specs.InnerLines.{reply_in}
+use Rattle.route_feed.specs.InnerFollowing.{FollowsLine, hop_once, AllReplies}
 use Rattle.route_feed.specs.InnerRun.{TakesAll}
 use Rattle.route_feed.specs.Streams.{Change, change_of, closes, is_done, ends_well, committed, painted_over, pending_after}
 use Rattle.route_feed.proofs.Carried.{painted-append}

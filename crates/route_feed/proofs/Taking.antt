@@ -15,17 +15,14 @@ use Rattle.std.proofs.lemmas.List.{take_rest}
 use Rattle.route_lines.specs.declared.cutter.Line.{Line}
 use Rattle.route_feed.specs.declared.counted.Counted.{Counted}
 use Rattle.route_feed.specs.declared.error.RunError.{RunError}
+use Rattle.route_feed.proofs.InTurn.{after-append, made-append}
 use Rattle.route_feed.specs.InnerRun.{TakesAll}
 
 pub fed_all-append : (c : Kept) (bs cs : List ℕ) → fed_all c (bs ++ cs) ≡ fed_all (fed_all c bs) cs
-fed_all-append c [] cs = refl
-fed_all-append c (b ∷ bs) cs = fed_all-append (fed c b) bs cs
+fed_all-append = after-append fed fed_all (λ s. refl) (λ s e es. refl)
 
 pub answers-append : (k : Kept) (bs cs : List ℕ) → answers k (bs ++ cs) ≡ answers k bs ++ answers (fed_all k bs) cs
-answers-append k [] cs = refl
-answers-append k (b ∷ bs) cs =
-    ap (λ l. option_to_list (fed_answer k b) ++ l) (answers-append (fed k b) bs cs)
-    ∙ sym (append_assoc (option_to_list (fed_answer k b)) (answers (fed k b) bs) (answers (fed_all (fed k b) bs) cs))
+answers-append = made-append fed fed_all (λ s. refl) (λ s e es. refl) (λ k b. option_to_list (fed_answer k b)) answers (λ s. refl) (λ s e es. refl)
 
 -- a text in which no line end was found
 pub none_found : (xs : List ℕ) → Nowhere (Passes (is_byte 10) xs) 0 (length xs) → All (λ c. c ≢ 10) xs

@@ -17,11 +17,6 @@ use Rattle.route_lines.specs.declared.command.Command.{Command}
 use Rattle.route_lines.specs.declared.command.Command.TheVariants.{Add}
 use Rattle.route_lines.specs.declared.reply.Closing.TheVariants.{Done, Refused}
 use Rattle.route_lines.specs.declared.reply.Reply.TheVariants.{Close}
-use Rattle.route_lines.specs.InnerPhrase.{Gives}
-use Rattle.route_lines.specs.Spelled.{command_of}
-use Rattle.route_lines.specs.Texts.{IsCommand}
-use Rattle.route_lines.proofs.Commands.{commands}
-use Rattle.route_lines.proofs.Spells.{command_found}
 use Rattle.route_choices.specs.declared.hop.Hop.{Hop}
 use Rattle.route_choices.specs.Choices.{Choice, AreChoices, choices_without, holds_hop}
 use Rattle.route_choices.proofs.ChoiceLists.{none_of}
@@ -156,21 +151,6 @@ pub refused_step : (M : List Stored) (net : IpNet) (hop : Hop) (pref : ℕ) (why
     → (refusal : Bool) × (step M (Some (Add net hop pref)) refusal ≡ closed M Refused)
 refused_step M net hop pref (Store e) h = (true, rw h.1 refl)
 refused_step M net hop pref TooMany h = (false, rw h refl)
-
--- the command that was read
-pub read_is : (text : List ℕ) (command : Command) → IsCommand text command → command_of text ≡ Some command
-read_is text command h = go (command_of text) (command_found text)
-  where
-    go : (o : Option Command) → Gives IsCommand text o → o ≡ Some command
-    go None none = absurd (none command h)
-    go (Some other) found = ap Some (commands.one text other command found h)
-
-pub read_none : (text : List ℕ) → ((command : Command) → IsCommand text command → ⊥) → command_of text ≡ None
-read_none text none = go (command_of text) (command_found text)
-  where
-    go : (o : Option Command) → Gives IsCommand text o → o ≡ None
-    go None h = refl
-    go (Some command) h = absurd (none command h)
 
 -- a table has one flat list
 pub flat_is : (M : List Route) (ps : List Piece) → IsFlat (hop_at M) ps → ps ≡ flat_of (hop_at M)

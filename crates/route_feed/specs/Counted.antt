@@ -29,6 +29,14 @@ took_some (Err e) = false
 abbrev pub CanCount : {D : Type 0} → Counted D → Type 0
 CanCount c = c.faults < 2 ^ 64 - 1
 
+-- the reads and the faults of a reader are below 2^63, as those of a new one are
+abbrev pub CanRead : {R : Type 0} → Counted R → Type 0
+CanRead reader = (reader.reads < 2 ^ 63) × (reader.faults < 2 ^ 63)
+
+-- what a run asks of its reader and its writer: their counts are below 2^63, as those of new ones are
+abbrev pub CanRun : {R W : Type 0} → Counted R → Counted W → Type 0
+CanRun reader writer = CanRead reader × (writer.faults < 2 ^ 63)
+
 -- it failed once, in its last call
 abbrev pub FailedLast : {D : Type 0} → Counted D → Counted D → Type 0
 FailedLast from to = (to.faults ≡ from.faults + 1) × (to.failing ≡ true)

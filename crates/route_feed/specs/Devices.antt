@@ -1,6 +1,6 @@
 -- What devices give and take: bytes that are read, and texts of replies that are written and flushed.
 use Rattle.std.specs.Prelude.{◌≡◌, ℕ, List, ◌++◌, Option, Result, Ok, Err}
-use Rattle.std.specs.Io.KnownBytes.{Appends, Consumes}
+use Rattle.std.specs.Io.KnownBytes.{Appends, Consumes, IsAtEnd}
 use Rattle.route_feed.specs.declared.counted.Counted.{Counted}
 use Rattle.route_feed.specs.declared.error.RunError.{RunError}
 use Rattle.route_feed.specs.declared.error.RunError.TheVariants.{Write}
@@ -11,6 +11,10 @@ pub record HasRead {R : Type 0} (remaining : R → Option (List ℕ)) (P : List 
   pub bytes : List ℕ
   pub read : Consumes (remaining from.device) (remaining to.device) bytes
   pub holds : P bytes
+
+-- it gave all, P holds of it, and no read failed
+abbrev pub HasReadAll : {R : Type 0} → (R → Option (List ℕ)) → (List ℕ → Type 0) → Counted R → Counted R → Type 0
+HasReadAll remaining P from to = HasRead remaining P from to × IsAtEnd (remaining to.device) × (to.faults ≡ from.faults)
 
 module _ {W : Type 0} (contents : W → Option (List ℕ)) where
   -- the text of so many replies was written, each was flushed, and nothing failed

@@ -1,7 +1,6 @@
 -- What `follow` does to its devices, by how it ends.
 use Rattle.std.specs.Prelude.{◌≡◌, ℕ, List, [], ◌∷◌, ◌++◌, ◌⊎◌, Option, Some, Result, Ok, Err, IsSome, All, map}
 use Rattle.std.specs.List.{filter_map}
-use Rattle.std.specs.Io.KnownBytes.{IsAtEnd}
 use Rattle.route_lines.specs.Bytes.{lines}
 use Rattle.route_lines.specs.Spelled.{reply_of}
 use Rattle.route_lines.specs.declared.reply.Closing.TheVariants.{Done}
@@ -11,7 +10,7 @@ use Rattle.route_laws.specs.Flats.{flat_of}
 use Rattle.route_feed.specs.declared.counted.Counted.{Counted}
 use Rattle.route_feed.specs.declared.error.RunError.{RunError}
 use Rattle.route_feed.specs.declared.error.RunError.TheVariants as Why
-use Rattle.route_feed.specs.Devices.{Closed, HasRead, Torn}
+use Rattle.route_feed.specs.Devices.{Closed, HasRead, HasReadAll, Torn}
 use Rattle.route_feed.specs.Counted.{ReadFault}
 use Rattle.route_feed.specs.Replies.{printed}
 use Rattle.route_feed.specs.Steps.{flat_line}
@@ -41,13 +40,12 @@ abbrev pub MeetsAnother : {R : Type 0} → (R → Option (List ℕ)) → Counted
 MeetsAnother remaining from to = HasRead remaining (λ bytes. ¬ AreReplies (lines bytes)) from to
 
 module _ {R W : Type 0} (remaining : R → Option (List ℕ)) (contents : W → Option (List ℕ)) where
-  -- at `Ok` all was read, each line is a reply line, the flat list was written and flushed, and nothing failed; at `Read`
-  -- each line so far is one, and the reader failed, in its last call; at `Line` one of them is none; at `Write` all was read,
-  -- a beginning of the flat list was written, and the writer failed, in its last call; at `Memory` nothing was read, or a
-  -- line came that may want memory; and nothing was written at all errors but `Write`
+  -- at `Ok` all was read, each line is a reply line, the flat list was written and flushed, and nothing failed; at `Read` each so far is
+  -- one, and the reader failed, in its last call; at `Line` one is none; at `Write` all was read, a beginning of the list was written, and
+  -- the writer failed, in its last call; at `Memory` nothing was read, or a line may want it. At all but `Ok` and `Write` nothing was written
   abbrev pub FollowEnds : Counted R → Counted R → Counted W → Counted W → Result Unit RunError → Type 0
-  FollowEnds from to old new (Ok done) = HasRead remaining (λ bytes. AreReplies (lines bytes) × Closed contents 1 old new (followed bytes)) from to × IsAtEnd (remaining to.device) × (to.faults ≡ from.faults)
+  FollowEnds from to old new (Ok done) = HasReadAll remaining (λ bytes. AreReplies (lines bytes) × Closed contents 1 old new (followed bytes)) from to
   FollowEnds from to old new (Err Why.Read) = HasRead remaining (λ bytes. AreReplies (lines bytes)) from to × ReadFault from to × (new ≡ old)
   FollowEnds from to old new (Err Why.Line) = MeetsAnother remaining from to × (to.faults ≡ from.faults) × (new ≡ old)
-  FollowEnds from to old new (Err Why.Write) = HasRead remaining (λ bytes. AreReplies (lines bytes) × Torn contents old new (followed bytes)) from to × IsAtEnd (remaining to.device) × (to.faults ≡ from.faults)
+  FollowEnds from to old new (Err Why.Write) = HasReadAll remaining (λ bytes. AreReplies (lines bytes) × Torn contents old new (followed bytes)) from to
   FollowEnds from to old new (Err Why.Memory) = ((to ≡ from) ⊎ HasRead remaining (λ bytes. MeetsWant (lines bytes)) from to) × (to.faults ≡ from.faults) × (new ≡ old)

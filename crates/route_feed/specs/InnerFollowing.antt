@@ -1,21 +1,15 @@
 -- What a follower does with the lines of its input.
 use Rattle.std.specs.Prelude.{◌≡◌, ℕ, List, [], ◌++◌, if◌then◌else◌, All, Option, None, Some, IsSome, Result, Ok, Err}
 use Rattle.ipnet_addr.specs.Addresses.{Address}
-use Rattle.route_lines.specs.Spelled.{reply_of}
 use Rattle.route_lines.specs.declared.cutter.Line.{Line}
-use Rattle.route_lines.specs.declared.cutter.Line.TheVariants.{Text, TooLong}
 use Rattle.route_lines.specs.declared.reply.Reply.{Reply}
 use Rattle.route_laws.specs.Networks.{routes_of}
 use Rattle.route_laws.specs.Tables.{hop_at}
 use Rattle.route_feed.specs.declared.error.RunError.{RunError}
 use Rattle.route_feed.specs.declared.error.RunError.TheVariants as Why
+use Rattle.route_feed.specs.InnerLines.{reply_in}
 use Rattle.route_feed.specs.Following.{State, TakesLine}
 use Rattle.route_feed.specs.Streams.{committed, ends_well, painted_over, WantsMemory}
-
--- the reply line that a line spells: none where it is too long
-abbrev pub reply_in : Line → Option Reply
-reply_in (Text text) = reply_of text.items
-reply_in TooLong = None
 
 -- a line was followed, or why it was not
 abbrev pub FollowsLine : State → Line → Result Unit RunError → State → Type 0

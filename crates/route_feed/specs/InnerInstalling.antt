@@ -1,11 +1,7 @@
 -- What an installer does with the lines of its input.
-use Rattle.std.specs.Prelude.{◌≡◌, ℕ, true, false, not, List, [], ◌∷◌, ◌++◌, map, Option, None, Some, is_some, unwrap_or, MatchOption, Result, Ok, Err, codes}
-use Rattle.route_lines.specs.Spelled.{note_of}
-use Rattle.route_lines.specs.Texts.{update_text}
+use Rattle.std.specs.Prelude.{◌≡◌, ℕ, true, false, not, List, [], ◌∷◌, ◌++◌, map, Option, None, Some, is_some, unwrap_or, MatchOption, Result, Ok, Err}
 use Rattle.route_lines.specs.declared.cutter.Line.{Line}
-use Rattle.route_lines.specs.declared.cutter.Line.TheVariants.{Text, TooLong}
 use Rattle.route_lines.specs.declared.note.Note.{Note}
-use Rattle.route_lines.specs.declared.update.Update.{Update}
 use Rattle.route_lines.specs.declared.update.Update.TheVariants as U
 use Rattle.route_choices.specs.Choices.{default_preference}
 use Rattle.route_laws.specs.Batches.{AreChanges, batch, painted_all}
@@ -18,14 +14,10 @@ use Rattle.route_feed.specs.declared.counted.Counted.{Counted}
 use Rattle.route_feed.specs.declared.error.RunError.{RunError}
 use Rattle.route_feed.specs.declared.error.RunError.TheVariants as Why
 use Rattle.route_feed.specs.declared.follower.Waiting.{Waiting}
+use Rattle.route_feed.specs.InnerLines.{note_in}
 use Rattle.route_feed.specs.InnerReplies.{Written}
 use Rattle.route_feed.specs.Installing.{Installing, IsUnfit, MayWant, Noted, after_note, batches, event_of, noted_bytes, operation_line, printed_updates}
 use Rattle.route_feed.specs.Devices.{Closed, Torn}
-
--- the note that a line spells: none where it is too long
-abbrev pub note_in : Line → Option Note
-note_in (Text text) = note_of text.items
-note_in TooLong = None
 
 -- the tables of an installer: before the first `sync` another one is installed
 abbrev pub tables_of : List Stored → Option (List Stored) → Installer
@@ -37,10 +29,6 @@ route_waiting w = route_of w.net w.hop default_preference
 
 abbrev pub routes_waiting : List Waiting → List Route
 routes_waiting ws = map route_waiting ws
-
--- an update with its line end
-abbrev pub update_line : Update → List ℕ
-update_line u = update_text u ++ codes "\n"
 
 -- the lines of operations, and then `ok`
 abbrev pub operation_bytes : List Operation → List ℕ

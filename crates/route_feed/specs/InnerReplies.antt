@@ -1,30 +1,25 @@
 -- How replies are written.
-use Rattle.std.specs.Prelude.{◌≡◌, ℕ, Bool, ◌||◌, List, [], ◌∷◌, ◌++◌, Option, None, Some, is_some, slice_get, Result, Ok, Err, MatchOption, codes}
+use Rattle.std.specs.Prelude.{◌≡◌, ℕ, Bool, ◌||◌, List, [], ◌∷◌, ◌++◌, map, Option, None, Some, is_some, slice_get, Result, Ok, Err, MatchOption}
 use Rattle.std.specs.Io.KnownBytes.{Appends}
 use Rattle.ipnet.specs.IpNets.{network_at}
 use Rattle.ipnet_blocks.specs.Blocks.{Block}
-use Rattle.route_lines.specs.Texts.{IsPrintable, reply_text}
-use Rattle.route_lines.specs.Spelled.{command_of}
-use Rattle.route_lines.specs.declared.command.Command.{Command}
-use Rattle.route_lines.specs.declared.cutter.Line.{Line}
-use Rattle.route_lines.specs.declared.cutter.Line.TheVariants.{Text, TooLong}
+use Rattle.ipnet_blocks.specs.Maximal.{IsMaximal}
+use Rattle.route_lines.specs.Texts.{IsPrintable}
 use Rattle.route_lines.specs.declared.cutter.Rest.{Rest}
 use Rattle.route_lines.specs.declared.cutter.Rest.TheVariants.{Empty, Held}
-use Rattle.route_lines.specs.declared.reply.Closing.TheVariants.{Bad}
+use Rattle.route_lines.specs.declared.reply.Closing.TheVariants.{Bad, Done}
 use Rattle.route_lines.specs.declared.reply.Reply.{Reply}
 use Rattle.route_lines.specs.declared.reply.Reply.TheVariants.{Close, Own, Route}
 use Rattle.route_choices.specs.Choices.{Choice}
-use Rattle.route_laws.specs.Networks.{Stored}
+use Rattle.route_laws.specs.Networks.{Stored, routes_of}
+use Rattle.route_laws.specs.Tables.{Governed}
 use Rattle.route_feed.specs.declared.counted.Counted.{Counted}
 use Rattle.route_feed.specs.declared.error.RunError.{RunError}
 use Rattle.route_feed.specs.declared.error.RunError.TheVariants.{Write}
+use Rattle.route_feed.specs.InnerLines.{reply_line}
 use Rattle.route_feed.specs.Devices.{Closes, Delivered, Torn}
 use Rattle.route_feed.specs.Replies.{printed}
-use Rattle.route_feed.specs.Steps.{step, turn_lines}
-
--- a reply line with its line end
-abbrev pub reply_line : Reply → List ℕ
-reply_line reply = reply_text reply ++ codes "\n"
+use Rattle.route_feed.specs.Steps.{change_line}
 
 -- the line of a choice of a block
 abbrev pub choice_line : Block → Choice → Reply
@@ -33,11 +28,6 @@ choice_line b c = Route (network_at b) c.hop (Some c.pref)
 -- the line of a block of the hop that was asked for
 abbrev pub own_line : Block → Reply
 own_line b = Own (network_at b)
-
--- the command that a line spells: none where it is too long
-abbrev pub command_in : Line → Option Command
-command_in (Text text) = command_of text.items
-command_in TooLong = None
 
 -- the test that a text has a byte
 abbrev pub has_bytes : List ℕ → Bool
@@ -65,11 +55,10 @@ module _ {W : Type 0} (contents : W → Option (List ℕ)) where
   Delivers old new (Ok x) text = Delivered contents old new text
   Delivers old new (Err e) text = (e ≡ Write) × Torn contents old new text
 
-  -- a command was answered, or the writer failed; the table went on
-  pub record Answers (M next : List Stored) (command : Option Command) (old new : Counted W) (result : Result Unit RunError) : Type 0 where
-    pub refusal : Bool
-    pub writes : Closes contents 1 old new result (printed (turn_lines (step M command refusal)))
-    pub table : next ≡ (step M command refusal).next
+  -- a line for each block that a network governs was written, with the hop that it has now, and `ok`, and flushed; or a beginning
+  abbrev pub TellsGoverned : List Stored → Block → Option ℕ → Counted W → Counted W → Result Unit RunError → Type 0
+  TellsGoverned M b now old new result =
+      (blocks : List Block) × IsMaximal (Governed (routes_of M) b) blocks × Closes contents 1 old new result (printed (map (change_line now) blocks ++ Close Done ∷ []))
 
 -- how many replies there are to what stands after the last line end, and their text
 abbrev pub replies_to_rest : Rest → ℕ

@@ -73,8 +73,7 @@ LinesKeepHops = (h : Address → Option ℕ) (N : List Route) → HasHops h N �
 abbrev pub LinesStayLeast : Type 0
 LinesStayLeast = (h : Address → Option ℕ) (N : List Route) → IsLeast h N → IsLeast h (routes_of (table_given (add_lines N)))
 
--- a leader that is given the lines of a least table of what was told in a beginning of the output of another has the hops that
--- this one had there
+-- a leader that is given the lines of a least table of a beginning of the output of another has the hops that this one had there
 abbrev pub ShortenedAgree : Type 0
 ShortenedAgree = (bytes front back : List ℕ) (refusals : List Bool) (N : List Route) → output bytes refusals ≡ front ++ back → IsLeastFor front N
     → (x : Address) → IsAddress x → hop_at (routes_of (table_given (add_lines N))) x ≡ hop_at (routes_of (table_told bytes refusals front)) x

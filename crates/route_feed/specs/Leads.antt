@@ -1,21 +1,20 @@
 -- What `lead` does to its devices, by how it ends.
 use Rattle.std.specs.Prelude.{◌≡◌, ℕ, suc, ◌<◌, Bool, List, [], ◌++◌, length, take, Option, Result, Ok, Err}
-use Rattle.std.specs.Io.KnownBytes.{Appends, IsAtEnd}
+use Rattle.std.specs.Io.KnownBytes.{Appends}
 use Rattle.route_lines.specs.Bytes.{rest}
 use Rattle.route_lines.specs.declared.command.Command.{Command}
 use Rattle.route_laws.specs.Networks.{Stored}
 use Rattle.route_feed.specs.declared.counted.Counted.{Counted}
 use Rattle.route_feed.specs.declared.error.RunError.{RunError}
 use Rattle.route_feed.specs.declared.error.RunError.TheVariants as Why
-use Rattle.route_feed.specs.Devices.{Closed, HasRead}
+use Rattle.route_feed.specs.Devices.{Closed, HasRead, HasReadAll}
 use Rattle.route_feed.specs.Counted.{more_by, FailedLast, ReadFault}
 use Rattle.route_feed.specs.Output.{whole_commands, at_end, lines_output, output, replies}
 use Rattle.route_feed.specs.Replies.{printed}
 use Rattle.route_feed.specs.Streams.{closings, replies_in}
 
 module _ {W : Type 0} (contents : W → Option (List ℕ)) where
-  -- this text was written, and the writer was flushed as often as a line of it closes a reply, each time after more bytes, and
-  -- last after the whole
+  -- this text was written, and flushed as often as a line of it closes a reply, each time after more bytes, and last after the whole
   abbrev pub Outputs : List ℕ → Counted W → Counted W → Type 0
   Outputs text old new = Closed contents (closings (replies_in text)) old new text
 
@@ -36,13 +35,12 @@ module _ {W : Type 0} (contents : W → Option (List ℕ)) where
     pub failed : FailedLast old new
 
 module _ {R W : Type 0} (remaining : R → Option (List ℕ)) (contents : W → Option (List ℕ)) where
-  -- at `Ok` all was read, the whole output was written and flushed, and nothing failed; at `Read` the replies to the whole
-  -- lines were written and flushed, and only the reader failed, in its last call; at `Write` a beginning of the output was
-  -- written, each reply before the last one of it was flushed, and only the writer failed, in its last call; at `Memory` nothing
-  -- was done; and it never ends in `Line`. Any call of a writer may fail: so no flush comes before the end of its reply, or after
-  -- the first byte of the next one
+  -- at `Ok` all was read, the whole output was written and flushed, and nothing failed; at `Read` the replies to the whole lines were
+  -- written and flushed, and only the reader failed, in its last call; at `Write` a beginning of the output was written, each reply
+  -- before the last one of it was flushed, and only the writer failed, in its last call; at `Memory` nothing was done; never `Line`.
+  -- Any call of a writer may fail: so no flush comes before the end of its reply, or after the first byte of the next one
   abbrev pub LeadEnds : Counted R → Counted R → Counted W → Counted W → Result Unit RunError → Type 0
-  LeadEnds from to old new (Ok done) = HasRead remaining (λ bytes. (refusals : List Bool) × Outputs contents (output bytes refusals) old new) from to × IsAtEnd (remaining to.device) × (to.faults ≡ from.faults)
+  LeadEnds from to old new (Ok done) = HasReadAll remaining (λ bytes. (refusals : List Bool) × Outputs contents (output bytes refusals) old new) from to
   LeadEnds from to old new (Err Why.Read) = HasRead remaining (λ bytes. (refusals : List Bool) × Outputs contents (lines_output bytes refusals) old new) from to × ReadFault from to
   LeadEnds from to old new (Err Why.Write) = HasRead remaining (λ bytes. (refusals : List Bool) × Stopped contents [] (whole_commands bytes ++ at_end (rest bytes)) refusals old new) from to × (to.faults ≡ from.faults)
   LeadEnds from to old new (Err Why.Memory) = (to ≡ from) × (new ≡ old)

@@ -1,4 +1,5 @@
 pub mod Counted
+pub mod Status
 pub mod Devices
 pub mod Replies
 pub mod Streams
@@ -14,8 +15,8 @@ pub mod Installing
 pub mod Installs
 pub mod Laws
 pub mod InstallLaws
+pub mod InnerLines
 pub mod InnerReplies
-pub mod InnerAddLines
 pub mod InnerRun
 pub mod InnerWaiting
 pub mod InnerFollowing

@@ -8,7 +8,7 @@ use Rattle.route_feed.specs.declared.counted.Counted.{Counted}
 use Rattle.route_feed.specs.declared.error.RunError.{RunError}
 use Rattle.route_feed.specs.declared.error.RunError.TheVariants as Why
 use Rattle.route_feed.specs.AddLines.{add_lines}
-use Rattle.route_feed.specs.Devices.{Delivered, HasRead, Torn}
+use Rattle.route_feed.specs.Devices.{Delivered, HasRead, HasReadAll, Torn}
 use Rattle.route_feed.specs.Counted.{ReadFault}
 use Rattle.route_feed.specs.Follows.{AreReplies, MeetsAnother, MeetsWant}
 use Rattle.route_feed.specs.Streams.{committed, painted, replies_in}
@@ -25,14 +25,9 @@ module _ {R W : Type 0} (remaining : R → Option (List ℕ)) (contents : W → 
   -- as `FollowEnds`, but that the lines of such a table are written, and that it may end in `Memory` too where all was read and
   -- each line is a reply line
   abbrev pub ShortenEnds : Counted R → Counted R → Counted W → Counted W → Result Unit RunError → Type 0
-  ShortenEnds from to old new (Ok done) =
-      HasRead remaining (λ bytes. AreReplies (lines bytes) × ((routes : List Route) × IsLeastFor bytes routes × Delivered contents old new (add_lines routes))) from to
-      × IsAtEnd (remaining to.device) × (to.faults ≡ from.faults)
+  ShortenEnds from to old new (Ok done) = HasReadAll remaining (λ bytes. AreReplies (lines bytes) × ((routes : List Route) × IsLeastFor bytes routes × Delivered contents old new (add_lines routes))) from to
   ShortenEnds from to old new (Err Why.Read) = HasRead remaining (λ bytes. AreReplies (lines bytes)) from to × ReadFault from to × (new ≡ old)
   ShortenEnds from to old new (Err Why.Line) = MeetsAnother remaining from to × (to.faults ≡ from.faults) × (new ≡ old)
-  ShortenEnds from to old new (Err Why.Write) =
-      HasRead remaining (λ bytes. AreReplies (lines bytes) × ((routes : List Route) × IsLeastFor bytes routes × Torn contents old new (add_lines routes))) from to
-      × IsAtEnd (remaining to.device) × (to.faults ≡ from.faults)
+  ShortenEnds from to old new (Err Why.Write) = HasReadAll remaining (λ bytes. AreReplies (lines bytes) × ((routes : List Route) × IsLeastFor bytes routes × Torn contents old new (add_lines routes))) from to
   ShortenEnds from to old new (Err Why.Memory) =
-      ((to ≡ from) ⊎ HasRead remaining (λ bytes. MeetsWant (lines bytes)) from to ⊎ (HasRead remaining (λ bytes. AreReplies (lines bytes)) from to × IsAtEnd (remaining to.device)))
-      × (to.faults ≡ from.faults) × (new ≡ old)
+      ((to ≡ from) ⊎ HasRead remaining (λ bytes. MeetsWant (lines bytes)) from to ⊎ (HasRead remaining (λ bytes. AreReplies (lines bytes)) from to × IsAtEnd (remaining to.device))) × (to.faults ≡ from.faults) × (new ≡ old)

@@ -1,25 +1,41 @@
-//! One line answered.
-ghost use Rattle.std.specs.Prelude.{◌≡◌, ◌≢◌, [], ◌∷◌, ◌++◌, IsErr, List, Some, map};
+//! One line answered: one that a run reads, or that a caller reads itself.
+ghost use Rattle.std.specs.Prelude.{◌≡◌, ◌≢◌, [], ◌∷◌, IsErr, Some};
 ghost use Rattle.ipnet.specs.IpNets.{block};
-ghost use Rattle.ipnet_blocks.specs.Blocks.{Block};
-ghost use Rattle.ipnet_blocks.specs.Maximal.{IsMaximal};
 ghost use Rattle.route_feed.specs.Counted.{CanCount};
-ghost use Rattle.route_feed.specs.InnerReplies.{Answers, replies_to_rest, reply_to_rest, command_in};
+ghost use Rattle.route_feed.specs.InnerLines.{command_in};
+ghost use Rattle.route_feed.specs.InnerReplies.{TellsGoverned, replies_to_rest, reply_to_rest};
+ghost use Rattle.route_feed.specs.LeadsLine.{Answers};
 ghost use Rattle.route_feed.specs.Replies.{printed};
-ghost use Rattle.route_feed.specs.Steps.{change_line};
 ghost use Rattle.route_feed.specs.Devices.{Closes};
 ghost use Rattle.route_lines.specs.Lines.{as_line};
-ghost use Rattle.route_laws.specs.Networks.{routes_of};
-ghost use Rattle.route_laws.specs.Tables as table_of;
+ghost use Rattle.route_lines.specs.Spelled.{command_of};
 
 use crate::body::{ChangeLines, ChoiceLines, PageLines, change_line};
 use crate::counted::Counted;
 use crate::error::RunError;
 use crate::writing::{close, reply};
 use ipnet::IpNet;
-use route_lines::{Closing, Command, Reply, Rest};
+use route_lines::{Closing, Command, Reply, Rest, line_text};
 use route_table::{Hop, RouteTable};
 use std::io::Write;
+
+/// Answers one line, given without its line end, as `lead` does: by the same reply lines to the writer, which is flushed after them.
+///
+/// A line over 80 bytes is answered `bad`.
+///
+/// # Errors
+/// `Write` alone: at an error of `write` or `flush`, or where `write` takes nothing. Then a beginning of the reply was
+/// written, and the table is the one after the line.
+pub fn lead_line<W: Write>(
+    table: &mut RouteTable,
+    line: &[u8],
+    writer: &mut Counted<W>,
+) -> Result<(), RunError>
+    requires { CanCount writer.old }
+    ensures { Answers W.contents table.old table.new (command_of line.now) writer.old writer.new result }
+{
+    answer(table, line_text(line), writer)
+}
 
 /// Answers the line of these bytes; without them, one that is too long.
 ///
@@ -243,8 +259,7 @@ fn tell_change<W: Write>(
 ) -> Result<(), RunError>
     requires { CanCount writer.old }
     ensures same { before ≡ after → Closes W.contents 1 writer.old writer.new result (printed (Reply.Close Closing.Done ∷ [])) }
-    ensures differs { before ≢ after → (blocks : List Block) × IsMaximal (table_of.Governed (routes_of table.now) (block net.now)) blocks
-        × Closes W.contents 1 writer.old writer.new result (printed (map (change_line after) blocks ++ Reply.Close Closing.Done ∷ [])) }
+    ensures differs { before ≢ after → TellsGoverned W.contents table.now (block net.now) after writer.old writer.new result }
 {
     if before == after {
         return close(writer, Closing::Done);
@@ -264,8 +279,7 @@ fn tell_governed<W: Write>(
     writer: &mut Counted<W>,
 ) -> Result<(), RunError>
     requires { CanCount writer.old }
-    ensures { (blocks : List Block) × IsMaximal (table_of.Governed (routes_of table.now) (block net.now)) blocks
-        × Closes W.contents 1 writer.old writer.new result (printed (map (change_line after) blocks ++ Reply.Close Closing.Done ∷ [])) }
+    ensures { TellsGoverned W.contents table.now (block net.now) after writer.old writer.new result }
 {
     let lines = ChangeLines {
         blocks: table.governed(net),

@@ -2,10 +2,12 @@
 
 use std::mem::ManuallyDrop;
 
-/// Whether the memory is given back, or leaked, so that the system takes it when the process ends.
-#[derive(Clone, Copy)]
-pub(crate) enum AtEnd {
+/// What becomes of the memory of a table at the end of a run.
+#[derive(Clone, Copy, Debug)]
+pub enum AtEnd {
+    /// It is given back, list by list.
     Free,
+    /// It is leaked, so that the system takes it as a whole: for a process that ends next.
     Leak,
 }
 

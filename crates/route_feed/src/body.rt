@@ -1,16 +1,18 @@
-//! The lines of a reply, one after another.
+//! What is written, one after another: the lines of a reply, and operations.
 ghost use Rattle.std.specs.Prelude.{◌≡◌, ⊤, List, map, take, All, IfSome};
 ghost use Rattle.std.specs.Option.{option_to_list};
 ghost use Rattle.ipnet.specs.IpNets.{block, family, network_at, parts};
 ghost use Rattle.ipnet_blocks.specs.Networks.{IsTruncated};
+ghost use Rattle.route_laws.specs.Operations.{Operation};
 ghost use Rattle.route_feed.specs.InnerReplies.{GivesLine, choice_line, own_line};
 ghost use Rattle.route_feed.specs.Steps.{change_line, flat_line, route_line};
 ghost use Rattle.route_lines.specs.Texts.{IsPrintable};
 ghost use Rattle.route_lines.specs.declared.reply.Reply.{Reply};
+ghost use Rattle.route_table.specs.Operations.{GivesOperation};
 
 use ipnet::IpNet;
 use route_lines::Reply;
-use route_table::{All, Flat, Governed, Routes};
+use route_table::{All, Between, Flat, Governed, Operation, Repaint, Routes};
 
 /// The lines of a reply, but for the one that closes it, handed out one after another.
 pub trait Body: Drop {
@@ -142,5 +144,33 @@ impl Body for Flat<'_> {
     fn next_line(&mut self) -> Option<Reply> {
         let (net, number) = self.next()?;
         Some(Reply::Flat { net, number })
+    }
+}
+
+/// Operations on an installed table, handed out one after another.
+pub trait Operations: Drop {
+    /// Those that are left.
+    ghost left: { Self → List Operation };
+
+    /// The next one.
+    fn next_operation(&mut self) -> Option<Operation>
+        ensures { GivesOperation (left self.old) result (left self.new) };
+}
+
+/// Those between two tables.
+impl Operations for Between<'_> {
+    ghost left = { λ operations. operations };
+
+    fn next_operation(&mut self) -> Option<Operation> {
+        self.next()
+    }
+}
+
+/// Those of one change.
+impl Operations for Repaint<'_> {
+    ghost left = { λ operations. operations };
+
+    fn next_operation(&mut self) -> Option<Operation> {
+        self.next()
     }
 }

@@ -1,4 +1,7 @@
 //! Why a run ended early.
+ghost use Rattle.std.specs.Prelude.{◌≡◌};
+ghost use Rattle.route_feed.specs.Status.{status_of};
+
 use thiserror::Error;
 
 /// Why a run ended before it had answered all of its input.
@@ -16,4 +19,18 @@ pub enum RunError {
     /// The input has a line that is no reply line; of an installer, none of its lines, or a `have` line after a `sync`.
     #[error("unexpected line")]
     Line,
+}
+
+impl RunError {
+    /// The exit status of a program whose run ended so.
+    pub fn status(&self) -> u8
+        ensures { result ≡ status_of self.now }
+    {
+        match self {
+            RunError::Memory => 1,
+            RunError::Read => 3,
+            RunError::Write => 4,
+            RunError::Line => 5,
+        }
+    }
 }

@@ -1,7 +1,5 @@
 //! An installer: a table that is kept installed while a leader's reply lines and others come.
-ghost use Rattle.std.specs.Prelude.{◌≡◌, ◌≤◌, ◌<◌, ◌++◌, ◌∷◌, [], All, IfErr, IfOk, IsOk, OnErr, OnOk, length, map, false, true};
-ghost use Rattle.ipnet.specs.IpNets.{family, parts};
-ghost use Rattle.ipnet_blocks.specs.Networks.{IsTruncated};
+ghost use Rattle.std.specs.Prelude.{◌≡◌, ◌≤◌, ◌<◌, ◌++◌, ◌∷◌, [], IfErr, IfOk, IsOk, OnErr, OnOk, length, map, false, true};
 ghost use Rattle.route_choices.specs.Choices.{default_preference};
 ghost use Rattle.route_laws.specs.Batches.{AreChanges, painted, painted_all};
 ghost use Rattle.route_laws.specs.LeastTables.{IsLeast, routes_for};
@@ -11,16 +9,17 @@ ghost use Rattle.route_lines.specs.declared.note.Note.{Note};
 ghost use Rattle.route_feed.specs.Counted.{CanCount};
 ghost use Rattle.route_feed.specs.Devices.{Closes};
 ghost use Rattle.route_feed.specs.Installing.{begin, route_to};
+ghost use Rattle.route_feed.specs.InnerLines.{AreTruncated};
 ghost use Rattle.route_feed.specs.InnerInstalling.{GivesChanges, Has, Replaces, TakesNote, WritesChanges, batch_bytes, route_waiting, routes_waiting};
 ghost use Rattle.route_feed.specs.InnerWaiting.{changes_of, waiting_change};
 ghost use Rattle.route_lines.specs.declared.reply.Closing.{Closing};
 ghost use Rattle.route_lines.specs.declared.reply.Reply.{Reply};
 
+use crate::body::Operations;
 use crate::counted::Counted;
 use crate::error::RunError;
 use crate::follower::Waiting;
-use crate::updates::{Operations, write_operations};
-use crate::writing::close;
+use crate::writing::{close, write_operations};
 use ipnet::IpNet;
 use route_lines::{Closing, Note, Reply};
 use route_table::{Hop, HopTable};
@@ -119,7 +118,7 @@ fn give_batch<W: Write, O: Operations>(
 /// A least table.
 fn least(table: &HopTable) -> Result<Vec<(IpNet, Hop)>, RunError>
     ensures least { IfOk result (λ list. IsLeast (hop_at (routes_of table.now)) (routes_for list.items)) }
-    ensures truncated { IfOk result (λ list. All (λ r. IsTruncated (family r.0) (parts r.0)) list.items) }
+    ensures truncated { IfOk result (λ list. AreTruncated list.items) }
     ensures memory { IfErr result (λ e. e ≡ RunError.Memory) }
 {
     match table.least() {
@@ -148,7 +147,7 @@ fn least_after(
 ) -> Result<Vec<(IpNet, Hop)>, RunError>
     ensures least { IfOk result (λ list. IsTable (routes_of table.now) → AreChanges (routes_waiting changes.now) → IsLeast (hop_at (painted_all (routes_of table.now) (routes_waiting changes.now))) (routes_for list.items)) }
     ensures table { IfOk result (λ list. IsTable (routes_for list.items)) }
-    ensures truncated { IfOk result (λ list. All (λ r. IsTruncated (family r.0) (parts r.0)) list.items) }
+    ensures truncated { IfOk result (λ list. AreTruncated list.items) }
     ensures memory { IfErr result (λ e. e ≡ RunError.Memory) }
 {
     let same = least(table)?;
@@ -224,7 +223,7 @@ impl Installer {
     ) -> Result<(), RunError>
         requires counts { CanCount writer.old }
         requires table { IsTable (routes_for list.now) }
-        requires truncated { All (λ r. IsTruncated (family r.0) (parts r.0)) list.now }
+        requires truncated { AreTruncated list.now }
         ensures { Replaces W.contents self.old (routes_for list.now) writer.old result self.new writer.new }
     {
         let table = table_of(self.alloc, list)?;

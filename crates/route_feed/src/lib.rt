@@ -1,14 +1,14 @@
-//! A leader that keeps a route table, and followers of its replies.
+//! A leader that keeps a route table, followers of its replies, and what a program has that runs one.
 #![tactic(auto)]
 
+pub use answer::lead_line;
+pub use at_end::AtEnd;
 pub use counted::Counted;
 pub use error::RunError;
 pub use follower::{FollowError, Follower};
-pub use installing::install;
-pub use leader::{lead, lead_leaking};
-pub use line::lead_line;
-pub use reading::{follow, follow_leaking};
-pub use shortening::shorten;
+pub use input::Input;
+pub use output::{Output, REPLY, let_go, write_out};
+pub use runs::{follow, follow_then, install, lead, lead_then, shorten};
 
 mod answer;
 mod at_end;
@@ -16,13 +16,11 @@ mod body;
 mod counted;
 mod error;
 mod follower;
+mod input;
 mod installer;
-mod installing;
 pub mod laws;
-mod leader;
-mod line;
-mod reading;
-mod shortening;
+mod output;
+mod runs;
 mod sink;
-mod updates;
+mod sinks;
 mod writing;

@@ -1,5 +1,6 @@
 //! What takes the lines of an input, and the run that hands them on.
-ghost use Rattle.std.specs.Prelude.{◌≡◌, ◌≢◌, ◌<◌, ◌^◌, [], ◌∷◌, ◌++◌, length, All, OnOk, Result};
+ghost use Rattle.std.specs.Prelude.{◌≡◌, ◌≢◌, ◌<◌, [], ◌∷◌, ◌++◌, length, All, OnOk, Result};
+ghost use Rattle.route_feed.specs.Counted.{CanRead};
 ghost use Rattle.route_feed.specs.InnerRun.{Runs, TakesAll};
 ghost use Rattle.route_feed.specs.declared.counted.Counted.{Counted};
 ghost use Rattle.route_feed.specs.declared.error.RunError.{RunError};
@@ -103,8 +104,7 @@ pub fn run<R: Read, W: Write, S: Sink<W>>(
 ) -> Result<Rest, RunError>
     requires room { 0 < length buf.old }
     requires sink { S.can_take sink.old writer.old }
-    requires reads { reader.old.reads < 2 ^ 63 }
-    requires reader { reader.old.faults < 2 ^ 63 }
+    requires reader { CanRead reader.old }
     ensures { Runs S.takes R.remaining sink.old reader.old writer.old result sink.new reader.new writer.new }
 {
     let mut cutter = LineCutter::new();

@@ -1,23 +1,20 @@
-//! Replies and routes, written.
-ghost use Rattle.std.specs.Prelude.{◌++◌, ◌∷◌, [], All};
-ghost use Rattle.ipnet.specs.IpNets.{family, parts};
-ghost use Rattle.ipnet_blocks.specs.Networks.{IsTruncated};
+//! Replies, routes and operations, written.
+ghost use Rattle.std.specs.Prelude.{◌++◌, ◌∷◌, []};
 ghost use Rattle.route_laws.specs.LeastTables.{routes_for};
 ghost use Rattle.route_feed.specs.AddLines.{add_lines};
 ghost use Rattle.route_feed.specs.Counted.{CanCount};
 ghost use Rattle.route_feed.specs.Replies.{printed};
-ghost use Rattle.route_feed.specs.InnerReplies.{Delivers, Writes, reply_line};
-ghost use Rattle.route_feed.specs.InnerAddLines.{command_line};
+ghost use Rattle.route_feed.specs.InnerInstalling.{operation_bytes};
+ghost use Rattle.route_feed.specs.InnerLines.{AreTruncated, reply_line};
+ghost use Rattle.route_feed.specs.InnerReplies.{Delivers, Writes};
 ghost use Rattle.route_feed.specs.Devices.{Closes};
-ghost use Rattle.route_lines.specs.CommandText.{IsPrintableCommand};
-ghost use Rattle.route_lines.specs.Texts.{IsPrintable};
 
-use crate::body::Body;
+use crate::body::{Body, Operations};
 use crate::counted::Counted;
 use crate::error::RunError;
 use arrayvec::ArrayVec;
 use ipnet::IpNet;
-use route_lines::{Closing, Command, Reply};
+use route_lines::{Closing, Command, Reply, Update};
 use route_table::{DEFAULT_PREFERENCE, Hop};
 use std::io::Write;
 
@@ -39,31 +36,6 @@ pub fn write_piece<W: Write>(writer: &mut Counted<W>, piece: &[u8]) -> Result<()
         }
     }
     Ok(())
-}
-
-/// Writes a line.
-///
-/// # Errors
-/// `Write` alone: at an error of `write`, or where it takes nothing. Then a beginning of the line was written.
-pub fn write_line<W: Write>(writer: &mut Counted<W>, line: &Reply) -> Result<(), RunError>
-    requires faults { CanCount writer.old }
-    requires printable { IsPrintable line.now }
-    ensures { Writes W.contents writer.old writer.new result (reply_line line.now) }
-{
-    let mut text = ArrayVec::new();
-    line.print_to(&mut text);
-    write_piece(writer, text.as_slice())
-}
-
-/// Writes a command.
-fn write_command<W: Write>(writer: &mut Counted<W>, command: &Command) -> Result<(), RunError>
-    requires faults { CanCount writer.old }
-    requires printable { IsPrintableCommand command.now }
-    ensures { Writes W.contents writer.old writer.new result (command_line command.now) }
-{
-    let mut text = ArrayVec::new();
-    command.print_to(&mut text);
-    write_piece(writer, text.as_slice())
 }
 
 fn flush<W: Write>(writer: &mut Counted<W>) -> Result<(), RunError>
@@ -94,8 +66,10 @@ pub fn reply<W: Write, B: Body>(writer: &mut Counted<W>, mut body: B) -> Result<
     requires body { B.can_give body }
     ensures { Closes W.contents 1 writer.old writer.new result (printed (B.lines body ++ Reply.Close Closing.Done ∷ [])) }
 {
+    let mut text = ArrayVec::new();
     while let Some(line) = body.next_line() {
-        write_line(writer, &line)?;
+        line.print_to(&mut text);
+        write_piece(writer, text.as_slice())?;
     }
     close(writer, Closing::Done)
 }
@@ -109,16 +83,37 @@ pub fn write_routes<W: Write>(
     routes: &[(IpNet, Hop)],
 ) -> Result<(), RunError>
     requires counts { CanCount writer.old }
-    requires networks { All (λ r. IsTruncated (family r.0) (parts r.0)) routes.now }
+    requires networks { AreTruncated routes.now }
     ensures { Delivers W.contents writer.old writer.new result (add_lines (routes_for routes.now)) }
 {
+    let mut text = ArrayVec::new();
     for route in routes {
         let command = Command::Add {
             net: route.0,
             hop: route.1,
             pref: DEFAULT_PREFERENCE,
         };
-        write_command(writer, &command)?;
+        command.print_to(&mut text);
+        write_piece(writer, text.as_slice())?;
     }
     flush(writer)
+}
+
+/// Writes a line for each operation.
+///
+/// # Errors
+/// `Write` alone: at an error of `write`, or where it takes nothing. Then a beginning of the lines was written.
+pub fn write_operations<W: Write, O: Operations>(
+    writer: &mut Counted<W>,
+    mut operations: O,
+) -> Result<(), RunError>
+    requires { CanCount writer.old }
+    ensures { Writes W.contents writer.old writer.new result (operation_bytes (O.left operations)) }
+{
+    let mut text = ArrayVec::new();
+    while let Some(operation) = operations.next_operation() {
+        Update::from(operation).print_to(&mut text);
+        write_piece(writer, text.as_slice())?;
+    }
+    Ok(())
 }

@@ -1,17 +1,20 @@
 //! The program `routes`: a route table by lines from standard input, and replies to standard output.
 #![tactic(auto)]
 
-ghost use Rattle.std.specs.Prelude.{◌≡◌, ◌↔◌, ◌<◌, ◌^◌, ◌⊎◌, [], ◌∷◌, drop, map, IfErr, IfOk, IfSome, IsErrOf, Ok, OnOk, Some};
+ghost use Rattle.std.specs.Prelude.{◌≡◌, ◌↔◌, ◌⊎◌, [], ◌∷◌, drop, map, IfErr, IfOk, IfSome, IsErrOf, Ok, OnOk, Some};
 ghost use Rattle.std.specs.String.{string_bytes};
 ghost use Rattle.std.specs.Vec.Iter.{into_iter_items};
-ghost use Rattle.route_feed.specs.Counted.{ReadFault};
+ghost use Rattle.route_feed.specs.Counted.{CanRead, CanRun, ReadFault};
 ghost use Rattle.route_feed.specs.Follows.{MeetsAnother};
+ghost use Rattle.route_feed.specs.Status.{status_of};
+ghost use Rattle.route_feed.specs.declared.error.RunError.{RunError as AnyRunError};
 ghost use Rattle.routes.specs.Asked.{AnyMode, word_of};
 ghost use Rattle.routes.specs.Runs.{Ends, Writes};
-ghost use Rattle.routes.specs.Status.{status_of};
 
-use program_io::{Input, Output, REPLY, let_go, write_out};
-use route_feed::{Counted, RunError, follow_leaking, lead_leaking, shorten};
+use route_feed::{
+    AtEnd, Counted, Input, Output, REPLY, RunError, follow_then, lead_then, let_go, shorten,
+    write_out,
+};
 use std::alloc::{Allocator, Global};
 use std::cell::Cell;
 use std::env;
@@ -48,15 +51,14 @@ enum Fault {
 impl Fault {
     /// The exit status.
     fn status(&self) -> u8
-        ensures { result ≡ status_of self.now }
+        ensures arguments { self.now ≡ Fault.Arguments → result ≡ 1 }
+        ensures usage { self.now ≡ Fault.Usage → result ≡ 2 }
+        ensures run { (error : AnyRunError) → self.now ≡ Fault.Run error → result ≡ status_of error }
     {
         match self {
             Fault::Arguments => 1,
             Fault::Usage => 2,
-            Fault::Run(RunError::Memory) => 1,
-            Fault::Run(RunError::Read) => 3,
-            Fault::Run(RunError::Write) => 4,
-            Fault::Run(RunError::Line) => 5,
+            Fault::Run(error) => error.status(),
         }
     }
 }
@@ -105,15 +107,13 @@ fn run_as<R: Read, W: Write>(
     reader: &mut Counted<R>,
     writer: &mut Counted<W>,
 ) -> Result<(), RunError>
-    requires reads { reader.old.reads < 2 ^ 63 }
-    requires reader { reader.old.faults < 2 ^ 63 }
-    requires writer { writer.old.faults < 2 ^ 63 }
+    requires { CanRun reader.old writer.old }
     ensures ends { Ends R.remaining W.contents mode reader.old reader.new writer.old writer.new result }
     ensures known { OnOk result (IfSome (R.remaining reader.old.device) (λ bytes. Writes mode bytes (W.contents writer.old.device) (W.contents writer.new.device))) }
 {
     match mode {
-        Mode::Lead => lead_leaking(alloc, reader, writer),
-        Mode::Follow => follow_leaking(alloc, reader, writer),
+        Mode::Lead => lead_then(alloc, reader, writer, AtEnd::Leak),
+        Mode::Follow => follow_then(alloc, reader, writer, AtEnd::Leak),
         Mode::Least => shorten(alloc, reader, writer),
     }
 }
@@ -127,8 +127,7 @@ fn run_mode<R: Read, W: Write + Drop>(
     output: W,
     more: &Cell<bool>,
 ) -> Result<W, RunError>
-    requires reads { reader.old.reads < 2 ^ 63 }
-    requires faults { reader.old.faults < 2 ^ 63 }
+    requires { CanRead reader.old }
     ensures known { IfOk result (λ w. IfSome (R.remaining reader.old.device) (λ bytes. Writes mode bytes (W.contents output) (W.contents w))) }
     ensures read { IsErrOf result RunError.Read → ReadFault reader.old reader.new }
     ensures line { IsErrOf result RunError.Line → ((mode ≡ Mode.Follow) ⊎ (mode ≡ Mode.Least)) × MeetsAnother R.remaining reader.old reader.new }

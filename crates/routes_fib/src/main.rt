@@ -1,16 +1,16 @@
 //! The program `routes_fib`: a leader's reply lines from standard input, and operations on a forwarding table to standard output.
 #![tactic(auto)]
 
-ghost use Rattle.std.specs.Prelude.{◌≡◌, ◌↔◌, ◌<◌, ◌^◌, ◌⊎◌, [], drop, IfErr, IfOk, IfSome, IsErrOf, IsOk};
+ghost use Rattle.std.specs.Prelude.{◌≡◌, ◌↔◌, ◌⊎◌, [], drop, IfErr, IfOk, IfSome, IsErrOf, IsOk};
 ghost use Rattle.std.specs.Vec.Iter.{into_iter_items};
-ghost use Rattle.route_feed.specs.Counted.{ReadFault};
+ghost use Rattle.route_feed.specs.Counted.{CanRead, ReadFault};
 ghost use Rattle.route_feed.specs.Installs.{AppendsInstalled};
+ghost use Rattle.route_feed.specs.Status.{status_of};
+ghost use Rattle.route_feed.specs.declared.error.RunError.{RunError as AnyRunError};
 ghost use Rattle.route_lines.specs.Bytes.{lines};
 ghost use Rattle.routes_fib.specs.Ends.{MeetsUnfitLine, MeetsWantingLine};
-ghost use Rattle.routes_fib.specs.Status.{status_of};
 
-use program_io::{REPLY, let_go, write_out};
-use route_feed::{Counted, RunError, install};
+use route_feed::{Counted, REPLY, RunError, install, let_go, write_out};
 use std::alloc::{Allocator, Global};
 use std::env;
 use std::env::{Args, Env};
@@ -35,15 +35,14 @@ enum Fault {
 impl Fault {
     /// The exit status.
     fn status(&self) -> u8
-        ensures { result ≡ status_of self.now }
+        ensures arguments { self.now ≡ Fault.Arguments → result ≡ 1 }
+        ensures usage { self.now ≡ Fault.Usage → result ≡ 2 }
+        ensures run { (error : AnyRunError) → self.now ≡ Fault.Run error → result ≡ status_of error }
     {
         match self {
             Fault::Arguments => 1,
             Fault::Usage => 2,
-            Fault::Run(RunError::Memory) => 1,
-            Fault::Run(RunError::Read) => 3,
-            Fault::Run(RunError::Write) => 4,
-            Fault::Run(RunError::Line) => 5,
+            Fault::Run(error) => error.status(),
         }
     }
 }
@@ -77,8 +76,7 @@ fn install_by<R: Read, W: Write + Drop>(
     reader: &mut Counted<R>,
     output: W,
 ) -> Result<W, RunError>
-    requires reads { reader.old.reads < 2 ^ 63 }
-    requires faults { reader.old.faults < 2 ^ 63 }
+    requires { CanRead reader.old }
     ensures known { IfOk result (λ w. IfSome (R.remaining reader.old.device) (λ bytes. AppendsInstalled (lines bytes) (W.contents output) (W.contents w))) }
     ensures read { IsErrOf result RunError.Read → ReadFault reader.old reader.new }
     ensures line { IsErrOf result RunError.Line → MeetsUnfitLine R.remaining reader.old reader.new }

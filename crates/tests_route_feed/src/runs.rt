@@ -6,7 +6,7 @@ ghost use Rattle.route_feed.specs.Shortens.{IsLeastFor};
 ghost use Rattle.route_laws.specs.Tables.{Route};
 
 use crate::rows::{row_is, text_is};
-use route_feed::{Counted, RunError, follow, follow_leaking, install, lead, lead_leaking, shorten};
+use route_feed::{AtEnd, Counted, RunError, follow, follow_then, install, lead, lead_then, shorten};
 use std::alloc::Global;
 use std::io::{Read, Write};
 use std::process::Abort;
@@ -35,9 +35,9 @@ pub(crate) fn run<R: Read, W: Write>(
 {
     match mode {
         Mode::Lead => lead(alloc, reader, writer),
-        Mode::LeadLeaking => lead_leaking(alloc, reader, writer),
+        Mode::LeadLeaking => lead_then(alloc, reader, writer, AtEnd::Leak),
         Mode::Follow => follow(alloc, reader, writer),
-        Mode::FollowLeaking => follow_leaking(alloc, reader, writer),
+        Mode::FollowLeaking => follow_then(alloc, reader, writer, AtEnd::Leak),
         Mode::Shorten => shorten(alloc, reader, writer),
         Mode::Install => install(alloc, reader, writer),
     }

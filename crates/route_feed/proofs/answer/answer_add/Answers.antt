@@ -17,8 +17,8 @@ returns-in-Ok g c =
     let new = changed_is M b cs (with_some (choices_at M b) d) (subst IsStoredTable e.networks e.tables.1) in
     let same = plain_step M (Some (Add c.args.net c.args.hop c.args.pref)) e.room in
     record {
-      refusal = false;
-      writes = rw same (Closes-change g.W.Write.contents M c.add.new.self e.tables.0 b new.0 cs new.1 e.networks c.in-Ok.before c.in-Ok.after e.hops.0 e.hops.1 c.args.writer.now c.tell_change.new.writer c.tell_change.result c.tell_change.ensures.same c.tell_change.ensures.differs);
+      refused = false;
+      reply = rw same (Closes-change g.W.Write.contents M c.add.new.self e.tables.0 b new.0 cs new.1 e.networks c.in-Ok.before c.in-Ok.after e.hops.0 e.hops.1 c.args.writer.now c.tell_change.new.writer c.tell_change.result c.tell_change.ensures.same c.tell_change.ensures.differs);
       table = rw same e.networks;
     }
 
@@ -26,4 +26,4 @@ pub returns-in-Err : goal.returns-in-Err
 returns-in-Err g c =
     let e = c.in-Err.ensures in
     let (refusal, is) = refused_step c.args.table.now c.args.net c.args.hop c.args.pref c.in-Err.field-0 e.refused in
-    record { refusal = refusal; writes = rw is c.close.ensures; table = rw is e.unchanged }
+    record { refused = refusal; reply = rw is c.close.ensures; table = rw is e.unchanged }

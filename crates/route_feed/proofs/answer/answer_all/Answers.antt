@@ -16,7 +16,7 @@ returns g c =
     let cleared = ap block c.trunc.ensures.value ∙ of_network_at (block c.args.net) in
     let lines = ap (λ b. map (choice_line b) c.all.result) cleared ∙ ap (map (choice_line (block c.args.net))) c.all.ensures in
     record {
-      refusal = false;
-      writes = subst (λ ls. Closes g.W.Write.contents 1 c.args.writer.now c.reply.new.writer c.reply.result (printed (ls ++ Close Done ∷ []))) lines c.reply.ensures;
+      refused = false;
+      reply = subst (λ ls. Closes g.W.Write.contents 1 c.args.writer.now c.reply.new.writer c.reply.result (printed (ls ++ Close Done ∷ []))) lines c.reply.ensures;
       table = refl;
     }

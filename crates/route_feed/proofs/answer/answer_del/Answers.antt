@@ -16,19 +16,18 @@ returns-in-Some g c =
     let cs = choices_without (choices_at M b) c.args.hop in
     let are = without_are (choices_at M b) (at_are M e.tables.0 b) c.args.hop in
     record {
-      refusal = false;
-      writes = rw held (Closes-change g.W.Write.contents M c.del.new.self e.tables.0 b (held_is M e.tables.0 b c.args.hop held) cs are e.networks c.in-Some.before c.in-Some.after e.hops.0 e.hops.1 c.args.writer.now c.tell_change.new.writer c.tell_change.result c.tell_change.ensures.same c.tell_change.ensures.differs);
+      refused = false;
+      reply = rw held (Closes-change g.W.Write.contents M c.del.new.self e.tables.0 b (held_is M e.tables.0 b c.args.hop held) cs are e.networks c.in-Some.before c.in-Some.after e.hops.0 e.hops.1 c.args.writer.now c.tell_change.new.writer c.tell_change.result c.tell_change.ensures.same c.tell_change.ensures.differs);
       table = rw held e.networks;
     }
 
 pub returns-in-None : goal.returns-in-None
 returns-in-None g c =
     let M = c.args.table.now in
-    let b = block c.args.net in
     let e = c.in-None.ensures in
-    let none : holds_hop (choices_at M b) c.args.hop ≡ false = sym e.stored in
+    let none : holds_hop (choices_at M (block c.args.net)) c.args.hop ≡ false = sym e.stored in
     record {
-      refusal = false;
-      writes = rw none c.close.ensures;
-      table = rw none (e.networks ∙ none_left M e.tables.0 b c.args.hop none);
+      refused = false;
+      reply = rw none c.close.ensures;
+      table = rw none (e.networks ∙ none_left M e.tables.0 (block c.args.net) c.args.hop none);
     }

@@ -10,8 +10,8 @@ use Rattle.route_feed.proofs.answer.answer_flat.Goals as goal
 
 pub returns : goal.returns
 returns g c = record {
-  refusal = false;
-  writes = subst (λ ps. Closes g.W.Write.contents 1 c.args.writer.now c.reply.new.writer c.reply.result (printed (map flat_line ps ++ Close Done ∷ [])))
+  refused = false;
+  reply = subst (λ ps. Closes g.W.Write.contents 1 c.args.writer.now c.reply.new.writer c.reply.result (printed (map flat_line ps ++ Close Done ∷ [])))
       (flat_is (routes_of c.args.table.now) c.flat.result c.flat.ensures.flat) c.reply.ensures;
   table = refl;
 }

@@ -13,7 +13,7 @@ returns-in-Ok g c =
     let ns = c.in-Ok.networks.items in
     let lines = ap (λ l. map (λ n. own_line (block n)) l) c.as_slice.ensures.value ∙ map_twice own_line block ns ∙ ap (map own_line) c.in-Ok.ensures.flat in
     record {
-      refusal = false;
-      writes = subst (λ ls. Closes g.W.Write.contents 1 c.args.writer.now c.reply.new.writer c.reply.result (printed (ls ++ Close Done ∷ []))) lines c.reply.ensures;
+      refused = false;
+      reply = subst (λ ls. Closes g.W.Write.contents 1 c.args.writer.now c.reply.new.writer c.reply.result (printed (ls ++ Close Done ∷ []))) lines c.reply.ensures;
       table = refl;
     }

@@ -22,7 +22,7 @@ loop-turn-preserved g c =
       went = Went-more g.S.Sink.takes g.R.Read.remaining c.args.sink.now c.loop-turn.sink c.take_piece.new.sink c.args.reader.now c.loop-turn.reader c.read.new.self c.args.writer.now c.loop-turn.writer c.take_piece.new.writer
           c.loop-turn.cutter c.take_piece.new.cutter piece (Ok tt) inv.went c.in-Ok.ensures.bytes.0 c.in_ok-take_piece.ensures.takes c.in_ok-take_piece.ensures.cutter;
       can = c.in_ok-take_piece.ensures.others;
-      reads = omega (arith, c.in-Ok.ensures.reads, inv.reads, c.requires.reads);
+      reads = omega (arith, c.in-Ok.ensures.reads, inv.reads, c.requires.reader.0);
       faults = c.in-Ok.ensures.faults ∙ inv.faults;
     }
 
@@ -40,7 +40,7 @@ returns-in_default g c =
     record {
       bytes = inv.went.bytes;
       read = Consumes-kept _ _ _ inv.went.bytes inv.went.read c.in_default.ensures.bytes;
-      ends = inl (went_lines g.S.Sink.takes g.R.Read.remaining _ _ _ _ _ _ _ _ inv.went, refl, inl (omega (arith, c.in_default.ensures.faults, inv.faults, c.requires.reader), c.in_default.ensures.failing));
+      ends = inl (went_lines g.S.Sink.takes g.R.Read.remaining _ _ _ _ _ _ _ _ inv.went, refl, inl (omega (arith, c.in_default.ensures.faults, inv.faults, c.requires.reader.1), c.in_default.ensures.failing));
     }
 
 pub returns-then-count-eq0 : goal.returns-then-count-eq0

@@ -1,0 +1,84 @@
+//! The output, whose flush waits while more lines are here, and what becomes of it in the end.
+ghost use Rattle.std.specs.Io.{WritesAtMost};
+ghost use Rattle.std.specs.Io.Buffered.{writer_contents};
+ghost use Rattle.std.specs.Io.KnownBytes.{Keeps, WriteAppends};
+ghost use Rattle.std.specs.Prelude.{◌≡◌, IfErr, IfOk, is_err, length};
+ghost use Rattle.route_feed.specs.Counted.{more_if, took_none};
+
+use crate::counted::Counted;
+use crate::error::RunError;
+use std::cell::Cell;
+use std::io;
+use std::io::{BufWriter, Write};
+
+/// How many bytes of a reply are put together before they are written.
+pub const REPLY: usize = 1 << 16;
+
+/// A writer that is flushed only where no more lines are here to be answered: `more` says whether there are. A fault of the device
+/// is handed on.
+#[derive(Drop)]
+pub struct Output<'a, W: Drop> {
+    device: Counted<W>,
+    more: &'a Cell<bool>,
+}
+
+impl<'a, W: Drop> Output<'a, W> {
+    /// The output to a device.
+    pub fn new(device: W, more: &'a Cell<bool>) -> Output<'a, W>
+        ensures { result.device.device ≡ device }
+    {
+        Output {
+            device: Counted::new(device),
+            more,
+        }
+    }
+
+    /// The writer itself.
+    pub fn into_inner(self) -> W
+        ensures { result ≡ self.entry.device.device }
+    {
+        let Output { device, more: _ } = self;
+        device.into_inner()
+    }
+}
+
+impl<'a, W: Write + Drop> Write for Output<'a, W> {
+    ghost contents = { λ output. W.contents output.device.device };
+
+    fn write(&mut self, buf: &[u8]) -> io::Result<usize>
+        ensures bound { WritesAtMost result buf.now }
+        ensures bytes { WriteAppends (W.contents self.old.device.device) (W.contents self.new.device.device) result buf.now }
+        ensures faults { self.new.device.faults ≡ more_if (took_none result (length buf.now)) self.old.device.faults }
+    {
+        self.device.write(buf)
+    }
+
+    fn flush(&mut self) -> io::Result<()>
+        ensures bytes { Keeps (W.contents self.old.device.device) (W.contents self.new.device.device) }
+        ensures faults { self.new.device.faults ≡ more_if (is_err result) self.old.device.faults }
+    {
+        if self.more.get() {
+            return Ok(());
+        }
+        self.device.flush()
+    }
+}
+
+/// The output, with all that was gathered for it.
+pub fn write_out<W: Write + Drop>(buffered: BufWriter<W>) -> Result<W, RunError>
+    ensures written { IfOk result (λ w. Keeps (writer_contents W.contents buffered) (W.contents w)) }
+    ensures fault { IfErr result (λ e. e ≡ RunError.Write) }
+{
+    match buffered.into_inner() {
+        Ok(output) => Ok(output),
+        Err(error) => {
+            let_go(error.into_inner());
+            Err(RunError::Write)
+        }
+    }
+}
+
+/// Drops a writer, and what it has gathered unwritten.
+pub fn let_go<W: Write + Drop>(buffered: BufWriter<W>) {
+    let (_output, _unwritten) = buffered.into_parts();
+}
