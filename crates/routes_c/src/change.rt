@@ -1,5 +1,5 @@
 //! Changes of the table.
-ghost use Rattle.std.specs.Prelude.{◌≡◌, ◌+◌, ◌*◌, ◌^◌};
+ghost use Rattle.std.specs.Prelude.{◌+◌, ◌*◌, ◌^◌};
 ghost use Rattle.ipnet.specs.IpNets.{block};
 ghost use Rattle.ipnet_addr.specs.Addresses.{Ipv4, Ipv6};
 ghost use Rattle.ipnet_blocks.specs.Networks.{block_of};

@@ -22,8 +22,10 @@ pub enum Content {
 
 /// A kind of content.
 pub(crate) trait Kind {
+    /// What a content is of this kind.
     ghost part: { Content → Option Self };
 
+    /// The content that this is.
     ghost whole: { Self → Content };
 
     /// What there is of this kind.

@@ -1,5 +1,5 @@
 //! A handle, and calls on what it has.
-ghost use Rattle.std.specs.Prelude.{◌≡◌, None, Some, Err, IfErr, IfNone, IfOk, IfSome, MatchOption, true, false};
+ghost use Rattle.std.specs.Prelude.{◌≡◌, None, Some, IfNone, IfSome, MatchOption, true, false};
 ghost use Rattle.std.specs.Fn.{FnOnceReturnsAtMut};
 ghost use Rattle.routes_c.specs.Handles.{GoesOn, IsClosed, IsHandle, content_of, of_kind};
 ghost use Rattle.routes_c.specs.Runs.{ReturnsAtBoth};

@@ -10,9 +10,9 @@ use std::alloc::Global;
 use std::marker::Model;
 use std::ptr::null_mut;
 
-/// A content, or none. C has one pointer of it, which is null where there is none.
+/// What an open handle has, or nothing. C has one pointer of it, which is null where there is nothing.
 ///
-/// The cast hides the content's type from C. The ghost field has the content, and the struct owns its box.
+/// The cast hides its type from C. The ghost field has the content, and the struct owns its box.
 #[repr(C)]
 #[derive(Drop)]
 pub struct Held {
@@ -26,7 +26,7 @@ impl Model for Held {
 }
 
 impl Held {
-    /// No content.
+    /// Nothing.
     pub(crate) fn none(alloc: Global) -> Held
         ensures { result.content ≡ None }
     {
@@ -36,7 +36,7 @@ impl Held {
         }
     }
 
-    /// The content of this box.
+    /// What is in this box.
     pub(crate) fn of(content: Box<Content>) -> Held
         ensures { result.content ≡ Some content.value }
     {
@@ -53,7 +53,7 @@ impl Held {
         }
     }
 
-    /// The content, in its box.
+    /// It, in its box.
     pub(crate) fn into_box(self) -> Box<Content>
         requires { is_some self.content ≡ true }
         ensures { self.content ≡ Some result.value }

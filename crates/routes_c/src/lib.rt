@@ -1,4 +1,6 @@
-//! Route tables for C: a table behind a handle that the caller owns, and its calls, on numbers and buffers.
+//! Route tables for C: a table, an index or a follower behind a handle that the caller owns, and its calls, on numbers and buffers.
+//!
+//! A handle that has something of another kind than a call is for is answered as a closed one is, and keeps it.
 //!
 //! include/routes.h has the C declarations. Nothing checks a C caller: it owes each `requires`, and what the types say.
 #![tactic(auto)]

@@ -1,5 +1,5 @@
 //! Handles opened and closed.
-ghost use Rattle.std.specs.Prelude.{◌≡◌, Err, IfErr, IfOk, MatchOption, true, false, ⊤};
+ghost use Rattle.std.specs.Prelude.{◌≡◌, Err, ⊤};
 ghost use Rattle.routes_c.specs.Handles.{IsClosed, IsHandle, Reads, content_of, follower_of, session_of};
 ghost use Rattle.routes_c.specs.Opens.{IsNewFollower, IsNewTable, Opens, OpensIndex, OpensIndexOf};
 
