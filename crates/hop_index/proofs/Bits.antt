@@ -7,7 +7,7 @@ use Rattle.std.proofs.lemmas.Nat.{div-add-mod', mod-pow-add, ones_cat, pow-add, 
 use Rattle.std.proofs.Math.Nat.{add-mul-mod_self_right, mod-eq_of_lt, mod-lt, mul-le-mul_right, zero-mod}
 use Rattle.hop_index.specs.Ranges.{HopRange}
 use Rattle.hop_index.specs.InnerRanges.{AreMarksOf, AreRanges, BeginsBelow, BeginsFrom}
-use Rattle.hop_index.proofs.Searches.{begins_below, below_later}
+use Rattle.hop_index.proofs.Searches.{begins_below, below_later, from_block}
 
 pub one_bit : (b : ℕ) → b < 2 → count_ones b ≡ b
 unfolding lib.Count.ones
@@ -106,12 +106,5 @@ module _ (rs : List HopRange) (start low : ℕ) where
   pub all_marked : (place high marks : ℕ) → marks < 2 ^ 64 → Marked place marks → high ≤ place → place ≤ length rs → BeginsFrom rs (start + 2 ^ 14) high → AreMarksOf rs start low marks
   all_marked place high marks fits m past place_in h = record {
     below = λ some j l. m.below j l;
-    from = λ some j l. record {
-      within = (m.below j l).within;
-      from = λ k d c k_in. ⊎_elim
-          (λ old. m.from j k d l c old)
-          (λ new. let f : start + 2 ^ 14 ≤ (get_or rs k d).first = h.from k d (omega arith) k_in in
-          let t : j * 256 ≤ 64 * 256 = mul-le-mul_right 256 l in omega arith)
-          (cases_lt k place);
-    };
+    from = λ some j l. from_block rs start 256 j (before marks j) place high l (m.below j l) (λ k d. m.from j k d l) past h;
   }

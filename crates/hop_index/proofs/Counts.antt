@@ -8,7 +8,7 @@ use Rattle.std.proofs.Math.Nat.{div-eq_of_lt, mod-eq_of_lt, mod-lt, mul-le-mul_r
 use Rattle.hop_index.specs.Ranges.{HopRange}
 use Rattle.hop_index.specs.InnerRanges.{AreCountsOf, AreRanges, BeginsBelow, BeginsFrom}
 use Rattle.hop_index.proofs.Bits.{all_below, none_from, one_bit, one_more_bit, same_below}
-use Rattle.hop_index.proofs.Searches.{begins_below, below_later, first_before, one_more}
+use Rattle.hop_index.proofs.Searches.{begins_below, below_later, first_before, from_block, one_more}
 
 -- the bits of a word, above and below one of them
 split_ones : (w j : ℕ) → count_ones w ≡ count_ones (w / 2 ^ j) + count_ones (w % 2 ^ j)
@@ -141,14 +141,7 @@ pub all_counted : (rs : List HopRange) (start base place high word : ℕ) (count
 all_counted rs start base place high word counts c all past h = record {
   within = λ some j l. omega (arith, all, split_ones word j);
   below = λ some j l. c.below j l;
-  from = λ some j l. record {
-    within = (c.below j l).within;
-    from = λ k d m k_in. ⊎_elim
-        (λ old. c.from j k d l m old)
-        (λ ge. let f : start + 2 ^ 107 ≤ (get_or rs k d).first = h.from k d (omega arith) k_in in
-        let t : j * 2 ^ 101 ≤ 64 * 2 ^ 101 = mul-le-mul_right (2 ^ 101) l in omega (arith, f, t))
-        (cases_lt k place);
-  };
+  from = λ some j l. from_block rs start (2 ^ 101) j (counts_from counts base (count_ones (word % 2 ^ j))) place high l (c.below j l) (λ k d. c.from j k d l) past h;
 }
 
 -- one more chunk

@@ -5,36 +5,20 @@ use Rattle.std.proofs.lemmas.Nat.{pow_pos}
 use Rattle.ipnet_addr.specs.Addresses.{Family, Address, IsAddress, rank, same_family}
 use Rattle.ipnet_addr.proofs.Families.{family_from_test, test_from_family}
 use Rattle.ipnet_addr.proofs.Members.{In}
-use Rattle.ipnet_addr.proofs.Ascending.{All-from_In, Contains-from_In, Rising, Rising-from_pairs, pairs_from_Rising}
-use Rattle.ipnet_blocks.specs.Blocks.{Block, IsBlock, IsBefore, HasAddress, IsInside, first, last, first_of, free_bits}
-use Rattle.ipnet_blocks.specs.Maximal.{IsMaximalBlock}
-use Rattle.ipnet_blocks.proofs.BlockLaws.{strict, has_first, same_sets, nested}
+use Rattle.ipnet_addr.proofs.Ascending.{All-from_In, Rising, Rising-from_pairs, pairs_from_Rising}
+use Rattle.ipnet_blocks.specs.Blocks.{HasAddress, first, last, first_of, free_bits}
+use Rattle.ipnet_blocks.proofs.BlockLaws.{has_first, nested}
 use Rattle.ipnet_blocks.proofs.Cuts.{has_of_span, span_of_has}
 use Rattle.route_choices.proofs.Kept.{In-map, map_In, Rising-kept, In-from_filter, In-filter}
 use Rattle.route_laws.specs.Flats.{Piece, IsFlat}
-use Rattle.route_laws.proofs.Flats.{Sooner, piece_at, tells}
+use Rattle.route_laws.proofs.Flats.{Sooner, not_inside, piece_at, piece_is_block, tells}
+use Rattle.route_laws.proofs.Ordered.{before_apart}
 use Rattle.route_table.proofs.FlatPieces.{Rising-map}
 use Rattle.hop_index.specs.Ranges.{HopRange, IsIn, hop_in}
 use Rattle.hop_index.specs.InnerRanges.{AreRanges, EndsBefore, range_of, ranges_in}
 use Rattle.hop_index.proofs.Lookups.{in_or_none}
 
 module _ (h : Address → Option ℕ) (ps : List Piece) (flat : IsFlat h ps) where
-  maximal : (p : Piece) → In p ps → IsMaximalBlock (λ x. h x ≡ Some p.number) p.block
-  maximal p i = (flat.exact p).0 (Contains-from_In ps p i)
-
-  block_in : (p : Piece) → In p ps → IsBlock p.block
-  block_in p i = (maximal p i).within.block
-
-  -- no piece lies in another
-  not_inside : (p q : Piece) → In p ps → In q ps → (q.block ≡ p.block → ⊥) → IsInside q.block p.block → ⊥
-  not_inside p q i j other k =
-      let x = first_of q.block in
-      let here : h x ≡ Some q.number = tells h ps flat q j x (has_first q.block) in
-      let there : h x ≡ Some p.number = tells h ps flat p i x (k x (has_first q.block)) in
-      let e : p.number ≡ q.number = cc in
-      let same : IsInside p.block q.block → ⊥ = λ m. other (same_sets q.block p.block (block_in q j) (block_in p i) k m) in
-      (maximal q j).largest p.block (record { block = block_in p i; all = λ y m. subst (λ n. h y ≡ Some n) e (tells h ps flat p i y m) }) (k, same)
-
   abbrev in_family : Family → Piece → Bool
   in_family f p = same_family p.block.family f
 
@@ -45,16 +29,16 @@ module _ (h : Address → Option ℕ) (ps : List Piece) (flat : IsFlat h ps) whe
         let b = In-from_filter (in_family f) ps q j in
         let g : p.block.family ≡ q.block.family = family_from_test p.block.family f a.1 ∙ sym (family_from_test q.block.family f b.1) in
         let ranks : rank p.block.family ≡ rank q.block.family = ap (λ n. rank n) g in
-        let other : q.block ≡ p.block → ⊥ = λ e. let z : IsBefore p.block p.block = subst (λ (c : Block). IsBefore p.block c) e l in strict p.block p.block z z in
+        let other : q.block ≡ p.block → ⊥ = λ e. before_apart p.block q.block l (sym e) in
         let up : first p.block ≤ first q.block = grind arith in
         let some : 0 < 2 ^ free_bits p.block = pow_pos (free_bits p.block) in
         ⊎_elim (λ less. less)
         (λ more.
         let inside : HasAddress p.block (first_of q.block) = has_of_span p.block (first_of q.block) (sym g) up (omega arith) in
         absurd (⊎_elim
-        (λ k. not_inside q p b.0 a.0 (λ e. other (sym e)) k)
-        (λ k. not_inside p q a.0 b.0 other k)
-        (nested p.block q.block (first_of q.block) (block_in p a.0) (block_in q b.0) inside (has_first q.block))))
+        (λ k. not_inside h ps flat q p b.0 a.0 (λ e. other (sym e)) k)
+        (λ k. not_inside h ps flat p q a.0 b.0 other k)
+        (nested p.block q.block (first_of q.block) (piece_is_block h ps flat p a.0) (piece_is_block h ps flat q b.0) inside (has_first q.block))))
         (cases_lt (last p.block) (first q.block))
 
     rising : Rising EndsBefore (ranges_in f ps)

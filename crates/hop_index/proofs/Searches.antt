@@ -1,8 +1,9 @@
 -- How many of ascending ranges begin below a number.
-use Rattle.std.proofs.Common.{◌≡◌, ℕ, ◌+◌, ◌*◌, ◌<◌, ◌≤◌, List, [], ◌∷◌, ◌++◌, length, get_or, sym, subst, arith, ⊎_elim}
+use Rattle.std.proofs.Common.{◌≡◌, ℕ, ◌+◌, ◌-◌, ◌*◌, ◌/◌, ◌%◌, ◌<◌, ◌≤◌, List, [], ◌∷◌, ◌++◌, length, get_or, sym, ap, ◌∙◌, subst, arith, ⊎_elim}
 use Rattle.std.proofs.lemmas.Bool.{cases_lt}
 use Rattle.std.proofs.lemmas.List.{get_or_append_left, get_or_default, get_or_push}
-use Rattle.std.proofs.Math.Nat.{mul-le-mul_right}
+use Rattle.std.proofs.lemmas.Nat.{div-add-mod'}
+use Rattle.std.proofs.Math.Nat.{mod-lt, mul-le-mul_right}
 use Rattle.hop_index.specs.Ranges.{HopRange}
 use Rattle.hop_index.specs.InnerRanges.{AreRanges, BeginsBelow, BeginsFrom}
 
@@ -74,3 +75,40 @@ none_below rs y = record { within = omega arith; below = λ k d l. absurd (omega
 -- an earlier bound
 pub from_sooner : (rs : List HopRange) (y z i : ℕ) → z ≤ y → BeginsFrom rs y i → BeginsFrom rs z i
 from_sooner rs y z i le b = record { within = b.within; from = λ k d l m. let f : y ≤ (get_or rs k d).first = b.from k d l m in omega arith }
+
+-- the ranges from a block on are those of its chunk and those after the chunk
+pub from_block : (rs : List HopRange) (start size j n place high : ℕ) → j ≤ 64 → BeginsBelow rs (start + j * size) n → ((k : ℕ) (d : HopRange) → n ≤ k → k < place → start + j * size ≤ (get_or rs k d).first) → high ≤ place
+    → BeginsFrom rs (start + 64 * size) high → BeginsFrom rs (start + j * size) n
+from_block rs start size j n place high l below old past h = record {
+  within = below.within;
+  from = λ k d c k_in. ⊎_elim
+      (λ before. old k d c before)
+      (λ ge. let f : start + 64 * size ≤ (get_or rs k d).first = h.from k d (omega arith) k_in in
+      let t : j * size ≤ 64 * size = mul-le-mul_right size l in omega (arith, f, t))
+      (cases_lt k place);
+}
+
+-- the block of a chunk in which a range begins
+pub record InBlock (rs : List HopRange) (start size place b : ℕ) (d : HopRange) : Type 0 where
+  pub within : place < length rs
+  pub block : b < 64
+  pub from : start + b * size ≤ (get_or rs place d).first
+  pub below : (get_or rs place d).first < start + (b + 1) * size
+
+pub block_at : (rs : List HopRange) (start size low place high first : ℕ) (d : HopRange) → 0 < size → BeginsFrom rs start low → BeginsBelow rs (start + 64 * size) high → low ≤ place → place < high → d ≡ get_or rs place d → first ≡ d.first
+    → InBlock rs start size place ((first - start) / size) d
+block_at rs start size low place high first d some from below l m is same =
+    let b : ℕ = (first - start) / size in
+    let within : place < length rs = omega (arith, m, below.within) in
+    let f : start ≤ (get_or rs place d).first = from.from place d l within in
+    let t : (get_or rs place d).first < start + 64 * size = below.below place d m in
+    let e : first ≡ (get_or rs place d).first = same ∙ ap (λ (r : HopRange). r.first) is in
+    let q : b * size + (first - start) % size ≡ first - start = div-add-mod' (first - start) size in
+    let r : (first - start) % size < size = mod-lt (first - start) some in
+    let n : (b + 1) * size ≡ b * size + size = grind arith in
+    record {
+      within = within;
+      block = ⊎_elim (λ h. h) (λ ge. let g : 64 * size ≤ b * size = mul-le-mul_right size ge in absurd (omega arith)) (cases_lt b 64);
+      from = omega arith;
+      below = omega arith;
+    }

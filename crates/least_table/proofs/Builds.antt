@@ -14,7 +14,8 @@ use Rattle.least_table.specs.InnerPlans.{Plan, top, tree_of, IsMade, between, Fi
 use Rattle.least_table.specs.InnerPlans as plans
 use Rattle.least_table.proofs.Cuts.{hop_at-low, hop_at-high, first_of_all}
 use Rattle.least_table.proofs.Growths.{best_of_tree, length_between, skip_plan}
-use Rattle.least_table.proofs.Shares.{AllShare, none_outside, hop_inside, all_share, shared_left, shared_right, shared_short, last_step, ascending_deeper}
+use Rattle.ipnet_blocks.proofs.BitStrings.{take_begins}
+use Rattle.least_table.proofs.Shares.{AllShare, none_outside, hop_inside, all_share, shared_right, shared_short, last_step, ascending_deeper}
 
 pub plan_same : (w : ℕ) (h g : List Bool → Option ℕ) (t : Tree) → ((x : List Bool) → h x ≡ g x) → IsPlan w g t → IsPlan w h t
 plan_same w h g (Leaf k) e plan = λ x l. e x ∙ plan x l
@@ -91,7 +92,7 @@ module _ {B : Type 0} (string : B → List Bool) where
       n = let z : c - d ≡ shared (drop d (string x.0)) (drop d (string y.0)) = omega (arith, g) in ap (λ m. take m (drop d (string x.0))) z
 
       here : begins (take (shared (drop d (string x.0)) (drop d (string y.0))) (drop d (string x.0))) (drop d (string p.0)) ≡ true
-      here = subst (λ q. begins (take (shared (drop d (string x.0)) (drop d (string y.0))) (drop d (string x.0))) (drop d (string q.0)) ≡ true) (sym one) (shared_left (drop d (string x.0)) (drop d (string y.0)))
+      here = subst (λ q. begins (take (shared (drop d (string x.0)) (drop d (string y.0))) (drop d (string x.0))) (drop d (string q.0)) ≡ true) (sym one) (take_begins (shared (drop d (string x.0)) (drop d (string y.0))) (drop d (string x.0)))
 
       go : (qs : List (B × ℕ)) → slice_get (p ∷ qs) (length (p ∷ qs) - 1) ≡ Some y → IsAscending (beyond string d (p ∷ qs)) → AllShare (take (shared (drop d (string x.0)) (drop d (string y.0))) (drop d (string x.0))) (beyond string d (p ∷ qs))
       go [] f h = (here, tt)

@@ -2,9 +2,10 @@
 use Rattle.std.proofs.Common.{◌≡◌, ℕ, zero, suc, ◌+◌, ◌-◌, ◌≤◌, Bool, true, false, List, [], ◌∷◌, ◌++◌, length, take, drop, Some, None, refl, sym, ap, ap₂, ◌∙◌, subst, arith, slice_get}
 use Rattle.std.specs.Prelude.{⊤}
 use Rattle.ipnet_blocks.specs.BitStrings.{begins}
+use Rattle.ipnet_blocks.proofs.BitStrings.{begins-under, begun_rest}
 use Rattle.least_table.specs.Pieces.{hop_at}
 use Rattle.least_table.specs.InnerPieces.{before, BeforeAll, IsAscending, beyond, shared}
-use Rattle.least_table.proofs.Cuts.{begins_half, before_half}
+use Rattle.least_table.proofs.Cuts.{before_half}
 
 -- what lies between two blocks that begin with these bits begins with them
 pub share : (ds a b z : List Bool) → before a b ≡ true → before b z ≡ true → begins ds a ≡ true → begins ds z ≡ true → begins ds b ≡ true
@@ -20,14 +21,6 @@ share (true ∷ ds) (true ∷ a) (v ∷ b) (false ∷ z) e f g h = cc
 share (false ∷ ds) (false ∷ a) (v ∷ b) (true ∷ z) e f g h = cc
 share (true ∷ ds) (true ∷ a) (false ∷ b) (true ∷ z) e f g h = cc
 share (false ∷ ds) (false ∷ a) (true ∷ b) (false ∷ z) e f g h = cc
-
-pub shared_left : (s t : List Bool) → begins (take (shared s t) s) s ≡ true
-shared_left [] t = refl
-shared_left (x ∷ s) [] = refl
-shared_left (true ∷ s) (true ∷ t) = shared_left s t
-shared_left (false ∷ s) (false ∷ t) = shared_left s t
-shared_left (true ∷ s) (false ∷ t) = refl
-shared_left (false ∷ s) (true ∷ t) = refl
 
 pub shared_right : (s t : List Bool) → begins (take (shared s t) s) t ≡ true
 shared_right [] t = refl
@@ -50,14 +43,6 @@ abbrev pub AllShare : List Bool → List (List Bool × ℕ) → Type 0
 AllShare ds [] = ⊤
 AllShare ds (p ∷ ps) = (begins ds p.0 ≡ true) × AllShare ds ps
 
-begins_parts : (ds t : List Bool) → begins ds t ≡ true → t ≡ ds ++ drop (length ds) t
-begins_parts [] t e = refl
-begins_parts (x ∷ ds) [] e = cc
-begins_parts (true ∷ ds) (true ∷ t) e = ap (λ u. true ∷ u) (begins_parts ds t e)
-begins_parts (false ∷ ds) (false ∷ t) e = ap (λ u. false ∷ u) (begins_parts ds t e)
-begins_parts (true ∷ ds) (false ∷ t) e = cc
-begins_parts (false ∷ ds) (true ∷ t) e = cc
-
 drop_more : (s : List Bool) (d n : ℕ) → drop n (drop d s) ≡ drop (d + n) s
 drop_more s zero n = let e : 0 + n ≡ n = omega arith in rw e refl
 drop_more [] (suc d) n = nothing n (suc d + n)
@@ -68,10 +53,6 @@ drop_more [] (suc d) n = nothing n (suc d + n)
     nothing (suc m) zero = refl
     nothing (suc m) (suc k) = refl
 drop_more (x ∷ s) (suc d) n = let e : suc d + n ≡ suc (d + n) = omega arith in rw e (drop_more s d n)
-
-begins_append : (ds r x : List Bool) → begins (ds ++ r) (ds ++ x) ≡ begins r x
-begins_append [] r x = refl
-begins_append (b ∷ ds) r x = begins_half (ds ++ r) (ds ++ x) b ∙ begins_append ds r x
 
 before_append : (ds a b : List Bool) → before (ds ++ a) (ds ++ b) ≡ before a b
 before_append [] a b = refl
@@ -90,7 +71,7 @@ last_step p q ps = let z : suc (suc (length ps)) - 1 ≡ suc (suc (length ps) - 
 
 module _ {B : Type 0} (string : B → List Bool) (ds : List Bool) (d : ℕ) where
   parts : (s : List Bool) → begins ds (drop d s) ≡ true → drop d s ≡ ds ++ drop (d + length ds) s
-  parts s e = begins_parts ds (drop d s) e ∙ ap (λ t. ds ++ t) (drop_more s d (length ds))
+  parts s e = sym (begun_rest ds (drop d s) e) ∙ ap (λ t. ds ++ t) (drop_more s d (length ds))
 
   -- no hop outside
   pub none_outside : (ps : List (B × ℕ)) → AllShare ds (beyond string d ps) → (x : List Bool) → begins ds x ≡ false → hop_at (beyond string d ps) x ≡ None
@@ -100,7 +81,7 @@ module _ {B : Type 0} (string : B → List Bool) (ds : List Bool) (d : ℕ) wher
   -- and inside those of the pieces without these bits
   pub hop_inside : (ps : List (B × ℕ)) → AllShare ds (beyond string d ps) → (x : List Bool) → hop_at (beyond string d ps) (ds ++ x) ≡ hop_at (beyond string (d + length ds) ps) x
   hop_inside [] h x = refl
-  hop_inside (p ∷ ps) h x = rw (parts (string p.0) h.0, begins_append ds (drop (d + length ds) (string p.0)) x, hop_inside ps h.1 x) refl
+  hop_inside (p ∷ ps) h x = rw (parts (string p.0) h.0, begins-under ds (drop (d + length ds) (string p.0)) x, hop_inside ps h.1 x) refl
 
   before_all_deeper : (s : List Bool) (ps : List (B × ℕ)) → begins ds (drop d s) ≡ true → AllShare ds (beyond string d ps) → BeforeAll (drop d s) (beyond string d ps) → BeforeAll (drop (d + length ds) s) (beyond string (d + length ds) ps)
   before_all_deeper s [] e h k = tt

@@ -1,5 +1,5 @@
 -- Tables of routes over bit strings, the hop of an address, and the shortest tables.
-use Rattle.std.specs.Prelude.{◌≡◌, ◌≢◌, ℕ, ◌+◌, ◌≤◌, Bool, cond, List, [], ◌∷◌, length, nat_lt, Option, Some, None, ⊤, ◌⊎◌}
+use Rattle.std.specs.Prelude.{◌≡◌, ◌≢◌, ℕ, ◌≤◌, Bool, cond, List, [], ◌∷◌, length, nat_lt, Option, Some, None, ⊤}
 use Rattle.ipnet_blocks.specs.BitStrings.{begins}
 
 -- no route of t is at the block b

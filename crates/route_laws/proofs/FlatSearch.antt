@@ -47,6 +47,10 @@ rising_piece : (b : Block) (o : Option ℕ) (ps : List Piece) → Rising Sooner 
 rising_piece b None ps h = h
 rising_piece b (Some n) ps h = ((λ y i. absurd i), tt)
 
+-- a block stands above its halves
+above_half : (t : Block) (quotient : ℕ) → quotient / 2 ≡ t.quotient → parent (record { family = t.family; len = t.len + 1; quotient = quotient }) ≡ t
+above_half t quotient h = (let n : (t.len + 1) - 1 ≡ t.len = omega arith in λ i. record { family = t.family; len = n i; quotient = h i })
+
 module _ (h : Address → Option ℕ) where
   pub all_from_one : (k : ℕ) (t : Block) → IsBlock t → free_bits t ≡ k → (n : ℕ) → one_hop_in h k t ≡ Some n → (x : Address) → HasAddress t x → h x ≡ Some n
   unfolding one_hop_in
@@ -73,23 +77,11 @@ module _ (h : Address → Option ℕ) where
   not_one : (k : ℕ) (t : Block) → IsBlock t → free_bits t ≡ k → one_hop_in h k t ≡ None → HasOneHop h t → ⊥
   not_one k t p e o w = let a = one_from_all k t p e w.number w.all in cc
 
-  none_left : (k : ℕ) (t : Block) → IsBlock t → free_bits t ≡ suc k → one_hop_in h (suc k) t ≡ None → NoLarger (left t)
-  none_left k t p e o c w l =
-      let r : 0 < free_bits t = omega arith in
-      let i = parent_in_larger c (left t) w.block (left_is_block t p r) l in
-      let n : (t.len + 1) - 1 ≡ t.len = omega arith in
-      let q : (2 * t.quotient) / 2 ≡ t.quotient = omega arith in
-      let at : parent (left t) ≡ t = λ j. record { family = t.family; len = n j; quotient = q j } in
-      not_one (suc k) t p e o (record { block = p; number = w.number; all = λ x m. w.all x (i x (subst (λ (a : Block). HasAddress a x) (sym at) m)) })
-
-  none_right : (k : ℕ) (t : Block) → IsBlock t → free_bits t ≡ suc k → one_hop_in h (suc k) t ≡ None → NoLarger (right t)
-  none_right k t p e o c w l =
-      let r : 0 < free_bits t = omega arith in
-      let i = parent_in_larger c (right t) w.block (right_is_block t p r) l in
-      let n : (t.len + 1) - 1 ≡ t.len = omega arith in
-      let q : (2 * t.quotient + 1) / 2 ≡ t.quotient = omega arith in
-      let at : parent (right t) ≡ t = λ j. record { family = t.family; len = n j; quotient = q j } in
-      not_one (suc k) t p e o (record { block = p; number = w.number; all = λ x m. w.all x (i x (subst (λ (a : Block). HasAddress a x) (sym at) m)) })
+  -- what is larger than a half holds the whole
+  none_half : (k : ℕ) (t half : Block) → IsBlock t → IsBlock half → parent half ≡ t → free_bits t ≡ suc k → one_hop_in h (suc k) t ≡ None → NoLarger half
+  none_half k t half p q above e o c w l =
+      let i = parent_in_larger c half w.block q l in
+      not_one (suc k) t p e o (record { block = p; number = w.number; all = λ x m. w.all x (i x (subst (λ (a : Block). HasAddress a x) (sym above) m)) })
 
   located : (k : ℕ) (t : Block) → IsBlock t → free_bits t ≡ k → (p : Piece) → In p (flat_in h k t) → IsInside p.block t
   unfolding flat_in
@@ -119,8 +111,8 @@ module _ (h : Address → Option ℕ) where
       let r : 0 < free_bits t = omega arith in
       ⊎_elim (λ s. maximal_here (suc k) t ok e none p s.0 s.1)
       (λ s. ⊎_elim
-      (λ j. sound k (left t) (left_is_block t ok r) (omega arith) (none_left k t ok e s.0) p j)
-      (λ j. sound k (right t) (right_is_block t ok r) (omega arith) (none_right k t ok e s.0) p j)
+      (λ j. sound k (left t) (left_is_block t ok r) (omega arith) (none_half k t (left t) ok (left_is_block t ok r) (above_half t (2 * t.quotient) (omega arith)) e s.0) p j)
+      (λ j. sound k (right t) (right_is_block t ok r) (omega arith) (none_half k t (right t) ok (right_is_block t ok r) (above_half t (2 * t.quotient + 1) (omega arith)) e s.0) p j)
       (In-cases p (flat_in h k (left t)) (flat_in h k (right t)) s.1))
       (in_piece t (one_hop_in h (suc k) t) (flat_in h k (left t) ++ flat_in h k (right t)) p i)
 

@@ -17,7 +17,7 @@ use Rattle.route_laws.proofs.Flats.{Sooner, piece_at, tells}
 use Rattle.route_laws.proofs.Insides.{Sound, table_of}
 use Rattle.route_laws.proofs.Insides as routes
 use Rattle.route_laws.proofs.Matches.{match_from, match_meets}
-use Rattle.route_laws.proofs.Ordered.{rising_map}
+use Rattle.route_laws.proofs.Ordered.{Rising-map}
 
 module _ (h : Address → Option ℕ) (ps : List Piece) (small : AreHops h) (flat : IsFlat h ps) where
   maximal : (p : Piece) → In p ps → IsMaximalBlock (λ x. h x ≡ Some p.number) p.block
@@ -33,7 +33,7 @@ module _ (h : Address → Option ℕ) (ps : List Piece) (small : AreHops h) (fla
   N = map route_for ps
 
   is_table : IsTable N
-  is_table = table_of N (λ r i. let t = In-map route_for ps r i in subst Sound (sym t.2) (sound t.0 t.1)) (rising_map Sooner routes.Sooner route_for (λ p q l. l) ps (Rising-from_pairs Sooner ps flat.ascending))
+  is_table = table_of N (λ r i. let t = In-map route_for ps r i in subst Sound (sym t.2) (sound t.0 t.1)) (Rising-map Sooner routes.Sooner route_for (λ p q l. l) ps (Rising-from_pairs Sooner ps flat.ascending))
 
   -- pieces with an address in common are the same block
   same_piece : (p q : Piece) → In p ps → In q ps → (x : Address) → HasAddress p.block x → HasAddress q.block x → p.block ≡ q.block

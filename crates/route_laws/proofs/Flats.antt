@@ -2,7 +2,7 @@
 use Rattle.std.proofs.Common.{◌≡◌, ℕ, ◌≤◌, ◌⊎◌, ◌↔◌, inl, inr, ⊎_elim, List, [], ◌∷◌, length, Any, Option, Some, None, IsSome, refl, sym, ap, ◌∙◌, subst, arith}
 use native.Mathlib.Decide.{ℕ_discrete}
 use Rattle.ipnet_addr.specs.Addresses.{width, Address, IsAddress}
-use Rattle.ipnet_blocks.specs.Blocks.{Block, HasAddress, IsInside, IsBefore, IsAscending, host, first_of}
+use Rattle.ipnet_blocks.specs.Blocks.{Block, IsBlock, HasAddress, IsInside, IsBefore, IsAscending, host, first_of}
 use Rattle.ipnet_blocks.specs.Maximal.{IsWithin, IsMaximalBlock}
 use Rattle.ipnet_addr.proofs.Members.{In, Distinct}
 use Rattle.ipnet_addr.proofs.Ascending.{In-from_Contains, Contains-from_In, In-from_All, All-from_In, In-from_Any, Any-from_In, Rising, Rising-from_pairs, Distinct-from_Rising, same_rising}
@@ -120,8 +120,24 @@ module _ (h : Address → Option ℕ) where
           Any-from_In (λ b. HasAddress b x) (blocks_of ps) (Piece.block t.0) (In-map t.0 ps t.1) t.2
       go x a None e s = absurd (let z : IsSome {T = ℕ} None = subst (λ (o : Option ℕ). IsSome o) e s in cc)
 
+  pub piece_is_maximal : (ps : List Piece) → IsFlat h ps → (p : Piece) → In p ps → IsMaximalBlock (λ x. h x ≡ Some p.number) p.block
+  piece_is_maximal ps f p i = (f.exact p).0 (Contains-from_In ps p i)
+
+  pub piece_is_block : (ps : List Piece) → IsFlat h ps → (p : Piece) → In p ps → IsBlock p.block
+  piece_is_block ps f p i = (piece_is_maximal ps f p i).within.block
+
   pub tells : (ps : List Piece) → IsFlat h ps → (p : Piece) → In p ps → (x : Address) → HasAddress p.block x → h x ≡ Some p.number
-  tells ps f p i x m = ((f.exact p).0 (Contains-from_In ps p i)).within.all x m
+  tells ps f p i x m = (piece_is_maximal ps f p i).within.all x m
+
+  -- no piece lies in another
+  pub not_inside : (ps : List Piece) → IsFlat h ps → (p q : Piece) → In p ps → In q ps → (q.block ≡ p.block → ⊥) → IsInside q.block p.block → ⊥
+  not_inside ps f p q i j other k =
+      let x = first_of q.block in
+      let here : h x ≡ Some q.number = tells ps f q j x (has_first q.block) in
+      let there : h x ≡ Some p.number = tells ps f p i x (k x (has_first q.block)) in
+      let e : p.number ≡ q.number = cc in
+      (piece_is_maximal ps f q j).largest p.block (record { block = piece_is_block ps f p i; all = λ y m. subst (λ n. h y ≡ Some n) e (tells ps f p i y m) })
+      (k, λ m. other (same_sets q.block p.block (piece_is_block ps f q j) (piece_is_block ps f p i) k m))
 
 pub within_same : (S T : Address → Type 0) → ((x : Address) → IsAddress x → S x → T x) → (b : Block) → IsWithin S b → IsWithin T b
 within_same S T f b w = record { block = w.block; all = λ x m. f x (member_is_address b x w.block m) (w.all x m) }

@@ -10,7 +10,7 @@ use Rattle.route_laws.specs.Networks.{Stored, choices_at, with_choice, with_choi
 use Rattle.route_laws.specs.Tables.{Route, IsTable, covering, hop_at, longer, longest, match_number}
 use Rattle.route_laws.proofs.Insides.{Sooner, Sound, rising, sound, table_of}
 use Rattle.route_laws.proofs.Networks.{at_cases}
-use Rattle.route_laws.proofs.Ordered.{before_apart, put_last, rising_map}
+use Rattle.route_laws.proofs.Ordered.{before_apart, put_last, Rising-map}
 
 -- a network that comes after all stored ones
 module _ (T : List Stored) (b : Block) (after : (s : Stored) → In s T → IsBefore s.block b) where
@@ -51,4 +51,4 @@ module _ (pref : ℕ) where
   pub preferring_table : (M : List Route) → IsTable M → IsTable (map preferring M)
   preferring_table M table = table_of (map preferring M)
       (λ r i. let t = In-map preferring M r i in subst Sound (sym t.2) (sound M table t.0 t.1))
-      (rising_map Sooner Sooner preferring (λ r s l. l) M (rising M table))
+      (Rising-map Sooner Sooner preferring (λ r s l. l) M (rising M table))

@@ -12,7 +12,7 @@ use Rattle.route_choices.proofs.Kept.{filter_map_swap, map_append, In-map, map_I
 use Rattle.route_choices.proofs.Preferences.{test_from_hop, test_from_apart}
 use Rattle.route_choices.proofs.ChoiceLists.{left_back, without_are, without_none, with_are, none_are}
 use Rattle.route_laws.specs.Tables.{Route, IsTable, with_route, without_block}
-use Rattle.route_laws.proofs.Ordered.{same_or_not, put_back, put_itself, put_other, put_rises, gone_back, gone_other, gone_rises, one_of_block, rising_map}
+use Rattle.route_laws.proofs.Ordered.{same_or_not, put_back, put_itself, put_other, put_rises, gone_back, gone_other, gone_rises, one_of_block, Rising-map}
 use Rattle.route_laws.proofs.Updates.{Sooner, added_back, added_itself, added_other, added_is_table}
 use Rattle.route_laws.specs.Networks.{Stored, IsStoredTable, best_route, routes_of, choices_at, with_stored, without_stored, without_each, with_choices, with_choice, without_choice}
 
@@ -176,7 +176,7 @@ pub routes_are_table : (T : List Stored) → IsStoredTable T → IsTable (routes
 routes_are_table T ok = record {
   blocks = All-from_In (λ r. IsBlock r.block) (routes_of T) (λ r i. let t = In-map best_route T r i in subst (λ (u : Route). IsBlock u.block) (sym t.2) (stored_block T ok t.0 t.1));
   hops = All-from_In (λ r. IsHop r.hop) (routes_of T) (λ r i. let t = In-map best_route T r i in subst (λ (u : Route). IsHop u.hop) (sym t.2) (best_is_hop t.0.choices (stored_choices T ok t.0 t.1)));
-  ascending = pairs_from_Rising Sooner (routes_of T) (rising_map Earlier Sooner best_route (λ s t l. l) T (rising T ok));
+  ascending = pairs_from_Rising Sooner (routes_of T) (Rising-map Earlier Sooner best_route (λ s t l. l) T (rising T ok));
 }
 
 -- ---- a choice that is not the best

@@ -20,10 +20,6 @@ before_apart a b l q = strict b b (subst (λ (c : Block). IsBefore c b) q l) (su
 pub same_or_not : (a b : Block) → (a ≡ b) ⊎ (a ≡ b → ⊥)
 same_or_not a b = ⊎_elim (λ l. inr (λ e. before_apart a b l e)) (λ r. ⊎_elim (λ e. inl e) (λ l. inr (λ e. before_apart b a l (sym e))) r) (total a b)
 
-pub rising_map : {A B : Type 0} (R : A → A → Type 0) (S : B → B → Type 0) (f : A → B) → ((a b : A) → R a b → S (f a) (f b)) → (xs : List A) → Rising R xs → Rising S (map f xs)
-rising_map R S f h [] up = tt
-rising_map R S f h (x ∷ xs) up = ((λ y i. let t = In-map f xs y i in subst (λ z. S (f x) z) (sym t.2) (h x t.0 (up.0 t.0 t.1))), rising_map R S f h xs up.1)
-
 module _ {X : Type 0} (at : X → Block) where
   abbrev pub Earlier : X → X → Type 0
   Earlier x y = IsBefore (at x) (at y)

@@ -20,7 +20,7 @@ use Rattle.route_laws.proofs.FlatTables.{flat_is_table, sound}
 use Rattle.route_laws.proofs.Flats.{Sooner}
 use Rattle.route_laws.proofs.Listed.{added_last, none_at}
 use Rattle.route_laws.proofs.Networks.{Earlier}
-use Rattle.route_laws.proofs.Ordered.{rising_map}
+use Rattle.route_laws.proofs.Ordered.{Rising-map}
 use Rattle.route_laws.proofs.Rebuilds.{flat_moved}
 
 abbrev choice_for : Piece → Choice
@@ -72,7 +72,7 @@ module _ (h : Address → Option ℕ) (ps : List Piece) (flat : IsFlat h ps) whe
       blocks = All-from_In (λ s. IsBlock s.block) (map stored_for ps) (λ s i. (good s i).0);
       some = All-from_In (λ s. s.choices ≡ [] → ⊥) (map stored_for ps) (λ s i. (good s i).1);
       choices = All-from_In (λ s. AreChoices s.choices) (map stored_for ps) (λ s i. (good s i).2);
-      ascending = pairs_from_Rising Earlier (map stored_for ps) (rising_map Sooner Earlier stored_for (λ p q l. l) ps up);
+      ascending = pairs_from_Rising Earlier (map stored_for ps) (Rising-map Sooner Earlier stored_for (λ p q l. l) ps up);
     }
 
     has_hops : HasHops h (routes_of (with_each [] ps))

@@ -2,7 +2,7 @@
 use Rattle.std.proofs.Common.{ℕ, List, [], ◌∷◌, codes, refl, arith}
 use Rattle.route_lines.specs.Texts.{IsCommand}
 use Rattle.route_lines.specs.InnerFree as Free
-use Rattle.route_lines.proofs.Good.{Good}
+use Rattle.route_lines.specs.Grammar.{IsGrammar}
 use Rattle.route_lines.proofs.Good as Good
 use Rattle.route_lines.proofs.Forms.{Form, Made, phrase, word, lines}
 use Rattle.route_lines.specs.declared.command.Command.{Command}
@@ -36,5 +36,5 @@ made text (C.Own n) h = record { at = 8; value = n; is = refl; spells = h }
 made text C.Count h = record { at = 9; value = tt; is = refl; spells = h }
 made text C.Flat h = record { at = 10; value = tt; is = refl; spells = h }
 
-pub commands : Good IsCommand 72
+pub commands : IsGrammar IsCommand 72
 commands = lines forms IsCommand refl made

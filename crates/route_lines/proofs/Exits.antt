@@ -1,5 +1,8 @@
 -- Where no reader of a case takes a line, it is none of the grammar.
-use Rattle.std.proofs.Common.{◌≢◌, ℕ, List, codes, Option, Some, None}
+use Rattle.std.proofs.Common.{◌≡◌, ◌≢◌, ℕ, List, codes, sym, subst, Option, Some, None}
+use Rattle.std.specs.Prelude.{unwrap_or}
+use Rattle.ipnet.specs.declared.ip_net.IpNet.{IpNet}
+use Rattle.route_choices.specs.Choices.{default_preference}
 use Rattle.route_lines.specs.Phrase.{Then, After}
 use Rattle.route_lines.specs.Words.{IsNet, IsNumber, IsLimit, IsCount, IsHop, IsPreference, IsOptional, IsPreferred}
 use Rattle.route_lines.specs.Texts.{IsCommand, IsReply, IsNote, IsUpdate, closing_text}
@@ -25,6 +28,22 @@ no_optional text two alone (hop, None) h = alone hop h
 
 pub no_preferred : (text : List ℕ) → ((x : Hop × Option ℕ) → ¬ (IsOptional text x)) → (x : Hop × ℕ) → ¬ (IsPreferred text x)
 no_preferred text none x h = none (x.0, h.0) h.1
+
+-- a route whose hop stands alone has the default preference
+pub added : (line : List ℕ) (net : IpNet) (hop : Hop) (pref : ℕ) (given : Option ℕ) (route : Hop × Option ℕ) → (hop, given) ≡ route → pref ≡ unwrap_or given default_preference → After (codes "add ") (Then IsNet IsOptional) line (net, route)
+    → IsCommand line (C.Add net hop pref)
+added line net hop pref given route is e h = record {
+  rest = h.rest;
+  spelled = h.spelled;
+  phrase = record { front = h.phrase.front; back = h.phrase.back; spelled = h.phrase.spelled; first = h.phrase.first; second = (given, subst (IsOptional h.phrase.back) (sym is) h.phrase.second, e) };
+}
+
+pub no_add : (line : List ℕ) → No (Then IsNet IsOptional) (codes "add ") line → No (Then IsNet IsPreferred) (codes "add ") line
+no_add line none x h = none (x.0, (x.1.0, h.phrase.second.0)) (record {
+  rest = h.rest;
+  spelled = h.spelled;
+  phrase = record { front = h.phrase.front; back = h.phrase.back; spelled = h.phrase.spelled; first = h.phrase.first; second = h.phrase.second.1 };
+})
 
 pub no_command : (line : List ℕ)
     → No (Then IsNet IsPreferred) (codes "add ") line

@@ -5,7 +5,7 @@ use Rattle.std.specs.List.{list_all}
 use Rattle.std.proofs.lemmas.Bool.{and_parts}
 use Rattle.std.proofs.lemmas.Bool.Decides.{nat_tests}
 use Rattle.route_lines.specs.Phrase.{After}
-use Rattle.route_lines.proofs.Good.{Good}
+use Rattle.route_lines.specs.Grammar.{IsGrammar}
 use Rattle.route_lines.proofs.Good as Good
 
 -- the first three bytes
@@ -19,11 +19,11 @@ pub record Form (Line : Type 0) (limit : ℕ) : Type 1 where
   pub Spells : List ℕ → Value → Type 0
   pub code : ℕ
   pub starts : (text : List ℕ) (x : Value) → Spells text x → start text ≡ code
-  pub good : Good Spells limit
+  pub good : IsGrammar Spells limit
 
 -- the first word, and a phrase
 abbrev pub phrase : {Line A : Type 0} {P : List ℕ → A → Type 0} {n limit : ℕ} (first : List ℕ) → ((rest : List ℕ) → start (first ++ rest) ≡ start first) → list_all (ltb 10) first ≡ true → length first + n ≤ limit
-    → Good P n → (A → Line) → Form Line limit
+    → IsGrammar P n → (A → Line) → Form Line limit
 phrase {Line} {A} {P} {n} {limit} first begins clean within good make = record {
   Value = A;
   make = make;
@@ -88,7 +88,7 @@ module _ {Line : Type 0} {limit : ℕ} where
   same_line (f ∷ fs) e text (suc m) zero x y h k = absurd (differs fs f.code m (and_parts (lacks f.code fs) (apart fs) e).0 x (sym ((form fs m).starts text x h) ∙ f.starts text y k))
   same_line (f ∷ fs) e text (suc m) (suc n) x y h k = same_line fs (and_parts (lacks f.code fs) (apart fs) e).1 text m n x y h k
 
-  pub lines : (fs : List (Form Line limit)) (IsLine : List ℕ → Line → Type 0) → apart fs ≡ true → ((text : List ℕ) (line : Line) → IsLine text line → Made fs text line) → Good IsLine limit
+  pub lines : (fs : List (Form Line limit)) (IsLine : List ℕ → Line → Type 0) → apart fs ≡ true → ((text : List ℕ) (line : Line) → IsLine text line → Made fs text line) → IsGrammar IsLine limit
   lines fs IsLine e made = record {
     one = λ text a b h k. (let p = made text a h in let q = made text b k in sym p.is ∙ same_line fs e text p.at q.at p.value q.value p.spells q.spells ∙ q.is);
     short = λ text a h. (let p = made text a h in (form fs p.at).good.short text p.value p.spells);

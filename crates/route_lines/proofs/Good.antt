@@ -14,6 +14,7 @@ use Rattle.ipnet.specs.declared.ip_net.IpNet.{IpNet}
 use Rattle.ipnet.proofs.NoSpace.{no_line_end}
 use Rattle.ipnet.proofs.Longest.{longest}
 use Rattle.ipnet.proofs.IpNetworks.{ip_unique}
+use Rattle.route_lines.specs.Grammar.{IsGrammar}
 use Rattle.route_lines.specs.Phrase.{IsDecimal, Then, After}
 use Rattle.route_lines.specs.InnerPhrase.{IsFree}
 use Rattle.route_lines.specs.Words.{IsNet, IsNumber, IsLimit, IsCount, IsHop, IsPreference, IsOptional, IsPreferred}
@@ -23,11 +24,6 @@ use Rattle.route_choices.specs.declared.hop.Hop.TheVariants.{Number, Drop}
 use Rattle.route_lines.specs.InnerFree as Free
 use Rattle.route_lines.proofs.Words.{same_word, split_at, not_two}
 
-pub record Good {A : Type 0} (Spells : List ℕ → A → Type 0) (limit : ℕ) : Type 0 where
-  pub one : (text : List ℕ) (a b : A) → Spells text a → Spells text b → a ≡ b
-  pub short : (text : List ℕ) (a : A) → Spells text a → length text ≤ limit
-  pub clean : (text : List ℕ) (a : A) → Spells text a → All (λ c. c ≢ 10) text
-
 -- of a text that is written out
 pub written : (text : List ℕ) → list_all (ltb 10) text ≡ true → All (λ c. c ≢ 10) text
 written text e = λ k d within same. (let above = ltb-true 10 _ (AllPass-from_list_all (ltb 10) text e k d within) in omega arith)
@@ -35,10 +31,10 @@ written text e = λ k d within same. (let above = ltb-true 10 _ (AllPass-from_li
 and : (xs ys : List ℕ) → All (λ c. c ≢ 10) xs → All (λ c. c ≢ 10) ys → All (λ c. c ≢ 10) (xs ++ ys)
 and xs ys h k = All-append (λ c. c ≢ 10) xs ys h k
 
-pub word : (text : List ℕ) (limit : ℕ) → list_all (ltb 10) text ≡ true → length text ≤ limit → Good {A = ⊤} (λ t x. t ≡ text) limit
+pub word : (text : List ℕ) (limit : ℕ) → list_all (ltb 10) text ≡ true → length text ≤ limit → IsGrammar {A = ⊤} (λ t x. t ≡ text) limit
 word text limit e within = record { one = λ t a b h k. refl; short = λ t a h. omega (arith, ap length h); clean = λ t a h. rw h (written text e) }
 
-pub net : Good IsNet 51
+pub net : IsGrammar IsNet 51
 net = record {
   one = λ t a b h k. h.2 ∙ ap (λ (n : IpNet). network_at (block n)) (ip_unique t h.0 k.0 h.1 k.1) ∙ sym k.2;
   short = λ t a h. longest t h.0 h.1;
@@ -51,20 +47,20 @@ digits (c ∷ cs) h =
     let other : c ≢ 10 = λ end. (let below : digit_value 10 < 10 = rw end at h.0 in omega arith) in
     and (c ∷ []) cs (λ k d within. (let first : k ≡ 0 = omega arith in rw first other)) (digits cs h.1)
 
-pub number : (low high count : ℕ) → 0 < count → high < 2 ^ 64 → high < 10 ^ count → Good (IsDecimal low high) count
+pub number : (low high count : ℕ) → 0 < count → high < 2 ^ 64 → high < 10 ^ count → IsGrammar (IsDecimal low high) count
 number low high count some small fits = record {
   one = λ t a b h k. decimal_injective a b (omega (arith, h.2)) (omega (arith, k.2)) (sym h.0 ∙ k.0);
   short = λ t a h. omega (arith, ap length h.0, length-decimal-le count a some (omega (arith, h.2)) (omega (arith, h.2)));
   clean = λ t a h. rw h.0 (digits (decimal a) (decimal_is_IsNumeral a (omega (arith, h.2))).0.1);
 }
 
-pub limit : Good IsLimit 4
+pub limit : IsGrammar IsLimit 4
 limit = number 1 1000 4 (omega arith) (omega arith) (omega arith)
 
-pub u64 : Good IsCount 20
+pub u64 : IsGrammar IsCount 20
 u64 = number 0 0xffffffffffffffff 20 (omega arith) (omega arith) (omega arith)
 
-pub u32 : Good IsNumber 10
+pub u32 : IsGrammar IsNumber 10
 u32 = number 0 0xffffffff 10 (omega arith) (omega arith) (omega arith)
 
 not_drop : (text : List ℕ) (m : ℕ) → IsNumber text m → ¬ (text ≡ codes "drop")
@@ -86,10 +82,10 @@ clean_hop : (text : List ℕ) (x : Hop) → IsHop text x → All (λ c. c ≢ 10
 clean_hop text (Number n) h = u32.clean text n h
 clean_hop text Drop h = rw h (written (codes "drop") refl)
 
-pub hop : Good IsHop 10
+pub hop : IsGrammar IsHop 10
 hop = record { one = one_hop; short = short_hop; clean = clean_hop }
 
-pub then : {A B : Type 0} {P : List ℕ → A → Type 0} {Q : List ℕ → B → Type 0} {m n : ℕ} → IsFree P → Good P m → Good Q n → Good (Then P Q) (m + 1 + n)
+pub then : {A B : Type 0} {P : List ℕ → A → Type 0} {Q : List ℕ → B → Type 0} {m n : ℕ} → IsFree P → IsGrammar P m → IsGrammar Q n → IsGrammar (Then P Q) (m + 1 + n)
 then {A} {B} {P} {Q} {m} {n} free p q = record {
   one = λ t x y h k.
       let same = same_word h.front k.front h.back k.back (free h.front x.0 h.first) (free k.front y.0 k.first) (sym (h.spelled ∙ split_at h.front h.back) ∙ k.spelled ∙ split_at k.front k.back) in
@@ -100,7 +96,7 @@ then {A} {B} {P} {Q} {m} {n} free p q = record {
   clean = λ t x h. rw h.spelled (and (h.front ++ codes " ") h.back (and h.front (codes " ") (p.clean h.front x.0 h.first) (written (codes " ") refl)) (q.clean h.back x.1 h.second));
 }
 
-pub hop_preference : Good (Then IsHop IsPreference) 16
+pub hop_preference : IsGrammar (Then IsHop IsPreference) 16
 hop_preference = then Free.hop hop (number 0 0xffff 5 (omega arith) (omega arith) (omega arith))
 
 one_optional : (text : List ℕ) (x y : Hop × Option ℕ) → IsOptional text x → IsOptional text y → x ≡ y
@@ -117,10 +113,10 @@ clean_optional : (text : List ℕ) (x : Hop × Option ℕ) → IsOptional text x
 clean_optional text (a, Some m) h = hop_preference.clean text (a, m) h
 clean_optional text (a, None) h = hop.clean text a h
 
-pub optional : Good IsOptional 16
+pub optional : IsGrammar IsOptional 16
 optional = record { one = one_optional; short = short_optional; clean = clean_optional }
 
-pub preferred : Good IsPreferred 16
+pub preferred : IsGrammar IsPreferred 16
 preferred = record {
   one = λ t x y h k.
       let same : (x.0, h.0) ≡ (y.0, k.0) = optional.one t (x.0, h.0) (y.0, k.0) h.1 k.1 in
@@ -130,7 +126,7 @@ preferred = record {
   clean = λ t x h. optional.clean t (x.0, h.0) h.1;
 }
 
-pub after : {A : Type 0} {P : List ℕ → A → Type 0} {n : ℕ} (prefix : List ℕ) (limit : ℕ) → list_all (ltb 10) prefix ≡ true → length prefix + n ≤ limit → Good P n → Good (After prefix P) limit
+pub after : {A : Type 0} {P : List ℕ → A → Type 0} {n : ℕ} (prefix : List ℕ) (limit : ℕ) → list_all (ltb 10) prefix ≡ true → length prefix + n ≤ limit → IsGrammar P n → IsGrammar (After prefix P) limit
 after {A} {P} {n} prefix limit e within p = record {
   one = λ t x y h k. (let same : h.rest ≡ k.rest = append_cancel_left prefix h.rest k.rest (sym h.spelled ∙ k.spelled) in p.one k.rest x y (subst (λ s. P s x) same h.phrase) k.phrase);
   short = λ t x h. omega (arith, within, ap length h.spelled, length-append prefix h.rest, p.short h.rest x h.phrase);

@@ -13,17 +13,17 @@ use Rattle.route_lines.specs.Words.{IsNet, IsHop}
 use Rattle.route_lines.specs.declared.note.Note.{Note}
 use Rattle.route_lines.specs.declared.note.Note.TheVariants as N
 use Rattle.route_lines.specs.declared.reply.Reply.{Reply}
-use Rattle.route_lines.proofs.Good.{Good}
+use Rattle.route_lines.specs.Grammar.{IsGrammar}
 use Rattle.route_lines.proofs.Good as Good
 use Rattle.route_lines.proofs.Forms.{start}
 use Rattle.route_lines.proofs.Printed.{cut}
 use Rattle.route_lines.proofs.Replies.{replies as reply_lines, not_have, not_sync}
 use Rattle.route_lines.proofs.Spells.{note_found, reply_found}
 
-have : Good (After (codes "have ") (Then IsNet IsHop)) 74
+have : IsGrammar (After (codes "have ") (Then IsNet IsHop)) 74
 have = Good.after (codes "have ") 74 refl (omega arith) (Good.then Free.net Good.net Good.hop)
 
-sync : Good {A = ⊤} (λ text x. text ≡ codes "sync") 74
+sync : IsGrammar {A = ⊤} (λ text x. text ≡ codes "sync") 74
 sync = Good.word (codes "sync") 74 refl (omega arith)
 
 begins_have : (text : List ℕ) (x : IpNet × Hop) → After (codes "have ") (Then IsNet IsHop) text x → start text ≡ start (codes "have ")
@@ -53,7 +53,7 @@ clean_note text (N.Have net hop) h = have.clean text (net, hop) h
 clean_note text N.Sync h = sync.clean text tt h
 clean_note text (N.Reply r) h = reply_lines.clean text r h
 
-pub notes : Good IsNote 74
+pub notes : IsGrammar IsNote 74
 notes = record { one = one_note; short = short_note; clean = clean_note }
 
 pub cut_note : (text : List ℕ) (net : IpNet) (hop : Hop) → IsNote text (N.Have net hop) → net ≡ network_at (block net)

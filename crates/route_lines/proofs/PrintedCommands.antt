@@ -1,6 +1,6 @@
 -- What is printed of a command reads as that command.
 use Rattle.std.proofs.Common.{◌≡◌, ℕ, ◌≤◌, ◌==◌, cond, Bool, true, false, Option, Some, None, List, [], ◌++◌, codes, decimal, refl, arith, sym, subst, append_assoc, append-nil}
-use Rattle.std.specs.Prelude.{⊤, unwrap_or}
+use Rattle.std.specs.Prelude.{unwrap_or}
 use Rattle.std.proofs.lemmas.Bool.Decides.{nat_tests}
 use Rattle.ipnet.specs.IpNetText.{net_text, Reads}
 use Rattle.ipnet.specs.declared.ip_net.IpNet.{IpNet}
@@ -8,36 +8,15 @@ use Rattle.ipnet.proofs.Spelled.{cut_reads}
 use Rattle.route_choices.specs.Choices.{default_preference}
 use Rattle.route_choices.specs.declared.hop.Hop.{Hop}
 use Rattle.route_choices.specs.declared.hop.Hop.TheVariants.{Number, Drop}
-use Rattle.route_lines.specs.Phrase.{Then, After}
+use Rattle.route_lines.specs.Grammar.{IsTextOf}
+use Rattle.route_lines.specs.InnerPrinted.{CommandWords}
 use Rattle.route_lines.specs.Words.{IsNet, IsHop, IsOptional, IsPreferred}
 use Rattle.route_lines.specs.Texts.{IsCommand, hop_text}
 use Rattle.route_lines.specs.CommandText.{command_text, preference_text, IsPrintableCommand}
 use Rattle.route_lines.specs.declared.command.Command.{Command}
 use Rattle.route_lines.specs.declared.command.Command.TheVariants as C
 use Rattle.route_lines.proofs.Commands.{commands}
-use Rattle.route_lines.proofs.Printed.{then, cut}
-
--- its words read as what they stand for
-abbrev pub Words : Command → Type 0
-Words (C.Add net hop pref) = Reads (net_text net) net × IsHop (hop_text hop) hop × (pref ≤ 0xffff)
-Words (C.Del net hop) = Reads (net_text net) net × IsHop (hop_text hop) hop
-Words (C.Get net) = Reads (net_text net) net
-Words (C.Cover net) = Reads (net_text net) net
-Words (C.List net) = Reads (net_text net) net
-Words (C.All net) = Reads (net_text net) net
-Words (C.PageFrom net limit) = Reads (net_text net) net
-Words (C.PageAfter net limit) = Reads (net_text net) net
-Words (C.Own n) = n ≤ 0xffffffff
-Words C.Count = ⊤
-Words C.Flat = ⊤
-
--- a word and a phrase, and a word and two
-pub alone : {A : Type 0} {P : List ℕ → A → Type 0} (prefix rest : List ℕ) (x : A) → P rest x → After prefix P (prefix ++ rest) x
-alone prefix rest x h = record { rest = rest; spelled = refl; phrase = h }
-
-pub both : {A B : Type 0} {P : List ℕ → A → Type 0} {Q : List ℕ → B → Type 0} (prefix front back : List ℕ) (x : A × B) → P front x.0 → Q back x.1
-    → After prefix (Then P Q) (prefix ++ front ++ codes " " ++ back) x
-both prefix front back x h k = record { rest = front ++ codes " " ++ back; spelled = simp append_assoc; phrase = then front back x h k }
+use Rattle.route_lines.proofs.Printed.{alone, both, cut, text_of_each}
 
 preferred : (hop : Hop) (pref : ℕ) → IsHop (hop_text hop) hop → pref ≤ 0xffff → IsPreferred (hop_text hop ++ preference_text pref) (hop, pref)
 preferred hop pref h small = go (pref == default_preference) refl
@@ -46,7 +25,7 @@ preferred hop pref h small = go (pref == default_preference) refl
     go true e = (None, subst (λ text. IsHop text hop) (sym (append-nil (hop_text hop))) h, grind (arith, nat_tests))
     go false e = (Some pref, record { front = hop_text hop; back = decimal pref; spelled = simp append_assoc; first = h; second = (refl, omega arith, small) }, refl)
 
-pub prints : (c : Command) → IsPrintableCommand c → Words c → IsCommand (command_text c) c
+pub prints : (c : Command) → IsPrintableCommand c → CommandWords c → IsCommand (command_text c) c
 prints (C.Add net hop pref) block w =
     subst (λ text. IsCommand text (C.Add net hop pref)) (sym (append_assoc (codes "add " ++ net_text net ++ codes " ") (hop_text hop) (preference_text pref)))
     (both (codes "add ") (net_text net) (hop_text hop ++ preference_text pref) (net, (hop, pref)) (net, w.0, block) (preferred hop pref w.1 w.2))
@@ -90,7 +69,7 @@ optional_small text hop None h = (hop_again text hop h, omega arith)
 preferred_again : (text : List ℕ) (hop : Hop) (pref : ℕ) → IsPreferred text (hop, pref) → IsHop (hop_text hop) hop × (pref ≤ 0xffff)
 preferred_again text hop pref h = (let small = optional_small text hop h.0 h.1 in (small.0, omega (arith, h.2, small.1)))
 
-words : (text : List ℕ) (c : Command) → IsCommand text c → Words c
+words : (text : List ℕ) (c : Command) → IsCommand text c → CommandWords c
 words text (C.Add net hop pref) h = let route = preferred_again h.phrase.back hop pref h.phrase.second in (net_again h.phrase.front net h.phrase.first, route.0, route.1)
 words text (C.Del net hop) h = (net_again h.phrase.front net h.phrase.first, hop_again h.phrase.back hop h.phrase.second)
 words text (C.Get net) h = net_again h.rest net h.phrase
@@ -103,8 +82,5 @@ words text (C.Own n) h = h.phrase.2
 words text C.Count h = tt
 words text C.Flat h = tt
 
-pub reads : (text : List ℕ) (c : Command) → IsCommand text c → IsCommand (command_text c) c
-reads text c h = prints c (printable_command text c h) (words text c h)
-
-pub apart : (s t : List ℕ) (a b : Command) → IsCommand s a → IsCommand t b → command_text a ≡ command_text b → a ≡ b
-apart s t a b h k e = commands.one (command_text a) a b (reads s a h) (subst (λ text. IsCommand text b) (sym e) (reads t b k))
+pub texts : IsTextOf IsCommand command_text
+texts = text_of_each command_text commands (λ text c h. prints c (printable_command text c h) (words text c h))

@@ -2,7 +2,7 @@
 use Rattle.std.proofs.Common.{◌≢◌, ℕ, List, [], ◌∷◌, codes, refl, arith}
 use Rattle.route_lines.specs.Texts.{IsReply}
 use Rattle.route_lines.specs.InnerFree as Free
-use Rattle.route_lines.proofs.Good.{Good}
+use Rattle.route_lines.specs.Grammar.{IsGrammar}
 use Rattle.route_lines.proofs.Good as Good
 use Rattle.route_lines.proofs.Forms.{Form, Made, phrase, word, lines, start, begins_otherwise}
 use Rattle.route_lines.specs.declared.reply.Closing.TheVariants.{Done, Missing, Bad, Refused}
@@ -35,7 +35,7 @@ made text (R.Close Missing) h = record { at = 7; value = tt; is = refl; spells =
 made text (R.Close Bad) h = record { at = 8; value = tt; is = refl; spells = h }
 made text (R.Close Refused) h = record { at = 9; value = tt; is = refl; spells = h }
 
-pub replies : Good IsReply 74
+pub replies : IsGrammar IsReply 74
 replies = lines forms IsReply refl made
 
 pub not_have : (text : List ℕ) (a : Reply) → IsReply text a → start text ≢ start (codes "have ")

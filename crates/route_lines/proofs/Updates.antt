@@ -1,21 +1,20 @@
 -- The lines that an installer writes: one value, a longest text, no line end; and what is printed reads as that line.
-use Rattle.std.proofs.Common.{◌≡◌, ◌↔◌, ℕ, List, [], ◌∷◌, codes, refl, sym, subst, arith}
-use Rattle.std.specs.Prelude.{⊤}
-use Rattle.ipnet.specs.IpNetText.{net_text, Reads}
+use Rattle.std.proofs.Common.{◌≡◌, ◌↔◌, ℕ, List, [], ◌∷◌, codes, refl, arith}
+use Rattle.ipnet.specs.IpNetText.{net_text}
 use Rattle.ipnet.specs.IpNets.{block, network_at}
 use Rattle.route_table.specs.Operations.{network_of}
 use Rattle.route_table.specs.declared.between.Operation.{Operation}
 use Rattle.route_table.specs.declared.between.Operation.TheVariants as O
 use Rattle.route_lines.specs.InnerFree as Free
 use Rattle.route_lines.specs.Texts.{IsUpdate, IsPrintableUpdate, hop_text, update_for, update_text}
-use Rattle.route_lines.specs.Words.{IsHop}
+use Rattle.route_lines.specs.InnerPrinted.{UpdateWords}
 use Rattle.route_lines.specs.declared.update.Update.{Update}
 use Rattle.route_lines.specs.declared.update.Update.TheVariants as U
-use Rattle.route_lines.proofs.Good.{Good}
+use Rattle.route_lines.specs.Grammar.{IsGrammar, IsTextOf}
 use Rattle.route_lines.proofs.Good as Good
 use Rattle.route_lines.proofs.Forms.{Form, Made, phrase, word, lines}
-use Rattle.route_lines.proofs.Printed.{cut}
-use Rattle.route_lines.proofs.PrintedCommands.{alone, both, net_again, hop_again}
+use Rattle.route_lines.proofs.Printed.{alone, both, cut, text_of_each}
+use Rattle.route_lines.proofs.PrintedCommands.{net_again, hop_again}
 
 abbrev forms : List (Form Update 70)
 forms =
@@ -29,18 +28,12 @@ made text (U.Install net hop) h = record { at = 0; value = (net, hop); is = refl
 made text (U.Remove net) h = record { at = 1; value = net; is = refl; spells = h }
 made text U.Done h = record { at = 2; value = tt; is = refl; spells = h }
 
-pub updates : Good IsUpdate 70
+pub updates : IsGrammar IsUpdate 70
 updates = lines forms IsUpdate refl made
 
 -- ---- what is printed
 
--- its words read as what they stand for
-abbrev pub Words : Update → Type 0
-Words (U.Install net hop) = Reads (net_text net) net × IsHop (hop_text hop) hop
-Words (U.Remove net) = Reads (net_text net) net
-Words U.Done = ⊤
-
-pub prints : (u : Update) → IsPrintableUpdate u → Words u → IsUpdate (update_text u) u
+pub prints : (u : Update) → IsPrintableUpdate u → UpdateWords u → IsUpdate (update_text u) u
 prints (U.Install net hop) block w = both (codes "install ") (net_text net) (hop_text hop) (net, hop) (net, w.0, block) w.1
 prints (U.Remove net) block w = alone (codes "remove ") (net_text net) net (net, w, block)
 prints U.Done block w = refl
@@ -50,16 +43,13 @@ printable_update text (U.Install net hop) h = cut h.phrase.front net h.phrase.fi
 printable_update text (U.Remove net) h = cut h.rest net h.phrase
 printable_update text U.Done h = tt
 
-words : (text : List ℕ) (u : Update) → IsUpdate text u → Words u
+words : (text : List ℕ) (u : Update) → IsUpdate text u → UpdateWords u
 words text (U.Install net hop) h = (net_again h.phrase.front net h.phrase.first, hop_again h.phrase.back hop h.phrase.second)
 words text (U.Remove net) h = net_again h.rest net h.phrase
 words text U.Done h = tt
 
-pub reads : (text : List ℕ) (u : Update) → IsUpdate text u → IsUpdate (update_text u) u
-reads text u h = prints u (printable_update text u h) (words text u h)
-
-pub apart : (s t : List ℕ) (a b : Update) → IsUpdate s a → IsUpdate t b → update_text a ≡ update_text b → a ≡ b
-apart s t a b h k e = updates.one (update_text a) a b (reads s a h) (subst (λ text. IsUpdate text b) (sym e) (reads t b k))
+pub texts : IsTextOf IsUpdate update_text
+texts = text_of_each update_text updates (λ text u h. prints u (printable_update text u h) (words text u h))
 
 pub printable_operation : (o : Operation) → IsPrintableUpdate (update_for o) ↔ (network_of o ≡ network_at (block (network_of o)))
 printable_operation (O.Install net hop) = (λ h. h, λ h. h)

@@ -6,6 +6,8 @@ pub mod InnerPhrase
 pub mod InnerFree
 pub mod Words
 pub mod Texts
+pub mod Grammar
+pub mod InnerPrinted
 pub mod CommandText
 pub mod Earlier
 pub mod Spelled

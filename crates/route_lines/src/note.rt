@@ -28,11 +28,8 @@ impl Note {
         ensures { Parses IsNote line.now result }
     {
         // Most are reply lines: their first byte or their length tells them from these two.
-        if let Some(route) = read_after::<(IpNet, Hop)>(line, b"have ") {
-            return Ok(Note::Have {
-                net: route.0,
-                hop: route.1,
-            });
+        if let Some((net, hop)) = read_after::<(IpNet, Hop)>(line, b"have ") {
+            return Ok(Note::Have { net, hop });
         }
         if line == b"sync".as_slice() {
             return Ok(Note::Sync);

@@ -1,14 +1,14 @@
 //! What stands after the first word of a line: a word, or words with a space between each two.
-ghost use Rattle.std.specs.Prelude.{◌≡◌, ◌≢◌, ℕ, ◌^◌, ◌<◌, ◌≤◌, List, ◌∷◌, ◌++◌, All, IfSome, IfNone};
+ghost use Rattle.std.specs.Prelude.{◌≡◌, ◌≢◌, ℕ, ◌<◌, ◌≤◌, List, ◌∷◌, ◌++◌, IfSome, IfNone};
 ghost use Rattle.route_lines.specs.Phrase.{IsUnspaced, IsDecimal, Then, After};
 ghost use Rattle.route_lines.specs.InnerPhrase.{Gives, IsFree};
-ghost use Rattle.route_lines.specs.Words.{IsNet, IsHop, IsOptional, IsPreferred};
+ghost use Rattle.route_lines.specs.Words.{IsNet, IsHop, IsOptional};
 ghost use Rattle.route_lines.specs.InnerFree as Free;
 ghost use Rattle.std.proofs.Common.{rules};
 
 use fast_float::parse_u64;
 use ipnet::{IpNet, Ipv4Net, Ipv6Net};
-use route_table::{DEFAULT_PREFERENCE, Hop};
+use route_table::Hop;
 use std::marker::Model;
 
 // A text that is read as a whole.
@@ -192,40 +192,6 @@ impl Phrase for Optional {
             return None;
         };
         Some(Optional { hop, pref: None })
-    }
-}
-
-// The same, where a hop alone has the default preference.
-#[derive(Clone, Copy)]
-pub(crate) struct Preferred {
-    pub(crate) hop: Hop,
-    pub(crate) pref: u16,
-}
-
-impl Model for Preferred {
-    ghost use Rattle.std.specs.Prelude.{ℕ};
-    ghost use Rattle.route_choices.specs.declared.hop.Hop.{Hop};
-
-    ghost Value = { Hop × ℕ };
-
-    ghost view = { λ p. (p.hop, p.pref) };
-
-    ghost inverse = { λ v. record { hop = v.0; pref = v.1 } };
-
-    ghost inverse_ok = { λ p h i. p };
-}
-
-impl Phrase for Preferred {
-    ghost spells = { IsPreferred };
-
-    fn read(s: &[u8]) -> Option<Preferred> {
-        let Some(route) = Optional::read(s) else {
-            return None;
-        };
-        Some(Preferred {
-            hop: route.hop,
-            pref: route.pref.unwrap_or(DEFAULT_PREFERENCE),
-        })
     }
 }
 

@@ -1,17 +1,153 @@
-//! Each `push_` function appends a word, for which there must be room.
-ghost use Rattle.std.specs.Prelude.{◌≡◌, ◌+◌, ◌<◌, ◌≤◌, ◌^◌, ◌++◌, length, decimal};
+//! The one text of each line. Each `push_` function appends a word, for which there must be room.
+ghost use Rattle.std.specs.Prelude.{◌≡◌, ◌+◌, ◌≤◌, ◌++◌, length, codes};
 ghost use Rattle.arrayvec.specs.ArrayVec.{array_vec_len};
 ghost use Rattle.ipnet.specs.IpNetText.{net_text, Reads};
-ghost use Rattle.route_lines.specs.CommandText.{preference_text};
-ghost use Rattle.route_lines.specs.Texts.{hop_text};
+ghost use Rattle.route_lines.specs.CommandText.{IsPrintableCommand, command_text, preference_text};
+ghost use Rattle.route_lines.specs.Grammar.{IsPrinted};
+ghost use Rattle.route_lines.specs.InnerPrinted.{AreWords, CommandWords, ReplyWords, UpdateWords};
+ghost use Rattle.route_lines.specs.Texts.{IsCommand, IsPrintable, IsPrintableUpdate, IsReply, IsUpdate, hop_text, reply_text, update_text};
 ghost use Rattle.route_lines.specs.Words.{IsHop};
 
+use crate::command::Command;
+use crate::reply::Reply;
+use crate::update::Update;
 use arrayvec::ArrayVec;
 use ipnet::IpNet;
-use itoa::Buffer;
+use itoa::{Buffer, Integer};
 use route_table::{DEFAULT_PREFERENCE, Hop};
 
-pub(crate) fn push_all<const N: usize>(out: &mut ArrayVec<u8, N>, bytes: &[u8])
+impl Command {
+    /// The one text of the command, with its line end, in which a preference of 100 is left out; it reads as this command.
+    /// Its network, if it has one, must have no host bits, and its limit must be 1 to 1000. Takes no memory.
+    pub fn print(&self) -> ArrayVec<u8, 80>
+        requires { IsPrintableCommand self.now }
+        ensures { IsPrinted IsCommand command_text 65 self.now result.items }
+    {
+        let mut out = ArrayVec::new();
+        self.print_to(&mut out);
+        out
+    }
+
+    /// Writes what `print` gives in the place of what `out` holds.
+    pub fn print_to(&self, out: &mut ArrayVec<u8, 80>)
+        requires { IsPrintableCommand self.now }
+        ensures { IsPrinted IsCommand command_text 65 self.now out.new.items }
+    {
+        self.print_words(out);
+        out.push(b'\n');
+    }
+
+    fn print_words(&self, out: &mut ArrayVec<u8, 80>)
+        ensures { AreWords command_text CommandWords 64 self.now out.new.items }
+    {
+        out.clear();
+        match self {
+            Command::Add { net, hop, pref } => {
+                push_route(out, b"add ", net, *hop);
+                push_preference(out, *pref);
+            }
+            Command::Del { net, hop } => push_route(out, b"del ", net, *hop),
+            Command::Get { net } => push_net_after(out, b"get ", net),
+            Command::Cover { net } => push_net_after(out, b"cover ", net),
+            Command::List { net } => push_net_after(out, b"list ", net),
+            Command::All { net } => push_net_after(out, b"all ", net),
+            Command::PageFrom { net, limit } => push_numbered(out, b"from ", net, *limit),
+            Command::PageAfter { net, limit } => push_numbered(out, b"after ", net, *limit),
+            Command::Own { number } => {
+                push_all(out, b"own ");
+                push_number(out, *number);
+            }
+            Command::Count => push_all(out, b"count"),
+            Command::Flat => push_all(out, b"flat"),
+        }
+    }
+}
+
+impl Reply {
+    /// The one text of the line, with its line end; it reads as this line. Its network, if it has one, must have no
+    /// host bits. Takes no memory.
+    pub fn print(&self) -> ArrayVec<u8, 67>
+        requires { IsPrintable self.now }
+        ensures { IsPrinted IsReply reply_text 67 self.now result.items }
+    {
+        let mut out = ArrayVec::new();
+        self.print_to(&mut out);
+        out
+    }
+
+    /// Writes what `print` gives in the place of what `out` holds.
+    pub fn print_to(&self, out: &mut ArrayVec<u8, 67>)
+        requires { IsPrintable self.now }
+        ensures { IsPrinted IsReply reply_text 67 self.now out.new.items }
+    {
+        self.print_words(out);
+        out.push(b'\n');
+    }
+
+    fn print_words(&self, out: &mut ArrayVec<u8, 67>)
+        ensures { AreWords reply_text ReplyWords 66 self.now out.new.items }
+    {
+        out.clear();
+        match self {
+            Reply::Set { net, number } => push_numbered(out, b"set ", net, *number),
+            Reply::Unset { net } => push_net_after(out, b"unset ", net),
+            Reply::Route { net, hop, pref } => {
+                push_route(out, b"route ", net, *hop);
+                if let Some(pref) = pref {
+                    push_all(out, b" ");
+                    push_number(out, *pref);
+                }
+            }
+            Reply::Flat { net, number } => push_numbered(out, b"flat ", net, *number),
+            Reply::Own { net } => push_net_after(out, b"own ", net),
+            Reply::Count { v4, v6 } => {
+                push_all(out, b"count ");
+                push_number(out, *v4);
+                push_all(out, b" ");
+                push_number(out, *v6);
+            }
+            Reply::Close(closing) => {
+                let line = closing.line();
+                push_all(out, &line[..line.len() - 1]);
+            }
+        }
+    }
+}
+
+impl Update {
+    /// The one text of the line, with its line end; it reads as this line. Its network, if it has one, must have no
+    /// host bits. Takes no memory.
+    pub fn print(&self) -> ArrayVec<u8, 67>
+        requires { IsPrintableUpdate self.now }
+        ensures { IsPrinted IsUpdate update_text 63 self.now result.items }
+    {
+        let mut out = ArrayVec::new();
+        self.print_to(&mut out);
+        out
+    }
+
+    /// Writes what `print` gives in the place of what `out` holds.
+    pub fn print_to(&self, out: &mut ArrayVec<u8, 67>)
+        requires { IsPrintableUpdate self.now }
+        ensures { IsPrinted IsUpdate update_text 63 self.now out.new.items }
+    {
+        self.print_words(out);
+        out.push(b'\n');
+    }
+
+    fn print_words(&self, out: &mut ArrayVec<u8, 67>)
+        ensures { AreWords update_text UpdateWords 62 self.now out.new.items }
+    {
+        out.clear();
+        match self {
+            Update::Install { net, hop } => push_route(out, b"install ", net, *hop),
+            Update::Remove { net } => push_net_after(out, b"remove ", net),
+            Update::Done => push_all(out, b"ok"),
+        }
+    }
+}
+
+fn push_all<const N: usize>(out: &mut ArrayVec<u8, N>, bytes: &[u8])
     requires { array_vec_len out.old + length bytes.now ≤ N }
     ensures bytes { out.new.items ≡ out.old.items ++ bytes.now }
     ensures len { array_vec_len out.new ≡ array_vec_len out.old + length bytes.now }
@@ -20,7 +156,7 @@ pub(crate) fn push_all<const N: usize>(out: &mut ArrayVec<u8, N>, bytes: &[u8])
 }
 
 // A word that ends with a space, and a network.
-pub(crate) fn push_net_after<const N: usize>(out: &mut ArrayVec<u8, N>, word: &[u8], net: &IpNet)
+fn push_net_after<const N: usize>(out: &mut ArrayVec<u8, N>, word: &[u8], net: &IpNet)
     requires { array_vec_len out.old + length word.now + 43 ≤ N }
     ensures bytes { out.new.items ≡ out.old.items ++ word.now ++ net_text net.now }
     ensures len { array_vec_len out.new ≤ array_vec_len out.old + length word.now + 43 }
@@ -30,37 +166,51 @@ pub(crate) fn push_net_after<const N: usize>(out: &mut ArrayVec<u8, N>, word: &[
     net.push_text(out);
 }
 
-pub(crate) fn push_u64<const N: usize>(out: &mut ArrayVec<u8, N>, n: u64)
-    requires { array_vec_len out.old + 20 ≤ N }
-    ensures bytes { out.new.items ≡ out.old.items ++ decimal n }
-    ensures len { array_vec_len out.new ≤ array_vec_len out.old + 20 }
+// The same, and a number.
+fn push_numbered<I: Integer, const N: usize>(
+    out: &mut ArrayVec<u8, N>,
+    word: &[u8],
+    net: &IpNet,
+    number: I,
+)
+    requires { array_vec_len out.old + length word.now + 44 + I.MAX_STR_LEN ≤ N }
+    ensures bytes { out.new.items ≡ out.old.items ++ word.now ++ net_text net.now ++ codes " " ++ I.text number }
+    ensures len { array_vec_len out.new ≤ array_vec_len out.old + length word.now + 44 + I.MAX_STR_LEN }
+    ensures reads { Reads (net_text net.now) net.now }
 {
-    let mut buffer = Buffer::new();
-    push_all(out, buffer.format(n).as_bytes());
+    push_net_after(out, word, net);
+    push_all(out, b" ");
+    push_number(out, number);
 }
 
-pub(crate) fn push_u32<const N: usize>(out: &mut ArrayVec<u8, N>, n: u32)
-    requires { array_vec_len out.old + 10 ≤ N }
-    ensures bytes { out.new.items ≡ out.old.items ++ decimal n }
-    ensures len { array_vec_len out.new ≤ array_vec_len out.old + 10 }
-    ensures fits { n ≤ 0xffffffff }
+// The same, and a hop.
+fn push_route<const N: usize>(out: &mut ArrayVec<u8, N>, word: &[u8], net: &IpNet, hop: Hop)
+    requires { array_vec_len out.old + length word.now + 54 ≤ N }
+    ensures bytes { out.new.items ≡ out.old.items ++ word.now ++ net_text net.now ++ codes " " ++ hop_text hop }
+    ensures len { array_vec_len out.new ≤ array_vec_len out.old + length word.now + 54 }
+    ensures net_reads { Reads (net_text net.now) net.now }
+    ensures hop_reads { IsHop (hop_text hop) hop }
 {
-    let mut buffer = Buffer::new();
-    push_all(out, buffer.format(n).as_bytes());
+    push_net_after(out, word, net);
+    push_all(out, b" ");
+    match hop {
+        Hop::Number(n) => push_number(out, n),
+        Hop::Drop => push_all(out, b"drop"),
+    }
 }
 
-pub(crate) fn push_u16<const N: usize>(out: &mut ArrayVec<u8, N>, n: u16)
-    requires { array_vec_len out.old + 5 ≤ N }
-    ensures bytes { out.new.items ≡ out.old.items ++ decimal n }
-    ensures len { array_vec_len out.new ≤ array_vec_len out.old + 5 }
-    ensures fits { n ≤ 0xffff }
+// A number in decimal.
+fn push_number<I: Integer, const N: usize>(out: &mut ArrayVec<u8, N>, n: I)
+    requires { array_vec_len out.old + I.MAX_STR_LEN ≤ N }
+    ensures bytes { out.new.items ≡ out.old.items ++ I.text n }
+    ensures len { array_vec_len out.new ≤ array_vec_len out.old + I.MAX_STR_LEN }
 {
     let mut buffer = Buffer::new();
     push_all(out, buffer.format(n).as_bytes());
 }
 
 // What stands after a hop: a space and the preference, unless it is that of a hop alone.
-pub(crate) fn push_preference<const N: usize>(out: &mut ArrayVec<u8, N>, pref: u16)
+fn push_preference<const N: usize>(out: &mut ArrayVec<u8, N>, pref: u16)
     requires { array_vec_len out.old + 6 ≤ N }
     ensures bytes { out.new.items ≡ out.old.items ++ preference_text pref }
     ensures len { array_vec_len out.new ≤ array_vec_len out.old + 6 }
@@ -68,18 +218,6 @@ pub(crate) fn push_preference<const N: usize>(out: &mut ArrayVec<u8, N>, pref: u
 {
     if pref != DEFAULT_PREFERENCE {
         push_all(out, b" ");
-        push_u16(out, pref);
-    }
-}
-
-pub(crate) fn push_hop<const N: usize>(out: &mut ArrayVec<u8, N>, hop: Hop)
-    requires { array_vec_len out.old + 10 ≤ N }
-    ensures bytes { out.new.items ≡ out.old.items ++ hop_text hop }
-    ensures len { array_vec_len out.new ≤ array_vec_len out.old + 10 }
-    ensures reads { IsHop (hop_text hop) hop }
-{
-    match hop {
-        Hop::Number(n) => push_u32(out, n),
-        Hop::Drop => push_all(out, b"drop"),
+        push_number(out, pref);
     }
 }

@@ -4,11 +4,9 @@ use Rattle.std.specs.declared.cmp.Ordering.TheVariants.{Less}
 use Rattle.ipnet_addr.specs.Addresses.{Family, Address, IsAddress, width, same_family}
 use Rattle.ipnet_addr.proofs.Families.{family_from_test, test_from_family}
 use Rattle.ipnet_addr.proofs.Members.{In}
-use Rattle.ipnet_addr.proofs.Ascending.{Contains-from_In, Rising, Rising-from_pairs, pairs_from_Rising}
+use Rattle.ipnet_addr.proofs.Ascending.{Rising, Rising-from_pairs, pairs_from_Rising}
 use Rattle.ipnet_blocks.specs.BitStrings.{begins, bits_cmp}
-use Rattle.ipnet_blocks.specs.Blocks.{Block, IsBlock, IsBefore, HasAddress, IsInside, bit_string, digits, host, first_of}
-use Rattle.ipnet_blocks.specs.Maximal.{IsMaximalBlock}
-use Rattle.ipnet_blocks.proofs.BlockLaws.{strict, has_first, same_sets}
+use Rattle.ipnet_blocks.specs.Blocks.{Block, IsBlock, HasAddress, bit_string, digits, host}
 use Rattle.ipnet_blocks.proofs.Maximals.{host_is_block, has_host, in_host}
 use Rattle.ipnet_blocks.proofs.Order.{order_of_strings}
 use Rattle.ipnet_blocks.proofs.Strings.{begins_from_inside, inside_from_begins}
@@ -19,7 +17,8 @@ use Rattle.trie_core.proofs.Numbers.{number_bound}
 use Rattle.route_choices.proofs.Kept.{In-map, map_In, Rising-kept, In-from_filter, In-filter}
 use Rattle.route_laws.specs.Flats.{Piece, IsFlat}
 use Rattle.route_table.specs.InnerLeast.{ArePieces, address_at, pieces_of}
-use Rattle.route_laws.proofs.Flats.{Sooner, piece_at, tells}
+use Rattle.route_laws.proofs.Flats.{Sooner, not_inside, piece_at, piece_is_block, tells}
+use Rattle.route_laws.proofs.Ordered.{before_apart}
 
 pub Rising-map : {A B : Type 0} (f : A → B) (S : A → A → Type 0) (R : B → B → Type 0) (xs : List A) → ((a b : A) → In a xs → In b xs → S a b → R (f a) (f b)) → Rising S xs → Rising R (map f xs)
 Rising-map f S R [] h up = tt
@@ -57,25 +56,6 @@ pub has_begun : (b : Block) (x : Address) → IsBlock b → IsAddress x → b.fa
 has_begun b x p a e t = inside_from_begins (host x) b (host_is_block x a) p (sym e) t x (has_host x)
 
 module _ (h : Address → Option ℕ) (ps : List Piece) (flat : IsFlat h ps) where
-  maximal : (p : Piece) → In p ps → IsMaximalBlock (λ x. h x ≡ Some p.number) p.block
-  maximal p i = (flat.exact p).0 (Contains-from_In ps p i)
-
-  block_in : (p : Piece) → In p ps → IsBlock p.block
-  block_in p i = (maximal p i).within.block
-
-  -- no piece lies in another
-  not_inside : (p q : Piece) → In p ps → In q ps → IsBefore p.block q.block → IsInside q.block p.block → ⊥
-  not_inside p q i j l k =
-      let x = first_of q.block in
-      let here : h x ≡ Some q.number = tells h ps flat q j x (has_first q.block) in
-      let there : h x ≡ Some p.number = tells h ps flat p i x (k x (has_first q.block)) in
-      let e : p.number ≡ q.number = cc in
-      let same : IsInside p.block q.block → ⊥ = λ m.
-      let b : q.block ≡ p.block = same_sets q.block p.block (block_in q j) (block_in p i) k m in
-      let z : IsBefore p.block p.block = subst (λ (c : Block). IsBefore p.block c) b l in
-      strict p.block p.block z z in
-      (maximal q j).largest p.block (record { block = block_in p i; all = λ y m. subst (λ n. h y ≡ Some n) e (tells h ps flat p i y m) }) (k, same)
-
   module _ (f : Family) where
     abbrev Apart : List Bool × ℕ → List Bool × ℕ → Type 0
     Apart p q = (bits_cmp p.0 q.0 ≡ Less) × (begins p.0 q.0 ≡ false)
@@ -89,10 +69,10 @@ module _ (h : Address → Option ℕ) (ps : List Piece) (flat : IsFlat h ps) whe
         let a = In-from_filter (in_family f) ps p i in
         let b = In-from_filter (in_family f) ps q j in
         let g : p.block.family ≡ q.block.family = family_from_test p.block.family f a.1 ∙ sym (family_from_test q.block.family f b.1) in
-        let okp = block_in p a.0 in
-        let okq = block_in q b.0 in (
+        let okp = piece_is_block h ps flat p a.0 in
+        let okq = piece_is_block h ps flat q b.0 in (
           (order_of_strings p.block q.block okp okq g).0 l,
-          not_true (begins (bit_string p.block) (bit_string q.block)) (λ t. not_inside p q a.0 b.0 l (inside_from_begins q.block p.block okq okp (sym g) t)),
+          not_true (begins (bit_string p.block) (bit_string q.block)) (λ t. not_inside h ps flat p q a.0 b.0 (λ e. before_apart p.block q.block l (sym e)) (inside_from_begins q.block p.block okq okp (sym g) t)),
         )
 
     rising : Rising Apart (pieces_of f ps)
@@ -110,14 +90,14 @@ module _ (h : Address → Option ℕ) (ps : List Piece) (flat : IsFlat h ps) whe
               let g : Block.family (Piece.block t.0) ≡ x.family = family_from_test _ f m.1 ∙ sym e in
               let b : begins (bit_string (Piece.block t.0)) (bit_string (host x)) ≡ true = subst (λ (q : List Bool × ℕ). begins q.0 (bit_string (host x)) ≡ true) t.2 w.2 in
               let n : Piece.number t.0 ≡ k = sym (ap (λ (q : List Bool × ℕ). q.1) t.2) ∙ w.3 in
-              tells h ps flat t.0 m.0 x (has_begun (Piece.block t.0) x (block_in t.0 m.0) a g b) ∙ ap (λ i. Some i) n
+              tells h ps flat t.0 m.0 x (has_begun (Piece.block t.0) x (piece_is_block h ps flat t.0 m.0) a g b) ∙ ap (λ i. Some i) n
 
           none : (k : ℕ) → h x ≡ Some k → ((q : List Bool × ℕ) → In q (pieces_of f ps) → begins q.0 (bit_string (host x)) ≡ true → ⊥) → ⊥
           none k v n =
               let t = piece_at h ps flat x a k v in
               let p = t.0 in
               let g : Block.family (Piece.block p) ≡ x.family = sym t.2.0 in
-              n (entry p) (map_In entry (filter (in_family f) ps) p (In-filter (in_family f) ps p t.1 (test_from_family _ f (g ∙ e)))) (begins_host (Piece.block p) x (block_in p t.1) a g t.2)
+              n (entry p) (map_In entry (filter (in_family f) ps) p (In-filter (in_family f) ps p t.1 (test_from_family _ f (g ∙ e)))) (begins_host (Piece.block p) x (piece_is_block h ps flat p t.1) a g t.2)
 
           go : (o o' : Option ℕ) → hop_at (pieces_of f ps) (bit_string (host x)) ≡ o → h x ≡ o'
               → MatchOption o ((q : List Bool × ℕ) → In q (pieces_of f ps) → begins q.0 (bit_string (host x)) ≡ true → ⊥) (λ k. (q : List Bool × ℕ) × In q (pieces_of f ps) × (begins q.0 (bit_string (host x)) ≡ true) × (q.1 ≡ k))

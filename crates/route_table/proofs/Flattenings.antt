@@ -1,5 +1,5 @@
 -- A walk over the runs of both families gives the flat list.
-use Rattle.std.proofs.Common.{◌≡◌, ℕ, ◌^◌, ◌<◌, ◌≤◌, ◌⊎◌, inl, inr, ⊎_elim, List, [], ◌∷◌, ◌++◌, map, Option, Some, None, refl, sym, ap, ◌∙◌, subst, arith, All, length}
+use Rattle.std.proofs.Common.{◌≡◌, ℕ, ◌+◌, ◌^◌, ◌<◌, ◌≤◌, ◌⊎◌, inl, inr, ⊎_elim, List, [], ◌∷◌, ◌++◌, map, Option, Some, None, refl, sym, ap, ◌∙◌, subst, arith, All, length}
 use Rattle.std.proofs.lemmas.Bool.{cases_lt}
 use Rattle.ipnet_addr.specs.Addresses.{Family, Ipv4, Ipv6, width, rank, Address}
 use Rattle.ipnet_blocks.specs.Cuts.{cut}
@@ -18,6 +18,9 @@ use Rattle.ipnet_blocks.proofs.Lists.{rising_front}
 use Rattle.route_laws.specs.Tables.{Route, IsTable, hop_at}
 use Rattle.route_table.specs.declared.flat.Pieces.{Pieces}
 use Rattle.route_laws.specs.Flats.{Piece, IsFlat, flat_of}
+use Rattle.route_laws.proofs.FlatBounds.{flat_bound}
+use Rattle.route_laws.proofs.Flats.{flat_is_shortest}
+use Rattle.route_table.specs.Given.{AreFamilies, IsFlatOf}
 use Rattle.route_table.specs.InnerFlattening.{piece_of, pieces_of, pieces_left, hops_in, hops_of, AreBoth}
 use Rattle.route_table.specs.InnerRunning.{IsFirstRun, hops_left, topmost, reach_of}
 use Rattle.route_table.specs.declared.flat.BothRuns.{BothRuns}
@@ -52,27 +55,24 @@ module _ (h g later : ℕ → Option ℕ) (r : Run) (is : IsFirstRun h r later) 
   abbrev six : (ℕ → Option ℕ) → Address → Option ℕ
   six k x = hops_in g k x.family x.number
 
-  pub first_of_ipv4 : r.span.last < 2 ^ width Ipv4 → IsFirstSpan Ipv4 r.span r.number (four h) (four later)
-  first_of_ipv4 top = record {
+  first_in : (f : Family) (a b : Address → Option ℕ) → ((x : Address) → x.family ≡ f → a x ≡ h x.number) → ((x : Address) → Split f a b x) → r.span.last < 2 ^ width f → IsFirstSpan f r.span r.number a b
+  first_in f a b same split top = record {
     some = is.some;
     top = top;
-    within = λ x e l u. ap (λ f. hops_in h g f x.number) e ∙ is.within x.number l u;
-    ends = is.ends;
-    split = λ x. at x.family x.number;
+    within = λ x e l u. same x e ∙ is.within x.number l u;
+    ends = λ e. is.ends (sym (same (record { family = f; number = r.span.last + 1 }) refl) ∙ e);
+    split = split;
   }
+
+  pub first_of_ipv4 : r.span.last < 2 ^ width Ipv4 → IsFirstSpan Ipv4 r.span r.number (four h) (four later)
+  first_of_ipv4 = first_in Ipv4 (four h) (four later) (λ x e. ap (λ f. hops_in h g f x.number) e) (λ x. at x.family x.number)
     where
       at : (f : Family) (x : ℕ) → Split Ipv4 (four h) (four later) (record { family = f; number = x })
       at Ipv4 x = split_number Ipv4 x
       at Ipv6 x = inr (refl, λ k e. inl (omega arith))
 
   pub first_of_ipv6 : ((x : ℕ) → g x ≡ None) → r.span.last < 2 ^ width Ipv6 → IsFirstSpan Ipv6 r.span r.number (six h) (six later)
-  first_of_ipv6 none top = record {
-    some = is.some;
-    top = top;
-    within = λ x e l u. ap (λ f. hops_in g h f x.number) e ∙ is.within x.number l u;
-    ends = is.ends;
-    split = λ x. at x.family x.number;
-  }
+  first_of_ipv6 none = first_in Ipv6 (six h) (six later) (λ x e. ap (λ f. hops_in g h f x.number) e) (λ x. at x.family x.number)
     where
       at : (f : Family) (x : ℕ) → Split Ipv6 (six h) (six later) (record { family = f; number = x })
       at Ipv4 x = inr (refl, λ k e. absurd (none-some k (sym (none x) ∙ e)))
@@ -161,3 +161,12 @@ module _ (rs ss : List Route) (table : IsTable (rs ++ ss)) (ipv4 : OfFamily Ipv4
 
   pub whole_flat : (p : Pieces) (w : BothRuns) → pieces_of p ≡ [] → ((x : ℕ) → hops_left w.v4 x ≡ topmost None (map reach_of rs) x) → ((x : ℕ) → hops_left w.v6 x ≡ topmost None (map reach_of ss) x) → IsFlat (hop_at (rs ++ ss)) (pieces_left p w)
   whole_flat p w none h g = subst (IsFlat (hop_at (rs ++ ss))) (ap (λ ps. ps ++ flat_of (hops_of w)) (sym none)) (flat_of_same (hops_of w) (hop_at (rs ++ ss)) (both_paint (hops_left w.v4) (hops_left w.v6) h g))
+
+-- the families of a table, seen alone
+pub seen_alone : {M v4 v6 : List Route} → AreFamilies M v4 v6 → AreFamilies (v4 ++ v6) v4 v6
+seen_alone h = record { routes = refl; table = subst IsTable (sym h.routes) h.table; ipv4 = h.ipv4; ipv6 = h.ipv6 }
+
+pub flat_of_table : {M v4 v6 : List Route} (ps : List Piece) → AreFamilies M v4 v6 → IsFlat (hop_at (v4 ++ v6)) ps → IsFlatOf M ps
+flat_of_table {M} ps h flat =
+    let is : IsFlat (hop_at M) ps = subst (λ N. IsFlat (hop_at N) ps) h.routes flat in
+    record { flat = is; shortest = λ bs a. flat_is_shortest (hop_at M) ps bs is a; bound = λ f. flat_bound M h.table ps is f; table = h.table }

@@ -1,7 +1,7 @@
 -- Both sides of a table, one after the other.
 use Rattle.std.proofs.Common.{◌≡◌, inl, inr, ⊎_elim, Bool, true, false, ◌&&◌, ◌||◌, not, cond, nat_lt, nat_le, ◌==◌, ◌-◌, ◌/◌, ◌^◌, List, [], ◌∷◌, ◌++◌, All, length, filter, map, refl, sym, ap, ◌∙◌, subst, arith, append-nil}
 use Rattle.std.specs.FinMap.{from_entries}
-use Rattle.std.proofs.lemmas.List.{append_assoc}
+use Rattle.std.proofs.lemmas.List.{append_assoc, map-append}
 use Rattle.std.proofs.lemmas.List.Elements.{filter-append}
 use Rattle.ipnet_addr.specs.Addresses.{Family, Ipv4, Ipv6, rank, same_family}
 use Rattle.ipnet_addr.proofs.Members.{In, In-cases}
@@ -11,6 +11,7 @@ use Rattle.ipnet_blocks.specs.BitStrings.{bits_cmp}
 use Rattle.route_choices.specs.Choices.{Choice, AreChoices, choices_with, choices_without}
 use Rattle.route_choices.specs.declared.hop.Hop.{Hop}
 use Rattle.route_choices.proofs.Kept.{In-map, Rising-joined, all_kept, none_kept, filter_map_swap}
+use Rattle.route_table.specs.Given.{AreFamilies}
 use Rattle.route_table.specs.InnerSides.{IsSide}
 use Rattle.route_laws.specs.Networks.{Stored, IsStoredTable, best_route, choices_at, networks_outside, routes_of, with_choice, with_choices, with_stored, without_choice, without_stored}
 use Rattle.route_laws.specs.Onwards.{count_of}
@@ -181,7 +182,20 @@ module _ (a b : List Stored) (sides : IsSide Ipv4 a × IsSide Ipv6 b) where
     without_choice_side h = ap (λ cs. with_choices (a ++ b) n (choices_without cs h)) choices_side ∙ with_choices_side (choices_without (choices_at (side n.family) n) h)
 
 -- the best routes of a side are of its family
-pub routes_of_side : (f : Family) (T : List Stored) (rs : List Route) → IsSide f T → rs ≡ routes_of T → All (λ r. r.block.family ≡ f) rs
+-- a table that is seen as its two sides
+pub seen_table : (a b T : List Stored) → IsSide Ipv4 a × IsSide Ipv6 b → a ++ b ≡ T → IsTable (routes_of T)
+seen_table a b T sides is = subst (λ T. IsTable (routes_of T)) is (is_table a b sides)
+
+routes_of_side : (f : Family) (T : List Stored) (rs : List Route) → IsSide f T → rs ≡ routes_of T → All (λ r. r.block.family ≡ f) rs
 routes_of_side f T rs side e = subst (λ (rs : List Route). All (λ r. r.block.family ≡ f) rs) (sym e)
     (All-from_In (λ (r : Route). r.block.family ≡ f) (routes_of T) (λ r i. let t = In-map best_route T r i in
     ap (λ (u : Route). u.block.family) t.2 ∙ In-from_All (λ (s : Stored). s.block.family ≡ f) T side.family t.0 t.1))
+
+-- the routes of both sides
+pub both_families : (a b T : List Stored) → IsSide Ipv4 a × IsSide Ipv6 b → a ++ b ≡ T → (v4 v6 : List Route) → v4 ≡ routes_of a → v6 ≡ routes_of b → AreFamilies (routes_of T) v4 v6
+both_families a b T sides is v4 v6 e f = record {
+  routes = (λ i. e i ++ f i) ∙ sym (map-append best_route a b) ∙ ap routes_of is;
+  table = seen_table a b T sides is;
+  ipv4 = routes_of_side Ipv4 a v4 sides.0 e;
+  ipv6 = routes_of_side Ipv6 b v6 sides.1 f;
+}

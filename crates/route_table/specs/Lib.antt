@@ -2,6 +2,7 @@ pub mod Refusals
 pub mod Tries
 pub mod Items
 pub mod Operations
+pub mod Given
 pub mod InnerFamilies
 pub mod InnerSides
 pub mod InnerEntries

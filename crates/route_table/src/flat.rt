@@ -1,14 +1,12 @@
 //! The flat list of a table: the shortest list of blocks of one hop.
-ghost use Rattle.std.specs.Prelude.{◌≡◌, ◌≤◌, ◌+◌, ◌++◌, [], List, All, length};
+ghost use Rattle.std.specs.Prelude.{◌≡◌, ◌+◌, ◌++◌, [], List};
 ghost use Rattle.std.specs.Iterator.{item_count};
-ghost use Rattle.ipnet_addr.specs.Addresses.{Family, Ipv4, Ipv6};
-ghost use Rattle.ipnet_blocks.specs.Blocks.{Block};
-ghost use Rattle.route_laws.specs.Bounds.{lengths_in, pieces_in};
-ghost use Rattle.route_laws.specs.Flats.{IsAdmissible, IsFlat};
+ghost use Rattle.route_laws.specs.Flats.{IsFlat};
 ghost use Rattle.route_table.specs.InnerFlattening.{AreBoth, GivesPieces, pieces_of};
 ghost use Rattle.route_table.specs.Items.{GivesPiece};
 ghost use Rattle.route_laws.specs.Networks.{routes_of};
-ghost use Rattle.route_laws.specs.Tables.{IsTable, hop_at};
+ghost use Rattle.route_laws.specs.Tables.{hop_at};
+ghost use Rattle.route_table.specs.Given.{AreFamilies, IsFlatOf};
 
 use crate::address_family::AddressFamily;
 use crate::governed::{blocks, no_blocks};
@@ -88,7 +86,6 @@ pub struct Flat<'a> {
 
 impl<'a> Model for Flat<'a> {
     ghost use Rattle.std.specs.Prelude.{List};
-    ghost use Rattle.route_laws.specs.Bounds.{lengths_in, pieces_in};
     ghost use Rattle.route_laws.specs.Flats.{Piece};
     ghost use Rattle.route_table.specs.InnerFlattening.{AreBoth, pieces_left};
 
@@ -102,9 +99,7 @@ impl<'a> Model for Flat<'a> {
 impl<'a> Flat<'a> {
     /// The flat list of a table: of its IPv4 routes and of its IPv6 routes, each ascending.
     pub fn new(v4: Routes<'a>, v6: Routes<'a>) -> Flat<'a>
-        requires routes { IsTable (v4 ++ v6) }
-        requires ipv4 { All (λ r. r.block.family ≡ Ipv4) v4 }
-        requires ipv6 { All (λ r. r.block.family ≡ Ipv6) v6 }
+        requires { AreFamilies (v4 ++ v6) v4 v6 }
         ensures { IsFlat (hop_at (v4.entry ++ v6.entry)) result }
     {
         Flat {
@@ -134,16 +129,6 @@ impl<'a> Iterator for Flat<'a> {
 }
 
 impl RouteTable {
-    /// The routes of either family, ascending.
-    pub(crate) fn families(&self) -> (Routes<'_>, Routes<'_>)
-        ensures routes { result.0 ++ result.1 ≡ routes_of self.now }
-        ensures table { IsTable (routes_of self.now) }
-        ensures ipv4 { All (λ r. r.block.family ≡ Ipv4) result.0 }
-        ensures ipv6 { All (λ r. r.block.family ≡ Ipv6) result.1 }
-    {
-        (Routes::v4(self.v4.iter()), Routes::v6(self.v6.iter()))
-    }
-
     /// The maximal blocks of the addresses of each hop number, each with that number, ascending, IPv4 before IPv6. No
     /// list of blocks of one hop that covers all addresses with a hop is shorter, and in each family there are at most
     /// one and the sum of the lengths of the stored networks. It takes no memory.
@@ -158,10 +143,7 @@ impl RouteTable {
     /// assert_eq!(rt; flat.next(), None);
     /// ```
     pub fn flat(&self) -> Flat<'_>
-        ensures flat { IsFlat (hop_at (routes_of self.now)) result }
-        ensures shortest { (bs : List Block) → IsAdmissible (hop_at (routes_of self.now)) bs → length result ≤ length bs }
-        ensures bound { (f : Family) → length (pieces_in f result) ≤ 1 + lengths_in f (routes_of self.now) }
-        ensures table { IsTable (routes_of self.now) }
+        ensures { IsFlatOf (routes_of self.now) result }
     {
         let (v4, v6) = self.families();
         Flat::new(v4, v6)

@@ -1,15 +1,13 @@
 //! A table with one route a network.
-ghost use Rattle.std.specs.Prelude.{◌≡◌, ◌≤◌, ◌+◌, [], ◌++◌, All, IfErr, IfOk, IsOk, List, OnErr, OnOk, length};
-ghost use Rattle.ipnet_addr.specs.Addresses.{Family, Ipv4, Ipv6};
-ghost use Rattle.ipnet_blocks.specs.Blocks.{Block, IsBlock};
+ghost use Rattle.std.specs.Prelude.{◌≡◌, [], IfErr, IfOk, OnErr, OnOk};
+ghost use Rattle.ipnet_blocks.specs.Blocks.{IsBlock};
 ghost use Rattle.ipnet.specs.IpNets.{block};
 ghost use Rattle.prefix_trie.specs.declared.refused.Refused.TheVariants.{Memory};
 ghost use Rattle.route_choices.specs.Choices.{default_preference};
-ghost use Rattle.route_laws.specs.Bounds.{lengths_in, pieces_in};
-ghost use Rattle.route_laws.specs.Flats.{IsAdmissible, IsFlat};
 ghost use Rattle.route_laws.specs.LeastTables.{routes_for};
 ghost use Rattle.route_laws.specs.Networks.{IsStoredTable, choices_at, routes_of};
-ghost use Rattle.route_laws.specs.Tables.{IsTable, hop_at, route_of, routes_inside, with_route};
+ghost use Rattle.route_laws.specs.Tables.{IsTable, route_of, routes_inside, with_route};
+ghost use Rattle.route_table.specs.Given.{AreRoutes, IsEmptied, IsFlatOf};
 
 use crate::flat::Flat;
 use crate::routes::Routes;
@@ -32,9 +30,7 @@ impl HopTable {
     /// # Errors
     /// None: the `Result` is for the tables that need memory at once.
     pub fn new(alloc: Global) -> Result<HopTable, Refused>
-        ensures networks { IfOk result (λ t. t ≡ []) }
-        ensures table { IfOk result IsStoredTable }
-        ensures ok { IsOk result }
+        ensures { IsEmptied result }
     {
         Table::empty(alloc)
     }
@@ -75,8 +71,7 @@ impl HopTable {
     /// The routes inside the network, ascending.
     pub(crate) fn inside(&self, net: &IpNet) -> Routes<'_>
         requires { IsBlock (block net.now) }
-        ensures routes { result ≡ routes_inside (routes_of self.now) (block net.now) }
-        ensures table { IsTable (routes_of self.now) }
+        ensures { AreRoutes (routes_of self.now) (routes_inside (routes_of self.now) (block net.now)) result }
     {
         match *net {
             IpNet::V4(net) => Routes::v4(self.v4.list(net)),
@@ -84,22 +79,9 @@ impl HopTable {
         }
     }
 
-    /// The routes of either family, ascending.
-    pub(crate) fn families(&self) -> (Routes<'_>, Routes<'_>)
-        ensures routes { result.0 ++ result.1 ≡ routes_of self.now }
-        ensures table { IsTable (routes_of self.now) }
-        ensures ipv4 { All (λ r. r.block.family ≡ Ipv4) result.0 }
-        ensures ipv6 { All (λ r. r.block.family ≡ Ipv6) result.1 }
-    {
-        (Routes::v4(self.v4.iter()), Routes::v6(self.v6.iter()))
-    }
-
     /// The flat list of its hops, as `RouteTable::flat` gives it. It takes no memory.
     pub fn flat(&self) -> Flat<'_>
-        ensures flat { IsFlat (hop_at (routes_of self.now)) result }
-        ensures shortest { (bs : List Block) → IsAdmissible (hop_at (routes_of self.now)) bs → length result ≤ length bs }
-        ensures bound { (f : Family) → length (pieces_in f result) ≤ 1 + lengths_in f (routes_of self.now) }
-        ensures table { IsTable (routes_of self.now) }
+        ensures { IsFlatOf (routes_of self.now) result }
     {
         let (v4, v6) = self.families();
         Flat::new(v4, v6)

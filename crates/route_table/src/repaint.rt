@@ -2,14 +2,12 @@
 ghost use Rattle.std.specs.Prelude.{◌≡◌};
 ghost use Rattle.std.specs.Iterator.{item_count};
 ghost use Rattle.ipnet.specs.IpNets.{block, network_at};
-ghost use Rattle.route_choices.specs.Choices.{default_preference};
-ghost use Rattle.route_laws.specs.Batches.{painted};
 ghost use Rattle.route_laws.specs.Networks.{routes_of};
-ghost use Rattle.route_laws.specs.Operations.{between};
-ghost use Rattle.route_laws.specs.Tables.{IsTable, route_of};
+ghost use Rattle.route_laws.specs.Tables.{IsTable};
 ghost use Rattle.route_table.specs.InnerBetween.{GivesRemove};
 ghost use Rattle.route_table.specs.InnerRepaint.{IsPlain, inside_left, is_kept};
 ghost use Rattle.route_table.specs.Operations.{GivesOperation};
+ghost use Rattle.route_table.specs.Given.{repainted};
 
 use crate::between::Operation;
 use crate::hop_table::HopTable;
@@ -101,7 +99,7 @@ impl HopTable {
     /// Where 10.0.0.0/8 has the hop 1, 10.0.0.0/9 the hop 2 and 10.0.0.0/10 the hop 3, those for 10.0.0.0/9 and the hop 1
     /// remove 10.0.0.0/9 and 10.0.0.0/10; for the hop 4 they install 10.0.0.0/9 and remove 10.0.0.0/10.
     pub fn repaint(&self, net: IpNet, hop: Hop) -> Repaint<'_>
-        ensures operations { result ≡ between (routes_of self.now) (painted (routes_of self.now) (route_of net hop default_preference)) }
+        ensures operations { result ≡ repainted (routes_of self.now) net hop }
         ensures table { IsTable (routes_of self.now) }
     {
         let net = cleared(&net);

@@ -1,5 +1,5 @@
 //! One side of a table: the networks of one family.
-ghost use Rattle.std.specs.Prelude.{◌≡◌, ◌≢◌, ◌<◌, ◌≤◌, ◌+◌, ◌/◌, [], ◌∷◌, IfErr, IfOk, IfSome, IsOk, IsTrue, OnErr, OnOk, ◌↔◌, false, is_some, not};
+ghost use Rattle.std.specs.Prelude.{◌≡◌, ◌≢◌, ◌<◌, ◌≤◌, ◌+◌, ◌/◌, [], ◌∷◌, IfErr, IfOk, IfSome, IsOk, IsTrue, OnErr, OnOk, ◌↔◌, false, is_some, not, if◌then◌else◌};
 ghost use Rattle.std.specs.Option.{option_map};
 ghost use Rattle.ipnet_blocks.specs.Blocks.{IsBlock, bit_string};
 ghost use Rattle.ipnet_blocks.specs.Networks.{block_of};
@@ -271,20 +271,12 @@ impl<P: OfFamily> Side<P, 8> {
         SideRoutes::new(Entries::Cover(self.networks.cover(&net)))
     }
 
-    /// The best routes of the networks that do not come before this one.
-    pub(crate) fn from(&self, net: P) -> SideRoutes<'_, P>
+    /// The best routes of the networks that come after this one; where `inclusive`, of those that do not come before it.
+    pub(crate) fn onwards(&self, net: P, inclusive: bool) -> SideRoutes<'_, P>
         requires { IsBlock (block_of P.family (P.parts net)) }
-        ensures { result ≡ routes_from (routes_of self.now) (block_of P.family (P.parts net)) }
+        ensures { result ≡ (if inclusive then routes_from (routes_of self.now) (block_of P.family (P.parts net)) else routes_after (routes_of self.now) (block_of P.family (P.parts net))) }
     {
-        SideRoutes::new(Entries::Walk(self.networks.iter_from(&net, true)))
-    }
-
-    /// The best routes of the networks that come after this one.
-    pub(crate) fn after(&self, net: P) -> SideRoutes<'_, P>
-        requires { IsBlock (block_of P.family (P.parts net)) }
-        ensures { result ≡ routes_after (routes_of self.now) (block_of P.family (P.parts net)) }
-    {
-        SideRoutes::new(Entries::Walk(self.networks.iter_from(&net, false)))
+        SideRoutes::new(Entries::Walk(self.networks.iter_from(&net, inclusive)))
     }
 }
 

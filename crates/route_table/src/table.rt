@@ -1,5 +1,5 @@
 //! The table.
-ghost use Rattle.std.specs.Prelude.{◌≡◌, ◌<◌, ◌≤◌, ◌+◌, ◌/◌, [], ◌∷◌, ◌++◌, All, IfOk, IfErr, IfSome, IsOk, IsTrue, OnOk, OnErr, ◌↔◌, false, is_some, length, sum_by};
+ghost use Rattle.std.specs.Prelude.{◌≡◌, ◌<◌, ◌≤◌, ◌+◌, ◌/◌, [], ◌∷◌, ◌++◌, All, IfOk, IfErr, IfSome, IsTrue, OnOk, OnErr, ◌↔◌, false, is_some, length, sum_by};
 ghost use Rattle.std.specs.Option.{option_map};
 ghost use Rattle.ipnet_addr.specs.Addresses.{Ipv4, Ipv6};
 ghost use Rattle.ipnet_blocks.specs.Blocks.{IsBlock, bit_string};
@@ -14,6 +14,7 @@ ghost use Rattle.route_table.specs.Tries.{map_of};
 ghost use Rattle.route_laws.specs.Networks.{IsLeaf, IsStoredTable, choices_at, routes_of, with_choice, with_choices, without_choice};
 ghost use Rattle.route_table.specs.Refusals.{IsRefused};
 ghost use Rattle.route_laws.specs.Tables.{Governed as GovernedBy, IsTable, match_number, match_of, routes_inside, item_of};
+ghost use Rattle.route_table.specs.Given.{AreRoutes, IsEmptied};
 
 use crate::governed::Governed;
 use crate::refused::AddRefused;
@@ -75,9 +76,7 @@ impl RouteTable {
     /// let mut table = RouteTable::new(rt.alloc()).expect(&rt, "a table");
     /// ```
     pub fn new(alloc: Global) -> Result<RouteTable, Refused>
-        ensures networks { IfOk result (λ t. t ≡ []) }
-        ensures table { IfOk result IsStoredTable }
-        ensures ok { IsOk result }
+        ensures { IsEmptied result }
     {
         Table::empty(alloc)
     }
@@ -256,8 +255,7 @@ impl RouteTable {
     /// The routes inside the network.
     fn inside(&self, net: &IpNet) -> Routes<'_>
         requires { IsBlock (block net.now) }
-        ensures routes { result ≡ routes_inside (routes_of self.now) (block net.now) }
-        ensures table { IsTable (routes_of self.now) }
+        ensures { AreRoutes (routes_of self.now) (routes_inside (routes_of self.now) (block net.now)) result }
     {
         match *net {
             IpNet::V4(net) => Routes::v4(self.v4.list(net)),
@@ -309,9 +307,7 @@ impl<const ROOM: usize> Table<ROOM> {
     pub(crate) fn empty(alloc: Global) -> Result<Table<ROOM>, Refused>
         requires some { 0 < ROOM }
         requires few { ROOM ≤ 8 }
-        ensures networks { IfOk result (λ t. t ≡ []) }
-        ensures table { IfOk result IsStoredTable }
-        ensures ok { IsOk result }
+        ensures { IsEmptied result }
     {
         Ok(Table {
             v4: Side::new(alloc)?,

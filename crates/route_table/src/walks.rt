@@ -4,8 +4,10 @@ ghost use Rattle.ipnet_addr.specs.Addresses.{Ipv4, Ipv6};
 ghost use Rattle.ipnet.specs.IpNets.{block};
 ghost use Rattle.route_laws.specs.Onwards.{count_of, routes_after, routes_from};
 ghost use Rattle.route_laws.specs.Networks.{routes_of};
-ghost use Rattle.route_laws.specs.Tables.{IsTable, covering};
+ghost use Rattle.route_laws.specs.Tables.{covering};
+ghost use Rattle.route_table.specs.Given.{AreFamilies, AreRoutes};
 
+use crate::hop_table::HopTable;
 use crate::routes::Routes;
 use crate::table::{RouteTable, cleared};
 use ipnet::IpNet;
@@ -31,24 +33,38 @@ impl RouteTable {
     /// The routes of the network's family from the network on, ascending: its own, those inside it and those after
     /// it. The network needs no route. It takes no memory.
     pub fn from(&self, net: &IpNet) -> Routes<'_>
-        ensures routes { result ≡ routes_from (routes_of self.now) (block net.now) }
-        ensures table { IsTable (routes_of self.now) }
+        ensures { AreRoutes (routes_of self.now) (routes_from (routes_of self.now) (block net.now)) result }
     {
         match cleared(net) {
-            IpNet::V4(net) => Routes::v4(self.v4.from(net)),
-            IpNet::V6(net) => Routes::v6(self.v6.from(net)),
+            IpNet::V4(net) => Routes::v4(self.v4.onwards(net, true)),
+            IpNet::V6(net) => Routes::v6(self.v6.onwards(net, true)),
         }
     }
 
     /// The routes of the network's family that come after it, ascending; the longer ones inside it are among them.
     /// The network needs no route. It takes no memory.
     pub fn after(&self, net: &IpNet) -> Routes<'_>
-        ensures routes { result ≡ routes_after (routes_of self.now) (block net.now) }
-        ensures table { IsTable (routes_of self.now) }
+        ensures { AreRoutes (routes_of self.now) (routes_after (routes_of self.now) (block net.now)) result }
     {
         match cleared(net) {
-            IpNet::V4(net) => Routes::v4(self.v4.after(net)),
-            IpNet::V6(net) => Routes::v6(self.v6.after(net)),
+            IpNet::V4(net) => Routes::v4(self.v4.onwards(net, false)),
+            IpNet::V6(net) => Routes::v6(self.v6.onwards(net, false)),
         }
+    }
+
+    /// The routes of either family, ascending.
+    pub(crate) fn families(&self) -> (Routes<'_>, Routes<'_>)
+        ensures { AreFamilies (routes_of self.now) result.0 result.1 }
+    {
+        (Routes::v4(self.v4.iter()), Routes::v6(self.v6.iter()))
+    }
+}
+
+impl HopTable {
+    /// The routes of either family, ascending.
+    pub(crate) fn families(&self) -> (Routes<'_>, Routes<'_>)
+        ensures { AreFamilies (routes_of self.now) result.0 result.1 }
+    {
+        (Routes::v4(self.v4.iter()), Routes::v6(self.v6.iter()))
     }
 }

@@ -1,4 +1,4 @@
-use Rattle.std.proofs.Common.{ℕ, ◌≡◌, ◌+◌, ◌-◌, ◌*◌, ◌/◌, ◌^◌, ◌<◌, ◌≤◌, [], ◌∷◌, ◌++◌, ⊎_elim, List, length, get_or, sym, ap, ◌∙◌, subst, arith, length-append}
+use Rattle.std.proofs.Common.{ℕ, ◌≡◌, ◌+◌, ◌-◌, ◌/◌, ◌^◌, ◌<◌, ◌≤◌, [], ◌∷◌, ◌++◌, ⊎_elim, List, length, get_or, sym, ap, ◌∙◌, subst, arith, length-append}
 use Rattle.std.proofs.lemmas.List.{get_or_append_left}
 use Rattle.std.proofs.lemmas.Bool.{cases_lt}
 use Rattle.std.specs.Prelude.{count_ones}
@@ -6,6 +6,7 @@ use Rattle.hop_index.specs.Ranges.{HopRange}
 use Rattle.hop_index.specs.InnerRanges.{AreCountsOf}
 use Rattle.hop_index.proofs.Bits.{bit_of_word, none_from, one_more_bit}
 use Rattle.hop_index.proofs.Counts.{Counted, all_counted, count_pushed, count_raised, counts_from}
+use Rattle.hop_index.proofs.Searches.{block_at}
 use Rattle.hop_index.proofs.halves.count_blocks.Goals as goal
 use Rattle.hop_index.proofs.halves.count_blocks.Goals.{then-word-block-eq0+in_ok-push, else-word-block-eq0}
 
@@ -19,31 +20,24 @@ loop-place-preserved c =
     let new : List ℕ = c.if-word-block-eq0.counts.items in
     let d : HopRange = c.index-ranges-place.result in
     let b : ℕ = (c.first.result - c.args.start) / 2 ^ 101 in
-    let is = ap (λ (r : HopRange). r.first) c.index-ranges-place.is in
-    let place_in : place < length rs = omega (arith, c.loop-place-test.true, c.requires.high_below.within) in
-    let from : c.args.start ≤ (get_or rs place d).first = c.requires.low_from.from place d c.loop-place.auto.place place_in in
-    let below : (get_or rs place d).first < c.args.start + 2 ^ 107 = c.requires.high_below.below place d c.loop-place-test.true in
-    let same : c.first.result ≡ (get_or rs place d).first = omega (arith, is, c.first.ensures.value) in
-    let fits : b < 64 = omega arith in
-    let from_b : c.args.start + b * 2 ^ 101 ≤ (get_or rs place d).first = omega arith in
-    let below_b : (get_or rs place d).first < c.args.start + (b + 1) * 2 ^ 101 = omega arith in
+    let at = block_at rs c.args.start (2 ^ 101) c.args.low place c.args.high c.first.result d (omega arith) c.requires.low_from c.requires.high_below c.loop-place.auto.place c.loop-place-test.true c.index-ranges-place.is c.first.ensures.value in
     let all = c.loop-place.invariant.all in
     let counted = c.loop-place.invariant.counted in
     elim c.if-word-block-eq0.branch [
       | then-word-block-eq0+in_ok-push w ↦
           let pushed : new ≡ old ++ place ∷ [] = rw w.counts-is w.in_ok-push.ensures.items in
-          let more : c.if-word-block-eq0.word ≡ word + 2 ^ b = w.word-is ∙ ap (λ n. word + n) (bit_of_word b fits) in
+          let more : c.if-word-block-eq0.word ≡ word + 2 ^ b = w.word-is ∙ ap (λ n. word + n) (bit_of_word b at.block) in
           let less : word < 2 ^ b = none_from word b w.if-word-block-eq0.true in
           let ones = ap count_ones more ∙ one_more_bit word b less in
           record {
             all = omega (arith, ap (λ (xs : List ℕ). length xs) pushed, length-append old (place ∷ []), ones, all);
             kept = λ k l. ap (λ (xs : List ℕ). get_or xs k 0) pushed ∙ get_or_append_left old (place ∷ []) 0 k (omega (arith, all, l)) ∙ c.loop-place.invariant.kept k l;
-            counted = subst (λ (n : ℕ). Counted rs c.args.start (2 ^ 101) (counts_from (new ++ (place + 1) ∷ []) base) (place + 1) n) (sym more) (count_pushed rs c.args.start (2 ^ 101) base place word b old new d c.requires.ranges counted all pushed less place_in from_b below_b);
+            counted = subst (λ (n : ℕ). Counted rs c.args.start (2 ^ 101) (counts_from (new ++ (place + 1) ∷ []) base) (place + 1) n) (sym more) (count_pushed rs c.args.start (2 ^ 101) base place word b old new d c.requires.ranges counted all pushed less at.within at.from at.below);
           }
       | else-word-block-eq0 w ↦ rw (w.counts-is, w.word-is) (record {
         all = all;
         kept = c.loop-place.invariant.kept;
-        counted = count_raised rs c.args.start (2 ^ 101) base place word b old d c.requires.ranges counted all w.if-word-block-eq0.false place_in from_b below_b;
+        counted = count_raised rs c.args.start (2 ^ 101) base place word b old d c.requires.ranges counted all w.if-word-block-eq0.false at.within at.from at.below;
       })
     ]
 

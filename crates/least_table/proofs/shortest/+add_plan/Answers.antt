@@ -67,38 +67,14 @@ pub add_plan-requires-2 : goal.add_plan-requires-2
 add_plan-requires-2 g t c κs within =
     let h = in_common g.P.Prefix.bits g.P.Prefix.fits g.P.R.Key.width c.args.pieces.now c.in-Some.first.now c.index-pieces-end.result c.args.depth c.common-common.result c.prefix_len.result _ _ c.requires.fits c.requires.ascending (sym c.in-Some.ensures.value) c.index-pieces-end.is c.prefix_len.ensures.value c.prefix_len.ensures.within (omega (arith, c.if-prefix_len-depth.false)) c.path_of.ensures.value c.path_of-2.ensures.value c.common-common.ensures in (
       omega (arith, h.short, c.prefix_len.ensures.value, c.if-prefix_len-depth.false),
-      (
-        search rules,
-        (
-          search rules,
-          (
-            c.requires.whole,
-            (
-              rw c.split_at.ensures.back (All-drop (λ p. IsTrue (g.P.Prefix.fits p.0)) c.cut.result c.args.pieces.now c.requires.fits),
-              rw c.split_at.ensures.back (IsAscending-high g.P.Prefix.bits c.args.depth c.cut.result c.args.pieces.now c.cut.ensures.high c.requires.ascending),
-            ),
-          ),
-        ),
-      ),
+      (search rules, (search rules, (c.requires.whole, (rw c.split_at.ensures.back (All-drop (λ p. IsTrue (g.P.Prefix.fits p.0)) c.cut.result c.args.pieces.now c.requires.fits), rw c.split_at.ensures.back (IsAscending-high g.P.Prefix.bits c.args.depth c.cut.result c.args.pieces.now c.cut.ensures.high c.requires.ascending))))),
     )
 
 pub add_plan-requires-3 : goal.add_plan-requires-3
 add_plan-requires-3 g t c κs within =
     let h = in_common g.P.Prefix.bits g.P.Prefix.fits g.P.R.Key.width c.args.pieces.now c.in-Some.first.now c.index-pieces-end.result c.args.depth c.common-common.result c.prefix_len.result _ _ c.requires.fits c.requires.ascending (sym c.in-Some.ensures.value) c.index-pieces-end.is c.prefix_len.ensures.value c.prefix_len.ensures.within (omega (arith, c.if-prefix_len-depth.false)) c.path_of.ensures.value c.path_of-2.ensures.value c.common-common.ensures in (
       omega (arith, h.short, c.prefix_len.ensures.value, c.if-prefix_len-depth.false),
-      (
-        search rules,
-        (
-          search rules,
-          (
-            c.in_ok-add_plan-2.ensures.adds.whole,
-            (
-              rw c.split_at.ensures.front (All-take (λ p. IsTrue (g.P.Prefix.fits p.0)) c.cut.result c.args.pieces.now c.requires.fits),
-              rw c.split_at.ensures.front (IsAscending-low g.P.Prefix.bits c.args.depth c.cut.result c.args.pieces.now c.cut.ensures.low c.requires.ascending),
-            ),
-          ),
-        ),
-      ),
+      (search rules, (search rules, (c.in_ok-add_plan-2.ensures.adds.whole, (rw c.split_at.ensures.front (All-take (λ p. IsTrue (g.P.Prefix.fits p.0)) c.cut.result c.args.pieces.now c.requires.fits), rw c.split_at.ensures.front (IsAscending-low g.P.Prefix.bits c.args.depth c.cut.result c.args.pieces.now c.cut.ensures.low c.requires.ascending))))),
     )
 
 pub join-requires-clause-low : goal.join-requires-clause-low

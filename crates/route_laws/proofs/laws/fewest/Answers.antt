@@ -4,10 +4,4 @@ use Rattle.route_laws.proofs.TableHops.{given_hops, hops_of_table}
 use Rattle.route_laws.proofs.laws.fewest.Goals as goal
 
 pub returns : goal.returns
-returns c = record {
-  host = fewest_of_host;
-  halves = fewest_by_halves;
-  least = least_is_fewest;
-  hops = hops_of_table;
-  given = given_hops;
-}
+returns c = record { host = fewest_of_host; halves = fewest_by_halves; least = least_is_fewest; hops = hops_of_table; given = given_hops }

@@ -5,10 +5,10 @@ use Rattle.route_table.proofs.Painted.{greatest}
 use Rattle.route_table.proofs.flat.Flat.new.Goals as goal
 
 pub new-requires-clause-routes : goal.new-requires-clause-routes
-new-requires-clause-routes c = table_left c.args.v4 c.args.v6 c.requires.routes
+new-requires-clause-routes c = table_left c.args.v4 c.args.v6 c.requires.table
 
 pub new-requires-2-clause-routes : goal.new-requires-2-clause-routes
-new-requires-2-clause-routes c = table_right c.args.v4 c.args.v6 c.requires.routes
+new-requires-2-clause-routes c = table_right c.args.v4 c.args.v6 c.requires.table
 
 pub invariant_of-result : goal.invariant_of-result
 invariant_of-result c = record {
@@ -19,4 +19,4 @@ invariant_of-result c = record {
 }
 
 pub returns : goal.returns
-returns c = whole_flat c.args.v4 c.args.v6 c.requires.routes c.requires.ipv4 c.requires.ipv6 c.none.result (record { v4 = c.new.result; v6 = c.new-2.result }) c.none.ensures c.new.ensures.hops c.new-2.ensures.hops
+returns c = whole_flat c.args.v4 c.args.v6 c.requires.table c.requires.ipv4 c.requires.ipv6 c.none.result (record { v4 = c.new.result; v6 = c.new-2.result }) c.none.ensures c.new.ensures.hops c.new-2.ensures.hops
