@@ -1,5 +1,5 @@
 -- The lines that add routes, written one after another.
-use Rattle.std.proofs.Common.{◌≡◌, ℕ, ◌+◌, ◌<◌, List, [], ◌∷◌, ◌++◌, length, drop, slice_index_or, sym, ap, ◌∙◌, subst, append-nil, codes}
+use Rattle.std.proofs.Common.{◌≡◌, ℕ, ◌+◌, ◌<◌, List, ◌∷◌, ◌++◌, length, drop, slice_index_or, sym, ap, ◌∙◌, subst, append-nil, codes}
 use Rattle.std.proofs.lemmas.List.{at_drop_more}
 use Rattle.ipnet.specs.IpNets.{block, family, network_at, parts}
 use Rattle.ipnet.specs.IpNetText.{net_text}

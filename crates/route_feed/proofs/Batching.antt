@@ -25,7 +25,7 @@ use Rattle.route_feed.specs.Installing.{operation_line, printed_updates}
 use Rattle.route_feed.specs.Devices.{Closes, Torn}
 use Rattle.route_feed.proofs.InTurn.{after-append, made-append}
 use Rattle.route_feed.proofs.Carried.{before_place}
-use Rattle.route_feed.proofs.Written.{Closes-written, Torn-after, Torn-longer, Written-nil, Written-trans}
+use Rattle.route_feed.proofs.Written.{Closes-written, Torn-after, Torn-longer, Written-trans}
 
 batch-append : (M rs ss : List Route) → batch M (rs ++ ss) ≡ batch M rs ++ batch (painted_all M rs) ss
 batch-append = made-append painted painted_all (λ s. refl) (λ s e es. refl) (λ M r. between M (painted M r)) batch (λ s. refl) (λ s e es. refl)

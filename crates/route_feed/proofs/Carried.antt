@@ -1,5 +1,5 @@
 -- Changes carried out one after another.
-use Rattle.std.proofs.Common.{◌≡◌, ℕ, ◌+◌, ◌<◌, cond, List, [], ◌∷◌, ◌++◌, length, take, slice_index_or, Option, Some, None, refl, sym, ap, ◌∙◌, arith}
+use Rattle.std.proofs.Common.{◌≡◌, ℕ, ◌+◌, ◌<◌, cond, List, [], ◌∷◌, ◌++◌, length, take, slice_index_or, Option, refl, sym, ap, ◌∙◌, arith}
 use Rattle.std.proofs.lemmas.List.{take_more, map-append}
 use Rattle.ipnet.specs.IpNets.{block}
 use Rattle.route_choices.specs.Hops.{number_of}

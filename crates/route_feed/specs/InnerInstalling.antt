@@ -1,5 +1,5 @@
 -- What an installer does with the lines of its input.
-use Rattle.std.specs.Prelude.{◌≡◌, ℕ, true, false, not, List, [], ◌∷◌, ◌++◌, map, Option, None, Some, is_some, unwrap_or, MatchOption, Result, Ok, Err}
+use Rattle.std.specs.Prelude.{◌≡◌, ℕ, true, false, not, List, [], ◌∷◌, ◌++◌, map, Option, Some, is_some, unwrap_or, MatchOption, Result, Ok, Err}
 use Rattle.route_lines.specs.declared.cutter.Line.{Line}
 use Rattle.route_lines.specs.declared.note.Note.{Note}
 use Rattle.route_lines.specs.declared.update.Update.TheVariants as U

@@ -1,5 +1,5 @@
 -- How replies are written.
-use Rattle.std.specs.Prelude.{◌≡◌, ℕ, Bool, ◌||◌, List, [], ◌∷◌, ◌++◌, map, Option, None, Some, is_some, slice_get, Result, Ok, Err, MatchOption}
+use Rattle.std.specs.Prelude.{◌≡◌, ℕ, Bool, ◌||◌, List, [], ◌∷◌, ◌++◌, map, Option, Some, is_some, slice_get, Result, Ok, Err, MatchOption}
 use Rattle.std.specs.Io.KnownBytes.{Appends}
 use Rattle.ipnet.specs.IpNets.{network_at}
 use Rattle.ipnet_blocks.specs.Blocks.{Block}
