@@ -1,16 +1,14 @@
 -- What several calls of a table give alike.
-use Rattle.std.specs.Prelude.{◌≡◌, ◌+◌, ◌≤◌, List, [], ◌++◌, length, All, if◌then◌else◌, Result, IfOk, IsOk, OnOk, OnErr}
-use Rattle.ipnet_addr.specs.Addresses.{Family, Ipv4, Ipv6, Address, IsAddress}
-use Rattle.ipnet_blocks.specs.Blocks.{Block, has_address}
-use Rattle.ipnet.specs.IpNets.{block}
+use Rattle.std.specs.Prelude.{◌≡◌, ◌+◌, ◌≤◌, List, [], ◌++◌, length, All, Result, IfOk, IsOk}
+use Rattle.ipnet_addr.specs.Addresses.{Family, Ipv4, Ipv6}
+use Rattle.ipnet_blocks.specs.Blocks.{Block}
 use Rattle.ipnet.specs.declared.ip_net.IpNet.{IpNet}
 use Rattle.route_choices.specs.Choices.{default_preference}
-use Rattle.route_choices.specs.Hops.{number_of}
 use Rattle.route_choices.specs.declared.hop.Hop.{Hop}
 use Rattle.route_laws.specs.Batches.{painted}
 use Rattle.route_laws.specs.Bounds.{lengths_in, pieces_in}
 use Rattle.route_laws.specs.Flats.{Piece, IsAdmissible, IsFlat}
-use Rattle.route_laws.specs.Networks.{Stored, IsStoredTable, choices_at, routes_of}
+use Rattle.route_laws.specs.Networks.{Stored, IsStoredTable}
 use Rattle.route_laws.specs.Operations.{Operation, between}
 use Rattle.route_laws.specs.Tables.{Route, IsTable, hop_at, route_of}
 
@@ -38,13 +36,6 @@ pub record IsFlatOf (M : List Route) (ps : List Piece) : Type 0 where
   pub shortest : (bs : List Block) → IsAdmissible (hop_at M) bs → length ps ≤ length bs
   pub bound : (f : Family) → length (pieces_in f ps) ≤ 1 + lengths_in f M
   pub table : IsTable M
-
--- all addresses of the network have the hop then, and all others what they had; or nothing has changed, and the network is not stored
-pub record GivesHop {T E : Type 0} (net : IpNet) (hop : Hop) (old new : List Stored) (result : Result T E) : Type 0 where
-  pub tables : IsStoredTable old × IsStoredTable new
-  pub hops : OnOk result ((x : Address) → IsAddress x → hop_at (routes_of new) x ≡ (if has_address (block net) x then number_of hop else hop_at (routes_of old) x))
-  pub unchanged : OnErr result (new ≡ old)
-  pub absent : OnErr result (choices_at old (block net) ≡ [])
 
 -- the operations that give all addresses of the network the hop
 abbrev pub repainted : List Route → IpNet → Hop → List Operation

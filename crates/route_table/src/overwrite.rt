@@ -1,12 +1,13 @@
 //! One route in the place of all those inside its network.
-ghost use Rattle.std.specs.Prelude.{◌≡◌, ◌<◌, OnOk, IfErr};
-ghost use Rattle.ipnet_addr.specs.Addresses.{width};
-ghost use Rattle.ipnet_blocks.specs.Blocks.{IsBlock, left, right};
+ghost use Rattle.std.specs.Prelude.{◌≡◌, ◌<◌, [], OnErr, OnOk, IfErr, if◌then◌else◌};
+ghost use Rattle.ipnet_addr.specs.Addresses.{Address, IsAddress, width};
+ghost use Rattle.ipnet_blocks.specs.Blocks.{IsBlock, has_address, left, right};
 ghost use Rattle.ipnet.specs.IpNets.{block, family, parts};
 ghost use Rattle.prefix_trie.specs.declared.refused.Refused.TheVariants.{Memory};
 ghost use Rattle.route_choices.specs.Choices.{default_preference};
-ghost use Rattle.route_laws.specs.Networks.{IsStoredTable, networks_outside, overwritten_by};
-ghost use Rattle.route_table.specs.Given.{GivesHop};
+ghost use Rattle.route_choices.specs.Hops.{number_of};
+ghost use Rattle.route_laws.specs.Networks.{IsStoredTable, choices_at, networks_outside, overwritten_by, routes_of};
+ghost use Rattle.route_laws.specs.Tables.{hop_at};
 
 use crate::table::{Table, cleared};
 use ipnet::IpNet;
@@ -36,8 +37,11 @@ impl<const ROOM: usize> Table<ROOM> {
     /// never refused.
     pub fn overwrite(&mut self, net: IpNet, hop: Hop) -> Result<(), Refused>
         ensures networks { OnOk result (self.new ≡ overwritten_by self.old (block net) (record { hop = hop; pref = default_preference })) }
-        ensures given { GivesHop net hop self.old self.new result }
+        ensures tables { IsStoredTable self.old × IsStoredTable self.new }
+        ensures hops { OnOk result ((x : Address) → IsAddress x → hop_at (routes_of self.new) x ≡ (if has_address (block net) x then number_of hop else hop_at (routes_of self.old) x)) }
         ensures memory { IfErr result (λ e. e ≡ Memory) }
+        ensures unchanged { OnErr result (self.new ≡ self.old) }
+        ensures absent { OnErr result (choices_at self.old (block net) ≡ []) }
     {
         let net = cleared(&net);
         self.store(net, hop, DEFAULT_PREFERENCE)?;

@@ -1,14 +1,15 @@
 //! All addresses of a network get one hop.
-ghost use Rattle.std.specs.Prelude.{◌≡◌, IfErr, OnOk};
-ghost use Rattle.ipnet_blocks.specs.Blocks.{IsBlock};
+ghost use Rattle.std.specs.Prelude.{◌≡◌, [], IfErr, OnErr, OnOk, if◌then◌else◌};
+ghost use Rattle.ipnet_addr.specs.Addresses.{Address, IsAddress};
+ghost use Rattle.ipnet_blocks.specs.Blocks.{IsBlock, has_address};
 ghost use Rattle.ipnet.specs.IpNets.{block};
 ghost use Rattle.prefix_trie.specs.declared.refused.Refused.TheVariants.{Memory};
 ghost use Rattle.route_choices.specs.Choices.{default_preference};
+ghost use Rattle.route_choices.specs.Hops.{number_of};
 ghost use Rattle.route_laws.specs.Batches.{painted};
-ghost use Rattle.route_laws.specs.Networks.{routes_of};
+ghost use Rattle.route_laws.specs.Networks.{IsStoredTable, choices_at, routes_of};
 ghost use Rattle.route_laws.specs.Overwritten.{without_inside};
-ghost use Rattle.route_laws.specs.Tables.{IsTable, match_number, match_of, route_of};
-ghost use Rattle.route_table.specs.Given.{GivesHop};
+ghost use Rattle.route_laws.specs.Tables.{IsTable, hop_at, match_number, match_of, route_of};
 
 use crate::hop_table::HopTable;
 use crate::table::cleared;
@@ -25,8 +26,11 @@ impl HopTable {
     /// never refused.
     pub fn paint(&mut self, net: IpNet, hop: Hop) -> Result<(), Refused>
         ensures routes { OnOk result (routes_of self.new ≡ painted (routes_of self.old) (route_of net hop default_preference)) }
-        ensures given { GivesHop net hop self.old self.new result }
+        ensures tables { IsStoredTable self.old × IsStoredTable self.new }
+        ensures hops { OnOk result ((x : Address) → IsAddress x → hop_at (routes_of self.new) x ≡ (if has_address (block net) x then number_of hop else hop_at (routes_of self.old) x)) }
         ensures memory { IfErr result (λ e. e ≡ Memory) }
+        ensures unchanged { OnErr result (self.new ≡ self.old) }
+        ensures absent { OnErr result (choices_at self.old (block net) ≡ []) }
     {
         let net = cleared(&net);
         if self.handed(&net) == hop.number() {

@@ -19,19 +19,14 @@ returns-then-eq-clause-routes c =
     ∙ sym (painted_bare (routes_of c.args.self.now) (route_of c.args.net c.args.hop default_preference)
     (same_test (routes_of c.args.self.now) (block c.cleared-net.result) (block c.args.net) c.args.hop c.handed.result c.number.result c.cleared-net.ensures.block (c.handed.ensures t) c.number.ensures.number ∙ sym c.if-eq.ensures))
 
-pub returns-then-eq-clause-given : goal.returns-then-eq-clause-given
-returns-then-eq-clause-given c = record {
-  tables = c.remove_inside.ensures.tables;
-  hops = λ x a.
-      ap (λ N. hop_at N x) (returns-then-eq-clause-routes c)
-      ∙ painted_hops (routes_of c.args.self.now) (routes_are_table c.args.self.now c.remove_inside.ensures.tables.0) (route_of c.args.net c.args.hop default_preference) (subst IsBlock c.cleared-net.ensures.block c.cleared-net.ensures.is_block) c.number.ensures.in_range x a;
-  unchanged = tt;
-  absent = tt;
-}
+pub returns-then-eq-clause-hops : goal.returns-then-eq-clause-hops
+returns-then-eq-clause-hops c x a =
+    ap (λ N. hop_at N x) (returns-then-eq-clause-routes c)
+    ∙ painted_hops (routes_of c.args.self.now) (routes_are_table c.args.self.now c.remove_inside.ensures.tables.0) (route_of c.args.net c.args.hop default_preference) (subst IsBlock c.cleared-net.ensures.block c.cleared-net.ensures.is_block) c.number.ensures.in_range x a
 
 pub returns-clause-routes : goal.returns-clause-routes
 returns-clause-routes c =
-    let t = routes_are_table c.args.self.now c.overwrite.ensures.given.tables.0 in
+    let t = routes_are_table c.args.self.now c.overwrite.ensures.tables.0 in
     IfOk-weaker c.overwrite.result _ _ (λ _ e. ap routes_of e ∙ routes_overwritten c.args.self.now (block c.cleared-net.result) (record { hop = c.args.hop; pref = default_preference })
     ∙ ap (λ d. overwritten (routes_of c.args.self.now) (record { block = d; hop = c.args.hop; pref = default_preference })) c.cleared-net.ensures.block
     ∙ sym (painted_over (routes_of c.args.self.now) (route_of c.args.net c.args.hop default_preference)

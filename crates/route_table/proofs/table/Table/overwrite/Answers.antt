@@ -1,4 +1,4 @@
-use Rattle.std.proofs.Common.{◌≡◌, ◌∙◌, List, [], ◌∷◌, sym, ap, arith, rules, subst}
+use Rattle.std.proofs.Common.{◌≡◌, ◌∙◌, List, [], ◌∷◌, sym, ap, arith, subst}
 use Rattle.std.specs.Prelude.{Result, Ok, Err, OnErr, if◌then◌else◌}
 use Rattle.ipnet_addr.specs.Addresses.{Address, IsAddress}
 use Rattle.ipnet_blocks.specs.Blocks.{Block, IsBlock, has_address}
@@ -25,8 +25,8 @@ over T U net hop is table ok in_range x a =
     ∙ ap (λ M. hop_at M x) (routes_overwritten T (block net) (record { hop = hop; pref = default_preference }))
     ∙ over_hops _ (routes_are_table _ table) (route_of net hop default_preference) ok in_range x a
 
-pub returns-in_err-store-clause-given : goal.returns-in_err-store-clause-given
-returns-in_err-store-clause-given g c = record { tables = search rules; hops = search rules; unchanged = search rules; absent = always c.from_residual.result (ap (choices_at c.args.self.now) (sym c.cleared-net.ensures.block) ∙ c.in_err-store.ensures.absent) }
+pub returns-in_err-store-clause-absent : goal.returns-in_err-store-clause-absent
+returns-in_err-store-clause-absent g c = always c.from_residual.result (ap (choices_at c.args.self.now) (sym c.cleared-net.ensures.block) ∙ c.in_err-store.ensures.absent)
 
 pub halves-requires : goal.halves-requires
 halves-requires g c = omega (arith, room_inside _ c.in_ok-store.ensures.tables.1 (block c.cleared-net.result) c.cleared-net.ensures.is_block _ c.has_none_inside.ensures c.if-not-has_none_inside.true)
@@ -38,9 +38,8 @@ returns-then-not-has_none_inside-clause-networks g c =
     c.halves.result.0 c.halves.result.1 c.halves.ensures.lower c.halves.ensures.upper _ _ _ c.in_ok-store.ensures.networks c.remove_inside.ensures.networks c.remove_inside-then-not-has_none_inside.ensures.networks
     ∙ ap (λ (b : Block). overwritten_by c.args.self.now b (record { hop = c.args.hop; pref = default_preference })) c.cleared-net.ensures.block
 
-pub returns-then-not-has_none_inside-clause-given : goal.returns-then-not-has_none_inside-clause-given
-returns-then-not-has_none_inside-clause-given g c =
-    record { tables = search rules; hops = over _ _ _ _ (returns-then-not-has_none_inside-clause-networks g c) c.in_ok-store.ensures.tables.0 (subst IsBlock c.cleared-net.ensures.block c.cleared-net.ensures.is_block) c.in_ok-store.ensures.hop; unchanged = tt; absent = tt }
+pub returns-then-not-has_none_inside-clause-hops : goal.returns-then-not-has_none_inside-clause-hops
+returns-then-not-has_none_inside-clause-hops g c = over _ _ _ _ (returns-then-not-has_none_inside-clause-networks g c) c.in_ok-store.ensures.tables.0 (subst IsBlock c.cleared-net.ensures.block c.cleared-net.ensures.is_block) c.in_ok-store.ensures.hop
 
 pub returns-else-not-has_none_inside-clause-networks : goal.returns-else-not-has_none_inside-clause-networks
 returns-else-not-has_none_inside-clause-networks g c =
@@ -48,6 +47,5 @@ returns-else-not-has_none_inside-clause-networks g c =
     leaf_overwritten c.args.self.now c.in_ok-store.ensures.tables.0 new c.cleared-net.ensures.is_block _ c.in_ok-store.ensures.networks (c.has_none_inside.ensures.0 c.if-not-has_none_inside.false)
     ∙ ap (λ (b : Block). overwritten_by c.args.self.now b (record { hop = c.args.hop; pref = default_preference })) c.cleared-net.ensures.block
 
-pub returns-else-not-has_none_inside-clause-given : goal.returns-else-not-has_none_inside-clause-given
-returns-else-not-has_none_inside-clause-given g c =
-    record { tables = search rules; hops = over _ _ _ _ (returns-else-not-has_none_inside-clause-networks g c) c.in_ok-store.ensures.tables.0 (subst IsBlock c.cleared-net.ensures.block c.cleared-net.ensures.is_block) c.in_ok-store.ensures.hop; unchanged = tt; absent = tt }
+pub returns-else-not-has_none_inside-clause-hops : goal.returns-else-not-has_none_inside-clause-hops
+returns-else-not-has_none_inside-clause-hops g c = over _ _ _ _ (returns-else-not-has_none_inside-clause-networks g c) c.in_ok-store.ensures.tables.0 (subst IsBlock c.cleared-net.ensures.block c.cleared-net.ensures.is_block) c.in_ok-store.ensures.hop
