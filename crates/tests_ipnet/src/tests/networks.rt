@@ -1,5 +1,6 @@
 //! What no contract says: texts of errors, and each call once on values from outside.
-use crate::compare::{any, is_equal, row_is, v4, v6};
+use crate::tests::addresses::IPV4_MASKS;
+use crate::tests::compare::{any, is_equal, row_is, v4, v6};
 use ipnet::{Contains, IpAddr, IpNet, Ipv4Addr, Ipv4Net, Ipv6Addr, Ipv6Net, PrefixLenError};
 use std::alloc::Global;
 use std::fmt::{Debug, Display, Write};
@@ -196,24 +197,15 @@ fn length_of_either(net: Option<IpNet>) -> Option<u8> {
     }
 }
 
-/// IPv4 masks, and their lengths, for a network of either family.
-const IPV4_MASKS: [(&str, [u8; 4], Option<u8>); 6] = [
-    ("0.0.0.0", [0, 0, 0, 0], Some(0)),
-    ("255.254.0.0", [255, 254, 0, 0], Some(15)),
-    ("255.255.255.255", [255, 255, 255, 255], Some(32)),
-    ("255.0.255.0", [255, 0, 255, 0], None),
-    ("0.0.0.255", [0, 0, 0, 255], None),
-    ("127.0.0.0", [127, 0, 0, 0], None),
-];
-
+/// IPv4 masks, for a network of IPv4 and of either family.
 #[test]
 fn ipv4_masks(rt: HostRuntime) {
-    for (row, octets, len) in IPV4_MASKS {
-        let mask = Ipv4Addr::from_octets(octets);
+    for (text, len) in IPV4_MASKS {
+        let mask = Ipv4Addr::from_str(text).expect(&rt, text);
         let v4 = Ipv4Net::with_netmask(Ipv4Addr::new(10, 1, 2, 3), mask);
-        row_is(&rt, row, length(v4.ok()), len);
+        row_is(&rt, text, length(v4.ok()), len);
         let both = IpNet::with_netmask(IpAddr::V6(Ipv6Addr::LOCALHOST), IpAddr::V4(mask));
-        row_is(&rt, row, length_of_either(both.ok()), len);
+        row_is(&rt, text, length_of_either(both.ok()), len);
     }
 }
 

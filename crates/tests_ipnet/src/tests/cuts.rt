@@ -1,13 +1,15 @@
 //! Ranges, subnet iterators and `aggregate` on values from outside.
-use crate::compare::{any, is_equal, row_is, v4, v6};
+use crate::tests::compare::{any, is_equal, row_is, v4, v6};
 use ipnet::{
-    IpAddr, IpAddrRange, IpNet, IpSubnets, Ipv4Addr, Ipv4AddrRange, Ipv4Net, Ipv4Subnets, Ipv6Addr,
-    Ipv6AddrRange, Ipv6Net, Ipv6Subnets, PrefixLenError,
+    AddrParseError, IpAddr, IpAddrRange, IpNet, IpSubnets, Ipv4Addr, Ipv4AddrRange, Ipv4Net,
+    Ipv4Subnets, Ipv6Addr, Ipv6AddrRange, Ipv6Net, Ipv6Subnets, PrefixLenError,
 };
 use ipnet_blocks::contains::is_inside;
 use ipnet_blocks::cut::first_cut;
-use std::alloc::Global;
+use std::alloc::{AllocError, Global};
+use std::fmt::Debug;
 use std::process::Abort;
+use std::str::FromStr;
 
 fn ten(last: u8) -> Ipv4Addr {
     Ipv4Addr::new(10, 0, 0, last)
@@ -215,10 +217,16 @@ fn subnets_of_other_lengths(rt: HostRuntime) {
 }
 
 /// The networks that the words of a text spell.
-fn networks(rt: &impl Abort, alloc: Global, words: &str) -> Vec<IpNet> {
+fn networks<T: FromStr<Err = AddrParseError> + Drop>(
+    rt: &impl Abort,
+    alloc: Global,
+    words: &str,
+) -> Vec<T> {
     let mut networks = Vec::new(alloc);
-    for text in words.split(' ') {
-        networks.push(any(rt, text)).expect(rt, "memory");
+    for text in words.split_terminator(' ') {
+        networks
+            .push(T::from_str(text).expect(rt, text))
+            .expect(rt, "memory");
     }
     networks
 }
@@ -240,46 +248,39 @@ const AGGREGATES: [(&str, &str); 6] = [
 ];
 
 /// The maximal blocks of the given networks are those wanted, in order.
-fn aggregate_is(rt: &impl Abort, alloc: Global, given: &str, wanted: &str) {
-    let blocks = IpNet::aggregate(alloc, &networks(rt, alloc, given)).expect(rt, "memory");
-    let wanted = networks(rt, alloc, wanted);
+fn aggregate_is<
+    T: FromStr<Err = AddrParseError> + PartialEq + Debug + Drop,
+    F: Fn(Global, &Vec<T>) -> Result<Vec<T>, AllocError>,
+>(rt: &impl Abort, alloc: Global, aggregate: F, given: &str, wanted: &str)
+    requires { F.IsAlwaysCallable aggregate }
+{
+    let blocks = aggregate(alloc, &networks(rt, alloc, given)).expect(rt, "memory");
+    let wanted: Vec<T> = networks(rt, alloc, wanted);
     row_is(rt, given, blocks.as_slice(), wanted.as_slice());
 }
 
 #[test]
 fn aggregates(rt: HostRuntime) {
     for (given, wanted) in AGGREGATES {
-        aggregate_is(&rt, rt.alloc(), given, wanted);
+        aggregate_is(&rt, rt.alloc(), IpNet::aggregate, given, wanted);
     }
 }
 
-/// The maximal blocks of these IPv4 networks.
-fn ipv4_aggregate_is(rt: &impl Abort, alloc: Global, given: &[&str], wanted: &[Ipv4Net]) {
-    let mut networks = Vec::new(alloc);
-    for text in given {
-        networks.push(v4(rt, text)).expect(rt, "memory");
-    }
-    let blocks = Ipv4Net::aggregate(alloc, &networks).expect(rt, "memory");
-    is_equal(rt, blocks.as_slice(), wanted);
-}
-
-/// The maximal blocks of these IPv6 networks.
-fn ipv6_aggregate_is(rt: &impl Abort, alloc: Global, given: &[&str], wanted: &[Ipv6Net]) {
-    let mut networks = Vec::new(alloc);
-    for text in given {
-        networks.push(v6(rt, text)).expect(rt, "memory");
-    }
-    let blocks = Ipv6Net::aggregate(alloc, &networks).expect(rt, "memory");
-    is_equal(rt, blocks.as_slice(), wanted);
-}
+/// The halves of 10.0.0.0/24, one with host bits.
+const HALVES: &str = "10.0.0.5/25 10.0.0.128/25";
 
 #[test]
 fn aggregates_of_one_family(rt: HostRuntime) {
-    let four = ["10.0.0.5/25", "10.0.0.128/25"];
-    ipv4_aggregate_is(&rt, rt.alloc(), &four, &[v4(&rt, "10.0.0.0/24")]);
-    ipv4_aggregate_is(&rt, rt.alloc(), &[], &[]);
-    let six = ["::/1", "8000::/1", "::7/128"];
-    ipv6_aggregate_is(&rt, rt.alloc(), &six, &[v6(&rt, "::/0")]);
+    let alloc = rt.alloc();
+    aggregate_is(&rt, alloc, Ipv4Net::aggregate, HALVES, "10.0.0.0/24");
+    aggregate_is(&rt, alloc, Ipv4Net::aggregate, "", "");
+    aggregate_is(
+        &rt,
+        alloc,
+        Ipv6Net::aggregate,
+        "::/1 8000::/1 ::7/128",
+        "::/0",
+    );
 }
 
 // From 10.0.0.0 to 10.0.0.239 the largest first block is 10.0.0.0/25, and it is inside 10.1.2.3/8.

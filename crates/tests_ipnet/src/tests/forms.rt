@@ -1,5 +1,5 @@
 //! Networks as bytes and as JSON values, on rows from outside.
-use crate::compare::{any, is_equal, row_is, v4, v6};
+use crate::tests::compare::{any, is_equal, row_is, v4, v6};
 use ipnet::{IpNet, Ipv4Net, Ipv6Net};
 use serde_json::{Value, json};
 use std::alloc::Global;

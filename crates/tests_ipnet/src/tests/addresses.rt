@@ -1,13 +1,14 @@
 //! Each call once on values from outside.
 ghost use Rattle.std.specs.Prelude.{◌≤◌};
 
-use crate::compare::{is_equal, row_is};
+use crate::tests::compare::{is_equal, row_is};
 use ipnet_addr::ipext::{IpAdd, IpBitAnd, IpBitOr, IpStep, IpSub};
 use ipnet_addr::key::Key;
 use ipnet_addr::mask::{ip_mask_to_prefix, ipv4_mask_to_prefix, ipv6_mask_to_prefix};
 use ipnet_addr::ranges::Ipv4AddrRange;
 use std::net::{IpAddr, Ipv4Addr, Ipv6Addr};
 use std::process::Abort;
+use std::str::FromStr;
 
 const TOP4: Ipv4Addr = Ipv4Addr::BROADCAST;
 
@@ -78,40 +79,48 @@ fn ipv6_sums_and_bits(rt: HostRuntime) {
     is_equal(&rt, IpBitOr::<Ipv6Addr>::bitor(v6(3), v6(4)), v6(7));
 }
 
-/// Masks, and the lengths that they tell.
-const IPV4_MASKS: [(&str, [u8; 4], Option<u8>); 5] = [
-    ("0.0.0.0", [0, 0, 0, 0], Some(0)),
-    ("128.0.0.0", [128, 0, 0, 0], Some(1)),
-    ("255.255.255.255", [255, 255, 255, 255], Some(32)),
-    ("255.0.255.0", [255, 0, 255, 0], None),
-    ("0.0.0.1", [0, 0, 0, 1], None),
+/// IPv4 masks, and the lengths that they tell.
+pub(crate) const IPV4_MASKS: [(&str, Option<u8>); 8] = [
+    ("0.0.0.0", Some(0)),
+    ("128.0.0.0", Some(1)),
+    ("255.254.0.0", Some(15)),
+    ("255.255.255.255", Some(32)),
+    ("255.0.255.0", None),
+    ("0.0.0.1", None),
+    ("0.0.0.255", None),
+    ("127.0.0.0", None),
 ];
 
-#[test]
-fn ipv4_masks(rt: HostRuntime) {
-    for (row, octets, len) in IPV4_MASKS {
-        let mask = Ipv4Addr::from_octets(octets);
-        row_is(&rt, row, ipv4_mask_to_prefix(mask).ok(), len);
-        row_is(&rt, row, ip_mask_to_prefix(IpAddr::V4(mask)).ok(), len);
+/// The same of IPv6: none of the bits, all but the last, all, all but the first, and the last.
+const IPV6_MASKS: [(&str, Option<u8>); 5] = [
+    ("::", Some(0)),
+    ("ffff:ffff:ffff:ffff:ffff:ffff:ffff:fffe", Some(127)),
+    ("ffff:ffff:ffff:ffff:ffff:ffff:ffff:ffff", Some(128)),
+    ("7fff:ffff:ffff:ffff:ffff:ffff:ffff:ffff", None),
+    ("::1", None),
+];
+
+/// The length that the mask tells, by the call of its family.
+fn length_in_family(mask: IpAddr) -> Option<u8> {
+    match mask {
+        IpAddr::V4(mask) => ipv4_mask_to_prefix(mask).ok(),
+        IpAddr::V6(mask) => ipv6_mask_to_prefix(mask).ok(),
     }
 }
 
-/// Masks, and the lengths that they tell.
-const IPV6_MASKS: [(&str, u128, Option<u8>); 5] = [
-    ("::", 0, Some(0)),
-    ("all but the last", u128::MAX << 1, Some(127)),
-    ("all", u128::MAX, Some(128)),
-    ("all but the first", u128::MAX >> 1, None),
-    ("::1", 1, None),
-];
+/// The masks tell these lengths, by the call of their family and by that of both.
+fn masks_tell(rt: &impl Abort, masks: &[(&str, Option<u8>)]) {
+    for (text, len) in masks {
+        let mask = IpAddr::from_str(text).expect(rt, text);
+        row_is(rt, text, length_in_family(mask), *len);
+        row_is(rt, text, ip_mask_to_prefix(mask).ok(), *len);
+    }
+}
 
 #[test]
-fn ipv6_masks(rt: HostRuntime) {
-    for (row, number, len) in IPV6_MASKS {
-        let mask = Ipv6Addr::from_bits(number);
-        row_is(&rt, row, ipv6_mask_to_prefix(mask).ok(), len);
-        row_is(&rt, row, ip_mask_to_prefix(IpAddr::V6(mask)).ok(), len);
-    }
+fn masks(rt: HostRuntime) {
+    masks_tell(&rt, &IPV4_MASKS);
+    masks_tell(&rt, &IPV6_MASKS);
 }
 
 #[test]
