@@ -3,8 +3,9 @@ ghost use Rattle.std.specs.Prelude.{IsTrue, nat_le};
 ghost use Rattle.std.specs.Iterator.{IsFinite};
 ghost use Rattle.std.specs.List.{All};
 
-use crate::maps::{holds, is_equal, plain_map_of};
-use crate::set_steps::digits;
+use crate::tests::maps::{holds, is_equal, plain_map_of};
+use crate::tests::set_steps::digits;
+use prefix_trie::map::{IntoIter, IterMut};
 use prefix_trie::{PrefixMap, PrefixSet, Refused};
 use std::alloc::Global;
 use std::cell::Cell;
@@ -33,7 +34,11 @@ fn set_of<const N: usize>(
 }
 
 /// A set that these members were put into, one after another.
-fn set_with(rt: &impl Abort, alloc: Global, members: &[(u32, u8)]) -> PrefixSet<(u32, u8)> {
+pub(crate) fn set_with(
+    rt: &impl Abort,
+    alloc: Global,
+    members: &[(u32, u8)],
+) -> PrefixSet<(u32, u8)> {
     let mut set = PrefixSet::new(alloc).expect(rt, "a set");
     for member in members.iter() {
         assert!(rt; member.1 <= 32);
@@ -240,12 +245,22 @@ fn dropped_with_the_map(rt: HostRuntime) {
     is_equal(&rt, drops.get(), 3);
 }
 
+/// The value of the next entry, which has this key.
+fn next_value<'a>(
+    rt: &impl Abort,
+    entries: &mut IntoIter<(u32, u8), Counted<'a>>,
+    wanted: (u32, u8),
+) -> Counted<'a> {
+    let (key, value) = entries.next().expect(rt, "an entry");
+    is_equal(rt, key, wanted);
+    value
+}
+
 #[test]
 fn dropped_with_the_iterator(rt: HostRuntime) {
     let drops = Cell::new(0);
     let mut entries = three_counted(&rt, rt.alloc(), &drops).into_iter();
-    let (key, value) = entries.next().expect(&rt, "an entry");
-    is_equal(&rt, key, (0, 0));
+    let value = next_value(&rt, &mut entries, (0, 0));
     is_equal(&rt, drops.get(), 0);
     drop(value);
     is_equal(&rt, drops.get(), 1);
@@ -258,8 +273,7 @@ fn dropped_outside(rt: HostRuntime) {
     let drops = Cell::new(0);
     let mut entries = three_counted(&rt, rt.alloc(), &drops).into_children(&(0x8000_0000, 1));
     is_equal(&rt, drops.get(), 2);
-    let (key, value) = entries.next().expect(&rt, "an entry");
-    is_equal(&rt, key, (0x8000_0000, 1));
+    let value = next_value(&rt, &mut entries, (0x8000_0000, 1));
     holds(&rt, entries.next().is_none());
     drop(entries);
     is_equal(&rt, drops.get(), 2);
@@ -358,38 +372,39 @@ fn lent_at_the_longest(rt: HostRuntime) {
     lends_the_longest(&rt, &mut map);
 }
 
-/// The first two values are lent in turn.
-fn lends_in_turn(rt: &impl Abort, map: &mut PrefixMap<(u32, u8), u32>) {
-    let mut entries = map.iter_mut();
-    is_equal(rt, entries.key(), Some((0x0a00_0000, 8)));
-    write_next(rt, entries.next(), 1, 11);
-    is_equal(rt, entries.key(), Some((0x0a01_0000, 16)));
-    write_next(rt, entries.next(), 2, 22);
+/// The next values are lent in turn, and written: with the key of each, what it had, and what it has then.
+fn lends(
+    rt: &impl Abort,
+    entries: &mut IterMut<'_, (u32, u8), u32>,
+    wanted: &[((u32, u8), u32, u32)],
+) {
+    for (key, had, written) in wanted {
+        is_equal(rt, entries.key(), Some(*key));
+        write_next(rt, entries.next(), *had, *written);
+    }
 }
 
-/// Three values are lent, and no other.
-fn lends_to_the_end(rt: &impl Abort, map: &mut PrefixMap<(u32, u8), u32>) {
-    let mut entries = map.iter_mut();
-    for _ in 0..3 {
-        holds(rt, entries.next().is_some());
-    }
+/// These values are lent, and no other.
+fn lends_all(
+    rt: &impl Abort,
+    entries: &mut IterMut<'_, (u32, u8), u32>,
+    wanted: &[((u32, u8), u32, u32)],
+) {
+    lends(rt, entries, wanted);
     holds(rt, entries.key().is_none());
     holds(rt, entries.next().is_none());
 }
 
 #[test]
 fn lent_in_turn(rt: HostRuntime) {
+    let (first, second, third) = ((0x0a00_0000, 8), (0x0a01_0000, 16), (0x0b00_0000, 8));
     let mut map = plain_map_of(&rt, rt.alloc(), &THREE);
-    lends_in_turn(&rt, &mut map);
-    let wanted = [
-        ((0x0a00_0000, 8), 11),
-        ((0x0a01_0000, 16), 22),
-        ((0x0b00_0000, 8), 3),
-    ];
-    has(&rt, &map, &wanted);
-    lends_to_the_end(&rt, &mut map);
-    lent_is(&rt, map.iter_from_mut(&(0x0a00_0000, 8), false).next(), 22);
-    lent_is(&rt, map.iter_from_mut(&(0x0a01_0000, 16), true).next(), 22);
+    lends(&rt, &mut map.iter_mut(), &[(first, 1, 11), (second, 2, 22)]);
+    has(&rt, &map, &[(first, 11), (second, 22), (third, 3)]);
+    let all = [(first, 11, 11), (second, 22, 22), (third, 3, 3)];
+    lends_all(&rt, &mut map.iter_mut(), &all);
+    lent_is(&rt, map.iter_from_mut(&first, false).next(), 22);
+    lent_is(&rt, map.iter_from_mut(&second, true).next(), 22);
 }
 
 /// Four entries, of which two lie inside 10.1.0.0/16.
@@ -400,27 +415,15 @@ const TWO_INSIDE: [((u32, u8), u32); 4] = [
     ((0x0a02_0000, 16), 4),
 ];
 
-/// The two values inside are lent, and no other.
-fn lends_inside(rt: &impl Abort, map: &mut PrefixMap<(u32, u8), u32>) {
-    let mut entries = map.children_mut(&(0x0a01_0203, 16));
-    is_equal(rt, entries.key(), Some((0x0a01_0000, 16)));
-    write_next(rt, entries.next(), 2, 20);
-    write_next(rt, entries.next(), 3, 30);
-    holds(rt, entries.key().is_none());
-    holds(rt, entries.next().is_none());
-}
-
 #[test]
 fn lent_inside(rt: HostRuntime) {
+    let (first, second) = ((0x0a01_0000, 16), (0x0a01_8000, 17));
     let mut map = plain_map_of(&rt, rt.alloc(), &TWO_INSIDE);
-    lends_inside(&rt, &mut map);
-    let wanted = [
-        ((0x0a00_0000, 8), 1),
-        ((0x0a01_0000, 16), 20),
-        ((0x0a01_8000, 17), 30),
-        ((0x0a02_0000, 16), 4),
-    ];
-    has(&rt, &map, &wanted);
+    let inside = [(first, 2, 20), (second, 3, 30)];
+    lends_all(&rt, &mut map.children_mut(&(0x0a01_0203, 16)), &inside);
+    let outside = [((0x0a00_0000, 8), 1), ((0x0a02_0000, 16), 4)];
+    has(&rt, &map, &outside);
+    has(&rt, &map, &[(first, 20), (second, 30)]);
     holds(&rt, map.children_mut(&(0x0a03_0000, 16)).next().is_none());
     lent_is(&rt, map.children_mut(&(0, 0)).next(), 1);
 }

@@ -1,5 +1,5 @@
 //! The calls of a map that are met first, as the comments of these calls show them.
-use crate::maps::{map_of, net};
+use crate::tests::maps::{map_of, net};
 use ipnet::Ipv4Net;
 use prefix_trie::PrefixMap;
 use std::alloc::Global;

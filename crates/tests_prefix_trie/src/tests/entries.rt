@@ -1,9 +1,9 @@
 //! Rows on entries: what is stored, a call of an entry, and what the map has then.
-use crate::entries::Call::{
+use crate::tests::entries::Call::{
     Defaulted, Lent, Matched, NoEntry, NoMatch, Occupied, OrInserted, Removed, Stored, StoredTwice,
     VacantKey, VeryKey, Written, WrittenAfter,
 };
-use crate::maps::{is_equal, is_text, map_of, net, step_is};
+use crate::tests::maps::{is_equal, is_text, map_of, net, step_is};
 use ipnet::Ipv4Net;
 use prefix_trie::map::Entry;
 use prefix_trie::{PrefixMap, Refused};
@@ -328,38 +328,20 @@ const CALLS: [(&str, Call, &[(&str, u32)], &[(&str, u32)], usize); 15] = [
         &[("10.0.0.0/8", 6)],
         2,
     ),
-    (
-        "no match",
-        NoMatch,
-        &BEFORE,
-        &[("10.0.0.0/8", 1), ("10.1.0.0/16", 2)],
-        6,
-    ),
-    (
-        "no entry",
-        NoEntry,
-        &BEFORE,
-        &[("10.0.0.0/8", 1), ("10.1.0.0/16", 2)],
-        6,
-    ),
-    (
-        "a match",
-        Matched,
-        &BEFORE,
-        &[("10.0.0.0/8", 7), ("10.1.0.0/16", 2)],
-        6,
-    ),
-    (
-        "get_mut of one of two",
-        Written,
-        &BEFORE,
-        &[("10.0.0.0/8", 7), ("10.1.0.0/16", 2)],
-        6,
-    ),
+    ("no match", NoMatch, &BEFORE, &UNWRITTEN, 6),
+    ("no entry", NoEntry, &BEFORE, &UNWRITTEN, 6),
+    ("a match", Matched, &BEFORE, &WRITTEN, 6),
+    ("get_mut of one of two", Written, &BEFORE, &WRITTEN, 6),
 ];
 
 /// What is stored before some of the calls.
 const BEFORE: [(&str, u32); 3] = [("10.0.0.0/8", 1), ("10.1.0.0/16", 2), ("10.2.3.0/24", 3)];
+
+/// What is left of that where nothing is written.
+const UNWRITTEN: [(&str, u32); 2] = [("10.0.0.0/8", 1), ("10.1.0.0/16", 2)];
+
+/// What is left where the first value is.
+const WRITTEN: [(&str, u32); 2] = [("10.0.0.0/8", 7), ("10.1.0.0/16", 2)];
 
 /// The map has these entries and no other, in this order.
 fn has_in_order(

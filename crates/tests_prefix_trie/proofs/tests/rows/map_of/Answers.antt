@@ -5,7 +5,7 @@ use Rattle.std.specs.Vec.Iter.{into_iter_items}
 use Rattle.std.proofs.Math.Seq.{take-append_seam}
 use Rattle.std.proofs.lemmas.List.Elements.{All-take}
 use Rattle.tests_prefix_trie.proofs.Runs.{taken_front}
-use Rattle.tests_prefix_trie.proofs.rows.map_of.Goals as goal
+use Rattle.tests_prefix_trie.proofs.tests.rows.map_of.Goals as goal
 
 pub try_from_iter-requires : goal.try_from_iter-requires
 try_from_iter-requires g c it h =

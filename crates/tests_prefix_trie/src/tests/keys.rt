@@ -1,7 +1,7 @@
 //! Each generic function at concrete types, called through its bound.
 ghost use Rattle.std.specs.Prelude.{◌≤◌, length, IsTrue};
 
-use crate::maps::{is_equal, net, wide_net};
+use crate::tests::maps::{is_equal, net, wide_net};
 use prefix_trie::{Key, Prefix, path_of, shortened};
 use trie_core::Path;
 

@@ -1,5 +1,5 @@
 //! A search below a map, and a map whose requests for memory may be refused.
-use crate::maps::is_equal;
+use crate::tests::maps::is_equal;
 use prefix_trie::{PrefixMap, Refused};
 use std::process::Abort;
 use trie_core::{Node, Path};

@@ -1,5 +1,5 @@
 //! Walks that are no step of a script.
-use crate::maps::{digits, is_equal, is_key, map_of, net, plain_map_of};
+use crate::tests::maps::{digits, is_equal, is_key, map_of, net, plain_map_of};
 use ipnet::Ipv4Net;
 use prefix_trie::PrefixMap;
 use std::alloc::Global;
