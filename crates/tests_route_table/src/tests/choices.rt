@@ -1,5 +1,5 @@
 //! Several routes a network: which is the best, and what they take.
-use crate::tables::row_is;
+use crate::tests::tables::row_is;
 use route_choices::{Choices, TooMany};
 use route_table::Hop;
 use std::process::Abort;

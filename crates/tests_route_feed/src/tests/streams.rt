@@ -1,6 +1,6 @@
 //! What is read and what is written, as rows from outside.
-use crate::rows::{prints, row_is, text_is};
-use crate::runs::{Mode, followed, gives, led, shortened};
+use crate::tests::rows::{prints, row_is, text_is};
+use crate::tests::runs::{Mode, followed, gives, led, shortened};
 use route_feed::{FollowError, Follower, RunError};
 use std::alloc::Global;
 use std::process::Abort;

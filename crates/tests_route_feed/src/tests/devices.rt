@@ -1,7 +1,7 @@
 //! Runs over devices that give and take a few bytes a call, and with a fault at each call in turn.
-use crate::runs::Mode;
-use crate::scripted::{End, FLUSHED, Fault, Script, ends, flushes_in};
-use crate::streams::READ_TO_THE_END;
+use crate::tests::runs::Mode;
+use crate::tests::scripted::{End, FLUSHED, Fault, Script, ends, flushes_in};
+use crate::tests::streams::READ_TO_THE_END;
 use route_feed::RunError;
 use std::alloc::Global;
 use std::process::Abort;

@@ -1,6 +1,6 @@
 //! The calls of a table that are met first, as the comments of these calls show them.
-use crate::indexes::address;
-use crate::tables::{empty, net, put};
+use crate::tests::indexes::address;
+use crate::tests::tables::{empty, net, put};
 use hop_index::HopIndex;
 use route_table::{Hop, RouteTable};
 use std::alloc::Global;

@@ -1,5 +1,5 @@
 //! A follower line by line: the hops of addresses, and a least table of them.
-use crate::rows::{net, row_is};
+use crate::tests::rows::{net, row_is};
 use ipnet::{IpAddr, IpNet};
 use route_feed::Follower;
 use route_table::Hop;

@@ -1,5 +1,5 @@
 //! Texts as rows: what is read, and what is printed again.
-use crate::rows::{net, prints, row_is, text_is};
+use crate::tests::rows::{net, prints, row_is, text_is};
 use route_lines::{Closing, Command, NotALine, Note, Reply, Update};
 use route_table::{Hop, Operation};
 use std::process::Abort;

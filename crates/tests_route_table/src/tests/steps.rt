@@ -1,5 +1,5 @@
 //! Scripts of calls of a route table, and what these answer.
-use crate::tables::{empty, net, put, step_is};
+use crate::tests::tables::{net, put, step_is, table};
 use ipnet::IpNet;
 use route_table::{AddRefused, Hop, RouteTable, Routes};
 use std::alloc::Global;
@@ -169,12 +169,10 @@ pub(crate) fn hops(routes: Routes<'_>) -> u32 {
     digits
 }
 
-/// The calls of a script answer so, one after another, of a table that is empty at first.
-pub(crate) fn goes(rt: &impl Abort, alloc: Global, row: &str, steps: &[Step]) {
-    let mut table = empty(rt, alloc);
-    let mut at: usize = 0;
-    for step in steps {
+/// The calls of a script answer so, one after another, of a table of these routes.
+pub(crate) fn goes(rt: &impl Abort, alloc: Global, row: &str, stored: &str, steps: &[Step]) {
+    let mut table = table(rt, alloc, stored);
+    for (at, step) in steps.iter().enumerate() {
         change(rt, (row, at), &mut table, step);
-        at = at.wrapping_add(1);
     }
 }

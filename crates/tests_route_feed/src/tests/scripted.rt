@@ -1,8 +1,8 @@
 //! A reader and a writer by a script: a few bytes a call, and a fault at a call.
 //!
 //! A scripted device counts its own calls, and would serve those after a fault.
-use crate::rows::{row_is, text_is};
-use crate::runs::{Mode, run};
+use crate::tests::rows::{row_is, text_is};
+use crate::tests::runs::{Mode, run};
 use route_feed::{Counted, RunError};
 use std::alloc::Global;
 use std::io;
@@ -174,18 +174,17 @@ pub(crate) fn ends(
     script: Script,
     end: End<'_>,
 ) {
-    let (left, done) = (row.1.as_bytes(), Vec::new(alloc));
-    let mut reader = Counted::new(Given {
-        left,
+    let given = Given {
+        left: row.1.as_bytes(),
         script,
         calls: 0,
-    });
-    let mut writer = Counted::new(Held {
-        done,
+    };
+    let held = Held {
+        done: Vec::new(alloc),
         script,
         calls: 0,
-    });
-    let ended = run(alloc, row.0, &mut reader, &mut writer);
+    };
+    let (ended, reader, writer) = run(alloc, row.0, given, held);
     row_is(rt, row, ended, end.0);
     faults_are(rt, row, &reader, &writer, ended);
     reads_are(rt, row, reader, end.1);

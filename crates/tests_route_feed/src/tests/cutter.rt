@@ -1,5 +1,5 @@
 //! The cutter on bytes from outside, fed one by one; lines in place.
-use crate::rows::row_is;
+use crate::tests::rows::row_is;
 use route_lines::{Line, LineCutter, Rest, line_text};
 use std::process::Abort;
 

@@ -1,6 +1,6 @@
 //! An installer of very many changes, and a line for a table.
-use crate::rows::{row_is, text_is};
-use crate::runs::{Mode, gives};
+use crate::tests::rows::{row_is, text_is};
+use crate::tests::runs::{Mode, gives};
 use route_feed::{Counted, lead_line};
 use route_table::RouteTable;
 use std::alloc::Global;

@@ -1,5 +1,5 @@
 //! Shortest tables of known hops.
-use crate::tables::row_is;
+use crate::tests::tables::row_is;
 use least_table::least;
 use std::test::Fail;
 

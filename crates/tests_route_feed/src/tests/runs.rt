@@ -1,11 +1,11 @@
 //! The runs of `route_feed`, over any devices and over memory.
-ghost use Rattle.std.specs.Prelude.{◌≡◌, ◌<◌, ◌^◌, List, Bool, IfOk};
+ghost use Rattle.std.specs.Prelude.{◌≡◌, List, Bool, IfOk};
 ghost use Rattle.route_feed.specs.AddLines.{add_lines};
 ghost use Rattle.route_feed.specs.Output.{output};
 ghost use Rattle.route_feed.specs.Shortens.{IsLeastFor};
 ghost use Rattle.route_laws.specs.Tables.{Route};
 
-use crate::rows::{row_is, text_is};
+use crate::tests::rows::{row_is, text_is};
 use route_feed::{Counted, RunError, follow, follow_leaking, install, lead, lead_leaking, shorten};
 use std::alloc::Global;
 use std::io::{Read, Write};
@@ -22,25 +22,23 @@ pub(crate) enum Mode {
     Install,
 }
 
-/// The run over these devices.
+/// How the run over these devices ends, and what was counted of them.
 pub(crate) fn run<R: Read, W: Write>(
     alloc: Global,
     mode: Mode,
-    reader: &mut Counted<R>,
-    writer: &mut Counted<W>,
-) -> Result<(), RunError>
-    requires reads { reader.old.reads < 2 ^ 63 }
-    requires reader { reader.old.faults < 2 ^ 63 }
-    requires writer { writer.old.faults < 2 ^ 63 }
-{
-    match mode {
-        Mode::Lead => lead(alloc, reader, writer),
-        Mode::LeadLeaking => lead_leaking(alloc, reader, writer),
-        Mode::Follow => follow(alloc, reader, writer),
-        Mode::FollowLeaking => follow_leaking(alloc, reader, writer),
-        Mode::Shorten => shorten(alloc, reader, writer),
-        Mode::Install => install(alloc, reader, writer),
-    }
+    given: R,
+    taken: W,
+) -> (Result<(), RunError>, Counted<R>, Counted<W>) {
+    let (mut reader, mut writer) = (Counted::new(given), Counted::new(taken));
+    let ended = match mode {
+        Mode::Lead => lead(alloc, &mut reader, &mut writer),
+        Mode::LeadLeaking => lead_leaking(alloc, &mut reader, &mut writer),
+        Mode::Follow => follow(alloc, &mut reader, &mut writer),
+        Mode::FollowLeaking => follow_leaking(alloc, &mut reader, &mut writer),
+        Mode::Shorten => shorten(alloc, &mut reader, &mut writer),
+        Mode::Install => install(alloc, &mut reader, &mut writer),
+    };
+    (ended, reader, writer)
 }
 
 /// The run over this text writes this, and ends so.
@@ -51,10 +49,8 @@ pub(crate) fn gives(
     wanted: &str,
     end: Result<(), RunError>,
 ) {
-    let (mode, input) = row;
-    let mut reader = Counted::new(input.as_bytes());
-    let mut writer = Counted::new(Vec::new(alloc));
-    row_is(rt, row, run(alloc, mode, &mut reader, &mut writer), end);
+    let (ended, _reader, writer) = run(alloc, row.0, row.1.as_bytes(), Vec::new(alloc));
+    row_is(rt, row, ended, end);
     text_is(rt, row, writer.into_inner().as_slice(), wanted);
 }
 

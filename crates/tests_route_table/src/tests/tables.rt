@@ -30,12 +30,40 @@ pub(crate) fn empty(rt: &impl Abort, alloc: Global) -> RouteTable {
     RouteTable::new(alloc).expect(rt, "a table")
 }
 
+/// The hop of a word: a number, or `drop`.
+fn hop_of(rt: &impl Abort, word: &str) -> Hop {
+    if word == "drop" {
+        return Hop::Drop;
+    }
+    Hop::Number(u32::from_str(word).expect(rt, word))
+}
+
+/// The route of two words, a network and a hop.
+pub(crate) fn route(rt: &impl Abort, words: &str) -> (IpNet, Hop) {
+    let (network, word) = words.split_once(' ').expect(rt, words);
+    (net(rt, network), hop_of(rt, word))
+}
+
+/// The routes of a text, between commas.
+pub(crate) fn routes(rt: &impl Abort, alloc: Global, text: &str) -> Vec<(IpNet, Hop)> {
+    let mut routes = Vec::new(alloc);
+    for words in text.split_terminator(',') {
+        routes.push(route(rt, words.trim())).expect(rt, "memory");
+    }
+    routes
+}
+
+/// A table of the routes of a text, added in order with the default preference.
+pub(crate) fn table(rt: &impl Abort, alloc: Global, text: &str) -> RouteTable {
+    let mut table = empty(rt, alloc);
+    for words in text.split_terminator(',') {
+        let (net, hop) = route(rt, words.trim());
+        let _ = table.add(net, hop, 100).expect(rt, words);
+    }
+    table
+}
+
 /// A route with the default preference is added.
 pub(crate) fn put(rt: &impl Abort, table: &mut RouteTable, text: &str, hop: Hop) {
     let _ = table.add(net(rt, text), hop, 100).expect(rt, text);
-}
-
-/// The network is printed so.
-pub(crate) fn is_text(rt: &impl Abort, net: IpNet, text: &str) {
-    row_is(rt, text, net.to_text().as_slice(), text.as_bytes());
 }

@@ -1,10 +1,10 @@
 //! Scripts of route tables, with values from outside. In walks, hops tell the routes apart.
-use crate::steps::Step::{
+use crate::tests::steps::Step::{
     Add, After, All, Count, Cover, Del, From, Get, Governs, GovernsCount, IsLeaf, List, Nodes,
     Overwrite, Put, Visits,
 };
-use crate::steps::{Step, goes, hops};
-use crate::tables::{empty, net, row_is};
+use crate::tests::steps::{Step, goes, hops};
+use crate::tests::tables::{empty, net, row_is};
 use route_table::{AddRefused, Hop, Refused, RouteTable};
 use std::process::Abort;
 
@@ -25,16 +25,18 @@ const EIGHT: Hop = Hop::Number(8);
 
 const NINE: Hop = Hop::Number(9);
 
-/// Changes, and what is governed, inside, and found then.
-const CHANGES: [(&str, &[Step]); 8] = [
+/// Scripts: what is stored at first, and the calls.
+const SCRIPTS: [(&str, &str, &[Step]); 13] = [
+    // Changes, and what is governed, inside, and found then.
     (
         "leaves of an empty table",
+        "",
         &[IsLeaf("0.0.0.0/0", true), IsLeaf("::/0", true)],
     ),
     (
         "leaves beside a route",
+        "10.0.0.0/8 1",
         &[
-            Put("10.0.0.0/8", ONE),
             IsLeaf("10.0.0.0/8", true),
             IsLeaf("10.1.0.0/16", true),
             IsLeaf("10.1.2.3/32", true),
@@ -45,9 +47,8 @@ const CHANGES: [(&str, &[Step]); 8] = [
     ),
     (
         "leaves beside a host",
+        "10.0.0.0/8 1, 2001:db8::1/128 drop",
         &[
-            Put("10.0.0.0/8", ONE),
-            Put("2001:db8::1/128", Hop::Drop),
             IsLeaf("::/0", false),
             IsLeaf("2001:db8::/127", false),
             IsLeaf("2001:db8::1/128", true),
@@ -61,6 +62,7 @@ const CHANGES: [(&str, &[Step]); 8] = [
     ),
     (
         "a route inside another, and one inside that",
+        "",
         &[
             Add("10.0.0.0/8", ONE, 100, Ok((None, Some(1)))),
             Add("10.0.0.0/9", TWO, 100, Ok((Some(1), Some(2)))),
@@ -77,6 +79,7 @@ const CHANGES: [(&str, &[Step]); 8] = [
     ),
     (
         "drop is stored",
+        "",
         &[
             Add("10.0.0.0/30", ONE, 100, Ok((None, Some(1)))),
             Add("10.0.0.1/32", Hop::Drop, 100, Ok((Some(1), None))),
@@ -86,8 +89,8 @@ const CHANGES: [(&str, &[Step]); 8] = [
     ),
     (
         "at the greatest address",
+        "255.255.255.255/32 9",
         &[
-            Put("255.255.255.255/32", NINE),
             Governs(
                 "255.255.255.252/30",
                 &["255.255.255.252/31", "255.255.255.254/32"],
@@ -99,8 +102,8 @@ const CHANGES: [(&str, &[Step]); 8] = [
     ),
     (
         "families are apart",
+        "::ffff:10.0.0.0/104 1",
         &[
-            Put("::ffff:10.0.0.0/104", ONE),
             Get("10.0.0.0/8", None),
             Put("2001:DB8::1/32", SEVEN),
             Get("2001:db8::/32", Some(("2001:db8::/32", SEVEN, 100))),
@@ -109,28 +112,14 @@ const CHANGES: [(&str, &[Step]); 8] = [
     ),
     (
         "listed",
-        &[
-            Put("10.0.0.0/8", ONE),
-            Put("10.1.2.3/16", ONE),
-            Put("11.0.0.0/8", TWO),
-            List("10.0.0.0/8", &["10.0.0.0/8", "10.1.0.0/16"]),
-        ],
+        "10.0.0.0/8 1, 10.1.2.3/16 1, 11.0.0.0/8 2",
+        &[List("10.0.0.0/8", &["10.0.0.0/8", "10.1.0.0/16"])],
     ),
-];
-
-#[test]
-fn changes(rt: HostRuntime) {
-    for (row, steps) in &CHANGES {
-        goes(&rt, rt.alloc(), row, steps);
-    }
-}
-
-/// Several routes a network: which is the best, and what is refused.
-const CHOICES: [(&str, &[Step]); 3] = [
+    // Several routes a network: which is the best, and what is refused.
     (
         "the next best takes over",
+        "10.1.2.3/8 5",
         &[
-            Put("10.1.2.3/8", FIVE),
             Add("10.0.0.0/8", Hop::Drop, 100, Ok((Some(5), Some(5)))),
             Add("10.0.0.0/8", NINE, 50, Ok((Some(5), Some(5)))),
             Add("10.0.0.0/8", THREE, 100, Ok((Some(5), Some(3)))),
@@ -151,15 +140,8 @@ const CHOICES: [(&str, &[Step]); 3] = [
     ),
     (
         "a ninth is refused",
+        "2001:db8::/32 1, 2001:db8::/32 2, 2001:db8::/32 3, 2001:db8::/32 4, 2001:db8::/32 5, 2001:db8::/32 6, 2001:db8::/32 7, 2001:db8::/32 8",
         &[
-            Put("2001:db8::/32", ONE),
-            Put("2001:db8::/32", TWO),
-            Put("2001:db8::/32", THREE),
-            Put("2001:db8::/32", Hop::Number(4)),
-            Put("2001:db8::/32", FIVE),
-            Put("2001:db8::/32", Hop::Number(6)),
-            Put("2001:db8::/32", SEVEN),
-            Put("2001:db8::/32", EIGHT),
             Add("2001:db8::/32", NINE, 200, Err(AddRefused::TooMany)),
             Add("2001:db8::/32", EIGHT, 200, Ok((Some(1), Some(8)))),
             Add("2001:db8::/32", Hop::Drop, 100, Err(AddRefused::TooMany)),
@@ -181,8 +163,8 @@ const CHOICES: [(&str, &[Step]); 3] = [
     ),
     (
         "with overwrite one route is left",
+        "10.0.0.0/8 1",
         &[
-            Put("10.0.0.0/8", ONE),
             Add("10.0.0.0/8", TWO, 300, Ok((Some(1), Some(2)))),
             Put("10.1.0.0/16", Hop::Number(4)),
             Overwrite("10.0.0.0/8", SEVEN),
@@ -190,26 +172,11 @@ const CHOICES: [(&str, &[Step]); 3] = [
             Count(1, 0),
         ],
     ),
-];
-
-#[test]
-fn choices(rt: HostRuntime) {
-    for (row, steps) in &CHOICES {
-        goes(&rt, rt.alloc(), row, steps);
-    }
-}
-
-/// Walks, and one route in the place of all those inside its network.
-const WALKS: [(&str, &[Step]); 2] = [
+    // Walks, and one route in the place of all those inside its network.
     (
         "walks keep to a family",
+        "10.0.0.0/8 1, 10.1.0.0/16 2, 10.2.0.0/16 3, 10.2.0.0/24 4, 10.3.0.0/16 5, 10.4.0.0/16 6",
         &[
-            Put("10.0.0.0/8", ONE),
-            Put("10.1.0.0/16", TWO),
-            Put("10.2.0.0/16", THREE),
-            Put("10.2.0.0/24", Hop::Number(4)),
-            Put("10.3.0.0/16", FIVE),
-            Put("10.4.0.0/16", Hop::Number(6)),
             From("10.2.3.4/16", 3456),
             After("10.2.3.4/16", 456),
             From("10.2.0.0/17", 456),
@@ -230,13 +197,8 @@ const WALKS: [(&str, &[Step]); 2] = [
     ),
     (
         "overwritten",
+        "10.0.0.0/8 1, 10.1.0.0/16 2, 10.2.0.0/16 3, 10.2.0.0/24 4, 10.3.0.0/16 5, 10.4.0.0/16 6",
         &[
-            Put("10.0.0.0/8", ONE),
-            Put("10.1.0.0/16", TWO),
-            Put("10.2.0.0/16", THREE),
-            Put("10.2.0.0/24", Hop::Number(4)),
-            Put("10.3.0.0/16", FIVE),
-            Put("10.4.0.0/16", Hop::Number(6)),
             Overwrite("10.2.3.4/16", NINE),
             From("0.0.0.0/0", 12956),
             Overwrite("10.2.0.5/32", Hop::Drop),
@@ -254,9 +216,9 @@ const WALKS: [(&str, &[Step]); 2] = [
 ];
 
 #[test]
-fn walks(rt: HostRuntime) {
-    for (row, steps) in &WALKS {
-        goes(&rt, rt.alloc(), row, steps);
+fn scripts(rt: HostRuntime) {
+    for (row, stored, steps) in &SCRIPTS {
+        goes(&rt, rt.alloc(), row, stored, steps);
     }
 }
 
