@@ -1,8 +1,8 @@
 //! Look-ups and walks of maps of networks, which take no memory.
 use crate::fault::Fault;
-use crate::maps::{Map, show};
-use crate::nets::ipv4_network;
-use crate::show::{begin, copy_first, debug_line, debug_pair, end, entries, entry, line, lines};
+use crate::maps::Map;
+use crate::nets::network;
+use crate::show::{begin, copy_first, end, line, lines};
 use ipnet::Ipv4Net;
 use prefix_trie::map::IterMut;
 
@@ -19,60 +19,39 @@ pub enum MapRead {
 }
 
 pub fn run(rt: &HostRuntime, map: &mut Map, call: MapRead) -> Result<(), Fault> {
-    let inner = ipv4_network("10.1.2.5/32")?;
-    let outer = ipv4_network("10.0.0.0/9")?;
-    show(rt, map);
-    begin(rt)?;
-    read(rt, map, call, &inner, &outer)?;
-    end(rt)?;
-    show(rt, map);
-    Ok(())
-}
-
-fn read(
-    rt: &HostRuntime,
-    map: &mut Map,
-    call: MapRead,
-    inner: &Ipv4Net,
-    outer: &Ipv4Net,
-) -> Result<(), Fault> {
+    let inner = network("10.1.2.5/32")?;
+    let outer = network("10.0.0.0/9")?;
+    begin(rt);
     match call {
-        MapRead::LookUps => look_up_both(rt, map, inner, outer),
-        MapRead::Lent => return lend(rt, map, inner),
+        MapRead::LookUps => look_up(rt, map, &[inner, outer]),
+        MapRead::Lent => lend(rt, map, &inner)?,
         MapRead::Walks => walk(rt, map),
-        MapRead::WalksInPart => walk_in_part(rt, map, outer),
-        MapRead::WalksLent => walk_lent(rt, map, outer),
-        MapRead::Covers => cover(rt, map, inner),
-        MapRead::CopiedWalks => return copy_walks(rt, map, inner),
+        MapRead::WalksInPart => walk_in_part(rt, map, &outer),
+        MapRead::WalksLent => walk_lent(rt, map, &outer),
+        MapRead::Covers => cover(rt, map, &inner),
+        MapRead::CopiedWalks => copy_walks(rt, map, &inner)?,
     }
+    end(rt);
     Ok(())
 }
 
-fn look_up_both(rt: &HostRuntime, map: &Map, inner: &Ipv4Net, outer: &Ipv4Net) {
-    look_up(rt, map, inner);
-    look_up(rt, map, outer);
-}
-
-/// Each look-up of a network.
-fn look_up(rt: &HostRuntime, map: &Map, net: &Ipv4Net) {
-    debug_pair(rt, &map.get(net), &map.contains_key(net));
-    debug_line(rt, &map.get_key_value(net));
-    debug_pair(rt, &map.get_lpm(net), &map.get_lpm_prefix(net));
-    debug_pair(rt, &map.get_spm(net), &map.get_spm_prefix(net));
-    debug_pair(rt, &map.get_lpm_visits(net), &map.is_covered(net));
-    debug_pair(rt, &map.longest_match(net), &map.is_leaf(net));
-    count(rt, map);
-}
-
-/// What is told of the whole map, which equals itself.
-fn count(rt: &HostRuntime, map: &Map) {
-    debug_pair(rt, &map.len(), &map.is_empty());
-    debug_pair(rt, &map.address_count(), &(map == map));
+/// Each look-up of these networks, and what is told of the whole map, which equals itself.
+fn look_up(rt: &HostRuntime, map: &Map, nets: &[Ipv4Net; 2]) {
+    for net in nets {
+        line(rt, &(map.get(net), map.contains_key(net)));
+        line(rt, &map.get_key_value(net));
+        line(rt, &(map.get_lpm(net), map.get_lpm_prefix(net)));
+        line(rt, &(map.get_spm(net), map.get_spm_prefix(net)));
+        line(rt, &(map.get_lpm_visits(net), map.is_covered(net)));
+        line(rt, &(map.longest_match(net), map.is_leaf(net)));
+    }
+    line(rt, &(map.len(), map.is_empty()));
+    line(rt, &(map.address_count(), map == map));
 }
 
 /// Values that are lent and written.
 fn lend(rt: &HostRuntime, map: &mut Map, net: &Ipv4Net) -> Result<(), Fault> {
-    let (exact, other) = (ipv4_network("10.1.0.0/16")?, ipv4_network("10.64.0.0/10")?);
+    let (exact, other) = (network("10.1.0.0/16")?, network("10.64.0.0/10")?);
     lend_exact(map, &exact);
     lend_longest(rt, map, net);
     lend_longest_value(rt, map, net);
@@ -89,7 +68,7 @@ fn lend_exact(map: &mut Map, net: &Ipv4Net) {
 
 fn lend_longest(rt: &HostRuntime, map: &mut Map, net: &Ipv4Net) {
     if let Some((key, value)) = map.get_lpm_mut(net) {
-        entry(rt, "", &key, value);
+        line(rt, &(key, *value));
         *value = 30;
     }
 }
@@ -105,7 +84,7 @@ fn lend_longest_value(rt: &HostRuntime, map: &mut Map, net: &Ipv4Net) {
 fn lend_match(rt: &HostRuntime, map: &mut Map, net: &Ipv4Net) {
     if let Some((len, _)) = map.longest_match(net) {
         let (key, value) = map.match_mut(net, len);
-        entry(rt, "", &key, value);
+        line(rt, &(key, *value));
         *value = 32;
     }
 }
@@ -118,16 +97,16 @@ fn lend_entry(map: &mut Map, net: Ipv4Net) {
 
 /// All entries, keys and values.
 fn walk(rt: &HostRuntime, map: &Map) {
-    entries(rt, "", map.iter());
-    lines(rt, map.keys());
-    lines(rt, map.values());
+    lines(rt, "", map.iter());
+    lines(rt, "", map.keys());
+    lines(rt, "", map.values());
 }
 
 /// The entries inside a network, and from it on, with it and without.
 fn walk_in_part(rt: &HostRuntime, map: &Map, net: &Ipv4Net) {
-    entries(rt, "inside ", map.children(net));
-    entries(rt, "from ", map.iter_from(net, true));
-    entries(rt, "after ", map.iter_from(net, false));
+    lines(rt, "inside ", map.children(net));
+    lines(rt, "from ", map.iter_from(net, true));
+    lines(rt, "after ", map.iter_from(net, false));
 }
 
 /// The values of all entries, then of those inside a network, from it on, and all again, lent and written.
@@ -155,9 +134,9 @@ fn add(rt: &HostRuntime, value: &mut u32, more: u32) {
 
 /// The entries whose networks contain this one.
 fn cover(rt: &HostRuntime, map: &Map, net: &Ipv4Net) {
-    entries(rt, "", map.cover(net));
-    lines(rt, map.cover_keys(net));
-    lines(rt, map.cover_values(net));
+    lines(rt, "", map.cover(net));
+    lines(rt, "", map.cover_keys(net));
+    lines(rt, "", map.cover_values(net));
 }
 
 /// What a copy of each walk gives first, and one that has nothing left.

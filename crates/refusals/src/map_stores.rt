@@ -1,7 +1,7 @@
 //! Calls that store in a map at a network that isn't stored.
 use crate::fault::Fault;
-use crate::maps::{Map, show};
-use crate::nets::ipv4_network;
+use crate::maps::Map;
+use crate::nets::network;
 use crate::show::{answer, begin, end, given, handed_back};
 use ipnet::Ipv4Net;
 use prefix_trie::Refused;
@@ -25,14 +25,15 @@ pub enum MapStore {
 type Stored = Result<(), (Refused, u32)>;
 
 pub fn run(rt: &HostRuntime, map: &mut Map, call: MapStore) -> Result<(), Fault> {
-    let net = ipv4_network(text_of(call))?;
-    show(rt, map);
+    let net = network(text_of(call))?;
     given(rt, value_of(call));
-    begin(rt)?;
+    begin(rt);
     let outcome = stored(map, net, call);
-    end(rt)?;
-    answered(rt, outcome);
-    show(rt, map);
+    end(rt);
+    match outcome {
+        Ok(()) => answer(rt, &"stored"),
+        Err((error, value)) => handed_back(rt, &error, value),
+    }
     Ok(())
 }
 
@@ -52,16 +53,9 @@ fn value_of(call: MapStore) -> u32 {
     }
 }
 
-fn answered(rt: &HostRuntime, outcome: Stored) {
-    match outcome {
-        Ok(()) => answer(rt, &"stored"),
-        Err((error, value)) => handed_back(rt, &error, value),
-    }
-}
-
 fn stored(map: &mut Map, net: Ipv4Net, call: MapStore) -> Stored {
     match call {
-        MapStore::Insert | MapStore::InsertSixNodes => insert(map, net),
+        MapStore::Insert | MapStore::InsertSixNodes => replaced(map.insert(net, 9)),
         MapStore::VacantInsert | MapStore::VacantInsertWith | MapStore::VacantDefault => vacant(
             map, net, call,
         ),
@@ -69,8 +63,15 @@ fn stored(map: &mut Map, net: Ipv4Net, call: MapStore) -> Stored {
     }
 }
 
-fn insert(map: &mut Map, net: Ipv4Net) -> Stored {
-    map.insert(net, 9)?;
+/// What was stored before is left aside.
+fn replaced(outcome: Result<Option<u32>, (Refused, u32)>) -> Stored {
+    outcome?;
+    Ok(())
+}
+
+/// The value that is lent is left aside.
+fn lent(outcome: Result<&mut u32, (Refused, u32)>) -> Stored {
+    outcome?;
     Ok(())
 }
 
@@ -78,20 +79,11 @@ fn insert(map: &mut Map, net: Ipv4Net) -> Stored {
 fn at_entry(map: &mut Map, net: Ipv4Net, call: MapStore) -> Stored {
     let mut entry = map.entry(net);
     match call {
-        MapStore::EntryInsert => {
-            entry.insert(9)?;
-        }
-        MapStore::OrInsert => {
-            entry.or_insert(9)?;
-        }
-        MapStore::OrInsertWith => {
-            entry.or_insert_with(|| 9)?;
-        }
-        _ => {
-            entry.or_default()?;
-        }
+        MapStore::EntryInsert => replaced(entry.insert(9)),
+        MapStore::OrInsert => lent(entry.or_insert(9)),
+        MapStore::OrInsertWith => lent(entry.or_insert_with(|| 9)),
+        _ => lent(entry.or_default()),
     }
-    Ok(())
 }
 
 /// The calls of an entry of a network that isn't stored.
@@ -100,15 +92,8 @@ fn vacant(map: &mut Map, net: Ipv4Net, call: MapStore) -> Stored {
         return Ok(());
     };
     match call {
-        MapStore::VacantInsert => {
-            entry.insert(9)?;
-        }
-        MapStore::VacantInsertWith => {
-            entry.insert_with(|| 9)?;
-        }
-        _ => {
-            entry.default()?;
-        }
+        MapStore::VacantInsert => lent(entry.insert(9)),
+        MapStore::VacantInsertWith => lent(entry.insert_with(|| 9)),
+        _ => lent(entry.default()),
     }
-    Ok(())
 }

@@ -1,13 +1,12 @@
-//! Networks: their aggregation, their values, and their texts and bytes.
-use crate::fault::Fault;
-use crate::net_walks;
-use crate::show::{
-    answer, answers, begin, debug_line, debug_pair, end, line, lines, part, refused,
-};
-use ipnet::{IpNet, Ipv4Net, Ipv6Net};
+//! Networks: their aggregation, their values, their texts and bytes, and walks of their addresses and subnets.
+ghost use Rattle.std.specs.Iterator.{IsFinite};
+
+use crate::fault::{Fault, made};
+use crate::show::{answer, begin, end, ended, ended_list, line, lines, part};
+use ipnet::{AddrParseError, IpNet, Ipv4Net, Ipv6Net};
 use serde_json::Value;
 use std::alloc::{AllocError, Global};
-use std::fmt::Display;
+use std::fmt::{Debug, Display};
 use std::str::FromStr;
 
 /// The calls of networks.
@@ -23,18 +22,6 @@ pub enum NetCall {
     Print,
     Walk,
 }
-
-pub static SCENARIOS: [(&str, NetCall); 9] = [
-    ("aggregate-ipv4", NetCall::AggregateIpv4),
-    ("aggregate-ipv6", NetCall::AggregateIpv6),
-    ("aggregate-mixed", NetCall::AggregateMixed),
-    ("to-value-ipv4", NetCall::ToValueIpv4),
-    ("to-value-ipv6", NetCall::ToValueIpv6),
-    ("to-value-mixed", NetCall::ToValueMixed),
-    ("free-net-read", NetCall::Read),
-    ("free-net-print", NetCall::Print),
-    ("free-net-walks", NetCall::Walk),
-];
 
 const IPV4: [&str; 6] = [
     "10.1.0.0/16",
@@ -55,149 +42,83 @@ const IPV6: [&str; 5] = [
 
 pub fn run(rt: &HostRuntime, call: NetCall) -> Result<(), Fault> {
     match call {
-        NetCall::AggregateIpv4 => aggregate_ipv4(rt),
-        NetCall::AggregateIpv6 => aggregate_ipv6(rt),
-        NetCall::AggregateMixed => aggregate_mixed(rt),
-        NetCall::ToValueIpv4 => to_value_ipv4(rt),
-        NetCall::ToValueIpv6 => to_value_ipv6(rt),
-        NetCall::ToValueMixed => to_value_mixed(rt),
+        NetCall::AggregateIpv4 => aggregate(rt, &IPV4, &[], Ipv4Net::aggregate),
+        NetCall::AggregateIpv6 => aggregate(rt, &IPV6, &[], Ipv6Net::aggregate),
+        NetCall::AggregateMixed => aggregate(rt, &IPV6, &IPV4, IpNet::aggregate),
+        NetCall::ToValueIpv4 => to_value(rt, "10.1.2.3/8", Ipv4Net::to_value),
+        NetCall::ToValueIpv6 => to_value(rt, "2001:db8::1/32", Ipv6Net::to_value),
+        NetCall::ToValueMixed => to_value(rt, "::ffff:10.1.2.3/104", IpNet::to_value),
         NetCall::Read => read(rt),
         NetCall::Print => print(rt),
-        NetCall::Walk => net_walks::run(rt),
+        NetCall::Walk => walk(rt),
     }
 }
 
-pub fn ipv4_network(text: &str) -> Result<Ipv4Net, Fault> {
-    Ok(Ipv4Net::from_str(text)?)
+/// The network of the text.
+pub fn network<T: FromStr<Err = AddrParseError>>(text: &str) -> Result<T, Fault> {
+    made(T::from_str(text))
 }
 
-pub fn ipv6_network(text: &str) -> Result<Ipv6Net, Fault> {
-    Ok(Ipv6Net::from_str(text)?)
-}
-
-/// A network of either family.
-pub fn network(text: &str) -> Result<IpNet, Fault> {
-    Ok(IpNet::from_str(text)?)
-}
-
-/// What `aggregate` answered, and the networks then.
-fn aggregated<T: Display>(
-    rt: &HostRuntime,
-    nets: &Vec<T>,
-    outcome: &Result<Vec<T>, AllocError>,
+/// Adds the networks of these texts.
+fn add_networks<T: FromStr<Err = AddrParseError> + Drop>(
+    nets: &mut Vec<T>,
+    texts: &[&'static str],
 ) -> Result<(), Fault> {
-    end(rt)?;
-    match outcome {
-        Ok(least) => answers(rt, least.iter()),
-        Err(error) => refused(rt, error),
-    }
-    lines(rt, nets.iter());
-    Ok(())
-}
-
-/// The networks of these texts.
-pub fn ipv4_networks(alloc: Global, texts: &[&'static str]) -> Result<Vec<Ipv4Net>, Fault> {
-    let mut nets = Vec::new(alloc);
     for text in texts {
-        nets.push(ipv4_network(text)?)?;
+        made(nets.push(network(text)?))?;
     }
-    Ok(nets)
-}
-
-fn ipv6_networks(alloc: Global) -> Result<Vec<Ipv6Net>, Fault> {
-    let mut nets = Vec::new(alloc);
-    for text in IPV6 {
-        nets.push(ipv6_network(text)?)?;
-    }
-    Ok(nets)
-}
-
-/// Networks of both families, one of IPv6 first.
-fn mixed_networks(alloc: Global) -> Result<Vec<IpNet>, Fault> {
-    let mut nets = Vec::new(alloc);
-    for text in IPV6 {
-        nets.push(network(text)?)?;
-    }
-    for text in IPV4 {
-        nets.push(network(text)?)?;
-    }
-    Ok(nets)
-}
-
-fn show_and_begin<T: Display>(rt: &HostRuntime, nets: &Vec<T>) -> Result<(), Fault> {
-    lines(rt, nets.iter());
-    begin(rt)
-}
-
-fn aggregate_ipv4(rt: &HostRuntime) -> Result<(), Fault> {
-    let nets = ipv4_networks(rt.alloc(), &IPV4)?;
-    show_and_begin(rt, &nets)?;
-    let outcome = Ipv4Net::aggregate(rt.alloc(), &nets);
-    aggregated(rt, &nets, &outcome)
-}
-
-fn aggregate_ipv6(rt: &HostRuntime) -> Result<(), Fault> {
-    let nets = ipv6_networks(rt.alloc())?;
-    show_and_begin(rt, &nets)?;
-    let outcome = Ipv6Net::aggregate(rt.alloc(), &nets);
-    aggregated(rt, &nets, &outcome)
-}
-
-fn aggregate_mixed(rt: &HostRuntime) -> Result<(), Fault> {
-    let nets = mixed_networks(rt.alloc())?;
-    show_and_begin(rt, &nets)?;
-    let outcome = IpNet::aggregate(rt.alloc(), &nets);
-    aggregated(rt, &nets, &outcome)
-}
-
-/// What `to_value` answered, and the network then.
-fn valued<T: Display>(
-    rt: &HostRuntime,
-    net: &T,
-    outcome: &Result<Value, AllocError>,
-) -> Result<(), Fault> {
-    end(rt)?;
-    match outcome {
-        Ok(value) => answer(rt, &value.as_str().unwrap_or("no string")),
-        Err(error) => refused(rt, error),
-    }
-    line(rt, net);
     Ok(())
 }
 
-fn to_value_ipv4(rt: &HostRuntime) -> Result<(), Fault> {
-    let net = ipv4_network("10.1.2.3/8")?;
-    line(rt, &net);
-    begin(rt)?;
-    let outcome = net.to_value(rt.alloc());
-    valued(rt, &net, &outcome)
+/// The networks of these texts, and then of those.
+pub fn networks<T: FromStr<Err = AddrParseError> + Drop>(
+    alloc: Global,
+    texts: &[&'static str],
+    more: &[&'static str],
+) -> Result<Vec<T>, Fault> {
+    let mut nets = Vec::new(alloc);
+    add_networks(&mut nets, texts)?;
+    add_networks(&mut nets, more)?;
+    Ok(nets)
 }
 
-fn to_value_ipv6(rt: &HostRuntime) -> Result<(), Fault> {
-    let net = ipv6_network("2001:db8::1/32")?;
-    line(rt, &net);
-    begin(rt)?;
-    let outcome = net.to_value(rt.alloc());
-    valued(rt, &net, &outcome)
+/// The fewest networks with the addresses of those of these texts, which stay.
+fn aggregate<
+    T: FromStr<Err = AddrParseError> + Debug + Drop,
+    F: Fn(Global, &Vec<T>) -> Result<Vec<T>, AllocError>,
+>(rt: &HostRuntime, texts: &[&'static str], more: &[&'static str], call: F) -> Result<(), Fault>
+    requires { F.IsAlwaysCallable call }
+{
+    let nets: Vec<T> = networks(rt.alloc(), texts, more)?;
+    lines(rt, "", nets.iter());
+    begin(rt);
+    ended_list(rt, call(rt.alloc(), &nets));
+    lines(rt, "", nets.iter());
+    Ok(())
 }
 
-fn to_value_mixed(rt: &HostRuntime) -> Result<(), Fault> {
-    let net = network("::ffff:10.1.2.3/104")?;
+/// The value of the network of the text, which stays.
+fn to_value<
+    T: FromStr<Err = AddrParseError> + Debug + Drop,
+    F: Fn(&T, Global) -> Result<Value, AllocError>,
+>(rt: &HostRuntime, text: &str, call: F) -> Result<(), Fault>
+    requires { F.IsAlwaysCallable call }
+{
+    let net: T = network(text)?;
     line(rt, &net);
-    begin(rt)?;
-    let outcome = net.to_value(rt.alloc());
-    valued(rt, &net, &outcome)
+    begin(rt);
+    if let Some(value) = ended(rt, call(&net, rt.alloc())) {
+        answer(rt, &value.as_str().unwrap_or("no string"));
+    }
+    line(rt, &net);
+    Ok(())
 }
 
 /// Networks read of texts, of bytes and of values.
 fn read(rt: &HostRuntime) -> Result<(), Fault> {
-    let ipv4 = network("10.1.2.3/8")?.to_value(rt.alloc())?;
-    let ipv6 = network("2001:db8::1/32")?.to_value(rt.alloc())?;
-    read_over(rt, &ipv4, &ipv6)
-}
-
-fn read_over(rt: &HostRuntime, ipv4: &Value, ipv6: &Value) -> Result<(), Fault> {
-    begin(rt)?;
+    let ipv4 = made(network::<IpNet>("10.1.2.3/8")?.to_value(rt.alloc()))?;
+    let ipv6 = made(network::<IpNet>("2001:db8::1/32")?.to_value(rt.alloc()))?;
+    begin(rt);
     for text in IPV4 {
         read_ipv4(rt, text);
     }
@@ -205,62 +126,92 @@ fn read_over(rt: &HostRuntime, ipv4: &Value, ipv6: &Value) -> Result<(), Fault> 
         read_ipv6(rt, text);
     }
     read_bytes(rt);
-    read_value(rt, ipv4);
-    read_value(rt, ipv6);
-    end(rt)
+    read_value(rt, &ipv4);
+    read_value(rt, &ipv6);
+    end(rt);
+    Ok(())
 }
 
 fn read_bytes(rt: &HostRuntime) {
-    debug_line(rt, &Ipv4Net::from_bytes(&[10, 1, 2, 3, 8]));
-    debug_line(
-        rt,
-        &Ipv6Net::from_bytes(&[32, 1, 13, 184, 0, 0, 0, 0, 0, 0, 0, 0, 0, 0, 0, 1, 32]),
-    );
-    debug_line(rt, &IpNet::from_bytes(&[0, 10, 1, 2, 3, 8]));
+    line(rt, &Ipv4Net::from_bytes(&[10, 1, 2, 3, 8]));
+    let bytes = [32, 1, 13, 184, 0, 0, 0, 0, 0, 0, 0, 0, 0, 0, 0, 1, 32];
+    line(rt, &Ipv6Net::from_bytes(&bytes));
+    line(rt, &IpNet::from_bytes(&[0, 10, 1, 2, 3, 8]));
 }
 
 /// A value, as each family reads it and as both do.
 fn read_value(rt: &HostRuntime, value: &Value) {
-    debug_pair(rt, &Ipv4Net::from_value(value), &Ipv6Net::from_value(value));
-    debug_line(rt, &IpNet::from_value(value));
+    line(rt, &Ipv4Net::from_value(value));
+    line(rt, &Ipv6Net::from_value(value));
+    line(rt, &IpNet::from_value(value));
 }
 
 /// A text of IPv4, as each family reads it.
 fn read_ipv4(rt: &HostRuntime, text: &str) {
-    debug_pair(
-        rt,
-        &Ipv4Net::from_str(text),
-        &Ipv4Net::parse_ascii(text.as_bytes()),
-    );
-    debug_pair(rt, &Ipv6Net::from_str(text), &IpNet::from_str(text));
+    line(rt, &Ipv4Net::from_str(text));
+    line(rt, &Ipv4Net::parse_ascii(text.as_bytes()));
+    line(rt, &Ipv6Net::from_str(text));
+    line(rt, &IpNet::from_str(text));
 }
 
 /// A text of IPv6, as its family reads it and as both do.
 fn read_ipv6(rt: &HostRuntime, text: &str) {
-    debug_pair(
-        rt,
-        &Ipv6Net::from_str(text),
-        &IpNet::parse_ascii(text.as_bytes()),
-    );
+    line(rt, &Ipv6Net::from_str(text));
+    line(rt, &IpNet::parse_ascii(text.as_bytes()));
 }
 
 /// Networks printed, as texts and as bytes.
 fn print(rt: &HostRuntime) -> Result<(), Fault> {
-    let nets = mixed_networks(rt.alloc())?;
-    print_all(rt, &nets)
-}
-
-fn print_all(rt: &HostRuntime, nets: &Vec<IpNet>) -> Result<(), Fault> {
-    begin(rt)?;
+    let nets = networks(rt.alloc(), &IPV6, &IPV4)?;
+    begin(rt);
     for net in nets.iter() {
         print_one(rt, net);
     }
-    end(rt)
+    end(rt);
+    Ok(())
 }
 
 fn print_one(rt: &HostRuntime, net: &IpNet) {
     part(rt, net);
     part(rt, &" ");
-    debug_line(rt, net);
-    debug_pair(rt, &net.to_text().as_slice(), &net.to_bytes().as_slice());
+    line(rt, net);
+    line(rt, &net.to_text().as_slice());
+    line(rt, &net.to_bytes().as_slice());
+}
+
+/// Hosts and halves of networks.
+fn walk(rt: &HostRuntime) -> Result<(), Fault> {
+    let ipv4: Ipv4Net = network("10.1.2.0/29")?;
+    let ipv6: Ipv6Net = network("2001:db8::/126")?;
+    let either: IpNet = network("::/127")?;
+    begin(rt);
+    walk_hosts(rt, ipv4.hosts(), ipv4.hosts());
+    if let Ok(halves) = ipv4.subnets(30) {
+        lines(rt, "", halves);
+    }
+    walk_hosts(rt, ipv6.hosts(), ipv6.hosts());
+    if let Ok(halves) = ipv6.subnets(127) {
+        lines(rt, "", halves);
+    }
+    walk_hosts(rt, either.hosts(), either.hosts());
+    if let Ok(halves) = either.subnets(128) {
+        lines(rt, "", halves);
+    }
+    end(rt);
+    Ok(())
+}
+
+/// The hosts, and the last and the first of them once more.
+fn walk_hosts<T: Debug + Drop, I: DoubleEndedIterator<Item = T>>(
+    rt: &HostRuntime,
+    hosts: I,
+    again: I,
+)
+    requires all { I.can_next hosts × IsFinite (I.remaining hosts) }
+    requires back { (it : I) → I.can_next_back it }
+    requires ahead { (it : I) → I.can_next it }
+{
+    lines(rt, "", hosts);
+    let mut again = again;
+    line(rt, &(again.next_back(), again.next()));
 }

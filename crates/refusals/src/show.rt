@@ -1,26 +1,55 @@
-//! What a scenario writes: the two marks, what the call answered, and lines of values. The marks tell whether they were written.
-//! Any other line that can't be written is left out, and whoever reads the output sees that it lacks: so what writes lines alone
-//! answers nothing. A line of several values is written in parts, of one value each.
+//! What a scenario writes: the two marks, what the call answered, and lines of values. What can't be written, a mark too, is left
+//! out, and whoever reads the output sees that it lacks: so nothing here answers anything. A line of several values is written in
+//! parts, of one value each.
 ghost use Rattle.std.specs.Iterator.{IsFinite};
 
-use crate::fault::Fault;
+use crate::fault::{Fault, made};
 use std::fmt::{Debug, Display};
 use std::io::Write;
 
 /// The mark before the call. It is one call of the system, as the other is.
-pub fn begin(rt: &HostRuntime) -> Result<(), Fault> {
-    bytes(rt, b"-- begin\n")
+pub fn begin(rt: &HostRuntime) {
+    bytes(rt, b"-- begin\n");
 }
 
 /// The mark after the call.
-pub fn end(rt: &HostRuntime) -> Result<(), Fault> {
-    bytes(rt, b"-- end\n")
+pub fn end(rt: &HostRuntime) {
+    bytes(rt, b"-- end\n");
 }
 
 /// Bytes as they are.
-pub fn bytes(rt: &HostRuntime, bytes: &[u8]) -> Result<(), Fault> {
-    rt.stdout().write_all(bytes)?;
-    Ok(())
+pub fn bytes(rt: &HostRuntime, bytes: &[u8]) {
+    let _ = rt.stdout().write_all(bytes);
+}
+
+/// The mark after the call, and what it made; else it is said that it was refused.
+pub fn ended<T, E: Debug + Drop>(rt: &HostRuntime, outcome: Result<T, E>) -> Option<T> {
+    end(rt);
+    match outcome {
+        Ok(made) => Some(made),
+        Err(error) => {
+            refused(rt, &error);
+            None
+        }
+    }
+}
+
+/// The mark after a call that makes nothing: this word stands for its answer where it isn't refused.
+pub fn ended_with<T: Drop, E: Debug + Drop>(
+    rt: &HostRuntime,
+    outcome: Result<T, E>,
+    word: &'static str,
+) {
+    if ended(rt, outcome).is_some() {
+        answer(rt, &word);
+    }
+}
+
+/// The mark after a call that gives a list, and each item where it isn't refused.
+pub fn ended_list<T: Debug + Drop, E: Debug + Drop>(rt: &HostRuntime, outcome: Result<Vec<T>, E>) {
+    if let Some(items) = ended(rt, outcome) {
+        lines(rt, "answer ", items.iter());
+    }
 }
 
 /// The value that is to be stored, which a refused call hands back.
@@ -31,15 +60,14 @@ pub fn given(rt: &HostRuntime, value: u32) {
 
 /// That the call was refused, and the value that it handed back.
 pub fn handed_back<E: Debug>(rt: &HostRuntime, error: &E, value: u32) {
-    part(rt, &"answer ");
-    debug_part(rt, error);
-    part(rt, &" ");
+    let _ = print!(rt; "answer {error:?} ");
     line(rt, &value);
 }
 
 /// That the call was refused.
 pub fn refused<E: Debug>(rt: &HostRuntime, error: &E) {
-    let _ = println!(rt; "answer {error:?}");
+    part(rt, &"answer ");
+    line(rt, error);
 }
 
 /// One line of what the call answered.
@@ -47,87 +75,31 @@ pub fn answer<T: Display>(rt: &HostRuntime, line: &T) {
     let _ = println!(rt; "answer {line}");
 }
 
-/// Each item in a line of what the call answered.
-pub fn answers<T: Display + Drop, I: Iterator<Item = T>>(rt: &HostRuntime, items: I)
-    requires { I.can_next items × IsFinite (I.remaining items) }
-{
-    for item in items {
-        answer(rt, &item);
-    }
-}
-
 /// A part of a line, which another part or a line ends.
 pub fn part<T: Display>(rt: &HostRuntime, value: &T) {
     let _ = print!(rt; "{value}");
 }
 
-/// A part of a line, as `Debug` writes the value.
-pub fn debug_part<T: Debug>(rt: &HostRuntime, value: &T) {
-    let _ = print!(rt; "{value:?}");
+/// A line, or its end.
+pub fn line<T: Debug>(rt: &HostRuntime, value: &T) {
+    let _ = println!(rt; "{value:?}");
 }
 
-/// A line of its own.
-pub fn line<T: Display>(rt: &HostRuntime, value: &T) {
-    let _ = println!(rt; "{value}");
-}
-
-/// Each item in a line of its own.
-pub fn lines<T: Display + Drop, I: Iterator<Item = T>>(rt: &HostRuntime, items: I)
+/// Each item in a line of its own, after a word.
+pub fn lines<T: Debug + Drop, I: Iterator<Item = T>>(rt: &HostRuntime, word: &'static str, items: I)
     requires { I.can_next items × IsFinite (I.remaining items) }
 {
     for item in items {
+        part(rt, &word);
         line(rt, &item);
     }
 }
 
-/// A line of its own, as `Debug` writes the value.
-pub fn debug_line<T: Debug>(rt: &HostRuntime, value: &T) {
-    let _ = println!(rt; "{value:?}");
-}
-
-/// Two values in a line, as `Debug` writes them.
-pub fn debug_pair<T: Debug, U: Debug>(rt: &HostRuntime, first: &T, second: &U) {
-    debug_part(rt, first);
-    part(rt, &" ");
-    debug_line(rt, second);
-}
-
-/// Each item in a line of its own, as `Debug` writes it.
-pub fn debug_lines<T: Debug + Drop, I: Iterator<Item = T>>(rt: &HostRuntime, items: I)
-    requires { I.can_next items × IsFinite (I.remaining items) }
-{
-    for item in items {
-        debug_line(rt, &item);
-    }
-}
-
-/// A network and its value in a line, after a word.
-pub fn entry<N: Display, V: Display>(rt: &HostRuntime, word: &str, net: &N, value: &V) {
+/// Two numbers, or pairs of them: this word stands after the first, and after the other that it counts nodes.
+pub fn counts<T: Debug>(rt: &HostRuntime, first: &T, word: &'static str, nodes: &T) {
+    let _ = print!(rt; "{first:?}");
     part(rt, &word);
-    part(rt, net);
-    part(rt, &" ");
-    line(rt, value);
-}
-
-/// Networks and their values, each after the word.
-pub fn entries<N: Display + Drop, V: Display + Drop, I: Iterator<Item = (N, V)>>(
-    rt: &HostRuntime,
-    word: &str,
-    items: I,
-)
-    requires { I.can_next items × IsFinite (I.remaining items) }
-{
-    for (net, value) in items {
-        entry(rt, word, &net, &value);
-    }
-}
-
-/// Two numbers, each with what it counts.
-pub fn counts(rt: &HostRuntime, first: usize, word: &str, nodes: usize) {
-    part(rt, &first);
-    part(rt, &word);
-    part(rt, &nodes);
-    line(rt, &" nodes");
+    let _ = println!(rt; "{nodes:?} nodes");
 }
 
 /// What a copy of an iterator gives first, and one that has nothing left.
@@ -138,8 +110,8 @@ pub fn copy_first<T: Debug + Drop, I: Iterator<Item = T> + Clone + Default>(
     requires copied { (it : I) → I.is_clone items.now it → I.can_next it }
     requires empty { (it : I) → I.is_default it → I.can_next it }
 {
-    let mut copy = items.clone()?;
+    let mut copy = made(items.clone())?;
     let mut none = I::default();
-    debug_pair(rt, &copy.next(), &none.next());
+    line(rt, &(copy.next(), none.next()));
     Ok(())
 }

@@ -2,12 +2,4 @@
 #![tactic(auto)]
 
 #[cfg(test)]
-mod addresses;
-#[cfg(test)]
-mod compare;
-#[cfg(test)]
-mod cuts;
-#[cfg(test)]
-mod forms;
-#[cfg(test)]
-mod networks;
+mod tests;

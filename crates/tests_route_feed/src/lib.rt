@@ -2,20 +2,4 @@
 #![tactic(auto)]
 
 #[cfg(test)]
-mod cutter;
-#[cfg(test)]
-mod devices;
-#[cfg(test)]
-mod followers;
-#[cfg(test)]
-mod installing;
-#[cfg(test)]
-mod rows;
-#[cfg(test)]
-mod runs;
-#[cfg(test)]
-mod scripted;
-#[cfg(test)]
-mod streams;
-#[cfg(test)]
-mod texts;
+mod tests;

@@ -1,0 +1,12 @@
+//! The tests, by what they call.
+mod entries;
+mod first_map_calls;
+mod first_set_calls;
+mod keys;
+mod lookups;
+mod maps;
+mod rows;
+mod scripts;
+mod set_steps;
+mod steps;
+mod walks;

@@ -1,0 +1,402 @@
+//! Rows on entries: what is stored, a call of an entry, and what the map has then.
+use crate::tests::entries::Call::{
+    Defaulted, Lent, Matched, NoEntry, NoMatch, Occupied, OrInserted, Removed, Stored, StoredTwice,
+    VacantKey, VeryKey, Written, WrittenAfter,
+};
+use crate::tests::maps::{is_equal, is_text, map_of, net, step_is};
+use ipnet::Ipv4Net;
+use prefix_trie::map::Entry;
+use prefix_trie::{PrefixMap, Refused};
+use std::alloc::Global;
+use std::process::Abort;
+
+/// A storing call lends what it stored.
+fn lent_is(rt: &impl Abort, outcome: Result<&mut u32, (Refused, u32)>, wanted: u32) {
+    is_equal(rt, *outcome.expect(rt, "memory"), wanted);
+}
+
+/// A storing call answers what was stored before.
+fn had_is(rt: &impl Abort, outcome: Result<Option<u32>, (Refused, u32)>, wanted: Option<u32>) {
+    is_equal(rt, outcome.expect(rt, "memory"), wanted);
+}
+
+/// A call that stores into a vacant entry.
+enum Storing {
+    OrInsert,
+    OrInsertWith,
+    OrDefault,
+    Insert,
+    InsertWith,
+    Default,
+}
+
+/// The calls that store into a vacant entry, and the values that they are given.
+const STORING: [(&str, Storing, u32); 6] = [
+    ("or_insert", Storing::OrInsert, 1),
+    ("or_insert_with", Storing::OrInsertWith, 2),
+    ("or_default", Storing::OrDefault, 0),
+    ("insert of a vacant entry", Storing::Insert, 3),
+    ("insert_with of a vacant entry", Storing::InsertWith, 4),
+    ("default of a vacant entry", Storing::Default, 0),
+];
+
+/// What a storing call answered: the value where it was stored, none where memory was refused and the value came back.
+fn answered(rt: &impl Abort, outcome: Result<&mut u32, (Refused, u32)>, value: u32) -> Option<u32> {
+    match outcome {
+        Ok(stored) => Some(*stored),
+        Err(refused) => {
+            is_equal(rt, refused, (Refused::Memory, value));
+            None
+        }
+    }
+}
+
+/// The value that the call stored for this network, or none where memory was refused.
+fn stored_by(
+    rt: &impl Abort,
+    map: &mut PrefixMap<Ipv4Net, u32>,
+    text: &str,
+    call: &Storing,
+    value: u32,
+) -> Option<u32> {
+    let key = net(rt, text);
+    match call {
+        Storing::OrInsert => answered(rt, map.entry(key).or_insert(value), value),
+        Storing::OrInsertWith => answered(rt, map.entry(key).or_insert_with(|| value), value),
+        Storing::OrDefault => answered(rt, map.entry(key).or_default(), value),
+        into_vacant => stored_into_vacant(rt, map, key, into_vacant, value),
+    }
+}
+
+/// The same of a call of a vacant entry.
+fn stored_into_vacant(
+    rt: &impl Abort,
+    map: &mut PrefixMap<Ipv4Net, u32>,
+    key: Ipv4Net,
+    call: &Storing,
+    value: u32,
+) -> Option<u32> {
+    let Entry::Vacant(vacant) = map.entry(key) else {
+        panic!(rt; "occupied")
+    };
+    match call {
+        Storing::Insert => answered(rt, vacant.insert(value), value),
+        Storing::InsertWith => answered(rt, vacant.insert_with(|| value), value),
+        _ => answered(rt, vacant.default(), value),
+    }
+}
+
+/// The map is empty and has its root alone, or it has this network with this value, and so many nodes.
+fn is_refused_or_stored(
+    rt: &impl Abort,
+    row: &str,
+    map: &PrefixMap<Ipv4Net, u32>,
+    stored: (&str, Option<u32>, usize),
+) {
+    let (text, value, nodes) = stored;
+    step_is(rt, (row, 1), map.get(&net(rt, text)).copied(), value);
+    step_is(rt, (row, 1), map.len(), usize::from(value.is_some()));
+    let nodes = if value.is_some() { nodes } else { 1 };
+    step_is(rt, (row, 1), map.node_count(), nodes);
+}
+
+/// The call stores 10.0.0.0/8, given with host bits, into an empty map.
+fn is_stored(rt: &impl Abort, alloc: Global, row: &str, call: &Storing, value: u32) {
+    let mut map = map_of(rt, alloc, &[]);
+    let stored = stored_by(rt, &mut map, "10.1.2.3/8", call, value);
+    step_is(rt, (row, 0), stored, Some(value));
+    is_refused_or_stored(rt, row, &map, ("10.0.0.0/8", stored, 2));
+}
+
+#[test]
+fn stored_into_an_empty_map(rt: HostRuntime) {
+    for (row, call, value) in &STORING {
+        is_stored(&rt, rt.alloc(), row, call, *value);
+    }
+}
+
+/// The call stores 1.2.3.0/32, below five more nodes, or each request for memory may be refused: the map is as it was, and the
+/// value comes back.
+fn may_be_refused(rt: &impl Abort, alloc: Global, row: &str, call: &Storing, value: u32) {
+    let mut map = map_of(rt, alloc, &[]);
+    let stored = stored_by(rt, &mut map, "1.2.3.0/32", call, value);
+    is_refused_or_stored(rt, row, &map, ("1.2.3.0/32", stored, 7));
+}
+
+#[test]
+fn each_store_may_be_refused(rt: HostRuntime) {
+    for (row, call, value) in &STORING {
+        may_be_refused(&rt, rt.alloc(), row, call, *value);
+    }
+}
+
+#[test]
+fn insert_may_be_refused(rt: HostRuntime) {
+    let mut map = map_of(&rt, rt.alloc(), &[]);
+    let stored = match map.entry(net(&rt, "1.2.3.0/32")).insert(5) {
+        Ok(_) => Some(5),
+        Err(refused) => {
+            is_equal(&rt, refused, (Refused::Memory, 5));
+            None
+        }
+    };
+    is_refused_or_stored(&rt, "insert", &map, ("1.2.3.0/32", stored, 7));
+}
+
+/// Calls of entries, of 10.0.0.0/8 where no other network is named.
+enum Call {
+    /// The key of a vacant entry of 10.1.2.3/16 has its host bits; it is stored with 7.
+    VacantKey,
+    /// The key of a vacant entry, by itself, has its host bits; it is stored with the default.
+    Defaulted,
+    /// The key of the stored 10.1.2.3/16 has no host bits.
+    VeryKey,
+    /// What `or_insert` stores is lent, and written.
+    Lent,
+    /// `or_insert` and `and_modify` of what is stored.
+    OrInserted,
+    /// `get_mut` lends the value.
+    Written,
+    /// Each call of an occupied entry but `remove`.
+    Occupied,
+    /// An occupied entry is taken out.
+    Removed,
+    /// `insert`, twice.
+    Stored,
+    /// `insert` into one entry twice.
+    StoredTwice,
+    /// A value is written after it was stored.
+    WrittenAfter,
+    /// No match of 11.0.0.0/8 is lent, no entry of 10.2.3.0/24.
+    NoMatch,
+    NoEntry,
+    /// The match of 10.2.3.4/32 is lent, and written.
+    Matched,
+}
+
+/// The vacant entry of a key, and the occupied one.
+fn keys(rt: &impl Abort, map: &mut PrefixMap<Ipv4Net, u32>, call: &Call) {
+    let entry = map.entry(net(rt, "10.1.2.3/16"));
+    match call {
+        VacantKey => {
+            is_text(rt, *entry.key(), "10.1.2.3/16");
+            is_equal(rt, entry.get().is_none(), true);
+            lent_is(rt, entry.or_insert(7), 7);
+        }
+        _ => {
+            is_text(rt, *entry.key(), "10.1.0.0/16");
+            is_equal(rt, entry.get().copied(), Some(7));
+        }
+    }
+}
+
+/// The key of a vacant entry.
+fn defaulted(rt: &impl Abort, map: &mut PrefixMap<Ipv4Net, u32>) {
+    let Entry::Vacant(entry) = map.entry(net(rt, "10.1.2.3/8")) else {
+        panic!(rt; "occupied")
+    };
+    is_text(rt, *entry.key(), "10.1.2.3/8");
+    lent_is(rt, entry.default(), 0);
+}
+
+/// Each call of an occupied entry but `remove`.
+fn occupied(rt: &impl Abort, map: &mut PrefixMap<Ipv4Net, u32>) {
+    let Entry::Occupied(mut entry) = map.entry(net(rt, "10.9.9.9/8")) else {
+        panic!(rt; "vacant")
+    };
+    is_text(rt, *entry.key(), "10.0.0.0/8");
+    is_equal(rt, entry.insert(8), 7);
+    *entry.get_mut() = 10;
+    is_equal(rt, *entry.get(), 10);
+    *entry.into_mut() = 11;
+}
+
+/// An occupied entry is taken out.
+fn removed(rt: &impl Abort, map: &mut PrefixMap<Ipv4Net, u32>) {
+    let Entry::Occupied(entry) = map.entry(net(rt, "10.9.9.9/8")) else {
+        panic!(rt; "vacant")
+    };
+    is_equal(rt, entry.remove(), 11);
+}
+
+/// `or_insert` and `and_modify` of what is stored.
+fn or_inserted(rt: &impl Abort, map: &mut PrefixMap<Ipv4Net, u32>) {
+    lent_is(rt, map.entry(net(rt, "10.0.0.0/8")).or_insert(9), 5);
+    let entry = map.entry(net(rt, "10.0.0.0/8"));
+    let entry = entry.and_modify(|value| *value = 6);
+    is_equal(rt, entry.get().copied(), Some(6));
+}
+
+/// `insert` into one entry twice.
+fn stored_twice(rt: &impl Abort, map: &mut PrefixMap<Ipv4Net, u32>) {
+    let mut entry = map.entry(net(rt, "10.9.9.9/8"));
+    had_is(rt, entry.insert(3), None);
+    is_equal(rt, entry.get().copied(), Some(3));
+    had_is(rt, entry.insert(4), Some(3));
+    lent_is(rt, entry.or_insert(8), 4);
+}
+
+/// A value is written after it was stored.
+fn written_after(rt: &impl Abort, map: &mut PrefixMap<Ipv4Net, u32>) {
+    let mut entry = map.entry(net(rt, "10.0.0.0/8"));
+    had_is(rt, entry.insert(3), None);
+    *entry.get_mut().expect(rt, "a value") = 5;
+    is_equal(rt, entry.get().copied(), Some(5));
+    let entry = entry.and_modify(|value| *value = 6);
+    lent_is(rt, entry.or_default(), 6);
+}
+
+/// The match of 10.2.3.4/32 is lent, and written.
+fn matched(rt: &impl Abort, map: &mut PrefixMap<Ipv4Net, u32>) {
+    let found = map.get_lpm_mut(&net(rt, "10.2.3.4/32"));
+    let (key, value) = found.expect(rt, "a match");
+    is_text(rt, key, "10.0.0.0/8");
+    *value = 7;
+}
+
+/// Makes the call, which answers as it has to.
+fn calls(rt: &impl Abort, map: &mut PrefixMap<Ipv4Net, u32>, call: &Call) {
+    let ten = net(rt, "10.0.0.0/8");
+    match call {
+        Defaulted => defaulted(rt, map),
+        Lent => *map.entry(ten).or_insert(1).expect(rt, "memory") = 5,
+        OrInserted => or_inserted(rt, map),
+        Written => *map.entry(ten).get_mut().expect(rt, "a value") = 7,
+        Occupied => occupied(rt, map),
+        Removed => removed(rt, map),
+        Stored => {
+            had_is(rt, map.entry(net(rt, "10.1.2.3/8")).insert(1), None);
+            is_equal(rt, map.get(&ten).copied(), Some(1));
+            had_is(rt, map.entry(net(rt, "10.9.9.9/8")).insert(2), Some(1));
+        }
+        StoredTwice => stored_twice(rt, map),
+        WrittenAfter => written_after(rt, map),
+        NoMatch => {
+            let found = map.get_lpm_mut(&net(rt, "11.0.0.0/8"));
+            is_equal(rt, found.is_none(), true);
+        }
+        NoEntry => {
+            let mut entry = map.entry(net(rt, "10.2.3.0/24"));
+            is_equal(rt, entry.get_mut().is_none(), true);
+        }
+        Matched => matched(rt, map),
+        of_a_key => keys(rt, map, of_a_key),
+    }
+}
+
+/// A call, what is stored before and after it, and how many nodes there are then. Where a third network is stored before, its
+/// entry is taken out, and its nodes are kept.
+const CALLS: [(&str, Call, &[(&str, u32)], &[(&str, u32)], usize); 15] = [
+    ("a vacant key", VacantKey, &[], &[("10.1.0.0/16", 7)], 4),
+    (
+        "a stored key",
+        VeryKey,
+        &[("10.1.2.3/16", 7)],
+        &[("10.1.0.0/16", 7)],
+        4,
+    ),
+    ("a default", Defaulted, &[], &[("10.0.0.0/8", 0)], 2),
+    ("lent", Lent, &[], &[("10.0.0.0/8", 5)], 2),
+    (
+        "or_insert",
+        OrInserted,
+        &[("10.0.0.0/8", 5)],
+        &[("10.0.0.0/8", 6)],
+        2,
+    ),
+    (
+        "get_mut",
+        Written,
+        &[("10.0.0.0/8", 6)],
+        &[("10.0.0.0/8", 7)],
+        2,
+    ),
+    (
+        "occupied",
+        Occupied,
+        &[("10.0.0.0/8", 7)],
+        &[("10.0.0.0/8", 11)],
+        2,
+    ),
+    ("removed", Removed, &[("10.0.0.0/8", 11)], &[], 2),
+    ("stored", Stored, &[], &[("10.0.0.0/8", 2)], 2),
+    ("stored twice", StoredTwice, &[], &[("10.0.0.0/8", 4)], 2),
+    (
+        "written after a store",
+        WrittenAfter,
+        &[],
+        &[("10.0.0.0/8", 6)],
+        2,
+    ),
+    ("no match", NoMatch, &BEFORE, &UNWRITTEN, 6),
+    ("no entry", NoEntry, &BEFORE, &UNWRITTEN, 6),
+    ("a match", Matched, &BEFORE, &WRITTEN, 6),
+    ("get_mut of one of two", Written, &BEFORE, &WRITTEN, 6),
+];
+
+/// What is stored before some of the calls.
+const BEFORE: [(&str, u32); 3] = [("10.0.0.0/8", 1), ("10.1.0.0/16", 2), ("10.2.3.0/24", 3)];
+
+/// What is left of that where nothing is written.
+const UNWRITTEN: [(&str, u32); 2] = [("10.0.0.0/8", 1), ("10.1.0.0/16", 2)];
+
+/// What is left where the first value is.
+const WRITTEN: [(&str, u32); 2] = [("10.0.0.0/8", 7), ("10.1.0.0/16", 2)];
+
+/// The map has these entries and no other, in this order.
+fn has_in_order(
+    rt: &impl Abort,
+    row: &str,
+    map: &PrefixMap<Ipv4Net, u32>,
+    entries: &[(&str, u32)],
+) {
+    let mut left = map.into_iter();
+    for (text, stored) in entries.iter() {
+        let Some((key, value)) = left.next() else {
+            panic!(rt; "{row}: too few entries")
+        };
+        step_is(rt, (row, 1), key, net(rt, text));
+        step_is(rt, (row, 1), *value, *stored);
+    }
+    step_is(rt, (row, 1), left.next().is_none(), true);
+}
+
+/// The same, and it has so many nodes.
+fn is_whole(
+    rt: &impl Abort,
+    row: &str,
+    map: &PrefixMap<Ipv4Net, u32>,
+    entries: &[(&str, u32)],
+    nodes: usize,
+) {
+    has_in_order(rt, row, map, entries);
+    step_is(rt, (row, 1), map.len(), entries.len());
+    step_is(rt, (row, 1), map.is_empty(), entries.is_empty());
+    step_is(rt, (row, 1), map.node_count(), nodes);
+}
+
+/// The call answers as it has to, and the map has what it has to have after it.
+fn call_is(
+    rt: &impl Abort,
+    map: &mut PrefixMap<Ipv4Net, u32>,
+    row: &str,
+    call: &Call,
+    after: &[(&str, u32)],
+    nodes: usize,
+) {
+    if map.len() == 3 {
+        let taken = map.remove_keep_tree(&net(rt, "10.2.3.0/24"));
+        step_is(rt, (row, 0), taken, Some(3));
+        step_is(rt, (row, 0), map.node_count(), 6);
+    }
+    calls(rt, map, call);
+    is_whole(rt, row, map, after, nodes);
+}
+
+#[test]
+fn called(rt: HostRuntime) {
+    for (row, call, before, after, nodes) in &CALLS {
+        let mut map = map_of(&rt, rt.alloc(), before);
+        call_is(&rt, &mut map, row, call, after, *nodes);
+    }
+}

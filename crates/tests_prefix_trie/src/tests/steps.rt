@@ -1,0 +1,242 @@
+//! Scripts of calls of a map, and what these answer.
+ghost use Rattle.std.specs.Prelude.{IfSome, IsTrue, nat_le};
+
+use crate::tests::maps::{digits, step_is, value_digits};
+use crate::tests::steps::Call::*;
+use crate::tests::steps::Step::{Addresses, At, Clear, Counts, Retain, Walk};
+use ipnet::{Ipv4Net, Ipv6Net};
+use prefix_trie::{Key, Prefix, PrefixMap};
+use std::alloc::Global;
+use std::fmt::Debug;
+use std::process::Abort;
+use std::str::FromStr;
+
+/// How a script has a prefix of type `P`.
+pub(crate) trait Spells<P: Prefix> {
+    /// The prefix, where there is one.
+    fn prefix(&self) -> Option<P>
+        ensures { IfSome result (λ p. IsTrue (P.fits p)) };
+}
+
+/// A key, and how many of its bits count: none where these are too many.
+impl<K: Key> Spells<(K, u8)> for (K, u8) {
+    fn prefix(&self) -> Option<(K, u8)>
+        ensures { IfSome result (λ p. IsTrue (nat_le p.1 K.width)) }
+    {
+        if self.1 <= K::width() {
+            Some(*self)
+        } else {
+            None
+        }
+    }
+}
+
+impl Spells<Ipv4Net> for &'static str {
+    fn prefix(&self) -> Option<Ipv4Net> {
+        Ipv4Net::from_str(self).ok()
+    }
+}
+
+impl Spells<Ipv6Net> for &'static str {
+    fn prefix(&self) -> Option<Ipv6Net> {
+        Ipv6Net::from_str(self).ok()
+    }
+}
+
+/// A call with a prefix, and what it answers.
+pub(crate) enum Call<S> {
+    /// `insert`: the value that was stored.
+    Insert(u32, Option<u32>),
+    /// `remove`: the value that was stored.
+    Remove(Option<u32>),
+    /// `remove_keep_tree`: the value that was stored.
+    KeepTree(Option<u32>),
+    /// `remove_children`.
+    RemoveChildren,
+    /// `get_mut`, by which this value is written.
+    Write(u32),
+    /// `get`: the value.
+    Get(Option<u32>),
+    /// `get_key_value`: the stored key, and the value.
+    VeryKey(Option<(S, u32)>),
+    /// `contains_key`.
+    Contains(bool),
+    /// `get_lpm`: the longest match, and its value.
+    Longest(Option<(S, u32)>),
+    /// `get_lpm_prefix`: the longest match.
+    LongestKey(S),
+    /// `longest_match`: its length, and its value.
+    Length(Option<(u8, &'static u32)>),
+    /// `get_lpm_visits`: the longest match, its value, and how many nodes are visited.
+    Visits(Option<(S, u32)>, u32),
+    /// `get_spm`: the shortest match, and its value.
+    Shortest(Option<(S, u32)>),
+    /// `get_spm_prefix`: the shortest match.
+    ShortestKey(S),
+    /// `is_covered`.
+    IsCovered(bool),
+    /// `is_leaf`.
+    IsLeaf(bool),
+    /// `children`: the values, as digits.
+    Children(u32),
+    /// `iter_from`, with the prefix itself or without it: the values, as digits.
+    From(bool, u32),
+    /// `cover` and `cover_values`: the values, as digits.
+    Cover(u32),
+}
+
+/// A call of a map, and what it answers.
+pub(crate) enum Step<S> {
+    /// A call with this prefix.
+    At(S, Call<S>),
+    /// `clear`.
+    Clear,
+    /// `retain` of every entry, or of none.
+    Retain(bool),
+    /// `len` and `node_count`; and `is_empty`.
+    Counts(usize, usize),
+    /// `address_count`, in 128 bits.
+    Addresses(Option<u128>),
+    /// `iter` and `values`: the values, as digits.
+    Walk(u32),
+}
+
+/// The entry of a map is this one, or there is none.
+fn entry_is<P: Prefix + Copy + PartialEq + Debug, S: Spells<P>>(
+    rt: &impl Abort,
+    at: (&str, usize),
+    found: Option<(P, &u32)>,
+    wanted: &Option<(S, u32)>,
+) {
+    let entry = match wanted {
+        Some((spelled, stored)) => Some((spelled.prefix().expect(rt, at.0), stored)),
+        None => None,
+    };
+    step_is(rt, at, found, entry);
+}
+
+/// A call that changes the map at a prefix answers so, or another does.
+fn change<P: Prefix + Copy + Drop + PartialEq + Debug, S: Spells<P>>(
+    rt: &impl Abort,
+    at: (&str, usize),
+    map: &mut PrefixMap<P, u32>,
+    key: P,
+    call: &Call<S>,
+)
+    requires { IsTrue (P.fits key) }
+{
+    match call {
+        Insert(value, had) => step_is(rt, at, map.insert(key, *value), Ok(*had)),
+        Remove(had) => step_is(rt, at, map.remove(&key), *had),
+        KeepTree(had) => step_is(rt, at, map.remove_keep_tree(&key), *had),
+        RemoveChildren => map.remove_children(&key),
+        Write(value) => *map.get_mut(&key).expect(rt, at.0) = *value,
+        asked => ask(rt, at, map, &key, asked),
+    }
+}
+
+/// A call that asks for entries answers so.
+fn ask<P: Prefix + Copy + Drop + PartialEq + Debug, S: Spells<P>>(
+    rt: &impl Abort,
+    at: (&str, usize),
+    map: &PrefixMap<P, u32>,
+    key: &P,
+    call: &Call<S>,
+)
+    requires { IsTrue (P.fits key.now) }
+{
+    match call {
+        Get(value) => step_is(rt, at, map.get(key).copied(), *value),
+        VeryKey(entry) => entry_is(rt, at, map.get_key_value(key), entry),
+        Contains(wanted) => step_is(rt, at, map.contains_key(key), *wanted),
+        Longest(entry) => entry_is(rt, at, map.get_lpm(key), entry),
+        LongestKey(longest) => step_is(rt, at, map.get_lpm_prefix(key), longest.prefix()),
+        Length(wanted) => step_is(rt, at, map.longest_match(key), *wanted),
+        Visits(entry, visits) => {
+            let (found, count) = map.get_lpm_visits(key);
+            entry_is(rt, at, found, entry);
+            step_is(rt, at, count, *visits);
+        }
+        Shortest(entry) => entry_is(rt, at, map.get_spm(key), entry),
+        ShortestKey(shortest) => step_is(rt, at, map.get_spm_prefix(key), shortest.prefix()),
+        IsCovered(wanted) => step_is(rt, at, map.is_covered(key), *wanted),
+        IsLeaf(wanted) => step_is(rt, at, map.is_leaf(key), *wanted),
+        Children(values) => step_is(rt, at, digits(map.children(key)), *values),
+        From(inclusive, values) => {
+            step_is(rt, at, digits(map.iter_from(key, *inclusive)), *values);
+        }
+        Cover(values) => {
+            step_is(rt, at, digits(map.cover(key)), *values);
+            step_is(rt, at, value_digits(map.cover_values(key)), *values);
+        }
+        _ => (),
+    }
+}
+
+/// A call of the whole map answers so, or one with a prefix does.
+fn take<P: Prefix + Copy + Drop + PartialEq + Debug, S: Spells<P>>(
+    rt: &impl Abort,
+    at: (&str, usize),
+    map: &mut PrefixMap<P, u32>,
+    step: &Step<S>,
+) {
+    match step {
+        At(key, call) => change(rt, at, map, key.prefix().expect(rt, at.0), call),
+        Clear => map.clear(),
+        Retain(all) => map.retain(|_, _| *all),
+        asked => ask_of_all(rt, at, map, asked),
+    }
+}
+
+/// A call that counts all entries or walks over them answers so.
+fn ask_of_all<P: Prefix + Drop, S>(
+    rt: &impl Abort,
+    at: (&str, usize),
+    map: &PrefixMap<P, u32>,
+    step: &Step<S>,
+) {
+    match step {
+        Counts(entries, nodes) => {
+            step_is(rt, at, (map.len(), map.node_count()), (*entries, *nodes));
+            step_is(rt, at, map.is_empty(), *entries == 0);
+        }
+        Addresses(wanted) => addresses_are(rt, at, map, *wanted),
+        Walk(values) => {
+            step_is(rt, at, digits(map.iter()), *values);
+            step_is(rt, at, value_digits(map.values()), *values);
+        }
+        _ => (),
+    }
+}
+
+/// The map has so many addresses.
+fn addresses_are<P: Prefix + Drop>(
+    rt: &impl Abort,
+    at: (&str, usize),
+    map: &PrefixMap<P, u32>,
+    wanted: Option<u128>,
+) {
+    let count = match map.address_count() {
+        Some(count) => Some(count.to_bits()),
+        None => None,
+    };
+    step_is(rt, at, count, wanted);
+}
+
+/// The calls of a script answer so, one after another, of a map of these entries, which were stored in this order.
+pub(crate) fn goes<P: Prefix + Copy + Drop + PartialEq + Debug, S: Spells<P>>(
+    rt: &impl Abort,
+    alloc: Global,
+    row: &str,
+    stored: &[(S, u32)],
+    steps: &[Step<S>],
+) {
+    let mut map: PrefixMap<P, u32> = PrefixMap::new(alloc).expect(rt, "a map");
+    for (key, value) in stored {
+        let key = key.prefix().expect(rt, row);
+        step_is(rt, (row, 0), map.insert(key, *value), Ok(None));
+    }
+    for (at, each) in steps.iter().enumerate() {
+        take(rt, (row, at), &mut map, each);
+    }
+}

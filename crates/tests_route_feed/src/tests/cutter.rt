@@ -1,0 +1,67 @@
+//! The cutter on bytes from outside, fed one by one; lines in place.
+use crate::tests::rows::row_is;
+use route_lines::{Line, LineCutter, Rest, line_text};
+use std::process::Abort;
+
+/// Pieces, and how long the line is that the last byte of each ends; none where it ends none, 1000 for one that is too long.
+const PIECES: [(&str, Option<usize>); 5] = [
+    ("ok\r\n", Some(3)),
+    ("\n", Some(0)),
+    (
+        "xxxxxxxxxxxxxxxxxxxxxxxxxxxxxxxxxxxxxxxxxxxxxxxxxxxxxxxxxxxxxxxxxxxxxxxxxxxxxxxx\n",
+        Some(80),
+    ),
+    (
+        "xxxxxxxxxxxxxxxxxxxxxxxxxxxxxxxxxxxxxxxxxxxxxxxxxxxxxxxxxxxxxxxxxxxxxxxxxxxxxxxxx\n",
+        Some(1000),
+    ),
+    ("fl", None),
+];
+
+/// No byte ends a line.
+fn feeds(rt: &impl Abort, cutter: &mut LineCutter, bytes: &[u8]) {
+    for byte in bytes {
+        row_is(rt, bytes.len(), cutter.feed(*byte).is_some(), false);
+    }
+}
+
+/// The last byte alone ends a line, of this length.
+fn cuts(rt: &impl Abort, cutter: &mut LineCutter, piece: &str, wanted: Option<usize>) {
+    let (last, others) = piece.as_bytes().split_last().expect(rt, "a byte");
+    feeds(rt, cutter, others);
+    let length = match cutter.feed(*last) {
+        None => None,
+        Some(Line::Text(text)) => Some(text.len()),
+        Some(Line::TooLong) => Some(1000),
+    };
+    row_is(rt, piece, length, wanted);
+}
+
+#[test]
+fn pieces(rt: HostRuntime) {
+    let mut cutter = LineCutter::new();
+    row_is(&rt, "at first", cutter.rest(), Rest::Empty);
+    for (piece, wanted) in &PIECES {
+        cuts(&rt, &mut cutter, piece, *wanted);
+    }
+    row_is(&rt, "at the end", cutter.rest(), Rest::Held);
+}
+
+/// The line of these bytes is the same in place.
+fn is_in_place(rt: &impl Abort, cutter: &mut LineCutter, piece: &[u8]) {
+    let row = piece.len();
+    feeds(rt, cutter, piece);
+    row_is(rt, row, cutter.is_new(), piece.is_empty());
+    let line = cutter.feed(b'\n').expect(rt, "a line");
+    row_is(rt, row, line.text(), line_text(piece));
+    row_is(rt, row, cutter.is_new(), true);
+    row_is(rt, row, line_text(piece).is_some(), row <= 80);
+}
+
+#[test]
+fn in_place(rt: HostRuntime) {
+    let longest = [b'x'; 81];
+    for length in 0..82 {
+        is_in_place(&rt, &mut LineCutter::new(), &longest[..length]);
+    }
+}

@@ -1,0 +1,97 @@
+//! A follower line by line: the hops of addresses, and a least table of them.
+use crate::tests::rows::{net, row_is};
+use ipnet::{IpAddr, IpNet};
+use route_feed::Follower;
+use route_table::Hop;
+use std::alloc::Global;
+use std::process::Abort;
+use std::str::FromStr;
+
+/// A reply with a network inside another, and a change of the same network after it; it is not closed.
+const OPEN: &str = "set 10.0.0.0/8 7\nset 10.0.0.0/8 1\nset 10.64.0.0/10 2\nset 2001:db8::/32 3\n";
+
+/// The same, closed; then a reply that takes a part back.
+const CLOSED: &str =
+    "set 10.0.0.0/8 7\nset 10.0.0.0/8 1\nset 10.64.0.0/10 2\nset 2001:db8::/32 3\nok\nflat 10.0.0.0/8 9\nunset 10.128.0.0/9\nok\n";
+
+/// A line that is none.
+const FOREIGN: &str = "none of them";
+
+/// The same, and that line.
+const FAILED: &str =
+    "set 10.0.0.0/8 7\nset 10.0.0.0/8 1\nset 10.64.0.0/10 2\nset 2001:db8::/32 3\nok\nflat 10.0.0.0/8 9\nunset 10.128.0.0/9\nok\nnone of them\n";
+
+/// Lines, the hops of addresses then, and the least table.
+const FOLLOWED: [(&str, &[(&str, Option<u32>)], Option<&[(&str, Hop)]>); 4] = [
+    ("", &[("10.0.0.0", None), ("::", None)], Some(&[])),
+    // What waits has no hop yet.
+    (OPEN, &[("10.0.0.0", None)], Some(&[])),
+    // Hops are those of changes that were carried out, the last one for each address.
+    (
+        CLOSED,
+        &[
+            ("9.255.255.255", None),
+            ("10.0.0.0", Some(1)),
+            ("10.64.0.0", Some(2)),
+            ("10.127.255.255", Some(2)),
+            ("10.128.0.0", None),
+            ("2001:db8::", Some(3)),
+            ("2001:db9::", None),
+        ],
+        Some(&[
+            ("10.0.0.0/9", Hop::Number(1)),
+            ("10.64.0.0/10", Hop::Number(2)),
+            ("2001:db8::/32", Hop::Number(3)),
+        ]),
+    ),
+    // After a fault there is no least table, and the hops are those of before.
+    (FAILED, &[("10.0.0.0", Some(1))], None),
+];
+
+/// The follower takes these lines, up to one that is none.
+fn takes(rt: &impl Abort, follower: &mut Follower, lines: &str) {
+    for line in lines.split_terminator('\n') {
+        row_is(
+            rt,
+            line,
+            follower.line(line.as_bytes()).is_ok(),
+            line != FOREIGN,
+        );
+    }
+}
+
+fn address(rt: &impl Abort, text: &str) -> IpAddr {
+    IpAddr::from_str(text).expect(rt, text)
+}
+
+fn hops_are(rt: &impl Abort, follower: &Follower, hops: &[(&str, Option<u32>)]) {
+    for (text, hop) in hops {
+        row_is(rt, text, follower.hop(address(rt, text)), *hop);
+    }
+}
+
+fn routes_are(rt: &impl Abort, routes: &[(IpNet, Hop)], wanted: &[(&str, Hop)]) {
+    row_is(rt, "routes", routes.len(), wanted.len());
+    let mut left = routes.iter().copied();
+    for (text, hop) in wanted {
+        row_is(rt, text, left.next(), Some((net(rt, text), *hop)));
+    }
+}
+
+fn least_is(rt: &impl Abort, lines: &str, follower: &Follower, wanted: Option<&[(&str, Hop)]>) {
+    let found = follower.least().expect(rt, "memory");
+    row_is(rt, lines, found.is_some(), wanted.is_some());
+    if let (Some(routes), Some(wanted)) = (found, wanted) {
+        routes_are(rt, routes.as_slice(), wanted);
+    }
+}
+
+#[test]
+fn followers(rt: HostRuntime) {
+    for (lines, hops, least) in &FOLLOWED {
+        let mut follower = Follower::new(rt.alloc()).expect(&rt, "a follower");
+        takes(&rt, &mut follower, lines);
+        hops_are(&rt, &follower, hops);
+        least_is(&rt, lines, &follower, *least);
+    }
+}

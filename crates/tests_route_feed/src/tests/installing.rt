@@ -1,0 +1,81 @@
+//! An installer of very many changes, and a line for a table.
+use crate::tests::rows::{row_is, text_is};
+use crate::tests::runs::{Mode, gives};
+use route_feed::{Counted, lead_line};
+use route_table::RouteTable;
+use std::alloc::Global;
+use std::process::Abort;
+
+/// A line, a line of the word for each of so many addresses, 10.0.0.0 and on, and `ok`.
+fn lines(rt: &impl Abort, alloc: Global, first: &str, word: &str, count: u16) -> String {
+    let mut text = String::new(alloc);
+    text.push_str(first).expect(rt, "memory");
+    for at in 0..count {
+        let (high, low) = (at / 256, at % 256);
+        write!(text, "{word} 10.0.{high}.{low}/32 1\n").expect(rt, "memory");
+    }
+    text.push_str("ok\n").expect(rt, "memory");
+    text
+}
+
+/// 256 changes are carried out one after another.
+#[test]
+fn many_changes(rt: HostRuntime) {
+    let input = lines(&rt, rt.alloc(), "sync\n", "set", 256);
+    let wanted = lines(&rt, rt.alloc(), "ok\n", "install", 256);
+    gives(
+        &rt,
+        rt.alloc(),
+        (Mode::Install, input.as_str()),
+        wanted.as_str(),
+        Ok(()),
+    );
+}
+
+/// More lead to a least table at once.
+#[test]
+fn very_many_changes(rt: HostRuntime) {
+    let input = lines(&rt, rt.alloc(), "sync\n", "set", 257);
+    let wanted = "ok\ninstall 10.0.1.0/32 1\ninstall 10.0.0.0/24 1\nok\n";
+    gives(
+        &rt,
+        rt.alloc(),
+        (Mode::Install, input.as_str()),
+        wanted,
+        Ok(()),
+    );
+}
+
+/// Lines, and what a table answers that keeps them; the last is of 81 bytes.
+const ANSWERS: [(&str, &str); 4] = [
+    ("add 10.0.0.0/8 1", "set 10.0.0.0/8 1\nok\n"),
+    ("get 10.1.0.0/16", "route 10.0.0.0/8 1 100\nok\n"),
+    ("add", "bad\n"),
+    (
+        "xxxxxxxxxxxxxxxxxxxxxxxxxxxxxxxxxxxxxxxxxxxxxxxxxxxxxxxxxxxxxxxxxxxxxxxxxxxxxxxxx",
+        "bad\n",
+    ),
+];
+
+/// The table answers the line so, and flushes once.
+fn answers(rt: &impl Abort, alloc: Global, table: &mut RouteTable, line: &str, wanted: &str) {
+    let mut writer = Counted::new(Vec::new(alloc));
+    row_is(
+        rt,
+        line,
+        lead_line(table, line.as_bytes(), &mut writer),
+        Ok(()),
+    );
+    row_is(rt, line, writer.flushes(), 1);
+    row_is(rt, line, writer.waiting(), false);
+    text_is(rt, line, writer.into_inner().as_slice(), wanted);
+}
+
+/// A line is answered as `lead` answers it, and the table keeps it.
+#[test]
+fn a_line(rt: HostRuntime) {
+    let mut table = RouteTable::new(rt.alloc()).expect(&rt, "a table");
+    for (line, wanted) in &ANSWERS {
+        answers(&rt, rt.alloc(), &mut table, line, wanted);
+    }
+}

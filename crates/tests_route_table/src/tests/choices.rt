@@ -1,0 +1,27 @@
+//! Several routes a network: which is the best, and what they take.
+use crate::tests::tables::row_is;
+use route_choices::{Choices, TooMany};
+use route_table::Hop;
+use std::process::Abort;
+
+#[test]
+fn the_next_takes_over(rt: HostRuntime) {
+    let mut choices: Choices<8> = Choices::one(Hop::Number(5), 100);
+    assert_eq!(rt; choices.add(Hop::Number(3), 100), Ok(()));
+    assert_eq!(rt; choices.add(Hop::Drop, 200), Ok(()));
+    assert_eq!(rt; choices.best(), (Hop::Drop, 200));
+    assert!(rt; choices.remove(Hop::Drop));
+    assert_eq!(rt; choices.best(), (Hop::Number(3), 100));
+    for number in 6..12 {
+        assert_eq!(rt; choices.add(Hop::Number(number), 100), Ok(()));
+    }
+    assert_eq!(rt; choices.add(Hop::Drop, 200), Err(TooMany));
+}
+
+/// A choice takes eight bytes, and nothing else does.
+#[test]
+fn bytes_of_choices(rt: HostRuntime) {
+    row_is(&rt, "eight", std::mem::size_of::<Choices<8>>(), 64);
+    row_is(&rt, "one", std::mem::size_of::<Choices<1>>(), 8);
+    row_is(&rt, "default", Hop::default(), Hop::Drop);
+}

@@ -1,0 +1,243 @@
+//! Scripts of route tables, with values from outside. In walks, hops tell the routes apart.
+use crate::tests::steps::Step::{
+    Add, After, All, Count, Cover, Del, From, Get, Governs, GovernsCount, IsLeaf, List, Nodes,
+    Overwrite, Put, Visits,
+};
+use crate::tests::steps::{Step, goes, hops};
+use crate::tests::tables::{empty, net, row_is};
+use route_table::{AddRefused, Hop, Refused, RouteTable};
+use std::process::Abort;
+
+/// The greatest IPv6 address.
+const LAST: &str = "ffff:ffff:ffff:ffff:ffff:ffff:ffff:ffff/128";
+
+const ONE: Hop = Hop::Number(1);
+
+const TWO: Hop = Hop::Number(2);
+
+const THREE: Hop = Hop::Number(3);
+
+const FIVE: Hop = Hop::Number(5);
+
+const SEVEN: Hop = Hop::Number(7);
+
+const EIGHT: Hop = Hop::Number(8);
+
+const NINE: Hop = Hop::Number(9);
+
+/// Scripts: what is stored at first, and the calls.
+const SCRIPTS: [(&str, &str, &[Step]); 13] = [
+    // Changes, and what is governed, inside, and found then.
+    (
+        "leaves of an empty table",
+        "",
+        &[IsLeaf("0.0.0.0/0", true), IsLeaf("::/0", true)],
+    ),
+    (
+        "leaves beside a route",
+        "10.0.0.0/8 1",
+        &[
+            IsLeaf("10.0.0.0/8", true),
+            IsLeaf("10.1.0.0/16", true),
+            IsLeaf("10.1.2.3/32", true),
+            IsLeaf("0.0.0.0/0", false),
+            IsLeaf("10.9.9.9/7", false),
+            IsLeaf("::/0", true),
+        ],
+    ),
+    (
+        "leaves beside a host",
+        "10.0.0.0/8 1, 2001:db8::1/128 drop",
+        &[
+            IsLeaf("::/0", false),
+            IsLeaf("2001:db8::/127", false),
+            IsLeaf("2001:db8::1/128", true),
+            IsLeaf("2001:db8::2/127", true),
+            Put("0.0.0.0/0", TWO),
+            IsLeaf("0.0.0.0/0", false),
+            IsLeaf("10.0.0.0/8", true),
+            Del("10.0.0.0/8", ONE, Some((Some(1), Some(2)))),
+            IsLeaf("0.0.0.0/0", true),
+        ],
+    ),
+    (
+        "a route inside another, and one inside that",
+        "",
+        &[
+            Add("10.0.0.0/8", ONE, 100, Ok((None, Some(1)))),
+            Add("10.0.0.0/9", TWO, 100, Ok((Some(1), Some(2)))),
+            Add("10.64.0.0/10", ONE, 100, Ok((Some(2), Some(1)))),
+            Nodes(3, 1),
+            Visits("10.1.2.3/32", Some(("10.0.0.0/9", TWO, 100)), 2),
+            Add("10.0.0.0/8", THREE, 200, Ok((Some(1), Some(3)))),
+            Governs("10.0.0.0/8", &["10.128.0.0/9"]),
+            Governs("10.0.0.0/9", &["10.0.0.0/10"]),
+            Del("10.9.9.9/9", TWO, Some((Some(2), Some(3)))),
+            Del("10.0.0.0/9", TWO, None),
+            Governs("10.0.0.0/9", &["10.0.0.0/10"]),
+        ],
+    ),
+    (
+        "drop is stored",
+        "",
+        &[
+            Add("10.0.0.0/30", ONE, 100, Ok((None, Some(1)))),
+            Add("10.0.0.1/32", Hop::Drop, 100, Ok((Some(1), None))),
+            Get("10.0.0.1/32", Some(("10.0.0.1/32", Hop::Drop, 100))),
+            Governs("10.0.0.0/30", &["10.0.0.0/32", "10.0.0.2/31"]),
+        ],
+    ),
+    (
+        "at the greatest address",
+        "255.255.255.255/32 9",
+        &[
+            Governs(
+                "255.255.255.252/30",
+                &["255.255.255.252/31", "255.255.255.254/32"],
+            ),
+            GovernsCount("0.0.0.0/0", 32),
+            Put(LAST, NINE),
+            GovernsCount("::/0", 128),
+        ],
+    ),
+    (
+        "families are apart",
+        "::ffff:10.0.0.0/104 1",
+        &[
+            Get("10.0.0.0/8", None),
+            Put("2001:DB8::1/32", SEVEN),
+            Get("2001:db8::/32", Some(("2001:db8::/32", SEVEN, 100))),
+            Nodes(1, 27),
+        ],
+    ),
+    (
+        "listed",
+        "10.0.0.0/8 1, 10.1.2.3/16 1, 11.0.0.0/8 2",
+        &[List("10.0.0.0/8", &["10.0.0.0/8", "10.1.0.0/16"])],
+    ),
+    // Several routes a network: which is the best, and what is refused.
+    (
+        "the next best takes over",
+        "10.1.2.3/8 5",
+        &[
+            Add("10.0.0.0/8", Hop::Drop, 100, Ok((Some(5), Some(5)))),
+            Add("10.0.0.0/8", NINE, 50, Ok((Some(5), Some(5)))),
+            Add("10.0.0.0/8", THREE, 100, Ok((Some(5), Some(3)))),
+            All(
+                "10.0.0.0/8",
+                &[(THREE, 100), (FIVE, 100), (Hop::Drop, 100), (NINE, 50)],
+            ),
+            Get("10.9.0.0/16", Some(("10.0.0.0/8", THREE, 100))),
+            Del("10.0.0.0/8", THREE, Some((Some(3), Some(5)))),
+            Del("10.0.0.0/8", THREE, None),
+            Add("10.0.0.0/8", NINE, 200, Ok((Some(5), Some(9)))),
+            Del("10.0.0.0/8", Hop::Drop, Some((Some(9), Some(9)))),
+            Del("10.0.0.0/8", NINE, Some((Some(9), Some(5)))),
+            Del("10.0.0.0/8", FIVE, Some((Some(5), None))),
+            All("10.0.0.0/8", &[]),
+            Count(0, 0),
+        ],
+    ),
+    (
+        "a ninth is refused",
+        "2001:db8::/32 1, 2001:db8::/32 2, 2001:db8::/32 3, 2001:db8::/32 4, 2001:db8::/32 5, 2001:db8::/32 6, 2001:db8::/32 7, 2001:db8::/32 8",
+        &[
+            Add("2001:db8::/32", NINE, 200, Err(AddRefused::TooMany)),
+            Add("2001:db8::/32", EIGHT, 200, Ok((Some(1), Some(8)))),
+            Add("2001:db8::/32", Hop::Drop, 100, Err(AddRefused::TooMany)),
+            Count(0, 1),
+            All(
+                "2001:db8::/32",
+                &[
+                    (EIGHT, 200),
+                    (ONE, 100),
+                    (TWO, 100),
+                    (THREE, 100),
+                    (Hop::Number(4), 100),
+                    (FIVE, 100),
+                    (Hop::Number(6), 100),
+                    (SEVEN, 100),
+                ],
+            ),
+        ],
+    ),
+    (
+        "with overwrite one route is left",
+        "10.0.0.0/8 1",
+        &[
+            Add("10.0.0.0/8", TWO, 300, Ok((Some(1), Some(2)))),
+            Put("10.1.0.0/16", Hop::Number(4)),
+            Overwrite("10.0.0.0/8", SEVEN),
+            All("10.0.0.0/8", &[(SEVEN, 100)]),
+            Count(1, 0),
+        ],
+    ),
+    // Walks, and one route in the place of all those inside its network.
+    (
+        "walks keep to a family",
+        "10.0.0.0/8 1, 10.1.0.0/16 2, 10.2.0.0/16 3, 10.2.0.0/24 4, 10.3.0.0/16 5, 10.4.0.0/16 6",
+        &[
+            From("10.2.3.4/16", 3456),
+            After("10.2.3.4/16", 456),
+            From("10.2.0.0/17", 456),
+            From("10.4.0.1/32", 0),
+            Cover("10.2.0.0/24", 134),
+            Cover("10.2.1.0/24", 13),
+            Cover("0.0.0.0/0", 0),
+            Count(6, 0),
+            Put("::/0", SEVEN),
+            Put("2001:db8::/32", EIGHT),
+            Count(6, 2),
+            From("10.4.0.0/16", 6),
+            After("255.255.255.255/32", 0),
+            From("::/0", 78),
+            After("::/0", 8),
+            Cover("2001:db8::1/128", 78),
+        ],
+    ),
+    (
+        "overwritten",
+        "10.0.0.0/8 1, 10.1.0.0/16 2, 10.2.0.0/16 3, 10.2.0.0/24 4, 10.3.0.0/16 5, 10.4.0.0/16 6",
+        &[
+            Overwrite("10.2.3.4/16", NINE),
+            From("0.0.0.0/0", 12956),
+            Overwrite("10.2.0.5/32", Hop::Drop),
+            From("0.0.0.0/0", 129056),
+            Put("2001:db8::/32", EIGHT),
+            Put("8000::/1", EIGHT),
+            Overwrite("0.0.0.0/0", SEVEN),
+            From("0.0.0.0/0", 7),
+            Count(1, 2),
+            Overwrite("::/0", EIGHT),
+            Count(1, 1),
+            Nodes(1, 1),
+        ],
+    ),
+];
+
+#[test]
+fn scripts(rt: HostRuntime) {
+    for (row, stored, steps) in &SCRIPTS {
+        goes(&rt, rt.alloc(), row, stored, steps);
+    }
+}
+
+/// After a refusal the table is empty still, and the next attempt succeeds.
+fn overwrite_again(rt: &impl Abort, table: &mut RouteTable, refused: Refused) {
+    row_is(rt, "refused", refused, Refused::Memory);
+    row_is(rt, "count", table.count(), (0, 0));
+    row_is(rt, "nodes", table.node_counts(), (1, 1));
+    let again = table.overwrite(net(rt, "10.2.0.0/16"), ONE);
+    row_is(rt, "again", again, Ok(()));
+}
+
+/// Each request for memory may be refused.
+#[test]
+fn overwrite_is_refused(rt: HostRuntime) {
+    let mut table = empty(&rt, rt.alloc());
+    if let Err(refused) = table.overwrite(net(&rt, "10.2.0.0/16"), ONE) {
+        overwrite_again(&rt, &mut table, refused);
+    }
+    let cover = hops(table.cover(&net(&rt, "10.2.0.0/16")));
+    row_is(&rt, "cover", cover, 1);
+}
