@@ -1,5 +1,6 @@
 //! Rows of flat lists, with values from outside.
 use crate::tests::tables::{net, route, row_is, table};
+use ipnet::IpNet;
 use route_table::{Flat, Hop, RouteTable};
 use std::process::Abort;
 
@@ -60,16 +61,21 @@ fn flat_lists(rt: HostRuntime) {
     }
 }
 
+/// The piece is this network, by the hop 2.
+fn end_is(rt: &impl Abort, piece: &IpNet, hop: u32, wanted: &str) {
+    row_is(rt, wanted, (*piece, hop), (net(rt, wanted), 2));
+}
+
 /// How many pieces there are, with the first and the last, both by the hop 2.
 fn ends_are(rt: &impl Abort, table: &RouteTable, first: &str, last: &str, count: u32) {
     let mut left = count;
     for (piece, hop) in table.flat() {
         if left == count {
-            row_is(rt, first, (piece, hop), (net(rt, first), 2));
+            end_is(rt, &piece, hop, first);
         }
         left = left.checked_sub(1).expect(rt, "too many pieces");
         if left == 0 {
-            row_is(rt, last, (piece, hop), (net(rt, last), 2));
+            end_is(rt, &piece, hop, last);
         }
     }
     row_is(rt, last, left, 0);

@@ -160,6 +160,7 @@ fn built_back(rt: HostRuntime) {
 fn add_again(rt: &impl Abort, table: &mut RouteTable, words: &str) {
     let (net, hop) = route(rt, words);
     if table.add(net, hop, 100).is_err() {
+        let (net, hop) = route(rt, words);
         table.add(net, hop, 100).expect(rt, "a route");
     }
 }
