@@ -58,7 +58,9 @@ impl Subject for HopTable {
 
 /// Another table, of the routes of a least one.
 fn from_routes(rt: &HostRuntime, table: &HopTable) -> Result<(), Fault> {
-    let list = made(table.least())?;
+    let Ok(list) = table.least() else {
+        return Err(Fault::Values);
+    };
     begin(rt);
     let outcome = HopTable::from_routes(rt.alloc(), list.as_slice());
     if let Some(other) = ended(rt, outcome) {
@@ -70,7 +72,9 @@ fn from_routes(rt: &HostRuntime, table: &HopTable) -> Result<(), Fault> {
 /// A stored network, twice, and one that the routes outside give the hop already; a look-up; the operations to a least table,
 /// and those of a change of a network with another inside.
 fn free(rt: &HostRuntime, table: &mut HopTable) -> Result<(), Fault> {
-    let list = made(table.least())?;
+    let Ok(list) = table.least() else {
+        return Err(Fault::Values);
+    };
     let (stored, handed) = (network("10.1.2.4/30")?, network("10.1.2.0/24")?);
     begin(rt);
     line(rt, &table.install(stored, Hop::Number(8)));

@@ -3,7 +3,7 @@
 //! parts, of one value each.
 ghost use Rattle.std.specs.Iterator.{IsFinite};
 
-use crate::fault::{Fault, made};
+use crate::fault::Fault;
 use std::fmt::{Debug, Display};
 use std::io::Write;
 
@@ -110,7 +110,9 @@ pub fn copy_first<T: Debug + Drop, I: Iterator<Item = T> + Clone + Default>(
     requires copied { (it : I) → I.is_clone items.now it → I.can_next it }
     requires empty { (it : I) → I.is_default it → I.can_next it }
 {
-    let mut copy = made(items.clone())?;
+    let Ok(mut copy) = items.clone() else {
+        return Err(Fault::Values);
+    };
     let mut none = I::default();
     line(rt, &(copy.next(), none.next()));
     Ok(())
