@@ -28,7 +28,8 @@ def verdict(said):
     errors = {}
     for it in re.finditer(r"^(\w+/(?:src|specs|proofs)/\S+?):\d+:\d+: error\b(.*)$", said, re.M):
         errors.setdefault(it[1], []).append(it[2])
-    odd = re.search(r"^(?!\w+/(?:src|specs|proofs)/).*\berror(?:\[|: ).*$", said, re.M)
+    # (a check of several processes tells of an error while it runs, and once more in the end; a note is no error, whatever it quotes)
+    odd = re.search(r"^(?!\w+/(?:src|specs|proofs)/|so far: |note: ).*\berror(?:\[|: ).*$", said, re.M)
     if odd:
         raise NotUnderstood(odd[0][:160])
     functions, fell, nameless = set(), set(), set()
@@ -99,6 +100,9 @@ READ = [
     ("fn c::m::a: not proved\nc/proofs/m/+a/Invariants.antt:1:2: error: x\nlogic=not-proved", ["c::m::a"], []),
     (A + "fn c::ab: not proved\nc/proofs/ab/Answers.antt:1:2: error: x\nlogic=not-proved", ["c::ab"], []),
     ("c/specs/A.antt:1:2: error: x\n" + A + "logic=not-proved", [], ["c/specs/A.antt"]),
+    ("so far: c/proofs/a/Answers.antt:1:2: error: x\nfn c::a: not proved\nc/proofs/a/Answers.antt:1:2: error: x\nlogic=not-proved", ["c::a"], []),
+    ("note: of a `search`: c/proofs/a/Answers.antt:1:2: error: x\n" + S + "\nlogic=not-proved", ["c::a"], []),
+    ("so far: c/proofs/b/Answers.antt:1:2: error: x\nfn c::b: not proved\nlogic=not-proved", None),
     ("fn c::b: not proved\nlogic=not-proved", None),
     ("fn c::a: could not tell\nrattle: no verdict: antt ran out of steps", None),
     ("fn c::a: could not tell\nlogic=not-proved", None),
