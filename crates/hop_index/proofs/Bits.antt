@@ -4,10 +4,10 @@ use Rattle.std.specs.Prelude.{count_ones}
 use Rattle.std.proofs.lemmas.Bool.{cases_lt}
 use Rattle.std.proofs.lemmas.List.{get_or_default}
 use Rattle.std.proofs.lemmas.Nat.{div-add-mod', mod-pow-add, ones_cat, pow-add, pow_below, pow_pos}
-use Rattle.std.proofs.Math.Nat.{add-mul-mod_self_right, mod-eq_of_lt, mod-lt, mul-le-mul_right, zero-mod}
+use Rattle.std.proofs.Math.Nat.{add-mul-mod_self_right, mod-eq_of_lt, mod-lt, mul-le-mul_right}
 use Rattle.hop_index.specs.Ranges.{HopRange}
-use Rattle.hop_index.specs.InnerRanges.{AreMarksOf, AreRanges, BeginsBelow, BeginsFrom}
-use Rattle.hop_index.proofs.Searches.{begins_below, below_later, from_block}
+use Rattle.hop_index.specs.InnerRanges.{AreRanges, BeginsBelow}
+use Rattle.hop_index.proofs.Searches.{begins_below}
 
 pub one_bit : (b : ℕ) → b < 2 → count_ones b ≡ b
 unfolding lib.Count.ones
@@ -66,16 +66,6 @@ module _ (rs : List HopRange) (start low : ℕ) where
     pub below : (j : ℕ) → j ≤ 64 → BeginsBelow rs (start + j * 256) (before marks j)
     pub from : (j k : ℕ) (d : HopRange) → j ≤ 64 → before marks j ≤ k → k < place → start + j * 256 ≤ (get_or rs k d).first
 
-  no_marks : (j : ℕ) → before 0 j ≡ low
-  no_marks j = ap (λ n. low + count_ones n) (zero-mod (2 ^ j)) ∙ omega (arith, one_bit 0 (omega arith))
-
-  pub none_marked : BeginsBelow rs start low → Marked low 0
-  none_marked h = record {
-    all = omega (arith, one_bit 0 (omega arith));
-    below = λ j l. subst (BeginsBelow rs (start + j * 256)) (sym (no_marks j)) (below_later rs start (start + j * 256) low (omega arith) h);
-    from = λ j k d l m n. absurd (omega (arith, no_marks j, m));
-  }
-
   -- one more, in a block above the others
   pub one_more_marked : (place marks b : ℕ) (d : HopRange) → AreRanges rs → Marked place marks → marks < 2 ^ b → place < length rs → start + b * 256 ≤ (get_or rs place d).first
       → (get_or rs place d).first < start + (b + 1) * 256 → Marked (place + 1) (marks + 2 ^ b)
@@ -101,10 +91,3 @@ module _ (rs : List HopRange) (start low : ℕ) where
             (cases_lt k place))
             (cases_lt b j);
       }
-
-  -- all ranges of the chunk are marked
-  pub all_marked : (place high marks : ℕ) → marks < 2 ^ 64 → Marked place marks → high ≤ place → place ≤ length rs → BeginsFrom rs (start + 2 ^ 14) high → AreMarksOf rs start low marks
-  all_marked place high marks fits m past place_in h = record {
-    below = λ some j l. m.below j l;
-    from = λ some j l. from_block rs start 256 j (before marks j) place high l (m.below j l) (λ k d. m.from j k d l) past h;
-  }

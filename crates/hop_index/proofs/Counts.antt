@@ -7,8 +7,8 @@ use Rattle.std.proofs.lemmas.Nat.{div-add-mod', ones_cat, pow_pos, zero_from_one
 use Rattle.std.proofs.Math.Nat.{div-eq_of_lt, mod-eq_of_lt, mod-lt, mul-le-mul_right, pow-le-pow_right}
 use Rattle.hop_index.specs.Ranges.{HopRange}
 use Rattle.hop_index.specs.InnerRanges.{AreCountsOf, AreRanges, BeginsBelow, BeginsFrom}
-use Rattle.hop_index.proofs.Bits.{all_below, none_from, one_bit, one_more_bit, same_below}
-use Rattle.hop_index.proofs.Searches.{begins_below, below_later, first_before, from_block, one_more}
+use Rattle.hop_index.proofs.Bits.{all_below, none_from, one_more_bit, same_below}
+use Rattle.hop_index.proofs.Searches.{begins_below, first_before, from_block, one_more}
 
 -- the bits of a word, above and below one of them
 split_ones : (w j : ℕ) → count_ones w ≡ count_ones (w / 2 ^ j) + count_ones (w % 2 ^ j)
@@ -34,18 +34,6 @@ module _ (rs : List HopRange) (start size : ℕ) where
     pub others : (i : ℕ) → i < count_ones word → at i < place
     pub below : (j : ℕ) → j ≤ 64 → BeginsBelow rs (start + j * size) (at (count_ones (word % 2 ^ j)))
     pub from : (j k : ℕ) (d : HopRange) → j ≤ 64 → at (count_ones (word % 2 ^ j)) ≤ k → k < place → start + j * size ≤ (get_or rs k d).first
-
-  -- before the first of the ranges
-  pub none_counted : (at : ℕ → ℕ) (low : ℕ) → at 0 ≡ low → BeginsBelow rs start low → Counted at low 0
-  none_counted at low is h =
-      let none : count_ones 0 ≡ 0 = one_bit 0 (omega arith) in
-      let same : (j : ℕ) → at (count_ones (0 % 2 ^ j)) ≡ low = λ j. ap at (below_all 0 j (pow_pos j) ∙ none) ∙ is in
-      record {
-        last = omega (arith, ap at none, is);
-        others = λ i l. absurd (omega (arith, none, l));
-        below = λ j l. subst (BeginsBelow rs (start + j * size)) (sym (same j)) (below_later rs start (start + j * size) low (omega arith) h);
-        from = λ j k d l m n. absurd (omega (arith, same j, m, n));
-      }
 
   module _ (at next : ℕ → ℕ) (place word b : ℕ) (d : HopRange) (h : AreRanges rs) (c : Counted at place word) (place_in : place < length rs)
       (from_b : start + b * size ≤ (get_or rs place d).first) (below_b : (get_or rs place d).first < start + (b + 1) * size) where

@@ -1,5 +1,5 @@
 -- The blocks of a flat list as ranges: they ascend, and give each address its hop.
-use Rattle.std.proofs.Common.{◌≡◌, ℕ, ◌^◌, ◌<◌, ◌≤◌, ⊎_elim, Bool, List, [], ◌++◌, Option, Some, None, filter, refl, sym, ap, ◌∙◌, subst, arith, append-nil}
+use Rattle.std.proofs.Common.{◌≡◌, ℕ, ◌^◌, ◌<◌, ◌≤◌, ⊎_elim, Bool, List, Option, Some, None, filter, refl, sym, ap, ◌∙◌, subst, arith}
 use Rattle.std.proofs.lemmas.Bool.{cases_lt}
 use Rattle.std.proofs.lemmas.Nat.{pow_pos}
 use Rattle.ipnet_addr.specs.Addresses.{Family, Address, IsAddress, rank, same_family}
@@ -83,7 +83,3 @@ module _ (h : Address → Option ℕ) (ps : List Piece) (flat : IsFlat h ps) whe
       (λ t. t.3 ∙ sym (range_hop x.family t.0 x.number t.1 t.2))
       (λ n. n.1 ∙ sym (none_outside x a n.0 (h x) refl))
       (in_or_none (ranges_in x.family ps) x.number)
-
--- the ranges that a walk over the flat list has gathered when nothing is left
-pub gathered : (f : Family) (ps qs left : List Piece) (rs : List HopRange) → qs ≡ ps → left ≡ [] → rs ++ ranges_in f left ≡ ranges_in f qs → ranges_in f ps ≡ rs
-gathered f ps qs left rs same none e = ap (λ ls. ranges_in f ls) (sym same) ∙ sym e ∙ ap (λ ls. rs ++ ranges_in f ls) none ∙ append-nil rs

@@ -15,7 +15,7 @@ use Rattle.ipnet.specs.declared.ip_net.IpNet.TheVariants.{V4, V6}
 use Rattle.ipnet.proofs.Ipv4Networks.{v4_unique, v4_found}
 use Rattle.ipnet.proofs.Ipv6Networks.{v6_unique, v6_found, not_both}
 
-net_family : (f : Family) (n : Network) → family (net_in f n) ≡ f
+pub net_family : (f : Family) (n : Network) → family (net_in f n) ≡ f
 net_family Ipv4 n = refl
 net_family Ipv6 n = refl
 

@@ -1,20 +1,17 @@
 -- `read_network` reads a network, whatever the address is.
-use Rattle.std.proofs.Common.{◌≡◌, ℕ, List, [], ◌∷◌, ◌++◌, length, Option, Some, None, MatchOption, refl, sym, ap, ◌∙◌, arith, append_assoc, append-nil, lit≤, eqb-true}
+use Rattle.std.proofs.Common.{◌≡◌, ℕ, List, [], ◌∷◌, ◌++◌, Option, Some, None, MatchOption, refl, sym, ap, ◌∙◌, append_assoc, append-nil, lit≤, eqb-true}
 use Rattle.std.proofs.lemmas.Option.{none-some}
 use Rattle.std.specs.Int.Digits.{number_from_digits}
 use Rattle.std.specs.Net.Reader.{Read, read_byte}
 use Rattle.std.proofs.NetLemmas.Options.{cond_some, and_then_some, same_parts}
 use Rattle.std.proofs.NetLemmas.Ipv4.{read_byte_sound}
+use Rattle.std.proofs.lemmas.List.{nil_from_length}
 use Rattle.ipnet_addr.specs.AddressText.{IsShort}
 use Rattle.ipnet.specs.NetworkText.{SpellsParts, Spells}
 use Rattle.ipnet_addr.specs.AddressReader.{read_short}
 use Rattle.ipnet_blocks.specs.Networks.{Network}
 use Rattle.ipnet.specs.NetworkReader.{read_network, network_of}
 use Rattle.ipnet_addr.proofs.Ipv4Text.{read_short_complete, read_short_sound}
-
-empty : (xs : List ℕ) → length xs ≡ 0 → xs ≡ []
-empty [] e = refl
-empty (x ∷ xs) e = absurd (omega arith)
 
 -- `read` reads addresses at the front of a text that is followed by a slash
 module _ (Address : List ℕ → List ℕ → Type 0) (digits max : ℕ) (read : List ℕ → Read (List ℕ))
@@ -36,7 +33,7 @@ module _ (Address : List ℕ → List ℕ → Type 0) (digits max : ℕ) (read :
       let (parts_is, len_is) = same_parts _ parts _ len (ap Some some) in
       let (front, split, address) = sound text a.0 a.1 read_a in
       let (digits_text, split_n, short, _) = read_short_sound 10 digits max after n.1 n.0 (lit≤ tt) read_n in
-      let nothing = empty n.1 (eqb-true _ _ test) in
+      let nothing = nil_from_length n.1 (eqb-true _ _ test) in
       record {
         address_text = front;
         length_text = digits_text;

@@ -1,6 +1,6 @@
 -- Small facts of truths, numbers, options and lists, for all crates; what std has is not here.
-use Rattle.std.proofs.Common.{◌≡◌, ℕ, suc, ◌*◌, ◌/◌, ◌%◌, ◌+◌, ◌^◌, ◌<◌, ◌≤◌, ◌⊎◌, inl, inr, ⊎_elim, Bool, true, false, cond, ◌&&◌, List, [], ◌∷◌, length, filter, Option, Some, None, refl, ap, ◌∙◌, sym, arith, min}
-use Rattle.std.specs.Prelude.{T, is_some, count_ones}
+use Rattle.std.proofs.Common.{◌≡◌, ℕ, suc, ◌*◌, ◌/◌, ◌%◌, ◌+◌, ◌^◌, ◌≤◌, ◌⊎◌, inl, inr, ⊎_elim, Bool, true, false, cond, ◌&&◌, List, [], ◌∷◌, length, filter, Option, None, refl, ap, ◌∙◌, sym, arith}
+use Rattle.std.specs.Prelude.{T, count_ones}
 use Rattle.std.specs.List.{list_any}
 use Rattle.std.specs.Option.{IsSome}
 use Rattle.std.specs.Ordering.{is_lt}
@@ -40,17 +40,8 @@ no_ones bits = omega (arith, ones_le_self (bits % 2 ^ 0))
 
 -- ---- options
 
-module _ {A : Type 0} where
-  pub none_is_not_some : {o : Option A} → o ≡ None → IsSome o → ⊥
-  none_is_not_some e h = cc
-
-  pub some_before : (b : Bool) (o : Option A) → is_some (cond b o None) ≡ true → is_some o ≡ true
-  some_before true o e = e
-  some_before false o e = cc
-
-  pub some_later : (b : Bool) (x : A) (o : Option A) → is_some o ≡ true → is_some (cond b (Some x) o) ≡ true
-  some_later true x o e = refl
-  some_later false x o e = e
+pub none_some : {A : Type 0} {o : Option A} → o ≡ None → IsSome o → ⊥
+none_some e h = cc
 
 -- ---- lists
 

@@ -2,7 +2,7 @@
 use Rattle.std.proofs.Common.{◌≡◌, ℕ, zero, suc, get_or, ◌+◌, ◌*◌, ◌/◌, ◌%◌, ◌^◌, ◌<◌, List, [], ◌∷◌, length, refl, sym, subst, ap, ◌∙◌, arith}
 use Rattle.std.proofs.Math.Nat as nat
 use Rattle.std.proofs.NetLemmas.Arrays.{four_items, eight_items}
-use Rattle.std.proofs.lemmas.Nat.{from_be_bytes-to_be_bytes_4, be_bytes_4, mod-mul-add, div-mul-add}
+use Rattle.std.proofs.lemmas.Nat.{from_be_bytes-to_be_bytes_4, be_bytes_4, same_from_place}
 use Rattle.std.specs.Int.{w32, w128, from_be_bytes, to_be_bytes}
 use Rattle.std.specs.Int.Digits.{number_from_digits, number_from_digits_after}
 use Rattle.std.specs.Net.Addr.{ipv4_octets, ipv6_segments, ipv4_bits, ipv6_bits, segments_of, octets_of, IsIpv4Addr, IsIpv6Addr, IsIpv4OfBits, IsIpv6OfBits}
@@ -68,12 +68,6 @@ pub ipv6_bits_of_bits : (a : Ipv6Addr) (n : ℕ) → IsIpv6OfBits a n → n < 2 
 unfolding ipv6_bits IsIpv6OfBits
 ipv6_bits_of_bits a n h fits = ap (λ o. from_be_bytes w128 (octets_of o)) h ∙ units_number (segments_of (to_be_bytes w128 n)) refl ∙ segments_number n fits
 
-digit_apart : (b m n x y : ℕ) → x < b → y < b → m * b + x ≡ n * b + y → (m ≡ n) × (x ≡ y)
-digit_apart b m n x y small tiny e =
-    let quotient : m ≡ n = sym (div-mul-add m b x small) ∙ ap (λ k. k / b) e ∙ div-mul-add n b y tiny in
-    let rest : x ≡ y = sym (mod-mul-add m b x small) ∙ ap (λ k. k % b) e ∙ mod-mul-add n b y tiny in
-    (quotient, rest)
-
 -- as many digits that write the same number are the same
 pub digits_apart : (b m n : ℕ) (xs ys : List ℕ) → length xs ≡ length ys → ((k : ℕ) → get_or xs k 0 < b) → ((k : ℕ) → get_or ys k 0 < b)
     → number_from_digits_after b m xs ≡ number_from_digits_after b n ys → (m ≡ n) × (xs ≡ ys)
@@ -82,7 +76,7 @@ digits_apart b m n [] (y ∷ ys) l small tiny e = absurd (omega arith)
 digits_apart b m n (x ∷ xs) [] l small tiny e = absurd (omega arith)
 digits_apart b m n (x ∷ xs) (y ∷ ys) l small tiny e =
     let later = digits_apart b (m * b + x) (n * b + y) xs ys (omega arith) (λ k. small (suc k)) (λ k. tiny (suc k)) e in
-    let here = digit_apart b m n x y (small 0) (tiny 0) later.0 in
+    let here = same_from_place m x n y b (small 0) (tiny 0) later.0 in
     (here.0, λ i. here.1 i ∷ later.1 i)
 
 pub segments_small : (n k : ℕ) → get_or (segments_of (to_be_bytes w128 n)) k 0 < 2 ^ 16

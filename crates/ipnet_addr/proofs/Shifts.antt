@@ -24,7 +24,7 @@ mask w v n e h l =
     (omega (arith, a, b, pow_pos w, pow_pos (w - n)), omega (arith, pow_pos w, pow_pos (w - n)))
 
 -- a multiple of a power, at a greater power
-mod_up : (q m k : ℕ) → q * 2 ^ k % 2 ^ (m + k) ≡ q % 2 ^ m * 2 ^ k
+pub mod_up : (q m k : ℕ) → q * 2 ^ k % 2 ^ (m + k) ≡ q % 2 ^ m * 2 ^ k
 mod_up q m k = mod-pow-add (q * 2 ^ k) m k ∙ omega (arith, ap (λ n. n % 2 ^ m * 2 ^ k) (shl-shr q k), mul-mod_left q (2 ^ k))
 
 pub up : (w v b n : ℕ) → v ≡ w → v ≤ 128 → b < 2 ^ w → b * 2 ^ (128 - v) % 2 ^ 128 * 2 ^ n % 2 ^ 128 / 2 ^ (128 - v) ≡ b * 2 ^ n % 2 ^ w

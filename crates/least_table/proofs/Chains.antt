@@ -1,5 +1,6 @@
 -- Plans that skip chains of levels.
 use Rattle.std.proofs.Common.{◌≡◌, ℕ, suc, ◌+◌, ◌<◌, inl, inr, Bool, true, false, cond, not, ◌&&◌, ◌||◌, List, [], ◌∷◌, ◌++◌, length, Option, None, refl, sym, ap, ◌∙◌, subst, arith, append-nil, add-zero, zero-add}
+use Rattle.least_table.proofs.Stores.{within-whole}
 use Rattle.ipnet_blocks.specs.BitStrings.{begins}
 use Rattle.least_table.specs.Tables.{Absent, Gives, half_of}
 use Rattle.least_table.specs.HopSets.{same_hop, holds, meets, AreMerged, AreBest, fee, first_of}
@@ -7,7 +8,7 @@ use Rattle.least_table.specs.Trees.{inside, within, Tree, Leaf, Fork, Skip, best
 use Rattle.least_table.specs.Laws.{ChainLaw, TreesLaw}
 use Rattle.least_table.proofs.Split.{joined}
 use Rattle.least_table.proofs.Halves.{Gives-joined, Gives-own}
-use Rattle.least_table.proofs.Sets.{same_hop-refl, same_hop-true, one_hop, meets-true, meets-false, Best-leaf, Best-fork, fees, first_of-holds, Stores, Stores-leaf, Stores-joined, Stores-fork}
+use Rattle.least_table.proofs.Sets.{same_hop-refl, same_hop-true, one_hop, meets-true, meets-false, Best-leaf, Best-fork, fees, first_of-holds, Stores, Stores-leaf, Stores-joined, Stores-fork, or_false}
 use Rattle.least_table.proofs.Cuts.{begins_half}
 
 -- ---- one level: a half with one hop beside any half
@@ -23,10 +24,6 @@ or_comm true false = refl
 or_comm false true = refl
 or_comm false false = refl
 
-or_false : (u : Bool) → (u || false) ≡ u
-or_false true = refl
-or_false false = refl
-
 and_comm : (u v : Bool) → (u && v) ≡ (v && u)
 and_comm true true = refl
 and_comm true false = refl
@@ -38,9 +35,6 @@ or_swap true true = refl
 or_swap true false = refl
 or_swap false true = refl
 or_swap false false = refl
-
-level : Option ℕ → List (Option ℕ) → List (Option ℕ)
-level k hops = cond (holds hops k) (k ∷ []) (k ∷ hops)
 
 meets_one : (k : Option ℕ) (hops : List (Option ℕ)) → meets (k ∷ []) hops ≡ holds hops k
 meets_one k hops = or_false (holds hops k)
@@ -151,16 +145,12 @@ within_half : (b : Bool) (ds : List Bool) (t : List (List Bool × Option ℕ)) �
 within_half b ds [] = refl
 within_half b ds (r ∷ t) = ap (λ u. (b ∷ ds ++ r.0, r.1) ∷ u) (within_half b ds t)
 
-within_all : (t : List (List Bool × Option ℕ)) → within [] t ≡ t
-within_all [] = refl
-within_all (r ∷ t) = ap (λ u. r ∷ u) (within_all t)
-
 length_within : (ds : List Bool) (t : List (List Bool × Option ℕ)) → length (within ds t) ≡ length t
 length_within ds [] = refl
 length_within ds (r ∷ t) = ap suc (length_within ds t)
 
 Gives-within : (ds : List Bool) (v : ℕ) (h : List Bool → Option ℕ) (k : Option ℕ) (t : List (List Bool × Option ℕ)) → Gives v (inner_of ds h) k t → OneOutside (length ds + v) h ds k → Gives (length ds + v) h k (within ds t)
-Gives-within [] v h k t g one = rw (zero-add, within_all t) g
+Gives-within [] v h k t g one = rw (zero-add, within-whole t) g
 Gives-within (true ∷ ds) v h k t g one =
     let n = length ds + v in
     rw (within_half true ds t, ← one_more (length ds) v) (Gives-joined n h k [] (within ds t) (one_hop n (half_of false h) k (other_half true ds v h k one)) (Gives-within ds v (half_of true h) k t g (outside_half true ds v h k one)))

@@ -55,11 +55,6 @@ pub long_at : {B : Type 0} (string : B → List Bool) (d : ℕ) (ps : List (B ×
 long_at string d ps i x h l e = subst (λ y. d < length (string y.0)) (sym e) (h i x l)
 
 module _ {B : Type 0} (string : B → List Bool) where
-  pub AllBegin-more : (b : Bool) (d : ℕ) (ps : List (B × ℕ)) (i : ℕ) (x : B × ℕ) → i < length ps → x ≡ get_or ps i x → d < length (string x.0) → get_or (string x.0) d false ≡ b
-      → AllBegin b (beyond string d (take i ps)) → AllBegin b (beyond string d (take (suc i) ps))
-  AllBegin-more b d [] i x l e f g h = absurd (omega arith)
-  AllBegin-more b d (p ∷ ps) zero x l e f g h = (begins_at (string p.0) d b (rw e at f) (rw e at g), tt)
-  AllBegin-more b d (p ∷ ps) (suc i) x l e f g h = (h.0, AllBegin-more b d ps i x (omega arith) e f g h.1)
 
   after_true : (a : List Bool) (d : ℕ) (ps : List (B × ℕ)) → begins (true ∷ []) a ≡ true → BeforeAll a (beyond string d ps) → AllBegin true (beyond string d ps)
   after_true a d [] h k = tt

@@ -1,6 +1,6 @@
 -- The plans of the code, as trees.
 use Rattle.std.proofs.Common.{◌≡◌, ℕ, zero, suc, ◌+◌, ◌-◌, ◌<◌, ◌≤◌, inr, Bool, List, [], ◌∷◌, length, take, drop, Option, None, refl, sym, ap, ◌∙◌, arith}
-use Rattle.least_table.specs.Trees.{Tree, IsPlan, OneOutside, inner_of, CanSkip, best}
+use Rattle.least_table.specs.Trees.{IsPlan, OneOutside, inner_of, best}
 use Rattle.least_table.specs.InnerSteps.{step_best}
 use Rattle.least_table.specs.InnerPlans.{Plan, Leaf, Fork, Skip, top, tree_of, between}
 use Rattle.least_table.specs.Trees as trees

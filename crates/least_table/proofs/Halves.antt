@@ -75,10 +75,6 @@ from_lesser w h f g below above s n l = record {
     go (inl e) = let u = under_same w h f g below above s in (u.0, u.1, u.2 ∙ sym e)
     go (inr p) = let u = under_other w h f g below above s p.0 in (u.0, u.1, u.2 ∙ sym p.1)
 
--- two least numbers are one
-pub IsFewest-one : (w : ℕ) (h : List Bool → Option ℕ) (s : Option ℕ) (m n : ℕ) → IsFewest w h s m → IsFewest w h s n → m ≡ n
-IsFewest-one w h s m n a b = omega (arith, a.least b.reached.0 b.reached.1, b.least a.reached.0 a.reached.1, a.reached.2, b.reached.2)
-
 pub to_lesser : (w : ℕ) (h : List Bool → Option ℕ) (f g : Option ℕ → ℕ) → ((k : Option ℕ) → IsFewest w (half_of false h) k (f k)) → ((k : Option ℕ) → IsFewest w (half_of true h) k (g k)) → (s : Option ℕ) (n : ℕ) → IsFewest (suc w) h s n → IsLesser f g s n
 to_lesser w h f g below above s n l = record {
   reached = go (own_count u) refl;

@@ -1,7 +1,7 @@
 -- Steps that are kept stay what they are while others are appended.
 use Rattle.std.proofs.Common.{◌≡◌, ℕ, zero, suc, ◌+◌, ◌<◌, ◌≤◌, Bool, List, [], ◌∷◌, ◌++◌, length, map, take, drop, slice_get, slice_index_or, Option, Some, None, refl, sym, ap, ap₂, ◌∙◌, subst, arith, append_assoc, append-nil, length-append}
 use Rattle.std.proofs.lemmas.Option.{slice_get_read}
-use Rattle.std.proofs.lemmas.List.{map-append, take-append-le, length-map}
+use Rattle.std.proofs.lemmas.List.{map-append, take-append-le, length-map, take_all}
 use Rattle.least_table.specs.InnerSteps.{Step, passed, step_best, step_blocks}
 use Rattle.least_table.specs.InnerSteps as steps
 use Rattle.least_table.specs.InnerPacked.{size_of, size_at, set_at, around, step_of, IsKept, AreKept, AreWhole, best_at, steps_in, Grows}
@@ -116,11 +116,7 @@ module _ {B : Type 0} (s : Steps B) (at : ℕ) (x : Packed) (within : at < lengt
 
 -- the set that was appended
 set_here : (sets hops : List (Option ℕ)) (n : ℕ) → n ≡ length hops → set_at (sets ++ Some n ∷ hops) (length sets) ≡ hops
-set_here [] hops n e = rw e (all hops)
-  where
-    all : (xs : List (Option ℕ)) → take (length xs) xs ≡ xs
-    all [] = refl
-    all (x ∷ xs) = ap (λ ys. x ∷ ys) (all xs)
+set_here [] hops n e = take_all n hops (omega (arith, e))
 set_here (s ∷ sets) hops n e = set_here sets hops n e
 
 size_here : (sets hops : List (Option ℕ)) (n : ℕ) → size_at (sets ++ Some n ∷ hops) (length sets) ≡ n

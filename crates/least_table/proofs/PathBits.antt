@@ -2,6 +2,7 @@
 use Rattle.std.proofs.Common.{◌≡◌, ℕ, zero, suc, ◌+◌, ◌-◌, ◌/◌, ◌%◌, ◌==◌, ◌^◌, ◌<◌, ◌≤◌, Bool, true, false, List, [], ◌∷◌, ◌++◌, length, take, drop, slice_index_or, refl, sym, ap, ◌∙◌, arith, inl, inr, nat_lt, drop_of_length-le}
 use Rattle.std.proofs.lemmas.Bool.{ltb-true, ltb-false, cases_Bool}
 use Rattle.std.proofs.lemmas.Nat.{shr-shr}
+use Rattle.std.proofs.Math.Seq.{take-nil}
 use Rattle.ipnet_blocks.specs.Blocks.{digits}
 use Rattle.ipnet_blocks.proofs.Strings.{length-digits}
 use Rattle.trie_core.specs.Prefixes.{prefix_bits}
@@ -41,24 +42,6 @@ bit_at_top r i s e l m =
 
 -- ---- what two strings have in common
 
-pub shared_more : (s t : List Bool) (n : ℕ) → n < length s → n < length t → slice_index_or s n false ≡ slice_index_or t n false → shared (drop n s) (drop n t) ≡ suc (shared (drop (suc n) s) (drop (suc n) t))
-shared_more [] t n l m e = absurd (omega (arith, l))
-shared_more (x ∷ s) [] n l m e = absurd (omega (arith, m))
-shared_more (x ∷ s) (y ∷ t) (suc n) l m e = shared_more s t n (omega (arith, l)) (omega (arith, m)) e
-shared_more (true ∷ s) (true ∷ t) zero l m e = refl
-shared_more (false ∷ s) (false ∷ t) zero l m e = refl
-shared_more (true ∷ s) (false ∷ t) zero l m e = cc
-shared_more (false ∷ s) (true ∷ t) zero l m e = cc
-
-pub shared_apart : (s t : List Bool) (n : ℕ) → n < length s → n < length t → (slice_index_or s n false ≡ slice_index_or t n false → ⊥) → shared (drop n s) (drop n t) ≡ 0
-shared_apart [] t n l m e = absurd (omega (arith, l))
-shared_apart (x ∷ s) [] n l m e = absurd (omega (arith, m))
-shared_apart (x ∷ s) (y ∷ t) (suc n) l m e = shared_apart s t n (omega (arith, l)) (omega (arith, m)) e
-shared_apart (true ∷ s) (true ∷ t) zero l m e = absurd (e refl)
-shared_apart (false ∷ s) (false ∷ t) zero l m e = absurd (e refl)
-shared_apart (true ∷ s) (false ∷ t) zero l m e = refl
-shared_apart (false ∷ s) (true ∷ t) zero l m e = refl
-
 shared_nothing : (s : List Bool) → shared s [] ≡ 0
 shared_nothing [] = refl
 shared_nothing (x ∷ s) = refl
@@ -80,16 +63,8 @@ take_more (x ∷ s) (suc d) (suc i) l m =
     rw (e, f) (take_more s d i (omega (arith, l)) (omega (arith, m)))
 
 pub take_rest : (s : List Bool) (d i : ℕ) → length s ≤ i → take (i - d) (drop d s) ≡ drop d s
-take_rest [] zero i l = nothing (i - 0)
-  where
-    nothing : (n : ℕ) → take {A = Bool} n [] ≡ []
-    nothing zero = refl
-    nothing (suc n) = refl
-take_rest [] (suc d) i l = nothing (i - suc d)
-  where
-    nothing : (n : ℕ) → take {A = Bool} n [] ≡ []
-    nothing zero = refl
-    nothing (suc n) = refl
+take_rest [] zero i l = take-nil (i - 0)
+take_rest [] (suc d) i l = take-nil (i - suc d)
 take_rest (x ∷ s) zero zero l = absurd (omega (arith, l))
 take_rest (x ∷ s) zero (suc i) l = let e : suc i - 0 ≡ suc (i - 0) = omega arith in rw e (ap (λ t. x ∷ t) (take_rest s zero i (omega (arith, l))))
 take_rest (x ∷ s) (suc d) zero l = absurd (omega (arith, l))

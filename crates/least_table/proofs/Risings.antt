@@ -1,10 +1,11 @@
 -- Lists of hops in rising order, and their merge.
 use Rattle.std.proofs.Common.{◌≡◌, ◌⊎◌, inl, inr, ℕ, suc, ◌+◌, ◌-◌, ◌<◌, Bool, true, false, cond, ◌&&◌, ◌||◌, List, [], ◌∷◌, ◌++◌, length, take, drop, slice_index_or, Option, Some, None, refl, sym, ap, ap₂, ◌∙◌, subst, arith, append_assoc, append-nil}
-use Rattle.std.proofs.lemmas.Bool.{ltb-true, ltb-false, lt-ltb}
+use Rattle.std.proofs.lemmas.Bool.{ltb-true, ltb-false, lt-ltb, and_parts, and_right}
 use Rattle.std.proofs.lemmas.List.Folds.{list_any-append}
+use Rattle.std.proofs.lemmas.List.{take_all}
 use Rattle.least_table.specs.HopSets.{same_hop, holds, meets, AreMerged}
 use Rattle.least_table.specs.InnerRising.{is_less, IsLessAll, IsRising, AreCommon, AreAll, CommonLeft, AllLeft}
-use Rattle.least_table.proofs.Sets.{same_hop-true, same_hop-refl, meets-true, meets-false}
+use Rattle.least_table.proofs.Sets.{same_hop-true, same_hop-refl, meets-true, meets-false, or_false}
 
 less_trans : (x y z : Option ℕ) → is_less x y ≡ true → is_less y z ≡ true → is_less x z ≡ true
 less_trans None None z e f = cc
@@ -74,11 +75,7 @@ pushed : (out xs : List (Option ℕ)) (x : Option ℕ) → IsRising (out ++ x �
 pushed out xs x h = rw (append_assoc out (x ∷ []) xs) h
 
 holds_pushed : (out : List (Option ℕ)) (x k : Option ℕ) → holds (out ++ x ∷ []) k ≡ (holds out k || same_hop k x)
-holds_pushed out x k = list_any-append (λ j. same_hop k j) out (x ∷ []) ∙ ap (λ u. holds out k || u) (last (same_hop k x))
-  where
-    last : (u : Bool) → (u || false) ≡ u
-    last true = refl
-    last false = refl
+holds_pushed out x k = list_any-append (λ j. same_hop k j) out (x ∷ []) ∙ ap (λ u. holds out k || u) (or_false (same_hop k x))
 
 -- k is not in ys where it is the lesser x
 lesser_out : (x y k : Option ℕ) (ys : List (Option ℕ)) → is_less x y ≡ true → IsLessAll y ys → same_hop k x ≡ true → holds (y ∷ ys) k ≡ false
@@ -152,14 +149,6 @@ module _ (low high out : List (Option ℕ)) (x y : Option ℕ) (xs ys : List (Op
     same = λ k. h.same k ∙ take_right (holds out k) (same_hop k y) (holds (x ∷ xs) k) (holds ys k) ∙ ap (λ u. u || (holds (x ∷ xs) k || holds ys k)) (sym (holds_pushed out y k));
   }
 
-  all_both : x ≡ y → AllLeft low high out (x ∷ xs) (y ∷ ys) → AllLeft low high (out ++ x ∷ []) xs ys
-  all_both e h = record {
-    low_rises = pushed out xs x h.low_rises;
-    high_rises = pushed out ys x (subst (λ z. IsRising (out ++ z ∷ ys)) (sym e) h.high_rises);
-    same = λ k. subst (λ z. (holds low k || holds high k) ≡ (holds out k || (holds (x ∷ xs) k || holds (z ∷ ys) k))) (sym e) (h.same k)
-        ∙ take_two (holds out k) (same_hop k x) (holds xs k) (holds ys k) ∙ ap (λ u. u || (holds xs k || holds ys k)) (sym (holds_pushed out x k));
-  }
-
 -- ---- the same over slices
 
 abbrev pub head : List (Option ℕ) → Option ℕ
@@ -168,12 +157,8 @@ head a = slice_index_or a 0 None
 abbrev pub tail : List (Option ℕ) → List (Option ℕ)
 tail a = take (length a - 1) (drop 1 a)
 
-take_all : (xs : List (Option ℕ)) → take (length xs) xs ≡ xs
-take_all [] = refl
-take_all (x ∷ xs) = ap (λ u. x ∷ u) (take_all xs)
-
 tail_cons : (x : Option ℕ) (xs : List (Option ℕ)) → tail (x ∷ xs) ≡ xs
-tail_cons x xs = let e : suc (length xs) - 1 ≡ length xs = omega arith in ap (λ n. take n xs) e ∙ take_all xs
+tail_cons x xs = take_all (suc (length xs) - 1) xs (omega arith)
 
 pub tail_short : (a : List (Option ℕ)) → 0 < length a → length (tail a) + 1 ≡ length a
 tail_short [] l = absurd (omega (arith, l))
@@ -205,30 +190,19 @@ module _ (low high out a b : List (Option ℕ)) (la : 0 < length a) (lb : 0 < le
   pub step_all_high : is_less (head b) (head a) ≡ true → AllLeft low high out a b → AllLeft low high (out ++ head b ∷ []) a (tail b)
   step_all_high e h = subst (λ c. AllLeft low high (out ++ head b ∷ []) c (tail b)) (sym (cons a la)) (all_high low high out (head a) (head b) (tail a) (tail b) e (opened_all h))
 
-  pub step_all_both : is_less (head a) (head b) ≡ false → is_less (head b) (head a) ≡ false → AllLeft low high out a b → AllLeft low high (out ++ head a ∷ []) (tail a) (tail b)
-  step_all_both e f h = all_both low high out (head a) (head b) (tail a) (tail b) (neither (head a) (head b) e f) (opened_all h)
-
 pub common_begin : (low high out : List (Option ℕ)) → out ≡ [] → IsRising low → IsRising high → CommonLeft low high out low high
 common_begin low high out e h k = rw e (record { low_rises = h; high_rises = k; same = λ j. refl })
 
-or_none : (u : Bool) → (u || false) ≡ u
-or_none true = refl
-or_none false = refl
-
-and_none : (u : Bool) → (u && false) ≡ false
-and_none true = refl
-and_none false = refl
-
 -- where one list is at its end
 pub common_end : (low high out a b : List (Option ℕ)) → (length a ≡ 0) ⊎ (length b ≡ 0) → CommonLeft low high out a b → AreCommon low high out
-common_end low high out [] b e h = record { rising = front_rises out [] h.low_rises; same = λ k. sym (h.same k ∙ or_none (holds out k)) }
-common_end low high out (x ∷ a) [] e h = record { rising = front_rises out [] h.high_rises; same = λ k. sym (h.same k ∙ ap (λ u. holds out k || u) (and_none (holds (x ∷ a) k)) ∙ or_none (holds out k)) }
+common_end low high out [] b e h = record { rising = front_rises out [] h.low_rises; same = λ k. sym (h.same k ∙ or_false (holds out k)) }
+common_end low high out (x ∷ a) [] e h = record { rising = front_rises out [] h.high_rises; same = λ k. sym (h.same k ∙ ap (λ u. holds out k || u) (and_right (holds (x ∷ a) k) false refl) ∙ or_false (holds out k)) }
 common_end low high out (x ∷ a) (y ∷ b) (inl e) h = absurd (omega (arith, e))
 common_end low high out (x ∷ a) (y ∷ b) (inr e) h = absurd (omega (arith, e))
 
 pub all_end : (low high out a b : List (Option ℕ)) → (length a ≡ 0) ⊎ (length b ≡ 0) → AllLeft low high out a b → AreAll low high ((out ++ a) ++ b)
 all_end low high out [] b e h = rw (append-nil out) (record { rising = h.high_rises; same = λ k. list_any-append (λ j. same_hop k j) out b ∙ sym (h.same k) })
-all_end low high out (x ∷ a) [] e h = rw (append-nil (out ++ x ∷ a)) (record { rising = h.low_rises; same = λ k. list_any-append (λ j. same_hop k j) out (x ∷ a) ∙ sym (h.same k ∙ ap (λ u. holds out k || u) (or_none (holds (x ∷ a) k))) })
+all_end low high out (x ∷ a) [] e h = rw (append-nil (out ++ x ∷ a)) (record { rising = h.low_rises; same = λ k. list_any-append (λ j. same_hop k j) out (x ∷ a) ∙ sym (h.same k ∙ ap (λ u. holds out k || u) (or_false (holds (x ∷ a) k))) })
 all_end low high out (x ∷ a) (y ∷ b) (inl e) h = absurd (omega (arith, e))
 all_end low high out (x ∷ a) (y ∷ b) (inr e) h = absurd (omega (arith, e))
 
@@ -240,14 +214,9 @@ common_merged as' bs (x ∷ cs) c n k = go (meets as' bs) refl
     here : (holds as' x && holds bs x) ≡ true
     here = sym (c.same x) ∙ rw (same_hop-refl x) refl
 
-    parts : (u v : Bool) → (u && v) ≡ true → (u ≡ true) × (v ≡ true)
-    parts true true e = (refl, refl)
-    parts true false e = absurd (cc)
-    parts false v e = absurd (cc)
-
     go : (m : Bool) → meets as' bs ≡ m → holds (x ∷ cs) k ≡ cond m (holds as' k && holds bs k) (holds as' k || holds bs k)
     go true e = c.same k
-    go false e = let p = parts (holds as' x) (holds bs x) here in absurd (meets-false as' bs e x p.0 p.1)
+    go false e = let p = and_parts (holds as' x) (holds bs x) here in absurd (meets-false as' bs e x p.0 p.1)
 
 pub all_merged : (as' bs cs ds : List (Option ℕ)) → AreCommon as' bs cs → length cs ≡ 0 → AreAll as' bs ds → AreMerged as' bs ds
 all_merged as' bs (x ∷ cs) ds c e d k = absurd (omega (arith, e))

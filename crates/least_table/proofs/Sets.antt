@@ -1,6 +1,6 @@
 -- What a block needs, by the hops that it is best handed.
 use Rattle.std.proofs.Common.{◌≡◌, ℕ, suc, ◌+◌, ◌≤◌, Bool, true, false, cond, ◌&&◌, ◌||◌, List, [], ◌∷◌, length, replicate, Option, Some, None, refl, sym, ap, ◌∙◌, arith, inl, inr, add-one}
-use Rattle.std.proofs.lemmas.Bool.{eqb-true, eq-eqb}
+use Rattle.std.proofs.lemmas.Bool.{eqb-true, eq-eqb, or_right}
 use Rattle.std.proofs.Math.ListN.{length-replicate}
 use Rattle.least_table.specs.Tables.{Gives, IsFewest, half_of}
 use Rattle.ipnet_blocks.specs.Halves.{IsLesser}
@@ -8,6 +8,10 @@ use Rattle.least_table.specs.HopSets.{same_hop, holds, meets, AreMerged, AreBest
 use Rattle.least_table.specs.Laws.{SetsLaw}
 use Rattle.least_table.proofs.Split.{joined, length-joined, Absent-joined}
 use Rattle.least_table.proofs.Halves.{Gives-joined, Gives-own, from_lesser}
+
+pub or_false : (u : Bool) → (u || false) ≡ u
+or_false true = refl
+or_false false = refl
 
 pub same_hop-refl : (k : Option ℕ) → same_hop k k ≡ true
 same_hop-refl None = refl
@@ -19,17 +23,13 @@ same_hop-true (Some m) (Some n) e = ap Some (eqb-true m n e)
 same_hop-true None (Some n) e = cc
 same_hop-true (Some m) None e = cc
 
-or_right_true : (u v : Bool) → v ≡ true → (u || v) ≡ true
-or_right_true true v g = refl
-or_right_true false v g = g
-
 pub meets-true : (as' bs : List (Option ℕ)) → meets as' bs ≡ true → (j : Option ℕ) × (holds as' j ≡ true) × (holds bs j ≡ true)
 meets-true [] bs e = cc
 meets-true (a ∷ as') bs e = go (λ f. meets-true as' bs f) (holds bs a) refl
   where
     go : (meets as' bs ≡ true → (j : Option ℕ) × (holds as' j ≡ true) × (holds bs j ≡ true)) → (v : Bool) → holds bs a ≡ v → (j : Option ℕ) × (holds (a ∷ as') j ≡ true) × (holds bs j ≡ true)
     go later true f = (a, rw (same_hop-refl a) refl, f)
-    go later false f = let r = later (rw f at e) in (r.0, or_right_true (same_hop r.0 a) (holds as' r.0) r.1, r.2)
+    go later false f = let r = later (rw f at e) in (r.0, or_right (same_hop r.0 a) (holds as' r.0) r.1, r.2)
 
 -- no hop is in both
 pub meets-false : (as' bs : List (Option ℕ)) → meets as' bs ≡ false → (k : Option ℕ) → holds as' k ≡ true → holds bs k ≡ true → ⊥

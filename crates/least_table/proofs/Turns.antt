@@ -1,6 +1,6 @@
 -- One step of a plan is taken at the next block.
 use Rattle.std.proofs.Common.{◌≡◌, ℕ, Bool, ◌⊎◌, inl, inr, List, [], ◌∷◌, ◌++◌, length, reverse, Option, refl, sym, ap, ◌∙◌, subst, append_assoc, append-nil}
-use Rattle.std.proofs.lemmas.List.{reverse-append}
+use Rattle.std.proofs.lemmas.List.{reverse-append, nil_from_length}
 use Rattle.least_table.specs.InnerSteps.{Step, step_routes, step_blocks, all_routes, HasRoom, HaveRoom}
 
 popped : {X : Type 0} (old new : List X) (x : X) → old ≡ new ++ x ∷ [] → reverse old ≡ x ∷ reverse new
@@ -21,14 +21,10 @@ module _ {B : Type 0} (string : B → List Bool) (x : Step B) (b : List Bool × 
 
 -- ---- no step, or no block, is left
 
-empty : {X : Type 0} (xs : List X) → length xs ≡ 0 → xs ≡ []
-empty [] e = refl
-empty (x ∷ xs) e = cc
-
 no_blocks : {B : Type 0} (string : B → List Bool) (xs : List (Step B)) → all_routes string xs [] ≡ []
 no_blocks string [] = refl
 no_blocks string (x ∷ xs) = refl
 
 pub ended : {B : Type 0} (string : B → List Bool) (steps : List (Step B)) (blocks : List (List Bool × Option ℕ)) (t all : List (List Bool × Option ℕ)) → (length steps ≡ 0) ⊎ (length blocks ≡ 0) → t ++ all_routes string (reverse steps) (reverse blocks) ≡ all → t ≡ all
-ended string steps blocks t all (inl e) i = sym (append-nil t) ∙ ap (λ ys. t ++ all_routes string (reverse ys) (reverse blocks)) (sym (empty steps e)) ∙ i
-ended string steps blocks t all (inr e) i = sym (append-nil t) ∙ ap (λ rs. t ++ rs) (sym (no_blocks string (reverse steps))) ∙ ap (λ bs. t ++ all_routes string (reverse steps) (reverse bs)) (sym (empty blocks e)) ∙ i
+ended string steps blocks t all (inl e) i = sym (append-nil t) ∙ ap (λ ys. t ++ all_routes string (reverse ys) (reverse blocks)) (sym (nil_from_length steps e)) ∙ i
+ended string steps blocks t all (inr e) i = sym (append-nil t) ∙ ap (λ rs. t ++ rs) (sym (no_blocks string (reverse steps))) ∙ ap (λ bs. t ++ all_routes string (reverse steps) (reverse bs)) (sym (nil_from_length blocks e)) ∙ i

@@ -9,9 +9,11 @@ use Rattle.std.specs.List.Retain.{ReturnsInTurn}
 use Rattle.std.specs.FinMap.{find, get, remove, entries, is_sorted, entries_sorted, get-entries, get-remove}
 use Rattle.std.specs.FinMap.Entries.{where_key, below_all, same_entries, is_sorted-where_key, find-where_key}
 use Rattle.std.proofs.Math.ListN.{length-append}
+use Rattle.trie_core.proofs.Named.{less_differs}
+use Rattle.ipnet_addr.proofs.Basics.{T-parts, less_from_T}
 use Rattle.trie_core.specs.Bits.{is_from}
 use Rattle.ipnet_blocks.specs.BitStrings.{bits_cmp}
-use Rattle.trie_core.proofs.Strings.{bits_total, bits_same, same, same-refl, same_false, both, append_none, less-T}
+use Rattle.trie_core.proofs.Strings.{bits_total, bits_same, same, same-refl, same_false, append_none}
 use Rattle.trie_core.specs.Nodes.{BitMap}
 use Rattle.trie_core.proofs.Maps.{tail_rises}
 use Rattle.trie_core.proofs.Frames.{bits_alike}
@@ -34,9 +36,6 @@ not_after (false ∷ p) (false ∷ q) e = not_after p q e
 not_after (false ∷ p) (true ∷ q) e = refl
 not_after (true ∷ p) (false ∷ q) e = cc
 
-less_apart : (p q : List Bool) → bits_cmp p q ≡ Less → p ≡ q → ⊥
-less_apart p q e s = let z : true ≡ false = sym (ap is_lt (ap (λ x. bits_cmp x q) (sym s) ∙ e)) ∙ not_before q in cc
-
 before_from : (p q : List Bool) (i : Bool) → bits_cmp p q ≡ Less → is_from q i p ≡ false
 before_from p q true e = ap (λ o. not (is_lt o)) e
 before_from p q false e = not_after p q e
@@ -53,14 +52,14 @@ module _ {X : Type 0} where
   -- ---- an entry of a sorted list
 
   is_above : (n : List Bool) (ks : List (List Bool × X)) (e : List Bool × X) (es : List (List Bool × X)) → T (below_all bits_cmp n (ks ++ e ∷ es)) → bits_cmp n e.0 ≡ Less
-  is_above n [] e es h = less-T _ (both _ _ h).0
-  is_above n (k ∷ ks) e es h = is_above n ks e es (both _ _ h).1
+  is_above n [] e es h = less_from_T _ (T-parts _ _ h).0
+  is_above n (k ∷ ks) e es h = is_above n ks e es (T-parts _ _ h).1
 
   where_above : (p : List Bool → Bool) (n : List Bool) (es : List (List Bool × X)) → T (below_all bits_cmp n es) → ((k : List Bool) → bits_cmp n k ≡ Less → p k ≡ true) → where_key bits_cmp p es ≡ es
   where_above p n [] h f = refl
   where_above p n (e ∷ es) h f =
-      let t = both _ _ h in
-      ap (λ b. cond b (e ∷ where_key bits_cmp p es) (where_key bits_cmp p es)) (f e.0 (less-T _ t.0)) ∙ ap (λ l. e ∷ l) (where_above p n es t.1 f)
+      let t = T-parts _ _ h in
+      ap (λ b. cond b (e ∷ where_key bits_cmp p es) (where_key bits_cmp p es)) (f e.0 (less_from_T _ t.0)) ∙ ap (λ l. e ∷ l) (where_above p n es t.1 f)
 
   -- p is a before the entry, b at it, and holds after it
   where_split : (p : List Bool → Bool) (a b : Bool) (ks : List (List Bool × X)) (e : List Bool × X) (es : List (List Bool × X)) → T (is_sorted bits_cmp (ks ++ e ∷ es))
@@ -88,7 +87,7 @@ module _ {X : Type 0} where
   find_here [] e es h = ap (λ b. cond b (Some e.1) (find bits_cmp e.0 es)) (same-refl e.0)
   find_here (k ∷ ks) e es h =
       let t = tail_rises k (ks ++ e ∷ es) h in
-      ap (λ b. cond b (Some k.1) (find bits_cmp e.0 (ks ++ e ∷ es))) (same_false e.0 k.0 (λ s. less_apart k.0 e.0 (is_above k.0 ks e es t.1) (sym s))) ∙ find_here ks e es t.0
+      ap (λ b. cond b (Some k.1) (find bits_cmp e.0 (ks ++ e ∷ es))) (same_false e.0 k.0 (λ s. less_differs k.0 e.0 (is_above k.0 ks e es t.1) (sym s))) ∙ find_here ks e es t.0
 
   entries-remove : (m : BitMap X) (q : List Bool) → entries (remove m q) ≡ where_key bits_cmp (λ k. not (same k q)) (entries m)
   entries-remove m q = same_entries bits_cmp bits_total bits_same _ _ (entries_sorted (remove m q)) (is_sorted-where_key bits_cmp (λ k. not (same k q)) (entries m) (entries_sorted m))
@@ -101,8 +100,8 @@ module _ {X : Type 0} where
 
   remove_here : (m : BitMap X) (ks : List (List Bool × X)) (e : List Bool × X) (es : List (List Bool × X)) → entries m ≡ ks ++ e ∷ es → entries (remove m e.0) ≡ ks ++ es
   remove_here m ks e es h =
-      let apart : (k : List Bool) → bits_cmp k e.0 ≡ Less → not (same k e.0) ≡ true = λ k l. ap not (same_false k e.0 (less_apart k e.0 l)) in
-      let later : (k : List Bool) → bits_cmp e.0 k ≡ Less → not (same k e.0) ≡ true = λ k l. ap not (same_false k e.0 (λ s. less_apart e.0 k l (sym s))) in
+      let apart : (k : List Bool) → bits_cmp k e.0 ≡ Less → not (same k e.0) ≡ true = λ k l. ap not (same_false k e.0 (less_differs k e.0 l)) in
+      let later : (k : List Bool) → bits_cmp e.0 k ≡ Less → not (same k e.0) ≡ true = λ k l. ap not (same_false k e.0 (λ s. less_differs e.0 k l (sym s))) in
       entries-remove m e.0 ∙ ap (where_key bits_cmp (λ k. not (same k e.0))) h
       ∙ where_split (λ k. not (same k e.0)) true false ks e es (subst (λ l. T (is_sorted bits_cmp l)) h (entries_sorted m)) apart (ap not (same-refl e.0)) later
 

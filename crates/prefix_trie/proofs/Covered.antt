@@ -5,8 +5,9 @@ use Rattle.std.specs.declared.cmp.Ordering.TheVariants.{Less}
 use Rattle.std.proofs.lemmas.Nat.{pow_pos}
 use Rattle.std.specs.FinMap.{is_sorted}
 use Rattle.std.specs.FinMap.Entries.{below_all}
+use Rattle.std.proofs.lemmas.Bool.{both_ways}
+use Rattle.ipnet_addr.proofs.Basics.{T-parts, less_from_T}
 use Rattle.ipnet_blocks.specs.BitStrings.{bits_cmp, begins}
-use Rattle.trie_core.proofs.Strings.{both, less-T, no_false}
 use Rattle.trie_core.specs.InnerWalks.{KeysWithin}
 use Rattle.trie_core.proofs.Order.{less_trans}
 use Rattle.prefix_trie.specs.Covered.{count_strings, is_begun}
@@ -163,7 +164,7 @@ module _ {X : Type 0} where
     pub last_within : IsLastWithin w last
 
   later_by : (b k s : List Bool) (e : List Bool × X) (es : List (List Bool × X)) → bits_cmp b k ≡ Less → begins b k ≡ false → bits_cmp k e.0 ≡ Less → begins b s ≡ true → (is_begun es s ≡ true → ⊥) → (p q : Bool) → begins e.0 s ≡ p → begins b e.0 ≡ q → (p || is_begun es s) ≡ true → ⊥
-  later_by b k s e es l n m c r true true t f y = no_false n (between b k e.0 l m f)
+  later_by b k s e es l n m c r true true t f y = both_ways _ n (between b k e.0 l m f)
   later_by b k s e es l n m c r true false t f y = not_begun b e.0 (less_trans b k e.0 l m) (one_begins b e.0 s c t f)
   later_by b k s e es l n m c r false q t f y = r y
 
@@ -171,18 +172,18 @@ module _ {X : Type 0} where
   later_free : (b k s : List Bool) (es : List (List Bool × X)) → bits_cmp b k ≡ Less → begins b k ≡ false → T (below_all bits_cmp k es) → is_begun es s ≡ true → begins b s ≡ true → ⊥
   later_free b k s [] l n h x c = cc
   later_free b k s (e ∷ es) l n h x c =
-      let p = both _ _ h in
-      later_by b k s e es l n (less-T _ p.0) c (λ y. later_free b k s es l n p.1 y c) (begins e.0 s) (begins b e.0) refl refl x
+      let p = T-parts _ _ h in
+      later_by b k s e es l n (less_from_T _ p.0) c (λ y. later_free b k s es l n p.1 y c) (begins e.0 s) (begins b e.0) refl refl x
 
   counted_by : (w : ℕ) (last : Option (List Bool)) (e : List Bool × X) (es : List (List Bool × X)) → T (is_sorted bits_cmp (e ∷ es)) → Follows last (e ∷ es) → IsOutside last e.0 → (s : List Bool) → cond (is_fresh last (e ∷ es) s) 1 0 ≡ cond (begins e.0 s) 1 0 + cond (is_fresh (Some e.0) es s) 1 0
   counted_by w None e es r f o s = first_one (begins e.0 s) (is_begun es s)
   counted_by w (Some b) e es r f o s =
-      let l = less-T _ (both _ _ f).0 in
-      free_one (begins e.0 s) (is_begun es s) (begins b s) (λ p q. by_begun (begins b e.0) p q refl) (λ p q. later_free b e.0 s es l o (both _ _ r).0 p q)
+      let l = less_from_T _ (T-parts _ _ f).0 in
+      free_one (begins e.0 s) (is_begun es s) (begins b s) (λ p q. by_begun (begins b e.0) p q refl) (λ p q. later_free b e.0 s es l o (T-parts _ _ r).0 p q)
     where
       by_begun : (x : Bool) → begins e.0 s ≡ true → begins b s ≡ true → begins b e.0 ≡ x → ⊥
-      by_begun true p q z = no_false o z
-      by_begun false p q z = not_begun b e.0 (less-T _ (both _ _ f).0) (one_begins b e.0 s q p z)
+      by_begun true p q z = both_ways _ o z
+      by_begun false p q z = not_begun b e.0 (less_from_T _ (T-parts _ _ f).0) (one_begins b e.0 s q p z)
 
   -- a prefix that the last one does not begin adds all its addresses
   fresh_count : (w : ℕ) (last : Option (List Bool)) (e : List Bool × X) (es : List (List Bool × X)) → T (is_sorted bits_cmp (e ∷ es)) → Follows last (e ∷ es) → length e.0 ≤ w → IsOutside last e.0 → count_strings w (is_fresh last (e ∷ es)) ≡ 2 ^ (w - length e.0) + count_strings w (is_fresh (Some e.0) es)
@@ -193,8 +194,8 @@ module _ {X : Type 0} where
   skip {w} {total} {left} {b} {e} {es} c i = record {
     counted = c.counted ∙ ap (λ n. 2 ^ w + n) (count_same w _ _ (λ s. passed (begins e.0 s) (is_begun es s) (begins b s) (begins_through b e.0 s i)));
     below = c.below;
-    rise = (both _ _ c.rise).1;
-    follow = (both _ _ c.follow).1;
+    rise = (T-parts _ _ c.rise).1;
+    follow = (T-parts _ _ c.follow).1;
     within = c.within.1;
     last_within = c.last_within;
   }
@@ -205,8 +206,8 @@ module _ {X : Type 0} where
       record {
         counted = omega (arith, c.counted, f, h);
         below = omega (arith, c.below, h);
-        rise = (both _ _ c.rise).1;
-        follow = (both _ _ c.rise).0;
+        rise = (T-parts _ _ c.rise).1;
+        follow = (T-parts _ _ c.rise).0;
         within = c.within.1;
         last_within = c.within.0;
       }

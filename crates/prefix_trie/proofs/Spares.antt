@@ -3,8 +3,10 @@ use Rattle.std.proofs.Common.{◌≡◌, inl, inr, Bool, true, false, cond, not,
 use Rattle.std.specs.Prelude.{Option, Some, None, is_some}
 use Rattle.std.specs.Option.{IsSome}
 use Rattle.std.specs.FinMap.{get, insert, len, empty, remove, get-empty, get-insert, get-remove, same_map}
+use Rattle.std.proofs.lemmas.Bool.{both_ways}
+use Rattle.ipnet_addr.proofs.Basics.{none_some}
 use Rattle.ipnet_blocks.specs.BitStrings.{bits_cmp, begins}
-use Rattle.trie_core.proofs.Strings.{bits_total, bits_same, same, same_false, no_false}
+use Rattle.trie_core.proofs.Strings.{bits_total, bits_same, same, same_false}
 use Rattle.trie_core.specs.Nodes.{BitMap, BitSet, Seen}
 use Rattle.trie_core.specs.InnerCount.{spare_count}
 use Rattle.trie_core.specs.Inside.{outside}
@@ -40,7 +42,7 @@ module _ {X : Type 0} where
       record {
         below = i.below;
         fives = i.fives;
-        none = λ x. ap (λ c. get c (s ++ x)) k ∙ get-insert bits_total m q v (s ++ x) ∙ ap (λ c. cond c (Some v) (get m (s ++ x))) (same_false (s ++ x) q (λ p. no_false t.0 (sym (ap (begins s) p) ∙ begins_on s x))) ∙ i.none x;
+        none = λ x. ap (λ c. get c (s ++ x)) k ∙ get-insert bits_total m q v (s ++ x) ∙ ap (λ c. cond c (Some v) (get m (s ++ x))) (same_false (s ++ x) q (λ p. both_ways _ t.0 (sym (ap (begins s) p) ∙ begins_on s x))) ∙ i.none x;
       }
 
   -- no spare node stands on the way to a key
@@ -50,7 +52,7 @@ module _ {X : Type 0} where
       by : (s : List Bool) (b : Bool) → begins s q ≡ b → (w : Option (Unit {0})) → get a s ≡ w → cond (not b) (get a s) None ≡ get a s
       by s false e w h = refl
       by s true e None h = sym h
-      by s true e (Some x) h = let z : is_some (get m q) ≡ false = ap (λ r. is_some (get m r)) (sym (begun_rest s q e)) ∙ ap is_some ((f s (ap is_some h)).none _) in absurd (no_false z o)
+      by s true e (Some x) h = let z : is_some (get m q) ≡ false = ap (λ r. is_some (get m r)) (sym (begun_rest s q e)) ∙ ap is_some ((f s (ap is_some h)).none _) in absurd (both_ways _ z o)
 
   -- a key that is there gets another value
   pub idle_with : (m : BitMap X) (a : BitSet) (q : List Bool) (w : X) → AreIdle m a → IsSome (get m q) → AreIdle (insert m q w) a
@@ -61,9 +63,6 @@ module _ {X : Type 0} where
         fives = i.fives;
         none = λ x. get-insert bits_total m q w (s ++ x) ∙ ap (λ c. cond c (Some w) (get m (s ++ x))) (same_false (s ++ x) q (λ p. none_some (ap (get m) (sym p) ∙ i.none x) o)) ∙ i.none x;
       }
-    where
-      none_some : {o : Option X} → o ≡ None → IsSome o → ⊥
-      none_some e h = cc
 
   fewer : (m n : BitMap X) (s : List Bool) → ((x : List Bool) → get m x ≡ None → get n x ≡ None) → IsIdle m s → IsIdle n s
   fewer m n s f i = record { below = i.below; fives = i.fives; none = λ x. f (s ++ x) (i.none x) }

@@ -5,9 +5,11 @@ use Rattle.std.specs.declared.cmp.Ordering.TheVariants.{Less}
 use Rattle.std.specs.Ordering.{is_lt}
 use Rattle.std.specs.FinMap.{is_sorted}
 use Rattle.std.specs.FinMap.Entries.{where_key, below_all, is_sorted-where_key}
+use Rattle.std.proofs.lemmas.Bool.{false_from_ne_true}
+use Rattle.ipnet_addr.proofs.Basics.{T-parts, less_from_T}
 use Rattle.trie_core.specs.Bits.{is_from}
 use Rattle.ipnet_blocks.specs.BitStrings.{bits_cmp, begins}
-use Rattle.trie_core.proofs.Strings.{same, not_true, both, less-T}
+use Rattle.trie_core.proofs.Strings.{same}
 use Rattle.trie_core.proofs.Maps.{tail_rises}
 use Rattle.trie_core.proofs.Frames.{where_twice}
 use Rattle.prefix_trie.specs.Maps.{first_key}
@@ -53,7 +55,7 @@ between (false ∷ p) (false ∷ q) (true ∷ k) (false ∷ j) b l m c = cc
 between (false ∷ p) (false ∷ q) (z ∷ k) (true ∷ j) b l m c = cc
 
 is_less : (o : _) → is_lt o ≡ true → o ≡ Less
-is_less o e = less-T o (rw e tt)
+is_less o e = less_from_T o (rw e tt)
 
 not_lower : (q k : List Bool) (i : Bool) → is_from q i k ≡ true → is_lt (bits_cmp k q) ≡ false
 not_lower q k true e = flip (is_lt (bits_cmp k q)) e
@@ -85,11 +87,11 @@ module _ {X : Type 0} where
   none_later : (p n : List Bool) (es : List (List Bool × X)) → T (below_all bits_cmp n es) → ((k : List Bool) → bits_cmp n k ≡ Less → begins p k ≡ false) → where_key bits_cmp (begins p) es ≡ []
   none_later p n [] h f = refl
   none_later p n (e ∷ es) h f =
-      let t = both _ _ h in
-      ap (λ b. cond b (e ∷ where_key bits_cmp (begins p) es) (where_key bits_cmp (begins p) es)) (f e.0 (less-T _ t.0)) ∙ none_later p n es t.1 f
+      let t = T-parts _ _ h in
+      ap (λ b. cond b (e ∷ where_key bits_cmp (begins p) es) (where_key bits_cmp (begins p) es)) (f e.0 (less_from_T _ t.0)) ∙ none_later p n es t.1 f
 
   inside_by : (p q : List Bool) (i : Bool) (k : List Bool) (fs : List (List Bool × X)) → begins p q ≡ true → is_from q i k ≡ true → T (below_all bits_cmp k fs) → begins p k ≡ false → where_key bits_cmp (begins p) fs ≡ []
-  inside_by p q i k fs b f h e = none_later p k fs h (λ j l. not_true (begins p j) (λ c. apart (sym e ∙ between p q k j b (not_lower q k i f) (not_after k j l) c)))
+  inside_by p q i k fs b f h e = none_later p k fs h (λ j l. false_from_ne_true (begins p j) (λ c. apart (sym e ∙ between p q k j b (not_lower q k i f) (not_after k j l) c)))
     where
       apart : false ≡ true → ⊥
       apart h = cc

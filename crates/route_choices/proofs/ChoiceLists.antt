@@ -1,11 +1,13 @@
 -- The choices of one block after one is put in or taken out.
 use Rattle.std.proofs.Common.{◌≡◌, ◌≢◌, suc, ◌<◌, ◌≤◌, ◌^◌, ◌⊎◌, inl, inr, ⊎_elim, Bool, true, false, not, ◌||◌, ◌==◌, List, [], ◌∷◌, Some, filter, length, Contains, ◌↔◌, refl, sym, ap, ◌∙◌, subst, arith}
 use Rattle.std.proofs.lemmas.Bool.Decides.{nat_tests}
+use Rattle.std.proofs.lemmas.Bool.{or_right}
+use Rattle.ipnet_addr.proofs.Basics.{filtered_length}
 use Rattle.ipnet_addr.proofs.Members.{In, In-left, In-right, In-cases}
 use Rattle.ipnet_addr.proofs.Ascending.{In-from_Contains, Contains-from_In, In-from_All, All-from_In, Rising, Rising-from_pairs, pairs_from_Rising, same_rising}
 use Rattle.route_choices.specs.Hops.{IsHop}
 use Rattle.route_choices.specs.declared.hop.Hop.{Hop}
-use Rattle.route_choices.proofs.Kept.{In-from_filter, In-filter, Rising-kept, Rising-joined, length-mid, length-kept, length-some_gone, length-apart, all_kept}
+use Rattle.route_choices.proofs.Kept.{In-from_filter, In-filter, Rising-kept, Rising-joined, length-mid, length-some_gone, length-apart, all_kept}
 use Rattle.route_choices.specs.Choices.{Choice, AreChoices, IsBest, same_hop, beats, best, holds_hop, is_one_too_many, most_choices, choices_with, choices_without}
 use Rattle.route_choices.proofs.Preferences.{hop_from_test, test_from_hop, apart_from_test, test_from_apart, strict, total, transitive}
 
@@ -95,10 +97,6 @@ pub in_any : (h : Hop) (cs : List Choice) (d : Choice) → In d cs → d.hop ≡
 in_any h [] d i e = absurd i
 in_any h (x ∷ cs) d (inl p) e = ap (λ b. b || holds_hop cs h) (test_from_hop x.hop h (ap Choice.hop (sym p) ∙ e))
 in_any h (x ∷ cs) d (inr i) e = or_right (same_hop x.hop h) (holds_hop cs h) (in_any h cs d i e)
-  where
-    or_right : (x y : Bool) → y ≡ true → (x || y) ≡ true
-    or_right true y e = refl
-    or_right false y e = e
 
 pub any_or_none : (h : Hop) (cs : List Choice) → ((d : Choice) × In d cs × (d.hop ≡ h)) ⊎ ((d : Choice) → In d cs → d.hop ≢ h)
 any_or_none h cs = go (holds_hop cs h) refl
@@ -116,7 +114,7 @@ module _ (cs : List Choice) (ok : AreChoices cs) where
 
   pub without_are : (h : Hop) → AreChoices (choices_without cs h)
   without_are h = record {
-    few = (let l = length-kept (λ d. not (same_hop d.hop h)) cs in let m = ok.few in omega arith);
+    few = (let l = filtered_length (λ d. not (same_hop d.hop h)) cs in let m = ok.few in omega arith);
     hops = All-from_In (λ d. IsHop d.hop) (choices_without cs h) (λ d i. In-from_All (λ d. IsHop d.hop) cs ok.hops d (left_back cs h d i).0);
     prefs = All-from_In (λ d. d.pref < 2 ^ 16) (choices_without cs h) (λ d i. In-from_All (λ d. d.pref < 2 ^ 16) cs ok.prefs d (left_back cs h d i).0);
     best_first = pairs_from_Rising Beats (choices_without cs h) (Rising-kept Beats (λ d. not (same_hop d.hop h)) cs rising);

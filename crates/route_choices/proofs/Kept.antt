@@ -1,5 +1,6 @@
 -- Filters of lists in order: what they keep, and how long they are.
 use Rattle.std.proofs.Common.{◌≡◌, suc, ◌+◌, ◌≤◌, ◌⊎◌, inl, inr, ⊎_elim, Bool, true, false, cond, List, [], ◌∷◌, ◌++◌, filter, length, map, refl, sym, ap, ◌∙◌, arith}
+use Rattle.ipnet_addr.proofs.Basics.{filtered_length}
 use Rattle.ipnet_addr.proofs.Members.{In, In-cases}
 use Rattle.ipnet_addr.proofs.Ascending.{Rising}
 
@@ -50,15 +51,11 @@ module _ {A : Type 0} (p : A → Bool) where
   no_longer true x xs = omega arith
   no_longer false x xs = omega arith
 
-  pub length-kept : (xs : List A) → length (filter p xs) ≤ length xs
-  length-kept [] = omega arith
-  length-kept (x ∷ xs) = let f = no_longer (p x) x (filter p xs) in let g = length-kept xs in omega arith
-
   pub length-some_gone : (xs : List A) (a : A) → In a xs → p a ≡ false → suc (length (filter p xs)) ≤ length xs
   length-some_gone [] a i e = absurd i
   length-some_gone (x ∷ xs) a (inl q) e =
       let f : length (filter p (x ∷ xs)) ≡ length (filter p xs) = ap (λ b. length (cond b (x ∷ filter p xs) (filter p xs))) (sym (ap p q) ∙ e) in
-      let g = length-kept xs in omega arith
+      let g = filtered_length p xs in omega arith
   length-some_gone (x ∷ xs) a (inr i) e = let f = no_longer (p x) x (filter p xs) in let g = length-some_gone xs a i e in omega arith
 
   pub all_kept : (xs : List A) → ((a : A) → In a xs → p a ≡ true) → filter p xs ≡ xs

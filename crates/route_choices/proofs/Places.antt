@@ -2,12 +2,13 @@
 use Rattle.std.proofs.Common.{◌≡◌, ◌≢◌, ℕ, suc, ◌^◌, ◌+◌, ◌<◌, ◌≤◌, ◌==◌, inl, inr, ⊎_elim, ◌-◌, Bool, true, false, not, ◌||◌, cond, List, [], ◌∷◌, ◌++◌, Option, Some, None, is_some, filter, length, take, drop, get_or, refl, sym, ap, ◌∙◌, subst, arith}
 use Rattle.std.proofs.lemmas.Bool.Decides.{nat_tests}
 use Rattle.std.specs.List.{position_or_len, insert, remove}
+use Rattle.ipnet_addr.proofs.Basics.{filtered_length}
 use Rattle.ipnet_addr.proofs.Members.{In}
 use Rattle.ipnet_addr.proofs.Ascending.{Rising, Rising-from_pairs}
 use Rattle.route_choices.specs.declared.hop.Hop.{Hop}
 use Rattle.route_choices.specs.Hops.{IsHop}
 use Rattle.route_choices.specs.Choices.{Choice, AreChoices, same_hop, beats, choices_with, choices_without, holds_hop, is_one_too_many}
-use Rattle.route_choices.proofs.Kept.{Rising-kept, all_kept, length-kept, none_kept}
+use Rattle.route_choices.proofs.Kept.{Rising-kept, all_kept, none_kept}
 use Rattle.route_choices.proofs.Preferences.{hop_from_test, test_from_apart, strict, total, transitive}
 use Rattle.route_choices.proofs.ChoiceLists.{Beats, Apart, left_back, none_of, with_are, without_none}
 use Rattle.route_choices.proofs.Slots as slots
@@ -129,7 +130,7 @@ module _ (n : ℕ) (xs : List (Option Choice)) (full : xs ≡ padded n (filled x
       without_here = ap (λ ys. take k ys ++ drop (k + 1) ys ++ None ∷ []) full ∙ slots.taken_out n k (filled xs) l fit ∙ ap (padded n) (taken_at (filled xs) are h k here l)
 
       pub left_here : filled (take k xs ++ drop (k + 1) xs ++ None ∷ []) ≡ choices_without (filled xs) h
-      left_here = ap filled without_here ∙ slots.filled_padded n (choices_without (filled xs) h) (let f = length-kept (λ d. not (same_hop d.hop h)) (filled xs) in let g = fit in omega arith)
+      left_here = ap filled without_here ∙ slots.filled_padded n (choices_without (filled xs) h) (let f = filtered_length (λ d. not (same_hop d.hop h)) (filled xs) in let g = fit in omega arith)
 
     module _ (l : length (filled xs) ≤ k) where
       pub not_held_here : holds_hop (filled xs) h ≡ false

@@ -1,10 +1,10 @@
 -- The lines that add routes, written one after another.
 use Rattle.std.proofs.Common.{◌≡◌, ℕ, ◌+◌, ◌<◌, List, ◌∷◌, ◌++◌, length, drop, slice_index_or, sym, ap, ◌∙◌, subst, append-nil, codes}
 use Rattle.std.proofs.lemmas.List.{at_drop_more}
+use Rattle.route_table.proofs.Looks.{network_is}
 use Rattle.ipnet.specs.IpNets.{block, family, network_at, parts}
 use Rattle.ipnet.specs.IpNetText.{net_text}
 use Rattle.ipnet.specs.declared.ip_net.IpNet.{IpNet}
-use Rattle.ipnet.specs.declared.ip_net.IpNet.TheVariants.{V4, V6}
 use Rattle.ipnet_blocks.specs.Networks.{IsTruncated}
 use Rattle.route_lines.specs.Texts.{hop_text}
 use Rattle.route_lines.specs.declared.command.Command.TheVariants.{Add}
@@ -18,11 +18,6 @@ use Rattle.route_feed.specs.InnerLines.{AreTruncated, command_line}
 pub line_is : (net : IpNet) (hop : Hop) → codes "add " ++ net_text net ++ codes " " ++ hop_text hop ++ codes "\n" ≡ command_line (Add net hop default_preference)
 line_is net hop = ap (λ t. t ++ codes "\n") (sym (append-nil (codes "add " ++ net_text net ++ codes " " ++ hop_text hop)))
 
--- a network without host bits is that of its block
-pub truncated_is : (n : IpNet) → IsTruncated (family n) (parts n) → n ≡ network_at (block n)
-truncated_is (V4 n) h = ap V4 h
-truncated_is (V6 n) h = ap V6 h
-
 -- a member of networks without host bits
 pub cut_at : (routes : List (IpNet × Hop)) (i : ℕ) (r : IpNet × Hop) → AreTruncated routes → i < length routes → r ≡ slice_index_or routes i r → IsTruncated (family r.0) (parts r.0)
 cut_at routes i r all h is = subst (λ (s : IpNet × Hop). IsTruncated (family s.0) (parts s.0)) (sym is) (all i r h)
@@ -35,4 +30,4 @@ pub next_add : (routes : List (IpNet × Hop)) (i : ℕ) (r : IpNet × Hop) → A
     → add_bytes (drop i routes) ≡ command_line (Add r.0 r.1 default_preference) ++ add_bytes (drop (i + 1) routes)
 next_add routes i r all h is =
     at_drop_more add_bytes routes i r h ∙ ap (λ x. add_bytes (x ∷ drop (i + 1) routes)) (sym is)
-    ∙ ap (λ t. t ++ add_bytes (drop (i + 1) routes)) (line_is (network_at (block r.0)) r.1 ∙ ap (λ n. command_line (Add n r.1 default_preference)) (sym (truncated_is r.0 (cut_at routes i r all h is))))
+    ∙ ap (λ t. t ++ add_bytes (drop (i + 1) routes)) (line_is (network_at (block r.0)) r.1 ∙ ap (λ n. command_line (Add n r.1 default_preference)) (sym (network_is r.0 (cut_at routes i r all h is))))

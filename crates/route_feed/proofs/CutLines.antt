@@ -1,6 +1,7 @@
 -- Where a beginning of the lines of an installer ends.
 use Rattle.std.proofs.Common.{◌≡◌, ◌⊎◌, suc, ◌+◌, Bool, true, false, not, cond, List, [], ◌∷◌, ◌++◌, map, filter, length, inl, inr, ⊎_elim, refl, sym, ap, ◌∙◌, arith, append_assoc, append-nil}
 use Rattle.std.proofs.lemmas.List.{length-append}
+use Rattle.std.proofs.lemmas.List.Elements.{filter-append}
 use Rattle.ipnet_addr.proofs.Members.{In, In-cases}
 use Rattle.route_lines.specs.declared.update.Update.{Update}
 use Rattle.route_lines.specs.declared.update.Update.TheVariants as U
@@ -9,12 +10,11 @@ use Rattle.route_laws.specs.Runs.{Event, Have, Told, Sync, Installer, MayAllCome
 use Rattle.route_laws.specs.Tables.{Route, with_route}
 use Rattle.route_feed.specs.Installing.{Installing, Noted, after_note, after_notes, batches, event_lines, event_of, events, operation_line, update_lines}
 use Rattle.route_feed.specs.InstallLaws.{is_operation, oks}
-use Rattle.route_feed.proofs.GivenLines.{kept-append}
 use Rattle.route_feed.proofs.KeptTable.{one_event}
 use Rattle.route_feed.proofs.NotesInTurn.{kept_stays, lines-append}
 
 pub oks-append : (us vs : List Update) → oks (us ++ vs) ≡ oks us + oks vs
-oks-append us vs = ap length (kept-append (λ (u : Update). not (is_operation u)) us vs) ∙ length-append (filter (λ (u : Update). not (is_operation u)) us) (filter (λ (u : Update). not (is_operation u)) vs)
+oks-append us vs = ap length (filter-append (λ (u : Update). not (is_operation u)) us vs) ∙ length-append (filter (λ (u : Update). not (is_operation u)) us) (filter (λ (u : Update). not (is_operation u)) vs)
 
 no_oks : (os : List Operation) → oks (map operation_line os) ≡ 0
 no_oks [] = refl

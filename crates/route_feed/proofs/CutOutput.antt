@@ -2,7 +2,8 @@
 use Rattle.std.proofs.Common.{◌≡◌, ◌⊎◌, ℕ, suc, ◌+◌, Bool, true, false, cond, List, [], ◌∷◌, ◌++◌, map, filter, length, take, Option, Some, None, inl, inr, ⊎_elim, refl, sym, ap, ◌∙◌, subst, arith}
 use Rattle.std.specs.Prelude.{is_some}
 use Rattle.std.specs.List.{cons_option, filter_map}
-use Rattle.std.proofs.lemmas.List.Elements.{filter_map-append}
+use Rattle.std.proofs.lemmas.List.Elements.{filter_map-append, filter-append}
+use Rattle.route_laws.proofs.Batches.{after-append}
 use Rattle.ipnet_addr.specs.Addresses.{Address, IsAddress}
 use Rattle.ipnet_addr.proofs.Members.{In, In-cases}
 use Rattle.ipnet_addr.proofs.Ascending.{In-from_Contains}
@@ -14,21 +15,17 @@ use Rattle.route_lines.specs.declared.update.Update.TheVariants as U
 use Rattle.route_laws.specs.Networks.{routes_of}
 use Rattle.route_laws.specs.Operations.{Operation, after, after_all}
 use Rattle.route_laws.specs.Runs.{Event, Installer, MayAllCome, after_events, given, haves, start}
-use Rattle.route_laws.specs.Tables.{Route, hop_at}
+use Rattle.route_laws.specs.Tables.{hop_at}
 use Rattle.route_feed.specs.Installing.{Installing, Noted, after_notes, begin, event_of, events, operation_line, update_lines}
 use Rattle.route_feed.specs.InstallLaws.{AreFirst, CutsAgree, carried_out, installed_by, is_operation, oks, operations_at, replies_of, reply_in, table_at, updates_in}
 use Rattle.route_feed.specs.Streams.{closes, closings}
 use Rattle.route_feed.proofs.Beginnings.{first_lines}
 use Rattle.route_feed.proofs.CutLines.{Cut, batches_are_oks, haves-append, no_haves, ok_keeps, oks-append, where_cut}
-use Rattle.route_feed.proofs.GivenLines.{carried_hops, first_of_map, kept-append, lines_operations, only_operations}
+use Rattle.route_feed.proofs.GivenLines.{carried_hops, first_of_map, lines_operations, only_operations}
 use Rattle.route_feed.proofs.KeptTable.{first_too, kept_agrees, kept_at_all_times}
 use Rattle.route_feed.proofs.LogNotes.{logs_are_first}
 use Rattle.route_feed.proofs.NotesInTurn.{events-append, may_split, replies_of-append}
 use Rattle.route_feed.proofs.SpelledLines.{output_reads_back}
-
-after_all-append : (M : List Route) (os ps : List Operation) → after_all M (os ++ ps) ≡ after_all (after_all M os) ps
-after_all-append M [] ps = refl
-after_all-append M (o ∷ os) ps = after_all-append (after M o) os ps
 
 map_both : {A B : Type 0} (f : A → B) (xs ys : List A) → map f xs ++ map f ys ≡ map f (xs ++ ys)
 map_both f [] ys = refl
@@ -100,12 +97,12 @@ module _ (bytes : List ℕ) (refusals : List Bool) where
         ap (λ M. hop_at (carried_out M us) x) haves_are
         ∙ ap (λ M. hop_at M x) (only_operations H us)
         ∙ ap (λ l. hop_at (carried_out H (filter is_operation l)) x) c.lines
-        ∙ ap (λ l. hop_at (carried_out H l) x) (kept-append is_operation (update_lines start first_events) c.begun)
+        ∙ ap (λ l. hop_at (carried_out H l) x) (filter-append is_operation (update_lines start first_events) c.begun)
         ∙ ap (λ l. hop_at (carried_out H (l ++ filter is_operation c.begun)) x) (lines_operations start first_events)
         ∙ ap (λ l. hop_at (carried_out H (map operation_line G ++ l)) x) e
         ∙ ap (λ l. hop_at (carried_out H l) x) (map_both operation_line G os)
         ∙ carried_hops H (G ++ os) x
-        ∙ ap (λ M. hop_at M x) (after_all-append H G os)
+        ∙ ap (λ M. hop_at M x) (after-append H G os)
 
     first_before : AreFirst bytes refusals (replies_of c.before)
     first_before = first_too bytes refusals c.before c.later (subst (λ l. AreFirst bytes refusals (replies_of l)) c.is first)
@@ -115,7 +112,7 @@ module _ (bytes : List ℕ) (refusals : List Bool) where
         (λ none. inl (made [] (ap (filter is_operation) none) x ∙ kept_agrees bytes refusals c.before first_before may_both.0 kept x a))
         (λ p. let (n, more, tail, later_is, begins) = p in
         let ops = operations_at c.before n in
-        let part = sym (kept-append is_operation c.begun tail) ∙ ap (filter is_operation) (sym begins) ∙ lines_operations at.tables (event_of at n.note n.least) in
+        let part = sym (filter-append is_operation c.begun tail) ∙ ap (filter is_operation) (sym begins) ∙ lines_operations at.tables (event_of at n.note n.least) in
         let i = length (filter is_operation c.begun) in
         let is = c.is ∙ ap (λ l. c.before ++ l) later_is in
         let done = made (take i ops) (first_of_map operation_line ops (filter is_operation c.begun) (filter is_operation tail) part) x in

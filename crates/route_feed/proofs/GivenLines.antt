@@ -1,6 +1,7 @@
 -- The lines of an installer are its operations, and what they make is what the operations make.
 use Rattle.std.proofs.Common.{◌≡◌, Bool, true, false, not, cond, nat_lt, List, [], ◌∷◌, ◌++◌, map, filter, take, length, Option, Some, None, refl, sym, ap, ◌∙◌, append-nil}
 use Rattle.std.specs.Option.{option_map}
+use Rattle.std.proofs.lemmas.List.Elements.{filter-append}
 use Rattle.ipnet_addr.specs.Addresses.{Address}
 use Rattle.ipnet_blocks.specs.Blocks.{Block, host, is_before, is_inside, same_block}
 use Rattle.ipnet.specs.IpNets.{block}
@@ -18,21 +19,13 @@ use Rattle.route_feed.specs.InstallLaws.{OutputIsGiven, carried_out, is_operatio
 
 -- ---- the lines of operations
 
-pub kept-append : {A : Type 0} (p : A → Bool) (xs ys : List A) → filter p (xs ++ ys) ≡ filter p xs ++ filter p ys
-kept-append p [] ys = refl
-kept-append p (x ∷ xs) ys = go (p x) (kept-append p xs ys)
-  where
-    go : (b : Bool) → filter p (xs ++ ys) ≡ filter p xs ++ filter p ys → cond b (x ∷ filter p (xs ++ ys)) (filter p (xs ++ ys)) ≡ cond b (x ∷ filter p xs) (filter p xs) ++ filter p ys
-    go true h = ap (λ zs. x ∷ zs) h
-    go false h = h
-
 all_operations : (os : List Operation) → filter is_operation (map operation_line os) ≡ map operation_line os
 all_operations [] = refl
 all_operations (Install r ∷ os) = ap (λ us. operation_line (Install r) ∷ us) (all_operations os)
 all_operations (Remove b ∷ os) = ap (λ us. operation_line (Remove b) ∷ us) (all_operations os)
 
 batch_operations : (os : List Operation) → filter is_operation (map operation_line os ++ U.Done ∷ []) ≡ map operation_line os
-batch_operations os = kept-append is_operation (map operation_line os) (U.Done ∷ []) ∙ append-nil (filter is_operation (map operation_line os)) ∙ all_operations os
+batch_operations os = filter-append is_operation (map operation_line os) (U.Done ∷ []) ∙ append-nil (filter is_operation (map operation_line os)) ∙ all_operations os
 
 -- where the table is not kept nothing is given
 event_operations : (s : Installer) (e : Event) → filter is_operation (event_lines s e) ≡ map operation_line (gives s e)
@@ -51,7 +44,7 @@ event_operations s (Sync rs N) = batch_operations (between s.installed N)
 pub lines_operations : (s : Installer) (es : List Event) → filter is_operation (update_lines s es) ≡ map operation_line (given s es)
 lines_operations s [] = refl
 lines_operations s (e ∷ es) =
-    kept-append is_operation (event_lines s e) (update_lines (after_event s e) es)
+    filter-append is_operation (event_lines s e) (update_lines (after_event s e) es)
     ∙ ap (λ us. us ++ filter is_operation (update_lines (after_event s e) es)) (event_operations s e)
     ∙ ap (λ us. map operation_line (gives s e) ++ us) (lines_operations (after_event s e) es)
     ∙ sym (map_append operation_line (gives s e) (given (after_event s e) es))
@@ -150,7 +143,7 @@ first_of_map f (x ∷ xs) (y ∷ ys) zs e =
 pub first_carried : (M : List Route) (es : List Event) (us later : List Update) → update_lines start es ≡ us ++ later → (x : Address)
     → hop_at (carried_out M us) x ≡ hop_at (after_all M (take (length (filter is_operation us)) (given start es))) x
 first_carried M es us later e x =
-    let whole = sym (kept-append is_operation us later) ∙ ap (filter is_operation) (sym e) ∙ lines_operations start es in
+    let whole = sym (filter-append is_operation us later) ∙ ap (filter is_operation) (sym e) ∙ lines_operations start es in
     ap (λ T. hop_at T x) (only_operations M us)
     ∙ ap (λ vs. hop_at (carried_out M vs) x) (first_of_map operation_line (given start es) (filter is_operation us) (filter is_operation later) whole)
     ∙ carried_hops M (take (length (filter is_operation us)) (given start es)) x

@@ -4,6 +4,7 @@ use Rattle.std.specs.Prelude.{IsSome, not, get_or}
 use Rattle.std.proofs.lemmas.List.Elements.{All-nil, All-cons, All-head, All-tail, recursion_from_All}
 use Rattle.std.proofs.lemmas.List.{length-append, length-map}
 use Rattle.std.specs.Option.{option_map_or}
+use Rattle.ipnet_addr.proofs.Basics.{filtered_length}
 use Rattle.ipnet_addr.specs.Addresses.{Ipv4, Ipv6, same_family}
 use Rattle.ipnet_blocks.specs.Blocks.{Block, first_of, is_before, same_block}
 use Rattle.ipnet_blocks.proofs.BlockLaws.{strict}
@@ -18,7 +19,7 @@ use Rattle.route_lines.specs.declared.reply.Closing.TheVariants.{Missing}
 use Rattle.route_lines.specs.declared.reply.Reply.{Reply}
 use Rattle.route_lines.specs.declared.reply.Reply.TheVariants.{Close}
 use Rattle.route_choices.specs.Choices.{Choice, choices_with, choices_without, holds_hop}
-use Rattle.route_choices.proofs.Kept.{length-apart, length-kept}
+use Rattle.route_choices.proofs.Kept.{length-apart}
 use Rattle.route_laws.specs.Networks.{Stored, IsStoredTable, best_route, choices_at, routes_of, with_choices, with_stored}
 use Rattle.route_laws.specs.Tables.{Route, hop_at, match_of}
 use Rattle.route_feed.specs.Follows.{AreReplies}
@@ -68,7 +69,7 @@ stored_length M s =
     omega (arith, apart, length-append (filter below M) (s ∷ filter above M))
 
 changed_length : (M : List Stored) (b : Block) (cs : List Choice) → length (with_choices M b cs) ≤ length M + 1
-changed_length M b [] = let h = length-kept (λ (s : Stored). not (same_block s.block b)) M in omega (arith, h)
+changed_length M b [] = let h = filtered_length (λ (s : Stored). not (same_block s.block b)) M in omega (arith, h)
 changed_length M b (c ∷ cs) = stored_length M (record { block = b; choices = c ∷ cs })
 
 closed_or : (b : Bool) (M : List Stored) (t u : turn.Turn) → length t.next ≤ length M + 1 → length u.next ≤ length M + 1 → length (cond b t u).next ≤ length M + 1
@@ -143,8 +144,8 @@ module _ (M : List Stored) (few : length M < 2 ^ 64) where
   answer_small (Some (C.Own number)) = AreSmall-map own_line (λ b. tt) _
   answer_small (Some C.Count) =
       let all = length-map M best_route in
-      let v4 = length-kept (λ (r : Route). same_family r.block.family Ipv4) (routes_of M) in
-      let v6 = length-kept (λ (r : Route). same_family r.block.family Ipv6) (routes_of M) in
+      let v4 = filtered_length (λ (r : Route). same_family r.block.family Ipv4) (routes_of M) in
+      let v6 = filtered_length (λ (r : Route). same_family r.block.family Ipv6) (routes_of M) in
       ((omega (arith, all, v4, few), omega (arith, all, v6, few)), tt)
   answer_small (Some C.Flat) = AreSmall-map turn.flat_line (λ p. tt) _
   answer_small None = tt

@@ -20,8 +20,7 @@ use Rattle.route_lines.specs.declared.cutter.Line.{Line}
 use Rattle.route_feed.specs.Counted.{CanCount}
 use Rattle.route_lines.specs.declared.note.Note.{Note}
 use Rattle.route_lines.specs.declared.note.Note.TheVariants as N
-use Rattle.route_lines.specs.declared.reply.Closing.{Closing}
-use Rattle.route_lines.specs.declared.reply.Closing.TheVariants.{Bad, Done, Missing, Refused}
+use Rattle.route_lines.specs.declared.reply.Closing.TheVariants.{Done}
 use Rattle.route_lines.specs.declared.reply.Reply.{Reply}
 use Rattle.route_lines.specs.declared.reply.Reply.TheVariants.{Close}
 use Rattle.route_feed.specs.declared.counted.Counted.{Counted}
@@ -52,10 +51,6 @@ kept_at M cs = record { tables = record { table = M; installed = M; kept = true 
 -- what is installed, and is not kept
 abbrev pub unkept_at : List Route → List Route → List Change → Installing
 unkept_at M I cs = record { tables = record { table = M; installed = I; kept = false }; pending = cs }
-
-pub none_before : (table : List Stored) (before : Option (List Stored)) → (tables_of table before).kept ≡ true → before ≡ None
-none_before table None k = refl
-none_before table (Some before) k = absurd (cc)
 
 -- a least table of the hops after changes, where those before them are told by another table
 pub least_too_after : (M L T : List Route) (rs : List Route) (K : List Route) → IsLeast (hop_at M) L → T ≡ painted_all L rs → IsLeast (hop_at T) K → IsTable M → AreChanges rs → IsLeast (hop_at (painted_all M rs)) K
@@ -140,11 +135,6 @@ module _ {W : Type 0} (contents : W → Option (List ℕ)) where
           subst (λ s. TakesNote contents s (N.Reply (Close Done)) old (Ok tt) b old) (sym (here (c ∷ cs) e))
           ([], Takes-of (unkept_at a.tables.table a.tables.installed (c ∷ cs)) b (N.Reply (Close Done)) [] old old (Told (map route_to (c ∷ cs)) ∷ []) refl (tt, tt) (after (c ∷ cs) e) (Closed-nil contents old))
 
-  -- `ok` where nothing waits
-  pub taken_nothing : (a : Installing) (old : Counted W) → a.pending ≡ [] → TakesNote contents a (N.Reply (Close Done)) old (Ok tt) a old
-  taken_nothing a old e =
-      ([], Takes-of a a (N.Reply (Close Done)) [] old old [] (ap (λ l. committing a.tables.kept l []) e) tt (λ i. record { tables = a.tables; pending = e i }) (Closed-nil contents old))
-
   -- a few changes, one after another
   pub taken_each : (M T : List Route) (cs : List Change) (rs : List Route) (old new : Counted W) (r : Result Unit RunError) (b : Installing) → map route_to cs ≡ rs → 0 < length cs → length cs ≤ 256
       → GivesChanges contents M rs old r T new → OnOk r (b ≡ kept_at T []) → TakesNote contents (kept_at M cs) (N.Reply (Close Done)) old r b new
@@ -221,13 +211,6 @@ kept_is table (Some before) cs k = absurd (cc)
 
 pub after_each : (table : List Stored) (before : Option (List Stored)) (vs : List Waiting) → not (is_some before) ≡ true → vs ≡ [] → record { tables = tables_of table before; pending = changes_of vs } ≡ kept_at (routes_of table) []
 after_each table before vs k e = ap (λ l. record { tables = tables_of table before; pending = changes_of l }) e ∙ kept_is table before [] k
-
--- a closing line that is not `ok`
-pub not_done : (closing : Closing) → (closing ≡ Done → ⊥) → is_done closing ≡ false
-not_done Done h = absurd (h refl)
-not_done Missing h = refl
-not_done Bad h = refl
-not_done Refused h = refl
 
 module _ {W : Type 0} (contents : W → Option (List ℕ)) where
   -- the parts of an installer whose table is kept

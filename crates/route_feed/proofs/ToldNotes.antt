@@ -1,15 +1,15 @@
 -- The hops that notes tell are those that their reply lines commit.
-use Rattle.std.proofs.Common.{◌≡◌, ℕ, Bool, true, false, nat_lt, length, cond, List, [], ◌∷◌, ◌++◌, map, Option, Some, None, refl, sym, ap, ◌∙◌, append_assoc}
+use Rattle.std.proofs.Common.{◌≡◌, ℕ, Bool, true, false, nat_lt, length, cond, List, [], ◌∷◌, ◌++◌, map, Option, None, refl, sym, ap, ◌∙◌, append_assoc}
 use Rattle.std.specs.Prelude.{◌&&◌}
 use Rattle.std.specs.List.{cons_option}
 use Rattle.std.specs.Option.{option_to_list}
+use Rattle.route_laws.proofs.Fewest.{number_from_hop}
 use Rattle.ipnet_addr.specs.Addresses.{Address}
 use Rattle.ipnet_blocks.specs.Blocks.{has_address}
 use Rattle.route_lines.specs.declared.note.Note.{Note}
 use Rattle.route_lines.specs.declared.note.Note.TheVariants as N
 use Rattle.route_lines.specs.declared.reply.Reply.{Reply}
 use Rattle.route_lines.specs.declared.reply.Reply.TheVariants as R
-use Rattle.route_choices.specs.Hops.{hop_from, number_of}
 use Rattle.route_laws.specs.Batches.{hop_over}
 use Rattle.route_laws.specs.Runs.{Event, told}
 use Rattle.route_laws.specs.Tables.{Route}
@@ -34,15 +34,11 @@ closed_more : (d : Bool) (cs : List Change) → cond d cs cs ≡ cond d [] [] ++
 closed_more true cs = refl
 closed_more false cs = refl
 
-number_back : (o : Option ℕ) → number_of (hop_from o) ≡ o
-number_back None = refl
-number_back (Some k) = refl
-
 -- changes as routes give each address the same hop
 over_routes : (now : Option ℕ) (cs : List Change) (x : Address) → hop_over now (map route_to cs) x ≡ painted_over now cs x
 over_routes now [] x = refl
 over_routes now (c ∷ cs) x =
-    ap (λ (o : Option ℕ). hop_over (cond (has_address c.block x) o now) (map route_to cs) x) (number_back c.number)
+    ap (λ (o : Option ℕ). hop_over (cond (has_address c.block x) o now) (map route_to cs) x) (number_from_hop c.number)
     ∙ over_routes (cond (has_address c.block x) c.number now) cs x
 
 module _ (x : Address) where

@@ -2,20 +2,17 @@
 use Rattle.std.proofs.Common.{◌≡◌, ◌==◌, ne_eqb, ℕ, suc, ◌<◌, ◌+◌, Bool, true, false, ◌&&◌, ◌||◌, codes, List, [], ◌∷◌, ◌++◌, length, Option, Result, Ok, Err, refl, sym, ap, ◌∙◌, subst, append_assoc, append-nil, arith}
 use Rattle.std.specs.Io.KnownBytes.{Appends}
 use Rattle.std.proofs.KnownBytes.{Appends-nil, Appends-trans}
+use Rattle.std.proofs.lemmas.Bool.{or_right, and_right}
 use Rattle.route_feed.specs.declared.error.RunError.{RunError}
 use Rattle.route_feed.specs.declared.counted.Counted.{Counted}
 use Rattle.route_feed.specs.Counted.{one_more, more_by, more_if, Flushed}
 use Rattle.route_feed.specs.InnerReplies.{Written, Delivers, has_bytes}
 use Rattle.route_feed.specs.Devices.{Closed, Torn, Closes}
 
-or_true : (b : Bool) → (b || true) ≡ true
-or_true true = refl
-or_true false = refl
-
 -- a text of two has bytes where one of them has
 one_has : (s t : List ℕ) (waits : Bool) → (has_bytes t || (has_bytes s || waits)) ≡ (has_bytes (s ++ t) || waits)
 one_has [] t waits = refl
-one_has (b ∷ s) t waits = or_true (has_bytes t)
+one_has (b ∷ s) t waits = or_right (has_bytes t) true refl
 
 pub has_some : (text : List ℕ) → 0 < length text → has_bytes text ≡ true
 has_some [] h = absurd (omega arith)
@@ -31,11 +28,7 @@ abbrev pub waits_after : ℕ → Bool → Bool
 waits_after times waits = (times == 0) && waits
 
 pub waits_none : (times : ℕ) → waits_after times false ≡ false
-waits_none times = go (times == 0)
-  where
-    go : (b : Bool) → (b && false) ≡ false
-    go true = refl
-    go false = refl
+waits_none times = and_right (times == 0) false refl
 
 pub waits_more : (times : ℕ) (w : Bool) → waits_after (suc times) w ≡ false
 waits_more times w = ap (λ b. b && w) (ne_eqb (suc times) 0 (omega arith))

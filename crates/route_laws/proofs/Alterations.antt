@@ -5,8 +5,7 @@ use Rattle.ipnet_blocks.specs.Blocks.{Block, IsBlock, HasAddress, IsInside, IsLa
 use Rattle.ipnet_blocks.specs.Maximal.{IsMaximal}
 use Rattle.ipnet_addr.proofs.Members.{In}
 use Rattle.ipnet_addr.proofs.Ascending.{In-from_Contains, Contains-from_In, Rising-from_pairs, same_rising}
-use Rattle.std.proofs.lemmas.Bool.Decides.{nat_tests}
-use Rattle.ipnet_addr.proofs.Families.{rank_apart}
+use Rattle.ipnet_addr.proofs.Families.{family_from_test}
 use Rattle.ipnet_blocks.proofs.BlockLaws.{nested, numbers_from_inside, strict}
 use Rattle.ipnet_blocks.proofs.BlockTests.{test_from_same}
 use Rattle.ipnet_blocks.proofs.Parents.{larger_is_shorter, decide_inside}
@@ -179,9 +178,6 @@ restored M r m ok hop none =
 -- the routes of another family stay
 abbrev of : Family → Route → Bool
 of f s = same_family (Block.family (Route.block s)) f
-
-family_from_test : (f g : Family) → same_family f g ≡ true → f ≡ g
-family_from_test f g e = rank_apart f g (grind (arith, nat_tests, e))
 
 module _ (M : List Route) (f : Family) (m : IsTable M) where
   pub added_apart : (r : Route) → IsBlock r.block → IsHop r.hop → (r.block.family ≡ f → ⊥) → filter (of f) (with_route M r) ≡ filter (of f) M

@@ -1,5 +1,6 @@
 -- Operations one after the other, each of which turns addresses that the others leave.
 use Rattle.std.proofs.Common.{◌≡◌, ℕ, inl, inr, ⊎_elim, Bool, true, false, cond, List, [], ◌∷◌, ◌++◌, Option, refl, sym, ap, ◌∙◌, subst}
+use Rattle.std.proofs.lemmas.Bool.{false_from_ne_true}
 use Rattle.ipnet_addr.specs.Addresses.{Address, IsAddress}
 use Rattle.ipnet_addr.proofs.Members.{In}
 use Rattle.ipnet_addr.proofs.Ascending.{In-from_All, All-from_In, Contains-from_In, Rising, Rising-from_pairs, pairs_from_Rising}
@@ -16,7 +17,6 @@ use Rattle.route_laws.specs.Tables.{Route, IsTable, hop_at}
 use Rattle.route_laws.specs.Batches.{AreApart, AreChanges, batch, changes_to, hop_over, painted, painted_all}
 use Rattle.route_laws.specs.Operations.{Operation, IsHitless, after, after_all, between}
 use Rattle.route_laws.proofs.Between.{leads}
-use Rattle.route_laws.proofs.Insides.{not_held}
 use Rattle.route_laws.proofs.Painted.{painted_is_table, painted_hops}
 use Rattle.route_laws.proofs.Turning.{Once, Settled, hitless_from, leads_once, leads_settled, once_then_settled, reaches, settled_joined, settled_then_once}
 
@@ -70,7 +70,7 @@ module _ (x : Address) (a : IsAddress x) where
   none_turn M (r ∷ rs) m c none =
       let k = c r (inl refl) in
       let p = painted_is_table M m r k.0 k.1 in
-      let e = not_held (has_address r.block x) (λ f. none r (inl refl) (has_from_test r.block x f)) in
+      let e = false_from_ne_true (has_address r.block x) (λ f. none r (inl refl) (has_from_test r.block x f)) in
       settled_joined x M (between M (painted M r)) (batch (painted M r) rs) (hop_at M x) (left_alone M m r k e)
       (next M m r k (hop_at M x) (Settled x) (batch (painted M r) rs)
       (subst (Settled x (painted M r) (batch (painted M r) rs)) (painted_hops M m r k.0 k.1 x a ∙ ap (λ b. cond b (number_of r.hop) (hop_at M x)) e)

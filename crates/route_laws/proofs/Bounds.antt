@@ -4,6 +4,7 @@ use Rattle.std.specs.List.{flat_map}
 use Rattle.std.proofs.lemmas.List.Sums.{sum_by-cons}
 use Rattle.std.proofs.lemmas.Bool.Decides.{nat_tests}
 use Rattle.std.proofs.Math.Bool.{and-true}
+use Rattle.std.proofs.lemmas.Bool.{and_parts, and_from}
 use Rattle.ipnet_addr.specs.Addresses.{width, Address, IsAddress}
 use Rattle.ipnet_blocks.specs.Blocks.{Block, IsBlock, free_bits, HasAddress, IsInside, IsLarger, IsBefore, is_inside, has_address, first_of, parent}
 use Rattle.ipnet_blocks.specs.Maximal.{IsWithin, IsMaximalBlock, IsMaximal, IsUnion, maximal_of}
@@ -13,18 +14,11 @@ use Rattle.ipnet_blocks.proofs.BlockLaws.{block_path, nested, has_first, strict,
 use Rattle.ipnet_blocks.proofs.Parents.{larger_is_shorter, parent_is_block, inside_parent}
 use Rattle.ipnet_blocks.proofs.Maximals.{maximal_is_union, maximal_is_unique, maximal_is_shortest, maximal_is_top, decide_test}
 use Rattle.ipnet_blocks.proofs.Search.{search_is_maximal}
-use Rattle.ipnet_blocks.proofs.BlockTests.{has_from_test, test_from_has}
+use Rattle.ipnet_blocks.proofs.BlockTests.{has_from_test, test_from_has, decide_has}
 use Rattle.route_laws.specs.Tables.{Route, IsTable, Governed}
 use Rattle.route_laws.specs.Bounds.{excess}
 use Rattle.route_laws.proofs.Matches.{inside_from_test, test_from_inside, block_in}
 use Rattle.route_laws.proofs.Flats.{maximal_same}
-
-pub decide_has : (b : Block) (x : Address) → HasAddress b x ⊎ (HasAddress b x → ⊥)
-decide_has b x = go (has_address b x) refl
-  where
-    go : (t : Bool) → has_address b x ≡ t → HasAddress b x ⊎ (HasAddress b x → ⊥)
-    go true e = inl (has_from_test b x e)
-    go false e = inr (λ h. let t = test_from_has b x h in cc)
 
 -- the other half of the parent
 abbrev pub sibling : Block → Block
@@ -261,14 +255,6 @@ abbrev governs : Block → List Route → Address → Bool
 governs n [] x = has_address n x
 governs n (r ∷ M) x = governs n M x && not (is_strict n (Route.block r) && has_address (Route.block r) x)
 
-both : (a b : Bool) → (a && b) ≡ true → (a ≡ true) × (b ≡ true)
-both true b e = (refl, e)
-both false b e = absurd (cc)
-
-both_true : (a b : Bool) → a ≡ true → b ≡ true → (a && b) ≡ true
-both_true true b e f = f
-both_true false b e f = absurd (cc)
-
 off : (a b : Bool) → (b ≡ true → ⊥) → (a && b) ≡ false
 off a true h = absurd (h refl)
 off true false h = refl
@@ -279,7 +265,7 @@ less a b e = grind (arith, nat_tests, e)
 
 governs_inside : (n : Block) (M : List Route) (x : Address) → governs n M x ≡ true → HasAddress n x
 governs_inside n [] x e = has_from_test n x e
-governs_inside n (r ∷ M) x e = governs_inside n M x (both (governs n M x) (not (is_strict n (Route.block r) && has_address (Route.block r) x)) e).0
+governs_inside n (r ∷ M) x e = governs_inside n M x (and_parts (governs n M x) (not (is_strict n (Route.block r) && has_address (Route.block r) x)) e).0
 
 module _ (n : Block) (ok : IsBlock n) where
   long_enough : (M : List Route) (b : Block) → IsWithin (λ x. governs n M x ≡ true) b → n.len ≤ b.len
@@ -312,17 +298,17 @@ module _ (n : Block) (ok : IsBlock n) where
           let s = sums in
           omega arith
       go true e ih =
-          let parts = both (is_inside r.block n) (nat_lt n.len (Block.len r.block)) e in
+          let parts = and_parts (is_inside r.block n) (nat_lt n.len (Block.len r.block)) e in
           let shorter : n.len < Block.len r.block = less n.len (Block.len r.block) parts.1 in
           let v = valid r (inl refl) in
           let c = carve_more (governs n M) (governs n (r ∷ M)) r.block v n.len shorter (long_enough M)
           (λ x a g.
-          let t = both (governs n M x) (not (is_strict n r.block && has_address r.block x)) g in (
+          let t = and_parts (governs n M x) (not (is_strict n r.block && has_address r.block x)) g in (
             t.0,
-            λ h. let u = test_from_has r.block x h in let w : not (is_strict n r.block && has_address r.block x) ≡ false = ap not (both_true (is_strict n r.block) (has_address r.block x) e u) in
+            λ h. let u = test_from_has r.block x h in let w : not (is_strict n r.block && has_address r.block x) ≡ false = ap not (and_from (is_strict n r.block) (has_address r.block x) e u) in
                 absurd (let z : true ≡ false = sym t.1 ∙ w in cc),
           ))
-          (λ x a g out. both_true (governs n M x) (not (is_strict n r.block && has_address r.block x)) g
+          (λ x a g out. and_from (governs n M x) (not (is_strict n r.block && has_address r.block x)) g
           (ap not (off (is_strict n r.block) (has_address r.block x) (λ u. out (has_from_test r.block x u))))) in
           let here : excess n r.block ≡ Block.len r.block - n.len - 1 = ap (λ t. cond t (Block.len r.block - n.len - 1) 0) e in
           let s = sums in
@@ -338,17 +324,17 @@ module _ (n : Block) (ok : IsBlock n) where
 
   larger_from_test : (m : Block) → IsBlock m → is_strict n m ≡ true → IsLarger n m
   larger_from_test m p e =
-      let t = both (is_inside m n) (nat_lt n.len m.len) e in
+      let t = and_parts (is_inside m n) (nat_lt n.len m.len) e in
       (inside_from_test m n p ok t.0, λ i. let u = numbers_from_inside n m ok p i in let l = u.long in let k = less n.len m.len t.1 in omega arith)
 
   test_from_larger : (m : Block) → IsBlock m → IsLarger n m → is_strict n m ≡ true
-  test_from_larger m p l = both_true (is_inside m n) (nat_lt n.len m.len) (test_from_inside m n p ok l.0) (less_test n.len m.len (larger_is_shorter n m ok p l))
+  test_from_larger m p l = and_from (is_inside m n) (nat_lt n.len m.len) (test_from_inside m n p ok l.0) (less_test n.len m.len (larger_is_shorter n m ok p l))
 
   governs_from : (M : List Route) → ((r : Route) → In r M → IsBlock r.block) → (x : Address) → HasAddress n x →
       ((r : Route) → In r M → IsLarger n r.block → HasAddress r.block x → ⊥) → governs n M x ≡ true
   governs_from [] valid x h free = test_from_has n x h
   governs_from (r ∷ M) valid x h free =
-      both_true (governs n M x) (not (is_strict n r.block && has_address r.block x)) (governs_from M (λ q i. valid q (inr i)) x h (λ q i. free q (inr i)))
+      and_from (governs n M x) (not (is_strict n r.block && has_address r.block x)) (governs_from M (λ q i. valid q (inr i)) x h (λ q i. free q (inr i)))
       (ap not (not_both (is_strict n r.block) (has_address r.block x)
       (λ e f. free r (inl refl) (larger_from_test r.block (valid r (inl refl)) e) (has_from_test r.block x f))))
 
@@ -356,13 +342,13 @@ module _ (n : Block) (ok : IsBlock n) where
       (r : Route) → In r M → IsLarger n r.block → HasAddress r.block x → ⊥
   governs_free [] valid x e r i l h = i
   governs_free (q ∷ M) valid x e r i l h =
-      let t = both (governs n M x) (not (is_strict n q.block && has_address q.block x)) e in
+      let t = and_parts (governs n M x) (not (is_strict n q.block && has_address q.block x)) e in
       ⊎_elim
       (λ z.
       let lq : IsLarger n q.block = subst (λ (c : Route). IsLarger n c.block) z l in
       let hq : HasAddress q.block x = subst (λ (c : Route). HasAddress c.block x) z h in
       let w : not (is_strict n q.block && has_address q.block x) ≡ false =
-      ap not (both_true (is_strict n q.block) (has_address q.block x) (test_from_larger q.block (valid q (inl refl)) lq) (test_from_has q.block x hq)) in
+      ap not (and_from (is_strict n q.block) (has_address q.block x) (test_from_larger q.block (valid q (inl refl)) lq) (test_from_has q.block x hq)) in
       absurd (let v : true ≡ false = sym t.1 ∙ w in cc))
       (λ j. governs_free M (λ a k. valid a (inr k)) x t.0 r j l h)
       i

@@ -1,5 +1,7 @@
 -- The routes of a table inside one block, and tables inside two blocks apart.
 use Rattle.std.proofs.Common.{◌≡◌, ℕ, ◌+◌, ◌<◌, ◌≤◌, inl, inr, ⊎_elim, Bool, true, false, cond, nat_lt, List, [], ◌∷◌, ◌++◌, length, filter, ◌⊎◌, MatchOption, Option, Some, None, refl, sym, ap, ◌∙◌, subst, append-nil, lt-ltb}
+use Rattle.std.proofs.lemmas.Bool.{false_from_ne_true}
+use Rattle.std.proofs.lemmas.List.Elements.{filter-append}
 use Rattle.ipnet_addr.specs.Addresses.{Address, IsAddress}
 use Rattle.ipnet_addr.proofs.Members.{In, In-cases}
 use Rattle.ipnet_addr.proofs.Ascending.{In-from_All, All-from_In, Rising, Rising-from_pairs, pairs_from_Rising}
@@ -35,10 +37,6 @@ table_of M k up = record {
   ascending = pairs_from_Rising Sooner M up;
 }
 
-pub not_held : (b : Bool) → (b ≡ true → ⊥) → b ≡ false
-not_held true f = absurd (f refl)
-not_held false f = refl
-
 module _ (x : Address) (a : IsAddress x) where
   abbrev pub holds : Route → Bool
   holds r = is_inside (host x) r.block
@@ -50,15 +48,7 @@ module _ (x : Address) (a : IsAddress x) where
   test_from_has r p h = test_from_inside (host x) r.block (host_is_block x a) p (λ y m. subst (λ (z : Address). HasAddress r.block z) (sym (in_host x y m)) h)
 
   none_holds : (M : List Route) → IsTable M → ((r : Route) → In r M → HasAddress r.block x → ⊥) → covering M (host x) ≡ []
-  none_holds M t n = none_kept holds M (λ r i. not_held (holds r) (λ e. n r i (has_from_test r (sound M t r i).0 e)))
-
-filter-append : {A : Type 0} (p : A → Bool) (xs ys : List A) → filter p (xs ++ ys) ≡ filter p xs ++ filter p ys
-filter-append p [] ys = refl
-filter-append {A} p (x ∷ xs) ys = ap (λ zs. cond (p x) (x ∷ zs) zs) (filter-append p xs ys) ∙ go (p x)
-  where
-    go : (b : Bool) → cond b (x ∷ (filter p xs ++ filter p ys)) (filter p xs ++ filter p ys) ≡ cond b (x ∷ filter p xs) (filter p xs) ++ filter p ys
-    go true = refl
-    go false = refl
+  none_holds M t n = none_kept holds M (λ r i. false_from_ne_true (holds r) (λ e. n r i (has_from_test r (sound M t r i).0 e)))
 
 -- a second test that passes whatever the first does changes nothing
 pub filter_again : {A : Type 0} (p q : A → Bool) (xs : List A) → ((a : A) → In a xs → q a ≡ true → p a ≡ true) → filter q (filter p xs) ≡ filter q xs

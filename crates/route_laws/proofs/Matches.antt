@@ -8,14 +8,9 @@ use Rattle.ipnet_addr.proofs.Ascending.{In-from_Contains, Contains-from_In, In-f
 use Rattle.ipnet_blocks.proofs.BlockLaws.{block_path, nested, has_first, inside_by_numbers}
 use Rattle.ipnet_blocks.proofs.Parents.{decide_inside}
 use Rattle.ipnet_blocks.proofs.Maximals.{host_is_block, in_host, has_host}
-use Rattle.route_choices.proofs.Kept.{In-from_filter, In-filter}
+use Rattle.route_choices.proofs.Kept.{In-from_filter, In-filter, same_kept}
 use Rattle.route_laws.proofs.Ordered.{Earlier, one_of_block}
 use Rattle.route_laws.specs.Tables.{Route, IsTable, IsMatch, covering, longer, longest, match_of, Governed}
-
-pub filter_same : {A : Type 0} (p q : A → Bool) (xs : List A) → ((a : A) → In a xs → p a ≡ q a) → filter p xs ≡ filter q xs
-filter_same p q [] h = refl
-filter_same p q (a ∷ xs) h =
-    ap (λ b. cond b (a ∷ filter p xs) (filter p xs)) (h a (inl refl)) ∙ ap (λ ys. cond (q a) (a ∷ ys) ys) (filter_same p q xs (λ b i. h b (inr i)))
 
 pub bools_same : (a b : Bool) → (a ≡ true → b ≡ true) → (b ≡ true → a ≡ true) → a ≡ b
 bools_same true b f g = sym (f refl)
@@ -95,7 +90,7 @@ module _ (M : List Route) (table : IsTable M) where
 
     -- the match of an address that n governs is the match of n
     pub governed_match : (x : Address) → IsAddress x → Governed M n x → match_of M (host x) ≡ match_of M n
-    governed_match x a g = ap longest (filter_same (λ r. is_inside (host x) r.block) (λ r. is_inside n r.block) M (λ r i.
+    governed_match x a g = ap longest (same_kept (λ r. is_inside (host x) r.block) (λ r. is_inside n r.block) M (λ r i.
         bools_same (is_inside (host x) r.block) (is_inside n r.block)
         (λ e. test_from_inside n r.block ok (block_in r i) (up r i (inside_from_test (host x) r.block (host_is_block x a) (block_in r i) e x (has_host x))))
         (λ e. test_from_inside (host x) r.block (host_is_block x a) (block_in r i)

@@ -2,13 +2,14 @@
 use Rattle.std.proofs.Common.{◌≡◌, ℕ, zero, suc, ◌+◌, ◌<◌, ◌≤◌, inl, inr, ⊎_elim, Bool, true, false, not, ◌&&◌, List, [], ◌∷◌, ◌++◌, length, take, drop, refl, sym, ap, ◌∙◌, subst, arith}
 use Rattle.std.proofs.lemmas.List.{length-drop, take-append-drop}
 use Rattle.std.specs.List.{flat_map}
-use Rattle.std.proofs.lemmas.Bool.Decides.{nat_tests}
+use Rattle.std.proofs.lemmas.Bool.{and_parts, and_from}
+use Rattle.route_laws.proofs.Overwritten.{not_cases}
 use Rattle.ipnet_addr.proofs.Basics.{filtered_length}
-use Rattle.ipnet_addr.specs.Addresses.{Family, same_family, rank}
+use Rattle.ipnet_addr.specs.Addresses.{Family, same_family}
 use Rattle.ipnet_addr.proofs.Members.{In, In-right, In-cases}
 use Rattle.ipnet_addr.proofs.Ascending.{Rising, Rising-from_pairs, same_rising}
 use Rattle.ipnet_blocks.specs.Blocks.{Block, is_before}
-use Rattle.ipnet_addr.proofs.Families.{rank_apart}
+use Rattle.ipnet_addr.proofs.Families.{family_from_test, test_from_family}
 use Rattle.ipnet_blocks.proofs.BlockLaws.{strict, transitive}
 use Rattle.ipnet_blocks.proofs.BlockTests.{before_from_test, test_from_before}
 use Rattle.route_choices.proofs.Kept.{In-from_filter, In-filter, Rising-kept}
@@ -29,16 +30,6 @@ left_sooner (z ∷ xs) ys h x y i j = ⊎_elim (λ e. subst (λ (u : Route). Soo
 
 -- ---- the routes of a family from somewhere on
 
-both : (a b : Bool) → (a && b) ≡ true → (a ≡ true) × (b ≡ true)
-both true b e = (refl, e)
-both false b e = absurd (cc)
-
-family_of_test : (f g : Family) → same_family f g ≡ true → f ≡ g
-family_of_test f g e = rank_apart f g (grind (arith, nat_tests, e))
-
-test_of_family : (f g : Family) → f ≡ g → same_family f g ≡ true
-test_of_family f g e = let r = ap rank e in grind (arith, nat_tests)
-
 -- all routes of the family that come after one of the list are in it
 record IsOnwards (M : List Route) (f : Family) (L : List Route) : Type 0 where
   pub rising : Rising Sooner L
@@ -54,22 +45,18 @@ module _ (M : List Route) (m : IsTable M) (f : Family) where
     rising = Rising-kept Sooner (λ r. same_family r.block.family n.family && not (is_before r.block n)) M rises;
     member = λ s i.
         let t = In-from_filter (λ r. same_family r.block.family n.family && not (is_before r.block n)) M s i in
-        (t.0, family_of_test s.block.family n.family (both _ _ t.1).0 ∙ e);
+        (t.0, family_from_test s.block.family n.family (and_parts _ _ t.1).0 ∙ e);
     onwards = λ r s i j g l.
         let t = In-from_filter (λ r. same_family r.block.family n.family && not (is_before r.block n)) M r i in
         In-filter (λ r. same_family r.block.family n.family && not (is_before r.block n)) M s j
-        (passes (same_family s.block.family n.family) (is_before s.block n) (test_of_family s.block.family n.family (g ∙ sym e))
-        (λ b. let c = test_from_before r.block n (transitive r.block s.block n l (before_from_test s.block n b)) in not_both (is_before r.block n) (both _ _ t.1).1 c));
+        (passes (same_family s.block.family n.family) (is_before s.block n) (test_from_family s.block.family n.family (g ∙ sym e))
+        (λ b. let c = test_from_before r.block n (transitive r.block s.block n l (before_from_test s.block n b)) in not_cases (is_before r.block n) (and_parts _ _ t.1).1 c));
   }
     where
       passes : (a b : Bool) → a ≡ true → (b ≡ true → ⊥) → (a && not b) ≡ true
       passes true true e g = absurd (g refl)
       passes true false e g = refl
       passes false b e g = absurd (cc)
-
-      not_both : (b : Bool) → not b ≡ true → b ≡ true → ⊥
-      not_both true e g = cc
-      not_both false e g = cc
 
   right_is_onwards : (xs ys : List Route) → IsOnwards M f (xs ++ ys) → IsOnwards M f ys
   right_is_onwards xs ys o = record {
@@ -87,16 +74,16 @@ module _ (M : List Route) (m : IsTable M) (f : Family) where
       (Rising-kept Sooner (λ s. same_family s.block.family r.block.family && is_before r.block s.block) M rises) right.1
       (λ s i.
       let t = In-from_filter (λ s. same_family s.block.family r.block.family && is_before r.block s.block) M s i in
-      let q = both _ _ t.1 in
+      let q = and_parts _ _ t.1 in
       let l = before_from_test r.block s.block q.1 in
       ⊎_elim
       (λ k. absurd (strict s.block r.block (left_sooner xs (r ∷ ys) o.rising s r k (inl refl)) l))
       (λ k. ⊎_elim (λ e. absurd (apart s r e l)) (λ j. j) k)
-      (In-cases s xs (r ∷ ys) (o.onwards r s here t.0 (family_of_test s.block.family r.block.family q.0 ∙ (o.member r here).1) l)))
+      (In-cases s xs (r ∷ ys) (o.onwards r s here t.0 (family_from_test s.block.family r.block.family q.0 ∙ (o.member r here).1) l)))
       (λ s i.
       let t = o.member s (In-right s xs (r ∷ ys) (inr i)) in
       In-filter (λ s. same_family s.block.family r.block.family && is_before r.block s.block) M s t.0
-      (two (same_family s.block.family r.block.family) (is_before r.block s.block) (test_of_family s.block.family r.block.family (t.1 ∙ sym (o.member r here).1)) (test_from_before r.block s.block (right.0 s i))))
+      (and_from (same_family s.block.family r.block.family) (is_before r.block s.block) (test_from_family s.block.family r.block.family (t.1 ∙ sym (o.member r here).1)) (test_from_before r.block s.block (right.0 s i))))
     where
       right : Rising Sooner (r ∷ ys)
       right = right_rises xs (r ∷ ys) o.rising
@@ -106,10 +93,6 @@ module _ (M : List Route) (m : IsTable M) (f : Family) where
 
       apart : (s r : Route) → s ≡ r → Sooner r s → ⊥
       apart s r e l = strict r.block s.block l (subst (λ (t : Route). Sooner s t) e (subst (λ (t : Route). Sooner t s) (sym e) l))
-
-      two : (a b : Bool) → a ≡ true → b ≡ true → (a && b) ≡ true
-      two true b e g = g
-      two false b e g = absurd (cc)
 
 -- ---- pages
 

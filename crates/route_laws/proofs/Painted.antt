@@ -11,10 +11,11 @@ use Rattle.route_laws.specs.Overwritten.{overwritten, without_inside}
 use Rattle.route_laws.specs.Tables.{Route, IsTable, match_of, match_number, hop_at, longer}
 use Rattle.route_laws.proofs.Changes.{same_from_test}
 use Rattle.route_laws.proofs.Held.{match_after_add}
-use Rattle.route_laws.proofs.Insides.{has_from_test as held_from_test, not_held}
+use Rattle.route_laws.proofs.Insides.{has_from_test as held_from_test}
 use Rattle.route_laws.proofs.Matches.{governed_match}
 use Rattle.route_laws.proofs.Overwritten.{outside_back, outside_is_table, over_hops, over_is_table, routes_placed}
 use Rattle.std.specs.Prelude.{Some}
+use Rattle.std.proofs.lemmas.Bool.{false_from_ne_true}
 use Rattle.route_laws.specs.Batches.{painted}
 
 module _ (M : List Route) (m : IsTable M) (r : Route) (ok : IsBlock r.block) where
@@ -40,7 +41,7 @@ module _ (M : List Route) (m : IsTable M) (r : Route) (ok : IsBlock r.block) whe
     elsewhere : (x : Address) → IsAddress x → has_address r.block x ≡ false → hop_at (without_inside M r.block) x ≡ hop_at M x
     elsewhere x a e = sym (ap match_number (
         match_after_add (without_inside M r.block) r (host x) out (over_is_table M m r ok hop) (host_is_block x a)
-        ∙ ap (λ c. cond c (Some (longer r (match_of (without_inside M r.block) (host x)))) (match_of (without_inside M r.block) (host x))) (not_held (is_inside (host x) r.block) (λ f. let t = test_from_has r.block x (held_from_test x a r ok f) in absurd (cc)))))
+        ∙ ap (λ c. cond c (Some (longer r (match_of (without_inside M r.block) (host x)))) (match_of (without_inside M r.block) (host x))) (false_from_ne_true (is_inside (host x) r.block) (λ f. let t = test_from_has r.block x (held_from_test x a r ok f) in absurd (cc)))))
         ∙ over_hops M m r ok hop x a ∙ ap (λ c. cond c (number_of r.hop) (hop_at M x)) e
 
     pub painted_hops : (x : Address) → IsAddress x → hop_at (painted M r) x ≡ cond (has_address r.block x) (number_of r.hop) (hop_at M x)

@@ -6,6 +6,7 @@ use Rattle.std.specs.declared.cmp.Ordering.TheVariants.{Less, Equal, Greater}
 use Rattle.std.specs.Ordering.{is_lt}
 use Rattle.std.specs.FinMap.{find, is_sorted, entries, entries_sorted, get, get-entries}
 use Rattle.std.specs.FinMap.Entries.{below_all}
+use Rattle.std.proofs.lemmas.Option.{same_Some}
 use Rattle.ipnet_addr.proofs.Basics.{T-parts, less_from_T}
 use Rattle.ipnet_addr.proofs.Members.{In}
 use Rattle.ipnet_addr.proofs.Ascending.{Rising}
@@ -37,15 +38,12 @@ module _ {X : Type 0} where
       let p = T-parts (below_all bits_cmp e.0 es) (is_sorted bits_cmp es) h in
       (below e.0 es p.0, rising es p.1)
 
-  some_same : (x y : X) → Some x ≡ Some y → x ≡ y
-  some_same x y e = cc
-
   pub in_from_find : (q : List Bool) (v : X) (es : List (List Bool × X)) → find bits_cmp q es ≡ Some v → In (q, v) es
   in_from_find q v [] e = absurd (cc)
   in_from_find q v (d ∷ es) e = go (same q d.0) refl e (in_from_find q v es)
     where
       go : (b : Bool) → same q d.0 ≡ b → cond b (Some d.1) (find bits_cmp q es) ≡ Some v → (find bits_cmp q es ≡ Some v → In (q, v) es) → In (q, v) (d ∷ es)
-      go true t f more = let k = (same-Decides q d.0).0 t in let w = some_same d.1 v f in inl (λ i. (k i, sym w i))
+      go true t f more = let k = (same-Decides q d.0).0 t in let w = same_Some d.1 v f in inl (λ i. (k i, sym w i))
       go false t f more = inr (more f)
 
   pub find_from_in : (q : List Bool) (v : X) (es : List (List Bool × X)) → Rising KeysRise es → In (q, v) es → find bits_cmp q es ≡ Some v

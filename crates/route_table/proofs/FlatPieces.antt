@@ -1,6 +1,7 @@
 -- The flat list of each family as disjoint bit strings with hops.
 use Rattle.std.proofs.Common.{◌≡◌, ℕ, inl, inr, ⊎_elim, Bool, true, false, cond, List, [], ◌∷◌, ◌++◌, length, map, filter, MatchOption, Option, Some, None, refl, sym, ap, ◌∙◌, subst, append-nil}
 use Rattle.std.specs.declared.cmp.Ordering.TheVariants.{Less}
+use Rattle.std.proofs.lemmas.Bool.{false_from_ne_true}
 use Rattle.ipnet_addr.specs.Addresses.{Family, Address, IsAddress, width, same_family}
 use Rattle.ipnet_addr.proofs.Families.{family_from_test, test_from_family}
 use Rattle.ipnet_addr.proofs.Members.{In}
@@ -60,10 +61,6 @@ module _ (h : Address → Option ℕ) (ps : List Piece) (flat : IsFlat h ps) whe
     abbrev Apart : List Bool × ℕ → List Bool × ℕ → Type 0
     Apart p q = (bits_cmp p.0 q.0 ≡ Less) × (begins p.0 q.0 ≡ false)
 
-    not_true : (b : Bool) → (b ≡ true → ⊥) → b ≡ false
-    not_true true n = absurd (n refl)
-    not_true false n = refl
-
     apart : (p q : Piece) → In p (filter (in_family f) ps) → In q (filter (in_family f) ps) → Sooner p q → Apart (entry p) (entry q)
     apart p q i j l =
         let a = In-from_filter (in_family f) ps p i in
@@ -72,7 +69,7 @@ module _ (h : Address → Option ℕ) (ps : List Piece) (flat : IsFlat h ps) whe
         let okp = piece_is_block h ps flat p a.0 in
         let okq = piece_is_block h ps flat q b.0 in (
           (order_of_strings p.block q.block okp okq g).0 l,
-          not_true (begins (bit_string p.block) (bit_string q.block)) (λ t. not_inside h ps flat p q a.0 b.0 (λ e. before_apart p.block q.block l (sym e)) (inside_from_begins q.block p.block okq okp (sym g) t)),
+          false_from_ne_true (begins (bit_string p.block) (bit_string q.block)) (λ t. not_inside h ps flat p q a.0 b.0 (λ e. before_apart p.block q.block l (sym e)) (inside_from_begins q.block p.block okq okp (sym g) t)),
         )
 
     rising : Rising Apart (pieces_of f ps)

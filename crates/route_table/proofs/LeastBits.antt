@@ -2,6 +2,7 @@
 use Rattle.std.proofs.Common.{◌≡◌, ℕ, suc, ◌-◌, ◌*◌, ◌^◌, ◌≤◌, ⊎_elim, Bool, true, IsTrue, false, cond, nat_lt, inl, inr, List, [], ◌∷◌, ◌++◌, length, All, AllPairs, Result, Ok, Err, OnOk, append_assoc, Option, Some, None, option_map, refl, sym, ap, ap₂, ◌∙◌, subst, arith}
 use Rattle.std.proofs.Math.Nat.{mod-eq_of_lt}
 use Rattle.std.specs.declared.cmp.Ordering.TheVariants.{Less}
+use Rattle.ipnet.proofs.IpNetworks.{net_family}
 use Rattle.ipnet_addr.specs.Addresses.{Family, Ipv4, Ipv6, Address, IsAddress, width}
 use Rattle.ipnet_addr.proofs.Members.{In, In-cases}
 use Rattle.ipnet_addr.proofs.Ascending.{In-from_All, All-from_In, Rising, Rising-from_pairs}
@@ -133,10 +134,6 @@ module _ (f : Family) where
 
 -- ---- networks of one family as keys, as routes
 
-family_of_net : (f : Family) (n : Network) → family (net_in f n) ≡ f
-family_of_net Ipv4 n = refl
-family_of_net Ipv6 n = refl
-
 truncated_at : (b : Block) → IsTruncated (family (network_at b)) (parts (network_at b))
 truncated_at b = go b.family (net_of b) (ap net_of (sym (block_round_trip b)))
   where
@@ -214,7 +211,7 @@ module _ (f : Family) {K : Type 0} (bits_in : K → List Bool) (of_bits : List B
           let okh : IsHop (hop_from r.1) = In-from_All (λ (u : IpNet × Hop). IsHop u.1) (items_of f parts_in table) hops (net_in f (parts_in r.0), hop_from r.1) (map_In (λ (u : K × Option ℕ). (net_in f (parts_in u.0), hop_from u.1)) table r t.1) in
           subst (λ (v : Route). IsBlock v.block × IsHop v.hop) (sym t.2) (okb, okh))
           (rises table ok (Rising-from_pairs IsLess (strings bits_in table) ordered));
-      in_family = All-from_In (λ (u : IpNet × Hop). family u.0 ≡ f) (items_of f parts_in table) (λ u i. let t = item u i in subst (λ (v : IpNet × Hop). family v.0 ≡ f) (sym t.2) (family_of_net f (parts_in (t.0).0)));
+      in_family = All-from_In (λ (u : IpNet × Hop). family u.0 ≡ f) (items_of f parts_in table) (λ u i. let t = item u i in subst (λ (v : IpNet × Hop). family v.0 ≡ f) (sym t.2) (net_family f (parts_in (t.0).0)));
       truncated = All-from_In (λ (u : IpNet × Hop). IsTruncated (family u.0) (parts u.0)) (items_of f parts_in table) (λ u i. let t = item u i in
           subst (λ (v : IpNet × Hop). IsTruncated (family v.0) (parts v.0)) (sym t.2) (subst (λ (n : IpNet). IsTruncated (family n) (parts n)) (sym (ok t.0 t.1).1) (truncated_at (block_at f (bits_in (t.0).0)))));
       least = subst (λ (t : List (List Bool × Option ℕ)). bits.IsLeast (width f) (hop_at ps) t) (sym (entries_are table ok)) least';

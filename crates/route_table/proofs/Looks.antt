@@ -19,14 +19,14 @@ use Rattle.ipnet.specs.declared.ip_net.IpNet.{IpNet}
 use Rattle.ipnet.specs.declared.ip_net.IpNet.TheVariants.{V4, V6}
 use Rattle.route_choices.specs.Choices.{default_preference}
 use Rattle.route_choices.specs.declared.hop.Hop.{Hop}
-use Rattle.route_choices.proofs.Kept.{map_In}
+use Rattle.route_choices.proofs.Kept.{map_In, same_kept}
 use Rattle.route_laws.specs.LeastTables.{routes_for}
 use Rattle.route_laws.specs.Operations.{Remove, is_held, missing, removes, same_route, surplus}
 use Rattle.route_laws.specs.Tables.{Route, IsTable, is_stored, item_of, match_of, route_of, with_route}
 use Rattle.route_laws.proofs.Between.{route_from_test, route_itself}
 use Rattle.route_laws.proofs.ChoiceChanges.{match_of_own}
 use Rattle.route_laws.proofs.Insides.{Sooner, rising, sound, table_of}
-use Rattle.route_laws.proofs.Matches.{bools_same, filter_same, match_meets}
+use Rattle.route_laws.proofs.Matches.{bools_same, match_meets}
 use Rattle.route_laws.proofs.NetworksAt.{of_network_at}
 use Rattle.route_laws.proofs.Ordered.{put_last}
 use Rattle.route_table.specs.InnerBetween.{AreComing}
@@ -141,7 +141,7 @@ first_looked_at N r rs stored e = ap (λ b. removes (cond (not b) (r ∷ surplus
 
 -- a list that lost what comes before the first route tells the same of those behind it
 pub same_surplus : (L N : List Route) (r : Route) (rs : List Route) → IsTable (r ∷ rs) → ((b : Block) → (IsBefore b r.block → ⊥) → is_stored L b ≡ is_stored N b) → surplus rs L ≡ surplus rs N
-same_surplus L N r rs t same = filter_same (λ s. not (is_stored L s.block)) (λ s. not (is_stored N s.block)) rs
+same_surplus L N r rs t same = same_kept (λ s. not (is_stored L s.block)) (λ s. not (is_stored N s.block)) rs
     (λ s i. ap not (same s.block (λ l. strict s.block r.block l ((rising (r ∷ rs) t).0 s i))))
 
 -- the first route is removed, where the list hasn't its block

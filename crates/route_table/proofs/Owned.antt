@@ -1,5 +1,6 @@
 -- The addresses that the routes of a number govern are those with that hop.
 use Rattle.std.proofs.Common.{◌≡◌, ℕ, ◌⊎◌, inl, inr, ⊎_elim, ◌↔◌, ◌==◌, List, [], ◌∷◌, ◌++◌, map, filter, Option, Some, None, Any, refl, sym, ap, ◌∙◌, subst, arith}
+use Rattle.ipnet_blocks.proofs.BlockTests.{decide_has}
 use Rattle.ipnet_addr.specs.Addresses.{Address, IsAddress}
 use Rattle.ipnet_addr.proofs.Members.{In, one_or_all}
 use Rattle.ipnet_addr.proofs.Ascending.{In-from_Any, Any-from_In, In-from_Contains, Contains-from_In}
@@ -17,7 +18,6 @@ use Rattle.route_choices.specs.Hops.{number_of}
 use Rattle.route_laws.specs.Flats.{blocks_of, flat_of}
 use Rattle.route_table.specs.InnerOwning.{Owns, IsOwned, GrowsBy}
 use Rattle.route_laws.specs.Tables.{Route, IsTable, Governed, match_of, match_number, hop_at}
-use Rattle.route_laws.proofs.Bounds.{decide_has}
 use Rattle.route_laws.proofs.FlatSearch.{search_is_flat}
 use Rattle.route_laws.proofs.Matches.{block_in, match_meets, match_from, governed_match}
 use Rattle.route_laws.proofs.Own.{own_is_maximal}

@@ -3,8 +3,7 @@ use Rattle.std.proofs.Common.{◌≡◌, ◌≤◌, Bool, true, false, ◌&&◌,
 use Rattle.std.specs.FinMap.{entries}
 use Rattle.std.specs.FinMap.Entries.{where_key}
 use Rattle.std.specs.Ordering.{is_lt}
-use Rattle.std.specs.declared.cmp.Ordering.{Ordering}
-use Rattle.std.specs.declared.cmp.Ordering.TheVariants.{Less, Equal, Greater}
+use Rattle.trie_core.proofs.Order.{is_less}
 use Rattle.ipnet_addr.specs.Addresses.{Family, width, same_family}
 use Rattle.ipnet_addr.proofs.Members.{In}
 use Rattle.ipnet_addr.proofs.Ascending.{All-from_In}
@@ -30,15 +29,10 @@ use Rattle.route_table.proofs.Seams.{routes_at}
 
 -- ---- the order of blocks, as a test of keys
 
-less_of : (o : Ordering) → is_lt o ≡ true → o ≡ Less
-less_of Less e = refl
-less_of Equal e = absurd (cc)
-less_of Greater e = absurd (cc)
-
 before_is : (a b : Block) → IsBlock a → IsBlock b → a.family ≡ b.family → is_before a b ≡ is_lt (bits_cmp (bit_string a) (bit_string b))
 before_is a b p q f = bools_same (is_before a b) (is_lt (bits_cmp (bit_string a) (bit_string b)))
     (λ t. ap is_lt ((order_of_strings a b p q f).0 (before_from_test a b t)))
-    (λ t. test_from_before a b ((order_of_strings a b p q f).1 (less_of (bits_cmp (bit_string a) (bit_string b)) t)))
+    (λ t. test_from_before a b ((order_of_strings a b p q f).1 (is_less (bits_cmp (bit_string a) (bit_string b)) t)))
 
 -- ---- parts of a walk
 

@@ -1,6 +1,7 @@
 -- A change at one key of a side's map is a change of one network.
 use Rattle.std.proofs.Common.{◌≡◌, ◌≤◌, ◌⊎◌, inl, inr, ⊎_elim, Bool, true, false, cond, List, [], ◌∷◌, length, Option, Some, None, IsSome, unwrap_or, refl, sym, ap, ◌∙◌, subst, arith}
 use Rattle.std.specs.FinMap.{get, insert, remove, get-insert, get-remove}
+use Rattle.std.proofs.lemmas.Option.{same_Some}
 use Rattle.ipnet_addr.specs.Addresses.{width}
 use Rattle.ipnet_blocks.specs.Blocks.{Block, IsBlock, bit_string}
 use Rattle.ipnet_addr.proofs.Members.{In}
@@ -22,9 +23,6 @@ string_or_not s t = go (same s t) refl
     go : (b : Bool) → same s t ≡ b → (s ≡ t) ⊎ (s ≡ t → ⊥)
     go true e = inl ((same-Decides s t).0 e)
     go false e = inr (λ p. let q = (same-Decides s t).1 p in cc)
-
-pub some_same : (cs ds : List Choice) → Some cs ≡ Some ds → cs ≡ ds
-some_same cs ds e = cc
 
 module _ (b : Block) (okb : IsBlock b) (m : BitMap (List Choice)) (ok : IsStored b.family m) where
   abbrev side : List Stored
@@ -79,12 +77,12 @@ module _ (b : Block) (okb : IsBlock b) (m : BitMap (List Choice)) (ok : IsStored
     r = record { block = b; choices = cs }
 
     pub put_is_stored : IsStored b.family n
-    put_is_stored = changed_is_stored n (Some cs) put_at (λ ds q. (subst (λ (es : List Choice). AreChoices es) (some_same cs ds q) are, λ z. some (some_same cs ds q ∙ z)))
+    put_is_stored = changed_is_stored n (Some cs) put_at (λ ds q. (subst (λ (es : List Choice). AreChoices es) (same_Some cs ds q) are, λ z. some (same_Some cs ds q ∙ z)))
 
     pub put_side : stored_in b.family n ≡ with_stored side r
     put_side = side_is b.family n put_is_stored (with_stored side r) (with_is side table r okb some are)
         (λ s h. ⊎_elim
-        (λ q. subst (λ (t : Stored). In t (with_stored side r)) (sym (stored_path s r q (sym (some_same cs s.choices (at_b n (Some cs) put_at s h q))))) (put_itself Stored.block side r))
+        (λ q. subst (λ (t : Stored). In t (with_stored side r)) (sym (stored_path s r q (sym (same_Some cs s.choices (at_b n (Some cs) put_at s h q))))) (put_itself Stored.block side r))
         (λ not_it. put_other Stored.block side r s (in_side b.family m ok s (back n (Some cs) put_at s h not_it)) not_it)
         (same_or_not s.block b))
         (λ s i. ⊎_elim

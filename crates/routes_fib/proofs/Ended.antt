@@ -1,6 +1,6 @@
 -- Which line a run ended at.
 use Rattle.std.proofs.Common.{◌≡◌, ℕ, List, inl, inr}
-use Rattle.std.specs.Prelude.{◌⊎◌, Option, Result, Err, IsErrOf}
+use Rattle.std.specs.Prelude.{◌⊎◌, Option, Err, IsErrOf}
 use Rattle.route_feed.specs.declared.counted.Counted.{Counted}
 use Rattle.route_feed.specs.declared.error.RunError.{RunError}
 use Rattle.route_feed.specs.declared.error.RunError.TheVariants.{Memory, Read, Write, Line}

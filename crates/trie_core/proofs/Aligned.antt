@@ -2,17 +2,14 @@
 use Rattle.std.proofs.Common.{◌≡◌, ℕ, suc, ◌+◌, ◌-◌, ◌*◌, ◌/◌, ◌%◌, ◌^◌, ◌<◌, ◌≤◌, Bool, true, false, cond, ◌==◌, List, [], ◌∷◌, ◌++◌, length, drop, refl, sym, ap, subst, ◌∙◌, arith}
 use Rattle.std.specs.Prelude.{nat_lt}
 use Rattle.std.proofs.lemmas.Bool.Decides.{nat_tests}
-use Rattle.std.proofs.lemmas.Nat.{pow_pos, pow-add, mod-pow-add, shl-shr, shr-shr, shr_below, shr_split, mod_below}
-use Rattle.std.proofs.Math.Nat.{mul-mod_left, mod-mod, mul_assoc, mod-eq_of_lt, add-mul, mul-lt-mul_of_pos_right, mul-le-mul_right, pow-le-pow_right}
+use Rattle.std.proofs.lemmas.Nat.{pow_pos, pow-add, shl-shr, shr-shr, shr_below, shr_split, mod_below}
+use Rattle.std.proofs.Math.Nat.{mod-mod, mul_assoc, mod-eq_of_lt, add-mul, mul-lt-mul_of_pos_right, mul-le-mul_right, pow-le-pow_right}
+use Rattle.ipnet_addr.proofs.Shifts.{mod_up}
 use Rattle.ipnet_blocks.specs.Blocks.{digits}
 use Rattle.ipnet_blocks.proofs.Strings.{length-digits}
 use Rattle.trie_core.specs.InnerPlaces.{child_of}
 use Rattle.trie_core.specs.InnerPaths.{IsAligned}
 use Rattle.trie_core.proofs.Numbers.{number-digits, number-long, number_apart, drop-digits}
-
--- a multiple of a power, at a greater power
-pub mod_up : (q m k : ℕ) → q * 2 ^ k % 2 ^ (m + k) ≡ q % 2 ^ m * 2 ^ k
-mod_up q m k = mod-pow-add (q * 2 ^ k) m k ∙ omega (arith, ap (λ n. n % 2 ^ m * 2 ^ k) (shl-shr q k), mul-mod_left q (2 ^ k))
 
 -- the digits of a number are those of its low part
 pub digits-mod : (m q : ℕ) → digits m (q % 2 ^ m) ≡ digits m q

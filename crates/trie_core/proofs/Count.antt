@@ -6,12 +6,14 @@ use Rattle.std.specs.FinMap.{entries, find, get, entries_sorted, get-entries, ge
 use Rattle.std.specs.FinMap.Entries.{below_all, same_entries}
 use Rattle.std.proofs.Math.ListN.{length-append, length-take}
 use Rattle.std.proofs.lemmas.List.{take-append-drop}
+use Rattle.std.proofs.lemmas.Bool.{or_right}
+use Rattle.ipnet_addr.proofs.Basics.{T-and}
 use Rattle.ipnet_blocks.specs.BitStrings.{bits_cmp}
 use Rattle.trie_core.specs.Nodes.{BitMap, Seen}
 use Rattle.trie_core.specs.InnerNodes.{under, node_map, IsNode}
 use Rattle.trie_core.specs.Count.{fives_from, fives, fives_of, begun, nodes}
 use Rattle.trie_core.specs.InnerCount.{nodes_if, spare_if, spare_count, spares_below, all_nodes, total}
-use Rattle.trie_core.proofs.Strings.{bits_total, bits_same, same, same-Decides, same-refl, append_none, take_first, front, take_take, T-and}
+use Rattle.trie_core.proofs.Strings.{bits_total, bits_same, same, same-Decides, same-refl, append_none, take_first, front, take_take}
 use Rattle.trie_core.proofs.Maps.{tail_rises, or_else, find-append_all, find-under, find-apart, node_map-none, get-short, get_none}
 use Rattle.trie_core.specs.InnerWalks.{first_value}
 use Rattle.trie_core.proofs.Order.{StartsAfter, below_under, below_append, less_right, less_left, found_above, below_found, found_long, found_get, sorted_under, walk_value, walk_child, walk_none, without_value, without_child, starts_after, values_after}
@@ -123,11 +125,7 @@ module _ {X : Type 0} where
     pub long : 5 ≤ length q
 
   later : {q : List Bool} (e : List Bool × X) {es : List (List Bool × X)} → IsBegunBy q es → IsBegunBy q (e ∷ es)
-  later {q} e {es} b = record { key = b.key; found = some_cond (same b.key e.0) e.1 (find bits_cmp b.key es) ∙ ap (λ x. same b.key e.0 || x) b.found ∙ or_true (same b.key e.0); first = b.first; long = b.long }
-    where
-      or_true : (a : Bool) → (a || true) ≡ true
-      or_true true = refl
-      or_true false = refl
+  later {q} e {es} b = record { key = b.key; found = some_cond (same b.key e.0) e.1 (find bits_cmp b.key es) ∙ ap (λ x. same b.key e.0 || x) b.found ∙ or_right (same b.key e.0) true refl; first = b.first; long = b.long }
 
   pub begun_by_key : (q : List Bool) (es : List (List Bool × X)) → has q (fives_of es) ≡ true → IsBegunBy q es
   begun_by_key q [] s = cc

@@ -11,13 +11,15 @@ use Rattle.std.proofs.lemmas.Nat.{shl-shr, shr-shr, shr_split, pow-add}
 use Rattle.std.proofs.lemmas.Nat.Bits.{bit_at-zero}
 use Rattle.std.proofs.Math.Nat.{mul_assoc}
 use Rattle.std.proofs.Math.ListN.{length-append, length-drop}
+use Rattle.std.proofs.lemmas.Bool.{false_from_ne_true}
+use Rattle.ipnet_addr.proofs.Basics.{T-and}
 use Rattle.ipnet_blocks.specs.BitStrings.{bits_cmp, begins}
 use Rattle.trie_core.specs.InnerPlaces.{place_of, place_string, IsBeginMask, IsFirstPlace}
 use Rattle.trie_core.specs.Nodes.{BitMap, Seen}
 use Rattle.trie_core.specs.InnerNodes.{under}
 use Rattle.trie_core.specs.InnerSearch.{IsChild, HasNoChild}
 use Rattle.trie_core.specs.InnerCovers.{is_left, NoneFrom, IsFirstFrom, cover_rest, cover_weight, IsCover}
-use Rattle.trie_core.proofs.Strings.{bits_total, bits_same, same, same-Decides, not_same, front, take_take, T-and, not_true}
+use Rattle.trie_core.proofs.Strings.{bits_total, bits_same, same, same-Decides, not_same, front, take_take, and_true}
 use Rattle.ipnet_blocks.proofs.BitStrings.{begins_take, take_begins, begins-under}
 use Rattle.trie_core.proofs.Maps.{get_none}
 use Rattle.trie_core.proofs.Order.{below_found}
@@ -148,7 +150,7 @@ below_or a b h f = elim (nat_lt a b) as (λ t. nat_lt a b ≡ t → a < b) [
 ] refl
 
 left_none : (q : List Bool) (k : List Bool) → length q < 5 → is_left q 31 k ≡ false
-left_none q k h = not_true (is_left q 31 k) (λ e.
+left_none q k h = false_from_ne_true (is_left q 31 k) (λ e.
     let t = left_true q 31 k e in
     let l : length k < 5 = omega (arith, (begins_take k q t.0).0, h) in
     omega (arith, t.1 l, place_below k l))
@@ -252,14 +254,10 @@ module _ {X : Type 0} where
     told = λ r.
         let l : nat_lt (length (take 5 p ++ r)) 5 ≡ false = let five = (front p h).0 in let a = length-append (take 5 p) r in grind (arith, nat_tests) in
         (λ i. begins (take 5 p ++ r) (sym (front p h).1 i) && not (l i && nat_lt (place_of (take 5 p ++ r)) 31))
-        ∙ ap (λ b. b && true) (begins-under (take 5 p) r (drop 5 p)) ∙ and_true_right (begins r (drop 5 p)) ∙ sym (left_all (drop 5 p) r);
-    other = λ x n. not_true _ (λ e. other x n (left_true p 31 x e) (nat_lt (length x) 5) refl);
+        ∙ ap (λ b. b && true) (begins-under (take 5 p) r (drop 5 p)) ∙ and_true (begins r (drop 5 p)) ∙ sym (left_all (drop 5 p) r);
+    other = λ x n. false_from_ne_true _ (λ e. other x n (left_true p 31 x e) (nat_lt (length x) 5) refl);
   }
     where
-      and_true_right : (b : Bool) → (b && true) ≡ b
-      and_true_right true = refl
-      and_true_right false = refl
-
       other : (x : List Bool) → ((k : List Bool) → x ≡ take 5 p ++ k → ⊥) → (begins x p ≡ true) × (length x < 5 → 31 ≤ place_of x) → (b : Bool) → nat_lt (length x) 5 ≡ b → ⊥
       other x n t true l = let s : length x < 5 = grind (arith, nat_tests) in omega (arith, t.1 s, place_below x s)
       other x n t false l =

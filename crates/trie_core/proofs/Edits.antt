@@ -1,5 +1,5 @@
 -- Changes of the things at the places of a bitmap.
-use Rattle.std.proofs.Common.{◌≡◌, ℕ, zero, suc, ◌+◌, ◌-◌, ◌*◌, ◌/◌, ◌%◌, ◌^◌, ◌<◌, ◌≤◌, Bool, true, false, cond, not, List, [], ◌∷◌, length, set, refl, sym, ap, ◌∙◌, arith, inl, inr}
+use Rattle.std.proofs.Common.{◌≡◌, ℕ, zero, suc, ◌+◌, ◌-◌, ◌/◌, ◌%◌, ◌^◌, ◌<◌, ◌≤◌, Bool, true, false, cond, not, List, [], ◌∷◌, length, set, refl, sym, ap, ◌∙◌, arith, inl, inr}
 use Rattle.std.specs.Prelude.{Some, None, eqb, count_ones, ◌⊎◌, T}
 use Rattle.std.specs.List.{insert, remove}
 use Rattle.std.specs.Ordering.{nat_cmp, eq_by_cmp}
@@ -7,10 +7,10 @@ use Rattle.std.specs.FinMap.{find, is_sorted, put}
 use Rattle.std.specs.FinMap.Entries.{below_all}
 use Rattle.std.proofs.lemmas.Nat.{shr-shr}
 use Rattle.std.proofs.lemmas.Bool.Decides.{nat_tests}
+use Rattle.ipnet_addr.proofs.Basics.{T-true, T-and, T-parts}
 use Rattle.trie_core.specs.InnerPlaces.{at_places, without}
-use Rattle.trie_core.proofs.Numbers.{ones_bit}
+use Rattle.trie_core.proofs.Numbers.{ones_bit, double}
 use Rattle.trie_core.proofs.Places.{ones_half, ones_below_suc}
-use Rattle.trie_core.proofs.Strings.{both, T-true, T-and}
 
 pub low_bit : (b : ℕ) → (b % 2 ≡ 0) ⊎ (b % 2 ≡ 1)
 low_bit b = elim (eqb (b % 2) 1) as (λ t. eqb (b % 2) 1 ≡ t → (b % 2 ≡ 0) ⊎ (b % 2 ≡ 1)) [
@@ -24,9 +24,6 @@ shifted bits i = shr-shr bits 1 i ∙ let e : 1 + i ≡ suc i = omega arith in a
 -- the bit above the lowest, in the half
 pub higher_bit : (bits i b : ℕ) → bits / 2 ^ suc i % 2 ≡ b → bits / 2 / 2 ^ i % 2 ≡ b
 higher_bit bits i b h = ap (λ y. y % 2) (shifted bits i) ∙ h
-
-double : (i : ℕ) → 2 ^ suc i ≡ 2 * 2 ^ i
-double i = omega arith
 
 -- a bit that is not set, set
 half_more : (bits i : ℕ) → (bits + 2 ^ suc i) / 2 ≡ bits / 2 + 2 ^ i
@@ -75,7 +72,7 @@ module _ {X : Type 0} where
   keep_all : (n m : ℕ) (es : List (ℕ × X)) → n ≤ m → T (below_all nat_cmp m es) → without n es ≡ es
   keep_all n m [] h b = refl
   keep_all n m (e ∷ es) h b =
-      let p = both _ _ b in
+      let p = T-parts _ _ b in
       let q = T-true _ p.0 in
       let r = keep_all n m es h p.1 in
       let k : not (eq_by_cmp nat_cmp n e.0) ≡ true = grind (arith, nat_tests) in
@@ -222,15 +219,6 @@ module _ {X : Type 0} where
             let kj : k ≡ suc j = omega (arith, c, s, o) in
             ap (λ y. at_places (suc w) n (bits - 2 ^ suc i) (remove (x ∷ xs) y)) kj ∙ at_first w n (bits - 2 ^ suc i) x (remove xs j) (low_less bits i b ∙ o) ∙ ap (λ b. (n, x) ∷ at_places w (suc n) b (remove xs j)) hl ∙ ap (λ es. (n, x) ∷ es) (remove_is_without w (suc n) i (bits / 2) xs j (omega (arith, l)) q refl (omega (arith, m, kj))) ∙ sym (without_past (suc n + i) n x _ (omega arith)) ∙ ap (without (suc n + i)) (sym (at_first w n bits x xs o))
       ])
-
-  -- as many things stand as there are in the list
-  pub length_at : (w n bits : ℕ) (xs : List X) → bits < 2 ^ w → count_ones bits ≡ length xs → length (at_places w n bits xs) ≡ length xs
-  length_at zero n bits xs b e = let z : bits ≡ 0 = omega (arith, b) in omega (arith, e, ap count_ones z, ones_bit 0 (omega arith))
-  length_at (suc w) n bits [] b e = refl
-  length_at (suc w) n bits (x ∷ xs) b e = elim (low_bit bits) [
-    | inl o ↦ ap length (at_step w n bits (x ∷ xs) o) ∙ length_at w (suc n) (bits / 2) (x ∷ xs) (omega (arith, b, double w)) (omega (arith, ones_half bits, e, o))
-    | inr o ↦ ap length (at_first w n bits x xs o) ∙ ap suc (length_at w (suc n) (bits / 2) xs (omega (arith, b, double w)) (omega (arith, ones_half bits, e, o)))
-  ]
 
   -- the first thing stands at the lowest bit that is set
   pub at_lowest : (w n i bits : ℕ) (x : X) (xs : List X) → i < w → bits / 2 ^ i % 2 ≡ 1 → ((j : ℕ) → j < i → bits / 2 ^ j % 2 ≡ 0) → at_places w n bits (x ∷ xs) ≡ (n + i, x) ∷ at_places w n (bits - 2 ^ i) xs

@@ -9,6 +9,7 @@ use Rattle.std.specs.FinMap.{find, entries, get, get-entries, entries_sorted}
 use Rattle.std.specs.FinMap.Entries.{where_key, find-where_key, is_sorted-where_key, same_entries}
 use Rattle.std.proofs.lemmas.List.{append_assoc}
 use Rattle.std.proofs.Math.ListN.{length-append}
+use Rattle.ipnet_addr.proofs.Basics.{T-parts}
 use Rattle.ipnet_blocks.specs.BitStrings.{bits_cmp, begins}
 use Rattle.trie_core.specs.InnerPlaces.{place_of, child_of, place_string, child_string, AllBelow, named, placed, value_list, child_list, first_place_of}
 use Rattle.ipnet_blocks.specs.Blocks.{digits}
@@ -17,7 +18,7 @@ use Rattle.trie_core.specs.Nodes.{Seen}
 use Rattle.trie_core.specs.InnerNodes.{under, node_height, IsNode}
 use Rattle.trie_core.specs.InnerCount.{all_nodes, total}
 use Rattle.trie_core.specs.InnerWalks.{first_value, KeysWithin, levels_of, nodes_of, part_map, AreInOrder, AreParts, Left}
-use Rattle.trie_core.proofs.Strings.{bits_total, bits_same, both}
+use Rattle.trie_core.proofs.Strings.{bits_total, bits_same}
 use Rattle.trie_core.proofs.Maps.{child_get, get_none, get-short, get-long}
 use Rattle.trie_core.proofs.Order.{walk_value, walk_child, walk_none, starts_after, values_after}
 use Rattle.trie_core.proofs.Count.{things, under-append}
@@ -109,7 +110,7 @@ module _ {X : Type 0} where
       record {
         within = omega (arith, k.0, length-append trail (place_string place));
         frame = record {
-          order = record { values_rise = (both _ _ o.values_rise).1; values_below = o.values_below.1; children_rise = o.children_rise; children_below = o.children_below };
+          order = record { values_rise = (T-parts _ _ o.values_rise).1; values_below = o.values_below.1; children_rise = o.children_rise; children_below = o.children_below };
           levels = f.levels;
           keys = k.1;
         };
@@ -138,7 +139,7 @@ module _ {X : Type 0} where
       record {
         within = omega (arith, f.levels, levels, l);
         frame = record {
-          order = record { values_rise = o.values_rise; values_below = o.values_below; children_rise = (both _ _ o.children_rise).1; children_below = o.children_below.1 };
+          order = record { values_rise = o.values_rise; values_below = o.values_below; children_rise = (T-parts _ _ o.children_rise).1; children_below = o.children_below.1 };
           levels = omega (arith, f.levels, levels);
           keys = k.1;
         };

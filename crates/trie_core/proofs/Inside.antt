@@ -5,25 +5,27 @@ use Rattle.std.specs.FinMap.{get, len, empty, find, get-empty, get-remove, get-r
 use Rattle.std.specs.FinMap as map
 use Rattle.std.proofs.lemmas.Bool.Decides.{nat_tests}
 use Rattle.std.proofs.Math.ListN.{length-drop}
+use Rattle.std.proofs.lemmas.List.{nil_from_length}
+use Rattle.std.proofs.lemmas.Bool.{false_from_ne_true}
 use Rattle.ipnet_blocks.specs.BitStrings.{bits_cmp, begins}
 use Rattle.trie_core.specs.InnerPlaces.{child_of, IsUnset}
 use Rattle.trie_core.specs.Nodes.{BitMap, Seen}
 use Rattle.trie_core.specs.InnerNodes.{child_map, node_map, node_height, IsNode, HasSlots}
 use Rattle.trie_core.specs.InnerCount.{all_nodes, entry_count}
 use Rattle.trie_core.specs.Inside.{outside}
-use Rattle.trie_core.proofs.Strings.{bits_total, bits_same, same, same-Decides, not_same, not_true, front, take_take}
+use Rattle.trie_core.proofs.Strings.{bits_total, bits_same, same, same-Decides, not_same, front, take_take}
 use Rattle.ipnet_blocks.proofs.BitStrings.{begins_take, begins-under}
 use Rattle.trie_core.proofs.Maps.{ListChanges, child_get, get-short, get-long}
 use Rattle.trie_core.proofs.Named.{is_node, child_put_in, child_taken_out}
 use Rattle.trie_core.proofs.Taken.{IsTaken, missing}
-use Rattle.trie_core.proofs.Seen.{IsSeen, map_of, viewed, counted, has_no_child, no_items, total-set}
+use Rattle.trie_core.proofs.Seen.{IsSeen, map_of, viewed, counted, has_no_child, total-set}
 use Rattle.trie_core.proofs.Changes.{was_found, set_slots, total-remove, height-remove}
 use Rattle.trie_core.proofs.Entries.{entries_at, entries_of}
 
 -- ---- beginnings
 
 pub begins_longer : (q x : List Bool) → length x < length q → begins q x ≡ false
-begins_longer q x h = not_true _ (λ e. omega (arith, (begins_take q x e).0, h))
+begins_longer q x h = false_from_ne_true _ (λ e. omega (arith, (begins_take q x e).0, h))
 
 pub first_five : (q x : List Bool) → 5 ≤ length q → begins q x ≡ true → take 5 x ≡ take 5 q
 first_five q x h e =
@@ -32,7 +34,7 @@ first_five q x h e =
     sym (take_take x 5 (length q - 5)) ∙ ap (λ i. take 5 (take i x)) f ∙ ap (take 5) b.1
 
 pub begins_elsewhere : (q x : List Bool) → 5 ≤ length q → same (take 5 x) (take 5 q) ≡ false → begins q x ≡ false
-begins_elsewhere q x h e = not_true _ (λ b. not_same e (first_five q x h b))
+begins_elsewhere q x h e = false_from_ne_true _ (λ b. not_same e (first_five q x h b))
 
 pub begins_below : (q x : List Bool) → 5 ≤ length q → 5 ≤ length x → take 5 x ≡ take 5 q → begins q x ≡ begins (drop 5 q) (drop 5 x)
 begins_below q x h l e = (λ i. begins (sym (front q h).1 i) (sym (front x l).1 i)) ∙ ap (λ b. begins (take 5 q ++ drop 5 q) (b ++ drop 5 x)) e ∙ begins-under (take 5 q) (drop 5 q) (drop 5 x)
@@ -88,7 +90,7 @@ module _ {X : Type 0} where
 
   -- nothing lies outside five bits in the child below them
   pub none_left : (m : BitMap X) (q : List Bool) → length q ≡ 5 → empty ≡ outside m (drop 5 q)
-  none_left m q h = sym (ap (outside m) (no_items (drop 5 q) (omega (arith, length-drop 5 q, h))) ∙ outside_all m)
+  none_left m q h = sym (ap (outside m) (nil_from_length (drop 5 q) (omega (arith, length-drop 5 q, h))) ∙ outside_all m)
 
   -- ---- the child on the way to q
 

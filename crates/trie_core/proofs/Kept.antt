@@ -1,12 +1,13 @@
 -- A write at a key that is there leaves the nodes that the map needs.
 use Rattle.std.proofs.Common.{◌≡◌, ◌+◌, Bool, cond, List, [], ◌∷◌, ◌++◌, refl, sym, ap, subst, ◌∙◌}
-use Rattle.std.specs.Prelude.{T, Option, Some, None}
+use Rattle.std.specs.Prelude.{T, Some}
 use Rattle.std.specs.Option.{IsSome}
 use Rattle.std.specs.declared.cmp.Ordering.{Ordering}
 use Rattle.std.specs.declared.cmp.Ordering.TheVariants.{Less, Equal, Greater}
 use Rattle.std.specs.Ordering.{is_eq}
 use Rattle.std.specs.FinMap.{find, get, insert, put, entries, is_sorted, entries_sorted, get-entries, get-insert, from_entries, len}
 use Rattle.std.specs.FinMap.Entries.{by_order, same_entries, find-put, is_sorted-put}
+use Rattle.ipnet_addr.proofs.Basics.{none_some}
 use Rattle.ipnet_blocks.specs.BitStrings.{bits_cmp}
 use Rattle.trie_core.specs.Nodes.{BitMap}
 use Rattle.trie_core.specs.Count.{fives, fives_of, begun, nodes}
@@ -15,8 +16,6 @@ use Rattle.trie_core.proofs.Maps.{tail_rises, find_before}
 use Rattle.trie_core.proofs.Order.{starts_above}
 
 module _ {X : Type 0} where
-  none_some : {o : Option X} → o ≡ None → IsSome o → ⊥
-  none_some e h = cc
 
   written_by : (q : List Bool) (v : X) (e : List Bool × X) (es : List (List Bool × X)) → T (is_sorted bits_cmp (e ∷ es)) → (IsSome (find bits_cmp q es) → fives_of (put bits_cmp q v es) ≡ fives_of es)
       → (r : Ordering) → bits_cmp q e.0 ≡ r → IsSome (cond (is_eq r) (Some e.1) (find bits_cmp q es)) → fives_of (by_order r ((q, v) ∷ e ∷ es) ((e.0, v) ∷ es) (e ∷ put bits_cmp q v es)) ≡ fives e.0 ++ fives_of es

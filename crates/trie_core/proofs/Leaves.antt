@@ -23,7 +23,7 @@ use Rattle.trie_core.proofs.Marks.{marked_get, marked-root, root_if, set-short}
 use Rattle.trie_core.proofs.Taken.{taken, missing}
 use Rattle.trie_core.proofs.Seen.{IsSeen, value_at, below_at, spare_at, is_child}
 use Rattle.trie_core.proofs.Searches.{below_31, last_place}
-use Rattle.trie_core.proofs.Opened.{has_between}
+use Rattle.trie_core.proofs.Opened.{has_between, both_set}
 
 -- ---- what goes on from a string
 
@@ -57,9 +57,6 @@ in_range from end i h l =
     let a : nat_lt i from ≡ false = grind (arith, nat_tests) in
     let b : nat_lt i end ≡ true = grind (arith, nat_tests) in
     λ j. not (a j) && b j
-
-both_set : (a b i : ℕ) → bit_at (bit_and a b) i ≡ 1 → (bit_at a i ≡ 1) × (bit_at b i ≡ 1)
-both_set a b i e = (omega (arith, bit_at_and a b i, e, bit_at-lt a i, bit_at-lt b i), omega (arith, bit_at_and a b i, e, bit_at-lt a i, bit_at-lt b i))
 
 -- what the other word has, this one lacks
 apart : (a b i : ℕ) → bit_and a b ≡ 0 → bit_at b i ≡ 1 → bit_at a i ≡ 0

@@ -7,6 +7,7 @@ use Rattle.std.proofs.lemmas.Bool.Decides.{nat_tests}
 use Rattle.std.proofs.lemmas.List.{append_assoc}
 use Rattle.std.proofs.Math.Seq.{take-length}
 use Rattle.std.proofs.Math.ListN.{length-append}
+use Rattle.std.proofs.lemmas.Bool.{both_ways}
 use Rattle.ipnet_blocks.specs.BitStrings.{bits_cmp, begins}
 use Rattle.trie_core.specs.InnerPlaces.{child_of, child_list, IsUnset}
 use Rattle.trie_core.specs.Nodes.{BitMap, BitSet, Seen}
@@ -14,7 +15,7 @@ use Rattle.trie_core.specs.InnerNodes.{node_map, IsNode, HasSlots, AreBelow}
 use Rattle.trie_core.specs.InnerCount.{spare_count, marked, spare_set}
 use Rattle.trie_core.specs.Inside.{outside}
 use Rattle.trie_core.specs.Ways.{IsIdle, LeadsOff, IsLeft, IsCut}
-use Rattle.trie_core.proofs.Strings.{bits_total, bits_same, same, same-Decides, same-refl, same_false, not_same, no_false, front, take_first, append_none}
+use Rattle.trie_core.proofs.Strings.{bits_total, bits_same, same, same-Decides, same-refl, same_false, not_same, front, take_first, append_none}
 use Rattle.ipnet_blocks.proofs.BitStrings.{begins_on, begins_take, begins-under}
 use Rattle.trie_core.proofs.Maps.{ListChanges, drop_first, child_get, get-long}
 use Rattle.trie_core.proofs.Marks.{marked_get, marked-other, marked-root, root_if, set-short, set-long, set-changed}
@@ -225,7 +226,7 @@ module _ {X : Type 0} (lost : List Bool → Bool) where
     pub left_node : IsLeft lost q (spare_set cs) (node_map us ds) (spare_set ds)
     left_node = record {
       off = each_string (λ s. begins s q ≡ false → get (spare_set ds) s ≡ cond (lost s) None (get (spare_set cs) s)) q (λ s l b. set-short k s l ∙ either_none (lost s) ∙ ap (cond (lost s) None) (sym (set-short n s l))) in_off (λ s l e b. off_elsewhere s l e);
-      on = each_string (λ s. begins s q ≡ true → (is_some (get (spare_set ds) s) ≡ true) ↔ (IsIdle (node_map us ds) s × LeadsOff lost (spare_set cs) q s)) q (λ s l b. (λ t. absurd (none_found (set-short k s l) t), λ t. absurd (omega (arith, t.0.below, l)))) in_on (λ s l e b. absurd (no_false (off_way_there q s l e) b));
+      on = each_string (λ s. begins s q ≡ true → (is_some (get (spare_set ds) s) ≡ true) ↔ (IsIdle (node_map us ds) s × LeadsOff lost (spare_set cs) q s)) q (λ s l b. (λ t. absurd (none_found (set-short k s l) t), λ t. absurd (omega (arith, t.0.below, l)))) in_on (λ s l e b. absurd (both_ways _ (off_way_there q s l e) b));
     }
 
   -- ---- a node that was seen as m
@@ -297,12 +298,12 @@ module _ {X : Type 0} where
       lost : (x : List Bool) → begins x q ≡ true → is_some (get c x) ≡ true → ⊥
       lost x b t =
           let f = not_other (get a x) (begins q x) (sym (ap is_some (at x ∙ turned (begins q x) (get a x))) ∙ t) in
-          no_false f.0 (ap (begins q) (cut_by x q (below x t) h b ∙ sym (append_none q)) ∙ begins_on q [])
+          both_ways _ f.0 (ap (begins q) (cut_by x q (below x t) h b ∙ sym (append_none q)) ∙ begins_on q [])
 
       gone : (x : List Bool) → begins x q ≡ true → IsIdle n x × LeadsOff (begins q) a q x → ⊥
       gone x b t =
           let p = cut_by x q t.0.below h b in
-          no_false t.1.3 (ap (λ w. begins q (w ++ t.1.0)) p ∙ begins_on q t.1.0)
+          both_ways _ t.1.3 (ap (λ w. begins q (w ++ t.1.0)) p ∙ begins_on q t.1.0)
 
   -- the strings of a node, and of what it became
   pub set_below : {vb : ℕ} {vs : List X} {cb : ℕ} {cs : List (Seen X)} → HasSlots vb vs cb cs → AreBelow (spare_set (child_list cb cs))

@@ -4,6 +4,7 @@ use Rattle.std.specs.Prelude.{Option, Some, None, is_some}
 use Rattle.std.specs.Option.{IsSome}
 use Rattle.std.specs.Ordering.{nat_cmp}
 use Rattle.std.specs.FinMap.{find, get, insert, remove, len, len-insert}
+use Rattle.ipnet_addr.proofs.Basics.{none_some}
 use Rattle.ipnet_blocks.specs.BitStrings.{bits_cmp}
 use Rattle.trie_core.specs.InnerPlaces.{place_of, child_of, at_places, child_list, IsSlot, IsUnset}
 use Rattle.trie_core.specs.Nodes.{Seen}
@@ -18,14 +19,12 @@ use Rattle.trie_core.proofs.Seen.{IsSeen, viewed, value_at}
 use Rattle.trie_core.proofs.Changes.{value_slots, value_put_map, was_found, set_put, set_spare, absent}
 
 module _ {X : Type 0} where
-  none_is_none : {o : Option X} → o ≡ None → IsSome o → ⊥
-  none_is_none e h = cc
 
   pub stored_here : {vb n : ℕ} {vs : List X} {cb : ℕ} {cs : List (Seen X)} {m : Seen X} (q : List Bool) → IsSeen vb vs cb cs m → length q < 5 → n ≡ place_of q → IsUnset n vb → IsSome (get m.entries q) → ⊥
-  stored_here {vb} {n} {vs} q s h k u = none_is_none (sym (value_at q s h) ∙ ap (λ i. find nat_cmp i (at_places 32 0 vb vs)) (sym k) ∙ sym (missing n vb vs u))
+  stored_here {vb} {n} {vs} q s h k u = none_some (sym (value_at q s h) ∙ ap (λ i. find nat_cmp i (at_places 32 0 vb vs)) (sym k) ∙ sym (missing n vb vs u))
 
   pub stored_below : {vb n : ℕ} {vs : List X} {cb : ℕ} {cs : List (Seen X)} {m : Seen X} (q : List Bool) → IsSeen vb vs cb cs m → 5 ≤ length q → n ≡ child_of q → IsUnset n cb → IsSome (get m.entries q) → ⊥
-  stored_below q s h k u = none_is_none (absent q s h k u)
+  stored_below q s h k u = none_some (absent q s h k u)
 
   -- the value at a slot
   pub value_slot : {vb n at : ℕ} {vs : List X} {cb : ℕ} {cs : List (Seen X)} {m : Seen X} (q : List Bool) → IsSeen vb vs cb cs m → length q < 5 → n ≡ place_of q → IsSlot n vb at → IsTaken n at vb vs

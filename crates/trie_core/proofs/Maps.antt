@@ -8,8 +8,9 @@ use Rattle.std.specs.FinMap.Entries.{below_all}
 use Rattle.std.proofs.lemmas.Bool.Decides.{nat_tests}
 use Rattle.std.proofs.Math.ListN.{length-append}
 use Rattle.std.proofs.Math.Seq.{drop-append_seam}
+use Rattle.ipnet_addr.proofs.Basics.{T-parts, less_from_T}
 use Rattle.ipnet_blocks.specs.BitStrings.{bits_cmp}
-use Rattle.trie_core.proofs.Strings.{bits_total, bits_same, same, same-Decides, same_false, same-under, other_length, both, front, take_first, less-T, not_same, same-refl}
+use Rattle.trie_core.proofs.Strings.{bits_total, bits_same, same, same-Decides, same_false, same-under, other_length, front, take_first, not_same, same-refl}
 use Rattle.trie_core.specs.Nodes.{BitMap, Seen}
 use Rattle.trie_core.specs.InnerNodes.{AreShort, AreLong, under, child_entries, child_map, node_map, IsNode}
 
@@ -23,12 +24,12 @@ differs : (q b : List Bool) → length b ≡ 5 → (take 5 q ≡ b → ⊥) → 
 differs q b l n k e = n (ap (take 5) e ∙ take_first b k l)
 
 pub tail_rises : {Y : Type 0} (e : List Bool × Y) (es : List (List Bool × Y)) → T (is_sorted bits_cmp (e ∷ es)) → T (is_sorted bits_cmp es) × T (below_all bits_cmp e.0 es)
-tail_rises e es h = let p = both _ _ h in (p.1, p.0)
+tail_rises e es h = let p = T-parts _ _ h in (p.1, p.0)
 
 -- a string before all others is not among them
 pub find_before : {Y : Type 0} (q : List Bool) (es : List (List Bool × Y)) → T (below_all bits_cmp q es) → find bits_cmp q es ≡ None
 find_before q [] h = refl
-find_before q (e ∷ es) h = let p = both _ _ h in ap (λ o. cond (is_eq o) (Some e.1) (find bits_cmp q es)) (less-T _ p.0) ∙ find_before q es p.1
+find_before q (e ∷ es) h = let p = T-parts _ _ h in ap (λ o. cond (is_eq o) (Some e.1) (find bits_cmp q es)) (less_from_T _ p.0) ∙ find_before q es p.1
 
 module _ {X : Type 0} where
   abbrev pub or_else : Option X → Option X → Option X

@@ -4,8 +4,9 @@ use Rattle.std.specs.Prelude.{T, nat_lt, Option, Some, None, is_some}
 use Rattle.std.specs.FinMap.{find, get, remove, len, empty, is_sorted, get-empty, get-insert, get-remove, len-insert, len-empty, same_map}
 use Rattle.std.specs.FinMap.Entries.{below_all}
 use Rattle.std.proofs.lemmas.Bool.Decides.{nat_tests}
+use Rattle.ipnet_addr.proofs.Basics.{T-and, T-parts}
 use Rattle.ipnet_blocks.specs.BitStrings.{bits_cmp}
-use Rattle.trie_core.proofs.Strings.{bits_total, bits_same, same, same-Decides, same-refl, both, T-and}
+use Rattle.trie_core.proofs.Strings.{bits_total, bits_same, same, same-Decides, same-refl}
 use Rattle.trie_core.specs.Nodes.{BitSet, Seen}
 use Rattle.trie_core.specs.InnerNodes.{AreLong, IsNode}
 use Rattle.trie_core.specs.InnerCount.{spare_count, spare_if, spare_of, spares_below, marked_if, marked, marks, spare_set, total, entry_count}
@@ -51,11 +52,11 @@ module _ {X : Type 0} where
 
   marks_above : (b : List Bool) (cs : List (List Bool × Seen X)) → T (below_all bits_cmp b cs) → T (below_all bits_cmp b (marks cs))
   marks_above b [] h = tt
-  marks_above b (c ∷ cs) h = let p = both _ _ h in T-and _ _ p.0 (marks_above b cs p.1)
+  marks_above b (c ∷ cs) h = let p = T-parts _ _ h in T-and _ _ p.0 (marks_above b cs p.1)
 
   marks_rise : (cs : List (List Bool × Seen X)) → T (is_sorted bits_cmp cs) → T (is_sorted bits_cmp (marks cs))
   marks_rise [] h = tt
-  marks_rise (c ∷ cs) h = let p = both _ _ h in T-and _ _ (marks_above c.0 cs p.0) (marks_rise cs p.1)
+  marks_rise (c ∷ cs) h = let p = T-parts _ _ h in T-and _ _ (marks_above c.0 cs p.0) (marks_rise cs p.1)
 
   marks_long : (cs : List (List Bool × Seen X)) → AreLong cs → AreLong (marks cs)
   marks_long [] h = tt

@@ -7,11 +7,13 @@ use Rattle.std.specs.Ordering.{nat_cmp, eq_by_cmp, is_eq}
 use Rattle.std.specs.FinMap.{find, put, is_sorted}
 use Rattle.std.specs.FinMap.Entries.{below_all, by_order}
 use Rattle.std.proofs.lemmas.Bool.Decides.{nat_tests}
+use Rattle.std.proofs.lemmas.Bool.{both_ways}
+use Rattle.ipnet_addr.proofs.Basics.{T-and, T-parts, less_from_T}
 use Rattle.ipnet_blocks.specs.BitStrings.{bits_cmp}
 use Rattle.trie_core.specs.InnerPlaces.{place_of, child_of, place_string, child_string, at_places, AllBelow, without, named, value_list, child_list}
 use Rattle.trie_core.specs.Nodes.{Seen}
 use Rattle.trie_core.specs.InnerNodes.{AreShort, AreLong, IsNode}
-use Rattle.trie_core.proofs.Strings.{same, same-refl, same-Decides, no_false, both, less-T, same_false, T-and}
+use Rattle.trie_core.proofs.Strings.{same, same-refl, same-Decides, same_false}
 use Rattle.trie_core.proofs.Maps.{ListChanges}
 use Rattle.trie_core.proofs.Order.{T-less}
 use Rattle.trie_core.proofs.Count.{things}
@@ -37,7 +39,7 @@ children_named = record {
       number_less 5 (child_string n) (child_string m) (length-child_string n) (length-child_string m) (omega (arith, child_of-string n (omega (arith, h, l)), child_of-string m l, h));
 }
 
-less_differs : (xs ys : List Bool) → bits_cmp xs ys ≡ Less → xs ≡ ys → ⊥
+pub less_differs : (xs ys : List Bool) → bits_cmp xs ys ≡ Less → xs ≡ ys → ⊥
 less_differs xs ys e p = let z : Less ≡ bits_cmp ys ys = sym e ∙ ap (λ x. bits_cmp x ys) p in let t = ap is_eq z ∙ same-refl ys in cc
 
 apart_by : {f : ℕ → List Bool} {w : ℕ} → IsNaming f w → (n m : ℕ) → n < w → m < w → (n ≡ m → ⊥) → (b : Bool) → nat_lt n m ≡ b → f n ≡ f m → ⊥
@@ -56,7 +58,7 @@ names_apart : {f : ℕ → List Bool} {w : ℕ} → IsNaming f w → (n m : ℕ)
 names_apart a n m h l d = apart_by a n m h l d (nat_lt n m) refl
 
 differs : (n m : ℕ) → eq_by_cmp nat_cmp n m ≡ false → n ≡ m → ⊥
-differs n m e p = let z : eq_by_cmp nat_cmp n m ≡ true = grind (arith, nat_tests) in no_false e z
+differs n m e p = let z : eq_by_cmp nat_cmp n m ≡ true = grind (arith, nat_tests) in both_ways _ e z
 
 equal : (n m : ℕ) → eq_by_cmp nat_cmp n m ≡ true → n ≡ m
 equal n m e = grind (arith, nat_tests)
@@ -126,14 +128,14 @@ module _ {X : Type 0} where
   named_above : (f : ℕ → List Bool) (w n : ℕ) (es : List (ℕ × X)) → IsNaming f w → AllBelow w es → T (below_all nat_cmp n es) → T (below_all bits_cmp (f n) (named f es))
   named_above f w n [] a b s = tt
   named_above f w n (e ∷ es) a b s =
-      let p = both _ _ s in
-      let l = less-T _ p.0 in
+      let p = T-parts _ _ s in
+      let l = less_from_T _ p.0 in
       T-and _ _ (T-less _ (a.rises n e.0 (grind (arith, nat_tests)) b.0)) (named_above f w n es a b.1 p.1)
 
   -- the strings rise with the numbers
   pub named_sorted : (f : ℕ → List Bool) (w : ℕ) (es : List (ℕ × X)) → IsNaming f w → AllBelow w es → T (is_sorted nat_cmp es) → T (is_sorted bits_cmp (named f es))
   named_sorted f w [] a b s = tt
-  named_sorted f w (e ∷ es) a b s = let p = both _ _ s in T-and _ _ (named_above f w e.0 es a b.1 p.0) (named_sorted f w es a b.1 p.1)
+  named_sorted f w (e ∷ es) a b s = let p = T-parts _ _ s in T-and _ _ (named_above f w e.0 es a b.1 p.0) (named_sorted f w es a b.1 p.1)
 
   below_step : (w n h bits : ℕ) (x : X) (xs : List X) → bits < 2 ^ suc h → AllBelow (suc n + h) (at_places w (suc n) (bits / 2) (x ∷ xs)) × AllBelow (suc n + h) (at_places w (suc n) (bits / 2) xs) → AllBelow (n + suc h) (at_places (suc w) n bits (x ∷ xs))
   below_step w n h bits x xs b r =

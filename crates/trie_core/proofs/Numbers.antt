@@ -19,7 +19,7 @@ ones_bit zero h = refl
 ones_bit (suc zero) h = refl
 ones_bit (suc (suc b)) h = absurd (omega (arith, h))
 
-double : (i : ℕ) → 2 ^ suc i ≡ 2 * 2 ^ i
+pub double : (i : ℕ) → 2 ^ suc i ≡ 2 * 2 ^ i
 double i = omega arith
 
 -- ---- places

@@ -15,7 +15,9 @@ use Rattle.ipnet_blocks.specs.BitStrings.{bits_cmp, begins}
 use Rattle.trie_core.specs.InnerPlaces.{place_of, child_of, place_string, child_string, placed, without, AllBelow, named, first_place_of, IsFirstPlace}
 use Rattle.trie_core.specs.InnerWalks.{is_past, first_value, KeysWithin, Left}
 use Rattle.std.proofs.Math.ListN.{length-append}
-use Rattle.trie_core.proofs.Strings.{both, front, take_front, take_take}
+use Rattle.std.proofs.lemmas.Bool.{and_right}
+use Rattle.ipnet_addr.proofs.Basics.{T-parts}
+use Rattle.trie_core.proofs.Strings.{front, take_front, take_take, and_true}
 use Rattle.trie_core.proofs.Numbers.{place_bound, number_bound, number-take, length-child_string}
 use Rattle.trie_core.proofs.PlaceTables.{past_short, past_long, from_short, from_long}
 use Rattle.trie_core.specs.Nodes.{Seen}
@@ -28,11 +30,8 @@ use Rattle.trie_core.proofs.Frames.{IsTold, nat_alike, where_twice, are_parts, I
 
 -- ---- bits
 
-both_one : (a b : ℕ) → min a b ≡ 1 → a < 2 → b < 2 → (a ≡ 1) × (b ≡ 1)
-both_one a b e l m = (omega (arith, e, l, m), omega (arith, e, l, m))
-
-both_set : (a b i : ℕ) → bit_at (bit_and a b) i ≡ 1 → (bit_at a i ≡ 1) × (bit_at b i ≡ 1)
-both_set a b i e = both_one (bit_at a i) (bit_at b i) (sym (bit_at_and a b i) ∙ e) (bit_at-lt a i) (bit_at-lt b i)
+pub both_set : (a b i : ℕ) → bit_at (bit_and a b) i ≡ 1 → (bit_at a i ≡ 1) × (bit_at b i ≡ 1)
+both_set a b i e = (omega (arith, bit_at_and a b i, e, bit_at-lt a i, bit_at-lt b i), omega (arith, bit_at_and a b i, e, bit_at-lt a i, bit_at-lt b i))
 
 other_zero : (a b : ℕ) → min a b ≡ 0 → a ≡ 1 → b ≡ 0
 other_zero a b e f = omega (arith, e, f)
@@ -72,17 +71,9 @@ has_cleared i j word h = by (eq_by_cmp nat_cmp i j) refl
         let q = bit_within word (suc i) h in
         bit_at-suc (word - 2 ^ suc i) j ∙ ap (λ x. bit_at x j) (half_less word i q) ∙ other_bit i j (word / 2) (sym (bit_at-suc word i) ∙ h) (λ f. e (ap suc f)) ∙ sym (bit_at-suc word j)
 
-    and_true : (b : Bool) → b ≡ (b && true)
-    and_true true = refl
-    and_true false = refl
-
-    and_false : (b : Bool) → false ≡ (b && false)
-    and_false true = refl
-    and_false false = refl
-
     by : (b : Bool) → eq_by_cmp nat_cmp i j ≡ b → has_bit (word - 2 ^ i) j ≡ (has_bit word j && not b)
-    by true e = let s : i ≡ j = grind (arith, nat_tests) in ap (λ x. eqb x 1) (same_bit i j word h s) ∙ and_false (has_bit word j)
-    by false e = let s : i ≡ j → ⊥ = λ f. let z : eq_by_cmp nat_cmp i j ≡ true = grind (arith, nat_tests) in let w = sym e ∙ z in cc in ap (λ x. eqb x 1) (other_bit i j word h s) ∙ and_true (has_bit word j)
+    by true e = let s : i ≡ j = grind (arith, nat_tests) in ap (λ x. eqb x 1) (same_bit i j word h s) ∙ sym (and_right (has_bit word j) false refl)
+    by false e = let s : i ≡ j → ⊥ = λ f. let z : eq_by_cmp nat_cmp i j ≡ true = grind (arith, nat_tests) in let w = sym e ∙ z in cc in ap (λ x. eqb x 1) (other_bit i j word h s) ∙ sym (and_true (has_bit word j))
 
 pub powers_rise : (a b : ℕ) → a ≤ b → 2 ^ a ≤ 2 ^ b
 powers_rise a b h = pow-le-pow_right (omega arith) h
@@ -96,7 +87,7 @@ module _ {X : Type 0} where
   find_above : (i n : ℕ) (es : List (ℕ × X)) → T (below_all nat_cmp n es) → i ≤ n → find nat_cmp i es ≡ None
   find_above i n [] b h = refl
   find_above i n (e ∷ es) b h =
-      let p = both _ _ b in
+      let p = T-parts _ _ b in
       let q = p.0 in
       let r = find_above i n es p.1 h in
       grind (arith, nat_tests)
@@ -112,14 +103,14 @@ module _ {X : Type 0} where
       by : (a b : Bool) → nat_lt e.0 i ≡ a → nat_lt i e.0 ≡ b → e ∷ es ≡ (i, x) ∷ without i (e ∷ es)
       by true b g h = let z = sym found_first ∙ n e.0 (grind (arith, nat_tests)) in cc
       by false true g h =
-          let p = both _ _ s in
+          let p = T-parts _ _ s in
           let l : i < e.0 = grind (arith, nat_tests) in
           let r = find_above i e.0 es p.0 (omega (arith, l)) in
           let z : find nat_cmp i (e ∷ es) ≡ None = grind (arith, nat_tests) in
           let w = sym f ∙ z in
           cc
       by false false g h =
-          let p = both _ _ s in
+          let p = T-parts _ _ s in
           let k : i ≡ e.0 = grind (arith, nat_tests) in
           let v : Some e.1 ≡ Some x = sym found_first ∙ ap (λ j. find nat_cmp j (e ∷ es)) (sym k) ∙ f in
           let y : e.1 ≡ x = cc in
@@ -296,10 +287,6 @@ where_told v c es t a b = λ j. where_key bits_cmp (λ k. told_by v c t a b k j)
 
 has_from : (from i : ℕ) → i < 32 → has_bit (2 ^ 32 - 2 ^ from) i ≡ not (nat_lt i from)
 has_from from i h = has_between from 32 i ∙ (let b : nat_lt i 32 ≡ true = grind (arith, nat_tests) in ap (λ x. not (nat_lt i from) && x) b ∙ and_true (not (nat_lt i from)))
-  where
-    and_true : (b : Bool) → (b && true) ≡ b
-    and_true true = refl
-    and_true false = refl
 
 module _ {X : Type 0} where
   where_all : (es : List (List Bool × X)) → where_key bits_cmp (λ _. true) es ≡ es

@@ -8,11 +8,12 @@ use Rattle.std.specs.FinMap.{entries, find, get, is_sorted, entries_sorted, get-
 use Rattle.std.specs.FinMap.Entries.{below_all, same_entries}
 use Rattle.std.proofs.lemmas.Bool.Decides.{nat_tests}
 use Rattle.std.proofs.Math.ListN.{length-append}
+use Rattle.ipnet_addr.proofs.Basics.{T-and, T-parts, less_from_T}
 use Rattle.ipnet_blocks.specs.BitStrings.{bits_cmp}
 use Rattle.trie_core.specs.InnerWalks.{first_value}
 use Rattle.trie_core.specs.Nodes.{BitMap, Seen}
 use Rattle.trie_core.specs.InnerNodes.{under, node_map, IsNode}
-use Rattle.trie_core.proofs.Strings.{both, append_none, bits_total, bits_same, same, same-refl, same-Decides, other_length, front, less-T, bits_cmp-under, T-and}
+use Rattle.trie_core.proofs.Strings.{append_none, bits_total, bits_same, same, same-refl, same-Decides, other_length, front, bits_cmp-under}
 use Rattle.trie_core.proofs.Maps.{tail_rises, or_else, find-append_all, find-apart, find-child, child_get, get-short, get-long, get_none, node_map-none}
 
 -- ---- the order of strings
@@ -59,11 +60,11 @@ module _ {Y : Type 0} where
   -- a string that is found is above one that is below all
   pub found_above : (n k : List Bool) (es : List (List Bool × Y)) → T (below_all bits_cmp n es) → is_some (find bits_cmp k es) ≡ true → bits_cmp n k ≡ Less
   found_above n k [] h s = cc
-  found_above n k (e ∷ es) h s = let p = both _ _ h in found_above_by n k e es (less-T _ p.0) (found_above n k es p.1) (same k e.0) refl s
+  found_above n k (e ∷ es) h s = let p = T-parts _ _ h in found_above_by n k e es (less_from_T _ p.0) (found_above n k es p.1) (same k e.0) refl s
 
   lower : (n m : List Bool) (es : List (List Bool × Y)) → bits_cmp n m ≡ Less → T (below_all bits_cmp m es) → T (below_all bits_cmp n es)
   lower n m [] h b = tt
-  lower n m (e ∷ es) h b = let p = both _ _ b in T-and _ _ (T-less _ (less_trans n m e.0 h (less-T _ p.0))) (lower n m es h p.1)
+  lower n m (e ∷ es) h b = let p = T-parts _ _ b in T-and _ _ (T-less _ (less_trans n m e.0 h (less_from_T _ p.0))) (lower n m es h p.1)
 
   -- the list begins after n
   abbrev pub StartsAfter : List Bool → List (List Bool × Y) → Type 0
@@ -156,15 +157,15 @@ module _ {X : Type 0} where
 
   pub below_under : (bs x : List Bool) (es : List (List Bool × X)) → T (below_all bits_cmp x es) → T (below_all bits_cmp (bs ++ x) (under bs es))
   below_under bs x [] h = tt
-  below_under bs x (e ∷ es) h = let p = both _ _ h in T-and _ _ (T-less _ (bits_cmp-under bs x e.0 ∙ less-T _ p.0)) (below_under bs x es p.1)
+  below_under bs x (e ∷ es) h = let p = T-parts _ _ h in T-and _ _ (T-less _ (bits_cmp-under bs x e.0 ∙ less_from_T _ p.0)) (below_under bs x es p.1)
 
   pub below_append : (x : List Bool) (es fs : List (List Bool × X)) → T (below_all bits_cmp x es) → T (below_all bits_cmp x fs) → T (below_all bits_cmp x (es ++ fs))
   below_append x [] fs g h = h
-  below_append x (e ∷ es) fs g h = let p = both _ _ g in T-and _ _ p.0 (below_append x es fs p.1 h)
+  below_append x (e ∷ es) fs g h = let p = T-parts _ _ g in T-and _ _ p.0 (below_append x es fs p.1 h)
 
   pub sorted_under : (bs : List Bool) (es fs : List (List Bool × X)) → T (is_sorted bits_cmp es) → T (is_sorted bits_cmp fs) → ((x : List Bool) → T (below_all bits_cmp (bs ++ x) fs)) → T (is_sorted bits_cmp (under bs es ++ fs))
   sorted_under bs [] fs g h f = h
-  sorted_under bs (e ∷ es) fs g h f = let p = both _ _ g in T-and _ _ (below_append (bs ++ e.0) (under bs es) fs (below_under bs e.0 es p.0) (f e.0)) (sorted_under bs es fs p.1 h f)
+  sorted_under bs (e ∷ es) fs g h f = let p = T-parts _ _ g in T-and _ _ (below_append (bs ++ e.0) (under bs es) fs (below_under bs e.0 es p.0) (f e.0)) (sorted_under bs es fs p.1 h f)
 
   -- what comes after the first child
   pub after_keys : {vs : List (List Bool × X)} {cs : List (List Bool × Seen X)} {c : List Bool × Seen X} → IsNode vs (c ∷ cs) → StartsAfter c.0 vs → (r q : List Bool) → is_some (get (node_map vs cs) q) ≡ true → bits_cmp (c.0 ++ r) q ≡ Less
@@ -185,7 +186,7 @@ module _ {X : Type 0} where
 
 -- ---- whether a walk gives the first value next, or the first child's entries
 
-is_less : (o : Ordering) → is_lt o ≡ true → o ≡ Less
+pub is_less : (o : Ordering) → is_lt o ≡ true → o ≡ Less
 is_less Less e = refl
 is_less Equal e = cc
 is_less Greater e = cc

@@ -5,11 +5,13 @@ use Rattle.std.specs.Ordering.{is_lt}
 use Rattle.std.specs.Int.{bit_at}
 use Rattle.std.proofs.lemmas.Bool.Decides.{nat_tests}
 use Rattle.std.proofs.Math.ListN.{length-take}
+use Rattle.std.proofs.lemmas.Bool.{eqb-true, and_right}
+use Rattle.ipnet_addr.proofs.Basics.{T-true, T-parts}
 use Rattle.trie_core.specs.Bits.{number_from, is_from}
 use Rattle.ipnet_blocks.specs.BitStrings.{bits_cmp, begins}
 use Rattle.trie_core.specs.InnerPlaces.{place_from, place_of, child_of, place_string, IsBeginMask}
 use Rattle.trie_core.specs.InnerWalks.{is_past}
-use Rattle.trie_core.proofs.Strings.{both, take_take, T-true}
+use Rattle.trie_core.proofs.Strings.{take_take}
 use Rattle.trie_core.proofs.Numbers.{place_strings, place_from_number, number-take}
 
 -- a test of all strings of fewer than k bits
@@ -19,9 +21,9 @@ every (suc k) t = t [] && (every k (λ bs. t (true ∷ bs)) && every k (λ bs. t
 
 pub every_holds : (k : ℕ) (t : List Bool → Bool) → T (every k t) → (bs : List Bool) → length bs < k → t bs ≡ true
 every_holds zero t h bs l = absurd (omega (arith, l))
-every_holds (suc k) t h [] l = T-true _ (both (t []) (every k (λ bs. t (true ∷ bs)) && every k (λ bs. t (false ∷ bs))) h).0
-every_holds (suc k) t h (true ∷ bs) l = every_holds k (λ bs. t (true ∷ bs)) (both (every k (λ bs. t (true ∷ bs))) (every k (λ bs. t (false ∷ bs))) (both (t []) (every k (λ bs. t (true ∷ bs)) && every k (λ bs. t (false ∷ bs))) h).1).0 bs (omega (arith, l))
-every_holds (suc k) t h (false ∷ bs) l = every_holds k (λ bs. t (false ∷ bs)) (both (every k (λ bs. t (true ∷ bs))) (every k (λ bs. t (false ∷ bs))) (both (t []) (every k (λ bs. t (true ∷ bs)) && every k (λ bs. t (false ∷ bs))) h).1).1 bs (omega (arith, l))
+every_holds (suc k) t h [] l = T-true _ (T-parts (t []) (every k (λ bs. t (true ∷ bs)) && every k (λ bs. t (false ∷ bs))) h).0
+every_holds (suc k) t h (true ∷ bs) l = every_holds k (λ bs. t (true ∷ bs)) (T-parts (every k (λ bs. t (true ∷ bs))) (every k (λ bs. t (false ∷ bs))) (T-parts (t []) (every k (λ bs. t (true ∷ bs)) && every k (λ bs. t (false ∷ bs))) h).1).0 bs (omega (arith, l))
+every_holds (suc k) t h (false ∷ bs) l = every_holds k (λ bs. t (false ∷ bs)) (T-parts (every k (λ bs. t (true ∷ bs))) (every k (λ bs. t (false ∷ bs))) (T-parts (t []) (every k (λ bs. t (true ∷ bs)) && every k (λ bs. t (false ∷ bs))) h).1).1 bs (omega (arith, l))
 
 -- a test of all strings of k bits
 abbrev pub each_of : ℕ → (List Bool → Bool) → Bool
@@ -32,11 +34,8 @@ pub each_holds : (k : ℕ) (t : List Bool → Bool) → T (each_of k t) → (bs 
 each_holds zero t h [] l = T-true _ h
 each_holds zero t h (b ∷ bs) l = absurd (omega (arith, l))
 each_holds (suc k) t h [] l = absurd (omega (arith, l))
-each_holds (suc k) t h (true ∷ bs) l = each_holds k (λ bs. t (true ∷ bs)) (both (each_of k (λ bs. t (true ∷ bs))) (each_of k (λ bs. t (false ∷ bs))) h).0 bs (omega (arith, l))
-each_holds (suc k) t h (false ∷ bs) l = each_holds k (λ bs. t (false ∷ bs)) (both (each_of k (λ bs. t (true ∷ bs))) (each_of k (λ bs. t (false ∷ bs))) h).1 bs (omega (arith, l))
-
-pub eqb_same : (a b : ℕ) → eqb a b ≡ true → a ≡ b
-eqb_same a b h = grind (arith, nat_tests)
+each_holds (suc k) t h (true ∷ bs) l = each_holds k (λ bs. t (true ∷ bs)) (T-parts (each_of k (λ bs. t (true ∷ bs))) (each_of k (λ bs. t (false ∷ bs))) h).0 bs (omega (arith, l))
+each_holds (suc k) t h (false ∷ bs) l = each_holds k (λ bs. t (false ∷ bs)) (T-parts (each_of k (λ bs. t (true ∷ bs))) (each_of k (λ bs. t (false ∷ bs))) h).1 bs (omega (arith, l))
 
 abbrev pub masks : List ℕ
 masks = 31 ∷ 31 ∷ 47 ∷ 47 ∷ 199 ∷ 199 ∷ 327 ∷ 327 ∷ 3587 ∷ 3587 ∷ 5635 ∷ 5635 ∷ 25091 ∷ 25091 ∷ 41475 ∷ 41475 ∷ 983041 ∷ 983041 ∷ 1507329 ∷ 1507329 ∷ 6488065 ∷ 6488065 ∷ 10682369 ∷ 10682369 ∷ 117506049 ∷ 117506049 ∷ 184614913 ∷ 184614913 ∷ 822149121 ∷ 822149121 ∷ 1359020033 ∷ 1359020033 ∷ []
@@ -49,7 +48,7 @@ abbrev mask_test : List Bool → ℕ → Bool
 mask_test q m = every 5 (λ p. eqb (bit_at m (place_from 5 p)) (cond (begins p q) 1 0))
 
 mask_holds : (q : List Bool) (m : ℕ) → mask_test q m ≡ true → IsBeginMask q m
-mask_holds q m h p l = eqb_same _ _ (every_holds 5 (λ p. eqb (bit_at m (place_from 5 p)) (cond (begins p q) 1 0)) (rw h tt) p l)
+mask_holds q m h p l = eqb-true _ _ (every_holds 5 (λ p. eqb (bit_at m (place_from 5 p)) (cond (begins p q) 1 0)) (rw h tt) p l)
 
 five_masks : (q : List Bool) → length q ≡ 5 → IsBeginMask q (get_or masks (child_of q) 0)
 five_masks q l = mask_holds q (get_or masks (child_of q) 0) (each_holds 5 (λ q. mask_test q (get_or masks (number_from 5 q) 0)) tt q l)
@@ -73,7 +72,7 @@ short_mask q h = mask_holds q (get_or masks (child_of q) 0 % 2 ^ (place_of q + 1
 pub length_of_place : (n : ℕ) → n < 31 → get_or lengths n 0 ≡ length (place_string n)
 length_of_place n h =
     let s = place_strings n h in
-    ap (λ i. get_or lengths i 0) (sym s.place) ∙ eqb_same _ _ (every_holds 5 (λ q. eqb (get_or lengths (place_from 5 q) 0) (length q)) tt (place_string n) s.short)
+    ap (λ i. get_or lengths i 0) (sym s.place) ∙ eqb-true _ _ (every_holds 5 (λ q. eqb (get_or lengths (place_from 5 q) 0) (length q)) tt (place_string n) s.short)
 
 abbrev firsts : List ℕ
 firsts = 0 ∷ 0 ∷ 0 ∷ 0 ∷ 0 ∷ 2 ∷ 4 ∷ 4 ∷ 6 ∷ 8 ∷ 8 ∷ 8 ∷ 10 ∷ 12 ∷ 12 ∷ 14 ∷ 16 ∷ 16 ∷ 16 ∷ 16 ∷ 18 ∷ 20 ∷ 20 ∷ 22 ∷ 24 ∷ 24 ∷ 24 ∷ 26 ∷ 28 ∷ 28 ∷ 30 ∷ []
@@ -81,7 +80,7 @@ firsts = 0 ∷ 0 ∷ 0 ∷ 0 ∷ 0 ∷ 2 ∷ 4 ∷ 4 ∷ 6 ∷ 8 ∷ 8 ∷ 8 ∷
 pub number_of_place : (n : ℕ) → n < 31 → get_or firsts n 0 ≡ child_of (place_string n)
 number_of_place n h =
     let s = place_strings n h in
-    ap (λ i. get_or firsts i 0) (sym s.place) ∙ eqb_same _ _ (every_holds 5 (λ q. eqb (get_or firsts (place_from 5 q) 0) (number_from 5 q)) tt (place_string n) s.short)
+    ap (λ i. get_or firsts i 0) (sym s.place) ∙ eqb-true _ _ (every_holds 5 (λ q. eqb (get_or firsts (place_from 5 q) 0) (number_from 5 q)) tt (place_string n) s.short)
 
 -- a test of two strings, where the one is short and the other has five bits, or both are short
 both_hold : (t : List Bool → List Bool → Bool) → T (every 5 (λ q. every 5 (t q))) → (q r : List Bool) → length q < 5 → length r < 5 → t q r ≡ true
@@ -125,13 +124,9 @@ inside_some q l = let a : nat_lt 0 (31 / 2 ^ length q) ≡ true = every_holds 5 
 
 -- ---- what comes after a string
 
-and_false : (b : Bool) → (b && false) ≡ false
-and_false true = refl
-and_false false = refl
-
 -- of a string at least as long as b its first bits tell whether it is past b
 past_front : (k : ℕ) (b r : List Bool) → length b ≤ k → is_past b (take k r) ≡ is_past b r
-past_front k [] r h = and_false (is_lt (bits_cmp [] (take k r))) ∙ sym (and_false (is_lt (bits_cmp [] r)))
+past_front k [] r h = and_right (is_lt (bits_cmp [] (take k r))) false refl ∙ sym (and_right (is_lt (bits_cmp [] r)) false refl)
 past_front zero (x ∷ b) r h = absurd (omega (arith, h))
 past_front (suc k) (x ∷ b) [] h = refl
 past_front (suc k) (true ∷ b) (true ∷ r) h = past_front k b r (omega (arith, h))
@@ -187,7 +182,7 @@ longest_place q h =
     let l : length (take 5 q) ≡ 5 = omega (arith, length-take 5 q, h) in
     let n : child_of (take 5 q) ≡ child_of q = number-take 5 q in
     let t : take 4 (take 5 q) ≡ take 4 q = take_take q 4 1 in
-    let e : child_of (take 4 (take 5 q)) ≡ child_of (take 5 q) - child_of (take 5 q) % 2 = eqb_same _ _ (each_holds 5 (λ b. eqb (number_from 5 (take 4 b)) (number_from 5 b - number_from 5 b % 2)) tt b l) in
+    let e : child_of (take 4 (take 5 q)) ≡ child_of (take 5 q) - child_of (take 5 q) % 2 = eqb-true _ _ (each_holds 5 (λ b. eqb (number_from 5 (take 4 b)) (number_from 5 b - number_from 5 b % 2)) tt b l) in
     let f : child_of (take 4 q) ≡ child_of q - child_of q % 2 = ap child_of (sym t) ∙ e ∙ ap (λ k. k - k % 2) n in
     let p = place_from_number (take 4 q) (omega (arith, length-take 4 q)) in
     omega (arith, p, ap count_ones f, f, length-take 4 q, h)

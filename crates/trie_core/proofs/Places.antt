@@ -5,6 +5,7 @@ use Rattle.std.specs.Ordering.{nat_cmp}
 use Rattle.std.specs.FinMap.{find}
 use Rattle.std.proofs.lemmas.Nat.{mod-pow-add, shr-shr, ones_cat, shr_split, pow_pos}
 use Rattle.std.proofs.lemmas.Bool.Decides.{nat_tests}
+use Rattle.std.proofs.lemmas.Grind.{get_or_head}
 use Rattle.trie_core.specs.InnerPlaces.{at_places}
 use Rattle.trie_core.proofs.Numbers.{ones_bit}
 
@@ -39,9 +40,6 @@ module _ {X : Type 0} where
   at_zero : (n bits : ℕ) (x : X) (xs es fs : List (ℕ × X)) (d : X) → bits % 2 ≡ 1 → find nat_cmp (n + 0) (cond (eqb (bits % 2) 1) ((n, x) ∷ es) fs) ≡ Some x
   at_zero n bits x xs es fs d h = let e : eqb (bits % 2) 1 ≡ true = grind (arith, nat_tests) in rw e (grind (arith, nat_tests))
 
-  head_of : (k : ℕ) (x : X) (xs : List X) (d : X) → k ≡ 0 → get_or (x ∷ xs) k d ≡ x
-  head_of k x xs d e = rw e refl
-
   tail_of : (k m : ℕ) (x : X) (xs : List X) (d : X) → k ≡ m + 1 → get_or (x ∷ xs) k d ≡ get_or xs m d
   tail_of k m x xs d e = let f : k ≡ suc m = omega (arith, e) in rw f refl
 
@@ -71,7 +69,7 @@ module _ {X : Type 0} where
   at_set (suc w) n i bits [] d l h m = absurd (omega (arith, m))
   at_set (suc w) n zero bits (x ∷ xs) d l h m =
       let z : bits % 2 ^ 0 ≡ 0 = omega arith in
-      at_zero n bits x [] _ _ d (omega (arith, h)) ∙ ap Some (sym (head_of _ x xs d (ap count_ones z ∙ ones_bit 0 (omega arith))))
+      at_zero n bits x [] _ _ d (omega (arith, h)) ∙ ap Some (sym (get_or_head x xs _ d (ap count_ones z ∙ ones_bit 0 (omega arith))))
   at_set (suc w) n (suc i) bits (x ∷ xs) d l h m =
       let q : bits / 2 / 2 ^ i % 2 ≡ 1 = ap (λ y. y % 2) (shr-shr bits 1 i) ∙ let e : 1 + i ≡ suc i = omega arith in rw e h in
       let f : n + suc i ≡ suc n + i = omega arith in

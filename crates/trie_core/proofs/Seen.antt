@@ -1,10 +1,11 @@
 -- What a node is seen as, from its words and lists, and what a change of them makes of it.
-use Rattle.std.proofs.Common.{◌≡◌, ℕ, zero, suc, ◌+◌, ◌<◌, ◌≤◌, Bool, true, false, cond, List, [], ◌∷◌, ◌++◌, length, take, drop, get_or, set, refl, sym, ap, ◌∙◌, arith}
+use Rattle.std.proofs.Common.{◌≡◌, ℕ, zero, suc, ◌+◌, ◌<◌, ◌≤◌, Bool, true, false, cond, List, [], ◌∷◌, ◌++◌, length, take, drop, get_or, set, sym, ap, ◌∙◌, arith}
 use Rattle.std.specs.Prelude.{count_ones, max, Some, None}
 use Rattle.std.specs.Ordering.{nat_cmp}
 use Rattle.std.specs.FinMap.{find, get, empty, empty_of_len}
 use Rattle.std.proofs.lemmas.Nat.{zero_from_ones}
 use Rattle.std.proofs.Math.ListN.{length-append}
+use Rattle.std.proofs.lemmas.List.{nil_from_length}
 use Rattle.ipnet_blocks.specs.BitStrings.{bits_cmp}
 use Rattle.trie_core.specs.InnerPlaces.{place_of, child_of, at_places, value_list, child_list}
 use Rattle.trie_core.specs.Nodes.{BitMap, Seen}
@@ -20,10 +21,6 @@ use Rattle.trie_core.proofs.Numbers.{ones_bit}
 use Rattle.trie_core.proofs.Lengths.{length-things}
 use Rattle.trie_core.proofs.Marks.{marked-other, marked_get, set-len, set-long, set-root}
 use Rattle.trie_core.proofs.Named.{is_node, value_things, child_things, value_found, child_found}
-
-pub no_items : {Y : Type 0} (ys : List Y) → length ys ≡ 0 → ys ≡ []
-no_items [] e = refl
-no_items (y ∷ ys) e = absurd (omega arith)
 
 module _ {X : Type 0} where
   -- ---- sums and heights of children
@@ -158,7 +155,7 @@ module _ {X : Type 0} where
 
   pub bare : {vb : ℕ} {vs : List X} {cb : ℕ} {cs : List (Seen X)} {m : Seen X} → IsSeen vb vs cb cs m → length vs ≡ 0 → length cs ≡ 0 → (m.entries ≡ empty) × (spare_count m ≡ 0) × (all_nodes m ≡ 1)
   bare {vb} {vs} {cb} {cs} s e f =
-      (sym s.map ∙ new_map vb cb vs cs (no_items vs e) (no_items cs f), sym s.spares ∙ ap spares_below (no_items cs f), sym s.count ∙ ap (λ x. total all_nodes x + 1) (no_items cs f))
+      (sym s.map ∙ new_map vb cb vs cs (nil_from_length vs e) (nil_from_length cs f), sym s.spares ∙ ap spares_below (nil_from_length cs f), sym s.count ∙ ap (λ x. total all_nodes x + 1) (nil_from_length cs f))
 
   -- a node with no key and no spare node
   pub left_bare : {vb : ℕ} {vs : List X} {cb : ℕ} {cs : List (Seen X)} {m : Seen X} → IsSeen vb vs cb cs m → m.entries ≡ empty → spare_count m ≡ 0 → (length vs ≡ 0) × (length cs ≡ 0)

@@ -7,11 +7,13 @@ use Rattle.std.proofs.lemmas.Bool.Decides.{nat_tests}
 use Rattle.std.proofs.lemmas.Nat.{ones_cat, shr_split, pow_pos, mod-pow-add}
 use Rattle.std.proofs.Math.ListN.{length-take, length-drop}
 use Rattle.std.proofs.Math.Seq.{take-nil, drop-nil}
+use Rattle.std.proofs.lemmas.List.{nil_from_length}
+use Rattle.ipnet_addr.proofs.Basics.{no_ones}
 use Rattle.trie_core.specs.InnerPlaces.{at_places, placed, first_place_of, IsFirstPlace}
 use Rattle.trie_core.proofs.Numbers.{ones_bit}
 use Rattle.trie_core.proofs.Places.{ones_below_suc}
 use Rattle.trie_core.proofs.Taken.{ones_below_le}
-use Rattle.trie_core.proofs.Seen.{no_bits, no_items}
+use Rattle.trie_core.proofs.Seen.{no_bits}
 use Rattle.trie_core.proofs.Edits.{low_bit, at_none, at_step, at_first, at_lowest, ones_clear, bit_within}
 
 -- the low bits and the others are all
@@ -36,9 +38,6 @@ high_half i bits = omega (arith, low_half i bits, low_odd i bits)
 
 high_even : (i bits : ℕ) → (bits - bits % 2 ^ suc i) % 2 ≡ 0
 high_even i bits = omega (arith, low_odd i bits)
-
-no_ones : (bits : ℕ) → count_ones (bits % 2 ^ 0) ≡ 0
-no_ones bits = let z : bits % 2 ^ 0 ≡ 0 = omega arith in ap count_ones z ∙ ones_bit 0 (omega arith)
 
 none_either : {Y : Type 0} (b : Bool) → ◌≡◌ {A = List Y} [] (cond b [] [])
 none_either true = refl
@@ -155,8 +154,8 @@ module _ {X : Type 0} where
 
   pub none_is : (bits : ℕ) (xs : List X) → bits ≡ 0 → count_ones bits ≡ length xs → first_place_of (placed bits xs) ≡ None
   unfolding placed
-  none_is bits xs z e = ap (λ ys. first_place_of (placed bits ys)) (no_items xs (sym e ∙ ap count_ones z ∙ ones_bit 0 (omega arith)))
+  none_is bits xs z e = ap (λ ys. first_place_of (placed bits ys)) (nil_from_length xs (sym e ∙ ap count_ones z ∙ ones_bit 0 (omega arith)))
 
   pub placed_none : (bits : ℕ) (xs : List X) → length xs ≡ 0 → placed bits xs ≡ []
   unfolding placed
-  placed_none bits xs e = ap (at_places 32 0 bits) (no_items xs e) ∙ at_none 32 0 bits
+  placed_none bits xs e = ap (at_places 32 0 bits) (nil_from_length xs e) ∙ at_none 32 0 bits

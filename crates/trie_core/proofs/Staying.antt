@@ -5,13 +5,14 @@ use Rattle.std.specs.FinMap.{get, len, find}
 use Rattle.std.specs.FinMap as map
 use Rattle.std.proofs.lemmas.List.{append_assoc}
 use Rattle.std.proofs.Math.ListN.{length-append}
+use Rattle.std.proofs.lemmas.Bool.{both_ways}
 use Rattle.ipnet_blocks.specs.BitStrings.{bits_cmp, begins}
 use Rattle.trie_core.specs.InnerPlaces.{child_of, child_list}
 use Rattle.trie_core.specs.Nodes.{BitMap, BitSet, Seen}
 use Rattle.trie_core.specs.InnerNodes.{node_map, IsNode}
 use Rattle.trie_core.specs.InnerCount.{marked, spare_set}
 use Rattle.trie_core.specs.Ways.{IsIdle, IsKept}
-use Rattle.trie_core.proofs.Strings.{same, no_false, front}
+use Rattle.trie_core.proofs.Strings.{same, front}
 use Rattle.ipnet_blocks.proofs.BitStrings.{begins_take}
 use Rattle.trie_core.proofs.Maps.{ListChanges, child_get, remove_absent}
 use Rattle.trie_core.proofs.Marks.{marked_get, marked-other, marked-root, root_if, set-short, set-long, set-changed}
@@ -111,7 +112,7 @@ module _ {X : Type 0} where
     pub kept_node : IsKept q (node_map vs cs) (spare_set cs) (node_map us ds) (spare_set ds)
     kept_node = record {
       off = each_string (λ s. begins s q ≡ false → get (spare_set ds) s ≡ get (spare_set cs) s) q (λ s l b. set-short k s l ∙ sym (set-short n s l)) in_off (λ s l e b. off_elsewhere s l e);
-      on = each_string On q on_short in_on (λ s l e b. absurd (no_false (off_way_there q s l e) b));
+      on = each_string On q on_short in_on (λ s l e b. absurd (both_ways _ (off_way_there q s l e) b));
     }
 
   -- ---- a node that was seen as m

@@ -1,18 +1,22 @@
 -- Bit strings: when two are equal, which is the first, and what a beginning is.
 use Rattle.std.proofs.Common.{◌≡◌, ℕ, zero, suc, ◌+◌, ◌≤◌, Bool, true, false, ◌&&◌, List, [], ◌∷◌, ◌++◌, length, take, drop, refl, ap, subst, arith}
-use Rattle.std.specs.Prelude.{T}
 use Rattle.std.specs.declared.cmp.Ordering.{Ordering}
 use Rattle.std.specs.declared.cmp.Ordering.TheVariants.{Less, Equal, Greater}
 use Rattle.std.specs.Bool.{Decides}
-use Rattle.std.specs.Ordering.{bool_cmp, eq_by_cmp, is_eq, is_lt}
+use Rattle.std.specs.Ordering.{bool_cmp, eq_by_cmp, is_eq}
 use Rattle.std.specs.Cmp.{IsTotalOrder, bool_cmp_total}
 use Rattle.std.specs.Cmp.Lexicographic.{lists_total}
 use Rattle.std.specs.FinMap.{IsAntisymmetric, slice_cmp-IsAntisymmetric}
 use Rattle.std.proofs.lemmas.List.{take-append-drop}
 use Rattle.std.proofs.Math.ListN.{length-take}
+use Rattle.std.proofs.lemmas.Bool.{false_from_ne_true, both_ways}
 use Rattle.ipnet_blocks.specs.BitStrings.{bits_cmp}
 
 -- ---- equal bit strings
+
+pub and_true : (b : Bool) → (b && true) ≡ b
+and_true true = refl
+and_true false = refl
 
 bool_same : IsAntisymmetric bool_cmp
 bool_same true true e = refl
@@ -42,18 +46,11 @@ same-refl (false ∷ xs) = same-refl xs
 pub same-Decides : (xs ys : List Bool) → Decides (same xs ys) (xs ≡ ys)
 same-Decides xs ys = (λ e. bits_same xs ys (tied (bits_cmp xs ys) e), λ e. subst (λ zs. same xs zs ≡ true) e (same-refl xs))
 
-pub not_true : (b : Bool) → (b ≡ true → ⊥) → b ≡ false
-not_true true f = absurd (f refl)
-not_true false f = refl
-
 pub same_false : (xs ys : List Bool) → (xs ≡ ys → ⊥) → same xs ys ≡ false
-same_false xs ys f = not_true _ (λ e. f ((same-Decides xs ys).0 e))
-
-pub no_false : {b : Bool} → b ≡ false → b ≡ true → ⊥
-no_false e f = cc
+same_false xs ys f = false_from_ne_true _ (λ e. f ((same-Decides xs ys).0 e))
 
 pub not_same : {xs ys : List Bool} → same xs ys ≡ false → xs ≡ ys → ⊥
-not_same {xs} {ys} e f = no_false e ((same-Decides xs ys).1 f)
+not_same {xs} {ys} e f = both_ways _ e ((same-Decides xs ys).1 f)
 
 pub same-under : (bs xs ys : List Bool) → same (bs ++ xs) (bs ++ ys) ≡ same xs ys
 same-under [] xs ys = refl
@@ -67,18 +64,6 @@ bits_cmp-under (false ∷ bs) xs ys = bits_cmp-under bs xs ys
 
 pub other_length : (x q : List Bool) → (length x ≡ length q → ⊥) → same x q ≡ false
 other_length x q f = same_false x q (λ e. f (ap length e))
-
-pub T-true : (b : Bool) → T b → b ≡ true
-T-true true h = refl
-T-true false h = absurd h
-
-pub T-and : (a b : Bool) → T a → T b → T (a && b)
-T-and true b p q = q
-T-and false b p q = p
-
-pub both : (a b : Bool) → T (a && b) → T a × T b
-both true b h = (tt, h)
-both false b h = absurd h
 
 pub append_none : {Y : Type 0} (xs : List Y) → xs ++ [] ≡ xs
 append_none [] = refl
@@ -95,11 +80,6 @@ take_front (b ∷ bs) k (suc n) e = ap (λ xs. b ∷ xs) (take_front bs k n (ome
 
 pub take_first : (b k : List Bool) → length b ≡ 5 → take 5 (b ++ k) ≡ b
 take_first b k h = take_front b k 5 h
-
-pub less-T : (o : Ordering) → T (is_lt o) → o ≡ Less
-less-T Less p = refl
-less-T Equal p = absurd p
-less-T Greater p = absurd p
 
 -- the first of the first
 pub take_take : {Y : Type 0} (xs : List Y) (j k : ℕ) → take j (take (j + k) xs) ≡ take j xs

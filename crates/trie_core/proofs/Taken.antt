@@ -5,6 +5,7 @@ use Rattle.std.specs.List.{insert, remove}
 use Rattle.std.specs.Ordering.{nat_cmp}
 use Rattle.std.specs.FinMap.{find, put}
 use Rattle.std.proofs.lemmas.Nat.{ones_cat, shr_split, pow_pos}
+use Rattle.std.proofs.lemmas.List.Edits.{length-insert, length-remove}
 use Rattle.trie_core.specs.InnerPlaces.{at_places, without, IsUnset, IsSlot}
 use Rattle.trie_core.proofs.Places.{at_set, at_unset, ones_below_lt}
 use Rattle.trie_core.proofs.Edits.{set_is_put, insert_is_put, remove_is_without, set_fits, ones_set, ones_clear, bit_within}
@@ -18,15 +19,6 @@ from_zero : (i : ℕ) → 0 + i ≡ i
 from_zero i = omega arith
 
 module _ {X : Type 0} where
-  length_insert : (xs : List X) (k : ℕ) (v : X) → k ≤ length xs → length (insert xs k v) ≡ length xs + 1
-  length_insert xs zero v h = omega arith
-  length_insert [] (suc k) v h = absurd (omega (arith, h))
-  length_insert (x ∷ xs) (suc k) v h = omega (arith, length_insert xs k v (omega (arith, h)))
-
-  length_remove : (xs : List X) (k : ℕ) → k < length xs → length (remove xs k) + 1 ≡ length xs
-  length_remove [] k h = absurd (omega (arith, h))
-  length_remove (x ∷ xs) zero h = omega arith
-  length_remove (x ∷ xs) (suc k) h = omega (arith, length_remove xs k (omega (arith, h)))
 
   length_set : (xs : List X) (k : ℕ) (v : X) → length (set xs k v) ≡ length xs
   length_set [] k v = refl
@@ -58,7 +50,7 @@ module _ {X : Type 0} where
         within = m;
         fits = set_fits 32 i bits l b h;
         absent = ap (λ j. find nat_cmp j (at_places 32 0 bits xs)) (sym (from_zero i)) ∙ at_unset 32 0 i bits xs h;
-        ones = λ v. ones_set i bits h ∙ omega (arith, e, length_insert xs k v m);
+        ones = λ v. ones_set i bits h ∙ omega (arith, e, length-insert xs k v m);
         stored = λ v. insert_is_put 32 0 i bits xs k v l h c m ∙ ap (λ j. put nat_cmp j v (at_places 32 0 bits xs)) (from_zero i);
       }
 
@@ -71,7 +63,7 @@ module _ {X : Type 0} where
         read = λ d. ap (λ j. find nat_cmp j (at_places 32 0 bits xs)) (sym (from_zero i)) ∙ at_set 32 0 i bits xs d l h.0 (omega (arith, m, h.1)) ∙ ap (λ j. Some (get_or xs j d)) (sym h.1);
         same_ones = λ v. e ∙ sym (length_set xs k v);
         written = λ v. set_is_put 32 0 i bits xs k v l h.0 h.1 m ∙ ap (λ j. put nat_cmp j v (at_places 32 0 bits xs)) (from_zero i);
-        ones = omega (arith, ones_clear i bits h.0, e, length_remove xs k m);
+        ones = omega (arith, ones_clear i bits h.0, e, length-remove xs k m);
         removed = remove_is_without 32 0 i bits xs k l h.0 h.1 m ∙ ap (λ j. without j (at_places 32 0 bits xs)) (from_zero i);
       }
 

@@ -3,6 +3,7 @@ use Rattle.std.proofs.Common.{◌≡◌, ℕ, zero, suc, ◌+◌, ◌-◌, ◌/�
 use Rattle.std.specs.Prelude.{nat_lt, Option, Some, None, count_ones}
 use Rattle.std.specs.FinMap.{get, find, empty, same_map}
 use Rattle.std.proofs.lemmas.Bool.Decides.{nat_tests}
+use Rattle.ipnet_addr.proofs.Basics.{no_ones}
 use Rattle.ipnet_blocks.specs.BitStrings.{bits_cmp}
 use Rattle.trie_core.specs.InnerPlaces.{child_of, child_string, child_list, IsSlot, IsUnset}
 use Rattle.trie_core.proofs.Strings.{bits_total, bits_same, same, same-Decides}
@@ -20,9 +21,6 @@ use Rattle.trie_core.proofs.Changes.{way, was_found, set_slots, set_removed, tot
 use Rattle.trie_core.proofs.Entries.{total-all}
 
 -- ---- the bits below a place
-
-no_ones : (bits : ℕ) → count_ones (bits % 2 ^ 0) ≡ 0
-no_ones bits = let z : bits % 2 ^ 0 ≡ 0 = omega arith in ap count_ones z ∙ ones_bit 0 (omega arith)
 
 -- one place more
 ones_next : (k bits : ℕ) → count_ones (bits % 2 ^ suc k) ≡ count_ones (bits % 2 ^ k) + bits / 2 ^ k % 2

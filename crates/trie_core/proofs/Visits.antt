@@ -6,12 +6,13 @@ use Rattle.std.specs.FinMap.{entries, find, get, empty, get-empty, get-entries, 
 use Rattle.std.specs.FinMap.Entries.{below_all}
 use Rattle.std.proofs.Math.Bool.{and-false, or-false}
 use Rattle.std.proofs.Math.ListN.{length-append, length-take}
+use Rattle.ipnet_addr.proofs.Basics.{T-parts, less_from_T}
 use Rattle.ipnet_blocks.specs.BitStrings.{bits_cmp}
 use Rattle.trie_core.specs.Nodes.{BitMap, BitSet, Seen}
 use Rattle.trie_core.specs.InnerNodes.{under, node_map, IsNode}
 use Rattle.trie_core.specs.Count.{fives_from, fives, fives_of, begun, found_in, visit_count, stands, standing_at, node_visits}
 use Rattle.trie_core.specs.InnerCount.{marked, spare_set}
-use Rattle.trie_core.proofs.Strings.{both, less-T, same, same-Decides, not_same, append_none, take_first, same_false, take_take}
+use Rattle.trie_core.proofs.Strings.{same, same-Decides, not_same, append_none, take_first, same_false, take_take}
 use Rattle.trie_core.proofs.Maps.{tail_rises, find-under, find-apart, drop_first}
 use Rattle.trie_core.specs.InnerWalks.{first_value}
 use Rattle.trie_core.proofs.Order.{StartsAfter, found_long, found_get, without_value, without_child, starts_after, values_after}
@@ -21,8 +22,8 @@ use Rattle.trie_core.proofs.Marks.{root_if, marked_get, marked-other, marked-roo
 below_none : {Y : Type 0} (b : List Bool) (es : List (List Bool × Y)) → T (below_all bits_cmp b es) → has b es ≡ false
 below_none b [] h = refl
 below_none b (e ∷ es) h =
-    let p = both _ _ h in
-    some_cond (same b e.0) e.1 (find bits_cmp b es) ∙ (λ i. ap is_eq (less-T _ p.0) i || below_none b es p.1 i)
+    let p = T-parts _ _ h in
+    some_cond (same b e.0) e.1 (find bits_cmp b es) ∙ (λ i. ap is_eq (less_from_T _ p.0) i || below_none b es p.1 i)
 
 or_nothing : (a b c : Bool) → c ≡ false → (a || (b || c)) ≡ (a || b)
 or_nothing true b c e = refl

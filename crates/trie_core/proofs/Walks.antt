@@ -1,5 +1,5 @@
 -- The stack of a walk, and the way down to where a walk starts.
-use Rattle.std.proofs.Common.{◌≡◌, ℕ, suc, ◌+◌, ◌*◌, ◌<◌, ◌≤◌, Bool, true, false, cond, not, ◌&&◌, List, [], ◌∷◌, ◌++◌, length, take, drop, refl, sym, ap, subst, ◌∙◌, arith}
+use Rattle.std.proofs.Common.{◌≡◌, ℕ, suc, ◌+◌, ◌*◌, ◌<◌, ◌≤◌, Bool, true, false, cond, not, List, [], ◌∷◌, ◌++◌, length, take, drop, refl, sym, ap, subst, ◌∙◌, arith}
 use Rattle.std.specs.Prelude.{T, Option, Some, None, is_some}
 use Rattle.std.specs.declared.cmp.Ordering.TheVariants.{Less}
 use Rattle.std.specs.Ordering.{is_lt}
@@ -7,6 +7,7 @@ use Rattle.std.specs.FinMap.{is_sorted, find, entries, get, get-entries, entries
 use Rattle.std.specs.FinMap.Entries.{where_key, find-where_key, is_sorted-where_key, same_entries}
 use Rattle.std.proofs.lemmas.List.{append_assoc, take-append-drop}
 use Rattle.std.proofs.Math.ListN.{length-append, length-drop}
+use Rattle.std.proofs.lemmas.Bool.{false_from_ne_true, and_right}
 use Rattle.trie_core.specs.Bits.{is_from}
 use Rattle.ipnet_blocks.specs.BitStrings.{bits_cmp, begins}
 use Rattle.trie_core.specs.InnerPlaces.{child_of, child_string}
@@ -15,7 +16,7 @@ use Rattle.trie_core.specs.Prefixes.{prefix_bits}
 use Rattle.trie_core.specs.Nodes.{BitMap, Seen}
 use Rattle.trie_core.specs.InnerNodes.{under}
 use Rattle.trie_core.specs.InnerSearch.{IsChild, HasNoChild}
-use Rattle.trie_core.proofs.Strings.{bits_total, bits_same, same, same-Decides, same-refl, not_same, append_none, front, take_first, bits_cmp-under, not_true}
+use Rattle.trie_core.proofs.Strings.{bits_total, bits_same, same, same-Decides, same-refl, not_same, append_none, front, take_first, bits_cmp-under}
 use Rattle.ipnet_blocks.proofs.BitStrings.{begins_take, begins-under}
 use Rattle.trie_core.proofs.Count.{under-append}
 use Rattle.trie_core.proofs.Maps.{or_else, find-append_all, find-under, find-apart, get_none, node_map-none}
@@ -127,7 +128,7 @@ module _ {X : Type 0} where
     long = h;
     gets = s;
     told = λ r. ap (λ q. begins q (take 5 p ++ r)) (sym (front p h).1) ∙ begins-under (take 5 p) (drop 5 p) r;
-    other = λ x n. not_true _ (λ e.
+    other = λ x n. false_from_ne_true _ (λ e.
         let t = begins_take p x e in
         n (drop 5 p ++ drop (length p) x) (sym (take-append-drop (length p) x) ∙ ap (λ s. s ++ drop (length p) x) (t.1 ∙ sym (front p h).1) ∙ append_assoc (take 5 p) (drop 5 p) (drop (length p) x)));
   }
@@ -194,11 +195,7 @@ from-under : (i : Bool) (b p q : List Bool) → is_from (b ++ p) i (b ++ q) ≡ 
 from-under i b p q = λ j. cond i (not (is_lt (bits_cmp-under b q p j))) (is_lt (bits_cmp-under b p q j))
 
 past-under : (b q : List Bool) → is_past b (b ++ q) ≡ false
-past-under [] q = none (is_lt (bits_cmp [] q))
-  where
-    none : (t : Bool) → (t && false) ≡ false
-    none true = refl
-    none false = refl
+past-under [] q = and_right (is_lt (bits_cmp [] q)) false refl
 past-under (true ∷ b) q = past-under b q
 past-under (false ∷ b) q = past-under b q
 
@@ -223,7 +220,7 @@ past_less (true ∷ b) s (false ∷ q) e = cc
 past_less (false ∷ b) s (true ∷ q) e = refl
 
 not_begun : (b x : List Bool) → ((k : List Bool) → x ≡ b ++ k → ⊥) → begins b x ≡ false
-not_begun b x f = not_true _ (λ e. f (drop (length b) x) (sym (take-append-drop (length b) x) ∙ ap (λ s. s ++ drop (length b) x) (begins_take b x e).1))
+not_begun b x f = false_from_ne_true _ (λ e. f (drop (length b) x) (sym (take-append-drop (length b) x) ∙ ap (λ s. s ++ drop (length b) x) (begins_take b x e).1))
 
 module _ {X : Type 0} where
   pub kept_true : (b : Bool) (o : Option X) → is_some (cond b o None) ≡ true → b ≡ true

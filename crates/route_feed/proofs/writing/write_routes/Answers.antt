@@ -1,7 +1,8 @@
 use Rattle.std.proofs.Common.{◌+◌, drop, ◌∙◌, arith}
 use Rattle.std.proofs.lemmas.List.{at_drop_all}
 use Rattle.std.proofs.lemmas.Result.{err_from_is_err_and}
-use Rattle.route_feed.proofs.Adding.{add_bytes, cut_at, next_add, truncated_is}
+use Rattle.route_table.proofs.Looks.{network_is}
+use Rattle.route_feed.proofs.Adding.{add_bytes, cut_at, next_add}
 use Rattle.route_feed.proofs.Telling.{Told-all, Told-more, Told-nil, Told-torn}
 use Rattle.route_feed.proofs.Written.{Delivers-after}
 use Rattle.route_feed.proofs.writing.write_routes.Goals as goal
@@ -12,7 +13,7 @@ loop-route-init g c = Told-nil g.W.Write.contents add_bytes c.args.writer.now c.
 pub print_to-requires : goal.print_to-requires
 print_to-requires g c =
     let it = c.route-item.result in
-    truncated_is it.0 (cut_at c.args.routes.now c.loop-route.route-index it c.requires.networks (omega arith) c.route-item.is)
+    network_is it.0 (cut_at c.args.routes.now c.loop-route.route-index it c.requires.networks (omega arith) c.route-item.is)
 
 pub loop-route-preserved : goal.loop-route-preserved
 loop-route-preserved g c =

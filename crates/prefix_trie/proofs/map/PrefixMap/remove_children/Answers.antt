@@ -1,8 +1,8 @@
 use Rattle.std.proofs.Common.{◌≡◌, ◌+◌, ◌∙◌, length, sym, ap, arith}
 use Rattle.std.specs.FinMap.{len, len-empty}
+use Rattle.std.proofs.lemmas.List.{nil_from_length}
 use Rattle.trie_core.specs.Count.{nodes}
 use Rattle.trie_core.specs.Inside.{outside}
-use Rattle.trie_core.proofs.Seen.{no_items}
 use Rattle.trie_core.proofs.Inside.{outside_all}
 use Rattle.trie_core.proofs.Left.{cut_short}
 use Rattle.trie_core.proofs.Count.{nodes_empty}
@@ -20,7 +20,7 @@ returns-then-prefix_len-eq0-clause-count g c = omega (arith, ap nodes c.clear.en
 pub returns-then-prefix_len-eq0-clause-spares : goal.returns-then-prefix_len-eq0-clause-spares
 returns-then-prefix_len-eq0-clause-spares g c =
     let z : length (g.P.Prefix.bits c.args.prefix.now) ≡ 0 = omega (arith, c.prefix_len.ensures, c.if-prefix_len-eq0.true) in
-    cut_short (g.P.Prefix.bits c.args.prefix.now) c.args.self.now.spares c.clear.new.self.entries c.clear.new.self.spares (omega (arith, z)) (c.clear.ensures.tidy ∙ sym (ap (outside c.args.self.now.spares) (no_items (g.P.Prefix.bits c.args.prefix.now) z) ∙ outside_all c.args.self.now.spares)) (λ s h. (idle_none c.clear.new.self.entries c.clear.new.self.spares c.clear.ensures.tidy s h).below)
+    cut_short (g.P.Prefix.bits c.args.prefix.now) c.args.self.now.spares c.clear.new.self.entries c.clear.new.self.spares (omega (arith, z)) (c.clear.ensures.tidy ∙ sym (ap (outside c.args.self.now.spares) (nil_from_length (g.P.Prefix.bits c.args.prefix.now) z) ∙ outside_all c.args.self.now.spares)) (λ s h. (idle_none c.clear.new.self.entries c.clear.new.self.spares c.clear.ensures.tidy s h).below)
 
 pub returns-clause-tidy : goal.returns-clause-tidy
 returns-clause-tidy g c = λ z. tidy_left (begins c.path_of.result) c.path_of.result c.self.inside.root.spares c.remove_children-entries.new.self.entries c.remove_children-entries.new.self.spares c.remove_children-entries.ensures.spares (ap (λ m. m.spares) c.self.view_is ∙ z)
