@@ -93,10 +93,7 @@ impl HopIndex {
         ensures hops { IfOk result (λ i. (h : Address → Option ℕ) → IsFlat h flat.entry → (x : Address) → IsAddress x → hop_of i x ≡ h x) }
         ensures memory { IfErr result (λ e. e ≡ Memory) }
     {
-        match HopIndex::compiled(alloc, flat) {
-            Ok(index) => Ok(index),
-            Err(_) => Err(Refused::Memory),
-        }
+        Ok(HopIndex::compiled(alloc, flat)?)
     }
 
     /// The same, with the allocator's own refusal.

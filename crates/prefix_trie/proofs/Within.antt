@@ -5,7 +5,7 @@ use Rattle.std.specs.declared.cmp.Ordering.TheVariants.{Less}
 use Rattle.std.specs.Ordering.{is_lt}
 use Rattle.std.specs.FinMap.{is_sorted}
 use Rattle.std.specs.FinMap.Entries.{where_key, below_all, is_sorted-where_key}
-use Rattle.std.proofs.lemmas.Bool.{false_from_ne_true}
+use Rattle.std.proofs.lemmas.Bool.{false_from_ne_true, false≢true}
 use Rattle.ipnet_addr.proofs.Basics.{T-parts, less_from_T}
 use Rattle.trie_core.specs.Bits.{is_from}
 use Rattle.ipnet_blocks.specs.BitStrings.{bits_cmp, begins}
@@ -91,10 +91,7 @@ module _ {X : Type 0} where
       ap (λ b. cond b (e ∷ where_key bits_cmp (begins p) es) (where_key bits_cmp (begins p) es)) (f e.0 (less_from_T _ t.0)) ∙ none_later p n es t.1 f
 
   inside_by : (p q : List Bool) (i : Bool) (k : List Bool) (fs : List (List Bool × X)) → begins p q ≡ true → is_from q i k ≡ true → T (below_all bits_cmp k fs) → begins p k ≡ false → where_key bits_cmp (begins p) fs ≡ []
-  inside_by p q i k fs b f h e = none_later p k fs h (λ j l. false_from_ne_true (begins p j) (λ c. apart (sym e ∙ between p q k j b (not_lower q k i f) (not_after k j l) c)))
-    where
-      apart : false ≡ true → ⊥
-      apart h = cc
+  inside_by p q i k fs b f h e = none_later p k fs h (λ j l. false_from_ne_true (begins p j) (λ c. false≢true (sym e ∙ between p q k j b (not_lower q k i f) (not_after k j l) c)))
 
   true_by : (p : List Bool → Bool) (d : List Bool × X) (es : List (List Bool × X)) (e : List Bool × X) (fs : List (List Bool × X)) → (where_key bits_cmp p es ≡ e ∷ fs → p e.0 ≡ true)
       → (b : Bool) → p d.0 ≡ b → cond b (d ∷ where_key bits_cmp p es) (where_key bits_cmp p es) ≡ e ∷ fs → p e.0 ≡ true

@@ -232,10 +232,7 @@ impl<P: Prefix + Drop> PrefixSet<P> {
         let mut rest = items.into_iter();
         let mut made = PrefixSet::new(alloc)?;
         'item: while let Some(prefix) = rest.next() {
-            match made.insert(prefix) {
-                Ok(_) => {}
-                Err(_) => return Err(Refused::Memory),
-            }
+            made.insert(prefix)?;
         }
         Ok(made)
     }

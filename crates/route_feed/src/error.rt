@@ -1,7 +1,10 @@
 //! Why a run ended early.
 ghost use Rattle.std.specs.Prelude.{◌≡◌};
 ghost use Rattle.route_feed.specs.Status.{status_of};
+ghost use Rattle.route_feed.specs.declared.error.RunError.TheVariants.{Memory};
 
+use route_table::Refused;
+use std::alloc::{AllocError, AllocFailed};
 use thiserror::Error;
 
 /// Why a run ended before it had answered all of its input.
@@ -32,5 +35,32 @@ impl RunError {
             RunError::Write => 4,
             RunError::Line => 5,
         }
+    }
+}
+
+/// A request for memory was refused.
+impl From<AllocError> for RunError {
+    ghost from_gives = { λ _ e. e ≡ Memory };
+
+    fn from(_refused: AllocError) -> RunError {
+        RunError::Memory
+    }
+}
+
+/// A request for memory was refused.
+impl<T: Drop> From<AllocFailed<T>> for RunError {
+    ghost from_gives = { λ _ e. e ≡ Memory };
+
+    fn from(_refused: AllocFailed<T>) -> RunError {
+        RunError::Memory
+    }
+}
+
+/// A table found no memory: no table is ever full.
+impl From<Refused> for RunError {
+    ghost from_gives = { λ _ e. e ≡ Memory };
+
+    fn from(_refused: Refused) -> RunError {
+        RunError::Memory
     }
 }

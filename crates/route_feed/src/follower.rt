@@ -9,6 +9,8 @@ ghost use Rattle.route_laws.specs.Flats.{IsFlat};
 ghost use Rattle.route_laws.specs.LeastTables.{IsLeast, routes_for};
 ghost use Rattle.route_laws.specs.Networks.{routes_of};
 ghost use Rattle.route_laws.specs.Tables.{hop_at};
+ghost use Rattle.route_feed.specs.declared.error.RunError.TheVariants as run;
+ghost use Rattle.route_feed.specs.declared.follower.FollowError.TheVariants as follow;
 ghost use Rattle.route_feed.specs.Following.{State, TakesLine};
 ghost use Rattle.route_feed.specs.Streams.{painted_over, WantsMemory};
 ghost use Rattle.route_feed.specs.InnerWaiting.{changes_of, waiting_change};
@@ -16,8 +18,8 @@ ghost use Rattle.route_feed.specs.InnerWaiting.{changes_of, waiting_change};
 use crate::error::RunError;
 use ipnet::{IpAddr, IpNet};
 use route_lines::{Closing, Reply};
-use route_table::{Flat, Hop, HopTable};
-use std::alloc::Global;
+use route_table::{Flat, Hop, HopTable, Refused};
+use std::alloc::{AllocFailed, Global};
 use std::marker::Model;
 use thiserror::Error;
 
@@ -33,6 +35,37 @@ pub enum FollowError {
     /// There was a fault before.
     #[error("failed before")]
     Failed,
+}
+
+/// A request for memory was refused.
+impl<T: Drop> From<AllocFailed<T>> for FollowError {
+    ghost from_gives = { λ _ e. e ≡ follow.Memory };
+
+    fn from(_refused: AllocFailed<T>) -> FollowError {
+        FollowError::Memory
+    }
+}
+
+/// A table found no memory: no table is ever full.
+impl From<Refused> for FollowError {
+    ghost from_gives = { λ _ e. e ≡ follow.Memory };
+
+    fn from(_refused: Refused) -> FollowError {
+        FollowError::Memory
+    }
+}
+
+/// How a run ends whose follower doesn't take a line.
+impl From<FollowError> for RunError {
+    ghost from_gives = { λ a e. (a ≡ follow.Memory → e ≡ run.Memory) × ((a ≡ follow.Memory → ⊥) → e ≡ run.Line) };
+
+    fn from(why: FollowError) -> RunError {
+        match why {
+            FollowError::Memory => RunError::Memory,
+            FollowError::NotALine => RunError::Line,
+            FollowError::Failed => RunError::Line,
+        }
+    }
 }
 
 /// A change that waits for the line that closes its reply.
@@ -69,10 +102,7 @@ fn carry_out(table: &mut HopTable, changes: &[Waiting]) -> Result<(), FollowErro
     ensures some { OnErr result (0 < length changes.now) }
 {
     for change in changes {
-        match table.overwrite(change.net, change.hop) {
-            Ok(()) => {}
-            Err(_) => return Err(FollowError::Memory),
-        }
+        table.overwrite(change.net, change.hop)?;
     }
     Ok(())
 }
@@ -87,11 +117,8 @@ impl Follower {
         ensures state { IfOk result (λ f. f ≡ record { table = []; pending = []; failed = false }) }
         ensures memory { IfErr result (λ e. e ≡ RunError.Memory) }
     {
-        let Ok(table) = HopTable::new(alloc) else {
-            return Err(RunError::Memory);
-        };
         Ok(Follower {
-            table,
+            table: HopTable::new(alloc)?,
             waiting: Vec::new(alloc),
             failed: false,
         })
@@ -142,10 +169,7 @@ impl Follower {
         if self.failed {
             return Ok(None);
         }
-        match self.table.least() {
-            Ok(routes) => Ok(Some(routes)),
-            Err(_) => Err(RunError::Memory),
-        }
+        Ok(Some(self.table.least()?))
     }
 
     /// The flat list of the hops.
@@ -161,10 +185,7 @@ impl Follower {
         ensures truncated { IfOk result (λ routes. All (λ r. IsTruncated (family r.0) (parts r.0)) routes.items) }
         ensures memory { IfErr result (λ e. e ≡ RunError.Memory) }
     {
-        match self.table.into_least() {
-            Ok(routes) => Ok(routes),
-            Err(_) => Err(RunError::Memory),
-        }
+        Ok(self.table.into_least()?)
     }
 
     /// Takes a line, without its line end.
@@ -229,10 +250,8 @@ impl Follower {
         ensures memory { IfErr result (λ e. e ≡ FollowError.Memory) }
         ensures failed { self.new.failed ≡ self.old.failed }
     {
-        match self.waiting.push(Waiting { net, hop }) {
-            Ok(()) => Ok(()),
-            Err(_) => Err(FollowError::Memory),
-        }
+        self.waiting.push(Waiting { net, hop })?;
+        Ok(())
     }
 
     /// Carries out what waits.

@@ -56,10 +56,8 @@ fn paint(table: &mut HopTable, change: &Waiting) -> Result<(), RunError>
     ensures routes { OnOk result (routes_of table.new ≡ painted (routes_of table.old) (route_waiting change.now)) }
     ensures memory { IfErr result (λ e. e ≡ RunError.Memory) }
 {
-    match table.paint(change.net, change.hop) {
-        Ok(()) => Ok(()),
-        Err(_) => Err(RunError::Memory),
-    }
+    table.paint(change.net, change.hop)?;
+    Ok(())
 }
 
 /// Carries the changes out, in order.
@@ -121,10 +119,7 @@ fn least(table: &HopTable) -> Result<Vec<(IpNet, Hop)>, RunError>
     ensures truncated { IfOk result (λ list. AreTruncated list.items) }
     ensures memory { IfErr result (λ e. e ≡ RunError.Memory) }
 {
-    match table.least() {
-        Ok(list) => Ok(list),
-        Err(_) => Err(RunError::Memory),
-    }
+    Ok(table.least()?)
 }
 
 /// The table of a list, as `least` gives it.
@@ -133,10 +128,7 @@ fn table_of(alloc: Global, list: &[(IpNet, Hop)]) -> Result<HopTable, RunError>
     ensures routes { IfOk result (λ table. routes_of table ≡ routes_for list.now) }
     ensures memory { IfErr result (λ e. e ≡ RunError.Memory) }
 {
-    match HopTable::from_routes(alloc, list) {
-        Ok(table) => Ok(table),
-        Err(_) => Err(RunError::Memory),
-    }
+    Ok(HopTable::from_routes(alloc, list)?)
 }
 
 /// A least table of the hops after the changes, where those of the table are as they are.
@@ -165,13 +157,10 @@ impl Installer {
         ensures state { IfOk result (λ i. i ≡ begin) }
         ensures memory { IfErr result (λ e. e ≡ RunError.Memory) }
     {
-        let (Ok(table), Ok(before)) = (HopTable::new(alloc), HopTable::new(alloc)) else {
-            return Err(RunError::Memory);
-        };
         Ok(Installer {
             alloc,
-            table,
-            before: Some(before),
+            table: HopTable::new(alloc)?,
+            before: Some(HopTable::new(alloc)?),
             waiting: Vec::new(alloc),
         })
     }
@@ -209,10 +198,8 @@ impl Installer {
         let Some(before) = &mut self.before else {
             return Err(RunError::Line);
         };
-        match before.install(net, hop) {
-            Ok(()) => Ok(()),
-            Err(_) => Err(RunError::Memory),
-        }
+        before.install(net, hop)?;
+        Ok(())
     }
 
     /// Gives the operations that make the table of the list of what is installed, and keeps that one from now on.
@@ -273,10 +260,8 @@ impl Installer {
         ensures pending { OnOk result (self.new.pending ≡ self.old.pending ++ waiting_change (record { net = net; hop = hop }) ∷ []) }
         ensures memory { IfErr result (λ e. e ≡ RunError.Memory) }
     {
-        match self.waiting.push(Waiting { net, hop }) {
-            Ok(()) => Ok(()),
-            Err(_) => Err(RunError::Memory),
-        }
+        self.waiting.push(Waiting { net, hop })?;
+        Ok(())
     }
 
     /// Carries out what waits.

@@ -66,12 +66,8 @@ pub fn lead_then<R: Read, W: Write>(
     ensures known { OnOk result (IfSome (R.remaining reader.old.device) (λ bytes.
         (refusals : List Bool) × Appends (W.contents writer.old.device) (W.contents writer.new.device) (output bytes refusals))) }
 {
-    let Ok(mut buf) = vec![in alloc; 0; PIECE] else {
-        return Err(RunError::Memory);
-    };
-    let Ok(mut table) = RouteTable::new(alloc) else {
-        return Err(RunError::Memory);
-    };
+    let mut buf = vec![in alloc; 0; PIECE]?;
+    let mut table = RouteTable::new(alloc)?;
     let rest = run(&mut table, buf.as_mut_slice(), reader, writer)?;
     let result = answer_rest(rest, writer);
     at_end.give_up(table);
@@ -87,12 +83,8 @@ fn follow_all<R: Read, W: Write>(
     requires { CanRead reader.old }
     ensures { Reaches R.remaining reader.old reader.new writer.old writer.new result }
 {
-    let Ok(mut buf) = vec![in alloc; 0; PIECE] else {
-        return Err(RunError::Memory);
-    };
-    let Ok(mut follower) = Follower::new(alloc) else {
-        return Err(RunError::Memory);
-    };
+    let mut buf = vec![in alloc; 0; PIECE]?;
+    let mut follower = Follower::new(alloc)?;
     run(&mut follower, buf.as_mut_slice(), reader, writer)?;
     Ok(follower)
 }
@@ -200,9 +192,7 @@ pub fn install<R: Read, W: Write>(
     ensures known { OnOk result (IfSome (R.remaining reader.old.device) (λ bytes.
         AppendsInstalled (lines bytes) (W.contents writer.old.device) (W.contents writer.new.device))) }
 {
-    let Ok(mut buf) = vec![in alloc; 0; PIECE] else {
-        return Err(RunError::Memory);
-    };
+    let mut buf = vec![in alloc; 0; PIECE]?;
     let mut installer = Installer::new(alloc)?;
     run(&mut installer, buf.as_mut_slice(), reader, writer)?;
     Ok(())

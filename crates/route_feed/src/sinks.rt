@@ -9,7 +9,7 @@ ghost use Rattle.route_feed.specs.LeadsLine.{Answers};
 use crate::answer::answer;
 use crate::counted::Counted;
 use crate::error::RunError;
-use crate::follower::{FollowError, Follower};
+use crate::follower::Follower;
 use crate::installer::Installer;
 use crate::sink::Sink;
 use route_lines::Note;
@@ -37,11 +37,8 @@ impl<W: Write> Sink<W> for Follower {
         let Some(text) = text else {
             return Err(RunError::Line);
         };
-        match self.line(text) {
-            Ok(()) => Ok(()),
-            Err(FollowError::Memory) => Err(RunError::Memory),
-            Err(_) => Err(RunError::Line),
-        }
+        self.line(text)?;
+        Ok(())
     }
 }
 

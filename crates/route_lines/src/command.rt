@@ -44,12 +44,19 @@ impl Command {
     pub fn read(line: &[u8]) -> Result<Command, NotALine>
         ensures { Parses IsCommand line.now result }
     {
-        if let Some((net, route)) = read_after::<(IpNet, Optional)>(line, b"add ") {
-            let (hop, pref) = (route.hop, route.pref.unwrap_or(DEFAULT_PREFERENCE));
-            return Ok(Command::Add { net, hop, pref });
+        // (a pair taken apart by a pattern is copied once more)
+        if let Some(route) = read_after::<(IpNet, Optional)>(line, b"add ") {
+            return Ok(Command::Add {
+                net: route.0,
+                hop: route.1.hop,
+                pref: route.1.pref.unwrap_or(DEFAULT_PREFERENCE),
+            });
         }
-        if let Some((net, hop)) = read_after::<(IpNet, Hop)>(line, b"del ") {
-            return Ok(Command::Del { net, hop });
+        if let Some(route) = read_after::<(IpNet, Hop)>(line, b"del ") {
+            return Ok(Command::Del {
+                net: route.0,
+                hop: route.1,
+            });
         }
         if let Some(net) = read_after::<IpNet>(line, b"get ") {
             return Ok(Command::Get { net });

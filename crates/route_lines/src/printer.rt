@@ -37,6 +37,7 @@ impl Command {
         out.push(b'\n');
     }
 
+    #[inline]
     fn print_words(&self, out: &mut ArrayVec<u8, 80>)
         ensures { AreWords command_text CommandWords 64 self.now out.new.items }
     {
@@ -84,6 +85,7 @@ impl Reply {
         out.push(b'\n');
     }
 
+    #[inline]
     fn print_words(&self, out: &mut ArrayVec<u8, 67>)
         ensures { AreWords reply_text ReplyWords 66 self.now out.new.items }
     {
@@ -135,6 +137,7 @@ impl Update {
         out.push(b'\n');
     }
 
+    #[inline]
     fn print_words(&self, out: &mut ArrayVec<u8, 67>)
         ensures { AreWords update_text UpdateWords 62 self.now out.new.items }
     {

@@ -107,9 +107,12 @@ impl Reply {
         if let Some(closing) = Closing::read(line) {
             return Ok(Reply::Close(closing));
         }
-        if let Some((net, number)) = read_after::<(IpNet, Number)>(line, b"set ") {
-            let number = number.n as u32;
-            return Ok(Reply::Set { net, number });
+        // (a pair taken apart by a pattern is copied once more)
+        if let Some(change) = read_after::<(IpNet, Number)>(line, b"set ") {
+            return Ok(Reply::Set {
+                net: change.0,
+                number: change.1.n as u32,
+            });
         }
         if let Some(net) = read_after::<IpNet>(line, b"unset ") {
             return Ok(Reply::Unset { net });
@@ -118,9 +121,11 @@ impl Reply {
             let Optional { hop, pref } = route;
             return Ok(Reply::Route { net, hop, pref });
         }
-        if let Some((net, number)) = read_after::<(IpNet, Number)>(line, b"flat ") {
-            let number = number.n as u32;
-            return Ok(Reply::Flat { net, number });
+        if let Some(block) = read_after::<(IpNet, Number)>(line, b"flat ") {
+            return Ok(Reply::Flat {
+                net: block.0,
+                number: block.1.n as u32,
+            });
         }
         if let Some(net) = read_after::<IpNet>(line, b"own ") {
             return Ok(Reply::Own { net });

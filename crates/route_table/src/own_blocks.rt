@@ -41,10 +41,7 @@ impl RouteTable {
         ensures truncated { IfOk result (λ v. All (λ n. IsTruncated (family n) (parts n)) v.items) }
         ensures memory { IfErr result (λ e. e ≡ Memory) }
     {
-        match self.owned(number) {
-            Ok(networks) => Ok(networks),
-            Err(_) => Err(Refused::Memory),
-        }
+        Ok(self.owned(number)?)
     }
 
     /// The same, with the allocator's own refusal.

@@ -104,13 +104,8 @@ fn least_of(alloc: Global, flat: Flat<'_>) -> Result<Vec<(IpNet, Hop)>, Refused>
     ensures truncated { IfOk result (λ routes. All (λ r. IsTruncated (family r.0) (parts r.0)) routes.items) }
     ensures memory { IfErr result (λ e. e ≡ Memory) }
 {
-    let Ok((v4, v6)) = pieces(alloc, flat) else {
-        return Err(Refused::Memory);
-    };
-    match shortest(alloc, v4, v6) {
-        Ok(routes) => Ok(routes),
-        Err(_) => Err(Refused::Memory),
-    }
+    let (v4, v6) = pieces(alloc, flat)?;
+    Ok(shortest(alloc, v4, v6)?)
 }
 
 impl RouteTable {
@@ -163,13 +158,8 @@ impl HopTable {
         ensures memory { IfErr result (λ e. e ≡ Memory) }
     {
         let alloc = self.alloc();
-        let Ok((v4, v6)) = pieces(alloc, self.flat()) else {
-            return Err(Refused::Memory);
-        };
+        let (v4, v6) = pieces(alloc, self.flat())?;
         drop(self);
-        match shortest(alloc, v4, v6) {
-            Ok(routes) => Ok(routes),
-            Err(_) => Err(Refused::Memory),
-        }
+        Ok(shortest(alloc, v4, v6)?)
     }
 }

@@ -11,7 +11,7 @@ use Rattle.std.proofs.lemmas.Nat.{shl-shr, shr-shr, shr_split, pow-add}
 use Rattle.std.proofs.lemmas.Nat.Bits.{bit_at-zero}
 use Rattle.std.proofs.Math.Nat.{mul_assoc}
 use Rattle.std.proofs.Math.ListN.{length-append, length-drop}
-use Rattle.std.proofs.lemmas.Bool.{false_from_ne_true}
+use Rattle.std.proofs.lemmas.Bool.{false_from_ne_true, false≢true}
 use Rattle.ipnet_addr.proofs.Basics.{T-and}
 use Rattle.ipnet_blocks.specs.BitStrings.{bits_cmp, begins}
 use Rattle.trie_core.specs.InnerPlaces.{place_of, place_string, IsBeginMask, IsFirstPlace}
@@ -19,7 +19,7 @@ use Rattle.trie_core.specs.Nodes.{BitMap, Seen}
 use Rattle.trie_core.specs.InnerNodes.{under}
 use Rattle.trie_core.specs.InnerSearch.{IsChild, HasNoChild}
 use Rattle.trie_core.specs.InnerCovers.{is_left, NoneFrom, IsFirstFrom, cover_rest, cover_weight, IsCover}
-use Rattle.trie_core.proofs.Strings.{bits_total, bits_same, same, same-Decides, not_same, front, take_take, and_true}
+use Rattle.trie_core.proofs.Strings.{bits_total, bits_same, same, same-Decides, not_same, front, take_take, and_with_true}
 use Rattle.ipnet_blocks.proofs.BitStrings.{begins_take, take_begins, begins-under}
 use Rattle.trie_core.proofs.Maps.{get_none}
 use Rattle.trie_core.proofs.Order.{below_found}
@@ -103,10 +103,7 @@ module _ {X : Type 0} where
 and_true : (a b c : Bool) → (a && not (b && c)) ≡ true → (a ≡ true) × (b ≡ true → c ≡ false)
 and_true true true true e = cc
 and_true true true false e = (refl, λ _. refl)
-and_true true false c e = (refl, λ t. absurd (no t))
-  where
-    no : false ≡ true → ⊥
-    no t = cc
+and_true true false c e = (refl, λ t. absurd (false≢true t))
 and_true false b c e = cc
 
 and_false : (a b c : Bool) → (a && not (b && c)) ≡ false → a ≡ true → (b ≡ true) × (c ≡ true)
@@ -254,7 +251,7 @@ module _ {X : Type 0} where
     told = λ r.
         let l : nat_lt (length (take 5 p ++ r)) 5 ≡ false = let five = (front p h).0 in let a = length-append (take 5 p) r in grind (arith, nat_tests) in
         (λ i. begins (take 5 p ++ r) (sym (front p h).1 i) && not (l i && nat_lt (place_of (take 5 p ++ r)) 31))
-        ∙ ap (λ b. b && true) (begins-under (take 5 p) r (drop 5 p)) ∙ and_true (begins r (drop 5 p)) ∙ sym (left_all (drop 5 p) r);
+        ∙ ap (λ b. b && true) (begins-under (take 5 p) r (drop 5 p)) ∙ and_with_true (begins r (drop 5 p)) ∙ sym (left_all (drop 5 p) r);
     other = λ x n. false_from_ne_true _ (λ e. other x n (left_true p 31 x e) (nat_lt (length x) 5) refl);
   }
     where

@@ -17,7 +17,7 @@ use Rattle.trie_core.specs.InnerWalks.{is_past, first_value, KeysWithin, Left}
 use Rattle.std.proofs.Math.ListN.{length-append}
 use Rattle.std.proofs.lemmas.Bool.{and_right}
 use Rattle.ipnet_addr.proofs.Basics.{T-parts}
-use Rattle.trie_core.proofs.Strings.{front, take_front, take_take, and_true}
+use Rattle.trie_core.proofs.Strings.{front, take_front, take_take, and_with_true}
 use Rattle.trie_core.proofs.Numbers.{place_bound, number_bound, number-take, length-child_string}
 use Rattle.trie_core.proofs.PlaceTables.{past_short, past_long, from_short, from_long}
 use Rattle.trie_core.specs.Nodes.{Seen}
@@ -73,7 +73,7 @@ has_cleared i j word h = by (eq_by_cmp nat_cmp i j) refl
 
     by : (b : Bool) → eq_by_cmp nat_cmp i j ≡ b → has_bit (word - 2 ^ i) j ≡ (has_bit word j && not b)
     by true e = let s : i ≡ j = grind (arith, nat_tests) in ap (λ x. eqb x 1) (same_bit i j word h s) ∙ sym (and_right (has_bit word j) false refl)
-    by false e = let s : i ≡ j → ⊥ = λ f. let z : eq_by_cmp nat_cmp i j ≡ true = grind (arith, nat_tests) in let w = sym e ∙ z in cc in ap (λ x. eqb x 1) (other_bit i j word h s) ∙ sym (and_true (has_bit word j))
+    by false e = let s : i ≡ j → ⊥ = λ f. let z : eq_by_cmp nat_cmp i j ≡ true = grind (arith, nat_tests) in let w = sym e ∙ z in cc in ap (λ x. eqb x 1) (other_bit i j word h s) ∙ sym (and_with_true (has_bit word j))
 
 pub powers_rise : (a b : ℕ) → a ≤ b → 2 ^ a ≤ 2 ^ b
 powers_rise a b h = pow-le-pow_right (omega arith) h
@@ -286,7 +286,7 @@ where_told : {X : Type 0} {p : List Bool → Bool} {f g : ℕ → Bool} (v c : �
 where_told v c es t a b = λ j. where_key bits_cmp (λ k. told_by v c t a b k j) es
 
 has_from : (from i : ℕ) → i < 32 → has_bit (2 ^ 32 - 2 ^ from) i ≡ not (nat_lt i from)
-has_from from i h = has_between from 32 i ∙ (let b : nat_lt i 32 ≡ true = grind (arith, nat_tests) in ap (λ x. not (nat_lt i from) && x) b ∙ and_true (not (nat_lt i from)))
+has_from from i h = has_between from 32 i ∙ (let b : nat_lt i 32 ≡ true = grind (arith, nat_tests) in ap (λ x. not (nat_lt i from) && x) b ∙ and_with_true (not (nat_lt i from)))
 
 module _ {X : Type 0} where
   where_all : (es : List (List Bool × X)) → where_key bits_cmp (λ _. true) es ≡ es

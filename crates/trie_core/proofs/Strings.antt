@@ -14,9 +14,9 @@ use Rattle.ipnet_blocks.specs.BitStrings.{bits_cmp}
 
 -- ---- equal bit strings
 
-pub and_true : (b : Bool) → (b && true) ≡ b
-and_true true = refl
-and_true false = refl
+pub and_with_true : (b : Bool) → (b && true) ≡ b
+and_with_true true = refl
+and_with_true false = refl
 
 bool_same : IsAntisymmetric bool_cmp
 bool_same true true e = refl

@@ -1,4 +1,4 @@
-use Rattle.std.proofs.Common.{◌≡◌, ℕ, ◌+◌, ◌*◌, ◌<◌, ◌≤◌, List, take, get_or, length, arith, rules, mul-le-mul, sym, le_trans, lit≤}
+use Rattle.std.proofs.Common.{◌≡◌, ℕ, ◌+◌, ◌*◌, ◌<◌, ◌≤◌, List, take, get_or, length, arith, sym, le_trans, lit≤}
 use Rattle.std.proofs.lemmas.List.{get_or_past}
 use Rattle.std.proofs.lemmas.Int.Digits.{digits_more, digits_value_more}
 use Rattle.std.specs.Char.{digit_value}
@@ -20,11 +20,6 @@ past radix s i j high same end = rw (same, get_or_past s j 0 end) (le_trans high
 
 other : (radix : ℕ) (s : List ℕ) (i j byte : ℕ) → i ≡ j → byte ≡ get_or s j 0 → ¬ (digit_value byte < radix) → radix ≤ digit_value (get_or s i 0)
 other radix s i j byte same read h = rw (same, ← read) (let d = digit_value byte in omega arith)
-
-pub overflow_mul-next : goal.overflow_mul-next
-overflow_mul-next c =
-    let h = mul-le-mul c.loop-b.invariant.3 c.requires.high in
-    search (rules, arith)
 
 pub returns-then-next-max-clause-value : goal.returns-then-next-max-clause-value
 returns-then-next-max-clause-value c =

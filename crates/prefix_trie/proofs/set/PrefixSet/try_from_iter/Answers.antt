@@ -18,6 +18,6 @@ insert-requires g c =
 
 pub item-preserved : goal.item-preserved
 item-preserved g c = record {
-  set = c.in-Ok.ensures.set ∙ ap (λ m. insert m (g.P.Prefix.bits c.in-Some.prefix) tt) c.item.invariant.set ∙ sym (ap (inserted g.P.Prefix.bits empty) (map-append (λ p. (p, tt)) c.item.yielded (c.in-Some.prefix ∷ [])) ∙ inserted_last g.P.Prefix.bits empty (map (λ p. (p, tt)) c.item.yielded) (c.in-Some.prefix, tt));
-  tidy = c.in-Ok.ensures.tidy c.item.invariant.tidy;
+  set = c.in_ok-insert.ensures.set ∙ ap (λ m. insert m (g.P.Prefix.bits c.in-Some.prefix) tt) c.item.invariant.set ∙ sym (ap (inserted g.P.Prefix.bits empty) (map-append (λ p. (p, tt)) c.item.yielded (c.in-Some.prefix ∷ [])) ∙ inserted_last g.P.Prefix.bits empty (map (λ p. (p, tt)) c.item.yielded) (c.in-Some.prefix, tt));
+  tidy = c.in_ok-insert.ensures.tidy c.item.invariant.tidy;
 }
