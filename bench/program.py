@@ -19,15 +19,15 @@ Counts = namedtuple("Counts", "flat least drops")
 
 TIMES = """Each feed is given to `routes lead`, whose output goes to a file and then to `routes follow` and `routes least`; theirs goes to
 files too. Each feed ends with `flat`, and the follower's output was compared with the leader's answer to it, and so was what a leader of
-the shortest table answers. No line of a feed was answered `bad` or `refused`. Commands and MB a second are of the leader (bytes read and
+the least table answers. No line of a feed was answered `bad` or `refused`. Commands and MB a second are of the leader (bytes read and
 written), lines a second of the follower.{real}"""
 REAL = " The real feed has {v4:,} networks of IPv4 and {v6:,} of IPv6."
 
-SHORTEST = """How many blocks the flat list has, and how many routes the shortest table with the same hops, of which some are `drop`. The
+LEAST = """How many blocks the flat list has, and how many routes the least table with the same hops, of which some are `drop`. The
 time is that of `routes least`, which reads the leader's output first."""
 
 BESIDE = """A plain program with the same modes over the Rust crate `prefix-trie` 0.10.1, whose leader keeps a network's routes in an array
-of eight too; its outputs were compared with ours, and its shortest tables in length. Speed and memory as ours over its: above 1 we are
+of eight too; its outputs were compared with ours, and its least tables in length. Speed and memory as ours over its: above 1 we are
 faster, and use more. It writes each reply by itself; the second column is over one that writes as its buffer fills, which ours does while
 more lines are here. Of runs that are over at once no ratio is told: they have `-`. Of the others the slowest of one program on one feed
 took up to {spread:.2f} times as long as its fastest, by what else the machine did: so far off may a ratio of single runs be."""
@@ -95,7 +95,7 @@ def of_feed(bench, title, feed, programs):
     for name in whole:
         check(led["ours"], followed[name])
         if sizes(shortened[name])[0] != sizes(shortened["ours"])[0]:
-            measure.fail(f"two shortest tables of {title} differ in length")
+            measure.fail(f"two least tables of {title} differ in length")
     rebuilt(programs["ours"], shortened["ours"].read_bytes(), followed["ours"])
     counts = Counts(sizes(followed["ours"])[0] - 1, sizes(shortened["ours"])[0], drops(shortened["ours"]))
     return Row(title, sizes(feed), sizes(led["ours"]), dict(zip(MODES, (lead, follow, least))), counts)
@@ -119,7 +119,7 @@ def times(row):
 
 
 def shortest(row):
-    """A row of the table on shortest tables."""
+    """A row of the table on least tables."""
     least = row.modes["least"]["ours"]
     return [row.title, *(f"{count:,}" for count in row.counts), f"{least.seconds:.2f}", f"{least.kilobytes / 1024:.1f}"]
 
@@ -190,7 +190,7 @@ def measured(bench):
     picture = "![Time for each line read, by loads of networks in growing number](performance.svg)\n"
     yield "Times and memory", [text, page.table(head, map(times, rows)), picture, told]
     head = ["feed", "flat blocks", "routes", "of them `drop`", "least s", "MB"]
-    yield "Shortest tables", [page.filled(SHORTEST), page.table(head, map(shortest, rows)), told]
+    yield "Least tables", [page.filled(LEAST), page.table(head, map(shortest, rows)), told]
     if "peer" in programs:
         head = ["feed", "lead", "lead, replies together", "follow", "least", "memory of lead", "memory of follow", "memory of least"]
         text = page.filled(BESIDE.format(spread=spread(rows)))

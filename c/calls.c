@@ -345,7 +345,7 @@ static void owned(routes_table *t, uint32_t hop) {
     CHECK(routes_route_at(t, at, &r) == ROUTES_MISSING);
 }
 
-/* The shortest table has no more routes than there are networks, and the same hops, of which some are looked at. */
+/* The least table has no more routes than there are networks, and the same hops, of which some are looked at. */
 static void shortest(routes_table *t, size_t networks) {
     static routes_route least[MOST];
     CHECK(routes_least(t) == ROUTES_OK);

@@ -42,8 +42,8 @@ impl Contains<&Ipv4Addr> for Ipv4Net {
 
 impl Ipv4Net {
     /// Appends the text of `to_text`. There must be room for the longest, of 43 bytes, as for either family. Takes no memory.
-    pub fn push_text<const ROOM: usize>(&self, out: &mut ArrayVec<u8, ROOM>)
-        requires { array_vec_len out.old + 43 ≤ ROOM }
+    pub fn push_text<const CAPACITY: usize>(&self, out: &mut ArrayVec<u8, CAPACITY>)
+        requires { array_vec_len out.old + 43 ≤ CAPACITY }
         ensures text { out.new.items ≡ out.old.items ++ ipv4_net_text self.now }
         ensures reads { ReadsIpv4 (ipv4_net_text self.now) self.now }
         ensures len { array_vec_len out.new ≤ array_vec_len out.old + 18 }

@@ -42,8 +42,8 @@ impl Contains<&Ipv6Addr> for Ipv6Net {
 
 impl Ipv6Net {
     /// Appends the text of `to_text`. There must be room for the longest, of 43 bytes. Takes no memory.
-    pub fn push_text<const ROOM: usize>(&self, out: &mut ArrayVec<u8, ROOM>)
-        requires { array_vec_len out.old + 43 ≤ ROOM }
+    pub fn push_text<const CAPACITY: usize>(&self, out: &mut ArrayVec<u8, CAPACITY>)
+        requires { array_vec_len out.old + 43 ≤ CAPACITY }
         ensures text { out.new.items ≡ out.old.items ++ ipv6_net_text self.now }
         ensures reads { ReadsIpv6 (ipv6_net_text self.now) self.now }
         ensures len { array_vec_len out.new ≤ array_vec_len out.old + 43 }

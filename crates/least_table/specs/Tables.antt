@@ -1,4 +1,4 @@
--- Tables of routes over bit strings, the hop of an address, and the shortest tables.
+-- Tables of routes over bit strings, the hop of an address, and the least tables.
 use Rattle.std.specs.Prelude.{◌≡◌, ◌≢◌, ℕ, ◌≤◌, Bool, cond, List, [], ◌∷◌, length, nat_lt, Option, Some, None, ⊤}
 use Rattle.ipnet_blocks.specs.BitStrings.{begins}
 

@@ -5,6 +5,6 @@ mod bits;
 mod hops;
 pub mod laws;
 mod plan;
-mod shortest;
+mod least;
 
-pub use shortest::least;
+pub use least::least;

@@ -10,7 +10,7 @@ ghost use Rattle.prefix_trie.specs.Refusals.{no_room};
 ghost use Rattle.prefix_trie.specs.declared.refused.Refused.TheVariants.{Full};
 
 use crate::map::PrefixMap;
-use crate::prefix::{Prefix, path_of, shortened};
+use crate::prefix::{Prefix, path_of, truncated};
 use crate::refused::Refused;
 use ipnet_addr::key::Key;
 use std::mem::replace;
@@ -58,7 +58,7 @@ impl<P: Prefix, T> PrefixMap<P, T> {
         ensures found { MatchEntry result (IsSome (get self.old.entries (P.bits prefix))) (get self.old.entries (P.bits prefix) ≡ None) }
     {
         if self.get(&prefix).is_some() {
-            let key = shortened(&prefix, prefix.prefix_len());
+            let key = truncated(&prefix, prefix.prefix_len());
             Entry::Occupied(OccupiedEntry { map: self, key })
         } else {
             Entry::Vacant(VacantEntry {
@@ -158,7 +158,7 @@ impl<'a, P: Prefix, T> VacantEntry<'a, P, T> {
         ensures full { IfErr result (λ e. e.0 ≡ Full → no_room (entry_map (Vacant self.old))) }
         ensures value_returned { IfErr result (λ e. e.1 ≡ value) }
     {
-        let key = shortened(&self.key, self.key.prefix_len());
+        let key = truncated(&self.key, self.key.prefix_len());
         let old = self.map.insert(key, value)?;
         self.is_stored = true;
         Ok(old)

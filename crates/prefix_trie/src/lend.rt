@@ -8,7 +8,7 @@ ghost use Rattle.prefix_trie.specs.Maps.{IsLongestKey};
 ghost use Rattle.prefix_trie.specs.Lending.{lends_value, lends_longest};
 
 use crate::map::PrefixMap;
-use crate::prefix::{Prefix, path_of, shortened};
+use crate::prefix::{Prefix, path_of, truncated};
 use ipnet_addr::key::Key;
 use trie_core::Path;
 
@@ -47,7 +47,7 @@ impl<P: Prefix, T> PrefixMap<P, T> {
         ensures value { map.get self.old.entries (take len (P.bits prefix.now)) ≡ Some result.1.now }
     {
         let path = first_bits(prefix, len);
-        (shortened(prefix, len), self.value_mut(&path))
+        (truncated(prefix, len), self.value_mut(&path))
     }
 
     /// The longest key that contains the asked prefix, which itself counts, and its value, lent to be written. What

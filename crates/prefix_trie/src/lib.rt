@@ -27,6 +27,6 @@ pub mod set;
 
 pub use ipnet_addr::key::Key;
 pub use map::PrefixMap;
-pub use prefix::{Prefix, path_of, prefix_of, shortened};
+pub use prefix::{Prefix, path_of, prefix_of, truncated};
 pub use refused::Refused;
 pub use set::PrefixSet;

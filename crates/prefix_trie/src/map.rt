@@ -17,7 +17,7 @@ pub use crate::iter_mut::{IterMut, ValuesMut};
 pub use crate::iterators::{
     Cover, CoverKeys, CoverValues, IntoIter, IntoKeys, IntoValues, Iter, Keys, Values,
 };
-use crate::prefix::{Prefix, path_of, shortened};
+use crate::prefix::{Prefix, path_of, truncated};
 use crate::refused::Refused;
 use ipnet_addr::key::Key;
 use std::alloc::Global;
@@ -139,7 +139,7 @@ impl<P: Prefix, T> PrefixMap<P, T> {
     {
         match self.get(prefix) {
             None => None,
-            Some(value) => Some((shortened(prefix, prefix.prefix_len()), value)),
+            Some(value) => Some((truncated(prefix, prefix.prefix_len()), value)),
         }
     }
 
@@ -157,7 +157,7 @@ impl<P: Prefix, T> PrefixMap<P, T> {
     {
         match self.root.longest(path_of(prefix)) {
             None => None,
-            Some((len, value)) => Some((shortened(prefix, len), value)),
+            Some((len, value)) => Some((truncated(prefix, len), value)),
         }
     }
 
@@ -177,7 +177,7 @@ impl<P: Prefix, T> PrefixMap<P, T> {
     {
         match self.root.longest(path_of(prefix)) {
             None => None,
-            Some((len, _)) => Some(shortened(prefix, len)),
+            Some((len, _)) => Some(truncated(prefix, len)),
         }
     }
 
@@ -188,7 +188,7 @@ impl<P: Prefix, T> PrefixMap<P, T> {
     {
         match self.root.shortest(path_of(prefix)) {
             None => None,
-            Some((len, value)) => Some((shortened(prefix, len), value)),
+            Some((len, value)) => Some((truncated(prefix, len), value)),
         }
     }
 
@@ -199,7 +199,7 @@ impl<P: Prefix, T> PrefixMap<P, T> {
     {
         match self.root.shortest(path_of(prefix)) {
             None => None,
-            Some((len, _)) => Some(shortened(prefix, len)),
+            Some((len, _)) => Some(truncated(prefix, len)),
         }
     }
 

@@ -85,7 +85,7 @@ fn masked_key<R: Key>(key: R, len: u8) -> R
 
 /// The prefix of the first `len` bits, with zeros after them.
 #[inline]
-pub fn shortened<P: Prefix>(prefix: &P, len: u8) -> P
+pub fn truncated<P: Prefix>(prefix: &P, len: u8) -> P
     requires fits { IsTrue (P.fits prefix.now) }
     requires within { len ≤ length (P.bits prefix.now) }
     ensures fits { IsTrue (P.fits result) }

@@ -12,16 +12,16 @@ use crate::slot::Slot;
 use crate::too_many::TooMany;
 use std::marker::Model;
 
-/// At most eight hops with their preferences, best first, no hop twice, and room for `ROOM` of them, eight bytes each. They take no
+/// At most eight hops with their preferences, best first, no hop twice, and room for `CAPACITY` of them, eight bytes each. They take no
 /// memory.
 ///
 /// Contracts see the list of the choices.
 #[derive(Drop)]
-pub struct Choices<const ROOM: usize> {
-    slots: [Slot; ROOM],
+pub struct Choices<const CAPACITY: usize> {
+    slots: [Slot; CAPACITY],
 }
 
-impl<const ROOM: usize> Model for Choices<ROOM> {
+impl<const CAPACITY: usize> Model for Choices<CAPACITY> {
     ghost use Rattle.std.specs.Prelude.{◌≡◌, List};
     ghost use Rattle.route_choices.specs.Choices.{AreChoices, Choice};
     ghost use Rattle.route_choices.specs.InnerSlots.{filled, padded};
@@ -30,7 +30,7 @@ impl<const ROOM: usize> Model for Choices<ROOM> {
 
     ghost view = { λ c. filled c.slots };
 
-    ghost invariant = { λ c. (c.slots ≡ padded ROOM (filled c.slots)) × AreChoices (filled c.slots) };
+    ghost invariant = { λ c. (c.slots ≡ padded CAPACITY (filled c.slots)) × AreChoices (filled c.slots) };
 }
 
 /// The first place that has the hop or is free, or how many there are.
@@ -98,15 +98,15 @@ impl Choices<8> {
     }
 }
 
-impl<const ROOM: usize> Choices<ROOM> {
+impl<const CAPACITY: usize> Choices<CAPACITY> {
     /// One choice.
-    pub fn one(hop: Hop, pref: u16) -> Choices<ROOM>
-        requires { 0 < ROOM }
+    pub fn one(hop: Hop, pref: u16) -> Choices<CAPACITY>
+        requires { 0 < CAPACITY }
         ensures choices { result ≡ record { hop = hop; pref = pref } ∷ [] }
         ensures are { AreChoices result }
         ensures in_range { IsHop hop }
     {
-        let mut slots: [Slot; ROOM] = Default::default();
+        let mut slots: [Slot; CAPACITY] = Default::default();
         slots[0] = Slot::new(hop, pref);
         Choices { slots }
     }

@@ -11,12 +11,12 @@ use Rattle.route_lines.specs.declared.reply.Reply.{Reply}
 use Rattle.route_lines.specs.declared.reply.Reply.TheVariants.{Close}
 use Rattle.route_laws.specs.Networks.{Stored, IsStoredTable}
 use Rattle.route_feed.specs.Output.{replies, refusals_after, output}
-use Rattle.route_feed.specs.Steps as turn
+use Rattle.route_feed.specs.Steps as steps
 use Rattle.route_feed.specs.Streams.{Change, change_of, closes, pending_after, pending_over, replies_in}
-use Rattle.route_feed.proofs.Beginnings.{AreInRange, all_in_range, commands_of, empty_is_table, output_read, reread_turn}
+use Rattle.route_feed.proofs.Beginnings.{AreInRange, all_in_range, commands_of, empty_is_table, output_read, reread_answer}
 use Rattle.route_feed.proofs.Reread.{AreOpen, reread, reread_open, reread_changes}
 use Rattle.route_feed.proofs.Seam.{Apart, changes_in}
-use Rattle.route_feed.proofs.Turns.{form_step}
+use Rattle.route_feed.proofs.Replies.{form_step}
 
 pub pending_over-append : (cs : List Change) (ls ms : List Reply) → pending_over cs (ls ++ ms) ≡ pending_over (pending_over cs ls) ms
 pending_over-append cs [] ms = refl
@@ -63,7 +63,7 @@ committed_apart : (M : List Stored) (commands : List (Option Command)) (r : List
     → p ++ Close Done ∷ q ≡ reread (replies M commands r) → Rising Apart (pending_over [] p)
 committed_apart M [] r p q m h e = absurd (not_none p q (Close Done) e)
 committed_apart M (c ∷ cs) r p q m h e =
-    let t = turn.step M c (get_or r 0 false) in
+    let t = steps.step M c (get_or r 0 false) in
     let rs = refusals_after M c r in
     let form = form_step M m c (get_or r 0 false) (h c (inl refl)) in
     let open_lines = reread_open t.body form.body_told in
@@ -72,7 +72,7 @@ committed_apart M (c ∷ cs) r p q m h e =
     (λ s. let (later, split, rest) = s in
     subst (Rising Apart) (sym (ap (pending_over []) split ∙ pending_over-append [] (reread t.body) (Close t.closing ∷ later)))
     (committed_apart t.next cs rs later q form.table (λ d i. h d (inr i)) rest))
-    (which_reply p q (reread t.body) Done t.closing (reread (replies t.next cs rs)) open_lines (e ∙ reread_turn t (replies t.next cs rs)))
+    (which_reply p q (reread t.body) Done t.closing (reread (replies t.next cs rs)) open_lines (e ∙ reread_answer t (replies t.next cs rs)))
 
 -- the changes that wait where a closing line of the output is `ok`
 pub waiting_apart : (bytes : List ℕ) (refusals : List Bool) (p q : List Reply) → replies_in (output bytes refusals) ≡ p ++ Close Done ∷ q → Rising Apart (pending_over [] p)

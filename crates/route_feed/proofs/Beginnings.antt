@@ -22,7 +22,7 @@ use Rattle.route_laws.proofs.Flats.{same_flat}
 use Rattle.route_laws.proofs.FlatSearch.{search_is_flat}
 use Rattle.route_feed.specs.Laws.{table_told, AllAreAnswered, OutputIsFollowed, BeginningsAgree, FlatListsAgree}
 use Rattle.route_feed.specs.Output.{replies, table_after, refusals_after, whole_commands, at_end, lines_output, output}
-use Rattle.route_feed.specs.Steps as turn
+use Rattle.route_feed.specs.Steps as steps
 use Rattle.route_feed.specs.Steps.{flat_line}
 use Rattle.route_feed.specs.Replies.{printed}
 use Rattle.route_lines.specs.declared.reply.Closing.TheVariants.{Done}
@@ -35,7 +35,7 @@ use Rattle.route_feed.proofs.ReadNets.{IsInRange, piece_in_range}
 use Rattle.route_feed.proofs.Reread.{AreClean, AreClean-append, AreOpen, told_is_clean, closing_is_clean, closing_read, read_again, reread, reread_open, reread_changes}
 use Rattle.route_feed.proofs.Seam.{changes_in}
 use Rattle.route_feed.proofs.Carried.{painted-append}
-use Rattle.route_feed.proofs.Turns.{form_step, gain}
+use Rattle.route_feed.proofs.Replies.{form_step, gain}
 
 -- ---- a beginning's lines
 
@@ -106,8 +106,8 @@ commits (l ∷ body) closing p o =
 
 -- ---- the reply lines of an output
 
-pub reread_turn : (t : turn.Turn) (ls : List Reply) → reread (turn.turn_lines t ++ ls) ≡ reread t.body ++ Close t.closing ∷ reread ls
-reread_turn t ls =
+pub reread_answer : (t : steps.Answer) (ls : List Reply) → reread (steps.answer_lines t ++ ls) ≡ reread t.body ++ Close t.closing ∷ reread ls
+reread_answer t ls =
     ap reread (append_assoc t.body (Close t.closing ∷ []) ls)
     ∙ filter_map-append (λ l. reply_of (reply_text l)) t.body (Close t.closing ∷ ls)
     ∙ ap (λ o. reread t.body ++ cons_option o (reread ls)) (closing_read t.closing)
@@ -118,9 +118,9 @@ AreInRange commands = (c : Option Command) → In c commands → IsInRange c
 pub replies_clean : (M : List Stored) (commands : List (Option Command)) (r : List Bool) → IsStoredTable M → AreInRange commands → AreClean (replies M commands r)
 replies_clean M [] r m h = tt
 replies_clean M (c ∷ cs) r m h =
-    let t = turn.step M c (get_or r 0 false) in
+    let t = steps.step M c (get_or r 0 false) in
     let form = form_step M m c (get_or r 0 false) (h c (inl refl)) in
-    AreClean-append (turn.turn_lines t) (replies t.next cs (refusals_after M c r))
+    AreClean-append (steps.answer_lines t) (replies t.next cs (refusals_after M c r))
     (AreClean-append t.body (Close t.closing ∷ []) (told_is_clean t.body form.body_told) (closing_is_clean t.closing, tt))
     (replies_clean t.next cs (refusals_after M c r) form.table (λ d i. h d (inr i)))
 
@@ -135,7 +135,7 @@ pub followed : (M : List Stored) (commands : List (Option Command)) (r : List Bo
 followed M [] r p q m h e x a =
     subst (λ l. painted_over (hop_at (routes_of M) x) (committed l) x ≡ hop_at (routes_of (table_after M (take (closings l) []) r)) x) (sym (nothing_left p q e)) refl
 followed M (c ∷ cs) r p q m h e x a =
-    let t = turn.step M c (get_or r 0 false) in
+    let t = steps.step M c (get_or r 0 false) in
     let rs = refusals_after M c r in
     let form = form_step M m c (get_or r 0 false) (h c (inl refl)) in
     let tail = reread (replies t.next cs rs) in
@@ -151,7 +151,7 @@ followed M (c ∷ cs) r p q m h e x a =
     ∙ ap (λ ds. painted_over (painted_over (hop_at (routes_of M) x) (cond (is_done t.closing) ds []) x) (committed p2) x) (reread_changes t.body form.body_told)
     ∙ ap (λ o. painted_over o (committed p2) x) (form.paints x a)
     ∙ ih)))
-    (split_at_closing p q (reread t.body) t.closing tail open_lines (e ∙ reread_turn t (replies t.next cs rs)))
+    (split_at_closing p q (reread t.body) t.closing tail open_lines (e ∙ reread_answer t (replies t.next cs rs)))
 
 pub empty_is_table : IsStoredTable []
 empty_is_table = record {
@@ -202,10 +202,10 @@ flat_lists_agree bytes front back refusals e =
 answered : (M : List Stored) (commands : List (Option Command)) (r : List Bool) → IsStoredTable M → AreInRange commands → closings (reread (replies M commands r)) ≡ length commands
 answered M [] r m h = refl
 answered M (c ∷ cs) r m h =
-    let t = turn.step M c (get_or r 0 false) in
+    let t = steps.step M c (get_or r 0 false) in
     let rs = refusals_after M c r in
     let form = form_step M m c (get_or r 0 false) (h c (inl refl)) in
-    ap closings (reread_turn t (replies t.next cs rs))
+    ap closings (reread_answer t (replies t.next cs rs))
     ∙ (commits (reread t.body) t.closing (reread (replies t.next cs rs)) (reread_open t.body form.body_told)).closings
     ∙ ap suc (answered t.next cs rs form.table (λ d i. h d (inr i)))
 

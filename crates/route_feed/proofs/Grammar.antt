@@ -27,11 +27,11 @@ use Rattle.route_feed.specs.Laws.{BeginningsAreReplies}
 use Rattle.route_feed.specs.Output.{replies, refusals_after, whole_commands, at_end}
 use Rattle.route_feed.specs.Replies.{printed}
 use Rattle.route_feed.specs.InnerReplies.{choice_line, own_line}
-use Rattle.route_feed.specs.Steps as turn
+use Rattle.route_feed.specs.Steps as steps
 use Rattle.route_feed.proofs.Beginnings.{AreInRange, all_in_range, commands_of, empty_is_table, first_lines, replies_clean}
 use Rattle.route_feed.proofs.Reread.{AreClean, AreTold, IsSmall, first_line}
 use Rattle.route_feed.proofs.ReadLines.{of_replies, read_is}
-use Rattle.route_feed.proofs.Turns.{form_step}
+use Rattle.route_feed.proofs.Replies.{form_step}
 
 -- ---- lines that spell what they print
 
@@ -72,7 +72,7 @@ changed_length : (M : List Stored) (b : Block) (cs : List Choice) → length (wi
 changed_length M b [] = let h = filtered_length (λ (s : Stored). not (same_block s.block b)) M in omega (arith, h)
 changed_length M b (c ∷ cs) = stored_length M (record { block = b; choices = c ∷ cs })
 
-closed_or : (b : Bool) (M : List Stored) (t u : turn.Turn) → length t.next ≤ length M + 1 → length u.next ≤ length M + 1 → length (cond b t u).next ≤ length M + 1
+closed_or : (b : Bool) (M : List Stored) (t u : steps.Answer) → length t.next ≤ length M + 1 → length u.next ≤ length M + 1 → length (cond b t u).next ≤ length M + 1
 closed_or true M t u h k = h
 closed_or false M t u h k = k
 
@@ -80,11 +80,11 @@ module _ (M : List Stored) where
   same_length : length M ≤ length M + 1
   same_length = omega arith
 
-  found_length : (o : Option Route) → length (option_map_or (λ r. turn.told M (turn.route_line r ∷ [])) o (turn.closed M Missing)).next ≤ length M + 1
+  found_length : (o : Option Route) → length (option_map_or (λ r. steps.told M (steps.route_line r ∷ [])) o (steps.closed M Missing)).next ≤ length M + 1
   found_length None = same_length
   found_length (Some r) = same_length
 
-  answer_length : (command : Option Command) → length (turn.accepted M command).next ≤ length M + 1
+  answer_length : (command : Option Command) → length (steps.accepted M command).next ≤ length M + 1
   answer_length (Some (C.Add net hop pref)) = changed_length M (block net) (choices_with (choices_at M (block net)) (record { hop = hop; pref = pref }))
   answer_length (Some (C.Del net hop)) =
       let cs = choices_at M (block net) in
@@ -101,9 +101,9 @@ module _ (M : List Stored) where
   answer_length None = same_length
 
   -- no command adds more than one network
-  step_length : (command : Option Command) (refused : Bool) → length (turn.step M command refused).next ≤ length M + 1
+  step_length : (command : Option Command) (refused : Bool) → length (steps.step M command refused).next ≤ length M + 1
   step_length command refused =
-      closed_or (turn.is_too_many M command) M _ _ same_length (closed_or (turn.may_refuse M command && refused) M _ _ same_length (answer_length command))
+      closed_or (steps.is_too_many M command) M _ _ same_length (closed_or (steps.may_refuse M command && refused) M _ _ same_length (answer_length command))
 
 -- ---- the numbers in a reply
 
@@ -115,43 +115,43 @@ AreSmall-map : {A : Type 0} (f : A → Reply) → ((x : A) → IsSmall (f x)) �
 AreSmall-map f h [] = tt
 AreSmall-map f h (x ∷ xs) = (h x, AreSmall-map f h xs)
 
-change_small : (o : Option ℕ) (b : Block) → IsSmall (turn.change_line o b)
+change_small : (o : Option ℕ) (b : Block) → IsSmall (steps.change_line o b)
 change_small None b = tt
 change_small (Some n) b = tt
 
-small_or : (b : Bool) (t u : turn.Turn) → AreSmall t.body → AreSmall u.body → AreSmall (cond b t u).body
+small_or : (b : Bool) (t u : steps.Answer) → AreSmall t.body → AreSmall u.body → AreSmall (cond b t u).body
 small_or true t u h k = h
 small_or false t u h k = k
 
 module _ (M : List Stored) (few : length M < 2 ^ 64) where
-  found_small : (o : Option Route) → AreSmall (option_map_or (λ r. turn.told M (turn.route_line r ∷ [])) o (turn.closed M Missing)).body
+  found_small : (o : Option Route) → AreSmall (option_map_or (λ r. steps.told M (steps.route_line r ∷ [])) o (steps.closed M Missing)).body
   found_small None = tt
   found_small (Some r) = (tt, tt)
 
-  changes_small : (N : List Stored) → AreSmall (turn.changed_to M N).body
-  unfolding turn.change_lines
+  changes_small : (N : List Stored) → AreSmall (steps.changed_to M N).body
+  unfolding steps.change_lines
   changes_small N = AreSmall-map _ (λ b. change_small (hop_at (routes_of N) (first_of b)) b) _
 
-  answer_small : (command : Option Command) → AreSmall (turn.accepted M command).body
+  answer_small : (command : Option Command) → AreSmall (steps.accepted M command).body
   answer_small (Some (C.Add net hop pref)) = changes_small _
   answer_small (Some (C.Del net hop)) = small_or (holds_hop (choices_at M (block net)) hop) _ _ (changes_small _) tt
   answer_small (Some (C.Get net)) = found_small (match_of (routes_of M) (block net))
-  answer_small (Some (C.Cover net)) = AreSmall-map turn.route_line (λ r. tt) _
-  answer_small (Some (C.List net)) = AreSmall-map turn.route_line (λ r. tt) _
+  answer_small (Some (C.Cover net)) = AreSmall-map steps.route_line (λ r. tt) _
+  answer_small (Some (C.List net)) = AreSmall-map steps.route_line (λ r. tt) _
   answer_small (Some (C.All net)) = AreSmall-map (choice_line (block net)) (λ c. tt) _
-  answer_small (Some (C.PageFrom net limit)) = AreSmall-map turn.route_line (λ r. tt) _
-  answer_small (Some (C.PageAfter net limit)) = AreSmall-map turn.route_line (λ r. tt) _
+  answer_small (Some (C.PageFrom net limit)) = AreSmall-map steps.route_line (λ r. tt) _
+  answer_small (Some (C.PageAfter net limit)) = AreSmall-map steps.route_line (λ r. tt) _
   answer_small (Some (C.Own number)) = AreSmall-map own_line (λ b. tt) _
   answer_small (Some C.Count) =
       let all = length-map M best_route in
       let v4 = filtered_length (λ (r : Route). same_family r.block.family Ipv4) (routes_of M) in
       let v6 = filtered_length (λ (r : Route). same_family r.block.family Ipv6) (routes_of M) in
       ((omega (arith, all, v4, few), omega (arith, all, v6, few)), tt)
-  answer_small (Some C.Flat) = AreSmall-map turn.flat_line (λ p. tt) _
+  answer_small (Some C.Flat) = AreSmall-map steps.flat_line (λ p. tt) _
   answer_small None = tt
 
-  step_small : (command : Option Command) (refused : Bool) → AreSmall (turn.step M command refused).body
-  step_small command refused = small_or (turn.is_too_many M command) _ _ tt (small_or (turn.may_refuse M command && refused) _ _ tt (answer_small command))
+  step_small : (command : Option Command) (refused : Bool) → AreSmall (steps.step M command refused).body
+  step_small command refused = small_or (steps.is_too_many M command) _ _ tt (small_or (steps.may_refuse M command && refused) _ _ tt (answer_small command))
 
 told_spelled : (ls : List Reply) → AreTold ls → AreSmall ls → AreSpelled ls
 told_spelled [] t s = tt
@@ -162,10 +162,10 @@ told_spelled (l ∷ ls) t s = (t.0.spelled s.0, told_spelled ls t.1 s.1)
 replies_spelled : (M : List Stored) (commands : List (Option Command)) (r : List Bool) → IsStoredTable M → AreInRange commands → length M + length commands < 2 ^ 64 → AreSpelled (replies M commands r)
 replies_spelled M [] r m h few = tt
 replies_spelled M (c ∷ cs) r m h few =
-    let t = turn.step M c (get_or r 0 false) in
+    let t = steps.step M c (get_or r 0 false) in
     let form = form_step M m c (get_or r 0 false) (h c (inl refl)) in
     let grown = step_length M c (get_or r 0 false) in
-    AreSpelled-append (turn.turn_lines t) (replies t.next cs (refusals_after M c r))
+    AreSpelled-append (steps.answer_lines t) (replies t.next cs (refusals_after M c r))
     (AreSpelled-append t.body (Close t.closing ∷ []) (told_spelled t.body form.body_told (step_small M (omega (arith, few)) c (get_or r 0 false))) (refl, tt))
     (replies_spelled t.next cs (refusals_after M c r) form.table (λ d i. h d (inr i)) (omega (arith, few, grown)))
 

@@ -25,34 +25,34 @@ use Rattle.route_feed.specs.LeadsLine.{Answers}
 use Rattle.route_feed.specs.Leads.{LeadEnds, Stopped}
 use Rattle.route_feed.specs.Output.{replies, refusals_after, whole_commands, at_end, lines_output, output}
 use Rattle.route_feed.specs.Replies.{printed}
-use Rattle.route_feed.specs.Steps.{step, may_refuse, turn_lines}
+use Rattle.route_feed.specs.Steps.{step, may_refuse, answer_lines}
 use Rattle.route_feed.specs.Devices.{Closed, Closes, Torn}
 use Rattle.route_feed.proofs.ReadNets.{commands_in}
 use Rattle.route_feed.proofs.Beginnings.{all_answered, commands_of, lines_answered}
 use Rattle.route_feed.proofs.Written.{Closed-nil, Closed-after}
 
--- the refusals of one turn
+-- the refusals of one command
 abbrev refusals_of : Bool → Bool → List Bool
 refusals_of true x = x ∷ []
 refusals_of false x = []
 
 module _ (M : List Stored) (command : Option Command) (x : Bool) where
   -- a command takes its value of the refusals, if it may be refused, and leaves the others
-  turn_taken : (commands : List (Option Command)) (later : List Bool)
-      → replies M (command ∷ commands) (refusals_of (may_refuse M command) x ++ later) ≡ turn_lines (step M command x) ++ replies (step M command x).next commands later
-  turn_taken commands later = go (may_refuse M command) refl
+  answer_taken : (commands : List (Option Command)) (later : List Bool)
+      → replies M (command ∷ commands) (refusals_of (may_refuse M command) x ++ later) ≡ answer_lines (step M command x) ++ replies (step M command x).next commands later
+  answer_taken commands later = go (may_refuse M command) refl
     where
       go : (may : Bool) → may_refuse M command ≡ may
-          → replies M (command ∷ commands) (refusals_of may x ++ later) ≡ turn_lines (step M command x) ++ replies (step M command x).next commands later
+          → replies M (command ∷ commands) (refusals_of may x ++ later) ≡ answer_lines (step M command x) ++ replies (step M command x).next commands later
       go true e = rw e refl
       go false e = rw e refl
 
   -- the same, printed
-  turn_printed : (commands : List (Option Command)) (later : List Bool)
-      → printed (replies M (command ∷ commands) (refusals_of (may_refuse M command) x ++ later)) ≡ printed (turn_lines (step M command x)) ++ printed (replies (step M command x).next commands later)
-  turn_printed commands later =
-      ap printed (turn_taken commands later)
-      ∙ flat_map-append reply_line (turn_lines (step M command x)) (replies (step M command x).next commands later)
+  answer_printed : (commands : List (Option Command)) (later : List Bool)
+      → printed (replies M (command ∷ commands) (refusals_of (may_refuse M command) x ++ later)) ≡ printed (answer_lines (step M command x)) ++ printed (replies (step M command x).next commands later)
+  answer_printed commands later =
+      ap printed (answer_taken commands later)
+      ∙ flat_map-append reply_line (answer_lines (step M command x)) (replies (step M command x).next commands later)
 
 -- the replies to commands, and to a last line that spells none
 replies_end : (M : List Stored) (commands : List (Option Command)) (v : List Bool) (bs : List ℕ)
@@ -62,10 +62,10 @@ replies_end M [] v (b ∷ bs) = refl
 replies_end M (command ∷ commands) v bs =
     let t = step M command (get_or v 0 false) in
     let later = refusals_after M command v in
-    flat_map-append reply_line (turn_lines t) (replies t.next (commands ++ at_end bs) later)
-    ∙ ap (λ l. printed (turn_lines t) ++ l) (replies_end t.next commands later bs)
-    ∙ sym (append_assoc (printed (turn_lines t)) (printed (replies t.next commands later)) (reply_to_rest (rest_of bs)))
-    ∙ ap (λ l. l ++ reply_to_rest (rest_of bs)) (sym (flat_map-append reply_line (turn_lines t) (replies t.next commands later)))
+    flat_map-append reply_line (answer_lines t) (replies t.next (commands ++ at_end bs) later)
+    ∙ ap (λ l. printed (answer_lines t) ++ l) (replies_end t.next commands later bs)
+    ∙ sym (append_assoc (printed (answer_lines t)) (printed (replies t.next commands later)) (reply_to_rest (rest_of bs)))
+    ∙ ap (λ l. l ++ reply_to_rest (rest_of bs)) (sym (flat_map-append reply_line (answer_lines t) (replies t.next commands later)))
 
 one_at_end : (bs : List ℕ) → replies_to_rest (rest_of bs) ≡ length (at_end bs)
 one_at_end [] = refl
@@ -85,7 +85,7 @@ module _ {W : Type 0} (contents : W → Option (List ℕ)) where
 
   module _ (M : List Stored) (command : Option Command) (x : Bool) (commands : List (Option Command)) (old new : Counted W) where
     abbrev reply_text : List ℕ
-    reply_text = printed (turn_lines (step M command x))
+    reply_text = printed (answer_lines (step M command x))
 
     -- in the first reply
     Stopped-first : Torn contents old new reply_text → Stopped contents M (command ∷ commands) (refusals_of (may_refuse M command) x ++ []) old new
@@ -95,13 +95,13 @@ module _ {W : Type 0} (contents : W → Option (List ℕ)) where
           front = q.front;
           back = q.back ++ later;
           answered = 0;
-          is_front = turn_printed M command x commands [] ∙ ap (λ t. t ++ later) q.is_front ∙ append_assoc q.front q.back later;
+          is_front = answer_printed M command x commands [] ∙ ap (λ t. t ++ later) q.is_front ∙ append_assoc q.front q.back later;
           appended = q.appended;
           begun = q.front;
           missing = q.back;
           another = omega arith;
           is = refl;
-          next = turn_printed M command x [] [] ∙ append-nil reply_text ∙ q.is_front;
+          next = answer_printed M command x [] [] ∙ append-nil reply_text ∙ q.is_front;
           flushed = q.flushes;
           failed = q.failed;
         }
@@ -110,13 +110,13 @@ module _ {W : Type 0} (contents : W → Option (List ℕ)) where
     Stopped-later : (mid : Counted W) (refusals : List Bool) → Closed contents 1 old mid reply_text → Stopped contents (step M command x).next commands refusals mid new
         → Stopped contents M (command ∷ commands) (refusals_of (may_refuse M command) x ++ refusals) old new
     Stopped-later mid refusals p q =
-        let first = λ (n : ℕ). turn_printed M command x (take n commands) refusals in
+        let first = λ (n : ℕ). answer_printed M command x (take n commands) refusals in
         let done = printed (replies (step M command x).next (take q.answered commands) refusals) in
         record {
           front = reply_text ++ q.front;
           back = q.back;
           answered = suc q.answered;
-          is_front = turn_printed M command x commands refusals ∙ ap (λ t. reply_text ++ t) q.is_front ∙ sym (append_assoc reply_text q.front q.back);
+          is_front = answer_printed M command x commands refusals ∙ ap (λ t. reply_text ++ t) q.is_front ∙ sym (append_assoc reply_text q.front q.back);
           appended = Appends-trans _ _ _ reply_text q.front p.appended q.appended;
           begun = q.begun;
           missing = q.missing;
@@ -136,7 +136,7 @@ module _ {W : Type 0} (contents : W → Option (List ℕ)) where
       let a = p.2 in
       let later = answered p.0 N ls p.1 new p.3 in (
         refusals_of (may_refuse M (command_in l)) a.refused ++ later.0,
-        subst (Closed contents (length (map command_in (l ∷ ls))) old new) (sym (turn_printed M (command_in l) a.refused (map command_in ls) later.0))
+        subst (Closed contents (length (map command_in (l ∷ ls))) old new) (sym (answer_printed M (command_in l) a.refused (map command_in ls) later.0))
             (Closed-after contents (command_in l ∷ []) (map command_in ls) old p.1 new _ _ a.reply
             (subst (λ T. Closed contents (length (map command_in ls)) p.1 new (printed (replies T (map command_in ls) later.0))) a.table later.1)),
       ))

@@ -15,7 +15,7 @@ pub mod ReadLines
 pub mod ReadNets
 pub mod Reread
 pub mod SameBytes
-pub mod Turns
+pub mod Replies
 pub mod Beginnings
 pub mod Apart
 pub mod Grammar

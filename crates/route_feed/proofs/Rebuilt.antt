@@ -25,7 +25,7 @@ use Rattle.route_laws.proofs.Networks.{routes_are_table}
 use Rattle.route_feed.specs.AddLines.{add_lines}
 use Rattle.route_feed.specs.Laws.{LinesKeepHops, LinesRebuild, LinesStayLeast, NoHopsNoLines, ShortenedAgree, alone, table_given}
 use Rattle.route_feed.specs.Output.{at_end, table_after, whole_commands}
-use Rattle.route_feed.specs.Steps.{Turn, is_too_many, may_refuse, step}
+use Rattle.route_feed.specs.Steps.{Answer, is_too_many, may_refuse, step}
 use Rattle.route_feed.specs.Streams.{committed, painted, replies_in}
 use Rattle.route_feed.specs.InnerLines.{add_command}
 use Rattle.route_feed.proofs.Beginnings.{beginnings_agree, empty_is_table}
@@ -99,7 +99,7 @@ added T r after =
     let c : Choice = record { hop = r.hop; pref = default_preference } in
     let room : is_too_many T (Some (add_command r)) ≡ false =
     ap (λ b. is_one_too_many (choices_at T b) r.hop) (of_network_at r.block) ∙ ap (λ cs. is_one_too_many cs r.hop) (none_at T r.block after) in
-    ap Turn.next (plain_step T (Some (add_command r)) room) ∙ ap (λ b. with_choice T b c) (of_network_at r.block) ∙ added_last T r.block after c
+    ap Answer.next (plain_step T (Some (add_command r)) room) ∙ ap (λ b. with_choice T b c) (of_network_at r.block) ∙ added_last T r.block after c
 
 all_added : (N : List Route) (T : List Stored) → Rising (λ r s. IsBefore r.block s.block) N → ((s : Stored) (r : Route) → In s T → In r N → IsBefore s.block r.block)
     → table_after T (map (λ r. Some (add_command r)) N) [] ≡ T ++ map alone N

@@ -6,24 +6,24 @@ use Rattle.route_lines.specs.declared.command.Command.{Command}
 use Rattle.route_lines.specs.declared.reply.Reply.{Reply}
 use Rattle.route_laws.specs.Networks.{Stored}
 use Rattle.route_feed.specs.Replies.{printed}
-use Rattle.route_feed.specs.Steps as turn
+use Rattle.route_feed.specs.Steps as steps
 
 -- the refusals for the commands after this one: it takes one value, where it may be refused
 abbrev pub refusals_after : List Stored → Option Command → List Bool → List Bool
-refusals_after M command refusals = if turn.may_refuse M command then drop 1 refusals else refusals
+refusals_after M command refusals = if steps.may_refuse M command then drop 1 refusals else refusals
 
 -- the reply lines to the commands, in order; None is a line that spells no command
 abbrev pub replies : List Stored → List (Option Command) → List Bool → List Reply
 replies M [] refusals = []
 replies M (command ∷ commands) refusals =
-    turn.turn_lines (turn.step M command (get_or refusals 0 false))
-    ++ replies (turn.step M command (get_or refusals 0 false)).next commands (refusals_after M command refusals)
+    steps.answer_lines (steps.step M command (get_or refusals 0 false))
+    ++ replies (steps.step M command (get_or refusals 0 false)).next commands (refusals_after M command refusals)
 
 -- the table after the commands
 abbrev pub table_after : List Stored → List (Option Command) → List Bool → List Stored
 table_after M [] refusals = M
 table_after M (command ∷ commands) refusals =
-    table_after (turn.step M command (get_or refusals 0 false)).next commands (refusals_after M command refusals)
+    table_after (steps.step M command (get_or refusals 0 false)).next commands (refusals_after M command refusals)
 
 -- the commands of the whole lines
 abbrev pub whole_commands : List ℕ → List (Option Command)

@@ -20,21 +20,21 @@ use Rattle.route_laws.specs.Tables as table
 use Rattle.route_laws.specs.Tables.{hop_at, match_of, covering, routes_inside}
 
 -- a reply: its lines, the one that closes it, and the table after it
-pub record Turn : Type 0 where
+pub record Answer : Type 0 where
   pub body : List Reply
   pub closing : Closing
   pub next : List Stored
 
 -- the lines of a reply
-abbrev pub turn_lines : Turn → List Reply
-turn_lines t = t.body ++ Close t.closing ∷ []
+abbrev pub answer_lines : Answer → List Reply
+answer_lines t = t.body ++ Close t.closing ∷ []
 
 -- a reply of its closing line alone; the table stays
-abbrev pub closed : List Stored → Closing → Turn
+abbrev pub closed : List Stored → Closing → Answer
 closed M closing = record { body = []; closing = closing; next = M }
 
 -- a reply of these lines and `ok`; the table stays
-abbrev pub told : List Stored → List Reply → Turn
+abbrev pub told : List Stored → List Reply → Answer
 told M lines = record { body = lines; closing = Done; next = M }
 
 -- the line that says which hop a block has now
@@ -47,7 +47,7 @@ unfoldable pub change_lines : List table.Route → List table.Route → List Rep
 change_lines M N = map (λ b. change_line (hop_at N (first_of b)) b) (maximal_of (changed M N))
 
 -- the reply to a change of the table: the lines of the change and `ok`; the new table is kept
-abbrev pub changed_to : List Stored → List Stored → Turn
+abbrev pub changed_to : List Stored → List Stored → Answer
 changed_to M N = record { body = change_lines (routes_of M) (routes_of N); closing = Done; next = N }
 
 -- the line of a stored route
@@ -70,7 +70,7 @@ is_too_many M (Some (C.Add net hop pref)) = is_one_too_many (choices_at M (block
 is_too_many M command = false
 
 -- the answer where nothing is refused
-abbrev pub accepted : List Stored → Option Command → Turn
+abbrev pub accepted : List Stored → Option Command → Answer
 accepted M (Some (C.Add net hop pref)) = changed_to M (with_choice M (block net) (record { hop = hop; pref = pref }))
 accepted M (Some (C.Del net hop)) = if holds_hop (choices_at M (block net)) hop then changed_to M (without_choice M (block net) hop) else closed M Missing
 accepted M (Some (C.Get net)) = option_map_or (λ r. told M (route_line r ∷ [])) (match_of (routes_of M) (block net)) (closed M Missing)
@@ -85,7 +85,7 @@ accepted M (Some C.Flat) = told M (map flat_line (flat_of (hop_at (routes_of M))
 accepted M None = closed M Bad
 
 -- one line answered; an `add` of one hop too many is refused always, and takes no value of the refusals, since its network is stored
-abbrev pub step : List Stored → Option Command → Bool → Turn
+abbrev pub step : List Stored → Option Command → Bool → Answer
 step M command refused =
     if is_too_many M command then closed M Refused
     else (if may_refuse M command && refused then closed M Refused else accepted M command)

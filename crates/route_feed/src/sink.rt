@@ -14,7 +14,7 @@ use route_lines::{LineCutter, Rest, line_text};
 use std::io::{Read, Write};
 
 /// How often a run reads.
-const TURNS: u64 = 1 << 62;
+const MOST_READS: u64 = 1 << 62;
 
 /// How many bytes are asked for at a time.
 pub const PIECE: usize = 1 << 16;
@@ -108,7 +108,7 @@ pub fn run<R: Read, W: Write, S: Sink<W>>(
     ensures { Runs S.takes R.remaining sink.old reader.old writer.old result sink.new reader.new writer.new }
 {
     let mut cutter = LineCutter::new();
-    for _turn in 0..TURNS {
+    for _read in 0..MOST_READS {
         let Ok(count) = reader.read(buf) else {
             return Err(RunError::Read);
         };

@@ -1,4 +1,4 @@
-//! What a table of routes is, its matches, hops, changes, flat lists and shortest tables, and their laws.
+//! What a table of routes is, its matches, hops, changes, flat lists and least tables, and their laws.
 #![tactic(auto)]
 
 pub mod laws;

@@ -26,7 +26,7 @@ mod refused;
 mod repaint;
 mod routes;
 mod runs;
-mod shortest;
+mod least;
 mod side;
 mod side_routes;
 mod table;

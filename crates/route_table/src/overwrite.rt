@@ -28,7 +28,7 @@ fn halves(net: &IpNet) -> (IpNet, IpNet)
     )
 }
 
-impl<const ROOM: usize> Table<ROOM> {
+impl<const CAPACITY: usize> Table<CAPACITY> {
     /// Removes every network inside this one, its own routes included, and stores one route there, of this hop and of
     /// preference 100: all addresses of the network have the new hop then, and all others the hop that they had.
     ///

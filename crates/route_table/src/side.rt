@@ -39,11 +39,11 @@ fn change(
 ///
 /// The calls ask for networks whose bits name a block: the host bits of an argument are cleared above.
 #[derive(Drop)]
-pub(crate) struct Side<P: OfFamily, const ROOM: usize> {
-    networks: PrefixMap<P, Choices<ROOM>>,
+pub(crate) struct Side<P: OfFamily, const CAPACITY: usize> {
+    networks: PrefixMap<P, Choices<CAPACITY>>,
 }
 
-impl<P: OfFamily, const ROOM: usize> Model for Side<P, ROOM> {
+impl<P: OfFamily, const CAPACITY: usize> Model for Side<P, CAPACITY> {
     ghost use Rattle.std.specs.Prelude.{List, ◌≡◌, ◌<◌, ◌≤◌};
     ghost use Rattle.std.specs.FinMap.{empty};
     ghost use Rattle.route_laws.specs.Networks.{Stored};
@@ -53,17 +53,17 @@ impl<P: OfFamily, const ROOM: usize> Model for Side<P, ROOM> {
 
     ghost view = { λ a. stored_in P.family a.networks.entries };
 
-    ghost invariant = { λ a. IsStored P.family a.networks.entries × (a.networks.spares ≡ empty) × (0 < ROOM) × (ROOM ≤ 8) };
+    ghost invariant = { λ a. IsStored P.family a.networks.entries × (a.networks.spares ≡ empty) × (0 < CAPACITY) × (CAPACITY ≤ 8) };
 }
 
-impl<P: OfFamily, const ROOM: usize> Side<P, ROOM> {
+impl<P: OfFamily, const CAPACITY: usize> Side<P, CAPACITY> {
     /// No networks.
     ///
     /// # Errors
     /// None, as of `PrefixMap::new`.
-    pub(crate) fn new(alloc: Global) -> Result<Side<P, ROOM>, Refused>
-        requires some { 0 < ROOM }
-        requires few { ROOM ≤ 8 }
+    pub(crate) fn new(alloc: Global) -> Result<Side<P, CAPACITY>, Refused>
+        requires some { 0 < CAPACITY }
+        requires few { CAPACITY ≤ 8 }
         ensures networks { IfOk result (λ s. s ≡ []) }
         ensures ok { IsOk result }
     {

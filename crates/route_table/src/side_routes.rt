@@ -24,7 +24,7 @@ pub(crate) enum Entries<'a, P: Prefix> {
 }
 
 /// An entry with the list of its routes.
-fn listed<'a, P, const ROOM: usize>(found: (P, &'a Choices<ROOM>)) -> (P, All<'a>)
+fn listed<'a, P, const CAPACITY: usize>(found: (P, &'a Choices<CAPACITY>)) -> (P, All<'a>)
     ensures { result ≡ (found.entry.0, found.entry.1.now) }
 {
     (found.0, found.1.all())

@@ -37,13 +37,13 @@ pub type RouteTable = Table<8>;
 
 /// A table of networks of both families with room for so many routes of each: `RouteTable` for eight, `HopTable` for one.
 #[derive(Drop)]
-pub struct Table<const ROOM: usize> {
-    pub(crate) v4: Side<Ipv4Net, ROOM>,
-    pub(crate) v6: Side<Ipv6Net, ROOM>,
+pub struct Table<const CAPACITY: usize> {
+    pub(crate) v4: Side<Ipv4Net, CAPACITY>,
+    pub(crate) v6: Side<Ipv6Net, CAPACITY>,
     alloc: Global,
 }
 
-impl<const ROOM: usize> Model for Table<ROOM> {
+impl<const CAPACITY: usize> Model for Table<CAPACITY> {
     ghost use Rattle.std.specs.Prelude.{List, ◌++◌};
     ghost use Rattle.ipnet_addr.specs.Addresses.{Ipv4, Ipv6};
     ghost use Rattle.route_table.specs.InnerSides.{IsSide};
@@ -274,7 +274,7 @@ impl RouteTable {
     }
 }
 
-impl<const ROOM: usize> Table<ROOM> {
+impl<const CAPACITY: usize> Table<CAPACITY> {
     /// The longest match: of the stored networks that contain this one, itself included, the longest, with its best hop
     /// and the preference of that one.
     ///
@@ -304,9 +304,9 @@ impl<const ROOM: usize> Table<ROOM> {
     }
 
     /// The table without networks.
-    pub(crate) fn empty(alloc: Global) -> Result<Table<ROOM>, Refused>
-        requires some { 0 < ROOM }
-        requires few { ROOM ≤ 8 }
+    pub(crate) fn empty(alloc: Global) -> Result<Table<CAPACITY>, Refused>
+        requires some { 0 < CAPACITY }
+        requires few { CAPACITY ≤ 8 }
         ensures { IsEmptied result }
     {
         Ok(Table {

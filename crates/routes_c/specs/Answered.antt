@@ -1,7 +1,7 @@
 -- What `routes_line` does.
 use Rattle.std.specs.Prelude.{◌≡◌, ◌⊎◌, ℕ, Bool, List, [], ◌++◌}
 use Rattle.route_feed.specs.Replies.{printed}
-use Rattle.route_feed.specs.Steps.{step, turn_lines}
+use Rattle.route_feed.specs.Steps.{step, answer_lines}
 use Rattle.route_lines.specs.Spelled.{command_of}
 use Rattle.routes_c.specs.declared.session.Session.{Session}
 
@@ -12,6 +12,6 @@ pub record Answered (s t : Session) (line : List ℕ) (code : ℕ) : Type 0 wher
   pub cut : List ℕ
   pub answers : (code ≡ 0) ⊎ (code ≡ 2)
   pub whole : code ≡ 0 → cut ≡ []
-  pub reply : printed (turn_lines (step s.table (command_of line) refused)) ≡ t.reply.items ++ cut
+  pub reply : printed (answer_lines (step s.table (command_of line) refused)) ≡ t.reply.items ++ cut
   pub table : t.table ≡ (step s.table (command_of line) refused).next
   pub kept : t.kept ≡ s.kept

@@ -28,7 +28,7 @@ pub enum Asked {
     Governed(IpNet),
     /// The blocks of a hop number.
     Own(u32),
-    /// A shortest table.
+    /// A least table.
     Least,
 }
 
@@ -122,7 +122,7 @@ fn own(alloc: Global, table: &RouteTable, number: u32) -> Result<Vec<Route>, All
     }
 }
 
-/// A shortest table.
+/// A least table.
 fn least(alloc: Global, table: &RouteTable) -> Result<Vec<Route>, AllocError>
     ensures { IfOk result (λ v. Shown (IsLeast (hop_at (routes_of table.now))) v.items) }
 {

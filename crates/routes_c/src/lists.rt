@@ -287,7 +287,7 @@ pub extern "C" fn routes_own(alloc: Global, handle: &mut Handle, number: u32) ->
     list(alloc, handle, Asked::Own(number))
 }
 
-/// Lists the routes of a shortest table: one with the same hop at every address, and the fewest routes of all that have it.
+/// Lists the routes of a least table: one with the same hop at every address, and the fewest routes of all that have it.
 ///
 /// 0; 2 where there is no memory, and then the list is as it was; 3 where the handle is closed.
 #[unsafe(no_mangle)]

@@ -2,7 +2,7 @@
 ghost use Rattle.std.specs.Prelude.{◌≤◌, length, IsTrue};
 
 use crate::tests::maps::{is_equal, net, wide_net};
-use prefix_trie::{Key, Prefix, path_of, shortened};
+use prefix_trie::{Key, Prefix, path_of, truncated};
 use trie_core::Path;
 
 /// The width, the key with zeros after the bits that count, and whether the other prefix is contained.
@@ -22,7 +22,7 @@ fn beginning<P: Prefix + Drop>(prefix: &P, len: u8) -> (u128, u8)
     requires fits { IsTrue (P.fits prefix.now) }
     requires within { len ≤ length (P.bits prefix.now) }
 {
-    let shorter = shortened(prefix, len);
+    let shorter = truncated(prefix, len);
     (shorter.repr().to_bits(), shorter.prefix_len())
 }
 

@@ -1,4 +1,4 @@
-//! Rows of shortest tables, with values from outside.
+//! Rows of least tables, with values from outside.
 use crate::tests::flat_lists::flat_is;
 use crate::tests::tables::{empty, route, routes, row_is, table};
 use ipnet::IpNet;
@@ -11,13 +11,13 @@ fn routes_are(rt: &impl Abort, alloc: Global, row: &str, found: &[(IpNet, Hop)],
     row_is(rt, row, found, routes(rt, alloc, text).as_slice());
 }
 
-/// The shortest table of one of these routes.
+/// The least table of one of these routes.
 fn least_is(rt: &impl Abort, alloc: Global, row: &str, text: &str, wanted: &str) {
     let least = table(rt, alloc, text).least().expect(rt, "memory");
     routes_are(rt, alloc, row, least.as_slice(), wanted);
 }
 
-/// Routes, and the shortest table of one of them.
+/// Routes, and the least table of one of them.
 const LEAST: [(&str, &str, &str); 6] = [
     (
         "a route inside another",
@@ -165,7 +165,7 @@ fn add_again(rt: &impl Abort, table: &mut RouteTable, words: &str) {
     }
 }
 
-/// The shortest table has three routes, or memory is refused.
+/// The least table has three routes, or memory is refused.
 fn least_is_three(rt: &impl Abort, table: &RouteTable) {
     match table.least() {
         Ok(least) => row_is(rt, "routes", least.len(), 3),

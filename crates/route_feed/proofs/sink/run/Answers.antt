@@ -6,21 +6,21 @@ use Rattle.route_lines.proofs.Cutting.{new_rest_in}
 use Rattle.route_feed.proofs.Taking.{Went-nil, Went-more, went_lines}
 use Rattle.route_feed.proofs.sink.run.Goals as goal
 
-pub loop-turn-init : goal.loop-turn-init
-loop-turn-init g c = record {
+pub loop-read-init : goal.loop-read-init
+loop-read-init g c = record {
   went = rw c.new-cutter.ensures (Went-nil g.S.Sink.takes g.R.Read.remaining c.args.sink.now c.args.reader.now c.args.writer.now);
   can = c.requires.sink;
   reads = omega arith;
   faults = refl;
 }
 
-pub loop-turn-preserved : goal.loop-turn-preserved
-loop-turn-preserved g c =
-    let inv = c.loop-turn.invariant in
+pub loop-read-preserved : goal.loop-read-preserved
+loop-read-preserved g c =
+    let inv = c.loop-read.invariant in
     let piece = take c.in-Ok.count c.read.new.buf in
     record {
-      went = Went-more g.S.Sink.takes g.R.Read.remaining c.args.sink.now c.loop-turn.sink c.take_piece.new.sink c.args.reader.now c.loop-turn.reader c.read.new.self c.args.writer.now c.loop-turn.writer c.take_piece.new.writer
-          c.loop-turn.cutter c.take_piece.new.cutter piece (Ok tt) inv.went c.in-Ok.ensures.bytes.0 c.in_ok-take_piece.ensures.takes c.in_ok-take_piece.ensures.cutter;
+      went = Went-more g.S.Sink.takes g.R.Read.remaining c.args.sink.now c.loop-read.sink c.take_piece.new.sink c.args.reader.now c.loop-read.reader c.read.new.self c.args.writer.now c.loop-read.writer c.take_piece.new.writer
+          c.loop-read.cutter c.take_piece.new.cutter piece (Ok tt) inv.went c.in-Ok.ensures.bytes.0 c.in_ok-take_piece.ensures.takes c.in_ok-take_piece.ensures.cutter;
       can = c.in_ok-take_piece.ensures.others;
       reads = omega (arith, c.in-Ok.ensures.reads, inv.reads, c.requires.reader.0);
       faults = c.in-Ok.ensures.faults ∙ inv.faults;
@@ -29,14 +29,14 @@ loop-turn-preserved g c =
 pub returns-in_err-take_piece : goal.returns-in_err-take_piece
 returns-in_err-take_piece g c =
     let p = err_from_is_err_and c.from_residual.result c.from_residual.ensures.1 in
-    let inv = c.loop-turn.invariant in
-    let went = Went-more g.S.Sink.takes g.R.Read.remaining c.args.sink.now c.loop-turn.sink c.take_piece.new.sink c.args.reader.now c.loop-turn.reader c.read.new.self c.args.writer.now c.loop-turn.writer c.take_piece.new.writer
-    c.loop-turn.cutter c.take_piece.new.cutter (take c.in-Ok.count c.read.new.buf) (Err c.in_err-take_piece.field-0.0) inv.went c.in-Ok.ensures.bytes.0 c.in_err-take_piece.ensures.takes tt in
+    let inv = c.loop-read.invariant in
+    let went = Went-more g.S.Sink.takes g.R.Read.remaining c.args.sink.now c.loop-read.sink c.take_piece.new.sink c.args.reader.now c.loop-read.reader c.read.new.self c.args.writer.now c.loop-read.writer c.take_piece.new.writer
+    c.loop-read.cutter c.take_piece.new.cutter (take c.in-Ok.count c.read.new.buf) (Err c.in_err-take_piece.field-0.0) inv.went c.in-Ok.ensures.bytes.0 c.in_err-take_piece.ensures.takes tt in
     rw (p.1, p.2) (record { bytes = went.bytes; read = went.read; ends = inr (went_lines g.S.Sink.takes g.R.Read.remaining _ _ _ _ _ _ _ _ went, c.in-Ok.ensures.faults ∙ inv.faults) })
 
 pub returns-in_default : goal.returns-in_default
 returns-in_default g c =
-    let inv = c.loop-turn.invariant in
+    let inv = c.loop-read.invariant in
     record {
       bytes = inv.went.bytes;
       read = Consumes-kept _ _ _ inv.went.bytes inv.went.read c.in_default.ensures.bytes;
@@ -45,10 +45,10 @@ returns-in_default g c =
 
 pub returns-then-count-eq0 : goal.returns-then-count-eq0
 returns-then-count-eq0 g c =
-    let inv = c.loop-turn.invariant in
+    let inv = c.loop-read.invariant in
     let piece = take c.in-Ok.count c.read.new.buf in
-    let went = Went-more g.S.Sink.takes g.R.Read.remaining c.args.sink.now c.loop-turn.sink c.take_piece.new.sink c.args.reader.now c.loop-turn.reader c.read.new.self c.args.writer.now c.loop-turn.writer c.take_piece.new.writer
-    c.loop-turn.cutter c.take_piece.new.cutter piece (Ok tt) inv.went c.in-Ok.ensures.bytes.0 c.in_ok-take_piece.ensures.takes c.in_ok-take_piece.ensures.cutter in
+    let went = Went-more g.S.Sink.takes g.R.Read.remaining c.args.sink.now c.loop-read.sink c.take_piece.new.sink c.args.reader.now c.loop-read.reader c.read.new.self c.args.writer.now c.loop-read.writer c.take_piece.new.writer
+    c.loop-read.cutter c.take_piece.new.cutter piece (Ok tt) inv.went c.in-Ok.ensures.bytes.0 c.in_ok-take_piece.ensures.takes c.in_ok-take_piece.ensures.cutter in
     record {
       bytes = went.bytes;
       read = went.read;
@@ -62,7 +62,7 @@ returns-then-count-eq0 g c =
 
 pub returns : goal.returns
 returns g c =
-    let inv = c.loop-turn.invariant in
+    let inv = c.loop-read.invariant in
     record {
       bytes = inv.went.bytes;
       read = inv.went.read;

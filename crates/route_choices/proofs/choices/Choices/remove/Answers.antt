@@ -15,8 +15,8 @@ pub returns-in_default : goal.returns-in_default
 returns-in_default g c =
     let xs = c.self.inside.slots in let full = c.self.invariant.0 in let are = c.self.invariant.1 in
     let test = c.in_default.ensures.lookup.0 in
-    let past = beyond g.row.ROOM xs full c.place-at.result (grind (arith, nat_tests, test)) in
-    let same = unchanged (filled xs) c.args.self.now c.args.hop c.self.view_is are (not_held_here g.row.ROOM xs full are c.args.hop c.place-at.result c.place-at.ensures past) (same_here g.row.ROOM xs full are c.args.hop c.place-at.result c.place-at.ensures past) in
+    let past = beyond g.row.CAPACITY xs full c.place-at.result (grind (arith, nat_tests, test)) in
+    let same = unchanged (filled xs) c.args.self.now c.args.hop c.self.view_is are (not_held_here g.row.CAPACITY xs full are c.args.hop c.place-at.result c.place-at.ensures past) (same_here g.row.CAPACITY xs full are c.args.hop c.place-at.result c.place-at.ensures past) in
     record { held = same.0; choices = same.1; are = same.2 }
 
 pub returns-then-is_none : goal.returns-then-is_none
@@ -24,8 +24,8 @@ returns-then-is_none g c =
     let xs = c.self.inside.slots in let full = c.self.invariant.0 in let are = c.self.invariant.1 in
     let look = c.in-Some.ensures.lookup in let test = look.0 in
     let l : c.place-at.result < length xs = grind (arith, nat_tests, test) in
-    let past = at_free g.row.ROOM xs full c.place-at.result c.in-Some.slot.now l (sym look.1 ∙ c.get-2.ensures ∙ no_given c.get-2.result c.if-is_none.ensures) in
-    let same = unchanged (filled xs) c.args.self.now c.args.hop c.self.view_is are (not_held_here g.row.ROOM xs full are c.args.hop c.place-at.result c.place-at.ensures past) (same_here g.row.ROOM xs full are c.args.hop c.place-at.result c.place-at.ensures past) in
+    let past = at_free g.row.CAPACITY xs full c.place-at.result c.in-Some.slot.now l (sym look.1 ∙ c.get-2.ensures ∙ no_given c.get-2.result c.if-is_none.ensures) in
+    let same = unchanged (filled xs) c.args.self.now c.args.hop c.self.view_is are (not_held_here g.row.CAPACITY xs full are c.args.hop c.place-at.result c.place-at.ensures past) (same_here g.row.CAPACITY xs full are c.args.hop c.place-at.result c.place-at.ensures past) in
     record { held = same.0; choices = same.1; are = same.2 }
 
 pub invariant_of-self : goal.invariant_of-self
@@ -34,9 +34,9 @@ invariant_of-self g c =
     let look = c.in-Some.ensures.lookup in let test = look.0 in
     let l : c.place-at.result < length xs = grind (arith, nat_tests, test) in
     let some = one_given c.get-2.result c.if-is_none.ensures in
-    let m = at_taken g.row.ROOM xs full c.place-at.result c.in-Some.slot.now some.0 l (sym look.1 ∙ c.get-2.ensures ∙ some.1) in
-    let left : filled c.take_out.new.slots ≡ choices_without (filled xs) c.args.hop = ap filled c.take_out.ensures ∙ left_here g.row.ROOM xs full are c.args.hop c.place-at.result c.place-at.ensures m in (
-      c.take_out.ensures ∙ without_here g.row.ROOM xs full are c.args.hop c.place-at.result c.place-at.ensures m ∙ ap (padded g.row.ROOM) (sym left),
+    let m = at_taken g.row.CAPACITY xs full c.place-at.result c.in-Some.slot.now some.0 l (sym look.1 ∙ c.get-2.ensures ∙ some.1) in
+    let left : filled c.take_out.new.slots ≡ choices_without (filled xs) c.args.hop = ap filled c.take_out.ensures ∙ left_here g.row.CAPACITY xs full are c.args.hop c.place-at.result c.place-at.ensures m in (
+      c.take_out.ensures ∙ without_here g.row.CAPACITY xs full are c.args.hop c.place-at.result c.place-at.ensures m ∙ ap (padded g.row.CAPACITY) (sym left),
       subst AreChoices (sym left) (without_are (filled xs) are c.args.hop),
     )
 
@@ -45,9 +45,9 @@ returns g c =
     let xs = c.self.inside.slots in let v : filled xs ≡ c.args.self.now = c.self.view_is in
     let look = c.in-Some.ensures.lookup in let test = look.0 in
     let some = one_given c.get-2.result c.if-is_none.ensures in
-    let m = at_taken g.row.ROOM xs c.self.invariant.0 c.place-at.result c.in-Some.slot.now some.0 (grind (arith, nat_tests, test)) (sym look.1 ∙ c.get-2.ensures ∙ some.1) in
+    let m = at_taken g.row.CAPACITY xs c.self.invariant.0 c.place-at.result c.in-Some.slot.now some.0 (grind (arith, nat_tests, test)) (sym look.1 ∙ c.get-2.ensures ∙ some.1) in
     record {
-      held = sym (held_here g.row.ROOM xs c.self.invariant.0 c.self.invariant.1 c.args.hop c.place-at.result c.place-at.ensures m) ∙ ap (λ cs. holds_hop cs c.args.hop) v;
-      choices = ap filled c.take_out.ensures ∙ left_here g.row.ROOM xs c.self.invariant.0 c.self.invariant.1 c.args.hop c.place-at.result c.place-at.ensures m ∙ ap (λ cs. choices_without cs c.args.hop) v;
+      held = sym (held_here g.row.CAPACITY xs c.self.invariant.0 c.self.invariant.1 c.args.hop c.place-at.result c.place-at.ensures m) ∙ ap (λ cs. holds_hop cs c.args.hop) v;
+      choices = ap filled c.take_out.ensures ∙ left_here g.row.CAPACITY xs c.self.invariant.0 c.self.invariant.1 c.args.hop c.place-at.result c.place-at.ensures m ∙ ap (λ cs. choices_without cs c.args.hop) v;
       are = (invariant_of-self g c).1;
     }
