@@ -5,6 +5,6 @@ mod bits;
 mod hops;
 pub mod laws;
 mod plan;
-mod least;
+mod fewest;
 
-pub use least::least;
+pub use fewest::least;

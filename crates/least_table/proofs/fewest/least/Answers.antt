@@ -14,7 +14,7 @@ use Rattle.least_table.proofs.GrownStores.{stored, rooms}
 use Rattle.least_table.proofs.Disjoint.{ascending_from}
 use Rattle.least_table.proofs.Orders.{IsInOrder-routes, in_pairs}
 use Rattle.least_table.proofs.Stores.{within-whole, if_ok_map}
-use Rattle.least_table.proofs.least.least.Goals as goal
+use Rattle.least_table.proofs.fewest.least.Goals as goal
 
 pub add_plan-requires-clause-ascending : goal.add_plan-requires-clause-ascending
 add_plan-requires-clause-ascending g c = ascending_from (strings g.P.Prefix.bits c.args.pieces.now) c.requires.disjoint

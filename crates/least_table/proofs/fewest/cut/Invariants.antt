@@ -1,6 +1,6 @@
 use Rattle.std.proofs.Common.{◌-◌, ◌≤◌, false, true, length, take, drop}
 use Rattle.least_table.specs.InnerPieces.{beyond, AllBegin}
-use Rattle.least_table.proofs.least.cut.Given as goal
+use Rattle.least_table.proofs.fewest.cut.Given as goal
 
 abbrev pub invariant-loop-low : goal.invariant-loop-low
 invariant-loop-low g l = (l.low ≤ l.high) × (l.high ≤ length l.pieces) × AllBegin false (beyond g.P.Prefix.bits l.depth (take l.low l.pieces)) × AllBegin true (beyond g.P.Prefix.bits l.depth (drop l.high l.pieces))

@@ -1,6 +1,6 @@
 use Rattle.std.proofs.Common.{◌∙◌, ◌+◌, ◌-◌, ◌/◌, ◌<◌, length, sym, ap, add-one, arith, false, slice_index_or}
 use Rattle.least_table.proofs.Cuts.{AllBegin-rest, AllBegin-up_to, begins_at, long_at}
-use Rattle.least_table.proofs.least.cut.Goals as goal
+use Rattle.least_table.proofs.fewest.cut.Goals as goal
 
 pub loop-low-preserved-then-bit : goal.loop-low-preserved-then-bit
 loop-low-preserved-then-bit g c =

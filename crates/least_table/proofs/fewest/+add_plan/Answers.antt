@@ -10,7 +10,7 @@ use Rattle.least_table.proofs.Cuts.{long_by_first, plan_empty, plan_one, IsAscen
 use Rattle.least_table.proofs.Tops.{is_within, read_top}
 use Rattle.least_table.proofs.Packed.{grown_more}
 use Rattle.least_table.proofs.Stores.{if_ok_map}
-use Rattle.least_table.proofs.least.+add_plan.Goals as goal
+use Rattle.least_table.proofs.fewest.+add_plan.Goals as goal
 
 pub returns-in_default : goal.returns-in_default
 returns-in_default g t c = if_ok_map c.push_leaf.result
