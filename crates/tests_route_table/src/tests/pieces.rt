@@ -1,4 +1,4 @@
-//! Shortest tables of known hops.
+//! Least tables of known hops.
 use crate::tests::tables::row_is;
 use least_table::least;
 use std::test::Fail;

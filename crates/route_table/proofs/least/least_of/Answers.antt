@@ -1,10 +1,10 @@
 use Rattle.route_table.proofs.least.least_of.Goals as goal
 
 pub least_routes-requires-clause-ipv4 : goal.least_routes-requires-clause-ipv4
-least_routes-requires-clause-ipv4 c = (c.in-Ok.ensures.ipv4 c.requires.0 c.requires.1).disjoint
+least_routes-requires-clause-ipv4 c = (c.in_ok-v4.ensures.ipv4 c.requires.0 c.requires.1).disjoint
 
 pub least_routes-requires-clause-ipv6 : goal.least_routes-requires-clause-ipv6
-least_routes-requires-clause-ipv6 c = (c.in-Ok.ensures.ipv6 c.requires.0 c.requires.1).disjoint
+least_routes-requires-clause-ipv6 c = (c.in_ok-v4.ensures.ipv6 c.requires.0 c.requires.1).disjoint
 
-pub returns-in-Ok-least_routes-clause-least : goal.returns-in-Ok-least_routes-clause-least
-returns-in-Ok-least_routes-clause-least c h flat = c.in-Ok-least_routes.ensures.least h (c.in-Ok.ensures.ipv4 h flat) (c.in-Ok.ensures.ipv6 h flat)
+pub returns-clause-least : goal.returns-clause-least
+returns-clause-least c h flat = c.in_ok-least_routes.ensures.least h (c.in_ok-v4.ensures.ipv4 h flat) (c.in_ok-v4.ensures.ipv6 h flat)
