@@ -30,13 +30,15 @@ pub no_preferred : (text : List ℕ) → ((x : Hop × Option ℕ) → ¬ (IsOpti
 no_preferred text none x h = none (x.0, h.0) h.1
 
 -- a route whose hop stands alone has the default preference
-pub added : (line : List ℕ) (net : IpNet) (hop : Hop) (pref : ℕ) (given : Option ℕ) (route : Hop × Option ℕ) → (hop, given) ≡ route → pref ≡ unwrap_or given default_preference → After (codes "add ") (Then IsNet IsOptional) line (net, route)
+pub added : (line : List ℕ) (net : IpNet) (hop : Hop) (pref : ℕ) (given : Option ℕ) (route : IpNet × (Hop × Option ℕ)) → (net, (hop, given)) ≡ route → pref ≡ unwrap_or given default_preference → After (codes "add ") (Then IsNet IsOptional) line route
     → IsCommand line (C.Add net hop pref)
-added line net hop pref given route is e h = record {
-  rest = h.rest;
-  spelled = h.spelled;
-  phrase = record { front = h.phrase.front; back = h.phrase.back; spelled = h.phrase.spelled; first = h.phrase.first; second = (given, subst (IsOptional h.phrase.back) (sym is) h.phrase.second, e) };
-}
+added line net hop pref given route is e found =
+    let h = subst (After (codes "add ") (Then IsNet IsOptional) line) (sym is) found in
+    record {
+      rest = h.rest;
+      spelled = h.spelled;
+      phrase = record { front = h.phrase.front; back = h.phrase.back; spelled = h.phrase.spelled; first = h.phrase.first; second = (given, h.phrase.second, e) };
+    }
 
 pub no_add : (line : List ℕ) → No (Then IsNet IsOptional) (codes "add ") line → No (Then IsNet IsPreferred) (codes "add ") line
 no_add line none x h = none (x.0, (x.1.0, h.phrase.second.0)) (record {
