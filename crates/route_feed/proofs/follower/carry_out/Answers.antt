@@ -12,6 +12,6 @@ loop-change-preserved c = λ x a.
     let it = c.change-item.result in
     let i = c.loop-change.change-index in
     let within : i < length c.args.changes.now = omega arith in
-    c.in-Ok.ensures.hops x a
+    c.in_ok-overwrite.ensures.hops x a
     ∙ ap (λ o. cond (has_address (block it.net) x) (number_of it.hop) o) (c.loop-change.invariant x a)
     ∙ one_more (hop_at (routes_of c.args.table.now) x) c.args.changes.now i it x within c.change-item.is

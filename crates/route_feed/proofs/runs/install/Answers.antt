@@ -5,7 +5,7 @@ use Rattle.route_feed.proofs.runs.install.Goals as goal
 
 pub returns-in_err-installer-clause-ends : goal.returns-in_err-installer-clause-ends
 returns-in_err-installer-clause-ends g c =
-    let p = err_from_is_err_and c.from_residual.result c.from_residual.ensures.1 in
+    let p = err_from_is_err_and c.from_residual-in_err-installer.result c.from_residual-in_err-installer.ensures.1 in
     rw (p.1, p.2) (install_none g.R.Read.remaining g.W.Write.contents c.args.reader.now c.args.writer.now _ c.in_err-installer.ensures.memory)
 
 pub returns-in_err-run-clause-ends : goal.returns-in_err-run-clause-ends
