@@ -133,7 +133,9 @@ fn run_mode<R: Read, W: Write + Drop>(
     ensures line { IsErrOf result RunError.Line → ((mode ≡ Mode.Follow) ⊎ (mode ≡ Mode.Least)) × MeetsAnother R.remaining reader.old reader.new }
     ensures read_well { (IsErrOf result RunError.Read → ⊥) → reader.new.faults ≡ reader.old.faults }
 {
-    let buffered = BufWriter::with_capacity(alloc, REPLY, output)?;
+    let Ok(buffered) = BufWriter::with_capacity(alloc, REPLY, output) else {
+        return Err(RunError::Memory);
+    };
     let mut writer = Counted::new(Output::new(buffered, more));
     match run_as(mode, alloc, reader, &mut writer) {
         Ok(()) => write_out(writer.into_inner().into_inner()),

@@ -83,7 +83,9 @@ fn install_by<R: Read, W: Write + Drop>(
     ensures memory { IsErrOf result RunError.Memory → (reader.new ≡ reader.old) ⊎ MeetsWantingLine R.remaining reader.old reader.new }
     ensures read_well { (IsErrOf result RunError.Read → ⊥) → reader.new.faults ≡ reader.old.faults }
 {
-    let buffered = BufWriter::with_capacity(alloc, REPLY, output)?;
+    let Ok(buffered) = BufWriter::with_capacity(alloc, REPLY, output) else {
+        return Err(RunError::Memory);
+    };
     let mut writer = Counted::new(buffered);
     match install(alloc, reader, &mut writer) {
         Ok(()) => write_out(writer.into_inner()),
