@@ -2,29 +2,20 @@
 use Rattle.std.proofs.Common.{◌≡◌, ◌≢◌, ℕ, ◌↔◌, inl, List, [], ◌∷◌, Option, Some, Contains, refl, sym, ap, ◌∙◌, subst}
 use Rattle.ipnet_addr.specs.Addresses.{Address, IsAddress}
 use Rattle.ipnet_addr.proofs.Members.{In}
-use Rattle.ipnet_addr.proofs.Ascending.{In-from_Contains, Contains-from_In, In-from_All}
+use Rattle.ipnet_addr.proofs.Ascending.{In-from_All}
 use Rattle.ipnet_blocks.specs.Blocks.{Block, IsBlock, HasAddress}
 use Rattle.ipnet_blocks.specs.Maximal.{IsMaximal, maximal_of}
-use Rattle.ipnet_blocks.proofs.BlockLaws.{numbers_from_inside}
 use Rattle.route_choices.specs.Hops.{IsHop, number_of}
 use Rattle.route_choices.specs.Choices.{Choice, AreChoices, best, best_hop}
 use Rattle.route_choices.proofs.Kept.{map_In}
 use Rattle.route_laws.specs.Changes.{changed}
 use Rattle.route_laws.specs.Tables.{Route, IsTable, match_of, match_number, hop_at, Changed, Governed, with_route}
 use Rattle.route_laws.proofs.Alterations.{changed_by_add, changed_by_del, blocks_of_add, blocks_of_del}
-use Rattle.route_laws.proofs.Matches.{block_in, match_from}
+pub use Rattle.route_laws.proofs.Matches.{match_of_own}
 use Rattle.route_laws.proofs.OneHop.{added_lines, left_lines}
 use Rattle.route_laws.proofs.Updates.{added_itself, added_is_table}
 use Rattle.route_laws.specs.Networks.{Stored, IsStoredTable, best_route, routes_of, choices_at, with_choices}
 use Rattle.route_laws.proofs.Networks.{routes_with, routes_without, routes_are_table, at_some, same_best}
-
--- a route is the match of its own block
-pub match_of_own : (M : List Route) → IsTable M → (r : Route) → In r M → match_of M r.block ≡ Some r
-match_of_own M m r i = match_from M m r.block (block_in M m r i) r (record {
-  member = Contains-from_In M r i;
-  holds = λ x h. h;
-  longest = λ s c h. (numbers_from_inside r.block s.block (block_in M m r i) (block_in M m s (In-from_Contains M s c)) h).long;
-})
 
 pub match_of_choices : (T : List Stored) (b : Block) (c : Choice) → IsStoredTable T → best (choices_at T b) ≡ Some c → match_of (routes_of T) b ≡ Some (record { block = b; hop = c.hop; pref = c.pref })
 match_of_choices T b c ok e = match_of_own (routes_of T) (routes_are_table T ok) (record { block = b; hop = c.hop; pref = c.pref })

@@ -3,32 +3,20 @@ use Rattle.std.proofs.Common.{◌≡◌, ◌≢◌, ℕ, zero, suc, ◌+◌, ◌
 use Rattle.std.proofs.lemmas.Bool.{and_parts}
 use Rattle.std.proofs.lemmas.Bool.Decides.{nat_tests}
 use native.Mathlib.Decide.{dec_le}
-use Rattle.ipnet_addr.specs.Addresses.{Address, width, rank, same_family}
+use Rattle.ipnet_addr.specs.Addresses.{Address, width, same_family}
 use Rattle.ipnet_addr.proofs.Members.{In, In-cases}
 use Rattle.ipnet_addr.proofs.Ascending.{In-from_All, All-from_In, Rising}
-use Rattle.ipnet_blocks.specs.Blocks.{Block, IsBlock, free_bits, HasAddress, IsInside, IsLarger, IsBefore, is_inside, first, first_of, host, left, right}
+use Rattle.ipnet_blocks.specs.Blocks.{Block, IsBlock, free_bits, HasAddress, IsInside, IsLarger, IsBefore, is_inside, first_of, host, left, right}
 use Rattle.ipnet_blocks.proofs.BlockLaws.{has_first, longer_inside, same_sets, strict}
 use Rattle.ipnet_blocks.proofs.Maximals.{member_is_address}
 use Rattle.ipnet_blocks.proofs.Parents.{larger_is_shorter}
-use Rattle.ipnet_blocks.proofs.Search.{left_is_block, right_is_block, left_inside, right_inside, in_a_half, address_in_a_half, first_within, leaf_address, halves_in_order}
+use Rattle.ipnet_blocks.proofs.Search.{left_is_block, right_is_block, left_inside, right_inside, in_a_half, address_in_a_half, leaf_address, halves_in_order}
 use Rattle.ipnet_blocks.specs.Halves.{IsLesser}
 use Rattle.route_choices.specs.Hops.{IsHop, hop_from, number_of}
 use Rattle.route_laws.specs.Fewest.{handed, hop_under, GivesInside, IsFewest, AreHops, FewestOfHost, FewestByHalves}
 use Rattle.route_laws.specs.Tables.{Route, IsTable, match_of}
 use Rattle.route_laws.proofs.Insides.{Sooner, sound, rising, table_of, within, within_gives, under_route, few, joined_gives}
-use Rattle.route_laws.proofs.Ordered.{same_or_not, before_apart}
-
--- a block comes before those strictly inside it
-before_inner : (b c : Block) → IsBlock b → IsBlock c → IsLarger b c → IsBefore b c
-before_inner b c p q l =
-    let f = ap rank (l.0 (first_of c) (has_first c)).0 in
-    let low = (first_within c b l.0).0 in
-    let short = larger_is_shorter b c p q l in
-    go (dec_le (first c) (first b)) (sym f) low short
-  where
-    go : Dec (first c ≤ first b) → rank b.family ≡ rank c.family → first b ≤ first c → b.len < c.len → IsBefore b c
-    go (no n) f low short = inr (inl (f, grind (arith, n)))
-    go (yes y) f low short = inr (inr (f, omega arith, short))
+use Rattle.route_laws.proofs.Ordered.{same_or_not, before_apart, before_inner}
 
 -- every route is strictly inside the block
 abbrev Strict : Block → List Route → Type 0

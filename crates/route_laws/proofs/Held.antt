@@ -1,13 +1,13 @@
 -- What a table holds after a change, and the longest matches then.
-use Rattle.std.proofs.Common.{◌≡◌, ◌⊎◌, inl, inr, ⊎_elim, Bool, true, false, cond, nat_lt, List, ◌∷◌, filter, Option, Some, None, refl, sym, ap, subst, arith, ◌<◌, ◌≤◌, Contains}
+use Rattle.std.proofs.Common.{◌≡◌, ◌⊎◌, inl, inr, ⊎_elim, Bool, true, false, cond, List, ◌∷◌, filter, Option, Some, None, refl, sym, ap, ◌∙◌, subst, arith, Contains}
 use Rattle.std.specs.Prelude.{◌≢◌, ◌↔◌}
-use Rattle.std.proofs.lemmas.Bool.Decides.{nat_tests}
 use Rattle.ipnet_blocks.specs.Blocks.{Block, IsBlock, IsInside, is_before, is_inside}
 use Rattle.ipnet_addr.proofs.Members.{In, In-right}
 use Rattle.ipnet_addr.proofs.Ascending.{In-from_Contains, Contains-from_In}
-use Rattle.route_laws.specs.Tables.{Route, IsTable, IsMatch, longer, match_of, with_route, without_block}
-use Rattle.route_laws.proofs.Matches.{block_in, no_match, match_meets, match_from, inside_from_test, test_from_inside}
+use Rattle.route_laws.specs.Tables.{Route, IsTable, covering, longer, longest, match_of, with_route, without_block}
+use Rattle.route_laws.proofs.Matches.{block_in, no_match, match_meets, match_from, inside_from_test, best_of, covers_in, in_covers, longer_cases, none_from}
 use Rattle.route_laws.proofs.Updates.{added_back, added_itself, added_other, left_back, left_other, left_is_table}
+use Rattle.route_laws.proofs.Insides.{same_parts}
 
 pub members_after_add : (M : List Route) (r s : Route) → IsTable M → IsBlock r.block → Contains (with_route M r) s ↔ ((s ≡ r) ⊎ (Contains M s × (s.block ≢ r.block)))
 members_after_add M r s m ok = (
@@ -27,72 +27,31 @@ module _ (M : List Route) (r : Route) (n : Block) (m : IsTable M) (table : IsTab
   ok : IsBlock r.block
   ok = block_in (with_route M r) table r (In-right r (filter (λ s. is_before s.block r.block) M) (r ∷ filter (λ s. is_before r.block s.block) M) (inl refl))
 
-  -- where the new route contains the block
-  contained : IsInside n r.block → (o : Option Route) → match_of M n ≡ o → match_of (with_route M r) n ≡ Some (longer r o)
-  contained h None e = match_from (with_route M r) table n is r (record {
-    member = Contains-from_In (with_route M r) r (added_itself M m r ok);
-    holds = h;
-    longest = λ s c k. ⊎_elim
-        (λ q. let l : Block.len s.block ≡ Block.len r.block = ap (λ (t : Route). Block.len t.block) q in omega arith)
-        (λ t. absurd (no_match M m n is e s t.0 k))
-        (added_back M m r ok s (In-from_Contains (with_route M r) s c));
-  })
-  contained h (Some t) e = go (nat_lt (Block.len r.block) (Block.len t.block)) refl
-    where
-      k : IsMatch M n t
-      k = match_meets M m n is t e
-
-      go : (b : Bool) → nat_lt (Block.len r.block) (Block.len t.block) ≡ b → match_of (with_route M r) n ≡ Some (cond b t r)
-      go true q =
-          let l : Block.len r.block < Block.len t.block = grind (arith, nat_tests, q) in
-          match_from (with_route M r) table n is t (record {
-            member = Contains-from_In (with_route M r) t (added_other M m r ok t (In-from_Contains M t k.member) (λ p. let w : Block.len t.block ≡ Block.len r.block = ap Block.len p in omega (arith, l, w)));
-            holds = k.holds;
-            longest = λ s c j. ⊎_elim
-                (λ p. let w : Block.len s.block ≡ Block.len r.block = ap (λ (u : Route). Block.len u.block) p in omega (arith, l, w))
-                (λ u. k.longest s (Contains-from_In M s u.0) j)
-                (added_back M m r ok s (In-from_Contains (with_route M r) s c));
-          })
-      go false q =
-          let l : Block.len t.block ≤ Block.len r.block = grind (arith, nat_tests, q) in
-          match_from (with_route M r) table n is r (record {
-            member = Contains-from_In (with_route M r) r (added_itself M m r ok);
-            holds = h;
-            longest = λ s c j. ⊎_elim
-                (λ p. let w : Block.len s.block ≡ Block.len r.block = ap (λ (u : Route). Block.len u.block) p in omega (arith, w))
-                (λ u. let v = k.longest s (Contains-from_In M s u.0) j in omega (arith, l, v))
-                (added_back M m r ok s (In-from_Contains (with_route M r) s c));
-          })
-
-  -- where it doesn't
-  apart : (IsInside n r.block → ⊥) → (o : Option Route) → match_of M n ≡ o → match_of (with_route M r) n ≡ o
-  apart lies_apart None e = none (match_of (with_route M r) n) refl
-    where
-      none : (o : Option Route) → match_of (with_route M r) n ≡ o → o ≡ None
-      none None q = refl
-      none (Some s) q =
-          let k = match_meets (with_route M r) table n is s q in
-          ⊎_elim
-          (λ p. absurd (lies_apart (subst (λ (t : Route). IsInside n t.block) p k.holds)))
-          (λ t. absurd (no_match M m n is e s t.0 k.holds))
-          (added_back M m r ok s (In-from_Contains (with_route M r) s k.member))
-  apart lies_apart (Some t) e =
-      let k = match_meets M m n is t e in
-      match_from (with_route M r) table n is t (record {
-        member = Contains-from_In (with_route M r) t (added_other M m r ok t (In-from_Contains M t k.member) (λ p. lies_apart (subst (IsInside n) p k.holds)));
-        holds = k.holds;
-        longest = λ s c j. ⊎_elim
-            (λ p. absurd (lies_apart (subst (λ (u : Route). IsInside n u.block) p j)))
-            (λ u. k.longest s (Contains-from_In M s u.0) j)
-            (added_back M m r ok s (In-from_Contains (with_route M r) s c));
+  -- where the new route contains the block: the longest of it and of those that contained the block
+  contained : IsInside n r.block → match_of (with_route M r) n ≡ Some (longer r (match_of M n))
+  contained h =
+      let best = best_of (r ∷ covering M n) in
+      let itself = λ (e : longer r (match_of M n) ≡ r). subst (λ (s : Route). In s (with_route M r)) (sym e) (added_itself M m r ok) in
+      match_from (with_route M r) table n is (longer r (match_of M n)) (record {
+        member = Contains-from_In (with_route M r) (longer r (match_of M n)) (⊎_elim itself (λ l. ⊎_elim itself
+            (λ i. added_other M m r ok (longer r (match_of M n)) (in_covers M m n is (longer r (match_of M n)) i).0 (λ q. let w = ap Block.len q in omega (arith, l.1, w))) best.0)
+            (longer_cases r (match_of M n)));
+        holds = ⊎_elim (λ e. subst (λ (s : Route). IsInside n s.block) (sym e) h) (λ i. (in_covers M m n is (longer r (match_of M n)) i).1) best.0;
+        longest = λ s c k. best.1 s (⊎_elim (λ e. inl e) (λ t. inr (covers_in M m n is s t.0 k)) (added_back M m r ok s (In-from_Contains (with_route M r) s c)));
       })
+
+  -- where it doesn't, the same routes contain the block
+  apart : (is_inside n r.block ≡ true → ⊥) → match_of (with_route M r) n ≡ match_of M n
+  apart out = ap longest (same_parts (λ s. is_inside n s.block) (with_route M r) M table m
+      (λ s i e. ⊎_elim (λ q. absurd (out (ap (λ (t : Route). is_inside n t.block) (sym q) ∙ e))) (λ t. t.0) (added_back M m r ok s i))
+      (λ s i e. added_other M m r ok s i (λ q. out (ap (is_inside n) (sym q) ∙ e))))
 
   pub match_after_add : match_of (with_route M r) n ≡ cond (is_inside n r.block) (Some (longer r (match_of M n))) (match_of M n)
   match_after_add = go (is_inside n r.block) refl
     where
       go : (b : Bool) → is_inside n r.block ≡ b → match_of (with_route M r) n ≡ cond b (Some (longer r (match_of M n))) (match_of M n)
-      go true e = contained (inside_from_test n r.block is ok e) (match_of M n) refl
-      go false e = apart (λ h. let t = test_from_inside n r.block is ok h in let f = e in cc) (match_of M n) refl
+      go true e = contained (inside_from_test n r.block is ok e)
+      go false e = apart (λ f. let g = e in cc)
 
 pub match_after_del : (M : List Route) (n b : Block) → IsTable M → IsBlock n → ((r : Route) → match_of M n ≡ Some r → r.block ≢ b) → match_of (without_block M b) n ≡ match_of M n
 match_after_del M n b m is other = go (match_of M n) refl
@@ -101,13 +60,7 @@ match_after_del M n b m is other = go (match_of M n) refl
     table = left_is_table M m b
 
     go : (o : Option Route) → match_of M n ≡ o → match_of (without_block M b) n ≡ o
-    go None e = none (match_of (without_block M b) n) refl
-      where
-        none : (o : Option Route) → match_of (without_block M b) n ≡ o → o ≡ None
-        none None q = refl
-        none (Some s) q =
-            let k = match_meets (without_block M b) table n is s q in
-            absurd (no_match M m n is e s (left_back M m b s (In-from_Contains (without_block M b) s k.member)).0 k.holds)
+    go None e = none_from (without_block M b) table n is (λ s i. no_match M m n is e s (left_back M m b s i).0)
     go (Some t) e =
         let k = match_meets M m n is t e in
         match_from (without_block M b) table n is t (record {

@@ -13,7 +13,7 @@ use Rattle.route_laws.specs.Changes.{changed}
 use Rattle.route_laws.specs.Flats.{Piece, IsFlat, flat_of}
 use Rattle.route_laws.specs.Laws.{one_route}
 use Rattle.route_laws.specs.Tables.{Changed, hop_at}
-use Rattle.route_laws.proofs.Alterations.{host_inside}
+use Rattle.route_laws.proofs.Insides.{host_inside}
 use Rattle.route_laws.proofs.Changes.{changed_is_maximal}
 use Rattle.route_laws.proofs.Flats.{Sooner, maximal_same, same_flat}
 use Rattle.route_laws.proofs.FlatSearch.{search_is_flat}

@@ -1,10 +1,13 @@
 -- Lists of things at blocks, ascending by these: one put in the place of any other of its block, or taken out.
-use Rattle.std.proofs.Common.{◌≡◌, ◌⊎◌, inl, inr, ⊎_elim, Bool, true, false, not, List, [], ◌∷◌, ◌++◌, filter, map, sym, refl, ap, ◌∙◌, subst}
-use Rattle.std.proofs.lemmas.Bool.{false_from_ne_true}
+use Rattle.std.proofs.Common.{◌≡◌, ◌⊎◌, ◌<◌, arith, inl, inr, ⊎_elim, Bool, true, false, not, List, [], ◌∷◌, ◌++◌, filter, map, sym, refl, ap, ◌∙◌, subst}
+use Rattle.std.proofs.lemmas.Bool.{cases_lt, false_from_ne_true}
+use Rattle.ipnet_addr.specs.Addresses.{Address, rank}
 use Rattle.ipnet_addr.proofs.Members.{In, In-left, In-right, In-cases}
 use Rattle.ipnet_addr.proofs.Ascending.{Rising}
-use Rattle.ipnet_blocks.specs.Blocks.{Block, IsBefore, is_before, same_block}
-use Rattle.ipnet_blocks.proofs.BlockLaws.{strict, total, transitive}
+use Rattle.ipnet_blocks.specs.Blocks.{Block, IsBlock, HasAddress, IsBefore, IsInside, IsLarger, first, first_of, is_before, same_block}
+use Rattle.ipnet_blocks.proofs.BlockLaws.{common, has_first, strict, total, transitive}
+use Rattle.ipnet_blocks.proofs.Parents.{larger_is_shorter}
+use Rattle.ipnet_blocks.proofs.Search.{first_within}
 use Rattle.ipnet_blocks.proofs.BlockTests.{before_from_test, test_from_before, same_from_test, test_from_same}
 use Rattle.route_choices.proofs.Kept.{Rising-kept, Rising-joined, In-from_filter, In-filter, In-map, all_kept, none_kept}
 
@@ -19,6 +22,18 @@ before_apart a b l q = strict b b (subst (λ (c : Block). IsBefore c b) q l) (su
 
 pub same_or_not : (a b : Block) → (a ≡ b) ⊎ (a ≡ b → ⊥)
 same_or_not a b = ⊎_elim (λ l. inr (λ e. before_apart a b l e)) (λ r. ⊎_elim (λ e. inl e) (λ l. inr (λ e. before_apart b a l (sym e))) r) (total a b)
+
+-- of two blocks with a common address the shorter comes first
+pub shorter_first : (a b : Block) (x : Address) → IsBlock b → HasAddress a x → HasAddress b x → a.len < b.len → IsBefore a b
+shorter_first a b x q h k l =
+    let i : IsInside b a = common b a x q k h (omega arith) in
+    let f = sym (ap rank (i (first_of b) (has_first b)).0) in
+    let low = (first_within b a i).0 in
+    ⊎_elim (λ n. inr (inl (f, n))) (λ y. inr (inr (f, omega arith, l))) (cases_lt (first a) (first b))
+
+-- so a block comes before those strictly inside it
+pub before_inner : (b c : Block) → IsBlock b → IsBlock c → IsLarger b c → IsBefore b c
+before_inner b c p q l = shorter_first b c (first_of c) q (l.0 (first_of c) (has_first c)) (has_first c) (larger_is_shorter b c p q l)
 
 module _ {X : Type 0} (at : X → Block) where
   abbrev pub Earlier : X → X → Type 0

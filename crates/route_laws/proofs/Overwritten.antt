@@ -1,13 +1,14 @@
 -- One thing in the place of all those inside its block: its members, how it is made, and the hops of a table then.
-use Rattle.std.proofs.Common.{◌≡◌, ◌-◌, ◌/◌, ◌^◌, ◌<◌, ◌⊎◌, inl, inr, ⊎_elim, Bool, true, false, not, cond, List, [], ◌∷◌, filter, Option, Some, None, IsTrue, ◌↔◌, nat_lt, refl, sym, ap, ◌∙◌, subst, arith, div-one}
+use Rattle.std.proofs.Common.{◌≡◌, ◌-◌, ◌/◌, ◌^◌, ◌<◌, ◌⊎◌, inl, inr, ⊎_elim, Bool, true, false, not, cond, List, [], ◌∷◌, filter, Some, IsTrue, ◌↔◌, nat_lt, refl, sym, ap, ◌∙◌, subst, arith, div-one}
+use Rattle.std.proofs.lemmas.Bool.{cond-false, false_from_ne_true}
 use Rattle.std.proofs.lemmas.Bool.Decides.{nat_tests}
 use Rattle.ipnet_addr.specs.Addresses.{Address, IsAddress, width}
 use Rattle.ipnet_addr.proofs.Members.{In}
 use Rattle.ipnet_addr.proofs.Ascending.{In-from_Contains, Contains-from_In, All-from_In, Rising, Rising-from_pairs, pairs_from_Rising, same_rising}
 use Rattle.ipnet_blocks.specs.Blocks.{Block, IsBlock, HasAddress, IsInside, IsLarger, free_bits, is_inside, has_address, host, left, right}
-use Rattle.ipnet_blocks.proofs.BlockLaws.{block_path, nested, numbers_from_inside, same_sets, strict}
+use Rattle.ipnet_blocks.proofs.BlockLaws.{block_path, numbers_from_inside, same_sets, strict}
 use Rattle.ipnet_blocks.proofs.BlockTests.{has_from_test, test_from_has}
-use Rattle.ipnet_blocks.proofs.Maximals.{host_is_block, has_host}
+use Rattle.ipnet_blocks.proofs.Maximals.{host_is_block}
 use Rattle.ipnet_blocks.proofs.Search.{left_is_block, right_is_block, left_inside, right_inside, in_a_half}
 use Rattle.ipnet.specs.IpNets.{block}
 use Rattle.ipnet.specs.declared.ip_net.IpNet.{IpNet}
@@ -15,11 +16,11 @@ use Rattle.route_choices.specs.Hops.{IsHop, number_of}
 use Rattle.route_choices.specs.Choices.{Choice, AreChoices}
 use Rattle.route_choices.proofs.Kept.{Rising-kept, filter_map_swap, In-from_filter, In-filter}
 use Rattle.route_laws.specs.Overwritten.{without_inside, overwritten}
-use Rattle.route_laws.specs.Tables.{Route, IsTable, match_of, match_number, hop_at, with_route}
-use Rattle.route_laws.proofs.Alterations.{host_inside, match_is, no_matches}
+use Rattle.route_laws.specs.Tables.{Route, IsTable, longer, longest, match_of, match_number, hop_at, with_route}
+use Rattle.route_laws.proofs.Held.{match_after_add}
 use Rattle.route_laws.specs.Networks.{IsLeaf, Stored, IsStoredTable, best_route, networks_outside, overwritten_by, routes_of}
-use Rattle.route_laws.proofs.Insides.{Sooner, rising, sound, table_of}
-use Rattle.route_laws.proofs.Matches.{block_in, match_meets, inside_from_test, test_from_inside}
+use Rattle.route_laws.proofs.Insides.{Sooner, filter_again, has_from_test as held_from_test, rising, table_kept}
+use Rattle.route_laws.proofs.Matches.{block_in, governed_match, inside_from_test, match_of_own, test_from_inside}
 use Rattle.route_laws.proofs.Networks.{routes_with, stored_block, stored_some, stored_choices}
 use Rattle.route_laws.proofs.Ordered.{Earlier, put, put_back, put_itself, put_other, put_rises}
 use Rattle.route_laws.proofs.Updates.{added_is_table}
@@ -204,34 +205,29 @@ routes_overwritten T b c =
 
 module _ (M : List Route) (m : IsTable M) (r : Route) (ok : IsBlock r.block) where
   pub outside_is_table : IsTable (without_inside M r.block)
-  outside_is_table = table_of (without_inside M r.block)
-      (λ s i. sound M m s (In-from_filter (λ s. not (is_inside s.block r.block)) M s i).0)
-      (Rising-kept Sooner (λ s. not (is_inside s.block r.block)) M (rising M m))
+  outside_is_table = table_kept (λ s. not (is_inside s.block r.block)) M m
 
-  module _ (hop : IsHop r.hop) where
-    pub over_is_table : IsTable (overwritten M r)
-    over_is_table = added_is_table (without_inside M r.block) outside_is_table r ok hop
+  pub over_is_table : IsHop r.hop → IsTable (overwritten M r)
+  over_is_table = added_is_table (without_inside M r.block) outside_is_table r ok
 
-    pub over_hops : (x : Address) → IsAddress x → hop_at (overwritten M r) x ≡ cond (has_address r.block x) (number_of r.hop) (hop_at M x)
-    over_hops x a = go (has_address r.block x) refl
-      where
-        go : (b : Bool) → has_address r.block x ≡ b → hop_at (overwritten M r) x ≡ cond b (number_of r.hop) (hop_at M x)
-        go true e =
-            let h = has_from_test r.block x e in
-            ap match_number (match_is (overwritten M r) over_is_table x a r (over_itself Route.block M (routes_placed M m) r ok) h (λ u i k.
-            ⊎_elim (λ f. let l : Block.len u.block ≡ Block.len r.block = ap (λ (s : Route). Block.len s.block) f in omega arith)
-            (λ t. ⊎_elim (λ l. (numbers_from_inside r.block u.block ok (block_in M m u t.0) l).long) (λ l. absurd (t.1 l)) (nested r.block u.block x ok (block_in M m u t.0) h k))
-            (over_back Route.block M (routes_placed M m) r ok u i)))
-        go false e = by (match_of M (host x)) refl (λ h. let f = test_from_has r.block x h in cc)
-          where
-            by : (o : Option Route) → match_of M (host x) ≡ o → (HasAddress r.block x → ⊥) → hop_at (overwritten M r) x ≡ hop_at M x
-            by None q out =
-                ap match_number (no_matches (overwritten M r) M over_is_table m x a q (λ s i h. ⊎_elim (λ f. absurd (out (subst (λ (t : Route). HasAddress t.block x) f h))) (λ t. (s, t.0, h)) (over_back Route.block M (routes_placed M m) r ok s i)))
-                ∙ sym (ap match_number q)
-            by (Some s) q out =
-                let k = match_meets M m (host x) (host_is_block x a) s q in
-                let i = In-from_Contains M s k.member in
-                let h = k.holds x (has_host x) in
-                ap match_number (match_is (overwritten M r) over_is_table x a s (over_other Route.block M (routes_placed M m) r ok s i (λ l. out (l x h))) h (λ u j w.
-                ⊎_elim (λ f. absurd (out (subst (λ (t : Route). HasAddress t.block x) f w))) (λ t. k.longest u (Contains-from_In M u t.0) (host_inside x u.block w)) (over_back Route.block M (routes_placed M m) r ok u j)))
-                ∙ sym (ap match_number q)
+  -- without the routes inside, the addresses outside have the match that they had
+  pub outside_match : (x : Address) → IsAddress x → has_address r.block x ≡ false → match_of (without_inside M r.block) (host x) ≡ match_of M (host x)
+  outside_match x a e = ap longest (filter_again (λ s. not (is_inside s.block r.block)) (λ s. is_inside (host x) s.block) M (λ s i f. not_from (is_inside s.block r.block) (λ g.
+      let t = test_from_has r.block x (inside_from_test s.block r.block (block_in M m s i) ok g x (held_from_test x a s (block_in M m s i) f)) in cc)))
+
+  pub over_hops : IsHop r.hop → (x : Address) → IsAddress x → hop_at (overwritten M r) x ≡ cond (has_address r.block x) (number_of r.hop) (hop_at M x)
+  over_hops hop x a = go (has_address r.block x) refl
+    where
+      new : IsTable (overwritten M r)
+      new = over_is_table hop
+
+      go : (b : Bool) → has_address r.block x ≡ b → hop_at (overwritten M r) x ≡ cond b (number_of r.hop) (hop_at M x)
+      go true e = ap match_number (governed_match (overwritten M r) new r.block ok x a (record {
+        inside = has_from_test r.block x e;
+        free = λ u c l k. ⊎_elim (λ f. l.1 (inside_itself r.block u.block (ap Route.block (sym f)))) (λ t. t.1 l.0) (over_back Route.block M (routes_placed M m) r ok u (In-from_Contains (overwritten M r) u c));
+      }) ∙ match_of_own (overwritten M r) new r (over_itself Route.block M (routes_placed M m) r ok))
+      go false e = ap match_number (
+          match_after_add (without_inside M r.block) r (host x) outside_is_table new (host_is_block x a)
+          ∙ cond-false (is_inside (host x) r.block) (Some (longer r (match_of (without_inside M r.block) (host x)))) (match_of (without_inside M r.block) (host x))
+          (false_from_ne_true (is_inside (host x) r.block) (λ f. let t = test_from_has r.block x (held_from_test x a r ok f) in cc))
+          ∙ outside_match x a e)
