@@ -9,7 +9,6 @@ pub mod FlatSearch
 pub mod Own
 pub mod Bounds
 pub mod Changes
-pub mod OneHop
 pub mod Alterations
 pub mod Overwritten
 pub mod Paging

@@ -3,7 +3,7 @@ use Rattle.std.proofs.Common.{◌≡◌, ◌⊎◌, ◌<◌, arith, inl, inr, �
 use Rattle.std.proofs.lemmas.Bool.{cases_lt, false_from_ne_true}
 use Rattle.ipnet_addr.specs.Addresses.{Address, rank}
 use Rattle.ipnet_addr.proofs.Members.{In, In-left, In-right, In-cases}
-use Rattle.ipnet_addr.proofs.Ascending.{Rising}
+use Rattle.ipnet_addr.proofs.Ascending.{Rising, same_rising}
 use Rattle.ipnet_blocks.specs.Blocks.{Block, IsBlock, HasAddress, IsBefore, IsInside, IsLarger, first, first_of, is_before, same_block}
 use Rattle.ipnet_blocks.proofs.BlockLaws.{common, has_first, strict, total, transitive}
 use Rattle.ipnet_blocks.proofs.Parents.{larger_is_shorter}
@@ -109,3 +109,15 @@ module _ {X : Type 0} (at : X → Block) where
   one_of_block (z ∷ M) r x y (inl p) (inr j) e = absurd (before_apart (at z) (at y) (r.0 y j) (ap at (sym p) ∙ e))
   one_of_block (z ∷ M) r x y (inr i) (inl q) e = absurd (before_apart (at z) (at x) (r.0 x i) (ap at (sym q) ∙ sym e))
   one_of_block (z ∷ M) r x y (inr i) (inr j) e = one_of_block M r.1 x y i j e
+
+  -- what is put where nothing of its block is, and taken out again
+  pub put_gone : (M : List X) (x : X) → Rising Earlier M → ((y : X) → In y M → at y ≡ at x → ⊥) → without (put M x) (at x) ≡ M
+  put_gone M x up none = same_rising Earlier (λ y z. strict (at y) (at z)) (without (put M x) (at x)) M (gone_rises (put M x) (at x) (put_rises M x up)) up
+      (λ y i. let t = gone_back (put M x) (at x) y i in ⊎_elim (λ e. absurd (t.1 (ap at e))) (λ u. u.0) (put_back M x y t.0))
+      (λ y i. gone_other (put M x) (at x) y (put_other M x y i (none y i)) (none y i))
+
+  -- a member that is put in again
+  pub put_again : (M : List X) (x : X) → Rising Earlier M → In x M → put M x ≡ M
+  put_again M x up i = same_rising Earlier (λ y z. strict (at y) (at z)) (put M x) M (put_rises M x up) up
+      (λ y j. ⊎_elim (λ e. subst (λ (z : X). In z M) (sym e) i) (λ t. t.0) (put_back M x y j))
+      (λ y j. ⊎_elim (λ e. subst (λ (z : X). In z (put M x)) (one_of_block M up x y i j (sym e)) (put_itself M x)) (λ apart. put_other M x y j apart) (same_or_not (at y) (at x)))
