@@ -4,7 +4,7 @@ use Rattle.std.proofs.lemmas.Bool.{cond-false, false_from_ne_true}
 use Rattle.std.proofs.lemmas.Bool.Decides.{nat_tests}
 use Rattle.ipnet_addr.specs.Addresses.{Address, IsAddress, width}
 use Rattle.ipnet_addr.proofs.Members.{In}
-use Rattle.ipnet_addr.proofs.Ascending.{In-from_Contains, Contains-from_In, All-from_In, Rising, Rising-from_pairs, pairs_from_Rising, same_rising}
+use Rattle.ipnet_addr.proofs.Ascending.{In-from_Contains, Contains-from_In, Rising, Rising-from_pairs, same_rising}
 use Rattle.ipnet_blocks.specs.Blocks.{Block, IsBlock, HasAddress, IsInside, IsLarger, free_bits, is_inside, has_address, host, left, right}
 use Rattle.ipnet_blocks.proofs.BlockLaws.{block_path, numbers_from_inside, same_sets, strict}
 use Rattle.ipnet_blocks.proofs.BlockTests.{has_from_test, test_from_has}
@@ -13,7 +13,7 @@ use Rattle.ipnet_blocks.proofs.Search.{left_is_block, right_is_block, left_insid
 use Rattle.ipnet.specs.IpNets.{block}
 use Rattle.ipnet.specs.declared.ip_net.IpNet.{IpNet}
 use Rattle.route_choices.specs.Hops.{IsHop, number_of}
-use Rattle.route_choices.specs.Choices.{Choice, AreChoices}
+use Rattle.route_choices.specs.Choices.{Choice}
 use Rattle.route_choices.proofs.Kept.{Rising-kept, filter_map_swap, In-from_filter, In-filter}
 use Rattle.route_laws.specs.Overwritten.{without_inside, overwritten}
 use Rattle.route_laws.specs.Tables.{Route, IsTable, longer, longest, match_of, match_number, hop_at, with_route}
@@ -21,7 +21,7 @@ use Rattle.route_laws.proofs.Held.{match_after_add}
 use Rattle.route_laws.specs.Networks.{IsLeaf, Stored, IsStoredTable, best_route, networks_outside, overwritten_by, routes_of}
 use Rattle.route_laws.proofs.Insides.{Sooner, filter_again, has_from_test as held_from_test, rising, table_kept}
 use Rattle.route_laws.proofs.Matches.{block_in, governed_match, inside_from_test, match_of_own, test_from_inside}
-use Rattle.route_laws.proofs.Networks.{routes_with, stored_block, stored_some, stored_choices}
+use Rattle.route_laws.proofs.Networks.{routes_with, stored_block, stored_kept}
 use Rattle.route_laws.proofs.Ordered.{Earlier, put, put_back, put_itself, put_other, put_rises}
 use Rattle.route_laws.proofs.Updates.{added_is_table}
 
@@ -188,15 +188,7 @@ room_inside T t b ok leaf h e = by (nat_lt 0 (free_bits b)) refl
 
 -- a part of a table of networks is one
 pub outside_is_stored : (T : List Stored) → IsStoredTable T → (n : Block) → IsStoredTable (networks_outside T n)
-outside_is_stored T t n = record {
-  blocks = All-from_In (λ s. IsBlock s.block) (networks_outside T n) (λ s i. stored_block T t s (member s i));
-  some = All-from_In (λ s. s.choices ≡ [] → ⊥) (networks_outside T n) (λ s i. stored_some T t s (member s i));
-  choices = All-from_In (λ s. AreChoices s.choices) (networks_outside T n) (λ s i. stored_choices T t s (member s i));
-  ascending = pairs_from_Rising (Earlier Stored.block) (networks_outside T n) (Rising-kept (Earlier Stored.block) (λ s. not (is_inside s.block n)) T (Rising-from_pairs (Earlier Stored.block) T t.ascending));
-}
-  where
-    member : (s : Stored) → In s (networks_outside T n) → In s T
-    member s i = (In-from_filter (λ s. not (is_inside s.block n)) T s i).0
+outside_is_stored T t n = stored_kept T t (λ s. not (is_inside s.block n))
 
 pub routes_overwritten : (T : List Stored) (b : Block) (c : Choice) → routes_of (overwritten_by T b c) ≡ overwritten (routes_of T) (record { block = b; hop = c.hop; pref = c.pref })
 routes_overwritten T b c =

@@ -1,11 +1,11 @@
 -- A table of networks made of the pieces of a flat list.
 use Rattle.std.proofs.Common.{◌≡◌, ℕ, inl, inr, ⊎_elim, List, [], ◌∷◌, ◌++◌, map, Option, refl, sym, ap, ◌∙◌, subst, append-nil, append_assoc, arith}
 use Rattle.ipnet_addr.proofs.Members.{In, In-cases}
-use Rattle.ipnet_addr.proofs.Ascending.{Rising, Rising-from_pairs, All-from_In, pairs_from_Rising}
+use Rattle.ipnet_addr.proofs.Ascending.{Rising, Rising-from_pairs}
 use Rattle.ipnet_addr.specs.Addresses.{Address}
-use Rattle.ipnet_blocks.specs.Blocks.{IsBlock, IsBefore}
+use Rattle.ipnet_blocks.specs.Blocks.{IsBefore}
 use Rattle.ipnet_blocks.proofs.Lists.{rising_cross, rising_front}
-use Rattle.route_choices.specs.Choices.{Choice, AreChoices, default_preference}
+use Rattle.route_choices.specs.Choices.{Choice, default_preference}
 use Rattle.route_choices.specs.declared.hop.Hop.TheVariants.{Number}
 use Rattle.route_choices.proofs.ChoiceLists.{one_is}
 use Rattle.route_choices.proofs.Kept.{In-map}
@@ -19,7 +19,7 @@ use Rattle.route_laws.specs.Tables.{hop_at}
 use Rattle.route_laws.proofs.FlatTables.{flat_is_table, sound}
 use Rattle.route_laws.proofs.Flats.{Sooner}
 use Rattle.route_laws.proofs.Listed.{added_last, none_at}
-use Rattle.route_laws.proofs.Networks.{Earlier}
+use Rattle.route_laws.proofs.Networks.{Earlier, IsGood, stored_table_of}
 use Rattle.route_laws.proofs.Ordered.{Rising-map}
 use Rattle.route_laws.proofs.Rebuilds.{flat_moved}
 
@@ -50,9 +50,6 @@ best_are : (ps : List Piece) → routes_of (map stored_for ps) ≡ map route_for
 best_are [] = refl
 best_are (p ∷ ps) = ap (λ rs. route_for p ∷ rs) (best_are ps)
 
-abbrev IsGood : Stored → Type 0
-IsGood s = IsBlock s.block × (s.choices ≡ [] → ⊥) × AreChoices s.choices
-
 module _ (h : Address → Option ℕ) (ps : List Piece) (flat : IsFlat h ps) where
   up : Rising Sooner ps
   up = Rising-from_pairs Sooner ps flat.ascending
@@ -61,19 +58,10 @@ module _ (h : Address → Option ℕ) (ps : List Piece) (flat : IsFlat h ps) whe
   each_is = each_last ps [] up (λ p i s j. absurd j)
 
   module _ (small : AreHops h) where
-    good : (s : Stored) → In s (map stored_for ps) → IsGood s
-    good s i =
-        let t = In-map stored_for ps s i in
-        let k = sound h ps small flat t.0 t.1 in
-        subst IsGood (sym t.2) (k.0, (λ e. cc), one_is (choice_for t.0) k.1 (omega arith))
-
     stored : IsStoredTable (map stored_for ps)
-    stored = record {
-      blocks = All-from_In (λ s. IsBlock s.block) (map stored_for ps) (λ s i. (good s i).0);
-      some = All-from_In (λ s. s.choices ≡ [] → ⊥) (map stored_for ps) (λ s i. (good s i).1);
-      choices = All-from_In (λ s. AreChoices s.choices) (map stored_for ps) (λ s i. (good s i).2);
-      ascending = pairs_from_Rising Earlier (map stored_for ps) (Rising-map Sooner Earlier stored_for (λ p q l. l) ps up);
-    }
+    stored = stored_table_of (map stored_for ps)
+        (λ s i. let t = In-map stored_for ps s i in let k = sound h ps small flat t.0 t.1 in subst IsGood (sym t.2) (k.0, (λ e. cc), one_is (choice_for t.0) k.1 (omega arith)))
+        (Rising-map Sooner Earlier stored_for (λ p q l. l) ps up)
 
     has_hops : HasHops h (routes_of (with_each [] ps))
     has_hops = subst (HasHops h) (sym (ap routes_of each_is ∙ best_are ps)) (flat_is_table h ps small flat)
