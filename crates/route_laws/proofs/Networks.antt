@@ -12,7 +12,7 @@ use Rattle.route_choices.proofs.Kept.{filter_map_swap, map_append, In-map, map_I
 use Rattle.route_choices.proofs.Preferences.{test_from_hop, test_from_apart}
 use Rattle.route_choices.proofs.ChoiceLists.{left_back, without_are, without_none, with_are, none_are}
 use Rattle.route_laws.specs.Tables.{Route, IsTable, with_route, without_block}
-use Rattle.route_laws.proofs.Ordered.{same_or_not, put_back, put_itself, put_other, put_rises, gone_back, gone_other, one_of_block, Rising-map, put_again, put_gone}
+use Rattle.route_laws.proofs.Ordered.{same_or_not, put_back, put_itself, put_other, put_rises, gone_back, gone_other, one_of_block, Rising-map, put_again, put_gone, no_members}
 use Rattle.route_laws.proofs.Insides.{Sooner, Sound, rising as table_rises, table_of}
 use Rattle.route_laws.specs.Networks.{Stored, IsStoredTable, best_route, routes_of, choices_at, with_stored, without_stored, without_each, with_choices, with_choice, without_choice}
 
@@ -258,10 +258,6 @@ each_other T b [] ok okb d apart = refl
 each_other T b (c ∷ cs) ok okb d apart =
     each_other (without_choice T b c.hop) b cs (del_is T ok b c.hop okb) okb d apart
     ∙ at_other T ok b okb (choices_without (choices_at T b) c.hop) (without_are (choices_at T b) (at_are T ok b) c.hop) d apart
-
-no_members : (cs : List Choice) → ((d : Choice) → In d cs → ⊥) → cs ≡ []
-no_members [] none = refl
-no_members (c ∷ cs) none = absurd (none c (inl refl))
 
 pub emptied : (T : List Stored) (b : Block) → IsStoredTable T → IsBlock b → without_each T b (choices_at T b) ≡ without_stored T b
 emptied T b ok okb = same_tables (without_each T b (choices_at T b)) (without_stored T b) (each_is T b (choices_at T b) ok okb) (without_is T ok b)

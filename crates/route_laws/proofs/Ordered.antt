@@ -17,6 +17,10 @@ Rising-map R S f h [] up = tt
 Rising-map {A} {B} R S f h (x ∷ xs) up =
     ((λ y i. let t = In-map f xs y i in subst (S (f x)) (sym t.2) (h x t.0 (up.0 t.0 t.1))), Rising-map R S f h xs up.1)
 
+pub no_members : {A : Type 0} (xs : List A) → ((a : A) → In a xs → ⊥) → xs ≡ []
+no_members [] none = refl
+no_members (x ∷ xs) none = absurd (none x (inl refl))
+
 pub before_apart : (a b : Block) → IsBefore a b → a ≡ b → ⊥
 before_apart a b l q = strict b b (subst (λ (c : Block). IsBefore c b) q l) (subst (λ (c : Block). IsBefore c b) q l)
 

@@ -8,4 +8,4 @@ use Rattle.route_laws.proofs.FlatSearch.{search_is_flat}
 use Rattle.route_laws.proofs.Own.{own_is_maximal}
 
 pub returns : goal.returns
-returns c = record { shortest = flat_is_shortest; only = shortest_is_flat; admissible = flat_is_admissible; same = same_flat; search = search_is_flat; own = own_is_maximal; bound = λ M ps table flat. flat_bound M table ps flat; table = flat_is_table; rebuilds = flat_rebuilds; readded = flat_readded; new = readded_are_new }
+returns c = record { shortest = flat_is_shortest; only = shortest_is_flat; admissible = flat_is_admissible; same = same_flat; search = search_is_flat; own = own_is_maximal; bound = λ M ps table. flat_bound M table ps; table = flat_is_table; rebuilds = flat_rebuilds; readded = flat_readded; new = readded_are_new }
