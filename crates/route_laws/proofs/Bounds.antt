@@ -2,9 +2,8 @@
 use Rattle.std.proofs.Common.{◌≡◌, ℕ, zero, suc, ◌+◌, ◌-◌, ◌*◌, ◌/◌, ◌%◌, ◌^◌, ◌<◌, ◌≤◌, ◌⊎◌, inl, inr, ⊎_elim, Bool, true, false, not, ◌&&◌, cond, nat_lt, List, [], ◌∷◌, ◌++◌, length, sum_by, refl, sym, ap, ◌∙◌, subst, arith, shr-shr, div-one, one-add, pow-suc, length-append}
 use Rattle.std.specs.List.{flat_map}
 use Rattle.std.proofs.lemmas.List.Sums.{sum_by-cons}
-use Rattle.std.proofs.lemmas.Bool.Decides.{nat_tests}
 use Rattle.std.proofs.Math.Bool.{and-true}
-use Rattle.std.proofs.lemmas.Bool.{and_parts, and_from}
+use Rattle.std.proofs.lemmas.Bool.{and_parts, and_from, lt-ltb, ltb-true}
 use Rattle.ipnet_addr.specs.Addresses.{width, Address, IsAddress}
 use Rattle.ipnet_blocks.specs.Blocks.{Block, IsBlock, free_bits, HasAddress, IsInside, IsLarger, IsBefore, is_inside, has_address, first_of, parent}
 use Rattle.ipnet_blocks.specs.Maximal.{IsWithin, IsMaximalBlock, IsMaximal, IsUnion, maximal_of}
@@ -18,7 +17,7 @@ use Rattle.ipnet_blocks.proofs.BlockTests.{has_from_test, test_from_has, decide_
 use Rattle.route_laws.specs.Tables.{Route, IsTable, Governed}
 use Rattle.route_laws.specs.Bounds.{excess}
 use Rattle.route_laws.proofs.Matches.{inside_from_test, test_from_inside, block_in}
-use Rattle.route_laws.proofs.Flats.{maximal_same}
+use Rattle.ipnet_blocks.proofs.Unions.{maximal_same}
 
 -- the other half of the parent
 abbrev pub sibling : Block → Block
@@ -255,13 +254,10 @@ abbrev governs : Block → List Route → Address → Bool
 governs n [] x = has_address n x
 governs n (r ∷ M) x = governs n M x && not (is_strict n (Route.block r) && has_address (Route.block r) x)
 
-off : (a b : Bool) → (b ≡ true → ⊥) → (a && b) ≡ false
-off a true h = absurd (h refl)
-off true false h = refl
-off false false h = refl
-
-less : (a b : ℕ) → nat_lt a b ≡ true → a < b
-less a b e = grind (arith, nat_tests, e)
+not_both : (a b : Bool) → (a ≡ true → b ≡ true → ⊥) → (a && b) ≡ false
+not_both true true h = absurd (h refl refl)
+not_both true false h = refl
+not_both false b h = refl
 
 governs_inside : (n : Block) (M : List Route) (x : Address) → governs n M x ≡ true → HasAddress n x
 governs_inside n [] x e = has_from_test n x e
@@ -299,7 +295,7 @@ module _ (n : Block) (ok : IsBlock n) where
           omega arith
       go true e ih =
           let parts = and_parts (is_inside r.block n) (nat_lt n.len (Block.len r.block)) e in
-          let shorter : n.len < Block.len r.block = less n.len (Block.len r.block) parts.1 in
+          let shorter : n.len < Block.len r.block = ltb-true n.len (Block.len r.block) parts.1 in
           let v = valid r (inl refl) in
           let c = carve_more (governs n M) (governs n (r ∷ M)) r.block v n.len shorter (long_enough M)
           (λ x a g.
@@ -309,26 +305,18 @@ module _ (n : Block) (ok : IsBlock n) where
                 absurd (let z : true ≡ false = sym t.1 ∙ w in cc),
           ))
           (λ x a g out. and_from (governs n M x) (not (is_strict n r.block && has_address r.block x)) g
-          (ap not (off (is_strict n r.block) (has_address r.block x) (λ u. out (has_from_test r.block x u))))) in
+          (ap not (not_both (is_strict n r.block) (has_address r.block x) (λ s u. out (has_from_test r.block x u))))) in
           let here : excess n r.block ≡ Block.len r.block - n.len - 1 = ap (λ t. cond t (Block.len r.block - n.len - 1) 0) e in
           let s = sums in
           omega arith
 
-  not_both : (a b : Bool) → (a ≡ true → b ≡ true → ⊥) → (a && b) ≡ false
-  not_both true true h = absurd (h refl refl)
-  not_both true false h = refl
-  not_both false b h = refl
-
-  less_test : (a b : ℕ) → a < b → nat_lt a b ≡ true
-  less_test a b h = grind (arith, nat_tests)
-
   larger_from_test : (m : Block) → IsBlock m → is_strict n m ≡ true → IsLarger n m
   larger_from_test m p e =
       let t = and_parts (is_inside m n) (nat_lt n.len m.len) e in
-      (inside_from_test m n p ok t.0, λ i. let u = numbers_from_inside n m ok p i in let l = u.long in let k = less n.len m.len t.1 in omega arith)
+      (inside_from_test m n p ok t.0, λ i. let u = numbers_from_inside n m ok p i in let l = u.long in let k = ltb-true n.len m.len t.1 in omega arith)
 
   test_from_larger : (m : Block) → IsBlock m → IsLarger n m → is_strict n m ≡ true
-  test_from_larger m p l = and_from (is_inside m n) (nat_lt n.len m.len) (test_from_inside m n p ok l.0) (less_test n.len m.len (larger_is_shorter n m ok p l))
+  test_from_larger m p l = and_from (is_inside m n) (nat_lt n.len m.len) (test_from_inside m n p ok l.0) (lt-ltb n.len m.len (larger_is_shorter n m ok p l))
 
   governs_from : (M : List Route) → ((r : Route) → In r M → IsBlock r.block) → (x : Address) → HasAddress n x →
       ((r : Route) → In r M → IsLarger n r.block → HasAddress r.block x → ⊥) → governs n M x ≡ true
@@ -360,13 +348,6 @@ governed_bound M n bs table ok max =
     λ x a e. record { inside = governs_inside n M x e; free = λ r c l h. governs_free n ok M valid x e r (In-from_Contains M r c) l h } in
     let back : (x : Address) → IsAddress x → Governed M n x → governs n M x ≡ true =
     λ x a g. governs_from n ok M valid x g.inside (λ r i l h. g.free r (Contains-from_In M r i) l h) in
-    let ex = search_is_maximal (governs n M) in
-    let found : IsMaximal (Governed M n) (maximal_of (governs n M)) = record {
-      ascending = ex.ascending;
-      exact = λ b. (
-        (λ c. maximal_same (λ x. governs n M x ≡ true) (Governed M n) to back b ((ex.exact b).0 c)),
-        (λ m. (ex.exact b).1 (maximal_same (Governed M n) (λ x. governs n M x ≡ true) back to b m)),
-      );
-    } in
+    let found = maximal_same (λ x. governs n M x ≡ true) (Governed M n) to back (maximal_of (governs n M)) (search_is_maximal (governs n M)) in
     let same = maximal_is_unique (Governed M n) bs (maximal_of (governs n M)) max found in
     subst (λ (cs : List Block). length cs ≤ 1 + sum_by (λ r. excess n r.block) M) (sym same) (few_blocks n ok M valid)

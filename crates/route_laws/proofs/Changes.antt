@@ -6,7 +6,7 @@ use Rattle.ipnet_blocks.specs.Maximal.{IsMaximal, maximal_of}
 use Rattle.ipnet_blocks.proofs.Search.{search_is_maximal}
 use Rattle.route_laws.specs.Tables.{Route, hop_at, Changed}
 use Rattle.route_laws.specs.Changes.{changed, same_number}
-use Rattle.route_laws.proofs.Flats.{maximal_same}
+use Rattle.ipnet_blocks.proofs.Unions.{maximal_same}
 
 pub same_from_test : (o p : Option ℕ) → same_number o p ≡ true → o ≡ p
 same_from_test None None e = refl
@@ -33,13 +33,4 @@ module _ (M N : List Route) where
       go false e = refl
 
   pub changed_is_maximal : IsMaximal (Changed M N) (maximal_of (changed M N))
-  changed_is_maximal =
-      let m = search_is_maximal (changed M N) in
-      let test : Address → Type 0 = λ x. changed M N x ≡ true in
-      record {
-        ascending = m.ascending;
-        exact = λ b. (
-          (λ c. maximal_same test (Changed M N) (λ x a h. differs x h) (λ x a h. tested x h) b ((m.exact b).0 c)),
-          (λ w. (m.exact b).1 (maximal_same (Changed M N) test (λ x a h. tested x h) (λ x a h. differs x h) b w)),
-        );
-      }
+  changed_is_maximal = maximal_same (λ x. changed M N x ≡ true) (Changed M N) (λ x a h. differs x h) (λ x a h. tested x h) (maximal_of (changed M N)) (search_is_maximal (changed M N))

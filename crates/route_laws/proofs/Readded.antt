@@ -17,11 +17,10 @@ use Rattle.route_laws.specs.LeastTables.{HasHops}
 use Rattle.route_laws.specs.Networks.{Stored, IsStoredTable, choices_at, routes_of}
 use Rattle.route_laws.specs.Tables.{hop_at}
 use Rattle.route_laws.proofs.FlatTables.{flat_is_table, sound}
-use Rattle.route_laws.proofs.Flats.{Sooner}
+use Rattle.route_laws.proofs.Flats.{Sooner, flat_moved}
 use Rattle.route_laws.proofs.Listed.{added_last, none_at}
 use Rattle.route_laws.proofs.Networks.{Earlier, IsGood, stored_table_of}
 use Rattle.route_laws.proofs.Ordered.{Rising-map}
-use Rattle.route_laws.proofs.Rebuilds.{flat_moved}
 
 abbrev choice_for : Piece → Choice
 choice_for p = record { hop = Number p.number; pref = default_preference }

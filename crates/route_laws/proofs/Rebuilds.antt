@@ -1,15 +1,15 @@
 -- A table made of the pieces of a flat list has the same hops.
-use Rattle.std.proofs.Common.{◌≡◌, ℕ, inl, inr, ⊎_elim, List, [], ◌∷◌, ◌++◌, map, Option, Some, refl, sym, ap, ◌∙◌, subst, append-nil, append_assoc}
+use Rattle.std.proofs.Common.{◌≡◌, inl, inr, ⊎_elim, List, [], ◌∷◌, ◌++◌, map, refl, sym, ap, ◌∙◌, subst, append-nil, append_assoc}
 use Rattle.ipnet_addr.specs.Addresses.{Address, IsAddress}
 use Rattle.ipnet_addr.proofs.Members.{In, In-cases}
 use Rattle.ipnet_addr.proofs.Ascending.{Rising, Rising-from_pairs}
 use Rattle.ipnet_blocks.specs.Blocks.{IsBefore}
 use Rattle.route_laws.specs.Changes.{route_for, with_pieces}
-use Rattle.route_laws.specs.Flats.{Piece, IsFlat}
+use Rattle.route_laws.specs.Flats.{Piece}
 use Rattle.route_laws.specs.Laws.{FlatRebuilds}
 use Rattle.route_laws.specs.Tables.{Route, IsTable, hop_at}
 use Rattle.route_laws.proofs.FlatTables.{flat_is_table}
-use Rattle.route_laws.proofs.Flats.{Sooner, maximal_same}
+use Rattle.route_laws.proofs.Flats.{Sooner, flat_moved}
 use Rattle.route_laws.proofs.Ordered.{put_last}
 use Rattle.route_laws.proofs.TableHops.{hops_of_table}
 
@@ -21,16 +21,6 @@ pieces_last (p ∷ ps) M up after =
     ap (λ N. with_pieces N ps) (put_last Route.block M r (λ s i. after s p i (inl refl)))
     ∙ pieces_last ps (M ++ r ∷ []) up.1 (λ s q i j. ⊎_elim (λ k. after s q k (inr j)) (λ k. ⊎_elim (λ e. subst (λ (t : Route). IsBefore t.block q.block) (sym e) (up.0 q j)) (λ none. absurd none) k) (In-cases s M (r ∷ []) i))
     ∙ append_assoc M (r ∷ []) (map route_for ps)
-
--- equal hops have equal flat lists
-pub flat_moved : (g h : Address → Option ℕ) → ((x : Address) → IsAddress x → g x ≡ h x) → (ps : List Piece) → IsFlat h ps → IsFlat g ps
-flat_moved g h same ps flat = record {
-  ascending = flat.ascending;
-  exact = λ p. (
-    (λ c. maximal_same (λ x. h x ≡ Some p.number) (λ x. g x ≡ Some p.number) (λ x a e. same x a ∙ e) (λ x a e. sym (same x a) ∙ e) p.block ((flat.exact p).0 c)),
-    (λ m. (flat.exact p).1 (maximal_same (λ x. g x ≡ Some p.number) (λ x. h x ≡ Some p.number) (λ x a e. sym (same x a) ∙ e) (λ x a e. same x a ∙ e) p.block m)),
-  );
-}
 
 pub flat_rebuilds : FlatRebuilds
 flat_rebuilds M ps table flat =
