@@ -1,13 +1,11 @@
 -- Operations one after the other, each of which turns addresses that the others leave.
-use Rattle.std.proofs.Common.{◌≡◌, ℕ, inl, inr, ⊎_elim, Bool, true, false, cond, List, [], ◌∷◌, ◌++◌, Option, refl, sym, ap, ◌∙◌, subst}
+use Rattle.std.proofs.Common.{◌≡◌, ℕ, inl, inr, Bool, true, false, cond, List, [], ◌∷◌, ◌++◌, Option, refl, sym, ap, ◌∙◌, subst}
 use Rattle.std.proofs.lemmas.Bool.{false_from_ne_true}
 use Rattle.ipnet_addr.specs.Addresses.{Address, IsAddress}
 use Rattle.ipnet_addr.proofs.Members.{In}
 use Rattle.ipnet_addr.proofs.Ascending.{In-from_All, All-from_In, Contains-from_In, Rising, Rising-from_pairs, pairs_from_Rising}
-use Rattle.ipnet_blocks.specs.Blocks.{Block, IsBlock, HasAddress, IsBefore, IsInside, has_address}
+use Rattle.ipnet_blocks.specs.Blocks.{Block, IsBlock, HasAddress, IsBefore, has_address}
 use Rattle.ipnet_blocks.specs.Maximal.{IsMaximal, IsMaximalBlock}
-use Rattle.ipnet_blocks.proofs.BlockLaws.{nested, same_sets, strict}
-use Rattle.ipnet_blocks.proofs.Parents.{decide_inside}
 use Rattle.route_choices.specs.Choices.{default_preference}
 use Rattle.route_choices.specs.declared.hop.Hop.{Hop}
 use Rattle.route_choices.proofs.Kept.{In-map}
@@ -19,6 +17,8 @@ use Rattle.route_laws.specs.Operations.{Operation, IsHitless, after, after_all, 
 use Rattle.route_laws.proofs.Between.{leads}
 use Rattle.route_laws.proofs.Painted.{painted_is_table, painted_hops}
 use Rattle.route_laws.proofs.Turning.{Once, Settled, hitless_from, leads_once, leads_settled, once_then_settled, reaches, settled_joined, settled_then_once}
+use Rattle.route_laws.proofs.Flats.{maximal_one}
+use Rattle.route_laws.proofs.Ordered.{before_apart}
 
 pub between_reaches : (M N : List Route) → IsTable M → IsTable N → after_all M (between M N) ≡ N
 between_reaches M N old new = reaches N M (between M N) (leads N new M old)
@@ -102,28 +102,12 @@ batch_hops M (r ∷ rs) m c x a =
     batch_hops (painted M r) rs (painted_is_table M m r k.0 k.1) (λ s i. c s (inr i)) x a
     ∙ ap (λ h. hop_over h rs x) (painted_hops M m r k.0 k.1 x a)
 
--- two maximal blocks of one set have no address in common
-maximal_apart : (S : Address → Type 0) (b c : Block) → IsMaximalBlock S b → IsMaximalBlock S c → IsBefore b c → (x : Address) → HasAddress b x → HasAddress c x → ⊥
-maximal_apart S b c p q l x h k = ⊎_elim (λ i. go b c p q l i) (λ i. back i) (nested b c x p.within.block q.within.block h k)
-  where
-    go : (b c : Block) → IsMaximalBlock S b → IsMaximalBlock S c → IsBefore b c → IsInside b c → ⊥
-    go b c p q l i = ⊎_elim
-        (λ j. let e = same_sets b c p.within.block q.within.block i j in let m = subst (λ (d : Block). IsBefore d c) e l in strict c c m m)
-        (λ j. p.largest c q.within (i, j))
-        (decide_inside c b q.within.block p.within.block)
-
-    back : IsInside c b → ⊥
-    back i = ⊎_elim
-        (λ j. let e = same_sets b c p.within.block q.within.block j i in let m = subst (λ (d : Block). IsBefore d c) e l in strict c c m m)
-        (λ j. q.largest b p.within (i, j))
-        (decide_inside b c p.within.block q.within.block)
-
 told_apart : (S : Address → Type 0) (hop : Hop) (bs : List Block) → Rising IsBefore bs → ((b : Block) → In b bs → IsMaximalBlock S b) → Rising Apart (changes_to hop bs)
 told_apart S hop [] up all = tt
 told_apart S hop (b ∷ bs) up all = (
   (λ s i. let t = In-map (λ b. record { block = b; hop = hop; pref = default_preference }) bs s i in
       let e = ap Route.block t.2 in
-      λ x h k. maximal_apart S b t.0 (all b (inl refl)) (all t.0 (inr t.1)) (up.0 t.0 t.1) x h (subst (λ (d : Block). HasAddress d x) e k)),
+      λ x h k. before_apart b t.0 (up.0 t.0 t.1) (maximal_one S b t.0 (all b (inl refl)) (all t.0 (inr t.1)) x h (subst (λ (d : Block). HasAddress d x) e k))),
   told_apart S hop bs up.1 (λ c i. all c (inr i)),
 )
 

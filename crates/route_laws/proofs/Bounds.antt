@@ -11,12 +11,13 @@ use Rattle.ipnet_addr.proofs.Members.{In, Distinct, In-left, In-right, In-cases}
 use Rattle.ipnet_addr.proofs.Ascending.{In-from_Contains, Contains-from_In, All-from_In, In-from_Any, Any-from_In, Rising-from_pairs, Distinct-from_Rising}
 use Rattle.ipnet_blocks.proofs.BlockLaws.{block_path, nested, has_first, strict, numbers_from_inside, inside_from_numbers}
 use Rattle.ipnet_blocks.proofs.Parents.{larger_is_shorter, parent_is_block, inside_parent}
-use Rattle.ipnet_blocks.proofs.Maximals.{maximal_is_union, maximal_is_unique, maximal_is_shortest, maximal_is_top, decide_test}
+use Rattle.ipnet_blocks.proofs.Maximals.{maximal_is_union, maximal_is_unique, maximal_is_shortest, decide_test}
 use Rattle.ipnet_blocks.proofs.Search.{search_is_maximal}
 use Rattle.ipnet_blocks.proofs.BlockTests.{has_from_test, test_from_has, decide_has}
 use Rattle.route_laws.specs.Tables.{Route, IsTable, Governed}
 use Rattle.route_laws.specs.Bounds.{excess}
 use Rattle.route_laws.proofs.Matches.{inside_from_test, test_from_inside, block_in}
+use Rattle.route_laws.proofs.Flats.{maximal_one}
 use Rattle.ipnet_blocks.proofs.Unions.{maximal_same}
 
 -- the other half of the parent
@@ -213,13 +214,8 @@ module _ (s s' : Address → Bool) (m : Block) (p : IsBlock m) (k : ℕ) (below 
       let all = maximal_is_union (λ x. s x ≡ true) (decide_test s) (maximal_of s) ex in
       let apart : Distinct (maximal_of s) = Distinct-from_Rising IsBefore strict (maximal_of s) (Rising-from_pairs IsBefore (maximal_of s) ex.ascending) in
       let few = carve_one m k below (maximal_of s) apart (λ c i. long c (max c i).within)
-      (λ c d i j e f.
-      let a = inside_from_test m c p (max c i).within.block e (first_of m) (has_first m) in
-      let b = inside_from_test m d p (max d j).within.block f (first_of m) (has_first m) in
-      ⊎_elim
-      (λ h. sym ((maximal_is_top (λ x. s x ≡ true) c (max c i)).1 d (max d j).within h))
-      (λ h. (maximal_is_top (λ x. s x ≡ true) d (max d j)).1 c (max c i).within h)
-      (nested c d (first_of m) (max c i).within.block (max d j).within.block a b)) in
+      (λ c d i j e f. maximal_one (λ x. s x ≡ true) c d (max c i) (max d j) (first_of m)
+      (inside_from_test m c p (max c i).within.block e (first_of m) (has_first m)) (inside_from_test m d p (max d j).within.block f (first_of m) (has_first m))) in
       let union : IsUnion (λ x. s' x ≡ true) (flat_map (remove_from m) (maximal_of s)) = record {
         blocks = All-from_In IsBlock (flat_map (remove_from m) (maximal_of s)) (λ b i.
             let t = In-flat_back (remove_from m) (maximal_of s) b i in

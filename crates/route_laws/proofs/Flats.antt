@@ -31,6 +31,10 @@ decide_number : (o : Option ℕ) (k : ℕ) → (o ≡ Some k) ⊎ (o ≡ Some k 
 decide_number None k = inr (λ e. cc)
 decide_number (Some j) k = ⊎_elim (λ e. inl (ap (λ n. Some n) e)) (λ n. inr (λ e. n (cc))) (cases_eq j k)
 
+-- maximal blocks with an address in common are one
+pub maximal_one : (S : Address → Type 0) (b c : Block) → IsMaximalBlock S b → IsMaximalBlock S c → (x : Address) → HasAddress b x → HasAddress c x → b ≡ c
+maximal_one S b c m n x h k = ⊎_elim (λ i. sym ((maximal_is_top S b m).1 c n.within i)) (λ i. (maximal_is_top S c n).1 b m.within i) (nested b c x m.within.block n.within.block h k)
+
 module _ (h : Address → Option ℕ) where
   point : (b : Block) → HasOneHop h b → (x : Address) × HasAddress b x
   point b w = (first_of b, has_first b)
@@ -118,15 +122,15 @@ module _ (h : Address → Option ℕ) where
   pub tells : (ps : List Piece) → IsFlat h ps → (p : Piece) → In p ps → (x : Address) → HasAddress p.block x → h x ≡ Some p.number
   tells ps f p i x m = (piece_is_maximal ps f p i).within.all x m
 
+  -- pieces with an address in common are at one block
+  pub same_piece : (ps : List Piece) → IsFlat h ps → (p q : Piece) → In p ps → In q ps → (x : Address) → HasAddress p.block x → HasAddress q.block x → p.block ≡ q.block
+  same_piece ps f p q i j x a b =
+      let e : q.number ≡ p.number = (let c = tells ps f p i x a in let d = tells ps f q j x b in cc) in
+      maximal_one (λ y. h y ≡ Some p.number) p.block q.block (piece_is_maximal ps f p i) (subst (λ (k : ℕ). IsMaximalBlock (λ y. h y ≡ Some k) q.block) e (piece_is_maximal ps f q j)) x a b
+
   -- no piece lies in another
   pub not_inside : (ps : List Piece) → IsFlat h ps → (p q : Piece) → In p ps → In q ps → (q.block ≡ p.block → ⊥) → IsInside q.block p.block → ⊥
-  not_inside ps f p q i j other k =
-      let x = first_of q.block in
-      let here : h x ≡ Some q.number = tells ps f q j x (has_first q.block) in
-      let there : h x ≡ Some p.number = tells ps f p i x (k x (has_first q.block)) in
-      let e : p.number ≡ q.number = cc in
-      (piece_is_maximal ps f q j).largest p.block (record { block = piece_is_block ps f p i; all = λ y m. subst (λ n. h y ≡ Some n) e (tells ps f p i y m) })
-      (k, λ m. other (same_sets q.block p.block (piece_is_block ps f q j) (piece_is_block ps f p i) k m))
+  not_inside ps f p q i j other k = other (same_piece ps f q p j i (first_of q.block) (has_first q.block) (k (first_of q.block) (has_first q.block)))
 
 pub within_same : (S T : Address → Type 0) → ((x : Address) → IsAddress x → S x → T x) → (b : Block) → IsWithin S b → IsWithin T b
 within_same S T f b w = record { block = w.block; all = λ x m. f x (member_is_address b x w.block m) (w.all x m) }
