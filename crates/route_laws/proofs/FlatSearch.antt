@@ -70,7 +70,7 @@ module _ (h : Address → Option ℕ) where
   abbrev NoLarger : Block → Type 0
   NoLarger t = (c : Block) → HasOneHop h c → IsLarger c t → ⊥
 
-  not_one : (k : ℕ) (t : Block) → IsBlock t → free_bits t ≡ k → one_hop_in h k t ≡ None → HasOneHop h t → ⊥
+  pub not_one : (k : ℕ) (t : Block) → IsBlock t → free_bits t ≡ k → one_hop_in h k t ≡ None → HasOneHop h t → ⊥
   not_one k t p e o w = let a = one_from_all k t p e w.number w.all in cc
 
   -- what is larger than a half holds the whole
@@ -128,7 +128,7 @@ module _ (h : Address → Option ℕ) where
       (λ far. (i, far))
       (decide_inside t p.block ok m.within.block)
 
-  complete : (k : ℕ) (t : Block) → IsBlock t → free_bits t ≡ k → (p : Piece) → IsMaximalBlock (λ x. h x ≡ Some p.number) p.block → IsInside p.block t → In p (flat_in h k t)
+  pub complete : (k : ℕ) (t : Block) → IsBlock t → free_bits t ≡ k → (p : Piece) → IsMaximalBlock (λ x. h x ≡ Some p.number) p.block → IsInside p.block t → In p (flat_in h k t)
   unfolding flat_in one_hop_in
   complete zero t ok e p m i =
       piece_in t (h (first_of t)) [] p (is_here zero t ok e p m i)
