@@ -1,7 +1,7 @@
 -- The operations between two tables lead from the one to the other.
-use Rattle.std.proofs.Common.{◌≡◌, ◌⊎◌, ◌&&◌, ◌==◌, inl, inr, ⊎_elim, Bool, true, false, not, List, [], ◌∷◌, ◌++◌, refl, sym, ap, subst, arith}
+use Rattle.std.proofs.Common.{◌≡◌, ◌⊎◌, ◌&&◌, ◌==◌, inl, inr, ⊎_elim, true, not, List, [], ◌∷◌, ◌++◌, refl, sym, ap, subst, arith}
 use Rattle.std.specs.List.{list_any}
-use Rattle.std.proofs.lemmas.Bool.{and_parts}
+use Rattle.std.proofs.lemmas.Bool.{and_parts, cases_Bool}
 use Rattle.std.proofs.lemmas.Bool.Decides.{nat_tests}
 use Rattle.std.proofs.lemmas.List.{reverse-append}
 use mathlib.Core.List.{reverse}
@@ -69,11 +69,10 @@ route_itself r =
 
 -- a route of N is held by M, or missing
 pub held_or_missing : (M N : List Route) (r : Route) → In r N → In r M ⊎ In r (missing M N)
-held_or_missing M N r i = go (list_any (λ s. same_route s r) M) refl
-  where
-    go : (b : Bool) → list_any (λ s. same_route s r) M ≡ b → In r M ⊎ In r (missing M N)
-    go true e = let t = In-from_list_any (λ s. same_route s r) M e in inl (subst (λ (u : Route). In u M) (route_from_test t.0 r t.2) t.1)
-    go false e = inr (In-filter (λ u. not (list_any (λ s. same_route s u) M)) N r i (ap not e))
+held_or_missing M N r i = ⊎_elim
+    (λ e. let t = In-from_list_any (λ s. same_route s r) M e in inl (subst (λ (u : Route). In u M) (route_from_test t.0 r t.2) t.1))
+    (λ e. inr (In-filter (λ u. not (list_any (λ s. same_route s u) M)) N r i (ap not e)))
+    (cases_Bool (list_any (λ s. same_route s r) M))
 
 pub missing_back : (M N : List Route) (r : Route) → In r (missing M N) → In r N × (In r M → ⊥)
 missing_back M N r i =
@@ -82,11 +81,10 @@ missing_back M N r i =
 
 -- a route of M has a block that N stores, or is left over
 pub stored_or_surplus : (M N : List Route) (r : Route) → In r M → ((s : Route) × In s N × (s.block ≡ r.block)) ⊎ In r (surplus M N)
-stored_or_surplus M N r i = go (is_stored N r.block) refl
-  where
-    go : (b : Bool) → is_stored N r.block ≡ b → ((s : Route) × In s N × (s.block ≡ r.block)) ⊎ In r (surplus M N)
-    go true e = let t = In-from_list_any (λ s. same_block s.block r.block) N e in inl (t.0, t.1, same_from_test (Route.block t.0) r.block t.2)
-    go false e = inr (In-filter (λ s. not (is_stored N s.block)) M r i (ap not e))
+stored_or_surplus M N r i = ⊎_elim
+    (λ e. let t = In-from_list_any (λ s. same_block s.block r.block) N e in inl (t.0, t.1, same_from_test (Route.block t.0) r.block t.2))
+    (λ e. inr (In-filter (λ s. not (is_stored N s.block)) M r i (ap not e)))
+    (cases_Bool (is_stored N r.block))
 
 pub surplus_back : (M N : List Route) (r : Route) → In r (surplus M N) → In r M × ((s : Route) → In s N → s.block ≡ r.block → ⊥)
 surplus_back M N r i =

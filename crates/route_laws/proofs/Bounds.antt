@@ -21,8 +21,7 @@ use Rattle.route_laws.specs.Tables.{Route, IsTable, Governed}
 use Rattle.route_laws.proofs.Flats.{maximal_same}
 use Rattle.route_laws.proofs.FlatSearch.{complete, located, not_one, sound}
 use Rattle.route_laws.proofs.Matches.{block_in, bools_same, inside_from_test, same_length, test_from_inside}
-use Rattle.route_laws.proofs.Ordered.{no_members, same_or_not}
-use Rattle.route_laws.proofs.Overwritten.{not_cases, not_from}
+use Rattle.route_laws.proofs.Ordered.{no_members, same_or_not, not_cases, not_from}
 
 -- whether a block lies inside another and is longer by more than d, and by how much more
 unfoldable pub is_longer : ℕ → Block → Block → Bool

@@ -1,11 +1,12 @@
 -- The list that a change prints is the list of the maximal blocks of the addresses whose hop differs, as a fact and not as a test.
-use Rattle.std.proofs.Common.{◌≡◌, ◌≢◌, ℕ, Bool, true, false, not, List, Option, Some, None, refl, ap, subst, arith}
+use Rattle.std.proofs.Common.{◌≡◌, ◌≢◌, ℕ, true, List, Option, Some, None, refl, ap, arith, sym, ◌∙◌}
 use Rattle.std.proofs.lemmas.Bool.Decides.{nat_tests}
 use Rattle.ipnet_addr.specs.Addresses.{Address}
 use Rattle.ipnet_blocks.specs.Maximal.{IsMaximal, maximal_of}
 use Rattle.ipnet_blocks.proofs.Search.{search_is_maximal}
 use Rattle.route_laws.specs.Tables.{Route, hop_at, Changed}
 use Rattle.route_laws.specs.Changes.{changed, same_number}
+use Rattle.route_laws.proofs.Ordered.{not_cases, not_from}
 use Rattle.ipnet_blocks.proofs.Unions.{maximal_same}
 
 pub same_from_test : (o p : Option ℕ) → same_number o p ≡ true → o ≡ p
@@ -20,17 +21,10 @@ same_itself (Some k) = grind (arith, nat_tests)
 
 module _ (M N : List Route) where
   differs : (x : Address) → changed M N x ≡ true → hop_at M x ≢ hop_at N x
-  differs x e = λ q.
-      let s : same_number (hop_at M x) (hop_at N x) ≡ true = subst (λ (o : Option ℕ). same_number (hop_at M x) o ≡ true) q (same_itself (hop_at M x)) in
-      let t : not (same_number (hop_at M x) (hop_at N x)) ≡ false = ap not s in
-      cc
+  differs x e q = not_cases (same_number (hop_at M x) (hop_at N x)) e (ap (same_number (hop_at M x)) (sym q) ∙ same_itself (hop_at M x))
 
   tested : (x : Address) → hop_at M x ≢ hop_at N x → changed M N x ≡ true
-  tested x f = go (same_number (hop_at M x) (hop_at N x)) refl
-    where
-      go : (b : Bool) → same_number (hop_at M x) (hop_at N x) ≡ b → not b ≡ true
-      go true e = absurd (f (same_from_test (hop_at M x) (hop_at N x) e))
-      go false e = refl
+  tested x f = not_from (same_number (hop_at M x) (hop_at N x)) (λ e. f (same_from_test (hop_at M x) (hop_at N x) e))
 
   pub changed_is_maximal : IsMaximal (Changed M N) (maximal_of (changed M N))
   changed_is_maximal = maximal_same (λ x. changed M N x ≡ true) (Changed M N) (λ x a h. differs x h) (λ x a h. tested x h) (maximal_of (changed M N)) (search_is_maximal (changed M N))

@@ -1,6 +1,7 @@
 -- The search of the bit tree finds the flat list.
-use Rattle.std.proofs.Common.{◌≡◌, ◌==◌, ℕ, zero, suc, ◌+◌, ◌-◌, ◌*◌, ◌/◌, ◌<◌, ◌⊎◌, ◌↔◌, inl, inr, ⊎_elim, Bool, true, false, cond, List, [], ◌++◌, Option, Some, None, refl, sym, ap, ◌∙◌, subst, arith}
-use Rattle.std.proofs.lemmas.Bool.Decides.{nat_tests}
+use Rattle.std.proofs.Common.{◌≡◌, ◌==◌, ℕ, zero, suc, ◌+◌, ◌-◌, ◌*◌, ◌/◌, ◌<◌, ◌⊎◌, ◌↔◌, inl, inr, ⊎_elim, true, cond, List, [], ◌++◌, Option, Some, None, refl, sym, ap, ◌∙◌, subst, arith}
+use Rattle.std.proofs.lemmas.Bool.{cond-true, eq-eqb, eqb-true}
+use Rattle.std.proofs.lemmas.Option.{cond_some}
 use Rattle.ipnet_addr.specs.Addresses.{Family, Ipv4, Ipv6, width, rank, Address}
 use Rattle.ipnet_blocks.specs.Blocks.{Block, IsBlock, free_bits, HasAddress, IsInside, IsLarger, first_of, family_block, left, right, parent}
 use Rattle.ipnet_blocks.specs.Maximal.{IsMaximalBlock}
@@ -16,20 +17,12 @@ use Rattle.route_choices.proofs.Kept.{Rising-joined}
 common_parts : (o p : Option ℕ) (n : ℕ) → common o p ≡ Some n → (o ≡ Some n) × (p ≡ Some n)
 common_parts None p n e = absurd (cc)
 common_parts (Some j) None n e = absurd (cc)
-common_parts (Some j) (Some k) n e = go (j == k) refl e
-  where
-    go : (b : Bool) → (j == k) ≡ b → cond b (Some j) None ≡ Some n → (Some j ≡ Some n) × (Some k ≡ Some n)
-    go true t q = let z : j ≡ k = grind (arith, nat_tests, t) in (q, ap (λ (i : ℕ). Some i) (sym z) ∙ q)
-    go false t q = absurd (cc)
+common_parts (Some j) (Some k) n e = let t = cond_some (j == k) j n e in (ap (λ i. Some i) t.1, ap (λ i. Some i) (sym (eqb-true j k t.0) ∙ t.1))
 
 common_both : (o p : Option ℕ) (n : ℕ) → o ≡ Some n → p ≡ Some n → common o p ≡ Some n
 common_both None p n e f = absurd (cc)
 common_both (Some j) None n e f = absurd (cc)
-common_both (Some j) (Some k) n e f =
-    let a : j ≡ n = cc in
-    let b : k ≡ n = cc in
-    let t : (j == k) ≡ true = grind (arith, nat_tests) in
-    ap (λ c. cond c (Some j) None) t ∙ e
+common_both (Some j) (Some k) n e f = cond-true (j == k) (Some j) None (eq-eqb j k (cc)) ∙ e
 
 in_piece : (b : Block) (o : Option ℕ) (ps : List Piece) (p : Piece) → In p (piece_or b o ps) → ((p.block ≡ b) × (o ≡ Some p.number)) ⊎ ((o ≡ None) × In p ps)
 in_piece b None ps p i = inr (refl, i)

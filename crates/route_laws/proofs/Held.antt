@@ -1,6 +1,7 @@
 -- What a table holds after a change, and the longest matches then.
-use Rattle.std.proofs.Common.{◌≡◌, ◌⊎◌, inl, inr, ⊎_elim, Bool, true, false, cond, List, ◌∷◌, filter, Option, Some, None, refl, sym, ap, ◌∙◌, subst, arith, Contains}
+use Rattle.std.proofs.Common.{◌≡◌, ◌⊎◌, inl, inr, ⊎_elim, true, cond, List, ◌∷◌, filter, Option, Some, None, refl, sym, ap, ◌∙◌, subst, arith, Contains}
 use Rattle.std.specs.Prelude.{◌≢◌, ◌↔◌}
+use Rattle.std.proofs.lemmas.Bool.{cond_both}
 use Rattle.ipnet_blocks.specs.Blocks.{Block, IsBlock, IsInside, is_before, is_inside}
 use Rattle.ipnet_addr.proofs.Members.{In, In-right}
 use Rattle.ipnet_addr.proofs.Ascending.{In-from_Contains, Contains-from_In}
@@ -47,11 +48,8 @@ module _ (M : List Route) (r : Route) (n : Block) (m : IsTable M) (table : IsTab
       (λ s i e. added_other M m r ok s i (λ q. out (ap (is_inside n) (sym q) ∙ e))))
 
   pub match_after_add : match_of (with_route M r) n ≡ cond (is_inside n r.block) (Some (longer r (match_of M n))) (match_of M n)
-  match_after_add = go (is_inside n r.block) refl
-    where
-      go : (b : Bool) → is_inside n r.block ≡ b → match_of (with_route M r) n ≡ cond b (Some (longer r (match_of M n))) (match_of M n)
-      go true e = contained (inside_from_test n r.block is ok e)
-      go false e = apart (λ f. let g = e in cc)
+  match_after_add = cond_both (is_inside n r.block) (Some (longer r (match_of M n))) (match_of M n) (λ o. match_of (with_route M r) n ≡ o)
+      (λ e. contained (inside_from_test n r.block is ok e)) (λ e. apart (λ f. let g = e in cc))
 
 pub match_after_del : (M : List Route) (n b : Block) → IsTable M → IsBlock n → ((r : Route) → match_of M n ≡ Some r → r.block ≢ b) → match_of (without_block M b) n ≡ match_of M n
 match_after_del M n b m is other = go (match_of M n) refl

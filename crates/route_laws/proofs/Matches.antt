@@ -1,7 +1,6 @@
 -- What the longest match is.
 use Rattle.std.proofs.Common.{◌≡◌, ◌<◌, ◌≤◌, ◌-◌, ◌/◌, ◌^◌, ◌⊎◌, inl, inr, ⊎_elim, Bool, true, false, cond, nat_lt, List, [], ◌∷◌, filter, Option, Some, None, MatchOption, refl, sym, ap, ◌∙◌, subst, arith}
-use Rattle.std.proofs.lemmas.Bool.{false_from_ne_true}
-use Rattle.std.proofs.lemmas.Bool.Decides.{nat_tests}
+use Rattle.std.proofs.lemmas.Bool.{false_from_ne_true, ltb-false, ltb-true}
 use Rattle.ipnet_addr.specs.Addresses.{Address, IsAddress, width}
 use Rattle.ipnet_blocks.specs.Blocks.{Block, IsBlock, free_bits, HasAddress, IsInside, is_inside, host, first_of}
 use Rattle.ipnet_addr.proofs.Members.{In}
@@ -36,7 +35,7 @@ longer_cases r None = inl refl
 longer_cases r (Some s) = go (nat_lt (Block.len r.block) (Block.len s.block)) refl
   where
     go : (c : Bool) → nat_lt (Block.len r.block) (Block.len s.block) ≡ c → (cond c s r ≡ r) ⊎ ((Some (cond c s r) ≡ Some s) × (Block.len r.block < Block.len (Route.block (cond c s r))))
-    go true e = inr (refl, grind (arith, nat_tests, e))
+    go true e = inr (refl, ltb-true _ _ e)
     go false e = inl refl
 
 abbrev pub AtLeast : Route → List Route → Type 0
@@ -47,12 +46,8 @@ pick r rs None none = (inl refl, λ s i. ⊎_elim (λ e. let l : Block.len s.blo
 pick r rs (Some s) best = go (nat_lt (Block.len r.block) (Block.len s.block)) refl
   where
     go : (c : Bool) → nat_lt (Block.len r.block) (Block.len s.block) ≡ c → AtLeast (cond c s r) (r ∷ rs)
-    go true e =
-        let l : Block.len r.block < Block.len s.block = grind (arith, nat_tests, e) in
-        (inr best.0, λ t i. ⊎_elim (λ q. let m : Block.len t.block ≡ Block.len r.block = ap (λ (u : Route). Block.len u.block) q in omega arith) (λ j. best.1 t j) i)
-    go false e =
-        let l : Block.len s.block ≤ Block.len r.block = grind (arith, nat_tests, e) in
-        (inl refl, λ t i. ⊎_elim (λ q. let m : Block.len t.block ≡ Block.len r.block = ap (λ (u : Route). Block.len u.block) q in omega arith) (λ j. let b = best.1 t j in omega arith) i)
+    go true e = (inr best.0, λ t i. ⊎_elim (λ q. let l = ltb-true _ _ e in let m = ap (λ (u : Route). Block.len u.block) q in omega arith) (λ j. best.1 t j) i)
+    go false e = (inl refl, λ t i. ⊎_elim (λ q. let m = ap (λ (u : Route). Block.len u.block) q in omega arith) (λ j. let l = ltb-false _ _ e in let b = best.1 t j in omega arith) i)
 
 pub best_of : (rs : List Route) → MatchOption (longest rs) ((s : Route) → In s rs → ⊥) (λ s. AtLeast s rs)
 best_of [] = λ s i. i

@@ -1,5 +1,6 @@
 -- How many operations a change takes.
-use Rattle.std.proofs.Common.{◌≡◌, suc, ◌+◌, ◌≤◌, ◌⊎◌, inl, inr, ⊎_elim, Bool, true, false, not, ◌&&◌, cond, List, ◌∷◌, length, refl, sym, ap, ◌∙◌, arith}
+use Rattle.std.proofs.Common.{◌≡◌, suc, ◌+◌, ◌≤◌, ◌⊎◌, inl, inr, ⊎_elim, not, ◌&&◌, List, ◌∷◌, length, refl, sym, ap, ◌∙◌, arith}
+use Rattle.std.proofs.lemmas.Bool.{and_from, cond_both}
 use mathlib.Core.List.{reverse}
 use Rattle.ipnet_addr.proofs.Members.{In, In-cases, no_more}
 use Rattle.ipnet_blocks.specs.Blocks.{Block, IsBlock, IsInside, is_inside, same_block}
@@ -12,7 +13,7 @@ use Rattle.route_laws.specs.Overwritten.{overwritten, without_inside}
 use Rattle.route_laws.specs.Tables.{Route, IsTable, match_of, match_number}
 use Rattle.route_laws.proofs.Insides.{same_in}
 use Rattle.route_laws.proofs.Matches.{block_in, test_from_inside}
-use Rattle.route_laws.proofs.Ordered.{same_or_not}
+use Rattle.route_laws.proofs.Ordered.{same_or_not, not_from}
 use Rattle.route_laws.proofs.Overwritten.{outside_back, outside_other, over_back, over_other, routes_placed}
 use Rattle.route_laws.specs.Batches.{painted, strictly_inside}
 use Rattle.route_laws.specs.Operations.{Operation, Install, Remove, between, installs, removes, missing, surplus}
@@ -55,27 +56,17 @@ one_each M N new o p i j e = go (is_one M N o i) (is_one M N p j)
 
 module _ (M : List Route) (r : Route) (m : IsTable M) (ok : IsBlock r.block) where
   painted_back : (s : Route) → In s (painted M r) → (s ≡ r) ⊎ In s M
-  painted_back s i = go (same_number (match_number (match_of (without_inside M r.block) r.block)) (number_of r.hop)) i
-    where
-      go : (b : Bool) → In s (cond b (without_inside M r.block) (overwritten M r)) → (s ≡ r) ⊎ In s M
-      go true j = inr (outside_back Route.block M (routes_placed M m) r.block ok s j).0
-      go false j = ⊎_elim (λ e. inl e) (λ t. inr t.0) (over_back Route.block M (routes_placed M m) r ok s j)
+  painted_back s = cond_both (same_number (match_number (match_of (without_inside M r.block) r.block)) (number_of r.hop)) (without_inside M r.block) (overwritten M r) (λ N. In s N → (s ≡ r) ⊎ In s M)
+      (λ e j. inr (outside_back Route.block M (routes_placed M m) r.block ok s j).0)
+      (λ e j. ⊎_elim (λ q. inl q) (λ t. inr t.0) (over_back Route.block M (routes_placed M m) r ok s j))
 
   painted_other : (s : Route) → In s M → (IsInside s.block r.block → ⊥) → In s (painted M r)
-  painted_other s i f = go (same_number (match_number (match_of (without_inside M r.block) r.block)) (number_of r.hop))
-    where
-      go : (b : Bool) → In s (cond b (without_inside M r.block) (overwritten M r))
-      go true = outside_other Route.block M (routes_placed M m) r.block ok s i f
-      go false = over_other Route.block M (routes_placed M m) r ok s i f
+  painted_other s i f = cond_both (same_number (match_number (match_of (without_inside M r.block) r.block)) (number_of r.hop)) (without_inside M r.block) (overwritten M r) (In s)
+      (λ e. outside_other Route.block M (routes_placed M m) r.block ok s i f) (λ e. over_other Route.block M (routes_placed M m) r ok s i f)
 
   strictly : (s : Route) → In s M → IsInside s.block r.block → (s.block ≡ r.block → ⊥) → In s (strictly_inside M r.block)
   strictly s i h f = In-filter (λ s. is_inside s.block r.block && not (same_block s.block r.block)) M s i
-      (by (is_inside s.block r.block) (same_block s.block r.block) (test_from_inside s.block r.block (block_in M m s i) ok h) refl)
-    where
-      by : (b c : Bool) → b ≡ true → same_block s.block r.block ≡ c → (b && not c) ≡ true
-      by true true e g = absurd (f (same_from_test s.block r.block g))
-      by true false e g = refl
-      by false c e g = absurd (cc)
+      (and_from (is_inside s.block r.block) (not (same_block s.block r.block)) (test_from_inside s.block r.block (block_in M m s i) ok h) (not_from (same_block s.block r.block) (λ e. f (same_from_test s.block r.block e))))
 
   pub counted : IsHop r.hop → length (between M (painted M r)) ≤ 1 + length (strictly_inside M r.block)
   counted hop =

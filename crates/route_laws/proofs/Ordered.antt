@@ -1,6 +1,6 @@
 -- Lists of things at blocks, ascending by these: one put in the place of any other of its block, or taken out.
-use Rattle.std.proofs.Common.{◌≡◌, ◌⊎◌, ◌<◌, arith, inl, inr, ⊎_elim, Bool, true, false, not, List, [], ◌∷◌, ◌++◌, filter, map, sym, refl, ap, ◌∙◌, subst}
-use Rattle.std.proofs.lemmas.Bool.{cases_lt, false_from_ne_true}
+use Rattle.std.proofs.Common.{◌≡◌, ◌⊎◌, ◌<◌, arith, inl, inr, ⊎_elim, Bool, true, not, List, [], ◌∷◌, ◌++◌, filter, map, sym, refl, ap, ◌∙◌, subst}
+use Rattle.std.proofs.lemmas.Bool.{cases_lt, false_from_ne_true, not_from_false}
 use Rattle.ipnet_addr.specs.Addresses.{Address, rank}
 use Rattle.ipnet_addr.proofs.Members.{In, In-left, In-right, In-cases}
 use Rattle.ipnet_addr.proofs.Ascending.{Rising, same_rising}
@@ -16,6 +16,12 @@ pub Rising-map : {A B : Type 0} (R : A → A → Type 0) (S : B → B → Type 0
 Rising-map R S f h [] up = tt
 Rising-map {A} {B} R S f h (x ∷ xs) up =
     ((λ y i. let t = In-map f xs y i in subst (S (f x)) (sym t.2) (h x t.0 (up.0 t.0 t.1))), Rising-map R S f h xs up.1)
+
+pub not_cases : (b : Bool) → not b ≡ true → b ≡ true → ⊥
+not_cases b e f = let g = ap not f in cc
+
+pub not_from : (b : Bool) → (b ≡ true → ⊥) → not b ≡ true
+not_from b f = not_from_false b (false_from_ne_true b f)
 
 pub no_members : {A : Type 0} (xs : List A) → ((a : A) → In a xs → ⊥) → xs ≡ []
 no_members [] none = refl
@@ -94,14 +100,10 @@ module _ {X : Type 0} (at : X → Block) where
     pub gone_back : (y : X) → In y (without M b) → In y M × (at y ≡ b → ⊥)
     gone_back y i =
         let t = In-from_filter (λ y. not (same_block (at y) b)) M y i in
-        (t.0, λ e. let f = test_from_same (at y) b e in let g = ap not f in let u = t.1 in cc)
+        (t.0, λ e. not_cases (same_block (at y) b) t.1 (test_from_same (at y) b e))
 
     pub gone_other : (y : X) → In y M → (at y ≡ b → ⊥) → In y (without M b)
-    gone_other y i apart = In-filter (λ y. not (same_block (at y) b)) M y i (go (same_block (at y) b) refl)
-      where
-        go : (c : Bool) → same_block (at y) b ≡ c → not (same_block (at y) b) ≡ true
-        go true e = absurd (apart (same_from_test (at y) b e))
-        go false e = ap not e
+    gone_other y i apart = In-filter (λ y. not (same_block (at y) b)) M y i (not_from (same_block (at y) b) (λ e. apart (same_from_test (at y) b e)))
 
     pub gone_rises : Rising Earlier M → Rising Earlier (without M b)
     gone_rises up = Rising-kept Earlier (λ y. not (same_block (at y) b)) M up

@@ -1,7 +1,6 @@
 -- One thing in the place of all those inside its block: its members, how it is made, and the hops of a table then.
-use Rattle.std.proofs.Common.{◌≡◌, ◌-◌, ◌/◌, ◌^◌, ◌<◌, ◌⊎◌, inl, inr, ⊎_elim, Bool, true, false, not, cond, List, [], ◌∷◌, filter, Some, IsTrue, ◌↔◌, nat_lt, refl, sym, ap, ◌∙◌, subst, arith, div-one}
-use Rattle.std.proofs.lemmas.Bool.{cond-false, false_from_ne_true}
-use Rattle.std.proofs.lemmas.Bool.Decides.{nat_tests}
+use Rattle.std.proofs.Common.{◌≡◌, ◌-◌, ◌/◌, ◌^◌, ◌<◌, ◌⊎◌, inl, inr, ⊎_elim, Bool, false, not, cond, List, [], ◌∷◌, filter, Some, IsTrue, ◌↔◌, sym, ap, ◌∙◌, subst, arith, div-one}
+use Rattle.std.proofs.lemmas.Bool.{cond-false, false_from_ne_true, cond_both, cases_lt}
 use Rattle.ipnet_addr.specs.Addresses.{Address, IsAddress, width}
 use Rattle.ipnet_addr.proofs.Members.{In}
 use Rattle.ipnet_addr.proofs.Ascending.{In-from_Contains, Contains-from_In, Rising, Rising-from_pairs, same_rising}
@@ -22,16 +21,8 @@ use Rattle.route_laws.specs.Networks.{IsLeaf, Stored, IsStoredTable, best_route,
 use Rattle.route_laws.proofs.Insides.{Sooner, filter_again, has_from_test as held_from_test, rising, table_kept}
 use Rattle.route_laws.proofs.Matches.{block_in, governed_match, inside_from_test, match_of_own, test_from_inside}
 use Rattle.route_laws.proofs.Networks.{routes_with, stored_block, stored_kept}
-use Rattle.route_laws.proofs.Ordered.{Earlier, put, put_back, put_itself, put_other, put_rises}
+use Rattle.route_laws.proofs.Ordered.{Earlier, put, put_back, put_itself, put_other, put_rises, not_cases, not_from}
 use Rattle.route_laws.proofs.Updates.{added_is_table}
-
-pub not_cases : (b : Bool) → not b ≡ true → b ≡ true → ⊥
-not_cases true e f = cc
-not_cases false e f = cc
-
-pub not_from : (b : Bool) → (b ≡ true → ⊥) → not b ≡ true
-not_from true f = absurd (f refl)
-not_from false f = refl
 
 -- a block is in neither of its halves
 not_in_left : (b : Block) → IsBlock b → 0 < free_bits b → IsInside b (left b) → ⊥
@@ -180,11 +171,7 @@ host_is_leaf T t b ok h s c l = l.1 (inside_itself b s.block (sym (alone b s.blo
 
 -- a network with another inside is no host
 pub room_inside : (T : List Stored) → IsStoredTable T → (b : Block) → IsBlock b → (leaf : Bool) → IsTrue leaf ↔ IsLeaf T b → leaf ≡ false → 0 < free_bits b
-room_inside T t b ok leaf h e = by (nat_lt 0 (free_bits b)) refl
-  where
-    by : (s : Bool) → nat_lt 0 (free_bits b) ≡ s → 0 < free_bits b
-    by true f = grind (arith, nat_tests)
-    by false f = absurd (let z = sym e ∙ h.1 (host_is_leaf T t b ok (grind (arith, nat_tests))) in cc)
+room_inside T t b ok leaf h e = ⊎_elim (λ l. l) (λ n. absurd (let z = sym e ∙ h.1 (host_is_leaf T t b ok (omega (arith, n))) in cc)) (cases_lt 0 (free_bits b))
 
 -- a part of a table of networks is one
 pub outside_is_stored : (T : List Stored) → IsStoredTable T → (n : Block) → IsStoredTable (networks_outside T n)
@@ -208,18 +195,12 @@ module _ (M : List Route) (m : IsTable M) (r : Route) (ok : IsBlock r.block) whe
       let t = test_from_has r.block x (inside_from_test s.block r.block (block_in M m s i) ok g x (held_from_test x a s (block_in M m s i) f)) in cc)))
 
   pub over_hops : IsHop r.hop → (x : Address) → IsAddress x → hop_at (overwritten M r) x ≡ cond (has_address r.block x) (number_of r.hop) (hop_at M x)
-  over_hops hop x a = go (has_address r.block x) refl
-    where
-      new : IsTable (overwritten M r)
-      new = over_is_table hop
-
-      go : (b : Bool) → has_address r.block x ≡ b → hop_at (overwritten M r) x ≡ cond b (number_of r.hop) (hop_at M x)
-      go true e = ap match_number (governed_match (overwritten M r) new r.block ok x a (record {
+  over_hops hop x a = cond_both (has_address r.block x) (number_of r.hop) (hop_at M x) (λ o. hop_at (overwritten M r) x ≡ o)
+      (λ e. ap match_number (governed_match (overwritten M r) (over_is_table hop) r.block ok x a (record {
         inside = has_from_test r.block x e;
         free = λ u c l k. ⊎_elim (λ f. l.1 (inside_itself r.block u.block (ap Route.block (sym f)))) (λ t. t.1 l.0) (over_back Route.block M (routes_placed M m) r ok u (In-from_Contains (overwritten M r) u c));
-      }) ∙ match_of_own (overwritten M r) new r (over_itself Route.block M (routes_placed M m) r ok))
-      go false e = ap match_number (
-          match_after_add (without_inside M r.block) r (host x) outside_is_table new (host_is_block x a)
-          ∙ cond-false (is_inside (host x) r.block) (Some (longer r (match_of (without_inside M r.block) (host x)))) (match_of (without_inside M r.block) (host x))
-          (false_from_ne_true (is_inside (host x) r.block) (λ f. let t = test_from_has r.block x (held_from_test x a r ok f) in cc))
-          ∙ outside_match x a e)
+      }) ∙ match_of_own (overwritten M r) (over_is_table hop) r (over_itself Route.block M (routes_placed M m) r ok)))
+      (λ e. ap match_number (match_after_add (without_inside M r.block) r (host x) outside_is_table (over_is_table hop) (host_is_block x a)
+      ∙ cond-false (is_inside (host x) r.block) (Some (longer r (match_of (without_inside M r.block) (host x)))) (match_of (without_inside M r.block) (host x))
+      (false_from_ne_true (is_inside (host x) r.block) (λ f. let t = test_from_has r.block x (held_from_test x a r ok f) in cc))
+      ∙ outside_match x a e))

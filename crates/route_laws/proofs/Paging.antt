@@ -1,9 +1,8 @@
 -- The pages of a table are its routes from a network on.
-use Rattle.std.proofs.Common.{◌≡◌, ℕ, zero, suc, ◌+◌, ◌<◌, ◌≤◌, inl, inr, ⊎_elim, Bool, true, false, not, ◌&&◌, List, [], ◌∷◌, ◌++◌, length, take, drop, refl, sym, ap, ◌∙◌, subst, arith}
+use Rattle.std.proofs.Common.{◌≡◌, ℕ, zero, suc, ◌+◌, ◌<◌, ◌≤◌, inl, inr, ⊎_elim, not, ◌&&◌, List, [], ◌∷◌, ◌++◌, length, take, drop, refl, sym, ap, ◌∙◌, subst, arith}
 use Rattle.std.proofs.lemmas.List.{length-drop, take-append-drop}
 use Rattle.std.specs.List.{flat_map}
 use Rattle.std.proofs.lemmas.Bool.{and_parts, and_from}
-use Rattle.route_laws.proofs.Overwritten.{not_cases}
 use Rattle.ipnet_addr.proofs.Basics.{filtered_length}
 use Rattle.ipnet_addr.specs.Addresses.{Family, same_family}
 use Rattle.ipnet_addr.proofs.Members.{In, In-right, In-cases}
@@ -17,6 +16,7 @@ use Rattle.route_laws.specs.Onwards.{routes_from, routes_after}
 use Rattle.route_laws.specs.Pages.{last_of, pages_up_to, first_page, pages}
 use Rattle.route_laws.specs.Tables.{Route, IsTable}
 use Rattle.route_laws.proofs.Updates.{Sooner}
+use Rattle.route_laws.proofs.Ordered.{not_cases, not_from}
 
 -- ---- the parts of an ascending list
 
@@ -49,14 +49,9 @@ module _ (M : List Route) (m : IsTable M) (f : Family) where
     onwards = λ r s i j g l.
         let t = In-from_filter (λ r. same_family r.block.family n.family && not (is_before r.block n)) M r i in
         In-filter (λ r. same_family r.block.family n.family && not (is_before r.block n)) M s j
-        (passes (same_family s.block.family n.family) (is_before s.block n) (test_from_family s.block.family n.family (g ∙ sym e))
-        (λ b. let c = test_from_before r.block n (transitive r.block s.block n l (before_from_test s.block n b)) in not_cases (is_before r.block n) (and_parts _ _ t.1).1 c));
+        (and_from (same_family s.block.family n.family) (not (is_before s.block n)) (test_from_family s.block.family n.family (g ∙ sym e))
+        (not_from (is_before s.block n) (λ b. not_cases (is_before r.block n) (and_parts _ _ t.1).1 (test_from_before r.block n (transitive r.block s.block n l (before_from_test s.block n b))))));
   }
-    where
-      passes : (a b : Bool) → a ≡ true → (b ≡ true → ⊥) → (a && not b) ≡ true
-      passes true true e g = absurd (g refl)
-      passes true false e g = refl
-      passes false b e g = absurd (cc)
 
   right_is_onwards : (xs ys : List Route) → IsOnwards M f (xs ++ ys) → IsOnwards M f ys
   right_is_onwards xs ys o = record {

@@ -1,5 +1,6 @@
 -- A table all of whose addresses of one block got one hop.
-use Rattle.std.proofs.Common.{◌≡◌, Bool, true, false, cond, List, refl, ap, ◌∙◌}
+use Rattle.std.proofs.Common.{◌≡◌, cond, List, ap, ◌∙◌}
+use Rattle.std.proofs.lemmas.Bool.{cond_both}
 use Rattle.ipnet_addr.specs.Addresses.{Address, IsAddress}
 use Rattle.ipnet_addr.proofs.Ascending.{In-from_Contains}
 use Rattle.ipnet_blocks.specs.Blocks.{IsBlock, HasAddress, has_address}
@@ -24,22 +25,13 @@ module _ (M : List Route) (m : IsTable M) (r : Route) (ok : IsBlock r.block) whe
     free = λ u c l k. (outside_back Route.block M (routes_placed M m) r.block ok u (In-from_Contains (without_inside M r.block) u c)).1 l.0;
   }))
 
-  module _ (hop : IsHop r.hop) where
-    pub painted_is_table : IsTable (painted M r)
-    painted_is_table = go (same_number (match_number (match_of (without_inside M r.block) r.block)) (number_of r.hop))
-      where
-        go : (b : Bool) → IsTable (cond b (without_inside M r.block) (overwritten M r))
-        go true = out
-        go false = over_is_table M m r ok hop
+  pub painted_is_table : IsHop r.hop → IsTable (painted M r)
+  painted_is_table hop = cond_both (same_number (match_number (match_of (without_inside M r.block) r.block)) (number_of r.hop)) (without_inside M r.block) (overwritten M r) IsTable (λ e. out) (λ e. over_is_table M m r ok hop)
 
-    pub painted_hops : (x : Address) → IsAddress x → hop_at (painted M r) x ≡ cond (has_address r.block x) (number_of r.hop) (hop_at M x)
-    painted_hops x a = go (same_number (match_number (match_of (without_inside M r.block) r.block)) (number_of r.hop)) refl
-      where
-        bare : same_number (match_number (match_of (without_inside M r.block) r.block)) (number_of r.hop) ≡ true → (b : Bool) → has_address r.block x ≡ b → hop_at (without_inside M r.block) x ≡ cond b (number_of r.hop) (hop_at M x)
-        bare e true f = handed_down x a (has_from_test r.block x f) ∙ same_from_test (match_number (match_of (without_inside M r.block) r.block)) (number_of r.hop) e
-        bare e false f = ap match_number (outside_match M m r ok x a f)
-
-        go : (b : Bool) → same_number (match_number (match_of (without_inside M r.block) r.block)) (number_of r.hop) ≡ b
-            → hop_at (cond b (without_inside M r.block) (overwritten M r)) x ≡ cond (has_address r.block x) (number_of r.hop) (hop_at M x)
-        go true e = bare e (has_address r.block x) refl
-        go false e = over_hops M m r ok hop x a
+  pub painted_hops : IsHop r.hop → (x : Address) → IsAddress x → hop_at (painted M r) x ≡ cond (has_address r.block x) (number_of r.hop) (hop_at M x)
+  painted_hops hop x a = cond_both (same_number (match_number (match_of (without_inside M r.block) r.block)) (number_of r.hop)) (without_inside M r.block) (overwritten M r)
+      (λ N. hop_at N x ≡ cond (has_address r.block x) (number_of r.hop) (hop_at M x))
+      (λ e. cond_both (has_address r.block x) (number_of r.hop) (hop_at M x) (λ o. hop_at (without_inside M r.block) x ≡ o)
+      (λ f. handed_down x a (has_from_test r.block x f) ∙ same_from_test (match_number (match_of (without_inside M r.block) r.block)) (number_of r.hop) e)
+      (λ f. ap match_number (outside_match M m r ok x a f)))
+      (λ e. over_hops M m r ok hop x a)
