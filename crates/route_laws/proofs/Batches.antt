@@ -1,6 +1,7 @@
 -- Operations one after the other, each of which turns addresses that the others leave.
 use Rattle.std.proofs.Common.{◌≡◌, ℕ, inl, inr, Bool, true, false, cond, List, [], ◌∷◌, ◌++◌, Option, refl, sym, ap, ◌∙◌, subst}
 use Rattle.std.proofs.lemmas.Bool.{false_from_ne_true}
+use Rattle.std.proofs.lemmas.List.Elements.{All-map}
 use Rattle.ipnet_addr.specs.Addresses.{Address, IsAddress}
 use Rattle.ipnet_addr.proofs.Members.{In}
 use Rattle.ipnet_addr.proofs.Ascending.{In-from_All, All-from_In, Contains-from_In, Rising, Rising-from_pairs, pairs_from_Rising}
@@ -114,12 +115,8 @@ told_apart S hop (b ∷ bs) up all = (
 pub told_are_changes : (S : Address → Type 0) (bs : List Block) (hop : Hop) → IsMaximal S bs → IsHop hop → AreChanges (changes_to hop bs) × AreApart (changes_to hop bs)
 told_are_changes S bs hop m k = (
   record {
-    blocks = All-from_In (λ r. IsBlock r.block) (changes_to hop bs) (λ s i.
-        let t = In-map (λ b. record { block = b; hop = hop; pref = default_preference }) bs s i in
-        subst IsBlock (sym (ap Route.block t.2)) (all t.0 t.1).within.block);
-    hops = All-from_In (λ r. IsHop r.hop) (changes_to hop bs) (λ s i.
-        let t = In-map (λ b. record { block = b; hop = hop; pref = default_preference }) bs s i in
-        subst IsHop (sym (ap Route.hop t.2)) k);
+    blocks = All-map (λ r. IsBlock r.block) (λ b. record { block = b; hop = hop; pref = default_preference }) bs (All-from_In IsBlock bs (λ b i. (all b i).within.block));
+    hops = All-map (λ r. IsHop r.hop) (λ b. record { block = b; hop = hop; pref = default_preference }) bs (All-from_In (λ b. IsHop hop) bs (λ b i. k));
   },
   pairs_from_Rising Apart (changes_to hop bs) (told_apart S hop bs (Rising-from_pairs IsBefore bs m.ascending) all),
 )

@@ -12,7 +12,7 @@ use Rattle.ipnet_blocks.specs.Blocks.{IsBlock, IsBefore, same_block}
 use Rattle.ipnet_blocks.proofs.BlockLaws.{strict}
 use Rattle.ipnet_blocks.proofs.BlockTests.{same_from_test, test_from_same}
 use Rattle.route_choices.specs.Choices.{same_hop}
-use Rattle.route_choices.proofs.Kept.{Rising-kept, In-from_filter, In-filter}
+use Rattle.route_choices.proofs.Kept.{Rising-kept, In-from_filter, In-filter, Rising-joined}
 use Rattle.route_choices.proofs.Preferences.{hop_from_test, same_itself}
 use Rattle.route_laws.specs.Tables.{Route, IsTable, is_stored, with_route, without_block}
 use Rattle.route_laws.proofs.Insides.{Sooner, rising, same_in}
@@ -37,17 +37,10 @@ reverse_In {A} (x ∷ xs) a i = ⊎_elim (λ j. inr (reverse_In xs a j)) (λ j. 
 abbrev pub Later : Route → Route → Type 0
 Later r s = IsBefore s.block r.block
 
-falling_more : (xs : List Route) (x : Route) → Rising Later xs → ((y : Route) → In y xs → Later y x) → Rising Later (xs ++ x ∷ [])
-falling_more [] x h f = ((λ y i. absurd i), tt)
-falling_more (z ∷ xs) x h f = (
-  (λ y i. ⊎_elim (λ j. h.0 y j) (λ j. ⊎_elim (λ e. subst (λ (u : Route). Later z u) (sym e) (f z (inl refl))) (λ k. absurd k) j) (In-cases y xs (x ∷ []) i)),
-  falling_more xs x h.1 (λ y i. f y (inr i)),
-)
-
 pub falls : (xs : List Route) → Rising Sooner xs → Rising Later (reverse xs)
 falls [] h = tt
 falls (x ∷ xs) h = subst (λ (ys : List Route). Rising Later ys) (sym (reverse-append (x ∷ []) xs))
-    (falling_more (reverse xs) x (falls xs h.1) (λ y i. h.0 y (reverse_In xs y i)))
+    (Rising-joined Later (reverse xs) (x ∷ []) (falls xs h.1) ((λ y i. absurd i), tt) (λ y z i j. ⊎_elim (λ e. subst (λ (u : Route). Later y u) (sym e) (h.0 y (reverse_In xs y i))) (λ k. absurd k) j))
 
 -- ---- tests
 

@@ -62,15 +62,12 @@ module _ (h : Address → Option ℕ) (L N : List Route) (gl : GivesInside h (fa
   both_have : HasHops h (L ++ N)
   both_have = record {
     table = joined_table (family_block Ipv4) (family_block Ipv6) (whole_is_block Ipv4) (whole_is_block Ipv6) apart separate order h None L N gl gn;
-    same = λ x a. sym (hop_is (L ++ N) x) ∙ at x (in_family x a);
+    same = λ x a. sym (hop_is (L ++ N) x) ∙ at x x.family (in_family x a);
   }
     where
-      at : (x : Address) → HasAddress (family_block x.family) x → hop_under None (L ++ N) x ≡ h x
-      at x m = go x.family m
-        where
-          go : (f : Family) → HasAddress (family_block f) x → hop_under None (L ++ N) x ≡ h x
-          go Ipv4 k = joined_first (family_block Ipv4) (family_block Ipv6) (whole_is_block Ipv4) (whole_is_block Ipv6) apart separate order h None L N gl gn x k
-          go Ipv6 k = joined_second (family_block Ipv4) (family_block Ipv6) (whole_is_block Ipv4) (whole_is_block Ipv6) apart separate order h None L N gl gn x k
+      at : (x : Address) (f : Family) → HasAddress (family_block f) x → hop_under None (L ++ N) x ≡ h x
+      at x Ipv4 k = joined_first (family_block Ipv4) (family_block Ipv6) (whole_is_block Ipv4) (whole_is_block Ipv6) apart separate order h None L N gl gn x k
+      at x Ipv6 k = joined_second (family_block Ipv4) (family_block Ipv6) (whole_is_block Ipv4) (whole_is_block Ipv6) apart separate order h None L N gl gn x k
 
 -- a table needs what its families need
 at_least : (h : Address → Option ℕ) (n m : ℕ) → IsFewest h (family_block Ipv4) None n → IsFewest h (family_block Ipv6) None m → (M : List Route) → HasHops h M → n + m ≤ length M

@@ -34,6 +34,16 @@ is_removed M (Remove b ∷ L) r i none = ⊎_elim
     (λ f. inr (is_removed (after M (Remove b)) L r (gone_other Route.block M b r i f) none))
     (same_or_not r.block b)
 
+-- what an operation between two tables is
+abbrev pub IsOne : List Route → List Route → Operation → Type 0
+IsOne M N o = ((r : Route) × (In r N × (In r M → ⊥)) × (o ≡ Install r)) ⊎ ((r : Route) × (In r M × ((s : Route) → In s N → s.block ≡ r.block → ⊥)) × (o ≡ Remove r.block))
+
+pub is_one : (M N : List Route) (o : Operation) → In o (between M N) → IsOne M N o
+is_one M N o i = ⊎_elim
+    (λ j. let t = In-map Install (reverse (missing M N)) o j in inl (t.0, missing_back M N t.0 (reverse_In (missing M N) t.0 t.1), t.2))
+    (λ j. let t = In-map (λ r. Remove (Route.block r)) (surplus M N) o j in inr (t.0, surplus_back M N t.0 t.1, t.2))
+    (In-cases o (installs (reverse (missing M N))) (removes (surplus M N)) i)
+
 -- installs come before removes
 abbrev Comes : Operation → Operation → Type 0
 Comes (Install r) (Install s) = Later r s
@@ -65,10 +75,6 @@ module _ (M N : List Route) (old : IsTable M) (new : IsTable N) where
     where
       inside : (o : Operation) → In o (between M N) → In o L
       inside o i = ⊎_elim
-          (λ j. let t = In-map Install (reverse (missing M N)) o j in
-          let u = missing_back M N t.0 (reverse_In (missing M N) t.0 t.1) in
-          subst (λ (p : Operation). In p L) (sym t.2) (⊎_elim (λ k. absurd (u.1 k)) (λ k. k) (is_installed M L t.0 (subst (λ (K : List Route). In t.0 K) (sym e) u.0))))
-          (λ j. let t = In-map (λ r. Remove (Route.block r)) (surplus M N) o j in
-          let u = surplus_back M N t.0 t.1 in
-          subst (λ (p : Operation). In p L) (sym t.2) (is_removed M L t.0 u.0 (λ s k f. u.1 s (subst (λ (K : List Route). In s K) e k) f)))
-          (In-cases o (installs (reverse (missing M N))) (removes (surplus M N)) i)
+          (λ t. subst (λ (p : Operation). In p L) (sym t.2) (⊎_elim (λ k. absurd (t.1.1 k)) (λ k. k) (is_installed M L t.0 (subst (λ (K : List Route). In t.0 K) (sym e) t.1.0))))
+          (λ t. subst (λ (p : Operation). In p L) (sym t.2) (is_removed M L t.0 t.1.0 (λ s k f. t.1.1 s (subst (λ (K : List Route). In s K) e k) f)))
+          (is_one M N o i)

@@ -1,6 +1,7 @@
 -- What the longest match is.
 use Rattle.std.proofs.Common.{◌≡◌, ◌<◌, ◌≤◌, ◌-◌, ◌/◌, ◌^◌, ◌⊎◌, inl, inr, ⊎_elim, Bool, true, false, cond, nat_lt, List, [], ◌∷◌, filter, Option, Some, None, MatchOption, refl, sym, ap, ◌∙◌, subst, arith}
 use Rattle.std.proofs.lemmas.Bool.{false_from_ne_true, ltb-false, ltb-true}
+use Rattle.std.proofs.lemmas.Option.{MatchOption-at_none, MatchOption-at_some}
 use Rattle.ipnet_addr.specs.Addresses.{Address, IsAddress, width}
 use Rattle.ipnet_blocks.specs.Blocks.{Block, IsBlock, free_bits, HasAddress, IsInside, is_inside, host, first_of}
 use Rattle.ipnet_addr.proofs.Members.{In}
@@ -67,18 +68,14 @@ module _ (M : List Route) (table : IsTable M) where
         (t.0, inside_from_test n r.block ok (block_in r t.0) t.1)
 
     pub no_match : match_of M n ≡ None → (r : Route) → In r M → IsInside n r.block → ⊥
-    no_match e r i h =
-        let b = best_of (covering M n) in
-        let none : (s : Route) → In s (covering M n) → ⊥ = subst (λ (o : Option Route). MatchOption o ((s : Route) → In s (covering M n) → ⊥) (λ s. AtLeast s (covering M n))) e b in
-        none r (covers_in r i h)
+    no_match e r i h = MatchOption-at_none ((s : Route) → In s (covering M n) → ⊥) (λ s. AtLeast s (covering M n)) e (best_of (covering M n)) r (covers_in r i h)
 
     pub none_from : ((r : Route) → In r M → IsInside n r.block → ⊥) → match_of M n ≡ None
     none_from f = ap longest (none_kept (λ r. is_inside n r.block) M (λ r i. false_from_ne_true (is_inside n r.block) (λ e. f r i (inside_from_test n r.block ok (block_in r i) e))))
 
     pub match_meets : (r : Route) → match_of M n ≡ Some r → IsMatch M n r
     match_meets r e =
-        let b = best_of (covering M n) in
-        let best : AtLeast r (covering M n) = subst (λ (o : Option Route). MatchOption o ((s : Route) → In s (covering M n) → ⊥) (λ s. AtLeast s (covering M n))) e b in
+        let best = MatchOption-at_some ((s : Route) → In s (covering M n) → ⊥) (λ s. AtLeast s (covering M n)) r e (best_of (covering M n)) in
         let t = in_covers r best.0 in
         record { member = Contains-from_In M r t.0; holds = t.1; longest = λ s c h. best.1 s (covers_in s (In-from_Contains M s c) h) }
 

@@ -1,13 +1,12 @@
 -- How many operations a change takes.
 use Rattle.std.proofs.Common.{◌≡◌, suc, ◌+◌, ◌≤◌, ◌⊎◌, inl, inr, ⊎_elim, not, ◌&&◌, List, ◌∷◌, length, refl, sym, ap, ◌∙◌, arith}
 use Rattle.std.proofs.lemmas.Bool.{and_from, cond_both}
-use mathlib.Core.List.{reverse}
-use Rattle.ipnet_addr.proofs.Members.{In, In-cases, no_more}
+use Rattle.ipnet_addr.proofs.Members.{In, no_more}
 use Rattle.ipnet_blocks.specs.Blocks.{Block, IsBlock, IsInside, is_inside, same_block}
 use Rattle.ipnet_blocks.proofs.BlockTests.{same_from_test}
 use Rattle.ipnet_blocks.proofs.Parents.{decide_inside}
 use Rattle.route_choices.specs.Hops.{IsHop, number_of}
-use Rattle.route_choices.proofs.Kept.{In-map, In-filter}
+use Rattle.route_choices.proofs.Kept.{In-filter}
 use Rattle.route_laws.specs.Changes.{same_number}
 use Rattle.route_laws.specs.Overwritten.{overwritten, without_inside}
 use Rattle.route_laws.specs.Tables.{Route, IsTable, match_of, match_number}
@@ -16,9 +15,8 @@ use Rattle.route_laws.proofs.Matches.{block_in, test_from_inside}
 use Rattle.route_laws.proofs.Ordered.{same_or_not, not_from}
 use Rattle.route_laws.proofs.Overwritten.{outside_back, outside_other, over_back, over_other, routes_placed}
 use Rattle.route_laws.specs.Batches.{painted, strictly_inside}
-use Rattle.route_laws.specs.Operations.{Operation, Install, Remove, between, installs, removes, missing, surplus}
-use Rattle.route_laws.proofs.Between.{missing_back, reverse_In, surplus_back}
-use Rattle.route_laws.proofs.FewestOperations.{each}
+use Rattle.route_laws.specs.Operations.{Operation, Install, Remove, between}
+use Rattle.route_laws.proofs.FewestOperations.{each, IsOne, is_one}
 use Rattle.route_laws.proofs.Painted.{painted_is_table}
 
 -- the block of an operation
@@ -26,33 +24,18 @@ abbrev pub touched : Operation → Block
 touched (Install r) = r.block
 touched (Remove b) = b
 
--- what an operation between two tables is
-abbrev IsOne : List Route → List Route → Operation → Type 0
-IsOne M N o = ((r : Route) × (In r N × (In r M → ⊥)) × (o ≡ Install r)) ⊎ ((r : Route) × (In r M × ((s : Route) → In s N → s.block ≡ r.block → ⊥)) × (o ≡ Remove r.block))
-
-is_one : (M N : List Route) (o : Operation) → In o (between M N) → IsOne M N o
-is_one M N o i = ⊎_elim
-    (λ j. let t = In-map Install (reverse (missing M N)) o j in inl (t.0, missing_back M N t.0 (reverse_In (missing M N) t.0 t.1), t.2))
-    (λ j. let t = In-map (λ r. Remove (Route.block r)) (surplus M N) o j in inr (t.0, surplus_back M N t.0 t.1, t.2))
-    (In-cases o (installs (reverse (missing M N))) (removes (surplus M N)) i)
-
 -- no block has two operations
 pub one_each : (M N : List Route) → IsTable N → (o p : Operation) → In o (between M N) → In p (between M N) → touched o ≡ touched p → o ≡ p
 one_each M N new o p i j e = go (is_one M N o i) (is_one M N p j)
   where
+    same : {b c : Block} → touched o ≡ b → touched p ≡ c → b ≡ c
+    same f g = sym f ∙ e ∙ g
+
     go : IsOne M N o → IsOne M N p → o ≡ p
-    go (inl t) (inl u) =
-        let b : Route.block t.0 ≡ Route.block u.0 = ap touched (sym t.2) ∙ e ∙ ap touched u.2 in
-        t.2 ∙ ap Install (same_in N new t.0 u.0 t.1.0 u.1.0 b) ∙ sym u.2
-    go (inl t) (inr u) =
-        let b : Route.block t.0 ≡ Route.block u.0 = ap touched (sym t.2) ∙ e ∙ ap touched u.2 in
-        absurd (u.1.1 t.0 t.1.0 b)
-    go (inr t) (inl u) =
-        let b : Route.block t.0 ≡ Route.block u.0 = ap touched (sym t.2) ∙ e ∙ ap touched u.2 in
-        absurd (t.1.1 u.0 u.1.0 (sym b))
-    go (inr t) (inr u) =
-        let b : Route.block t.0 ≡ Route.block u.0 = ap touched (sym t.2) ∙ e ∙ ap touched u.2 in
-        t.2 ∙ ap Remove b ∙ sym u.2
+    go (inl t) (inl u) = t.2 ∙ ap Install (same_in N new t.0 u.0 t.1.0 u.1.0 (same (ap touched t.2) (ap touched u.2))) ∙ sym u.2
+    go (inl t) (inr u) = absurd (u.1.1 t.0 t.1.0 (same (ap touched t.2) (ap touched u.2)))
+    go (inr t) (inl u) = absurd (t.1.1 u.0 u.1.0 (sym (same (ap touched t.2) (ap touched u.2))))
+    go (inr t) (inr u) = t.2 ∙ ap Remove (same (ap touched t.2) (ap touched u.2)) ∙ sym u.2
 
 module _ (M : List Route) (r : Route) (m : IsTable M) (ok : IsBlock r.block) where
   painted_back : (s : Route) → In s (painted M r) → (s ≡ r) ⊎ In s M
