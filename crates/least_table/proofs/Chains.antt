@@ -1,5 +1,8 @@
 -- Plans that skip chains of levels.
 use Rattle.std.proofs.Common.{◌≡◌, ℕ, suc, ◌+◌, ◌<◌, inl, inr, Bool, true, false, cond, not, ◌&&◌, ◌||◌, List, [], ◌∷◌, ◌++◌, length, Option, None, refl, sym, ap, ◌∙◌, subst, arith, append-nil, add-zero, zero-add}
+use Rattle.std.proofs.Math.Bool.{or-false, and_comm, and-true, or_comm}
+use Rattle.std.proofs.lemmas.Bool.{cond_both}
+use Rattle.std.proofs.lemmas.List.{length-map}
 use Rattle.least_table.proofs.Stores.{within-whole}
 use Rattle.ipnet_blocks.specs.BitStrings.{begins}
 use Rattle.least_table.specs.Tables.{Absent, Gives, half_of}
@@ -8,43 +11,25 @@ use Rattle.least_table.specs.Trees.{inside, within, Tree, Leaf, Fork, Skip, best
 use Rattle.least_table.specs.Laws.{ChainLaw, TreesLaw}
 use Rattle.least_table.proofs.Split.{joined}
 use Rattle.least_table.proofs.Halves.{Gives-joined, Gives-own}
-use Rattle.least_table.proofs.Sets.{same_hop-refl, same_hop-true, one_hop, meets-true, meets-false, Best-leaf, Best-fork, fees, first_of-holds, Stores, Stores-leaf, Stores-joined, Stores-fork, or_false}
+use Rattle.least_table.proofs.Sets.{same_hop-refl, same_hop-true, one_hop, meets-true, meets-false, Best-leaf, Best-fork, fees, first_of-holds, Stores, Stores-leaf, Stores-joined, Stores-fork}
 use Rattle.least_table.proofs.Cuts.{begins_half}
 
 -- ---- one level: a half with one hop beside any half
 
-and_one : (u v : Bool) → (v ≡ true → u ≡ true) → (v || false) ≡ (u && (v || false))
-and_one true v f = refl
+and_one : (u v : Bool) → (v ≡ true → u ≡ true) → (v || false) ≡ ((v || false) && u)
+and_one true v f = sym (and-true (v || false))
 and_one false true f = absurd (let e = f refl in cc)
 and_one false false f = refl
 
-or_comm : (u v : Bool) → (v || u) ≡ (u || (v || false))
-or_comm true true = refl
-or_comm true false = refl
-or_comm false true = refl
-or_comm false false = refl
-
-and_comm : (u v : Bool) → (u && v) ≡ (v && u)
-and_comm true true = refl
-and_comm true false = refl
-and_comm false true = refl
-and_comm false false = refl
-
-or_swap : (u v : Bool) → (u || v) ≡ (v || u)
-or_swap true true = refl
-or_swap true false = refl
-or_swap false true = refl
-or_swap false false = refl
-
 meets_one : (k : Option ℕ) (hops : List (Option ℕ)) → meets (k ∷ []) hops ≡ holds hops k
-meets_one k hops = or_false (holds hops k)
+meets_one k hops = or-false (holds hops k)
 
 merged_left : (k : Option ℕ) (hops : List (Option ℕ)) → AreMerged (k ∷ []) hops (cond (holds hops k) (k ∷ []) (k ∷ hops))
 merged_left k hops j = go (holds hops k) refl
   where
     go : (c : Bool) → holds hops k ≡ c → holds (cond c (k ∷ []) (k ∷ hops)) j ≡ cond (meets (k ∷ []) hops) (holds (k ∷ []) j && holds hops j) (holds (k ∷ []) j || holds hops j)
-    go true e = rw (meets_one k hops, e) (and_one (holds hops j) (same_hop j k) (λ f. ap (holds hops) (same_hop-true j k f) ∙ e) ∙ and_comm (holds hops j) (same_hop j k || false))
-    go false e = rw (meets_one k hops, e) (or_comm (holds hops j) (same_hop j k) ∙ or_swap (holds hops j) (same_hop j k || false))
+    go true e = rw (meets_one k hops, e) (and_one (holds hops j) (same_hop j k) (λ f. ap (holds hops) (same_hop-true j k f) ∙ e))
+    go false e = rw (meets_one k hops, e) (ap (λ u. u || holds hops j) (sym (or-false (same_hop j k))))
 
 -- whether two lists meet does not depend on their order
 meets_swap : (as' bs : List (Option ℕ)) → meets as' bs ≡ meets bs as'
@@ -57,7 +42,7 @@ meets_swap as' bs = go (meets as' bs) (meets bs as') refl refl
     go false true e f = let j = meets-true bs as' f in absurd (meets-false as' bs e j.0 j.2 j.1)
 
 pub merged_swap : (as' bs cs : List (Option ℕ)) → AreMerged as' bs cs → AreMerged bs as' cs
-merged_swap as' bs cs m j = m j ∙ rw (meets_swap as' bs, and_comm (holds as' j) (holds bs j), or_swap (holds as' j) (holds bs j)) refl
+merged_swap as' bs cs m j = m j ∙ rw (meets_swap as' bs, and_comm (holds as' j) (holds bs j), or_comm (holds as' j) (holds bs j)) refl
 
 -- one level
 pub Best-level : (b : Bool) (w : ℕ) (h : List Bool → Option ℕ) (k : Option ℕ) (hops : List (Option ℕ)) (m : ℕ) → AreBest w (half_of b h) hops m
@@ -87,11 +72,7 @@ pub other_half : (b : Bool) (ds : List Bool) (v : ℕ) (h : List Bool → Option
 other_half b ds v h k one x e = one (not b ∷ x) (omega (arith, e)) (begins_other b ds x)
 
 chain_holds : (k : Option ℕ) (hops : List (Option ℕ)) (c : Bool) (ds : List Bool) → holds (chain_hops k hops (c ∷ ds)) k ≡ true
-chain_holds k hops c [] = go (holds hops k)
-  where
-    go : (u : Bool) → holds (cond u (k ∷ []) (k ∷ hops)) k ≡ true
-    go true = rw (same_hop-refl k) refl
-    go false = rw (same_hop-refl k) refl
+chain_holds k hops c [] = cond_both (holds hops k) (k ∷ []) (k ∷ hops) (λ ks. holds ks k ≡ true) (λ e. rw (same_hop-refl k) refl) (λ e. rw (same_hop-refl k) refl)
 chain_holds k hops c (d ∷ ds) = rw (same_hop-refl k) refl
 
 pub chain_law : ChainLaw
@@ -146,8 +127,7 @@ within_half b ds [] = refl
 within_half b ds (r ∷ t) = ap (λ u. (b ∷ ds ++ r.0, r.1) ∷ u) (within_half b ds t)
 
 length_within : (ds : List Bool) (t : List (List Bool × Option ℕ)) → length (within ds t) ≡ length t
-length_within ds [] = refl
-length_within ds (r ∷ t) = ap suc (length_within ds t)
+length_within ds t = length-map t (λ r. (ds ++ r.0, r.1))
 
 Gives-within : (ds : List Bool) (v : ℕ) (h : List Bool → Option ℕ) (k : Option ℕ) (t : List (List Bool × Option ℕ)) → Gives v (inner_of ds h) k t → OneOutside (length ds + v) h ds k → Gives (length ds + v) h k (within ds t)
 Gives-within [] v h k t g one = rw (zero-add, within-whole t) g

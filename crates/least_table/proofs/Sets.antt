@@ -9,10 +9,6 @@ use Rattle.least_table.specs.Laws.{SetsLaw}
 use Rattle.least_table.proofs.Split.{joined, length-joined, Absent-joined}
 use Rattle.least_table.proofs.Halves.{Gives-joined, Gives-own, from_lesser}
 
-pub or_false : (u : Bool) → (u || false) ≡ u
-or_false true = refl
-or_false false = refl
-
 pub same_hop-refl : (k : Option ℕ) → same_hop k k ≡ true
 same_hop-refl None = refl
 same_hop-refl (Some n) = eq-eqb n n refl

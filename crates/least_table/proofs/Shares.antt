@@ -1,6 +1,7 @@
 -- Pieces whose strings have their first bits in common.
-use Rattle.std.proofs.Common.{◌≡◌, ℕ, zero, suc, ◌+◌, ◌-◌, ◌≤◌, Bool, true, false, List, [], ◌∷◌, ◌++◌, length, take, drop, Some, None, refl, sym, ap, ap₂, ◌∙◌, subst, arith, slice_get}
+use Rattle.std.proofs.Common.{◌≡◌, ℕ, suc, ◌+◌, ◌-◌, ◌≤◌, Bool, true, false, List, [], ◌∷◌, ◌++◌, length, take, drop, Some, None, refl, sym, ap, ap₂, ◌∙◌, subst, arith, slice_get}
 use Rattle.std.specs.Prelude.{⊤}
+use Rattle.std.proofs.lemmas.List.{drop-drop}
 use Rattle.ipnet_blocks.specs.BitStrings.{begins}
 use Rattle.ipnet_blocks.proofs.BitStrings.{begins-under, begun_rest}
 use Rattle.least_table.specs.Pieces.{hop_at}
@@ -43,17 +44,6 @@ abbrev pub AllShare : List Bool → List (List Bool × ℕ) → Type 0
 AllShare ds [] = ⊤
 AllShare ds (p ∷ ps) = (begins ds p.0 ≡ true) × AllShare ds ps
 
-drop_more : (s : List Bool) (d n : ℕ) → drop n (drop d s) ≡ drop (d + n) s
-drop_more s zero n = let e : 0 + n ≡ n = omega arith in rw e refl
-drop_more [] (suc d) n = nothing n (suc d + n)
-  where
-    nothing : (m k : ℕ) → drop {A = Bool} m [] ≡ drop k []
-    nothing zero zero = refl
-    nothing zero (suc k) = refl
-    nothing (suc m) zero = refl
-    nothing (suc m) (suc k) = refl
-drop_more (x ∷ s) (suc d) n = let e : suc d + n ≡ suc (d + n) = omega arith in rw e (drop_more s d n)
-
 before_append : (ds a b : List Bool) → before (ds ++ a) (ds ++ b) ≡ before a b
 before_append [] a b = refl
 before_append (x ∷ ds) a b = before_half (ds ++ a) (ds ++ b) x ∙ before_append ds a b
@@ -71,7 +61,7 @@ last_step p q ps = let z : suc (suc (length ps)) - 1 ≡ suc (suc (length ps) - 
 
 module _ {B : Type 0} (string : B → List Bool) (ds : List Bool) (d : ℕ) where
   parts : (s : List Bool) → begins ds (drop d s) ≡ true → drop d s ≡ ds ++ drop (d + length ds) s
-  parts s e = sym (begun_rest ds (drop d s) e) ∙ ap (λ t. ds ++ t) (drop_more s d (length ds))
+  parts s e = sym (begun_rest ds (drop d s) e) ∙ ap (λ t. ds ++ t) (drop-drop (length ds) d s)
 
   -- no hop outside
   pub none_outside : (ps : List (B × ℕ)) → AllShare ds (beyond string d ps) → (x : List Bool) → begins ds x ≡ false → hop_at (beyond string d ps) x ≡ None

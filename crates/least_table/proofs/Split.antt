@@ -1,6 +1,7 @@
 -- A table as the routes at the empty block and the tables of the two halves.
 use Rattle.std.proofs.Common.{◌≡◌, ℕ, suc, ◌+◌, Bool, true, false, cond, List, [], ◌∷◌, ◌++◌, length, nat_lt, Option, Some, None, refl, ap, ◌∙◌, arith, inl, inr, length-append}
 use Rattle.std.proofs.lemmas.Bool.{ltb-true, ltb-false, lt-ltb, le-ltb, cases_Bool}
+use Rattle.std.proofs.lemmas.List.{length-map}
 use Rattle.ipnet_blocks.specs.BitStrings.{begins}
 use Rattle.least_table.specs.Tables.{Absent, IsTable, longer, longest, hop_of, hop_under}
 use Rattle.least_table.specs.Trees.{inside}
@@ -163,8 +164,7 @@ own_count-absent (([], k) ∷ t) h = absurd (h.0 refl)
 own_count-absent ((b ∷ c, k) ∷ t) h = own_count-absent t h.1
 
 length-inside : (b : Bool) (t : List (List Bool × Option ℕ)) → length (inside b t) ≡ length t
-length-inside b [] = refl
-length-inside b (r ∷ t) = ap suc (length-inside b t)
+length-inside b t = length-map t (λ r. (b ∷ r.0, r.1))
 
 pub length-joined : (l r : List (List Bool × Option ℕ)) → length (joined l r) ≡ length l + length r
 length-joined l r = omega (arith, length-append (inside false l) (inside true r), length-inside false l, length-inside true r)

@@ -1,6 +1,6 @@
 -- What the routes of the halves are as routes of the whole.
-use Rattle.std.proofs.Common.{◌≡◌, ℕ, Bool, true, false, List, [], ◌∷◌, ◌++◌, Option, refl, sym, ap, ap₂, ◌∙◌, append_assoc, Result, Ok, Err, IfOk}
-use Rattle.std.proofs.lemmas.List.{map-append}
+use Rattle.std.proofs.Common.{◌≡◌, ℕ, Bool, true, false, List, [], ◌∷◌, ◌++◌, Option, refl, sym, ap₂, ◌∙◌, append_assoc, Result, Ok, Err, IfOk}
+use Rattle.std.proofs.lemmas.List.{map-append, map-id}
 use Rattle.least_table.specs.Trees.{inside, within}
 
 within-inside : (b : List Bool) (c : Bool) (t : List (List Bool × Option ℕ)) → within b (inside c t) ≡ within (b ++ c ∷ []) t
@@ -11,8 +11,7 @@ pub within-halves : (b : List Bool) (l r : List (List Bool × Option ℕ)) → w
 within-halves b l r = map-append _ (inside false l) (inside true r) ∙ ap₂ (λ x y. x ++ y) (within-inside b false l) (within-inside b true r)
 
 pub within-whole : (t : List (List Bool × Option ℕ)) → within [] t ≡ t
-within-whole [] = refl
-within-whole (r ∷ t) = ap (λ y. r ∷ y) (within-whole t)
+within-whole = map-id
 
 pub if_ok_map : {T E : Type 0} {P Q : T → Type 0} (r : Result T E) → ((x : T) → P x → Q x) → IfOk r P → IfOk r Q
 if_ok_map (Ok x) f p = f x p
