@@ -2,14 +2,14 @@
 use Rattle.std.proofs.Common.{◌≡◌, ℕ, suc, ◌+◌, ◌<◌, inl, inr, Bool, true, false, cond, not, ◌&&◌, ◌||◌, List, [], ◌∷◌, ◌++◌, length, Option, None, refl, sym, ap, ◌∙◌, subst, arith, append-nil, add-zero, zero-add}
 use Rattle.std.proofs.Math.Bool.{or-false, and_comm, and-true, or_comm}
 use Rattle.std.proofs.lemmas.Bool.{cond_both}
-use Rattle.std.proofs.lemmas.List.{length-map}
+use Rattle.std.proofs.lemmas.List.{length-map, length-append}
 use Rattle.least_table.proofs.Stores.{within-whole}
 use Rattle.ipnet_blocks.specs.BitStrings.{begins}
 use Rattle.least_table.specs.Tables.{Absent, Gives, half_of}
 use Rattle.least_table.specs.HopSets.{same_hop, holds, meets, AreMerged, AreBest, fee, first_of}
 use Rattle.least_table.specs.Trees.{inside, within, Tree, Leaf, Fork, Skip, best, OneOutside, inner_of, CanSkip, IsPlan, routes_of, chain_hops, chain_fee}
 use Rattle.least_table.specs.Laws.{ChainLaw, TreesLaw}
-use Rattle.least_table.proofs.Split.{joined}
+use Rattle.least_table.proofs.Split.{joined, Absent-map}
 use Rattle.least_table.proofs.Halves.{Gives-joined, Gives-own}
 use Rattle.least_table.proofs.Sets.{same_hop-refl, same_hop-true, one_hop, meets-true, meets-false, Best-leaf, Best-fork, fees, first_of-holds, Stores, Stores-leaf, Stores-joined, Stores-fork}
 use Rattle.least_table.proofs.Cuts.{begins_half}
@@ -139,13 +139,8 @@ Gives-within (false ∷ ds) v h k t g one =
     let u : joined (within ds t) [] ≡ within (false ∷ ds) t = append-nil (inside false (within ds t)) ∙ sym (within_half false ds t) in
     rw (← u, ← one_more (length ds) v) (Gives-joined n h k (within ds t) [] (Gives-within ds v (half_of false h) k t g (outside_half false ds v h k one)) (one_hop n (half_of true h) k (other_half false ds v h k one)))
 
-Absent-within : (b : Bool) (ds : List Bool) (t : List (List Bool × Option ℕ)) → Absent [] (within (b ∷ ds) t)
-Absent-within b ds [] = tt
-Absent-within b ds (r ∷ t) = ((λ e. cc), Absent-within b ds t)
-
 absent : (ds : List Bool) (t : List (List Bool × Option ℕ)) → 0 < length ds → Absent [] (within ds t)
-absent [] t l = absurd (omega (arith, l))
-absent (b ∷ ds) t l = Absent-within b ds t
+absent ds t l = Absent-map (λ r. (ds ++ r.0, r.1)) [] t (λ r e. absurd (omega (arith, length-append ds r.0, ap length e, l)))
 
 Stores-skip : (ds : List Bool) (v : ℕ) (h : List Bool → Option ℕ) (k s : Option ℕ) (t : List (List Bool × Option ℕ)) (m : ℕ) → 0 < length ds → OneOutside (length ds + v) h ds k → Stores v (inner_of ds h) k t m
     → Stores (length ds + v) h s (cond (same_hop s k) (within ds t) (([], k) ∷ within ds t)) (m + fee (holds (k ∷ []) s))

@@ -95,44 +95,7 @@ take_left o u v w = ap (λ z. o || z) (or_assoc u v w) ∙ sym (or_assoc o u (v 
 take_right : (o u v w : Bool) → (o || (v || (u || w))) ≡ ((o || u) || (v || w))
 take_right o u v w = ap (λ z. o || z) (sym (or_assoc v u w) ∙ ap (λ z. z || w) (or_comm v u)) ∙ take_left o u v w
 
-module _ (low high out : List (Option ℕ)) (x y : Option ℕ) (xs ys : List (Option ℕ)) where
-  common_low : is_less x y ≡ true → CommonLeft low high out (x ∷ xs) (y ∷ ys) → CommonLeft low high out xs (y ∷ ys)
-  common_low e h = record {
-    low_rises = skip_rises x out xs h.low_rises;
-    high_rises = h.high_rises;
-    same = λ k. h.same k ∙ drop_left (holds out k) (same_hop k x) (holds xs k) (holds (y ∷ ys) k) (lesser_out x y k ys e (rest_rises out (y ∷ ys) h.high_rises).0);
-  }
-
-  common_high : is_less y x ≡ true → CommonLeft low high out (x ∷ xs) (y ∷ ys) → CommonLeft low high out (x ∷ xs) ys
-  common_high e h = record {
-    low_rises = h.low_rises;
-    high_rises = skip_rises y out ys h.high_rises;
-    same = λ k. h.same k ∙ drop_right (holds out k) (same_hop k y) (holds (x ∷ xs) k) (holds ys k) (lesser_out y x k xs e (rest_rises out (x ∷ xs) h.low_rises).0);
-  }
-
-  common_both : x ≡ y → CommonLeft low high out (x ∷ xs) (y ∷ ys) → CommonLeft low high (out ++ x ∷ []) xs ys
-  common_both e h = record {
-    low_rises = pushed out xs x h.low_rises;
-    high_rises = pushed out ys x (subst (λ z. IsRising (out ++ z ∷ ys)) (sym e) h.high_rises);
-    same = λ k. subst (λ z. (holds low k && holds high k) ≡ (holds out k || (holds (x ∷ xs) k && holds (z ∷ ys) k))) (sym e) (h.same k)
-        ∙ take_both (holds out k) (same_hop k x) (holds xs k) (holds ys k) ∙ ap (λ u. u || (holds xs k && holds ys k)) (sym (holds_pushed out x k));
-  }
-
-  all_low : is_less x y ≡ true → AllLeft low high out (x ∷ xs) (y ∷ ys) → AllLeft low high (out ++ x ∷ []) xs (y ∷ ys)
-  all_low e h = record {
-    low_rises = pushed out xs x h.low_rises;
-    high_rises = pushed out (y ∷ ys) x (insert_rises x y out xs ys e h.low_rises h.high_rises);
-    same = λ k. h.same k ∙ take_left (holds out k) (same_hop k x) (holds xs k) (holds (y ∷ ys) k) ∙ ap (λ u. u || (holds xs k || holds (y ∷ ys) k)) (sym (holds_pushed out x k));
-  }
-
-  all_high : is_less y x ≡ true → AllLeft low high out (x ∷ xs) (y ∷ ys) → AllLeft low high (out ++ y ∷ []) (x ∷ xs) ys
-  all_high e h = record {
-    low_rises = pushed out (x ∷ xs) y (insert_rises y x out ys xs e h.high_rises h.low_rises);
-    high_rises = pushed out ys y h.high_rises;
-    same = λ k. h.same k ∙ take_right (holds out k) (same_hop k y) (holds (x ∷ xs) k) (holds ys k) ∙ ap (λ u. u || (holds (x ∷ xs) k || holds ys k)) (sym (holds_pushed out y k));
-  }
-
--- ---- the same over slices
+-- ---- the steps of a merge
 
 abbrev pub head : List (Option ℕ) → Option ℕ
 head a = slice_index_or a 0 None
@@ -147,31 +110,48 @@ pub tail_short : (a : List (Option ℕ)) → 0 < length a → length (tail a) + 
 tail_short [] l = absurd (omega (arith, l))
 tail_short (x ∷ xs) l = rw (tail_cons x xs) (omega arith)
 
-module _ (low high out a b : List (Option ℕ)) (la : 0 < length a) (lb : 0 < length b) where
-  cons : (c : List (Option ℕ)) → 0 < length c → c ≡ head c ∷ tail c
-  cons [] l = absurd (omega (arith, l))
-  cons (x ∷ xs) l = ap (λ u. x ∷ u) (sym (tail_cons x xs))
+-- of two lists with a first hop
+both_cons : (P : List (Option ℕ) → List (Option ℕ) → Type 0) → ((x y : Option ℕ) (xs ys : List (Option ℕ)) → P (x ∷ xs) (y ∷ ys)) → (a b : List (Option ℕ)) → 0 < length a → 0 < length b → P a b
+both_cons P f [] b la lb = absurd (omega (arith, la))
+both_cons P f (x ∷ xs) [] la lb = absurd (omega (arith, lb))
+both_cons P f (x ∷ xs) (y ∷ ys) la lb = f x y xs ys
 
-  opened : CommonLeft low high out a b → CommonLeft low high out (head a ∷ tail a) (head b ∷ tail b)
-  opened h = subst (λ c. CommonLeft low high out (head a ∷ tail a) c) (cons b lb) (subst (λ c. CommonLeft low high out c b) (cons a la) h)
+module _ (low high out : List (Option ℕ)) where
+  pub step_common_low : (a b : List (Option ℕ)) → 0 < length a → 0 < length b → is_less (head a) (head b) ≡ true → CommonLeft low high out a b → CommonLeft low high out (tail a) b
+  step_common_low = both_cons (λ a b. is_less (head a) (head b) ≡ true → CommonLeft low high out a b → CommonLeft low high out (tail a) b) (λ x y xs ys e h. rw (tail_cons x xs) (record {
+    low_rises = skip_rises x out xs h.low_rises;
+    high_rises = h.high_rises;
+    same = λ k. h.same k ∙ drop_left (holds out k) (same_hop k x) (holds xs k) (holds (y ∷ ys) k) (lesser_out x y k ys e (rest_rises out (y ∷ ys) h.high_rises).0);
+  }))
 
-  opened_all : AllLeft low high out a b → AllLeft low high out (head a ∷ tail a) (head b ∷ tail b)
-  opened_all h = subst (λ c. AllLeft low high out (head a ∷ tail a) c) (cons b lb) (subst (λ c. AllLeft low high out c b) (cons a la) h)
+  pub step_common_high : (a b : List (Option ℕ)) → 0 < length a → 0 < length b → is_less (head b) (head a) ≡ true → CommonLeft low high out a b → CommonLeft low high out a (tail b)
+  step_common_high = both_cons (λ a b. is_less (head b) (head a) ≡ true → CommonLeft low high out a b → CommonLeft low high out a (tail b)) (λ x y xs ys e h. rw (tail_cons y ys) (record {
+    low_rises = h.low_rises;
+    high_rises = skip_rises y out ys h.high_rises;
+    same = λ k. h.same k ∙ drop_right (holds out k) (same_hop k y) (holds (x ∷ xs) k) (holds ys k) (lesser_out y x k xs e (rest_rises out (x ∷ xs) h.low_rises).0);
+  }))
 
-  pub step_common_low : is_less (head a) (head b) ≡ true → CommonLeft low high out a b → CommonLeft low high out (tail a) b
-  step_common_low e h = subst (λ c. CommonLeft low high out (tail a) c) (sym (cons b lb)) (common_low low high out (head a) (head b) (tail a) (tail b) e (opened h))
+  pub step_common_both : (a b : List (Option ℕ)) → 0 < length a → 0 < length b → is_less (head a) (head b) ≡ false → is_less (head b) (head a) ≡ false → CommonLeft low high out a b → CommonLeft low high (out ++ head a ∷ []) (tail a) (tail b)
+  step_common_both = both_cons (λ a b. is_less (head a) (head b) ≡ false → is_less (head b) (head a) ≡ false → CommonLeft low high out a b → CommonLeft low high (out ++ head a ∷ []) (tail a) (tail b)) (λ x y xs ys e f h. rw (tail_cons x xs, tail_cons y ys) (record {
+    low_rises = pushed out xs x h.low_rises;
+    high_rises = pushed out ys x (subst (λ z. IsRising (out ++ z ∷ ys)) (sym (neither x y e f)) h.high_rises);
+    same = λ k. subst (λ z. (holds low k && holds high k) ≡ (holds out k || (holds (x ∷ xs) k && holds (z ∷ ys) k))) (sym (neither x y e f)) (h.same k)
+        ∙ take_both (holds out k) (same_hop k x) (holds xs k) (holds ys k) ∙ ap (λ u. u || (holds xs k && holds ys k)) (sym (holds_pushed out x k));
+  }))
 
-  pub step_common_high : is_less (head b) (head a) ≡ true → CommonLeft low high out a b → CommonLeft low high out a (tail b)
-  step_common_high e h = subst (λ c. CommonLeft low high out c (tail b)) (sym (cons a la)) (common_high low high out (head a) (head b) (tail a) (tail b) e (opened h))
+  pub step_all_low : (a b : List (Option ℕ)) → 0 < length a → 0 < length b → is_less (head a) (head b) ≡ true → AllLeft low high out a b → AllLeft low high (out ++ head a ∷ []) (tail a) b
+  step_all_low = both_cons (λ a b. is_less (head a) (head b) ≡ true → AllLeft low high out a b → AllLeft low high (out ++ head a ∷ []) (tail a) b) (λ x y xs ys e h. rw (tail_cons x xs) (record {
+    low_rises = pushed out xs x h.low_rises;
+    high_rises = pushed out (y ∷ ys) x (insert_rises x y out xs ys e h.low_rises h.high_rises);
+    same = λ k. h.same k ∙ take_left (holds out k) (same_hop k x) (holds xs k) (holds (y ∷ ys) k) ∙ ap (λ u. u || (holds xs k || holds (y ∷ ys) k)) (sym (holds_pushed out x k));
+  }))
 
-  pub step_common_both : is_less (head a) (head b) ≡ false → is_less (head b) (head a) ≡ false → CommonLeft low high out a b → CommonLeft low high (out ++ head a ∷ []) (tail a) (tail b)
-  step_common_both e f h = common_both low high out (head a) (head b) (tail a) (tail b) (neither (head a) (head b) e f) (opened h)
-
-  pub step_all_low : is_less (head a) (head b) ≡ true → AllLeft low high out a b → AllLeft low high (out ++ head a ∷ []) (tail a) b
-  step_all_low e h = subst (λ c. AllLeft low high (out ++ head a ∷ []) (tail a) c) (sym (cons b lb)) (all_low low high out (head a) (head b) (tail a) (tail b) e (opened_all h))
-
-  pub step_all_high : is_less (head b) (head a) ≡ true → AllLeft low high out a b → AllLeft low high (out ++ head b ∷ []) a (tail b)
-  step_all_high e h = subst (λ c. AllLeft low high (out ++ head b ∷ []) c (tail b)) (sym (cons a la)) (all_high low high out (head a) (head b) (tail a) (tail b) e (opened_all h))
+  pub step_all_high : (a b : List (Option ℕ)) → 0 < length a → 0 < length b → is_less (head b) (head a) ≡ true → AllLeft low high out a b → AllLeft low high (out ++ head b ∷ []) a (tail b)
+  step_all_high = both_cons (λ a b. is_less (head b) (head a) ≡ true → AllLeft low high out a b → AllLeft low high (out ++ head b ∷ []) a (tail b)) (λ x y xs ys e h. rw (tail_cons y ys) (record {
+    low_rises = pushed out (x ∷ xs) y (insert_rises y x out ys xs e h.high_rises h.low_rises);
+    high_rises = pushed out ys y h.high_rises;
+    same = λ k. h.same k ∙ take_right (holds out k) (same_hop k y) (holds (x ∷ xs) k) (holds ys k) ∙ ap (λ u. u || (holds (x ∷ xs) k || holds ys k)) (sym (holds_pushed out y k));
+  }))
 
 pub common_begin : (low high out : List (Option ℕ)) → out ≡ [] → IsRising low → IsRising high → CommonLeft low high out low high
 common_begin low high out e h k = rw e (record { low_rises = h; high_rises = k; same = λ j. refl })
