@@ -12,10 +12,10 @@ use Rattle.least_table.specs.HopSets.{AreMerged}
 use Rattle.least_table.specs.InnerSteps.{step_best}
 use Rattle.least_table.specs.InnerPlans.{Plan, top, tree_of, IsMade, between, Fits}
 use Rattle.least_table.specs.InnerPlans as plans
-use Rattle.least_table.proofs.Cuts.{hop_at-low, hop_at-high, first_of_all}
+use Rattle.least_table.proofs.Cuts.{first_of_all}
 use Rattle.least_table.proofs.Growths.{best_of_tree, length_between, skip_plan}
 use Rattle.ipnet_blocks.proofs.BitStrings.{take_begins}
-use Rattle.least_table.proofs.Shares.{AllShare, none_outside, hop_inside, all_share, shared_right, shared_short, last_step, ascending_deeper}
+use Rattle.least_table.proofs.Shares.{AllShare, none_outside, hop_inside, all_share, shared_right, shared_short, last_step, ascending_deeper, hop_at-low, hop_at-high}
 
 pub plan_same : (w : ℕ) (h g : List Bool → Option ℕ) (t : Tree) → ((x : List Bool) → h x ≡ g x) → IsPlan w g t → IsPlan w h t
 plan_same w h g (Leaf k) e plan = λ x l. e x ∙ plan x l
