@@ -1,5 +1,6 @@
 -- Which hops an added route changes, and one that is taken out.
-use Rattle.std.proofs.Common.{◌≡◌, ◌≢◌, ◌<◌, ◌⊎◌, ◌↔◌, inl, inr, ⊎_elim, Bool, true, false, cond, List, [], Option, Some, None, filter, refl, sym, ap, ◌∙◌, subst, arith, Contains}
+use Rattle.std.proofs.Common.{◌≡◌, ◌≢◌, ◌⊎◌, ◌↔◌, inl, inr, ⊎_elim, true, false, cond, List, [], Option, Some, None, filter, refl, sym, ap, ◌∙◌, subst, arith, Contains}
+use Rattle.std.proofs.lemmas.Bool.{cases_Bool, cond-true, cond-false}
 use Rattle.ipnet_addr.specs.Addresses.{Family, Address, IsAddress, same_family}
 use Rattle.ipnet_blocks.specs.Blocks.{Block, IsBlock, HasAddress, is_inside, same_block, host}
 use Rattle.ipnet_blocks.specs.Maximal.{IsMaximal, maximal_of}
@@ -111,15 +112,14 @@ module _ (M : List Route) (m : IsTable M) where
 
     -- the match of an address stays; or it is the route, whose block governs the address
     pub added_match : (x : Address) → IsAddress x → (match_of (with_route M r) (host x) ≡ match_of M (host x)) ⊎ (Governed M r.block x × (match_of (with_route M r) (host x) ≡ Some r))
-    added_match x a = go (is_inside (host x) r.block) (longer_cases r (match_of M (host x))) (match_after_add M r (host x) m new (host_is_block x a))
-      where
-        go : (b : Bool) → (longer r (match_of M (host x)) ≡ r) ⊎ ((Some (longer r (match_of M (host x))) ≡ match_of M (host x)) × (Block.len r.block < Block.len (Route.block (longer r (match_of M (host x)))))) →
-            match_of (with_route M r) (host x) ≡ cond b (Some (longer r (match_of M (host x)))) (match_of M (host x)) → (match_of (with_route M r) (host x) ≡ match_of M (host x)) ⊎ (Governed M r.block x × (match_of (with_route M r) (host x) ≡ Some r))
-        go false t e = inl e
-        go true (inr t) e = inl (e ∙ t.0)
-        go true (inl q) e =
-            let f : match_of (with_route M r) (host x) ≡ Some r = e ∙ ap (λ (s : Route). Some s) q in
-            inr ((governed_after M r m ok x).0 (governed_by_match (with_route M r) new r.block ok x a r f refl), f)
+    added_match x a =
+        let m' = match_after_add M r (host x) m new (host_is_block x a) in
+        ⊎_elim
+        (λ b. let e = m' ∙ cond-true (is_inside (host x) r.block) (Some (longer r (match_of M (host x)))) (match_of M (host x)) b in ⊎_elim
+        (λ q. let f : match_of (with_route M r) (host x) ≡ Some r = e ∙ ap (λ (s : Route). Some s) q in inr ((governed_after M r m ok x).0 (governed_by_match (with_route M r) new r.block ok x a r f refl), f))
+        (λ t. inl (e ∙ t.0)) (longer_cases r (match_of M (host x))))
+        (λ b. inl (m' ∙ cond-false (is_inside (host x) r.block) (Some (longer r (match_of M (host x)))) (match_of M (host x)) b))
+        (cases_Bool (is_inside (host x) r.block))
 
     pub added_change : IsChange M (with_route M r) r.block
     added_change = record { table = new; others = added_same M m r ok; stays = λ x a. ⊎_elim (λ e. inl e) (λ t. inr t.0) (added_match x a) }

@@ -14,15 +14,11 @@ use Rattle.route_laws.specs.Tables.{Route, hop_at, match_number, match_of}
 use Rattle.route_laws.proofs.Insides.{within, within_gives, sound, few, joined_table, joined_first, joined_second}
 
 -- tables with equal hops have the same least tables
-module _ (g h : Address → Option ℕ) (same : (x : Address) → IsAddress x → g x ≡ h x) where
-  hops_too : (N : List Route) → HasHops g N → HasHops h N
-  hops_too N k = record { table = k.table; same = λ x a. k.same x a ∙ same x a }
+hops_moved : (g h : Address → Option ℕ) → ((x : Address) → IsAddress x → g x ≡ h x) → (N : List Route) → HasHops g N → HasHops h N
+hops_moved g h same N k = record { table = k.table; same = λ x a. k.same x a ∙ same x a }
 
-  hops_back : (N : List Route) → HasHops h N → HasHops g N
-  hops_back N k = record { table = k.table; same = λ x a. k.same x a ∙ sym (same x a) }
-
-  pub least_too : (N : List Route) → IsLeast g N → IsLeast h N
-  least_too N k = record { hops = hops_too N k.hops; fewest = λ L l. k.fewest L (hops_back L l) }
+pub least_too : (g h : Address → Option ℕ) → ((x : Address) → IsAddress x → g x ≡ h x) → (N : List Route) → IsLeast g N → IsLeast h N
+least_too g h same N k = record { hops = hops_moved g h same N k.hops; fewest = λ L l. k.fewest L (hops_moved h g (λ x a. sym (same x a)) L l) }
 
 families_apart : Ipv4 ≡ Ipv6 → ⊥
 families_apart e = let r = ap rank e in absurd (omega arith)

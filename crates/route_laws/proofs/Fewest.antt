@@ -34,24 +34,20 @@ module _ (b : Block) (ok : IsBlock b) where
   abbrev Headed : List Route → Type 0
   Headed M = (Strict b M) ⊎ ((r : Route) × (N : List Route) × (M ≡ r ∷ N) × (r.block ≡ b) × Strict b N)
 
-  larger_of : (c : Block) → IsBlock c → IsInside c b → (b ≡ c → ⊥) → IsLarger b c
-  larger_of c p i n = (i, λ k. n (same_sets b c ok p k i))
-
   headed : (M : List Route) → IsTable M → ((r : Route) → In r M → IsInside r.block b) → Headed M
   headed [] t lies = inl (λ r i. absurd i)
-  headed (r ∷ N) t lies = ⊎_elim (λ e. inr (r, N, refl, e, after e)) (λ n. inl (all n)) (same_or_not r.block b)
+  headed (r ∷ N) t lies = ⊎_elim
+      (λ e. inr (r, N, refl, e, λ q i. inner q (inr i) (λ f. before_apart r.block q.block (up.0 q i) (e ∙ f))))
+      (λ n. let l = inner r (inl refl) (λ f. n (sym f)) in inl (λ q i. ⊎_elim
+      (λ e. subst (λ (s : Route). IsLarger b s.block) (sym e) l)
+      (λ j. inner q (inr j) (λ f. strict r.block q.block (up.0 q j) (subst (λ (c : Block). IsBefore c r.block) f (before_inner b r.block ok (sound (r ∷ N) t r (inl refl)).0 l)))) i))
+      (same_or_not r.block b)
     where
       up : Rising Sooner (r ∷ N)
       up = rising (r ∷ N) t
 
-      after : r.block ≡ b → Strict b N
-      after e q i = larger_of q.block (sound (r ∷ N) t q (inr i)).0 (lies q (inr i)) (λ f. before_apart r.block q.block (up.0 q i) (e ∙ f))
-
-      all : (r.block ≡ b → ⊥) → Strict b (r ∷ N)
-      all n q (inl e) = subst (λ (s : Route). IsLarger b s.block) (sym e) (larger_of r.block (sound (r ∷ N) t r (inl refl)).0 (lies r (inl refl)) (λ f. n (sym f)))
-      all n q (inr i) = larger_of q.block (sound (r ∷ N) t q (inr i)).0 (lies q (inr i)) (λ f.
-          let l = before_inner b r.block ok (sound (r ∷ N) t r (inl refl)).0 (larger_of r.block (sound (r ∷ N) t r (inl refl)).0 (lies r (inl refl)) (λ g. n (sym g))) in
-          strict r.block q.block (up.0 q i) (subst (λ (c : Block). IsBefore c r.block) f l))
+      inner : (q : Route) → In q (r ∷ N) → (b ≡ q.block → ⊥) → IsLarger b q.block
+      inner q i n = (lies q i, λ k. n (same_sets b q.block ok (sound (r ∷ N) t q i).0 k (lies q i)))
 
   longer_than : (N : List Route) → ((q : Route) → In q N → IsBlock q.block) → Strict b N → (q : Route) → In q N → b.len < Block.len q.block
   longer_than N p k q i = larger_is_shorter b q.block ok (p q i) (k q i)

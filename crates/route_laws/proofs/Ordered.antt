@@ -1,5 +1,5 @@
 -- Lists of things at blocks, ascending by these: one put in the place of any other of its block, or taken out.
-use Rattle.std.proofs.Common.{◌≡◌, ◌⊎◌, ◌<◌, arith, inl, inr, ⊎_elim, Bool, true, not, List, [], ◌∷◌, ◌++◌, filter, map, sym, refl, ap, ◌∙◌, subst}
+use Rattle.std.proofs.Common.{◌≡◌, ◌⊎◌, ◌<◌, arith, inl, inr, ⊎_elim, Bool, true, not, List, [], ◌∷◌, ◌++◌, filter, map, sym, refl, ap, ◌∙◌, subst, append-nil, append_assoc}
 use Rattle.std.proofs.lemmas.Bool.{cases_lt, false_from_ne_true, not_from_false}
 use Rattle.ipnet_addr.specs.Addresses.{Address, rank}
 use Rattle.ipnet_addr.proofs.Members.{In, In-left, In-right, In-cases}
@@ -127,3 +127,13 @@ module _ {X : Type 0} (at : X → Block) where
   put_again M x up i = same_rising Earlier (λ y z. strict (at y) (at z)) (put M x) M (put_rises M x up) up
       (λ y j. ⊎_elim (λ e. subst (λ (z : X). In z M) (sym e) i) (λ t. t.0) (put_back M x y j))
       (λ y j. ⊎_elim (λ e. subst (λ (z : X). In z (put M x)) (one_of_block M up x y i j (sym e)) (put_itself M x)) (λ apart. put_other M x y j apart) (same_or_not (at y) (at x)))
+
+-- things put in one after the other, each after all that stand there, stand at the end
+module _ {X Y : Type 0} (at : X → Block) (f : Y → X) (step : List X → Y → List X) (all : List X → List Y → List X)
+    (none : (M : List X) → all M [] ≡ M) (next : (M : List X) (y : Y) (ys : List Y) → all M (y ∷ ys) ≡ all (step M y) ys)
+    (last : (M : List X) (y : Y) → ((x : X) → In x M → IsBefore (at x) (at (f y))) → step M y ≡ M ++ f y ∷ []) where
+  pub each_last : (ys : List Y) (M : List X) → Rising (λ y z. IsBefore (at (f y)) (at (f z))) ys → ((y : Y) → In y ys → (x : X) → In x M → IsBefore (at x) (at (f y))) → all M ys ≡ M ++ map f ys
+  each_last [] M up after = none M ∙ sym (append-nil M)
+  each_last (y ∷ ys) M up after = next M y ys ∙ ap (λ N. all N ys) (last M y (after y (inl refl)))
+      ∙ each_last ys (M ++ f y ∷ []) up.1 (λ z j x i. ⊎_elim (after z (inr j) x) (λ k. ⊎_elim (λ e. subst (λ (u : X). IsBefore (at u) (at (f z))) (sym e) (up.0 z j)) (λ no. absurd no) k) (In-cases x M (f y ∷ []) i))
+      ∙ append_assoc M (f y ∷ []) (map f ys)

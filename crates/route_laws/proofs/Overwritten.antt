@@ -24,12 +24,9 @@ use Rattle.route_laws.proofs.Networks.{routes_with, stored_block, stored_kept}
 use Rattle.route_laws.proofs.Ordered.{Earlier, put, put_back, put_itself, put_other, put_rises, not_cases, not_from}
 use Rattle.route_laws.proofs.Updates.{added_is_table}
 
--- a block is in neither of its halves
-not_in_left : (b : Block) → IsBlock b → 0 < free_bits b → IsInside b (left b) → ⊥
-not_in_left b ok h i = let n = (numbers_from_inside b (left b) ok (left_is_block b ok h) i).long in omega arith
-
-not_in_right : (b : Block) → IsBlock b → 0 < free_bits b → IsInside b (right b) → ⊥
-not_in_right b ok h i = let n = (numbers_from_inside b (right b) ok (right_is_block b ok h) i).long in omega arith
+-- a block is in none that is longer, as its halves are
+not_in_longer : (b c : Block) → IsBlock b → IsBlock c → b.len < c.len → IsInside b c → ⊥
+not_in_longer b c okb okc l i = absurd (omega (arith, l, (numbers_from_inside b c okb okc i).long))
 
 -- a host block has nothing inside but itself
 alone : (b d : Block) → IsBlock b → IsBlock d → free_bits b ≡ 0 → IsInside d b → d ≡ b
@@ -142,7 +139,7 @@ module _ {X : Type 0} (at : X → Block) where
 
       pub over_halves : emptied ≡ over M x
       over_halves = over_is emptied (outside_are (outside (put at M x) (left (at x))) low (right (at x)) okr) back
-          (kept x (put_itself at M x) (not_in_left (at x) ok h) (not_in_right (at x) ok h))
+          (kept x (put_itself at M x) (not_in_longer (at x) (left (at x)) ok okl (omega arith)) (not_in_longer (at x) (right (at x)) ok okr (omega arith)))
           (λ y i out. kept y (put_other at M x y i (λ e. out (inside_itself (at y) (at x) e)))
           (λ l. out (λ z k. left_inside (at x) ok h z (l z k)))
           (λ l. out (λ z k. right_inside (at x) ok h z (l z k))))

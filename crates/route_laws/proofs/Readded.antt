@@ -1,6 +1,6 @@
 -- A table of networks made of the pieces of a flat list.
-use Rattle.std.proofs.Common.{◌≡◌, ℕ, inl, inr, ⊎_elim, List, [], ◌∷◌, ◌++◌, map, Option, refl, sym, ap, ◌∙◌, subst, append-nil, append_assoc, arith}
-use Rattle.ipnet_addr.proofs.Members.{In, In-cases}
+use Rattle.std.proofs.Common.{◌≡◌, ℕ, inl, List, [], ◌∷◌, ◌++◌, map, Option, refl, sym, ap, ◌∙◌, subst, arith}
+use Rattle.ipnet_addr.proofs.Members.{In}
 use Rattle.ipnet_addr.proofs.Ascending.{Rising, Rising-from_pairs}
 use Rattle.ipnet_addr.specs.Addresses.{Address}
 use Rattle.ipnet_blocks.specs.Blocks.{IsBefore}
@@ -14,13 +14,13 @@ use Rattle.route_laws.specs.Fewest.{AreHops}
 use Rattle.route_laws.specs.Flats.{Piece, IsFlat}
 use Rattle.route_laws.specs.Laws.{FlatReadded, ReaddedAreNew}
 use Rattle.route_laws.specs.LeastTables.{HasHops}
-use Rattle.route_laws.specs.Networks.{Stored, IsStoredTable, choices_at, routes_of}
+use Rattle.route_laws.specs.Networks.{Stored, IsStoredTable, choices_at, routes_of, with_choice}
 use Rattle.route_laws.specs.Tables.{hop_at}
 use Rattle.route_laws.proofs.FlatTables.{flat_is_table, sound}
 use Rattle.route_laws.proofs.Flats.{Sooner, flat_moved}
 use Rattle.route_laws.proofs.Listed.{added_last, none_at}
 use Rattle.route_laws.proofs.Networks.{Earlier, IsGood, stored_table_of}
-use Rattle.route_laws.proofs.Ordered.{Rising-map}
+use Rattle.route_laws.proofs.Ordered.{Rising-map, each_last}
 
 abbrev choice_for : Piece → Choice
 choice_for p = record { hop = Number p.number; pref = default_preference }
@@ -29,20 +29,9 @@ choice_for p = record { hop = Number p.number; pref = default_preference }
 abbrev stored_for : Piece → Stored
 stored_for p = record { block = p.block; choices = choice_for p ∷ [] }
 
-abbrev Before : List Stored → Piece → Type 0
-Before T p = (s : Stored) → In s T → IsBefore s.block p.block
-
--- a piece that comes after all networks, and is then one of them
-before_next : (T : List Stored) (p q : Piece) → Before T q → IsBefore p.block q.block → Before (T ++ stored_for p ∷ []) q
-before_next T p q before next s i = ⊎_elim (before s) (λ k. ⊎_elim (λ e. subst (λ (t : Stored). IsBefore t.block q.block) (sym e) next) (λ none. absurd none) k) (In-cases s T (stored_for p ∷ []) i)
-
--- ascending pieces that come after all networks are added at the end
-each_last : (ps : List Piece) (T : List Stored) → Rising Sooner ps → ((p : Piece) → In p ps → Before T p) → with_each T ps ≡ T ++ map stored_for ps
-each_last [] T up after = sym (append-nil T)
-each_last (p ∷ ps) T up after =
-    ap (λ U. with_each U ps) (added_last T p.block (after p (inl refl)) (choice_for p))
-    ∙ each_last ps (T ++ stored_for p ∷ []) up.1 (λ q j. before_next T p q (after q (inr j)) (up.0 q j))
-    ∙ append_assoc T (stored_for p ∷ []) (map stored_for ps)
+-- ascending pieces are added one after the other
+added : (ps : List Piece) → Rising Sooner ps → with_each [] ps ≡ map stored_for ps
+added ps up = each_last Stored.block stored_for (λ T p. with_choice T p.block (choice_for p)) with_each (λ T. refl) (λ T p ps. refl) (λ T p after. added_last T p.block after (choice_for p)) ps [] up (λ p j s i. absurd i)
 
 -- their best routes are the pieces
 best_are : (ps : List Piece) → routes_of (map stored_for ps) ≡ map route_for ps
@@ -54,7 +43,7 @@ module _ (h : Address → Option ℕ) (ps : List Piece) (flat : IsFlat h ps) whe
   up = Rising-from_pairs Sooner ps flat.ascending
 
   pub each_is : with_each [] ps ≡ map stored_for ps
-  each_is = each_last ps [] up (λ p i s j. absurd j)
+  each_is = added ps up
 
   module _ (small : AreHops h) where
     stored : IsStoredTable (map stored_for ps)
@@ -75,5 +64,5 @@ flat_readded h ps small flat =
 pub readded_are_new : ReaddedAreNew
 readded_are_new h front back p flat =
     let up = Rising-from_pairs Sooner (front ++ p ∷ back) flat.ascending in
-    ap (λ T. choices_at T p.block) (each_last front [] (rising_front Sooner front (p ∷ back) up) (λ q i s j. absurd j))
+    ap (λ T. choices_at T p.block) (added front (rising_front Sooner front (p ∷ back) up))
     ∙ none_at (map stored_for front) p.block (λ s i. let t = In-map stored_for front s i in subst (λ (u : Stored). IsBefore u.block p.block) (sym t.2) (rising_cross Sooner front (p ∷ back) up t.0 p t.1 (inl refl)))
