@@ -1,6 +1,6 @@
 -- Operations one after the other, each of which turns addresses that the others leave.
-use Rattle.std.proofs.Common.{◌≡◌, ℕ, inl, inr, Bool, true, false, cond, List, [], ◌∷◌, ◌++◌, Option, refl, sym, ap, ◌∙◌, subst}
-use Rattle.std.proofs.lemmas.Bool.{false_from_ne_true}
+use Rattle.std.proofs.Common.{◌≡◌, ℕ, inl, inr, false, cond, List, [], ◌∷◌, ◌++◌, Option, refl, sym, ap, ◌∙◌, subst, ⊎_elim}
+use Rattle.std.proofs.lemmas.Bool.{false_from_ne_true, cases_Bool}
 use Rattle.std.proofs.lemmas.List.Elements.{All-map}
 use Rattle.ipnet_addr.specs.Addresses.{Address, IsAddress}
 use Rattle.ipnet_addr.proofs.Members.{In}
@@ -79,19 +79,16 @@ module _ (x : Address) (a : IsAddress x) where
 
   pub batch_once : (M rs : List Route) → IsTable M → Changes rs → Rising Apart rs → (h : Option ℕ) × Once x M (batch M rs) h
   batch_once M [] m c u = (hop_at M x, refl)
-  batch_once M (r ∷ rs) m c u = go (has_address r.block x) refl (c r (inl refl)) (λ p. batch_once (painted M r) rs p (λ s i. c s (inr i)) u.1)
-    where
-      go : (b : Bool) → has_address r.block x ≡ b → IsBlock r.block × IsHop r.hop → (IsTable (painted M r) → (h : Option ℕ) × Once x (painted M r) (batch (painted M r) rs) h) → (h : Option ℕ) × Once x M (batch M (r ∷ rs)) h
-      go true e k rest =
-          let p = painted_is_table M m r k.0 k.1 in
-          let h = hop_at (painted M r) x in (
-            h,
-            once_then_settled x M (between M (painted M r)) (batch (painted M r) rs) h (leads_once x a (painted M r) M (between M (painted M r)) (leads (painted M r) p M m))
-                (next M m r k h (Settled x) (batch (painted M r) rs) (none_turn (painted M r) rs p (λ s i. c s (inr i)) (λ s i. u.0 s i x (has_from_test r.block x e)))),
-          )
-      go false e k rest =
-          let t = rest (painted_is_table M m r k.0 k.1) in
-          (t.0, settled_then_once x M (between M (painted M r)) (batch (painted M r) rs) (hop_at M x) t.0 (left_alone M m r k e) (next M m r k t.0 (Once x) (batch (painted M r) rs) t.1))
+  batch_once M (r ∷ rs) m c u =
+      let k = c r (inl refl) in
+      let p = painted_is_table M m r k.0 k.1 in
+      let h = hop_at (painted M r) x in
+      ⊎_elim
+      (λ e. (h, once_then_settled x M (between M (painted M r)) (batch (painted M r) rs) h (leads_once x a (painted M r) M (between M (painted M r)) (leads (painted M r) p M m))
+      (next M m r k h (Settled x) (batch (painted M r) rs) (none_turn (painted M r) rs p (λ s i. c s (inr i)) (λ s i. u.0 s i x (has_from_test r.block x e))))))
+      (λ e. let t = batch_once (painted M r) rs p (λ s i. c s (inr i)) u.1 in
+      (t.0, settled_then_once x M (between M (painted M r)) (batch (painted M r) rs) (hop_at M x) t.0 (left_alone M m r k e) (next M m r k t.0 (Once x) (batch (painted M r) rs) t.1)))
+      (cases_Bool (has_address r.block x))
 
 pub batch_hitless : (M rs : List Route) → IsTable M → AreChanges rs → AreApart rs → IsHitless M (batch M rs)
 batch_hitless M rs m c p = hitless_from M (batch M rs) (λ x a. batch_once x a M rs m (changes_from rs c) (Rising-from_pairs Apart rs p))

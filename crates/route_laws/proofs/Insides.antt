@@ -1,16 +1,15 @@
 -- The routes of a table inside one block, and tables inside two blocks apart.
-use Rattle.std.proofs.Common.{◌≡◌, ℕ, ◌+◌, ◌<◌, ◌≤◌, inl, inr, ⊎_elim, Bool, true, false, cond, nat_lt, List, [], ◌∷◌, ◌++◌, length, filter, ◌⊎◌, MatchOption, Option, Some, None, refl, sym, ap, ◌∙◌, subst, append-nil, lt-ltb}
-use Rattle.std.proofs.lemmas.Bool.{false_from_ne_true}
-use Rattle.std.proofs.lemmas.List.Elements.{All-filter, filter-append}
+use Rattle.std.proofs.Common.{◌≡◌, ℕ, ◌+◌, ◌<◌, ◌≤◌, inl, inr, ⊎_elim, Bool, true, false, cond, nat_lt, List, [], ◌∷◌, ◌++◌, length, filter, ◌⊎◌, MatchOption, Option, Some, None, refl, sym, ap, ◌∙◌, subst, lt-ltb}
+use Rattle.std.proofs.lemmas.List.Elements.{All-filter}
 use Rattle.std.proofs.lemmas.List.Kept.{AllPairs-filter}
 use Rattle.ipnet_addr.specs.Addresses.{Address, IsAddress}
-use Rattle.ipnet_addr.proofs.Members.{In, In-cases}
+use Rattle.ipnet_addr.proofs.Members.{In, In-cases, In-left, In-right}
 use Rattle.ipnet_addr.proofs.Ascending.{In-from_All, All-from_In, Rising, Rising-from_pairs, pairs_from_Rising, same_rising}
 use Rattle.ipnet_blocks.specs.Blocks.{Block, IsBlock, HasAddress, IsInside, IsBefore, is_inside, host}
 use Rattle.ipnet_blocks.proofs.BlockLaws.{strict}
 use Rattle.ipnet_blocks.proofs.Maximals.{host_is_block, has_host, in_host, member_is_address}
 use Rattle.route_choices.specs.Hops.{IsHop, number_of}
-use Rattle.route_choices.proofs.Kept.{Rising-kept, Rising-joined, none_kept, length-apart, In-filter, In-from_filter}
+use Rattle.route_choices.proofs.Kept.{Rising-kept, Rising-joined, length-apart, In-filter, In-from_filter}
 use Rattle.route_laws.specs.Fewest.{handed, hop_under, GivesInside}
 use Rattle.route_laws.specs.Tables.{Route, IsTable, covering, longer, longest, match_of}
 use Rattle.route_laws.proofs.Matches.{AtLeast, best_of, inside_from_test, test_from_inside}
@@ -67,9 +66,6 @@ module _ (x : Address) (a : IsAddress x) where
   pub same_match : (M N : List Route) → IsTable M → IsTable N → ((r : Route) → In r M → HasAddress r.block x → In r N) → ((r : Route) → In r N → HasAddress r.block x → In r M) → match_of M (host x) ≡ match_of N (host x)
   same_match M N m n f g = ap longest (same_parts holds M N m n
       (λ r i e. f r i (has_from_test r (sound M m r i).0 e)) (λ r i e. g r i (has_from_test r (sound N n r i).0 e)))
-
-  none_holds : (M : List Route) → IsTable M → ((r : Route) → In r M → HasAddress r.block x → ⊥) → covering M (host x) ≡ []
-  none_holds M t n = none_kept holds M (λ r i. false_from_ne_true (holds r) (λ e. n r i (has_from_test r (sound M t r i).0 e)))
 
 -- a second test that passes whatever the first does changes nothing
 pub filter_again : {A : Type 0} (p q : A → Bool) (xs : List A) → ((a : A) → In a xs → q a ≡ true → p a ≡ true) → filter q (filter p xs) ≡ filter q xs
@@ -139,16 +135,12 @@ module _ (c d : Block) (okc : IsBlock c) (okd : IsBlock d)
 
     -- in each the hops are those of its own table
     pub joined_first : (x : Address) → HasAddress c x → hop_under s (L ++ N) x ≡ h x
-    joined_first x m =
-        let a = member_is_address c x okc m in
-        let none = none_holds x a N gn.table (λ r i k. separate x m (lies_d r i x k)) in
-        ap (λ R. handed s (longest R)) (filter-append (holds x a) L N ∙ ap (λ R. covering L (host x) ++ R) none ∙ append-nil (covering L (host x))) ∙ gl.same x m
+    joined_first x m = ap (handed s) (same_match x (member_is_address c x okc m) (L ++ N) L joined_table gl.table
+        (λ r i k. ⊎_elim (λ j. j) (λ j. absurd (separate x m (lies_d r j x k))) (In-cases r L N i)) (λ r i k. In-left r L N i)) ∙ gl.same x m
 
     pub joined_second : (x : Address) → HasAddress d x → hop_under s (L ++ N) x ≡ h x
-    joined_second x m =
-        let a = member_is_address d x okd m in
-        let none = none_holds x a L gl.table (λ r i k. separate x (lies_c r i x k) m) in
-        ap (λ R. handed s (longest R)) (filter-append (holds x a) L N ∙ ap (λ R. R ++ covering N (host x)) none) ∙ gn.same x m
+    joined_second x m = ap (handed s) (same_match x (member_is_address d x okd m) (L ++ N) N joined_table gn.table
+        (λ r i k. ⊎_elim (λ j. absurd (separate x (lies_c r j x k) m)) (λ j. j) (In-cases r L N i)) (λ r i k. In-right r L N i)) ∙ gn.same x m
 
     pub joined_gives : (b : Block) → IsInside c b → IsInside d b → ((x : Address) → HasAddress b x → (HasAddress c x) ⊎ (HasAddress d x)) → GivesInside h b s (L ++ N)
     joined_gives b u v either = record {
