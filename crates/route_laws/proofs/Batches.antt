@@ -1,6 +1,6 @@
 -- Operations one after the other, each of which turns addresses that the others leave.
 use Rattle.std.proofs.Common.{◌≡◌, ℕ, inl, inr, false, cond, List, [], ◌∷◌, ◌++◌, Option, refl, sym, ap, ◌∙◌, subst, ⊎_elim}
-use Rattle.std.proofs.lemmas.Bool.{false_from_ne_true, cases_Bool}
+use Rattle.std.proofs.lemmas.Bool.{false_from_ne_true, cases_Bool, cond-false}
 use Rattle.std.proofs.lemmas.List.Elements.{All-map}
 use Rattle.ipnet_addr.specs.Addresses.{Address, IsAddress}
 use Rattle.ipnet_addr.proofs.Members.{In}
@@ -17,7 +17,7 @@ use Rattle.route_laws.specs.Batches.{AreApart, AreChanges, batch, changes_to, ho
 use Rattle.route_laws.specs.Operations.{Operation, IsHitless, after, after_all, between}
 use Rattle.route_laws.proofs.Between.{leads}
 use Rattle.route_laws.proofs.Painted.{painted_is_table, painted_hops}
-use Rattle.route_laws.proofs.Turning.{Once, Settled, hitless_from, leads_once, leads_settled, once_then_settled, reaches, settled_joined, settled_then_once}
+use Rattle.route_laws.proofs.Turning.{Once, hitless_from, leads_once, once_joined, reaches, settled_then_once}
 use Rattle.route_laws.proofs.Flats.{maximal_one}
 use Rattle.route_laws.proofs.Ordered.{before_apart}
 
@@ -56,26 +56,24 @@ module _ (x : Address) (a : IsAddress x) where
     p = painted_is_table M m r k.0 k.1
 
     -- what holds of operations from the table after one change on
-    pub next : (h : Option ℕ) (F : List Route → List Operation → Option ℕ → Type 0) (ps : List Operation) → F (painted M r) ps h → F (after_all M (between M (painted M r))) ps h
-    next h F ps = subst (λ T. F T ps h) (sym (between_reaches M (painted M r) m p))
+    next : (h : Option ℕ) (ps : List Operation) → Once x (painted M r) ps h → Once x (after_all M (between M (painted M r))) ps h
+    next h ps = subst (λ T. Once x T ps h) (sym (between_reaches M (painted M r) m p))
+
+    turned : Once x M (between M (painted M r)) (hop_at (painted M r) x)
+    turned = leads_once x a (painted M r) M (between M (painted M r)) (leads (painted M r) p M m)
 
     -- an address that the change hasn't
-    pub left_alone : has_address r.block x ≡ false → Settled x M (between M (painted M r)) (hop_at M x)
-    left_alone e =
-        let same = painted_hops M m r k.0 k.1 x a ∙ ap (λ b. cond b (number_of r.hop) (hop_at M x)) e in
-        subst (Settled x M (between M (painted M r))) same (leads_settled x a (painted M r) M (between M (painted M r)) (leads (painted M r) p M m) (sym same))
+    same : has_address r.block x ≡ false → hop_at (painted M r) x ≡ hop_at M x
+    same e = painted_hops M m r k.0 k.1 x a ∙ cond-false (has_address r.block x) (number_of r.hop) (hop_at M x) e
 
   -- an address that no change has
-  none_turn : (M rs : List Route) → IsTable M → Changes rs → ((r : Route) → In r rs → HasAddress r.block x → ⊥) → Settled x M (batch M rs) (hop_at M x)
+  none_turn : (M rs : List Route) → IsTable M → Changes rs → ((r : Route) → In r rs → HasAddress r.block x → ⊥) → Once x M (batch M rs) (hop_at M x)
   none_turn M [] m c none = refl
   none_turn M (r ∷ rs) m c none =
       let k = c r (inl refl) in
-      let p = painted_is_table M m r k.0 k.1 in
-      let e = false_from_ne_true (has_address r.block x) (λ f. none r (inl refl) (has_from_test r.block x f)) in
-      settled_joined x M (between M (painted M r)) (batch (painted M r) rs) (hop_at M x) (left_alone M m r k e)
-      (next M m r k (hop_at M x) (Settled x) (batch (painted M r) rs)
-      (subst (Settled x (painted M r) (batch (painted M r) rs)) (painted_hops M m r k.0 k.1 x a ∙ ap (λ b. cond b (number_of r.hop) (hop_at M x)) e)
-      (none_turn (painted M r) rs p (λ s i. c s (inr i)) (λ s i. none s (inr i)))))
+      let s = same M m r k (false_from_ne_true (has_address r.block x) (λ f. none r (inl refl) (has_from_test r.block x f))) in
+      subst (Once x M (batch M (r ∷ rs))) s (once_joined x M (between M (painted M r)) (batch (painted M r) rs) (hop_at (painted M r) x) (turned M m r k)
+      (next M m r k (hop_at (painted M r) x) (batch (painted M r) rs) (none_turn (painted M r) rs (painted_is_table M m r k.0 k.1) (λ s i. c s (inr i)) (λ s i. none s (inr i)))))
 
   pub batch_once : (M rs : List Route) → IsTable M → Changes rs → Rising Apart rs → (h : Option ℕ) × Once x M (batch M rs) h
   batch_once M [] m c u = (hop_at M x, refl)
@@ -84,10 +82,10 @@ module _ (x : Address) (a : IsAddress x) where
       let p = painted_is_table M m r k.0 k.1 in
       let h = hop_at (painted M r) x in
       ⊎_elim
-      (λ e. (h, once_then_settled x M (between M (painted M r)) (batch (painted M r) rs) h (leads_once x a (painted M r) M (between M (painted M r)) (leads (painted M r) p M m))
-      (next M m r k h (Settled x) (batch (painted M r) rs) (none_turn (painted M r) rs p (λ s i. c s (inr i)) (λ s i. u.0 s i x (has_from_test r.block x e))))))
+      (λ e. (h, once_joined x M (between M (painted M r)) (batch (painted M r) rs) h (turned M m r k)
+      (next M m r k h (batch (painted M r) rs) (none_turn (painted M r) rs p (λ s i. c s (inr i)) (λ s i. u.0 s i x (has_from_test r.block x e))))))
       (λ e. let t = batch_once (painted M r) rs p (λ s i. c s (inr i)) u.1 in
-      (t.0, settled_then_once x M (between M (painted M r)) (batch (painted M r) rs) (hop_at M x) t.0 (left_alone M m r k e) (next M m r k t.0 (Once x) (batch (painted M r) rs) t.1)))
+      (t.0, settled_then_once x M (between M (painted M r)) (batch (painted M r) rs) h t.0 (sym (same M m r k e)) (turned M m r k) (next M m r k t.0 (batch (painted M r) rs) t.1)))
       (cases_Bool (has_address r.block x))
 
 pub batch_hitless : (M rs : List Route) → IsTable M → AreChanges rs → AreApart rs → IsHitless M (batch M rs)

@@ -77,65 +77,45 @@ module _ (N : List Route) where
   reaches T (o ∷ os) l = reaches (after T o) os l.1
 
 module _ (x : Address) where
-  -- from here on the hop is h
-  abbrev pub Settled : List Route → List Operation → Option ℕ → Type 0
-  Settled M [] h = hop_at M x ≡ h
-  Settled M (o ∷ os) h = (hop_at M x ≡ h) × Settled (after M o) os h
-
-  -- it stays as it is until it is h, from then on
+  -- each operation leaves the hop or makes it h, which it is at the end: so it is h from where it first is
   abbrev pub Once : List Route → List Operation → Option ℕ → Type 0
   Once M [] h = hop_at M x ≡ h
-  Once M (o ∷ os) h = ((hop_at (after M o) x ≡ hop_at M x) × Once (after M o) os h) ⊎ Settled (after M o) os h
+  Once M (o ∷ os) h = ((hop_at (after M o) x ≡ hop_at M x) ⊎ (hop_at (after M o) x ≡ h)) × Once (after M o) os h
 
-  settled_at : (M : List Route) (os : List Operation) (h : Option ℕ) → Settled M os h → (i : ℕ) → hop_at (after_all M (take i os)) x ≡ h
-  settled_at M [] h s zero = s
-  settled_at M [] h s (suc i) = s
-  settled_at M (o ∷ os) h s zero = s.0
-  settled_at M (o ∷ os) h s (suc i) = settled_at (after M o) os h s.1 i
+  -- it is h, and so it stays
+  still : (M : List Route) (o : Operation) (os : List Operation) (h : Option ℕ) → hop_at M x ≡ h → Once M (o ∷ os) h → hop_at (after M o) x ≡ h
+  still M o os h e t = ⊎_elim (λ f. f ∙ e) (λ f. f) t.0
 
-  settled_end : (M : List Route) (os : List Operation) (h : Option ℕ) → Settled M os h → hop_at (after_all M os) x ≡ h
-  settled_end M [] h s = s
-  settled_end M (o ∷ os) h s = settled_end (after M o) os h s.1
+  settled_at : (M : List Route) (os : List Operation) (h : Option ℕ) → hop_at M x ≡ h → Once M os h → (i : ℕ) → hop_at (after_all M (take i os)) x ≡ h
+  settled_at M os h e t zero = e
+  settled_at M [] h e t (suc i) = e
+  settled_at M (o ∷ os) h e t (suc i) = settled_at (after M o) os h (still M o os h e t) t.1 i
 
   once_end : (M : List Route) (os : List Operation) (h : Option ℕ) → Once M os h → hop_at (after_all M os) x ≡ h
   once_end M [] h t = t
-  once_end M (o ∷ os) h (inl t) = once_end (after M o) os h t.1
-  once_end M (o ∷ os) h (inr s) = settled_end (after M o) os h s
+  once_end M (o ∷ os) h t = once_end (after M o) os h t.1
 
   once_turns : (M : List Route) (os : List Operation) (h : Option ℕ) → Once M os h → (i j : ℕ) → i ≤ j → (hop_at (after_all M (take i os)) x ≡ hop_at M x) ⊎ (hop_at (after_all M (take j os)) x ≡ h)
   once_turns M os h t zero j l = inl refl
   once_turns M [] h t (suc i) j l = inl refl
   once_turns M (o ∷ os) h t (suc i) zero l = absurd (omega arith)
-  once_turns M (o ∷ os) h (inl t) (suc i) (suc j) l = ⊎_elim (λ e. inl (e ∙ t.0)) (λ e. inr e) (once_turns (after M o) os h t.1 i j (omega arith))
-  once_turns M (o ∷ os) h (inr s) (suc i) (suc j) l = inr (settled_at (after M o) os h s j)
+  once_turns M (o ∷ os) h t (suc i) (suc j) l = ⊎_elim
+      (λ e. ⊎_elim (λ f. inl (f ∙ e)) (λ f. inr f) (once_turns (after M o) os h t.1 i j (omega arith)))
+      (λ e. inr (settled_at (after M o) os h e t.1 j))
+      t.0
 
-  -- one list of operations after the other
-  pub settled_joined : (M : List Route) (os ps : List Operation) (h : Option ℕ) → Settled M os h → Settled (after_all M os) ps h → Settled M (os ++ ps) h
-  settled_joined M [] ps h s t = t
-  settled_joined M (o ∷ os) ps h s t = (s.0, settled_joined (after M o) os ps h s.1 t)
+  -- one list of operations after the other: the address turns in one of them
+  pub once_joined : (M : List Route) (os ps : List Operation) (h : Option ℕ) → Once M os h → Once (after_all M os) ps h → Once M (os ++ ps) h
+  once_joined M [] ps h t u = u
+  once_joined M (o ∷ os) ps h t u = (t.0, once_joined (after M o) os ps h t.1 u)
 
-  pub once_then_settled : (M : List Route) (os ps : List Operation) (h : Option ℕ) → Once M os h → Settled (after_all M os) ps h → Once M (os ++ ps) h
-  once_then_settled M [] [] h t s = s
-  once_then_settled M [] (p ∷ ps) h t s = inr s.1
-  once_then_settled M (o ∷ os) ps h (inl t) s = inl (t.0, once_then_settled (after M o) os ps h t.1 s)
-  once_then_settled M (o ∷ os) ps h (inr t) s = inr (settled_joined (after M o) os ps h t s)
+  pub settled_then_once : (M : List Route) (os ps : List Operation) (g h : Option ℕ) → hop_at M x ≡ g → Once M os g → Once (after_all M os) ps h → Once M (os ++ ps) h
+  settled_then_once M [] ps g h e t u = u
+  settled_then_once M (o ∷ os) ps g h e t u = let f = still M o os g e t in (inl (f ∙ sym e), settled_then_once (after M o) os ps g h f t.1 u)
 
-  pub settled_then_once : (M : List Route) (os ps : List Operation) (g h : Option ℕ) → Settled M os g → Once (after_all M os) ps h → Once M (os ++ ps) h
-  settled_then_once M [] ps g h s t = t
-  settled_then_once M (o ∷ os) ps g h s t = inl (settled_at (after M o) os g s.1 zero ∙ sym s.0, settled_then_once (after M o) os ps g h s.1 t)
-
-  module _ (a : IsAddress x) (N : List Route) where
-    -- an address whose hop is that in N
-    pub leads_settled : (T : List Route) (os : List Operation) → Leads N T os → hop_at T x ≡ hop_at N x → Settled T os (hop_at N x)
-    leads_settled T [] l e = e
-    leads_settled T (o ∷ os) l e = (e, leads_settled (after T o) os l.1 (⊎_elim (λ f. ap match_number f ∙ e) (λ f. ap match_number f) (l.0 x a)))
-
-    pub leads_once : (T : List Route) (os : List Operation) → Leads N T os → Once T os (hop_at N x)
-    leads_once T [] l = ap (λ M. hop_at M x) l
-    leads_once T (o ∷ os) l = ⊎_elim
-        (λ e. inl (ap match_number e, leads_once (after T o) os l.1))
-        (λ e. inr (leads_settled (after T o) os l.1 (ap match_number e)))
-        (l.0 x a)
+  pub leads_once : IsAddress x → (N T : List Route) (os : List Operation) → Leads N T os → Once T os (hop_at N x)
+  leads_once a N T [] l = ap (λ M. hop_at M x) l
+  leads_once a N T (o ∷ os) l = (⊎_elim (λ e. inl (ap match_number e)) (λ e. inr (ap match_number e)) (l.0 x a), leads_once a N (after T o) os l.1)
 
 pub hitless_from : (M : List Route) (os : List Operation) → ((x : Address) → IsAddress x → (h : Option ℕ) × Once x M os h) → IsHitless M os
 hitless_from M os f = record {
