@@ -7,11 +7,12 @@ use Rattle.ipnet_blocks.specs.Blocks.{Block, IsBlock, free_bits, HasAddress, IsI
 use Rattle.ipnet_blocks.specs.Maximal.{IsMaximalBlock}
 use Rattle.ipnet_addr.proofs.Members.{In, In-left, In-right, In-cases}
 use Rattle.ipnet_addr.proofs.Ascending.{In-from_Contains, Contains-from_In, Rising, pairs_from_Rising}
-use Rattle.ipnet_blocks.proofs.BlockLaws.{numbers_from_inside, same_sets, has_first}
+use Rattle.ipnet_blocks.proofs.BlockLaws.{same_sets, has_first}
 use Rattle.ipnet_blocks.proofs.Parents.{decide_inside, larger_is_shorter, parent_in_larger}
 use Rattle.ipnet_blocks.proofs.Search.{left_is_block, right_is_block, left_inside, right_inside, in_a_half, address_in_a_half, halves_in_order, whole_is_block, inside_whole, leaf_address}
 use Rattle.route_laws.specs.Flats.{Piece, IsFlat, HasOneHop, common, one_hop_in, piece_or, flat_in, flat_of}
 use Rattle.route_laws.proofs.Flats.{Sooner, top_of, one_hop}
+use Rattle.route_laws.proofs.Ordered.{alone}
 use Rattle.route_choices.proofs.Kept.{Rising-joined}
 
 common_parts : (o p : Option ℕ) (n : ℕ) → common o p ≡ Some n → (o ≡ Some n) × (p ≡ Some n)
@@ -125,11 +126,7 @@ module _ (h : Address → Option ℕ) where
   unfolding flat_in one_hop_in
   complete zero t ok e p m i =
       piece_in t (h (first_of t)) [] p (is_here zero t ok e p m i)
-      (λ o. let l = larger_is_shorter t p.block ok m.within.block (or_half zero t ok e o p m i) in
-      let fits = m.within.block.in_width in
-      let n = (numbers_from_inside p.block t m.within.block ok i).family in
-      let w : width (Block.family p.block) ≡ width t.family = ap width n in
-      absurd (omega arith))
+      (λ o. absurd ((or_half zero t ok e o p m i).1 (alone t p.block e i)))
   complete (suc k) t ok e p m i =
       let r : 0 < free_bits t = omega arith in
       piece_in t (one_hop_in h (suc k) t) (flat_in h k (left t) ++ flat_in h k (right t)) p (is_here (suc k) t ok e p m i)

@@ -2,6 +2,7 @@
 use Rattle.std.proofs.Common.{◌≡◌, ℕ, ◌+◌, ◌<◌, ◌≤◌, inl, inr, ⊎_elim, Bool, true, false, cond, nat_lt, List, [], ◌∷◌, ◌++◌, length, filter, ◌⊎◌, MatchOption, Option, Some, None, refl, sym, ap, ◌∙◌, subst, lt-ltb}
 use Rattle.std.proofs.lemmas.List.Elements.{All-filter}
 use Rattle.std.proofs.lemmas.List.Kept.{AllPairs-filter}
+use Rattle.std.proofs.lemmas.Bool.{cond_both, cond-false, false_from_ne_true}
 use Rattle.ipnet_addr.specs.Addresses.{Address, IsAddress}
 use Rattle.ipnet_addr.proofs.Members.{In, In-cases, In-left, In-right}
 use Rattle.ipnet_addr.proofs.Ascending.{In-from_All, All-from_In, Rising, Rising-from_pairs, pairs_from_Rising, same_rising}
@@ -70,13 +71,10 @@ module _ (x : Address) (a : IsAddress x) where
 -- a second test that passes whatever the first does changes nothing
 pub filter_again : {A : Type 0} (p q : A → Bool) (xs : List A) → ((a : A) → In a xs → q a ≡ true → p a ≡ true) → filter q (filter p xs) ≡ filter q xs
 filter_again p q [] h = refl
-filter_again {A} p q (x ∷ xs) h = go (p x) (q x) refl refl (filter_again p q xs (λ a i. h a (inr i)))
-  where
-    go : (b c : Bool) → p x ≡ b → q x ≡ c → filter q (filter p xs) ≡ filter q xs → filter q (cond b (x ∷ filter p xs) (filter p xs)) ≡ cond c (x ∷ filter q xs) (filter q xs)
-    go true true e f k = rw f (ap (λ zs. x ∷ zs) k)
-    go true false e f k = rw f k
-    go false true e f k = let g = h x (inl refl) f in absurd (cc)
-    go false false e f k = k
+filter_again p q (x ∷ xs) h =
+    let rest = filter_again p q xs (λ a i. h a (inr i)) in
+    cond_both (p x) (x ∷ filter p xs) (filter p xs) (λ ys. filter q ys ≡ filter q (x ∷ xs)) (λ e. ap (λ ys. cond (q x) (x ∷ ys) ys) rest)
+    (λ e. rest ∙ sym (cond-false (q x) (x ∷ filter q xs) (filter q xs) (false_from_ne_true (q x) (λ f. let g = h x (inl refl) f in cc))))
 
 -- the routes of a table that lie in the block
 abbrev pub within : Block → List Route → List Route

@@ -4,10 +4,10 @@ use Rattle.std.proofs.lemmas.Bool.{cases_lt, false_from_ne_true, not_from_false}
 use Rattle.ipnet_addr.specs.Addresses.{Address, rank}
 use Rattle.ipnet_addr.proofs.Members.{In, In-left, In-right, In-cases}
 use Rattle.ipnet_addr.proofs.Ascending.{Rising, same_rising}
-use Rattle.ipnet_blocks.specs.Blocks.{Block, IsBlock, HasAddress, IsBefore, IsInside, IsLarger, first, first_of, is_before, same_block}
+use Rattle.ipnet_blocks.specs.Blocks.{Block, IsBlock, HasAddress, IsBefore, IsInside, IsLarger, first, first_of, is_before, same_block, free_bits}
 use Rattle.ipnet_blocks.proofs.BlockLaws.{common, has_first, strict, total, transitive}
 use Rattle.ipnet_blocks.proofs.Parents.{larger_is_shorter}
-use Rattle.ipnet_blocks.proofs.Search.{first_within}
+use Rattle.ipnet_blocks.proofs.Search.{first_within, leaf_address}
 use Rattle.ipnet_blocks.proofs.BlockTests.{before_from_test, test_from_before, same_from_test, test_from_same}
 use Rattle.route_choices.proofs.Kept.{Rising-kept, Rising-joined, In-from_filter, In-filter, In-map, all_kept, none_kept}
 
@@ -44,6 +44,10 @@ shorter_first a b x q h k l =
 -- so a block comes before those strictly inside it
 pub before_inner : (b c : Block) → IsBlock b → IsBlock c → IsLarger b c → IsBefore b c
 before_inner b c p q l = shorter_first b c (first_of c) q (l.0 (first_of c) (has_first c)) (has_first c) (larger_is_shorter b c p q l)
+
+-- a block of one address is inside each block that is inside it
+pub alone : (b d : Block) → free_bits b ≡ 0 → IsInside d b → IsInside b d
+alone b d h i x m = subst (HasAddress d) (sym (leaf_address b h (first_of d) (i (first_of d) (has_first d))) ∙ leaf_address b h x m) (has_first d)
 
 module _ {X : Type 0} (at : X → Block) where
   abbrev pub Earlier : X → X → Type 0

@@ -1,11 +1,11 @@
 -- One thing in the place of all those inside its block: its members, how it is made, and the hops of a table then.
-use Rattle.std.proofs.Common.{◌≡◌, ◌-◌, ◌/◌, ◌^◌, ◌<◌, ◌⊎◌, inl, inr, ⊎_elim, Bool, false, not, cond, List, [], ◌∷◌, filter, Some, IsTrue, ◌↔◌, sym, ap, ◌∙◌, subst, arith, div-one}
+use Rattle.std.proofs.Common.{◌≡◌, ◌-◌, ◌<◌, ◌⊎◌, inl, inr, ⊎_elim, Bool, false, not, cond, List, [], ◌∷◌, filter, Some, IsTrue, ◌↔◌, sym, ap, ◌∙◌, subst, arith}
 use Rattle.std.proofs.lemmas.Bool.{cond-false, false_from_ne_true, cond_both, cases_lt}
-use Rattle.ipnet_addr.specs.Addresses.{Address, IsAddress, width}
+use Rattle.ipnet_addr.specs.Addresses.{Address, IsAddress}
 use Rattle.ipnet_addr.proofs.Members.{In}
 use Rattle.ipnet_addr.proofs.Ascending.{In-from_Contains, Contains-from_In, Rising, Rising-from_pairs, same_rising}
 use Rattle.ipnet_blocks.specs.Blocks.{Block, IsBlock, HasAddress, IsInside, IsLarger, free_bits, is_inside, has_address, host, left, right}
-use Rattle.ipnet_blocks.proofs.BlockLaws.{block_path, numbers_from_inside, same_sets, strict}
+use Rattle.ipnet_blocks.proofs.BlockLaws.{numbers_from_inside, same_sets, strict}
 use Rattle.ipnet_blocks.proofs.BlockTests.{has_from_test, test_from_has}
 use Rattle.ipnet_blocks.proofs.Maximals.{host_is_block}
 use Rattle.ipnet_blocks.proofs.Search.{left_is_block, right_is_block, left_inside, right_inside, in_a_half}
@@ -21,24 +21,12 @@ use Rattle.route_laws.specs.Networks.{IsLeaf, Stored, IsStoredTable, best_route,
 use Rattle.route_laws.proofs.Insides.{Sooner, filter_again, has_from_test as held_from_test, rising, table_kept}
 use Rattle.route_laws.proofs.Matches.{block_in, governed_match, inside_from_test, match_of_own, test_from_inside}
 use Rattle.route_laws.proofs.Networks.{routes_with, stored_block, stored_kept}
-use Rattle.route_laws.proofs.Ordered.{Earlier, put, put_back, put_itself, put_other, put_rises, not_cases, not_from}
+use Rattle.route_laws.proofs.Ordered.{Earlier, put, put_back, put_itself, put_other, put_rises, not_cases, not_from, alone}
 use Rattle.route_laws.proofs.Updates.{added_is_table}
 
 -- a block is in none that is longer, as its halves are
 not_in_longer : (b c : Block) → IsBlock b → IsBlock c → b.len < c.len → IsInside b c → ⊥
 not_in_longer b c okb okc l i = absurd (omega (arith, l, (numbers_from_inside b c okb okc i).long))
-
--- a host block has nothing inside but itself
-alone : (b d : Block) → IsBlock b → IsBlock d → free_bits b ≡ 0 → IsInside d b → d ≡ b
-alone b d okb okd h i =
-    let n = numbers_from_inside d b okd okb i in
-    let w = okd.in_width in
-    let v = okb.in_width in
-    let e : width d.family ≡ width b.family = ap width n.family in
-    let g = n.long in
-    let l : d.len ≡ b.len = omega arith in
-    let z : d.len - b.len ≡ 0 = omega arith in
-    block_path d b n.family l (sym (ap (λ k. d.quotient / 2 ^ k) z ∙ div-one d.quotient) ∙ n.quotient)
 
 -- a block inside itself
 inside_itself : (a b : Block) → a ≡ b → IsInside a b
@@ -164,7 +152,7 @@ leaf_overwritten T t s ok S e leaf = e ∙ over_leaf Stored.block T (networks_pl
 
 -- a host has room for nothing
 pub host_is_leaf : (T : List Stored) → IsStoredTable T → (b : Block) → IsBlock b → free_bits b ≡ 0 → IsLeaf T b
-host_is_leaf T t b ok h s c l = l.1 (inside_itself b s.block (sym (alone b s.block ok (stored_block T t s (In-from_Contains T s c)) h l.0)))
+host_is_leaf T t b ok h s c l = l.1 (alone b s.block h l.0)
 
 -- a network with another inside is no host
 pub room_inside : (T : List Stored) → IsStoredTable T → (b : Block) → IsBlock b → (leaf : Bool) → IsTrue leaf ↔ IsLeaf T b → leaf ≡ false → 0 < free_bits b
