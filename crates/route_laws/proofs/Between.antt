@@ -3,11 +3,12 @@ use Rattle.std.proofs.Common.{◌≡◌, ◌⊎◌, ◌&&◌, ◌==◌, inl, inr
 use Rattle.std.specs.List.{list_any}
 use Rattle.std.proofs.lemmas.Bool.{and_parts, cases_Bool}
 use Rattle.std.proofs.lemmas.Bool.Decides.{nat_tests}
-use Rattle.std.proofs.lemmas.List.{reverse-append}
+use Rattle.std.proofs.lemmas.List.{reverse-append, reverse-reverse}
+use Rattle.std.proofs.lemmas.List.Sorted.{Contains-permutation, IsPermutation-reverse}
 use mathlib.Core.List.{reverse}
 use Rattle.ipnet_addr.proofs.Basics.{In-from_list_any, list_any-from_In}
-use Rattle.ipnet_addr.proofs.Members.{In, In-left, In-right, In-cases}
-use Rattle.ipnet_addr.proofs.Ascending.{Rising, same_rising}
+use Rattle.ipnet_addr.proofs.Members.{In}
+use Rattle.ipnet_addr.proofs.Ascending.{Rising, same_rising, In-from_Contains, Contains-from_In}
 use Rattle.ipnet_blocks.specs.Blocks.{IsBlock, IsBefore, same_block}
 use Rattle.ipnet_blocks.proofs.BlockLaws.{strict}
 use Rattle.ipnet_blocks.proofs.BlockTests.{same_from_test, test_from_same}
@@ -25,14 +26,10 @@ use Rattle.route_laws.proofs.Turning.{Leads, install_turns, remove_turns, with_o
 -- ---- lists turned round
 
 pub In-reverse : {A : Type 0} (xs : List A) (a : A) → In a xs → In a (reverse xs)
-In-reverse [] a i = absurd i
-In-reverse {A} (x ∷ xs) a i = subst (λ (ys : List A). In a ys) (sym (reverse-append (x ∷ []) xs))
-    (⊎_elim (λ e. In-right a (reverse xs) (x ∷ []) (inl e)) (λ j. In-left a (reverse xs) (x ∷ []) (In-reverse xs a j)) i)
+In-reverse xs a i = In-from_Contains (reverse xs) a (Contains-permutation xs (reverse xs) a (IsPermutation-reverse xs) (Contains-from_In xs a i))
 
 pub reverse_In : {A : Type 0} (xs : List A) (a : A) → In a (reverse xs) → In a xs
-reverse_In [] a i = absurd i
-reverse_In {A} (x ∷ xs) a i = ⊎_elim (λ j. inr (reverse_In xs a j)) (λ j. ⊎_elim (λ e. inl e) (λ k. absurd k) j)
-    (In-cases a (reverse xs) (x ∷ []) (subst (λ (ys : List A). In a ys) (reverse-append (x ∷ []) xs) i))
+reverse_In xs a i = subst (In a) (reverse-reverse xs) (In-reverse (reverse xs) a i)
 
 abbrev pub Later : Route → Route → Type 0
 Later r s = IsBefore s.block r.block

@@ -1,5 +1,6 @@
 -- Tables with several choices a network: what a change leaves, and the table of the best routes.
 use Rattle.std.proofs.Common.{◌≡◌, ◌≢◌, ◌<◌, ◌^◌, ◌⊎◌, inl, inr, ⊎_elim, Bool, true, false, not, cond, List, [], ◌∷◌, ◌++◌, Some, MatchOption, filter, map, refl, sym, ap, ◌∙◌, subst}
+use Rattle.std.proofs.lemmas.Bool.{cases_Bool, cond-false, cond-true}
 use Rattle.ipnet_addr.proofs.Members.{In}
 use Rattle.ipnet_addr.proofs.Ascending.{In-from_All, All-from_In, Rising, Rising-from_pairs, pairs_from_Rising, same_rising}
 use Rattle.ipnet_blocks.specs.Blocks.{Block, IsBlock, IsBefore, is_before, same_block}
@@ -103,15 +104,13 @@ module _ (T : List Stored) (ok : IsStoredTable T) where
 -- the choices at a block are those of the member of this block, or there is none
 pub at_cases : (T : List Stored) (b : Block) → ((s : Stored) × In s T × (s.block ≡ b) × (choices_at T b ≡ s.choices)) ⊎ (((s : Stored) → In s T → s.block ≡ b → ⊥) × (choices_at T b ≡ []))
 at_cases [] b = inr ((λ s i. absurd i), refl)
-at_cases (s ∷ T) b = go (at_cases T b) (same_block s.block b) refl
-  where
-    go : ((s : Stored) × In s T × (s.block ≡ b) × (choices_at T b ≡ s.choices)) ⊎ (((s : Stored) → In s T → s.block ≡ b → ⊥) × (choices_at T b ≡ [])) → (c : Bool) → same_block s.block b ≡ c →
-        ((t : Stored) × In t (s ∷ T) × (t.block ≡ b) × (cond c s.choices (choices_at T b) ≡ t.choices)) ⊎ (((t : Stored) → In t (s ∷ T) → t.block ≡ b → ⊥) × (cond c s.choices (choices_at T b) ≡ []))
-    go rec true e = inl (s, inl refl, same_from_test s.block b e, refl)
-    go rec false e = ⊎_elim
-        (λ u. inl (u.0, inr u.1, u.2, u.3))
-        (λ u. inr ((λ t i q. ⊎_elim (λ p. let f = test_from_same s.block b (ap Stored.block (sym p) ∙ q) in cc) (λ j. u.0 t j q) i), u.1))
-        rec
+at_cases (s ∷ T) b = ⊎_elim
+    (λ e. inl (s, inl refl, same_from_test s.block b e, cond-true (same_block s.block b) s.choices (choices_at T b) e))
+    (λ e. let k = cond-false (same_block s.block b) s.choices (choices_at T b) e in ⊎_elim
+    (λ u. inl (u.0, inr u.1, u.2, k ∙ u.3))
+    (λ u. inr ((λ t i q. ⊎_elim (λ p. let f = test_from_same s.block b (ap Stored.block (sym p) ∙ q) in cc) (λ j. u.0 t j q) i), k ∙ u.1))
+    (at_cases T b))
+    (cases_Bool (same_block s.block b))
 
 module _ (T : List Stored) (ok : IsStoredTable T) where
   pub at_member : (s : Stored) → In s T → choices_at T s.block ≡ s.choices
