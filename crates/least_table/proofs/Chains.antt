@@ -1,9 +1,9 @@
 -- Plans that skip chains of levels.
-use Rattle.std.proofs.Common.{◌≡◌, ℕ, suc, ◌+◌, ◌<◌, inl, inr, Bool, true, false, cond, not, ◌&&◌, ◌||◌, List, [], ◌∷◌, ◌++◌, length, Option, None, refl, sym, ap, ◌∙◌, subst, arith, append-nil, add-zero, zero-add}
+use Rattle.std.proofs.Common.{◌≡◌, ℕ, suc, ◌+◌, ◌<◌, inl, inr, Bool, true, false, cond, not, ◌&&◌, ◌||◌, List, [], ◌∷◌, ◌++◌, length, Option, None, refl, sym, ap, ◌∙◌, subst, arith, append-nil, add-zero, zero-add, ⊎_elim}
 use Rattle.std.proofs.Math.Bool.{or-false, and_comm, and-true, or_comm}
-use Rattle.std.proofs.lemmas.Bool.{cond_both}
+use Rattle.std.proofs.lemmas.Bool.{cond_both, cases_Bool, false_from_ne_true, true_from_ne_false}
 use Rattle.std.proofs.lemmas.List.{length-map, length-append}
-use Rattle.least_table.proofs.Stores.{within-whole}
+use Rattle.least_table.proofs.Stores.{within-whole, within_within}
 use Rattle.ipnet_blocks.specs.BitStrings.{begins}
 use Rattle.least_table.specs.Tables.{Absent, Gives, half_of}
 use Rattle.least_table.specs.HopSets.{same_hop, holds, meets, AreMerged, AreBest, fee, first_of}
@@ -33,13 +33,10 @@ merged_left k hops j = go (holds hops k) refl
 
 -- whether two lists meet does not depend on their order
 meets_swap : (as' bs : List (Option ℕ)) → meets as' bs ≡ meets bs as'
-meets_swap as' bs = go (meets as' bs) (meets bs as') refl refl
-  where
-    go : (u v : Bool) → meets as' bs ≡ u → meets bs as' ≡ v → u ≡ v
-    go true true e f = refl
-    go false false e f = refl
-    go true false e f = let j = meets-true as' bs e in absurd (meets-false bs as' f j.0 j.2 j.1)
-    go false true e f = let j = meets-true bs as' f in absurd (meets-false as' bs e j.0 j.2 j.1)
+meets_swap as' bs = ⊎_elim
+    (λ e. let j = meets-true as' bs e in e ∙ sym (true_from_ne_false (meets bs as') (λ f. meets-false bs as' f j.0 j.2 j.1)))
+    (λ e. e ∙ sym (false_from_ne_true (meets bs as') (λ f. let j = meets-true bs as' f in meets-false as' bs e j.0 j.2 j.1)))
+    (cases_Bool (meets as' bs))
 
 pub merged_swap : (as' bs cs : List (Option ℕ)) → AreMerged as' bs cs → AreMerged bs as' cs
 merged_swap as' bs cs m j = m j ∙ rw (meets_swap as' bs, and_comm (holds as' j) (holds bs j), or_comm (holds as' j) (holds bs j)) refl
@@ -122,10 +119,6 @@ Best-tree w h (Skip k ds t) plan =
 
 -- ---- what is stored
 
-within_half : (b : Bool) (ds : List Bool) (t : List (List Bool × Option ℕ)) → within (b ∷ ds) t ≡ inside b (within ds t)
-within_half b ds [] = refl
-within_half b ds (r ∷ t) = ap (λ u. (b ∷ ds ++ r.0, r.1) ∷ u) (within_half b ds t)
-
 length_within : (ds : List Bool) (t : List (List Bool × Option ℕ)) → length (within ds t) ≡ length t
 length_within ds t = length-map t (λ r. (ds ++ r.0, r.1))
 
@@ -133,10 +126,10 @@ Gives-within : (ds : List Bool) (v : ℕ) (h : List Bool → Option ℕ) (k : Op
 Gives-within [] v h k t g one = rw (zero-add, within-whole t) g
 Gives-within (true ∷ ds) v h k t g one =
     let n = length ds + v in
-    rw (within_half true ds t, ← one_more (length ds) v) (Gives-joined n h k [] (within ds t) (one_hop n (half_of false h) k (other_half true ds v h k one)) (Gives-within ds v (half_of true h) k t g (outside_half true ds v h k one)))
+    rw (← within_within (true ∷ []) ds t, ← one_more (length ds) v) (Gives-joined n h k [] (within ds t) (one_hop n (half_of false h) k (other_half true ds v h k one)) (Gives-within ds v (half_of true h) k t g (outside_half true ds v h k one)))
 Gives-within (false ∷ ds) v h k t g one =
     let n = length ds + v in
-    let u : joined (within ds t) [] ≡ within (false ∷ ds) t = append-nil (inside false (within ds t)) ∙ sym (within_half false ds t) in
+    let u : joined (within ds t) [] ≡ within (false ∷ ds) t = append-nil (inside false (within ds t)) ∙ within_within (false ∷ []) ds t in
     rw (← u, ← one_more (length ds) v) (Gives-joined n h k (within ds t) [] (Gives-within ds v (half_of false h) k t g (outside_half false ds v h k one)) (one_hop n (half_of true h) k (other_half false ds v h k one)))
 
 absent : (ds : List Bool) (t : List (List Bool × Option ℕ)) → 0 < length ds → Absent [] (within ds t)

@@ -9,17 +9,13 @@ use Rattle.least_table.specs.InnerSteps.{Step, passed, all_routes, HaveRoom}
 use Rattle.least_table.specs.InnerPlans.{Plan, Leaf, Fork, Skip, steps_of, tree_of, AllFit, Fits}
 use Rattle.least_table.specs.InnerSteps as steps
 use Rattle.least_table.proofs.Sets.{same_hop-true}
-use Rattle.least_table.proofs.Stores.{within-halves}
+use Rattle.least_table.proofs.Stores.{within-halves, within_within}
 
 half_length : (b : List Bool) (c : Bool) → length (b ++ c ∷ []) ≡ suc (length b)
 half_length b c = length-append b (c ∷ []) ∙ omega arith
 
 inner_length : (b s : List Bool) → length b ≤ length s → length (b ++ drop (length b) s) ≡ length s
 inner_length b s l = length-append b (drop (length b) s) ∙ omega (arith, length-drop (length b) s, l)
-
-within_within : (b ds : List Bool) (t : List (List Bool × Option ℕ)) → within b (within ds t) ≡ within (b ++ ds) t
-within_within b ds [] = refl
-within_within b ds (r ∷ t) = ap₂ (λ x y. (x, r.1) ∷ y) (sym (append_assoc b ds r.0)) (within_within b ds t)
 
 -- ---- the routes of a block and of those in it
 
