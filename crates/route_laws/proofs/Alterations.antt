@@ -29,9 +29,6 @@ SameBut M N n = (s : Route) → (s.block ≡ n → ⊥) → In s M ↔ In s N
 added_same : (M : List Route) (m : IsTable M) (r : Route) (ok : IsBlock r.block) → SameBut M (with_route M r) r.block
 added_same M m r ok s f = ((λ i. added_other M m r ok s i f), (λ i. ⊎_elim (λ e. absurd (f (ap Route.block e))) (λ t. t.0) (added_back M m r ok s i)))
 
-left_same : (M : List Route) (m : IsTable M) (n : Block) → SameBut M (without_block M n) n
-left_same M m n s f = ((λ i. left_other M m n s i f), (λ i. (left_back M m n s i).0))
-
 -- n governs the same in both
 governed_from : (M N : List Route) (n : Block) → ((s : Route) → (s.block ≡ n → ⊥) → In s N → In s M) → (x : Address) → Governed M n x → Governed N n x
 governed_from M N n back x g = record {
@@ -148,7 +145,7 @@ module _ (M : List Route) (m : IsTable M) where
             (same_or_not s.block n)
 
     pub left_change : IsChange M (without_block M n) n
-    left_change = record { table = left_is_table M m n; others = left_same M m n; stays = left_match }
+    left_change = record { table = left_is_table M m n; others = λ s f. ((λ i. left_other M m n s i f), (λ i. (left_back M m n s i).0)); stays = left_match }
 
 -- a new route that is taken out again
 pub restored : (M : List Route) (r : Route) → IsTable M → is_stored M r.block ≡ false → without_block (with_route M r) r.block ≡ M

@@ -1,7 +1,6 @@
 -- The list that a change prints is the list of the maximal blocks of the addresses whose hop differs, as a fact and not as a test.
-use Rattle.std.proofs.Common.{◌≡◌, ◌≢◌, ℕ, true, List, Option, Some, None, refl, ap, arith, sym, ◌∙◌}
+use Rattle.std.proofs.Common.{◌≡◌, ℕ, true, List, Option, Some, None, refl, ap, arith, sym, ◌∙◌}
 use Rattle.std.proofs.lemmas.Bool.Decides.{nat_tests}
-use Rattle.ipnet_addr.specs.Addresses.{Address}
 use Rattle.ipnet_blocks.specs.Maximal.{IsMaximal, maximal_of}
 use Rattle.ipnet_blocks.proofs.Search.{search_is_maximal}
 use Rattle.route_laws.specs.Tables.{Route, hop_at, Changed}
@@ -19,12 +18,8 @@ pub same_itself : (o : Option ℕ) → same_number o o ≡ true
 same_itself None = refl
 same_itself (Some k) = grind (arith, nat_tests)
 
-module _ (M N : List Route) where
-  differs : (x : Address) → changed M N x ≡ true → hop_at M x ≢ hop_at N x
-  differs x e q = not_cases (same_number (hop_at M x) (hop_at N x)) e (ap (same_number (hop_at M x)) (sym q) ∙ same_itself (hop_at M x))
-
-  tested : (x : Address) → hop_at M x ≢ hop_at N x → changed M N x ≡ true
-  tested x f = not_from (same_number (hop_at M x) (hop_at N x)) (λ e. f (same_from_test (hop_at M x) (hop_at N x) e))
-
-  pub changed_is_maximal : IsMaximal (Changed M N) (maximal_of (changed M N))
-  changed_is_maximal = maximal_same (λ x. changed M N x ≡ true) (Changed M N) (λ x a h. differs x h) (λ x a h. tested x h) (maximal_of (changed M N)) (search_is_maximal (changed M N))
+pub changed_is_maximal : (M N : List Route) → IsMaximal (Changed M N) (maximal_of (changed M N))
+changed_is_maximal M N = maximal_same (λ x. changed M N x ≡ true) (Changed M N)
+    (λ x a e q. not_cases (same_number (hop_at M x) (hop_at N x)) e (ap (same_number (hop_at M x)) (sym q) ∙ same_itself (hop_at M x)))
+    (λ x a d. not_from (same_number (hop_at M x) (hop_at N x)) (λ e. d (same_from_test (hop_at M x) (hop_at N x) e)))
+    (maximal_of (changed M N)) (search_is_maximal (changed M N))

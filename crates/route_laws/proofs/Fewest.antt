@@ -12,7 +12,7 @@ use Rattle.ipnet_blocks.proofs.Parents.{larger_is_shorter}
 use Rattle.ipnet_blocks.proofs.Search.{left_is_block, right_is_block, left_inside, right_inside, in_a_half, address_in_a_half, leaf_address, halves_in_order}
 use Rattle.ipnet_blocks.specs.Halves.{IsLesser}
 use Rattle.route_choices.specs.Hops.{IsHop, hop_from, number_of}
-use Rattle.route_laws.specs.Fewest.{handed, hop_under, GivesInside, IsFewest, AreHops, FewestOfHost, FewestByHalves}
+use Rattle.route_laws.specs.Fewest.{handed, hop_under, GivesInside, IsFewest, AreHops, FewestOfHost}
 use Rattle.route_laws.specs.Tables.{Route, IsTable, match_of}
 use Rattle.route_laws.proofs.Insides.{Sooner, sound, rising, table_of, within, within_gives, under_route, few, joined_gives}
 use Rattle.route_laws.proofs.Ordered.{same_or_not, before_apart, before_inner}
@@ -158,7 +158,7 @@ module _ (h : Address → Option ℕ) (small : AreHops h) (b : Block) (ok : IsBl
   under_other s None = with_own s None tt
   under_other s (Some j) = ⊎_elim (with_own s (Some j)) (λ large. let u = with_own s None tt in (u.0, u.1, omega (arith, u.2, no_better j large))) (cases_lt j (2 ^ 32))
 
-  from_lesser : (s : Option ℕ) (n : ℕ) → IsLesser f g s n → IsFewest h b s n
+  pub from_lesser : (s : Option ℕ) (n : ℕ) → IsLesser f g s n → IsFewest h b s n
   from_lesser s n l = record {
     reached = ⊎_elim (λ e. let u = under_same s in (u.0, u.1, u.2 ∙ sym e)) (λ p. let u = under_other s p.0 in (u.0, u.1, omega (arith, u.2, p.1, at_least (needs s u.0 u.1)))) l.reached;
     least = λ u gives. at_least (needs s u gives);
@@ -168,7 +168,7 @@ module _ (h : Address → Option ℕ) (small : AreHops h) (b : Block) (ok : IsBl
       at_least (inl e) = omega (arith, e, l.under_s)
       at_least (inr p) = omega (arith, p.1, l.under_any p.0)
 
-  to_lesser : (s : Option ℕ) (n : ℕ) → IsFewest h b s n → IsLesser f g s n
+  pub to_lesser : (s : Option ℕ) (n : ℕ) → IsFewest h b s n → IsLesser f g s n
   to_lesser s n l = record {
     reached = ⊎_elim (λ e. inl (omega (arith, e, l.reached.2, small_s))) (λ p. inr (p.0, omega (arith, p.1, l.reached.2, any p.0))) (needs s l.reached.0 l.reached.1);
     under_s = small_s;
@@ -181,19 +181,13 @@ module _ (h : Address → Option ℕ) (small : AreHops h) (b : Block) (ok : IsBl
       any : (k : Option ℕ) → n ≤ f k + g k + 1
       any k = let u = under_other s k in omega (arith, l.least u.0 u.1, u.2)
 
-pub fewest_by_halves : FewestByHalves
-fewest_by_halves h small b ok room f g below above s n = (to_lesser h small b ok room f g below above s n, from_lesser h small b ok room f g below above s n)
-
 -- the block of one address
 module _ (h : Address → Option ℕ) (small : AreHops h) (b : Block) (ok : IsBlock b) (whole : b.len ≡ width b.family) where
-  one_address : (x : Address) → HasAddress b x → first_of b ≡ x
-  one_address x m = leaf_address b (omega (arith, whole)) x m
-
   empty : (s : Option ℕ) → h (first_of b) ≡ s → GivesInside h b s []
   empty s e = record {
     table = table_of [] (λ r i. absurd i) tt;
     inside = All-from_In (λ (r : Route). IsInside r.block b) [] (λ r i. absurd i);
-    same = λ x m. sym e ∙ ap h (one_address x m);
+    same = λ x m. sym e ∙ ap h (leaf_address b (omega (arith, whole)) x m);
   }
 
   one : (s : Option ℕ) → GivesInside h b s (route_at b (h (first_of b)) ∷ [])

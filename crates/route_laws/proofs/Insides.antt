@@ -128,9 +128,6 @@ module _ (c d : Block) (okc : IsBlock c) (okd : IsBlock d)
         (λ r i. ⊎_elim (λ j. sound L gl.table r j) (λ j. sound N gn.table r j) (In-cases r L N i))
         (Rising-joined Sooner L N (rising L gl.table) (rising N gn.table) (λ r q i j. order r.block q.block (lies_c r i) (lies_d q j)))
 
-    pub joined_lies : (b : Block) → IsInside c b → IsInside d b → (r : Route) → In r (L ++ N) → IsInside r.block b
-    joined_lies b u v r i = ⊎_elim (λ j x m. u x (lies_c r j x m)) (λ j x m. v x (lies_d r j x m)) (In-cases r L N i)
-
     -- in each the hops are those of its own table
     pub joined_first : (x : Address) → HasAddress c x → hop_under s (L ++ N) x ≡ h x
     joined_first x m = ap (handed s) (same_match x (member_is_address c x okc m) (L ++ N) L joined_table gl.table
@@ -143,6 +140,6 @@ module _ (c d : Block) (okc : IsBlock c) (okd : IsBlock d)
     pub joined_gives : (b : Block) → IsInside c b → IsInside d b → ((x : Address) → HasAddress b x → (HasAddress c x) ⊎ (HasAddress d x)) → GivesInside h b s (L ++ N)
     joined_gives b u v either = record {
       table = joined_table;
-      inside = All-from_In (λ r. IsInside r.block b) (L ++ N) (joined_lies b u v);
+      inside = All-from_In (λ r. IsInside r.block b) (L ++ N) (λ r i. ⊎_elim (λ j x m. u x (lies_c r j x m)) (λ j x m. v x (lies_d r j x m)) (In-cases r L N i));
       same = λ x m. ⊎_elim (joined_first x) (joined_second x) (either x m);
     }

@@ -20,9 +20,6 @@ use Rattle.route_laws.specs.Networks.{Stored, IsStoredTable, best_route, routes_
 abbrev pub Earlier : Stored → Stored → Type 0
 Earlier s t = IsBefore s.block t.block
 
-earlier_strict : (s t : Stored) → Earlier s t → Earlier t s → ⊥
-earlier_strict s t = strict s.block t.block
-
 -- ---- the best routes of a change: no condition on the table
 
 pub routes_with : (T : List Stored) (s : Stored) → routes_of (with_stored T s) ≡ with_route (routes_of T) (best_route s)
@@ -143,7 +140,7 @@ module _ (T : List Stored) (ok : IsStoredTable T) where
 
 -- two tables with equal choices at each block are equal
 pub same_tables : (T U : List Stored) → IsStoredTable T → IsStoredTable U → ((b : Block) → choices_at T b ≡ choices_at U b) → T ≡ U
-same_tables T U okt oku same = same_rising Earlier earlier_strict T U (rising T okt) (rising U oku)
+same_tables T U okt oku same = same_rising Earlier (λ s t. strict s.block t.block) T U (rising T okt) (rising U oku)
     (λ s i. into T U okt oku same s i)
     (λ s i. into U T oku okt (λ b. sym (same b)) s i)
   where

@@ -48,9 +48,6 @@ module _ (b : Block) (ok : IsBlock b) where
     pub hops_of_one : (x : Address) → IsAddress x → hop_at (one_route b k) x ≡ cond (has_address b x) (Some k) None
     hops_of_one = over_hops [] none_is_table route ok fits
 
-    hop_here : (x : Address) → IsAddress x → HasAddress b x → hop_at (one_route b k) x ≡ Some k
-    hop_here x a h = hops_of_one x a ∙ cond-true (has_address b x) (Some k) None (test_from_has b x h)
-
     told : (x : Address) → IsAddress x → (n : ℕ) → hop_at (one_route b k) x ≡ Some n → HasAddress b x × (k ≡ n)
     told x a n e = let t = cond_some (has_address b x) k n (sym (hops_of_one x a) ∙ e) in (has_from_test b x t.0, t.1)
 
@@ -59,7 +56,7 @@ module _ (b : Block) (ok : IsBlock b) where
         ((blocks_of_add [] none_is_table route ok fits (b ∷ []) (blocks_same (HasAddress b) (Governed [] b) (λ x a h. record { inside = h; free = λ r c l i. In-from_Contains [] r c }) (λ x a g. g.inside) (b ∷ []) one_block)).0 (none-some k))
 
     top_for : (n : ℕ) → k ≡ n → IsMaximalBlock (λ x. hop_at (one_route b k) x ≡ Some n) b
-    top_for n e = maximal_same (HasAddress b) (λ x. hop_at (one_route b k) x ≡ Some n) (λ x a h. hop_here x a h ∙ ap (λ i. Some i) e) (λ x a s. (told x a n s).0) b is_top
+    top_for n e = maximal_same (HasAddress b) (λ x. hop_at (one_route b k) x ≡ Some n) (λ x a h. hops_of_one x a ∙ cond-true (has_address b x) (Some k) None (test_from_has b x h) ∙ ap (λ i. Some i) e) (λ x a s. (told x a n s).0) b is_top
 
     is_flat : IsFlat (hop_at (one_route b k)) (record { block = b; number = k } ∷ [])
     is_flat = record {

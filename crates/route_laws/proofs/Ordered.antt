@@ -109,9 +109,6 @@ module _ {X : Type 0} (at : X → Block) where
     pub gone_other : (y : X) → In y M → (at y ≡ b → ⊥) → In y (without M b)
     gone_other y i apart = In-filter (λ y. not (same_block (at y) b)) M y i (not_from (same_block (at y) b) (λ e. apart (same_from_test (at y) b e)))
 
-    pub gone_rises : Rising Earlier M → Rising Earlier (without M b)
-    gone_rises up = Rising-kept Earlier (λ y. not (same_block (at y) b)) M up
-
   -- two members of one block are one
   pub one_of_block : (M : List X) → Rising Earlier M → (x y : X) → In x M → In y M → at x ≡ at y → x ≡ y
   one_of_block [] r x y i j e = absurd i
@@ -122,7 +119,7 @@ module _ {X : Type 0} (at : X → Block) where
 
   -- what is put where nothing of its block is, and taken out again
   pub put_gone : (M : List X) (x : X) → Rising Earlier M → ((y : X) → In y M → at y ≡ at x → ⊥) → without (put M x) (at x) ≡ M
-  put_gone M x up none = same_rising Earlier (λ y z. strict (at y) (at z)) (without (put M x) (at x)) M (gone_rises (put M x) (at x) (put_rises M x up)) up
+  put_gone M x up none = same_rising Earlier (λ y z. strict (at y) (at z)) (without (put M x) (at x)) M (Rising-kept Earlier (λ y. not (same_block (at y) (at x))) (put M x) (put_rises M x up)) up
       (λ y i. let t = gone_back (put M x) (at x) y i in ⊎_elim (λ e. absurd (t.1 (ap at e))) (λ u. u.0) (put_back M x y t.0))
       (λ y i. gone_other (put M x) (at x) y (put_other M x y i (none y i)) (none y i))
 

@@ -81,12 +81,9 @@ module _ {X : Type 0} (at : X → Block) where
     pub over_itself : In x (over M x)
     over_itself = put_itself at (outside M (at x)) x
 
-    pub over_are : AreAt (over M x)
-    over_are = put_are (outside M (at x)) rest x ok
-
     -- it is the one list with these members
     pub over_is : (N : List X) → AreAt N → ((y : X) → In y N → (y ≡ x) ⊎ (In y M × (IsInside (at y) (at x) → ⊥))) → In x N → ((y : X) → In y M → (IsInside (at y) (at x) → ⊥) → In y N) → N ≡ over M x
-    over_is N t back itself other = same_rising (Earlier at) (λ y z. strict (at y) (at z)) N (over M x) t.rising over_are.rising
+    over_is N t back itself other = same_rising (Earlier at) (λ y z. strict (at y) (at z)) N (over M x) t.rising (AreAt.rising (put_are (outside M (at x)) rest x ok))
         (λ y i. ⊎_elim (λ e. subst (λ (z : X). In z (over M x)) (sym e) over_itself) (λ u. over_other y u.0 u.1) (back y i))
         (λ y i. ⊎_elim (λ e. subst (λ (z : X). In z N) (sym e) itself) (λ u. other y u.0 u.1) (over_back y i))
 
@@ -150,13 +147,9 @@ networks_placed T t = record { blocks = stored_block T t; rising = Rising-from_p
 pub leaf_overwritten : (T : List Stored) → IsStoredTable T → (s : Stored) → IsBlock s.block → (S : List Stored) → S ≡ put Stored.block T s → IsLeaf S s.block → S ≡ over Stored.block T s
 leaf_overwritten T t s ok S e leaf = e ∙ over_leaf Stored.block T (networks_placed T t) s ok (λ y i l. leaf y (Contains-from_In S y (subst (In y) (sym e) i)) l)
 
--- a host has room for nothing
-pub host_is_leaf : (T : List Stored) → IsStoredTable T → (b : Block) → IsBlock b → free_bits b ≡ 0 → IsLeaf T b
-host_is_leaf T t b ok h s c l = l.1 (alone b s.block h l.0)
-
 -- a network with another inside is no host
 pub room_inside : (T : List Stored) → IsStoredTable T → (b : Block) → IsBlock b → (leaf : Bool) → IsTrue leaf ↔ IsLeaf T b → leaf ≡ false → 0 < free_bits b
-room_inside T t b ok leaf h e = ⊎_elim (λ l. l) (λ n. absurd (let z = sym e ∙ h.1 (host_is_leaf T t b ok (omega (arith, n))) in cc)) (cases_lt 0 (free_bits b))
+room_inside T t b ok leaf h e = ⊎_elim (λ l. l) (λ n. absurd (let z = sym e ∙ h.1 (λ s c l. l.1 (alone b s.block (omega (arith, n)) l.0)) in cc)) (cases_lt 0 (free_bits b))
 
 -- a part of a table of networks is one
 pub outside_is_stored : (T : List Stored) → IsStoredTable T → (n : Block) → IsStoredTable (networks_outside T n)

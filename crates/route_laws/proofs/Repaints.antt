@@ -48,9 +48,6 @@ module _ (M : List Route) where
     kept_missing : (p : Route → Bool) → missing M (filter p out) ≡ []
     kept_missing p = none_kept (λ s. not (is_held M s)) (filter p out) (λ s i. held_member s (out_back s (In-from_filter p out s i).0).0)
 
-    bare_missing : missing M out ≡ []
-    bare_missing = none_kept (λ s. not (is_held M s)) out (λ s i. held_member s (out_back s i).0)
-
     over_missing : reverse (missing M over) ≡ cond (is_held M r) [] (r ∷ [])
     over_missing = ap reverse (filter-append (λ s. not (is_held M s)) (filter (λ s. is_before s.block r.block) out) (r ∷ filter (λ s. is_before r.block s.block) out)
         ∙ ap (λ K. K ++ missing M (r ∷ filter (λ s. is_before r.block s.block) out)) (kept_missing (λ s. is_before s.block r.block))
@@ -99,5 +96,5 @@ module _ (M : List Route) where
     repaint_operations = go (same_number (match_number (match_of out r.block)) (number_of r.hop))
       where
         go : (c : Bool) → between M (cond c out over) ≡ cond c (removes (routes_inside M r.block)) (installs (cond (is_held M r) [] (r ∷ [])) ++ removes (strictly_inside M r.block))
-        go true = ap (λ K. installs (reverse K) ++ removes (surplus M out)) bare_missing ∙ ap removes bare_surplus
+        go true = ap (λ K. installs (reverse K) ++ removes (surplus M out)) (none_kept (λ s. not (is_held M s)) out (λ s i. held_member s (out_back s i).0)) ∙ ap removes bare_surplus
         go false = ap (λ K. installs K ++ removes (surplus M over)) over_missing ∙ ap (λ K. installs (cond (is_held M r) [] (r ∷ [])) ++ removes K) over_surplus
