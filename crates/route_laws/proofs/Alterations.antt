@@ -17,8 +17,7 @@ use Rattle.route_laws.specs.Tables.{Route, IsTable, longer, match_of, match_numb
 use Rattle.route_laws.proofs.Changes.{changed_is_maximal}
 use Rattle.route_laws.proofs.Matches.{block_in, match_meets, governed_match, longer_cases, match_of_own}
 use Rattle.route_laws.proofs.Ordered.{same_or_not, put_gone}
-use Rattle.route_laws.proofs.Updates.{added_back, added_itself, added_other, added_is_table, left_back, left_other, left_is_table}
-use Rattle.route_laws.proofs.Held.{match_after_add, match_after_del}
+use Rattle.route_laws.proofs.Updates.{added_back, added_itself, added_other, added_is_table, left_back, left_other, left_is_table, match_after_add, match_after_del}
 use Rattle.route_laws.proofs.Insides.{host_inside, rising, same_parts}
 use Rattle.ipnet_addr.proofs.Basics.{list_any-from_In}
 

@@ -17,8 +17,6 @@ pub mod Listed
 pub mod TableHops
 pub mod FlatTables
 pub mod Rebuilds
-pub mod Readded
-pub mod Held
 pub mod OneRoute
 pub mod Insides
 pub mod Fewest
@@ -30,7 +28,6 @@ pub mod FewestOperations
 pub mod Painted
 pub mod Repaints
 pub mod Handed
-pub mod OperationCounts
 pub mod Batches
 pub mod Runs
 pub mod OperationRows

@@ -2,8 +2,7 @@ use Rattle.route_laws.proofs.laws.flat.Goals as goal
 use Rattle.route_laws.proofs.Flats.{flat_is_shortest, shortest_is_flat, flat_is_admissible, same_flat}
 use Rattle.route_laws.proofs.FlatBounds.{flat_bound}
 use Rattle.route_laws.proofs.FlatTables.{flat_is_table}
-use Rattle.route_laws.proofs.Rebuilds.{flat_rebuilds}
-use Rattle.route_laws.proofs.Readded.{flat_readded, readded_are_new}
+use Rattle.route_laws.proofs.Rebuilds.{flat_rebuilds, flat_readded, readded_are_new}
 use Rattle.route_laws.proofs.FlatSearch.{search_is_flat}
 use Rattle.route_laws.proofs.Own.{own_is_maximal}
 
