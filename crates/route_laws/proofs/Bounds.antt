@@ -48,10 +48,8 @@ cond_less false b x y h l = omega arith
 
 halves_of : (a b c : Bool) (m l n : ℕ) → l ≡ n + 1 → (a ≡ true → (c ≡ true) × (l < m)) → (b ≡ true → (c ≡ true) × (l < m)) → (a ≡ true → b ≡ true → ⊥) → (c ≡ true → n < m) → cond a (m - l) 0 + cond b (m - l) 0 + cond c 1 0 ≤ cond c (m - n) 0
 halves_of true true c m l n e f g both h = absurd (both refl refl)
-halves_of true false true m l n e f g both h = let k = (f refl).1 in omega arith
-halves_of true false false m l n e f g both h = let q = (f refl).0 in absurd (cc)
-halves_of false true true m l n e f g both h = let k = (g refl).1 in omega arith
-halves_of false true false m l n e f g both h = let q = (g refl).0 in absurd (cc)
+halves_of true false c m l n e f g both h = let k = f refl in rw (k.0) (omega (arith, k.1, e))
+halves_of false true c m l n e f g both h = let k = g refl in rw (k.0) (omega (arith, k.1, e))
 halves_of false false true m l n e f g both h = let k = h refl in omega arith
 halves_of false false false m l n e f g both h = omega arith
 
