@@ -3,7 +3,7 @@ use Rattle.std.proofs.Common.{◌≡◌, ◌≢◌, ℕ, zero, suc, ◌+◌, ◌
 use Rattle.least_table.specs.Tables.{Absent, hop_under, Gives, IsFewest, half_of}
 use Rattle.ipnet_blocks.specs.Halves.{IsLesser}
 use Rattle.least_table.specs.Laws.{HostLaw, HalvesLaw}
-use Rattle.least_table.proofs.Split.{half, own, passed, own_count, hop-half, own-none, longest-empty, length-halves, IsTable-half, joined, half-joined, own_count-joined, own_count-absent, IsTable-joined, Absent-joined, length-joined}
+use Rattle.least_table.proofs.Split.{half, own, passed, own_count, hop-half, own-none, longest-empty, length-halves, IsTable-half, joined, half-joined, own_count-absent, IsTable-joined, Absent-joined, length-joined}
 
 -- a table's halves give the hops of the halves, under what its own route hands down
 pub Gives-half : (w : ℕ) (h : List Bool → Option ℕ) (s : Option ℕ) (t : List (List Bool × Option ℕ)) → Gives (suc w) h s t → (b : Bool) → Gives w (half_of b h) (passed s (own t)) (half t b)
@@ -20,7 +20,7 @@ Gives-joined w h s l r gl gr = record {
 }
   where
     passes : passed s (own (joined l r)) ≡ s
-    passes = rw (own-none (joined l r) (own_count-joined l r)) refl
+    passes = rw (own-none (joined l r) (own_count-absent (joined l r) (Absent-joined l r))) refl
 
     under : (b : Bool) (x : List Bool) → hop_under s (joined l r) (b ∷ x) ≡ hop_under s (cond b r l) x
     under b x = hop-half s (joined l r) b x ∙ ap (λ v. hop_under v (half (joined l r) b) x) passes ∙ ap (λ v. hop_under s v x) (half-joined l r b)

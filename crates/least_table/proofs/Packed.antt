@@ -107,12 +107,9 @@ set_here : (sets hops : List (Option ℕ)) (n : ℕ) → n ≡ length hops → s
 set_here [] hops n e = take_all n hops (omega (arith, e))
 set_here (s ∷ sets) hops n e = set_here sets hops n e
 
-size_here : (sets hops : List (Option ℕ)) (n : ℕ) → size_at (sets ++ Some n ∷ hops) (length sets) ≡ n
-size_here sets hops n = ap size_of (get_or-append_seam sets (Some n) hops None)
-
 pub several_kept : (sets hops : List (Option ℕ)) (at n : ℕ) → at ≡ length sets → n ≡ length hops
     → (suc at + size_at (sets ++ Some n ∷ hops) at ≤ length (sets ++ Some n ∷ hops)) × (set_at (sets ++ Some n ∷ hops) at ≡ hops)
-several_kept sets hops at n e f = rw e (omega (arith, size_here sets hops n, length-append sets (Some n ∷ hops), f), set_here sets hops n f)
+several_kept sets hops at n e f = rw e (omega (arith, ap size_of (get_or-append_seam sets (Some n) hops None), length-append sets (Some n ∷ hops), f), set_here sets hops n f)
 
 pub inner_here : {B : Type 0} (inner : List B) (b : B) → slice_get (inner ++ b ∷ []) (length inner) ≡ Some b
 inner_here inner b = slice_get_read (inner ++ b ∷ []) (length (inner ++ b ∷ [])) (length inner) b refl (omega (arith, length-append inner (b ∷ []))) (sym (get_or-append_seam inner b [] b))

@@ -155,9 +155,6 @@ own_count-absent [] h = refl
 own_count-absent (([], k) ∷ t) h = absurd (h.0 refl)
 own_count-absent ((b ∷ c, k) ∷ t) h = own_count-absent t h.1
 
-pub own_count-joined : (l r : List (List Bool × Option ℕ)) → own_count (joined l r) ≡ 0
-own_count-joined l r = own_count-absent (joined l r) (Absent-joined l r)
-
 length-inside : (b : Bool) (t : List (List Bool × Option ℕ)) → length (inside b t) ≡ length t
 length-inside b t = length-map t (λ r. (b ∷ r.0, r.1))
 
