@@ -12,10 +12,10 @@ use Rattle.least_table.specs.HopSets.{AreMerged}
 use Rattle.least_table.specs.InnerSteps.{step_best}
 use Rattle.least_table.specs.InnerPlans.{Plan, top, tree_of, IsMade, between, Fits}
 use Rattle.least_table.specs.InnerPlans as plans
-use Rattle.least_table.proofs.Cuts.{hop_at-low, hop_at-high, first_of_all}
+use Rattle.least_table.proofs.Cuts.{first_of_all}
 use Rattle.least_table.proofs.Growths.{best_of_tree, length_between, skip_plan}
 use Rattle.ipnet_blocks.proofs.BitStrings.{take_begins}
-use Rattle.least_table.proofs.Shares.{AllShare, none_outside, hop_inside, all_share, shared_right, shared_short, last_step, ascending_deeper}
+use Rattle.least_table.proofs.Shares.{AllShare, none_outside, hop_inside, all_share, shared_right, shared_short, last_step, ascending_deeper, hop_at-low, hop_at-high}
 
 pub plan_same : (w : ℕ) (h g : List Bool → Option ℕ) (t : Tree) → ((x : List Bool) → h x ≡ g x) → IsPlan w g t → IsPlan w h t
 plan_same w h g (Leaf k) e plan = λ x l. e x ∙ plan x l
@@ -98,9 +98,6 @@ module _ {B : Type 0} (string : B → List Bool) where
       go [] f h = (here, tt)
       go (q ∷ qs) f h = (here, all_share string _ d (drop d (string p.0)) (q ∷ qs) y h.0 h.1 (sym (last_step p q qs) ∙ f) here (shared_right (drop d (string x.0)) (drop d (string y.0))))
 
-  pub common_short : (s t : List Bool) (d c : ℕ) → c ≡ d + shared (drop d s) (drop d t) → d ≤ length s → c ≤ length s
-  common_short s t d c e i = omega (arith, e, i, shared_short (drop d s) (drop d t), length-drop d s)
-
   pub deeper : (first : B) (ps : List (B × ℕ)) (d c : ℕ) → d ≤ c → c ≤ length (string first) → AllShare (between d c (string first)) (beyond string d ps) → IsAscending (beyond string d ps) → IsAscending (beyond string c ps)
   deeper first ps d c i k share h =
       let long = length_between d c (string first) k i in
@@ -124,7 +121,7 @@ module _ {B : Type 0} (string : B → List Bool) where
       let r : n ≡ d + shared (drop d (string x.0)) (drop d (string y.0)) = e ∙ ap₂ (λ u v. d + shared (drop d u) (drop d v)) p q in
       record {
         deep = omega (arith, r);
-        inside = common_short (string x.0) (string y.0) d n r (omega (arith, k, o));
+        inside = omega (arith, r, k, o, shared_short (drop d (string x.0)) (drop d (string y.0)), length-drop d (string x.0));
         short = omega (arith, k, l (first_of_all string (λ p. IsTrue (fits p.0)) ps x i f));
         share = shares ps x y d n i (last_read ps x y i j) r a;
       }

@@ -1,63 +1,45 @@
 -- Plans that skip chains of levels.
-use Rattle.std.proofs.Common.{◌≡◌, ℕ, suc, ◌+◌, ◌<◌, inl, inr, Bool, true, false, cond, not, ◌&&◌, ◌||◌, List, [], ◌∷◌, ◌++◌, length, Option, None, refl, sym, ap, ◌∙◌, subst, arith, append-nil, add-zero, zero-add}
-use Rattle.least_table.proofs.Stores.{within-whole}
+use Rattle.std.proofs.Common.{◌≡◌, ℕ, suc, ◌+◌, ◌<◌, inl, inr, Bool, true, false, cond, not, ◌&&◌, ◌||◌, List, [], ◌∷◌, ◌++◌, length, Option, None, refl, sym, ap, ◌∙◌, subst, arith, append-nil, add-zero, zero-add, ⊎_elim}
+use Rattle.std.proofs.Math.Bool.{or-false, and_comm, and-true, or_comm}
+use Rattle.std.proofs.lemmas.Bool.{cond_both, cases_Bool, false_from_ne_true, true_from_ne_false}
+use Rattle.std.proofs.lemmas.List.{length-map, length-append}
+use Rattle.least_table.proofs.Stores.{within-whole, within_within}
 use Rattle.ipnet_blocks.specs.BitStrings.{begins}
 use Rattle.least_table.specs.Tables.{Absent, Gives, half_of}
 use Rattle.least_table.specs.HopSets.{same_hop, holds, meets, AreMerged, AreBest, fee, first_of}
 use Rattle.least_table.specs.Trees.{inside, within, Tree, Leaf, Fork, Skip, best, OneOutside, inner_of, CanSkip, IsPlan, routes_of, chain_hops, chain_fee}
 use Rattle.least_table.specs.Laws.{ChainLaw, TreesLaw}
-use Rattle.least_table.proofs.Split.{joined}
+use Rattle.least_table.proofs.Split.{joined, Absent-map}
 use Rattle.least_table.proofs.Halves.{Gives-joined, Gives-own}
-use Rattle.least_table.proofs.Sets.{same_hop-refl, same_hop-true, one_hop, meets-true, meets-false, Best-leaf, Best-fork, fees, first_of-holds, Stores, Stores-leaf, Stores-joined, Stores-fork, or_false}
+use Rattle.least_table.proofs.Sets.{same_hop-refl, same_hop-true, one_hop, meets-true, meets-false, Best-leaf, Best-fork, fees, first_of-holds, Stores, Stores-leaf, Stores-joined, Stores-fork}
 use Rattle.least_table.proofs.Cuts.{begins_half}
 
 -- ---- one level: a half with one hop beside any half
 
-and_one : (u v : Bool) → (v ≡ true → u ≡ true) → (v || false) ≡ (u && (v || false))
-and_one true v f = refl
+and_one : (u v : Bool) → (v ≡ true → u ≡ true) → (v || false) ≡ ((v || false) && u)
+and_one true v f = sym (and-true (v || false))
 and_one false true f = absurd (let e = f refl in cc)
 and_one false false f = refl
 
-or_comm : (u v : Bool) → (v || u) ≡ (u || (v || false))
-or_comm true true = refl
-or_comm true false = refl
-or_comm false true = refl
-or_comm false false = refl
-
-and_comm : (u v : Bool) → (u && v) ≡ (v && u)
-and_comm true true = refl
-and_comm true false = refl
-and_comm false true = refl
-and_comm false false = refl
-
-or_swap : (u v : Bool) → (u || v) ≡ (v || u)
-or_swap true true = refl
-or_swap true false = refl
-or_swap false true = refl
-or_swap false false = refl
-
 meets_one : (k : Option ℕ) (hops : List (Option ℕ)) → meets (k ∷ []) hops ≡ holds hops k
-meets_one k hops = or_false (holds hops k)
+meets_one k hops = or-false (holds hops k)
 
 merged_left : (k : Option ℕ) (hops : List (Option ℕ)) → AreMerged (k ∷ []) hops (cond (holds hops k) (k ∷ []) (k ∷ hops))
 merged_left k hops j = go (holds hops k) refl
   where
     go : (c : Bool) → holds hops k ≡ c → holds (cond c (k ∷ []) (k ∷ hops)) j ≡ cond (meets (k ∷ []) hops) (holds (k ∷ []) j && holds hops j) (holds (k ∷ []) j || holds hops j)
-    go true e = rw (meets_one k hops, e) (and_one (holds hops j) (same_hop j k) (λ f. ap (holds hops) (same_hop-true j k f) ∙ e) ∙ and_comm (holds hops j) (same_hop j k || false))
-    go false e = rw (meets_one k hops, e) (or_comm (holds hops j) (same_hop j k) ∙ or_swap (holds hops j) (same_hop j k || false))
+    go true e = rw (meets_one k hops, e) (and_one (holds hops j) (same_hop j k) (λ f. ap (holds hops) (same_hop-true j k f) ∙ e))
+    go false e = rw (meets_one k hops, e) (ap (λ u. u || holds hops j) (sym (or-false (same_hop j k))))
 
 -- whether two lists meet does not depend on their order
 meets_swap : (as' bs : List (Option ℕ)) → meets as' bs ≡ meets bs as'
-meets_swap as' bs = go (meets as' bs) (meets bs as') refl refl
-  where
-    go : (u v : Bool) → meets as' bs ≡ u → meets bs as' ≡ v → u ≡ v
-    go true true e f = refl
-    go false false e f = refl
-    go true false e f = let j = meets-true as' bs e in absurd (meets-false bs as' f j.0 j.2 j.1)
-    go false true e f = let j = meets-true bs as' f in absurd (meets-false as' bs e j.0 j.2 j.1)
+meets_swap as' bs = ⊎_elim
+    (λ e. let j = meets-true as' bs e in e ∙ sym (true_from_ne_false (meets bs as') (λ f. meets-false bs as' f j.0 j.2 j.1)))
+    (λ e. e ∙ sym (false_from_ne_true (meets bs as') (λ f. let j = meets-true bs as' f in meets-false as' bs e j.0 j.2 j.1)))
+    (cases_Bool (meets as' bs))
 
 pub merged_swap : (as' bs cs : List (Option ℕ)) → AreMerged as' bs cs → AreMerged bs as' cs
-merged_swap as' bs cs m j = m j ∙ rw (meets_swap as' bs, and_comm (holds as' j) (holds bs j), or_swap (holds as' j) (holds bs j)) refl
+merged_swap as' bs cs m j = m j ∙ rw (meets_swap as' bs, and_comm (holds as' j) (holds bs j), or_comm (holds as' j) (holds bs j)) refl
 
 -- one level
 pub Best-level : (b : Bool) (w : ℕ) (h : List Bool → Option ℕ) (k : Option ℕ) (hops : List (Option ℕ)) (m : ℕ) → AreBest w (half_of b h) hops m
@@ -87,11 +69,7 @@ pub other_half : (b : Bool) (ds : List Bool) (v : ℕ) (h : List Bool → Option
 other_half b ds v h k one x e = one (not b ∷ x) (omega (arith, e)) (begins_other b ds x)
 
 chain_holds : (k : Option ℕ) (hops : List (Option ℕ)) (c : Bool) (ds : List Bool) → holds (chain_hops k hops (c ∷ ds)) k ≡ true
-chain_holds k hops c [] = go (holds hops k)
-  where
-    go : (u : Bool) → holds (cond u (k ∷ []) (k ∷ hops)) k ≡ true
-    go true = rw (same_hop-refl k) refl
-    go false = rw (same_hop-refl k) refl
+chain_holds k hops c [] = cond_both (holds hops k) (k ∷ []) (k ∷ hops) (λ ks. holds ks k ≡ true) (λ e. rw (same_hop-refl k) refl) (λ e. rw (same_hop-refl k) refl)
 chain_holds k hops c (d ∷ ds) = rw (same_hop-refl k) refl
 
 pub chain_law : ChainLaw
@@ -141,31 +119,21 @@ Best-tree w h (Skip k ds t) plan =
 
 -- ---- what is stored
 
-within_half : (b : Bool) (ds : List Bool) (t : List (List Bool × Option ℕ)) → within (b ∷ ds) t ≡ inside b (within ds t)
-within_half b ds [] = refl
-within_half b ds (r ∷ t) = ap (λ u. (b ∷ ds ++ r.0, r.1) ∷ u) (within_half b ds t)
-
 length_within : (ds : List Bool) (t : List (List Bool × Option ℕ)) → length (within ds t) ≡ length t
-length_within ds [] = refl
-length_within ds (r ∷ t) = ap suc (length_within ds t)
+length_within ds t = length-map t (λ r. (ds ++ r.0, r.1))
 
 Gives-within : (ds : List Bool) (v : ℕ) (h : List Bool → Option ℕ) (k : Option ℕ) (t : List (List Bool × Option ℕ)) → Gives v (inner_of ds h) k t → OneOutside (length ds + v) h ds k → Gives (length ds + v) h k (within ds t)
 Gives-within [] v h k t g one = rw (zero-add, within-whole t) g
 Gives-within (true ∷ ds) v h k t g one =
     let n = length ds + v in
-    rw (within_half true ds t, ← one_more (length ds) v) (Gives-joined n h k [] (within ds t) (one_hop n (half_of false h) k (other_half true ds v h k one)) (Gives-within ds v (half_of true h) k t g (outside_half true ds v h k one)))
+    rw (← within_within (true ∷ []) ds t, ← one_more (length ds) v) (Gives-joined n h k [] (within ds t) (one_hop n (half_of false h) k (other_half true ds v h k one)) (Gives-within ds v (half_of true h) k t g (outside_half true ds v h k one)))
 Gives-within (false ∷ ds) v h k t g one =
     let n = length ds + v in
-    let u : joined (within ds t) [] ≡ within (false ∷ ds) t = append-nil (inside false (within ds t)) ∙ sym (within_half false ds t) in
+    let u : joined (within ds t) [] ≡ within (false ∷ ds) t = append-nil (inside false (within ds t)) ∙ within_within (false ∷ []) ds t in
     rw (← u, ← one_more (length ds) v) (Gives-joined n h k (within ds t) [] (Gives-within ds v (half_of false h) k t g (outside_half false ds v h k one)) (one_hop n (half_of true h) k (other_half false ds v h k one)))
 
-Absent-within : (b : Bool) (ds : List Bool) (t : List (List Bool × Option ℕ)) → Absent [] (within (b ∷ ds) t)
-Absent-within b ds [] = tt
-Absent-within b ds (r ∷ t) = ((λ e. cc), Absent-within b ds t)
-
 absent : (ds : List Bool) (t : List (List Bool × Option ℕ)) → 0 < length ds → Absent [] (within ds t)
-absent [] t l = absurd (omega (arith, l))
-absent (b ∷ ds) t l = Absent-within b ds t
+absent ds t l = Absent-map (λ r. (ds ++ r.0, r.1)) [] t (λ r e. absurd (omega (arith, length-append ds r.0, ap length e, l)))
 
 Stores-skip : (ds : List Bool) (v : ℕ) (h : List Bool → Option ℕ) (k s : Option ℕ) (t : List (List Bool × Option ℕ)) (m : ℕ) → 0 < length ds → OneOutside (length ds + v) h ds k → Stores v (inner_of ds h) k t m
     → Stores (length ds + v) h s (cond (same_hop s k) (within ds t) (([], k) ∷ within ds t)) (m + fee (holds (k ∷ []) s))

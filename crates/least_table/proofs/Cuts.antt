@@ -1,5 +1,5 @@
 -- The pieces of a block, by the halves that they lie in.
-use Rattle.std.proofs.Common.{◌≡◌, ℕ, zero, suc, ◌+◌, ◌<◌, ◌≤◌, Bool, true, false, List, [], ◌∷◌, ◌++◌, length, take, drop, get_or, All, Some, None, refl, sym, ◌∙◌, subst, arith, add-one, length-drop, drop_of_length-le, slice_get}
+use Rattle.std.proofs.Common.{◌≡◌, ℕ, zero, suc, ◌<◌, ◌≤◌, Bool, true, false, List, [], ◌∷◌, length, take, drop, get_or, All, Some, None, refl, sym, subst, arith, length-drop, drop_of_length-le, slice_get}
 use Rattle.std.proofs.lemmas.List.Elements.{All-nil, All-cons, All-head}
 use Rattle.ipnet_blocks.specs.BitStrings.{begins}
 use Rattle.least_table.specs.Pieces.{hop_at}
@@ -12,17 +12,6 @@ begins_at [] d b l e = absurd (omega arith)
 begins_at (x ∷ s) zero true l e = rw e refl
 begins_at (x ∷ s) zero false l e = rw e refl
 begins_at (x ∷ s) (suc d) b l e = begins_at s d b (omega arith) e
-
-pub drop_begins : (s : List Bool) (d : ℕ) (b : Bool) → begins (b ∷ []) (drop d s) ≡ true → drop d s ≡ b ∷ drop (suc d) s
-drop_begins [] zero true h = cc
-drop_begins [] zero false h = cc
-drop_begins [] (suc d) true h = cc
-drop_begins [] (suc d) false h = cc
-drop_begins (true ∷ s) zero true h = refl
-drop_begins (true ∷ s) zero false h = cc
-drop_begins (false ∷ s) zero true h = cc
-drop_begins (false ∷ s) zero false h = refl
-drop_begins (x ∷ s) (suc d) b h = drop_begins s d b h
 
 pub begins_half : (a x : List Bool) (b : Bool) → begins (b ∷ a) (b ∷ x) ≡ begins a x
 begins_half a x true = refl
@@ -78,53 +67,21 @@ module _ {B : Type 0} (string : B → List Bool) where
   AllBegin-up_to d (p ∷ ps) zero x l e f h = (rw (← e) f, tt)
   AllBegin-up_to d (p ∷ ps) (suc i) x l e f h = (before_false _ _ f (before_at (drop d (string p.0)) d ps i x (omega arith) e h.0), AllBegin-up_to d ps i x (omega arith) e f h.1)
 
-  -- the hops of the halves are those of the pieces in them
-  none_low : (d : ℕ) (rs : List (B × ℕ)) → AllBegin true (beyond string d rs) → (x : List Bool) → hop_at (beyond string d rs) (false ∷ x) ≡ None
-  none_low d [] h x = refl
-  none_low d (p ∷ rs) h x = rw (drop_begins (string p.0) d true h.0) (none_low d rs h.1 x)
-
-  pub hop_at-low : (d : ℕ) (ls rs : List (B × ℕ)) → AllBegin false (beyond string d ls) → AllBegin true (beyond string d rs) → (x : List Bool) → hop_at (beyond string d (ls ++ rs)) (false ∷ x) ≡ hop_at (beyond string (suc d) ls) x
-  hop_at-low d [] rs h k x = none_low d rs k x
-  hop_at-low d (p ∷ ls) rs h k x = rw (drop_begins (string p.0) d false h.0, hop_at-low d ls rs h.1 k x) refl
-
-  none_high : (d : ℕ) (rs : List (B × ℕ)) → AllBegin true (beyond string d rs) → (x : List Bool) → hop_at (beyond string d rs) (true ∷ x) ≡ hop_at (beyond string (suc d) rs) x
-  none_high d [] h x = refl
-  none_high d (p ∷ rs) h x = rw (drop_begins (string p.0) d true h.0, none_high d rs h.1 x) refl
-
-  pub hop_at-high : (d : ℕ) (ls rs : List (B × ℕ)) → AllBegin false (beyond string d ls) → AllBegin true (beyond string d rs) → (x : List Bool) → hop_at (beyond string d (ls ++ rs)) (true ∷ x) ≡ hop_at (beyond string (suc d) rs) x
-  hop_at-high d [] rs h k x = none_high d rs k x
-  hop_at-high d (p ∷ ls) rs h k x = rw (drop_begins (string p.0) d false h.0) (hop_at-high d ls rs h.1 k x)
-
   -- parts of a list that ascends do
   BeforeAll-take : (a : List Bool) (d m : ℕ) (ps : List (B × ℕ)) → BeforeAll a (beyond string d ps) → BeforeAll a (beyond string d (take m ps))
   BeforeAll-take a d zero ps h = tt
   BeforeAll-take a d (suc m) [] h = tt
   BeforeAll-take a d (suc m) (p ∷ ps) h = (h.0, BeforeAll-take a d m ps h.1)
 
-  IsAscending-take : (d m : ℕ) (ps : List (B × ℕ)) → IsAscending (beyond string d ps) → IsAscending (beyond string d (take m ps))
+  pub IsAscending-take : (d m : ℕ) (ps : List (B × ℕ)) → IsAscending (beyond string d ps) → IsAscending (beyond string d (take m ps))
   IsAscending-take d zero ps h = tt
   IsAscending-take d (suc m) [] h = tt
   IsAscending-take d (suc m) (p ∷ ps) h = (BeforeAll-take _ d m ps h.0, IsAscending-take d m ps h.1)
 
-  IsAscending-drop : (d m : ℕ) (ps : List (B × ℕ)) → IsAscending (beyond string d ps) → IsAscending (beyond string d (drop m ps))
+  pub IsAscending-drop : (d m : ℕ) (ps : List (B × ℕ)) → IsAscending (beyond string d ps) → IsAscending (beyond string d (drop m ps))
   IsAscending-drop d zero ps h = h
   IsAscending-drop d (suc m) [] h = tt
   IsAscending-drop d (suc m) (p ∷ ps) h = IsAscending-drop d m ps h.1
-
-  BeforeAll-half : (s : List Bool) (d : ℕ) (b : Bool) (ps : List (B × ℕ)) → begins (b ∷ []) (drop d s) ≡ true → AllBegin b (beyond string d ps) → BeforeAll (drop d s) (beyond string d ps) → BeforeAll (drop (suc d) s) (beyond string (suc d) ps)
-  BeforeAll-half s d b [] e h k = tt
-  BeforeAll-half s d b (p ∷ ps) e h k =
-      (sym (rw (drop_begins s d b e, drop_begins (string p.0) d b h.0) (before_half (drop (suc d) s) (drop (suc d) (string p.0)) b)) ∙ k.0, BeforeAll-half s d b ps e h.1 k.1)
-
-  IsAscending-half : (d : ℕ) (b : Bool) (ps : List (B × ℕ)) → AllBegin b (beyond string d ps) → IsAscending (beyond string d ps) → IsAscending (beyond string (suc d) ps)
-  IsAscending-half d b [] h k = tt
-  IsAscending-half d b (p ∷ ps) h k = (BeforeAll-half (string p.0) d b ps h.0 h.1 k.0, IsAscending-half d b ps h.1 k.1)
-
-  pub IsAscending-low : (d m : ℕ) (ps : List (B × ℕ)) → AllBegin false (beyond string d (take m ps)) → IsAscending (beyond string d ps) → IsAscending (beyond string (d + 1) (take m ps))
-  IsAscending-low d m ps h k = rw add-one (IsAscending-half d false (take m ps) h (IsAscending-take d m ps k))
-
-  pub IsAscending-high : (d m : ℕ) (ps : List (B × ℕ)) → AllBegin true (beyond string d (drop m ps)) → IsAscending (beyond string d ps) → IsAscending (beyond string (d + 1) (drop m ps))
-  IsAscending-high d m ps h k = rw add-one (IsAscending-half d true (drop m ps) h (IsAscending-drop d m ps k))
 
   -- all strings are longer than d where the first one is
   all_long : (a : List Bool) (d : ℕ) (ps : List (B × ℕ)) → BeforeAll a (beyond string d ps) → All (λ q. d < length (string q.0)) ps

@@ -1,23 +1,21 @@
 -- What the steps of a plan store, as the routes of its tree.
 use Rattle.std.proofs.Common.{◌≡◌, ℕ, suc, ◌-◌, ◌≤◌, Bool, true, false, cond, List, [], ◌∷◌, ◌++◌, length, drop, reverse, Option, refl, sym, ap, ap₂, ◌∙◌, subst, arith, append_assoc, append-nil, length-append, length-drop}
 use Rattle.std.proofs.lemmas.List.{reverse-append}
+use Rattle.std.proofs.Math.Bool.{or-false}
+use Rattle.std.proofs.lemmas.Bool.{cond_both}
 use Rattle.least_table.specs.HopSets.{holds, same_hop, first_of}
 use Rattle.least_table.specs.Trees.{inside, within, routes_of}
 use Rattle.least_table.specs.InnerSteps.{Step, passed, all_routes, HaveRoom}
 use Rattle.least_table.specs.InnerPlans.{Plan, Leaf, Fork, Skip, steps_of, tree_of, AllFit, Fits}
 use Rattle.least_table.specs.InnerSteps as steps
-use Rattle.least_table.proofs.Sets.{same_hop-true, or_false}
-use Rattle.least_table.proofs.Stores.{within-halves}
+use Rattle.least_table.proofs.Sets.{same_hop-true}
+use Rattle.least_table.proofs.Stores.{within-halves, within_within}
 
 half_length : (b : List Bool) (c : Bool) → length (b ++ c ∷ []) ≡ suc (length b)
 half_length b c = length-append b (c ∷ []) ∙ omega arith
 
 inner_length : (b s : List Bool) → length b ≤ length s → length (b ++ drop (length b) s) ≡ length s
 inner_length b s l = length-append b (drop (length b) s) ∙ omega (arith, length-drop (length b) s, l)
-
-within_within : (b ds : List Bool) (t : List (List Bool × Option ℕ)) → within b (within ds t) ≡ within (b ++ ds) t
-within_within b ds [] = refl
-within_within b ds (r ∷ t) = ap₂ (λ x y. (x, r.1) ∷ y) (sym (append_assoc b ds r.0)) (within_within b ds t)
 
 -- ---- the routes of a block and of those in it
 
@@ -36,14 +34,10 @@ skip_stored false b ds t k = ap₂ (λ x y. (x, k) ∷ y) (sym (append-nil b)) (
 
 -- a set of one hop
 one_holds : (k s : Option ℕ) → holds (k ∷ []) s ≡ same_hop s k
-one_holds k s = or_false (same_hop s k)
+one_holds k s = or-false (same_hop s k)
 
 one_passed : (k s : Option ℕ) → passed (k ∷ []) s ≡ k
-one_passed k s = ap (λ c. cond c s k) (one_holds k s) ∙ go (same_hop s k) refl
-  where
-    go : (c : Bool) → same_hop s k ≡ c → cond c s k ≡ k
-    go true e = same_hop-true s k e
-    go false e = refl
+one_passed k s = ap (λ c. cond c s k) (one_holds k s) ∙ cond_both (same_hop s k) s k (λ u. u ≡ k) (same_hop-true s k) (λ e. refl)
 
 -- ---- the steps in turn
 

@@ -1,8 +1,9 @@
 -- The routes of a plan are in order.
-use Rattle.std.proofs.Common.{◌≡◌, ℕ, ◌<◌, Bool, true, false, cond, List, [], ◌∷◌, ◌++◌, length, All, AllPairs, Option, refl, ◌∙◌, arith}
+use Rattle.std.proofs.Common.{◌≡◌, ℕ, ◌<◌, Bool, true, false, List, [], ◌∷◌, ◌++◌, length, All, AllPairs, Option, refl, ◌∙◌, arith, map}
 use Rattle.std.specs.declared.cmp.Ordering.TheVariants.{Less}
 use Rattle.std.proofs.lemmas.List.Elements.{All-nil, All-cons}
 use Rattle.std.proofs.lemmas.List.Kept.{AllPairs-cons}
+use Rattle.std.proofs.lemmas.Bool.{cond_both}
 use Rattle.ipnet_blocks.specs.BitStrings.{bits_cmp}
 use Rattle.trie_core.proofs.Strings.{bits_cmp-under}
 use Rattle.least_table.specs.HopSets.{holds, same_hop, first_of}
@@ -19,13 +20,9 @@ IsInOrder-within : (ds : List Bool) (t : List (List Bool × Option ℕ)) → IsI
 IsInOrder-within ds [] h = tt
 IsInOrder-within ds (r ∷ t) h = (ComesBeforeAll-within ds r.0 t h.0, IsInOrder-within ds t h.1)
 
-ComesBeforeAll-above : (x : List Bool) (t : List (List Bool × Option ℕ)) → ComesBeforeAll (false ∷ x) (inside true t)
-ComesBeforeAll-above x [] = tt
-ComesBeforeAll-above x (r ∷ t) = (refl, ComesBeforeAll-above x t)
-
-ComesBeforeAll-whole : (b : Bool) (ds : List Bool) (t : List (List Bool × Option ℕ)) → ComesBeforeAll [] (within (b ∷ ds) t)
-ComesBeforeAll-whole b ds [] = tt
-ComesBeforeAll-whole b ds (r ∷ t) = (refl, ComesBeforeAll-whole b ds t)
+ComesBeforeAll-map : (f : List Bool × Option ℕ → List Bool × Option ℕ) (x : List Bool) (t : List (List Bool × Option ℕ)) → ((r : List Bool × Option ℕ) → bits_cmp x (f r).0 ≡ Less) → ComesBeforeAll x (map f t)
+ComesBeforeAll-map f x [] h = tt
+ComesBeforeAll-map f x (r ∷ t) h = (h r, ComesBeforeAll-map f x t h)
 
 ComesBeforeAll-append : (x : List Bool) (t u : List (List Bool × Option ℕ)) → ComesBeforeAll x t → ComesBeforeAll x u → ComesBeforeAll x (t ++ u)
 ComesBeforeAll-append x [] u h k = k
@@ -34,29 +31,21 @@ ComesBeforeAll-append x (r ∷ t) u h k = (h.0, ComesBeforeAll-append x t u h.1 
 IsInOrder-halves : (l r : List (List Bool × Option ℕ)) → IsInOrder l → IsInOrder r → IsInOrder (inside false l ++ inside true r)
 IsInOrder-halves [] r h k = IsInOrder-within (true ∷ []) r k
 IsInOrder-halves (q ∷ l) r h k =
-    (ComesBeforeAll-append (false ∷ q.0) (inside false l) (inside true r) (ComesBeforeAll-within (false ∷ []) q.0 l h.0) (ComesBeforeAll-above q.0 r), IsInOrder-halves l r h.1 k)
+    (ComesBeforeAll-append (false ∷ q.0) (inside false l) (inside true r) (ComesBeforeAll-within (false ∷ []) q.0 l h.0) (ComesBeforeAll-map (λ p. (true ∷ p.0, p.1)) (false ∷ q.0) r (λ p. refl)), IsInOrder-halves l r h.1 k)
 
 whole : (ds : List Bool) → 0 < length ds → (t : List (List Bool × Option ℕ)) → ComesBeforeAll [] (within ds t)
 whole [] l t = absurd (omega (arith, l))
-whole (b ∷ ds) l t = ComesBeforeAll-whole b ds t
+whole (b ∷ ds) l t = ComesBeforeAll-map (λ r. (b ∷ ds ++ r.0, r.1)) [] t (λ r. refl)
 
 pub IsInOrder-routes : (w : ℕ) (t : Tree) (s : Option ℕ) → Fits w t → IsInOrder (routes_of t s)
-IsInOrder-routes w (Leaf k) s g = go (same_hop s k)
-  where
-    go : (v : Bool) → IsInOrder (cond v [] (([], k) ∷ []))
-    go true = tt
-    go false = (tt, tt)
-IsInOrder-routes w (Fork hops l r) s g = go (holds hops s) (λ k. IsInOrder-halves (routes_of l k) (routes_of r k) (IsInOrder-routes g.0 l k g.2) (IsInOrder-routes g.0 r k g.3))
-  where
-    go : (v : Bool) → ((k : Option ℕ) → IsInOrder (inside false (routes_of l k) ++ inside true (routes_of r k)))
-        → IsInOrder (cond v (inside false (routes_of l s) ++ inside true (routes_of r s)) (([], first_of hops) ∷ inside false (routes_of l (first_of hops)) ++ inside true (routes_of r (first_of hops))))
-    go true h = h s
-    go false h = (ComesBeforeAll-append [] (inside false (routes_of l (first_of hops))) (inside true (routes_of r (first_of hops))) (ComesBeforeAll-whole false [] _) (ComesBeforeAll-whole true [] _), h (first_of hops))
-IsInOrder-routes w (Skip k ds t) s g = go (same_hop s k) (IsInOrder-within ds (routes_of t k) (IsInOrder-routes g.0 t k g.3))
-  where
-    go : (v : Bool) → IsInOrder (within ds (routes_of t k)) → IsInOrder (cond v (within ds (routes_of t k)) (([], k) ∷ within ds (routes_of t k)))
-    go true h = h
-    go false h = (whole ds g.2 (routes_of t k), h)
+IsInOrder-routes w (Leaf k) s g = cond_both (same_hop s k) [] (([], k) ∷ []) IsInOrder (λ e. tt) (λ e. (tt, tt))
+IsInOrder-routes w (Fork hops l r) s g =
+    let h : (k : Option ℕ) → IsInOrder (inside false (routes_of l k) ++ inside true (routes_of r k)) = λ k. IsInOrder-halves (routes_of l k) (routes_of r k) (IsInOrder-routes g.0 l k g.2) (IsInOrder-routes g.0 r k g.3) in
+    cond_both (holds hops s) (inside false (routes_of l s) ++ inside true (routes_of r s)) (([], first_of hops) ∷ inside false (routes_of l (first_of hops)) ++ inside true (routes_of r (first_of hops))) IsInOrder (λ e. h s)
+    (λ e. (ComesBeforeAll-append [] (inside false (routes_of l (first_of hops))) (inside true (routes_of r (first_of hops))) (ComesBeforeAll-map (λ p. (false ∷ p.0, p.1)) [] (routes_of l (first_of hops)) (λ p. refl)) (ComesBeforeAll-map (λ p. (true ∷ p.0, p.1)) [] (routes_of r (first_of hops)) (λ p. refl)), h (first_of hops)))
+IsInOrder-routes w (Skip k ds t) s g =
+    let h = IsInOrder-within ds (routes_of t k) (IsInOrder-routes g.0 t k g.3) in
+    cond_both (same_hop s k) (within ds (routes_of t k)) (([], k) ∷ within ds (routes_of t k)) IsInOrder (λ e. h) (λ e. (whole ds g.2 (routes_of t k), h))
 
 all_after : (x : List Bool) (t : List (List Bool × Option ℕ)) → ComesBeforeAll x t → All (λ r. bits_cmp x r.0 ≡ Less) t
 all_after x [] h = All-nil (λ r. bits_cmp x r.0 ≡ Less)

@@ -1,7 +1,8 @@
 -- Steps that are kept stay what they are while others are appended.
 use Rattle.std.proofs.Common.{◌≡◌, ℕ, zero, suc, ◌+◌, ◌<◌, ◌≤◌, Bool, List, [], ◌∷◌, ◌++◌, length, map, take, drop, slice_get, slice_index_or, Option, Some, None, refl, sym, ap, ap₂, ◌∙◌, subst, arith, append_assoc, append-nil, length-append}
 use Rattle.std.proofs.lemmas.Option.{slice_get_read}
-use Rattle.std.proofs.lemmas.List.{map-append, take-append-le, length-map, take_all}
+use Rattle.std.proofs.lemmas.List.{map-append, take-append-le, length-map, take_all, drop-append-le, get_or_append_left, get_or-map, length-drop}
+use Rattle.std.proofs.Math.Seq.{get_or-append_seam}
 use Rattle.least_table.specs.InnerSteps.{Step, passed, step_best, step_blocks}
 use Rattle.least_table.specs.InnerSteps as steps
 use Rattle.least_table.specs.InnerPacked.{size_of, size_at, set_at, around, step_of, IsKept, AreKept, AreWhole, best_at, steps_in, Grows}
@@ -9,23 +10,16 @@ use Rattle.least_table.specs.declared.plan.Packed.{Packed}
 use Rattle.least_table.specs.declared.plan.Packed.TheVariants.{Leaf, Gap, One, Nowhere, Several, Skip}
 use Rattle.least_table.specs.declared.plan.Steps.{Steps}
 
-read_front : {X : Type 0} (xs ys : List X) (i : ℕ) (d : X) → i < length xs → slice_index_or (xs ++ ys) i d ≡ slice_index_or xs i d
-read_front [] ys i d l = absurd (omega (arith, l))
-read_front (x ∷ xs) ys zero d l = refl
-read_front (x ∷ xs) ys (suc i) d l = read_front xs ys i d (omega (arith, l))
-
 get_front : {X : Type 0} (xs ys : List X) (i : ℕ) → i < length xs → slice_get (xs ++ ys) i ≡ slice_get xs i
 get_front [] ys i l = absurd (omega (arith, l))
 get_front (x ∷ xs) ys zero l = refl
 get_front (x ∷ xs) ys (suc i) l = get_front xs ys i (omega (arith, l))
 
 cut_front : {X : Type 0} (m k : ℕ) (xs ys : List X) → m + k ≤ length xs → take k (drop m (xs ++ ys)) ≡ take k (drop m xs)
-cut_front zero k xs ys l = take-append-le k xs ys (omega (arith, l))
-cut_front (suc m) k [] ys l = absurd (omega (arith, l))
-cut_front (suc m) k (x ∷ xs) ys l = cut_front m k xs ys (omega (arith, l))
+cut_front m k xs ys l = ap (take k) (drop-append-le m xs ys (omega (arith, l))) ∙ take-append-le k (drop m xs) ys (omega (arith, l, length-drop m xs))
 
 size_front : (sets more : List (Option ℕ)) (at : ℕ) → suc at + size_at sets at ≤ length sets → size_at (sets ++ more) at ≡ size_at sets at
-size_front sets more at l = ap size_of (read_front sets more at None (omega (arith, l)))
+size_front sets more at l = ap size_of (get_or_append_left sets more None at (omega (arith, l)))
 
 set_front : (sets more : List (Option ℕ)) (at : ℕ) → suc at + size_at sets at ≤ length sets → set_at (sets ++ more) at ≡ set_at sets at
 set_front sets more at l = ap (λ n. take n (drop (suc at) (sets ++ more))) (size_front sets more at l) ∙ cut_front (suc at) (size_at sets at) sets more l
@@ -98,12 +92,6 @@ kept_at sets n [] i d l h = absurd (omega (arith, l))
 kept_at sets n (x ∷ xs) zero d l h = h.0
 kept_at sets n (x ∷ xs) (suc i) d l h = kept_at sets n xs i d (omega (arith, l)) h.1
 
--- what a step is that is read at a place
-step_at : {B : Type 0} (sets : List (Option ℕ)) (inner : List B) (xs : List Packed) (i : ℕ) (d : Packed) (e : Step B) → i < length xs → step_of sets inner (slice_index_or xs i d) ≡ slice_index_or (map (step_of sets inner) xs) i e
-step_at sets inner [] i d e l = absurd (omega (arith, l))
-step_at sets inner (x ∷ xs) zero d e l = refl
-step_at sets inner (x ∷ xs) (suc i) d e l = step_at sets inner xs i d e (omega (arith, l))
-
 module _ {B : Type 0} (s : Steps B) (at : ℕ) (x : Packed) (within : at < length (steps_in s)) (e : x ≡ slice_index_or s.steps.items at x) where
   inside : at < length s.steps.items
   inside = omega (arith, within, length-map s.steps.items (step_of s.sets.items s.inner.items))
@@ -112,24 +100,19 @@ module _ {B : Type 0} (s : Steps B) (at : ℕ) (x : Packed) (within : at < lengt
   kept_read h = subst (λ y. IsKept s.sets.items (length s.inner.items) y) (sym e) (kept_at s.sets.items (length s.inner.items) s.steps.items at x inside h)
 
   pub best_read : (hops : List (Option ℕ)) → hops ≡ step_best (step_of s.sets.items s.inner.items x) → hops ≡ best_at s at
-  best_read hops f = f ∙ ap (λ y. step_best (step_of s.sets.items s.inner.items y)) e ∙ ap step_best (step_at s.sets.items s.inner.items s.steps.items at x (steps.Leaf None) inside)
+  best_read hops f = f ∙ ap (λ y. step_best (step_of s.sets.items s.inner.items y)) e ∙ ap step_best (sym (get_or-map (step_of s.sets.items s.inner.items) s.steps.items at x (steps.Leaf None) inside))
 
 -- the set that was appended
 set_here : (sets hops : List (Option ℕ)) (n : ℕ) → n ≡ length hops → set_at (sets ++ Some n ∷ hops) (length sets) ≡ hops
 set_here [] hops n e = take_all n hops (omega (arith, e))
 set_here (s ∷ sets) hops n e = set_here sets hops n e
 
-size_here : (sets hops : List (Option ℕ)) (n : ℕ) → size_at (sets ++ Some n ∷ hops) (length sets) ≡ n
-size_here [] hops n = refl
-size_here (s ∷ sets) hops n = size_here sets hops n
-
 pub several_kept : (sets hops : List (Option ℕ)) (at n : ℕ) → at ≡ length sets → n ≡ length hops
     → (suc at + size_at (sets ++ Some n ∷ hops) at ≤ length (sets ++ Some n ∷ hops)) × (set_at (sets ++ Some n ∷ hops) at ≡ hops)
-several_kept sets hops at n e f = rw e (omega (arith, size_here sets hops n, length-append sets (Some n ∷ hops), f), set_here sets hops n f)
+several_kept sets hops at n e f = rw e (omega (arith, ap size_of (get_or-append_seam sets (Some n) hops None), length-append sets (Some n ∷ hops), f), set_here sets hops n f)
 
 pub inner_here : {B : Type 0} (inner : List B) (b : B) → slice_get (inner ++ b ∷ []) (length inner) ≡ Some b
-inner_here [] b = refl
-inner_here (x ∷ inner) b = inner_here inner b
+inner_here inner b = slice_get_read (inner ++ b ∷ []) (length (inner ++ b ∷ [])) (length inner) b refl (omega (arith, length-append inner (b ∷ []))) (sym (get_or-append_seam inner b [] b))
 
 -- a step that skips levels leads to the block that it names
 pub skip_blocks : {B : Type 0} (string : B → List Bool) (sets : List (Option ℕ)) (inner : List B) (step : Packed) (at : ℕ) (x : B) (b : List Bool) (s : Option ℕ) → step ≡ Skip at → IsKept sets (length inner) step → x ≡ slice_index_or inner at x

@@ -2,22 +2,11 @@
 use Rattle.std.proofs.Common.{◌≡◌, ℕ, zero, suc, ◌+◌, ◌-◌, ◌/◌, ◌%◌, ◌==◌, ◌^◌, ◌<◌, ◌≤◌, Bool, true, false, List, [], ◌∷◌, ◌++◌, length, take, drop, slice_index_or, refl, sym, ap, ◌∙◌, arith, inl, inr, nat_lt, drop_of_length-le}
 use Rattle.std.proofs.lemmas.Bool.{ltb-true, ltb-false, cases_Bool}
 use Rattle.std.proofs.lemmas.Nat.{shr-shr}
-use Rattle.std.proofs.Math.Seq.{take-nil}
+use Rattle.std.proofs.lemmas.List.{get_or_append_left, get_or-drop, get_or_push, length-drop, take_more as take_next}
 use Rattle.ipnet_blocks.specs.Blocks.{digits}
 use Rattle.ipnet_blocks.proofs.Strings.{length-digits}
 use Rattle.trie_core.specs.Prefixes.{prefix_bits}
 use Rattle.least_table.specs.InnerPieces.{shared}
-
-at_front : (s : List Bool) (b : Bool) (i : ℕ) → i < length s → slice_index_or (s ++ b ∷ []) i false ≡ slice_index_or s i false
-at_front [] b i l = absurd (omega (arith, l))
-at_front (x ∷ s) b zero l = refl
-at_front (x ∷ s) b (suc i) l = at_front s b i (omega (arith, l))
-
-at_end : (s : List Bool) (b : Bool) (i : ℕ) → i ≡ length s → slice_index_or (s ++ b ∷ []) i false ≡ b
-at_end [] b zero e = refl
-at_end [] b (suc i) e = cc
-at_end (x ∷ s) b zero e = cc
-at_end (x ∷ s) b (suc i) e = at_end s b i (omega (arith, e))
 
 bit_of_digits : (n q i : ℕ) → i < n → slice_index_or (digits n q) i false ≡ (q / 2 ^ (n - 1 - i) % 2 == 1)
 bit_of_digits zero q i l = absurd (omega (arith, l))
@@ -25,12 +14,12 @@ bit_of_digits (suc n) q i l = elim (cases_Bool (nat_lt i n)) [
   | inl e ↦
       (let m : i < n = ltb-true _ _ e in
       let k : 1 + (n - 1 - i) ≡ suc n - 1 - i = omega (arith, m) in
-      at_front (digits n (q / 2)) (q % 2 == 1) i (omega (arith, m, length-digits n (q / 2))) ∙ bit_of_digits n (q / 2) i m ∙ ap (λ x. x % 2 == 1) (shr-shr q 1 (n - 1 - i) ∙ ap (λ j. q / 2 ^ j) k))
+      get_or_append_left (digits n (q / 2)) ((q % 2 == 1) ∷ []) false i (omega (arith, m, length-digits n (q / 2))) ∙ bit_of_digits n (q / 2) i m ∙ ap (λ x. x % 2 == 1) (shr-shr q 1 (n - 1 - i) ∙ ap (λ j. q / 2 ^ j) k))
   | inr e ↦
       (let m : i ≡ n = omega (arith, l, ltb-false _ _ e) in
       let k : suc n - 1 - i ≡ 0 = omega (arith, m) in
       let z : q / 1 ≡ q = omega arith in
-      at_end (digits n (q / 2)) (q % 2 == 1) i (m ∙ sym (length-digits n (q / 2))) ∙ sym (ap (λ j. q / 2 ^ j % 2 == 1) k ∙ ap (λ x. x % 2 == 1) z))
+      get_or_push (digits n (q / 2)) (q % 2 == 1) false i (length-digits n (q / 2) ∙ sym m) ∙ sym (ap (λ j. q / 2 ^ j % 2 == 1) k ∙ ap (λ x. x % 2 == 1) z))
 ]
 
 -- the bits of a string at the top of 128 bits
@@ -52,20 +41,8 @@ shared_other_end s t n l = rw (drop_of_length-le t {i = n} l) (shared_nothing (d
 -- ---- the bits of the one after those of the other
 
 pub take_more : (s : List Bool) (d i : ℕ) → d ≤ i → i < length s → take (i - d) (drop d s) ++ slice_index_or s i false ∷ [] ≡ take (suc i - d) (drop d s)
-take_more [] d i l m = absurd (omega (arith, m))
-take_more (x ∷ s) zero zero l m = refl
-take_more (x ∷ s) zero (suc i) l m =
-    let e : suc i - 0 ≡ suc (i - 0) = omega arith in let f : suc (suc i) - 0 ≡ suc (suc i - 0) = omega arith in
-    rw (e, f) (ap (λ t. x ∷ t) (take_more s zero i (omega arith) (omega (arith, m))))
-take_more (x ∷ s) (suc d) zero l m = absurd (omega (arith, l))
-take_more (x ∷ s) (suc d) (suc i) l m =
-    let e : suc i - suc d ≡ i - d = omega arith in let f : suc (suc i) - suc d ≡ suc i - d = omega arith in
-    rw (e, f) (take_more s d i (omega (arith, l)) (omega (arith, m)))
-
-pub take_rest : (s : List Bool) (d i : ℕ) → length s ≤ i → take (i - d) (drop d s) ≡ drop d s
-take_rest [] zero i l = take-nil (i - 0)
-take_rest [] (suc d) i l = take-nil (i - suc d)
-take_rest (x ∷ s) zero zero l = absurd (omega (arith, l))
-take_rest (x ∷ s) zero (suc i) l = let e : suc i - 0 ≡ suc (i - 0) = omega arith in rw e (ap (λ t. x ∷ t) (take_rest s zero i (omega (arith, l))))
-take_rest (x ∷ s) (suc d) zero l = absurd (omega (arith, l))
-take_rest (x ∷ s) (suc d) (suc i) l = let e : suc i - suc d ≡ i - d = omega arith in rw e (take_rest s d i (omega (arith, l)))
+take_more s d i l m =
+    let e : (i - d) + 1 ≡ suc i - d = omega arith in
+    let f : d + (i - d) ≡ i = omega arith in
+    ap (λ x. take (i - d) (drop d s) ++ x ∷ []) (sym (get_or-drop d s (i - d) false ∙ ap (λ j. slice_index_or s j false) f))
+    ∙ sym (take_next (drop d s) (i - d) false (omega (arith, l, m, length-drop d s))) ∙ ap (λ n. take n (drop d s)) e

@@ -1,11 +1,12 @@
 -- Lists of hops in rising order, and their merge.
-use Rattle.std.proofs.Common.{◌≡◌, ◌⊎◌, inl, inr, ℕ, suc, ◌+◌, ◌-◌, ◌<◌, Bool, true, false, cond, ◌&&◌, ◌||◌, List, [], ◌∷◌, ◌++◌, length, take, drop, slice_index_or, Option, Some, None, refl, sym, ap, ap₂, ◌∙◌, subst, arith, append_assoc, append-nil}
-use Rattle.std.proofs.lemmas.Bool.{ltb-true, ltb-false, lt-ltb, and_parts, and_right}
+use Rattle.std.proofs.Common.{◌≡◌, ◌⊎◌, inl, inr, ℕ, suc, ◌+◌, ◌-◌, ◌<◌, Bool, true, false, ◌&&◌, ◌||◌, List, [], ◌∷◌, ◌++◌, length, take, drop, slice_index_or, Option, Some, None, refl, sym, ap, ap₂, ◌∙◌, subst, arith, append_assoc, append-nil}
+use Rattle.std.proofs.lemmas.Bool.{ltb-true, ltb-false, lt-ltb, and_parts, and_right, cond_both, false_from_ne_true}
 use Rattle.std.proofs.lemmas.List.Folds.{list_any-append}
 use Rattle.std.proofs.lemmas.List.{take_all}
+use Rattle.std.proofs.Math.Bool.{or-false, and_comm, or_assoc, or_comm, or-and_distrib_left}
 use Rattle.least_table.specs.HopSets.{same_hop, holds, meets, AreMerged}
 use Rattle.least_table.specs.InnerRising.{is_less, IsLessAll, IsRising, AreCommon, AreAll, CommonLeft, AllLeft}
-use Rattle.least_table.proofs.Sets.{same_hop-true, same_hop-refl, meets-true, meets-false, or_false}
+use Rattle.least_table.proofs.Sets.{same_hop-true, same_hop-refl, meets-true, meets-false}
 
 less_trans : (x y z : Option ℕ) → is_less x y ≡ true → is_less y z ≡ true → is_less x z ≡ true
 less_trans None None z e f = cc
@@ -26,11 +27,7 @@ neither (Some i) None e f = cc
 neither (Some i) (Some j) e f = ap (λ n. Some n) (let a = ltb-false _ _ e in let b = ltb-false _ _ f in omega (arith, a, b))
 
 not_same : (x y : Option ℕ) → is_less x y ≡ true → same_hop x y ≡ false
-not_same x y e = go (same_hop x y) refl
-  where
-    go : (c : Bool) → same_hop x y ≡ c → c ≡ false
-    go false f = refl
-    go true f = absurd (less_irrefl y (subst (λ z. is_less z y ≡ true) (same_hop-true x y f) e))
+not_same x y e = false_from_ne_true (same_hop x y) (λ f. less_irrefl y (subst (λ z. is_less z y ≡ true) (same_hop-true x y f) e))
 
 not_in : (x : Option ℕ) (ys : List (Option ℕ)) → IsLessAll x ys → holds ys x ≡ false
 not_in x [] h = refl
@@ -75,7 +72,7 @@ pushed : (out xs : List (Option ℕ)) (x : Option ℕ) → IsRising (out ++ x �
 pushed out xs x h = rw (append_assoc out (x ∷ []) xs) h
 
 holds_pushed : (out : List (Option ℕ)) (x k : Option ℕ) → holds (out ++ x ∷ []) k ≡ (holds out k || same_hop k x)
-holds_pushed out x k = list_any-append (λ j. same_hop k j) out (x ∷ []) ∙ ap (λ u. holds out k || u) (or_false (same_hop k x))
+holds_pushed out x k = list_any-append (λ j. same_hop k j) out (x ∷ []) ∙ ap (λ u. holds out k || u) (or-false (same_hop k x))
 
 -- k is not in ys where it is the lesser x
 lesser_out : (x y k : Option ℕ) (ys : List (Option ℕ)) → is_less x y ≡ true → IsLessAll y ys → same_hop k x ≡ true → holds (y ∷ ys) k ≡ false
@@ -87,69 +84,18 @@ drop_left o true false w f = ap (λ z. o || z) (f refl)
 drop_left o false v w f = refl
 
 drop_right : (o u v w : Bool) → (u ≡ true → v ≡ false) → (o || (v && (u || w))) ≡ (o || (v && w))
-drop_right o true true w f = absurd (let e = f refl in cc)
-drop_right o true false w f = refl
-drop_right o false v w f = refl
+drop_right o u v w f = ap (λ z. o || z) (and_comm v (u || w)) ∙ drop_left o u w v f ∙ ap (λ z. o || z) (and_comm w v)
 
 take_both : (o u v w : Bool) → (o || ((u || v) && (u || w))) ≡ ((o || u) || (v && w))
-take_both true u v w = refl
-take_both false true v w = refl
-take_both false false v w = refl
+take_both o u v w = ap (λ z. o || z) (sym (or-and_distrib_left u v w)) ∙ sym (or_assoc o u (v && w))
 
 take_left : (o u v w : Bool) → (o || ((u || v) || w)) ≡ ((o || u) || (v || w))
-take_left true u v w = refl
-take_left false true v w = refl
-take_left false false v w = refl
+take_left o u v w = ap (λ z. o || z) (or_assoc u v w) ∙ sym (or_assoc o u (v || w))
 
 take_right : (o u v w : Bool) → (o || (v || (u || w))) ≡ ((o || u) || (v || w))
-take_right true u v w = refl
-take_right false true true w = refl
-take_right false true false w = refl
-take_right false false v w = refl
+take_right o u v w = ap (λ z. o || z) (sym (or_assoc v u w) ∙ ap (λ z. z || w) (or_comm v u)) ∙ take_left o u v w
 
-take_two : (o u v w : Bool) → (o || ((u || v) || (u || w))) ≡ ((o || u) || (v || w))
-take_two true u v w = refl
-take_two false true v w = refl
-take_two false false v w = refl
-
-module _ (low high out : List (Option ℕ)) (x y : Option ℕ) (xs ys : List (Option ℕ)) where
-  common_low : is_less x y ≡ true → CommonLeft low high out (x ∷ xs) (y ∷ ys) → CommonLeft low high out xs (y ∷ ys)
-  common_low e h = record {
-    low_rises = skip_rises x out xs h.low_rises;
-    high_rises = h.high_rises;
-    same = λ k. h.same k ∙ drop_left (holds out k) (same_hop k x) (holds xs k) (holds (y ∷ ys) k) (lesser_out x y k ys e (rest_rises out (y ∷ ys) h.high_rises).0);
-  }
-
-  common_high : is_less y x ≡ true → CommonLeft low high out (x ∷ xs) (y ∷ ys) → CommonLeft low high out (x ∷ xs) ys
-  common_high e h = record {
-    low_rises = h.low_rises;
-    high_rises = skip_rises y out ys h.high_rises;
-    same = λ k. h.same k ∙ drop_right (holds out k) (same_hop k y) (holds (x ∷ xs) k) (holds ys k) (lesser_out y x k xs e (rest_rises out (x ∷ xs) h.low_rises).0);
-  }
-
-  common_both : x ≡ y → CommonLeft low high out (x ∷ xs) (y ∷ ys) → CommonLeft low high (out ++ x ∷ []) xs ys
-  common_both e h = record {
-    low_rises = pushed out xs x h.low_rises;
-    high_rises = pushed out ys x (subst (λ z. IsRising (out ++ z ∷ ys)) (sym e) h.high_rises);
-    same = λ k. subst (λ z. (holds low k && holds high k) ≡ (holds out k || (holds (x ∷ xs) k && holds (z ∷ ys) k))) (sym e) (h.same k)
-        ∙ take_both (holds out k) (same_hop k x) (holds xs k) (holds ys k) ∙ ap (λ u. u || (holds xs k && holds ys k)) (sym (holds_pushed out x k));
-  }
-
-  all_low : is_less x y ≡ true → AllLeft low high out (x ∷ xs) (y ∷ ys) → AllLeft low high (out ++ x ∷ []) xs (y ∷ ys)
-  all_low e h = record {
-    low_rises = pushed out xs x h.low_rises;
-    high_rises = pushed out (y ∷ ys) x (insert_rises x y out xs ys e h.low_rises h.high_rises);
-    same = λ k. h.same k ∙ take_left (holds out k) (same_hop k x) (holds xs k) (holds (y ∷ ys) k) ∙ ap (λ u. u || (holds xs k || holds (y ∷ ys) k)) (sym (holds_pushed out x k));
-  }
-
-  all_high : is_less y x ≡ true → AllLeft low high out (x ∷ xs) (y ∷ ys) → AllLeft low high (out ++ y ∷ []) (x ∷ xs) ys
-  all_high e h = record {
-    low_rises = pushed out (x ∷ xs) y (insert_rises y x out ys xs e h.high_rises h.low_rises);
-    high_rises = pushed out ys y h.high_rises;
-    same = λ k. h.same k ∙ take_right (holds out k) (same_hop k y) (holds (x ∷ xs) k) (holds ys k) ∙ ap (λ u. u || (holds (x ∷ xs) k || holds ys k)) (sym (holds_pushed out y k));
-  }
-
--- ---- the same over slices
+-- ---- the steps of a merge
 
 abbrev pub head : List (Option ℕ) → Option ℕ
 head a = slice_index_or a 0 None
@@ -164,68 +110,72 @@ pub tail_short : (a : List (Option ℕ)) → 0 < length a → length (tail a) + 
 tail_short [] l = absurd (omega (arith, l))
 tail_short (x ∷ xs) l = rw (tail_cons x xs) (omega arith)
 
-module _ (low high out a b : List (Option ℕ)) (la : 0 < length a) (lb : 0 < length b) where
-  cons : (c : List (Option ℕ)) → 0 < length c → c ≡ head c ∷ tail c
-  cons [] l = absurd (omega (arith, l))
-  cons (x ∷ xs) l = ap (λ u. x ∷ u) (sym (tail_cons x xs))
+-- of two lists with a first hop
+both_cons : (P : List (Option ℕ) → List (Option ℕ) → Type 0) → ((x y : Option ℕ) (xs ys : List (Option ℕ)) → P (x ∷ xs) (y ∷ ys)) → (a b : List (Option ℕ)) → 0 < length a → 0 < length b → P a b
+both_cons P f [] b la lb = absurd (omega (arith, la))
+both_cons P f (x ∷ xs) [] la lb = absurd (omega (arith, lb))
+both_cons P f (x ∷ xs) (y ∷ ys) la lb = f x y xs ys
 
-  opened : CommonLeft low high out a b → CommonLeft low high out (head a ∷ tail a) (head b ∷ tail b)
-  opened h = subst (λ c. CommonLeft low high out (head a ∷ tail a) c) (cons b lb) (subst (λ c. CommonLeft low high out c b) (cons a la) h)
+module _ (low high out : List (Option ℕ)) where
+  pub step_common_low : (a b : List (Option ℕ)) → 0 < length a → 0 < length b → is_less (head a) (head b) ≡ true → CommonLeft low high out a b → CommonLeft low high out (tail a) b
+  step_common_low = both_cons (λ a b. is_less (head a) (head b) ≡ true → CommonLeft low high out a b → CommonLeft low high out (tail a) b) (λ x y xs ys e h. rw (tail_cons x xs) (record {
+    low_rises = skip_rises x out xs h.low_rises;
+    high_rises = h.high_rises;
+    same = λ k. h.same k ∙ drop_left (holds out k) (same_hop k x) (holds xs k) (holds (y ∷ ys) k) (lesser_out x y k ys e (rest_rises out (y ∷ ys) h.high_rises).0);
+  }))
 
-  opened_all : AllLeft low high out a b → AllLeft low high out (head a ∷ tail a) (head b ∷ tail b)
-  opened_all h = subst (λ c. AllLeft low high out (head a ∷ tail a) c) (cons b lb) (subst (λ c. AllLeft low high out c b) (cons a la) h)
+  pub step_common_high : (a b : List (Option ℕ)) → 0 < length a → 0 < length b → is_less (head b) (head a) ≡ true → CommonLeft low high out a b → CommonLeft low high out a (tail b)
+  step_common_high = both_cons (λ a b. is_less (head b) (head a) ≡ true → CommonLeft low high out a b → CommonLeft low high out a (tail b)) (λ x y xs ys e h. rw (tail_cons y ys) (record {
+    low_rises = h.low_rises;
+    high_rises = skip_rises y out ys h.high_rises;
+    same = λ k. h.same k ∙ drop_right (holds out k) (same_hop k y) (holds (x ∷ xs) k) (holds ys k) (lesser_out y x k xs e (rest_rises out (x ∷ xs) h.low_rises).0);
+  }))
 
-  pub step_common_low : is_less (head a) (head b) ≡ true → CommonLeft low high out a b → CommonLeft low high out (tail a) b
-  step_common_low e h = subst (λ c. CommonLeft low high out (tail a) c) (sym (cons b lb)) (common_low low high out (head a) (head b) (tail a) (tail b) e (opened h))
+  pub step_common_both : (a b : List (Option ℕ)) → 0 < length a → 0 < length b → is_less (head a) (head b) ≡ false → is_less (head b) (head a) ≡ false → CommonLeft low high out a b → CommonLeft low high (out ++ head a ∷ []) (tail a) (tail b)
+  step_common_both = both_cons (λ a b. is_less (head a) (head b) ≡ false → is_less (head b) (head a) ≡ false → CommonLeft low high out a b → CommonLeft low high (out ++ head a ∷ []) (tail a) (tail b)) (λ x y xs ys e f h. rw (tail_cons x xs, tail_cons y ys) (record {
+    low_rises = pushed out xs x h.low_rises;
+    high_rises = pushed out ys x (subst (λ z. IsRising (out ++ z ∷ ys)) (sym (neither x y e f)) h.high_rises);
+    same = λ k. subst (λ z. (holds low k && holds high k) ≡ (holds out k || (holds (x ∷ xs) k && holds (z ∷ ys) k))) (sym (neither x y e f)) (h.same k)
+        ∙ take_both (holds out k) (same_hop k x) (holds xs k) (holds ys k) ∙ ap (λ u. u || (holds xs k && holds ys k)) (sym (holds_pushed out x k));
+  }))
 
-  pub step_common_high : is_less (head b) (head a) ≡ true → CommonLeft low high out a b → CommonLeft low high out a (tail b)
-  step_common_high e h = subst (λ c. CommonLeft low high out c (tail b)) (sym (cons a la)) (common_high low high out (head a) (head b) (tail a) (tail b) e (opened h))
+  pub step_all_low : (a b : List (Option ℕ)) → 0 < length a → 0 < length b → is_less (head a) (head b) ≡ true → AllLeft low high out a b → AllLeft low high (out ++ head a ∷ []) (tail a) b
+  step_all_low = both_cons (λ a b. is_less (head a) (head b) ≡ true → AllLeft low high out a b → AllLeft low high (out ++ head a ∷ []) (tail a) b) (λ x y xs ys e h. rw (tail_cons x xs) (record {
+    low_rises = pushed out xs x h.low_rises;
+    high_rises = pushed out (y ∷ ys) x (insert_rises x y out xs ys e h.low_rises h.high_rises);
+    same = λ k. h.same k ∙ take_left (holds out k) (same_hop k x) (holds xs k) (holds (y ∷ ys) k) ∙ ap (λ u. u || (holds xs k || holds (y ∷ ys) k)) (sym (holds_pushed out x k));
+  }))
 
-  pub step_common_both : is_less (head a) (head b) ≡ false → is_less (head b) (head a) ≡ false → CommonLeft low high out a b → CommonLeft low high (out ++ head a ∷ []) (tail a) (tail b)
-  step_common_both e f h = common_both low high out (head a) (head b) (tail a) (tail b) (neither (head a) (head b) e f) (opened h)
-
-  pub step_all_low : is_less (head a) (head b) ≡ true → AllLeft low high out a b → AllLeft low high (out ++ head a ∷ []) (tail a) b
-  step_all_low e h = subst (λ c. AllLeft low high (out ++ head a ∷ []) (tail a) c) (sym (cons b lb)) (all_low low high out (head a) (head b) (tail a) (tail b) e (opened_all h))
-
-  pub step_all_high : is_less (head b) (head a) ≡ true → AllLeft low high out a b → AllLeft low high (out ++ head b ∷ []) a (tail b)
-  step_all_high e h = subst (λ c. AllLeft low high (out ++ head b ∷ []) c (tail b)) (sym (cons a la)) (all_high low high out (head a) (head b) (tail a) (tail b) e (opened_all h))
+  pub step_all_high : (a b : List (Option ℕ)) → 0 < length a → 0 < length b → is_less (head b) (head a) ≡ true → AllLeft low high out a b → AllLeft low high (out ++ head b ∷ []) a (tail b)
+  step_all_high = both_cons (λ a b. is_less (head b) (head a) ≡ true → AllLeft low high out a b → AllLeft low high (out ++ head b ∷ []) a (tail b)) (λ x y xs ys e h. rw (tail_cons y ys) (record {
+    low_rises = pushed out (x ∷ xs) y (insert_rises y x out ys xs e h.high_rises h.low_rises);
+    high_rises = pushed out ys y h.high_rises;
+    same = λ k. h.same k ∙ take_right (holds out k) (same_hop k y) (holds (x ∷ xs) k) (holds ys k) ∙ ap (λ u. u || (holds (x ∷ xs) k || holds ys k)) (sym (holds_pushed out y k));
+  }))
 
 pub common_begin : (low high out : List (Option ℕ)) → out ≡ [] → IsRising low → IsRising high → CommonLeft low high out low high
 common_begin low high out e h k = rw e (record { low_rises = h; high_rises = k; same = λ j. refl })
 
 -- where one list is at its end
 pub common_end : (low high out a b : List (Option ℕ)) → (length a ≡ 0) ⊎ (length b ≡ 0) → CommonLeft low high out a b → AreCommon low high out
-common_end low high out [] b e h = record { rising = front_rises out [] h.low_rises; same = λ k. sym (h.same k ∙ or_false (holds out k)) }
-common_end low high out (x ∷ a) [] e h = record { rising = front_rises out [] h.high_rises; same = λ k. sym (h.same k ∙ ap (λ u. holds out k || u) (and_right (holds (x ∷ a) k) false refl) ∙ or_false (holds out k)) }
+common_end low high out [] b e h = record { rising = front_rises out [] h.low_rises; same = λ k. sym (h.same k ∙ or-false (holds out k)) }
+common_end low high out (x ∷ a) [] e h = record { rising = front_rises out [] h.high_rises; same = λ k. sym (h.same k ∙ ap (λ u. holds out k || u) (and_right (holds (x ∷ a) k) false refl) ∙ or-false (holds out k)) }
 common_end low high out (x ∷ a) (y ∷ b) (inl e) h = absurd (omega (arith, e))
 common_end low high out (x ∷ a) (y ∷ b) (inr e) h = absurd (omega (arith, e))
 
 pub all_end : (low high out a b : List (Option ℕ)) → (length a ≡ 0) ⊎ (length b ≡ 0) → AllLeft low high out a b → AreAll low high ((out ++ a) ++ b)
 all_end low high out [] b e h = rw (append-nil out) (record { rising = h.high_rises; same = λ k. list_any-append (λ j. same_hop k j) out b ∙ sym (h.same k) })
-all_end low high out (x ∷ a) [] e h = rw (append-nil (out ++ x ∷ a)) (record { rising = h.low_rises; same = λ k. list_any-append (λ j. same_hop k j) out (x ∷ a) ∙ sym (h.same k ∙ ap (λ u. holds out k || u) (or_false (holds (x ∷ a) k))) })
+all_end low high out (x ∷ a) [] e h = rw (append-nil (out ++ x ∷ a)) (record { rising = h.low_rises; same = λ k. list_any-append (λ j. same_hop k j) out (x ∷ a) ∙ sym (h.same k ∙ ap (λ u. holds out k || u) (or-false (holds (x ∷ a) k))) })
 all_end low high out (x ∷ a) (y ∷ b) (inl e) h = absurd (omega (arith, e))
 all_end low high out (x ∷ a) (y ∷ b) (inr e) h = absurd (omega (arith, e))
 
 -- what the two make of the best hops of both halves
 pub common_merged : (as' bs cs : List (Option ℕ)) → AreCommon as' bs cs → (length cs ≡ 0 → ⊥) → AreMerged as' bs cs
 common_merged as' bs [] c n k = absurd (n refl)
-common_merged as' bs (x ∷ cs) c n k = go (meets as' bs) refl
-  where
-    here : (holds as' x && holds bs x) ≡ true
-    here = sym (c.same x) ∙ rw (same_hop-refl x) refl
-
-    go : (m : Bool) → meets as' bs ≡ m → holds (x ∷ cs) k ≡ cond m (holds as' k && holds bs k) (holds as' k || holds bs k)
-    go true e = c.same k
-    go false e = let p = and_parts (holds as' x) (holds bs x) here in absurd (meets-false as' bs e x p.0 p.1)
+common_merged as' bs (x ∷ cs) c n k = cond_both (meets as' bs) (holds as' k && holds bs k) (holds as' k || holds bs k) (λ u. holds (x ∷ cs) k ≡ u) (λ e. c.same k)
+    (λ e. let p = and_parts (holds as' x) (holds bs x) (sym (c.same x) ∙ rw (same_hop-refl x) refl) in absurd (meets-false as' bs e x p.0 p.1))
 
 pub all_merged : (as' bs cs ds : List (Option ℕ)) → AreCommon as' bs cs → length cs ≡ 0 → AreAll as' bs ds → AreMerged as' bs ds
 all_merged as' bs (x ∷ cs) ds c e d k = absurd (omega (arith, e))
-all_merged as' bs [] ds c e d k = go (meets as' bs) refl
-  where
-    go : (m : Bool) → meets as' bs ≡ m → holds ds k ≡ cond m (holds as' k && holds bs k) (holds as' k || holds bs k)
-    go false f = d.same k
-    go true f =
-        let j = meets-true as' bs f in
-        let n : false ≡ (holds as' j.0 && holds bs j.0) = c.same j.0 in
-        let o : (holds as' j.0 && holds bs j.0) ≡ true = ap₂ (λ u v. u && v) j.1 j.2 in
-        absurd (let z = n ∙ o in cc)
+all_merged as' bs [] ds c e d k = cond_both (meets as' bs) (holds as' k && holds bs k) (holds as' k || holds bs k) (λ u. holds ds k ≡ u)
+    (λ f. let j = meets-true as' bs f in absurd (let z = c.same j.0 ∙ ap₂ (λ u v. u && v) j.1 j.2 in cc)) (λ f. d.same k)

@@ -1,6 +1,6 @@
 -- What a block needs, by the hops that it is best handed.
-use Rattle.std.proofs.Common.{◌≡◌, ℕ, suc, ◌+◌, ◌≤◌, Bool, true, false, cond, ◌&&◌, ◌||◌, List, [], ◌∷◌, length, replicate, Option, Some, None, refl, sym, ap, ◌∙◌, arith, inl, inr, add-one}
-use Rattle.std.proofs.lemmas.Bool.{eqb-true, eq-eqb, or_right}
+use Rattle.std.proofs.Common.{◌≡◌, ℕ, suc, ◌+◌, ◌≤◌, Bool, true, false, cond, ◌&&◌, ◌||◌, List, [], ◌∷◌, length, replicate, Option, Some, None, refl, sym, ap, ◌∙◌, arith, inl, inr, add-one, ⊎_elim}
+use Rattle.std.proofs.lemmas.Bool.{eqb-true, eq-eqb, or_right, or_cases, or_parts}
 use Rattle.std.proofs.Math.ListN.{length-replicate}
 use Rattle.least_table.specs.Tables.{Gives, IsFewest, half_of}
 use Rattle.ipnet_blocks.specs.Halves.{IsLesser}
@@ -8,10 +8,6 @@ use Rattle.least_table.specs.HopSets.{same_hop, holds, meets, AreMerged, AreBest
 use Rattle.least_table.specs.Laws.{SetsLaw}
 use Rattle.least_table.proofs.Split.{joined, length-joined, Absent-joined}
 use Rattle.least_table.proofs.Halves.{Gives-joined, Gives-own, from_lesser}
-
-pub or_false : (u : Bool) → (u || false) ≡ u
-or_false true = refl
-or_false false = refl
 
 pub same_hop-refl : (k : Option ℕ) → same_hop k k ≡ true
 same_hop-refl None = refl
@@ -25,21 +21,14 @@ same_hop-true (Some m) None e = cc
 
 pub meets-true : (as' bs : List (Option ℕ)) → meets as' bs ≡ true → (j : Option ℕ) × (holds as' j ≡ true) × (holds bs j ≡ true)
 meets-true [] bs e = cc
-meets-true (a ∷ as') bs e = go (λ f. meets-true as' bs f) (holds bs a) refl
-  where
-    go : (meets as' bs ≡ true → (j : Option ℕ) × (holds as' j ≡ true) × (holds bs j ≡ true)) → (v : Bool) → holds bs a ≡ v → (j : Option ℕ) × (holds (a ∷ as') j ≡ true) × (holds bs j ≡ true)
-    go later true f = (a, rw (same_hop-refl a) refl, f)
-    go later false f = let r = later (rw f at e) in (r.0, or_right (same_hop r.0 a) (holds as' r.0) r.1, r.2)
+meets-true (a ∷ as') bs e = ⊎_elim (λ f. (a, rw (same_hop-refl a) refl, f)) (λ f. let r = meets-true as' bs f in (r.0, or_right (same_hop r.0 a) (holds as' r.0) r.1, r.2)) (or_cases (holds bs a) (meets as' bs) e)
 
 -- no hop is in both
 pub meets-false : (as' bs : List (Option ℕ)) → meets as' bs ≡ false → (k : Option ℕ) → holds as' k ≡ true → holds bs k ≡ true → ⊥
 meets-false [] bs e k f g = cc
-meets-false (a ∷ as') bs e k f g = go (λ i j. meets-false as' bs i k j g) (holds bs a) (same_hop k a) refl refl
-  where
-    go : (meets as' bs ≡ false → holds as' k ≡ true → ⊥) → (u v : Bool) → holds bs a ≡ u → same_hop k a ≡ v → ⊥
-    go later true v p q = let e' : true ≡ false = rw p at e in cc
-    go later false true p q = let s : k ≡ a = same_hop-true k a q in cc
-    go later false false p q = later (rw p at e) (rw q at f)
+meets-false (a ∷ as') bs e k f g =
+    let p = or_parts (holds bs a) (meets as' bs) e in
+    ⊎_elim (λ q. let s = same_hop-true k a q in let n = ap (holds bs) s in cc) (λ q. meets-false as' bs p.1 k q g) (or_cases (same_hop k a) (holds as' k) f)
 
 -- a block whose addresses have one hop
 pub one_hop : (w : ℕ) (h : List Bool → Option ℕ) (k : Option ℕ) → ((x : List Bool) → length x ≡ w → h x ≡ k) → Gives w h k []

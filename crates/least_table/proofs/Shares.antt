@@ -1,11 +1,12 @@
 -- Pieces whose strings have their first bits in common.
-use Rattle.std.proofs.Common.{◌≡◌, ℕ, zero, suc, ◌+◌, ◌-◌, ◌≤◌, Bool, true, false, List, [], ◌∷◌, ◌++◌, length, take, drop, Some, None, refl, sym, ap, ap₂, ◌∙◌, subst, arith, slice_get}
+use Rattle.std.proofs.Common.{◌≡◌, ℕ, suc, ◌+◌, ◌-◌, ◌≤◌, Bool, true, false, List, [], ◌∷◌, ◌++◌, length, take, drop, Some, None, refl, sym, ap, ap₂, ◌∙◌, subst, arith, slice_get, cond, add-one}
 use Rattle.std.specs.Prelude.{⊤}
+use Rattle.std.proofs.lemmas.List.{drop-drop, map-append}
 use Rattle.ipnet_blocks.specs.BitStrings.{begins}
 use Rattle.ipnet_blocks.proofs.BitStrings.{begins-under, begun_rest}
 use Rattle.least_table.specs.Pieces.{hop_at}
-use Rattle.least_table.specs.InnerPieces.{before, BeforeAll, IsAscending, beyond, shared}
-use Rattle.least_table.proofs.Cuts.{before_half}
+use Rattle.least_table.specs.InnerPieces.{before, BeforeAll, IsAscending, beyond, shared, AllBegin}
+use Rattle.least_table.proofs.Cuts.{before_half, IsAscending-take, IsAscending-drop}
 
 -- what lies between two blocks that begin with these bits begins with them
 pub share : (ds a b z : List Bool) → before a b ≡ true → before b z ≡ true → begins ds a ≡ true → begins ds z ≡ true → begins ds b ≡ true
@@ -43,17 +44,6 @@ abbrev pub AllShare : List Bool → List (List Bool × ℕ) → Type 0
 AllShare ds [] = ⊤
 AllShare ds (p ∷ ps) = (begins ds p.0 ≡ true) × AllShare ds ps
 
-drop_more : (s : List Bool) (d n : ℕ) → drop n (drop d s) ≡ drop (d + n) s
-drop_more s zero n = let e : 0 + n ≡ n = omega arith in rw e refl
-drop_more [] (suc d) n = nothing n (suc d + n)
-  where
-    nothing : (m k : ℕ) → drop {A = Bool} m [] ≡ drop k []
-    nothing zero zero = refl
-    nothing zero (suc k) = refl
-    nothing (suc m) zero = refl
-    nothing (suc m) (suc k) = refl
-drop_more (x ∷ s) (suc d) n = let e : suc d + n ≡ suc (d + n) = omega arith in rw e (drop_more s d n)
-
 before_append : (ds a b : List Bool) → before (ds ++ a) (ds ++ b) ≡ before a b
 before_append [] a b = refl
 before_append (x ∷ ds) a b = before_half (ds ++ a) (ds ++ b) x ∙ before_append ds a b
@@ -71,7 +61,7 @@ last_step p q ps = let z : suc (suc (length ps)) - 1 ≡ suc (suc (length ps) - 
 
 module _ {B : Type 0} (string : B → List Bool) (ds : List Bool) (d : ℕ) where
   parts : (s : List Bool) → begins ds (drop d s) ≡ true → drop d s ≡ ds ++ drop (d + length ds) s
-  parts s e = sym (begun_rest ds (drop d s) e) ∙ ap (λ t. ds ++ t) (drop_more s d (length ds))
+  parts s e = sym (begun_rest ds (drop d s) e) ∙ ap (λ t. ds ++ t) (drop-drop (length ds) d s)
 
   -- no hop outside
   pub none_outside : (ps : List (B × ℕ)) → AllShare ds (beyond string d ps) → (x : List Bool) → begins ds x ≡ false → hop_at (beyond string d ps) x ≡ None
@@ -105,3 +95,36 @@ module _ {B : Type 0} (string : B → List Bool) (ds : List Bool) (d : ℕ) wher
       let rest : slice_get (q ∷ ps) (length (q ∷ ps) - 1) ≡ Some x = sym (last_step p q ps) ∙ e in
       let here : begins ds (drop d (string p.0)) ≡ true = share ds a (drop d (string p.0)) (drop d (string x.0)) h.0 (last_before (drop d (string p.0)) (q ∷ ps) x k.0 rest) f g in
       (here, all_share (drop d (string p.0)) (q ∷ ps) x k.0 k.1 rest here g)
+
+-- ---- halves: what all share is one bit
+
+hop_left : (ps qs : List (List Bool × ℕ)) (x : List Bool) → hop_at qs x ≡ None → hop_at (ps ++ qs) x ≡ hop_at ps x
+hop_left [] qs x e = e
+hop_left (p ∷ ps) qs x e = ap (λ o. cond (begins p.0 x) (Some p.1) o) (hop_left ps qs x e)
+
+hop_right : (ps qs : List (List Bool × ℕ)) (x : List Bool) → AllShare (false ∷ []) ps → hop_at (ps ++ qs) (true ∷ x) ≡ hop_at qs (true ∷ x)
+hop_right [] qs x h = refl
+hop_right (([], n) ∷ ps) qs x h = let e = h.0 in cc
+hop_right ((true ∷ s, n) ∷ ps) qs x h = let e = h.0 in cc
+hop_right ((false ∷ s, n) ∷ ps) qs x h = hop_right ps qs x h.1
+
+share_bit : (b : Bool) (ps : List (List Bool × ℕ)) → AllBegin b ps → AllShare (b ∷ []) ps
+share_bit b [] h = tt
+share_bit b (p ∷ ps) h = (h.0, share_bit b ps h.1)
+
+module _ {B : Type 0} (string : B → List Bool) where
+  pub hop_at-low : (d : ℕ) (ls rs : List (B × ℕ)) → AllBegin false (beyond string d ls) → AllBegin true (beyond string d rs) → (x : List Bool) → hop_at (beyond string d (ls ++ rs)) (false ∷ x) ≡ hop_at (beyond string (suc d) ls) x
+  hop_at-low d ls rs h k x = ap (λ ps. hop_at ps (false ∷ x)) (map-append (λ p. (drop d (string p.0), p.1)) ls rs)
+      ∙ hop_left (beyond string d ls) (beyond string d rs) (false ∷ x) (none_outside string (true ∷ []) d rs (share_bit true (beyond string d rs) k) (false ∷ x) refl)
+      ∙ hop_inside string (false ∷ []) d ls (share_bit false (beyond string d ls) h) x ∙ ap (λ n. hop_at (beyond string n ls) x) (add-one d)
+
+  pub hop_at-high : (d : ℕ) (ls rs : List (B × ℕ)) → AllBegin false (beyond string d ls) → AllBegin true (beyond string d rs) → (x : List Bool) → hop_at (beyond string d (ls ++ rs)) (true ∷ x) ≡ hop_at (beyond string (suc d) rs) x
+  hop_at-high d ls rs h k x = ap (λ ps. hop_at ps (true ∷ x)) (map-append (λ p. (drop d (string p.0), p.1)) ls rs)
+      ∙ hop_right (beyond string d ls) (beyond string d rs) x (share_bit false (beyond string d ls) h)
+      ∙ hop_inside string (true ∷ []) d rs (share_bit true (beyond string d rs) k) x ∙ ap (λ n. hop_at (beyond string n rs) x) (add-one d)
+
+  pub IsAscending-low : (d m : ℕ) (ps : List (B × ℕ)) → AllBegin false (beyond string d (take m ps)) → IsAscending (beyond string d ps) → IsAscending (beyond string (d + 1) (take m ps))
+  IsAscending-low d m ps h k = ascending_deeper string (false ∷ []) d (take m ps) (share_bit false (beyond string d (take m ps)) h) (IsAscending-take string d m ps k)
+
+  pub IsAscending-high : (d m : ℕ) (ps : List (B × ℕ)) → AllBegin true (beyond string d (drop m ps)) → IsAscending (beyond string d ps) → IsAscending (beyond string (d + 1) (drop m ps))
+  IsAscending-high d m ps h k = ascending_deeper string (true ∷ []) d (drop m ps) (share_bit true (beyond string d (drop m ps)) h) (IsAscending-drop string d m ps k)

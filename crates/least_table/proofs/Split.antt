@@ -1,6 +1,7 @@
 -- A table as the routes at the empty block and the tables of the two halves.
-use Rattle.std.proofs.Common.{◌≡◌, ℕ, suc, ◌+◌, Bool, true, false, cond, List, [], ◌∷◌, ◌++◌, length, nat_lt, Option, Some, None, refl, ap, ◌∙◌, arith, inl, inr, length-append}
+use Rattle.std.proofs.Common.{◌≡◌, ℕ, suc, ◌+◌, Bool, true, false, cond, List, [], ◌∷◌, ◌++◌, length, nat_lt, Option, Some, None, refl, ap, ◌∙◌, arith, inl, inr, length-append, map}
 use Rattle.std.proofs.lemmas.Bool.{ltb-true, ltb-false, lt-ltb, le-ltb, cases_Bool}
+use Rattle.std.proofs.lemmas.List.{length-map}
 use Rattle.ipnet_blocks.specs.BitStrings.{begins}
 use Rattle.least_table.specs.Tables.{Absent, IsTable, longer, longest, hop_of, hop_under}
 use Rattle.least_table.specs.Trees.{inside}
@@ -125,26 +126,18 @@ pub half-joined : (l r : List (List Bool × Option ℕ)) (b : Bool) → half (jo
 half-joined l r true = half-joined_true l r
 half-joined l r false = half-joined_false l r
 
-pub own_count-joined : (l r : List (List Bool × Option ℕ)) → own_count (joined l r) ≡ 0
-own_count-joined [] [] = refl
-own_count-joined [] (q ∷ r) = own_count-joined [] r
-own_count-joined (q ∷ l) r = own_count-joined l r
-
 Absent-inside : (b : Bool) (c : List Bool) (t : List (List Bool × Option ℕ)) → Absent c t → Absent (b ∷ c) (inside b t)
 Absent-inside b c [] h = tt
 Absent-inside b c (r ∷ t) h = ((λ e. h.0 (cc)), Absent-inside b c t h.1)
 
-Absent-other : (c : List Bool) (t : List (List Bool × Option ℕ)) → Absent (false ∷ c) (inside true t)
-Absent-other c [] = tt
-Absent-other c (r ∷ t) = ((λ e. cc), Absent-other c t)
+-- routes whose blocks are all others
+pub Absent-map : (f : List Bool × Option ℕ → List Bool × Option ℕ) (c : List Bool) (t : List (List Bool × Option ℕ)) → ((r : List Bool × Option ℕ) → (f r).0 ≡ c → ⊥) → Absent c (map f t)
+Absent-map f c [] h = tt
+Absent-map f c (r ∷ t) h = (h r, Absent-map f c t h)
 
 Absent-append : (b : List Bool) (t u : List (List Bool × Option ℕ)) → Absent b t → Absent b u → Absent b (t ++ u)
 Absent-append b [] u h k = k
 Absent-append b (r ∷ t) u h k = (h.0, Absent-append b t u h.1 k)
-
-Absent-own : (b : Bool) (t : List (List Bool × Option ℕ)) → Absent [] (inside b t)
-Absent-own b [] = tt
-Absent-own b (r ∷ t) = ((λ e. cc), Absent-own b t)
 
 IsTable-inside : (w : ℕ) (b : Bool) (t : List (List Bool × Option ℕ)) → IsTable w t → IsTable (suc w) (inside b t)
 IsTable-inside w b [] h = tt
@@ -152,10 +145,10 @@ IsTable-inside w b (r ∷ t) h = (omega (arith, h.0), Absent-inside b r.0 t h.1,
 
 pub IsTable-joined : (w : ℕ) (l r : List (List Bool × Option ℕ)) → IsTable w l → IsTable w r → IsTable (suc w) (joined l r)
 IsTable-joined w [] r h k = IsTable-inside w true r k
-IsTable-joined w (q ∷ l) r h k = (omega (arith, h.0), Absent-append _ (inside false l) (inside true r) (Absent-inside false q.0 l h.1) (Absent-other q.0 r), IsTable-joined w l r h.2 k)
+IsTable-joined w (q ∷ l) r h k = (omega (arith, h.0), Absent-append _ (inside false l) (inside true r) (Absent-inside false q.0 l h.1) (Absent-map (λ p. (true ∷ p.0, p.1)) (false ∷ q.0) r (λ p e. cc)), IsTable-joined w l r h.2 k)
 
 pub Absent-joined : (l r : List (List Bool × Option ℕ)) → Absent [] (joined l r)
-Absent-joined l r = Absent-append [] (inside false l) (inside true r) (Absent-own false l) (Absent-own true r)
+Absent-joined l r = Absent-append [] (inside false l) (inside true r) (Absent-map (λ p. (false ∷ p.0, p.1)) [] l (λ p e. cc)) (Absent-map (λ p. (true ∷ p.0, p.1)) [] r (λ p e. cc))
 
 pub own_count-absent : (t : List (List Bool × Option ℕ)) → Absent [] t → own_count t ≡ 0
 own_count-absent [] h = refl
@@ -163,8 +156,7 @@ own_count-absent (([], k) ∷ t) h = absurd (h.0 refl)
 own_count-absent ((b ∷ c, k) ∷ t) h = own_count-absent t h.1
 
 length-inside : (b : Bool) (t : List (List Bool × Option ℕ)) → length (inside b t) ≡ length t
-length-inside b [] = refl
-length-inside b (r ∷ t) = ap suc (length-inside b t)
+length-inside b t = length-map t (λ r. (b ∷ r.0, r.1))
 
 pub length-joined : (l r : List (List Bool × Option ℕ)) → length (joined l r) ≡ length l + length r
 length-joined l r = omega (arith, length-append (inside false l) (inside true r), length-inside false l, length-inside true r)

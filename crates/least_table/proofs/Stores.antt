@@ -1,18 +1,18 @@
 -- What the routes of the halves are as routes of the whole.
-use Rattle.std.proofs.Common.{◌≡◌, ℕ, Bool, true, false, List, [], ◌∷◌, ◌++◌, Option, refl, sym, ap, ap₂, ◌∙◌, append_assoc, Result, Ok, Err, IfOk}
-use Rattle.std.proofs.lemmas.List.{map-append}
+use Rattle.std.proofs.Common.{◌≡◌, ℕ, Bool, true, false, List, [], ◌∷◌, ◌++◌, Option, refl, sym, ap₂, ◌∙◌, append_assoc, Result, Ok, Err, IfOk}
+use Rattle.std.proofs.lemmas.List.{map-append, map-id}
 use Rattle.least_table.specs.Trees.{inside, within}
 
-within-inside : (b : List Bool) (c : Bool) (t : List (List Bool × Option ℕ)) → within b (inside c t) ≡ within (b ++ c ∷ []) t
-within-inside b c [] = refl
-within-inside b c (r ∷ t) = ap₂ (λ x y. (x, r.1) ∷ y) (sym (append_assoc b (c ∷ []) r.0)) (within-inside b c t)
+-- the routes of a block inside another
+pub within_within : (b ds : List Bool) (t : List (List Bool × Option ℕ)) → within b (within ds t) ≡ within (b ++ ds) t
+within_within b ds [] = refl
+within_within b ds (r ∷ t) = ap₂ (λ x y. (x, r.1) ∷ y) (sym (append_assoc b ds r.0)) (within_within b ds t)
 
 pub within-halves : (b : List Bool) (l r : List (List Bool × Option ℕ)) → within b (inside false l ++ inside true r) ≡ within (b ++ false ∷ []) l ++ within (b ++ true ∷ []) r
-within-halves b l r = map-append _ (inside false l) (inside true r) ∙ ap₂ (λ x y. x ++ y) (within-inside b false l) (within-inside b true r)
+within-halves b l r = map-append _ (inside false l) (inside true r) ∙ ap₂ (λ x y. x ++ y) (within_within b (false ∷ []) l) (within_within b (true ∷ []) r)
 
 pub within-whole : (t : List (List Bool × Option ℕ)) → within [] t ≡ t
-within-whole [] = refl
-within-whole (r ∷ t) = ap (λ y. r ∷ y) (within-whole t)
+within-whole = map-id
 
 pub if_ok_map : {T E : Type 0} {P Q : T → Type 0} (r : Result T E) → ((x : T) → P x → Q x) → IfOk r P → IfOk r Q
 if_ok_map (Ok x) f p = f x p

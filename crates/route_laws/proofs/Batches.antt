@@ -1,13 +1,12 @@
 -- Operations one after the other, each of which turns addresses that the others leave.
-use Rattle.std.proofs.Common.{◌≡◌, ℕ, inl, inr, ⊎_elim, Bool, true, false, cond, List, [], ◌∷◌, ◌++◌, Option, refl, sym, ap, ◌∙◌, subst}
-use Rattle.std.proofs.lemmas.Bool.{false_from_ne_true}
+use Rattle.std.proofs.Common.{◌≡◌, ℕ, inl, inr, false, cond, List, [], ◌∷◌, ◌++◌, Option, refl, sym, ap, ◌∙◌, subst, ⊎_elim}
+use Rattle.std.proofs.lemmas.Bool.{false_from_ne_true, cases_Bool, cond-false}
+use Rattle.std.proofs.lemmas.List.Elements.{All-map}
 use Rattle.ipnet_addr.specs.Addresses.{Address, IsAddress}
 use Rattle.ipnet_addr.proofs.Members.{In}
 use Rattle.ipnet_addr.proofs.Ascending.{In-from_All, All-from_In, Contains-from_In, Rising, Rising-from_pairs, pairs_from_Rising}
-use Rattle.ipnet_blocks.specs.Blocks.{Block, IsBlock, HasAddress, IsBefore, IsInside, has_address}
+use Rattle.ipnet_blocks.specs.Blocks.{Block, IsBlock, HasAddress, IsBefore, has_address}
 use Rattle.ipnet_blocks.specs.Maximal.{IsMaximal, IsMaximalBlock}
-use Rattle.ipnet_blocks.proofs.BlockLaws.{nested, same_sets, strict}
-use Rattle.ipnet_blocks.proofs.Parents.{decide_inside}
 use Rattle.route_choices.specs.Choices.{default_preference}
 use Rattle.route_choices.specs.declared.hop.Hop.{Hop}
 use Rattle.route_choices.proofs.Kept.{In-map}
@@ -18,7 +17,9 @@ use Rattle.route_laws.specs.Batches.{AreApart, AreChanges, batch, changes_to, ho
 use Rattle.route_laws.specs.Operations.{Operation, IsHitless, after, after_all, between}
 use Rattle.route_laws.proofs.Between.{leads}
 use Rattle.route_laws.proofs.Painted.{painted_is_table, painted_hops}
-use Rattle.route_laws.proofs.Turning.{Once, Settled, hitless_from, leads_once, leads_settled, once_then_settled, reaches, settled_joined, settled_then_once}
+use Rattle.route_laws.proofs.Turning.{Once, hitless_from, leads_once, once_joined, reaches, settled_then_once}
+use Rattle.route_laws.proofs.Flats.{maximal_one}
+use Rattle.route_laws.proofs.Ordered.{before_apart}
 
 pub between_reaches : (M N : List Route) → IsTable M → IsTable N → after_all M (between M N) ≡ N
 between_reaches M N old new = reaches N M (between M N) (leads N new M old)
@@ -55,42 +56,37 @@ module _ (x : Address) (a : IsAddress x) where
     p = painted_is_table M m r k.0 k.1
 
     -- what holds of operations from the table after one change on
-    pub next : (h : Option ℕ) (F : List Route → List Operation → Option ℕ → Type 0) (ps : List Operation) → F (painted M r) ps h → F (after_all M (between M (painted M r))) ps h
-    next h F ps = subst (λ T. F T ps h) (sym (between_reaches M (painted M r) m p))
+    next : (h : Option ℕ) (ps : List Operation) → Once x (painted M r) ps h → Once x (after_all M (between M (painted M r))) ps h
+    next h ps = subst (λ T. Once x T ps h) (sym (between_reaches M (painted M r) m p))
+
+    turned : Once x M (between M (painted M r)) (hop_at (painted M r) x)
+    turned = leads_once x a (painted M r) M (between M (painted M r)) (leads (painted M r) p M m)
 
     -- an address that the change hasn't
-    pub left_alone : has_address r.block x ≡ false → Settled x M (between M (painted M r)) (hop_at M x)
-    left_alone e =
-        let same = painted_hops M m r k.0 k.1 x a ∙ ap (λ b. cond b (number_of r.hop) (hop_at M x)) e in
-        subst (Settled x M (between M (painted M r))) same (leads_settled x a (painted M r) M (between M (painted M r)) (leads (painted M r) p M m) (sym same))
+    same : has_address r.block x ≡ false → hop_at (painted M r) x ≡ hop_at M x
+    same e = painted_hops M m r k.0 k.1 x a ∙ cond-false (has_address r.block x) (number_of r.hop) (hop_at M x) e
 
   -- an address that no change has
-  none_turn : (M rs : List Route) → IsTable M → Changes rs → ((r : Route) → In r rs → HasAddress r.block x → ⊥) → Settled x M (batch M rs) (hop_at M x)
+  none_turn : (M rs : List Route) → IsTable M → Changes rs → ((r : Route) → In r rs → HasAddress r.block x → ⊥) → Once x M (batch M rs) (hop_at M x)
   none_turn M [] m c none = refl
   none_turn M (r ∷ rs) m c none =
       let k = c r (inl refl) in
-      let p = painted_is_table M m r k.0 k.1 in
-      let e = false_from_ne_true (has_address r.block x) (λ f. none r (inl refl) (has_from_test r.block x f)) in
-      settled_joined x M (between M (painted M r)) (batch (painted M r) rs) (hop_at M x) (left_alone M m r k e)
-      (next M m r k (hop_at M x) (Settled x) (batch (painted M r) rs)
-      (subst (Settled x (painted M r) (batch (painted M r) rs)) (painted_hops M m r k.0 k.1 x a ∙ ap (λ b. cond b (number_of r.hop) (hop_at M x)) e)
-      (none_turn (painted M r) rs p (λ s i. c s (inr i)) (λ s i. none s (inr i)))))
+      let s = same M m r k (false_from_ne_true (has_address r.block x) (λ f. none r (inl refl) (has_from_test r.block x f))) in
+      subst (Once x M (batch M (r ∷ rs))) s (once_joined x M (between M (painted M r)) (batch (painted M r) rs) (hop_at (painted M r) x) (turned M m r k)
+      (next M m r k (hop_at (painted M r) x) (batch (painted M r) rs) (none_turn (painted M r) rs (painted_is_table M m r k.0 k.1) (λ s i. c s (inr i)) (λ s i. none s (inr i)))))
 
   pub batch_once : (M rs : List Route) → IsTable M → Changes rs → Rising Apart rs → (h : Option ℕ) × Once x M (batch M rs) h
   batch_once M [] m c u = (hop_at M x, refl)
-  batch_once M (r ∷ rs) m c u = go (has_address r.block x) refl (c r (inl refl)) (λ p. batch_once (painted M r) rs p (λ s i. c s (inr i)) u.1)
-    where
-      go : (b : Bool) → has_address r.block x ≡ b → IsBlock r.block × IsHop r.hop → (IsTable (painted M r) → (h : Option ℕ) × Once x (painted M r) (batch (painted M r) rs) h) → (h : Option ℕ) × Once x M (batch M (r ∷ rs)) h
-      go true e k rest =
-          let p = painted_is_table M m r k.0 k.1 in
-          let h = hop_at (painted M r) x in (
-            h,
-            once_then_settled x M (between M (painted M r)) (batch (painted M r) rs) h (leads_once x a (painted M r) M (between M (painted M r)) (leads (painted M r) p M m))
-                (next M m r k h (Settled x) (batch (painted M r) rs) (none_turn (painted M r) rs p (λ s i. c s (inr i)) (λ s i. u.0 s i x (has_from_test r.block x e)))),
-          )
-      go false e k rest =
-          let t = rest (painted_is_table M m r k.0 k.1) in
-          (t.0, settled_then_once x M (between M (painted M r)) (batch (painted M r) rs) (hop_at M x) t.0 (left_alone M m r k e) (next M m r k t.0 (Once x) (batch (painted M r) rs) t.1))
+  batch_once M (r ∷ rs) m c u =
+      let k = c r (inl refl) in
+      let p = painted_is_table M m r k.0 k.1 in
+      let h = hop_at (painted M r) x in
+      ⊎_elim
+      (λ e. (h, once_joined x M (between M (painted M r)) (batch (painted M r) rs) h (turned M m r k)
+      (next M m r k h (batch (painted M r) rs) (none_turn (painted M r) rs p (λ s i. c s (inr i)) (λ s i. u.0 s i x (has_from_test r.block x e))))))
+      (λ e. let t = batch_once (painted M r) rs p (λ s i. c s (inr i)) u.1 in
+      (t.0, settled_then_once x M (between M (painted M r)) (batch (painted M r) rs) h t.0 (sym (same M m r k e)) (turned M m r k) (next M m r k t.0 (batch (painted M r) rs) t.1)))
+      (cases_Bool (has_address r.block x))
 
 pub batch_hitless : (M rs : List Route) → IsTable M → AreChanges rs → AreApart rs → IsHitless M (batch M rs)
 batch_hitless M rs m c p = hitless_from M (batch M rs) (λ x a. batch_once x a M rs m (changes_from rs c) (Rising-from_pairs Apart rs p))
@@ -102,40 +98,20 @@ batch_hops M (r ∷ rs) m c x a =
     batch_hops (painted M r) rs (painted_is_table M m r k.0 k.1) (λ s i. c s (inr i)) x a
     ∙ ap (λ h. hop_over h rs x) (painted_hops M m r k.0 k.1 x a)
 
--- two maximal blocks of one set have no address in common
-maximal_apart : (S : Address → Type 0) (b c : Block) → IsMaximalBlock S b → IsMaximalBlock S c → IsBefore b c → (x : Address) → HasAddress b x → HasAddress c x → ⊥
-maximal_apart S b c p q l x h k = ⊎_elim (λ i. go b c p q l i) (λ i. back i) (nested b c x p.within.block q.within.block h k)
-  where
-    go : (b c : Block) → IsMaximalBlock S b → IsMaximalBlock S c → IsBefore b c → IsInside b c → ⊥
-    go b c p q l i = ⊎_elim
-        (λ j. let e = same_sets b c p.within.block q.within.block i j in let m = subst (λ (d : Block). IsBefore d c) e l in strict c c m m)
-        (λ j. p.largest c q.within (i, j))
-        (decide_inside c b q.within.block p.within.block)
-
-    back : IsInside c b → ⊥
-    back i = ⊎_elim
-        (λ j. let e = same_sets b c p.within.block q.within.block j i in let m = subst (λ (d : Block). IsBefore d c) e l in strict c c m m)
-        (λ j. q.largest b p.within (i, j))
-        (decide_inside b c p.within.block q.within.block)
-
 told_apart : (S : Address → Type 0) (hop : Hop) (bs : List Block) → Rising IsBefore bs → ((b : Block) → In b bs → IsMaximalBlock S b) → Rising Apart (changes_to hop bs)
 told_apart S hop [] up all = tt
 told_apart S hop (b ∷ bs) up all = (
   (λ s i. let t = In-map (λ b. record { block = b; hop = hop; pref = default_preference }) bs s i in
       let e = ap Route.block t.2 in
-      λ x h k. maximal_apart S b t.0 (all b (inl refl)) (all t.0 (inr t.1)) (up.0 t.0 t.1) x h (subst (λ (d : Block). HasAddress d x) e k)),
+      λ x h k. before_apart b t.0 (up.0 t.0 t.1) (maximal_one S b t.0 (all b (inl refl)) (all t.0 (inr t.1)) x h (subst (λ (d : Block). HasAddress d x) e k))),
   told_apart S hop bs up.1 (λ c i. all c (inr i)),
 )
 
 pub told_are_changes : (S : Address → Type 0) (bs : List Block) (hop : Hop) → IsMaximal S bs → IsHop hop → AreChanges (changes_to hop bs) × AreApart (changes_to hop bs)
 told_are_changes S bs hop m k = (
   record {
-    blocks = All-from_In (λ r. IsBlock r.block) (changes_to hop bs) (λ s i.
-        let t = In-map (λ b. record { block = b; hop = hop; pref = default_preference }) bs s i in
-        subst IsBlock (sym (ap Route.block t.2)) (all t.0 t.1).within.block);
-    hops = All-from_In (λ r. IsHop r.hop) (changes_to hop bs) (λ s i.
-        let t = In-map (λ b. record { block = b; hop = hop; pref = default_preference }) bs s i in
-        subst IsHop (sym (ap Route.hop t.2)) k);
+    blocks = All-map (λ r. IsBlock r.block) (λ b. record { block = b; hop = hop; pref = default_preference }) bs (All-from_In IsBlock bs (λ b i. (all b i).within.block));
+    hops = All-map (λ r. IsHop r.hop) (λ b. record { block = b; hop = hop; pref = default_preference }) bs (All-from_In (λ b. IsHop hop) bs (λ b i. k));
   },
   pairs_from_Rising Apart (changes_to hop bs) (told_apart S hop bs (Rising-from_pairs IsBefore bs m.ascending) all),
 )

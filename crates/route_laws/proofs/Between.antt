@@ -1,18 +1,19 @@
 -- The operations between two tables lead from the one to the other.
-use Rattle.std.proofs.Common.{◌≡◌, ◌⊎◌, ◌&&◌, ◌==◌, inl, inr, ⊎_elim, Bool, true, false, not, List, [], ◌∷◌, ◌++◌, refl, sym, ap, subst, arith}
+use Rattle.std.proofs.Common.{◌≡◌, ◌⊎◌, ◌&&◌, ◌==◌, inl, inr, ⊎_elim, true, not, List, [], ◌∷◌, ◌++◌, refl, sym, ap, subst, arith}
 use Rattle.std.specs.List.{list_any}
-use Rattle.std.proofs.lemmas.Bool.{and_parts}
+use Rattle.std.proofs.lemmas.Bool.{and_parts, cases_Bool}
 use Rattle.std.proofs.lemmas.Bool.Decides.{nat_tests}
-use Rattle.std.proofs.lemmas.List.{reverse-append}
+use Rattle.std.proofs.lemmas.List.{reverse-append, reverse-reverse}
+use Rattle.std.proofs.lemmas.List.Sorted.{Contains-permutation, IsPermutation-reverse}
 use mathlib.Core.List.{reverse}
 use Rattle.ipnet_addr.proofs.Basics.{In-from_list_any, list_any-from_In}
-use Rattle.ipnet_addr.proofs.Members.{In, In-left, In-right, In-cases}
-use Rattle.ipnet_addr.proofs.Ascending.{Rising, same_rising}
+use Rattle.ipnet_addr.proofs.Members.{In}
+use Rattle.ipnet_addr.proofs.Ascending.{Rising, same_rising, In-from_Contains, Contains-from_In}
 use Rattle.ipnet_blocks.specs.Blocks.{IsBlock, IsBefore, same_block}
 use Rattle.ipnet_blocks.proofs.BlockLaws.{strict}
 use Rattle.ipnet_blocks.proofs.BlockTests.{same_from_test, test_from_same}
 use Rattle.route_choices.specs.Choices.{same_hop}
-use Rattle.route_choices.proofs.Kept.{Rising-kept, In-from_filter, In-filter}
+use Rattle.route_choices.proofs.Kept.{Rising-kept, In-from_filter, In-filter, Rising-joined}
 use Rattle.route_choices.proofs.Preferences.{hop_from_test, same_itself}
 use Rattle.route_laws.specs.Tables.{Route, IsTable, is_stored, with_route, without_block}
 use Rattle.route_laws.proofs.Insides.{Sooner, rising, same_in}
@@ -25,29 +26,18 @@ use Rattle.route_laws.proofs.Turning.{Leads, install_turns, remove_turns, with_o
 -- ---- lists turned round
 
 pub In-reverse : {A : Type 0} (xs : List A) (a : A) → In a xs → In a (reverse xs)
-In-reverse [] a i = absurd i
-In-reverse {A} (x ∷ xs) a i = subst (λ (ys : List A). In a ys) (sym (reverse-append (x ∷ []) xs))
-    (⊎_elim (λ e. In-right a (reverse xs) (x ∷ []) (inl e)) (λ j. In-left a (reverse xs) (x ∷ []) (In-reverse xs a j)) i)
+In-reverse xs a i = In-from_Contains (reverse xs) a (Contains-permutation xs (reverse xs) a (IsPermutation-reverse xs) (Contains-from_In xs a i))
 
 pub reverse_In : {A : Type 0} (xs : List A) (a : A) → In a (reverse xs) → In a xs
-reverse_In [] a i = absurd i
-reverse_In {A} (x ∷ xs) a i = ⊎_elim (λ j. inr (reverse_In xs a j)) (λ j. ⊎_elim (λ e. inl e) (λ k. absurd k) j)
-    (In-cases a (reverse xs) (x ∷ []) (subst (λ (ys : List A). In a ys) (reverse-append (x ∷ []) xs) i))
+reverse_In xs a i = subst (In a) (reverse-reverse xs) (In-reverse (reverse xs) a i)
 
 abbrev pub Later : Route → Route → Type 0
 Later r s = IsBefore s.block r.block
 
-falling_more : (xs : List Route) (x : Route) → Rising Later xs → ((y : Route) → In y xs → Later y x) → Rising Later (xs ++ x ∷ [])
-falling_more [] x h f = ((λ y i. absurd i), tt)
-falling_more (z ∷ xs) x h f = (
-  (λ y i. ⊎_elim (λ j. h.0 y j) (λ j. ⊎_elim (λ e. subst (λ (u : Route). Later z u) (sym e) (f z (inl refl))) (λ k. absurd k) j) (In-cases y xs (x ∷ []) i)),
-  falling_more xs x h.1 (λ y i. f y (inr i)),
-)
-
 pub falls : (xs : List Route) → Rising Sooner xs → Rising Later (reverse xs)
 falls [] h = tt
 falls (x ∷ xs) h = subst (λ (ys : List Route). Rising Later ys) (sym (reverse-append (x ∷ []) xs))
-    (falling_more (reverse xs) x (falls xs h.1) (λ y i. h.0 y (reverse_In xs y i)))
+    (Rising-joined Later (reverse xs) (x ∷ []) (falls xs h.1) ((λ y i. absurd i), tt) (λ y z i j. ⊎_elim (λ e. subst (λ (u : Route). Later y u) (sym e) (h.0 y (reverse_In xs y i))) (λ k. absurd k) j))
 
 -- ---- tests
 
@@ -69,11 +59,10 @@ route_itself r =
 
 -- a route of N is held by M, or missing
 pub held_or_missing : (M N : List Route) (r : Route) → In r N → In r M ⊎ In r (missing M N)
-held_or_missing M N r i = go (list_any (λ s. same_route s r) M) refl
-  where
-    go : (b : Bool) → list_any (λ s. same_route s r) M ≡ b → In r M ⊎ In r (missing M N)
-    go true e = let t = In-from_list_any (λ s. same_route s r) M e in inl (subst (λ (u : Route). In u M) (route_from_test t.0 r t.2) t.1)
-    go false e = inr (In-filter (λ u. not (list_any (λ s. same_route s u) M)) N r i (ap not e))
+held_or_missing M N r i = ⊎_elim
+    (λ e. let t = In-from_list_any (λ s. same_route s r) M e in inl (subst (λ (u : Route). In u M) (route_from_test t.0 r t.2) t.1))
+    (λ e. inr (In-filter (λ u. not (list_any (λ s. same_route s u) M)) N r i (ap not e)))
+    (cases_Bool (list_any (λ s. same_route s r) M))
 
 pub missing_back : (M N : List Route) (r : Route) → In r (missing M N) → In r N × (In r M → ⊥)
 missing_back M N r i =
@@ -82,11 +71,10 @@ missing_back M N r i =
 
 -- a route of M has a block that N stores, or is left over
 pub stored_or_surplus : (M N : List Route) (r : Route) → In r M → ((s : Route) × In s N × (s.block ≡ r.block)) ⊎ In r (surplus M N)
-stored_or_surplus M N r i = go (is_stored N r.block) refl
-  where
-    go : (b : Bool) → is_stored N r.block ≡ b → ((s : Route) × In s N × (s.block ≡ r.block)) ⊎ In r (surplus M N)
-    go true e = let t = In-from_list_any (λ s. same_block s.block r.block) N e in inl (t.0, t.1, same_from_test (Route.block t.0) r.block t.2)
-    go false e = inr (In-filter (λ s. not (is_stored N s.block)) M r i (ap not e))
+stored_or_surplus M N r i = ⊎_elim
+    (λ e. let t = In-from_list_any (λ s. same_block s.block r.block) N e in inl (t.0, t.1, same_from_test (Route.block t.0) r.block t.2))
+    (λ e. inr (In-filter (λ s. not (is_stored N s.block)) M r i (ap not e)))
+    (cases_Bool (is_stored N r.block))
 
 pub surplus_back : (M N : List Route) (r : Route) → In r (surplus M N) → In r M × ((s : Route) → In s N → s.block ≡ r.block → ⊥)
 surplus_back M N r i =

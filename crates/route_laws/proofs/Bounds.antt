@@ -1,372 +1,230 @@
--- How many blocks a block governs: carve the stored blocks out of it, one after another.
-use Rattle.std.proofs.Common.{◌≡◌, ℕ, zero, suc, ◌+◌, ◌-◌, ◌*◌, ◌/◌, ◌%◌, ◌^◌, ◌<◌, ◌≤◌, ◌⊎◌, inl, inr, ⊎_elim, Bool, true, false, not, ◌&&◌, cond, nat_lt, List, [], ◌∷◌, ◌++◌, length, sum_by, refl, sym, ap, ◌∙◌, subst, arith, shr-shr, div-one, one-add, pow-suc, length-append}
-use Rattle.std.specs.List.{flat_map}
-use Rattle.std.proofs.lemmas.List.Sums.{sum_by-cons}
-use Rattle.std.proofs.lemmas.Bool.Decides.{nat_tests}
-use Rattle.std.proofs.Math.Bool.{and-true}
-use Rattle.std.proofs.lemmas.Bool.{and_parts, and_from}
-use Rattle.ipnet_addr.specs.Addresses.{width, Address, IsAddress}
-use Rattle.ipnet_blocks.specs.Blocks.{Block, IsBlock, free_bits, HasAddress, IsInside, IsLarger, IsBefore, is_inside, has_address, first_of, parent}
-use Rattle.ipnet_blocks.specs.Maximal.{IsWithin, IsMaximalBlock, IsMaximal, IsUnion, maximal_of}
-use Rattle.ipnet_addr.proofs.Members.{In, Distinct, In-left, In-right, In-cases}
-use Rattle.ipnet_addr.proofs.Ascending.{In-from_Contains, Contains-from_In, All-from_In, In-from_Any, Any-from_In, Rising-from_pairs, Distinct-from_Rising}
-use Rattle.ipnet_blocks.proofs.BlockLaws.{block_path, nested, has_first, strict, numbers_from_inside, inside_from_numbers}
-use Rattle.ipnet_blocks.proofs.Parents.{larger_is_shorter, parent_is_block, inside_parent}
-use Rattle.ipnet_blocks.proofs.Maximals.{maximal_is_union, maximal_is_unique, maximal_is_shortest, maximal_is_top, decide_test}
-use Rattle.ipnet_blocks.proofs.Search.{search_is_maximal}
-use Rattle.ipnet_blocks.proofs.BlockTests.{has_from_test, test_from_has, decide_has}
-use Rattle.route_laws.specs.Tables.{Route, IsTable, Governed}
+-- How many pieces a search finds inside a block: where a block has no hop of its own, some route inside it is longer. So a
+-- block governs few blocks.
+use Rattle.std.proofs.Common.{◌≡◌, ℕ, zero, suc, ◌+◌, ◌-◌, ◌<◌, ◌≤◌, ◌⊎◌, inl, inr, ⊎_elim, ◌&&◌, not, Bool, true, false, cond, nat_lt, List, [], ◌∷◌, ◌++◌, length, sum_by, Option, Some, None, refl, sym, ap, ◌∙◌, subst, arith, length-append}
+use Rattle.std.specs.List.{list_any}
+use Rattle.std.proofs.lemmas.Bool.{and_parts, and_from, and_right, cases_lt, cond-false, cond-true, lt-ltb, ltb-true, not_from_true}
+use Rattle.std.proofs.lemmas.List.Sums.{sum_by-cons, sum_by-le-sum_by}
+use Rattle.std.proofs.lemmas.Option.{cond_some, none-some}
+use Rattle.ipnet_addr.specs.Addresses.{Address}
+use Rattle.ipnet_addr.proofs.Basics.{In-from_list_any, list_any-from_In}
+use Rattle.ipnet_addr.proofs.Members.{In, no_more, one_or_all}
+use Rattle.ipnet_addr.proofs.Ascending.{In-from_Contains, Contains-from_In, Distinct-from_Rising, Rising-from_pairs}
+use Rattle.ipnet_blocks.specs.Blocks.{Block, IsBlock, free_bits, HasAddress, IsBefore, IsInside, IsLarger, has_address, is_inside, first_of, left, right}
+use Rattle.ipnet_blocks.specs.Maximal.{IsMaximal}
+use Rattle.ipnet_blocks.proofs.BlockLaws.{has_first, nested, numbers_from_inside, strict}
+use Rattle.ipnet_blocks.proofs.BlockTests.{has_from_test, test_from_has}
+use Rattle.ipnet_blocks.proofs.Parents.{decide_inside, larger_is_shorter}
+use Rattle.ipnet_blocks.proofs.Search.{left_is_block, right_is_block, left_inside, right_inside, halves_in_order, in_a_half}
 use Rattle.route_laws.specs.Bounds.{excess}
-use Rattle.route_laws.proofs.Matches.{inside_from_test, test_from_inside, block_in}
+use Rattle.route_laws.specs.Flats.{Piece, HasOneHop, one_hop_in, piece_or, flat_in}
+use Rattle.route_laws.specs.Tables.{Route, IsTable, Governed}
 use Rattle.route_laws.proofs.Flats.{maximal_same}
+use Rattle.route_laws.proofs.FlatSearch.{complete, located, not_one, sound}
+use Rattle.route_laws.proofs.Matches.{block_in, bools_same, inside_from_test, same_length, test_from_inside}
+use Rattle.route_laws.proofs.Ordered.{no_members, same_or_not, not_cases, not_from}
 
--- the other half of the parent
-abbrev pub sibling : Block → Block
-sibling m = record { family = m.family; len = m.len; quotient = 2 * (m.quotient / 2) + (1 - m.quotient % 2) }
+-- whether a block lies inside another and is longer by more than d, and by how much more
+unfoldable pub is_longer : ℕ → Block → Block → Bool
+is_longer d t b = is_inside b t && nat_lt (t.len + d) b.len
 
--- the block d bits shorter
-abbrev above : ℕ → Block → Block
-above d m = record { family = m.family; len = m.len - d; quotient = m.quotient / 2 ^ d }
+unfoldable pub weight : ℕ → Block → Route → ℕ
+weight d t r = cond (is_longer d t r.block) (r.block.len - (t.len + d)) 0
 
--- what is left of the block d bits shorter
-abbrev pub holes : ℕ → Block → List Block
-holes zero m = []
-holes (suc d) m = sibling m ∷ holes d (parent m)
+unfoldable pub count : ℕ → Block → Route → ℕ
+count d t r = cond (is_longer d t r.block) 1 0
 
-length-holes : (d : ℕ) (m : Block) → length (holes d m) ≡ d
-length-holes zero m = refl
-length-holes (suc d) m = ap suc (length-holes d (parent m))
+longer_parts : (d : ℕ) (t b : Block) → IsBlock t → IsBlock b → is_longer d t b ≡ true → IsInside b t × (t.len + d < b.len)
+unfolding is_longer
+longer_parts d t b ok k e = let p = and_parts (is_inside b t) (nat_lt (t.len + d) b.len) e in (inside_from_test b t k ok p.0, ltb-true _ _ p.1)
 
-module _ (m : Block) (p : IsBlock m) (pos : 0 < m.len) where
-  sibling_is_block : IsBlock (sibling m)
-  sibling_is_block =
-      let r = p.in_range in
-      let e : m.len ≡ suc (m.len - 1) = omega arith in
-      let t : 2 ^ m.len ≡ 2 ^ (m.len - 1) * 2 = ap (λ n. 2 ^ n) e ∙ pow-suc 2 (m.len - 1) in
-      record { in_width = p.in_width; in_range = omega arith }
+pub longer_from : (d : ℕ) (t b : Block) → IsBlock t → IsBlock b → IsInside b t → t.len + d < b.len → is_longer d t b ≡ true
+unfolding is_longer
+longer_from d t b ok k i l = and_from (is_inside b t) (nat_lt (t.len + d) b.len) (test_from_inside b t k ok i) (lt-ltb _ _ l)
 
-  parent_quotient : (x : Address) → HasAddress (parent m) x → x.number / 2 ^ free_bits m / 2 ≡ m.quotient / 2
-  parent_quotient x h =
-      let f = p.in_width in
-      let e : free_bits m + 1 ≡ width m.family - (m.len - 1) = omega arith in
-      shr-shr x.number (free_bits m) 1 ∙ ap (λ n. x.number / 2 ^ n) e ∙ h.1
+pub cond_less : (a b : Bool) (x y : ℕ) → (a ≡ true → b ≡ true) → x ≤ y → cond a x 0 ≤ cond b y 0
+cond_less true true x y h l = l
+cond_less true false x y h l = let e = h refl in absurd (cc)
+cond_less false b x y h l = omega arith
 
-  m_or_sibling : (x : Address) → HasAddress (parent m) x → HasAddress m x ⊎ HasAddress (sibling m) x
-  m_or_sibling x h = ⊎_elim (λ e. inl (h.0, e)) (λ e. inr (h.0, e)) (either (x.number / 2 ^ free_bits m) m.quotient (parent_quotient x h))
-    where
-      either : (y q : ℕ) → y / 2 ≡ q / 2 → (y ≡ q) ⊎ (y ≡ 2 * (q / 2) + (1 - q % 2))
-      either y q e = grind arith
+halves_of : (a b c : Bool) (m l n : ℕ) → l ≡ n + 1 → (a ≡ true → (c ≡ true) × (l < m)) → (b ≡ true → (c ≡ true) × (l < m)) → (a ≡ true → b ≡ true → ⊥) → (c ≡ true → n < m) → cond a (m - l) 0 + cond b (m - l) 0 + cond c 1 0 ≤ cond c (m - n) 0
+halves_of true true c m l n e f g both h = absurd (both refl refl)
+halves_of true false c m l n e f g both h = let k = f refl in rw (k.0) (omega (arith, k.1, e))
+halves_of false true c m l n e f g both h = let k = g refl in rw (k.0) (omega (arith, k.1, e))
+halves_of false false true m l n e f g both h = let k = h refl in omega arith
+halves_of false false false m l n e f g both h = omega arith
 
-  sibling_apart : (x : Address) → HasAddress (sibling m) x → HasAddress m x → ⊥
-  sibling_apart x h k = let a = h.1 in let b = k.1 in go (x.number / 2 ^ free_bits m) m.quotient h.1 k.1
-    where
-      go : (y q : ℕ) → y ≡ 2 * (q / 2) + (1 - q % 2) → y ≡ q → ⊥
-      go y q e f = omega arith
+-- the halves together have a route one less long than the whole
+module _ (d : ℕ) (t : Block) (ok : IsBlock t) (room : 0 < free_bits t) where
+  module _ (b : Block) (k : IsBlock b) where
+    in_half : (c : Block) → IsBlock c → IsInside c t → c.len ≡ t.len + 1 → is_longer d c b ≡ true → (is_longer d t b ≡ true) × (t.len + 1 + d < b.len)
+    in_half c okc i l e = let p = longer_parts d c b okc k e in (longer_from d t b ok k (λ x h. i x (p.0 x h)) (omega (arith, l, p.1)), omega (arith, l, p.1))
 
-  sibling_in_parent : (x : Address) → HasAddress (sibling m) x → HasAddress (parent m) x
-  sibling_in_parent x h =
-      let f = p.in_width in
-      let e : free_bits m + 1 ≡ width m.family - (m.len - 1) = omega arith in
-      let a : (2 * (m.quotient / 2) + (1 - m.quotient % 2)) / 2 ≡ m.quotient / 2 = omega arith in
-      (h.0, sym (shr-shr x.number (free_bits m) 1 ∙ ap (λ n. x.number / 2 ^ n) e) ∙ ap (λ n. n / 2) h.1 ∙ a)
+    not_both : is_longer d (left t) b ≡ true → is_longer d (right t) b ≡ true → ⊥
+    not_both e f =
+        let o = halves_in_order t b b (longer_parts d (left t) b (left_is_block t ok room) k e).0 (longer_parts d (right t) b (right_is_block t ok room) k f).0 in
+        strict b b o o
 
-inside_above : (d : ℕ) (m : Block) → IsBlock m → d ≤ m.len → IsInside m (above d m)
-inside_above d m p h =
-    let e : m.len - (m.len - d) ≡ d = omega arith in
-    inside_from_numbers m (above d m) p refl (omega arith) (ap (λ n. m.quotient / 2 ^ n) e)
+  pub halves_all : (rs : List Route) → ((r : Route) → In r rs → IsBlock r.block) → sum_by (weight d (left t)) rs + sum_by (weight d (right t)) rs + sum_by (count d t) rs ≤ sum_by (weight d t) rs
+  unfolding weight count
+  halves_all [] k = omega arith
+  halves_all (r ∷ rs) k =
+      let b = r.block in
+      let p = k r (inl refl) in
+      let h = halves_of (is_longer d (left t) b) (is_longer d (right t) b) (is_longer d t b) b.len (t.len + 1 + d) (t.len + d) (omega arith)
+      (in_half b p (left t) (left_is_block t ok room) (left_inside t ok room) refl) (in_half b p (right t) (right_is_block t ok room) (right_inside t ok room) refl) (not_both b p) (λ e. (longer_parts d t b ok p e).1) in
+      omega (arith, h, halves_all rs (λ s j. k s (inr j)), sum_by-cons (weight d (left t)) r rs, sum_by-cons (weight d (right t)) r rs, sum_by-cons (count d t) r rs, sum_by-cons (weight d t) r rs)
 
-above_parent : (d : ℕ) (m : Block) → above d (parent m) ≡ above (suc d) m
-above_parent d m = block_path (above d (parent m)) (above (suc d) m) refl (omega arith) (shr-shr m.quotient 1 d ∙ ap (λ n. m.quotient / 2 ^ n) (one-add d))
+pub none_longer : (d : ℕ) (t : Block) (rs : List Route) → sum_by (count d t) rs ≡ 0 → (r : Route) → In r rs → is_longer d t r.block ≡ true → ⊥
+unfolding count
+none_longer d t [] e r i h = i
+none_longer d t (s ∷ rs) e r i h =
+    let c = sum_by-cons (count d t) s rs in
+    ⊎_elim (λ q. let one : count d t s ≡ 1 = ap (λ b. cond b 1 0) (ap (λ (u : Route). is_longer d t u.block) (sym q) ∙ h) in absurd (omega arith))
+    (λ j. none_longer d t rs (omega arith) r j h) i
 
-holes_blocks : (d : ℕ) (m : Block) → IsBlock m → d ≤ m.len → (b : Block) → In b (holes d m) → IsBlock b
-holes_blocks zero m p h b i = absurd i
-holes_blocks (suc d) m p h b i =
-    ⊎_elim (λ e. subst IsBlock (sym e) (sibling_is_block m p (omega arith))) (λ j. holes_blocks d (parent m) (parent_is_block m p (omega arith)) (omega arith) b j) i
+-- ---- the pieces inside a block
 
-in_holes : (d : ℕ) (m : Block) → IsBlock m → d ≤ m.len → (x : Address) (b : Block) → In b (holes d m) → HasAddress b x → HasAddress (above d m) x × (HasAddress m x → ⊥)
-in_holes zero m p h x b i k = absurd i
-in_holes (suc d) m p h x b i k =
-    let pos : 0 < m.len = omega arith in
-    let q = parent_is_block m p pos in
-    ⊎_elim
-    (λ e. let s = subst (λ (c : Block). HasAddress c x) e k in
-    (subst (λ (c : Block). HasAddress c x) (above_parent d m) (inside_above d (parent m) q (omega arith) x (sibling_in_parent m p pos x s)), sibling_apart m p pos x s))
-    (λ j. let t = in_holes d (parent m) q (omega arith) x b j k in
-    (subst (λ (c : Block). HasAddress c x) (above_parent d m) t.0, λ a. t.1 (inside_parent m p pos x a)))
-    i
+length_piece : (b : Block) (o : Option ℕ) (ps : List Piece) (n : ℕ) → (o ≡ None → length ps ≤ 1 + n) → length (piece_or b o ps) ≤ 1 + n
+length_piece b None ps n h = h refl
+length_piece b (Some m) ps n h = omega arith
 
-holes_have : (d : ℕ) (m : Block) → IsBlock m → d ≤ m.len → (x : Address) → HasAddress (above d m) x → (HasAddress m x → ⊥) → (b : Block) × In b (holes d m) × HasAddress b x
-holes_have zero m p h x k out =
-    let l : m.len - 0 ≡ m.len = omega arith in
-    absurd (out (subst (λ (c : Block). HasAddress c x) (block_path (above 0 m) m refl l (div-one m.quotient)) k))
-holes_have (suc d) m p h x k out =
-    let pos : 0 < m.len = omega arith in
-    let q = parent_is_block m p pos in
-    ⊎_elim
-    (λ a. ⊎_elim (λ b. absurd (out b)) (λ b. (sibling m, inl refl, b)) (m_or_sibling m p pos x a))
-    (λ far. let t = holes_have d (parent m) q (omega arith) x (subst (λ (c : Block). HasAddress c x) (sym (above_parent d m)) k) far in (t.0, inr t.1, t.2))
-    (decide_has (parent m) x)
+module _ (h : Address → Option ℕ) where
+  abbrev pub IsBare : Block → Type 0
+  IsBare t = (x : Address) → HasAddress t x → h x ≡ None
 
--- what is left of c without m
-abbrev pub remove_from : Block → Block → List Block
-remove_from m c = cond (is_inside m c) (holes (m.len - c.len) m) (cond (is_inside c m) [] (c ∷ []))
+  -- addresses without a hop have no pieces
+  no_hop_here : (k : ℕ) (t : Block) → IsBlock t → free_bits t ≡ k → IsBare t → flat_in h k t ≡ []
+  no_hop_here k t ok e none = no_members (flat_in h k t) (λ p i.
+      let first = has_first p.block in
+      let m = sound h k t ok e (λ c w l. none-some w.number (sym (none (first_of t) (has_first t)) ∙ w.all (first_of t) (l.0 (first_of t) (has_first t)))) p i in
+      none-some p.number (sym (none (first_of p.block) (located h k t ok e p i (first_of p.block) first)) ∙ m.within.all (first_of p.block) first))
 
-above_is : (m c : Block) → IsBlock m → IsBlock c → IsInside m c → (above (m.len - c.len) m ≡ c) × (c.len ≤ m.len)
-above_is m c p q h =
-    let n = numbers_from_inside m c p q h in
-    let l = n.long in
-    (block_path (above (m.len - c.len) m) c n.family (omega arith) n.quotient, l)
+  module _ (cost : Block → ℕ) where
+    -- a block has no hop, or one; or its halves cost one less than the whole, or no more where one of them has no hop
+    pub data Rule (t : Block) : Type 0 where
+      Bare : IsBare t → Rule t
+      One : HasOneHop h t → Rule t
+      Less : cost (left t) + cost (right t) + 1 ≤ cost t → Rule t
+      Low : IsBare (left t) → cost (left t) + cost (right t) ≤ cost t → Rule t
+      High : IsBare (right t) → cost (left t) + cost (right t) ≤ cost t → Rule t
 
-module _ (m c : Block) (p : IsBlock m) (q : IsBlock c) where
-  pub left_in : (x : Address) (b : Block) → In b (remove_from m c) → HasAddress b x → HasAddress c x × (HasAddress m x → ⊥) × IsBlock b
-  left_in x b i k = go (is_inside m c) refl (is_inside c m) refl i
-    where
-      go : (s : Bool) → is_inside m c ≡ s → (t : Bool) → is_inside c m ≡ t → In b (cond s (holes (m.len - c.len) m) (cond t [] (c ∷ []))) → HasAddress c x × (HasAddress m x → ⊥) × IsBlock b
-      go true e t f i =
-          let a = above_is m c p q (inside_from_test m c p q e) in
-          let fits : m.len - c.len ≤ m.len = omega arith in
-          let u = in_holes (m.len - c.len) m p fits x b i k in
-          (subst (λ (d : Block). HasAddress d x) a.0 u.0, u.1, holes_blocks (m.len - c.len) m p fits b i)
-      go false e true f i = absurd i
-      go false e false f i = ⊎_elim
-          (λ z. let here = subst (λ (d : Block). HasAddress d x) z k in (
-            here,
-            (λ there. ⊎_elim
-                (λ j. let w = test_from_inside m c p q j in absurd (let v : true ≡ false = sym w ∙ e in cc))
-                (λ j. let w = test_from_inside c m q p j in absurd (let v : true ≡ false = sym w ∙ f in cc))
-                (nested m c x p q there here)),
-            subst IsBlock (sym z) q,
-          ))
-          (λ z. absurd z) i
+    pub even : (t : Block) → IsBlock t → (o : Option ℕ) → ((x : Address) → HasAddress t x → h x ≡ o) → Rule t
+    even t ok None f = Bare f
+    even t ok (Some n) f = One (record { block = ok; number = n; all = f })
 
-  pub left_has : (x : Address) → HasAddress c x → (HasAddress m x → ⊥) → (b : Block) × In b (remove_from m c) × HasAddress b x
-  left_has x k out = go (is_inside m c) refl (is_inside c m) refl
-    where
-      go : (s : Bool) → is_inside m c ≡ s → (t : Bool) → is_inside c m ≡ t → (b : Block) × In b (cond s (holes (m.len - c.len) m) (cond t [] (c ∷ []))) × HasAddress b x
-      go true e t f =
-          let a = above_is m c p q (inside_from_test m c p q e) in
-          let fits : m.len - c.len ≤ m.len = omega arith in
-          holes_have (m.len - c.len) m p fits x (subst (λ (d : Block). HasAddress d x) (sym a.0) k) out
-      go false e true f = absurd (out (inside_from_test c m q p f x k))
-      go false e false f = (c, inl refl, k)
+    module _ (n : Block) (rule : (t : Block) → IsBlock t → IsInside t n → 0 < free_bits t → Rule t) where
+      pub few_by : (k : ℕ) (t : Block) → IsBlock t → IsInside t n → free_bits t ≡ k → length (flat_in h k t) ≤ 1 + cost t
+      unfolding flat_in
+      few_by zero t ok i e = length_piece t (h (first_of t)) [] (cost t) (λ q. omega arith)
+      few_by (suc k) t ok i e = length_piece t (one_hop_in h (suc k) t) (flat_in h k (left t) ++ flat_in h k (right t)) (cost t) (λ q. by q (rule t ok i room)
+          (few_by k (left t) (left_is_block t ok room) (λ x m. i x (left_inside t ok room x m)) (omega arith)) (few_by k (right t) (right_is_block t ok room) (λ x m. i x (right_inside t ok room x m)) (omega arith)))
+        where
+          room : 0 < free_bits t
+          room = omega arith
 
-pub In-flat : (f : Block → List Block) (cs : List Block) (c b : Block) → In c cs → In b (f c) → In b (flat_map f cs)
-In-flat f [] c b i j = absurd i
-In-flat f (d ∷ cs) c b i j =
-    ⊎_elim (λ e. In-left b (f d) (flat_map f cs) (subst (λ (a : Block). In b (f a)) e j)) (λ k. In-right b (f d) (flat_map f cs) (In-flat f cs c b k j)) i
+          no_low : IsBare (left t) → length (flat_in h k (left t)) ≡ 0
+          no_low f = ap length (no_hop_here k (left t) (left_is_block t ok room) (omega arith) f)
 
-pub In-flat_back : (f : Block → List Block) (cs : List Block) (b : Block) → In b (flat_map f cs) → (c : Block) × In c cs × In b (f c)
-In-flat_back f [] b i = absurd i
-In-flat_back f (d ∷ cs) b i =
-    ⊎_elim (λ j. (d, inl refl, j)) (λ j. let t = In-flat_back f cs b j in (t.0, inr t.1, t.2)) (In-cases b (f d) (flat_map f cs) i)
+          no_high : IsBare (right t) → length (flat_in h k (right t)) ≡ 0
+          no_high f = ap length (no_hop_here k (right t) (right_is_block t ok room) (omega arith) f)
 
-module _ (m : Block) (k : ℕ) (below : k < m.len) where
-  carve_none : (cs : List Block) → ((c : Block) → In c cs → is_inside m c ≡ false) → length (flat_map (remove_from m) cs) ≤ length cs
-  carve_none [] h = omega arith
-  carve_none (c ∷ cs) h =
-      let i = carve_none cs (λ d j. h d (inr j)) in
-      let l : length (remove_from m c) ≤ 1 = ap_le (is_inside m c) (is_inside c m) (h c (inl refl)) in
-      let e = length-append (remove_from m c) (flat_map (remove_from m) cs) in
-      omega arith
-    where
-      ap_le : (s t : Bool) → s ≡ false → length (cond s (holes (m.len - c.len) m) (cond t [] (c ∷ []))) ≤ 1
-      ap_le true t e = absurd (cc)
-      ap_le false true e = omega arith
-      ap_le false false e = omega arith
+          by : one_hop_in h (suc k) t ≡ None → Rule t → length (flat_in h k (left t)) ≤ 1 + cost (left t) → length (flat_in h k (right t)) ≤ 1 + cost (right t) → length (flat_in h k (left t) ++ flat_in h k (right t)) ≤ 1 + cost t
+          by q (Bare f) low high = omega (arith, length-append (flat_in h k (left t)) (flat_in h k (right t)), no_low (λ x m. f x (left_inside t ok room x m)), no_high (λ x m. f x (right_inside t ok room x m)))
+          by q (One w) low high = absurd (not_one h (suc k) t ok e q w)
+          by q (Less l) low high = omega (arith, length-append (flat_in h k (left t)) (flat_in h k (right t)), low, high, l)
+          by q (Low f l) low high = omega (arith, length-append (flat_in h k (left t)) (flat_in h k (right t)), no_low f, high, l)
+          by q (High f l) low high = omega (arith, length-append (flat_in h k (left t)) (flat_in h k (right t)), low, no_high f, l)
 
-  pub carve_one : (cs : List Block) → Distinct cs → ((c : Block) → In c cs → k ≤ c.len) → ((c d : Block) → In c cs → In d cs → is_inside m c ≡ true → is_inside m d ≡ true → c ≡ d) →
-      length (flat_map (remove_from m) cs) ≤ length cs + (m.len - k - 1)
-  carve_one [] apart long one = omega arith
-  carve_one (c ∷ cs) apart long one = go (is_inside m c) refl
-      (carve_one cs apart.1 (λ d j. long d (inr j)) (λ d e i j. one d e (inr i) (inr j)))
-    where
-      small : (t : Bool) → length (cond t [] (c ∷ [])) ≤ 1
-      small true = omega arith
-      small false = omega arith
+-- ---- the blocks that a block governs
 
-      other : is_inside m c ≡ true → (d : Block) → In d cs → (s : Bool) → is_inside m d ≡ s → is_inside m d ≡ false
-      other e d j false f = f
-      other e d j true f = absurd (apart.0 (subst (λ (a : Block). In a cs) (sym (one c d (inl refl) (inr j) e f)) j))
+module _ (M : List Route) (table : IsTable M) (n : Block) (ok : IsBlock n) where
+  abbrev covered : Address → Bool
+  covered x = list_any (λ r. is_longer 0 n r.block && has_address r.block x) M
 
-      go : (s : Bool) → is_inside m c ≡ s → length (flat_map (remove_from m) cs) ≤ length cs + (m.len - k - 1) → length (remove_from m c ++ flat_map (remove_from m) cs) ≤ suc (length cs) + (m.len - k - 1)
-      go true e ih =
-          let i = carve_none cs (λ d j. other e d j (is_inside m d) refl) in
-          let len : length (remove_from m c) ≡ m.len - c.len = ap (λ s. length (cond s (holes (m.len - c.len) m) (cond (is_inside c m) [] (c ∷ [])))) e ∙ length-holes (m.len - c.len) m in
-          let l = long c (inl refl) in
-          let f = length-append (remove_from m c) (flat_map (remove_from m) cs) in
-          omega arith
-      go false e ih =
-          let len : length (remove_from m c) ≡ length (cond (is_inside c m) [] (c ∷ [])) = ap (λ s. length (cond s (holes (m.len - c.len) m) (cond (is_inside c m) [] (c ∷ [])))) e in
-          let l = small (is_inside c m) in
-          let f = length-append (remove_from m c) (flat_map (remove_from m) cs) in
-          omega arith
+  -- one hop where n governs, and none elsewhere
+  abbrev hop : Address → Option ℕ
+  hop x = cond (has_address n x && not (covered x)) (Some 0) None
 
--- one more block carved out of a set
-module _ (s s' : Address → Bool) (m : Block) (p : IsBlock m) (k : ℕ) (below : k < m.len)
-    (long : (b : Block) → IsWithin (λ x. s x ≡ true) b → k ≤ b.len)
-    (more : (x : Address) → IsAddress x → s' x ≡ true → (s x ≡ true) × (HasAddress m x → ⊥))
-    (back : (x : Address) → IsAddress x → s x ≡ true → (HasAddress m x → ⊥) → s' x ≡ true) where
-  carve_more : length (maximal_of s') ≤ length (maximal_of s) + (m.len - k - 1)
-  carve_more =
-      let cs = maximal_of s in
-      let ex : IsMaximal (λ x. s x ≡ true) (maximal_of s) = search_is_maximal s in
-      let max : (c : Block) → In c (maximal_of s) → IsMaximalBlock (λ x. s x ≡ true) c = λ c i. (ex.exact c).0 (Contains-from_In (maximal_of s) c i) in
-      let all = maximal_is_union (λ x. s x ≡ true) (decide_test s) (maximal_of s) ex in
-      let apart : Distinct (maximal_of s) = Distinct-from_Rising IsBefore strict (maximal_of s) (Rising-from_pairs IsBefore (maximal_of s) ex.ascending) in
-      let few = carve_one m k below (maximal_of s) apart (λ c i. long c (max c i).within)
-      (λ c d i j e f.
-      let a = inside_from_test m c p (max c i).within.block e (first_of m) (has_first m) in
-      let b = inside_from_test m d p (max d j).within.block f (first_of m) (has_first m) in
-      ⊎_elim
-      (λ h. sym ((maximal_is_top (λ x. s x ≡ true) c (max c i)).1 d (max d j).within h))
-      (λ h. (maximal_is_top (λ x. s x ≡ true) d (max d j)).1 c (max c i).within h)
-      (nested c d (first_of m) (max c i).within.block (max d j).within.block a b)) in
-      let union : IsUnion (λ x. s' x ≡ true) (flat_map (remove_from m) (maximal_of s)) = record {
-        blocks = All-from_In IsBlock (flat_map (remove_from m) (maximal_of s)) (λ b i.
-            let t = In-flat_back (remove_from m) (maximal_of s) b i in
-            (left_in m t.0 p (max t.0 t.1).within.block (first_of b) b t.2 (has_first b)).2);
-        exact = λ x a. (
-          (λ e.
-              let u = more x a e in
-              let t = In-from_Any (λ b. HasAddress b x) (maximal_of s) ((all.exact x a).0 u.0) in
-              let w = left_has m t.0 p (max t.0 t.1).within.block x t.2 u.1 in
-              Any-from_In (λ b. HasAddress b x) (flat_map (remove_from m) (maximal_of s)) w.0 (In-flat (remove_from m) (maximal_of s) t.0 w.0 t.1 w.1) w.2),
-          (λ h.
-              let t = In-from_Any (λ b. HasAddress b x) (flat_map (remove_from m) (maximal_of s)) h in
-              let c = In-flat_back (remove_from m) (maximal_of s) t.0 t.1 in
-              let w = left_in m c.0 p (max c.0 c.1).within.block x t.0 c.2 t.2 in
-              back x a ((max c.0 c.1).within.all x w.0) w.1),
-        );
-      } in
-      let least = maximal_is_shortest (λ x. s' x ≡ true) (maximal_of s') (search_is_maximal s') (flat_map (remove_from m) (maximal_of s)) union in
-      omega arith
+  covers : (r : Route) → In r M → IsLarger n r.block → (x : Address) → HasAddress r.block x → covered x ≡ true
+  covers r i l x h = list_any-from_In (λ r. is_longer 0 n r.block && has_address r.block x) M r i
+      (and_from (is_longer 0 n r.block) (has_address r.block x) (longer_from 0 n r.block ok (block_in M table r i) l.0 (let s = larger_is_shorter n r.block ok (block_in M table r i) l in omega arith)) (test_from_has r.block x h))
 
--- a set with the same addresses has as many maximal blocks
-same_set : (s s' : Address → Bool) → ((x : Address) → IsAddress x → s' x ≡ s x) → length (maximal_of s') ≤ length (maximal_of s)
-same_set s s' same =
-    let u = maximal_is_union (λ x. s x ≡ true) (decide_test s) (maximal_of s) (search_is_maximal s) in
-    maximal_is_shortest (λ x. s' x ≡ true) (maximal_of s') (search_is_maximal s') (maximal_of s)
-    (record { blocks = u.blocks; exact = λ x a. ((λ e. (u.exact x a).0 (sym (same x a) ∙ e)), (λ h. same x a ∙ (u.exact x a).1 h)) })
+  covered_by : (x : Address) → covered x ≡ true → (r : Route) × In r M × IsLarger n r.block × HasAddress r.block x
+  covered_by x e =
+      let t = In-from_list_any (λ r. is_longer 0 n r.block && has_address r.block x) M e in
+      let p = and_parts (is_longer 0 n (Route.block t.0)) (has_address (Route.block t.0) x) t.2 in
+      let k = block_in M table t.0 t.1 in
+      let q = longer_parts 0 n (Route.block t.0) ok k p.0 in
+      (t.0, t.1, (q.0, λ back. absurd (omega (arith, q.1, (numbers_from_inside n (Route.block t.0) ok k back).long))), has_from_test (Route.block t.0) x p.1)
 
-abbrev is_strict : Block → Block → Bool
-is_strict n m = is_inside m n && nat_lt n.len m.len
+  hop_of_governed : (x : Address) → Governed M n x → hop x ≡ Some 0
+  hop_of_governed x g = cond-true (has_address n x && not (covered x)) (Some 0) None (and_from (has_address n x) (not (covered x)) (test_from_has n x g.inside)
+      (not_from (covered x) (λ e. let t = covered_by x e in g.free t.0 (Contains-from_In M t.0 t.1) t.2 t.3)))
 
-abbrev governs : Block → List Route → Address → Bool
-governs n [] x = has_address n x
-governs n (r ∷ M) x = governs n M x && not (is_strict n (Route.block r) && has_address (Route.block r) x)
+  governed_from_hop : (x : Address) → hop x ≡ Some 0 → Governed M n x
+  governed_from_hop x e =
+      let p = and_parts (has_address n x) (not (covered x)) (cond_some (has_address n x && not (covered x)) 0 0 e).0 in
+      record { inside = has_from_test n x p.0; free = λ r c l h. not_cases (covered x) p.1 (covers r (In-from_Contains M r c) l x h) }
 
-off : (a b : Bool) → (b ≡ true → ⊥) → (a && b) ≡ false
-off a true h = absurd (h refl)
-off true false h = refl
-off false false h = refl
+  module _ (t : Block) (okt : IsBlock t) (i : IsInside t n) (room : 0 < free_bits t) where
+    -- a half that is stored has no hop
+    bare_half : (c : Block) → IsBlock c → IsInside c t → c.len ≡ t.len + 1 → (r : Route) → In r M → r.block ≡ c → IsBare hop c
+    bare_half c okc in_t l r j e x m =
+        let larger : IsLarger n c = (λ y h. i y (in_t y h), λ back. absurd (omega (arith, l, (numbers_from_inside n c ok okc back).long, (numbers_from_inside t n okt ok i).long))) in
+        cond-false (has_address n x && not (covered x)) (Some 0) None (and_right (has_address n x) (not (covered x))
+        (not_from_true (covered x) (covers r j (subst (IsLarger n) (sym e) larger) x (subst (λ (a : Block). HasAddress a x) (sym e) m))))
 
-less : (a b : ℕ) → nat_lt a b ≡ true → a < b
-less a b e = grind (arith, nat_tests, e)
+    module _ (none : sum_by (count 1 t) M ≡ 0) (no_left : (r : Route) → In r M → r.block ≡ left t → ⊥) (no_right : (r : Route) → In r M → r.block ≡ right t → ⊥) where
+      -- where nothing is stored strictly inside, what is stored holds all of the block or none
+      lies : (r : Route) → In r M → (x : Address) → HasAddress t x → HasAddress r.block x → IsInside t r.block
+      lies r j x m h = ⊎_elim (λ in_r. in_r) (λ in_t. ⊎_elim (λ in_r. in_r) (λ far. absurd (⊎_elim (λ k. no_left r j (at (left t) k refl (in_t, far))) (λ k. no_right r j (at (right t) k refl (in_t, far))) (in_a_half t okt room r.block okr (in_t, far))))
+          (decide_inside t r.block okt okr)) (nested t r.block x okt okr m h)
+        where
+          okr : IsBlock r.block
+          okr = block_in M table r j
 
-governs_inside : (n : Block) (M : List Route) (x : Address) → governs n M x ≡ true → HasAddress n x
-governs_inside n [] x e = has_from_test n x e
-governs_inside n (r ∷ M) x e = governs_inside n M x (and_parts (governs n M x) (not (is_strict n (Route.block r) && has_address (Route.block r) x)) e).0
+          at : (c : Block) → IsInside r.block c → c.len ≡ t.len + 1 → IsLarger t r.block → r.block ≡ c
+          at c k l larger = same_length r.block c (first_of r.block) (has_first r.block) (k (first_of r.block) (has_first r.block))
+              (let s = larger_is_shorter t r.block okt okr larger in ⊎_elim (λ long. absurd (none_longer 1 t M none r j (longer_from 1 t r.block okt okr larger.0 long))) (λ short. omega arith) (cases_lt (t.len + 1) (Block.len r.block)))
 
-module _ (n : Block) (ok : IsBlock n) where
-  long_enough : (M : List Route) (b : Block) → IsWithin (λ x. governs n M x ≡ true) b → n.len ≤ b.len
-  long_enough M b w =
-      let t = numbers_from_inside b n w.block ok (λ x h. governs_inside n M x (w.all x h)) in
-      t.long
+      moves : (x y : Address) → HasAddress t x → HasAddress t y → covered x ≡ true → covered y ≡ true
+      moves x y m k e = let s = covered_by x e in covers s.0 s.1 s.2 y (lies s.0 s.1 x m s.3 y k)
 
-  few_blocks : (M : List Route) → ((r : Route) → In r M → IsBlock r.block) → length (maximal_of (governs n M)) ≤ 1 + sum_by (λ r. excess n r.block) M
-  few_blocks [] valid =
-      maximal_is_shortest (λ x. governs n [] x ≡ true) (maximal_of (governs n [])) (search_is_maximal (governs n [])) (n ∷ [])
-      (record {
-        blocks = All-from_In IsBlock (n ∷ []) (λ b i. ⊎_elim (λ e. subst IsBlock (sym e) ok) (λ z. absurd z) i);
-        exact = λ x a. (
-          (λ e. Any-from_In (λ b. HasAddress b x) (n ∷ []) n (inl refl) (has_from_test n x e)),
-          (λ h. let t = In-from_Any (λ b. HasAddress b x) (n ∷ []) h in
-              test_from_has n x (⊎_elim (λ e. subst (λ (c : Block). HasAddress c x) e t.2) (λ z. absurd z) t.1)),
-        );
-      })
-  few_blocks (r ∷ M) valid = go (is_strict n r.block) refl (few_blocks M (λ q i. valid q (inr i)))
-    where
-      sums : sum_by (λ r. excess n (Route.block r)) (r ∷ M) ≡ excess n r.block + sum_by (λ r. excess n (Route.block r)) M
-      sums = sum_by-cons (λ r. excess n (Route.block r)) r M
+      steady : (x : Address) → HasAddress t x → hop x ≡ hop (first_of t)
+      steady x m =
+          let f = has_first t in
+          let inside = test_from_has n x (i x m) ∙ sym (test_from_has n (first_of t) (i (first_of t) f)) in
+          let same = bools_same (covered x) (covered (first_of t)) (moves x (first_of t) m f) (moves (first_of t) x f m) in
+          λ j. cond (inside j && not (same j)) (Some 0) None
 
-      go : (t : Bool) → is_strict n r.block ≡ t → length (maximal_of (governs n M)) ≤ 1 + sum_by (λ r. excess n (Route.block r)) M →
-          length (maximal_of (governs n (r ∷ M))) ≤ 1 + sum_by (λ r. excess n (Route.block r)) (r ∷ M)
-      go false e ih =
-          let same = same_set (governs n M) (governs n (r ∷ M)) (λ x a.
-          let f : not (is_strict n r.block && has_address r.block x) ≡ true = ap (λ t. not (t && has_address r.block x)) e in
-          ap (λ t. governs n M x && t) f ∙ and-true (governs n M x)) in
-          let s = sums in
-          omega arith
-      go true e ih =
-          let parts = and_parts (is_inside r.block n) (nat_lt n.len (Block.len r.block)) e in
-          let shorter : n.len < Block.len r.block = less n.len (Block.len r.block) parts.1 in
-          let v = valid r (inl refl) in
-          let c = carve_more (governs n M) (governs n (r ∷ M)) r.block v n.len shorter (long_enough M)
-          (λ x a g.
-          let t = and_parts (governs n M x) (not (is_strict n r.block && has_address r.block x)) g in (
-            t.0,
-            λ h. let u = test_from_has r.block x h in let w : not (is_strict n r.block && has_address r.block x) ≡ false = ap not (and_from (is_strict n r.block) (has_address r.block x) e u) in
-                absurd (let z : true ≡ false = sym t.1 ∙ w in cc),
-          ))
-          (λ x a g out. and_from (governs n M x) (not (is_strict n r.block && has_address r.block x)) g
-          (ap not (off (is_strict n r.block) (has_address r.block x) (λ u. out (has_from_test r.block x u))))) in
-          let here : excess n r.block ≡ Block.len r.block - n.len - 1 = ap (λ t. cond t (Block.len r.block - n.len - 1) 0) e in
-          let s = sums in
-          omega arith
+    rule : Rule hop (λ t. sum_by (weight 1 t) M) t
+    rule = by (sum_by (count 1 t) M) refl
+      where
+        halves : sum_by (weight 1 (left t)) M + sum_by (weight 1 (right t)) M + sum_by (count 1 t) M ≤ sum_by (weight 1 t) M
+        halves = halves_all 1 t okt room M (block_in M table)
 
-  not_both : (a b : Bool) → (a ≡ true → b ≡ true → ⊥) → (a && b) ≡ false
-  not_both true true h = absurd (h refl refl)
-  not_both true false h = refl
-  not_both false b h = refl
+        by : (c : ℕ) → sum_by (count 1 t) M ≡ c → Rule hop (λ t. sum_by (weight 1 t) M) t
+        by (suc c) z = Less (omega (arith, halves, z))
+        by zero z = ⊎_elim
+            (λ s. Low (bare_half (left t) (left_is_block t okt room) (left_inside t okt room) refl s.0 s.1 s.2) (omega (arith, halves)))
+            (λ no_left. ⊎_elim
+            (λ s. High (bare_half (right t) (right_is_block t okt room) (right_inside t okt room) refl s.0 s.1 s.2) (omega (arith, halves)))
+            (λ no_right. even hop (λ t. sum_by (weight 1 t) M) t okt (hop (first_of t)) (steady z no_left no_right))
+            (one_or_all (λ r. r.block ≡ right t) (λ r. r.block ≡ right t → ⊥) M (λ r j. same_or_not r.block (right t))))
+            (one_or_all (λ r. r.block ≡ left t) (λ r. r.block ≡ left t → ⊥) M (λ r j. same_or_not r.block (left t)))
 
-  less_test : (a b : ℕ) → a < b → nat_lt a b ≡ true
-  less_test a b h = grind (arith, nat_tests)
+excess_of : (n : Block) (r : Route) → weight 1 n r ≤ excess n r.block
+unfolding weight is_longer
+excess_of n r = cond_less (is_inside r.block n && nat_lt (n.len + 1) r.block.len) (is_inside r.block n && nat_lt n.len r.block.len) (r.block.len - (n.len + 1)) (r.block.len - n.len - 1)
+    (λ e. let p = and_parts (is_inside r.block n) (nat_lt (n.len + 1) r.block.len) e in let l = ltb-true _ _ p.1 in and_from (is_inside r.block n) (nat_lt n.len r.block.len) p.0 (lt-ltb _ _ (omega arith))) (omega arith)
 
-  larger_from_test : (m : Block) → IsBlock m → is_strict n m ≡ true → IsLarger n m
-  larger_from_test m p e =
-      let t = and_parts (is_inside m n) (nat_lt n.len m.len) e in
-      (inside_from_test m n p ok t.0, λ i. let u = numbers_from_inside n m ok p i in let l = u.long in let k = less n.len m.len t.1 in omega arith)
-
-  test_from_larger : (m : Block) → IsBlock m → IsLarger n m → is_strict n m ≡ true
-  test_from_larger m p l = and_from (is_inside m n) (nat_lt n.len m.len) (test_from_inside m n p ok l.0) (less_test n.len m.len (larger_is_shorter n m ok p l))
-
-  governs_from : (M : List Route) → ((r : Route) → In r M → IsBlock r.block) → (x : Address) → HasAddress n x →
-      ((r : Route) → In r M → IsLarger n r.block → HasAddress r.block x → ⊥) → governs n M x ≡ true
-  governs_from [] valid x h free = test_from_has n x h
-  governs_from (r ∷ M) valid x h free =
-      and_from (governs n M x) (not (is_strict n r.block && has_address r.block x)) (governs_from M (λ q i. valid q (inr i)) x h (λ q i. free q (inr i)))
-      (ap not (not_both (is_strict n r.block) (has_address r.block x)
-      (λ e f. free r (inl refl) (larger_from_test r.block (valid r (inl refl)) e) (has_from_test r.block x f))))
-
-  governs_free : (M : List Route) → ((r : Route) → In r M → IsBlock r.block) → (x : Address) → governs n M x ≡ true →
-      (r : Route) → In r M → IsLarger n r.block → HasAddress r.block x → ⊥
-  governs_free [] valid x e r i l h = i
-  governs_free (q ∷ M) valid x e r i l h =
-      let t = and_parts (governs n M x) (not (is_strict n q.block && has_address q.block x)) e in
-      ⊎_elim
-      (λ z.
-      let lq : IsLarger n q.block = subst (λ (c : Route). IsLarger n c.block) z l in
-      let hq : HasAddress q.block x = subst (λ (c : Route). HasAddress c.block x) z h in
-      let w : not (is_strict n q.block && has_address q.block x) ≡ false =
-      ap not (and_from (is_strict n q.block) (has_address q.block x) (test_from_larger q.block (valid q (inl refl)) lq) (test_from_has q.block x hq)) in
-      absurd (let v : true ≡ false = sym t.1 ∙ w in cc))
-      (λ j. governs_free M (λ a k. valid a (inr k)) x t.0 r j l h)
-      i
-
+-- the maximal blocks are among the pieces that a search finds
 pub governed_bound : (M : List Route) (n : Block) (bs : List Block) → IsTable M → IsBlock n → IsMaximal (Governed M n) bs → length bs ≤ 1 + sum_by (λ r. excess n r.block) M
 governed_bound M n bs table ok max =
-    let valid = block_in M table in
-    let to : (x : Address) → IsAddress x → governs n M x ≡ true → Governed M n x =
-    λ x a e. record { inside = governs_inside n M x e; free = λ r c l h. governs_free n ok M valid x e r (In-from_Contains M r c) l h } in
-    let back : (x : Address) → IsAddress x → Governed M n x → governs n M x ≡ true =
-    λ x a g. governs_from n ok M valid x g.inside (λ r i l h. g.free r (Contains-from_In M r i) l h) in
-    let ex = search_is_maximal (governs n M) in
-    let found : IsMaximal (Governed M n) (maximal_of (governs n M)) = record {
-      ascending = ex.ascending;
-      exact = λ b. (
-        (λ c. maximal_same (λ x. governs n M x ≡ true) (Governed M n) to back b ((ex.exact b).0 c)),
-        (λ m. (ex.exact b).1 (maximal_same (Governed M n) (λ x. governs n M x ≡ true) back to b m)),
-      );
-    } in
-    let same = maximal_is_unique (Governed M n) bs (maximal_of (governs n M)) max found in
-    subst (λ (cs : List Block). length cs ≤ 1 + sum_by (λ r. excess n r.block) M) (sym same) (few_blocks n ok M valid)
+    let h = hop M table n ok in
+    let found = no_more (λ b (p : Piece). b ≡ p.block) bs (flat_in h (free_bits n) n) (Distinct-from_Rising IsBefore strict bs (Rising-from_pairs IsBefore bs max.ascending))
+    (λ b i. let m = (max.exact b).0 (Contains-from_In bs b i) in
+    (record { block = b; number = 0 }, complete h (free_bits n) n ok refl (record { block = b; number = 0 })
+    (maximal_same (Governed M n) (λ x. h x ≡ Some 0) (λ x a g. hop_of_governed M table n ok x g) (λ x a e. governed_from_hop M table n ok x e) b m) (λ x k. Governed.inside (m.within.all x k)), refl))
+    (λ a c p i j e f. e ∙ sym f) in
+    omega (arith, found, few_by h (λ t. sum_by (weight 1 t) M) n (λ t okt i room. rule M table n ok t okt i room) (free_bits n) n ok (λ x m. m) refl, sum_by-le-sum_by (weight 1 n) (λ r. excess n r.block) M (excess_of n))

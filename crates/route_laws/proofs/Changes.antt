@@ -1,12 +1,12 @@
 -- The list that a change prints is the list of the maximal blocks of the addresses whose hop differs, as a fact and not as a test.
-use Rattle.std.proofs.Common.{◌≡◌, ◌≢◌, ℕ, Bool, true, false, not, List, Option, Some, None, refl, ap, subst, arith}
+use Rattle.std.proofs.Common.{◌≡◌, ℕ, true, List, Option, Some, None, refl, ap, arith, sym, ◌∙◌}
 use Rattle.std.proofs.lemmas.Bool.Decides.{nat_tests}
-use Rattle.ipnet_addr.specs.Addresses.{Address}
 use Rattle.ipnet_blocks.specs.Maximal.{IsMaximal, maximal_of}
 use Rattle.ipnet_blocks.proofs.Search.{search_is_maximal}
 use Rattle.route_laws.specs.Tables.{Route, hop_at, Changed}
 use Rattle.route_laws.specs.Changes.{changed, same_number}
-use Rattle.route_laws.proofs.Flats.{maximal_same}
+use Rattle.route_laws.proofs.Ordered.{not_cases, not_from}
+use Rattle.ipnet_blocks.proofs.Unions.{maximal_same}
 
 pub same_from_test : (o p : Option ℕ) → same_number o p ≡ true → o ≡ p
 same_from_test None None e = refl
@@ -18,28 +18,8 @@ pub same_itself : (o : Option ℕ) → same_number o o ≡ true
 same_itself None = refl
 same_itself (Some k) = grind (arith, nat_tests)
 
-module _ (M N : List Route) where
-  differs : (x : Address) → changed M N x ≡ true → hop_at M x ≢ hop_at N x
-  differs x e = λ q.
-      let s : same_number (hop_at M x) (hop_at N x) ≡ true = subst (λ (o : Option ℕ). same_number (hop_at M x) o ≡ true) q (same_itself (hop_at M x)) in
-      let t : not (same_number (hop_at M x) (hop_at N x)) ≡ false = ap not s in
-      cc
-
-  tested : (x : Address) → hop_at M x ≢ hop_at N x → changed M N x ≡ true
-  tested x f = go (same_number (hop_at M x) (hop_at N x)) refl
-    where
-      go : (b : Bool) → same_number (hop_at M x) (hop_at N x) ≡ b → not b ≡ true
-      go true e = absurd (f (same_from_test (hop_at M x) (hop_at N x) e))
-      go false e = refl
-
-  pub changed_is_maximal : IsMaximal (Changed M N) (maximal_of (changed M N))
-  changed_is_maximal =
-      let m = search_is_maximal (changed M N) in
-      let test : Address → Type 0 = λ x. changed M N x ≡ true in
-      record {
-        ascending = m.ascending;
-        exact = λ b. (
-          (λ c. maximal_same test (Changed M N) (λ x a h. differs x h) (λ x a h. tested x h) b ((m.exact b).0 c)),
-          (λ w. (m.exact b).1 (maximal_same (Changed M N) test (λ x a h. tested x h) (λ x a h. differs x h) b w)),
-        );
-      }
+pub changed_is_maximal : (M N : List Route) → IsMaximal (Changed M N) (maximal_of (changed M N))
+changed_is_maximal M N = maximal_same (λ x. changed M N x ≡ true) (Changed M N)
+    (λ x a e q. not_cases (same_number (hop_at M x) (hop_at N x)) e (ap (same_number (hop_at M x)) (sym q) ∙ same_itself (hop_at M x)))
+    (λ x a d. not_from (same_number (hop_at M x) (hop_at N x)) (λ e. d (same_from_test (hop_at M x) (hop_at N x) e)))
+    (maximal_of (changed M N)) (search_is_maximal (changed M N))

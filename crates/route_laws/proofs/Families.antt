@@ -14,15 +14,11 @@ use Rattle.route_laws.specs.Tables.{Route, hop_at, match_number, match_of}
 use Rattle.route_laws.proofs.Insides.{within, within_gives, sound, few, joined_table, joined_first, joined_second}
 
 -- tables with equal hops have the same least tables
-module _ (g h : Address → Option ℕ) (same : (x : Address) → IsAddress x → g x ≡ h x) where
-  hops_too : (N : List Route) → HasHops g N → HasHops h N
-  hops_too N k = record { table = k.table; same = λ x a. k.same x a ∙ same x a }
+hops_moved : (g h : Address → Option ℕ) → ((x : Address) → IsAddress x → g x ≡ h x) → (N : List Route) → HasHops g N → HasHops h N
+hops_moved g h same N k = record { table = k.table; same = λ x a. k.same x a ∙ same x a }
 
-  hops_back : (N : List Route) → HasHops h N → HasHops g N
-  hops_back N k = record { table = k.table; same = λ x a. k.same x a ∙ sym (same x a) }
-
-  pub least_too : (N : List Route) → IsLeast g N → IsLeast h N
-  least_too N k = record { hops = hops_too N k.hops; fewest = λ L l. k.fewest L (hops_back L l) }
+pub least_too : (g h : Address → Option ℕ) → ((x : Address) → IsAddress x → g x ≡ h x) → (N : List Route) → IsLeast g N → IsLeast h N
+least_too g h same N k = record { hops = hops_moved g h same N k.hops; fewest = λ L l. k.fewest L (hops_moved h g (λ x a. sym (same x a)) L l) }
 
 families_apart : Ipv4 ≡ Ipv6 → ⊥
 families_apart e = let r = ap rank e in absurd (omega arith)
@@ -62,15 +58,12 @@ module _ (h : Address → Option ℕ) (L N : List Route) (gl : GivesInside h (fa
   both_have : HasHops h (L ++ N)
   both_have = record {
     table = joined_table (family_block Ipv4) (family_block Ipv6) (whole_is_block Ipv4) (whole_is_block Ipv6) apart separate order h None L N gl gn;
-    same = λ x a. sym (hop_is (L ++ N) x) ∙ at x (in_family x a);
+    same = λ x a. sym (hop_is (L ++ N) x) ∙ at x x.family (in_family x a);
   }
     where
-      at : (x : Address) → HasAddress (family_block x.family) x → hop_under None (L ++ N) x ≡ h x
-      at x m = go x.family m
-        where
-          go : (f : Family) → HasAddress (family_block f) x → hop_under None (L ++ N) x ≡ h x
-          go Ipv4 k = joined_first (family_block Ipv4) (family_block Ipv6) (whole_is_block Ipv4) (whole_is_block Ipv6) apart separate order h None L N gl gn x k
-          go Ipv6 k = joined_second (family_block Ipv4) (family_block Ipv6) (whole_is_block Ipv4) (whole_is_block Ipv6) apart separate order h None L N gl gn x k
+      at : (x : Address) (f : Family) → HasAddress (family_block f) x → hop_under None (L ++ N) x ≡ h x
+      at x Ipv4 k = joined_first (family_block Ipv4) (family_block Ipv6) (whole_is_block Ipv4) (whole_is_block Ipv6) apart separate order h None L N gl gn x k
+      at x Ipv6 k = joined_second (family_block Ipv4) (family_block Ipv6) (whole_is_block Ipv4) (whole_is_block Ipv6) apart separate order h None L N gl gn x k
 
 -- a table needs what its families need
 at_least : (h : Address → Option ℕ) (n m : ℕ) → IsFewest h (family_block Ipv4) None n → IsFewest h (family_block Ipv6) None m → (M : List Route) → HasHops h M → n + m ≤ length M

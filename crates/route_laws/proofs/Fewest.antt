@@ -1,34 +1,21 @@
 -- The fewest routes inside a block, from those inside its halves.
-use Rattle.std.proofs.Common.{◌≡◌, ◌≢◌, ℕ, zero, suc, ◌+◌, ◌-◌, ◌/◌, ◌^◌, ◌<◌, ◌≤◌, ◌⊎◌, ◌↔◌, inl, inr, ⊎_elim, true, ◌&&◌, ◌==◌, nat_le, List, [], ◌∷◌, ◌++◌, length, Option, Some, None, IfSome, refl, sym, ap, ◌∙◌, subst, arith, length-append}
-use Rattle.std.proofs.lemmas.Bool.{and_parts}
+use Rattle.std.proofs.Common.{◌≡◌, ◌≢◌, ℕ, ◌+◌, ◌-◌, ◌/◌, ◌^◌, ◌<◌, ◌≤◌, ◌⊎◌, ◌↔◌, inl, inr, ⊎_elim, true, ◌&&◌, ◌==◌, nat_le, List, [], ◌∷◌, ◌++◌, length, Option, Some, None, IfSome, refl, sym, ap, ◌∙◌, subst, arith, length-append}
+use Rattle.std.proofs.lemmas.Bool.{and_parts, cases_lt}
 use Rattle.std.proofs.lemmas.Bool.Decides.{nat_tests}
-use native.Mathlib.Decide.{dec_le}
-use Rattle.ipnet_addr.specs.Addresses.{Address, width, rank, same_family}
+use Rattle.ipnet_addr.specs.Addresses.{Address, width, same_family}
 use Rattle.ipnet_addr.proofs.Members.{In, In-cases}
 use Rattle.ipnet_addr.proofs.Ascending.{In-from_All, All-from_In, Rising}
-use Rattle.ipnet_blocks.specs.Blocks.{Block, IsBlock, free_bits, HasAddress, IsInside, IsLarger, IsBefore, is_inside, first, first_of, host, left, right}
+use Rattle.ipnet_blocks.specs.Blocks.{Block, IsBlock, free_bits, HasAddress, IsInside, IsLarger, IsBefore, is_inside, first_of, host, left, right}
 use Rattle.ipnet_blocks.proofs.BlockLaws.{has_first, longer_inside, same_sets, strict}
 use Rattle.ipnet_blocks.proofs.Maximals.{member_is_address}
 use Rattle.ipnet_blocks.proofs.Parents.{larger_is_shorter}
-use Rattle.ipnet_blocks.proofs.Search.{left_is_block, right_is_block, left_inside, right_inside, in_a_half, address_in_a_half, first_within, leaf_address, halves_in_order}
+use Rattle.ipnet_blocks.proofs.Search.{left_is_block, right_is_block, left_inside, right_inside, in_a_half, address_in_a_half, leaf_address, halves_in_order}
 use Rattle.ipnet_blocks.specs.Halves.{IsLesser}
 use Rattle.route_choices.specs.Hops.{IsHop, hop_from, number_of}
-use Rattle.route_laws.specs.Fewest.{handed, hop_under, GivesInside, IsFewest, AreHops, FewestOfHost, FewestByHalves}
+use Rattle.route_laws.specs.Fewest.{handed, hop_under, GivesInside, IsFewest, AreHops, FewestOfHost}
 use Rattle.route_laws.specs.Tables.{Route, IsTable, match_of}
 use Rattle.route_laws.proofs.Insides.{Sooner, sound, rising, table_of, within, within_gives, under_route, few, joined_gives}
-use Rattle.route_laws.proofs.Ordered.{same_or_not, before_apart}
-
--- a block comes before those strictly inside it
-before_inner : (b c : Block) → IsBlock b → IsBlock c → IsLarger b c → IsBefore b c
-before_inner b c p q l =
-    let f = ap rank (l.0 (first_of c) (has_first c)).0 in
-    let low = (first_within c b l.0).0 in
-    let short = larger_is_shorter b c p q l in
-    go (dec_le (first c) (first b)) (sym f) low short
-  where
-    go : Dec (first c ≤ first b) → rank b.family ≡ rank c.family → first b ≤ first c → b.len < c.len → IsBefore b c
-    go (no n) f low short = inr (inl (f, grind (arith, n)))
-    go (yes y) f low short = inr (inr (f, omega arith, short))
+use Rattle.route_laws.proofs.Ordered.{same_or_not, before_apart, before_inner}
 
 -- every route is strictly inside the block
 abbrev Strict : Block → List Route → Type 0
@@ -47,24 +34,20 @@ module _ (b : Block) (ok : IsBlock b) where
   abbrev Headed : List Route → Type 0
   Headed M = (Strict b M) ⊎ ((r : Route) × (N : List Route) × (M ≡ r ∷ N) × (r.block ≡ b) × Strict b N)
 
-  larger_of : (c : Block) → IsBlock c → IsInside c b → (b ≡ c → ⊥) → IsLarger b c
-  larger_of c p i n = (i, λ k. n (same_sets b c ok p k i))
-
   headed : (M : List Route) → IsTable M → ((r : Route) → In r M → IsInside r.block b) → Headed M
   headed [] t lies = inl (λ r i. absurd i)
-  headed (r ∷ N) t lies = ⊎_elim (λ e. inr (r, N, refl, e, after e)) (λ n. inl (all n)) (same_or_not r.block b)
+  headed (r ∷ N) t lies = ⊎_elim
+      (λ e. inr (r, N, refl, e, λ q i. inner q (inr i) (λ f. before_apart r.block q.block (up.0 q i) (e ∙ f))))
+      (λ n. let l = inner r (inl refl) (λ f. n (sym f)) in inl (λ q i. ⊎_elim
+      (λ e. subst (λ (s : Route). IsLarger b s.block) (sym e) l)
+      (λ j. inner q (inr j) (λ f. strict r.block q.block (up.0 q j) (subst (λ (c : Block). IsBefore c r.block) f (before_inner b r.block ok (sound (r ∷ N) t r (inl refl)).0 l)))) i))
+      (same_or_not r.block b)
     where
       up : Rising Sooner (r ∷ N)
       up = rising (r ∷ N) t
 
-      after : r.block ≡ b → Strict b N
-      after e q i = larger_of q.block (sound (r ∷ N) t q (inr i)).0 (lies q (inr i)) (λ f. before_apart r.block q.block (up.0 q i) (e ∙ f))
-
-      all : (r.block ≡ b → ⊥) → Strict b (r ∷ N)
-      all n q (inl e) = subst (λ (s : Route). IsLarger b s.block) (sym e) (larger_of r.block (sound (r ∷ N) t r (inl refl)).0 (lies r (inl refl)) (λ f. n (sym f)))
-      all n q (inr i) = larger_of q.block (sound (r ∷ N) t q (inr i)).0 (lies q (inr i)) (λ f.
-          let l = before_inner b r.block ok (sound (r ∷ N) t r (inl refl)).0 (larger_of r.block (sound (r ∷ N) t r (inl refl)).0 (lies r (inl refl)) (λ g. n (sym g))) in
-          strict r.block q.block (up.0 q i) (subst (λ (c : Block). IsBefore c r.block) f l))
+      inner : (q : Route) → In q (r ∷ N) → (b ≡ q.block → ⊥) → IsLarger b q.block
+      inner q i n = (lies q i, λ k. n (same_sets b q.block ok (sound (r ∷ N) t q i).0 k (lies q i)))
 
   longer_than : (N : List Route) → ((q : Route) → In q N → IsBlock q.block) → Strict b N → (q : Route) → In q N → b.len < Block.len q.block
   longer_than N p k q i = larger_is_shorter b q.block ok (p q i) (k q i)
@@ -81,18 +64,9 @@ module _ (b : Block) (ok : IsBlock b) where
         ∙ ap (λ j. hop_under j N x) (number_from_hop k) ∙ g.same x m;
   }
 
--- a hop is one that a route can have, or too large
-sizes : (k : Option ℕ) → (IsHop (hop_from k)) ⊎ ((j : ℕ) × (k ≡ Some j) × (2 ^ 32 ≤ j))
-sizes None = inl tt
-sizes (Some j) = go (dec_le (2 ^ 32) j)
-  where
-    go : Dec (2 ^ 32 ≤ j) → (j < 2 ^ 32) ⊎ ((i : ℕ) × (Some j ≡ Some i) × (2 ^ 32 ≤ i))
-    go (yes y) = inr (j, refl, y)
-    go (no n) = inl (grind (arith, n))
-
-fits_hop : (o k : Option ℕ) → o ≡ k → IfSome o (λ j. j < 2 ^ 32) → IsHop (hop_from k)
-fits_hop o None e f = tt
-fits_hop o (Some j) e f = subst (λ (u : Option ℕ). IfSome u (λ i. i < 2 ^ 32)) e f
+fits_hop : (k : Option ℕ) → IfSome k (λ j. j < 2 ^ 32) → IsHop (hop_from k)
+fits_hop None f = tt
+fits_hop (Some j) f = f
 
 -- no address takes a hop that is too large: none serves as well
 free_of_large : (h : Address → Option ℕ) → AreHops h → (b : Block) → IsBlock b → (j : ℕ) → 2 ^ 32 ≤ j → (N : List Route) → GivesInside h b (Some j) N → GivesInside h b None N
@@ -134,11 +108,10 @@ module _ (h : Address → Option ℕ) (small : AreHops h) (b : Block) (ok : IsBl
       omega (arith, few (left b) (right b) okl okr apart separate (halves_in_order b) N, (below k).least (within (left b) N) in_left, (above k).least (within (right b) N) in_right)
 
   -- what a table needs
-  Needs : Option ℕ → ℕ → Type 0
+  abbrev Needs : Option ℕ → ℕ → Type 0
   Needs s n = (f s + g s ≤ n) ⊎ ((k : Option ℕ) × (f k + g k + 1 ≤ n))
 
   needs : (s : Option ℕ) (u : List Route) → GivesInside h b s u → Needs s (length u)
-  unfolding Needs
   needs s u gives = ⊎_elim (λ inner. inl (parts s u gives.table inner gives.same)) (λ w. inr (own w.0 w.1 w.2 w.3 w.4)) (headed b ok u gives.table (λ r i. In-from_All (λ (q : Route). IsInside q.block b) u gives.inside r i))
     where
       own : (r : Route) (N : List Route) → u ≡ r ∷ N → r.block ≡ b → Strict b N → (k : Option ℕ) × (f k + g k + 1 ≤ length u)
@@ -158,22 +131,17 @@ module _ (h : Address → Option ℕ) (small : AreHops h) (b : Block) (ok : IsBl
 
   -- a table of the whole, of the halves' tables under s
   under_same : (s : Option ℕ) → (t : List Route) × GivesInside h b s t × (length t ≡ f s + g s) × Strict b t
-  under_same s = go (below s).reached.0 (above s).reached.0 (below s).reached.1 (above s).reached.1 (below s).reached.2 (above s).reached.2
-    where
-      go : (l r : List Route) → GivesInside h (left b) s l → GivesInside h (right b) s r → length l ≡ f s → length r ≡ g s → (t : List Route) × GivesInside h b s t × (length t ≡ f s + g s) × Strict b t
-      go l r gl gr el er = (
-        l ++ r,
-        joined_gives (left b) (right b) okl okr apart separate (halves_in_order b) h s l r gl gr b (left_inside b ok free) (right_inside b ok free) (address_in_a_half b ok free),
-        length-append l r ∙ omega (arith, el, er),
+  under_same s =
+      let l = (below s).reached in
+      let r = (above s).reached in (
+        l.0 ++ r.0,
+        joined_gives (left b) (right b) okl okr apart separate (halves_in_order b) h s l.0 r.0 l.1 r.1 b (left_inside b ok free) (right_inside b ok free) (address_in_a_half b ok free),
+        length-append l.0 r.0 ∙ omega (arith, l.2, r.2),
         λ q i. ⊎_elim
-            (λ j. larger (left b) okl (left_inside b ok free) refl refl q.block (In-from_All (λ (p : Route). IsInside p.block (left b)) l gl.inside q j))
-            (λ j. larger (right b) okr (right_inside b ok free) refl refl q.block (In-from_All (λ (p : Route). IsInside p.block (right b)) r gr.inside q j))
-            (In-cases q l r i),
+            (λ j. larger (left b) okl (left_inside b ok free) refl refl q.block (In-from_All (λ (p : Route). IsInside p.block (left b)) l.0 (GivesInside.inside l.1) q j))
+            (λ j. larger (right b) okr (right_inside b ok free) refl refl q.block (In-from_All (λ (p : Route). IsInside p.block (right b)) r.0 (GivesInside.inside r.1) q j))
+            (In-cases q l.0 r.0 i),
       )
-
-  -- and with one more route, of those under any hop
-  under_other : (s k : Option ℕ) → IsHop (hop_from k) → (t : List Route) × GivesInside h b s t × (length t ≡ f k + g k + 1)
-  under_other s k fits = let u = under_same k in (route_at b k ∷ u.0, own_gives b ok h s k u.0 fits u.3 u.1, omega (arith, u.2))
 
   -- a hop that is too large serves no better than none
   no_better : (j : ℕ) → 2 ^ 32 ≤ j → f None + g None ≤ f (Some j) + g (Some j)
@@ -182,32 +150,27 @@ module _ (h : Address → Option ℕ) (small : AreHops h) (b : Block) (ok : IsBl
       let r = (above (Some j)).reached in
       omega (arith, l.2, r.2, (below None).least l.0 (free_of_large h small (left b) okl j large l.0 l.1), (above None).least r.0 (free_of_large h small (right b) okr j large r.0 r.1))
 
-  from_lesser : (s : Option ℕ) (n : ℕ) → IsLesser f g s n → IsFewest h b s n
-  unfolding Needs
+  -- and with one more route, of those under any hop
+  with_own : (s k : Option ℕ) → IsHop (hop_from k) → (t : List Route) × GivesInside h b s t × (length t ≤ f k + g k + 1)
+  with_own s k fits = let u = under_same k in (route_at b k ∷ u.0, own_gives b ok h s k u.0 fits u.3 u.1, omega (arith, u.2))
+
+  under_other : (s k : Option ℕ) → (t : List Route) × GivesInside h b s t × (length t ≤ f k + g k + 1)
+  under_other s None = with_own s None tt
+  under_other s (Some j) = ⊎_elim (with_own s (Some j)) (λ large. let u = with_own s None tt in (u.0, u.1, omega (arith, u.2, no_better j large))) (cases_lt j (2 ^ 32))
+
+  pub from_lesser : (s : Option ℕ) (n : ℕ) → IsLesser f g s n → IsFewest h b s n
   from_lesser s n l = record {
-    reached = go l.reached;
+    reached = ⊎_elim (λ e. let u = under_same s in (u.0, u.1, u.2 ∙ sym e)) (λ p. let u = under_other s p.0 in (u.0, u.1, omega (arith, u.2, p.1, at_least (needs s u.0 u.1)))) l.reached;
     least = λ u gives. at_least (needs s u gives);
   }
     where
-      other : (k : Option ℕ) → n ≡ f k + g k + 1 → (IsHop (hop_from k)) ⊎ ((j : ℕ) × (k ≡ Some j) × (2 ^ 32 ≤ j)) → (t : List Route) × GivesInside h b s t × (length t ≡ n)
-      other k e (inl fits) = let u = under_other s k fits in (u.0, u.1, u.2 ∙ sym e)
-      other k e (inr w) =
-          let u = under_other s None tt in
-          let m : n ≡ f (Some w.0) + g (Some w.0) + 1 = subst (λ i. n ≡ f i + g i + 1) w.1 e in
-          (u.0, u.1, omega (arith, u.2, m, no_better w.0 w.2, l.under_any None))
-
-      at_least : {m : ℕ} → (f s + g s ≤ m) ⊎ ((k : Option ℕ) × (f k + g k + 1 ≤ m)) → n ≤ m
+      at_least : {m : ℕ} → Needs s m → n ≤ m
       at_least (inl e) = omega (arith, e, l.under_s)
       at_least (inr p) = omega (arith, p.1, l.under_any p.0)
 
-      go : (n ≡ f s + g s) ⊎ ((k : Option ℕ) × (n ≡ f k + g k + 1)) → (t : List Route) × GivesInside h b s t × (length t ≡ n)
-      go (inl e) = let u = under_same s in (u.0, u.1, u.2 ∙ sym e)
-      go (inr p) = other p.0 p.1 (sizes p.0)
-
-  to_lesser : (s : Option ℕ) (n : ℕ) → IsFewest h b s n → IsLesser f g s n
-  unfolding Needs
+  pub to_lesser : (s : Option ℕ) (n : ℕ) → IsFewest h b s n → IsLesser f g s n
   to_lesser s n l = record {
-    reached = go (needs s l.reached.0 l.reached.1);
+    reached = ⊎_elim (λ e. inl (omega (arith, e, l.reached.2, small_s))) (λ p. inr (p.0, omega (arith, p.1, l.reached.2, any p.0))) (needs s l.reached.0 l.reached.1);
     under_s = small_s;
     under_any = any;
   }
@@ -215,58 +178,36 @@ module _ (h : Address → Option ℕ) (small : AreHops h) (b : Block) (ok : IsBl
       small_s : n ≤ f s + g s
       small_s = let u = under_same s in omega (arith, l.least u.0 u.1, u.2)
 
-      by_size : (k : Option ℕ) → (IsHop (hop_from k)) ⊎ ((j : ℕ) × (k ≡ Some j) × (2 ^ 32 ≤ j)) → n ≤ f k + g k + 1
-      by_size k (inl fits) = let u = under_other s k fits in omega (arith, l.least u.0 u.1, u.2)
-      by_size k (inr w) =
-          let u = under_other s None tt in
-          subst (λ i. n ≤ f i + g i + 1) (sym w.1) (omega (arith, l.least u.0 u.1, u.2, no_better w.0 w.2))
-
       any : (k : Option ℕ) → n ≤ f k + g k + 1
-      any k = by_size k (sizes k)
-
-      go : (f s + g s ≤ length l.reached.0) ⊎ ((k : Option ℕ) × (f k + g k + 1 ≤ length l.reached.0)) → (n ≡ f s + g s) ⊎ ((k : Option ℕ) × (n ≡ f k + g k + 1))
-      go (inl e) = inl (omega (arith, e, l.reached.2, small_s))
-      go (inr p) = inr (p.0, omega (arith, p.1, l.reached.2, any p.0))
-
-pub fewest_by_halves : FewestByHalves
-fewest_by_halves h small b ok room f g below above s n = (to_lesser h small b ok room f g below above s n, from_lesser h small b ok room f g below above s n)
+      any k = let u = under_other s k in omega (arith, l.least u.0 u.1, u.2)
 
 -- the block of one address
 module _ (h : Address → Option ℕ) (small : AreHops h) (b : Block) (ok : IsBlock b) (whole : b.len ≡ width b.family) where
-  one_address : (x : Address) → HasAddress b x → first_of b ≡ x
-  one_address x m = leaf_address b (omega (arith, whole)) x m
-
   empty : (s : Option ℕ) → h (first_of b) ≡ s → GivesInside h b s []
   empty s e = record {
     table = table_of [] (λ r i. absurd i) tt;
     inside = All-from_In (λ (r : Route). IsInside r.block b) [] (λ r i. absurd i);
-    same = λ x m. sym e ∙ ap h (one_address x m);
+    same = λ x m. sym e ∙ ap h (leaf_address b (omega (arith, whole)) x m);
   }
 
   one : (s : Option ℕ) → GivesInside h b s (route_at b (h (first_of b)) ∷ [])
-  one s = own_gives b ok h s (h (first_of b)) [] (fits_hop (h (first_of b)) (h (first_of b)) refl (small (first_of b) (member_is_address b (first_of b) ok (has_first b)))) (λ r i. absurd i) (empty (h (first_of b)) refl)
+  one s = own_gives b ok h s (h (first_of b)) [] (fits_hop (h (first_of b)) (small (first_of b) (member_is_address b (first_of b) ok (has_first b)))) (λ r i. absurd i) (empty (h (first_of b)) refl)
 
-  none_only : (s : Option ℕ) (u : List Route) → GivesInside h b s u → length u ≡ 0 → h (first_of b) ≡ s
-  none_only s [] gives e = sym (gives.same (first_of b) (has_first b))
-  none_only s (r ∷ u) gives e = absurd (omega (arith, e))
+  none_or_one : (s : Option ℕ) (u : List Route) → GivesInside h b s u → (h (first_of b) ≡ s) ⊎ (1 ≤ length u)
+  none_or_one s [] gives = inl (sym (gives.same (first_of b) (has_first b)))
+  none_or_one s (r ∷ u) gives = inr (omega arith)
 
   pub host_law : (s : Option ℕ) (n : ℕ) → IsFewest h b s n ↔ (((h (first_of b) ≡ s) × (n ≡ 0)) ⊎ ((h (first_of b) ≢ s) × (n ≡ 1)))
   host_law s n = (to, from)
     where
       to : IsFewest h b s n → ((h (first_of b) ≡ s) × (n ≡ 0)) ⊎ ((h (first_of b) ≢ s) × (n ≡ 1))
-      to l = go (length l.reached.0) refl
-        where
-          go : (c : ℕ) → length l.reached.0 ≡ c → ((h (first_of b) ≡ s) × (n ≡ 0)) ⊎ ((h (first_of b) ≢ s) × (n ≡ 1))
-          go zero e = inl (none_only s l.reached.0 l.reached.1 e, omega (arith, e, l.reached.2))
-          go (suc c) e = inr ((λ p. absurd (omega (arith, e, l.reached.2, l.least [] (empty s p)))), omega (arith, e, l.reached.2, l.least (route_at b (h (first_of b)) ∷ []) (one s)))
+      to l = ⊎_elim (λ e. inl (e, omega (arith, l.least [] (empty s e))))
+          (λ m. inr ((λ p. absurd (omega (arith, m, l.reached.2, l.least [] (empty s p)))), omega (arith, m, l.reached.2, l.least (route_at b (h (first_of b)) ∷ []) (one s))))
+          (none_or_one s l.reached.0 l.reached.1)
 
       from : ((h (first_of b) ≡ s) × (n ≡ 0)) ⊎ ((h (first_of b) ≢ s) × (n ≡ 1)) → IsFewest h b s n
       from (inl p) = record { reached = ([], empty s p.0, sym p.1); least = λ u g. omega (arith, p.1) }
-      from (inr p) = record { reached = (route_at b (h (first_of b)) ∷ [], one s, sym p.1); least = λ u g. above u g (length u) refl }
-        where
-          above : (u : List Route) → GivesInside h b s u → (c : ℕ) → length u ≡ c → n ≤ length u
-          above u g zero e = absurd (p.0 (none_only s u g e))
-          above u g (suc c) e = omega (arith, e, p.1)
+      from (inr p) = record { reached = (route_at b (h (first_of b)) ∷ [], one s, sym p.1); least = λ u g. ⊎_elim (λ e. absurd (p.0 e)) (λ m. omega (arith, m, p.1)) (none_or_one s u g) }
 
 pub fewest_of_host : FewestOfHost
 fewest_of_host h small b ok whole = host_law h small b ok whole

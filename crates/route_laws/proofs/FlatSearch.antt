@@ -1,34 +1,29 @@
 -- The search of the bit tree finds the flat list.
-use Rattle.std.proofs.Common.{◌≡◌, ◌==◌, ℕ, zero, suc, ◌+◌, ◌-◌, ◌*◌, ◌/◌, ◌<◌, ◌⊎◌, inl, inr, ⊎_elim, Bool, true, false, cond, List, [], ◌∷◌, ◌++◌, Option, Some, None, refl, sym, ap, ◌∙◌, subst, arith}
-use Rattle.std.proofs.lemmas.Bool.Decides.{nat_tests}
+use Rattle.std.proofs.Common.{◌≡◌, ◌==◌, ℕ, zero, suc, ◌+◌, ◌-◌, ◌*◌, ◌/◌, ◌<◌, ◌⊎◌, ◌↔◌, inl, inr, ⊎_elim, true, cond, List, [], ◌++◌, Option, Some, None, refl, sym, ap, ◌∙◌, subst, arith}
+use Rattle.std.proofs.lemmas.Bool.{cond-true, eq-eqb, eqb-true}
+use Rattle.std.proofs.lemmas.Option.{cond_some}
 use Rattle.ipnet_addr.specs.Addresses.{Family, Ipv4, Ipv6, width, rank, Address}
 use Rattle.ipnet_blocks.specs.Blocks.{Block, IsBlock, free_bits, HasAddress, IsInside, IsLarger, first_of, family_block, left, right, parent}
 use Rattle.ipnet_blocks.specs.Maximal.{IsMaximalBlock}
 use Rattle.ipnet_addr.proofs.Members.{In, In-left, In-right, In-cases}
 use Rattle.ipnet_addr.proofs.Ascending.{In-from_Contains, Contains-from_In, Rising, pairs_from_Rising}
-use Rattle.ipnet_blocks.proofs.BlockLaws.{numbers_from_inside, same_sets, has_first}
+use Rattle.ipnet_blocks.proofs.BlockLaws.{same_sets, has_first}
 use Rattle.ipnet_blocks.proofs.Parents.{decide_inside, larger_is_shorter, parent_in_larger}
 use Rattle.ipnet_blocks.proofs.Search.{left_is_block, right_is_block, left_inside, right_inside, in_a_half, address_in_a_half, halves_in_order, whole_is_block, inside_whole, leaf_address}
 use Rattle.route_laws.specs.Flats.{Piece, IsFlat, HasOneHop, common, one_hop_in, piece_or, flat_in, flat_of}
 use Rattle.route_laws.proofs.Flats.{Sooner, top_of, one_hop}
+use Rattle.route_laws.proofs.Ordered.{alone}
+use Rattle.route_choices.proofs.Kept.{Rising-joined}
 
 common_parts : (o p : Option ℕ) (n : ℕ) → common o p ≡ Some n → (o ≡ Some n) × (p ≡ Some n)
 common_parts None p n e = absurd (cc)
 common_parts (Some j) None n e = absurd (cc)
-common_parts (Some j) (Some k) n e = go (j == k) refl e
-  where
-    go : (b : Bool) → (j == k) ≡ b → cond b (Some j) None ≡ Some n → (Some j ≡ Some n) × (Some k ≡ Some n)
-    go true t q = let z : j ≡ k = grind (arith, nat_tests, t) in (q, ap (λ (i : ℕ). Some i) (sym z) ∙ q)
-    go false t q = absurd (cc)
+common_parts (Some j) (Some k) n e = let t = cond_some (j == k) j n e in (ap (λ i. Some i) t.1, ap (λ i. Some i) (sym (eqb-true j k t.0) ∙ t.1))
 
 common_both : (o p : Option ℕ) (n : ℕ) → o ≡ Some n → p ≡ Some n → common o p ≡ Some n
 common_both None p n e f = absurd (cc)
 common_both (Some j) None n e f = absurd (cc)
-common_both (Some j) (Some k) n e f =
-    let a : j ≡ n = cc in
-    let b : k ≡ n = cc in
-    let t : (j == k) ≡ true = grind (arith, nat_tests) in
-    ap (λ c. cond c (Some j) None) t ∙ e
+common_both (Some j) (Some k) n e f = cond-true (j == k) (Some j) None (eq-eqb j k (cc)) ∙ e
 
 in_piece : (b : Block) (o : Option ℕ) (ps : List Piece) (p : Piece) → In p (piece_or b o ps) → ((p.block ≡ b) × (o ≡ Some p.number)) ⊎ ((o ≡ None) × In p ps)
 in_piece b None ps p i = inr (refl, i)
@@ -37,11 +32,6 @@ in_piece b (Some n) ps p i = ⊎_elim (λ e. inl (ap Piece.block e, ap (λ (q : 
 piece_in : (b : Block) (o : Option ℕ) (ps : List Piece) (p : Piece) → ((n : ℕ) → o ≡ Some n → (p.block ≡ b) × (p.number ≡ n)) → (o ≡ None → In p ps) → In p (piece_or b o ps)
 piece_in b None ps p f g = g refl
 piece_in b (Some n) ps p f g = let t = f n refl in inl (λ i. record { block = t.0 i; number = t.1 i })
-
-Rising-append : (xs ys : List Piece) → Rising Sooner xs → Rising Sooner ys → ((x y : Piece) → In x xs → In y ys → Sooner x y) → Rising Sooner (xs ++ ys)
-Rising-append [] ys h k f = k
-Rising-append (x ∷ xs) ys h k f =
-    ((λ y i. ⊎_elim (λ j. h.0 y j) (λ j. f x y (inl refl) j) (In-cases y xs ys i)), Rising-append xs ys h.1 k (λ a b i j. f a b (inr i) j))
 
 rising_piece : (b : Block) (o : Option ℕ) (ps : List Piece) → Rising Sooner ps → Rising Sooner (piece_or b o ps)
 rising_piece b None ps h = h
@@ -74,7 +64,7 @@ module _ (h : Address → Option ℕ) where
   abbrev NoLarger : Block → Type 0
   NoLarger t = (c : Block) → HasOneHop h c → IsLarger c t → ⊥
 
-  not_one : (k : ℕ) (t : Block) → IsBlock t → free_bits t ≡ k → one_hop_in h k t ≡ None → HasOneHop h t → ⊥
+  pub not_one : (k : ℕ) (t : Block) → IsBlock t → free_bits t ≡ k → one_hop_in h k t ≡ None → HasOneHop h t → ⊥
   not_one k t p e o w = let a = one_from_all k t p e w.number w.all in cc
 
   -- what is larger than a half holds the whole
@@ -83,7 +73,7 @@ module _ (h : Address → Option ℕ) where
       let i = parent_in_larger c half w.block q l in
       not_one (suc k) t p e o (record { block = p; number = w.number; all = λ x m. w.all x (i x (subst (λ (a : Block). HasAddress a x) (sym above) m)) })
 
-  located : (k : ℕ) (t : Block) → IsBlock t → free_bits t ≡ k → (p : Piece) → In p (flat_in h k t) → IsInside p.block t
+  pub located : (k : ℕ) (t : Block) → IsBlock t → free_bits t ≡ k → (p : Piece) → In p (flat_in h k t) → IsInside p.block t
   unfolding flat_in
   located zero t ok e p i =
       ⊎_elim (λ s x m. subst (λ (a : Block). HasAddress a x) s.0 m) (λ s. absurd s.1) (in_piece t (h (first_of t)) [] p i)
@@ -103,7 +93,7 @@ module _ (h : Address → Option ℕ) where
     largest = λ c w l. none c (record { block = w.block; number = p.number; all = w.all }) l;
   })
 
-  sound : (k : ℕ) (t : Block) → IsBlock t → free_bits t ≡ k → NoLarger t → (p : Piece) → In p (flat_in h k t) → IsMaximalBlock (λ x. h x ≡ Some p.number) p.block
+  pub sound : (k : ℕ) (t : Block) → IsBlock t → free_bits t ≡ k → NoLarger t → (p : Piece) → In p (flat_in h k t) → IsMaximalBlock (λ x. h x ≡ Some p.number) p.block
   unfolding flat_in one_hop_in
   sound zero t ok e none p i =
       ⊎_elim (λ s. maximal_here zero t ok e none p s.0 s.1) (λ s. absurd s.1) (in_piece t (h (first_of t)) [] p i)
@@ -132,15 +122,11 @@ module _ (h : Address → Option ℕ) where
       (λ far. (i, far))
       (decide_inside t p.block ok m.within.block)
 
-  complete : (k : ℕ) (t : Block) → IsBlock t → free_bits t ≡ k → (p : Piece) → IsMaximalBlock (λ x. h x ≡ Some p.number) p.block → IsInside p.block t → In p (flat_in h k t)
+  pub complete : (k : ℕ) (t : Block) → IsBlock t → free_bits t ≡ k → (p : Piece) → IsMaximalBlock (λ x. h x ≡ Some p.number) p.block → IsInside p.block t → In p (flat_in h k t)
   unfolding flat_in one_hop_in
   complete zero t ok e p m i =
       piece_in t (h (first_of t)) [] p (is_here zero t ok e p m i)
-      (λ o. let l = larger_is_shorter t p.block ok m.within.block (or_half zero t ok e o p m i) in
-      let fits = m.within.block.in_width in
-      let n = (numbers_from_inside p.block t m.within.block ok i).family in
-      let w : width (Block.family p.block) ≡ width t.family = ap width n in
-      absurd (omega arith))
+      (λ o. absurd ((or_half zero t ok e o p m i).1 (alone t p.block e i)))
   complete (suc k) t ok e p m i =
       let r : 0 < free_bits t = omega arith in
       piece_in t (one_hop_in h (suc k) t) (flat_in h k (left t) ++ flat_in h k (right t)) p (is_here (suc k) t ok e p m i)
@@ -155,33 +141,37 @@ module _ (h : Address → Option ℕ) where
   rising (suc k) t ok e =
       let r : 0 < free_bits t = omega arith in
       rising_piece t (one_hop_in h (suc k) t) (flat_in h k (left t) ++ flat_in h k (right t))
-      (Rising-append (flat_in h k (left t)) (flat_in h k (right t))
+      (Rising-joined Sooner (flat_in h k (left t)) (flat_in h k (right t))
       (rising k (left t) (left_is_block t ok r) (omega arith)) (rising k (right t) (right_is_block t ok r) (omega arith))
       (λ x y i j. halves_in_order t x.block y.block (located k (left t) (left_is_block t ok r) (omega arith) x i) (located k (right t) (right_is_block t ok r) (omega arith) y j)))
 
   none_whole : (f : Family) → NoLarger (family_block f)
   none_whole f c w l = let s = larger_is_shorter c (family_block f) w.block (whole_is_block f) l in omega arith
 
-  four : List Piece
-  four = flat_in h (width Ipv4) (family_block Ipv4)
+  -- the pieces of one family: the maximal blocks of one hop in it
+  pub in_family : (f : Family) (p : Piece) → In p (flat_in h (width f) (family_block f)) ↔ (IsMaximalBlock (λ x. h x ≡ Some p.number) p.block × (Block.family p.block ≡ f))
+  in_family f p = (
+    (λ i. (sound (width f) (family_block f) (whole_is_block f) (omega arith) (none_whole f) p i,
+        (located (width f) (family_block f) (whole_is_block f) (omega arith) p i (first_of p.block) (has_first p.block)).0)),
+    (λ m. complete (width f) (family_block f) (whole_is_block f) (omega arith) p m.0 (inside_whole p.block f m.0.within.block m.1)),
+  )
 
-  six : List Piece
-  six = flat_in h (width Ipv6) (family_block Ipv6)
+  pub rising_family : (f : Family) → Rising Sooner (flat_in h (width f) (family_block f))
+  rising_family f = rising (width f) (family_block f) (whole_is_block f) (omega arith)
 
-  by_family : (p : Piece) → IsMaximalBlock (λ x. h x ≡ Some p.number) p.block → (f : Family) → Block.family p.block ≡ f → In p (four ++ six)
-  unfolding four six
-  by_family p m Ipv4 e = In-left p (flat_in h (width Ipv4) (family_block Ipv4)) (flat_in h (width Ipv6) (family_block Ipv6)) (complete (width Ipv4) (family_block Ipv4) (whole_is_block Ipv4) refl p m (inside_whole p.block Ipv4 m.within.block e))
-  by_family p m Ipv6 e = In-right p (flat_in h (width Ipv4) (family_block Ipv4)) (flat_in h (width Ipv6) (family_block Ipv6)) (complete (width Ipv6) (family_block Ipv6) (whole_is_block Ipv6) refl p m (inside_whole p.block Ipv6 m.within.block e))
+  by_family : (p : Piece) → IsMaximalBlock (λ x. h x ≡ Some p.number) p.block → (f : Family) → Block.family p.block ≡ f → In p (flat_of h)
+  unfolding flat_of
+  by_family p m Ipv4 e = In-left p (flat_in h (width Ipv4) (family_block Ipv4)) (flat_in h (width Ipv6) (family_block Ipv6)) ((in_family Ipv4 p).1 (m, e))
+  by_family p m Ipv6 e = In-right p (flat_in h (width Ipv4) (family_block Ipv4)) (flat_in h (width Ipv6) (family_block Ipv6)) ((in_family Ipv6 p).1 (m, e))
 
   pub search_is_flat : IsFlat h (flat_of h)
-  unfolding flat_of four six
+  unfolding flat_of
   search_is_flat = record {
-    ascending = pairs_from_Rising Sooner (four ++ six) (Rising-append four six (rising (width Ipv4) (family_block Ipv4) (whole_is_block Ipv4) refl) (rising (width Ipv6) (family_block Ipv6) (whole_is_block Ipv6) refl)
-        (λ x y i j. inl (let a = ap rank (located (width Ipv4) (family_block Ipv4) (whole_is_block Ipv4) refl x i (first_of x.block) (has_first x.block)).0 in
-        let b = ap rank (located (width Ipv6) (family_block Ipv6) (whole_is_block Ipv6) refl y j (first_of y.block) (has_first y.block)).0 in omega arith)));
+    ascending = pairs_from_Rising Sooner (flat_of h) (Rising-joined Sooner (flat_in h (width Ipv4) (family_block Ipv4)) (flat_in h (width Ipv6) (family_block Ipv6)) (rising_family Ipv4) (rising_family Ipv6)
+        (λ x y i j. inl (let a = ap rank ((in_family Ipv4 x).0 i).1 in let b = ap rank ((in_family Ipv6 y).0 j).1 in omega arith)));
     exact = λ p. (
-      (λ i. ⊎_elim (sound (width Ipv4) (family_block Ipv4) (whole_is_block Ipv4) refl (none_whole Ipv4) p) (sound (width Ipv6) (family_block Ipv6) (whole_is_block Ipv6) refl (none_whole Ipv6) p)
-          (In-cases p four six (In-from_Contains (four ++ six) p i))),
-      (λ m. Contains-from_In (four ++ six) p (by_family p m (Block.family p.block) refl)),
+      (λ i. ⊎_elim (λ j. ((in_family Ipv4 p).0 j).0) (λ j. ((in_family Ipv6 p).0 j).0)
+          (In-cases p (flat_in h (width Ipv4) (family_block Ipv4)) (flat_in h (width Ipv6) (family_block Ipv6)) (In-from_Contains (flat_of h) p i))),
+      (λ m. Contains-from_In (flat_of h) p (by_family p m (Block.family p.block) refl)),
     );
   }

@@ -1,6 +1,7 @@
 -- Flat lists are the shortest admissible ones, and tell the hops.
-use Rattle.std.proofs.Common.{◌≡◌, ℕ, ◌≤◌, ◌⊎◌, ◌↔◌, inl, inr, ⊎_elim, List, [], ◌∷◌, length, Any, Option, Some, None, IsSome, refl, sym, ap, ◌∙◌, subst, arith}
-use native.Mathlib.Decide.{ℕ_discrete}
+use Rattle.std.proofs.Common.{◌≡◌, ℕ, ◌≤◌, ◌⊎◌, ◌↔◌, inl, inr, ⊎_elim, List, length, Any, Option, Some, None, IsSome, refl, sym, ap, ◌∙◌, subst}
+use Rattle.std.proofs.lemmas.Bool.{cases_eq}
+use Rattle.std.proofs.lemmas.List.{length-map}
 use Rattle.ipnet_addr.specs.Addresses.{width, Address, IsAddress}
 use Rattle.ipnet_blocks.specs.Blocks.{Block, IsBlock, HasAddress, IsInside, IsBefore, IsAscending, host, first_of}
 use Rattle.ipnet_blocks.specs.Maximal.{IsWithin, IsMaximalBlock}
@@ -11,19 +12,14 @@ use Rattle.ipnet_blocks.proofs.BlockLaws.{same_sets, nested, has_first, strict}
 use Rattle.ipnet_blocks.proofs.Parents.{climb}
 use Rattle.ipnet_blocks.proofs.Maximals.{host_is_block, in_host, has_host, member_is_address, maximal_is_top}
 use Rattle.route_laws.specs.Flats.{Piece, IsFlat, blocks_of, HasOneHop, IsAdmissible}
+use Rattle.route_choices.proofs.Kept as Kept
 use Rattle.route_laws.proofs.Ordered as Ordered
 
 pub In-map : (p : Piece) (ps : List Piece) → In p ps → In (Piece.block p) (blocks_of ps)
-In-map p [] i = absurd i
-In-map p (q ∷ ps) i = ⊎_elim (λ e. inl (ap (λ (a : Piece). a.block) e)) (λ j. inr (In-map p ps j)) i
+In-map p ps = Kept.map_In Piece.block ps p
 
 pub In-map_back : (b : Block) (ps : List Piece) → In b (blocks_of ps) → (p : Piece) × In p ps × (b ≡ p.block)
-In-map_back b [] i = absurd i
-In-map_back b (q ∷ ps) i = ⊎_elim (λ e. (q, inl refl, e)) (λ j. let t = In-map_back b ps j in (t.0, inr t.1, t.2)) i
-
-pub length-blocks : (ps : List Piece) → length (blocks_of ps) ≡ length ps
-length-blocks [] = refl
-length-blocks (p ∷ ps) = let h = length-blocks ps in omega arith
+In-map_back b ps = Kept.In-map Piece.block ps b
 
 abbrev pub Sooner : Piece → Piece → Type 0
 Sooner p q = IsBefore p.block q.block
@@ -31,16 +27,13 @@ Sooner p q = IsBefore p.block q.block
 pub Rising-map : (ps : List Piece) → Rising Sooner ps → Rising IsBefore (blocks_of ps)
 Rising-map = Ordered.Rising-map Sooner IsBefore Piece.block (λ p q l. l)
 
-pub decide_number : (o : Option ℕ) (k : ℕ) → (o ≡ Some k) ⊎ (o ≡ Some k → ⊥)
+decide_number : (o : Option ℕ) (k : ℕ) → (o ≡ Some k) ⊎ (o ≡ Some k → ⊥)
 decide_number None k = inr (λ e. cc)
-decide_number (Some j) k = go (ℕ_discrete j k)
-  where
-    go : Dec (j ≡ k) → (Some j ≡ Some k) ⊎ (Some j ≡ Some k → ⊥)
-    go (yes e) = inl (ap some' e)
-      where
-        some' : ℕ → Option ℕ
-        some' n = Some n
-    go (no n) = inr (λ e. n (cc))
+decide_number (Some j) k = ⊎_elim (λ e. inl (ap (λ n. Some n) e)) (λ n. inr (λ e. n (cc))) (cases_eq j k)
+
+-- maximal blocks with an address in common are one
+pub maximal_one : (S : Address → Type 0) (b c : Block) → IsMaximalBlock S b → IsMaximalBlock S c → (x : Address) → HasAddress b x → HasAddress c x → b ≡ c
+maximal_one S b c m n x h k = ⊎_elim (λ i. sym ((maximal_is_top S b m).1 c n.within i)) (λ i. (maximal_is_top S c n).1 b m.within i) (nested b c x m.within.block n.within.block h k)
 
 module _ (h : Address → Option ℕ) where
   point : (b : Block) → HasOneHop h b → (x : Address) × HasAddress b x
@@ -89,12 +82,12 @@ module _ (h : Address → Option ℕ) where
 
   pub flat_is_shortest : (ps : List Piece) (bs : List Block) → IsFlat h ps → IsAdmissible h bs → length ps ≤ length bs
   flat_is_shortest ps bs f a =
-      subst (λ n. n ≤ length bs) (length-blocks ps)
+      subst (λ n. n ≤ length bs) (length-map ps Piece.block)
       (least Block Address HasAddress (HasOneHop h) point nests same (blocks_of ps) bs (apart ps f) (tops ps f) (covers ps bs f a))
 
   pub shortest_is_flat : (ps : List Piece) (bs : List Block) → IsFlat h ps → IsAdmissible h bs → IsAscending bs → length bs ≤ length ps → blocks_of ps ≡ bs
   shortest_is_flat ps bs f a up few =
-      let few' : length bs ≤ length (blocks_of ps) = subst (λ n. length bs ≤ n) (sym (length-blocks ps)) few in
+      let few' : length bs ≤ length (blocks_of ps) = subst (λ n. length bs ≤ n) (sym (length-map ps Piece.block)) few in
       same_rising IsBefore strict (blocks_of ps) bs (rising ps f) (Rising-from_pairs IsBefore bs up)
       (in_cover Block Address HasAddress (HasOneHop h) point nests same (blocks_of ps) bs (apart ps f) (tops ps f) (covers ps bs f a) few')
       (cover_in Block Address HasAddress (HasOneHop h) point nests same (blocks_of ps) bs (apart ps f) (tops ps f) (covers ps bs f a) few')
@@ -129,15 +122,15 @@ module _ (h : Address → Option ℕ) where
   pub tells : (ps : List Piece) → IsFlat h ps → (p : Piece) → In p ps → (x : Address) → HasAddress p.block x → h x ≡ Some p.number
   tells ps f p i x m = (piece_is_maximal ps f p i).within.all x m
 
+  -- pieces with an address in common are at one block
+  pub same_piece : (ps : List Piece) → IsFlat h ps → (p q : Piece) → In p ps → In q ps → (x : Address) → HasAddress p.block x → HasAddress q.block x → p.block ≡ q.block
+  same_piece ps f p q i j x a b =
+      let e : q.number ≡ p.number = (let c = tells ps f p i x a in let d = tells ps f q j x b in cc) in
+      maximal_one (λ y. h y ≡ Some p.number) p.block q.block (piece_is_maximal ps f p i) (subst (λ (k : ℕ). IsMaximalBlock (λ y. h y ≡ Some k) q.block) e (piece_is_maximal ps f q j)) x a b
+
   -- no piece lies in another
   pub not_inside : (ps : List Piece) → IsFlat h ps → (p q : Piece) → In p ps → In q ps → (q.block ≡ p.block → ⊥) → IsInside q.block p.block → ⊥
-  not_inside ps f p q i j other k =
-      let x = first_of q.block in
-      let here : h x ≡ Some q.number = tells ps f q j x (has_first q.block) in
-      let there : h x ≡ Some p.number = tells ps f p i x (k x (has_first q.block)) in
-      let e : p.number ≡ q.number = cc in
-      (piece_is_maximal ps f q j).largest p.block (record { block = piece_is_block ps f p i; all = λ y m. subst (λ n. h y ≡ Some n) e (tells ps f p i y m) })
-      (k, λ m. other (same_sets q.block p.block (piece_is_block ps f q j) (piece_is_block ps f p i) k m))
+  not_inside ps f p q i j other k = other (same_piece ps f q p j i (first_of q.block) (has_first q.block) (k (first_of q.block) (has_first q.block)))
 
 pub within_same : (S T : Address → Type 0) → ((x : Address) → IsAddress x → S x → T x) → (b : Block) → IsWithin S b → IsWithin T b
 within_same S T f b w = record { block = w.block; all = λ x m. f x (member_is_address b x w.block m) (w.all x m) }
@@ -145,28 +138,32 @@ within_same S T f b w = record { block = w.block; all = λ x m. f x (member_is_a
 pub maximal_same : (S T : Address → Type 0) → ((x : Address) → IsAddress x → S x → T x) → ((x : Address) → IsAddress x → T x → S x) → (b : Block) → IsMaximalBlock S b → IsMaximalBlock T b
 maximal_same S T f g b m = record { within = within_same S T f b m.within; largest = λ c w l. m.largest c (within_same T S g c w) l }
 
-pub same_flat : (g h : Address → Option ℕ) (ps qs : List Piece) → IsFlat g ps → IsFlat h qs → (ps ≡ qs) ↔ ((x : Address) → IsAddress x → g x ≡ h x)
-same_flat g h ps qs f k = (to_hops, to_lists)
-  where
-    to_hops : ps ≡ qs → (x : Address) → IsAddress x → g x ≡ h x
-    to_hops e x a = go (g x) (h x) refl refl
-      where
-        go : (o o' : Option ℕ) → g x ≡ o → h x ≡ o' → g x ≡ h x
-        go None None p q = p ∙ sym q
-        go (Some n) o' p q =
-            let t = piece_at g ps f x a n p in
-            let s = tells h qs k t.0 (subst (λ (l : List Piece). In t.0 l) e t.1) x t.2 in
-            let z = t.3 in
-            cc
-        go None (Some n) p q =
-            let t = piece_at h qs k x a n q in
-            let s = tells g ps f t.0 (subst (λ (l : List Piece). In t.0 l) (sym e) t.1) x t.2 in
-            cc
+-- equal hops have equal flat lists
+pub flat_moved : (g h : Address → Option ℕ) → ((x : Address) → IsAddress x → g x ≡ h x) → (ps : List Piece) → IsFlat h ps → IsFlat g ps
+flat_moved g h same ps flat = record {
+  ascending = flat.ascending;
+  exact = λ p. (
+    (λ c. maximal_same (λ x. h x ≡ Some p.number) (λ x. g x ≡ Some p.number) (λ x a e. same x a ∙ e) (λ x a e. sym (same x a) ∙ e) p.block ((flat.exact p).0 c)),
+    (λ m. (flat.exact p).1 (maximal_same (λ x. g x ≡ Some p.number) (λ x. h x ≡ Some p.number) (λ x a e. sym (same x a) ∙ e) (λ x a e. same x a ∙ e) p.block m)),
+  );
+}
 
-    to_lists : ((x : Address) → IsAddress x → g x ≡ h x) → ps ≡ qs
-    to_lists e =
-        same_rising Sooner (λ a b. strict a.block b.block) ps qs (Rising-from_pairs Sooner ps f.ascending) (Rising-from_pairs Sooner qs k.ascending)
-        (λ p i. In-from_Contains qs p ((k.exact p).1
-        (maximal_same (λ x. g x ≡ Some p.number) (λ x. h x ≡ Some p.number) (λ x a s. sym (e x a) ∙ s) (λ x a s. e x a ∙ s) p.block ((f.exact p).0 (Contains-from_In ps p i)))))
-        (λ p i. In-from_Contains ps p ((f.exact p).1
-        (maximal_same (λ x. h x ≡ Some p.number) (λ x. g x ≡ Some p.number) (λ x a s. e x a ∙ s) (λ x a s. sym (e x a) ∙ s) p.block ((k.exact p).0 (Contains-from_In qs p i)))))
+one_flat : (h : Address → Option ℕ) (ps qs : List Piece) → IsFlat h ps → IsFlat h qs → ps ≡ qs
+one_flat h ps qs f k = same_rising Sooner (λ a b. strict a.block b.block) ps qs (Rising-from_pairs Sooner ps f.ascending) (Rising-from_pairs Sooner qs k.ascending)
+    (λ p i. In-from_Contains qs p ((k.exact p).1 ((f.exact p).0 (Contains-from_In ps p i))))
+    (λ p i. In-from_Contains ps p ((f.exact p).1 ((k.exact p).0 (Contains-from_In qs p i))))
+
+-- a hop that a flat list tells
+hop_told : (g h : Address → Option ℕ) (ps : List Piece) → IsFlat g ps → IsFlat h ps → (x : Address) → IsAddress x → (k : ℕ) → g x ≡ Some k → h x ≡ Some k
+hop_told g h ps f i x a k e = let t = piece_at g ps f x a k e in tells h ps i t.0 t.1 x t.2 ∙ ap (λ n. Some n) t.3
+
+pub same_flat : (g h : Address → Option ℕ) (ps qs : List Piece) → IsFlat g ps → IsFlat h qs → (ps ≡ qs) ↔ ((x : Address) → IsAddress x → g x ≡ h x)
+same_flat g h ps qs f k = (
+  (λ e x a. let l = subst (IsFlat h) (sym e) k in go (g x) (h x) (hop_told g h ps f l x a) (hop_told h g ps l f x a)),
+  (λ e. one_flat h ps qs (flat_moved h g (λ x a. sym (e x a)) ps f) k),
+)
+  where
+    go : (o p : Option ℕ) → ((n : ℕ) → o ≡ Some n → p ≡ Some n) → ((n : ℕ) → p ≡ Some n → o ≡ Some n) → o ≡ p
+    go None None f g = refl
+    go None (Some n) f g = g n refl
+    go (Some n) p f g = sym (f n refl)

@@ -1,16 +1,18 @@
 -- The routes of a table inside one block, and tables inside two blocks apart.
-use Rattle.std.proofs.Common.{◌≡◌, ℕ, ◌+◌, ◌<◌, ◌≤◌, inl, inr, ⊎_elim, Bool, true, false, cond, nat_lt, List, [], ◌∷◌, ◌++◌, length, filter, ◌⊎◌, MatchOption, Option, Some, None, refl, sym, ap, ◌∙◌, subst, append-nil, lt-ltb}
-use Rattle.std.proofs.lemmas.Bool.{false_from_ne_true}
-use Rattle.std.proofs.lemmas.List.Elements.{filter-append}
+use Rattle.std.proofs.Common.{◌≡◌, ℕ, ◌+◌, ◌<◌, ◌≤◌, inl, inr, ⊎_elim, Bool, true, false, cond, nat_lt, List, [], ◌∷◌, ◌++◌, length, filter, ◌⊎◌, MatchOption, Option, Some, None, refl, sym, ap, ◌∙◌, subst, lt-ltb}
+use Rattle.std.proofs.lemmas.List.Elements.{All-filter}
+use Rattle.std.proofs.lemmas.List.Kept.{AllPairs-filter}
+use Rattle.std.proofs.lemmas.Bool.{cond_both, cond-false, false_from_ne_true}
 use Rattle.ipnet_addr.specs.Addresses.{Address, IsAddress}
-use Rattle.ipnet_addr.proofs.Members.{In, In-cases}
-use Rattle.ipnet_addr.proofs.Ascending.{In-from_All, All-from_In, Rising, Rising-from_pairs, pairs_from_Rising}
+use Rattle.ipnet_addr.proofs.Members.{In, In-cases, In-left, In-right}
+use Rattle.ipnet_addr.proofs.Ascending.{In-from_All, All-from_In, Rising, Rising-from_pairs, pairs_from_Rising, same_rising}
 use Rattle.ipnet_blocks.specs.Blocks.{Block, IsBlock, HasAddress, IsInside, IsBefore, is_inside, host}
+use Rattle.ipnet_blocks.proofs.BlockLaws.{strict}
 use Rattle.ipnet_blocks.proofs.Maximals.{host_is_block, has_host, in_host, member_is_address}
 use Rattle.route_choices.specs.Hops.{IsHop, number_of}
-use Rattle.route_choices.proofs.Kept.{Rising-kept, Rising-joined, none_kept, length-apart, In-from_filter}
+use Rattle.route_choices.proofs.Kept.{Rising-kept, Rising-joined, length-apart, In-filter, In-from_filter}
 use Rattle.route_laws.specs.Fewest.{handed, hop_under, GivesInside}
-use Rattle.route_laws.specs.Tables.{Route, IsTable, covering, longer, longest}
+use Rattle.route_laws.specs.Tables.{Route, IsTable, covering, longer, longest, match_of}
 use Rattle.route_laws.proofs.Matches.{AtLeast, best_of, inside_from_test, test_from_inside}
 use Rattle.route_laws.proofs.Ordered.{one_of_block}
 
@@ -37,6 +39,20 @@ table_of M k up = record {
   ascending = pairs_from_Rising Sooner M up;
 }
 
+-- what passes a test, of a table
+pub table_kept : (p : Route → Bool) (M : List Route) → IsTable M → IsTable (filter p M)
+table_kept p M t = record { blocks = All-filter p (λ r. IsBlock r.block) M t.blocks; hops = All-filter p (λ r. IsHop r.hop) M t.hops; ascending = AllPairs-filter Sooner p M t.ascending }
+
+-- of two tables whose routes that pass are the same
+pub same_parts : (p : Route → Bool) (M N : List Route) → IsTable M → IsTable N → ((r : Route) → In r M → p r ≡ true → In r N) → ((r : Route) → In r N → p r ≡ true → In r M) → filter p M ≡ filter p N
+same_parts p M N m n f g = same_rising Sooner (λ r s. strict r.block s.block) (filter p M) (filter p N) (Rising-kept Sooner p M (rising M m)) (Rising-kept Sooner p N (rising N n))
+    (λ r i. let t = In-from_filter p M r i in In-filter p N r (f r t.0 t.1) t.1)
+    (λ r i. let t = In-from_filter p N r i in In-filter p M r (g r t.0 t.1) t.1)
+
+-- a host block is inside each block that has its address
+pub host_inside : (x : Address) (b : Block) → HasAddress b x → IsInside (host x) b
+host_inside x b h y k = subst (λ (z : Address). HasAddress b z) (sym (in_host x y k)) h
+
 module _ (x : Address) (a : IsAddress x) where
   abbrev pub holds : Route → Bool
   holds r = is_inside (host x) r.block
@@ -45,36 +61,32 @@ module _ (x : Address) (a : IsAddress x) where
   has_from_test r p e = inside_from_test (host x) r.block (host_is_block x a) p e x (has_host x)
 
   pub test_from_has : (r : Route) → IsBlock r.block → HasAddress r.block x → holds r ≡ true
-  test_from_has r p h = test_from_inside (host x) r.block (host_is_block x a) p (λ y m. subst (λ (z : Address). HasAddress r.block z) (sym (in_host x y m)) h)
+  test_from_has r p h = test_from_inside (host x) r.block (host_is_block x a) p (host_inside x r.block h)
 
-  none_holds : (M : List Route) → IsTable M → ((r : Route) → In r M → HasAddress r.block x → ⊥) → covering M (host x) ≡ []
-  none_holds M t n = none_kept holds M (λ r i. false_from_ne_true (holds r) (λ e. n r i (has_from_test r (sound M t r i).0 e)))
+  -- the match of an address in two tables whose routes with it are the same
+  pub same_match : (M N : List Route) → IsTable M → IsTable N → ((r : Route) → In r M → HasAddress r.block x → In r N) → ((r : Route) → In r N → HasAddress r.block x → In r M) → match_of M (host x) ≡ match_of N (host x)
+  same_match M N m n f g = ap longest (same_parts holds M N m n
+      (λ r i e. f r i (has_from_test r (sound M m r i).0 e)) (λ r i e. g r i (has_from_test r (sound N n r i).0 e)))
 
 -- a second test that passes whatever the first does changes nothing
 pub filter_again : {A : Type 0} (p q : A → Bool) (xs : List A) → ((a : A) → In a xs → q a ≡ true → p a ≡ true) → filter q (filter p xs) ≡ filter q xs
 filter_again p q [] h = refl
-filter_again {A} p q (x ∷ xs) h = go (p x) (q x) refl refl (filter_again p q xs (λ a i. h a (inr i)))
-  where
-    go : (b c : Bool) → p x ≡ b → q x ≡ c → filter q (filter p xs) ≡ filter q xs → filter q (cond b (x ∷ filter p xs) (filter p xs)) ≡ cond c (x ∷ filter q xs) (filter q xs)
-    go true true e f k = rw f (ap (λ zs. x ∷ zs) k)
-    go true false e f k = rw f k
-    go false true e f k = let g = h x (inl refl) f in absurd (cc)
-    go false false e f k = k
+filter_again p q (x ∷ xs) h =
+    let rest = filter_again p q xs (λ a i. h a (inr i)) in
+    cond_both (p x) (x ∷ filter p xs) (filter p xs) (λ ys. filter q ys ≡ filter q (x ∷ xs)) (λ e. ap (λ ys. cond (q x) (x ∷ ys) ys) rest)
+    (λ e. rest ∙ sym (cond-false (q x) (x ∷ filter q xs) (filter q xs) (false_from_ne_true (q x) (λ f. let g = h x (inl refl) f in cc))))
 
 -- the routes of a table that lie in the block
 abbrev pub within : Block → List Route → List Route
 within b M = filter (λ r. is_inside r.block b) M
 
 module _ (b : Block) (ok : IsBlock b) (M : List Route) (table : IsTable M) where
-  pub within_table : IsTable (within b M)
-  within_table = table_of (within b M) (λ r i. sound M table r (In-from_filter (λ s. is_inside s.block b) M r i).0) (Rising-kept Sooner (λ s. is_inside s.block b) M (rising M table))
-
   -- where each route that holds an address of the block lies in the block, these alone give its hops
   pub within_gives : (h : Address → Option ℕ) (s : Option ℕ)
       → ((x : Address) → HasAddress b x → (r : Route) → In r M → HasAddress r.block x → IsInside r.block b)
       → ((x : Address) → HasAddress b x → hop_under s M x ≡ h x) → GivesInside h b s (within b M)
   within_gives h s lies same = record {
-    table = within_table;
+    table = table_kept (λ r. is_inside r.block b) M table;
     inside = All-from_In (λ r. IsInside r.block b) (within b M) (λ r i.
         let t = In-from_filter (λ q. is_inside q.block b) M r i in inside_from_test r.block b (sound M table r t.0).0 ok t.1);
     same = λ x m.
@@ -116,25 +128,18 @@ module _ (c d : Block) (okc : IsBlock c) (okd : IsBlock d)
         (λ r i. ⊎_elim (λ j. sound L gl.table r j) (λ j. sound N gn.table r j) (In-cases r L N i))
         (Rising-joined Sooner L N (rising L gl.table) (rising N gn.table) (λ r q i j. order r.block q.block (lies_c r i) (lies_d q j)))
 
-    pub joined_lies : (b : Block) → IsInside c b → IsInside d b → (r : Route) → In r (L ++ N) → IsInside r.block b
-    joined_lies b u v r i = ⊎_elim (λ j x m. u x (lies_c r j x m)) (λ j x m. v x (lies_d r j x m)) (In-cases r L N i)
-
     -- in each the hops are those of its own table
     pub joined_first : (x : Address) → HasAddress c x → hop_under s (L ++ N) x ≡ h x
-    joined_first x m =
-        let a = member_is_address c x okc m in
-        let none = none_holds x a N gn.table (λ r i k. separate x m (lies_d r i x k)) in
-        ap (λ R. handed s (longest R)) (filter-append (holds x a) L N ∙ ap (λ R. covering L (host x) ++ R) none ∙ append-nil (covering L (host x))) ∙ gl.same x m
+    joined_first x m = ap (handed s) (same_match x (member_is_address c x okc m) (L ++ N) L joined_table gl.table
+        (λ r i k. ⊎_elim (λ j. j) (λ j. absurd (separate x m (lies_d r j x k))) (In-cases r L N i)) (λ r i k. In-left r L N i)) ∙ gl.same x m
 
     pub joined_second : (x : Address) → HasAddress d x → hop_under s (L ++ N) x ≡ h x
-    joined_second x m =
-        let a = member_is_address d x okd m in
-        let none = none_holds x a L gl.table (λ r i k. separate x (lies_c r i x k) m) in
-        ap (λ R. handed s (longest R)) (filter-append (holds x a) L N ∙ ap (λ R. R ++ covering N (host x)) none) ∙ gn.same x m
+    joined_second x m = ap (handed s) (same_match x (member_is_address d x okd m) (L ++ N) N joined_table gn.table
+        (λ r i k. ⊎_elim (λ j. absurd (separate x (lies_c r j x k) m)) (λ j. j) (In-cases r L N i)) (λ r i k. In-right r L N i)) ∙ gn.same x m
 
     pub joined_gives : (b : Block) → IsInside c b → IsInside d b → ((x : Address) → HasAddress b x → (HasAddress c x) ⊎ (HasAddress d x)) → GivesInside h b s (L ++ N)
     joined_gives b u v either = record {
       table = joined_table;
-      inside = All-from_In (λ r. IsInside r.block b) (L ++ N) (joined_lies b u v);
+      inside = All-from_In (λ r. IsInside r.block b) (L ++ N) (λ r i. ⊎_elim (λ j x m. u x (lies_c r j x m)) (λ j x m. v x (lies_d r j x m)) (In-cases r L N i));
       same = λ x m. ⊎_elim (joined_first x) (joined_second x) (either x m);
     }

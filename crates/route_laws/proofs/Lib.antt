@@ -9,7 +9,6 @@ pub mod FlatSearch
 pub mod Own
 pub mod Bounds
 pub mod Changes
-pub mod OneHop
 pub mod Alterations
 pub mod Overwritten
 pub mod Paging
@@ -18,8 +17,6 @@ pub mod Listed
 pub mod TableHops
 pub mod FlatTables
 pub mod Rebuilds
-pub mod Readded
-pub mod Held
 pub mod OneRoute
 pub mod Insides
 pub mod Fewest
@@ -31,7 +28,6 @@ pub mod FewestOperations
 pub mod Painted
 pub mod Repaints
 pub mod Handed
-pub mod OperationCounts
 pub mod Batches
 pub mod Runs
 pub mod OperationRows

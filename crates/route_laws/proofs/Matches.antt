@@ -1,14 +1,15 @@
 -- What the longest match is.
-use Rattle.std.proofs.Common.{◌≡◌, ◌<◌, ◌≤◌, ◌-◌, ◌/◌, ◌^◌, inl, inr, ⊎_elim, Bool, true, false, cond, nat_lt, List, [], ◌∷◌, filter, Option, Some, None, MatchOption, refl, sym, ap, ◌∙◌, subst, arith}
-use Rattle.std.proofs.lemmas.Bool.Decides.{nat_tests}
+use Rattle.std.proofs.Common.{◌≡◌, ◌<◌, ◌≤◌, ◌-◌, ◌/◌, ◌^◌, ◌⊎◌, inl, inr, ⊎_elim, Bool, true, false, cond, nat_lt, List, [], ◌∷◌, filter, Option, Some, None, MatchOption, refl, sym, ap, ◌∙◌, subst, arith}
+use Rattle.std.proofs.lemmas.Bool.{false_from_ne_true, ltb-false, ltb-true}
+use Rattle.std.proofs.lemmas.Option.{MatchOption-at_none, MatchOption-at_some}
 use Rattle.ipnet_addr.specs.Addresses.{Address, IsAddress, width}
 use Rattle.ipnet_blocks.specs.Blocks.{Block, IsBlock, free_bits, HasAddress, IsInside, is_inside, host, first_of}
 use Rattle.ipnet_addr.proofs.Members.{In}
 use Rattle.ipnet_addr.proofs.Ascending.{In-from_Contains, Contains-from_In, In-from_All, Rising-from_pairs}
-use Rattle.ipnet_blocks.proofs.BlockLaws.{block_path, nested, has_first, inside_by_numbers}
+use Rattle.ipnet_blocks.proofs.BlockLaws.{block_path, nested, has_first, inside_by_numbers, numbers_from_inside}
 use Rattle.ipnet_blocks.proofs.Parents.{decide_inside}
 use Rattle.ipnet_blocks.proofs.Maximals.{host_is_block, in_host, has_host}
-use Rattle.route_choices.proofs.Kept.{In-from_filter, In-filter, same_kept}
+use Rattle.route_choices.proofs.Kept.{In-from_filter, In-filter, none_kept, same_kept}
 use Rattle.route_laws.proofs.Ordered.{Earlier, one_of_block}
 use Rattle.route_laws.specs.Tables.{Route, IsTable, IsMatch, covering, longer, longest, match_of, Governed}
 
@@ -29,6 +30,15 @@ inside_from_test a b p q = (inside_by_numbers a b p q).1
 pub test_from_inside : (a b : Block) → IsBlock a → IsBlock b → IsInside a b → is_inside a b ≡ true
 test_from_inside a b p q = (inside_by_numbers a b p q).0
 
+-- of a route and a match the longer is the route, or the match, which is longer then
+pub longer_cases : (r : Route) (o : Option Route) → (longer r o ≡ r) ⊎ ((Some (longer r o) ≡ o) × (Block.len r.block < Block.len (Route.block (longer r o))))
+longer_cases r None = inl refl
+longer_cases r (Some s) = go (nat_lt (Block.len r.block) (Block.len s.block)) refl
+  where
+    go : (c : Bool) → nat_lt (Block.len r.block) (Block.len s.block) ≡ c → (cond c s r ≡ r) ⊎ ((Some (cond c s r) ≡ Some s) × (Block.len r.block < Block.len (Route.block (cond c s r))))
+    go true e = inr (refl, ltb-true _ _ e)
+    go false e = inl refl
+
 abbrev pub AtLeast : Route → List Route → Type 0
 AtLeast r rs = In r rs × ((s : Route) → In s rs → Block.len s.block ≤ Block.len r.block)
 
@@ -37,12 +47,8 @@ pick r rs None none = (inl refl, λ s i. ⊎_elim (λ e. let l : Block.len s.blo
 pick r rs (Some s) best = go (nat_lt (Block.len r.block) (Block.len s.block)) refl
   where
     go : (c : Bool) → nat_lt (Block.len r.block) (Block.len s.block) ≡ c → AtLeast (cond c s r) (r ∷ rs)
-    go true e =
-        let l : Block.len r.block < Block.len s.block = grind (arith, nat_tests, e) in
-        (inr best.0, λ t i. ⊎_elim (λ q. let m : Block.len t.block ≡ Block.len r.block = ap (λ (u : Route). Block.len u.block) q in omega arith) (λ j. best.1 t j) i)
-    go false e =
-        let l : Block.len s.block ≤ Block.len r.block = grind (arith, nat_tests, e) in
-        (inl refl, λ t i. ⊎_elim (λ q. let m : Block.len t.block ≡ Block.len r.block = ap (λ (u : Route). Block.len u.block) q in omega arith) (λ j. let b = best.1 t j in omega arith) i)
+    go true e = (inr best.0, λ t i. ⊎_elim (λ q. let l = ltb-true _ _ e in let m = ap (λ (u : Route). Block.len u.block) q in omega arith) (λ j. best.1 t j) i)
+    go false e = (inl refl, λ t i. ⊎_elim (λ q. let m = ap (λ (u : Route). Block.len u.block) q in omega arith) (λ j. let l = ltb-false _ _ e in let b = best.1 t j in omega arith) i)
 
 pub best_of : (rs : List Route) → MatchOption (longest rs) ((s : Route) → In s rs → ⊥) (λ s. AtLeast s rs)
 best_of [] = λ s i. i
@@ -53,24 +59,23 @@ module _ (M : List Route) (table : IsTable M) where
   block_in r i = In-from_All (λ s. IsBlock s.block) M table.blocks r i
 
   module _ (n : Block) (ok : IsBlock n) where
-    covers_in : (r : Route) → In r M → IsInside n r.block → In r (covering M n)
+    pub covers_in : (r : Route) → In r M → IsInside n r.block → In r (covering M n)
     covers_in r i h = In-filter (λ s. is_inside n s.block) M r i (test_from_inside n r.block ok (block_in r i) h)
 
-    in_covers : (r : Route) → In r (covering M n) → In r M × IsInside n r.block
+    pub in_covers : (r : Route) → In r (covering M n) → In r M × IsInside n r.block
     in_covers r i =
         let t = In-from_filter (λ s. is_inside n s.block) M r i in
         (t.0, inside_from_test n r.block ok (block_in r t.0) t.1)
 
     pub no_match : match_of M n ≡ None → (r : Route) → In r M → IsInside n r.block → ⊥
-    no_match e r i h =
-        let b = best_of (covering M n) in
-        let none : (s : Route) → In s (covering M n) → ⊥ = subst (λ (o : Option Route). MatchOption o ((s : Route) → In s (covering M n) → ⊥) (λ s. AtLeast s (covering M n))) e b in
-        none r (covers_in r i h)
+    no_match e r i h = MatchOption-at_none ((s : Route) → In s (covering M n) → ⊥) (λ s. AtLeast s (covering M n)) e (best_of (covering M n)) r (covers_in r i h)
+
+    pub none_from : ((r : Route) → In r M → IsInside n r.block → ⊥) → match_of M n ≡ None
+    none_from f = ap longest (none_kept (λ r. is_inside n r.block) M (λ r i. false_from_ne_true (is_inside n r.block) (λ e. f r i (inside_from_test n r.block ok (block_in r i) e))))
 
     pub match_meets : (r : Route) → match_of M n ≡ Some r → IsMatch M n r
     match_meets r e =
-        let b = best_of (covering M n) in
-        let best : AtLeast r (covering M n) = subst (λ (o : Option Route). MatchOption o ((s : Route) → In s (covering M n) → ⊥) (λ s. AtLeast s (covering M n))) e b in
+        let best = MatchOption-at_some ((s : Route) → In s (covering M n) → ⊥) (λ s. AtLeast s (covering M n)) r e (best_of (covering M n)) in
         let t = in_covers r best.0 in
         record { member = Contains-from_In M r t.0; holds = t.1; longest = λ s c h. best.1 s (covers_in s (In-from_Contains M s c) h) }
 
@@ -100,3 +105,11 @@ module _ (M : List Route) (table : IsTable M) where
         up r i h = ⊎_elim (λ k. k)
             (λ k. ⊎_elim (λ l. l) (λ no. absurd (g.free r (Contains-from_In M r i) (k, no) h)) (decide_inside n r.block ok (block_in r i)))
             (nested n r.block x ok (block_in r i) g.inside h)
+
+-- a route is the match of its own block
+pub match_of_own : (M : List Route) → IsTable M → (r : Route) → In r M → match_of M r.block ≡ Some r
+match_of_own M m r i = match_from M m r.block (block_in M m r i) r (record {
+  member = Contains-from_In M r i;
+  holds = λ x h. h;
+  longest = λ s c h. (numbers_from_inside r.block s.block (block_in M m r i) (block_in M m s (In-from_Contains M s c)) h).long;
+})

@@ -1,5 +1,6 @@
 -- Tables with several choices a network: what a change leaves, and the table of the best routes.
 use Rattle.std.proofs.Common.{◌≡◌, ◌≢◌, ◌<◌, ◌^◌, ◌⊎◌, inl, inr, ⊎_elim, Bool, true, false, not, cond, List, [], ◌∷◌, ◌++◌, Some, MatchOption, filter, map, refl, sym, ap, ◌∙◌, subst}
+use Rattle.std.proofs.lemmas.Bool.{cases_Bool, cond-false, cond-true}
 use Rattle.ipnet_addr.proofs.Members.{In}
 use Rattle.ipnet_addr.proofs.Ascending.{In-from_All, All-from_In, Rising, Rising-from_pairs, pairs_from_Rising, same_rising}
 use Rattle.ipnet_blocks.specs.Blocks.{Block, IsBlock, IsBefore, is_before, same_block}
@@ -8,19 +9,16 @@ use Rattle.ipnet_blocks.proofs.BlockTests.{same_from_test, test_from_same}
 use Rattle.route_choices.specs.Hops.{IsHop}
 use Rattle.route_choices.specs.declared.hop.Hop.{Hop}
 use Rattle.route_choices.specs.Choices.{Choice, beats, AreChoices, best, best_hop, is_one_too_many, choices_with, choices_without}
-use Rattle.route_choices.proofs.Kept.{filter_map_swap, map_append, In-map, map_In}
+use Rattle.route_choices.proofs.Kept.{filter_map_swap, map_append, In-map, map_In, In-from_filter, Rising-kept}
 use Rattle.route_choices.proofs.Preferences.{test_from_hop, test_from_apart}
 use Rattle.route_choices.proofs.ChoiceLists.{left_back, without_are, without_none, with_are, none_are}
 use Rattle.route_laws.specs.Tables.{Route, IsTable, with_route, without_block}
-use Rattle.route_laws.proofs.Ordered.{same_or_not, put_back, put_itself, put_other, put_rises, gone_back, gone_other, gone_rises, one_of_block, Rising-map}
-use Rattle.route_laws.proofs.Updates.{Sooner, added_back, added_itself, added_other, added_is_table}
+use Rattle.route_laws.proofs.Ordered.{same_or_not, put_back, put_itself, put_other, put_rises, gone_back, gone_other, one_of_block, Rising-map, put_again, put_gone, no_members}
+use Rattle.route_laws.proofs.Insides.{Sooner, Sound, rising as table_rises, table_of}
 use Rattle.route_laws.specs.Networks.{Stored, IsStoredTable, best_route, routes_of, choices_at, with_stored, without_stored, without_each, with_choices, with_choice, without_choice}
 
 abbrev pub Earlier : Stored → Stored → Type 0
 Earlier s t = IsBefore s.block t.block
-
-earlier_strict : (s t : Stored) → Earlier s t → Earlier t s → ⊥
-earlier_strict s t = strict s.block t.block
 
 -- ---- the best routes of a change: no condition on the table
 
@@ -56,6 +54,18 @@ routes_of_del T b h = routes_left T b (choices_without (choices_at T b) h)
 
 -- ---- a table stays a table
 
+-- what a stored network is
+abbrev pub IsGood : Stored → Type 0
+IsGood s = IsBlock s.block × (s.choices ≡ [] → ⊥) × AreChoices s.choices
+
+pub stored_table_of : (T : List Stored) → ((s : Stored) → In s T → IsGood s) → Rising Earlier T → IsStoredTable T
+stored_table_of T k up = record {
+  blocks = All-from_In (λ s. IsBlock s.block) T (λ s i. (k s i).0);
+  some = All-from_In (λ s. s.choices ≡ [] → ⊥) T (λ s i. (k s i).1);
+  choices = All-from_In (λ s. AreChoices s.choices) T (λ s i. (k s i).2);
+  ascending = pairs_from_Rising Earlier T up;
+}
+
 module _ (T : List Stored) (ok : IsStoredTable T) where
   pub rising : Rising Earlier T
   rising = Rising-from_pairs Earlier T ok.ascending
@@ -69,21 +79,18 @@ module _ (T : List Stored) (ok : IsStoredTable T) where
   pub stored_choices : (t : Stored) → In t T → AreChoices t.choices
   stored_choices t i = In-from_All (λ s. AreChoices s.choices) T ok.choices t i
 
+  pub good : (t : Stored) → In t T → IsGood t
+  good t i = (stored_block t i, stored_some t i, stored_choices t i)
+
+  -- what passes a test
+  pub stored_kept : (p : Stored → Bool) → IsStoredTable (filter p T)
+  stored_kept p = stored_table_of (filter p T) (λ s i. good s (In-from_filter p T s i).0) (Rising-kept Earlier p T rising)
+
   pub without_is : (b : Block) → IsStoredTable (without_stored T b)
-  without_is b = record {
-    blocks = All-from_In (λ s. IsBlock s.block) (without_stored T b) (λ s i. stored_block s (gone_back Stored.block T b s i).0);
-    some = All-from_In (λ s. s.choices ≡ [] → ⊥) (without_stored T b) (λ s i. stored_some s (gone_back Stored.block T b s i).0);
-    choices = All-from_In (λ s. AreChoices s.choices) (without_stored T b) (λ s i. stored_choices s (gone_back Stored.block T b s i).0);
-    ascending = pairs_from_Rising Earlier (without_stored T b) (gone_rises Stored.block T b rising);
-  }
+  without_is b = stored_kept (λ t. not (same_block t.block b))
 
   pub with_is : (s : Stored) → IsBlock s.block → (s.choices ≡ [] → ⊥) → AreChoices s.choices → IsStoredTable (with_stored T s)
-  with_is s okb some are = record {
-    blocks = All-from_In (λ s. IsBlock s.block) (with_stored T s) (λ t i. ⊎_elim (λ e. subst (λ (u : Stored). IsBlock u.block) (sym e) okb) (λ u. stored_block t u.0) (put_back Stored.block T s t i));
-    some = All-from_In (λ s. s.choices ≡ [] → ⊥) (with_stored T s) (λ t i. ⊎_elim (λ e q. some (ap Stored.choices (sym e) ∙ q)) (λ u. stored_some t u.0) (put_back Stored.block T s t i));
-    choices = All-from_In (λ s. AreChoices s.choices) (with_stored T s) (λ t i. ⊎_elim (λ e. subst (λ (u : Stored). AreChoices u.choices) (sym e) are) (λ u. stored_choices t u.0) (put_back Stored.block T s t i));
-    ascending = pairs_from_Rising Earlier (with_stored T s) (put_rises Stored.block T s rising);
-  }
+  with_is s okb some are = stored_table_of (with_stored T s) (λ t i. ⊎_elim (λ e. subst IsGood (sym e) (okb, some, are)) (λ u. good t u.0) (put_back Stored.block T s t i)) (put_rises Stored.block T s rising)
 
   pub with_choices_is : (b : Block) (cs : List Choice) → IsBlock b → AreChoices cs → IsStoredTable (with_choices T b cs)
   with_choices_is b [] okb are = without_is b
@@ -94,15 +101,13 @@ module _ (T : List Stored) (ok : IsStoredTable T) where
 -- the choices at a block are those of the member of this block, or there is none
 pub at_cases : (T : List Stored) (b : Block) → ((s : Stored) × In s T × (s.block ≡ b) × (choices_at T b ≡ s.choices)) ⊎ (((s : Stored) → In s T → s.block ≡ b → ⊥) × (choices_at T b ≡ []))
 at_cases [] b = inr ((λ s i. absurd i), refl)
-at_cases (s ∷ T) b = go (at_cases T b) (same_block s.block b) refl
-  where
-    go : ((s : Stored) × In s T × (s.block ≡ b) × (choices_at T b ≡ s.choices)) ⊎ (((s : Stored) → In s T → s.block ≡ b → ⊥) × (choices_at T b ≡ [])) → (c : Bool) → same_block s.block b ≡ c →
-        ((t : Stored) × In t (s ∷ T) × (t.block ≡ b) × (cond c s.choices (choices_at T b) ≡ t.choices)) ⊎ (((t : Stored) → In t (s ∷ T) → t.block ≡ b → ⊥) × (cond c s.choices (choices_at T b) ≡ []))
-    go rec true e = inl (s, inl refl, same_from_test s.block b e, refl)
-    go rec false e = ⊎_elim
-        (λ u. inl (u.0, inr u.1, u.2, u.3))
-        (λ u. inr ((λ t i q. ⊎_elim (λ p. let f = test_from_same s.block b (ap Stored.block (sym p) ∙ q) in cc) (λ j. u.0 t j q) i), u.1))
-        rec
+at_cases (s ∷ T) b = ⊎_elim
+    (λ e. inl (s, inl refl, same_from_test s.block b e, cond-true (same_block s.block b) s.choices (choices_at T b) e))
+    (λ e. let k = cond-false (same_block s.block b) s.choices (choices_at T b) e in ⊎_elim
+    (λ u. inl (u.0, inr u.1, u.2, k ∙ u.3))
+    (λ u. inr ((λ t i q. ⊎_elim (λ p. let f = test_from_same s.block b (ap Stored.block (sym p) ∙ q) in cc) (λ j. u.0 t j q) i), k ∙ u.1))
+    (at_cases T b))
+    (cases_Bool (same_block s.block b))
 
 module _ (T : List Stored) (ok : IsStoredTable T) where
   pub at_member : (s : Stored) → In s T → choices_at T s.block ≡ s.choices
@@ -135,7 +140,7 @@ module _ (T : List Stored) (ok : IsStoredTable T) where
 
 -- two tables with equal choices at each block are equal
 pub same_tables : (T U : List Stored) → IsStoredTable T → IsStoredTable U → ((b : Block) → choices_at T b ≡ choices_at U b) → T ≡ U
-same_tables T U okt oku same = same_rising Earlier earlier_strict T U (rising T okt) (rising U oku)
+same_tables T U okt oku same = same_rising Earlier (λ s t. strict s.block t.block) T U (rising T okt) (rising U oku)
     (λ s i. into T U okt oku same s i)
     (λ s i. into U T oku okt (λ b. sym (same b)) s i)
   where
@@ -173,22 +178,11 @@ best_is_hop [] are = tt
 best_is_hop (c ∷ cs) are = In-from_All (λ d. IsHop d.hop) (c ∷ cs) are.hops c (inl refl)
 
 pub routes_are_table : (T : List Stored) → IsStoredTable T → IsTable (routes_of T)
-routes_are_table T ok = record {
-  blocks = All-from_In (λ r. IsBlock r.block) (routes_of T) (λ r i. let t = In-map best_route T r i in subst (λ (u : Route). IsBlock u.block) (sym t.2) (stored_block T ok t.0 t.1));
-  hops = All-from_In (λ r. IsHop r.hop) (routes_of T) (λ r i. let t = In-map best_route T r i in subst (λ (u : Route). IsHop u.hop) (sym t.2) (best_is_hop t.0.choices (stored_choices T ok t.0 t.1)));
-  ascending = pairs_from_Rising Sooner (routes_of T) (Rising-map Earlier Sooner best_route (λ s t l. l) T (rising T ok));
-}
+routes_are_table T ok = table_of (routes_of T)
+    (λ r i. let t = In-map best_route T r i in subst Sound (sym t.2) (stored_block T ok t.0 t.1, best_is_hop t.0.choices (stored_choices T ok t.0 t.1)))
+    (Rising-map Earlier Sooner best_route (λ s t l. l) T (rising T ok))
 
 -- ---- a choice that is not the best
-
--- a member that is put in again
-pub put_again : (M : List Route) → IsTable M → (r : Route) → In r M → with_route M r ≡ M
-put_again M m r i =
-    let okb = In-from_All (λ s. IsBlock s.block) M m.blocks r i in
-    let new = added_is_table M m r okb (In-from_All (λ s. IsHop s.hop) M m.hops r i) in
-    same_rising Sooner (λ s t. strict s.block t.block) (with_route M r) M (Rising-from_pairs Sooner _ new.ascending) (Rising-from_pairs Sooner M m.ascending)
-    (λ s j. ⊎_elim (λ e. subst (λ (t : Route). In t M) (sym e) i) (λ t. t.0) (added_back M m r okb s j))
-    (λ s j. ⊎_elim (λ e. subst (λ (t : Route). In t (with_route M r)) (one_of_block Route.block M (Rising-from_pairs Sooner M m.ascending) r s i j (sym e)) (added_itself M m r okb)) (λ apart. added_other M m r okb s j apart) (same_or_not s.block r.block))
 
 -- taking out a choice that is not the first leaves the first
 first_stays : (cs : List Choice) (h : Hop) (c : Choice) → best cs ≡ Some c → c.hop ≢ h → (choices_without cs h ≡ [] → ⊥) × (best (choices_without cs h) ≡ best cs)
@@ -211,7 +205,7 @@ del_other T b h c ok e apart =
     let i = at_some T ok b (λ q. let f = ap best q in cc) in
     routes_with_choices T b (choices_without (choices_at T b) h) s.0
     ∙ ap (with_route (routes_of T)) (same_best b (choices_without (choices_at T b) h) (choices_at T b) s.1)
-    ∙ put_again (routes_of T) (routes_are_table T ok) (best_route (record { block = b; choices = choices_at T b })) (map_In best_route T (record { block = b; choices = choices_at T b }) i)
+    ∙ put_again Route.block (routes_of T) (best_route (record { block = b; choices = choices_at T b })) (table_rises (routes_of T) (routes_are_table T ok)) (map_In best_route T (record { block = b; choices = choices_at T b }) i)
 
 -- the choices that stand at a block, put there again
 pub put_same : (T : List Stored) → IsStoredTable T → (b : Block) → IsBlock b → with_choices T b (choices_at T b) ≡ T
@@ -232,18 +226,13 @@ del_none T b h ok okb none =
 
 pub restored : (T : List Stored) (b : Block) (c : Choice) → IsStoredTable T → IsBlock b → IsHop c.hop → c.pref < 2 ^ 16 → choices_at T b ≡ [] → without_choice (with_choice T b c) b c.hop ≡ T
 restored T b c ok okb hop pref none =
-    let are = with_are (choices_at T b) (at_are T ok b) c hop pref (ap (λ cs. is_one_too_many cs c.hop) none) in
-    let N = with_choice T b c in
-    let okn = with_choices_is T ok b (choices_with (choices_at T b) c) okb are in
-    let gone = del_is N okn b c.hop okb in
-    let here : choices_at N b ≡ c ∷ [] = at_changed T ok b okb (choices_with (choices_at T b) c) are ∙ ap (λ cs. choices_with cs c) none in
-    let left : choices_without (choices_at N b) c.hop ≡ [] = ap (λ cs. choices_without cs c.hop) here ∙ ap (λ s. cond (not s) (c ∷ []) []) (test_from_hop c.hop c.hop refl) in
-    same_tables (without_choice N b c.hop) T gone ok
-    (λ d. ⊎_elim
-    (λ e. ap (choices_at (without_choice N b c.hop)) e ∙ at_changed N okn b okb (choices_without (choices_at N b) c.hop) (without_are (choices_at N b) (at_are N okn b) c.hop) ∙ left ∙ sym none ∙ ap (choices_at T) (sym e))
-    (λ apart. at_other N okn b okb (choices_without (choices_at N b) c.hop) (without_are (choices_at N b) (at_are N okn b) c.hop) d apart
-    ∙ at_other T ok b okb (choices_with (choices_at T b) c) are d apart)
-    (same_or_not d b))
+    let s : Stored = record { block = b; choices = c ∷ [] } in
+    let are = subst AreChoices (ap (λ cs. choices_with cs c) none) (with_are (choices_at T b) (at_are T ok b) c hop pref (ap (λ cs. is_one_too_many cs c.hop) none)) in
+    let here = at_member (with_stored T s) (with_is T ok s okb (λ e. cc) are) s (put_itself Stored.block T s) in
+    ap (λ cs. without_choice (with_choices T b (choices_with cs c)) b c.hop) none
+    ∙ ap (λ cs. with_choices (with_stored T s) b (choices_without cs c.hop)) here
+    ∙ ap (λ e. with_choices (with_stored T s) b (cond (not e) (c ∷ []) [])) (test_from_hop c.hop c.hop refl)
+    ∙ put_gone Stored.block T s (rising T ok) (λ t i q. stored_some T ok t i (sym (at_member T ok t i) ∙ ap (choices_at T) q ∙ none))
 
 -- ---- a `del` of each choice
 
@@ -265,10 +254,6 @@ each_other T b [] ok okb d apart = refl
 each_other T b (c ∷ cs) ok okb d apart =
     each_other (without_choice T b c.hop) b cs (del_is T ok b c.hop okb) okb d apart
     ∙ at_other T ok b okb (choices_without (choices_at T b) c.hop) (without_are (choices_at T b) (at_are T ok b) c.hop) d apart
-
-no_members : (cs : List Choice) → ((d : Choice) → In d cs → ⊥) → cs ≡ []
-no_members [] none = refl
-no_members (c ∷ cs) none = absurd (none c (inl refl))
 
 pub emptied : (T : List Stored) (b : Block) → IsStoredTable T → IsBlock b → without_each T b (choices_at T b) ≡ without_stored T b
 emptied T b ok okb = same_tables (without_each T b (choices_at T b)) (without_stored T b) (each_is T b (choices_at T b) ok okb) (without_is T ok b)

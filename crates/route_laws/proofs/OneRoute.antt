@@ -1,106 +1,74 @@
 -- The table of one route.
-use Rattle.std.proofs.Common.{◌≡◌, ◌≢◌, ⊎_elim, ℕ, Bool, true, false, cond, [], ◌∷◌, Option, Some, None, Contains, ◌↔◌, unwrap_or, refl, sym, ap, ◌∙◌, subst, arith}
-use Rattle.std.proofs.lemmas.Option.{none-some}
+use Rattle.std.proofs.Common.{◌≡◌, ℕ, ◌<◌, ◌^◌, inl, ⊎_elim, cond, [], ◌∷◌, Some, None, refl, sym, ap, ◌∙◌, subst}
+use Rattle.std.proofs.lemmas.Bool.{cond-true}
+use Rattle.std.proofs.lemmas.Option.{cond_some, none-some}
 use Rattle.ipnet_addr.specs.Addresses.{Address, IsAddress}
-use Rattle.ipnet_addr.proofs.Ascending.{In-from_Contains, pairs_from_Rising}
-use Rattle.ipnet_blocks.specs.Blocks.{Block, IsBlock, IsBefore, HasAddress, first_of, host, has_address, is_inside}
+use Rattle.ipnet_addr.proofs.Ascending.{Contains-from_In, In-from_Contains, pairs_from_Rising}
+use Rattle.ipnet_blocks.specs.Blocks.{Block, IsBlock, IsBefore, HasAddress, first_of, has_address}
 use Rattle.ipnet_blocks.specs.Maximal.{IsMaximal, IsMaximalBlock, maximal_of}
-use Rattle.ipnet_blocks.proofs.BlockLaws.{has_first, same_sets}
-use Rattle.ipnet_blocks.proofs.BlockTests.{has_from_test as address_from_test, test_from_has as address_to_test}
-use Rattle.ipnet_blocks.proofs.Parents.{decide_inside}
-use Rattle.ipnet_blocks.proofs.Maximals.{host_is_block, has_host, maximal_is_unique, member_is_address}
+use Rattle.ipnet_blocks.proofs.BlockLaws.{has_first}
+use Rattle.ipnet_blocks.proofs.BlockTests.{has_from_test, test_from_has}
+use Rattle.ipnet_blocks.proofs.Maximals.{maximal_is_unique, member_is_address}
+use Rattle.ipnet_blocks.proofs.Unions.{maximal_same as blocks_same}
+use Rattle.route_choices.specs.Choices.{default_preference}
+use Rattle.route_choices.specs.declared.hop.Hop.TheVariants.{Number}
 use Rattle.route_laws.specs.Changes.{changed}
 use Rattle.route_laws.specs.Flats.{Piece, IsFlat, flat_of}
 use Rattle.route_laws.specs.Laws.{one_route}
-use Rattle.route_laws.specs.Tables.{Changed, hop_at}
-use Rattle.route_laws.proofs.Alterations.{host_inside}
+use Rattle.route_laws.specs.Tables.{Route, IsTable, Changed, Governed, hop_at}
+use Rattle.route_laws.proofs.Alterations.{blocks_of_add}
 use Rattle.route_laws.proofs.Changes.{changed_is_maximal}
-use Rattle.route_laws.proofs.Flats.{Sooner, maximal_same, same_flat}
+use Rattle.route_laws.proofs.Flats.{Sooner, maximal_one, maximal_same, same_flat}
 use Rattle.route_laws.proofs.FlatSearch.{search_is_flat}
-use Rattle.route_laws.proofs.Matches.{inside_from_test, test_from_inside}
+use Rattle.route_laws.proofs.Insides.{table_of}
+use Rattle.route_laws.proofs.Overwritten.{over_hops}
+
+none_is_table : IsTable []
+none_is_table = table_of [] (λ r i. absurd i) tt
 
 module _ (b : Block) (ok : IsBlock b) where
   -- the addresses of a block have one maximal block
   is_top : IsMaximalBlock (HasAddress b) b
   is_top = record { within = record { block = ok; all = λ x h. h }; largest = λ c w l. l.1 w.all }
 
-  top_is : (c : Block) → IsMaximalBlock (HasAddress b) c → c ≡ b
-  top_is c m = ⊎_elim
-      (λ h. same_sets c b m.within.block ok m.within.all h)
-      (λ not_inside. absurd (m.largest b (record { block = ok; all = λ x h. h }) (m.within.all, not_inside)))
-      (decide_inside b c ok m.within.block)
+  one_block : IsMaximal (HasAddress b) (b ∷ [])
+  one_block = record {
+    ascending = pairs_from_Rising IsBefore (b ∷ []) ((λ c i. absurd i), tt);
+    exact = λ c. (
+      (λ i. ⊎_elim (λ e. subst (IsMaximalBlock (HasAddress b)) (sym e) is_top) (λ j. absurd j) (In-from_Contains (b ∷ []) c i)),
+      (λ m. Contains-from_In (b ∷ []) c (inl (maximal_one (HasAddress b) c b m is_top (first_of c) (has_first c) (m.within.all (first_of c) (has_first c))))),
+    );
+  }
 
-  -- whether an address is one of them, by numbers
-  has_from_test : (x : Address) → IsAddress x → is_inside (host x) b ≡ true → HasAddress b x
-  has_from_test x a e = inside_from_test (host x) b (host_is_block x a) ok e x (has_host x)
+  module _ (k : ℕ) (fits : k < 2 ^ 32) where
+    abbrev route : Route
+    route = record { block = b; hop = Number k; pref = default_preference }
 
-  test_from_has : (x : Address) → IsAddress x → HasAddress b x → is_inside (host x) b ≡ true
-  test_from_has x a h = test_from_inside (host x) b (host_is_block x a) ok (host_inside x b h)
-
-  module _ (k : ℕ) where
-    hop_here : (x : Address) → IsAddress x → HasAddress b x → hop_at (one_route b k) x ≡ Some k
-    hop_here x a h = rw (test_from_has x a h) refl
-
-    hop_elsewhere : (x : Address) → IsAddress x → hop_at (one_route b k) x ≢ None → HasAddress b x
-    hop_elsewhere x a h = go (is_inside (host x) b) refl
-      where
-        go : (t : Bool) → is_inside (host x) b ≡ t → HasAddress b x
-        go true e = has_from_test x a e
-        go false e = absurd (h (rw e refl))
-
+    -- one route in the place of none
     pub hops_of_one : (x : Address) → IsAddress x → hop_at (one_route b k) x ≡ cond (has_address b x) (Some k) None
-    hops_of_one x a = go (has_address b x) refl
-      where
-        none : (o : Option ℕ) → hop_at (one_route b k) x ≡ o → has_address b x ≡ false → o ≡ None
-        none None e q = refl
-        none (Some n) e q = let t = address_to_test b x (hop_elsewhere x a (λ f. none-some n (sym f ∙ e))) in let u = q in cc
+    hops_of_one = over_hops [] none_is_table route ok fits
 
-        go : (t : Bool) → has_address b x ≡ t → hop_at (one_route b k) x ≡ cond t (Some k) None
-        go true e = hop_here x a (address_from_test b x e)
-        go false e = none (hop_at (one_route b k) x) refl e
-
-    -- the maximal blocks of the addresses with a hop, however they are told
-    pub one_block : (S : Address → Type 0) → ((x : Address) → IsAddress x → HasAddress b x → S x) → ((x : Address) → IsAddress x → S x → HasAddress b x) → (c : Block) → Contains (b ∷ []) c ↔ IsMaximalBlock S c
-    one_block S to from c = (
-      (λ i. subst (IsMaximalBlock S) (only c i) (maximal_same (HasAddress b) S to from b is_top)),
-      (λ m. subst (Contains (b ∷ [])) (sym (top_is c (maximal_same S (HasAddress b) from to c m))) (0, omega arith, refl)),
-    )
-      where
-        only : (d : Block) → Contains (b ∷ []) d → b ≡ d
-        only d i = ⊎_elim (λ e. sym e) (λ j. absurd j) (In-from_Contains (b ∷ []) d i)
-
-    alone : (S : Address → Type 0) → ((c : Block) → Contains (b ∷ []) c ↔ IsMaximalBlock S c) → IsMaximal S (b ∷ [])
-    alone S exact = record { ascending = pairs_from_Rising IsBefore (b ∷ []) ((λ c i. absurd i), tt); exact = exact }
+    told : (x : Address) → IsAddress x → (n : ℕ) → hop_at (one_route b k) x ≡ Some n → HasAddress b x × (k ≡ n)
+    told x a n e = let t = cond_some (has_address b x) k n (sym (hops_of_one x a) ∙ e) in (has_from_test b x t.0, t.1)
 
     pub one_is_changed : maximal_of (changed [] (one_route b k)) ≡ b ∷ []
     one_is_changed = maximal_is_unique (Changed [] (one_route b k)) (maximal_of (changed [] (one_route b k))) (b ∷ []) (changed_is_maximal [] (one_route b k))
-        (alone (Changed [] (one_route b k)) (one_block (Changed [] (one_route b k))
-        (λ x a h d. none-some k (d ∙ hop_here x a h))
-        (λ x a d. hop_elsewhere x a (λ e. d (sym e)))))
+        ((blocks_of_add [] none_is_table route ok fits (b ∷ []) (blocks_same (HasAddress b) (Governed [] b) (λ x a h. record { inside = h; free = λ r c l i. In-from_Contains [] r c }) (λ x a g. g.inside) (b ∷ []) one_block)).0 (none-some k))
 
-    first_number : (p : Piece) → IsMaximalBlock (λ x. hop_at (one_route b k) x ≡ Some p.number) p.block → p.number ≡ k
-    first_number p m =
-        let x = first_of p.block in
-        let h = m.within.all x (has_first p.block) in
-        let a = member_is_address p.block x m.within.block (has_first p.block) in
-        ap (λ o. unwrap_or o 0) (sym h ∙ hop_here x a (hop_elsewhere x a (λ f. none-some p.number (sym f ∙ h))))
-
-    piece_is : (p : Piece) → IsMaximalBlock (λ x. hop_at (one_route b k) x ≡ Some p.number) p.block → p.number ≡ k → Contains (record { block = b; number = k } ∷ []) p
-    piece_is p m e =
-        let in_blocks = (one_block (λ x. hop_at (one_route b k) x ≡ Some p.number)
-        (λ x a h. hop_here x a h ∙ ap (λ n. Some n) (sym e))
-        (λ x a h. hop_elsewhere x a (λ f. none-some p.number (sym f ∙ h))) p.block).1 m in
-        let same = ⊎_elim (λ q. q) (λ j. absurd j) (In-from_Contains (b ∷ []) p.block in_blocks) in
-        (0, omega arith, sym (ap (λ c. record { block = c; number = p.number }) same ∙ ap (λ n. record { block = b; number = n }) e))
+    top_for : (n : ℕ) → k ≡ n → IsMaximalBlock (λ x. hop_at (one_route b k) x ≡ Some n) b
+    top_for n e = maximal_same (HasAddress b) (λ x. hop_at (one_route b k) x ≡ Some n) (λ x a h. hops_of_one x a ∙ cond-true (has_address b x) (Some k) None (test_from_has b x h) ∙ ap (λ i. Some i) e) (λ x a s. (told x a n s).0) b is_top
 
     is_flat : IsFlat (hop_at (one_route b k)) (record { block = b; number = k } ∷ [])
     is_flat = record {
       ascending = pairs_from_Rising Sooner (record { block = b; number = k } ∷ []) ((λ c i. absurd i), tt);
       exact = λ p. (
-        (λ i. ⊎_elim (λ e. subst (λ (q : Piece). IsMaximalBlock (λ x. hop_at (one_route b k) x ≡ Some q.number) q.block) (sym e)
-            ((one_block (λ x. hop_at (one_route b k) x ≡ Some k) hop_here (λ x a h. hop_elsewhere x a (λ f. none-some k (sym f ∙ h))) b).0 (0, omega arith, refl)))
+        (λ i. ⊎_elim (λ e. subst (λ (q : Piece). IsMaximalBlock (λ x. hop_at (one_route b k) x ≡ Some q.number) q.block) (sym e) (top_for k refl))
             (λ j. absurd j) (In-from_Contains (record { block = b; number = k } ∷ []) p i)),
-        (λ m. piece_is p m (first_number p m)),
+        (λ m.
+            let h = has_first p.block in
+            let t = told (first_of p.block) (member_is_address p.block (first_of p.block) m.within.block h) p.number (m.within.all (first_of p.block) h) in
+            let q = maximal_one (λ x. hop_at (one_route b k) x ≡ Some p.number) p.block b m (top_for p.number t.1) (first_of p.block) h t.0 in
+            Contains-from_In (record { block = b; number = k } ∷ []) p (inl (λ i. record { block = q i; number = sym t.1 i }))),
       );
     }
 

@@ -1,10 +1,13 @@
 -- Lists of things at blocks, ascending by these: one put in the place of any other of its block, or taken out.
-use Rattle.std.proofs.Common.{◌≡◌, ◌⊎◌, inl, inr, ⊎_elim, Bool, true, false, not, List, [], ◌∷◌, ◌++◌, filter, map, sym, refl, ap, ◌∙◌, subst}
-use Rattle.std.proofs.lemmas.Bool.{false_from_ne_true}
+use Rattle.std.proofs.Common.{◌≡◌, ◌⊎◌, ◌<◌, arith, inl, inr, ⊎_elim, Bool, true, not, List, [], ◌∷◌, ◌++◌, filter, map, sym, refl, ap, ◌∙◌, subst, append-nil, append_assoc}
+use Rattle.std.proofs.lemmas.Bool.{cases_lt, false_from_ne_true, not_from_false}
+use Rattle.ipnet_addr.specs.Addresses.{Address, rank}
 use Rattle.ipnet_addr.proofs.Members.{In, In-left, In-right, In-cases}
-use Rattle.ipnet_addr.proofs.Ascending.{Rising}
-use Rattle.ipnet_blocks.specs.Blocks.{Block, IsBefore, is_before, same_block}
-use Rattle.ipnet_blocks.proofs.BlockLaws.{strict, total, transitive}
+use Rattle.ipnet_addr.proofs.Ascending.{Rising, same_rising}
+use Rattle.ipnet_blocks.specs.Blocks.{Block, IsBlock, HasAddress, IsBefore, IsInside, IsLarger, first, first_of, is_before, same_block, free_bits}
+use Rattle.ipnet_blocks.proofs.BlockLaws.{common, has_first, strict, total, transitive}
+use Rattle.ipnet_blocks.proofs.Parents.{larger_is_shorter}
+use Rattle.ipnet_blocks.proofs.Search.{first_within, leaf_address}
 use Rattle.ipnet_blocks.proofs.BlockTests.{before_from_test, test_from_before, same_from_test, test_from_same}
 use Rattle.route_choices.proofs.Kept.{Rising-kept, Rising-joined, In-from_filter, In-filter, In-map, all_kept, none_kept}
 
@@ -14,11 +17,37 @@ Rising-map R S f h [] up = tt
 Rising-map {A} {B} R S f h (x ∷ xs) up =
     ((λ y i. let t = In-map f xs y i in subst (S (f x)) (sym t.2) (h x t.0 (up.0 t.0 t.1))), Rising-map R S f h xs up.1)
 
+pub not_cases : (b : Bool) → not b ≡ true → b ≡ true → ⊥
+not_cases b e f = let g = ap not f in cc
+
+pub not_from : (b : Bool) → (b ≡ true → ⊥) → not b ≡ true
+not_from b f = not_from_false b (false_from_ne_true b f)
+
+pub no_members : {A : Type 0} (xs : List A) → ((a : A) → In a xs → ⊥) → xs ≡ []
+no_members [] none = refl
+no_members (x ∷ xs) none = absurd (none x (inl refl))
+
 pub before_apart : (a b : Block) → IsBefore a b → a ≡ b → ⊥
 before_apart a b l q = strict b b (subst (λ (c : Block). IsBefore c b) q l) (subst (λ (c : Block). IsBefore c b) q l)
 
 pub same_or_not : (a b : Block) → (a ≡ b) ⊎ (a ≡ b → ⊥)
 same_or_not a b = ⊎_elim (λ l. inr (λ e. before_apart a b l e)) (λ r. ⊎_elim (λ e. inl e) (λ l. inr (λ e. before_apart b a l (sym e))) r) (total a b)
+
+-- of two blocks with a common address the shorter comes first
+pub shorter_first : (a b : Block) (x : Address) → IsBlock b → HasAddress a x → HasAddress b x → a.len < b.len → IsBefore a b
+shorter_first a b x q h k l =
+    let i : IsInside b a = common b a x q k h (omega arith) in
+    let f = sym (ap rank (i (first_of b) (has_first b)).0) in
+    let low = (first_within b a i).0 in
+    ⊎_elim (λ n. inr (inl (f, n))) (λ y. inr (inr (f, omega arith, l))) (cases_lt (first a) (first b))
+
+-- so a block comes before those strictly inside it
+pub before_inner : (b c : Block) → IsBlock b → IsBlock c → IsLarger b c → IsBefore b c
+before_inner b c p q l = shorter_first b c (first_of c) q (l.0 (first_of c) (has_first c)) (has_first c) (larger_is_shorter b c p q l)
+
+-- a block of one address is inside each block that is inside it
+pub alone : (b d : Block) → free_bits b ≡ 0 → IsInside d b → IsInside b d
+alone b d h i x m = subst (HasAddress d) (sym (leaf_address b h (first_of d) (i (first_of d) (has_first d))) ∙ leaf_address b h x m) (has_first d)
 
 module _ {X : Type 0} (at : X → Block) where
   abbrev pub Earlier : X → X → Type 0
@@ -75,17 +104,10 @@ module _ {X : Type 0} (at : X → Block) where
     pub gone_back : (y : X) → In y (without M b) → In y M × (at y ≡ b → ⊥)
     gone_back y i =
         let t = In-from_filter (λ y. not (same_block (at y) b)) M y i in
-        (t.0, λ e. let f = test_from_same (at y) b e in let g = ap not f in let u = t.1 in cc)
+        (t.0, λ e. not_cases (same_block (at y) b) t.1 (test_from_same (at y) b e))
 
     pub gone_other : (y : X) → In y M → (at y ≡ b → ⊥) → In y (without M b)
-    gone_other y i apart = In-filter (λ y. not (same_block (at y) b)) M y i (go (same_block (at y) b) refl)
-      where
-        go : (c : Bool) → same_block (at y) b ≡ c → not (same_block (at y) b) ≡ true
-        go true e = absurd (apart (same_from_test (at y) b e))
-        go false e = ap not e
-
-    pub gone_rises : Rising Earlier M → Rising Earlier (without M b)
-    gone_rises up = Rising-kept Earlier (λ y. not (same_block (at y) b)) M up
+    gone_other y i apart = In-filter (λ y. not (same_block (at y) b)) M y i (not_from (same_block (at y) b) (λ e. apart (same_from_test (at y) b e)))
 
   -- two members of one block are one
   pub one_of_block : (M : List X) → Rising Earlier M → (x y : X) → In x M → In y M → at x ≡ at y → x ≡ y
@@ -94,3 +116,25 @@ module _ {X : Type 0} (at : X → Block) where
   one_of_block (z ∷ M) r x y (inl p) (inr j) e = absurd (before_apart (at z) (at y) (r.0 y j) (ap at (sym p) ∙ e))
   one_of_block (z ∷ M) r x y (inr i) (inl q) e = absurd (before_apart (at z) (at x) (r.0 x i) (ap at (sym q) ∙ sym e))
   one_of_block (z ∷ M) r x y (inr i) (inr j) e = one_of_block M r.1 x y i j e
+
+  -- what is put where nothing of its block is, and taken out again
+  pub put_gone : (M : List X) (x : X) → Rising Earlier M → ((y : X) → In y M → at y ≡ at x → ⊥) → without (put M x) (at x) ≡ M
+  put_gone M x up none = same_rising Earlier (λ y z. strict (at y) (at z)) (without (put M x) (at x)) M (Rising-kept Earlier (λ y. not (same_block (at y) (at x))) (put M x) (put_rises M x up)) up
+      (λ y i. let t = gone_back (put M x) (at x) y i in ⊎_elim (λ e. absurd (t.1 (ap at e))) (λ u. u.0) (put_back M x y t.0))
+      (λ y i. gone_other (put M x) (at x) y (put_other M x y i (none y i)) (none y i))
+
+  -- a member that is put in again
+  pub put_again : (M : List X) (x : X) → Rising Earlier M → In x M → put M x ≡ M
+  put_again M x up i = same_rising Earlier (λ y z. strict (at y) (at z)) (put M x) M (put_rises M x up) up
+      (λ y j. ⊎_elim (λ e. subst (λ (z : X). In z M) (sym e) i) (λ t. t.0) (put_back M x y j))
+      (λ y j. ⊎_elim (λ e. subst (λ (z : X). In z (put M x)) (one_of_block M up x y i j (sym e)) (put_itself M x)) (λ apart. put_other M x y j apart) (same_or_not (at y) (at x)))
+
+-- things put in one after the other, each after all that stand there, stand at the end
+module _ {X Y : Type 0} (at : X → Block) (f : Y → X) (step : List X → Y → List X) (all : List X → List Y → List X)
+    (none : (M : List X) → all M [] ≡ M) (next : (M : List X) (y : Y) (ys : List Y) → all M (y ∷ ys) ≡ all (step M y) ys)
+    (last : (M : List X) (y : Y) → ((x : X) → In x M → IsBefore (at x) (at (f y))) → step M y ≡ M ++ f y ∷ []) where
+  pub each_last : (ys : List Y) (M : List X) → Rising (λ y z. IsBefore (at (f y)) (at (f z))) ys → ((y : Y) → In y ys → (x : X) → In x M → IsBefore (at x) (at (f y))) → all M ys ≡ M ++ map f ys
+  each_last [] M up after = none M ∙ sym (append-nil M)
+  each_last (y ∷ ys) M up after = next M y ys ∙ ap (λ N. all N ys) (last M y (after y (inl refl)))
+      ∙ each_last ys (M ++ f y ∷ []) up.1 (λ z j x i. ⊎_elim (after z (inr j) x) (λ k. ⊎_elim (λ e. subst (λ (u : X). IsBefore (at u) (at (f z))) (sym e) (up.0 z j)) (λ no. absurd no) k) (In-cases x M (f y ∷ []) i))
+      ∙ append_assoc M (f y ∷ []) (map f ys)

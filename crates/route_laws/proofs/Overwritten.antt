@@ -1,55 +1,31 @@
 -- One thing in the place of all those inside its block: its members, how it is made, and the hops of a table then.
-use Rattle.std.proofs.Common.{◌≡◌, ◌-◌, ◌/◌, ◌^◌, ◌<◌, ◌⊎◌, inl, inr, ⊎_elim, Bool, true, false, not, cond, List, [], ◌∷◌, filter, Option, Some, None, IsTrue, ◌↔◌, nat_lt, refl, sym, ap, ◌∙◌, subst, arith, div-one}
-use Rattle.std.proofs.lemmas.Bool.Decides.{nat_tests}
-use Rattle.ipnet_addr.specs.Addresses.{Address, IsAddress, width}
+use Rattle.std.proofs.Common.{◌≡◌, ◌-◌, ◌<◌, ◌⊎◌, inl, inr, ⊎_elim, Bool, false, not, cond, List, [], ◌∷◌, filter, Some, IsTrue, ◌↔◌, sym, ap, ◌∙◌, subst, arith}
+use Rattle.std.proofs.lemmas.Bool.{cond-false, false_from_ne_true, cond_both, cases_lt}
+use Rattle.ipnet_addr.specs.Addresses.{Address, IsAddress}
 use Rattle.ipnet_addr.proofs.Members.{In}
-use Rattle.ipnet_addr.proofs.Ascending.{In-from_Contains, Contains-from_In, All-from_In, Rising, Rising-from_pairs, pairs_from_Rising, same_rising}
+use Rattle.ipnet_addr.proofs.Ascending.{In-from_Contains, Contains-from_In, Rising, Rising-from_pairs, same_rising}
 use Rattle.ipnet_blocks.specs.Blocks.{Block, IsBlock, HasAddress, IsInside, IsLarger, free_bits, is_inside, has_address, host, left, right}
-use Rattle.ipnet_blocks.proofs.BlockLaws.{block_path, nested, numbers_from_inside, same_sets, strict}
+use Rattle.ipnet_blocks.proofs.BlockLaws.{numbers_from_inside, same_sets, strict}
 use Rattle.ipnet_blocks.proofs.BlockTests.{has_from_test, test_from_has}
-use Rattle.ipnet_blocks.proofs.Maximals.{host_is_block, has_host}
+use Rattle.ipnet_blocks.proofs.Maximals.{host_is_block}
 use Rattle.ipnet_blocks.proofs.Search.{left_is_block, right_is_block, left_inside, right_inside, in_a_half}
 use Rattle.ipnet.specs.IpNets.{block}
 use Rattle.ipnet.specs.declared.ip_net.IpNet.{IpNet}
 use Rattle.route_choices.specs.Hops.{IsHop, number_of}
-use Rattle.route_choices.specs.Choices.{Choice, AreChoices}
+use Rattle.route_choices.specs.Choices.{Choice}
 use Rattle.route_choices.proofs.Kept.{Rising-kept, filter_map_swap, In-from_filter, In-filter}
 use Rattle.route_laws.specs.Overwritten.{without_inside, overwritten}
-use Rattle.route_laws.specs.Tables.{Route, IsTable, match_of, match_number, hop_at, with_route}
-use Rattle.route_laws.proofs.Alterations.{host_inside, match_is, no_matches}
+use Rattle.route_laws.specs.Tables.{Route, IsTable, longer, longest, match_of, match_number, hop_at, with_route}
+use Rattle.route_laws.proofs.Updates.{match_after_add, added_is_table}
 use Rattle.route_laws.specs.Networks.{IsLeaf, Stored, IsStoredTable, best_route, networks_outside, overwritten_by, routes_of}
-use Rattle.route_laws.proofs.Insides.{Sooner, rising, sound, table_of}
-use Rattle.route_laws.proofs.Matches.{block_in, match_meets, inside_from_test, test_from_inside}
-use Rattle.route_laws.proofs.Networks.{routes_with, stored_block, stored_some, stored_choices}
-use Rattle.route_laws.proofs.Ordered.{Earlier, put, put_back, put_itself, put_other, put_rises}
-use Rattle.route_laws.proofs.Updates.{added_is_table}
+use Rattle.route_laws.proofs.Insides.{Sooner, filter_again, has_from_test as held_from_test, rising, table_kept}
+use Rattle.route_laws.proofs.Matches.{block_in, governed_match, inside_from_test, match_of_own, test_from_inside}
+use Rattle.route_laws.proofs.Networks.{routes_with, stored_block, stored_kept}
+use Rattle.route_laws.proofs.Ordered.{Earlier, put, put_back, put_itself, put_other, put_rises, not_cases, not_from, alone}
 
-pub not_cases : (b : Bool) → not b ≡ true → b ≡ true → ⊥
-not_cases true e f = cc
-not_cases false e f = cc
-
-pub not_from : (b : Bool) → (b ≡ true → ⊥) → not b ≡ true
-not_from true f = absurd (f refl)
-not_from false f = refl
-
--- a block is in neither of its halves
-not_in_left : (b : Block) → IsBlock b → 0 < free_bits b → IsInside b (left b) → ⊥
-not_in_left b ok h i = let n = (numbers_from_inside b (left b) ok (left_is_block b ok h) i).long in omega arith
-
-not_in_right : (b : Block) → IsBlock b → 0 < free_bits b → IsInside b (right b) → ⊥
-not_in_right b ok h i = let n = (numbers_from_inside b (right b) ok (right_is_block b ok h) i).long in omega arith
-
--- a host block has nothing inside but itself
-alone : (b d : Block) → IsBlock b → IsBlock d → free_bits b ≡ 0 → IsInside d b → d ≡ b
-alone b d okb okd h i =
-    let n = numbers_from_inside d b okd okb i in
-    let w = okd.in_width in
-    let v = okb.in_width in
-    let e : width d.family ≡ width b.family = ap width n.family in
-    let g = n.long in
-    let l : d.len ≡ b.len = omega arith in
-    let z : d.len - b.len ≡ 0 = omega arith in
-    block_path d b n.family l (sym (ap (λ k. d.quotient / 2 ^ k) z ∙ div-one d.quotient) ∙ n.quotient)
+-- a block is in none that is longer, as its halves are
+not_in_longer : (b c : Block) → IsBlock b → IsBlock c → b.len < c.len → IsInside b c → ⊥
+not_in_longer b c okb okc l i = absurd (omega (arith, l, (numbers_from_inside b c okb okc i).long))
 
 -- a block inside itself
 inside_itself : (a b : Block) → a ≡ b → IsInside a b
@@ -104,12 +80,9 @@ module _ {X : Type 0} (at : X → Block) where
     pub over_itself : In x (over M x)
     over_itself = put_itself at (outside M (at x)) x
 
-    pub over_are : AreAt (over M x)
-    over_are = put_are (outside M (at x)) rest x ok
-
     -- it is the one list with these members
     pub over_is : (N : List X) → AreAt N → ((y : X) → In y N → (y ≡ x) ⊎ (In y M × (IsInside (at y) (at x) → ⊥))) → In x N → ((y : X) → In y M → (IsInside (at y) (at x) → ⊥) → In y N) → N ≡ over M x
-    over_is N t back itself other = same_rising (Earlier at) (λ y z. strict (at y) (at z)) N (over M x) t.rising over_are.rising
+    over_is N t back itself other = same_rising (Earlier at) (λ y z. strict (at y) (at z)) N (over M x) t.rising (AreAt.rising (put_are (outside M (at x)) rest x ok))
         (λ y i. ⊎_elim (λ e. subst (λ (z : X). In z (over M x)) (sym e) over_itself) (λ u. over_other y u.0 u.1) (back y i))
         (λ y i. ⊎_elim (λ e. subst (λ (z : X). In z N) (sym e) itself) (λ u. other y u.0 u.1) (over_back y i))
 
@@ -150,7 +123,7 @@ module _ {X : Type 0} (at : X → Block) where
 
       pub over_halves : emptied ≡ over M x
       over_halves = over_is emptied (outside_are (outside (put at M x) (left (at x))) low (right (at x)) okr) back
-          (kept x (put_itself at M x) (not_in_left (at x) ok h) (not_in_right (at x) ok h))
+          (kept x (put_itself at M x) (not_in_longer (at x) (left (at x)) ok okl (omega arith)) (not_in_longer (at x) (right (at x)) ok okr (omega arith)))
           (λ y i out. kept y (put_other at M x y i (λ e. out (inside_itself (at y) (at x) e)))
           (λ l. out (λ z k. left_inside (at x) ok h z (l z k)))
           (λ l. out (λ z k. right_inside (at x) ok h z (l z k))))
@@ -173,29 +146,13 @@ networks_placed T t = record { blocks = stored_block T t; rising = Rising-from_p
 pub leaf_overwritten : (T : List Stored) → IsStoredTable T → (s : Stored) → IsBlock s.block → (S : List Stored) → S ≡ put Stored.block T s → IsLeaf S s.block → S ≡ over Stored.block T s
 leaf_overwritten T t s ok S e leaf = e ∙ over_leaf Stored.block T (networks_placed T t) s ok (λ y i l. leaf y (Contains-from_In S y (subst (In y) (sym e) i)) l)
 
--- a host has room for nothing
-pub host_is_leaf : (T : List Stored) → IsStoredTable T → (b : Block) → IsBlock b → free_bits b ≡ 0 → IsLeaf T b
-host_is_leaf T t b ok h s c l = l.1 (inside_itself b s.block (sym (alone b s.block ok (stored_block T t s (In-from_Contains T s c)) h l.0)))
-
 -- a network with another inside is no host
 pub room_inside : (T : List Stored) → IsStoredTable T → (b : Block) → IsBlock b → (leaf : Bool) → IsTrue leaf ↔ IsLeaf T b → leaf ≡ false → 0 < free_bits b
-room_inside T t b ok leaf h e = by (nat_lt 0 (free_bits b)) refl
-  where
-    by : (s : Bool) → nat_lt 0 (free_bits b) ≡ s → 0 < free_bits b
-    by true f = grind (arith, nat_tests)
-    by false f = absurd (let z = sym e ∙ h.1 (host_is_leaf T t b ok (grind (arith, nat_tests))) in cc)
+room_inside T t b ok leaf h e = ⊎_elim (λ l. l) (λ n. absurd (let z = sym e ∙ h.1 (λ s c l. l.1 (alone b s.block (omega (arith, n)) l.0)) in cc)) (cases_lt 0 (free_bits b))
 
 -- a part of a table of networks is one
 pub outside_is_stored : (T : List Stored) → IsStoredTable T → (n : Block) → IsStoredTable (networks_outside T n)
-outside_is_stored T t n = record {
-  blocks = All-from_In (λ s. IsBlock s.block) (networks_outside T n) (λ s i. stored_block T t s (member s i));
-  some = All-from_In (λ s. s.choices ≡ [] → ⊥) (networks_outside T n) (λ s i. stored_some T t s (member s i));
-  choices = All-from_In (λ s. AreChoices s.choices) (networks_outside T n) (λ s i. stored_choices T t s (member s i));
-  ascending = pairs_from_Rising (Earlier Stored.block) (networks_outside T n) (Rising-kept (Earlier Stored.block) (λ s. not (is_inside s.block n)) T (Rising-from_pairs (Earlier Stored.block) T t.ascending));
-}
-  where
-    member : (s : Stored) → In s (networks_outside T n) → In s T
-    member s i = (In-from_filter (λ s. not (is_inside s.block n)) T s i).0
+outside_is_stored T t n = stored_kept T t (λ s. not (is_inside s.block n))
 
 pub routes_overwritten : (T : List Stored) (b : Block) (c : Choice) → routes_of (overwritten_by T b c) ≡ overwritten (routes_of T) (record { block = b; hop = c.hop; pref = c.pref })
 routes_overwritten T b c =
@@ -204,34 +161,23 @@ routes_overwritten T b c =
 
 module _ (M : List Route) (m : IsTable M) (r : Route) (ok : IsBlock r.block) where
   pub outside_is_table : IsTable (without_inside M r.block)
-  outside_is_table = table_of (without_inside M r.block)
-      (λ s i. sound M m s (In-from_filter (λ s. not (is_inside s.block r.block)) M s i).0)
-      (Rising-kept Sooner (λ s. not (is_inside s.block r.block)) M (rising M m))
+  outside_is_table = table_kept (λ s. not (is_inside s.block r.block)) M m
 
-  module _ (hop : IsHop r.hop) where
-    pub over_is_table : IsTable (overwritten M r)
-    over_is_table = added_is_table (without_inside M r.block) outside_is_table r ok hop
+  pub over_is_table : IsHop r.hop → IsTable (overwritten M r)
+  over_is_table = added_is_table (without_inside M r.block) outside_is_table r ok
 
-    pub over_hops : (x : Address) → IsAddress x → hop_at (overwritten M r) x ≡ cond (has_address r.block x) (number_of r.hop) (hop_at M x)
-    over_hops x a = go (has_address r.block x) refl
-      where
-        go : (b : Bool) → has_address r.block x ≡ b → hop_at (overwritten M r) x ≡ cond b (number_of r.hop) (hop_at M x)
-        go true e =
-            let h = has_from_test r.block x e in
-            ap match_number (match_is (overwritten M r) over_is_table x a r (over_itself Route.block M (routes_placed M m) r ok) h (λ u i k.
-            ⊎_elim (λ f. let l : Block.len u.block ≡ Block.len r.block = ap (λ (s : Route). Block.len s.block) f in omega arith)
-            (λ t. ⊎_elim (λ l. (numbers_from_inside r.block u.block ok (block_in M m u t.0) l).long) (λ l. absurd (t.1 l)) (nested r.block u.block x ok (block_in M m u t.0) h k))
-            (over_back Route.block M (routes_placed M m) r ok u i)))
-        go false e = by (match_of M (host x)) refl (λ h. let f = test_from_has r.block x h in cc)
-          where
-            by : (o : Option Route) → match_of M (host x) ≡ o → (HasAddress r.block x → ⊥) → hop_at (overwritten M r) x ≡ hop_at M x
-            by None q out =
-                ap match_number (no_matches (overwritten M r) M over_is_table m x a q (λ s i h. ⊎_elim (λ f. absurd (out (subst (λ (t : Route). HasAddress t.block x) f h))) (λ t. (s, t.0, h)) (over_back Route.block M (routes_placed M m) r ok s i)))
-                ∙ sym (ap match_number q)
-            by (Some s) q out =
-                let k = match_meets M m (host x) (host_is_block x a) s q in
-                let i = In-from_Contains M s k.member in
-                let h = k.holds x (has_host x) in
-                ap match_number (match_is (overwritten M r) over_is_table x a s (over_other Route.block M (routes_placed M m) r ok s i (λ l. out (l x h))) h (λ u j w.
-                ⊎_elim (λ f. absurd (out (subst (λ (t : Route). HasAddress t.block x) f w))) (λ t. k.longest u (Contains-from_In M u t.0) (host_inside x u.block w)) (over_back Route.block M (routes_placed M m) r ok u j)))
-                ∙ sym (ap match_number q)
+  -- without the routes inside, the addresses outside have the match that they had
+  pub outside_match : (x : Address) → IsAddress x → has_address r.block x ≡ false → match_of (without_inside M r.block) (host x) ≡ match_of M (host x)
+  outside_match x a e = ap longest (filter_again (λ s. not (is_inside s.block r.block)) (λ s. is_inside (host x) s.block) M (λ s i f. not_from (is_inside s.block r.block) (λ g.
+      let t = test_from_has r.block x (inside_from_test s.block r.block (block_in M m s i) ok g x (held_from_test x a s (block_in M m s i) f)) in cc)))
+
+  pub over_hops : IsHop r.hop → (x : Address) → IsAddress x → hop_at (overwritten M r) x ≡ cond (has_address r.block x) (number_of r.hop) (hop_at M x)
+  over_hops hop x a = cond_both (has_address r.block x) (number_of r.hop) (hop_at M x) (λ o. hop_at (overwritten M r) x ≡ o)
+      (λ e. ap match_number (governed_match (overwritten M r) (over_is_table hop) r.block ok x a (record {
+        inside = has_from_test r.block x e;
+        free = λ u c l k. ⊎_elim (λ f. l.1 (inside_itself r.block u.block (ap Route.block (sym f)))) (λ t. t.1 l.0) (over_back Route.block M (routes_placed M m) r ok u (In-from_Contains (overwritten M r) u c));
+      }) ∙ match_of_own (overwritten M r) (over_is_table hop) r (over_itself Route.block M (routes_placed M m) r ok)))
+      (λ e. ap match_number (match_after_add (without_inside M r.block) r (host x) outside_is_table (over_is_table hop) (host_is_block x a)
+      ∙ cond-false (is_inside (host x) r.block) (Some (longer r (match_of (without_inside M r.block) (host x)))) (match_of (without_inside M r.block) (host x))
+      (false_from_ne_true (is_inside (host x) r.block) (λ f. let t = test_from_has r.block x (held_from_test x a r ok f) in cc))
+      ∙ outside_match x a e))

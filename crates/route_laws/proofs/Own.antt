@@ -1,6 +1,6 @@
 -- The blocks of one number in a flat list.
-use Rattle.std.proofs.Common.{◌≡◌, ℕ, ◌==◌, Bool, true, List, filter, Option, Some, sym, subst, arith}
-use Rattle.std.proofs.lemmas.Bool.Decides.{nat_tests}
+use Rattle.std.proofs.Common.{◌≡◌, ℕ, ◌==◌, Bool, true, List, filter, Option, Some, refl, sym, subst}
+use Rattle.std.proofs.lemmas.Bool.{eq-eqb, eqb-true}
 use Rattle.ipnet_addr.specs.Addresses.{Address}
 use Rattle.ipnet_blocks.specs.Blocks.{Block, IsBefore}
 use Rattle.ipnet_blocks.specs.Maximal.{IsMaximalBlock, IsMaximal}
@@ -16,20 +16,14 @@ own_is_maximal h ps k f = record {
     (λ c.
         let t = In-map_back b (filter test ps) (In-from_Contains (blocks_of (filter test ps)) b c) in
         let s = In-from_filter test ps t.0 t.1 in
-        let e : Piece.number t.0 ≡ k = number_is (Piece.number t.0) s.1 in
+        let e : Piece.number t.0 ≡ k = eqb-true (Piece.number t.0) k s.1 in
         let m = (f.exact t.0).0 (Contains-from_In ps t.0 s.0) in
         subst (λ (a : Block). IsMaximalBlock (λ x. h x ≡ Some k) a) (sym t.2) (subst (λ (n : ℕ). IsMaximalBlock (λ x. h x ≡ Some n) (Piece.block t.0)) e m)),
     (λ m.
         let p : Piece = record { block = b; number = k } in
-        Contains-from_In (blocks_of (filter test ps)) b (In-map p (filter test ps) (In-filter test ps p (In-from_Contains ps p ((f.exact p).1 m)) (itself k)))),
+        Contains-from_In (blocks_of (filter test ps)) b (In-map p (filter test ps) (In-filter test ps p (In-from_Contains ps p ((f.exact p).1 m)) (eq-eqb k k refl)))),
   );
 }
   where
     test : Piece → Bool
     test p = p.number == k
-
-    number_is : (n : ℕ) → (n == k) ≡ true → n ≡ k
-    number_is n e = grind (arith, nat_tests, e)
-
-    itself : (n : ℕ) → (n == n) ≡ true
-    itself n = grind (arith, nat_tests)

@@ -1,9 +1,8 @@
 -- The pages of a table are its routes from a network on.
-use Rattle.std.proofs.Common.{◌≡◌, ℕ, zero, suc, ◌+◌, ◌<◌, ◌≤◌, inl, inr, ⊎_elim, Bool, true, false, not, ◌&&◌, List, [], ◌∷◌, ◌++◌, length, take, drop, refl, sym, ap, ◌∙◌, subst, arith}
+use Rattle.std.proofs.Common.{◌≡◌, ℕ, zero, suc, ◌+◌, ◌<◌, ◌≤◌, inl, inr, ⊎_elim, not, ◌&&◌, List, [], ◌∷◌, ◌++◌, length, take, drop, refl, sym, ap, ◌∙◌, subst, arith}
 use Rattle.std.proofs.lemmas.List.{length-drop, take-append-drop}
 use Rattle.std.specs.List.{flat_map}
 use Rattle.std.proofs.lemmas.Bool.{and_parts, and_from}
-use Rattle.route_laws.proofs.Overwritten.{not_cases}
 use Rattle.ipnet_addr.proofs.Basics.{filtered_length}
 use Rattle.ipnet_addr.specs.Addresses.{Family, same_family}
 use Rattle.ipnet_addr.proofs.Members.{In, In-right, In-cases}
@@ -12,21 +11,19 @@ use Rattle.ipnet_blocks.specs.Blocks.{Block, is_before}
 use Rattle.ipnet_addr.proofs.Families.{family_from_test, test_from_family}
 use Rattle.ipnet_blocks.proofs.BlockLaws.{strict, transitive}
 use Rattle.ipnet_blocks.proofs.BlockTests.{before_from_test, test_from_before}
+use Rattle.ipnet_blocks.proofs.Lists.{rising_cross}
 use Rattle.route_choices.proofs.Kept.{In-from_filter, In-filter, Rising-kept}
 use Rattle.route_laws.specs.Onwards.{routes_from, routes_after}
 use Rattle.route_laws.specs.Pages.{last_of, pages_up_to, first_page, pages}
 use Rattle.route_laws.specs.Tables.{Route, IsTable}
 use Rattle.route_laws.proofs.Updates.{Sooner}
+use Rattle.route_laws.proofs.Ordered.{not_cases, not_from, before_apart}
 
 -- ---- the parts of an ascending list
 
 right_rises : (xs ys : List Route) → Rising Sooner (xs ++ ys) → Rising Sooner ys
 right_rises [] ys h = h
 right_rises (x ∷ xs) ys h = right_rises xs ys h.1
-
-left_sooner : (xs ys : List Route) → Rising Sooner (xs ++ ys) → (x y : Route) → In x xs → In y ys → Sooner x y
-left_sooner [] ys h x y i j = absurd i
-left_sooner (z ∷ xs) ys h x y i j = ⊎_elim (λ e. subst (λ (u : Route). Sooner u y) (sym e) (h.0 y (In-right y xs ys j))) (λ k. left_sooner xs ys h.1 x y k j) i
 
 -- ---- the routes of a family from somewhere on
 
@@ -49,21 +46,16 @@ module _ (M : List Route) (m : IsTable M) (f : Family) where
     onwards = λ r s i j g l.
         let t = In-from_filter (λ r. same_family r.block.family n.family && not (is_before r.block n)) M r i in
         In-filter (λ r. same_family r.block.family n.family && not (is_before r.block n)) M s j
-        (passes (same_family s.block.family n.family) (is_before s.block n) (test_from_family s.block.family n.family (g ∙ sym e))
-        (λ b. let c = test_from_before r.block n (transitive r.block s.block n l (before_from_test s.block n b)) in not_cases (is_before r.block n) (and_parts _ _ t.1).1 c));
+        (and_from (same_family s.block.family n.family) (not (is_before s.block n)) (test_from_family s.block.family n.family (g ∙ sym e))
+        (not_from (is_before s.block n) (λ b. not_cases (is_before r.block n) (and_parts _ _ t.1).1 (test_from_before r.block n (transitive r.block s.block n l (before_from_test s.block n b))))));
   }
-    where
-      passes : (a b : Bool) → a ≡ true → (b ≡ true → ⊥) → (a && not b) ≡ true
-      passes true true e g = absurd (g refl)
-      passes true false e g = refl
-      passes false b e g = absurd (cc)
 
   right_is_onwards : (xs ys : List Route) → IsOnwards M f (xs ++ ys) → IsOnwards M f ys
   right_is_onwards xs ys o = record {
     rising = right_rises xs ys o.rising;
     member = λ s i. o.member s (In-right s xs ys i);
     onwards = λ r s i j g l. ⊎_elim
-        (λ k. absurd (strict s.block r.block (left_sooner xs ys o.rising s r k i) l))
+        (λ k. absurd (strict s.block r.block (rising_cross Sooner xs ys o.rising s r k i) l))
         (λ k. k)
         (In-cases s xs ys (o.onwards r s (In-right r xs ys i) j g l));
   }
@@ -77,8 +69,8 @@ module _ (M : List Route) (m : IsTable M) (f : Family) where
       let q = and_parts _ _ t.1 in
       let l = before_from_test r.block s.block q.1 in
       ⊎_elim
-      (λ k. absurd (strict s.block r.block (left_sooner xs (r ∷ ys) o.rising s r k (inl refl)) l))
-      (λ k. ⊎_elim (λ e. absurd (apart s r e l)) (λ j. j) k)
+      (λ k. absurd (strict s.block r.block (rising_cross Sooner xs (r ∷ ys) o.rising s r k (inl refl)) l))
+      (λ k. ⊎_elim (λ e. absurd (before_apart r.block s.block l (ap Route.block (sym e)))) (λ j. j) k)
       (In-cases s xs (r ∷ ys) (o.onwards r s here t.0 (family_from_test s.block.family r.block.family q.0 ∙ (o.member r here).1) l)))
       (λ s i.
       let t = o.member s (In-right s xs (r ∷ ys) (inr i)) in
@@ -90,9 +82,6 @@ module _ (M : List Route) (m : IsTable M) (f : Family) where
 
       here : In r (xs ++ r ∷ ys)
       here = In-right r xs (r ∷ ys) (inl refl)
-
-      apart : (s r : Route) → s ≡ r → Sooner r s → ⊥
-      apart s r e l = strict r.block s.block l (subst (λ (t : Route). Sooner s t) e (subst (λ (t : Route). Sooner t s) (sym e) l))
 
 -- ---- pages
 

@@ -1,7 +1,7 @@
 -- The operations of one change: its block is installed, unless it is handed down or held already, and then what is stored
 -- inside is removed.
 use Rattle.std.proofs.Common.{◌≡◌, ⊎_elim, Bool, true, false, not, ◌&&◌, cond, List, [], ◌∷◌, ◌++◌, filter, refl, sym, ap, ◌∙◌, subst}
-use Rattle.std.proofs.lemmas.Bool.{and_parts}
+use Rattle.std.proofs.lemmas.Bool.{and_parts, and_from, true_from_ne_false}
 use Rattle.std.proofs.lemmas.List.Elements.{filter-append}
 use mathlib.Core.List.{reverse}
 use Rattle.ipnet_addr.proofs.Basics.{In-from_list_any, list_any-from_In}
@@ -18,7 +18,8 @@ use Rattle.route_laws.specs.Tables.{Route, IsTable, is_stored, match_number, mat
 use Rattle.route_laws.proofs.Between.{route_itself}
 use Rattle.route_laws.proofs.Insides.{filter_again}
 use Rattle.route_laws.proofs.Matches.{block_in, bools_same, inside_from_test, test_from_inside}
-use Rattle.route_laws.proofs.Overwritten.{not_cases, not_from, outside_back, outside_other, over_back, over_itself, over_other, routes_placed}
+use Rattle.route_laws.proofs.Overwritten.{outside_back, outside_other, over_back, over_itself, over_other, routes_placed}
+use Rattle.route_laws.proofs.Ordered.{not_cases, not_from}
 
 -- the routes strictly inside are those inside but that of the block
 pub inside_but_one : (M : List Route) (b : Block) → strictly_inside M b ≡ filter (λ s. not (same_block s.block b)) (routes_inside M b)
@@ -47,17 +48,13 @@ module _ (M : List Route) where
     kept_missing : (p : Route → Bool) → missing M (filter p out) ≡ []
     kept_missing p = none_kept (λ s. not (is_held M s)) (filter p out) (λ s i. held_member s (out_back s (In-from_filter p out s i).0).0)
 
-    bare_missing : missing M out ≡ []
-    bare_missing = none_kept (λ s. not (is_held M s)) out (λ s i. held_member s (out_back s i).0)
-
-    over_missing : missing M over ≡ cond (is_held M r) [] (r ∷ [])
-    over_missing =
-        filter-append (λ s. not (is_held M s)) (filter (λ s. is_before s.block r.block) out) (r ∷ filter (λ s. is_before r.block s.block) out)
+    over_missing : reverse (missing M over) ≡ cond (is_held M r) [] (r ∷ [])
+    over_missing = ap reverse (filter-append (λ s. not (is_held M s)) (filter (λ s. is_before s.block r.block) out) (r ∷ filter (λ s. is_before r.block s.block) out)
         ∙ ap (λ K. K ++ missing M (r ∷ filter (λ s. is_before r.block s.block) out)) (kept_missing (λ s. is_before s.block r.block))
-        ∙ ap (λ K. cond (not (is_held M r)) (r ∷ K) K) (kept_missing (λ s. is_before r.block s.block))
+        ∙ ap (λ K. cond (not (is_held M r)) (r ∷ K) K) (kept_missing (λ s. is_before r.block s.block)))
         ∙ go (is_held M r)
       where
-        go : (b : Bool) → cond (not b) (r ∷ []) [] ≡ cond b [] (r ∷ [])
+        go : (b : Bool) → reverse (cond (not b) (r ∷ []) []) ≡ cond b [] (r ∷ [])
         go true = refl
         go false = refl
 
@@ -74,19 +71,17 @@ module _ (M : List Route) where
 
     bare_surplus : surplus M out ≡ routes_inside M r.block
     bare_surplus = same_kept (λ s. not (is_stored out s.block)) (λ s. is_inside s.block r.block) M (λ s i. bools_same (not (is_stored out s.block)) (is_inside s.block r.block)
-        (λ e. inside s i e (is_inside s.block r.block) refl)
+        (λ e. true_from_ne_false (is_inside s.block r.block) (λ f. not_cases (is_stored out s.block) e (stored out s s (outside_other Route.block M (routes_placed M m) r.block ok s i (λ h. let g = inside_test s i h in cc)) refl)))
         (λ e. not_from (is_stored out s.block) (λ f.
         let t = In-from_list_any (λ u. same_block u.block s.block) out f in
         (out_back t.0 t.1).1 (subst (λ (b : Block). IsInside b r.block) (sym (same_from_test (Route.block t.0) s.block t.2)) (inside_from s i e)))))
-      where
-        inside : (s : Route) → In s M → not (is_stored out s.block) ≡ true → (c : Bool) → is_inside s.block r.block ≡ c → c ≡ true
-        inside s i e true f = refl
-        inside s i e false f = absurd (not_cases (is_stored out s.block) e (stored out s s (outside_other Route.block M (routes_placed M m) r.block ok s i (λ h. let g = inside_test s i h in cc)) refl))
 
     over_surplus : surplus M over ≡ strictly_inside M r.block
     over_surplus = same_kept (λ s. not (is_stored over s.block)) (λ s. is_inside s.block r.block && not (same_block s.block r.block)) M (λ s i.
         bools_same (not (is_stored over s.block)) (is_inside s.block r.block && not (same_block s.block r.block))
-        (λ e. strictly s i e (is_inside s.block r.block) (same_block s.block r.block) refl refl)
+        (λ e. and_from (is_inside s.block r.block) (not (same_block s.block r.block))
+        (true_from_ne_false (is_inside s.block r.block) (λ f. not_cases (is_stored over s.block) e (stored over s s (over_other Route.block M (routes_placed M m) r ok s i (λ h. let k = inside_test s i h in cc)) refl)))
+        (not_from (same_block s.block r.block) (λ g. not_cases (is_stored over s.block) e (stored over s r (over_itself Route.block M (routes_placed M m) r ok) (sym (same_from_test s.block r.block g))))))
         (λ e. let p = and_parts (is_inside s.block r.block) (not (same_block s.block r.block)) e in not_from (is_stored over s.block) (λ f.
         let t = In-from_list_any (λ u. same_block u.block s.block) over f in
         let q = same_from_test (Route.block t.0) s.block t.2 in
@@ -94,24 +89,12 @@ module _ (M : List Route) where
         (λ g. not_cases (same_block s.block r.block) p.1 (test_from_same s.block r.block (sym q ∙ ap Route.block g)))
         (λ u. u.1 (subst (λ (b : Block). IsInside b r.block) (sym q) (inside_from s i p.0)))
         (over_back Route.block M (routes_placed M m) r ok t.0 t.1))))
-      where
-        strictly : (s : Route) → In s M → not (is_stored over s.block) ≡ true → (c d : Bool) → is_inside s.block r.block ≡ c → same_block s.block r.block ≡ d → (c && not d) ≡ true
-        strictly s i e true true f g = absurd (not_cases (is_stored over s.block) e (stored over s r (over_itself Route.block M (routes_placed M m) r ok) (sym (same_from_test s.block r.block g))))
-        strictly s i e true false f g = refl
-        strictly s i e false d f g = absurd (not_cases (is_stored over s.block) e (stored over s s (over_other Route.block M (routes_placed M m) r ok s i (λ h. let k = inside_test s i h in cc)) refl))
 
     -- ---- both
 
     pub repaint_operations : between M (painted M r) ≡ cond (same_number (match_number (match_of out r.block)) (number_of r.hop)) (removes (routes_inside M r.block)) (installs (cond (is_held M r) [] (r ∷ [])) ++ removes (strictly_inside M r.block))
     repaint_operations = go (same_number (match_number (match_of out r.block)) (number_of r.hop))
       where
-        one : (b : Bool) → reverse (cond b [] (r ∷ [])) ≡ cond b [] (r ∷ [])
-        one true = refl
-        one false = refl
-
         go : (c : Bool) → between M (cond c out over) ≡ cond c (removes (routes_inside M r.block)) (installs (cond (is_held M r) [] (r ∷ [])) ++ removes (strictly_inside M r.block))
-        go true = ap (λ K. installs (reverse K) ++ removes (surplus M out)) bare_missing ∙ ap removes bare_surplus
-        go false =
-            ap (λ K. installs (reverse K) ++ removes (surplus M over)) over_missing
-            ∙ ap (λ K. installs K ++ removes (surplus M over)) (one (is_held M r))
-            ∙ ap (λ K. installs (cond (is_held M r) [] (r ∷ [])) ++ removes K) over_surplus
+        go true = ap (λ K. installs (reverse K) ++ removes (surplus M out)) (none_kept (λ s. not (is_held M s)) out (λ s i. held_member s (out_back s i).0)) ∙ ap removes bare_surplus
+        go false = ap (λ K. installs K ++ removes (surplus M over)) over_missing ∙ ap (λ K. installs (cond (is_held M r) [] (r ∷ [])) ++ removes K) over_surplus

@@ -1,5 +1,6 @@
 -- An installer's table has the hops that were told, and its operations make it.
 use Rattle.std.proofs.Common.{◌≡◌, ℕ, inl, inr, ⊎_elim, arith, Bool, true, false, cond, List, [], ◌∷◌, ◌++◌, take, Option, None, refl, sym, ap, ◌∙◌, subst}
+use Rattle.std.proofs.lemmas.Bool.{cond_both, cond-true}
 use Rattle.ipnet_addr.specs.Addresses.{Address, IsAddress}
 use Rattle.route_laws.specs.LeastTables.{IsLeast}
 use Rattle.route_laws.specs.Tables.{Route, IsTable, hop_at}
@@ -43,18 +44,10 @@ holds_told h s rs g c =
     let t = painted_all_is_table s.table rs g.table k in
     record {
       table = t;
-      installed = kept t s.kept;
-      same = same s.kept;
+      installed = cond_both s.kept (painted_all s.table rs) s.installed IsTable (λ e. t) (λ e. g.installed);
+      same = cond-true s.kept (painted_all s.table rs) s.installed;
       hops = λ x a. batch_hops s.table rs g.table k x a ∙ ap (λ o. hop_over o rs x) (g.hops x a);
     }
-  where
-    kept : IsTable (painted_all s.table rs) → (b : Bool) → IsTable (cond b (painted_all s.table rs) s.installed)
-    kept t true = t
-    kept t false = g.installed
-
-    same : (b : Bool) → b ≡ true → cond b (painted_all s.table rs) s.installed ≡ painted_all s.table rs
-    same true e = refl
-    same false e = absurd (cc)
 
 holds_sync : (h : Address → Option ℕ) (s : Installer) (rs N : List Route) → Holds h s → MayCome s (Sync rs N) → Holds (λ x. hop_over (h x) rs x) (after_event s (Sync rs N))
 holds_sync h s rs N g m =
@@ -102,11 +95,7 @@ made h s (Sync rs N) g m = between_reaches s.installed N g.installed m.1.hops.ta
 
 hitless : (h : Address → Option ℕ) (s : Installer) (e : Event) → Holds h s → MayCome s e → IsApart e → IsHitless s.installed (gives s e)
 hitless h s (Have r) g m p = nothing_turns s.installed
-hitless h s (Told rs) g m p = go s.kept
-  where
-    go : (b : Bool) → IsHitless s.installed (cond b (batch s.installed rs) [])
-    go true = batch_hitless s.installed rs g.installed m p
-    go false = nothing_turns s.installed
+hitless h s (Told rs) g m p = cond_both s.kept (batch s.installed rs) [] (IsHitless s.installed) (λ e. batch_hitless s.installed rs g.installed m p) (λ e. nothing_turns s.installed)
 hitless h s (Sync rs N) g m p = between_hitless s.installed N g.installed m.1.hops.table
 
 pub gives_what_it_says : (es : List Event) (e : Event) → MayAllCome start (es ++ e ∷ []) → IsMade (after_events start es) e

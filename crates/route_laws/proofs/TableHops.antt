@@ -1,13 +1,14 @@
 -- The hops of a table are numbers that a route can have.
-use Rattle.std.proofs.Common.{◌≡◌, ℕ, ◌<◌, ◌^◌, Option, Some, None, IfSome, refl, sym, subst}
+use Rattle.std.proofs.Common.{◌≡◌, ℕ, ◌<◌, ◌^◌, Option, Some, None, IfSome, refl, subst}
 use Rattle.ipnet_addr.proofs.Ascending.{In-from_All, In-from_Contains}
+use Rattle.ipnet_addr.proofs.Members.{In}
 use Rattle.ipnet_blocks.specs.Blocks.{host}
 use Rattle.ipnet_blocks.proofs.Maximals.{host_is_block}
 use Rattle.route_choices.specs.Hops.{IsHop, number_of}
 use Rattle.route_choices.specs.declared.hop.Hop.{Hop}
 use Rattle.route_choices.specs.declared.hop.Hop.TheVariants.{Number, Drop}
 use Rattle.route_laws.specs.Fewest.{GivenHops, HopsOfTable}
-use Rattle.route_laws.specs.Tables.{Route, match_of, match_number}
+use Rattle.route_laws.specs.Tables.{IsMatch, Route, match_of, match_number}
 use Rattle.route_laws.proofs.Matches.{match_meets}
 
 abbrev Small : Option ℕ → Type 0
@@ -18,13 +19,11 @@ small_hop (Number k) h = h
 small_hop Drop h = tt
 
 pub hops_of_table : HopsOfTable
-hops_of_table M table x a = go (match_of M (host x)) refl
+hops_of_table M table x a = go (match_of M (host x)) (λ r e. In-from_Contains M r (IsMatch.member (match_meets M table (host x) (host_is_block x a) r e)))
   where
-    go : (o : Option Route) → match_of M (host x) ≡ o → Small (match_number (match_of M (host x)))
-    go None e = subst (λ o. Small (match_number o)) (sym e) tt
-    go (Some r) e =
-        let m = match_meets M table (host x) (host_is_block x a) r e in
-        subst (λ o. Small (match_number o)) (sym e) (small_hop r.hop (In-from_All (λ (s : Route). IsHop s.hop) M table.hops r (In-from_Contains M r m.member)))
+    go : (o : Option Route) → ((r : Route) → o ≡ Some r → In r M) → Small (match_number o)
+    go None f = tt
+    go (Some r) f = small_hop r.hop (In-from_All (λ (s : Route). IsHop s.hop) M table.hops r (f r refl))
 
 pub given_hops : GivenHops
 given_hops h N given x a = subst Small (given.same x a) (hops_of_table N given.table x a)

@@ -6,7 +6,8 @@ use Rattle.least_table.specs.InnerSteps.{Leaf, step_best}
 use Rattle.least_table.specs.InnerPlans.{steps_of}
 use Rattle.least_table.specs.InnerPlans as plans
 use Rattle.least_table.proofs.Builds.{in_common, deeper, skip_made, fork_made}
-use Rattle.least_table.proofs.Cuts.{long_by_first, plan_empty, plan_one, IsAscending-low, IsAscending-high}
+use Rattle.least_table.proofs.Cuts.{long_by_first, plan_empty, plan_one}
+use Rattle.least_table.proofs.Shares.{IsAscending-low, IsAscending-high}
 use Rattle.least_table.proofs.Tops.{is_within, read_top}
 use Rattle.least_table.proofs.Packed.{grown_more}
 use Rattle.least_table.proofs.Stores.{if_ok_map}

@@ -1,11 +1,12 @@
+use Rattle.std.proofs.Common.{◌∙◌}
 use Rattle.ipnet_blocks.specs.Maximal.{maximal_of}
 use Rattle.ipnet_blocks.proofs.Maximals.{maximal_is_shortest, shortest_is_maximal, maximal_is_unique}
 use Rattle.route_laws.specs.Changes.{changed}
-use Rattle.route_laws.specs.Tables.{Changed}
+use Rattle.route_laws.specs.Tables.{Changed, with_route, without_block}
 use Rattle.route_laws.proofs.laws.changes.Goals as goal
 use Rattle.route_laws.proofs.Updates.{added_is_table, left_is_table}
 use Rattle.route_laws.proofs.Changes.{changed_is_maximal}
-use Rattle.route_laws.proofs.OneHop.{added_lines, left_lines}
+use Rattle.route_laws.proofs.Alterations.{added_change, added_number, left_change, lines_by}
 
 pub returns : goal.returns
 returns c = record {
@@ -14,6 +15,6 @@ returns c = record {
   shortest = λ M N. maximal_is_shortest (Changed M N) (maximal_of (changed M N)) (changed_is_maximal M N);
   only = λ M N bs u up few. shortest_is_maximal (Changed M N) (maximal_of (changed M N)) bs (changed_is_maximal M N) u up few;
   found = λ M N bs m. maximal_is_unique (Changed M N) (maximal_of (changed M N)) bs (changed_is_maximal M N) m;
-  added = added_lines;
-  left = left_lines;
+  added = λ M r m ok hop b k x h. lines_by M (with_route M r) r.block m ok (added_change M m r ok hop) b k x h ∙ added_number M m r ok hop;
+  left = λ M n m ok. lines_by M (without_block M n) n m ok (left_change M m n ok);
 }

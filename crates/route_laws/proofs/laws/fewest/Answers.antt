@@ -1,7 +1,7 @@
 use Rattle.route_laws.proofs.Families.{least_is_fewest}
-use Rattle.route_laws.proofs.Fewest.{fewest_of_host, fewest_by_halves}
+use Rattle.route_laws.proofs.Fewest.{fewest_of_host, from_lesser, to_lesser}
 use Rattle.route_laws.proofs.TableHops.{given_hops, hops_of_table}
 use Rattle.route_laws.proofs.laws.fewest.Goals as goal
 
 pub returns : goal.returns
-returns c = record { host = fewest_of_host; halves = fewest_by_halves; least = least_is_fewest; hops = hops_of_table; given = given_hops }
+returns c = record { host = fewest_of_host; halves = λ h k b ok room f g l r s n. (to_lesser h k b ok room f g l r s n, from_lesser h k b ok room f g l r s n); least = least_is_fewest; hops = hops_of_table; given = given_hops }

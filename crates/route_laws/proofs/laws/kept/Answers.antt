@@ -1,9 +1,10 @@
-use Rattle.route_laws.proofs.Alterations.{restored, added_apart, left_apart, added_hops_apart, left_hops_apart}
+use Rattle.route_laws.specs.Tables.{with_route, without_block}
+use Rattle.route_laws.proofs.Alterations.{added_change, hops_apart, left_change, restored, routes_apart}
 use Rattle.route_laws.proofs.laws.kept.Goals as goal
 
 pub returns : goal.returns
 returns c = record {
-  restored = restored;
-  other_after_add = λ M r m ok hop. ((λ f. added_apart M f m r ok hop), (λ x a apart. added_hops_apart M r x m ok hop a apart));
-  other_after_del = λ M n m ok. ((λ f. left_apart M f m n), (λ x a apart. left_hops_apart M n x m ok a apart));
+  restored = λ M r m ok hop. restored M r m;
+  other_after_add = λ M r m ok hop. let k = added_change M m r ok hop in (routes_apart M (with_route M r) r.block m ok k, hops_apart M (with_route M r) r.block m ok k);
+  other_after_del = λ M n m ok. let k = left_change M m n ok in (routes_apart M (without_block M n) n m ok k, hops_apart M (without_block M n) n m ok k);
 }

@@ -4,7 +4,7 @@ use Rattle.route_laws.proofs.laws.one_route.Goals as goal
 pub returns : goal.returns
 returns c = record {
   empty = empty_is_flat;
-  changed = λ b k ok fits. one_is_changed b ok k;
-  hops = λ b k x ok fits a. hops_of_one b ok k x a;
-  flat = λ b k ok fits. one_is_flat b ok k;
+  changed = λ b k ok fits. one_is_changed b ok k fits;
+  hops = λ b k x ok fits a. hops_of_one b ok k fits x a;
+  flat = λ b k ok fits. one_is_flat b ok k fits;
 }

@@ -1,6 +1,6 @@
 use Rattle.route_laws.specs.Tables.{Changed}
 use Rattle.route_laws.proofs.Batches.{batch_hops, batch_reaches, batch_hitless, changes_from, told_are_changes}
-use Rattle.route_laws.proofs.OperationCounts.{counted}
+use Rattle.route_laws.proofs.FewestOperations.{counted}
 use Rattle.route_laws.proofs.Handed.{handed_by_none, handed_by_parent}
 use Rattle.route_laws.proofs.Painted.{painted_hops, painted_is_table}
 use Rattle.route_laws.proofs.operations.batches.Goals as goal
