@@ -139,7 +139,7 @@ module _ {X : Type 0} where
   pub set_spare : {vb at : ℕ} {vs : List X} {cb : ℕ} {cs : List (Seen X)} {m : Seen X} (q : List Bool) (d : Seen X) → IsSeen vb vs cb cs m → 5 ≤ length q → IsTaken (child_of q) at cb cs → ((r : List Bool) → marked_get (Some d) r ≡ marked_get (find bits_cmp (take 5 q) (child_list cb cs)) r)
       → spare_set (child_list cb (set cs at d)) ≡ m.spares
   set_spare {vb} {at} {vs} {cb} {cs} q d s h t f =
-      set-same q (Some d) s.node (is_node vb vs cb (set cs at d) s.slots.values_below s.slots.children_below) (child_put_in q d cb cb cs (set cs at d) h s.slots.children_below (t.written d)) f ∙ s.spare
+      set-same q (Some d) s.node (is_node vb vs cb (set cs at d) s.slots.values_below s.slots.children_below) h (child_put_in q d cb cb cs (set cs at d) h s.slots.children_below (t.written d)) f ∙ s.spare
 
   pub set_height : {vb : ℕ} {vs : List X} {cb : ℕ} {cs : List (Seen X)} {m : Seen X} (at : ℕ) (d : Seen X) → IsSeen vb vs cb cs m → node_height (set cs at d) + 1 ≤ max m.levels (d.levels + 1)
   set_height {cs = cs} at d s = omega (arith, height-set cs at d, s.height)

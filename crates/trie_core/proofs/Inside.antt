@@ -1,9 +1,8 @@
 -- A map without the keys inside a prefix, and what a change of a child makes of it.
 use Rattle.std.proofs.Common.{◌≡◌, ℕ, ◌+◌, ◌-◌, ◌^◌, ◌<◌, ◌≤◌, Bool, true, false, cond, not, ◌||◌, List, [], ◌∷◌, ◌++◌, length, take, drop, get_or, set, remove, refl, sym, ap, subst, ◌∙◌, arith}
-use Rattle.std.specs.Prelude.{nat_lt, Option, Some, None}
+use Rattle.std.specs.Prelude.{Option, Some, None}
 use Rattle.std.specs.FinMap.{get, len, empty, find, get-empty, get-remove, get-retain_keys, same_map}
 use Rattle.std.specs.FinMap as map
-use Rattle.std.proofs.lemmas.Bool.Decides.{nat_tests}
 use Rattle.std.proofs.Math.ListN.{length-drop}
 use Rattle.std.proofs.lemmas.List.{nil_from_length}
 use Rattle.std.proofs.lemmas.Bool.{false_from_ne_true}
@@ -13,9 +12,9 @@ use Rattle.trie_core.specs.Nodes.{BitMap, Seen}
 use Rattle.trie_core.specs.InnerNodes.{child_map, node_map, node_height, IsNode, HasSlots}
 use Rattle.trie_core.specs.InnerCount.{all_nodes, entry_count}
 use Rattle.trie_core.specs.Inside.{outside}
-use Rattle.trie_core.proofs.Strings.{bits_total, bits_same, same, same-Decides, not_same, front, take_take}
+use Rattle.trie_core.proofs.Strings.{bits_total, bits_same, same, not_same, front, take_take, same_false}
 use Rattle.ipnet_blocks.proofs.BitStrings.{begins_take, begins-under}
-use Rattle.trie_core.proofs.Maps.{ListChanges, child_get, get-short, get-long}
+use Rattle.trie_core.proofs.Maps.{ListChanges, child_get, get-short, get-long, child_changes}
 use Rattle.trie_core.proofs.Named.{is_node, child_put_in, child_taken_out}
 use Rattle.trie_core.proofs.Taken.{IsTaken, missing}
 use Rattle.trie_core.proofs.Seen.{IsSeen, map_of, viewed, counted, has_no_child, total-set}
@@ -36,8 +35,14 @@ first_five q x h e =
 pub begins_elsewhere : (q x : List Bool) → 5 ≤ length q → same (take 5 x) (take 5 q) ≡ false → begins q x ≡ false
 begins_elsewhere q x h e = false_from_ne_true _ (λ b. not_same e (first_five q x h b))
 
-pub begins_below : (q x : List Bool) → 5 ≤ length q → 5 ≤ length x → take 5 x ≡ take 5 q → begins q x ≡ begins (drop 5 q) (drop 5 x)
-begins_below q x h l e = (λ i. begins (sym (front q h).1 i) (sym (front x l).1 i)) ∙ ap (λ b. begins (take 5 q ++ drop 5 q) (b ++ drop 5 x)) e ∙ begins-under (take 5 q) (drop 5 q) (drop 5 x)
+pub begins_below : (q r : List Bool) → 5 ≤ length q → begins q (take 5 q ++ r) ≡ begins (drop 5 q) r
+begins_below q r h = ap (λ p. begins p (take 5 q ++ r)) (sym (front q h).1) ∙ begins-under (take 5 q) (drop 5 q) r
+
+pub begins_under_first : (q r : List Bool) → 5 ≤ length q → begins (take 5 q ++ r) q ≡ begins r (drop 5 q)
+begins_under_first q r h = ap (begins (take 5 q ++ r)) (sym (front q h).1) ∙ begins-under (take 5 q) r (drop 5 q)
+
+pub off_way_there : (q s : List Bool) → 5 ≤ length s → same (take 5 s) (take 5 q) ≡ false → begins s q ≡ false
+off_way_there q s l e = begins_elsewhere s q l (same_false (take 5 q) (take 5 s) (λ p. not_same e (sym p)))
 
 -- a string begins with q where it is q, or goes on from q
 begins_split : (q x : List Bool) → begins q x ≡ (same x q || (begins (q ++ false ∷ []) x || begins (q ++ true ∷ []) x))
@@ -94,27 +99,14 @@ module _ {X : Type 0} where
 
   -- ---- the child on the way to q
 
-  long_by : (cs : List (List Bool × Seen X)) (q : List Bool) (o : Option (Seen X)) → 5 ≤ length q → child_map o ≡ outside (child_map (find bits_cmp (take 5 q) cs)) (drop 5 q) → (x : List Bool) → 5 ≤ length x → (b : Bool) → same (take 5 x) (take 5 q) ≡ b
-      → child_get (cond b o (find bits_cmp (take 5 x) cs)) (drop 5 x) ≡ cond (not (begins q x)) (child_get (find bits_cmp (take 5 x) cs) (drop 5 x)) None
-  long_by cs q o h f x l true e =
-      let n = (same-Decides _ _).0 e in
-      ap (λ m. get m (drop 5 x)) f
-      ∙ get-outside (child_map (find bits_cmp (take 5 q) cs)) (drop 5 q) (drop 5 x)
-      ∙ (λ i. cond (not (sym (begins_below q x h l n) i)) (child_get (find bits_cmp (sym n i) cs) (drop 5 x)) None)
-  long_by cs q o h f x l false e = ap (λ b. cond (not b) (child_get (find bits_cmp (take 5 x) cs) (drop 5 x)) None) (sym (begins_elsewhere q x h e))
-
-  child_outside_by : {vs : List (List Bool × X)} {cs ds : List (List Bool × Seen X)} (q : List Bool) (o : Option (Seen X)) → IsNode vs cs → IsNode vs ds → 5 ≤ length q → ListChanges cs (take 5 q) o ds
-      → child_map o ≡ outside (child_map (find bits_cmp (take 5 q) cs)) (drop 5 q) → (x : List Bool) (b : Bool) → nat_lt (length x) 5 ≡ b → get (node_map vs ds) x ≡ cond (not (begins q x)) (get (node_map vs cs) x) None
-  child_outside_by {vs} {cs} {ds} q o n k h f g x true e =
-      let l : length x < 5 = grind (arith, nat_tests) in
-      get-short k x l ∙ sym (get-short n x l) ∙ ap (λ b. cond (not b) (get (node_map vs cs) x) None) (sym (begins_longer q x (omega (arith, l, h))))
-  child_outside_by {vs} {cs} {ds} q o n k h f g x false e =
-      let l : 5 ≤ length x = grind (arith, nat_tests) in
-      get-long k x l ∙ ap (λ o. child_get o (drop 5 x)) (f (take 5 x)) ∙ long_by cs q o h g x l _ refl ∙ ap (λ o. cond (not (begins q x)) o None) (sym (get-long n x l))
-
   child_outside : {vs : List (List Bool × X)} {cs ds : List (List Bool × Seen X)} (q : List Bool) (o : Option (Seen X)) → IsNode vs cs → IsNode vs ds → 5 ≤ length q → ListChanges cs (take 5 q) o ds
       → child_map o ≡ outside (child_map (find bits_cmp (take 5 q) cs)) (drop 5 q) → node_map vs ds ≡ outside (node_map vs cs) q
-  child_outside {vs} {cs} q o n k h f g = same_by _ _ (λ x. child_outside_by q o n k h f g x (nat_lt (length x) 5) refl ∙ sym (get-outside (node_map vs cs) q x))
+  child_outside {vs} {cs} {ds} q o n k h f g = same_by _ _ (λ x.
+      child_changes child_get (λ x p. cond (not (begins q x)) p None) cs ds q o (get (node_map vs cs)) (get (node_map vs ds)) (get-long n) (get-long k) h f
+      (λ x l. get-short k x l ∙ sym (get-short n x l) ∙ ap (λ b. cond (not b) (get (node_map vs cs) x) None) (sym (begins_longer q x (omega (arith, l, h)))))
+      (λ r. ap (λ m. get m r) g ∙ get-outside (child_map (find bits_cmp (take 5 q) cs)) (drop 5 q) r ∙ ap (λ b. cond (not b) (child_get (find bits_cmp (take 5 q) cs) r) None) (sym (begins_below q r h)))
+      (λ x p l e. ap (λ b. cond (not b) p None) (begins_elsewhere q x h e)) x
+      ∙ sym (get-outside (node_map vs cs) q x))
 
   -- there is none
   pub none_inside : {vb n : ℕ} {vs : List X} {cb : ℕ} {cs : List (Seen X)} {m : Seen X} (q : List Bool) → IsSeen vb vs cb cs m → 5 ≤ length q → n ≡ child_of q → IsUnset n cb → m.entries ≡ outside m.entries q

@@ -15,15 +15,15 @@ use Rattle.trie_core.specs.InnerNodes.{node_map, IsNode, HasSlots, AreBelow}
 use Rattle.trie_core.specs.InnerCount.{spare_count, marked, spare_set}
 use Rattle.trie_core.specs.Inside.{outside}
 use Rattle.trie_core.specs.Ways.{IsIdle, LeadsOff, IsLeft, IsCut}
-use Rattle.trie_core.proofs.Strings.{bits_total, bits_same, same, same-Decides, same-refl, same_false, not_same, front, take_first, append_none}
+use Rattle.trie_core.proofs.Strings.{bits_total, bits_same, same, same-Decides, same-refl, front, take_first, append_none}
 use Rattle.ipnet_blocks.proofs.BitStrings.{begins_on, begins_take, begins-under}
-use Rattle.trie_core.proofs.Maps.{ListChanges, drop_first, child_get, get-long}
+use Rattle.trie_core.proofs.Maps.{ListChanges, drop_first, child_get, get-long, child_changes, each_string, under_long, found_changed}
 use Rattle.trie_core.proofs.Marks.{marked_get, marked-other, marked-root, root_if, set-short, set-long, set-changed}
 use Rattle.trie_core.proofs.Named.{is_node, child_put_in, child_taken_out, child_found}
 use Rattle.trie_core.proofs.Taken.{IsTaken, missing}
 use Rattle.trie_core.proofs.Seen.{IsSeen, map_of}
 use Rattle.trie_core.proofs.Changes.{was_found, set_removed}
-use Rattle.trie_core.proofs.Inside.{begins_elsewhere, first_five, get-outside, outside_absent}
+use Rattle.trie_core.proofs.Inside.{begins_elsewhere, first_five, get-outside, outside_absent, off_way_there, begins_under_first}
 
 -- nothing is found in a set without strings
 pub none_found : {o : Option (Unit {0})} → o ≡ None → is_some o ≡ true → ⊥
@@ -45,37 +45,7 @@ first_of b h = by (entries b) refl
     by [] e = absurd (h (len-entries b ∙ ap length e))
     by (x ∷ es) e = (x.0, ap is_some (get-entries b x.0 ∙ ap (find bits_cmp x.0) e ∙ ap (λ s. cond s (Some x.1) (find bits_cmp x.0 es)) (same-refl x.0)))
 
--- ---- strings that begin with the first five bits of q, or not
-
-at_first : (q s : List Bool) → 5 ≤ length s → same (take 5 s) (take 5 q) ≡ true → take 5 q ++ drop 5 s ≡ s
-at_first q s l e = ap (λ w. w ++ drop 5 s) (sym ((same-Decides (take 5 s) (take 5 q)).0 e)) ∙ (front s l).1
-
-module _ (P : List Bool → Type 0) (q : List Bool) (short : (s : List Bool) → length s < 5 → P s) (under : (r : List Bool) → P (take 5 q ++ r)) (elsewhere : (s : List Bool) → 5 ≤ length s → same (take 5 s) (take 5 q) ≡ false → P s) where
-  each_long : (s : List Bool) → 5 ≤ length s → (b : Bool) → same (take 5 s) (take 5 q) ≡ b → P s
-  each_long s l true e = subst P (at_first q s l e) (under (drop 5 s))
-  each_long s l false e = elsewhere s l e
-
-  each_by : (s : List Bool) (b : Bool) → nat_lt (length s) 5 ≡ b → P s
-  each_by s true e = short s (grind (arith, nat_tests))
-  each_by s false e = each_long s (grind (arith, nat_tests)) (same (take 5 s) (take 5 q)) refl
-
-  -- what holds of short strings, of those under the first five bits of q and of those under others holds of each
-  pub each_string : (s : List Bool) → P s
-  each_string s = each_by s (nat_lt (length s) 5) refl
-
-pub off_way_there : (q s : List Bool) → 5 ≤ length s → same (take 5 s) (take 5 q) ≡ false → begins s q ≡ false
-off_way_there q s l e = begins_elsewhere s q l (same_false (take 5 q) (take 5 s) (λ p. not_same e (sym p)))
-
-pub under_long : (q r : List Bool) → 5 ≤ length q → 5 ≤ length (take 5 q ++ r)
-under_long q r h = omega (arith, length-append (take 5 q) r, (front q h).0)
-
-pub begins_under_first : (q r : List Bool) → 5 ≤ length q → begins (take 5 q ++ r) q ≡ begins r (drop 5 q)
-begins_under_first q r h = ap (begins (take 5 q ++ r)) (sym (front q h).1) ∙ begins-under (take 5 q) r (drop 5 q)
-
 module _ {X : Type 0} where
-  pub found_changed : (cs ds : List (List Bool × Seen X)) (q : List Bool) (o : Option (Seen X)) → ListChanges cs (take 5 q) o ds → find bits_cmp (take 5 q) ds ≡ o
-  found_changed cs ds q o c = c (take 5 q) ∙ ap (λ b. cond b o (find bits_cmp (take 5 q) cs)) (same-refl (take 5 q))
-
   pub spare_under : {vs : List (List Bool × X)} {cs : List (List Bool × Seen X)} → IsNode vs cs → (q r : List Bool) → 5 ≤ length q → get (spare_set cs) (take 5 q ++ r) ≡ marked_get (find bits_cmp (take 5 q) cs) r
   spare_under {cs = cs} n q r h = let f = (front q h).0 in set-long n (take 5 q ++ r) (under_long q r h) ∙ (λ i. marked_get (find bits_cmp (take_first (take 5 q) r f i) cs) (drop_first (take 5 q) r f i))
 
@@ -323,25 +293,14 @@ module _ {X : Type 0} where
 
   -- the child at five bits goes
   out_at : {vs us : List (List Bool × X)} {cs ds : List (List Bool × Seen X)} (q : List Bool) → IsNode vs cs → IsNode us ds → length q ≡ 5 → ListChanges cs (take 5 q) None ds → spare_set ds ≡ outside (spare_set cs) q
-  out_at {cs = cs} {ds = ds} q n k h c = same_map bits_total bits_same _ _ (λ x.
-      each_string (λ x. get (spare_set ds) x ≡ cond (not (begins q x)) (get (spare_set cs) x) None) q (λ x l. set-short k x l ∙ either_none (not (begins q x)) ∙ ap (λ o. cond (not (begins q x)) o None) (sym (set-short n x l))) under other x
+  out_at {cs = cs} {ds = ds} q n k h c =
+      let five : 5 ≤ length q = omega (arith, h) in
+      let first : take 5 q ≡ q = ap (λ i. take i q) (sym h) ∙ take-length q in
+      same_map bits_total bits_same _ _ (λ x. child_changes marked_get (λ x p. cond (not (begins q x)) p None) cs ds q None (get (spare_set cs)) (get (spare_set ds)) (set-long n) (set-long k) five c
+      (λ x l. set-short k x l ∙ either_none (not (begins q x)) ∙ ap (λ o. cond (not (begins q x)) o None) (sym (set-short n x l)))
+      (λ r. ap (λ b. cond (not b) (marked_get (find bits_cmp (take 5 q) cs) r) None) (sym (ap (λ w. begins q (w ++ r)) first ∙ begins_on q r)))
+      (λ x p l e. ap (λ b. cond (not b) p None) (begins_elsewhere q x five e)) x
       ∙ sym (get-outside (spare_set cs) q x))
-    where
-      first : take 5 q ≡ q
-      first = ap (λ i. take i q) (sym h) ∙ take-length q
-
-      five : 5 ≤ length q
-      five = omega (arith, h)
-
-      under : (r : List Bool) → get (spare_set ds) (take 5 q ++ r) ≡ cond (not (begins q (take 5 q ++ r))) (get (spare_set cs) (take 5 q ++ r)) None
-      under r =
-          let z : begins q (take 5 q ++ r) ≡ true = ap (λ w. begins q (w ++ r)) first ∙ begins_on q r in
-          spare_under k q r five ∙ ap (λ o. marked_get o r) (found_changed cs ds q None c) ∙ ap (λ b. cond (not b) (get (spare_set cs) (take 5 q ++ r)) None) (sym z)
-
-      other : (x : List Bool) → 5 ≤ length x → same (take 5 x) (take 5 q) ≡ false → get (spare_set ds) x ≡ cond (not (begins q x)) (get (spare_set cs) x) None
-      other x l e =
-          set-changed cs q None k c x l ∙ ap (λ t. marked_get (cond t None (find bits_cmp (take 5 x) cs)) (drop 5 x)) e ∙ sym (set-long n x l)
-          ∙ ap (λ b. cond (not b) (get (spare_set cs) x) None) (sym (begins_elsewhere q x five e))
 
   pub out_child : {vb at b : ℕ} {vs : List X} {cb : ℕ} {cs ds : List (Seen X)} {m : Seen X} (q : List Bool) → IsSeen vb vs cb cs m → length q ≡ 5 → IsTaken (child_of q) at cb cs → b ≡ 2 ^ child_of q → ds ≡ remove_at cs at → spare_set (child_list (cb - b) ds) ≡ outside m.spares q
   out_child {vb} {at} {b} {vs} {cb} {cs} {ds} q s h t k l =

@@ -1,5 +1,5 @@
 -- What a node's map has at a bit string, and how it changes.
-use Rattle.std.proofs.Common.{◌≡◌, ◌<◌, ◌≤◌, Bool, true, false, cond, List, [], ◌∷◌, ◌++◌, length, take, drop, refl, sym, ap, ◌∙◌, arith}
+use Rattle.std.proofs.Common.{◌≡◌, ◌<◌, ◌≤◌, Bool, true, false, cond, List, [], ◌∷◌, ◌++◌, length, take, drop, refl, sym, ap, ◌∙◌, arith, subst}
 use Rattle.std.specs.Prelude.{T, nat_lt, Option, Some, None}
 use Rattle.std.specs.Ordering.{is_eq}
 use Rattle.std.specs.FinMap.{entries, find, get, empty, is_sorted, get-entries, get-empty, get-from_entries, get-insert, get-remove, same_map}
@@ -13,6 +13,27 @@ use Rattle.ipnet_blocks.specs.BitStrings.{bits_cmp}
 use Rattle.trie_core.proofs.Strings.{bits_total, bits_same, same, same-Decides, same_false, same-under, other_length, front, take_first, not_same, same-refl}
 use Rattle.trie_core.specs.Nodes.{BitMap, Seen}
 use Rattle.trie_core.specs.InnerNodes.{AreShort, AreLong, under, child_entries, child_map, node_map, IsNode}
+
+-- ---- strings that begin with the first five bits of q, or not
+
+at_first : (q s : List Bool) → 5 ≤ length s → same (take 5 s) (take 5 q) ≡ true → take 5 q ++ drop 5 s ≡ s
+at_first q s l e = ap (λ w. w ++ drop 5 s) (sym ((same-Decides (take 5 s) (take 5 q)).0 e)) ∙ (front s l).1
+
+module _ (P : List Bool → Type 0) (q : List Bool) (short : (s : List Bool) → length s < 5 → P s) (under : (r : List Bool) → P (take 5 q ++ r)) (elsewhere : (s : List Bool) → 5 ≤ length s → same (take 5 s) (take 5 q) ≡ false → P s) where
+  each_long : (s : List Bool) → 5 ≤ length s → (b : Bool) → same (take 5 s) (take 5 q) ≡ b → P s
+  each_long s l true e = subst P (at_first q s l e) (under (drop 5 s))
+  each_long s l false e = elsewhere s l e
+
+  each_by : (s : List Bool) (b : Bool) → nat_lt (length s) 5 ≡ b → P s
+  each_by s true e = short s (grind (arith, nat_tests))
+  each_by s false e = each_long s (grind (arith, nat_tests)) (same (take 5 s) (take 5 q)) refl
+
+  -- what holds of short strings, of those under the first five bits of q and of those under others holds of each
+  pub each_string : (s : List Bool) → P s
+  each_string s = each_by s (nat_lt (length s) 5) refl
+
+pub under_long : (q r : List Bool) → 5 ≤ length q → 5 ≤ length (take 5 q ++ r)
+under_long q r h = omega (arith, length-append (take 5 q) r, (front q h).0)
 
 -- ---- lists of entries
 
@@ -122,9 +143,24 @@ module _ {X : Type 0} where
 abbrev pub ListChanges : {Y : Type 0} → List (List Bool × Y) → List Bool → Option Y → List (List Bool × Y) → Type 0
 ListChanges es q o fs = (p : List Bool) → find bits_cmp p fs ≡ cond (same p q) o (find bits_cmp p es)
 
-same_in_child : (x q : List Bool) → 5 ≤ length x → 5 ≤ length q → take 5 x ≡ take 5 q → same x q ≡ same (drop 5 x) (drop 5 q)
-same_in_child x q h l e =
-    (λ i. same (sym (front x h).1 i) (sym (front q l).1 i)) ∙ ap (λ b. same (b ++ drop 5 x) (take 5 q ++ drop 5 q)) e ∙ same-under (take 5 q) (drop 5 x) (drop 5 q)
+pub found_changed : {Y : Type 0} (es fs : List (List Bool × Y)) (q : List Bool) (o : Option Y) → ListChanges es (take 5 q) o fs → find bits_cmp (take 5 q) fs ≡ o
+found_changed es fs q o c = c (take 5 q) ∙ ap (λ b. cond b o (find bits_cmp (take 5 q) es)) (same-refl (take 5 q))
+
+same_under_first : (q r : List Bool) → 5 ≤ length q → same (take 5 q ++ r) q ≡ same r (drop 5 q)
+same_under_first q r h = ap (same (take 5 q ++ r)) (sym (front q h).1) ∙ same-under (take 5 q) r (drop 5 q)
+
+-- what a node has at a string that goes on from five bits is what `at` tells of the child there: with that child on the way to q the change is made, with any other none
+pub child_changes : {X Y : Type 0} (at : Option (Seen X) → List Bool → Option Y) (change : List Bool → Option Y → Option Y) (cs ds : List (List Bool × Seen X)) (q : List Bool) (o : Option (Seen X)) (f g : List Bool → Option Y)
+    → ((x : List Bool) → 5 ≤ length x → f x ≡ at (find bits_cmp (take 5 x) cs) (drop 5 x)) → ((x : List Bool) → 5 ≤ length x → g x ≡ at (find bits_cmp (take 5 x) ds) (drop 5 x)) → 5 ≤ length q → ListChanges cs (take 5 q) o ds
+    → ((x : List Bool) → length x < 5 → g x ≡ change x (f x)) → ((r : List Bool) → at o r ≡ change (take 5 q ++ r) (at (find bits_cmp (take 5 q) cs) r)) → ((x : List Bool) (p : Option Y) → 5 ≤ length x → same (take 5 x) (take 5 q) ≡ false → change x p ≡ p)
+    → (x : List Bool) → g x ≡ change x (f x)
+child_changes at change cs ds q o f g a b h c short below other = each_string (λ x. g x ≡ change x (f x)) q short
+    (λ r.
+    let l = under_long q r h in
+    let i = (front q h).0 in
+    b (take 5 q ++ r) l ∙ (λ j. at (find bits_cmp (take_first (take 5 q) r i j) ds) (drop_first (take 5 q) r i j)) ∙ ap (λ d. at d r) (found_changed cs ds q o c)
+    ∙ below r ∙ ap (change (take 5 q ++ r)) (sym (a (take 5 q ++ r) l ∙ (λ j. at (find bits_cmp (take_first (take 5 q) r i j) cs) (drop_first (take 5 q) r i j)))))
+    (λ x l e. b x l ∙ ap (λ d. at d (drop 5 x)) (c (take 5 x) ∙ ap (λ t. cond t o (find bits_cmp (take 5 x) cs)) e) ∙ sym (other x (f x) l e ∙ a x l))
 
 module _ {X : Type 0} where
   -- n is m with w at q
@@ -144,30 +180,13 @@ module _ {X : Type 0} where
       → ListChanges vs q w us → Changes (node_map vs cs) q w (node_map us cs)
   changed_short q w n k h f x = changed_short_by q w n k h f x (nat_lt (length x) 5) refl
 
-  -- with o in place of the child on the way to q
-  changed_child : (cs : List (List Bool × Seen X)) (q : List Bool) (w : Option X) (o : Option (Seen X)) → 5 ≤ length q
-      → ((r : List Bool) → child_get o r ≡ cond (same r (drop 5 q)) w (child_get (find bits_cmp (take 5 q) cs) r)) → (x : List Bool) → 5 ≤ length x → (b : Bool) → same (take 5 x) (take 5 q) ≡ b
-      → child_get (cond b o (find bits_cmp (take 5 x) cs)) (drop 5 x) ≡ cond (same x q) w (child_get (find bits_cmp (take 5 x) cs) (drop 5 x))
-  changed_child cs q w o h f x l true e =
-      let n = (same-Decides _ _).0 e in
-      f (drop 5 x) ∙ (λ i. cond (sym (same_in_child x q l h n) i) w (child_get (find bits_cmp (sym n i) cs) (drop 5 x)))
-  changed_child cs q w o h f x l false e =
-      ap (λ b. cond b w (child_get (find bits_cmp (take 5 x) cs) (drop 5 x))) (sym (same_false x q (λ s. not_same e (ap (take 5) s))))
-
-  changed_long_by : {vs : List (List Bool × X)} {cs ds : List (List Bool × Seen X)} (q : List Bool) (w : Option X) (o : Option (Seen X)) → IsNode vs cs → IsNode vs ds → 5 ≤ length q
-      → ListChanges cs (take 5 q) o ds
-      → ((r : List Bool) → child_get o r ≡ cond (same r (drop 5 q)) w (child_get (find bits_cmp (take 5 q) cs) r)) → (x : List Bool) (b : Bool) → nat_lt (length x) 5 ≡ b → get (node_map vs ds) x ≡ cond (same x q) w (get (node_map vs cs) x)
-  changed_long_by {vs} {cs} {ds} q w o n k h f g x true e =
-      let l : length x < 5 = grind (arith, nat_tests) in
-      get-short k x l ∙ sym (get-short n x l) ∙ ap (λ b. cond b w (get (node_map vs cs) x)) (sym (other_length x q (λ s. omega arith)))
-  changed_long_by {vs} {cs} {ds} q w o n k h f g x false e =
-      let l : 5 ≤ length x = grind (arith, nat_tests) in
-      get-long k x l ∙ ap (λ o. child_get o (drop 5 x)) (f (take 5 x)) ∙ changed_child cs q w o h g x l _ refl ∙ ap (λ o. cond (same x q) w o) (sym (get-long n x l))
-
   changed_long : {vs : List (List Bool × X)} {cs ds : List (List Bool × Seen X)} (q : List Bool) (w : Option X) (o : Option (Seen X)) → IsNode vs cs → IsNode vs ds → 5 ≤ length q
       → ListChanges cs (take 5 q) o ds
       → ((r : List Bool) → child_get o r ≡ cond (same r (drop 5 q)) w (child_get (find bits_cmp (take 5 q) cs) r)) → Changes (node_map vs cs) q w (node_map vs ds)
-  changed_long q w o n k h f g x = changed_long_by q w o n k h f g x (nat_lt (length x) 5) refl
+  changed_long {vs} {cs} {ds} q w o n k h f g = child_changes child_get (λ x p. cond (same x q) w p) cs ds q o (get (node_map vs cs)) (get (node_map vs ds)) (get-long n) (get-long k) h f
+      (λ x l. get-short k x l ∙ sym (get-short n x l) ∙ ap (λ b. cond b w (get (node_map vs cs) x)) (sym (other_length x q (λ s. omega arith))))
+      (λ r. g r ∙ ap (λ b. cond b w (child_get (find bits_cmp (take 5 q) cs) r)) (sym (same_under_first q r h)))
+      (λ x p l e. ap (λ b. cond b w p) (same_false x q (λ s. not_same e (ap (take 5) s))))
 
   pub insert_changes : (m : BitMap X) (q : List Bool) (v : X) → Changes m q (Some v) (map.insert m q v)
   insert_changes m q v x = get-insert bits_total m q v x

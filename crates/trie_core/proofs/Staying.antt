@@ -14,13 +14,14 @@ use Rattle.trie_core.specs.InnerCount.{marked, spare_set}
 use Rattle.trie_core.specs.Ways.{IsIdle, IsKept}
 use Rattle.trie_core.proofs.Strings.{same, front}
 use Rattle.ipnet_blocks.proofs.BitStrings.{begins_take}
-use Rattle.trie_core.proofs.Maps.{ListChanges, child_get, remove_absent}
+use Rattle.trie_core.proofs.Maps.{ListChanges, child_get, remove_absent, each_string, under_long, found_changed}
 use Rattle.trie_core.proofs.Marks.{marked_get, marked-other, marked-root, root_if, set-short, set-long, set-changed}
 use Rattle.trie_core.proofs.Named.{is_node, child_put_in}
 use Rattle.trie_core.proofs.Taken.{IsTaken}
 use Rattle.trie_core.proofs.Seen.{IsSeen, map_of}
 use Rattle.trie_core.proofs.Changes.{was_found}
-use Rattle.trie_core.proofs.Left.{each_string, off_way_there, none_found, no_keys, root_none, under_long, begins_under_first, found_changed, spare_under, map_under}
+use Rattle.trie_core.proofs.Left.{none_found, no_keys, root_none, spare_under, map_under}
+use Rattle.trie_core.proofs.Inside.{off_way_there, begins_under_first}
 
 module _ {X : Type 0} where
   root_some : (m : BitMap X) → len m ≡ 0 → is_some (root_if (len m)) ≡ true

@@ -1,19 +1,18 @@
 -- Spare nodes taken out of a node, child by child from the lowest number on.
-use Rattle.std.proofs.Common.{◌≡◌, ℕ, zero, suc, ◌+◌, ◌-◌, ◌/◌, ◌%◌, ◌^◌, ◌<◌, ◌≤◌, Bool, true, false, cond, List, [], ◌∷◌, length, take, drop, get_or, set, remove, refl, sym, ap, subst, ◌∙◌, arith}
-use Rattle.std.specs.Prelude.{nat_lt, Option, Some, None, count_ones}
+use Rattle.std.proofs.Common.{◌≡◌, ℕ, zero, suc, ◌+◌, ◌-◌, ◌/◌, ◌%◌, ◌^◌, ◌<◌, ◌≤◌, Bool, List, [], ◌∷◌, length, take, get_or, set, remove, refl, sym, ap, subst, ◌∙◌, arith}
+use Rattle.std.specs.Prelude.{Option, Some, None, count_ones}
 use Rattle.std.specs.FinMap.{get, find, empty, same_map}
-use Rattle.std.proofs.lemmas.Bool.Decides.{nat_tests}
 use Rattle.ipnet_addr.proofs.Basics.{no_ones}
 use Rattle.ipnet_blocks.specs.BitStrings.{bits_cmp}
 use Rattle.trie_core.specs.InnerPlaces.{child_of, child_string, child_list, IsSlot, IsUnset}
-use Rattle.trie_core.proofs.Strings.{bits_total, bits_same, same, same-Decides}
+use Rattle.trie_core.proofs.Strings.{bits_total, bits_same}
 use Rattle.trie_core.proofs.Numbers.{ones_bit, child_of-string, length-child_string}
 use Rattle.trie_core.specs.Nodes.{Seen}
 use Rattle.trie_core.specs.InnerNodes.{child_map, node_map, node_height, IsNode, HasSlots}
 use Rattle.trie_core.specs.InnerCount.{all_nodes, total, spare_of, spare_set}
 use Rattle.trie_core.proofs.Places.{ones_below_suc}
 use Rattle.trie_core.proofs.Edits.{half_less, low_less, higher_bit, bit_within}
-use Rattle.trie_core.proofs.Maps.{ListChanges, child_get, get-short, get-long}
+use Rattle.trie_core.proofs.Maps.{ListChanges, child_get, get-short, get-long, child_changes}
 use Rattle.trie_core.proofs.Named.{is_node, child_put_in, child_taken_out}
 use Rattle.trie_core.proofs.Taken.{IsTaken, taken}
 use Rattle.trie_core.proofs.Seen.{IsSeen, seen, map_of, viewed, counted, none_spare, total-set, height-set, height-read}
@@ -55,24 +54,10 @@ module _ {X : Type 0} where
 
   -- ---- a child with the same map, or none for an empty one
 
-  same_below : (cs : List (List Bool × Seen X)) (q : List Bool) (o : Option (Seen X)) → child_map o ≡ child_map (find bits_cmp (take 5 q) cs) → (x : List Bool) (b : Bool) → same (take 5 x) (take 5 q) ≡ b
-      → child_get (cond b o (find bits_cmp (take 5 x) cs)) (drop 5 x) ≡ child_get (find bits_cmp (take 5 x) cs) (drop 5 x)
-  same_below cs q o f x true e = ap (λ m. get m (drop 5 x)) f ∙ ap (λ p. child_get (find bits_cmp p cs) (drop 5 x)) (sym ((same-Decides _ _).0 e))
-  same_below cs q o f x false e = refl
-
-  same_by : {vs : List (List Bool × X)} {cs ds : List (List Bool × Seen X)} (q : List Bool) (o : Option (Seen X)) → IsNode vs cs → IsNode vs ds → ListChanges cs (take 5 q) o ds → child_map o ≡ child_map (find bits_cmp (take 5 q) cs)
-      → (x : List Bool) (b : Bool) → nat_lt (length x) 5 ≡ b → get (node_map vs ds) x ≡ get (node_map vs cs) x
-  same_by q o n k f g x true e =
-      let l : length x < 5 = grind (arith, nat_tests) in
-      get-short k x l ∙ sym (get-short n x l)
-  same_by {cs = cs} q o n k f g x false e =
-      let l : 5 ≤ length x = grind (arith, nat_tests) in
-      get-long k x l ∙ ap (λ c. child_get c (drop 5 x)) (f (take 5 x)) ∙ same_below cs q o g x _ refl ∙ sym (get-long n x l)
-
   -- the map stays
-  child_same : {vs : List (List Bool × X)} {cs ds : List (List Bool × Seen X)} (q : List Bool) (o : Option (Seen X)) → IsNode vs cs → IsNode vs ds → ListChanges cs (take 5 q) o ds → child_map o ≡ child_map (find bits_cmp (take 5 q) cs)
+  child_same : {vs : List (List Bool × X)} {cs ds : List (List Bool × Seen X)} (q : List Bool) (o : Option (Seen X)) → IsNode vs cs → IsNode vs ds → 5 ≤ length q → ListChanges cs (take 5 q) o ds → child_map o ≡ child_map (find bits_cmp (take 5 q) cs)
       → node_map vs ds ≡ node_map vs cs
-  child_same q o n k f g = same_map bits_total bits_same _ _ (λ x. same_by q o n k f g x (nat_lt (length x) 5) refl)
+  child_same {vs} {cs} {ds} q o n k h f g = same_map bits_total bits_same _ _ (child_changes child_get (λ x p. p) cs ds q o (get (node_map vs cs)) (get (node_map vs ds)) (get-long n) (get-long k) h f (λ x l. get-short k x l ∙ sym (get-short n x l)) (λ r. ap (λ m. get m r) g) (λ x p l e. refl))
 
   -- ---- a node that was seen as m
 
@@ -130,7 +115,7 @@ module _ {X : Type 0} where
         let o : count_ones (cb % 2 ^ suc k) ≡ at + 1 = omega (arith, ones_next k cb, u.0, u.1) in
         rw p (record {
           slots = set_slots (child_string k) d now there;
-          map = child_same (child_string k) (Some d) now.node (is_node vb vs cb (set cs at d) t.slots.values_below t.slots.children_below) (child_put_in (child_string k) d cb cb cs (set cs at d) five t.slots.children_below (there.written d)) (f ∙ was_map) ∙ t.map;
+          map = child_same (child_string k) (Some d) now.node (is_node vb vs cb (set cs at d) t.slots.values_below t.slots.children_below) five (child_put_in (child_string k) d cb cb cs (set cs at d) five t.slots.children_below (there.written d)) (f ∙ was_map) ∙ t.map;
           tidy = omega (arith, ap (λ n. total spare_of (take n (set cs at d))) o, total_set spare_of cs at d there.within, ap (λ n. total spare_of (take n cs)) u.1, t.tidy, z);
           count = omega (arith, total-set all_nodes cs at d e there.within, ap all_nodes r, t.count, a);
           height = omega (arith, height-set cs at d, child_lower, h, t.height);
@@ -144,7 +129,7 @@ module _ {X : Type 0} where
         let o : count_ones ((cb - 2 ^ child_of (child_string k)) % 2 ^ suc k) ≡ at = ap (λ i. count_ones ((cb - 2 ^ i) % 2 ^ suc k)) c ∙ ones_cleared k cb u.0 ∙ sym u.1 in
         record {
           slots = record { values_counted = t.slots.values_counted; values_below = t.slots.values_below; children_counted = there.ones; children_below = below };
-          map = child_same (child_string k) None now.node (is_node vb vs b (remove cs at) t.slots.values_below below) (child_taken_out (child_string k) cb b cs (remove cs at) five t.slots.children_below there.removed) (sym z ∙ f ∙ was_map) ∙ t.map;
+          map = child_same (child_string k) None now.node (is_node vb vs b (remove cs at) t.slots.values_below below) five (child_taken_out (child_string k) cb b cs (remove cs at) five t.slots.children_below there.removed) (sym z ∙ f ∙ was_map) ∙ t.map;
           tidy = omega (arith, ap (λ n. total spare_of (take n (remove cs at))) o, total_removed spare_of cs at, ap (λ n. total spare_of (take n cs)) u.1, t.tidy);
           count = omega (arith, total-remove all_nodes cs at e there.within, ap all_nodes r, t.count, a);
           height = omega (arith, height-remove cs at, t.height);
