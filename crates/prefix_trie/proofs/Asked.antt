@@ -13,12 +13,13 @@ use Rattle.trie_core.proofs.Named.{less_differs}
 use Rattle.ipnet_addr.proofs.Basics.{T-parts, less_from_T}
 use Rattle.trie_core.specs.Bits.{is_from}
 use Rattle.ipnet_blocks.specs.BitStrings.{bits_cmp}
-use Rattle.trie_core.proofs.Strings.{bits_total, bits_same, same, same-refl, same_false, append_none}
+use Rattle.trie_core.proofs.Strings.{bits_total, bits_same, same, same-refl, same_false}
 use Rattle.trie_core.specs.Nodes.{BitMap}
 use Rattle.trie_core.proofs.Maps.{tail_rises}
 use Rattle.trie_core.proofs.Frames.{bits_alike}
 use Rattle.prefix_trie.specs.Maps.{first_key}
 use Rattle.prefix_trie.specs.Retain.{CallableInTurn}
+use Rattle.std.proofs.lemmas.List.{append-nil}
 
 -- ---- the order of strings
 
@@ -155,7 +156,7 @@ module _ {F X : Type 0} (R : F → List Bool × X → Bool → F → Type 0) whe
 
   left_more : (n : BitMap X) (ks : List (List Bool × X)) (b : Bool) (e : List Bool × X) (es : List (List Bool × X)) → entries n ≡ ks ++ e ∷ es → entries (cond b n (remove n e.0)) ≡ (ks ++ cond b (e ∷ []) []) ++ es
   left_more n ks true e es h = h ∙ sym (append_assoc ks (e ∷ []) es)
-  left_more n ks false e es h = remove_here n ks e es h ∙ ap (λ l. l ++ es) (sym (append_none ks))
+  left_more n ks false e es h = remove_here n ks e es h ∙ ap (λ l. l ++ es) (sym (append-nil ks))
 
   -- the entry of the key that comes next
   record IsHere (q : List Bool) (n : BitMap X) (ks rest : List (List Bool × X)) : Type 0 where

@@ -5,7 +5,7 @@ use Rattle.std.specs.declared.cmp.Ordering.TheVariants.{Less}
 use Rattle.std.specs.FinMap.{entries, find, get, entries_sorted, get-entries, get-from_entries, from_entries, len, len-entries, len-empty, empty_of_len, empty}
 use Rattle.std.specs.FinMap.Entries.{below_all, same_entries}
 use Rattle.std.proofs.Math.ListN.{length-append, length-take}
-use Rattle.std.proofs.lemmas.List.{take-append-drop}
+use Rattle.std.proofs.lemmas.List.{take-append-drop, append-nil, take_at, take-take, append_assoc}
 use Rattle.std.proofs.lemmas.Bool.{or_right}
 use Rattle.ipnet_addr.proofs.Basics.{T-and}
 use Rattle.ipnet_blocks.specs.BitStrings.{bits_cmp}
@@ -13,19 +13,15 @@ use Rattle.trie_core.specs.Nodes.{BitMap, Seen}
 use Rattle.trie_core.specs.InnerNodes.{under, node_map, IsNode}
 use Rattle.trie_core.specs.Count.{fives_from, fives, fives_of, begun, nodes}
 use Rattle.trie_core.specs.InnerCount.{nodes_if, spare_if, spare_count, spares_below, all_nodes, total}
-use Rattle.trie_core.proofs.Strings.{bits_total, bits_same, same, same-Decides, same-refl, append_none, take_first, front, take_take}
+use Rattle.trie_core.proofs.Strings.{bits_total, bits_same, same, same-Decides, same-refl, front}
 use Rattle.trie_core.proofs.Maps.{tail_rises, or_else, find-append_all, find-under, find-apart, node_map-none, get-short, get_none}
 use Rattle.trie_core.specs.InnerWalks.{first_value}
 use Rattle.trie_core.proofs.Order.{StartsAfter, below_under, below_append, less_right, less_left, found_above, below_found, found_long, found_get, sorted_under, walk_value, walk_child, walk_none, without_value, without_child, starts_after, values_after}
+use Rattle.std.proofs.Math.Seq.{take-append-add}
+use Rattle.std.proofs.Math.Bool.{or_assoc}
 
 take_more : (b k : List Bool) (n : ℕ) → length b ≡ 5 → take (5 + n) (b ++ k) ≡ b ++ take n k
-take_more (a ∷ b ∷ c ∷ d ∷ e ∷ []) k n h = let z : 5 + n ≡ suc (suc (suc (suc (suc n)))) = omega arith in rw z refl
-take_more [] k n h = absurd (omega arith)
-take_more (a ∷ []) k n h = absurd (omega arith)
-take_more (a ∷ b ∷ []) k n h = absurd (omega arith)
-take_more (a ∷ b ∷ c ∷ []) k n h = absurd (omega arith)
-take_more (a ∷ b ∷ c ∷ d ∷ []) k n h = absurd (omega arith)
-take_more (a ∷ b ∷ c ∷ d ∷ e ∷ f ∷ bs) k n h = absurd (omega arith)
+take_more b k n h = ap (λ m. take (m + n) (b ++ k)) (sym h) ∙ take-append-add b k n
 
 fives_later : (i n : ℕ) (b k : List Bool) → length b ≡ 5 → fives_from (suc i) n (b ++ k) ≡ under b (fives_from i n k)
 fives_later i zero b k h = refl
@@ -36,7 +32,7 @@ fives_later i (suc n) b k h =
 pub fives_child : (b k : List Bool) → length b ≡ 5 → fives (b ++ k) ≡ (b, tt) ∷ under b (fives k)
 fives_child b k h =
     let z : length (b ++ k) / 5 ≡ suc (length k / 5) = omega (arith, length-append b k, h) in
-    ap (λ n. fives_from 0 n (b ++ k)) z ∙ (λ j. (take_first b k h j, tt) ∷ fives_later 0 (length k / 5) b k h j)
+    ap (λ n. fives_from 0 n (b ++ k)) z ∙ (λ j. (take_at b k 5 h j, tt) ∷ fives_later 0 (length k / 5) b k h j)
 
 pub fives_short : (q : List Bool) → length q < 5 → fives q ≡ []
 fives_short q h = let z : length q / 5 ≡ 0 = omega arith in ap (λ n. fives_from 0 n q) z
@@ -89,11 +85,7 @@ module _ {X : Type 0} where
 
   fives_of-append : (es fs : List (List Bool × X)) → fives_of (es ++ fs) ≡ fives_of es ++ fives_of fs
   fives_of-append [] fs = refl
-  fives_of-append (e ∷ es) fs = ap (λ ws. fives e.0 ++ ws) (fives_of-append es fs) ∙ sym (append_twice (fives e.0) (fives_of es) (fives_of fs))
-    where
-      append_twice : {Y : Type 0} (xs ys zs : List Y) → (xs ++ ys) ++ zs ≡ xs ++ (ys ++ zs)
-      append_twice [] ys zs = refl
-      append_twice (x ∷ xs) ys zs = ap (λ ws. x ∷ ws) (append_twice xs ys zs)
+  fives_of-append (e ∷ es) fs = ap (λ ws. fives e.0 ++ ws) (fives_of-append es fs) ∙ sym (append_assoc (fives e.0) (fives_of es) (fives_of fs))
 
   pub has-begun : (m : BitMap X) (q : List Bool) → has q (entries (begun m)) ≡ has q (fives_of (entries m))
   unfolding begun
@@ -102,8 +94,7 @@ module _ {X : Type 0} where
 fives_found_by : (i n : ℕ) (q k : List Bool) → 5 * i + 5 + 5 * n ≤ length k → (has q (fives_from (suc i) n k) ≡ true → (take 5 q ≡ take 5 k) × (5 ≤ length q)) → (b : Bool) → same q (take (5 * i + 5) k) ≡ b → (b || has q (fives_from (suc i) n k)) ≡ true → (take 5 q ≡ take 5 k) × (5 ≤ length q)
 fives_found_by i n q k h f true e s =
     let p : q ≡ take (5 * i + 5) k = (same-Decides q (take (5 * i + 5) k)).0 e in
-    let z : 5 * i + 5 ≡ 5 + 5 * i = omega arith in
-    (ap (take 5) p ∙ ap (λ m. take 5 (take m k)) z ∙ take_take k 5 (5 * i), omega (arith, ap length p, length-take (5 * i + 5) k, h))
+    (ap (take 5) p ∙ take-take 5 (5 * i + 5) k (omega arith), omega (arith, ap length p, length-take (5 * i + 5) k, h))
 fives_found_by i n q k h f false e s = f s
 
 fives_found : (i n : ℕ) (q k : List Bool) → 5 * i + 5 * n ≤ length k → has q (fives_from i n k) ≡ true → (take 5 q ≡ take 5 k) × (5 ≤ length q)
@@ -157,12 +148,8 @@ has_under_by b q es fs h f true e =
     let p : b ++ drop 5 q ≡ q = ap (λ w. w ++ drop 5 q) (sym ((same-Decides (take 5 q) b).0 e)) ∙ take-append-drop 5 q in
     ap (λ w. has w (under b es)) (sym p) ∙ ap is_some (find-under b (drop 5 q) es) ∙ f (drop 5 q) ∙ sym (ap is_some (find-under b (drop 5 q) fs)) ∙ ap (λ w. has w (under b fs)) p
 has_under_by b q es fs h f false e =
-    let no : (k : List Bool) → q ≡ b ++ k → ⊥ = λ k p. let z : same (take 5 q) b ≡ true = (same-Decides (take 5 q) b).1 (ap (take 5) p ∙ take_first b k h) in cc in
+    let no : (k : List Bool) → q ≡ b ++ k → ⊥ = λ k p. let z : same (take 5 q) b ≡ true = (same-Decides (take 5 q) b).1 (ap (take 5) p ∙ take_at b k 5 h) in cc in
     ap is_some (find-apart b q no es) ∙ sym (ap is_some (find-apart b q no fs))
-
-or_three : (a b c : Bool) → ((a || b) || c) ≡ (a || (b || c))
-or_three true b c = refl
-or_three false b c = refl
 
 pub length-under : {Y : Type 0} (b : List Bool) (es : List (List Bool × Y)) → length (under b es) ≡ length es
 length-under b [] = refl
@@ -211,8 +198,8 @@ module _ {X : Type 0} where
       same_entries bits_cmp bits_total bits_same _ _ (entries_sorted (begun (node_map vs (c ∷ cs))))
       (T-and _ _
       (below_append b (under b E) F
-      (subst (λ w. T (below_all bits_cmp w (under b E))) (append_none b) (below_under b [] E (not_none c.1.entries)))
-      (subst (λ w. T (below_all bits_cmp w F)) (append_none b) (after_child n a [])))
+      (subst (λ w. T (below_all bits_cmp w (under b E))) (append-nil b) (below_under b [] E (not_none c.1.entries)))
+      (subst (λ w. T (below_all bits_cmp w F)) (append-nil b) (after_child n a [])))
       (sorted_under b E F (entries_sorted (begun c.1.entries)) (entries_sorted (begun (node_map vs cs))) (after_child n a)))
       (λ q. same_option _ _ (
       has-begun (node_map vs (c ∷ cs)) q
@@ -222,7 +209,7 @@ module _ {X : Type 0} where
       ∙ (λ i. (has_under b q (entries c.1.entries) five i || sym (has-begun (node_map vs cs) q) i))
       ∙ ap (λ t. (t && same q b || has q (under b (fives_of (entries c.1.entries)))) || has q F) e
       ∙ ap (λ t. (same q b || t) || has q F) (has_under_by b q (fives_of (entries c.1.entries)) E five (λ x. sym (has-begun c.1.entries x)) (same (take 5 q) b) refl)
-      ∙ or_three (same q b) (has q (under b E)) (has q F)
+      ∙ or_assoc (same q b) (has q (under b E)) (has q F)
       ∙ ap (λ t. same q b || t) (sym (has-append q (under b E) F))
       ∙ sym (some_cond (same q b) tt (find bits_cmp q (under b E ++ F)))
       ))

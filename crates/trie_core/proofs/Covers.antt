@@ -11,7 +11,7 @@ use Rattle.std.proofs.lemmas.Nat.{shl-shr, shr-shr, shr_split, pow-add}
 use Rattle.std.proofs.lemmas.Nat.Bits.{bit_at-zero}
 use Rattle.std.proofs.Math.Nat.{mul_assoc}
 use Rattle.std.proofs.Math.ListN.{length-append, length-drop}
-use Rattle.std.proofs.lemmas.Bool.{false_from_ne_true, false≢true}
+use Rattle.std.proofs.lemmas.Bool.{false_from_ne_true, false≢true, true_from_ne_false}
 use Rattle.ipnet_addr.proofs.Basics.{T-and}
 use Rattle.ipnet_blocks.specs.BitStrings.{bits_cmp, begins}
 use Rattle.trie_core.specs.InnerPlaces.{place_of, place_string, IsBeginMask, IsFirstPlace}
@@ -19,7 +19,7 @@ use Rattle.trie_core.specs.Nodes.{BitMap, Seen}
 use Rattle.trie_core.specs.InnerNodes.{under}
 use Rattle.trie_core.specs.InnerSearch.{IsChild, HasNoChild}
 use Rattle.trie_core.specs.InnerCovers.{is_left, NoneFrom, IsFirstFrom, cover_rest, cover_weight, IsCover}
-use Rattle.trie_core.proofs.Strings.{bits_total, bits_same, same, same-Decides, not_same, front, take_take, and_with_true}
+use Rattle.trie_core.proofs.Strings.{bits_total, bits_same, same, same-Decides, not_same, front}
 use Rattle.ipnet_blocks.proofs.BitStrings.{begins_take, take_begins, begins-under}
 use Rattle.trie_core.proofs.Maps.{get_none}
 use Rattle.trie_core.proofs.Order.{below_found}
@@ -29,6 +29,8 @@ use Rattle.trie_core.proofs.Seen.{IsSeen}
 use Rattle.trie_core.proofs.Searches.{IsMet, met_beginning, met_place, unset_none, found_here}
 use Rattle.trie_core.proofs.Frames.{bits_alike, under-under, under_none}
 use Rattle.trie_core.proofs.Walks.{AreBelow, where_below, entries_none, kept_true}
+use Rattle.std.proofs.Math.Bool.{and-true}
+use Rattle.std.proofs.lemmas.List.{take-take}
 
 -- ---- the bits of a word from one on
 
@@ -160,9 +162,6 @@ left_all q k = let z : nat_lt (place_of k) 0 ≡ false = grind (arith, nat_tests
     all_kept true false = refl
     all_kept false b = refl
 
-take_less : (p : List Bool) (n : ℕ) → 5 ≤ n → take 5 (take n p) ≡ take 5 p
-take_less p n h = let e : 5 + (n - 5) ≡ n = omega (arith, h) in ap (λ k. take 5 (take k p)) (sym e) ∙ take_take p 5 (n - 5)
-
 where_none : {Y : Type 0} (f : List Bool → Bool) (es : List (List Bool × Y)) → ((k : List Bool) → f k ≡ false) → where_key bits_cmp f es ≡ []
 where_none f [] h = refl
 where_none f (e ∷ es) h = ap (λ t. cond t (e ∷ where_key bits_cmp f es) (where_key bits_cmp f es)) (h e.0) ∙ where_none f es h
@@ -200,11 +199,7 @@ module _ {X : Type 0} where
           begins_less (place_string p) x q w.begun (left_true q (p + 1) x e).0 (omega (arith, l, (place_strings p w.below).short))
 
       own : is_left q n (place_string p) ≡ true
-      own = not_false (is_left q n (place_string p)) (λ e. let t = left_false q n (place_string p) e w.begun in omega (arith, t.1, (place_strings p w.below).place, w.from))
-        where
-          not_false : (b : Bool) → (b ≡ false → ⊥) → b ≡ true
-          not_false true f = refl
-          not_false false f = absurd (f refl)
+      own = true_from_ne_false (is_left q n (place_string p)) (λ e. let t = left_false q n (place_string p) e w.begun in omega (arith, t.1, (place_strings p w.below).place, w.from))
 
       apart : (x : List Bool) → same x (place_string p) ≡ false → length x < 5 → place_of x ≡ p → ⊥
       apart x e l d = not_same e (sym (place_string-place_of x l) ∙ ap place_string d)
@@ -251,7 +246,7 @@ module _ {X : Type 0} where
     told = λ r.
         let l : nat_lt (length (take 5 p ++ r)) 5 ≡ false = let five = (front p h).0 in let a = length-append (take 5 p) r in grind (arith, nat_tests) in
         (λ i. begins (take 5 p ++ r) (sym (front p h).1 i) && not (l i && nat_lt (place_of (take 5 p ++ r)) 31))
-        ∙ ap (λ b. b && true) (begins-under (take 5 p) r (drop 5 p)) ∙ and_with_true (begins r (drop 5 p)) ∙ sym (left_all (drop 5 p) r);
+        ∙ ap (λ b. b && true) (begins-under (take 5 p) r (drop 5 p)) ∙ and-true (begins r (drop 5 p)) ∙ sym (left_all (drop 5 p) r);
     other = λ x n. false_from_ne_true _ (λ e. other x n (left_true p 31 x e) (nat_lt (length x) 5) refl);
   }
     where
@@ -260,7 +255,7 @@ module _ {X : Type 0} where
       other x n t false l =
           let s : 5 ≤ length x = grind (arith, nat_tests) in
           let f = begins_take x p t.0 in
-          n (drop 5 x) (sym (front x s).1 ∙ ap (λ y. y ++ drop 5 x) (ap (take 5) (sym f.1) ∙ take_less p (length x) s))
+          n (drop 5 x) (sym (front x s).1 ∙ ap (λ y. y ++ drop 5 x) (ap (take 5) (sym f.1) ∙ take-take 5 (length x) p s))
 
   -- below the five bits
   pub cover_below : (m : Seen X) (trail : List Bool) {p : List Bool} {n : ℕ} (o : Option (Bor (Seen X))) {r way : List Bool} → NoneFrom m.entries p n → 5 ≤ length p → MatchOption o (HasNoChild p m) (λ c. IsChild p m c.now) → way ≡ trail ++ take 5 p → r ≡ drop 5 p

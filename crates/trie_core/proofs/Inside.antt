@@ -4,7 +4,7 @@ use Rattle.std.specs.Prelude.{Option, Some, None}
 use Rattle.std.specs.FinMap.{get, len, empty, find, get-empty, get-remove, get-retain_keys, same_map}
 use Rattle.std.specs.FinMap as map
 use Rattle.std.proofs.Math.ListN.{length-drop}
-use Rattle.std.proofs.lemmas.List.{nil_from_length}
+use Rattle.std.proofs.lemmas.List.{nil_from_length, take-take}
 use Rattle.std.proofs.lemmas.Bool.{false_from_ne_true}
 use Rattle.ipnet_blocks.specs.BitStrings.{bits_cmp, begins}
 use Rattle.trie_core.specs.InnerPlaces.{child_of, IsUnset}
@@ -12,7 +12,7 @@ use Rattle.trie_core.specs.Nodes.{BitMap, Seen}
 use Rattle.trie_core.specs.InnerNodes.{child_map, node_map, node_height, IsNode, HasSlots}
 use Rattle.trie_core.specs.InnerCount.{all_nodes, entry_count}
 use Rattle.trie_core.specs.Inside.{outside}
-use Rattle.trie_core.proofs.Strings.{bits_total, bits_same, same, not_same, front, take_take, same_false}
+use Rattle.trie_core.proofs.Strings.{bits_total, bits_same, same, not_same, front, same_false}
 use Rattle.ipnet_blocks.proofs.BitStrings.{begins_take, begins-under}
 use Rattle.trie_core.proofs.Maps.{ListChanges, child_get, get-short, get-long, child_changes}
 use Rattle.trie_core.proofs.Named.{is_node, child_put_in, child_taken_out}
@@ -27,10 +27,7 @@ pub begins_longer : (q x : List Bool) → length x < length q → begins q x ≡
 begins_longer q x h = false_from_ne_true _ (λ e. omega (arith, (begins_take q x e).0, h))
 
 pub first_five : (q x : List Bool) → 5 ≤ length q → begins q x ≡ true → take 5 x ≡ take 5 q
-first_five q x h e =
-    let b = begins_take q x e in
-    let f : 5 + (length q - 5) ≡ length q = omega (arith, h) in
-    sym (take_take x 5 (length q - 5)) ∙ ap (λ i. take 5 (take i x)) f ∙ ap (take 5) b.1
+first_five q x h e = sym (take-take 5 (length q) x h) ∙ ap (take 5) (begins_take q x e).1
 
 pub begins_elsewhere : (q x : List Bool) → 5 ≤ length q → same (take 5 x) (take 5 q) ≡ false → begins q x ≡ false
 begins_elsewhere q x h e = false_from_ne_true _ (λ b. not_same e (first_five q x h b))

@@ -5,7 +5,7 @@ use Rattle.std.specs.Int.{bit_at}
 use Rattle.std.specs.Ordering.{nat_cmp}
 use Rattle.std.specs.FinMap.{find, get, get-empty, len, len-empty, empty, same_map}
 use Rattle.std.proofs.lemmas.Bool.Decides.{nat_tests}
-use Rattle.std.proofs.lemmas.List.{append_assoc, drop_all, take_all, take-append-drop}
+use Rattle.std.proofs.lemmas.List.{append_assoc, drop_all, take_all, take-append-drop, append-nil}
 use Rattle.std.proofs.lemmas.Nat.{and_le_l}
 use Rattle.std.proofs.lemmas.Nat.Bits.{bit_at_and, bit_at-lt, bit_at-zero, bit_at_mask_inside}
 use Rattle.ipnet_blocks.specs.BitStrings.{bits_cmp, begins}
@@ -15,7 +15,7 @@ use Rattle.trie_core.specs.InnerSearch.{IsChild, HasNoChild}
 use Rattle.trie_core.specs.Inside.{NothingInside}
 use Rattle.trie_core.specs.Nodes.{BitMap, BitSet, Seen}
 use Rattle.trie_core.specs.InnerCount.{marked}
-use Rattle.trie_core.proofs.Strings.{bits_total, bits_same, append_none}
+use Rattle.trie_core.proofs.Strings.{bits_total, bits_same}
 use Rattle.trie_core.proofs.Numbers.{place_strings, child_of-string, length-child_string}
 use Rattle.trie_core.proofs.PlaceTables.{inside_short, inside_long}
 use Rattle.trie_core.proofs.Maps.{get_none, child_get}
@@ -38,7 +38,7 @@ pub goes_on : (q x : List Bool) → begins q x ≡ true → (q ≡ x → ⊥) �
 goes_on q x e f = by (drop (length q) x) (begun_rest q x e)
   where
     by : (r : List Bool) → q ++ r ≡ x → (b : Bool) × (k : List Bool) × (q ++ b ∷ k ≡ x)
-    by [] z = absurd (f (sym (append_none q) ∙ z))
+    by [] z = absurd (f (sym (append-nil q) ∙ z))
     by (b ∷ k) z = (b, k, z)
 
 -- ---- words

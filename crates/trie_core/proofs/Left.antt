@@ -4,7 +4,7 @@ use Rattle.std.specs.Prelude.{nat_lt, Option, Some, None, is_some, ◌↔◌}
 use Rattle.std.specs.List.{remove as remove_at}
 use Rattle.std.specs.FinMap.{get, len, empty, find, remove, entries, get-empty, get-entries, get-remove, len-empty, len-entries, empty_of_len, same_map}
 use Rattle.std.proofs.lemmas.Bool.Decides.{nat_tests}
-use Rattle.std.proofs.lemmas.List.{append_assoc}
+use Rattle.std.proofs.lemmas.List.{append_assoc, append-nil, drop_at, take_at}
 use Rattle.std.proofs.Math.Seq.{take-length}
 use Rattle.std.proofs.Math.ListN.{length-append}
 use Rattle.std.proofs.lemmas.Bool.{both_ways}
@@ -15,9 +15,9 @@ use Rattle.trie_core.specs.InnerNodes.{node_map, IsNode, HasSlots, AreBelow}
 use Rattle.trie_core.specs.InnerCount.{spare_count, marked, spare_set}
 use Rattle.trie_core.specs.Inside.{outside}
 use Rattle.trie_core.specs.Ways.{IsIdle, LeadsOff, IsLeft, IsCut}
-use Rattle.trie_core.proofs.Strings.{bits_total, bits_same, same, same-Decides, same-refl, front, take_first, append_none}
+use Rattle.trie_core.proofs.Strings.{bits_total, bits_same, same, same-Decides, same-refl, front}
 use Rattle.ipnet_blocks.proofs.BitStrings.{begins_on, begins_take, begins-under}
-use Rattle.trie_core.proofs.Maps.{ListChanges, drop_first, child_get, get-long, child_changes, each_string, under_long, found_changed}
+use Rattle.trie_core.proofs.Maps.{ListChanges, child_get, get-long, child_changes, each_string, under_long, found_changed}
 use Rattle.trie_core.proofs.Marks.{marked_get, marked-other, marked-root, root_if, set-short, set-long, set-changed}
 use Rattle.trie_core.proofs.Named.{is_node, child_put_in, child_taken_out, child_found}
 use Rattle.trie_core.proofs.Taken.{IsTaken, missing}
@@ -47,10 +47,10 @@ first_of b h = by (entries b) refl
 
 module _ {X : Type 0} where
   pub spare_under : {vs : List (List Bool × X)} {cs : List (List Bool × Seen X)} → IsNode vs cs → (q r : List Bool) → 5 ≤ length q → get (spare_set cs) (take 5 q ++ r) ≡ marked_get (find bits_cmp (take 5 q) cs) r
-  spare_under {cs = cs} n q r h = let f = (front q h).0 in set-long n (take 5 q ++ r) (under_long q r h) ∙ (λ i. marked_get (find bits_cmp (take_first (take 5 q) r f i) cs) (drop_first (take 5 q) r f i))
+  spare_under {cs = cs} n q r h = let f = (front q h).0 in set-long n (take 5 q ++ r) (under_long q r h) ∙ (λ i. marked_get (find bits_cmp (take_at (take 5 q) r 5 f i) cs) (drop_at (take 5 q) r 5 f i))
 
   pub map_under : {vs : List (List Bool × X)} {cs : List (List Bool × Seen X)} → IsNode vs cs → (q r : List Bool) → 5 ≤ length q → get (node_map vs cs) (take 5 q ++ r) ≡ child_get (find bits_cmp (take 5 q) cs) r
-  map_under {cs = cs} n q r h = let f = (front q h).0 in get-long n (take 5 q ++ r) (under_long q r h) ∙ (λ i. child_get (find bits_cmp (take_first (take 5 q) r f i) cs) (drop_first (take 5 q) r f i))
+  map_under {cs = cs} n q r h = let f = (front q h).0 in get-long n (take 5 q ++ r) (under_long q r h) ∙ (λ i. child_get (find bits_cmp (take_at (take 5 q) r 5 f i) cs) (drop_at (take 5 q) r 5 f i))
 
   pub none_changes : (cs : List (List Bool × Seen X)) (q : List Bool) → find bits_cmp (take 5 q) cs ≡ None → ListChanges cs (take 5 q) None cs
   none_changes cs q e x = by (same x (take 5 q)) refl
@@ -268,7 +268,7 @@ module _ {X : Type 0} where
       lost : (x : List Bool) → begins x q ≡ true → is_some (get c x) ≡ true → ⊥
       lost x b t =
           let f = not_other (get a x) (begins q x) (sym (ap is_some (at x ∙ turned (begins q x) (get a x))) ∙ t) in
-          both_ways _ f.0 (ap (begins q) (cut_by x q (below x t) h b ∙ sym (append_none q)) ∙ begins_on q [])
+          both_ways _ f.0 (ap (begins q) (cut_by x q (below x t) h b ∙ sym (append-nil q)) ∙ begins_on q [])
 
       gone : (x : List Bool) → begins x q ≡ true → IsIdle n x × LeadsOff (begins q) a q x → ⊥
       gone x b t =

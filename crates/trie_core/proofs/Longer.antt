@@ -1,7 +1,7 @@
 -- Strings made longer at their ends, and strings as numbers with zeros after them.
-use Rattle.std.proofs.Common.{◌≡◌, ℕ, zero, suc, ◌+◌, ◌-◌, ◌*◌, ◌/◌, ◌%◌, ◌^◌, ◌<◌, ◌≤◌, Bool, ◌==◌, List, [], ◌∷◌, ◌++◌, length, refl, sym, ap, subst, ◌∙◌, arith}
+use Rattle.std.proofs.Common.{◌≡◌, ℕ, zero, suc, ◌+◌, ◌-◌, ◌*◌, ◌/◌, ◌%◌, ◌^◌, ◌<◌, ◌≤◌, Bool, ◌==◌, List, [], ◌∷◌, ◌++◌, length, sym, ap, subst, ◌∙◌, arith}
 use Rattle.std.proofs.lemmas.Nat.{pow_pos, pow-add, shl-shr, shr_below}
-use Rattle.std.proofs.lemmas.List.{append_assoc}
+use Rattle.std.proofs.lemmas.List.{append_assoc, append-nil}
 use Rattle.std.proofs.Math.Nat.{mul_assoc, mod-eq_of_lt, mul-le-mul_right, add-mul, one-mul}
 use Rattle.ipnet_blocks.specs.Blocks.{digits}
 use Rattle.ipnet_blocks.proofs.Strings.{length-digits}
@@ -15,11 +15,7 @@ pub digits-append : (n m q f : ℕ) → f < 2 ^ m → digits (n + m) (q * 2 ^ m 
 digits-append n zero q f h =
     let z : q * 2 ^ 0 + f ≡ q = omega (arith, h) in
     let e : n + 0 ≡ n = omega arith in
-    (λ i. digits (e i) (z i)) ∙ sym (append_none (digits n q))
-  where
-    append_none : (xs : List Bool) → xs ++ [] ≡ xs
-    append_none [] = refl
-    append_none (x ∷ xs) = ap (λ ys. x ∷ ys) (append_none xs)
+    (λ i. digits (e i) (z i)) ∙ sym (append-nil (digits n q))
 digits-append n (suc m) q f h =
     let d : 2 ^ suc m ≡ 2 * 2 ^ m = omega arith in
     let e : n + suc m ≡ suc (n + m) = omega arith in

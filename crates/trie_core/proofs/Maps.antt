@@ -7,12 +7,12 @@ use Rattle.std.specs.FinMap as map
 use Rattle.std.specs.FinMap.Entries.{below_all}
 use Rattle.std.proofs.lemmas.Bool.Decides.{nat_tests}
 use Rattle.std.proofs.Math.ListN.{length-append}
-use Rattle.std.proofs.Math.Seq.{drop-append_seam}
 use Rattle.ipnet_addr.proofs.Basics.{T-parts, less_from_T}
 use Rattle.ipnet_blocks.specs.BitStrings.{bits_cmp}
-use Rattle.trie_core.proofs.Strings.{bits_total, bits_same, same, same-Decides, same_false, same-under, other_length, front, take_first, not_same, same-refl}
+use Rattle.trie_core.proofs.Strings.{bits_total, bits_same, same, same-Decides, same_false, same-under, other_length, front, not_same, same-refl}
 use Rattle.trie_core.specs.Nodes.{BitMap, Seen}
 use Rattle.trie_core.specs.InnerNodes.{AreShort, AreLong, under, child_entries, child_map, node_map, IsNode}
+use Rattle.std.proofs.lemmas.List.{drop_at, take_at}
 
 -- ---- strings that begin with the first five bits of q, or not
 
@@ -37,12 +37,8 @@ under_long q r h = omega (arith, length-append (take 5 q) r, (front q h).0)
 
 -- ---- lists of entries
 
--- what follows the first five bits
-pub drop_first : (b k : List Bool) → length b ≡ 5 → drop 5 (b ++ k) ≡ k
-drop_first b k h = ap (λ n. drop n (b ++ k)) (sym h) ∙ drop-append_seam b k
-
 differs : (q b : List Bool) → length b ≡ 5 → (take 5 q ≡ b → ⊥) → (k : List Bool) → q ≡ b ++ k → ⊥
-differs q b l n k e = n (ap (take 5) e ∙ take_first b k l)
+differs q b l n k e = n (ap (take 5) e ∙ take_at b k 5 l)
 
 pub tail_rises : {Y : Type 0} (e : List Bool × Y) (es : List (List Bool × Y)) → T (is_sorted bits_cmp (e ∷ es)) → T (is_sorted bits_cmp es) × T (below_all bits_cmp e.0 es)
 tail_rises e es h = let p = T-parts _ _ h in (p.1, p.0)
@@ -158,8 +154,8 @@ child_changes at change cs ds q o f g a b h c short below other = each_string (�
     (λ r.
     let l = under_long q r h in
     let i = (front q h).0 in
-    b (take 5 q ++ r) l ∙ (λ j. at (find bits_cmp (take_first (take 5 q) r i j) ds) (drop_first (take 5 q) r i j)) ∙ ap (λ d. at d r) (found_changed cs ds q o c)
-    ∙ below r ∙ ap (change (take 5 q ++ r)) (sym (a (take 5 q ++ r) l ∙ (λ j. at (find bits_cmp (take_first (take 5 q) r i j) cs) (drop_first (take 5 q) r i j)))))
+    b (take 5 q ++ r) l ∙ (λ j. at (find bits_cmp (take_at (take 5 q) r 5 i j) ds) (drop_at (take 5 q) r 5 i j)) ∙ ap (λ d. at d r) (found_changed cs ds q o c)
+    ∙ below r ∙ ap (change (take 5 q ++ r)) (sym (a (take 5 q ++ r) l ∙ (λ j. at (find bits_cmp (take_at (take 5 q) r 5 i j) cs) (drop_at (take 5 q) r 5 i j)))))
     (λ x l e. b x l ∙ ap (λ d. at d (drop 5 x)) (c (take 5 x) ∙ ap (λ t. cond t o (find bits_cmp (take 5 x) cs)) e) ∙ sym (other x (f x) l e ∙ a x l))
 
 module _ {X : Type 0} where

@@ -11,7 +11,7 @@ use Rattle.ipnet_blocks.proofs.Strings.{length-digits, digits_front}
 use Rattle.trie_core.specs.Bits.{number_from}
 use Rattle.ipnet_blocks.specs.BitStrings.{bits_cmp}
 use Rattle.trie_core.specs.InnerPlaces.{place_from, place_of, child_of, place_at, place_string, child_string}
-use Rattle.trie_core.proofs.Strings.{take_front}
+use Rattle.std.proofs.lemmas.List.{take_at, length-take-le}
 
 pub ones_bit : (b : ℕ) → b < 2 → count_ones b ≡ b
 unfolding lib.Count.ones
@@ -129,7 +129,7 @@ pub take-digits : (m n q : ℕ) → m ≤ n → take m (digits n q) ≡ digits m
 take-digits m n q h =
     let t = digits_front m (n - m) q in
     let e : m + (n - m) ≡ n = omega arith in
-    ap (λ i. take m (digits i q)) (sym e) ∙ ap (take m) t.1 ∙ take_front (digits m (q / 2 ^ (n - m))) t.0 m (length-digits m (q / 2 ^ (n - m)))
+    ap (λ i. take m (digits i q)) (sym e) ∙ ap (take m) t.1 ∙ take_at (digits m (q / 2 ^ (n - m))) t.0 m (length-digits m (q / 2 ^ (n - m)))
 
 pub drop-digits : (m n q : ℕ) → m ≤ n → drop m (digits n q) ≡ digits (n - m) q
 drop-digits zero n q h = let e : n - 0 ≡ n = omega arith in rw e refl
@@ -175,11 +175,8 @@ length-child_string n = length-digits 5 n
 
 pub child_string-child_of : (q : List Bool) → 5 ≤ length q → child_string (child_of q) ≡ take 5 q
 child_string-child_of q h =
-    let l : length (take 5 q) ≡ 5 = length_five q h in
+    let l : length (take 5 q) ≡ 5 = length-take-le 5 q h in
     number_apart 5 (child_string (child_of q)) (take 5 q) (omega (arith, length-child_string (child_of q), l)) (omega (arith, length-child_string (child_of q))) (child_of-string (child_of q) (number_bound 5 q) ∙ sym (number-take 5 q))
-  where
-    length_five : (q : List Bool) → 5 ≤ length q → length (take 5 q) ≡ 5
-    length_five q h = omega (arith, length-take 5 q, h)
 
 -- ---- the number of a place from the number that its bits form
 

@@ -7,7 +7,7 @@ use Rattle.std.specs.Ordering.{nat_cmp, eq_by_cmp}
 use Rattle.std.specs.FinMap.{find, entries, is_sorted}
 use Rattle.std.specs.FinMap.Entries.{where_key, find-where_key, is_sorted-where_key, below_all}
 use Rattle.std.proofs.lemmas.Bool.Decides.{nat_tests}
-use Rattle.std.proofs.Math.Nat.{le-mul_of_pos_right, pow-le-pow_right}
+use Rattle.std.proofs.Math.Nat.{le-mul_of_pos_right}
 use Rattle.std.proofs.lemmas.Nat.{pow_pos, pow-add}
 use Rattle.std.proofs.lemmas.Nat.Bits.{bit_at_and, bit_at-lt, bit_at-suc, bit_at_ones, bit_at-zero, bit_at_mask_above, bit_at_mask_below, bit_at_mask_inside}
 use Rattle.trie_core.specs.Bits.{is_from}
@@ -17,7 +17,7 @@ use Rattle.trie_core.specs.InnerWalks.{is_past, first_value, KeysWithin, Left}
 use Rattle.std.proofs.Math.ListN.{length-append}
 use Rattle.std.proofs.lemmas.Bool.{and_right}
 use Rattle.ipnet_addr.proofs.Basics.{T-parts}
-use Rattle.trie_core.proofs.Strings.{front, take_front, take_take, and_with_true}
+use Rattle.trie_core.proofs.Strings.{front}
 use Rattle.trie_core.proofs.Numbers.{place_bound, number_bound, number-take, length-child_string}
 use Rattle.trie_core.proofs.PlaceTables.{past_short, past_long, from_short, from_long}
 use Rattle.trie_core.specs.Nodes.{Seen}
@@ -27,6 +27,8 @@ use Rattle.trie_core.proofs.Edits.{at_sorted, bit_within, half_less, low_less, w
 use Rattle.trie_core.proofs.Taken.{taken, missing}
 use Rattle.trie_core.proofs.Seen.{IsSeen}
 use Rattle.trie_core.proofs.Frames.{IsTold, nat_alike, where_twice, are_parts, IsPart, part_left, part_rest, IsFrame, under_none, value_is_first, value_next, child_next, nothing_next, inside_told}
+use Rattle.std.proofs.lemmas.List.{take_at, take-take}
+use Rattle.std.proofs.Math.Bool.{and-true}
 
 -- ---- bits
 
@@ -73,10 +75,7 @@ has_cleared i j word h = by (eq_by_cmp nat_cmp i j) refl
 
     by : (b : Bool) → eq_by_cmp nat_cmp i j ≡ b → has_bit (word - 2 ^ i) j ≡ (has_bit word j && not b)
     by true e = let s : i ≡ j = grind (arith, nat_tests) in ap (λ x. eqb x 1) (same_bit i j word h s) ∙ sym (and_right (has_bit word j) false refl)
-    by false e = let s : i ≡ j → ⊥ = λ f. let z : eq_by_cmp nat_cmp i j ≡ true = grind (arith, nat_tests) in let w = sym e ∙ z in cc in ap (λ x. eqb x 1) (other_bit i j word h s) ∙ sym (and_with_true (has_bit word j))
-
-pub powers_rise : (a b : ℕ) → a ≤ b → 2 ^ a ≤ 2 ^ b
-powers_rise a b h = pow-le-pow_right (omega arith) h
+    by false e = let s : i ≡ j → ⊥ = λ f. let z : eq_by_cmp nat_cmp i j ≡ true = grind (arith, nat_tests) in let w = sym e ∙ z in cc in ap (λ x. eqb x 1) (other_bit i j word h s) ∙ sym (and-true (has_bit word j))
 
 pub bit_open : (mask bits i : ℕ) → IsFirstPlace (bit_and mask bits) i → 2 ^ i ≤ mask
 bit_open mask bits i f = bit_within mask i (both_set mask bits i f.taken).0
@@ -172,7 +171,7 @@ pub below_way : (way : List Bool) (place : ℕ) {below : List Bool} → below �
 below_way way place {below} e =
     let l : length below ≡ length way + 5 = omega (arith, ap length e, length-append way (child_string place), length-child_string place) in
     let n : length below - 5 ≡ length way = omega (arith, l) in
-    ((λ i. take (n i) (e i)) ∙ take_front way (child_string place) (length way) refl, l)
+    ((λ i. take (n i) (e i)) ∙ take_at way (child_string place) (length way) refl, l)
 
 told_open : (v c : ℕ) → IsTold (is_open v c) (has_bit v) (has_bit c)
 told_open v c = record {
@@ -286,7 +285,7 @@ where_told : {X : Type 0} {p : List Bool → Bool} {f g : ℕ → Bool} (v c : �
 where_told v c es t a b = λ j. where_key bits_cmp (λ k. told_by v c t a b k j) es
 
 has_from : (from i : ℕ) → i < 32 → has_bit (2 ^ 32 - 2 ^ from) i ≡ not (nat_lt i from)
-has_from from i h = has_between from 32 i ∙ (let b : nat_lt i 32 ≡ true = grind (arith, nat_tests) in ap (λ x. not (nat_lt i from) && x) b ∙ and_with_true (not (nat_lt i from)))
+has_from from i h = has_between from 32 i ∙ (let b : nat_lt i 32 ≡ true = grind (arith, nat_tests) in ap (λ x. not (nat_lt i from) && x) b ∙ and-true (not (nat_lt i from)))
 
 module _ {X : Type 0} where
   where_all : (es : List (List Bool × X)) → where_key bits_cmp (λ _. true) es ≡ es
@@ -310,7 +309,7 @@ module _ {X : Type 0} where
       → where_key bits_cmp (is_open v c) es ≡ where_key bits_cmp (is_past (take 5 q)) es
   past_open q {v} {c} {place} {child} es h a b x y =
       let five : length (take 5 q) ≡ 5 = (front q h).0 in
-      let t : take 4 (take 5 q) ≡ take 4 q = take_take q 4 1 in
+      let t : take 4 (take 5 q) ≡ take 4 q = take-take 4 5 q (omega arith) in
       let n : child_of (take 5 q) ≡ child_of q = number-take 5 q in
       (λ j. where_key bits_cmp (is_open (x j) (y j)) es)
       ∙ where_told _ _ es (record { short = λ r s. past_short (take 5 q) r five s; long = λ r s. past_long (take 5 q) r five s })

@@ -13,8 +13,9 @@ use Rattle.ipnet_blocks.specs.BitStrings.{bits_cmp}
 use Rattle.trie_core.specs.InnerWalks.{first_value}
 use Rattle.trie_core.specs.Nodes.{BitMap, Seen}
 use Rattle.trie_core.specs.InnerNodes.{under, node_map, IsNode}
-use Rattle.trie_core.proofs.Strings.{append_none, bits_total, bits_same, same, same-refl, same-Decides, other_length, front, bits_cmp-under}
+use Rattle.trie_core.proofs.Strings.{bits_total, bits_same, same, same-refl, same-Decides, other_length, front, bits_cmp-under}
 use Rattle.trie_core.proofs.Maps.{tail_rises, or_else, find-append_all, find-apart, find-child, child_get, get-short, get-long, get_none, node_map-none}
+use Rattle.std.proofs.lemmas.List.{append-nil}
 
 -- ---- the order of strings
 
@@ -99,7 +100,7 @@ module _ {X : Type 0} where
   above_by {vs} {cs} m n r z l a b q e true h true k =
       let s : length q < 5 = grind (arith, nat_tests) in
       let t : r ≡ [] = z (grind (arith, nat_tests)) in
-      ap (λ x. bits_cmp (n ++ x) q) t ∙ ap (λ x. bits_cmp x q) (append_none n) ∙ found_above n q vs a (sym (ap is_some (get-short m q s)) ∙ e)
+      ap (λ x. bits_cmp (n ++ x) q) t ∙ ap (λ x. bits_cmp x q) (append-nil n) ∙ found_above n q vs a (sym (ap is_some (get-short m q s)) ∙ e)
   above_by {vs} {cs} m n r z l a b q e true h false k =
       let s : length q < 5 = grind (arith, nat_tests) in
       let t : length q ≤ length n = grind (arith, nat_tests) in
@@ -107,7 +108,7 @@ module _ {X : Type 0} where
   above_by {vs} {cs} m n r z l a b q e false h true k =
       let s : 5 ≤ length q = grind (arith, nat_tests) in
       let t : r ≡ [] = z (grind (arith, nat_tests)) in
-      ap (λ x. bits_cmp (n ++ x) q) t ∙ ap (λ x. bits_cmp x q) (append_none n) ∙ ap (bits_cmp n) (sym (front q s).1)
+      ap (λ x. bits_cmp (n ++ x) q) t ∙ ap (λ x. bits_cmp x q) (append-nil n) ∙ ap (bits_cmp n) (sym (front q s).1)
       ∙ less_right n (take 5 q) (drop 5 q) (found_above n (take 5 q) cs b (found_long m q s e))
   above_by {vs} {cs} m n r z l a b q e false h false k =
       let s : 5 ≤ length q = grind (arith, nat_tests) in
@@ -139,7 +140,7 @@ module _ {X : Type 0} where
   pub walk_value : {vs : List (List Bool × X)} {cs : List (List Bool × Seen X)} {e : List Bool × X} → IsNode (e ∷ vs) cs → StartsAfter e.0 cs → entries (node_map (e ∷ vs) cs) ≡ (e.0, e.1) ∷ entries (node_map vs cs)
   walk_value {vs} {cs} {e} n h =
       let b : (q : List Bool) → is_some (find bits_cmp q (entries (node_map vs cs))) ≡ true → bits_cmp e.0 q ≡ Less = λ q s.
-      ap (λ x. bits_cmp x q) (sym (append_none e.0))
+      ap (λ x. bits_cmp x q) (sym (append-nil e.0))
       ∙ above_by (without_value n) e.0 [] (λ _. refl) (omega (arith, n.values_short.0)) (tail_rises e vs n.values_rise).1 (starts_above e.0 cs h n.children_rise) q (found_get (node_map vs cs) q s) (nat_lt (length q) 5) refl (nat_lt (length e.0) 5) refl in
       same_entries bits_cmp bits_total bits_same _ _ (entries_sorted (node_map (e ∷ vs) cs))
       (T-and _ _ (below_found e.0 (entries (node_map vs cs)) b) (entries_sorted (node_map vs cs)))

@@ -11,8 +11,8 @@ use Rattle.trie_core.specs.Bits.{number_from, is_from}
 use Rattle.ipnet_blocks.specs.BitStrings.{bits_cmp, begins}
 use Rattle.trie_core.specs.InnerPlaces.{place_from, place_of, child_of, place_string, IsBeginMask}
 use Rattle.trie_core.specs.InnerWalks.{is_past}
-use Rattle.trie_core.proofs.Strings.{take_take}
 use Rattle.trie_core.proofs.Numbers.{place_strings, place_from_number, number-take}
+use Rattle.std.proofs.lemmas.List.{take-take}
 
 -- a test of all strings of fewer than k bits
 abbrev pub every : ℕ → (List Bool → Bool) → Bool
@@ -181,7 +181,7 @@ longest_place q h =
     let b = take 5 q in
     let l : length (take 5 q) ≡ 5 = omega (arith, length-take 5 q, h) in
     let n : child_of (take 5 q) ≡ child_of q = number-take 5 q in
-    let t : take 4 (take 5 q) ≡ take 4 q = take_take q 4 1 in
+    let t : take 4 (take 5 q) ≡ take 4 q = take-take 4 5 q (omega arith) in
     let e : child_of (take 4 (take 5 q)) ≡ child_of (take 5 q) - child_of (take 5 q) % 2 = eqb-true _ _ (each_holds 5 (λ b. eqb (number_from 5 (take 4 b)) (number_from 5 b - number_from 5 b % 2)) tt b l) in
     let f : child_of (take 4 q) ≡ child_of q - child_of q % 2 = ap child_of (sym t) ∙ e ∙ ap (λ k. k - k % 2) n in
     let p = place_from_number (take 4 q) (omega (arith, length-take 4 q)) in

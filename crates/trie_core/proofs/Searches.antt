@@ -5,7 +5,7 @@ use Rattle.std.specs.Int.{bit_at, w32, leading_zeros}
 use Rattle.std.specs.Ordering.{nat_cmp}
 use Rattle.std.specs.FinMap.{find, get}
 use Rattle.std.proofs.lemmas.Bool.Decides.{nat_tests}
-use Rattle.std.proofs.lemmas.List.{take-append-drop}
+use Rattle.std.proofs.lemmas.List.{take-append-drop, drop-drop, append_assoc}
 use Rattle.std.proofs.lemmas.Nat.{leading_top}
 use Rattle.std.proofs.lemmas.Nat.Bits.{bit_at_and, bit_at-lt, bit_at_above, bit_at-zero}
 use Rattle.std.proofs.Math.Nat.{div-eq_of_lt-le}
@@ -19,6 +19,7 @@ use Rattle.trie_core.proofs.Numbers.{place_strings}
 use Rattle.ipnet_blocks.proofs.BitStrings.{begins_take, take_begins}
 use Rattle.trie_core.proofs.Taken.{taken, missing}
 use Rattle.trie_core.proofs.Seen.{IsSeen, value_at}
+use Rattle.std.proofs.Math.Seq.{take-add}
 
 -- ---- the ends of a word
 
@@ -142,22 +143,6 @@ module _ {X : Type 0} where
 
 -- ---- from node to node
 
-take_split : (j k : ℕ) (q : List Bool) → take (j + k) q ≡ take j q ++ take k (drop j q)
-take_split zero k q = let e : 0 + k ≡ k = omega arith in ap (λ i. take i q) e
-take_split (suc j) zero [] = let e : suc j + 0 ≡ suc (j + 0) = omega arith in rw e refl
-take_split (suc j) (suc k) [] = let e : suc j + suc k ≡ suc (j + suc k) = omega arith in rw e refl
-take_split (suc j) k (x ∷ q) = let e : suc j + k ≡ suc (j + k) = omega arith in rw e (ap (λ p. x ∷ p) (take_split j k q))
-
-append_twice : (xs ys zs : List Bool) → (xs ++ ys) ++ zs ≡ xs ++ (ys ++ zs)
-append_twice [] ys zs = refl
-append_twice (x ∷ xs) ys zs = ap (λ ws. x ∷ ws) (append_twice xs ys zs)
-
-drop_drop : (j k : ℕ) (q : List Bool) → drop k (drop j q) ≡ drop (j + k) q
-drop_drop zero k q = let e : 0 + k ≡ k = omega arith in rw e refl
-drop_drop (suc j) zero [] = let e : suc j + 0 ≡ suc (j + 0) = omega arith in rw e refl
-drop_drop (suc j) (suc k) [] = let e : suc j + suc k ≡ suc (j + suc k) = omega arith in rw e refl
-drop_drop (suc j) k (x ∷ q) = let e : suc j + k ≡ suc (j + k) = omega arith in rw e (drop_drop j k q)
-
 module _ {X : Type 0} where
   -- n is the node at depth d on the way to q in m, and p what is left of the way
   pub record IsAt (m : Seen X) (q : List Bool) (d : ℕ) (n : Seen X) (p : List Bool) : Type 0 where
@@ -168,16 +153,16 @@ module _ {X : Type 0} where
   pub at_child : {m n c : Seen X} {q p r : List Bool} (d : ℕ) → IsAt m q d n p → 5 ≤ length p → IsChild p n c → r ≡ drop 5 p → IsAt m q (d + 5) c r
   at_child {m} {n} {c} {q} {p} {r} d a h e f = record {
     within = omega (arith, ap length a.rest, length-drop d q, h);
-    rest = f ∙ ap (drop 5) a.rest ∙ drop_drop d 5 q;
+    rest = f ∙ ap (drop 5) a.rest ∙ drop-drop 5 d q;
     gets = λ k.
         sym (e.gets k) ∙ a.gets (take 5 p ++ k)
         ∙ ap (λ w. get m.entries (take d q ++ (take 5 w ++ k))) a.rest
-        ∙ ap (get m.entries) (sym (append_twice (take d q) (take 5 (drop d q)) k) ∙ ap (λ w. w ++ k) (sym (take_split d 5 q)));
+        ∙ ap (get m.entries) (sym (append_assoc (take d q) (take 5 (drop d q)) k) ∙ ap (λ w. w ++ k) (sym (take-add d 5 q)));
   }
 
   -- the beginnings of q from depth d on are those of p
   later : {m n : Seen X} {q p : List Bool} (d k : ℕ) → IsAt m q d n p → get m.entries (take (d + k) q) ≡ get n.entries (take k p)
-  later {m} {n} {q} {p} d k a = ap (get m.entries) (take_split d k q ∙ ap (λ w. take d q ++ take k w) (sym a.rest)) ∙ sym (a.gets (take k p))
+  later {m} {n} {q} {p} d k a = ap (get m.entries) (take-add d k q ∙ ap (λ w. take d q ++ take k w) (sym a.rest)) ∙ sym (a.gets (take k p))
 
   pub way_left : {m n : Seen X} {q p : List Bool} (d : ℕ) → IsAt m q d n p → length q ≡ d + length p
   way_left {q = q} d a = omega (arith, ap length a.rest, length-drop d q, a.within)
@@ -239,7 +224,7 @@ module _ {X : Type 0} where
         beyond : (k : ℕ) → d + 5 ≤ k → get m.entries (take k q) ≡ None
         beyond k l =
             let z : d + (5 + (k - d - 5)) ≡ k = omega (arith, l) in
-            ap (λ j. get m.entries (take j q)) (sym z) ∙ later d (5 + (k - d - 5)) a ∙ ap (get n.entries) (take_split 5 (k - d - 5) p) ∙ e.gets (take (k - d - 5) (drop 5 p))
+            ap (λ j. get m.entries (take j q)) (sym z) ∙ later d (5 + (k - d - 5)) a ∙ ap (get n.entries) (take-add 5 (k - d - 5) p) ∙ e.gets (take (k - d - 5) (drop 5 p))
 
         either : (k : ℕ) → (k < d + 5 → get m.entries (take k q) ≡ None) → (b : Bool) → nat_lt k (d + 5) ≡ b → get m.entries (take k q) ≡ None
         either k f true t = f (grind (arith, nat_tests))

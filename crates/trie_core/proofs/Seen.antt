@@ -5,7 +5,7 @@ use Rattle.std.specs.Ordering.{nat_cmp}
 use Rattle.std.specs.FinMap.{find, get, empty, empty_of_len}
 use Rattle.std.proofs.lemmas.Nat.{zero_from_ones}
 use Rattle.std.proofs.Math.ListN.{length-append}
-use Rattle.std.proofs.lemmas.List.{nil_from_length}
+use Rattle.std.proofs.lemmas.List.{nil_from_length, drop_at, take_at}
 use Rattle.ipnet_blocks.specs.BitStrings.{bits_cmp}
 use Rattle.trie_core.specs.InnerPlaces.{place_of, child_of, at_places, value_list, child_list}
 use Rattle.trie_core.specs.Nodes.{BitMap, Seen}
@@ -13,8 +13,8 @@ use Rattle.trie_core.specs.InnerNodes.{node_map, node_height, IsNode, HasSlots}
 use Rattle.trie_core.specs.InnerCount.{spare_count, all_nodes, total, spares_below, spare_set}
 use Rattle.trie_core.specs.Count.{node_visits}
 use Rattle.trie_core.specs.InnerSearch.{IsChild, HasNoChild}
-use Rattle.trie_core.proofs.Strings.{same, take_first, front}
-use Rattle.trie_core.proofs.Maps.{drop_first, node_map-none, child_get, get_none, get-short, get-long}
+use Rattle.trie_core.proofs.Strings.{same, front}
+use Rattle.trie_core.proofs.Maps.{node_map-none, child_get, get_none, get-short, get-long}
 use Rattle.trie_core.proofs.Count.{things, all_of_node, bare_lists}
 use Rattle.trie_core.proofs.Visits.{visits_none, visits_some}
 use Rattle.trie_core.proofs.Numbers.{ones_bit}
@@ -106,14 +106,14 @@ module _ {X : Type 0} where
       let f = (front q h).0 in
       sym (ap (λ m. get m (take 5 q ++ r)) s.map)
       ∙ get-long s.node (take 5 q ++ r) (omega (arith, length-append (take 5 q) r, f))
-      ∙ (λ i. child_get (find bits_cmp (take_first (take 5 q) r f i) (child_list cb cs)) (drop_first (take 5 q) r f i))
+      ∙ (λ i. child_get (find bits_cmp (take_at (take 5 q) r 5 f i) (child_list cb cs)) (drop_at (take 5 q) r 5 f i))
 
   fronted_spare : {vb : ℕ} {vs : List X} {cb : ℕ} {cs : List (Seen X)} {m : Seen X} (q r : List Bool) → IsSeen vb vs cb cs m → 5 ≤ length q → get m.spares (take 5 q ++ r) ≡ marked_get (find bits_cmp (take 5 q) (child_list cb cs)) r
   fronted_spare {cb = cb} {cs = cs} q r s h =
       let f = (front q h).0 in
       sym (ap (λ b. get b (take 5 q ++ r)) s.spare)
       ∙ set-long s.node (take 5 q ++ r) (omega (arith, length-append (take 5 q) r, f))
-      ∙ (λ i. marked_get (find bits_cmp (take_first (take 5 q) r f i) (child_list cb cs)) (drop_first (take 5 q) r f i))
+      ∙ (λ i. marked_get (find bits_cmp (take_at (take 5 q) r 5 f i) (child_list cb cs)) (drop_at (take 5 q) r 5 f i))
 
   -- the spare nodes at strings of five bits and more are those of the child on the way
   pub spare_at : {vb : ℕ} {vs : List X} {cb : ℕ} {cs : List (Seen X)} {m : Seen X} (q : List Bool) → IsSeen vb vs cb cs m → 5 ≤ length q → marked_get (find nat_cmp (child_of q) (at_places 32 0 cb cs)) (drop 5 q) ≡ get m.spares q

@@ -1,13 +1,13 @@
 -- A stack of frames along a way.
 use Rattle.std.proofs.Common.{◌≡◌, ℕ, suc, ◌+◌, ◌-◌, ◌*◌, ◌<◌, ◌≤◌, Bool, List, [], ◌∷◌, ◌++◌, length, take, drop, refl, sym, ap, subst, ◌∙◌, arith}
-use Rattle.std.proofs.lemmas.List.{take_all}
+use Rattle.std.proofs.lemmas.List.{take_all, append-nil, take_at, take-take}
 use Rattle.std.proofs.Math.ListN.{length-append, length-take}
 use Rattle.std.specs.FinMap.{entries}
 use Rattle.std.specs.FinMap.Entries.{where_key}
 use Rattle.trie_core.specs.Bits.{is_from}
 use Rattle.ipnet_blocks.specs.BitStrings.{bits_cmp}
 use Rattle.trie_core.specs.InnerWalks.{is_past, KeysWithin, Left, walk_rest, walk_weight, FitFrom}
-use Rattle.trie_core.proofs.Strings.{append_none, front, take_front, take_take}
+use Rattle.trie_core.proofs.Strings.{front}
 use Rattle.trie_core.specs.Nodes.{Seen}
 use Rattle.trie_core.specs.InnerNodes.{under}
 use Rattle.trie_core.specs.InnerSearch.{IsChild, HasNoChild}
@@ -40,11 +40,8 @@ module _ {X : Type 0} where
       b : length (take n way) - 5 * length fs ≡ j
       b = omega (arith, length-take n way)
 
-      k : j + (n - j) ≡ n
-      k = omega arith
-
       e : take (length way - 5 * length (fs ++ f ∷ [])) way ≡ take (length (take n way) - 5 * length fs) (take n way)
-      e = ap (λ k. take k way) a ∙ sym (take_take way j (n - j)) ∙ ap (λ k. take j (take k way)) k ∙ ap (λ k. take k (take n way)) (sym b)
+      e = ap (λ k. take k way) a ∙ sym (take-take j n way (omega arith)) ∙ ap (λ k. take k (take n way)) (sym b)
 
   reach_open : (n : ℕ) (fs : List (Left X)) (f : Left X) → Reach n (fs ++ f ∷ []) → Reach (n - 5) fs × (n + 5 * f.1 ≤ 130)
   reach_open n [] f r = (tt, omega (arith, r.0))
@@ -129,7 +126,7 @@ module _ {X : Type 0} where
   pub one_frame : {gs fs : List (Left X)} (f : Left X) (way : List Bool) → fs ≡ [] → gs ≡ fs ++ f ∷ [] → 0 < f.1 → f.1 ≤ 26 → length way + 5 * f.1 ≤ 130 → KeysWithin 128 (under way f.0) → IsWalk gs way × (walk_rest (along way gs) ≡ under way f.0)
   one_frame {gs} {fs} f way z e p l h k =
       let t = put_frame {fs = []} {f = f} way tt tt p (omega (arith, l)) h (e ∙ ap (λ xs. xs ++ f ∷ []) z) in
-      let r = t.top.rest ∙ append_none (under way f.0) in (
+      let r = t.top.rest ∙ append-nil (under way f.0) in (
         record { fit = t.top.whole; reach = t.all; keys = subst (KeysWithin 128) (sym r) k },
         r,
       )
@@ -156,7 +153,7 @@ module _ {X : Type 0} where
   pub going_below : {m n c : Seen X} {q p r trail below : List Bool} {i : Bool} {fs gs : List (Left X)} {f : Left X} → IsGoingOn m n q p trail i fs → 5 ≤ length p → IsChild p n c → below ≡ trail ++ take 5 p → r ≡ drop 5 p → f.0 ≡ where_key bits_cmp (is_past (take 5 p)) (entries n.entries) → IsLast gs fs f trail → IsGoingOn m c q r below i gs
   going_below {m} {n} {c} {q} {p} {r} {trail} {below} {i} {fs} {gs} w h s e d v t =
       let k : length below - 5 ≡ length trail = omega (arith, ap length e, length-append trail (take 5 p), (front p h).0) in
-      let u : take (length below - 5) below ≡ trail = (λ j. take (k j) (e j)) ∙ take_front trail (take 5 p) (length trail) refl in
+      let u : take (length below - 5) below ≡ trail = (λ j. take (k j) (e j)) ∙ take_at trail (take 5 p) (length trail) refl in
       record {
         way = subst (λ x. IsOnwards m c q r below i (along x gs)) (sym u) (onwards_below w.way h s e d (ap (under trail) v) t.top);
         reach = subst (λ x. Reach x gs) (sym k) t.all;

@@ -12,12 +12,13 @@ use Rattle.trie_core.specs.Nodes.{BitMap, BitSet, Seen}
 use Rattle.trie_core.specs.InnerNodes.{under, node_map, IsNode}
 use Rattle.trie_core.specs.Count.{fives_from, fives, fives_of, begun, found_in, visit_count, stands, standing_at, node_visits}
 use Rattle.trie_core.specs.InnerCount.{marked, spare_set}
-use Rattle.trie_core.proofs.Strings.{same, same-Decides, not_same, append_none, take_first, same_false, take_take}
-use Rattle.trie_core.proofs.Maps.{tail_rises, find-under, find-apart, drop_first}
+use Rattle.trie_core.proofs.Strings.{same, same-Decides, not_same, same_false}
+use Rattle.trie_core.proofs.Maps.{tail_rises, find-under, find-apart}
 use Rattle.trie_core.specs.InnerWalks.{first_value}
 use Rattle.trie_core.proofs.Order.{StartsAfter, found_long, found_get, without_value, without_child, starts_after, values_after}
 use Rattle.trie_core.proofs.Count.{has, has-append, has-begun, some_cond, some_entry, nothing, fives_child, fives_short, begun_by_key, after_child, begun_value, begun_none, begun_child}
 use Rattle.trie_core.proofs.Marks.{root_if, marked_get, marked-other, marked-root, set-long}
+use Rattle.std.proofs.lemmas.List.{append-nil, drop_at, take_at, take-take}
 
 below_none : {Y : Type 0} (b : List Bool) (es : List (List Bool × Y)) → T (below_all bits_cmp b es) → has b es ≡ false
 below_none b [] h = refl
@@ -34,7 +35,7 @@ or_neither : (a b c : Bool) → a ≡ false → b ≡ false → (a || (b || c)) 
 or_neither a b c e f = λ i. e i || (f i || c)
 
 apart : (n m x k : List Bool) → length n ≡ 5 → length m ≡ 5 → same n m ≡ false → n ++ x ≡ m ++ k → ⊥
-apart n m x k a b e p = not_same e (sym (take_first n x a) ∙ ap (take 5) p ∙ take_first m k b)
+apart n m x k a b e p = not_same e (sym (take_at n x 5 a) ∙ ap (take 5) p ∙ take_at m k 5 b)
 
 module _ {X : Type 0} where
   here : {vs : List (List Bool × X)} {cs : List (List Bool × Seen X)} {c : List Bool × Seen X} → IsNode vs (c ∷ cs) → StartsAfter c.0 vs → (x : List Bool) (s : Bool) → some_entry (entries c.1.entries) ≡ s
@@ -63,7 +64,7 @@ module _ {X : Type 0} where
       ap (has (m ++ x)) (begun_child n (tail_rises c cs n.children_rise).1 h s)
       ∙ some_cond (same (m ++ x) b) tt (find bits_cmp (m ++ x) (under b E ++ F))
       ∙ ap (λ t. same (m ++ x) b || t) (has-append (m ++ x) (under b E) F)
-      ∙ or_neither _ _ _ (same_false (m ++ x) b (λ p. apart m b x [] a n.children_long.0 e (p ∙ sym (append_none b)))) (ap is_some (find-apart b (m ++ x) (λ k p. apart m b x k a n.children_long.0 e p) E))
+      ∙ or_neither _ _ _ (same_false (m ++ x) b (λ p. apart m b x [] a n.children_long.0 e (p ∙ sym (append-nil b)))) (ap is_some (find-apart b (m ++ x) (λ k p. apart m b x k a n.children_long.0 e p) E))
   elsewhere {vs} {cs} {c} m n h a e x false s = ap (λ w. has (m ++ x) (entries w)) (begun_none n h (nothing (entries c.1.entries) s))
 
   abbrev Begun : List (List Bool × X) → List (List Bool × Seen X) → List Bool → Seen X → List Bool → Type 0
@@ -101,8 +102,7 @@ module _ {X : Type 0} where
   standing_none : (i n : ℕ) (q : List Bool) (m : BitMap X) (s : BitSet) → 5 * i + 5 * n ≤ length q → ((x : List Bool) → 5 ≤ length x → take 5 x ≡ take 5 q → stands m s x ≡ false) → standing_at m s (fives_from i n q) ≡ 0
   standing_none i zero q m s h f = refl
   standing_none i (suc n) q m s h f =
-      let z : 5 * i + 5 ≡ 5 + 5 * i = omega arith in
-      let e = f (take (5 * i + 5) q) (omega (arith, length-take (5 * i + 5) q, h)) (ap (λ k. take 5 (take k q)) z ∙ take_take q 5 (5 * i)) in
+      let e = f (take (5 * i + 5) q) (omega (arith, length-take (5 * i + 5) q, h)) (take-take 5 (5 * i + 5) q (omega arith)) in
       let c : counted (stands m s (take (5 * i + 5) q)) ≡ 0 = ap counted e in
       omega (arith, c, standing_none (suc i) n q m s (omega (arith, h)) f)
 
@@ -136,7 +136,7 @@ module _ {X : Type 0} where
   spare_below : {vs : List (List Bool × X)} {cs : List (List Bool × Seen X)} {w : Seen X} (b x : List Bool) → IsNode vs cs → length b ≡ 5 → find bits_cmp b cs ≡ Some w → get (spare_set cs) (b ++ x) ≡ get (marked w) x
   spare_below {vs} {cs} {w} b x n a f =
       set-long n (b ++ x) (omega (arith, length-append b x, a))
-      ∙ (λ i. marked_get (find bits_cmp (take_first b x a i) cs) (drop_first b x a i))
+      ∙ (λ i. marked_get (find bits_cmp (take_at b x 5 a i) cs) (drop_at b x 5 a i))
       ∙ ap (λ o. marked_get o x) f
 
   -- below the child, where one stands below it
@@ -158,9 +158,9 @@ module _ {X : Type 0} where
   stands_child : {vs : List (List Bool × X)} {cs : List (List Bool × Seen X)} {w : Seen X} (b : List Bool) → IsNode vs cs → length b ≡ 5 → find bits_cmp b cs ≡ Some w → stands (node_map vs cs) (spare_set cs) b ≡ true
   stands_child {vs} {cs} {w} b n a f =
       let z = is_some (get (begun w.entries) []) in
-      ap (stands (node_map vs cs) (spare_set cs)) (sym (append_none b))
+      ap (stands (node_map vs cs) (spare_set cs)) (sym (append-nil b))
       ∙ (λ i. begun_below b [] n a f i || is_some ((spare_below b [] n a f ∙ marked-root w) i))
-      ∙ ap (λ t. ((some_entry (entries w.entries) && t) || z) || is_some (root_if (len w.entries))) ((same-Decides (b ++ []) b).1 (append_none b))
+      ∙ ap (λ t. ((some_entry (entries w.entries) && t) || z) || is_some (root_if (len w.entries))) ((same-Decides (b ++ []) b).1 (append-nil b))
       ∙ some_or_none (entries w.entries) (len w.entries) z (len-entries w.entries)
 
   -- a child on the way: the node, and what is visited from the child on

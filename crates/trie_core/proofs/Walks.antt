@@ -5,7 +5,7 @@ use Rattle.std.specs.declared.cmp.Ordering.TheVariants.{Less}
 use Rattle.std.specs.Ordering.{is_lt}
 use Rattle.std.specs.FinMap.{is_sorted, find, entries, get, get-entries, entries_sorted, empty}
 use Rattle.std.specs.FinMap.Entries.{where_key, find-where_key, is_sorted-where_key, same_entries}
-use Rattle.std.proofs.lemmas.List.{append_assoc, take-append-drop}
+use Rattle.std.proofs.lemmas.List.{append_assoc, take-append-drop, append-nil, take_at}
 use Rattle.std.proofs.Math.ListN.{length-append, length-drop}
 use Rattle.std.proofs.lemmas.Bool.{false_from_ne_true, and_right}
 use Rattle.trie_core.specs.Bits.{is_from}
@@ -16,7 +16,7 @@ use Rattle.trie_core.specs.Prefixes.{prefix_bits}
 use Rattle.trie_core.specs.Nodes.{BitMap, Seen}
 use Rattle.trie_core.specs.InnerNodes.{under}
 use Rattle.trie_core.specs.InnerSearch.{IsChild, HasNoChild}
-use Rattle.trie_core.proofs.Strings.{bits_total, bits_same, same, same-Decides, same-refl, not_same, append_none, front, take_first, bits_cmp-under}
+use Rattle.trie_core.proofs.Strings.{bits_total, bits_same, same, same-Decides, same-refl, not_same, front, bits_cmp-under}
 use Rattle.ipnet_blocks.proofs.BitStrings.{begins_take, begins-under}
 use Rattle.trie_core.proofs.Count.{under-append}
 use Rattle.trie_core.proofs.Maps.{or_else, find-append_all, find-under, find-apart, get_none, node_map-none}
@@ -28,7 +28,7 @@ use Rattle.trie_core.proofs.Frames.{child_bits, bits_alike, under-under, under_n
 
 module _ {X : Type 0} where
   rest-append : (fs : List (Left X)) (f : Left X) → walk_rest (fs ++ f ∷ []) ≡ f.0 ++ walk_rest fs
-  rest-append [] f = sym (append_none f.0)
+  rest-append [] f = sym (append-nil f.0)
   rest-append (g ∷ fs) f = ap (λ ws. ws ++ g.0) (rest-append fs f) ∙ append_assoc f.0 (walk_rest fs) g.0
 
   weight-append : (fs : List (Left X)) (f : Left X) → walk_weight (fs ++ f ∷ []) ≡ f.2 + 1 + walk_weight fs
@@ -107,7 +107,7 @@ module _ {X : Type 0} where
   pub where_below : {p : List Bool} {m c : BitMap X} {f g : List Bool → Bool} → AreBelow p m c f g → where_key bits_cmp f (entries m) ≡ under (take 5 p) (where_key bits_cmp g (entries c))
   where_below {p} {m} {c} {f} {g} a =
       same_entries bits_cmp bits_total bits_same _ _ (is_sorted-where_key bits_cmp f (entries m) (entries_sorted m))
-      (subst (λ es. T (is_sorted bits_cmp es)) (append_none (under (take 5 p) (where_key bits_cmp g (entries c)))) (sorted_under (take 5 p) (where_key bits_cmp g (entries c)) [] (is_sorted-where_key bits_cmp g (entries c) (entries_sorted c)) tt (λ x. tt)))
+      (subst (λ es. T (is_sorted bits_cmp es)) (append-nil (under (take 5 p) (where_key bits_cmp g (entries c)))) (sorted_under (take 5 p) (where_key bits_cmp g (entries c)) [] (is_sorted-where_key bits_cmp g (entries c) (entries_sorted c)) tt (λ x. tt)))
       (λ x. find-where_key bits_cmp f x (bits_alike f x) (entries m) ∙ ap (λ o. cond (f x) o None) (sym (get-entries m x)) ∙ by x (same (take 5 x) (take 5 p)) refl)
     where
       at : (r : List Bool) → cond (f (take 5 p ++ r)) (get m (take 5 p ++ r)) None ≡ find bits_cmp (take 5 p ++ r) (under (take 5 p) (where_key bits_cmp g (entries c)))
@@ -120,7 +120,7 @@ module _ {X : Type 0} where
           let w : take 5 p ++ drop 5 x ≡ x = ap (λ s. s ++ drop 5 x) (sym ((same-Decides (take 5 x) (take 5 p)).0 e)) ∙ take-append-drop 5 x in
           subst (λ x. cond (f x) (get m x) None ≡ find bits_cmp x (under (take 5 p) (where_key bits_cmp g (entries c)))) w (at (drop 5 x))
       by x false e =
-          let no : (k : List Bool) → x ≡ take 5 p ++ k → ⊥ = λ k q. not_same e (ap (take 5) q ∙ take_first (take 5 p) k (front p a.long).0) in
+          let no : (k : List Bool) → x ≡ take 5 p ++ k → ⊥ = λ k q. not_same e (ap (take 5) q ∙ take_at (take 5 p) k 5 (front p a.long).0) in
           ap (λ t. cond t (get m x) None) (a.other x no) ∙ sym (find-apart (take 5 p) x no (where_key bits_cmp g (entries c)))
 
   begins_below : (p : List Bool) {m c : BitMap X} → 5 ≤ length p → ((r : List Bool) → get m (take 5 p ++ r) ≡ get c r) → AreBelow p m c (begins p) (begins (drop 5 p))
@@ -263,7 +263,7 @@ module _ {X : Type 0} where
           let w : take 5 p ++ drop 5 x ≡ x = ap (λ s. s ++ drop 5 x) (sym ((same-Decides (take 5 x) (take 5 p)).0 e)) ∙ take-append-drop 5 x in
           subst (λ x. cond (is_from p i x) (get m x) None ≡ or_else (find bits_cmp x (under (take 5 p) (where_key bits_cmp (is_from (drop 5 p) i) (entries c)))) (find bits_cmp x (where_key bits_cmp (is_past (take 5 p)) (entries m)))) w (at (drop 5 x))
       by x false e =
-          let no : (k : List Bool) → x ≡ take 5 p ++ k → ⊥ = λ k q. not_same e (ap (take 5) q ∙ take_first (take 5 p) k (front p h).0) in
+          let no : (k : List Bool) → x ≡ take 5 p ++ k → ⊥ = λ k q. not_same e (ap (take 5) q ∙ take_at (take 5 p) k 5 (front p h).0) in
           ap (λ t. cond t (get m x) None) (whole x ∙ from_apart i (take 5 p) (drop 5 p) x (not_begun (take 5 p) x no))
           ∙ sym (found (is_past (take 5 p)) x)
           ∙ ap (λ o. or_else o (find bits_cmp x (where_key bits_cmp (is_past (take 5 p)) (entries m)))) (sym (find-apart (take 5 p) x no (where_key bits_cmp (is_from (drop 5 p) i) (entries c))))
@@ -282,7 +282,7 @@ module _ {X : Type 0} where
     within = omega (arith, h, ap length e);
     fit = subst (λ gs. FitFrom 0 gs) (sym z) tt;
     room = omega (arith, ap length z, l);
-    from = (λ j. under (e j) (where_key bits_cmp (is_from q i) (entries m.entries)) ++ walk_rest (z j)) ∙ append_none _ ∙ under_none (where_key bits_cmp (is_from q i) (entries m.entries));
+    from = (λ j. under (e j) (where_key bits_cmp (is_from q i) (entries m.entries)) ++ walk_rest (z j)) ∙ append-nil _ ∙ under_none (where_key bits_cmp (is_from q i) (entries m.entries));
   }
 
   -- the frame of what is past the five bits goes on the stack
