@@ -15,8 +15,7 @@ use Rattle.trie_core.specs.Count.{fives_from, fives, fives_of, begun, nodes}
 use Rattle.trie_core.specs.InnerCount.{nodes_if, spare_if, spare_count, spares_below, all_nodes, total}
 use Rattle.trie_core.proofs.Strings.{bits_total, bits_same, same, same-Decides, same-refl, front}
 use Rattle.trie_core.proofs.Maps.{tail_rises, or_else, find-append_all, find-under, find-apart, node_map-none, get-short, get_none}
-use Rattle.trie_core.specs.InnerWalks.{first_value}
-use Rattle.trie_core.proofs.Order.{StartsAfter, below_under, below_append, less_right, less_left, found_above, below_found, found_long, found_get, sorted_under, walk_value, walk_child, walk_none, without_value, without_child, starts_after, values_after}
+use Rattle.trie_core.proofs.Order.{StartsAfter, below_under, below_append, less_right, less_left, found_above, below_found, found_long, found_get, sorted_under, walk_value, walk_child, walk_none, without_child, each_node}
 use Rattle.std.proofs.Math.Seq.{take-append-add}
 use Rattle.std.proofs.Math.Bool.{or_assoc}
 
@@ -234,23 +233,10 @@ module _ {X : Type 0} where
       let k : nodes_if (len c.1.entries) c.1.entries ≡ 0 = ap (λ l. nodes_if l c.1.entries) (len-entries c.1.entries ∙ ap length z) in
       omega (arith, k, ap len (begun_none n h z))
 
-  count_either : (e : List Bool × X) (vs : List (List Bool × X)) (c : List Bool × Seen X) (cs : List (List Bool × Seen X))
-      → (IsNode vs (c ∷ cs) → len (begun (node_map vs (c ∷ cs))) ≡ nodes_below (things (c ∷ cs))) → (IsNode (e ∷ vs) cs → len (begun (node_map (e ∷ vs) cs)) ≡ nodes_below (things cs))
-      → IsNode (e ∷ vs) (c ∷ cs) → (b : Bool) → first_value (e ∷ vs) (c ∷ cs) ≡ b → len (begun (node_map (e ∷ vs) (c ∷ cs))) ≡ nodes_below (things (c ∷ cs))
-  count_either e vs c cs f g n true b = ap len (begun_value n (starts_after e vs (c ∷ cs) b)) ∙ f (without_value n)
-  count_either e vs c cs f g n false b = omega (arith, count_child_by n (values_after (e ∷ vs) c cs n b) (some_entry (entries c.1.entries)) refl, g (without_child n))
-
-  count_by : (k : ℕ) (vs : List (List Bool × X)) (cs : List (List Bool × Seen X)) → length vs + length cs ≤ k → IsNode vs cs → len (begun (node_map vs cs)) ≡ nodes_below (things cs)
-  count_by k [] [] h n = count_none X
-  count_by zero (e ∷ vs) cs h n = absurd (omega arith)
-  count_by zero [] (c ∷ cs) h n = absurd (omega arith)
-  count_by (suc k) [] (c ∷ cs) h n = omega (arith, count_child_by n tt (some_entry (entries c.1.entries)) refl, count_by k [] cs (omega arith) (without_child n))
-  count_by (suc k) (e ∷ vs) [] h n = ap len (begun_value n tt) ∙ count_by k vs [] (omega arith) (without_value n)
-  count_by (suc k) (e ∷ vs) (c ∷ cs) h n = count_either e vs c cs (λ m. count_by k vs (c ∷ cs) (omega arith) m) (λ m. count_by k (e ∷ vs) cs (omega arith) m) n (first_value (e ∷ vs) (c ∷ cs)) refl
-
   -- the nodes that a map needs: one, and those that the children's maps need
   nodes_of_node : {vs : List (List Bool × X)} {cs : List (List Bool × Seen X)} → IsNode vs cs → nodes (node_map vs cs) ≡ nodes_below (things cs) + 1
-  nodes_of_node {vs} {cs} n = ap (λ k. k + 1) (count_by (length vs + length cs) vs cs (omega arith) n)
+  nodes_of_node {vs} {cs} n = ap (λ k. k + 1) (each_node (λ vs cs. len (begun (node_map vs cs)) ≡ nodes_below (things cs)) (count_none X) (λ e vs cs n h r. ap len (begun_value n h) ∙ r)
+      (λ vs c cs n h r. omega (arith, count_child_by n h (some_entry (entries c.1.entries)) refl, r)) vs cs n)
 
   one_child_nodes : (n : ℕ) (m : BitMap X) (k : ℕ) → len m ≡ n → nodes_if n m + (spare_if n + k) ≡ nodes m + k
   one_child_nodes zero m k e = omega (arith, ap nodes (empty_of_len m e), nodes_empty X)

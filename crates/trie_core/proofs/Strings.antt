@@ -41,15 +41,13 @@ same_false xs ys f = false_from_ne_true _ (λ e. f ((same-Decides xs ys).0 e))
 pub not_same : {xs ys : List Bool} → same xs ys ≡ false → xs ≡ ys → ⊥
 not_same {xs} {ys} e f = both_ways _ e ((same-Decides xs ys).1 f)
 
-pub same-under : (bs xs ys : List Bool) → same (bs ++ xs) (bs ++ ys) ≡ same xs ys
-same-under [] xs ys = refl
-same-under (true ∷ bs) xs ys = same-under bs xs ys
-same-under (false ∷ bs) xs ys = same-under bs xs ys
-
 pub bits_cmp-under : (bs xs ys : List Bool) → bits_cmp (bs ++ xs) (bs ++ ys) ≡ bits_cmp xs ys
 bits_cmp-under [] xs ys = refl
 bits_cmp-under (true ∷ bs) xs ys = bits_cmp-under bs xs ys
 bits_cmp-under (false ∷ bs) xs ys = bits_cmp-under bs xs ys
+
+pub same-under : (bs xs ys : List Bool) → same (bs ++ xs) (bs ++ ys) ≡ same xs ys
+same-under bs xs ys = ap is_eq (bits_cmp-under bs xs ys)
 
 pub other_length : (x q : List Bool) → (length x ≡ length q → ⊥) → same x q ≡ false
 other_length x q f = same_false x q (λ e. f (ap length e))

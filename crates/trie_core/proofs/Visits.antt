@@ -14,8 +14,7 @@ use Rattle.trie_core.specs.Count.{fives_from, fives, fives_of, begun, found_in, 
 use Rattle.trie_core.specs.InnerCount.{marked, spare_set}
 use Rattle.trie_core.proofs.Strings.{same, same-Decides, not_same, same_false}
 use Rattle.trie_core.proofs.Maps.{tail_rises, find-under, find-apart}
-use Rattle.trie_core.specs.InnerWalks.{first_value}
-use Rattle.trie_core.proofs.Order.{StartsAfter, found_long, found_get, without_value, without_child, starts_after, values_after}
+use Rattle.trie_core.proofs.Order.{StartsAfter, found_long, found_get, each_node}
 use Rattle.trie_core.proofs.Count.{has, has-append, has-begun, some_cond, some_entry, nothing, fives_child, fives_short, begun_by_key, after_child, begun_value, begun_none, begun_child}
 use Rattle.trie_core.proofs.Marks.{root_if, marked_get, marked-other, marked-root, set-long}
 use Rattle.std.proofs.lemmas.List.{append-nil, drop_at, take_at, take-take}
@@ -80,16 +79,9 @@ module _ {X : Type 0} where
       ∙ (λ i. (some_entry (entries (u i).entries) && same (sym z i ++ x) (sym z i)) || has x (entries (begun (u i).entries)))
   begun_under {vs} {cs} {c} m w x n h a r false e f = elsewhere m n h a e x (some_entry (entries c.1.entries)) refl ∙ r f
 
-  begun_either : (e : List Bool × X) (vs : List (List Bool × X)) (c : List Bool × Seen X) (cs : List (List Bool × Seen X)) (m : List Bool) (w : Seen X) (x : List Bool) → IsNode (e ∷ vs) (c ∷ cs) → length m ≡ 5 → find bits_cmp m (c ∷ cs) ≡ Some w
-      → (IsNode vs (c ∷ cs) → Begun vs (c ∷ cs) m w x) → (IsNode (e ∷ vs) cs → find bits_cmp m cs ≡ Some w → Begun (e ∷ vs) cs m w x) → (b : Bool) → first_value (e ∷ vs) (c ∷ cs) ≡ b → Begun (e ∷ vs) (c ∷ cs) m w x
-  begun_either e vs c cs m w x n a f p q true b = ap (λ k. has (m ++ x) (entries k)) (begun_value n (starts_after e vs (c ∷ cs) b)) ∙ p (without_value n)
-  begun_either e vs c cs m w x n a f p q false b = begun_under m w x n (values_after (e ∷ vs) c cs n b) a (q (without_child n)) (same m c.0) refl f
-
-  begun_by : (k : ℕ) (vs : List (List Bool × X)) (cs : List (List Bool × Seen X)) (m : List Bool) (w : Seen X) (x : List Bool) → length vs + length cs ≤ k → IsNode vs cs → length m ≡ 5 → find bits_cmp m cs ≡ Some w → Begun vs cs m w x
-  begun_by k vs [] m w x h n a f = cc
-  begun_by zero vs (c ∷ cs) m w x h n a f = absurd (omega arith)
-  begun_by (suc k) [] (c ∷ cs) m w x h n a f = begun_under m w x n tt a (λ g. begun_by k [] cs m w x (omega arith) (without_child n) a g) (same m c.0) refl f
-  begun_by (suc k) (e ∷ vs) (c ∷ cs) m w x h n a f = begun_either e vs c cs m w x n a f (λ o. begun_by k vs (c ∷ cs) m w x (omega arith) o a f) (λ o g. begun_by k (e ∷ vs) cs m w x (omega arith) o a g) (first_value (e ∷ vs) (c ∷ cs)) refl
+  begun_by : (vs : List (List Bool × X)) (cs : List (List Bool × Seen X)) (m : List Bool) (w : Seen X) (x : List Bool) → IsNode vs cs → length m ≡ 5 → find bits_cmp m cs ≡ Some w → Begun vs cs m w x
+  begun_by vs cs m w x n a = each_node (λ vs cs. find bits_cmp m cs ≡ Some w → Begun vs cs m w x) (λ f. cc) (λ e vs cs n h r f. ap (λ k. has (m ++ x) (entries k)) (begun_value n h) ∙ r f)
+      (λ vs c cs n h r f. begun_under m w x n h a r (same m c.0) refl f) vs cs n
 
 abbrev counted : Bool → ℕ
 counted b = cond b 1 0
@@ -130,7 +122,7 @@ module _ {X : Type 0} where
   begun_below : {vs : List (List Bool × X)} {cs : List (List Bool × Seen X)} {w : Seen X} (b x : List Bool) → IsNode vs cs → length b ≡ 5 → find bits_cmp b cs ≡ Some w
       → is_some (get (begun (node_map vs cs)) (b ++ x)) ≡ ((some_entry (entries w.entries) && same (b ++ x) b) || is_some (get (begun w.entries) x))
   begun_below {vs} {cs} {w} b x n a f =
-      ap is_some (get-entries (begun (node_map vs cs)) (b ++ x)) ∙ begun_by (length vs + length cs) vs cs b w x (omega arith) n a f
+      ap is_some (get-entries (begun (node_map vs cs)) (b ++ x)) ∙ begun_by vs cs b w x n a f
       ∙ (λ i. (some_entry (entries w.entries) && same (b ++ x) b) || is_some (sym (get-entries (begun w.entries) x) i))
 
   spare_below : {vs : List (List Bool × X)} {cs : List (List Bool × Seen X)} {w : Seen X} (b x : List Bool) → IsNode vs cs → length b ≡ 5 → find bits_cmp b cs ≡ Some w → get (spare_set cs) (b ++ x) ≡ get (marked w) x
