@@ -1,11 +1,10 @@
 -- What a node's map has at a bit string, and how it changes.
-use Rattle.std.proofs.Common.{◌≡◌, ◌<◌, ◌≤◌, Bool, true, false, cond, List, [], ◌∷◌, ◌++◌, length, take, drop, refl, sym, ap, ◌∙◌, arith, subst}
-use Rattle.std.specs.Prelude.{T, nat_lt, Option, Some, None}
+use Rattle.std.proofs.Common.{◌≡◌, ◌<◌, ◌≤◌, Bool, true, false, cond, List, [], ◌∷◌, ◌++◌, length, take, drop, refl, sym, ap, ◌∙◌, arith, subst, inl, inr}
+use Rattle.std.specs.Prelude.{T, Option, Some, None}
 use Rattle.std.specs.Ordering.{is_eq}
 use Rattle.std.specs.FinMap.{entries, find, get, empty, is_sorted, get-entries, get-empty, get-from_entries, get-insert, get-remove, same_map}
 use Rattle.std.specs.FinMap as map
 use Rattle.std.specs.FinMap.Entries.{below_all}
-use Rattle.std.proofs.lemmas.Bool.Decides.{nat_tests}
 use Rattle.std.proofs.Math.ListN.{length-append}
 use Rattle.ipnet_addr.proofs.Basics.{T-parts, less_from_T}
 use Rattle.ipnet_blocks.specs.BitStrings.{bits_cmp}
@@ -13,6 +12,7 @@ use Rattle.trie_core.proofs.Strings.{bits_total, bits_same, same, same-Decides, 
 use Rattle.trie_core.specs.Nodes.{BitMap, Seen}
 use Rattle.trie_core.specs.InnerNodes.{AreShort, AreLong, under, child_entries, child_map, node_map, IsNode}
 use Rattle.std.proofs.lemmas.List.{drop_at, take_at}
+use Rattle.std.proofs.lemmas.Bool.{cases_lt, cases_Bool}
 
 -- ---- strings that begin with the first five bits of q, or not
 
@@ -20,17 +20,15 @@ at_first : (q s : List Bool) → 5 ≤ length s → same (take 5 s) (take 5 q) �
 at_first q s l e = ap (λ w. w ++ drop 5 s) (sym ((same-Decides (take 5 s) (take 5 q)).0 e)) ∙ (front s l).1
 
 module _ (P : List Bool → Type 0) (q : List Bool) (short : (s : List Bool) → length s < 5 → P s) (under : (r : List Bool) → P (take 5 q ++ r)) (elsewhere : (s : List Bool) → 5 ≤ length s → same (take 5 s) (take 5 q) ≡ false → P s) where
-  each_long : (s : List Bool) → 5 ≤ length s → (b : Bool) → same (take 5 s) (take 5 q) ≡ b → P s
-  each_long s l true e = subst P (at_first q s l e) (under (drop 5 s))
-  each_long s l false e = elsewhere s l e
-
-  each_by : (s : List Bool) (b : Bool) → nat_lt (length s) 5 ≡ b → P s
-  each_by s true e = short s (grind (arith, nat_tests))
-  each_by s false e = each_long s (grind (arith, nat_tests)) (same (take 5 s) (take 5 q)) refl
-
   -- what holds of short strings, of those under the first five bits of q and of those under others holds of each
   pub each_string : (s : List Bool) → P s
-  each_string s = each_by s (nat_lt (length s) 5) refl
+  each_string s = elim (cases_lt (length s) 5) [
+    | inl l ↦ short s l
+    | inr l ↦ elim (cases_Bool (same (take 5 s) (take 5 q))) [
+      | inl e ↦ subst P (at_first q s l e) (under (drop 5 s))
+      | inr e ↦ elsewhere s l e
+    ]
+  ]
 
 pub under_long : (q r : List Bool) → 5 ≤ length q → 5 ≤ length (take 5 q ++ r)
 under_long q r h = omega (arith, length-append (take 5 q) r, (front q h).0)
@@ -53,13 +51,9 @@ module _ {X : Type 0} where
   or_else None p = p
   or_else (Some x) p = Some x
 
-  find-cases : (b : Bool) (x : X) (o p : Option X) → cond b (Some x) (or_else o p) ≡ or_else (cond b (Some x) o) p
-  find-cases true x o p = refl
-  find-cases false x o p = refl
-
   pub find-append_all : (q : List Bool) (es fs : List (List Bool × X)) → find bits_cmp q (es ++ fs) ≡ or_else (find bits_cmp q es) (find bits_cmp q fs)
   find-append_all q [] fs = refl
-  find-append_all q (e ∷ es) fs = ap (cond (same q e.0) (Some e.1)) (find-append_all q es fs) ∙ find-cases (same q e.0) e.1 (find bits_cmp q es) (find bits_cmp q fs)
+  find-append_all q (e ∷ es) fs = grind (arith, find-append_all q es fs)
 
   pub find-under : (bs q : List Bool) (es : List (List Bool × X)) → find bits_cmp (bs ++ q) (under bs es) ≡ find bits_cmp q es
   find-under bs q [] = refl
@@ -89,8 +83,7 @@ module _ {X : Type 0} where
   get_none r = get-empty bits_cmp r
 
   else_none : (o p : Option X) → p ≡ None → or_else o p ≡ o
-  else_none None p e = e
-  else_none (Some x) p e = refl
+  else_none o p e = grind arith
 
   pub find-child : (q : List Bool) (c : List Bool × Seen X) (cs : List (List Bool × Seen X)) → 5 ≤ length q → length c.0 ≡ 5 → T (below_all bits_cmp c.0 cs) → (b : Bool) → same (take 5 q) c.0 ≡ b
       → or_else (find bits_cmp q (under c.0 (entries c.1.entries))) (child_get (find bits_cmp (take 5 q) cs) (drop 5 q)) ≡ child_get (cond b (Some c.1) (find bits_cmp (take 5 q) cs)) (drop 5 q)
@@ -163,18 +156,12 @@ module _ {X : Type 0} where
   abbrev pub Changes : BitMap X → List Bool → Option X → BitMap X → Type 0
   Changes m q w n = (x : List Bool) → get n x ≡ cond (same x q) w (get m x)
 
-  changed_short_by : {vs us : List (List Bool × X)} {cs : List (List Bool × Seen X)} (q : List Bool) (w : Option X) → IsNode vs cs → IsNode us cs → length q < 5
-      → ListChanges vs q w us → (x : List Bool) (b : Bool) → nat_lt (length x) 5 ≡ b → get (node_map us cs) x ≡ cond (same x q) w (get (node_map vs cs) x)
-  changed_short_by q w n k h f x true e =
-      let l : length x < 5 = grind (arith, nat_tests) in
-      get-short k x l ∙ f x ∙ ap (λ o. cond (same x q) w o) (sym (get-short n x l))
-  changed_short_by {vs} {us} {cs} q w n k h f x false e =
-      let l : 5 ≤ length x = grind (arith, nat_tests) in
-      get-long k x l ∙ sym (get-long n x l) ∙ ap (λ b. cond b w (get (node_map vs cs) x)) (sym (other_length x q (λ s. omega arith)))
-
   changed_short : {vs us : List (List Bool × X)} {cs : List (List Bool × Seen X)} (q : List Bool) (w : Option X) → IsNode vs cs → IsNode us cs → length q < 5
       → ListChanges vs q w us → Changes (node_map vs cs) q w (node_map us cs)
-  changed_short q w n k h f x = changed_short_by q w n k h f x (nat_lt (length x) 5) refl
+  changed_short {vs} {us} {cs} q w n k h f x = elim (cases_lt (length x) 5) [
+    | inl l ↦ get-short k x l ∙ f x ∙ ap (λ o. cond (same x q) w o) (sym (get-short n x l))
+    | inr l ↦ get-long k x l ∙ sym (get-long n x l) ∙ ap (λ b. cond b w (get (node_map vs cs) x)) (sym (other_length x q (λ s. omega arith)))
+  ]
 
   changed_long : {vs : List (List Bool × X)} {cs ds : List (List Bool × Seen X)} (q : List Bool) (w : Option X) (o : Option (Seen X)) → IsNode vs cs → IsNode vs ds → 5 ≤ length q
       → ListChanges cs (take 5 q) o ds
@@ -217,10 +204,9 @@ module _ {X : Type 0} where
   child_taken q o n k h f e =
       changes_same _ _ _ (changed_long q None o n k h f (λ r. ap (λ m. get m r) e ∙ remove_changes _ (drop 5 q) r)) (remove_changes _ q)
 
-  absent_by : (m : BitMap X) (q : List Bool) → get m q ≡ None → (x : List Bool) (b : Bool) → same x q ≡ b → cond b None (get m x) ≡ get m x
-  absent_by m q e x true s = sym (ap (get m) ((same-Decides x q).0 s) ∙ e)
-  absent_by m q e x false s = refl
-
   -- a key that is not there
   pub remove_absent : (m : BitMap X) (q : List Bool) → get m q ≡ None → map.remove m q ≡ m
-  remove_absent m q e = same_map bits_total bits_same _ _ (λ x. remove_changes m q x ∙ absent_by m q e x (same x q) refl)
+  remove_absent m q e = same_map bits_total bits_same _ _ (λ x. remove_changes m q x ∙ elim (cases_Bool (same x q)) [
+    | inl s ↦ ap (λ b. cond b None (get m x)) s ∙ sym (ap (get m) ((same-Decides x q).0 s) ∙ e)
+    | inr s ↦ ap (λ b. cond b None (get m x)) s
+  ])

@@ -27,18 +27,14 @@ double i = omega arith
 pub place_bound : (k : ℕ) (bs : List Bool) → length bs < k → place_from k bs + 1 < 2 ^ k
 place_bound zero bs h = absurd (omega (arith, h))
 place_bound (suc k) [] h = omega (arith, double k, pow_pos k)
-place_bound (suc k) (true ∷ bs) h = omega (arith, double k, pow_pos k, place_bound k bs (omega (arith, h)))
-place_bound (suc k) (false ∷ bs) h = omega (arith, double k, pow_pos k, place_bound k bs (omega (arith, h)))
+place_bound (suc k) (b ∷ bs) h = grind (arith, double k, pow_pos k, place_bound k bs)
 
 pub place_less : (k : ℕ) (xs ys : List Bool) → length xs < k → length ys < k → place_from k xs < place_from k ys → bits_cmp xs ys ≡ Less
 place_less k [] [] l m p = absurd (omega (arith, p))
 place_less k [] (y ∷ ys) l m p = refl
 place_less zero (x ∷ xs) ys l m p = absurd (omega (arith, l))
 place_less (suc k) (x ∷ xs) [] l m p = absurd (omega (arith, p))
-place_less (suc k) (true ∷ xs) (true ∷ ys) l m p = place_less k xs ys (omega (arith, l)) (omega (arith, m)) (omega (arith, p))
-place_less (suc k) (false ∷ xs) (false ∷ ys) l m p = place_less k xs ys (omega (arith, l)) (omega (arith, m)) (omega (arith, p))
-place_less (suc k) (false ∷ xs) (true ∷ ys) l m p = refl
-place_less (suc k) (true ∷ xs) (false ∷ ys) l m p = absurd (omega (arith, p, place_bound k ys (omega (arith, m))))
+place_less (suc k) (x ∷ xs) (y ∷ ys) l m p = grind (arith, place_less k xs ys, place_bound k ys)
 
 place_at_first : (k n : ℕ) → n < 2 ^ k - 1 → place_at (suc k) (suc n) ≡ false ∷ place_at k n
 place_at_first k n h = let e : nat_lt n (2 ^ k - 1) ≡ true = grind (arith, nat_tests) in ap (λ b. if b then (false ∷ place_at k n) else (true ∷ place_at k (n - (2 ^ k - 1)))) e
@@ -86,18 +82,14 @@ place_strings n h = is_place_string 5 n h
 pub number_bound : (k : ℕ) (bs : List Bool) → number_from k bs < 2 ^ k
 number_bound k [] = pow_pos k
 number_bound zero (b ∷ bs) = omega arith
-number_bound (suc k) (true ∷ bs) = omega (arith, double k, number_bound k bs)
-number_bound (suc k) (false ∷ bs) = omega (arith, double k, number_bound k bs)
+number_bound (suc k) (b ∷ bs) = grind (arith, double k, number_bound k bs)
 
 pub number_less : (k : ℕ) (xs ys : List Bool) → length xs ≡ k → length ys ≡ k → number_from k xs < number_from k ys → bits_cmp xs ys ≡ Less
 number_less k [] [] l m p = absurd (omega (arith, p))
 number_less k [] (y ∷ ys) l m p = refl
 number_less zero (x ∷ xs) ys l m p = absurd (omega (arith, l))
 number_less (suc k) (x ∷ xs) [] l m p = absurd (omega (arith, m))
-number_less (suc k) (true ∷ xs) (true ∷ ys) l m p = number_less k xs ys (omega (arith, l)) (omega (arith, m)) (omega (arith, p))
-number_less (suc k) (false ∷ xs) (false ∷ ys) l m p = number_less k xs ys (omega (arith, l)) (omega (arith, m)) (omega (arith, p))
-number_less (suc k) (false ∷ xs) (true ∷ ys) l m p = refl
-number_less (suc k) (true ∷ xs) (false ∷ ys) l m p = absurd (omega (arith, p, number_bound k ys))
+number_less (suc k) (x ∷ xs) (y ∷ ys) l m p = grind (arith, number_less k xs ys, number_bound k ys)
 
 -- strings of one length differ where their numbers do
 pub number_apart : (k : ℕ) (xs ys : List Bool) → length xs ≡ length ys → length xs ≤ k → number_from k xs ≡ number_from k ys → xs ≡ ys
@@ -105,10 +97,7 @@ number_apart k [] [] l m p = refl
 number_apart k [] (y ∷ ys) l m p = absurd (omega (arith, l))
 number_apart k (x ∷ xs) [] l m p = absurd (omega (arith, l))
 number_apart zero (x ∷ xs) (y ∷ ys) l m p = absurd (omega (arith, m))
-number_apart (suc k) (true ∷ xs) (true ∷ ys) l m p = ap (λ zs. true ∷ zs) (number_apart k xs ys (omega (arith, l)) (omega (arith, m)) (omega (arith, p)))
-number_apart (suc k) (false ∷ xs) (false ∷ ys) l m p = ap (λ zs. false ∷ zs) (number_apart k xs ys (omega (arith, l)) (omega (arith, m)) (omega (arith, p)))
-number_apart (suc k) (false ∷ xs) (true ∷ ys) l m p = absurd (omega (arith, p, number_bound k xs))
-number_apart (suc k) (true ∷ xs) (false ∷ ys) l m p = absurd (omega (arith, p, number_bound k ys))
+number_apart (suc k) (x ∷ xs) (y ∷ ys) l m p = grind (arith, number_apart k xs ys, number_bound k xs, number_bound k ys)
 
 pub number-take : (k : ℕ) (xs : List Bool) → number_from k (take k xs) ≡ number_from k xs
 number-take zero [] = refl
@@ -137,8 +126,7 @@ drop-digits (suc m) zero q h = absurd (omega (arith, h))
 drop-digits (suc m) (suc n) q h = let e : suc n - suc m ≡ n - m = omega arith in ap (drop (suc m)) (digits_first n q) ∙ rw e (drop-digits m n q (omega (arith, h)))
 
 bit_of : (x : ℕ) (b : Bool) → (x % 2 == 1) ≡ b → x % 2 ≡ cond b 1 0
-bit_of x true e = grind (arith, nat_tests)
-bit_of x false e = grind (arith, nat_tests)
+bit_of x b e = grind (arith, nat_tests)
 
 low_part : (q n : ℕ) → q % 2 ^ suc n ≡ (q / 2 ^ n % 2) * 2 ^ n + q % 2 ^ n
 low_part q n = let e : suc n ≡ 1 + n = omega arith in rw e (mod-pow-add q 1 n)

@@ -2,8 +2,8 @@
 use Rattle.std.proofs.Common.{◌≡◌, ◌<◌, ◌≤◌, Bool, true, false, cond, List, [], ◌∷◌, ◌++◌, length, take, drop, refl, sym, ap, subst, ◌∙◌, arith, inl, inr}
 use Rattle.std.specs.Prelude.{T, Option, Some, None, is_some}
 use Rattle.std.specs.declared.cmp.Ordering.{Ordering}
-use Rattle.std.specs.declared.cmp.Ordering.TheVariants.{Less, Equal, Greater}
-use Rattle.std.specs.Ordering.{is_lt, ordering_reverse}
+use Rattle.std.specs.declared.cmp.Ordering.TheVariants.{Less}
+use Rattle.std.specs.Ordering.{is_lt}
 use Rattle.std.specs.FinMap.{entries, find, get, is_sorted, entries_sorted, get-entries, empty}
 use Rattle.std.specs.FinMap.Entries.{below_all, same_entries}
 use Rattle.std.proofs.Math.ListN.{length-append, length-take}
@@ -24,13 +24,9 @@ less_right xs ys [] e = ap (bits_cmp xs) (append-nil ys) ∙ e
 less_right xs ys (z ∷ zs) e = bits_total.trans xs ys (ys ++ z ∷ zs) e (ap (λ w. bits_cmp w (ys ++ z ∷ zs)) (sym (append-nil ys)) ∙ bits_cmp-under ys [] (z ∷ zs))
 
 pub less_left : (xs ys zs : List Bool) → length ys ≤ length xs → bits_cmp xs ys ≡ Less → bits_cmp (xs ++ zs) ys ≡ Less
-less_left [] [] zs h e = cc
-less_left [] (y ∷ ys) zs h e = absurd (omega arith)
+less_left [] ys zs h e = grind arith
 less_left (x ∷ xs) [] zs h e = cc
-less_left (true ∷ xs) (true ∷ ys) zs h e = less_left xs ys zs (omega arith) e
-less_left (false ∷ xs) (false ∷ ys) zs h e = less_left xs ys zs (omega arith) e
-less_left (false ∷ xs) (true ∷ ys) zs h e = refl
-less_left (true ∷ xs) (false ∷ ys) zs h e = cc
+less_left (x ∷ xs) (y ∷ ys) zs h e = grind (arith, less_left xs ys zs)
 
 pub less_trans : (xs ys zs : List Bool) → bits_cmp xs ys ≡ Less → bits_cmp ys zs ≡ Less → bits_cmp xs zs ≡ Less
 less_trans xs ys zs e f = bits_total.trans xs ys zs e f
@@ -62,9 +58,8 @@ module _ {Y : Type 0} where
   starts_above n (c ∷ cs) h s = T-and _ _ (T-less _ h) (lower n c.0 cs h (tail_rises c cs s).1)
 
 module _ {X : Type 0} where
-  later_found : (b : Bool) (x : X) (o : Option X) → is_some o ≡ true → is_some (cond b (Some x) o) ≡ true
-  later_found true x o e = refl
-  later_found false x o e = e
+  pub later_found : (b : Bool) (x : X) (o : Option X) → is_some o ≡ true → is_some (cond b (Some x) o) ≡ true
+  later_found b x o e = grind arith
 
   -- a string is before all entries where it is before all keys
   pub below_found : (b : List Bool) (es : List (List Bool × X)) → ((q : List Bool) → is_some (find bits_cmp q es) ≡ true → bits_cmp b q ≡ Less) → T (below_all bits_cmp b es)
@@ -168,12 +163,7 @@ is_less o e = less_from_T o (rw e tt)
 
 -- strings of other lengths are not the same: the one or the other is less
 turned : (xs ys : List Bool) → (xs ≡ ys → ⊥) → is_lt (bits_cmp xs ys) ≡ false → bits_cmp ys xs ≡ Less
-turned xs ys n e = by (bits_cmp xs ys) refl
-  where
-    by : (o : Ordering) → bits_cmp xs ys ≡ o → bits_cmp ys xs ≡ Less
-    by Less f = let z = ap is_lt (sym f) ∙ e in cc
-    by Equal f = absurd (n (bits_same xs ys f))
-    by Greater f = bits_total.antisymm ys xs ∙ ap ordering_reverse f
+turned xs ys n e = grind (arith, bits_total.antisymm xs ys, bits_same xs ys)
 
 module _ {X : Type 0} where
   pub starts_after : (e : List Bool × X) (vs : List (List Bool × X)) (cs : List (List Bool × Seen X)) → first_value (e ∷ vs) cs ≡ true → StartsAfter e.0 cs

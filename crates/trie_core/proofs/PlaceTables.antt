@@ -58,7 +58,7 @@ pub begins_front : (k : ℕ) (p q : List Bool) → length p ≤ k → begins p (
 begins_front k [] q h = refl
 begins_front zero (x ∷ p) q h = absurd (omega (arith, h))
 begins_front (suc k) (x ∷ p) [] h = refl
-begins_front (suc k) (x ∷ p) (y ∷ q) h = ap (λ b. cond x y (not y) && b) (begins_front k p q (omega (arith, h)))
+begins_front (suc k) (x ∷ p) (y ∷ q) h = grind (arith, begins_front k p q)
 
 pub long_mask : (q : List Bool) → 5 ≤ length q → IsBeginMask q (get_or masks (child_of q) 0)
 long_mask q h p l =
@@ -93,10 +93,7 @@ abbrev alike : Bool → Bool → Bool
 alike a b = cond a b (not b)
 
 alike_same : (a b : Bool) → alike a b ≡ true → a ≡ b
-alike_same true true e = refl
-alike_same true false e = cc
-alike_same false true e = cc
-alike_same false false e = refl
+alike_same a b e = grind arith
 
 -- a value comes before a child whose number is not less
 pub value_before : (q c : List Bool) → length q < 5 → length c ≡ 5 → leb (child_of q) (child_of c) ≡ is_lt (bits_cmp q c)
@@ -129,21 +126,14 @@ past_front : (k : ℕ) (b r : List Bool) → length b ≤ k → is_past b (take 
 past_front k [] r h = and_right (is_lt (bits_cmp [] (take k r))) false refl ∙ sym (and_right (is_lt (bits_cmp [] r)) false refl)
 past_front zero (x ∷ b) r h = absurd (omega (arith, h))
 past_front (suc k) (x ∷ b) [] h = refl
-past_front (suc k) (true ∷ b) (true ∷ r) h = past_front k b r (omega (arith, h))
-past_front (suc k) (false ∷ b) (false ∷ r) h = past_front k b r (omega (arith, h))
-past_front (suc k) (true ∷ b) (false ∷ r) h = refl
-past_front (suc k) (false ∷ b) (true ∷ r) h = refl
+past_front (suc k) (x ∷ b) (y ∷ r) h = grind (arith, past_front k b r)
 
 -- a longer string is before or after q where its first bits are
 less_front : (k : ℕ) (q r : List Bool) → length q < k → (bits_cmp (take k r) q ≡ bits_cmp r q) × (bits_cmp q (take k r) ≡ bits_cmp q r)
 less_front zero q r h = absurd (omega (arith, h))
-less_front (suc k) [] [] h = (refl, refl)
-less_front (suc k) [] (y ∷ r) h = (refl, refl)
+less_front (suc k) [] r h = grind arith
 less_front (suc k) (x ∷ q) [] h = (refl, refl)
-less_front (suc k) (true ∷ q) (true ∷ r) h = less_front k q r (omega (arith, h))
-less_front (suc k) (false ∷ q) (false ∷ r) h = less_front k q r (omega (arith, h))
-less_front (suc k) (true ∷ q) (false ∷ r) h = (refl, refl)
-less_front (suc k) (false ∷ q) (true ∷ r) h = (refl, refl)
+less_front (suc k) (x ∷ q) (y ∷ r) h = grind (arith, less_front k q r)
 
 -- a test of two strings of five bits, and of such a one and a short one
 five_hold : (t : List Bool → List Bool → Bool) → T (each_of 5 (λ q. each_of 5 (t q))) → (q r : List Bool) → length q ≡ 5 → length r ≡ 5 → t q r ≡ true

@@ -15,10 +15,7 @@ use Rattle.std.proofs.lemmas.Cmp.{tied_itself}
 -- ---- equal bit strings
 
 bool_same : IsAntisymmetric bool_cmp
-bool_same true true e = refl
-bool_same false false e = refl
-bool_same true false e = cc
-bool_same false true e = cc
+bool_same x y e = grind arith
 
 pub bits_total : IsTotalOrder bits_cmp
 bits_total = lists_total bool_cmp_total
@@ -43,8 +40,7 @@ not_same {xs} {ys} e f = both_ways _ e ((same-Decides xs ys).1 f)
 
 pub bits_cmp-under : (bs xs ys : List Bool) → bits_cmp (bs ++ xs) (bs ++ ys) ≡ bits_cmp xs ys
 bits_cmp-under [] xs ys = refl
-bits_cmp-under (true ∷ bs) xs ys = bits_cmp-under bs xs ys
-bits_cmp-under (false ∷ bs) xs ys = bits_cmp-under bs xs ys
+bits_cmp-under (b ∷ bs) xs ys = grind (arith, bits_cmp-under bs xs ys)
 
 pub same-under : (bs xs ys : List Bool) → same (bs ++ xs) (bs ++ ys) ≡ same xs ys
 same-under bs xs ys = ap is_eq (bits_cmp-under bs xs ys)
