@@ -1,12 +1,12 @@
 -- The nodes that a node's map needs are its own and those that its children's maps need.
-use Rattle.std.proofs.Common.{◌≡◌, ℕ, zero, suc, ◌+◌, ◌*◌, ◌/◌, ◌<◌, ◌≤◌, Bool, true, false, cond, ◌||◌, ◌&&◌, List, [], ◌∷◌, ◌++◌, length, take, drop, refl, sym, ap, subst, ◌∙◌, arith}
+use Rattle.std.proofs.Common.{◌≡◌, ℕ, zero, suc, ◌+◌, ◌*◌, ◌/◌, ◌<◌, ◌≤◌, Bool, true, false, cond, ◌||◌, ◌&&◌, List, [], ◌∷◌, ◌++◌, length, take, drop, refl, sym, ap, subst, ◌∙◌, arith, inl, inr}
 use Rattle.std.specs.Prelude.{T, Option, Some, None, is_some}
 use Rattle.std.specs.declared.cmp.Ordering.TheVariants.{Less}
 use Rattle.std.specs.FinMap.{entries, find, get, entries_sorted, get-entries, get-from_entries, from_entries, len, len-entries, len-empty, empty_of_len, empty}
 use Rattle.std.specs.FinMap.Entries.{below_all, same_entries}
 use Rattle.std.proofs.Math.ListN.{length-append, length-take}
 use Rattle.std.proofs.lemmas.List.{take-append-drop, append-nil, take_at, take-take, append_assoc}
-use Rattle.std.proofs.lemmas.Bool.{or_right}
+use Rattle.std.proofs.lemmas.Bool.{or_cases}
 use Rattle.ipnet_addr.proofs.Basics.{T-and}
 use Rattle.ipnet_blocks.specs.BitStrings.{bits_cmp}
 use Rattle.trie_core.specs.Nodes.{BitMap, Seen}
@@ -15,7 +15,7 @@ use Rattle.trie_core.specs.Count.{fives_from, fives, fives_of, begun, nodes}
 use Rattle.trie_core.specs.InnerCount.{nodes_if, spare_if, spare_count, spares_below, all_nodes, total}
 use Rattle.trie_core.proofs.Strings.{bits_total, bits_same, same, same-Decides, same-refl, front}
 use Rattle.trie_core.proofs.Maps.{tail_rises, or_else, find-append_all, find-under, find-apart, node_map-none, get-short, get_none}
-use Rattle.trie_core.proofs.Order.{StartsAfter, below_under, below_append, less_right, less_left, found_above, below_found, found_long, found_get, sorted_under, walk_value, walk_child, walk_none, without_child, each_node}
+use Rattle.trie_core.proofs.Order.{StartsAfter, below_under, below_append, less_right, less_left, found_above, below_found, found_long, found_get, sorted_under, walk_value, walk_child, walk_none, without_child, each_node, later_found}
 use Rattle.std.proofs.Math.Seq.{take-append-add}
 use Rattle.std.proofs.Math.Bool.{or_assoc}
 
@@ -46,27 +46,19 @@ abbrev pub has : {Y : Type 0} → List Bool → List (List Bool × Y) → Bool
 has q es = is_some (find bits_cmp q es)
 
 some_else : {Y : Type 0} (o p : Option Y) → is_some (or_else o p) ≡ (is_some o || is_some p)
-some_else None p = refl
-some_else (Some y) p = refl
+some_else o p = grind arith
 
 pub has-append : {Y : Type 0} (q : List Bool) (es fs : List (List Bool × Y)) → has q (es ++ fs) ≡ (has q es || has q fs)
 has-append q es fs = ap is_some (find-append_all q es fs) ∙ some_else (find bits_cmp q es) (find bits_cmp q fs)
 
 pub some_cond : {Y : Type 0} (b : Bool) (y : Y) (o : Option Y) → is_some (cond b (Some y) o) ≡ (b || is_some o)
-some_cond true y o = refl
-some_cond false y o = refl
+some_cond b y o = grind arith
 
 same_option : (o p : Option (Unit {0})) → is_some o ≡ is_some p → o ≡ p
-same_option None None e = refl
-same_option (Some x) (Some y) e = refl
-same_option None (Some y) e = cc
-same_option (Some x) None e = cc
+same_option o p e = grind arith
 
 or_twice : (s u v w : Bool) → (s || (u || (w && s || v))) ≡ (s || (u || v))
-or_twice true u v w = refl
-or_twice false true v w = refl
-or_twice false false v true = refl
-or_twice false false v false = refl
+or_twice s u v w = grind arith
 
 module _ {X : Type 0} where
   abbrev pub some_entry : List (List Bool × X) → Bool
@@ -90,21 +82,14 @@ module _ {X : Type 0} where
   unfolding begun
   has-begun m q = ap is_some (sym (get-entries (begun m) q) ∙ get-from_entries bits_total (fives_of (entries m)) q)
 
-fives_found_by : (i n : ℕ) (q k : List Bool) → 5 * i + 5 + 5 * n ≤ length k → (has q (fives_from (suc i) n k) ≡ true → (take 5 q ≡ take 5 k) × (5 ≤ length q)) → (b : Bool) → same q (take (5 * i + 5) k) ≡ b → (b || has q (fives_from (suc i) n k)) ≡ true → (take 5 q ≡ take 5 k) × (5 ≤ length q)
-fives_found_by i n q k h f true e s =
-    let p : q ≡ take (5 * i + 5) k = (same-Decides q (take (5 * i + 5) k)).0 e in
-    (ap (take 5) p ∙ take-take 5 (5 * i + 5) k (omega arith), omega (arith, ap length p, length-take (5 * i + 5) k, h))
-fives_found_by i n q k h f false e s = f s
-
 fives_found : (i n : ℕ) (q k : List Bool) → 5 * i + 5 * n ≤ length k → has q (fives_from i n k) ≡ true → (take 5 q ≡ take 5 k) × (5 ≤ length q)
 fives_found i zero q k h s = cc
-fives_found i (suc n) q k h s =
-    fives_found_by i n q k (omega (arith, h)) (λ t. fives_found (suc i) n q k (omega (arith, h)) t) (same q (take (5 * i + 5) k)) refl
-    (sym (some_cond (same q (take (5 * i + 5) k)) tt (find bits_cmp q (fives_from (suc i) n k))) ∙ s)
-
-or_cases : (a b : Bool) {P : Type 0} → (a || b) ≡ true → (a ≡ true → P) → (b ≡ true → P) → P
-or_cases true b e f g = f refl
-or_cases false b e f g = g e
+fives_found i (suc n) q k h s = elim (or_cases (same q (take (5 * i + 5) k)) _ (sym (some_cond (same q (take (5 * i + 5) k)) tt (find bits_cmp q (fives_from (suc i) n k))) ∙ s)) [
+  | inl e ↦
+      let p : q ≡ take (5 * i + 5) k = (same-Decides q (take (5 * i + 5) k)).0 e in
+      (ap (take 5) p ∙ take-take 5 (5 * i + 5) k (omega arith), omega (arith, ap length p, length-take (5 * i + 5) k, h))
+  | inr t ↦ fives_found (suc i) n q k (omega (arith, h)) t
+]
 
 module _ {X : Type 0} where
   -- k is a key that begins with the first five bits of q
@@ -114,15 +99,12 @@ module _ {X : Type 0} where
     pub first : take 5 q ≡ take 5 key
     pub long : 5 ≤ length q
 
-  later : {q : List Bool} (e : List Bool × X) {es : List (List Bool × X)} → IsBegunBy q es → IsBegunBy q (e ∷ es)
-  later {q} e {es} b = record { key = b.key; found = some_cond (same b.key e.0) e.1 (find bits_cmp b.key es) ∙ ap (λ x. same b.key e.0 || x) b.found ∙ or_right (same b.key e.0) true refl; first = b.first; long = b.long }
-
   pub begun_by_key : (q : List Bool) (es : List (List Bool × X)) → has q (fives_of es) ≡ true → IsBegunBy q es
   begun_by_key q [] s = cc
-  begun_by_key q (e ∷ es) s =
-      or_cases (has q (fives e.0)) (has q (fives_of es)) (sym (has-append q (fives e.0) (fives_of es)) ∙ s)
-      (λ t. let f = fives_found 0 (length e.0 / 5) q e.0 (omega arith) t in record { key = e.0; found = some_cond (same e.0 e.0) e.1 (find bits_cmp e.0 es) ∙ ap (λ b. b || has e.0 es) (same-refl e.0); first = f.0; long = f.1 })
-      (λ t. later e (begun_by_key q es t))
+  begun_by_key q (e ∷ es) s = elim (or_cases (has q (fives e.0)) (has q (fives_of es)) (sym (has-append q (fives e.0) (fives_of es)) ∙ s)) [
+    | inl t ↦ let f = fives_found 0 (length e.0 / 5) q e.0 (omega arith) t in record { key = e.0; found = some_cond (same e.0 e.0) e.1 (find bits_cmp e.0 es) ∙ ap (λ b. b || has e.0 es) (same-refl e.0); first = f.0; long = f.1 }
+    | inr t ↦ let b = begun_by_key q es t in record { key = b.key; found = later_found (same b.key e.0) e.1 (find bits_cmp b.key es) b.found; first = b.first; long = b.long }
+  ]
 
   -- no beginning is empty
   not_none : (m : BitMap X) → T (below_all bits_cmp [] (entries (begun m)))

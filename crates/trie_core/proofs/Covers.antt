@@ -1,5 +1,5 @@
 -- The entries whose keys begin a string, one after another.
-use Rattle.std.proofs.Common.{◌≡◌, ℕ, ◌+◌, ◌-◌, ◌*◌, ◌/◌, ◌%◌, ◌^◌, ◌<◌, ◌≤◌, Bool, true, false, cond, not, ◌&&◌, List, [], ◌∷◌, ◌++◌, length, take, drop, get_or, refl, sym, ap, ◌∙◌, arith}
+use Rattle.std.proofs.Common.{◌≡◌, ℕ, ◌+◌, ◌-◌, ◌*◌, ◌/◌, ◌%◌, ◌^◌, ◌<◌, ◌≤◌, Bool, true, false, cond, not, ◌&&◌, List, [], ◌∷◌, ◌++◌, length, take, drop, get_or, refl, sym, ap, ◌∙◌, arith, inl, inr}
 use Rattle.std.specs.Prelude.{Option, Some, None, is_some, nat_lt, bit_and, count_ones, MatchOption}
 use Rattle.std.specs.Borrow.{Bor}
 use Rattle.std.specs.declared.cmp.Ordering.TheVariants.{Less}
@@ -11,7 +11,7 @@ use Rattle.std.proofs.lemmas.Nat.{shl-shr, shr-shr, shr_split, pow-add}
 use Rattle.std.proofs.lemmas.Nat.Bits.{bit_at-zero}
 use Rattle.std.proofs.Math.Nat.{mul_assoc}
 use Rattle.std.proofs.Math.ListN.{length-append, length-drop}
-use Rattle.std.proofs.lemmas.Bool.{false_from_ne_true, false≢true, true_from_ne_false}
+use Rattle.std.proofs.lemmas.Bool.{false_from_ne_true, true_from_ne_false, cases_lt}
 use Rattle.ipnet_addr.proofs.Basics.{T-and}
 use Rattle.ipnet_blocks.specs.BitStrings.{bits_cmp, begins}
 use Rattle.trie_core.specs.InnerPlaces.{place_of, place_string, IsBeginMask, IsFirstPlace}
@@ -52,14 +52,11 @@ bits_cut w p i =
           ),
     )
 
-bit_is_zero : (x : ℕ) → x ≡ 1 → x ≡ 0 → ⊥
-bit_is_zero x e f = omega (arith, e, f)
-
 not_before : (w p n : ℕ) → bit_at (w - w % 2 ^ p) n ≡ 1 → p ≤ n
-not_before w p n e = elim (nat_lt n p) as (λ b. nat_lt n p ≡ b → p ≤ n) [
-  | true ↦ λ t. absurd (bit_is_zero _ e ((bits_cut w p n).0 (grind (arith, nat_tests))))
-  | false ↦ λ t. grind (arith, nat_tests)
-] refl
+not_before w p n e = elim (cases_lt n p) [
+  | inl l ↦ let z = (bits_cut w p n).0 l in absurd (omega (arith, z, e))
+  | inr l ↦ l
+]
 
 module _ {X : Type 0} where
   unset_by : {vb : ℕ} {vs : List X} {cb : ℕ} {cs : List (Seen X)} {m : Seen X} (q s : List Bool) (mask : ℕ) → IsSeen vb vs cb cs m → IsBeginMask q mask → length s < 5 → begins s q ≡ true → bit_at (bit_and vb mask) (place_of s) ≡ 0 → get m.entries s ≡ None
@@ -103,16 +100,10 @@ module _ {X : Type 0} where
 -- ---- what is left from a place on
 
 and_true : (a b c : Bool) → (a && not (b && c)) ≡ true → (a ≡ true) × (b ≡ true → c ≡ false)
-and_true true true true e = cc
-and_true true true false e = (refl, λ _. refl)
-and_true true false c e = (refl, λ t. absurd (false≢true t))
-and_true false b c e = cc
+and_true a b c e = grind arith
 
 and_false : (a b c : Bool) → (a && not (b && c)) ≡ false → a ≡ true → (b ≡ true) × (c ≡ true)
-and_false true true true e f = (refl, refl)
-and_false true true false e f = cc
-and_false true false c e f = cc
-and_false false b c e f = cc
+and_false a b c e f = grind arith
 
 left_true : (q : List Bool) (n : ℕ) (k : List Bool) → is_left q n k ≡ true → (begins k q ≡ true) × (length k < 5 → n ≤ place_of k)
 left_true q n k e =
@@ -132,21 +123,13 @@ begins_less [] [] q a b h = absurd (omega (arith, h))
 begins_less [] (y ∷ x) q a b h = refl
 begins_less (z ∷ s) [] q a b h = absurd (omega (arith, h))
 begins_less (z ∷ s) (y ∷ x) [] a b h = cc
-begins_less (true ∷ s) (true ∷ x) (true ∷ q) a b h = begins_less s x q a b (omega (arith, h))
-begins_less (false ∷ s) (false ∷ x) (false ∷ q) a b h = begins_less s x q a b (omega (arith, h))
-begins_less (true ∷ s) (y ∷ x) (false ∷ q) a b h = cc
-begins_less (false ∷ s) (y ∷ x) (true ∷ q) a b h = cc
-begins_less (true ∷ s) (false ∷ x) (true ∷ q) a b h = cc
-begins_less (false ∷ s) (true ∷ x) (false ∷ q) a b h = cc
+begins_less (z ∷ s) (y ∷ x) (w ∷ q) a b h = grind (arith, begins_less s x q)
 
 place_below : (s : List Bool) → length s < 5 → place_of s < 31
 place_below s h = omega (arith, place_bound 5 s h)
 
 below_or : (a b : ℕ) → a < b + 1 → (a ≡ b → ⊥) → a < b
-below_or a b h f = elim (nat_lt a b) as (λ t. nat_lt a b ≡ t → a < b) [
-  | true ↦ λ t. grind (arith, nat_tests)
-  | false ↦ λ t. absurd (f (grind (arith, nat_tests)))
-] refl
+below_or a b h f = omega arith
 
 left_none : (q : List Bool) (k : List Bool) → length q < 5 → is_left q 31 k ≡ false
 left_none q k h = false_from_ne_true (is_left q 31 k) (λ e.
@@ -155,12 +138,7 @@ left_none q k h = false_from_ne_true (is_left q 31 k) (λ e.
     omega (arith, t.1 l, place_below k l))
 
 left_all : (q k : List Bool) → is_left q 0 k ≡ begins k q
-left_all q k = let z : nat_lt (place_of k) 0 ≡ false = grind (arith, nat_tests) in ap (λ t. begins k q && not (nat_lt (length k) 5 && t)) z ∙ all_kept (begins k q) (nat_lt (length k) 5)
-  where
-    all_kept : (a b : Bool) → (a && not (b && false)) ≡ a
-    all_kept true true = refl
-    all_kept true false = refl
-    all_kept false b = refl
+left_all q k = let z : nat_lt (place_of k) 0 ≡ false = grind (arith, nat_tests) in grind (arith, z)
 
 where_none : {Y : Type 0} (f : List Bool → Bool) (es : List (List Bool × Y)) → ((k : List Bool) → f k ≡ false) → where_key bits_cmp f es ≡ []
 where_none f [] h = refl
@@ -173,10 +151,7 @@ where_same f g (e ∷ es) h = λ i. cond (h e.0 i) (e ∷ where_same f g es h i)
 module _ {X : Type 0} where
   -- a key that only one of two tests keeps is not there
   two_same : (a b : Bool) (o : Option X) → (a ≡ true → b ≡ false → o ≡ None) → (a ≡ false → b ≡ true → ⊥) → cond a o None ≡ cond b o None
-  two_same true true o f g = refl
-  two_same true false o f g = f refl refl
-  two_same false true o f g = absurd (g refl refl)
-  two_same false false o f g = refl
+  two_same a b o f g = grind arith
 
   found_where : (m : BitMap X) (f : List Bool → Bool) (x : List Bool) → find bits_cmp x (where_key bits_cmp f (entries m)) ≡ cond (f x) (get m x) None
   found_where m f x = find-where_key bits_cmp f x (bits_alike f x) (entries m) ∙ ap (λ o. cond (f x) o None) (sym (get-entries m x))
@@ -185,18 +160,18 @@ module _ {X : Type 0} where
   where_next {m} {q} {n} {p} {v} w =
       same_entries bits_cmp bits_total bits_same _ _ (is_sorted-where_key bits_cmp (is_left q n) (entries m) (entries_sorted m))
       (T-and _ _
-      (below_found (place_string p) (where_key bits_cmp (is_left q (p + 1)) (entries m)) (λ x f. less x (kept_true (is_left q (p + 1) x) (get m x) (ap is_some (sym (found_where m (is_left q (p + 1)) x)) ∙ f)) (nat_lt (length x) 5) refl))
+      (below_found (place_string p) (where_key bits_cmp (is_left q (p + 1)) (entries m)) (λ x f. less x (kept_true (is_left q (p + 1) x) (get m x) (ap is_some (sym (found_where m (is_left q (p + 1)) x)) ∙ f))))
       (is_sorted-where_key bits_cmp (is_left q (p + 1)) (entries m) (entries_sorted m)))
       (λ x. found_where m (is_left q n) x ∙ by x (same x (place_string p)) refl ∙ ap (cond (same x (place_string p)) (Some v)) (sym (found_where m (is_left q (p + 1)) x)))
     where
-      less : (x : List Bool) → is_left q (p + 1) x ≡ true → (b : Bool) → nat_lt (length x) 5 ≡ b → bits_cmp (place_string p) x ≡ Less
-      less x e true h =
-          let l : length x < 5 = grind (arith, nat_tests) in
+      less : (x : List Bool) → is_left q (p + 1) x ≡ true → bits_cmp (place_string p) x ≡ Less
+      less x e =
           let s = place_strings p w.below in
-          place_less 5 (place_string p) x s.short l (omega (arith, s.place, (left_true q (p + 1) x e).1 l))
-      less x e false h =
-          let l : 5 ≤ length x = grind (arith, nat_tests) in
-          begins_less (place_string p) x q w.begun (left_true q (p + 1) x e).0 (omega (arith, l, (place_strings p w.below).short))
+          let t = left_true q (p + 1) x e in
+          elim (cases_lt (length x) 5) [
+            | inl l ↦ place_less 5 (place_string p) x s.short l (omega (arith, s.place, t.1 l))
+            | inr l ↦ begins_less (place_string p) x q w.begun t.0 (omega (arith, l, s.short))
+          ]
 
       own : is_left q n (place_string p) ≡ true
       own = true_from_ne_false (is_left q n (place_string p)) (λ e. let t = left_false q n (place_string p) e w.begun in omega (arith, t.1, (place_strings p w.below).place, w.from))
@@ -247,15 +222,11 @@ module _ {X : Type 0} where
         let l : nat_lt (length (take 5 p ++ r)) 5 ≡ false = let five = (front p h).0 in let a = length-append (take 5 p) r in grind (arith, nat_tests) in
         (λ i. begins (take 5 p ++ r) (sym (front p h).1 i) && not (l i && nat_lt (place_of (take 5 p ++ r)) 31))
         ∙ ap (λ b. b && true) (begins-under (take 5 p) r (drop 5 p)) ∙ and-true (begins r (drop 5 p)) ∙ sym (left_all (drop 5 p) r);
-    other = λ x n. false_from_ne_true _ (λ e. other x n (left_true p 31 x e) (nat_lt (length x) 5) refl);
+    other = λ x n. false_from_ne_true _ (λ e. let t = left_true p 31 x e in elim (cases_lt (length x) 5) [
+      | inl l ↦ omega (arith, t.1 l, place_below x l)
+      | inr l ↦ let f = begins_take x p t.0 in n (drop 5 x) (sym (front x l).1 ∙ ap (λ y. y ++ drop 5 x) (ap (take 5) (sym f.1) ∙ take-take 5 (length x) p l))
+    ]);
   }
-    where
-      other : (x : List Bool) → ((k : List Bool) → x ≡ take 5 p ++ k → ⊥) → (begins x p ≡ true) × (length x < 5 → 31 ≤ place_of x) → (b : Bool) → nat_lt (length x) 5 ≡ b → ⊥
-      other x n t true l = let s : length x < 5 = grind (arith, nat_tests) in omega (arith, t.1 s, place_below x s)
-      other x n t false l =
-          let s : 5 ≤ length x = grind (arith, nat_tests) in
-          let f = begins_take x p t.0 in
-          n (drop 5 x) (sym (front x s).1 ∙ ap (λ y. y ++ drop 5 x) (ap (take 5) (sym f.1) ∙ take-take 5 (length x) p s))
 
   -- below the five bits
   pub cover_below : (m : Seen X) (trail : List Bool) {p : List Bool} {n : ℕ} (o : Option (Bor (Seen X))) {r way : List Bool} → NoneFrom m.entries p n → 5 ≤ length p → MatchOption o (HasNoChild p m) (λ c. IsChild p m c.now) → way ≡ trail ++ take 5 p → r ≡ drop 5 p

@@ -18,6 +18,7 @@ use Rattle.trie_core.proofs.Order.{StartsAfter, found_long, found_get, each_node
 use Rattle.trie_core.proofs.Count.{has, has-append, has-begun, some_cond, some_entry, nothing, fives_child, fives_short, begun_by_key, after_child, begun_value, begun_none, begun_child}
 use Rattle.trie_core.proofs.Marks.{root_if, marked_get, marked-other, marked-root, set-long}
 use Rattle.std.proofs.lemmas.List.{append-nil, drop_at, take_at, take-take}
+use Rattle.std.proofs.lemmas.Bool.{false_from_ne_true}
 
 below_none : {Y : Type 0} (b : List Bool) (es : List (List Bool × Y)) → T (below_all bits_cmp b es) → has b es ≡ false
 below_none b [] h = refl
@@ -26,9 +27,7 @@ below_none b (e ∷ es) h =
     some_cond (same b e.0) e.1 (find bits_cmp b es) ∙ (λ i. ap is_eq (less_from_T _ p.0) i || below_none b es p.1 i)
 
 or_nothing : (a b c : Bool) → c ≡ false → (a || (b || c)) ≡ (a || b)
-or_nothing true b c e = refl
-or_nothing false true c e = refl
-or_nothing false false c e = e
+or_nothing a b c e = grind arith
 
 or_neither : (a b c : Bool) → a ≡ false → b ≡ false → (a || (b || c)) ≡ c
 or_neither a b c e f = λ i. e i || (f i || c)
@@ -98,21 +97,20 @@ module _ {X : Type 0} where
       let c : counted (stands m s (take (5 * i + 5) q)) ≡ 0 = ap counted e in
       omega (arith, c, standing_none (suc i) n q m s (omega (arith, h)) f)
 
-  none_begun : {vs : List (List Bool × X)} {cs : List (List Bool × Seen X)} (q x : List Bool) → IsNode vs cs → find bits_cmp (take 5 q) cs ≡ None → 5 ≤ length x → take 5 x ≡ take 5 q → (b : Bool) → is_some (get (begun (node_map vs cs)) x) ≡ b → is_some (get (begun (node_map vs cs)) x) ≡ false
-  none_begun {vs} {cs} q x n f h t true e =
+  none_begun : {vs : List (List Bool × X)} {cs : List (List Bool × Seen X)} (q x : List Bool) → IsNode vs cs → find bits_cmp (take 5 q) cs ≡ None → 5 ≤ length x → take 5 x ≡ take 5 q → is_some (get (begun (node_map vs cs)) x) ≡ false
+  none_begun {vs} {cs} q x n f h t = false_from_ne_true _ (λ e.
       let m = node_map vs cs in
       let b = begun_by_key x (entries m) (sym (has-begun m x) ∙ sym (ap is_some (get-entries (begun m) x)) ∙ e) in
       let k : 5 ≤ length b.key = omega (arith, ap length b.first, length-take 5 x, length-take 5 b.key, h) in
       let l = found_long n b.key k (found_get m b.key b.found) in
       let z : false ≡ true = sym (ap is_some f) ∙ ap (λ i. is_some (find bits_cmp i cs)) (sym t ∙ b.first) ∙ l in
-      cc
-  none_begun q x n f h t false e = e
+      cc)
 
   -- no node stands where there is no child
   stands_none : {vs : List (List Bool × X)} {cs : List (List Bool × Seen X)} (q x : List Bool) → IsNode vs cs → find bits_cmp (take 5 q) cs ≡ None → 5 ≤ length x → take 5 x ≡ take 5 q → stands (node_map vs cs) (spare_set cs) x ≡ false
   stands_none {vs} {cs} q x n f d t =
       let spare : get (spare_set cs) x ≡ None = set-long n x d ∙ (λ i. marked_get (find bits_cmp (t i) cs) (drop 5 x)) ∙ ap (λ o. marked_get o (drop 5 x)) f in
-      λ i. none_begun q x n f d t (is_some (get (begun (node_map vs cs)) x)) refl i || is_some (spare i)
+      λ i. none_begun q x n f d t i || is_some (spare i)
 
   -- no child on the way: the node alone
   pub visits_none : {vs : List (List Bool × X)} {cs : List (List Bool × Seen X)} (q : List Bool) → IsNode vs cs → find bits_cmp (take 5 q) cs ≡ None → node_visits (node_map vs cs) (spare_set cs) q ≡ 1
