@@ -1,6 +1,5 @@
 -- Bit strings at the top of a word.
-use Rattle.std.proofs.Common.{◌≡◌, ℕ, suc, ◌+◌, ◌-◌, ◌*◌, ◌/◌, ◌%◌, ◌^◌, ◌<◌, ◌≤◌, Bool, true, false, cond, ◌==◌, List, [], ◌∷◌, ◌++◌, length, drop, refl, sym, ap, subst, ◌∙◌, arith}
-use Rattle.std.specs.Prelude.{nat_lt}
+use Rattle.std.proofs.Common.{◌≡◌, ℕ, suc, ◌+◌, ◌-◌, ◌*◌, ◌/◌, ◌%◌, ◌^◌, ◌<◌, ◌≤◌, Bool, cond, ◌==◌, List, [], ◌∷◌, ◌++◌, length, drop, sym, ap, subst, ◌∙◌, arith, inl, inr}
 use Rattle.std.proofs.lemmas.Bool.Decides.{nat_tests}
 use Rattle.std.proofs.lemmas.Nat.{pow_pos, pow-add, shl-shr, shr-shr, shr_below, shr_split, mod_below}
 use Rattle.std.proofs.Math.Nat.{mod-mod, mul_assoc, mod-eq_of_lt, add-mul, mul-lt-mul_of_pos_right, mul-le-mul_right, pow-le-pow_right}
@@ -10,6 +9,7 @@ use Rattle.ipnet_blocks.proofs.Strings.{length-digits}
 use Rattle.trie_core.specs.InnerPlaces.{child_of}
 use Rattle.trie_core.specs.InnerPaths.{IsAligned}
 use Rattle.trie_core.proofs.Numbers.{number-digits, number-long, number_apart, drop-digits}
+use Rattle.std.proofs.lemmas.Bool.{cases_lt}
 
 -- the digits of a number are those of its low part
 pub digits-mod : (m q : ℕ) → digits m (q % 2 ^ m) ≡ digits m q
@@ -21,25 +21,24 @@ digits-mod m q =
 pub path_length : {n : ℕ} {bs : List Bool} (q : ℕ) → digits n q ≡ bs → n ≡ length bs
 path_length {n} q e = sym (length-digits n q) ∙ ap length e
 
-five_by : (bits len : ℕ) → IsAligned bits len → (b : Bool) → nat_lt len 5 ≡ b → child_of (digits len (bits / 2 ^ (128 - len))) ≡ bits / 2 ^ 123
-five_by bits len a true h =
-    let l : len < 5 = grind (arith, nat_tests) in
-    let q = bits / 2 ^ (128 - len) in
-    let e : len + (128 - len) ≡ 128 = omega (arith, l) in
-    let fit : bits / 2 ^ (128 - len) < 2 ^ len = shr_below bits len (128 - len) (subst (λ i. bits < 2 ^ i) (sym e) a.masked.below) in
-    let low : q % 2 ^ len ≡ q = mod-eq_of_lt fit in
-    let f : 5 - len + 123 ≡ 128 - len = omega (arith, l) in
-    let up : bits ≡ q * 2 ^ (5 - len) * 2 ^ 123 = sym a.masked.clear ∙ ap (λ i. q * 2 ^ i) (sym f) ∙ ap (λ n. q * n) (pow-add 2 (5 - len) 123) ∙ sym (mul_assoc q (2 ^ (5 - len)) (2 ^ 123)) in
-    number-digits 5 len q (omega (arith, l)) ∙ ap (λ n. n * 2 ^ (5 - len)) low ∙ sym (shl-shr (q * 2 ^ (5 - len)) 123) ∙ ap (λ n. n / 2 ^ 123) (sym up)
-five_by bits len a false h =
-    let l : 5 ≤ len = grind (arith, nat_tests) in
-    let e : 128 - len + (len - 5) ≡ 123 = omega (arith, l, a.short) in
-    let fit : bits / 2 ^ 123 < 2 ^ 5 = shr_below bits 5 123 a.masked.below in
-    number-long 5 len (bits / 2 ^ (128 - len)) l ∙ ap (λ n. n % 2 ^ 5) (shr-shr bits (128 - len) (len - 5) ∙ ap (λ i. bits / 2 ^ i) e) ∙ omega (arith, fit)
+five_by : (bits len : ℕ) → IsAligned bits len → child_of (digits len (bits / 2 ^ (128 - len))) ≡ bits / 2 ^ 123
+five_by bits len a = elim (cases_lt len 5) [
+  | inl l ↦
+      let q = bits / 2 ^ (128 - len) in
+      let e : len + (128 - len) ≡ 128 = omega (arith, l) in
+      let fit : bits / 2 ^ (128 - len) < 2 ^ len = shr_below bits len (128 - len) (subst (λ i. bits < 2 ^ i) (sym e) a.masked.below) in
+      let f : 5 - len + 123 ≡ 128 - len = omega (arith, l) in
+      let up : bits ≡ q * 2 ^ (5 - len) * 2 ^ 123 = sym a.masked.clear ∙ ap (λ i. q * 2 ^ i) (sym f) ∙ ap (λ n. q * n) (pow-add 2 (5 - len) 123) ∙ sym (mul_assoc q (2 ^ (5 - len)) (2 ^ 123)) in
+      number-digits 5 len q (omega (arith, l)) ∙ ap (λ n. n * 2 ^ (5 - len)) (mod-eq_of_lt fit) ∙ sym (shl-shr (q * 2 ^ (5 - len)) 123) ∙ ap (λ n. n / 2 ^ 123) (sym up)
+  | inr l ↦
+      let e : 128 - len + (len - 5) ≡ 123 = omega (arith, l, a.short) in
+      let fit : bits / 2 ^ 123 < 2 ^ 5 = shr_below bits 5 123 a.masked.below in
+      number-long 5 len (bits / 2 ^ (128 - len)) l ∙ ap (λ n. n % 2 ^ 5) (shr-shr bits (128 - len) (len - 5) ∙ ap (λ i. bits / 2 ^ i) e) ∙ omega (arith, fit)
+]
 
 -- the first five bits
 pub five : {bs : List Bool} (bits len : ℕ) → IsAligned bits len → digits len (bits / 2 ^ (128 - len)) ≡ bs → bits / 2 ^ 123 ≡ child_of bs
-five bits len a e = sym (five_by bits len a (nat_lt len 5) refl) ∙ ap child_of e
+five bits len a e = sym (five_by bits len a) ∙ ap child_of e
 
 -- the word without its first five bits
 pub moved : (bits len : ℕ) → IsAligned bits len → 5 ≤ len → bits * 2 ^ 5 % 2 ^ 128 ≡ bits / 2 ^ (128 - len) % 2 ^ (len - 5) * 2 ^ (128 - (len - 5))
@@ -126,12 +125,10 @@ extended {bs} bits len b t a l e v =
     })
   where
     below : (t : Bool) (b : ℕ) → b ≡ cond t 1 0 → b < 2
-    below true b e = omega (arith, e)
-    below false b e = omega (arith, e)
+    below t b e = grind arith
 
     odd : (q b : ℕ) (t : Bool) → b ≡ cond t 1 0 → ((2 * q + b) % 2 == 1) ≡ t
-    odd q b true e = grind (arith, nat_tests)
-    odd q b false e = grind (arith, nat_tests)
+    odd q b t e = grind (arith, nat_tests)
 
     last_digit : (n q b : ℕ) (t : Bool) → b ≡ cond t 1 0 → digits (suc n) (2 * q + b) ≡ digits n q ++ t ∷ []
     last_digit n q b t e =

@@ -1,5 +1,5 @@
 -- A map without the keys inside a prefix, and what a change of a child makes of it.
-use Rattle.std.proofs.Common.{◌≡◌, ℕ, ◌+◌, ◌-◌, ◌^◌, ◌<◌, ◌≤◌, Bool, true, false, cond, not, ◌||◌, List, [], ◌∷◌, ◌++◌, length, take, drop, get_or, set, remove, refl, sym, ap, subst, ◌∙◌, arith}
+use Rattle.std.proofs.Common.{◌≡◌, ℕ, ◌+◌, ◌-◌, ◌^◌, ◌<◌, ◌≤◌, Bool, true, false, cond, not, ◌||◌, List, [], ◌∷◌, ◌++◌, length, take, drop, get_or, set, remove, sym, ap, subst, ◌∙◌, arith}
 use Rattle.std.specs.Prelude.{Option, Some, None}
 use Rattle.std.specs.FinMap.{get, len, empty, find, get-empty, get-remove, get-retain_keys, same_map}
 use Rattle.std.specs.FinMap as map
@@ -43,15 +43,9 @@ off_way_there q s l e = begins_elsewhere s q l (same_false (take 5 q) (take 5 s)
 
 -- a string begins with q where it is q, or goes on from q
 begins_split : (q x : List Bool) → begins q x ≡ (same x q || (begins (q ++ false ∷ []) x || begins (q ++ true ∷ []) x))
-begins_split [] [] = refl
-begins_split [] (true ∷ x) = refl
-begins_split [] (false ∷ x) = refl
-begins_split (true ∷ q) [] = refl
-begins_split (false ∷ q) [] = refl
-begins_split (true ∷ q) (true ∷ x) = begins_split q x
-begins_split (false ∷ q) (false ∷ x) = begins_split q x
-begins_split (true ∷ q) (false ∷ x) = refl
-begins_split (false ∷ q) (true ∷ x) = refl
+begins_split [] x = grind arith
+begins_split (b ∷ q) [] = grind arith
+begins_split (b ∷ q) (y ∷ x) = grind (arith, begins_split q x)
 
 module _ {X : Type 0} where
   pub get-outside : (m : BitMap X) (q x : List Bool) → get (outside m q) x ≡ cond (not (begins q x)) (get m x) None
@@ -65,14 +59,7 @@ module _ {X : Type 0} where
   outside_all m = same_by _ _ (λ x. get-outside m [] x ∙ sym (get-empty bits_cmp x))
 
   three : (s a b : Bool) (o : Option X) → cond (not b) (cond (not a) (cond s None o) None) None ≡ cond (not (s || (a || b))) o None
-  three true true true o = refl
-  three true true false o = refl
-  three true false true o = refl
-  three true false false o = refl
-  three false true true o = refl
-  three false true false o = refl
-  three false false true o = refl
-  three false false false o = refl
+  three s a b o = grind arith
 
   -- the key itself, and what goes on from it with 0 and with 1
   pub outside_split : (m : BitMap X) (q : List Bool) → outside (outside (map.remove m q) (q ++ false ∷ [])) (q ++ true ∷ []) ≡ outside m q
@@ -83,12 +70,8 @@ module _ {X : Type 0} where
       ∙ ap (λ b. cond (not b) (get m x) None) (sym (begins_split q x))
       ∙ sym (get-outside m q x))
 
-  absent_by : (m : BitMap X) (q x : List Bool) → (begins q x ≡ true → get m x ≡ None) → (b : Bool) → begins q x ≡ b → get m x ≡ cond (not b) (get m x) None
-  absent_by m q x f true e = f e
-  absent_by m q x f false e = refl
-
   pub outside_absent : (m : BitMap X) (q : List Bool) → ((x : List Bool) → begins q x ≡ true → get m x ≡ None) → m ≡ outside m q
-  outside_absent m q f = same_by _ _ (λ x. absent_by m q x (f x) (begins q x) refl ∙ sym (get-outside m q x))
+  outside_absent m q f = same_by _ _ (λ x. grind (arith, f x, get-outside m q x))
 
   -- nothing lies outside five bits in the child below them
   pub none_left : (m : BitMap X) (q : List Bool) → length q ≡ 5 → empty ≡ outside m (drop 5 q)

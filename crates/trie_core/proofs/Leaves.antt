@@ -1,5 +1,5 @@
 -- Where nothing stands strictly inside a string.
-use Rattle.std.proofs.Common.{◌≡◌, ℕ, zero, suc, ◌+◌, ◌-◌, ◌/◌, ◌%◌, ◌^◌, ◌<◌, ◌≤◌, Bool, true, false, not, ◌&&◌, List, [], ◌∷◌, ◌++◌, length, take, drop, refl, sym, ap, ◌∙◌, arith}
+use Rattle.std.proofs.Common.{◌≡◌, ℕ, zero, suc, ◌+◌, ◌-◌, ◌/◌, ◌%◌, ◌^◌, ◌<◌, ◌≤◌, Bool, true, not, ◌&&◌, List, [], ◌∷◌, ◌++◌, length, take, drop, refl, sym, ap, ◌∙◌, arith, inl, inr}
 use Rattle.std.specs.Prelude.{Option, Some, None, bit_and, count_ones, eqb, nat_lt, ◌↔◌}
 use Rattle.std.specs.Int.{bit_at}
 use Rattle.std.specs.Ordering.{nat_cmp}
@@ -24,6 +24,7 @@ use Rattle.trie_core.proofs.Taken.{taken, missing}
 use Rattle.trie_core.proofs.Seen.{IsSeen, value_at, below_at, spare_at, is_child}
 use Rattle.trie_core.proofs.Searches.{below_31, last_place}
 use Rattle.trie_core.proofs.Opened.{has_between, both_set}
+use Rattle.std.proofs.lemmas.Bool.{cases_lt}
 
 -- ---- what goes on from a string
 
@@ -45,18 +46,10 @@ goes_on q x e f = by (drop (length q) x) (begun_rest q x e)
 
 -- a number in a range, and the test of it
 ranged : (from end i : ℕ) → true ≡ (not (nat_lt i from) && nat_lt i end) → (from ≤ i) × (i < end)
-ranged from end i e = by (nat_lt i from) (nat_lt i end) refl refl e
-  where
-    by : (a b : Bool) → nat_lt i from ≡ a → nat_lt i end ≡ b → true ≡ (not a && b) → (from ≤ i) × (i < end)
-    by true b p r e = cc
-    by false true p r e = (grind (arith, nat_tests), grind (arith, nat_tests))
-    by false false p r e = cc
+ranged from end i e = grind (arith, nat_tests)
 
 in_range : (from end i : ℕ) → from ≤ i → i < end → (not (nat_lt i from) && nat_lt i end) ≡ true
-in_range from end i h l =
-    let a : nat_lt i from ≡ false = grind (arith, nat_tests) in
-    let b : nat_lt i end ≡ true = grind (arith, nat_tests) in
-    λ j. not (a j) && b j
+in_range from end i h l = grind (arith, nat_tests)
 
 -- what the other word has, this one lacks
 apart : (a b i : ℕ) → bit_and a b ≡ 0 → bit_at b i ≡ 1 → bit_at a i ≡ 0
@@ -64,11 +57,10 @@ apart a b i z e = omega (arith, bit_at_and a b i, ap (λ n. bit_at n i) z, bit_a
 
 -- a word without bits is 0
 no_bit : (a : ℕ) → a < 2 ^ 32 → ((i : ℕ) → i < 32 → bit_at a i ≡ 1 → ⊥) → a ≡ 0
-no_bit a h f = by (nat_lt 0 a) refl
-  where
-    by : (b : Bool) → nat_lt 0 a ≡ b → a ≡ 0
-    by true e = let t = last_place a (grind (arith, nat_tests)) h in absurd (f _ t.within t.taken)
-    by false e = grind (arith, nat_tests)
+no_bit a h f = elim (cases_lt 0 a) [
+  | inl e ↦ let t = last_place a e h in absurd (f _ t.within t.taken)
+  | inr e ↦ omega arith
+]
 
 -- a bit between two places
 between : (from end i : ℕ) → bit_at (2 ^ end - 2 ^ from) i ≡ 1 → (from ≤ i) × (i < end)
@@ -110,19 +102,16 @@ module _ {X : Type 0} where
 
   pub none_inside_here : {vb vm cm : ℕ} {vs : List X} {cb : ℕ} {cs : List (Seen X)} {m : Seen X} (q : List Bool) → IsSeen vb vs cb cs m → length q < 5 → vm ≡ 2 ^ (place_of q + 31 / 2 ^ length q) - 2 ^ (place_of q + 1) → cm ≡ 2 ^ (child_of q + 32 / 2 ^ length q) - 2 ^ child_of q → bit_and vb vm ≡ 0 → bit_and cb cm ≡ 0
       → NothingInside m.entries q × NothingInside m.spares q
-  none_inside_here {m = m} q s h e f y z = (λ b k. keys b k (nat_lt (length (q ++ b ∷ k)) 5) refl, λ b k. spares b k (nat_lt (length (q ++ b ∷ k)) 5) refl)
-    where
-      keys : (b : Bool) (k : List Bool) (t : Bool) → nat_lt (length (q ++ b ∷ k)) 5 ≡ t → get m.entries (q ++ b ∷ k) ≡ None
-      keys b k true t = no_value_at q b k s h e y (grind (arith, nat_tests))
-      keys b k false t =
-          let l : 5 ≤ length (q ++ b ∷ k) = grind (arith, nat_tests) in
-          sym (below_at (q ++ b ∷ k) s l) ∙ ap (λ o. child_get o (drop 5 (q ++ b ∷ k))) (sym (no_child_at q b k s h f z l)) ∙ get_none (drop 5 (q ++ b ∷ k))
-
-      spares : (b : Bool) (k : List Bool) (t : Bool) → nat_lt (length (q ++ b ∷ k)) 5 ≡ t → get m.spares (q ++ b ∷ k) ≡ None
-      spares b k true t = ap (λ c. get c (q ++ b ∷ k)) (sym s.spare) ∙ set-short s.node (q ++ b ∷ k) (grind (arith, nat_tests))
-      spares b k false t =
-          let l : 5 ≤ length (q ++ b ∷ k) = grind (arith, nat_tests) in
-          sym (spare_at (q ++ b ∷ k) s l) ∙ ap (λ o. marked_get o (drop 5 (q ++ b ∷ k))) (sym (no_child_at q b k s h f z l))
+  none_inside_here {m = m} q s h e f y z = (
+    λ b k. elim (cases_lt (length (q ++ b ∷ k)) 5) [
+      | inl l ↦ no_value_at q b k s h e y l
+      | inr l ↦ sym (below_at (q ++ b ∷ k) s l) ∙ ap (λ o. child_get o (drop 5 (q ++ b ∷ k))) (sym (no_child_at q b k s h f z l)) ∙ get_none (drop 5 (q ++ b ∷ k))
+    ],
+    λ b k. elim (cases_lt (length (q ++ b ∷ k)) 5) [
+      | inl l ↦ ap (λ c. get c (q ++ b ∷ k)) (sym s.spare) ∙ set-short s.node (q ++ b ∷ k) l
+      | inr l ↦ sym (spare_at (q ++ b ∷ k) s l) ∙ ap (λ o. marked_get o (drop 5 (q ++ b ∷ k))) (sym (no_child_at q b k s h f z l))
+    ],
+  )
 
   -- ---- and back
 

@@ -19,23 +19,19 @@ use Rattle.trie_core.proofs.Strings.{bits_total, bits_same, same, same-Decides, 
 use Rattle.ipnet_blocks.proofs.BitStrings.{begins_on, begins_take, begins-under}
 use Rattle.trie_core.proofs.Maps.{ListChanges, child_get, get-long, child_changes, each_string, under_long, found_changed}
 use Rattle.trie_core.proofs.Marks.{marked_get, marked-other, marked-root, root_if, set-short, set-long, set-changed}
-use Rattle.trie_core.proofs.Named.{is_node, child_put_in, child_taken_out, child_found}
+use Rattle.trie_core.proofs.Named.{is_node, child_put_in, child_taken_out, child_found, turned}
 use Rattle.trie_core.proofs.Taken.{IsTaken, missing}
 use Rattle.trie_core.proofs.Seen.{IsSeen, map_of}
 use Rattle.trie_core.proofs.Changes.{was_found, set_removed}
 use Rattle.trie_core.proofs.Inside.{begins_elsewhere, first_five, get-outside, outside_absent, off_way_there, begins_under_first}
+use Rattle.trie_core.proofs.Ways.{no_choice}
 
 -- nothing is found in a set without strings
 pub none_found : {o : Option (Unit {0})} → o ≡ None → is_some o ≡ true → ⊥
 none_found e h = cc
 
 not_other : (o : Option (Unit {0})) (b : Bool) → is_some (cond b None o) ≡ true → (b ≡ false) × (is_some o ≡ true)
-not_other o true h = cc
-not_other o false h = (refl, h)
-
-either_none : {Y : Type 0} (b : Bool) → ◌≡◌ {A = Option Y} None (cond b None None)
-either_none true = refl
-either_none false = refl
+not_other o b h = grind arith
 
 -- the first string of a set
 first_of : (b : BitSet) → (len b ≡ 0 → ⊥) → (t : List Bool) × (is_some (get b t) ≡ true)
@@ -92,7 +88,7 @@ module _ {X : Type 0} (lost : List Bool → Bool) where
   -- there was none
   pub left_absent : (f p : List Bool) → IsLeftBelow f p None None
   left_absent f p = record {
-    off = λ r h. either_none (lost (f ++ r));
+    off = λ r h. sym (no_choice (lost (f ++ r)));
     shows = λ r h s. absurd (none_found refl s);
     holds = λ r h s. absurd (none_found refl s.leads.1);
   }
@@ -195,7 +191,7 @@ module _ {X : Type 0} (lost : List Bool → Bool) where
 
     pub left_node : IsLeft lost q (spare_set cs) (node_map us ds) (spare_set ds)
     left_node = record {
-      off = each_string (λ s. begins s q ≡ false → get (spare_set ds) s ≡ cond (lost s) None (get (spare_set cs) s)) q (λ s l b. set-short k s l ∙ either_none (lost s) ∙ ap (cond (lost s) None) (sym (set-short n s l))) in_off (λ s l e b. off_elsewhere s l e);
+      off = each_string (λ s. begins s q ≡ false → get (spare_set ds) s ≡ cond (lost s) None (get (spare_set cs) s)) q (λ s l b. set-short k s l ∙ sym (no_choice (lost s)) ∙ ap (cond (lost s) None) (sym (set-short n s l))) in_off (λ s l e b. off_elsewhere s l e);
       on = each_string (λ s. begins s q ≡ true → (is_some (get (spare_set ds) s) ≡ true) ↔ (IsIdle (node_map us ds) s × LeadsOff lost (spare_set cs) q s)) q (λ s l b. (λ t. absurd (none_found (set-short k s l) t), λ t. absurd (omega (arith, t.0.below, l)))) in_on (λ s l e b. absurd (both_ways _ (off_way_there q s l e) b));
     }
 
@@ -254,20 +250,16 @@ module _ {X : Type 0} where
   -- of at most five bits
   pub cut_short : (q : List Bool) (a : BitSet) (n : BitMap X) (c : BitSet) → length q ≤ 5 → c ≡ outside a q → AreBelow c → IsCut q a n c
   cut_short q a n c h e below = record {
-    off = λ x b. at x ∙ turned (begins q x) (get a x);
+    off = λ x b. at x;
     on = λ x b. (λ t. absurd (lost x b t), λ t. absurd (gone x b t));
   }
     where
-      turned : (b : Bool) (o : Option (Unit {0})) → cond (not b) o None ≡ cond b None o
-      turned true o = refl
-      turned false o = refl
-
-      at : (x : List Bool) → get c x ≡ cond (not (begins q x)) (get a x) None
-      at x = ap (λ b. get b x) e ∙ get-outside a q x
+      at : (x : List Bool) → get c x ≡ cond (begins q x) None (get a x)
+      at x = ap (λ b. get b x) e ∙ get-outside a q x ∙ turned (begins q x) (get a x) None
 
       lost : (x : List Bool) → begins x q ≡ true → is_some (get c x) ≡ true → ⊥
       lost x b t =
-          let f = not_other (get a x) (begins q x) (sym (ap is_some (at x ∙ turned (begins q x) (get a x))) ∙ t) in
+          let f = not_other (get a x) (begins q x) (sym (ap is_some (at x)) ∙ t) in
           both_ways _ f.0 (ap (begins q) (cut_by x q (below x t) h b ∙ sym (append-nil q)) ∙ begins_on q [])
 
       gone : (x : List Bool) → begins x q ≡ true → IsIdle n x × LeadsOff (begins q) a q x → ⊥
@@ -297,7 +289,7 @@ module _ {X : Type 0} where
       let five : 5 ≤ length q = omega (arith, h) in
       let first : take 5 q ≡ q = ap (λ i. take i q) (sym h) ∙ take-length q in
       same_map bits_total bits_same _ _ (λ x. child_changes marked_get (λ x p. cond (not (begins q x)) p None) cs ds q None (get (spare_set cs)) (get (spare_set ds)) (set-long n) (set-long k) five c
-      (λ x l. set-short k x l ∙ either_none (not (begins q x)) ∙ ap (λ o. cond (not (begins q x)) o None) (sym (set-short n x l)))
+      (λ x l. set-short k x l ∙ sym (no_choice (not (begins q x))) ∙ ap (λ o. cond (not (begins q x)) o None) (sym (set-short n x l)))
       (λ r. ap (λ b. cond (not b) (marked_get (find bits_cmp (take 5 q) cs) r) None) (sym (ap (λ w. begins q (w ++ r)) first ∙ begins_on q r)))
       (λ x p l e. ap (λ b. cond (not b) p None) (begins_elsewhere q x five e)) x
       ∙ sym (get-outside (spare_set cs) q x))

@@ -51,6 +51,9 @@ name_order {f} a n m h l = elim (cases_order n m) [
   | inr (inr p) ↦ bits_total.antisymm (f n) (f m) ∙ ap ordering_reverse (a.rises m n p h) ∙ grind (arith, nat_tests)
 ]
 
+pub turned : {Y : Type 0} (b : Bool) (o p : Option Y) → cond (not b) o p ≡ cond b p o
+turned b o p = grind arith
+
 module _ {X : Type 0} where
   pub named_find : (f : ℕ → List Bool) (w n : ℕ) (es : List (ℕ × X)) → IsNaming f w → n < w → AllBelow w es → find bits_cmp (f n) (named f es) ≡ find nat_cmp n es
   named_find f w n [] a h b = refl
@@ -86,11 +89,7 @@ module _ {X : Type 0} where
   named_without f w n es a h b p =
       ap (find bits_cmp p) (named-where f w (λ k. not (eq_by_cmp nat_cmp n k)) (λ s. not (same (f n) s)) es (λ k l. ap (λ r. not (is_eq r)) (sym (name_order a n k h l))) b)
       ∙ find-where_key bits_cmp (λ s. not (same (f n) s)) p (λ x e. ap (λ s. not (same (f n) s)) (sym (bits_same p x e))) (named f es)
-      ∙ turned (same (f n) p) None (find bits_cmp p (named f es)) ∙ ap (λ t. cond t None (find bits_cmp p (named f es))) ((eq_by_cmp_equiv bits_total).symm (f n) p)
-    where
-      turned : (b : Bool) (o q : Option X) → cond (not b) q o ≡ cond b o q
-      turned true o q = refl
-      turned false o q = refl
+      ∙ turned (same (f n) p) (find bits_cmp p (named f es)) None ∙ ap (λ t. cond t None (find bits_cmp p (named f es))) ((eq_by_cmp_equiv bits_total).symm (f n) p)
 
   named_above : (f : ℕ → List Bool) (w n : ℕ) (es : List (ℕ × X)) → IsNaming f w → AllBelow w es → T (below_all nat_cmp n es) → T (below_all bits_cmp (f n) (named f es))
   named_above f w n [] a b s = tt

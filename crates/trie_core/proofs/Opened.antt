@@ -1,5 +1,5 @@
 -- What stands in a node at the places that are open.
-use Rattle.std.proofs.Common.{◌≡◌, ℕ, zero, suc, ◌+◌, ◌-◌, ◌*◌, ◌/◌, ◌%◌, ◌^◌, ◌<◌, ◌≤◌, Bool, true, false, cond, not, ◌&&◌, List, [], ◌∷◌, ◌++◌, length, take, get_or, refl, sym, ap, subst, ◌∙◌, arith}
+use Rattle.std.proofs.Common.{◌≡◌, ℕ, zero, suc, ◌+◌, ◌-◌, ◌*◌, ◌/◌, ◌%◌, ◌^◌, ◌<◌, ◌≤◌, Bool, true, false, cond, not, ◌&&◌, List, [], ◌∷◌, ◌++◌, length, take, get_or, refl, sym, ap, subst, ◌∙◌, arith, inl, inr}
 use Rattle.std.specs.Prelude.{T, Option, Some, None, nat_lt, eqb, min, bit_and, count_ones, MatchOption}
 use Rattle.std.specs.Borrow.{Bor}
 use Rattle.std.specs.Int.{bit_at}
@@ -15,7 +15,7 @@ use Rattle.ipnet_blocks.specs.BitStrings.{bits_cmp, begins}
 use Rattle.trie_core.specs.InnerPlaces.{place_of, child_of, place_string, child_string, placed, without, AllBelow, named, first_place_of, IsFirstPlace}
 use Rattle.trie_core.specs.InnerWalks.{is_past, first_value, KeysWithin, Left}
 use Rattle.std.proofs.Math.ListN.{length-append}
-use Rattle.std.proofs.lemmas.Bool.{and_right}
+use Rattle.std.proofs.lemmas.Bool.{and_right, cases_lt, cases_Bool, eqb-true}
 use Rattle.ipnet_addr.proofs.Basics.{T-parts}
 use Rattle.trie_core.proofs.Strings.{front}
 use Rattle.trie_core.proofs.Numbers.{place_bound, number_bound, number-take, length-child_string}
@@ -40,12 +40,7 @@ other_zero a b e f = omega (arith, e, f)
 
 -- between two places
 pub has_between : (from end i : ℕ) → has_bit (2 ^ end - 2 ^ from) i ≡ (not (nat_lt i from) && nat_lt i end)
-has_between from end i = by (nat_lt i from) (nat_lt i end) refl refl
-  where
-    by : (a b : Bool) → nat_lt i from ≡ a → nat_lt i end ≡ b → has_bit (2 ^ end - 2 ^ from) i ≡ (not a && b)
-    by true b e f = let z = bit_at_mask_below from end i (grind (arith, nat_tests)) in ap (λ x. eqb x 1) z
-    by false true e f = let z = bit_at_mask_inside from end i (grind (arith, nat_tests)) (grind (arith, nat_tests)) in ap (λ x. eqb x 1) z
-    by false false e f = let z = bit_at_mask_above from end i (grind (arith, nat_tests)) in ap (λ x. eqb x 1) z
+has_between from end i = grind (arith, nat_tests, bit_at_mask_below from end i, bit_at_mask_inside from end i, bit_at_mask_above from end i)
 
 -- a bit is taken out
 has_cleared : (i j word : ℕ) → bit_at word i ≡ 1 → has_bit (word - 2 ^ i) j ≡ (has_bit word j && not (eq_by_cmp nat_cmp i j))
@@ -127,14 +122,12 @@ module _ {X : Type 0} where
 
   unset_either : (mask bits : ℕ) (xs : List X) (j : ℕ) → bit_at (bit_and mask bits) j ≡ 0 → find nat_cmp j (where_key nat_cmp (has_bit mask) (placed bits xs)) ≡ None
   unfolding placed
-  unset_either mask bits xs j z = open_get mask bits xs j ∙ by (has_bit mask j) refl
-    where
-      by : (b : Bool) → has_bit mask j ≡ b → cond b (find nat_cmp j (placed bits xs)) None ≡ None
-      by true e =
-          let o : bit_at mask j ≡ 1 = grind (arith, nat_tests) in
-          let u : bit_at bits j ≡ 0 = other_zero (bit_at mask j) (bit_at bits j) (sym (bit_at_and mask bits j) ∙ z) o in
-          sym (missing j bits xs u)
-      by false e = refl
+  unset_either mask bits xs j z = open_get mask bits xs j ∙ elim (cases_Bool (has_bit mask j)) [
+    | inl e ↦
+        let u : bit_at bits j ≡ 0 = other_zero (bit_at mask j) (bit_at bits j) (sym (bit_at_and mask bits j) ∙ z) (eqb-true (bit_at mask j) 1 e) in
+        (λ i. cond (e i) (sym (missing j bits xs u) i) None)
+    | inr e ↦ ap (λ b. cond b (find nat_cmp j (placed bits xs)) None) e
+  ]
 
   open_first : (mask bits i : ℕ) (xs : List X) (x : X) → IsFirstPlace (bit_and mask bits) i → find nat_cmp i (placed bits xs) ≡ Some x
       → where_key nat_cmp (has_bit mask) (placed bits xs) ≡ (i, x) ∷ where_key nat_cmp (has_bit (mask - 2 ^ i)) (placed bits xs)
@@ -271,15 +264,10 @@ module _ {X : Type 0} where
 -- ---- what a search leaves open
 
 told_by : {p : List Bool → Bool} {f g : ℕ → Bool} (v c : ℕ) → IsTold p f g → ((i : ℕ) → i < 32 → has_bit v i ≡ f i) → ((i : ℕ) → i < 32 → has_bit c i ≡ g i) → (k : List Bool) → is_open v c k ≡ p k
-told_by {p} v c t a b k = by (nat_lt (length k) 5) refl
-  where
-    by : (x : Bool) → nat_lt (length k) 5 ≡ x → is_open v c k ≡ p k
-    by true e =
-        let l : length k < 5 = grind (arith, nat_tests) in
-        (told_open v c).short k l ∙ a (place_of k) (omega (arith, place_bound 5 k l)) ∙ sym (t.short k l)
-    by false e =
-        let l : 5 ≤ length k = grind (arith, nat_tests) in
-        (told_open v c).long k l ∙ b (child_of k) (number_bound 5 k) ∙ sym (t.long k l)
+told_by {p} v c t a b k = elim (cases_lt (length k) 5) [
+  | inl l ↦ (told_open v c).short k l ∙ a (place_of k) (omega (arith, place_bound 5 k l)) ∙ sym (t.short k l)
+  | inr l ↦ (told_open v c).long k l ∙ b (child_of k) (number_bound 5 k) ∙ sym (t.long k l)
+]
 
 where_told : {X : Type 0} {p : List Bool → Bool} {f g : ℕ → Bool} (v c : ℕ) (es : List (List Bool × X)) → IsTold p f g → ((i : ℕ) → i < 32 → has_bit v i ≡ f i) → ((i : ℕ) → i < 32 → has_bit c i ≡ g i) → where_key bits_cmp (is_open v c) es ≡ where_key bits_cmp p es
 where_told v c es t a b = λ j. where_key bits_cmp (λ k. told_by v c t a b k j) es

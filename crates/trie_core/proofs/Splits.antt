@@ -40,8 +40,7 @@ high_even : (i bits : ℕ) → (bits - bits % 2 ^ suc i) % 2 ≡ 0
 high_even i bits = omega (arith, low_odd i bits)
 
 none_either : {Y : Type 0} (b : Bool) → ◌≡◌ {A = List Y} [] (cond b [] [])
-none_either true = refl
-none_either false = refl
+none_either b = grind arith
 
 module _ {X : Type 0} where
   keep_more : (n : ℕ) (x : X) (es : List (ℕ × X)) (p : ℕ → Bool) (b : Bool) → where_key nat_cmp p es ≡ cond b es [] → p n ≡ b → where_key nat_cmp p ((n, x) ∷ es) ≡ cond b ((n, x) ∷ es) []

@@ -1,10 +1,9 @@
 -- The spare nodes of a node, as a key comes or goes below it.
-use Rattle.std.proofs.Common.{◌≡◌, ◌^◌, ◌<◌, ◌≤◌, Bool, true, false, cond, not, List, [], ◌∷◌, ℕ, zero, suc, length, take, drop, get_or, set, refl, sym, ap, subst, ◌∙◌, arith}
-use Rattle.std.specs.Prelude.{nat_lt, Option, Some, None}
+use Rattle.std.proofs.Common.{◌≡◌, ◌^◌, ◌<◌, ◌≤◌, Bool, cond, not, List, [], ◌∷◌, ℕ, zero, suc, length, take, drop, get_or, set, refl, sym, ap, subst, ◌∙◌, arith, inl, inr}
+use Rattle.std.specs.Prelude.{Option, Some, None}
 use Rattle.std.specs.FinMap.{get, put, len, empty, find, get-empty, get-retain_keys, same_map}
 use Rattle.std.specs.FinMap as map
 use Rattle.std.specs.Ordering.{nat_cmp}
-use Rattle.std.proofs.lemmas.Bool.Decides.{nat_tests}
 use Rattle.ipnet_blocks.specs.BitStrings.{bits_cmp, begins}
 use Rattle.trie_core.specs.InnerPlaces.{child_of, at_places, child_list, IsUnset}
 use Rattle.trie_core.specs.Nodes.{BitSet, Seen}
@@ -20,13 +19,13 @@ use Rattle.trie_core.proofs.Seen.{IsSeen}
 use Rattle.trie_core.proofs.Marks.{marked_get, marked-other, marked-root, root_if, set-short, set-long}
 use Rattle.trie_core.proofs.Inside.{begins_longer, begins_under_first, off_way_there}
 use Rattle.trie_core.proofs.Changes.{spare_insert, was_found}
+use Rattle.std.proofs.lemmas.Bool.{cases_lt}
 
 pub get-off : (b : BitSet) (q x : List Bool) → get (off_way b q) x ≡ cond (not (begins x q)) (get b x) None
 get-off b q x = get-retain_keys b (λ s. not (begins s q)) x (λ y e. ap (λ s. not (begins s q)) (sym (bits_same x y e)))
 
 pub no_choice : {Y : Type 0} (b : Bool) → ◌≡◌ {A = Option Y} (cond b None None) None
-no_choice true = refl
-no_choice false = refl
+no_choice b = grind arith
 
 pub off_none : (b : BitSet) (q : List Bool) → b ≡ empty → off_way b q ≡ empty
 off_none b q e = same_map bits_total bits_same _ _ (λ x. get-off b q x ∙ ap (λ o. cond (not (begins x q)) o None) (ap (λ c. get c x) e ∙ get-empty bits_cmp x) ∙ no_choice (not (begins x q)) ∙ sym (get-empty bits_cmp x))
@@ -59,15 +58,10 @@ module _ {X : Type 0} where
 
   -- within the node no spare node is on the way
   pub short_off : {vb : ℕ} {vs : List X} {cb : ℕ} {cs : List (Seen X)} {m : Seen X} (q : List Bool) → IsSeen vb vs cb cs m → length q < 5 → m.spares ≡ off_way m.spares q
-  short_off {m = m} q s h = same_map bits_total bits_same _ _ (λ x. short_by x (nat_lt (length x) 5) refl ∙ sym (get-off m.spares q x))
-    where
-      short_by : (x : List Bool) (b : Bool) → nat_lt (length x) 5 ≡ b → get m.spares x ≡ cond (not (begins x q)) (get m.spares x) None
-      short_by x true e =
-          let z : get m.spares x ≡ None = ap (λ b. get b x) (sym s.spare) ∙ set-short s.node x (grind (arith, nat_tests)) in
-          z ∙ sym (ap (λ o. cond (not (begins x q)) o None) z ∙ no_choice (not (begins x q)))
-      short_by x false e =
-          let l : 5 ≤ length x = grind (arith, nat_tests) in
-          ap (λ b. cond (not b) (get m.spares x) None) (sym (begins_longer x q (omega (arith, l, h))))
+  short_off {m = m} q s h = same_map bits_total bits_same _ _ (λ x. elim (cases_lt (length x) 5) [
+    | inl l ↦ let z : get m.spares x ≡ None = ap (λ b. get b x) (sym s.spare) ∙ set-short s.node x l in z ∙ sym (get-off m.spares q x ∙ ap (λ o. cond (not (begins x q)) o None) z ∙ no_choice (not (begins x q)))
+    | inr l ↦ ap (λ b. cond (not b) (get m.spares x) None) (sym (begins_longer x q (omega (arith, l, h)))) ∙ sym (get-off m.spares q x)
+  ])
 
   -- in the child on the way, which is e and becomes d
   pub below_off : {vb at : ℕ} {vs : List X} {cb : ℕ} {cs : List (Seen X)} {m : Seen X} (q : List Bool) (v : X) (e d : Seen X) → IsSeen vb vs cb cs m → 5 ≤ length q → IsTaken (child_of q) at cb cs → e ≡ get_or cs at e → d.entries ≡ map.insert e.entries (drop 5 q) v → d.spares ≡ off_way e.spares (drop 5 q)
