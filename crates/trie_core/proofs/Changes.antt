@@ -2,12 +2,9 @@
 use Rattle.std.proofs.Common.{◌≡◌, ℕ, zero, suc, ◌+◌, ◌-◌, ◌/◌, ◌^◌, ◌<◌, ◌≤◌, Bool, true, false, cond, List, [], ◌∷◌, length, take, drop, get_or, set, refl, sym, ap, subst, ◌∙◌, arith}
 use Rattle.std.specs.Prelude.{max, Some, None, count_ones}
 use Rattle.std.specs.List.{remove}
-use Rattle.std.specs.declared.cmp.Ordering.{Ordering}
-use Rattle.std.specs.declared.cmp.Ordering.TheVariants.{Less, Equal, Greater}
-use Rattle.std.specs.Ordering.{nat_cmp, is_eq}
+use Rattle.std.specs.Ordering.{nat_cmp}
 use Rattle.std.specs.FinMap.{find, get, put, empty, len, empty_of_len}
 use Rattle.std.specs.FinMap as map
-use Rattle.std.specs.FinMap.Entries.{by_order}
 use Rattle.std.proofs.Math.ListN.{length-drop}
 use Rattle.ipnet_blocks.specs.BitStrings.{bits_cmp}
 use Rattle.trie_core.specs.InnerPlaces.{place_of, child_of, child_string, at_places, without, named, child_list, IsSlot, IsUnset}
@@ -22,8 +19,10 @@ use Rattle.trie_core.proofs.Numbers.{number_bound}
 use Rattle.trie_core.proofs.Taken.{IsTaken, taken, missing}
 use Rattle.trie_core.proofs.Named.{is_node, child_things, child_found, value_put_in, value_taken_out, child_put_in, child_taken_out}
 use Rattle.trie_core.proofs.Marks.{marked_get, set-same}
-use Rattle.trie_core.proofs.Seen.{IsSeen, map_of, viewed, counted, total-set, height-set, height-read, below_at, has_no_child}
+use Rattle.trie_core.proofs.Seen.{IsSeen, map_of, viewed, counted, total-set, height-set, height-read, below_at, has_no_child, total-append}
 use Rattle.trie_core.proofs.Searches.{no_child_get}
+use Rattle.std.proofs.lemmas.Bool.Decides.{nat_tests}
+use Rattle.std.proofs.Math.Seq.{split_at}
 
 pub set_removed : {Y : Type 0} (xs : List Y) (i : ℕ) (y : Y) → remove (set xs i y) i ≡ remove xs i
 set_removed [] i y = refl
@@ -37,9 +36,7 @@ module _ {X : Type 0} where
   -- ---- sums and heights
 
   pub total-remove : (f : Seen X → ℕ) (cs : List (Seen X)) (i : ℕ) (d : Seen X) → i < length cs → total f (remove cs i) + f (get_or cs i d) ≡ total f cs
-  total-remove f [] i d h = absurd (omega arith)
-  total-remove f (e ∷ cs) zero d h = omega arith
-  total-remove f (e ∷ cs) (suc i) d h = omega (arith, total-remove f cs i d (omega arith))
+  total-remove f cs i d h = omega (arith, ap (total f) (split_at cs i d h), total-append f (take i cs) (get_or cs i d ∷ drop (suc i) cs), total-append f (take i cs) (drop (suc i) cs))
 
   pub height-remove : (cs : List (Seen X)) (i : ℕ) → node_height (remove cs i) ≤ node_height cs
   height-remove [] zero = omega arith
@@ -47,25 +44,13 @@ module _ {X : Type 0} where
   height-remove (e ∷ cs) zero = omega arith
   height-remove (e ∷ cs) (suc i) = omega (arith, height-remove cs i)
 
-  put_total_by : (f : Seen X → ℕ) (g : ℕ → List Bool) (n : ℕ) (d : Seen X) (e : ℕ × Seen X) (es : List (ℕ × Seen X)) → (find nat_cmp n es ≡ None → total f (things (named g (put nat_cmp n d es))) ≡ total f (things (named g es)) + f d)
-      → (r : Ordering) → cond (is_eq r) (Some e.1) (find nat_cmp n es) ≡ None → total f (things (named g (by_order r ((n, d) ∷ e ∷ es) ((e.0, d) ∷ es) (e ∷ put nat_cmp n d es)))) ≡ f e.1 + total f (things (named g es)) + f d
-  put_total_by f g n d e es i Less h = omega arith
-  put_total_by f g n d e es i Equal h = cc
-  put_total_by f g n d e es i Greater h = omega (arith, i h)
-
   put_total : (f : Seen X → ℕ) (g : ℕ → List Bool) (n : ℕ) (d : Seen X) (es : List (ℕ × Seen X)) → find nat_cmp n es ≡ None → total f (things (named g (put nat_cmp n d es))) ≡ total f (things (named g es)) + f d
   put_total f g n d [] h = omega arith
-  put_total f g n d (e ∷ es) h = put_total_by f g n d e es (put_total f g n d es) (nat_cmp n e.0) h
-
-  put_height_by : (g : ℕ → List Bool) (n : ℕ) (d : Seen X) (e : ℕ × Seen X) (es : List (ℕ × Seen X)) → node_height (things (named g (put nat_cmp n d es))) ≤ max (node_height (things (named g es))) d.levels
-      → (r : Ordering) → node_height (things (named g (by_order r ((n, d) ∷ e ∷ es) ((e.0, d) ∷ es) (e ∷ put nat_cmp n d es)))) ≤ max (max e.1.levels (node_height (things (named g es)))) d.levels
-  put_height_by g n d e es i Less = omega arith
-  put_height_by g n d e es i Equal = omega arith
-  put_height_by g n d e es i Greater = omega (arith, i)
+  put_total f g n d (e ∷ es) h = grind (arith, nat_tests, put_total f g n d es)
 
   put_height : (g : ℕ → List Bool) (n : ℕ) (d : Seen X) (es : List (ℕ × Seen X)) → node_height (things (named g (put nat_cmp n d es))) ≤ max (node_height (things (named g es))) d.levels
   put_height g n d [] = omega arith
-  put_height g n d (e ∷ es) = put_height_by g n d e es (put_height g n d es) (nat_cmp n e.0)
+  put_height g n d (e ∷ es) = grind (arith, nat_tests, put_height g n d es)
 
   -- ---- spare children
 

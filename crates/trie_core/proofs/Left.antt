@@ -1,13 +1,12 @@
 -- The spare nodes that are left as keys go below a node, and the nodes on their way that lead nowhere.
-use Rattle.std.proofs.Common.{◌≡◌, ◌%◌, ◌<◌, ◌≤◌, Bool, true, false, cond, not, List, [], ◌∷◌, ◌++◌, ℕ, zero, suc, ◌-◌, ◌^◌, length, take, drop, get_or, set, refl, sym, ap, subst, ◌∙◌, arith}
-use Rattle.std.specs.Prelude.{nat_lt, Option, Some, None, is_some, ◌↔◌}
+use Rattle.std.proofs.Common.{◌≡◌, ◌%◌, ◌<◌, ◌≤◌, Bool, true, false, cond, not, List, [], ◌∷◌, ◌++◌, ℕ, zero, suc, ◌-◌, ◌^◌, length, take, drop, get_or, set, refl, sym, ap, subst, ◌∙◌, arith, inl, inr}
+use Rattle.std.specs.Prelude.{Option, Some, None, is_some, ◌↔◌}
 use Rattle.std.specs.List.{remove as remove_at}
 use Rattle.std.specs.FinMap.{get, len, empty, find, remove, entries, get-empty, get-entries, get-remove, len-empty, len-entries, empty_of_len, same_map}
-use Rattle.std.proofs.lemmas.Bool.Decides.{nat_tests}
-use Rattle.std.proofs.lemmas.List.{append_assoc, append-nil, drop_at, take_at}
+use Rattle.std.proofs.lemmas.List.{append_assoc, append-nil}
 use Rattle.std.proofs.Math.Seq.{take-length}
 use Rattle.std.proofs.Math.ListN.{length-append}
-use Rattle.std.proofs.lemmas.Bool.{both_ways}
+use Rattle.std.proofs.lemmas.Bool.{both_ways, cases_lt}
 use Rattle.ipnet_blocks.specs.BitStrings.{bits_cmp, begins}
 use Rattle.trie_core.specs.InnerPlaces.{child_of, child_list, IsUnset}
 use Rattle.trie_core.specs.Nodes.{BitMap, BitSet, Seen}
@@ -17,8 +16,8 @@ use Rattle.trie_core.specs.Inside.{outside}
 use Rattle.trie_core.specs.Ways.{IsIdle, LeadsOff, IsLeft, IsCut}
 use Rattle.trie_core.proofs.Strings.{bits_total, bits_same, same, same-Decides, same-refl, front}
 use Rattle.ipnet_blocks.proofs.BitStrings.{begins_on, begins_take, begins-under}
-use Rattle.trie_core.proofs.Maps.{ListChanges, child_get, get-long, child_changes, each_string, under_long, found_changed}
-use Rattle.trie_core.proofs.Marks.{marked_get, marked-other, marked-root, root_if, set-short, set-long, set-changed}
+use Rattle.trie_core.proofs.Maps.{ListChanges, child_get, child_changes, each_string, under_long, found_changed, get-below}
+use Rattle.trie_core.proofs.Marks.{marked_get, marked-other, marked-root, root_if, set-short, set-long, set-changed, set-below}
 use Rattle.trie_core.proofs.Named.{is_node, child_put_in, child_taken_out, child_found, turned}
 use Rattle.trie_core.proofs.Taken.{IsTaken, missing}
 use Rattle.trie_core.proofs.Seen.{IsSeen, map_of}
@@ -42,12 +41,6 @@ first_of b h = by (entries b) refl
     by (x ∷ es) e = (x.0, ap is_some (get-entries b x.0 ∙ ap (find bits_cmp x.0) e ∙ ap (λ s. cond s (Some x.1) (find bits_cmp x.0 es)) (same-refl x.0)))
 
 module _ {X : Type 0} where
-  pub spare_under : {vs : List (List Bool × X)} {cs : List (List Bool × Seen X)} → IsNode vs cs → (q r : List Bool) → 5 ≤ length q → get (spare_set cs) (take 5 q ++ r) ≡ marked_get (find bits_cmp (take 5 q) cs) r
-  spare_under {cs = cs} n q r h = let f = (front q h).0 in set-long n (take 5 q ++ r) (under_long q r h) ∙ (λ i. marked_get (find bits_cmp (take_at (take 5 q) r 5 f i) cs) (drop_at (take 5 q) r 5 f i))
-
-  pub map_under : {vs : List (List Bool × X)} {cs : List (List Bool × Seen X)} → IsNode vs cs → (q r : List Bool) → 5 ≤ length q → get (node_map vs cs) (take 5 q ++ r) ≡ child_get (find bits_cmp (take 5 q) cs) r
-  map_under {cs = cs} n q r h = let f = (front q h).0 in get-long n (take 5 q ++ r) (under_long q r h) ∙ (λ i. child_get (find bits_cmp (take_at (take 5 q) r 5 f i) cs) (drop_at (take 5 q) r 5 f i))
-
   pub none_changes : (cs : List (List Bool × Seen X)) (q : List Bool) → find bits_cmp (take 5 q) cs ≡ None → ListChanges cs (take 5 q) None cs
   none_changes cs q e x = by (same x (take 5 q)) refl
     where
@@ -151,13 +144,13 @@ module _ {X : Type 0} (lost : List Bool → Bool) where
     found = found_changed cs ds q o c
 
     old_at : (r : List Bool) → get (spare_set cs) (take 5 q ++ r) ≡ marked_get (find bits_cmp (take 5 q) cs) r
-    old_at r = spare_under n q r h
+    old_at r = set-below n (take 5 q) r (front q h).0
 
     new_at : (r : List Bool) → get (spare_set ds) (take 5 q ++ r) ≡ marked_get o r
-    new_at r = spare_under k q r h ∙ ap (λ w. marked_get w r) found
+    new_at r = set-below k (take 5 q) r (front q h).0 ∙ ap (λ w. marked_get w r) found
 
     map_at : (r : List Bool) → get (node_map us ds) (take 5 q ++ r) ≡ child_get o r
-    map_at r = map_under k q r h ∙ ap (λ w. child_get w r) found
+    map_at r = get-below k (take 5 q) r (front q h).0 ∙ ap (λ w. child_get w r) found
 
     deeper : (r x : List Bool) → (take 5 q ++ r) ++ x ≡ take 5 q ++ (r ++ x)
     deeper r x = append_assoc (take 5 q) r x
@@ -269,11 +262,10 @@ module _ {X : Type 0} where
 
   -- the strings of a node, and of what it became
   pub set_below : {vb : ℕ} {vs : List X} {cb : ℕ} {cs : List (Seen X)} → HasSlots vb vs cb cs → AreBelow (spare_set (child_list cb cs))
-  set_below {vb} {vs} {cb} {cs} s x t = by (nat_lt (length x) 5) refl
-    where
-      by : (b : Bool) → nat_lt (length x) 5 ≡ b → 5 ≤ length x
-      by true f = absurd (none_found (set-short (is_node vb vs cb cs s.values_below s.children_below) x (grind (arith, nat_tests))) t)
-      by false f = grind (arith, nat_tests)
+  set_below {vb} {vs} {cb} {cs} s x t = elim (cases_lt (length x) 5) [
+    | inl l ↦ absurd (none_found (set-short (is_node vb vs cb cs s.values_below s.children_below) x l) t)
+    | inr l ↦ l
+  ]
 
   -- no child at the first five bits of q
   pub out_none : {vb n : ℕ} {vs : List X} {cb : ℕ} {cs : List (Seen X)} {m : Seen X} (q : List Bool) → IsSeen vb vs cb cs m → 5 ≤ length q → n ≡ child_of q → IsUnset n cb → m.spares ≡ outside m.spares q

@@ -122,6 +122,10 @@ module _ {X : Type 0} where
       ∙ ap (λ o. or_else o (find bits_cmp q (child_entries cs))) (find-long q vs h n.values_short)
       ∙ find-children q cs h n.children_long n.children_rise
 
+  -- at a string that goes on from five bits: what the child there has
+  pub get-below : {vs : List (List Bool × X)} {cs : List (List Bool × Seen X)} → IsNode vs cs → (b r : List Bool) → length b ≡ 5 → get (node_map vs cs) (b ++ r) ≡ child_get (find bits_cmp b cs) r
+  get-below {cs = cs} n b r l = get-long n (b ++ r) (omega (arith, length-append b r)) ∙ (λ i. child_get (find bits_cmp (take_at b r 5 l i) cs) (drop_at b r 5 l i))
+
   pub node_map-none : node_map {X = X} [] [] ≡ empty
   unfolding node_map
   node_map-none = refl

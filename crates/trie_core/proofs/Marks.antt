@@ -1,5 +1,5 @@
 -- The set of spare nodes of a node, by its children.
-use Rattle.std.proofs.Common.{◌≡◌, ℕ, zero, suc, ◌+◌, ◌≤◌, ◌<◌, Bool, true, false, cond, List, [], ◌∷◌, length, take, drop, refl, sym, ap, ◌∙◌, arith}
+use Rattle.std.proofs.Common.{◌≡◌, ℕ, zero, suc, ◌+◌, ◌≤◌, ◌<◌, Bool, true, false, cond, List, [], ◌∷◌, length, take, drop, refl, sym, ap, ◌∙◌, arith, ◌++◌}
 use Rattle.std.specs.Prelude.{T, Option, Some, None, is_some}
 use Rattle.std.specs.FinMap.{find, get, remove, len, empty, is_sorted, get-empty, get-insert, get-remove, len-insert, len-empty, same_map}
 use Rattle.std.specs.FinMap.Entries.{below_all}
@@ -12,6 +12,8 @@ use Rattle.trie_core.specs.InnerCount.{spare_count, spare_if, spare_of, spares_b
 use Rattle.trie_core.proofs.Count.{things}
 use Rattle.trie_core.proofs.Lengths.{entries_of_node}
 use Rattle.trie_core.proofs.Maps.{ListChanges, child_get, get_none, get-short, get-long, remove_absent, child_changes}
+use Rattle.std.proofs.lemmas.List.{take_at, drop_at}
+use Rattle.std.proofs.Math.ListN.{length-append}
 
 -- the empty string is not in a set that it was taken from
 root_taken : (b : BitSet) → get (remove b []) [] ≡ None
@@ -91,6 +93,9 @@ module _ {X : Type 0} where
   pub set-long : {vs : List (List Bool × X)} {cs : List (List Bool × Seen X)} → IsNode vs cs → (q : List Bool) → 5 ≤ length q → get (spare_set cs) q ≡ marked_get (find bits_cmp (take 5 q) cs) (drop 5 q)
   unfolding spare_set
   set-long {vs} {cs} n q h = get-long (marks_node n) q h ∙ found_marks (take 5 q) cs (drop 5 q)
+
+  pub set-below : {vs : List (List Bool × X)} {cs : List (List Bool × Seen X)} → IsNode vs cs → (b r : List Bool) → length b ≡ 5 → get (spare_set cs) (b ++ r) ≡ marked_get (find bits_cmp b cs) r
+  set-below {cs = cs} n b r l = set-long n (b ++ r) (omega (arith, length-append b r)) ∙ (λ i. marked_get (find bits_cmp (take_at b r 5 l i) cs) (drop_at b r 5 l i))
 
   -- it has no empty string, and as many strings as there are spare nodes below
   pub set-root : {vs : List (List Bool × X)} {cs : List (List Bool × Seen X)} → IsNode vs cs → remove (spare_set cs) [] ≡ spare_set cs

@@ -1,11 +1,10 @@
 -- What a node is seen as, from its words and lists, and what a change of them makes of it.
-use Rattle.std.proofs.Common.{◌≡◌, ℕ, zero, suc, ◌+◌, ◌<◌, ◌≤◌, Bool, true, false, cond, List, [], ◌∷◌, ◌++◌, length, take, drop, get_or, set, sym, ap, ◌∙◌, arith}
+use Rattle.std.proofs.Common.{◌≡◌, ℕ, zero, suc, ◌+◌, ◌<◌, ◌≤◌, Bool, cond, List, [], ◌∷◌, ◌++◌, length, take, drop, get_or, set, sym, ap, ◌∙◌, arith, inl, inr}
 use Rattle.std.specs.Prelude.{count_ones, max, Some, None}
 use Rattle.std.specs.Ordering.{nat_cmp}
 use Rattle.std.specs.FinMap.{find, get, empty, empty_of_len}
 use Rattle.std.proofs.lemmas.Nat.{zero_from_ones}
-use Rattle.std.proofs.Math.ListN.{length-append}
-use Rattle.std.proofs.lemmas.List.{nil_from_length, drop_at, take_at}
+use Rattle.std.proofs.lemmas.List.{nil_from_length, set_split}
 use Rattle.ipnet_blocks.specs.BitStrings.{bits_cmp}
 use Rattle.trie_core.specs.InnerPlaces.{place_of, child_of, at_places, value_list, child_list}
 use Rattle.trie_core.specs.Nodes.{BitMap, Seen}
@@ -14,21 +13,26 @@ use Rattle.trie_core.specs.InnerCount.{spare_count, all_nodes, total, spares_bel
 use Rattle.trie_core.specs.Count.{node_visits}
 use Rattle.trie_core.specs.InnerSearch.{IsChild, HasNoChild}
 use Rattle.trie_core.proofs.Strings.{same, front}
-use Rattle.trie_core.proofs.Maps.{node_map-none, child_get, get_none, get-short, get-long}
+use Rattle.trie_core.proofs.Maps.{node_map-none, child_get, get_none, get-short, get-long, get-below}
 use Rattle.trie_core.proofs.Count.{things, all_of_node, bare_lists}
 use Rattle.trie_core.proofs.Visits.{visits_none, visits_some}
 use Rattle.trie_core.proofs.Numbers.{ones_bit}
 use Rattle.trie_core.proofs.Lengths.{length-things}
-use Rattle.trie_core.proofs.Marks.{marked-other, marked_get, set-len, set-long, set-root}
+use Rattle.trie_core.proofs.Marks.{marked-other, marked_get, set-len, set-long, set-root, set-below}
 use Rattle.trie_core.proofs.Named.{is_node, value_things, child_things, value_found, child_found}
+use Rattle.std.proofs.lemmas.Bool.{cases_Bool}
+use Rattle.std.proofs.lemmas.Option.{same_Some}
+use Rattle.std.proofs.Math.Seq.{split_at}
 
 module _ {X : Type 0} where
   -- ---- sums and heights of children
 
+  pub total-append : (f : Seen X → ℕ) (cs ds : List (Seen X)) → total f (cs ++ ds) ≡ total f cs + total f ds
+  total-append f [] ds = omega arith
+  total-append f (c ∷ cs) ds = omega (arith, total-append f cs ds)
+
   pub total-set : (f : Seen X → ℕ) (cs : List (Seen X)) (i : ℕ) (c d : Seen X) → i < length cs → total f (set cs i c) + f (get_or cs i d) ≡ total f cs + f c
-  total-set f [] i c d h = absurd (omega arith)
-  total-set f (e ∷ cs) zero c d h = omega arith
-  total-set f (e ∷ cs) (suc i) c d h = omega (arith, total-set f cs i c d (omega arith))
+  total-set f cs i c d h = omega (arith, ap (total f) (set_split cs i c h), ap (total f) (split_at cs i d h), total-append f (take i cs) (c ∷ drop (suc i) cs), total-append f (take i cs) (get_or cs i d ∷ drop (suc i) cs))
 
   pub height-set : (cs : List (Seen X)) (i : ℕ) (c : Seen X) → node_height (set cs i c) ≤ max (node_height cs) c.levels
   height-set [] i c = omega arith
@@ -40,13 +44,12 @@ module _ {X : Type 0} where
   height-read (e ∷ cs) zero d h = omega arith
   height-read (e ∷ cs) (suc i) d h = omega (arith, height-read cs i d (omega arith))
 
-  found_height_by : (n : List Bool) (m : Seen X) (c : List Bool × Seen X) (cs : List (List Bool × Seen X)) → (find bits_cmp n cs ≡ Some m → m.levels ≤ node_height (things cs)) → (b : Bool) → cond b (Some c.1) (find bits_cmp n cs) ≡ Some m → m.levels ≤ max c.1.levels (node_height (things cs))
-  found_height_by n m c cs r true e = let p : c.1 ≡ m = cc in omega (arith, ap (λ x. x.levels) p)
-  found_height_by n m c cs r false e = omega (arith, r e)
-
   found_height : (n : List Bool) (m : Seen X) (cs : List (List Bool × Seen X)) → find bits_cmp n cs ≡ Some m → m.levels ≤ node_height (things cs)
   found_height n m [] e = cc
-  found_height n m (c ∷ cs) e = found_height_by n m c cs (found_height n m cs) (same n c.0) e
+  found_height n m (c ∷ cs) e = elim (cases_Bool (same n c.0)) [
+    | inl t ↦ let p : Some c.1 ≡ Some m = ap (λ b. cond b (Some c.1) (find bits_cmp n cs)) (sym t) ∙ e in omega (arith, ap (λ x. x.levels) (same_Some c.1 m p))
+    | inr t ↦ omega (arith, found_height n m cs (ap (λ b. cond b (Some c.1) (find bits_cmp n cs)) (sym t) ∙ e))
+  ]
 
   -- ---- a node
 
@@ -100,21 +103,6 @@ module _ {X : Type 0} where
   pub below_at : {vb : ℕ} {vs : List X} {cb : ℕ} {cs : List (Seen X)} {m : Seen X} (q : List Bool) → IsSeen vb vs cb cs m → 5 ≤ length q → child_get (find nat_cmp (child_of q) (at_places 32 0 cb cs)) (drop 5 q) ≡ get m.entries q
   below_at {cb = cb} {cs = cs} q s h = ap (λ o. child_get o (drop 5 q)) (sym (child_found q cb cs h s.slots.children_below)) ∙ sym (get-long s.node q h) ∙ ap (λ m. get m q) s.map
 
-  -- a string with the first five bits of q
-  fronted : {vb : ℕ} {vs : List X} {cb : ℕ} {cs : List (Seen X)} {m : Seen X} (q r : List Bool) → IsSeen vb vs cb cs m → 5 ≤ length q → get m.entries (take 5 q ++ r) ≡ child_get (find bits_cmp (take 5 q) (child_list cb cs)) r
-  fronted {cb = cb} {cs = cs} q r s h =
-      let f = (front q h).0 in
-      sym (ap (λ m. get m (take 5 q ++ r)) s.map)
-      ∙ get-long s.node (take 5 q ++ r) (omega (arith, length-append (take 5 q) r, f))
-      ∙ (λ i. child_get (find bits_cmp (take_at (take 5 q) r 5 f i) (child_list cb cs)) (drop_at (take 5 q) r 5 f i))
-
-  fronted_spare : {vb : ℕ} {vs : List X} {cb : ℕ} {cs : List (Seen X)} {m : Seen X} (q r : List Bool) → IsSeen vb vs cb cs m → 5 ≤ length q → get m.spares (take 5 q ++ r) ≡ marked_get (find bits_cmp (take 5 q) (child_list cb cs)) r
-  fronted_spare {cb = cb} {cs = cs} q r s h =
-      let f = (front q h).0 in
-      sym (ap (λ b. get b (take 5 q ++ r)) s.spare)
-      ∙ set-long s.node (take 5 q ++ r) (omega (arith, length-append (take 5 q) r, f))
-      ∙ (λ i. marked_get (find bits_cmp (take_at (take 5 q) r 5 f i) (child_list cb cs)) (drop_at (take 5 q) r 5 f i))
-
   -- the spare nodes at strings of five bits and more are those of the child on the way
   pub spare_at : {vb : ℕ} {vs : List X} {cb : ℕ} {cs : List (Seen X)} {m : Seen X} (q : List Bool) → IsSeen vb vs cb cs m → 5 ≤ length q → marked_get (find nat_cmp (child_of q) (at_places 32 0 cb cs)) (drop 5 q) ≡ get m.spares q
   spare_at {cb = cb} {cs = cs} q s h = ap (λ o. marked_get o (drop 5 q)) (sym (child_found q cb cs h s.slots.children_below)) ∙ sym (set-long s.node q h) ∙ ap (λ b. get b q) s.spare
@@ -125,9 +113,9 @@ module _ {X : Type 0} where
       let g : find bits_cmp (take 5 q) (child_list cb cs) ≡ Some c = child_found q cb cs h s.slots.children_below ∙ e in
       let t = child_things cb cs s.slots.children_below s.slots.children_counted in
       record {
-        gets = λ r. fronted q r s h ∙ ap (λ o. child_get o r) g;
+        gets = λ r. sym (ap (λ m. get m (take 5 q ++ r)) s.map) ∙ get-below s.node (take 5 q) r (front q h).0 ∙ ap (λ o. child_get o r) g;
         smaller = omega (arith, found_height (take 5 q) c (child_list cb cs) g, ap node_height t, s.height);
-        spares = λ b r. fronted_spare q (b ∷ r) s h ∙ ap (λ o. marked_get o (b ∷ r)) g ∙ marked-other c b r;
+        spares = λ b r. sym (ap (λ m. get m (take 5 q ++ b ∷ r)) s.spare) ∙ set-below s.node (take 5 q) (b ∷ r) (front q h).0 ∙ ap (λ o. marked_get o (b ∷ r)) g ∙ marked-other c b r;
         visits = λ r. (λ i. node_visits (sym s.map i) (sym s.spare i) (take 5 q ++ r)) ∙ visits_some (take 5 q) r s.node f g;
       }
 
@@ -135,8 +123,8 @@ module _ {X : Type 0} where
   has_no_child {vb} {vs} {cb} {cs} {m} q s h e =
       let g : find bits_cmp (take 5 q) (child_list cb cs) ≡ None = child_found q cb cs h s.slots.children_below ∙ e in
       record {
-        gets = λ r. fronted q r s h ∙ ap (λ o. child_get o r) g ∙ get_none r;
-        spares = λ r. fronted_spare q r s h ∙ ap (λ o. marked_get o r) g;
+        gets = λ r. sym (ap (λ m. get m (take 5 q ++ r)) s.map) ∙ get-below s.node (take 5 q) r (front q h).0 ∙ ap (λ o. child_get o r) g ∙ get_none r;
+        spares = λ r. sym (ap (λ m. get m (take 5 q ++ r)) s.spare) ∙ set-below s.node (take 5 q) r (front q h).0 ∙ ap (λ o. marked_get o r) g;
         visits = (λ i. node_visits (sym s.map i) (sym s.spare i) q) ∙ visits_none q s.node g;
       }
 

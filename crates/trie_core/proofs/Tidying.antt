@@ -1,5 +1,5 @@
 -- Spare nodes taken out of a node, child by child from the lowest number on.
-use Rattle.std.proofs.Common.{◌≡◌, ℕ, zero, suc, ◌+◌, ◌-◌, ◌/◌, ◌%◌, ◌^◌, ◌<◌, ◌≤◌, Bool, List, [], ◌∷◌, length, take, get_or, set, remove, refl, sym, ap, subst, ◌∙◌, arith}
+use Rattle.std.proofs.Common.{◌≡◌, ℕ, zero, suc, ◌+◌, ◌-◌, ◌/◌, ◌%◌, ◌^◌, ◌<◌, ◌≤◌, Bool, List, [], ◌∷◌, length, take, get_or, set, remove, refl, sym, ap, subst, ◌∙◌, arith, drop}
 use Rattle.std.specs.Prelude.{Option, Some, None, count_ones}
 use Rattle.std.specs.FinMap.{get, find, empty, same_map}
 use Rattle.ipnet_addr.proofs.Basics.{no_ones}
@@ -15,9 +15,10 @@ use Rattle.trie_core.proofs.Edits.{half_less, low_less, higher_bit, bit_within}
 use Rattle.trie_core.proofs.Maps.{ListChanges, child_get, get-short, get-long, child_changes}
 use Rattle.trie_core.proofs.Named.{is_node, child_put_in, child_taken_out}
 use Rattle.trie_core.proofs.Taken.{IsTaken, taken}
-use Rattle.trie_core.proofs.Seen.{IsSeen, seen, map_of, viewed, counted, none_spare, total-set, height-set, height-read}
+use Rattle.trie_core.proofs.Seen.{IsSeen, seen, map_of, viewed, counted, none_spare, total-set, height-set, height-read, total-append}
 use Rattle.trie_core.proofs.Changes.{way, was_found, set_slots, set_removed, total-remove, height-remove}
 use Rattle.trie_core.proofs.Entries.{total-all}
+use Rattle.std.proofs.lemmas.List.{take_more_set, take_at, length-take-le}
 
 -- ---- the bits below a place
 
@@ -42,15 +43,7 @@ module _ {X : Type 0} where
   -- ---- sums over the first children
 
   total_set : (f : Seen X → ℕ) (cs : List (Seen X)) (i : ℕ) (d : Seen X) → i < length cs → total f (take (i + 1) (set cs i d)) ≡ total f (take i cs) + f d
-  total_set f [] i d h = absurd (omega arith)
-  total_set f (c ∷ cs) zero d h = omega arith
-  total_set f (c ∷ cs) (suc i) d h = let e : suc i + 1 ≡ suc (i + 1) = omega arith in rw e (omega (arith, total_set f cs i d (omega arith)))
-
-  total_removed : (f : Seen X → ℕ) (cs : List (Seen X)) (i : ℕ) → total f (take i (remove cs i)) ≡ total f (take i cs)
-  total_removed f [] zero = refl
-  total_removed f [] (suc i) = refl
-  total_removed f (c ∷ cs) zero = refl
-  total_removed f (c ∷ cs) (suc i) = omega (arith, total_removed f cs i)
+  total_set f cs i d h = omega (arith, ap (total f) (take_more_set cs i d h), total-append f (take i cs) (d ∷ []))
 
   -- ---- a child with the same map, or none for an empty one
 
@@ -130,7 +123,7 @@ module _ {X : Type 0} where
         record {
           slots = record { values_counted = t.slots.values_counted; values_below = t.slots.values_below; children_counted = there.ones; children_below = below };
           map = child_same (child_string k) None now.node (is_node vb vs b (remove cs at) t.slots.values_below below) five (child_taken_out (child_string k) cb b cs (remove cs at) five t.slots.children_below there.removed) (sym z ∙ f ∙ was_map) ∙ t.map;
-          tidy = omega (arith, ap (λ n. total spare_of (take n (remove cs at))) o, total_removed spare_of cs at, ap (λ n. total spare_of (take n cs)) u.1, t.tidy);
+          tidy = omega (arith, ap (λ n. total spare_of (take n (remove cs at))) o, ap (total spare_of) (take_at (take at cs) (drop (suc at) cs) at (length-take-le at cs (omega (arith, there.within)))), ap (λ n. total spare_of (take n cs)) u.1, t.tidy);
           count = omega (arith, total-remove all_nodes cs at e there.within, ap all_nodes r, t.count, a);
           height = omega (arith, height-remove cs at, t.height);
         }

@@ -16,8 +16,8 @@ use Rattle.trie_core.proofs.Strings.{same, same-Decides, not_same, same_false}
 use Rattle.trie_core.proofs.Maps.{tail_rises, find-under, find-apart}
 use Rattle.trie_core.proofs.Order.{StartsAfter, found_long, found_get, each_node}
 use Rattle.trie_core.proofs.Count.{has, has-append, has-begun, some_cond, some_entry, nothing, fives_child, fives_short, begun_by_key, after_child, begun_value, begun_none, begun_child}
-use Rattle.trie_core.proofs.Marks.{root_if, marked_get, marked-other, marked-root, set-long}
-use Rattle.std.proofs.lemmas.List.{append-nil, drop_at, take_at, take-take}
+use Rattle.trie_core.proofs.Marks.{root_if, marked_get, marked-other, marked-root, set-long, set-below}
+use Rattle.std.proofs.lemmas.List.{append-nil, take_at, take-take}
 use Rattle.std.proofs.lemmas.Bool.{false_from_ne_true}
 
 below_none : {Y : Type 0} (b : List Bool) (es : List (List Bool × Y)) → T (below_all bits_cmp b es) → has b es ≡ false
@@ -123,12 +123,6 @@ module _ {X : Type 0} where
       ap is_some (get-entries (begun (node_map vs cs)) (b ++ x)) ∙ begun_by vs cs b w x n a f
       ∙ (λ i. (some_entry (entries w.entries) && same (b ++ x) b) || is_some (sym (get-entries (begun w.entries) x) i))
 
-  spare_below : {vs : List (List Bool × X)} {cs : List (List Bool × Seen X)} {w : Seen X} (b x : List Bool) → IsNode vs cs → length b ≡ 5 → find bits_cmp b cs ≡ Some w → get (spare_set cs) (b ++ x) ≡ get (marked w) x
-  spare_below {vs} {cs} {w} b x n a f =
-      set-long n (b ++ x) (omega (arith, length-append b x, a))
-      ∙ (λ i. marked_get (find bits_cmp (take_at b x 5 a i) cs) (drop_at b x 5 a i))
-      ∙ ap (λ o. marked_get o x) f
-
   -- below the child, where one stands below it
   stands_below : {vs : List (List Bool × X)} {cs : List (List Bool × Seen X)} {w : Seen X} (b x : List Bool) → IsNode vs cs → length b ≡ 5 → find bits_cmp b cs ≡ Some w → 5 ≤ length x → stands (node_map vs cs) (spare_set cs) (b ++ x) ≡ stands w.entries w.spares x
   stands_below b [] n a f l = absurd (omega arith)
@@ -136,7 +130,7 @@ module _ {X : Type 0} where
       let x = y ∷ ys in
       let o : same (b ++ x) b ≡ false = same_false (b ++ x) b (λ e. omega (arith, ap length e, length-append b x, l)) in
       let e = ap (λ t. (some_entry (entries w.entries) && t) || is_some (get (begun w.entries) x)) o ∙ ap (λ t. t || is_some (get (begun w.entries) x)) (and-false (some_entry (entries w.entries))) in
-      λ i. (begun_below b x n a f ∙ e) i || is_some ((spare_below b x n a f ∙ marked-other w y ys) i)
+      λ i. (begun_below b x n a f ∙ e) i || is_some ((set-below n b x a ∙ ap (λ o. marked_get o x) f ∙ marked-other w y ys) i)
 
   some_or_none : (es : List (List Bool × X)) (n : ℕ) (z : Bool) → n ≡ length es → (((some_entry es && true) || z) || is_some (root_if n)) ≡ true
   some_or_none [] zero true e = refl
@@ -149,7 +143,7 @@ module _ {X : Type 0} where
   stands_child {vs} {cs} {w} b n a f =
       let z = is_some (get (begun w.entries) []) in
       ap (stands (node_map vs cs) (spare_set cs)) (sym (append-nil b))
-      ∙ (λ i. begun_below b [] n a f i || is_some ((spare_below b [] n a f ∙ marked-root w) i))
+      ∙ (λ i. begun_below b [] n a f i || is_some ((set-below n b [] a ∙ ap (λ o. marked_get o []) f ∙ marked-root w) i))
       ∙ ap (λ t. ((some_entry (entries w.entries) && t) || z) || is_some (root_if (len w.entries))) ((same-Decides (b ++ []) b).1 (append-nil b))
       ∙ some_or_none (entries w.entries) (len w.entries) z (len-entries w.entries)
 
