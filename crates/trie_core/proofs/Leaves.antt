@@ -119,7 +119,7 @@ module _ {X : Type 0} where
   no_value_word {vb} {vm} {vs} {m = m} q s h e f = no_bit (bit_and vb vm) (omega (arith, and_le_l vb vm, s.slots.values_below)) (λ i l b.
       let t = both_set vb vm i b in
       let r = between (place_of q + 1) (place_of q + 31 / 2 ^ length q) i (ap (λ n. bit_at n i) (sym e) ∙ t.1) in
-      let p = place_strings i (below_31 vb i s.slots.values_below t.0 (nat_lt i 31) refl) in
+      let p = place_strings i (below_31 vb i s.slots.values_below t.0) in
       let x = place_string i in
       let w : begins q x ≡ true = inside_short q x h p.short ∙ in_range (place_of q) (place_of q + 31 / 2 ^ length q) (place_of x) (omega (arith, p.place, r.0)) (omega (arith, p.place, r.1)) in
       let g = goes_on q x w (λ z. omega (arith, ap place_of z, p.place, r.0)) in
