@@ -82,6 +82,9 @@ module _ {X : Type 0} where
   pub value_slots : {vb wb : ℕ} {vs ws : List X} {cb : ℕ} {cs : List (Seen X)} {m : Seen X} → IsSeen vb vs cb cs m → count_ones wb ≡ length ws → wb < 2 ^ 31 → HasSlots wb ws cb cs
   value_slots s e h = record { values_counted = e; values_below = h; children_counted = s.slots.children_counted; children_below = s.slots.children_below }
 
+  pub child_slots : {vb cb db : ℕ} {vs : List X} {cs ds : List (Seen X)} → HasSlots vb vs cb cs → count_ones db ≡ length ds → db < 2 ^ 32 → HasSlots vb vs db ds
+  child_slots s e h = record { values_counted = s.values_counted; values_below = s.values_below; children_counted = e; children_below = h }
+
   pub value_put_map : {vb wb n : ℕ} {vs ws : List X} {cb : ℕ} {cs : List (Seen X)} {m : Seen X} (q : List Bool) (v : X) → IsSeen vb vs cb cs m → HasSlots wb ws cb cs → length q < 5 → n ≡ place_of q → at_places 32 0 wb ws ≡ put nat_cmp n v (at_places 32 0 vb vs) → map_of wb ws cb cs ≡ map.insert m.entries q v
   value_put_map {vb} {wb} {n} {vs} {ws} {cb} {cs} q v s t h k e =
       value_put q v s.node (is_node wb ws cb cs t.values_below t.children_below) h (value_put_in q v vb wb vs ws h s.slots.values_below (e ∙ ap (λ i. put nat_cmp i v (at_places 32 0 vb vs)) k)) ∙ ap (λ x. map.insert x q v) s.map

@@ -28,11 +28,20 @@ module _ {X : Type 0} where
 
   -- ---- a sum, as far as it is taken
 
-  pub total-more : (f : Seen X → ℕ) (cs : List (Seen X)) (i : ℕ) (d : Seen X) → i < length cs → total f (take (i + 1) cs) ≡ total f (take i cs) + f (get_or cs i d)
+  total-more : (f : Seen X → ℕ) (cs : List (Seen X)) (i : ℕ) (d : Seen X) → i < length cs → total f (take (i + 1) cs) ≡ total f (take i cs) + f (get_or cs i d)
   total-more f cs i d h = omega (arith, ap (total f) (take_more cs i d h), total-append f (take i cs) (get_or cs i d ∷ []))
 
-  pub total-part : (f : Seen X → ℕ) (cs : List (Seen X)) (i : ℕ) → total f (take i cs) ≤ total f cs
+  total-part : (f : Seen X → ℕ) (cs : List (Seen X)) (i : ℕ) → total f (take i cs) ≤ total f cs
   total-part f cs i = omega (arith, ap (total f) (take-append-drop i cs), total-append f (take i cs) (drop i cs))
+
+  -- one child more of a list ls that is cs
+  pub total_step : (f : Seen X → ℕ) {cs ls : List (Seen X)} {i : ℕ} {d : Seen X} → ls ≡ cs → i < length ls → d ≡ get_or ls i d → (i < length cs) × (d ≡ get_or cs i d) × (total f (take (i + 1) ls) ≡ total f (take i ls) + f d) × (total f (take (i + 1) ls) ≤ total f cs)
+  total_step f {cs} {ls} {i} {d} e h r = (
+    omega (arith, ap length e, h),
+    r ∙ ap (λ l. get_or l i d) e,
+    omega (arith, total-more f ls i d h, ap f r),
+    omega (arith, total-part f ls (i + 1), ap (total f) e),
+  )
 
   pub total-all : (f : Seen X → ℕ) (cs : List (Seen X)) (i : ℕ) → length cs ≤ i → total f (take i cs) ≡ total f cs
   total-all f cs i h = ap (total f) (take_all i cs h)

@@ -84,15 +84,17 @@ module _ {X : Type 0} where
   last_keys {gs} {fs} {f} {way} w l = (keys_split 128 (under way f.0) (walk_rest (along (take (length way - 5) way) fs)) (subst (KeysWithin 128) l.top.rest w.keys)).0
 
   -- the last frame gave an entry
-  pub entry_left : {ds fs gs : List (Left X)} {f g : Left X} {way : List Bool} (e : List Bool × X) → IsWalk ds way → IsLast ds fs f way → IsLast gs fs g way → under way f.0 ≡ e ∷ under way g.0 → IsWalk gs way × (walk_rest (along way ds) ≡ e ∷ walk_rest (along way gs))
-  entry_left e w p q s =
+  pub entry_left : {ds gs : List (Left X)} {way : List Bool} (fs : List (Left X)) (f g : Left X) (e : List Bool × X) → IsWalk ds way → ds ≡ fs ++ f ∷ [] → 0 < g.1 → g.1 ≤ f.1 → gs ≡ fs ++ g ∷ [] → under way f.0 ≡ e ∷ under way g.0 → IsWalk gs way × (walk_rest (along way ds) ≡ e ∷ walk_rest (along way gs))
+  entry_left {way = way} fs f g e w a l m b s =
+      let p = last_frame w a in
+      let q = put_frame way p.top.below p.below l (omega (arith, p.room, m)) (omega (arith, p.reach, m)) b in
       let r = entry_step e p.top s q.top in (
         record { fit = q.top.whole; reach = q.all; keys = (subst (KeysWithin 128) r w.keys).1 },
         r,
       )
 
   -- the frame of a node below is on top
-  pub put_below : (gs : List (Left X)) {hs : List (Left X)} (h : Left X) (way below : List Bool) → FitFrom 0 (along way gs) → Reach (length way) gs → 0 < h.1 → length gs + h.1 ≤ 26 → length below + 5 * h.1 ≤ 130 → take (length below - 5) below ≡ way → length below ≡ length way + 5 → hs ≡ gs ++ h ∷ []
+  put_below : (gs : List (Left X)) {hs : List (Left X)} (h : Left X) (way below : List Bool) → FitFrom 0 (along way gs) → Reach (length way) gs → 0 < h.1 → length gs + h.1 ≤ 26 → length below + 5 * h.1 ≤ 130 → take (length below - 5) below ≡ way → length below ≡ length way + 5 → hs ≡ gs ++ h ∷ []
       → IsTop (along below hs) (along way gs) (on_way below h) × Reach (length below) hs
   put_below gs {hs} h way below a r p l m t n e =
       let d : length way ≡ length below - 5 = omega (arith, n) in (
@@ -100,12 +102,17 @@ module _ {X : Type 0} where
         subst (Reach (length below)) (sym e) (reach_close (length below) gs h (subst (λ k. Reach k gs) d r) m),
       )
 
-  pub below_left : {ds fs gs hs : List (Left X)} {f g : Left X} (h : Left X) {way below : List Bool} → IsWalk ds way → IsLast ds fs f way → IsLast gs fs g way → IsTop (along below hs) (along way gs) (on_way below h) × Reach (length below) hs → under way f.0 ≡ under below h.0 ++ under way g.0
-      → IsWalk hs below × (walk_rest (along way ds) ≡ walk_rest (along below hs))
-  below_left h w p q t s =
-      let r = below_step p.top s q.top t.0 in (
-        record { fit = t.0.whole; reach = t.1; keys = subst (KeysWithin 128) r w.keys },
+  -- the last frame, which is f and becomes g, is followed by that of the node below, which is h
+  pub below_left : {ds gs hs : List (Left X)} {way below : List Bool} (fs : List (Left X)) (f g h : Left X) → IsWalk ds way → ds ≡ fs ++ f ∷ [] → 0 < g.1 → g.1 ≤ f.1 → gs ≡ fs ++ g ∷ [] → 0 < h.1 → h.1 < f.1 → take (length below - 5) below ≡ way → length below ≡ length way + 5 → hs ≡ gs ++ h ∷ []
+      → under way f.0 ≡ under below h.0 ++ under way g.0 → h.2 + g.2 + 1 < f.2 → IsWalk hs below × (walk_rest (along way ds) ≡ walk_rest (along below hs)) × (walk_weight (along below hs) < walk_weight (along way ds))
+  below_left {gs = gs} {way = way} {below = below} fs f g h w a l m b lh mh t n c s v =
+      let p = last_frame w a in
+      let q = put_frame way p.top.below p.below l (omega (arith, p.room, m)) (omega (arith, p.reach, m)) b in
+      let u = put_below gs h way below q.top.whole q.all lh (omega (arith, one_more fs g b, p.room, mh)) (omega (arith, p.reach, mh, n)) t n c in
+      let r = below_step p.top s q.top u.0 in (
+        record { fit = u.0.whole; reach = u.1; keys = subst (KeysWithin 128) r w.keys },
         r,
+        omega (arith, p.top.weight, q.top.weight, u.0.weight, v),
       )
 
   -- the last frame held nothing
