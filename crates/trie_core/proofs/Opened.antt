@@ -142,7 +142,7 @@ module _ {X : Type 0} where
   open_none mask bits xs z = none_found _ (λ j. unset_either mask bits xs j (ap (λ w. bit_at w j) z ∙ bit_at-zero j))
 
   -- the k-th thing stands at the place
-  pub found_at : (mask bits i at : ℕ) (xs : List X) (x : X) → IsFirstPlace (bit_and mask bits) i → count_ones bits ≡ length xs → at ≡ count_ones (bits % 2 ^ i) → x ≡ get_or xs at x → find nat_cmp i (placed bits xs) ≡ Some x
+  found_at : (mask bits i at : ℕ) (xs : List X) (x : X) → IsFirstPlace (bit_and mask bits) i → count_ones bits ≡ length xs → at ≡ count_ones (bits % 2 ^ i) → x ≡ get_or xs at x → find nat_cmp i (placed bits xs) ≡ Some x
   unfolding placed
   found_at mask bits i at xs x f e a r = (taken i at bits xs f.within ((both_set mask bits i f.taken).1, a) e).read x ∙ ap Some (sym r)
 
@@ -212,10 +212,11 @@ module _ {X : Type 0} where
     pub within : length trail + length (place_string place) ≤ 128
     pub rest : under trail (where_key bits_cmp (is_open v c) (entries m.entries)) ≡ (trail ++ place_string place, value) ∷ under trail (where_key bits_cmp (is_open (v - 2 ^ place) c) (entries m.entries))
 
-  pub value_open : {vb : ℕ} {vs : List X} {cb : ℕ} {cs : List (Seen X)} {m : Seen X} {trail : List Bool} (v c place : ℕ) (value : X) (q : Option ℕ) → IsSeen vb vs cb cs m → IsOpened m trail v c
-      → IsFirstPlace (bit_and v vb) place → MatchOption q (bit_and c cb ≡ 0) (IsFirstPlace (bit_and c cb)) → place_first (Some place) q ≡ true → find nat_cmp place (placed vb vs) ≡ Some value → IsValueOpen m trail v c place value
-  value_open {vb} {vs} {cb} {cs} {m} {trail} v c place value q s t f g h e =
-      let n = value_next (opened v c s t) (open_first v vb place vs value f e) (first_told v c (Some place) q s f g ∙ h) in
+  pub value_open : {vb : ℕ} {vs : List X} {cb : ℕ} {cs : List (Seen X)} {m : Seen X} {trail : List Bool} (v c place at : ℕ) (value : X) (p q : Option ℕ) → IsSeen vb vs cb cs m → IsOpened m trail v c
+      → IsFirstPlace (bit_and v vb) place → MatchOption q (bit_and c cb ≡ 0) (IsFirstPlace (bit_and c cb)) → p ≡ Some place → place_first p q ≡ true → at ≡ count_ones (vb % 2 ^ place) → value ≡ get_or vs at value → IsValueOpen m trail v c place value
+  value_open {vb} {vs} {cb} {cs} {m} {trail} v c place at value p q s t f g i h a r =
+      let e = found_at v vb place at vs value f s.slots.values_counted a r in
+      let n = value_next (opened v c s t) (open_first v vb place vs value f e) (first_told v c (Some place) q s f g ∙ ap (λ o. place_first o q) (sym i) ∙ h) in
       record {
         within = n.within;
         rest = sym (left_open trail v c s) ∙ n.rest ∙ ap (λ es. (trail ++ place_string place, value) ∷ es) (left_open trail (v - 2 ^ place) c s);
@@ -227,10 +228,11 @@ module _ {X : Type 0} where
     pub smaller : d.levels < m.levels
     pub rest : under trail (where_key bits_cmp (is_open v c) (entries m.entries)) ≡ under (trail ++ child_string place) (entries d.entries) ++ under trail (where_key bits_cmp (is_open v (c - 2 ^ place)) (entries m.entries))
 
-  pub child_open : {vb : ℕ} {vs : List X} {cb : ℕ} {cs : List (Seen X)} {m : Seen X} {trail : List Bool} (v c place : ℕ) (d : Seen X) (p : Option ℕ) → IsSeen vb vs cb cs m → IsOpened m trail v c
-      → MatchOption p (bit_and v vb ≡ 0) (IsFirstPlace (bit_and v vb)) → IsFirstPlace (bit_and c cb) place → place_first p (Some place) ≡ false → find nat_cmp place (placed cb cs) ≡ Some d → 0 < d.levels → IsChildOpen m trail v c place d
-  child_open {vb} {vs} {cb} {cs} {m} {trail} v c place d p s t f g h e l =
-      let n = child_next (opened v c s t) (open_first c cb place cs d g e) (first_told v c p (Some place) s f g ∙ h) (omega (arith, l)) in
+  pub child_open : {vb : ℕ} {vs : List X} {cb : ℕ} {cs : List (Seen X)} {m : Seen X} {trail : List Bool} (v c place at : ℕ) (d : Seen X) (p q : Option ℕ) → IsSeen vb vs cb cs m → IsOpened m trail v c
+      → MatchOption p (bit_and v vb ≡ 0) (IsFirstPlace (bit_and v vb)) → IsFirstPlace (bit_and c cb) place → q ≡ Some place → place_first p q ≡ false → at ≡ count_ones (cb % 2 ^ place) → d ≡ get_or cs at d → 0 < d.levels → IsChildOpen m trail v c place d
+  child_open {vb} {vs} {cb} {cs} {m} {trail} v c place at d p q s t f g i h a r l =
+      let e = found_at c cb place at cs d g s.slots.children_counted a r in
+      let n = child_next (opened v c s t) (open_first c cb place cs d g e) (first_told v c p (Some place) s f g ∙ ap (place_first p) (sym i) ∙ h) (omega (arith, l)) in
       record {
         within = n.within;
         smaller = omega (arith, n.less.0, (part_open v c s).levels);
