@@ -1,8 +1,7 @@
 -- Bit strings at the top of a word.
-use Rattle.std.proofs.Common.{◌≡◌, ℕ, suc, ◌+◌, ◌-◌, ◌*◌, ◌/◌, ◌%◌, ◌^◌, ◌<◌, ◌≤◌, Bool, cond, ◌==◌, List, [], ◌∷◌, ◌++◌, length, drop, sym, ap, subst, ◌∙◌, arith, inl, inr}
-use Rattle.std.proofs.lemmas.Bool.Decides.{nat_tests}
+use Rattle.std.proofs.Common.{◌≡◌, ℕ, ◌+◌, ◌-◌, ◌*◌, ◌/◌, ◌%◌, ◌^◌, ◌<◌, ◌≤◌, Bool, List, length, drop, sym, ap, subst, ◌∙◌, arith, inl, inr}
 use Rattle.std.proofs.lemmas.Nat.{pow_pos, pow-add, shl-shr, shr-shr, shr_below, shr_split, mod_below}
-use Rattle.std.proofs.Math.Nat.{mod-mod, mul_assoc, mod-eq_of_lt, add-mul, mul-lt-mul_of_pos_right, mul-le-mul_right, pow-le-pow_right}
+use Rattle.std.proofs.Math.Nat.{mod-mod, mul_assoc, mod-eq_of_lt}
 use Rattle.ipnet_addr.proofs.Shifts.{mod_up}
 use Rattle.ipnet_blocks.specs.Blocks.{digits}
 use Rattle.ipnet_blocks.proofs.Strings.{length-digits}
@@ -73,64 +72,3 @@ rest bits len a l e =
 -- the first bits of a word, and zeros
 pub cleared : (bits len : ℕ) → bits < 2 ^ 128 → bits / 2 ^ (128 - len) * 2 ^ (128 - len) % 2 ^ 128 ≡ bits / 2 ^ (128 - len) * 2 ^ (128 - len)
 cleared bits len h = omega (arith, h, shr_split bits (128 - len))
-
--- ---- one bit more
-
--- the word, as a multiple of a smaller power and the bit
-pub record IsExtended (bits len b : ℕ) : Type 0 where
-  pub aligned : IsAligned (bits + b * 2 ^ (128 - (len + 1))) (len + 1)
-  pub quotient : (bits + b * 2 ^ (128 - (len + 1))) / 2 ^ (128 - (len + 1)) ≡ 2 * (bits / 2 ^ (128 - len)) + b
-
-pub extended_by : (bits len b : ℕ) → IsAligned bits len → len < 128 → b < 2 → IsExtended bits len b
-extended_by bits len b a l h =
-    let q = bits / 2 ^ (128 - len) in
-    let k = 128 - (len + 1) in
-    let e : 128 - len ≡ 1 + (128 - (len + 1)) = omega (arith, l) in
-    let p : 2 ^ (128 - len) ≡ 2 * 2 ^ (128 - (len + 1)) = ap (λ i. 2 ^ i) e ∙ pow-add 2 1 (128 - (len + 1)) in
-    let w : bits ≡ q * 2 * 2 ^ k = sym a.masked.clear ∙ ap (λ n. q * n) p ∙ sym (mul_assoc q 2 (2 ^ k)) in
-    let s : bits + b * 2 ^ k ≡ (q * 2 + b) * 2 ^ k = ap (λ n. n + b * 2 ^ k) w ∙ sym (add-mul (q * 2) b (2 ^ k)) in
-    let d : (bits + b * 2 ^ k) / 2 ^ k ≡ q * 2 + b = ap (λ n. n / 2 ^ k) s ∙ shl-shr (q * 2 + b) k in
-    let f : len + 1 + (128 - (len + 1)) ≡ 128 = omega (arith, l) in
-    let g : len + (128 - len) ≡ 128 = omega (arith, l) in
-    let small : q < 2 ^ len = shr_below bits len (128 - len) (subst (λ i. bits < 2 ^ i) (sym g) a.masked.below) in
-    let big : 2 ^ (len + 1) ≡ 2 ^ len * 2 ^ 1 = pow-add 2 len 1 in
-    let fits : (q * 2 + b) * 2 ^ k < 2 ^ (len + 1) * 2 ^ k = mul-lt-mul_of_pos_right (omega (arith, small, big, h)) (pow_pos k) in
-    let whole : 2 ^ (len + 1) * 2 ^ k ≡ 2 ^ 128 = sym (pow-add 2 (len + 1) k) ∙ ap (λ i. 2 ^ i) f in
-    record {
-      aligned = record {
-        short = omega (arith, l);
-        masked = record { below = omega (arith, s, fits, whole); clear = ap (λ n. n * 2 ^ k) d ∙ sym s };
-      };
-      quotient = omega (arith, d);
-    }
-
--- the string of the word with one bit more
-pub record IsLonger (bs : List Bool) (t : Bool) (bits len : ℕ) : Type 0 where
-  pub aligned : IsAligned bits len
-  pub string : digits len (bits / 2 ^ (128 - len)) ≡ bs ++ t ∷ []
-
-pub extended : {bs : List Bool} (bits len b : ℕ) (t : Bool) → IsAligned bits len → len < 128 → b ≡ cond t 1 0 → digits len (bits / 2 ^ (128 - len)) ≡ bs → IsLonger bs t (bits + b * 2 ^ (128 - (len + 1)) % 2 ^ 128) (len + 1)
-extended {bs} bits len b t a l e v =
-    let h = below t b e in
-    let x = extended_by bits len b a l h in
-    let n : len + 1 ≡ suc len = omega arith in
-    let k : 128 - (len + 1) ≤ 127 = omega arith in
-    let big : 2 ^ (128 - (len + 1)) ≤ 2 ^ 127 = pow-le-pow_right {n = 2} (omega arith) k in
-    let two : 2 ^ 128 ≡ 2 * 2 ^ 127 = omega arith in
-    let one : b * 2 ^ (128 - (len + 1)) ≤ 1 * 2 ^ (128 - (len + 1)) = mul-le-mul_right (2 ^ (128 - (len + 1))) (omega (arith, h)) in
-    let s : b * 2 ^ (128 - (len + 1)) % 2 ^ 128 ≡ b * 2 ^ (128 - (len + 1)) = mod-eq_of_lt (omega (arith, one, big, two, pow_pos 127)) in
-    subst (λ w. IsLonger bs t (bits + w) (len + 1)) (sym s) (record {
-      aligned = x.aligned;
-      string = ap (digits (len + 1)) x.quotient ∙ ap (λ i. digits i (2 * (bits / 2 ^ (128 - len)) + b)) n ∙ last_digit len (bits / 2 ^ (128 - len)) b t e ∙ ap (λ xs. xs ++ t ∷ []) v;
-    })
-  where
-    below : (t : Bool) (b : ℕ) → b ≡ cond t 1 0 → b < 2
-    below t b e = grind arith
-
-    odd : (q b : ℕ) (t : Bool) → b ≡ cond t 1 0 → ((2 * q + b) % 2 == 1) ≡ t
-    odd q b t e = grind (arith, nat_tests)
-
-    last_digit : (n q b : ℕ) (t : Bool) → b ≡ cond t 1 0 → digits (suc n) (2 * q + b) ≡ digits n q ++ t ∷ []
-    last_digit n q b t e =
-        let h : (2 * q + b) / 2 ≡ q = omega (arith, below t b e) in
-        λ i. digits n (h i) ++ odd q b t e i ∷ []

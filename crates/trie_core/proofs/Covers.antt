@@ -7,9 +7,8 @@ use Rattle.std.specs.Int.{bit_at}
 use Rattle.std.specs.FinMap.{find, entries, get, get-entries, entries_sorted, empty}
 use Rattle.std.specs.FinMap.Entries.{where_key, find-where_key, is_sorted-where_key, same_entries}
 use Rattle.std.proofs.lemmas.Bool.Decides.{nat_tests}
-use Rattle.std.proofs.lemmas.Nat.{shl-shr, shr-shr, shr_split, pow-add}
-use Rattle.std.proofs.lemmas.Nat.Bits.{bit_at-zero}
-use Rattle.std.proofs.Math.Nat.{mul_assoc}
+use Rattle.std.proofs.lemmas.Nat.{shr_split, pow_pos, mod_below}
+use Rattle.std.proofs.lemmas.Nat.Bits.{bit_at-zero, bit_at_cat_low, bit_at_cat_high}
 use Rattle.std.proofs.Math.ListN.{length-append, length-drop}
 use Rattle.std.proofs.lemmas.Bool.{false_from_ne_true, true_from_ne_false, cases_lt}
 use Rattle.ipnet_addr.proofs.Basics.{T-and}
@@ -36,20 +35,9 @@ use Rattle.std.proofs.lemmas.List.{take-take}
 
 bits_cut : (w p i : ℕ) → (i < p → bit_at (w - w % 2 ^ p) i ≡ 0) × (p ≤ i → bit_at (w - w % 2 ^ p) i ≡ bit_at w i)
 bits_cut w p i =
-    let cut : w - w % 2 ^ p ≡ w / 2 ^ p * 2 ^ p = omega (arith, shr_split w p) in (
-      λ h.
-          let e : p ≡ p - i - 1 + 1 + i = omega (arith, h) in
-          let up : w / 2 ^ p * 2 ^ p ≡ w / 2 ^ p * 2 ^ (p - i - 1) * 2 * 2 ^ i =
-          ap (λ x. w / 2 ^ p * x) (ap (λ j. 2 ^ j) e ∙ pow-add 2 (p - i - 1 + 1) i ∙ ap (λ x. x * 2 ^ i) (pow-add 2 (p - i - 1) 1))
-          ∙ sym (mul_assoc (w / 2 ^ p) (2 ^ (p - i - 1) * 2) (2 ^ i)) ∙ ap (λ x. x * 2 ^ i) (sym (mul_assoc (w / 2 ^ p) (2 ^ (p - i - 1)) 2)) in
-          let half : (w - w % 2 ^ p) / 2 ^ i ≡ w / 2 ^ p * 2 ^ (p - i - 1) * 2 = ap (λ x. x / 2 ^ i) (cut ∙ up) ∙ shl-shr (w / 2 ^ p * 2 ^ (p - i - 1) * 2) i in
-          omega (arith, half),
-      λ h.
-          let e : p + (i - p) ≡ i = omega (arith, h) in
-          ap (λ x. x % 2) (
-          ap (λ j. (w - w % 2 ^ p) / 2 ^ j) (sym e) ∙ sym (shr-shr (w - w % 2 ^ p) p (i - p)) ∙ ap (λ x. x / 2 ^ p / 2 ^ (i - p)) cut ∙ ap (λ x. x / 2 ^ (i - p)) (shl-shr (w / 2 ^ p) p)
-          ∙ shr-shr w p (i - p) ∙ ap (λ j. w / 2 ^ j) e
-          ),
+    let cut : w - w % 2 ^ p ≡ w / 2 ^ p * 2 ^ p + 0 = omega (arith, shr_split w p) in (
+      λ h. ap (λ x. bit_at x i) cut ∙ bit_at_cat_low (w / 2 ^ p) p 0 i h ∙ bit_at-zero i,
+      λ h. ap (λ x. bit_at x i) cut ∙ bit_at_cat_high (w / 2 ^ p) p 0 i (pow_pos p) h ∙ sym (ap (λ x. bit_at x i) (sym (shr_split w p)) ∙ bit_at_cat_high (w / 2 ^ p) p (w % 2 ^ p) i (mod_below w (2 ^ p) (pow_pos p)) h),
     )
 
 not_before : (w p n : ℕ) → bit_at (w - w % 2 ^ p) n ≡ 1 → p ≤ n

@@ -7,15 +7,15 @@ use Rattle.std.specs.Ordering.{nat_cmp, eq_by_cmp}
 use Rattle.std.specs.FinMap.{find, entries, is_sorted}
 use Rattle.std.specs.FinMap.Entries.{where_key, find-where_key, is_sorted-where_key, below_all}
 use Rattle.std.proofs.lemmas.Bool.Decides.{nat_tests}
-use Rattle.std.proofs.Math.Nat.{le-mul_of_pos_right}
-use Rattle.std.proofs.lemmas.Nat.{pow_pos, pow-add}
-use Rattle.std.proofs.lemmas.Nat.Bits.{bit_at_and, bit_at-lt, bit_at-suc, bit_at_ones, bit_at-zero, bit_at_mask_above, bit_at_mask_below, bit_at_mask_inside}
+use Rattle.std.proofs.Math.Nat.{le-mul_of_pos_right, add-mul, one-mul}
+use Rattle.std.proofs.lemmas.Nat.{pow_pos, pow-add, mod_below, shr_split}
+use Rattle.std.proofs.lemmas.Nat.Bits.{bit_at_and, bit_at-lt, bit_at-suc, bit_at_ones, bit_at-zero, bit_at_mask_above, bit_at_mask_below, bit_at_mask_inside, bit_at_cat_low, bit_at_cat_high}
 use Rattle.trie_core.specs.Bits.{is_from}
 use Rattle.ipnet_blocks.specs.BitStrings.{bits_cmp, begins}
 use Rattle.trie_core.specs.InnerPlaces.{place_of, child_of, place_string, child_string, placed, without, AllBelow, named, first_place_of, IsFirstPlace}
 use Rattle.trie_core.specs.InnerWalks.{is_past, first_value, KeysWithin, Left}
 use Rattle.std.proofs.Math.ListN.{length-append}
-use Rattle.std.proofs.lemmas.Bool.{and_right, cases_lt, cases_Bool, eqb-true}
+use Rattle.std.proofs.lemmas.Bool.{cases_lt, cases_Bool, eqb-true, cases_order}
 use Rattle.ipnet_addr.proofs.Basics.{T-parts}
 use Rattle.trie_core.proofs.Strings.{front}
 use Rattle.trie_core.proofs.Numbers.{place_bound, number_bound, number-take, length-child_string}
@@ -23,7 +23,7 @@ use Rattle.trie_core.proofs.PlaceTables.{past_short, past_long, from_short, from
 use Rattle.trie_core.specs.Nodes.{Seen}
 use Rattle.trie_core.specs.InnerNodes.{under}
 use Rattle.trie_core.specs.InnerFrames.{has_bit, is_open, place_first, open_weight, frame_rest, frame_levels, frame_weight}
-use Rattle.trie_core.proofs.Edits.{at_sorted, bit_within, half_less, low_less, without_front}
+use Rattle.trie_core.proofs.Edits.{at_sorted, bit_within, without_front}
 use Rattle.trie_core.proofs.Taken.{taken, missing}
 use Rattle.trie_core.proofs.Seen.{IsSeen}
 use Rattle.trie_core.proofs.Frames.{IsTold, nat_alike, where_twice, are_parts, IsPart, part_left, part_rest, IsFrame, under_none, value_is_first, value_next, child_next, nothing_next, inside_told}
@@ -44,33 +44,30 @@ has_between from end i = grind (arith, nat_tests, bit_at_mask_below from end i, 
 
 -- a bit is taken out
 has_cleared : (i j word : ℕ) → bit_at word i ≡ 1 → has_bit (word - 2 ^ i) j ≡ (has_bit word j && not (eq_by_cmp nat_cmp i j))
-has_cleared i j word h = by (eq_by_cmp nat_cmp i j) refl
-  where
-    same_bit : (i j word : ℕ) → bit_at word i ≡ 1 → i ≡ j → bit_at (word - 2 ^ i) j ≡ 0
-    same_bit zero zero word h e = omega (arith, h)
-    same_bit (suc i) (suc j) word h e =
-        let q = bit_within word (suc i) h in
-        bit_at-suc (word - 2 ^ suc i) j ∙ ap (λ x. bit_at x j) (half_less word i q) ∙ same_bit i j (word / 2) (sym (bit_at-suc word i) ∙ h) (omega (arith, e))
-    same_bit zero (suc j) word h e = absurd (omega (arith, e))
-    same_bit (suc i) zero word h e = absurd (omega (arith, e))
-
-    other_bit : (i j word : ℕ) → bit_at word i ≡ 1 → (i ≡ j → ⊥) → bit_at (word - 2 ^ i) j ≡ bit_at word j
-    other_bit zero zero word h e = absurd (e refl)
-    other_bit zero (suc j) word h e =
-        let o : word % 2 ≡ 1 = omega (arith, h) in
-        let half : (word - 2 ^ 0) / 2 ≡ word / 2 = omega (arith, o) in
-        bit_at-suc (word - 2 ^ 0) j ∙ ap (λ x. bit_at x j) half ∙ sym (bit_at-suc word j)
-    other_bit (suc i) zero word h e =
-        let q = bit_within word (suc i) h in
-        let l = low_less word i q in
-        omega (arith, l)
-    other_bit (suc i) (suc j) word h e =
-        let q = bit_within word (suc i) h in
-        bit_at-suc (word - 2 ^ suc i) j ∙ ap (λ x. bit_at x j) (half_less word i q) ∙ other_bit i j (word / 2) (sym (bit_at-suc word i) ∙ h) (λ f. e (ap suc f)) ∙ sym (bit_at-suc word j)
-
-    by : (b : Bool) → eq_by_cmp nat_cmp i j ≡ b → has_bit (word - 2 ^ i) j ≡ (has_bit word j && not b)
-    by true e = let s : i ≡ j = grind (arith, nat_tests) in ap (λ x. eqb x 1) (same_bit i j word h s) ∙ sym (and_right (has_bit word j) false refl)
-    by false e = let s : i ≡ j → ⊥ = λ f. let z : eq_by_cmp nat_cmp i j ≡ true = grind (arith, nat_tests) in let w = sym e ∙ z in cc in ap (λ x. eqb x 1) (other_bit i j word h s) ∙ sym (and-true (has_bit word j))
+has_cleared i j word h =
+    let q = word / 2 ^ i in
+    let r = word % 2 ^ i in
+    let fit = mod_below word (2 ^ i) (pow_pos i) in
+    let one : q - 1 + 1 ≡ q = omega (arith, h) in
+    let cut : word - 2 ^ i ≡ (q - 1) * 2 ^ i + r = omega (arith, shr_split word i, ap (λ x. x * 2 ^ i) one, add-mul (q - 1) 1 (2 ^ i), one-mul (2 ^ i)) in
+    let whole = λ (k : ℕ). ap (λ x. bit_at x k) (sym (shr_split word i)) in
+    let less = λ (k : ℕ). ap (λ x. bit_at x k) cut in
+    elim (cases_order i j) [
+      | inl e ↦
+          let z : bit_at (word - 2 ^ i) j ≡ 0 = ap (bit_at (word - 2 ^ i)) (sym e) ∙ less i ∙ bit_at_cat_high (q - 1) i r i fit (omega arith) ∙ let n : i - i ≡ 0 = omega arith in ap (bit_at (q - 1)) n ∙ omega (arith, h, one) in
+          let s : eq_by_cmp nat_cmp i j ≡ true = grind (arith, nat_tests) in
+          grind (arith, z, s)
+      | inr (inl l) ↦
+          let n : j - i ≡ suc (j - i - 1) = omega arith in
+          let half : (q - 1) / 2 ≡ q / 2 = omega (arith, h) in
+          let z : bit_at (word - 2 ^ i) j ≡ bit_at word j = less j ∙ bit_at_cat_high (q - 1) i r j fit (omega arith) ∙ ap (bit_at (q - 1)) n ∙ bit_at-suc (q - 1) (j - i - 1) ∙ ap (λ x. bit_at x (j - i - 1)) half ∙ sym (whole j ∙ bit_at_cat_high q i r j fit (omega arith) ∙ ap (bit_at q) n ∙ bit_at-suc q (j - i - 1)) in
+          let s : eq_by_cmp nat_cmp i j ≡ false = grind (arith, nat_tests) in
+          grind (arith, z, s)
+      | inr (inr l) ↦
+          let z : bit_at (word - 2 ^ i) j ≡ bit_at word j = less j ∙ bit_at_cat_low (q - 1) i r j l ∙ sym (whole j ∙ bit_at_cat_low q i r j l) in
+          let s : eq_by_cmp nat_cmp i j ≡ false = grind (arith, nat_tests) in
+          grind (arith, z, s)
+    ]
 
 pub bit_open : (mask bits i : ℕ) → IsFirstPlace (bit_and mask bits) i → 2 ^ i ≤ mask
 bit_open mask bits i f = bit_within mask i (both_set mask bits i f.taken).0

@@ -1,6 +1,7 @@
 use Rattle.std.proofs.Common.{◌≡◌, ◌∙◌, Bool, true, false, cond, refl, arith}
 use mir.Val.{bool_byte}
-use Rattle.trie_core.proofs.Aligned.{path_length, extended}
+use Rattle.trie_core.proofs.Aligned.{path_length}
+use Rattle.trie_core.proofs.Longer.{extended}
 use Rattle.trie_core.proofs.path.Path.extended.Goals as goal
 
 bit_value : (t : Bool) → bool_byte t ≡ cond t 1 0
