@@ -5,9 +5,9 @@ use Rattle.std.specs.Borrow.{Bor}
 use Rattle.std.specs.Int.{bit_at}
 use Rattle.std.specs.Ordering.{nat_cmp, eq_by_cmp}
 use Rattle.std.specs.FinMap.{find, entries, is_sorted}
-use Rattle.std.specs.FinMap.Entries.{where_key, find-where_key, is_sorted-where_key, below_all}
+use Rattle.std.specs.FinMap.Entries.{where_key, find-where_key, is_sorted-where_key}
 use Rattle.std.proofs.lemmas.Bool.Decides.{nat_tests}
-use Rattle.std.proofs.Math.Nat.{le-mul_of_pos_right, add-mul, one-mul}
+use Rattle.std.proofs.Math.Nat.{le-mul_of_pos_right}
 use Rattle.std.proofs.lemmas.Nat.{pow_pos, pow-add, mod_below, shr_split}
 use Rattle.std.proofs.lemmas.Nat.Bits.{bit_at_and, bit_at-lt, bit_at-suc, bit_at_ones, bit_at-zero, bit_at_mask_above, bit_at_mask_below, bit_at_mask_inside, bit_at_cat_low, bit_at_cat_high}
 use Rattle.trie_core.specs.Bits.{is_from}
@@ -23,7 +23,7 @@ use Rattle.trie_core.proofs.PlaceTables.{past_short, past_long, from_short, from
 use Rattle.trie_core.specs.Nodes.{Seen}
 use Rattle.trie_core.specs.InnerNodes.{under}
 use Rattle.trie_core.specs.InnerFrames.{has_bit, is_open, place_first, open_weight, frame_rest, frame_levels, frame_weight}
-use Rattle.trie_core.proofs.Edits.{at_sorted, bit_within, without_front}
+use Rattle.trie_core.proofs.Edits.{at_sorted, bit_within, without_front, find_above, cut_bit}
 use Rattle.trie_core.proofs.Taken.{taken, missing}
 use Rattle.trie_core.proofs.Seen.{IsSeen}
 use Rattle.trie_core.proofs.Frames.{IsTold, nat_alike, where_twice, are_parts, IsPart, part_left, part_rest, IsFrame, under_none, value_is_first, value_next, child_next, nothing_next, inside_told}
@@ -48,13 +48,11 @@ has_cleared i j word h =
     let q = word / 2 ^ i in
     let r = word % 2 ^ i in
     let fit = mod_below word (2 ^ i) (pow_pos i) in
-    let one : q - 1 + 1 ≡ q = omega (arith, h) in
-    let cut : word - 2 ^ i ≡ (q - 1) * 2 ^ i + r = omega (arith, shr_split word i, ap (λ x. x * 2 ^ i) one, add-mul (q - 1) 1 (2 ^ i), one-mul (2 ^ i)) in
     let whole = λ (k : ℕ). ap (λ x. bit_at x k) (sym (shr_split word i)) in
-    let less = λ (k : ℕ). ap (λ x. bit_at x k) cut in
+    let less = λ (k : ℕ). ap (λ x. bit_at x k) (cut_bit i word h) in
     elim (cases_order i j) [
       | inl e ↦
-          let z : bit_at (word - 2 ^ i) j ≡ 0 = ap (bit_at (word - 2 ^ i)) (sym e) ∙ less i ∙ bit_at_cat_high (q - 1) i r i fit (omega arith) ∙ let n : i - i ≡ 0 = omega arith in ap (bit_at (q - 1)) n ∙ omega (arith, h, one) in
+          let z : bit_at (word - 2 ^ i) j ≡ 0 = ap (bit_at (word - 2 ^ i)) (sym e) ∙ less i ∙ bit_at_cat_high (q - 1) i r i fit (omega arith) ∙ let n : i - i ≡ 0 = omega arith in ap (bit_at (q - 1)) n ∙ omega (arith, h) in
           let s : eq_by_cmp nat_cmp i j ≡ true = grind (arith, nat_tests) in
           grind (arith, z, s)
       | inr (inl l) ↦
@@ -75,14 +73,6 @@ bit_open mask bits i f = bit_within mask i (both_set mask bits i f.taken).0
 -- ---- the first thing at an open place
 
 module _ {X : Type 0} where
-  find_above : (i n : ℕ) (es : List (ℕ × X)) → T (below_all nat_cmp n es) → i ≤ n → find nat_cmp i es ≡ None
-  find_above i n [] b h = refl
-  find_above i n (e ∷ es) b h =
-      let p = T-parts _ _ b in
-      let q = p.0 in
-      let r = find_above i n es p.1 h in
-      grind (arith, nat_tests)
-
   -- a list that rises has at its front what is found where nothing is found before
   front_found : (es : List (ℕ × X)) (i : ℕ) (x : X) → T (is_sorted nat_cmp es) → find nat_cmp i es ≡ Some x → ((j : ℕ) → j < i → find nat_cmp j es ≡ None) → es ≡ (i, x) ∷ without i es
   front_found [] i x s f n = cc
