@@ -12,7 +12,7 @@ use Rattle.ipnet_blocks.specs.BitStrings.{bits_cmp}
 use Rattle.trie_core.specs.Nodes.{BitMap, Seen}
 use Rattle.trie_core.specs.InnerNodes.{under, node_map, IsNode}
 use Rattle.trie_core.specs.Count.{fives_from, fives, fives_of, begun, nodes}
-use Rattle.trie_core.specs.InnerCount.{nodes_if, spare_if, spare_count, spares_below, all_nodes, total}
+use Rattle.trie_core.specs.InnerCount.{nodes_if, spare_if, spare_count, spares_below, all_nodes, total, entry_count}
 use Rattle.trie_core.proofs.Strings.{bits_total, bits_same, same, same-Decides, same-refl, front}
 use Rattle.trie_core.proofs.Maps.{tail_rises, or_else, find-append_all, find-under, find-apart, node_map-none, get-short, get_none}
 use Rattle.trie_core.proofs.Order.{StartsAfter, below_under, below_append, less_right, less_left, found_above, below_found, found_long, found_get, sorted_under, walk_value, walk_child, walk_none, without_child, each_node, later_found}
@@ -249,3 +249,17 @@ module _ {X : Type 0} where
       let r = entries (node_map [] cs) in
       let l : 1 ≤ len c.1.entries = spare_pos (len c.1.entries) (omega (arith, z)) in
       absurd (omega (arith, ap length w, length-append b r, length-under c.0 (entries c.1.entries), len-entries c.1.entries, len-entries (node_map [] (c ∷ cs)), ap len e, len-empty bits_cmp X, l))
+
+-- ---- how many entries a node has
+
+pub length-things : {Y : Type 0} (es : List (List Bool × Y)) → length (things es) ≡ length es
+length-things [] = refl
+length-things (e ∷ es) = ap suc (length-things es)
+
+module _ {X : Type 0} where
+  -- its values, and the entries of its children
+  pub entries_of_node : {vs : List (List Bool × X)} {cs : List (List Bool × Seen X)} → IsNode vs cs → len (node_map vs cs) ≡ length vs + total entry_count (things cs)
+  entries_of_node {vs} {cs} n = each_node (λ vs cs. len (node_map vs cs) ≡ length vs + total entry_count (things cs)) (omega (arith, ap length (walk_none {X = X}), len-entries (node_map {X = X} [] [])))
+      (λ e vs cs n h r. omega (arith, ap length (walk_value n h), len-entries (node_map (e ∷ vs) cs), len-entries (node_map vs cs), r))
+      (λ vs c cs n h r. omega (arith, ap length (walk_child n h), length-append (under c.0 (entries c.1.entries)) (entries (node_map vs cs)), length-under c.0 (entries c.1.entries), len-entries (node_map vs (c ∷ cs)), len-entries (node_map vs cs), len-entries c.1.entries, r))
+      vs cs n

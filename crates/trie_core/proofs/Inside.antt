@@ -17,9 +17,8 @@ use Rattle.ipnet_blocks.proofs.BitStrings.{begins_take, begins-under}
 use Rattle.trie_core.proofs.Maps.{ListChanges, child_get, get-short, get-long, child_changes}
 use Rattle.trie_core.proofs.Named.{is_node, child_put_in, child_taken_out}
 use Rattle.trie_core.proofs.Taken.{IsTaken, missing}
-use Rattle.trie_core.proofs.Seen.{IsSeen, map_of, viewed, counted, has_no_child, total-set}
+use Rattle.trie_core.proofs.Seen.{IsSeen, map_of, viewed, counted, has_no_child, total-set, entries_at, entries_of}
 use Rattle.trie_core.proofs.Changes.{was_found, set_slots, total-remove, height-remove}
-use Rattle.trie_core.proofs.Entries.{entries_at, entries_of}
 
 -- ---- beginnings
 

@@ -9,8 +9,7 @@ use Rattle.trie_core.proofs.Strings.{bits_total, bits_same, same, same-refl}
 use Rattle.trie_core.specs.Nodes.{BitSet, Seen}
 use Rattle.trie_core.specs.InnerNodes.{AreLong, IsNode}
 use Rattle.trie_core.specs.InnerCount.{spare_count, spare_if, spare_of, spares_below, marked_if, marked, marks, spare_set, total, entry_count}
-use Rattle.trie_core.proofs.Count.{things}
-use Rattle.trie_core.proofs.Lengths.{entries_of_node}
+use Rattle.trie_core.proofs.Count.{things, entries_of_node}
 use Rattle.trie_core.proofs.Maps.{ListChanges, child_get, get_none, get-short, get-long, remove_absent, child_changes}
 use Rattle.std.proofs.lemmas.List.{take_at, drop_at}
 use Rattle.std.proofs.Math.ListN.{length-append}

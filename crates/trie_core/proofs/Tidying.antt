@@ -15,9 +15,8 @@ use Rattle.trie_core.proofs.Edits.{half_less, low_less, higher_bit, bit_within}
 use Rattle.trie_core.proofs.Maps.{ListChanges, child_get, get-short, get-long, child_changes}
 use Rattle.trie_core.proofs.Named.{is_node, child_put_in, child_taken_out}
 use Rattle.trie_core.proofs.Taken.{IsTaken, taken}
-use Rattle.trie_core.proofs.Seen.{IsSeen, seen, map_of, viewed, counted, none_spare, total-set, height-set, height-read, total-append}
+use Rattle.trie_core.proofs.Seen.{IsSeen, seen, map_of, viewed, counted, none_spare, total-set, height-set, height-read, total-append, total-all}
 use Rattle.trie_core.proofs.Changes.{way, was_found, set_slots, set_removed, total-remove, height-remove}
-use Rattle.trie_core.proofs.Entries.{total-all}
 use Rattle.std.proofs.lemmas.List.{take_more_set, take_at, length-take-le}
 
 -- ---- the bits below a place

@@ -1,7 +1,6 @@
 use Rattle.std.proofs.Common.{◌+◌, ◌≤◌, length, ap, arith, refl}
 use Rattle.trie_core.specs.InnerCount.{all_nodes, total, entry_count}
-use Rattle.trie_core.proofs.Seen.{seen, height-read}
-use Rattle.trie_core.proofs.Entries.{entries_of, total_step, total-all}
+use Rattle.trie_core.proofs.Seen.{seen, height-read, entries_of, total_step, total-all}
 use Rattle.trie_core.proofs.node.Node.+counts.Goals as goal
 
 pub counts-more-requires : goal.counts-more-requires

@@ -2,9 +2,8 @@ use Rattle.std.proofs.Common.{◌+◌, ◌∙◌, cond, sym, ap, arith, rules}
 use Rattle.std.specs.Ordering.{nat_cmp}
 use Rattle.std.specs.FinMap.{find, get, len}
 use Rattle.trie_core.specs.InnerPlaces.{at_places}
-use Rattle.trie_core.proofs.Seen.{seen, value_at}
+use Rattle.trie_core.proofs.Seen.{seen, value_at, removed}
 use Rattle.trie_core.proofs.Changes.{value_slots, value_taken_map, value_count}
-use Rattle.trie_core.proofs.Entries.{removed}
 use Rattle.trie_core.proofs.Maps.{remove_absent}
 use Rattle.trie_core.proofs.Marks.{set-short}
 use Rattle.trie_core.proofs.node.Node.take_value.Goals as goal
