@@ -169,11 +169,21 @@ module _ {X : Type 0} where
   unfolding begun
   begun_none {vs} {cs} {c} n h e = ap (λ es. from_entries (fives_of es)) (walk_child n h ∙ ap (λ es. under c.0 es ++ entries (node_map vs cs)) e)
 
+  -- what begins a key begins one of the first child, or of what follows it
+  pub begun_has : {vs : List (List Bool × X)} {cs : List (List Bool × Seen X)} {c : List Bool × Seen X} → IsNode vs (c ∷ cs) → StartsAfter c.0 vs → (q : List Bool)
+      → has q (entries (begun (node_map vs (c ∷ cs)))) ≡ (((some_entry (entries c.1.entries) && same q c.0) || has q (under c.0 (entries (begun c.1.entries)))) || has q (entries (begun (node_map vs cs))))
+  begun_has {vs} {cs} {c} n h q =
+      has-begun (node_map vs (c ∷ cs)) q
+      ∙ ap (λ es. has q (fives_of es)) (walk_child n h)
+      ∙ ap (has q) (fives_of-append (under c.0 (entries c.1.entries)) (entries (node_map vs cs)))
+      ∙ has-append q (fives_of (under c.0 (entries c.1.entries))) (fives_of (entries (node_map vs cs)))
+      ∙ (λ i. (has_under c.0 q (entries c.1.entries) n.children_long.0 i || sym (has-begun (node_map vs cs) q) i))
+      ∙ ap (λ t. ((some_entry (entries c.1.entries) && same q c.0) || t) || has q (entries (begun (node_map vs cs)))) (has_under_by c.0 q (fives_of (entries c.1.entries)) (entries (begun c.1.entries)) n.children_long.0 (λ x. sym (has-begun c.1.entries x)) (same (take 5 q) c.0) refl)
+
   pub begun_child : {vs : List (List Bool × X)} {cs : List (List Bool × Seen X)} {c : List Bool × Seen X} → IsNode vs (c ∷ cs) → T (below_all bits_cmp c.0 cs) → StartsAfter c.0 vs → some_entry (entries c.1.entries) ≡ true
       → entries (begun (node_map vs (c ∷ cs))) ≡ (c.0, tt) ∷ under c.0 (entries (begun c.1.entries)) ++ entries (begun (node_map vs cs))
   begun_child {vs} {cs} {c} n a h e =
       let b = c.0 in
-      let five : length c.0 ≡ 5 = n.children_long.0 in
       let E = entries (begun c.1.entries) in
       let F = entries (begun (node_map vs cs)) in
       same_entries bits_cmp bits_total bits_same _ _ (entries_sorted (begun (node_map vs (c ∷ cs))))
@@ -183,13 +193,8 @@ module _ {X : Type 0} where
       (subst (λ w. T (below_all bits_cmp w F)) (append-nil b) (after_child n a [])))
       (sorted_under b E F (entries_sorted (begun c.1.entries)) (entries_sorted (begun (node_map vs cs))) (after_child n a)))
       (λ q. same_option _ _ (
-      has-begun (node_map vs (c ∷ cs)) q
-      ∙ ap (λ es. has q (fives_of es)) (walk_child n h)
-      ∙ ap (has q) (fives_of-append (under b (entries c.1.entries)) (entries (node_map vs cs)))
-      ∙ has-append q (fives_of (under b (entries c.1.entries))) (fives_of (entries (node_map vs cs)))
-      ∙ (λ i. (has_under b q (entries c.1.entries) five i || sym (has-begun (node_map vs cs) q) i))
-      ∙ ap (λ t. (t && same q b || has q (under b (fives_of (entries c.1.entries)))) || has q F) e
-      ∙ ap (λ t. (same q b || t) || has q F) (has_under_by b q (fives_of (entries c.1.entries)) E five (λ x. sym (has-begun c.1.entries x)) (same (take 5 q) b) refl)
+      begun_has n h q
+      ∙ ap (λ t. ((t && same q b) || has q (under b E)) || has q F) e
       ∙ or_assoc (same q b) (has q (under b E)) (has q F)
       ∙ ap (λ t. same q b || t) (sym (has-append q (under b E) F))
       ∙ sym (some_cond (same q b) tt (find bits_cmp q (under b E ++ F)))

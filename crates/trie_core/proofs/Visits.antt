@@ -10,12 +10,12 @@ use Rattle.ipnet_addr.proofs.Basics.{T-parts, less_from_T}
 use Rattle.ipnet_blocks.specs.BitStrings.{bits_cmp}
 use Rattle.trie_core.specs.Nodes.{BitMap, BitSet, Seen}
 use Rattle.trie_core.specs.InnerNodes.{under, node_map, IsNode}
-use Rattle.trie_core.specs.Count.{fives_from, fives, fives_of, begun, found_in, visit_count, stands, standing_at, node_visits}
+use Rattle.trie_core.specs.Count.{fives_from, fives, begun, found_in, visit_count, stands, standing_at, node_visits}
 use Rattle.trie_core.specs.InnerCount.{marked, spare_set}
 use Rattle.trie_core.proofs.Strings.{same, same-Decides, not_same, same_false}
 use Rattle.trie_core.proofs.Maps.{tail_rises, find-under, find-apart}
 use Rattle.trie_core.proofs.Order.{StartsAfter, found_long, found_get, each_node}
-use Rattle.trie_core.proofs.Count.{has, has-append, has-begun, some_cond, some_entry, nothing, fives_child, fives_short, begun_by_key, after_child, begun_value, begun_none, begun_child}
+use Rattle.trie_core.proofs.Count.{has, has-begun, some_cond, some_entry, fives_child, fives_short, begun_by_key, after_child, begun_value, begun_has}
 use Rattle.trie_core.proofs.Marks.{root_if, marked_get, marked-other, marked-root, set-long, set-below}
 use Rattle.std.proofs.lemmas.List.{append-nil, take_at, take-take}
 use Rattle.std.proofs.lemmas.Bool.{false_from_ne_true}
@@ -26,44 +26,23 @@ below_none b (e ∷ es) h =
     let p = T-parts _ _ h in
     some_cond (same b e.0) e.1 (find bits_cmp b es) ∙ (λ i. ap is_eq (less_from_T _ p.0) i || below_none b es p.1 i)
 
-or_nothing : (a b c : Bool) → c ≡ false → (a || (b || c)) ≡ (a || b)
-or_nothing a b c e = grind arith
-
-or_neither : (a b c : Bool) → a ≡ false → b ≡ false → (a || (b || c)) ≡ c
-or_neither a b c e f = λ i. e i || (f i || c)
-
 apart : (n m x k : List Bool) → length n ≡ 5 → length m ≡ 5 → same n m ≡ false → n ++ x ≡ m ++ k → ⊥
 apart n m x k a b e p = not_same e (sym (take_at n x 5 a) ∙ ap (take 5) p ∙ take_at m k 5 b)
 
 module _ {X : Type 0} where
-  here : {vs : List (List Bool × X)} {cs : List (List Bool × Seen X)} {c : List Bool × Seen X} → IsNode vs (c ∷ cs) → StartsAfter c.0 vs → (x : List Bool) (s : Bool) → some_entry (entries c.1.entries) ≡ s
-      → has (c.0 ++ x) (entries (begun (node_map vs (c ∷ cs)))) ≡ ((s && same (c.0 ++ x) c.0) || has x (entries (begun c.1.entries)))
-  here {vs} {cs} {c} n h x true e =
-      let b = c.0 in
-      let a = (tail_rises c cs n.children_rise).1 in
-      let E = entries (begun c.1.entries) in
-      let F = entries (begun (node_map vs cs)) in
-      ap (has (b ++ x)) (begun_child n a h e)
-      ∙ some_cond (same (b ++ x) b) tt (find bits_cmp (b ++ x) (under b E ++ F))
-      ∙ ap (λ t. same (b ++ x) b || t) (has-append (b ++ x) (under b E) F ∙ ap (λ t. t || has (b ++ x) F) (ap is_some (find-under b x E)))
-      ∙ or_nothing (same (b ++ x) b) (has x E) (has (b ++ x) F) (below_none (b ++ x) F (after_child n a x))
-  here {vs} {cs} {c} n h x false e =
-      let z = nothing (entries c.1.entries) e in
-      ap (λ m. has (c.0 ++ x) (entries m)) (begun_none n h z)
-      ∙ below_none (c.0 ++ x) (entries (begun (node_map vs cs))) (after_child n (tail_rises c cs n.children_rise).1 x)
-      ∙ sym (has-begun c.1.entries x ∙ ap (λ es. has x (fives_of es)) z)
+  here : {vs : List (List Bool × X)} {cs : List (List Bool × Seen X)} {c : List Bool × Seen X} → IsNode vs (c ∷ cs) → StartsAfter c.0 vs → (x : List Bool)
+      → has (c.0 ++ x) (entries (begun (node_map vs (c ∷ cs)))) ≡ ((some_entry (entries c.1.entries) && same (c.0 ++ x) c.0) || has x (entries (begun c.1.entries)))
+  here {vs} {cs} {c} n h x =
+      begun_has n h (c.0 ++ x)
+      ∙ (λ i. ((some_entry (entries c.1.entries) && same (c.0 ++ x) c.0) || ap is_some (find-under c.0 x (entries (begun c.1.entries))) i) || below_none (c.0 ++ x) (entries (begun (node_map vs cs))) (after_child n (tail_rises c cs n.children_rise).1 x) i)
+      ∙ or-false _
 
-  elsewhere : {vs : List (List Bool × X)} {cs : List (List Bool × Seen X)} {c : List Bool × Seen X} (m : List Bool) → IsNode vs (c ∷ cs) → StartsAfter c.0 vs → length m ≡ 5 → same m c.0 ≡ false → (x : List Bool) → (b : Bool) → some_entry (entries c.1.entries) ≡ b
+  elsewhere : {vs : List (List Bool × X)} {cs : List (List Bool × Seen X)} {c : List Bool × Seen X} (m : List Bool) → IsNode vs (c ∷ cs) → StartsAfter c.0 vs → length m ≡ 5 → same m c.0 ≡ false → (x : List Bool)
       → has (m ++ x) (entries (begun (node_map vs (c ∷ cs)))) ≡ has (m ++ x) (entries (begun (node_map vs cs)))
-  elsewhere {vs} {cs} {c} m n h a e x true s =
-      let b = c.0 in
-      let E = entries (begun c.1.entries) in
-      let F = entries (begun (node_map vs cs)) in
-      ap (has (m ++ x)) (begun_child n (tail_rises c cs n.children_rise).1 h s)
-      ∙ some_cond (same (m ++ x) b) tt (find bits_cmp (m ++ x) (under b E ++ F))
-      ∙ ap (λ t. same (m ++ x) b || t) (has-append (m ++ x) (under b E) F)
-      ∙ or_neither _ _ _ (same_false (m ++ x) b (λ p. apart m b x [] a n.children_long.0 e (p ∙ sym (append-nil b)))) (ap is_some (find-apart b (m ++ x) (λ k p. apart m b x k a n.children_long.0 e p) E))
-  elsewhere {vs} {cs} {c} m n h a e x false s = ap (λ w. has (m ++ x) (entries w)) (begun_none n h (nothing (entries c.1.entries) s))
+  elsewhere {vs} {cs} {c} m n h a e x =
+      let f : same (m ++ x) c.0 ≡ false = same_false (m ++ x) c.0 (λ p. apart m c.0 x [] a n.children_long.0 e (p ∙ sym (append-nil c.0))) in
+      let g : has (m ++ x) (under c.0 (entries (begun c.1.entries))) ≡ false = ap is_some (find-apart c.0 (m ++ x) (λ k p. apart m c.0 x k a n.children_long.0 e p) (entries (begun c.1.entries))) in
+      begun_has n h (m ++ x) ∙ (λ i. ((some_entry (entries c.1.entries) && f i) || g i) || has (m ++ x) (entries (begun (node_map vs cs)))) ∙ ap (λ t. (t || false) || has (m ++ x) (entries (begun (node_map vs cs)))) (and-false (some_entry (entries c.1.entries)))
 
   abbrev Begun : List (List Bool × X) → List (List Bool × Seen X) → List Bool → Seen X → List Bool → Type 0
   Begun vs cs m w x = has (m ++ x) (entries (begun (node_map vs cs))) ≡ ((some_entry (entries w.entries) && same (m ++ x) m) || has x (entries (begun w.entries)))
@@ -74,9 +53,9 @@ module _ {X : Type 0} where
       let u : c.1 ≡ w = cc in
       let z : m ≡ c.0 = (same-Decides m c.0).0 e in
       ap (λ k. has (k ++ x) (entries (begun (node_map vs (c ∷ cs))))) z
-      ∙ here n h x (some_entry (entries c.1.entries)) refl
+      ∙ here n h x
       ∙ (λ i. (some_entry (entries (u i).entries) && same (sym z i ++ x) (sym z i)) || has x (entries (begun (u i).entries)))
-  begun_under {vs} {cs} {c} m w x n h a r false e f = elsewhere m n h a e x (some_entry (entries c.1.entries)) refl ∙ r f
+  begun_under {vs} {cs} {c} m w x n h a r false e f = elsewhere m n h a e x ∙ r f
 
   begun_by : (vs : List (List Bool × X)) (cs : List (List Bool × Seen X)) (m : List Bool) (w : Seen X) (x : List Bool) → IsNode vs cs → length m ≡ 5 → find bits_cmp m cs ≡ Some w → Begun vs cs m w x
   begun_by vs cs m w x n a = each_node (λ vs cs. find bits_cmp m cs ≡ Some w → Begun vs cs m w x) (λ f. cc) (λ e vs cs n h r f. ap (λ k. has (m ++ x) (entries k)) (begun_value n h) ∙ r f)
