@@ -11,15 +11,15 @@ use Rattle.trie_core.specs.InnerPlaces.{place_of, child_of, child_string, at_pla
 use Rattle.trie_core.specs.Nodes.{BitMap, Seen}
 use Rattle.trie_core.specs.InnerNodes.{node_height, child_map, HasSlots}
 use Rattle.trie_core.specs.Count.{nodes}
-use Rattle.trie_core.specs.InnerCount.{spare_count, all_nodes, total, spare_of, spare_if, spare_set}
+use Rattle.trie_core.specs.InnerCount.{spare_count, all_nodes, total, spare_of, spare_if, spare_set, entry_count}
 use Rattle.trie_core.proofs.Strings.{same-Decides}
-use Rattle.trie_core.proofs.Maps.{get_none, value_put, value_taken, child_put, child_taken, insert_changes}
+use Rattle.trie_core.proofs.Maps.{get_none, value_put, value_taken, child_put, child_taken, insert_changes, ListChanges}
 use Rattle.trie_core.proofs.Count.{things, nodes_empty}
 use Rattle.trie_core.proofs.Numbers.{number_bound}
-use Rattle.trie_core.proofs.Taken.{IsTaken, taken, missing}
+use Rattle.trie_core.proofs.Taken.{IsTaken, taken, missing, taken_out}
 use Rattle.trie_core.proofs.Named.{is_node, child_things, child_found, value_put_in, value_taken_out, child_put_in, child_taken_out}
 use Rattle.trie_core.proofs.Marks.{marked_get, set-same}
-use Rattle.trie_core.proofs.Seen.{IsSeen, map_of, viewed, counted, total-set, height-set, height-read, below_at, has_no_child, total-append}
+use Rattle.trie_core.proofs.Seen.{IsSeen, map_of, viewed, counted, total-set, height-set, height-read, below_at, has_no_child, total-append, entries_at, entries_of}
 use Rattle.trie_core.proofs.Searches.{no_child_get}
 use Rattle.std.proofs.lemmas.Bool.Decides.{nat_tests}
 use Rattle.std.proofs.Math.Seq.{split_at}
@@ -174,23 +174,27 @@ module _ {X : Type 0} where
 
   -- ---- the child on the way goes
 
-  pub record IsChildless (q : List Bool) (m : Seen X) (vb : ℕ) (vs : List X) (cb : ℕ) (cs : List (Seen X)) (e : Seen X) : Type 0 where
-    pub slots : HasSlots vb vs cb cs
-    pub map : map_of vb vs cb cs ≡ map.remove m.entries q
-    pub count : all_nodes (viewed vb vs cb cs) + all_nodes e ≡ all_nodes m
-    pub height : node_height cs + 1 ≤ m.levels
+  pub record IsChildless (q : List Bool) (m : Seen X) (vb : ℕ) (vs : List X) (cb : ℕ) (cs : List (Seen X)) (db : ℕ) (ds : List (Seen X)) (e : Seen X) : Type 0 where
+    pub slots : HasSlots vb vs db ds
+    pub changes : ListChanges (child_list cb cs) (take 5 q) None (child_list db ds)
+    pub entries : len (map_of vb vs db ds) + len e.entries ≡ len m.entries
+    pub count : all_nodes (viewed vb vs db ds) + all_nodes e ≡ all_nodes m
+    pub height : node_height ds + 1 ≤ m.levels
 
-  pub pruned : {vb at b : ℕ} {vs : List X} {cb : ℕ} {cs ds : List (Seen X)} {m : Seen X} (q : List Bool) (e d : Seen X) → IsSeen vb vs cb cs m → 5 ≤ length q → IsTaken (child_of q) at cb cs → e ≡ get_or cs at e → d.entries ≡ map.remove e.entries (drop 5 q) → d.entries ≡ empty → b ≡ 2 ^ child_of q → ds ≡ remove (set cs at d) at
-      → IsChildless q m vb vs (cb - b) ds e
-  pruned {vb} {at} {b} {vs} {cb} {cs} {ds} {m} q e d s h t r f z k l =
-      let w : ds ≡ remove cs at = l ∙ set_removed cs at d in
-      let below : cb - 2 ^ child_of q < 2 ^ 32 = omega (arith, s.slots.children_below) in
-      let slots : HasSlots vb vs (cb - 2 ^ child_of q) (remove cs at) = record { values_counted = s.slots.values_counted; values_below = s.slots.values_below; children_counted = t.ones; children_below = below } in
-      let p : IsChildless q m vb vs (cb - 2 ^ child_of q) (remove cs at) e = record {
-        slots = slots;
-        map = child_taken q None s.node (is_node vb vs (cb - 2 ^ child_of q) (remove cs at) s.slots.values_below below) h (child_taken_out q cb (cb - 2 ^ child_of q) cs (remove cs at) h s.slots.children_below t.removed)
-            (sym z ∙ f ∙ ap (λ o. map.remove (child_map o) (drop 5 q)) (sym (was_found q e s h t r))) ∙ ap (λ x. map.remove x q) s.map;
-        count = omega (arith, counted vb vs (cb - 2 ^ child_of q) (remove cs at) slots, total-remove all_nodes cs at e t.within, ap all_nodes r, s.count);
-        height = omega (arith, height-remove cs at, s.height);
-      } in
-      subst (λ (x : ℕ × List (Seen X)). IsChildless q m vb vs (cb - x.0) x.1 e) (λ i. (sym k i, sym w i)) p
+  pub childless : {vb at b : ℕ} {vs : List X} {cb : ℕ} {cs ds : List (Seen X)} {m : Seen X} (q : List Bool) (e : Seen X) → IsSeen vb vs cb cs m → 5 ≤ length q → IsTaken (child_of q) at cb cs → e ≡ get_or cs at e → b ≡ 2 ^ child_of q → ds ≡ remove cs at → IsChildless q m vb vs cb cs (cb - b) ds e
+  childless {vb} {at} {b} {vs} {cb} {cs} {ds} q e s h t r k l =
+      let o = taken_out (child_of q) at cb b cs ds t k l in
+      let c = child_slots s.slots o.1 (omega (arith, s.slots.children_below)) in
+      record {
+        slots = c;
+        changes = child_taken_out q cb (cb - b) cs ds h s.slots.children_below o.0;
+        entries = omega (arith, entries_at vb vs (cb - b) ds c, ap (total entry_count) l, total-remove entry_count cs at e t.within, ap entry_count r, entries_of s);
+        count = omega (arith, counted vb vs (cb - b) ds c, ap (total all_nodes) l, total-remove all_nodes cs at e t.within, ap all_nodes r, s.count);
+        height = omega (arith, ap node_height l, height-remove cs at, s.height);
+      }
+
+  -- once the key is out of it, with which it is empty
+  pub pruned : {vb at db : ℕ} {vs : List X} {cb : ℕ} {cs ds : List (Seen X)} {m : Seen X} (q : List Bool) (e d : Seen X) → IsSeen vb vs cb cs m → 5 ≤ length q → IsTaken (child_of q) at cb cs → e ≡ get_or cs at e → IsChildless q m vb vs cb cs db ds e → d.entries ≡ map.remove e.entries (drop 5 q) → d.entries ≡ empty
+      → map_of vb vs db ds ≡ map.remove m.entries q
+  pruned {vb} {db = db} {vs = vs} {ds = ds} q e d s h t r p f z =
+      child_taken q None s.node (is_node vb vs db ds p.slots.values_below p.slots.children_below) h p.changes (sym z ∙ f ∙ ap (λ o. map.remove (child_map o) (drop 5 q)) (sym (was_found q e s h t r))) ∙ ap (λ x. map.remove x q) s.map

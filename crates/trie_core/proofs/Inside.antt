@@ -1,5 +1,5 @@
 -- A map without the keys inside a prefix, and what a change of a child makes of it.
-use Rattle.std.proofs.Common.{◌≡◌, ℕ, ◌+◌, ◌-◌, ◌^◌, ◌<◌, ◌≤◌, Bool, true, false, cond, not, ◌||◌, List, [], ◌∷◌, ◌++◌, length, take, drop, get_or, set, remove, sym, ap, subst, ◌∙◌, arith}
+use Rattle.std.proofs.Common.{◌≡◌, ℕ, ◌+◌, ◌-◌, ◌<◌, ◌≤◌, Bool, true, false, cond, not, ◌||◌, List, [], ◌∷◌, ◌++◌, length, take, drop, get_or, set, remove, sym, ap, subst, ◌∙◌, arith}
 use Rattle.std.specs.Prelude.{Option, Some, None}
 use Rattle.std.specs.FinMap.{get, len, empty, find, get-empty, get-remove, get-retain_keys, same_map}
 use Rattle.std.specs.FinMap as map
@@ -9,16 +9,16 @@ use Rattle.std.proofs.lemmas.Bool.{false_from_ne_true}
 use Rattle.ipnet_blocks.specs.BitStrings.{bits_cmp, begins}
 use Rattle.trie_core.specs.InnerPlaces.{child_of, IsUnset}
 use Rattle.trie_core.specs.Nodes.{BitMap, Seen}
-use Rattle.trie_core.specs.InnerNodes.{child_map, node_map, node_height, IsNode, HasSlots}
+use Rattle.trie_core.specs.InnerNodes.{child_map, node_map, IsNode}
 use Rattle.trie_core.specs.InnerCount.{all_nodes, entry_count}
 use Rattle.trie_core.specs.Inside.{outside}
 use Rattle.trie_core.proofs.Strings.{bits_total, bits_same, same, not_same, front, same_false}
 use Rattle.ipnet_blocks.proofs.BitStrings.{begins_take, begins-under}
 use Rattle.trie_core.proofs.Maps.{ListChanges, child_get, get-short, get-long, child_changes}
-use Rattle.trie_core.proofs.Named.{is_node, child_put_in, child_taken_out}
+use Rattle.trie_core.proofs.Named.{is_node, child_put_in}
 use Rattle.trie_core.proofs.Taken.{IsTaken, missing}
-use Rattle.trie_core.proofs.Seen.{IsSeen, map_of, viewed, counted, has_no_child, total-set, entries_at, entries_of}
-use Rattle.trie_core.proofs.Changes.{was_found, set_slots, total-remove, height-remove}
+use Rattle.trie_core.proofs.Seen.{IsSeen, map_of, has_no_child, total-set, entries_at, entries_of}
+use Rattle.trie_core.proofs.Changes.{was_found, set_slots, total-remove, IsChildless}
 
 -- ---- beginnings
 
@@ -96,27 +96,9 @@ module _ {X : Type 0} where
       ap (get m.entries) (sym (front x l).1 ∙ ap (λ b. b ++ drop 5 x) (first_five q x h e)) ∙ t.gets (drop 5 x))
 
   -- it goes, with all its entries
-  pub record IsWithout (q : List Bool) (m : Seen X) (vb : ℕ) (vs : List X) (cb : ℕ) (cs : List (Seen X)) (e : Seen X) : Type 0 where
-    pub slots : HasSlots vb vs cb cs
-    pub map : map_of vb vs cb cs ≡ outside m.entries q
-    pub entries : len (map_of vb vs cb cs) + len e.entries ≡ len m.entries
-    pub count : all_nodes (viewed vb vs cb cs) + all_nodes e ≡ all_nodes m
-    pub height : node_height cs + 1 ≤ m.levels
-
-  pub gone : {vb at b : ℕ} {vs : List X} {cb : ℕ} {cs ds : List (Seen X)} {m : Seen X} (q : List Bool) (e : Seen X) → IsSeen vb vs cb cs m → 5 ≤ length q → IsTaken (child_of q) at cb cs → e ≡ get_or cs at e → empty ≡ outside e.entries (drop 5 q) → b ≡ 2 ^ child_of q → ds ≡ remove cs at
-      → IsWithout q m vb vs (cb - b) ds e
-  gone {vb} {at} {b} {vs} {cb} {cs} {ds} {m} q e s h t r z k l =
-      let below : cb - 2 ^ child_of q < 2 ^ 32 = omega (arith, s.slots.children_below) in
-      let slots : HasSlots vb vs (cb - 2 ^ child_of q) (remove cs at) = record { values_counted = s.slots.values_counted; values_below = s.slots.values_below; children_counted = t.ones; children_below = below } in
-      let p : IsWithout q m vb vs (cb - 2 ^ child_of q) (remove cs at) e = record {
-        slots = slots;
-        map = child_outside q None s.node (is_node vb vs (cb - 2 ^ child_of q) (remove cs at) s.slots.values_below below) h (child_taken_out q cb (cb - 2 ^ child_of q) cs (remove cs at) h s.slots.children_below t.removed)
-            (z ∙ ap (λ o. outside (child_map o) (drop 5 q)) (sym (was_found q e s h t r))) ∙ ap (λ x. outside x q) s.map;
-        entries = omega (arith, entries_at vb vs (cb - 2 ^ child_of q) (remove cs at) slots, total-remove entry_count cs at e t.within, ap entry_count r, entries_of s);
-        count = omega (arith, counted vb vs (cb - 2 ^ child_of q) (remove cs at) slots, total-remove all_nodes cs at e t.within, ap all_nodes r, s.count);
-        height = omega (arith, height-remove cs at, s.height);
-      } in
-      subst (λ (x : ℕ × List (Seen X)). IsWithout q m vb vs (cb - x.0) x.1 e) (λ i. (sym k i, sym l i)) p
+  pub gone : {vb at db : ℕ} {vs : List X} {cb : ℕ} {cs ds : List (Seen X)} {m : Seen X} (q : List Bool) (e : Seen X) → IsSeen vb vs cb cs m → 5 ≤ length q → IsTaken (child_of q) at cb cs → e ≡ get_or cs at e → IsChildless q m vb vs cb cs db ds e → empty ≡ outside e.entries (drop 5 q) → map_of vb vs db ds ≡ outside m.entries q
+  gone {vb} {db = db} {vs = vs} {ds = ds} q e s h t r p z =
+      child_outside q None s.node (is_node vb vs db ds p.slots.values_below p.slots.children_below) h p.changes (z ∙ ap (λ o. outside (child_map o) (drop 5 q)) (sym (was_found q e s h t r))) ∙ ap (λ x. outside x q) s.map
 
   -- it stays, with fewer entries
   pub set_outside : {vb at : ℕ} {vs : List X} {cb : ℕ} {cs : List (Seen X)} {m : Seen X} (q : List Bool) (e d : Seen X) → IsSeen vb vs cb cs m → 5 ≤ length q → IsTaken (child_of q) at cb cs → e ≡ get_or cs at e → d.entries ≡ outside e.entries (drop 5 q) → map_of vb vs cb (set cs at d) ≡ outside m.entries q

@@ -15,13 +15,13 @@ use Rattle.trie_core.specs.InnerCount.{spare_count, marked, spare_set}
 use Rattle.trie_core.specs.Inside.{outside}
 use Rattle.trie_core.specs.Ways.{IsIdle, LeadsOff, IsLeft, IsCut}
 use Rattle.trie_core.proofs.Strings.{bits_total, bits_same, same, same-Decides, same-refl, front}
-use Rattle.ipnet_blocks.proofs.BitStrings.{begins_on, begins_take, begins-under}
+use Rattle.ipnet_blocks.proofs.BitStrings.{begins_on, begins_take}
 use Rattle.trie_core.proofs.Maps.{ListChanges, child_get, child_changes, each_string, under_long, found_changed, get-below}
 use Rattle.trie_core.proofs.Marks.{marked_get, marked-other, marked-root, root_if, set-short, set-long, set-changed, set-below}
 use Rattle.trie_core.proofs.Named.{is_node, child_put_in, child_taken_out, child_found, turned}
-use Rattle.trie_core.proofs.Taken.{IsTaken, missing}
+use Rattle.trie_core.proofs.Taken.{IsTaken, missing, taken_out}
 use Rattle.trie_core.proofs.Seen.{IsSeen, map_of}
-use Rattle.trie_core.proofs.Changes.{was_found, set_removed}
+use Rattle.trie_core.proofs.Changes.{was_found, set_removed, childless}
 use Rattle.trie_core.proofs.Inside.{begins_elsewhere, first_five, get-outside, outside_absent, off_way_there, begins_under_first}
 use Rattle.trie_core.proofs.Ways.{no_choice}
 
@@ -219,9 +219,9 @@ module _ {X : Type 0} (lost : List Bool → Bool) where
       -- it goes
       pub left_removed : {b : ℕ} {ds : List (Seen X)} → spare_count d ≡ 0 → b ≡ 2 ^ child_of q → ds ≡ remove_at (set cs at d) at → IsLeft lost q m.spares (map_of vb vs (cb - b) ds) (spare_set (child_list (cb - b) ds))
       left_removed {b} {ds} z k l =
-          let below : cb - 2 ^ child_of q < 2 ^ 32 = omega (arith, s.slots.children_below) in
-          subst (λ (x : BitSet × ℕ × List (Seen X)). IsLeft lost q x.0 (map_of vb vs (cb - x.1) x.2) (spare_set (child_list (cb - x.1) x.2))) (λ i. (s.spare i, sym k i, sym (l ∙ set_removed cs at d) i))
-          (left_node q None s.node (is_node vb vs (cb - 2 ^ child_of q) (remove_at cs at) s.slots.values_below below) h (child_taken_out q cb (cb - 2 ^ child_of q) cs (remove_at cs at) h s.slots.children_below t.removed) elsewhere
+          let p = childless q e s h t r k (l ∙ set_removed cs at d) in
+          subst (λ w. IsLeft lost q w (map_of vb vs (cb - b) ds) (spare_set (child_list (cb - b) ds))) s.spare
+          (left_node q None s.node (is_node vb vs (cb - b) ds p.slots.values_below p.slots.children_below) h p.changes elsewhere
           (subst (λ o. IsLeftBelow (take 5 q) (drop 5 q) o None) (sym (was_found q e s h t r)) (left_goes lower (take 5 q) (drop 5 q) e d alike left (λ x. no_spare_string d x (drop 5 q) z))))
 
 -- ---- all inside q went
@@ -232,12 +232,6 @@ cut_by s q l h b =
     let t = begins_take s q b in
     let e : length s ≡ length q = omega (arith, t.0, l, h) in
     sym t.1 ∙ ap (λ n. take n q) e ∙ take-length q
-
-pub cut_elsewhere : (q : List Bool) → 5 ≤ length q → (x : List Bool) → 5 ≤ length x → same (take 5 x) (take 5 q) ≡ false → begins q x ≡ false
-cut_elsewhere q h x l e = begins_elsewhere q x h e
-
-pub cut_below : (q : List Bool) → 5 ≤ length q → (x : List Bool) → begins q (take 5 q ++ x) ≡ begins (drop 5 q) x
-cut_below q h x = ap (λ w. begins w (take 5 q ++ x)) (sym (front q h).1) ∙ begins-under (take 5 q) (drop 5 q) x
 
 module _ {X : Type 0} where
   -- of at most five bits
@@ -288,8 +282,5 @@ module _ {X : Type 0} where
 
   pub out_child : {vb at b : ℕ} {vs : List X} {cb : ℕ} {cs ds : List (Seen X)} {m : Seen X} (q : List Bool) → IsSeen vb vs cb cs m → length q ≡ 5 → IsTaken (child_of q) at cb cs → b ≡ 2 ^ child_of q → ds ≡ remove_at cs at → spare_set (child_list (cb - b) ds) ≡ outside m.spares q
   out_child {vb} {at} {b} {vs} {cb} {cs} {ds} q s h t k l =
-      let below : cb - 2 ^ child_of q < 2 ^ 32 = omega (arith, s.slots.children_below) in
-      let five : 5 ≤ length q = omega (arith, h) in
-      (λ i. spare_set (child_list (cb - k i) (l i)))
-      ∙ out_at q s.node (is_node vb vs (cb - 2 ^ child_of q) (remove_at cs at) s.slots.values_below below) h (child_taken_out q cb (cb - 2 ^ child_of q) cs (remove_at cs at) five s.slots.children_below t.removed)
-      ∙ ap (λ x. outside x q) s.spare
+      let o = taken_out (child_of q) at cb b cs ds t k l in
+      out_at q s.node (is_node vb vs (cb - b) ds s.slots.values_below (omega (arith, s.slots.children_below))) h (child_taken_out q cb (cb - b) cs ds (omega (arith, h)) s.slots.children_below o.0) ∙ ap (λ x. outside x q) s.spare

@@ -1,5 +1,5 @@
 -- Spare nodes taken out of a node, child by child from the lowest number on.
-use Rattle.std.proofs.Common.{◌≡◌, ℕ, zero, suc, ◌+◌, ◌-◌, ◌/◌, ◌%◌, ◌^◌, ◌<◌, ◌≤◌, Bool, List, [], ◌∷◌, length, take, get_or, set, remove, refl, sym, ap, subst, ◌∙◌, arith, drop}
+use Rattle.std.proofs.Common.{◌≡◌, ℕ, zero, suc, ◌+◌, ◌-◌, ◌/◌, ◌%◌, ◌^◌, ◌<◌, ◌≤◌, Bool, List, [], ◌∷◌, length, take, get_or, set, remove, refl, sym, ap, ◌∙◌, arith, drop}
 use Rattle.std.specs.Prelude.{Option, Some, None, count_ones}
 use Rattle.std.specs.FinMap.{get, find, empty, same_map}
 use Rattle.ipnet_addr.proofs.Basics.{no_ones}
@@ -13,10 +13,10 @@ use Rattle.trie_core.specs.InnerCount.{all_nodes, total, spare_of, spare_set}
 use Rattle.trie_core.proofs.Places.{ones_below_suc}
 use Rattle.trie_core.proofs.Edits.{half_less, low_less, higher_bit, bit_within}
 use Rattle.trie_core.proofs.Maps.{ListChanges, child_get, get-short, get-long, child_changes}
-use Rattle.trie_core.proofs.Named.{is_node, child_put_in, child_taken_out}
+use Rattle.trie_core.proofs.Named.{is_node, child_put_in}
 use Rattle.trie_core.proofs.Taken.{IsTaken, taken}
 use Rattle.trie_core.proofs.Seen.{IsSeen, seen, map_of, viewed, counted, none_spare, total-set, height-set, height-read, total-append, total-all}
-use Rattle.trie_core.proofs.Changes.{way, was_found, set_slots, set_removed, total-remove, height-remove}
+use Rattle.trie_core.proofs.Changes.{way, was_found, set_slots, set_removed, total-remove, childless}
 use Rattle.std.proofs.lemmas.List.{take_more_set, take_at, length-take-le}
 
 -- ---- the bits below a place
@@ -113,25 +113,20 @@ module _ {X : Type 0} where
           height = omega (arith, height-set cs at d, child_lower, h, t.height);
         })
 
-    cleared : (d : Seen X) (more : ℕ) → d.entries ≡ e.entries → d.entries ≡ empty → more ≡ gone + all_nodes e → IsTidyBelow m (suc k) more vb vs (cb - 2 ^ child_of (child_string k)) (remove cs at)
-    cleared d more f z a =
-        let c = child_of-string k l in
-        let b = cb - 2 ^ child_of (child_string k) in
-        let below : cb - 2 ^ child_of (child_string k) < 2 ^ 32 = omega (arith, t.slots.children_below) in
-        let o : count_ones ((cb - 2 ^ child_of (child_string k)) % 2 ^ suc k) ≡ at = ap (λ i. count_ones ((cb - 2 ^ i) % 2 ^ suc k)) c ∙ ones_cleared k cb u.0 ∙ sym u.1 in
-        record {
-          slots = record { values_counted = t.slots.values_counted; values_below = t.slots.values_below; children_counted = there.ones; children_below = below };
-          map = child_same (child_string k) None now.node (is_node vb vs b (remove cs at) t.slots.values_below below) five (child_taken_out (child_string k) cb b cs (remove cs at) five t.slots.children_below there.removed) (sym z ∙ f ∙ was_map) ∙ t.map;
-          tidy = omega (arith, ap (λ n. total spare_of (take n (remove cs at))) o, ap (total spare_of) (take_at (take at cs) (drop (suc at) cs) at (length-take-le at cs (omega (arith, there.within)))), ap (λ n. total spare_of (take n cs)) u.1, t.tidy);
-          count = omega (arith, total-remove all_nodes cs at e there.within, ap all_nodes r, t.count, a);
-          height = omega (arith, height-remove cs at, t.height);
-        }
-
     pub tidy_goes : {b : ℕ} {ds : List (Seen X)} (d : Seen X) (more : ℕ) → d.entries ≡ e.entries → d.entries ≡ empty → more ≡ gone + all_nodes e → b ≡ 2 ^ k → ds ≡ remove (set cs at d) at → IsTidyBelow m (k + 1) more vb vs (cb - b) ds
     tidy_goes {b} {ds} d more f z a p w =
         let n : k + 1 ≡ suc k = omega arith in
-        let i : b ≡ 2 ^ child_of (child_string k) = p ∙ ap (λ j. 2 ^ j) (sym (child_of-string k l)) in
-        rw n (subst (λ (x : ℕ × List (Seen X)). IsTidyBelow m (suc k) more vb vs (cb - x.0) x.1) (λ j. (sym i j, sym (w ∙ set_removed cs at d) j)) (cleared d more f z a))
+        let m = w ∙ set_removed cs at d in
+        let q = childless (child_string k) e now five there r (p ∙ ap (λ j. 2 ^ j) (sym (child_of-string k l))) m in
+        let o : count_ones ((cb - b) % 2 ^ suc k) ≡ at = ap (λ j. count_ones ((cb - j) % 2 ^ suc k)) p ∙ ones_cleared k cb u.0 ∙ sym u.1 in
+        let kept = take_at (take at cs) (drop (suc at) cs) at (length-take-le at cs (omega (arith, there.within))) in
+        rw n (record {
+          slots = q.slots;
+          map = child_same (child_string k) None now.node (is_node vb vs (cb - b) ds q.slots.values_below q.slots.children_below) five q.changes (sym z ∙ f ∙ was_map) ∙ t.map;
+          tidy = omega (arith, ap (λ i. total spare_of (take i ds)) o, ap (λ es. total spare_of (take at es)) m, ap (total spare_of) kept, ap (λ i. total spare_of (take i cs)) u.1, t.tidy);
+          count = omega (arith, ap (total all_nodes) m, total-remove all_nodes cs at e there.within, ap all_nodes r, t.count, a);
+          height = omega (arith, q.height, t.height);
+        })
 
   -- no child has a higher number
   pub record IsTidied (m : Seen X) (gone vb : ℕ) (vs : List X) (cb : ℕ) (cs : List (Seen X)) : Type 0 where

@@ -3,7 +3,7 @@ use Rattle.std.specs.FinMap.{get, remove}
 use Rattle.trie_core.specs.Ways.{IsPruned}
 use Rattle.trie_core.proofs.Maps.{remove_absent}
 use Rattle.trie_core.proofs.Seen.{seen}
-use Rattle.trie_core.proofs.Changes.{way, was, set_slots, set_taken, set_count, set_height, was_lower, not_bare, absent, pruned}
+use Rattle.trie_core.proofs.Changes.{way, was, set_slots, set_taken, set_count, set_height, was_lower, not_bare, absent, pruned, childless, set_removed}
 use Rattle.trie_core.proofs.Left.{left_none, left_set, left_removed}
 use Rattle.trie_core.proofs.Exchanges.{not_short}
 use Rattle.trie_core.proofs.node.Node.+withdraw.Goals as goal
@@ -40,7 +40,7 @@ pub invariant_of-self : goal.invariant_of-self
 invariant_of-self g t c =
     let h = not_short c.args.path c.is_short.ensures c.if-is_short.false in
     let s = seen c.self.invariant c.self.view_is in
-    (pruned c.args.path c.index_mut-child.result.now c.withdraw-gone.new.self s h (way c.args.path s c.five-number.ensures.value c.in-Some.ensures) c.index_mut-child.ensures.value (c.withdraw-gone.ensures.map ∙ ap (remove c.index_mut-child.result.now.entries) c.rest.ensures) (c.if-is_bare.ensures.bare.0 refl).0 (c.bit.ensures ∙ ap (λ i. 2 ^ i) c.five-number.ensures.value) c.remove.ensures.items).slots
+    (childless c.args.path c.index_mut-child.result.now s h (way c.args.path s c.five-number.ensures.value c.in-Some.ensures) c.index_mut-child.ensures.value (c.bit.ensures ∙ ap (λ i. 2 ^ i) c.five-number.ensures.value) (c.remove.ensures.items ∙ set_removed c.self.inside.children.items c.in-Some.at c.withdraw-gone.new.self)).slots
 
 pub returns-then-is_bare : goal.returns-then-is_bare
 returns-then-is_bare g t c =
@@ -52,11 +52,11 @@ returns-then-is_bare g t c =
     let w = way c.args.path s c.five-number.ensures.value c.in-Some.ensures in
     let bare = c.if-is_bare.ensures.bare.0 refl in
     let b = c.bit.ensures ∙ ap (λ i. 2 ^ i) c.five-number.ensures.value in
-    let p = pruned c.args.path e d s h w r (c.withdraw-gone.ensures.map ∙ ap (remove e.entries) c.rest.ensures) bare.0 b c.remove.ensures.items in
+    let p = childless c.args.path e s h w r b (c.remove.ensures.items ∙ set_removed c.self.inside.children.items c.in-Some.at d) in
     let l : length c.rest.result ≡ length c.args.path - 5 = ap length c.rest.ensures ∙ length-drop 5 c.args.path in
     record {
       value = c.withdraw-gone.ensures.value ∙ ap (get e.entries) c.rest.ensures ∙ was c.args.path e s h w r;
-      map = p.map;
+      map = pruned c.args.path e d s h w r p (c.withdraw-gone.ensures.map ∙ ap (remove e.entries) c.rest.ensures) bare.0;
       spares = left_removed (λ x. false) c.args.path s h (λ x l e. refl) (λ x. false) e d w r (λ x. refl) (subst (λ q. IsPruned q e.spares d.entries d.spares) c.rest.ensures c.withdraw-gone.ensures.spares) bare.1 b c.remove.ensures.items;
       count = omega (arith, p.count, c.withdraw-gone.ensures.count, c.if-is_bare.ensures.count refl);
       levels = p.height;
