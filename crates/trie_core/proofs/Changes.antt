@@ -1,5 +1,5 @@
 -- What a change of a node's words and lists makes of it.
-use Rattle.std.proofs.Common.{◌≡◌, ℕ, zero, suc, ◌+◌, ◌-◌, ◌/◌, ◌^◌, ◌<◌, ◌≤◌, Bool, true, false, cond, List, [], ◌∷◌, length, take, drop, get_or, set, refl, sym, ap, subst, ◌∙◌, arith}
+use Rattle.std.proofs.Common.{◌≡◌, ℕ, zero, suc, ◌+◌, ◌-◌, ◌/◌, ◌^◌, ◌<◌, ◌≤◌, Bool, true, false, List, [], ◌∷◌, length, take, drop, get_or, set, refl, sym, ap, subst, ◌∙◌, arith}
 use Rattle.std.specs.Prelude.{max, Some, None, count_ones}
 use Rattle.std.specs.List.{remove}
 use Rattle.std.specs.Ordering.{nat_cmp}
@@ -12,8 +12,7 @@ use Rattle.trie_core.specs.Nodes.{BitMap, Seen}
 use Rattle.trie_core.specs.InnerNodes.{node_height, child_map, HasSlots}
 use Rattle.trie_core.specs.Count.{nodes}
 use Rattle.trie_core.specs.InnerCount.{spare_count, all_nodes, total, spare_of, spare_if, spare_set, entry_count}
-use Rattle.trie_core.proofs.Strings.{same-Decides}
-use Rattle.trie_core.proofs.Maps.{get_none, value_put, value_taken, child_put, child_taken, insert_changes, ListChanges}
+use Rattle.trie_core.proofs.Maps.{get_none, value_put, value_taken, child_put, child_taken, ListChanges, get-written}
 use Rattle.trie_core.proofs.Count.{things, nodes_empty}
 use Rattle.trie_core.proofs.Numbers.{number_bound}
 use Rattle.trie_core.proofs.Taken.{IsTaken, taken, missing, taken_out}
@@ -23,6 +22,7 @@ use Rattle.trie_core.proofs.Seen.{IsSeen, map_of, viewed, counted, total-set, he
 use Rattle.trie_core.proofs.Searches.{no_child_get}
 use Rattle.std.proofs.lemmas.Bool.Decides.{nat_tests}
 use Rattle.std.proofs.Math.Seq.{split_at}
+use Rattle.std.proofs.lemmas.Option.{none-some}
 
 pub set_removed : {Y : Type 0} (xs : List Y) (i : ℕ) (y : Y) → remove (set xs i y) i ≡ remove xs i
 set_removed [] i y = refl
@@ -31,6 +31,10 @@ set_removed (x ∷ xs) (suc i) y = ap (λ ys. x ∷ ys) (set_removed xs i y)
 
 pub depth_rest : (q : List Bool) → 5 ≤ length q → length (drop 5 q) / 5 + 1 ≡ length q / 5
 depth_rest q h = let e = length-drop 5 q in omega arith
+
+spare_if_not : (n : ℕ) → (n ≡ 0 → ⊥) → spare_if n ≡ 0
+spare_if_not zero h = absurd (h refl)
+spare_if_not (suc n) h = refl
 
 module _ {X : Type 0} where
   -- ---- sums and heights
@@ -54,25 +58,17 @@ module _ {X : Type 0} where
 
   -- ---- spare children
 
-  spare_some_by : (m : BitMap X) (q : List Bool) (v : X) → get m q ≡ Some v → (n : ℕ) → len m ≡ n → spare_if n ≡ 0
-  spare_some_by m q v f zero e = let z : None ≡ Some v = sym (ap (λ k. get k q) (empty_of_len m e) ∙ get_none q) ∙ f in cc
-  spare_some_by m q v f (suc n) e = refl
-
   -- a map that got a key is not spare
   pub spare_insert : {d : BitMap X} (m : BitMap X) (q : List Bool) (v : X) → d ≡ map.insert m q v → spare_if (len d) ≡ 0
-  spare_insert {d} m q v e = spare_some_by d q v (ap (λ k. get k q) e ∙ insert_changes m q v q ∙ ap (λ b. cond b (Some v) (get m q)) ((same-Decides q q).1 refl)) (len d) refl
+  spare_insert {d} m q v e = spare_if_not (len d) (λ z. none-some v (sym (ap (λ k. get k q) (empty_of_len d z) ∙ get_none q) ∙ ap (λ k. get k q) e ∙ get-written m q v))
 
   -- a node that is not bare has a key or a spare node
   pub not_bare : (d : Seen X) (b : Bool) → ((d.entries ≡ empty) × (spare_count d ≡ 0) → b ≡ true) → b ≡ false → spare_count d ≡ 0 → len d.entries ≡ 0 → ⊥
   not_bare d b h f s e = let z : true ≡ false = sym (h (empty_of_len d.entries e, s)) ∙ f in cc
 
-  spare_kept_by : (d : Seen X) (n : ℕ) → (len d.entries ≡ 0 → ⊥) → len d.entries ≡ n → spare_if n ≡ 0
-  spare_kept_by d zero h e = absurd (h e)
-  spare_kept_by d (suc n) h e = refl
-
   -- a child that is not bare, where none below it is spare
   pub spare_kept : (d : Seen X) (b : Bool) → spare_count d ≡ 0 → ((d.entries ≡ empty) × (spare_count d ≡ 0) → b ≡ true) → b ≡ false → spare_of d ≡ 0
-  spare_kept d b s h f = omega (arith, s, spare_kept_by d (len d.entries) (not_bare d b h f s) refl)
+  spare_kept d b s h f = omega (arith, s, spare_if_not (len d.entries) (not_bare d b h f s))
 
   pub new_nodes : (m : Seen X) → m.entries ≡ empty → spare_count m ≡ 0 → all_nodes m ≡ 1
   new_nodes m e z = omega (arith, ap nodes e, nodes_empty X, z)

@@ -13,7 +13,7 @@ use Rattle.ipnet_blocks.proofs.BitStrings.{begins_on, begun_rest}
 use Rattle.trie_core.specs.InnerPlaces.{place_from, place_of, child_of, place_string, child_string, at_places}
 use Rattle.trie_core.specs.InnerSearch.{IsChild, HasNoChild}
 use Rattle.trie_core.specs.Inside.{NothingInside}
-use Rattle.trie_core.specs.Nodes.{BitMap, BitSet, Seen}
+use Rattle.trie_core.specs.Nodes.{BitMap, Seen}
 use Rattle.trie_core.specs.InnerCount.{marked}
 use Rattle.trie_core.proofs.Strings.{bits_total, bits_same}
 use Rattle.trie_core.proofs.Numbers.{place_strings, child_of-string, length-child_string}
@@ -73,8 +73,8 @@ some_at {Y} i bits (y ∷ ys) h e c z = let r = sym z ∙ (taken {X = Y} i (coun
 
 -- ---- on the way
 
-step_set : (m c : BitSet) (q r : List Bool) → ((b : Bool) (k : List Bool) → get m (take 5 q ++ b ∷ k) ≡ get c (b ∷ k)) → r ≡ drop 5 q → NothingInside c r ↔ NothingInside m q
-step_set m c q r f e = (λ g b k. at b k ∙ g b k, λ g b k. sym (at b k) ∙ g b k)
+step_in : {Y : Type 0} (m c : BitMap Y) (q r : List Bool) → ((b : Bool) (k : List Bool) → get m (take 5 q ++ b ∷ k) ≡ get c (b ∷ k)) → r ≡ drop 5 q → NothingInside c r ↔ NothingInside m q
+step_in m c q r f e = (λ g b k. at b k ∙ g b k, λ g b k. sym (at b k) ∙ g b k)
   where
     more : (p : List Bool) (b : Bool) (k : List Bool) → get m (take 5 q ++ (p ++ b ∷ k)) ≡ get c (p ++ b ∷ k)
     more [] b k = f b k
@@ -158,22 +158,14 @@ module _ {X : Type 0} where
       held : (x : List Bool) (b : Bool) (k : List Bool) → q ++ b ∷ k ≡ x → {i : ℕ} → child_of x ≡ i → i < 32 → length x ≡ 5 → bit_at cb i ≡ 1 → ⊥
       held x b k z {i} n l five t = some_at i cb cs l t s.slots.children_counted (ap (λ j. find nat_cmp j (at_places 32 0 cb cs)) (sym n) ∙ by x b k z five (find nat_cmp (child_of x) (at_places 32 0 cb cs)) refl)
 
-  -- ---- on the way
-
-  step_map : (m c : BitMap X) (q r : List Bool) → ((k : List Bool) → get m (take 5 q ++ k) ≡ get c k) → r ≡ drop 5 q → NothingInside c r ↔ NothingInside m q
-  step_map m c q r f e = (λ g b k. at b k ∙ g b k, λ g b k. sym (at b k) ∙ g b k)
-    where
-      at : (b : Bool) (k : List Bool) → get m (q ++ b ∷ k) ≡ get c (r ++ b ∷ k)
-      at b k = ap (λ p. get m (p ++ b ∷ k)) (sym (take-append-drop 5 q)) ∙ ap (get m) (append_assoc (take 5 q) (drop 5 q) (b ∷ k)) ∙ f (drop 5 q ++ b ∷ k) ∙ ap (λ p. get c (p ++ b ∷ k)) (sym e)
-
   -- nothing stands inside q in m
   abbrev pub IsLeaf : Seen X → List Bool → Type 0
   IsLeaf m q = NothingInside m.entries q × NothingInside m.spares q
 
   pub leaf_below : {m c : Seen X} {q r : List Bool} → IsChild q m c → r ≡ drop 5 q → IsLeaf c r ↔ IsLeaf m q
   leaf_below {m} {c} {q} {r} h e =
-      let a = step_map m.entries c.entries q r h.gets e in
-      let b = step_set m.spares c.spares q r h.spares e in
+      let a = step_in m.entries c.entries q r (λ b k. h.gets (b ∷ k)) e in
+      let b = step_in m.spares c.spares q r h.spares e in
       (λ p. (a.0 p.0, b.0 p.1), λ p. (a.1 p.0, b.1 p.1))
 
   pub leaf_ends : {m : Seen X} {q : List Bool} → HasNoChild q m → IsLeaf m q

@@ -1,5 +1,5 @@
 -- The set of spare nodes of a node, by its children.
-use Rattle.std.proofs.Common.{◌≡◌, ℕ, zero, suc, ◌+◌, ◌≤◌, ◌<◌, Bool, true, false, cond, List, [], ◌∷◌, length, take, drop, refl, sym, ap, ◌∙◌, arith, ◌++◌}
+use Rattle.std.proofs.Common.{◌≡◌, ℕ, zero, suc, ◌+◌, ◌≤◌, ◌<◌, Bool, cond, List, [], ◌∷◌, length, take, drop, refl, sym, ap, ◌∙◌, arith, ◌++◌}
 use Rattle.std.specs.Prelude.{T, Option, Some, None, is_some}
 use Rattle.std.specs.FinMap.{find, get, remove, len, empty, is_sorted, get-empty, get-insert, get-remove, len-insert, len-empty, same_map}
 use Rattle.std.specs.FinMap.Entries.{below_all}
@@ -74,14 +74,9 @@ module _ {X : Type 0} where
   marked_get None r = None
   marked_get (Some c) r = get (marked c) r
 
-  found_marks_by : (q : List Bool) (c : List Bool × Seen X) (cs : List (List Bool × Seen X)) (r : List Bool) (b : Bool) → child_get (find bits_cmp q (marks cs)) r ≡ marked_get (find bits_cmp q cs) r
-      → child_get (cond b (Some (record { entries = marked c.1; spares = empty; levels = c.1.levels })) (find bits_cmp q (marks cs))) r ≡ marked_get (cond b (Some c.1) (find bits_cmp q cs)) r
-  found_marks_by q c cs r true e = refl
-  found_marks_by q c cs r false e = e
-
   found_marks : (q : List Bool) (cs : List (List Bool × Seen X)) (r : List Bool) → child_get (find bits_cmp q (marks cs)) r ≡ marked_get (find bits_cmp q cs) r
   found_marks q [] r = get_none r
-  found_marks q (c ∷ cs) r = found_marks_by q c cs r (same q c.0) (found_marks q cs r)
+  found_marks q (c ∷ cs) r = grind (arith, found_marks q cs r)
 
   -- ---- the set of a node
 

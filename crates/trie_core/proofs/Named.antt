@@ -103,14 +103,6 @@ module _ {X : Type 0} where
   named_sorted f w [] a b s = tt
   named_sorted f w (e ∷ es) a b s = let p = T-parts _ _ s in T-and _ _ (named_above f w e.0 es a b.1 p.0) (named_sorted f w es a b.1 p.1)
 
-  below_step : (w n h bits : ℕ) (x : X) (xs : List X) → bits < 2 ^ suc h → AllBelow (suc n + h) (at_places w (suc n) (bits / 2) (x ∷ xs)) × AllBelow (suc n + h) (at_places w (suc n) (bits / 2) xs) → AllBelow (n + suc h) (at_places (suc w) n bits (x ∷ xs))
-  below_step w n h bits x xs b r =
-      let e : suc n + h ≡ n + suc h = omega arith in
-      elim (low_bit bits) [
-        | inl o ↦ rw (at_step w n bits (x ∷ xs) o) (subst (λ m. AllBelow m (at_places w (suc n) (bits / 2) (x ∷ xs))) e r.0)
-        | inr o ↦ rw (at_first w n bits x xs o) (omega arith, subst (λ m. AllBelow m (at_places w (suc n) (bits / 2) xs)) e r.1)
-      ]
-
   -- the places of a word of h bits are below h
   pub at_below : (w n h bits : ℕ) (xs : List X) → bits < 2 ^ h → AllBelow (n + h) (at_places w n bits xs)
   at_below zero n h bits xs b = tt
@@ -126,7 +118,11 @@ module _ {X : Type 0} where
       later m (suc w) n bits (x ∷ xs) b = rw (at_step w n bits (x ∷ xs) (omega (arith, b))) (later m w (suc n) (bits / 2) (x ∷ xs) (omega (arith, b)))
   at_below (suc w) n (suc h) bits (x ∷ xs) b =
       let l : bits / 2 < 2 ^ h = omega arith in
-      below_step w n h bits x xs b (at_below w (suc n) h (bits / 2) (x ∷ xs) l, at_below w (suc n) h (bits / 2) xs l)
+      let e : suc n + h ≡ n + suc h = omega arith in
+      elim (low_bit bits) [
+        | inl o ↦ rw (at_step w n bits (x ∷ xs) o) (subst (λ m. AllBelow m (at_places w (suc n) (bits / 2) (x ∷ xs))) e (at_below w (suc n) h (bits / 2) (x ∷ xs) l))
+        | inr o ↦ rw (at_first w n bits x xs o) (omega arith, subst (λ m. AllBelow m (at_places w (suc n) (bits / 2) xs)) e (at_below w (suc n) h (bits / 2) xs l))
+      ]
 
   things_at : (f : ℕ → List Bool) (w n bits : ℕ) (xs : List X) → bits < 2 ^ w → count_ones bits ≡ length xs → things (named f (at_places w n bits xs)) ≡ xs
   things_at f zero n bits [] b e = refl

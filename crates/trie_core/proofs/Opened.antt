@@ -29,6 +29,7 @@ use Rattle.trie_core.proofs.Seen.{IsSeen}
 use Rattle.trie_core.proofs.Frames.{IsTold, nat_alike, where_twice, are_parts, IsPart, part_left, part_rest, IsFrame, under_none, value_is_first, value_next, child_next, nothing_next, inside_told}
 use Rattle.std.proofs.lemmas.List.{take_at, take-take}
 use Rattle.std.proofs.Math.Bool.{and-true}
+use Rattle.std.proofs.lemmas.Option.{same_Some, none-some}
 
 -- ---- bits
 
@@ -76,26 +77,19 @@ module _ {X : Type 0} where
   -- a list that rises has at its front what is found where nothing is found before
   front_found : (es : List (ℕ × X)) (i : ℕ) (x : X) → T (is_sorted nat_cmp es) → find nat_cmp i es ≡ Some x → ((j : ℕ) → j < i → find nat_cmp j es ≡ None) → es ≡ (i, x) ∷ without i es
   front_found [] i x s f n = cc
-  front_found (e ∷ es) i x s f n = by (nat_lt e.0 i) (nat_lt i e.0) refl refl
-    where
-      found_first : find nat_cmp e.0 (e ∷ es) ≡ Some e.1
-      found_first = grind (arith, nat_tests)
-
-      by : (a b : Bool) → nat_lt e.0 i ≡ a → nat_lt i e.0 ≡ b → e ∷ es ≡ (i, x) ∷ without i (e ∷ es)
-      by true b g h = let z = sym found_first ∙ n e.0 (grind (arith, nat_tests)) in cc
-      by false true g h =
-          let p = T-parts _ _ s in
-          let l : i < e.0 = grind (arith, nat_tests) in
-          let r = find_above i e.0 es p.0 (omega (arith, l)) in
-          let z : find nat_cmp i (e ∷ es) ≡ None = grind (arith, nat_tests) in
-          let w = sym f ∙ z in
-          cc
-      by false false g h =
-          let p = T-parts _ _ s in
-          let k : i ≡ e.0 = grind (arith, nat_tests) in
-          let v : Some e.1 ≡ Some x = sym found_first ∙ ap (λ j. find nat_cmp j (e ∷ es)) (sym k) ∙ f in
-          let y : e.1 ≡ x = cc in
-          (λ t. (sym k t, y t) ∷ es) ∙ ap (λ ys. (i, x) ∷ ys) (sym (without_front e.0 e.1 es p.0) ∙ ap (λ j. without j (e ∷ es)) (sym k))
+  front_found (e ∷ es) i x s f n =
+      let p = T-parts _ _ s in
+      let first : find nat_cmp e.0 (e ∷ es) ≡ Some e.1 = grind (arith, nat_tests) in
+      elim (cases_order e.0 i) [
+        | inl k ↦
+            let y : e.1 ≡ x = same_Some e.1 x (sym first ∙ ap (λ j. find nat_cmp j (e ∷ es)) k ∙ f) in
+            (λ t. (k t, y t) ∷ es) ∙ ap (λ ys. (i, x) ∷ ys) (sym (without_front e.0 e.1 es p.0) ∙ ap (λ j. without j (e ∷ es)) k)
+        | inr (inl l) ↦ absurd (none-some e.1 (sym (n e.0 l) ∙ first))
+        | inr (inr l) ↦
+            let r = find_above i e.0 es p.0 (omega (arith, l)) in
+            let z : find nat_cmp i (e ∷ es) ≡ None = grind (arith, nat_tests) in
+            absurd (none-some x (sym z ∙ f))
+      ]
 
   none_found : (es : List (ℕ × X)) → ((j : ℕ) → find nat_cmp j es ≡ None) → es ≡ []
   none_found [] n = refl
