@@ -14,7 +14,7 @@ use Rattle.trie_core.specs.InnerNodes.{under, node_map, IsNode}
 use Rattle.trie_core.specs.Count.{fives_from, fives, fives_of, begun, nodes}
 use Rattle.trie_core.specs.InnerCount.{nodes_if, spare_if, spare_count, spares_below, all_nodes, total, entry_count}
 use Rattle.trie_core.proofs.Strings.{bits_total, bits_same, same, same-Decides, same-refl, front}
-use Rattle.trie_core.proofs.Maps.{tail_rises, or_else, find-append_all, find-under, find-apart, node_map-none, get-short, get_none}
+use Rattle.trie_core.proofs.Maps.{tail_rises, find-append_all, find-under, find-apart, node_map-none, get-short, get_none}
 use Rattle.trie_core.proofs.Order.{StartsAfter, below_under, below_append, less_right, less_left, found_above, below_found, found_long, found_get, sorted_under, walk_value, walk_child, walk_none, without_child, each_node, later_found}
 use Rattle.std.proofs.Math.Seq.{take-append-add}
 use Rattle.std.proofs.Math.Bool.{or_assoc}
@@ -45,11 +45,8 @@ under-append bs (e ∷ es) fs = ap (λ ws. (bs ++ e.0, e.1) ∷ ws) (under-appen
 abbrev pub has : {Y : Type 0} → List Bool → List (List Bool × Y) → Bool
 has q es = is_some (find bits_cmp q es)
 
-some_else : {Y : Type 0} (o p : Option Y) → is_some (or_else o p) ≡ (is_some o || is_some p)
-some_else o p = grind arith
-
 pub has-append : {Y : Type 0} (q : List Bool) (es fs : List (List Bool × Y)) → has q (es ++ fs) ≡ (has q es || has q fs)
-has-append q es fs = ap is_some (find-append_all q es fs) ∙ some_else (find bits_cmp q es) (find bits_cmp q fs)
+has-append q es fs = grind (arith, find-append_all q es fs)
 
 pub some_cond : {Y : Type 0} (b : Bool) (y : Y) (o : Option Y) → is_some (cond b (Some y) o) ≡ (b || is_some o)
 some_cond b y o = grind arith

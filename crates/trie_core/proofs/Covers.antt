@@ -87,23 +87,11 @@ module _ {X : Type 0} where
 
 -- ---- what is left from a place on
 
-and_true : (a b c : Bool) → (a && not (b && c)) ≡ true → (a ≡ true) × (b ≡ true → c ≡ false)
-and_true a b c e = grind arith
-
-and_false : (a b c : Bool) → (a && not (b && c)) ≡ false → a ≡ true → (b ≡ true) × (c ≡ true)
-and_false a b c e f = grind arith
-
 left_true : (q : List Bool) (n : ℕ) (k : List Bool) → is_left q n k ≡ true → (begins k q ≡ true) × (length k < 5 → n ≤ place_of k)
-left_true q n k e =
-    let t = and_true (begins k q) (nat_lt (length k) 5) (nat_lt (place_of k) n) e in
-    (t.0, λ h. let l : nat_lt (length k) 5 ≡ true = grind (arith, nat_tests) in let z = t.1 l in grind (arith, nat_tests))
+left_true q n k e = grind (arith, nat_tests)
 
 left_false : (q : List Bool) (n : ℕ) (k : List Bool) → is_left q n k ≡ false → begins k q ≡ true → (length k < 5) × (place_of k < n)
-left_false q n k e b =
-    let t = and_false (begins k q) (nat_lt (length k) 5) (nat_lt (place_of k) n) e b in
-    let u = t.0 in
-    let v = t.1 in
-    (grind (arith, nat_tests), grind (arith, nat_tests))
+left_false q n k e b = grind (arith, nat_tests)
 
 -- of two beginnings of a string the shorter one comes first
 begins_less : (s x q : List Bool) → begins s q ≡ true → begins x q ≡ true → length s < length x → bits_cmp s x ≡ Less

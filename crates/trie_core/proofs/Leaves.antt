@@ -22,8 +22,8 @@ use Rattle.trie_core.proofs.Maps.{get_none, child_get}
 use Rattle.trie_core.proofs.Marks.{marked_get, marked-root, root_if, set-short}
 use Rattle.trie_core.proofs.Taken.{taken, missing}
 use Rattle.trie_core.proofs.Seen.{IsSeen, value_at, below_at, spare_at, is_child}
-use Rattle.trie_core.proofs.Searches.{below_31, last_place}
-use Rattle.trie_core.proofs.Opened.{has_between, both_set}
+use Rattle.trie_core.proofs.Searches.{below_31, last_place, both_set}
+use Rattle.trie_core.proofs.Opened.{has_between}
 use Rattle.std.proofs.lemmas.Bool.{cases_lt}
 
 -- ---- what goes on from a string

@@ -9,6 +9,7 @@ use Rattle.trie_core.specs.Bits.{number_from}
 use Rattle.trie_core.specs.InnerPaths.{IsAligned}
 use Rattle.trie_core.specs.Prefixes.{prefix_bits, IsMasked}
 use Rattle.trie_core.proofs.Numbers.{number_bound, number_apart, number-digits}
+use mir.Val.{bool_byte}
 
 -- the bits of two numbers, one after the other
 pub digits-append : (n m q f : ℕ) → f < 2 ^ m → digits (n + m) (q * 2 ^ m + f) ≡ digits n q ++ digits m f
@@ -62,6 +63,9 @@ longer bits n five m a k h l =
       aligned = record { short = l; masked = record { below = fits; clear = ap (λ x. x * 2 ^ e) back } };
       value = ap (digits (n + m)) back ∙ digits-append n m q f fb;
     })
+
+pub as_number : (b : Bool) → bool_byte b ≡ cond b 1 0
+as_number b = grind arith
 
 -- the string of the word with one bit more, which is the first of five
 pub record IsExtended (bs : List Bool) (t : Bool) (bits len : ℕ) : Type 0 where

@@ -1,6 +1,6 @@
 -- What stands in a node at the places that are open.
 use Rattle.std.proofs.Common.{◌≡◌, ℕ, zero, suc, ◌+◌, ◌-◌, ◌*◌, ◌/◌, ◌%◌, ◌^◌, ◌<◌, ◌≤◌, Bool, true, false, cond, not, ◌&&◌, List, [], ◌∷◌, ◌++◌, length, take, get_or, refl, sym, ap, subst, ◌∙◌, arith, inl, inr}
-use Rattle.std.specs.Prelude.{T, Option, Some, None, nat_lt, eqb, min, bit_and, count_ones, MatchOption}
+use Rattle.std.specs.Prelude.{T, Option, Some, None, nat_lt, eqb, bit_and, count_ones, MatchOption}
 use Rattle.std.specs.Borrow.{Bor}
 use Rattle.std.specs.Int.{bit_at}
 use Rattle.std.specs.Ordering.{nat_cmp, eq_by_cmp}
@@ -9,7 +9,7 @@ use Rattle.std.specs.FinMap.Entries.{where_key, find-where_key, is_sorted-where_
 use Rattle.std.proofs.lemmas.Bool.Decides.{nat_tests}
 use Rattle.std.proofs.Math.Nat.{le-mul_of_pos_right}
 use Rattle.std.proofs.lemmas.Nat.{pow_pos, pow-add, mod_below, shr_split}
-use Rattle.std.proofs.lemmas.Nat.Bits.{bit_at_and, bit_at-lt, bit_at-suc, bit_at_ones, bit_at-zero, bit_at_mask_above, bit_at_mask_below, bit_at_mask_inside, bit_at_cat_low, bit_at_cat_high}
+use Rattle.std.proofs.lemmas.Nat.Bits.{bit_at_and, bit_at-suc, bit_at_ones, bit_at-zero, bit_at_mask_above, bit_at_mask_below, bit_at_mask_inside, bit_at_cat_low, bit_at_cat_high}
 use Rattle.trie_core.specs.Bits.{is_from}
 use Rattle.ipnet_blocks.specs.BitStrings.{bits_cmp, begins}
 use Rattle.trie_core.specs.InnerPlaces.{place_of, child_of, place_string, child_string, placed, without, AllBelow, named, first_place_of, IsFirstPlace}
@@ -30,14 +30,9 @@ use Rattle.trie_core.proofs.Frames.{IsTold, nat_alike, where_twice, are_parts, I
 use Rattle.std.proofs.lemmas.List.{take_at, take-take}
 use Rattle.std.proofs.Math.Bool.{and-true}
 use Rattle.std.proofs.lemmas.Option.{same_Some, none-some}
+use Rattle.trie_core.proofs.Searches.{both_set}
 
 -- ---- bits
-
-pub both_set : (a b i : ℕ) → bit_at (bit_and a b) i ≡ 1 → (bit_at a i ≡ 1) × (bit_at b i ≡ 1)
-both_set a b i e = (omega (arith, bit_at_and a b i, e, bit_at-lt a i, bit_at-lt b i), omega (arith, bit_at_and a b i, e, bit_at-lt a i, bit_at-lt b i))
-
-other_zero : (a b : ℕ) → min a b ≡ 0 → a ≡ 1 → b ≡ 0
-other_zero a b e f = omega (arith, e, f)
 
 -- between two places
 pub has_between : (from end i : ℕ) → has_bit (2 ^ end - 2 ^ from) i ≡ (not (nat_lt i from) && nat_lt i end)
@@ -105,7 +100,7 @@ module _ {X : Type 0} where
   unfolding placed
   unset_either mask bits xs j z = open_get mask bits xs j ∙ elim (cases_Bool (has_bit mask j)) [
     | inl e ↦
-        let u : bit_at bits j ≡ 0 = other_zero (bit_at mask j) (bit_at bits j) (sym (bit_at_and mask bits j) ∙ z) (eqb-true (bit_at mask j) 1 e) in
+        let u : bit_at bits j ≡ 0 = omega (arith, bit_at_and mask bits j, z, eqb-true (bit_at mask j) 1 e) in
         (λ i. cond (e i) (sym (missing j bits xs u) i) None)
     | inr e ↦ ap (λ b. cond b (find nat_cmp j (placed bits xs)) None) e
   ]

@@ -1,6 +1,5 @@
 -- What a change of a child takes out of the node.
-use Rattle.std.proofs.Common.{◌≡◌, ℕ, ◌+◌, ◌-◌, ◌^◌, ◌<◌, ◌≤◌, ◌∙◌, Bool, true, false, cond, List, [], ◌∷◌, ◌++◌, length, drop, get_or, set, refl, sym, ap, arith}
-use mir.Val.{bool_byte}
+use Rattle.std.proofs.Common.{◌≡◌, ℕ, ◌+◌, ◌-◌, ◌^◌, ◌<◌, ◌≤◌, ◌∙◌, Bool, true, false, List, [], ◌∷◌, ◌++◌, length, drop, get_or, set, sym, ap, arith}
 use Rattle.std.specs.List.{remove}
 use Rattle.std.specs.FinMap.{len, empty, len-empty}
 use Rattle.std.specs.FinMap as map
@@ -14,10 +13,6 @@ use Rattle.trie_core.proofs.Taken.{IsTaken}
 use Rattle.trie_core.proofs.Seen.{IsSeen, viewed}
 use Rattle.trie_core.proofs.Changes.{was_lower, set_removed, set_count, set_height, childless}
 use Rattle.trie_core.proofs.Inside.{none_inside, none_left, outside_split, gone, set_outside, set_entries}
-
-pub as_number : (b : Bool) → bool_byte b ≡ cond b 1 0
-as_number true = refl
-as_number false = refl
 
 pub longer : {n : ℕ} (q : List Bool) → n ≡ length q → 5 < n → 5 ≤ length q
 longer q e h = omega arith

@@ -1,6 +1,6 @@
 -- Searches along a string: by masks within a node, and from node to node.
 use Rattle.std.proofs.Common.{◌≡◌, ℕ, zero, suc, ◌+◌, ◌-◌, ◌*◌, ◌/◌, ◌%◌, ◌^◌, ◌<◌, ◌≤◌, Bool, true, cond, List, [], ◌∷◌, ◌++◌, length, take, drop, get_or, sym, ap, subst, ◌∙◌, arith, inl, inr}
-use Rattle.std.specs.Prelude.{Option, Some, None, MatchOption, bit_and, min, count_ones}
+use Rattle.std.specs.Prelude.{Option, Some, None, MatchOption, bit_and, count_ones}
 use Rattle.std.specs.Int.{bit_at, w32, leading_zeros}
 use Rattle.std.specs.Ordering.{nat_cmp}
 use Rattle.std.specs.FinMap.{find, get}
@@ -49,11 +49,8 @@ place_rises (suc k) (suc j) n [] h l m = absurd (omega (arith, l))
 place_rises (suc k) (suc j) zero (b ∷ q) h l m = omega arith
 place_rises (suc k) (suc j) (suc n) (b ∷ q) h l m = omega (arith, place_rises k j n q (omega (arith, h)) (omega (arith, l)) (omega (arith, m)))
 
-min_one : (a b : ℕ) → min a b ≡ 1 → a < 2 → b < 2 → (a ≡ 1) × (b ≡ 1)
-min_one a b e l m = (omega (arith, e, l, m), omega (arith, e, l, m))
-
-min_with_one : (a b : ℕ) → a < 2 → b ≡ 1 → min a b ≡ a
-min_with_one a b l e = omega (arith, e, l)
+pub both_set : (a b i : ℕ) → bit_at (bit_and a b) i ≡ 1 → (bit_at a i ≡ 1) × (bit_at b i ≡ 1)
+both_set a b i e = (omega (arith, bit_at_and a b i, e, bit_at-lt a i, bit_at-lt b i), omega (arith, bit_at_and a b i, e, bit_at-lt a i, bit_at-lt b i))
 
 pub below_31 : (vb n : ℕ) → vb < 2 ^ 31 → bit_at vb n ≡ 1 → n < 31
 below_31 vb n h e = elim (cases_lt n 31) [
@@ -73,7 +70,7 @@ one_if b e = grind arith
 pub met_beginning : (vb mask : ℕ) (q : List Bool) → IsBeginMask q mask → (k : ℕ) → k < 5 → k ≤ length q → bit_at (bit_and vb mask) (place_of (take k q)) ≡ bit_at vb (place_of (take k q))
 met_beginning vb mask q f k h l =
     let n = place_of (take k q) in
-    bit_at_and vb mask n ∙ min_with_one (bit_at vb n) (bit_at mask n) (bit_at-lt vb n) (f (take k q) (omega (arith, length-take k q, h)) ∙ ap (λ b. cond b 1 0) (take_begins k q))
+    omega (arith, bit_at_and vb mask n, bit_at-lt vb n, f (take k q) (omega (arith, length-take k q, h)) ∙ ap (λ b. cond b 1 0) (take_begins k q))
 
 -- where both have a bit a beginning stands
 pub record IsMet (vb n : ℕ) (q : List Bool) : Type 0 where
@@ -86,7 +83,7 @@ pub record IsMet (vb n : ℕ) (q : List Bool) : Type 0 where
 
 pub met_place : (vb mask : ℕ) (q : List Bool) → vb < 2 ^ 31 → IsBeginMask q mask → (n : ℕ) → bit_at (bit_and vb mask) n ≡ 1 → IsMet vb n q
 met_place vb mask q h f n e =
-    let t = min_one (bit_at vb n) (bit_at mask n) (sym (bit_at_and vb mask n) ∙ e) (bit_at-lt vb n) (bit_at-lt mask n) in
+    let t = both_set vb mask n e in
     let l = below_31 vb n h t.0 in
     let p = place_strings n l in
     let b = begins_take (place_string n) q (one_if _ (sym (f (place_string n) p.short) ∙ ap (bit_at mask) p.place ∙ t.1)) in
