@@ -1,5 +1,5 @@
 -- The keys inside a bit string stand together in the order of a walk.
-use Rattle.std.proofs.Common.{◌≡◌, ◌<◌, ◌≤◌, Bool, true, false, cond, not, ◌&&◌, List, [], ◌∷◌, length, take, refl, sym, ap, ◌∙◌, arith, inl, inr}
+use Rattle.std.proofs.Common.{◌≡◌, ◌≤◌, Bool, true, false, cond, not, ◌&&◌, List, [], ◌∷◌, length, take, refl, sym, ap, ◌∙◌, arith, inl, inr}
 use Rattle.std.specs.Prelude.{T, Some, None}
 use Rattle.std.specs.declared.cmp.Ordering.TheVariants.{Less}
 use Rattle.std.specs.Ordering.{is_lt}
@@ -12,7 +12,6 @@ use Rattle.ipnet_blocks.specs.BitStrings.{bits_cmp, begins}
 use Rattle.trie_core.proofs.Strings.{same}
 use Rattle.trie_core.proofs.Maps.{tail_rises}
 use Rattle.trie_core.proofs.Frames.{where_twice}
-use Rattle.trie_core.proofs.Inside as inside
 use Rattle.prefix_trie.specs.Maps.{first_key}
 use Rattle.prefix_trie.proofs.Asked.{not_after}
 use Rattle.trie_core.proofs.Order.{is_less}
@@ -26,9 +25,6 @@ pub begins_first : (p k : List Bool) → length p ≤ length k → same p (take 
 begins_first [] k h = refl
 begins_first (x ∷ p) [] h = absurd (omega arith)
 begins_first (x ∷ p) (y ∷ k) h = grind (arith, begins_first p k)
-
-pub begins_longer : (p k : List Bool) → length k < length p → false ≡ begins p k
-begins_longer p k h = sym (inside.begins_longer p k h)
 
 pub begins_itself : (p : List Bool) → begins p p ≡ true
 begins_itself p = ap (begins p) (sym (append-nil p)) ∙ begins_on p []

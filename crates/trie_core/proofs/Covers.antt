@@ -4,8 +4,8 @@ use Rattle.std.specs.Prelude.{Option, Some, None, is_some, nat_lt, bit_and, coun
 use Rattle.std.specs.Borrow.{Bor}
 use Rattle.std.specs.declared.cmp.Ordering.TheVariants.{Less}
 use Rattle.std.specs.Int.{bit_at}
-use Rattle.std.specs.FinMap.{find, entries, get, get-entries, entries_sorted, empty}
-use Rattle.std.specs.FinMap.Entries.{where_key, find-where_key, is_sorted-where_key, same_entries}
+use Rattle.std.specs.FinMap.{entries, get, entries_sorted, empty}
+use Rattle.std.specs.FinMap.Entries.{where_key, is_sorted-where_key, same_entries}
 use Rattle.std.proofs.lemmas.Bool.Decides.{nat_tests}
 use Rattle.std.proofs.lemmas.Nat.{shr_split, pow_pos, mod_below}
 use Rattle.std.proofs.lemmas.Nat.Bits.{bit_at-zero, bit_at_cat_low, bit_at_cat_high}
@@ -26,7 +26,7 @@ use Rattle.trie_core.proofs.Numbers.{place_strings, place_string-place_of, place
 use Rattle.trie_core.proofs.Taken.{taken}
 use Rattle.trie_core.proofs.Seen.{IsSeen}
 use Rattle.trie_core.proofs.Searches.{IsMet, met_beginning, met_place, unset_none, found_here}
-use Rattle.trie_core.proofs.Frames.{bits_alike, under-under, under_none}
+use Rattle.trie_core.proofs.Frames.{under-under, under_none, found_where}
 use Rattle.trie_core.proofs.Walks.{AreBelow, where_below, entries_none, kept_true}
 use Rattle.std.proofs.Math.Bool.{and-true}
 use Rattle.std.proofs.lemmas.List.{take-take}
@@ -128,9 +128,6 @@ module _ {X : Type 0} where
   -- a key that only one of two tests keeps is not there
   two_same : (a b : Bool) (o : Option X) → (a ≡ true → b ≡ false → o ≡ None) → (a ≡ false → b ≡ true → ⊥) → cond a o None ≡ cond b o None
   two_same a b o f g = grind arith
-
-  found_where : (m : BitMap X) (f : List Bool → Bool) (x : List Bool) → find bits_cmp x (where_key bits_cmp f (entries m)) ≡ cond (f x) (get m x) None
-  found_where m f x = find-where_key bits_cmp f x (bits_alike f x) (entries m) ∙ ap (λ o. cond (f x) o None) (sym (get-entries m x))
 
   pub where_next : {m : BitMap X} {q : List Bool} {n p : ℕ} {v : X} → IsFirstFrom m q n p v → where_key bits_cmp (is_left q n) (entries m) ≡ (place_string p, v) ∷ where_key bits_cmp (is_left q (p + 1)) (entries m)
   where_next {m} {q} {n} {p} {v} w =

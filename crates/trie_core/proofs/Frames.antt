@@ -14,7 +14,7 @@ use Rattle.ipnet_blocks.specs.BitStrings.{bits_cmp, begins}
 use Rattle.trie_core.specs.InnerPlaces.{place_of, child_of, place_string, child_string, AllBelow, named, placed, value_list, child_list, first_place_of}
 use Rattle.ipnet_blocks.specs.Blocks.{digits}
 use Rattle.trie_core.specs.Prefixes.{prefix_bits}
-use Rattle.trie_core.specs.Nodes.{Seen}
+use Rattle.trie_core.specs.Nodes.{Seen, BitMap}
 use Rattle.trie_core.specs.InnerNodes.{under, node_height, IsNode}
 use Rattle.trie_core.specs.InnerCount.{all_nodes, total}
 use Rattle.trie_core.specs.InnerWalks.{first_value, KeysWithin, levels_of, nodes_of, part_map, AreInOrder, AreParts, Left}
@@ -165,6 +165,9 @@ nat_alike p n x e = let z : x ≡ n = grind (arith, nat_tests) in ap p z
 pub bits_alike : (p : List Bool → Bool) (q x : List Bool) → bits_cmp q x ≡ Equal → p x ≡ p q
 bits_alike p q x e = ap p (sym (bits_same q x e))
 
+pub found_where : {X : Type 0} (m : BitMap X) (f : List Bool → Bool) (x : List Bool) → find bits_cmp x (where_key bits_cmp f (entries m)) ≡ cond (f x) (get m x) None
+found_where m f x = find-where_key bits_cmp f x (bits_alike f x) (entries m) ∙ ap (λ o. cond (f x) o None) (sym (get-entries m x))
+
 -- p tells of a key what f tells of its place in the node, or g of the child on its way
 pub record IsTold (p : List Bool → Bool) (f g : ℕ → Bool) : Type 0 where
   pub short : (q : List Bool) → length q < 5 → p q ≡ f (place_of q)
@@ -232,8 +235,7 @@ module _ {X : Type 0} where
   part_where {p} f g {vs} {cs} o t =
       same_entries bits_cmp bits_total bits_same _ _ (entries_sorted (part_map (where_key nat_cmp f vs) (where_key nat_cmp g cs)))
       (is_sorted-where_key bits_cmp p (entries (part_map vs cs)) (entries_sorted (part_map vs cs)))
-      (λ q. sym (get-entries (part_map (where_key nat_cmp f vs) (where_key nat_cmp g cs)) q) ∙ part_get f g o t q ∙ ap (λ r. cond (p q) r None) (get-entries (part_map vs cs) q)
-      ∙ sym (find-where_key bits_cmp p q (bits_alike p q) (entries (part_map vs cs))))
+      (λ q. sym (get-entries (part_map (where_key nat_cmp f vs) (where_key nat_cmp g cs)) q) ∙ part_get f g o t q ∙ sym (found_where (part_map vs cs) p q))
 
   -- the values and children of the keys that p tells of the node that is seen as m
   pub record IsPart (p : List Bool → Bool) (m : Seen X) (vs : List (ℕ × X)) (cs : List (ℕ × Seen X)) : Type 0 where

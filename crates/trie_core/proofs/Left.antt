@@ -137,9 +137,6 @@ module _ {X : Type 0} (lost : List Bool → Bool) where
 
   module _ {vs us : List (List Bool × X)} {cs ds : List (List Bool × Seen X)} (q : List Bool) (o : Option (Seen X)) (n : IsNode vs cs) (k : IsNode us ds) (h : 5 ≤ length q) (c : ListChanges cs (take 5 q) o ds)
       (elsewhere : (s : List Bool) → 5 ≤ length s → same (take 5 s) (take 5 q) ≡ false → lost s ≡ false) (left : IsLeftBelow (take 5 q) (drop 5 q) (find bits_cmp (take 5 q) cs) o) where
-    begins_in : (r : List Bool) → begins (take 5 q ++ r) q ≡ begins r (drop 5 q)
-    begins_in r = begins_under_first q r h
-
     found : find bits_cmp (take 5 q) ds ≡ o
     found = found_changed cs ds q o c
 
@@ -152,27 +149,24 @@ module _ {X : Type 0} (lost : List Bool → Bool) where
     map_at : (r : List Bool) → get (node_map us ds) (take 5 q ++ r) ≡ child_get o r
     map_at r = get-below k (take 5 q) r (front q h).0 ∙ ap (λ w. child_get w r) found
 
-    deeper : (r x : List Bool) → (take 5 q ++ r) ++ x ≡ take 5 q ++ (r ++ x)
-    deeper r x = append_assoc (take 5 q) r x
-
     in_off : (r : List Bool) → begins (take 5 q ++ r) q ≡ false → get (spare_set ds) (take 5 q ++ r) ≡ cond (lost (take 5 q ++ r)) None (get (spare_set cs) (take 5 q ++ r))
-    in_off r b = new_at r ∙ left.off r (sym (begins_in r) ∙ b) ∙ ap (cond (lost (take 5 q ++ r)) None) (sym (old_at r))
+    in_off r b = new_at r ∙ left.off r (sym (begins_under_first q r h) ∙ b) ∙ ap (cond (lost (take 5 q ++ r)) None) (sym (old_at r))
 
     in_on : (r : List Bool) → begins (take 5 q ++ r) q ≡ true → (is_some (get (spare_set ds) (take 5 q ++ r)) ≡ true) ↔ (IsIdle (node_map us ds) (take 5 q ++ r) × LeadsOff lost (spare_set cs) q (take 5 q ++ r))
     in_on r b = (
       λ s.
-          let t = left.shows r (sym (begins_in r) ∙ b) (sym (ap is_some (new_at r)) ∙ s) in
+          let t = left.shows r (sym (begins_under_first q r h) ∙ b) (sym (ap is_some (new_at r)) ∙ s) in
           let l = t.leads in (
-            record { below = under_long q r h; fives = omega (arith, t.fives, length-append (take 5 q) r, (front q h).0); none = λ x. ap (get (node_map us ds)) (deeper r x) ∙ map_at (r ++ x) ∙ t.none x },
-            (l.0, ap (λ w. is_some (get (spare_set cs) w)) (deeper r l.0) ∙ ap is_some (old_at (r ++ l.0)) ∙ l.1, ap (λ w. begins w q) (deeper r l.0) ∙ begins_in (r ++ l.0) ∙ l.2, ap lost (deeper r l.0) ∙ l.3),
+            record { below = under_long q r h; fives = omega (arith, t.fives, length-append (take 5 q) r, (front q h).0); none = λ x. ap (get (node_map us ds)) (append_assoc (take 5 q) r x) ∙ map_at (r ++ x) ∙ t.none x },
+            (l.0, ap (λ w. is_some (get (spare_set cs) w)) (append_assoc (take 5 q) r l.0) ∙ ap is_some (old_at (r ++ l.0)) ∙ l.1, ap (λ w. begins w q) (append_assoc (take 5 q) r l.0) ∙ begins_under_first q (r ++ l.0) h ∙ l.2, ap lost (append_assoc (take 5 q) r l.0) ∙ l.3),
           ),
       λ s.
           let l = s.1 in
           ap is_some (new_at r)
-          ∙ left.holds r (sym (begins_in r) ∙ b) (record {
+          ∙ left.holds r (sym (begins_under_first q r h) ∙ b) (record {
             fives = omega (arith, s.0.fives, length-append (take 5 q) r, (front q h).0);
-            none = λ x. sym (ap (get (node_map us ds)) (deeper r x) ∙ map_at (r ++ x)) ∙ s.0.none x;
-            leads = (l.0, sym (ap (λ w. is_some (get (spare_set cs) w)) (deeper r l.0) ∙ ap is_some (old_at (r ++ l.0))) ∙ l.1, sym (ap (λ w. begins w q) (deeper r l.0) ∙ begins_in (r ++ l.0)) ∙ l.2, sym (ap lost (deeper r l.0)) ∙ l.3);
+            none = λ x. sym (ap (get (node_map us ds)) (append_assoc (take 5 q) r x) ∙ map_at (r ++ x)) ∙ s.0.none x;
+            leads = (l.0, sym (ap (λ w. is_some (get (spare_set cs) w)) (append_assoc (take 5 q) r l.0) ∙ ap is_some (old_at (r ++ l.0))) ∙ l.1, sym (ap (λ w. begins w q) (append_assoc (take 5 q) r l.0) ∙ begins_under_first q (r ++ l.0) h) ∙ l.2, sym (ap lost (append_assoc (take 5 q) r l.0)) ∙ l.3);
           }),
     )
 

@@ -1,5 +1,5 @@
 -- The numbers of places and children: they rise in the order of a walk, and each gives its string back.
-use Rattle.std.proofs.Common.{◌≡◌, ℕ, zero, suc, ◌+◌, ◌-◌, ◌*◌, ◌/◌, ◌%◌, ◌^◌, ◌<◌, ◌≤◌, Bool, true, false, cond, ◌==◌, List, [], ◌∷◌, ◌++◌, length, take, drop, refl, sym, ap, ◌∙◌, arith}
+use Rattle.std.proofs.Common.{◌≡◌, ℕ, zero, suc, ◌+◌, ◌-◌, ◌*◌, ◌/◌, ◌%◌, ◌^◌, ◌<◌, ◌≤◌, Bool, true, false, cond, ◌==◌, List, [], ◌∷◌, ◌++◌, length, take, drop, refl, sym, ap, ◌∙◌, arith, inl, inr}
 use Rattle.std.specs.Prelude.{nat_lt, if◌then◌else◌, count_ones}
 use Rattle.std.specs.declared.cmp.Ordering.TheVariants.{Less}
 use Rattle.std.proofs.lemmas.Bool.Decides.{nat_tests}
@@ -12,6 +12,7 @@ use Rattle.trie_core.specs.Bits.{number_from}
 use Rattle.ipnet_blocks.specs.BitStrings.{bits_cmp}
 use Rattle.trie_core.specs.InnerPlaces.{place_from, place_of, child_of, place_at, place_string, child_string}
 use Rattle.std.proofs.lemmas.List.{take_at, length-take-le}
+use Rattle.std.proofs.lemmas.Bool.{cases_lt}
 
 pub ones_bit : (b : ℕ) → b < 2 → count_ones b ≡ b
 unfolding lib.Count.ones
@@ -58,16 +59,13 @@ pub record IsPlaceString (k n : ℕ) (bs : List Bool) : Type 0 where
   pub short : length bs < k
   pub place : place_from k bs ≡ n
 
-place_string_by : (k n : ℕ) → (n < 2 ^ k - 1 → IsPlaceString k n (place_at k n)) → (n - (2 ^ k - 1) < 2 ^ k - 1 → IsPlaceString k (n - (2 ^ k - 1)) (place_at k (n - (2 ^ k - 1)))) → suc n < 2 ^ suc k - 1 → (b : Bool) → nat_lt n (2 ^ k - 1) ≡ b → IsPlaceString (suc k) (suc n) (if b then (false ∷ place_at k n) else (true ∷ place_at k (n - (2 ^ k - 1))))
-place_string_by k n f g h true e = let r = f (grind (arith, nat_tests)) in record { short = omega (arith, r.short); place = omega (arith, r.place) }
-place_string_by k n f g h false e =
-    let l : 2 ^ k - 1 ≤ n = grind (arith, nat_tests) in
-    let r = g (omega (arith, h, l, double k)) in record { short = omega (arith, r.short); place = omega (arith, r.place, l) }
-
 pub is_place_string : (k n : ℕ) → n < 2 ^ k - 1 → IsPlaceString k n (place_at k n)
 is_place_string zero n h = absurd (omega (arith, h))
 is_place_string (suc k) zero h = record { short = omega arith; place = refl }
-is_place_string (suc k) (suc n) h = place_string_by k n (λ l. is_place_string k n l) (λ l. is_place_string k (n - (2 ^ k - 1)) l) h (nat_lt n (2 ^ k - 1)) refl
+is_place_string (suc k) (suc n) h = elim (cases_lt n (2 ^ k - 1)) [
+  | inl l ↦ let r = is_place_string k n l in rw (place_at_first k n l) (record { short = omega (arith, r.short); place = omega (arith, r.place) })
+  | inr l ↦ let r = is_place_string k (n - (2 ^ k - 1)) (omega (arith, h, l, double k)) in rw (place_at_second k n l) (record { short = omega (arith, r.short); place = omega (arith, r.place, l) })
+]
 
 pub place_string-place_of : (q : List Bool) → length q < 5 → place_string (place_of q) ≡ q
 unfolding place_string

@@ -22,7 +22,7 @@ use Rattle.trie_core.proofs.Count.{under-append}
 use Rattle.trie_core.proofs.Maps.{or_else, find-append_all, find-under, find-apart, get_none, node_map-none}
 use Rattle.trie_core.proofs.Order.{sorted_under, below_found, walk_none, later_found}
 use Rattle.trie_core.proofs.Numbers.{child_string-child_of}
-use Rattle.trie_core.proofs.Frames.{child_bits, bits_alike, under-under, under_none}
+use Rattle.trie_core.proofs.Frames.{child_bits, bits_alike, under-under, under_none, found_where}
 
 -- ---- the stack
 
@@ -103,7 +103,7 @@ module _ {X : Type 0} where
   where_below {p} {m} {c} {f} {g} a =
       same_entries bits_cmp bits_total bits_same _ _ (is_sorted-where_key bits_cmp f (entries m) (entries_sorted m))
       (subst (λ es. T (is_sorted bits_cmp es)) (append-nil (under (take 5 p) (where_key bits_cmp g (entries c)))) (sorted_under (take 5 p) (where_key bits_cmp g (entries c)) [] (is_sorted-where_key bits_cmp g (entries c) (entries_sorted c)) tt (λ x. tt)))
-      (λ x. find-where_key bits_cmp f x (bits_alike f x) (entries m) ∙ ap (λ o. cond (f x) o None) (sym (get-entries m x)) ∙ by x (same (take 5 x) (take 5 p)) refl)
+      (λ x. found_where m f x ∙ by x (same (take 5 x) (take 5 p)) refl)
     where
       at : (r : List Bool) → cond (f (take 5 p ++ r)) (get m (take 5 p ++ r)) None ≡ find bits_cmp (take 5 p ++ r) (under (take 5 p) (where_key bits_cmp g (entries c)))
       at r =
@@ -219,12 +219,9 @@ module _ {X : Type 0} where
       (sorted_under (take 5 p) (where_key bits_cmp (is_from (drop 5 p) i) (entries c)) (where_key bits_cmp (is_past (take 5 p)) (entries m))
       (is_sorted-where_key bits_cmp (is_from (drop 5 p) i) (entries c) (entries_sorted c)) (is_sorted-where_key bits_cmp (is_past (take 5 p)) (entries m) (entries_sorted m))
       (λ s. below_found (take 5 p ++ s) (where_key bits_cmp (is_past (take 5 p)) (entries m)) (λ q f. past_less (take 5 p) s q (kept_true (is_past (take 5 p) q) (find bits_cmp q (entries m)) (ap is_some (sym (find-where_key bits_cmp (is_past (take 5 p)) q (bits_alike (is_past (take 5 p)) q) (entries m))) ∙ f)))))
-      (λ x. found (is_from p i) x ∙ by x (same (take 5 x) (take 5 p)) refl
+      (λ x. found_where m (is_from p i) x ∙ by x (same (take 5 x) (take 5 p)) refl
       ∙ sym (find-append_all x (under (take 5 p) (where_key bits_cmp (is_from (drop 5 p) i) (entries c))) (where_key bits_cmp (is_past (take 5 p)) (entries m))))
     where
-      found : (f : List Bool → Bool) (x : List Bool) → find bits_cmp x (where_key bits_cmp f (entries m)) ≡ cond (f x) (get m x) None
-      found f x = find-where_key bits_cmp f x (bits_alike f x) (entries m) ∙ ap (λ o. cond (f x) o None) (sym (get-entries m x))
-
       whole : (x : List Bool) → is_from p i x ≡ is_from (take 5 p ++ drop 5 p) i x
       whole x = ap (λ q. is_from q i x) (sym (front p h).1)
 
@@ -238,7 +235,7 @@ module _ {X : Type 0} where
           ∙ sym (find-where_key bits_cmp (is_from (drop 5 p) i) r (bits_alike (is_from (drop 5 p) i) r) (entries c))
           ∙ sym (find-under (take 5 p) r (where_key bits_cmp (is_from (drop 5 p) i) (entries c)))
           ∙ none_after _
-          ∙ ap (or_else _) (sym (found (is_past (take 5 p)) (take 5 p ++ r) ∙ ap (λ t. cond t (get m (take 5 p ++ r)) None) (past-under (take 5 p) r)))
+          ∙ ap (or_else _) (sym (found_where m (is_past (take 5 p)) (take 5 p ++ r) ∙ ap (λ t. cond t (get m (take 5 p ++ r)) None) (past-under (take 5 p) r)))
 
       by : (x : List Bool) (t : Bool) → same (take 5 x) (take 5 p) ≡ t
           → cond (is_from p i x) (get m x) None ≡ or_else (find bits_cmp x (under (take 5 p) (where_key bits_cmp (is_from (drop 5 p) i) (entries c)))) (find bits_cmp x (where_key bits_cmp (is_past (take 5 p)) (entries m)))
@@ -248,7 +245,7 @@ module _ {X : Type 0} where
       by x false e =
           let no : (k : List Bool) → x ≡ take 5 p ++ k → ⊥ = λ k q. not_same e (ap (take 5) q ∙ take_at (take 5 p) k 5 (front p h).0) in
           ap (λ t. cond t (get m x) None) (whole x ∙ from_apart i (take 5 p) (drop 5 p) x (not_begun (take 5 p) x no))
-          ∙ sym (found (is_past (take 5 p)) x)
+          ∙ sym (found_where m (is_past (take 5 p)) x)
           ∙ ap (λ o. or_else o (find bits_cmp x (where_key bits_cmp (is_past (take 5 p)) (entries m)))) (sym (find-apart (take 5 p) x no (where_key bits_cmp (is_from (drop 5 p) i) (entries c))))
 
   -- from q on there is in m: what is from p on in the node n, and then what is left of the frames
