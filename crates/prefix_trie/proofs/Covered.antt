@@ -67,29 +67,22 @@ count_begins (suc w) (false ∷ k) h =
 
 pub begins_through : (a b s : List Bool) → begins a b ≡ true → begins b s ≡ true → begins a s ≡ true
 begins_through [] b s e f = refl
-begins_through (x ∷ a) [] s e f = cc
-begins_through (x ∷ a) (y ∷ b) [] e f = cc
-begins_through (x ∷ a) (y ∷ b) (z ∷ s) e f = grind (arith, begins_through a b s)
+begins_through (x ∷ a) b s e f = grind (arith, begins_through a)
 
 -- what comes later begins nothing that comes before
 not_begun : (a b : List Bool) → bits_cmp a b ≡ Less → begins b a ≡ true → ⊥
 not_begun [] b e f = grind arith
-not_begun (x ∷ a) [] e f = cc
-not_begun (x ∷ a) (y ∷ b) e f = grind (arith, not_begun a b)
+not_begun (x ∷ a) b e f = grind (arith, not_begun a)
 
 -- of two beginnings of one string the one begins the other
 one_begins : (a b s : List Bool) → begins a s ≡ true → begins b s ≡ true → begins a b ≡ false → begins b a ≡ true
 one_begins [] b s e f g = cc
-one_begins (x ∷ a) [] s e f g = refl
-one_begins (x ∷ a) (y ∷ b) [] e f g = cc
-one_begins (x ∷ a) (y ∷ b) (z ∷ s) e f g = grind (arith, one_begins a b s)
+one_begins (x ∷ a) b s e f g = grind (arith, one_begins a)
 
 -- what a begins stands together
 between : (a b c : List Bool) → bits_cmp a b ≡ Less → bits_cmp b c ≡ Less → begins a c ≡ true → begins a b ≡ true
 between [] b c e f g = refl
-between (x ∷ a) [] c e f g = cc
-between (x ∷ a) (y ∷ b) [] e f g = cc
-between (x ∷ a) (y ∷ b) (z ∷ c) e f g = grind (arith, between a b c)
+between (x ∷ a) b c e f g = grind (arith, between a)
 
 -- no last one, or one that does not begin k
 abbrev pub IsOutside : Option (List Bool) → List Bool → Type 0

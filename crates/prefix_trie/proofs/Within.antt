@@ -32,10 +32,7 @@ begins_itself p = ap (begins p) (sym (append-nil p)) ∙ begins_on p []
 -- what lies between two strings inside p lies inside p
 between : (p q k j : List Bool) → begins p q ≡ true → is_lt (bits_cmp k q) ≡ false → is_lt (bits_cmp j k) ≡ false → begins p j ≡ true → begins p k ≡ true
 between [] q k j b l m c = refl
-between (x ∷ p) [] k j b l m c = cc
-between (x ∷ p) (y ∷ q) [] j b l m c = cc
-between (x ∷ p) (y ∷ q) (z ∷ k) [] b l m c = cc
-between (x ∷ p) (y ∷ q) (z ∷ k) (w ∷ j) b l m c = grind (arith, between p q k j)
+between (x ∷ p) q k j b l m c = grind (arith, between p)
 
 not_lower : (q k : List Bool) (i : Bool) → is_from q i k ≡ true → is_lt (bits_cmp k q) ≡ false
 not_lower q k true e = not-true _ e
@@ -45,8 +42,7 @@ not_lower q k false e = not_after q k (is_less (bits_cmp q k) e)
 from_itself : (p k : List Bool) → begins p k ≡ true → is_from p true k ≡ true
 from_itself [] [] h = refl
 from_itself [] (x ∷ k) h = refl
-from_itself (x ∷ p) [] h = cc
-from_itself (x ∷ p) (y ∷ k) h = grind (arith, from_itself p k)
+from_itself (x ∷ p) k h = grind (arith, from_itself p)
 
 pub all_inside : (p : List Bool) → (λ k. is_from p true k && begins p k) ≡ begins p
 all_inside p = λ i k. both_by (is_from p true k) (begins p k) (from_itself p k) i

@@ -95,11 +95,8 @@ left_false q n k e b = grind (arith, nat_tests)
 
 -- of two beginnings of a string the shorter one comes first
 begins_less : (s x q : List Bool) → begins s q ≡ true → begins x q ≡ true → length s < length x → bits_cmp s x ≡ Less
-begins_less [] [] q a b h = absurd (omega (arith, h))
-begins_less [] (y ∷ x) q a b h = refl
-begins_less (z ∷ s) [] q a b h = absurd (omega (arith, h))
-begins_less (z ∷ s) (y ∷ x) [] a b h = cc
-begins_less (z ∷ s) (y ∷ x) (w ∷ q) a b h = grind (arith, begins_less s x q)
+begins_less [] x q a b h = grind arith
+begins_less (z ∷ s) x q a b h = grind (arith, begins_less s)
 
 place_below : (s : List Bool) → length s < 5 → place_of s < 31
 place_below s h = omega (arith, place_bound 5 s h)

@@ -43,8 +43,7 @@ off_way_there q s l e = begins_elsewhere s q l (same_false (take 5 q) (take 5 s)
 -- a string begins with q where it is q, or goes on from q
 begins_split : (q x : List Bool) → begins q x ≡ (same x q || (begins (q ++ false ∷ []) x || begins (q ++ true ∷ []) x))
 begins_split [] x = grind arith
-begins_split (b ∷ q) [] = grind arith
-begins_split (b ∷ q) (y ∷ x) = grind (arith, begins_split q x)
+begins_split (b ∷ q) x = grind (arith, begins_split q)
 
 module _ {X : Type 0} where
   pub get-outside : (m : BitMap X) (q x : List Bool) → get (outside m q) x ≡ cond (not (begins q x)) (get m x) None

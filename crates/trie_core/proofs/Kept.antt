@@ -31,7 +31,4 @@ module _ {X : Type 0} where
   unfolding begun
   nodes_kept m q v h =
       ap (λ es. len (from_entries {R = bits_cmp} (fives_of es)) + 1) (entries-insert bits_total m q v)
-      ∙ ap (λ fs. len (from_entries {R = bits_cmp} fs) + 1) (written q v (entries m) (entries_sorted m) (stored m q h))
-    where
-      stored : (m : BitMap X) (q : List Bool) → IsSome (get m q) → IsSome (find bits_cmp q (entries m))
-      stored m q h = subst (λ o. IsSome o) (get-entries m q) h
+      ∙ ap (λ fs. len (from_entries {R = bits_cmp} fs) + 1) (written q v (entries m) (entries_sorted m) (subst (λ o. IsSome o) (get-entries m q) h))

@@ -31,11 +31,9 @@ place_bound (suc k) [] h = omega (arith, double k, pow_pos k)
 place_bound (suc k) (b ∷ bs) h = grind (arith, double k, pow_pos k, place_bound k bs)
 
 pub place_less : (k : ℕ) (xs ys : List Bool) → length xs < k → length ys < k → place_from k xs < place_from k ys → bits_cmp xs ys ≡ Less
-place_less k [] [] l m p = absurd (omega (arith, p))
-place_less k [] (y ∷ ys) l m p = refl
-place_less zero (x ∷ xs) ys l m p = absurd (omega (arith, l))
-place_less (suc k) (x ∷ xs) [] l m p = absurd (omega (arith, p))
-place_less (suc k) (x ∷ xs) (y ∷ ys) l m p = grind (arith, place_less k xs ys, place_bound k ys)
+place_less zero xs ys l m p = absurd (omega (arith, l))
+place_less (suc k) [] ys l m p = grind arith
+place_less (suc k) (x ∷ xs) ys l m p = grind (arith, place_less k xs, place_bound k)
 
 place_at_first : (k n : ℕ) → n < 2 ^ k - 1 → place_at (suc k) (suc n) ≡ false ∷ place_at k n
 place_at_first k n h = let e : nat_lt n (2 ^ k - 1) ≡ true = grind (arith, nat_tests) in ap (λ b. if b then (false ∷ place_at k n) else (true ∷ place_at k (n - (2 ^ k - 1)))) e

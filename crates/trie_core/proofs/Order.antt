@@ -25,8 +25,7 @@ less_right xs ys (z ∷ zs) e = bits_total.trans xs ys (ys ++ z ∷ zs) e (ap (�
 
 pub less_left : (xs ys zs : List Bool) → length ys ≤ length xs → bits_cmp xs ys ≡ Less → bits_cmp (xs ++ zs) ys ≡ Less
 less_left [] ys zs h e = grind arith
-less_left (x ∷ xs) [] zs h e = cc
-less_left (x ∷ xs) (y ∷ ys) zs h e = grind (arith, less_left xs ys zs)
+less_left (x ∷ xs) ys zs h e = grind (arith, less_left xs)
 
 pub less_trans : (xs ys zs : List Bool) → bits_cmp xs ys ≡ Less → bits_cmp ys zs ≡ Less → bits_cmp xs zs ≡ Less
 less_trans xs ys zs e f = bits_total.trans xs ys zs e f

@@ -201,8 +201,7 @@ from_apart i (y ∷ b) p (z ∷ x) e = grind (arith, from_apart i b p x)
 
 past_less : (b s q : List Bool) → is_past b q ≡ true → bits_cmp (b ++ s) q ≡ Less
 past_less [] s q e = let z = sym e ∙ past-under [] q in cc
-past_less (y ∷ b) s [] e = cc
-past_less (y ∷ b) s (z ∷ q) e = grind (arith, past_less b s q)
+past_less (y ∷ b) s q e = grind (arith, past_less b)
 
 not_begun : (b x : List Bool) → ((k : List Bool) → x ≡ b ++ k → ⊥) → begins b x ≡ false
 not_begun b x f = false_from_ne_true _ (λ e. f (drop (length b) x) (sym (take-append-drop (length b) x) ∙ ap (λ s. s ++ drop (length b) x) (begins_take b x e).1))
