@@ -1,8 +1,8 @@
 -- Lists of numbered things, with strings in place of the numbers.
-use Rattle.std.proofs.Common.{◌≡◌, ℕ, zero, suc, ◌+◌, ◌/◌, ◌%◌, ◌^◌, ◌<◌, ◌≤◌, Bool, true, false, cond, not, List, [], ◌∷◌, length, take, refl, sym, ap, subst, ◌∙◌, arith, inl, inr}
+use Rattle.std.proofs.Common.{◌≡◌, ℕ, zero, suc, ◌+◌, ◌/◌, ◌%◌, ◌^◌, ◌<◌, ◌≤◌, Bool, cond, not, List, [], ◌∷◌, length, take, refl, sym, ap, subst, ◌∙◌, arith, inl, inr}
 use Rattle.std.specs.Prelude.{T, Option, Some, None, count_ones}
 use Rattle.std.specs.declared.cmp.Ordering.{Ordering}
-use Rattle.std.specs.declared.cmp.Ordering.TheVariants.{Less, Equal, Greater}
+use Rattle.std.specs.declared.cmp.Ordering.TheVariants.{Less}
 use Rattle.std.specs.Ordering.{nat_cmp, eq_by_cmp, is_eq, ordering_reverse}
 use Rattle.std.specs.FinMap.{find, put, is_sorted}
 use Rattle.std.specs.FinMap.Entries.{below_all, by_order, where_key, find-put, find-where_key}
@@ -60,9 +60,7 @@ module _ {X : Type 0} where
   named_find f w n (e ∷ es) a h b = λ i. cond (is_eq (name_order a n e.0 h b.0 i)) (Some e.1) (named_find f w n es a h b.1 i)
 
   named_by : (f : ℕ → List Bool) (r : Ordering) (bs cs ds : List (ℕ × X)) → named f (by_order r bs cs ds) ≡ by_order r (named f bs) (named f cs) (named f ds)
-  named_by f Less bs cs ds = refl
-  named_by f Equal bs cs ds = refl
-  named_by f Greater bs cs ds = refl
+  named_by f r bs cs ds = grind arith
 
   named-put : (f : ℕ → List Bool) (w n : ℕ) (v : X) (es : List (ℕ × X)) → IsNaming f w → n < w → AllBelow w es → named f (put nat_cmp n v es) ≡ put bits_cmp (f n) v (named f es)
   named-put f w n v [] a h b = refl
@@ -75,8 +73,7 @@ module _ {X : Type 0} where
   named_put f w n v es a h b p = ap (find bits_cmp p) (named-put f w n v es a h b) ∙ find-put bits_cmp bits_total p (f n) v (named f es)
 
   named_if : (f : ℕ → List Bool) (b : Bool) (bs cs : List (ℕ × X)) → named f (cond b bs cs) ≡ cond b (named f bs) (named f cs)
-  named_if f true bs cs = refl
-  named_if f false bs cs = refl
+  named_if f b cs ds = grind arith
 
   -- those whose numbers pass the test have the names that pass it
   named-where : (f : ℕ → List Bool) (w : ℕ) (p : ℕ → Bool) (q : List Bool → Bool) (es : List (ℕ × X)) → ((k : ℕ) → k < w → p k ≡ q (f k)) → AllBelow w es → named f (where_key nat_cmp p es) ≡ where_key bits_cmp q (named f es)

@@ -84,8 +84,7 @@ pub number_less : (k : ℕ) (xs ys : List Bool) → length xs ≡ k → length y
 number_less k [] [] l m p = absurd (omega (arith, p))
 number_less k [] (y ∷ ys) l m p = refl
 number_less zero (x ∷ xs) ys l m p = absurd (omega (arith, l))
-number_less (suc k) (x ∷ xs) [] l m p = absurd (omega (arith, m))
-number_less (suc k) (x ∷ xs) (y ∷ ys) l m p = grind (arith, number_less k xs ys, number_bound k ys)
+number_less (suc k) (x ∷ xs) ys l m p = grind (arith, number_less k xs, number_bound k)
 
 -- strings of one length differ where their numbers do
 pub number_apart : (k : ℕ) (xs ys : List Bool) → length xs ≡ length ys → length xs ≤ k → number_from k xs ≡ number_from k ys → xs ≡ ys

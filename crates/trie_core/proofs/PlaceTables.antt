@@ -57,8 +57,7 @@ five_masks q l = mask_holds q (get_or masks (child_of q) 0) (each_holds 5 (λ q.
 pub begins_front : (k : ℕ) (p q : List Bool) → length p ≤ k → begins p (take k q) ≡ begins p q
 begins_front k [] q h = refl
 begins_front zero (x ∷ p) q h = absurd (omega (arith, h))
-begins_front (suc k) (x ∷ p) [] h = refl
-begins_front (suc k) (x ∷ p) (y ∷ q) h = grind (arith, begins_front k p q)
+begins_front (suc k) (x ∷ p) q h = grind (arith, begins_front k p)
 
 pub long_mask : (q : List Bool) → 5 ≤ length q → IsBeginMask q (get_or masks (child_of q) 0)
 long_mask q h p l =
@@ -125,15 +124,13 @@ inside_some q l = let a : nat_lt 0 (31 / 2 ^ length q) ≡ true = every_holds 5 
 past_front : (k : ℕ) (b r : List Bool) → length b ≤ k → is_past b (take k r) ≡ is_past b r
 past_front k [] r h = and_right (is_lt (bits_cmp [] (take k r))) false refl ∙ sym (and_right (is_lt (bits_cmp [] r)) false refl)
 past_front zero (x ∷ b) r h = absurd (omega (arith, h))
-past_front (suc k) (x ∷ b) [] h = refl
-past_front (suc k) (x ∷ b) (y ∷ r) h = grind (arith, past_front k b r)
+past_front (suc k) (x ∷ b) r h = grind (arith, past_front k b)
 
 -- a longer string is before or after q where its first bits are
 less_front : (k : ℕ) (q r : List Bool) → length q < k → (bits_cmp (take k r) q ≡ bits_cmp r q) × (bits_cmp q (take k r) ≡ bits_cmp q r)
 less_front zero q r h = absurd (omega (arith, h))
 less_front (suc k) [] r h = grind arith
-less_front (suc k) (x ∷ q) [] h = (refl, refl)
-less_front (suc k) (x ∷ q) (y ∷ r) h = grind (arith, less_front k q r)
+less_front (suc k) (x ∷ q) r h = grind (arith, less_front k q)
 
 -- a test of two strings of five bits, and of such a one and a short one
 five_hold : (t : List Bool → List Bool → Bool) → T (each_of 5 (λ q. each_of 5 (t q))) → (q r : List Bool) → length q ≡ 5 → length r ≡ 5 → t q r ≡ true

@@ -196,8 +196,7 @@ past-under (y ∷ b) q = grind (arith, past-under b q)
 -- a string that does not begin with b is after a string that does where it is past b
 from_apart : (i : Bool) (b p x : List Bool) → begins b x ≡ false → is_from (b ++ p) i x ≡ is_past b x
 from_apart i [] p x e = cc
-from_apart i (y ∷ b) p [] e = grind arith
-from_apart i (y ∷ b) p (z ∷ x) e = grind (arith, from_apart i b p x)
+from_apart i (y ∷ b) p x e = grind (arith, from_apart i b p)
 
 past_less : (b s q : List Bool) → is_past b q ≡ true → bits_cmp (b ++ s) q ≡ Less
 past_less [] s q e = let z = sym e ∙ past-under [] q in cc
