@@ -16,7 +16,6 @@ use Rattle.trie_core.proofs.Maps.{tail_rises, find_before}
 use Rattle.trie_core.proofs.Order.{starts_above}
 
 module _ {X : Type 0} where
-
   written_by : (q : List Bool) (v : X) (e : List Bool × X) (es : List (List Bool × X)) → T (is_sorted bits_cmp (e ∷ es)) → (IsSome (find bits_cmp q es) → fives_of (put bits_cmp q v es) ≡ fives_of es)
       → (r : Ordering) → bits_cmp q e.0 ≡ r → IsSome (cond (is_eq r) (Some e.1) (find bits_cmp q es)) → fives_of (by_order r ((q, v) ∷ e ∷ es) ((e.0, v) ∷ es) (e ∷ put bits_cmp q v es)) ≡ fives e.0 ++ fives_of es
   written_by q v e es s i Less r h = absurd (none_some (ap (λ o. cond (is_eq o) (Some e.1) (find bits_cmp q es)) (sym r) ∙ find_before q (e ∷ es) (starts_above q (e ∷ es) r s)) h)

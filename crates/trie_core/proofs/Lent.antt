@@ -19,7 +19,6 @@ use Rattle.trie_core.proofs.Seen.{IsSeen, viewed, value_at}
 use Rattle.trie_core.proofs.Changes.{value_slots, value_put_map, was_found, set_put, set_spare, absent}
 
 module _ {X : Type 0} where
-
   pub stored_here : {vb n : ℕ} {vs : List X} {cb : ℕ} {cs : List (Seen X)} {m : Seen X} (q : List Bool) → IsSeen vb vs cb cs m → length q < 5 → n ≡ place_of q → IsUnset n vb → IsSome (get m.entries q) → ⊥
   stored_here {vb} {n} {vs} q s h k u = none_some (sym (value_at q s h) ∙ ap (λ i. find nat_cmp i (at_places 32 0 vb vs)) (sym k) ∙ sym (missing n vb vs u))
 

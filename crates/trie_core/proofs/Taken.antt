@@ -17,7 +17,6 @@ from_zero : (i : ℕ) → 0 + i ≡ i
 from_zero i = omega arith
 
 module _ {X : Type 0} where
-
   -- nothing stands at place i, and k things before it
   pub record IsFree (i k bits : ℕ) (xs : List X) : Type 0 where
     pub within : k ≤ length xs
