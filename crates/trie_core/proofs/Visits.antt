@@ -11,7 +11,7 @@ use Rattle.ipnet_blocks.specs.BitStrings.{bits_cmp}
 use Rattle.trie_core.specs.Nodes.{BitMap, BitSet, Seen}
 use Rattle.trie_core.specs.InnerNodes.{under, node_map, IsNode}
 use Rattle.trie_core.specs.Count.{fives_from, fives, begun, found_in, visit_count, stands, standing_at, node_visits}
-use Rattle.trie_core.specs.InnerCount.{marked, spare_set}
+use Rattle.trie_core.specs.InnerCount.{spare_set}
 use Rattle.trie_core.proofs.Strings.{same, same-Decides, not_same, same_false}
 use Rattle.trie_core.proofs.Maps.{tail_rises, find-under, find-apart}
 use Rattle.trie_core.proofs.Order.{StartsAfter, found_long, found_get, each_node}

@@ -1,4 +1,4 @@
-use Rattle.std.proofs.Common.{◌+◌, ◌≤◌, length, ap, arith, refl}
+use Rattle.std.proofs.Common.{◌≤◌, length, ap, arith, refl}
 use Rattle.trie_core.specs.InnerCount.{all_nodes, total, entry_count}
 use Rattle.trie_core.proofs.Seen.{seen, height-read, entries_of, total_step, total-all}
 use Rattle.trie_core.proofs.node.Node.+counts.Goals as goal
