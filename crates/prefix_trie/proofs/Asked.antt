@@ -9,44 +9,35 @@ use Rattle.std.specs.List.Retain.{ReturnsInTurn}
 use Rattle.std.specs.FinMap.{find, get, remove, entries, is_sorted, entries_sorted, get-entries, get-remove}
 use Rattle.std.specs.FinMap.Entries.{where_key, below_all, same_entries, is_sorted-where_key, find-where_key}
 use Rattle.std.proofs.Math.ListN.{length-append}
-use Rattle.trie_core.proofs.Named.{less_differs}
+use Rattle.trie_core.proofs.Named.{less_differs, turned}
 use Rattle.ipnet_addr.proofs.Basics.{T-parts, less_from_T}
 use Rattle.trie_core.specs.Bits.{is_from}
 use Rattle.ipnet_blocks.specs.BitStrings.{bits_cmp}
-use Rattle.trie_core.proofs.Strings.{bits_total, bits_same, same, same-refl, same_false, append_none}
+use Rattle.trie_core.proofs.Strings.{bits_total, bits_same, same, same-refl, same_false}
 use Rattle.trie_core.specs.Nodes.{BitMap}
 use Rattle.trie_core.proofs.Maps.{tail_rises}
 use Rattle.trie_core.proofs.Frames.{bits_alike}
 use Rattle.prefix_trie.specs.Maps.{first_key}
 use Rattle.prefix_trie.specs.Retain.{CallableInTurn}
+use Rattle.std.proofs.lemmas.List.{append-nil}
+use Rattle.std.proofs.lemmas.Cmp.{tied_itself}
 
 -- ---- the order of strings
 
 not_before : (q : List Bool) → is_lt (bits_cmp q q) ≡ false
-not_before [] = refl
-not_before (true ∷ q) = not_before q
-not_before (false ∷ q) = not_before q
+not_before q = ap is_lt (tied_itself bits_total q)
 
 pub not_after : (p q : List Bool) → bits_cmp p q ≡ Less → is_lt (bits_cmp q p) ≡ false
-not_after [] [] e = cc
-not_after [] (y ∷ q) e = refl
-not_after (x ∷ p) [] e = cc
-not_after (true ∷ p) (true ∷ q) e = not_after p q e
-not_after (false ∷ p) (false ∷ q) e = not_after p q e
-not_after (false ∷ p) (true ∷ q) e = refl
-not_after (true ∷ p) (false ∷ q) e = cc
+not_after p q e = grind (arith, bits_total.antisymm q p)
 
 before_from : (p q : List Bool) (i : Bool) → bits_cmp p q ≡ Less → is_from q i p ≡ false
-before_from p q true e = ap (λ o. not (is_lt o)) e
-before_from p q false e = not_after p q e
+before_from p q i e = grind (arith, not_after p q)
 
 after_from : (p q : List Bool) (i : Bool) → bits_cmp p q ≡ Less → is_from p i q ≡ true
-after_from p q true e = ap not (not_after p q e)
-after_from p q false e = ap is_lt e
+after_from p q i e = grind (arith, not_after p q)
 
 here_from : (q : List Bool) (i : Bool) → is_from q i q ≡ i
-here_from q true = ap not (not_before q)
-here_from q false = not_before q
+here_from q i = grind (arith, not_before q)
 
 module _ {X : Type 0} where
   -- ---- an entry of a sorted list
@@ -66,19 +57,12 @@ module _ {X : Type 0} where
       → ((k : List Bool) → bits_cmp k e.0 ≡ Less → p k ≡ a) → p e.0 ≡ b → ((k : List Bool) → bits_cmp e.0 k ≡ Less → p k ≡ true) → where_key bits_cmp p (ks ++ e ∷ es) ≡ cond a ks [] ++ cond b (e ∷ es) es
   where_split p a b [] e es h f g k =
       let w = where_above p e.0 es (tail_rises e es h).1 k in
-      ap (λ t. cond t (e ∷ where_key bits_cmp p es) (where_key bits_cmp p es)) g ∙ ap (λ l. cond b (e ∷ l) l) w ∙ none a
-    where
-      none : (a : Bool) → cond b (e ∷ es) es ≡ cond a [] [] ++ cond b (e ∷ es) es
-      none true = refl
-      none false = refl
+      let none : cond b (e ∷ es) es ≡ cond a [] [] ++ cond b (e ∷ es) es = grind arith in
+      ap (λ t. cond t (e ∷ where_key bits_cmp p es) (where_key bits_cmp p es)) g ∙ ap (λ l. cond b (e ∷ l) l) w ∙ none
   where_split p a b (d ∷ ks) e es h f g k =
       let t = tail_rises d (ks ++ e ∷ es) h in
-      ap (λ c. cond c (d ∷ where_key bits_cmp p (ks ++ e ∷ es)) (where_key bits_cmp p (ks ++ e ∷ es))) (f d.0 (is_above d.0 ks e es t.1))
-      ∙ ap (λ l. cond a (d ∷ l) l) (where_split p a b ks e es t.0 f g k) ∙ more a
-    where
-      more : (a : Bool) → cond a (d ∷ cond a ks [] ++ cond b (e ∷ es) es) (cond a ks [] ++ cond b (e ∷ es) es) ≡ cond a (d ∷ ks) [] ++ cond b (e ∷ es) es
-      more true = refl
-      more false = refl
+      let more : cond a (d ∷ cond a ks [] ++ cond b (e ∷ es) es) (cond a ks [] ++ cond b (e ∷ es) es) ≡ cond a (d ∷ ks) [] ++ cond b (e ∷ es) es = grind arith in
+      ap (λ c. cond c (d ∷ where_key bits_cmp p (ks ++ e ∷ es)) (where_key bits_cmp p (ks ++ e ∷ es))) (f d.0 (is_above d.0 ks e es t.1)) ∙ ap (λ l. cond a (d ∷ l) l) (where_split p a b ks e es t.0 f g k) ∙ more
 
   from_here : (i : Bool) (ks : List (List Bool × X)) (e : List Bool × X) (es : List (List Bool × X)) → T (is_sorted bits_cmp (ks ++ e ∷ es)) → where_key bits_cmp (is_from e.0 i) (ks ++ e ∷ es) ≡ cond i (e ∷ es) es
   from_here i ks e es h = where_split (is_from e.0 i) false i ks e es h (λ k l. before_from k e.0 i l) (here_from e.0 i) (λ k l. after_from e.0 k i l)
@@ -91,12 +75,8 @@ module _ {X : Type 0} where
 
   entries-remove : (m : BitMap X) (q : List Bool) → entries (remove m q) ≡ where_key bits_cmp (λ k. not (same k q)) (entries m)
   entries-remove m q = same_entries bits_cmp bits_total bits_same _ _ (entries_sorted (remove m q)) (is_sorted-where_key bits_cmp (λ k. not (same k q)) (entries m) (entries_sorted m))
-      (λ x. sym (get-entries (remove m q) x) ∙ get-remove bits_total m q x ∙ ap (λ o. cond (same x q) None o) (get-entries m x) ∙ swap (same x q) (find bits_cmp x (entries m))
+      (λ x. sym (get-entries (remove m q) x) ∙ get-remove bits_total m q x ∙ ap (λ o. cond (same x q) None o) (get-entries m x) ∙ sym (turned (same x q) (find bits_cmp x (entries m)) None)
       ∙ sym (find-where_key bits_cmp (λ k. not (same k q)) x (bits_alike (λ k. not (same k q)) x) (entries m)))
-    where
-      swap : (b : Bool) (o : Option X) → cond b None o ≡ cond (not b) o None
-      swap true o = refl
-      swap false o = refl
 
   remove_here : (m : BitMap X) (ks : List (List Bool × X)) (e : List Bool × X) (es : List (List Bool × X)) → entries m ≡ ks ++ e ∷ es → entries (remove m e.0) ≡ ks ++ es
   remove_here m ks e es h =
@@ -146,16 +126,14 @@ module _ {F X : Type 0} (R : F → List Bool × X → Bool → F → Type 0) whe
       ap (λ o. left_count o n) e ∙ ap (λ l. length (where_key bits_cmp (is_from d.0 true) l)) h ∙ ap length (from_here true ks d es (subst (λ l. T (is_sorted bits_cmp l)) h (entries_sorted n)))
 
   items_more : (bs : List Bool) (es : List (List Bool × X)) (b : Bool) (e : List Bool × X) → length bs ≡ length es → items_where_true (bs ++ b ∷ []) (es ++ e ∷ []) ≡ items_where_true bs es ++ cond b (e ∷ []) []
-  items_more [] [] true e l = refl
-  items_more [] [] false e l = refl
+  items_more [] [] b e l = grind arith
   items_more [] (d ∷ es) b e l = absurd (omega arith)
   items_more (a ∷ bs) [] b e l = absurd (omega arith)
-  items_more (true ∷ bs) (d ∷ es) b e l = ap (λ k. d ∷ k) (items_more bs es b e (omega arith))
-  items_more (false ∷ bs) (d ∷ es) b e l = items_more bs es b e (omega arith)
+  items_more (a ∷ bs) (d ∷ es) b e l = grind (arith, items_more bs es b e)
 
   left_more : (n : BitMap X) (ks : List (List Bool × X)) (b : Bool) (e : List Bool × X) (es : List (List Bool × X)) → entries n ≡ ks ++ e ∷ es → entries (cond b n (remove n e.0)) ≡ (ks ++ cond b (e ∷ []) []) ++ es
   left_more n ks true e es h = h ∙ sym (append_assoc ks (e ∷ []) es)
-  left_more n ks false e es h = remove_here n ks e es h ∙ ap (λ l. l ++ es) (sym (append_none ks))
+  left_more n ks false e es h = remove_here n ks e es h ∙ ap (λ l. l ++ es) (sym (append-nil ks))
 
   -- the entry of the key that comes next
   record IsHere (q : List Bool) (n : BitMap X) (ks rest : List (List Bool × X)) : Type 0 where

@@ -40,8 +40,7 @@ count_all zero p f = ap (λ b. cond b 1 0) (f [])
 count_all (suc w) p f = omega (arith, count_all w (λ s. p (false ∷ s)) (λ s. f (false ∷ s)), count_all w (λ s. p (true ∷ s)) (λ s. f (true ∷ s)))
 
 one_most : (b : Bool) → cond b 1 0 ≤ 1
-one_most true = omega arith
-one_most false = omega arith
+one_most b = grind arith
 
 pub count_most : (w : ℕ) (p : List Bool → Bool) → count_strings w p ≤ 2 ^ w
 unfolding count_strings
@@ -68,48 +67,22 @@ count_begins (suc w) (false ∷ k) h =
 
 pub begins_through : (a b s : List Bool) → begins a b ≡ true → begins b s ≡ true → begins a s ≡ true
 begins_through [] b s e f = refl
-begins_through (x ∷ a) [] s e f = cc
-begins_through (x ∷ a) (y ∷ b) [] e f = cc
-begins_through (true ∷ a) (true ∷ b) (true ∷ s) e f = begins_through a b s e f
-begins_through (false ∷ a) (false ∷ b) (false ∷ s) e f = begins_through a b s e f
-begins_through (true ∷ a) (false ∷ b) s e f = cc
-begins_through (false ∷ a) (true ∷ b) s e f = cc
-begins_through (true ∷ a) (true ∷ b) (false ∷ s) e f = cc
-begins_through (false ∷ a) (false ∷ b) (true ∷ s) e f = cc
+begins_through (x ∷ a) b s e f = grind (arith, begins_through a)
 
 -- what comes later begins nothing that comes before
 not_begun : (a b : List Bool) → bits_cmp a b ≡ Less → begins b a ≡ true → ⊥
-not_begun [] [] e f = cc
-not_begun [] (y ∷ b) e f = cc
-not_begun (x ∷ a) [] e f = cc
-not_begun (true ∷ a) (true ∷ b) e f = not_begun a b e f
-not_begun (false ∷ a) (false ∷ b) e f = not_begun a b e f
-not_begun (true ∷ a) (false ∷ b) e f = cc
-not_begun (false ∷ a) (true ∷ b) e f = cc
+not_begun [] b e f = grind arith
+not_begun (x ∷ a) b e f = grind (arith, not_begun a)
 
 -- of two beginnings of one string the one begins the other
 one_begins : (a b s : List Bool) → begins a s ≡ true → begins b s ≡ true → begins a b ≡ false → begins b a ≡ true
 one_begins [] b s e f g = cc
-one_begins (x ∷ a) [] s e f g = refl
-one_begins (x ∷ a) (y ∷ b) [] e f g = cc
-one_begins (true ∷ a) (true ∷ b) (true ∷ s) e f g = one_begins a b s e f g
-one_begins (false ∷ a) (false ∷ b) (false ∷ s) e f g = one_begins a b s e f g
-one_begins (true ∷ a) (y ∷ b) (false ∷ s) e f g = cc
-one_begins (false ∷ a) (y ∷ b) (true ∷ s) e f g = cc
-one_begins (true ∷ a) (false ∷ b) (true ∷ s) e f g = cc
-one_begins (false ∷ a) (true ∷ b) (false ∷ s) e f g = cc
+one_begins (x ∷ a) b s e f g = grind (arith, one_begins a)
 
 -- what a begins stands together
 between : (a b c : List Bool) → bits_cmp a b ≡ Less → bits_cmp b c ≡ Less → begins a c ≡ true → begins a b ≡ true
 between [] b c e f g = refl
-between (x ∷ a) [] c e f g = cc
-between (x ∷ a) (y ∷ b) [] e f g = cc
-between (true ∷ a) (true ∷ b) (true ∷ c) e f g = between a b c e f g
-between (false ∷ a) (false ∷ b) (false ∷ c) e f g = between a b c e f g
-between (true ∷ a) (y ∷ b) (false ∷ c) e f g = cc
-between (false ∷ a) (y ∷ b) (true ∷ c) e f g = cc
-between (true ∷ a) (false ∷ b) (true ∷ c) e f g = cc
-between (false ∷ a) (true ∷ b) (false ∷ c) e f g = cc
+between (x ∷ a) b c e f g = grind (arith, between a)
 
 -- no last one, or one that does not begin k
 abbrev pub IsOutside : Option (List Bool) → List Bool → Type 0
@@ -125,24 +98,13 @@ outside_if bits k None r m t = tt
 outside_if bits k (Some b) r m t = sym m ∙ t
 
 passed : (a x c : Bool) → (a ≡ true → c ≡ true) → ((a || x) && not c) ≡ (x && not c)
-passed true true true f = refl
-passed true false true f = refl
-passed true x false f = let z = f refl in cc
-passed false x c f = refl
+passed a x c f = grind arith
 
 first_one : (a x : Bool) → cond (a || x) 1 0 ≡ cond a 1 0 + cond (x && not a) 1 0
-first_one true true = omega arith
-first_one true false = omega arith
-first_one false true = omega arith
-first_one false false = omega arith
+first_one a x = grind arith
 
 free_one : (a x c : Bool) → (a ≡ true → c ≡ true → ⊥) → (x ≡ true → c ≡ true → ⊥) → cond ((a || x) && not c) 1 0 ≡ cond a 1 0 + cond (x && not a) 1 0
-free_one true x true f g = absurd (f refl refl)
-free_one true true false f g = omega arith
-free_one true false false f g = omega arith
-free_one false true true f g = absurd (g refl refl)
-free_one false true false f g = omega arith
-free_one false false c f g = omega arith
+free_one a x c f g = grind arith
 
 module _ {X : Type 0} where
   -- whether a key of the entries begins s, and the last one counted does not

@@ -1,5 +1,5 @@
 -- How many entries a map has, and how long its keys are, after a change.
-use Rattle.std.proofs.Common.{◌≡◌, ℕ, zero, suc, ◌+◌, ◌-◌, ◌≤◌, Bool, true, false, cond, not, List, [], ◌∷◌, length, refl, sym, ap, ◌∙◌, arith}
+use Rattle.std.proofs.Common.{◌≡◌, ℕ, ◌+◌, ◌-◌, ◌≤◌, Bool, true, false, cond, not, List, [], ◌∷◌, length, refl, sym, ap, ◌∙◌, arith}
 use Rattle.std.specs.Prelude.{Option, Some, None, is_some}
 use Rattle.std.specs.Option.{IsSome}
 use Rattle.std.specs.FinMap.{len, get, insert, remove, empty, len-insert, len-remove, empty_of_len, get-empty, get-insert, get-remove}
@@ -17,25 +17,16 @@ module _ {X : Type 0} where
   pub one_more : (m : BitMap X) (q : List Bool) (v : X) (o : Option X) (b : Bool) → o ≡ get m q → is_some o ≡ b → len (insert m q v) ≡ cond b (len m) (len m + 1)
   one_more m q v o b e f = len-insert bits_total m q v ∙ ap (λ x. cond x (len m) (len m + 1)) (sym (ap is_some e) ∙ f)
 
-  not_empty_by : (m : BitMap X) (q : List Bool) (o : Option X) → o ≡ get m q → is_some o ≡ true → (n : ℕ) → len m ≡ n → 1 ≤ n
-  not_empty_by m q o e f zero h = let z : o ≡ None = e ∙ ap (λ k. get k q) (empty_of_len m h) ∙ get-empty bits_cmp q in cc (ap is_some z)
-  not_empty_by m q o e f (suc n) h = omega arith
-
   -- a map with a key has an entry
   pub not_empty : (m : BitMap X) (q : List Bool) (o : Option X) → o ≡ get m q → is_some o ≡ true → 1 ≤ len m
-  not_empty m q o e f = not_empty_by m q o e f (len m) refl
-
-  some_is : (o : Option X) → IsSome o → is_some o ≡ true
-  some_is None h = cc
-  some_is (Some x) h = refl
+  not_empty m q o e f = grind (arith, empty_of_len m, get-empty {X = X} bits_cmp q)
 
   pub kept_some : (b : Bool) (o : Option X) → is_some (cond b o None) ≡ true → is_some o ≡ true
-  kept_some true o e = e
-  kept_some false o e = cc
+  kept_some b o e = grind arith
 
   -- a write at a key that is there
   pub len_kept : (m : BitMap X) (q : List Bool) (v : X) → IsSome (get m q) → len (insert m q v) ≡ len m
-  len_kept m q v h = one_more m q v (get m q) true refl (some_is (get m q) h)
+  len_kept m q v h = one_more m q v (get m q) true refl h
 
   keys_by : (n : ℕ) (m : BitMap X) (q x : List Bool) (o : Option X) → KeysUpTo n m → length q ≤ n → (b : Bool) → same x q ≡ b → is_some (cond b o (get m x)) ≡ true → length x ≤ n
   keys_by n m q x o k h true e s = omega (arith, h, ap length ((same-Decides x q).0 e))
@@ -51,7 +42,7 @@ module _ {X : Type 0} where
   keys_empty n m e x s = let z = ap is_some (ap (λ w. get w x) e ∙ get-empty bits_cmp x) in cc
 
   pub keys_kept : (n : ℕ) (m : BitMap X) (q : List Bool) (v : X) → KeysUpTo n m → IsSome (get m q) → KeysUpTo n (insert m q v)
-  keys_kept n m q v k h = keys_insert n m (insert m q v) q v k (k q (some_is (get m q) h)) refl
+  keys_kept n m q v k h = keys_insert n m (insert m q v) q v k (k q h) refl
 
   pub keys_outside : (n : ℕ) (m w : BitMap X) (q : List Bool) → KeysUpTo n m → w ≡ outside m q → KeysUpTo n w
   keys_outside n m w q k e x s = k x (kept_some (not (begins q x)) (get m x) (sym (ap is_some (ap (λ y. get y x) e ∙ get-outside m q x)) ∙ s))

@@ -1,12 +1,11 @@
 -- The longest match of what a bit string governs.
-use Rattle.std.proofs.Common.{◌≡◌, ◌<◌, ◌≤◌, ◌+◌, ◌-◌, ℕ, Bool, List, length, take, None, sym, ap, ◌∙◌, arith}
-use Rattle.std.proofs.lemmas.List.{length-take-le}
+use Rattle.std.proofs.Common.{◌≡◌, ◌<◌, ◌≤◌, ◌+◌, ℕ, Bool, List, length, take, None, sym, ap, ◌∙◌, arith}
+use Rattle.std.proofs.lemmas.List.{length-take-le, take-take}
 use Rattle.std.specs.FinMap.{get}
 use native.Mathlib.Decide.{dec_le}
 use Rattle.ipnet_blocks.proofs.BitStrings.{begins_take, take_begins}
 use Rattle.trie_core.specs.Nodes.{BitMap}
 use Rattle.trie_core.specs.Search.{IsLongest}
-use Rattle.trie_core.proofs.Strings.{take_take}
 use Rattle.prefix_trie.specs.Laws.{GovernedMatch, IsGoverned}
 
 module _ {X : Type 0} (m : BitMap X) (q s : List Bool) (g : IsGoverned m q s) where
@@ -15,9 +14,7 @@ module _ {X : Type 0} (m : BitMap X) (q s : List Bool) (g : IsGoverned m q s) wh
 
   -- up to the length of q both have the same beginnings
   same : (k : ℕ) → k ≤ length q → get m (take k s) ≡ get m (take k q)
-  same k h =
-      let e : k + (length q - k) ≡ length q = omega (arith, h) in
-      ap (get m) (sym (take_take s k (length q - k)) ∙ ap (λ n. take k (take n s)) e ∙ ap (take k) (begins_take q s g.inside).1)
+  same k h = ap (get m) (sym (take-take k (length q) s h) ∙ ap (take k) (begins_take q s g.inside).1)
 
   -- no longer one is a key
   longer : (k : ℕ) → length q < k → k ≤ length s → get m (take k s) ≡ None

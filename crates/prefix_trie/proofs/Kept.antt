@@ -1,5 +1,5 @@
 -- What a closure is asked of keys, where another asks it of entries.
-use Rattle.std.proofs.Common.{◌≡◌, Bool, true, false, List, [], ◌∷◌, length, refl, ap, sym, ◌∙◌, arith}
+use Rattle.std.proofs.Common.{◌≡◌, Bool, List, [], ◌∷◌, length, refl, ap, sym, ◌∙◌, arith}
 use Rattle.std.proofs.lemmas.List.{map-append}
 use Rattle.std.specs.Prelude.{map}
 use Rattle.std.specs.List.{items_where_true, FoldsTo}
@@ -27,8 +27,7 @@ length-keys (e ∷ es) = omega (arith, length-keys es)
 keys-where : {K X : Type 0} (bs : List Bool) (es : List (K × X)) → map (λ e. e.0) (items_where_true bs es) ≡ items_where_true bs (map (λ e. e.0) es)
 keys-where [] es = refl
 keys-where (b ∷ bs) [] = refl
-keys-where (true ∷ bs) (e ∷ es) = ap (λ l. e.0 ∷ l) (keys-where bs es)
-keys-where (false ∷ bs) (e ∷ es) = keys-where bs es
+keys-where (b ∷ bs) (e ∷ es) = grind (arith, keys-where bs es)
 
 -- where each call of a closure at an entry is one of another at its key, the keys are kept that the other keeps
 pub keys_kept : {F G K X : Type 0} (R : F → K × X → Bool → F → Type 0) (S : G → K → Bool → G → Type 0) (state : F → G) → ((f : F) (e : K × X) (b : Bool) (g : F) → R f e b g → S (state f) e.0 b (state g))

@@ -1,5 +1,5 @@
 -- The key that comes next, and what a write leaves of it.
-use Rattle.std.proofs.Common.{◌≡◌, ℕ, ◌≤◌, Bool, true, false, cond, List, [], ◌∷◌, length, refl, sym, ap, subst, ◌∙◌}
+use Rattle.std.proofs.Common.{◌≡◌, ℕ, ◌≤◌, Bool, true, cond, List, [], ◌∷◌, length, refl, sym, ap, subst, ◌∙◌, arith}
 use Rattle.std.specs.Prelude.{Option, Some, None, is_some, IfSome}
 use Rattle.std.specs.Option.{IsSome}
 use Rattle.std.specs.Ordering.{eq_by_cmp}
@@ -35,8 +35,7 @@ module _ {X : Type 0} where
       ap is_some (get-entries m q) ∙ kept_some (p q) (find bits_cmp q (entries m)) (ap is_some g)
 
   written_some : (b : Bool) (w : X) (o : Option X) → IsSome o → IsSome (cond b (Some w) o)
-  written_some true w o h = refl
-  written_some false w o h = h
+  written_some b w o h = grind arith
 
   -- a write at one key leaves another where it is
   pub still : (m : BitMap X) (p : List Bool) (w : X) (n : ℕ) (o : Option (List Bool)) → IfSome o (λ q. (length q ≤ 128) × (length q ≤ n) × IsSome (get m q)) → IfSome o (λ q. (length q ≤ 128) × (length q ≤ n) × IsSome (get (insert m p w) q))

@@ -3,7 +3,7 @@ use Rattle.std.proofs.Common.{◌≡◌, inl, inr, Bool, true, false, cond, not,
 use Rattle.std.specs.Prelude.{Option, Some, None, is_some}
 use Rattle.std.specs.Option.{IsSome}
 use Rattle.std.specs.FinMap.{get, insert, len, empty, remove, get-empty, get-insert, get-remove, same_map}
-use Rattle.std.proofs.lemmas.Bool.{both_ways}
+use Rattle.std.proofs.lemmas.Bool.{both_ways, cases_Bool}
 use Rattle.ipnet_addr.proofs.Basics.{none_some}
 use Rattle.ipnet_blocks.specs.BitStrings.{bits_cmp, begins}
 use Rattle.trie_core.proofs.Strings.{bits_total, bits_same, same, same_false}
@@ -17,16 +17,13 @@ use Rattle.ipnet_blocks.proofs.BitStrings.{begins_on, begun_rest}
 use Rattle.trie_core.proofs.Inside.{get-outside}
 
 not_some : (o : Option (Unit {0})) → (is_some o ≡ true → ⊥) → o ≡ None
-not_some None h = refl
-not_some (Some x) h = absurd (h refl)
+not_some o h = grind arith
 
 of_other : (o : Option (Unit {0})) (b : Bool) → is_some (cond b None o) ≡ true → is_some o ≡ true
-of_other o true h = cc
-of_other o false h = h
+of_other o b h = grind arith
 
 of_same : (o : Option (Unit {0})) (b : Bool) → is_some (cond (not b) o None) ≡ true → (b ≡ false) × (is_some o ≡ true)
-of_same o true h = cc
-of_same o false h = (refl, h)
+of_same o b h = grind arith
 
 -- ---- where they stand
 
@@ -69,21 +66,19 @@ module _ {X : Type 0} where
 
   -- keys go
   pub idle_left : (lost : List Bool → Bool) (q : List Bool) (m : BitMap X) (a : BitSet) (n : BitMap X) (b : BitSet) → AreIdle m a → ((x : List Bool) → get m x ≡ None → get n x ≡ None) → IsLeft lost q a n b → AreIdle n b
-  idle_left lost q m a n b f k l s h = by (begins s q) refl
-    where
-      by : (t : Bool) → begins s q ≡ t → IsIdle n s
-      by true e = ((l.on s e).0 h).0
-      by false e = fewer m n s k (f s (of_other (get a s) (lost s) (sym (ap is_some (l.off s e)) ∙ h)))
+  idle_left lost q m a n b f k l s h = elim (cases_Bool (begins s q)) [
+    | inl e ↦ ((l.on s e).0 h).0
+    | inr e ↦ fewer m n s k (f s (of_other (get a s) (lost s) (sym (ap is_some (l.off s e)) ∙ h)))
+  ]
 
   pub idle_kept : (q : List Bool) (m : BitMap X) (a : BitSet) (n : BitMap X) (b : BitSet) → AreIdle m a → ((x : List Bool) → get m x ≡ None → get n x ≡ None) → IsKept q m a n b → AreIdle n b
-  idle_kept q m a n b f g k s h = by (begins s q) refl
-    where
-      by : (t : Bool) → begins s q ≡ t → IsIdle n s
-      by true e = elim ((k.on s e).0 h) [
-        | inl w ↦ fewer m n s g (f s w)
-        | inr w ↦ w.1
-      ]
-      by false e = fewer m n s g (f s (sym (ap is_some (k.off s e)) ∙ h))
+  idle_kept q m a n b f g k s h = elim (cases_Bool (begins s q)) [
+    | inl e ↦ elim ((k.on s e).0 h) [
+      | inl w ↦ fewer m n s g (f s w)
+      | inr w ↦ w.1
+    ]
+    | inr e ↦ fewer m n s g (f s (sym (ap is_some (k.off s e)) ∙ h))
+  ]
 
   pub fewer_removed : (m n : BitMap X) (q : List Bool) → n ≡ remove m q → (x : List Bool) → get m x ≡ None → get n x ≡ None
   fewer_removed m n q e x h = ap (λ k. get k x) e ∙ get-remove bits_total m q x ∙ ap (λ o. cond (same x q) None o) h ∙ no_choice (same x q)
@@ -99,11 +94,10 @@ module _ {X : Type 0} where
   -- ---- none comes where none was
 
   pub tidy_left : (lost : List Bool → Bool) (q : List Bool) (a : BitSet) (m : BitMap X) (b : BitSet) → IsLeft lost q a m b → a ≡ empty → b ≡ empty
-  tidy_left lost q a m b l e = same_map bits_total bits_same b empty (λ s. not_some (get b s) (λ h. by s h (begins s q) refl) ∙ sym (get-empty bits_cmp s))
+  tidy_left lost q a m b l e = same_map bits_total bits_same b empty (λ s. not_some (get b s) (λ h. elim (cases_Bool (begins s q)) [
+    | inl w ↦ let k = ((l.on s w).0 h).1 in nowhere _ k.1
+    | inr w ↦ nowhere s (of_other (get a s) (lost s) (sym (ap is_some (l.off s w)) ∙ h))
+  ]) ∙ sym (get-empty bits_cmp s))
     where
       nowhere : (s : List Bool) → is_some (get a s) ≡ true → ⊥
       nowhere s h = let z : false ≡ true = sym (ap is_some (ap (λ c. get c s) e ∙ get-empty bits_cmp s)) ∙ h in cc
-
-      by : (s : List Bool) → is_some (get b s) ≡ true → (t : Bool) → begins s q ≡ t → ⊥
-      by s h true w = let k = ((l.on s w).0 h).1 in nowhere _ k.1
-      by s h false w = nowhere s (of_other (get a s) (lost s) (sym (ap is_some (l.off s w)) ∙ h))

@@ -1,11 +1,11 @@
 -- The keys inside a bit string stand together in the order of a walk.
-use Rattle.std.proofs.Common.{◌≡◌, ◌<◌, ◌≤◌, Bool, true, false, cond, not, ◌&&◌, List, [], ◌∷◌, length, take, refl, sym, ap, ◌∙◌, arith}
+use Rattle.std.proofs.Common.{◌≡◌, ◌≤◌, Bool, true, false, cond, ◌&&◌, List, [], ◌∷◌, length, take, refl, sym, ap, ◌∙◌, arith, inl, inr}
 use Rattle.std.specs.Prelude.{T, Some, None}
 use Rattle.std.specs.declared.cmp.Ordering.TheVariants.{Less}
 use Rattle.std.specs.Ordering.{is_lt}
 use Rattle.std.specs.FinMap.{is_sorted}
 use Rattle.std.specs.FinMap.Entries.{where_key, below_all, is_sorted-where_key}
-use Rattle.std.proofs.lemmas.Bool.{false_from_ne_true, false≢true}
+use Rattle.std.proofs.lemmas.Bool.{false_from_ne_true, false≢true, not-true, cases_Bool}
 use Rattle.ipnet_addr.proofs.Basics.{T-parts, less_from_T}
 use Rattle.trie_core.specs.Bits.{is_from}
 use Rattle.ipnet_blocks.specs.BitStrings.{bits_cmp, begins}
@@ -14,6 +14,9 @@ use Rattle.trie_core.proofs.Maps.{tail_rises}
 use Rattle.trie_core.proofs.Frames.{where_twice}
 use Rattle.prefix_trie.specs.Maps.{first_key}
 use Rattle.prefix_trie.proofs.Asked.{not_after}
+use Rattle.trie_core.proofs.Order.{is_less}
+use Rattle.std.proofs.lemmas.List.{append-nil}
+use Rattle.ipnet_blocks.proofs.BitStrings.{begins_on}
 
 -- ---- strings
 
@@ -21,67 +24,31 @@ use Rattle.prefix_trie.proofs.Asked.{not_after}
 pub begins_first : (p k : List Bool) → length p ≤ length k → same p (take (length p) k) ≡ begins p k
 begins_first [] k h = refl
 begins_first (x ∷ p) [] h = absurd (omega arith)
-begins_first (true ∷ p) (true ∷ k) h = begins_first p k (omega arith)
-begins_first (false ∷ p) (false ∷ k) h = begins_first p k (omega arith)
-begins_first (true ∷ p) (false ∷ k) h = refl
-begins_first (false ∷ p) (true ∷ k) h = refl
-
-pub begins_longer : (p k : List Bool) → length k < length p → false ≡ begins p k
-begins_longer [] k h = absurd (omega arith)
-begins_longer (x ∷ p) [] h = refl
-begins_longer (true ∷ p) (true ∷ k) h = begins_longer p k (omega arith)
-begins_longer (false ∷ p) (false ∷ k) h = begins_longer p k (omega arith)
-begins_longer (true ∷ p) (false ∷ k) h = refl
-begins_longer (false ∷ p) (true ∷ k) h = refl
+begins_first (x ∷ p) (y ∷ k) h = grind (arith, begins_first p k)
 
 pub begins_itself : (p : List Bool) → begins p p ≡ true
-begins_itself [] = refl
-begins_itself (true ∷ p) = begins_itself p
-begins_itself (false ∷ p) = begins_itself p
+begins_itself p = ap (begins p) (sym (append-nil p)) ∙ begins_on p []
 
 -- what lies between two strings inside p lies inside p
 between : (p q k j : List Bool) → begins p q ≡ true → is_lt (bits_cmp k q) ≡ false → is_lt (bits_cmp j k) ≡ false → begins p j ≡ true → begins p k ≡ true
 between [] q k j b l m c = refl
-between (x ∷ p) [] k j b l m c = cc
-between (x ∷ p) (y ∷ q) [] j b l m c = cc
-between (x ∷ p) (y ∷ q) (z ∷ k) [] b l m c = cc
-between (true ∷ p) (true ∷ q) (true ∷ k) (true ∷ j) b l m c = between p q k j b l m c
-between (false ∷ p) (false ∷ q) (false ∷ k) (false ∷ j) b l m c = between p q k j b l m c
-between (true ∷ p) (false ∷ q) (z ∷ k) (w ∷ j) b l m c = cc
-between (false ∷ p) (true ∷ q) (z ∷ k) (w ∷ j) b l m c = cc
-between (true ∷ p) (true ∷ q) (false ∷ k) (w ∷ j) b l m c = cc
-between (true ∷ p) (true ∷ q) (true ∷ k) (false ∷ j) b l m c = cc
-between (false ∷ p) (false ∷ q) (true ∷ k) (false ∷ j) b l m c = cc
-between (false ∷ p) (false ∷ q) (z ∷ k) (true ∷ j) b l m c = cc
-
-is_less : (o : _) → is_lt o ≡ true → o ≡ Less
-is_less o e = less_from_T o (rw e tt)
+between (x ∷ p) q k j b l m c = grind (arith, between p)
 
 not_lower : (q k : List Bool) (i : Bool) → is_from q i k ≡ true → is_lt (bits_cmp k q) ≡ false
-not_lower q k true e = flip (is_lt (bits_cmp k q)) e
-  where
-    flip : (b : Bool) → not b ≡ true → b ≡ false
-    flip true h = sym h
-    flip false h = refl
+not_lower q k true e = not-true _ e
 not_lower q k false e = not_after q k (is_less (bits_cmp q k) e)
 
 -- what lies inside p comes from p on
 from_itself : (p k : List Bool) → begins p k ≡ true → is_from p true k ≡ true
 from_itself [] [] h = refl
 from_itself [] (x ∷ k) h = refl
-from_itself (x ∷ p) [] h = cc
-from_itself (true ∷ p) (true ∷ k) h = from_itself p k h
-from_itself (false ∷ p) (false ∷ k) h = from_itself p k h
-from_itself (true ∷ p) (false ∷ k) h = cc
-from_itself (false ∷ p) (true ∷ k) h = cc
+from_itself (x ∷ p) k h = grind (arith, from_itself p)
 
 pub all_inside : (p : List Bool) → (λ k. is_from p true k && begins p k) ≡ begins p
 all_inside p = λ i k. both_by (is_from p true k) (begins p k) (from_itself p k) i
   where
     both_by : (a b : Bool) → (b ≡ true → a ≡ true) → (a && b) ≡ b
-    both_by true b h = refl
-    both_by false true h = h refl
-    both_by false false h = refl
+    both_by a b h = grind arith
 
 module _ {X : Type 0} where
   none_later : (p n : List Bool) (es : List (List Bool × X)) → T (below_all bits_cmp n es) → ((k : List Bool) → bits_cmp n k ≡ Less → begins p k ≡ false) → where_key bits_cmp (begins p) es ≡ []
@@ -93,14 +60,12 @@ module _ {X : Type 0} where
   inside_by : (p q : List Bool) (i : Bool) (k : List Bool) (fs : List (List Bool × X)) → begins p q ≡ true → is_from q i k ≡ true → T (below_all bits_cmp k fs) → begins p k ≡ false → where_key bits_cmp (begins p) fs ≡ []
   inside_by p q i k fs b f h e = none_later p k fs h (λ j l. false_from_ne_true (begins p j) (λ c. false≢true (sym e ∙ between p q k j b (not_lower q k i f) (not_after k j l) c)))
 
-  true_by : (p : List Bool → Bool) (d : List Bool × X) (es : List (List Bool × X)) (e : List Bool × X) (fs : List (List Bool × X)) → (where_key bits_cmp p es ≡ e ∷ fs → p e.0 ≡ true)
-      → (b : Bool) → p d.0 ≡ b → cond b (d ∷ where_key bits_cmp p es) (where_key bits_cmp p es) ≡ e ∷ fs → p e.0 ≡ true
-  true_by p d es e fs r true b h = let w : d ≡ e = cc in ap (λ x. p x.0) (sym w) ∙ b
-  true_by p d es e fs r false b h = r h
-
   where_true : (p : List Bool → Bool) (es : List (List Bool × X)) (e : List Bool × X) (fs : List (List Bool × X)) → where_key bits_cmp p es ≡ e ∷ fs → p e.0 ≡ true
   where_true p [] e fs h = cc
-  where_true p (d ∷ es) e fs h = true_by p d es e fs (where_true p es e fs) (p d.0) refl h
+  where_true p (d ∷ es) e fs h = elim (cases_Bool (p d.0)) [
+    | inl b ↦ let w : d ∷ where_key bits_cmp p es ≡ e ∷ fs = ap (λ t. cond t (d ∷ where_key bits_cmp p es) (where_key bits_cmp p es)) (sym b) ∙ h in let v : d ≡ e = cc in ap (λ x. p x.0) (sym v) ∙ b
+    | inr b ↦ where_true p es e fs (ap (λ t. cond t (d ∷ where_key bits_cmp p es) (where_key bits_cmp p es)) (sym b) ∙ h)
+  ]
 
   stays_by : (p k : List Bool) (fs : List (List Bool × X)) → Some k ≡ first_key fs → begins p k ≡ true → Some k ≡ first_key (where_key bits_cmp (begins p) fs)
   stays_by p k [] e b = cc

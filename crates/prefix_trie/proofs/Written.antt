@@ -1,5 +1,5 @@
 -- What an entry becomes as its value is written.
-use Rattle.std.proofs.Common.{◌≡◌, Bool, true, false, cond, List, refl, sym, ap, subst, ◌∙◌}
+use Rattle.std.proofs.Common.{◌≡◌, Bool, cond, List, refl, sym, ap, subst, ◌∙◌, arith}
 use Rattle.std.specs.Prelude.{Option, Some, None, MatchOption, is_some, IsTrue}
 use Rattle.std.specs.Ordering.{eq_by_cmp}
 use Rattle.std.specs.Option.{IsSome}
@@ -51,8 +51,7 @@ stored_at m q r n v f e s k = record { map = e ∙ ap (λ t. insert m.entries t 
 
 module _ {X : Type 0} (m : BitMap X) (q : List Bool) where
   same_other : (x : List Bool) (v w : X) (b : Bool) (o : Option X) → cond b (Some w) (cond b (Some v) o) ≡ cond b (Some w) o
-  same_other x v w true o = refl
-  same_other x v w false o = refl
+  same_other x v w b o = grind arith
 
   -- a second write at a key
   pub insert-twice : (v w : X) → insert (insert m q v) q w ≡ insert m q w

@@ -1,29 +1,28 @@
 -- What a change of a node's words and lists makes of it.
-use Rattle.std.proofs.Common.{◌≡◌, ℕ, zero, suc, ◌+◌, ◌-◌, ◌/◌, ◌^◌, ◌<◌, ◌≤◌, Bool, true, false, cond, List, [], ◌∷◌, length, take, drop, get_or, set, refl, sym, ap, subst, ◌∙◌, arith}
+use Rattle.std.proofs.Common.{◌≡◌, ℕ, zero, suc, ◌+◌, ◌-◌, ◌/◌, ◌^◌, ◌<◌, ◌≤◌, Bool, true, false, List, [], ◌∷◌, length, take, drop, get_or, set, refl, sym, ap, subst, ◌∙◌, arith}
 use Rattle.std.specs.Prelude.{max, Some, None, count_ones}
 use Rattle.std.specs.List.{remove}
-use Rattle.std.specs.declared.cmp.Ordering.{Ordering}
-use Rattle.std.specs.declared.cmp.Ordering.TheVariants.{Less, Equal, Greater}
-use Rattle.std.specs.Ordering.{nat_cmp, is_eq}
+use Rattle.std.specs.Ordering.{nat_cmp}
 use Rattle.std.specs.FinMap.{find, get, put, empty, len, empty_of_len}
 use Rattle.std.specs.FinMap as map
-use Rattle.std.specs.FinMap.Entries.{by_order}
 use Rattle.std.proofs.Math.ListN.{length-drop}
 use Rattle.ipnet_blocks.specs.BitStrings.{bits_cmp}
 use Rattle.trie_core.specs.InnerPlaces.{place_of, child_of, child_string, at_places, without, named, child_list, IsSlot, IsUnset}
 use Rattle.trie_core.specs.Nodes.{BitMap, Seen}
 use Rattle.trie_core.specs.InnerNodes.{node_height, child_map, HasSlots}
 use Rattle.trie_core.specs.Count.{nodes}
-use Rattle.trie_core.specs.InnerCount.{spare_count, all_nodes, total, spare_of, spare_if, spare_set}
-use Rattle.trie_core.proofs.Strings.{same-Decides}
-use Rattle.trie_core.proofs.Maps.{get_none, value_put, value_taken, child_put, child_taken, insert_changes}
+use Rattle.trie_core.specs.InnerCount.{spare_count, all_nodes, total, spare_of, spare_if, spare_set, entry_count}
+use Rattle.trie_core.proofs.Maps.{get_none, value_put, value_taken, child_put, child_taken, ListChanges, get-written}
 use Rattle.trie_core.proofs.Count.{things, nodes_empty}
 use Rattle.trie_core.proofs.Numbers.{number_bound}
-use Rattle.trie_core.proofs.Taken.{IsTaken, taken, missing}
+use Rattle.trie_core.proofs.Taken.{IsTaken, taken, missing, taken_out}
 use Rattle.trie_core.proofs.Named.{is_node, child_things, child_found, value_put_in, value_taken_out, child_put_in, child_taken_out}
 use Rattle.trie_core.proofs.Marks.{marked_get, set-same}
-use Rattle.trie_core.proofs.Seen.{IsSeen, map_of, viewed, counted, total-set, height-set, height-read, below_at, has_no_child}
+use Rattle.trie_core.proofs.Seen.{IsSeen, map_of, viewed, counted, total-set, height-set, height-read, below_at, has_no_child, total-append, entries_at, entries_of}
 use Rattle.trie_core.proofs.Searches.{no_child_get}
+use Rattle.std.proofs.lemmas.Bool.Decides.{nat_tests}
+use Rattle.std.proofs.Math.Seq.{split_at}
+use Rattle.std.proofs.lemmas.Option.{none-some}
 
 pub set_removed : {Y : Type 0} (xs : List Y) (i : ℕ) (y : Y) → remove (set xs i y) i ≡ remove xs i
 set_removed [] i y = refl
@@ -33,13 +32,15 @@ set_removed (x ∷ xs) (suc i) y = ap (λ ys. x ∷ ys) (set_removed xs i y)
 pub depth_rest : (q : List Bool) → 5 ≤ length q → length (drop 5 q) / 5 + 1 ≡ length q / 5
 depth_rest q h = let e = length-drop 5 q in omega arith
 
+spare_if_not : (n : ℕ) → (n ≡ 0 → ⊥) → spare_if n ≡ 0
+spare_if_not zero h = absurd (h refl)
+spare_if_not (suc n) h = refl
+
 module _ {X : Type 0} where
   -- ---- sums and heights
 
   pub total-remove : (f : Seen X → ℕ) (cs : List (Seen X)) (i : ℕ) (d : Seen X) → i < length cs → total f (remove cs i) + f (get_or cs i d) ≡ total f cs
-  total-remove f [] i d h = absurd (omega arith)
-  total-remove f (e ∷ cs) zero d h = omega arith
-  total-remove f (e ∷ cs) (suc i) d h = omega (arith, total-remove f cs i d (omega arith))
+  total-remove f cs i d h = omega (arith, ap (total f) (split_at cs i d h), total-append f (take i cs) (get_or cs i d ∷ drop (suc i) cs), total-append f (take i cs) (drop (suc i) cs))
 
   pub height-remove : (cs : List (Seen X)) (i : ℕ) → node_height (remove cs i) ≤ node_height cs
   height-remove [] zero = omega arith
@@ -47,47 +48,27 @@ module _ {X : Type 0} where
   height-remove (e ∷ cs) zero = omega arith
   height-remove (e ∷ cs) (suc i) = omega (arith, height-remove cs i)
 
-  put_total_by : (f : Seen X → ℕ) (g : ℕ → List Bool) (n : ℕ) (d : Seen X) (e : ℕ × Seen X) (es : List (ℕ × Seen X)) → (find nat_cmp n es ≡ None → total f (things (named g (put nat_cmp n d es))) ≡ total f (things (named g es)) + f d)
-      → (r : Ordering) → cond (is_eq r) (Some e.1) (find nat_cmp n es) ≡ None → total f (things (named g (by_order r ((n, d) ∷ e ∷ es) ((e.0, d) ∷ es) (e ∷ put nat_cmp n d es)))) ≡ f e.1 + total f (things (named g es)) + f d
-  put_total_by f g n d e es i Less h = omega arith
-  put_total_by f g n d e es i Equal h = cc
-  put_total_by f g n d e es i Greater h = omega (arith, i h)
-
   put_total : (f : Seen X → ℕ) (g : ℕ → List Bool) (n : ℕ) (d : Seen X) (es : List (ℕ × Seen X)) → find nat_cmp n es ≡ None → total f (things (named g (put nat_cmp n d es))) ≡ total f (things (named g es)) + f d
   put_total f g n d [] h = omega arith
-  put_total f g n d (e ∷ es) h = put_total_by f g n d e es (put_total f g n d es) (nat_cmp n e.0) h
-
-  put_height_by : (g : ℕ → List Bool) (n : ℕ) (d : Seen X) (e : ℕ × Seen X) (es : List (ℕ × Seen X)) → node_height (things (named g (put nat_cmp n d es))) ≤ max (node_height (things (named g es))) d.levels
-      → (r : Ordering) → node_height (things (named g (by_order r ((n, d) ∷ e ∷ es) ((e.0, d) ∷ es) (e ∷ put nat_cmp n d es)))) ≤ max (max e.1.levels (node_height (things (named g es)))) d.levels
-  put_height_by g n d e es i Less = omega arith
-  put_height_by g n d e es i Equal = omega arith
-  put_height_by g n d e es i Greater = omega (arith, i)
+  put_total f g n d (e ∷ es) h = grind (arith, nat_tests, put_total f g n d es)
 
   put_height : (g : ℕ → List Bool) (n : ℕ) (d : Seen X) (es : List (ℕ × Seen X)) → node_height (things (named g (put nat_cmp n d es))) ≤ max (node_height (things (named g es))) d.levels
   put_height g n d [] = omega arith
-  put_height g n d (e ∷ es) = put_height_by g n d e es (put_height g n d es) (nat_cmp n e.0)
+  put_height g n d (e ∷ es) = grind (arith, nat_tests, put_height g n d es)
 
   -- ---- spare children
 
-  spare_some_by : (m : BitMap X) (q : List Bool) (v : X) → get m q ≡ Some v → (n : ℕ) → len m ≡ n → spare_if n ≡ 0
-  spare_some_by m q v f zero e = let z : None ≡ Some v = sym (ap (λ k. get k q) (empty_of_len m e) ∙ get_none q) ∙ f in cc
-  spare_some_by m q v f (suc n) e = refl
-
   -- a map that got a key is not spare
   pub spare_insert : {d : BitMap X} (m : BitMap X) (q : List Bool) (v : X) → d ≡ map.insert m q v → spare_if (len d) ≡ 0
-  spare_insert {d} m q v e = spare_some_by d q v (ap (λ k. get k q) e ∙ insert_changes m q v q ∙ ap (λ b. cond b (Some v) (get m q)) ((same-Decides q q).1 refl)) (len d) refl
+  spare_insert {d} m q v e = spare_if_not (len d) (λ z. none-some v (sym (ap (λ k. get k q) (empty_of_len d z) ∙ get_none q) ∙ ap (λ k. get k q) e ∙ get-written m q v))
 
   -- a node that is not bare has a key or a spare node
   pub not_bare : (d : Seen X) (b : Bool) → ((d.entries ≡ empty) × (spare_count d ≡ 0) → b ≡ true) → b ≡ false → spare_count d ≡ 0 → len d.entries ≡ 0 → ⊥
   not_bare d b h f s e = let z : true ≡ false = sym (h (empty_of_len d.entries e, s)) ∙ f in cc
 
-  spare_kept_by : (d : Seen X) (n : ℕ) → (len d.entries ≡ 0 → ⊥) → len d.entries ≡ n → spare_if n ≡ 0
-  spare_kept_by d zero h e = absurd (h e)
-  spare_kept_by d (suc n) h e = refl
-
   -- a child that is not bare, where none below it is spare
   pub spare_kept : (d : Seen X) (b : Bool) → spare_count d ≡ 0 → ((d.entries ≡ empty) × (spare_count d ≡ 0) → b ≡ true) → b ≡ false → spare_of d ≡ 0
-  spare_kept d b s h f = omega (arith, s, spare_kept_by d (len d.entries) (not_bare d b h f s) refl)
+  spare_kept d b s h f = omega (arith, s, spare_if_not (len d.entries) (not_bare d b h f s))
 
   pub new_nodes : (m : Seen X) → m.entries ≡ empty → spare_count m ≡ 0 → all_nodes m ≡ 1
   new_nodes m e z = omega (arith, ap nodes e, nodes_empty X, z)
@@ -96,6 +77,9 @@ module _ {X : Type 0} where
 
   pub value_slots : {vb wb : ℕ} {vs ws : List X} {cb : ℕ} {cs : List (Seen X)} {m : Seen X} → IsSeen vb vs cb cs m → count_ones wb ≡ length ws → wb < 2 ^ 31 → HasSlots wb ws cb cs
   value_slots s e h = record { values_counted = e; values_below = h; children_counted = s.slots.children_counted; children_below = s.slots.children_below }
+
+  pub child_slots : {vb cb db : ℕ} {vs : List X} {cs ds : List (Seen X)} → HasSlots vb vs cb cs → count_ones db ≡ length ds → db < 2 ^ 32 → HasSlots vb vs db ds
+  child_slots s e h = record { values_counted = s.values_counted; values_below = s.values_below; children_counted = e; children_below = h }
 
   pub value_put_map : {vb wb n : ℕ} {vs ws : List X} {cb : ℕ} {cs : List (Seen X)} {m : Seen X} (q : List Bool) (v : X) → IsSeen vb vs cb cs m → HasSlots wb ws cb cs → length q < 5 → n ≡ place_of q → at_places 32 0 wb ws ≡ put nat_cmp n v (at_places 32 0 vb vs) → map_of wb ws cb cs ≡ map.insert m.entries q v
   value_put_map {vb} {wb} {n} {vs} {ws} {cb} {cs} q v s t h k e =
@@ -139,7 +123,7 @@ module _ {X : Type 0} where
   pub set_spare : {vb at : ℕ} {vs : List X} {cb : ℕ} {cs : List (Seen X)} {m : Seen X} (q : List Bool) (d : Seen X) → IsSeen vb vs cb cs m → 5 ≤ length q → IsTaken (child_of q) at cb cs → ((r : List Bool) → marked_get (Some d) r ≡ marked_get (find bits_cmp (take 5 q) (child_list cb cs)) r)
       → spare_set (child_list cb (set cs at d)) ≡ m.spares
   set_spare {vb} {at} {vs} {cb} {cs} q d s h t f =
-      set-same q (Some d) s.node (is_node vb vs cb (set cs at d) s.slots.values_below s.slots.children_below) (child_put_in q d cb cb cs (set cs at d) h s.slots.children_below (t.written d)) f ∙ s.spare
+      set-same q (Some d) s.node (is_node vb vs cb (set cs at d) s.slots.values_below s.slots.children_below) h (child_put_in q d cb cb cs (set cs at d) h s.slots.children_below (t.written d)) f ∙ s.spare
 
   pub set_height : {vb : ℕ} {vs : List X} {cb : ℕ} {cs : List (Seen X)} {m : Seen X} (at : ℕ) (d : Seen X) → IsSeen vb vs cb cs m → node_height (set cs at d) + 1 ≤ max m.levels (d.levels + 1)
   set_height {cs = cs} at d s = omega (arith, height-set cs at d, s.height)
@@ -186,23 +170,27 @@ module _ {X : Type 0} where
 
   -- ---- the child on the way goes
 
-  pub record IsChildless (q : List Bool) (m : Seen X) (vb : ℕ) (vs : List X) (cb : ℕ) (cs : List (Seen X)) (e : Seen X) : Type 0 where
-    pub slots : HasSlots vb vs cb cs
-    pub map : map_of vb vs cb cs ≡ map.remove m.entries q
-    pub count : all_nodes (viewed vb vs cb cs) + all_nodes e ≡ all_nodes m
-    pub height : node_height cs + 1 ≤ m.levels
+  pub record IsChildless (q : List Bool) (m : Seen X) (vb : ℕ) (vs : List X) (cb : ℕ) (cs : List (Seen X)) (db : ℕ) (ds : List (Seen X)) (e : Seen X) : Type 0 where
+    pub slots : HasSlots vb vs db ds
+    pub changes : ListChanges (child_list cb cs) (take 5 q) None (child_list db ds)
+    pub entries : len (map_of vb vs db ds) + len e.entries ≡ len m.entries
+    pub count : all_nodes (viewed vb vs db ds) + all_nodes e ≡ all_nodes m
+    pub height : node_height ds + 1 ≤ m.levels
 
-  pub pruned : {vb at b : ℕ} {vs : List X} {cb : ℕ} {cs ds : List (Seen X)} {m : Seen X} (q : List Bool) (e d : Seen X) → IsSeen vb vs cb cs m → 5 ≤ length q → IsTaken (child_of q) at cb cs → e ≡ get_or cs at e → d.entries ≡ map.remove e.entries (drop 5 q) → d.entries ≡ empty → b ≡ 2 ^ child_of q → ds ≡ remove (set cs at d) at
-      → IsChildless q m vb vs (cb - b) ds e
-  pruned {vb} {at} {b} {vs} {cb} {cs} {ds} {m} q e d s h t r f z k l =
-      let w : ds ≡ remove cs at = l ∙ set_removed cs at d in
-      let below : cb - 2 ^ child_of q < 2 ^ 32 = omega (arith, s.slots.children_below) in
-      let slots : HasSlots vb vs (cb - 2 ^ child_of q) (remove cs at) = record { values_counted = s.slots.values_counted; values_below = s.slots.values_below; children_counted = t.ones; children_below = below } in
-      let p : IsChildless q m vb vs (cb - 2 ^ child_of q) (remove cs at) e = record {
-        slots = slots;
-        map = child_taken q None s.node (is_node vb vs (cb - 2 ^ child_of q) (remove cs at) s.slots.values_below below) h (child_taken_out q cb (cb - 2 ^ child_of q) cs (remove cs at) h s.slots.children_below t.removed)
-            (sym z ∙ f ∙ ap (λ o. map.remove (child_map o) (drop 5 q)) (sym (was_found q e s h t r))) ∙ ap (λ x. map.remove x q) s.map;
-        count = omega (arith, counted vb vs (cb - 2 ^ child_of q) (remove cs at) slots, total-remove all_nodes cs at e t.within, ap all_nodes r, s.count);
-        height = omega (arith, height-remove cs at, s.height);
-      } in
-      subst (λ (x : ℕ × List (Seen X)). IsChildless q m vb vs (cb - x.0) x.1 e) (λ i. (sym k i, sym w i)) p
+  pub childless : {vb at b : ℕ} {vs : List X} {cb : ℕ} {cs ds : List (Seen X)} {m : Seen X} (q : List Bool) (e : Seen X) → IsSeen vb vs cb cs m → 5 ≤ length q → IsTaken (child_of q) at cb cs → e ≡ get_or cs at e → b ≡ 2 ^ child_of q → ds ≡ remove cs at → IsChildless q m vb vs cb cs (cb - b) ds e
+  childless {vb} {at} {b} {vs} {cb} {cs} {ds} q e s h t r k l =
+      let o = taken_out (child_of q) at cb b cs ds t k l in
+      let c = child_slots s.slots o.1 (omega (arith, s.slots.children_below)) in
+      record {
+        slots = c;
+        changes = child_taken_out q cb (cb - b) cs ds h s.slots.children_below o.0;
+        entries = omega (arith, entries_at vb vs (cb - b) ds c, ap (total entry_count) l, total-remove entry_count cs at e t.within, ap entry_count r, entries_of s);
+        count = omega (arith, counted vb vs (cb - b) ds c, ap (total all_nodes) l, total-remove all_nodes cs at e t.within, ap all_nodes r, s.count);
+        height = omega (arith, ap node_height l, height-remove cs at, s.height);
+      }
+
+  -- once the key is out of it, with which it is empty
+  pub pruned : {vb at db : ℕ} {vs : List X} {cb : ℕ} {cs ds : List (Seen X)} {m : Seen X} (q : List Bool) (e d : Seen X) → IsSeen vb vs cb cs m → 5 ≤ length q → IsTaken (child_of q) at cb cs → e ≡ get_or cs at e → IsChildless q m vb vs cb cs db ds e → d.entries ≡ map.remove e.entries (drop 5 q) → d.entries ≡ empty
+      → map_of vb vs db ds ≡ map.remove m.entries q
+  pruned {vb} {db = db} {vs = vs} {ds = ds} q e d s h t r p f z =
+      child_taken q None s.node (is_node vb vs db ds p.slots.values_below p.slots.children_below) h p.changes (sym z ∙ f ∙ ap (λ o. map.remove (child_map o) (drop 5 q)) (sym (was_found q e s h t r))) ∙ ap (λ x. map.remove x q) s.map

@@ -1,31 +1,26 @@
 -- The nodes that a node's map needs are its own and those that its children's maps need.
-use Rattle.std.proofs.Common.{◌≡◌, ℕ, zero, suc, ◌+◌, ◌*◌, ◌/◌, ◌<◌, ◌≤◌, Bool, true, false, cond, ◌||◌, ◌&&◌, List, [], ◌∷◌, ◌++◌, length, take, drop, refl, sym, ap, subst, ◌∙◌, arith}
+use Rattle.std.proofs.Common.{◌≡◌, ℕ, zero, suc, ◌+◌, ◌*◌, ◌/◌, ◌<◌, ◌≤◌, Bool, true, false, cond, ◌||◌, ◌&&◌, List, [], ◌∷◌, ◌++◌, length, take, drop, refl, sym, ap, subst, ◌∙◌, arith, inl, inr}
 use Rattle.std.specs.Prelude.{T, Option, Some, None, is_some}
 use Rattle.std.specs.declared.cmp.Ordering.TheVariants.{Less}
 use Rattle.std.specs.FinMap.{entries, find, get, entries_sorted, get-entries, get-from_entries, from_entries, len, len-entries, len-empty, empty_of_len, empty}
 use Rattle.std.specs.FinMap.Entries.{below_all, same_entries}
 use Rattle.std.proofs.Math.ListN.{length-append, length-take}
-use Rattle.std.proofs.lemmas.List.{take-append-drop}
-use Rattle.std.proofs.lemmas.Bool.{or_right}
+use Rattle.std.proofs.lemmas.List.{take-append-drop, append-nil, take_at, take-take, append_assoc}
+use Rattle.std.proofs.lemmas.Bool.{or_cases}
 use Rattle.ipnet_addr.proofs.Basics.{T-and}
 use Rattle.ipnet_blocks.specs.BitStrings.{bits_cmp}
 use Rattle.trie_core.specs.Nodes.{BitMap, Seen}
 use Rattle.trie_core.specs.InnerNodes.{under, node_map, IsNode}
 use Rattle.trie_core.specs.Count.{fives_from, fives, fives_of, begun, nodes}
-use Rattle.trie_core.specs.InnerCount.{nodes_if, spare_if, spare_count, spares_below, all_nodes, total}
-use Rattle.trie_core.proofs.Strings.{bits_total, bits_same, same, same-Decides, same-refl, append_none, take_first, front, take_take}
-use Rattle.trie_core.proofs.Maps.{tail_rises, or_else, find-append_all, find-under, find-apart, node_map-none, get-short, get_none}
-use Rattle.trie_core.specs.InnerWalks.{first_value}
-use Rattle.trie_core.proofs.Order.{StartsAfter, below_under, below_append, less_right, less_left, found_above, below_found, found_long, found_get, sorted_under, walk_value, walk_child, walk_none, without_value, without_child, starts_after, values_after}
+use Rattle.trie_core.specs.InnerCount.{nodes_if, spare_if, spare_count, spares_below, all_nodes, total, entry_count}
+use Rattle.trie_core.proofs.Strings.{bits_total, bits_same, same, same-Decides, same-refl, front}
+use Rattle.trie_core.proofs.Maps.{tail_rises, find-append_all, find-under, find-apart, node_map-none, get-short, get_none}
+use Rattle.trie_core.proofs.Order.{StartsAfter, below_under, below_append, less_right, less_left, found_above, below_found, found_long, found_get, sorted_under, walk_value, walk_child, walk_none, without_child, each_node, later_found}
+use Rattle.std.proofs.Math.Seq.{take-append-add}
+use Rattle.std.proofs.Math.Bool.{or_assoc}
 
 take_more : (b k : List Bool) (n : ℕ) → length b ≡ 5 → take (5 + n) (b ++ k) ≡ b ++ take n k
-take_more (a ∷ b ∷ c ∷ d ∷ e ∷ []) k n h = let z : 5 + n ≡ suc (suc (suc (suc (suc n)))) = omega arith in rw z refl
-take_more [] k n h = absurd (omega arith)
-take_more (a ∷ []) k n h = absurd (omega arith)
-take_more (a ∷ b ∷ []) k n h = absurd (omega arith)
-take_more (a ∷ b ∷ c ∷ []) k n h = absurd (omega arith)
-take_more (a ∷ b ∷ c ∷ d ∷ []) k n h = absurd (omega arith)
-take_more (a ∷ b ∷ c ∷ d ∷ e ∷ f ∷ bs) k n h = absurd (omega arith)
+take_more b k n h = ap (λ m. take (m + n) (b ++ k)) (sym h) ∙ take-append-add b k n
 
 fives_later : (i n : ℕ) (b k : List Bool) → length b ≡ 5 → fives_from (suc i) n (b ++ k) ≡ under b (fives_from i n k)
 fives_later i zero b k h = refl
@@ -36,7 +31,7 @@ fives_later i (suc n) b k h =
 pub fives_child : (b k : List Bool) → length b ≡ 5 → fives (b ++ k) ≡ (b, tt) ∷ under b (fives k)
 fives_child b k h =
     let z : length (b ++ k) / 5 ≡ suc (length k / 5) = omega (arith, length-append b k, h) in
-    ap (λ n. fives_from 0 n (b ++ k)) z ∙ (λ j. (take_first b k h j, tt) ∷ fives_later 0 (length k / 5) b k h j)
+    ap (λ n. fives_from 0 n (b ++ k)) z ∙ (λ j. (take_at b k 5 h j, tt) ∷ fives_later 0 (length k / 5) b k h j)
 
 pub fives_short : (q : List Bool) → length q < 5 → fives q ≡ []
 fives_short q h = let z : length q / 5 ≡ 0 = omega arith in ap (λ n. fives_from 0 n q) z
@@ -50,28 +45,17 @@ under-append bs (e ∷ es) fs = ap (λ ws. (bs ++ e.0, e.1) ∷ ws) (under-appen
 abbrev pub has : {Y : Type 0} → List Bool → List (List Bool × Y) → Bool
 has q es = is_some (find bits_cmp q es)
 
-some_else : {Y : Type 0} (o p : Option Y) → is_some (or_else o p) ≡ (is_some o || is_some p)
-some_else None p = refl
-some_else (Some y) p = refl
-
 pub has-append : {Y : Type 0} (q : List Bool) (es fs : List (List Bool × Y)) → has q (es ++ fs) ≡ (has q es || has q fs)
-has-append q es fs = ap is_some (find-append_all q es fs) ∙ some_else (find bits_cmp q es) (find bits_cmp q fs)
+has-append q es fs = grind (arith, find-append_all q es fs)
 
 pub some_cond : {Y : Type 0} (b : Bool) (y : Y) (o : Option Y) → is_some (cond b (Some y) o) ≡ (b || is_some o)
-some_cond true y o = refl
-some_cond false y o = refl
+some_cond b y o = grind arith
 
 same_option : (o p : Option (Unit {0})) → is_some o ≡ is_some p → o ≡ p
-same_option None None e = refl
-same_option (Some x) (Some y) e = refl
-same_option None (Some y) e = cc
-same_option (Some x) None e = cc
+same_option o p e = grind arith
 
 or_twice : (s u v w : Bool) → (s || (u || (w && s || v))) ≡ (s || (u || v))
-or_twice true u v w = refl
-or_twice false true v w = refl
-or_twice false false v true = refl
-or_twice false false v false = refl
+or_twice s u v w = grind arith
 
 module _ {X : Type 0} where
   abbrev pub some_entry : List (List Bool × X) → Bool
@@ -89,32 +73,20 @@ module _ {X : Type 0} where
 
   fives_of-append : (es fs : List (List Bool × X)) → fives_of (es ++ fs) ≡ fives_of es ++ fives_of fs
   fives_of-append [] fs = refl
-  fives_of-append (e ∷ es) fs = ap (λ ws. fives e.0 ++ ws) (fives_of-append es fs) ∙ sym (append_twice (fives e.0) (fives_of es) (fives_of fs))
-    where
-      append_twice : {Y : Type 0} (xs ys zs : List Y) → (xs ++ ys) ++ zs ≡ xs ++ (ys ++ zs)
-      append_twice [] ys zs = refl
-      append_twice (x ∷ xs) ys zs = ap (λ ws. x ∷ ws) (append_twice xs ys zs)
+  fives_of-append (e ∷ es) fs = ap (λ ws. fives e.0 ++ ws) (fives_of-append es fs) ∙ sym (append_assoc (fives e.0) (fives_of es) (fives_of fs))
 
   pub has-begun : (m : BitMap X) (q : List Bool) → has q (entries (begun m)) ≡ has q (fives_of (entries m))
   unfolding begun
   has-begun m q = ap is_some (sym (get-entries (begun m) q) ∙ get-from_entries bits_total (fives_of (entries m)) q)
 
-fives_found_by : (i n : ℕ) (q k : List Bool) → 5 * i + 5 + 5 * n ≤ length k → (has q (fives_from (suc i) n k) ≡ true → (take 5 q ≡ take 5 k) × (5 ≤ length q)) → (b : Bool) → same q (take (5 * i + 5) k) ≡ b → (b || has q (fives_from (suc i) n k)) ≡ true → (take 5 q ≡ take 5 k) × (5 ≤ length q)
-fives_found_by i n q k h f true e s =
-    let p : q ≡ take (5 * i + 5) k = (same-Decides q (take (5 * i + 5) k)).0 e in
-    let z : 5 * i + 5 ≡ 5 + 5 * i = omega arith in
-    (ap (take 5) p ∙ ap (λ m. take 5 (take m k)) z ∙ take_take k 5 (5 * i), omega (arith, ap length p, length-take (5 * i + 5) k, h))
-fives_found_by i n q k h f false e s = f s
-
 fives_found : (i n : ℕ) (q k : List Bool) → 5 * i + 5 * n ≤ length k → has q (fives_from i n k) ≡ true → (take 5 q ≡ take 5 k) × (5 ≤ length q)
 fives_found i zero q k h s = cc
-fives_found i (suc n) q k h s =
-    fives_found_by i n q k (omega (arith, h)) (λ t. fives_found (suc i) n q k (omega (arith, h)) t) (same q (take (5 * i + 5) k)) refl
-    (sym (some_cond (same q (take (5 * i + 5) k)) tt (find bits_cmp q (fives_from (suc i) n k))) ∙ s)
-
-or_cases : (a b : Bool) {P : Type 0} → (a || b) ≡ true → (a ≡ true → P) → (b ≡ true → P) → P
-or_cases true b e f g = f refl
-or_cases false b e f g = g e
+fives_found i (suc n) q k h s = elim (or_cases (same q (take (5 * i + 5) k)) _ (sym (some_cond (same q (take (5 * i + 5) k)) tt (find bits_cmp q (fives_from (suc i) n k))) ∙ s)) [
+  | inl e ↦
+      let p : q ≡ take (5 * i + 5) k = (same-Decides q (take (5 * i + 5) k)).0 e in
+      (ap (take 5) p ∙ take-take 5 (5 * i + 5) k (omega arith), omega (arith, ap length p, length-take (5 * i + 5) k, h))
+  | inr t ↦ fives_found (suc i) n q k (omega (arith, h)) t
+]
 
 module _ {X : Type 0} where
   -- k is a key that begins with the first five bits of q
@@ -124,15 +96,12 @@ module _ {X : Type 0} where
     pub first : take 5 q ≡ take 5 key
     pub long : 5 ≤ length q
 
-  later : {q : List Bool} (e : List Bool × X) {es : List (List Bool × X)} → IsBegunBy q es → IsBegunBy q (e ∷ es)
-  later {q} e {es} b = record { key = b.key; found = some_cond (same b.key e.0) e.1 (find bits_cmp b.key es) ∙ ap (λ x. same b.key e.0 || x) b.found ∙ or_right (same b.key e.0) true refl; first = b.first; long = b.long }
-
   pub begun_by_key : (q : List Bool) (es : List (List Bool × X)) → has q (fives_of es) ≡ true → IsBegunBy q es
   begun_by_key q [] s = cc
-  begun_by_key q (e ∷ es) s =
-      or_cases (has q (fives e.0)) (has q (fives_of es)) (sym (has-append q (fives e.0) (fives_of es)) ∙ s)
-      (λ t. let f = fives_found 0 (length e.0 / 5) q e.0 (omega arith) t in record { key = e.0; found = some_cond (same e.0 e.0) e.1 (find bits_cmp e.0 es) ∙ ap (λ b. b || has e.0 es) (same-refl e.0); first = f.0; long = f.1 })
-      (λ t. later e (begun_by_key q es t))
+  begun_by_key q (e ∷ es) s = elim (or_cases (has q (fives e.0)) (has q (fives_of es)) (sym (has-append q (fives e.0) (fives_of es)) ∙ s)) [
+    | inl t ↦ let f = fives_found 0 (length e.0 / 5) q e.0 (omega arith) t in record { key = e.0; found = some_cond (same e.0 e.0) e.1 (find bits_cmp e.0 es) ∙ ap (λ b. b || has e.0 es) (same-refl e.0); first = f.0; long = f.1 }
+    | inr t ↦ let b = begun_by_key q es t in record { key = b.key; found = later_found (same b.key e.0) e.1 (find bits_cmp b.key es) b.found; first = b.first; long = b.long }
+  ]
 
   -- no beginning is empty
   not_none : (m : BitMap X) → T (below_all bits_cmp [] (entries (begun m)))
@@ -157,12 +126,8 @@ has_under_by b q es fs h f true e =
     let p : b ++ drop 5 q ≡ q = ap (λ w. w ++ drop 5 q) (sym ((same-Decides (take 5 q) b).0 e)) ∙ take-append-drop 5 q in
     ap (λ w. has w (under b es)) (sym p) ∙ ap is_some (find-under b (drop 5 q) es) ∙ f (drop 5 q) ∙ sym (ap is_some (find-under b (drop 5 q) fs)) ∙ ap (λ w. has w (under b fs)) p
 has_under_by b q es fs h f false e =
-    let no : (k : List Bool) → q ≡ b ++ k → ⊥ = λ k p. let z : same (take 5 q) b ≡ true = (same-Decides (take 5 q) b).1 (ap (take 5) p ∙ take_first b k h) in cc in
+    let no : (k : List Bool) → q ≡ b ++ k → ⊥ = λ k p. let z : same (take 5 q) b ≡ true = (same-Decides (take 5 q) b).1 (ap (take 5) p ∙ take_at b k 5 h) in cc in
     ap is_some (find-apart b q no es) ∙ sym (ap is_some (find-apart b q no fs))
-
-or_three : (a b c : Bool) → ((a || b) || c) ≡ (a || (b || c))
-or_three true b c = refl
-or_three false b c = refl
 
 pub length-under : {Y : Type 0} (b : List Bool) (es : List (List Bool × Y)) → length (under b es) ≡ length es
 length-under b [] = refl
@@ -201,28 +166,33 @@ module _ {X : Type 0} where
   unfolding begun
   begun_none {vs} {cs} {c} n h e = ap (λ es. from_entries (fives_of es)) (walk_child n h ∙ ap (λ es. under c.0 es ++ entries (node_map vs cs)) e)
 
+  -- what begins a key begins one of the first child, or of what follows it
+  pub begun_has : {vs : List (List Bool × X)} {cs : List (List Bool × Seen X)} {c : List Bool × Seen X} → IsNode vs (c ∷ cs) → StartsAfter c.0 vs → (q : List Bool)
+      → has q (entries (begun (node_map vs (c ∷ cs)))) ≡ (((some_entry (entries c.1.entries) && same q c.0) || has q (under c.0 (entries (begun c.1.entries)))) || has q (entries (begun (node_map vs cs))))
+  begun_has {vs} {cs} {c} n h q =
+      has-begun (node_map vs (c ∷ cs)) q
+      ∙ ap (λ es. has q (fives_of es)) (walk_child n h)
+      ∙ ap (has q) (fives_of-append (under c.0 (entries c.1.entries)) (entries (node_map vs cs)))
+      ∙ has-append q (fives_of (under c.0 (entries c.1.entries))) (fives_of (entries (node_map vs cs)))
+      ∙ (λ i. (has_under c.0 q (entries c.1.entries) n.children_long.0 i || sym (has-begun (node_map vs cs) q) i))
+      ∙ ap (λ t. ((some_entry (entries c.1.entries) && same q c.0) || t) || has q (entries (begun (node_map vs cs)))) (has_under_by c.0 q (fives_of (entries c.1.entries)) (entries (begun c.1.entries)) n.children_long.0 (λ x. sym (has-begun c.1.entries x)) (same (take 5 q) c.0) refl)
+
   pub begun_child : {vs : List (List Bool × X)} {cs : List (List Bool × Seen X)} {c : List Bool × Seen X} → IsNode vs (c ∷ cs) → T (below_all bits_cmp c.0 cs) → StartsAfter c.0 vs → some_entry (entries c.1.entries) ≡ true
       → entries (begun (node_map vs (c ∷ cs))) ≡ (c.0, tt) ∷ under c.0 (entries (begun c.1.entries)) ++ entries (begun (node_map vs cs))
   begun_child {vs} {cs} {c} n a h e =
       let b = c.0 in
-      let five : length c.0 ≡ 5 = n.children_long.0 in
       let E = entries (begun c.1.entries) in
       let F = entries (begun (node_map vs cs)) in
       same_entries bits_cmp bits_total bits_same _ _ (entries_sorted (begun (node_map vs (c ∷ cs))))
       (T-and _ _
       (below_append b (under b E) F
-      (subst (λ w. T (below_all bits_cmp w (under b E))) (append_none b) (below_under b [] E (not_none c.1.entries)))
-      (subst (λ w. T (below_all bits_cmp w F)) (append_none b) (after_child n a [])))
+      (subst (λ w. T (below_all bits_cmp w (under b E))) (append-nil b) (below_under b [] E (not_none c.1.entries)))
+      (subst (λ w. T (below_all bits_cmp w F)) (append-nil b) (after_child n a [])))
       (sorted_under b E F (entries_sorted (begun c.1.entries)) (entries_sorted (begun (node_map vs cs))) (after_child n a)))
       (λ q. same_option _ _ (
-      has-begun (node_map vs (c ∷ cs)) q
-      ∙ ap (λ es. has q (fives_of es)) (walk_child n h)
-      ∙ ap (has q) (fives_of-append (under b (entries c.1.entries)) (entries (node_map vs cs)))
-      ∙ has-append q (fives_of (under b (entries c.1.entries))) (fives_of (entries (node_map vs cs)))
-      ∙ (λ i. (has_under b q (entries c.1.entries) five i || sym (has-begun (node_map vs cs) q) i))
-      ∙ ap (λ t. (t && same q b || has q (under b (fives_of (entries c.1.entries)))) || has q F) e
-      ∙ ap (λ t. (same q b || t) || has q F) (has_under_by b q (fives_of (entries c.1.entries)) E five (λ x. sym (has-begun c.1.entries x)) (same (take 5 q) b) refl)
-      ∙ or_three (same q b) (has q (under b E)) (has q F)
+      begun_has n h q
+      ∙ ap (λ t. ((t && same q b) || has q (under b E)) || has q F) e
+      ∙ or_assoc (same q b) (has q (under b E)) (has q F)
       ∙ ap (λ t. same q b || t) (sym (has-append q (under b E) F))
       ∙ sym (some_cond (same q b) tt (find bits_cmp q (under b E ++ F)))
       ))
@@ -247,23 +217,10 @@ module _ {X : Type 0} where
       let k : nodes_if (len c.1.entries) c.1.entries ≡ 0 = ap (λ l. nodes_if l c.1.entries) (len-entries c.1.entries ∙ ap length z) in
       omega (arith, k, ap len (begun_none n h z))
 
-  count_either : (e : List Bool × X) (vs : List (List Bool × X)) (c : List Bool × Seen X) (cs : List (List Bool × Seen X))
-      → (IsNode vs (c ∷ cs) → len (begun (node_map vs (c ∷ cs))) ≡ nodes_below (things (c ∷ cs))) → (IsNode (e ∷ vs) cs → len (begun (node_map (e ∷ vs) cs)) ≡ nodes_below (things cs))
-      → IsNode (e ∷ vs) (c ∷ cs) → (b : Bool) → first_value (e ∷ vs) (c ∷ cs) ≡ b → len (begun (node_map (e ∷ vs) (c ∷ cs))) ≡ nodes_below (things (c ∷ cs))
-  count_either e vs c cs f g n true b = ap len (begun_value n (starts_after e vs (c ∷ cs) b)) ∙ f (without_value n)
-  count_either e vs c cs f g n false b = omega (arith, count_child_by n (values_after (e ∷ vs) c cs n b) (some_entry (entries c.1.entries)) refl, g (without_child n))
-
-  count_by : (k : ℕ) (vs : List (List Bool × X)) (cs : List (List Bool × Seen X)) → length vs + length cs ≤ k → IsNode vs cs → len (begun (node_map vs cs)) ≡ nodes_below (things cs)
-  count_by k [] [] h n = count_none X
-  count_by zero (e ∷ vs) cs h n = absurd (omega arith)
-  count_by zero [] (c ∷ cs) h n = absurd (omega arith)
-  count_by (suc k) [] (c ∷ cs) h n = omega (arith, count_child_by n tt (some_entry (entries c.1.entries)) refl, count_by k [] cs (omega arith) (without_child n))
-  count_by (suc k) (e ∷ vs) [] h n = ap len (begun_value n tt) ∙ count_by k vs [] (omega arith) (without_value n)
-  count_by (suc k) (e ∷ vs) (c ∷ cs) h n = count_either e vs c cs (λ m. count_by k vs (c ∷ cs) (omega arith) m) (λ m. count_by k (e ∷ vs) cs (omega arith) m) n (first_value (e ∷ vs) (c ∷ cs)) refl
-
   -- the nodes that a map needs: one, and those that the children's maps need
   nodes_of_node : {vs : List (List Bool × X)} {cs : List (List Bool × Seen X)} → IsNode vs cs → nodes (node_map vs cs) ≡ nodes_below (things cs) + 1
-  nodes_of_node {vs} {cs} n = ap (λ k. k + 1) (count_by (length vs + length cs) vs cs (omega arith) n)
+  nodes_of_node {vs} {cs} n = ap (λ k. k + 1) (each_node (λ vs cs. len (begun (node_map vs cs)) ≡ nodes_below (things cs)) (count_none X) (λ e vs cs n h r. ap len (begun_value n h) ∙ r)
+      (λ vs c cs n h r. omega (arith, count_child_by n h (some_entry (entries c.1.entries)) refl, r)) vs cs n)
 
   one_child_nodes : (n : ℕ) (m : BitMap X) (k : ℕ) → len m ≡ n → nodes_if n m + (spare_if n + k) ≡ nodes m + k
   one_child_nodes zero m k e = omega (arith, ap nodes (empty_of_len m e), nodes_empty X)
@@ -294,3 +251,17 @@ module _ {X : Type 0} where
       let r = entries (node_map [] cs) in
       let l : 1 ≤ len c.1.entries = spare_pos (len c.1.entries) (omega (arith, z)) in
       absurd (omega (arith, ap length w, length-append b r, length-under c.0 (entries c.1.entries), len-entries c.1.entries, len-entries (node_map [] (c ∷ cs)), ap len e, len-empty bits_cmp X, l))
+
+-- ---- how many entries a node has
+
+pub length-things : {Y : Type 0} (es : List (List Bool × Y)) → length (things es) ≡ length es
+length-things [] = refl
+length-things (e ∷ es) = ap suc (length-things es)
+
+module _ {X : Type 0} where
+  -- its values, and the entries of its children
+  pub entries_of_node : {vs : List (List Bool × X)} {cs : List (List Bool × Seen X)} → IsNode vs cs → len (node_map vs cs) ≡ length vs + total entry_count (things cs)
+  entries_of_node {vs} {cs} n = each_node (λ vs cs. len (node_map vs cs) ≡ length vs + total entry_count (things cs)) (omega (arith, ap length (walk_none {X = X}), len-entries (node_map {X = X} [] [])))
+      (λ e vs cs n h r. omega (arith, ap length (walk_value n h), len-entries (node_map (e ∷ vs) cs), len-entries (node_map vs cs), r))
+      (λ vs c cs n h r. omega (arith, ap length (walk_child n h), length-append (under c.0 (entries c.1.entries)) (entries (node_map vs cs)), length-under c.0 (entries c.1.entries), len-entries (node_map vs (c ∷ cs)), len-entries (node_map vs cs), len-entries c.1.entries, r))
+      vs cs n

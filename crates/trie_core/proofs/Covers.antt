@@ -1,17 +1,16 @@
 -- The entries whose keys begin a string, one after another.
-use Rattle.std.proofs.Common.{◌≡◌, ℕ, ◌+◌, ◌-◌, ◌*◌, ◌/◌, ◌%◌, ◌^◌, ◌<◌, ◌≤◌, Bool, true, false, cond, not, ◌&&◌, List, [], ◌∷◌, ◌++◌, length, take, drop, get_or, refl, sym, ap, ◌∙◌, arith}
+use Rattle.std.proofs.Common.{◌≡◌, ℕ, ◌+◌, ◌-◌, ◌*◌, ◌/◌, ◌%◌, ◌^◌, ◌<◌, ◌≤◌, Bool, true, false, cond, not, ◌&&◌, List, [], ◌∷◌, ◌++◌, length, take, drop, get_or, refl, sym, ap, ◌∙◌, arith, inl, inr}
 use Rattle.std.specs.Prelude.{Option, Some, None, is_some, nat_lt, bit_and, count_ones, MatchOption}
 use Rattle.std.specs.Borrow.{Bor}
 use Rattle.std.specs.declared.cmp.Ordering.TheVariants.{Less}
 use Rattle.std.specs.Int.{bit_at}
-use Rattle.std.specs.FinMap.{find, entries, get, get-entries, entries_sorted, empty}
-use Rattle.std.specs.FinMap.Entries.{where_key, find-where_key, is_sorted-where_key, same_entries}
+use Rattle.std.specs.FinMap.{entries, get, entries_sorted, empty}
+use Rattle.std.specs.FinMap.Entries.{where_key, is_sorted-where_key, same_entries}
 use Rattle.std.proofs.lemmas.Bool.Decides.{nat_tests}
-use Rattle.std.proofs.lemmas.Nat.{shl-shr, shr-shr, shr_split, pow-add}
-use Rattle.std.proofs.lemmas.Nat.Bits.{bit_at-zero}
-use Rattle.std.proofs.Math.Nat.{mul_assoc}
+use Rattle.std.proofs.lemmas.Nat.{shr_split, pow_pos, mod_below}
+use Rattle.std.proofs.lemmas.Nat.Bits.{bit_at-zero, bit_at_cat_low, bit_at_cat_high}
 use Rattle.std.proofs.Math.ListN.{length-append, length-drop}
-use Rattle.std.proofs.lemmas.Bool.{false_from_ne_true, false≢true}
+use Rattle.std.proofs.lemmas.Bool.{false_from_ne_true, true_from_ne_false, cases_lt}
 use Rattle.ipnet_addr.proofs.Basics.{T-and}
 use Rattle.ipnet_blocks.specs.BitStrings.{bits_cmp, begins}
 use Rattle.trie_core.specs.InnerPlaces.{place_of, place_string, IsBeginMask, IsFirstPlace}
@@ -19,7 +18,7 @@ use Rattle.trie_core.specs.Nodes.{BitMap, Seen}
 use Rattle.trie_core.specs.InnerNodes.{under}
 use Rattle.trie_core.specs.InnerSearch.{IsChild, HasNoChild}
 use Rattle.trie_core.specs.InnerCovers.{is_left, NoneFrom, IsFirstFrom, cover_rest, cover_weight, IsCover}
-use Rattle.trie_core.proofs.Strings.{bits_total, bits_same, same, same-Decides, not_same, front, take_take, and_with_true}
+use Rattle.trie_core.proofs.Strings.{bits_total, bits_same, same, same-Decides, not_same, front}
 use Rattle.ipnet_blocks.proofs.BitStrings.{begins_take, take_begins, begins-under}
 use Rattle.trie_core.proofs.Maps.{get_none}
 use Rattle.trie_core.proofs.Order.{below_found}
@@ -27,37 +26,25 @@ use Rattle.trie_core.proofs.Numbers.{place_strings, place_string-place_of, place
 use Rattle.trie_core.proofs.Taken.{taken}
 use Rattle.trie_core.proofs.Seen.{IsSeen}
 use Rattle.trie_core.proofs.Searches.{IsMet, met_beginning, met_place, unset_none, found_here}
-use Rattle.trie_core.proofs.Frames.{bits_alike, under-under, under_none}
+use Rattle.trie_core.proofs.Frames.{under-under, under_none, found_where}
 use Rattle.trie_core.proofs.Walks.{AreBelow, where_below, entries_none, kept_true}
+use Rattle.std.proofs.Math.Bool.{and-true}
+use Rattle.std.proofs.lemmas.List.{take-take}
 
 -- ---- the bits of a word from one on
 
 bits_cut : (w p i : ℕ) → (i < p → bit_at (w - w % 2 ^ p) i ≡ 0) × (p ≤ i → bit_at (w - w % 2 ^ p) i ≡ bit_at w i)
 bits_cut w p i =
-    let cut : w - w % 2 ^ p ≡ w / 2 ^ p * 2 ^ p = omega (arith, shr_split w p) in (
-      λ h.
-          let e : p ≡ p - i - 1 + 1 + i = omega (arith, h) in
-          let up : w / 2 ^ p * 2 ^ p ≡ w / 2 ^ p * 2 ^ (p - i - 1) * 2 * 2 ^ i =
-          ap (λ x. w / 2 ^ p * x) (ap (λ j. 2 ^ j) e ∙ pow-add 2 (p - i - 1 + 1) i ∙ ap (λ x. x * 2 ^ i) (pow-add 2 (p - i - 1) 1))
-          ∙ sym (mul_assoc (w / 2 ^ p) (2 ^ (p - i - 1) * 2) (2 ^ i)) ∙ ap (λ x. x * 2 ^ i) (sym (mul_assoc (w / 2 ^ p) (2 ^ (p - i - 1)) 2)) in
-          let half : (w - w % 2 ^ p) / 2 ^ i ≡ w / 2 ^ p * 2 ^ (p - i - 1) * 2 = ap (λ x. x / 2 ^ i) (cut ∙ up) ∙ shl-shr (w / 2 ^ p * 2 ^ (p - i - 1) * 2) i in
-          omega (arith, half),
-      λ h.
-          let e : p + (i - p) ≡ i = omega (arith, h) in
-          ap (λ x. x % 2) (
-          ap (λ j. (w - w % 2 ^ p) / 2 ^ j) (sym e) ∙ sym (shr-shr (w - w % 2 ^ p) p (i - p)) ∙ ap (λ x. x / 2 ^ p / 2 ^ (i - p)) cut ∙ ap (λ x. x / 2 ^ (i - p)) (shl-shr (w / 2 ^ p) p)
-          ∙ shr-shr w p (i - p) ∙ ap (λ j. w / 2 ^ j) e
-          ),
+    let cut : w - w % 2 ^ p ≡ w / 2 ^ p * 2 ^ p + 0 = omega (arith, shr_split w p) in (
+      λ h. ap (λ x. bit_at x i) cut ∙ bit_at_cat_low (w / 2 ^ p) p 0 i h ∙ bit_at-zero i,
+      λ h. ap (λ x. bit_at x i) cut ∙ bit_at_cat_high (w / 2 ^ p) p 0 i (pow_pos p) h ∙ sym (ap (λ x. bit_at x i) (sym (shr_split w p)) ∙ bit_at_cat_high (w / 2 ^ p) p (w % 2 ^ p) i (mod_below w (2 ^ p) (pow_pos p)) h),
     )
 
-bit_is_zero : (x : ℕ) → x ≡ 1 → x ≡ 0 → ⊥
-bit_is_zero x e f = omega (arith, e, f)
-
 not_before : (w p n : ℕ) → bit_at (w - w % 2 ^ p) n ≡ 1 → p ≤ n
-not_before w p n e = elim (nat_lt n p) as (λ b. nat_lt n p ≡ b → p ≤ n) [
-  | true ↦ λ t. absurd (bit_is_zero _ e ((bits_cut w p n).0 (grind (arith, nat_tests))))
-  | false ↦ λ t. grind (arith, nat_tests)
-] refl
+not_before w p n e = elim (cases_lt n p) [
+  | inl l ↦ let z = (bits_cut w p n).0 l in absurd (omega (arith, z, e))
+  | inr l ↦ l
+]
 
 module _ {X : Type 0} where
   unset_by : {vb : ℕ} {vs : List X} {cb : ℕ} {cs : List (Seen X)} {m : Seen X} (q s : List Bool) (mask : ℕ) → IsSeen vb vs cb cs m → IsBeginMask q mask → length s < 5 → begins s q ≡ true → bit_at (bit_and vb mask) (place_of s) ≡ 0 → get m.entries s ≡ None
@@ -100,51 +87,22 @@ module _ {X : Type 0} where
 
 -- ---- what is left from a place on
 
-and_true : (a b c : Bool) → (a && not (b && c)) ≡ true → (a ≡ true) × (b ≡ true → c ≡ false)
-and_true true true true e = cc
-and_true true true false e = (refl, λ _. refl)
-and_true true false c e = (refl, λ t. absurd (false≢true t))
-and_true false b c e = cc
-
-and_false : (a b c : Bool) → (a && not (b && c)) ≡ false → a ≡ true → (b ≡ true) × (c ≡ true)
-and_false true true true e f = (refl, refl)
-and_false true true false e f = cc
-and_false true false c e f = cc
-and_false false b c e f = cc
-
 left_true : (q : List Bool) (n : ℕ) (k : List Bool) → is_left q n k ≡ true → (begins k q ≡ true) × (length k < 5 → n ≤ place_of k)
-left_true q n k e =
-    let t = and_true (begins k q) (nat_lt (length k) 5) (nat_lt (place_of k) n) e in
-    (t.0, λ h. let l : nat_lt (length k) 5 ≡ true = grind (arith, nat_tests) in let z = t.1 l in grind (arith, nat_tests))
+left_true q n k e = grind (arith, nat_tests)
 
 left_false : (q : List Bool) (n : ℕ) (k : List Bool) → is_left q n k ≡ false → begins k q ≡ true → (length k < 5) × (place_of k < n)
-left_false q n k e b =
-    let t = and_false (begins k q) (nat_lt (length k) 5) (nat_lt (place_of k) n) e b in
-    let u = t.0 in
-    let v = t.1 in
-    (grind (arith, nat_tests), grind (arith, nat_tests))
+left_false q n k e b = grind (arith, nat_tests)
 
 -- of two beginnings of a string the shorter one comes first
 begins_less : (s x q : List Bool) → begins s q ≡ true → begins x q ≡ true → length s < length x → bits_cmp s x ≡ Less
-begins_less [] [] q a b h = absurd (omega (arith, h))
-begins_less [] (y ∷ x) q a b h = refl
-begins_less (z ∷ s) [] q a b h = absurd (omega (arith, h))
-begins_less (z ∷ s) (y ∷ x) [] a b h = cc
-begins_less (true ∷ s) (true ∷ x) (true ∷ q) a b h = begins_less s x q a b (omega (arith, h))
-begins_less (false ∷ s) (false ∷ x) (false ∷ q) a b h = begins_less s x q a b (omega (arith, h))
-begins_less (true ∷ s) (y ∷ x) (false ∷ q) a b h = cc
-begins_less (false ∷ s) (y ∷ x) (true ∷ q) a b h = cc
-begins_less (true ∷ s) (false ∷ x) (true ∷ q) a b h = cc
-begins_less (false ∷ s) (true ∷ x) (false ∷ q) a b h = cc
+begins_less [] x q a b h = grind arith
+begins_less (z ∷ s) x q a b h = grind (arith, begins_less s)
 
 place_below : (s : List Bool) → length s < 5 → place_of s < 31
 place_below s h = omega (arith, place_bound 5 s h)
 
 below_or : (a b : ℕ) → a < b + 1 → (a ≡ b → ⊥) → a < b
-below_or a b h f = elim (nat_lt a b) as (λ t. nat_lt a b ≡ t → a < b) [
-  | true ↦ λ t. grind (arith, nat_tests)
-  | false ↦ λ t. absurd (f (grind (arith, nat_tests)))
-] refl
+below_or a b h f = omega arith
 
 left_none : (q : List Bool) (k : List Bool) → length q < 5 → is_left q 31 k ≡ false
 left_none q k h = false_from_ne_true (is_left q 31 k) (λ e.
@@ -153,15 +111,7 @@ left_none q k h = false_from_ne_true (is_left q 31 k) (λ e.
     omega (arith, t.1 l, place_below k l))
 
 left_all : (q k : List Bool) → is_left q 0 k ≡ begins k q
-left_all q k = let z : nat_lt (place_of k) 0 ≡ false = grind (arith, nat_tests) in ap (λ t. begins k q && not (nat_lt (length k) 5 && t)) z ∙ all_kept (begins k q) (nat_lt (length k) 5)
-  where
-    all_kept : (a b : Bool) → (a && not (b && false)) ≡ a
-    all_kept true true = refl
-    all_kept true false = refl
-    all_kept false b = refl
-
-take_less : (p : List Bool) (n : ℕ) → 5 ≤ n → take 5 (take n p) ≡ take 5 p
-take_less p n h = let e : 5 + (n - 5) ≡ n = omega (arith, h) in ap (λ k. take 5 (take k p)) (sym e) ∙ take_take p 5 (n - 5)
+left_all q k = let z : nat_lt (place_of k) 0 ≡ false = grind (arith, nat_tests) in grind (arith, z)
 
 where_none : {Y : Type 0} (f : List Bool → Bool) (es : List (List Bool × Y)) → ((k : List Bool) → f k ≡ false) → where_key bits_cmp f es ≡ []
 where_none f [] h = refl
@@ -174,37 +124,27 @@ where_same f g (e ∷ es) h = λ i. cond (h e.0 i) (e ∷ where_same f g es h i)
 module _ {X : Type 0} where
   -- a key that only one of two tests keeps is not there
   two_same : (a b : Bool) (o : Option X) → (a ≡ true → b ≡ false → o ≡ None) → (a ≡ false → b ≡ true → ⊥) → cond a o None ≡ cond b o None
-  two_same true true o f g = refl
-  two_same true false o f g = f refl refl
-  two_same false true o f g = absurd (g refl refl)
-  two_same false false o f g = refl
-
-  found_where : (m : BitMap X) (f : List Bool → Bool) (x : List Bool) → find bits_cmp x (where_key bits_cmp f (entries m)) ≡ cond (f x) (get m x) None
-  found_where m f x = find-where_key bits_cmp f x (bits_alike f x) (entries m) ∙ ap (λ o. cond (f x) o None) (sym (get-entries m x))
+  two_same a b o f g = grind arith
 
   pub where_next : {m : BitMap X} {q : List Bool} {n p : ℕ} {v : X} → IsFirstFrom m q n p v → where_key bits_cmp (is_left q n) (entries m) ≡ (place_string p, v) ∷ where_key bits_cmp (is_left q (p + 1)) (entries m)
   where_next {m} {q} {n} {p} {v} w =
       same_entries bits_cmp bits_total bits_same _ _ (is_sorted-where_key bits_cmp (is_left q n) (entries m) (entries_sorted m))
       (T-and _ _
-      (below_found (place_string p) (where_key bits_cmp (is_left q (p + 1)) (entries m)) (λ x f. less x (kept_true (is_left q (p + 1) x) (get m x) (ap is_some (sym (found_where m (is_left q (p + 1)) x)) ∙ f)) (nat_lt (length x) 5) refl))
+      (below_found (place_string p) (where_key bits_cmp (is_left q (p + 1)) (entries m)) (λ x f. less x (kept_true (is_left q (p + 1) x) (get m x) (ap is_some (sym (found_where m (is_left q (p + 1)) x)) ∙ f))))
       (is_sorted-where_key bits_cmp (is_left q (p + 1)) (entries m) (entries_sorted m)))
       (λ x. found_where m (is_left q n) x ∙ by x (same x (place_string p)) refl ∙ ap (cond (same x (place_string p)) (Some v)) (sym (found_where m (is_left q (p + 1)) x)))
     where
-      less : (x : List Bool) → is_left q (p + 1) x ≡ true → (b : Bool) → nat_lt (length x) 5 ≡ b → bits_cmp (place_string p) x ≡ Less
-      less x e true h =
-          let l : length x < 5 = grind (arith, nat_tests) in
+      less : (x : List Bool) → is_left q (p + 1) x ≡ true → bits_cmp (place_string p) x ≡ Less
+      less x e =
           let s = place_strings p w.below in
-          place_less 5 (place_string p) x s.short l (omega (arith, s.place, (left_true q (p + 1) x e).1 l))
-      less x e false h =
-          let l : 5 ≤ length x = grind (arith, nat_tests) in
-          begins_less (place_string p) x q w.begun (left_true q (p + 1) x e).0 (omega (arith, l, (place_strings p w.below).short))
+          let t = left_true q (p + 1) x e in
+          elim (cases_lt (length x) 5) [
+            | inl l ↦ place_less 5 (place_string p) x s.short l (omega (arith, s.place, t.1 l))
+            | inr l ↦ begins_less (place_string p) x q w.begun t.0 (omega (arith, l, s.short))
+          ]
 
       own : is_left q n (place_string p) ≡ true
-      own = not_false (is_left q n (place_string p)) (λ e. let t = left_false q n (place_string p) e w.begun in omega (arith, t.1, (place_strings p w.below).place, w.from))
-        where
-          not_false : (b : Bool) → (b ≡ false → ⊥) → b ≡ true
-          not_false true f = refl
-          not_false false f = absurd (f refl)
+      own = true_from_ne_false (is_left q n (place_string p)) (λ e. let t = left_false q n (place_string p) e w.begun in omega (arith, t.1, (place_strings p w.below).place, w.from))
 
       apart : (x : List Bool) → same x (place_string p) ≡ false → length x < 5 → place_of x ≡ p → ⊥
       apart x e l d = not_same e (sym (place_string-place_of x l) ∙ ap place_string d)
@@ -251,16 +191,12 @@ module _ {X : Type 0} where
     told = λ r.
         let l : nat_lt (length (take 5 p ++ r)) 5 ≡ false = let five = (front p h).0 in let a = length-append (take 5 p) r in grind (arith, nat_tests) in
         (λ i. begins (take 5 p ++ r) (sym (front p h).1 i) && not (l i && nat_lt (place_of (take 5 p ++ r)) 31))
-        ∙ ap (λ b. b && true) (begins-under (take 5 p) r (drop 5 p)) ∙ and_with_true (begins r (drop 5 p)) ∙ sym (left_all (drop 5 p) r);
-    other = λ x n. false_from_ne_true _ (λ e. other x n (left_true p 31 x e) (nat_lt (length x) 5) refl);
+        ∙ ap (λ b. b && true) (begins-under (take 5 p) r (drop 5 p)) ∙ and-true (begins r (drop 5 p)) ∙ sym (left_all (drop 5 p) r);
+    other = λ x n. false_from_ne_true _ (λ e. let t = left_true p 31 x e in elim (cases_lt (length x) 5) [
+      | inl l ↦ omega (arith, t.1 l, place_below x l)
+      | inr l ↦ let f = begins_take x p t.0 in n (drop 5 x) (sym (front x l).1 ∙ ap (λ y. y ++ drop 5 x) (ap (take 5) (sym f.1) ∙ take-take 5 (length x) p l))
+    ]);
   }
-    where
-      other : (x : List Bool) → ((k : List Bool) → x ≡ take 5 p ++ k → ⊥) → (begins x p ≡ true) × (length x < 5 → 31 ≤ place_of x) → (b : Bool) → nat_lt (length x) 5 ≡ b → ⊥
-      other x n t true l = let s : length x < 5 = grind (arith, nat_tests) in omega (arith, t.1 s, place_below x s)
-      other x n t false l =
-          let s : 5 ≤ length x = grind (arith, nat_tests) in
-          let f = begins_take x p t.0 in
-          n (drop 5 x) (sym (front x s).1 ∙ ap (λ y. y ++ drop 5 x) (ap (take 5) (sym f.1) ∙ take_less p (length x) s))
 
   -- below the five bits
   pub cover_below : (m : Seen X) (trail : List Bool) {p : List Bool} {n : ℕ} (o : Option (Bor (Seen X))) {r way : List Bool} → NoneFrom m.entries p n → 5 ≤ length p → MatchOption o (HasNoChild p m) (λ c. IsChild p m c.now) → way ≡ trail ++ take 5 p → r ≡ drop 5 p

@@ -1,16 +1,17 @@
 -- Changes of the things at the places of a bitmap.
-use Rattle.std.proofs.Common.{◌≡◌, ℕ, zero, suc, ◌+◌, ◌-◌, ◌/◌, ◌%◌, ◌^◌, ◌<◌, ◌≤◌, Bool, true, false, cond, not, List, [], ◌∷◌, length, set, refl, sym, ap, ◌∙◌, arith, inl, inr}
-use Rattle.std.specs.Prelude.{Some, None, eqb, count_ones, ◌⊎◌, T}
+use Rattle.std.proofs.Common.{◌≡◌, ℕ, zero, suc, ◌+◌, ◌-◌, ◌/◌, ◌%◌, ◌^◌, ◌<◌, ◌≤◌, true, false, cond, not, List, [], ◌∷◌, length, set, refl, sym, ap, ◌∙◌, arith, inl, inr, ◌*◌}
+use Rattle.std.specs.Prelude.{None, eqb, count_ones, ◌⊎◌, T}
 use Rattle.std.specs.List.{insert, remove}
 use Rattle.std.specs.Ordering.{nat_cmp, eq_by_cmp}
 use Rattle.std.specs.FinMap.{find, is_sorted, put}
 use Rattle.std.specs.FinMap.Entries.{below_all}
-use Rattle.std.proofs.lemmas.Nat.{shr-shr}
+use Rattle.std.proofs.lemmas.Nat.{shr-shr, mod_below, pow_pos, shr_split, ones_cat}
 use Rattle.std.proofs.lemmas.Bool.Decides.{nat_tests}
-use Rattle.ipnet_addr.proofs.Basics.{T-true, T-and, T-parts}
+use Rattle.ipnet_addr.proofs.Basics.{T-and, T-parts}
 use Rattle.trie_core.specs.InnerPlaces.{at_places, without}
 use Rattle.trie_core.proofs.Numbers.{ones_bit, double}
-use Rattle.trie_core.proofs.Places.{ones_half, ones_below_suc}
+use Rattle.trie_core.proofs.Places.{ones_half, ones_below_suc, ones_split}
+use Rattle.std.proofs.Math.Nat.{add-mul, one-mul}
 
 pub low_bit : (b : ℕ) → (b % 2 ≡ 0) ⊎ (b % 2 ≡ 1)
 low_bit b = elim (eqb (b % 2) 1) as (λ t. eqb (b % 2) 1 ≡ t → (b % 2 ≡ 0) ⊎ (b % 2 ≡ 1)) [
@@ -50,42 +51,39 @@ set_fits (suc w) (suc i) bits l h z =
     omega (arith, double w, double i, r)
 
 pub ones_set : (i bits : ℕ) → bits / 2 ^ i % 2 ≡ 0 → count_ones (bits + 2 ^ i) ≡ count_ones bits + 1
-ones_set zero bits z =
-    let e : (bits + 2 ^ 0) / 2 ≡ bits / 2 = omega (arith, z) in
-    let f : (bits + 2 ^ 0) % 2 ≡ bits % 2 + 1 = omega (arith, z) in
-    omega (arith, ones_half bits, ones_half (bits + 2 ^ 0), ap count_ones e, f)
-ones_set (suc i) bits z =
-    let r = ones_set i (bits / 2) (higher_bit bits i 0 z) in
-    omega (arith, ones_half bits, ones_half (bits + 2 ^ suc i), ap count_ones (half_more bits i), low_more bits i, r)
+ones_set i bits z =
+    let q = bits / 2 ^ i in
+    let e : bits + 2 ^ i ≡ (q + 1) * 2 ^ i + bits % 2 ^ i = omega (arith, shr_split bits i, add-mul q 1 (2 ^ i), one-mul (2 ^ i)) in
+    let half : (q + 1) / 2 ≡ q / 2 = omega (arith, z) in
+    omega (arith, ap count_ones e, ones_cat i (q + 1) (bits % 2 ^ i) (mod_below bits (2 ^ i) (pow_pos i)), ones_split i bits, ones_half q, ones_half (q + 1), ap count_ones half, z)
+
+-- a bit that is set, out
+pub cut_bit : (i bits : ℕ) → bits / 2 ^ i % 2 ≡ 1 → bits - 2 ^ i ≡ (bits / 2 ^ i - 1) * 2 ^ i + bits % 2 ^ i
+cut_bit i bits z =
+    let q = bits / 2 ^ i in
+    let one : q - 1 + 1 ≡ q = omega (arith, z) in
+    omega (arith, shr_split bits i, ap (λ x. x * 2 ^ i) one, add-mul (q - 1) 1 (2 ^ i), one-mul (2 ^ i))
 
 pub ones_clear : (i bits : ℕ) → bits / 2 ^ i % 2 ≡ 1 → count_ones (bits - 2 ^ i) + 1 ≡ count_ones bits
-ones_clear zero bits z =
-    let e : (bits - 2 ^ 0) / 2 ≡ bits / 2 = omega (arith, z) in
-    let f : (bits - 2 ^ 0) % 2 + 1 ≡ bits % 2 = omega (arith, z) in
-    omega (arith, ones_half bits, ones_half (bits - 2 ^ 0), ap count_ones e, f)
-ones_clear (suc i) bits z =
-    let q = bit_within bits (suc i) z in
-    let r = ones_clear i (bits / 2) (higher_bit bits i 1 z) in
-    omega (arith, ones_half bits, ones_half (bits - 2 ^ suc i), ap count_ones (half_less bits i q), low_less bits i q, r)
+ones_clear i bits z =
+    let q = bits / 2 ^ i in
+    let half : (q - 1) / 2 ≡ q / 2 = omega (arith, z) in
+    omega (arith, ap count_ones (cut_bit i bits z), ones_cat i (q - 1) (bits % 2 ^ i) (mod_below bits (2 ^ i) (pow_pos i)), ones_split i bits, ones_half q, ones_half (q - 1), ap count_ones half, z)
 
 module _ {X : Type 0} where
-  keep_all : (n m : ℕ) (es : List (ℕ × X)) → n ≤ m → T (below_all nat_cmp m es) → without n es ≡ es
-  keep_all n m [] h b = refl
-  keep_all n m (e ∷ es) h b =
+  -- nothing stands up to a number that is below all
+  pub find_above : (i n : ℕ) (es : List (ℕ × X)) → T (below_all nat_cmp n es) → i ≤ n → find nat_cmp i es ≡ None
+  find_above i n [] b h = refl
+  find_above i n (e ∷ es) b h =
       let p = T-parts _ _ b in
-      let q = T-true _ p.0 in
-      let r = keep_all n m es h p.1 in
-      let k : not (eq_by_cmp nat_cmp n e.0) ≡ true = grind (arith, nat_tests) in
-      ap (λ x. cond x (e ∷ without n es) (without n es)) k ∙ ap (λ ys. e ∷ ys) r
-
-  without_none_by : (n : ℕ) (e : ℕ × X) (es : List (ℕ × X)) → (find nat_cmp n es ≡ None → without n es ≡ es) → (b : Bool) → cond b (Some e.1) (find nat_cmp n es) ≡ None → cond (not b) (e ∷ without n es) (without n es) ≡ e ∷ es
-  without_none_by n e es r true f = cc
-  without_none_by n e es r false f = ap (λ ys. e ∷ ys) (r f)
+      let q = p.0 in
+      let r = find_above i n es p.1 h in
+      grind (arith, nat_tests)
 
   -- nothing goes where nothing stands
   pub without_none : (n : ℕ) (xs : List (ℕ × X)) → find nat_cmp n xs ≡ None → without n xs ≡ xs
   without_none n [] f = refl
-  without_none n (e ∷ es) f = without_none_by n e es (without_none n es) (eq_by_cmp nat_cmp n e.0) f
+  without_none n (e ∷ es) f = grind (arith, nat_tests, without_none n es)
 
 module _ {X : Type 0} where
   pub at_none : (w n bits : ℕ) → at_places {X = X} w n bits [] ≡ []
@@ -138,7 +136,7 @@ module _ {X : Type 0} where
   pub without_front : (n : ℕ) (x : X) (es : List (ℕ × X)) → T (below_all nat_cmp n es) → without n ((n, x) ∷ es) ≡ es
   without_front n x es h =
       let k : not (eq_by_cmp nat_cmp n n) ≡ false = grind (arith, nat_tests) in
-      ap (λ b. cond b ((n, x) ∷ without n es) (without n es)) k ∙ keep_all n n es (omega arith) h
+      ap (λ b. cond b ((n, x) ∷ without n es) (without n es)) k ∙ without_none n es (find_above n n es h (omega arith))
 
   -- the k-th thing replaced is the one at the place that has k places below it
   pub set_is_put : (w n i bits : ℕ) (xs : List X) (k : ℕ) (v : X) → i < w → bits / 2 ^ i % 2 ≡ 1 → k ≡ count_ones (bits % 2 ^ i) → k < length xs → at_places w n bits (set xs k v) ≡ put nat_cmp (n + i) v (at_places w n bits xs)

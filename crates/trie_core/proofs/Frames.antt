@@ -1,5 +1,5 @@
 -- What is left of a node: what stands first in it, and what a search leaves of it.
-use Rattle.std.proofs.Common.{◌≡◌, ℕ, ◌+◌, ◌-◌, ◌*◌, ◌/◌, ◌^◌, leb, ◌<◌, ◌≤◌, Bool, true, false, cond, not, ◌&&◌, List, [], ◌∷◌, ◌++◌, length, drop, refl, sym, ap, subst, ◌∙◌, arith}
+use Rattle.std.proofs.Common.{◌≡◌, ℕ, ◌+◌, ◌-◌, ◌*◌, ◌/◌, ◌^◌, leb, ◌<◌, ◌≤◌, Bool, true, false, cond, not, ◌&&◌, List, [], ◌∷◌, ◌++◌, length, drop, refl, sym, ap, subst, ◌∙◌, arith, inl, inr}
 use Rattle.std.specs.Prelude.{Option, Some, None, max, nat_lt}
 use Rattle.std.specs.declared.cmp.Ordering.{Ordering}
 use Rattle.std.specs.declared.cmp.Ordering.TheVariants.{Equal}
@@ -14,7 +14,7 @@ use Rattle.ipnet_blocks.specs.BitStrings.{bits_cmp, begins}
 use Rattle.trie_core.specs.InnerPlaces.{place_of, child_of, place_string, child_string, AllBelow, named, placed, value_list, child_list, first_place_of}
 use Rattle.ipnet_blocks.specs.Blocks.{digits}
 use Rattle.trie_core.specs.Prefixes.{prefix_bits}
-use Rattle.trie_core.specs.Nodes.{Seen}
+use Rattle.trie_core.specs.Nodes.{Seen, BitMap}
 use Rattle.trie_core.specs.InnerNodes.{under, node_height, IsNode}
 use Rattle.trie_core.specs.InnerCount.{all_nodes, total}
 use Rattle.trie_core.specs.InnerWalks.{first_value, KeysWithin, levels_of, nodes_of, part_map, AreInOrder, AreParts, Left}
@@ -22,11 +22,12 @@ use Rattle.trie_core.proofs.Strings.{bits_total, bits_same}
 use Rattle.trie_core.proofs.Maps.{child_get, get_none, get-short, get-long}
 use Rattle.trie_core.proofs.Order.{walk_value, walk_child, walk_none, starts_after, values_after}
 use Rattle.trie_core.proofs.Count.{things, under-append}
-use Rattle.trie_core.proofs.Numbers.{child_of-string, length-child_string, place_strings, place_string-place_of, child_string-child_of, place_bound, number_bound}
-use Rattle.trie_core.proofs.PlaceTables.{value_before, inside_short, inside_long}
+use Rattle.trie_core.proofs.Numbers.{place_string-place_of, child_string-child_of, place_bound, number_bound, child_of-string, length-child_string, place_strings}
+use Rattle.trie_core.proofs.PlaceTables.{inside_short, inside_long, value_before}
 use Rattle.trie_core.proofs.Named.{IsNaming, named_find, named_sorted, places_named, children_named, values_short, children_long, values_below, at_below, child_things}
 use Rattle.trie_core.proofs.Edits.{at_sorted}
 use Rattle.trie_core.proofs.Seen.{IsSeen}
+use Rattle.std.proofs.lemmas.Bool.{cases_lt, cond_both}
 
 pub under-under : {X : Type 0} (bs cs : List Bool) (es : List (List Bool × X)) → under bs (under cs es) ≡ under (bs ++ cs) es
 under-under bs cs [] = refl
@@ -164,6 +165,9 @@ nat_alike p n x e = let z : x ≡ n = grind (arith, nat_tests) in ap p z
 pub bits_alike : (p : List Bool → Bool) (q x : List Bool) → bits_cmp q x ≡ Equal → p x ≡ p q
 bits_alike p q x e = ap p (sym (bits_same q x e))
 
+pub found_where : {X : Type 0} (m : BitMap X) (f : List Bool → Bool) (x : List Bool) → find bits_cmp x (where_key bits_cmp f (entries m)) ≡ cond (f x) (get m x) None
+found_where m f x = find-where_key bits_cmp f x (bits_alike f x) (entries m) ∙ ap (λ o. cond (f x) o None) (sym (get-entries m x))
+
 -- p tells of a key what f tells of its place in the node, or g of the child on its way
 pub record IsTold (p : List Bool → Bool) (f g : ℕ → Bool) : Type 0 where
   pub short : (q : List Bool) → length q < 5 → p q ≡ f (place_of q)
@@ -171,19 +175,12 @@ pub record IsTold (p : List Bool → Bool) (f g : ℕ → Bool) : Type 0 where
 
 pub where_twice : {K Y : Type 0} (R : K → K → Ordering) (p q : K → Bool) (es : List (K × Y)) → where_key R p (where_key R q es) ≡ where_key R (λ k. q k && p k) es
 where_twice R p q [] = refl
-where_twice R p q (e ∷ es) = more (q e.0) (where_twice R p q es)
-  where
-    more : (b : Bool) → where_key R p (where_key R q es) ≡ where_key R (λ k. q k && p k) es → where_key R p (cond b (e ∷ where_key R q es) (where_key R q es)) ≡ cond (b && p e.0) (e ∷ where_key R (λ k. q k && p k) es) (where_key R (λ k. q k && p k) es)
-    more true r = ap (λ ys. cond (p e.0) (e ∷ ys) ys) r
-    more false r = r
+where_twice R p q (e ∷ es) = grind (arith, where_twice R p q es)
 
 module _ {Y : Type 0} where
   below_where : (w : ℕ) (p : ℕ → Bool) (es : List (ℕ × Y)) → AllBelow w es → AllBelow w (where_key nat_cmp p es)
   below_where w p [] b = tt
-  below_where w p (e ∷ es) b = elim (p e.0) as (λ t. AllBelow w (cond t (e ∷ where_key nat_cmp p es) (where_key nat_cmp p es))) [
-    | true ↦ (b.0, below_where w p es b.1)
-    | false ↦ below_where w p es b.1
-  ]
+  below_where w p (e ∷ es) b = cond_both (p e.0) _ _ (AllBelow w) (λ _. (b.0, below_where w p es b.1)) (λ _. below_where w p es b.1)
 
   named_where : (f : ℕ → List Bool) (w n : ℕ) (p : ℕ → Bool) (es : List (ℕ × Y)) → IsNaming f w → n < w → AllBelow w es → find bits_cmp (f n) (named f (where_key nat_cmp p es)) ≡ cond (p n) (find bits_cmp (f n) (named f es)) None
   named_where f w n p es a h b =
@@ -192,10 +189,7 @@ module _ {Y : Type 0} where
 
   pub keys_where : (n : ℕ) (trail : List Bool) (p : List Bool → Bool) (es : List (List Bool × Y)) → KeysWithin n (under trail es) → KeysWithin n (under trail (where_key bits_cmp p es))
   keys_where n trail p [] k = tt
-  keys_where n trail p (e ∷ es) k = elim (p e.0) as (λ t. KeysWithin n (under trail (cond t (e ∷ where_key bits_cmp p es) (where_key bits_cmp p es)))) [
-    | true ↦ (k.0, keys_where n trail p es k.1)
-    | false ↦ keys_where n trail p es k.1
-  ]
+  keys_where n trail p (e ∷ es) k = cond_both (p e.0) _ _ (λ ys. KeysWithin n (under trail ys)) (λ _. (k.0, keys_where n trail p es k.1)) (λ _. keys_where n trail p es k.1)
 
 pub inside_told : (q : List Bool) → length q < 5 → IsTold (begins q) (λ k. not (nat_lt k (place_of q)) && nat_lt k (place_of q + 31 / 2 ^ length q)) (λ k. not (nat_lt k (child_of q)) && nat_lt k (child_of q + 32 / 2 ^ length q))
 inside_told q h = record { short = λ r s. inside_short q r h s; long = λ r s. inside_long q r h s }
@@ -203,10 +197,7 @@ inside_told q h = record { short = λ r s. inside_short q r h s; long = λ r s. 
 module _ {X : Type 0} where
   levels_where : (p : ℕ → Bool) (cs : List (ℕ × Seen X)) → levels_of (where_key nat_cmp p cs) ≤ levels_of cs
   levels_where p [] = omega arith
-  levels_where p (c ∷ cs) = elim (p c.0) as (λ t. levels_of (cond t (c ∷ where_key nat_cmp p cs) (where_key nat_cmp p cs)) ≤ levels_of (c ∷ cs)) [
-    | true ↦ omega (arith, levels_where p cs)
-    | false ↦ omega (arith, levels_where p cs)
-  ]
+  levels_where p (c ∷ cs) = grind (arith, levels_where p cs)
 
   pub order_where : (f g : ℕ → Bool) {vs : List (ℕ × X)} {cs : List (ℕ × Seen X)} → AreInOrder vs cs → AreInOrder (where_key nat_cmp f vs) (where_key nat_cmp g cs)
   order_where f g {vs} {cs} o = record {
@@ -220,33 +211,31 @@ module _ {X : Type 0} where
   kept_child true o r = refl
   kept_child false o r = get_none r
 
-  part_get : {p : List Bool → Bool} (f g : ℕ → Bool) {vs : List (ℕ × X)} {cs : List (ℕ × Seen X)} → AreInOrder vs cs → IsTold p f g → (q : List Bool) (b : Bool) → nat_lt (length q) 5 ≡ b
-      → get (part_map (where_key nat_cmp f vs) (where_key nat_cmp g cs)) q ≡ cond (p q) (get (part_map vs cs) q) None
-  part_get {p} f g {vs} {cs} o t q true h =
-      let l : length q < 5 = grind (arith, nat_tests) in
-      let e = place_string-place_of q l in
-      get-short (part_node (order_where f g o)) q l
-      ∙ ap (λ s. find bits_cmp s (named place_string (where_key nat_cmp f vs))) (sym e)
-      ∙ named_where place_string 31 (place_of q) f vs places_named (omega (arith, place_bound 5 q l)) o.values_below
-      ∙ (λ i. cond (sym (t.short q l) i) (find bits_cmp (e i) (named place_string vs)) None)
-      ∙ ap (λ r. cond (p q) r None) (sym (get-short (part_node o) q l))
-  part_get {p} f g {vs} {cs} o t q false h =
-      let l : 5 ≤ length q = grind (arith, nat_tests) in
-      let e = child_string-child_of q l in
-      get-long (part_node (order_where f g o)) q l
-      ∙ ap (λ s. child_get (find bits_cmp s (named child_string (where_key nat_cmp g cs))) (drop 5 q)) (sym e)
-      ∙ ap (λ r. child_get r (drop 5 q)) (named_where child_string 32 (child_of q) g cs children_named (number_bound 5 q) o.children_below)
-      ∙ kept_child (g (child_of q)) (find bits_cmp (child_string (child_of q)) (named child_string cs)) (drop 5 q)
-      ∙ (λ i. cond (sym (t.long q l) i) (child_get (find bits_cmp (e i) (named child_string cs)) (drop 5 q)) None)
-      ∙ ap (λ r. cond (p q) r None) (sym (get-long (part_node o) q l))
+  part_get : {p : List Bool → Bool} (f g : ℕ → Bool) {vs : List (ℕ × X)} {cs : List (ℕ × Seen X)} → AreInOrder vs cs → IsTold p f g → (q : List Bool) → get (part_map (where_key nat_cmp f vs) (where_key nat_cmp g cs)) q ≡ cond (p q) (get (part_map vs cs) q) None
+  part_get {p} f g {vs} {cs} o t q = elim (cases_lt (length q) 5) [
+    | inl l ↦
+        let e = place_string-place_of q l in
+        get-short (part_node (order_where f g o)) q l
+        ∙ ap (λ s. find bits_cmp s (named place_string (where_key nat_cmp f vs))) (sym e)
+        ∙ named_where place_string 31 (place_of q) f vs places_named (omega (arith, place_bound 5 q l)) o.values_below
+        ∙ (λ i. cond (sym (t.short q l) i) (find bits_cmp (e i) (named place_string vs)) None)
+        ∙ ap (λ r. cond (p q) r None) (sym (get-short (part_node o) q l))
+    | inr l ↦
+        let e = child_string-child_of q l in
+        get-long (part_node (order_where f g o)) q l
+        ∙ ap (λ s. child_get (find bits_cmp s (named child_string (where_key nat_cmp g cs))) (drop 5 q)) (sym e)
+        ∙ ap (λ r. child_get r (drop 5 q)) (named_where child_string 32 (child_of q) g cs children_named (number_bound 5 q) o.children_below)
+        ∙ kept_child (g (child_of q)) (find bits_cmp (child_string (child_of q)) (named child_string cs)) (drop 5 q)
+        ∙ (λ i. cond (sym (t.long q l) i) (child_get (find bits_cmp (e i) (named child_string cs)) (drop 5 q)) None)
+        ∙ ap (λ r. cond (p q) r None) (sym (get-long (part_node o) q l))
+  ]
 
   -- the entries of some values and children are those of the keys that p tells
   pub part_where : {p : List Bool → Bool} (f g : ℕ → Bool) {vs : List (ℕ × X)} {cs : List (ℕ × Seen X)} → AreInOrder vs cs → IsTold p f g → entries (part_map (where_key nat_cmp f vs) (where_key nat_cmp g cs)) ≡ where_key bits_cmp p (entries (part_map vs cs))
   part_where {p} f g {vs} {cs} o t =
       same_entries bits_cmp bits_total bits_same _ _ (entries_sorted (part_map (where_key nat_cmp f vs) (where_key nat_cmp g cs)))
       (is_sorted-where_key bits_cmp p (entries (part_map vs cs)) (entries_sorted (part_map vs cs)))
-      (λ q. sym (get-entries (part_map (where_key nat_cmp f vs) (where_key nat_cmp g cs)) q) ∙ part_get f g o t q (nat_lt (length q) 5) refl ∙ ap (λ r. cond (p q) r None) (get-entries (part_map vs cs) q)
-      ∙ sym (find-where_key bits_cmp p q (bits_alike p q) (entries (part_map vs cs))))
+      (λ q. sym (get-entries (part_map (where_key nat_cmp f vs) (where_key nat_cmp g cs)) q) ∙ part_get f g o t q ∙ sym (found_where (part_map vs cs) p q))
 
   -- the values and children of the keys that p tells of the node that is seen as m
   pub record IsPart (p : List Bool → Bool) (m : Seen X) (vs : List (ℕ × X)) (cs : List (ℕ × Seen X)) : Type 0 where
@@ -281,17 +270,14 @@ module _ {X : Type 0} where
 
   -- ---- which comes first
 
-  first_by : {Y : Type 0} (vs : List (ℕ × X)) (cs : List (ℕ × Y)) {place child first : ℕ} → AllBelow 31 vs → AllBelow 32 cs → Some place ≡ first_place_of vs → Some child ≡ first_place_of cs → first ≡ child_of (place_string place) → leb first child ≡ first_value (named place_string vs) (named child_string cs)
-  first_by [] cs b d p q e = cc
-  first_by (v ∷ vs) [] b d p q e = cc
-  first_by (v ∷ vs) (c ∷ cs) {place} {child} {first} b d p q e =
+  pub value_is_first : {Y : Type 0} (vs : List (ℕ × X)) (cs : List (ℕ × Y)) {place child first : ℕ} → AllBelow 31 vs → AllBelow 32 cs → Some place ≡ first_place_of vs → Some child ≡ first_place_of cs → first ≡ child_of (place_string place) → leb first child ≡ first_value (named place_string vs) (named child_string cs)
+  value_is_first [] cs b d p q e = cc
+  value_is_first (v ∷ vs) [] b d p q e = cc
+  value_is_first (v ∷ vs) (c ∷ cs) {place} {child} {first} b d p q e =
       let x : place ≡ v.0 = cc in
       let y : child ≡ c.0 = cc in
       let z : child_of (child_string c.0) ≡ c.0 = child_of-string c.0 d.0 in
       (λ i. leb ((e ∙ ap (λ n. child_of (place_string n)) x) i) ((y ∙ sym z) i)) ∙ value_before (place_string v.0) (child_string c.0) (place_strings v.0 b.0).short (length-child_string c.0)
-
-  pub value_is_first : {Y : Type 0} (vs : List (ℕ × X)) (cs : List (ℕ × Y)) {place child first : ℕ} → AllBelow 31 vs → AllBelow 32 cs → Some place ≡ first_place_of vs → Some child ≡ first_place_of cs → first ≡ child_of (place_string place) → leb first child ≡ first_value (named place_string vs) (named child_string cs)
-  value_is_first vs cs b d p q e = first_by vs cs b d p q e
 
 pub child_bits : (child : ℕ) → prefix_bits 5 child 5 ≡ child_string child
 unfolding child_string

@@ -1,26 +1,24 @@
 -- A map without the keys inside a prefix, and what a change of a child makes of it.
-use Rattle.std.proofs.Common.{◌≡◌, ℕ, ◌+◌, ◌-◌, ◌^◌, ◌<◌, ◌≤◌, Bool, true, false, cond, not, ◌||◌, List, [], ◌∷◌, ◌++◌, length, take, drop, get_or, set, remove, refl, sym, ap, subst, ◌∙◌, arith}
-use Rattle.std.specs.Prelude.{nat_lt, Option, Some, None}
+use Rattle.std.proofs.Common.{◌≡◌, ℕ, ◌+◌, ◌<◌, ◌≤◌, Bool, true, false, cond, not, ◌||◌, List, [], ◌∷◌, ◌++◌, length, take, drop, get_or, set, sym, ap, subst, ◌∙◌, arith}
+use Rattle.std.specs.Prelude.{Option, Some, None}
 use Rattle.std.specs.FinMap.{get, len, empty, find, get-empty, get-remove, get-retain_keys, same_map}
 use Rattle.std.specs.FinMap as map
-use Rattle.std.proofs.lemmas.Bool.Decides.{nat_tests}
 use Rattle.std.proofs.Math.ListN.{length-drop}
-use Rattle.std.proofs.lemmas.List.{nil_from_length}
+use Rattle.std.proofs.lemmas.List.{nil_from_length, take-take}
 use Rattle.std.proofs.lemmas.Bool.{false_from_ne_true}
 use Rattle.ipnet_blocks.specs.BitStrings.{bits_cmp, begins}
 use Rattle.trie_core.specs.InnerPlaces.{child_of, IsUnset}
 use Rattle.trie_core.specs.Nodes.{BitMap, Seen}
-use Rattle.trie_core.specs.InnerNodes.{child_map, node_map, node_height, IsNode, HasSlots}
+use Rattle.trie_core.specs.InnerNodes.{child_map, node_map, IsNode}
 use Rattle.trie_core.specs.InnerCount.{all_nodes, entry_count}
 use Rattle.trie_core.specs.Inside.{outside}
-use Rattle.trie_core.proofs.Strings.{bits_total, bits_same, same, same-Decides, not_same, front, take_take}
+use Rattle.trie_core.proofs.Strings.{bits_total, bits_same, same, not_same, front, same_false}
 use Rattle.ipnet_blocks.proofs.BitStrings.{begins_take, begins-under}
-use Rattle.trie_core.proofs.Maps.{ListChanges, child_get, get-short, get-long}
-use Rattle.trie_core.proofs.Named.{is_node, child_put_in, child_taken_out}
+use Rattle.trie_core.proofs.Maps.{ListChanges, child_get, get-short, get-long, child_changes}
+use Rattle.trie_core.proofs.Named.{is_node, child_put_in}
 use Rattle.trie_core.proofs.Taken.{IsTaken, missing}
-use Rattle.trie_core.proofs.Seen.{IsSeen, map_of, viewed, counted, has_no_child, total-set}
-use Rattle.trie_core.proofs.Changes.{was_found, set_slots, total-remove, height-remove}
-use Rattle.trie_core.proofs.Entries.{entries_at, entries_of}
+use Rattle.trie_core.proofs.Seen.{IsSeen, map_of, has_no_child, total-set, entries_at, entries_of}
+use Rattle.trie_core.proofs.Changes.{was_found, set_slots, total-remove, IsChildless}
 
 -- ---- beginnings
 
@@ -28,28 +26,24 @@ pub begins_longer : (q x : List Bool) → length x < length q → begins q x ≡
 begins_longer q x h = false_from_ne_true _ (λ e. omega (arith, (begins_take q x e).0, h))
 
 pub first_five : (q x : List Bool) → 5 ≤ length q → begins q x ≡ true → take 5 x ≡ take 5 q
-first_five q x h e =
-    let b = begins_take q x e in
-    let f : 5 + (length q - 5) ≡ length q = omega (arith, h) in
-    sym (take_take x 5 (length q - 5)) ∙ ap (λ i. take 5 (take i x)) f ∙ ap (take 5) b.1
+first_five q x h e = sym (take-take 5 (length q) x h) ∙ ap (take 5) (begins_take q x e).1
 
 pub begins_elsewhere : (q x : List Bool) → 5 ≤ length q → same (take 5 x) (take 5 q) ≡ false → begins q x ≡ false
 begins_elsewhere q x h e = false_from_ne_true _ (λ b. not_same e (first_five q x h b))
 
-pub begins_below : (q x : List Bool) → 5 ≤ length q → 5 ≤ length x → take 5 x ≡ take 5 q → begins q x ≡ begins (drop 5 q) (drop 5 x)
-begins_below q x h l e = (λ i. begins (sym (front q h).1 i) (sym (front x l).1 i)) ∙ ap (λ b. begins (take 5 q ++ drop 5 q) (b ++ drop 5 x)) e ∙ begins-under (take 5 q) (drop 5 q) (drop 5 x)
+pub begins_below : (q r : List Bool) → 5 ≤ length q → begins q (take 5 q ++ r) ≡ begins (drop 5 q) r
+begins_below q r h = ap (λ p. begins p (take 5 q ++ r)) (sym (front q h).1) ∙ begins-under (take 5 q) (drop 5 q) r
+
+pub begins_under_first : (q r : List Bool) → 5 ≤ length q → begins (take 5 q ++ r) q ≡ begins r (drop 5 q)
+begins_under_first q r h = ap (begins (take 5 q ++ r)) (sym (front q h).1) ∙ begins-under (take 5 q) r (drop 5 q)
+
+pub off_way_there : (q s : List Bool) → 5 ≤ length s → same (take 5 s) (take 5 q) ≡ false → begins s q ≡ false
+off_way_there q s l e = begins_elsewhere s q l (same_false (take 5 q) (take 5 s) (λ p. not_same e (sym p)))
 
 -- a string begins with q where it is q, or goes on from q
 begins_split : (q x : List Bool) → begins q x ≡ (same x q || (begins (q ++ false ∷ []) x || begins (q ++ true ∷ []) x))
-begins_split [] [] = refl
-begins_split [] (true ∷ x) = refl
-begins_split [] (false ∷ x) = refl
-begins_split (true ∷ q) [] = refl
-begins_split (false ∷ q) [] = refl
-begins_split (true ∷ q) (true ∷ x) = begins_split q x
-begins_split (false ∷ q) (false ∷ x) = begins_split q x
-begins_split (true ∷ q) (false ∷ x) = refl
-begins_split (false ∷ q) (true ∷ x) = refl
+begins_split [] x = grind arith
+begins_split (b ∷ q) x = grind (arith, begins_split q)
 
 module _ {X : Type 0} where
   pub get-outside : (m : BitMap X) (q x : List Bool) → get (outside m q) x ≡ cond (not (begins q x)) (get m x) None
@@ -63,14 +57,7 @@ module _ {X : Type 0} where
   outside_all m = same_by _ _ (λ x. get-outside m [] x ∙ sym (get-empty bits_cmp x))
 
   three : (s a b : Bool) (o : Option X) → cond (not b) (cond (not a) (cond s None o) None) None ≡ cond (not (s || (a || b))) o None
-  three true true true o = refl
-  three true true false o = refl
-  three true false true o = refl
-  three true false false o = refl
-  three false true true o = refl
-  three false true false o = refl
-  three false false true o = refl
-  three false false false o = refl
+  three s a b o = grind arith
 
   -- the key itself, and what goes on from it with 0 and with 1
   pub outside_split : (m : BitMap X) (q : List Bool) → outside (outside (map.remove m q) (q ++ false ∷ [])) (q ++ true ∷ []) ≡ outside m q
@@ -81,12 +68,8 @@ module _ {X : Type 0} where
       ∙ ap (λ b. cond (not b) (get m x) None) (sym (begins_split q x))
       ∙ sym (get-outside m q x))
 
-  absent_by : (m : BitMap X) (q x : List Bool) → (begins q x ≡ true → get m x ≡ None) → (b : Bool) → begins q x ≡ b → get m x ≡ cond (not b) (get m x) None
-  absent_by m q x f true e = f e
-  absent_by m q x f false e = refl
-
   pub outside_absent : (m : BitMap X) (q : List Bool) → ((x : List Bool) → begins q x ≡ true → get m x ≡ None) → m ≡ outside m q
-  outside_absent m q f = same_by _ _ (λ x. absent_by m q x (f x) (begins q x) refl ∙ sym (get-outside m q x))
+  outside_absent m q f = same_by _ _ (λ x. grind (arith, f x, get-outside m q x))
 
   -- nothing lies outside five bits in the child below them
   pub none_left : (m : BitMap X) (q : List Bool) → length q ≡ 5 → empty ≡ outside m (drop 5 q)
@@ -94,27 +77,14 @@ module _ {X : Type 0} where
 
   -- ---- the child on the way to q
 
-  long_by : (cs : List (List Bool × Seen X)) (q : List Bool) (o : Option (Seen X)) → 5 ≤ length q → child_map o ≡ outside (child_map (find bits_cmp (take 5 q) cs)) (drop 5 q) → (x : List Bool) → 5 ≤ length x → (b : Bool) → same (take 5 x) (take 5 q) ≡ b
-      → child_get (cond b o (find bits_cmp (take 5 x) cs)) (drop 5 x) ≡ cond (not (begins q x)) (child_get (find bits_cmp (take 5 x) cs) (drop 5 x)) None
-  long_by cs q o h f x l true e =
-      let n = (same-Decides _ _).0 e in
-      ap (λ m. get m (drop 5 x)) f
-      ∙ get-outside (child_map (find bits_cmp (take 5 q) cs)) (drop 5 q) (drop 5 x)
-      ∙ (λ i. cond (not (sym (begins_below q x h l n) i)) (child_get (find bits_cmp (sym n i) cs) (drop 5 x)) None)
-  long_by cs q o h f x l false e = ap (λ b. cond (not b) (child_get (find bits_cmp (take 5 x) cs) (drop 5 x)) None) (sym (begins_elsewhere q x h e))
-
-  child_outside_by : {vs : List (List Bool × X)} {cs ds : List (List Bool × Seen X)} (q : List Bool) (o : Option (Seen X)) → IsNode vs cs → IsNode vs ds → 5 ≤ length q → ListChanges cs (take 5 q) o ds
-      → child_map o ≡ outside (child_map (find bits_cmp (take 5 q) cs)) (drop 5 q) → (x : List Bool) (b : Bool) → nat_lt (length x) 5 ≡ b → get (node_map vs ds) x ≡ cond (not (begins q x)) (get (node_map vs cs) x) None
-  child_outside_by {vs} {cs} {ds} q o n k h f g x true e =
-      let l : length x < 5 = grind (arith, nat_tests) in
-      get-short k x l ∙ sym (get-short n x l) ∙ ap (λ b. cond (not b) (get (node_map vs cs) x) None) (sym (begins_longer q x (omega (arith, l, h))))
-  child_outside_by {vs} {cs} {ds} q o n k h f g x false e =
-      let l : 5 ≤ length x = grind (arith, nat_tests) in
-      get-long k x l ∙ ap (λ o. child_get o (drop 5 x)) (f (take 5 x)) ∙ long_by cs q o h g x l _ refl ∙ ap (λ o. cond (not (begins q x)) o None) (sym (get-long n x l))
-
   child_outside : {vs : List (List Bool × X)} {cs ds : List (List Bool × Seen X)} (q : List Bool) (o : Option (Seen X)) → IsNode vs cs → IsNode vs ds → 5 ≤ length q → ListChanges cs (take 5 q) o ds
       → child_map o ≡ outside (child_map (find bits_cmp (take 5 q) cs)) (drop 5 q) → node_map vs ds ≡ outside (node_map vs cs) q
-  child_outside {vs} {cs} q o n k h f g = same_by _ _ (λ x. child_outside_by q o n k h f g x (nat_lt (length x) 5) refl ∙ sym (get-outside (node_map vs cs) q x))
+  child_outside {vs} {cs} {ds} q o n k h f g = same_by _ _ (λ x.
+      child_changes child_get (λ x p. cond (not (begins q x)) p None) cs ds q o (get (node_map vs cs)) (get (node_map vs ds)) (get-long n) (get-long k) h f
+      (λ x l. get-short k x l ∙ sym (get-short n x l) ∙ ap (λ b. cond (not b) (get (node_map vs cs) x) None) (sym (begins_longer q x (omega (arith, l, h)))))
+      (λ r. ap (λ m. get m r) g ∙ get-outside (child_map (find bits_cmp (take 5 q) cs)) (drop 5 q) r ∙ ap (λ b. cond (not b) (child_get (find bits_cmp (take 5 q) cs) r) None) (sym (begins_below q r h)))
+      (λ x p l e. ap (λ b. cond (not b) p None) (begins_elsewhere q x h e)) x
+      ∙ sym (get-outside (node_map vs cs) q x))
 
   -- there is none
   pub none_inside : {vb n : ℕ} {vs : List X} {cb : ℕ} {cs : List (Seen X)} {m : Seen X} (q : List Bool) → IsSeen vb vs cb cs m → 5 ≤ length q → n ≡ child_of q → IsUnset n cb → m.entries ≡ outside m.entries q
@@ -125,27 +95,9 @@ module _ {X : Type 0} where
       ap (get m.entries) (sym (front x l).1 ∙ ap (λ b. b ++ drop 5 x) (first_five q x h e)) ∙ t.gets (drop 5 x))
 
   -- it goes, with all its entries
-  pub record IsWithout (q : List Bool) (m : Seen X) (vb : ℕ) (vs : List X) (cb : ℕ) (cs : List (Seen X)) (e : Seen X) : Type 0 where
-    pub slots : HasSlots vb vs cb cs
-    pub map : map_of vb vs cb cs ≡ outside m.entries q
-    pub entries : len (map_of vb vs cb cs) + len e.entries ≡ len m.entries
-    pub count : all_nodes (viewed vb vs cb cs) + all_nodes e ≡ all_nodes m
-    pub height : node_height cs + 1 ≤ m.levels
-
-  pub gone : {vb at b : ℕ} {vs : List X} {cb : ℕ} {cs ds : List (Seen X)} {m : Seen X} (q : List Bool) (e : Seen X) → IsSeen vb vs cb cs m → 5 ≤ length q → IsTaken (child_of q) at cb cs → e ≡ get_or cs at e → empty ≡ outside e.entries (drop 5 q) → b ≡ 2 ^ child_of q → ds ≡ remove cs at
-      → IsWithout q m vb vs (cb - b) ds e
-  gone {vb} {at} {b} {vs} {cb} {cs} {ds} {m} q e s h t r z k l =
-      let below : cb - 2 ^ child_of q < 2 ^ 32 = omega (arith, s.slots.children_below) in
-      let slots : HasSlots vb vs (cb - 2 ^ child_of q) (remove cs at) = record { values_counted = s.slots.values_counted; values_below = s.slots.values_below; children_counted = t.ones; children_below = below } in
-      let p : IsWithout q m vb vs (cb - 2 ^ child_of q) (remove cs at) e = record {
-        slots = slots;
-        map = child_outside q None s.node (is_node vb vs (cb - 2 ^ child_of q) (remove cs at) s.slots.values_below below) h (child_taken_out q cb (cb - 2 ^ child_of q) cs (remove cs at) h s.slots.children_below t.removed)
-            (z ∙ ap (λ o. outside (child_map o) (drop 5 q)) (sym (was_found q e s h t r))) ∙ ap (λ x. outside x q) s.map;
-        entries = omega (arith, entries_at vb vs (cb - 2 ^ child_of q) (remove cs at) slots, total-remove entry_count cs at e t.within, ap entry_count r, entries_of s);
-        count = omega (arith, counted vb vs (cb - 2 ^ child_of q) (remove cs at) slots, total-remove all_nodes cs at e t.within, ap all_nodes r, s.count);
-        height = omega (arith, height-remove cs at, s.height);
-      } in
-      subst (λ (x : ℕ × List (Seen X)). IsWithout q m vb vs (cb - x.0) x.1 e) (λ i. (sym k i, sym l i)) p
+  pub gone : {vb at db : ℕ} {vs : List X} {cb : ℕ} {cs ds : List (Seen X)} {m : Seen X} (q : List Bool) (e : Seen X) → IsSeen vb vs cb cs m → 5 ≤ length q → IsTaken (child_of q) at cb cs → e ≡ get_or cs at e → IsChildless q m vb vs cb cs db ds e → empty ≡ outside e.entries (drop 5 q) → map_of vb vs db ds ≡ outside m.entries q
+  gone {vb} {db = db} {vs = vs} {ds = ds} q e s h t r p z =
+      child_outside q None s.node (is_node vb vs db ds p.slots.values_below p.slots.children_below) h p.changes (z ∙ ap (λ o. outside (child_map o) (drop 5 q)) (sym (was_found q e s h t r))) ∙ ap (λ x. outside x q) s.map
 
   -- it stays, with fewer entries
   pub set_outside : {vb at : ℕ} {vs : List X} {cb : ℕ} {cs : List (Seen X)} {m : Seen X} (q : List Bool) (e d : Seen X) → IsSeen vb vs cb cs m → 5 ≤ length q → IsTaken (child_of q) at cb cs → e ≡ get_or cs at e → d.entries ≡ outside e.entries (drop 5 q) → map_of vb vs cb (set cs at d) ≡ outside m.entries q

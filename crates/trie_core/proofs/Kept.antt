@@ -5,18 +5,17 @@ use Rattle.std.specs.Option.{IsSome}
 use Rattle.std.specs.declared.cmp.Ordering.{Ordering}
 use Rattle.std.specs.declared.cmp.Ordering.TheVariants.{Less, Equal, Greater}
 use Rattle.std.specs.Ordering.{is_eq}
-use Rattle.std.specs.FinMap.{find, get, insert, put, entries, is_sorted, entries_sorted, get-entries, get-insert, from_entries, len}
-use Rattle.std.specs.FinMap.Entries.{by_order, same_entries, find-put, is_sorted-put}
+use Rattle.std.specs.FinMap.{find, get, insert, put, entries, is_sorted, entries_sorted, get-entries, from_entries, len, entries-insert}
+use Rattle.std.specs.FinMap.Entries.{by_order}
 use Rattle.ipnet_addr.proofs.Basics.{none_some}
 use Rattle.ipnet_blocks.specs.BitStrings.{bits_cmp}
 use Rattle.trie_core.specs.Nodes.{BitMap}
 use Rattle.trie_core.specs.Count.{fives, fives_of, begun, nodes}
-use Rattle.trie_core.proofs.Strings.{bits_total, bits_same, same}
+use Rattle.trie_core.proofs.Strings.{bits_total}
 use Rattle.trie_core.proofs.Maps.{tail_rises, find_before}
 use Rattle.trie_core.proofs.Order.{starts_above}
 
 module _ {X : Type 0} where
-
   written_by : (q : List Bool) (v : X) (e : List Bool × X) (es : List (List Bool × X)) → T (is_sorted bits_cmp (e ∷ es)) → (IsSome (find bits_cmp q es) → fives_of (put bits_cmp q v es) ≡ fives_of es)
       → (r : Ordering) → bits_cmp q e.0 ≡ r → IsSome (cond (is_eq r) (Some e.1) (find bits_cmp q es)) → fives_of (by_order r ((q, v) ∷ e ∷ es) ((e.0, v) ∷ es) (e ∷ put bits_cmp q v es)) ≡ fives e.0 ++ fives_of es
   written_by q v e es s i Less r h = absurd (none_some (ap (λ o. cond (is_eq o) (Some e.1) (find bits_cmp q es)) (sym r) ∙ find_before q (e ∷ es) (starts_above q (e ∷ es) r s)) h)
@@ -27,15 +26,8 @@ module _ {X : Type 0} where
   written q v [] s h = cc
   written q v (e ∷ es) s h = written_by q v e es s (written q v es (tail_rises e es s).0) (bits_cmp q e.0) refl h
 
-  entries-insert : (m : BitMap X) (q : List Bool) (v : X) → entries (insert m q v) ≡ put bits_cmp q v (entries m)
-  entries-insert m q v = same_entries bits_cmp bits_total bits_same _ _ (entries_sorted (insert m q v)) (is_sorted-put bits_cmp bits_total q v (entries m) (entries_sorted m))
-      (λ x. sym (get-entries (insert m q v) x) ∙ get-insert bits_total m q v x ∙ ap (cond (same x q) (Some v)) (get-entries m x) ∙ sym (find-put bits_cmp bits_total x q v (entries m)))
-
   pub nodes_kept : (m : BitMap X) (q : List Bool) (v : X) → IsSome (get m q) → nodes (insert m q v) ≡ nodes m
   unfolding begun
   nodes_kept m q v h =
-      ap (λ es. len (from_entries {R = bits_cmp} (fives_of es)) + 1) (entries-insert m q v)
-      ∙ ap (λ fs. len (from_entries {R = bits_cmp} fs) + 1) (written q v (entries m) (entries_sorted m) (stored m q h))
-    where
-      stored : (m : BitMap X) (q : List Bool) → IsSome (get m q) → IsSome (find bits_cmp q (entries m))
-      stored m q h = subst (λ o. IsSome o) (get-entries m q) h
+      ap (λ es. len (from_entries {R = bits_cmp} (fives_of es)) + 1) (entries-insert bits_total m q v)
+      ∙ ap (λ fs. len (from_entries {R = bits_cmp} fs) + 1) (written q v (entries m) (entries_sorted m) (subst (λ o. IsSome o) (get-entries m q) h))

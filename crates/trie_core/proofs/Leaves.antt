@@ -1,11 +1,11 @@
 -- Where nothing stands strictly inside a string.
-use Rattle.std.proofs.Common.{◌≡◌, ℕ, zero, suc, ◌+◌, ◌-◌, ◌/◌, ◌%◌, ◌^◌, ◌<◌, ◌≤◌, Bool, true, false, not, ◌&&◌, List, [], ◌∷◌, ◌++◌, length, take, drop, refl, sym, ap, ◌∙◌, arith}
+use Rattle.std.proofs.Common.{◌≡◌, ℕ, zero, suc, ◌+◌, ◌-◌, ◌/◌, ◌%◌, ◌^◌, ◌<◌, ◌≤◌, Bool, true, not, ◌&&◌, List, [], ◌∷◌, ◌++◌, length, take, drop, refl, sym, ap, ◌∙◌, arith, inl, inr}
 use Rattle.std.specs.Prelude.{Option, Some, None, bit_and, count_ones, eqb, nat_lt, ◌↔◌}
 use Rattle.std.specs.Int.{bit_at}
 use Rattle.std.specs.Ordering.{nat_cmp}
 use Rattle.std.specs.FinMap.{find, get, get-empty, len, len-empty, empty, same_map}
 use Rattle.std.proofs.lemmas.Bool.Decides.{nat_tests}
-use Rattle.std.proofs.lemmas.List.{append_assoc, drop_all, take_all, take-append-drop}
+use Rattle.std.proofs.lemmas.List.{append_assoc, drop_all, take_all, take-append-drop, append-nil}
 use Rattle.std.proofs.lemmas.Nat.{and_le_l}
 use Rattle.std.proofs.lemmas.Nat.Bits.{bit_at_and, bit_at-lt, bit_at-zero, bit_at_mask_inside}
 use Rattle.ipnet_blocks.specs.BitStrings.{bits_cmp, begins}
@@ -13,17 +13,18 @@ use Rattle.ipnet_blocks.proofs.BitStrings.{begins_on, begun_rest}
 use Rattle.trie_core.specs.InnerPlaces.{place_from, place_of, child_of, place_string, child_string, at_places}
 use Rattle.trie_core.specs.InnerSearch.{IsChild, HasNoChild}
 use Rattle.trie_core.specs.Inside.{NothingInside}
-use Rattle.trie_core.specs.Nodes.{BitMap, BitSet, Seen}
+use Rattle.trie_core.specs.Nodes.{BitMap, Seen}
 use Rattle.trie_core.specs.InnerCount.{marked}
-use Rattle.trie_core.proofs.Strings.{bits_total, bits_same, append_none}
+use Rattle.trie_core.proofs.Strings.{bits_total, bits_same}
 use Rattle.trie_core.proofs.Numbers.{place_strings, child_of-string, length-child_string}
 use Rattle.trie_core.proofs.PlaceTables.{inside_short, inside_long}
 use Rattle.trie_core.proofs.Maps.{get_none, child_get}
 use Rattle.trie_core.proofs.Marks.{marked_get, marked-root, root_if, set-short}
 use Rattle.trie_core.proofs.Taken.{taken, missing}
 use Rattle.trie_core.proofs.Seen.{IsSeen, value_at, below_at, spare_at, is_child}
-use Rattle.trie_core.proofs.Searches.{below_31, last_place}
-use Rattle.trie_core.proofs.Opened.{has_between, both_set}
+use Rattle.trie_core.proofs.Searches.{below_31, last_place, both_set}
+use Rattle.trie_core.proofs.Opened.{has_between}
+use Rattle.std.proofs.lemmas.Bool.{cases_lt}
 
 -- ---- what goes on from a string
 
@@ -38,25 +39,17 @@ pub goes_on : (q x : List Bool) → begins q x ≡ true → (q ≡ x → ⊥) �
 goes_on q x e f = by (drop (length q) x) (begun_rest q x e)
   where
     by : (r : List Bool) → q ++ r ≡ x → (b : Bool) × (k : List Bool) × (q ++ b ∷ k ≡ x)
-    by [] z = absurd (f (sym (append_none q) ∙ z))
+    by [] z = absurd (f (sym (append-nil q) ∙ z))
     by (b ∷ k) z = (b, k, z)
 
 -- ---- words
 
 -- a number in a range, and the test of it
 ranged : (from end i : ℕ) → true ≡ (not (nat_lt i from) && nat_lt i end) → (from ≤ i) × (i < end)
-ranged from end i e = by (nat_lt i from) (nat_lt i end) refl refl e
-  where
-    by : (a b : Bool) → nat_lt i from ≡ a → nat_lt i end ≡ b → true ≡ (not a && b) → (from ≤ i) × (i < end)
-    by true b p r e = cc
-    by false true p r e = (grind (arith, nat_tests), grind (arith, nat_tests))
-    by false false p r e = cc
+ranged from end i e = grind (arith, nat_tests)
 
 in_range : (from end i : ℕ) → from ≤ i → i < end → (not (nat_lt i from) && nat_lt i end) ≡ true
-in_range from end i h l =
-    let a : nat_lt i from ≡ false = grind (arith, nat_tests) in
-    let b : nat_lt i end ≡ true = grind (arith, nat_tests) in
-    λ j. not (a j) && b j
+in_range from end i h l = grind (arith, nat_tests)
 
 -- what the other word has, this one lacks
 apart : (a b i : ℕ) → bit_and a b ≡ 0 → bit_at b i ≡ 1 → bit_at a i ≡ 0
@@ -64,11 +57,10 @@ apart a b i z e = omega (arith, bit_at_and a b i, ap (λ n. bit_at n i) z, bit_a
 
 -- a word without bits is 0
 no_bit : (a : ℕ) → a < 2 ^ 32 → ((i : ℕ) → i < 32 → bit_at a i ≡ 1 → ⊥) → a ≡ 0
-no_bit a h f = by (nat_lt 0 a) refl
-  where
-    by : (b : Bool) → nat_lt 0 a ≡ b → a ≡ 0
-    by true e = let t = last_place a (grind (arith, nat_tests)) h in absurd (f _ t.within t.taken)
-    by false e = grind (arith, nat_tests)
+no_bit a h f = elim (cases_lt 0 a) [
+  | inl e ↦ let t = last_place a e h in absurd (f _ t.within t.taken)
+  | inr e ↦ omega arith
+]
 
 -- a bit between two places
 between : (from end i : ℕ) → bit_at (2 ^ end - 2 ^ from) i ≡ 1 → (from ≤ i) × (i < end)
@@ -81,8 +73,8 @@ some_at {Y} i bits (y ∷ ys) h e c z = let r = sym z ∙ (taken {X = Y} i (coun
 
 -- ---- on the way
 
-step_set : (m c : BitSet) (q r : List Bool) → ((b : Bool) (k : List Bool) → get m (take 5 q ++ b ∷ k) ≡ get c (b ∷ k)) → r ≡ drop 5 q → NothingInside c r ↔ NothingInside m q
-step_set m c q r f e = (λ g b k. at b k ∙ g b k, λ g b k. sym (at b k) ∙ g b k)
+step_in : {Y : Type 0} (m c : BitMap Y) (q r : List Bool) → ((b : Bool) (k : List Bool) → get m (take 5 q ++ b ∷ k) ≡ get c (b ∷ k)) → r ≡ drop 5 q → NothingInside c r ↔ NothingInside m q
+step_in m c q r f e = (λ g b k. at b k ∙ g b k, λ g b k. sym (at b k) ∙ g b k)
   where
     more : (p : List Bool) (b : Bool) (k : List Bool) → get m (take 5 q ++ (p ++ b ∷ k)) ≡ get c (p ++ b ∷ k)
     more [] b k = f b k
@@ -110,19 +102,16 @@ module _ {X : Type 0} where
 
   pub none_inside_here : {vb vm cm : ℕ} {vs : List X} {cb : ℕ} {cs : List (Seen X)} {m : Seen X} (q : List Bool) → IsSeen vb vs cb cs m → length q < 5 → vm ≡ 2 ^ (place_of q + 31 / 2 ^ length q) - 2 ^ (place_of q + 1) → cm ≡ 2 ^ (child_of q + 32 / 2 ^ length q) - 2 ^ child_of q → bit_and vb vm ≡ 0 → bit_and cb cm ≡ 0
       → NothingInside m.entries q × NothingInside m.spares q
-  none_inside_here {m = m} q s h e f y z = (λ b k. keys b k (nat_lt (length (q ++ b ∷ k)) 5) refl, λ b k. spares b k (nat_lt (length (q ++ b ∷ k)) 5) refl)
-    where
-      keys : (b : Bool) (k : List Bool) (t : Bool) → nat_lt (length (q ++ b ∷ k)) 5 ≡ t → get m.entries (q ++ b ∷ k) ≡ None
-      keys b k true t = no_value_at q b k s h e y (grind (arith, nat_tests))
-      keys b k false t =
-          let l : 5 ≤ length (q ++ b ∷ k) = grind (arith, nat_tests) in
-          sym (below_at (q ++ b ∷ k) s l) ∙ ap (λ o. child_get o (drop 5 (q ++ b ∷ k))) (sym (no_child_at q b k s h f z l)) ∙ get_none (drop 5 (q ++ b ∷ k))
-
-      spares : (b : Bool) (k : List Bool) (t : Bool) → nat_lt (length (q ++ b ∷ k)) 5 ≡ t → get m.spares (q ++ b ∷ k) ≡ None
-      spares b k true t = ap (λ c. get c (q ++ b ∷ k)) (sym s.spare) ∙ set-short s.node (q ++ b ∷ k) (grind (arith, nat_tests))
-      spares b k false t =
-          let l : 5 ≤ length (q ++ b ∷ k) = grind (arith, nat_tests) in
-          sym (spare_at (q ++ b ∷ k) s l) ∙ ap (λ o. marked_get o (drop 5 (q ++ b ∷ k))) (sym (no_child_at q b k s h f z l))
+  none_inside_here {m = m} q s h e f y z = (
+    λ b k. elim (cases_lt (length (q ++ b ∷ k)) 5) [
+      | inl l ↦ no_value_at q b k s h e y l
+      | inr l ↦ sym (below_at (q ++ b ∷ k) s l) ∙ ap (λ o. child_get o (drop 5 (q ++ b ∷ k))) (sym (no_child_at q b k s h f z l)) ∙ get_none (drop 5 (q ++ b ∷ k))
+    ],
+    λ b k. elim (cases_lt (length (q ++ b ∷ k)) 5) [
+      | inl l ↦ ap (λ c. get c (q ++ b ∷ k)) (sym s.spare) ∙ set-short s.node (q ++ b ∷ k) l
+      | inr l ↦ sym (spare_at (q ++ b ∷ k) s l) ∙ ap (λ o. marked_get o (drop 5 (q ++ b ∷ k))) (sym (no_child_at q b k s h f z l))
+    ],
+  )
 
   -- ---- and back
 
@@ -130,7 +119,7 @@ module _ {X : Type 0} where
   no_value_word {vb} {vm} {vs} {m = m} q s h e f = no_bit (bit_and vb vm) (omega (arith, and_le_l vb vm, s.slots.values_below)) (λ i l b.
       let t = both_set vb vm i b in
       let r = between (place_of q + 1) (place_of q + 31 / 2 ^ length q) i (ap (λ n. bit_at n i) (sym e) ∙ t.1) in
-      let p = place_strings i (below_31 vb i s.slots.values_below t.0 (nat_lt i 31) refl) in
+      let p = place_strings i (below_31 vb i s.slots.values_below t.0) in
       let x = place_string i in
       let w : begins q x ≡ true = inside_short q x h p.short ∙ in_range (place_of q) (place_of q + 31 / 2 ^ length q) (place_of x) (omega (arith, p.place, r.0)) (omega (arith, p.place, r.1)) in
       let g = goes_on q x w (λ z. omega (arith, ap place_of z, p.place, r.0)) in
@@ -169,22 +158,14 @@ module _ {X : Type 0} where
       held : (x : List Bool) (b : Bool) (k : List Bool) → q ++ b ∷ k ≡ x → {i : ℕ} → child_of x ≡ i → i < 32 → length x ≡ 5 → bit_at cb i ≡ 1 → ⊥
       held x b k z {i} n l five t = some_at i cb cs l t s.slots.children_counted (ap (λ j. find nat_cmp j (at_places 32 0 cb cs)) (sym n) ∙ by x b k z five (find nat_cmp (child_of x) (at_places 32 0 cb cs)) refl)
 
-  -- ---- on the way
-
-  step_map : (m c : BitMap X) (q r : List Bool) → ((k : List Bool) → get m (take 5 q ++ k) ≡ get c k) → r ≡ drop 5 q → NothingInside c r ↔ NothingInside m q
-  step_map m c q r f e = (λ g b k. at b k ∙ g b k, λ g b k. sym (at b k) ∙ g b k)
-    where
-      at : (b : Bool) (k : List Bool) → get m (q ++ b ∷ k) ≡ get c (r ++ b ∷ k)
-      at b k = ap (λ p. get m (p ++ b ∷ k)) (sym (take-append-drop 5 q)) ∙ ap (get m) (append_assoc (take 5 q) (drop 5 q) (b ∷ k)) ∙ f (drop 5 q ++ b ∷ k) ∙ ap (λ p. get c (p ++ b ∷ k)) (sym e)
-
   -- nothing stands inside q in m
   abbrev pub IsLeaf : Seen X → List Bool → Type 0
   IsLeaf m q = NothingInside m.entries q × NothingInside m.spares q
 
   pub leaf_below : {m c : Seen X} {q r : List Bool} → IsChild q m c → r ≡ drop 5 q → IsLeaf c r ↔ IsLeaf m q
   leaf_below {m} {c} {q} {r} h e =
-      let a = step_map m.entries c.entries q r h.gets e in
-      let b = step_set m.spares c.spares q r h.spares e in
+      let a = step_in m.entries c.entries q r (λ b k. h.gets (b ∷ k)) e in
+      let b = step_in m.spares c.spares q r h.spares e in
       (λ p. (a.0 p.0, b.0 p.1), λ p. (a.1 p.0, b.1 p.1))
 
   pub leaf_ends : {m : Seen X} {q : List Bool} → HasNoChild q m → IsLeaf m q

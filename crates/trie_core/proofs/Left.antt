@@ -1,13 +1,12 @@
 -- The spare nodes that are left as keys go below a node, and the nodes on their way that lead nowhere.
-use Rattle.std.proofs.Common.{◌≡◌, ◌%◌, ◌<◌, ◌≤◌, Bool, true, false, cond, not, List, [], ◌∷◌, ◌++◌, ℕ, zero, suc, ◌-◌, ◌^◌, length, take, drop, get_or, set, refl, sym, ap, subst, ◌∙◌, arith}
-use Rattle.std.specs.Prelude.{nat_lt, Option, Some, None, is_some, ◌↔◌}
+use Rattle.std.proofs.Common.{◌≡◌, ◌%◌, ◌<◌, ◌≤◌, Bool, true, false, cond, not, List, [], ◌∷◌, ◌++◌, ℕ, zero, suc, ◌-◌, ◌^◌, length, take, drop, get_or, set, refl, sym, ap, subst, ◌∙◌, arith, inl, inr}
+use Rattle.std.specs.Prelude.{Option, Some, None, is_some, ◌↔◌}
 use Rattle.std.specs.List.{remove as remove_at}
 use Rattle.std.specs.FinMap.{get, len, empty, find, remove, entries, get-empty, get-entries, get-remove, len-empty, len-entries, empty_of_len, same_map}
-use Rattle.std.proofs.lemmas.Bool.Decides.{nat_tests}
-use Rattle.std.proofs.lemmas.List.{append_assoc}
+use Rattle.std.proofs.lemmas.List.{append_assoc, append-nil}
 use Rattle.std.proofs.Math.Seq.{take-length}
 use Rattle.std.proofs.Math.ListN.{length-append}
-use Rattle.std.proofs.lemmas.Bool.{both_ways}
+use Rattle.std.proofs.lemmas.Bool.{both_ways, cases_lt}
 use Rattle.ipnet_blocks.specs.BitStrings.{bits_cmp, begins}
 use Rattle.trie_core.specs.InnerPlaces.{child_of, child_list, IsUnset}
 use Rattle.trie_core.specs.Nodes.{BitMap, BitSet, Seen}
@@ -15,27 +14,23 @@ use Rattle.trie_core.specs.InnerNodes.{node_map, IsNode, HasSlots, AreBelow}
 use Rattle.trie_core.specs.InnerCount.{spare_count, marked, spare_set}
 use Rattle.trie_core.specs.Inside.{outside}
 use Rattle.trie_core.specs.Ways.{IsIdle, LeadsOff, IsLeft, IsCut}
-use Rattle.trie_core.proofs.Strings.{bits_total, bits_same, same, same-Decides, same-refl, same_false, not_same, front, take_first, append_none}
-use Rattle.ipnet_blocks.proofs.BitStrings.{begins_on, begins_take, begins-under}
-use Rattle.trie_core.proofs.Maps.{ListChanges, drop_first, child_get, get-long}
-use Rattle.trie_core.proofs.Marks.{marked_get, marked-other, marked-root, root_if, set-short, set-long, set-changed}
-use Rattle.trie_core.proofs.Named.{is_node, child_put_in, child_taken_out, child_found}
-use Rattle.trie_core.proofs.Taken.{IsTaken, missing}
+use Rattle.trie_core.proofs.Strings.{bits_total, bits_same, same, same-Decides, same-refl, front}
+use Rattle.ipnet_blocks.proofs.BitStrings.{begins_on, begins_take}
+use Rattle.trie_core.proofs.Maps.{ListChanges, child_get, child_changes, each_string, under_long, found_changed, get-below}
+use Rattle.trie_core.proofs.Marks.{marked_get, marked-other, marked-root, root_if, set-short, set-long, set-changed, set-below}
+use Rattle.trie_core.proofs.Named.{is_node, child_put_in, child_taken_out, child_found, turned}
+use Rattle.trie_core.proofs.Taken.{IsTaken, missing, taken_out}
 use Rattle.trie_core.proofs.Seen.{IsSeen, map_of}
-use Rattle.trie_core.proofs.Changes.{was_found, set_removed}
-use Rattle.trie_core.proofs.Inside.{begins_elsewhere, first_five, get-outside, outside_absent}
+use Rattle.trie_core.proofs.Changes.{was_found, set_removed, childless}
+use Rattle.trie_core.proofs.Inside.{begins_elsewhere, first_five, get-outside, outside_absent, off_way_there, begins_under_first}
+use Rattle.trie_core.proofs.Ways.{no_choice}
 
 -- nothing is found in a set without strings
 pub none_found : {o : Option (Unit {0})} → o ≡ None → is_some o ≡ true → ⊥
 none_found e h = cc
 
 not_other : (o : Option (Unit {0})) (b : Bool) → is_some (cond b None o) ≡ true → (b ≡ false) × (is_some o ≡ true)
-not_other o true h = cc
-not_other o false h = (refl, h)
-
-either_none : {Y : Type 0} (b : Bool) → ◌≡◌ {A = Option Y} None (cond b None None)
-either_none true = refl
-either_none false = refl
+not_other o b h = grind arith
 
 -- the first string of a set
 first_of : (b : BitSet) → (len b ≡ 0 → ⊥) → (t : List Bool) × (is_some (get b t) ≡ true)
@@ -45,43 +40,7 @@ first_of b h = by (entries b) refl
     by [] e = absurd (h (len-entries b ∙ ap length e))
     by (x ∷ es) e = (x.0, ap is_some (get-entries b x.0 ∙ ap (find bits_cmp x.0) e ∙ ap (λ s. cond s (Some x.1) (find bits_cmp x.0 es)) (same-refl x.0)))
 
--- ---- strings that begin with the first five bits of q, or not
-
-at_first : (q s : List Bool) → 5 ≤ length s → same (take 5 s) (take 5 q) ≡ true → take 5 q ++ drop 5 s ≡ s
-at_first q s l e = ap (λ w. w ++ drop 5 s) (sym ((same-Decides (take 5 s) (take 5 q)).0 e)) ∙ (front s l).1
-
-module _ (P : List Bool → Type 0) (q : List Bool) (short : (s : List Bool) → length s < 5 → P s) (under : (r : List Bool) → P (take 5 q ++ r)) (elsewhere : (s : List Bool) → 5 ≤ length s → same (take 5 s) (take 5 q) ≡ false → P s) where
-  each_long : (s : List Bool) → 5 ≤ length s → (b : Bool) → same (take 5 s) (take 5 q) ≡ b → P s
-  each_long s l true e = subst P (at_first q s l e) (under (drop 5 s))
-  each_long s l false e = elsewhere s l e
-
-  each_by : (s : List Bool) (b : Bool) → nat_lt (length s) 5 ≡ b → P s
-  each_by s true e = short s (grind (arith, nat_tests))
-  each_by s false e = each_long s (grind (arith, nat_tests)) (same (take 5 s) (take 5 q)) refl
-
-  -- what holds of short strings, of those under the first five bits of q and of those under others holds of each
-  pub each_string : (s : List Bool) → P s
-  each_string s = each_by s (nat_lt (length s) 5) refl
-
-pub off_way_there : (q s : List Bool) → 5 ≤ length s → same (take 5 s) (take 5 q) ≡ false → begins s q ≡ false
-off_way_there q s l e = begins_elsewhere s q l (same_false (take 5 q) (take 5 s) (λ p. not_same e (sym p)))
-
-pub under_long : (q r : List Bool) → 5 ≤ length q → 5 ≤ length (take 5 q ++ r)
-under_long q r h = omega (arith, length-append (take 5 q) r, (front q h).0)
-
-pub begins_under_first : (q r : List Bool) → 5 ≤ length q → begins (take 5 q ++ r) q ≡ begins r (drop 5 q)
-begins_under_first q r h = ap (begins (take 5 q ++ r)) (sym (front q h).1) ∙ begins-under (take 5 q) r (drop 5 q)
-
 module _ {X : Type 0} where
-  pub found_changed : (cs ds : List (List Bool × Seen X)) (q : List Bool) (o : Option (Seen X)) → ListChanges cs (take 5 q) o ds → find bits_cmp (take 5 q) ds ≡ o
-  found_changed cs ds q o c = c (take 5 q) ∙ ap (λ b. cond b o (find bits_cmp (take 5 q) cs)) (same-refl (take 5 q))
-
-  pub spare_under : {vs : List (List Bool × X)} {cs : List (List Bool × Seen X)} → IsNode vs cs → (q r : List Bool) → 5 ≤ length q → get (spare_set cs) (take 5 q ++ r) ≡ marked_get (find bits_cmp (take 5 q) cs) r
-  spare_under {cs = cs} n q r h = let f = (front q h).0 in set-long n (take 5 q ++ r) (under_long q r h) ∙ (λ i. marked_get (find bits_cmp (take_first (take 5 q) r f i) cs) (drop_first (take 5 q) r f i))
-
-  pub map_under : {vs : List (List Bool × X)} {cs : List (List Bool × Seen X)} → IsNode vs cs → (q r : List Bool) → 5 ≤ length q → get (node_map vs cs) (take 5 q ++ r) ≡ child_get (find bits_cmp (take 5 q) cs) r
-  map_under {cs = cs} n q r h = let f = (front q h).0 in get-long n (take 5 q ++ r) (under_long q r h) ∙ (λ i. child_get (find bits_cmp (take_first (take 5 q) r f i) cs) (drop_first (take 5 q) r f i))
-
   pub none_changes : (cs : List (List Bool × Seen X)) (q : List Bool) → find bits_cmp (take 5 q) cs ≡ None → ListChanges cs (take 5 q) None cs
   none_changes cs q e x = by (same x (take 5 q)) refl
     where
@@ -122,7 +81,7 @@ module _ {X : Type 0} (lost : List Bool → Bool) where
   -- there was none
   pub left_absent : (f p : List Bool) → IsLeftBelow f p None None
   left_absent f p = record {
-    off = λ r h. either_none (lost (f ++ r));
+    off = λ r h. sym (no_choice (lost (f ++ r)));
     shows = λ r h s. absurd (none_found refl s);
     holds = λ r h s. absurd (none_found refl s.leads.1);
   }
@@ -178,42 +137,36 @@ module _ {X : Type 0} (lost : List Bool → Bool) where
 
   module _ {vs us : List (List Bool × X)} {cs ds : List (List Bool × Seen X)} (q : List Bool) (o : Option (Seen X)) (n : IsNode vs cs) (k : IsNode us ds) (h : 5 ≤ length q) (c : ListChanges cs (take 5 q) o ds)
       (elsewhere : (s : List Bool) → 5 ≤ length s → same (take 5 s) (take 5 q) ≡ false → lost s ≡ false) (left : IsLeftBelow (take 5 q) (drop 5 q) (find bits_cmp (take 5 q) cs) o) where
-    begins_in : (r : List Bool) → begins (take 5 q ++ r) q ≡ begins r (drop 5 q)
-    begins_in r = begins_under_first q r h
-
     found : find bits_cmp (take 5 q) ds ≡ o
     found = found_changed cs ds q o c
 
     old_at : (r : List Bool) → get (spare_set cs) (take 5 q ++ r) ≡ marked_get (find bits_cmp (take 5 q) cs) r
-    old_at r = spare_under n q r h
+    old_at r = set-below n (take 5 q) r (front q h).0
 
     new_at : (r : List Bool) → get (spare_set ds) (take 5 q ++ r) ≡ marked_get o r
-    new_at r = spare_under k q r h ∙ ap (λ w. marked_get w r) found
+    new_at r = set-below k (take 5 q) r (front q h).0 ∙ ap (λ w. marked_get w r) found
 
     map_at : (r : List Bool) → get (node_map us ds) (take 5 q ++ r) ≡ child_get o r
-    map_at r = map_under k q r h ∙ ap (λ w. child_get w r) found
-
-    deeper : (r x : List Bool) → (take 5 q ++ r) ++ x ≡ take 5 q ++ (r ++ x)
-    deeper r x = append_assoc (take 5 q) r x
+    map_at r = get-below k (take 5 q) r (front q h).0 ∙ ap (λ w. child_get w r) found
 
     in_off : (r : List Bool) → begins (take 5 q ++ r) q ≡ false → get (spare_set ds) (take 5 q ++ r) ≡ cond (lost (take 5 q ++ r)) None (get (spare_set cs) (take 5 q ++ r))
-    in_off r b = new_at r ∙ left.off r (sym (begins_in r) ∙ b) ∙ ap (cond (lost (take 5 q ++ r)) None) (sym (old_at r))
+    in_off r b = new_at r ∙ left.off r (sym (begins_under_first q r h) ∙ b) ∙ ap (cond (lost (take 5 q ++ r)) None) (sym (old_at r))
 
     in_on : (r : List Bool) → begins (take 5 q ++ r) q ≡ true → (is_some (get (spare_set ds) (take 5 q ++ r)) ≡ true) ↔ (IsIdle (node_map us ds) (take 5 q ++ r) × LeadsOff lost (spare_set cs) q (take 5 q ++ r))
     in_on r b = (
       λ s.
-          let t = left.shows r (sym (begins_in r) ∙ b) (sym (ap is_some (new_at r)) ∙ s) in
+          let t = left.shows r (sym (begins_under_first q r h) ∙ b) (sym (ap is_some (new_at r)) ∙ s) in
           let l = t.leads in (
-            record { below = under_long q r h; fives = omega (arith, t.fives, length-append (take 5 q) r, (front q h).0); none = λ x. ap (get (node_map us ds)) (deeper r x) ∙ map_at (r ++ x) ∙ t.none x },
-            (l.0, ap (λ w. is_some (get (spare_set cs) w)) (deeper r l.0) ∙ ap is_some (old_at (r ++ l.0)) ∙ l.1, ap (λ w. begins w q) (deeper r l.0) ∙ begins_in (r ++ l.0) ∙ l.2, ap lost (deeper r l.0) ∙ l.3),
+            record { below = under_long q r h; fives = omega (arith, t.fives, length-append (take 5 q) r, (front q h).0); none = λ x. ap (get (node_map us ds)) (append_assoc (take 5 q) r x) ∙ map_at (r ++ x) ∙ t.none x },
+            (l.0, ap (λ w. is_some (get (spare_set cs) w)) (append_assoc (take 5 q) r l.0) ∙ ap is_some (old_at (r ++ l.0)) ∙ l.1, ap (λ w. begins w q) (append_assoc (take 5 q) r l.0) ∙ begins_under_first q (r ++ l.0) h ∙ l.2, ap lost (append_assoc (take 5 q) r l.0) ∙ l.3),
           ),
       λ s.
           let l = s.1 in
           ap is_some (new_at r)
-          ∙ left.holds r (sym (begins_in r) ∙ b) (record {
+          ∙ left.holds r (sym (begins_under_first q r h) ∙ b) (record {
             fives = omega (arith, s.0.fives, length-append (take 5 q) r, (front q h).0);
-            none = λ x. sym (ap (get (node_map us ds)) (deeper r x) ∙ map_at (r ++ x)) ∙ s.0.none x;
-            leads = (l.0, sym (ap (λ w. is_some (get (spare_set cs) w)) (deeper r l.0) ∙ ap is_some (old_at (r ++ l.0))) ∙ l.1, sym (ap (λ w. begins w q) (deeper r l.0) ∙ begins_in (r ++ l.0)) ∙ l.2, sym (ap lost (deeper r l.0)) ∙ l.3);
+            none = λ x. sym (ap (get (node_map us ds)) (append_assoc (take 5 q) r x) ∙ map_at (r ++ x)) ∙ s.0.none x;
+            leads = (l.0, sym (ap (λ w. is_some (get (spare_set cs) w)) (append_assoc (take 5 q) r l.0) ∙ ap is_some (old_at (r ++ l.0))) ∙ l.1, sym (ap (λ w. begins w q) (append_assoc (take 5 q) r l.0) ∙ begins_under_first q (r ++ l.0) h) ∙ l.2, sym (ap lost (append_assoc (take 5 q) r l.0)) ∙ l.3);
           }),
     )
 
@@ -225,7 +178,7 @@ module _ {X : Type 0} (lost : List Bool → Bool) where
 
     pub left_node : IsLeft lost q (spare_set cs) (node_map us ds) (spare_set ds)
     left_node = record {
-      off = each_string (λ s. begins s q ≡ false → get (spare_set ds) s ≡ cond (lost s) None (get (spare_set cs) s)) q (λ s l b. set-short k s l ∙ either_none (lost s) ∙ ap (cond (lost s) None) (sym (set-short n s l))) in_off (λ s l e b. off_elsewhere s l e);
+      off = each_string (λ s. begins s q ≡ false → get (spare_set ds) s ≡ cond (lost s) None (get (spare_set cs) s)) q (λ s l b. set-short k s l ∙ sym (no_choice (lost s)) ∙ ap (cond (lost s) None) (sym (set-short n s l))) in_off (λ s l e b. off_elsewhere s l e);
       on = each_string (λ s. begins s q ≡ true → (is_some (get (spare_set ds) s) ≡ true) ↔ (IsIdle (node_map us ds) s × LeadsOff lost (spare_set cs) q s)) q (λ s l b. (λ t. absurd (none_found (set-short k s l) t), λ t. absurd (omega (arith, t.0.below, l)))) in_on (λ s l e b. absurd (both_ways _ (off_way_there q s l e) b));
     }
 
@@ -260,9 +213,9 @@ module _ {X : Type 0} (lost : List Bool → Bool) where
       -- it goes
       pub left_removed : {b : ℕ} {ds : List (Seen X)} → spare_count d ≡ 0 → b ≡ 2 ^ child_of q → ds ≡ remove_at (set cs at d) at → IsLeft lost q m.spares (map_of vb vs (cb - b) ds) (spare_set (child_list (cb - b) ds))
       left_removed {b} {ds} z k l =
-          let below : cb - 2 ^ child_of q < 2 ^ 32 = omega (arith, s.slots.children_below) in
-          subst (λ (x : BitSet × ℕ × List (Seen X)). IsLeft lost q x.0 (map_of vb vs (cb - x.1) x.2) (spare_set (child_list (cb - x.1) x.2))) (λ i. (s.spare i, sym k i, sym (l ∙ set_removed cs at d) i))
-          (left_node q None s.node (is_node vb vs (cb - 2 ^ child_of q) (remove_at cs at) s.slots.values_below below) h (child_taken_out q cb (cb - 2 ^ child_of q) cs (remove_at cs at) h s.slots.children_below t.removed) elsewhere
+          let p = childless q e s h t r k (l ∙ set_removed cs at d) in
+          subst (λ w. IsLeft lost q w (map_of vb vs (cb - b) ds) (spare_set (child_list (cb - b) ds))) s.spare
+          (left_node q None s.node (is_node vb vs (cb - b) ds p.slots.values_below p.slots.children_below) h p.changes elsewhere
           (subst (λ o. IsLeftBelow (take 5 q) (drop 5 q) o None) (sym (was_found q e s h t r)) (left_goes lower (take 5 q) (drop 5 q) e d alike left (λ x. no_spare_string d x (drop 5 q) z))))
 
 -- ---- all inside q went
@@ -274,31 +227,21 @@ cut_by s q l h b =
     let e : length s ≡ length q = omega (arith, t.0, l, h) in
     sym t.1 ∙ ap (λ n. take n q) e ∙ take-length q
 
-pub cut_elsewhere : (q : List Bool) → 5 ≤ length q → (x : List Bool) → 5 ≤ length x → same (take 5 x) (take 5 q) ≡ false → begins q x ≡ false
-cut_elsewhere q h x l e = begins_elsewhere q x h e
-
-pub cut_below : (q : List Bool) → 5 ≤ length q → (x : List Bool) → begins q (take 5 q ++ x) ≡ begins (drop 5 q) x
-cut_below q h x = ap (λ w. begins w (take 5 q ++ x)) (sym (front q h).1) ∙ begins-under (take 5 q) (drop 5 q) x
-
 module _ {X : Type 0} where
   -- of at most five bits
   pub cut_short : (q : List Bool) (a : BitSet) (n : BitMap X) (c : BitSet) → length q ≤ 5 → c ≡ outside a q → AreBelow c → IsCut q a n c
   cut_short q a n c h e below = record {
-    off = λ x b. at x ∙ turned (begins q x) (get a x);
+    off = λ x b. at x;
     on = λ x b. (λ t. absurd (lost x b t), λ t. absurd (gone x b t));
   }
     where
-      turned : (b : Bool) (o : Option (Unit {0})) → cond (not b) o None ≡ cond b None o
-      turned true o = refl
-      turned false o = refl
-
-      at : (x : List Bool) → get c x ≡ cond (not (begins q x)) (get a x) None
-      at x = ap (λ b. get b x) e ∙ get-outside a q x
+      at : (x : List Bool) → get c x ≡ cond (begins q x) None (get a x)
+      at x = ap (λ b. get b x) e ∙ get-outside a q x ∙ turned (begins q x) (get a x) None
 
       lost : (x : List Bool) → begins x q ≡ true → is_some (get c x) ≡ true → ⊥
       lost x b t =
-          let f = not_other (get a x) (begins q x) (sym (ap is_some (at x ∙ turned (begins q x) (get a x))) ∙ t) in
-          both_ways _ f.0 (ap (begins q) (cut_by x q (below x t) h b ∙ sym (append_none q)) ∙ begins_on q [])
+          let f = not_other (get a x) (begins q x) (sym (ap is_some (at x)) ∙ t) in
+          both_ways _ f.0 (ap (begins q) (cut_by x q (below x t) h b ∙ sym (append-nil q)) ∙ begins_on q [])
 
       gone : (x : List Bool) → begins x q ≡ true → IsIdle n x × LeadsOff (begins q) a q x → ⊥
       gone x b t =
@@ -307,11 +250,10 @@ module _ {X : Type 0} where
 
   -- the strings of a node, and of what it became
   pub set_below : {vb : ℕ} {vs : List X} {cb : ℕ} {cs : List (Seen X)} → HasSlots vb vs cb cs → AreBelow (spare_set (child_list cb cs))
-  set_below {vb} {vs} {cb} {cs} s x t = by (nat_lt (length x) 5) refl
-    where
-      by : (b : Bool) → nat_lt (length x) 5 ≡ b → 5 ≤ length x
-      by true f = absurd (none_found (set-short (is_node vb vs cb cs s.values_below s.children_below) x (grind (arith, nat_tests))) t)
-      by false f = grind (arith, nat_tests)
+  set_below {vb} {vs} {cb} {cs} s x t = elim (cases_lt (length x) 5) [
+    | inl l ↦ absurd (none_found (set-short (is_node vb vs cb cs s.values_below s.children_below) x l) t)
+    | inr l ↦ l
+  ]
 
   -- no child at the first five bits of q
   pub out_none : {vb n : ℕ} {vs : List X} {cb : ℕ} {cs : List (Seen X)} {m : Seen X} (q : List Bool) → IsSeen vb vs cb cs m → 5 ≤ length q → n ≡ child_of q → IsUnset n cb → m.spares ≡ outside m.spares q
@@ -323,30 +265,16 @@ module _ {X : Type 0} where
 
   -- the child at five bits goes
   out_at : {vs us : List (List Bool × X)} {cs ds : List (List Bool × Seen X)} (q : List Bool) → IsNode vs cs → IsNode us ds → length q ≡ 5 → ListChanges cs (take 5 q) None ds → spare_set ds ≡ outside (spare_set cs) q
-  out_at {cs = cs} {ds = ds} q n k h c = same_map bits_total bits_same _ _ (λ x.
-      each_string (λ x. get (spare_set ds) x ≡ cond (not (begins q x)) (get (spare_set cs) x) None) q (λ x l. set-short k x l ∙ either_none (not (begins q x)) ∙ ap (λ o. cond (not (begins q x)) o None) (sym (set-short n x l))) under other x
+  out_at {cs = cs} {ds = ds} q n k h c =
+      let five : 5 ≤ length q = omega (arith, h) in
+      let first : take 5 q ≡ q = ap (λ i. take i q) (sym h) ∙ take-length q in
+      same_map bits_total bits_same _ _ (λ x. child_changes marked_get (λ x p. cond (not (begins q x)) p None) cs ds q None (get (spare_set cs)) (get (spare_set ds)) (set-long n) (set-long k) five c
+      (λ x l. set-short k x l ∙ sym (no_choice (not (begins q x))) ∙ ap (λ o. cond (not (begins q x)) o None) (sym (set-short n x l)))
+      (λ r. ap (λ b. cond (not b) (marked_get (find bits_cmp (take 5 q) cs) r) None) (sym (ap (λ w. begins q (w ++ r)) first ∙ begins_on q r)))
+      (λ x p l e. ap (λ b. cond (not b) p None) (begins_elsewhere q x five e)) x
       ∙ sym (get-outside (spare_set cs) q x))
-    where
-      first : take 5 q ≡ q
-      first = ap (λ i. take i q) (sym h) ∙ take-length q
-
-      five : 5 ≤ length q
-      five = omega (arith, h)
-
-      under : (r : List Bool) → get (spare_set ds) (take 5 q ++ r) ≡ cond (not (begins q (take 5 q ++ r))) (get (spare_set cs) (take 5 q ++ r)) None
-      under r =
-          let z : begins q (take 5 q ++ r) ≡ true = ap (λ w. begins q (w ++ r)) first ∙ begins_on q r in
-          spare_under k q r five ∙ ap (λ o. marked_get o r) (found_changed cs ds q None c) ∙ ap (λ b. cond (not b) (get (spare_set cs) (take 5 q ++ r)) None) (sym z)
-
-      other : (x : List Bool) → 5 ≤ length x → same (take 5 x) (take 5 q) ≡ false → get (spare_set ds) x ≡ cond (not (begins q x)) (get (spare_set cs) x) None
-      other x l e =
-          set-changed cs q None k c x l ∙ ap (λ t. marked_get (cond t None (find bits_cmp (take 5 x) cs)) (drop 5 x)) e ∙ sym (set-long n x l)
-          ∙ ap (λ b. cond (not b) (get (spare_set cs) x) None) (sym (begins_elsewhere q x five e))
 
   pub out_child : {vb at b : ℕ} {vs : List X} {cb : ℕ} {cs ds : List (Seen X)} {m : Seen X} (q : List Bool) → IsSeen vb vs cb cs m → length q ≡ 5 → IsTaken (child_of q) at cb cs → b ≡ 2 ^ child_of q → ds ≡ remove_at cs at → spare_set (child_list (cb - b) ds) ≡ outside m.spares q
   out_child {vb} {at} {b} {vs} {cb} {cs} {ds} q s h t k l =
-      let below : cb - 2 ^ child_of q < 2 ^ 32 = omega (arith, s.slots.children_below) in
-      let five : 5 ≤ length q = omega (arith, h) in
-      (λ i. spare_set (child_list (cb - k i) (l i)))
-      ∙ out_at q s.node (is_node vb vs (cb - 2 ^ child_of q) (remove_at cs at) s.slots.values_below below) h (child_taken_out q cb (cb - 2 ^ child_of q) cs (remove_at cs at) five s.slots.children_below t.removed)
-      ∙ ap (λ x. outside x q) s.spare
+      let o = taken_out (child_of q) at cb b cs ds t k l in
+      out_at q s.node (is_node vb vs (cb - b) ds s.slots.values_below (omega (arith, s.slots.children_below))) h (child_taken_out q cb (cb - b) cs ds (omega (arith, h)) s.slots.children_below o.0) ∙ ap (λ x. outside x q) s.spare

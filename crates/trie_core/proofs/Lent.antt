@@ -1,6 +1,6 @@
 -- What a node becomes as what it lends is written.
-use Rattle.std.proofs.Common.{◌≡◌, ◌<◌, ◌≤◌, ◌+◌, ◌∙◌, ℕ, List, Bool, length, take, drop, get_or, set, zero, suc, cond, true, [], ◌∷◌, refl, sym, ap, arith}
-use Rattle.std.specs.Prelude.{Option, Some, None, is_some}
+use Rattle.std.proofs.Common.{◌≡◌, ◌<◌, ◌≤◌, ◌+◌, ◌∙◌, ℕ, List, Bool, length, take, drop, get_or, set, zero, suc, cond, [], ◌∷◌, refl, sym, ap, arith}
+use Rattle.std.specs.Prelude.{Some}
 use Rattle.std.specs.Option.{IsSome}
 use Rattle.std.specs.Ordering.{nat_cmp}
 use Rattle.std.specs.FinMap.{find, get, insert, remove, len, len-insert}
@@ -19,7 +19,6 @@ use Rattle.trie_core.proofs.Seen.{IsSeen, viewed, value_at}
 use Rattle.trie_core.proofs.Changes.{value_slots, value_put_map, was_found, set_put, set_spare, absent}
 
 module _ {X : Type 0} where
-
   pub stored_here : {vb n : ℕ} {vs : List X} {cb : ℕ} {cs : List (Seen X)} {m : Seen X} (q : List Bool) → IsSeen vb vs cb cs m → length q < 5 → n ≡ place_of q → IsUnset n vb → IsSome (get m.entries q) → ⊥
   stored_here {vb} {n} {vs} q s h k u = none_some (sym (value_at q s h) ∙ ap (λ i. find nat_cmp i (at_places 32 0 vb vs)) (sym k) ∙ sym (missing n vb vs u))
 
@@ -40,13 +39,9 @@ module _ {X : Type 0} where
       → viewed vb (set vs at w) cb cs ≡ node_with m q w
   lent_here q w s h k t = let r = value_put_map q w s (slots_here w s t) h k (t.written w) in λ i. record { entries = r i; spares = s.spare i; levels = s.height i }
 
-  some_is : (o : Option X) → IsSome o → is_some o ≡ true
-  some_is None h = cc
-  some_is (Some x) h = refl
-
   -- a write at a key that is there
   len_kept : (e : Seen X) (r : List Bool) (w : X) → IsSome (get e.entries r) → len (insert e.entries r w) ≡ len e.entries
-  len_kept e r w o = len-insert bits_total e.entries r w ∙ ap (λ b. cond b (len e.entries) (len e.entries + 1)) (some_is (get e.entries r) o)
+  len_kept e r w o = len-insert bits_total e.entries r w ∙ ap (λ b. cond b (len e.entries) (len e.entries + 1)) o
 
   marked_kept : (e : Seen X) (r : List Bool) (w : X) → IsSome (get e.entries r) → marked (node_with e r w) ≡ marked e
   marked_kept e r w o = ap (λ n. marked_if n (remove e.spares [])) (len_kept e r w o)

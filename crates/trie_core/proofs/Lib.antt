@@ -8,7 +8,6 @@ pub mod Maps
 pub mod Order
 pub mod Count
 pub mod Visits
-pub mod Lengths
 pub mod Marks
 pub mod Places
 pub mod Edits
@@ -25,7 +24,6 @@ pub mod Frames
 pub mod Opened
 pub mod Walks
 pub mod Trails
-pub mod Entries
 pub mod Inside
 pub mod Leaves
 pub mod Ways

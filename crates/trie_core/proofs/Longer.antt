@@ -1,25 +1,22 @@
 -- Strings made longer at their ends, and strings as numbers with zeros after them.
-use Rattle.std.proofs.Common.{◌≡◌, ℕ, zero, suc, ◌+◌, ◌-◌, ◌*◌, ◌/◌, ◌%◌, ◌^◌, ◌<◌, ◌≤◌, Bool, ◌==◌, List, [], ◌∷◌, ◌++◌, length, refl, sym, ap, subst, ◌∙◌, arith}
+use Rattle.std.proofs.Common.{◌≡◌, ℕ, zero, suc, ◌+◌, ◌-◌, ◌*◌, ◌/◌, ◌%◌, ◌^◌, ◌<◌, ◌≤◌, Bool, ◌==◌, List, [], ◌∷◌, ◌++◌, length, sym, ap, subst, ◌∙◌, arith, cond, true, false}
 use Rattle.std.proofs.lemmas.Nat.{pow_pos, pow-add, shl-shr, shr_below}
-use Rattle.std.proofs.lemmas.List.{append_assoc}
-use Rattle.std.proofs.Math.Nat.{mul_assoc, mod-eq_of_lt, mul-le-mul_right, add-mul, one-mul}
+use Rattle.std.proofs.lemmas.List.{append_assoc, append-nil}
+use Rattle.std.proofs.Math.Nat.{mul_assoc, mod-eq_of_lt, mul-le-mul_right, add-mul, one-mul, le-mul_of_pos_right}
 use Rattle.ipnet_blocks.specs.Blocks.{digits}
 use Rattle.ipnet_blocks.proofs.Strings.{length-digits}
 use Rattle.trie_core.specs.Bits.{number_from}
 use Rattle.trie_core.specs.InnerPaths.{IsAligned}
 use Rattle.trie_core.specs.Prefixes.{prefix_bits, IsMasked}
 use Rattle.trie_core.proofs.Numbers.{number_bound, number_apart, number-digits}
+use mir.Val.{bool_byte}
 
 -- the bits of two numbers, one after the other
 pub digits-append : (n m q f : ℕ) → f < 2 ^ m → digits (n + m) (q * 2 ^ m + f) ≡ digits n q ++ digits m f
 digits-append n zero q f h =
     let z : q * 2 ^ 0 + f ≡ q = omega (arith, h) in
     let e : n + 0 ≡ n = omega arith in
-    (λ i. digits (e i) (z i)) ∙ sym (append_none (digits n q))
-  where
-    append_none : (xs : List Bool) → xs ++ [] ≡ xs
-    append_none [] = refl
-    append_none (x ∷ xs) = ap (λ ys. x ∷ ys) (append_none xs)
+    (λ i. digits (e i) (z i)) ∙ sym (append-nil (digits n q))
 digits-append n (suc m) q f h =
     let d : 2 ^ suc m ≡ 2 * 2 ^ m = omega arith in
     let e : n + suc m ≡ suc (n + m) = omega arith in
@@ -66,6 +63,32 @@ longer bits n five m a k h l =
       aligned = record { short = l; masked = record { below = fits; clear = ap (λ x. x * 2 ^ e) back } };
       value = ap (digits (n + m)) back ∙ digits-append n m q f fb;
     })
+
+pub as_number : (b : Bool) → bool_byte b ≡ cond b 1 0
+as_number b = grind arith
+
+-- the string of the word with one bit more, which is the first of five
+pub record IsExtended (bs : List Bool) (t : Bool) (bits len : ℕ) : Type 0 where
+  pub aligned : IsAligned bits len
+  pub string : digits len (bits / 2 ^ (128 - len)) ≡ bs ++ t ∷ []
+
+pub extended : {bs : List Bool} (bits n b : ℕ) (t : Bool) → IsAligned bits n → n < 128 → b ≡ cond t 1 0 → digits n (bits / 2 ^ (128 - n)) ≡ bs → IsExtended bs t (bits + b * 2 ^ (128 - (n + 1)) % 2 ^ 128) (n + 1)
+extended {bs} bits n b t a l e v =
+    let k = 128 - (n + 1) in
+    let h : b < 2 = grind arith in
+    let m : IsMasked 5 (b * 2 ^ 4) 1 = record { below = omega (arith, h); clear = omega (arith, h) } in
+    let r = longer bits n (b * 2 ^ 4) 1 a m (omega arith) (omega (arith, l)) in
+    let at : b * 2 ^ 4 * 2 ^ 123 ≡ b * 2 ^ 127 = omega arith in
+    let i : 127 ≡ 128 - (n + 1) + n = omega (arith, l) in
+    let p : b * 2 ^ 4 * 2 ^ 123 ≡ b * 2 ^ k * 2 ^ n = at ∙ ap (λ j. b * 2 ^ j) i ∙ ap (λ x. b * x) (pow-add 2 k n) ∙ sym (mul_assoc b (2 ^ k) (2 ^ n)) in
+    let low : b * 2 ^ 4 * 2 ^ 123 % 2 ^ 128 ≡ b * 2 ^ 4 * 2 ^ 123 = omega (arith, h) in
+    let small : b * 2 ^ k ≤ b * 2 ^ k * 2 ^ n = le-mul_of_pos_right (b * 2 ^ k) (pow_pos n) in
+    let fits : b * 2 ^ k % 2 ^ 128 ≡ b * 2 ^ k = mod-eq_of_lt (omega (arith, small, p, h)) in
+    subst (λ w. IsExtended bs t (bits + w) (n + 1)) (ap (λ x. x / 2 ^ n) (low ∙ p) ∙ shl-shr (b * 2 ^ k) n ∙ sym fits) (record { aligned = r.aligned; string = r.value ∙ (λ i. v i ++ one_bit t e i) })
+  where
+    one_bit : {b : ℕ} (t : Bool) → b ≡ cond t 1 0 → prefix_bits 5 (b * 2 ^ 4) 1 ≡ t ∷ []
+    one_bit true e = ap (λ x. prefix_bits 5 (x * 2 ^ 4) 1) e
+    one_bit false e = ap (λ x. prefix_bits 5 (x * 2 ^ 4) 1) e
 
 -- a string is the digits of its number
 pub own_digits : (s : List Bool) → digits (length s) (number_from (length s) s) ≡ s

@@ -1,18 +1,18 @@
 -- The set of spare nodes of a node, by its children.
-use Rattle.std.proofs.Common.{◌≡◌, ℕ, zero, suc, ◌+◌, ◌≤◌, ◌<◌, Bool, true, false, cond, List, [], ◌∷◌, length, take, drop, refl, sym, ap, ◌∙◌, arith}
-use Rattle.std.specs.Prelude.{T, nat_lt, Option, Some, None, is_some}
+use Rattle.std.proofs.Common.{◌≡◌, ℕ, zero, suc, ◌+◌, ◌≤◌, ◌<◌, Bool, cond, List, [], ◌∷◌, length, take, drop, refl, sym, ap, ◌∙◌, arith, ◌++◌}
+use Rattle.std.specs.Prelude.{T, Option, Some, None, is_some}
 use Rattle.std.specs.FinMap.{find, get, remove, len, empty, is_sorted, get-empty, get-insert, get-remove, len-insert, len-empty, same_map}
 use Rattle.std.specs.FinMap.Entries.{below_all}
-use Rattle.std.proofs.lemmas.Bool.Decides.{nat_tests}
 use Rattle.ipnet_addr.proofs.Basics.{T-and, T-parts}
 use Rattle.ipnet_blocks.specs.BitStrings.{bits_cmp}
-use Rattle.trie_core.proofs.Strings.{bits_total, bits_same, same, same-Decides, same-refl}
+use Rattle.trie_core.proofs.Strings.{bits_total, bits_same, same, same-refl}
 use Rattle.trie_core.specs.Nodes.{BitSet, Seen}
 use Rattle.trie_core.specs.InnerNodes.{AreLong, IsNode}
 use Rattle.trie_core.specs.InnerCount.{spare_count, spare_if, spare_of, spares_below, marked_if, marked, marks, spare_set, total, entry_count}
-use Rattle.trie_core.proofs.Count.{things}
-use Rattle.trie_core.proofs.Lengths.{entries_of_node}
-use Rattle.trie_core.proofs.Maps.{ListChanges, child_get, get_none, get-short, get-long, remove_absent}
+use Rattle.trie_core.proofs.Count.{things, entries_of_node}
+use Rattle.trie_core.proofs.Maps.{ListChanges, child_get, get_none, get-short, get-long, remove_absent, child_changes}
+use Rattle.std.proofs.lemmas.List.{take_at, drop_at}
+use Rattle.std.proofs.Math.ListN.{length-append}
 
 -- the empty string is not in a set that it was taken from
 root_taken : (b : BitSet) → get (remove b []) [] ≡ None
@@ -74,14 +74,9 @@ module _ {X : Type 0} where
   marked_get None r = None
   marked_get (Some c) r = get (marked c) r
 
-  found_marks_by : (q : List Bool) (c : List Bool × Seen X) (cs : List (List Bool × Seen X)) (r : List Bool) (b : Bool) → child_get (find bits_cmp q (marks cs)) r ≡ marked_get (find bits_cmp q cs) r
-      → child_get (cond b (Some (record { entries = marked c.1; spares = empty; levels = c.1.levels })) (find bits_cmp q (marks cs))) r ≡ marked_get (cond b (Some c.1) (find bits_cmp q cs)) r
-  found_marks_by q c cs r true e = refl
-  found_marks_by q c cs r false e = e
-
   found_marks : (q : List Bool) (cs : List (List Bool × Seen X)) (r : List Bool) → child_get (find bits_cmp q (marks cs)) r ≡ marked_get (find bits_cmp q cs) r
   found_marks q [] r = get_none r
-  found_marks q (c ∷ cs) r = found_marks_by q c cs r (same q c.0) (found_marks q cs r)
+  found_marks q (c ∷ cs) r = grind (arith, found_marks q cs r)
 
   -- ---- the set of a node
 
@@ -92,6 +87,9 @@ module _ {X : Type 0} where
   pub set-long : {vs : List (List Bool × X)} {cs : List (List Bool × Seen X)} → IsNode vs cs → (q : List Bool) → 5 ≤ length q → get (spare_set cs) q ≡ marked_get (find bits_cmp (take 5 q) cs) (drop 5 q)
   unfolding spare_set
   set-long {vs} {cs} n q h = get-long (marks_node n) q h ∙ found_marks (take 5 q) cs (drop 5 q)
+
+  pub set-below : {vs : List (List Bool × X)} {cs : List (List Bool × Seen X)} → IsNode vs cs → (b r : List Bool) → length b ≡ 5 → get (spare_set cs) (b ++ r) ≡ marked_get (find bits_cmp b cs) r
+  set-below {cs = cs} n b r l = set-long n (b ++ r) (omega (arith, length-append b r)) ∙ (λ i. marked_get (find bits_cmp (take_at b r 5 l i) cs) (drop_at b r 5 l i))
 
   -- it has no empty string, and as many strings as there are spare nodes below
   pub set-root : {vs : List (List Bool × X)} {cs : List (List Bool × Seen X)} → IsNode vs cs → remove (spare_set cs) [] ≡ spare_set cs
@@ -110,21 +108,7 @@ module _ {X : Type 0} where
       → get (spare_set ds) x ≡ marked_get (cond (same (take 5 x) (take 5 q)) o (find bits_cmp (take 5 x) cs)) (drop 5 x)
   set-changed cs q o k f x h = set-long k x h ∙ ap (λ c. marked_get c (drop 5 x)) (f (take 5 x))
 
-  same_marks : (cs : List (List Bool × Seen X)) (q : List Bool) (o : Option (Seen X)) → ((r : List Bool) → marked_get o r ≡ marked_get (find bits_cmp (take 5 q) cs) r) → (x : List Bool) (b : Bool) → same (take 5 x) (take 5 q) ≡ b
-      → marked_get (cond b o (find bits_cmp (take 5 x) cs)) (drop 5 x) ≡ marked_get (find bits_cmp (take 5 x) cs) (drop 5 x)
-  same_marks cs q o f x true e = f (drop 5 x) ∙ ap (λ p. marked_get (find bits_cmp p cs) (drop 5 x)) (sym ((same-Decides _ _).0 e))
-  same_marks cs q o f x false e = refl
-
-  set_same_by : {vs us : List (List Bool × X)} {cs ds : List (List Bool × Seen X)} (q : List Bool) (o : Option (Seen X)) → IsNode vs cs → IsNode us ds → ListChanges cs (take 5 q) o ds → ((r : List Bool) → marked_get o r ≡ marked_get (find bits_cmp (take 5 q) cs) r)
-      → (x : List Bool) (b : Bool) → nat_lt (length x) 5 ≡ b → get (spare_set ds) x ≡ get (spare_set cs) x
-  set_same_by q o n k f g x true e =
-      let l : length x < 5 = grind (arith, nat_tests) in
-      set-short k x l ∙ sym (set-short n x l)
-  set_same_by {cs = cs} q o n k f g x false e =
-      let l : 5 ≤ length x = grind (arith, nat_tests) in
-      set-changed cs q o k f x l ∙ same_marks cs q o g x _ refl ∙ sym (set-long n x l)
-
   -- the set stays, where that of the child does
-  pub set-same : {vs us : List (List Bool × X)} {cs ds : List (List Bool × Seen X)} (q : List Bool) (o : Option (Seen X)) → IsNode vs cs → IsNode us ds → ListChanges cs (take 5 q) o ds → ((r : List Bool) → marked_get o r ≡ marked_get (find bits_cmp (take 5 q) cs) r)
+  pub set-same : {vs us : List (List Bool × X)} {cs ds : List (List Bool × Seen X)} (q : List Bool) (o : Option (Seen X)) → IsNode vs cs → IsNode us ds → 5 ≤ length q → ListChanges cs (take 5 q) o ds → ((r : List Bool) → marked_get o r ≡ marked_get (find bits_cmp (take 5 q) cs) r)
       → spare_set ds ≡ spare_set cs
-  set-same q o n k f g = same_map bits_total bits_same _ _ (λ x. set_same_by q o n k f g x (nat_lt (length x) 5) refl)
+  set-same {cs = cs} {ds = ds} q o n k h f g = same_map bits_total bits_same _ _ (child_changes marked_get (λ x p. p) cs ds q o (get (spare_set cs)) (get (spare_set ds)) (set-long n) (set-long k) h f (λ x l. set-short k x l ∙ sym (set-short n x l)) g (λ x p l e. refl))

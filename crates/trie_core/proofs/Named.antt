@@ -1,25 +1,26 @@
 -- Lists of numbered things, with strings in place of the numbers.
-use Rattle.std.proofs.Common.{◌≡◌, ℕ, zero, suc, ◌+◌, ◌/◌, ◌%◌, ◌^◌, ◌<◌, ◌≤◌, Bool, true, false, cond, not, List, [], ◌∷◌, length, take, refl, sym, ap, subst, ◌∙◌, arith, inl, inr}
-use Rattle.std.specs.Prelude.{T, nat_lt, Option, Some, None, count_ones}
+use Rattle.std.proofs.Common.{◌≡◌, ℕ, zero, suc, ◌+◌, ◌/◌, ◌%◌, ◌^◌, ◌<◌, ◌≤◌, Bool, cond, not, List, [], ◌∷◌, length, take, refl, sym, ap, subst, ◌∙◌, arith, inl, inr}
+use Rattle.std.specs.Prelude.{T, Option, Some, None, count_ones}
 use Rattle.std.specs.declared.cmp.Ordering.{Ordering}
-use Rattle.std.specs.declared.cmp.Ordering.TheVariants.{Less, Equal, Greater}
-use Rattle.std.specs.Ordering.{nat_cmp, eq_by_cmp, is_eq}
+use Rattle.std.specs.declared.cmp.Ordering.TheVariants.{Less}
+use Rattle.std.specs.Ordering.{nat_cmp, eq_by_cmp, is_eq, ordering_reverse}
 use Rattle.std.specs.FinMap.{find, put, is_sorted}
-use Rattle.std.specs.FinMap.Entries.{below_all, by_order}
+use Rattle.std.specs.FinMap.Entries.{below_all, by_order, where_key, find-put, find-where_key}
 use Rattle.std.proofs.lemmas.Bool.Decides.{nat_tests}
-use Rattle.std.proofs.lemmas.Bool.{both_ways}
+use Rattle.std.proofs.lemmas.Bool.{cases_order}
 use Rattle.ipnet_addr.proofs.Basics.{T-and, T-parts, less_from_T}
 use Rattle.ipnet_blocks.specs.BitStrings.{bits_cmp}
 use Rattle.trie_core.specs.InnerPlaces.{place_of, child_of, place_string, child_string, at_places, AllBelow, without, named, value_list, child_list}
 use Rattle.trie_core.specs.Nodes.{Seen}
 use Rattle.trie_core.specs.InnerNodes.{AreShort, AreLong, IsNode}
-use Rattle.trie_core.proofs.Strings.{same, same-refl, same-Decides, same_false}
+use Rattle.trie_core.proofs.Strings.{same, same-refl, bits_total, bits_same}
 use Rattle.trie_core.proofs.Maps.{ListChanges}
 use Rattle.trie_core.proofs.Order.{T-less}
 use Rattle.trie_core.proofs.Count.{things}
 use Rattle.trie_core.proofs.Numbers.{ones_bit, place_bound, number_bound, place_string-place_of, child_string-child_of, place_less, place_strings, number_less, child_of-string, length-child_string}
 use Rattle.trie_core.proofs.Places.{ones_half}
 use Rattle.trie_core.proofs.Edits.{low_bit, at_step, at_first, at_sorted}
+use Rattle.std.proofs.lemmas.Cmp.{tied_itself, nat_cmp_total, eq_by_cmp_equiv}
 
 -- f names the numbers below w by strings that rise with them
 pub record IsNaming (f : ℕ → List Bool) (w : ℕ) : Type 0 where
@@ -42,88 +43,50 @@ children_named = record {
 pub less_differs : (xs ys : List Bool) → bits_cmp xs ys ≡ Less → xs ≡ ys → ⊥
 less_differs xs ys e p = let z : Less ≡ bits_cmp ys ys = sym e ∙ ap (λ x. bits_cmp x ys) p in let t = ap is_eq z ∙ same-refl ys in cc
 
-apart_by : {f : ℕ → List Bool} {w : ℕ} → IsNaming f w → (n m : ℕ) → n < w → m < w → (n ≡ m → ⊥) → (b : Bool) → nat_lt n m ≡ b → f n ≡ f m → ⊥
-apart_by {f} a n m h l d true e p = less_differs (f n) (f m) (a.rises n m (grind (arith, nat_tests)) l) p
-apart_by {f} a n m h l d false e p =
-    let k : m ≤ n = grind (arith, nat_tests) in
-    less_differs (f m) (f n) (a.rises m n (lower m n k d) h) (sym p)
-  where
-    lower : (m n : ℕ) → m ≤ n → (n ≡ m → ⊥) → m < n
-    lower m n k d = elim (nat_lt m n) as (λ b. nat_lt m n ≡ b → m < n) [
-      | true ↦ λ e. grind (arith, nat_tests)
-      | false ↦ λ e. absurd (d (grind (arith, nat_tests)))
-    ] refl
+-- the strings stand in the order of their numbers
+name_order : {f : ℕ → List Bool} {w : ℕ} → IsNaming f w → (n m : ℕ) → n < w → m < w → bits_cmp (f n) (f m) ≡ nat_cmp n m
+name_order {f} a n m h l = elim (cases_order n m) [
+  | inl e ↦ ap (λ k. bits_cmp (f n) (f k)) (sym e) ∙ tied_itself bits_total (f n) ∙ sym (tied_itself nat_cmp_total n) ∙ ap (nat_cmp n) e
+  | inr (inl p) ↦ a.rises n m p l ∙ grind (arith, nat_tests)
+  | inr (inr p) ↦ bits_total.antisymm (f n) (f m) ∙ ap ordering_reverse (a.rises m n p h) ∙ grind (arith, nat_tests)
+]
 
-names_apart : {f : ℕ → List Bool} {w : ℕ} → IsNaming f w → (n m : ℕ) → n < w → m < w → (n ≡ m → ⊥) → f n ≡ f m → ⊥
-names_apart a n m h l d = apart_by a n m h l d (nat_lt n m) refl
-
-differs : (n m : ℕ) → eq_by_cmp nat_cmp n m ≡ false → n ≡ m → ⊥
-differs n m e p = let z : eq_by_cmp nat_cmp n m ≡ true = grind (arith, nat_tests) in both_ways _ e z
-
-equal : (n m : ℕ) → eq_by_cmp nat_cmp n m ≡ true → n ≡ m
-equal n m e = grind (arith, nat_tests)
-
-cond_twice : {Y : Type 0} (b : Bool) (o p q : Option Y) → cond b o p ≡ cond b o (cond b q p)
-cond_twice true o p q = refl
-cond_twice false o p q = refl
-
-cond_past : {Y : Type 0} (a b : Bool) (o p q : Option Y) → (a ≡ true → b ≡ true → ⊥) → cond b q (cond a o p) ≡ cond a o (cond b q p)
-cond_past true true o p q d = absurd (d refl refl)
-cond_past true false o p q d = refl
-cond_past false true o p q d = refl
-cond_past false false o p q d = refl
-
-none_either : {Y : Type 0} (t : Bool) (o : Option Y) → o ≡ None → o ≡ cond t None o
-none_either true o e = e
-none_either false o e = refl
-
-order_equal : (n m : ℕ) → nat_cmp n m ≡ Equal → n ≡ m
-order_equal n m e = equal n m (ap is_eq e)
-
-order_differs : (n m : ℕ) (r : Ordering) → nat_cmp n m ≡ r → is_eq r ≡ false → n ≡ m → ⊥
-order_differs n m r e h p = differs n m (ap is_eq e ∙ h) p
+pub turned : {Y : Type 0} (b : Bool) (o p : Option Y) → cond (not b) o p ≡ cond b p o
+turned b o p = grind arith
 
 module _ {X : Type 0} where
-  find_by : (f : ℕ → List Bool) (w n : ℕ) (e : ℕ × X) (es : List (ℕ × X)) → IsNaming f w → n < w → e.0 < w → find bits_cmp (f n) (named f es) ≡ find nat_cmp n es → (t : Bool) → eq_by_cmp nat_cmp n e.0 ≡ t → cond (same (f n) (f e.0)) (Some e.1) (find bits_cmp (f n) (named f es)) ≡ cond t (Some e.1) (find nat_cmp n es)
-  find_by f w n e es a h b i true t =
-      let s : same (f n) (f e.0) ≡ true = (same-Decides _ _).1 (ap f (equal n e.0 t)) in
-      ap (λ x. cond x (Some e.1) (find bits_cmp (f n) (named f es))) s
-  find_by f w n e es a h b i false t =
-      let s : same (f n) (f e.0) ≡ false = same_false (f n) (f e.0) (names_apart a n e.0 h b (differs n e.0 t)) in
-      ap (λ x. cond x (Some e.1) (find bits_cmp (f n) (named f es))) s ∙ i
-
   pub named_find : (f : ℕ → List Bool) (w n : ℕ) (es : List (ℕ × X)) → IsNaming f w → n < w → AllBelow w es → find bits_cmp (f n) (named f es) ≡ find nat_cmp n es
   named_find f w n [] a h b = refl
-  named_find f w n (e ∷ es) a h b = find_by f w n e es a h b.0 (named_find f w n es a h b.1) (eq_by_cmp nat_cmp n e.0) refl
+  named_find f w n (e ∷ es) a h b = λ i. cond (is_eq (name_order a n e.0 h b.0 i)) (Some e.1) (named_find f w n es a h b.1 i)
 
-  put_by : (f : ℕ → List Bool) (w n : ℕ) (v : X) (e : ℕ × X) (es : List (ℕ × X)) → IsNaming f w → n < w → AllBelow w (e ∷ es) → (p : List Bool) → find bits_cmp p (named f (put nat_cmp n v es)) ≡ cond (same p (f n)) (Some v) (find bits_cmp p (named f es)) → (r : Ordering) → nat_cmp n e.0 ≡ r
-      → find bits_cmp p (named f (by_order r ((n, v) ∷ e ∷ es) ((e.0, v) ∷ es) (e ∷ put nat_cmp n v es))) ≡ cond (same p (f n)) (Some v) (find bits_cmp p (named f (e ∷ es)))
-  put_by f w n v e es a h b p i Less r = refl
-  put_by f w n v e es a h b p i Equal r =
-      let q : same p (f e.0) ≡ same p (f n) = ap (λ m. same p (f m)) (sym (order_equal n e.0 r)) in
-      ap (λ t. cond t (Some v) (find bits_cmp p (named f es))) q ∙ cond_twice (same p (f n)) (Some v) (find bits_cmp p (named f es)) (Some e.1) ∙ ap (λ t. cond (same p (f n)) (Some v) (cond t (Some e.1) (find bits_cmp p (named f es)))) (sym q)
-  put_by f w n v e es a h b p i Greater r =
-      ap (cond (same p (f e.0)) (Some e.1)) i
-      ∙ cond_past (same p (f n)) (same p (f e.0)) (Some v) (find bits_cmp p (named f es)) (Some e.1) (λ s t. names_apart a n e.0 h b.0 (order_differs n e.0 Greater r refl) (sym ((same-Decides _ _).0 s) ∙ (same-Decides _ _).0 t))
+  named_by : (f : ℕ → List Bool) (r : Ordering) (bs cs ds : List (ℕ × X)) → named f (by_order r bs cs ds) ≡ by_order r (named f bs) (named f cs) (named f ds)
+  named_by f r bs cs ds = grind arith
+
+  named-put : (f : ℕ → List Bool) (w n : ℕ) (v : X) (es : List (ℕ × X)) → IsNaming f w → n < w → AllBelow w es → named f (put nat_cmp n v es) ≡ put bits_cmp (f n) v (named f es)
+  named-put f w n v [] a h b = refl
+  named-put f w n v (e ∷ es) a h b =
+      named_by f (nat_cmp n e.0) ((n, v) ∷ e ∷ es) ((e.0, v) ∷ es) (e ∷ put nat_cmp n v es)
+      ∙ (λ i. by_order (sym (name_order a n e.0 h b.0) i) ((f n, v) ∷ named f (e ∷ es)) ((f e.0, v) ∷ named f es) ((f e.0, e.1) ∷ named-put f w n v es a h b.1 i))
 
   -- a thing that is put in is found, and the others as before
   pub named_put : (f : ℕ → List Bool) (w n : ℕ) (v : X) (es : List (ℕ × X)) → IsNaming f w → n < w → AllBelow w es → ListChanges (named f es) (f n) (Some v) (named f (put nat_cmp n v es))
-  named_put f w n v [] a h b p = refl
-  named_put f w n v (e ∷ es) a h b p = put_by f w n v e es a h b p (named_put f w n v es a h b.1 p) (nat_cmp n e.0) refl
+  named_put f w n v es a h b p = ap (find bits_cmp p) (named-put f w n v es a h b) ∙ find-put bits_cmp bits_total p (f n) v (named f es)
 
-  without_by : (f : ℕ → List Bool) (w n : ℕ) (e : ℕ × X) (es : List (ℕ × X)) → IsNaming f w → n < w → AllBelow w (e ∷ es) → (p : List Bool) → find bits_cmp p (named f (without n es)) ≡ cond (same p (f n)) None (find bits_cmp p (named f es)) → (r : Bool) → eq_by_cmp nat_cmp n e.0 ≡ r
-      → find bits_cmp p (named f (cond (not r) (e ∷ without n es) (without n es))) ≡ cond (same p (f n)) None (find bits_cmp p (named f (e ∷ es)))
-  without_by f w n e es a h b p i true r =
-      let q : same p (f e.0) ≡ same p (f n) = ap (λ m. same p (f m)) (sym (equal n e.0 r)) in
-      i ∙ cond_twice (same p (f n)) None (find bits_cmp p (named f es)) (Some e.1) ∙ ap (λ t. cond (same p (f n)) None (cond t (Some e.1) (find bits_cmp p (named f es)))) (sym q)
-  without_by f w n e es a h b p i false r =
-      ap (cond (same p (f e.0)) (Some e.1)) i
-      ∙ cond_past (same p (f n)) (same p (f e.0)) None (find bits_cmp p (named f es)) (Some e.1) (λ s t. names_apart a n e.0 h b.0 (differs n e.0 r) (sym ((same-Decides _ _).0 s) ∙ (same-Decides _ _).0 t))
+  named_if : (f : ℕ → List Bool) (b : Bool) (bs cs : List (ℕ × X)) → named f (cond b bs cs) ≡ cond b (named f bs) (named f cs)
+  named_if f b cs ds = grind arith
+
+  -- those whose numbers pass the test have the names that pass it
+  named-where : (f : ℕ → List Bool) (w : ℕ) (p : ℕ → Bool) (q : List Bool → Bool) (es : List (ℕ × X)) → ((k : ℕ) → k < w → p k ≡ q (f k)) → AllBelow w es → named f (where_key nat_cmp p es) ≡ where_key bits_cmp q (named f es)
+  named-where f w p q [] h b = refl
+  named-where f w p q (e ∷ es) h b =
+      named_if f (p e.0) (e ∷ where_key nat_cmp p es) (where_key nat_cmp p es) ∙ (λ i. cond (h e.0 b.0 i) ((f e.0, e.1) ∷ named-where f w p q es h b.1 i) (named-where f w p q es h b.1 i))
 
   -- a thing that is taken out is not found, and the others as before
   pub named_without : (f : ℕ → List Bool) (w n : ℕ) (es : List (ℕ × X)) → IsNaming f w → n < w → AllBelow w es → ListChanges (named f es) (f n) None (named f (without n es))
-  named_without f w n [] a h b p = none_either (same p (f n)) None refl
-  named_without f w n (e ∷ es) a h b p = without_by f w n e es a h b p (named_without f w n es a h b.1 p) (eq_by_cmp nat_cmp n e.0) refl
+  named_without f w n es a h b p =
+      ap (find bits_cmp p) (named-where f w (λ k. not (eq_by_cmp nat_cmp n k)) (λ s. not (same (f n) s)) es (λ k l. ap (λ r. not (is_eq r)) (sym (name_order a n k h l))) b)
+      ∙ find-where_key bits_cmp (λ s. not (same (f n) s)) p (λ x e. ap (λ s. not (same (f n) s)) (sym (bits_same p x e))) (named f es)
+      ∙ turned (same (f n) p) (find bits_cmp p (named f es)) None ∙ ap (λ t. cond t None (find bits_cmp p (named f es))) ((eq_by_cmp_equiv bits_total).symm (f n) p)
 
   named_above : (f : ℕ → List Bool) (w n : ℕ) (es : List (ℕ × X)) → IsNaming f w → AllBelow w es → T (below_all nat_cmp n es) → T (below_all bits_cmp (f n) (named f es))
   named_above f w n [] a b s = tt
@@ -136,14 +99,6 @@ module _ {X : Type 0} where
   pub named_sorted : (f : ℕ → List Bool) (w : ℕ) (es : List (ℕ × X)) → IsNaming f w → AllBelow w es → T (is_sorted nat_cmp es) → T (is_sorted bits_cmp (named f es))
   named_sorted f w [] a b s = tt
   named_sorted f w (e ∷ es) a b s = let p = T-parts _ _ s in T-and _ _ (named_above f w e.0 es a b.1 p.0) (named_sorted f w es a b.1 p.1)
-
-  below_step : (w n h bits : ℕ) (x : X) (xs : List X) → bits < 2 ^ suc h → AllBelow (suc n + h) (at_places w (suc n) (bits / 2) (x ∷ xs)) × AllBelow (suc n + h) (at_places w (suc n) (bits / 2) xs) → AllBelow (n + suc h) (at_places (suc w) n bits (x ∷ xs))
-  below_step w n h bits x xs b r =
-      let e : suc n + h ≡ n + suc h = omega arith in
-      elim (low_bit bits) [
-        | inl o ↦ rw (at_step w n bits (x ∷ xs) o) (subst (λ m. AllBelow m (at_places w (suc n) (bits / 2) (x ∷ xs))) e r.0)
-        | inr o ↦ rw (at_first w n bits x xs o) (omega arith, subst (λ m. AllBelow m (at_places w (suc n) (bits / 2) xs)) e r.1)
-      ]
 
   -- the places of a word of h bits are below h
   pub at_below : (w n h bits : ℕ) (xs : List X) → bits < 2 ^ h → AllBelow (n + h) (at_places w n bits xs)
@@ -160,7 +115,11 @@ module _ {X : Type 0} where
       later m (suc w) n bits (x ∷ xs) b = rw (at_step w n bits (x ∷ xs) (omega (arith, b))) (later m w (suc n) (bits / 2) (x ∷ xs) (omega (arith, b)))
   at_below (suc w) n (suc h) bits (x ∷ xs) b =
       let l : bits / 2 < 2 ^ h = omega arith in
-      below_step w n h bits x xs b (at_below w (suc n) h (bits / 2) (x ∷ xs) l, at_below w (suc n) h (bits / 2) xs l)
+      let e : suc n + h ≡ n + suc h = omega arith in
+      elim (low_bit bits) [
+        | inl o ↦ rw (at_step w n bits (x ∷ xs) o) (subst (λ m. AllBelow m (at_places w (suc n) (bits / 2) (x ∷ xs))) e (at_below w (suc n) h (bits / 2) (x ∷ xs) l))
+        | inr o ↦ rw (at_first w n bits x xs o) (omega arith, subst (λ m. AllBelow m (at_places w (suc n) (bits / 2) xs)) e (at_below w (suc n) h (bits / 2) xs l))
+      ]
 
   things_at : (f : ℕ → List Bool) (w n bits : ℕ) (xs : List X) → bits < 2 ^ w → count_ones bits ≡ length xs → things (named f (at_places w n bits xs)) ≡ xs
   things_at f zero n bits [] b e = refl

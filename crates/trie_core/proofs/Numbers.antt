@@ -1,17 +1,17 @@
 -- The numbers of places and children: they rise in the order of a walk, and each gives its string back.
-use Rattle.std.proofs.Common.{◌≡◌, ℕ, zero, suc, ◌+◌, ◌-◌, ◌*◌, ◌/◌, ◌%◌, ◌^◌, ◌<◌, ◌≤◌, Bool, true, false, cond, ◌==◌, List, [], ◌∷◌, ◌++◌, length, take, drop, refl, sym, ap, ◌∙◌, arith}
+use Rattle.std.proofs.Common.{◌≡◌, ℕ, zero, suc, ◌+◌, ◌-◌, ◌*◌, ◌/◌, ◌%◌, ◌^◌, ◌<◌, ◌≤◌, Bool, true, false, cond, ◌==◌, List, [], ◌∷◌, ◌++◌, length, take, drop, refl, sym, ap, ◌∙◌, arith, inl, inr}
 use Rattle.std.specs.Prelude.{nat_lt, if◌then◌else◌, count_ones}
 use Rattle.std.specs.declared.cmp.Ordering.TheVariants.{Less}
 use Rattle.std.proofs.lemmas.Bool.Decides.{nat_tests}
 use Rattle.std.proofs.lemmas.Nat.{pow_pos, pow-add, mod-pow-add, ones_cat, shr-shr}
-use Rattle.std.proofs.Math.ListN.{length-take}
 use Rattle.std.proofs.Math.Nat.{add-mul, one-mul, zero-mul, zero-add}
 use Rattle.ipnet_blocks.specs.Blocks.{digits}
 use Rattle.ipnet_blocks.proofs.Strings.{length-digits, digits_front}
 use Rattle.trie_core.specs.Bits.{number_from}
 use Rattle.ipnet_blocks.specs.BitStrings.{bits_cmp}
 use Rattle.trie_core.specs.InnerPlaces.{place_from, place_of, child_of, place_at, place_string, child_string}
-use Rattle.trie_core.proofs.Strings.{take_front}
+use Rattle.std.proofs.lemmas.List.{take_at, length-take-le}
+use Rattle.std.proofs.lemmas.Bool.{cases_lt}
 
 pub ones_bit : (b : ℕ) → b < 2 → count_ones b ≡ b
 unfolding lib.Count.ones
@@ -27,18 +27,12 @@ double i = omega arith
 pub place_bound : (k : ℕ) (bs : List Bool) → length bs < k → place_from k bs + 1 < 2 ^ k
 place_bound zero bs h = absurd (omega (arith, h))
 place_bound (suc k) [] h = omega (arith, double k, pow_pos k)
-place_bound (suc k) (true ∷ bs) h = omega (arith, double k, pow_pos k, place_bound k bs (omega (arith, h)))
-place_bound (suc k) (false ∷ bs) h = omega (arith, double k, pow_pos k, place_bound k bs (omega (arith, h)))
+place_bound (suc k) (b ∷ bs) h = grind (arith, double k, pow_pos k, place_bound k bs)
 
 pub place_less : (k : ℕ) (xs ys : List Bool) → length xs < k → length ys < k → place_from k xs < place_from k ys → bits_cmp xs ys ≡ Less
-place_less k [] [] l m p = absurd (omega (arith, p))
-place_less k [] (y ∷ ys) l m p = refl
-place_less zero (x ∷ xs) ys l m p = absurd (omega (arith, l))
-place_less (suc k) (x ∷ xs) [] l m p = absurd (omega (arith, p))
-place_less (suc k) (true ∷ xs) (true ∷ ys) l m p = place_less k xs ys (omega (arith, l)) (omega (arith, m)) (omega (arith, p))
-place_less (suc k) (false ∷ xs) (false ∷ ys) l m p = place_less k xs ys (omega (arith, l)) (omega (arith, m)) (omega (arith, p))
-place_less (suc k) (false ∷ xs) (true ∷ ys) l m p = refl
-place_less (suc k) (true ∷ xs) (false ∷ ys) l m p = absurd (omega (arith, p, place_bound k ys (omega (arith, m))))
+place_less zero xs ys l m p = absurd (omega (arith, l))
+place_less (suc k) [] ys l m p = grind arith
+place_less (suc k) (x ∷ xs) ys l m p = grind (arith, place_less k xs, place_bound k)
 
 place_at_first : (k n : ℕ) → n < 2 ^ k - 1 → place_at (suc k) (suc n) ≡ false ∷ place_at k n
 place_at_first k n h = let e : nat_lt n (2 ^ k - 1) ≡ true = grind (arith, nat_tests) in ap (λ b. if b then (false ∷ place_at k n) else (true ∷ place_at k (n - (2 ^ k - 1)))) e
@@ -62,16 +56,13 @@ pub record IsPlaceString (k n : ℕ) (bs : List Bool) : Type 0 where
   pub short : length bs < k
   pub place : place_from k bs ≡ n
 
-place_string_by : (k n : ℕ) → (n < 2 ^ k - 1 → IsPlaceString k n (place_at k n)) → (n - (2 ^ k - 1) < 2 ^ k - 1 → IsPlaceString k (n - (2 ^ k - 1)) (place_at k (n - (2 ^ k - 1)))) → suc n < 2 ^ suc k - 1 → (b : Bool) → nat_lt n (2 ^ k - 1) ≡ b → IsPlaceString (suc k) (suc n) (if b then (false ∷ place_at k n) else (true ∷ place_at k (n - (2 ^ k - 1))))
-place_string_by k n f g h true e = let r = f (grind (arith, nat_tests)) in record { short = omega (arith, r.short); place = omega (arith, r.place) }
-place_string_by k n f g h false e =
-    let l : 2 ^ k - 1 ≤ n = grind (arith, nat_tests) in
-    let r = g (omega (arith, h, l, double k)) in record { short = omega (arith, r.short); place = omega (arith, r.place, l) }
-
 pub is_place_string : (k n : ℕ) → n < 2 ^ k - 1 → IsPlaceString k n (place_at k n)
 is_place_string zero n h = absurd (omega (arith, h))
 is_place_string (suc k) zero h = record { short = omega arith; place = refl }
-is_place_string (suc k) (suc n) h = place_string_by k n (λ l. is_place_string k n l) (λ l. is_place_string k (n - (2 ^ k - 1)) l) h (nat_lt n (2 ^ k - 1)) refl
+is_place_string (suc k) (suc n) h = elim (cases_lt n (2 ^ k - 1)) [
+  | inl l ↦ let r = is_place_string k n l in rw (place_at_first k n l) (record { short = omega (arith, r.short); place = omega (arith, r.place) })
+  | inr l ↦ let r = is_place_string k (n - (2 ^ k - 1)) (omega (arith, h, l, double k)) in rw (place_at_second k n l) (record { short = omega (arith, r.short); place = omega (arith, r.place, l) })
+]
 
 pub place_string-place_of : (q : List Bool) → length q < 5 → place_string (place_of q) ≡ q
 unfolding place_string
@@ -86,18 +77,13 @@ place_strings n h = is_place_string 5 n h
 pub number_bound : (k : ℕ) (bs : List Bool) → number_from k bs < 2 ^ k
 number_bound k [] = pow_pos k
 number_bound zero (b ∷ bs) = omega arith
-number_bound (suc k) (true ∷ bs) = omega (arith, double k, number_bound k bs)
-number_bound (suc k) (false ∷ bs) = omega (arith, double k, number_bound k bs)
+number_bound (suc k) (b ∷ bs) = grind (arith, double k, number_bound k bs)
 
 pub number_less : (k : ℕ) (xs ys : List Bool) → length xs ≡ k → length ys ≡ k → number_from k xs < number_from k ys → bits_cmp xs ys ≡ Less
 number_less k [] [] l m p = absurd (omega (arith, p))
 number_less k [] (y ∷ ys) l m p = refl
 number_less zero (x ∷ xs) ys l m p = absurd (omega (arith, l))
-number_less (suc k) (x ∷ xs) [] l m p = absurd (omega (arith, m))
-number_less (suc k) (true ∷ xs) (true ∷ ys) l m p = number_less k xs ys (omega (arith, l)) (omega (arith, m)) (omega (arith, p))
-number_less (suc k) (false ∷ xs) (false ∷ ys) l m p = number_less k xs ys (omega (arith, l)) (omega (arith, m)) (omega (arith, p))
-number_less (suc k) (false ∷ xs) (true ∷ ys) l m p = refl
-number_less (suc k) (true ∷ xs) (false ∷ ys) l m p = absurd (omega (arith, p, number_bound k ys))
+number_less (suc k) (x ∷ xs) ys l m p = grind (arith, number_less k xs, number_bound k)
 
 -- strings of one length differ where their numbers do
 pub number_apart : (k : ℕ) (xs ys : List Bool) → length xs ≡ length ys → length xs ≤ k → number_from k xs ≡ number_from k ys → xs ≡ ys
@@ -105,10 +91,7 @@ number_apart k [] [] l m p = refl
 number_apart k [] (y ∷ ys) l m p = absurd (omega (arith, l))
 number_apart k (x ∷ xs) [] l m p = absurd (omega (arith, l))
 number_apart zero (x ∷ xs) (y ∷ ys) l m p = absurd (omega (arith, m))
-number_apart (suc k) (true ∷ xs) (true ∷ ys) l m p = ap (λ zs. true ∷ zs) (number_apart k xs ys (omega (arith, l)) (omega (arith, m)) (omega (arith, p)))
-number_apart (suc k) (false ∷ xs) (false ∷ ys) l m p = ap (λ zs. false ∷ zs) (number_apart k xs ys (omega (arith, l)) (omega (arith, m)) (omega (arith, p)))
-number_apart (suc k) (false ∷ xs) (true ∷ ys) l m p = absurd (omega (arith, p, number_bound k xs))
-number_apart (suc k) (true ∷ xs) (false ∷ ys) l m p = absurd (omega (arith, p, number_bound k ys))
+number_apart (suc k) (x ∷ xs) (y ∷ ys) l m p = grind (arith, number_apart k xs ys, number_bound k xs, number_bound k ys)
 
 pub number-take : (k : ℕ) (xs : List Bool) → number_from k (take k xs) ≡ number_from k xs
 number-take zero [] = refl
@@ -129,7 +112,7 @@ pub take-digits : (m n q : ℕ) → m ≤ n → take m (digits n q) ≡ digits m
 take-digits m n q h =
     let t = digits_front m (n - m) q in
     let e : m + (n - m) ≡ n = omega arith in
-    ap (λ i. take m (digits i q)) (sym e) ∙ ap (take m) t.1 ∙ take_front (digits m (q / 2 ^ (n - m))) t.0 m (length-digits m (q / 2 ^ (n - m)))
+    ap (λ i. take m (digits i q)) (sym e) ∙ ap (take m) t.1 ∙ take_at (digits m (q / 2 ^ (n - m))) t.0 m (length-digits m (q / 2 ^ (n - m)))
 
 pub drop-digits : (m n q : ℕ) → m ≤ n → drop m (digits n q) ≡ digits (n - m) q
 drop-digits zero n q h = let e : n - 0 ≡ n = omega arith in rw e refl
@@ -137,8 +120,7 @@ drop-digits (suc m) zero q h = absurd (omega (arith, h))
 drop-digits (suc m) (suc n) q h = let e : suc n - suc m ≡ n - m = omega arith in ap (drop (suc m)) (digits_first n q) ∙ rw e (drop-digits m n q (omega (arith, h)))
 
 bit_of : (x : ℕ) (b : Bool) → (x % 2 == 1) ≡ b → x % 2 ≡ cond b 1 0
-bit_of x true e = grind (arith, nat_tests)
-bit_of x false e = grind (arith, nat_tests)
+bit_of x b e = grind (arith, nat_tests)
 
 low_part : (q n : ℕ) → q % 2 ^ suc n ≡ (q / 2 ^ n % 2) * 2 ^ n + q % 2 ^ n
 low_part q n = let e : suc n ≡ 1 + n = omega arith in rw e (mod-pow-add q 1 n)
@@ -175,11 +157,8 @@ length-child_string n = length-digits 5 n
 
 pub child_string-child_of : (q : List Bool) → 5 ≤ length q → child_string (child_of q) ≡ take 5 q
 child_string-child_of q h =
-    let l : length (take 5 q) ≡ 5 = length_five q h in
+    let l : length (take 5 q) ≡ 5 = length-take-le 5 q h in
     number_apart 5 (child_string (child_of q)) (take 5 q) (omega (arith, length-child_string (child_of q), l)) (omega (arith, length-child_string (child_of q))) (child_of-string (child_of q) (number_bound 5 q) ∙ sym (number-take 5 q))
-  where
-    length_five : (q : List Bool) → 5 ≤ length q → length (take 5 q) ≡ 5
-    length_five q h = omega (arith, length-take 5 q, h)
 
 -- ---- the number of a place from the number that its bits form
 

@@ -1,82 +1,67 @@
 -- What stands in a node at the places that are open.
-use Rattle.std.proofs.Common.{◌≡◌, ℕ, zero, suc, ◌+◌, ◌-◌, ◌*◌, ◌/◌, ◌%◌, ◌^◌, ◌<◌, ◌≤◌, Bool, true, false, cond, not, ◌&&◌, List, [], ◌∷◌, ◌++◌, length, take, get_or, refl, sym, ap, subst, ◌∙◌, arith}
-use Rattle.std.specs.Prelude.{T, Option, Some, None, nat_lt, eqb, min, bit_and, count_ones, MatchOption}
+use Rattle.std.proofs.Common.{◌≡◌, ℕ, suc, ◌+◌, ◌-◌, ◌*◌, ◌/◌, ◌%◌, ◌^◌, ◌<◌, ◌≤◌, Bool, true, false, cond, not, ◌&&◌, List, [], ◌∷◌, ◌++◌, length, take, get_or, refl, sym, ap, subst, ◌∙◌, arith, inl, inr}
+use Rattle.std.specs.Prelude.{T, Option, Some, None, nat_lt, eqb, bit_and, count_ones, MatchOption}
 use Rattle.std.specs.Borrow.{Bor}
 use Rattle.std.specs.Int.{bit_at}
 use Rattle.std.specs.Ordering.{nat_cmp, eq_by_cmp}
 use Rattle.std.specs.FinMap.{find, entries, is_sorted}
-use Rattle.std.specs.FinMap.Entries.{where_key, find-where_key, is_sorted-where_key, below_all}
+use Rattle.std.specs.FinMap.Entries.{where_key, find-where_key, is_sorted-where_key}
 use Rattle.std.proofs.lemmas.Bool.Decides.{nat_tests}
-use Rattle.std.proofs.Math.Nat.{le-mul_of_pos_right, pow-le-pow_right}
-use Rattle.std.proofs.lemmas.Nat.{pow_pos, pow-add}
-use Rattle.std.proofs.lemmas.Nat.Bits.{bit_at_and, bit_at-lt, bit_at-suc, bit_at_ones, bit_at-zero, bit_at_mask_above, bit_at_mask_below, bit_at_mask_inside}
+use Rattle.std.proofs.Math.Nat.{le-mul_of_pos_right}
+use Rattle.std.proofs.lemmas.Nat.{pow_pos, pow-add, mod_below, shr_split}
+use Rattle.std.proofs.lemmas.Nat.Bits.{bit_at_and, bit_at-suc, bit_at_ones, bit_at-zero, bit_at_mask_above, bit_at_mask_below, bit_at_mask_inside, bit_at_cat_low, bit_at_cat_high}
 use Rattle.trie_core.specs.Bits.{is_from}
 use Rattle.ipnet_blocks.specs.BitStrings.{bits_cmp, begins}
 use Rattle.trie_core.specs.InnerPlaces.{place_of, child_of, place_string, child_string, placed, without, AllBelow, named, first_place_of, IsFirstPlace}
 use Rattle.trie_core.specs.InnerWalks.{is_past, first_value, KeysWithin, Left}
 use Rattle.std.proofs.Math.ListN.{length-append}
-use Rattle.std.proofs.lemmas.Bool.{and_right}
+use Rattle.std.proofs.lemmas.Bool.{cases_lt, cases_Bool, eqb-true, cases_order}
 use Rattle.ipnet_addr.proofs.Basics.{T-parts}
-use Rattle.trie_core.proofs.Strings.{front, take_front, take_take, and_with_true}
+use Rattle.trie_core.proofs.Strings.{front}
 use Rattle.trie_core.proofs.Numbers.{place_bound, number_bound, number-take, length-child_string}
 use Rattle.trie_core.proofs.PlaceTables.{past_short, past_long, from_short, from_long}
 use Rattle.trie_core.specs.Nodes.{Seen}
 use Rattle.trie_core.specs.InnerNodes.{under}
 use Rattle.trie_core.specs.InnerFrames.{has_bit, is_open, place_first, open_weight, frame_rest, frame_levels, frame_weight}
-use Rattle.trie_core.proofs.Edits.{at_sorted, bit_within, half_less, low_less, without_front}
+use Rattle.trie_core.proofs.Edits.{at_sorted, bit_within, without_front, find_above, cut_bit}
 use Rattle.trie_core.proofs.Taken.{taken, missing}
 use Rattle.trie_core.proofs.Seen.{IsSeen}
 use Rattle.trie_core.proofs.Frames.{IsTold, nat_alike, where_twice, are_parts, IsPart, part_left, part_rest, IsFrame, under_none, value_is_first, value_next, child_next, nothing_next, inside_told}
+use Rattle.std.proofs.lemmas.List.{take_at, take-take}
+use Rattle.std.proofs.Math.Bool.{and-true}
+use Rattle.std.proofs.lemmas.Option.{same_Some, none-some}
+use Rattle.trie_core.proofs.Searches.{both_set}
 
 -- ---- bits
 
-pub both_set : (a b i : ℕ) → bit_at (bit_and a b) i ≡ 1 → (bit_at a i ≡ 1) × (bit_at b i ≡ 1)
-both_set a b i e = (omega (arith, bit_at_and a b i, e, bit_at-lt a i, bit_at-lt b i), omega (arith, bit_at_and a b i, e, bit_at-lt a i, bit_at-lt b i))
-
-other_zero : (a b : ℕ) → min a b ≡ 0 → a ≡ 1 → b ≡ 0
-other_zero a b e f = omega (arith, e, f)
-
 -- between two places
 pub has_between : (from end i : ℕ) → has_bit (2 ^ end - 2 ^ from) i ≡ (not (nat_lt i from) && nat_lt i end)
-has_between from end i = by (nat_lt i from) (nat_lt i end) refl refl
-  where
-    by : (a b : Bool) → nat_lt i from ≡ a → nat_lt i end ≡ b → has_bit (2 ^ end - 2 ^ from) i ≡ (not a && b)
-    by true b e f = let z = bit_at_mask_below from end i (grind (arith, nat_tests)) in ap (λ x. eqb x 1) z
-    by false true e f = let z = bit_at_mask_inside from end i (grind (arith, nat_tests)) (grind (arith, nat_tests)) in ap (λ x. eqb x 1) z
-    by false false e f = let z = bit_at_mask_above from end i (grind (arith, nat_tests)) in ap (λ x. eqb x 1) z
+has_between from end i = grind (arith, nat_tests, bit_at_mask_below from end i, bit_at_mask_inside from end i, bit_at_mask_above from end i)
 
 -- a bit is taken out
 has_cleared : (i j word : ℕ) → bit_at word i ≡ 1 → has_bit (word - 2 ^ i) j ≡ (has_bit word j && not (eq_by_cmp nat_cmp i j))
-has_cleared i j word h = by (eq_by_cmp nat_cmp i j) refl
-  where
-    same_bit : (i j word : ℕ) → bit_at word i ≡ 1 → i ≡ j → bit_at (word - 2 ^ i) j ≡ 0
-    same_bit zero zero word h e = omega (arith, h)
-    same_bit (suc i) (suc j) word h e =
-        let q = bit_within word (suc i) h in
-        bit_at-suc (word - 2 ^ suc i) j ∙ ap (λ x. bit_at x j) (half_less word i q) ∙ same_bit i j (word / 2) (sym (bit_at-suc word i) ∙ h) (omega (arith, e))
-    same_bit zero (suc j) word h e = absurd (omega (arith, e))
-    same_bit (suc i) zero word h e = absurd (omega (arith, e))
-
-    other_bit : (i j word : ℕ) → bit_at word i ≡ 1 → (i ≡ j → ⊥) → bit_at (word - 2 ^ i) j ≡ bit_at word j
-    other_bit zero zero word h e = absurd (e refl)
-    other_bit zero (suc j) word h e =
-        let o : word % 2 ≡ 1 = omega (arith, h) in
-        let half : (word - 2 ^ 0) / 2 ≡ word / 2 = omega (arith, o) in
-        bit_at-suc (word - 2 ^ 0) j ∙ ap (λ x. bit_at x j) half ∙ sym (bit_at-suc word j)
-    other_bit (suc i) zero word h e =
-        let q = bit_within word (suc i) h in
-        let l = low_less word i q in
-        omega (arith, l)
-    other_bit (suc i) (suc j) word h e =
-        let q = bit_within word (suc i) h in
-        bit_at-suc (word - 2 ^ suc i) j ∙ ap (λ x. bit_at x j) (half_less word i q) ∙ other_bit i j (word / 2) (sym (bit_at-suc word i) ∙ h) (λ f. e (ap suc f)) ∙ sym (bit_at-suc word j)
-
-    by : (b : Bool) → eq_by_cmp nat_cmp i j ≡ b → has_bit (word - 2 ^ i) j ≡ (has_bit word j && not b)
-    by true e = let s : i ≡ j = grind (arith, nat_tests) in ap (λ x. eqb x 1) (same_bit i j word h s) ∙ sym (and_right (has_bit word j) false refl)
-    by false e = let s : i ≡ j → ⊥ = λ f. let z : eq_by_cmp nat_cmp i j ≡ true = grind (arith, nat_tests) in let w = sym e ∙ z in cc in ap (λ x. eqb x 1) (other_bit i j word h s) ∙ sym (and_with_true (has_bit word j))
-
-pub powers_rise : (a b : ℕ) → a ≤ b → 2 ^ a ≤ 2 ^ b
-powers_rise a b h = pow-le-pow_right (omega arith) h
+has_cleared i j word h =
+    let q = word / 2 ^ i in
+    let r = word % 2 ^ i in
+    let fit = mod_below word (2 ^ i) (pow_pos i) in
+    let whole = λ (k : ℕ). ap (λ x. bit_at x k) (sym (shr_split word i)) in
+    let less = λ (k : ℕ). ap (λ x. bit_at x k) (cut_bit i word h) in
+    elim (cases_order i j) [
+      | inl e ↦
+          let z : bit_at (word - 2 ^ i) j ≡ 0 = ap (bit_at (word - 2 ^ i)) (sym e) ∙ less i ∙ bit_at_cat_high (q - 1) i r i fit (omega arith) ∙ let n : i - i ≡ 0 = omega arith in ap (bit_at (q - 1)) n ∙ omega (arith, h) in
+          let s : eq_by_cmp nat_cmp i j ≡ true = grind (arith, nat_tests) in
+          grind (arith, z, s)
+      | inr (inl l) ↦
+          let n : j - i ≡ suc (j - i - 1) = omega arith in
+          let half : (q - 1) / 2 ≡ q / 2 = omega (arith, h) in
+          let z : bit_at (word - 2 ^ i) j ≡ bit_at word j = less j ∙ bit_at_cat_high (q - 1) i r j fit (omega arith) ∙ ap (bit_at (q - 1)) n ∙ bit_at-suc (q - 1) (j - i - 1) ∙ ap (λ x. bit_at x (j - i - 1)) half ∙ sym (whole j ∙ bit_at_cat_high q i r j fit (omega arith) ∙ ap (bit_at q) n ∙ bit_at-suc q (j - i - 1)) in
+          let s : eq_by_cmp nat_cmp i j ≡ false = grind (arith, nat_tests) in
+          grind (arith, z, s)
+      | inr (inr l) ↦
+          let z : bit_at (word - 2 ^ i) j ≡ bit_at word j = less j ∙ bit_at_cat_low (q - 1) i r j l ∙ sym (whole j ∙ bit_at_cat_low q i r j l) in
+          let s : eq_by_cmp nat_cmp i j ≡ false = grind (arith, nat_tests) in
+          grind (arith, z, s)
+    ]
 
 pub bit_open : (mask bits i : ℕ) → IsFirstPlace (bit_and mask bits) i → 2 ^ i ≤ mask
 bit_open mask bits i f = bit_within mask i (both_set mask bits i f.taken).0
@@ -84,37 +69,22 @@ bit_open mask bits i f = bit_within mask i (both_set mask bits i f.taken).0
 -- ---- the first thing at an open place
 
 module _ {X : Type 0} where
-  find_above : (i n : ℕ) (es : List (ℕ × X)) → T (below_all nat_cmp n es) → i ≤ n → find nat_cmp i es ≡ None
-  find_above i n [] b h = refl
-  find_above i n (e ∷ es) b h =
-      let p = T-parts _ _ b in
-      let q = p.0 in
-      let r = find_above i n es p.1 h in
-      grind (arith, nat_tests)
-
   -- a list that rises has at its front what is found where nothing is found before
   front_found : (es : List (ℕ × X)) (i : ℕ) (x : X) → T (is_sorted nat_cmp es) → find nat_cmp i es ≡ Some x → ((j : ℕ) → j < i → find nat_cmp j es ≡ None) → es ≡ (i, x) ∷ without i es
   front_found [] i x s f n = cc
-  front_found (e ∷ es) i x s f n = by (nat_lt e.0 i) (nat_lt i e.0) refl refl
-    where
-      found_first : find nat_cmp e.0 (e ∷ es) ≡ Some e.1
-      found_first = grind (arith, nat_tests)
-
-      by : (a b : Bool) → nat_lt e.0 i ≡ a → nat_lt i e.0 ≡ b → e ∷ es ≡ (i, x) ∷ without i (e ∷ es)
-      by true b g h = let z = sym found_first ∙ n e.0 (grind (arith, nat_tests)) in cc
-      by false true g h =
-          let p = T-parts _ _ s in
-          let l : i < e.0 = grind (arith, nat_tests) in
-          let r = find_above i e.0 es p.0 (omega (arith, l)) in
-          let z : find nat_cmp i (e ∷ es) ≡ None = grind (arith, nat_tests) in
-          let w = sym f ∙ z in
-          cc
-      by false false g h =
-          let p = T-parts _ _ s in
-          let k : i ≡ e.0 = grind (arith, nat_tests) in
-          let v : Some e.1 ≡ Some x = sym found_first ∙ ap (λ j. find nat_cmp j (e ∷ es)) (sym k) ∙ f in
-          let y : e.1 ≡ x = cc in
-          (λ t. (sym k t, y t) ∷ es) ∙ ap (λ ys. (i, x) ∷ ys) (sym (without_front e.0 e.1 es p.0) ∙ ap (λ j. without j (e ∷ es)) (sym k))
+  front_found (e ∷ es) i x s f n =
+      let p = T-parts _ _ s in
+      let first : find nat_cmp e.0 (e ∷ es) ≡ Some e.1 = grind (arith, nat_tests) in
+      elim (cases_order e.0 i) [
+        | inl k ↦
+            let y : e.1 ≡ x = same_Some e.1 x (sym first ∙ ap (λ j. find nat_cmp j (e ∷ es)) k ∙ f) in
+            (λ t. (k t, y t) ∷ es) ∙ ap (λ ys. (i, x) ∷ ys) (sym (without_front e.0 e.1 es p.0) ∙ ap (λ j. without j (e ∷ es)) k)
+        | inr (inl l) ↦ absurd (none-some e.1 (sym (n e.0 l) ∙ first))
+        | inr (inr l) ↦
+            let r = find_above i e.0 es p.0 (omega (arith, l)) in
+            let z : find nat_cmp i (e ∷ es) ≡ None = grind (arith, nat_tests) in
+            absurd (none-some x (sym z ∙ f))
+      ]
 
   none_found : (es : List (ℕ × X)) → ((j : ℕ) → find nat_cmp j es ≡ None) → es ≡ []
   none_found [] n = refl
@@ -128,14 +98,12 @@ module _ {X : Type 0} where
 
   unset_either : (mask bits : ℕ) (xs : List X) (j : ℕ) → bit_at (bit_and mask bits) j ≡ 0 → find nat_cmp j (where_key nat_cmp (has_bit mask) (placed bits xs)) ≡ None
   unfolding placed
-  unset_either mask bits xs j z = open_get mask bits xs j ∙ by (has_bit mask j) refl
-    where
-      by : (b : Bool) → has_bit mask j ≡ b → cond b (find nat_cmp j (placed bits xs)) None ≡ None
-      by true e =
-          let o : bit_at mask j ≡ 1 = grind (arith, nat_tests) in
-          let u : bit_at bits j ≡ 0 = other_zero (bit_at mask j) (bit_at bits j) (sym (bit_at_and mask bits j) ∙ z) o in
-          sym (missing j bits xs u)
-      by false e = refl
+  unset_either mask bits xs j z = open_get mask bits xs j ∙ elim (cases_Bool (has_bit mask j)) [
+    | inl e ↦
+        let u : bit_at bits j ≡ 0 = omega (arith, bit_at_and mask bits j, z, eqb-true (bit_at mask j) 1 e) in
+        (λ i. cond (e i) (sym (missing j bits xs u) i) None)
+    | inr e ↦ ap (λ b. cond b (find nat_cmp j (placed bits xs)) None) e
+  ]
 
   open_first : (mask bits i : ℕ) (xs : List X) (x : X) → IsFirstPlace (bit_and mask bits) i → find nat_cmp i (placed bits xs) ≡ Some x
       → where_key nat_cmp (has_bit mask) (placed bits xs) ≡ (i, x) ∷ where_key nat_cmp (has_bit (mask - 2 ^ i)) (placed bits xs)
@@ -150,7 +118,7 @@ module _ {X : Type 0} where
   open_none mask bits xs z = none_found _ (λ j. unset_either mask bits xs j (ap (λ w. bit_at w j) z ∙ bit_at-zero j))
 
   -- the k-th thing stands at the place
-  pub found_at : (mask bits i at : ℕ) (xs : List X) (x : X) → IsFirstPlace (bit_and mask bits) i → count_ones bits ≡ length xs → at ≡ count_ones (bits % 2 ^ i) → x ≡ get_or xs at x → find nat_cmp i (placed bits xs) ≡ Some x
+  found_at : (mask bits i at : ℕ) (xs : List X) (x : X) → IsFirstPlace (bit_and mask bits) i → count_ones bits ≡ length xs → at ≡ count_ones (bits % 2 ^ i) → x ≡ get_or xs at x → find nat_cmp i (placed bits xs) ≡ Some x
   unfolding placed
   found_at mask bits i at xs x f e a r = (taken i at bits xs f.within ((both_set mask bits i f.taken).1, a) e).read x ∙ ap Some (sym r)
 
@@ -172,7 +140,7 @@ pub below_way : (way : List Bool) (place : ℕ) {below : List Bool} → below �
 below_way way place {below} e =
     let l : length below ≡ length way + 5 = omega (arith, ap length e, length-append way (child_string place), length-child_string place) in
     let n : length below - 5 ≡ length way = omega (arith, l) in
-    ((λ i. take (n i) (e i)) ∙ take_front way (child_string place) (length way) refl, l)
+    ((λ i. take (n i) (e i)) ∙ take_at way (child_string place) (length way) refl, l)
 
 told_open : (v c : ℕ) → IsTold (is_open v c) (has_bit v) (has_bit c)
 told_open v c = record {
@@ -220,10 +188,11 @@ module _ {X : Type 0} where
     pub within : length trail + length (place_string place) ≤ 128
     pub rest : under trail (where_key bits_cmp (is_open v c) (entries m.entries)) ≡ (trail ++ place_string place, value) ∷ under trail (where_key bits_cmp (is_open (v - 2 ^ place) c) (entries m.entries))
 
-  pub value_open : {vb : ℕ} {vs : List X} {cb : ℕ} {cs : List (Seen X)} {m : Seen X} {trail : List Bool} (v c place : ℕ) (value : X) (q : Option ℕ) → IsSeen vb vs cb cs m → IsOpened m trail v c
-      → IsFirstPlace (bit_and v vb) place → MatchOption q (bit_and c cb ≡ 0) (IsFirstPlace (bit_and c cb)) → place_first (Some place) q ≡ true → find nat_cmp place (placed vb vs) ≡ Some value → IsValueOpen m trail v c place value
-  value_open {vb} {vs} {cb} {cs} {m} {trail} v c place value q s t f g h e =
-      let n = value_next (opened v c s t) (open_first v vb place vs value f e) (first_told v c (Some place) q s f g ∙ h) in
+  pub value_open : {vb : ℕ} {vs : List X} {cb : ℕ} {cs : List (Seen X)} {m : Seen X} {trail : List Bool} (v c place at : ℕ) (value : X) (p q : Option ℕ) → IsSeen vb vs cb cs m → IsOpened m trail v c
+      → IsFirstPlace (bit_and v vb) place → MatchOption q (bit_and c cb ≡ 0) (IsFirstPlace (bit_and c cb)) → p ≡ Some place → place_first p q ≡ true → at ≡ count_ones (vb % 2 ^ place) → value ≡ get_or vs at value → IsValueOpen m trail v c place value
+  value_open {vb} {vs} {cb} {cs} {m} {trail} v c place at value p q s t f g i h a r =
+      let e = found_at v vb place at vs value f s.slots.values_counted a r in
+      let n = value_next (opened v c s t) (open_first v vb place vs value f e) (first_told v c (Some place) q s f g ∙ ap (λ o. place_first o q) (sym i) ∙ h) in
       record {
         within = n.within;
         rest = sym (left_open trail v c s) ∙ n.rest ∙ ap (λ es. (trail ++ place_string place, value) ∷ es) (left_open trail (v - 2 ^ place) c s);
@@ -235,10 +204,11 @@ module _ {X : Type 0} where
     pub smaller : d.levels < m.levels
     pub rest : under trail (where_key bits_cmp (is_open v c) (entries m.entries)) ≡ under (trail ++ child_string place) (entries d.entries) ++ under trail (where_key bits_cmp (is_open v (c - 2 ^ place)) (entries m.entries))
 
-  pub child_open : {vb : ℕ} {vs : List X} {cb : ℕ} {cs : List (Seen X)} {m : Seen X} {trail : List Bool} (v c place : ℕ) (d : Seen X) (p : Option ℕ) → IsSeen vb vs cb cs m → IsOpened m trail v c
-      → MatchOption p (bit_and v vb ≡ 0) (IsFirstPlace (bit_and v vb)) → IsFirstPlace (bit_and c cb) place → place_first p (Some place) ≡ false → find nat_cmp place (placed cb cs) ≡ Some d → 0 < d.levels → IsChildOpen m trail v c place d
-  child_open {vb} {vs} {cb} {cs} {m} {trail} v c place d p s t f g h e l =
-      let n = child_next (opened v c s t) (open_first c cb place cs d g e) (first_told v c p (Some place) s f g ∙ h) (omega (arith, l)) in
+  pub child_open : {vb : ℕ} {vs : List X} {cb : ℕ} {cs : List (Seen X)} {m : Seen X} {trail : List Bool} (v c place at : ℕ) (d : Seen X) (p q : Option ℕ) → IsSeen vb vs cb cs m → IsOpened m trail v c
+      → MatchOption p (bit_and v vb ≡ 0) (IsFirstPlace (bit_and v vb)) → IsFirstPlace (bit_and c cb) place → q ≡ Some place → place_first p q ≡ false → at ≡ count_ones (cb % 2 ^ place) → d ≡ get_or cs at d → 0 < d.levels → IsChildOpen m trail v c place d
+  child_open {vb} {vs} {cb} {cs} {m} {trail} v c place at d p q s t f g i h a r l =
+      let e = found_at c cb place at cs d g s.slots.children_counted a r in
+      let n = child_next (opened v c s t) (open_first c cb place cs d g e) (first_told v c p (Some place) s f g ∙ ap (place_first p) (sym i) ∙ h) (omega (arith, l)) in
       record {
         within = n.within;
         smaller = omega (arith, n.less.0, (part_open v c s).levels);
@@ -272,21 +242,16 @@ module _ {X : Type 0} where
 -- ---- what a search leaves open
 
 told_by : {p : List Bool → Bool} {f g : ℕ → Bool} (v c : ℕ) → IsTold p f g → ((i : ℕ) → i < 32 → has_bit v i ≡ f i) → ((i : ℕ) → i < 32 → has_bit c i ≡ g i) → (k : List Bool) → is_open v c k ≡ p k
-told_by {p} v c t a b k = by (nat_lt (length k) 5) refl
-  where
-    by : (x : Bool) → nat_lt (length k) 5 ≡ x → is_open v c k ≡ p k
-    by true e =
-        let l : length k < 5 = grind (arith, nat_tests) in
-        (told_open v c).short k l ∙ a (place_of k) (omega (arith, place_bound 5 k l)) ∙ sym (t.short k l)
-    by false e =
-        let l : 5 ≤ length k = grind (arith, nat_tests) in
-        (told_open v c).long k l ∙ b (child_of k) (number_bound 5 k) ∙ sym (t.long k l)
+told_by {p} v c t a b k = elim (cases_lt (length k) 5) [
+  | inl l ↦ (told_open v c).short k l ∙ a (place_of k) (omega (arith, place_bound 5 k l)) ∙ sym (t.short k l)
+  | inr l ↦ (told_open v c).long k l ∙ b (child_of k) (number_bound 5 k) ∙ sym (t.long k l)
+]
 
 where_told : {X : Type 0} {p : List Bool → Bool} {f g : ℕ → Bool} (v c : ℕ) (es : List (List Bool × X)) → IsTold p f g → ((i : ℕ) → i < 32 → has_bit v i ≡ f i) → ((i : ℕ) → i < 32 → has_bit c i ≡ g i) → where_key bits_cmp (is_open v c) es ≡ where_key bits_cmp p es
 where_told v c es t a b = λ j. where_key bits_cmp (λ k. told_by v c t a b k j) es
 
 has_from : (from i : ℕ) → i < 32 → has_bit (2 ^ 32 - 2 ^ from) i ≡ not (nat_lt i from)
-has_from from i h = has_between from 32 i ∙ (let b : nat_lt i 32 ≡ true = grind (arith, nat_tests) in ap (λ x. not (nat_lt i from) && x) b ∙ and_with_true (not (nat_lt i from)))
+has_from from i h = has_between from 32 i ∙ (let b : nat_lt i 32 ≡ true = grind (arith, nat_tests) in ap (λ x. not (nat_lt i from) && x) b ∙ and-true (not (nat_lt i from)))
 
 module _ {X : Type 0} where
   where_all : (es : List (List Bool × X)) → where_key bits_cmp (λ _. true) es ≡ es
@@ -310,7 +275,7 @@ module _ {X : Type 0} where
       → where_key bits_cmp (is_open v c) es ≡ where_key bits_cmp (is_past (take 5 q)) es
   past_open q {v} {c} {place} {child} es h a b x y =
       let five : length (take 5 q) ≡ 5 = (front q h).0 in
-      let t : take 4 (take 5 q) ≡ take 4 q = take_take q 4 1 in
+      let t : take 4 (take 5 q) ≡ take 4 q = take-take 4 5 q (omega arith) in
       let n : child_of (take 5 q) ≡ child_of q = number-take 5 q in
       (λ j. where_key bits_cmp (is_open (x j) (y j)) es)
       ∙ where_told _ _ es (record { short = λ r s. past_short (take 5 q) r five s; long = λ r s. past_long (take 5 q) r five s })

@@ -1,53 +1,34 @@
 -- The entries of a node, one after another.
-use Rattle.std.proofs.Common.{◌≡◌, ◌<◌, ◌≤◌, Bool, true, false, cond, List, [], ◌∷◌, ◌++◌, length, take, drop, refl, sym, ap, subst, ◌∙◌, arith}
-use Rattle.std.specs.Prelude.{T, nat_lt, Option, Some, None, is_some}
+use Rattle.std.proofs.Common.{◌≡◌, ◌<◌, ◌≤◌, Bool, true, false, cond, List, [], ◌∷◌, ◌++◌, length, take, drop, refl, sym, ap, subst, ◌∙◌, arith, inl, inr}
+use Rattle.std.specs.Prelude.{T, Option, Some, None, is_some}
 use Rattle.std.specs.declared.cmp.Ordering.{Ordering}
-use Rattle.std.specs.declared.cmp.Ordering.TheVariants.{Less, Equal, Greater}
+use Rattle.std.specs.declared.cmp.Ordering.TheVariants.{Less}
 use Rattle.std.specs.Ordering.{is_lt}
 use Rattle.std.specs.FinMap.{entries, find, get, is_sorted, entries_sorted, get-entries, empty}
 use Rattle.std.specs.FinMap.Entries.{below_all, same_entries}
-use Rattle.std.proofs.lemmas.Bool.Decides.{nat_tests}
-use Rattle.std.proofs.Math.ListN.{length-append}
+use Rattle.std.proofs.Math.ListN.{length-append, length-take}
 use Rattle.ipnet_addr.proofs.Basics.{T-and, T-parts, less_from_T}
 use Rattle.ipnet_blocks.specs.BitStrings.{bits_cmp}
 use Rattle.trie_core.specs.InnerWalks.{first_value}
 use Rattle.trie_core.specs.Nodes.{BitMap, Seen}
 use Rattle.trie_core.specs.InnerNodes.{under, node_map, IsNode}
-use Rattle.trie_core.proofs.Strings.{append_none, bits_total, bits_same, same, same-refl, same-Decides, other_length, front, bits_cmp-under}
+use Rattle.trie_core.proofs.Strings.{bits_total, bits_same, same, same-refl, same-Decides, other_length, bits_cmp-under}
 use Rattle.trie_core.proofs.Maps.{tail_rises, or_else, find-append_all, find-apart, find-child, child_get, get-short, get-long, get_none, node_map-none}
+use Rattle.std.proofs.lemmas.List.{append-nil, take-append-drop, take_all}
+use Rattle.std.proofs.lemmas.Bool.{cases_lt, cases_Bool}
 
 -- ---- the order of strings
 
 pub less_right : (xs ys zs : List Bool) → bits_cmp xs ys ≡ Less → bits_cmp xs (ys ++ zs) ≡ Less
-less_right [] [] zs e = cc
-less_right [] (y ∷ ys) zs e = refl
-less_right (x ∷ xs) [] zs e = cc
-less_right (true ∷ xs) (true ∷ ys) zs e = less_right xs ys zs e
-less_right (false ∷ xs) (false ∷ ys) zs e = less_right xs ys zs e
-less_right (false ∷ xs) (true ∷ ys) zs e = refl
-less_right (true ∷ xs) (false ∷ ys) zs e = cc
+less_right xs ys [] e = ap (bits_cmp xs) (append-nil ys) ∙ e
+less_right xs ys (z ∷ zs) e = bits_total.trans xs ys (ys ++ z ∷ zs) e (ap (λ w. bits_cmp w (ys ++ z ∷ zs)) (sym (append-nil ys)) ∙ bits_cmp-under ys [] (z ∷ zs))
 
 pub less_left : (xs ys zs : List Bool) → length ys ≤ length xs → bits_cmp xs ys ≡ Less → bits_cmp (xs ++ zs) ys ≡ Less
-less_left [] [] zs h e = cc
-less_left [] (y ∷ ys) zs h e = absurd (omega arith)
-less_left (x ∷ xs) [] zs h e = cc
-less_left (true ∷ xs) (true ∷ ys) zs h e = less_left xs ys zs (omega arith) e
-less_left (false ∷ xs) (false ∷ ys) zs h e = less_left xs ys zs (omega arith) e
-less_left (false ∷ xs) (true ∷ ys) zs h e = refl
-less_left (true ∷ xs) (false ∷ ys) zs h e = cc
+less_left [] ys zs h e = grind arith
+less_left (x ∷ xs) ys zs h e = grind (arith, less_left xs)
 
 pub less_trans : (xs ys zs : List Bool) → bits_cmp xs ys ≡ Less → bits_cmp ys zs ≡ Less → bits_cmp xs zs ≡ Less
-less_trans [] [] zs e f = cc
-less_trans [] (y ∷ ys) [] e f = cc
-less_trans [] (y ∷ ys) (z ∷ zs) e f = refl
-less_trans (x ∷ xs) [] zs e f = cc
-less_trans (x ∷ xs) (y ∷ ys) [] e f = cc
-less_trans (true ∷ xs) (true ∷ ys) (true ∷ zs) e f = less_trans xs ys zs e f
-less_trans (false ∷ xs) (false ∷ ys) (false ∷ zs) e f = less_trans xs ys zs e f
-less_trans (false ∷ xs) (y ∷ ys) (true ∷ zs) e f = refl
-less_trans (true ∷ xs) (false ∷ ys) zs e f = cc
-less_trans (true ∷ xs) (true ∷ ys) (false ∷ zs) e f = cc
-less_trans (false ∷ xs) (true ∷ ys) (false ∷ zs) e f = cc
+less_trans xs ys zs e f = bits_total.trans xs ys zs e f
 
 pub T-less : (o : Ordering) → o ≡ Less → T (is_lt o)
 T-less o e = subst (λ r. T (is_lt r)) (sym e) tt
@@ -76,9 +57,8 @@ module _ {Y : Type 0} where
   starts_above n (c ∷ cs) h s = T-and _ _ (T-less _ h) (lower n c.0 cs h (tail_rises c cs s).1)
 
 module _ {X : Type 0} where
-  later_found : (b : Bool) (x : X) (o : Option X) → is_some o ≡ true → is_some (cond b (Some x) o) ≡ true
-  later_found true x o e = refl
-  later_found false x o e = e
+  pub later_found : (b : Bool) (x : X) (o : Option X) → is_some o ≡ true → is_some (cond b (Some x) o) ≡ true
+  later_found b x o e = grind arith
 
   -- a string is before all entries where it is before all keys
   pub below_found : (b : List Bool) (es : List (List Bool × X)) → ((q : List Bool) → is_some (find bits_cmp q es) ≡ true → bits_cmp b q ≡ Less) → T (below_all bits_cmp b es)
@@ -95,26 +75,20 @@ module _ {X : Type 0} where
   found_long n q h e = child_found _ (drop 5 q) (sym (ap is_some (get-long n q h)) ∙ e)
 
   -- a string n of at most five bits that is below both lists, with r after it where it has five, is below all keys
-  above_by : {vs : List (List Bool × X)} {cs : List (List Bool × Seen X)} → IsNode vs cs → (n r : List Bool) → (length n < 5 → r ≡ []) → length n ≤ 5 → T (below_all bits_cmp n vs) → T (below_all bits_cmp n cs) → (q : List Bool) → is_some (get (node_map vs cs) q) ≡ true → (b : Bool) → nat_lt (length q) 5 ≡ b → (c : Bool) → nat_lt (length n) 5 ≡ c → bits_cmp (n ++ r) q ≡ Less
-  above_by {vs} {cs} m n r z l a b q e true h true k =
-      let s : length q < 5 = grind (arith, nat_tests) in
-      let t : r ≡ [] = z (grind (arith, nat_tests)) in
-      ap (λ x. bits_cmp (n ++ x) q) t ∙ ap (λ x. bits_cmp x q) (append_none n) ∙ found_above n q vs a (sym (ap is_some (get-short m q s)) ∙ e)
-  above_by {vs} {cs} m n r z l a b q e true h false k =
-      let s : length q < 5 = grind (arith, nat_tests) in
-      let t : length q ≤ length n = grind (arith, nat_tests) in
-      less_left n q r t (found_above n q vs a (sym (ap is_some (get-short m q s)) ∙ e))
-  above_by {vs} {cs} m n r z l a b q e false h true k =
-      let s : 5 ≤ length q = grind (arith, nat_tests) in
-      let t : r ≡ [] = z (grind (arith, nat_tests)) in
-      ap (λ x. bits_cmp (n ++ x) q) t ∙ ap (λ x. bits_cmp x q) (append_none n) ∙ ap (bits_cmp n) (sym (front q s).1)
-      ∙ less_right n (take 5 q) (drop 5 q) (found_above n (take 5 q) cs b (found_long m q s e))
-  above_by {vs} {cs} m n r z l a b q e false h false k =
-      let s : 5 ≤ length q = grind (arith, nat_tests) in
-      let t = front q s in
-      let u : length (take 5 q) ≤ length n = grind (arith, nat_tests, t.0) in
-      ap (bits_cmp (n ++ r)) (sym t.1)
-      ∙ less_right (n ++ r) (take 5 q) (drop 5 q) (less_left n (take 5 q) r u (found_above n (take 5 q) cs b (found_long m q s e)))
+  above : {vs : List (List Bool × X)} {cs : List (List Bool × Seen X)} → IsNode vs cs → (n r : List Bool) → (length n < 5 → r ≡ []) → length n ≤ 5 → T (below_all bits_cmp n vs) → T (below_all bits_cmp n cs) → (q : List Bool) → is_some (get (node_map vs cs) q) ≡ true → bits_cmp (n ++ r) q ≡ Less
+  above {vs} {cs} m n r z l a b q e = ap (bits_cmp (n ++ r)) (sym (take-append-drop 5 q)) ∙ less_right (n ++ r) (take 5 q) (drop 5 q) longer
+    where
+      first : bits_cmp n (take 5 q) ≡ Less
+      first = elim (cases_lt (length q) 5) [
+        | inl s ↦ ap (bits_cmp n) (take_all 5 q (omega arith)) ∙ found_above n q vs a (sym (ap is_some (get-short m q s)) ∙ e)
+        | inr s ↦ found_above n (take 5 q) cs b (found_long m q s e)
+      ]
+
+      longer : bits_cmp (n ++ r) (take 5 q) ≡ Less
+      longer = elim (cases_lt (length n) 5) [
+        | inl k ↦ ap (λ x. bits_cmp (n ++ x) (take 5 q)) (z k) ∙ ap (λ x. bits_cmp x (take 5 q)) (append-nil n) ∙ first
+        | inr k ↦ less_left n (take 5 q) r (omega (arith, length-take 5 q)) first
+      ]
 
   pub found_get : (m : BitMap X) (q : List Bool) → is_some (find bits_cmp q (entries m)) ≡ true → is_some (get m q) ≡ true
   found_get m q e = ap is_some (get-entries m q) ∙ e
@@ -126,34 +100,31 @@ module _ {X : Type 0} where
   pub without_child : {vs : List (List Bool × X)} {cs : List (List Bool × Seen X)} {c : List Bool × Seen X} → IsNode vs (c ∷ cs) → IsNode vs cs
   without_child {vs} {cs} {c} n = record { values_rise = n.values_rise; values_short = n.values_short; children_rise = (tail_rises c cs n.children_rise).0; children_long = n.children_long.1 }
 
-  more_value_by : {vs : List (List Bool × X)} {cs : List (List Bool × Seen X)} {e : List Bool × X} → IsNode (e ∷ vs) cs → (q : List Bool) (b : Bool) → nat_lt (length q) 5 ≡ b → get (node_map (e ∷ vs) cs) q ≡ cond (same q e.0) (Some e.1) (get (node_map vs cs) q)
-  more_value_by {vs} {cs} {e} n q true h =
-      let l : length q < 5 = grind (arith, nat_tests) in
-      get-short n q l ∙ ap (cond (same q e.0) (Some e.1)) (sym (get-short (without_value n) q l))
-  more_value_by {vs} {cs} {e} n q false h =
-      let l : 5 ≤ length q = grind (arith, nat_tests) in
-      get-long n q l ∙ sym (get-long (without_value n) q l)
-      ∙ ap (λ b. cond b (Some e.1) (get (node_map vs cs) q)) (sym (other_length q e.0 (λ s. omega (arith, n.values_short.0))))
+  more_value : {vs : List (List Bool × X)} {cs : List (List Bool × Seen X)} {e : List Bool × X} → IsNode (e ∷ vs) cs → (q : List Bool) → get (node_map (e ∷ vs) cs) q ≡ cond (same q e.0) (Some e.1) (get (node_map vs cs) q)
+  more_value {vs} {cs} {e} n q = elim (cases_lt (length q) 5) [
+    | inl l ↦ get-short n q l ∙ ap (cond (same q e.0) (Some e.1)) (sym (get-short (without_value n) q l))
+    | inr l ↦ get-long n q l ∙ sym (get-long (without_value n) q l) ∙ ap (λ b. cond b (Some e.1) (get (node_map vs cs) q)) (sym (other_length q e.0 (λ s. omega (arith, n.values_short.0))))
+  ]
 
   -- a walk gives the first value, where no child is before it
   pub walk_value : {vs : List (List Bool × X)} {cs : List (List Bool × Seen X)} {e : List Bool × X} → IsNode (e ∷ vs) cs → StartsAfter e.0 cs → entries (node_map (e ∷ vs) cs) ≡ (e.0, e.1) ∷ entries (node_map vs cs)
   walk_value {vs} {cs} {e} n h =
       let b : (q : List Bool) → is_some (find bits_cmp q (entries (node_map vs cs))) ≡ true → bits_cmp e.0 q ≡ Less = λ q s.
-      ap (λ x. bits_cmp x q) (sym (append_none e.0))
-      ∙ above_by (without_value n) e.0 [] (λ _. refl) (omega (arith, n.values_short.0)) (tail_rises e vs n.values_rise).1 (starts_above e.0 cs h n.children_rise) q (found_get (node_map vs cs) q s) (nat_lt (length q) 5) refl (nat_lt (length e.0) 5) refl in
+      ap (λ x. bits_cmp x q) (sym (append-nil e.0))
+      ∙ above (without_value n) e.0 [] (λ _. refl) (omega (arith, n.values_short.0)) (tail_rises e vs n.values_rise).1 (starts_above e.0 cs h n.children_rise) q (found_get (node_map vs cs) q s) in
       same_entries bits_cmp bits_total bits_same _ _ (entries_sorted (node_map (e ∷ vs) cs))
       (T-and _ _ (below_found e.0 (entries (node_map vs cs)) b) (entries_sorted (node_map vs cs)))
-      (λ q. sym (get-entries (node_map (e ∷ vs) cs) q) ∙ more_value_by n q (nat_lt (length q) 5) refl ∙ ap (cond (same q e.0) (Some e.1)) (get-entries (node_map vs cs) q))
+      (λ q. sym (get-entries (node_map (e ∷ vs) cs) q) ∙ more_value n q ∙ ap (cond (same q e.0) (Some e.1)) (get-entries (node_map vs cs) q))
 
-  more_child_by : {vs : List (List Bool × X)} {cs : List (List Bool × Seen X)} {c : List Bool × Seen X} → IsNode vs (c ∷ cs) → (q : List Bool) (b : Bool) → nat_lt (length q) 5 ≡ b → get (node_map vs (c ∷ cs)) q ≡ or_else (find bits_cmp q (under c.0 (entries c.1.entries))) (get (node_map vs cs) q)
-  more_child_by {vs} {cs} {c} n q true h =
-      let l : length q < 5 = grind (arith, nat_tests) in
-      get-short n q l ∙ sym (get-short (without_child n) q l)
-      ∙ ap (λ o. or_else o (get (node_map vs cs) q)) (sym (find-apart c.0 q (λ k e. omega (arith, ap length e, length-append c.0 k, n.children_long.0)) (entries c.1.entries)))
-  more_child_by {vs} {cs} {c} n q false h =
-      let l : 5 ≤ length q = grind (arith, nat_tests) in
-      get-long n q l ∙ sym (find-child q c cs l n.children_long.0 (tail_rises c cs n.children_rise).1 (same (take 5 q) c.0) refl)
-      ∙ ap (or_else (find bits_cmp q (under c.0 (entries c.1.entries)))) (sym (get-long (without_child n) q l))
+  more_child : {vs : List (List Bool × X)} {cs : List (List Bool × Seen X)} {c : List Bool × Seen X} → IsNode vs (c ∷ cs) → (q : List Bool) → get (node_map vs (c ∷ cs)) q ≡ or_else (find bits_cmp q (under c.0 (entries c.1.entries))) (get (node_map vs cs) q)
+  more_child {vs} {cs} {c} n q = elim (cases_lt (length q) 5) [
+    | inl l ↦
+        get-short n q l ∙ sym (get-short (without_child n) q l)
+        ∙ ap (λ o. or_else o (get (node_map vs cs) q)) (sym (find-apart c.0 q (λ k e. omega (arith, ap length e, length-append c.0 k, n.children_long.0)) (entries c.1.entries)))
+    | inr l ↦
+        get-long n q l ∙ sym (find-child q c cs l n.children_long.0 (tail_rises c cs n.children_rise).1 (same (take 5 q) c.0) refl)
+        ∙ ap (or_else (find bits_cmp q (under c.0 (entries c.1.entries)))) (sym (get-long (without_child n) q l))
+  ]
 
   pub below_under : (bs x : List Bool) (es : List (List Bool × X)) → T (below_all bits_cmp x es) → T (below_all bits_cmp (bs ++ x) (under bs es))
   below_under bs x [] h = tt
@@ -170,7 +141,7 @@ module _ {X : Type 0} where
   -- what comes after the first child
   pub after_keys : {vs : List (List Bool × X)} {cs : List (List Bool × Seen X)} {c : List Bool × Seen X} → IsNode vs (c ∷ cs) → StartsAfter c.0 vs → (r q : List Bool) → is_some (get (node_map vs cs) q) ≡ true → bits_cmp (c.0 ++ r) q ≡ Less
   after_keys {vs} {cs} {c} n h r q s =
-      above_by (without_child n) c.0 r (λ l. absurd (omega (arith, n.children_long.0))) (omega (arith, n.children_long.0)) (starts_above c.0 vs h n.values_rise) (tail_rises c cs n.children_rise).1 q s (nat_lt (length q) 5) refl (nat_lt (length c.0) 5) refl
+      above (without_child n) c.0 r (λ l. absurd (omega (arith, n.children_long.0))) (omega (arith, n.children_long.0)) (starts_above c.0 vs h n.values_rise) (tail_rises c cs n.children_rise).1 q s
 
   -- a walk gives the first child's entries, where no value is before it
   pub walk_child : {vs : List (List Bool × X)} {cs : List (List Bool × Seen X)} {c : List Bool × Seen X} → IsNode vs (c ∷ cs) → StartsAfter c.0 vs → entries (node_map vs (c ∷ cs)) ≡ under c.0 (entries c.1.entries) ++ entries (node_map vs cs)
@@ -178,7 +149,7 @@ module _ {X : Type 0} where
       same_entries bits_cmp bits_total bits_same _ _ (entries_sorted (node_map vs (c ∷ cs)))
       (sorted_under c.0 (entries c.1.entries) (entries (node_map vs cs)) (entries_sorted c.1.entries) (entries_sorted (node_map vs cs))
       (λ r. below_found (c.0 ++ r) (entries (node_map vs cs)) (λ q s. after_keys n h r q (found_get (node_map vs cs) q s))))
-      (λ q. sym (get-entries (node_map vs (c ∷ cs)) q) ∙ more_child_by n q (nat_lt (length q) 5) refl ∙ ap (or_else (find bits_cmp q (under c.0 (entries c.1.entries)))) (get-entries (node_map vs cs) q)
+      (λ q. sym (get-entries (node_map vs (c ∷ cs)) q) ∙ more_child n q ∙ ap (or_else (find bits_cmp q (under c.0 (entries c.1.entries)))) (get-entries (node_map vs cs) q)
       ∙ sym (find-append_all q (under c.0 (entries c.1.entries)) (entries (node_map vs cs))))
 
   pub walk_none : entries (node_map {X = X} [] []) ≡ []
@@ -187,19 +158,11 @@ module _ {X : Type 0} where
 -- ---- whether a walk gives the first value next, or the first child's entries
 
 pub is_less : (o : Ordering) → is_lt o ≡ true → o ≡ Less
-is_less Less e = refl
-is_less Equal e = cc
-is_less Greater e = cc
+is_less o e = less_from_T o (rw e tt)
 
 -- strings of other lengths are not the same: the one or the other is less
 turned : (xs ys : List Bool) → (xs ≡ ys → ⊥) → is_lt (bits_cmp xs ys) ≡ false → bits_cmp ys xs ≡ Less
-turned [] [] n e = absurd (n refl)
-turned [] (y ∷ ys) n e = cc
-turned (x ∷ xs) [] n e = refl
-turned (true ∷ xs) (true ∷ ys) n e = turned xs ys (λ p. n (ap (λ zs. true ∷ zs) p)) e
-turned (false ∷ xs) (false ∷ ys) n e = turned xs ys (λ p. n (ap (λ zs. false ∷ zs) p)) e
-turned (false ∷ xs) (true ∷ ys) n e = cc
-turned (true ∷ xs) (false ∷ ys) n e = refl
+turned xs ys n e = grind (arith, bits_total.antisymm xs ys, bits_same xs ys)
 
 module _ {X : Type 0} where
   pub starts_after : (e : List Bool × X) (vs : List (List Bool × X)) (cs : List (List Bool × Seen X)) → first_value (e ∷ vs) cs ≡ true → StartsAfter e.0 cs
@@ -209,3 +172,16 @@ module _ {X : Type 0} where
   pub values_after : (vs : List (List Bool × X)) (c : List Bool × Seen X) (cs : List (List Bool × Seen X)) → IsNode vs (c ∷ cs) → first_value vs (c ∷ cs) ≡ false → StartsAfter c.0 vs
   values_after [] c cs n b = tt
   values_after (e ∷ vs) c cs n b = turned e.0 c.0 (λ p. omega (arith, ap length p, n.values_short.0, n.children_long.0)) b
+
+-- what holds of a node without values and children, and of one by what a walk gives first of it, holds of each
+module _ {X : Type 0} (P : List (List Bool × X) → List (List Bool × Seen X) → Type 0) (none : P [] [])
+    (value : (e : List Bool × X) (vs : List (List Bool × X)) (cs : List (List Bool × Seen X)) → IsNode (e ∷ vs) cs → StartsAfter e.0 cs → P vs cs → P (e ∷ vs) cs)
+    (child : (vs : List (List Bool × X)) (c : List Bool × Seen X) (cs : List (List Bool × Seen X)) → IsNode vs (c ∷ cs) → StartsAfter c.0 vs → P vs cs → P vs (c ∷ cs)) where
+  pub each_node : (vs : List (List Bool × X)) (cs : List (List Bool × Seen X)) → IsNode vs cs → P vs cs
+  each_node [] [] n = none
+  each_node [] (c ∷ cs) n = child [] c cs n tt (each_node [] cs (without_child n))
+  each_node (e ∷ vs) [] n = value e vs [] n tt (each_node vs [] (without_value n))
+  each_node (e ∷ vs) (c ∷ cs) n = elim (cases_Bool (first_value (e ∷ vs) (c ∷ cs))) [
+    | inl b ↦ value e vs (c ∷ cs) n (starts_after e vs (c ∷ cs) b) (each_node vs (c ∷ cs) (without_value n))
+    | inr b ↦ child (e ∷ vs) c cs n (values_after (e ∷ vs) c cs n b) (each_node (e ∷ vs) cs (without_child n))
+  ]

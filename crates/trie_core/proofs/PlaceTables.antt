@@ -11,8 +11,8 @@ use Rattle.trie_core.specs.Bits.{number_from, is_from}
 use Rattle.ipnet_blocks.specs.BitStrings.{bits_cmp, begins}
 use Rattle.trie_core.specs.InnerPlaces.{place_from, place_of, child_of, place_string, IsBeginMask}
 use Rattle.trie_core.specs.InnerWalks.{is_past}
-use Rattle.trie_core.proofs.Strings.{take_take}
 use Rattle.trie_core.proofs.Numbers.{place_strings, place_from_number, number-take}
+use Rattle.std.proofs.lemmas.List.{take-take}
 
 -- a test of all strings of fewer than k bits
 abbrev pub every : ℕ → (List Bool → Bool) → Bool
@@ -57,8 +57,7 @@ five_masks q l = mask_holds q (get_or masks (child_of q) 0) (each_holds 5 (λ q.
 pub begins_front : (k : ℕ) (p q : List Bool) → length p ≤ k → begins p (take k q) ≡ begins p q
 begins_front k [] q h = refl
 begins_front zero (x ∷ p) q h = absurd (omega (arith, h))
-begins_front (suc k) (x ∷ p) [] h = refl
-begins_front (suc k) (x ∷ p) (y ∷ q) h = ap (λ b. cond x y (not y) && b) (begins_front k p q (omega (arith, h)))
+begins_front (suc k) (x ∷ p) q h = grind (arith, begins_front k p)
 
 pub long_mask : (q : List Bool) → 5 ≤ length q → IsBeginMask q (get_or masks (child_of q) 0)
 long_mask q h p l =
@@ -93,10 +92,7 @@ abbrev alike : Bool → Bool → Bool
 alike a b = cond a b (not b)
 
 alike_same : (a b : Bool) → alike a b ≡ true → a ≡ b
-alike_same true true e = refl
-alike_same true false e = cc
-alike_same false true e = cc
-alike_same false false e = refl
+alike_same a b e = grind arith
 
 -- a value comes before a child whose number is not less
 pub value_before : (q c : List Bool) → length q < 5 → length c ≡ 5 → leb (child_of q) (child_of c) ≡ is_lt (bits_cmp q c)
@@ -128,22 +124,13 @@ inside_some q l = let a : nat_lt 0 (31 / 2 ^ length q) ≡ true = every_holds 5 
 past_front : (k : ℕ) (b r : List Bool) → length b ≤ k → is_past b (take k r) ≡ is_past b r
 past_front k [] r h = and_right (is_lt (bits_cmp [] (take k r))) false refl ∙ sym (and_right (is_lt (bits_cmp [] r)) false refl)
 past_front zero (x ∷ b) r h = absurd (omega (arith, h))
-past_front (suc k) (x ∷ b) [] h = refl
-past_front (suc k) (true ∷ b) (true ∷ r) h = past_front k b r (omega (arith, h))
-past_front (suc k) (false ∷ b) (false ∷ r) h = past_front k b r (omega (arith, h))
-past_front (suc k) (true ∷ b) (false ∷ r) h = refl
-past_front (suc k) (false ∷ b) (true ∷ r) h = refl
+past_front (suc k) (x ∷ b) r h = grind (arith, past_front k b)
 
 -- a longer string is before or after q where its first bits are
 less_front : (k : ℕ) (q r : List Bool) → length q < k → (bits_cmp (take k r) q ≡ bits_cmp r q) × (bits_cmp q (take k r) ≡ bits_cmp q r)
 less_front zero q r h = absurd (omega (arith, h))
-less_front (suc k) [] [] h = (refl, refl)
-less_front (suc k) [] (y ∷ r) h = (refl, refl)
-less_front (suc k) (x ∷ q) [] h = (refl, refl)
-less_front (suc k) (true ∷ q) (true ∷ r) h = less_front k q r (omega (arith, h))
-less_front (suc k) (false ∷ q) (false ∷ r) h = less_front k q r (omega (arith, h))
-less_front (suc k) (true ∷ q) (false ∷ r) h = (refl, refl)
-less_front (suc k) (false ∷ q) (true ∷ r) h = (refl, refl)
+less_front (suc k) [] r h = grind arith
+less_front (suc k) (x ∷ q) r h = grind (arith, less_front k q)
 
 -- a test of two strings of five bits, and of such a one and a short one
 five_hold : (t : List Bool → List Bool → Bool) → T (each_of 5 (λ q. each_of 5 (t q))) → (q r : List Bool) → length q ≡ 5 → length r ≡ 5 → t q r ≡ true
@@ -181,7 +168,7 @@ longest_place q h =
     let b = take 5 q in
     let l : length (take 5 q) ≡ 5 = omega (arith, length-take 5 q, h) in
     let n : child_of (take 5 q) ≡ child_of q = number-take 5 q in
-    let t : take 4 (take 5 q) ≡ take 4 q = take_take q 4 1 in
+    let t : take 4 (take 5 q) ≡ take 4 q = take-take 4 5 q (omega arith) in
     let e : child_of (take 4 (take 5 q)) ≡ child_of (take 5 q) - child_of (take 5 q) % 2 = eqb-true _ _ (each_holds 5 (λ b. eqb (number_from 5 (take 4 b)) (number_from 5 b - number_from 5 b % 2)) tt b l) in
     let f : child_of (take 4 q) ≡ child_of q - child_of q % 2 = ap child_of (sym t) ∙ e ∙ ap (λ k. k - k % 2) n in
     let p = place_from_number (take 4 q) (omega (arith, length-take 4 q)) in

@@ -3,7 +3,7 @@ use Rattle.std.proofs.Common.{◌≡◌, ℕ, zero, suc, ◌+◌, ◌*◌, ◌/�
 use Rattle.std.specs.Prelude.{Some, None, eqb, count_ones}
 use Rattle.std.specs.Ordering.{nat_cmp}
 use Rattle.std.specs.FinMap.{find}
-use Rattle.std.proofs.lemmas.Nat.{mod-pow-add, shr-shr, ones_cat, shr_split, pow_pos}
+use Rattle.std.proofs.lemmas.Nat.{mod-pow-add, shr-shr, ones_cat, shr_split, pow_pos, mod_below}
 use Rattle.std.proofs.lemmas.Bool.Decides.{nat_tests}
 use Rattle.std.proofs.lemmas.Grind.{get_or_head}
 use Rattle.trie_core.specs.InnerPlaces.{at_places}
@@ -19,11 +19,13 @@ ones_half n = ap count_ones (sym (shr_split n 1)) ∙ ones_low (n / 2) (n % 2) (
 pub ones_below_suc : (i n : ℕ) → count_ones (n % 2 ^ suc i) ≡ count_ones (n / 2 % 2 ^ i) + n % 2
 ones_below_suc i n = let e : suc i ≡ i + 1 = omega arith in rw e (ap count_ones (mod-pow-add n i 1) ∙ ones_low (n / 2 % 2 ^ i) (n % 2) (omega arith))
 
+-- those below a place and those from it on
+pub ones_split : (i n : ℕ) → count_ones n ≡ count_ones (n / 2 ^ i) + count_ones (n % 2 ^ i)
+ones_split i n = ap count_ones (sym (shr_split n i)) ∙ ones_cat i (n / 2 ^ i) (n % 2 ^ i) (mod_below n (2 ^ i) (pow_pos i))
+
 -- a set bit is not among those below it
 pub ones_below_lt : (i n : ℕ) → n / 2 ^ i % 2 ≡ 1 → count_ones (n % 2 ^ i) < count_ones n
-ones_below_lt i n h =
-    let e = ap count_ones (sym (shr_split n i)) ∙ ones_cat i (n / 2 ^ i) (n % 2 ^ i) (Prim.grind (arith, pow_pos i)) in
-    omega (arith, e, ones_half (n / 2 ^ i), h)
+ones_below_lt i n h = omega (arith, ones_split i n, ones_half (n / 2 ^ i), h)
 
 module _ {X : Type 0} where
   pub none_below : (w n m bits : ℕ) (xs : List X) → m < n → find nat_cmp m (at_places w n bits xs) ≡ None

@@ -1,11 +1,10 @@
 -- Searches along a string: by masks within a node, and from node to node.
-use Rattle.std.proofs.Common.{◌≡◌, ℕ, zero, suc, ◌+◌, ◌-◌, ◌*◌, ◌/◌, ◌%◌, ◌^◌, ◌<◌, ◌≤◌, Bool, true, false, cond, List, [], ◌∷◌, ◌++◌, length, take, drop, get_or, refl, sym, ap, subst, ◌∙◌, arith}
-use Rattle.std.specs.Prelude.{Option, Some, None, MatchOption, bit_and, min, nat_lt, count_ones}
+use Rattle.std.proofs.Common.{◌≡◌, ℕ, zero, suc, ◌+◌, ◌-◌, ◌*◌, ◌/◌, ◌%◌, ◌^◌, ◌<◌, ◌≤◌, Bool, true, cond, List, [], ◌∷◌, ◌++◌, length, take, drop, get_or, sym, ap, subst, ◌∙◌, arith, inl, inr}
+use Rattle.std.specs.Prelude.{Option, Some, None, MatchOption, bit_and, count_ones}
 use Rattle.std.specs.Int.{bit_at, w32, leading_zeros}
 use Rattle.std.specs.Ordering.{nat_cmp}
 use Rattle.std.specs.FinMap.{find, get}
-use Rattle.std.proofs.lemmas.Bool.Decides.{nat_tests}
-use Rattle.std.proofs.lemmas.List.{take-append-drop}
+use Rattle.std.proofs.lemmas.List.{take-append-drop, drop-drop, append_assoc}
 use Rattle.std.proofs.lemmas.Nat.{leading_top}
 use Rattle.std.proofs.lemmas.Nat.Bits.{bit_at_and, bit_at-lt, bit_at_above, bit_at-zero}
 use Rattle.std.proofs.Math.Nat.{div-eq_of_lt-le}
@@ -19,6 +18,8 @@ use Rattle.trie_core.proofs.Numbers.{place_strings}
 use Rattle.ipnet_blocks.proofs.BitStrings.{begins_take, take_begins}
 use Rattle.trie_core.proofs.Taken.{taken, missing}
 use Rattle.trie_core.proofs.Seen.{IsSeen, value_at}
+use Rattle.std.proofs.Math.Seq.{take-add}
+use Rattle.std.proofs.lemmas.Bool.{cases_lt}
 
 -- ---- the ends of a word
 
@@ -48,22 +49,20 @@ place_rises (suc k) (suc j) n [] h l m = absurd (omega (arith, l))
 place_rises (suc k) (suc j) zero (b ∷ q) h l m = omega arith
 place_rises (suc k) (suc j) (suc n) (b ∷ q) h l m = omega (arith, place_rises k j n q (omega (arith, h)) (omega (arith, l)) (omega (arith, m)))
 
-min_one : (a b : ℕ) → min a b ≡ 1 → a < 2 → b < 2 → (a ≡ 1) × (b ≡ 1)
-min_one a b e l m = (omega (arith, e, l, m), omega (arith, e, l, m))
+pub both_set : (a b i : ℕ) → bit_at (bit_and a b) i ≡ 1 → (bit_at a i ≡ 1) × (bit_at b i ≡ 1)
+both_set a b i e = (omega (arith, bit_at_and a b i, e, bit_at-lt a i, bit_at-lt b i), omega (arith, bit_at_and a b i, e, bit_at-lt a i, bit_at-lt b i))
 
-min_with_one : (a b : ℕ) → a < 2 → b ≡ 1 → min a b ≡ a
-min_with_one a b l e = omega (arith, e, l)
-
-pub below_31 : (vb n : ℕ) → vb < 2 ^ 31 → bit_at vb n ≡ 1 → (b : Bool) → nat_lt n 31 ≡ b → n < 31
-below_31 vb n h e true l = grind (arith, nat_tests)
-below_31 vb n h e false l = let k : 31 ≤ n = grind (arith, nat_tests) in let z = bit_at_above vb 31 n h k in absurd (omega (arith, z, e))
+pub below_31 : (vb n : ℕ) → vb < 2 ^ 31 → bit_at vb n ≡ 1 → n < 31
+below_31 vb n h e = elim (cases_lt n 31) [
+  | inl l ↦ l
+  | inr l ↦ let z = bit_at_above vb 31 n h l in absurd (omega (arith, z, e))
+]
 
 abbrev bit_if : Bool → ℕ
 bit_if b = cond b 1 0
 
 one_if : (b : Bool) → bit_if b ≡ 1 → b ≡ true
-one_if true e = refl
-one_if false e = absurd (omega (arith, e))
+one_if b e = grind arith
 
 -- ---- within a node
 
@@ -71,7 +70,7 @@ one_if false e = absurd (omega (arith, e))
 pub met_beginning : (vb mask : ℕ) (q : List Bool) → IsBeginMask q mask → (k : ℕ) → k < 5 → k ≤ length q → bit_at (bit_and vb mask) (place_of (take k q)) ≡ bit_at vb (place_of (take k q))
 met_beginning vb mask q f k h l =
     let n = place_of (take k q) in
-    bit_at_and vb mask n ∙ min_with_one (bit_at vb n) (bit_at mask n) (bit_at-lt vb n) (f (take k q) (omega (arith, length-take k q, h)) ∙ ap (λ b. cond b 1 0) (take_begins k q))
+    omega (arith, bit_at_and vb mask n, bit_at-lt vb n, f (take k q) (omega (arith, length-take k q, h)) ∙ ap (λ b. cond b 1 0) (take_begins k q))
 
 -- where both have a bit a beginning stands
 pub record IsMet (vb n : ℕ) (q : List Bool) : Type 0 where
@@ -84,8 +83,8 @@ pub record IsMet (vb n : ℕ) (q : List Bool) : Type 0 where
 
 pub met_place : (vb mask : ℕ) (q : List Bool) → vb < 2 ^ 31 → IsBeginMask q mask → (n : ℕ) → bit_at (bit_and vb mask) n ≡ 1 → IsMet vb n q
 met_place vb mask q h f n e =
-    let t = min_one (bit_at vb n) (bit_at mask n) (sym (bit_at_and vb mask n) ∙ e) (bit_at-lt vb n) (bit_at-lt mask n) in
-    let l = below_31 vb n h t.0 (nat_lt n 31) refl in
+    let t = both_set vb mask n e in
+    let l = below_31 vb n h t.0 in
     let p = place_strings n l in
     let b = begins_take (place_string n) q (one_if _ (sym (f (place_string n) p.short) ∙ ap (bit_at mask) p.place ∙ t.1)) in
     record { below = l; stored = t.0; within = b.0; begins = b.1; short = p.short; place = p.place }
@@ -142,22 +141,6 @@ module _ {X : Type 0} where
 
 -- ---- from node to node
 
-take_split : (j k : ℕ) (q : List Bool) → take (j + k) q ≡ take j q ++ take k (drop j q)
-take_split zero k q = let e : 0 + k ≡ k = omega arith in ap (λ i. take i q) e
-take_split (suc j) zero [] = let e : suc j + 0 ≡ suc (j + 0) = omega arith in rw e refl
-take_split (suc j) (suc k) [] = let e : suc j + suc k ≡ suc (j + suc k) = omega arith in rw e refl
-take_split (suc j) k (x ∷ q) = let e : suc j + k ≡ suc (j + k) = omega arith in rw e (ap (λ p. x ∷ p) (take_split j k q))
-
-append_twice : (xs ys zs : List Bool) → (xs ++ ys) ++ zs ≡ xs ++ (ys ++ zs)
-append_twice [] ys zs = refl
-append_twice (x ∷ xs) ys zs = ap (λ ws. x ∷ ws) (append_twice xs ys zs)
-
-drop_drop : (j k : ℕ) (q : List Bool) → drop k (drop j q) ≡ drop (j + k) q
-drop_drop zero k q = let e : 0 + k ≡ k = omega arith in rw e refl
-drop_drop (suc j) zero [] = let e : suc j + 0 ≡ suc (j + 0) = omega arith in rw e refl
-drop_drop (suc j) (suc k) [] = let e : suc j + suc k ≡ suc (j + suc k) = omega arith in rw e refl
-drop_drop (suc j) k (x ∷ q) = let e : suc j + k ≡ suc (j + k) = omega arith in rw e (drop_drop j k q)
-
 module _ {X : Type 0} where
   -- n is the node at depth d on the way to q in m, and p what is left of the way
   pub record IsAt (m : Seen X) (q : List Bool) (d : ℕ) (n : Seen X) (p : List Bool) : Type 0 where
@@ -168,45 +151,36 @@ module _ {X : Type 0} where
   pub at_child : {m n c : Seen X} {q p r : List Bool} (d : ℕ) → IsAt m q d n p → 5 ≤ length p → IsChild p n c → r ≡ drop 5 p → IsAt m q (d + 5) c r
   at_child {m} {n} {c} {q} {p} {r} d a h e f = record {
     within = omega (arith, ap length a.rest, length-drop d q, h);
-    rest = f ∙ ap (drop 5) a.rest ∙ drop_drop d 5 q;
+    rest = f ∙ ap (drop 5) a.rest ∙ drop-drop 5 d q;
     gets = λ k.
         sym (e.gets k) ∙ a.gets (take 5 p ++ k)
         ∙ ap (λ w. get m.entries (take d q ++ (take 5 w ++ k))) a.rest
-        ∙ ap (get m.entries) (sym (append_twice (take d q) (take 5 (drop d q)) k) ∙ ap (λ w. w ++ k) (sym (take_split d 5 q)));
+        ∙ ap (get m.entries) (sym (append_assoc (take d q) (take 5 (drop d q)) k) ∙ ap (λ w. w ++ k) (sym (take-add d 5 q)));
   }
 
   -- the beginnings of q from depth d on are those of p
   later : {m n : Seen X} {q p : List Bool} (d k : ℕ) → IsAt m q d n p → get m.entries (take (d + k) q) ≡ get n.entries (take k p)
-  later {m} {n} {q} {p} d k a = ap (get m.entries) (take_split d k q ∙ ap (λ w. take d q ++ take k w) (sym a.rest)) ∙ sym (a.gets (take k p))
+  later {m} {n} {q} {p} d k a = ap (get m.entries) (take-add d k q ∙ ap (λ w. take d q ++ take k w) (sym a.rest)) ∙ sym (a.gets (take k p))
 
   pub way_left : {m n : Seen X} {q p : List Bool} (d : ℕ) → IsAt m q d n p → length q ≡ d + length p
   way_left {q = q} d a = omega (arith, ap length a.rest, length-drop d q, a.within)
 
-  none_by : {m n : Seen X} {q p : List Bool} (d high k : ℕ) → IsAt m q d n p → NoneBelow m.entries q d → NoneBelow n.entries p high → k < d + high → k ≤ length q → (b : Bool) → nat_lt k d ≡ b → get m.entries (take k q) ≡ None
-  none_by d high k a f g h l true e = f k (grind (arith, nat_tests)) l
-  none_by {m} {n} {q} {p} d high k a f g h l false e =
-      let i : d ≤ k = grind (arith, nat_tests) in
-      let z : d + (k - d) ≡ k = omega arith in
-      ap (λ j. get m.entries (take j q)) (sym z) ∙ later d (k - d) a ∙ g (k - d) (omega (arith, i, h)) (omega (arith, way_left d a, i, l))
+  -- from depth d on
+  deeper : {m n : Seen X} {q p : List Bool} (d k : ℕ) → IsAt m q d n p → d ≤ k → get m.entries (take k q) ≡ get n.entries (take (k - d) p)
+  deeper {m} {q = q} d k a h = let z : d + (k - d) ≡ k = omega arith in ap (λ j. get m.entries (take j q)) (sym z) ∙ later d (k - d) a
 
   pub none_deeper : {m n : Seen X} {q p : List Bool} (d high : ℕ) → IsAt m q d n p → NoneBelow m.entries q d → NoneBelow n.entries p high → NoneBelow m.entries q (d + high)
-  none_deeper d high a f g k h l = none_by d high k a f g h l (nat_lt k d) refl
-
-  longer_by : {m n : Seen X} {q p : List Bool} (d high len k : ℕ) {v : X} → IsAt m q d n p → IsLongestBelow m.entries q d len v → NoneBelow n.entries p high → len < k → k < d + high → k ≤ length q → (b : Bool) → nat_lt k d ≡ b → get m.entries (take k q) ≡ None
-  longer_by d high len k a f g i h l true e = f.longest k i (grind (arith, nat_tests)) l
-  longer_by {m} {n} {q} {p} d high len k a f g i h l false e =
-      let j : d ≤ k = grind (arith, nat_tests) in
-      let z : d + (k - d) ≡ k = omega arith in
-      ap (λ j. get m.entries (take j q)) (sym z) ∙ later d (k - d) a ∙ g (k - d) (omega (arith, j, h)) (omega (arith, way_left d a, j, l))
+  none_deeper d high a f g k h l = elim (cases_lt k d) [
+    | inl e ↦ f k e l
+    | inr e ↦ deeper d k a e ∙ g (k - d) (omega arith) (omega (arith, way_left d a))
+  ]
 
   found_deeper : {m n : Seen X} {q p : List Bool} (d len : ℕ) {v : X} → IsAt m q d n p → IsLongestBelow n.entries p 5 len v → IsLongestBelow m.entries q (d + 5) (d + len) v
   found_deeper {m} {n} {q} {p} d len a f = record {
     below = omega (arith, f.below);
     within = omega (arith, f.within, way_left d a);
     found = later d len a ∙ f.found;
-    longest = λ k h j i.
-        let z : d + (k - d) ≡ k = omega (arith, h) in
-        ap (λ j. get m.entries (take j q)) (sym z) ∙ later d (k - d) a ∙ f.longest (k - d) (omega (arith, h)) (omega (arith, h, j)) (omega (arith, way_left d a, h, i));
+    longest = λ k h j i. deeper d k a (omega arith) ∙ f.longest (k - d) (omega arith) (omega arith) (omega (arith, way_left d a));
   }
 
   module _ {S : Type 0} (v : S → X) where
@@ -220,7 +194,10 @@ module _ {X : Type 0} where
       below = omega (arith, f.below);
       within = f.within;
       found = f.found;
-      longest = λ k h j i. longer_by d 5 b.0 k a f g h j i (nat_lt k d) refl;
+      longest = λ k h j i. elim (cases_lt k d) [
+        | inl e ↦ f.longest k h e i
+        | inr e ↦ deeper d k a e ∙ g (k - d) (omega arith) (omega (arith, way_left d a))
+      ];
     })
     best_deeper {m} {n} {q} {p} d best (Some r) after a f g e = subst (IsBest m.entries q (d + 5)) (sym e) (found_deeper d r.0 a g)
 
@@ -238,16 +215,18 @@ module _ {X : Type 0} where
       where
         beyond : (k : ℕ) → d + 5 ≤ k → get m.entries (take k q) ≡ None
         beyond k l =
-            let z : d + (5 + (k - d - 5)) ≡ k = omega (arith, l) in
-            ap (λ j. get m.entries (take j q)) (sym z) ∙ later d (5 + (k - d - 5)) a ∙ ap (get n.entries) (take_split 5 (k - d - 5) p) ∙ e.gets (take (k - d - 5) (drop 5 p))
+            let z : k - d ≡ 5 + (k - d - 5) = omega arith in
+            deeper d k a (omega arith) ∙ ap (get n.entries) (ap (λ j. take j p) z ∙ take-add 5 (k - d - 5) p) ∙ e.gets (take (k - d - 5) (drop 5 p))
 
-        either : (k : ℕ) → (k < d + 5 → get m.entries (take k q) ≡ None) → (b : Bool) → nat_lt k (d + 5) ≡ b → get m.entries (take k q) ≡ None
-        either k f true t = f (grind (arith, nat_tests))
-        either k f false t = beyond k (grind (arith, nat_tests))
+        either : (k : ℕ) → (k < d + 5 → get m.entries (take k q) ≡ None) → get m.entries (take k q) ≡ None
+        either k f = elim (cases_lt k (d + 5)) [
+          | inl t ↦ f t
+          | inr t ↦ beyond k t
+        ]
 
         stopped : (o : Option (ℕ × S)) → IsBest m.entries q (d + 5) o → IsBest m.entries q (length q + 1) o
-        stopped None f = λ k h l. either k (λ i. f k i l) (nat_lt k (d + 5)) refl
-        stopped (Some r) f = record { below = omega (arith, f.within); within = f.within; found = f.found; longest = λ k i h l. either k (λ j. f.longest k i j l) (nat_lt k (d + 5)) refl }
+        stopped None f = λ k h l. either k (λ i. f k i l)
+        stopped (Some r) f = record { below = omega (arith, f.within); within = f.within; found = f.found; longest = λ k i h l. either k (λ j. f.longest k i j l) }
 
   -- ---- the shortest
 
@@ -255,15 +234,11 @@ module _ {X : Type 0} where
   shortest_deeper {m} {n} {q} {p} d len a f g = record {
     within = omega (arith, g.within, way_left d a);
     found = later d len a ∙ g.found;
-    shortest = λ k h. shorter k h (nat_lt k d) refl;
+    shortest = λ k h. elim (cases_lt k d) [
+      | inl e ↦ f k e (omega (arith, g.within, way_left d a))
+      | inr e ↦ deeper d k a e ∙ g.shortest (k - d) (omega arith)
+    ];
   }
-    where
-      shorter : (k : ℕ) → k < d + len → (b : Bool) → nat_lt k d ≡ b → get m.entries (take k q) ≡ None
-      shorter k h true e = f k (grind (arith, nat_tests)) (omega (arith, h, g.within, way_left d a))
-      shorter k h false e =
-          let j : d ≤ k = grind (arith, nat_tests) in
-          let z : d + (k - d) ≡ k = omega arith in
-          ap (λ j. get m.entries (take j q)) (sym z) ∙ later d (k - d) a ∙ g.shortest (k - d) (omega (arith, j, h))
 
   -- ---- one string
 

@@ -1,34 +1,38 @@
 -- What a node is seen as, from its words and lists, and what a change of them makes of it.
-use Rattle.std.proofs.Common.{◌≡◌, ℕ, zero, suc, ◌+◌, ◌<◌, ◌≤◌, Bool, true, false, cond, List, [], ◌∷◌, ◌++◌, length, take, drop, get_or, set, sym, ap, ◌∙◌, arith}
-use Rattle.std.specs.Prelude.{count_ones, max, Some, None}
+use Rattle.std.proofs.Common.{◌≡◌, ℕ, zero, suc, ◌+◌, ◌<◌, ◌≤◌, Bool, cond, List, [], ◌∷◌, ◌++◌, length, take, drop, get_or, set, sym, ap, ◌∙◌, arith, inl, inr}
+use Rattle.std.specs.Prelude.{count_ones, max, Some, None, cond, Option, is_some}
 use Rattle.std.specs.Ordering.{nat_cmp}
-use Rattle.std.specs.FinMap.{find, get, empty, empty_of_len}
+use Rattle.std.specs.FinMap.{find, get, empty, empty_of_len, len, get-empty, len-remove}
 use Rattle.std.proofs.lemmas.Nat.{zero_from_ones}
-use Rattle.std.proofs.Math.ListN.{length-append}
-use Rattle.std.proofs.lemmas.List.{nil_from_length}
+use Rattle.std.proofs.lemmas.List.{nil_from_length, set_split, take_more, take-append-drop, take_all}
 use Rattle.ipnet_blocks.specs.BitStrings.{bits_cmp}
 use Rattle.trie_core.specs.InnerPlaces.{place_of, child_of, at_places, value_list, child_list}
 use Rattle.trie_core.specs.Nodes.{BitMap, Seen}
 use Rattle.trie_core.specs.InnerNodes.{node_map, node_height, IsNode, HasSlots}
-use Rattle.trie_core.specs.InnerCount.{spare_count, all_nodes, total, spares_below, spare_set}
+use Rattle.trie_core.specs.InnerCount.{spare_count, all_nodes, total, spares_below, spare_set, entry_count}
 use Rattle.trie_core.specs.Count.{node_visits}
 use Rattle.trie_core.specs.InnerSearch.{IsChild, HasNoChild}
-use Rattle.trie_core.proofs.Strings.{same, take_first, front}
-use Rattle.trie_core.proofs.Maps.{drop_first, node_map-none, child_get, get_none, get-short, get-long}
-use Rattle.trie_core.proofs.Count.{things, all_of_node, bare_lists}
+use Rattle.trie_core.proofs.Strings.{same, front, bits_total}
+use Rattle.trie_core.proofs.Maps.{node_map-none, child_get, get_none, get-short, get-long, get-below}
+use Rattle.trie_core.proofs.Count.{things, all_of_node, bare_lists, length-things, entries_of_node}
 use Rattle.trie_core.proofs.Visits.{visits_none, visits_some}
 use Rattle.trie_core.proofs.Numbers.{ones_bit}
-use Rattle.trie_core.proofs.Lengths.{length-things}
-use Rattle.trie_core.proofs.Marks.{marked-other, marked_get, set-len, set-long, set-root}
+use Rattle.trie_core.proofs.Marks.{marked-other, marked_get, set-len, set-long, set-root, set-below}
 use Rattle.trie_core.proofs.Named.{is_node, value_things, child_things, value_found, child_found}
+use Rattle.std.proofs.lemmas.Bool.{cases_Bool}
+use Rattle.std.proofs.lemmas.Option.{same_Some}
+use Rattle.std.proofs.Math.Seq.{split_at}
+use Rattle.std.specs.FinMap as map
 
 module _ {X : Type 0} where
   -- ---- sums and heights of children
 
+  pub total-append : (f : Seen X → ℕ) (cs ds : List (Seen X)) → total f (cs ++ ds) ≡ total f cs + total f ds
+  total-append f [] ds = omega arith
+  total-append f (c ∷ cs) ds = omega (arith, total-append f cs ds)
+
   pub total-set : (f : Seen X → ℕ) (cs : List (Seen X)) (i : ℕ) (c d : Seen X) → i < length cs → total f (set cs i c) + f (get_or cs i d) ≡ total f cs + f c
-  total-set f [] i c d h = absurd (omega arith)
-  total-set f (e ∷ cs) zero c d h = omega arith
-  total-set f (e ∷ cs) (suc i) c d h = omega (arith, total-set f cs i c d (omega arith))
+  total-set f cs i c d h = omega (arith, ap (total f) (set_split cs i c h), ap (total f) (split_at cs i d h), total-append f (take i cs) (c ∷ drop (suc i) cs), total-append f (take i cs) (get_or cs i d ∷ drop (suc i) cs))
 
   pub height-set : (cs : List (Seen X)) (i : ℕ) (c : Seen X) → node_height (set cs i c) ≤ max (node_height cs) c.levels
   height-set [] i c = omega arith
@@ -40,13 +44,12 @@ module _ {X : Type 0} where
   height-read (e ∷ cs) zero d h = omega arith
   height-read (e ∷ cs) (suc i) d h = omega (arith, height-read cs i d (omega arith))
 
-  found_height_by : (n : List Bool) (m : Seen X) (c : List Bool × Seen X) (cs : List (List Bool × Seen X)) → (find bits_cmp n cs ≡ Some m → m.levels ≤ node_height (things cs)) → (b : Bool) → cond b (Some c.1) (find bits_cmp n cs) ≡ Some m → m.levels ≤ max c.1.levels (node_height (things cs))
-  found_height_by n m c cs r true e = let p : c.1 ≡ m = cc in omega (arith, ap (λ x. x.levels) p)
-  found_height_by n m c cs r false e = omega (arith, r e)
-
   found_height : (n : List Bool) (m : Seen X) (cs : List (List Bool × Seen X)) → find bits_cmp n cs ≡ Some m → m.levels ≤ node_height (things cs)
   found_height n m [] e = cc
-  found_height n m (c ∷ cs) e = found_height_by n m c cs (found_height n m cs) (same n c.0) e
+  found_height n m (c ∷ cs) e = elim (cases_Bool (same n c.0)) [
+    | inl t ↦ let p : Some c.1 ≡ Some m = ap (λ b. cond b (Some c.1) (find bits_cmp n cs)) (sym t) ∙ e in omega (arith, ap (λ x. x.levels) (same_Some c.1 m p))
+    | inr t ↦ omega (arith, found_height n m cs (ap (λ b. cond b (Some c.1) (find bits_cmp n cs)) (sym t) ∙ e))
+  ]
 
   -- ---- a node
 
@@ -100,21 +103,6 @@ module _ {X : Type 0} where
   pub below_at : {vb : ℕ} {vs : List X} {cb : ℕ} {cs : List (Seen X)} {m : Seen X} (q : List Bool) → IsSeen vb vs cb cs m → 5 ≤ length q → child_get (find nat_cmp (child_of q) (at_places 32 0 cb cs)) (drop 5 q) ≡ get m.entries q
   below_at {cb = cb} {cs = cs} q s h = ap (λ o. child_get o (drop 5 q)) (sym (child_found q cb cs h s.slots.children_below)) ∙ sym (get-long s.node q h) ∙ ap (λ m. get m q) s.map
 
-  -- a string with the first five bits of q
-  fronted : {vb : ℕ} {vs : List X} {cb : ℕ} {cs : List (Seen X)} {m : Seen X} (q r : List Bool) → IsSeen vb vs cb cs m → 5 ≤ length q → get m.entries (take 5 q ++ r) ≡ child_get (find bits_cmp (take 5 q) (child_list cb cs)) r
-  fronted {cb = cb} {cs = cs} q r s h =
-      let f = (front q h).0 in
-      sym (ap (λ m. get m (take 5 q ++ r)) s.map)
-      ∙ get-long s.node (take 5 q ++ r) (omega (arith, length-append (take 5 q) r, f))
-      ∙ (λ i. child_get (find bits_cmp (take_first (take 5 q) r f i) (child_list cb cs)) (drop_first (take 5 q) r f i))
-
-  fronted_spare : {vb : ℕ} {vs : List X} {cb : ℕ} {cs : List (Seen X)} {m : Seen X} (q r : List Bool) → IsSeen vb vs cb cs m → 5 ≤ length q → get m.spares (take 5 q ++ r) ≡ marked_get (find bits_cmp (take 5 q) (child_list cb cs)) r
-  fronted_spare {cb = cb} {cs = cs} q r s h =
-      let f = (front q h).0 in
-      sym (ap (λ b. get b (take 5 q ++ r)) s.spare)
-      ∙ set-long s.node (take 5 q ++ r) (omega (arith, length-append (take 5 q) r, f))
-      ∙ (λ i. marked_get (find bits_cmp (take_first (take 5 q) r f i) (child_list cb cs)) (drop_first (take 5 q) r f i))
-
   -- the spare nodes at strings of five bits and more are those of the child on the way
   pub spare_at : {vb : ℕ} {vs : List X} {cb : ℕ} {cs : List (Seen X)} {m : Seen X} (q : List Bool) → IsSeen vb vs cb cs m → 5 ≤ length q → marked_get (find nat_cmp (child_of q) (at_places 32 0 cb cs)) (drop 5 q) ≡ get m.spares q
   spare_at {cb = cb} {cs = cs} q s h = ap (λ o. marked_get o (drop 5 q)) (sym (child_found q cb cs h s.slots.children_below)) ∙ sym (set-long s.node q h) ∙ ap (λ b. get b q) s.spare
@@ -125,9 +113,9 @@ module _ {X : Type 0} where
       let g : find bits_cmp (take 5 q) (child_list cb cs) ≡ Some c = child_found q cb cs h s.slots.children_below ∙ e in
       let t = child_things cb cs s.slots.children_below s.slots.children_counted in
       record {
-        gets = λ r. fronted q r s h ∙ ap (λ o. child_get o r) g;
+        gets = λ r. sym (ap (λ m. get m (take 5 q ++ r)) s.map) ∙ get-below s.node (take 5 q) r (front q h).0 ∙ ap (λ o. child_get o r) g;
         smaller = omega (arith, found_height (take 5 q) c (child_list cb cs) g, ap node_height t, s.height);
-        spares = λ b r. fronted_spare q (b ∷ r) s h ∙ ap (λ o. marked_get o (b ∷ r)) g ∙ marked-other c b r;
+        spares = λ b r. sym (ap (λ m. get m (take 5 q ++ b ∷ r)) s.spare) ∙ set-below s.node (take 5 q) (b ∷ r) (front q h).0 ∙ ap (λ o. marked_get o (b ∷ r)) g ∙ marked-other c b r;
         visits = λ r. (λ i. node_visits (sym s.map i) (sym s.spare i) (take 5 q ++ r)) ∙ visits_some (take 5 q) r s.node f g;
       }
 
@@ -135,8 +123,8 @@ module _ {X : Type 0} where
   has_no_child {vb} {vs} {cb} {cs} {m} q s h e =
       let g : find bits_cmp (take 5 q) (child_list cb cs) ≡ None = child_found q cb cs h s.slots.children_below ∙ e in
       record {
-        gets = λ r. fronted q r s h ∙ ap (λ o. child_get o r) g ∙ get_none r;
-        spares = λ r. fronted_spare q r s h ∙ ap (λ o. marked_get o r) g;
+        gets = λ r. sym (ap (λ m. get m (take 5 q ++ r)) s.map) ∙ get-below s.node (take 5 q) r (front q h).0 ∙ ap (λ o. child_get o r) g ∙ get_none r;
+        spares = λ r. sym (ap (λ m. get m (take 5 q ++ r)) s.spare) ∙ set-below s.node (take 5 q) r (front q h).0 ∙ ap (λ o. marked_get o r) g;
         visits = (λ i. node_visits (sym s.map i) (sym s.spare i) q) ∙ visits_none q s.node g;
       }
 
@@ -168,3 +156,42 @@ module _ {X : Type 0} where
 -- a word with no bit set is 0
 pub no_bits : (bits n : ℕ) → count_ones bits ≡ n → (bits ≡ 0 → n ≡ 0) × (n ≡ 0 → bits ≡ 0)
 no_bits bits n e = (λ z. sym e ∙ ap count_ones z ∙ ones_bit 0 (omega arith), λ z. zero_from_ones bits (e ∙ z))
+
+-- ---- how many entries a node has, by its lists
+
+module _ {X : Type 0} where
+  -- its values, and the entries of its children
+  pub entries_at : (vb : ℕ) (vs : List X) (cb : ℕ) (cs : List (Seen X)) → HasSlots vb vs cb cs → len (map_of vb vs cb cs) ≡ length vs + total entry_count cs
+  entries_at vb vs cb cs s =
+      let u = value_things vb vs s.values_below s.values_counted in
+      let t = child_things cb cs s.children_below s.children_counted in
+      let n = is_node vb vs cb cs s.values_below s.children_below in
+      omega (arith, entries_of_node n, ap length u, length-things (value_list vb vs), ap (total entry_count) t)
+
+  pub entries_of : {vb : ℕ} {vs : List X} {cb : ℕ} {cs : List (Seen X)} {m : Seen X} → IsSeen vb vs cb cs m → len m.entries ≡ length vs + total entry_count cs
+  entries_of {vb} {vs} {cb} {cs} s = ap len (sym s.map) ∙ entries_at vb vs cb cs s.slots
+
+  -- ---- a sum, as far as it is taken
+
+  total-more : (f : Seen X → ℕ) (cs : List (Seen X)) (i : ℕ) (d : Seen X) → i < length cs → total f (take (i + 1) cs) ≡ total f (take i cs) + f (get_or cs i d)
+  total-more f cs i d h = omega (arith, ap (total f) (take_more cs i d h), total-append f (take i cs) (get_or cs i d ∷ []))
+
+  total-part : (f : Seen X → ℕ) (cs : List (Seen X)) (i : ℕ) → total f (take i cs) ≤ total f cs
+  total-part f cs i = omega (arith, ap (total f) (take-append-drop i cs), total-append f (take i cs) (drop i cs))
+
+  -- one child more of a list ls that is cs
+  pub total_step : (f : Seen X → ℕ) {cs ls : List (Seen X)} {i : ℕ} {d : Seen X} → ls ≡ cs → i < length ls → d ≡ get_or ls i d → (i < length cs) × (d ≡ get_or cs i d) × (total f (take (i + 1) ls) ≡ total f (take i ls) + f d) × (total f (take (i + 1) ls) ≤ total f cs)
+  total_step f {cs} {ls} {i} {d} e h r = (
+    omega (arith, ap length e, h),
+    r ∙ ap (λ l. get_or l i d) e,
+    omega (arith, total-more f ls i d h, ap f r),
+    omega (arith, total-part f ls (i + 1), ap (total f) e),
+  )
+
+  pub total-all : (f : Seen X → ℕ) (cs : List (Seen X)) (i : ℕ) → length cs ≤ i → total f (take i cs) ≡ total f cs
+  total-all f cs i h = ap (total f) (take_all i cs h)
+
+  -- ---- a key goes
+
+  pub removed : (m : BitMap X) (q : List Bool) (o : Option X) (b : Bool) → o ≡ get m q → is_some o ≡ b → len (map.remove m q) + cond b 1 0 ≡ len m
+  removed m q o b e f = grind (arith, len-remove bits_total m q, empty_of_len m, get-empty {X = X} bits_cmp q)

@@ -11,7 +11,7 @@ use Rattle.std.proofs.lemmas.List.{nil_from_length}
 use Rattle.ipnet_addr.proofs.Basics.{no_ones}
 use Rattle.trie_core.specs.InnerPlaces.{at_places, placed, first_place_of, IsFirstPlace}
 use Rattle.trie_core.proofs.Numbers.{ones_bit}
-use Rattle.trie_core.proofs.Places.{ones_below_suc}
+use Rattle.trie_core.proofs.Places.{ones_below_suc, ones_split}
 use Rattle.trie_core.proofs.Taken.{ones_below_le}
 use Rattle.trie_core.proofs.Seen.{no_bits}
 use Rattle.trie_core.proofs.Edits.{low_bit, at_none, at_step, at_first, at_lowest, ones_clear, bit_within}
@@ -19,12 +19,8 @@ use Rattle.trie_core.proofs.Edits.{low_bit, at_none, at_step, at_first, at_lowes
 -- the low bits and the others are all
 split_ones : (i bits : ℕ) → count_ones (bits - bits % 2 ^ i) + count_ones (bits % 2 ^ i) ≡ count_ones bits
 split_ones i bits =
-    let s = shr_split bits i in
-    let high : bits / 2 ^ i * 2 ^ i + 0 ≡ bits - bits % 2 ^ i = omega (arith, s) in
-    let low : count_ones 0 ≡ 0 = ones_bit 0 (omega arith) in
-    let e = ap count_ones (sym s) ∙ ones_cat i (bits / 2 ^ i) (bits % 2 ^ i) (Prim.grind (arith, pow_pos i)) in
-    let f = ap count_ones (sym high) ∙ ones_cat i (bits / 2 ^ i) 0 (Prim.grind (arith, pow_pos i)) in
-    omega (arith, e, f, low)
+    let high : bits / 2 ^ i * 2 ^ i + 0 ≡ bits - bits % 2 ^ i = omega (arith, shr_split bits i) in
+    omega (arith, ap count_ones (sym high) ∙ ones_cat i (bits / 2 ^ i) 0 (pow_pos i), ones_split i bits, ones_bit 0 (omega arith))
 
 -- a word without its lowest bit
 low_half : (i bits : ℕ) → bits % 2 ^ suc i / 2 ≡ bits / 2 % 2 ^ i
@@ -40,8 +36,7 @@ high_even : (i bits : ℕ) → (bits - bits % 2 ^ suc i) % 2 ≡ 0
 high_even i bits = omega (arith, low_odd i bits)
 
 none_either : {Y : Type 0} (b : Bool) → ◌≡◌ {A = List Y} [] (cond b [] [])
-none_either true = refl
-none_either false = refl
+none_either b = grind arith
 
 module _ {X : Type 0} where
   keep_more : (n : ℕ) (x : X) (es : List (ℕ × X)) (p : ℕ → Bool) (b : Bool) → where_key nat_cmp p es ≡ cond b es [] → p n ≡ b → where_key nat_cmp p ((n, x) ∷ es) ≡ cond b ((n, x) ∷ es) []

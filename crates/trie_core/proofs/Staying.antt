@@ -14,13 +14,14 @@ use Rattle.trie_core.specs.InnerCount.{marked, spare_set}
 use Rattle.trie_core.specs.Ways.{IsIdle, IsKept}
 use Rattle.trie_core.proofs.Strings.{same, front}
 use Rattle.ipnet_blocks.proofs.BitStrings.{begins_take}
-use Rattle.trie_core.proofs.Maps.{ListChanges, child_get, remove_absent}
-use Rattle.trie_core.proofs.Marks.{marked_get, marked-other, marked-root, root_if, set-short, set-long, set-changed}
+use Rattle.trie_core.proofs.Maps.{ListChanges, child_get, remove_absent, each_string, under_long, found_changed, get-below}
+use Rattle.trie_core.proofs.Marks.{marked_get, marked-other, marked-root, root_if, set-short, set-long, set-changed, set-below}
 use Rattle.trie_core.proofs.Named.{is_node, child_put_in}
 use Rattle.trie_core.proofs.Taken.{IsTaken}
 use Rattle.trie_core.proofs.Seen.{IsSeen, map_of}
 use Rattle.trie_core.proofs.Changes.{was_found}
-use Rattle.trie_core.proofs.Left.{each_string, off_way_there, none_found, no_keys, root_none, under_long, begins_under_first, found_changed, spare_under, map_under}
+use Rattle.trie_core.proofs.Left.{none_found, no_keys, root_none}
+use Rattle.trie_core.proofs.Inside.{off_way_there, begins_under_first}
 
 module _ {X : Type 0} where
   root_some : (m : BitMap X) → len m ≡ 0 → is_some (root_if (len m)) ≡ true
@@ -66,16 +67,16 @@ module _ {X : Type 0} where
   module _ {vs us : List (List Bool × X)} {cs ds : List (List Bool × Seen X)} (q : List Bool) (e d : Seen X) (n : IsNode vs cs) (k : IsNode us ds) (h : 5 ≤ length q) (c : ListChanges cs (take 5 q) (Some d) ds) (f : find bits_cmp (take 5 q) cs ≡ Some e)
       (gone : d.entries ≡ map.remove e.entries (drop 5 q)) (kept : IsKept (drop 5 q) e.entries e.spares d.entries d.spares) where
     old_at : (r : List Bool) → get (spare_set cs) (take 5 q ++ r) ≡ get (marked e) r
-    old_at r = spare_under n q r h ∙ ap (λ o. marked_get o r) f
+    old_at r = set-below n (take 5 q) r (front q h).0 ∙ ap (λ o. marked_get o r) f
 
     new_at : (r : List Bool) → get (spare_set ds) (take 5 q ++ r) ≡ get (marked d) r
-    new_at r = spare_under k q r h ∙ ap (λ o. marked_get o r) (found_changed cs ds q (Some d) c)
+    new_at r = set-below k (take 5 q) r (front q h).0 ∙ ap (λ o. marked_get o r) (found_changed cs ds q (Some d) c)
 
     key_at : get (node_map vs cs) q ≡ get e.entries (drop 5 q)
-    key_at = ap (get (node_map vs cs)) (sym (front q h).1) ∙ map_under n q (drop 5 q) h ∙ ap (λ o. child_get o (drop 5 q)) f
+    key_at = ap (get (node_map vs cs)) (sym (front q h).1) ∙ get-below n (take 5 q) (drop 5 q) (front q h).0 ∙ ap (λ o. child_get o (drop 5 q)) f
 
     deeper : (r x : List Bool) → get (node_map us ds) ((take 5 q ++ r) ++ x) ≡ get d.entries (r ++ x)
-    deeper r x = ap (get (node_map us ds)) (append_assoc (take 5 q) r x) ∙ map_under k q (r ++ x) h ∙ ap (λ o. child_get o (r ++ x)) (found_changed cs ds q (Some d) c)
+    deeper r x = ap (get (node_map us ds)) (append_assoc (take 5 q) r x) ∙ get-below k (take 5 q) (r ++ x) (front q h).0 ∙ ap (λ o. child_get o (r ++ x)) (found_changed cs ds q (Some d) c)
 
     in_on : (r : List Bool) → begins (take 5 q ++ r) q ≡ true → (is_some (get (spare_set ds) (take 5 q ++ r)) ≡ true) ↔ ((is_some (get (spare_set cs) (take 5 q ++ r)) ≡ true) ⊎ ((is_some (get (node_map vs cs) q) ≡ true) × IsIdle (node_map us ds) (take 5 q ++ r)))
     in_on r b =

@@ -1,28 +1,20 @@
 -- Bit strings: when two are equal, which is the first, and what a beginning is.
-use Rattle.std.proofs.Common.{◌≡◌, ℕ, zero, suc, ◌+◌, ◌≤◌, Bool, true, false, ◌&&◌, List, [], ◌∷◌, ◌++◌, length, take, drop, refl, ap, subst, arith}
-use Rattle.std.specs.declared.cmp.Ordering.{Ordering}
-use Rattle.std.specs.declared.cmp.Ordering.TheVariants.{Less, Equal, Greater}
+use Rattle.std.proofs.Common.{◌≡◌, ◌≤◌, Bool, true, false, List, [], ◌∷◌, ◌++◌, length, take, drop, refl, ap, subst, arith}
 use Rattle.std.specs.Bool.{Decides}
 use Rattle.std.specs.Ordering.{bool_cmp, eq_by_cmp, is_eq}
-use Rattle.std.specs.Cmp.{IsTotalOrder, bool_cmp_total}
+use Rattle.std.specs.Cmp.{IsTotalOrder, bool_cmp_total, Equal-is}
 use Rattle.std.specs.Cmp.Lexicographic.{lists_total}
 use Rattle.std.specs.FinMap.{IsAntisymmetric, slice_cmp-IsAntisymmetric}
 use Rattle.std.proofs.lemmas.List.{take-append-drop}
 use Rattle.std.proofs.Math.ListN.{length-take}
 use Rattle.std.proofs.lemmas.Bool.{false_from_ne_true, both_ways}
 use Rattle.ipnet_blocks.specs.BitStrings.{bits_cmp}
+use Rattle.std.proofs.lemmas.Cmp.{tied_itself}
 
 -- ---- equal bit strings
 
-pub and_with_true : (b : Bool) → (b && true) ≡ b
-and_with_true true = refl
-and_with_true false = refl
-
 bool_same : IsAntisymmetric bool_cmp
-bool_same true true e = refl
-bool_same false false e = refl
-bool_same true false e = cc
-bool_same false true e = cc
+bool_same x y e = grind arith
 
 pub bits_total : IsTotalOrder bits_cmp
 bits_total = lists_total bool_cmp_total
@@ -33,18 +25,11 @@ bits_same = slice_cmp-IsAntisymmetric bool_same
 abbrev pub same : List Bool → List Bool → Bool
 same xs ys = eq_by_cmp bits_cmp xs ys
 
-tied : (r : Ordering) → is_eq r ≡ true → r ≡ Equal
-tied Less e = cc
-tied Equal e = refl
-tied Greater e = cc
-
 pub same-refl : (xs : List Bool) → same xs xs ≡ true
-same-refl [] = refl
-same-refl (true ∷ xs) = same-refl xs
-same-refl (false ∷ xs) = same-refl xs
+same-refl xs = ap is_eq (tied_itself bits_total xs)
 
 pub same-Decides : (xs ys : List Bool) → Decides (same xs ys) (xs ≡ ys)
-same-Decides xs ys = (λ e. bits_same xs ys (tied (bits_cmp xs ys) e), λ e. subst (λ zs. same xs zs ≡ true) e (same-refl xs))
+same-Decides xs ys = (λ e. bits_same xs ys ((Equal-is (bits_cmp xs ys)).0 e), λ e. subst (λ zs. same xs zs ≡ true) e (same-refl xs))
 
 pub same_false : (xs ys : List Bool) → (xs ≡ ys → ⊥) → same xs ys ≡ false
 same_false xs ys f = false_from_ne_true _ (λ e. f ((same-Decides xs ys).0 e))
@@ -52,37 +37,15 @@ same_false xs ys f = false_from_ne_true _ (λ e. f ((same-Decides xs ys).0 e))
 pub not_same : {xs ys : List Bool} → same xs ys ≡ false → xs ≡ ys → ⊥
 not_same {xs} {ys} e f = both_ways _ e ((same-Decides xs ys).1 f)
 
-pub same-under : (bs xs ys : List Bool) → same (bs ++ xs) (bs ++ ys) ≡ same xs ys
-same-under [] xs ys = refl
-same-under (true ∷ bs) xs ys = same-under bs xs ys
-same-under (false ∷ bs) xs ys = same-under bs xs ys
-
 pub bits_cmp-under : (bs xs ys : List Bool) → bits_cmp (bs ++ xs) (bs ++ ys) ≡ bits_cmp xs ys
 bits_cmp-under [] xs ys = refl
-bits_cmp-under (true ∷ bs) xs ys = bits_cmp-under bs xs ys
-bits_cmp-under (false ∷ bs) xs ys = bits_cmp-under bs xs ys
+bits_cmp-under (b ∷ bs) xs ys = grind (arith, bits_cmp-under bs xs ys)
+
+pub same-under : (bs xs ys : List Bool) → same (bs ++ xs) (bs ++ ys) ≡ same xs ys
+same-under bs xs ys = ap is_eq (bits_cmp-under bs xs ys)
 
 pub other_length : (x q : List Bool) → (length x ≡ length q → ⊥) → same x q ≡ false
 other_length x q f = same_false x q (λ e. f (ap length e))
 
-pub append_none : {Y : Type 0} (xs : List Y) → xs ++ [] ≡ xs
-append_none [] = refl
-append_none (x ∷ xs) = ap (λ ys. x ∷ ys) (append_none xs)
-
 pub front : (q : List Bool) → 5 ≤ length q → (length (take 5 q) ≡ 5) × (take 5 q ++ drop 5 q ≡ q)
 front q h = (omega (arith, length-take 5 q), take-append-drop 5 q)
-
-pub take_front : (bs k : List Bool) (n : ℕ) → length bs ≡ n → take n (bs ++ k) ≡ bs
-take_front [] k zero e = refl
-take_front [] k (suc n) e = absurd (omega arith)
-take_front (b ∷ bs) k zero e = absurd (omega arith)
-take_front (b ∷ bs) k (suc n) e = ap (λ xs. b ∷ xs) (take_front bs k n (omega arith))
-
-pub take_first : (b k : List Bool) → length b ≡ 5 → take 5 (b ++ k) ≡ b
-take_first b k h = take_front b k 5 h
-
--- the first of the first
-pub take_take : {Y : Type 0} (xs : List Y) (j k : ℕ) → take j (take (j + k) xs) ≡ take j xs
-take_take xs zero k = refl
-take_take [] (suc j) k = let e : suc j + k ≡ suc (j + k) = omega arith in rw e refl
-take_take (x ∷ xs) (suc j) k = let e : suc j + k ≡ suc (j + k) = omega arith in rw e (ap (λ ys. x ∷ ys) (take_take xs j k))

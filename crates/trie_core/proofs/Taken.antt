@@ -1,30 +1,22 @@
 -- The places of a bitmap: one that is free, and one that is taken.
-use Rattle.std.proofs.Common.{◌≡◌, ℕ, zero, suc, ◌+◌, ◌-◌, ◌/◌, ◌%◌, ◌^◌, ◌<◌, ◌≤◌, List, [], ◌∷◌, length, get_or, set, refl, sym, ap, ◌∙◌, arith}
+use Rattle.std.proofs.Common.{◌≡◌, ℕ, ◌+◌, ◌-◌, ◌%◌, ◌^◌, ◌<◌, ◌≤◌, List, length, get_or, set, sym, ap, ◌∙◌, arith}
 use Rattle.std.specs.Prelude.{Some, None, count_ones}
 use Rattle.std.specs.List.{insert, remove}
 use Rattle.std.specs.Ordering.{nat_cmp}
 use Rattle.std.specs.FinMap.{find, put}
-use Rattle.std.proofs.lemmas.Nat.{ones_cat, shr_split, pow_pos}
 use Rattle.std.proofs.lemmas.List.Edits.{length-insert, length-remove}
 use Rattle.trie_core.specs.InnerPlaces.{at_places, without, IsUnset, IsSlot}
-use Rattle.trie_core.proofs.Places.{at_set, at_unset, ones_below_lt}
+use Rattle.trie_core.proofs.Places.{at_set, at_unset, ones_below_lt, ones_split}
 use Rattle.trie_core.proofs.Edits.{set_is_put, insert_is_put, remove_is_without, set_fits, ones_set, ones_clear, bit_within}
+use Rattle.std.proofs.lemmas.List.{length-set}
 
 pub ones_below_le : (i n : ℕ) → count_ones (n % 2 ^ i) ≤ count_ones n
-ones_below_le i n =
-    let e = ap count_ones (sym (shr_split n i)) ∙ ones_cat i (n / 2 ^ i) (n % 2 ^ i) (Prim.grind (arith, pow_pos i)) in
-    omega (arith, e)
+ones_below_le i n = omega (arith, ones_split i n)
 
 from_zero : (i : ℕ) → 0 + i ≡ i
 from_zero i = omega arith
 
 module _ {X : Type 0} where
-
-  length_set : (xs : List X) (k : ℕ) (v : X) → length (set xs k v) ≡ length xs
-  length_set [] k v = refl
-  length_set (x ∷ xs) zero v = refl
-  length_set (x ∷ xs) (suc k) v = omega (arith, length_set xs k v)
-
   -- nothing stands at place i, and k things before it
   pub record IsFree (i k bits : ℕ) (xs : List X) : Type 0 where
     pub within : k ≤ length xs
@@ -61,7 +53,7 @@ module _ {X : Type 0} where
         within = m;
         fits = bit_within bits i h.0;
         read = λ d. ap (λ j. find nat_cmp j (at_places 32 0 bits xs)) (sym (from_zero i)) ∙ at_set 32 0 i bits xs d l h.0 (omega (arith, m, h.1)) ∙ ap (λ j. Some (get_or xs j d)) (sym h.1);
-        same_ones = λ v. e ∙ sym (length_set xs k v);
+        same_ones = λ v. e ∙ sym (length-set xs k v);
         written = λ v. set_is_put 32 0 i bits xs k v l h.0 h.1 m ∙ ap (λ j. put nat_cmp j v (at_places 32 0 bits xs)) (from_zero i);
         ones = omega (arith, ones_clear i bits h.0, e, length-remove xs k m);
         removed = remove_is_without 32 0 i bits xs k l h.0 h.1 m ∙ ap (λ j. without j (at_places 32 0 bits xs)) (from_zero i);

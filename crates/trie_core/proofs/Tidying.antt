@@ -1,24 +1,23 @@
 -- Spare nodes taken out of a node, child by child from the lowest number on.
-use Rattle.std.proofs.Common.{◌≡◌, ℕ, zero, suc, ◌+◌, ◌-◌, ◌/◌, ◌%◌, ◌^◌, ◌<◌, ◌≤◌, Bool, true, false, cond, List, [], ◌∷◌, length, take, drop, get_or, set, remove, refl, sym, ap, subst, ◌∙◌, arith}
-use Rattle.std.specs.Prelude.{nat_lt, Option, Some, None, count_ones}
+use Rattle.std.proofs.Common.{◌≡◌, ℕ, zero, suc, ◌+◌, ◌-◌, ◌/◌, ◌%◌, ◌^◌, ◌<◌, ◌≤◌, Bool, List, [], ◌∷◌, length, take, get_or, set, remove, refl, sym, ap, ◌∙◌, arith, drop}
+use Rattle.std.specs.Prelude.{Option, Some, None, count_ones}
 use Rattle.std.specs.FinMap.{get, find, empty, same_map}
-use Rattle.std.proofs.lemmas.Bool.Decides.{nat_tests}
 use Rattle.ipnet_addr.proofs.Basics.{no_ones}
 use Rattle.ipnet_blocks.specs.BitStrings.{bits_cmp}
 use Rattle.trie_core.specs.InnerPlaces.{child_of, child_string, child_list, IsSlot, IsUnset}
-use Rattle.trie_core.proofs.Strings.{bits_total, bits_same, same, same-Decides}
+use Rattle.trie_core.proofs.Strings.{bits_total, bits_same}
 use Rattle.trie_core.proofs.Numbers.{ones_bit, child_of-string, length-child_string}
 use Rattle.trie_core.specs.Nodes.{Seen}
 use Rattle.trie_core.specs.InnerNodes.{child_map, node_map, node_height, IsNode, HasSlots}
 use Rattle.trie_core.specs.InnerCount.{all_nodes, total, spare_of, spare_set}
 use Rattle.trie_core.proofs.Places.{ones_below_suc}
 use Rattle.trie_core.proofs.Edits.{half_less, low_less, higher_bit, bit_within}
-use Rattle.trie_core.proofs.Maps.{ListChanges, child_get, get-short, get-long}
-use Rattle.trie_core.proofs.Named.{is_node, child_put_in, child_taken_out}
+use Rattle.trie_core.proofs.Maps.{ListChanges, child_get, get-short, get-long, child_changes}
+use Rattle.trie_core.proofs.Named.{is_node, child_put_in}
 use Rattle.trie_core.proofs.Taken.{IsTaken, taken}
-use Rattle.trie_core.proofs.Seen.{IsSeen, seen, map_of, viewed, counted, none_spare, total-set, height-set, height-read}
-use Rattle.trie_core.proofs.Changes.{way, was_found, set_slots, set_removed, total-remove, height-remove}
-use Rattle.trie_core.proofs.Entries.{total-all}
+use Rattle.trie_core.proofs.Seen.{IsSeen, seen, map_of, viewed, counted, none_spare, total-set, height-set, height-read, total-append, total-all}
+use Rattle.trie_core.proofs.Changes.{way, was_found, set_slots, set_removed, total-remove, childless}
+use Rattle.std.proofs.lemmas.List.{take_more_set, take_at, length-take-le}
 
 -- ---- the bits below a place
 
@@ -43,36 +42,14 @@ module _ {X : Type 0} where
   -- ---- sums over the first children
 
   total_set : (f : Seen X → ℕ) (cs : List (Seen X)) (i : ℕ) (d : Seen X) → i < length cs → total f (take (i + 1) (set cs i d)) ≡ total f (take i cs) + f d
-  total_set f [] i d h = absurd (omega arith)
-  total_set f (c ∷ cs) zero d h = omega arith
-  total_set f (c ∷ cs) (suc i) d h = let e : suc i + 1 ≡ suc (i + 1) = omega arith in rw e (omega (arith, total_set f cs i d (omega arith)))
-
-  total_removed : (f : Seen X → ℕ) (cs : List (Seen X)) (i : ℕ) → total f (take i (remove cs i)) ≡ total f (take i cs)
-  total_removed f [] zero = refl
-  total_removed f [] (suc i) = refl
-  total_removed f (c ∷ cs) zero = refl
-  total_removed f (c ∷ cs) (suc i) = omega (arith, total_removed f cs i)
+  total_set f cs i d h = omega (arith, ap (total f) (take_more_set cs i d h), total-append f (take i cs) (d ∷ []))
 
   -- ---- a child with the same map, or none for an empty one
 
-  same_below : (cs : List (List Bool × Seen X)) (q : List Bool) (o : Option (Seen X)) → child_map o ≡ child_map (find bits_cmp (take 5 q) cs) → (x : List Bool) (b : Bool) → same (take 5 x) (take 5 q) ≡ b
-      → child_get (cond b o (find bits_cmp (take 5 x) cs)) (drop 5 x) ≡ child_get (find bits_cmp (take 5 x) cs) (drop 5 x)
-  same_below cs q o f x true e = ap (λ m. get m (drop 5 x)) f ∙ ap (λ p. child_get (find bits_cmp p cs) (drop 5 x)) (sym ((same-Decides _ _).0 e))
-  same_below cs q o f x false e = refl
-
-  same_by : {vs : List (List Bool × X)} {cs ds : List (List Bool × Seen X)} (q : List Bool) (o : Option (Seen X)) → IsNode vs cs → IsNode vs ds → ListChanges cs (take 5 q) o ds → child_map o ≡ child_map (find bits_cmp (take 5 q) cs)
-      → (x : List Bool) (b : Bool) → nat_lt (length x) 5 ≡ b → get (node_map vs ds) x ≡ get (node_map vs cs) x
-  same_by q o n k f g x true e =
-      let l : length x < 5 = grind (arith, nat_tests) in
-      get-short k x l ∙ sym (get-short n x l)
-  same_by {cs = cs} q o n k f g x false e =
-      let l : 5 ≤ length x = grind (arith, nat_tests) in
-      get-long k x l ∙ ap (λ c. child_get c (drop 5 x)) (f (take 5 x)) ∙ same_below cs q o g x _ refl ∙ sym (get-long n x l)
-
   -- the map stays
-  child_same : {vs : List (List Bool × X)} {cs ds : List (List Bool × Seen X)} (q : List Bool) (o : Option (Seen X)) → IsNode vs cs → IsNode vs ds → ListChanges cs (take 5 q) o ds → child_map o ≡ child_map (find bits_cmp (take 5 q) cs)
+  child_same : {vs : List (List Bool × X)} {cs ds : List (List Bool × Seen X)} (q : List Bool) (o : Option (Seen X)) → IsNode vs cs → IsNode vs ds → 5 ≤ length q → ListChanges cs (take 5 q) o ds → child_map o ≡ child_map (find bits_cmp (take 5 q) cs)
       → node_map vs ds ≡ node_map vs cs
-  child_same q o n k f g = same_map bits_total bits_same _ _ (λ x. same_by q o n k f g x (nat_lt (length x) 5) refl)
+  child_same {vs} {cs} {ds} q o n k h f g = same_map bits_total bits_same _ _ (child_changes child_get (λ x p. p) cs ds q o (get (node_map vs cs)) (get (node_map vs ds)) (get-long n) (get-long k) h f (λ x l. get-short k x l ∙ sym (get-short n x l)) (λ r. ap (λ m. get m r) g) (λ x p l e. refl))
 
   -- ---- a node that was seen as m
 
@@ -130,31 +107,26 @@ module _ {X : Type 0} where
         let o : count_ones (cb % 2 ^ suc k) ≡ at + 1 = omega (arith, ones_next k cb, u.0, u.1) in
         rw p (record {
           slots = set_slots (child_string k) d now there;
-          map = child_same (child_string k) (Some d) now.node (is_node vb vs cb (set cs at d) t.slots.values_below t.slots.children_below) (child_put_in (child_string k) d cb cb cs (set cs at d) five t.slots.children_below (there.written d)) (f ∙ was_map) ∙ t.map;
+          map = child_same (child_string k) (Some d) now.node (is_node vb vs cb (set cs at d) t.slots.values_below t.slots.children_below) five (child_put_in (child_string k) d cb cb cs (set cs at d) five t.slots.children_below (there.written d)) (f ∙ was_map) ∙ t.map;
           tidy = omega (arith, ap (λ n. total spare_of (take n (set cs at d))) o, total_set spare_of cs at d there.within, ap (λ n. total spare_of (take n cs)) u.1, t.tidy, z);
           count = omega (arith, total-set all_nodes cs at d e there.within, ap all_nodes r, t.count, a);
           height = omega (arith, height-set cs at d, child_lower, h, t.height);
         })
 
-    cleared : (d : Seen X) (more : ℕ) → d.entries ≡ e.entries → d.entries ≡ empty → more ≡ gone + all_nodes e → IsTidyBelow m (suc k) more vb vs (cb - 2 ^ child_of (child_string k)) (remove cs at)
-    cleared d more f z a =
-        let c = child_of-string k l in
-        let b = cb - 2 ^ child_of (child_string k) in
-        let below : cb - 2 ^ child_of (child_string k) < 2 ^ 32 = omega (arith, t.slots.children_below) in
-        let o : count_ones ((cb - 2 ^ child_of (child_string k)) % 2 ^ suc k) ≡ at = ap (λ i. count_ones ((cb - 2 ^ i) % 2 ^ suc k)) c ∙ ones_cleared k cb u.0 ∙ sym u.1 in
-        record {
-          slots = record { values_counted = t.slots.values_counted; values_below = t.slots.values_below; children_counted = there.ones; children_below = below };
-          map = child_same (child_string k) None now.node (is_node vb vs b (remove cs at) t.slots.values_below below) (child_taken_out (child_string k) cb b cs (remove cs at) five t.slots.children_below there.removed) (sym z ∙ f ∙ was_map) ∙ t.map;
-          tidy = omega (arith, ap (λ n. total spare_of (take n (remove cs at))) o, total_removed spare_of cs at, ap (λ n. total spare_of (take n cs)) u.1, t.tidy);
-          count = omega (arith, total-remove all_nodes cs at e there.within, ap all_nodes r, t.count, a);
-          height = omega (arith, height-remove cs at, t.height);
-        }
-
     pub tidy_goes : {b : ℕ} {ds : List (Seen X)} (d : Seen X) (more : ℕ) → d.entries ≡ e.entries → d.entries ≡ empty → more ≡ gone + all_nodes e → b ≡ 2 ^ k → ds ≡ remove (set cs at d) at → IsTidyBelow m (k + 1) more vb vs (cb - b) ds
     tidy_goes {b} {ds} d more f z a p w =
         let n : k + 1 ≡ suc k = omega arith in
-        let i : b ≡ 2 ^ child_of (child_string k) = p ∙ ap (λ j. 2 ^ j) (sym (child_of-string k l)) in
-        rw n (subst (λ (x : ℕ × List (Seen X)). IsTidyBelow m (suc k) more vb vs (cb - x.0) x.1) (λ j. (sym i j, sym (w ∙ set_removed cs at d) j)) (cleared d more f z a))
+        let m = w ∙ set_removed cs at d in
+        let q = childless (child_string k) e now five there r (p ∙ ap (λ j. 2 ^ j) (sym (child_of-string k l))) m in
+        let o : count_ones ((cb - b) % 2 ^ suc k) ≡ at = ap (λ j. count_ones ((cb - j) % 2 ^ suc k)) p ∙ ones_cleared k cb u.0 ∙ sym u.1 in
+        let kept = take_at (take at cs) (drop (suc at) cs) at (length-take-le at cs (omega (arith, there.within))) in
+        rw n (record {
+          slots = q.slots;
+          map = child_same (child_string k) None now.node (is_node vb vs (cb - b) ds q.slots.values_below q.slots.children_below) five q.changes (sym z ∙ f ∙ was_map) ∙ t.map;
+          tidy = omega (arith, ap (λ i. total spare_of (take i ds)) o, ap (λ es. total spare_of (take at es)) m, ap (total spare_of) kept, ap (λ i. total spare_of (take i cs)) u.1, t.tidy);
+          count = omega (arith, ap (total all_nodes) m, total-remove all_nodes cs at e there.within, ap all_nodes r, t.count, a);
+          height = omega (arith, q.height, t.height);
+        })
 
   -- no child has a higher number
   pub record IsTidied (m : Seen X) (gone vb : ℕ) (vs : List X) (cb : ℕ) (cs : List (Seen X)) : Type 0 where

@@ -1,13 +1,13 @@
 -- A stack of frames along a way.
 use Rattle.std.proofs.Common.{◌≡◌, ℕ, suc, ◌+◌, ◌-◌, ◌*◌, ◌<◌, ◌≤◌, Bool, List, [], ◌∷◌, ◌++◌, length, take, drop, refl, sym, ap, subst, ◌∙◌, arith}
-use Rattle.std.proofs.lemmas.List.{take_all}
+use Rattle.std.proofs.lemmas.List.{take_all, append-nil, take_at, take-take}
 use Rattle.std.proofs.Math.ListN.{length-append, length-take}
 use Rattle.std.specs.FinMap.{entries}
 use Rattle.std.specs.FinMap.Entries.{where_key}
 use Rattle.trie_core.specs.Bits.{is_from}
 use Rattle.ipnet_blocks.specs.BitStrings.{bits_cmp}
 use Rattle.trie_core.specs.InnerWalks.{is_past, KeysWithin, Left, walk_rest, walk_weight, FitFrom}
-use Rattle.trie_core.proofs.Strings.{append_none, front, take_front, take_take}
+use Rattle.trie_core.proofs.Strings.{front}
 use Rattle.trie_core.specs.Nodes.{Seen}
 use Rattle.trie_core.specs.InnerNodes.{under}
 use Rattle.trie_core.specs.InnerSearch.{IsChild, HasNoChild}
@@ -40,11 +40,8 @@ module _ {X : Type 0} where
       b : length (take n way) - 5 * length fs ≡ j
       b = omega (arith, length-take n way)
 
-      k : j + (n - j) ≡ n
-      k = omega arith
-
       e : take (length way - 5 * length (fs ++ f ∷ [])) way ≡ take (length (take n way) - 5 * length fs) (take n way)
-      e = ap (λ k. take k way) a ∙ sym (take_take way j (n - j)) ∙ ap (λ k. take j (take k way)) k ∙ ap (λ k. take k (take n way)) (sym b)
+      e = ap (λ k. take k way) a ∙ sym (take-take j n way (omega arith)) ∙ ap (λ k. take k (take n way)) (sym b)
 
   reach_open : (n : ℕ) (fs : List (Left X)) (f : Left X) → Reach n (fs ++ f ∷ []) → Reach (n - 5) fs × (n + 5 * f.1 ≤ 130)
   reach_open n [] f r = (tt, omega (arith, r.0))
@@ -87,15 +84,17 @@ module _ {X : Type 0} where
   last_keys {gs} {fs} {f} {way} w l = (keys_split 128 (under way f.0) (walk_rest (along (take (length way - 5) way) fs)) (subst (KeysWithin 128) l.top.rest w.keys)).0
 
   -- the last frame gave an entry
-  pub entry_left : {ds fs gs : List (Left X)} {f g : Left X} {way : List Bool} (e : List Bool × X) → IsWalk ds way → IsLast ds fs f way → IsLast gs fs g way → under way f.0 ≡ e ∷ under way g.0 → IsWalk gs way × (walk_rest (along way ds) ≡ e ∷ walk_rest (along way gs))
-  entry_left e w p q s =
+  pub entry_left : {ds gs : List (Left X)} {way : List Bool} (fs : List (Left X)) (f g : Left X) (e : List Bool × X) → IsWalk ds way → ds ≡ fs ++ f ∷ [] → 0 < g.1 → g.1 ≤ f.1 → gs ≡ fs ++ g ∷ [] → under way f.0 ≡ e ∷ under way g.0 → IsWalk gs way × (walk_rest (along way ds) ≡ e ∷ walk_rest (along way gs))
+  entry_left {way = way} fs f g e w a l m b s =
+      let p = last_frame w a in
+      let q = put_frame way p.top.below p.below l (omega (arith, p.room, m)) (omega (arith, p.reach, m)) b in
       let r = entry_step e p.top s q.top in (
         record { fit = q.top.whole; reach = q.all; keys = (subst (KeysWithin 128) r w.keys).1 },
         r,
       )
 
   -- the frame of a node below is on top
-  pub put_below : (gs : List (Left X)) {hs : List (Left X)} (h : Left X) (way below : List Bool) → FitFrom 0 (along way gs) → Reach (length way) gs → 0 < h.1 → length gs + h.1 ≤ 26 → length below + 5 * h.1 ≤ 130 → take (length below - 5) below ≡ way → length below ≡ length way + 5 → hs ≡ gs ++ h ∷ []
+  put_below : (gs : List (Left X)) {hs : List (Left X)} (h : Left X) (way below : List Bool) → FitFrom 0 (along way gs) → Reach (length way) gs → 0 < h.1 → length gs + h.1 ≤ 26 → length below + 5 * h.1 ≤ 130 → take (length below - 5) below ≡ way → length below ≡ length way + 5 → hs ≡ gs ++ h ∷ []
       → IsTop (along below hs) (along way gs) (on_way below h) × Reach (length below) hs
   put_below gs {hs} h way below a r p l m t n e =
       let d : length way ≡ length below - 5 = omega (arith, n) in (
@@ -103,12 +102,17 @@ module _ {X : Type 0} where
         subst (Reach (length below)) (sym e) (reach_close (length below) gs h (subst (λ k. Reach k gs) d r) m),
       )
 
-  pub below_left : {ds fs gs hs : List (Left X)} {f g : Left X} (h : Left X) {way below : List Bool} → IsWalk ds way → IsLast ds fs f way → IsLast gs fs g way → IsTop (along below hs) (along way gs) (on_way below h) × Reach (length below) hs → under way f.0 ≡ under below h.0 ++ under way g.0
-      → IsWalk hs below × (walk_rest (along way ds) ≡ walk_rest (along below hs))
-  below_left h w p q t s =
-      let r = below_step p.top s q.top t.0 in (
-        record { fit = t.0.whole; reach = t.1; keys = subst (KeysWithin 128) r w.keys },
+  -- the last frame, which is f and becomes g, is followed by that of the node below, which is h
+  pub below_left : {ds gs hs : List (Left X)} {way below : List Bool} (fs : List (Left X)) (f g h : Left X) → IsWalk ds way → ds ≡ fs ++ f ∷ [] → 0 < g.1 → g.1 ≤ f.1 → gs ≡ fs ++ g ∷ [] → 0 < h.1 → h.1 < f.1 → take (length below - 5) below ≡ way → length below ≡ length way + 5 → hs ≡ gs ++ h ∷ []
+      → under way f.0 ≡ under below h.0 ++ under way g.0 → h.2 + g.2 + 1 < f.2 → IsWalk hs below × (walk_rest (along way ds) ≡ walk_rest (along below hs)) × (walk_weight (along below hs) < walk_weight (along way ds))
+  below_left {gs = gs} {way = way} {below = below} fs f g h w a l m b lh mh t n c s v =
+      let p = last_frame w a in
+      let q = put_frame way p.top.below p.below l (omega (arith, p.room, m)) (omega (arith, p.reach, m)) b in
+      let u = put_below gs h way below q.top.whole q.all lh (omega (arith, one_more fs g b, p.room, mh)) (omega (arith, p.reach, mh, n)) t n c in
+      let r = below_step p.top s q.top u.0 in (
+        record { fit = u.0.whole; reach = u.1; keys = subst (KeysWithin 128) r w.keys },
         r,
+        omega (arith, p.top.weight, q.top.weight, u.0.weight, v),
       )
 
   -- the last frame held nothing
@@ -129,7 +133,7 @@ module _ {X : Type 0} where
   pub one_frame : {gs fs : List (Left X)} (f : Left X) (way : List Bool) → fs ≡ [] → gs ≡ fs ++ f ∷ [] → 0 < f.1 → f.1 ≤ 26 → length way + 5 * f.1 ≤ 130 → KeysWithin 128 (under way f.0) → IsWalk gs way × (walk_rest (along way gs) ≡ under way f.0)
   one_frame {gs} {fs} f way z e p l h k =
       let t = put_frame {fs = []} {f = f} way tt tt p (omega (arith, l)) h (e ∙ ap (λ xs. xs ++ f ∷ []) z) in
-      let r = t.top.rest ∙ append_none (under way f.0) in (
+      let r = t.top.rest ∙ append-nil (under way f.0) in (
         record { fit = t.top.whole; reach = t.all; keys = subst (KeysWithin 128) (sym r) k },
         r,
       )
@@ -156,7 +160,7 @@ module _ {X : Type 0} where
   pub going_below : {m n c : Seen X} {q p r trail below : List Bool} {i : Bool} {fs gs : List (Left X)} {f : Left X} → IsGoingOn m n q p trail i fs → 5 ≤ length p → IsChild p n c → below ≡ trail ++ take 5 p → r ≡ drop 5 p → f.0 ≡ where_key bits_cmp (is_past (take 5 p)) (entries n.entries) → IsLast gs fs f trail → IsGoingOn m c q r below i gs
   going_below {m} {n} {c} {q} {p} {r} {trail} {below} {i} {fs} {gs} w h s e d v t =
       let k : length below - 5 ≡ length trail = omega (arith, ap length e, length-append trail (take 5 p), (front p h).0) in
-      let u : take (length below - 5) below ≡ trail = (λ j. take (k j) (e j)) ∙ take_front trail (take 5 p) (length trail) refl in
+      let u : take (length below - 5) below ≡ trail = (λ j. take (k j) (e j)) ∙ take_at trail (take 5 p) (length trail) refl in
       record {
         way = subst (λ x. IsOnwards m c q r below i (along x gs)) (sym u) (onwards_below w.way h s e d (ap (under trail) v) t.top);
         reach = subst (λ x. Reach x gs) (sym k) t.all;

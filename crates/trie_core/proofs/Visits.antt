@@ -10,14 +10,15 @@ use Rattle.ipnet_addr.proofs.Basics.{T-parts, less_from_T}
 use Rattle.ipnet_blocks.specs.BitStrings.{bits_cmp}
 use Rattle.trie_core.specs.Nodes.{BitMap, BitSet, Seen}
 use Rattle.trie_core.specs.InnerNodes.{under, node_map, IsNode}
-use Rattle.trie_core.specs.Count.{fives_from, fives, fives_of, begun, found_in, visit_count, stands, standing_at, node_visits}
-use Rattle.trie_core.specs.InnerCount.{marked, spare_set}
-use Rattle.trie_core.proofs.Strings.{same, same-Decides, not_same, append_none, take_first, same_false, take_take}
-use Rattle.trie_core.proofs.Maps.{tail_rises, find-under, find-apart, drop_first}
-use Rattle.trie_core.specs.InnerWalks.{first_value}
-use Rattle.trie_core.proofs.Order.{StartsAfter, found_long, found_get, without_value, without_child, starts_after, values_after}
-use Rattle.trie_core.proofs.Count.{has, has-append, has-begun, some_cond, some_entry, nothing, fives_child, fives_short, begun_by_key, after_child, begun_value, begun_none, begun_child}
-use Rattle.trie_core.proofs.Marks.{root_if, marked_get, marked-other, marked-root, set-long}
+use Rattle.trie_core.specs.Count.{fives_from, fives, begun, found_in, visit_count, stands, standing_at, node_visits}
+use Rattle.trie_core.specs.InnerCount.{spare_set}
+use Rattle.trie_core.proofs.Strings.{same, same-Decides, not_same, same_false}
+use Rattle.trie_core.proofs.Maps.{tail_rises, find-under, find-apart}
+use Rattle.trie_core.proofs.Order.{StartsAfter, found_long, found_get, each_node}
+use Rattle.trie_core.proofs.Count.{has, has-begun, some_cond, some_entry, fives_child, fives_short, begun_by_key, after_child, begun_value, begun_has}
+use Rattle.trie_core.proofs.Marks.{root_if, marked_get, marked-other, marked-root, set-long, set-below}
+use Rattle.std.proofs.lemmas.List.{append-nil, take_at, take-take}
+use Rattle.std.proofs.lemmas.Bool.{false_from_ne_true}
 
 below_none : {Y : Type 0} (b : List Bool) (es : List (List Bool × Y)) → T (below_all bits_cmp b es) → has b es ≡ false
 below_none b [] h = refl
@@ -25,46 +26,23 @@ below_none b (e ∷ es) h =
     let p = T-parts _ _ h in
     some_cond (same b e.0) e.1 (find bits_cmp b es) ∙ (λ i. ap is_eq (less_from_T _ p.0) i || below_none b es p.1 i)
 
-or_nothing : (a b c : Bool) → c ≡ false → (a || (b || c)) ≡ (a || b)
-or_nothing true b c e = refl
-or_nothing false true c e = refl
-or_nothing false false c e = e
-
-or_neither : (a b c : Bool) → a ≡ false → b ≡ false → (a || (b || c)) ≡ c
-or_neither a b c e f = λ i. e i || (f i || c)
-
 apart : (n m x k : List Bool) → length n ≡ 5 → length m ≡ 5 → same n m ≡ false → n ++ x ≡ m ++ k → ⊥
-apart n m x k a b e p = not_same e (sym (take_first n x a) ∙ ap (take 5) p ∙ take_first m k b)
+apart n m x k a b e p = not_same e (sym (take_at n x 5 a) ∙ ap (take 5) p ∙ take_at m k 5 b)
 
 module _ {X : Type 0} where
-  here : {vs : List (List Bool × X)} {cs : List (List Bool × Seen X)} {c : List Bool × Seen X} → IsNode vs (c ∷ cs) → StartsAfter c.0 vs → (x : List Bool) (s : Bool) → some_entry (entries c.1.entries) ≡ s
-      → has (c.0 ++ x) (entries (begun (node_map vs (c ∷ cs)))) ≡ ((s && same (c.0 ++ x) c.0) || has x (entries (begun c.1.entries)))
-  here {vs} {cs} {c} n h x true e =
-      let b = c.0 in
-      let a = (tail_rises c cs n.children_rise).1 in
-      let E = entries (begun c.1.entries) in
-      let F = entries (begun (node_map vs cs)) in
-      ap (has (b ++ x)) (begun_child n a h e)
-      ∙ some_cond (same (b ++ x) b) tt (find bits_cmp (b ++ x) (under b E ++ F))
-      ∙ ap (λ t. same (b ++ x) b || t) (has-append (b ++ x) (under b E) F ∙ ap (λ t. t || has (b ++ x) F) (ap is_some (find-under b x E)))
-      ∙ or_nothing (same (b ++ x) b) (has x E) (has (b ++ x) F) (below_none (b ++ x) F (after_child n a x))
-  here {vs} {cs} {c} n h x false e =
-      let z = nothing (entries c.1.entries) e in
-      ap (λ m. has (c.0 ++ x) (entries m)) (begun_none n h z)
-      ∙ below_none (c.0 ++ x) (entries (begun (node_map vs cs))) (after_child n (tail_rises c cs n.children_rise).1 x)
-      ∙ sym (has-begun c.1.entries x ∙ ap (λ es. has x (fives_of es)) z)
+  here : {vs : List (List Bool × X)} {cs : List (List Bool × Seen X)} {c : List Bool × Seen X} → IsNode vs (c ∷ cs) → StartsAfter c.0 vs → (x : List Bool)
+      → has (c.0 ++ x) (entries (begun (node_map vs (c ∷ cs)))) ≡ ((some_entry (entries c.1.entries) && same (c.0 ++ x) c.0) || has x (entries (begun c.1.entries)))
+  here {vs} {cs} {c} n h x =
+      begun_has n h (c.0 ++ x)
+      ∙ (λ i. ((some_entry (entries c.1.entries) && same (c.0 ++ x) c.0) || ap is_some (find-under c.0 x (entries (begun c.1.entries))) i) || below_none (c.0 ++ x) (entries (begun (node_map vs cs))) (after_child n (tail_rises c cs n.children_rise).1 x) i)
+      ∙ or-false _
 
-  elsewhere : {vs : List (List Bool × X)} {cs : List (List Bool × Seen X)} {c : List Bool × Seen X} (m : List Bool) → IsNode vs (c ∷ cs) → StartsAfter c.0 vs → length m ≡ 5 → same m c.0 ≡ false → (x : List Bool) → (b : Bool) → some_entry (entries c.1.entries) ≡ b
+  elsewhere : {vs : List (List Bool × X)} {cs : List (List Bool × Seen X)} {c : List Bool × Seen X} (m : List Bool) → IsNode vs (c ∷ cs) → StartsAfter c.0 vs → length m ≡ 5 → same m c.0 ≡ false → (x : List Bool)
       → has (m ++ x) (entries (begun (node_map vs (c ∷ cs)))) ≡ has (m ++ x) (entries (begun (node_map vs cs)))
-  elsewhere {vs} {cs} {c} m n h a e x true s =
-      let b = c.0 in
-      let E = entries (begun c.1.entries) in
-      let F = entries (begun (node_map vs cs)) in
-      ap (has (m ++ x)) (begun_child n (tail_rises c cs n.children_rise).1 h s)
-      ∙ some_cond (same (m ++ x) b) tt (find bits_cmp (m ++ x) (under b E ++ F))
-      ∙ ap (λ t. same (m ++ x) b || t) (has-append (m ++ x) (under b E) F)
-      ∙ or_neither _ _ _ (same_false (m ++ x) b (λ p. apart m b x [] a n.children_long.0 e (p ∙ sym (append_none b)))) (ap is_some (find-apart b (m ++ x) (λ k p. apart m b x k a n.children_long.0 e p) E))
-  elsewhere {vs} {cs} {c} m n h a e x false s = ap (λ w. has (m ++ x) (entries w)) (begun_none n h (nothing (entries c.1.entries) s))
+  elsewhere {vs} {cs} {c} m n h a e x =
+      let f : same (m ++ x) c.0 ≡ false = same_false (m ++ x) c.0 (λ p. apart m c.0 x [] a n.children_long.0 e (p ∙ sym (append-nil c.0))) in
+      let g : has (m ++ x) (under c.0 (entries (begun c.1.entries))) ≡ false = ap is_some (find-apart c.0 (m ++ x) (λ k p. apart m c.0 x k a n.children_long.0 e p) (entries (begun c.1.entries))) in
+      begun_has n h (m ++ x) ∙ (λ i. ((some_entry (entries c.1.entries) && f i) || g i) || has (m ++ x) (entries (begun (node_map vs cs)))) ∙ ap (λ t. (t || false) || has (m ++ x) (entries (begun (node_map vs cs)))) (and-false (some_entry (entries c.1.entries)))
 
   abbrev Begun : List (List Bool × X) → List (List Bool × Seen X) → List Bool → Seen X → List Bool → Type 0
   Begun vs cs m w x = has (m ++ x) (entries (begun (node_map vs cs))) ≡ ((some_entry (entries w.entries) && same (m ++ x) m) || has x (entries (begun w.entries)))
@@ -75,20 +53,13 @@ module _ {X : Type 0} where
       let u : c.1 ≡ w = cc in
       let z : m ≡ c.0 = (same-Decides m c.0).0 e in
       ap (λ k. has (k ++ x) (entries (begun (node_map vs (c ∷ cs))))) z
-      ∙ here n h x (some_entry (entries c.1.entries)) refl
+      ∙ here n h x
       ∙ (λ i. (some_entry (entries (u i).entries) && same (sym z i ++ x) (sym z i)) || has x (entries (begun (u i).entries)))
-  begun_under {vs} {cs} {c} m w x n h a r false e f = elsewhere m n h a e x (some_entry (entries c.1.entries)) refl ∙ r f
+  begun_under {vs} {cs} {c} m w x n h a r false e f = elsewhere m n h a e x ∙ r f
 
-  begun_either : (e : List Bool × X) (vs : List (List Bool × X)) (c : List Bool × Seen X) (cs : List (List Bool × Seen X)) (m : List Bool) (w : Seen X) (x : List Bool) → IsNode (e ∷ vs) (c ∷ cs) → length m ≡ 5 → find bits_cmp m (c ∷ cs) ≡ Some w
-      → (IsNode vs (c ∷ cs) → Begun vs (c ∷ cs) m w x) → (IsNode (e ∷ vs) cs → find bits_cmp m cs ≡ Some w → Begun (e ∷ vs) cs m w x) → (b : Bool) → first_value (e ∷ vs) (c ∷ cs) ≡ b → Begun (e ∷ vs) (c ∷ cs) m w x
-  begun_either e vs c cs m w x n a f p q true b = ap (λ k. has (m ++ x) (entries k)) (begun_value n (starts_after e vs (c ∷ cs) b)) ∙ p (without_value n)
-  begun_either e vs c cs m w x n a f p q false b = begun_under m w x n (values_after (e ∷ vs) c cs n b) a (q (without_child n)) (same m c.0) refl f
-
-  begun_by : (k : ℕ) (vs : List (List Bool × X)) (cs : List (List Bool × Seen X)) (m : List Bool) (w : Seen X) (x : List Bool) → length vs + length cs ≤ k → IsNode vs cs → length m ≡ 5 → find bits_cmp m cs ≡ Some w → Begun vs cs m w x
-  begun_by k vs [] m w x h n a f = cc
-  begun_by zero vs (c ∷ cs) m w x h n a f = absurd (omega arith)
-  begun_by (suc k) [] (c ∷ cs) m w x h n a f = begun_under m w x n tt a (λ g. begun_by k [] cs m w x (omega arith) (without_child n) a g) (same m c.0) refl f
-  begun_by (suc k) (e ∷ vs) (c ∷ cs) m w x h n a f = begun_either e vs c cs m w x n a f (λ o. begun_by k vs (c ∷ cs) m w x (omega arith) o a f) (λ o g. begun_by k (e ∷ vs) cs m w x (omega arith) o a g) (first_value (e ∷ vs) (c ∷ cs)) refl
+  begun_by : (vs : List (List Bool × X)) (cs : List (List Bool × Seen X)) (m : List Bool) (w : Seen X) (x : List Bool) → IsNode vs cs → length m ≡ 5 → find bits_cmp m cs ≡ Some w → Begun vs cs m w x
+  begun_by vs cs m w x n a = each_node (λ vs cs. find bits_cmp m cs ≡ Some w → Begun vs cs m w x) (λ f. cc) (λ e vs cs n h r f. ap (λ k. has (m ++ x) (entries k)) (begun_value n h) ∙ r f)
+      (λ vs c cs n h r f. begun_under m w x n h a r (same m c.0) refl f) vs cs n
 
 abbrev counted : Bool → ℕ
 counted b = cond b 1 0
@@ -101,26 +72,24 @@ module _ {X : Type 0} where
   standing_none : (i n : ℕ) (q : List Bool) (m : BitMap X) (s : BitSet) → 5 * i + 5 * n ≤ length q → ((x : List Bool) → 5 ≤ length x → take 5 x ≡ take 5 q → stands m s x ≡ false) → standing_at m s (fives_from i n q) ≡ 0
   standing_none i zero q m s h f = refl
   standing_none i (suc n) q m s h f =
-      let z : 5 * i + 5 ≡ 5 + 5 * i = omega arith in
-      let e = f (take (5 * i + 5) q) (omega (arith, length-take (5 * i + 5) q, h)) (ap (λ k. take 5 (take k q)) z ∙ take_take q 5 (5 * i)) in
+      let e = f (take (5 * i + 5) q) (omega (arith, length-take (5 * i + 5) q, h)) (take-take 5 (5 * i + 5) q (omega arith)) in
       let c : counted (stands m s (take (5 * i + 5) q)) ≡ 0 = ap counted e in
       omega (arith, c, standing_none (suc i) n q m s (omega (arith, h)) f)
 
-  none_begun : {vs : List (List Bool × X)} {cs : List (List Bool × Seen X)} (q x : List Bool) → IsNode vs cs → find bits_cmp (take 5 q) cs ≡ None → 5 ≤ length x → take 5 x ≡ take 5 q → (b : Bool) → is_some (get (begun (node_map vs cs)) x) ≡ b → is_some (get (begun (node_map vs cs)) x) ≡ false
-  none_begun {vs} {cs} q x n f h t true e =
+  none_begun : {vs : List (List Bool × X)} {cs : List (List Bool × Seen X)} (q x : List Bool) → IsNode vs cs → find bits_cmp (take 5 q) cs ≡ None → 5 ≤ length x → take 5 x ≡ take 5 q → is_some (get (begun (node_map vs cs)) x) ≡ false
+  none_begun {vs} {cs} q x n f h t = false_from_ne_true _ (λ e.
       let m = node_map vs cs in
       let b = begun_by_key x (entries m) (sym (has-begun m x) ∙ sym (ap is_some (get-entries (begun m) x)) ∙ e) in
       let k : 5 ≤ length b.key = omega (arith, ap length b.first, length-take 5 x, length-take 5 b.key, h) in
       let l = found_long n b.key k (found_get m b.key b.found) in
       let z : false ≡ true = sym (ap is_some f) ∙ ap (λ i. is_some (find bits_cmp i cs)) (sym t ∙ b.first) ∙ l in
-      cc
-  none_begun q x n f h t false e = e
+      cc)
 
   -- no node stands where there is no child
   stands_none : {vs : List (List Bool × X)} {cs : List (List Bool × Seen X)} (q x : List Bool) → IsNode vs cs → find bits_cmp (take 5 q) cs ≡ None → 5 ≤ length x → take 5 x ≡ take 5 q → stands (node_map vs cs) (spare_set cs) x ≡ false
   stands_none {vs} {cs} q x n f d t =
       let spare : get (spare_set cs) x ≡ None = set-long n x d ∙ (λ i. marked_get (find bits_cmp (t i) cs) (drop 5 x)) ∙ ap (λ o. marked_get o (drop 5 x)) f in
-      λ i. none_begun q x n f d t (is_some (get (begun (node_map vs cs)) x)) refl i || is_some (spare i)
+      λ i. none_begun q x n f d t i || is_some (spare i)
 
   -- no child on the way: the node alone
   pub visits_none : {vs : List (List Bool × X)} {cs : List (List Bool × Seen X)} (q : List Bool) → IsNode vs cs → find bits_cmp (take 5 q) cs ≡ None → node_visits (node_map vs cs) (spare_set cs) q ≡ 1
@@ -130,14 +99,8 @@ module _ {X : Type 0} where
   begun_below : {vs : List (List Bool × X)} {cs : List (List Bool × Seen X)} {w : Seen X} (b x : List Bool) → IsNode vs cs → length b ≡ 5 → find bits_cmp b cs ≡ Some w
       → is_some (get (begun (node_map vs cs)) (b ++ x)) ≡ ((some_entry (entries w.entries) && same (b ++ x) b) || is_some (get (begun w.entries) x))
   begun_below {vs} {cs} {w} b x n a f =
-      ap is_some (get-entries (begun (node_map vs cs)) (b ++ x)) ∙ begun_by (length vs + length cs) vs cs b w x (omega arith) n a f
+      ap is_some (get-entries (begun (node_map vs cs)) (b ++ x)) ∙ begun_by vs cs b w x n a f
       ∙ (λ i. (some_entry (entries w.entries) && same (b ++ x) b) || is_some (sym (get-entries (begun w.entries) x) i))
-
-  spare_below : {vs : List (List Bool × X)} {cs : List (List Bool × Seen X)} {w : Seen X} (b x : List Bool) → IsNode vs cs → length b ≡ 5 → find bits_cmp b cs ≡ Some w → get (spare_set cs) (b ++ x) ≡ get (marked w) x
-  spare_below {vs} {cs} {w} b x n a f =
-      set-long n (b ++ x) (omega (arith, length-append b x, a))
-      ∙ (λ i. marked_get (find bits_cmp (take_first b x a i) cs) (drop_first b x a i))
-      ∙ ap (λ o. marked_get o x) f
 
   -- below the child, where one stands below it
   stands_below : {vs : List (List Bool × X)} {cs : List (List Bool × Seen X)} {w : Seen X} (b x : List Bool) → IsNode vs cs → length b ≡ 5 → find bits_cmp b cs ≡ Some w → 5 ≤ length x → stands (node_map vs cs) (spare_set cs) (b ++ x) ≡ stands w.entries w.spares x
@@ -146,7 +109,7 @@ module _ {X : Type 0} where
       let x = y ∷ ys in
       let o : same (b ++ x) b ≡ false = same_false (b ++ x) b (λ e. omega (arith, ap length e, length-append b x, l)) in
       let e = ap (λ t. (some_entry (entries w.entries) && t) || is_some (get (begun w.entries) x)) o ∙ ap (λ t. t || is_some (get (begun w.entries) x)) (and-false (some_entry (entries w.entries))) in
-      λ i. (begun_below b x n a f ∙ e) i || is_some ((spare_below b x n a f ∙ marked-other w y ys) i)
+      λ i. (begun_below b x n a f ∙ e) i || is_some ((set-below n b x a ∙ ap (λ o. marked_get o x) f ∙ marked-other w y ys) i)
 
   some_or_none : (es : List (List Bool × X)) (n : ℕ) (z : Bool) → n ≡ length es → (((some_entry es && true) || z) || is_some (root_if n)) ≡ true
   some_or_none [] zero true e = refl
@@ -158,9 +121,9 @@ module _ {X : Type 0} where
   stands_child : {vs : List (List Bool × X)} {cs : List (List Bool × Seen X)} {w : Seen X} (b : List Bool) → IsNode vs cs → length b ≡ 5 → find bits_cmp b cs ≡ Some w → stands (node_map vs cs) (spare_set cs) b ≡ true
   stands_child {vs} {cs} {w} b n a f =
       let z = is_some (get (begun w.entries) []) in
-      ap (stands (node_map vs cs) (spare_set cs)) (sym (append_none b))
-      ∙ (λ i. begun_below b [] n a f i || is_some ((spare_below b [] n a f ∙ marked-root w) i))
-      ∙ ap (λ t. ((some_entry (entries w.entries) && t) || z) || is_some (root_if (len w.entries))) ((same-Decides (b ++ []) b).1 (append_none b))
+      ap (stands (node_map vs cs) (spare_set cs)) (sym (append-nil b))
+      ∙ (λ i. begun_below b [] n a f i || is_some ((set-below n b [] a ∙ ap (λ o. marked_get o []) f ∙ marked-root w) i))
+      ∙ ap (λ t. ((some_entry (entries w.entries) && t) || z) || is_some (root_if (len w.entries))) ((same-Decides (b ++ []) b).1 (append-nil b))
       ∙ some_or_none (entries w.entries) (len w.entries) z (len-entries w.entries)
 
   -- a child on the way: the node, and what is visited from the child on

@@ -1,13 +1,13 @@
 -- The stack of a walk, and the way down to where a walk starts.
-use Rattle.std.proofs.Common.{◌≡◌, ℕ, suc, ◌+◌, ◌*◌, ◌<◌, ◌≤◌, Bool, true, false, cond, not, List, [], ◌∷◌, ◌++◌, length, take, drop, refl, sym, ap, subst, ◌∙◌, arith}
+use Rattle.std.proofs.Common.{◌≡◌, ℕ, suc, ◌+◌, ◌*◌, ◌<◌, ◌≤◌, Bool, true, false, cond, not, List, [], ◌∷◌, ◌++◌, length, take, drop, refl, sym, ap, subst, ◌∙◌, arith, inl, inr}
 use Rattle.std.specs.Prelude.{T, Option, Some, None, is_some}
 use Rattle.std.specs.declared.cmp.Ordering.TheVariants.{Less}
 use Rattle.std.specs.Ordering.{is_lt}
 use Rattle.std.specs.FinMap.{is_sorted, find, entries, get, get-entries, entries_sorted, empty}
 use Rattle.std.specs.FinMap.Entries.{where_key, find-where_key, is_sorted-where_key, same_entries}
-use Rattle.std.proofs.lemmas.List.{append_assoc, take-append-drop}
+use Rattle.std.proofs.lemmas.List.{append_assoc, take-append-drop, append-nil, take_at}
 use Rattle.std.proofs.Math.ListN.{length-append, length-drop}
-use Rattle.std.proofs.lemmas.Bool.{false_from_ne_true, and_right}
+use Rattle.std.proofs.lemmas.Bool.{false_from_ne_true, and_right, cases_Bool}
 use Rattle.trie_core.specs.Bits.{is_from}
 use Rattle.ipnet_blocks.specs.BitStrings.{bits_cmp, begins}
 use Rattle.trie_core.specs.InnerPlaces.{child_of, child_string}
@@ -16,19 +16,19 @@ use Rattle.trie_core.specs.Prefixes.{prefix_bits}
 use Rattle.trie_core.specs.Nodes.{BitMap, Seen}
 use Rattle.trie_core.specs.InnerNodes.{under}
 use Rattle.trie_core.specs.InnerSearch.{IsChild, HasNoChild}
-use Rattle.trie_core.proofs.Strings.{bits_total, bits_same, same, same-Decides, same-refl, not_same, append_none, front, take_first, bits_cmp-under}
+use Rattle.trie_core.proofs.Strings.{bits_total, bits_same, same, same-Decides, same-refl, not_same, front, bits_cmp-under}
 use Rattle.ipnet_blocks.proofs.BitStrings.{begins_take, begins-under}
 use Rattle.trie_core.proofs.Count.{under-append}
 use Rattle.trie_core.proofs.Maps.{or_else, find-append_all, find-under, find-apart, get_none, node_map-none}
-use Rattle.trie_core.proofs.Order.{sorted_under, below_found, walk_none}
+use Rattle.trie_core.proofs.Order.{sorted_under, below_found, walk_none, later_found}
 use Rattle.trie_core.proofs.Numbers.{child_string-child_of}
-use Rattle.trie_core.proofs.Frames.{child_bits, bits_alike, under-under, under_none}
+use Rattle.trie_core.proofs.Frames.{child_bits, bits_alike, under-under, under_none, found_where}
 
 -- ---- the stack
 
 module _ {X : Type 0} where
   rest-append : (fs : List (Left X)) (f : Left X) → walk_rest (fs ++ f ∷ []) ≡ f.0 ++ walk_rest fs
-  rest-append [] f = sym (append_none f.0)
+  rest-append [] f = sym (append-nil f.0)
   rest-append (g ∷ fs) f = ap (λ ws. ws ++ g.0) (rest-append fs f) ∙ append_assoc f.0 (walk_rest fs) g.0
 
   weight-append : (fs : List (Left X)) (f : Left X) → walk_weight (fs ++ f ∷ []) ≡ f.2 + 1 + walk_weight fs
@@ -80,22 +80,17 @@ module _ {X : Type 0} where
 module _ {X : Type 0} where
   pub keys_found : (n : ℕ) (trail q : List Bool) (es : List (List Bool × X)) → KeysWithin n (under trail es) → is_some (find bits_cmp q es) ≡ true → length trail + length q ≤ n
   keys_found n trail q [] k s = cc
-  keys_found n trail q (e ∷ es) k s = by (λ t. keys_found n trail q es k.1 t) (same q e.0) refl s
-    where
-      by : (is_some (find bits_cmp q es) ≡ true → length trail + length q ≤ n) → (b : Bool) → same q e.0 ≡ b → is_some (cond b (Some e.1) (find bits_cmp q es)) ≡ true → length trail + length q ≤ n
-      by f true h s = omega (arith, k.0, length-append trail e.0, ap length ((same-Decides q e.0).0 h))
-      by f false h s = f s
+  keys_found n trail q (e ∷ es) k s = elim (cases_Bool (same q e.0)) [
+    | inl h ↦ omega (arith, k.0, length-append trail e.0, ap length ((same-Decides q e.0).0 h))
+    | inr h ↦ keys_found n trail q es k.1 (sym (ap (λ b. is_some (cond b (Some e.1) (find bits_cmp q es))) h) ∙ s)
+  ]
 
   pub keys_listed : (n : ℕ) (trail : List Bool) (es : List (List Bool × X)) → ((q : List Bool) → is_some (find bits_cmp q es) ≡ true → length trail + length q ≤ n) → KeysWithin n (under trail es)
   keys_listed n trail [] f = tt
   keys_listed n trail (e ∷ es) f = (
     omega (arith, length-append trail e.0, f e.0 (ap (λ x. is_some (cond x (Some e.1) (find bits_cmp e.0 es))) (same-refl e.0))),
-    keys_listed n trail es (λ q s. f q (later (same q e.0) (find bits_cmp q es) s)),
+    keys_listed n trail es (λ q s. f q (later_found (same q e.0) e.1 (find bits_cmp q es) s)),
   )
-    where
-      later : (b : Bool) (o : Option X) → is_some o ≡ true → is_some (cond b (Some e.1) o) ≡ true
-      later true o e = refl
-      later false o e = e
 
   -- those of the keys of m that f tells lie below the first five bits of p, where g tells them
   pub record AreBelow (p : List Bool) (m c : BitMap X) (f g : List Bool → Bool) : Type 0 where
@@ -107,8 +102,8 @@ module _ {X : Type 0} where
   pub where_below : {p : List Bool} {m c : BitMap X} {f g : List Bool → Bool} → AreBelow p m c f g → where_key bits_cmp f (entries m) ≡ under (take 5 p) (where_key bits_cmp g (entries c))
   where_below {p} {m} {c} {f} {g} a =
       same_entries bits_cmp bits_total bits_same _ _ (is_sorted-where_key bits_cmp f (entries m) (entries_sorted m))
-      (subst (λ es. T (is_sorted bits_cmp es)) (append_none (under (take 5 p) (where_key bits_cmp g (entries c)))) (sorted_under (take 5 p) (where_key bits_cmp g (entries c)) [] (is_sorted-where_key bits_cmp g (entries c) (entries_sorted c)) tt (λ x. tt)))
-      (λ x. find-where_key bits_cmp f x (bits_alike f x) (entries m) ∙ ap (λ o. cond (f x) o None) (sym (get-entries m x)) ∙ by x (same (take 5 x) (take 5 p)) refl)
+      (subst (λ es. T (is_sorted bits_cmp es)) (append-nil (under (take 5 p) (where_key bits_cmp g (entries c)))) (sorted_under (take 5 p) (where_key bits_cmp g (entries c)) [] (is_sorted-where_key bits_cmp g (entries c) (entries_sorted c)) tt (λ x. tt)))
+      (λ x. found_where m f x ∙ by x (same (take 5 x) (take 5 p)) refl)
     where
       at : (r : List Bool) → cond (f (take 5 p ++ r)) (get m (take 5 p ++ r)) None ≡ find bits_cmp (take 5 p ++ r) (under (take 5 p) (where_key bits_cmp g (entries c)))
       at r =
@@ -120,7 +115,7 @@ module _ {X : Type 0} where
           let w : take 5 p ++ drop 5 x ≡ x = ap (λ s. s ++ drop 5 x) (sym ((same-Decides (take 5 x) (take 5 p)).0 e)) ∙ take-append-drop 5 x in
           subst (λ x. cond (f x) (get m x) None ≡ find bits_cmp x (under (take 5 p) (where_key bits_cmp g (entries c)))) w (at (drop 5 x))
       by x false e =
-          let no : (k : List Bool) → x ≡ take 5 p ++ k → ⊥ = λ k q. not_same e (ap (take 5) q ∙ take_first (take 5 p) k (front p a.long).0) in
+          let no : (k : List Bool) → x ≡ take 5 p ++ k → ⊥ = λ k q. not_same e (ap (take 5) q ∙ take_at (take 5 p) k 5 (front p a.long).0) in
           ap (λ t. cond t (get m x) None) (a.other x no) ∙ sym (find-apart (take 5 p) x no (where_key bits_cmp g (entries c)))
 
   begins_below : (p : List Bool) {m c : BitMap X} → 5 ≤ length p → ((r : List Bool) → get m (take 5 p ++ r) ≡ get c r) → AreBelow p m c (begins p) (begins (drop 5 p))
@@ -196,36 +191,23 @@ from-under i b p q = λ j. cond i (not (is_lt (bits_cmp-under b q p j))) (is_lt 
 
 past-under : (b q : List Bool) → is_past b (b ++ q) ≡ false
 past-under [] q = and_right (is_lt (bits_cmp [] q)) false refl
-past-under (true ∷ b) q = past-under b q
-past-under (false ∷ b) q = past-under b q
+past-under (y ∷ b) q = grind (arith, past-under b q)
 
 -- a string that does not begin with b is after a string that does where it is past b
 from_apart : (i : Bool) (b p x : List Bool) → begins b x ≡ false → is_from (b ++ p) i x ≡ is_past b x
 from_apart i [] p x e = cc
-from_apart true (y ∷ b) p [] e = refl
-from_apart false (y ∷ b) p [] e = refl
-from_apart i (true ∷ b) p (true ∷ x) e = from_apart i b p x e
-from_apart i (false ∷ b) p (false ∷ x) e = from_apart i b p x e
-from_apart true (true ∷ b) p (false ∷ x) e = refl
-from_apart false (true ∷ b) p (false ∷ x) e = refl
-from_apart true (false ∷ b) p (true ∷ x) e = refl
-from_apart false (false ∷ b) p (true ∷ x) e = refl
+from_apart i (y ∷ b) p x e = grind (arith, from_apart i b p)
 
 past_less : (b s q : List Bool) → is_past b q ≡ true → bits_cmp (b ++ s) q ≡ Less
 past_less [] s q e = let z = sym e ∙ past-under [] q in cc
-past_less (y ∷ b) s [] e = cc
-past_less (true ∷ b) s (true ∷ q) e = past_less b s q e
-past_less (false ∷ b) s (false ∷ q) e = past_less b s q e
-past_less (true ∷ b) s (false ∷ q) e = cc
-past_less (false ∷ b) s (true ∷ q) e = refl
+past_less (y ∷ b) s q e = grind (arith, past_less b)
 
 not_begun : (b x : List Bool) → ((k : List Bool) → x ≡ b ++ k → ⊥) → begins b x ≡ false
 not_begun b x f = false_from_ne_true _ (λ e. f (drop (length b) x) (sym (take-append-drop (length b) x) ∙ ap (λ s. s ++ drop (length b) x) (begins_take b x e).1))
 
 module _ {X : Type 0} where
   pub kept_true : (b : Bool) (o : Option X) → is_some (cond b o None) ≡ true → b ≡ true
-  kept_true true o e = refl
-  kept_true false o e = cc
+  kept_true b o e = grind arith
 
   -- from p on come those below its first five bits that are from the rest of p on, and then what is past these five
   pub where_from : (p : List Bool) (i : Bool) (m c : BitMap X) → 5 ≤ length p → ((r : List Bool) → get m (take 5 p ++ r) ≡ get c r)
@@ -235,18 +217,14 @@ module _ {X : Type 0} where
       (sorted_under (take 5 p) (where_key bits_cmp (is_from (drop 5 p) i) (entries c)) (where_key bits_cmp (is_past (take 5 p)) (entries m))
       (is_sorted-where_key bits_cmp (is_from (drop 5 p) i) (entries c) (entries_sorted c)) (is_sorted-where_key bits_cmp (is_past (take 5 p)) (entries m) (entries_sorted m))
       (λ s. below_found (take 5 p ++ s) (where_key bits_cmp (is_past (take 5 p)) (entries m)) (λ q f. past_less (take 5 p) s q (kept_true (is_past (take 5 p) q) (find bits_cmp q (entries m)) (ap is_some (sym (find-where_key bits_cmp (is_past (take 5 p)) q (bits_alike (is_past (take 5 p)) q) (entries m))) ∙ f)))))
-      (λ x. found (is_from p i) x ∙ by x (same (take 5 x) (take 5 p)) refl
+      (λ x. found_where m (is_from p i) x ∙ by x (same (take 5 x) (take 5 p)) refl
       ∙ sym (find-append_all x (under (take 5 p) (where_key bits_cmp (is_from (drop 5 p) i) (entries c))) (where_key bits_cmp (is_past (take 5 p)) (entries m))))
     where
-      found : (f : List Bool → Bool) (x : List Bool) → find bits_cmp x (where_key bits_cmp f (entries m)) ≡ cond (f x) (get m x) None
-      found f x = find-where_key bits_cmp f x (bits_alike f x) (entries m) ∙ ap (λ o. cond (f x) o None) (sym (get-entries m x))
-
       whole : (x : List Bool) → is_from p i x ≡ is_from (take 5 p ++ drop 5 p) i x
       whole x = ap (λ q. is_from q i x) (sym (front p h).1)
 
       none_after : (o : Option X) → o ≡ or_else o None
-      none_after None = refl
-      none_after (Some x) = refl
+      none_after o = grind arith
 
       at : (r : List Bool) → cond (is_from p i (take 5 p ++ r)) (get m (take 5 p ++ r)) None
           ≡ or_else (find bits_cmp (take 5 p ++ r) (under (take 5 p) (where_key bits_cmp (is_from (drop 5 p) i) (entries c)))) (find bits_cmp (take 5 p ++ r) (where_key bits_cmp (is_past (take 5 p)) (entries m)))
@@ -255,7 +233,7 @@ module _ {X : Type 0} where
           ∙ sym (find-where_key bits_cmp (is_from (drop 5 p) i) r (bits_alike (is_from (drop 5 p) i) r) (entries c))
           ∙ sym (find-under (take 5 p) r (where_key bits_cmp (is_from (drop 5 p) i) (entries c)))
           ∙ none_after _
-          ∙ ap (or_else _) (sym (found (is_past (take 5 p)) (take 5 p ++ r) ∙ ap (λ t. cond t (get m (take 5 p ++ r)) None) (past-under (take 5 p) r)))
+          ∙ ap (or_else _) (sym (found_where m (is_past (take 5 p)) (take 5 p ++ r) ∙ ap (λ t. cond t (get m (take 5 p ++ r)) None) (past-under (take 5 p) r)))
 
       by : (x : List Bool) (t : Bool) → same (take 5 x) (take 5 p) ≡ t
           → cond (is_from p i x) (get m x) None ≡ or_else (find bits_cmp x (under (take 5 p) (where_key bits_cmp (is_from (drop 5 p) i) (entries c)))) (find bits_cmp x (where_key bits_cmp (is_past (take 5 p)) (entries m)))
@@ -263,9 +241,9 @@ module _ {X : Type 0} where
           let w : take 5 p ++ drop 5 x ≡ x = ap (λ s. s ++ drop 5 x) (sym ((same-Decides (take 5 x) (take 5 p)).0 e)) ∙ take-append-drop 5 x in
           subst (λ x. cond (is_from p i x) (get m x) None ≡ or_else (find bits_cmp x (under (take 5 p) (where_key bits_cmp (is_from (drop 5 p) i) (entries c)))) (find bits_cmp x (where_key bits_cmp (is_past (take 5 p)) (entries m)))) w (at (drop 5 x))
       by x false e =
-          let no : (k : List Bool) → x ≡ take 5 p ++ k → ⊥ = λ k q. not_same e (ap (take 5) q ∙ take_first (take 5 p) k (front p h).0) in
+          let no : (k : List Bool) → x ≡ take 5 p ++ k → ⊥ = λ k q. not_same e (ap (take 5) q ∙ take_at (take 5 p) k 5 (front p h).0) in
           ap (λ t. cond t (get m x) None) (whole x ∙ from_apart i (take 5 p) (drop 5 p) x (not_begun (take 5 p) x no))
-          ∙ sym (found (is_past (take 5 p)) x)
+          ∙ sym (found_where m (is_past (take 5 p)) x)
           ∙ ap (λ o. or_else o (find bits_cmp x (where_key bits_cmp (is_past (take 5 p)) (entries m)))) (sym (find-apart (take 5 p) x no (where_key bits_cmp (is_from (drop 5 p) i) (entries c))))
 
   -- from q on there is in m: what is from p on in the node n, and then what is left of the frames
@@ -282,7 +260,7 @@ module _ {X : Type 0} where
     within = omega (arith, h, ap length e);
     fit = subst (λ gs. FitFrom 0 gs) (sym z) tt;
     room = omega (arith, ap length z, l);
-    from = (λ j. under (e j) (where_key bits_cmp (is_from q i) (entries m.entries)) ++ walk_rest (z j)) ∙ append_none _ ∙ under_none (where_key bits_cmp (is_from q i) (entries m.entries));
+    from = (λ j. under (e j) (where_key bits_cmp (is_from q i) (entries m.entries)) ++ walk_rest (z j)) ∙ append-nil _ ∙ under_none (where_key bits_cmp (is_from q i) (entries m.entries));
   }
 
   -- the frame of what is past the five bits goes on the stack

@@ -1,32 +1,31 @@
 -- The spare nodes of a node, as a key comes or goes below it.
-use Rattle.std.proofs.Common.{◌≡◌, ◌^◌, ◌<◌, ◌≤◌, Bool, true, false, cond, not, List, [], ◌∷◌, ℕ, zero, suc, length, take, drop, get_or, set, refl, sym, ap, subst, ◌∙◌, arith}
-use Rattle.std.specs.Prelude.{nat_lt, Option, Some, None}
+use Rattle.std.proofs.Common.{◌≡◌, ◌^◌, ◌<◌, ◌≤◌, Bool, cond, not, List, [], ◌∷◌, ℕ, zero, suc, length, take, drop, get_or, set, refl, sym, ap, subst, ◌∙◌, arith, inl, inr}
+use Rattle.std.specs.Prelude.{Option, Some, None}
 use Rattle.std.specs.FinMap.{get, put, len, empty, find, get-empty, get-retain_keys, same_map}
 use Rattle.std.specs.FinMap as map
 use Rattle.std.specs.Ordering.{nat_cmp}
-use Rattle.std.proofs.lemmas.Bool.Decides.{nat_tests}
 use Rattle.ipnet_blocks.specs.BitStrings.{bits_cmp, begins}
 use Rattle.trie_core.specs.InnerPlaces.{child_of, at_places, child_list, IsUnset}
 use Rattle.trie_core.specs.Nodes.{BitSet, Seen}
 use Rattle.trie_core.specs.InnerNodes.{IsNode}
 use Rattle.trie_core.specs.InnerCount.{marked, spare_set}
 use Rattle.trie_core.specs.Ways.{off_way}
-use Rattle.trie_core.proofs.Strings.{bits_total, bits_same, same, same-Decides, same_false, not_same}
-use Rattle.trie_core.proofs.Maps.{ListChanges}
+use Rattle.trie_core.proofs.Strings.{bits_total, bits_same}
+use Rattle.trie_core.proofs.Maps.{ListChanges, child_changes}
 use Rattle.trie_core.proofs.Named.{is_node, child_put_in, child_found}
 use Rattle.trie_core.proofs.Taken.{IsTaken, missing}
 use Rattle.trie_core.proofs.Count.{spare_pos}
 use Rattle.trie_core.proofs.Seen.{IsSeen}
-use Rattle.trie_core.proofs.Marks.{marked_get, marked-other, marked-root, root_if, set-short, set-long, set-changed}
-use Rattle.trie_core.proofs.Inside.{begins_longer, begins_below, begins_elsewhere}
+use Rattle.trie_core.proofs.Marks.{marked_get, marked-other, marked-root, root_if, set-short, set-long}
+use Rattle.trie_core.proofs.Inside.{begins_longer, begins_under_first, off_way_there}
 use Rattle.trie_core.proofs.Changes.{spare_insert, was_found}
+use Rattle.std.proofs.lemmas.Bool.{cases_lt}
 
 pub get-off : (b : BitSet) (q x : List Bool) → get (off_way b q) x ≡ cond (not (begins x q)) (get b x) None
 get-off b q x = get-retain_keys b (λ s. not (begins s q)) x (λ y e. ap (λ s. not (begins s q)) (sym (bits_same x y e)))
 
 pub no_choice : {Y : Type 0} (b : Bool) → ◌≡◌ {A = Option Y} (cond b None None) None
-no_choice true = refl
-no_choice false = refl
+no_choice b = grind arith
 
 pub off_none : (b : BitSet) (q : List Bool) → b ≡ empty → off_way b q ≡ empty
 off_none b q e = same_map bits_total bits_same _ _ (λ x. get-off b q x ∙ ap (λ o. cond (not (begins x q)) o None) (ap (λ c. get c x) e ∙ get-empty bits_cmp x) ∙ no_choice (not (begins x q)) ∙ sym (get-empty bits_cmp x))
@@ -38,28 +37,14 @@ root_if_some (suc n) h = refl
 module _ {X : Type 0} where
   -- ---- a key comes
 
-  off_by : (cs : List (List Bool × Seen X)) (q : List Bool) (o : Option (Seen X)) → 5 ≤ length q → ((r : List Bool) → marked_get o r ≡ cond (not (begins r (drop 5 q))) (marked_get (find bits_cmp (take 5 q) cs) r) None) → (x : List Bool) → 5 ≤ length x → (b : Bool) → same (take 5 x) (take 5 q) ≡ b
-      → marked_get (cond b o (find bits_cmp (take 5 x) cs)) (drop 5 x) ≡ cond (not (begins x q)) (marked_get (find bits_cmp (take 5 x) cs) (drop 5 x)) None
-  off_by cs q o h f x l true e =
-      let n = (same-Decides _ _).0 e in
-      f (drop 5 x) ∙ (λ i. cond (not (sym (begins_below x q l h (sym n)) i)) (marked_get (find bits_cmp (sym n i) cs) (drop 5 x)) None)
-  off_by cs q o h f x l false e = ap (λ b. cond (not b) (marked_get (find bits_cmp (take 5 x) cs) (drop 5 x)) None) (sym (begins_elsewhere x q l (not_back (take 5 x) (take 5 q) e)))
-    where
-      not_back : (a b : List Bool) → same a b ≡ false → same b a ≡ false
-      not_back a b e = same_false b a (λ p. not_same e (sym p))
-
-  set_off_by : {vs us : List (List Bool × X)} {cs ds : List (List Bool × Seen X)} (q : List Bool) (o : Option (Seen X)) → IsNode vs cs → IsNode us ds → 5 ≤ length q → ListChanges cs (take 5 q) o ds
-      → ((r : List Bool) → marked_get o r ≡ cond (not (begins r (drop 5 q))) (marked_get (find bits_cmp (take 5 q) cs) r) None) → (x : List Bool) (b : Bool) → nat_lt (length x) 5 ≡ b → get (spare_set ds) x ≡ cond (not (begins x q)) (get (spare_set cs) x) None
-  set_off_by q o n k h f g x true e =
-      let l : length x < 5 = grind (arith, nat_tests) in
-      set-short k x l ∙ sym (ap (λ o. cond (not (begins x q)) o None) (set-short n x l) ∙ no_choice (not (begins x q)))
-  set_off_by {cs = cs} q o n k h f g x false e =
-      let l : 5 ≤ length x = grind (arith, nat_tests) in
-      set-changed cs q o k f x l ∙ off_by cs q o h g x l _ refl ∙ ap (λ o. cond (not (begins x q)) o None) (sym (set-long n x l))
-
   set_off : {vs us : List (List Bool × X)} {cs ds : List (List Bool × Seen X)} (q : List Bool) (o : Option (Seen X)) → IsNode vs cs → IsNode us ds → 5 ≤ length q → ListChanges cs (take 5 q) o ds
       → ((r : List Bool) → marked_get o r ≡ cond (not (begins r (drop 5 q))) (marked_get (find bits_cmp (take 5 q) cs) r) None) → spare_set ds ≡ off_way (spare_set cs) q
-  set_off {cs = cs} q o n k h f g = same_map bits_total bits_same _ _ (λ x. set_off_by q o n k h f g x (nat_lt (length x) 5) refl ∙ sym (get-off (spare_set cs) q x))
+  set_off {cs = cs} {ds = ds} q o n k h f g = same_map bits_total bits_same _ _ (λ x.
+      child_changes marked_get (λ x p. cond (not (begins x q)) p None) cs ds q o (get (spare_set cs)) (get (spare_set ds)) (set-long n) (set-long k) h f
+      (λ x l. set-short k x l ∙ sym (ap (λ o. cond (not (begins x q)) o None) (set-short n x l) ∙ no_choice (not (begins x q))))
+      (λ r. g r ∙ ap (λ b. cond (not b) (marked_get (find bits_cmp (take 5 q) cs) r) None) (sym (begins_under_first q r h)))
+      (λ x p l e. ap (λ b. cond (not b) p None) (off_way_there q x l e)) x
+      ∙ sym (get-off (spare_set cs) q x))
 
   -- the marks of a child that got a key
   marked_off : (q : List Bool) (v : X) (e d : Seen X) → d.entries ≡ map.insert e.entries q v → d.spares ≡ off_way e.spares q → (r : List Bool) → get (marked d) r ≡ cond (not (begins r q)) (get (marked e) r) None
@@ -73,15 +58,10 @@ module _ {X : Type 0} where
 
   -- within the node no spare node is on the way
   pub short_off : {vb : ℕ} {vs : List X} {cb : ℕ} {cs : List (Seen X)} {m : Seen X} (q : List Bool) → IsSeen vb vs cb cs m → length q < 5 → m.spares ≡ off_way m.spares q
-  short_off {m = m} q s h = same_map bits_total bits_same _ _ (λ x. short_by x (nat_lt (length x) 5) refl ∙ sym (get-off m.spares q x))
-    where
-      short_by : (x : List Bool) (b : Bool) → nat_lt (length x) 5 ≡ b → get m.spares x ≡ cond (not (begins x q)) (get m.spares x) None
-      short_by x true e =
-          let z : get m.spares x ≡ None = ap (λ b. get b x) (sym s.spare) ∙ set-short s.node x (grind (arith, nat_tests)) in
-          z ∙ sym (ap (λ o. cond (not (begins x q)) o None) z ∙ no_choice (not (begins x q)))
-      short_by x false e =
-          let l : 5 ≤ length x = grind (arith, nat_tests) in
-          ap (λ b. cond (not b) (get m.spares x) None) (sym (begins_longer x q (omega (arith, l, h))))
+  short_off {m = m} q s h = same_map bits_total bits_same _ _ (λ x. elim (cases_lt (length x) 5) [
+    | inl l ↦ let z : get m.spares x ≡ None = ap (λ b. get b x) (sym s.spare) ∙ set-short s.node x l in z ∙ sym (get-off m.spares q x ∙ ap (λ o. cond (not (begins x q)) o None) z ∙ no_choice (not (begins x q)))
+    | inr l ↦ ap (λ b. cond (not b) (get m.spares x) None) (sym (begins_longer x q (omega (arith, l, h)))) ∙ sym (get-off m.spares q x)
+  ])
 
   -- in the child on the way, which is e and becomes d
   pub below_off : {vb at : ℕ} {vs : List X} {cb : ℕ} {cs : List (Seen X)} {m : Seen X} (q : List Bool) (v : X) (e d : Seen X) → IsSeen vb vs cb cs m → 5 ≤ length q → IsTaken (child_of q) at cb cs → e ≡ get_or cs at e → d.entries ≡ map.insert e.entries (drop 5 q) v → d.spares ≡ off_way e.spares (drop 5 q)

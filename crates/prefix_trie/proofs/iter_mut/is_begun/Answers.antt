@@ -2,7 +2,8 @@ use Rattle.std.proofs.Common.{◌≤◌, ◌∙◌, length, take, sym, ap, arith
 use Rattle.std.proofs.lemmas.Bool.Decides.{nat_tests}
 use Rattle.trie_core.proofs.Masked.{take-prefix_bits}
 use Rattle.trie_core.proofs.Strings.{same}
-use Rattle.prefix_trie.proofs.Within.{begins_first, begins_longer}
+use Rattle.trie_core.proofs.Inside.{begins_longer}
+use Rattle.prefix_trie.proofs.Within.{begins_first}
 use Rattle.prefix_trie.proofs.iter_mut.is_begun.Goals as goal
 
 pub returns-then-len : goal.returns-then-len

@@ -4,7 +4,7 @@ use Rattle.trie_core.specs.InnerNodes.{under}
 use Rattle.trie_core.specs.InnerFrames.{place_first, frame_rest, frame_levels, frame_weight, open_weight}
 use Rattle.trie_core.proofs.Seen.{seen}
 use Rattle.trie_core.proofs.Frames.{value_key, child_bits}
-use Rattle.trie_core.proofs.Opened.{all_open, is_opened, value_open, child_open, nothing_open, found_at, index_at, bit_open, lighter, below_way}
+use Rattle.trie_core.proofs.Opened.{all_open, is_opened, value_open, child_open, nothing_open, index_at, bit_open, lighter, below_way}
 use Rattle.trie_core.proofs.lent_frame.LentFrameFrame.next.Goals as goal
 
 pub index-value-requires : goal.index-value-requires
@@ -20,26 +20,18 @@ with-key-requires-clause-room g c =
 
 pub with-key-requires-clause-within : goal.with-key-requires-clause-within
 with-key-requires-clause-within g c =
-    let s = seen c.node.invariant c.node.view_is in
     let p = c.in-Some-value_place.place in
-    let f = c.in-Some-value_place.ensures in
     let x = c.index-value.result.now in
-    let e = found_at c.self.inside.values c.node.inside.value_bits p c.taken_below.result c.node.inside.values.items x f s.slots.values_counted c.taken_below.ensures c.index-value.ensures in
-    let h = ap (λ o. place_first o c.first_in-child_place.result) (sym c.in-Some-value_place.is) ∙ sym c.if-value_first.ensures in
     let o = is_opened c.args.way.now c.self.inside.values c.self.inside.children c.in-Some.is c.self.view_is c.requires.levels c.requires.keys in
-    let n = value_open c.self.inside.values c.self.inside.children p x c.first_in-child_place.result s o f c.first_in-child_place.ensures h e in
+    let n = value_open c.self.inside.values c.self.inside.children p c.taken_below.result x _ c.first_in-child_place.result (seen c.node.invariant c.node.view_is) o c.in-Some-value_place.ensures c.first_in-child_place.ensures c.in-Some-value_place.is (sym c.if-value_first.ensures) c.taken_below.ensures c.index-value.ensures in
     omega (arith, n.within, c.place_length.ensures.value)
 
 pub returns-then-value_first-clause-next : goal.returns-then-value_first-clause-next
 returns-then-value_first-clause-next g c =
-    let s = seen c.node.invariant c.node.view_is in
     let p = c.in-Some-value_place.place in
-    let f = c.in-Some-value_place.ensures in
     let x = c.index-value.result.now in
-    let e = found_at c.self.inside.values c.node.inside.value_bits p c.taken_below.result c.node.inside.values.items x f s.slots.values_counted c.taken_below.ensures c.index-value.ensures in
-    let h = ap (λ o. place_first o c.first_in-child_place.result) (sym c.in-Some-value_place.is) ∙ sym c.if-value_first.ensures in
     let o = is_opened c.args.way.now c.self.inside.values c.self.inside.children c.in-Some.is c.self.view_is c.requires.levels c.requires.keys in
-    let n = value_open c.self.inside.values c.self.inside.children p x c.first_in-child_place.result s o f c.first_in-child_place.ensures h e in
+    let n = value_open c.self.inside.values c.self.inside.children p c.taken_below.result x _ c.first_in-child_place.result (seen c.node.invariant c.node.view_is) o c.in-Some-value_place.ensures c.first_in-child_place.ensures c.in-Some-value_place.is (sym c.if-value_first.ensures) c.taken_below.ensures c.index-value.ensures in
     let way = c.args.way.now in (
       ap (λ s. under way s.0) (sym c.self.view_is)
           ∙ ap (λ o. under way (frame_rest o c.self.inside.values c.self.inside.children)) c.in-Some.is
@@ -64,33 +56,25 @@ overflow_sub-self-2 g c = omega (arith, c.bit-2.ensures, bit_open c.self.inside.
 
 pub with-requires-clause-within : goal.with-requires-clause-within
 with-requires-clause-within g c =
-    let s = seen c.node.invariant c.node.view_is in
     let b = seen c.below.invariant c.below.view_is in
     let p = c.in-Some-child_place.place in
-    let f = c.in-Some-child_place.ensures in
     let d = c.index-below.result.now in
-    let e = found_at c.self.inside.children c.node.inside.child_bits p c.taken_below-2.result c.node.inside.children.items d f s.slots.children_counted c.taken_below-2.ensures c.index-below.ensures in
-    let h = ap (place_first c.first_in-value_place.result) (sym c.in-Some-child_place.is) ∙ sym c.if-value_first.ensures in
     let o = is_opened c.args.way.now c.self.inside.values c.self.inside.children c.in-Some.is c.self.view_is c.requires.levels c.requires.keys in
-    let n = child_open c.self.inside.values c.self.inside.children p d c.first_in-value_place.result s o c.first_in-value_place.ensures f h e (omega (arith, b.height)) in
+    let n = child_open c.self.inside.values c.self.inside.children p c.taken_below-2.result d c.first_in-value_place.result _ (seen c.node.invariant c.node.view_is) o c.first_in-value_place.ensures c.in-Some-child_place.ensures c.in-Some-child_place.is (sym c.if-value_first.ensures) c.taken_below-2.ensures c.index-below.ensures (omega (arith, b.height)) in
     n.within
 
 pub returns-clause-next : goal.returns-clause-next
 returns-clause-next g c =
-    let s = seen c.node.invariant c.node.view_is in
     let b = seen c.below.invariant c.below.view_is in
     let p = c.in-Some-child_place.place in
-    let f = c.in-Some-child_place.ensures in
     let d = c.index-below.result.now in
-    let e = found_at c.self.inside.children c.node.inside.child_bits p c.taken_below-2.result c.node.inside.children.items d f s.slots.children_counted c.taken_below-2.ensures c.index-below.ensures in
-    let h = ap (place_first c.first_in-value_place.result) (sym c.in-Some-child_place.is) ∙ sym c.if-value_first.ensures in
     let o = is_opened c.args.way.now c.self.inside.values c.self.inside.children c.in-Some.is c.self.view_is c.requires.levels c.requires.keys in
-    let n = child_open c.self.inside.values c.self.inside.children p d c.first_in-value_place.result s o c.first_in-value_place.ensures f h e (omega (arith, b.height)) in
+    let n = child_open c.self.inside.values c.self.inside.children p c.taken_below-2.result d c.first_in-value_place.result _ (seen c.node.invariant c.node.view_is) o c.first_in-value_place.ensures c.in-Some-child_place.ensures c.in-Some-child_place.is (sym c.if-value_first.ensures) c.taken_below-2.ensures c.index-below.ensures (omega (arith, b.height)) in
     let way = c.args.way.now in
     let m = c.in-Some.node.now in
     let w = c.with.ensures ∙ ap (λ t. way ++ t) (child_bits p) in
     let u = below_way way p w in
-    let l = lighter m d c.self.inside.children p n.smaller (bit_open c.self.inside.children c.node.inside.child_bits p f) in (
+    let l = lighter m d c.self.inside.children p n.smaller (bit_open c.self.inside.children c.node.inside.child_bits p c.in-Some-child_place.ensures) in (
       ap (λ s. under way s.0) (sym c.self.view_is)
           ∙ ap (λ o. under way (frame_rest o c.self.inside.values c.self.inside.children)) c.in-Some.is
           ∙ n.rest

@@ -1,14 +1,11 @@
 use Rattle.std.proofs.Common.{◌∙◌, sym, ap, length, arith}
-use Rattle.std.specs.Prelude.{Option, Some, None, IfSome, IfNone}
+use Rattle.std.specs.Prelude.{Option, Some, None, IfNone}
 use Rattle.std.specs.FinMap.{get}
 use Rattle.trie_core.proofs.Seen.{seen, viewed}
-use Rattle.trie_core.proofs.Changes.{way, was, set_slots, absent}
+use Rattle.trie_core.proofs.Changes.{way, was, set_slots, absent, child_slots}
 use Rattle.trie_core.proofs.Exchanges.{not_short, in_room, same_below, exchanged_below, exchanged_new}
 use Rattle.trie_core.proofs.node.Node.+exchange.Goals as goal
-
-if_some : {T : Type 0} {P Q : T → Type 0} (o : Option T) → ((x : T) → P x → Q x) → IfSome o P → IfSome o Q
-if_some None f p = tt
-if_some (Some x) f p = f x p
+use Rattle.std.proofs.lemmas.Option.{IfSome_then}
 
 on_none : {T P Q : Type 0} (o : Option T) → (P → Q) → IfNone o P → IfNone o Q
 on_none None f p = f p
@@ -19,7 +16,7 @@ if_none None p = p
 if_none (Some x) p = tt
 
 pub returns-then-is_short-clause-stored : goal.returns-then-is_short-clause-stored
-returns-then-is_short-clause-stored g t c = if_some c.exchange_here.result (λ n x. in_room c.args.room x) c.exchange_here.ensures.stored
+returns-then-is_short-clause-stored g t c = IfSome_then c.exchange_here.result c.exchange_here.ensures.stored (λ n x. in_room c.args.room x)
 
 -- ---- in a child
 
@@ -34,9 +31,7 @@ invariant_of-self g t c =
 pub returns-in-Some-clause-stored : goal.returns-in-Some-clause-stored
 returns-in-Some-clause-stored g t c =
     let s = seen c.self.invariant c.self.view_is in
-    if_some c.exchange.result
-    (λ n x. exchanged_below c.args.path c.index_mut-child.result.now c.exchange.new.self s (not_short c.args.path c.is_short.ensures c.if-is_short.false) (way c.args.path s c.five-number.ensures.value c.in-Some.ensures) c.index_mut-child.ensures.value c.rest.ensures c.requires x)
-    c.exchange.ensures.stored
+    IfSome_then c.exchange.result c.exchange.ensures.stored (λ n x. exchanged_below c.args.path c.index_mut-child.result.now c.exchange.new.self s (not_short c.args.path c.is_short.ensures c.if-is_short.false) (way c.args.path s c.five-number.ensures.value c.in-Some.ensures) c.index_mut-child.ensures.value c.rest.ensures c.requires x)
 
 pub returns-in-Some-clause-unchanged : goal.returns-in-Some-clause-unchanged
 returns-in-Some-clause-unchanged g t c = on_none c.exchange.result (same_below c.self.inside.value_bits c.in-Some.at c.self.inside.values.items c.self.inside.child_bits c.self.inside.children.items c.index_mut-child.result.now c.exchange.new.self c.self.view_is c.index_mut-child.ensures.value) c.exchange.ensures.unchanged
@@ -54,20 +49,10 @@ returns-then-not-may_grow-clause-absent g t c =
     absent c.args.path (seen c.self.invariant c.self.view_is) (not_short c.args.path c.is_short.ensures c.if-is_short.false) c.five-number.ensures.value c.in_default.ensures
 
 pub invariant_of-self-then-is_err : goal.invariant_of-self-then-is_err
-invariant_of-self-then-is_err g t c = record {
-  values_counted = c.self.invariant.values_counted;
-  values_below = c.self.invariant.values_below;
-  children_counted = c.self.invariant.children_counted ∙ ap length (sym c.reserve_some.ensures.items);
-  children_below = c.self.invariant.children_below;
-}
+invariant_of-self-then-is_err g t c = child_slots c.self.invariant (c.self.invariant.children_counted ∙ ap length (sym c.reserve_some.ensures.items)) c.self.invariant.children_below
 
 pub invariant_of-self-in_err-made : goal.invariant_of-self-in_err-made
-invariant_of-self-in_err-made g t c = record {
-  values_counted = c.self.invariant.values_counted;
-  values_below = c.self.invariant.values_below;
-  children_counted = c.self.invariant.children_counted ∙ ap length (sym c.reserve_some.ensures.items);
-  children_below = c.self.invariant.children_below;
-}
+invariant_of-self-in_err-made g t c = child_slots c.self.invariant (c.self.invariant.children_counted ∙ ap length (sym c.reserve_some.ensures.items)) c.self.invariant.children_below
 
 pub returns-in_err-made-clause-unchanged : goal.returns-in_err-made-clause-unchanged
 returns-in_err-made-clause-unchanged g t c = if_none c.from_residual.result (ap (viewed c.self.inside.value_bits c.self.inside.values.items c.self.inside.child_bits) c.reserve_some.ensures.items ∙ c.self.view_is)
@@ -84,9 +69,4 @@ returns-clause-stored g t c =
     c.new-child.ensures.map c.new-child.ensures.spares c.new-child.ensures.levels c.rest-2.ensures c.requires c.if-not-may_grow.false (omega (arith, x.within)) x
 
 pub invariant_of-self-2 : goal.invariant_of-self-2
-invariant_of-self-2 g t c = record {
-  values_counted = c.self.invariant.values_counted;
-  values_below = c.self.invariant.values_below;
-  children_counted = c.in-Ok.ensures.counted;
-  children_below = c.in-Ok.ensures.below 32 c.five-number.ensures.below c.self.invariant.children_below;
-}
+invariant_of-self-2 g t c = child_slots c.self.invariant c.in-Ok.ensures.counted (c.in-Ok.ensures.below 32 c.five-number.ensures.below c.self.invariant.children_below)

@@ -5,8 +5,8 @@ use Rattle.ipnet_blocks.specs.BitStrings.{begins}
 use Rattle.trie_core.specs.Ways.{IsCut}
 use Rattle.trie_core.proofs.Seen.{seen}
 use Rattle.trie_core.proofs.Changes.{way, not_bare}
-use Rattle.trie_core.proofs.Left.{left_none, left_set, left_removed, cut_short, cut_elsewhere, cut_below}
-use Rattle.trie_core.proofs.Inside.{child_entries, child_nodes}
+use Rattle.trie_core.proofs.Left.{left_none, left_set, left_removed, cut_short}
+use Rattle.trie_core.proofs.Inside.{child_entries, child_nodes, begins_elsewhere, begins_below}
 use Rattle.trie_core.proofs.Removals.{longer, removed_none, removed_below, removed_child}
 use Rattle.trie_core.proofs.node.Node.+remove_inside.Goals as goal
 
@@ -37,7 +37,7 @@ returns-in-None-clause-removed g t c = removed_none c.args.path.now (seen c.self
 pub returns-in-None-clause-spares : goal.returns-in-None-clause-spares
 returns-in-None-clause-spares g t c =
     let h = longer c.args.path.now c.len.ensures c.if-len-le5.false in
-    left_none (begins c.args.path.now) c.args.path.now (seen c.self.invariant c.self.view_is) h (cut_elsewhere c.args.path.now h) c.five-number.ensures.value c.in-None.ensures
+    left_none (begins c.args.path.now) c.args.path.now (seen c.self.invariant c.self.view_is) h (λ x l e. begins_elsewhere c.args.path.now x h e) c.five-number.ensures.value c.in-None.ensures
 
 -- ---- the child goes
 
@@ -57,7 +57,7 @@ pub returns-then-is_bare-clause-spares : goal.returns-then-is_bare-clause-spares
 returns-then-is_bare-clause-spares g t c =
     let h = longer c.args.path.now c.len.ensures c.if-len-le5.false in
     let s = seen c.self.invariant c.self.view_is in
-    left_removed (begins c.args.path.now) c.args.path.now s h (cut_elsewhere c.args.path.now h) (begins (drop 5 c.args.path.now)) c.index_mut-child.result.now c.remove_inside-entries.new.self (way c.args.path.now s c.five-number.ensures.value c.in-Some.ensures) c.index_mut-child.ensures.value (cut_below c.args.path.now h)
+    left_removed (begins c.args.path.now) c.args.path.now s h (λ x l e. begins_elsewhere c.args.path.now x h e) (begins (drop 5 c.args.path.now)) c.index_mut-child.result.now c.remove_inside-entries.new.self (way c.args.path.now s c.five-number.ensures.value c.in-Some.ensures) c.index_mut-child.ensures.value (λ x. begins_below c.args.path.now x h)
     (subst (λ q. IsCut q c.index_mut-child.result.now.spares c.remove_inside-entries.new.self.entries c.remove_inside-entries.new.self.spares) c.rest.ensures c.remove_inside-entries.ensures.spares)
     (c.if-is_bare.ensures.bare.0 refl).1 (c.bit.ensures ∙ ap (λ i. 2 ^ i) c.five-number.ensures.value) c.remove.ensures.items
 
@@ -72,6 +72,6 @@ pub returns-else-is_bare-clause-spares : goal.returns-else-is_bare-clause-spares
 returns-else-is_bare-clause-spares g t c =
     let h = longer c.args.path.now c.len.ensures c.if-len-le5.false in
     let s = seen c.self.invariant c.self.view_is in
-    left_set (begins c.args.path.now) c.args.path.now s h (cut_elsewhere c.args.path.now h) (begins (drop 5 c.args.path.now)) c.index_mut-child.result.now c.remove_inside-entries.new.self (way c.args.path.now s c.five-number.ensures.value c.in-Some.ensures) c.index_mut-child.ensures.value (cut_below c.args.path.now h)
+    left_set (begins c.args.path.now) c.args.path.now s h (λ x l e. begins_elsewhere c.args.path.now x h e) (begins (drop 5 c.args.path.now)) c.index_mut-child.result.now c.remove_inside-entries.new.self (way c.args.path.now s c.five-number.ensures.value c.in-Some.ensures) c.index_mut-child.ensures.value (λ x. begins_below c.args.path.now x h)
     (subst (λ q. IsCut q c.index_mut-child.result.now.spares c.remove_inside-entries.new.self.entries c.remove_inside-entries.new.self.spares) c.rest.ensures c.remove_inside-entries.ensures.spares)
     (not_bare c.remove_inside-entries.new.self c.is_bare.result c.is_bare.ensures.bare.1 c.if-is_bare.false)

@@ -1,7 +1,8 @@
 use Rattle.std.proofs.Common.{◌∙◌, arith}
 use Rattle.trie_core.specs.Inside.{outside}
 use Rattle.trie_core.proofs.Inside.{outside_split}
-use Rattle.trie_core.proofs.Removals.{as_number, removed_parts}
+use Rattle.trie_core.proofs.Longer.{as_number}
+use Rattle.trie_core.proofs.Removals.{removed_parts}
 use Rattle.trie_core.proofs.node.Node.+take_inside.Goals as goal
 
 pub overflow_add-result : goal.overflow_add-result

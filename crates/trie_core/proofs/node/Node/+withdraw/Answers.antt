@@ -3,7 +3,7 @@ use Rattle.std.specs.FinMap.{get, remove}
 use Rattle.trie_core.specs.Ways.{IsPruned}
 use Rattle.trie_core.proofs.Maps.{remove_absent}
 use Rattle.trie_core.proofs.Seen.{seen}
-use Rattle.trie_core.proofs.Changes.{way, was, set_slots, set_taken, set_count, set_height, was_lower, not_bare, absent, pruned}
+use Rattle.trie_core.proofs.Changes.{way, was, set_slots, set_taken, set_count, set_height, was_lower, not_bare, absent, pruned, childless, set_removed}
 use Rattle.trie_core.proofs.Left.{left_none, left_set, left_removed}
 use Rattle.trie_core.proofs.Exchanges.{not_short}
 use Rattle.trie_core.proofs.node.Node.+withdraw.Goals as goal
@@ -40,87 +40,49 @@ pub invariant_of-self : goal.invariant_of-self
 invariant_of-self g t c =
     let h = not_short c.args.path c.is_short.ensures c.if-is_short.false in
     let s = seen c.self.invariant c.self.view_is in
-    (pruned c.args.path c.index_mut-child.result.now c.withdraw-gone.new.self s h (way c.args.path s c.five-number.ensures.value c.in-Some.ensures) c.index_mut-child.ensures.value (c.withdraw-gone.ensures.map ∙ ap (remove c.index_mut-child.result.now.entries) c.rest.ensures) (c.if-is_bare.ensures.bare.0 refl).0 (c.bit.ensures ∙ ap (λ i. 2 ^ i) c.five-number.ensures.value) c.remove.ensures.items).slots
+    (childless c.args.path c.index_mut-child.result.now s h (way c.args.path s c.five-number.ensures.value c.in-Some.ensures) c.index_mut-child.ensures.value (c.bit.ensures ∙ ap (λ i. 2 ^ i) c.five-number.ensures.value) (c.remove.ensures.items ∙ set_removed c.self.inside.children.items c.in-Some.at c.withdraw-gone.new.self)).slots
 
-pub returns-then-is_bare-clause-value : goal.returns-then-is_bare-clause-value
-returns-then-is_bare-clause-value g t c =
+pub returns-then-is_bare : goal.returns-then-is_bare
+returns-then-is_bare g t c =
     let h = not_short c.args.path c.is_short.ensures c.if-is_short.false in
     let s = seen c.self.invariant c.self.view_is in
-    c.withdraw-gone.ensures.value ∙ ap (get c.index_mut-child.result.now.entries) c.rest.ensures
-    ∙ was c.args.path c.index_mut-child.result.now s h (way c.args.path s c.five-number.ensures.value c.in-Some.ensures) c.index_mut-child.ensures.value
-
-pub returns-then-is_bare-clause-map : goal.returns-then-is_bare-clause-map
-returns-then-is_bare-clause-map g t c =
-    let h = not_short c.args.path c.is_short.ensures c.if-is_short.false in
-    let s = seen c.self.invariant c.self.view_is in
-    (pruned c.args.path c.index_mut-child.result.now c.withdraw-gone.new.self s h (way c.args.path s c.five-number.ensures.value c.in-Some.ensures) c.index_mut-child.ensures.value (c.withdraw-gone.ensures.map ∙ ap (remove c.index_mut-child.result.now.entries) c.rest.ensures) (c.if-is_bare.ensures.bare.0 refl).0 (c.bit.ensures ∙ ap (λ i. 2 ^ i) c.five-number.ensures.value) c.remove.ensures.items).map
-
-pub returns-then-is_bare-clause-spares : goal.returns-then-is_bare-clause-spares
-returns-then-is_bare-clause-spares g t c =
-    let h = not_short c.args.path c.is_short.ensures c.if-is_short.false in
-    let s = seen c.self.invariant c.self.view_is in
-    left_removed (λ x. false) c.args.path s h (λ x l e. refl) (λ x. false) c.index_mut-child.result.now c.withdraw-gone.new.self (way c.args.path s c.five-number.ensures.value c.in-Some.ensures) c.index_mut-child.ensures.value (λ x. refl)
-    (subst (λ q. IsPruned q c.index_mut-child.result.now.spares c.withdraw-gone.new.self.entries c.withdraw-gone.new.self.spares) c.rest.ensures c.withdraw-gone.ensures.spares)
-    (c.if-is_bare.ensures.bare.0 refl).1 (c.bit.ensures ∙ ap (λ i. 2 ^ i) c.five-number.ensures.value) c.remove.ensures.items
-
-pub returns-then-is_bare-clause-count : goal.returns-then-is_bare-clause-count
-returns-then-is_bare-clause-count g t c =
-    let h = not_short c.args.path c.is_short.ensures c.if-is_short.false in
-    let s = seen c.self.invariant c.self.view_is in
-    let p = pruned c.args.path c.index_mut-child.result.now c.withdraw-gone.new.self s h (way c.args.path s c.five-number.ensures.value c.in-Some.ensures) c.index_mut-child.ensures.value (c.withdraw-gone.ensures.map ∙ ap (remove c.index_mut-child.result.now.entries) c.rest.ensures) (c.if-is_bare.ensures.bare.0 refl).0 (c.bit.ensures ∙ ap (λ i. 2 ^ i) c.five-number.ensures.value) c.remove.ensures.items in
-    omega (arith, p.count, c.withdraw-gone.ensures.count, c.if-is_bare.ensures.count refl)
-
-pub returns-then-is_bare-clause-levels : goal.returns-then-is_bare-clause-levels
-returns-then-is_bare-clause-levels g t c =
-    let h = not_short c.args.path c.is_short.ensures c.if-is_short.false in
-    let s = seen c.self.invariant c.self.view_is in
-    (pruned c.args.path c.index_mut-child.result.now c.withdraw-gone.new.self s h (way c.args.path s c.five-number.ensures.value c.in-Some.ensures) c.index_mut-child.ensures.value (c.withdraw-gone.ensures.map ∙ ap (remove c.index_mut-child.result.now.entries) c.rest.ensures) (c.if-is_bare.ensures.bare.0 refl).0 (c.bit.ensures ∙ ap (λ i. 2 ^ i) c.five-number.ensures.value) c.remove.ensures.items).height
-
-pub returns-then-is_bare-clause-within : goal.returns-then-is_bare-clause-within
-returns-then-is_bare-clause-within g t c =
-    let h = not_short c.args.path c.is_short.ensures c.if-is_short.false in
+    let e = c.index_mut-child.result.now in
+    let d = c.withdraw-gone.new.self in
+    let r = c.index_mut-child.ensures.value in
+    let w = way c.args.path s c.five-number.ensures.value c.in-Some.ensures in
+    let bare = c.if-is_bare.ensures.bare.0 refl in
+    let b = c.bit.ensures ∙ ap (λ i. 2 ^ i) c.five-number.ensures.value in
+    let p = childless c.args.path e s h w r b (c.remove.ensures.items ∙ set_removed c.self.inside.children.items c.in-Some.at d) in
     let l : length c.rest.result ≡ length c.args.path - 5 = ap length c.rest.ensures ∙ length-drop 5 c.args.path in
-    omega (arith, h, l, c.withdraw-gone.ensures.within)
+    record {
+      value = c.withdraw-gone.ensures.value ∙ ap (get e.entries) c.rest.ensures ∙ was c.args.path e s h w r;
+      map = pruned c.args.path e d s h w r p (c.withdraw-gone.ensures.map ∙ ap (remove e.entries) c.rest.ensures) bare.0;
+      spares = left_removed (λ x. false) c.args.path s h (λ x l e. refl) (λ x. false) e d w r (λ x. refl) (subst (λ q. IsPruned q e.spares d.entries d.spares) c.rest.ensures c.withdraw-gone.ensures.spares) bare.1 b c.remove.ensures.items;
+      count = omega (arith, p.count, c.withdraw-gone.ensures.count, c.if-is_bare.ensures.count refl);
+      levels = p.height;
+      within = omega (arith, h, l, c.withdraw-gone.ensures.within);
+    }
 
 -- ---- the child stays
 
-pub returns-else-is_bare-clause-value : goal.returns-else-is_bare-clause-value
-returns-else-is_bare-clause-value g t c =
+pub returns-else-is_bare : goal.returns-else-is_bare
+returns-else-is_bare g t c =
     let h = not_short c.args.path c.is_short.ensures c.if-is_short.false in
     let s = seen c.self.invariant c.self.view_is in
-    c.withdraw-gone.ensures.value ∙ ap (get c.index_mut-child.result.now.entries) c.rest.ensures
-    ∙ was c.args.path c.index_mut-child.result.now s h (way c.args.path s c.five-number.ensures.value c.in-Some.ensures) c.index_mut-child.ensures.value
-
-pub returns-else-is_bare-clause-map : goal.returns-else-is_bare-clause-map
-returns-else-is_bare-clause-map g t c =
-    let h = not_short c.args.path c.is_short.ensures c.if-is_short.false in
-    let s = seen c.self.invariant c.self.view_is in
-    set_taken c.args.path c.index_mut-child.result.now c.withdraw-gone.new.self s h (way c.args.path s c.five-number.ensures.value c.in-Some.ensures) c.index_mut-child.ensures.value (c.withdraw-gone.ensures.map ∙ ap (remove c.index_mut-child.result.now.entries) c.rest.ensures)
-
-pub returns-else-is_bare-clause-spares : goal.returns-else-is_bare-clause-spares
-returns-else-is_bare-clause-spares g t c =
-    let h = not_short c.args.path c.is_short.ensures c.if-is_short.false in
-    let s = seen c.self.invariant c.self.view_is in
-    left_set (λ x. false) c.args.path s h (λ x l e. refl) (λ x. false) c.index_mut-child.result.now c.withdraw-gone.new.self (way c.args.path s c.five-number.ensures.value c.in-Some.ensures) c.index_mut-child.ensures.value (λ x. refl)
-    (subst (λ q. IsPruned q c.index_mut-child.result.now.spares c.withdraw-gone.new.self.entries c.withdraw-gone.new.self.spares) c.rest.ensures c.withdraw-gone.ensures.spares)
-    (not_bare c.withdraw-gone.new.self c.is_bare.result c.is_bare.ensures.bare.1 c.if-is_bare.false)
-
-pub returns-else-is_bare-clause-count : goal.returns-else-is_bare-clause-count
-returns-else-is_bare-clause-count g t c =
-    let s = seen c.self.invariant c.self.view_is in
-    omega (arith, set_count c.args.path c.index_mut-child.result.now c.withdraw-gone.new.self s (way c.args.path s c.five-number.ensures.value c.in-Some.ensures) c.index_mut-child.ensures.value, c.withdraw-gone.ensures.count)
-
-pub returns-else-is_bare-clause-levels : goal.returns-else-is_bare-clause-levels
-returns-else-is_bare-clause-levels g t c =
-    let s = seen c.self.invariant c.self.view_is in
+    let e = c.index_mut-child.result.now in
+    let d = c.withdraw-gone.new.self in
+    let r = c.index_mut-child.ensures.value in
     let w = way c.args.path s c.five-number.ensures.value c.in-Some.ensures in
-    omega (arith, set_height c.in-Some.at c.withdraw-gone.new.self s, was_lower c.args.path c.index_mut-child.result.now s w c.index_mut-child.ensures.value, c.withdraw-gone.ensures.levels)
-
-pub returns-else-is_bare-clause-within : goal.returns-else-is_bare-clause-within
-returns-else-is_bare-clause-within g t c =
-    let h = not_short c.args.path c.is_short.ensures c.if-is_short.false in
+    let full = not_bare d c.is_bare.result c.is_bare.ensures.bare.1 c.if-is_bare.false in
     let l : length c.rest.result ≡ length c.args.path - 5 = ap length c.rest.ensures ∙ length-drop 5 c.args.path in
-    omega (arith, h, l, c.withdraw-gone.ensures.within)
+    record {
+      value = c.withdraw-gone.ensures.value ∙ ap (get e.entries) c.rest.ensures ∙ was c.args.path e s h w r;
+      map = set_taken c.args.path e d s h w r (c.withdraw-gone.ensures.map ∙ ap (remove e.entries) c.rest.ensures);
+      spares = left_set (λ x. false) c.args.path s h (λ x l e. refl) (λ x. false) e d w r (λ x. refl) (subst (λ q. IsPruned q e.spares d.entries d.spares) c.rest.ensures c.withdraw-gone.ensures.spares) full;
+      count = omega (arith, set_count c.args.path e d s w r, c.withdraw-gone.ensures.count);
+      levels = omega (arith, set_height c.in-Some.at d s, was_lower c.args.path e s w r, c.withdraw-gone.ensures.levels);
+      within = omega (arith, h, l, c.withdraw-gone.ensures.within);
+    }
 
 pub invariant_of-self-else-is_bare : goal.invariant_of-self-else-is_bare
 invariant_of-self-else-is_bare g t c =

@@ -1,8 +1,8 @@
 use Rattle.std.proofs.Common.{◌^◌, ◌∙◌, ap, subst, arith}
 use Rattle.trie_core.specs.InnerNodes.{AreBelow}
 use Rattle.trie_core.proofs.Seen.{seen}
-use Rattle.trie_core.proofs.Changes.{way}
-use Rattle.trie_core.proofs.Inside.{none_left, gone, child_entries, child_nodes}
+use Rattle.trie_core.proofs.Changes.{way, childless}
+use Rattle.trie_core.proofs.Inside.{child_entries, child_nodes}
 use Rattle.trie_core.proofs.Left.{set_below, out_none, out_child}
 use Rattle.trie_core.proofs.Removals.{removed_none, removed_whole}
 use Rattle.trie_core.proofs.node.Node.take_child.Goals as goal
@@ -23,7 +23,7 @@ counts-requires-clause-nodes g c =
 pub invariant_of-self : goal.invariant_of-self
 invariant_of-self g c =
     let s = seen c.self.invariant c.self.view_is in
-    (gone c.args.path.now c.remove-child.result s (omega (arith, c.requires.five)) (way c.args.path.now s c.five-number.ensures.value c.in-Some.ensures) c.remove-child.ensures.value (none_left c.remove-child.result.entries c.args.path.now c.requires.five) (c.bit.ensures ∙ ap (λ i. 2 ^ i) c.five-number.ensures.value) c.remove-child.ensures.items).slots
+    (childless c.args.path.now c.remove-child.result s (omega (arith, c.requires.five)) (way c.args.path.now s c.five-number.ensures.value c.in-Some.ensures) c.remove-child.ensures.value (c.bit.ensures ∙ ap (λ i. 2 ^ i) c.five-number.ensures.value) c.remove-child.ensures.items).slots
 
 pub returns-in-None-clause-removed : goal.returns-in-None-clause-removed
 returns-in-None-clause-removed g c = removed_none c.args.path.now (seen c.self.invariant c.self.view_is) (omega (arith, c.requires.five)) c.five-number.ensures.value c.in-None.ensures
