@@ -44,7 +44,6 @@ pub long_at : {B : Type 0} (string : B → List Bool) (d : ℕ) (ps : List (B ×
 long_at string d ps i x h l e = subst (λ y. d < length (string y.0)) (sym e) (h i x l)
 
 module _ {B : Type 0} (string : B → List Bool) where
-
   after_true : (a : List Bool) (d : ℕ) (ps : List (B × ℕ)) → begins (true ∷ []) a ≡ true → BeforeAll a (beyond string d ps) → AllBegin true (beyond string d ps)
   after_true a d [] h k = tt
   after_true a d (p ∷ ps) h k = (before_true a _ h k.0, after_true a d ps h k.1)

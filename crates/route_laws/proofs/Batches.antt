@@ -82,8 +82,11 @@ module _ (x : Address) (a : IsAddress x) where
       let p = painted_is_table M m r k.0 k.1 in
       let h = hop_at (painted M r) x in
       ⊎_elim
-      (λ e. (h, once_joined x M (between M (painted M r)) (batch (painted M r) rs) h (turned M m r k)
-      (next M m r k h (batch (painted M r) rs) (none_turn (painted M r) rs p (λ s i. c s (inr i)) (λ s i. u.0 s i x (has_from_test r.block x e))))))
+      (λ e. (
+        h,
+        once_joined x M (between M (painted M r)) (batch (painted M r) rs) h (turned M m r k)
+            (next M m r k h (batch (painted M r) rs) (none_turn (painted M r) rs p (λ s i. c s (inr i)) (λ s i. u.0 s i x (has_from_test r.block x e)))),
+      ))
       (λ e. let t = batch_once (painted M r) rs p (λ s i. c s (inr i)) u.1 in
       (t.0, settled_then_once x M (between M (painted M r)) (batch (painted M r) rs) h t.0 (sym (same M m r k e)) (turned M m r k) (next M m r k t.0 (batch (painted M r) rs) t.1)))
       (cases_Bool (has_address r.block x))

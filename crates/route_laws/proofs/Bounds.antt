@@ -223,8 +223,11 @@ pub governed_bound : (M : List Route) (n : Block) (bs : List Block) → IsTable 
 governed_bound M n bs table ok max =
     let h = hop M table n ok in
     let found = no_more (λ b (p : Piece). b ≡ p.block) bs (flat_in h (free_bits n) n) (Distinct-from_Rising IsBefore strict bs (Rising-from_pairs IsBefore bs max.ascending))
-    (λ b i. let m = (max.exact b).0 (Contains-from_In bs b i) in
-    (record { block = b; number = 0 }, complete h (free_bits n) n ok refl (record { block = b; number = 0 })
-    (maximal_same (Governed M n) (λ x. h x ≡ Some 0) (λ x a g. hop_of_governed M table n ok x g) (λ x a e. governed_from_hop M table n ok x e) b m) (λ x k. Governed.inside (m.within.all x k)), refl))
+    (λ b i. let m = (max.exact b).0 (Contains-from_In bs b i) in (
+      record { block = b; number = 0 },
+      complete h (free_bits n) n ok refl (record { block = b; number = 0 })
+          (maximal_same (Governed M n) (λ x. h x ≡ Some 0) (λ x a g. hop_of_governed M table n ok x g) (λ x a e. governed_from_hop M table n ok x e) b m) (λ x k. Governed.inside (m.within.all x k)),
+      refl,
+    ))
     (λ a c p i j e f. e ∙ sym f) in
     omega (arith, found, few_by h (λ t. sum_by (weight 1 t) M) n (λ t okt i room. rule M table n ok t okt i room) (free_bits n) n ok (λ x m. m) refl, sum_by-le-sum_by (weight 1 n) (λ r. excess n r.block) M (excess_of n))

@@ -62,5 +62,10 @@ flat_bound M table ps flat f =
     same_rising Sooner (λ p q. strict p.block q.block) (pieces_in f ps) (flat_in (hop_at M) (width f) (family_block f)) (Rising-kept Sooner of ps (Rising-from_pairs Sooner ps flat.ascending)) (rising_family (hop_at M) f)
     (λ p i. let t = In-from_filter of ps p i in (in_family (hop_at M) f p).1 ((flat.exact p).0 (Contains-from_In ps p t.0), family_from_test p.block.family f t.1))
     (λ p i. let t = (in_family (hop_at M) f p).0 i in In-filter of ps p (In-from_Contains ps p ((flat.exact p).1 t.0)) (test_from_family p.block.family f t.1)) in
-    omega (arith, ap length same, few M table (width f) (family_block f) (whole_is_block f) (omega arith), sum_by-le-sum_by (weight 0 (family_block f)) (λ r. cond (same_family r.block.family f) r.block.len 0) M (weight_of f),
-    kept_sum (λ (r : Route). r.block.len) (λ r. same_family r.block.family f) M)
+    omega (
+      arith,
+      ap length same,
+      few M table (width f) (family_block f) (whole_is_block f) (omega arith),
+      sum_by-le-sum_by (weight 0 (family_block f)) (λ r. cond (same_family r.block.family f) r.block.len 0) M (weight_of f),
+      kept_sum (λ (r : Route). r.block.len) (λ r. same_family r.block.family f) M,
+    )

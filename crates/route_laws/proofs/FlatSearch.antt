@@ -151,8 +151,10 @@ module _ (h : Address → Option ℕ) where
   -- the pieces of one family: the maximal blocks of one hop in it
   pub in_family : (f : Family) (p : Piece) → In p (flat_in h (width f) (family_block f)) ↔ (IsMaximalBlock (λ x. h x ≡ Some p.number) p.block × (Block.family p.block ≡ f))
   in_family f p = (
-    (λ i. (sound (width f) (family_block f) (whole_is_block f) (omega arith) (none_whole f) p i,
-        (located (width f) (family_block f) (whole_is_block f) (omega arith) p i (first_of p.block) (has_first p.block)).0)),
+    (λ i. (
+      sound (width f) (family_block f) (whole_is_block f) (omega arith) (none_whole f) p i,
+      (located (width f) (family_block f) (whole_is_block f) (omega arith) p i (first_of p.block) (has_first p.block)).0,
+    )),
     (λ m. complete (width f) (family_block f) (whole_is_block f) (omega arith) p m.0 (inside_whole p.block f m.0.within.block m.1)),
   )
 
