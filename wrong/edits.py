@@ -108,6 +108,32 @@ def around(text, bodies):
     return [text[end:start] for end, start in zip(ends, starts)]
 
 
+# A body that the prover refuses at once: it claims that it is never reached, and no proof of that is tried.
+CUT_OFF = "{ #[tactic(none)] unreachable!(); }"
+# The proof files of a function.
+OWN_FILES = ("Answers.antt", "Invariants.antt", "Proof.antt")
+
+
+def cut_off(crate, texts, place, named, kept):
+    """The texts of this crate, whose files stand below this place, with each body cut off but those that these texts change, and those
+    of functions that end in a name that is kept. The proof files of what is cut off are taken away: all but those of the named ones."""
+    made, cut = {}, set()
+    for file in (place / crate / "src").rglob("*.rt"):
+        path, text = str(file.relative_to(place)), file.read_text()
+        wrong = texts.get(path, text)
+        pairs = zip(bodies_of(text), bodies_of(wrong))
+        off = [it for (_, start, end), it in pairs if it[0] not in kept and text[start:end] == wrong[it[1] : it[2]]]
+        made[path] = CUT_OFF.join(around(wrong, off))
+        cut |= {name for name, _, _ in off}
+    for file in (place / crate / "proofs").rglob("*.antt"):
+        # (the folder of a function in a cycle of calls begins with +)
+        *above, own = file.parent.relative_to(place / crate / "proofs").parts or [""]
+        own = own.removeprefix("+")
+        if file.name in OWN_FILES and own in cut and "::".join([crate, *above, own]) not in named:
+            file.unlink()
+    return made
+
+
 # A text, and the names and bodies of its functions.
 PARTED = [
     ("fn a(b: [u8; 2]) -> u8 where B: C\n    requires { b }\n    ensures c { d } { 1 }", [("a", "{ 1 }")]),

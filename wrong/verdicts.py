@@ -12,6 +12,8 @@ REASONS = [re.compile(it) for it in (
     r"(`search` did not prove .+)",
     r"it calls `.+, which (?:is|are) not proved",
     r"it passes the blocks? `.+, which (?:is|are) not proved",
+    # (of a body that a round cuts off)
+    r"`#\[tactic\(none\)\]` leaves `.+",
 )]
 # An error that a proof file has since the edit took away a name.
 NAMES = re.compile(r"has no field|is not in scope|has no `|was not admitted|that can be named from here|was rejected, was not checked")
@@ -95,6 +97,7 @@ READ = [
     (S + "\nlogic=not-proved", ["c::a"], []),
     (S + "\nonly=1 proved=0", ["c::a"], []),
     (S + "; it calls `c::b`, which is not proved\nlogic=not-proved", ["c::a"], []),
+    ("fn c::a: no proof: expected answers in c/proofs/a/Answers.antt; `#[tactic(none)]` leaves `unreachable-requires`\nlogic=not-proved", [], []),
     ("fn c::a: no proof: it calls `c::b`, which is not proved\nfn c::b: not proved\nc/proofs/b/Answers.antt:1:2: error: `x`: y\nlogic=not-proved", ["c::b"], []),
     ("fn c::a: no proof: expected `a_spec` in c/proofs/a/Proof.antt\nc/proofs/a/Proof.antt:1:2: error: `x`: y\nlogic=not-proved", ["c::a"], []),
     ("fn c::m::a: not proved\nc/proofs/m/+a/Invariants.antt:1:2: error: x\nlogic=not-proved", ["c::m::a"], []),
