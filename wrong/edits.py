@@ -114,22 +114,27 @@ CUT_OFF = "{ #[tactic(none)] unreachable!(); }"
 OWN_FILES = ("Answers.antt", "Invariants.antt", "Proof.antt")
 
 
+def cut(text, wrong, kept):
+    """The wrong text, each body cut off but those that differ from the text's and those of names that are kept; and the names of those
+    that are cut off."""
+    pairs = zip(bodies_of(text), bodies_of(wrong))
+    off = [it for (_, start, end), it in pairs if it[0] not in kept and text[start:end] == wrong[it[1] : it[2]]]
+    return CUT_OFF.join(around(wrong, off)), {name for name, _, _ in off}
+
+
 def cut_off(crate, texts, place, named, kept):
-    """The texts of this crate, whose files stand below this place, with each body cut off but those that these texts change, and those
-    of functions that end in a name that is kept. The proof files of what is cut off are taken away: all but those of the named ones."""
-    made, cut = {}, set()
+    """The texts of this crate, whose files stand below this place, with all bodies cut off but those that these texts change and those
+    of names that are kept. The proof files of what is cut off are taken away: all but those of the named functions."""
+    made, off = {}, set()
     for file in (place / crate / "src").rglob("*.rt"):
         path, text = str(file.relative_to(place)), file.read_text()
-        wrong = texts.get(path, text)
-        pairs = zip(bodies_of(text), bodies_of(wrong))
-        off = [it for (_, start, end), it in pairs if it[0] not in kept and text[start:end] == wrong[it[1] : it[2]]]
-        made[path] = CUT_OFF.join(around(wrong, off))
-        cut |= {name for name, _, _ in off}
+        made[path], names = cut(text, texts.get(path, text), kept)
+        off |= names
     for file in (place / crate / "proofs").rglob("*.antt"):
         # (the folder of a function in a cycle of calls begins with +)
         *above, own = file.parent.relative_to(place / crate / "proofs").parts or [""]
         own = own.removeprefix("+")
-        if file.name in OWN_FILES and own in cut and "::".join([crate, *above, own]) not in named:
+        if file.name in OWN_FILES and own in off and "::".join([crate, *above, own]) not in named:
             file.unlink()
     return made
 
@@ -140,12 +145,21 @@ PARTED = [
     ("impl A { ghost b = { c }; fn d(self) { |e| requires { f } { g } } fn h(); } // fn i() {", [("d", "{ |e| requires { f } { g } }")]),
     ("fn a() { '{'; \"}\" } fn b<'a>(c: &'a C) {}", [("a", "{ '{'; \"}\" }"), ("b", "{}")]),
 ]
+# A text, a wrong one, a name that is kept, and what is left.
+CUT = [
+    ("fn a() {} fn b() { 2 } fn c() {}", "fn a() {} fn b() { 4 } fn c() {}", "c", f"fn a() {CUT_OFF} fn b() {{ 4 }} fn c() {{}}"),
+    ("const A: u8 = 1; fn a() { A }", "const A: u8 = 2; fn a() { A }", "", f"const A: u8 = 2; fn a() {CUT_OFF}"),
+]
 
 
 def parts_wrongly():
-    """What `bodies_of` says otherwise than it must."""
+    """What `bodies_of` and `cut` say otherwise than they must."""
     for text, want in PARTED:
         found = [(name, text[start:end]) for name, start, end in bodies_of(text)]
+        if found != want:
+            return f"{text!r}: {found}, and not {want}"
+    for text, wrong, kept, want in CUT:
+        found, _ = cut(text, wrong, {kept})
         if found != want:
             return f"{text!r}: {found}, and not {want}"
     return None
