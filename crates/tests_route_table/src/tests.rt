@@ -2,9 +2,9 @@
 mod choices;
 mod first_calls;
 mod flat_lists;
+mod hop_tables;
 mod indexes;
 mod least_tables;
-mod operations;
 mod pieces;
 mod scripts;
 mod steps;

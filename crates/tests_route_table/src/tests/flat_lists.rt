@@ -1,11 +1,14 @@
-//! Rows of flat lists, with values from outside.
-use crate::tests::tables::{net, route, row_is, table};
+//! Flat lists, with values from outside.
+use crate::tests::steps::Step::{Ends, Flat, Own, OwnCount};
+use crate::tests::steps::{Script, carry_out};
+use crate::tests::tables::{net, route, row_is};
 use ipnet::IpNet;
-use route_table::{Flat, Hop, RouteTable};
+use route_table::{Hop, RouteTable};
 use std::process::Abort;
 
 /// The flat list has these pieces.
-pub(crate) fn flat_is(rt: &impl Abort, mut flat: Flat<'_>, pieces: &str) {
+pub(crate) fn flat_is(rt: &impl Abort, flat: route_table::Flat<'_>, pieces: &str) {
+    let mut flat = flat;
     for words in pieces.split_terminator(',') {
         let (net, hop) = route(rt, words.trim());
         let found = flat.next().expect(rt, words);
@@ -14,100 +17,28 @@ pub(crate) fn flat_is(rt: &impl Abort, mut flat: Flat<'_>, pieces: &str) {
     row_is(rt, pieces, flat.next(), None);
 }
 
-#[test]
-fn nested_routes(rt: HostRuntime) {
-    let table = table(
-        &rt,
-        rt.alloc(),
-        "10.0.0.0/8 1, 10.0.0.0/9 2, 10.64.0.0/10 1",
-    );
-    flat_is(
-        &rt,
-        table.flat(),
-        "10.0.0.0/10 2, 10.64.0.0/10 1, 10.128.0.0/9 1",
-    );
-}
-
-/// Routes, and the flat list of a table of them.
-const FLAT: [(&str, &str); 6] = [
-    // neighbours join
-    ("0.0.0.0/1 7, 128.0.0.0/1 7", "0.0.0.0/0 7"),
-    // a nested route of the same hop
-    ("10.0.0.0/8 1, 10.1.0.0/16 1", "10.0.0.0/8 1"),
-    // dropped addresses are left out
-    (
-        "10.0.0.0/30 1, 10.0.0.1/32 drop",
-        "10.0.0.0/32 1, 10.0.0.2/31 1",
-    ),
-    // at the greatest address
-    (
-        "255.255.255.255/32 9, 255.255.255.252/30 5, ffff:ffff:ffff:ffff:ffff:ffff:ffff:ffff/128 9, \
-         ffff:ffff:ffff:ffff:ffff:ffff:ffff:fffc/126 5",
-        "255.255.255.252/31 5, 255.255.255.254/32 5, 255.255.255.255/32 9, \
-         ffff:ffff:ffff:ffff:ffff:ffff:ffff:fffc/127 5, ffff:ffff:ffff:ffff:ffff:ffff:ffff:fffe/128 5, \
-         ffff:ffff:ffff:ffff:ffff:ffff:ffff:ffff/128 9",
-    ),
-    // IPv4 before IPv6
-    ("::/0 4, 0.0.0.0/0 3", "0.0.0.0/0 3, ::/0 4"),
-    // nothing in an empty table
-    ("", ""),
-];
-
-#[test]
-fn flat_lists(rt: HostRuntime) {
-    for (text, pieces) in &FLAT {
-        let table = table(&rt, rt.alloc(), text);
-        flat_is(&rt, table.flat(), pieces);
-    }
-}
-
 /// The piece is this network, by the hop 2.
 fn end_is(rt: &impl Abort, piece: &IpNet, hop: u32, wanted: &str) {
     row_is(rt, wanted, (*piece, hop), (net(rt, wanted), 2));
 }
 
 /// How many pieces there are, with the first and the last, both by the hop 2.
-fn ends_are(rt: &impl Abort, table: &RouteTable, first: &str, last: &str, count: u32) {
-    let mut left = count;
+pub(crate) fn ends_are(rt: &impl Abort, table: &RouteTable, first: &str, last: &str, count: u32) {
+    let mut pieces = 0u32;
     for (piece, hop) in table.flat() {
-        if left == count {
+        pieces = pieces.wrapping_add(1);
+        if pieces == 1 {
             end_is(rt, &piece, hop, first);
         }
-        left = left.checked_sub(1).expect(rt, "too many pieces");
-        if left == 0 {
+        if pieces == count {
             end_is(rt, &piece, hop, last);
         }
     }
-    row_is(rt, last, left, 0);
+    row_is(rt, last, pieces, count);
 }
 
-/// Routes, and the first and the last piece of the flat list, and how many there are.
-const ENDS: [(&str, &str, &str, u32); 2] = [
-    (
-        "0.0.0.0/0 1, 0.0.0.0/32 2, 255.255.255.255/32 2",
-        "0.0.0.0/32",
-        "255.255.255.255/32",
-        64,
-    ),
-    (
-        "::/0 1, ::/128 2, ffff:ffff:ffff:ffff:ffff:ffff:ffff:ffff/128 2",
-        "::/128",
-        "ffff:ffff:ffff:ffff:ffff:ffff:ffff:ffff/128",
-        256,
-    ),
-];
-
-#[test]
-fn both_ends(rt: HostRuntime) {
-    for (text, first, last, count) in &ENDS {
-        let table = table(&rt, rt.alloc(), text);
-        ends_are(&rt, &table, first, last, *count);
-    }
-}
-
-/// The blocks of the number.
-fn own_is(rt: &impl Abort, table: &RouteTable, number: u32, blocks: &[&str]) {
-    let own = table.own(number).expect(rt, "memory");
+/// These are the blocks.
+fn blocks_are(rt: &impl Abort, own: &[IpNet], blocks: &[&str]) {
     row_is(rt, "own blocks", own.len(), blocks.len());
     let mut left = own.iter();
     for text in blocks {
@@ -115,31 +46,94 @@ fn own_is(rt: &impl Abort, table: &RouteTable, number: u32, blocks: &[&str]) {
     }
 }
 
-#[test]
-fn own_blocks(rt: HostRuntime) {
-    let routes = "10.0.0.0/30 1, 10.0.0.1/32 2";
-    let table = table(&rt, rt.alloc(), routes);
-    own_is(&rt, &table, 1, &["10.0.0.0/32", "10.0.0.2/31"]);
-    own_is(&rt, &table, 2, &["10.0.0.1/32"]);
-    own_is(&rt, &table, 3, &[]);
+/// The blocks of the number.
+pub(crate) fn own_is(rt: &impl Abort, table: &RouteTable, number: u32, blocks: &[&str]) {
+    let own = table.own(number).expect(rt, "memory");
+    blocks_are(rt, own.as_slice(), blocks);
+}
+
+/// How many pieces of the flat list have the number.
+fn pieces_with(table: &RouteTable, number: u32) -> usize {
+    let mut pieces = 0usize;
+    for (_, hop) in table.flat() {
+        if hop == number {
+            pieces = pieces.wrapping_add(1);
+        }
+    }
+    pieces
 }
 
 /// The number has as many blocks of its own as there are pieces with it in the flat list.
-fn own_is_counted(rt: &impl Abort, table: &RouteTable, number: u32) {
-    let mut left = table.own(number).expect(rt, "memory").len();
-    for (_, hop) in table.flat() {
-        if hop == number {
-            left = left.checked_sub(1).expect(rt, "as many blocks");
-        }
-    }
-    row_is(rt, "as many pieces", left, 0);
+pub(crate) fn own_is_counted(rt: &impl Abort, table: &RouteTable, number: u32) {
+    let own = table.own(number).expect(rt, "memory");
+    row_is(rt, "as many pieces", own.len(), pieces_with(table, number));
 }
 
+/// Routes, and the flat list of a table of them, its ends, and the blocks of one hop.
+static FLAT: [Script; 11] = [
+    (
+        "nested routes",
+        "10.0.0.0/8 1, 10.0.0.0/9 2, 10.64.0.0/10 1",
+        &[Flat("10.0.0.0/10 2, 10.64.0.0/10 1, 10.128.0.0/9 1")],
+    ),
+    (
+        "neighbours join",
+        "0.0.0.0/1 7, 128.0.0.0/1 7",
+        &[Flat("0.0.0.0/0 7")],
+    ),
+    (
+        "a nested route of the same hop",
+        "10.0.0.0/8 1, 10.1.0.0/16 1",
+        &[Flat("10.0.0.0/8 1")],
+    ),
+    (
+        "dropped addresses are left out",
+        "10.0.0.0/30 1, 10.0.0.1/32 drop",
+        &[Flat("10.0.0.0/32 1, 10.0.0.2/31 1")],
+    ),
+    (
+        "at the greatest address",
+        "255.255.255.255/32 9, 255.255.255.252/30 5, ffff:ffff:ffff:ffff:ffff:ffff:ffff:ffff/128 9, \
+         ffff:ffff:ffff:ffff:ffff:ffff:ffff:fffc/126 5",
+        &[Flat(
+            "255.255.255.252/31 5, 255.255.255.254/32 5, 255.255.255.255/32 9, \
+             ffff:ffff:ffff:ffff:ffff:ffff:ffff:fffc/127 5, ffff:ffff:ffff:ffff:ffff:ffff:ffff:fffe/128 5, \
+             ffff:ffff:ffff:ffff:ffff:ffff:ffff:ffff/128 9",
+        )],
+    ),
+    (
+        "IPv4 before IPv6",
+        "::/0 4, 0.0.0.0/0 3",
+        &[Flat("0.0.0.0/0 3, ::/0 4")],
+    ),
+    ("nothing in an empty table", "", &[Flat("")]),
+    (
+        "both ends of IPv4",
+        "0.0.0.0/0 1, 0.0.0.0/32 2, 255.255.255.255/32 2",
+        &[Ends("0.0.0.0/32", "255.255.255.255/32", 64)],
+    ),
+    (
+        "both ends of IPv6",
+        "::/0 1, ::/128 2, ffff:ffff:ffff:ffff:ffff:ffff:ffff:ffff/128 2",
+        &[Ends("::/128", "ffff:ffff:ffff:ffff:ffff:ffff:ffff:ffff/128", 256)],
+    ),
+    (
+        "own blocks",
+        "10.0.0.0/30 1, 10.0.0.1/32 2",
+        &[
+            Own(1, &["10.0.0.0/32", "10.0.0.2/31"]),
+            Own(2, &["10.0.0.1/32"]),
+            Own(3, &[]),
+        ],
+    ),
+    (
+        "own blocks of both families",
+        "8000::/1 7, 10.128.0.0/9 7, ::/1 7, 10.0.0.0/8 7, 10.0.0.0/32 drop, 10.0.0.0/31 8, 10.0.0.0/30 8",
+        &[Own(8, &["10.0.0.1/32", "10.0.0.2/31"]), OwnCount(7)],
+    ),
+];
+
 #[test]
-fn own_blocks_of_both_families(rt: HostRuntime) {
-    let routes =
-        "8000::/1 7, 10.128.0.0/9 7, ::/1 7, 10.0.0.0/8 7, 10.0.0.0/32 drop, 10.0.0.0/31 8, 10.0.0.0/30 8";
-    let table = table(&rt, rt.alloc(), routes);
-    own_is(&rt, &table, 8, &["10.0.0.1/32", "10.0.0.2/31"]);
-    own_is_counted(&rt, &table, 7);
+fn flat_lists(rt: HostRuntime) {
+    carry_out(&rt, rt.alloc(), &FLAT);
 }

@@ -1,8 +1,11 @@
 //! Indexes of tables: each address has the hop that the table has for it.
-use crate::tests::tables::{net, put, row_is, table};
+use crate::tests::hop_tables::overwrite;
+use crate::tests::steps::Step::{Index, IndexBefore};
+use crate::tests::steps::{Script, carry_out};
+use crate::tests::tables::{net, put, row_is};
 use hop_index::HopIndex;
 use ipnet::IpAddr;
-use route_table::{Hop, HopTable, RouteTable};
+use route_table::{Hop, HopTable, RouteTable, Routes};
 use std::alloc::Global;
 use std::process::Abort;
 use std::str::FromStr;
@@ -17,115 +20,128 @@ const ROUTES: &str = "0.0.0.0/30 1, 0.0.64.0/18 2, 0.0.128.0/32 2, 10.0.0.0/8 4,
      ffff:ffff:ffff:ffff:ffff:ffff:ffff:ffff/128 11";
 
 /// Addresses with the hops that the routes give them, worked out by hand.
-const HOPS: [&str; 51] = [
-    "0.0.0.0 1",
-    "0.0.0.3 1",
-    "0.0.0.4 none",
-    "0.0.63.255 none",
-    "0.0.64.0 2",
-    "0.0.127.255 2",
-    "0.0.128.0 2",
-    "0.0.128.1 none",
-    "9.255.255.255 none",
-    "10.0.0.0 4",
-    "10.1.0.0 none",
-    "10.1.2.2 4294967295",
-    "10.1.2.3 0",
-    "10.1.2.4 4294967295",
-    "10.255.255.255 4",
-    "20.0.0.255 none",
-    "20.0.1.0 16",
-    "20.0.2.0 none",
-    "20.0.3.255 17",
-    "20.0.5.127 none",
-    "20.0.5.128 18",
-    "20.0.63.255 none",
-    "255.255.255.253 none",
-    "255.255.255.254 5",
-    "255.255.255.255 6",
-    ":: 7",
-    "::1 none",
-    "1fff:feff:ffff:ffff:ffff:ffff:ffff:ffff none",
-    "1fff:ffff:ffff:ffff:ffff:ffff:ffff:ffff 12",
-    "2000:: 13",
-    "2000:7ff:ffff:ffff:ffff:ffff:ffff:ffff 13",
-    "2000:800:: 13",
-    "2000:1000:: none",
-    "2001:db7:ffff:ffff:ffff:ffff:ffff:ffff none",
-    "2001:db8:7fff:ffff:ffff:ffff:ffff:ffff 8",
-    "2001:db8:8000:: 9",
-    "2001:db9:: none",
-    "2a00:1:0:0:3fff:ffff:ffff:ffff none",
-    "2a00:1:0:0:4000:: 19",
-    "2a00:1:0:0:7fff:ffff:ffff:ffff 19",
-    "2a00:1:0:0:8000:: 20",
-    "2a00:1:0:1:: none",
-    "2a00:1f:: none",
-    "2a00:20:: 21",
-    "2a00:21:: none",
-    "3fff:efff:ffff:ffff:ffff:ffff:ffff:ffff none",
-    "3fff:ffff:ffff:ffff:ffff:ffff:ffff:ffff 14",
-    "4000:: 15",
-    "4001:: none",
-    "ffff:ffff:ffff:ffff:ffff:ffff:ffff:fffe 10",
-    "ffff:ffff:ffff:ffff:ffff:ffff:ffff:ffff 11",
+static HOPS: [(&str, Option<u32>); 51] = [
+    ("0.0.0.0", Some(1)),
+    ("0.0.0.3", Some(1)),
+    ("0.0.0.4", None),
+    ("0.0.63.255", None),
+    ("0.0.64.0", Some(2)),
+    ("0.0.127.255", Some(2)),
+    ("0.0.128.0", Some(2)),
+    ("0.0.128.1", None),
+    ("9.255.255.255", None),
+    ("10.0.0.0", Some(4)),
+    ("10.1.0.0", None),
+    ("10.1.2.2", Some(4294967295)),
+    ("10.1.2.3", Some(0)),
+    ("10.1.2.4", Some(4294967295)),
+    ("10.255.255.255", Some(4)),
+    ("20.0.0.255", None),
+    ("20.0.1.0", Some(16)),
+    ("20.0.2.0", None),
+    ("20.0.3.255", Some(17)),
+    ("20.0.5.127", None),
+    ("20.0.5.128", Some(18)),
+    ("20.0.63.255", None),
+    ("255.255.255.253", None),
+    ("255.255.255.254", Some(5)),
+    ("255.255.255.255", Some(6)),
+    ("::", Some(7)),
+    ("::1", None),
+    ("1fff:feff:ffff:ffff:ffff:ffff:ffff:ffff", None),
+    ("1fff:ffff:ffff:ffff:ffff:ffff:ffff:ffff", Some(12)),
+    ("2000::", Some(13)),
+    ("2000:7ff:ffff:ffff:ffff:ffff:ffff:ffff", Some(13)),
+    ("2000:800::", Some(13)),
+    ("2000:1000::", None),
+    ("2001:db7:ffff:ffff:ffff:ffff:ffff:ffff", None),
+    ("2001:db8:7fff:ffff:ffff:ffff:ffff:ffff", Some(8)),
+    ("2001:db8:8000::", Some(9)),
+    ("2001:db9::", None),
+    ("2a00:1:0:0:3fff:ffff:ffff:ffff", None),
+    ("2a00:1:0:0:4000::", Some(19)),
+    ("2a00:1:0:0:7fff:ffff:ffff:ffff", Some(19)),
+    ("2a00:1:0:0:8000::", Some(20)),
+    ("2a00:1:0:1::", None),
+    ("2a00:1f::", None),
+    ("2a00:20::", Some(21)),
+    ("2a00:21::", None),
+    ("3fff:efff:ffff:ffff:ffff:ffff:ffff:ffff", None),
+    ("3fff:ffff:ffff:ffff:ffff:ffff:ffff:ffff", Some(14)),
+    ("4000::", Some(15)),
+    ("4001::", None),
+    ("ffff:ffff:ffff:ffff:ffff:ffff:ffff:fffe", Some(10)),
+    ("ffff:ffff:ffff:ffff:ffff:ffff:ffff:ffff", Some(11)),
 ];
 
 pub(crate) fn address(rt: &impl Abort, text: &str) -> IpAddr {
     IpAddr::from_str(text).expect(rt, text)
 }
 
-/// The address and the hop of two words; there is none at `none`.
-fn row(rt: &impl Abort, words: &str) -> (IpAddr, Option<u32>) {
-    let (text, hop) = words.split_once(' ').expect(rt, words);
-    (address(rt, text), u32::from_str(hop).ok())
+/// The addresses of the rows.
+fn addresses(rt: &impl Abort) -> [IpAddr; 51] {
+    let mut addrs = [address(rt, "::"); 51];
+    for (place, (text, _)) in HOPS.iter().enumerate() {
+        addrs[place] = address(rt, text);
+    }
+    addrs
 }
 
 /// Each address has its hop, asked for alone and with the others.
 fn hops_are(rt: &impl Abort, index: &HopIndex) {
-    let mut addrs = [address(rt, "::"); 51];
-    let mut wanted = [None; 51];
-    for (place, words) in HOPS.iter().enumerate() {
-        let (addr, hop) = row(rt, words);
-        row_is(rt, words, index.hop(addr), hop);
-        addrs[place] = addr;
-        wanted[place] = hop;
-    }
     let mut hops = [None; 51];
-    index.hops(&addrs, &mut hops);
-    row_is(rt, "together", &hops, &wanted);
+    index.hops(&addresses(rt), &mut hops);
+    let mut left = hops.iter();
+    for (text, hop) in &HOPS {
+        row_is(rt, text, index.hop(address(rt, text)), *hop);
+        row_is(rt, text, left.next().copied(), Some(*hop));
+    }
 }
 
-#[test]
-fn of_a_table(rt: HostRuntime) {
-    let table = table(&rt, rt.alloc(), ROUTES);
-    let index = HopIndex::of_table(rt.alloc(), &table).expect(&rt, "an index");
-    hops_are(&rt, &index);
+/// An index of the table has the hops of the routes.
+fn index_is(rt: &impl Abort, alloc: Global, table: &RouteTable) {
+    let index = HopIndex::of_table(alloc, table).expect(rt, "an index");
+    hops_are(rt, &index);
+}
+
+/// Stores these routes.
+fn overwrite_all(rt: &impl Abort, table: &mut HopTable, routes: Routes<'_>) {
+    for (net, hop, _) in routes {
+        overwrite(rt, table, net, hop);
+    }
 }
 
 /// The best routes of a table.
 fn best(rt: &impl Abort, alloc: Global, routes: &RouteTable) -> HopTable {
     let mut table = HopTable::new(alloc).expect(rt, "a table");
-    for text in ["0.0.0.0/0", "::/0"] {
-        for (net, hop, _) in routes.list(&net(rt, text)) {
-            table.overwrite(net, hop).expect(rt, "a route");
-        }
-    }
+    overwrite_all(rt, &mut table, routes.list(&net(rt, "0.0.0.0/0")));
+    overwrite_all(rt, &mut table, routes.list(&net(rt, "::/0")));
     table
 }
 
-#[test]
-fn of_hops(rt: HostRuntime) {
-    let table = best(&rt, rt.alloc(), &table(&rt, rt.alloc(), ROUTES));
-    let index = HopIndex::of_hops(rt.alloc(), &table).expect(&rt, "an index");
-    hops_are(&rt, &index);
+/// Indexes of the table, and of one of its best routes, have the hops of the routes.
+pub(crate) fn indexes_are(rt: &impl Abort, alloc: Global, table: &RouteTable) {
+    index_is(rt, alloc, table);
+    let best = best(rt, alloc, table);
+    let index = HopIndex::of_hops(alloc, &best).expect(rt, "an index");
+    hops_are(rt, &index);
 }
 
+/// An index of a table of no routes has no hop, also once the table has a route.
+pub(crate) fn stays_empty(rt: &impl Abort, alloc: Global, table: &mut RouteTable, text: &str) {
+    let index = HopIndex::of_table(alloc, table).expect(rt, "an index");
+    put(rt, table, text, Hop::Number(1));
+    row_is(rt, "10.0.0.1", index.hop(address(rt, "10.0.0.1")), None);
+    row_is(rt, "::1", index.hop(address(rt, "::1")), None);
+}
+
+/// Tables, and what indexes of them have.
+static INDEXES: [Script; 2] = [
+    ("of a table and of hops", ROUTES, &[Index]),
+    ("of no routes and a copy", "", &[IndexBefore("0.0.0.0/0")]),
+];
+
 #[test]
-fn of_no_routes_and_a_copy(rt: HostRuntime) {
-    let mut table = RouteTable::new(rt.alloc()).expect(&rt, "a table");
-    let index = HopIndex::of_table(rt.alloc(), &table).expect(&rt, "an index");
-    put(&rt, &mut table, "0.0.0.0/0", Hop::Number(1));
-    row_is(&rt, "10.0.0.1", index.hop(address(&rt, "10.0.0.1")), None);
-    row_is(&rt, "::1", index.hop(address(&rt, "::1")), None);
+fn indexes(rt: HostRuntime) {
+    carry_out(&rt, rt.alloc(), &INDEXES);
 }

@@ -1,12 +1,10 @@
 //! Scripts of route tables, with values from outside. In walks, hops tell the routes apart.
 use crate::tests::steps::Step::{
-    Add, After, All, Count, Cover, Del, From, Get, Governs, GovernsCount, IsLeaf, List, Nodes,
-    Overwrite, Put, Visits,
+    Add, After, All, Count, Cover, Del, From, Get, Governs, GovernsCount, IsLeaf, Least,
+    LeastCount, List, Misses, Nodes, Overwrite, OverwriteAgain, Put, PutAgain, Visits,
 };
-use crate::tests::steps::{Step, goes, hops};
-use crate::tests::tables::{empty, net, row_is};
-use route_table::{AddRefused, Hop, Refused, RouteTable};
-use std::process::Abort;
+use crate::tests::steps::{Script, carry_out};
+use route_table::{AddRefused, Hop};
 
 /// The greatest IPv6 address.
 const LAST: &str = "ffff:ffff:ffff:ffff:ffff:ffff:ffff:ffff/128";
@@ -25,9 +23,8 @@ const EIGHT: Hop = Hop::Number(8);
 
 const NINE: Hop = Hop::Number(9);
 
-/// Scripts: what is stored at first, and the calls.
-const SCRIPTS: [(&str, &str, &[Step]); 13] = [
-    // Changes, and what is governed, inside, and found then.
+/// Changes, and what is governed, inside, and found then.
+static CHANGES: [Script; 8] = [
     (
         "leaves of an empty table",
         "",
@@ -68,7 +65,7 @@ const SCRIPTS: [(&str, &str, &[Step]); 13] = [
             Add("10.0.0.0/9", TWO, 100, Ok((Some(1), Some(2)))),
             Add("10.64.0.0/10", ONE, 100, Ok((Some(2), Some(1)))),
             Nodes(3, 1),
-            Visits("10.1.2.3/32", Some(("10.0.0.0/9", TWO, 100)), 2),
+            Visits("10.1.2.3/32", "10.0.0.0/9", TWO, 2),
             Add("10.0.0.0/8", THREE, 200, Ok((Some(1), Some(3)))),
             Governs("10.0.0.0/8", &["10.128.0.0/9"]),
             Governs("10.0.0.0/9", &["10.0.0.0/10"]),
@@ -83,7 +80,7 @@ const SCRIPTS: [(&str, &str, &[Step]); 13] = [
         &[
             Add("10.0.0.0/30", ONE, 100, Ok((None, Some(1)))),
             Add("10.0.0.1/32", Hop::Drop, 100, Ok((Some(1), None))),
-            Get("10.0.0.1/32", Some(("10.0.0.1/32", Hop::Drop, 100))),
+            Get("10.0.0.1/32", "10.0.0.1/32", Hop::Drop),
             Governs("10.0.0.0/30", &["10.0.0.0/32", "10.0.0.2/31"]),
         ],
     ),
@@ -104,9 +101,9 @@ const SCRIPTS: [(&str, &str, &[Step]); 13] = [
         "families are apart",
         "::ffff:10.0.0.0/104 1",
         &[
-            Get("10.0.0.0/8", None),
+            Misses("10.0.0.0/8"),
             Put("2001:DB8::1/32", SEVEN),
-            Get("2001:db8::/32", Some(("2001:db8::/32", SEVEN, 100))),
+            Get("2001:db8::/32", "2001:db8::/32", SEVEN),
             Nodes(1, 27),
         ],
     ),
@@ -115,7 +112,10 @@ const SCRIPTS: [(&str, &str, &[Step]); 13] = [
         "10.0.0.0/8 1, 10.1.2.3/16 1, 11.0.0.0/8 2",
         &[List("10.0.0.0/8", &["10.0.0.0/8", "10.1.0.0/16"])],
     ),
-    // Several routes a network: which is the best, and what is refused.
+];
+
+/// Several routes a network: which is the best, and what is refused.
+static CHOICES: [Script; 3] = [
     (
         "the next best takes over",
         "10.1.2.3/8 5",
@@ -127,7 +127,7 @@ const SCRIPTS: [(&str, &str, &[Step]); 13] = [
                 "10.0.0.0/8",
                 &[(THREE, 100), (FIVE, 100), (Hop::Drop, 100), (NINE, 50)],
             ),
-            Get("10.9.0.0/16", Some(("10.0.0.0/8", THREE, 100))),
+            Get("10.9.0.0/16", "10.0.0.0/8", THREE),
             Del("10.0.0.0/8", THREE, Some((Some(3), Some(5)))),
             Del("10.0.0.0/8", THREE, None),
             Add("10.0.0.0/8", NINE, 200, Ok((Some(5), Some(9)))),
@@ -172,7 +172,10 @@ const SCRIPTS: [(&str, &str, &[Step]); 13] = [
             Count(1, 0),
         ],
     ),
-    // Walks, and one route in the place of all those inside its network.
+];
+
+/// Walks, and one route in the place of all those inside its network.
+static WALKS: [Script; 2] = [
     (
         "walks keep to a family",
         "10.0.0.0/8 1, 10.1.0.0/16 2, 10.2.0.0/16 3, 10.2.0.0/24 4, 10.3.0.0/16 5, 10.4.0.0/16 6",
@@ -217,27 +220,32 @@ const SCRIPTS: [(&str, &str, &[Step]); 13] = [
 
 #[test]
 fn scripts(rt: HostRuntime) {
-    for (row, stored, steps) in &SCRIPTS {
-        goes(&rt, rt.alloc(), row, stored, steps);
-    }
+    carry_out(&rt, rt.alloc(), &CHANGES);
+    carry_out(&rt, rt.alloc(), &CHOICES);
+    carry_out(&rt, rt.alloc(), &WALKS);
 }
 
-/// After a refusal the table is empty still, and the next attempt succeeds.
-fn overwrite_again(rt: &impl Abort, table: &mut RouteTable, refused: Refused) {
-    row_is(rt, "refused", refused, Refused::Memory);
-    row_is(rt, "count", table.count(), (0, 0));
-    row_is(rt, "nodes", table.node_counts(), (1, 1));
-    let again = table.overwrite(net(rt, "10.2.0.0/16"), ONE);
-    row_is(rt, "again", again, Ok(()));
-}
+/// Each request for memory may be refused, and the next attempt succeeds.
+static REFUSED: [Script; 2] = [
+    (
+        "a least table",
+        "",
+        &[
+            PutAgain("10.0.0.0/8", ONE),
+            PutAgain("10.1.0.0/16", TWO),
+            PutAgain("2001:db8::/32", SEVEN),
+            LeastCount(3),
+            Least("10.0.0.0/8 1, 10.1.0.0/16 2, 2001:db8::/32 7"),
+        ],
+    ),
+    (
+        "overwrite",
+        "",
+        &[OverwriteAgain("10.2.0.0/16", ONE), Cover("10.2.0.0/16", 1)],
+    ),
+];
 
-/// Each request for memory may be refused.
 #[test]
-fn overwrite_is_refused(rt: HostRuntime) {
-    let mut table = empty(&rt, rt.alloc());
-    if let Err(refused) = table.overwrite(net(&rt, "10.2.0.0/16"), ONE) {
-        overwrite_again(&rt, &mut table, refused);
-    }
-    let cover = hops(table.cover(&net(&rt, "10.2.0.0/16")));
-    row_is(&rt, "cover", cover, 1);
+fn refused(rt: HostRuntime) {
+    carry_out(&rt, rt.alloc(), &REFUSED);
 }

@@ -1,7 +1,10 @@
 //! Scripts of calls of a route table, and what these answer.
-use crate::tests::tables::{net, put, step_is, table};
+use crate::tests::flat_lists::{ends_are, flat_is, own_is, own_is_counted};
+use crate::tests::indexes::{indexes_are, stays_empty};
+use crate::tests::least_tables::{is_built_back, least_count_is, least_is};
+use crate::tests::tables::{net, put, row_is, step_is, table};
 use ipnet::IpNet;
-use route_table::{AddRefused, Hop, RouteTable, Routes};
+use route_table::{AddRefused, Hop, Refused, RouteTable, Routes};
 use std::alloc::Global;
 use std::process::Abort;
 
@@ -18,10 +21,16 @@ pub(crate) enum Step {
     Del(&'static str, Hop, Option<Numbers>),
     /// `overwrite`.
     Overwrite(&'static str, Hop),
-    /// `get`: the longest match.
-    Get(&'static str, Option<(&'static str, Hop, u16)>),
+    /// `add`, with the default preference: it succeeds, or does where memory was refused before.
+    PutAgain(&'static str, Hop),
+    /// `overwrite`: the same, of an empty table.
+    OverwriteAgain(&'static str, Hop),
+    /// `get`: the longest match, which has the default preference.
+    Get(&'static str, &'static str, Hop),
+    /// `get`: there is no match.
+    Misses(&'static str),
     /// `get_visits`: the longest match, and how many nodes are visited.
-    Visits(&'static str, Option<(&'static str, Hop, u16)>, u32),
+    Visits(&'static str, &'static str, Hop, u32),
     /// `is_leaf`.
     IsLeaf(&'static str, bool),
     /// `governed`: the blocks.
@@ -42,18 +51,49 @@ pub(crate) enum Step {
     After(&'static str, u32),
     /// `cover`: the same.
     Cover(&'static str, u32),
+    /// `flat`: the pieces.
+    Flat(&'static str),
+    /// `flat`: the first and the last piece, both by the hop 2, and how many there are.
+    Ends(&'static str, &'static str, u32),
+    /// `own`: the blocks of this number.
+    Own(u32, &'static [&'static str]),
+    /// `own`: as many blocks of this number as there are in the flat list.
+    OwnCount(u32),
+    /// `least`: the routes.
+    Least(&'static str),
+    /// `least`: how many routes there are, or memory is refused.
+    LeastCount(usize),
+    /// `least`: how many routes there are, of which a table with the same flat list is built.
+    BuiltBack(usize),
+    /// `HopIndex::of_table` and `HopIndex::of_hops`: the hops of the routes that indexes are made of.
+    Index,
+    /// `HopIndex::of_table`: no hop, while a route of this network is put into the table.
+    IndexBefore(&'static str),
 }
 
-/// The route of the text.
-fn route(rt: &impl Abort, wanted: &Option<(&str, Hop, u16)>) -> Option<(IpNet, Hop, u16)> {
-    match wanted {
-        Some((text, hop, preference)) => Some((net(rt, text), *hop, *preference)),
-        None => None,
+/// A script: its name, the routes that are stored at first, and the calls.
+pub(crate) type Script = (&'static str, &'static str, &'static [Step]);
+
+/// The second attempt to add a route succeeds, where a request for memory is refused in the first.
+fn put_again(rt: &impl Abort, table: &mut RouteTable, net: &IpNet, hop: Hop) {
+    if table.add(*net, hop, 100).is_err() {
+        table.add(*net, hop, 100).expect(rt, "a route");
     }
 }
 
+/// After a refusal the table is empty still, and the next attempt succeeds.
+fn overwrite_again(rt: &impl Abort, table: &mut RouteTable, net: &IpNet, hop: Hop) {
+    let Err(refused) = table.overwrite(*net, hop) else {
+        return;
+    };
+    row_is(rt, "refused", refused, Refused::Memory);
+    row_is(rt, "count", table.count(), (0, 0));
+    row_is(rt, "nodes", table.node_counts(), (1, 1));
+    row_is(rt, "again", table.overwrite(*net, hop), Ok(()));
+}
+
 /// A call that changes the table answers so, or another does.
-fn change(rt: &impl Abort, at: (&str, usize), table: &mut RouteTable, step: &Step) {
+fn change(rt: &impl Abort, alloc: Global, at: (&str, usize), table: &mut RouteTable, step: &Step) {
     match step {
         Step::Put(text, hop) => put(rt, table, text, *hop),
         Step::Add(text, hop, preference, numbers) => {
@@ -66,6 +106,11 @@ fn change(rt: &impl Abort, at: (&str, usize), table: &mut RouteTable, step: &Ste
         Step::Overwrite(text, hop) => {
             step_is(rt, at, table.overwrite(net(rt, text), *hop), Ok(()));
         }
+        Step::PutAgain(text, hop) => put_again(rt, table, &net(rt, text), *hop),
+        Step::OverwriteAgain(text, hop) => overwrite_again(rt, table, &net(rt, text), *hop),
+        Step::IndexBefore(text) => stays_empty(rt, alloc, table, text),
+        Step::Index => indexes_are(rt, alloc, table),
+        Step::BuiltBack(wanted) => is_built_back(rt, alloc, at.0, table, *wanted),
         asked => ask(rt, at, table, asked),
     }
 }
@@ -73,12 +118,14 @@ fn change(rt: &impl Abort, at: (&str, usize), table: &mut RouteTable, step: &Ste
 /// A call that asks for a route or a number answers so, or another does.
 fn ask(rt: &impl Abort, at: (&str, usize), table: &RouteTable, step: &Step) {
     match step {
-        Step::Get(text, wanted) => {
-            step_is(rt, at, table.get(&net(rt, text)), route(rt, wanted));
+        Step::Get(text, found, hop) => {
+            let wanted = Some((net(rt, found), *hop, 100));
+            step_is(rt, at, table.get(&net(rt, text)), wanted);
         }
-        Step::Visits(text, wanted, visits) => {
-            let found = table.get_visits(&net(rt, text));
-            step_is(rt, at, found, (route(rt, wanted), *visits));
+        Step::Misses(text) => step_is(rt, at, table.get(&net(rt, text)), None),
+        Step::Visits(text, found, hop, visits) => {
+            let wanted = Some((net(rt, found), *hop, 100));
+            step_is(rt, at, table.get_visits(&net(rt, text)), (wanted, *visits));
         }
         Step::IsLeaf(text, wanted) => step_is(rt, at, table.is_leaf(&net(rt, text)), *wanted),
         Step::Count(v4, v6) => step_is(rt, at, table.count(), (*v4, *v6)),
@@ -105,6 +152,19 @@ fn list(rt: &impl Abort, at: (&str, usize), table: &RouteTable, step: &Step) {
         }
         Step::List(text, networks) => list_is(rt, at, table, &net(rt, text), networks),
         Step::All(text, routes) => all_are(rt, at, table, &net(rt, text), routes),
+        other => list_all(rt, at.0, table, other),
+    }
+}
+
+/// A call that lists the whole table answers so.
+fn list_all(rt: &impl Abort, row: &str, table: &RouteTable, step: &Step) {
+    match step {
+        Step::Flat(pieces) => flat_is(rt, table.flat(), pieces),
+        Step::Ends(first, last, count) => ends_are(rt, table, first, last, *count),
+        Step::Own(number, blocks) => own_is(rt, table, *number, blocks),
+        Step::OwnCount(number) => own_is_counted(rt, table, *number),
+        Step::Least(wanted) => least_is(rt, row, table, wanted),
+        Step::LeastCount(wanted) => least_count_is(rt, table, *wanted),
         _ => (),
     }
 }
@@ -157,7 +217,7 @@ fn all_are(
 }
 
 /// The hops of the routes in order, as the digits of a number; a `Drop` is 0.
-pub(crate) fn hops(routes: Routes<'_>) -> u32 {
+fn hops(routes: Routes<'_>) -> u32 {
     let mut digits = 0u32;
     for (_, hop, _) in routes {
         let digit = match hop {
@@ -170,9 +230,16 @@ pub(crate) fn hops(routes: Routes<'_>) -> u32 {
 }
 
 /// The calls of a script answer so, one after another, of a table of these routes.
-pub(crate) fn goes(rt: &impl Abort, alloc: Global, row: &str, stored: &str, steps: &[Step]) {
+fn goes(rt: &impl Abort, alloc: Global, row: &str, stored: &str, steps: &[Step]) {
     let mut table = table(rt, alloc, stored);
     for (at, step) in steps.iter().enumerate() {
-        change(rt, (row, at), &mut table, step);
+        change(rt, alloc, (row, at), &mut table, step);
+    }
+}
+
+/// Each script goes so.
+pub(crate) fn carry_out(rt: &impl Abort, alloc: Global, scripts: &[Script]) {
+    for (row, stored, steps) in scripts {
+        goes(rt, alloc, row, stored, steps);
     }
 }

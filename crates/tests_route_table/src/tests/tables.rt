@@ -9,25 +9,21 @@ use std::str::FromStr;
 /// What is found in a row of a table is what is wanted; else the row is told. A call of it is proved in a tenth of the time of an
 /// `assert_eq!`.
 pub(crate) fn row_is<T: Copy + PartialEq + Debug>(rt: &impl Abort, row: &str, found: T, wanted: T) {
-    assert_eq!(rt; found, wanted, "{row}");
+    assert_eq!(rt; (row, found), (row, wanted));
 }
 
-/// The same of a step of a script; where it fails, how many steps came before is told too.
+/// The same of a step of a script; where it fails, how many steps came before is told before both values.
 pub(crate) fn step_is<T: Copy + PartialEq + Debug>(
     rt: &impl Abort,
     at: (&str, usize),
     found: T,
     wanted: T,
 ) {
-    assert_eq!(rt; found, wanted, "{}, after {} steps", at.0, at.1);
+    row_is(rt, at.0, (at.1, found), (at.1, wanted));
 }
 
 pub(crate) fn net(rt: &impl Abort, text: &str) -> IpNet {
     IpNet::from_str(text).expect(rt, text)
-}
-
-pub(crate) fn empty(rt: &impl Abort, alloc: Global) -> RouteTable {
-    RouteTable::new(alloc).expect(rt, "a table")
 }
 
 /// The hop of a word: a number, or `drop`.
@@ -44,18 +40,19 @@ pub(crate) fn route(rt: &impl Abort, words: &str) -> (IpNet, Hop) {
     (net(rt, network), hop_of(rt, word))
 }
 
-/// The routes of a text, between commas.
-pub(crate) fn routes(rt: &impl Abort, alloc: Global, text: &str) -> Vec<(IpNet, Hop)> {
-    let mut routes = Vec::new(alloc);
+/// These are the routes of the text, in this order.
+pub(crate) fn routes_are(rt: &impl Abort, row: &str, found: &[(IpNet, Hop)], text: &str) {
+    let mut left = found.iter();
     for words in text.split_terminator(',') {
-        routes.push(route(rt, words.trim())).expect(rt, "memory");
+        let wanted = route(rt, words.trim());
+        row_is(rt, row, left.next().copied(), Some(wanted));
     }
-    routes
+    row_is(rt, row, left.next().copied(), None);
 }
 
 /// A table of the routes of a text, added in order with the default preference.
 pub(crate) fn table(rt: &impl Abort, alloc: Global, text: &str) -> RouteTable {
-    let mut table = empty(rt, alloc);
+    let mut table = RouteTable::new(alloc).expect(rt, "a table");
     for words in text.split_terminator(',') {
         let (net, hop) = route(rt, words.trim());
         let _ = table.add(net, hop, 100).expect(rt, words);
