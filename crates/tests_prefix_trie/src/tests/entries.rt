@@ -5,7 +5,7 @@ use crate::tests::entries::Call::{
 };
 use crate::tests::maps::{is_equal, is_text, map_of, net, step_is};
 use ipnet::Ipv4Net;
-use prefix_trie::map::Entry;
+use prefix_trie::map::{Entry, Iter};
 use prefix_trie::{PrefixMap, Refused};
 use std::alloc::Global;
 use std::process::Abort;
@@ -40,29 +40,41 @@ const STORING: [(&str, Storing, u32); 6] = [
     ("default of a vacant entry", Storing::Default, 0),
 ];
 
+/// Memory was refused and the value came back: none is stored.
+fn came_back(rt: &impl Abort, refused: (Refused, u32), value: u32) -> Option<u32> {
+    is_equal(rt, refused, (Refused::Memory, value));
+    None
+}
+
 /// What a storing call answered: the value where it was stored, none where memory was refused and the value came back.
 fn answered(rt: &impl Abort, outcome: Result<&mut u32, (Refused, u32)>, value: u32) -> Option<u32> {
     match outcome {
         Ok(stored) => Some(*stored),
-        Err(refused) => {
-            is_equal(rt, refused, (Refused::Memory, value));
-            None
-        }
+        Err(refused) => came_back(rt, refused, value),
     }
+}
+
+/// The value that `or_insert_with` stored for this network, or none where memory was refused.
+fn stored_with(
+    rt: &impl Abort,
+    map: &mut PrefixMap<Ipv4Net, u32>,
+    key: Ipv4Net,
+    value: u32,
+) -> Option<u32> {
+    answered(rt, map.entry(key).or_insert_with(|| value), value)
 }
 
 /// The value that the call stored for this network, or none where memory was refused.
 fn stored_by(
     rt: &impl Abort,
     map: &mut PrefixMap<Ipv4Net, u32>,
-    text: &str,
+    key: Ipv4Net,
     call: &Storing,
     value: u32,
 ) -> Option<u32> {
-    let key = net(rt, text);
     match call {
         Storing::OrInsert => answered(rt, map.entry(key).or_insert(value), value),
-        Storing::OrInsertWith => answered(rt, map.entry(key).or_insert_with(|| value), value),
+        Storing::OrInsertWith => stored_with(rt, map, key, value),
         Storing::OrDefault => answered(rt, map.entry(key).or_default(), value),
         into_vacant => stored_into_vacant(rt, map, key, into_vacant, value),
     }
@@ -103,7 +115,7 @@ fn is_refused_or_stored(
 /// The call stores 10.0.0.0/8, given with host bits, into an empty map.
 fn is_stored(rt: &impl Abort, alloc: Global, row: &str, call: &Storing, value: u32) {
     let mut map = map_of(rt, alloc, &[]);
-    let stored = stored_by(rt, &mut map, "10.1.2.3/8", call, value);
+    let stored = stored_by(rt, &mut map, net(rt, "10.1.2.3/8"), call, value);
     step_is(rt, (row, 0), stored, Some(value));
     is_refused_or_stored(rt, row, &map, ("10.0.0.0/8", stored, 2));
 }
@@ -119,7 +131,7 @@ fn stored_into_an_empty_map(rt: HostRuntime) {
 /// value comes back.
 fn may_be_refused(rt: &impl Abort, alloc: Global, row: &str, call: &Storing, value: u32) {
     let mut map = map_of(rt, alloc, &[]);
-    let stored = stored_by(rt, &mut map, "1.2.3.0/32", call, value);
+    let stored = stored_by(rt, &mut map, net(rt, "1.2.3.0/32"), call, value);
     is_refused_or_stored(rt, row, &map, ("1.2.3.0/32", stored, 7));
 }
 
@@ -130,16 +142,18 @@ fn each_store_may_be_refused(rt: HostRuntime) {
     }
 }
 
+/// The value that `insert` stored for 1.2.3.0/32, or none where memory was refused.
+fn inserted(rt: &impl Abort, map: &mut PrefixMap<Ipv4Net, u32>) -> Option<u32> {
+    match map.entry(net(rt, "1.2.3.0/32")).insert(5) {
+        Ok(_) => Some(5),
+        Err(refused) => came_back(rt, refused, 5),
+    }
+}
+
 #[test]
 fn insert_may_be_refused(rt: HostRuntime) {
     let mut map = map_of(&rt, rt.alloc(), &[]);
-    let stored = match map.entry(net(&rt, "1.2.3.0/32")).insert(5) {
-        Ok(_) => Some(5),
-        Err(refused) => {
-            is_equal(&rt, refused, (Refused::Memory, 5));
-            None
-        }
-    };
+    let stored = inserted(&rt, &mut map);
     is_refused_or_stored(&rt, "insert", &map, ("1.2.3.0/32", stored, 7));
 }
 
@@ -254,39 +268,65 @@ fn matched(rt: &impl Abort, map: &mut PrefixMap<Ipv4Net, u32>) {
     *value = 7;
 }
 
+/// What `or_insert` stores is lent, and written.
+fn lent(rt: &impl Abort, map: &mut PrefixMap<Ipv4Net, u32>) {
+    let entry = map.entry(net(rt, "10.0.0.0/8"));
+    *entry.or_insert(1).expect(rt, "memory") = 5;
+}
+
+/// `get_mut` lends the value.
+fn written(rt: &impl Abort, map: &mut PrefixMap<Ipv4Net, u32>) {
+    let mut entry = map.entry(net(rt, "10.0.0.0/8"));
+    *entry.get_mut().expect(rt, "a value") = 7;
+}
+
+/// `insert`, twice.
+fn stored(rt: &impl Abort, map: &mut PrefixMap<Ipv4Net, u32>) {
+    had_is(rt, map.entry(net(rt, "10.1.2.3/8")).insert(1), None);
+    is_equal(rt, map.get(&net(rt, "10.0.0.0/8")).copied(), Some(1));
+    had_is(rt, map.entry(net(rt, "10.9.9.9/8")).insert(2), Some(1));
+}
+
+/// No match is lent.
+fn no_match(rt: &impl Abort, map: &mut PrefixMap<Ipv4Net, u32>) {
+    let found = map.get_lpm_mut(&net(rt, "11.0.0.0/8"));
+    is_equal(rt, found.is_none(), true);
+}
+
+/// A vacant entry lends nothing.
+fn no_entry(rt: &impl Abort, map: &mut PrefixMap<Ipv4Net, u32>) {
+    let mut entry = map.entry(net(rt, "10.2.3.0/24"));
+    is_equal(rt, entry.get_mut().is_none(), true);
+}
+
 /// Makes the call, which answers as it has to.
 fn calls(rt: &impl Abort, map: &mut PrefixMap<Ipv4Net, u32>, call: &Call) {
-    let ten = net(rt, "10.0.0.0/8");
     match call {
         Defaulted => defaulted(rt, map),
-        Lent => *map.entry(ten).or_insert(1).expect(rt, "memory") = 5,
+        Lent => lent(rt, map),
         OrInserted => or_inserted(rt, map),
-        Written => *map.entry(ten).get_mut().expect(rt, "a value") = 7,
+        Written => written(rt, map),
         Occupied => occupied(rt, map),
         Removed => removed(rt, map),
-        Stored => {
-            had_is(rt, map.entry(net(rt, "10.1.2.3/8")).insert(1), None);
-            is_equal(rt, map.get(&ten).copied(), Some(1));
-            had_is(rt, map.entry(net(rt, "10.9.9.9/8")).insert(2), Some(1));
-        }
+        Stored => stored(rt, map),
         StoredTwice => stored_twice(rt, map),
         WrittenAfter => written_after(rt, map),
-        NoMatch => {
-            let found = map.get_lpm_mut(&net(rt, "11.0.0.0/8"));
-            is_equal(rt, found.is_none(), true);
-        }
-        NoEntry => {
-            let mut entry = map.entry(net(rt, "10.2.3.0/24"));
-            is_equal(rt, entry.get_mut().is_none(), true);
-        }
+        NoMatch => no_match(rt, map),
+        NoEntry => no_entry(rt, map),
         Matched => matched(rt, map),
         of_a_key => keys(rt, map, of_a_key),
     }
 }
 
+/// Entries, by their texts.
+type Entries = &'static [(&'static str, u32)];
+
 /// A call, what is stored before and after it, and how many nodes there are then. Where a third network is stored before, its
 /// entry is taken out, and its nodes are kept.
-const CALLS: [(&str, Call, &[(&str, u32)], &[(&str, u32)], usize); 15] = [
+type Row = (&'static str, Call, Entries, Entries, usize);
+
+/// The calls.
+const CALLS: [Row; 15] = [
     ("a vacant key", VacantKey, &[], &[("10.1.0.0/16", 7)], 4),
     (
         "a stored key",
@@ -343,6 +383,15 @@ const UNWRITTEN: [(&str, u32); 2] = [("10.0.0.0/8", 1), ("10.1.0.0/16", 2)];
 /// What is left where the first value is.
 const WRITTEN: [(&str, u32); 2] = [("10.0.0.0/8", 7), ("10.1.0.0/16", 2)];
 
+/// The next entry is this one.
+fn next_is(rt: &impl Abort, row: &str, left: &mut Iter<'_, Ipv4Net, u32>, wanted: &(&str, u32)) {
+    let Some((key, value)) = left.next() else {
+        panic!(rt; "{row}: too few entries")
+    };
+    step_is(rt, (row, 1), key, net(rt, wanted.0));
+    step_is(rt, (row, 1), *value, wanted.1);
+}
+
 /// The map has these entries and no other, in this order.
 fn has_in_order(
     rt: &impl Abort,
@@ -351,12 +400,8 @@ fn has_in_order(
     entries: &[(&str, u32)],
 ) {
     let mut left = map.into_iter();
-    for (text, stored) in entries.iter() {
-        let Some((key, value)) = left.next() else {
-            panic!(rt; "{row}: too few entries")
-        };
-        step_is(rt, (row, 1), key, net(rt, text));
-        step_is(rt, (row, 1), *value, *stored);
+    for entry in entries.iter() {
+        next_is(rt, row, &mut left, entry);
     }
     step_is(rt, (row, 1), left.next().is_none(), true);
 }
@@ -393,10 +438,15 @@ fn call_is(
     is_whole(rt, row, map, after, nodes);
 }
 
+/// The same of each call, with a map of its own.
+fn all_are(rt: &impl Abort, alloc: Global, rows: &[Row]) {
+    for (row, call, before, after, nodes) in rows.iter() {
+        let mut map = map_of(rt, alloc, before);
+        call_is(rt, &mut map, row, call, after, *nodes);
+    }
+}
+
 #[test]
 fn called(rt: HostRuntime) {
-    for (row, call, before, after, nodes) in &CALLS {
-        let mut map = map_of(&rt, rt.alloc(), before);
-        call_is(&rt, &mut map, row, call, after, *nodes);
-    }
+    all_are(&rt, rt.alloc(), &CALLS);
 }

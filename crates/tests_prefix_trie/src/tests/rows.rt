@@ -4,9 +4,9 @@ ghost use Rattle.std.specs.Iterator.{IsFinite};
 ghost use Rattle.std.specs.List.{All};
 
 use crate::tests::maps::{holds, is_equal, plain_map_of};
-use crate::tests::set_steps::digits;
+use crate::tests::set_steps::{digits, walked};
 use prefix_trie::map::{IntoIter, IterMut};
-use prefix_trie::{PrefixMap, PrefixSet, Refused};
+use prefix_trie::{Prefix, PrefixMap, PrefixSet, Refused};
 use std::alloc::Global;
 use std::cell::Cell;
 use std::process::Abort;
@@ -76,7 +76,7 @@ fn made_of_members(rt: HostRuntime) {
         (0x0a09_0808, 16),
     ];
     let set = set_of(&rt, rt.alloc(), members).expect(&rt, "a set");
-    is_equal(&rt, digits(set.iter()), 1019);
+    is_equal(&rt, walked(set.iter()), 1019);
     counts(&rt, &set, 3, 5);
     holds(&rt, set.contains(&(0x0a00_0000, 8)));
 }
@@ -85,7 +85,7 @@ fn made_of_members(rt: HostRuntime) {
 fn rest_is(rt: &impl Abort, set: &PrefixSet<(u32, u8)>, wanted: u32) {
     let mut members = set.iter();
     holds(rt, members.next().is_some());
-    is_equal(rt, digits(members.clone().expect(rt, "a copy")), wanted);
+    is_equal(rt, walked(members.clone().expect(rt, "a copy")), wanted);
 }
 
 #[test]
@@ -159,9 +159,14 @@ fn copied(rt: HostRuntime) {
 fn sets_copied(rt: HostRuntime) {
     let set = three(&rt, rt.alloc());
     let copy = set.try_clone(rt.alloc()).expect(&rt, "a copy");
-    holds(&rt, copy == set);
-    is_equal(&rt, copy.node_count(), set.node_count());
-    holds(&rt, set.iter().next().is_some());
+    is_copy(&rt, &set, &copy);
+}
+
+/// The copy of the set, which has members, is equal to it, and has its nodes.
+fn is_copy(rt: &impl Abort, set: &PrefixSet<(u32, u8)>, copy: &PrefixSet<(u32, u8)>) {
+    holds(rt, *copy == *set);
+    is_equal(rt, copy.node_count(), set.node_count());
+    holds(rt, set.iter().next().is_some());
 }
 
 /// The refusal is printed so.
@@ -223,6 +228,18 @@ impl<'a> Drop for Counted<'a> {
     }
 }
 
+/// Stores such a value.
+fn count_at<'a>(
+    rt: &impl Abort,
+    map: &mut PrefixMap<(u32, u8), Counted<'a>>,
+    key: (u32, u8),
+    drops: &'a Cell<u32>,
+)
+    requires { IsTrue (nat_le key.1 32) }
+{
+    holds(rt, map.insert(key, Counted { drops }).is_ok());
+}
+
 /// A map of three such values, at 0/0, 0/1 and 0x80000000/1.
 fn three_counted<'a>(
     rt: &impl Abort,
@@ -230,9 +247,9 @@ fn three_counted<'a>(
     drops: &'a Cell<u32>,
 ) -> PrefixMap<(u32, u8), Counted<'a>> {
     let mut map = PrefixMap::new(alloc).expect(rt, "a map");
-    holds(rt, map.insert((0, 0), Counted { drops }).is_ok());
-    holds(rt, map.insert((0, 1), Counted { drops }).is_ok());
-    holds(rt, map.insert((0x8000_0000, 1), Counted { drops }).is_ok());
+    count_at(rt, &mut map, (0, 0), drops);
+    count_at(rt, &mut map, (0, 1), drops);
+    count_at(rt, &mut map, (0x8000_0000, 1), drops);
     map
 }
 
@@ -256,6 +273,16 @@ fn next_value<'a>(
     value
 }
 
+/// No entry is left.
+fn is_done(rt: &impl Abort, entries: &mut IntoIter<(u32, u8), Counted<'_>>) {
+    holds(rt, entries.next().is_none());
+}
+
+/// The entries that are left are dropped.
+fn drop_left(entries: IntoIter<(u32, u8), Counted<'_>>) {
+    drop(entries);
+}
+
 #[test]
 fn dropped_with_the_iterator(rt: HostRuntime) {
     let drops = Cell::new(0);
@@ -264,7 +291,7 @@ fn dropped_with_the_iterator(rt: HostRuntime) {
     is_equal(&rt, drops.get(), 0);
     drop(value);
     is_equal(&rt, drops.get(), 1);
-    drop(entries);
+    drop_left(entries);
     is_equal(&rt, drops.get(), 3);
 }
 
@@ -274,8 +301,8 @@ fn dropped_outside(rt: HostRuntime) {
     let mut entries = three_counted(&rt, rt.alloc(), &drops).into_children(&(0x8000_0000, 1));
     is_equal(&rt, drops.get(), 2);
     let value = next_value(&rt, &mut entries, (0x8000_0000, 1));
-    holds(&rt, entries.next().is_none());
-    drop(entries);
+    is_done(&rt, &mut entries);
+    drop_left(entries);
     is_equal(&rt, drops.get(), 2);
     drop(value);
     is_equal(&rt, drops.get(), 3);
@@ -303,10 +330,15 @@ fn four_entries(rt: &impl Abort, alloc: Global) -> PrefixMap<(u32, u8), u32> {
     map_of(rt, alloc, entries).expect(rt, "a map")
 }
 
+/// The values of a map that is given away, as digits.
+fn given_values<P: Prefix + Drop>(map: PrefixMap<P, u32>) -> u32 {
+    value_digits(map.into_values())
+}
+
 #[test]
 fn owned_values(rt: HostRuntime) {
     let map = four_entries(&rt, rt.alloc());
-    is_equal(&rt, value_digits(map.into_values()), 1234);
+    is_equal(&rt, given_values(map), 1234);
 }
 
 #[test]
@@ -317,7 +349,7 @@ fn owned_keys(rt: HostRuntime) {
 }
 
 /// The values of the entries that are left, one after another, as digits.
-fn entry_digits<I: Iterator<Item = ((u32, u8), u32)>>(entries: I) -> u32
+fn entry_digits<P: Drop, I: Iterator<Item = (P, u32)>>(entries: I) -> u32
     requires { I.can_next entries × IsFinite (I.remaining entries) }
 {
     let mut digits = 0u32;
@@ -327,10 +359,17 @@ fn entry_digits<I: Iterator<Item = ((u32, u8), u32)>>(entries: I) -> u32
     digits
 }
 
+/// The values inside a prefix, of a map that is given away, as digits.
+fn given_children<P: Prefix + Drop>(map: PrefixMap<P, u32>, prefix: &P) -> u32
+    requires { IsTrue (P.fits prefix.now) }
+{
+    entry_digits(map.into_children(prefix))
+}
+
 #[test]
 fn owned_children(rt: HostRuntime) {
     let map = four_entries(&rt, rt.alloc());
-    is_equal(&rt, entry_digits(map.into_children(&(0x0a01_0000, 10))), 23);
+    is_equal(&rt, given_children(map, &(0x0a01_0000, 10)), 23);
 }
 
 #[test]
@@ -442,7 +481,7 @@ fn kept_members(rt: HostRuntime) {
         member.0 != 0x0a01_0000
     });
     is_equal(&rt, asked, 81616);
-    is_equal(&rt, digits(set.iter()), 109);
+    is_equal(&rt, walked(set.iter()), 109);
     is_equal(&rt, set.node_count(), 4);
 }
 

@@ -8,6 +8,7 @@ use crate::tests::set_steps::Call::*;
 use crate::tests::set_steps::Step::{Addresses, At, Clear, Counts, RetainAll, Walk};
 use crate::tests::steps::Spells;
 use prefix_trie::PrefixSet;
+use prefix_trie::set::Iter;
 use std::alloc::Global;
 use std::process::Abort;
 
@@ -69,6 +70,11 @@ pub(crate) fn digits<I: Iterator<Item = (u32, u8)>>(members: I) -> u32
     digits
 }
 
+/// The same of the members of a walk.
+pub(crate) fn walked(members: Iter<'_, Member>) -> u32 {
+    digits(members)
+}
+
 /// A call that changes the set at a member answers so, or another does.
 fn change(
     rt: &impl Abort,
@@ -99,9 +105,9 @@ fn ask(rt: &impl Abort, at: (&str, usize), set: &PrefixSet<Member>, member: &Mem
         Shortest(wanted) => step_is(rt, at, set.get_spm(member), *wanted),
         IsCovered(wanted) => step_is(rt, at, set.is_covered(member), *wanted),
         From(inclusive, wanted) => {
-            step_is(rt, at, digits(set.iter_from(member, *inclusive)), *wanted);
+            step_is(rt, at, walked(set.iter_from(member, *inclusive)), *wanted);
         }
-        Children(wanted) => step_is(rt, at, digits(set.children(member)), *wanted),
+        Children(wanted) => step_is(rt, at, walked(set.children(member)), *wanted),
         Cover(wanted) => step_is(rt, at, digits(set.cover(member)), *wanted),
         _ => (),
     }
@@ -126,8 +132,8 @@ fn ask_of_all(rt: &impl Abort, at: (&str, usize), set: &PrefixSet<Member>, step:
         }
         Addresses(wanted) => step_is(rt, at, set.address_count(), *wanted),
         Walk(wanted) => {
-            step_is(rt, at, digits(set.iter()), *wanted);
-            step_is(rt, at, digits(set.into_iter()), *wanted);
+            step_is(rt, at, walked(set.iter()), *wanted);
+            step_is(rt, at, walked(set.into_iter()), *wanted);
         }
         _ => (),
     }
@@ -138,6 +144,13 @@ fn goes(rt: &impl Abort, alloc: Global, row: &str, stored: &[Member], steps: &[S
     let mut set = set_with(rt, alloc, stored);
     for (at, each) in steps.iter().enumerate() {
         take(rt, (row, at), &mut set, each);
+    }
+}
+
+/// Each script goes so.
+fn all_go(rt: &impl Abort, alloc: Global, scripts: &[(&str, &[Member], &[Step])]) {
+    for (row, stored, steps) in scripts.iter() {
+        goes(rt, alloc, row, stored, steps);
     }
 }
 
@@ -211,7 +224,5 @@ const SCRIPTS: [(&str, &[Member], &[Step]); 8] = [
 
 #[test]
 fn sets(rt: HostRuntime) {
-    for (row, stored, steps) in &SCRIPTS {
-        goes(&rt, rt.alloc(), row, stored, steps);
-    }
+    all_go(&rt, rt.alloc(), &SCRIPTS);
 }

@@ -5,6 +5,7 @@ use crate::tests::maps::{digits, step_is, value_digits};
 use crate::tests::steps::Call::*;
 use crate::tests::steps::Step::{Addresses, At, Clear, Counts, Retain, Walk};
 use ipnet::{Ipv4Net, Ipv6Net};
+use prefix_trie::map::Iter;
 use prefix_trie::{Key, Prefix, PrefixMap};
 use std::alloc::Global;
 use std::fmt::Debug;
@@ -66,7 +67,7 @@ pub(crate) enum Call<S> {
     /// `get_lpm_prefix`: the longest match.
     LongestKey(S),
     /// `longest_match`: its length, and its value.
-    Length(Option<(u8, &'static u32)>),
+    Length(Option<(u8, u32)>),
     /// `get_lpm_visits`: the longest match, its value, and how many nodes are visited.
     Visits(Option<(S, u32)>, u32),
     /// `get_spm`: the shortest match, and its value.
@@ -115,6 +116,29 @@ fn entry_is<P: Prefix + Copy + PartialEq + Debug, S: Spells<P>>(
     step_is(rt, at, found, entry);
 }
 
+/// The length and the value of a match are these, or there is none.
+fn length_is(
+    rt: &impl Abort,
+    at: (&str, usize),
+    found: Option<(u8, &u32)>,
+    wanted: Option<(u8, u32)>,
+) {
+    let found = match found {
+        Some((length, stored)) => Some((length, *stored)),
+        None => None,
+    };
+    step_is(rt, at, found, wanted);
+}
+
+/// The values of a walk over entries, one after another, as digits.
+pub(crate) fn walked<P: Prefix + Drop>(entries: Iter<'_, P, u32>) -> u32 {
+    let mut digits = 0u32;
+    for (_, value) in entries {
+        digits = digits.wrapping_mul(10).wrapping_add(*value);
+    }
+    digits
+}
+
 /// A call that changes the map at a prefix answers so, or another does.
 fn change<P: Prefix + Copy + Drop + PartialEq + Debug, S: Spells<P>>(
     rt: &impl Abort,
@@ -126,16 +150,35 @@ fn change<P: Prefix + Copy + Drop + PartialEq + Debug, S: Spells<P>>(
     requires { IsTrue (P.fits key) }
 {
     match call {
-        Insert(value, had) => step_is(rt, at, map.insert(key, *value), Ok(*had)),
+        Insert(value, had) => insert(rt, at, map, key, *value, *had),
         Remove(had) => step_is(rt, at, map.remove(&key), *had),
         KeepTree(had) => step_is(rt, at, map.remove_keep_tree(&key), *had),
         RemoveChildren => map.remove_children(&key),
-        Write(value) => *map.get_mut(&key).expect(rt, at.0) = *value,
+        Write(value) => write(rt, at, map.get_mut(&key), *value),
         asked => ask(rt, at, map, &key, asked),
     }
 }
 
-/// A call that asks for entries answers so.
+/// A value is stored, and the one that was stored before is this one.
+fn insert<P: Prefix + Drop>(
+    rt: &impl Abort,
+    at: (&str, usize),
+    map: &mut PrefixMap<P, u32>,
+    key: P,
+    value: u32,
+    had: Option<u32>,
+)
+    requires { IsTrue (P.fits key) }
+{
+    step_is(rt, at, map.insert(key, value).expect(rt, at.0), had);
+}
+
+/// The value that is lent is written.
+fn write(rt: &impl Abort, at: (&str, usize), lent: Option<&mut u32>, value: u32) {
+    *lent.expect(rt, at.0) = value;
+}
+
+/// A call that asks for an entry answers so, or another does.
 fn ask<P: Prefix + Copy + Drop + PartialEq + Debug, S: Spells<P>>(
     rt: &impl Abort,
     at: (&str, usize),
@@ -149,9 +192,26 @@ fn ask<P: Prefix + Copy + Drop + PartialEq + Debug, S: Spells<P>>(
         Get(value) => step_is(rt, at, map.get(key).copied(), *value),
         VeryKey(entry) => entry_is(rt, at, map.get_key_value(key), entry),
         Contains(wanted) => step_is(rt, at, map.contains_key(key), *wanted),
+        IsCovered(wanted) => step_is(rt, at, map.is_covered(key), *wanted),
+        IsLeaf(wanted) => step_is(rt, at, map.is_leaf(key), *wanted),
+        asked => ask_for_matches(rt, at, map, key, asked),
+    }
+}
+
+/// A call that asks for a match answers so, or another does.
+fn ask_for_matches<P: Prefix + Copy + Drop + PartialEq + Debug, S: Spells<P>>(
+    rt: &impl Abort,
+    at: (&str, usize),
+    map: &PrefixMap<P, u32>,
+    key: &P,
+    call: &Call<S>,
+)
+    requires { IsTrue (P.fits key.now) }
+{
+    match call {
         Longest(entry) => entry_is(rt, at, map.get_lpm(key), entry),
         LongestKey(longest) => step_is(rt, at, map.get_lpm_prefix(key), longest.prefix()),
-        Length(wanted) => step_is(rt, at, map.longest_match(key), *wanted),
+        Length(wanted) => length_is(rt, at, map.longest_match(key), *wanted),
         Visits(entry, visits) => {
             let (found, count) = map.get_lpm_visits(key);
             entry_is(rt, at, found, entry);
@@ -159,11 +219,24 @@ fn ask<P: Prefix + Copy + Drop + PartialEq + Debug, S: Spells<P>>(
         }
         Shortest(entry) => entry_is(rt, at, map.get_spm(key), entry),
         ShortestKey(shortest) => step_is(rt, at, map.get_spm_prefix(key), shortest.prefix()),
-        IsCovered(wanted) => step_is(rt, at, map.is_covered(key), *wanted),
-        IsLeaf(wanted) => step_is(rt, at, map.is_leaf(key), *wanted),
-        Children(values) => step_is(rt, at, digits(map.children(key)), *values),
+        asked => walk(rt, at, map, key, asked),
+    }
+}
+
+/// A call that walks over entries answers so.
+fn walk<P: Prefix + Drop, S>(
+    rt: &impl Abort,
+    at: (&str, usize),
+    map: &PrefixMap<P, u32>,
+    key: &P,
+    call: &Call<S>,
+)
+    requires { IsTrue (P.fits key.now) }
+{
+    match call {
+        Children(values) => step_is(rt, at, walked(map.children(key)), *values),
         From(inclusive, values) => {
-            step_is(rt, at, digits(map.iter_from(key, *inclusive)), *values);
+            step_is(rt, at, walked(map.iter_from(key, *inclusive)), *values);
         }
         Cover(values) => {
             step_is(rt, at, digits(map.cover(key)), *values);
@@ -202,7 +275,7 @@ fn ask_of_all<P: Prefix + Drop, S>(
         }
         Addresses(wanted) => addresses_are(rt, at, map, *wanted),
         Walk(values) => {
-            step_is(rt, at, digits(map.iter()), *values);
+            step_is(rt, at, walked(map.iter()), *values);
             step_is(rt, at, value_digits(map.values()), *values);
         }
         _ => (),
@@ -223,8 +296,11 @@ fn addresses_are<P: Prefix + Drop>(
     step_is(rt, at, count, wanted);
 }
 
+/// A script: its name, what is stored at first, in this order, and the calls.
+pub(crate) type Script<S> = (&'static str, &'static [(S, u32)], &'static [Step<S>]);
+
 /// The calls of a script answer so, one after another, of a map of these entries, which were stored in this order.
-pub(crate) fn goes<P: Prefix + Copy + Drop + PartialEq + Debug, S: Spells<P>>(
+fn goes<P: Prefix + Copy + Drop + PartialEq + Debug, S: Spells<P>>(
     rt: &impl Abort,
     alloc: Global,
     row: &str,
@@ -234,9 +310,20 @@ pub(crate) fn goes<P: Prefix + Copy + Drop + PartialEq + Debug, S: Spells<P>>(
     let mut map: PrefixMap<P, u32> = PrefixMap::new(alloc).expect(rt, "a map");
     for (key, value) in stored {
         let key = key.prefix().expect(rt, row);
-        step_is(rt, (row, 0), map.insert(key, *value), Ok(None));
+        insert(rt, (row, 0), &mut map, key, *value, None);
     }
     for (at, each) in steps.iter().enumerate() {
         take(rt, (row, at), &mut map, each);
+    }
+}
+
+/// Each script goes so.
+pub(crate) fn all_go<P: Prefix + Copy + Drop + PartialEq + Debug, S: Spells<P>>(
+    rt: &impl Abort,
+    alloc: Global,
+    scripts: &[Script<S>],
+) {
+    for (row, stored, steps) in scripts.iter() {
+        goes::<P, S>(rt, alloc, row, stored, steps);
     }
 }
