@@ -5,7 +5,7 @@ use crate::tests::entries::Call::{
 };
 use crate::tests::maps::{is_equal, is_text, map_of, net, step_is};
 use ipnet::Ipv4Net;
-use prefix_trie::map::{Entry, Iter};
+use prefix_trie::map::Entry;
 use prefix_trie::{PrefixMap, Refused};
 use std::alloc::Global;
 use std::process::Abort;
@@ -383,15 +383,6 @@ const UNWRITTEN: [(&str, u32); 2] = [("10.0.0.0/8", 1), ("10.1.0.0/16", 2)];
 /// What is left where the first value is.
 const WRITTEN: [(&str, u32); 2] = [("10.0.0.0/8", 7), ("10.1.0.0/16", 2)];
 
-/// The next entry is this one.
-fn next_is(rt: &impl Abort, row: &str, left: &mut Iter<'_, Ipv4Net, u32>, wanted: &(&str, u32)) {
-    let Some((key, value)) = left.next() else {
-        panic!(rt; "{row}: too few entries")
-    };
-    step_is(rt, (row, 1), key, net(rt, wanted.0));
-    step_is(rt, (row, 1), *value, wanted.1);
-}
-
 /// The map has these entries and no other, in this order.
 fn has_in_order(
     rt: &impl Abort,
@@ -400,8 +391,12 @@ fn has_in_order(
     entries: &[(&str, u32)],
 ) {
     let mut left = map.into_iter();
-    for entry in entries.iter() {
-        next_is(rt, row, &mut left, entry);
+    for (text, stored) in entries.iter() {
+        let Some((key, value)) = left.next() else {
+            panic!(rt; "{row}: too few entries")
+        };
+        step_is(rt, (row, 1), key, net(rt, text));
+        step_is(rt, (row, 1), *value, *stored);
     }
     step_is(rt, (row, 1), left.next().is_none(), true);
 }

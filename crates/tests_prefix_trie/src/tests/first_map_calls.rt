@@ -23,11 +23,6 @@ fn found(rt: HostRuntime) {
     let map = two_entries(&rt, rt.alloc());
     let inner = net(&rt, "10.1.0.0/16");
     let host = net(&rt, "10.1.2.3/32");
-    finds(&rt, &map, inner, host);
-}
-
-/// What is found of the network that is stored, and of a host in it.
-fn finds(rt: &impl Abort, map: &PrefixMap<Ipv4Net, u32>, inner: Ipv4Net, host: Ipv4Net) {
     assert_eq!(rt; map.get(&inner), Some(&2));
     assert_eq!(rt; map.get(&host), None);
     assert_eq!(rt; map.get_lpm(&host), Some((inner, &2)));
@@ -38,11 +33,6 @@ fn walked(rt: HostRuntime) {
     let map = two_entries(&rt, rt.alloc());
     let wide = net(&rt, "10.0.0.0/8");
     let inner = net(&rt, "10.1.0.0/16");
-    walks(&rt, &map, wide, inner);
-}
-
-/// A walk gives both networks.
-fn walks(rt: &impl Abort, map: &PrefixMap<Ipv4Net, u32>, wide: Ipv4Net, inner: Ipv4Net) {
     let mut entries = map.iter();
     assert_eq!(rt; entries.next(), Some((wide, &1)));
     assert_eq!(rt; entries.next(), Some((inner, &2)));

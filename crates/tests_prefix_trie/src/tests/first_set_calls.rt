@@ -22,11 +22,6 @@ fn stored(rt: HostRuntime) {
 #[test]
 fn found(rt: HostRuntime) {
     let set = two_members(&rt, rt.alloc());
-    finds(&rt, &set);
-}
-
-/// What is found of a network, and of hosts.
-fn finds(rt: &impl Abort, set: &PrefixSet<(u32, u8)>) {
     let (inner, wide) = ((0x0a01_0000, 16), (0x0a00_0000, 8));
     assert_eq!(rt; set.get(&(0x0a01_0203, 16)), Some(inner));
     assert_eq!(rt; set.get_lpm(&(0x0a01_0203, 32)), Some(inner));
@@ -36,11 +31,6 @@ fn finds(rt: &impl Abort, set: &PrefixSet<(u32, u8)>) {
 #[test]
 fn walked(rt: HostRuntime) {
     let set = two_members(&rt, rt.alloc());
-    walks(&rt, &set);
-}
-
-/// A walk gives both members.
-fn walks(rt: &impl Abort, set: &PrefixSet<(u32, u8)>) {
     let (inner, wide) = ((0x0a01_0000, 16), (0x0a00_0000, 8));
     let mut members = set.iter();
     assert_eq!(rt; members.next(), Some(wide));

@@ -5,8 +5,8 @@ ghost use Rattle.std.specs.List.{All};
 
 use crate::tests::maps::{holds, is_equal, plain_map_of};
 use crate::tests::set_steps::{digits, walked};
-use prefix_trie::map::{IntoIter, IterMut};
-use prefix_trie::{Prefix, PrefixMap, PrefixSet, Refused};
+use prefix_trie::map::{IntoIter, IntoKeys, IterMut};
+use prefix_trie::{PrefixMap, PrefixSet, Refused};
 use std::alloc::Global;
 use std::cell::Cell;
 use std::process::Abort;
@@ -228,18 +228,6 @@ impl<'a> Drop for Counted<'a> {
     }
 }
 
-/// Stores such a value.
-fn count_at<'a>(
-    rt: &impl Abort,
-    map: &mut PrefixMap<(u32, u8), Counted<'a>>,
-    key: (u32, u8),
-    drops: &'a Cell<u32>,
-)
-    requires { IsTrue (nat_le key.1 32) }
-{
-    holds(rt, map.insert(key, Counted { drops }).is_ok());
-}
-
 /// A map of three such values, at 0/0, 0/1 and 0x80000000/1.
 fn three_counted<'a>(
     rt: &impl Abort,
@@ -247,9 +235,9 @@ fn three_counted<'a>(
     drops: &'a Cell<u32>,
 ) -> PrefixMap<(u32, u8), Counted<'a>> {
     let mut map = PrefixMap::new(alloc).expect(rt, "a map");
-    count_at(rt, &mut map, (0, 0), drops);
-    count_at(rt, &mut map, (0, 1), drops);
-    count_at(rt, &mut map, (0x8000_0000, 1), drops);
+    holds(rt, map.insert((0, 0), Counted { drops }).is_ok());
+    holds(rt, map.insert((0, 1), Counted { drops }).is_ok());
+    holds(rt, map.insert((0x8000_0000, 1), Counted { drops }).is_ok());
     map
 }
 
@@ -262,20 +250,22 @@ fn dropped_with_the_map(rt: HostRuntime) {
     is_equal(&rt, drops.get(), 3);
 }
 
-/// The value of the next entry, which has this key.
+/// The value of the next entry, which has this key; or no entry is left.
 fn next_value<'a>(
     rt: &impl Abort,
     entries: &mut IntoIter<(u32, u8), Counted<'a>>,
-    wanted: (u32, u8),
-) -> Counted<'a> {
-    let (key, value) = entries.next().expect(rt, "an entry");
-    is_equal(rt, key, wanted);
-    value
-}
-
-/// No entry is left.
-fn is_done(rt: &impl Abort, entries: &mut IntoIter<(u32, u8), Counted<'_>>) {
-    holds(rt, entries.next().is_none());
+    wanted: Option<(u32, u8)>,
+) -> Option<Counted<'a>> {
+    match entries.next() {
+        Some((key, value)) => {
+            is_equal(rt, Some(key), wanted);
+            Some(value)
+        }
+        None => {
+            holds(rt, wanted.is_none());
+            None
+        }
+    }
 }
 
 /// The entries that are left are dropped.
@@ -287,7 +277,7 @@ fn drop_left(entries: IntoIter<(u32, u8), Counted<'_>>) {
 fn dropped_with_the_iterator(rt: HostRuntime) {
     let drops = Cell::new(0);
     let mut entries = three_counted(&rt, rt.alloc(), &drops).into_iter();
-    let value = next_value(&rt, &mut entries, (0, 0));
+    let value = next_value(&rt, &mut entries, Some((0, 0)));
     is_equal(&rt, drops.get(), 0);
     drop(value);
     is_equal(&rt, drops.get(), 1);
@@ -300,8 +290,8 @@ fn dropped_outside(rt: HostRuntime) {
     let drops = Cell::new(0);
     let mut entries = three_counted(&rt, rt.alloc(), &drops).into_children(&(0x8000_0000, 1));
     is_equal(&rt, drops.get(), 2);
-    let value = next_value(&rt, &mut entries, (0x8000_0000, 1));
-    is_done(&rt, &mut entries);
+    let value = next_value(&rt, &mut entries, Some((0x8000_0000, 1)));
+    holds(&rt, next_value(&rt, &mut entries, None).is_none());
     drop_left(entries);
     is_equal(&rt, drops.get(), 2);
     drop(value);
@@ -330,26 +320,26 @@ fn four_entries(rt: &impl Abort, alloc: Global) -> PrefixMap<(u32, u8), u32> {
     map_of(rt, alloc, entries).expect(rt, "a map")
 }
 
-/// The values of a map that is given away, as digits.
-fn given_values<P: Prefix + Drop>(map: PrefixMap<P, u32>) -> u32 {
-    value_digits(map.into_values())
-}
-
 #[test]
 fn owned_values(rt: HostRuntime) {
     let map = four_entries(&rt, rt.alloc());
-    is_equal(&rt, given_values(map), 1234);
+    is_equal(&rt, value_digits(map.into_values()), 1234);
+}
+
+/// The second bytes of the keys or the members that are given away, as digits.
+fn given<T: Drop>(keys: IntoKeys<(u32, u8), T>) -> u32 {
+    digits(keys)
 }
 
 #[test]
 fn owned_keys(rt: HostRuntime) {
     let map = four_entries(&rt, rt.alloc());
     let copy = map.try_clone(rt.alloc()).expect(&rt, "a copy");
-    is_equal(&rt, digits(copy.into_keys()), 10110);
+    is_equal(&rt, given(copy.into_keys()), 10110);
 }
 
 /// The values of the entries that are left, one after another, as digits.
-fn entry_digits<P: Drop, I: Iterator<Item = (P, u32)>>(entries: I) -> u32
+fn entry_digits<I: Iterator<Item = ((u32, u8), u32)>>(entries: I) -> u32
     requires { I.can_next entries × IsFinite (I.remaining entries) }
 {
     let mut digits = 0u32;
@@ -359,22 +349,15 @@ fn entry_digits<P: Drop, I: Iterator<Item = (P, u32)>>(entries: I) -> u32
     digits
 }
 
-/// The values inside a prefix, of a map that is given away, as digits.
-fn given_children<P: Prefix + Drop>(map: PrefixMap<P, u32>, prefix: &P) -> u32
-    requires { IsTrue (P.fits prefix.now) }
-{
-    entry_digits(map.into_children(prefix))
-}
-
 #[test]
 fn owned_children(rt: HostRuntime) {
     let map = four_entries(&rt, rt.alloc());
-    is_equal(&rt, given_children(map, &(0x0a01_0000, 10)), 23);
+    is_equal(&rt, entry_digits(map.into_children(&(0x0a01_0000, 10))), 23);
 }
 
 #[test]
 fn owned_members(rt: HostRuntime) {
-    is_equal(&rt, digits(three(&rt, rt.alloc()).into_iter()), 1019);
+    is_equal(&rt, given(three(&rt, rt.alloc()).into_iter()), 1019);
 }
 
 /// The next value is lent, and written.

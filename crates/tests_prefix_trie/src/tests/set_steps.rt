@@ -94,15 +94,20 @@ fn change(
     }
 }
 
+/// This member is found, or none is.
+fn member_is(rt: &impl Abort, at: (&str, usize), found: Option<Member>, wanted: Option<Member>) {
+    step_is(rt, at, found, wanted);
+}
+
 /// A call that asks for a member answers so.
 fn ask(rt: &impl Abort, at: (&str, usize), set: &PrefixSet<Member>, member: &Member, call: &Call)
     requires { IsTrue (nat_le member.now.1 32) }
 {
     match call {
         Contains(wanted) => step_is(rt, at, set.contains(member), *wanted),
-        Get(wanted) => step_is(rt, at, set.get(member), *wanted),
-        Longest(wanted) => step_is(rt, at, set.get_lpm(member), *wanted),
-        Shortest(wanted) => step_is(rt, at, set.get_spm(member), *wanted),
+        Get(wanted) => member_is(rt, at, set.get(member), *wanted),
+        Longest(wanted) => member_is(rt, at, set.get_lpm(member), *wanted),
+        Shortest(wanted) => member_is(rt, at, set.get_spm(member), *wanted),
         IsCovered(wanted) => step_is(rt, at, set.is_covered(member), *wanted),
         From(inclusive, wanted) => {
             step_is(rt, at, walked(set.iter_from(member, *inclusive)), *wanted);

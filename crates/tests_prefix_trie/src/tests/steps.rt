@@ -170,7 +170,7 @@ fn insert<P: Prefix + Drop>(
 )
     requires { IsTrue (P.fits key) }
 {
-    step_is(rt, at, map.insert(key, value).expect(rt, at.0), had);
+    step_is(rt, at, map.insert(key, value), Ok(had));
 }
 
 /// The value that is lent is written.
