@@ -40,41 +40,29 @@ const STORING: [(&str, Storing, u32); 6] = [
     ("default of a vacant entry", Storing::Default, 0),
 ];
 
-/// Memory was refused and the value came back: none is stored.
-fn came_back(rt: &impl Abort, refused: (Refused, u32), value: u32) -> Option<u32> {
-    is_equal(rt, refused, (Refused::Memory, value));
-    None
-}
-
 /// What a storing call answered: the value where it was stored, none where memory was refused and the value came back.
 fn answered(rt: &impl Abort, outcome: Result<&mut u32, (Refused, u32)>, value: u32) -> Option<u32> {
     match outcome {
         Ok(stored) => Some(*stored),
-        Err(refused) => came_back(rt, refused, value),
+        Err(refused) => {
+            is_equal(rt, refused, (Refused::Memory, value));
+            None
+        }
     }
-}
-
-/// The value that `or_insert_with` stored for this network, or none where memory was refused.
-fn stored_with(
-    rt: &impl Abort,
-    map: &mut PrefixMap<Ipv4Net, u32>,
-    key: Ipv4Net,
-    value: u32,
-) -> Option<u32> {
-    answered(rt, map.entry(key).or_insert_with(|| value), value)
 }
 
 /// The value that the call stored for this network, or none where memory was refused.
 fn stored_by(
     rt: &impl Abort,
     map: &mut PrefixMap<Ipv4Net, u32>,
-    key: Ipv4Net,
+    text: &str,
     call: &Storing,
     value: u32,
 ) -> Option<u32> {
+    let key = net(rt, text);
     match call {
         Storing::OrInsert => answered(rt, map.entry(key).or_insert(value), value),
-        Storing::OrInsertWith => stored_with(rt, map, key, value),
+        Storing::OrInsertWith => answered(rt, map.entry(key).or_insert_with(|| value), value),
         Storing::OrDefault => answered(rt, map.entry(key).or_default(), value),
         into_vacant => stored_into_vacant(rt, map, key, into_vacant, value),
     }
@@ -115,7 +103,7 @@ fn is_refused_or_stored(
 /// The call stores 10.0.0.0/8, given with host bits, into an empty map.
 fn is_stored(rt: &impl Abort, alloc: Global, row: &str, call: &Storing, value: u32) {
     let mut map = map_of(rt, alloc, &[]);
-    let stored = stored_by(rt, &mut map, net(rt, "10.1.2.3/8"), call, value);
+    let stored = stored_by(rt, &mut map, "10.1.2.3/8", call, value);
     step_is(rt, (row, 0), stored, Some(value));
     is_refused_or_stored(rt, row, &map, ("10.0.0.0/8", stored, 2));
 }
@@ -131,7 +119,7 @@ fn stored_into_an_empty_map(rt: HostRuntime) {
 /// value comes back.
 fn may_be_refused(rt: &impl Abort, alloc: Global, row: &str, call: &Storing, value: u32) {
     let mut map = map_of(rt, alloc, &[]);
-    let stored = stored_by(rt, &mut map, net(rt, "1.2.3.0/32"), call, value);
+    let stored = stored_by(rt, &mut map, "1.2.3.0/32", call, value);
     is_refused_or_stored(rt, row, &map, ("1.2.3.0/32", stored, 7));
 }
 
@@ -142,18 +130,16 @@ fn each_store_may_be_refused(rt: HostRuntime) {
     }
 }
 
-/// The value that `insert` stored for 1.2.3.0/32, or none where memory was refused.
-fn inserted(rt: &impl Abort, map: &mut PrefixMap<Ipv4Net, u32>) -> Option<u32> {
-    match map.entry(net(rt, "1.2.3.0/32")).insert(5) {
-        Ok(_) => Some(5),
-        Err(refused) => came_back(rt, refused, 5),
-    }
-}
-
 #[test]
 fn insert_may_be_refused(rt: HostRuntime) {
     let mut map = map_of(&rt, rt.alloc(), &[]);
-    let stored = inserted(&rt, &mut map);
+    let stored = match map.entry(net(&rt, "1.2.3.0/32")).insert(5) {
+        Ok(_) => Some(5),
+        Err(refused) => {
+            is_equal(&rt, refused, (Refused::Memory, 5));
+            None
+        }
+    };
     is_refused_or_stored(&rt, "insert", &map, ("1.2.3.0/32", stored, 7));
 }
 
@@ -268,51 +254,31 @@ fn matched(rt: &impl Abort, map: &mut PrefixMap<Ipv4Net, u32>) {
     *value = 7;
 }
 
-/// What `or_insert` stores is lent, and written.
-fn lent(rt: &impl Abort, map: &mut PrefixMap<Ipv4Net, u32>) {
-    let entry = map.entry(net(rt, "10.0.0.0/8"));
-    *entry.or_insert(1).expect(rt, "memory") = 5;
-}
-
-/// `get_mut` lends the value.
-fn written(rt: &impl Abort, map: &mut PrefixMap<Ipv4Net, u32>) {
-    let mut entry = map.entry(net(rt, "10.0.0.0/8"));
-    *entry.get_mut().expect(rt, "a value") = 7;
-}
-
-/// `insert`, twice.
-fn stored(rt: &impl Abort, map: &mut PrefixMap<Ipv4Net, u32>) {
-    had_is(rt, map.entry(net(rt, "10.1.2.3/8")).insert(1), None);
-    is_equal(rt, map.get(&net(rt, "10.0.0.0/8")).copied(), Some(1));
-    had_is(rt, map.entry(net(rt, "10.9.9.9/8")).insert(2), Some(1));
-}
-
-/// No match is lent.
-fn no_match(rt: &impl Abort, map: &mut PrefixMap<Ipv4Net, u32>) {
-    let found = map.get_lpm_mut(&net(rt, "11.0.0.0/8"));
-    is_equal(rt, found.is_none(), true);
-}
-
-/// A vacant entry lends nothing.
-fn no_entry(rt: &impl Abort, map: &mut PrefixMap<Ipv4Net, u32>) {
-    let mut entry = map.entry(net(rt, "10.2.3.0/24"));
-    is_equal(rt, entry.get_mut().is_none(), true);
-}
-
 /// Makes the call, which answers as it has to.
 fn calls(rt: &impl Abort, map: &mut PrefixMap<Ipv4Net, u32>, call: &Call) {
+    let ten = net(rt, "10.0.0.0/8");
     match call {
         Defaulted => defaulted(rt, map),
-        Lent => lent(rt, map),
+        Lent => *map.entry(ten).or_insert(1).expect(rt, "memory") = 5,
         OrInserted => or_inserted(rt, map),
-        Written => written(rt, map),
+        Written => *map.entry(ten).get_mut().expect(rt, "a value") = 7,
         Occupied => occupied(rt, map),
         Removed => removed(rt, map),
-        Stored => stored(rt, map),
+        Stored => {
+            had_is(rt, map.entry(net(rt, "10.1.2.3/8")).insert(1), None);
+            is_equal(rt, map.get(&ten).copied(), Some(1));
+            had_is(rt, map.entry(net(rt, "10.9.9.9/8")).insert(2), Some(1));
+        }
         StoredTwice => stored_twice(rt, map),
         WrittenAfter => written_after(rt, map),
-        NoMatch => no_match(rt, map),
-        NoEntry => no_entry(rt, map),
+        NoMatch => {
+            let found = map.get_lpm_mut(&net(rt, "11.0.0.0/8"));
+            is_equal(rt, found.is_none(), true);
+        }
+        NoEntry => {
+            let mut entry = map.entry(net(rt, "10.2.3.0/24"));
+            is_equal(rt, entry.get_mut().is_none(), true);
+        }
         Matched => matched(rt, map),
         of_a_key => keys(rt, map, of_a_key),
     }

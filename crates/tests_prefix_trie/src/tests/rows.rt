@@ -4,8 +4,8 @@ ghost use Rattle.std.specs.Iterator.{IsFinite};
 ghost use Rattle.std.specs.List.{All};
 
 use crate::tests::maps::{holds, is_equal, plain_map_of};
-use crate::tests::set_steps::{digits, walked};
-use prefix_trie::map::{IntoIter, IntoKeys, IterMut};
+use crate::tests::set_steps::digits;
+use prefix_trie::map::{IntoIter, IterMut};
 use prefix_trie::{PrefixMap, PrefixSet, Refused};
 use std::alloc::Global;
 use std::cell::Cell;
@@ -76,7 +76,7 @@ fn made_of_members(rt: HostRuntime) {
         (0x0a09_0808, 16),
     ];
     let set = set_of(&rt, rt.alloc(), members).expect(&rt, "a set");
-    is_equal(&rt, walked(set.iter()), 1019);
+    is_equal(&rt, digits(set.iter()), 1019);
     counts(&rt, &set, 3, 5);
     holds(&rt, set.contains(&(0x0a00_0000, 8)));
 }
@@ -85,7 +85,7 @@ fn made_of_members(rt: HostRuntime) {
 fn rest_is(rt: &impl Abort, set: &PrefixSet<(u32, u8)>, wanted: u32) {
     let mut members = set.iter();
     holds(rt, members.next().is_some());
-    is_equal(rt, walked(members.clone().expect(rt, "a copy")), wanted);
+    is_equal(rt, digits(members.clone().expect(rt, "a copy")), wanted);
 }
 
 #[test]
@@ -326,16 +326,11 @@ fn owned_values(rt: HostRuntime) {
     is_equal(&rt, value_digits(map.into_values()), 1234);
 }
 
-/// The second bytes of the keys or the members that are given away, as digits.
-fn given<T: Drop>(keys: IntoKeys<(u32, u8), T>) -> u32 {
-    digits(keys)
-}
-
 #[test]
 fn owned_keys(rt: HostRuntime) {
     let map = four_entries(&rt, rt.alloc());
     let copy = map.try_clone(rt.alloc()).expect(&rt, "a copy");
-    is_equal(&rt, given(copy.into_keys()), 10110);
+    is_equal(&rt, digits(copy.into_keys()), 10110);
 }
 
 /// The values of the entries that are left, one after another, as digits.
@@ -357,7 +352,7 @@ fn owned_children(rt: HostRuntime) {
 
 #[test]
 fn owned_members(rt: HostRuntime) {
-    is_equal(&rt, given(three(&rt, rt.alloc()).into_iter()), 1019);
+    is_equal(&rt, digits(three(&rt, rt.alloc()).into_iter()), 1019);
 }
 
 /// The next value is lent, and written.
@@ -464,7 +459,7 @@ fn kept_members(rt: HostRuntime) {
         member.0 != 0x0a01_0000
     });
     is_equal(&rt, asked, 81616);
-    is_equal(&rt, walked(set.iter()), 109);
+    is_equal(&rt, digits(set.iter()), 109);
     is_equal(&rt, set.node_count(), 4);
 }
 

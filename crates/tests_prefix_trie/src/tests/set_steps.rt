@@ -8,7 +8,6 @@ use crate::tests::set_steps::Call::*;
 use crate::tests::set_steps::Step::{Addresses, At, Clear, Counts, RetainAll, Walk};
 use crate::tests::steps::Spells;
 use prefix_trie::PrefixSet;
-use prefix_trie::set::Iter;
 use std::alloc::Global;
 use std::process::Abort;
 
@@ -70,11 +69,6 @@ pub(crate) fn digits<I: Iterator<Item = (u32, u8)>>(members: I) -> u32
     digits
 }
 
-/// The same of the members of a walk.
-pub(crate) fn walked(members: Iter<'_, Member>) -> u32 {
-    digits(members)
-}
-
 /// A call that changes the set at a member answers so, or another does.
 fn change(
     rt: &impl Abort,
@@ -94,25 +88,20 @@ fn change(
     }
 }
 
-/// This member is found, or none is.
-fn member_is(rt: &impl Abort, at: (&str, usize), found: Option<Member>, wanted: Option<Member>) {
-    step_is(rt, at, found, wanted);
-}
-
 /// A call that asks for a member answers so.
 fn ask(rt: &impl Abort, at: (&str, usize), set: &PrefixSet<Member>, member: &Member, call: &Call)
     requires { IsTrue (nat_le member.now.1 32) }
 {
     match call {
         Contains(wanted) => step_is(rt, at, set.contains(member), *wanted),
-        Get(wanted) => member_is(rt, at, set.get(member), *wanted),
-        Longest(wanted) => member_is(rt, at, set.get_lpm(member), *wanted),
-        Shortest(wanted) => member_is(rt, at, set.get_spm(member), *wanted),
+        Get(wanted) => step_is(rt, at, set.get(member), *wanted),
+        Longest(wanted) => step_is(rt, at, set.get_lpm(member), *wanted),
+        Shortest(wanted) => step_is(rt, at, set.get_spm(member), *wanted),
         IsCovered(wanted) => step_is(rt, at, set.is_covered(member), *wanted),
         From(inclusive, wanted) => {
-            step_is(rt, at, walked(set.iter_from(member, *inclusive)), *wanted);
+            step_is(rt, at, digits(set.iter_from(member, *inclusive)), *wanted);
         }
-        Children(wanted) => step_is(rt, at, walked(set.children(member)), *wanted),
+        Children(wanted) => step_is(rt, at, digits(set.children(member)), *wanted),
         Cover(wanted) => step_is(rt, at, digits(set.cover(member)), *wanted),
         _ => (),
     }
@@ -137,8 +126,8 @@ fn ask_of_all(rt: &impl Abort, at: (&str, usize), set: &PrefixSet<Member>, step:
         }
         Addresses(wanted) => step_is(rt, at, set.address_count(), *wanted),
         Walk(wanted) => {
-            step_is(rt, at, walked(set.iter()), *wanted);
-            step_is(rt, at, walked(set.into_iter()), *wanted);
+            step_is(rt, at, digits(set.iter()), *wanted);
+            step_is(rt, at, digits(set.into_iter()), *wanted);
         }
         _ => (),
     }

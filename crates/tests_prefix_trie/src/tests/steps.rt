@@ -5,7 +5,6 @@ use crate::tests::maps::{digits, step_is, value_digits};
 use crate::tests::steps::Call::*;
 use crate::tests::steps::Step::{Addresses, At, Clear, Counts, Retain, Walk};
 use ipnet::{Ipv4Net, Ipv6Net};
-use prefix_trie::map::Iter;
 use prefix_trie::{Key, Prefix, PrefixMap};
 use std::alloc::Global;
 use std::fmt::Debug;
@@ -130,15 +129,6 @@ fn length_is(
     step_is(rt, at, found, wanted);
 }
 
-/// The values of a walk over entries, one after another, as digits.
-pub(crate) fn walked<P: Prefix + Drop>(entries: Iter<'_, P, u32>) -> u32 {
-    let mut digits = 0u32;
-    for (_, value) in entries {
-        digits = digits.wrapping_mul(10).wrapping_add(*value);
-    }
-    digits
-}
-
 /// A call that changes the map at a prefix answers so, or another does.
 fn change<P: Prefix + Copy + Drop + PartialEq + Debug, S: Spells<P>>(
     rt: &impl Abort,
@@ -150,35 +140,16 @@ fn change<P: Prefix + Copy + Drop + PartialEq + Debug, S: Spells<P>>(
     requires { IsTrue (P.fits key) }
 {
     match call {
-        Insert(value, had) => insert(rt, at, map, key, *value, *had),
+        Insert(value, had) => step_is(rt, at, map.insert(key, *value), Ok(*had)),
         Remove(had) => step_is(rt, at, map.remove(&key), *had),
         KeepTree(had) => step_is(rt, at, map.remove_keep_tree(&key), *had),
         RemoveChildren => map.remove_children(&key),
-        Write(value) => write(rt, at, map.get_mut(&key), *value),
+        Write(value) => *map.get_mut(&key).expect(rt, at.0) = *value,
         asked => ask(rt, at, map, &key, asked),
     }
 }
 
-/// A value is stored, and the one that was stored before is this one.
-fn insert<P: Prefix + Drop>(
-    rt: &impl Abort,
-    at: (&str, usize),
-    map: &mut PrefixMap<P, u32>,
-    key: P,
-    value: u32,
-    had: Option<u32>,
-)
-    requires { IsTrue (P.fits key) }
-{
-    step_is(rt, at, map.insert(key, value), Ok(had));
-}
-
-/// The value that is lent is written.
-fn write(rt: &impl Abort, at: (&str, usize), lent: Option<&mut u32>, value: u32) {
-    *lent.expect(rt, at.0) = value;
-}
-
-/// A call that asks for an entry answers so, or another does.
+/// A call that asks for entries answers so.
 fn ask<P: Prefix + Copy + Drop + PartialEq + Debug, S: Spells<P>>(
     rt: &impl Abort,
     at: (&str, usize),
@@ -192,23 +163,6 @@ fn ask<P: Prefix + Copy + Drop + PartialEq + Debug, S: Spells<P>>(
         Get(value) => step_is(rt, at, map.get(key).copied(), *value),
         VeryKey(entry) => entry_is(rt, at, map.get_key_value(key), entry),
         Contains(wanted) => step_is(rt, at, map.contains_key(key), *wanted),
-        IsCovered(wanted) => step_is(rt, at, map.is_covered(key), *wanted),
-        IsLeaf(wanted) => step_is(rt, at, map.is_leaf(key), *wanted),
-        asked => ask_for_matches(rt, at, map, key, asked),
-    }
-}
-
-/// A call that asks for a match answers so, or another does.
-fn ask_for_matches<P: Prefix + Copy + Drop + PartialEq + Debug, S: Spells<P>>(
-    rt: &impl Abort,
-    at: (&str, usize),
-    map: &PrefixMap<P, u32>,
-    key: &P,
-    call: &Call<S>,
-)
-    requires { IsTrue (P.fits key.now) }
-{
-    match call {
         Longest(entry) => entry_is(rt, at, map.get_lpm(key), entry),
         LongestKey(longest) => step_is(rt, at, map.get_lpm_prefix(key), longest.prefix()),
         Length(wanted) => length_is(rt, at, map.longest_match(key), *wanted),
@@ -219,24 +173,11 @@ fn ask_for_matches<P: Prefix + Copy + Drop + PartialEq + Debug, S: Spells<P>>(
         }
         Shortest(entry) => entry_is(rt, at, map.get_spm(key), entry),
         ShortestKey(shortest) => step_is(rt, at, map.get_spm_prefix(key), shortest.prefix()),
-        asked => walk(rt, at, map, key, asked),
-    }
-}
-
-/// A call that walks over entries answers so.
-fn walk<P: Prefix + Drop, S>(
-    rt: &impl Abort,
-    at: (&str, usize),
-    map: &PrefixMap<P, u32>,
-    key: &P,
-    call: &Call<S>,
-)
-    requires { IsTrue (P.fits key.now) }
-{
-    match call {
-        Children(values) => step_is(rt, at, walked(map.children(key)), *values),
+        IsCovered(wanted) => step_is(rt, at, map.is_covered(key), *wanted),
+        IsLeaf(wanted) => step_is(rt, at, map.is_leaf(key), *wanted),
+        Children(values) => step_is(rt, at, digits(map.children(key)), *values),
         From(inclusive, values) => {
-            step_is(rt, at, walked(map.iter_from(key, *inclusive)), *values);
+            step_is(rt, at, digits(map.iter_from(key, *inclusive)), *values);
         }
         Cover(values) => {
             step_is(rt, at, digits(map.cover(key)), *values);
@@ -275,7 +216,7 @@ fn ask_of_all<P: Prefix + Drop, S>(
         }
         Addresses(wanted) => addresses_are(rt, at, map, *wanted),
         Walk(values) => {
-            step_is(rt, at, walked(map.iter()), *values);
+            step_is(rt, at, digits(map.iter()), *values);
             step_is(rt, at, value_digits(map.values()), *values);
         }
         _ => (),
@@ -310,7 +251,7 @@ fn goes<P: Prefix + Copy + Drop + PartialEq + Debug, S: Spells<P>>(
     let mut map: PrefixMap<P, u32> = PrefixMap::new(alloc).expect(rt, "a map");
     for (key, value) in stored {
         let key = key.prefix().expect(rt, row);
-        insert(rt, (row, 0), &mut map, key, *value, None);
+        step_is(rt, (row, 0), map.insert(key, *value), Ok(None));
     }
     for (at, each) in steps.iter().enumerate() {
         take(rt, (row, at), &mut map, each);

@@ -1,6 +1,5 @@
 //! Walks that are no step of a script.
-use crate::tests::maps::{is_equal, is_key, map_of, net, plain_map_of};
-use crate::tests::steps::walked;
+use crate::tests::maps::{digits, is_equal, is_key, map_of, net, plain_map_of};
 use ipnet::Ipv4Net;
 use prefix_trie::PrefixMap;
 use std::alloc::Global;
@@ -28,8 +27,8 @@ fn is_walked_twice(rt: &impl Abort, map: &PrefixMap<Ipv4Net, u32>, wanted: u32) 
     let mut entries = map.into_iter();
     is_equal(rt, entries.next().is_some(), true);
     let copy = entries.clone().expect(rt, "a copy");
-    is_equal(rt, walked(copy), wanted);
-    is_equal(rt, walked(entries), wanted);
+    is_equal(rt, digits(copy), wanted);
+    is_equal(rt, digits(entries), wanted);
 }
 
 #[test]
