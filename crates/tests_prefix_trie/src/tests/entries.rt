@@ -284,9 +284,15 @@ fn calls(rt: &impl Abort, map: &mut PrefixMap<Ipv4Net, u32>, call: &Call) {
     }
 }
 
+/// Entries, by their texts.
+type Entries = &'static [(&'static str, u32)];
+
 /// A call, what is stored before and after it, and how many nodes there are then. Where a third network is stored before, its
 /// entry is taken out, and its nodes are kept.
-const CALLS: [(&str, Call, &[(&str, u32)], &[(&str, u32)], usize); 15] = [
+type Row = (&'static str, Call, Entries, Entries, usize);
+
+/// The calls.
+const CALLS: [Row; 15] = [
     ("a vacant key", VacantKey, &[], &[("10.1.0.0/16", 7)], 4),
     (
         "a stored key",
@@ -393,10 +399,15 @@ fn call_is(
     is_whole(rt, row, map, after, nodes);
 }
 
+/// The same of each call, with a map of its own.
+fn all_are(rt: &impl Abort, alloc: Global, rows: &[Row]) {
+    for (row, call, before, after, nodes) in rows.iter() {
+        let mut map = map_of(rt, alloc, before);
+        call_is(rt, &mut map, row, call, after, *nodes);
+    }
+}
+
 #[test]
 fn called(rt: HostRuntime) {
-    for (row, call, before, after, nodes) in &CALLS {
-        let mut map = map_of(&rt, rt.alloc(), before);
-        call_is(&rt, &mut map, row, call, after, *nodes);
-    }
+    all_are(&rt, rt.alloc(), &CALLS);
 }

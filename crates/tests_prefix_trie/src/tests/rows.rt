@@ -159,9 +159,14 @@ fn copied(rt: HostRuntime) {
 fn sets_copied(rt: HostRuntime) {
     let set = three(&rt, rt.alloc());
     let copy = set.try_clone(rt.alloc()).expect(&rt, "a copy");
-    holds(&rt, copy == set);
-    is_equal(&rt, copy.node_count(), set.node_count());
-    holds(&rt, set.iter().next().is_some());
+    is_copy(&rt, &set, &copy);
+}
+
+/// The copy of the set, which has members, is equal to it, and has its nodes.
+fn is_copy(rt: &impl Abort, set: &PrefixSet<(u32, u8)>, copy: &PrefixSet<(u32, u8)>) {
+    holds(rt, *copy == *set);
+    is_equal(rt, copy.node_count(), set.node_count());
+    holds(rt, set.iter().next().is_some());
 }
 
 /// The refusal is printed so.
@@ -245,26 +250,38 @@ fn dropped_with_the_map(rt: HostRuntime) {
     is_equal(&rt, drops.get(), 3);
 }
 
-/// The value of the next entry, which has this key.
+/// The value of the next entry, which has this key; or no entry is left.
 fn next_value<'a>(
     rt: &impl Abort,
     entries: &mut IntoIter<(u32, u8), Counted<'a>>,
-    wanted: (u32, u8),
-) -> Counted<'a> {
-    let (key, value) = entries.next().expect(rt, "an entry");
-    is_equal(rt, key, wanted);
-    value
+    wanted: Option<(u32, u8)>,
+) -> Option<Counted<'a>> {
+    match entries.next() {
+        Some((key, value)) => {
+            is_equal(rt, Some(key), wanted);
+            Some(value)
+        }
+        None => {
+            holds(rt, wanted.is_none());
+            None
+        }
+    }
+}
+
+/// The entries that are left are dropped.
+fn drop_left(entries: IntoIter<(u32, u8), Counted<'_>>) {
+    drop(entries);
 }
 
 #[test]
 fn dropped_with_the_iterator(rt: HostRuntime) {
     let drops = Cell::new(0);
     let mut entries = three_counted(&rt, rt.alloc(), &drops).into_iter();
-    let value = next_value(&rt, &mut entries, (0, 0));
+    let value = next_value(&rt, &mut entries, Some((0, 0)));
     is_equal(&rt, drops.get(), 0);
     drop(value);
     is_equal(&rt, drops.get(), 1);
-    drop(entries);
+    drop_left(entries);
     is_equal(&rt, drops.get(), 3);
 }
 
@@ -273,9 +290,9 @@ fn dropped_outside(rt: HostRuntime) {
     let drops = Cell::new(0);
     let mut entries = three_counted(&rt, rt.alloc(), &drops).into_children(&(0x8000_0000, 1));
     is_equal(&rt, drops.get(), 2);
-    let value = next_value(&rt, &mut entries, (0x8000_0000, 1));
-    holds(&rt, entries.next().is_none());
-    drop(entries);
+    let value = next_value(&rt, &mut entries, Some((0x8000_0000, 1)));
+    holds(&rt, next_value(&rt, &mut entries, None).is_none());
+    drop_left(entries);
     is_equal(&rt, drops.get(), 2);
     drop(value);
     is_equal(&rt, drops.get(), 3);

@@ -1,11 +1,11 @@
 //! Scripts of maps, with values from outside.
 use crate::tests::steps::Call::*;
 use crate::tests::steps::Step::{Addresses, At, Clear, Counts, Retain, Walk};
-use crate::tests::steps::{Step, goes};
+use crate::tests::steps::{Script, all_go};
 use ipnet::{Ipv4Net, Ipv6Net};
 
 /// Scripts over IPv4 networks.
-const IPV4: [(&str, &[(&str, u32)], &[Step<&str>]); 9] = [
+const IPV4: [Script<&'static str>; 9] = [
     (
         "four hosts",
         &[
@@ -40,9 +40,9 @@ const IPV4: [(&str, &[(&str, u32)], &[Step<&str>]); 9] = [
             At("10.1.2.3/32", IsLeaf(true)),
             At("10.2.0.0/15", IsLeaf(true)),
             At("11.0.0.0/8", IsLeaf(true)),
-            At("10.1.2.3/32", Length(Some((16, &2)))),
-            At("10.1.0.0/16", Length(Some((16, &2)))),
-            At("10.0.0.0/15", Length(Some((8, &1)))),
+            At("10.1.2.3/32", Length(Some((16, 2)))),
+            At("10.1.0.0/16", Length(Some((16, 2)))),
+            At("10.0.0.0/15", Length(Some((8, 1)))),
             At("0.0.0.0/0", Length(None)),
             Counts(2, 4),
             At("10.1.0.0/16", Remove(Some(2))),
@@ -147,16 +147,14 @@ const IPV4: [(&str, &[(&str, u32)], &[Step<&str>]); 9] = [
 
 #[test]
 fn of_ipv4(rt: HostRuntime) {
-    for (row, stored, steps) in &IPV4 {
-        goes::<Ipv4Net, _>(&rt, rt.alloc(), row, stored, steps);
-    }
+    all_go::<Ipv4Net, _>(&rt, rt.alloc(), &IPV4);
 }
 
 /// The greatest IPv6 address.
 const LAST: &str = "ffff:ffff:ffff:ffff:ffff:ffff:ffff:ffff/128";
 
 /// Scripts over IPv6 networks.
-const IPV6: [(&str, &[(&str, u32)], &[Step<&str>]); 2] = [
+const IPV6: [Script<&'static str>; 2] = [
     (
         "two networks",
         &[("2001:db8::5/32", 1), ("2001:db8:1::/48", 2)],
@@ -187,13 +185,11 @@ const IPV6: [(&str, &[(&str, u32)], &[Step<&str>]); 2] = [
 
 #[test]
 fn of_ipv6(rt: HostRuntime) {
-    for (row, stored, steps) in &IPV6 {
-        goes::<Ipv6Net, _>(&rt, rt.alloc(), row, stored, steps);
-    }
+    all_go::<Ipv6Net, _>(&rt, rt.alloc(), &IPV6);
 }
 
 /// Scripts over keys of 8 bits.
-const OF_8_BITS: [(&str, &[((u8, u8), u32)], &[Step<(u8, u8)>]); 2] = [
+const OF_8_BITS: [Script<(u8, u8)>; 2] = [
     (
         "two hosts",
         &[((0xfe, 8), 1), ((0xff, 8), 2)],
@@ -211,14 +207,14 @@ const OF_8_BITS: [(&str, &[((u8, u8), u32)], &[Step<(u8, u8)>]); 2] = [
 ];
 
 /// Scripts over keys of 16 bits.
-const OF_16_BITS: [(&str, &[((u16, u8), u32)], &[Step<(u16, u8)>]); 1] = [(
+const OF_16_BITS: [Script<(u16, u8)>; 1] = [(
     "longest",
     &[((0xabcd, 12), 1)],
     &[At((0xabcf, 16), Longest(Some(((0xabc0, 12), 1))))],
 )];
 
 /// Scripts over keys of 64 bits.
-const OF_64_BITS: [(&str, &[((u64, u8), u32)], &[Step<(u64, u8)>]); 1] = [(
+const OF_64_BITS: [Script<(u64, u8)>; 1] = [(
     "longest",
     &[((0xabcd_ef01_2345_6789, 63), 1)],
     &[
@@ -232,19 +228,13 @@ const OF_64_BITS: [(&str, &[((u64, u8), u32)], &[Step<(u64, u8)>]); 1] = [(
 
 #[test]
 fn of_8_to_64_bits(rt: HostRuntime) {
-    for (row, stored, steps) in &OF_8_BITS {
-        goes::<(u8, u8), _>(&rt, rt.alloc(), row, stored, steps);
-    }
-    for (row, stored, steps) in &OF_16_BITS {
-        goes::<(u16, u8), _>(&rt, rt.alloc(), row, stored, steps);
-    }
-    for (row, stored, steps) in &OF_64_BITS {
-        goes::<(u64, u8), _>(&rt, rt.alloc(), row, stored, steps);
-    }
+    all_go::<(u8, u8), _>(&rt, rt.alloc(), &OF_8_BITS);
+    all_go::<(u16, u8), _>(&rt, rt.alloc(), &OF_16_BITS);
+    all_go::<(u64, u8), _>(&rt, rt.alloc(), &OF_64_BITS);
 }
 
 /// Scripts over keys of 128 bits.
-const OF_128_BITS: [(&str, &[((u128, u8), u32)], &[Step<(u128, u8)>]); 4] = [
+const OF_128_BITS: [Script<(u128, u8)>; 4] = [
     (
         "spare nodes are visited, and pruned",
         &[((1, 128), 5)],
@@ -283,13 +273,11 @@ const OF_128_BITS: [(&str, &[((u128, u8), u32)], &[Step<(u128, u8)>]); 4] = [
 
 #[test]
 fn of_128_bits(rt: HostRuntime) {
-    for (row, stored, steps) in &OF_128_BITS {
-        goes::<(u128, u8), _>(&rt, rt.alloc(), row, stored, steps);
-    }
+    all_go::<(u128, u8), _>(&rt, rt.alloc(), &OF_128_BITS);
 }
 
 /// Scripts over keys of 32 bits.
-const OF_32_BITS: [(&str, &[((u32, u8), u32)], &[Step<(u32, u8)>]); 7] = [
+const OF_32_BITS: [Script<(u32, u8)>; 7] = [
     (
         "inside a prefix",
         &[((0, 11), 1)],
@@ -377,7 +365,5 @@ const OF_32_BITS: [(&str, &[((u32, u8), u32)], &[Step<(u32, u8)>]); 7] = [
 
 #[test]
 fn of_32_bits(rt: HostRuntime) {
-    for (row, stored, steps) in &OF_32_BITS {
-        goes::<(u32, u8), _>(&rt, rt.alloc(), row, stored, steps);
-    }
+    all_go::<(u32, u8), _>(&rt, rt.alloc(), &OF_32_BITS);
 }

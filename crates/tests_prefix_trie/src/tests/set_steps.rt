@@ -141,6 +141,13 @@ fn goes(rt: &impl Abort, alloc: Global, row: &str, stored: &[Member], steps: &[S
     }
 }
 
+/// Each script goes so.
+fn all_go(rt: &impl Abort, alloc: Global, scripts: &[(&str, &[Member], &[Step])]) {
+    for (row, stored, steps) in scripts.iter() {
+        goes(rt, alloc, row, stored, steps);
+    }
+}
+
 /// Scripts, with values from outside.
 const SCRIPTS: [(&str, &[Member], &[Step]); 8] = [
     (
@@ -211,7 +218,5 @@ const SCRIPTS: [(&str, &[Member], &[Step]); 8] = [
 
 #[test]
 fn sets(rt: HostRuntime) {
-    for (row, stored, steps) in &SCRIPTS {
-        goes(&rt, rt.alloc(), row, stored, steps);
-    }
+    all_go(&rt, rt.alloc(), &SCRIPTS);
 }

@@ -66,7 +66,7 @@ pub(crate) enum Call<S> {
     /// `get_lpm_prefix`: the longest match.
     LongestKey(S),
     /// `longest_match`: its length, and its value.
-    Length(Option<(u8, &'static u32)>),
+    Length(Option<(u8, u32)>),
     /// `get_lpm_visits`: the longest match, its value, and how many nodes are visited.
     Visits(Option<(S, u32)>, u32),
     /// `get_spm`: the shortest match, and its value.
@@ -115,6 +115,20 @@ fn entry_is<P: Prefix + Copy + PartialEq + Debug, S: Spells<P>>(
     step_is(rt, at, found, entry);
 }
 
+/// The length and the value of a match are these, or there is none.
+fn length_is(
+    rt: &impl Abort,
+    at: (&str, usize),
+    found: Option<(u8, &u32)>,
+    wanted: Option<(u8, u32)>,
+) {
+    let found = match found {
+        Some((length, stored)) => Some((length, *stored)),
+        None => None,
+    };
+    step_is(rt, at, found, wanted);
+}
+
 /// A call that changes the map at a prefix answers so, or another does.
 fn change<P: Prefix + Copy + Drop + PartialEq + Debug, S: Spells<P>>(
     rt: &impl Abort,
@@ -151,7 +165,7 @@ fn ask<P: Prefix + Copy + Drop + PartialEq + Debug, S: Spells<P>>(
         Contains(wanted) => step_is(rt, at, map.contains_key(key), *wanted),
         Longest(entry) => entry_is(rt, at, map.get_lpm(key), entry),
         LongestKey(longest) => step_is(rt, at, map.get_lpm_prefix(key), longest.prefix()),
-        Length(wanted) => step_is(rt, at, map.longest_match(key), *wanted),
+        Length(wanted) => length_is(rt, at, map.longest_match(key), *wanted),
         Visits(entry, visits) => {
             let (found, count) = map.get_lpm_visits(key);
             entry_is(rt, at, found, entry);
@@ -223,8 +237,11 @@ fn addresses_are<P: Prefix + Drop>(
     step_is(rt, at, count, wanted);
 }
 
+/// A script: its name, what is stored at first, in this order, and the calls.
+pub(crate) type Script<S> = (&'static str, &'static [(S, u32)], &'static [Step<S>]);
+
 /// The calls of a script answer so, one after another, of a map of these entries, which were stored in this order.
-pub(crate) fn goes<P: Prefix + Copy + Drop + PartialEq + Debug, S: Spells<P>>(
+fn goes<P: Prefix + Copy + Drop + PartialEq + Debug, S: Spells<P>>(
     rt: &impl Abort,
     alloc: Global,
     row: &str,
@@ -238,5 +255,16 @@ pub(crate) fn goes<P: Prefix + Copy + Drop + PartialEq + Debug, S: Spells<P>>(
     }
     for (at, each) in steps.iter().enumerate() {
         take(rt, (row, at), &mut map, each);
+    }
+}
+
+/// Each script goes so.
+pub(crate) fn all_go<P: Prefix + Copy + Drop + PartialEq + Debug, S: Spells<P>>(
+    rt: &impl Abort,
+    alloc: Global,
+    scripts: &[Script<S>],
+) {
+    for (row, stored, steps) in scripts.iter() {
+        goes::<P, S>(rt, alloc, row, stored, steps);
     }
 }
