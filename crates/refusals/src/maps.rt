@@ -95,12 +95,16 @@ fn give(rt: &HostRuntime, gift: MapGift) -> Result<(), Fault> {
     let net = network("10.1.0.0/16")?;
     let map: Map = filled(rt)?;
     begin(rt);
+    give_away(rt, map, gift, &net);
+    end(rt);
+    Ok(())
+}
+
+fn give_away(rt: &HostRuntime, map: Map, gift: MapGift, net: &Ipv4Net) {
     match gift {
         MapGift::Entries => lines(rt, "", map.into_iter()),
         MapGift::Keys => lines(rt, "", map.into_keys()),
         MapGift::Values => lines(rt, "", map.into_values()),
-        MapGift::Children => lines(rt, "", map.into_children(&net)),
+        MapGift::Children => lines(rt, "", map.into_children(net)),
     }
-    end(rt);
-    Ok(())
 }

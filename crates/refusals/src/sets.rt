@@ -153,11 +153,15 @@ fn free(rt: &HostRuntime, set: &mut Set, call: SetCall) -> Result<(), Fault> {
 /// Each look-up of these networks, and what is told of the whole set, which equals itself.
 fn look_up(rt: &HostRuntime, set: &Set, nets: &[Ipv4Net; 2]) {
     for net in nets {
-        line(rt, &(set.get(net), set.contains(net)));
-        line(rt, &(set.get_lpm(net), set.get_spm(net)));
-        line(rt, &(set.is_covered(net), set.is_empty()));
+        look_up_one(rt, set, net);
     }
     line(rt, &(set.address_count(), set == set));
+}
+
+fn look_up_one(rt: &HostRuntime, set: &Set, net: &Ipv4Net) {
+    line(rt, &(set.get(net), set.contains(net)));
+    line(rt, &(set.get_lpm(net), set.get_spm(net)));
+    line(rt, &(set.is_covered(net), set.is_empty()));
 }
 
 /// All members, those inside a network and from it on, those that contain one, and copies.

@@ -107,8 +107,7 @@ pub fn copy_first<T: Debug + Drop, I: Iterator<Item = T> + Clone + Default>(
     rt: &HostRuntime,
     items: &I,
 ) -> Result<(), Fault>
-    requires copied { (it : I) → I.is_clone items.now it → I.can_next it }
-    requires empty { (it : I) → I.is_default it → I.can_next it }
+    requires { (it : I) → I.can_next it }
 {
     let Ok(mut copy) = items.clone() else {
         return Err(Fault::Values);

@@ -160,10 +160,14 @@ pub fn change<T, F: FnOnce(&mut T, IpNet) -> Result<(), Refused>>(
 /// Puts the best routes of IPv4 into an empty table, and writes the mark.
 fn begin_with(rt: &HostRuntime, table: &mut HopTable, routes: &RouteTable) -> Result<(), Fault> {
     for (net, hop, _) in routes.list(&IpNet::default()) {
-        made(table.overwrite(net, hop))?;
+        store(table, net, hop)?;
     }
     begin(rt);
     Ok(())
+}
+
+fn store(table: &mut HopTable, net: IpNet, hop: Hop) -> Result<(), Fault> {
+    made(table.overwrite(net, hop))
 }
 
 /// A least table of one with one route a network, which is gone then.
@@ -245,17 +249,27 @@ fn answer_hops(rt: &HostRuntime, index: &HopIndex) -> Result<(), Fault> {
     Ok(())
 }
 
-/// Look-ups in an index, one by one and together.
-fn hops(rt: &HostRuntime, table: &RouteTable) -> Result<(), Fault> {
-    let index = made(HopIndex::of_table(rt.alloc(), table))?;
+/// The addresses that are looked up together.
+fn addresses() -> Result<[IpAddr; 4], Fault> {
     let mut addrs = [IpNet::default().addr(); 4];
     for (place, text) in ADDRESSES.iter().enumerate() {
         addrs[place] = made(IpAddr::from_str(text))?;
     }
+    Ok(addrs)
+}
+
+/// Look-ups in an index, one by one and together.
+fn hops(rt: &HostRuntime, table: &RouteTable) -> Result<(), Fault> {
+    let addrs = addresses()?;
+    let index = made(HopIndex::of_table(rt.alloc(), table))?;
+    hops_of(rt, &index, &addrs)
+}
+
+fn hops_of(rt: &HostRuntime, index: &HopIndex, addrs: &[IpAddr; 4]) -> Result<(), Fault> {
     let mut hops = [None; 4];
     begin(rt);
-    answer_hops(rt, &index)?;
-    index.hops(&addrs, &mut hops);
+    answer_hops(rt, index)?;
+    index.hops(addrs, &mut hops);
     line(rt, &hops);
     end(rt);
     Ok(())
