@@ -238,9 +238,8 @@ fn walk_hosts<T: Debug + Drop, I: DoubleEndedIterator<Item = T>>(
     hosts: I,
     again: I,
 )
-    requires all { I.can_next hosts × IsFinite (I.remaining hosts) }
+    requires all { (it : I) → I.can_next it × IsFinite (I.remaining it) }
     requires back { (it : I) → I.can_next_back it }
-    requires ahead { (it : I) → I.can_next it }
 {
     lines(rt, "", hosts);
     let mut again = again;

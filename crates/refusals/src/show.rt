@@ -87,7 +87,7 @@ pub fn line<T: Debug>(rt: &HostRuntime, value: &T) {
 
 /// Each item in a line of its own, after a word.
 pub fn lines<T: Debug + Drop, I: Iterator<Item = T>>(rt: &HostRuntime, word: &'static str, items: I)
-    requires { I.can_next items × IsFinite (I.remaining items) }
+    requires { (it : I) → I.can_next it × IsFinite (I.remaining it) }
 {
     for item in items {
         part(rt, &word);
