@@ -27,8 +27,8 @@ impl Subject for HopTable {
     }
 
     fn fill(&mut self) -> Result<(), Fault> {
-        for (text, hop, _) in ROUTES {
-            made(self.overwrite(network(text)?, hop))?;
+        for (text, hop, _) in &ROUTES {
+            made(self.overwrite(network(text)?, *hop))?;
         }
         Ok(())
     }

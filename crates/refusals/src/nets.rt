@@ -150,10 +150,10 @@ fn read(rt: &HostRuntime) -> Result<(), Fault> {
     let ipv4 = made(network::<IpNet>("10.1.2.3/8")?.to_value(rt.alloc()))?;
     let ipv6 = made(network::<IpNet>("2001:db8::1/32")?.to_value(rt.alloc()))?;
     begin(rt);
-    for text in IPV4 {
+    for text in &IPV4 {
         read_ipv4(rt, text);
     }
-    for text in IPV6 {
+    for text in &IPV6 {
         read_ipv6(rt, text);
     }
     read_bytes(rt);

@@ -57,8 +57,8 @@ impl Subject for RouteTable {
     }
 
     fn fill(&mut self) -> Result<(), Fault> {
-        for (text, hop, pref) in ROUTES {
-            made(self.add(network(text)?, hop, pref))?;
+        for (text, hop, pref) in &ROUTES {
+            made(self.add(network(text)?, *hop, *pref))?;
         }
         Ok(())
     }
@@ -187,14 +187,16 @@ fn add_routes(rt: &HostRuntime, table: &mut RouteTable, net: &IpNet) {
 }
 
 /// Routes that are taken out: the best one, the last one, and one that isn't there.
+const GONE: [(&str, Hop); 4] = [
+    ("10.0.0.0/8", Hop::Number(1)),
+    ("10.1.2.4/30", Hop::Number(3)),
+    ("10.1.0.0/16", Hop::Drop),
+    ("2001:db8:8000::/33", Hop::Number(2)),
+];
+
 fn del_all(rt: &HostRuntime, table: &mut RouteTable) -> Result<(), Fault> {
-    for (text, hop) in [
-        ("10.0.0.0/8", Hop::Number(1)),
-        ("10.1.2.4/30", Hop::Number(3)),
-        ("10.1.0.0/16", Hop::Drop),
-        ("2001:db8:8000::/33", Hop::Number(2)),
-    ] {
-        line(rt, &table.del(&network(text)?, hop));
+    for (text, hop) in &GONE {
+        line(rt, &table.del(&network(text)?, *hop));
     }
     Ok(())
 }
@@ -242,7 +244,7 @@ fn index_of_hops(rt: &HostRuntime, routes: &RouteTable) -> Result<(), Fault> {
 const ADDRESSES: [&str; 4] = ["10.1.2.4", "10.64.0.1", "2001:db8::1", "2001:db8:8000::"];
 
 fn answer_hops(rt: &HostRuntime, index: &HopIndex) -> Result<(), Fault> {
-    for text in ADDRESSES {
+    for text in &ADDRESSES {
         part(rt, &"answer ");
         line(rt, &index.hop(made(IpAddr::from_str(text))?));
     }
