@@ -58,7 +58,8 @@ fn run_over(rt: &HostRuntime, call: FeedCall) -> Result<(), Fault> {
 }
 
 fn show_reads(rt: &HostRuntime, reader: &Counted<Stdin>) {
-    let _ = println!(rt; "{} reads", reader.reads());
+    part(rt, &reader.reads());
+    part(rt, &" reads\n");
 }
 
 /// A follower that is given nothing to keep, and its flat list.
@@ -73,11 +74,15 @@ fn make(rt: &HostRuntime) -> Result<(), Fault> {
 /// Owns the follower of the calls that need one.
 fn run_follower(rt: &HostRuntime, call: FeedCall) -> Result<(), Fault> {
     let mut follower = made(Follower::new(rt.alloc()))?;
+    call_follower(rt, &mut follower, call)
+}
+
+fn call_follower(rt: &HostRuntime, follower: &mut Follower, call: FeedCall) -> Result<(), Fault> {
     match call {
-        FeedCall::Change => follow_last(rt, &mut follower, &[], b"set 10.1.0.0/16 2"),
-        FeedCall::Commit => follow_last(rt, &mut follower, &COMMITTED, b"ok"),
-        FeedCall::Least => least(rt, &mut follower),
-        _ => hops(rt, &mut follower),
+        FeedCall::Change => follow_last(rt, follower, &[], b"set 10.1.0.0/16 2"),
+        FeedCall::Commit => follow_last(rt, follower, &COMMITTED, b"ok"),
+        FeedCall::Least => least(rt, follower),
+        _ => hops(rt, follower),
     }
 }
 
@@ -155,9 +160,7 @@ fn show_then(rt: &HostRuntime, follower: &mut Follower) {
 fn show_flat(rt: &HostRuntime, follower: &Follower) {
     match follower.flat() {
         Some(blocks) => lines(rt, "flat ", blocks),
-        None => {
-            let _ = println!(rt; "no flat list");
-        }
+        None => part(rt, &"no flat list\n"),
     }
 }
 

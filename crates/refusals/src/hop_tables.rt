@@ -4,7 +4,8 @@ use crate::nets::network;
 use crate::show::{begin, end, ended, ended_list, line, lines};
 use crate::subject::Subject;
 use crate::tables::{ROUTES, change};
-use route_table::{Hop, HopTable};
+use ipnet::IpNet;
+use route_table::{Hop, HopTable, Refused};
 use std::alloc::Global;
 
 /// The calls of such tables, and those that take no memory.
@@ -26,8 +27,8 @@ impl Subject for HopTable {
     }
 
     fn fill(&mut self) -> Result<(), Fault> {
-        for (text, hop, _) in ROUTES {
-            made(self.overwrite(network(text)?, hop))?;
+        for (text, hop, _) in &ROUTES {
+            made(self.overwrite(network(text)?, *hop))?;
         }
         Ok(())
     }
@@ -62,27 +63,35 @@ fn from_routes(rt: &HostRuntime, table: &HopTable) -> Result<(), Fault> {
         return Err(Fault::Values);
     };
     begin(rt);
-    let outcome = HopTable::from_routes(rt.alloc(), list.as_slice());
-    if let Some(other) = ended(rt, outcome) {
-        lines(rt, "answer ", other.flat());
-    }
+    answer_table(rt, HopTable::from_routes(rt.alloc(), list.as_slice()));
     Ok(())
 }
 
-/// A stored network, twice, and one that the routes outside give the hop already; a look-up; the operations to a least table,
-/// and those of a change of a network with another inside.
+/// The flat list of a table that a call made.
+fn answer_table(rt: &HostRuntime, outcome: Result<HopTable, Refused>) {
+    if let Some(table) = ended(rt, outcome) {
+        lines(rt, "answer ", table.flat());
+    }
+}
+
+/// What stores nothing new, then the operations to a least table, and those of a change of a network with another inside.
 fn free(rt: &HostRuntime, table: &mut HopTable) -> Result<(), Fault> {
+    let (stored, handed) = (network("10.1.2.4/30")?, network("10.1.2.0/24")?);
     let Ok(list) = table.least() else {
         return Err(Fault::Values);
     };
-    let (stored, handed) = (network("10.1.2.4/30")?, network("10.1.2.0/24")?);
     begin(rt);
-    line(rt, &table.install(stored, Hop::Number(8)));
-    line(rt, &table.paint(stored, Hop::Number(7)));
-    line(rt, &table.paint(handed, Hop::Number(2)));
-    line(rt, &table.get(&stored));
+    change_nothing(rt, table, stored, handed);
     lines(rt, "", table.between(list.as_slice()));
     lines(rt, "", table.repaint(handed, Hop::Number(9)));
     end(rt);
     Ok(())
+}
+
+/// A stored network, twice, and one that the routes outside give the hop already; and a look-up.
+fn change_nothing(rt: &HostRuntime, table: &mut HopTable, stored: IpNet, handed: IpNet) {
+    line(rt, &table.install(stored, Hop::Number(8)));
+    line(rt, &table.paint(stored, Hop::Number(7)));
+    line(rt, &table.paint(handed, Hop::Number(2)));
+    line(rt, &table.get(&stored));
 }

@@ -19,7 +19,8 @@ mod subject;
 mod tables;
 
 use fault::{Fault, made};
-use scenarios::{SCENARIOS, named};
+use scenarios::named;
+use show::part;
 use std::env;
 use std::env::Env;
 use std::process::ExitCode;
@@ -36,8 +37,9 @@ fn argument<R: Env + Alloc>(rt: &R) -> Result<Option<String<R::A>>, Fault> {
 }
 
 fn list_all(rt: &HostRuntime) {
-    for (name, _) in &SCENARIOS {
-        let _ = println!(rt; "{name}");
+    for (name, _) in scenarios::all() {
+        part(rt, name);
+        part(rt, &"\n");
     }
 }
 

@@ -38,15 +38,24 @@ pub fn run(rt: &HostRuntime, map: &mut Map, call: MapRead) -> Result<(), Fault> 
 /// Each look-up of these networks, and what is told of the whole map, which equals itself.
 fn look_up(rt: &HostRuntime, map: &Map, nets: &[Ipv4Net; 2]) {
     for net in nets {
-        line(rt, &(map.get(net), map.contains_key(net)));
-        line(rt, &map.get_key_value(net));
-        line(rt, &(map.get_lpm(net), map.get_lpm_prefix(net)));
-        line(rt, &(map.get_spm(net), map.get_spm_prefix(net)));
-        line(rt, &(map.get_lpm_visits(net), map.is_covered(net)));
-        line(rt, &(map.longest_match(net), map.is_leaf(net)));
+        look_up_exact(rt, map, net);
+        look_up_cover(rt, map, net);
     }
     line(rt, &(map.len(), map.is_empty()));
     line(rt, &(map.address_count(), map == map));
+}
+
+fn look_up_exact(rt: &HostRuntime, map: &Map, net: &Ipv4Net) {
+    line(rt, &(map.get(net), map.contains_key(net)));
+    line(rt, &map.get_key_value(net));
+}
+
+/// The look-ups of what contains the network.
+fn look_up_cover(rt: &HostRuntime, map: &Map, net: &Ipv4Net) {
+    line(rt, &(map.get_lpm(net), map.get_lpm_prefix(net)));
+    line(rt, &(map.get_spm(net), map.get_spm_prefix(net)));
+    line(rt, &(map.get_lpm_visits(net), map.is_covered(net)));
+    line(rt, &(map.longest_match(net), map.is_leaf(net)));
 }
 
 /// Values that are lent and written.

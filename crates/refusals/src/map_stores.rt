@@ -77,12 +77,11 @@ fn lent(outcome: Result<&mut u32, (Refused, u32)>) -> Stored {
 
 /// The calls of an entry.
 fn at_entry(map: &mut Map, net: Ipv4Net, call: MapStore) -> Stored {
-    let mut entry = map.entry(net);
     match call {
-        MapStore::EntryInsert => replaced(entry.insert(9)),
-        MapStore::OrInsert => lent(entry.or_insert(9)),
-        MapStore::OrInsertWith => lent(entry.or_insert_with(|| 9)),
-        _ => lent(entry.or_default()),
+        MapStore::EntryInsert => replaced(map.entry(net).insert(9)),
+        MapStore::OrInsert => lent(map.entry(net).or_insert(9)),
+        MapStore::OrInsertWith => lent(map.entry(net).or_insert_with(|| 9)),
+        _ => lent(map.entry(net).or_default()),
     }
 }
 

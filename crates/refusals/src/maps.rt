@@ -41,6 +41,16 @@ pub fn run(rt: &HostRuntime, call: MapCall) -> Result<(), Fault> {
     }
 }
 
+/// What is stored at first; the last one is taken out again.
+const ENTRIES: [(&str, u32); 6] = [
+    ("10.0.0.0/8", 1),
+    ("10.1.0.0/16", 2),
+    ("10.1.2.4/30", 3),
+    ("10.64.0.0/10", 4),
+    ("192.168.0.0/24", 5),
+    ("10.1.2.0/31", 6),
+];
+
 /// Five networks, with nodes that lead to no entry.
 impl Subject for Map {
     type Call = MapCall;
@@ -50,15 +60,8 @@ impl Subject for Map {
     }
 
     fn fill(&mut self) -> Result<(), Fault> {
-        for (text, value) in [
-            ("10.0.0.0/8", 1),
-            ("10.1.0.0/16", 2),
-            ("10.1.2.4/30", 3),
-            ("10.64.0.0/10", 4),
-            ("192.168.0.0/24", 5),
-            ("10.1.2.0/31", 6),
-        ] {
-            made(self.insert(network(text)?, value))?;
+        for (text, value) in &ENTRIES {
+            made(self.insert(network(text)?, *value))?;
         }
         self.remove_keep_tree(&network("10.1.2.0/31")?);
         Ok(())
@@ -95,12 +98,16 @@ fn give(rt: &HostRuntime, gift: MapGift) -> Result<(), Fault> {
     let net = network("10.1.0.0/16")?;
     let map: Map = filled(rt)?;
     begin(rt);
+    give_away(rt, map, gift, &net);
+    end(rt);
+    Ok(())
+}
+
+fn give_away(rt: &HostRuntime, map: Map, gift: MapGift, net: &Ipv4Net) {
     match gift {
         MapGift::Entries => lines(rt, "", map.into_iter()),
         MapGift::Keys => lines(rt, "", map.into_keys()),
         MapGift::Values => lines(rt, "", map.into_values()),
-        MapGift::Children => lines(rt, "", map.into_children(&net)),
+        MapGift::Children => lines(rt, "", map.into_children(net)),
     }
-    end(rt);
-    Ok(())
 }

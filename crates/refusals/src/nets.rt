@@ -42,12 +42,12 @@ const IPV6: [&str; 5] = [
 
 pub fn run(rt: &HostRuntime, call: NetCall) -> Result<(), Fault> {
     match call {
-        NetCall::AggregateIpv4 => aggregate(rt, &IPV4, &[], Ipv4Net::aggregate),
-        NetCall::AggregateIpv6 => aggregate(rt, &IPV6, &[], Ipv6Net::aggregate),
-        NetCall::AggregateMixed => aggregate(rt, &IPV6, &IPV4, IpNet::aggregate),
-        NetCall::ToValueIpv4 => to_value(rt, "10.1.2.3/8", Ipv4Net::to_value),
-        NetCall::ToValueIpv6 => to_value(rt, "2001:db8::1/32", Ipv6Net::to_value),
-        NetCall::ToValueMixed => to_value(rt, "::ffff:10.1.2.3/104", IpNet::to_value),
+        NetCall::AggregateIpv4 => aggregate::<Ipv4Net>(rt, &IPV4, &[]),
+        NetCall::AggregateIpv6 => aggregate::<Ipv6Net>(rt, &IPV6, &[]),
+        NetCall::AggregateMixed => aggregate::<IpNet>(rt, &IPV6, &IPV4),
+        NetCall::ToValueIpv4 => to_value::<Ipv4Net>(rt, "10.1.2.3/8"),
+        NetCall::ToValueIpv6 => to_value::<Ipv6Net>(rt, "2001:db8::1/32"),
+        NetCall::ToValueMixed => to_value::<IpNet>(rt, "::ffff:10.1.2.3/104"),
         NetCall::Read => read(rt),
         NetCall::Print => print(rt),
         NetCall::Walk => walk(rt),
@@ -82,32 +82,63 @@ pub fn networks<T: FromStr<Err = AddrParseError> + Drop>(
     Ok(nets)
 }
 
+/// The calls of networks that take memory, which each kind of network has as its own.
+trait NetKind: FromStr<Err = AddrParseError> + Debug + Drop {
+    fn aggregated(alloc: Global, nets: &Vec<Self>) -> Result<Vec<Self>, AllocError>;
+
+    fn value(&self, alloc: Global) -> Result<Value, AllocError>;
+}
+
+impl NetKind for Ipv4Net {
+    fn aggregated(alloc: Global, nets: &Vec<Ipv4Net>) -> Result<Vec<Ipv4Net>, AllocError> {
+        Ipv4Net::aggregate(alloc, nets)
+    }
+
+    fn value(&self, alloc: Global) -> Result<Value, AllocError> {
+        self.to_value(alloc)
+    }
+}
+
+impl NetKind for Ipv6Net {
+    fn aggregated(alloc: Global, nets: &Vec<Ipv6Net>) -> Result<Vec<Ipv6Net>, AllocError> {
+        Ipv6Net::aggregate(alloc, nets)
+    }
+
+    fn value(&self, alloc: Global) -> Result<Value, AllocError> {
+        self.to_value(alloc)
+    }
+}
+
+impl NetKind for IpNet {
+    fn aggregated(alloc: Global, nets: &Vec<IpNet>) -> Result<Vec<IpNet>, AllocError> {
+        IpNet::aggregate(alloc, nets)
+    }
+
+    fn value(&self, alloc: Global) -> Result<Value, AllocError> {
+        self.to_value(alloc)
+    }
+}
+
 /// The fewest networks with the addresses of those of these texts, which stay.
-fn aggregate<
-    T: FromStr<Err = AddrParseError> + Debug + Drop,
-    F: Fn(Global, &Vec<T>) -> Result<Vec<T>, AllocError>,
->(rt: &HostRuntime, texts: &[&'static str], more: &[&'static str], call: F) -> Result<(), Fault>
-    requires { F.IsAlwaysCallable call }
-{
+fn aggregate<T: NetKind>(
+    rt: &HostRuntime,
+    texts: &[&'static str],
+    more: &[&'static str],
+) -> Result<(), Fault> {
     let nets: Vec<T> = networks(rt.alloc(), texts, more)?;
     lines(rt, "", nets.iter());
     begin(rt);
-    ended_list(rt, call(rt.alloc(), &nets));
+    ended_list(rt, T::aggregated(rt.alloc(), &nets));
     lines(rt, "", nets.iter());
     Ok(())
 }
 
 /// The value of the network of the text, which stays.
-fn to_value<
-    T: FromStr<Err = AddrParseError> + Debug + Drop,
-    F: Fn(&T, Global) -> Result<Value, AllocError>,
->(rt: &HostRuntime, text: &str, call: F) -> Result<(), Fault>
-    requires { F.IsAlwaysCallable call }
-{
+fn to_value<T: NetKind>(rt: &HostRuntime, text: &str) -> Result<(), Fault> {
     let net: T = network(text)?;
     line(rt, &net);
     begin(rt);
-    if let Some(value) = ended(rt, call(&net, rt.alloc())) {
+    if let Some(value) = ended(rt, net.value(rt.alloc())) {
         answer(rt, &value.as_str().unwrap_or("no string"));
     }
     line(rt, &net);
@@ -119,10 +150,10 @@ fn read(rt: &HostRuntime) -> Result<(), Fault> {
     let ipv4 = made(network::<IpNet>("10.1.2.3/8")?.to_value(rt.alloc()))?;
     let ipv6 = made(network::<IpNet>("2001:db8::1/32")?.to_value(rt.alloc()))?;
     begin(rt);
-    for text in IPV4 {
+    for text in &IPV4 {
         read_ipv4(rt, text);
     }
-    for text in IPV6 {
+    for text in &IPV6 {
         read_ipv6(rt, text);
     }
     read_bytes(rt);
@@ -207,9 +238,8 @@ fn walk_hosts<T: Debug + Drop, I: DoubleEndedIterator<Item = T>>(
     hosts: I,
     again: I,
 )
-    requires all { I.can_next hosts × IsFinite (I.remaining hosts) }
+    requires all { (it : I) → I.can_next it × IsFinite (I.remaining it) }
     requires back { (it : I) → I.can_next_back it }
-    requires ahead { (it : I) → I.can_next it }
 {
     lines(rt, "", hosts);
     let mut again = again;

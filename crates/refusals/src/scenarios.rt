@@ -27,7 +27,7 @@ pub enum Call {
 }
 
 /// The names, and what each stands for.
-pub static SCENARIOS: [(&str, Call); 86] = [
+static SCENARIOS: [(&str, Call); 86] = [
     ("aggregate-ipv4", Net(NetCall::AggregateIpv4)),
     ("aggregate-ipv6", Net(NetCall::AggregateIpv6)),
     ("aggregate-mixed", Net(NetCall::AggregateMixed)),
@@ -119,9 +119,14 @@ pub static SCENARIOS: [(&str, Call); 86] = [
     ("free-lines", Feed(FeedCall::Cut)),
 ];
 
+/// All scenarios, in this order.
+pub fn all() -> &'static [(&'static str, Call)] {
+    &SCENARIOS
+}
+
 /// The call of the scenario of this name.
 pub fn named(name: &str) -> Option<Call> {
-    for (known, call) in &SCENARIOS {
+    for (known, call) in all() {
         if *known == name {
             return Some(*call);
         }

@@ -56,7 +56,7 @@ impl Subject for Set {
     }
 
     fn fill(&mut self) -> Result<(), Fault> {
-        for text in NETWORKS {
+        for text in &NETWORKS {
             made(self.insert(network(text)?))?;
         }
         let spare = network("10.1.2.0/31")?;
@@ -110,18 +110,18 @@ fn try_from_iter(rt: &HostRuntime) -> Result<(), Fault> {
     Ok(())
 }
 
-/// The five networks, each with its length.
-fn with_lengths(alloc: Global) -> Result<Vec<(Ipv4Net, u32)>, Fault> {
-    let mut entries = Vec::new(alloc);
-    for text in NETWORKS {
+/// Adds the five networks, each with its length.
+fn add_with_lengths(entries: &mut Vec<(Ipv4Net, u32)>) -> Result<(), Fault> {
+    for text in &NETWORKS {
         let net: Ipv4Net = network(text)?;
         made(entries.push((net, u32::from(net.prefix_len()))))?;
     }
-    Ok(entries)
+    Ok(())
 }
 
 fn map_from_iter(rt: &HostRuntime) -> Result<(), Fault> {
-    let entries = with_lengths(rt.alloc())?;
+    let mut entries = Vec::new(rt.alloc());
+    add_with_lengths(&mut entries)?;
     begin(rt);
     let outcome: Result<Map, Refused> = PrefixMap::try_from_iter(rt.alloc(), entries);
     if let Some(map) = ended(rt, outcome) {
@@ -153,11 +153,15 @@ fn free(rt: &HostRuntime, set: &mut Set, call: SetCall) -> Result<(), Fault> {
 /// Each look-up of these networks, and what is told of the whole set, which equals itself.
 fn look_up(rt: &HostRuntime, set: &Set, nets: &[Ipv4Net; 2]) {
     for net in nets {
-        line(rt, &(set.get(net), set.contains(net)));
-        line(rt, &(set.get_lpm(net), set.get_spm(net)));
-        line(rt, &(set.is_covered(net), set.is_empty()));
+        look_up_one(rt, set, net);
     }
     line(rt, &(set.address_count(), set == set));
+}
+
+fn look_up_one(rt: &HostRuntime, set: &Set, net: &Ipv4Net) {
+    line(rt, &(set.get(net), set.contains(net)));
+    line(rt, &(set.get_lpm(net), set.get_spm(net)));
+    line(rt, &(set.is_covered(net), set.is_empty()));
 }
 
 /// All members, those inside a network and from it on, those that contain one, and copies.

@@ -87,7 +87,7 @@ pub fn line<T: Debug>(rt: &HostRuntime, value: &T) {
 
 /// Each item in a line of its own, after a word.
 pub fn lines<T: Debug + Drop, I: Iterator<Item = T>>(rt: &HostRuntime, word: &'static str, items: I)
-    requires { I.can_next items × IsFinite (I.remaining items) }
+    requires { (it : I) → I.can_next it × IsFinite (I.remaining it) }
 {
     for item in items {
         part(rt, &word);
@@ -107,8 +107,7 @@ pub fn copy_first<T: Debug + Drop, I: Iterator<Item = T> + Clone + Default>(
     rt: &HostRuntime,
     items: &I,
 ) -> Result<(), Fault>
-    requires copied { (it : I) → I.is_clone items.now it → I.can_next it }
-    requires empty { (it : I) → I.is_default it → I.can_next it }
+    requires { (it : I) → I.can_next it }
 {
     let Ok(mut copy) = items.clone() else {
         return Err(Fault::Values);

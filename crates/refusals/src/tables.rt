@@ -57,8 +57,8 @@ impl Subject for RouteTable {
     }
 
     fn fill(&mut self) -> Result<(), Fault> {
-        for (text, hop, pref) in ROUTES {
-            made(self.add(network(text)?, hop, pref))?;
+        for (text, hop, pref) in &ROUTES {
+            made(self.add(network(text)?, *hop, *pref))?;
         }
         Ok(())
     }
@@ -160,10 +160,14 @@ pub fn change<T, F: FnOnce(&mut T, IpNet) -> Result<(), Refused>>(
 /// Puts the best routes of IPv4 into an empty table, and writes the mark.
 fn begin_with(rt: &HostRuntime, table: &mut HopTable, routes: &RouteTable) -> Result<(), Fault> {
     for (net, hop, _) in routes.list(&IpNet::default()) {
-        made(table.overwrite(net, hop))?;
+        store(table, net, hop)?;
     }
     begin(rt);
     Ok(())
+}
+
+fn store(table: &mut HopTable, net: IpNet, hop: Hop) -> Result<(), Fault> {
+    made(table.overwrite(net, hop))
 }
 
 /// A least table of one with one route a network, which is gone then.
@@ -183,14 +187,16 @@ fn add_routes(rt: &HostRuntime, table: &mut RouteTable, net: &IpNet) {
 }
 
 /// Routes that are taken out: the best one, the last one, and one that isn't there.
+const GONE: [(&str, Hop); 4] = [
+    ("10.0.0.0/8", Hop::Number(1)),
+    ("10.1.2.4/30", Hop::Number(3)),
+    ("10.1.0.0/16", Hop::Drop),
+    ("2001:db8:8000::/33", Hop::Number(2)),
+];
+
 fn del_all(rt: &HostRuntime, table: &mut RouteTable) -> Result<(), Fault> {
-    for (text, hop) in [
-        ("10.0.0.0/8", Hop::Number(1)),
-        ("10.1.2.4/30", Hop::Number(3)),
-        ("10.1.0.0/16", Hop::Drop),
-        ("2001:db8:8000::/33", Hop::Number(2)),
-    ] {
-        line(rt, &table.del(&network(text)?, hop));
+    for (text, hop) in &GONE {
+        line(rt, &table.del(&network(text)?, *hop));
     }
     Ok(())
 }
@@ -238,24 +244,34 @@ fn index_of_hops(rt: &HostRuntime, routes: &RouteTable) -> Result<(), Fault> {
 const ADDRESSES: [&str; 4] = ["10.1.2.4", "10.64.0.1", "2001:db8::1", "2001:db8:8000::"];
 
 fn answer_hops(rt: &HostRuntime, index: &HopIndex) -> Result<(), Fault> {
-    for text in ADDRESSES {
+    for text in &ADDRESSES {
         part(rt, &"answer ");
         line(rt, &index.hop(made(IpAddr::from_str(text))?));
     }
     Ok(())
 }
 
-/// Look-ups in an index, one by one and together.
-fn hops(rt: &HostRuntime, table: &RouteTable) -> Result<(), Fault> {
-    let index = made(HopIndex::of_table(rt.alloc(), table))?;
+/// The addresses that are looked up together.
+fn addresses() -> Result<[IpAddr; 4], Fault> {
     let mut addrs = [IpNet::default().addr(); 4];
     for (place, text) in ADDRESSES.iter().enumerate() {
         addrs[place] = made(IpAddr::from_str(text))?;
     }
+    Ok(addrs)
+}
+
+/// Look-ups in an index, one by one and together.
+fn hops(rt: &HostRuntime, table: &RouteTable) -> Result<(), Fault> {
+    let addrs = addresses()?;
+    let index = made(HopIndex::of_table(rt.alloc(), table))?;
+    hops_of(rt, &index, &addrs)
+}
+
+fn hops_of(rt: &HostRuntime, index: &HopIndex, addrs: &[IpAddr; 4]) -> Result<(), Fault> {
     let mut hops = [None; 4];
     begin(rt);
-    answer_hops(rt, &index)?;
-    index.hops(&addrs, &mut hops);
+    answer_hops(rt, index)?;
+    index.hops(addrs, &mut hops);
     line(rt, &hops);
     end(rt);
     Ok(())
