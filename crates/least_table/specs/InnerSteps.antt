@@ -1,5 +1,5 @@
 -- The steps of a plan, and what is stored as they are taken in turn.
-use Rattle.std.specs.Prelude.{◌≡◌, ℕ, ◌<◌, ◌≤◌, Bool, true, false, cond, List, [], ◌∷◌, ◌++◌, length, drop, Option, All, IsTrue, ⊤}
+use Rattle.std.specs.Prelude.{◌≡◌, ℕ, ◌<◌, ◌≤◌, ◌^◌, Bool, true, false, cond, List, [], ◌∷◌, ◌++◌, length, drop, Option, All, IfSome, IsTrue, ⊤}
 use Rattle.least_table.specs.HopSets.{holds, first_of}
 
 -- a block whose addresses all have one hop; a block cut into halves, the upper first, and what it is best handed; and a block
@@ -47,6 +47,6 @@ HaveRoom string fits w [] bs = ⊤
 HaveRoom string fits w (x ∷ xs) [] = ⊤
 HaveRoom string fits w (x ∷ xs) (b ∷ bs) = HasRoom string fits w x b.0 × HaveRoom string fits w xs (step_blocks string x b ++ bs)
 
--- each is the prefix of its bits that has zeros after them
-abbrev pub AreNetworks : {B K : Type 0} → (B → Bool) → (List Bool → B) → (B → List Bool) → List (B × K) → Type 0
-AreNetworks fits of_bits string rs = All (λ r. IsTrue (fits r.0) × (r.0 ≡ of_bits (string r.0))) rs
+-- each is the prefix of its bits that has zeros after them, with a number of 32 bits or none
+abbrev pub AreNetworks : {B : Type 0} → (B → Bool) → (List Bool → B) → (B → List Bool) → List (B × Option ℕ) → Type 0
+AreNetworks fits of_bits string rs = All (λ r. IsTrue (fits r.0) × (r.0 ≡ of_bits (string r.0)) × IfSome r.1 (λ n. n < 2 ^ 32)) rs

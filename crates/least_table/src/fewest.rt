@@ -1,5 +1,5 @@
 //! The routes of a least table.
-ghost use Rattle.std.specs.Prelude.{◌≡◌, ◌<◌, ◌≤◌, All, AllPairs, IfOk, OnOk, IsTrue, length, take, drop, false, true};
+ghost use Rattle.std.specs.Prelude.{◌≡◌, ◌<◌, ◌≤◌, ◌^◌, All, AllPairs, IfOk, IfSome, OnOk, IsTrue, length, take, drop, false, true};
 ghost use Rattle.std.specs.declared.cmp.Ordering.TheVariants.{Less};
 ghost use Rattle.ipnet_blocks.specs.BitStrings.{bits_cmp};
 ghost use Rattle.least_table.specs.Pieces.{AreDisjoint, hop_at, strings};
@@ -70,25 +70,26 @@ fn add_plan<P: Prefix + Copy>(
 }
 
 /// The routes of a table with the hops of these pieces and the fewest members of all such tables, ascending. `None` is
-/// `drop`.
+/// `drop`. The pieces' own memory is given back before the routes take theirs.
 ///
 /// # Errors
 /// Where there is no memory.
 pub fn least<P: Prefix + Copy>(
     alloc: Global,
-    pieces: &[(P, u32)],
+    pieces: Vec<(P, u32)>,
 ) -> Result<Vec<(P, Option<u32>)>, AllocError>
-    requires fits { All (λ p. IsTrue (P.fits p.0)) pieces.now }
-    requires disjoint { AreDisjoint (strings P.bits pieces.now) }
-    ensures networks { IfOk result (λ table. All (λ r. IsTrue (P.fits r.0) × (r.0 ≡ P.of_bits (P.bits r.0))) table.items) }
+    requires fits { All (λ p. IsTrue (P.fits p.0)) pieces.items }
+    requires disjoint { AreDisjoint (strings P.bits pieces.items) }
+    ensures networks { IfOk result (λ table. All (λ r. IsTrue (P.fits r.0) × (r.0 ≡ P.of_bits (P.bits r.0)) × IfSome r.1 (λ n. n < 2 ^ 32)) table.items) }
     ensures ordered { IfOk result (λ table. AllPairs (λ r s. bits_cmp r.0 s.0 ≡ Less) (strings P.bits table.items)) }
-    ensures least { IfOk result (λ table. IsLeast P.R.width (hop_at (strings P.bits pieces.now)) (strings P.bits table.items)) }
+    ensures least { IfOk result (λ table. IsLeast P.R.width (hop_at (strings P.bits pieces.items)) (strings P.bits table.items)) }
 {
     if pieces.is_empty() {
         return Ok(Vec::new(alloc));
     }
     let mut plan: Steps<P> = Steps::new(alloc);
-    add_plan(alloc, pieces, 0, &mut plan)?;
+    add_plan(alloc, &pieces, 0, &mut plan)?;
+    drop(pieces);
     let _width = <P::R as Key>::width();
     routes(alloc, plan)
 }

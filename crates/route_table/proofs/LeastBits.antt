@@ -1,7 +1,9 @@
 -- Tables of one family as tables over bit strings.
-use Rattle.std.proofs.Common.{◌≡◌, ℕ, suc, ◌-◌, ◌*◌, ◌^◌, ◌≤◌, ⊎_elim, Bool, true, IsTrue, false, cond, nat_lt, inl, inr, List, [], ◌∷◌, ◌++◌, length, All, AllPairs, Result, Ok, Err, OnOk, append_assoc, Option, Some, None, option_map, refl, sym, ap, ap₂, ◌∙◌, subst, arith}
+use Rattle.std.proofs.Common.{◌≡◌, ℕ, suc, ◌-◌, ◌*◌, ◌^◌, ◌<◌, ◌≤◌, ⊎_elim, Bool, true, IsTrue, false, cond, nat_lt, inl, inr, List, [], ◌∷◌, ◌++◌, length, All, AllPairs, IfOk, IfSome, Result, Ok, Err, Option, Some, None, option_map, refl, sym, ap, ap₂, ◌∙◌, subst, arith}
 use Rattle.std.proofs.Math.Nat.{mod-eq_of_lt}
 use Rattle.std.specs.declared.cmp.Ordering.TheVariants.{Less}
+use Rattle.std.specs.declared.vec.Vec.{Vec}
+use Rattle.std.specs.declared.alloc.Global.{Global}
 use Rattle.ipnet.proofs.IpNetworks.{net_family}
 use Rattle.ipnet_addr.specs.Addresses.{Family, Ipv4, Ipv6, Address, IsAddress, width}
 use Rattle.ipnet_addr.proofs.Members.{In, In-cases}
@@ -26,7 +28,7 @@ use Rattle.route_choices.specs.Hops.{IsHop, hop_from}
 use Rattle.route_choices.specs.declared.hop.Hop.{Hop}
 use Rattle.route_choices.proofs.Kept.{In-map, map_In, map_append}
 use Rattle.route_laws.specs.Fewest.{handed, hop_under, GivesInside, IsFewest}
-use Rattle.route_table.specs.InnerLeast.{ArePieces, AreLeast, GrowsByLeast, AreLeastOf, address_at, entry_of, entries_of, items_of}
+use Rattle.route_table.specs.InnerLeast.{ArePieces, AreLeast, AreLeastOf, address_at, entry_of, entries_of, items_of}
 use Rattle.route_table.specs.InnerSides.{block_at}
 use Rattle.route_laws.specs.LeastTables.{IsLeast, routes_for}
 use Rattle.route_laws.specs.Tables.{Route, IsTable, covering, longer, longest, match_of, route_of}
@@ -149,6 +151,10 @@ lengths w (q ∷ t) ok r (inr i) = lengths w t ok.2 r i
 abbrev IsLess : List Bool × Option ℕ → List Bool × Option ℕ → Type 0
 IsLess r s = bits_cmp r.0 s.0 ≡ Less
 
+is_hop : (k : Option ℕ) → IfSome k (λ n. n < 2 ^ 32) → IsHop (hop_from k)
+is_hop None small = tt
+is_hop (Some n) small = small
+
 module _ (f : Family) {K : Type 0} (bits_in : K → List Bool) (of_bits : List Bool → K) (parts_in : K → Network) (parts_are : (s : List Bool) → parts_in (of_bits s) ≡ record { number = number_from (width f) s; len = length s }) where
   -- the route of a key
   abbrev route_for : K × Option ℕ → Route
@@ -190,17 +196,19 @@ module _ (f : Family) {K : Type 0} (bits_in : K → List Bool) (of_bits : List B
   )
 
   module _ (fits : K → Bool) (w : ℕ) (wide : w ≡ width f) (ps : List (List Bool × ℕ)) (table : List (K × Option ℕ))
-      (networks : All (λ r. IsTrue (fits r.0) × (r.0 ≡ of_bits (bits_in r.0))) table)
+      (networks : All (λ r. IsTrue (fits r.0) × (r.0 ≡ of_bits (bits_in r.0)) × IfSome r.1 (λ n. n < 2 ^ 32)) table)
       (ordered : AllPairs (λ r s. bits_cmp r.0 s.0 ≡ Less) (strings bits_in table))
-      (least : bits.IsLeast w (hop_at ps) (strings bits_in table))
-      (hops : All (λ r. IsHop r.1) (items_of f parts_in table)) where
+      (least : bits.IsLeast w (hop_at ps) (strings bits_in table)) where
     least' : bits.IsLeast (width f) (hop_at ps) (strings bits_in table)
     least' = subst (λ v. bits.IsLeast v (hop_at ps) (strings bits_in table)) wide least
+
+    sound_at : (r : K × Option ℕ) → In r table → IsTrue (fits r.0) × (r.0 ≡ of_bits (bits_in r.0)) × IfSome r.1 (λ n. n < 2 ^ 32)
+    sound_at r i = In-from_All (λ (q : K × Option ℕ). IsTrue (fits q.0) × (q.0 ≡ of_bits (bits_in q.0)) × IfSome q.1 (λ n. n < 2 ^ 32)) table networks r i
 
     ok : (r : K × Option ℕ) → In r table → AtBlock r
     ok r i =
         let l = lengths (width f) (strings bits_in table) (least'.gives).table (bits_in r.0, r.1) (map_In (λ (q : K × Option ℕ). (bits_in q.0, q.1)) table r i) in
-        (l, network_of_key f bits_in of_bits parts_in parts_are r.0 (In-from_All (λ (q : K × Option ℕ). IsTrue (fits q.0) × (q.0 ≡ of_bits (bits_in q.0))) table networks r i).1 l)
+        (l, network_of_key f bits_in of_bits parts_in parts_are r.0 (sound_at r i).1 l)
 
     pub are_least : AreLeast f ps (items_of f parts_in table)
     are_least = record {
@@ -208,7 +216,7 @@ module _ (f : Family) {K : Type 0} (bits_in : K → List Bool) (of_bits : List B
           (λ q i. let t = In-routes table q i in
           let r = t.0 in
           let okb : IsBlock (block (net_in f (parts_in r.0))) = subst IsBlock (sym (block_is r (ok r t.1))) (block_at_is_block f (bits_in r.0) (ok r t.1).0) in
-          let okh : IsHop (hop_from r.1) = In-from_All (λ (u : IpNet × Hop). IsHop u.1) (items_of f parts_in table) hops (net_in f (parts_in r.0), hop_from r.1) (map_In (λ (u : K × Option ℕ). (net_in f (parts_in u.0), hop_from u.1)) table r t.1) in
+          let okh : IsHop (hop_from r.1) = is_hop r.1 (sound_at r t.1).2 in
           subst (λ (v : Route). IsBlock v.block × IsHop v.hop) (sym t.2) (okb, okh))
           (rises table ok (Rising-from_pairs IsLess (strings bits_in table) ordered));
       in_family = All-from_In (λ (u : IpNet × Hop). family u.0 ≡ f) (items_of f parts_in table) (λ u i. let t = item u i in subst (λ (v : IpNet × Hop). family v.0 ≡ f) (sym t.2) (net_family f (parts_in (t.0).0)));
@@ -220,14 +228,18 @@ module _ (f : Family) {K : Type 0} (bits_in : K → List Bool) (of_bits : List B
         item : (u : IpNet × Hop) → In u (items_of f parts_in table) → (r : K × Option ℕ) × In r table × (u ≡ (net_in f (parts_in r.0), hop_from r.1))
         item u i = In-map (λ (r : K × Option ℕ). (net_in f (parts_in r.0), hop_from r.1)) table u i
 
-  -- as they are appended
-  pub appended : (fits : K → Bool) (w : ℕ) → w ≡ width f → (ps : List (List Bool × ℕ)) (table : List (K × Option ℕ)) → All (λ r. IsTrue (fits r.0) × (r.0 ≡ of_bits (bits_in r.0))) table
-      → AllPairs (λ r s. bits_cmp r.0 s.0 ≡ Less) (strings bits_in table) → bits.IsLeast w (hop_at ps) (strings bits_in table)
-      → (ns ms : List (IpNet × Hop)) {E : Type 0} (result : Result (Unit {0}) E) → OnOk result (ms ≡ ns ++ items_of f parts_in table) → OnOk result (All (λ r. IsHop r.1) (items_of f parts_in table)) → OnOk result (GrowsByLeast f ps ns ms)
-  appended fits w wide ps table networks ordered least ns ms (Ok u) e hops = (items_of f parts_in table, e, are_least fits w wide ps table networks ordered least hops)
-  appended fits w wide ps table networks ordered least ns ms (Err x) e hops = tt
+  pub result_is_least : (fits : K → Bool) (w : ℕ) → w ≡ width f → (ps : List (List Bool × ℕ)) {E : Type 0} (result : Result (Vec (K × Option ℕ) Global) E)
+      → IfOk result (λ table. All (λ r. IsTrue (fits r.0) × (r.0 ≡ of_bits (bits_in r.0)) × IfSome r.1 (λ n. n < 2 ^ 32)) table.items)
+      → IfOk result (λ table. AllPairs (λ r s. bits_cmp r.0 s.0 ≡ Less) (strings bits_in table.items)) → IfOk result (λ table. bits.IsLeast w (hop_at ps) (strings bits_in table.items))
+      → IfOk result (λ table. AreLeast f ps (items_of f parts_in table.items))
+  result_is_least fits w wide ps (Ok table) networks ordered least = are_least fits w wide ps table.items networks ordered least
+  result_is_least fits w wide ps (Err e) networks ordered least = tt
 
 -- ---- both families
+
+-- pieces with the hops of a family's addresses have those of any table with these hops there
+pub on_family : (f : Family) (h k : Address → Option ℕ) (ps : List (List Bool × ℕ)) → ArePieces f h ps → ((x : Address) → x.family ≡ f → h x ≡ k x) → ArePieces f k ps
+on_family f h k ps pieces same = record { disjoint = pieces.disjoint; same = λ s e. pieces.same s e ∙ same (address_at f s) refl }
 
 -- routes of one family that are a least table there
 family_routes : (f : Family) (rs : List (IpNet × Hop)) → All (λ r. family r.0 ≡ f) rs → AllOf f (routes_for rs)
@@ -235,46 +247,21 @@ family_routes f rs all q i =
     let t = In-map (λ (r : IpNet × Hop). route_of r.0 r.1 default_preference) rs q i in
     ap (λ (r : Route). Block.family r.block) t.2 ∙ In-from_All (λ (r : IpNet × Hop). family r.0 ≡ f) rs all t.0 t.1
 
-module _ (ps qs : List (List Bool × ℕ)) (os ns ms : List (IpNet × Hop)) (none : os ≡ []) (grows4 : GrowsByLeast Ipv4 ps os ns) (grows6 : GrowsByLeast Ipv6 qs ns ms) where
-  all_routes : ms ≡ grows4.0 ++ grows6.0
-  all_routes = grows6.1 ∙ ap (λ xs. xs ++ grows6.0) (grows4.1 ∙ ap (λ xs. xs ++ grows4.0) none)
+module _ (ps qs : List (List Bool × ℕ)) (ns ms : List (IpNet × Hop)) (v4 : AreLeast Ipv4 ps ns) (v6 : AreLeast Ipv6 qs ms) where
+  least_of_both : (h : Address → Option ℕ) → ArePieces Ipv4 h ps → ArePieces Ipv6 h qs → IsLeast h (routes_for (ns ++ ms))
+  least_of_both h pieces4 pieces6 =
+      let A = family_routes Ipv4 ns v4.in_family in
+      let B = family_routes Ipv6 ms v6.in_family in
+      subst (λ N. IsLeast h N) (sym (map_append (λ (r : IpNet × Hop). route_of r.0 r.1 default_preference) ns ms)) (least_of_families h (routes_for ns) (routes_for ms)
+      (family_gives Ipv4 h ps pieces4 (routes_for ns) v4.table A v4.least) (family_gives Ipv6 h qs pieces6 (routes_for ms) v6.table B v6.least)
+      (family_fewest Ipv4 h ps pieces4 (routes_for ns) v4.table A v4.least) (family_fewest Ipv6 h qs pieces6 (routes_for ms) v6.table B v6.least))
 
-  least_of_both : (h : Address → Option ℕ) → ArePieces Ipv4 h ps → ArePieces Ipv6 h qs → IsLeast h (routes_for ms)
-  least_of_both h v4 v6 =
-      let a = grows4.2 in
-      let b = grows6.2 in
-      let A = family_routes Ipv4 grows4.0 a.in_family in
-      let B = family_routes Ipv6 grows6.0 b.in_family in
-      let split = ap routes_for all_routes ∙ map_append (λ (r : IpNet × Hop). route_of r.0 r.1 default_preference) grows4.0 grows6.0 in
-      subst (λ N. IsLeast h N) (sym split) (least_of_families h (routes_for grows4.0) (routes_for grows6.0)
-      (family_gives Ipv4 h ps v4 (routes_for grows4.0) a.table A a.least) (family_gives Ipv6 h qs v6 (routes_for grows6.0) b.table B b.least)
-      (family_fewest Ipv4 h ps v4 (routes_for grows4.0) a.table A a.least) (family_fewest Ipv6 h qs v6 (routes_for grows6.0) b.table B b.least))
+  truncated_of_both : All (λ r. IsTruncated (family r.0) (parts r.0)) (ns ++ ms)
+  truncated_of_both =
+      All-from_In (λ (r : IpNet × Hop). IsTruncated (family r.0) (parts r.0)) (ns ++ ms)
+      (λ r i. ⊎_elim (λ j. In-from_All (λ (u : IpNet × Hop). IsTruncated (family u.0) (parts u.0)) ns v4.truncated r j)
+      (λ j. In-from_All (λ (u : IpNet × Hop). IsTruncated (family u.0) (parts u.0)) ms v6.truncated r j)
+      (In-cases r ns ms i))
 
-  truncated_of_both : All (λ r. IsTruncated (family r.0) (parts r.0)) ms
-  truncated_of_both = subst (λ xs. All (λ r. IsTruncated (family r.0) (parts r.0)) xs) (sym all_routes)
-      (All-from_In (λ (r : IpNet × Hop). IsTruncated (family r.0) (parts r.0)) (grows4.0 ++ grows6.0)
-      (λ r i. ⊎_elim (λ j. In-from_All (λ (u : IpNet × Hop). IsTruncated (family u.0) (parts u.0)) grows4.0 (AreLeast.truncated grows4.2) r j)
-      (λ j. In-from_All (λ (u : IpNet × Hop). IsTruncated (family u.0) (parts u.0)) grows6.0 (AreLeast.truncated grows6.2) r j)
-      (In-cases r grows4.0 grows6.0 i)))
-
-  pub least_of : AreLeastOf ps qs ms
+  pub least_of : AreLeastOf ps qs (ns ++ ms)
   least_of = record { least = least_of_both; truncated = truncated_of_both }
-
--- ---- one more route
-
-module _ (f : Family) {K : Type 0} (parts_in : K → Network) (ys : List (K × Option ℕ)) (n : K) (k : Option ℕ) where
-  pub items_more : (ns ms new : List (IpNet × Hop)) (m : IpNet) (hop : Hop) → m ≡ net_in f (parts_in n) → hop ≡ hop_from k → ms ≡ ns ++ items_of f parts_in ys → new ≡ ms ++ (m, hop) ∷ [] → new ≡ ns ++ items_of f parts_in (ys ++ (n, k) ∷ [])
-  items_more ns ms new m hop p q e d =
-      d ∙ ap (λ xs. xs ++ (m, hop) ∷ []) e ∙ append_assoc ns (items_of f parts_in ys) ((m, hop) ∷ [])
-      ∙ ap (λ xs. ns ++ xs) ((λ i. items_of f parts_in ys ++ (p i, q i) ∷ []) ∙ sym (map_append (λ (r : K × Option ℕ). (net_in f (parts_in r.0), hop_from r.1)) ys ((n, k) ∷ [])))
-
-  pub hops_more : All (λ r. IsHop r.1) (items_of f parts_in ys) → IsHop (hop_from k) → All (λ r. IsHop r.1) (items_of f parts_in (ys ++ (n, k) ∷ []))
-  hops_more all one = All-from_In (λ (u : IpNet × Hop). IsHop u.1) (items_of f parts_in (ys ++ (n, k) ∷ [])) (λ u i.
-      let t = In-map (λ (r : K × Option ℕ). (net_in f (parts_in r.0), hop_from r.1)) (ys ++ (n, k) ∷ []) u i in
-      subst (λ (v : IpNet × Hop). IsHop v.1) (sym t.2) (⊎_elim
-      (λ j. In-from_All (λ (v : IpNet × Hop). IsHop v.1) (items_of f parts_in ys) all (net_in f (parts_in (t.0).0), hop_from (t.0).1) (map_In (λ (r : K × Option ℕ). (net_in f (parts_in r.0), hop_from r.1)) ys t.0 j))
-      (λ j. ⊎_elim (λ z. subst (λ (r : K × Option ℕ). IsHop (hop_from r.1)) (sym z) one) (λ z. absurd z) j)
-      (In-cases t.0 ys ((n, k) ∷ []) t.1)))
-
-  pub rest_more : (zs rest table : List (K × Option ℕ)) → ys ++ zs ≡ table → zs ≡ (n, k) ∷ rest → (ys ++ (n, k) ∷ []) ++ rest ≡ table
-  rest_more zs rest table e d = append_assoc ys ((n, k) ∷ []) rest ∙ ap (λ xs. ys ++ xs) (sym d) ∙ e

@@ -48,10 +48,6 @@ pub record AreLeast (f : Family) (ps : List (List Bool × ℕ)) (rs : List (IpNe
   pub truncated : All (λ r. IsTruncated (family r.0) (parts r.0)) rs
   pub least : bits.IsLeast (width f) (hop_at ps) (entries_of (routes_for rs))
 
--- such routes are appended
-abbrev pub GrowsByLeast : Family → List (List Bool × ℕ) → List (IpNet × Hop) → List (IpNet × Hop) → Type 0
-GrowsByLeast f ps ns ms = (rs : List (IpNet × Hop)) × (ms ≡ ns ++ rs) × AreLeast f ps rs
-
 -- routes of both families that are a least table for any hops that the pieces of both have
 pub record AreLeastOf (ps qs : List (List Bool × ℕ)) (rs : List (IpNet × Hop)) : Type 0 where
   pub least : (h : Address → Option ℕ) → ArePieces Ipv4 h ps → ArePieces Ipv6 h qs → IsLeast h (routes_for rs)

@@ -1,16 +1,18 @@
 //! A table with one route a network.
 ghost use Rattle.std.specs.Prelude.{◌≡◌, [], IfErr, IfOk, OnErr, OnOk};
+ghost use Rattle.ipnet_addr.specs.Addresses.{Address, Ipv4, Ipv6};
 ghost use Rattle.ipnet_blocks.specs.Blocks.{IsBlock};
 ghost use Rattle.ipnet.specs.IpNets.{block};
 ghost use Rattle.prefix_trie.specs.declared.refused.Refused.TheVariants.{Memory};
 ghost use Rattle.route_choices.specs.Choices.{default_preference};
 ghost use Rattle.route_laws.specs.LeastTables.{routes_for};
 ghost use Rattle.route_laws.specs.Networks.{IsStoredTable, choices_at, routes_of};
-ghost use Rattle.route_laws.specs.Tables.{IsTable, route_of, routes_inside, with_route};
+ghost use Rattle.route_laws.specs.Tables.{IsTable, hop_at, route_of, routes_inside, with_route};
 ghost use Rattle.route_table.specs.Given.{AreRoutes, IsEmptied, IsFlatOf};
 
 use crate::flat::Flat;
 use crate::routes::Routes;
+use crate::side::Side;
 use crate::table::{Table, cleared};
 use ipnet::IpNet;
 use prefix_trie::Refused;
@@ -85,5 +87,28 @@ impl HopTable {
     {
         let (v4, v6) = self.families();
         Flat::new(v4, v6)
+    }
+
+    /// A table of its networks of IPv4, and one of those of IPv6.
+    ///
+    /// # Errors
+    /// None, as of `new`.
+    pub(crate) fn by_family(self) -> Result<(HopTable, HopTable), Refused>
+        ensures ipv4 { IfOk result (λ r. (x : Address) → x.family ≡ Ipv4 → hop_at (routes_of r.0) x ≡ hop_at (routes_of self) x) }
+        ensures ipv6 { IfOk result (λ r. (x : Address) → x.family ≡ Ipv6 → hop_at (routes_of r.1) x ≡ hop_at (routes_of self) x) }
+        ensures memory { IfErr result (λ e. e ≡ Memory) }
+    {
+        let HopTable { v4, v6, alloc } = self;
+        let ipv4 = HopTable {
+            v4,
+            v6: Side::new(alloc)?,
+            alloc,
+        };
+        let ipv6 = HopTable {
+            v4: Side::new(alloc)?,
+            v6,
+            alloc,
+        };
+        Ok((ipv4, ipv6))
     }
 }

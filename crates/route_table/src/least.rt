@@ -1,5 +1,6 @@
 //! The least table with the hops of a table.
-ghost use Rattle.std.specs.Prelude.{◌≡◌, ◌++◌, ℕ, All, IfErr, IfOk, OnOk, Option, map};
+ghost use Rattle.std.specs.Prelude.{◌≡◌, ◌++◌, ℕ, All, IfErr, IfOk, Option};
+ghost use Rattle.std.specs.Iterator.{YieldsFirst, item_count};
 ghost use Rattle.ipnet_addr.specs.Addresses.{Address, Ipv4, Ipv6};
 ghost use Rattle.ipnet_blocks.specs.Blocks.{bit_string};
 ghost use Rattle.ipnet_blocks.specs.Networks.{IsTruncated, block_of};
@@ -7,7 +8,7 @@ ghost use Rattle.ipnet.specs.IpNets.{family, parts};
 ghost use Rattle.least_table.specs.Pieces.{AreDisjoint, strings};
 ghost use Rattle.prefix_trie.specs.declared.refused.Refused.TheVariants.{Memory};
 ghost use Rattle.route_choices.specs.Hops.{IsHop, hop_from};
-ghost use Rattle.route_table.specs.InnerLeast.{AreLeastOf, ArePieces, GrowsByLeast, items_of};
+ghost use Rattle.route_table.specs.InnerLeast.{AreLeast, ArePieces, items_of};
 ghost use Rattle.route_laws.specs.Flats.{IsFlat};
 ghost use Rattle.route_laws.specs.LeastTables.{IsLeast, routes_for};
 ghost use Rattle.route_laws.specs.Networks.{routes_of};
@@ -22,6 +23,8 @@ use least_table::least;
 use prefix_trie::Refused;
 use route_choices::Hop;
 use std::alloc::{AllocError, Global};
+use std::marker::Model;
+use std::vec::IntoIter;
 
 /// The hop of a number, or nowhere.
 fn hop_of(number: Option<u32>) -> Hop
@@ -34,48 +37,75 @@ fn hop_of(number: Option<u32>) -> Hop
     }
 }
 
-/// Appends the routes.
-fn push_routes<P: OfFamily>(
-    routes: &mut Vec<(IpNet, Hop)>,
-    table: Vec<(P, Option<u32>)>,
-) -> Result<(), AllocError>
-    ensures routes { OnOk result (routes.new.items ≡ routes.old.items ++ items_of P.family P.parts table.items) }
-    ensures hops { OnOk result (All (λ r. IsHop r.1) (items_of P.family P.parts table.items)) }
-{
-    for (net, hop) in table {
-        routes.push((net.ip_net(), hop_of(hop)))?;
-    }
-    Ok(())
-}
-
-/// Appends the routes of a least table of one family that has the hops of these pieces.
-fn push_least<P: OfFamily>(
+/// The routes of a least table of one family that has the hops of these pieces.
+fn fewest<P: OfFamily>(
     alloc: Global,
-    routes: &mut Vec<(IpNet, Hop)>,
     pieces: Vec<(P, u32)>,
-) -> Result<(), AllocError>
+) -> Result<Vec<(P, Option<u32>)>, AllocError>
     requires { AreDisjoint (strings P.bits pieces.items) }
-    ensures { OnOk result (GrowsByLeast P.family (strings P.bits pieces.items) routes.old.items routes.new.items) }
+    ensures { IfOk result (λ table. AreLeast P.family (strings P.bits pieces.items) (items_of P.family P.parts table.items)) }
 {
-    let table = least(alloc, &pieces)?;
-    drop(pieces);
-    push_routes(routes, table)
+    least(alloc, pieces)
 }
 
-/// The routes of a least table that has the hops of these pieces of both families.
-fn least_routes(
-    alloc: Global,
-    v4: Vec<(Ipv4Net, u32)>,
-    v6: Vec<(Ipv6Net, u32)>,
-) -> Result<Vec<(IpNet, Hop)>, AllocError>
-    requires ipv4 { AreDisjoint (strings (λ n. bit_string (block_of Ipv4 n)) v4.items) }
-    requires ipv6 { AreDisjoint (strings (λ n. bit_string (block_of Ipv6 n)) v6.items) }
-    ensures { IfOk result (λ routes. AreLeastOf (strings (λ n. bit_string (block_of Ipv4 n)) v4.items) (strings (λ n. bit_string (block_of Ipv6 n)) v6.items) routes.items) }
-{
-    let mut routes = Vec::new(alloc);
-    push_least(alloc, &mut routes, v4)?;
-    push_least(alloc, &mut routes, v6)?;
-    Ok(routes)
+/// The routes that are left of a least table, ascending: the network of each, without host bits, and its hop. A list of
+/// such pairs takes 64 bytes for each route; here one of IPv4 takes 16, and one of IPv6 48.
+#[derive(Drop)]
+pub struct LeastRoutes {
+    v4: IntoIter<(Ipv4Net, Option<u32>)>,
+    v6: IntoIter<(Ipv6Net, Option<u32>)>,
+}
+
+impl Model for LeastRoutes {
+    ghost use Rattle.std.specs.Prelude.{List, ◌++◌};
+    ghost use Rattle.std.specs.Vec.Iter.{into_iter_items};
+    ghost use Rattle.ipnet_addr.specs.Addresses.{Ipv4, Ipv6};
+    ghost use Rattle.ipnet.specs.declared.ip_net.IpNet.{IpNet};
+    ghost use Rattle.route_choices.specs.declared.hop.Hop.{Hop};
+    ghost use Rattle.route_table.specs.InnerLeast.{items_of};
+
+    ghost Value = { List (IpNet × Hop) };
+
+    ghost view = { λ a. items_of Ipv4 (λ n. n) (into_iter_items a.v4) ++ items_of Ipv6 (λ n. n) (into_iter_items a.v6) };
+}
+
+impl LeastRoutes {
+    /// The routes of both families.
+    fn new(v4: Vec<(Ipv4Net, Option<u32>)>, v6: Vec<(Ipv6Net, Option<u32>)>) -> LeastRoutes
+        ensures { result ≡ items_of Ipv4 (λ n. n) v4.items ++ items_of Ipv6 (λ n. n) v6.items }
+    {
+        LeastRoutes {
+            v4: v4.into_iter(),
+            v6: v6.into_iter(),
+        }
+    }
+
+    /// The same as a list.
+    fn list(self, alloc: Global) -> Result<Vec<(IpNet, Hop)>, AllocError>
+        ensures { IfOk result (λ routes. routes.items ≡ self) }
+    {
+        let mut routes = Vec::new(alloc);
+        for route in self {
+            routes.push(route)?;
+        }
+        Ok(routes)
+    }
+}
+
+impl Iterator for LeastRoutes {
+    type Item = (IpNet, Hop);
+
+    ghost next_gives = { YieldsFirst (λ rs. rs) };
+
+    ghost remaining = { item_count (λ rs. rs) };
+
+    fn next(&mut self) -> Option<(IpNet, Hop)> {
+        if let Some((net, hop)) = self.v4.next() {
+            return Some((IpNet::V4(net), hop_of(hop)));
+        }
+        let (net, hop) = self.v6.next()?;
+        Some((IpNet::V6(net), hop_of(hop)))
+    }
 }
 
 /// The flat list, by family.
@@ -105,7 +135,8 @@ fn least_of(alloc: Global, flat: Flat<'_>) -> Result<Vec<(IpNet, Hop)>, Refused>
     ensures memory { IfErr result (λ e. e ≡ Memory) }
 {
     let (v4, v6) = pieces(alloc, flat)?;
-    Ok(least_routes(alloc, v4, v6)?)
+    let routes = LeastRoutes::new(fewest(alloc, v4)?, fewest(alloc, v6)?);
+    Ok(routes.list(alloc)?)
 }
 
 impl RouteTable {
@@ -148,18 +179,22 @@ impl HopTable {
     }
 
     /// The routes of a table with the same hop at every address and the fewest routes of all tables that have it,
-    /// as `least` gives them. Its own memory is given back before most of what that takes.
+    /// as `least` gives them. The table's own memory is given back, that of each family before most of what that family takes.
     ///
     /// # Errors
-    /// `Memory` where there is none for the list, or on the way to it.
-    pub fn into_least(self) -> Result<Vec<(IpNet, Hop)>, Refused>
-        ensures least { IfOk result (λ routes. IsLeast (hop_at (routes_of self)) (routes_for routes.items)) }
-        ensures truncated { IfOk result (λ routes. All (λ r. IsTruncated (family r.0) (parts r.0)) routes.items) }
+    /// `Memory` where there is none for the routes, or on the way to them.
+    pub fn into_least(self) -> Result<LeastRoutes, Refused>
+        ensures least { IfOk result (λ routes. IsLeast (hop_at (routes_of self)) (routes_for routes)) }
+        ensures truncated { IfOk result (λ routes. All (λ r. IsTruncated (family r.0) (parts r.0)) routes) }
         ensures memory { IfErr result (λ e. e ≡ Memory) }
     {
         let alloc = self.alloc();
-        let (v4, v6) = pieces(alloc, self.flat())?;
-        drop(self);
-        Ok(least_routes(alloc, v4, v6)?)
+        let (table_v4, table_v6) = self.by_family()?;
+        let (_, v6) = pieces(alloc, table_v6.flat())?;
+        drop(table_v6);
+        let v6 = fewest(alloc, v6)?;
+        let (v4, _) = pieces(alloc, table_v4.flat())?;
+        drop(table_v4);
+        Ok(LeastRoutes::new(fewest(alloc, v4)?, v6))
     }
 }

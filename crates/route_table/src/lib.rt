@@ -5,6 +5,7 @@ pub use between::{Between, Operation};
 pub use flat::Flat;
 pub use governed::Governed;
 pub use hop_table::HopTable;
+pub use least::LeastRoutes;
 pub use prefix_trie::Refused;
 pub use refused::AddRefused;
 pub use repaint::Repaint;

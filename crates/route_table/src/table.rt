@@ -40,7 +40,7 @@ pub type RouteTable = Table<8>;
 pub struct Table<const CAPACITY: usize> {
     pub(crate) v4: Side<Ipv4Net, CAPACITY>,
     pub(crate) v6: Side<Ipv6Net, CAPACITY>,
-    alloc: Global,
+    pub(crate) alloc: Global,
 }
 
 impl<const CAPACITY: usize> Model for Table<CAPACITY> {

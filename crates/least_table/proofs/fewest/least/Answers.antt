@@ -17,14 +17,14 @@ use Rattle.least_table.proofs.Stores.{within-whole, if_ok_map}
 use Rattle.least_table.proofs.fewest.least.Goals as goal
 
 pub add_plan-requires-clause-ascending : goal.add_plan-requires-clause-ascending
-add_plan-requires-clause-ascending g c = ascending_from (strings g.P.Prefix.bits c.args.pieces.now) c.requires.disjoint
+add_plan-requires-clause-ascending g c = rw c.deref.ensures.value (ascending_from (strings g.P.Prefix.bits c.args.pieces.items) c.requires.disjoint)
 
 pub routes-requires-clause-room : goal.routes-requires-clause-room
 routes-requires-clause-room g c =
     let bits = g.P.Prefix.bits in
     let made = c.in_ok-add_plan.ensures.made in
     rw (c.in_ok-add_plan.ensures.adds.steps, c.new-plan.ensures.steps) (subst (λ xs. HaveRoom bits g.P.Prefix.fits g.P.R.Key.width xs (([], None) ∷ [])) (append-nil (reverse (steps_of c.in_ok-add_plan.ensures.plan)))
-    (rooms bits g.P.Prefix.fits g.P.R.Key.width c.in_ok-add_plan.ensures.plan [] None [] [] (omega arith) (fits_plan (g.P.R.Key.width - 0) (hop_at (beyond bits 0 c.args.pieces.now)) (tree_of bits 0 c.in_ok-add_plan.ensures.plan) made.plans) made.fit tt))
+    (rooms bits g.P.Prefix.fits g.P.R.Key.width c.in_ok-add_plan.ensures.plan [] None [] [] (omega arith) (fits_plan (g.P.R.Key.width - 0) (hop_at (beyond bits 0 c.deref.result.now)) (tree_of bits 0 c.in_ok-add_plan.ensures.plan) made.plans) made.fit tt))
 
 least_from : (w : ℕ) (h : List Bool → Option ℕ) (t : Tree) (ts : List (List Bool × Option ℕ)) → ts ≡ routes_of t None → IsPlan (w - 0) h t → IsLeast w h ts
 least_from w h t ts e plan = let z : w - 0 ≡ w = omega arith in rw e (trees_are_least w h t (subst (λ v. IsPlan v h t) z plan))
@@ -42,7 +42,7 @@ returns-clause-ordered g c =
     let bits = g.P.Prefix.bits in
     let p = c.in_ok-add_plan.ensures.plan in
     let t = tree_of bits 0 p in
-    let fits = fits_plan (g.P.R.Key.width - 0) (hop_at (beyond bits 0 c.args.pieces.now)) t c.in_ok-add_plan.ensures.made.plans in
+    let fits = fits_plan (g.P.R.Key.width - 0) (hop_at (beyond bits 0 c.deref.result.now)) t c.in_ok-add_plan.ensures.made.plans in
     if_ok_map c.routes.result
     (λ table e. ordered_from (g.P.R.Key.width - 0) t (strings bits table.items) (e ∙ all_stored bits (g.P.R.Key.width - 0) p (steps_in c.new-plan.result) (steps_in c.add_plan.new.plan) c.in_ok-add_plan.ensures.adds.steps c.new-plan.ensures.steps fits) fits)
     c.routes.ensures.routes
@@ -52,9 +52,9 @@ returns-clause-least g c =
     let bits = g.P.Prefix.bits in
     let p = c.in_ok-add_plan.ensures.plan in
     let t = tree_of bits 0 p in
-    let h = hop_at (beyond bits 0 c.args.pieces.now) in
+    let h = hop_at (beyond bits 0 c.deref.result.now) in
     if_ok_map c.routes.result
-    (λ table e. least_from g.P.R.Key.width (hop_at (strings bits c.args.pieces.now)) t (strings bits table.items)
+    (λ table e. subst (λ ps. IsLeast g.P.R.Key.width (hop_at (strings bits ps)) (strings bits table.items)) c.deref.ensures.value (least_from g.P.R.Key.width (hop_at (strings bits c.deref.result.now)) t (strings bits table.items)
     (e ∙ all_stored bits (g.P.R.Key.width - 0) p (steps_in c.new-plan.result) (steps_in c.add_plan.new.plan) c.in_ok-add_plan.ensures.adds.steps c.new-plan.ensures.steps (fits_plan (g.P.R.Key.width - 0) h t c.in_ok-add_plan.ensures.made.plans))
-    c.in_ok-add_plan.ensures.made.plans)
+    c.in_ok-add_plan.ensures.made.plans))
     c.routes.ensures.routes
