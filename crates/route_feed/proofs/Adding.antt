@@ -18,16 +18,11 @@ use Rattle.route_feed.specs.InnerLines.{AreTruncated, command_line}
 pub line_is : (net : IpNet) (hop : Hop) → codes "add " ++ net_text net ++ codes " " ++ hop_text hop ++ codes "\n" ≡ command_line (Add net hop default_preference)
 line_is net hop = ap (λ t. t ++ codes "\n") (sym (append-nil (codes "add " ++ net_text net ++ codes " " ++ hop_text hop)))
 
--- a member of networks without host bits
-pub cut_at : (routes : List (IpNet × Hop)) (i : ℕ) (r : IpNet × Hop) → AreTruncated routes → i < length routes → r ≡ slice_index_or routes i r → IsTruncated (family r.0) (parts r.0)
-cut_at routes i r all h is = subst (λ (s : IpNet × Hop). IsTruncated (family s.0) (parts s.0)) (sym is) (all i r h)
-
--- the bytes of the lines that add routes, and the line of the next one
+-- the bytes of the lines that add routes, and the line of the first
 abbrev pub add_bytes : List (IpNet × Hop) → List ℕ
 add_bytes routes = add_lines (routes_for routes)
 
-pub next_add : (routes : List (IpNet × Hop)) (i : ℕ) (r : IpNet × Hop) → AreTruncated routes → i < length routes → r ≡ slice_index_or routes i r
-    → add_bytes (drop i routes) ≡ command_line (Add r.0 r.1 default_preference) ++ add_bytes (drop (i + 1) routes)
-next_add routes i r all h is =
-    at_drop_more add_bytes routes i r h ∙ ap (λ x. add_bytes (x ∷ drop (i + 1) routes)) (sym is)
-    ∙ ap (λ t. t ++ add_bytes (drop (i + 1) routes)) (line_is (network_at (block r.0)) r.1 ∙ ap (λ n. command_line (Add n r.1 default_preference)) (sym (network_is r.0 (cut_at routes i r all h is))))
+pub next_add : (r : IpNet × Hop) (routes : List (IpNet × Hop)) → IsTruncated (family r.0) (parts r.0)
+    → add_bytes (r ∷ routes) ≡ command_line (Add r.0 r.1 default_preference) ++ add_bytes routes
+next_add r routes cut =
+    ap (λ t. t ++ add_bytes routes) (line_is (network_at (block r.0)) r.1 ∙ ap (λ n. command_line (Add n r.1 default_preference)) (sym (network_is r.0 cut)))

@@ -18,7 +18,7 @@ ghost use Rattle.route_feed.specs.InnerWaiting.{changes_of, waiting_change};
 use crate::error::RunError;
 use ipnet::{IpAddr, IpNet};
 use route_lines::{Closing, Reply};
-use route_table::{Flat, Hop, HopTable, Refused};
+use route_table::{Flat, Hop, HopTable, LeastRoutes, Refused};
 use std::alloc::{AllocFailed, Global};
 use std::marker::Model;
 use thiserror::Error;
@@ -180,9 +180,9 @@ impl Follower {
     }
 
     /// The routes of a table with these hops and the fewest routes of all such tables.
-    pub(crate) fn into_least(self) -> Result<Vec<(IpNet, Hop)>, RunError>
-        ensures least { IfOk result (λ routes. IsLeast (hop_at (routes_of self.table)) (routes_for routes.items)) }
-        ensures truncated { IfOk result (λ routes. All (λ r. IsTruncated (family r.0) (parts r.0)) routes.items) }
+    pub(crate) fn into_least(self) -> Result<LeastRoutes, RunError>
+        ensures least { IfOk result (λ routes. IsLeast (hop_at (routes_of self.table)) (routes_for routes)) }
+        ensures truncated { IfOk result (λ routes. All (λ r. IsTruncated (family r.0) (parts r.0)) routes) }
         ensures memory { IfErr result (λ e. e ≡ RunError.Memory) }
     {
         Ok(self.table.into_least()?)

@@ -160,7 +160,7 @@ pub fn shorten<R: Read, W: Write>(
 {
     let follower = follow_all(alloc, reader, writer)?;
     let routes = follower.into_least()?;
-    write_routes(writer, routes.as_slice())
+    write_routes(writer, routes)
 }
 
 /// Keeps a table that is installed elsewhere at the hops that the reader's lines tell, by operations that it writes.

@@ -13,9 +13,8 @@ use crate::body::{Body, Operations};
 use crate::counted::Counted;
 use crate::error::RunError;
 use arrayvec::ArrayVec;
-use ipnet::IpNet;
 use route_lines::{Closing, Command, Reply, Update};
-use route_table::{DEFAULT_PREFERENCE, Hop};
+use route_table::{DEFAULT_PREFERENCE, LeastRoutes};
 use std::io::Write;
 
 /// Writes all of the piece, or a beginning of it.
@@ -80,17 +79,17 @@ pub fn reply<W: Write, B: Body>(writer: &mut Counted<W>, mut body: B) -> Result<
 /// `Write` alone: at an error of `write` or `flush`, or where `write` takes nothing. Then a beginning of the lines was written.
 pub fn write_routes<W: Write>(
     writer: &mut Counted<W>,
-    routes: &[(IpNet, Hop)],
+    routes: LeastRoutes,
 ) -> Result<(), RunError>
     requires counts { CanCount writer.old }
-    requires networks { AreTruncated routes.now }
-    ensures { Delivers W.contents writer.old writer.new result (add_lines (routes_for routes.now)) }
+    requires networks { AreTruncated routes }
+    ensures { Delivers W.contents writer.old writer.new result (add_lines (routes_for routes)) }
 {
     let mut text = ArrayVec::new();
-    for route in routes {
+    for (net, hop) in routes {
         let command = Command::Add {
-            net: route.0,
-            hop: route.1,
+            net,
+            hop,
             pref: DEFAULT_PREFERENCE,
         };
         command.print_to(&mut text);

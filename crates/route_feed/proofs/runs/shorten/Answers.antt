@@ -22,8 +22,7 @@ write_routes-requires-clause-counts g c = rw (c.in_ok-follower.ensures.1) (omega
 pub returns-clause-ends : goal.returns-clause-ends
 returns-clause-ends g c =
     shorten_ended g.R.Read.remaining g.W.Write.contents c.args.reader.now c.follow_all.new.reader c.args.writer.now c.in_ok-follower.follower c.follow_all.new.writer c.in_ok-follower.ensures
-    c.write_routes.new.writer (routes_for c.in_ok-routes.routes.items) c.write_routes.result c.in_ok-routes.ensures.least
-    (subst (λ rs. Delivers g.W.Write.contents c.follow_all.new.writer c.write_routes.new.writer c.write_routes.result (add_lines (routes_for rs))) c.as_slice.ensures.value c.write_routes.ensures)
+    c.write_routes.new.writer (routes_for c.in_ok-routes.routes) c.write_routes.result c.in_ok-routes.ensures.least c.write_routes.ensures
 
 pub returns-clause-known : goal.returns-clause-known
 returns-clause-known g c = shorten_known g.R.Read.remaining g.W.Write.contents c.args.reader.now c.follow_all.new.reader c.args.writer.now c.write_routes.new.writer c.write_routes.result (returns-clause-ends g c)
