@@ -174,7 +174,9 @@ fn store(table: &mut HopTable, net: IpNet, hop: Hop) -> Result<(), Fault> {
 fn into_least(rt: &HostRuntime, routes: &RouteTable) -> Result<(), Fault> {
     let mut table = made(HopTable::new(rt.alloc()))?;
     begin_with(rt, &mut table, routes)?;
-    ended_list(rt, table.into_least());
+    if let Some(routes) = ended(rt, table.into_least()) {
+        lines(rt, "answer ", routes);
+    }
     Ok(())
 }
 

@@ -77,10 +77,7 @@ pub fn reply<W: Write, B: Body>(writer: &mut Counted<W>, mut body: B) -> Result<
 ///
 /// # Errors
 /// `Write` alone: at an error of `write` or `flush`, or where `write` takes nothing. Then a beginning of the lines was written.
-pub fn write_routes<W: Write>(
-    writer: &mut Counted<W>,
-    routes: LeastRoutes,
-) -> Result<(), RunError>
+pub fn write_routes<W: Write>(writer: &mut Counted<W>, routes: LeastRoutes) -> Result<(), RunError>
     requires counts { CanCount writer.old }
     requires networks { AreTruncated routes }
     ensures { Delivers W.contents writer.old writer.new result (add_lines (routes_for routes)) }

@@ -122,7 +122,10 @@ fn goes(rt: &impl Abort, alloc: Global, row: &str, steps: &[Step], least: &str) 
     for step in steps {
         go(rt, alloc, &mut table, step);
     }
-    let list = table.into_least().expect(rt, "memory");
+    let mut list = Vec::new(alloc);
+    for route in table.into_least().expect(rt, "memory") {
+        list.push(route).expect(rt, "memory");
+    }
     routes_are(rt, row, list.as_slice(), least);
 }
 
