@@ -320,7 +320,8 @@ impl<T: Drop> Node<T> {
             let child = &mut self.children[at];
             return child.exchange(path.rest(), held, may_grow, room);
         }
-        let more = self.children.len().clamp(1, 16);
+        // Nodes are large, and most have few children.
+        let more = if self.children.len() < 4 { 1 } else { 2 };
         if !may_grow || room == 0 || reserve_some(&mut self.children, more).is_err() {
             return None;
         }

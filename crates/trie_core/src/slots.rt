@@ -100,9 +100,8 @@ pub(crate) fn put_at<X>(
             Ok(Some(mem::replace(item, thing)))
         }
         None => {
-            // Most lists stay short, and there are many of them. One of half the things that there can be gets room for all.
-            let more = if items.len() < 16 { 1 } else { 16 };
-            if !may_grow || reserve_some(items, more).is_err() {
+            // Most lists stay short, and there are many of them.
+            if !may_grow || reserve_some(items, 1).is_err() {
                 return Err(thing);
             }
             match items.insert(taken_below(word, place), thing) {
