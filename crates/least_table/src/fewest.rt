@@ -9,7 +9,7 @@ ghost use Rattle.least_table.specs.InnerPacked.{AreWhole};
 ghost use Rattle.least_table.specs.InnerPlans.{IsPlanned};
 
 use crate::bits::{bit, common};
-use crate::plan::{Steps, give_back, routes};
+use crate::plan::{Steps, routes};
 use prefix_trie::{Key, Prefix, path_of, truncated};
 use std::alloc::{AllocError, Global};
 
@@ -89,7 +89,7 @@ pub fn least<P: Prefix + Copy>(
     }
     let mut plan: Steps<P> = Steps::new(alloc);
     add_plan(alloc, &pieces, 0, &mut plan)?;
-    give_back(pieces);
+    drop(pieces);
     let _width = <P::R as Key>::width();
     routes(alloc, plan)
 }

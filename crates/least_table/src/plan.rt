@@ -233,14 +233,6 @@ impl<P: Prefix + Copy> Steps<P> {
     }
 }
 
-/// Gives the memory of a list back, made small first: where a large block is freed, the malloc of glibc lays later ones up to its size
-/// among the small blocks, and what these leave is then not the system's again.
-pub(crate) fn give_back<X: Drop>(list: Vec<X>) {
-    let mut list = list;
-    list.truncate(1);
-    list.shrink_to(1);
-}
-
 /// Adds the route of the block at `path`.
 fn add<P: Prefix + Copy>(
     table: &mut Vec<(P, Option<u32>)>,
@@ -297,9 +289,5 @@ pub(crate) fn routes<P: Prefix + Copy>(
         };
         left.take(step, &path, handed, &mut waiting, &mut table)?;
     }
-    let Steps { steps, sets, inner } = left;
-    give_back(steps);
-    give_back(sets);
-    give_back(inner);
     Ok(table)
 }
