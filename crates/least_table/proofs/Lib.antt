@@ -1,6 +1,7 @@
 pub mod Split
 pub mod Halves
 pub mod Sets
+pub mod Stacks
 pub mod Cuts
 pub mod Chains
 pub mod Risings

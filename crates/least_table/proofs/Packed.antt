@@ -50,18 +50,18 @@ module _ {B : Type 0} (sets more : List (Option ℕ)) (inner also : List B) wher
   all_front (x ∷ xs) ys h k = (kept_front x h.0, all_front xs ys h.1 k)
 
 -- one step is appended, after what it names
-pub grown : {B : Type 0} (old new : Steps B) (p : Packed) (x : Step B) (more : List (Option ℕ)) (also : List B) → new.steps.items ≡ old.steps.items ++ p ∷ [] → new.sets.items ≡ old.sets.items ++ more → new.inner.items ≡ old.inner.items ++ also
+pub grown : {B : Type 0} (old new : Steps B) (p : Packed) (x : Step B) (more : List (Option ℕ)) (also : List B) → new.steps ≡ old.steps ++ p ∷ [] → new.sets.items ≡ old.sets.items ++ more → new.inner.items ≡ old.inner.items ++ also
     → AreWhole old → IsKept (old.sets.items ++ more) (length (old.inner.items ++ also)) p → step_of (old.sets.items ++ more) (old.inner.items ++ also) p ≡ x → Grows old new (x ∷ [])
 grown old new p x more also e f g h kept is = record {
-  steps = ap (λ ys. map (step_of new.sets.items new.inner.items) ys) e ∙ ap₂ (λ ss bs. map (step_of ss bs) (old.steps.items ++ p ∷ [])) f g
-      ∙ map-append (step_of (old.sets.items ++ more) (old.inner.items ++ also)) old.steps.items (p ∷ [])
-      ∙ ap₂ (λ ys y. ys ++ y ∷ []) (steps_front old.sets.items more old.inner.items also old.steps.items h) is;
-  whole = subst (λ ys. AreKept new.sets.items (length new.inner.items) ys) (sym e) (subst (λ ss. AreKept ss (length new.inner.items) (old.steps.items ++ p ∷ [])) (sym f)
-      (subst (λ bs. AreKept (old.sets.items ++ more) (length bs) (old.steps.items ++ p ∷ [])) (sym g) (all_front old.sets.items more old.inner.items also old.steps.items (p ∷ []) h (kept, tt))));
+  steps = ap (λ ys. map (step_of new.sets.items new.inner.items) ys) e ∙ ap₂ (λ ss bs. map (step_of ss bs) (old.steps ++ p ∷ [])) f g
+      ∙ map-append (step_of (old.sets.items ++ more) (old.inner.items ++ also)) old.steps (p ∷ [])
+      ∙ ap₂ (λ ys y. ys ++ y ∷ []) (steps_front old.sets.items more old.inner.items also old.steps h) is;
+  whole = subst (λ ys. AreKept new.sets.items (length new.inner.items) ys) (sym e) (subst (λ ss. AreKept ss (length new.inner.items) (old.steps ++ p ∷ [])) (sym f)
+      (subst (λ bs. AreKept (old.sets.items ++ more) (length bs) (old.steps ++ p ∷ [])) (sym g) (all_front old.sets.items more old.inner.items also old.steps (p ∷ []) h (kept, tt))));
 }
 
 -- one that names nothing new
-pub grown_by : {B : Type 0} (old new : Steps B) (p : Packed) → new.steps.items ≡ old.steps.items ++ p ∷ [] → new.sets.items ≡ old.sets.items → new.inner.items ≡ old.inner.items
+pub grown_by : {B : Type 0} (old new : Steps B) (p : Packed) → new.steps ≡ old.steps ++ p ∷ [] → new.sets.items ≡ old.sets.items → new.inner.items ≡ old.inner.items
     → AreWhole old → IsKept old.sets.items (length old.inner.items) p → Grows old new (step_of old.sets.items old.inner.items p ∷ [])
 grown_by old new p e f g h kept =
     grown old new p (step_of old.sets.items old.inner.items p) [] [] e (f ∙ sym (append-nil old.sets.items)) (g ∙ sym (append-nil old.inner.items)) h
@@ -76,7 +76,7 @@ grown_more {B} {old} {mid} {new} {xs} {ys} g h = record {
 
 -- ---- the last step is taken off
 
-module _ {B : Type 0} (left : Steps B) (rest : List Packed) (x : Packed) (e : left.steps.items ≡ rest ++ x ∷ []) where
+module _ {B : Type 0} (left : Steps B) (rest : List Packed) (x : Packed) (e : left.steps ≡ rest ++ x ∷ []) where
   pub popped : steps_in left ≡ map (step_of left.sets.items left.inner.items) rest ++ step_of left.sets.items left.inner.items x ∷ []
   popped = ap (λ ys. map (step_of left.sets.items left.inner.items) ys) e ∙ map-append (step_of left.sets.items left.inner.items) rest (x ∷ [])
 
@@ -92,15 +92,15 @@ kept_at sets n [] i d l h = absurd (omega (arith, l))
 kept_at sets n (x ∷ xs) zero d l h = h.0
 kept_at sets n (x ∷ xs) (suc i) d l h = kept_at sets n xs i d (omega (arith, l)) h.1
 
-module _ {B : Type 0} (s : Steps B) (at : ℕ) (x : Packed) (within : at < length (steps_in s)) (e : x ≡ slice_index_or s.steps.items at x) where
-  inside : at < length s.steps.items
-  inside = omega (arith, within, length-map s.steps.items (step_of s.sets.items s.inner.items))
+module _ {B : Type 0} (s : Steps B) (at : ℕ) (x : Packed) (within : at < length (steps_in s)) (e : x ≡ slice_index_or s.steps at x) where
+  inside : at < length s.steps
+  inside = omega (arith, within, length-map s.steps (step_of s.sets.items s.inner.items))
 
   pub kept_read : AreWhole s → IsKept s.sets.items (length s.inner.items) x
-  kept_read h = subst (λ y. IsKept s.sets.items (length s.inner.items) y) (sym e) (kept_at s.sets.items (length s.inner.items) s.steps.items at x inside h)
+  kept_read h = subst (λ y. IsKept s.sets.items (length s.inner.items) y) (sym e) (kept_at s.sets.items (length s.inner.items) s.steps at x inside h)
 
   pub best_read : (hops : List (Option ℕ)) → hops ≡ step_best (step_of s.sets.items s.inner.items x) → hops ≡ best_at s at
-  best_read hops f = f ∙ ap (λ y. step_best (step_of s.sets.items s.inner.items y)) e ∙ ap step_best (sym (get_or-map (step_of s.sets.items s.inner.items) s.steps.items at x (steps.Leaf None) inside))
+  best_read hops f = f ∙ ap (λ y. step_best (step_of s.sets.items s.inner.items y)) e ∙ ap step_best (sym (get_or-map (step_of s.sets.items s.inner.items) s.steps at x (steps.Leaf None) inside))
 
 -- the set that was appended
 set_here : (sets hops : List (Option ℕ)) (n : ℕ) → n ≡ length hops → set_at (sets ++ Some n ∷ hops) (length sets) ≡ hops

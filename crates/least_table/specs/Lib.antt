@@ -9,4 +9,5 @@ pub mod InnerRising
 pub mod InnerOrders
 pub mod InnerSteps
 pub mod InnerPacked
+pub mod InnerStacks
 pub mod InnerPlans

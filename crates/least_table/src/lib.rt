@@ -6,5 +6,6 @@ mod fewest;
 mod hops;
 pub mod laws;
 mod plan;
+mod stack;
 
 pub use fewest::least;

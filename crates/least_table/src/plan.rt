@@ -10,6 +10,7 @@ ghost use Rattle.least_table.specs.InnerSteps.{Leaf, Fork, Skip};
 
 use crate::bits::onto;
 use crate::hops::{Hops, first, is_among, merge};
+use crate::stack::Stack;
 use prefix_trie::{Prefix, path_of, prefix_of};
 use std::alloc::{AllocError, Global};
 use std::slice;
@@ -69,7 +70,7 @@ fn set(sets: &[Option<u32>], at: usize) -> &[Option<u32>]
 /// The steps of a plan.
 #[derive(Drop)]
 pub(crate) struct Steps<P: Copy> {
-    steps: Vec<Packed>,
+    steps: Stack<Packed>,
     /// The sets of several hops one after the other, each behind the number of its hops.
     sets: Vec<Option<u32>>,
     /// The smaller blocks of steps that skip levels.
@@ -83,7 +84,7 @@ impl<P: Prefix + Copy> Steps<P> {
         ensures whole { AreWhole result }
     {
         Steps {
-            steps: Vec::new(alloc),
+            steps: Stack::new(alloc),
             sets: Vec::new(alloc),
             inner: Vec::new(alloc),
         }
@@ -102,8 +103,7 @@ impl<P: Prefix + Copy> Steps<P> {
         requires kept { IsKept self.old.sets.items (length self.old.inner.items) step }
         ensures { OnOk result (Grows self.old self.new (step_of self.old.sets.items self.old.inner.items step ∷ [])) }
     {
-        self.steps.push(step)?;
-        Ok(())
+        self.steps.push(step)
     }
 
     /// Appends the step of a block whose addresses all have this hop.
@@ -126,8 +126,7 @@ impl<P: Prefix + Copy> Steps<P> {
             return Err(AllocError);
         };
         self.inner.push(inner)?;
-        self.steps.push(Packed::Skip(at))?;
-        Ok(())
+        self.steps.push(Packed::Skip(at))
     }
 
     /// Appends the step of a block that is cut into halves, and is best handed the hops of this set.
@@ -143,8 +142,7 @@ impl<P: Prefix + Copy> Steps<P> {
         };
         self.sets.push(Some(len))?;
         self.sets.extend_from_slice(hops)?;
-        self.steps.push(Packed::Several(at))?;
-        Ok(())
+        self.steps.push(Packed::Several(at))
     }
 
     /// Appends the step of a block that is cut into halves, and is best handed these hops.
@@ -181,8 +179,8 @@ impl<P: Prefix + Copy> Steps<P> {
         ensures merged { IfOk result (λ hops. AreMerged (best_at self.now low) (best_at self.now high) (members hops)) }
         ensures rising { IfOk result (λ hops. IsRising (members hops)) }
     {
-        let below = self.best(self.steps[low]);
-        let above = self.best(self.steps[high]);
+        let below = self.best(*self.steps.get(low));
+        let above = self.best(*self.steps.get(high));
         merge(alloc, below.as_slice(), above.as_slice())
     }
 

@@ -10,4 +10,4 @@ invariant-loop-step g l =
     × HaveRoom g.P.Prefix.bits g.P.Prefix.fits g.P.R.Key.width (reverse (steps_in l.left)) (reverse l.waiting.items) × AreNetworks g.P.Prefix.fits g.P.Prefix.of_bits g.P.Prefix.bits l.table.items × AreWhole l.left
 
 abbrev pub decreases-loop-step : goal.decreases-loop-step
-decreases-loop-step g l = length l.left.steps.items
+decreases-loop-step g l = length l.left.steps

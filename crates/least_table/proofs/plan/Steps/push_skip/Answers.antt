@@ -3,6 +3,7 @@ use Rattle.least_table.specs.InnerPacked.{around}
 use Rattle.least_table.specs.InnerSteps.{Skip}
 use Rattle.least_table.specs.declared.plan.Packed.TheVariants as packed
 use Rattle.least_table.proofs.Packed.{grown, inner_here}
+use Rattle.least_table.proofs.Stores.{if_ok_map}
 use Rattle.least_table.proofs.plan.Steps.push_skip.Goals as goal
 
 pub returns : goal.returns
@@ -10,5 +11,5 @@ returns g c =
     let inner = c.args.self.now.inner.items in
     let b = c.args.inner in
     let at : c.in-Ok.at ≡ length c.args.self.now.inner.items = c.in-Ok.ensures.1 ∙ c.len.ensures ∙ c.args.self.now.inner.ok.0 in
-    grown c.args.self.now _ (packed.Skip c.in-Ok.at) (Skip None b) [] (b ∷ []) c.in_ok-push-2.ensures.items (sym (append-nil c.args.self.now.sets.items)) c.in_ok-push.ensures.items c.requires
-    (omega (arith, at, length-append inner (b ∷ []))) (ap around (ap (slice_get (inner ++ b ∷ [])) at ∙ inner_here inner b))
+    if_ok_map c.push-2.result (λ _ added. grown c.args.self.now _ (packed.Skip c.in-Ok.at) (Skip None b) [] (b ∷ []) added (sym (append-nil c.args.self.now.sets.items)) c.in_ok-push.ensures.items c.requires
+    (omega (arith, at, length-append inner (b ∷ []))) (ap around (ap (slice_get (inner ++ b ∷ [])) at ∙ inner_here inner b))) c.push-2.ensures

@@ -1,0 +1,93 @@
+//! Stacks that grow in blocks.
+ghost use Rattle.std.specs.Prelude.{◌≡◌, ◌<◌, ◌++◌, ◌∷◌, [], MatchOption, OnOk, length, slice_index_or};
+
+use std::alloc::{AllocError, Global};
+use std::marker::Model;
+use std::mem;
+
+/// How many items a block has.
+const SIZE: usize = 4096;
+
+/// The most blocks but the last one, so that the items can be counted.
+const MOST: usize = 1 << 32;
+
+/// A list that is added to and taken from at its end, in blocks of one size. So it grows without a copy, and its blocks go where smaller
+/// things were.
+///
+/// Contracts see the list.
+#[derive(Drop)]
+pub(crate) struct Stack<X> {
+    full: Vec<Vec<X>>,
+    last: Vec<X>,
+}
+
+impl<X> Model for Stack<X> {
+    ghost use Rattle.std.specs.Prelude.{List, ◌++◌, ◌≤◌, ◌^◌, length};
+    ghost use Rattle.least_table.specs.InnerStacks.{AreFull, joined};
+
+    ghost Value = { List X };
+
+    ghost view = { λ a. joined a.full.items ++ a.last.items };
+
+    ghost invariant = { λ a. AreFull a.full.items × (length a.full.items ≤ 2 ^ 32) × (length a.last.items ≤ 4096) };
+}
+
+impl<X> Stack<X> {
+    /// No items.
+    pub(crate) fn new(alloc: Global) -> Stack<X>
+        ensures { result ≡ [] }
+    {
+        Stack {
+            full: Vec::new(alloc),
+            last: Vec::new(alloc),
+        }
+    }
+
+    /// How many there are.
+    pub(crate) fn len(&self) -> usize
+        ensures { result ≡ length self.now }
+    {
+        self.full.len() * SIZE + self.last.len()
+    }
+
+    /// The item at a place.
+    pub(crate) fn get(&self, at: usize) -> &X
+        requires { at < length self.now }
+        ensures { result.now ≡ slice_index_or self.now at result.now }
+    {
+        let block = at / SIZE;
+        if block < self.full.len() {
+            &self.full[block][at % SIZE]
+        } else {
+            &self.last[at % SIZE]
+        }
+    }
+}
+
+impl<X: Drop> Stack<X> {
+    /// Adds an item.
+    pub(crate) fn push(&mut self, item: X) -> Result<(), AllocError>
+        ensures { OnOk result (self.new ≡ self.old ++ item ∷ []) }
+    {
+        if self.last.len() == SIZE {
+            if self.full.len() >= MOST {
+                return Err(AllocError);
+            }
+            let block = Vec::with_capacity(*self.full.allocator(), SIZE)?;
+            let full = mem::replace(&mut self.last, block);
+            self.full.push(full)?;
+        }
+        self.last.push(item)?;
+        Ok(())
+    }
+
+    /// Takes the last item off.
+    pub(crate) fn pop(&mut self) -> Option<X>
+        ensures { MatchOption result ((self.old ≡ []) × (self.new ≡ [])) (λ x. self.old ≡ self.new ++ x ∷ []) }
+    {
+        if self.last.is_empty() {
+            self.last = self.full.pop()?;
+        }
+        self.last.pop()
+    }
+}
