@@ -15,4 +15,5 @@ pub mod Builds
 pub mod Orders
 pub mod Disjoint
 pub mod PathBits
+pub mod BlockSets
 pub mod Packed

@@ -1,11 +1,12 @@
 -- Steps that are kept stay what they are while others are appended.
-use Rattle.std.proofs.Common.{◌≡◌, ℕ, zero, suc, ◌+◌, ◌<◌, ◌≤◌, Bool, List, [], ◌∷◌, ◌++◌, length, map, take, drop, slice_get, slice_index_or, Option, Some, None, refl, sym, ap, ap₂, ◌∙◌, subst, arith, append_assoc, append-nil, length-append}
+use Rattle.std.proofs.Common.{◌≡◌, ℕ, zero, suc, ◌<◌, Bool, List, [], ◌∷◌, ◌++◌, length, map, drop, slice_get, slice_index_or, Option, Some, None, refl, sym, ap, ap₂, ◌∙◌, subst, arith, append_assoc, append-nil, length-append}
 use Rattle.std.proofs.lemmas.Option.{slice_get_read}
-use Rattle.std.proofs.lemmas.List.{map-append, take-append-le, length-map, take_all, drop-append-le, get_or_append_left, get_or-map, length-drop}
+use Rattle.std.proofs.lemmas.List.{map-append, length-map, get_or-map}
 use Rattle.std.proofs.Math.Seq.{get_or-append_seam}
 use Rattle.least_table.specs.InnerSteps.{Step, passed, step_best, step_blocks}
 use Rattle.least_table.specs.InnerSteps as steps
-use Rattle.least_table.specs.InnerPacked.{size_of, size_at, set_at, around, step_of, IsKept, AreKept, AreWhole, best_at, steps_in, Grows}
+use Rattle.least_table.specs.InnerSets.{KeepsSets}
+use Rattle.least_table.specs.InnerPacked.{around, step_of, IsKept, AreKept, AreWhole, best_at, steps_in, Grows}
 use Rattle.least_table.specs.declared.plan.Packed.{Packed}
 use Rattle.least_table.specs.declared.plan.Packed.TheVariants.{Leaf, Gap, One, Nowhere, Several, Skip}
 use Rattle.least_table.specs.declared.plan.Steps.{Steps}
@@ -15,57 +16,52 @@ get_front [] ys i l = absurd (omega (arith, l))
 get_front (x ∷ xs) ys zero l = refl
 get_front (x ∷ xs) ys (suc i) l = get_front xs ys i (omega (arith, l))
 
-cut_front : {X : Type 0} (m k : ℕ) (xs ys : List X) → m + k ≤ length xs → take k (drop m (xs ++ ys)) ≡ take k (drop m xs)
-cut_front m k xs ys l = ap (take k) (drop-append-le m xs ys (omega (arith, l))) ∙ take-append-le k (drop m xs) ys (omega (arith, l, length-drop m xs))
-
-size_front : (sets more : List (Option ℕ)) (at : ℕ) → suc at + size_at sets at ≤ length sets → size_at (sets ++ more) at ≡ size_at sets at
-size_front sets more at l = ap size_of (get_or_append_left sets more None at (omega (arith, l)))
-
-set_front : (sets more : List (Option ℕ)) (at : ℕ) → suc at + size_at sets at ≤ length sets → set_at (sets ++ more) at ≡ set_at sets at
-set_front sets more at l = ap (λ n. take n (drop (suc at) (sets ++ more))) (size_front sets more at l) ∙ cut_front (suc at) (size_at sets at) sets more l
-
-module _ {B : Type 0} (sets more : List (Option ℕ)) (inner also : List B) where
-  step_front : (x : Packed) → IsKept sets (length inner) x → step_of (sets ++ more) (inner ++ also) x ≡ step_of sets inner x
+module _ {B : Type 0} (sets new : List (List (Option ℕ))) (keeps : KeepsSets sets new) (inner also : List B) where
+  step_front : (x : Packed) → IsKept sets (length inner) x → step_of new (inner ++ also) x ≡ step_of sets inner x
   step_front (Leaf k) h = refl
   step_front Gap h = refl
   step_front (One k) h = refl
   step_front Nowhere h = refl
-  step_front (Several at) h = ap (λ ks. steps.Fork ks) (set_front sets more at h)
+  step_front (Several at) h = ap (λ ks. steps.Fork ks) (keeps at h).1
   step_front (Skip at) h = ap around (get_front inner also at h)
 
-  kept_front : (x : Packed) → IsKept sets (length inner) x → IsKept (sets ++ more) (length (inner ++ also)) x
+  kept_front : (x : Packed) → IsKept sets (length inner) x → IsKept new (length (inner ++ also)) x
   kept_front (Leaf k) h = tt
   kept_front Gap h = tt
   kept_front (One k) h = tt
   kept_front Nowhere h = tt
-  kept_front (Several at) h = omega (arith, h, size_front sets more at h, length-append sets more)
+  kept_front (Several at) h = (keeps at h).0
   kept_front (Skip at) h = omega (arith, h, length-append inner also)
 
-  steps_front : (xs : List Packed) → AreKept sets (length inner) xs → map (step_of (sets ++ more) (inner ++ also)) xs ≡ map (step_of sets inner) xs
+  steps_front : (xs : List Packed) → AreKept sets (length inner) xs → map (step_of new (inner ++ also)) xs ≡ map (step_of sets inner) xs
   steps_front [] h = refl
   steps_front (x ∷ xs) h = ap₂ (λ y ys. y ∷ ys) (step_front x h.0) (steps_front xs h.1)
 
-  all_front : (xs ys : List Packed) → AreKept sets (length inner) xs → AreKept (sets ++ more) (length (inner ++ also)) ys → AreKept (sets ++ more) (length (inner ++ also)) (xs ++ ys)
+  all_front : (xs ys : List Packed) → AreKept sets (length inner) xs → AreKept new (length (inner ++ also)) ys → AreKept new (length (inner ++ also)) (xs ++ ys)
   all_front [] ys h k = k
   all_front (x ∷ xs) ys h k = (kept_front x h.0, all_front xs ys h.1 k)
 
+-- sets that are the same
+pub keeps_same : (sets new : List (List (Option ℕ))) → new ≡ sets → KeepsSets sets new
+keeps_same sets new e = subst (KeepsSets sets) (sym e) (λ at h. (h, refl))
+
 -- one step is appended, after what it names
-pub grown : {B : Type 0} (old new : Steps B) (p : Packed) (x : Step B) (more : List (Option ℕ)) (also : List B) → new.steps ≡ old.steps ++ p ∷ [] → new.sets.items ≡ old.sets.items ++ more → new.inner.items ≡ old.inner.items ++ also
-    → AreWhole old → IsKept (old.sets.items ++ more) (length (old.inner.items ++ also)) p → step_of (old.sets.items ++ more) (old.inner.items ++ also) p ≡ x → Grows old new (x ∷ [])
-grown old new p x more also e f g h kept is = record {
-  steps = ap (λ ys. map (step_of new.sets.items new.inner.items) ys) e ∙ ap₂ (λ ss bs. map (step_of ss bs) (old.steps ++ p ∷ [])) f g
-      ∙ map-append (step_of (old.sets.items ++ more) (old.inner.items ++ also)) old.steps (p ∷ [])
-      ∙ ap₂ (λ ys y. ys ++ y ∷ []) (steps_front old.sets.items more old.inner.items also old.steps h) is;
-  whole = subst (λ ys. AreKept new.sets.items (length new.inner.items) ys) (sym e) (subst (λ ss. AreKept ss (length new.inner.items) (old.steps ++ p ∷ [])) (sym f)
-      (subst (λ bs. AreKept (old.sets.items ++ more) (length bs) (old.steps ++ p ∷ [])) (sym g) (all_front old.sets.items more old.inner.items also old.steps (p ∷ []) h (kept, tt))));
+pub grown : {B : Type 0} (old new : Steps B) (p : Packed) (x : Step B) (also : List B) → new.steps ≡ old.steps ++ p ∷ [] → KeepsSets old.sets new.sets → new.inner.items ≡ old.inner.items ++ also
+    → AreWhole old → IsKept new.sets (length (old.inner.items ++ also)) p → step_of new.sets (old.inner.items ++ also) p ≡ x → Grows old new (x ∷ [])
+grown old new p x also e keeps g h kept is = record {
+  steps = ap (λ ys. map (step_of new.sets new.inner.items) ys) e ∙ ap (λ bs. map (step_of new.sets bs) (old.steps ++ p ∷ [])) g
+      ∙ map-append (step_of new.sets (old.inner.items ++ also)) old.steps (p ∷ [])
+      ∙ ap₂ (λ ys y. ys ++ y ∷ []) (steps_front old.sets new.sets keeps old.inner.items also old.steps h) is;
+  whole = subst (λ ys. AreKept new.sets (length new.inner.items) ys) (sym e)
+      (subst (λ bs. AreKept new.sets (length bs) (old.steps ++ p ∷ [])) (sym g) (all_front old.sets new.sets keeps old.inner.items also old.steps (p ∷ []) h (kept, tt)));
 }
 
 -- one that names nothing new
-pub grown_by : {B : Type 0} (old new : Steps B) (p : Packed) → new.steps ≡ old.steps ++ p ∷ [] → new.sets.items ≡ old.sets.items → new.inner.items ≡ old.inner.items
-    → AreWhole old → IsKept old.sets.items (length old.inner.items) p → Grows old new (step_of old.sets.items old.inner.items p ∷ [])
+pub grown_by : {B : Type 0} (old new : Steps B) (p : Packed) → new.steps ≡ old.steps ++ p ∷ [] → new.sets ≡ old.sets → new.inner.items ≡ old.inner.items
+    → AreWhole old → IsKept old.sets (length old.inner.items) p → Grows old new (step_of old.sets old.inner.items p ∷ [])
 grown_by old new p e f g h kept =
-    grown old new p (step_of old.sets.items old.inner.items p) [] [] e (f ∙ sym (append-nil old.sets.items)) (g ∙ sym (append-nil old.inner.items)) h
-    (rw (append-nil old.sets.items, append-nil old.inner.items) kept) (rw (append-nil old.sets.items, append-nil old.inner.items) refl)
+    grown old new p (step_of old.sets old.inner.items p) [] e (keeps_same old.sets new.sets f) (g ∙ sym (append-nil old.inner.items)) h
+    (rw (append-nil old.inner.items, f) kept) (rw (append-nil old.inner.items, f) refl)
 
 -- and then others
 pub grown_more : {B : Type 0} {old mid new : Steps B} {xs ys : List (Step B)} → Grows old mid xs → Grows mid new ys → Grows old new (xs ++ ys)
@@ -77,45 +73,36 @@ grown_more {B} {old} {mid} {new} {xs} {ys} g h = record {
 -- ---- the last step is taken off
 
 module _ {B : Type 0} (left : Steps B) (rest : List Packed) (x : Packed) (e : left.steps ≡ rest ++ x ∷ []) where
-  pub popped : steps_in left ≡ map (step_of left.sets.items left.inner.items) rest ++ step_of left.sets.items left.inner.items x ∷ []
-  popped = ap (λ ys. map (step_of left.sets.items left.inner.items) ys) e ∙ map-append (step_of left.sets.items left.inner.items) rest (x ∷ [])
+  pub popped : steps_in left ≡ map (step_of left.sets left.inner.items) rest ++ step_of left.sets left.inner.items x ∷ []
+  popped = ap (λ ys. map (step_of left.sets left.inner.items) ys) e ∙ map-append (step_of left.sets left.inner.items) rest (x ∷ [])
 
-  pub kept_popped : AreWhole left → AreKept left.sets.items (length left.inner.items) rest × IsKept left.sets.items (length left.inner.items) x
-  kept_popped h = go rest (subst (λ ys. AreKept left.sets.items (length left.inner.items) ys) e h)
+  pub kept_popped : AreWhole left → AreKept left.sets (length left.inner.items) rest × IsKept left.sets (length left.inner.items) x
+  kept_popped h = go rest (subst (λ ys. AreKept left.sets (length left.inner.items) ys) e h)
     where
-      go : (ys : List Packed) → AreKept left.sets.items (length left.inner.items) (ys ++ x ∷ []) → AreKept left.sets.items (length left.inner.items) ys × IsKept left.sets.items (length left.inner.items) x
+      go : (ys : List Packed) → AreKept left.sets (length left.inner.items) (ys ++ x ∷ []) → AreKept left.sets (length left.inner.items) ys × IsKept left.sets (length left.inner.items) x
       go [] h = (tt, h.0)
       go (y ∷ ys) h = let r = go ys h.1 in ((h.0, r.0), r.1)
 
-kept_at : (sets : List (Option ℕ)) (n : ℕ) (xs : List Packed) (i : ℕ) (d : Packed) → i < length xs → AreKept sets n xs → IsKept sets n (slice_index_or xs i d)
+kept_at : (sets : List (List (Option ℕ))) (n : ℕ) (xs : List Packed) (i : ℕ) (d : Packed) → i < length xs → AreKept sets n xs → IsKept sets n (slice_index_or xs i d)
 kept_at sets n [] i d l h = absurd (omega (arith, l))
 kept_at sets n (x ∷ xs) zero d l h = h.0
 kept_at sets n (x ∷ xs) (suc i) d l h = kept_at sets n xs i d (omega (arith, l)) h.1
 
 module _ {B : Type 0} (s : Steps B) (at : ℕ) (x : Packed) (within : at < length (steps_in s)) (e : x ≡ slice_index_or s.steps at x) where
   inside : at < length s.steps
-  inside = omega (arith, within, length-map s.steps (step_of s.sets.items s.inner.items))
+  inside = omega (arith, within, length-map s.steps (step_of s.sets s.inner.items))
 
-  pub kept_read : AreWhole s → IsKept s.sets.items (length s.inner.items) x
-  kept_read h = subst (λ y. IsKept s.sets.items (length s.inner.items) y) (sym e) (kept_at s.sets.items (length s.inner.items) s.steps at x inside h)
+  pub kept_read : AreWhole s → IsKept s.sets (length s.inner.items) x
+  kept_read h = subst (λ y. IsKept s.sets (length s.inner.items) y) (sym e) (kept_at s.sets (length s.inner.items) s.steps at x inside h)
 
-  pub best_read : (hops : List (Option ℕ)) → hops ≡ step_best (step_of s.sets.items s.inner.items x) → hops ≡ best_at s at
-  best_read hops f = f ∙ ap (λ y. step_best (step_of s.sets.items s.inner.items y)) e ∙ ap step_best (sym (get_or-map (step_of s.sets.items s.inner.items) s.steps at x (steps.Leaf None) inside))
-
--- the set that was appended
-set_here : (sets hops : List (Option ℕ)) (n : ℕ) → n ≡ length hops → set_at (sets ++ Some n ∷ hops) (length sets) ≡ hops
-set_here [] hops n e = take_all n hops (omega (arith, e))
-set_here (s ∷ sets) hops n e = set_here sets hops n e
-
-pub several_kept : (sets hops : List (Option ℕ)) (at n : ℕ) → at ≡ length sets → n ≡ length hops
-    → (suc at + size_at (sets ++ Some n ∷ hops) at ≤ length (sets ++ Some n ∷ hops)) × (set_at (sets ++ Some n ∷ hops) at ≡ hops)
-several_kept sets hops at n e f = rw e (omega (arith, ap size_of (get_or-append_seam sets (Some n) hops None), length-append sets (Some n ∷ hops), f), set_here sets hops n f)
+  pub best_read : (hops : List (Option ℕ)) → hops ≡ step_best (step_of s.sets s.inner.items x) → hops ≡ best_at s at
+  best_read hops f = f ∙ ap (λ y. step_best (step_of s.sets s.inner.items y)) e ∙ ap step_best (sym (get_or-map (step_of s.sets s.inner.items) s.steps at x (steps.Leaf None) inside))
 
 pub inner_here : {B : Type 0} (inner : List B) (b : B) → slice_get (inner ++ b ∷ []) (length inner) ≡ Some b
 inner_here inner b = slice_get_read (inner ++ b ∷ []) (length (inner ++ b ∷ [])) (length inner) b refl (omega (arith, length-append inner (b ∷ []))) (sym (get_or-append_seam inner b [] b))
 
 -- a step that skips levels leads to the block that it names
-pub skip_blocks : {B : Type 0} (string : B → List Bool) (sets : List (Option ℕ)) (inner : List B) (step : Packed) (at : ℕ) (x : B) (b : List Bool) (s : Option ℕ) → step ≡ Skip at → IsKept sets (length inner) step → x ≡ slice_index_or inner at x
+pub skip_blocks : {B : Type 0} (string : B → List Bool) (sets : List (List (Option ℕ))) (inner : List B) (step : Packed) (at : ℕ) (x : B) (b : List Bool) (s : Option ℕ) → step ≡ Skip at → IsKept sets (length inner) step → x ≡ slice_index_or inner at x
     → step_blocks string (step_of sets inner step) (b, s) ≡ (b ++ drop (length b) (string x), passed (step_best (step_of sets inner step)) s) ∷ []
 skip_blocks {B} string sets inner step at x b s e k r = subst (λ y. step_blocks string y (b, s) ≡ (b ++ drop (length b) (string x), passed (step_best y) s) ∷ []) (sym is) refl
   where

@@ -1,7 +1,8 @@
--- The steps of a plan as they are kept: eight bytes each, and two lists that all share.
-use Rattle.std.specs.Prelude.{◌≡◌, ℕ, suc, ◌+◌, ◌<◌, ◌≤◌, List, [], ◌∷◌, ◌++◌, length, map, take, drop, slice_get, slice_index_or, Option, Some, None, ⊤}
+-- The steps of a plan as they are kept: eight bytes each, and the sets and blocks that all share.
+use Rattle.std.specs.Prelude.{◌≡◌, ℕ, ◌<◌, List, [], ◌∷◌, ◌++◌, length, map, slice_get, slice_index_or, Option, Some, None, ⊤}
 use Rattle.least_table.specs.HopSets.{AreMerged}
 use Rattle.least_table.specs.InnerRising.{IsRising}
+use Rattle.least_table.specs.InnerSets.{HasSet, set_at}
 use Rattle.least_table.specs.InnerSteps.{Step, step_best}
 use Rattle.least_table.specs.InnerSteps as steps
 use Rattle.least_table.specs.declared.plan.Packed.{Packed}
@@ -10,25 +11,13 @@ use Rattle.least_table.specs.declared.plan.Steps.{Steps}
 use Rattle.least_table.specs.declared.plan.Best.{Best}
 use Rattle.least_table.specs.declared.plan.Best.TheVariants as bests
 
--- how many hops the set has that begins there
-abbrev pub size_of : Option ℕ → ℕ
-size_of None = 0
-size_of (Some n) = n
-
-abbrev pub size_at : List (Option ℕ) → ℕ → ℕ
-size_at sets at = size_of (slice_index_or sets at None)
-
--- its hops
-abbrev pub set_at : List (Option ℕ) → ℕ → List (Option ℕ)
-set_at sets at = take (size_at sets at) (drop (suc at) sets)
-
 -- no hop outside the smaller block
 abbrev pub around : {B : Type 0} → Option B → Step B
 around None = steps.Leaf None
 around (Some b) = steps.Skip None b
 
 -- the step that is kept so
-abbrev pub step_of : {B : Type 0} → List (Option ℕ) → List B → Packed → Step B
+abbrev pub step_of : {B : Type 0} → List (List (Option ℕ)) → List B → Packed → Step B
 step_of sets inner (Leaf k) = steps.Leaf (Some k)
 step_of sets inner Gap = steps.Leaf None
 step_of sets inner (One k) = steps.Fork (Some k ∷ [])
@@ -37,23 +26,23 @@ step_of sets inner (Several at) = steps.Fork (set_at sets at)
 step_of sets inner (Skip at) = around (slice_get inner at)
 
 -- what the step names stands in the lists
-abbrev pub IsKept : List (Option ℕ) → ℕ → Packed → Type 0
+abbrev pub IsKept : List (List (Option ℕ)) → ℕ → Packed → Type 0
 IsKept sets n (Leaf k) = ⊤
 IsKept sets n Gap = ⊤
 IsKept sets n (One k) = ⊤
 IsKept sets n Nowhere = ⊤
-IsKept sets n (Several at) = suc at + size_at sets at ≤ length sets
+IsKept sets n (Several at) = HasSet sets at
 IsKept sets n (Skip at) = at < n
 
-abbrev pub AreKept : List (Option ℕ) → ℕ → List Packed → Type 0
+abbrev pub AreKept : List (List (Option ℕ)) → ℕ → List Packed → Type 0
 AreKept sets n [] = ⊤
 AreKept sets n (x ∷ xs) = IsKept sets n x × AreKept sets n xs
 
 abbrev pub AreWhole : {B : Type 0} → Steps B → Type 0
-AreWhole s = AreKept s.sets.items (length s.inner.items) s.steps
+AreWhole s = AreKept s.sets (length s.inner.items) s.steps
 
 abbrev pub steps_in : {B : Type 0} → Steps B → List (Step B)
-steps_in s = map (step_of s.sets.items s.inner.items) s.steps
+steps_in s = map (step_of s.sets s.inner.items) s.steps
 
 -- the hops that the block of the step at a place is best handed
 abbrev pub best_at : {B : Type 0} → Steps B → ℕ → List (Option ℕ)

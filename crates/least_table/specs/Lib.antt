@@ -8,6 +8,7 @@ pub mod InnerPieces
 pub mod InnerRising
 pub mod InnerOrders
 pub mod InnerSteps
+pub mod InnerSets
 pub mod InnerPacked
 pub mod InnerStacks
 pub mod InnerPlans

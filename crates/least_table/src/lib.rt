@@ -4,6 +4,7 @@
 mod bits;
 mod fewest;
 mod hops;
+mod kept_sets;
 pub mod laws;
 mod plan;
 mod stack;

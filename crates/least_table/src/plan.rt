@@ -2,7 +2,7 @@
 ghost use Rattle.std.specs.Prelude.{◌≡◌, ◌+◌, ◌<◌, ◌≤◌, ◌++◌, ◌∷◌, [], None, cond, length, reverse, IfOk, OnOk};
 ghost use Rattle.least_table.specs.HopSets.{AreMerged, first_of, holds};
 ghost use Rattle.least_table.specs.Pieces.{strings};
-ghost use Rattle.least_table.specs.InnerPacked.{AreWhole, Grows, IsKept, Joins, best_at, hops_in, set_at, size_at, step_of, steps_in};
+ghost use Rattle.least_table.specs.InnerPacked.{AreWhole, Grows, IsKept, Joins, best_at, hops_in, step_of, steps_in};
 ghost use Rattle.least_table.specs.InnerHops.{members};
 ghost use Rattle.least_table.specs.InnerRising.{IsRising};
 ghost use Rattle.least_table.specs.InnerSteps.{passed, step_best, step_routes, step_blocks, all_routes, HasRoom, HaveRoom, AreNetworks};
@@ -10,6 +10,7 @@ ghost use Rattle.least_table.specs.InnerSteps.{Leaf, Fork, Skip};
 
 use crate::bits::onto;
 use crate::hops::{Hops, first, is_among, merge};
+use crate::kept_sets::KeptSets;
 use crate::stack::Stack;
 use prefix_trie::{Prefix, path_of, prefix_of};
 use std::alloc::{AllocError, Global};
@@ -28,7 +29,7 @@ enum Packed {
     One(u32),
     /// It is cut into halves, the upper first, and is best handed none.
     Nowhere,
-    /// It is cut into halves, the upper first, and is best handed the hops of the set that begins here.
+    /// It is cut into halves, the upper first, and is best handed the hops of the set of this number.
     Several(u32),
     /// None of its addresses has a hop, but for those of the smaller block that stands here.
     Skip(u32),
@@ -55,24 +56,12 @@ impl<'a> Best<'a> {
     }
 }
 
-/// The set of hops that begins at a place of the common list.
-fn set(sets: &[Option<u32>], at: usize) -> &[Option<u32>]
-    requires { at + 1 + size_at sets.now at ≤ length sets.now }
-    ensures { result.now ≡ set_at sets.now at }
-{
-    let len = match sets[at] {
-        Some(len) => len as usize,
-        None => 0,
-    };
-    &sets[at + 1..at + 1 + len]
-}
-
 /// The steps of a plan.
 #[derive(Drop)]
 pub(crate) struct Steps<P: Copy> {
     steps: Stack<Packed>,
-    /// The sets of several hops one after the other, each behind the number of its hops.
-    sets: Vec<Option<u32>>,
+    /// The sets of several hops.
+    sets: KeptSets,
     /// The smaller blocks of steps that skip levels.
     inner: Vec<P>,
 }
@@ -85,7 +74,7 @@ impl<P: Prefix + Copy> Steps<P> {
     {
         Steps {
             steps: Stack::new(alloc),
-            sets: Vec::new(alloc),
+            sets: KeptSets::new(alloc),
             inner: Vec::new(alloc),
         }
     }
@@ -100,8 +89,8 @@ impl<P: Prefix + Copy> Steps<P> {
     /// Appends a step.
     fn push(&mut self, step: Packed) -> Result<(), AllocError>
         requires whole { AreWhole self.old }
-        requires kept { IsKept self.old.sets.items (length self.old.inner.items) step }
-        ensures { OnOk result (Grows self.old self.new (step_of self.old.sets.items self.old.inner.items step ∷ [])) }
+        requires kept { IsKept self.old.sets (length self.old.inner.items) step }
+        ensures { OnOk result (Grows self.old self.new (step_of self.old.sets self.old.inner.items step ∷ [])) }
     {
         self.steps.push(step)
     }
@@ -134,14 +123,7 @@ impl<P: Prefix + Copy> Steps<P> {
         requires { AreWhole self.old }
         ensures { OnOk result (Grows self.old self.new (Fork hops.now ∷ [])) }
     {
-        let Ok(at) = u32::try_from(self.sets.len()) else {
-            return Err(AllocError);
-        };
-        let Ok(len) = u32::try_from(hops.len()) else {
-            return Err(AllocError);
-        };
-        self.sets.push(Some(len))?;
-        self.sets.extend_from_slice(hops)?;
+        let at = self.sets.push(hops)?;
         self.steps.push(Packed::Several(at))
     }
 
@@ -159,13 +141,13 @@ impl<P: Prefix + Copy> Steps<P> {
 
     /// The hops that the block of a step is best handed.
     fn best(&self, step: Packed) -> Best<'_>
-        requires { IsKept self.now.sets.items (length self.now.inner.items) step }
-        ensures { hops_in result ≡ step_best (step_of self.now.sets.items self.now.inner.items step) }
+        requires { IsKept self.now.sets (length self.now.inner.items) step }
+        ensures { hops_in result ≡ step_best (step_of self.now.sets self.now.inner.items step) }
     {
         match step {
             Packed::Leaf(hop) | Packed::One(hop) => Best::One(Some(hop)),
             Packed::Gap | Packed::Nowhere | Packed::Skip(_) => Best::One(None),
-            Packed::Several(at) => Best::Several(set(&self.sets, at as usize)),
+            Packed::Several(at) => Best::Several(self.sets.get(at)),
         }
     }
 
@@ -208,11 +190,11 @@ impl<P: Prefix + Copy> Steps<P> {
         table: &mut Vec<(P, Option<u32>)>,
     ) -> Result<(), AllocError>
         requires width { P.R.width ≤ 128 }
-        requires kept { IsKept self.now.sets.items (length self.now.inner.items) step }
-        requires room { HasRoom P.bits P.fits P.R.width (step_of self.now.sets.items self.now.inner.items step) path.now }
-        ensures routes { OnOk result (strings P.bits table.new.items ≡ strings P.bits table.old.items ++ step_routes (step_of self.now.sets.items self.now.inner.items step) (path.now, handed)) }
+        requires kept { IsKept self.now.sets (length self.now.inner.items) step }
+        requires room { HasRoom P.bits P.fits P.R.width (step_of self.now.sets self.now.inner.items step) path.now }
+        ensures routes { OnOk result (strings P.bits table.new.items ≡ strings P.bits table.old.items ++ step_routes (step_of self.now.sets self.now.inner.items step) (path.now, handed)) }
         ensures networks { OnOk result (AreNetworks P.fits P.of_bits P.bits table.old.items → AreNetworks P.fits P.of_bits P.bits table.new.items) }
-        ensures waiting { OnOk result (reverse waiting.new.items ≡ step_blocks P.bits (step_of self.now.sets.items self.now.inner.items step) (path.now, handed) ++ reverse waiting.old.items) }
+        ensures waiting { OnOk result (reverse waiting.new.items ≡ step_blocks P.bits (step_of self.now.sets self.now.inner.items step) (path.now, handed) ++ reverse waiting.old.items) }
     {
         let best = self.best(step);
         let passed = hand_down(best.as_slice(), path, handed, table)?;

@@ -1,4 +1,4 @@
-use Rattle.std.proofs.Common.{◌≡◌, ◌∙◌, ◌++◌, ◌∷◌, [], None, arith, length, slice_get, sym, ap, append-nil, length-append}
+use Rattle.std.proofs.Common.{◌≡◌, ◌∙◌, ◌++◌, ◌∷◌, [], None, arith, length, slice_get, refl, ap, length-append}
 use Rattle.least_table.specs.InnerPacked.{around}
 use Rattle.least_table.specs.InnerSteps.{Skip}
 use Rattle.least_table.specs.declared.plan.Packed.TheVariants as packed
@@ -11,5 +11,5 @@ returns g c =
     let inner = c.args.self.now.inner.items in
     let b = c.args.inner in
     let at : c.in-Ok.at ≡ length c.args.self.now.inner.items = c.in-Ok.ensures.1 ∙ c.len.ensures ∙ c.args.self.now.inner.ok.0 in
-    if_ok_map c.push-2.result (λ _ added. grown c.args.self.now _ (packed.Skip c.in-Ok.at) (Skip None b) [] (b ∷ []) added (sym (append-nil c.args.self.now.sets.items)) c.in_ok-push.ensures.items c.requires
+    if_ok_map c.push-2.result (λ _ added. grown c.args.self.now _ (packed.Skip c.in-Ok.at) (Skip None b) (b ∷ []) added (λ at h. (h, refl)) c.in_ok-push.ensures.items c.requires
     (omega (arith, at, length-append inner (b ∷ []))) (ap around (ap (slice_get (inner ++ b ∷ [])) at ∙ inner_here inner b))) c.push-2.ensures
