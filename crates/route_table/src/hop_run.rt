@@ -1,11 +1,9 @@
 //! The addresses of one hop that stand in a row, without the blocks that they are cut into.
-ghost use Rattle.std.specs.Prelude.{◌≡◌};
-ghost use Rattle.route_laws.specs.Flats.{flat_of};
+ghost use Rattle.std.specs.Prelude.{◌∷◌, List};
 ghost use Rattle.ipnet.specs.IpNets.{block};
+ghost use Rattle.route_laws.specs.Flats.{Piece, flat_of};
 ghost use Rattle.route_table.specs.InnerFlattening.{AreBoth, hops_of};
 ghost use Rattle.route_table.specs.Items.{BeginsWithRun, GivesHopRun};
-ghost use Rattle.std.specs.Prelude.{◌∷◌, List};
-ghost use Rattle.route_laws.specs.Flats.{Piece};
 
 use crate::flat::{BothRuns, Flat};
 use ipnet::IpNet;
@@ -13,7 +11,7 @@ use ipnet_addr::bits::{ipv4_of, ipv6_of};
 use std::net::{Ipv4Addr, Ipv6Addr};
 
 /// Addresses of one family in a row that have one hop: the first, the last, and the number of the hop.
-#[derive(Clone, Copy)]
+#[derive(Clone, Copy, Debug, PartialEq, Eq)]
 pub enum HopRun {
     V4(Ipv4Addr, Ipv4Addr, u32),
     V6(Ipv6Addr, Ipv6Addr, u32),
@@ -57,17 +55,8 @@ impl<'a> BothRuns<'a> {
 }
 
 impl<'a> Flat<'a> {
-    /// Goes past the blocks of one hop that come next and stand in a row, and gives their addresses, where `next` would give
-    /// one block after the other. Blocks of a row of which `next` gave some come one by one.
-    ///
-    /// # Examples
-    /// Where 10.0.0.0/8 has the hop 1 but for 10.0.0.0, and `address` reads a text:
-    ///
-    /// ```rust
-    /// let mut flat = table.flat();
-    /// let run = HopRun::V4(address(&rt, "10.0.0.1"), address(&rt, "10.255.255.255"), 1);
-    /// assert_eq!(rt; flat.next_run(), Some(run));
-    /// ```
+    /// Goes past the blocks that come next, have one hop and stand in a row, and gives their addresses as one run, where
+    /// `next` gives block by block. Of a run that `next` has given a block of, the others come block by block.
     pub fn next_run(&mut self) -> Option<HopRun>
         ensures { GivesHopRun self.old result self.new }
     {
