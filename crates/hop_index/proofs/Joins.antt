@@ -1,10 +1,22 @@
--- Two ranges that touch and have one hop, as one range.
-use Rattle.std.proofs.Common.{◌≡◌, ℕ, ◌+◌, ◌<◌, ◌≤◌, inl, inr, ⊎_elim, Bool, true, false, cond, List, [], ◌∷◌, ◌++◌, Option, Some, refl, sym, ap, ◌∙◌, subst, arith, append_assoc}
-use Rattle.std.proofs.lemmas.Bool.{cases_lt}
+-- The blocks of a run as one range.
+use Rattle.std.proofs.Common.{◌≡◌, ℕ, ◌+◌, ◌-◌, ◌^◌, ◌<◌, ◌≤◌, inl, inr, ⊎_elim, Bool, true, false, cond, length, length-append, List, [], ◌∷◌, ◌++◌, map, filter, Option, Some, refl, sym, ap, ◌∙◌, subst, arith, append_assoc}
+use Rattle.std.proofs.lemmas.List.Elements.{filter-append}
+use Rattle.std.proofs.lemmas.List.{length-map, map-append}
+use Rattle.std.proofs.lemmas.Nat.{pow_pos}
+use Rattle.ipnet_addr.specs.Addresses.{Address, Family, same_family}
+use Rattle.ipnet_addr.proofs.Families.{family_from_test, test_from_family}
 use Rattle.ipnet_addr.proofs.Members.{In, In-left, In-right, In-cases}
-use Rattle.ipnet_addr.proofs.Ascending.{All-from_In, In-from_All, Rising, Rising-from_pairs, pairs_from_Rising}
-use Rattle.hop_index.specs.Ranges.{HopRange, hop_in, is_in}
-use Rattle.hop_index.specs.InnerRanges.{AreRanges, EndsBefore, Replaces}
+use Rattle.ipnet_addr.proofs.Ascending.{All-from_In, Any-from_In, In-from_All, In-from_Any, Rising, Rising-from_pairs, pairs_from_Rising}
+use Rattle.ipnet_blocks.specs.Blocks.{Block, HasAddress, first, first_of, free_bits, last}
+use Rattle.ipnet_blocks.proofs.BlockLaws.{has_first}
+use Rattle.ipnet_blocks.proofs.Cuts.{has_of_span, span_of_has}
+use Rattle.route_choices.proofs.Kept.{In-map, all_kept, map_In, none_kept}
+use Rattle.route_laws.specs.Flats.{Piece}
+use Rattle.route_table.proofs.Openings.{rising_back}
+use Rattle.route_table.specs.Items.{BeginsWithRun, run_family, run_first, run_hop, run_last}
+use Rattle.route_table.specs.declared.hop_run.HopRun.{HopRun}
+use Rattle.hop_index.specs.Ranges.{HopRange, IsIn, hop_in, is_in}
+use Rattle.hop_index.specs.InnerRanges.{AreRanges, EndsBefore, Replaces, range_of, ranges_in}
 use Rattle.hop_index.proofs.Lookups.{in_from_test, in_test, out_test}
 
 pub same_ranges : (rs : List HopRange) → AreRanges rs → Replaces rs rs
@@ -13,77 +25,160 @@ same_ranges rs h = record { ranges = h; hops = λ x. refl }
 pub replaced : (rs ss ts : List HopRange) → Replaces rs ss → Replaces ss ts → Replaces rs ts
 replaced rs ss ts h k = record { ranges = k.ranges; hops = λ x. k.hops x ∙ h.hops x }
 
-module _ (a b : HopRange) (touch : a.last + 1 ≡ b.first) (one : a.hop ≡ b.hop) where
-  abbrev both : HopRange
-  both = record { first = a.first; last = b.last; hop = b.hop }
+-- earlier and later members of an ascending list
+across : (xs ys : List HopRange) → Rising EndsBefore (xs ++ ys) → (a b : HopRange) → In a xs → In b ys → EndsBefore a b
+across [] ys h a b i j = absurd i
+across (x ∷ xs) ys h a b i j = ⊎_elim
+    (λ (e : a ≡ x). subst (λ c. EndsBefore c b) (sym e) (h.0 b (In-right b xs ys j)))
+    (λ k. across xs ys h.1 a b k j)
+    i
 
-  rising : (xs rest : List HopRange) → Rising EndsBefore (xs ++ a ∷ b ∷ rest) → Rising EndsBefore (xs ++ both ∷ rest)
-  rising [] rest h = (h.1.0, h.1.1)
-  rising (x ∷ xs) rest h = (
+-- ranges of one hop that have together the numbers of one range
+module _ (r : HopRange) (qs rest : List HopRange) (some : r.first ≤ r.last)
+    (each : (q : HopRange) → In q qs → (q.hop ≡ r.hop) × (r.first ≤ q.first) × (q.last ≤ r.last)) (cover : (x : ℕ) → IsIn x r → (q : HopRange) × In q qs × IsIn x q) where
+  in_some : (ps : List HopRange) (x : ℕ) → ((q : HopRange) → In q ps → q.hop ≡ r.hop) → (q : HopRange) → In q ps → IsIn x q → hop_in (ps ++ rest) x ≡ Some r.hop
+  in_some [] x h q i j = absurd i
+  in_some (p ∷ ps) x h q i j = go (is_in x p) refl (λ k. in_some ps x (λ s l. h s (inr l)) q k j)
+    where
+      go : (b : Bool) → is_in x p ≡ b → (In q ps → hop_in (ps ++ rest) x ≡ Some r.hop) → hop_in (p ∷ ps ++ rest) x ≡ Some r.hop
+      go true e later = ap (λ b. cond b (Some p.hop) (hop_in (ps ++ rest) x)) e ∙ ap (λ k. Some k) (h p (inl refl))
+      go false e later = ap (λ b. cond b (Some p.hop) (hop_in (ps ++ rest) x)) e ∙ ⊎_elim
+          (λ (s : q ≡ p). absurd (let t : is_in x p ≡ true = in_test x p (subst (IsIn x) s j) in cc))
+          later
+          i
+
+  in_none : (ps : List HopRange) (x : ℕ) → ((q : HopRange) → In q ps → IsIn x q → ⊥) → hop_in (ps ++ rest) x ≡ hop_in rest x
+  in_none [] x h = refl
+  in_none (p ∷ ps) x h = ap (λ b. cond b (Some p.hop) (hop_in (ps ++ rest) x)) (out_test x p (h p (inl refl))) ∙ in_none ps x (λ q i. h q (inr i))
+
+  run_hop_in : (x : ℕ) (b : Bool) → is_in x r ≡ b → hop_in (r ∷ rest) x ≡ hop_in (qs ++ rest) x
+  run_hop_in x true e =
+      let t = cover x (in_from_test x r e) in
+      ap (λ b. cond b (Some r.hop) (hop_in rest x)) e ∙ sym (in_some qs x (λ q i. (each q i).0) t.0 t.1 t.2)
+  run_hop_in x false e =
+      ap (λ b. cond b (Some r.hop) (hop_in rest x)) e
+      ∙ sym (in_none qs x (λ q i j. let s = each q i in let l = s.1 in let u = s.2 in let a = j.0 in let z = j.1 in let t : is_in x r ≡ true = in_test x r (omega arith, omega arith) in absurd (cc)))
+
+  hops : (xs : List HopRange) (x : ℕ) → hop_in (xs ++ r ∷ rest) x ≡ hop_in (xs ++ (qs ++ rest)) x
+  hops [] x = run_hop_in x (is_in x r) refl
+  hops (y ∷ xs) x = ap (λ o. cond (is_in x y) (Some y.hop) o) (hops xs x)
+
+  rising : (xs : List HopRange) → Rising EndsBefore (xs ++ (qs ++ rest)) → Rising EndsBefore (xs ++ r ∷ rest)
+  rising [] h = (
+    (λ z i. let t = cover r.last (some, omega arith) in let l : t.0.last < z.first = across qs rest h t.0 z t.1 i in let u = t.2.1 in omega arith),
+    rising_back EndsBefore qs rest h,
+  )
+  rising (x ∷ xs) h = (
     (λ y i. ⊎_elim
-        (λ j. h.0 y (In-left y xs (a ∷ b ∷ rest) j))
+        (λ j. h.0 y (In-left y xs (qs ++ rest) j))
         (λ j. ⊎_elim
-        (λ e. subst (EndsBefore x) (sym e) (let l : x.last < a.first = h.0 a (In-right a xs (a ∷ b ∷ rest) (inl refl)) in l))
-        (λ k. h.0 y (In-right y xs (a ∷ b ∷ rest) (inr (inr k))))
+        (λ (e : y ≡ r). subst (EndsBefore x) (sym e) (let t = cover r.first (omega arith, some) in let l : x.last < t.0.first = h.0 t.0 (In-right t.0 xs (qs ++ rest) (In-left t.0 qs rest t.1)) in let u = t.2.0 in omega arith))
+        (λ k. h.0 y (In-right y xs (qs ++ rest) (In-right y qs rest k)))
         j)
-        (In-cases y xs (both ∷ rest) i)),
-    rising xs rest h.1,
+        (In-cases y xs (r ∷ rest) i)),
+    rising xs h.1,
   )
 
-  filled : (xs rest : List HopRange) → ((r : HopRange) → In r (xs ++ a ∷ b ∷ rest) → r.first ≤ r.last) → (r : HopRange) → In r (xs ++ both ∷ rest) → r.first ≤ r.last
-  filled xs rest h r i = ⊎_elim
-      (λ j. h r (In-left r xs (a ∷ b ∷ rest) j))
+  filled : (xs : List HopRange) → ((s : HopRange) → In s (xs ++ (qs ++ rest)) → s.first ≤ s.last) → (s : HopRange) → In s (xs ++ r ∷ rest) → s.first ≤ s.last
+  filled xs h s i = ⊎_elim
+      (λ j. h s (In-left s xs (qs ++ rest) j))
       (λ j. ⊎_elim
-      (λ e. let P : HopRange → Type 0 = λ s. s.first ≤ s.last in
-      let k : a.first ≤ a.last = h a (In-right a xs (a ∷ b ∷ rest) (inl refl)) in
-      let l : b.first ≤ b.last = h b (In-right b xs (a ∷ b ∷ rest) (inr (inl refl))) in
-      let m : a.first ≤ b.last = omega arith in subst P (sym e) m)
-      (λ k. h r (In-right r xs (a ∷ b ∷ rest) (inr (inr k))))
+      (λ (e : s ≡ r). let P : HopRange → Type 0 = λ t. t.first ≤ t.last in subst P (sym e) some)
+      (λ k. h s (In-right s xs (qs ++ rest) (In-right s qs rest k)))
       j)
-      (In-cases r xs (both ∷ rest) i)
+      (In-cases s xs (r ∷ rest) i)
 
-  hop_by : (p q u : Bool) (o : Option ℕ) → (p ≡ true → u ≡ true) → (q ≡ true → u ≡ true) → (p ≡ false → q ≡ false → u ≡ false) → cond u (Some b.hop) o ≡ cond p (Some a.hop) (cond q (Some b.hop) o)
-  hop_by true q u o f g k = ap (λ t. cond t (Some b.hop) o) (f refl) ∙ ap (λ n. Some n) (sym one)
-  hop_by false true u o f g k = ap (λ t. cond t (Some b.hop) o) (g refl)
-  hop_by false false u o f g k = ap (λ t. cond t (Some b.hop) o) (k refl refl)
+  one_for_all : (xs : List HopRange) → AreRanges (xs ++ (qs ++ rest)) → Replaces (xs ++ (qs ++ rest)) (xs ++ r ∷ rest)
+  one_for_all xs h = record {
+    ranges = record {
+      filled = All-from_In (λ (s : HopRange). s.first ≤ s.last) (xs ++ r ∷ rest) (filled xs (λ s i. In-from_All (λ (t : HopRange). t.first ≤ t.last) (xs ++ (qs ++ rest)) h.filled s i));
+      apart = pairs_from_Rising EndsBefore (xs ++ r ∷ rest) (rising xs (Rising-from_pairs EndsBefore (xs ++ (qs ++ rest)) h.apart));
+    };
+    hops = hops xs;
+  }
 
-  hops : (xs rest : List HopRange) (x : ℕ) → a.first ≤ a.last → b.first ≤ b.last → hop_in (xs ++ both ∷ rest) x ≡ hop_in (xs ++ a ∷ b ∷ rest) x
-  hops [] rest x h k = hop_by (is_in x a) (is_in x b) (is_in x both) (hop_in rest x)
-      (λ e. let i = in_from_test x a e in in_test x both (i.0, let l = i.1 in omega arith))
-      (λ e. let i = in_from_test x b e in in_test x both ((let l = i.0 in omega arith), i.1))
-      (λ e d. out_test x both (λ i. ⊎_elim
-      (λ less. absurd (let t : is_in x b ≡ true = in_test x b (omega arith, i.1) in cc))
-      (λ le. absurd (let t : is_in x a ≡ true = in_test x a (i.0, le) in cc))
-      (cases_lt a.last x)))
-  hops (y ∷ xs) rest x h k = ap (λ o. cond (is_in x y) (Some y.hop) o) (hops xs rest x h k)
+-- the next run of a flat list
+module _ (ps left : List Piece) (run : HopRun) (is : BeginsWithRun ps run left) where
+  abbrev as_piece : Block → Piece
+  as_piece b = record { block = b; number = run_hop run }
 
-  pub joined : (xs rest : List HopRange) → AreRanges (xs ++ a ∷ b ∷ rest) → Replaces (xs ++ a ∷ b ∷ rest) (xs ++ both ∷ rest)
-  joined xs rest h =
-      let P : HopRange → Type 0 = λ r. r.first ≤ r.last in
-      let all = In-from_All P (xs ++ a ∷ b ∷ rest) h.filled in
-      record {
-        ranges = record {
-          filled = All-from_In P (xs ++ both ∷ rest) (filled xs rest all);
-          apart = pairs_from_Rising EndsBefore (xs ++ both ∷ rest) (rising xs rest (Rising-from_pairs EndsBefore (xs ++ a ∷ b ∷ rest) h.apart));
-        };
-        hops = λ x. hops xs rest x (all a (In-right a xs (a ∷ b ∷ rest) (inl refl))) (all b (In-right b xs (a ∷ b ∷ rest) (inr (inl refl))));
-      }
+  abbrev in_family : Family → Piece → Bool
+  in_family f p = same_family p.block.family f
 
--- the same where the last of a list and the next one become one
-pub joined_last : (a b u : HopRange) → a.last + 1 ≡ b.first → a.hop ≡ b.hop → u ≡ record { first = a.first; last = b.last; hop = b.hop } → (xs rest old new : List HopRange)
-    → old ≡ xs ++ a ∷ [] → new ≡ xs ++ u ∷ [] → AreRanges (old ++ b ∷ rest) → Replaces (old ++ b ∷ rest) (new ++ rest)
-joined_last a b u touch one is xs rest old new o n h =
-    let before : old ++ b ∷ rest ≡ xs ++ a ∷ b ∷ rest = ap (λ (l : List HopRange). l ++ b ∷ rest) o ∙ append_assoc xs (a ∷ []) (b ∷ rest) in
-    let after : new ++ rest ≡ xs ++ record { first = a.first; last = b.last; hop = b.hop } ∷ rest = ap (λ (l : List HopRange). l ++ rest) n ∙ append_assoc xs (u ∷ []) rest ∙ ap (λ (r : HopRange). xs ++ r ∷ rest) is in
-    let k : Replaces (xs ++ a ∷ b ∷ rest) (xs ++ record { first = a.first; last = b.last; hop = b.hop } ∷ rest) = joined a b touch one xs rest (subst AreRanges before h) in
-    subst (λ (l : List HopRange). Replaces l (new ++ rest)) (sym before) (subst (λ (l : List HopRange). Replaces (xs ++ a ∷ b ∷ rest) l) (sym after) k)
+  abbrev range : HopRange
+  range = record { first = run_first run; last = run_last run; hop = run_hop run }
 
--- one more range of a list that is replaced
-pub one_more_range : (rs old new left rest : List HopRange) (r : HopRange) → Replaces rs (old ++ left) → left ≡ r ∷ rest → (AreRanges (old ++ r ∷ rest) → Replaces (old ++ r ∷ rest) (new ++ rest)) → Replaces rs (new ++ rest)
-one_more_range rs old new left rest r h e f =
-    let k : Replaces rs (old ++ r ∷ rest) = subst (λ (l : List HopRange). Replaces rs (old ++ l)) e h in
-    replaced rs (old ++ r ∷ rest) (new ++ rest) k (f k.ranges)
+  abbrev pieces : List Piece
+  pieces = map as_piece is.blocks
 
--- no more of it
-pub same_range_list : (rs old left rest : List HopRange) → Replaces rs (old ++ left) → left ≡ rest → Replaces rs (old ++ rest)
-same_range_list rs old left rest h e = subst (λ (l : List HopRange). Replaces rs (old ++ l)) e h
+  of_run : (b : Block) → In b is.blocks → (x : Address) → HasAddress b x → (x.family ≡ run_family run) × (run_first run ≤ x.number) × (x.number ≤ run_last run)
+  of_run b i x h = (is.addresses x).0 (Any-from_In (λ c. HasAddress c x) is.blocks b i h)
+
+  family_is : (b : Block) → In b is.blocks → b.family ≡ run_family run
+  family_is b i = (of_run b i (first_of b) (has_first b)).0
+
+  split_in : (f : Family) → ranges_in f ps ≡ map range_of (filter (in_family f) pieces) ++ ranges_in f left
+  split_in f = ap (ranges_in f) is.pieces ∙ ap (map range_of) (filter-append (in_family f) pieces left) ∙ map-append range_of (filter (in_family f) pieces) (filter (in_family f) left)
+
+  -- those of the other family stay
+  pub others_stay : (f : Family) → (run_family run ≡ f → ⊥) → ranges_in f ps ≡ ranges_in f left
+  others_stay f other = split_in f ∙ ap (λ qs. map range_of qs ++ ranges_in f left) (none_kept (in_family f) pieces (λ p i.
+      let t = In-map as_piece is.blocks p i in
+      test_false p (λ e. other (sym (family_is t.0 t.1) ∙ ap (λ (q : Piece). q.block.family) (sym t.2) ∙ family_from_test p.block.family f e))))
+    where
+      test_false : (p : Piece) → (in_family f p ≡ true → ⊥) → in_family f p ≡ false
+      test_false p h = go (in_family f p) refl
+        where
+          go : (b : Bool) → in_family f p ≡ b → in_family f p ≡ false
+          go true e = absurd (h e)
+          go false e = e
+
+  own_split : ranges_in (run_family run) ps ≡ map range_of pieces ++ ranges_in (run_family run) left
+  own_split = split_in (run_family run) ∙ ap (λ qs. map range_of qs ++ ranges_in (run_family run) left) (all_kept (in_family (run_family run)) pieces (λ p i.
+      let t = In-map as_piece is.blocks p i in
+      test_from_family p.block.family (run_family run) (ap (λ (q : Piece). q.block.family) t.2 ∙ family_is t.0 t.1)))
+
+  each : (q : HopRange) → In q (map range_of pieces) → (q.hop ≡ run_hop run) × (run_first run ≤ q.first) × (q.last ≤ run_last run)
+  each q i =
+      let t = In-map range_of pieces q i in
+      let u = In-map as_piece is.blocks t.0 t.1 in
+      let b : Block = u.0 in
+      let e : q ≡ range_of (as_piece b) = t.2 ∙ ap range_of u.2 in
+      let some : 0 < 2 ^ free_bits b = pow_pos (free_bits b) in
+      let l = (of_run b u.1 (first_of b) (has_first b)).1 in
+      let u = (of_run b u.1 (record { family = b.family; number = last b }) (has_of_span b (record { family = b.family; number = last b }) refl (omega arith) (omega arith))).2 in
+      let P : HopRange → Type 0 = λ s. (s.hop ≡ run_hop run) × (run_first run ≤ s.first) × (s.last ≤ run_last run) in
+      subst P (sym e) (refl, l, u)
+
+  cover : (x : ℕ) → IsIn x range → (q : HopRange) × In q (map range_of pieces) × IsIn x q
+  cover x i =
+      let at : Address = record { family = run_family run; number = x } in
+      let t = In-from_Any (λ b. HasAddress b at) is.blocks ((is.addresses at).1 (refl, i.0, i.1)) in
+      let s = span_of_has t.0 at t.2 in
+      let l = s.0 in
+      let u = s.1 in
+      (range_of (as_piece t.0), map_In range_of pieces (as_piece t.0) (map_In as_piece is.blocks t.0 t.1), (omega arith, omega arith))
+
+  -- the range of the run comes in the place of its blocks
+  pub one_more_run : (rs old new : List HopRange) → Replaces rs (old ++ ranges_in (run_family run) ps) → new ≡ old ++ range ∷ [] → Replaces rs (new ++ ranges_in (run_family run) left)
+  one_more_run rs old new h e =
+      let rest : List HopRange = ranges_in (run_family run) left in
+      let k : Replaces rs (old ++ (map range_of pieces ++ rest)) = subst (λ (l : List HopRange). Replaces rs (old ++ l)) own_split h in
+      let after : new ++ rest ≡ old ++ range ∷ rest = ap (λ (l : List HopRange). l ++ rest) e ∙ append_assoc old (range ∷ []) rest in
+      subst (λ (l : List HopRange). Replaces rs l) (sym after) (replaced rs _ _ k (one_for_all range (map range_of pieces) rest is.some each cover old k.ranges))
+
+  pub others_kept : (f : Family) (rs old : List HopRange) → (run_family run ≡ f → ⊥) → Replaces rs (old ++ ranges_in f ps) → Replaces rs (old ++ ranges_in f left)
+  others_kept f rs old other h = subst (λ (l : List HopRange). Replaces rs (old ++ l)) (others_stay f other) h
+
+  -- fewer pieces are left
+  pub fewer : length left < length ps
+  fewer =
+      let at : Address = record { family = run_family run; number = run_first run } in
+      let some = is.some in
+      let t = In-from_Any (λ b. HasAddress b at) is.blocks ((is.addresses at).1 (refl, omega arith, some)) in
+      let l : 0 < length is.blocks = not_empty is.blocks t.0 t.1 in
+      omega (arith, l, ap (λ (qs : List Piece). length qs) is.pieces, length-append pieces left, length-map is.blocks as_piece)
+    where
+      not_empty : (bs : List Block) (b : Block) → In b bs → 0 < length bs
+      not_empty [] b i = absurd i
+      not_empty (c ∷ bs) b i = omega arith

@@ -8,26 +8,29 @@ ghost use Rattle.prefix_trie.specs.declared.refused.Refused.TheVariants.{Memory}
 ghost use Rattle.hop_index.specs.Indexes.{hop_of};
 ghost use Rattle.hop_index.specs.InnerRanges.{Replaces, ranges_in};
 
-use crate::ranges::{Range, Ranges, push};
-use ipnet::{IpAddr, IpNet};
+use crate::ranges::{Range, Ranges};
+use ipnet::IpAddr;
 use ipnet_addr::number::Number;
 use prefix_trie::Refused;
-use route_table::{Flat, HopTable, RouteTable};
+use route_table::{Flat, HopRun, HopTable, RouteTable};
 use std::alloc::{AllocError, Global};
 use std::marker::Model;
 
-/// The ranges of the blocks of a flat list, by family; those that touch and have one hop are one.
-fn ranges(alloc: Global, flat: Flat<'_>) -> Result<(Vec<Range<u32>>, Vec<Range<u128>>), AllocError>
+/// The ranges of the addresses of one hop that stand in a row, by family.
+fn ranges(
+    alloc: Global,
+    mut flat: Flat<'_>,
+) -> Result<(Vec<Range<u32>>, Vec<Range<u128>>), AllocError>
     requires { (h : Address → Option ℕ) × IsFlat h flat }
     ensures ipv4 { IfOk result (λ r. Replaces (ranges_in Ipv4 flat.entry) r.0.items) }
     ensures ipv6 { IfOk result (λ r. Replaces (ranges_in Ipv6 flat.entry) r.1.items) }
 {
     let mut v4 = Vec::new(alloc);
     let mut v6 = Vec::new(alloc);
-    for (net, hop) in flat {
-        match net {
-            IpNet::V4(net) => push(&mut v4, Range::of_net(&net, hop))?,
-            IpNet::V6(net) => push(&mut v6, Range::of_net(&net, hop))?,
+    'run: while let Some(run) = flat.next_run() {
+        match run {
+            HopRun::V4(first, last, hop) => v4.push(Range::of_ends(first, last, hop))?,
+            HopRun::V6(first, last, hop) => v6.push(Range::of_ends(first, last, hop))?,
         }
     }
     Ok((v4, v6))

@@ -1,11 +1,9 @@
 //! Ascending ranges of addresses of one family, each with a hop, found by their first bits.
-ghost use Rattle.std.specs.Prelude.{ℕ, ◌≡◌, ◌+◌, ◌*◌, ◌-◌, ◌^◌, ◌<◌, ◌≤◌, ◌↔◌, ◌∷◌, ◌++◌, IfOk, IsTrue, List, OnOk};
+ghost use Rattle.std.specs.Prelude.{ℕ, ◌≡◌, ◌+◌, ◌*◌, ◌-◌, ◌^◌, ◌<◌, ◌≤◌, IfOk, List};
 ghost use Rattle.ipnet_addr.specs.Addresses.{width};
-ghost use Rattle.ipnet_blocks.specs.Networks.{block_of};
 ghost use Rattle.hop_index.specs.Ranges.{HopRange, hop_in};
-ghost use Rattle.hop_index.specs.InnerRanges.{AreRanges, AreStarts, BeginsBelow, BeginsFrom, Replaces, range_of};
+ghost use Rattle.hop_index.specs.InnerRanges.{AreRanges, AreStarts, BeginsBelow, BeginsFrom};
 
-use ipnet::Net;
 use ipnet_addr::number::Number;
 use std::alloc::{AllocError, Global};
 use std::marker::Model;
@@ -32,13 +30,13 @@ impl<N: Number> Model for Range<N> {
 }
 
 impl<N: Number> Range<N> {
-    /// The addresses of a network, with this hop.
-    pub(crate) fn of_net(net: &Net<N>, hop: u32) -> Range<N>
-        ensures { result ≡ range_of (record { block = block_of N.family net.now; number = hop }) }
+    /// The addresses from the first to the last, with this hop.
+    pub(crate) fn of_ends(first: N::Addr, last: N::Addr, hop: u32) -> Range<N>
+        ensures { result ≡ record { first = N.addr_number first; last = N.addr_number last; hop = hop } }
     {
         Range {
-            first: N::of_addr(net.network()),
-            last: N::of_addr(net.broadcast()),
+            first: N::of_addr(first),
+            last: N::of_addr(last),
             hop,
         }
     }
@@ -64,42 +62,6 @@ impl<N: Number> Range<N> {
     {
         self.hop
     }
-
-    /// Whether the next range begins just after this one, and has its hop.
-    fn goes_on(&self, next: &Range<N>) -> bool
-        ensures { IsTrue result ↔ (self.now.last + 1 ≡ next.now.first) × (self.now.hop ≡ next.now.hop) }
-    {
-        let (last, first) = (self.last(), next.first());
-        self.hop() == next.hop() && last < first && first - last == 1
-    }
-
-    /// From the beginning of this range to the end of the next one, whose hop it has.
-    fn joined(&self, next: &Range<N>) -> Range<N>
-        ensures { result ≡ record { first = self.now.first; last = next.now.last; hop = next.now.hop } }
-    {
-        Range {
-            first: self.first,
-            last: next.last,
-            hop: next.hop,
-        }
-    }
-}
-
-/// Appends a range; where the one before it touches it and has its hop, the two become one.
-pub(crate) fn push<N: Number>(ranges: &mut Vec<Range<N>>, range: Range<N>) -> Result<(), AllocError>
-    ensures { OnOk result ((rest : List HopRange) → AreRanges (ranges.old.items ++ range ∷ rest) → Replaces (ranges.old.items ++ range ∷ rest) (ranges.new.items ++ rest)) }
-{
-    let Some(before) = ranges.pop() else {
-        ranges.push(range)?;
-        return Ok(());
-    };
-    if before.goes_on(&range) {
-        ranges.push(before.joined(&range))?;
-        return Ok(());
-    }
-    ranges.push(before)?;
-    ranges.push(range)?;
-    Ok(())
 }
 
 /// Numbers of addresses in chunks, which are those with the same first bits.

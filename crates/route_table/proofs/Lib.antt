@@ -22,6 +22,7 @@ pub mod Turns
 pub mod Closings
 pub mod FlatRuns
 pub mod Flattenings
+pub mod HopRuns
 pub mod Halves
 pub mod Owned
 pub mod FlatPieces

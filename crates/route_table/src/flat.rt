@@ -18,7 +18,7 @@ use std::marker::Model;
 
 /// The blocks that are left of a run, and its number.
 #[derive(Drop)]
-struct Pieces {
+pub(crate) struct Pieces {
     blocks: IpSubnets,
     number: u32,
 }
@@ -35,7 +35,7 @@ impl Pieces {
     }
 
     /// The first block, with the number.
-    fn next(&mut self) -> Option<(IpNet, u32)>
+    pub(crate) fn next(&mut self) -> Option<(IpNet, u32)>
         ensures { GivesPiece (pieces_of self.old) result (pieces_of self.new) }
     {
         let number = self.number;
@@ -48,9 +48,9 @@ impl Pieces {
 
 /// The runs of both families.
 #[derive(Drop)]
-struct BothRuns<'a> {
-    v4: Runs<'a>,
-    v6: Runs<'a>,
+pub(crate) struct BothRuns<'a> {
+    pub(crate) v4: Runs<'a>,
+    pub(crate) v6: Runs<'a>,
 }
 
 impl<'a> BothRuns<'a> {
@@ -80,8 +80,8 @@ impl<'a> BothRuns<'a> {
 /// ascending. It takes no memory.
 #[derive(Drop)]
 pub struct Flat<'a> {
-    pieces: Pieces,
-    runs: BothRuns<'a>,
+    pub(crate) pieces: Pieces,
+    pub(crate) runs: BothRuns<'a>,
 }
 
 impl<'a> Model for Flat<'a> {

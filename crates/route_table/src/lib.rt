@@ -4,6 +4,7 @@
 pub use between::{Between, Operation};
 pub use flat::Flat;
 pub use governed::Governed;
+pub use hop_run::HopRun;
 pub use hop_table::HopTable;
 pub use least::LeastRoutes;
 pub use prefix_trie::Refused;
@@ -18,6 +19,7 @@ mod between;
 mod family;
 mod flat;
 mod governed;
+mod hop_run;
 mod hop_table;
 pub mod laws;
 mod least;

@@ -1,20 +1,49 @@
 //! Flat lists, with values from outside.
-use crate::tests::steps::Step::{Ends, Flat, Own, OwnCount};
+use crate::tests::indexes::address;
+use crate::tests::steps::Step::{Ends, Flat, Own, OwnCount, Runs};
 use crate::tests::steps::{Script, carry_out};
 use crate::tests::tables::{net, route, row_is};
-use ipnet::IpNet;
-use route_table::{Hop, RouteTable};
+use ipnet::{IpAddr, IpNet};
+use route_table::{Hop, HopRun, RouteTable};
 use std::process::Abort;
 
-/// The flat list has these pieces.
-pub(crate) fn flat_is(rt: &impl Abort, flat: route_table::Flat<'_>, pieces: &str) {
-    let mut flat = flat;
+/// These pieces come next.
+fn pieces_come(rt: &impl Abort, flat: &mut route_table::Flat<'_>, pieces: &str) {
     for words in pieces.split_terminator(',') {
         let (net, hop) = route(rt, words.trim());
         let found = flat.next().expect(rt, words);
         row_is(rt, words, (found.0, Hop::Number(found.1)), (net, hop));
     }
+}
+
+/// The flat list has these pieces.
+pub(crate) fn flat_is(rt: &impl Abort, flat: route_table::Flat<'_>, pieces: &str) {
+    let mut flat = flat;
+    pieces_come(rt, &mut flat, pieces);
     row_is(rt, pieces, flat.next(), None);
+}
+
+/// The run of a text, of its first address, its last one and its hop.
+fn run_of(rt: &impl Abort, text: &str) -> HopRun {
+    let mut words = text.split_whitespace();
+    let first = address(rt, words.next().expect(rt, "a first address"));
+    let last = address(rt, words.next().expect(rt, "a last address"));
+    let hop = words.next().expect(rt, "a hop").parse().expect(rt, "a hop");
+    match (first, last) {
+        (IpAddr::V4(first), IpAddr::V4(last)) => HopRun::V4(first, last, hop),
+        (IpAddr::V6(first), IpAddr::V6(last)) => HopRun::V6(first, last, hop),
+        _ => rt.abort(),
+    }
+}
+
+/// The flat list has these pieces, and then these runs.
+pub(crate) fn runs_are(rt: &impl Abort, table: &RouteTable, pieces: &str, runs: &str) {
+    let mut flat = table.flat();
+    pieces_come(rt, &mut flat, pieces);
+    for text in runs.split_terminator(',') {
+        row_is(rt, text, flat.next_run(), Some(run_of(rt, text)));
+    }
+    row_is(rt, runs, flat.next_run(), None);
 }
 
 /// The piece is this network, by the hop 2.
@@ -70,7 +99,7 @@ pub(crate) fn own_is_counted(rt: &impl Abort, table: &RouteTable, number: u32) {
 }
 
 /// Routes, and the flat list of a table of them, its ends, and the blocks of one hop.
-static FLAT: [Script; 11] = [
+static FLAT: [Script; 12] = [
     (
         "nested routes",
         "10.0.0.0/8 1, 10.0.0.0/9 2, 10.64.0.0/10 1",
@@ -116,6 +145,22 @@ static FLAT: [Script; 11] = [
         "both ends of IPv6",
         "::/0 1, ::/128 2, ffff:ffff:ffff:ffff:ffff:ffff:ffff:ffff/128 2",
         &[Ends("::/128", "ffff:ffff:ffff:ffff:ffff:ffff:ffff:ffff/128", 256)],
+    ),
+    (
+        "runs",
+        "10.0.0.0/30 1, 10.0.0.1/32 2, 10.0.0.4/32 1, 255.255.255.254/31 3, ::/0 3, ::5/128 4, ffff::/16 3",
+        &[
+            Runs(
+                "",
+                "10.0.0.0 10.0.0.0 1, 10.0.0.1 10.0.0.1 2, 10.0.0.2 10.0.0.4 1, 255.255.255.254 255.255.255.255 3, \
+                 :: ::4 3, ::5 ::5 4, ::6 ffff:ffff:ffff:ffff:ffff:ffff:ffff:ffff 3",
+            ),
+            Runs(
+                "10.0.0.0/32 1, 10.0.0.1/32 2, 10.0.0.2/31 1",
+                "10.0.0.4 10.0.0.4 1, 255.255.255.254 255.255.255.255 3, \
+                 :: ::4 3, ::5 ::5 4, ::6 ffff:ffff:ffff:ffff:ffff:ffff:ffff:ffff 3",
+            ),
+        ],
     ),
     (
         "own blocks",

@@ -1,5 +1,5 @@
 //! Scripts of calls of a route table, and what these answer.
-use crate::tests::flat_lists::{ends_are, flat_is, own_is, own_is_counted};
+use crate::tests::flat_lists::{ends_are, flat_is, own_is, own_is_counted, runs_are};
 use crate::tests::indexes::{indexes_are, stays_empty};
 use crate::tests::least_tables::{is_built_back, least_count_is, least_is};
 use crate::tests::tables::{net, put, row_is, step_is, table};
@@ -53,6 +53,8 @@ pub(crate) enum Step {
     Cover(&'static str, u32),
     /// `flat`: the pieces.
     Flat(&'static str),
+    /// `next` and then `next_run` of `flat`: so many pieces first, and each run as its first address, its last one and its hop.
+    Runs(&'static str, &'static str),
     /// `flat`: the first and the last piece, both by the hop 2, and how many there are.
     Ends(&'static str, &'static str, u32),
     /// `own`: the blocks of this number.
@@ -160,6 +162,7 @@ fn list(rt: &impl Abort, at: (&str, usize), table: &RouteTable, step: &Step) {
 fn list_all(rt: &impl Abort, row: &str, table: &RouteTable, step: &Step) {
     match step {
         Step::Flat(pieces) => flat_is(rt, table.flat(), pieces),
+        Step::Runs(pieces, runs) => runs_are(rt, table, pieces, runs),
         Step::Ends(first, last, count) => ends_are(rt, table, first, last, *count),
         Step::Own(number, blocks) => own_is(rt, table, *number, blocks),
         Step::OwnCount(number) => own_is_counted(rt, table, *number),
