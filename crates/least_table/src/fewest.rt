@@ -10,6 +10,7 @@ ghost use Rattle.least_table.specs.InnerPlans.{IsPlanned};
 
 use crate::bits::{bit, common};
 use crate::plan::{Steps, routes};
+use crate::stack::Stack;
 use prefix_trie::{Key, Prefix, path_of, truncated};
 use std::alloc::{AllocError, Global};
 
@@ -77,15 +78,15 @@ fn add_plan<P: Prefix + Copy>(
 pub fn least<P: Prefix + Copy>(
     alloc: Global,
     pieces: Vec<(P, u32)>,
-) -> Result<Vec<(P, Option<u32>)>, AllocError>
+) -> Result<Stack<(P, Option<u32>)>, AllocError>
     requires fits { All (λ p. IsTrue (P.fits p.0)) pieces.items }
     requires disjoint { AreDisjoint (strings P.bits pieces.items) }
-    ensures networks { IfOk result (λ table. All (λ r. IsTrue (P.fits r.0) × (r.0 ≡ P.of_bits (P.bits r.0)) × IfSome r.1 (λ n. n < 2 ^ 32)) table.items) }
-    ensures ordered { IfOk result (λ table. AllPairs (λ r s. bits_cmp r.0 s.0 ≡ Less) (strings P.bits table.items)) }
-    ensures least { IfOk result (λ table. IsLeast P.R.width (hop_at (strings P.bits pieces.items)) (strings P.bits table.items)) }
+    ensures networks { IfOk result (λ table. All (λ r. IsTrue (P.fits r.0) × (r.0 ≡ P.of_bits (P.bits r.0)) × IfSome r.1 (λ n. n < 2 ^ 32)) table) }
+    ensures ordered { IfOk result (λ table. AllPairs (λ r s. bits_cmp r.0 s.0 ≡ Less) (strings P.bits table)) }
+    ensures least { IfOk result (λ table. IsLeast P.R.width (hop_at (strings P.bits pieces.items)) (strings P.bits table)) }
 {
     if pieces.is_empty() {
-        return Ok(Vec::new(alloc));
+        return Ok(Stack::new(alloc));
     }
     let mut plan: Steps<P> = Steps::new(alloc);
     add_plan(alloc, &pieces, 0, &mut plan)?;

@@ -10,3 +10,4 @@ mod plan;
 mod stack;
 
 pub use fewest::least;
+pub use stack::Stack;

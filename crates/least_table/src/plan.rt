@@ -187,13 +187,13 @@ impl<P: Prefix + Copy> Steps<P> {
         path: &Path,
         handed: Option<u32>,
         waiting: &mut Vec<(Path, Option<u32>)>,
-        table: &mut Vec<(P, Option<u32>)>,
+        table: &mut Stack<(P, Option<u32>)>,
     ) -> Result<(), AllocError>
         requires width { P.R.width ≤ 128 }
         requires kept { IsKept self.now.sets (length self.now.inner.items) step }
         requires room { HasRoom P.bits P.fits P.R.width (step_of self.now.sets self.now.inner.items step) path.now }
-        ensures routes { OnOk result (strings P.bits table.new.items ≡ strings P.bits table.old.items ++ step_routes (step_of self.now.sets self.now.inner.items step) (path.now, handed)) }
-        ensures networks { OnOk result (AreNetworks P.fits P.of_bits P.bits table.old.items → AreNetworks P.fits P.of_bits P.bits table.new.items) }
+        ensures routes { OnOk result (strings P.bits table.new ≡ strings P.bits table.old ++ step_routes (step_of self.now.sets self.now.inner.items step) (path.now, handed)) }
+        ensures networks { OnOk result (AreNetworks P.fits P.of_bits P.bits table.old → AreNetworks P.fits P.of_bits P.bits table.new) }
         ensures waiting { OnOk result (reverse waiting.new.items ≡ step_blocks P.bits (step_of self.now.sets self.now.inner.items step) (path.now, handed) ++ reverse waiting.old.items) }
     {
         let best = self.best(step);
@@ -215,13 +215,13 @@ impl<P: Prefix + Copy> Steps<P> {
 
 /// Adds the route of the block at `path`.
 fn add<P: Prefix + Copy>(
-    table: &mut Vec<(P, Option<u32>)>,
+    table: &mut Stack<(P, Option<u32>)>,
     path: &Path,
     hop: Option<u32>,
 ) -> Result<(), AllocError>
     requires { length path.now ≤ P.R.width }
-    ensures routes { OnOk result (strings P.bits table.new.items ≡ strings P.bits table.old.items ++ (path.now, hop) ∷ []) }
-    ensures networks { OnOk result (AreNetworks P.fits P.of_bits P.bits table.old.items → AreNetworks P.fits P.of_bits P.bits table.new.items) }
+    ensures routes { OnOk result (strings P.bits table.new ≡ strings P.bits table.old ++ (path.now, hop) ∷ []) }
+    ensures networks { OnOk result (AreNetworks P.fits P.of_bits P.bits table.old → AreNetworks P.fits P.of_bits P.bits table.new) }
 {
     table.push((prefix_of(path), hop))?;
     Ok(())
@@ -233,12 +233,12 @@ fn hand_down<P: Prefix + Copy>(
     best: &[Option<u32>],
     path: &Path,
     handed: Option<u32>,
-    table: &mut Vec<(P, Option<u32>)>,
+    table: &mut Stack<(P, Option<u32>)>,
 ) -> Result<Option<u32>, AllocError>
     requires { length path.now ≤ P.R.width }
     ensures passed { IfOk result (λ hop. hop ≡ passed best.now handed) }
-    ensures routes { OnOk result (strings P.bits table.new.items ≡ strings P.bits table.old.items ++ cond (holds best.now handed) [] ((path.now, first_of best.now) ∷ [])) }
-    ensures networks { OnOk result (AreNetworks P.fits P.of_bits P.bits table.old.items → AreNetworks P.fits P.of_bits P.bits table.new.items) }
+    ensures routes { OnOk result (strings P.bits table.new ≡ strings P.bits table.old ++ cond (holds best.now handed) [] ((path.now, first_of best.now) ∷ [])) }
+    ensures networks { OnOk result (AreNetworks P.fits P.of_bits P.bits table.old → AreNetworks P.fits P.of_bits P.bits table.new) }
 {
     if is_among(best, handed) {
         return Ok(handed);
@@ -252,15 +252,15 @@ fn hand_down<P: Prefix + Copy>(
 pub(crate) fn routes<P: Prefix + Copy>(
     alloc: Global,
     plan: Steps<P>,
-) -> Result<Vec<(P, Option<u32>)>, AllocError>
+) -> Result<Stack<(P, Option<u32>)>, AllocError>
     requires width { P.R.width ≤ 128 }
     requires whole { AreWhole plan }
     requires room { HaveRoom P.bits P.fits P.R.width (reverse (steps_in plan)) (([], None) ∷ []) }
-    ensures routes { IfOk result (λ table. strings P.bits table.items ≡ all_routes P.bits (reverse (steps_in plan)) (([], None) ∷ [])) }
-    ensures networks { IfOk result (λ table. AreNetworks P.fits P.of_bits P.bits table.items) }
+    ensures routes { IfOk result (λ table. strings P.bits table ≡ all_routes P.bits (reverse (steps_in plan)) (([], None) ∷ [])) }
+    ensures networks { IfOk result (λ table. AreNetworks P.fits P.of_bits P.bits table) }
 {
     let mut left = plan;
-    let mut table: Vec<(P, Option<u32>)> = Vec::new(alloc);
+    let mut table: Stack<(P, Option<u32>)> = Stack::new(alloc);
     let mut waiting: Vec<(Path, Option<u32>)> = Vec::new(alloc);
     waiting.push((Path::new(0, 0), None))?;
     while let Some(step) = left.steps.pop() {

@@ -16,7 +16,7 @@ const MOST: usize = 1 << 32;
 ///
 /// Contracts see the list.
 #[derive(Drop)]
-pub(crate) struct Stack<X> {
+pub struct Stack<X> {
     full: Vec<Vec<X>>,
     last: Vec<X>,
 }
@@ -33,8 +33,8 @@ impl<X> Model for Stack<X> {
 }
 
 impl<X> Stack<X> {
-    /// No items.
-    pub(crate) fn new(alloc: Global) -> Stack<X>
+    /// No items. It takes no memory.
+    pub fn new(alloc: Global) -> Stack<X>
         ensures { result ≡ [] }
     {
         Stack {
@@ -44,14 +44,14 @@ impl<X> Stack<X> {
     }
 
     /// How many there are.
-    pub(crate) fn len(&self) -> usize
+    pub fn len(&self) -> usize
         ensures { result ≡ length self.now }
     {
         self.full.len() * SIZE + self.last.len()
     }
 
-    /// The item at a place.
-    pub(crate) fn get(&self, at: usize) -> &X
+    /// The item at a place. It takes no memory.
+    pub fn get(&self, at: usize) -> &X
         requires { at < length self.now }
         ensures { result.now ≡ slice_index_or self.now at result.now }
     {
@@ -65,8 +65,11 @@ impl<X> Stack<X> {
 }
 
 impl<X: Drop> Stack<X> {
-    /// Adds an item.
-    pub(crate) fn push(&mut self, item: X) -> Result<(), AllocError>
+    /// Adds an item at the end.
+    ///
+    /// # Errors
+    /// Where there is no memory; then the list may be as it was, or not. The item is dropped.
+    pub fn push(&mut self, item: X) -> Result<(), AllocError>
         ensures { OnOk result (self.new ≡ self.old ++ item ∷ []) }
     {
         if self.last.len() == SIZE {
@@ -81,8 +84,8 @@ impl<X: Drop> Stack<X> {
         Ok(())
     }
 
-    /// Takes the last item off.
-    pub(crate) fn pop(&mut self) -> Option<X>
+    /// Takes the last item off, where there is one.
+    pub fn pop(&mut self) -> Option<X>
         ensures { MatchOption result ((self.old ≡ []) × (self.new ≡ [])) (λ x. self.old ≡ self.new ++ x ∷ []) }
     {
         if self.last.is_empty() {

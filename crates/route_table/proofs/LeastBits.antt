@@ -2,8 +2,6 @@
 use Rattle.std.proofs.Common.{◌≡◌, ℕ, suc, ◌-◌, ◌*◌, ◌^◌, ◌<◌, ◌≤◌, ⊎_elim, Bool, true, IsTrue, false, cond, nat_lt, inl, inr, List, [], ◌∷◌, ◌++◌, length, All, AllPairs, IfOk, IfSome, Result, Ok, Err, Option, Some, None, option_map, refl, sym, ap, ap₂, ◌∙◌, subst, arith}
 use Rattle.std.proofs.Math.Nat.{mod-eq_of_lt}
 use Rattle.std.specs.declared.cmp.Ordering.TheVariants.{Less}
-use Rattle.std.specs.declared.vec.Vec.{Vec}
-use Rattle.std.specs.declared.alloc.Global.{Global}
 use Rattle.ipnet.proofs.IpNetworks.{net_family}
 use Rattle.ipnet_addr.specs.Addresses.{Family, Ipv4, Ipv6, Address, IsAddress, width}
 use Rattle.ipnet_addr.proofs.Members.{In, In-cases}
@@ -228,11 +226,11 @@ module _ (f : Family) {K : Type 0} (bits_in : K → List Bool) (of_bits : List B
         item : (u : IpNet × Hop) → In u (items_of f parts_in table) → (r : K × Option ℕ) × In r table × (u ≡ (net_in f (parts_in r.0), hop_from r.1))
         item u i = In-map (λ (r : K × Option ℕ). (net_in f (parts_in r.0), hop_from r.1)) table u i
 
-  pub result_is_least : (fits : K → Bool) (w : ℕ) → w ≡ width f → (ps : List (List Bool × ℕ)) {E : Type 0} (result : Result (Vec (K × Option ℕ) Global) E)
-      → IfOk result (λ table. All (λ r. IsTrue (fits r.0) × (r.0 ≡ of_bits (bits_in r.0)) × IfSome r.1 (λ n. n < 2 ^ 32)) table.items)
-      → IfOk result (λ table. AllPairs (λ r s. bits_cmp r.0 s.0 ≡ Less) (strings bits_in table.items)) → IfOk result (λ table. bits.IsLeast w (hop_at ps) (strings bits_in table.items))
-      → IfOk result (λ table. AreLeast f ps (items_of f parts_in table.items))
-  result_is_least fits w wide ps (Ok table) networks ordered least = are_least fits w wide ps table.items networks ordered least
+  pub result_is_least : (fits : K → Bool) (w : ℕ) → w ≡ width f → (ps : List (List Bool × ℕ)) {E : Type 0} (result : Result (List (K × Option ℕ)) E)
+      → IfOk result (λ table. All (λ r. IsTrue (fits r.0) × (r.0 ≡ of_bits (bits_in r.0)) × IfSome r.1 (λ n. n < 2 ^ 32)) table)
+      → IfOk result (λ table. AllPairs (λ r s. bits_cmp r.0 s.0 ≡ Less) (strings bits_in table)) → IfOk result (λ table. bits.IsLeast w (hop_at ps) (strings bits_in table))
+      → IfOk result (λ table. AreLeast f ps (items_of f parts_in table))
+  result_is_least fits w wide ps (Ok table) networks ordered least = are_least fits w wide ps table networks ordered least
   result_is_least fits w wide ps (Err e) networks ordered least = tt
 
 -- ---- both families

@@ -19,12 +19,11 @@ use crate::flat::Flat;
 use crate::hop_table::HopTable;
 use crate::table::RouteTable;
 use ipnet::{IpNet, Ipv4Net, Ipv6Net};
-use least_table::least;
+use least_table::{Stack, least};
 use prefix_trie::Refused;
 use route_choices::Hop;
 use std::alloc::{AllocError, Global};
 use std::marker::Model;
-use std::vec::IntoIter;
 
 /// The hop of a number, or nowhere.
 fn hop_of(number: Option<u32>) -> Hop
@@ -41,24 +40,61 @@ fn hop_of(number: Option<u32>) -> Hop
 fn fewest<P: OfFamily>(
     alloc: Global,
     pieces: Vec<(P, u32)>,
-) -> Result<Vec<(P, Option<u32>)>, AllocError>
+) -> Result<Stack<(P, Option<u32>)>, AllocError>
     requires { AreDisjoint (strings P.bits pieces.items) }
-    ensures { IfOk result (λ table. AreLeast P.family (strings P.bits pieces.items) (items_of P.family P.parts table.items)) }
+    ensures { IfOk result (λ table. AreLeast P.family (strings P.bits pieces.items) (items_of P.family P.parts table)) }
 {
     least(alloc, pieces)
+}
+
+/// The routes of one family, and how many of them were given.
+///
+/// Contracts see those that are left.
+#[derive(Drop)]
+struct Given<P> {
+    routes: Stack<(P, Option<u32>)>,
+    given: usize,
+}
+
+impl<P> Model for Given<P> {
+    ghost use Rattle.std.specs.Prelude.{ℕ, List, Option, drop};
+
+    ghost Value = { List (P × Option ℕ) };
+
+    ghost view = { λ a. drop a.given a.routes };
+}
+
+impl<P: Copy> Given<P> {
+    /// None of the routes was given.
+    fn new(routes: Stack<(P, Option<u32>)>) -> Given<P>
+        ensures { result ≡ routes }
+    {
+        Given { routes, given: 0 }
+    }
+
+    /// The first of those that are left.
+    fn next(&mut self) -> Option<(P, Option<u32>)>
+        ensures { YieldsFirst (λ rs. rs) self.old result self.new }
+    {
+        if self.given >= self.routes.len() {
+            return None;
+        }
+        let route = *self.routes.get(self.given);
+        self.given += 1;
+        Some(route)
+    }
 }
 
 /// The routes that are left of a least table, ascending: the network of each, without host bits, and its hop. A list of
 /// such pairs takes 64 bytes for each route; here one of IPv4 takes 16, and one of IPv6 48.
 #[derive(Drop)]
 pub struct LeastRoutes {
-    v4: IntoIter<(Ipv4Net, Option<u32>)>,
-    v6: IntoIter<(Ipv6Net, Option<u32>)>,
+    v4: Given<Ipv4Net>,
+    v6: Given<Ipv6Net>,
 }
 
 impl Model for LeastRoutes {
     ghost use Rattle.std.specs.Prelude.{List, ◌++◌};
-    ghost use Rattle.std.specs.Vec.Iter.{into_iter_items};
     ghost use Rattle.ipnet_addr.specs.Addresses.{Ipv4, Ipv6};
     ghost use Rattle.ipnet.specs.declared.ip_net.IpNet.{IpNet};
     ghost use Rattle.route_choices.specs.declared.hop.Hop.{Hop};
@@ -66,17 +102,20 @@ impl Model for LeastRoutes {
 
     ghost Value = { List (IpNet × Hop) };
 
-    ghost view = { λ a. items_of Ipv4 (λ n. n) (into_iter_items a.v4) ++ items_of Ipv6 (λ n. n) (into_iter_items a.v6) };
+    ghost view = { λ a. items_of Ipv4 (λ n. n) a.v4 ++ items_of Ipv6 (λ n. n) a.v6 };
 }
 
 impl LeastRoutes {
     /// The routes of both families.
-    fn new(v4: Vec<(Ipv4Net, Option<u32>)>, v6: Vec<(Ipv6Net, Option<u32>)>) -> LeastRoutes
-        ensures { result ≡ items_of Ipv4 (λ n. n) v4.items ++ items_of Ipv6 (λ n. n) v6.items }
+    fn new(
+        v4: Stack<(Ipv4Net, Option<u32>)>,
+        v6: Stack<(Ipv6Net, Option<u32>)>,
+    ) -> LeastRoutes
+        ensures { result ≡ items_of Ipv4 (λ n. n) v4 ++ items_of Ipv6 (λ n. n) v6 }
     {
         LeastRoutes {
-            v4: v4.into_iter(),
-            v6: v6.into_iter(),
+            v4: Given::new(v4),
+            v6: Given::new(v6),
         }
     }
 

@@ -44,7 +44,7 @@ returns-clause-ordered g c =
     let t = tree_of bits 0 p in
     let fits = fits_plan (g.P.R.Key.width - 0) (hop_at (beyond bits 0 c.deref.result.now)) t c.in_ok-add_plan.ensures.made.plans in
     if_ok_map c.routes.result
-    (λ table e. ordered_from (g.P.R.Key.width - 0) t (strings bits table.items) (e ∙ all_stored bits (g.P.R.Key.width - 0) p (steps_in c.new-plan.result) (steps_in c.add_plan.new.plan) c.in_ok-add_plan.ensures.adds.steps c.new-plan.ensures.steps fits) fits)
+    (λ table e. ordered_from (g.P.R.Key.width - 0) t (strings bits table) (e ∙ all_stored bits (g.P.R.Key.width - 0) p (steps_in c.new-plan.result) (steps_in c.add_plan.new.plan) c.in_ok-add_plan.ensures.adds.steps c.new-plan.ensures.steps fits) fits)
     c.routes.ensures.routes
 
 pub returns-clause-least : goal.returns-clause-least
@@ -54,7 +54,7 @@ returns-clause-least g c =
     let t = tree_of bits 0 p in
     let h = hop_at (beyond bits 0 c.deref.result.now) in
     if_ok_map c.routes.result
-    (λ table e. subst (λ ps. IsLeast g.P.R.Key.width (hop_at (strings bits ps)) (strings bits table.items)) c.deref.ensures.value (least_from g.P.R.Key.width (hop_at (strings bits c.deref.result.now)) t (strings bits table.items)
+    (λ table e. subst (λ ps. IsLeast g.P.R.Key.width (hop_at (strings bits ps)) (strings bits table)) c.deref.ensures.value (least_from g.P.R.Key.width (hop_at (strings bits c.deref.result.now)) t (strings bits table)
     (e ∙ all_stored bits (g.P.R.Key.width - 0) p (steps_in c.new-plan.result) (steps_in c.add_plan.new.plan) c.in_ok-add_plan.ensures.adds.steps c.new-plan.ensures.steps (fits_plan (g.P.R.Key.width - 0) h t c.in_ok-add_plan.ensures.made.plans))
     c.in_ok-add_plan.ensures.made.plans))
     c.routes.ensures.routes

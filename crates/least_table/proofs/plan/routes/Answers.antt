@@ -10,7 +10,7 @@ use Rattle.least_table.proofs.plan.routes.Goals.{in-Some+in_default-pop, in_defa
 pub loop-step-init : goal.loop-step-init
 loop-step-init g c =
     let whole : c.push.new.self.items ≡ ([], None) ∷ [] = c.in_ok-push.ensures.items ∙ rw (c.new-waiting.ensures.items, c.new.ensures) refl in
-    (rw (whole, c.new-table.ensures.items) refl, rw whole c.requires.room, rw c.new-table.ensures.items (search rules), c.requires.whole)
+    (rw (whole, c.new-table.ensures) refl, rw whole c.requires.room, rw c.new-table.ensures (search rules), c.requires.whole)
 
 pub take-requires-clause-kept : goal.take-requires-clause-kept
 take-requires-clause-kept g c = (kept_popped c.loop-step.left c.pop.new.self c.in-Some.step c.in-Some.ensures c.loop-step.invariant.3).1
@@ -28,7 +28,7 @@ loop-step-preserved g c =
     let b : List Bool × Option ℕ = (c.in-Some-pop.path, c.in-Some-pop.handed) in
     let e = popped c.loop-step.left c.pop.new.self c.in-Some.step c.in-Some.ensures in (
       routes_after g.P.Prefix.bits x b (steps_in c.loop-step.left) (map of c.pop.new.self) c.loop-step.waiting.items c.pop-in-Some.new.self.items
-          e c.in-Some-pop.ensures.items c.take.new.waiting.items c.in_ok-take.ensures.waiting (strings g.P.Prefix.bits c.loop-step.table.items) (strings g.P.Prefix.bits c.take.new.table.items) _ c.in_ok-take.ensures.routes c.loop-step.invariant.0,
+          e c.in-Some-pop.ensures.items c.take.new.waiting.items c.in_ok-take.ensures.waiting (strings g.P.Prefix.bits c.loop-step.table) (strings g.P.Prefix.bits c.take.new.table) _ c.in_ok-take.ensures.routes c.loop-step.invariant.0,
       room_after g.P.Prefix.bits x b (steps_in c.loop-step.left) (map of c.pop.new.self) c.loop-step.waiting.items c.pop-in-Some.new.self.items
           e c.in-Some-pop.ensures.items c.take.new.waiting.items c.in_ok-take.ensures.waiting g.P.Prefix.fits g.P.R.Key.width c.loop-step.invariant.1,
       c.in_ok-take.ensures.networks c.loop-step.invariant.2,
@@ -42,7 +42,7 @@ returns-clause-routes g c =
       | in-Some+in_default-pop w ↦ inr (omega (arith, w.in_default-pop.ensures.cases.0, c.loop-step.waiting.ok.0))
       | in_default w ↦ inl (omega (arith, length-map c.loop-step.left.steps (step_of c.loop-step.left.sets c.loop-step.left.inner.items), ap length w.in_default.ensures.0))
     ] in
-    ended g.P.Prefix.bits (steps_in c.loop-step.left) c.loop-step.waiting.items (strings g.P.Prefix.bits c.loop-step.table.items) _ none c.loop-step.invariant.0
+    ended g.P.Prefix.bits (steps_in c.loop-step.left) c.loop-step.waiting.items (strings g.P.Prefix.bits c.loop-step.table) _ none c.loop-step.invariant.0
 
 pub returns-clause-networks : goal.returns-clause-networks
 returns-clause-networks g c = c.loop-step.invariant.2

@@ -22,7 +22,7 @@ returns-clause-least c =
     let h = hop_at (routes_of c.args.self) in
     let ps = strings (λ n. bit_string (block_of Ipv4 n)) c.in_ok-v4.v4.items in
     let qs = strings (λ n. bit_string (block_of Ipv6 n)) c.in_ok-v6.v6.items in
-    let both = least_of ps qs (items_of Ipv4 (λ n. n) c.in_ok-fewest.field-0.items) (items_of Ipv6 (λ n. n) c.in_ok-v6-2.v6.items) c.in_ok-fewest.ensures c.in_ok-v6-2.ensures in
+    let both = least_of ps qs (items_of Ipv4 (λ n. n) c.in_ok-fewest.field-0) (items_of Ipv6 (λ n. n) c.in_ok-v6-2.v6) c.in_ok-fewest.ensures c.in_ok-v6-2.ensures in
     let v4 = c.in_ok-v4.ensures.ipv4 (hop_at (routes_of c.in_ok-table_v4.table_v4)) c.flat-2.ensures.flat in
     let v6 = c.in_ok-v6.ensures.ipv6 (hop_at (routes_of c.in_ok-table_v4.table_v6)) c.flat.ensures.flat in
     subst (λ rs. IsLeast h (routes_for rs)) (sym c.new.ensures)
@@ -31,5 +31,5 @@ returns-clause-least c =
 pub returns-clause-truncated : goal.returns-clause-truncated
 returns-clause-truncated c =
     let both = least_of (strings (λ n. bit_string (block_of Ipv4 n)) c.in_ok-v4.v4.items) (strings (λ n. bit_string (block_of Ipv6 n)) c.in_ok-v6.v6.items)
-    (items_of Ipv4 (λ n. n) c.in_ok-fewest.field-0.items) (items_of Ipv6 (λ n. n) c.in_ok-v6-2.v6.items) c.in_ok-fewest.ensures c.in_ok-v6-2.ensures in
+    (items_of Ipv4 (λ n. n) c.in_ok-fewest.field-0) (items_of Ipv6 (λ n. n) c.in_ok-v6-2.v6) c.in_ok-fewest.ensures c.in_ok-v6-2.ensures in
     subst (λ rs. All (λ r. IsTruncated (family r.0) (parts r.0)) rs) (sym c.new.ensures) both.truncated
