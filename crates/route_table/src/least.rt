@@ -107,10 +107,7 @@ impl Model for LeastRoutes {
 
 impl LeastRoutes {
     /// The routes of both families.
-    fn new(
-        v4: Stack<(Ipv4Net, Option<u32>)>,
-        v6: Stack<(Ipv6Net, Option<u32>)>,
-    ) -> LeastRoutes
+    fn new(v4: Stack<(Ipv4Net, Option<u32>)>, v6: Stack<(Ipv6Net, Option<u32>)>) -> LeastRoutes
         ensures { result ≡ items_of Ipv4 (λ n. n) v4 ++ items_of Ipv6 (λ n. n) v6 }
     {
         LeastRoutes {

@@ -1,11 +1,19 @@
 //! Least tables of known hops.
 use crate::tests::tables::row_is;
-use least_table::least;
+use least_table::{Stack, least};
+use std::alloc::{AllocError, Global};
 use std::test::Fail;
 
-/// A list of the pieces.
-fn listed<P: Copy>(rt: &HostRuntime, pieces: &[(P, u32)]) -> Vec<(P, u32)> {
-    Vec::from_slice(rt.alloc(), pieces).expect(rt, "memory")
+/// The routes of a table, as a list.
+fn listed<P: Copy>(
+    alloc: Global,
+    table: &Stack<(P, Option<u32>)>,
+) -> Result<Vec<(P, Option<u32>)>, AllocError> {
+    let mut list = Vec::new(alloc);
+    for at in 0..table.len() {
+        list.push(*table.get(at))?;
+    }
+    Ok(list)
 }
 
 #[test]
@@ -17,7 +25,7 @@ fn a_route_and_one_inside(rt: HostRuntime) -> Result<(), Fail> {
     ]?;
     let table = least(rt.alloc(), pieces)?;
     assert_eq!(rt;
-        table.as_slice(),
+        listed(rt.alloc(), &table)?.as_slice(),
         [
             ((0x0a00_0000_u32, 8_u8), Some(1_u32)),
             ((0x0a00_0000, 10), Some(2)),
@@ -28,51 +36,58 @@ fn a_route_and_one_inside(rt: HostRuntime) -> Result<(), Fail> {
 }
 
 #[test]
-fn four_quarters(rt: HostRuntime) {
-    let pieces = [
+fn four_quarters(rt: HostRuntime) -> Result<(), Fail> {
+    let pieces = vec![in rt.alloc();
         ((0_u32, 2_u8), 1_u32),
         ((0x4000_0000, 2), 2),
         ((0x8000_0000, 2), 1),
         ((0xc000_0000, 2), 2),
-    ];
-    let table = least(rt.alloc(), listed(&rt, &pieces)).expect(&rt, "memory");
+    ]?;
+    let table = least(rt.alloc(), pieces)?;
     let wanted = [
         ((0_u32, 0_u8), Some(1_u32)),
         ((0x4000_0000, 2), Some(2)),
         ((0xc000_0000, 2), Some(2)),
     ];
+    let table = listed(rt.alloc(), &table)?;
     row_is(&rt, "quarters", table.as_slice(), wanted.as_slice());
+    Ok(())
 }
 
 #[test]
-fn no_pieces(rt: HostRuntime) {
-    let pieces: [((u32, u8), u32); 0] = [];
-    let table = least(rt.alloc(), listed(&rt, &pieces)).expect(&rt, "memory");
+fn no_pieces(rt: HostRuntime) -> Result<(), Fail> {
+    let pieces: Vec<((u32, u8), u32)> = Vec::new(rt.alloc());
+    let table = least(rt.alloc(), pieces)?;
     row_is(&rt, "none", table.len(), 0);
+    Ok(())
 }
 
 /// 2001:db8::/34 has another hop than the rest of 2001:db8::/32.
 #[test]
-fn a_wide_route_and_one_inside(rt: HostRuntime) {
+fn a_wide_route_and_one_inside(rt: HostRuntime) -> Result<(), Fail> {
     let top = 0x2001_0db8_u128 << 96;
-    let pieces = [
+    let pieces = vec![in rt.alloc();
         (
             (0x2001_0db8_0000_0000_0000_0000_0000_0000_u128, 34_u8),
             2_u32,
         ),
         ((0x2001_0db8_4000_0000_0000_0000_0000_0000, 34), 1),
         ((0x2001_0db8_8000_0000_0000_0000_0000_0000, 33), 1),
-    ];
-    let table = least(rt.alloc(), listed(&rt, &pieces)).expect(&rt, "memory");
+    ]?;
+    let table = least(rt.alloc(), pieces)?;
     let wanted = [((top, 32_u8), Some(1_u32)), ((top, 34), Some(2))];
+    let table = listed(rt.alloc(), &table)?;
     row_is(&rt, "inside", table.as_slice(), wanted.as_slice());
+    Ok(())
 }
 
 /// Two hosts, at the ends of all addresses.
 #[test]
-fn wide_ends(rt: HostRuntime) {
-    let pieces = [((0_u128, 128_u8), 7_u32), ((u128::MAX, 128), 7)];
-    let table = least(rt.alloc(), listed(&rt, &pieces)).expect(&rt, "memory");
+fn wide_ends(rt: HostRuntime) -> Result<(), Fail> {
+    let pieces = vec![in rt.alloc(); ((0_u128, 128_u8), 7_u32), ((u128::MAX, 128), 7)]?;
+    let table = least(rt.alloc(), pieces)?;
     let wanted = [((0_u128, 128_u8), Some(7_u32)), ((u128::MAX, 128), Some(7))];
+    let table = listed(rt.alloc(), &table)?;
     row_is(&rt, "ends", table.as_slice(), wanted.as_slice());
+    Ok(())
 }
