@@ -7,8 +7,8 @@ use Rattle.hop_index.specs.InnerRanges.{AreCountsOf}
 use Rattle.hop_index.proofs.Bits.{bit_of_word, none_from, one_more_bit}
 use Rattle.hop_index.proofs.Counts.{Counted, all_counted, count_pushed, count_raised, counts_from}
 use Rattle.hop_index.proofs.Searches.{block_at}
-use Rattle.hop_index.proofs.halves.count_blocks.Goals as goal
-use Rattle.hop_index.proofs.halves.count_blocks.Goals.{then-word-block-eq0+in_ok-push, else-word-block-eq0}
+use Rattle.hop_index.proofs.blocks.count_blocks.Goals as goal
+use Rattle.hop_index.proofs.blocks.count_blocks.Goals.{then-word-block-eq0+in_ok-push, else-word-block-eq0}
 
 pub loop-place-preserved : goal.loop-place-preserved
 loop-place-preserved c =

@@ -1,7 +1,7 @@
 use Rattle.std.proofs.Common.{ℕ, ◌≡◌, ◌+◌, ◌^◌, ◌<◌, [], ◌∷◌, ◌++◌, length, get_or}
 use Rattle.std.specs.Prelude.{count_ones}
 use Rattle.hop_index.proofs.Counts.{Counted, counts_from}
-use Rattle.hop_index.proofs.halves.count_blocks.Given as goal
+use Rattle.hop_index.proofs.blocks.count_blocks.Given as goal
 
 abbrev pub invariant-loop-place : goal.invariant-loop-place
 invariant-loop-place l = record {

@@ -1,6 +1,6 @@
 use Rattle.std.proofs.Common.{ℕ, ◌≡◌, ◌*◌, ◌^◌, ◌<◌, length, get_or}
 use Rattle.hop_index.specs.InnerRanges.{AreMarksOf}
-use Rattle.hop_index.proofs.marks.U32Narrowing.marks.Given as goal
+use Rattle.hop_index.proofs.marks.all_marks.Given as goal
 
 abbrev pub invariant-loop-chunk : goal.invariant-loop-chunk
 invariant-loop-chunk l = record {

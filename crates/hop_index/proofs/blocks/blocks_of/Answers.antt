@@ -3,7 +3,7 @@ use Rattle.std.proofs.Math.Nat.{mod-eq_of_lt}
 use Rattle.hop_index.specs.Ranges.{HopRange}
 use Rattle.hop_index.specs.InnerRanges.{AreCountsOf}
 use Rattle.hop_index.proofs.Counts.{counts_kept, one_more_of_two}
-use Rattle.hop_index.proofs.halves.U128Narrowing.marks.Goals as goal
+use Rattle.hop_index.proofs.blocks.blocks_of.Goals as goal
 
 pub loop-chunk-preserved : goal.loop-chunk-preserved
 loop-chunk-preserved c =

@@ -4,7 +4,7 @@ use Rattle.hop_index.specs.Ranges.{HopRange}
 use Rattle.hop_index.specs.InnerRanges.{BeginsFrom}
 use Rattle.hop_index.proofs.Bits.{bit_of_word, ones_next}
 use Rattle.hop_index.proofs.Searches.{from_sooner}
-use Rattle.hop_index.proofs.halves.of_block.Goals as goal
+use Rattle.hop_index.proofs.blocks.of_block.Goals as goal
 
 -- where the count before the next block stands
 next_place : (place word b : ℕ) → b < 64 → place + count_ones (word % 2 ^ (b + 1)) ≡ place + count_ones (word % (1 * 2 ^ b % 2 ^ 64)) + word / 2 ^ b % 2
