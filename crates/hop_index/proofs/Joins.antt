@@ -17,7 +17,7 @@ use Rattle.route_table.specs.Items.{BeginsWithRun, run_family, run_first, run_ho
 use Rattle.route_table.specs.declared.hop_run.HopRun.{HopRun}
 use Rattle.hop_index.specs.Ranges.{HopRange, IsIn, hop_in, is_in}
 use Rattle.hop_index.specs.InnerRanges.{AreRanges, EndsBefore, Replaces, range_of, ranges_in}
-use Rattle.hop_index.proofs.Lookups.{in_from_test, in_test, out_test}
+use Rattle.hop_index.proofs.Lookups.{in_from_test, in_test, passed_over}
 
 pub same_ranges : (rs : List HopRange) → AreRanges rs → Replaces rs rs
 same_ranges rs h = record { ranges = h; hops = λ x. refl }
@@ -47,17 +47,13 @@ module _ (r : HopRange) (qs rest : List HopRange) (some : r.first ≤ r.last)
           later
           i
 
-  in_none : (ps : List HopRange) (x : ℕ) → ((q : HopRange) → In q ps → IsIn x q → ⊥) → hop_in (ps ++ rest) x ≡ hop_in rest x
-  in_none [] x h = refl
-  in_none (p ∷ ps) x h = ap (λ b. cond b (Some p.hop) (hop_in (ps ++ rest) x)) (out_test x p (h p (inl refl))) ∙ in_none ps x (λ q i. h q (inr i))
-
   run_hop_in : (x : ℕ) (b : Bool) → is_in x r ≡ b → hop_in (r ∷ rest) x ≡ hop_in (qs ++ rest) x
   run_hop_in x true e =
       let t = cover x (in_from_test x r e) in
       ap (λ b. cond b (Some r.hop) (hop_in rest x)) e ∙ sym (in_some qs x (λ q i. (each q i).0) t.0 t.1 t.2)
   run_hop_in x false e =
       ap (λ b. cond b (Some r.hop) (hop_in rest x)) e
-      ∙ sym (in_none qs x (λ q i j. let s = each q i in let l = s.1 in let u = s.2 in let a = j.0 in let z = j.1 in let t : is_in x r ≡ true = in_test x r (omega arith, omega arith) in absurd (cc)))
+      ∙ sym (passed_over qs rest x (λ q i j. let s = each q i in let l = s.1 in let u = s.2 in let a = j.0 in let z = j.1 in let t : is_in x r ≡ true = in_test x r (omega arith, omega arith) in absurd (cc)))
 
   hops : (xs : List HopRange) (x : ℕ) → hop_in (xs ++ r ∷ rest) x ≡ hop_in (xs ++ (qs ++ rest)) x
   hops [] x = run_hop_in x (is_in x r) refl

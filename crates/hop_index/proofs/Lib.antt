@@ -5,3 +5,4 @@ pub mod Indexes
 pub mod Joins
 pub mod Bits
 pub mod Counts
+pub mod Splits

@@ -1,5 +1,5 @@
 -- The hop that ranges give a number.
-use Rattle.std.proofs.Common.{◌≡◌, ℕ, zero, suc, ◌+◌, ◌<◌, ◌≤◌, ◌⊎◌, inl, inr, ⊎_elim, Bool, true, false, cond, List, [], ◌∷◌, Some, None, length, get_or, refl, ap, ◌∙◌, subst, arith}
+use Rattle.std.proofs.Common.{◌≡◌, ℕ, zero, suc, ◌+◌, ◌<◌, ◌≤◌, ◌⊎◌, inl, inr, ⊎_elim, Bool, true, false, cond, List, [], ◌∷◌, ◌++◌, Some, None, length, get_or, refl, ap, ◌∙◌, subst, arith}
 use Rattle.std.proofs.lemmas.Bool.{cases_lt}
 use Rattle.std.proofs.lemmas.Bool.Decides.{nat_tests}
 use Rattle.std.proofs.lemmas.List.{get_or_default}
@@ -35,6 +35,11 @@ by_test false x r rs e (inr n) = inr (
 pub in_or_none : (rs : List HopRange) (x : ℕ) → InOrNone rs x
 in_or_none [] x = inr ((λ r i. absurd i), refl)
 in_or_none (r ∷ rs) x = by_test (is_in x r) x r rs refl (in_or_none rs x)
+
+-- a number of none of the first ranges
+pub passed_over : (ps rest : List HopRange) (x : ℕ) → ((q : HopRange) → In q ps → IsIn x q → ⊥) → hop_in (ps ++ rest) x ≡ hop_in rest x
+passed_over [] rest x h = refl
+passed_over (p ∷ ps) rest x h = ap (λ b. cond b (Some p.hop) (hop_in (ps ++ rest) x)) (out_test x p (h p (inl refl))) ∙ passed_over ps rest x (λ q i. h q (inr i))
 
 -- a number of the range at place m has its hop
 pub found : (rs : List HopRange) (m : ℕ) (d : HopRange) (x : ℕ) → AreRanges rs → m < length rs → IsIn x (get_or rs m d) → hop_in rs x ≡ Some (get_or rs m d).hop

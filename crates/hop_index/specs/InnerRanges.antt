@@ -1,5 +1,5 @@
 -- Ascending ranges, the index by their first bits, and the ranges of a flat list.
-use Rattle.std.specs.Prelude.{◌≡◌, ℕ, ◌+◌, ◌*◌, ◌/◌, ◌%◌, ◌^◌, ◌<◌, ◌≤◌, List, All, AllPairs, count_ones, filter, length, map, slice_index, slice_index_or}
+use Rattle.std.specs.Prelude.{◌≡◌, ℕ, ◌+◌, ◌*◌, ◌/◌, ◌%◌, ◌-◌, ◌^◌, ◌<◌, ◌≤◌, ◌++◌, List, All, AllPairs, count_ones, filter, length, map, slice_index, slice_index_or}
 use Rattle.ipnet_addr.specs.Addresses.{Family, same_family}
 use Rattle.ipnet_blocks.specs.Blocks.{first, last}
 use Rattle.route_laws.specs.Flats.{Piece}
@@ -59,9 +59,23 @@ pub record AreBlockCounts (rs : List HopRange) (words places counts : List ℕ) 
   pub all_places : length places ≡ 262144
   pub counted : (t : ℕ) → t < 262144 → AreCountsOf rs ((262144 + t) * 2 ^ 107) counts (slice_index places t) (slice_index words t)
 
--- the first halves of the numbers of IPv6 that ranges begin with
-abbrev pub AreHalves : List HopRange → List ℕ → Type 0
-AreHalves rs halves = halves ≡ map (λ r. r.first / 2 ^ 64) rs
+-- a range of whole blocks of 48 bits of 2000::/3, at most 2 ^ 19 of them
+pub record IsShort (r : HopRange) : Type 0 where
+  pub first : r.first % 2 ^ 80 ≡ 0
+  pub last : r.last % 2 ^ 80 ≡ 2 ^ 80 - 1
+  pub global : r.first / 2 ^ 125 ≡ 1
+  pub some : r.first ≤ r.last
+  pub few : (r.last - r.first) / 2 ^ 99 ≡ 0
+
+-- such a range, of a number with 45 bits for its first block and 19 bits for how many follow
+abbrev pub short_range : ℕ → ℕ → HopRange
+short_range key hop = record { first = (2 ^ 45 + key / 2 ^ 19) * 2 ^ 80; last = (2 ^ 45 + key / 2 ^ 19 + key % 2 ^ 19) * 2 ^ 80 + (2 ^ 80 - 1); hop = hop }
+
+-- two lists of ranges with the hops of one
+pub record IsSplit (rs short others : List HopRange) : Type 0 where
+  pub short' : AreRanges short
+  pub others' : AreRanges others
+  pub hops : (x : ℕ) → hop_in (short ++ others) x ≡ hop_in rs x
 
 -- a piece of a flat list as a range, and those of a family
 abbrev pub range_of : Piece → HopRange

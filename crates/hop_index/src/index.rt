@@ -8,7 +8,9 @@ ghost use Rattle.prefix_trie.specs.declared.refused.Refused.TheVariants.{Memory}
 ghost use Rattle.hop_index.specs.Indexes.{hop_of};
 ghost use Rattle.hop_index.specs.InnerRanges.{Replaces, ranges_in};
 
-use crate::ranges::{Range, Ranges};
+use crate::marks::Ranges4;
+use crate::ranges::Range;
+use crate::shorts::Ranges6;
 use ipnet::IpAddr;
 use ipnet_addr::number::Number;
 use prefix_trie::Refused;
@@ -41,8 +43,8 @@ fn ranges(
 /// Contracts see it by `hop_of`, the hop of each address.
 #[derive(Drop)]
 pub struct HopIndex {
-    v4: Ranges<u32>,
-    v6: Ranges<u128>,
+    v4: Ranges4,
+    v6: Ranges6,
 }
 
 impl Model for HopIndex {
@@ -106,8 +108,8 @@ impl HopIndex {
     {
         let (v4, v6) = ranges(alloc, flat)?;
         Ok(HopIndex {
-            v4: Ranges::new(alloc, v4)?,
-            v6: Ranges::new(alloc, v6)?,
+            v4: Ranges4::new(alloc, v4)?,
+            v6: Ranges6::new(alloc, v6)?,
         })
     }
 

@@ -4,7 +4,8 @@
 pub use index::HopIndex;
 pub use prefix_trie::Refused;
 
-mod halves;
+mod blocks;
 mod index;
 mod marks;
 mod ranges;
+mod shorts;

@@ -1,10 +1,11 @@
-//! IPv4: in which blocks of 256 addresses a range begins.
-ghost use Rattle.std.specs.Prelude.{ℕ, ◌≡◌, ◌+◌, ◌*◌, ◌^◌, ◌<◌, ◌≤◌, IfOk, List};
-ghost use Rattle.hop_index.specs.Ranges.{HopRange};
+//! IPv4: ranges, found by the blocks of 256 addresses in which one begins.
+ghost use Rattle.std.specs.Prelude.{ℕ, ◌≡◌, ◌+◌, ◌*◌, ◌^◌, ◌<◌, ◌≤◌, IfOk};
+ghost use Rattle.hop_index.specs.Ranges.{hop_in};
 ghost use Rattle.hop_index.specs.InnerRanges.{AreMarks, AreMarksOf, AreRanges, AreStarts, BeginsBelow, BeginsFrom};
 
-use crate::ranges::{Narrowing, Range, STARTS, bounds};
+use crate::ranges::{Range, STARTS, begun, hop_after, starts};
 use std::alloc::{AllocError, Global};
+use std::marker::Model;
 
 /// A bit for each of a chunk's 64 blocks of 256 numbers: whether one of its ranges, from place `low` to `high`, begins there;
 /// 0 where two of them begin in one block.
@@ -38,7 +39,7 @@ fn of_block(ranges: &[Range<u32>], starts: &[u32], marks: &[u64], number: u32) -
     let chunk = (number >> 14) as usize;
     let word = marks[chunk];
     if word == 0 {
-        return bounds(ranges, starts, number);
+        return (starts[chunk] as usize, starts[chunk + 1] as usize);
     }
     let block = number / 256 % 64;
     let low = starts[chunk] as usize + (word % (1 << block)).count_ones() as usize;
@@ -46,32 +47,71 @@ fn of_block(ranges: &[Range<u32>], starts: &[u32], marks: &[u64], number: u32) -
 }
 
 /// The marks of each chunk.
-impl Narrowing for u32 {
-    type Marks = Vec<u64>;
+fn all_marks(alloc: Global, ranges: &[Range<u32>], starts: &[u32]) -> Result<Vec<u64>, AllocError>
+    requires ranges { AreRanges ranges.now }
+    requires starts { AreStarts 0 (2 ^ 14) ranges.now starts.now }
+    ensures { IfOk result (λ marks. AreMarks ranges.now starts.now marks.items) }
+{
+    let mut marks = Vec::with_capacity(alloc, STARTS - 1)?;
+    for chunk in 0..STARTS - 1 {
+        let start = (chunk as u128) << 14;
+        marks.push(marks_of(
+            ranges,
+            start,
+            starts[chunk] as usize,
+            starts[chunk + 1] as usize,
+        ))?;
+    }
+    Ok(marks)
+}
 
-    ghost narrows = { λ rs starts marks. AreMarks rs starts marks.items };
+/// Ascending ranges of IPv4, how many of them begin before each chunk of numbers with the same first 18 bits, and the marks of
+/// each chunk.
+///
+/// Contracts see the list of the ranges.
+#[derive(Drop)]
+pub(crate) struct Ranges4 {
+    ranges: Vec<Range<u32>>,
+    starts: Vec<u32>,
+    marks: Vec<u64>,
+}
 
-    fn marks(alloc: Global, ranges: &[Range<u32>], starts: &[u32]) -> Result<Vec<u64>, AllocError> {
-        let mut marks = Vec::with_capacity(alloc, STARTS - 1)?;
-        for chunk in 0..STARTS - 1 {
-            let start = (chunk as u128) << 14;
-            marks.push(marks_of(
-                ranges,
-                start,
-                starts[chunk] as usize,
-                starts[chunk + 1] as usize,
-            ))?;
-        }
-        Ok(marks)
+impl Model for Ranges4 {
+    ghost use Rattle.std.specs.Prelude.{◌^◌, List};
+    ghost use Rattle.hop_index.specs.Ranges.{HopRange};
+    ghost use Rattle.hop_index.specs.InnerRanges.{AreMarks, AreRanges, AreStarts};
+
+    ghost Value = { List HopRange };
+
+    ghost view = { λ a. a.ranges.items };
+
+    ghost invariant = { λ a. AreRanges a.ranges.items × AreStarts 0 (2 ^ 14) a.ranges.items a.starts.items × AreMarks a.ranges.items a.starts.items a.marks.items };
+}
+
+impl Ranges4 {
+    /// The look-up table of the ranges.
+    ///
+    /// # Errors
+    /// `AllocError` where there is no memory for it.
+    pub(crate) fn new(alloc: Global, ranges: Vec<Range<u32>>) -> Result<Ranges4, AllocError>
+        requires { AreRanges ranges.items }
+        ensures { IfOk result (λ r. r ≡ ranges.items) }
+    {
+        let starts = starts(alloc, &ranges)?;
+        let marks = all_marks(alloc, &ranges, &starts)?;
+        Ok(Ranges4 {
+            ranges,
+            starts,
+            marks,
+        })
     }
 
-    #[inline]
-    fn narrowed(
-        ranges: &[Range<u32>],
-        starts: &[u32],
-        marks: &Vec<u64>,
-        number: u32,
-    ) -> (usize, usize) {
-        of_block(ranges, starts, marks, number)
+    /// The hop of the range that has the number.
+    pub(crate) fn hop(&self, number: u32) -> Option<u32>
+        ensures { result ≡ hop_in self.now number }
+    {
+        let (low, high) = of_block(&self.ranges, &self.starts, &self.marks, number);
+        let count = begun(&self.ranges, low, high, number);
+        hop_after(&self.ranges, count, number)
     }
 }

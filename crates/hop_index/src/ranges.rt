@@ -1,7 +1,7 @@
 //! Ascending ranges of addresses of one family, each with a hop, found by their first bits.
-ghost use Rattle.std.specs.Prelude.{ℕ, ◌≡◌, ◌+◌, ◌*◌, ◌-◌, ◌^◌, ◌<◌, ◌≤◌, IfOk, List};
+ghost use Rattle.std.specs.Prelude.{ℕ, ◌≡◌, ◌+◌, ◌*◌, ◌^◌, ◌<◌, ◌≤◌, IfOk};
 ghost use Rattle.ipnet_addr.specs.Addresses.{width};
-ghost use Rattle.hop_index.specs.Ranges.{HopRange, hop_in};
+ghost use Rattle.hop_index.specs.Ranges.{hop_in};
 ghost use Rattle.hop_index.specs.InnerRanges.{AreRanges, AreStarts, BeginsBelow, BeginsFrom};
 
 use ipnet_addr::number::Number;
@@ -50,14 +50,14 @@ impl<N: Number> Range<N> {
     }
 
     /// The number of its last address.
-    fn last(&self) -> u128
+    pub(crate) fn last(&self) -> u128
         ensures { result ≡ self.now.last }
     {
         self.last.to_bits()
     }
 
     /// Its hop.
-    fn hop(&self) -> u32
+    pub(crate) fn hop(&self) -> u32
         ensures { result ≡ self.now.hop }
     {
         self.hop
@@ -119,7 +119,12 @@ impl Chunked for u128 {
 }
 
 /// How many of the ranges begin at or below the number: at least `low`, and at most `high`.
-fn begun<N: Number>(ranges: &[Range<N>], mut low: usize, mut high: usize, number: N) -> usize
+pub(crate) fn begun<N: Number>(
+    ranges: &[Range<N>],
+    mut low: usize,
+    mut high: usize,
+    number: N,
+) -> usize
     requires ranges { AreRanges ranges.now }
     requires low { BeginsBelow ranges.now (N.number number + 1) low }
     requires high { BeginsFrom ranges.now (N.number number + 1) high }
@@ -139,7 +144,7 @@ fn begun<N: Number>(ranges: &[Range<N>], mut low: usize, mut high: usize, number
 
 /// The hop of the number, where so many of the ranges begin at or below it: the last of these has it or none.
 #[inline]
-fn hop_after<N: Number>(ranges: &[Range<N>], count: usize, number: N) -> Option<u32>
+pub(crate) fn hop_after<N: Number>(ranges: &[Range<N>], count: usize, number: N) -> Option<u32>
     requires ranges { AreRanges ranges.now }
     requires below { BeginsBelow ranges.now (N.number number + 1) count }
     requires from { BeginsFrom ranges.now (N.number number + 1) count }
@@ -157,7 +162,7 @@ fn hop_after<N: Number>(ranges: &[Range<N>], count: usize, number: N) -> Option<
 }
 
 /// How many ranges begin before each chunk that has a count, and before the end of the last one.
-fn starts<N: Chunked>(alloc: Global, ranges: &[Range<N>]) -> Result<Vec<u32>, AllocError>
+pub(crate) fn starts<N: Chunked>(alloc: Global, ranges: &[Range<N>]) -> Result<Vec<u32>, AllocError>
     requires { AreRanges ranges.now }
     ensures { IfOk result (λ starts. AreStarts N.first_chunk N.chunk_size ranges.now starts.items) }
 {
@@ -175,103 +180,4 @@ fn starts<N: Chunked>(alloc: Global, ranges: &[Range<N>]) -> Result<Vec<u32>, Al
         starts.push(begun)?;
     }
     Ok(starts)
-}
-
-/// Two counts of the ranges, between which is how many begin at or below the number.
-#[inline]
-pub(crate) fn bounds<N: Chunked>(ranges: &[Range<N>], starts: &[u32], number: N) -> (usize, usize)
-    requires { AreStarts N.first_chunk N.chunk_size ranges.now starts.now }
-    ensures low { BeginsBelow ranges.now (N.number number + 1) result.0 }
-    ensures high { BeginsFrom ranges.now (N.number number + 1) result.1 }
-{
-    let chunk = N::chunk_of(number.to_bits());
-    let from = N::first_chunk();
-    if chunk < from || chunk - from >= STARTS - 1 {
-        return (0, ranges.len());
-    }
-    let place = chunk - from;
-    (starts[place] as usize, starts[place + 1] as usize)
-}
-
-/// Numbers whose ranges have marks beside them, by which a search is narrowed.
-pub(crate) trait Narrowing: Chunked {
-    /// The marks of ranges.
-    type Marks: Drop;
-
-    /// What the marks say of the ranges, and of how many begin before each chunk.
-    ghost narrows: { List HopRange → List ℕ → Self.Marks → Type 0 };
-
-    /// The marks of the ranges.
-    fn marks(
-        alloc: Global,
-        ranges: &[Range<Self>],
-        starts: &[u32],
-    ) -> Result<Self::Marks, AllocError>
-        requires ranges { AreRanges ranges.now }
-        requires starts { AreStarts Self.first_chunk Self.chunk_size ranges.now starts.now }
-        ensures { IfOk result (λ marks. Self.narrows ranges.now starts.now marks) };
-
-    /// Two counts of the ranges, between which is how many begin at or below the number; mostly no more than one apart.
-    fn narrowed(
-        ranges: &[Range<Self>],
-        starts: &[u32],
-        marks: &Self::Marks,
-        number: Self,
-    ) -> (usize, usize)
-        requires ranges { AreRanges ranges.now }
-        requires starts { AreStarts Self.first_chunk Self.chunk_size ranges.now starts.now }
-        requires marks { Self.narrows ranges.now starts.now marks.now }
-        ensures low { BeginsBelow ranges.now (Self.number number + 1) result.0 }
-        ensures high { BeginsFrom ranges.now (Self.number number + 1) result.1 };
-}
-
-/// Ascending ranges of addresses of one family, for some chunks, which are the numbers with the same first bits, how many of
-/// the ranges begin before each, and marks that narrow a search.
-///
-/// Contracts see the list of the ranges.
-#[derive(Drop)]
-pub(crate) struct Ranges<N: Narrowing> {
-    ranges: Vec<Range<N>>,
-    starts: Vec<u32>,
-    marks: N::Marks,
-}
-
-impl<N: Narrowing> Model for Ranges<N> {
-    ghost use Rattle.std.specs.Prelude.{List};
-    ghost use Rattle.hop_index.specs.Ranges.{HopRange};
-    ghost use Rattle.hop_index.specs.InnerRanges.{AreRanges, AreStarts};
-
-    ghost Value = { List HopRange };
-
-    ghost view = { λ a. a.ranges.items };
-
-    ghost invariant = { λ a. AreRanges a.ranges.items × AreStarts N.first_chunk N.chunk_size a.ranges.items a.starts.items × N.narrows a.ranges.items a.starts.items a.marks };
-}
-
-impl<N: Narrowing> Ranges<N> {
-    /// The look-up table of the ranges.
-    ///
-    /// # Errors
-    /// `AllocError` where there is no memory for it.
-    pub(crate) fn new(alloc: Global, ranges: Vec<Range<N>>) -> Result<Ranges<N>, AllocError>
-        requires { AreRanges ranges.items }
-        ensures { IfOk result (λ r. r ≡ ranges.items) }
-    {
-        let starts = starts(alloc, &ranges)?;
-        let marks = N::marks(alloc, &ranges, &starts)?;
-        Ok(Ranges {
-            ranges,
-            starts,
-            marks,
-        })
-    }
-
-    /// The hop of the range that has the number.
-    pub(crate) fn hop(&self, number: N) -> Option<u32>
-        ensures { result ≡ hop_in self.now (N.number number) }
-    {
-        let (low, high) = N::narrowed(&self.ranges, &self.starts, &self.marks, number);
-        let count = begun(&self.ranges, low, high, number);
-        hop_after(&self.ranges, count, number)
-    }
 }

@@ -11,16 +11,18 @@ use std::process::Abort;
 use std::str::FromStr;
 
 /// Routes that meet, nest and leave gaps, at both ends of both families, of 2000::/3, and of a chunk of the index; some begin in
-/// blocks of their own, some in one block of 256 addresses, or in one /64.
+/// blocks of their own, some in one block of 256 addresses, or in one /64; some of IPv6 are
+/// too long for 12 bytes, or end inside a /48.
 const ROUTES: &str = "0.0.0.0/30 1, 0.0.64.0/18 2, 0.0.128.0/32 2, 10.0.0.0/8 4, 10.1.0.0/16 drop, \
      10.1.2.0/24 4294967295, 10.1.2.3/32 0, 20.0.1.0/24 16, 20.0.3.0/24 17, 20.0.5.128/25 18, \
      255.255.255.254/31 5, 255.255.255.255/32 6, ::/128 7, 1fff:ff00::/24 12, 2000::/20 13, \
      2001:db8::/32 8, 2001:db8:8000::/33 9, 2a00:1:0:0:4000::/66 19, 2a00:1:0:0:8000::/65 20, \
-     2a00:20::/32 21, 3fff:f000::/20 14, 4000::/16 15, ffff:ffff:ffff:ffff:ffff:ffff:ffff:fffe/127 10, \
+     2a00:20::/32 21, 2a0e::/29 22, 2a0f::/29 23, 2a0f:8::/48 23, 2a10::/48 24, \
+     2a10:0:0:8000::/49 25, 3fff:f000::/20 14, 4000::/16 15, ffff:ffff:ffff:ffff:ffff:ffff:ffff:fffe/127 10, \
      ffff:ffff:ffff:ffff:ffff:ffff:ffff:ffff/128 11";
 
 /// Addresses with the hops that the routes give them, worked out by hand.
-static HOPS: [(&str, Option<u32>); 51] = [
+static HOPS: [(&str, Option<u32>); 59] = [
     ("0.0.0.0", Some(1)),
     ("0.0.0.3", Some(1)),
     ("0.0.0.4", None),
@@ -66,6 +68,14 @@ static HOPS: [(&str, Option<u32>); 51] = [
     ("2a00:1f::", None),
     ("2a00:20::", Some(21)),
     ("2a00:21::", None),
+    ("2a0e:7:ffff:ffff:ffff:ffff:ffff:ffff", Some(22)),
+    ("2a0e:8::", None),
+    ("2a0f:7:ffff:ffff:ffff:ffff:ffff:ffff", Some(23)),
+    ("2a0f:8:0:ffff:ffff:ffff:ffff:ffff", Some(23)),
+    ("2a0f:8:1::", None),
+    ("2a10:0:0:7fff:ffff:ffff:ffff:ffff", Some(24)),
+    ("2a10:0:0:8000::", Some(25)),
+    ("2a10:0:1::", None),
     ("3fff:efff:ffff:ffff:ffff:ffff:ffff:ffff", None),
     ("3fff:ffff:ffff:ffff:ffff:ffff:ffff:ffff", Some(14)),
     ("4000::", Some(15)),
@@ -79,8 +89,8 @@ pub(crate) fn address(rt: &impl Abort, text: &str) -> IpAddr {
 }
 
 /// The addresses of the rows.
-fn addresses(rt: &impl Abort) -> [IpAddr; 51] {
-    let mut addrs = [address(rt, "::"); 51];
+fn addresses(rt: &impl Abort) -> [IpAddr; 59] {
+    let mut addrs = [address(rt, "::"); 59];
     for (place, (text, _)) in HOPS.iter().enumerate() {
         addrs[place] = address(rt, text);
     }
@@ -89,7 +99,7 @@ fn addresses(rt: &impl Abort) -> [IpAddr; 51] {
 
 /// Each address has its hop, asked for alone and with the others.
 fn hops_are(rt: &impl Abort, index: &HopIndex) {
-    let mut hops = [None; 51];
+    let mut hops = [None; 59];
     index.hops(&addresses(rt), &mut hops);
     let mut left = hops.iter();
     for (text, hop) in &HOPS {

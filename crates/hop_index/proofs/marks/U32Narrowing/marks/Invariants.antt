@@ -1,9 +1,0 @@
-use Rattle.std.proofs.Common.{ℕ, ◌≡◌, ◌*◌, ◌^◌, ◌<◌, length, get_or}
-use Rattle.hop_index.specs.InnerRanges.{AreMarksOf}
-use Rattle.hop_index.proofs.marks.U32Narrowing.marks.Given as goal
-
-abbrev pub invariant-loop-chunk : goal.invariant-loop-chunk
-invariant-loop-chunk l = record {
-  all : length l.marks.items ≡ l.chunk;
-  marks : (t : ℕ) → t < l.chunk → AreMarksOf l.ranges (t * 2 ^ 14) (get_or l.starts t 0) (get_or l.marks.items t 0);
-}
