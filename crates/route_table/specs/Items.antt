@@ -23,19 +23,22 @@ GivesBlock bs item left = MatchOption item ((bs ≡ []) × (left ≡ [])) (λ n.
 abbrev pub GivesPiece : List Piece → Option (IpNet × ℕ) → List Piece → Type 0
 GivesPiece ps item left = MatchOption item ((ps ≡ []) × (left ≡ [])) (λ p. (ps ≡ record { block = block p.0; number = p.1 } ∷ left) × (p.0 ≡ network_at (block p.0)))
 
--- the family of a run, the numbers of its first and its last address, and its hop
+-- the family of a run's addresses
 abbrev pub run_family : HopRun → Family
 run_family (V4 a b k) = Ipv4
 run_family (V6 a b k) = Ipv6
 
+-- the number of its first address
 abbrev pub run_first : HopRun → ℕ
 run_first (V4 a b k) = ipv4_bits a
 run_first (V6 a b k) = ipv6_bits a
 
+-- the number of its last address
 abbrev pub run_last : HopRun → ℕ
 run_last (V4 a b k) = ipv4_bits b
 run_last (V6 a b k) = ipv6_bits b
 
+-- its hop
 abbrev pub run_hop : HopRun → ℕ
 run_hop (V4 a b k) = k
 run_hop (V6 a b k) = k
