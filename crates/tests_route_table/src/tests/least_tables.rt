@@ -2,9 +2,10 @@
 use crate::tests::steps::Step::{BuiltBack, Least};
 use crate::tests::steps::{Script, carry_out};
 use crate::tests::tables::{routes_are, row_is, table};
-use ipnet::IpNet;
-use route_table::{Hop, Refused, RouteTable};
+use ipnet::{IpAddr, IpNet};
+use route_table::{Hop, HopTable, Refused, RouteTable};
 use std::alloc::Global;
+use std::net::Ipv4Addr;
 use std::process::Abort;
 
 /// The least table has these routes.
@@ -130,4 +131,24 @@ static LEAST: [Script; 11] = [
 #[test]
 fn least(rt: HostRuntime) {
     carry_out(&rt, rt.alloc(), &LEAST);
+}
+
+/// Hosts in a row, each with a hop of its own, so that each hop needs one route: more steps, hops of sets, and routes than a block of
+/// them has.
+#[test]
+fn more_than_a_block(rt: HostRuntime) {
+    let mut table = HopTable::new(rt.alloc()).expect(&rt, "a table");
+    for number in 0..5000 {
+        let host = IpNet::from(IpAddr::V4(Ipv4Addr::from_bits(number)));
+        table
+            .install(host, Hop::Number(number))
+            .expect(&rt, "memory");
+    }
+    let (mut count, mut sum) = (0_u32, 0_u32);
+    for (_, hop) in table.into_least().expect(&rt, "memory") {
+        count = count.wrapping_add(1);
+        sum = sum.wrapping_add(hop.number().unwrap_or(0));
+    }
+    row_is(&rt, "routes", count, 5000);
+    row_is(&rt, "their hops", sum, 12_497_500);
 }
