@@ -1,6 +1,5 @@
 -- The steps of the code that makes a plan.
-use Rattle.std.proofs.Common.{◌≡◌, ℕ, suc, ◌+◌, ◌-◌, ◌<◌, ◌≤◌, Bool, true, false, List, [], ◌∷◌, ◌++◌, length, take, drop, Option, Some, None, All, IsTrue, refl, sym, ap, ap₂, ◌∙◌, subst, arith, add-one, length-drop, slice_get, slice_index_or}
-use Rattle.std.proofs.lemmas.Option.{slice_get_read}
+use Rattle.std.proofs.Common.{◌≡◌, ℕ, suc, ◌+◌, ◌-◌, ◌<◌, ◌≤◌, Bool, true, false, List, [], ◌∷◌, ◌++◌, length, take, drop, Option, Some, None, IsTrue, refl, sym, ap, ap₂, ◌∙◌, subst, arith, add-one, length-drop, slice_get, slice_index_or}
 use Rattle.std.proofs.lemmas.List.{take-append-drop}
 use Rattle.ipnet_blocks.specs.BitStrings.{begins}
 use Rattle.least_table.specs.Tables.{half_of}
@@ -12,9 +11,9 @@ use Rattle.least_table.specs.HopSets.{AreMerged}
 use Rattle.least_table.specs.InnerSteps.{step_best}
 use Rattle.least_table.specs.InnerPlans.{Plan, top, tree_of, IsMade, between, Fits}
 use Rattle.least_table.specs.InnerPlans as plans
-use Rattle.least_table.proofs.Cuts.{first_of_all}
 use Rattle.least_table.proofs.Growths.{best_of_tree, length_between, skip_plan}
 use Rattle.ipnet_blocks.proofs.BitStrings.{take_begins}
+use Rattle.least_table.proofs.Taken.{read_behind}
 use Rattle.least_table.proofs.Shares.{AllShare, none_outside, hop_inside, all_share, shared_right, shared_short, last_step, ascending_deeper, hop_at-low, hop_at-high}
 
 pub plan_same : (w : ℕ) (h g : List Bool → Option ℕ) (t : Tree) → ((x : List Bool) → h x ≡ g x) → IsPlan w g t → IsPlan w h t
@@ -29,110 +28,105 @@ fits_plan w h (Leaf k) plan = tt
 fits_plan w h (Fork hops l r) plan = (plan.0, plan.1, fits_plan plan.0 (half_of false h) l plan.3, fits_plan plan.0 (half_of true h) r plan.4)
 fits_plan w h (Skip k ds t) plan = (plan.0, plan.1, plan.2.0, fits_plan plan.0 (inner_of ds h) t plan.4)
 
+-- all pieces share what the first and the last share
+pub shares : (ps : List (List Bool × ℕ)) (x y : List Bool × ℕ) (d c : ℕ) → slice_get ps 0 ≡ Some x → slice_get ps (length ps - 1) ≡ Some y → c ≡ d + shared (drop d x.0) (drop d y.0) → IsAscending (beyond d ps) → AllShare (between d c x.0) (beyond d ps)
+shares [] x y d c e f g h = tt
+shares (p ∷ ps) x y d c e f g h = subst (λ t. AllShare t (beyond d (p ∷ ps))) (sym n) (go ps f h)
+  where
+    s : List Bool
+    s = drop d x.0
+
+    one : p ≡ x
+    one = cc
+
+    n : between d c x.0 ≡ take (shared (drop d x.0) (drop d y.0)) (drop d x.0)
+    n = let z : c - d ≡ shared (drop d x.0) (drop d y.0) = omega (arith, g) in ap (λ m. take m (drop d x.0)) z
+
+    here : begins (take (shared (drop d x.0) (drop d y.0)) (drop d x.0)) (drop d p.0) ≡ true
+    here = subst (λ q. begins (take (shared (drop d x.0) (drop d y.0)) (drop d x.0)) (drop d q.0) ≡ true) (sym one) (take_begins (shared (drop d x.0) (drop d y.0)) (drop d x.0))
+
+    go : (qs : List (List Bool × ℕ)) → slice_get (p ∷ qs) (length (p ∷ qs) - 1) ≡ Some y → IsAscending (beyond d (p ∷ qs)) → AllShare (take (shared (drop d x.0) (drop d y.0)) (drop d x.0)) (beyond d (p ∷ qs))
+    go [] f h = (here, tt)
+    go (q ∷ qs) f h = (here, all_share _ d (drop d p.0) (q ∷ qs) y h.0 h.1 (sym (last_step p q qs) ∙ f) here (shared_right (drop d x.0) (drop d y.0)))
+
+pub deeper : (first : List Bool) (ps : List (List Bool × ℕ)) (d c : ℕ) → d ≤ c → c ≤ length first → AllShare (between d c first) (beyond d ps) → IsAscending (beyond d ps) → IsAscending (beyond c ps)
+deeper first ps d c i k share h =
+    let long = length_between d c first k i in
+    let deep : d + length (between d c first) ≡ c = omega (arith, long, i) in
+    subst (λ n. IsAscending (beyond n ps)) deep (ascending_deeper (between d c first) d ps share h)
+
+-- what the pieces have in common, from the facts of the calls
+pub record Common (d n : ℕ) (x : List Bool) (ps : List (List Bool × ℕ)) : Type 0 where
+  pub deep : d ≤ n
+  pub inside : n ≤ length x
+  pub share : AllShare (between d n x) (beyond d ps)
+
+pub in_common : (ps : List (List Bool × ℕ)) (x y : List Bool × ℕ) (f i d n : ℕ) (s t : List Bool) → f < length ps → i + 1 ≡ length ps → IsAscending (beyond d (drop f ps)) → x ≡ slice_index_or ps f x → y ≡ slice_index_or ps i y
+    → d ≤ length x.0 → s ≡ x.0 → t ≡ y.0 → n ≡ d + shared (drop d s) (drop d t) → Common d n x.0 (drop f ps)
+in_common ps x y f i d n s t some last a j k l p q e =
+    let r : n ≡ d + shared (drop d x.0) (drop d y.0) = e ∙ ap₂ (λ u v. d + shared (drop d u) (drop d v)) p q in
+    record {
+      deep = omega (arith, r);
+      inside = omega (arith, r, l, shared_short (drop d x.0) (drop d y.0), length-drop d x.0);
+      share = shares (drop f ps) x y d n (read_behind ps f 0 f x (omega arith) some j)
+          (read_behind ps f (length (drop f ps) - 1) i y (omega (arith, last, some, length-drop f ps)) (omega (arith, last)) k) r a;
+    }
+
 module _ {B : Type 0} (string : B → List Bool) where
   fork_plan : (v d : ℕ) (h : List Bool → Option ℕ) (hops : List (Option ℕ)) (low high : Plan B) → AreMerged (step_best (top low)) (step_best (top high)) hops → IsPlan v (half_of false h) (tree_of string (suc d) low) → IsPlan v (half_of true h) (tree_of string (suc d) high)
       → IsPlan (suc v) h (tree_of string d (plans.Fork hops low high))
   fork_plan v d h hops low high m l r = (v, refl, rw (best_of_tree string (suc d) low, best_of_tree string (suc d) high) m, l, r)
 
-  tree_cut : (w d m : ℕ) (ps : List (B × ℕ)) (hops : List (Option ℕ)) (low high : Plan B) → d < w → AllBegin false (beyond string d (take m ps)) → AllBegin true (beyond string d (drop m ps)) → AreMerged (step_best (top low)) (step_best (top high)) hops
-      → IsPlan (w - suc d) (hop_at (beyond string (suc d) (take m ps))) (tree_of string (suc d) low) → IsPlan (w - suc d) (hop_at (beyond string (suc d) (drop m ps))) (tree_of string (suc d) high) → IsPlan (w - d) (hop_at (beyond string d ps)) (tree_of string d (plans.Fork hops low high))
+  tree_cut : (w d m : ℕ) (ps : List (List Bool × ℕ)) (hops : List (Option ℕ)) (low high : Plan B) → d < w → AllBegin false (beyond d (take m ps)) → AllBegin true (beyond d (drop m ps)) → AreMerged (step_best (top low)) (step_best (top high)) hops
+      → IsPlan (w - suc d) (hop_at (beyond (suc d) (take m ps))) (tree_of string (suc d) low) → IsPlan (w - suc d) (hop_at (beyond (suc d) (drop m ps))) (tree_of string (suc d) high) → IsPlan (w - d) (hop_at (beyond d ps)) (tree_of string d (plans.Fork hops low high))
   tree_cut w d m ps hops low high i f g merged l r =
-      subst (λ v. IsPlan v (hop_at (beyond string d ps)) (tree_of string d (plans.Fork hops low high))) more
-      (fork_plan (w - suc d) d (hop_at (beyond string d ps)) hops low high merged
+      subst (λ v. IsPlan v (hop_at (beyond d ps)) (tree_of string d (plans.Fork hops low high))) more
+      (fork_plan (w - suc d) d (hop_at (beyond d ps)) hops low high merged
       (plan_same _ _ _ (tree_of string (suc d) low) at_low l)
       (plan_same _ _ _ (tree_of string (suc d) high) at_high r))
     where
       more : suc (w - suc d) ≡ w - d
       more = omega (arith, i)
 
-      at_low : (x : List Bool) → hop_at (beyond string d ps) (false ∷ x) ≡ hop_at (beyond string (suc d) (take m ps)) x
-      at_low x = ap (λ qs. hop_at (beyond string d qs) (false ∷ x)) (sym (take-append-drop m ps)) ∙ hop_at-low string d (take m ps) (drop m ps) f g x
+      at_low : (x : List Bool) → hop_at (beyond d ps) (false ∷ x) ≡ hop_at (beyond (suc d) (take m ps)) x
+      at_low x = ap (λ qs. hop_at (beyond d qs) (false ∷ x)) (sym (take-append-drop m ps)) ∙ hop_at-low d (take m ps) (drop m ps) f g x
 
-      at_high : (x : List Bool) → hop_at (beyond string d ps) (true ∷ x) ≡ hop_at (beyond string (suc d) (drop m ps)) x
-      at_high x = ap (λ qs. hop_at (beyond string d qs) (true ∷ x)) (sym (take-append-drop m ps)) ∙ hop_at-high string d (take m ps) (drop m ps) f g x
+      at_high : (x : List Bool) → hop_at (beyond d ps) (true ∷ x) ≡ hop_at (beyond (suc d) (drop m ps)) x
+      at_high x = ap (λ qs. hop_at (beyond d qs) (true ∷ x)) (sym (take-append-drop m ps)) ∙ hop_at-high d (take m ps) (drop m ps) f g x
 
   -- the plan of the pieces, by that of the pieces beyond their common bits
-  pub skip_made : (fits : B → Bool) (w d c : ℕ) (first b : B) (ps : List (B × ℕ)) (plan : Plan B) → suc d < c → c ≤ w → c ≤ length (string first) → AllShare (between d c (string first)) (beyond string d ps)
-      → string b ≡ take c (string first) → IsTrue (fits b) → IsMade string fits w c ps plan → IsMade string fits w d ps (plans.Skip None b plan)
+  pub skip_made : (fits : B → Bool) (w d c : ℕ) (first : List Bool) (b : B) (ps : List (List Bool × ℕ)) (plan : Plan B) → suc d < c → c ≤ w → c ≤ length first → AllShare (between d c first) (beyond d ps)
+      → string b ≡ take c first → IsTrue (fits b) → IsMade string fits w c ps plan → IsMade string fits w d ps (plans.Skip None b plan)
   skip_made fits w d c first b ps plan i j k share e f inner = record {
-    plans = subst (λ v. IsPlan v (hop_at (beyond string d ps)) (tree_of string d (plans.Skip None b plan))) whole
-        (skip_plan string first b d c plan e i k (w - c) (hop_at (beyond string d ps)) (plan_same (w - c) _ (hop_at (beyond string c ps)) (tree_of string c plan) inside inner.plans)
-        (λ x l e. none_outside string ds d ps share x e));
+    plans = subst (λ v. IsPlan v (hop_at (beyond d ps)) (tree_of string d (plans.Skip None b plan))) whole
+        (skip_plan string first b d c plan e i k (w - c) (hop_at (beyond d ps)) (plan_same (w - c) _ (hop_at (beyond c ps)) (tree_of string c plan) inside inner.plans)
+        (λ x l e. none_outside ds d ps share x e));
     rising = (tt, tt);
     fit = (f, inner.fit);
   }
     where
       ds : List Bool
-      ds = between d c (string first)
+      ds = between d c first
 
-      long : length (between d c (string first)) ≡ c - d
-      long = length_between d c (string first) k (omega (arith, i))
+      long : length (between d c first) ≡ c - d
+      long = length_between d c first k (omega (arith, i))
 
-      deep : d + length (between d c (string first)) ≡ c
+      deep : d + length (between d c first) ≡ c
       deep = omega (arith, long, i)
 
-      whole : length (between d c (string first)) + (w - c) ≡ w - d
+      whole : length (between d c first) + (w - c) ≡ w - d
       whole = omega (arith, long, i, j)
 
-      inside : (x : List Bool) → hop_at (beyond string d ps) (between d c (string first) ++ x) ≡ hop_at (beyond string c ps) x
-      inside x = hop_inside string (between d c (string first)) d ps share x ∙ ap (λ n. hop_at (beyond string n ps) x) deep
+      inside : (x : List Bool) → hop_at (beyond d ps) (between d c first ++ x) ≡ hop_at (beyond c ps) x
+      inside x = hop_inside (between d c first) d ps share x ∙ ap (λ n. hop_at (beyond n ps) x) deep
 
-  -- all pieces share what the first and the last share
-  pub shares : (ps : List (B × ℕ)) (x y : B × ℕ) (d c : ℕ) → slice_get ps 0 ≡ Some x → slice_get ps (length ps - 1) ≡ Some y → c ≡ d + shared (drop d (string x.0)) (drop d (string y.0)) → IsAscending (beyond string d ps) → AllShare (between d c (string x.0)) (beyond string d ps)
-  shares [] x y d c e f g h = tt
-  shares (p ∷ ps) x y d c e f g h = subst (λ t. AllShare t (beyond string d (p ∷ ps))) (sym n) (go ps f h)
-    where
-      s : List Bool
-      s = drop d (string x.0)
-
-      one : p ≡ x
-      one = cc
-
-      n : between d c (string x.0) ≡ take (shared (drop d (string x.0)) (drop d (string y.0))) (drop d (string x.0))
-      n = let z : c - d ≡ shared (drop d (string x.0)) (drop d (string y.0)) = omega (arith, g) in ap (λ m. take m (drop d (string x.0))) z
-
-      here : begins (take (shared (drop d (string x.0)) (drop d (string y.0))) (drop d (string x.0))) (drop d (string p.0)) ≡ true
-      here = subst (λ q. begins (take (shared (drop d (string x.0)) (drop d (string y.0))) (drop d (string x.0))) (drop d (string q.0)) ≡ true) (sym one) (take_begins (shared (drop d (string x.0)) (drop d (string y.0))) (drop d (string x.0)))
-
-      go : (qs : List (B × ℕ)) → slice_get (p ∷ qs) (length (p ∷ qs) - 1) ≡ Some y → IsAscending (beyond string d (p ∷ qs)) → AllShare (take (shared (drop d (string x.0)) (drop d (string y.0))) (drop d (string x.0))) (beyond string d (p ∷ qs))
-      go [] f h = (here, tt)
-      go (q ∷ qs) f h = (here, all_share string _ d (drop d (string p.0)) (q ∷ qs) y h.0 h.1 (sym (last_step p q qs) ∙ f) here (shared_right (drop d (string x.0)) (drop d (string y.0))))
-
-  pub deeper : (first : B) (ps : List (B × ℕ)) (d c : ℕ) → d ≤ c → c ≤ length (string first) → AllShare (between d c (string first)) (beyond string d ps) → IsAscending (beyond string d ps) → IsAscending (beyond string c ps)
-  deeper first ps d c i k share h =
-      let long = length_between d c (string first) k i in
-      let deep : d + length (between d c (string first)) ≡ c = omega (arith, long, i) in
-      subst (λ n. IsAscending (beyond string n ps)) deep (ascending_deeper string (between d c (string first)) d ps share h)
-
-  last_read : (ps : List (B × ℕ)) (x y : B × ℕ) → slice_get ps 0 ≡ Some x → y ≡ slice_index_or ps (length ps - 1) y → slice_get ps (length ps - 1) ≡ Some y
-  last_read [] x y e f = cc
-  last_read (p ∷ ps) x y e f = slice_get_read (p ∷ ps) (length (p ∷ ps)) (length (p ∷ ps) - 1) y refl (omega arith) f
-
-  -- what the pieces have in common, from the facts of the calls
-  pub record Common (w d n : ℕ) (x : B) (ps : List (B × ℕ)) : Type 0 where
-    pub deep : d ≤ n
-    pub inside : n ≤ length (string x)
-    pub short : length (string x) ≤ w
-    pub share : AllShare (between d n (string x)) (beyond string d ps)
-
-  pub in_common : (fits : B → Bool) (w : ℕ) (ps : List (B × ℕ)) (x y : B × ℕ) (d n m : ℕ) (s t : List Bool) → All (λ p. IsTrue (fits p.0)) ps → IsAscending (beyond string d ps)
-      → slice_get ps 0 ≡ Some x → y ≡ slice_index_or ps (length ps - 1) y → m ≡ length (string x.0) → (IsTrue (fits x.0) → m ≤ w) → d ≤ m → s ≡ string x.0 → t ≡ string y.0 → n ≡ d + shared (drop d s) (drop d t) → Common w d n x.0 ps
-  in_common fits w ps x y d n m s t f a i j k l o p q e =
-      let r : n ≡ d + shared (drop d (string x.0)) (drop d (string y.0)) = e ∙ ap₂ (λ u v. d + shared (drop d u) (drop d v)) p q in
-      record {
-        deep = omega (arith, r);
-        inside = omega (arith, r, k, o, shared_short (drop d (string x.0)) (drop d (string y.0)), length-drop d (string x.0));
-        short = omega (arith, k, l (first_of_all string (λ p. IsTrue (fits p.0)) ps x i f));
-        share = shares ps x y d n i (last_read ps x y i j) r a;
-      }
-
-  deeper_by_one : (fits : B → Bool) (w d : ℕ) (ps qs : List (B × ℕ)) (p : Plan B) → qs ≡ ps → IsMade string fits w (d + 1) qs p → IsPlan (w - suc d) (hop_at (beyond string (suc d) ps)) (tree_of string (suc d) p)
+  deeper_by_one : (fits : B → Bool) (w d : ℕ) (ps qs : List (List Bool × ℕ)) (p : Plan B) → qs ≡ ps → IsMade string fits w (d + 1) qs p → IsPlan (w - suc d) (hop_at (beyond (suc d) ps)) (tree_of string (suc d) p)
   deeper_by_one fits w d ps qs p e m =
       let f : d + 1 ≡ suc d = add-one d in
-      subst (λ n. IsPlan (w - n) (hop_at (beyond string n ps)) (tree_of string n p)) f (subst (λ rs. IsPlan (w - (d + 1)) (hop_at (beyond string (d + 1) rs)) (tree_of string (d + 1) p)) e m.plans)
+      subst (λ n. IsPlan (w - n) (hop_at (beyond n ps)) (tree_of string n p)) f (subst (λ rs. IsPlan (w - (d + 1)) (hop_at (beyond (d + 1) rs)) (tree_of string (d + 1) p)) e m.plans)
 
   -- the plan of the pieces, by those of the halves
-  pub fork_made : (fits : B → Bool) (w d m : ℕ) (ps front back : List (B × ℕ)) (hops : List (Option ℕ)) (low high : Plan B) → d < w → AllBegin false (beyond string d (take m ps)) → AllBegin true (beyond string d (drop m ps))
+  pub fork_made : (fits : B → Bool) (w d m : ℕ) (ps front back : List (List Bool × ℕ)) (hops : List (Option ℕ)) (low high : Plan B) → d < w → AllBegin false (beyond d (take m ps)) → AllBegin true (beyond d (drop m ps))
       → AreMerged (step_best (top low)) (step_best (top high)) hops → IsRising hops → front ≡ take m ps → back ≡ drop m ps → IsMade string fits w (d + 1) front low → IsMade string fits w (d + 1) back high → IsMade string fits w d ps (plans.Fork hops low high)
   fork_made fits w d m ps front back hops low high i f g merged rises e z l r = record {
     plans = tree_cut w d m ps hops low high i f g merged (deeper_by_one fits w d (take m ps) front low e l) (deeper_by_one fits w d (drop m ps) back high z r);

@@ -18,11 +18,11 @@ drop_prefix : (d c : ℕ) (s : List Bool) → d ≤ c → drop d (take c s) ≡ 
 drop_prefix d c s m = let e : c ≡ d + (c - d) = omega arith in ap (λ n. drop d (take n s)) e ∙ drop-take d (c - d) s
 
 -- levels of one hop, two or more, above an inner block
-pub skip_plan : {B : Type 0} (string : B → List Bool) (first b : B) (d c : ℕ) (plan : Plan B) → string b ≡ take c (string first) → suc d < c → c ≤ length (string first) → (v : ℕ) (h : List Bool → Option ℕ)
-    → IsPlan v (inner_of (between d c (string first)) h) (tree_of string c plan) → OneOutside (length (between d c (string first)) + v) h (between d c (string first)) None → IsPlan (length (between d c (string first)) + v) h (tree_of string d (Skip None b plan))
+pub skip_plan : {B : Type 0} (string : B → List Bool) (first : List Bool) (b : B) (d c : ℕ) (plan : Plan B) → string b ≡ take c first → suc d < c → c ≤ length first → (v : ℕ) (h : List Bool → Option ℕ)
+    → IsPlan v (inner_of (between d c first) h) (tree_of string c plan) → OneOutside (length (between d c first) + v) h (between d c first) None → IsPlan (length (between d c first) + v) h (tree_of string d (Skip None b plan))
 skip_plan string first b d c plan e l m v h inner outside =
-    go (between d c (string first)) (drop d (string b)) (ap (drop d) e ∙ drop_prefix d c (string first) (omega (arith, l))) (length (string b)) (ap length e ∙ length-take-le c (string first) m)
-    (omega (arith, length_between d c (string first) m (omega (arith, l)), l)) inner outside
+    go (between d c first) (drop d (string b)) (ap (drop d) e ∙ drop_prefix d c first (omega (arith, l))) (length (string b)) (ap length e ∙ length-take-le c first m)
+    (omega (arith, length_between d c first m (omega (arith, l)), l)) inner outside
   where
     go : (ds es : List Bool) → es ≡ ds → (n : ℕ) → n ≡ c → 1 < length ds → IsPlan v (inner_of ds h) (tree_of string c plan) → OneOutside (length ds + v) h ds None → IsPlan (length ds + v) h (trees.Skip None es (tree_of string n plan))
     go ds es e n f long i o = rw (e, f) ((v, refl, (omega (arith, long), inr long), o, i))

@@ -17,3 +17,4 @@ pub mod Disjoint
 pub mod PathBits
 pub mod BlockSets
 pub mod Packed
+pub mod Taken

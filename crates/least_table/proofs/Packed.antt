@@ -46,22 +46,22 @@ pub keeps_same : (sets new : List (List (Option ℕ))) → new ≡ sets → Keep
 keeps_same sets new e = subst (KeepsSets sets) (sym e) (λ at h. (h, refl))
 
 -- one step is appended, after what it names
-pub grown : {B : Type 0} (old new : Steps B) (p : Packed) (x : Step B) (also : List B) → new.steps ≡ old.steps ++ p ∷ [] → KeepsSets old.sets new.sets → new.inner.items ≡ old.inner.items ++ also
-    → AreWhole old → IsKept new.sets (length (old.inner.items ++ also)) p → step_of new.sets (old.inner.items ++ also) p ≡ x → Grows old new (x ∷ [])
+pub grown : {B : Type 0} (old new : Steps B) (p : Packed) (x : Step B) (also : List B) → new.steps ≡ old.steps ++ p ∷ [] → KeepsSets old.sets new.sets → new.inner ≡ old.inner ++ also
+    → AreWhole old → IsKept new.sets (length (old.inner ++ also)) p → step_of new.sets (old.inner ++ also) p ≡ x → Grows old new (x ∷ [])
 grown old new p x also e keeps g h kept is = record {
-  steps = ap (λ ys. map (step_of new.sets new.inner.items) ys) e ∙ ap (λ bs. map (step_of new.sets bs) (old.steps ++ p ∷ [])) g
-      ∙ map-append (step_of new.sets (old.inner.items ++ also)) old.steps (p ∷ [])
-      ∙ ap₂ (λ ys y. ys ++ y ∷ []) (steps_front old.sets new.sets keeps old.inner.items also old.steps h) is;
-  whole = subst (λ ys. AreKept new.sets (length new.inner.items) ys) (sym e)
-      (subst (λ bs. AreKept new.sets (length bs) (old.steps ++ p ∷ [])) (sym g) (all_front old.sets new.sets keeps old.inner.items also old.steps (p ∷ []) h (kept, tt)));
+  steps = ap (λ ys. map (step_of new.sets new.inner) ys) e ∙ ap (λ bs. map (step_of new.sets bs) (old.steps ++ p ∷ [])) g
+      ∙ map-append (step_of new.sets (old.inner ++ also)) old.steps (p ∷ [])
+      ∙ ap₂ (λ ys y. ys ++ y ∷ []) (steps_front old.sets new.sets keeps old.inner also old.steps h) is;
+  whole = subst (λ ys. AreKept new.sets (length new.inner) ys) (sym e)
+      (subst (λ bs. AreKept new.sets (length bs) (old.steps ++ p ∷ [])) (sym g) (all_front old.sets new.sets keeps old.inner also old.steps (p ∷ []) h (kept, tt)));
 }
 
 -- one that names nothing new
-pub grown_by : {B : Type 0} (old new : Steps B) (p : Packed) → new.steps ≡ old.steps ++ p ∷ [] → new.sets ≡ old.sets → new.inner.items ≡ old.inner.items
-    → AreWhole old → IsKept old.sets (length old.inner.items) p → Grows old new (step_of old.sets old.inner.items p ∷ [])
+pub grown_by : {B : Type 0} (old new : Steps B) (p : Packed) → new.steps ≡ old.steps ++ p ∷ [] → new.sets ≡ old.sets → new.inner ≡ old.inner
+    → AreWhole old → IsKept old.sets (length old.inner) p → Grows old new (step_of old.sets old.inner p ∷ [])
 grown_by old new p e f g h kept =
-    grown old new p (step_of old.sets old.inner.items p) [] e (keeps_same old.sets new.sets f) (g ∙ sym (append-nil old.inner.items)) h
-    (rw (append-nil old.inner.items, f) kept) (rw (append-nil old.inner.items, f) refl)
+    grown old new p (step_of old.sets old.inner p) [] e (keeps_same old.sets new.sets f) (g ∙ sym (append-nil old.inner)) h
+    (rw (append-nil old.inner, f) kept) (rw (append-nil old.inner, f) refl)
 
 -- and then others
 pub grown_more : {B : Type 0} {old mid new : Steps B} {xs ys : List (Step B)} → Grows old mid xs → Grows mid new ys → Grows old new (xs ++ ys)
@@ -73,13 +73,13 @@ grown_more {B} {old} {mid} {new} {xs} {ys} g h = record {
 -- ---- the last step is taken off
 
 module _ {B : Type 0} (left : Steps B) (rest : List Packed) (x : Packed) (e : left.steps ≡ rest ++ x ∷ []) where
-  pub popped : steps_in left ≡ map (step_of left.sets left.inner.items) rest ++ step_of left.sets left.inner.items x ∷ []
-  popped = ap (λ ys. map (step_of left.sets left.inner.items) ys) e ∙ map-append (step_of left.sets left.inner.items) rest (x ∷ [])
+  pub popped : steps_in left ≡ map (step_of left.sets left.inner) rest ++ step_of left.sets left.inner x ∷ []
+  popped = ap (λ ys. map (step_of left.sets left.inner) ys) e ∙ map-append (step_of left.sets left.inner) rest (x ∷ [])
 
-  pub kept_popped : AreWhole left → AreKept left.sets (length left.inner.items) rest × IsKept left.sets (length left.inner.items) x
-  kept_popped h = go rest (subst (λ ys. AreKept left.sets (length left.inner.items) ys) e h)
+  pub kept_popped : AreWhole left → AreKept left.sets (length left.inner) rest × IsKept left.sets (length left.inner) x
+  kept_popped h = go rest (subst (λ ys. AreKept left.sets (length left.inner) ys) e h)
     where
-      go : (ys : List Packed) → AreKept left.sets (length left.inner.items) (ys ++ x ∷ []) → AreKept left.sets (length left.inner.items) ys × IsKept left.sets (length left.inner.items) x
+      go : (ys : List Packed) → AreKept left.sets (length left.inner) (ys ++ x ∷ []) → AreKept left.sets (length left.inner) ys × IsKept left.sets (length left.inner) x
       go [] h = (tt, h.0)
       go (y ∷ ys) h = let r = go ys h.1 in ((h.0, r.0), r.1)
 
@@ -90,13 +90,13 @@ kept_at sets n (x ∷ xs) (suc i) d l h = kept_at sets n xs i d (omega (arith, l
 
 module _ {B : Type 0} (s : Steps B) (at : ℕ) (x : Packed) (within : at < length (steps_in s)) (e : x ≡ slice_index_or s.steps at x) where
   inside : at < length s.steps
-  inside = omega (arith, within, length-map s.steps (step_of s.sets s.inner.items))
+  inside = omega (arith, within, length-map s.steps (step_of s.sets s.inner))
 
-  pub kept_read : AreWhole s → IsKept s.sets (length s.inner.items) x
-  kept_read h = subst (λ y. IsKept s.sets (length s.inner.items) y) (sym e) (kept_at s.sets (length s.inner.items) s.steps at x inside h)
+  pub kept_read : AreWhole s → IsKept s.sets (length s.inner) x
+  kept_read h = subst (λ y. IsKept s.sets (length s.inner) y) (sym e) (kept_at s.sets (length s.inner) s.steps at x inside h)
 
-  pub best_read : (hops : List (Option ℕ)) → hops ≡ step_best (step_of s.sets s.inner.items x) → hops ≡ best_at s at
-  best_read hops f = f ∙ ap (λ y. step_best (step_of s.sets s.inner.items y)) e ∙ ap step_best (sym (get_or-map (step_of s.sets s.inner.items) s.steps at x (steps.Leaf None) inside))
+  pub best_read : (hops : List (Option ℕ)) → hops ≡ step_best (step_of s.sets s.inner x) → hops ≡ best_at s at
+  best_read hops f = f ∙ ap (λ y. step_best (step_of s.sets s.inner y)) e ∙ ap step_best (sym (get_or-map (step_of s.sets s.inner) s.steps at x (steps.Leaf None) inside))
 
 pub inner_here : {B : Type 0} (inner : List B) (b : B) → slice_get (inner ++ b ∷ []) (length inner) ≡ Some b
 inner_here inner b = slice_get_read (inner ++ b ∷ []) (length (inner ++ b ∷ [])) (length inner) b refl (omega (arith, length-append inner (b ∷ []))) (sym (get_or-append_seam inner b [] b))

@@ -39,10 +39,10 @@ AreKept sets n [] = ⊤
 AreKept sets n (x ∷ xs) = IsKept sets n x × AreKept sets n xs
 
 abbrev pub AreWhole : {B : Type 0} → Steps B → Type 0
-AreWhole s = AreKept s.sets (length s.inner.items) s.steps
+AreWhole s = AreKept s.sets (length s.inner) s.steps
 
 abbrev pub steps_in : {B : Type 0} → Steps B → List (Step B)
-steps_in s = map (step_of s.sets s.inner.items) s.steps
+steps_in s = map (step_of s.sets s.inner) s.steps
 
 -- the hops that the block of the step at a place is best handed
 abbrev pub best_at : {B : Type 0} → Steps B → ℕ → List (Option ℕ)

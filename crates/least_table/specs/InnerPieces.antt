@@ -22,8 +22,8 @@ IsAscending [] = ⊤
 IsAscending (p ∷ ps) = BeforeAll p.0 ps × IsAscending ps
 
 -- the pieces, their first n bits left out
-abbrev pub beyond : {B : Type 0} → (B → List Bool) → ℕ → List (B × ℕ) → List (List Bool × ℕ)
-beyond string n ps = map (λ p. (drop n (string p.0), p.1)) ps
+abbrev pub beyond : ℕ → List (List Bool × ℕ) → List (List Bool × ℕ)
+beyond n ps = map (λ p. (drop n p.0, p.1)) ps
 
 -- every piece begins with the bit b
 abbrev pub AllBegin : Bool → List (List Bool × ℕ) → Type 0

@@ -51,13 +51,13 @@ Fits w (trees.Fork hops l r) = (v : ℕ) × (w ≡ suc v) × Fits v l × Fits v 
 Fits w (trees.Skip k ds t) = (v : ℕ) × (w ≡ length ds + v) × (0 < length ds) × Fits v t
 
 -- p is a plan of a block of d bits for the pieces in it
-pub record IsMade {B : Type 0} (string : B → List Bool) (fits : B → Bool) (w d : ℕ) (ps : List (B × ℕ)) (p : Plan B) : Type 0 where
-  pub plans : IsPlan (w - d) (hop_at (beyond string d ps)) (tree_of string d p)
+pub record IsMade {B : Type 0} (string : B → List Bool) (fits : B → Bool) (w d : ℕ) (ps : List (List Bool × ℕ)) (p : Plan B) : Type 0 where
+  pub plans : IsPlan (w - d) (hop_at (beyond d ps)) (tree_of string d p)
   pub rising : IsRising (step_best (top p))
   pub fit : AllFit fits p
 
 -- the new steps are the old ones, and then those of a plan of a block of d bits for the pieces in it
-pub record IsPlanned {B : Type 0} (string : B → List Bool) (fits : B → Bool) (w d : ℕ) (ps : List (B × ℕ)) (old new : Steps B) : Type 0 where
+pub record IsPlanned {B : Type 0} (string : B → List Bool) (fits : B → Bool) (w d : ℕ) (ps : List (List Bool × ℕ)) (old new : Steps B) : Type 0 where
   pub plan : Plan B
   pub made : IsMade string fits w d ps plan
   pub adds : Grows old new (steps_of plan)

@@ -11,4 +11,4 @@ module _ {X : Type 0} where
 
   -- each block has as many items as a block has
   abbrev pub AreFull : List (Vec X Global) → Type 0
-  AreFull blocks = All (λ b. length b.items ≡ 4096) blocks
+  AreFull blocks = All (λ b. length b.items ≡ 1024) blocks

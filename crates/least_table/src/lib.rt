@@ -6,8 +6,10 @@ mod fewest;
 mod hops;
 mod kept_sets;
 pub mod laws;
+mod piece;
 mod plan;
 mod stack;
 
 pub use fewest::least;
+pub use piece::Piece;
 pub use stack::Stack;

@@ -63,7 +63,7 @@ pub(crate) struct Steps<P: Copy> {
     /// The sets of several hops.
     sets: KeptSets,
     /// The smaller blocks of steps that skip levels.
-    inner: Vec<P>,
+    inner: Stack<P>,
 }
 
 impl<P: Prefix + Copy> Steps<P> {
@@ -75,7 +75,7 @@ impl<P: Prefix + Copy> Steps<P> {
         Steps {
             steps: Stack::new(alloc),
             sets: KeptSets::new(alloc),
-            inner: Vec::new(alloc),
+            inner: Stack::new(alloc),
         }
     }
 
@@ -89,8 +89,8 @@ impl<P: Prefix + Copy> Steps<P> {
     /// Appends a step.
     fn push(&mut self, step: Packed) -> Result<(), AllocError>
         requires whole { AreWhole self.old }
-        requires kept { IsKept self.old.sets (length self.old.inner.items) step }
-        ensures { OnOk result (Grows self.old self.new (step_of self.old.sets self.old.inner.items step ∷ [])) }
+        requires kept { IsKept self.old.sets (length self.old.inner) step }
+        ensures { OnOk result (Grows self.old self.new (step_of self.old.sets self.old.inner step ∷ [])) }
     {
         self.steps.push(step)
     }
@@ -141,8 +141,8 @@ impl<P: Prefix + Copy> Steps<P> {
 
     /// The hops that the block of a step is best handed.
     fn best(&self, step: Packed) -> Best<'_>
-        requires { IsKept self.now.sets (length self.now.inner.items) step }
-        ensures { hops_in result ≡ step_best (step_of self.now.sets self.now.inner.items step) }
+        requires { IsKept self.now.sets (length self.now.inner) step }
+        ensures { hops_in result ≡ step_best (step_of self.now.sets self.now.inner step) }
     {
         match step {
             Packed::Leaf(hop) | Packed::One(hop) => Best::One(Some(hop)),
@@ -190,11 +190,11 @@ impl<P: Prefix + Copy> Steps<P> {
         table: &mut Stack<(P, Option<u32>)>,
     ) -> Result<(), AllocError>
         requires width { P.R.width ≤ 128 }
-        requires kept { IsKept self.now.sets (length self.now.inner.items) step }
-        requires room { HasRoom P.bits P.fits P.R.width (step_of self.now.sets self.now.inner.items step) path.now }
-        ensures routes { OnOk result (strings P.bits table.new ≡ strings P.bits table.old ++ step_routes (step_of self.now.sets self.now.inner.items step) (path.now, handed)) }
+        requires kept { IsKept self.now.sets (length self.now.inner) step }
+        requires room { HasRoom P.bits P.fits P.R.width (step_of self.now.sets self.now.inner step) path.now }
+        ensures routes { OnOk result (strings P.bits table.new ≡ strings P.bits table.old ++ step_routes (step_of self.now.sets self.now.inner step) (path.now, handed)) }
         ensures networks { OnOk result (AreNetworks P.fits P.of_bits P.bits table.old → AreNetworks P.fits P.of_bits P.bits table.new) }
-        ensures waiting { OnOk result (reverse waiting.new.items ≡ step_blocks P.bits (step_of self.now.sets self.now.inner.items step) (path.now, handed) ++ reverse waiting.old.items) }
+        ensures waiting { OnOk result (reverse waiting.new.items ≡ step_blocks P.bits (step_of self.now.sets self.now.inner step) (path.now, handed) ++ reverse waiting.old.items) }
     {
         let best = self.best(step);
         let passed = hand_down(best.as_slice(), path, handed, table)?;
@@ -205,7 +205,7 @@ impl<P: Prefix + Copy> Steps<P> {
                 waiting.push((path.extended(false), passed))?;
             }
             Packed::Skip(at) => {
-                let inner = path_of(&self.inner[at as usize]);
+                let inner = path_of(self.inner.get(at as usize));
                 waiting.push((onto(path, &inner), passed))?;
             }
         }

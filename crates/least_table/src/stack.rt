@@ -5,8 +5,9 @@ use std::alloc::{AllocError, Global};
 use std::marker::Model;
 use std::mem;
 
-/// How many items a block has.
-const SIZE: usize = 4096;
+/// How many items a block has. The system's allocator takes blocks of 128 kB and more from the system, each apart from all others, and
+/// an item may take 48 bytes.
+const SIZE: usize = 1024;
 
 /// The most blocks but the last one, so that the items can be counted.
 const MOST: usize = 1 << 32;
@@ -29,7 +30,7 @@ impl<X> Model for Stack<X> {
 
     ghost view = { λ a. joined a.full.items ++ a.last.items };
 
-    ghost invariant = { λ a. AreFull a.full.items × (length a.full.items ≤ 2 ^ 32) × (length a.last.items ≤ 4096) };
+    ghost invariant = { λ a. AreFull a.full.items × (length a.full.items ≤ 2 ^ 32) × (length a.last.items ≤ 1024) };
 }
 
 impl<X> Stack<X> {

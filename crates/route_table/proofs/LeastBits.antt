@@ -235,10 +235,6 @@ module _ (f : Family) {K : Type 0} (bits_in : K → List Bool) (of_bits : List B
 
 -- ---- both families
 
--- pieces with the hops of a family's addresses have those of any table with these hops there
-pub on_family : (f : Family) (h k : Address → Option ℕ) (ps : List (List Bool × ℕ)) → ArePieces f h ps → ((x : Address) → x.family ≡ f → h x ≡ k x) → ArePieces f k ps
-on_family f h k ps pieces same = record { disjoint = pieces.disjoint; same = λ s e. pieces.same s e ∙ same (address_at f s) refl }
-
 -- routes of one family that are a least table there
 family_routes : (f : Family) (rs : List (IpNet × Hop)) → All (λ r. family r.0 ≡ f) rs → AllOf f (routes_for rs)
 family_routes f rs all q i =

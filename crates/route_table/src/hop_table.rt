@@ -1,23 +1,21 @@
 //! A table with one route a network.
 ghost use Rattle.std.specs.Prelude.{◌≡◌, [], IfErr, IfOk, OnErr, OnOk};
-ghost use Rattle.ipnet_addr.specs.Addresses.{Address, Ipv4, Ipv6};
 ghost use Rattle.ipnet_blocks.specs.Blocks.{IsBlock};
 ghost use Rattle.ipnet.specs.IpNets.{block};
 ghost use Rattle.prefix_trie.specs.declared.refused.Refused.TheVariants.{Memory};
 ghost use Rattle.route_choices.specs.Choices.{default_preference};
 ghost use Rattle.route_laws.specs.LeastTables.{routes_for};
 ghost use Rattle.route_laws.specs.Networks.{IsStoredTable, choices_at, routes_of};
-ghost use Rattle.route_laws.specs.Tables.{IsTable, hop_at, route_of, routes_inside, with_route};
+ghost use Rattle.route_laws.specs.Tables.{IsTable, route_of, routes_inside, with_route};
 ghost use Rattle.route_table.specs.Given.{AreRoutes, IsEmptied, IsFlatOf};
 
 use crate::flat::Flat;
 use crate::routes::Routes;
-use crate::side::Side;
 use crate::table::{Table, cleared};
 use ipnet::IpNet;
 use prefix_trie::Refused;
 use route_choices::{DEFAULT_PREFERENCE, Hop};
-use std::alloc::Global;
+use std::alloc::{AllocError, Global};
 
 /// A hop for each of some networks of both families, as a follower keeps them. A network takes less than a quarter of
 /// the memory that it takes in a `RouteTable`, which has room for eight routes of it.
@@ -89,26 +87,20 @@ impl HopTable {
         Flat::new(v4, v6)
     }
 
-    /// A table of its networks of IPv4, and one of those of IPv6.
+    /// The flat list of its hops. The memory of each part of the table is given back once it is walked.
     ///
     /// # Errors
-    /// None, as of `new`.
-    pub(crate) fn by_family(self) -> Result<(HopTable, HopTable), Refused>
-        ensures ipv4 { IfOk result (λ r. (x : Address) → x.family ≡ Ipv4 → hop_at (routes_of r.0) x ≡ hop_at (routes_of self) x) }
-        ensures ipv6 { IfOk result (λ r. (x : Address) → x.family ≡ Ipv6 → hop_at (routes_of r.1) x ≡ hop_at (routes_of self) x) }
-        ensures memory { IfErr result (λ e. e ≡ Memory) }
+    /// Where there is no memory for the walk.
+    pub(crate) fn into_flat<'a>(self) -> Result<Flat<'a>, AllocError>
+        ensures { IfOk result (λ flat. IsFlatOf (routes_of self) flat) }
     {
-        let HopTable { v4, v6, alloc } = self;
-        let ipv4 = HopTable {
-            v4,
-            v6: Side::new(alloc)?,
+        let HopTable {
+            v4: ipv4,
+            v6: ipv6,
             alloc,
-        };
-        let ipv6 = HopTable {
-            v4: Side::new(alloc)?,
-            v6,
-            alloc,
-        };
-        Ok((ipv4, ipv6))
+        } = self;
+        let ipv4 = Routes::v4(ipv4.into_routes(alloc)?);
+        let ipv6 = Routes::v6(ipv6.into_routes(alloc)?);
+        Ok(Flat::new(ipv4, ipv6))
     }
 }

@@ -2,10 +2,9 @@
 ghost use Rattle.std.specs.Prelude.{◌≡◌, ◌++◌, ℕ, All, IfErr, IfOk, Option};
 ghost use Rattle.std.specs.Iterator.{YieldsFirst, item_count};
 ghost use Rattle.ipnet_addr.specs.Addresses.{Address, Ipv4, Ipv6};
-ghost use Rattle.ipnet_blocks.specs.Blocks.{bit_string};
-ghost use Rattle.ipnet_blocks.specs.Networks.{IsTruncated, block_of};
+ghost use Rattle.ipnet_blocks.specs.Networks.{IsTruncated};
 ghost use Rattle.ipnet.specs.IpNets.{family, parts};
-ghost use Rattle.least_table.specs.Pieces.{AreDisjoint, strings};
+ghost use Rattle.least_table.specs.Pieces.{AreDisjoint};
 ghost use Rattle.prefix_trie.specs.declared.refused.Refused.TheVariants.{Memory};
 ghost use Rattle.route_choices.specs.Hops.{IsHop, hop_from};
 ghost use Rattle.route_table.specs.InnerLeast.{AreLeast, ArePieces, items_of};
@@ -19,7 +18,7 @@ use crate::flat::Flat;
 use crate::hop_table::HopTable;
 use crate::table::RouteTable;
 use ipnet::{IpNet, Ipv4Net, Ipv6Net};
-use least_table::{Stack, least};
+use least_table::{Piece, Stack, least};
 use prefix_trie::Refused;
 use route_choices::Hop;
 use std::alloc::{AllocError, Global};
@@ -39,10 +38,10 @@ fn hop_of(number: Option<u32>) -> Hop
 /// The routes of a least table of one family that has the hops of these pieces.
 fn fewest<P: OfFamily>(
     alloc: Global,
-    pieces: Vec<(P, u32)>,
+    pieces: Stack<Piece<P>>,
 ) -> Result<Stack<(P, Option<u32>)>, AllocError>
-    requires { AreDisjoint (strings P.bits pieces.items) }
-    ensures { IfOk result (λ table. AreLeast P.family (strings P.bits pieces.items) (items_of P.family P.parts table)) }
+    requires { AreDisjoint pieces }
+    ensures { IfOk result (λ table. AreLeast P.family pieces (items_of P.family P.parts table)) }
 {
     least(alloc, pieces)
 }
@@ -148,30 +147,42 @@ impl Iterator for LeastRoutes {
 fn pieces(
     alloc: Global,
     flat: Flat<'_>,
-) -> Result<(Vec<(Ipv4Net, u32)>, Vec<(Ipv6Net, u32)>), AllocError>
-    ensures ipv4 { IfOk result (λ p. (h : Address → Option ℕ) → IsFlat h flat.entry → ArePieces Ipv4 h (strings (λ n. bit_string (block_of Ipv4 n)) p.0.items)) }
-    ensures ipv6 { IfOk result (λ p. (h : Address → Option ℕ) → IsFlat h flat.entry → ArePieces Ipv6 h (strings (λ n. bit_string (block_of Ipv6 n)) p.1.items)) }
+) -> Result<(Stack<Piece<Ipv4Net>>, Stack<Piece<Ipv6Net>>), AllocError>
+    ensures ipv4 { IfOk result (λ p. (h : Address → Option ℕ) → IsFlat h flat.entry → ArePieces Ipv4 h p.0) }
+    ensures ipv6 { IfOk result (λ p. (h : Address → Option ℕ) → IsFlat h flat.entry → ArePieces Ipv6 h p.1) }
 {
-    let mut v4 = Vec::new(alloc);
-    let mut v6 = Vec::new(alloc);
+    let mut v4 = Stack::new(alloc);
+    let mut v6 = Stack::new(alloc);
     for (net, number) in flat {
         match net {
-            IpNet::V4(net) => v4.push((net, number))?,
-            IpNet::V6(net) => v6.push((net, number))?,
+            IpNet::V4(net) => v4.push(Piece::new(&net, number))?,
+            IpNet::V6(net) => v6.push(Piece::new(&net, number))?,
         }
     }
     Ok((v4, v6))
 }
 
 /// The routes of a least table with the hops of this flat list.
+fn least_routes(alloc: Global, flat: Flat<'_>) -> Result<LeastRoutes, Refused>
+    requires { (h : Address → Option ℕ) × IsFlat h flat }
+    ensures least { IfOk result (λ routes. (h : Address → Option ℕ) → IsFlat h flat.entry → IsLeast h (routes_for routes)) }
+    ensures truncated { IfOk result (λ routes. All (λ r. IsTruncated (family r.0) (parts r.0)) routes) }
+    ensures memory { IfErr result (λ e. e ≡ Memory) }
+{
+    let (v4, v6) = pieces(alloc, flat)?;
+    let ipv4 = fewest(alloc, v4)?;
+    let ipv6 = fewest(alloc, v6)?;
+    Ok(LeastRoutes::new(ipv4, ipv6))
+}
+
+/// The same as a list.
 fn least_of(alloc: Global, flat: Flat<'_>) -> Result<Vec<(IpNet, Hop)>, Refused>
     requires { (h : Address → Option ℕ) × IsFlat h flat }
     ensures least { IfOk result (λ routes. (h : Address → Option ℕ) → IsFlat h flat.entry → IsLeast h (routes_for routes.items)) }
     ensures truncated { IfOk result (λ routes. All (λ r. IsTruncated (family r.0) (parts r.0)) routes.items) }
     ensures memory { IfErr result (λ e. e ≡ Memory) }
 {
-    let (v4, v6) = pieces(alloc, flat)?;
-    let routes = LeastRoutes::new(fewest(alloc, v4)?, fewest(alloc, v6)?);
+    let routes = least_routes(alloc, flat)?;
     Ok(routes.list(alloc)?)
 }
 
@@ -215,7 +226,7 @@ impl HopTable {
     }
 
     /// The routes of a table with the same hop at every address and the fewest routes of all tables that have it,
-    /// as `least` gives them. The table's own memory is given back, that of each family before most of what that family takes.
+    /// as `least` gives them. The table's own memory is given back on the way.
     ///
     /// # Errors
     /// `Memory` where there is none for the routes, or on the way to them.
@@ -225,12 +236,7 @@ impl HopTable {
         ensures memory { IfErr result (λ e. e ≡ Memory) }
     {
         let alloc = self.alloc();
-        let (table_v4, table_v6) = self.by_family()?;
-        let (_, v6) = pieces(alloc, table_v6.flat())?;
-        drop(table_v6);
-        let v6 = fewest(alloc, v6)?;
-        let (v4, _) = pieces(alloc, table_v4.flat())?;
-        drop(table_v4);
-        Ok(LeastRoutes::new(fewest(alloc, v4)?, v6))
+        let flat = self.into_flat()?;
+        least_routes(alloc, flat)
     }
 }

@@ -20,7 +20,7 @@ use crate::side_routes::{Entries, SideRoutes};
 use ipnet::IpNet;
 use prefix_trie::{PrefixMap, Refused};
 use route_choices::{All, Choices, Hop, TooMany};
-use std::alloc::Global;
+use std::alloc::{AllocError, Global};
 use std::marker::Model;
 
 /// The hops of a change before and after it, where there was one.
@@ -294,5 +294,16 @@ impl<P: OfFamily> Side<P, 1> {
         ensures { result ≡ routes_inside (routes_of self.now) (block_of P.family (P.parts net)) }
     {
         SideRoutes::new(Entries::Hops(self.networks.children(&net)))
+    }
+
+    /// The routes of all networks. The memory of each part of the trie is given back once it is walked.
+    ///
+    /// # Errors
+    /// Where there is no memory for the walk.
+    pub(crate) fn into_routes<'a>(self, alloc: Global) -> Result<SideRoutes<'a, P>, AllocError>
+        ensures { IfOk result (λ r. r ≡ routes_of self) }
+    {
+        let walk = Box::new(alloc, self.networks.into_iter())?;
+        Ok(SideRoutes::new(Entries::Owned(walk)))
     }
 }

@@ -2,43 +2,58 @@
 ghost use Rattle.std.specs.Prelude.{◌≡◌, List, map};
 ghost use Rattle.std.specs.Iterator.{item_count};
 ghost use Rattle.ipnet_addr.specs.Addresses.{width};
-ghost use Rattle.prefix_trie.specs.Iterators.{GivesOwned};
-ghost use Rattle.route_table.specs.InnerEntries.{KeysUpTo, entries_left};
+ghost use Rattle.route_choices.specs.Choices.{best_hop, best_preference};
+ghost use Rattle.route_table.specs.InnerEntries.{GivesBest, KeysUpTo, entries_left};
 ghost use Rattle.route_table.specs.Items.{GivesRoute};
 ghost use Rattle.route_table.specs.InnerSides.{route_at};
 
 use crate::family::OfFamily;
 use ipnet::IpNet;
 use prefix_trie::Prefix;
-use prefix_trie::map::{Cover, Iter};
-use route_choices::{All, Choices, Hop};
+use prefix_trie::map::{Cover, IntoIter, Iter};
+use route_choices::{Choices, Hop};
 use std::marker::Model;
 
-/// The entries of one side's trie that are left of a walk, or of the way to a network; `Hops` where a network has room
-/// for one route.
+/// The entries of one side's trie that are left of a walk, or of the way to a network; `Hops` and `Owned` where a
+/// network has room for one route. A walk that owns its entries is a large thing, which few tables are walked by.
 #[derive(Drop)]
 pub(crate) enum Entries<'a, P: Prefix> {
     Walk(Iter<'a, P, Choices<8>>),
     Cover(Cover<'a, P, Choices<8>>),
     Hops(Iter<'a, P, Choices<1>>),
+    Owned(Box<IntoIter<P, Choices<1>>>),
 }
 
-/// An entry with the list of its routes.
-fn listed<'a, P, const CAPACITY: usize>(found: (P, &'a Choices<CAPACITY>)) -> (P, All<'a>)
-    ensures { result ≡ (found.entry.0, found.entry.1.now) }
+/// A network with its best route.
+fn best<P, const CAPACITY: usize>(net: P, choices: &Choices<CAPACITY>) -> (P, Hop, u16)
+    ensures { result ≡ (net, best_hop choices.now, best_preference choices.now) }
 {
-    (found.0, found.1.all())
+    let (hop, pref) = choices.best();
+    (net, hop, pref)
 }
 
 impl<'a, P: Prefix> Entries<'a, P> {
-    /// The next entry.
-    fn next(&mut self) -> Option<(P, All<'a>)>
-        ensures { GivesOwned P.fits P.bits P.of_bits (entries_left self.old) result (entries_left self.new) }
+    /// The network of the next entry, and its best route.
+    fn next(&mut self) -> Option<(P, Hop, u16)>
+        ensures { GivesBest P.fits P.bits P.of_bits (entries_left self.old) result (entries_left self.new) }
     {
         match self {
-            Entries::Walk(entries) => Some(listed(entries.next()?)),
-            Entries::Cover(entries) => Some(listed(entries.next()?)),
-            Entries::Hops(entries) => Some(listed(entries.next()?)),
+            Entries::Walk(entries) => {
+                let (net, choices) = entries.next()?;
+                Some(best(net, choices))
+            }
+            Entries::Cover(entries) => {
+                let (net, choices) = entries.next()?;
+                Some(best(net, choices))
+            }
+            Entries::Hops(entries) => {
+                let (net, choices) = entries.next()?;
+                Some(best(net, choices))
+            }
+            Entries::Owned(entries) => {
+                let (net, choices) = entries.next()?;
+                Some(best(net, &choices))
+            }
         }
     }
 }
@@ -80,8 +95,7 @@ impl<'a, P: OfFamily> Iterator for SideRoutes<'a, P> {
     ghost remaining = { item_count (λ rs. rs) };
 
     fn next(&mut self) -> Option<(IpNet, Hop, u16)> {
-        let (net, choices) = self.entries.next()?;
-        let (hop, pref) = choices.best();
+        let (net, hop, pref) = self.entries.next()?;
         Some((net.ip_net(), hop, pref))
     }
 }

@@ -8,5 +8,6 @@ mod maps;
 mod rows;
 mod scripts;
 mod set_steps;
+mod short_lists;
 mod steps;
 mod walks;

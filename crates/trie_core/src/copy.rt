@@ -1,16 +1,20 @@
 //! A second node with the same entries.
 ghost use Rattle.std.specs.Prelude.{◌≡◌, IfOk};
+ghost use Rattle.short_vec.specs.Lists.{short_items};
 
 use crate::node::Node;
+use short_vec::ShortVec;
 use std::alloc::{AllocError, Global};
 
 /// Clones of the items, in their order.
-fn cloned<X: Clone>(alloc: Global, items: &[X]) -> Result<Vec<X>, AllocError>
+fn cloned<X: Clone>(alloc: Global, items: &[X]) -> Result<ShortVec<X>, AllocError>
     requires { (x y : X) → X.is_clone x y → y ≡ x }
-    ensures { IfOk result (λ v. v.items ≡ items.now) }
+    ensures { IfOk result (λ v. short_items v ≡ items.now) }
 {
-    let mut clones = Vec::with_capacity(alloc, items.len())?;
-    clones.extend_with_clones(items)?;
+    let mut clones = ShortVec::with_capacity(alloc, items.len())?;
+    for item in items {
+        clones.push(item.clone()?)?;
+    }
     Ok(clones)
 }
 
@@ -24,8 +28,8 @@ impl<T: Clone> Node<T> {
         ensures { IfOk result (λ n. n ≡ self.now) }
     {
         let values = cloned(alloc, self.values.as_slice())?;
-        let mut children = Vec::with_capacity(alloc, self.children.len())?;
-        for child in &self.children {
+        let mut children = ShortVec::with_capacity(alloc, self.children.len())?;
+        for child in self.children.as_slice() {
             children.push(child.try_clone(alloc)?)?;
         }
         Ok(Node {

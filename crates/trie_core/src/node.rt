@@ -16,16 +16,17 @@ use crate::slots::{
     first_place, get_at, last_place, put_at, reserve_some, slot, take_at, taken_below,
 };
 use crate::tables::{bit, place_length, places_between};
+use short_vec::ShortVec;
 use std::alloc::Global;
 use std::marker::Model;
 
 /// A finite map from bit strings to values, and the bit strings at which spare nodes stand, which lead to no entry.
 #[derive(Drop)]
 pub struct Node<T> {
-    pub(crate) children: Vec<Node<T>>,
+    pub(crate) children: ShortVec<Node<T>>,
     pub(crate) child_bits: u32,
     pub(crate) value_bits: u32,
-    pub(crate) values: Vec<T>,
+    pub(crate) values: ShortVec<T>,
 }
 
 impl<T> Model for Node<T> {
@@ -36,18 +37,19 @@ impl<T> Model for Node<T> {
     ghost use Rattle.trie_core.specs.InnerNodes.{node_map, node_height, HasSlots};
     ghost use Rattle.trie_core.specs.InnerHeights.{most_le-node_height};
     ghost use Rattle.trie_core.specs.InnerCount.{spare_set};
+    ghost use Rattle.short_vec.specs.Lists.{short_items};
 
     ghost Value = { Seen T };
 
     ghost coded = { code T.code };
 
-    ghost view = { λ a. record { entries = node_map (value_list a.value_bits a.values.items) (child_list a.child_bits a.children.items); spares = spare_set (child_list a.child_bits a.children.items); levels = node_height a.children.items + 1 } };
+    ghost view = { λ a. record { entries = node_map (value_list a.value_bits (short_items a.values)) (child_list a.child_bits (short_items a.children)); spares = spare_set (child_list a.child_bits (short_items a.children)); levels = node_height (short_items a.children) + 1 } };
 
-    ghost invariant = { λ a. HasSlots a.value_bits a.values.items a.child_bits a.children.items };
+    ghost invariant = { λ a. HasSlots a.value_bits (short_items a.values) a.child_bits (short_items a.children) };
 
     ghost size = { λ s. s.levels };
 
-    ghost size_decreases = { λ a h. most_le-node_height _ (λ c. Prim.omega arith) a.children.items };
+    ghost size_decreases = { λ a h. Prim.omega (arith, most_le-node_height (short_items a.children)) };
 }
 
 /// What is found at a depth, and else the best so far. The best has its length as a word, which is kept from level to
@@ -89,8 +91,8 @@ impl<T> Node<T> {
         Node {
             value_bits: 0,
             child_bits: 0,
-            values: Vec::new(alloc),
-            children: Vec::new(alloc),
+            values: ShortVec::new(alloc),
+            children: ShortVec::new(alloc),
         }
     }
 
@@ -325,7 +327,7 @@ impl<T: Drop> Node<T> {
         if !may_grow || room == 0 || reserve_some(&mut self.children, more).is_err() {
             return None;
         }
-        let mut child = Node::new(*self.children.allocator());
+        let mut child = Node::new(self.children.allocator());
         let made = child.exchange(path.rest(), held, true, room - 1)?;
         let Ok(_) = put_at(
             &mut self.child_bits,

@@ -2,6 +2,7 @@
 ghost use Rattle.std.specs.Prelude.{◌≡◌, ◌<◌, ◌≤◌, [], ◌∷◌, count_ones, length, take, drop, not, nat_lt, MatchOption};
 ghost use Rattle.std.specs.Ordering.{nat_cmp};
 ghost use Rattle.std.specs.FinMap.Entries.{where_key};
+ghost use Rattle.short_vec.specs.Lists.{short_items};
 ghost use Rattle.trie_core.specs.InnerPlaces.{place_string, child_string, placed, first_place_of, named, AllBelow};
 ghost use Rattle.trie_core.specs.InnerHeld.{held};
 ghost use Rattle.trie_core.specs.InnerWalks.{first_value, AreParts};
@@ -12,6 +13,7 @@ use crate::path::Path;
 use crate::slots::{first_place, low_bits, slot};
 use crate::tables::{bit, first_child, place_length};
 use arrayvec::ArrayVec;
+use short_vec::ShortVec;
 use std::marker::Model;
 use std::vec::IntoIter;
 
@@ -47,13 +49,13 @@ impl<X> Default for Places<X> {
 
 impl<X> Places<X> {
     /// The things of a list at the places of a word.
-    fn new(taken: u32, items: Vec<X>) -> Places<X>
-        requires { count_ones taken ≡ length items.items }
-        ensures { result ≡ placed taken items.items }
+    fn new(taken: u32, items: ShortVec<X>) -> Places<X>
+        requires { count_ones taken ≡ length (short_items items) }
+        ensures { result ≡ placed taken (short_items items) }
     {
         Places {
             taken,
-            items: Some(items.into_iter()),
+            items: Some(items.into_vec().into_iter()),
         }
     }
 

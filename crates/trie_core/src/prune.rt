@@ -22,7 +22,7 @@ impl<T> Node<T> {
     {
         let mut entries = self.values.len();
         let mut nodes = 1;
-        for child in &self.children {
+        for child in self.children.as_slice() {
             let (more, below) = child.counts();
             entries += more;
             nodes += below;
@@ -38,7 +38,7 @@ impl<T: Drop> Node<T> {
         ensures spares { self.new.spares ≡ map.empty }
         ensures levels { self.new.levels ≡ 1 }
     {
-        let alloc = *self.children.allocator();
+        let alloc = self.children.allocator();
         *self = Node::new(alloc);
     }
 

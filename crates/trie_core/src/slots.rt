@@ -1,11 +1,13 @@
 //! Things numbered below 32: a word says which numbers are taken, and a list has the things in the order of their numbers.
-ghost use Rattle.std.specs.Prelude.{ℕ, vec_len, vec_capacity, IsOk, ◌≡◌, ◌<◌, ◌≤◌, ◌%◌, ◌^◌, None, length, count_ones, IfOk, IfErr, OnErr, OnOk, IsTrue, MatchOption};
+ghost use Rattle.std.specs.Prelude.{ℕ, IsOk, ◌≡◌, ◌<◌, ◌≤◌, ◌%◌, ◌^◌, None, length, count_ones, IfOk, IfErr, OnErr, OnOk, IsTrue, MatchOption};
 ghost use Rattle.std.specs.Option.{option_copied};
 ghost use Rattle.std.specs.Ordering.{nat_cmp};
 ghost use Rattle.std.specs.FinMap.{find, put as put_entry};
+ghost use Rattle.short_vec.specs.Lists.{short_items, short_len, short_capacity};
 ghost use Rattle.trie_core.specs.InnerPlaces.{at_places, without, IsUnset, IsSlot, IsLastPlace, IsFirstPlace};
 
 use crate::tables::bit;
+use short_vec::ShortVec;
 use std::alloc::{AllocError, AllocFailed};
 use std::mem;
 
@@ -57,11 +59,11 @@ pub(crate) fn get_at<X>(taken: u32, items: &[X], place: u8) -> Option<&X>
 
 /// Makes room for one thing more: where there is none, for so many.
 #[inline]
-pub(crate) fn reserve_some<X>(items: &mut Vec<X>, more: usize) -> Result<(), AllocError>
+pub(crate) fn reserve_some<X>(items: &mut ShortVec<X>, more: usize) -> Result<(), AllocError>
     requires { 0 < more }
-    ensures items { items.new.items ≡ items.old.items }
-    ensures ok { OnOk result (vec_len items.new < vec_capacity items.new) }
-    ensures succeeds { vec_len items.old < vec_capacity items.old → IsOk result }
+    ensures items { short_items items.new ≡ short_items items.old }
+    ensures ok { OnOk result (short_len items.new < short_capacity items.new) }
+    ensures succeeds { short_len items.old < short_capacity items.old → IsOk result }
 {
     if items.len() < items.capacity() {
         return Ok(());
@@ -75,22 +77,22 @@ pub(crate) fn reserve_some<X>(items: &mut Vec<X>, more: usize) -> Result<(), All
 #[inline(never)]
 pub(crate) fn put_at<X>(
     taken: &mut u32,
-    items: &mut Vec<X>,
+    items: &mut ShortVec<X>,
     place: u8,
     thing: X,
     may_grow: bool,
 ) -> Result<Option<X>, X>
     requires below { place < 32 }
-    requires counted { count_ones taken.old ≡ length items.old.items }
-    ensures old { IfOk result (λ old. old ≡ find nat_cmp place (at_places 32 0 taken.old items.old.items)) }
-    ensures items { OnOk result (at_places 32 0 taken.new items.new.items ≡ put_entry nat_cmp place thing (at_places 32 0 taken.old items.old.items)) }
-    ensures counted { count_ones taken.new ≡ length items.new.items }
+    requires counted { count_ones taken.old ≡ length (short_items items.old) }
+    ensures old { IfOk result (λ old. old ≡ find nat_cmp place (at_places 32 0 taken.old (short_items items.old))) }
+    ensures items { OnOk result (at_places 32 0 taken.new (short_items items.new) ≡ put_entry nat_cmp place thing (at_places 32 0 taken.old (short_items items.old))) }
+    ensures counted { count_ones taken.new ≡ length (short_items items.new) }
     ensures below { (w : ℕ) → place < w → taken.old < 2 ^ w → taken.new < 2 ^ w }
-    ensures succeeds { IsTrue may_grow → vec_len items.old < vec_capacity items.old → IsOk result }
+    ensures succeeds { IsTrue may_grow → short_len items.old < short_capacity items.old → IsOk result }
     ensures grows { IfOk result (λ r. r ≡ None → IsTrue may_grow) }
     ensures same_word { OnErr result (taken.new ≡ taken.old) }
-    ensures same_items { OnErr result (items.new.items ≡ items.old.items) }
-    ensures absent { OnErr result (find nat_cmp place (at_places 32 0 taken.old items.old.items) ≡ None) }
+    ensures same_items { OnErr result (short_items items.new ≡ short_items items.old) }
+    ensures absent { OnErr result (find nat_cmp place (at_places 32 0 taken.old (short_items items.old)) ≡ None) }
     ensures value_returned { IfErr result (λ t. t ≡ thing) }
 {
     let word = *taken;
@@ -116,12 +118,12 @@ pub(crate) fn put_at<X>(
 }
 
 /// Takes out what stands at the place.
-pub(crate) fn take_at<X>(taken: &mut u32, items: &mut Vec<X>, place: u8) -> Option<X>
+pub(crate) fn take_at<X>(taken: &mut u32, items: &mut ShortVec<X>, place: u8) -> Option<X>
     requires below { place < 32 }
-    requires counted { count_ones taken.old ≡ length items.old.items }
-    ensures value { result ≡ find nat_cmp place (at_places 32 0 taken.old items.old.items) }
-    ensures items { at_places 32 0 taken.new items.new.items ≡ without place (at_places 32 0 taken.old items.old.items) }
-    ensures counted { count_ones taken.new ≡ length items.new.items }
+    requires counted { count_ones taken.old ≡ length (short_items items.old) }
+    ensures value { result ≡ find nat_cmp place (at_places 32 0 taken.old (short_items items.old)) }
+    ensures items { at_places 32 0 taken.new (short_items items.new) ≡ without place (at_places 32 0 taken.old (short_items items.old)) }
+    ensures counted { count_ones taken.new ≡ length (short_items items.new) }
     ensures below { taken.new ≤ taken.old }
 {
     let word = *taken;

@@ -1,6 +1,6 @@
 //! Least tables of known hops.
 use crate::tests::tables::row_is;
-use least_table::{Stack, least};
+use least_table::{Piece, Stack, least};
 use std::alloc::{AllocError, Global};
 use std::test::Fail;
 
@@ -18,11 +18,10 @@ fn listed<P: Copy>(
 
 #[test]
 fn a_route_and_one_inside(rt: HostRuntime) -> Result<(), Fail> {
-    let pieces = vec![in rt.alloc();
-        ((0x0a00_0000_u32, 10_u8), 2_u32),
-        ((0x0a40_0000, 10), 1),
-        ((0x0a80_0000, 9), 1),
-    ]?;
+    let mut pieces = Stack::new(rt.alloc());
+    pieces.push(Piece::new(&(0x0a00_0000_u32, 10_u8), 2))?;
+    pieces.push(Piece::new(&(0x0a40_0000, 10), 1))?;
+    pieces.push(Piece::new(&(0x0a80_0000, 9), 1))?;
     let table = least(rt.alloc(), pieces)?;
     assert_eq!(rt;
         listed(rt.alloc(), &table)?.as_slice(),
@@ -37,12 +36,11 @@ fn a_route_and_one_inside(rt: HostRuntime) -> Result<(), Fail> {
 
 #[test]
 fn four_quarters(rt: HostRuntime) -> Result<(), Fail> {
-    let pieces = vec![in rt.alloc();
-        ((0_u32, 2_u8), 1_u32),
-        ((0x4000_0000, 2), 2),
-        ((0x8000_0000, 2), 1),
-        ((0xc000_0000, 2), 2),
-    ]?;
+    let mut pieces = Stack::new(rt.alloc());
+    pieces.push(Piece::new(&(0_u32, 2_u8), 1))?;
+    pieces.push(Piece::new(&(0x4000_0000, 2), 2))?;
+    pieces.push(Piece::new(&(0x8000_0000, 2), 1))?;
+    pieces.push(Piece::new(&(0xc000_0000, 2), 2))?;
     let table = least(rt.alloc(), pieces)?;
     let wanted = [
         ((0_u32, 0_u8), Some(1_u32)),
@@ -56,7 +54,7 @@ fn four_quarters(rt: HostRuntime) -> Result<(), Fail> {
 
 #[test]
 fn no_pieces(rt: HostRuntime) -> Result<(), Fail> {
-    let pieces: Vec<((u32, u8), u32)> = Vec::new(rt.alloc());
+    let pieces: Stack<Piece<(u32, u8)>> = Stack::new(rt.alloc());
     let table = least(rt.alloc(), pieces)?;
     row_is(&rt, "none", table.len(), 0);
     Ok(())
@@ -66,14 +64,10 @@ fn no_pieces(rt: HostRuntime) -> Result<(), Fail> {
 #[test]
 fn a_wide_route_and_one_inside(rt: HostRuntime) -> Result<(), Fail> {
     let top = 0x2001_0db8_u128 << 96;
-    let pieces = vec![in rt.alloc();
-        (
-            (0x2001_0db8_0000_0000_0000_0000_0000_0000_u128, 34_u8),
-            2_u32,
-        ),
-        ((0x2001_0db8_4000_0000_0000_0000_0000_0000, 34), 1),
-        ((0x2001_0db8_8000_0000_0000_0000_0000_0000, 33), 1),
-    ]?;
+    let mut pieces = Stack::new(rt.alloc());
+    pieces.push(Piece::new(&(0x2001_0db8_0000_0000_0000_0000_0000_0000_u128, 34_u8), 2))?;
+    pieces.push(Piece::new(&(0x2001_0db8_4000_0000_0000_0000_0000_0000, 34), 1))?;
+    pieces.push(Piece::new(&(0x2001_0db8_8000_0000_0000_0000_0000_0000, 33), 1))?;
     let table = least(rt.alloc(), pieces)?;
     let wanted = [((top, 32_u8), Some(1_u32)), ((top, 34), Some(2))];
     let table = listed(rt.alloc(), &table)?;
@@ -84,7 +78,9 @@ fn a_wide_route_and_one_inside(rt: HostRuntime) -> Result<(), Fail> {
 /// Two hosts, at the ends of all addresses.
 #[test]
 fn wide_ends(rt: HostRuntime) -> Result<(), Fail> {
-    let pieces = vec![in rt.alloc(); ((0_u128, 128_u8), 7_u32), ((u128::MAX, 128), 7)]?;
+    let mut pieces = Stack::new(rt.alloc());
+    pieces.push(Piece::new(&(0_u128, 128_u8), 7))?;
+    pieces.push(Piece::new(&(u128::MAX, 128), 7))?;
     let table = least(rt.alloc(), pieces)?;
     let wanted = [((0_u128, 128_u8), Some(7_u32)), ((u128::MAX, 128), Some(7))];
     let table = listed(rt.alloc(), &table)?;

@@ -1,10 +1,11 @@
 use Rattle.std.proofs.Common.{arith, ◌≡◌, ◌-◌, ◌∙◌, subst, ℕ, None, Option, List, Bool, [], ◌∷◌, ◌++◌, reverse, AllPairs, sym, ap, append-nil}
+use Rattle.std.proofs.lemmas.List.{map-id}
 use Rattle.std.specs.declared.cmp.Ordering.TheVariants.{Less}
 use Rattle.ipnet_blocks.specs.BitStrings.{bits_cmp}
 use Rattle.least_table.specs.Pieces.{strings, hop_at}
 use Rattle.least_table.specs.Tables.{IsLeast}
 use Rattle.least_table.specs.Trees.{Tree, IsPlan, routes_of, within}
-use Rattle.least_table.specs.InnerPieces.{beyond}
+use Rattle.least_table.specs.InnerPieces.{IsAscending, beyond}
 use Rattle.least_table.specs.InnerPacked.{steps_in}
 use Rattle.least_table.specs.InnerSteps.{Step, all_routes, HaveRoom}
 use Rattle.least_table.specs.InnerPlans.{Plan, steps_of, tree_of, Fits}
@@ -16,15 +17,19 @@ use Rattle.least_table.proofs.Orders.{IsInOrder-routes, in_pairs}
 use Rattle.least_table.proofs.Stores.{within-whole, if_ok_map}
 use Rattle.least_table.proofs.fewest.least.Goals as goal
 
+-- no bit is left out
+whole : (ps : List (List Bool × ℕ)) → beyond 0 ps ≡ ps
+whole = map-id
+
 pub add_plan-requires-clause-ascending : goal.add_plan-requires-clause-ascending
-add_plan-requires-clause-ascending g c = rw c.deref.ensures.value (ascending_from (strings g.P.Prefix.bits c.args.pieces.items) c.requires.disjoint)
+add_plan-requires-clause-ascending g c = subst IsAscending (sym (whole c.args.pieces)) (ascending_from c.args.pieces c.requires.disjoint)
 
 pub routes-requires-clause-room : goal.routes-requires-clause-room
 routes-requires-clause-room g c =
     let bits = g.P.Prefix.bits in
-    let made = c.in_ok-add_plan.ensures.made in
-    rw (c.in_ok-add_plan.ensures.adds.steps, c.new-plan.ensures.steps) (subst (λ xs. HaveRoom bits g.P.Prefix.fits g.P.R.Key.width xs (([], None) ∷ [])) (append-nil (reverse (steps_of c.in_ok-add_plan.ensures.plan)))
-    (rooms bits g.P.Prefix.fits g.P.R.Key.width c.in_ok-add_plan.ensures.plan [] None [] [] (omega arith) (fits_plan (g.P.R.Key.width - 0) (hop_at (beyond bits 0 c.deref.result.now)) (tree_of bits 0 c.in_ok-add_plan.ensures.plan) made.plans) made.fit tt))
+    let planned = c.in_ok-add_plan.ensures.planned in
+    rw (planned.adds.steps, c.new-plan.ensures.steps) (subst (λ xs. HaveRoom bits g.P.Prefix.fits g.P.R.Key.width xs (([], None) ∷ [])) (append-nil (reverse (steps_of planned.plan)))
+    (rooms bits g.P.Prefix.fits g.P.R.Key.width planned.plan [] None [] [] (omega arith) (fits_plan (g.P.R.Key.width - 0) (hop_at (beyond 0 c.args.pieces)) (tree_of bits 0 planned.plan) planned.made.plans) planned.made.fit tt))
 
 least_from : (w : ℕ) (h : List Bool → Option ℕ) (t : Tree) (ts : List (List Bool × Option ℕ)) → ts ≡ routes_of t None → IsPlan (w - 0) h t → IsLeast w h ts
 least_from w h t ts e plan = let z : w - 0 ≡ w = omega arith in rw e (trees_are_least w h t (subst (λ v. IsPlan v h t) z plan))
@@ -40,21 +45,20 @@ all_stored string w p old new e f fits =
 pub returns-clause-ordered : goal.returns-clause-ordered
 returns-clause-ordered g c =
     let bits = g.P.Prefix.bits in
-    let p = c.in_ok-add_plan.ensures.plan in
-    let t = tree_of bits 0 p in
-    let fits = fits_plan (g.P.R.Key.width - 0) (hop_at (beyond bits 0 c.deref.result.now)) t c.in_ok-add_plan.ensures.made.plans in
+    let planned = c.in_ok-add_plan.ensures.planned in
+    let t = tree_of bits 0 planned.plan in
+    let fits = fits_plan (g.P.R.Key.width - 0) (hop_at (beyond 0 c.args.pieces)) t planned.made.plans in
     if_ok_map c.routes.result
-    (λ table e. ordered_from (g.P.R.Key.width - 0) t (strings bits table) (e ∙ all_stored bits (g.P.R.Key.width - 0) p (steps_in c.new-plan.result) (steps_in c.add_plan.new.plan) c.in_ok-add_plan.ensures.adds.steps c.new-plan.ensures.steps fits) fits)
-    c.routes.ensures.routes
+    (λ table e. ordered_from (g.P.R.Key.width - 0) t (strings bits table)
+    (e ∙ all_stored bits (g.P.R.Key.width - 0) planned.plan (steps_in c.new-plan.result) (steps_in c.add_plan.new.plan) planned.adds.steps c.new-plan.ensures.steps fits) fits) c.routes.ensures.routes
 
 pub returns-clause-least : goal.returns-clause-least
 returns-clause-least g c =
     let bits = g.P.Prefix.bits in
-    let p = c.in_ok-add_plan.ensures.plan in
-    let t = tree_of bits 0 p in
-    let h = hop_at (beyond bits 0 c.deref.result.now) in
+    let planned = c.in_ok-add_plan.ensures.planned in
+    let t = tree_of bits 0 planned.plan in
+    let plans = subst (λ ps. IsPlan (g.P.R.Key.width - 0) (hop_at ps) (tree_of bits 0 planned.plan)) (whole c.args.pieces) planned.made.plans in
     if_ok_map c.routes.result
-    (λ table e. subst (λ ps. IsLeast g.P.R.Key.width (hop_at (strings bits ps)) (strings bits table)) c.deref.ensures.value (least_from g.P.R.Key.width (hop_at (strings bits c.deref.result.now)) t (strings bits table)
-    (e ∙ all_stored bits (g.P.R.Key.width - 0) p (steps_in c.new-plan.result) (steps_in c.add_plan.new.plan) c.in_ok-add_plan.ensures.adds.steps c.new-plan.ensures.steps (fits_plan (g.P.R.Key.width - 0) h t c.in_ok-add_plan.ensures.made.plans))
-    c.in_ok-add_plan.ensures.made.plans))
+    (λ table e. least_from g.P.R.Key.width (hop_at c.args.pieces) t (strings bits table)
+    (e ∙ all_stored bits (g.P.R.Key.width - 0) planned.plan (steps_in c.new-plan.result) (steps_in c.add_plan.new.plan) planned.adds.steps c.new-plan.ensures.steps (fits_plan (g.P.R.Key.width - 0) (hop_at c.args.pieces) t plans)) plans)
     c.routes.ensures.routes

@@ -17,13 +17,13 @@ take-requires-clause-kept g c = (kept_popped c.loop-step.left c.pop.new.self c.i
 
 pub take-requires-clause-room : goal.take-requires-clause-room
 take-requires-clause-room g c =
-    let of = step_of c.loop-step.left.sets c.loop-step.left.inner.items in
+    let of = step_of c.loop-step.left.sets c.loop-step.left.inner in
     (room_now g.P.Prefix.bits (of c.in-Some.step) (c.in-Some-pop.path, c.in-Some-pop.handed) (steps_in c.loop-step.left) (map of c.pop.new.self) c.loop-step.waiting.items c.pop-in-Some.new.self.items
     (popped c.loop-step.left c.pop.new.self c.in-Some.step c.in-Some.ensures) c.in-Some-pop.ensures.items g.P.Prefix.fits g.P.R.Key.width c.loop-step.invariant.1).0
 
 pub loop-step-preserved : goal.loop-step-preserved
 loop-step-preserved g c =
-    let of = step_of c.loop-step.left.sets c.loop-step.left.inner.items in
+    let of = step_of c.loop-step.left.sets c.loop-step.left.inner in
     let x = of c.in-Some.step in
     let b : List Bool × Option ℕ = (c.in-Some-pop.path, c.in-Some-pop.handed) in
     let e = popped c.loop-step.left c.pop.new.self c.in-Some.step c.in-Some.ensures in (
@@ -40,7 +40,7 @@ returns-clause-routes g c =
     let none : (length (steps_in c.loop-step.left) ≡ 0) ⊎ (length c.loop-step.waiting.items ≡ 0) =
     elim c.match-pop.branch [
       | in-Some+in_default-pop w ↦ inr (omega (arith, w.in_default-pop.ensures.cases.0, c.loop-step.waiting.ok.0))
-      | in_default w ↦ inl (omega (arith, length-map c.loop-step.left.steps (step_of c.loop-step.left.sets c.loop-step.left.inner.items), ap length w.in_default.ensures.0))
+      | in_default w ↦ inl (omega (arith, length-map c.loop-step.left.steps (step_of c.loop-step.left.sets c.loop-step.left.inner), ap length w.in_default.ensures.0))
     ] in
     ended g.P.Prefix.bits (steps_in c.loop-step.left) c.loop-step.waiting.items (strings g.P.Prefix.bits c.loop-step.table) _ none c.loop-step.invariant.0
 

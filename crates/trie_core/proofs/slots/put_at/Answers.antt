@@ -2,6 +2,7 @@ use Rattle.std.proofs.Common.{◌∙◌, ap, sym, length, arith, set}
 use Rattle.std.specs.List.{insert}
 use Rattle.std.specs.Prelude.{Some}
 use Rattle.std.proofs.Math.Facts.{Fits-of_lt}
+use Rattle.short_vec.specs.Lists.{short_items, short_counted}
 use Rattle.trie_core.specs.InnerPlaces.{at_places}
 use Rattle.trie_core.proofs.Taken.{free, taken, missing, put_in}
 use Rattle.trie_core.proofs.Edits.{set_fits}
@@ -9,47 +10,47 @@ use Rattle.trie_core.proofs.slots.put_at.Goals as goal
 
 pub index_mut-item-requires : goal.index_mut-item-requires
 index_mut-item-requires g c =
-    let t = taken c.args.place c.in-Some.at c.args.taken.now c.args.items.now.items c.requires.below c.in-Some.ensures c.requires.counted in
-    omega (arith, t.within, c.args.items.now.ok.0)
+    let t = taken c.args.place c.in-Some.at c.args.taken.now (short_items c.args.items.now) c.requires.below c.in-Some.ensures c.requires.counted in
+    omega (arith, t.within, short_counted c.args.items.now)
 
 pub returns-then-not-may_grow-clause-absent : goal.returns-then-not-may_grow-clause-absent
-returns-then-not-may_grow-clause-absent g c = sym (missing c.args.place c.args.taken.now c.args.items.now.items c.in-None.ensures)
+returns-then-not-may_grow-clause-absent g c = sym (missing c.args.place c.args.taken.now (short_items c.args.items.now) c.in-None.ensures)
 
 pub insert-requires : goal.insert-requires
 insert-requires g c =
-    let f = free c.args.place c.taken_below.result c.args.taken.now c.args.items.now.items c.requires.below (omega arith) c.in-None.ensures c.taken_below.ensures c.requires.counted in
-    omega (arith, f.within, c.reserve_some.new.items.ok.0, ap length c.reserve_some.ensures.items)
+    let f = free c.args.place c.taken_below.result c.args.taken.now (short_items c.args.items.now) c.requires.below (omega arith) c.in-None.ensures c.taken_below.ensures c.requires.counted in
+    omega (arith, f.within, short_counted c.reserve_some.new.items, ap length c.reserve_some.ensures.items)
 
 pub overflow_add-taken : goal.overflow_add-taken
 overflow_add-taken g c =
-    let f = free c.args.place c.taken_below.result c.args.taken.now c.args.items.now.items c.requires.below (omega arith) c.in-None.ensures c.taken_below.ensures c.requires.counted in
+    let f = free c.args.place c.taken_below.result c.args.taken.now (short_items c.args.items.now) c.requires.below (omega arith) c.in-None.ensures c.taken_below.ensures c.requires.counted in
     Fits-of_lt (omega (arith, f.fits, c.bit.ensures))
 
 pub returns-in-Some-clause-old : goal.returns-in-Some-clause-old
 returns-in-Some-clause-old g c =
-    let t = taken c.args.place c.in-Some.at c.args.taken.now c.args.items.now.items c.requires.below c.in-Some.ensures c.requires.counted in
+    let t = taken c.args.place c.in-Some.at c.args.taken.now (short_items c.args.items.now) c.requires.below c.in-Some.ensures c.requires.counted in
     ap Some (c.replace.ensures.value ∙ c.index_mut-item.ensures.value) ∙ sym (t.read c.index_mut-item.result.now)
 
 pub returns-in-Some-clause-items : goal.returns-in-Some-clause-items
 returns-in-Some-clause-items g c =
-    let t = taken c.args.place c.in-Some.at c.args.taken.now c.args.items.now.items c.requires.below c.in-Some.ensures c.requires.counted in
-    ap (λ v. at_places 32 0 c.args.taken.now (set c.args.items.now.items c.in-Some.at v)) c.replace.ensures.after ∙ t.written c.args.thing
+    let t = taken c.args.place c.in-Some.at c.args.taken.now (short_items c.args.items.now) c.requires.below c.in-Some.ensures c.requires.counted in
+    ap (λ v. at_places 32 0 c.args.taken.now (set (short_items c.args.items.now) c.in-Some.at v)) c.replace.ensures.after ∙ t.written c.args.thing
 
 pub returns-in-Ok-clause-old : goal.returns-in-Ok-clause-old
-returns-in-Ok-clause-old g c = missing c.args.place c.args.taken.now c.args.items.now.items c.in-None.ensures
+returns-in-Ok-clause-old g c = missing c.args.place c.args.taken.now (short_items c.args.items.now) c.in-None.ensures
 
 pub returns-in-Ok-clause-items : goal.returns-in-Ok-clause-items
 returns-in-Ok-clause-items g c =
-    let f = free c.args.place c.taken_below.result c.args.taken.now c.args.items.now.items c.requires.below (omega arith) c.in-None.ensures c.taken_below.ensures c.requires.counted in
-    (put_in c.args.place c.taken_below.result c.args.taken.now c.bit.result c.args.thing c.args.items.now.items c.insert.new.self.items f c.bit.ensures (c.in-Ok.ensures.items ∙ ap (λ l. insert l c.taken_below.result c.args.thing) c.reserve_some.ensures.items)).0
+    let f = free c.args.place c.taken_below.result c.args.taken.now (short_items c.args.items.now) c.requires.below (omega arith) c.in-None.ensures c.taken_below.ensures c.requires.counted in
+    (put_in c.args.place c.taken_below.result c.args.taken.now c.bit.result c.args.thing (short_items c.args.items.now) (short_items c.insert.new.self) f c.bit.ensures (c.in-Ok.ensures.items ∙ ap (λ l. insert l c.taken_below.result c.args.thing) c.reserve_some.ensures.items)).0
 
 pub returns-in-Ok-clause-counted : goal.returns-in-Ok-clause-counted
 returns-in-Ok-clause-counted g c =
-    let f = free c.args.place c.taken_below.result c.args.taken.now c.args.items.now.items c.requires.below (omega arith) c.in-None.ensures c.taken_below.ensures c.requires.counted in
-    (put_in c.args.place c.taken_below.result c.args.taken.now c.bit.result c.args.thing c.args.items.now.items c.insert.new.self.items f c.bit.ensures (c.in-Ok.ensures.items ∙ ap (λ l. insert l c.taken_below.result c.args.thing) c.reserve_some.ensures.items)).1
+    let f = free c.args.place c.taken_below.result c.args.taken.now (short_items c.args.items.now) c.requires.below (omega arith) c.in-None.ensures c.taken_below.ensures c.requires.counted in
+    (put_in c.args.place c.taken_below.result c.args.taken.now c.bit.result c.args.thing (short_items c.args.items.now) (short_items c.insert.new.self) f c.bit.ensures (c.in-Ok.ensures.items ∙ ap (λ l. insert l c.taken_below.result c.args.thing) c.reserve_some.ensures.items)).1
 
 pub returns-in-Err-clause-absent : goal.returns-in-Err-clause-absent
-returns-in-Err-clause-absent g c = sym (missing c.args.place c.args.taken.now c.args.items.now.items c.in-None.ensures)
+returns-in-Err-clause-absent g c = sym (missing c.args.place c.args.taken.now (short_items c.args.items.now) c.in-None.ensures)
 
 pub returns-in-Ok-clause-below : goal.returns-in-Ok-clause-below
 returns-in-Ok-clause-below g c = λ w l b. omega (arith, set_fits w c.args.place c.args.taken.now l b c.in-None.ensures, c.bit.ensures)

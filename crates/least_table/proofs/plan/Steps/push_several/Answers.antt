@@ -7,5 +7,5 @@ use Rattle.least_table.proofs.plan.Steps.push_several.Goals as goal
 
 pub returns : goal.returns
 returns g c = if_ok_map c.push-2.result
-    (λ _ added. grown c.args.self.now _ (packed.Several c.in_ok-at.at) (Fork c.args.hops.now) [] added c.in_ok-at.ensures.kept (sym (append-nil c.args.self.now.inner.items)) c.requires
+    (λ _ added. grown c.args.self.now _ (packed.Several c.in_ok-at.at) (Fork c.args.hops.now) [] added c.in_ok-at.ensures.kept (sym (append-nil c.args.self.now.inner)) c.requires
     c.in_ok-at.ensures.here.0 (ap (λ ks. Fork ks) c.in_ok-at.ensures.here.1)) c.push-2.ensures

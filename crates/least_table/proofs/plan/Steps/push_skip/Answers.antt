@@ -8,8 +8,8 @@ use Rattle.least_table.proofs.plan.Steps.push_skip.Goals as goal
 
 pub returns : goal.returns
 returns g c =
-    let inner = c.args.self.now.inner.items in
+    let inner = c.args.self.now.inner in
     let b = c.args.inner in
-    let at : c.in-Ok.at ≡ length c.args.self.now.inner.items = c.in-Ok.ensures.1 ∙ c.len.ensures ∙ c.args.self.now.inner.ok.0 in
-    if_ok_map c.push-2.result (λ _ added. grown c.args.self.now _ (packed.Skip c.in-Ok.at) (Skip None b) (b ∷ []) added (λ at h. (h, refl)) c.in_ok-push.ensures.items c.requires
+    let at : c.in-Ok.at ≡ length c.args.self.now.inner = c.in-Ok.ensures.1 ∙ c.len.ensures in
+    if_ok_map c.push-2.result (λ _ added. grown c.args.self.now _ (packed.Skip c.in-Ok.at) (Skip None b) (b ∷ []) added (λ at h. (h, refl)) c.in_ok-push.ensures c.requires
     (omega (arith, at, length-append inner (b ∷ []))) (ap around (ap (slice_get (inner ++ b ∷ [])) at ∙ inner_here inner b))) c.push-2.ensures

@@ -8,7 +8,7 @@ pub returns-in_ok-push-in-Skip-clause-waiting : goal.returns-in_ok-push-in-Skip-
 returns-in_ok-push-in-Skip-clause-waiting g c =
     let old = c.args.waiting.now.items in
     let path = c.args.path.now in
-    let blocks = skip_blocks g.P.Prefix.bits c.args.self.now.sets c.args.self.now.inner.items c.args.step c.in-Skip.at c.index.result.now path c.args.handed (let z = c.in-Skip.is in cc) c.requires.kept c.index.ensures in
+    let blocks = skip_blocks g.P.Prefix.bits c.args.self.now.sets c.args.self.now.inner c.args.step c.in-Skip.at c.get.result.now path c.args.handed (let z = c.in-Skip.is in cc) c.requires.kept c.get.ensures in
     ap reverse c.in_ok-push-in-Skip.ensures.items ∙ reverse-append old ((c.onto.result, c.in_ok-passed.passed) ∷ [])
     ∙ ap₂ (λ q k. (q, k) ∷ reverse old) (c.onto.ensures ∙ ap (λ q. path ++ drop (length path) q) c.path_of-inner.ensures.value)
     (c.in_ok-passed.ensures.passed ∙ ap (λ ks. passed ks c.args.handed) (c.as_slice.ensures ∙ c.best-best.ensures))

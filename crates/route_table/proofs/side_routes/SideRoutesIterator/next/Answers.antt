@@ -1,5 +1,4 @@
 use Rattle.std.proofs.Common.{sym, subst, Some, map}
-use Rattle.ipnet.specs.IpNets.{net_in}
 use Rattle.route_table.specs.InnerSides.{route_at}
 use Rattle.route_table.specs.InnerEntries.{entries_left}
 use Rattle.route_table.specs.Items.{GivesRoute}
@@ -11,6 +10,6 @@ invariant_of-self-2 g c = left_keys g.P.OfFamily.family g.P.Prefix.bits g.P.Pref
 
 pub returns-clause-steps : goal.returns-clause-steps
 returns-clause-steps g c =
-    let given = gives g.P.OfFamily.family g.P.Prefix.bits g.P.Prefix.of_bits g.P.OfFamily.parts g.met.P.OfFamily.parts_are g.P.Prefix.fits _ _ c.self.invariant (Some (c.in_ok-net.net, c.in_ok-net.choices)) c.in_ok-net.ensures in
-    subst (λ M. GivesRoute M (Some (c.ip_net.result, c.best-hop.result.0, c.best-hop.result.1)) (map (route_at g.P.OfFamily.family) (entries_left c.next.new.self))) c.self.view_is
-    (subst (λ n. GivesRoute (map (route_at g.P.OfFamily.family) (entries_left c.self.inside.entries)) (Some (n, c.best-hop.result.0, c.best-hop.result.1)) (map (route_at g.P.OfFamily.family) (entries_left c.next.new.self))) (sym c.ip_net.ensures) (subst (λ h. GivesRoute (map (route_at g.P.OfFamily.family) (entries_left c.self.inside.entries)) (Some (net_in g.P.OfFamily.family (g.P.OfFamily.parts c.in_ok-net.net), h.0, h.1)) (map (route_at g.P.OfFamily.family) (entries_left c.next.new.self))) (sym c.best-hop.ensures) given))
+    let given = gives g.P.OfFamily.family g.P.Prefix.bits g.P.Prefix.of_bits g.P.OfFamily.parts g.met.P.OfFamily.parts_are g.P.Prefix.fits _ _ c.self.invariant (Some (c.in_ok-net.net, c.in_ok-net.hop, c.in_ok-net.pref)) c.in_ok-net.ensures in
+    subst (λ M. GivesRoute M (Some (c.ip_net.result, c.in_ok-net.hop, c.in_ok-net.pref)) (map (route_at g.P.OfFamily.family) (entries_left c.next.new.self))) c.self.view_is
+    (subst (λ n. GivesRoute (map (route_at g.P.OfFamily.family) (entries_left c.self.inside.entries)) (Some (n, c.in_ok-net.hop, c.in_ok-net.pref)) (map (route_at g.P.OfFamily.family) (entries_left c.next.new.self))) (sym c.ip_net.ensures) given)

@@ -2,6 +2,7 @@ use Rattle.std.proofs.Common.{◌≤◌, ◌∙◌, refl, sym, ap, subst, length
 use Rattle.std.specs.Option.{IsSome}
 use Rattle.std.specs.FinMap.{get}
 use Rattle.std.proofs.lemmas.Bool.Decides.{nat_tests}
+use Rattle.short_vec.specs.Lists.{short_counted}
 use Rattle.trie_core.proofs.Seen.{seen}
 use Rattle.trie_core.proofs.Changes.{way, was}
 use Rattle.trie_core.proofs.Lent.{stored_below, lent_below}
@@ -13,7 +14,7 @@ unreachable-requires g c =
     stored_below c.args.path.now (seen c.node.invariant c.node.view_is) h c.five.ensures.value c.in_default.ensures c.requires.stored
 
 pub index_mut-child-requires : goal.index_mut-child-requires
-index_mut-child-requires g c = omega (arith, (way c.args.path.now (seen c.node.invariant c.node.view_is) c.five.ensures.value c.in-Some.ensures).within, c.node.inside.children.ok.0)
+index_mut-child-requires g c = omega (arith, (way c.args.path.now (seen c.node.invariant c.node.view_is) c.five.ensures.value c.in-Some.ensures).within, short_counted c.node.inside.children)
 
 pub value_mut-requires-clause-stored : goal.value_mut-requires-clause-stored
 value_mut-requires-clause-stored g c =

@@ -1,5 +1,6 @@
 use Rattle.std.proofs.Common.{◌∙◌, ◌∷◌, ◌++◌, ◌-◌, sym, ap, arith}
 use Rattle.std.specs.FinMap.{entries}
+use Rattle.short_vec.specs.Lists.{short_items, short_counted}
 use Rattle.trie_core.specs.InnerNodes.{under}
 use Rattle.trie_core.specs.InnerFrames.{place_first, frame_rest, frame_levels, frame_weight, open_weight}
 use Rattle.trie_core.proofs.Seen.{seen}
@@ -8,7 +9,7 @@ use Rattle.trie_core.proofs.Opened.{all_open, is_opened, value_open, child_open,
 use Rattle.trie_core.proofs.lent_frame.LentFrameFrame.next.Goals as goal
 
 pub index-value-requires : goal.index-value-requires
-index-value-requires g c = omega (arith, index_at c.self.inside.values c.node.inside.value_bits c.in-Some-value_place.place c.taken_below.result c.node.inside.values.items c.in-Some-value_place.ensures c.node.invariant.values_counted c.taken_below.ensures, c.node.inside.values.ok.0)
+index-value-requires g c = omega (arith, index_at c.self.inside.values c.node.inside.value_bits c.in-Some-value_place.place c.taken_below.result (short_items c.node.inside.values) c.in-Some-value_place.ensures c.node.invariant.values_counted c.taken_below.ensures, short_counted c.node.inside.values)
 
 pub overflow_sub-self : goal.overflow_sub-self
 overflow_sub-self g c = omega (arith, c.bit.ensures, bit_open c.self.inside.values c.node.inside.value_bits c.in-Some-value_place.place c.in-Some-value_place.ensures)
@@ -49,7 +50,7 @@ returns-in_default-child_place-clause-next g c =
     ∙ nothing_open c.self.inside.values c.self.inside.children c.first_in-value_place.result s c.first_in-value_place.ensures c.in_default-child_place.ensures h
 
 pub index-below-requires : goal.index-below-requires
-index-below-requires g c = omega (arith, index_at c.self.inside.children c.node.inside.child_bits c.in-Some-child_place.place c.taken_below-2.result c.node.inside.children.items c.in-Some-child_place.ensures c.node.invariant.children_counted c.taken_below-2.ensures, c.node.inside.children.ok.0)
+index-below-requires g c = omega (arith, index_at c.self.inside.children c.node.inside.child_bits c.in-Some-child_place.place c.taken_below-2.result (short_items c.node.inside.children) c.in-Some-child_place.ensures c.node.invariant.children_counted c.taken_below-2.ensures, short_counted c.node.inside.children)
 
 pub overflow_sub-self-2 : goal.overflow_sub-self-2
 overflow_sub-self-2 g c = omega (arith, c.bit-2.ensures, bit_open c.self.inside.children c.node.inside.child_bits c.in-Some-child_place.place c.in-Some-child_place.ensures)

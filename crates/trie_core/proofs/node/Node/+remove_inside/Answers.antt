@@ -1,6 +1,7 @@
 use Rattle.std.proofs.Common.{◌^◌, ◌∙◌, length, drop, refl, ap, subst, arith}
 use Rattle.std.proofs.lemmas.Bool.Decides.{nat_tests}
 use Rattle.std.proofs.Math.ListN.{length-drop}
+use Rattle.short_vec.specs.Lists.{short_counted}
 use Rattle.ipnet_blocks.specs.BitStrings.{begins}
 use Rattle.trie_core.specs.Ways.{IsCut}
 use Rattle.trie_core.proofs.Seen.{seen}
@@ -11,7 +12,7 @@ use Rattle.trie_core.proofs.Removals.{longer, removed_none, removed_below, remov
 use Rattle.trie_core.proofs.node.Node.+remove_inside.Goals as goal
 
 pub index_mut-child-requires : goal.index_mut-child-requires
-index_mut-child-requires g t c = omega (arith, (way c.args.path.now (seen c.self.invariant c.self.view_is) c.five-number.ensures.value c.in-Some.ensures).within, c.self.inside.children.ok.0)
+index_mut-child-requires g t c = omega (arith, (way c.args.path.now (seen c.self.invariant c.self.view_is) c.five-number.ensures.value c.in-Some.ensures).within, short_counted c.self.inside.children)
 
 pub remove_inside-entries-requires : goal.remove_inside-entries-requires
 remove_inside-entries-requires g t c κs within =
@@ -21,7 +22,7 @@ remove_inside-entries-requires g t c κs within =
     (omega (arith, ap length c.rest.ensures, length-drop 5 c.args.path.now, h), (within, (omega (arith, child_entries c.args.path.now c.index_mut-child.result.now s w c.index_mut-child.ensures.value, c.requires.entries), omega (arith, child_nodes c.args.path.now c.index_mut-child.result.now s w c.index_mut-child.ensures.value, c.requires.nodes))))
 
 pub remove-requires : goal.remove-requires
-remove-requires g t c = omega (arith, (way c.args.path.now (seen c.self.invariant c.self.view_is) c.five-number.ensures.value c.in-Some.ensures).within, c.self.inside.children.ok.0)
+remove-requires g t c = omega (arith, (way c.args.path.now (seen c.self.invariant c.self.view_is) c.five-number.ensures.value c.in-Some.ensures).within, short_counted c.self.inside.children)
 
 pub overflow_add-result : goal.overflow_add-result
 overflow_add-result g t c =

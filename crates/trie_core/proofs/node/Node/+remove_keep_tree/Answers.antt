@@ -2,6 +2,7 @@ use Rattle.std.proofs.Common.{◌<◌, ◌≤◌, ◌∙◌, sym, ap, subst, len
 use Rattle.std.specs.Ordering.{nat_cmp}
 use Rattle.std.specs.FinMap.{find, get, remove}
 use Rattle.std.proofs.lemmas.Bool.Decides.{nat_tests}
+use Rattle.short_vec.specs.Lists.{short_items, short_counted}
 use Rattle.trie_core.specs.InnerPlaces.{at_places}
 use Rattle.trie_core.proofs.Maps.{remove_absent}
 use Rattle.trie_core.proofs.Seen.{seen, map_of, value_at}
@@ -19,9 +20,9 @@ returns-then-is_short g t c =
     let s = seen c.self.invariant c.self.view_is in
     let v = invariant_of-self g t c in
     record {
-      value = c.take_at.ensures.value ∙ ap (λ n. find nat_cmp n (at_places 32 0 c.self.inside.value_bits c.self.inside.values.items)) c.place.ensures.value ∙ value_at c.args.path s h;
+      value = c.take_at.ensures.value ∙ ap (λ n. find nat_cmp n (at_places 32 0 c.self.inside.value_bits (short_items c.self.inside.values))) c.place.ensures.value ∙ value_at c.args.path s h;
       map = value_taken_map c.args.path s v h c.place.ensures.value c.take_at.ensures.items;
-      spares = subst (λ b. IsKept c.args.path c.args.self.now.entries c.args.self.now.spares (map_of c.take_at.new.taken c.take_at.new.items.items c.self.inside.child_bits c.self.inside.children.items) b) (sym s.spare) (kept_short c.args.path s h);
+      spares = subst (λ b. IsKept c.args.path c.args.self.now.entries c.args.self.now.spares (map_of c.take_at.new.taken (short_items c.take_at.new.items) c.self.inside.child_bits (short_items c.self.inside.children)) b) (sym s.spare) (kept_short c.args.path s h);
       count = value_count s v;
       levels = omega (arith, s.height);
     }
@@ -39,7 +40,7 @@ returns-in_err-at g t c =
     }
 
 pub index_mut-child-requires : goal.index_mut-child-requires
-index_mut-child-requires g t c = omega (arith, (way c.args.path (seen c.self.invariant c.self.view_is) c.five.ensures.value c.in_ok-at.ensures).within, c.self.inside.children.ok.0)
+index_mut-child-requires g t c = omega (arith, (way c.args.path (seen c.self.invariant c.self.view_is) c.five.ensures.value c.in_ok-at.ensures).within, short_counted c.self.inside.children)
 
 pub returns : goal.returns
 returns g t c =

@@ -1,4 +1,5 @@
 use Rattle.std.proofs.Common.{◌+◌, refl, arith}
+use Rattle.short_vec.specs.Lists.{short_counted}
 use Rattle.trie_core.proofs.Seen.{seen}
 use Rattle.trie_core.proofs.Marks.{no_spares}
 use Rattle.trie_core.proofs.Changes.{spare_kept}
@@ -13,7 +14,7 @@ pub number-preserved-in_default : goal.number-preserved-in_default
 number-preserved-in_default g t c = tidy_past c.number.invariant c.in_default.ensures
 
 pub index_mut-child-requires : goal.index_mut-child-requires
-index_mut-child-requires g t c = omega (arith, (slot_within c.number.invariant c.number-test.true c.in-Some.ensures), c.number.self-inside.children.ok.0)
+index_mut-child-requires g t c = omega (arith, (slot_within c.number.invariant c.number-test.true c.in-Some.ensures), short_counted c.number.self-inside.children)
 
 pub take_spares-gone-requires : goal.take_spares-gone-requires
 take_spares-gone-requires g t c κs within =
@@ -28,7 +29,7 @@ overflow_add-gone g t c =
 
 pub remove-requires : goal.remove-requires
 remove-requires g t c =
-    omega (arith, slot_within c.number.invariant c.number-test.true c.in-Some.ensures, c.number.self-inside.children.ok.0)
+    omega (arith, slot_within c.number.invariant c.number-test.true c.in-Some.ensures, short_counted c.number.self-inside.children)
 
 pub overflow_add-gone-then-is_bare : goal.overflow_add-gone-then-is_bare
 overflow_add-gone-then-is_bare g t c =

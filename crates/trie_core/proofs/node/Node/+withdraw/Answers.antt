@@ -1,5 +1,6 @@
 use Rattle.std.proofs.Common.{◌≡◌, ◌-◌, ◌^◌, ◌∙◌, refl, sym, ap, subst, false, length, length-drop, arith}
 use Rattle.std.specs.FinMap.{get, remove}
+use Rattle.short_vec.specs.Lists.{short_items, short_counted}
 use Rattle.trie_core.specs.Ways.{IsPruned}
 use Rattle.trie_core.proofs.Maps.{remove_absent}
 use Rattle.trie_core.proofs.Seen.{seen}
@@ -9,10 +10,10 @@ use Rattle.trie_core.proofs.Exchanges.{not_short}
 use Rattle.trie_core.proofs.node.Node.+withdraw.Goals as goal
 
 pub index_mut-child-requires : goal.index_mut-child-requires
-index_mut-child-requires g t c = omega (arith, (way c.args.path (seen c.self.invariant c.self.view_is) c.five-number.ensures.value c.in-Some.ensures).within, c.self.inside.children.ok.0)
+index_mut-child-requires g t c = omega (arith, (way c.args.path (seen c.self.invariant c.self.view_is) c.five-number.ensures.value c.in-Some.ensures).within, short_counted c.self.inside.children)
 
 pub remove-requires : goal.remove-requires
-remove-requires g t c = omega (arith, (way c.args.path (seen c.self.invariant c.self.view_is) c.five-number.ensures.value c.in-Some.ensures).within, c.self.inside.children.ok.0)
+remove-requires g t c = omega (arith, (way c.args.path (seen c.self.invariant c.self.view_is) c.five-number.ensures.value c.in-Some.ensures).within, short_counted c.self.inside.children)
 
 pub returns-in-None-clause-value : goal.returns-in-None-clause-value
 returns-in-None-clause-value g t c =
@@ -40,7 +41,7 @@ pub invariant_of-self : goal.invariant_of-self
 invariant_of-self g t c =
     let h = not_short c.args.path c.is_short.ensures c.if-is_short.false in
     let s = seen c.self.invariant c.self.view_is in
-    (childless c.args.path c.index_mut-child.result.now s h (way c.args.path s c.five-number.ensures.value c.in-Some.ensures) c.index_mut-child.ensures.value (c.bit.ensures ∙ ap (λ i. 2 ^ i) c.five-number.ensures.value) (c.remove.ensures.items ∙ set_removed c.self.inside.children.items c.in-Some.at c.withdraw-gone.new.self)).slots
+    (childless c.args.path c.index_mut-child.result.now s h (way c.args.path s c.five-number.ensures.value c.in-Some.ensures) c.index_mut-child.ensures.value (c.bit.ensures ∙ ap (λ i. 2 ^ i) c.five-number.ensures.value) (c.remove.ensures.items ∙ set_removed (short_items c.self.inside.children) c.in-Some.at c.withdraw-gone.new.self)).slots
 
 pub returns-then-is_bare : goal.returns-then-is_bare
 returns-then-is_bare g t c =
@@ -52,7 +53,7 @@ returns-then-is_bare g t c =
     let w = way c.args.path s c.five-number.ensures.value c.in-Some.ensures in
     let bare = c.if-is_bare.ensures.bare.0 refl in
     let b = c.bit.ensures ∙ ap (λ i. 2 ^ i) c.five-number.ensures.value in
-    let p = childless c.args.path e s h w r b (c.remove.ensures.items ∙ set_removed c.self.inside.children.items c.in-Some.at d) in
+    let p = childless c.args.path e s h w r b (c.remove.ensures.items ∙ set_removed (short_items c.self.inside.children) c.in-Some.at d) in
     let l : length c.rest.result ≡ length c.args.path - 5 = ap length c.rest.ensures ∙ length-drop 5 c.args.path in
     record {
       value = c.withdraw-gone.ensures.value ∙ ap (get e.entries) c.rest.ensures ∙ was c.args.path e s h w r;

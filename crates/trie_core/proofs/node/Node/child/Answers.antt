@@ -3,6 +3,7 @@ use Rattle.std.specs.Prelude.{Some, None, MatchOption}
 use Rattle.std.specs.Option.{option_copied}
 use Rattle.std.specs.Ordering.{nat_cmp}
 use Rattle.std.specs.FinMap.{find}
+use Rattle.short_vec.specs.Lists.{short_items}
 use Rattle.trie_core.specs.InnerPlaces.{child_of, at_places}
 use Rattle.trie_core.specs.InnerSearch.{IsChild, HasNoChild}
 use Rattle.trie_core.proofs.Seen.{seen, is_child, has_no_child}
@@ -18,7 +19,7 @@ pub returns : goal.returns
 returns g c =
     let s = seen c.self.invariant c.self.view_is in
     let e = c.get_at.ensures ∙ (λ i. find nat_cmp (c.five.ensures.value i) (at_places 32 0 c.self.inside.child_bits (c.as_slice.ensures.value i))) in
-    elim c.get_at.result as (λ o. option_copied o ≡ find nat_cmp (child_of c.args.path.now) (at_places 32 0 c.self.inside.child_bits c.self.inside.children.items) → MatchOption o (HasNoChild c.args.path.now c.args.self.now) (λ n. IsChild c.args.path.now c.args.self.now n.now)) [
+    elim c.get_at.result as (λ o. option_copied o ≡ find nat_cmp (child_of c.args.path.now) (at_places 32 0 c.self.inside.child_bits (short_items c.self.inside.children)) → MatchOption o (HasNoChild c.args.path.now c.args.self.now) (λ n. IsChild c.args.path.now c.args.self.now n.now)) [
       | None ↦ λ f. has_no_child c.args.path.now s c.requires (sym f)
       | Some n ↦ λ f. is_child c.args.path.now n.now s c.requires (sym f)
     ] e

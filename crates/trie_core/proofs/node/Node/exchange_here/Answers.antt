@@ -2,6 +2,7 @@ use Rattle.std.proofs.Common.{◌≡◌, ◌∙◌, sym, ap, arith}
 use Rattle.std.specs.Prelude.{Some}
 use Rattle.std.specs.Ordering.{nat_cmp}
 use Rattle.std.specs.FinMap.{find, insert}
+use Rattle.short_vec.specs.Lists.{short_items}
 use Rattle.trie_core.specs.InnerPlaces.{at_places}
 use Rattle.trie_core.proofs.Seen.{seen, value_at}
 use Rattle.trie_core.proofs.Changes.{value_slots, value_put_map, value_count}
@@ -15,7 +16,7 @@ invariant_of-self g c = value_slots (seen c.self.invariant c.self.view_is) c.put
 pub returns-clause-stored : goal.returns-clause-stored
 returns-clause-stored g c =
     let s = seen c.self.invariant c.self.view_is in
-    let stood = ap (λ n. find nat_cmp n (at_places 32 0 c.self.inside.value_bits c.self.inside.values.items)) c.place.ensures.value ∙ value_at c.args.path s c.requires.short in
+    let stood = ap (λ n. find nat_cmp n (at_places 32 0 c.self.inside.value_bits (short_items c.self.inside.values))) c.place.ensures.value ∙ value_at c.args.path s c.requires.short in
     elim c.match-put_at.branch [
       | in-Ok w ↦ rw (w.result-is, w.held-is) (record {
         old = w.in-Ok.ensures.old ∙ stood;
@@ -35,5 +36,5 @@ returns-clause-stored g c =
 pub returns-clause-absent : goal.returns-clause-absent
 returns-clause-absent g c = elim c.match-put_at.branch [
   | in-Ok w ↦ rw w.result-is tt
-  | in-Err w ↦ rw w.result-is (sym (value_at c.args.path (seen c.self.invariant c.self.view_is) c.requires.short) ∙ ap (λ n. find nat_cmp n (at_places 32 0 c.self.inside.value_bits c.self.inside.values.items)) (sym c.place.ensures.value) ∙ w.in-Err.ensures.absent)
+  | in-Err w ↦ rw w.result-is (sym (value_at c.args.path (seen c.self.invariant c.self.view_is) c.requires.short) ∙ ap (λ n. find nat_cmp n (at_places 32 0 c.self.inside.value_bits (short_items c.self.inside.values))) (sym c.place.ensures.value) ∙ w.in-Err.ensures.absent)
 ]

@@ -1,6 +1,7 @@
 use Rattle.std.proofs.Common.{◌≡◌, arith}
 use Rattle.std.specs.Prelude.{bit_and}
 use Rattle.std.proofs.lemmas.Bool.Decides.{nat_tests}
+use Rattle.short_vec.specs.Lists.{short_counted}
 use Rattle.trie_core.proofs.Seen.{seen}
 use Rattle.trie_core.proofs.Searches.{none_here, index_here, shortest_here}
 use Rattle.trie_core.proofs.node.Node.shortest_here.Goals as goal
@@ -14,7 +15,7 @@ pub place_length-requires : goal.place_length-requires
 place_length-requires g c = (index_here c.args.path.now c.beginnings.result c.first_place-place.result c.taken_below-at.result (seen c.self.invariant c.self.view_is) c.beginnings.ensures c.first_place-place.ensures.taken c.taken_below-at.ensures).1
 
 pub index-requires : goal.index-requires
-index-requires g c = omega (arith, (index_here c.args.path.now c.beginnings.result c.first_place-place.result c.taken_below-at.result (seen c.self.invariant c.self.view_is) c.beginnings.ensures c.first_place-place.ensures.taken c.taken_below-at.ensures).0, c.self.inside.values.ok.0)
+index-requires g c = omega (arith, (index_here c.args.path.now c.beginnings.result c.first_place-place.result c.taken_below-at.result (seen c.self.invariant c.self.view_is) c.beginnings.ensures c.first_place-place.ensures.taken c.taken_below-at.ensures).0, short_counted c.self.inside.values)
 
 pub returns : goal.returns
 returns g c = shortest_here c.args.path.now c.beginnings.result c.first_place-place.result c.taken_below-at.result c.place_length.result c.index.result.now (seen c.self.invariant c.self.view_is) c.beginnings.ensures c.first_place-place.ensures c.taken_below-at.ensures c.place_length.ensures.value c.index.ensures

@@ -1,4 +1,5 @@
 use Rattle.std.proofs.Common.{◌^◌, ◌∙◌, ap, subst, arith}
+use Rattle.short_vec.specs.Lists.{short_counted}
 use Rattle.trie_core.specs.InnerNodes.{AreBelow}
 use Rattle.trie_core.proofs.Seen.{seen}
 use Rattle.trie_core.proofs.Changes.{way, childless}
@@ -8,7 +9,7 @@ use Rattle.trie_core.proofs.Removals.{removed_none, removed_whole}
 use Rattle.trie_core.proofs.node.Node.take_child.Goals as goal
 
 pub remove-child-requires : goal.remove-child-requires
-remove-child-requires g c = omega (arith, (way c.args.path.now (seen c.self.invariant c.self.view_is) c.five-number.ensures.value c.in-Some.ensures).within, c.self.inside.children.ok.0)
+remove-child-requires g c = omega (arith, (way c.args.path.now (seen c.self.invariant c.self.view_is) c.five-number.ensures.value c.in-Some.ensures).within, short_counted c.self.inside.children)
 
 pub counts-requires-clause-entries : goal.counts-requires-clause-entries
 counts-requires-clause-entries g c =

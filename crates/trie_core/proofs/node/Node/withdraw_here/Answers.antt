@@ -1,6 +1,7 @@
 use Rattle.std.proofs.Common.{◌∙◌, refl, sym, ap, subst, false, arith}
 use Rattle.std.specs.Ordering.{nat_cmp}
 use Rattle.std.specs.FinMap.{find}
+use Rattle.short_vec.specs.Lists.{short_items}
 use Rattle.trie_core.specs.InnerPlaces.{at_places}
 use Rattle.trie_core.specs.Ways.{IsPruned}
 use Rattle.trie_core.proofs.Seen.{seen, map_of, value_at}
@@ -10,7 +11,7 @@ use Rattle.trie_core.proofs.node.Node.withdraw_here.Goals as goal
 
 pub returns-clause-value : goal.returns-clause-value
 returns-clause-value g c =
-    c.take_at.ensures.value ∙ ap (λ n. find nat_cmp n (at_places 32 0 c.self.inside.value_bits c.self.inside.values.items)) c.place.ensures.value ∙ value_at c.args.path (seen c.self.invariant c.self.view_is) c.requires
+    c.take_at.ensures.value ∙ ap (λ n. find nat_cmp n (at_places 32 0 c.self.inside.value_bits (short_items c.self.inside.values))) c.place.ensures.value ∙ value_at c.args.path (seen c.self.invariant c.self.view_is) c.requires
 
 pub invariant_of-self : goal.invariant_of-self
 invariant_of-self g c = value_slots (seen c.self.invariant c.self.view_is) c.take_at.ensures.counted (omega (arith, c.take_at.ensures.below, c.self.invariant.values_below))
@@ -22,7 +23,7 @@ returns-clause-map g c =
 pub returns-clause-spares : goal.returns-clause-spares
 returns-clause-spares g c =
     let s = seen c.self.invariant c.self.view_is in
-    subst (λ b. IsPruned c.args.path c.args.self.now.spares (map_of c.take_at.new.taken c.take_at.new.items.items c.self.inside.child_bits c.self.inside.children.items) b) (sym s.spare) (left_short (λ x. false) c.args.path s c.requires (λ x. refl))
+    subst (λ b. IsPruned c.args.path c.args.self.now.spares (map_of c.take_at.new.taken (short_items c.take_at.new.items) c.self.inside.child_bits (short_items c.self.inside.children)) b) (sym s.spare) (left_short (λ x. false) c.args.path s c.requires (λ x. refl))
 
 pub returns-clause-count : goal.returns-clause-count
 returns-clause-count g c = omega (arith, value_count (seen c.self.invariant c.self.view_is) (invariant_of-self g c))

@@ -1,0 +1,4 @@
+pub mod Steps
+pub mod Seen
+pub mod Lent
+pub mod MachineWords
