@@ -1,5 +1,5 @@
 -- The addresses of a run, and the blocks that they are cut into.
-use Rattle.std.proofs.Common.{◌≡◌, ℕ, ◌+◌, ◌-◌, ◌^◌, ◌<◌, ◌≤◌, ◌⊎◌, inl, inr, ⊎_elim, ◌↔◌, Any, List, [], ◌∷◌, ◌++◌, map, Option, None, refl, sym, ap, ◌∙◌, subst, arith}
+use Rattle.std.proofs.Common.{◌≡◌, ℕ, ◌^◌, ◌<◌, ◌≤◌, ◌⊎◌, inl, inr, ⊎_elim, ◌↔◌, Any, List, [], ◌∷◌, ◌++◌, map, None, refl, sym, ap, ◌∙◌, subst, arith}
 use Rattle.std.proofs.lemmas.Bool.{cases_lt}
 use Rattle.std.proofs.lemmas.Nat.{pow_pos}
 use Rattle.ipnet_addr.specs.Addresses.{Family, Ipv4, Ipv6, width, rank, Address}
@@ -13,7 +13,7 @@ use Rattle.ipnet_blocks.specs.declared.aggregate.Span.{Span}
 use Rattle.ipnet_blocks.proofs.Cuts.{Between, cut_is_exact, has_of_span, span_of_has}
 use Rattle.ipnet_blocks.proofs.Maximals.{maximal_is_union}
 use Rattle.route_laws.specs.Flats.{Piece}
-use Rattle.route_table.specs.Items.{BeginsWithRun, IsInRun, run_family, run_first, run_hop, run_last}
+use Rattle.route_table.specs.Items.{BeginsWithRun, run_family, run_first, run_hop, run_last}
 use Rattle.std.specs.Net.Addr.{ipv4_bits, ipv6_bits}
 use Rattle.std.specs.declared.net.ipv4_addr.Ipv4Addr.{Ipv4Addr}
 use Rattle.std.specs.declared.net.ipv6_addr.Ipv6Addr.{Ipv6Addr}

@@ -1,5 +1,5 @@
 -- Least tables of one family, as lists of bit strings.
-use Rattle.std.specs.Prelude.{◌≡◌, ℕ, Bool, List, ◌++◌, All, Option, filter, length, map}
+use Rattle.std.specs.Prelude.{◌≡◌, ℕ, Bool, List, All, Option, filter, length, map}
 use Rattle.ipnet_addr.specs.Addresses.{Family, Ipv4, Ipv6, Address, width, same_family}
 use Rattle.ipnet_blocks.specs.Blocks.{bit_string}
 use Rattle.ipnet_blocks.specs.Networks.{Network, IsTruncated}

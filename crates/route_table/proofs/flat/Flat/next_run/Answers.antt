@@ -1,7 +1,3 @@
-use Rattle.std.proofs.Common.{List, subst}
-use Rattle.route_laws.specs.Flats.{Piece}
-use Rattle.route_table.specs.InnerFlattening.{pieces_left}
-use Rattle.route_table.specs.Items.{BeginsWithRun}
 use Rattle.route_table.proofs.HopRuns.{piece_then}
 use Rattle.route_table.proofs.flat.Flat.next_run.Goals as goal
 
