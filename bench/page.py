@@ -2,7 +2,7 @@
 import re
 import textwrap
 
-TITLES = ("Times and memory", "Shortest tables", "Beside a Rust program", "The installer", "Map calls", "From C")
+TITLES = ("Times and memory", "Least tables", "Beside a Rust program", "The installer", "Map calls", "From C")
 
 HEAD = """# Speed and memory
 
@@ -40,6 +40,8 @@ def put(path, title, blocks):
     """Puts a part in place of the one with its title; the head is written anew, and the other parts stay."""
     parts = re.split(r"^## (.*)\n", path.read_text(encoding="utf-8") if path.exists() else "", flags=re.MULTILINE)[1:]
     known = {name: f"## {name}\n{text.rstrip()}\n" for name, text in zip(parts[::2], parts[1::2])}
+    if title not in TITLES:
+        raise SystemExit(f"bench: the page has no part {title}")
     known[title] = part(title, blocks)
     path.write_text("\n".join([HEAD, *(known[name] for name in TITLES if name in known)]), encoding="utf-8")
 
