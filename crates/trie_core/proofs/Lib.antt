@@ -23,6 +23,7 @@ pub mod Splits
 pub mod Frames
 pub mod Opened
 pub mod Walks
+pub mod Tops
 pub mod Trails
 pub mod Inside
 pub mod Leaves

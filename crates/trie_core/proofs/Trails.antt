@@ -1,5 +1,5 @@
 -- A stack of frames along a way.
-use Rattle.std.proofs.Common.{◌≡◌, ℕ, suc, ◌+◌, ◌-◌, ◌*◌, ◌<◌, ◌≤◌, Bool, List, [], ◌∷◌, ◌++◌, length, take, drop, refl, sym, ap, subst, ◌∙◌, arith}
+use Rattle.std.proofs.Common.{Option, None, Some, MatchOption, ◌≡◌, ℕ, suc, ◌+◌, ◌-◌, ◌*◌, ◌<◌, ◌≤◌, Bool, List, [], ◌∷◌, ◌++◌, length, take, drop, refl, sym, ap, subst, ◌∙◌, arith}
 use Rattle.std.proofs.lemmas.List.{take_all, append-nil, take_at, take-take}
 use Rattle.std.proofs.Math.ListN.{length-append, length-take}
 use Rattle.std.specs.FinMap.{entries}
@@ -11,6 +11,8 @@ use Rattle.trie_core.proofs.Strings.{front}
 use Rattle.trie_core.specs.Nodes.{Seen}
 use Rattle.trie_core.specs.InnerNodes.{under}
 use Rattle.trie_core.specs.InnerSearch.{IsChild, HasNoChild}
+use Rattle.trie_core.specs.InnerSteps.{LastGives}
+use Rattle.trie_core.specs.declared.frame.Next.{Next}
 use Rattle.trie_core.specs.InnerTrails.{on_way, along, Reach, IsWalk}
 use Rattle.trie_core.proofs.Frames.{keys_split, keys_where, under_none}
 use Rattle.trie_core.proofs.Walks.{IsTop, popped, pushed, entry_step, below_step, IsOnwards, start_onwards, onwards_below, onwards_none, onwards_end}
@@ -22,6 +24,16 @@ module _ {X : Type 0} where
 
   pub one_more : {gs : List (Left X)} (fs : List (Left X)) (f : Left X) → gs ≡ fs ++ f ∷ [] → length gs ≡ length fs + 1
   one_more fs f e = ap length e ∙ length-append fs (f ∷ [])
+
+  -- what a stack is once its last frame is taken off
+  pub taken_off : {F : Type 0} (left : F → Left X) (r : Option F) {gs hs : List (Left X)} (fs : List (Left X)) (f : Left X) → gs ≡ fs ++ f ∷ [] → MatchOption r ((gs ≡ []) × (hs ≡ [])) (λ g. gs ≡ hs ++ left g ∷ []) → hs ≡ fs
+  taken_off left None fs f e n = absurd (omega (arith, one_more fs f e, ap length n.0))
+  taken_off left (Some g) {gs} {hs} fs f e d =
+      let n : ℕ = length gs - 1 in
+      sym (take_at hs (left g ∷ []) n (omega (arith, one_more hs (left g) d))) ∙ ap (take n) (sym d ∙ e) ∙ take_at fs (f ∷ []) n (omega (arith, one_more fs f e))
+
+  pub given : {G F S : Type 0} {value : G → X} {below : F → Left X} {left : S → Left X} {way : List Bool} {fs gs : List S} {m n : Next G F} → LastGives value below left way fs m gs → m ≡ n → LastGives value below left way fs n gs
+  given {value = value} {below = below} {left = left} {way = way} {fs = fs} {gs = gs} l e = subst (λ n. LastGives value below left way fs n gs) e l
 
   -- below the last frame the way is five bits shorter
   along_top : (way : List Bool) (fs : List (Left X)) (f : Left X) → along way (fs ++ f ∷ []) ≡ along (take (length way - 5) way) fs ++ on_way way f ∷ []

@@ -1,7 +1,7 @@
 -- What a step of a walk gives and leaves, whether nodes and values are lent or owned.
-use Rattle.std.specs.Prelude.{ℕ, ◌+◌, ◌-◌, ◌<◌, ◌≤◌, ◌≡◌, length, take, Bool, List, [], ◌∷◌, ◌++◌}
+use Rattle.std.specs.Prelude.{ℕ, ◌+◌, ◌-◌, ◌*◌, ◌<◌, ◌≤◌, ◌≡◌, length, take, Bool, List, [], ◌∷◌, ◌++◌}
 use Rattle.trie_core.specs.InnerNodes.{under}
-use Rattle.trie_core.specs.InnerWalks.{Left}
+use Rattle.trie_core.specs.InnerWalks.{KeysWithin, Left}
 use Rattle.trie_core.specs.declared.frame.Next.{Next}
 use Rattle.trie_core.specs.declared.frame.Next.TheVariants.{Below, Nothing}
 use Rattle.trie_core.specs.declared.frame.Next.TheVariants as next
@@ -14,6 +14,20 @@ abbrev pub GivesNext : {X G F : Type 0} → (G → X) → (F → Left X) → Lis
 GivesNext value left way s (next.Entry key v) t = (under way s.0 ≡ (key, value v) ∷ under way t.0) × (t.1 ≤ s.1)
 GivesNext value left way s (Below f below) t = (under way s.0 ≡ under below (left f).0 ++ under way t.0) × (0 < (left f).1) × ((left f).1 < s.1) × (t.1 ≤ s.1) × ((left f).2 + t.2 + 1 < s.2) × (take (length below - 5) below ≡ way) × (length below ≡ length way + 5)
 GivesNext value left way s Nothing t = s.0 ≡ []
+
+-- the last of these frames stands within the longest way, and no key that is left of it is longer than 128 bits
+abbrev pub LastCanGive : {X S : Type 0} → (S → Left X) → List Bool → List S → Type 0
+LastCanGive {S = S} left way fs = (front : List S) (f : S) → fs ≡ front ++ f ∷ [] → (length way + 5 * (left f).1 ≤ 130) × KeysWithin 128 (under way (left f).0)
+
+-- what stood first in the last of the frames was taken out of it, and those before it stay
+pub record LastGives {X G F S : Type 0} (value : G → X) (below : F → Left X) (left : S → Left X) (way : List Bool) (fs : List S) (n : Next G F) (gs : List S) : Type 0 where
+  pub front : List S
+  pub before : S
+  pub after : S
+  pub was : fs ≡ front ++ before ∷ []
+  pub is : gs ≡ front ++ after ∷ []
+  pub next : GivesNext value below way (left before) n (left after)
+  pub levels : 0 < (left after).1
 
 -- a step gave the first entry, or passed what holds none, or nothing was left
 abbrev pub Stepped : {X G : Type 0} → (G → X) → List (List Bool × X) × ℕ → Step G → List (List Bool × X) × ℕ → Type 0

@@ -7,7 +7,7 @@ ghost use Rattle.trie_core.specs.Nodes.{Seen};
 ghost use Rattle.trie_core.specs.InnerNodes.{under};
 ghost use Rattle.trie_core.specs.InnerSearch.{IsChild, HasNoChild};
 ghost use Rattle.trie_core.specs.InnerWalks.{KeysWithin, Left};
-ghost use Rattle.trie_core.specs.InnerSteps.{GivesNext};
+ghost use Rattle.trie_core.specs.InnerSteps.{GivesNext, LastCanGive, LastGives};
 
 use crate::path::Path;
 
@@ -77,6 +77,11 @@ pub trait FrameStack<T>: Drop {
     fn empty() -> Self
         ensures { frames result ≡ [] };
 
+    /// Takes out what stands first in the last frame, where the way leads to its node.
+    fn next(&mut self, way: &Path) -> Option<Next<<Self::Frame as Frame<T>>::Given, Self::Frame>>
+        requires { LastCanGive (λ f. f) way.now (frames self.old) }
+        ensures { MatchOption result ((frames self.old ≡ []) × (frames self.new ≡ [])) (λ n. LastGives Self.Frame.value Self.Frame.left (λ f. f) way.now (frames self.old) n (frames self.new)) };
+
     /// Takes off the last frame.
     fn pop(&mut self) -> Option<Self::Frame>
         ensures { MatchOption result ((frames self.old ≡ []) × (frames self.new ≡ [])) (λ f. frames self.old ≡ frames self.new ++ Self.Frame.left f ∷ []) };
@@ -85,6 +90,21 @@ pub trait FrameStack<T>: Drop {
     fn push(&mut self, frame: Self::Frame)
         requires { length (frames self.old) < 26 }
         ensures { frames self.new ≡ frames self.old ++ Self.Frame.left frame ∷ [] };
+}
+
+/// Takes out what stands first in the last of these frames, where the way leads to its node.
+#[inline]
+pub(crate) fn next_of_last<T, F: Frame<T>>(
+    frames: &mut [F],
+    way: &Path,
+) -> Option<Next<F::Given, F>>
+    requires { LastCanGive F.left way.now frames.old }
+    ensures { MatchOption result ((frames.old ≡ []) × (frames.new ≡ [])) (λ n. LastGives F.value F.left F.left way.now frames.old n frames.new) }
+{
+    let Some(last) = frames.last_mut() else {
+        return None;
+    };
+    Some(last.next(way))
 }
 
 /// A stack of frames of nodes that are lent, of which there can be a second one.

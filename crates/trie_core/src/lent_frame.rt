@@ -8,7 +8,7 @@ ghost use Rattle.trie_core.specs.InnerPlaces.{place_of, child_of, IsFirstPlace};
 ghost use Rattle.trie_core.specs.InnerWalks.{is_past};
 ghost use Rattle.trie_core.specs.InnerFrames.{is_open, place_first, open_weight};
 
-use crate::frame::{Frame, FrameStack, LentStack, Next};
+use crate::frame::{Frame, FrameStack, LentStack, Next, next_of_last};
 use crate::node::Node;
 use crate::path::Path;
 use crate::slots::{first_place, taken_below};
@@ -207,6 +207,11 @@ impl<'a, T> FrameStack<T> for ArrayVec<LentFrame<'a, T>, 26> {
     #[inline]
     fn empty() -> ArrayVec<LentFrame<'a, T>, 26> {
         ArrayVec::new()
+    }
+
+    #[inline]
+    fn next(&mut self, way: &Path) -> Option<Next<&'a T, LentFrame<'a, T>>> {
+        next_of_last(self.as_mut_slice(), way)
     }
 
     #[inline]

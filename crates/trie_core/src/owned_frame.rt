@@ -7,7 +7,7 @@ ghost use Rattle.trie_core.specs.InnerPlaces.{place_string, child_string, placed
 ghost use Rattle.trie_core.specs.InnerHeld.{held};
 ghost use Rattle.trie_core.specs.InnerWalks.{first_value, AreParts};
 
-use crate::frame::{Frame, FrameStack, Next};
+use crate::frame::{Frame, FrameStack, Next, next_of_last};
 use crate::node::Node;
 use crate::path::Path;
 use crate::slots::{first_place, low_bits, slot};
@@ -263,6 +263,10 @@ impl<T: Drop> FrameStack<T> for ArrayVec<OwnedFrame<T>, 26> {
 
     fn empty() -> ArrayVec<OwnedFrame<T>, 26> {
         ArrayVec::new()
+    }
+
+    fn next(&mut self, way: &Path) -> Option<Next<T, OwnedFrame<T>>> {
+        next_of_last(self.as_mut_slice(), way)
     }
 
     fn pop(&mut self) -> Option<OwnedFrame<T>> {

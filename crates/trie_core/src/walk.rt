@@ -127,22 +127,16 @@ impl<T, S: FrameStack<T>> FrameWalk<T, S> {
     fn step(&mut self) -> Step<<S::Frame as Frame<T>>::Given>
         ensures { Stepped S.Frame.value self.old result self.new }
     {
-        let Some(mut frame) = self.stack.pop() else {
-            return Step::Done;
-        };
-        match frame.next(&self.trail) {
-            Next::Entry(key, value) => {
-                self.stack.push(frame);
-                Step::Entry(key, value)
-            }
-            Next::Below(below, way) => {
-                self.stack.push(frame);
+        match self.stack.next(&self.trail) {
+            None => Step::Done,
+            Some(Next::Entry(key, value)) => Step::Entry(key, value),
+            Some(Next::Below(below, way)) => {
                 self.stack.push(below);
                 self.trail = way;
                 Step::Moved
             }
-            Next::Nothing => {
-                drop(frame);
+            Some(Next::Nothing) => {
+                drop(self.stack.pop());
                 self.trail = above(&self.trail);
                 Step::Moved
             }

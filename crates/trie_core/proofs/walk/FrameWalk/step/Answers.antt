@@ -1,50 +1,55 @@
-use Rattle.std.proofs.Common.{◌∙◌, sym, ap, arith}
-use Rattle.trie_core.proofs.Trails.{last_frame, last_keys, one_more, entry_left, below_left, nothing_left}
+use Rattle.std.proofs.Common.{◌∙◌, sym, ap, subst, arith}
+use Rattle.trie_core.specs.InnerTrails.{along, IsWalk}
+use Rattle.trie_core.specs.InnerWalks.{walk_rest, walk_weight}
+use Rattle.trie_core.proofs.Trails.{given, last_frame, last_keys, one_more, taken_off, entry_left, below_left, nothing_left}
 use Rattle.trie_core.proofs.walk.FrameWalk.step.Goals as goal
 
-pub next-requires-clause-levels : goal.next-requires-clause-levels
-next-requires-clause-levels g c = (last_frame c.self.invariant c.in-Some.ensures).reach
+pub next-requires : goal.next-requires
+next-requires g c front f e = let p = last_frame c.self.invariant e in (p.reach, last_keys c.self.invariant p)
 
-pub next-requires-clause-keys : goal.next-requires-clause-keys
-next-requires-clause-keys g c = last_keys c.self.invariant (last_frame c.self.invariant c.in-Some.ensures)
+pub invariant_of-self-in-Some-Entry : goal.invariant_of-self-in-Some-Entry
+invariant_of-self-in-Some-Entry g c =
+    let l = given c.in-Some-Entry.ensures c.in-Some-Entry.field-0-is in
+    (entry_left _ _ _ (c.in-Some-Entry.key, g.S.Frame.Frame.value c.in-Some-Entry.value) c.self.invariant l.was l.levels l.next.1 l.is l.next.0).0
+
+pub returns-in-Some-Entry : goal.returns-in-Some-Entry
+returns-in-Some-Entry g c =
+    let l = given c.in-Some-Entry.ensures c.in-Some-Entry.field-0-is in
+    ap (λ s. s.0) (sym c.self.view_is) ∙ (entry_left _ _ _ (c.in-Some-Entry.key, g.S.Frame.Frame.value c.in-Some-Entry.value) c.self.invariant l.was l.levels l.next.1 l.is l.next.0).1
 
 pub push-requires : goal.push-requires
-push-requires g c = let p = last_frame c.self.invariant c.in-Some.ensures in omega (arith, p.room, p.top.positive)
+push-requires g c =
+    let l = given c.in-Some-Below.ensures c.in-Some-Below.field-0-is in
+    let p = last_frame c.self.invariant l.was in
+    omega (arith, one_more l.front l.after l.is, p.room, l.next.1, l.next.2)
 
-pub invariant_of-self-in-Entry : goal.invariant_of-self-in-Entry
-invariant_of-self-in-Entry g c = (entry_left _ _ _ (c.in-Entry.key, g.S.Frame.Frame.value c.in-Entry.value) c.self.invariant c.in-Some.ensures c.next.ensures.levels c.in-Entry.ensures.next.1 c.push.ensures c.in-Entry.ensures.next.0).0
+pub invariant_of-self-in-Some-Below : goal.invariant_of-self-in-Some-Below
+invariant_of-self-in-Some-Below g c =
+    let l = given c.in-Some-Below.ensures c.in-Some-Below.field-0-is in
+    let n = l.next in
+    (below_left _ _ _ (g.S.Frame.Frame.left c.in-Some-Below.below) c.self.invariant l.was l.levels n.3 l.is n.1 n.2 n.5 n.6 c.push.ensures n.0 n.4).0
 
-pub returns-in-Entry : goal.returns-in-Entry
-returns-in-Entry g c = ap (λ s. s.0) (sym c.self.view_is) ∙ (entry_left _ _ _ (c.in-Entry.key, g.S.Frame.Frame.value c.in-Entry.value) c.self.invariant c.in-Some.ensures c.next.ensures.levels c.in-Entry.ensures.next.1 c.push.ensures c.in-Entry.ensures.next.0).1
-
-pub push-requires-in-Below : goal.push-requires-in-Below
-push-requires-in-Below g c = let p = last_frame c.self.invariant c.in-Some.ensures in omega (arith, p.room, p.top.positive)
-
-pub push-requires-in-Below-2 : goal.push-requires-in-Below-2
-push-requires-in-Below-2 g c =
-    let p = last_frame c.self.invariant c.in-Some.ensures in
-    omega (arith, one_more (g.S.FrameStack.frames c.pop.new.self) (g.S.Frame.Frame.left c.next.new.self) c.push-in-Below.ensures, p.room, c.in-Below.ensures.next.1, c.in-Below.ensures.next.2)
-
-pub invariant_of-self-in-Below : goal.invariant_of-self-in-Below
-invariant_of-self-in-Below g c =
-    let n = c.in-Below.ensures.next in
-    (below_left _ _ _ (g.S.Frame.Frame.left c.in-Below.below) c.self.invariant c.in-Some.ensures c.next.ensures.levels n.3 c.push-in-Below.ensures n.1 n.2 n.5 n.6 c.push-in-Below-2.ensures n.0 n.4).0
-
-pub returns-in-Below : goal.returns-in-Below
-returns-in-Below g c =
-    let n = c.in-Below.ensures.next in
-    let b = below_left _ _ _ (g.S.Frame.Frame.left c.in-Below.below) c.self.invariant c.in-Some.ensures c.next.ensures.levels n.3 c.push-in-Below.ensures n.1 n.2 n.5 n.6 c.push-in-Below-2.ensures n.0 n.4 in
+pub returns-in-Some-Below : goal.returns-in-Some-Below
+returns-in-Some-Below g c =
+    let l = given c.in-Some-Below.ensures c.in-Some-Below.field-0-is in
+    let n = l.next in
+    let b = below_left _ _ _ (g.S.Frame.Frame.left c.in-Some-Below.below) c.self.invariant l.was l.levels n.3 l.is n.1 n.2 n.5 n.6 c.push.ensures n.0 n.4 in
     (ap (λ s. s.0) (sym c.self.view_is) ∙ b.1, omega (arith, ap (λ s. s.1) c.self.view_is, b.2))
 
 pub above-self-inside-requires : goal.above-self-inside-requires
-above-self-inside-requires g c = let p = last_frame c.self.invariant c.in-Some.ensures in omega (arith, p.reach)
+above-self-inside-requires g c = let p = last_frame c.self.invariant (given c.in-Some-Nothing.ensures c.in-Some-Nothing.field-0-is).was in omega (arith, p.reach)
 
-pub invariant_of-self-in-Nothing : goal.invariant_of-self-in-Nothing
-invariant_of-self-in-Nothing g c = (nothing_left c.self.invariant (last_frame c.self.invariant c.in-Some.ensures) c.above-self-inside.ensures c.in-Nothing.ensures.next).0
+pub invariant_of-self-in-Some-Nothing : goal.invariant_of-self-in-Some-Nothing
+invariant_of-self-in-Some-Nothing g c =
+    let l = given c.in-Some-Nothing.ensures c.in-Some-Nothing.field-0-is in
+    let t = taken_off g.S.Frame.Frame.left c.pop.result l.front l.after l.is c.pop.ensures in
+    subst (λ fs. IsWalk fs c.above-self-inside.result) (sym t) (nothing_left c.self.invariant (last_frame c.self.invariant l.was) c.above-self-inside.ensures l.next).0
 
-pub returns-in-Nothing : goal.returns-in-Nothing
-returns-in-Nothing g c =
-    let n = nothing_left c.self.invariant (last_frame c.self.invariant c.in-Some.ensures) c.above-self-inside.ensures c.in-Nothing.ensures.next in (
-      ap (λ s. s.0) (sym c.self.view_is) ∙ n.1,
-      omega (arith, ap (λ s. s.1) c.self.view_is, n.2),
+pub returns-in-Some-Nothing : goal.returns-in-Some-Nothing
+returns-in-Some-Nothing g c =
+    let l = given c.in-Some-Nothing.ensures c.in-Some-Nothing.field-0-is in
+    let t = taken_off g.S.Frame.Frame.left c.pop.result l.front l.after l.is c.pop.ensures in
+    let n = nothing_left c.self.invariant (last_frame c.self.invariant l.was) c.above-self-inside.ensures l.next in (
+      ap (λ s. s.0) (sym c.self.view_is) ∙ n.1 ∙ ap (λ fs. walk_rest (along c.above-self-inside.result fs)) (sym t),
+      omega (arith, ap (λ s. s.1) c.self.view_is, n.2, ap (λ fs. walk_weight (along c.above-self-inside.result fs)) (sym t)),
     )
