@@ -1,5 +1,5 @@
 -- Lists in blocks of one size.
-use Rattle.std.specs.Prelude.{◌≡◌, All, List, length}
+use Rattle.std.specs.Prelude.{◌≡◌, ℕ, ◌<◌, ◌≤◌, All, List, length}
 use Rattle.std.specs.List.{flat_map}
 use Rattle.std.specs.declared.alloc.Global.{Global}
 use Rattle.std.specs.declared.vec.Vec.{Vec}
@@ -10,5 +10,9 @@ module _ {X : Type 0} where
   joined = flat_map (λ b. b.items)
 
   -- each block has as many items as a block has
-  abbrev pub AreFull : List (Vec X Global) → Type 0
-  AreFull blocks = All (λ b. length b.items ≡ 1024) blocks
+  abbrev pub AreFull : ℕ → List (Vec X Global) → Type 0
+  AreFull size blocks = All (λ b. length b.items ≡ size) blocks
+
+-- how many items a block may have
+abbrev pub IsSize : ℕ → Type 0
+IsSize size = (0 < size) × (size ≤ 1024)

@@ -11,4 +11,5 @@ pub mod InnerSteps
 pub mod InnerSets
 pub mod InnerPacked
 pub mod InnerStacks
+pub mod InnerWords
 pub mod InnerPlans

@@ -9,14 +9,14 @@ ghost use Rattle.least_table.specs.InnerPacked.{AreWhole};
 ghost use Rattle.least_table.specs.InnerPlans.{IsPlanned};
 
 use crate::bits::{bit, common};
-use crate::piece::Piece;
-use crate::plan::{Steps, routes};
+use crate::piece::Pieces;
+use crate::plan::{Routes, Steps, routes};
 use crate::stack::Stack;
 use prefix_trie::{Key, Prefix};
 use std::alloc::{AllocError, Global};
 
 /// How many of the pieces from the place `from` on lie in the lower half, by the bit at `depth`.
-fn cut<P: Prefix>(pieces: &Stack<Piece<P>>, from: usize, depth: u8) -> usize
+fn cut<K: Key>(pieces: &Pieces<K>, from: usize, depth: u8) -> usize
     requires within { from ≤ length pieces.now }
     requires long { All (λ p. depth < length p.0) (drop from pieces.now) }
     requires ascending { IsAscending (beyond depth (drop from pieces.now)) }
@@ -40,13 +40,14 @@ fn cut<P: Prefix>(pieces: &Stack<Piece<P>>, from: usize, depth: u8) -> usize
 /// Adds the steps of a plan of a block of `depth` bits for the pieces in it, those from the place `from` on, and takes these off. Where
 /// they have two bits or more in common, the levels between are one step; where they have one, or none, the block is cut into halves,
 /// of which one may be empty.
-fn add_plan<P: Prefix + Copy>(
+fn add_plan<P: Prefix + Copy, K: Key>(
     alloc: Global,
-    pieces: &mut Stack<Piece<P>>,
+    pieces: &mut Pieces<K>,
     from: usize,
     depth: u8,
     plan: &mut Steps<P>,
 ) -> Result<(), AllocError>
+    requires width { K.width ≡ P.R.width }
     requires whole { AreWhole plan.old }
     requires within { from ≤ length pieces.old }
     requires ascending { IsAscending (beyond depth (drop from pieces.old)) }
@@ -82,10 +83,11 @@ fn add_plan<P: Prefix + Copy>(
 ///
 /// # Errors
 /// Where there is no memory.
-pub fn least<P: Prefix + Copy>(
+pub fn least<P: Prefix + Copy, K: Key>(
     alloc: Global,
-    pieces: Stack<Piece<P>>,
-) -> Result<Stack<(P, Option<u32>)>, AllocError>
+    pieces: Pieces<K>,
+) -> Result<Routes<P>, AllocError>
+    requires width { K.width ≡ P.R.width }
     requires disjoint { AreDisjoint pieces }
     ensures networks { IfOk result (λ table. All (λ r. IsTrue (P.fits r.0) × (r.0 ≡ P.of_bits (P.bits r.0)) × IfSome r.1 (λ n. n < 2 ^ 32)) table) }
     ensures ordered { IfOk result (λ table. AllPairs (λ r s. bits_cmp r.0 s.0 ≡ Less) (strings P.bits table)) }

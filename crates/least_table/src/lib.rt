@@ -11,5 +11,6 @@ mod plan;
 mod stack;
 
 pub use fewest::least;
-pub use piece::Piece;
+pub use piece::{Piece, Pieces, WideKey};
+pub use plan::Routes;
 pub use stack::Stack;

@@ -35,6 +35,9 @@ enum Packed {
     Skip(u32),
 }
 
+/// The routes of a table, each with its hop; `None` is `drop`.
+pub type Routes<P> = Stack<(P, Option<u32>), 64>;
+
 /// The hops that a block is best handed, rising.
 #[derive(Drop)]
 enum Best<'a> {
@@ -59,11 +62,11 @@ impl<'a> Best<'a> {
 /// The steps of a plan.
 #[derive(Drop)]
 pub(crate) struct Steps<P: Copy> {
-    steps: Stack<Packed>,
+    steps: Stack<Packed, 64>,
     /// The sets of several hops.
     sets: KeptSets,
     /// The smaller blocks of steps that skip levels.
-    inner: Stack<P>,
+    inner: Stack<P, 64>,
 }
 
 impl<P: Prefix + Copy> Steps<P> {
@@ -187,7 +190,7 @@ impl<P: Prefix + Copy> Steps<P> {
         path: &Path,
         handed: Option<u32>,
         waiting: &mut Vec<(Path, Option<u32>)>,
-        table: &mut Stack<(P, Option<u32>)>,
+        table: &mut Routes<P>,
     ) -> Result<(), AllocError>
         requires width { P.R.width ≤ 128 }
         requires kept { IsKept self.now.sets (length self.now.inner) step }
@@ -215,7 +218,7 @@ impl<P: Prefix + Copy> Steps<P> {
 
 /// Adds the route of the block at `path`.
 fn add<P: Prefix + Copy>(
-    table: &mut Stack<(P, Option<u32>)>,
+    table: &mut Routes<P>,
     path: &Path,
     hop: Option<u32>,
 ) -> Result<(), AllocError>
@@ -233,7 +236,7 @@ fn hand_down<P: Prefix + Copy>(
     best: &[Option<u32>],
     path: &Path,
     handed: Option<u32>,
-    table: &mut Stack<(P, Option<u32>)>,
+    table: &mut Routes<P>,
 ) -> Result<Option<u32>, AllocError>
     requires { length path.now ≤ P.R.width }
     ensures passed { IfOk result (λ hop. hop ≡ passed best.now handed) }
@@ -252,7 +255,7 @@ fn hand_down<P: Prefix + Copy>(
 pub(crate) fn routes<P: Prefix + Copy>(
     alloc: Global,
     plan: Steps<P>,
-) -> Result<Stack<(P, Option<u32>)>, AllocError>
+) -> Result<Routes<P>, AllocError>
     requires width { P.R.width ≤ 128 }
     requires whole { AreWhole plan }
     requires room { HaveRoom P.bits P.fits P.R.width (reverse (steps_in plan)) (([], None) ∷ []) }
@@ -260,7 +263,7 @@ pub(crate) fn routes<P: Prefix + Copy>(
     ensures networks { IfOk result (λ table. AreNetworks P.fits P.of_bits P.bits table) }
 {
     let mut left = plan;
-    let mut table: Stack<(P, Option<u32>)> = Stack::new(alloc);
+    let mut table: Routes<P> = Stack::new(alloc);
     let mut waiting: Vec<(Path, Option<u32>)> = Vec::new(alloc);
     waiting.push((Path::new(0, 0), None))?;
     while let Some(step) = left.steps.pop() {

@@ -1,41 +1,39 @@
 //! Stacks that grow in blocks.
 ghost use Rattle.std.specs.Prelude.{◌≡◌, ◌<◌, ◌++◌, ◌∷◌, [], MatchOption, OnOk, length, slice_index_or};
+ghost use Rattle.least_table.specs.InnerStacks.{IsSize};
 
 use std::alloc::{AllocError, Global};
 use std::marker::Model;
 use std::mem;
 
-/// How many items a block has. The system's allocator takes blocks of 128 kB and more from the system, each apart from all others, and
-/// an item may take 48 bytes.
-const SIZE: usize = 1024;
-
 /// The most blocks but the last one, so that the items can be counted.
 const MOST: usize = 1 << 32;
 
-/// A list that is added to and taken from at its end, in blocks of one size. So it grows without a copy, and its blocks go where smaller
-/// things were.
+/// A list that is added to and taken from at its end, in blocks of `SIZE` items, one to 1,024. So it grows without a copy, and blocks
+/// of a few hundred bytes go where smaller things were.
 ///
 /// Contracts see the list.
 #[derive(Drop)]
-pub struct Stack<X> {
+pub struct Stack<X, const SIZE: usize> {
     full: Vec<Vec<X>>,
     last: Vec<X>,
 }
 
-impl<X> Model for Stack<X> {
+impl<X, const SIZE: usize> Model for Stack<X, SIZE> {
     ghost use Rattle.std.specs.Prelude.{List, ◌++◌, ◌≤◌, ◌^◌, length};
-    ghost use Rattle.least_table.specs.InnerStacks.{AreFull, joined};
+    ghost use Rattle.least_table.specs.InnerStacks.{AreFull, IsSize, joined};
 
     ghost Value = { List X };
 
     ghost view = { λ a. joined a.full.items ++ a.last.items };
 
-    ghost invariant = { λ a. AreFull a.full.items × (length a.full.items ≤ 2 ^ 32) × (length a.last.items ≤ 1024) };
+    ghost invariant = { λ a. IsSize SIZE × AreFull SIZE a.full.items × (length a.full.items ≤ 2 ^ 32) × (length a.last.items ≤ SIZE) };
 }
 
-impl<X> Stack<X> {
+impl<X, const SIZE: usize> Stack<X, SIZE> {
     /// No items. It takes no memory.
-    pub fn new(alloc: Global) -> Stack<X>
+    pub fn new(alloc: Global) -> Stack<X, SIZE>
+        requires { IsSize SIZE }
         ensures { result ≡ [] }
     {
         Stack {
@@ -56,8 +54,9 @@ impl<X> Stack<X> {
         requires { at < length self.now }
         ensures { result.now ≡ slice_index_or self.now at result.now }
     {
+        let blocks = self.full.len();
         let block = at / SIZE;
-        if block < self.full.len() {
+        if block < blocks {
             &self.full[block][at % SIZE]
         } else {
             &self.last[at % SIZE]
@@ -65,7 +64,7 @@ impl<X> Stack<X> {
     }
 }
 
-impl<X: Drop> Stack<X> {
+impl<X: Drop, const SIZE: usize> Stack<X, SIZE> {
     /// Adds an item at the end.
     ///
     /// # Errors

@@ -5,20 +5,19 @@ use Rattle.std.proofs.lemmas.Bool.Decides.{nat_tests}
 use Rattle.ipnet_addr.proofs.Members.{In}
 use Rattle.ipnet_blocks.specs.declared.aggregate.Span.{Span}
 use Rattle.route_laws.specs.Tables.{Route}
-use Rattle.route_table.specs.declared.runs.Reach.{Reach}
-use Rattle.route_table.specs.declared.runs.Run.{Run}
+use Rattle.route_table.specs.InnerReaches.{Reach, Run}
 use Rattle.route_table.specs.declared.runs.Runs.{Runs}
 use Rattle.route_table.specs.declared.runs.Step.TheVariants as step
 use Rattle.route_table.specs.InnerRunning.{reach_of, topmost, coming, innermost, over, from_on, hops_left, ArePlaced, AreRuns, changes_left, StepsRun, IsPast, joined, step_of}
 use Rattle.route_table.proofs.PaintedRuns.{IsSpanOf, EndsBefore}
 use Rattle.route_table.proofs.Openings.{last_of, popped, inner_pushed, in_turn, ends_within, ends_from, closed_are, closed_here, closed_later, family_closes}
-use Rattle.route_table.proofs.Turns.{turned, hops_are, placed_as, changes_as, hand_from, ends_from_hand}
+use Rattle.route_table.proofs.Turns.{turned, hops_are, placed_as, changes_as, gap_few, hand_from, ends_from_hand}
 
 far_from : (n : Option Reach) (rs : List Route) (stack : List Reach) (at end last : ℕ) → ArePlaced stack (coming n rs) at end → MatchOption n (Unit {0}) (λ r. last < r.first) → (r : Reach) → In r (coming n rs) → last < r.first
 far_from None rs stack at end last p h r i = absurd i
 far_from (Some s) rs stack at end last p h r i = ⊎_elim (λ (q : r ≡ s). subst (λ (a : Reach). last < a.first) (sym q) h) (λ j. let o = in_turn stack s (map reach_of rs) at end p r j in omega arith) i
 
-module _ (w v : Runs) (a : AreRuns w) (going : w.done ≡ false) (last : ℕ) (number : Option ℕ) (inner : (last, number) ≡ innermost (w.end, None) w.stack.items)
+module _ {P R : Type 0} (w v : Runs P R) (a : AreRuns w) (going : w.done ≡ false) (last : ℕ) (number : Option ℕ) (inner : (last, number) ≡ innermost (w.end, None) w.stack.items)
     (apart : MatchOption w.next (Unit {0}) (λ r. last < r.first))
     (end : v.end ≡ w.end) (next : v.next ≡ w.next) (rest : v.rest ≡ w.rest) where
   far : (r : Reach) → In r (coming w.next w.rest) → last < r.first
@@ -69,7 +68,8 @@ module _ (w v : Runs) (a : AreRuns w) (going : w.done ≡ false) (last : ℕ) (n
     fewer =
         let p = changes_as w false (os ++ t ∷ []) (coming w.next w.rest) going split refl in
         let q = changes_as v false os (coming w.next w.rest) (still ∙ going) stack_then left in
-        omega (arith, p, q, length-append os (t ∷ []))
+        let g = gap_few v.at v.next in
+        omega (arith, p, q, g, length-append os (t ∷ []))
 
     place_then : cond v.done (v.end + 1) v.at ≡ last + 1
     place_then = ap (λ d. cond d (v.end + 1) v.at) (still ∙ going) ∙ at
@@ -114,7 +114,8 @@ module _ (w v : Runs) (a : AreRuns w) (going : w.done ≡ false) (last : ℕ) (n
     fewer_done =
         let p = changes_as w false w.stack.items (coming w.next w.rest) going refl refl in
         let q = changes_as v true w.stack.items (coming w.next w.rest) over' kept left in
-        omega (arith, p, q)
+        let g = gap_few v.at v.next in
+        omega (arith, p, q, g)
 
     family_later : v.run ≡ (joined w.run (record { first = w.at; last = last }) number).1 → AreRuns v × StepsRun w (step_of (joined w.run (record { first = w.at; last = last }) number).0) v
     family_later run =

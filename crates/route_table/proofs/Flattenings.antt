@@ -3,6 +3,7 @@ use Rattle.std.proofs.Common.{◌≡◌, ℕ, ◌+◌, ◌^◌, ◌<◌, ◌≤�
 use Rattle.std.proofs.lemmas.Bool.{cases_lt}
 use Rattle.ipnet_addr.specs.Addresses.{Family, Ipv4, Ipv6, width, rank, Address}
 use Rattle.ipnet_blocks.specs.Cuts.{cut}
+use Rattle.ipnet_blocks.specs.Networks.{Network}
 use Rattle.ipnet_blocks.specs.InnerSpans.{limits_of}
 use Rattle.ipnet.specs.IpNets.{network_at}
 use Rattle.ipnet.specs.IpSubnets.{ip_cut, ip_limits}
@@ -24,7 +25,7 @@ use Rattle.route_table.specs.Given.{AreFamilies, IsFlatOf}
 use Rattle.route_table.specs.InnerFlattening.{piece_of, pieces_of, pieces_left, hops_in, hops_of, AreBoth}
 use Rattle.route_table.specs.InnerRunning.{IsFirstRun, hops_left, topmost, reach_of}
 use Rattle.route_table.specs.declared.flat.BothRuns.{BothRuns}
-use Rattle.route_table.specs.declared.runs.Run.{Run}
+use Rattle.route_table.specs.InnerReaches.{Run}
 use Rattle.route_table.specs.declared.runs.Runs.{Runs}
 use Rattle.route_table.proofs.FlatRuns.{IsFirstSpan, IsPastSpan, first_then_rest, flat_of_same, no_pieces}
 use Rattle.std.proofs.lemmas.Option.{none-some}
@@ -110,7 +111,7 @@ module _ (f : Family) (r : Run) (s : IpSubnets) (is : s ≡ ip_limits f (limits_
 
 -- ---- the next run of both families
 
-module _ (w : BothRuns) (a : AreBoth w) (v : Runs) (r : Run) (s : IpSubnets) where
+module _ (w : BothRuns) (a : AreBoth w) (v : Runs Network ℕ) (r : Run) (s : IpSubnets) where
   pub next_ipv4 : IsFirstRun (hops_left w.v4) r (hops_left v) × (r.span.last ≤ w.v4.end) → s ≡ ip_limits Ipv4 (limits_of r.span)
       → (flat_of (hops_of w) ≡ map (piece_of r.number) (ip_cut s) ++ flat_of (hops_of (record { v4 = v; v6 = w.v6 }))) × (map (piece_of r.number) (ip_cut s) ≡ [] → ⊥)
   next_ipv4 is e =
@@ -119,7 +120,7 @@ module _ (w : BothRuns) (a : AreBoth w) (v : Runs) (r : Run) (s : IpSubnets) whe
       given_from Ipv4 r s e is.0.some _ _
       (first_then_rest Ipv4 r.span r.number (hops_of w) (hops_of (record { v4 = v; v6 = w.v6 })) (first_of_ipv4 (hops_left w.v4) (hops_left w.v6) (hops_left v) r is.0 (omega arith)))
 
-  pub next_ipv6 : (u : Runs) → ((x : ℕ) → hops_left w.v4 x ≡ None) × ((x : ℕ) → hops_left u x ≡ None) → IsFirstRun (hops_left w.v6) r (hops_left v) × (r.span.last ≤ w.v6.end) → s ≡ ip_limits Ipv6 (limits_of r.span)
+  pub next_ipv6 : (u : Runs Network ℕ) → ((x : ℕ) → hops_left w.v4 x ≡ None) × ((x : ℕ) → hops_left u x ≡ None) → IsFirstRun (hops_left w.v6) r (hops_left v) × (r.span.last ≤ w.v6.end) → s ≡ ip_limits Ipv6 (limits_of r.span)
       → (flat_of (hops_of w) ≡ map (piece_of r.number) (ip_cut s) ++ flat_of (hops_of (record { v4 = u; v6 = v }))) × (map (piece_of r.number) (ip_cut s) ≡ [] → ⊥)
   next_ipv6 u none is e =
       let q = a.ipv6 in

@@ -7,6 +7,7 @@ use Rattle.ipnet_addr.proofs.Families.{rank_apart}
 use Rattle.ipnet_addr.proofs.Ascending.{Contains-from_In, In-from_Any, Any-from_In}
 use Rattle.ipnet_blocks.specs.Blocks.{Block, HasAddress, first, last, free_bits}
 use Rattle.ipnet_blocks.specs.Cuts.{cut}
+use Rattle.ipnet_blocks.specs.Networks.{Network}
 use Rattle.ipnet_blocks.specs.Maximal.{IsMaximal}
 use Rattle.ipnet_blocks.specs.InnerSpans.{limits_of}
 use Rattle.ipnet_blocks.specs.declared.aggregate.Span.{Span}
@@ -27,7 +28,7 @@ use Rattle.route_table.specs.InnerRunning.{IsFirstRun, hops_left}
 use Rattle.route_table.specs.declared.flat.BothRuns.{BothRuns}
 use Rattle.route_table.specs.declared.hop_run.HopRun.{HopRun}
 use Rattle.route_table.specs.declared.hop_run.HopRun.TheVariants.{V4, V6}
-use Rattle.route_table.specs.declared.runs.Run.{Run}
+use Rattle.route_table.specs.InnerReaches.{Run}
 use Rattle.route_table.specs.declared.runs.Runs.{Runs}
 use Rattle.route_table.proofs.Flattenings.{next_ipv4, next_ipv6}
 
@@ -96,7 +97,7 @@ module _ (f : Family) (s : Span) (some : s.first ≤ s.last) (top : s.last < 2 ^
 
 -- ---- the next run of both families
 
-module _ (w : BothRuns) (a : AreBoth w) (v : Runs) (r : Run) where
+module _ (w : BothRuns) (a : AreBoth w) (v : Runs Network ℕ) (r : Run) where
   pub run_of_ipv4 : (first last : Ipv4Addr) → IsFirstRun (hops_left w.v4) r (hops_left v) × (r.span.last ≤ w.v4.end) → ipv4_bits first ≡ r.span.first → ipv4_bits last ≡ r.span.last
       → BeginsWithRun (flat_of (hops_of w)) (V4 first last r.number) (flat_of (hops_of (record { v4 = v; v6 = w.v6 })))
   run_of_ipv4 first last is e z =
@@ -106,7 +107,7 @@ module _ (w : BothRuns) (a : AreBoth w) (v : Runs) (r : Run) where
       run_of_span Ipv4 r.span some (omega arith) (V4 first last r.number) _ _ refl e z
       (next_ipv4 w a v r (ip_limits Ipv4 (limits_of r.span)) is refl).0
 
-  pub run_of_ipv6 : (first last : Ipv6Addr) (u : Runs) → ((x : ℕ) → hops_left w.v4 x ≡ None) × ((x : ℕ) → hops_left u x ≡ None) → IsFirstRun (hops_left w.v6) r (hops_left v) × (r.span.last ≤ w.v6.end) → ipv6_bits first ≡ r.span.first → ipv6_bits last ≡ r.span.last
+  pub run_of_ipv6 : (first last : Ipv6Addr) (u : Runs Network ℕ) → ((x : ℕ) → hops_left w.v4 x ≡ None) × ((x : ℕ) → hops_left u x ≡ None) → IsFirstRun (hops_left w.v6) r (hops_left v) × (r.span.last ≤ w.v6.end) → ipv6_bits first ≡ r.span.first → ipv6_bits last ≡ r.span.last
       → BeginsWithRun (flat_of (hops_of w)) (V6 first last r.number) (flat_of (hops_of (record { v4 = u; v6 = v })))
   run_of_ipv6 first last u none is e z =
       let q = a.ipv6 in

@@ -18,8 +18,10 @@ pub mod Emptied
 pub mod PaintedRuns
 pub mod Openings
 pub mod Painted
+pub mod Reaches
 pub mod Turns
 pub mod Closings
+pub mod Shortcuts
 pub mod FlatRuns
 pub mod Flattenings
 pub mod HopRuns

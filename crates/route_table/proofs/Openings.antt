@@ -5,7 +5,7 @@ use Rattle.std.proofs.lemmas.Bool.{cases_lt, cond-true, cond-false, lt-leb, le-l
 use Rattle.ipnet_addr.proofs.Members.{In, In-left, In-right, In-cases}
 use Rattle.ipnet_addr.proofs.Ascending.{In-from_All, All-from_In, Rising, Rising-from_pairs, pairs_from_Rising}
 use Rattle.ipnet_blocks.proofs.Lists.{rising_append, rising_cross, rising_front}
-use Rattle.route_table.specs.declared.runs.Reach.{Reach}
+use Rattle.route_table.specs.InnerReaches.{Reach}
 use Rattle.route_table.specs.InnerRunning.{topmost, innermost, from_on, IsApartOrInside, IsOpen, IsComing, ArePlaced}
 use Rattle.route_table.proofs.PaintedRuns.{lies, lies_before, lies_after, IsSpanOf}
 
@@ -163,14 +163,36 @@ module _ (stack : List Reach) (r : Reach) (cs : List Reach) (at end : ℕ) (p : 
   pub opened_here : at ≡ r.first → (x : ℕ) → before x ≡ after x
   opened_here e x = ap (λ n. cond (nat_le n x) (topmost None (stack ++ r ∷ cs) x) None) e ∙ ap (λ o. cond (nat_le r.first x) o None) (sym (same_paint x))
 
-  pub opened_later : at < r.first → IsSpanOf (record { first = at; last = r.first - 1 }) number before after
-  opened_later l = record {
+  -- up to it
+  pub approached_are : ArePlaced stack (r ∷ cs) r.first end
+  approached_are =
+      let c = comes stack (r ∷ cs) at end p r (inl refl) in
+      let cl = c.later in
+      let cf = c.fits in
+      let cs' = c.some in
+      record {
+        order = omega arith;
+        opened = All-from_In (IsOpen r.first end) stack (λ s i.
+            let o = open_at stack (r ∷ cs) at end p s i in
+            record { begun = let b = o.begun in omega arith; ends = let e = ends_before stack (r ∷ cs) at end p last number inner s i in omega arith; fits = o.fits; long = o.long });
+        nested = p.nested;
+        coming' = All-from_In (IsComing r.first end) (r ∷ cs) (λ s i. ⊎_elim
+            (λ (q : s ≡ r). subst (λ (a : Reach). IsComing r.first end a) (sym q) (record { later = omega arith; some = c.some; fits = c.fits; long = c.long }))
+            (λ j. let o = comes stack (r ∷ cs) at end p s (inr j) in record { later = in_turn stack r cs at end p s j; some = o.some; fits = o.fits; long = o.long }) i);
+        follow = p.follow;
+      }
+
+  abbrev up_to : ℕ → Option ℕ
+  up_to x = from_on false r.first (topmost None (stack ++ r ∷ cs)) x
+
+  pub approached : at < r.first → IsSpanOf (record { first = at; last = r.first - 1 }) number before up_to
+  approached l = record {
     some = omega arith;
     before = λ x m. cond-false (nat_le at x) _ None (lt-leb _ _ m);
     within = λ x m u. cond-true (nat_le at x) _ None (le-leb _ _ m) ∙ steady stack (r ∷ cs) at end p last number inner x m (omega arith)
         (λ s i. ⊎_elim (λ (q : s ≡ r). subst (λ (a : Reach). x < a.first) (sym q) (omega arith)) (λ j. let o = in_turn stack r cs at end p s j in omega arith) i);
     gone = λ x u. cond-false (nat_le r.first x) _ None (lt-leb _ _ (omega arith));
-    kept = λ x u. cond-true (nat_le r.first x) _ None (le-leb _ _ (omega arith)) ∙ same_paint x ∙ sym (cond-true (nat_le at x) _ None (le-leb _ _ (omega arith)));
+    kept = λ x u. cond-true (nat_le r.first x) _ None (le-leb _ _ (omega arith)) ∙ sym (cond-true (nat_le at x) _ None (le-leb _ _ (omega arith)));
   }
 
 -- the innermost route closes

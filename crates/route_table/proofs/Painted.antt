@@ -12,7 +12,7 @@ use Rattle.ipnet_blocks.proofs.Netmasks.{block_is_interval}
 use Rattle.route_choices.specs.Hops.{number_of}
 use Rattle.route_laws.specs.Tables.{Route, IsTable, IsMatch, match_of, match_number, hop_at}
 use Rattle.route_table.specs.InnerRunning.{IsApartOrInside, IsOpen, IsComing, ArePlaced, reach_of, topmost}
-use Rattle.route_table.specs.declared.runs.Reach.{Reach}
+use Rattle.route_table.specs.InnerReaches.{Reach}
 use Rattle.route_table.proofs.Governings.{first_to_last}
 use Rattle.route_laws.proofs.Matches.{block_in, match_from, match_meets}
 use Rattle.route_table.proofs.PaintedRuns.{lies, lies_before, lies_after}
@@ -171,3 +171,10 @@ greatest f l e =
     let p : 2 ^ (width f - 0) ≡ 2 ^ width f = ap (λ n. 2 ^ n) w in
     let q = pow_pos (width f) in
     omega (arith, e, p, q)
+
+-- the greatest key of a family is its greatest number
+pub greatest_key : (f : Family) (w l : ℕ) → w ≡ width f → l ≡ 2 ^ w - 1 → l ≡ last (family_block f)
+greatest_key f w l e k =
+    let z : width f ≡ width f - 0 = omega arith in
+    let p : 2 ^ w ≡ 2 ^ (width f - 0) = ap (λ n. 2 ^ n) (e ∙ z) in
+    omega (arith, k, p)

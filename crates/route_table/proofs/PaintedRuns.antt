@@ -4,7 +4,7 @@ use Rattle.std.proofs.lemmas.Bool.{cases_lt, and_from, and_left, and_right, cond
 use Rattle.std.proofs.lemmas.Bool.Decides.{nat_tests}
 use Rattle.std.proofs.lemmas.Option.{none-some}
 use Rattle.ipnet_blocks.specs.declared.aggregate.Span.{Span}
-use Rattle.route_table.specs.declared.runs.Run.{Run}
+use Rattle.route_table.specs.InnerReaches.{Run}
 use Rattle.route_table.specs.InnerRunning.{over, joined, IsFirstRun}
 
 -- ---- whether a number lies between two
@@ -28,6 +28,17 @@ over_low r k x l = cond-false (nat_le r.span.first x && nat_le x r.span.last) (S
 
 over_high : (r : Run) (k : Option ℕ) (x : ℕ) → r.span.last < x → over (Some r) k x ≡ k
 over_high r k x l = cond-false (nat_le r.span.first x && nat_le x r.span.last) (Some r.number) k (lies_after r.span.first r.span.last x l)
+
+-- a run over no numbers
+pub run_alone : (r : Run) → r.span.first ≤ r.span.last → IsFirstRun (λ x. over (Some r) None x) r (λ x. None)
+run_alone r some = record {
+  some = some;
+  before = λ x l. over_low r None x l;
+  within = λ x l u. over_in r None x l u;
+  ends = λ e. none-some r.number (sym (over_high r None (r.span.last + 1) (omega arith)) ∙ e);
+  gone = λ x l. refl;
+  kept = λ x l. sym (over_high r None x l);
+}
 
 -- the numbers of a span have the number k, those before it none; `later` are the numbers without those of the span
 pub record IsSpanOf (s : Span) (k : Option ℕ) (h later : ℕ → Option ℕ) : Type 0 where

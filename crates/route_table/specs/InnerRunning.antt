@@ -4,8 +4,7 @@ use Rattle.ipnet_blocks.specs.Blocks.{first, last}
 use Rattle.ipnet_blocks.specs.declared.aggregate.Span.{Span}
 use Rattle.route_choices.specs.Hops.{number_of}
 use Rattle.route_laws.specs.Tables.{Route}
-use Rattle.route_table.specs.declared.runs.Reach.{Reach}
-use Rattle.route_table.specs.declared.runs.Run.{Run}
+use Rattle.route_table.specs.InnerReaches.{Reach, Run}
 use Rattle.route_table.specs.declared.runs.Runs.{Runs}
 use Rattle.route_table.specs.declared.runs.Step.{Step}
 use Rattle.route_table.specs.declared.runs.Step.TheVariants as step
@@ -39,7 +38,7 @@ abbrev pub from_on : Bool → ℕ → (ℕ → Option ℕ) → ℕ → Option �
 from_on done at h x = cond done None (cond (nat_le at x) (h x) None)
 
 -- the hops that are left: those of the run at hand, and from the place on those that the routes paint
-abbrev pub hops_left : Runs → ℕ → Option ℕ
+abbrev pub hops_left : {P R : Type 0} → Runs P R → ℕ → Option ℕ
 hops_left w x = over w.run (from_on w.done w.at (topmost None (w.stack.items ++ coming w.next w.rest)) x) x
 
 -- the later of two routes lies apart from the earlier, or inside it
@@ -74,7 +73,7 @@ abbrev pub IsAtHand : Option Run → Bool → ℕ → ℕ → Type 0
 IsAtHand None done at end = Unit {0}
 IsAtHand (Some r) done at end = (r.span.first ≤ r.span.last) × (r.span.last + 1 ≡ cond done (end + 1) at)
 
-pub record AreRuns (w : Runs) : Type 0 where
+pub record AreRuns {P R : Type 0} (w : Runs P R) : Type 0 where
   pub placed : ArePlaced w.stack.items (coming w.next w.rest) w.at w.end
   pub hand : IsAtHand w.run w.done w.at w.end
 
@@ -88,15 +87,20 @@ pub record IsFirstRun (h : ℕ → Option ℕ) (r : Run) (later : ℕ → Option
   pub kept : (x : ℕ) → r.span.last < x → later x ≡ h x
 
 -- the first run was given, or there was none
-abbrev pub GivesRun : Runs → Option Run → Runs → Type 0
+abbrev pub GivesRun : {P R : Type 0} → Runs P R → Option Run → Runs P R → Type 0
 GivesRun w run v = MatchOption run (((x : ℕ) → hops_left w x ≡ None) × ((x : ℕ) → hops_left v x ≡ None)) (λ r. IsFirstRun (hops_left w) r (hops_left v) × (r.span.last ≤ w.end))
 
--- how many changes are left: each route that comes opens and ends, and so does the family
-abbrev pub changes_left : Runs → ℕ
-changes_left w = 2 * length (coming w.next w.rest) + length w.stack.items + cond w.done 0 1
+-- one where there are numbers between the place and the next route
+abbrev pub gap : ℕ → Option Reach → ℕ
+gap at None = 0
+gap at (Some r) = cond (nat_lt at r.first) 1 0
+
+-- more than the changes that are left: each route that comes is gone up to, opens and ends, and so does the family
+abbrev pub changes_left : {P R : Type 0} → Runs P R → ℕ
+changes_left w = 4 * length (coming w.next w.rest) + 2 * length w.stack.items + cond w.done 0 2 + gap w.at w.next
 
 -- a step gave the first run, or made a change that ended none, or none was left
-abbrev pub StepsRun : Runs → Step → Runs → Type 0
+abbrev pub StepsRun : {P R : Type 0} → Runs P R → Step R → Runs P R → Type 0
 StepsRun w (step.Run r) v = IsFirstRun (hops_left w) r (hops_left v) × (r.span.last ≤ w.end)
 StepsRun w step.Passed v = ((x : ℕ) → hops_left w x ≡ hops_left v x) × (changes_left v < changes_left w)
 StepsRun w step.Done v = ((x : ℕ) → hops_left w x ≡ None) × ((x : ℕ) → hops_left v x ≡ None)
@@ -107,12 +111,12 @@ joined run s None = (run, None)
 joined None s (Some k) = (None, Some (record { span = s; number = k }))
 joined (Some r) s (Some k) = cond (r.number == k) (None, Some (record { span = record { first = r.span.first; last = s.last }; number = k })) (Some r, Some (record { span = s; number = k }))
 
-abbrev pub step_of : Option Run → Step
+abbrev pub step_of : {R : Type 0} → Option Run → Step R
 step_of None = step.Passed
 step_of (Some r) = step.Run r
 
 -- the innermost open route is closed, or the whole family is
-abbrev pub IsPast : Runs → ℕ → Runs → Type 0
+abbrev pub IsPast : {P R : Type 0} → Runs P R → ℕ → Runs P R → Type 0
 IsPast w last v = cond (nat_lt last w.end)
     ((v.done ≡ w.done) × (v.at ≡ last + 1) × (v.stack.items ≡ take (length w.stack.items - 1) w.stack.items))
     ((v.done ≡ true) × (v.at ≡ w.at) × (v.stack.items ≡ w.stack.items))

@@ -8,6 +8,7 @@ pub mod InnerSides
 pub mod InnerEntries
 pub mod InnerRoutes
 pub mod InnerGoverning
+pub mod InnerReaches
 pub mod InnerRunning
 pub mod InnerFlattening
 pub mod InnerOwning

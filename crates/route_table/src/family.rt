@@ -1,7 +1,7 @@
 //! The network types of the two families.
 ghost use Rattle.std.specs.Prelude.{◌≡◌, List, Bool, IsTrue, length, refl};
 ghost use Rattle.ipnet_addr.specs.Addresses.{Family, Ipv4, Ipv6, width};
-ghost use Rattle.ipnet_blocks.specs.Blocks.{bit_string};
+ghost use Rattle.ipnet_blocks.specs.Blocks.{bit_string, first, last};
 ghost use Rattle.ipnet_blocks.specs.Networks.{Network, block_of};
 ghost use Rattle.ipnet.specs.IpNets.{net_in};
 ghost use Rattle.trie_core.specs.Bits.{number_from};
@@ -19,6 +19,14 @@ pub(crate) trait OfFamily: Prefix + Copy + Drop {
     /// The same network among those of either family.
     fn ip_net(self) -> IpNet
         ensures { result ≡ net_in family (parts self) };
+
+    /// The number of its least address.
+    fn first_key(self) -> Self::R
+        ensures { Self.R.number result ≡ first (block_of family (parts self)) };
+
+    /// The number of its greatest address.
+    fn last_key(self) -> Self::R
+        ensures { Self.R.number result ≡ last (block_of family (parts self)) };
 
     ghost width_is: { Self.R.width ≡ width family };
 
@@ -45,6 +53,16 @@ impl OfFamily for Ipv4Net {
     fn ip_net(self) -> IpNet {
         IpNet::V4(self)
     }
+
+    #[inline]
+    fn first_key(self) -> u32 {
+        self.network().to_bits()
+    }
+
+    #[inline]
+    fn last_key(self) -> u32 {
+        self.broadcast().to_bits()
+    }
 }
 
 impl OfFamily for Ipv6Net {
@@ -62,5 +80,15 @@ impl OfFamily for Ipv6Net {
 
     fn ip_net(self) -> IpNet {
         IpNet::V6(self)
+    }
+
+    #[inline]
+    fn first_key(self) -> u128 {
+        self.network().to_bits()
+    }
+
+    #[inline]
+    fn last_key(self) -> u128 {
+        self.broadcast().to_bits()
     }
 }

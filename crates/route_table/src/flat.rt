@@ -10,10 +10,10 @@ ghost use Rattle.route_table.specs.Given.{AreFamilies, IsFlatOf};
 
 use crate::address_family::AddressFamily;
 use crate::governed::{blocks, no_blocks};
-use crate::routes::Routes;
 use crate::runs::Runs;
+use crate::side_routes::SideRoutes;
 use crate::table::RouteTable;
-use ipnet::{IpNet, IpSubnets};
+use ipnet::{IpNet, IpSubnets, Ipv4Net, Ipv6Net};
 use std::marker::Model;
 
 /// The blocks that are left of a run, and its number.
@@ -49,8 +49,8 @@ impl Pieces {
 /// The runs of both families.
 #[derive(Drop)]
 pub(crate) struct BothRuns<'a> {
-    pub(crate) v4: Runs<'a>,
-    pub(crate) v6: Runs<'a>,
+    pub(crate) v4: Runs<'a, Ipv4Net>,
+    pub(crate) v6: Runs<'a, Ipv6Net>,
 }
 
 impl<'a> BothRuns<'a> {
@@ -62,14 +62,14 @@ impl<'a> BothRuns<'a> {
     {
         if let Some(run) = self.v4.next() {
             return Some(Pieces {
-                blocks: blocks(AddressFamily::V4, run.span),
-                number: run.number,
+                blocks: blocks(AddressFamily::V4, run.span()),
+                number: run.number(),
             });
         }
         match self.v6.next() {
             Some(run) => Some(Pieces {
-                blocks: blocks(AddressFamily::V6, run.span),
-                number: run.number,
+                blocks: blocks(AddressFamily::V6, run.span()),
+                number: run.number(),
             }),
             None => None,
         }
@@ -98,15 +98,15 @@ impl<'a> Model for Flat<'a> {
 
 impl<'a> Flat<'a> {
     /// The flat list of a table: of its IPv4 routes and of its IPv6 routes, each ascending.
-    pub fn new(v4: Routes<'a>, v6: Routes<'a>) -> Flat<'a>
+    pub(crate) fn new(v4: SideRoutes<'a, Ipv4Net>, v6: SideRoutes<'a, Ipv6Net>) -> Flat<'a>
         requires { AreFamilies (v4 ++ v6) v4 v6 }
         ensures { IsFlat (hop_at (v4.entry ++ v6.entry)) result }
     {
         Flat {
             pieces: Pieces::none(),
             runs: BothRuns {
-                v4: Runs::new(AddressFamily::V4, v4),
-                v6: Runs::new(AddressFamily::V6, v6),
+                v4: Runs::new(v4),
+                v6: Runs::new(v6),
             },
         }
     }
@@ -145,7 +145,7 @@ impl RouteTable {
     pub fn flat(&self) -> Flat<'_>
         ensures { IsFlatOf (routes_of self.now) result }
     {
-        let (v4, v6) = self.families();
+        let (v4, v6) = self.sides();
         Flat::new(v4, v6)
     }
 }

@@ -37,18 +37,18 @@ impl<'a> BothRuns<'a> {
         ensures run { GivesHopRun (flat_of (hops_of self.old)) result (flat_of (hops_of self.new)) }
     {
         if let Some(run) = self.v4.next() {
+            let span = run.span();
             return Some(HopRun::V4(
-                ipv4_of(run.span.first as u32),
-                ipv4_of(run.span.last as u32),
-                run.number,
+                ipv4_of(span.first as u32),
+                ipv4_of(span.last as u32),
+                run.number(),
             ));
         }
         match self.v6.next() {
-            Some(run) => Some(HopRun::V6(
-                ipv6_of(run.span.first),
-                ipv6_of(run.span.last),
-                run.number,
-            )),
+            Some(run) => {
+                let span = run.span();
+                Some(HopRun::V6(ipv6_of(span.first), ipv6_of(span.last), run.number()))
+            }
             None => None,
         }
     }

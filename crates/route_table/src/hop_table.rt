@@ -83,7 +83,7 @@ impl HopTable {
     pub fn flat(&self) -> Flat<'_>
         ensures { IsFlatOf (routes_of self.now) result }
     {
-        let (v4, v6) = self.families();
+        let (v4, v6) = self.sides();
         Flat::new(v4, v6)
     }
 
@@ -99,8 +99,8 @@ impl HopTable {
             v6: ipv6,
             alloc,
         } = self;
-        let ipv4 = Routes::v4(ipv4.into_routes(alloc)?);
-        let ipv6 = Routes::v6(ipv6.into_routes(alloc)?);
+        let ipv4 = ipv4.into_routes(alloc)?;
+        let ipv6 = ipv6.into_routes(alloc)?;
         Ok(Flat::new(ipv4, ipv6))
     }
 }

@@ -18,8 +18,8 @@ use crate::flat::Flat;
 use crate::hop_table::HopTable;
 use crate::table::RouteTable;
 use ipnet::{IpNet, Ipv4Net, Ipv6Net};
-use least_table::{Piece, Stack, least};
-use prefix_trie::Refused;
+use least_table::{Piece, Pieces, Routes, Stack, WideKey, least};
+use prefix_trie::{Key, Refused};
 use route_choices::Hop;
 use std::alloc::{AllocError, Global};
 use std::marker::Model;
@@ -36,11 +36,9 @@ fn hop_of(number: Option<u32>) -> Hop
 }
 
 /// The routes of a least table of one family that has the hops of these pieces.
-fn fewest<P: OfFamily>(
-    alloc: Global,
-    pieces: Stack<Piece<P>>,
-) -> Result<Stack<(P, Option<u32>)>, AllocError>
-    requires { AreDisjoint pieces }
+fn fewest<P: OfFamily, K: Key>(alloc: Global, pieces: Pieces<K>) -> Result<Routes<P>, AllocError>
+    requires width { K.width ≡ P.R.width }
+    requires disjoint { AreDisjoint pieces }
     ensures { IfOk result (λ table. AreLeast P.family pieces (items_of P.family P.parts table)) }
 {
     least(alloc, pieces)
@@ -51,7 +49,7 @@ fn fewest<P: OfFamily>(
 /// Contracts see those that are left.
 #[derive(Drop)]
 struct Given<P> {
-    routes: Stack<(P, Option<u32>)>,
+    routes: Routes<P>,
     given: usize,
 }
 
@@ -65,7 +63,7 @@ impl<P> Model for Given<P> {
 
 impl<P: Copy> Given<P> {
     /// None of the routes was given.
-    fn new(routes: Stack<(P, Option<u32>)>) -> Given<P>
+    fn new(routes: Routes<P>) -> Given<P>
         ensures { result ≡ routes }
     {
         Given { routes, given: 0 }
@@ -106,7 +104,7 @@ impl Model for LeastRoutes {
 
 impl LeastRoutes {
     /// The routes of both families.
-    fn new(v4: Stack<(Ipv4Net, Option<u32>)>, v6: Stack<(Ipv6Net, Option<u32>)>) -> LeastRoutes
+    fn new(v4: Routes<Ipv4Net>, v6: Routes<Ipv6Net>) -> LeastRoutes
         ensures { result ≡ items_of Ipv4 (λ n. n) v4 ++ items_of Ipv6 (λ n. n) v6 }
     {
         LeastRoutes {
@@ -144,10 +142,7 @@ impl Iterator for LeastRoutes {
 }
 
 /// The flat list, by family.
-fn pieces(
-    alloc: Global,
-    flat: Flat<'_>,
-) -> Result<(Stack<Piece<Ipv4Net>>, Stack<Piece<Ipv6Net>>), AllocError>
+fn pieces(alloc: Global, flat: Flat<'_>) -> Result<(Pieces<u32>, Pieces<WideKey>), AllocError>
     ensures ipv4 { IfOk result (λ p. (h : Address → Option ℕ) → IsFlat h flat.entry → ArePieces Ipv4 h p.0) }
     ensures ipv6 { IfOk result (λ p. (h : Address → Option ℕ) → IsFlat h flat.entry → ArePieces Ipv6 h p.1) }
 {

@@ -26,6 +26,7 @@ mod least;
 mod overwrite;
 mod own_blocks;
 mod paint;
+mod place;
 mod refused;
 mod repaint;
 mod routes;

@@ -1,101 +1,216 @@
 //! The runs of one hop number among the addresses of a family.
 ghost use Rattle.std.specs.Prelude.{◌≡◌, ℕ, ◌+◌, ◌<◌, ◌≤◌, ◌^◌, ◌++◌, [], ◌∷◌, MatchOption, All, None, Some, map, false, true, ⊤};
+ghost use Rattle.ipnet_addr.specs.Addresses.{width};
 ghost use Rattle.ipnet_blocks.specs.Blocks.{last, family_block};
-ghost use Rattle.route_table.specs.InnerFamilies.{family_of};
 ghost use Rattle.route_table.specs.InnerRunning.{AreRuns, GivesRun, IsPast, StepsRun, coming, hops_left, innermost, joined, topmost, reach_of, step_of};
-ghost use Rattle.route_laws.specs.Tables.{IsTable, route_of};
+ghost use Rattle.route_laws.specs.Tables.{IsTable};
 
-use crate::address_family::AddressFamily;
-use crate::governed::span;
-use crate::routes::Routes;
+use crate::family::OfFamily;
+use crate::place::Place;
+use crate::side_routes::SideRoutes;
 use arrayvec::ArrayVec;
-use ipnet::IpNet;
+use ipnet_addr::key::Key;
 use ipnet_blocks::aggregate::Span;
-use route_choices::Hop;
+use std::alloc::AllocError;
+use std::marker::Model;
 
 /// The numbers of a route's addresses, its length, and the number of its hop.
-#[derive(Clone, Copy, Default)]
-struct Reach {
-    first: u128,
-    last: u128,
+#[derive(Copy)]
+struct Reach<N: Key> {
+    first: Place<N>,
+    last: Place<N>,
     len: u8,
     number: Option<u32>,
 }
 
-/// The numbers of a span have one hop number.
-#[derive(Clone, Copy)]
-pub(crate) struct Run {
-    pub(crate) span: Span,
-    pub(crate) number: u32,
+impl<N: Key> Model for Reach<N> {
+    ghost use Rattle.route_table.specs.InnerReaches.{Reach};
+
+    ghost Value = { Reach };
+
+    ghost view = { λ a. record { first = a.first; last = a.last; len = a.len; number = a.number } };
+
+    ghost inverse = { λ r. record { first = r.first; last = r.last; len = r.len; number = r.number } };
 }
 
-/// What a route reaches.
-fn route_reach(net: &IpNet, hop: Hop, pref: u16) -> Reach
-    ensures { result ≡ reach_of (route_of net.now hop pref) }
-{
-    let Span { first, last } = span(net);
-    Reach {
-        first,
-        last,
-        len: net.prefix_len(),
-        number: hop.number(),
+impl<N: Key> Clone for Reach<N> {
+    ghost is_clone = { λ r s. s ≡ r };
+
+    ghost is_infallible = { λ _. ⊤ };
+
+    fn clone(&self) -> Result<Reach<N>, AllocError> {
+        Ok(*self)
+    }
+}
+
+/// What no route reaches.
+impl<N: Key> Default for Reach<N> {
+    ghost is_default = { λ _. ⊤ };
+
+    fn default() -> Reach<N> {
+        Reach {
+            first: Place::of(0),
+            last: Place::of(0),
+            len: 0,
+            number: None,
+        }
+    }
+}
+
+/// The numbers of a span have one hop number.
+#[derive(Copy)]
+pub(crate) struct Run<N: Key> {
+    first: Place<N>,
+    last: Place<N>,
+    number: u32,
+}
+
+impl<N: Key> Model for Run<N> {
+    ghost use Rattle.route_table.specs.InnerReaches.{Run};
+
+    ghost Value = { Run };
+
+    ghost view = { λ a. record { span = record { first = a.first; last = a.last }; number = a.number } };
+
+    ghost inverse = { λ r. record { first = r.span.first; last = r.span.last; number = r.number } };
+}
+
+impl<N: Key> Clone for Run<N> {
+    ghost is_clone = { λ r s. s ≡ r };
+
+    ghost is_infallible = { λ _. ⊤ };
+
+    fn clone(&self) -> Result<Run<N>, AllocError> {
+        Ok(*self)
+    }
+}
+
+impl<N: Key> Run<N> {
+    /// Its first and its last number.
+    #[inline]
+    pub(crate) fn span(&self) -> Span
+        ensures value { result ≡ self.now.span }
+        ensures first { result.first < 2 ^ N.width }
+        ensures last { result.last < 2 ^ N.width }
+    {
+        Span {
+            first: self.first.number(),
+            last: self.last.number(),
+        }
+    }
+
+    /// The run that goes on up to this number.
+    #[inline]
+    fn up_to(&self, last: Place<N>) -> Run<N>
+        ensures { result ≡ record { span = record { first = self.now.span.first; last = last }; number = self.now.number } }
+    {
+        Run {
+            first: self.first,
+            last,
+            number: self.number,
+        }
+    }
+
+    /// Its hop number.
+    #[inline]
+    pub(crate) fn number(&self) -> u32
+        ensures { result ≡ self.now.number }
+    {
+        self.number
     }
 }
 
 /// The next of the routes.
-fn next_reach(routes: &mut Routes<'_>) -> Option<Reach>
+#[inline]
+fn next_reach<P: OfFamily>(routes: &mut SideRoutes<'_, P>) -> Option<Reach<P::R>>
     ensures { coming result routes.new ≡ map reach_of routes.old }
 {
-    let (net, hop, pref) = routes.next()?;
-    Some(route_reach(&net, hop, pref))
+    let (net, hop, _) = routes.next_net()?;
+    Some(Reach {
+        first: Place::of_key(net.first_key()),
+        last: Place::of_key(net.last_key()),
+        len: net.prefix_len(),
+        number: hop.number(),
+    })
 }
 
 /// A walk over the routes of one family: the routes open at a place, those that come, and the run of one number that
 /// ends just before the place.
 #[derive(Drop)]
-pub(crate) struct Runs<'a> {
-    at: u128,
-    end: u128,
+pub(crate) struct Runs<'a, P: OfFamily> {
+    at: Place<P::R>,
+    end: Place<P::R>,
     done: bool,
-    run: Option<Run>,
-    stack: ArrayVec<Reach, 129>,
-    next: Option<Reach>,
-    rest: Routes<'a>,
+    run: Option<Run<P::R>>,
+    stack: ArrayVec<Reach<P::R>, 129>,
+    next: Option<Reach<P::R>>,
+    rest: SideRoutes<'a, P>,
 }
 
 /// What the next change makes of the runs.
-enum Step {
-    Run(Run),
+enum Step<N: Key> {
+    Run(Run<N>),
     Passed,
     Done,
 }
 
 /// The numbers of a span, which the run at hand ends just before, have this number: goes on with the run, or ends it.
-fn join(run: &mut Option<Run>, span: Span, number: Option<u32>) -> Step
-    ensures run { run.new ≡ (joined run.old span number).1 }
-    ensures step { result ≡ step_of (joined run.old span number).0 }
+#[inline]
+fn join<N: Key>(
+    run: &mut Option<Run<N>>,
+    first: Place<N>,
+    last: Place<N>,
+    number: Option<u32>,
+) -> Step<N>
+    ensures run { run.new ≡ (joined run.old (record { first = first; last = last }) number).1 }
+    ensures step { result ≡ step_of (joined run.old (record { first = first; last = last }) number).0 }
 {
     let ended = *run;
     let Some(number) = number else {
         *run = None;
         return step_of(ended);
     };
-    if let Some(before) = ended {
-        if before.number == number {
-            let span = Span {
-                first: before.span.first,
-                last: span.last,
-            };
-            *run = Some(Run { span, number });
-            return Step::Passed;
+    match ended {
+        Some(before) => follow(run, before, first, last, number),
+        None => {
+            *run = Some(Run {
+                first,
+                last,
+                number,
+            });
+            Step::Passed
         }
     }
-    *run = Some(Run { span, number });
-    step_of(ended)
+}
+
+/// The numbers of a span, which a run ends just before, have this number: goes on with the run, or ends it.
+#[inline]
+fn follow<N: Key>(
+    run: &mut Option<Run<N>>,
+    before: Run<N>,
+    first: Place<N>,
+    last: Place<N>,
+    number: u32,
+) -> Step<N>
+    ensures run { run.new ≡ (joined (Some before) (record { first = first; last = last }) (Some number)).1 }
+    ensures step { result ≡ step_of (joined (Some before) (record { first = first; last = last }) (Some number)).0 }
+{
+    if before.number() == number {
+        *run = Some(before.up_to(last));
+        Step::Passed
+    } else {
+        *run = Some(Run {
+            first,
+            last,
+            number,
+        });
+        Step::Run(before)
+    }
 }
 
 /// The step that ends a run, if there was one.
-fn step_of(ended: Option<Run>) -> Step
+#[inline]
+fn step_of<N: Key>(ended: Option<Run<N>>) -> Step<N>
     ensures { result ≡ step_of ended }
 {
     match ended {
@@ -104,19 +219,19 @@ fn step_of(ended: Option<Run>) -> Step
     }
 }
 
-impl<'a> Runs<'a> {
+impl<'a, P: OfFamily> Runs<'a, P> {
     /// The runs of the routes of a family.
-    pub(crate) fn new(family: AddressFamily, mut rest: Routes<'a>) -> Runs<'a>
+    pub(crate) fn new(mut rest: SideRoutes<'a, P>) -> Runs<'a, P>
         requires routes { IsTable rest }
-        requires family { All (λ r. r.block.family ≡ family_of family) rest }
+        requires family { All (λ r. r.block.family ≡ P.family) rest }
         ensures runs { AreRuns result }
-        ensures end { result.end ≡ last (family_block (family_of family)) }
+        ensures end { result.end ≡ last (family_block P.family) }
         ensures hops { (x : ℕ) → hops_left result x ≡ topmost None (map reach_of rest.entry) x }
     {
         let next = next_reach(&mut rest);
         Runs {
-            at: 0,
-            end: family.last(),
+            at: Place::of(0),
+            end: Place::greatest(),
             done: false,
             run: None,
             stack: ArrayVec::new(),
@@ -126,7 +241,8 @@ impl<'a> Runs<'a> {
     }
 
     /// The last number of the innermost open route, or of the family, and its hop number.
-    fn innermost(&self) -> (u128, Option<u32>)
+    #[inline]
+    fn innermost(&self) -> (Place<P::R>, Option<u32>)
         ensures { result ≡ innermost (self.now.end, None) self.now.stack.items }
     {
         match self.stack.as_slice().last() {
@@ -135,8 +251,22 @@ impl<'a> Runs<'a> {
         }
     }
 
-    /// Opens the next route, which begins before the innermost open one ends.
-    fn begin(&mut self, reach: Reach, number: Option<u32>) -> Step
+    /// The next route, if it begins up to this number.
+    #[inline]
+    fn next_up_to(&self, last: Place<P::R>) -> Option<Reach<P::R>>
+        ensures { MatchOption result (MatchOption self.now.next ⊤ (λ r. last < r.first)) (λ r. (self.now.next ≡ Some r) × (r.first ≤ last)) }
+    {
+        let reach = self.next?;
+        if reach.first.number() <= last.number() {
+            Some(reach)
+        } else {
+            None
+        }
+    }
+
+    /// Goes up to the next route, which begins before the innermost open one ends, or opens it where it begins.
+    #[inline]
+    fn begin(&mut self, reach: Reach<P::R>, number: Option<u32>) -> Step<P::R>
         requires runs { AreRuns self.old }
         requires going { self.old.done ≡ false }
         requires next { self.old.next ≡ Some reach }
@@ -147,29 +277,61 @@ impl<'a> Runs<'a> {
         ensures step { StepsRun self.old result self.new }
     {
         let start = self.at;
-        self.at = reach.first;
-        self.stack.push(reach);
-        self.next = next_reach(&mut self.rest);
-        if start == reach.first {
-            return Step::Passed;
+        let first = reach.first;
+        if start.number() < first.number() {
+            self.at = first;
+            let last = Place::of(first.number() - 1);
+            return join(&mut self.run, start, last, number);
         }
-        let span = Span {
-            first: start,
-            last: reach.first - 1,
-        };
-        join(&mut self.run, span, number)
+        self.open(reach)
+    }
+
+    /// Opens the next route, which begins at the place. One that no route lies inside is closed at once.
+    #[inline]
+    fn open(&mut self, reach: Reach<P::R>) -> Step<P::R>
+        requires runs { AreRuns self.old }
+        requires going { self.old.done ≡ false }
+        requires next { self.old.next ≡ Some reach }
+        requires here { self.old.at ≡ reach.first }
+        requires inside { reach.first ≤ (innermost (self.old.end, None) self.old.stack.items).0 }
+        ensures runs { AreRuns self.new }
+        ensures end { self.new.end ≡ self.old.end }
+        ensures step { StepsRun self.old result self.new }
+    {
+        self.next = next_reach(&mut self.rest);
+        if let Some(after) = self.before_next(reach.last) {
+            self.at = after;
+            return join(&mut self.run, reach.first, reach.last, reach.number);
+        }
+        self.stack.push(reach);
+        Step::Passed
+    }
+
+    /// The number after this one, if the next route does not begin up to it, and the family does not end with it.
+    #[inline]
+    fn before_next(&self, last: Place<P::R>) -> Option<Place<P::R>>
+        ensures { MatchOption result ⊤ (λ n. (n ≡ last + 1) × (last < self.now.end) × MatchOption self.now.next ⊤ (λ r. last < r.first)) }
+    {
+        if self.end.number() <= last.number() {
+            return None;
+        }
+        match self.next_up_to(last) {
+            Some(_) => None,
+            None => Some(Place::of(last.number() + 1)),
+        }
     }
 
     /// Goes past the last number of the innermost open route, or of the family.
-    fn pass(&mut self, last: u128)
+    #[inline]
+    fn pass(&mut self, last: Place<P::R>)
         ensures end { self.new.end ≡ self.old.end }
         ensures run { self.new.run ≡ self.old.run }
         ensures next { self.new.next ≡ self.old.next }
         ensures rest { self.new.rest ≡ self.old.rest }
         ensures passed { IsPast self.old last self.new }
     {
-        if last < self.end {
-            self.at = last + 1;
+        if last.number() < self.end.number() {
+            self.at = Place::of(last.number() + 1);
             self.stack.pop();
         } else {
             self.done = true;
@@ -177,7 +339,8 @@ impl<'a> Runs<'a> {
     }
 
     /// Closes the innermost open route, or the family, which ends before the next route begins.
-    fn close(&mut self, last: u128, number: Option<u32>) -> Step
+    #[inline]
+    fn close(&mut self, last: Place<P::R>, number: Option<u32>) -> Step<P::R>
         requires runs { AreRuns self.old }
         requires going { self.old.done ≡ false }
         requires innermost { (last, number) ≡ innermost (self.old.end, None) self.old.stack.items }
@@ -188,14 +351,14 @@ impl<'a> Runs<'a> {
     {
         let start = self.at;
         self.pass(last);
-        if last < start {
+        if last.number() < start.number() {
             return Step::Passed;
         }
-        join(&mut self.run, Span { first: start, last }, number)
+        join(&mut self.run, start, last, number)
     }
 
     /// Gives the run at hand, once the whole family is done.
-    fn finish(&mut self) -> Step
+    fn finish(&mut self) -> Step<P::R>
         requires runs { AreRuns self.old }
         requires done { self.old.done ≡ true }
         ensures runs { AreRuns self.new }
@@ -211,7 +374,8 @@ impl<'a> Runs<'a> {
     }
 
     /// Makes the next change.
-    fn step(&mut self) -> Step
+    #[inline]
+    fn step(&mut self) -> Step<P::R>
         requires { AreRuns self.old }
         ensures runs { AreRuns self.new }
         ensures end { self.new.end ≡ self.old.end }
@@ -221,16 +385,14 @@ impl<'a> Runs<'a> {
             return self.finish();
         }
         let (last, number) = self.innermost();
-        if let Some(reach) = self.next {
-            if reach.first <= last {
-                return self.begin(reach, number);
-            }
+        match self.next_up_to(last) {
+            Some(reach) => self.begin(reach, number),
+            None => self.close(last, number),
         }
-        self.close(last, number)
     }
 
     /// The next run.
-    pub(crate) fn next(&mut self) -> Option<Run>
+    pub(crate) fn next(&mut self) -> Option<Run<P::R>>
         requires { AreRuns self.old }
         ensures runs { AreRuns self.new }
         ensures end { self.new.end ≡ self.old.end }

@@ -3,7 +3,7 @@ ghost use Rattle.std.specs.Prelude.{◌≡◌, List, map};
 ghost use Rattle.std.specs.Iterator.{item_count};
 ghost use Rattle.ipnet_addr.specs.Addresses.{width};
 ghost use Rattle.route_choices.specs.Choices.{best_hop, best_preference};
-ghost use Rattle.route_table.specs.InnerEntries.{GivesBest, KeysUpTo, entries_left};
+ghost use Rattle.route_table.specs.InnerEntries.{GivesBest, GivesNet, KeysUpTo, entries_left};
 ghost use Rattle.route_table.specs.Items.{GivesRoute};
 ghost use Rattle.route_table.specs.InnerSides.{route_at};
 
@@ -85,6 +85,14 @@ impl<'a, P: OfFamily> SideRoutes<'a, P> {
     {
         SideRoutes { entries }
     }
+
+    /// The next route, its network as one of the family.
+    #[inline]
+    pub(crate) fn next_net(&mut self) -> Option<(P, Hop, u16)>
+        ensures { GivesNet P.family P.parts self.old result self.new }
+    {
+        self.entries.next()
+    }
 }
 
 impl<'a, P: OfFamily> Iterator for SideRoutes<'a, P> {
@@ -95,7 +103,7 @@ impl<'a, P: OfFamily> Iterator for SideRoutes<'a, P> {
     ghost remaining = { item_count (λ rs. rs) };
 
     fn next(&mut self) -> Option<(IpNet, Hop, u16)> {
-        let (net, hop, pref) = self.entries.next()?;
+        let (net, hop, pref) = self.next_net()?;
         Some((net.ip_net(), hop, pref))
     }
 }

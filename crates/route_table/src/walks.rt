@@ -9,8 +9,9 @@ ghost use Rattle.route_table.specs.Given.{AreFamilies, AreRoutes};
 
 use crate::hop_table::HopTable;
 use crate::routes::Routes;
+use crate::side_routes::SideRoutes;
 use crate::table::{RouteTable, cleared};
-use ipnet::IpNet;
+use ipnet::{IpNet, Ipv4Net, Ipv6Net};
 
 impl RouteTable {
     /// How many networks are stored: of IPv4 and of IPv6. It takes no memory.
@@ -56,7 +57,15 @@ impl RouteTable {
     pub(crate) fn families(&self) -> (Routes<'_>, Routes<'_>)
         ensures { AreFamilies (routes_of self.now) result.0 result.1 }
     {
-        (Routes::v4(self.v4.iter()), Routes::v6(self.v6.iter()))
+        let (v4, v6) = self.sides();
+        (Routes::v4(v4), Routes::v6(v6))
+    }
+
+    /// The routes of either family, ascending, by the network type of each.
+    pub(crate) fn sides(&self) -> (SideRoutes<'_, Ipv4Net>, SideRoutes<'_, Ipv6Net>)
+        ensures { AreFamilies (routes_of self.now) result.0 result.1 }
+    {
+        (self.v4.iter(), self.v6.iter())
     }
 }
 
@@ -65,6 +74,14 @@ impl HopTable {
     pub(crate) fn families(&self) -> (Routes<'_>, Routes<'_>)
         ensures { AreFamilies (routes_of self.now) result.0 result.1 }
     {
-        (Routes::v4(self.v4.iter()), Routes::v6(self.v6.iter()))
+        let (v4, v6) = self.sides();
+        (Routes::v4(v4), Routes::v6(v6))
+    }
+
+    /// The routes of either family, ascending, by the network type of each.
+    pub(crate) fn sides(&self) -> (SideRoutes<'_, Ipv4Net>, SideRoutes<'_, Ipv6Net>)
+        ensures { AreFamilies (routes_of self.now) result.0 result.1 }
+    {
+        (self.v4.iter(), self.v6.iter())
     }
 }

@@ -1,14 +1,11 @@
 //! Least tables of known hops.
 use crate::tests::tables::row_is;
-use least_table::{Piece, Stack, least};
+use least_table::{Piece, Pieces, Routes, Stack, WideKey, least};
 use std::alloc::{AllocError, Global};
 use std::test::Fail;
 
 /// The routes of a table, as a list.
-fn listed<P: Copy>(
-    alloc: Global,
-    table: &Stack<(P, Option<u32>)>,
-) -> Result<Vec<(P, Option<u32>)>, AllocError> {
+fn listed<P: Copy>(alloc: Global, table: &Routes<P>) -> Result<Vec<(P, Option<u32>)>, AllocError> {
     let mut list = Vec::new(alloc);
     for at in 0..table.len() {
         list.push(*table.get(at))?;
@@ -18,7 +15,7 @@ fn listed<P: Copy>(
 
 #[test]
 fn a_route_and_one_inside(rt: HostRuntime) -> Result<(), Fail> {
-    let mut pieces = Stack::new(rt.alloc());
+    let mut pieces: Pieces<u32> = Stack::new(rt.alloc());
     pieces.push(Piece::new(&(0x0a00_0000_u32, 10_u8), 2))?;
     pieces.push(Piece::new(&(0x0a40_0000, 10), 1))?;
     pieces.push(Piece::new(&(0x0a80_0000, 9), 1))?;
@@ -36,7 +33,7 @@ fn a_route_and_one_inside(rt: HostRuntime) -> Result<(), Fail> {
 
 #[test]
 fn four_quarters(rt: HostRuntime) -> Result<(), Fail> {
-    let mut pieces = Stack::new(rt.alloc());
+    let mut pieces: Pieces<u32> = Stack::new(rt.alloc());
     pieces.push(Piece::new(&(0_u32, 2_u8), 1))?;
     pieces.push(Piece::new(&(0x4000_0000, 2), 2))?;
     pieces.push(Piece::new(&(0x8000_0000, 2), 1))?;
@@ -54,8 +51,8 @@ fn four_quarters(rt: HostRuntime) -> Result<(), Fail> {
 
 #[test]
 fn no_pieces(rt: HostRuntime) -> Result<(), Fail> {
-    let pieces: Stack<Piece<(u32, u8)>> = Stack::new(rt.alloc());
-    let table = least(rt.alloc(), pieces)?;
+    let pieces: Pieces<u32> = Stack::new(rt.alloc());
+    let table: Routes<(u32, u8)> = least(rt.alloc(), pieces)?;
     row_is(&rt, "none", table.len(), 0);
     Ok(())
 }
@@ -64,7 +61,7 @@ fn no_pieces(rt: HostRuntime) -> Result<(), Fail> {
 #[test]
 fn a_wide_route_and_one_inside(rt: HostRuntime) -> Result<(), Fail> {
     let top = 0x2001_0db8_u128 << 96;
-    let mut pieces = Stack::new(rt.alloc());
+    let mut pieces: Pieces<WideKey> = Stack::new(rt.alloc());
     pieces.push(Piece::new(&(0x2001_0db8_0000_0000_0000_0000_0000_0000_u128, 34_u8), 2))?;
     pieces.push(Piece::new(&(0x2001_0db8_4000_0000_0000_0000_0000_0000, 34), 1))?;
     pieces.push(Piece::new(&(0x2001_0db8_8000_0000_0000_0000_0000_0000, 33), 1))?;
@@ -78,7 +75,7 @@ fn a_wide_route_and_one_inside(rt: HostRuntime) -> Result<(), Fail> {
 /// Two hosts, at the ends of all addresses.
 #[test]
 fn wide_ends(rt: HostRuntime) -> Result<(), Fail> {
-    let mut pieces = Stack::new(rt.alloc());
+    let mut pieces: Pieces<WideKey> = Stack::new(rt.alloc());
     pieces.push(Piece::new(&(0_u128, 128_u8), 7))?;
     pieces.push(Piece::new(&(u128::MAX, 128), 7))?;
     let table = least(rt.alloc(), pieces)?;

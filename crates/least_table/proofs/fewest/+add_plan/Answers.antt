@@ -51,8 +51,8 @@ returns-then-len-depth-clause-taken g t c =
     let one = one_left c.args.depth (drop n ps) c.get-first.result.now (read_behind ps n 0 n c.get-first.result.now (omega arith) some c.get-first.ensures) (omega (arith, c.len.ensures.value, c.if-len-depth.true)) c.requires.ascending in
     if_ok_map c.push_leaf-then-len-depth.result (λ _ _. popped_off c.pop.result ps c.pop.new.self n c.pop.ensures (omega (arith, some, one, length-drop n ps))) c.push_leaf-then-len-depth.ensures
 
-pub prefix-inner-requires : goal.prefix-inner-requires
-prefix-inner-requires g t c =
+pub prefix-inner-requires-clause-inside : goal.prefix-inner-requires-clause-inside
+prefix-inner-requires-clause-inside g t c =
     let some : c.args.from < length c.args.pieces.now = omega (arith, c.requires.within, c.len-end.ensures, c.if-from-end.false) in
     let h = in_common c.args.pieces.now c.get-first.result.now c.get.result.now c.args.from (c.len-end.result - 1) c.args.depth c.common-common.result _ _ some (omega (arith, some, c.len-end.ensures)) c.requires.ascending c.get-first.ensures c.get.ensures (omega (arith, c.len.ensures.value, c.if-len-depth.false)) c.path.ensures.value c.path-2.ensures.value c.common-common.ensures in
     h.inside
@@ -62,7 +62,7 @@ add_plan-requires g t c κs within =
     let some : c.args.from < length c.args.pieces.now = omega (arith, c.requires.within, c.len-end.ensures, c.if-from-end.false) in
     let h = in_common c.args.pieces.now c.get-first.result.now c.get.result.now c.args.from (c.len-end.result - 1) c.args.depth c.common-common.result _ _ some (omega (arith, some, c.len-end.ensures)) c.requires.ascending c.get-first.ensures c.get.ensures (omega (arith, c.len.ensures.value, c.if-len-depth.false)) c.path.ensures.value c.path-2.ensures.value c.common-common.ensures in (
       omega (arith, h.deep, h.inside, c.len.ensures.value, c.len.ensures.within, c.if-common-depth-gt1.true),
-      (search rules, (search rules, (c.requires.whole, (c.requires.within, deeper c.get-first.result.now.0 (drop c.args.from c.args.pieces.now) c.args.depth c.common-common.result h.deep h.inside h.share c.requires.ascending)))),
+      (search rules, (search rules, (search rules, (c.requires.width, (c.requires.whole, (c.requires.within, deeper c.get-first.result.now.0 (drop c.args.from c.args.pieces.now) c.args.depth c.common-common.result h.deep h.inside h.share c.requires.ascending)))))),
     )
 
 pub returns-then-common-depth-gt1-clause-planned : goal.returns-then-common-depth-gt1-clause-planned
@@ -88,7 +88,7 @@ add_plan-requires-2 g t c κs within =
     let upper =
     subst (λ ps. IsAscending (beyond (c.args.depth + 1) ps)) (drop-drop c.cut.result c.args.from c.args.pieces.now) (IsAscending-high c.args.depth c.cut.result (drop c.args.from c.args.pieces.now) c.cut.ensures.high c.requires.ascending) in (
       omega (arith, c.len.ensures.within, c.if-len-depth.false),
-      (search rules, (search rules, (c.requires.whole, (c.cut.ensures.in_bounds, upper)))),
+      (search rules, (search rules, (search rules, (c.requires.width, (c.requires.whole, (c.cut.ensures.in_bounds, upper)))))),
     )
 
 pub add_plan-requires-3 : goal.add_plan-requires-3
@@ -98,7 +98,7 @@ add_plan-requires-3 g t c κs within =
     let lower =
     subst (λ ps. IsAscending (beyond (c.args.depth + 1) ps)) (sym (front_is c.args.from c.cut.result c.args.pieces.now c.add_plan-2.new.pieces taken)) (IsAscending-low c.args.depth c.cut.result (drop c.args.from c.args.pieces.now) c.cut.ensures.low c.requires.ascending) in (
       omega (arith, c.len.ensures.within, c.if-len-depth.false),
-      (search rules, (search rules, (c.in_ok-add_plan-2.ensures.planned.adds.whole, (inside, lower)))),
+      (search rules, (search rules, (search rules, (c.requires.width, (c.in_ok-add_plan-2.ensures.planned.adds.whole, (inside, lower)))))),
     )
 
 pub join-requires-clause-low : goal.join-requires-clause-low

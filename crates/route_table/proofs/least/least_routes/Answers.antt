@@ -7,11 +7,11 @@ use Rattle.route_table.specs.InnerLeast.{items_of}
 use Rattle.route_table.proofs.LeastBits.{least_of}
 use Rattle.route_table.proofs.least.least_routes.Goals as goal
 
-pub fewest-requires : goal.fewest-requires
-fewest-requires c = (c.in_ok-v4.ensures.ipv4 c.requires.0 c.requires.1).disjoint
+pub fewest-requires-clause-disjoint : goal.fewest-requires-clause-disjoint
+fewest-requires-clause-disjoint c = (c.in_ok-v4.ensures.ipv4 c.requires.0 c.requires.1).disjoint
 
-pub fewest-requires-2 : goal.fewest-requires-2
-fewest-requires-2 c = (c.in_ok-v4.ensures.ipv6 c.requires.0 c.requires.1).disjoint
+pub fewest-requires-2-clause-disjoint : goal.fewest-requires-2-clause-disjoint
+fewest-requires-2-clause-disjoint c = (c.in_ok-v4.ensures.ipv6 c.requires.0 c.requires.1).disjoint
 
 pub returns-clause-least : goal.returns-clause-least
 returns-clause-least c h flat =

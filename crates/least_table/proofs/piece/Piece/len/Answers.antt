@@ -3,4 +3,4 @@ use Rattle.trie_core.proofs.Masked.{length-prefix_bits}
 use Rattle.least_table.proofs.piece.Piece.len.Goals as goal
 
 pub returns-clause-value : goal.returns-clause-value
-returns-clause-value g c = sym (length-prefix_bits g.P.R.Key.width (g.P.R.Key.number c.self.inside.key) c.self.inside.len) ∙ ap (λ v. length v.0) c.self.view_is
+returns-clause-value g c = sym (length-prefix_bits g.K.Key.width (g.K.Key.number c.self.inside.key) c.self.inside.len) ∙ ap (λ v. length v.0) c.self.view_is

@@ -1,16 +1,22 @@
-use Rattle.std.proofs.Common.{subst}
+use Rattle.std.proofs.Common.{◌∙◌, ap, subst}
+use Rattle.ipnet_blocks.specs.declared.aggregate.Span.{Span}
 use Rattle.route_table.specs.InnerRunning.{GivesRun}
 use Rattle.route_table.proofs.Flattenings.{no_hops}
 use Rattle.route_table.proofs.HopRuns.{run_of_ipv4, run_of_ipv6}
 use Rattle.route_table.proofs.flat.BothRuns.next_run.Goals as goal
 
 pub returns-in-Some-clause-run : goal.returns-in-Some-clause-run
-returns-in-Some-clause-run c = run_of_ipv4 c.args.self.now c.requires c.next.new.self c.in-Some.run' c.ipv4_of.result c.ipv4_of-in-Some.result c.in-Some.ensures.run c.ipv4_of.ensures c.ipv4_of-in-Some.ensures
+returns-in-Some-clause-run c =
+    let first = c.ipv4_of.ensures ∙ ap (λ (s : Span). s.first) c.span-span.ensures.value in
+    let last = c.ipv4_of-in-Some.ensures ∙ ap (λ (s : Span). s.last) c.span-span.ensures.value in
+    rw c.number.ensures (run_of_ipv4 c.args.self.now c.requires c.next.new.self c.in-Some.run' c.ipv4_of.result c.ipv4_of-in-Some.result c.in-Some.ensures.run first last)
 
 pub returns-in-Some-next-clause-run : goal.returns-in-Some-next-clause-run
 returns-in-Some-next-clause-run c =
-    run_of_ipv6 c.args.self.now c.requires c.next-2.new.self c.in-Some-next.run' c.ipv6_of.result c.ipv6_of-in-Some-next.result c.next.new.self (subst (λ o. GivesRun c.args.self.now.v4 o c.next.new.self) c.in_default.is c.next.ensures.run)
-    c.in-Some-next.ensures.run c.ipv6_of.ensures c.ipv6_of-in-Some-next.ensures
+    let first = c.ipv6_of.ensures ∙ ap (λ (s : Span). s.first) c.span-span-in-Some-next.ensures.value in
+    let last = c.ipv6_of-in-Some-next.ensures ∙ ap (λ (s : Span). s.last) c.span-span-in-Some-next.ensures.value in
+    let none = subst (λ o. GivesRun c.args.self.now.v4 o c.next.new.self) c.in_default.is c.next.ensures.run in
+    rw c.number-in-Some-next.ensures (run_of_ipv6 c.args.self.now c.requires c.next-2.new.self c.in-Some-next.run' c.ipv6_of.result c.ipv6_of-in-Some-next.result c.next.new.self none c.in-Some-next.ensures.run first last)
 
 pub returns-in-None-clause-run : goal.returns-in-None-clause-run
 returns-in-None-clause-run c =

@@ -4,11 +4,11 @@ use Rattle.route_table.proofs.Flattenings.{table_left, table_right, whole_flat}
 use Rattle.route_table.proofs.Painted.{greatest}
 use Rattle.route_table.proofs.flat.Flat.new.Goals as goal
 
-pub new-requires-clause-routes : goal.new-requires-clause-routes
-new-requires-clause-routes c = table_left c.args.v4 c.args.v6 c.requires.table
+pub new-requires : goal.new-requires
+new-requires c = (omega arith, (table_left c.args.v4 c.args.v6 c.requires.table, c.requires.ipv4))
 
-pub new-requires-2-clause-routes : goal.new-requires-2-clause-routes
-new-requires-2-clause-routes c = table_right c.args.v4 c.args.v6 c.requires.table
+pub new-requires-2 : goal.new-requires-2
+new-requires-2 c = (omega arith, (table_right c.args.v4 c.args.v6 c.requires.table, c.requires.ipv6))
 
 pub invariant_of-result : goal.invariant_of-result
 invariant_of-result c = record {

@@ -1,24 +1,34 @@
-use Rattle.std.proofs.Common.{sym, refl, arith, subst}
+use Rattle.std.proofs.Common.{rules, ◌≡◌, ◌-◌, ◌<◌, sym, refl, ap, ◌∙◌, arith, subst}
 use Rattle.route_table.specs.declared.runs.Runs.{Runs}
-use Rattle.route_table.specs.InnerRunning.{StepsRun}
-use Rattle.route_table.proofs.Turns.{begun_here, begun_later, begin_room}
+use Rattle.route_table.specs.InnerReaches.{Reach}
+use Rattle.route_table.specs.InnerRunning.{StepsRun, joined, step_of}
+use Rattle.route_table.proofs.Turns.{approaches, begins_from}
 use Rattle.route_table.proofs.runs.Runs.begin.Goals as goal
 
-pub push-requires : goal.push-requires
-push-requires c = (omega arith, begin_room c.args.self.now c.requires.runs c.args.reach c.requires.next c.args.number c.requires.number c.requires.inside)
+pub returns-then-number-clause-runs : goal.returns-then-number-clause-runs
+returns-then-number-clause-runs g c =
+    let w = c.args.self.now in
+    let v : Runs g.row.P.Denot g.row.P-R.Denot = record w { at = c.reach.inside.first; run = c.join.new.run } in
+    let first = ap (λ (r : Reach). r.first) c.reach.view_is in
+    let later : w.at < c.args.reach.first = omega (arith, c.number.ensures.value, c.number-2.ensures.value, first, c.if-number.true) in
+    let last : c.of-last.result ≡ c.args.reach.first - 1 = c.of-last.ensures ∙ ap (λ n. n - 1) (c.number-then-number.ensures.value ∙ first) in
+    let run = c.join.ensures.run ∙ ap (λ n. (joined w.run (record { first = w.at; last = n }) c.args.number).1) last in
+    (approaches w v c.requires.runs c.requires.going c.args.reach c.requires.next c.args.number c.requires.number c.requires.inside refl first refl refl refl refl later run).0
 
-pub returns-then-start-reach-clause-runs : goal.returns-then-start-reach-clause-runs
-returns-then-start-reach-clause-runs c =
-    let v : Runs = record { at = c.args.reach.first; end = c.args.self.now.end; done = c.args.self.now.done; run = c.args.self.now.run; stack = c.push.new.self; next = c.next_reach-self.result; rest = c.next_reach-self.new.routes } in
-    (begun_here c.args.self.now v c.requires.runs c.requires.going c.args.reach c.requires.next c.args.number c.requires.number c.requires.inside refl refl refl c.push.ensures.items c.next_reach-self.ensures c.if-start-reach.true refl).0
+pub returns-then-number-clause-step : goal.returns-then-number-clause-step
+returns-then-number-clause-step g c =
+    let w = c.args.self.now in
+    let v : Runs g.row.P.Denot g.row.P-R.Denot = record w { at = c.reach.inside.first; run = c.join.new.run } in
+    let first = ap (λ (r : Reach). r.first) c.reach.view_is in
+    let later : w.at < c.args.reach.first = omega (arith, c.number.ensures.value, c.number-2.ensures.value, first, c.if-number.true) in
+    let last : c.of-last.result ≡ c.args.reach.first - 1 = c.of-last.ensures ∙ ap (λ n. n - 1) (c.number-then-number.ensures.value ∙ first) in
+    let run = c.join.ensures.run ∙ ap (λ n. (joined w.run (record { first = w.at; last = n }) c.args.number).1) last in
+    subst (λ s. StepsRun w s v) (sym (c.join.ensures.step ∙ ap (λ n. step_of (joined w.run (record { first = w.at; last = n }) c.args.number).0) last))
+    (approaches w v c.requires.runs c.requires.going c.args.reach c.requires.next c.args.number c.requires.number c.requires.inside refl first refl refl refl refl later run).1
 
-pub returns-clause-runs : goal.returns-clause-runs
-returns-clause-runs c =
-    let v : Runs = record { at = c.args.reach.first; end = c.args.self.now.end; done = c.args.self.now.done; run = c.join.new.run; stack = c.push.new.self; next = c.next_reach-self.result; rest = c.next_reach-self.new.routes } in
-    (begun_later c.args.self.now v c.requires.runs c.requires.going c.args.reach c.requires.next c.args.number c.requires.number c.requires.inside refl refl refl c.push.ensures.items c.next_reach-self.ensures c.if-start-reach.false c.join.ensures.run).0
-
-pub returns-clause-step : goal.returns-clause-step
-returns-clause-step c =
-    let v : Runs = record { at = c.args.reach.first; end = c.args.self.now.end; done = c.args.self.now.done; run = c.join.new.run; stack = c.push.new.self; next = c.next_reach-self.result; rest = c.next_reach-self.new.routes } in
-    subst (λ s. StepsRun c.args.self.now s v) (sym c.join.ensures.step)
-    (begun_later c.args.self.now v c.requires.runs c.requires.going c.args.reach c.requires.next c.args.number c.requires.number c.requires.inside refl refl refl c.push.ensures.items c.next_reach-self.ensures c.if-start-reach.false c.join.ensures.run).1
+pub open-requires : goal.open-requires
+open-requires g c =
+    let from = (begins_from c.args.self.now c.requires.runs c.args.reach c.requires.next).0 in
+    let first = ap (λ (r : Reach). r.first) c.reach.view_is in
+    let here : c.args.self.now.at ≡ c.args.reach.first = omega (arith, from, first, c.number.ensures.value, c.number-2.ensures.value, c.if-number.false) in
+    (search rules, (c.requires.runs, (c.requires.going, (c.requires.next, (here, c.requires.inside)))))
