@@ -1,5 +1,5 @@
 -- The blocks of a run as one range.
-use Rattle.std.proofs.Common.{◌≡◌, ℕ, ◌+◌, ◌-◌, ◌^◌, ◌<◌, ◌≤◌, inl, inr, ⊎_elim, Bool, true, false, cond, length, length-append, List, [], ◌∷◌, ◌++◌, map, filter, Option, Some, refl, sym, ap, ◌∙◌, subst, arith, append_assoc}
+use Rattle.std.proofs.Common.{◌≡◌, ℕ, ◌^◌, ◌<◌, ◌≤◌, inl, inr, ⊎_elim, Bool, true, false, cond, length, length-append, List, [], ◌∷◌, ◌++◌, map, filter, Some, refl, sym, ap, ◌∙◌, subst, arith, append_assoc}
 use Rattle.std.proofs.lemmas.List.Elements.{filter-append}
 use Rattle.std.proofs.lemmas.List.{length-map, map-append}
 use Rattle.std.proofs.lemmas.Nat.{pow_pos}
@@ -7,7 +7,7 @@ use Rattle.ipnet_addr.specs.Addresses.{Address, Family, same_family}
 use Rattle.ipnet_addr.proofs.Families.{family_from_test, test_from_family}
 use Rattle.ipnet_addr.proofs.Members.{In, In-left, In-right, In-cases}
 use Rattle.ipnet_addr.proofs.Ascending.{All-from_In, Any-from_In, In-from_All, In-from_Any, Rising, Rising-from_pairs, pairs_from_Rising}
-use Rattle.ipnet_blocks.specs.Blocks.{Block, HasAddress, first, first_of, free_bits, last}
+use Rattle.ipnet_blocks.specs.Blocks.{Block, HasAddress, first_of, free_bits, last}
 use Rattle.ipnet_blocks.proofs.BlockLaws.{has_first}
 use Rattle.ipnet_blocks.proofs.Cuts.{has_of_span, span_of_has}
 use Rattle.route_choices.proofs.Kept.{In-map, all_kept, map_In, none_kept}
@@ -18,6 +18,7 @@ use Rattle.route_table.specs.declared.hop_run.HopRun.{HopRun}
 use Rattle.hop_index.specs.Ranges.{HopRange, IsIn, hop_in, is_in}
 use Rattle.hop_index.specs.InnerRanges.{AreRanges, EndsBefore, Replaces, range_of, ranges_in}
 use Rattle.hop_index.proofs.Lookups.{in_from_test, in_test, passed_over}
+use Rattle.hop_index.proofs.Splits.{IsSplitSoFar, under}
 
 pub same_ranges : (rs : List HopRange) → AreRanges rs → Replaces rs rs
 same_ranges rs h = record { ranges = h; hops = λ x. refl }
@@ -162,6 +163,22 @@ module _ (ps left : List Piece) (run : HopRun) (is : BeginsWithRun ps run left) 
       let k : Replaces rs (old ++ (map range_of pieces ++ rest)) = subst (λ (l : List HopRange). Replaces rs (old ++ l)) own_split h in
       let after : new ++ rest ≡ old ++ range ∷ rest = ap (λ (l : List HopRange). l ++ rest) e ∙ append_assoc old (range ∷ []) rest in
       subst (λ (l : List HopRange). Replaces rs l) (sym after) (replaced rs _ _ k (one_for_all range (map range_of pieces) rest is.some each cover old k.ranges))
+
+  -- the same where the ranges before it stand in two lists
+  pub run_in_front : (rs short others : List HopRange) → IsSplitSoFar rs short others (ranges_in (run_family run) ps) → IsSplitSoFar rs short others (range ∷ ranges_in (run_family run) left)
+  run_in_front rs short others h =
+      let rest : List HopRange = ranges_in (run_family run) left in
+      let k : IsSplitSoFar rs short others (map range_of pieces ++ rest) = subst (λ (l : List HopRange). IsSplitSoFar rs short others l) own_split h in
+      let one = one_for_all range (map range_of pieces) rest is.some each cover in
+      let after = one others k.others' in
+      record {
+        short' = (one short k.short').ranges;
+        others' = after.ranges;
+        hops = λ x. under short (others ++ range ∷ rest) (others ++ (map range_of pieces ++ rest)) x (after.hops x) ∙ k.hops x;
+      }
+
+  pub split_kept : (f : Family) (rs short others : List HopRange) → (run_family run ≡ f → ⊥) → IsSplitSoFar rs short others (ranges_in f ps) → IsSplitSoFar rs short others (ranges_in f left)
+  split_kept f rs short others other h = subst (λ (l : List HopRange). IsSplitSoFar rs short others l) (others_stay f other) h
 
   pub others_kept : (f : Family) (rs old : List HopRange) → (run_family run ≡ f → ⊥) → Replaces rs (old ++ ranges_in f ps) → Replaces rs (old ++ ranges_in f left)
   others_kept f rs old other h = subst (λ (l : List HopRange). Replaces rs (old ++ l)) (others_stay f other) h

@@ -1,9 +1,9 @@
 -- Ascending ranges in two lists.
-use Rattle.std.proofs.Common.{◌≡◌, ℕ, ◌+◌, ◌-◌, ◌*◌, ◌/◌, ◌%◌, ◌^◌, ◌<◌, ◌≤◌, inl, inr, ⊎_elim, Bool, true, false, cond, All, List, [], ◌∷◌, ◌++◌, Option, Some, None, refl, sym, ap, ◌∙◌, subst, arith, append_assoc, append-nil}
+use Rattle.std.proofs.Common.{◌≡◌, ℕ, ◌+◌, ◌-◌, ◌*◌, ◌/◌, ◌%◌, ◌^◌, ◌<◌, ◌≤◌, inl, inr, ⊎_elim, Bool, true, false, cond, List, [], ◌∷◌, ◌++◌, Some, None, refl, sym, ap, ◌∙◌, subst, arith, append_assoc, append-nil}
 use Rattle.ipnet_addr.proofs.Members.{In, In-left, In-right, In-cases}
 use Rattle.ipnet_addr.proofs.Ascending.{All-from_In, In-from_All, Rising, Rising-from_pairs, pairs_from_Rising}
-use Rattle.hop_index.specs.Ranges.{HopRange, IsIn, hop_in, is_in}
-use Rattle.hop_index.specs.InnerRanges.{AreRanges, EndsBefore, IsShort, IsSplit, short_range}
+use Rattle.hop_index.specs.Ranges.{HopRange, hop_in, is_in}
+use Rattle.hop_index.specs.InnerRanges.{AreRanges, EndsBefore, HaveOneMore, IsShort, IsSplit, short_range}
 use Rattle.hop_index.proofs.Lookups.{in_from_test, passed_over}
 
 -- two lists, and those that are left
@@ -45,7 +45,8 @@ moved ys rest r x up = go (is_in x r) refl
         ∙ sym (passed_over ys (r ∷ rest) x (λ q i j. let l : q.last < r.first = before ys rest r up q i in let t = (in_from_test x r e).0 in let u = j.1 in omega arith))
     go false e = ap (λ b. cond b (Some r.hop) (hop_in (ys ++ rest) x)) e ∙ skipped ys e
 
-under : (xs ys zs : List HopRange) (x : ℕ) → hop_in ys x ≡ hop_in zs x → hop_in (xs ++ ys) x ≡ hop_in (xs ++ zs) x
+-- after the same ranges
+pub under : (xs ys zs : List HopRange) (x : ℕ) → hop_in ys x ≡ hop_in zs x → hop_in (xs ++ ys) x ≡ hop_in (xs ++ zs) x
 under [] ys zs x e = e
 under (w ∷ xs) ys zs x e = ap (λ o. cond (is_in x w) (Some w.hop) o) (under xs ys zs x e)
 
@@ -65,6 +66,13 @@ module _ (rs short others rest : List HopRange) (r : HopRange) (is : IsSplitSoFa
     hops = λ x. ap (λ (l : List HopRange). hop_in (short ++ l) x) (append_assoc others (r ∷ []) rest) ∙ is.hops x;
   }
 
+-- one more, in one of the two lists
+pub one_more_of_either : (rs short others new_short new_others rest : List HopRange) (r : HopRange) → IsSplitSoFar rs short others (r ∷ rest) → HaveOneMore r short others new_short new_others → IsSplitSoFar rs new_short new_others rest
+one_more_of_either rs short others new_short new_others rest r is (inl t) =
+    subst (λ (s : List HopRange). IsSplitSoFar rs s new_others rest) (sym t.0) (subst (λ (o : List HopRange). IsSplitSoFar rs (short ++ r ∷ []) o rest) (sym t.1) (one_more_short rs short others rest r is))
+one_more_of_either rs short others new_short new_others rest r is (inr t) =
+    subst (λ (s : List HopRange). IsSplitSoFar rs s new_others rest) (sym t.0) (subst (λ (o : List HopRange). IsSplitSoFar rs short o rest) (sym t.1) (one_more_other rs short others rest r is))
+
 pub none_split : (rs : List HopRange) → AreRanges rs → IsSplitSoFar rs [] [] rs
 none_split rs h = record { short' = h; others' = h; hops = λ x. refl }
 
@@ -74,10 +82,6 @@ all_split rs short others is = record {
   others' = subst AreRanges (append-nil others) is.others';
   hops = λ x. ap (λ (l : List HopRange). hop_in (short ++ l) x) (sym (append-nil others)) ∙ is.hops x;
 }
-
--- one more that is short
-pub all_and_one : (P : HopRange → Type 0) (xs : List HopRange) (r : HopRange) → All P xs → P r → All P (xs ++ r ∷ [])
-all_and_one P xs r h p = All-from_In P (xs ++ r ∷ []) (λ s i. ⊎_elim (λ j. In-from_All P xs h s j) (λ j. ⊎_elim (λ (e : s ≡ r). subst P (sym e) p) (λ k. absurd k) j) (In-cases s xs (r ∷ []) i))
 
 -- the hop of two lists is that of the first, or else that of the second
 pub hop_of_first : (xs ys : List HopRange) (x k : ℕ) → hop_in xs x ≡ Some k → hop_in (xs ++ ys) x ≡ Some k

@@ -1,5 +1,5 @@
 -- Ascending ranges, the index by their first bits, and the ranges of a flat list.
-use Rattle.std.specs.Prelude.{◌≡◌, ℕ, ◌+◌, ◌*◌, ◌/◌, ◌%◌, ◌-◌, ◌^◌, ◌<◌, ◌≤◌, ◌++◌, List, All, AllPairs, count_ones, filter, length, map, slice_index, slice_index_or}
+use Rattle.std.specs.Prelude.{◌≡◌, ℕ, ◌+◌, ◌*◌, ◌/◌, ◌%◌, ◌-◌, ◌^◌, ◌<◌, ◌≤◌, ◌++◌, ◌⊎◌, List, [], ◌∷◌, All, AllPairs, count_ones, filter, length, map, slice_index, slice_index_or}
 use Rattle.ipnet_addr.specs.Addresses.{Family, same_family}
 use Rattle.ipnet_blocks.specs.Blocks.{first, last}
 use Rattle.route_laws.specs.Flats.{Piece}
@@ -76,6 +76,10 @@ pub record IsSplit (rs short others : List HopRange) : Type 0 where
   pub short' : AreRanges short
   pub others' : AreRanges others
   pub hops : (x : ℕ) → hop_in (short ++ others) x ≡ hop_in rs x
+
+-- two lists with one more range, in the first or in the second
+abbrev pub HaveOneMore : HopRange → List HopRange → List HopRange → List HopRange → List HopRange → Type 0
+HaveOneMore r short others new_short new_others = ((new_short ≡ short ++ r ∷ []) × (new_others ≡ others)) ⊎ ((new_short ≡ short) × (new_others ≡ others ++ r ∷ []))
 
 -- a piece of a flat list as a range, and those of a family
 abbrev pub range_of : Piece → HopRange

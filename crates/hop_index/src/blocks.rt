@@ -2,7 +2,7 @@
 ghost use Rattle.std.specs.Prelude.{ℕ, ◌≡◌, ◌+◌, ◌*◌, ◌^◌, ◌<◌, ◌≤◌, IfOk, OnOk, length, slice_index};
 ghost use Rattle.hop_index.specs.InnerRanges.{AreBlockCounts, AreCountsOf, AreRanges, AreStarts, BeginsBelow, BeginsFrom};
 
-use crate::ranges::{Range, STARTS};
+use crate::ranges::STARTS;
 use crate::shorts::Short;
 use std::alloc::{AllocError, Global};
 
@@ -21,19 +21,20 @@ pub(crate) struct Blocks {
 }
 
 /// Appends the counts of a chunk, whose ranges are those from place `low` to `high`, and gives its bits.
+#[inline]
 fn count_blocks(
     counts: &mut Vec<u32>,
-    ranges: &[Range<u128>],
-    start: u128,
+    ranges: &[Short],
+    start: u64,
     low: u32,
     high: u32,
 ) -> Result<u64, AllocError>
     requires ranges { AreRanges ranges.now }
-    requires low_below { BeginsBelow ranges.now start low }
-    requires low_from { BeginsFrom ranges.now start low }
-    requires high_below { BeginsBelow ranges.now (start + 2 ^ 107) high }
-    requires high_from { BeginsFrom ranges.now (start + 2 ^ 107) high }
-    ensures counts { IfOk result (λ word. AreCountsOf ranges.now start counts.new.items (length counts.old.items) word) }
+    requires low_below { BeginsBelow ranges.now (start * 2 ^ 80) low }
+    requires low_from { BeginsFrom ranges.now (start * 2 ^ 80) low }
+    requires high_below { BeginsBelow ranges.now (start * 2 ^ 80 + 2 ^ 107) high }
+    requires high_from { BeginsFrom ranges.now (start * 2 ^ 80 + 2 ^ 107) high }
+    ensures counts { IfOk result (λ word. AreCountsOf ranges.now (start * 2 ^ 80) counts.new.items (length counts.old.items) word) }
     ensures longer { OnOk result (length counts.old.items ≤ length counts.new.items) }
     ensures kept { OnOk result ((k : ℕ) → k < length counts.old.items → slice_index counts.new.items k ≡ slice_index counts.old.items k) }
 {
@@ -42,7 +43,7 @@ fn count_blocks(
     }
     let mut word = 0;
     for place in low..high {
-        let block = ((ranges[place as usize].first() - start) >> 101) as u32;
+        let block = ((ranges[place as usize].first() - start) >> 21) as u32;
         if word >> block == 0 {
             word += 1u64 << block;
             counts.push(place)?;
@@ -55,7 +56,7 @@ fn count_blocks(
 /// The blocks of the chunks.
 pub(crate) fn blocks_of(
     alloc: Global,
-    ranges: &[Range<u128>],
+    ranges: &[Short],
     starts: &[u32],
 ) -> Result<Blocks, AllocError>
     requires ranges { AreRanges ranges.now }
@@ -69,7 +70,7 @@ pub(crate) fn blocks_of(
         let Ok(place) = u32::try_from(counts.len()) else {
             return Err(AllocError);
         };
-        let start = ((FIRST + chunk) as u128) << 107;
+        let start = ((FIRST + chunk) as u64) << 27;
         words.push(count_blocks(&mut counts, ranges, start, starts[chunk], starts[chunk + 1])?)?;
         places.push(place)?;
     }

@@ -6,11 +6,11 @@ ghost use Rattle.route_laws.specs.Networks.{routes_of};
 ghost use Rattle.route_laws.specs.Tables.{hop_at};
 ghost use Rattle.prefix_trie.specs.declared.refused.Refused.TheVariants.{Memory};
 ghost use Rattle.hop_index.specs.Indexes.{hop_of};
-ghost use Rattle.hop_index.specs.InnerRanges.{Replaces, ranges_in};
+ghost use Rattle.hop_index.specs.InnerRanges.{IsSplit, Replaces, ranges_in};
 
 use crate::marks::Ranges4;
 use crate::ranges::Range;
-use crate::shorts::Ranges6;
+use crate::shorts::{Ranges6, Short, add_range};
 use ipnet::IpAddr;
 use ipnet_addr::number::Number;
 use prefix_trie::Refused;
@@ -18,24 +18,27 @@ use route_table::{Flat, HopRun, HopTable, RouteTable};
 use std::alloc::{AllocError, Global};
 use std::marker::Model;
 
-/// The ranges of the addresses of one hop that stand in a row, by family.
+/// The ranges of the addresses of one hop that stand in a row: those of IPv4, and those of IPv6 in two lists.
 fn ranges(
     alloc: Global,
     mut flat: Flat<'_>,
-) -> Result<(Vec<Range<u32>>, Vec<Range<u128>>), AllocError>
+) -> Result<(Vec<Range<u32>>, Vec<Short>, Vec<Range<u128>>), AllocError>
     requires { (h : Address → Option ℕ) × IsFlat h flat }
     ensures ipv4 { IfOk result (λ r. Replaces (ranges_in Ipv4 flat.entry) r.0.items) }
-    ensures ipv6 { IfOk result (λ r. Replaces (ranges_in Ipv6 flat.entry) r.1.items) }
+    ensures ipv6 { IfOk result (λ r. IsSplit (ranges_in Ipv6 flat.entry) r.1.items r.2.items) }
 {
     let mut v4 = Vec::new(alloc);
-    let mut v6 = Vec::new(alloc);
+    let mut shorts = Vec::new(alloc);
+    let mut others = Vec::new(alloc);
     'run: while let Some(run) = flat.next_run() {
         match run {
             HopRun::V4(first, last, hop) => v4.push(Range::of_ends(first, last, hop))?,
-            HopRun::V6(first, last, hop) => v6.push(Range::of_ends(first, last, hop))?,
+            HopRun::V6(first, last, hop) => {
+                add_range(&mut shorts, &mut others, Range::of_ends(first, last, hop))?
+            }
         }
     }
-    Ok((v4, v6))
+    Ok((v4, shorts, others))
 }
 
 /// The hop of each address, as a table had it when the index was made: a copy, which no later change of the table reaches.
@@ -106,10 +109,10 @@ impl HopIndex {
         requires { (h : Address → Option ℕ) × IsFlat h flat }
         ensures { IfOk result (λ i. (h : Address → Option ℕ) → IsFlat h flat.entry → (x : Address) → IsAddress x → hop_of i x ≡ h x) }
     {
-        let (v4, v6) = ranges(alloc, flat)?;
+        let (v4, shorts, others) = ranges(alloc, flat)?;
         Ok(HopIndex {
             v4: Ranges4::new(alloc, v4)?,
-            v6: Ranges6::new(alloc, v6)?,
+            v6: Ranges6::new(alloc, shorts, others)?,
         })
     }
 

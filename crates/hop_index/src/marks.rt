@@ -9,6 +9,7 @@ use std::marker::Model;
 
 /// A bit for each of a chunk's 64 blocks of 256 numbers: whether one of its ranges, from place `low` to `high`, begins there;
 /// 0 where two of them begin in one block.
+#[inline]
 fn marks_of(ranges: &[Range<u32>], start: u128, low: usize, high: usize) -> u64
     requires ranges { AreRanges ranges.now }
     requires low_below { BeginsBelow ranges.now start low }

@@ -1,7 +1,7 @@
 //! Ascending ranges of addresses of one family, each with a hop, found by their first bits.
-ghost use Rattle.std.specs.Prelude.{ℕ, ◌≡◌, ◌+◌, ◌*◌, ◌^◌, ◌<◌, ◌≤◌, IfOk};
+ghost use Rattle.std.specs.Prelude.{ℕ, ◌≡◌, ◌+◌, ◌*◌, ◌^◌, ◌<◌, ◌≤◌, IfOk, map};
 ghost use Rattle.ipnet_addr.specs.Addresses.{width};
-ghost use Rattle.hop_index.specs.Ranges.{hop_in};
+ghost use Rattle.hop_index.specs.Ranges.{HopRange, hop_in};
 ghost use Rattle.hop_index.specs.InnerRanges.{AreRanges, AreStarts, BeginsBelow, BeginsFrom};
 
 use ipnet_addr::number::Number;
@@ -64,19 +64,21 @@ impl<N: Number> Range<N> {
     }
 }
 
-/// Numbers of addresses in chunks, which are those with the same first bits.
-pub(crate) trait Chunked: Number {
+/// Ranges of addresses in chunks, which are those with the same first bits.
+pub(crate) trait Chunked {
+    /// The numbers of its addresses, and its hop.
+    ghost range: { Self → HopRange };
+
     /// How many numbers a chunk has.
     ghost chunk_size: { ℕ };
 
     /// The first chunk that an index has a count for.
     ghost first_chunk: { ℕ };
 
-    /// The chunk of a number, which its first bits name.
-    fn chunk_of(number: u128) -> usize
-        requires { number < 2 ^ width Self.family }
-        ensures first { result * chunk_size ≤ number }
-        ensures last { number < (result + 1) * chunk_size };
+    /// The chunk of its first address, which the first bits name.
+    fn chunk(&self) -> usize
+        ensures first { result * chunk_size ≤ (range self.now).first }
+        ensures last { (range self.now).first < (result + 1) * chunk_size };
 
     /// The first chunk that an index has a count for.
     fn first_chunk() -> usize
@@ -85,36 +87,21 @@ pub(crate) trait Chunked: Number {
 }
 
 /// The chunks are of 18 bits, and all have a count.
-impl Chunked for u32 {
+impl Chunked for Range<u32> {
+    ghost range = { λ r. r };
+
     ghost chunk_size = { 2 ^ 14 };
 
     ghost first_chunk = { 0 };
 
     #[inline]
-    fn chunk_of(number: u128) -> usize {
-        (number >> 14) as usize
+    fn chunk(&self) -> usize {
+        (self.first() >> 14) as usize
     }
 
     #[inline]
     fn first_chunk() -> usize {
         0
-    }
-}
-
-/// The chunks are of 21 bits, and those of 2000::/3, where the global unicast addresses are, have a count.
-impl Chunked for u128 {
-    ghost chunk_size = { 2 ^ 107 };
-
-    ghost first_chunk = { 262144 };
-
-    #[inline]
-    fn chunk_of(number: u128) -> usize {
-        (number >> 107) as usize
-    }
-
-    #[inline]
-    fn first_chunk() -> usize {
-        262_144
     }
 }
 
@@ -162,16 +149,16 @@ pub(crate) fn hop_after<N: Number>(ranges: &[Range<N>], count: usize, number: N)
 }
 
 /// How many ranges begin before each chunk that has a count, and before the end of the last one.
-pub(crate) fn starts<N: Chunked>(alloc: Global, ranges: &[Range<N>]) -> Result<Vec<u32>, AllocError>
-    requires { AreRanges ranges.now }
-    ensures { IfOk result (λ starts. AreStarts N.first_chunk N.chunk_size ranges.now starts.items) }
+pub(crate) fn starts<R: Chunked>(alloc: Global, ranges: &[R]) -> Result<Vec<u32>, AllocError>
+    requires { AreRanges (map R.range ranges.now) }
+    ensures { IfOk result (λ starts. AreStarts R.first_chunk R.chunk_size (map R.range ranges.now) starts.items) }
 {
     let mut starts = Vec::with_capacity(alloc, STARTS)?;
     let mut count = 0;
-    let from = N::first_chunk();
+    let from = R::first_chunk();
     for step in 0..STARTS {
         let chunk = from + step;
-        while count < ranges.len() && N::chunk_of(ranges[count].first()) < chunk {
+        while count < ranges.len() && ranges[count].chunk() < chunk {
             count += 1;
         }
         let Ok(begun) = u32::try_from(count) else {

@@ -1,10 +1,10 @@
 //! IPv6: ranges in 12 bytes each, and the few others.
-ghost use Rattle.std.specs.Prelude.{ℕ, ◌≡◌, ◌+◌, ◌-◌, ◌*◌, ◌^◌, ◌<◌, ◌≤◌, ◌++◌, ◌↔◌, All, IfOk, IsTrue};
+ghost use Rattle.std.specs.Prelude.{ℕ, ◌≡◌, ◌+◌, ◌-◌, ◌*◌, ◌^◌, ◌<◌, ◌≤◌, ◌++◌, ◌↔◌, IfOk, OnOk, IsTrue};
 ghost use Rattle.hop_index.specs.Ranges.{hop_in};
-ghost use Rattle.hop_index.specs.InnerRanges.{AreRanges, BeginsBelow, BeginsFrom, IsShort, IsSplit};
+ghost use Rattle.hop_index.specs.InnerRanges.{AreRanges, BeginsBelow, BeginsFrom, HaveOneMore, IsShort};
 
 use crate::blocks::{Blocks, blocks_of, of_block};
-use crate::ranges::{Range, begun, hop_after, starts};
+use crate::ranges::{Chunked, Range, begun, hop_after, starts};
 use std::alloc::{AllocError, Global};
 use std::marker::Model;
 
@@ -40,7 +40,7 @@ fn key_of(high: u32, low: u32) -> u64
 impl Short {
     /// The first 48 bits of its first address.
     #[inline]
-    fn first(&self) -> u64
+    pub(crate) fn first(&self) -> u64
         ensures { self.now.first ≡ result * 2 ^ 80 }
     {
         (1 << 45) + (key_of(self.high, self.low) >> 19)
@@ -79,6 +79,25 @@ impl Short {
     }
 }
 
+/// The chunks are of 21 bits, and those of 2000::/3, where the global unicast addresses are, have a count.
+impl Chunked for Short {
+    ghost range = { λ r. r };
+
+    ghost chunk_size = { 2 ^ 107 };
+
+    ghost first_chunk = { 262144 };
+
+    #[inline]
+    fn chunk(&self) -> usize {
+        (self.first() >> 27) as usize
+    }
+
+    #[inline]
+    fn first_chunk() -> usize {
+        262_144
+    }
+}
+
 /// Whether a range has room in 12 bytes.
 fn is_short(range: &Range<u128>) -> bool
     ensures { IsTrue result ↔ IsShort range.now }
@@ -91,37 +110,21 @@ fn is_short(range: &Range<u128>) -> bool
         && (last - first) >> 99 == 0
 }
 
-/// The ranges that have room in 12 bytes, and the others.
-fn split(
-    alloc: Global,
-    ranges: Vec<Range<u128>>,
-) -> Result<(Vec<Range<u128>>, Vec<Range<u128>>), AllocError>
-    requires { AreRanges ranges.items }
-    ensures split { IfOk result (λ r. IsSplit ranges.items r.0.items r.1.items) }
-    ensures short { IfOk result (λ r. All IsShort r.0.items) }
+/// Adds a range to those that have room in 12 bytes, or to the others.
+#[inline]
+pub(crate) fn add_range(
+    shorts: &mut Vec<Short>,
+    others: &mut Vec<Range<u128>>,
+    range: Range<u128>,
+) -> Result<(), AllocError>
+    ensures { OnOk result (HaveOneMore range shorts.old.items others.old.items shorts.new.items others.new.items) }
 {
-    let mut short = Vec::new(alloc);
-    let mut others = Vec::new(alloc);
-    for range in ranges {
-        if is_short(&range) {
-            short.push(range)?;
-        } else {
-            others.push(range)?;
-        }
+    if is_short(&range) {
+        shorts.push(Short::of_range(&range))?;
+    } else {
+        others.push(range)?;
     }
-    Ok((short, others))
-}
-
-/// The ranges in 12 bytes each.
-fn shorts_of(alloc: Global, ranges: &[Range<u128>]) -> Result<Vec<Short>, AllocError>
-    requires { All IsShort ranges.now }
-    ensures { IfOk result (λ shorts. shorts.items ≡ ranges.now) }
-{
-    let mut shorts = Vec::with_capacity(alloc, ranges.len())?;
-    for range in ranges {
-        shorts.push(Short::of_range(range))?;
-    }
-    Ok(shorts)
+    Ok(())
 }
 
 /// How many of the ranges begin at or below the number: at least `low`, and at most `high`.
@@ -192,14 +195,17 @@ impl Ranges6 {
     ///
     /// # Errors
     /// `AllocError` where there is no memory for it.
-    pub(crate) fn new(alloc: Global, ranges: Vec<Range<u128>>) -> Result<Ranges6, AllocError>
-        requires { AreRanges ranges.items }
-        ensures { IfOk result (λ r. (x : ℕ) → hop_in r x ≡ hop_in ranges.items x) }
+    pub(crate) fn new(
+        alloc: Global,
+        shorts: Vec<Short>,
+        others: Vec<Range<u128>>,
+    ) -> Result<Ranges6, AllocError>
+        requires shorts { AreRanges shorts.items }
+        requires others { AreRanges others.items }
+        ensures { IfOk result (λ r. r ≡ shorts.items ++ others.items) }
     {
-        let (short, others) = split(alloc, ranges)?;
-        let starts = starts(alloc, &short)?;
-        let blocks = blocks_of(alloc, &short, &starts)?;
-        let shorts = shorts_of(alloc, &short)?;
+        let starts = starts(alloc, &shorts)?;
+        let blocks = blocks_of(alloc, &shorts, &starts)?;
         Ok(Ranges6 {
             shorts,
             starts,

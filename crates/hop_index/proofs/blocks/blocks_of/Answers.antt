@@ -1,5 +1,4 @@
 use Rattle.std.proofs.Common.{ℕ, ◌≡◌, ◌+◌, ◌*◌, ◌%◌, ◌^◌, ◌<◌, [], ◌∷◌, ◌++◌, List, length, get_or, sym, ap, subst, arith, length-append}
-use Rattle.std.proofs.Math.Nat.{mod-eq_of_lt}
 use Rattle.hop_index.specs.Ranges.{HopRange}
 use Rattle.hop_index.specs.InnerRanges.{AreCountsOf}
 use Rattle.hop_index.proofs.Counts.{counts_kept, one_more_of_two}
@@ -18,7 +17,7 @@ loop-chunk-preserved c =
     let P : ℕ → ℕ → ℕ → Type 0 = λ t p w. AreCountsOf rs ((262144 + t) * 2 ^ 107) c.count_blocks.new.counts.items p w in
     let given = c.in_ok-count_blocks.ensures.counts in
     let first = c.in-Ok.ensures in
-    let start : (262144 + n) * 2 ^ 107 % 2 ^ 128 ≡ (262144 + n) * 2 ^ 107 = mod-eq_of_lt (omega (arith, c.loop-chunk-test.true)) in
+    let start : (262144 + n) * 2 ^ 27 % 2 ^ 64 * 2 ^ 80 ≡ (262144 + n) * 2 ^ 107 = omega (arith, c.loop-chunk-test.true) in
     let is_place : place ≡ length c.loop-chunk.counts.items = omega (arith, first.1, c.len.ensures, c.loop-chunk.counts.ok.0) in
     let last : P n place word = subst (λ (p : ℕ). P n p word) (sym is_place) (subst (λ (s : ℕ). AreCountsOf rs s c.count_blocks.new.counts.items (length c.loop-chunk.counts.items) word) start given) in
     let all : (t : ℕ) → t < n + 1 → P t (get_or (places ++ place ∷ []) t 0) (get_or (words ++ word ∷ []) t 0) = one_more_of_two P places words n place word c.loop-chunk.invariant.all_places c.loop-chunk.invariant.all_words

@@ -1,32 +1,36 @@
-use Rattle.std.proofs.Common.{◌≡◌, ℕ, ◌+◌, ◌*◌, ◌<◌, ◌≤◌, ◌++◌, [], ◌∷◌, List, length, get_or, arith, length-append, ap, sym, subst}
+use Rattle.std.proofs.Common.{◌≡◌, ℕ, ◌+◌, ◌*◌, ◌<◌, ◌≤◌, ◌++◌, [], ◌∷◌, List, length, get_or, arith, length-append, sym, subst, map}
+use Rattle.std.proofs.lemmas.List.{length-map}
 use Rattle.std.proofs.Math.Nat.{mul-le-mul_right}
 use Rattle.hop_index.specs.Ranges.{HopRange}
 use Rattle.hop_index.specs.InnerRanges.{BeginsBelow, BeginsFrom}
-use Rattle.hop_index.proofs.Searches.{begins_below, begins_from, below_later, chunk_after, chunk_from, from_end, one_more}
+use Rattle.hop_index.proofs.Searches.{first_at, begins_below, begins_from, below_later, chunk_after, chunk_from, from_end, one_more}
 use Rattle.hop_index.proofs.ranges.starts.Goals as goal
-use Rattle.hop_index.proofs.ranges.starts.Goals.{then-loop-count-test+else-chunk_of-chunk, else-loop-count-test}
+use Rattle.hop_index.proofs.ranges.starts.Goals.{then-loop-count-test+else-chunk, else-loop-count-test}
 
 pub loop-count-preserved : goal.loop-count-preserved
 loop-count-preserved g c =
-    let is = ap (λ (r : HopRange). r.first) c.index-ranges-count.is in
-    let after : c.first.result < (g.N.Chunked.first_chunk + c.loop-step.step) * g.N.Chunked.chunk_size = chunk_after _ _ _ _ c.chunk_of.ensures.last (omega (arith, c.if-chunk_of-chunk.true, c.first_chunk-from.ensures.value)) in
-    begins_below _ _ _ c.index-ranges-count.result c.requires c.loop-count-test.true (omega (arith, is, c.first.ensures.value))
+    let rs : List HopRange = map g.R.Chunked.range c.args.ranges.now in
+    let r : HopRange = g.R.Chunked.range c.index-ranges-count.result in
+    let is : r.first ≡ (get_or rs c.loop-count.count r).first = first_at g.R.Chunked.range c.args.ranges.now c.loop-count.count c.index-ranges-count.result c.index-ranges-count.is in
+    let after : r.first < (g.R.Chunked.first_chunk + c.loop-step.step) * g.R.Chunked.chunk_size = chunk_after _ _ _ _ c.chunk.ensures.last (omega (arith, c.if-chunk.true, c.first_chunk-from.ensures.value)) in
+    begins_below rs _ _ r c.requires (omega (arith, length-map c.args.ranges.now g.R.Chunked.range, c.loop-count-test.true)) (omega (arith, is, after))
 
 pub loop-step-preserved : goal.loop-step-preserved
 loop-step-preserved g c =
-    let rs = c.args.ranges.now in
-    let size : ℕ = g.N.Chunked.chunk_size in
+    let rs : List HopRange = map g.R.Chunked.range c.args.ranges.now in
+    let size : ℕ = g.R.Chunked.chunk_size in
     let same : c.in-Ok.begun ≡ c.loop-count.count = c.in-Ok.ensures.1 in
     let items : c.push.new.self.items ≡ c.loop-step.starts.items ++ c.in-Ok.begun ∷ [] = c.in_ok-push.ensures.items in
-    let at : ℕ → ℕ = λ t. (g.N.Chunked.first_chunk + t) * size in
+    let at : ℕ → ℕ = λ t. (g.R.Chunked.first_chunk + t) * size in
     let len : length c.loop-step.starts.items ≡ c.loop-step.step = c.loop-step.invariant.all in
     let above : BeginsFrom rs (at c.loop-step.step) c.loop-count.count =
     elim c.loop-count-test.branch [
-      | then-loop-count-test+else-chunk_of-chunk w ↦
-          let is = ap (λ (r : HopRange). r.first) w.index-ranges-count.is in
-          let from : at c.loop-step.step ≤ w.first.result = chunk_from _ _ _ _ w.chunk_of.ensures.first (omega (arith, w.if-chunk_of-chunk.false, c.first_chunk-from.ensures.value)) in
-          begins_from rs _ _ w.index-ranges-count.result c.requires w.loop-count-test.true (omega (arith, is, from, w.first.ensures.value))
-      | else-loop-count-test w ↦ from_end rs _ _ c.loop-count.invariant.within w.loop-count-test.false
+      | then-loop-count-test+else-chunk w ↦
+          let r : HopRange = g.R.Chunked.range w.index-ranges-count.result in
+          let is : r.first ≡ (get_or rs c.loop-count.count r).first = first_at g.R.Chunked.range c.args.ranges.now c.loop-count.count w.index-ranges-count.result w.index-ranges-count.is in
+          let from : at c.loop-step.step ≤ r.first = chunk_from _ _ _ _ w.chunk.ensures.first (omega (arith, w.if-chunk.false, c.first_chunk-from.ensures.value)) in
+          begins_from rs _ _ r c.requires (omega (arith, length-map c.args.ranges.now g.R.Chunked.range, w.loop-count-test.true)) (omega (arith, is, from))
+      | else-loop-count-test w ↦ from_end rs _ _ c.loop-count.invariant.within (omega (arith, length-map c.args.ranges.now g.R.Chunked.range, w.loop-count-test.false))
     ] in
     let P : List ℕ → Type 0 = λ xs. (t : ℕ) → t < c.loop-step.step + 1 → BeginsBelow rs (at t) (get_or xs t 0) in
     let Q : List ℕ → Type 0 = λ xs. (t : ℕ) → t < c.loop-step.step + 1 → BeginsFrom rs (at t) (get_or xs t 0) in

@@ -1,4 +1,4 @@
-use Rattle.std.proofs.Common.{◌≡◌, ℕ, ◌+◌, ◌-◌, ◌*◌, ◌/◌, ◌%◌, ◌^◌, ◌<◌, arith}
+use Rattle.std.proofs.Common.{arith}
 use Rattle.hop_index.specs.Ranges.{HopRange}
 use Rattle.hop_index.proofs.Splits.{short_is}
 use Rattle.hop_index.proofs.shorts.Short.of_range.Goals as goal
