@@ -1,5 +1,5 @@
 -- The blocks of a run as one range.
-use Rattle.std.proofs.Common.{◌≡◌, ℕ, ◌^◌, ◌<◌, ◌≤◌, inl, inr, ⊎_elim, Bool, true, false, cond, length, length-append, List, [], ◌∷◌, ◌++◌, map, filter, Some, refl, sym, ap, ◌∙◌, subst, arith, append_assoc}
+use Rattle.std.proofs.Common.{◌≡◌, ℕ, ◌^◌, ◌<◌, ◌≤◌, inl, inr, ⊎_elim, Bool, true, false, cond, length, length-append, List, [], ◌∷◌, ◌++◌, map, filter, Some, refl, sym, ap, ◌∙◌, subst, arith}
 use Rattle.std.proofs.lemmas.List.Elements.{filter-append}
 use Rattle.std.proofs.lemmas.List.{length-map, map-append}
 use Rattle.std.proofs.lemmas.Nat.{pow_pos}
@@ -16,15 +16,14 @@ use Rattle.route_table.proofs.Openings.{rising_back}
 use Rattle.route_table.specs.Items.{BeginsWithRun, run_family, run_first, run_hop, run_last}
 use Rattle.route_table.specs.declared.hop_run.HopRun.{HopRun}
 use Rattle.hop_index.specs.Ranges.{HopRange, IsIn, hop_in, is_in}
-use Rattle.hop_index.specs.InnerRanges.{AreRanges, EndsBefore, Replaces, range_of, ranges_in}
+use Rattle.hop_index.specs.InnerRanges.{AreRanges, EndsBefore, range_of, ranges_in}
 use Rattle.hop_index.proofs.Lookups.{in_from_test, in_test, passed_over}
 use Rattle.hop_index.proofs.Splits.{IsSplitSoFar, under}
 
-pub same_ranges : (rs : List HopRange) → AreRanges rs → Replaces rs rs
-same_ranges rs h = record { ranges = h; hops = λ x. refl }
-
-pub replaced : (rs ss ts : List HopRange) → Replaces rs ss → Replaces ss ts → Replaces rs ts
-replaced rs ss ts h k = record { ranges = k.ranges; hops = λ x. k.hops x ∙ h.hops x }
+-- ranges with the hops of others
+pub record Replaces (rs ss : List HopRange) : Type 0 where
+  pub ranges : AreRanges ss
+  pub hops : (x : ℕ) → hop_in ss x ≡ hop_in rs x
 
 -- earlier and later members of an ascending list
 across : (xs ys : List HopRange) → Rising EndsBefore (xs ++ ys) → (a b : HopRange) → In a xs → In b ys → EndsBefore a b
@@ -156,15 +155,7 @@ module _ (ps left : List Piece) (run : HopRun) (is : BeginsWithRun ps run left) 
       let u = s.1 in
       (range_of (as_piece t.0), map_In range_of pieces (as_piece t.0) (map_In as_piece is.blocks t.0 t.1), (omega arith, omega arith))
 
-  -- the range of the run comes in the place of its blocks
-  pub one_more_run : (rs old new : List HopRange) → Replaces rs (old ++ ranges_in (run_family run) ps) → new ≡ old ++ range ∷ [] → Replaces rs (new ++ ranges_in (run_family run) left)
-  one_more_run rs old new h e =
-      let rest : List HopRange = ranges_in (run_family run) left in
-      let k : Replaces rs (old ++ (map range_of pieces ++ rest)) = subst (λ (l : List HopRange). Replaces rs (old ++ l)) own_split h in
-      let after : new ++ rest ≡ old ++ range ∷ rest = ap (λ (l : List HopRange). l ++ rest) e ∙ append_assoc old (range ∷ []) rest in
-      subst (λ (l : List HopRange). Replaces rs l) (sym after) (replaced rs _ _ k (one_for_all range (map range_of pieces) rest is.some each cover old k.ranges))
-
-  -- the same where the ranges before it stand in two lists
+  -- the range of the run comes in the place of its blocks, where the ranges before it stand in two lists
   pub run_in_front : (rs short others : List HopRange) → IsSplitSoFar rs short others (ranges_in (run_family run) ps) → IsSplitSoFar rs short others (range ∷ ranges_in (run_family run) left)
   run_in_front rs short others h =
       let rest : List HopRange = ranges_in (run_family run) left in
@@ -179,9 +170,6 @@ module _ (ps left : List Piece) (run : HopRun) (is : BeginsWithRun ps run left) 
 
   pub split_kept : (f : Family) (rs short others : List HopRange) → (run_family run ≡ f → ⊥) → IsSplitSoFar rs short others (ranges_in f ps) → IsSplitSoFar rs short others (ranges_in f left)
   split_kept f rs short others other h = subst (λ (l : List HopRange). IsSplitSoFar rs short others l) (others_stay f other) h
-
-  pub others_kept : (f : Family) (rs old : List HopRange) → (run_family run ≡ f → ⊥) → Replaces rs (old ++ ranges_in f ps) → Replaces rs (old ++ ranges_in f left)
-  others_kept f rs old other h = subst (λ (l : List HopRange). Replaces rs (old ++ l)) (others_stay f other) h
 
   -- fewer pieces are left
   pub fewer : length left < length ps

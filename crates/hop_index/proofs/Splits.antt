@@ -1,9 +1,10 @@
 -- Ascending ranges in two lists.
-use Rattle.std.proofs.Common.{◌≡◌, ℕ, ◌+◌, ◌-◌, ◌*◌, ◌/◌, ◌%◌, ◌^◌, ◌<◌, ◌≤◌, inl, inr, ⊎_elim, Bool, true, false, cond, List, [], ◌∷◌, ◌++◌, Some, None, refl, sym, ap, ◌∙◌, subst, arith, append_assoc, append-nil}
+use Rattle.std.proofs.Common.{◌≡◌, ℕ, ◌+◌, ◌-◌, ◌*◌, ◌/◌, ◌%◌, ◌^◌, ◌<◌, ◌≤◌, inl, inr, ⊎_elim, Bool, true, false, cond, List, [], ◌∷◌, ◌++◌, map, Some, None, refl, sym, ap, ◌∙◌, subst, arith, append_assoc, append-nil}
+use Rattle.std.proofs.lemmas.List.{map-id}
 use Rattle.ipnet_addr.proofs.Members.{In, In-left, In-right, In-cases}
 use Rattle.ipnet_addr.proofs.Ascending.{All-from_In, In-from_All, Rising, Rising-from_pairs, pairs_from_Rising}
 use Rattle.hop_index.specs.Ranges.{HopRange, hop_in, is_in}
-use Rattle.hop_index.specs.InnerRanges.{AreRanges, EndsBefore, HaveOneMore, IsShort, IsSplit, short_range}
+use Rattle.hop_index.specs.InnerRanges.{AreRanges, EndsBefore, HaveOneMore, IsShort6, IsSplit, short_range6}
 use Rattle.hop_index.proofs.Lookups.{in_from_test, passed_over}
 
 -- two lists, and those that are left
@@ -73,6 +74,13 @@ one_more_of_either rs short others new_short new_others rest r is (inl t) =
 one_more_of_either rs short others new_short new_others rest r is (inr t) =
     subst (λ (s : List HopRange). IsSplitSoFar rs s new_others rest) (sym t.0) (subst (λ (o : List HopRange). IsSplitSoFar rs short o rest) (sym t.1) (one_more_other rs short others rest r is))
 
+-- the same of lists that are seen as ranges already
+pub one_more_seen : (rs short others new_short new_others rest : List HopRange) (r : HopRange) → IsSplitSoFar rs short others (r ∷ rest)
+    → HaveOneMore r (map (λ (s : HopRange). s) short) others (map (λ (s : HopRange). s) new_short) new_others → IsSplitSoFar rs new_short new_others rest
+one_more_seen rs short others new_short new_others rest r is more =
+    let first = subst (λ (s : List HopRange). HaveOneMore r s others (map (λ (t : HopRange). t) new_short) new_others) (map-id short) more in
+    one_more_of_either rs short others new_short new_others rest r is (subst (λ (s : List HopRange). HaveOneMore r short others s new_others) (map-id new_short) first)
+
 pub none_split : (rs : List HopRange) → AreRanges rs → IsSplitSoFar rs [] [] rs
 none_split rs h = record { short' = h; others' = h; hops = λ x. refl }
 
@@ -101,8 +109,8 @@ hop_of_second (r ∷ xs) ys x e = go (is_in x r) refl (λ d. hop_of_second xs ys
     go false t later = ap (λ b. cond b (Some r.hop) (hop_in (xs ++ ys) x)) t ∙ later (sym (ap (λ b. cond b (Some r.hop) (hop_in xs x)) t) ∙ e)
 
 -- a short range of its number
-pub short_is : (r : HopRange) (key hop : ℕ) → IsShort r → key ≡ (r.first / 2 ^ 80 - 2 ^ 45) * 2 ^ 19 + (r.last / 2 ^ 80 - r.first / 2 ^ 80) → hop ≡ r.hop → short_range key hop ≡ r
-short_is r key hop h e k =
+pub short6_is : (r : HopRange) (key hop : ℕ) → IsShort6 r → key ≡ (r.first / 2 ^ 80 - 2 ^ 45) * 2 ^ 19 + (r.last / 2 ^ 80 - r.first / 2 ^ 80) → hop ≡ r.hop → short_range6 key hop ≡ r
+short6_is r key hop h e k =
     let global = h.global in
     let f = h.first in
     let l = h.last in

@@ -14,11 +14,6 @@ pub record AreRanges (rs : List HopRange) : Type 0 where
   pub filled : All (λ r. r.first ≤ r.last) rs
   pub apart : AllPairs EndsBefore rs
 
--- ranges with the hops of others
-pub record Replaces (rs ss : List HopRange) : Type 0 where
-  pub ranges : AreRanges ss
-  pub hops : (x : ℕ) → hop_in ss x ≡ hop_in rs x
-
 -- the first i ranges begin below y
 pub record BeginsBelow (rs : List HopRange) (y i : ℕ) : Type 0 where
   pub within : i ≤ length rs
@@ -35,11 +30,11 @@ pub record AreStarts (first_chunk size : ℕ) (rs : List HopRange) (starts : Lis
   pub below : (t : ℕ) → t < 262145 → BeginsBelow rs ((first_chunk + t) * size) (slice_index starts t)
   pub from : (t : ℕ) → t < 262145 → BeginsFrom rs ((first_chunk + t) * size) (slice_index starts t)
 
--- a word for the 64 blocks of 256 numbers from a start on, before which so many ranges begin: unless it is zero, as many ranges
--- begin before each block, and before the end, as these and the bits set below the block's
+-- a word for the 64 blocks of 256 numbers from a start on, before which so many ranges begin: as many as these and the bits set up
+-- to the end of a block begin at its first number or below, and the others after it
 pub record AreMarksOf (rs : List HopRange) (start count word : ℕ) : Type 0 where
-  pub below : (word ≡ 0 → ⊥) → (j : ℕ) → j ≤ 64 → BeginsBelow rs (start + j * 2 ^ 8) (count + count_ones (word % 2 ^ j))
-  pub from : (word ≡ 0 → ⊥) → (j : ℕ) → j ≤ 64 → BeginsFrom rs (start + j * 2 ^ 8) (count + count_ones (word % 2 ^ j))
+  pub below : (j : ℕ) → j < 64 → BeginsBelow rs (start + j * 2 ^ 8 + 1) (count + count_ones (word % 2 ^ (j + 1)))
+  pub from : (j : ℕ) → j < 64 → BeginsFrom rs (start + (j + 1) * 2 ^ 8) (count + count_ones (word % 2 ^ (j + 1)))
 
 -- such words for the chunks of IPv4
 pub record AreMarks (rs : List HopRange) (starts words : List ℕ) : Type 0 where
@@ -59,8 +54,19 @@ pub record AreBlockCounts (rs : List HopRange) (words places counts : List ℕ) 
   pub all_places : length places ≡ 262144
   pub counted : (t : ℕ) → t < 262144 → AreCountsOf rs ((262144 + t) * 2 ^ 107) counts (slice_index places t) (slice_index words t)
 
+-- a range of whole blocks of 256 numbers, at most 256 of them
+pub record IsShort4 (r : HopRange) : Type 0 where
+  pub first : r.first % 256 ≡ 0
+  pub last : r.last % 256 ≡ 255
+  pub some : r.first ≤ r.last
+  pub few : (r.last - r.first) / 2 ^ 16 ≡ 0
+
+-- such a range, of a number whose last 8 bits tell how many blocks follow the first, which the bits above them name
+abbrev pub short_range4 : ℕ → ℕ → HopRange
+short_range4 key hop = record { first = key / 256 * 256; last = (key / 256 + key % 256) * 256 + 255; hop = hop }
+
 -- a range of whole blocks of 48 bits of 2000::/3, at most 2 ^ 19 of them
-pub record IsShort (r : HopRange) : Type 0 where
+pub record IsShort6 (r : HopRange) : Type 0 where
   pub first : r.first % 2 ^ 80 ≡ 0
   pub last : r.last % 2 ^ 80 ≡ 2 ^ 80 - 1
   pub global : r.first / 2 ^ 125 ≡ 1
@@ -68,8 +74,8 @@ pub record IsShort (r : HopRange) : Type 0 where
   pub few : (r.last - r.first) / 2 ^ 99 ≡ 0
 
 -- such a range, of a number with 45 bits for its first block and 19 bits for how many follow
-abbrev pub short_range : ℕ → ℕ → HopRange
-short_range key hop = record { first = (2 ^ 45 + key / 2 ^ 19) * 2 ^ 80; last = (2 ^ 45 + key / 2 ^ 19 + key % 2 ^ 19) * 2 ^ 80 + (2 ^ 80 - 1); hop = hop }
+abbrev pub short_range6 : ℕ → ℕ → HopRange
+short_range6 key hop = record { first = (2 ^ 45 + key / 2 ^ 19) * 2 ^ 80; last = (2 ^ 45 + key / 2 ^ 19 + key % 2 ^ 19) * 2 ^ 80 + (2 ^ 80 - 1); hop = hop }
 
 -- two lists of ranges with the hops of one
 pub record IsSplit (rs short others : List HopRange) : Type 0 where

@@ -3,7 +3,7 @@ ghost use Rattle.std.specs.Prelude.{ℕ, ◌≡◌, ◌+◌, ◌*◌, ◌^◌, �
 ghost use Rattle.hop_index.specs.InnerRanges.{AreBlockCounts, AreCountsOf, AreRanges, AreStarts, BeginsBelow, BeginsFrom};
 
 use crate::ranges::STARTS;
-use crate::shorts::Short;
+use crate::shorts6::Short6;
 use std::alloc::{AllocError, Global};
 
 /// The first chunk that has a count.
@@ -24,7 +24,7 @@ pub(crate) struct Blocks {
 #[inline]
 fn count_blocks(
     counts: &mut Vec<u32>,
-    ranges: &[Short],
+    ranges: &[Short6],
     start: u64,
     low: u32,
     high: u32,
@@ -56,7 +56,7 @@ fn count_blocks(
 /// The blocks of the chunks.
 pub(crate) fn blocks_of(
     alloc: Global,
-    ranges: &[Short],
+    ranges: &[Short6],
     starts: &[u32],
 ) -> Result<Blocks, AllocError>
     requires ranges { AreRanges ranges.now }
@@ -84,7 +84,7 @@ pub(crate) fn blocks_of(
 /// Two counts of the ranges, between which is how many begin at or below the number: those of its block.
 #[inline]
 pub(crate) fn of_block(
-    ranges: &[Short],
+    ranges: &[Short6],
     starts: &[u32],
     words: &[u64],
     places: &[u32],

@@ -6,11 +6,13 @@ ghost use Rattle.route_laws.specs.Networks.{routes_of};
 ghost use Rattle.route_laws.specs.Tables.{hop_at};
 ghost use Rattle.prefix_trie.specs.declared.refused.Refused.TheVariants.{Memory};
 ghost use Rattle.hop_index.specs.Indexes.{hop_of};
-ghost use Rattle.hop_index.specs.InnerRanges.{IsSplit, Replaces, ranges_in};
+ghost use Rattle.hop_index.specs.InnerRanges.{IsSplit, ranges_in};
 
 use crate::marks::Ranges4;
 use crate::ranges::Range;
-use crate::shorts::{Ranges6, Short, add_range};
+use crate::shorts::add_range;
+use crate::shorts4::Short4;
+use crate::shorts6::{Ranges6, Short6};
 use ipnet::IpAddr;
 use ipnet_addr::number::Number;
 use prefix_trie::Refused;
@@ -18,27 +20,30 @@ use route_table::{Flat, HopRun, HopTable, RouteTable};
 use std::alloc::{AllocError, Global};
 use std::marker::Model;
 
-/// The ranges of the addresses of one hop that stand in a row: those of IPv4, and those of IPv6 in two lists.
+/// The ranges of the addresses of one hop that stand in a row: the short ones of IPv4 and the others, and so for IPv6.
 fn ranges(
     alloc: Global,
     mut flat: Flat<'_>,
-) -> Result<(Vec<Range<u32>>, Vec<Short>, Vec<Range<u128>>), AllocError>
+) -> Result<(Vec<Short4>, Vec<Range<u32>>, Vec<Short6>, Vec<Range<u128>>), AllocError>
     requires { (h : Address → Option ℕ) × IsFlat h flat }
-    ensures ipv4 { IfOk result (λ r. Replaces (ranges_in Ipv4 flat.entry) r.0.items) }
-    ensures ipv6 { IfOk result (λ r. IsSplit (ranges_in Ipv6 flat.entry) r.1.items r.2.items) }
+    ensures ipv4 { IfOk result (λ r. IsSplit (ranges_in Ipv4 flat.entry) r.0.items r.1.items) }
+    ensures ipv6 { IfOk result (λ r. IsSplit (ranges_in Ipv6 flat.entry) r.2.items r.3.items) }
 {
-    let mut v4 = Vec::new(alloc);
-    let mut shorts = Vec::new(alloc);
-    let mut others = Vec::new(alloc);
+    let mut shorts4 = Vec::new(alloc);
+    let mut others4 = Vec::new(alloc);
+    let mut shorts6 = Vec::new(alloc);
+    let mut others6 = Vec::new(alloc);
     'run: while let Some(run) = flat.next_run() {
         match run {
-            HopRun::V4(first, last, hop) => v4.push(Range::of_ends(first, last, hop))?,
+            HopRun::V4(first, last, hop) => {
+                add_range(&mut shorts4, &mut others4, Range::of_ends(first, last, hop))?
+            }
             HopRun::V6(first, last, hop) => {
-                add_range(&mut shorts, &mut others, Range::of_ends(first, last, hop))?
+                add_range(&mut shorts6, &mut others6, Range::of_ends(first, last, hop))?
             }
         }
     }
-    Ok((v4, shorts, others))
+    Ok((shorts4, others4, shorts6, others6))
 }
 
 /// The hop of each address, as a table had it when the index was made: a copy, which no later change of the table reaches.
@@ -109,10 +114,10 @@ impl HopIndex {
         requires { (h : Address → Option ℕ) × IsFlat h flat }
         ensures { IfOk result (λ i. (h : Address → Option ℕ) → IsFlat h flat.entry → (x : Address) → IsAddress x → hop_of i x ≡ h x) }
     {
-        let (v4, shorts, others) = ranges(alloc, flat)?;
+        let (shorts4, others4, shorts6, others6) = ranges(alloc, flat)?;
         Ok(HopIndex {
-            v4: Ranges4::new(alloc, v4)?,
-            v6: Ranges6::new(alloc, shorts, others)?,
+            v4: Ranges4::new(alloc, shorts4, others4)?,
+            v6: Ranges6::new(alloc, shorts6, others6)?,
         })
     }
 

@@ -9,3 +9,5 @@ mod index;
 mod marks;
 mod ranges;
 mod shorts;
+mod shorts4;
+mod shorts6;

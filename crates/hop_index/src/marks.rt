@@ -1,92 +1,80 @@
-//! IPv4: ranges, found by the blocks of 256 addresses in which one begins.
-ghost use Rattle.std.specs.Prelude.{ℕ, ◌≡◌, ◌+◌, ◌*◌, ◌^◌, ◌<◌, ◌≤◌, IfOk};
+//! IPv4: ranges, the short ones found by the blocks of 256 addresses with which one begins.
+ghost use Rattle.std.specs.Prelude.{ℕ, ◌≡◌, ◌+◌, ◌*◌, ◌^◌, ◌<◌, ◌≤◌, ◌++◌, IfOk};
 ghost use Rattle.hop_index.specs.Ranges.{hop_in};
 ghost use Rattle.hop_index.specs.InnerRanges.{AreMarks, AreMarksOf, AreRanges, AreStarts, BeginsBelow, BeginsFrom};
 
 use crate::ranges::{Range, STARTS, begun, hop_after, starts};
+use crate::shorts4::{Short4, short_hop};
 use std::alloc::{AllocError, Global};
 use std::marker::Model;
 
-/// A bit for each of a chunk's 64 blocks of 256 numbers: whether one of its ranges, from place `low` to `high`, begins there;
-/// 0 where two of them begin in one block.
+/// A bit for each of a chunk's 64 blocks of 256 numbers: whether one of its ranges, from place `low` to `high`, begins there.
 #[inline]
-fn marks_of(ranges: &[Range<u32>], start: u128, low: usize, high: usize) -> u64
+fn marks_of(ranges: &[Short4], start: u32, low: u32, high: u32) -> u64
     requires ranges { AreRanges ranges.now }
-    requires low_below { BeginsBelow ranges.now start low }
-    requires low_from { BeginsFrom ranges.now start low }
-    requires high_below { BeginsBelow ranges.now (start + 2 ^ 14) high }
-    requires high_from { BeginsFrom ranges.now (start + 2 ^ 14) high }
-    ensures { AreMarksOf ranges.now start low result }
+    requires low_below { BeginsBelow ranges.now (start * 256) low }
+    requires low_from { BeginsFrom ranges.now (start * 256) low }
+    requires high_below { BeginsBelow ranges.now (start * 256 + 2 ^ 14) high }
+    requires high_from { BeginsFrom ranges.now (start * 256 + 2 ^ 14) high }
+    ensures { AreMarksOf ranges.now (start * 256) low result }
 {
     let mut marks = 0;
     for place in low..high {
-        let block = ((ranges[place].first() - start) / 256) as u32;
-        if marks >> block != 0 {
-            return 0;
-        }
+        let block = ranges[place as usize].first() - start;
         marks += 1u64 << block;
     }
     marks
 }
 
-/// Two counts of the ranges, between which is how many begin at or below the number: by the mark of its block, at most one apart.
+/// How many of the ranges begin at or below the number: those before its chunk, and one for each mark up to its block.
 #[inline]
-fn of_block(ranges: &[Range<u32>], starts: &[u32], marks: &[u64], number: u32) -> (usize, usize)
+fn begun_by_marks(ranges: &[Short4], starts: &[u32], marks: &[u64], number: u32) -> usize
     requires starts { AreStarts 0 (2 ^ 14) ranges.now starts.now }
     requires marks { AreMarks ranges.now starts.now marks.now }
-    ensures low { BeginsBelow ranges.now (number + 1) result.0 }
-    ensures high { BeginsFrom ranges.now (number + 1) result.1 }
+    ensures below { BeginsBelow ranges.now (number + 1) result }
+    ensures from { BeginsFrom ranges.now (number + 1) result }
 {
     let chunk = (number >> 14) as usize;
-    let word = marks[chunk];
-    if word == 0 {
-        return (starts[chunk] as usize, starts[chunk + 1] as usize);
-    }
-    let block = number / 256 % 64;
-    let low = starts[chunk] as usize + (word % (1 << block)).count_ones() as usize;
-    (low, low + (word >> block) as usize % 2)
+    let later = 63 - number / 256 % 64;
+    starts[chunk] as usize + (marks[chunk] << later).count_ones() as usize
 }
 
 /// The marks of each chunk.
-fn all_marks(alloc: Global, ranges: &[Range<u32>], starts: &[u32]) -> Result<Vec<u64>, AllocError>
+fn all_marks(alloc: Global, ranges: &[Short4], starts: &[u32]) -> Result<Vec<u64>, AllocError>
     requires ranges { AreRanges ranges.now }
     requires starts { AreStarts 0 (2 ^ 14) ranges.now starts.now }
     ensures { IfOk result (λ marks. AreMarks ranges.now starts.now marks.items) }
 {
     let mut marks = Vec::with_capacity(alloc, STARTS - 1)?;
     for chunk in 0..STARTS - 1 {
-        let start = (chunk as u128) << 14;
-        marks.push(marks_of(
-            ranges,
-            start,
-            starts[chunk] as usize,
-            starts[chunk + 1] as usize,
-        ))?;
+        let start = (chunk as u32) << 6;
+        marks.push(marks_of(ranges, start, starts[chunk], starts[chunk + 1]))?;
     }
     Ok(marks)
 }
 
-/// Ascending ranges of IPv4, how many of them begin before each chunk of numbers with the same first 18 bits, and the marks of
-/// each chunk.
+/// Ascending ranges of IPv4: those that have room in 8 bytes, found by how many begin before each chunk of numbers with the same
+/// first 18 bits and by the marks of each chunk; and the others.
 ///
-/// Contracts see the list of the ranges.
+/// Contracts see a list of all the ranges.
 #[derive(Drop)]
 pub(crate) struct Ranges4 {
-    ranges: Vec<Range<u32>>,
+    shorts: Vec<Short4>,
     starts: Vec<u32>,
     marks: Vec<u64>,
+    others: Vec<Range<u32>>,
 }
 
 impl Model for Ranges4 {
-    ghost use Rattle.std.specs.Prelude.{◌^◌, List};
+    ghost use Rattle.std.specs.Prelude.{◌^◌, ◌++◌, List};
     ghost use Rattle.hop_index.specs.Ranges.{HopRange};
     ghost use Rattle.hop_index.specs.InnerRanges.{AreMarks, AreRanges, AreStarts};
 
     ghost Value = { List HopRange };
 
-    ghost view = { λ a. a.ranges.items };
+    ghost view = { λ a. a.shorts.items ++ a.others.items };
 
-    ghost invariant = { λ a. AreRanges a.ranges.items × AreStarts 0 (2 ^ 14) a.ranges.items a.starts.items × AreMarks a.ranges.items a.starts.items a.marks.items };
+    ghost invariant = { λ a. AreRanges a.shorts.items × AreStarts 0 (2 ^ 14) a.shorts.items a.starts.items × AreMarks a.shorts.items a.starts.items a.marks.items × AreRanges a.others.items };
 }
 
 impl Ranges4 {
@@ -94,16 +82,22 @@ impl Ranges4 {
     ///
     /// # Errors
     /// `AllocError` where there is no memory for it.
-    pub(crate) fn new(alloc: Global, ranges: Vec<Range<u32>>) -> Result<Ranges4, AllocError>
-        requires { AreRanges ranges.items }
-        ensures { IfOk result (λ r. r ≡ ranges.items) }
+    pub(crate) fn new(
+        alloc: Global,
+        shorts: Vec<Short4>,
+        others: Vec<Range<u32>>,
+    ) -> Result<Ranges4, AllocError>
+        requires shorts { AreRanges shorts.items }
+        requires others { AreRanges others.items }
+        ensures { IfOk result (λ r. r ≡ shorts.items ++ others.items) }
     {
-        let starts = starts(alloc, &ranges)?;
-        let marks = all_marks(alloc, &ranges, &starts)?;
+        let starts = starts(alloc, &shorts)?;
+        let marks = all_marks(alloc, &shorts, &starts)?;
         Ok(Ranges4 {
-            ranges,
+            shorts,
             starts,
             marks,
+            others,
         })
     }
 
@@ -111,8 +105,11 @@ impl Ranges4 {
     pub(crate) fn hop(&self, number: u32) -> Option<u32>
         ensures { result ≡ hop_in self.now number }
     {
-        let (low, high) = of_block(&self.ranges, &self.starts, &self.marks, number);
-        let count = begun(&self.ranges, low, high, number);
-        hop_after(&self.ranges, count, number)
+        let count = begun_by_marks(&self.shorts, &self.starts, &self.marks, number);
+        if let Some(hop) = short_hop(&self.shorts, count, number) {
+            return Some(hop);
+        }
+        let count = begun(&self.others, 0, self.others.len(), number);
+        hop_after(&self.others, count, number)
     }
 }

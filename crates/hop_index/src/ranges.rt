@@ -86,25 +86,6 @@ pub(crate) trait Chunked {
         ensures within { result ≤ 262144 };
 }
 
-/// The chunks are of 18 bits, and all have a count.
-impl Chunked for Range<u32> {
-    ghost range = { λ r. r };
-
-    ghost chunk_size = { 2 ^ 14 };
-
-    ghost first_chunk = { 0 };
-
-    #[inline]
-    fn chunk(&self) -> usize {
-        (self.first() >> 14) as usize
-    }
-
-    #[inline]
-    fn first_chunk() -> usize {
-        0
-    }
-}
-
 /// How many of the ranges begin at or below the number: at least `low`, and at most `high`.
 pub(crate) fn begun<N: Number>(
     ranges: &[Range<N>],

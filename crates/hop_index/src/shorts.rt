@@ -1,237 +1,43 @@
-//! IPv6: ranges in 12 bytes each, and the few others.
-ghost use Rattle.std.specs.Prelude.{ℕ, ◌≡◌, ◌+◌, ◌-◌, ◌*◌, ◌^◌, ◌<◌, ◌≤◌, ◌++◌, ◌↔◌, IfOk, OnOk, IsTrue};
-ghost use Rattle.hop_index.specs.Ranges.{hop_in};
-ghost use Rattle.hop_index.specs.InnerRanges.{AreRanges, BeginsBelow, BeginsFrom, HaveOneMore, IsShort};
+//! Ranges that take less memory than their ends do, and the few others.
+ghost use Rattle.std.specs.Prelude.{◌≡◌, ◌↔◌, IsTrue, OnOk, map};
+ghost use Rattle.hop_index.specs.Ranges.{HopRange};
+ghost use Rattle.hop_index.specs.InnerRanges.{HaveOneMore};
 
-use crate::blocks::{Blocks, blocks_of, of_block};
-use crate::ranges::{Chunked, Range, begun, hop_after, starts};
-use std::alloc::{AllocError, Global};
-use std::marker::Model;
+use crate::ranges::Range;
+use ipnet_addr::number::Number;
+use std::alloc::AllocError;
 
-/// Addresses in a row with one hop, which are at most 2^19 of the networks of 48 bits inside 2000::/3: the first of these
-/// in 45 bits, and in 19 bits how many follow it.
-///
-/// Contracts see the numbers of the first and the last of the addresses, and the hop.
-#[derive(Drop)]
-pub(crate) struct Short {
-    low: u32,
-    high: u32,
-    hop: u32,
+/// Addresses in a row with one hop, in less memory than their first and their last take.
+pub(crate) trait ShortRange<N: Number> {
+    /// The numbers of its addresses, and its hop.
+    ghost range: { Self → HopRange };
+
+    /// Whether there is room for a range.
+    ghost has_room: { HopRange → Type 0 };
+
+    /// Whether there is room for a range.
+    fn has_room(whole: &Range<N>) -> bool
+        ensures { IsTrue result ↔ has_room whole.now };
+
+    /// The same range.
+    fn of_range(whole: &Range<N>) -> Self
+        requires { has_room whole.now }
+        ensures { range result ≡ whole.now };
 }
 
-impl Model for Short {
-    ghost use Rattle.std.specs.Prelude.{◌+◌, ◌*◌, ◌^◌};
-    ghost use Rattle.hop_index.specs.Ranges.{HopRange};
-    ghost use Rattle.hop_index.specs.InnerRanges.{short_range};
-
-    ghost Value = { HopRange };
-
-    ghost view = { λ s. short_range (s.high * 2 ^ 32 + s.low) s.hop };
-}
-
-/// The number with these halves.
+/// Adds a range to the short ones, or where there is no room for it to the others.
 #[inline]
-fn key_of(high: u32, low: u32) -> u64
-    ensures { result ≡ high * 2 ^ 32 + low }
-{
-    (u64::from(high) << 32) + u64::from(low)
-}
-
-impl Short {
-    /// The first 48 bits of its first address.
-    #[inline]
-    pub(crate) fn first(&self) -> u64
-        ensures { self.now.first ≡ result * 2 ^ 80 }
-    {
-        (1 << 45) + (key_of(self.high, self.low) >> 19)
-    }
-
-    /// The first 48 bits of its last address.
-    #[inline]
-    fn last(&self) -> u64
-        ensures { self.now.last ≡ result * 2 ^ 80 + (2 ^ 80 - 1) }
-    {
-        let key = key_of(self.high, self.low);
-        (1 << 45) + (key >> 19) + key % (1 << 19)
-    }
-
-    /// Its hop.
-    #[inline]
-    fn hop(&self) -> u32
-        ensures { result ≡ self.now.hop }
-    {
-        self.hop
-    }
-
-    /// A range that is short enough.
-    fn of_range(range: &Range<u128>) -> Short
-        requires { IsShort range.now }
-        ensures { result ≡ range.now }
-    {
-        let first = (range.first() >> 80) as u64;
-        let last = (range.last() >> 80) as u64;
-        let key = ((first - (1 << 45)) << 19) + (last - first);
-        Short {
-            low: (key % (1 << 32)) as u32,
-            high: (key >> 32) as u32,
-            hop: range.hop(),
-        }
-    }
-}
-
-/// The chunks are of 21 bits, and those of 2000::/3, where the global unicast addresses are, have a count.
-impl Chunked for Short {
-    ghost range = { λ r. r };
-
-    ghost chunk_size = { 2 ^ 107 };
-
-    ghost first_chunk = { 262144 };
-
-    #[inline]
-    fn chunk(&self) -> usize {
-        (self.first() >> 27) as usize
-    }
-
-    #[inline]
-    fn first_chunk() -> usize {
-        262_144
-    }
-}
-
-/// Whether a range has room in 12 bytes.
-fn is_short(range: &Range<u128>) -> bool
-    ensures { IsTrue result ↔ IsShort range.now }
-{
-    let (first, last) = (range.first(), range.last());
-    first % (1 << 80) == 0
-        && last % (1 << 80) == (1 << 80) - 1
-        && first >> 125 == 1
-        && first <= last
-        && (last - first) >> 99 == 0
-}
-
-/// Adds a range to those that have room in 12 bytes, or to the others.
-#[inline]
-pub(crate) fn add_range(
-    shorts: &mut Vec<Short>,
-    others: &mut Vec<Range<u128>>,
-    range: Range<u128>,
+pub(crate) fn add_range<N: Number, S: ShortRange<N> + Drop>(
+    shorts: &mut Vec<S>,
+    others: &mut Vec<Range<N>>,
+    range: Range<N>,
 ) -> Result<(), AllocError>
-    ensures { OnOk result (HaveOneMore range shorts.old.items others.old.items shorts.new.items others.new.items) }
+    ensures { OnOk result (HaveOneMore range (map S.range shorts.old.items) others.old.items (map S.range shorts.new.items) others.new.items) }
 {
-    if is_short(&range) {
-        shorts.push(Short::of_range(&range))?;
+    if S::has_room(&range) {
+        shorts.push(S::of_range(&range))?;
     } else {
         others.push(range)?;
     }
     Ok(())
-}
-
-/// How many of the ranges begin at or below the number: at least `low`, and at most `high`.
-fn shorts_begun(ranges: &[Short], mut low: usize, mut high: usize, number: u128) -> usize
-    requires ranges { AreRanges ranges.now }
-    requires low { BeginsBelow ranges.now (number + 1) low }
-    requires high { BeginsFrom ranges.now (number + 1) high }
-    ensures below { BeginsBelow ranges.now (number + 1) result }
-    ensures from { BeginsFrom ranges.now (number + 1) result }
-{
-    let block = (number >> 80) as u64;
-    while low < high {
-        let middle = low + (high - low) / 2;
-        if ranges[middle].first() <= block {
-            low = middle + 1;
-        } else {
-            high = middle;
-        }
-    }
-    low
-}
-
-/// The hop of the number, where so many of the ranges begin at or below it: the last of these has it or none.
-#[inline]
-fn short_hop(ranges: &[Short], count: usize, number: u128) -> Option<u32>
-    requires ranges { AreRanges ranges.now }
-    requires below { BeginsBelow ranges.now (number + 1) count }
-    requires from { BeginsFrom ranges.now (number + 1) count }
-    ensures { result ≡ hop_in ranges.now number }
-{
-    if count == 0 {
-        return None;
-    }
-    let range = &ranges[count - 1];
-    if (number >> 80) as u64 <= range.last() {
-        Some(range.hop())
-    } else {
-        None
-    }
-}
-
-/// Ascending ranges of IPv6: those that have room in 12 bytes, found by how many begin before each chunk of numbers with
-/// the same first 21 bits and by the blocks in which one begins; and the others.
-///
-/// Contracts see a list of all the ranges.
-#[derive(Drop)]
-pub(crate) struct Ranges6 {
-    shorts: Vec<Short>,
-    starts: Vec<u32>,
-    blocks: Blocks,
-    others: Vec<Range<u128>>,
-}
-
-impl Model for Ranges6 {
-    ghost use Rattle.std.specs.Prelude.{◌^◌, ◌++◌, List};
-    ghost use Rattle.hop_index.specs.Ranges.{HopRange};
-    ghost use Rattle.hop_index.specs.InnerRanges.{AreBlockCounts, AreRanges, AreStarts};
-
-    ghost Value = { List HopRange };
-
-    ghost view = { λ a. a.shorts.items ++ a.others.items };
-
-    ghost invariant = { λ a. AreRanges a.shorts.items × AreStarts 262144 (2 ^ 107) a.shorts.items a.starts.items × AreBlockCounts a.shorts.items a.blocks.words.items a.blocks.places.items a.blocks.counts.items × AreRanges a.others.items };
-}
-
-impl Ranges6 {
-    /// The look-up table of the ranges.
-    ///
-    /// # Errors
-    /// `AllocError` where there is no memory for it.
-    pub(crate) fn new(
-        alloc: Global,
-        shorts: Vec<Short>,
-        others: Vec<Range<u128>>,
-    ) -> Result<Ranges6, AllocError>
-        requires shorts { AreRanges shorts.items }
-        requires others { AreRanges others.items }
-        ensures { IfOk result (λ r. r ≡ shorts.items ++ others.items) }
-    {
-        let starts = starts(alloc, &shorts)?;
-        let blocks = blocks_of(alloc, &shorts, &starts)?;
-        Ok(Ranges6 {
-            shorts,
-            starts,
-            blocks,
-            others,
-        })
-    }
-
-    /// The hop of the range that has the number.
-    pub(crate) fn hop(&self, number: u128) -> Option<u32>
-        ensures { result ≡ hop_in self.now number }
-    {
-        let blocks = &self.blocks;
-        let (low, high) = of_block(
-            &self.shorts,
-            &self.starts,
-            &blocks.words,
-            &blocks.places,
-            &blocks.counts,
-            number,
-        );
-        let count = shorts_begun(&self.shorts, low, high, number);
-        if let Some(hop) = short_hop(&self.shorts, count, number) {
-            return Some(hop);
-        }
-        let count = begun(&self.others, 0, self.others.len(), number);
-        hop_after(&self.others, count, number)
-    }
 }

@@ -221,23 +221,36 @@ fn step_of<N: Key>(ended: Option<Run<N>>) -> Step<N>
 
 impl<'a, P: OfFamily> Runs<'a, P> {
     /// The runs of the routes of a family.
-    pub(crate) fn new(mut rest: SideRoutes<'a, P>) -> Runs<'a, P>
+    pub(crate) fn new(rest: SideRoutes<'a, P>) -> Runs<'a, P>
         requires routes { IsTable rest }
         requires family { All (λ r. r.block.family ≡ P.family) rest }
         ensures runs { AreRuns result }
         ensures end { result.end ≡ last (family_block P.family) }
         ensures hops { (x : ℕ) → hops_left result x ≡ topmost None (map reach_of rest.entry) x }
     {
-        let next = next_reach(&mut rest);
-        Runs {
+        let mut runs = Runs {
             at: Place::of(0),
             end: Place::greatest(),
             done: false,
             run: None,
             stack: ArrayVec::new(),
-            next,
+            next: None,
             rest,
-        }
+        };
+        runs.advance();
+        runs
+    }
+
+    /// Takes the next of the routes, in its place.
+    fn advance(&mut self)
+        ensures at { self.new.at ≡ self.old.at }
+        ensures end { self.new.end ≡ self.old.end }
+        ensures done { self.new.done ≡ self.old.done }
+        ensures run { self.new.run ≡ self.old.run }
+        ensures stack { self.new.stack ≡ self.old.stack }
+        ensures next { coming self.new.next self.new.rest ≡ map reach_of self.old.rest }
+    {
+        self.next = next_reach(&mut self.rest);
     }
 
     /// The last number of the innermost open route, or of the family, and its hop number.
@@ -298,7 +311,7 @@ impl<'a, P: OfFamily> Runs<'a, P> {
         ensures end { self.new.end ≡ self.old.end }
         ensures step { StepsRun self.old result self.new }
     {
-        self.next = next_reach(&mut self.rest);
+        self.advance();
         if let Some(after) = self.before_next(reach.last) {
             self.at = after;
             return join(&mut self.run, reach.first, reach.last, reach.number);

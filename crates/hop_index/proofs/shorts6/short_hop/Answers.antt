@@ -1,7 +1,7 @@
 use Rattle.std.proofs.Common.{◌≡◌, ◌+◌, ◌-◌, ◌≤◌, Some, get_or, sym, ap, ◌∙◌, arith}
 use Rattle.hop_index.specs.Ranges.{HopRange}
 use Rattle.hop_index.proofs.Lookups.{found, in_gap, none_begun}
-use Rattle.hop_index.proofs.shorts.short_hop.Goals as goal
+use Rattle.hop_index.proofs.shorts6.short_hop.Goals as goal
 
 pub returns-then-count-eq0 : goal.returns-then-count-eq0
 returns-then-count-eq0 c = sym (none_begun c.args.ranges.now _ (rw c.if-count-eq0.true at c.requires.from))

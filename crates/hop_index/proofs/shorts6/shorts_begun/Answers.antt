@@ -1,7 +1,7 @@
 use Rattle.std.proofs.Common.{ap, arith}
 use Rattle.hop_index.specs.Ranges.{HopRange}
 use Rattle.hop_index.proofs.Searches.{begins_below, begins_from}
-use Rattle.hop_index.proofs.shorts.shorts_begun.Goals as goal
+use Rattle.hop_index.proofs.shorts6.shorts_begun.Goals as goal
 
 pub loop-low-preserved-then-first-block : goal.loop-low-preserved-then-first-block
 loop-low-preserved-then-first-block c =
