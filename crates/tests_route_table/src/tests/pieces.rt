@@ -17,8 +17,8 @@ fn listed<P: Copy>(alloc: Global, table: &Routes<P>) -> Result<Vec<(P, Option<u3
 fn a_route_and_one_inside(rt: HostRuntime) -> Result<(), Fail> {
     let mut pieces: Pieces<u32> = Stack::new(rt.alloc());
     pieces.push(Piece::new(&(0x0a00_0000_u32, 10_u8), 2))?;
-    pieces.push(Piece::new(&(0x0a40_0000, 10), 1))?;
-    pieces.push(Piece::new(&(0x0a80_0000, 9), 1))?;
+    pieces.push(Piece::new(&(0x0a40_0000_u32, 10_u8), 1))?;
+    pieces.push(Piece::new(&(0x0a80_0000_u32, 9_u8), 1))?;
     let table = least(rt.alloc(), pieces)?;
     assert_eq!(rt;
         listed(rt.alloc(), &table)?.as_slice(),
@@ -35,9 +35,9 @@ fn a_route_and_one_inside(rt: HostRuntime) -> Result<(), Fail> {
 fn four_quarters(rt: HostRuntime) -> Result<(), Fail> {
     let mut pieces: Pieces<u32> = Stack::new(rt.alloc());
     pieces.push(Piece::new(&(0_u32, 2_u8), 1))?;
-    pieces.push(Piece::new(&(0x4000_0000, 2), 2))?;
-    pieces.push(Piece::new(&(0x8000_0000, 2), 1))?;
-    pieces.push(Piece::new(&(0xc000_0000, 2), 2))?;
+    pieces.push(Piece::new(&(0x4000_0000_u32, 2_u8), 2))?;
+    pieces.push(Piece::new(&(0x8000_0000_u32, 2_u8), 1))?;
+    pieces.push(Piece::new(&(0xc000_0000_u32, 2_u8), 2))?;
     let table = least(rt.alloc(), pieces)?;
     let wanted = [
         ((0_u32, 0_u8), Some(1_u32)),
@@ -63,8 +63,8 @@ fn a_wide_route_and_one_inside(rt: HostRuntime) -> Result<(), Fail> {
     let top = 0x2001_0db8_u128 << 96;
     let mut pieces: Pieces<WideKey> = Stack::new(rt.alloc());
     pieces.push(Piece::new(&(0x2001_0db8_0000_0000_0000_0000_0000_0000_u128, 34_u8), 2))?;
-    pieces.push(Piece::new(&(0x2001_0db8_4000_0000_0000_0000_0000_0000, 34), 1))?;
-    pieces.push(Piece::new(&(0x2001_0db8_8000_0000_0000_0000_0000_0000, 33), 1))?;
+    pieces.push(Piece::new(&(0x2001_0db8_4000_0000_0000_0000_0000_0000_u128, 34_u8), 1))?;
+    pieces.push(Piece::new(&(0x2001_0db8_8000_0000_0000_0000_0000_0000_u128, 33_u8), 1))?;
     let table = least(rt.alloc(), pieces)?;
     let wanted = [((top, 32_u8), Some(1_u32)), ((top, 34), Some(2))];
     let table = listed(rt.alloc(), &table)?;
@@ -77,7 +77,7 @@ fn a_wide_route_and_one_inside(rt: HostRuntime) -> Result<(), Fail> {
 fn wide_ends(rt: HostRuntime) -> Result<(), Fail> {
     let mut pieces: Pieces<WideKey> = Stack::new(rt.alloc());
     pieces.push(Piece::new(&(0_u128, 128_u8), 7))?;
-    pieces.push(Piece::new(&(u128::MAX, 128), 7))?;
+    pieces.push(Piece::new(&(u128::MAX, 128_u8), 7))?;
     let table = least(rt.alloc(), pieces)?;
     let wanted = [((0_u128, 128_u8), Some(7_u32)), ((u128::MAX, 128), Some(7))];
     let table = listed(rt.alloc(), &table)?;
