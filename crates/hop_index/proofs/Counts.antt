@@ -146,3 +146,7 @@ counts_kept rs start place word old new c longer same = record {
   below = λ some j l. subst (BeginsBelow rs (start + j * 2 ^ 101)) (sym (same (place + count_ones (word % 2 ^ j)) (c.within some j l))) (c.below some j l);
   from = λ some j l. subst (BeginsFrom rs (start + j * 2 ^ 101)) (sym (same (place + count_ones (word % 2 ^ j)) (c.within some j l))) (c.from some j l);
 }
+
+-- of a chunk without bits nothing is counted
+pub none_counted : (rs : List HopRange) (start place word : ℕ) (counts : List ℕ) → word ≡ 0 → AreCountsOf rs start counts place word
+none_counted rs start place word counts none = record { within = λ some. absurd (some none); below = λ some. absurd (some none); from = λ some. absurd (some none) }

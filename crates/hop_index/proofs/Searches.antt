@@ -1,16 +1,11 @@
 -- How many of ascending ranges begin below a number.
-use Rattle.std.proofs.Common.{◌≡◌, ℕ, ◌+◌, ◌-◌, ◌*◌, ◌/◌, ◌%◌, ◌<◌, ◌≤◌, List, [], ◌∷◌, ◌++◌, length, get_or, sym, ap, ◌∙◌, subst, arith, ⊎_elim, map}
+use Rattle.std.proofs.Common.{◌≡◌, ℕ, ◌+◌, ◌-◌, ◌*◌, ◌/◌, ◌%◌, ◌<◌, ◌≤◌, List, [], ◌∷◌, ◌++◌, length, get_or, sym, ap, ◌∙◌, subst, arith, ⊎_elim}
 use Rattle.std.proofs.lemmas.Bool.{cases_lt}
 use Rattle.std.proofs.lemmas.List.{get_or_append_left, get_or_default, get_or_push}
 use Rattle.std.proofs.lemmas.Nat.{div-add-mod'}
-use Rattle.std.proofs.Math.ListN.{get_or-map}
 use Rattle.std.proofs.Math.Nat.{mod-lt, mul-le-mul_right}
 use Rattle.hop_index.specs.Ranges.{HopRange}
 use Rattle.hop_index.specs.InnerRanges.{AreRanges, BeginsBelow, BeginsFrom}
-
--- where the range at a place begins, in a list of what is seen as ranges
-pub first_at : {X : Type 0} (f : X → HopRange) (xs : List X) (m : ℕ) (d : X) → d ≡ get_or xs m d → (f d).first ≡ (get_or (map f xs) m (f d)).first
-first_at f xs m d is = ap (λ (r : HopRange). r.first) (ap f is ∙ sym (get_or-map f xs m d))
 
 -- where one begins, the earlier ones have ended
 pub first_before : (rs : List HopRange) (k m : ℕ) (e d : HopRange) → AreRanges rs → k < m → m < length rs → (get_or rs k e).last < (get_or rs m d).first
@@ -62,13 +57,6 @@ one_more P xs n v len h last t l = ⊎_elim
     (λ more. let is : n ≡ t = omega arith in
     subst (λ (j : ℕ). P j (get_or (xs ++ v ∷ []) j 0)) is (subst (P n) (sym (get_or_push xs v 0 n len)) last))
     (cases_lt t n)
-
--- a number of a chunk, and where other chunks begin
-pub chunk_after : (n c t size : ℕ) → n < (c + 1) * size → c < t → n < t * size
-chunk_after n c t size h l = let m : (c + 1) * size ≤ t * size = mul-le-mul_right size (omega arith) in omega arith
-
-pub chunk_from : (n c t size : ℕ) → c * size ≤ n → t ≤ c → t * size ≤ n
-chunk_from n c t size h l = let m : t * size ≤ c * size = mul-le-mul_right size l in omega arith
 
 -- all of the ranges, and none of them
 pub all_from : (rs : List HopRange) (y : ℕ) → BeginsFrom rs y (length rs)

@@ -24,20 +24,15 @@ pub record BeginsFrom (rs : List HopRange) (y i : ℕ) : Type 0 where
   pub within : i ≤ length rs
   pub from : (k : ℕ) (d : HopRange) → i ≤ k → k < length rs → y ≤ (slice_index_or rs k d).first
 
--- for the chunks of so many numbers from a first one on, one more at the end, how many ranges begin below the numbers of each
-pub record AreStarts (first_chunk size : ℕ) (rs : List HopRange) (starts : List ℕ) : Type 0 where
-  pub all : length starts ≡ 262145
-  pub below : (t : ℕ) → t < 262145 → BeginsBelow rs ((first_chunk + t) * size) (slice_index starts t)
-  pub from : (t : ℕ) → t < 262145 → BeginsFrom rs ((first_chunk + t) * size) (slice_index starts t)
-
 -- a word for the 64 blocks of 256 numbers from a start on, before which so many ranges begin: as many as these and the bits set up
 -- to the end of a block begin at its first number or below, and the others after it
 pub record AreMarksOf (rs : List HopRange) (start count word : ℕ) : Type 0 where
   pub below : (j : ℕ) → j < 64 → BeginsBelow rs (start + j * 2 ^ 8 + 1) (count + count_ones (word % 2 ^ (j + 1)))
   pub from : (j : ℕ) → j < 64 → BeginsFrom rs (start + (j + 1) * 2 ^ 8) (count + count_ones (word % 2 ^ (j + 1)))
 
--- such words for the chunks of IPv4
+-- such words for the chunks of IPv4, and how many ranges begin before each
 pub record AreMarks (rs : List HopRange) (starts words : List ℕ) : Type 0 where
+  pub all_starts : length starts ≡ 262144
   pub all : length words ≡ 262144
   pub marks : (t : ℕ) → t < 262144 → AreMarksOf rs (t * 2 ^ 14) (slice_index starts t) (slice_index words t)
 
@@ -48,11 +43,17 @@ pub record AreCountsOf (rs : List HopRange) (start : ℕ) (counts : List ℕ) (p
   pub below : (word ≡ 0 → ⊥) → (j : ℕ) → j ≤ 64 → BeginsBelow rs (start + j * 2 ^ 101) (slice_index counts (place + count_ones (word % 2 ^ j)))
   pub from : (word ≡ 0 → ⊥) → (j : ℕ) → j ≤ 64 → BeginsFrom rs (start + j * 2 ^ 101) (slice_index counts (place + count_ones (word % 2 ^ j)))
 
--- such words for the chunks of 2000::/3
+-- no range begins in the chunk of 2 ^ 107 numbers from a start on, and so many begin before it
+pub record IsNoneIn (rs : List HopRange) (start place : ℕ) : Type 0 where
+  pub below : BeginsBelow rs start place
+  pub from : BeginsFrom rs (start + 2 ^ 107) place
+
+-- such words for the chunks of 2000::/3; where a word is zero, no range begins in its chunk, and the place tells how many begin before it
 pub record AreBlockCounts (rs : List HopRange) (words places counts : List ℕ) : Type 0 where
   pub all_words : length words ≡ 262144
   pub all_places : length places ≡ 262144
   pub counted : (t : ℕ) → t < 262144 → AreCountsOf rs ((262144 + t) * 2 ^ 107) counts (slice_index places t) (slice_index words t)
+  pub empty : (t : ℕ) → t < 262144 → slice_index words t ≡ 0 → IsNoneIn rs ((262144 + t) * 2 ^ 107) (slice_index places t)
 
 -- a range of whole blocks of 256 numbers, at most 256 of them
 pub record IsShort4 (r : HopRange) : Type 0 where

@@ -1,8 +1,8 @@
 //! IPv6: in which blocks of 27 bits ranges begin, and how many begin before these.
 ghost use Rattle.std.specs.Prelude.{ℕ, ◌≡◌, ◌+◌, ◌*◌, ◌^◌, ◌<◌, ◌≤◌, IfOk, OnOk, length, slice_index};
-ghost use Rattle.hop_index.specs.InnerRanges.{AreBlockCounts, AreCountsOf, AreRanges, AreStarts, BeginsBelow, BeginsFrom};
+ghost use Rattle.hop_index.specs.InnerRanges.{AreBlockCounts, AreCountsOf, AreRanges, BeginsBelow, BeginsFrom};
 
-use crate::ranges::STARTS;
+use crate::ranges::CHUNKS;
 use crate::shorts6::Short6;
 use std::alloc::{AllocError, Global};
 
@@ -14,65 +14,83 @@ const FIRST: usize = 262_144;
 pub(crate) struct Blocks {
     /// For each chunk that has a count, a bit for each of its 64 blocks in which a range begins.
     pub(crate) words: Vec<u64>,
-    /// For each of these chunks, the place of its first count below.
+    /// For each of these chunks, the place of its first count below; where no range begins in it, how many begin before it.
     pub(crate) places: Vec<u32>,
     /// For each of these chunks in which a range begins, how many begin before it, and before the end of each such block.
     pub(crate) counts: Vec<u32>,
 }
 
-/// Appends the counts of a chunk, whose ranges are those from place `low` to `high`, and gives its bits.
+/// Appends the counts of a chunk in which a range begins, and gives the chunk's bits, and how many of the ranges begin before its
+/// end, where `low` of them begin before its start.
 #[inline]
 fn count_blocks(
     counts: &mut Vec<u32>,
     ranges: &[Short6],
     start: u64,
     low: u32,
-    high: u32,
-) -> Result<u64, AllocError>
+    end: u32,
+) -> Result<(u64, u32), AllocError>
     requires ranges { AreRanges ranges.now }
-    requires low_below { BeginsBelow ranges.now (start * 2 ^ 80) low }
-    requires low_from { BeginsFrom ranges.now (start * 2 ^ 80) low }
-    requires high_below { BeginsBelow ranges.now (start * 2 ^ 80 + 2 ^ 107) high }
-    requires high_from { BeginsFrom ranges.now (start * 2 ^ 80 + 2 ^ 107) high }
-    ensures counts { IfOk result (λ word. AreCountsOf ranges.now (start * 2 ^ 80) counts.new.items (length counts.old.items) word) }
+    requires end { end ≡ length ranges.now }
+    requires below { BeginsBelow ranges.now (start * 2 ^ 80) low }
+    requires from { BeginsFrom ranges.now (start * 2 ^ 80) low }
+    ensures counts { IfOk result (λ r. AreCountsOf ranges.now (start * 2 ^ 80) counts.new.items (length counts.old.items) r.0) }
+    ensures none { IfOk result (λ r. r.0 ≡ 0 → r.1 ≡ low) }
+    ensures below { IfOk result (λ r. BeginsBelow ranges.now (start * 2 ^ 80 + 2 ^ 107) r.1) }
+    ensures from { IfOk result (λ r. BeginsFrom ranges.now (start * 2 ^ 80 + 2 ^ 107) r.1) }
     ensures longer { OnOk result (length counts.old.items ≤ length counts.new.items) }
     ensures kept { OnOk result ((k : ℕ) → k < length counts.old.items → slice_index counts.new.items k ≡ slice_index counts.old.items k) }
 {
-    if low == high {
-        return Ok(0);
-    }
     let mut word = 0;
-    for place in low..high {
+    let mut place = low;
+    while place < end && ranges[place as usize].first() - start < 1 << 27 {
         let block = ((ranges[place as usize].first() - start) >> 21) as u32;
         if word >> block == 0 {
             word += 1u64 << block;
             counts.push(place)?;
         }
+        place += 1;
     }
-    counts.push(high)?;
-    Ok(word)
+    if word != 0 {
+        counts.push(place)?;
+    }
+    Ok((word, place))
+}
+
+/// No range begins before 2000::/3.
+#[inline]
+fn begin_inside(ranges: &[Short6])
+    requires { AreRanges ranges.now }
+    ensures { BeginsFrom ranges.now (2 ^ 125) 0 }
+{
+    if ranges.len() > 0 {
+        // Read so that it is known where the first begins.
+        let _first = ranges[0].first();
+    }
 }
 
 /// The blocks of the chunks.
-pub(crate) fn blocks_of(
-    alloc: Global,
-    ranges: &[Short6],
-    starts: &[u32],
-) -> Result<Blocks, AllocError>
-    requires ranges { AreRanges ranges.now }
-    requires starts { AreStarts 262144 (2 ^ 107) ranges.now starts.now }
+pub(crate) fn blocks_of(alloc: Global, ranges: &[Short6]) -> Result<Blocks, AllocError>
+    requires { AreRanges ranges.now }
     ensures { IfOk result (λ blocks. AreBlockCounts ranges.now blocks.words.items blocks.places.items blocks.counts.items) }
 {
-    let mut words = Vec::with_capacity(alloc, STARTS - 1)?;
-    let mut places = Vec::with_capacity(alloc, STARTS - 1)?;
+    let Ok(end) = u32::try_from(ranges.len()) else {
+        return Err(AllocError);
+    };
+    let mut words = Vec::with_capacity(alloc, CHUNKS)?;
+    let mut places = Vec::with_capacity(alloc, CHUNKS)?;
     let mut counts = Vec::new(alloc);
-    for chunk in 0..STARTS - 1 {
+    let mut count = 0;
+    begin_inside(ranges);
+    for chunk in 0..CHUNKS {
         let Ok(place) = u32::try_from(counts.len()) else {
             return Err(AllocError);
         };
         let start = ((FIRST + chunk) as u64) << 27;
-        words.push(count_blocks(&mut counts, ranges, start, starts[chunk], starts[chunk + 1])?)?;
-        places.push(place)?;
+        let (word, next) = count_blocks(&mut counts, ranges, start, count, end)?;
+        words.push(word)?;
+        places.push(if word == 0 { count } else { place })?;
+        count = next;
     }
     Ok(Blocks {
         words,
@@ -85,30 +103,26 @@ pub(crate) fn blocks_of(
 #[inline]
 pub(crate) fn of_block(
     ranges: &[Short6],
-    starts: &[u32],
     words: &[u64],
     places: &[u32],
     counts: &[u32],
     number: u128,
 ) -> (usize, usize)
-    requires starts { AreStarts 262144 (2 ^ 107) ranges.now starts.now }
     requires counts { AreBlockCounts ranges.now words.now places.now counts.now }
     ensures low { BeginsBelow ranges.now (number + 1) result.0 }
     ensures high { BeginsFrom ranges.now (number + 1) result.1 }
 {
     let chunk = (number >> 107) as usize;
-    if chunk < FIRST || chunk - FIRST >= STARTS - 1 {
+    if chunk < FIRST || chunk - FIRST >= CHUNKS {
         return (0, ranges.len());
     }
     let word = words[chunk - FIRST];
+    let place = places[chunk - FIRST] as usize;
     if word == 0 {
-        return (
-            starts[chunk - FIRST] as usize,
-            starts[chunk - FIRST + 1] as usize,
-        );
+        return (place, place);
     }
     let block = (number >> 101) as u32 % 64;
-    let low = places[chunk - FIRST] as usize + (word % (1 << block)).count_ones() as usize;
+    let low = place + (word % (1 << block)).count_ones() as usize;
     let high = low + (word >> block) as usize % 2;
     (counts[low] as usize, counts[high] as usize)
 }

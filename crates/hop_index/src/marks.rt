@@ -1,36 +1,42 @@
 //! IPv4: ranges, the short ones found by the blocks of 256 addresses with which one begins.
-ghost use Rattle.std.specs.Prelude.{ℕ, ◌≡◌, ◌+◌, ◌*◌, ◌^◌, ◌<◌, ◌≤◌, ◌++◌, IfOk};
+ghost use Rattle.std.specs.Prelude.{ℕ, ◌≡◌, ◌+◌, ◌*◌, ◌^◌, ◌<◌, ◌≤◌, ◌++◌, IfOk, length};
 ghost use Rattle.hop_index.specs.Ranges.{hop_in};
-ghost use Rattle.hop_index.specs.InnerRanges.{AreMarks, AreMarksOf, AreRanges, AreStarts, BeginsBelow, BeginsFrom};
+ghost use Rattle.hop_index.specs.InnerRanges.{AreMarks, AreMarksOf, AreRanges, BeginsBelow, BeginsFrom};
 
-use crate::ranges::{Range, STARTS, begun, hop_after, starts};
+use crate::ranges::{CHUNKS, Range, begun, hop_after};
 use crate::shorts4::{Short4, short_hop};
 use std::alloc::{AllocError, Global};
 use std::marker::Model;
 
-/// A bit for each of a chunk's 64 blocks of 256 numbers: whether one of its ranges, from place `low` to `high`, begins there.
+/// A bit for each of the 64 blocks of 256 numbers of a chunk: whether one of the ranges begins there; and how many of the ranges
+/// begin before the chunk's end, where `low` of them begin before its start.
 #[inline]
-fn marks_of(ranges: &[Short4], start: u32, low: u32, high: u32) -> u64
+fn marks_of(ranges: &[Short4], start: u32, low: u32, end: u32) -> (u64, u32)
     requires ranges { AreRanges ranges.now }
-    requires low_below { BeginsBelow ranges.now (start * 256) low }
-    requires low_from { BeginsFrom ranges.now (start * 256) low }
-    requires high_below { BeginsBelow ranges.now (start * 256 + 2 ^ 14) high }
-    requires high_from { BeginsFrom ranges.now (start * 256 + 2 ^ 14) high }
-    ensures { AreMarksOf ranges.now (start * 256) low result }
+    requires end { end ≡ length ranges.now }
+    requires below { BeginsBelow ranges.now (start * 256) low }
+    requires from { BeginsFrom ranges.now (start * 256) low }
+    ensures marks { AreMarksOf ranges.now (start * 256) low result.0 }
+    ensures below { BeginsBelow ranges.now (start * 256 + 2 ^ 14) result.1 }
+    ensures from { BeginsFrom ranges.now (start * 256 + 2 ^ 14) result.1 }
 {
     let mut marks = 0;
-    for place in low..high {
+    let mut place = low;
+    while place < end {
         let block = ranges[place as usize].first() - start;
+        if block >= 64 {
+            return (marks, place);
+        }
         marks += 1u64 << block;
+        place += 1;
     }
-    marks
+    (marks, place)
 }
 
 /// How many of the ranges begin at or below the number: those before its chunk, and one for each mark up to its block.
 #[inline]
 fn begun_by_marks(ranges: &[Short4], starts: &[u32], marks: &[u64], number: u32) -> usize
-    requires starts { AreStarts 0 (2 ^ 14) ranges.now starts.now }
-    requires marks { AreMarks ranges.now starts.now marks.now }
+    requires { AreMarks ranges.now starts.now marks.now }
     ensures below { BeginsBelow ranges.now (number + 1) result }
     ensures from { BeginsFrom ranges.now (number + 1) result }
 {
@@ -39,18 +45,24 @@ fn begun_by_marks(ranges: &[Short4], starts: &[u32], marks: &[u64], number: u32)
     starts[chunk] as usize + (marks[chunk] << later).count_ones() as usize
 }
 
-/// The marks of each chunk.
-fn all_marks(alloc: Global, ranges: &[Short4], starts: &[u32]) -> Result<Vec<u64>, AllocError>
-    requires ranges { AreRanges ranges.now }
-    requires starts { AreStarts 0 (2 ^ 14) ranges.now starts.now }
-    ensures { IfOk result (λ marks. AreMarks ranges.now starts.now marks.items) }
+/// How many ranges begin before each chunk, and before the end of the last one; and the marks of each chunk.
+fn all_marks(alloc: Global, ranges: &[Short4]) -> Result<(Vec<u32>, Vec<u64>), AllocError>
+    requires { AreRanges ranges.now }
+    ensures { IfOk result (λ r. AreMarks ranges.now r.0.items r.1.items) }
 {
-    let mut marks = Vec::with_capacity(alloc, STARTS - 1)?;
-    for chunk in 0..STARTS - 1 {
-        let start = (chunk as u32) << 6;
-        marks.push(marks_of(ranges, start, starts[chunk], starts[chunk + 1]))?;
+    let Ok(end) = u32::try_from(ranges.len()) else {
+        return Err(AllocError);
+    };
+    let mut starts = Vec::with_capacity(alloc, CHUNKS)?;
+    let mut marks = Vec::with_capacity(alloc, CHUNKS)?;
+    let mut count = 0;
+    for chunk in 0..CHUNKS {
+        let (word, next) = marks_of(ranges, (chunk as u32) << 6, count, end);
+        starts.push(count)?;
+        marks.push(word)?;
+        count = next;
     }
-    Ok(marks)
+    Ok((starts, marks))
 }
 
 /// Ascending ranges of IPv4: those that have room in 8 bytes, found by how many begin before each chunk of numbers with the same
@@ -68,13 +80,13 @@ pub(crate) struct Ranges4 {
 impl Model for Ranges4 {
     ghost use Rattle.std.specs.Prelude.{◌^◌, ◌++◌, List};
     ghost use Rattle.hop_index.specs.Ranges.{HopRange};
-    ghost use Rattle.hop_index.specs.InnerRanges.{AreMarks, AreRanges, AreStarts};
+    ghost use Rattle.hop_index.specs.InnerRanges.{AreMarks, AreRanges};
 
     ghost Value = { List HopRange };
 
     ghost view = { λ a. a.shorts.items ++ a.others.items };
 
-    ghost invariant = { λ a. AreRanges a.shorts.items × AreStarts 0 (2 ^ 14) a.shorts.items a.starts.items × AreMarks a.shorts.items a.starts.items a.marks.items × AreRanges a.others.items };
+    ghost invariant = { λ a. AreRanges a.shorts.items × AreMarks a.shorts.items a.starts.items a.marks.items × AreRanges a.others.items };
 }
 
 impl Ranges4 {
@@ -91,8 +103,7 @@ impl Ranges4 {
         requires others { AreRanges others.items }
         ensures { IfOk result (λ r. r ≡ shorts.items ++ others.items) }
     {
-        let starts = starts(alloc, &shorts)?;
-        let marks = all_marks(alloc, &shorts, &starts)?;
+        let (starts, marks) = all_marks(alloc, &shorts)?;
         Ok(Ranges4 {
             shorts,
             starts,

@@ -2,14 +2,14 @@
 ghost use Rattle.std.specs.Prelude.{ℕ, ◌≡◌, ◌+◌, ◌*◌, ◌^◌, ◌<◌, ◌≤◌, IfOk, map};
 ghost use Rattle.ipnet_addr.specs.Addresses.{width};
 ghost use Rattle.hop_index.specs.Ranges.{HopRange, hop_in};
-ghost use Rattle.hop_index.specs.InnerRanges.{AreRanges, AreStarts, BeginsBelow, BeginsFrom};
+ghost use Rattle.hop_index.specs.InnerRanges.{AreRanges, BeginsBelow, BeginsFrom};
 
 use ipnet_addr::number::Number;
 use std::alloc::{AllocError, Global};
 use std::marker::Model;
 
-/// How many chunks have a count, and one.
-pub(crate) const STARTS: usize = 262_145;
+/// How many chunks have a count.
+pub(crate) const CHUNKS: usize = 262_144;
 
 /// Addresses in a row with one hop.
 ///
@@ -64,28 +64,6 @@ impl<N: Number> Range<N> {
     }
 }
 
-/// Ranges of addresses in chunks, which are those with the same first bits.
-pub(crate) trait Chunked {
-    /// The numbers of its addresses, and its hop.
-    ghost range: { Self → HopRange };
-
-    /// How many numbers a chunk has.
-    ghost chunk_size: { ℕ };
-
-    /// The first chunk that an index has a count for.
-    ghost first_chunk: { ℕ };
-
-    /// The chunk of its first address, which the first bits name.
-    fn chunk(&self) -> usize
-        ensures first { result * chunk_size ≤ (range self.now).first }
-        ensures last { (range self.now).first < (result + 1) * chunk_size };
-
-    /// The first chunk that an index has a count for.
-    fn first_chunk() -> usize
-        ensures value { result ≡ first_chunk }
-        ensures within { result ≤ 262144 };
-}
-
 /// How many of the ranges begin at or below the number: at least `low`, and at most `high`.
 pub(crate) fn begun<N: Number>(
     ranges: &[Range<N>],
@@ -127,25 +105,4 @@ pub(crate) fn hop_after<N: Number>(ranges: &[Range<N>], count: usize, number: N)
     } else {
         None
     }
-}
-
-/// How many ranges begin before each chunk that has a count, and before the end of the last one.
-pub(crate) fn starts<R: Chunked>(alloc: Global, ranges: &[R]) -> Result<Vec<u32>, AllocError>
-    requires { AreRanges (map R.range ranges.now) }
-    ensures { IfOk result (λ starts. AreStarts R.first_chunk R.chunk_size (map R.range ranges.now) starts.items) }
-{
-    let mut starts = Vec::with_capacity(alloc, STARTS)?;
-    let mut count = 0;
-    let from = R::first_chunk();
-    for step in 0..STARTS {
-        let chunk = from + step;
-        while count < ranges.len() && ranges[count].chunk() < chunk {
-            count += 1;
-        }
-        let Ok(begun) = u32::try_from(count) else {
-            return Err(AllocError);
-        };
-        starts.push(begun)?;
-    }
-    Ok(starts)
 }

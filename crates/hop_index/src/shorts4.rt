@@ -3,7 +3,7 @@ ghost use Rattle.std.specs.Prelude.{ℕ, ◌≡◌, ◌+◌, ◌*◌, ◌^◌};
 ghost use Rattle.hop_index.specs.Ranges.{HopRange, hop_in};
 ghost use Rattle.hop_index.specs.InnerRanges.{AreRanges, BeginsBelow, BeginsFrom, IsShort4};
 
-use crate::ranges::{Chunked, Range};
+use crate::ranges::Range;
 use crate::shorts::ShortRange;
 use std::marker::Model;
 
@@ -69,25 +69,6 @@ impl ShortRange<u32> for Short4 {
             key: (first + (last - first) / 256) as u32,
             hop: whole.hop(),
         }
-    }
-}
-
-/// The chunks are of 18 bits, and all have a count.
-impl Chunked for Short4 {
-    ghost range = { λ r. r };
-
-    ghost chunk_size = { 2 ^ 14 };
-
-    ghost first_chunk = { 0 };
-
-    #[inline]
-    fn chunk(&self) -> usize {
-        (self.first() >> 6) as usize
-    }
-
-    #[inline]
-    fn first_chunk() -> usize {
-        0
     }
 }
 

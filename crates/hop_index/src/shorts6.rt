@@ -4,7 +4,7 @@ ghost use Rattle.hop_index.specs.Ranges.{HopRange, hop_in};
 ghost use Rattle.hop_index.specs.InnerRanges.{AreRanges, BeginsBelow, BeginsFrom, IsShort6};
 
 use crate::blocks::{Blocks, blocks_of, of_block};
-use crate::ranges::{Chunked, Range, begun, hop_after, starts};
+use crate::ranges::{Range, begun, hop_after};
 use crate::shorts::ShortRange;
 use std::alloc::{AllocError, Global};
 use std::marker::Model;
@@ -42,7 +42,8 @@ impl Short6 {
     /// The first 48 bits of its first address.
     #[inline]
     pub(crate) fn first(&self) -> u64
-        ensures { self.now.first ≡ result * 2 ^ 80 }
+        ensures value { self.now.first ≡ result * 2 ^ 80 }
+        ensures global { 2 ^ 45 ≤ result }
     {
         (1 << 45) + (key_of(self.high, self.low) >> 19)
     }
@@ -92,25 +93,6 @@ impl ShortRange<u128> for Short6 {
     }
 }
 
-/// The chunks are of 21 bits, and those of 2000::/3, where the global unicast addresses are, have a count.
-impl Chunked for Short6 {
-    ghost range = { λ r. r };
-
-    ghost chunk_size = { 2 ^ 107 };
-
-    ghost first_chunk = { 262144 };
-
-    #[inline]
-    fn chunk(&self) -> usize {
-        (self.first() >> 27) as usize
-    }
-
-    #[inline]
-    fn first_chunk() -> usize {
-        262_144
-    }
-}
-
 /// How many of the ranges begin at or below the number: at least `low`, and at most `high`.
 fn shorts_begun(ranges: &[Short6], mut low: usize, mut high: usize, number: u128) -> usize
     requires ranges { AreRanges ranges.now }
@@ -157,7 +139,6 @@ fn short_hop(ranges: &[Short6], count: usize, number: u128) -> Option<u32>
 #[derive(Drop)]
 pub(crate) struct Ranges6 {
     shorts: Vec<Short6>,
-    starts: Vec<u32>,
     blocks: Blocks,
     others: Vec<Range<u128>>,
 }
@@ -165,13 +146,13 @@ pub(crate) struct Ranges6 {
 impl Model for Ranges6 {
     ghost use Rattle.std.specs.Prelude.{◌^◌, ◌++◌, List};
     ghost use Rattle.hop_index.specs.Ranges.{HopRange};
-    ghost use Rattle.hop_index.specs.InnerRanges.{AreBlockCounts, AreRanges, AreStarts};
+    ghost use Rattle.hop_index.specs.InnerRanges.{AreBlockCounts, AreRanges};
 
     ghost Value = { List HopRange };
 
     ghost view = { λ a. a.shorts.items ++ a.others.items };
 
-    ghost invariant = { λ a. AreRanges a.shorts.items × AreStarts 262144 (2 ^ 107) a.shorts.items a.starts.items × AreBlockCounts a.shorts.items a.blocks.words.items a.blocks.places.items a.blocks.counts.items × AreRanges a.others.items };
+    ghost invariant = { λ a. AreRanges a.shorts.items × AreBlockCounts a.shorts.items a.blocks.words.items a.blocks.places.items a.blocks.counts.items × AreRanges a.others.items };
 }
 
 impl Ranges6 {
@@ -188,11 +169,9 @@ impl Ranges6 {
         requires others { AreRanges others.items }
         ensures { IfOk result (λ r. r ≡ shorts.items ++ others.items) }
     {
-        let starts = starts(alloc, &shorts)?;
-        let blocks = blocks_of(alloc, &shorts, &starts)?;
+        let blocks = blocks_of(alloc, &shorts)?;
         Ok(Ranges6 {
             shorts,
-            starts,
             blocks,
             others,
         })
@@ -205,7 +184,6 @@ impl Ranges6 {
         let blocks = &self.blocks;
         let (low, high) = of_block(
             &self.shorts,
-            &self.starts,
             &blocks.words,
             &blocks.places,
             &blocks.counts,

@@ -16,7 +16,7 @@ bounds-counts-high c =
     let b : ℕ = c.args.number / 2 ^ 101 % 64 in
     let place : ℕ = get_or c.args.places.now t 0 in
     let word : ℕ = get_or c.args.words.now t 0 in
-    let within : place + count_ones (word % 2 ^ (b + 1)) < length c.args.counts.now = (c.requires.counts.counted t (omega (arith, c.if-chunk.false))).within c.if-word-eq0.false (b + 1) (omega arith) in
+    let within : place + count_ones (word % 2 ^ (b + 1)) < length c.args.counts.now = (c.requires.counts.counted t (omega (arith, c.if-chunk-ge-CHUNKS.false))).within c.if-word-eq0.false (b + 1) (omega arith) in
     subst (λ (n : ℕ). n < length c.args.counts.now) (next_place place word b (omega arith)) within
 
 pub returns-clause-high : goal.returns-clause-high
@@ -27,5 +27,5 @@ returns-clause-high c =
     let b : ℕ = x / 2 ^ 101 % 64 in
     let place : ℕ = get_or c.args.places.now t 0 in
     let word : ℕ = get_or c.args.words.now t 0 in
-    let next : BeginsFrom rs ((262144 + t) * 2 ^ 107 + (b + 1) * 2 ^ 101) (get_or c.args.counts.now (place + count_ones (word % 2 ^ (b + 1))) 0) = (c.requires.counts.counted t (omega (arith, c.if-chunk.false))).from c.if-word-eq0.false (b + 1) (omega arith) in
+    let next : BeginsFrom rs ((262144 + t) * 2 ^ 107 + (b + 1) * 2 ^ 101) (get_or c.args.counts.now (place + count_ones (word % 2 ^ (b + 1))) 0) = (c.requires.counts.counted t (omega (arith, c.if-chunk-ge-CHUNKS.false))).from c.if-word-eq0.false (b + 1) (omega arith) in
     subst (λ (n : ℕ). BeginsFrom rs (x + 1) (get_or c.args.counts.now n 0)) (next_place place word b (omega arith)) (from_sooner rs _ (x + 1) _ (omega (arith, c.if-chunk-lt-FIRST.false)) next)

@@ -18,7 +18,7 @@ returns-clause-below c =
     let b : ℕ = x / 256 % 64 in
     let start : ℕ = get_or c.args.starts.now t 0 in
     let word : ℕ = get_or c.args.marks.now t 0 in
-    let here = (c.requires.marks.marks t (omega (arith, c.ranges.number))).below b (omega arith) in
+    let here = (c.requires.marks t (omega (arith, c.ranges.number))).below b (omega arith) in
     subst (BeginsBelow rs (x + 1)) (up_to start word b (omega arith)) (below_later rs (t * 2 ^ 14 + b * 256 + 1) (x + 1) _ (omega arith) here)
 
 pub returns-clause-from : goal.returns-clause-from
@@ -29,5 +29,5 @@ returns-clause-from c =
     let b : ℕ = x / 256 % 64 in
     let start : ℕ = get_or c.args.starts.now t 0 in
     let word : ℕ = get_or c.args.marks.now t 0 in
-    let next = (c.requires.marks.marks t (omega (arith, c.ranges.number))).from b (omega arith) in
+    let next = (c.requires.marks t (omega (arith, c.ranges.number))).from b (omega arith) in
     subst (BeginsFrom rs (x + 1)) (up_to start word b (omega arith)) (from_sooner rs (t * 2 ^ 14 + (b + 1) * 256) (x + 1) _ (omega arith) next)

@@ -9,7 +9,7 @@ loop-low-preserved-then-first-block c =
     let test = c.loop-low-test.true in
     let is = ap (λ (r : HopRange). r.first) c.index-ranges-middle.is in
     record {
-      below = begins_below _ _ _ c.index-ranges-middle.result c.requires.ranges (omega arith) (omega (arith, is, c.if-first-block.true, c.first.ensures));
+      below = begins_below _ _ _ c.index-ranges-middle.result c.requires.ranges (omega arith) (omega (arith, is, c.if-first-block.true, c.first.ensures.value));
       from = c.loop-low.invariant.from;
     }
 
@@ -20,5 +20,5 @@ loop-low-preserved c =
     let is = ap (λ (r : HopRange). r.first) c.index-ranges-middle.is in
     record {
       below = c.loop-low.invariant.below;
-      from = begins_from _ _ _ c.index-ranges-middle.result c.requires.ranges (omega arith) (omega (arith, is, c.if-first-block.false, c.first.ensures));
+      from = begins_from _ _ _ c.index-ranges-middle.result c.requires.ranges (omega arith) (omega (arith, is, c.if-first-block.false, c.first.ensures.value));
     }
