@@ -316,7 +316,13 @@ impl<'a, P: OfFamily> Runs<'a, P> {
             self.at = after;
             return join(&mut self.run, reach.first, reach.last, reach.number);
         }
-        self.stack.push(reach);
+        // Part by part: whole, it would be copied together with what was written in other sizes just before, and wait for that.
+        self.stack.push(Reach {
+            first: reach.first,
+            last: reach.last,
+            len: reach.len,
+            number: reach.number,
+        });
         Step::Passed
     }
 
