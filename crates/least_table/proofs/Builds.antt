@@ -1,20 +1,17 @@
 -- The steps of the code that makes a plan.
-use Rattle.std.proofs.Common.{◌≡◌, ℕ, suc, ◌+◌, ◌-◌, ◌<◌, ◌≤◌, Bool, true, false, List, [], ◌∷◌, ◌++◌, length, take, drop, Option, Some, None, IsTrue, refl, sym, ap, ap₂, ◌∙◌, subst, arith, add-one, length-drop, slice_get, slice_index_or}
+use Rattle.std.proofs.Common.{◌≡◌, ℕ, suc, ◌+◌, ◌-◌, ◌<◌, ◌≤◌, Bool, true, false, List, ◌∷◌, ◌++◌, length, take, drop, Option, None, IsTrue, refl, sym, ap, ◌∙◌, subst, arith, add-one}
 use Rattle.std.proofs.lemmas.List.{take-append-drop}
-use Rattle.ipnet_blocks.specs.BitStrings.{begins}
 use Rattle.least_table.specs.Tables.{half_of}
 use Rattle.least_table.specs.Pieces.{hop_at}
 use Rattle.least_table.specs.Trees.{Tree, Leaf, Fork, Skip, IsPlan, inner_of}
-use Rattle.least_table.specs.InnerPieces.{IsAscending, beyond, AllBegin, shared}
+use Rattle.least_table.specs.InnerPieces.{beyond, AllBegin, AllShare}
 use Rattle.least_table.specs.InnerRising.{IsRising}
 use Rattle.least_table.specs.HopSets.{AreMerged}
 use Rattle.least_table.specs.InnerSteps.{step_best}
 use Rattle.least_table.specs.InnerPlans.{Plan, top, tree_of, IsMade, between, Fits}
 use Rattle.least_table.specs.InnerPlans as plans
 use Rattle.least_table.proofs.Growths.{best_of_tree, length_between, skip_plan}
-use Rattle.ipnet_blocks.proofs.BitStrings.{take_begins}
-use Rattle.least_table.proofs.Taken.{read_behind}
-use Rattle.least_table.proofs.Shares.{AllShare, none_outside, hop_inside, all_share, shared_right, shared_short, last_step, ascending_deeper, hop_at-low, hop_at-high}
+use Rattle.least_table.proofs.Shares.{none_outside, hop_inside, hop_at-low, hop_at-high}
 
 pub plan_same : (w : ℕ) (h g : List Bool → Option ℕ) (t : Tree) → ((x : List Bool) → h x ≡ g x) → IsPlan w g t → IsPlan w h t
 plan_same w h g (Leaf k) e plan = λ x l. e x ∙ plan x l
@@ -27,50 +24,6 @@ pub fits_plan : (w : ℕ) (h : List Bool → Option ℕ) (t : Tree) → IsPlan w
 fits_plan w h (Leaf k) plan = tt
 fits_plan w h (Fork hops l r) plan = (plan.0, plan.1, fits_plan plan.0 (half_of false h) l plan.3, fits_plan plan.0 (half_of true h) r plan.4)
 fits_plan w h (Skip k ds t) plan = (plan.0, plan.1, plan.2.0, fits_plan plan.0 (inner_of ds h) t plan.4)
-
--- all pieces share what the first and the last share
-pub shares : (ps : List (List Bool × ℕ)) (x y : List Bool × ℕ) (d c : ℕ) → slice_get ps 0 ≡ Some x → slice_get ps (length ps - 1) ≡ Some y → c ≡ d + shared (drop d x.0) (drop d y.0) → IsAscending (beyond d ps) → AllShare (between d c x.0) (beyond d ps)
-shares [] x y d c e f g h = tt
-shares (p ∷ ps) x y d c e f g h = subst (λ t. AllShare t (beyond d (p ∷ ps))) (sym n) (go ps f h)
-  where
-    s : List Bool
-    s = drop d x.0
-
-    one : p ≡ x
-    one = cc
-
-    n : between d c x.0 ≡ take (shared (drop d x.0) (drop d y.0)) (drop d x.0)
-    n = let z : c - d ≡ shared (drop d x.0) (drop d y.0) = omega (arith, g) in ap (λ m. take m (drop d x.0)) z
-
-    here : begins (take (shared (drop d x.0) (drop d y.0)) (drop d x.0)) (drop d p.0) ≡ true
-    here = subst (λ q. begins (take (shared (drop d x.0) (drop d y.0)) (drop d x.0)) (drop d q.0) ≡ true) (sym one) (take_begins (shared (drop d x.0) (drop d y.0)) (drop d x.0))
-
-    go : (qs : List (List Bool × ℕ)) → slice_get (p ∷ qs) (length (p ∷ qs) - 1) ≡ Some y → IsAscending (beyond d (p ∷ qs)) → AllShare (take (shared (drop d x.0) (drop d y.0)) (drop d x.0)) (beyond d (p ∷ qs))
-    go [] f h = (here, tt)
-    go (q ∷ qs) f h = (here, all_share _ d (drop d p.0) (q ∷ qs) y h.0 h.1 (sym (last_step p q qs) ∙ f) here (shared_right (drop d x.0) (drop d y.0)))
-
-pub deeper : (first : List Bool) (ps : List (List Bool × ℕ)) (d c : ℕ) → d ≤ c → c ≤ length first → AllShare (between d c first) (beyond d ps) → IsAscending (beyond d ps) → IsAscending (beyond c ps)
-deeper first ps d c i k share h =
-    let long = length_between d c first k i in
-    let deep : d + length (between d c first) ≡ c = omega (arith, long, i) in
-    subst (λ n. IsAscending (beyond n ps)) deep (ascending_deeper (between d c first) d ps share h)
-
--- what the pieces have in common, from the facts of the calls
-pub record Common (d n : ℕ) (x : List Bool) (ps : List (List Bool × ℕ)) : Type 0 where
-  pub deep : d ≤ n
-  pub inside : n ≤ length x
-  pub share : AllShare (between d n x) (beyond d ps)
-
-pub in_common : (ps : List (List Bool × ℕ)) (x y : List Bool × ℕ) (f i d n : ℕ) (s t : List Bool) → f < length ps → i + 1 ≡ length ps → IsAscending (beyond d (drop f ps)) → x ≡ slice_index_or ps f x → y ≡ slice_index_or ps i y
-    → d ≤ length x.0 → s ≡ x.0 → t ≡ y.0 → n ≡ d + shared (drop d s) (drop d t) → Common d n x.0 (drop f ps)
-in_common ps x y f i d n s t some last a j k l p q e =
-    let r : n ≡ d + shared (drop d x.0) (drop d y.0) = e ∙ ap₂ (λ u v. d + shared (drop d u) (drop d v)) p q in
-    record {
-      deep = omega (arith, r);
-      inside = omega (arith, r, l, shared_short (drop d x.0) (drop d y.0), length-drop d x.0);
-      share = shares (drop f ps) x y d n (read_behind ps f 0 f x (omega arith) some j)
-          (read_behind ps f (length (drop f ps) - 1) i y (omega (arith, last, some, length-drop f ps)) (omega (arith, last)) k) r a;
-    }
 
 module _ {B : Type 0} (string : B → List Bool) where
   fork_plan : (v d : ℕ) (h : List Bool → Option ℕ) (hops : List (Option ℕ)) (low high : Plan B) → AreMerged (step_best (top low)) (step_best (top high)) hops → IsPlan v (half_of false h) (tree_of string (suc d) low) → IsPlan v (half_of true h) (tree_of string (suc d) high)

@@ -12,7 +12,6 @@ use Rattle.least_table.specs.Laws.{ChainLaw, TreesLaw}
 use Rattle.least_table.proofs.Split.{joined, Absent-map}
 use Rattle.least_table.proofs.Halves.{Gives-joined, Gives-own}
 use Rattle.least_table.proofs.Sets.{same_hop-refl, same_hop-true, one_hop, meets-true, meets-false, Best-leaf, Best-fork, fees, first_of-holds, Stores, Stores-leaf, Stores-joined, Stores-fork}
-use Rattle.least_table.proofs.Cuts.{begins_half}
 
 -- ---- one level: a half with one hop beside any half
 
@@ -54,6 +53,10 @@ Best-level false w h k hops m inner one =
     subst (λ n. AreBest (suc w) h c n) (ap (λ u. m + 0 + fee u) (meets_swap hops (k ∷ []) ∙ meets_one k hops) ∙ ap (λ n. n + fee (holds hops k)) (add-zero m)) r
 
 -- ---- a chain of levels
+
+begins_half : (a x : List Bool) (b : Bool) → begins (b ∷ a) (b ∷ x) ≡ begins a x
+begins_half a x true = refl
+begins_half a x false = refl
 
 begins_other : (b : Bool) (ds x : List Bool) → begins (b ∷ ds) (not b ∷ x) ≡ false
 begins_other true ds x = refl

@@ -2,14 +2,15 @@ pub mod Split
 pub mod Halves
 pub mod Sets
 pub mod Stacks
-pub mod Cuts
 pub mod Chains
 pub mod Risings
 pub mod Stores
 pub mod Growths
 pub mod GrownStores
 pub mod Tops
-pub mod Turns
+pub mod Takes
+pub mod Gathers
+pub mod Lowers
 pub mod Shares
 pub mod Builds
 pub mod Orders
@@ -17,4 +18,3 @@ pub mod Disjoint
 pub mod PathBits
 pub mod BlockSets
 pub mod Packed
-pub mod Taken

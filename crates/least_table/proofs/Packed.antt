@@ -1,14 +1,14 @@
 -- Steps that are kept stay what they are while others are appended.
-use Rattle.std.proofs.Common.{◌≡◌, ℕ, zero, suc, ◌<◌, Bool, List, [], ◌∷◌, ◌++◌, length, map, drop, slice_get, slice_index_or, Option, Some, None, refl, sym, ap, ap₂, ◌∙◌, subst, arith, append_assoc, append-nil, length-append}
+use Rattle.std.proofs.Common.{◌≡◌, ℕ, zero, suc, ◌<◌, true, false, List, [], ◌∷◌, ◌++◌, length, map, slice_get, slice_index_or, Option, Some, None, refl, sym, ap, ap₂, ◌∙◌, subst, arith, append-nil, length-append}
 use Rattle.std.proofs.lemmas.Option.{slice_get_read}
 use Rattle.std.proofs.lemmas.List.{map-append, length-map, get_or-map}
 use Rattle.std.proofs.Math.Seq.{get_or-append_seam}
-use Rattle.least_table.specs.InnerSteps.{Step, passed, step_best, step_blocks}
+use Rattle.least_table.specs.InnerSteps.{Step, step_best}
 use Rattle.least_table.specs.InnerSteps as steps
 use Rattle.least_table.specs.InnerSets.{KeepsSets}
 use Rattle.least_table.specs.InnerPacked.{around, step_of, IsKept, AreKept, AreWhole, best_at, steps_in, Grows}
 use Rattle.least_table.specs.declared.plan.Packed.{Packed}
-use Rattle.least_table.specs.declared.plan.Packed.TheVariants.{Leaf, Gap, One, Nowhere, Several, Skip}
+use Rattle.least_table.specs.declared.plan.Packed.TheVariants.{Leaf, One, Nowhere, Either, Several, LowerNowhere, LowerEither, LowerSeveral, UpperNowhere, UpperEither, UpperSeveral, Skip}
 use Rattle.least_table.specs.declared.plan.Steps.{Steps}
 
 get_front : {X : Type 0} (xs ys : List X) (i : ℕ) → i < length xs → slice_get (xs ++ ys) i ≡ slice_get xs i
@@ -19,18 +19,30 @@ get_front (x ∷ xs) ys (suc i) l = get_front xs ys i (omega (arith, l))
 module _ {B : Type 0} (sets new : List (List (Option ℕ))) (keeps : KeepsSets sets new) (inner also : List B) where
   step_front : (x : Packed) → IsKept sets (length inner) x → step_of new (inner ++ also) x ≡ step_of sets inner x
   step_front (Leaf k) h = refl
-  step_front Gap h = refl
   step_front (One k) h = refl
   step_front Nowhere h = refl
+  step_front (Either k) h = refl
   step_front (Several at) h = ap (λ ks. steps.Fork ks) (keeps at h).1
+  step_front LowerNowhere h = refl
+  step_front (LowerEither k) h = refl
+  step_front (LowerSeveral at) h = ap (λ ks. steps.Half false ks) (keeps at h).1
+  step_front UpperNowhere h = refl
+  step_front (UpperEither k) h = refl
+  step_front (UpperSeveral at) h = ap (λ ks. steps.Half true ks) (keeps at h).1
   step_front (Skip at) h = ap around (get_front inner also at h)
 
   kept_front : (x : Packed) → IsKept sets (length inner) x → IsKept new (length (inner ++ also)) x
   kept_front (Leaf k) h = tt
-  kept_front Gap h = tt
   kept_front (One k) h = tt
   kept_front Nowhere h = tt
+  kept_front (Either k) h = tt
   kept_front (Several at) h = (keeps at h).0
+  kept_front LowerNowhere h = tt
+  kept_front (LowerEither k) h = tt
+  kept_front (LowerSeveral at) h = (keeps at h).0
+  kept_front UpperNowhere h = tt
+  kept_front (UpperEither k) h = tt
+  kept_front (UpperSeveral at) h = (keeps at h).0
   kept_front (Skip at) h = omega (arith, h, length-append inner also)
 
   steps_front : (xs : List Packed) → AreKept sets (length inner) xs → map (step_of new (inner ++ also)) xs ≡ map (step_of sets inner) xs
@@ -63,13 +75,6 @@ grown_by old new p e f g h kept =
     grown old new p (step_of old.sets old.inner p) [] e (keeps_same old.sets new.sets f) (g ∙ sym (append-nil old.inner)) h
     (rw (append-nil old.inner, f) kept) (rw (append-nil old.inner, f) refl)
 
--- and then others
-pub grown_more : {B : Type 0} {old mid new : Steps B} {xs ys : List (Step B)} → Grows old mid xs → Grows mid new ys → Grows old new (xs ++ ys)
-grown_more {B} {old} {mid} {new} {xs} {ys} g h = record {
-  steps = h.steps ∙ ap (λ t. t ++ ys) g.steps ∙ append_assoc (steps_in old) xs ys;
-  whole = h.whole;
-}
-
 -- ---- the last step is taken off
 
 module _ {B : Type 0} (left : Steps B) (rest : List Packed) (x : Packed) (e : left.steps ≡ rest ++ x ∷ []) where
@@ -100,11 +105,3 @@ module _ {B : Type 0} (s : Steps B) (at : ℕ) (x : Packed) (within : at < lengt
 
 pub inner_here : {B : Type 0} (inner : List B) (b : B) → slice_get (inner ++ b ∷ []) (length inner) ≡ Some b
 inner_here inner b = slice_get_read (inner ++ b ∷ []) (length (inner ++ b ∷ [])) (length inner) b refl (omega (arith, length-append inner (b ∷ []))) (sym (get_or-append_seam inner b [] b))
-
--- a step that skips levels leads to the block that it names
-pub skip_blocks : {B : Type 0} (string : B → List Bool) (sets : List (List (Option ℕ))) (inner : List B) (step : Packed) (at : ℕ) (x : B) (b : List Bool) (s : Option ℕ) → step ≡ Skip at → IsKept sets (length inner) step → x ≡ slice_index_or inner at x
-    → step_blocks string (step_of sets inner step) (b, s) ≡ (b ++ drop (length b) (string x), passed (step_best (step_of sets inner step)) s) ∷ []
-skip_blocks {B} string sets inner step at x b s e k r = subst (λ y. step_blocks string y (b, s) ≡ (b ++ drop (length b) (string x), passed (step_best y) s) ∷ []) (sym is) refl
-  where
-    is : step_of sets inner step ≡ steps.Skip None x
-    is = ap (step_of sets inner) e ∙ ap around (slice_get_read inner (length inner) at x refl (subst (λ y. IsKept sets (length inner) y) e k) r)

@@ -1,12 +1,19 @@
 -- The bits of a path, one by one.
-use Rattle.std.proofs.Common.{◌≡◌, ℕ, zero, suc, ◌+◌, ◌-◌, ◌/◌, ◌%◌, ◌==◌, ◌^◌, ◌<◌, ◌≤◌, Bool, false, List, [], ◌∷◌, ◌++◌, length, take, drop, slice_index_or, refl, sym, ap, ◌∙◌, arith, inl, inr, nat_lt, drop_of_length-le}
+use Rattle.std.proofs.Common.{◌≡◌, ℕ, zero, suc, ◌+◌, ◌-◌, ◌*◌, ◌/◌, ◌%◌, ◌==◌, ◌^◌, ◌<◌, ◌≤◌, Bool, true, false, List, [], ◌∷◌, ◌++◌, length, take, drop, slice_index_or, sym, ap, ap₂, ◌∙◌, subst, arith, cond, inl, inr, nat_lt}
 use Rattle.std.proofs.lemmas.Bool.{ltb-true, ltb-false, cases_Bool}
 use Rattle.std.proofs.lemmas.Nat.{shr-shr}
 use Rattle.std.proofs.lemmas.List.{get_or_append_left, get_or-drop, get_or_push, length-drop, take_more as take_next}
 use Rattle.ipnet_blocks.specs.Blocks.{digits}
 use Rattle.ipnet_blocks.proofs.Strings.{length-digits}
 use Rattle.trie_core.specs.Prefixes.{prefix_bits}
-use Rattle.least_table.specs.InnerPieces.{shared}
+use Rattle.std.specs.Int.Bits.{bit_xor}
+use Rattle.std.specs.Int.Count.{count_leading_zeros, leading_unique}
+use Rattle.std.proofs.lemmas.Nat.{xor_block, xor_lt}
+use Rattle.trie_core.specs.Bits.{number_from}
+use Rattle.trie_core.specs.Prefixes.{IsMasked}
+use Rattle.trie_core.proofs.Masked.{masked_number}
+use Rattle.trie_core.proofs.Numbers.{number_bound}
+use Rattle.least_table.specs.InnerPieces.{before, shared}
 
 bit_of_digits : (n q i : ℕ) → i < n → slice_index_or (digits n q) i false ≡ (q / 2 ^ (n - 1 - i) % 2 == 1)
 bit_of_digits zero q i l = absurd (omega (arith, l))
@@ -31,12 +38,40 @@ bit_at_top r i s e l m =
 
 -- ---- what two strings have in common
 
-shared_nothing : (s : List Bool) → shared s [] ≡ 0
-shared_nothing [] = refl
-shared_nothing (x ∷ s) = refl
+number_of_path : (r : ℕ) (s : List Bool) → length s ≤ 128 → prefix_bits 128 r (length s) ≡ s → IsMasked 128 r (length s) → r ≡ number_from 128 s
+number_of_path r s l e m = sym (masked_number 128 r (length s) l m) ∙ ap (number_from 128) e
 
-pub shared_other_end : (s t : List Bool) (n : ℕ) → length t ≤ n → shared (drop n s) (drop n t) ≡ 0
-shared_other_end s t n l = rw (drop_of_length-le t {i = n} l) (shared_nothing (drop n s))
+one_bit : (k : ℕ) (x : Bool) (s : List Bool) → number_from (suc k) (x ∷ s) ≡ cond x 1 0 * 2 ^ k + number_from k s
+one_bit k true s = omega arith
+one_bit k false s = omega arith
+
+one_more : (k : ℕ) (x y : Bool) (s t : List Bool) → bit_xor (number_from (suc k) (x ∷ s)) (number_from (suc k) (y ∷ t)) ≡ bit_xor (cond x 1 0) (cond y 1 0) * 2 ^ k + bit_xor (number_from k s) (number_from k t)
+one_more k x y s t = ap₂ bit_xor (one_bit k x s) (one_bit k y t) ∙ xor_block k (cond x 1 0) (cond y 1 0) (number_from k s) (number_from k t) (number_bound k s) (number_bound k t)
+
+-- where two strings part, their numbers do
+abbrev Part : ℕ → List Bool → List Bool → ℕ → Type 0
+Part k s t n = (m : ℕ) × (shared s t + suc m ≡ k) × (2 ^ m ≤ n) × (n < 2 ^ suc m)
+
+part : (k : ℕ) (s t : List Bool) → before s t ≡ true → length s ≤ k → length t ≤ k → Part k s t (bit_xor (number_from k s) (number_from k t))
+part k [] t e l m = cc
+part k (x ∷ s) [] e l m = cc
+part zero (x ∷ s) (y ∷ t) e l m = absurd (omega (arith, l))
+part (suc k) (false ∷ s) (false ∷ t) e l m =
+    let r = part k s t e (omega (arith, l)) (omega (arith, m)) in
+    subst (Part (suc k) (false ∷ s) (false ∷ t)) (sym (one_more k false false s t)) (r.0, omega (arith, r.1), omega (arith, r.2), omega (arith, r.3))
+part (suc k) (true ∷ s) (true ∷ t) e l m =
+    let r = part k s t e (omega (arith, l)) (omega (arith, m)) in
+    subst (Part (suc k) (true ∷ s) (true ∷ t)) (sym (one_more k true true s t)) (r.0, omega (arith, r.1), omega (arith, r.2), omega (arith, r.3))
+part (suc k) (false ∷ s) (true ∷ t) e l m =
+    subst (Part (suc k) (false ∷ s) (true ∷ t)) (sym (one_more k false true s t)) (k, omega arith, omega arith, omega (arith, xor_lt k (number_from k s) (number_from k t) (number_bound k s) (number_bound k t)))
+part (suc k) (true ∷ s) (false ∷ t) e l m = cc
+
+pub parted : (r q : ℕ) (s t : List Bool) → before s t ≡ true → length s ≤ 128 → length t ≤ 128 → prefix_bits 128 r (length s) ≡ s → IsMasked 128 r (length s) → prefix_bits 128 q (length t) ≡ t → IsMasked 128 q (length t)
+    → count_leading_zeros 128 (bit_xor r q) ≡ shared s t
+parted r q s t e l m f a g b =
+    let p = part 128 s t e l m in
+    let x : bit_xor r q ≡ bit_xor (number_from 128 s) (number_from 128 t) = ap₂ bit_xor (number_of_path r s l f a) (number_of_path q t m g b) in
+    sym (leading_unique 128 (bit_xor r q) (shared s t) (suc p.0) p.1 (omega (arith, p.3, x)) (omega (arith, p.2, x)))
 
 -- ---- the bits of the one after those of the other
 

@@ -1,19 +1,21 @@
 -- Where the steps of a plan stand among others.
-use Rattle.std.proofs.Common.{◌≡◌, ℕ, ◌+◌, ◌-◌, ◌<◌, List, [], ◌∷◌, ◌++◌, length, slice_index_or, None, refl, sym, ap, ap₂, ◌∙◌, arith, append_assoc, length-append}
+use Rattle.std.proofs.Common.{◌≡◌, ℕ, ◌+◌, ◌-◌, List, [], ◌∷◌, ◌++◌, length, slice_index_or, None, refl, sym, ap, ap₂, ◌∙◌, arith, append_assoc, length-append}
 use Rattle.std.proofs.Math.Seq.{get_or-append_seam}
-use Rattle.least_table.specs.InnerPlans.{Plan, Leaf, Fork, Skip, top, steps_of}
+use Rattle.least_table.specs.InnerPlans.{Plan, Leaf, Fork, Half, Skip, top, steps_of}
 use Rattle.least_table.specs.InnerSteps.{Step, step_best}
 use Rattle.least_table.specs.InnerSteps as steps
 
 -- all steps but that of the block itself
-abbrev below : {B : Type 0} → Plan B → List (Step B)
+abbrev pub below : {B : Type 0} → Plan B → List (Step B)
 below (Leaf k) = []
-below (Fork hops l r) = steps_of r ++ steps_of l
+below (Fork hops l r) = steps_of l ++ steps_of r
+below (Half upper hops t) = steps_of t
 below (Skip k b t) = steps_of t
 
-top_last : {B : Type 0} (p : Plan B) → steps_of p ≡ below p ++ top p ∷ []
+pub top_last : {B : Type 0} (p : Plan B) → steps_of p ≡ below p ++ top p ∷ []
 top_last (Leaf k) = refl
 top_last (Fork hops l r) = refl
+top_last (Half upper hops t) = refl
 top_last (Skip k b t) = refl
 
 module _ {B : Type 0} (p : Plan B) (old new rest all : List (Step B)) (e : new ≡ old ++ steps_of p) (f : all ≡ new ++ rest) where
@@ -22,9 +24,6 @@ module _ {B : Type 0} (p : Plan B) (old new rest all : List (Step B)) (e : new �
 
   length_of_new : length new ≡ length (old ++ below p) + 1
   length_of_new = ap length parts ∙ length-append (old ++ below p) (top p ∷ [])
-
-  pub is_within : length new - 1 < length all
-  is_within = omega (arith, length_of_new, ap length f ∙ length-append new rest)
 
   -- the last of the new steps is that of the block
   pub top_at : (d : Step B) → slice_index_or all (length new - 1) d ≡ top p

@@ -30,6 +30,11 @@ abbrev pub AllBegin : Bool → List (List Bool × ℕ) → Type 0
 AllBegin b [] = ⊤
 AllBegin b (p ∷ ps) = (begins (b ∷ []) p.0 ≡ true) × AllBegin b ps
 
+-- every piece begins with these bits
+abbrev pub AllShare : List Bool → List (List Bool × ℕ) → Type 0
+AllShare ds [] = ⊤
+AllShare ds (p ∷ ps) = (begins ds p.0 ≡ true) × AllShare ds ps
+
 -- how many bits two strings have in common before they part
 abbrev pub shared : List Bool → List Bool → ℕ
 shared [] t = 0

@@ -11,5 +11,6 @@ pub mod InnerSteps
 pub mod InnerSets
 pub mod InnerPacked
 pub mod InnerStacks
-pub mod InnerWords
 pub mod InnerPlans
+pub mod InnerPlanners
+pub mod InnerShapes

@@ -1,6 +1,6 @@
 //! Single bits of paths.
-ghost use Rattle.std.specs.Prelude.{◌≡◌, ◌+◌, ◌<◌, ◌≤◌, ◌++◌, false, length, drop, slice_index_or};
-ghost use Rattle.least_table.specs.InnerPieces.{shared};
+ghost use Rattle.std.specs.Prelude.{◌≡◌, ◌+◌, ◌<◌, ◌≤◌, ◌++◌, false, true, length, drop, slice_index_or};
+ghost use Rattle.least_table.specs.InnerPieces.{before, shared};
 
 use trie_core::Path;
 
@@ -13,18 +13,14 @@ pub(crate) fn bit(path: &Path, index: u8) -> bool
     path.to_bits() >> (127 - index) & 1 == 1
 }
 
-/// How many bits the two have in common from the bit `from` on, and `from`.
-pub(crate) fn common(path: &Path, other: &Path, from: u8) -> u8
-    requires from { from ≤ length path.now }
+/// How many bits two strings have in common, of which the first comes before the other and does not begin it.
+pub(crate) fn common(path: &Path, other: &Path) -> u8
+    requires before { before path.now other.now ≡ true }
     requires short { length path.now ≤ 128 }
     requires other_short { length other.now ≤ 128 }
-    ensures { result ≡ from + shared (drop from path.now) (drop from other.now) }
+    ensures { result ≡ shared path.now other.now }
 {
-    let mut len = from;
-    while len < path.len() && len < other.len() && bit(path, len) == bit(other, len) {
-        len += 1;
-    }
-    len
+    (path.to_bits() ^ other.to_bits()).leading_zeros() as u8
 }
 
 /// The path, and then the bits of the other after as many.

@@ -2,15 +2,13 @@
 #![tactic(auto)]
 
 mod bits;
-mod fewest;
 mod hops;
 mod kept_sets;
 pub mod laws;
-mod piece;
 mod plan;
+mod planner;
+mod routes;
 mod stack;
 
-pub use fewest::least;
-pub use piece::{Piece, Pieces, WideKey};
-pub use plan::Routes;
-pub use stack::Stack;
+pub use planner::Planner;
+pub use routes::Routes;

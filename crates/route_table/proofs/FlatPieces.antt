@@ -1,8 +1,9 @@
 -- The flat list of each family as disjoint bit strings with hops.
-use Rattle.std.proofs.Common.{◌≡◌, ℕ, inl, inr, ⊎_elim, Bool, true, false, cond, List, [], ◌∷◌, ◌++◌, length, map, filter, MatchOption, Option, Some, None, refl, sym, ap, ◌∙◌, subst, append-nil}
+use Rattle.std.proofs.Common.{◌≡◌, ℕ, inl, inr, ⊎_elim, Bool, true, false, cond, List, [], ◌∷◌, ◌++◌, length, map, filter, MatchOption, Option, Some, None, AllPairs, slice_index_or, refl, sym, ap, ◌∙◌, subst, append-nil, append_assoc, arith, length-append}
 use Rattle.std.specs.declared.cmp.Ordering.TheVariants.{Less}
 use Rattle.std.proofs.lemmas.Bool.{false_from_ne_true}
-use Rattle.ipnet_addr.specs.Addresses.{Family, Address, IsAddress, width, same_family}
+use Rattle.std.proofs.lemmas.List.{get_or_append_left}
+use Rattle.ipnet_addr.specs.Addresses.{Family, Ipv4, Ipv6, Address, IsAddress, width, same_family}
 use Rattle.ipnet_addr.proofs.Families.{family_from_test, test_from_family}
 use Rattle.ipnet_addr.proofs.Members.{In}
 use Rattle.ipnet_addr.proofs.Ascending.{Rising, Rising-from_pairs, pairs_from_Rising}
@@ -11,7 +12,11 @@ use Rattle.ipnet_blocks.specs.Blocks.{Block, IsBlock, HasAddress, bit_string, di
 use Rattle.ipnet_blocks.proofs.Maximals.{host_is_block, has_host, in_host}
 use Rattle.ipnet_blocks.proofs.Order.{order_of_strings}
 use Rattle.ipnet_blocks.proofs.Strings.{begins_from_inside, inside_from_begins}
-use Rattle.least_table.specs.Pieces.{hop_at}
+use Rattle.ipnet_blocks.specs.Networks.{Network, block_of}
+use Rattle.ipnet.specs.IpNets.{block}
+use Rattle.ipnet.specs.declared.ip_net.IpNet.{IpNet}
+use Rattle.ipnet.specs.declared.ip_net.IpNet.TheVariants.{V4, V6}
+use Rattle.least_table.specs.Pieces.{AreDisjoint, hop_at}
 use Rattle.trie_core.specs.Bits.{number_from}
 use Rattle.trie_core.proofs.Longer.{own_digits}
 use Rattle.trie_core.proofs.Numbers.{number_bound}
@@ -109,6 +114,34 @@ module _ (h : Address → Option ℕ) (ps : List Piece) (flat : IsFlat h ps) whe
       same = λ s e. ap (hop_at (pieces_of f ps)) (sym (bits_at f s e)) ∙ told (address_at f s) (number_bound (width f) s) refl;
     }
 
--- the strings that a walk over the flat list has gathered when nothing is left
-pub are_gathered : (f : Family) (h : Address → Option ℕ) (ps qs left : List Piece) (xs : List (List Bool × ℕ)) → IsFlat h ps → qs ≡ ps → left ≡ [] → xs ++ pieces_of f left ≡ pieces_of f qs → ArePieces f h xs
-are_gathered f h ps qs left xs flat same none e = subst (ArePieces f h) (ap (pieces_of f) (sym same) ∙ sym e ∙ ap (λ ls. xs ++ pieces_of f ls) none ∙ append-nil xs) (are_pieces h ps flat f)
+-- ---- the pieces of each family as the flat list is walked
+
+pub pieces_v4 : (left new : List Piece) (net : IpNet) (n : Network) (k : ℕ) → net ≡ V4 n → left ≡ record { block = block net; number = k } ∷ new
+    → (pieces_of Ipv4 left ≡ (bit_string (block_of Ipv4 n), k) ∷ pieces_of Ipv4 new) × (pieces_of Ipv6 left ≡ pieces_of Ipv6 new)
+pieces_v4 left new net n k e f =
+    let g : left ≡ record { block = block (V4 n); number = k } ∷ new = f ∙ ap (λ m. record { block = block m; number = k } ∷ new) e in
+    (ap (pieces_of Ipv4) g, ap (pieces_of Ipv6) g)
+
+pub pieces_v6 : (left new : List Piece) (net : IpNet) (n : Network) (k : ℕ) → net ≡ V6 n → left ≡ record { block = block net; number = k } ∷ new
+    → (pieces_of Ipv6 left ≡ (bit_string (block_of Ipv6 n), k) ∷ pieces_of Ipv6 new) × (pieces_of Ipv4 left ≡ pieces_of Ipv4 new)
+pieces_v6 left new net n k e f =
+    let g : left ≡ record { block = block (V6 n); number = k } ∷ new = f ∙ ap (λ m. record { block = block m; number = k } ∷ new) e in
+    (ap (pieces_of Ipv6) g, ap (pieces_of Ipv4) g)
+
+-- one piece more stands behind those that were taken
+pub one_more : {X : Type 0} (front left rest all : List X) (x : X) → front ++ left ≡ all → left ≡ x ∷ rest → (front ++ x ∷ []) ++ rest ≡ all
+one_more front left rest all x e f = append_assoc front (x ∷ []) rest ∙ ap (λ t. front ++ t) (sym f) ∙ e
+
+front_pairs : {X : Type 0} (R : X → X → Type 0) (xs ys : List X) → AllPairs R (xs ++ ys) → AllPairs R xs
+front_pairs R xs ys h = λ i j d l m.
+    subst (λ a. R a (slice_index_or xs j d)) (get_or_append_left xs ys d i (omega (arith, l, m)))
+    (subst (R (slice_index_or (xs ++ ys) i d)) (get_or_append_left xs ys d j m) (h i j d l (omega (arith, m, length-append xs ys))))
+
+-- those that were taken are disjoint
+pub still_disjoint : (f : Family) (h : Address → Option ℕ) (ps qs : List Piece) (front left rest : List (List Bool × ℕ)) (x : List Bool × ℕ) → IsFlat h ps → qs ≡ ps → front ++ left ≡ pieces_of f qs → left ≡ x ∷ rest → AreDisjoint (front ++ x ∷ [])
+still_disjoint f h ps qs front left rest x flat same e g =
+    front_pairs (λ p q. (bits_cmp p.0 q.0 ≡ Less) × (begins p.0 q.0 ≡ false)) (front ++ x ∷ []) rest (subst AreDisjoint (ap (pieces_of f) (sym same) ∙ sym (one_more front left rest (pieces_of f qs) x e g)) (are_pieces h ps flat f).disjoint)
+
+-- at the end all were taken
+pub all_taken : (f : Family) (ps qs left : List Piece) (front : List (List Bool × ℕ)) → qs ≡ ps → left ≡ [] → front ++ pieces_of f left ≡ pieces_of f qs → front ≡ pieces_of f ps
+all_taken f ps qs left front same none e = sym (append-nil front) ∙ ap (λ ls. front ++ pieces_of f ls) (sym none) ∙ e ∙ ap (pieces_of f) same

@@ -226,12 +226,13 @@ module _ (f : Family) {K : Type 0} (bits_in : K → List Bool) (of_bits : List B
         item : (u : IpNet × Hop) → In u (items_of f parts_in table) → (r : K × Option ℕ) × In r table × (u ≡ (net_in f (parts_in r.0), hop_from r.1))
         item u i = In-map (λ (r : K × Option ℕ). (net_in f (parts_in r.0), hop_from r.1)) table u i
 
-  pub result_is_least : (fits : K → Bool) (w : ℕ) → w ≡ width f → (ps : List (List Bool × ℕ)) {E : Type 0} (result : Result (List (K × Option ℕ)) E)
+  -- for all pieces of which this is said
+  pub results_are_least : (fits : K → Bool) (w : ℕ) → w ≡ width f → (Q : List (List Bool × ℕ) → Type 0) {E : Type 0} (result : Result (List (K × Option ℕ)) E)
       → IfOk result (λ table. All (λ r. IsTrue (fits r.0) × (r.0 ≡ of_bits (bits_in r.0)) × IfSome r.1 (λ n. n < 2 ^ 32)) table)
-      → IfOk result (λ table. AllPairs (λ r s. bits_cmp r.0 s.0 ≡ Less) (strings bits_in table)) → IfOk result (λ table. bits.IsLeast w (hop_at ps) (strings bits_in table))
-      → IfOk result (λ table. AreLeast f ps (items_of f parts_in table))
-  result_is_least fits w wide ps (Ok table) networks ordered least = are_least fits w wide ps table networks ordered least
-  result_is_least fits w wide ps (Err e) networks ordered least = tt
+      → IfOk result (λ table. AllPairs (λ r s. bits_cmp r.0 s.0 ≡ Less) (strings bits_in table)) → IfOk result (λ table. (ps : List (List Bool × ℕ)) → Q ps → bits.IsLeast w (hop_at ps) (strings bits_in table))
+      → IfOk result (λ table. (ps : List (List Bool × ℕ)) → Q ps → AreLeast f ps (items_of f parts_in table))
+  results_are_least fits w wide Q (Ok table) networks ordered least = λ ps q. are_least fits w wide ps table networks ordered (least ps q)
+  results_are_least fits w wide Q (Err e) networks ordered least = tt
 
 -- ---- both families
 

@@ -1,11 +1,13 @@
 -- Least tables of one family, as lists of bit strings.
-use Rattle.std.specs.Prelude.{◌≡◌, ℕ, Bool, List, All, Option, filter, length, map}
+use Rattle.std.specs.Prelude.{◌≡◌, ℕ, Bool, true, List, All, Option, filter, length, map}
 use Rattle.ipnet_addr.specs.Addresses.{Family, Ipv4, Ipv6, Address, width, same_family}
 use Rattle.ipnet_blocks.specs.Blocks.{bit_string}
-use Rattle.ipnet_blocks.specs.Networks.{Network, IsTruncated}
+use Rattle.ipnet_blocks.specs.Networks.{Network, IsTruncated, block_of}
 use Rattle.ipnet.specs.IpNets.{family, parts, net_in}
 use Rattle.ipnet.specs.declared.ip_net.IpNet.{IpNet}
+use Rattle.least_table.specs.InnerPlanners.{HasPlanned}
 use Rattle.least_table.specs.Pieces.{AreDisjoint, hop_at}
+use Rattle.least_table.specs.declared.planner.Planner.{Planner}
 use Rattle.least_table.specs.Tables as bits
 use Rattle.trie_core.specs.Bits.{number_from}
 use Rattle.route_choices.specs.Hops.{hop_from, number_of}
@@ -31,6 +33,10 @@ hops_of f h s = h (address_at f s)
 -- the pieces of one family, by their bits
 abbrev pub pieces_of : Family → List Piece → List (List Bool × ℕ)
 pieces_of f ps = map (λ p. (bit_string p.block, p.number)) (filter (λ p. same_family p.block.family f) ps)
+
+-- the pieces that a plan of one family has taken
+abbrev pub IsPlanned : Family → Planner Network → List (List Bool × ℕ) → Type 0
+IsPlanned f = HasPlanned (λ n. bit_string (block_of f n)) (λ n. true) (width f)
 
 -- disjoint pieces with the hops of a family's addresses
 pub record ArePieces (f : Family) (h : Address → Option ℕ) (ps : List (List Bool × ℕ)) : Type 0 where

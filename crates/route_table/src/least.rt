@@ -1,13 +1,13 @@
 //! The least table with the hops of a table.
-ghost use Rattle.std.specs.Prelude.{◌≡◌, ◌++◌, ℕ, All, IfErr, IfOk, Option};
+ghost use Rattle.std.specs.Prelude.{◌≡◌, ◌++◌, ℕ, All, Bool, IfErr, IfOk, List, Option};
 ghost use Rattle.std.specs.Iterator.{YieldsFirst, item_count};
 ghost use Rattle.ipnet_addr.specs.Addresses.{Address, Ipv4, Ipv6};
 ghost use Rattle.ipnet_blocks.specs.Networks.{IsTruncated};
 ghost use Rattle.ipnet.specs.IpNets.{family, parts};
-ghost use Rattle.least_table.specs.Pieces.{AreDisjoint};
+ghost use Rattle.least_table.specs.InnerPlanners.{HasPlanned};
 ghost use Rattle.prefix_trie.specs.declared.refused.Refused.TheVariants.{Memory};
 ghost use Rattle.route_choices.specs.Hops.{IsHop, hop_from};
-ghost use Rattle.route_table.specs.InnerLeast.{AreLeast, ArePieces, items_of};
+ghost use Rattle.route_table.specs.InnerLeast.{AreLeast, IsPlanned, items_of, pieces_of};
 ghost use Rattle.route_laws.specs.Flats.{IsFlat};
 ghost use Rattle.route_laws.specs.LeastTables.{IsLeast, routes_for};
 ghost use Rattle.route_laws.specs.Networks.{routes_of};
@@ -18,7 +18,7 @@ use crate::flat::Flat;
 use crate::hop_table::HopTable;
 use crate::table::RouteTable;
 use ipnet::{IpNet, Ipv4Net, Ipv6Net};
-use least_table::{Piece, Pieces, Routes, Stack, WideKey, least};
+use least_table::{Planner, Routes};
 use prefix_trie::{Key, Refused};
 use route_choices::Hop;
 use std::alloc::{AllocError, Global};
@@ -35,59 +35,12 @@ fn hop_of(number: Option<u32>) -> Hop
     }
 }
 
-/// The routes of a least table of one family that has the hops of these pieces.
-fn fewest<P: OfFamily, K: Key>(alloc: Global, pieces: Pieces<K>) -> Result<Routes<P>, AllocError>
-    requires width { K.width ≡ P.R.width }
-    requires disjoint { AreDisjoint pieces }
-    ensures { IfOk result (λ table. AreLeast P.family pieces (items_of P.family P.parts table)) }
-{
-    least(alloc, pieces)
-}
-
-/// The routes of one family, and how many of them were given.
-///
-/// Contracts see those that are left.
-#[derive(Drop)]
-struct Given<P> {
-    routes: Routes<P>,
-    given: usize,
-}
-
-impl<P> Model for Given<P> {
-    ghost use Rattle.std.specs.Prelude.{ℕ, List, Option, drop};
-
-    ghost Value = { List (P × Option ℕ) };
-
-    ghost view = { λ a. drop a.given a.routes };
-}
-
-impl<P: Copy> Given<P> {
-    /// None of the routes was given.
-    fn new(routes: Routes<P>) -> Given<P>
-        ensures { result ≡ routes }
-    {
-        Given { routes, given: 0 }
-    }
-
-    /// The first of those that are left.
-    fn next(&mut self) -> Option<(P, Option<u32>)>
-        ensures { YieldsFirst (λ rs. rs) self.old result self.new }
-    {
-        if self.given >= self.routes.len() {
-            return None;
-        }
-        let route = *self.routes.get(self.given);
-        self.given += 1;
-        Some(route)
-    }
-}
-
 /// The routes that are left of a least table, ascending: the network of each, without host bits, and its hop. A list of
 /// such pairs takes 64 bytes for each route; here one of IPv4 takes 16, and one of IPv6 48.
 #[derive(Drop)]
 pub struct LeastRoutes {
-    v4: Given<Ipv4Net>,
-    v6: Given<Ipv6Net>,
+    v4: Routes<Ipv4Net>,
+    v6: Routes<Ipv6Net>,
 }
 
 impl Model for LeastRoutes {
@@ -107,10 +60,7 @@ impl LeastRoutes {
     fn new(v4: Routes<Ipv4Net>, v6: Routes<Ipv6Net>) -> LeastRoutes
         ensures { result ≡ items_of Ipv4 (λ n. n) v4 ++ items_of Ipv6 (λ n. n) v6 }
     {
-        LeastRoutes {
-            v4: Given::new(v4),
-            v6: Given::new(v6),
-        }
+        LeastRoutes { v4, v6 }
     }
 
     /// The same as a list.
@@ -141,17 +91,26 @@ impl Iterator for LeastRoutes {
     }
 }
 
-/// The flat list, by family.
-fn pieces(alloc: Global, flat: Flat<'_>) -> Result<(Pieces<u32>, Pieces<WideKey>), AllocError>
-    ensures ipv4 { IfOk result (λ p. (h : Address → Option ℕ) → IsFlat h flat.entry → ArePieces Ipv4 h p.0) }
-    ensures ipv6 { IfOk result (λ p. (h : Address → Option ℕ) → IsFlat h flat.entry → ArePieces Ipv6 h p.1) }
+/// The routes of a least table of one family that has the hops of the pieces that were planned.
+fn fewest<P: OfFamily>(plan: Planner<P>) -> Result<Routes<P>, AllocError>
+    requires { (ps : List (List Bool × ℕ)) × HasPlanned P.bits P.fits P.R.width plan ps }
+    ensures { IfOk result (λ table. (ps : List (List Bool × ℕ)) → HasPlanned P.bits P.fits P.R.width plan ps → AreLeast P.family ps (items_of P.family P.parts table)) }
 {
-    let mut v4 = Stack::new(alloc);
-    let mut v6 = Stack::new(alloc);
+    plan.into_routes()
+}
+
+/// Plans of the flat list, by family.
+fn plans(alloc: Global, flat: Flat<'_>) -> Result<(Planner<Ipv4Net>, Planner<Ipv6Net>), AllocError>
+    requires { (h : Address → Option ℕ) × IsFlat h flat }
+    ensures ipv4 { IfOk result (λ p. IsPlanned Ipv4 p.0 (pieces_of Ipv4 flat.entry)) }
+    ensures ipv6 { IfOk result (λ p. IsPlanned Ipv6 p.1 (pieces_of Ipv6 flat.entry)) }
+{
+    let mut v4 = Planner::new(alloc);
+    let mut v6 = Planner::new(alloc);
     for (net, number) in flat {
         match net {
-            IpNet::V4(net) => v4.push(Piece::new(&net, number))?,
-            IpNet::V6(net) => v6.push(Piece::new(&net, number))?,
+            IpNet::V4(net) => v4.push(&net, number)?,
+            IpNet::V6(net) => v6.push(&net, number)?,
         }
     }
     Ok((v4, v6))
@@ -164,9 +123,9 @@ fn least_routes(alloc: Global, flat: Flat<'_>) -> Result<LeastRoutes, Refused>
     ensures truncated { IfOk result (λ routes. All (λ r. IsTruncated (family r.0) (parts r.0)) routes) }
     ensures memory { IfErr result (λ e. e ≡ Memory) }
 {
-    let (v4, v6) = pieces(alloc, flat)?;
-    let ipv4 = fewest(alloc, v4)?;
-    let ipv6 = fewest(alloc, v6)?;
+    let (v4, v6) = plans(alloc, flat)?;
+    let ipv4 = fewest(v4)?;
+    let ipv6 = fewest(v6)?;
     Ok(LeastRoutes::new(ipv4, ipv6))
 }
 

@@ -61,7 +61,7 @@ pub(crate) fn least_count_is(rt: &impl Abort, table: &RouteTable, wanted: usize)
 }
 
 /// Routes, and the least table of one of them; and tables of both families, and how many routes the least ones have.
-static LEAST: [Script; 11] = [
+static LEAST: [Script; 14] = [
     (
         "a route inside another",
         "10.0.0.0/8 1, 10.0.0.0/9 2, 10.64.0.0/10 1",
@@ -99,6 +99,22 @@ static LEAST: [Script; 11] = [
         &[Least("0.0.0.0/0 1, 10.0.0.0/8 drop, 10.1.0.0/16 1, 8000::/1 2")],
     ),
     ("nothing in an empty table", "", &[Least("")]),
+    // Halves without hops, of one level and of several, beside a half with one hop and one with two.
+    (
+        "halves without hops",
+        "0.0.0.0/2 1, 96.0.0.0/3 1, 144.0.0.0/4 2, 224.0.0.0/5 3, 232.0.0.0/5 4",
+        &[Least("0.0.0.0/1 1, 64.0.0.0/3 drop, 144.0.0.0/4 2, 224.0.0.0/4 3, 232.0.0.0/5 4")],
+    ),
+    (
+        "a wide route and one inside",
+        "2001:db8::/34 2, 2001:db8:4000::/34 1, 2001:db8:8000::/33 1",
+        &[Least("2001:db8::/32 1, 2001:db8::/34 2")],
+    ),
+    (
+        "two hosts at the ends of all addresses",
+        "::/128 7, ffff:ffff:ffff:ffff:ffff:ffff:ffff:ffff/128 7",
+        &[Least("::/128 7, ffff:ffff:ffff:ffff:ffff:ffff:ffff:ffff/128 7")],
+    ),
     (
         "one inside another",
         "10.0.0.0/8 1, 10.0.0.0/9 2, 10.64.0.0/10 1, 2001:db8::/33 7, 2001:db8:8000::/33 8, 2001:db8:8000::/34 7",

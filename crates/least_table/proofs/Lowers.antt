@@ -1,0 +1,249 @@
+-- Lower halves that wait for their upper ones.
+use Rattle.std.proofs.Common.{◌≡◌, ℕ, zero, suc, ◌+◌, ◌-◌, ◌≤◌, ◌<◌, Bool, true, false, List, [], ◌∷◌, ◌++◌, length, take, drop, reverse, slice_index_or, Option, Some, None, refl, sym, ap, ap₂, ◌∙◌, subst, arith, append_assoc, append-nil, add-one, drop_of_length-le, length-append, MatchOption}
+use Rattle.std.proofs.lemmas.List.{drop-append-le, length-take-le, map-id, reverse-append, take-append-le, take_all}
+use Rattle.ipnet_blocks.specs.BitStrings.{begins}
+use Rattle.ipnet_blocks.proofs.BitStrings.{take_begins}
+use Rattle.least_table.specs.HopSets.{AreMerged}
+use Rattle.least_table.specs.InnerPacked.{Joins, AreWhole, best_at, steps_in}
+use Rattle.least_table.specs.InnerPieces.{AllBegin, AllShare, IsAscending, before, beyond, shared}
+use Rattle.least_table.specs.InnerPlanners.{Plans, EndAt, HasPlanned, IsLower, AreLowers, ArePlanned, IsInside}
+use Rattle.least_table.specs.Pieces.{AreDisjoint, hop_at, strings}
+use Rattle.least_table.specs.InnerPlans.{Ends, Plan, IsMade, IsPlanOf, Stores, steps_of, top, tree_of}
+use Rattle.least_table.specs.InnerPlans as plans
+use Rattle.least_table.specs.InnerSteps.{Step, step_best}
+use Rattle.least_table.specs.InnerSteps as steps
+use Rattle.least_table.specs.declared.plan.Steps.{Steps}
+use Rattle.least_table.specs.declared.planner.Lower.{Lower}
+use Rattle.least_table.specs.declared.planner.Planner.{Planner}
+use Rattle.least_table.specs.Trees.{IsPlan, routes_of, within}
+use Rattle.least_table.specs.Trees as trees
+use Rattle.least_table.proofs.Builds.{fits_plan, fork_made}
+use Rattle.least_table.proofs.Disjoint.{ascending_from}
+use Rattle.least_table.proofs.Gathers.{AllBegin-next, AllShare-less, begins_drop, best_last}
+use Rattle.least_table.proofs.Stores.{within-whole}
+use Rattle.least_table.proofs.Tops.{read_top, top_last, below}
+
+-- ---- strings
+
+begins_front : (u v s : List Bool) → begins (u ++ v) s ≡ true → begins u s ≡ true
+begins_front [] v s e = refl
+begins_front (x ∷ u) v [] e = cc
+begins_front (true ∷ u) v (true ∷ s) e = begins_front u v s e
+begins_front (false ∷ u) v (false ∷ s) e = begins_front u v s e
+begins_front (true ∷ u) v (false ∷ s) e = cc
+begins_front (false ∷ u) v (true ∷ s) e = cc
+
+AllShare-front : (u v : List Bool) (ps : List (List Bool × ℕ)) → AllShare (u ++ v) ps → AllShare u ps
+AllShare-front u v [] h = tt
+AllShare-front u v (p ∷ ps) h = (begins_front u v p.0 h.0, AllShare-front u v ps h.1)
+
+AllShare-append : (u : List Bool) (ps qs : List (List Bool × ℕ)) → AllShare u ps → AllShare u qs → AllShare u (ps ++ qs)
+AllShare-append u [] qs h k = k
+AllShare-append u (p ∷ ps) qs h k = (h.0, AllShare-append u ps qs h.1 k)
+
+AllBegin-behind : (d : ℕ) (a : List Bool) (b : Bool) (ps : List (List Bool × ℕ)) → d ≤ length a → AllShare (take d a ++ b ∷ []) ps → AllBegin b (beyond d ps)
+AllBegin-behind d a b [] l h = tt
+AllBegin-behind d a b (p ∷ ps) l h = (subst (λ u. begins u (drop d p.0) ≡ true) behind (begins_drop d (take d a ++ b ∷ []) p.0 h.0), AllBegin-behind d a b ps l h.1)
+  where
+    behind : drop d (take d a ++ b ∷ []) ≡ b ∷ []
+    behind = drop-append-le d (take d a) (b ∷ []) (omega (arith, length-take-le d a l)) ∙ ap (λ t. t ++ b ∷ []) (drop_of_length-le (take d a) {i = d} (omega (arith, length-take-le d a l)))
+
+-- strings with the same first bits
+bit_agrees : (i d : ℕ) (a z : List Bool) → i < d → take d a ≡ take d z → slice_index_or a i false ≡ slice_index_or z i false
+bit_agrees i zero a z l e = absurd (omega (arith, l))
+bit_agrees i (suc d) [] [] l e = refl
+bit_agrees i (suc d) [] (y ∷ z) l e = cc
+bit_agrees i (suc d) (x ∷ a) [] l e = cc
+bit_agrees zero (suc d) (x ∷ a) (y ∷ z) l e = let f : x ≡ y = cc in f
+bit_agrees (suc i) (suc d) (x ∷ a) (y ∷ z) l e = let f : take d a ≡ take d z = cc in bit_agrees i d a z (omega (arith, l)) f
+
+take_agrees : (i d : ℕ) (a z : List Bool) → i ≤ d → take d a ≡ take d z → take i a ≡ take i z
+take_agrees zero d a z l e = refl
+take_agrees (suc i) zero a z l e = absurd (omega (arith, l))
+take_agrees (suc i) (suc d) [] [] l e = refl
+take_agrees (suc i) (suc d) [] (y ∷ z) l e = cc
+take_agrees (suc i) (suc d) (x ∷ a) [] l e = cc
+take_agrees (suc i) (suc d) (x ∷ a) (y ∷ z) l e =
+    let f : x ≡ y = cc in
+    let g : take d a ≡ take d z = cc in
+    ap₂ (λ u v. u ∷ v) f (take_agrees i d a z (omega (arith, l)) g)
+
+-- where two strings part
+pub record Parts (a z : List Bool) (n : ℕ) : Type 0 where
+  pub short : n < length a
+  pub other : n < length z
+  pub same : take n a ≡ take n z
+  pub next : take (suc n) a ≡ take n z ++ false ∷ []
+  pub low : slice_index_or a n false ≡ false
+  pub high : slice_index_or z n false ≡ true
+
+pub parts : (a z : List Bool) → before a z ≡ true → Parts a z (shared a z)
+parts [] z e = cc
+parts (x ∷ a) [] e = cc
+parts (false ∷ a) (true ∷ z) e = record { short = omega arith; other = omega arith; same = refl; next = refl; low = refl; high = refl }
+parts (true ∷ a) (false ∷ z) e = cc
+parts (true ∷ a) (true ∷ z) e = let h = parts a z e in record { short = omega (arith, h.short); other = omega (arith, h.other); same = ap (λ t. true ∷ t) h.same; next = ap (λ t. true ∷ t) h.next; low = h.low; high = h.high }
+parts (false ∷ a) (false ∷ z) e = let h = parts a z e in record { short = omega (arith, h.short); other = omega (arith, h.other); same = ap (λ t. false ∷ t) h.same; next = ap (λ t. false ∷ t) h.next; low = h.low; high = h.high }
+
+-- the last piece comes before the next one
+pub last_before : (ps : List (List Bool × ℕ)) (p q : List Bool × ℕ) → IsAscending ((ps ++ p ∷ []) ++ q ∷ []) → before p.0 q.0 ≡ true
+last_before [] p q h = h.0.0
+last_before (x ∷ ps) p q h = last_before ps p q h.1
+
+module _ {B : Type 0} (string : B → List Bool) (fits : B → Bool) (w : ℕ) where
+  -- ---- a lower half is joined with the upper one
+
+  module _ (a : List Bool) (o : Lower) (ps qs : List (List Bool × ℕ)) (xs : List (Step B)) (mid : Steps B) (l : IsLower string fits w a o ps xs) (h : Plans string fits w a (o.depth + 1) qs xs mid) where
+    pub lower_place : o.at < length (steps_in mid)
+    lower_place = omega (arith, l.at, ap length h.steps ∙ length-append xs (steps_of h.plan), ap length (top_last h.plan), length-append (below h.plan) (top h.plan ∷ []))
+
+    pub lower_best : best_at mid o.at ≡ step_best (top l.plan)
+    lower_best = let i : o.at ≡ suc o.at - 1 = omega arith in ap (best_at mid) i ∙ read_top l.plan l.before xs (steps_of h.plan) (steps_in mid) l.steps h.steps (suc o.at) l.at
+
+    pub upper_best : best_at mid (length (steps_in mid) - 1) ≡ step_best (top h.plan)
+    upper_best = best_last string fits w a (o.depth + 1) qs xs mid h
+
+    module _ (new : Steps B) (inside : o.depth < length a) (fit : length a ≤ w) (joins : Joins mid new (best_at mid o.at) (best_at mid (length (steps_in mid) - 1))) where
+      front : take (length l.pieces) (l.pieces ++ qs) ≡ l.pieces
+      front = take-append-le (length l.pieces) l.pieces qs (omega arith) ∙ take_all (length l.pieces) l.pieces (omega arith)
+
+      back : drop (length l.pieces) (l.pieces ++ qs) ≡ qs
+      back = drop-append-le (length l.pieces) l.pieces qs (omega arith) ∙ ap (λ t. t ++ qs) (drop_of_length-le l.pieces {i = length l.pieces} (omega arith))
+
+      merged : AreMerged (step_best (top l.plan)) (step_best (top h.plan)) joins.hops
+      merged = subst (λ ks. AreMerged ks (step_best (top h.plan)) joins.hops) lower_best (subst (λ ks. AreMerged (best_at mid o.at) ks joins.hops) upper_best joins.merged)
+
+      pub joined : Plans string fits w a o.depth (l.pieces ++ qs) l.before new
+      joined = record {
+        plan = plans.Fork joins.hops l.plan h.plan;
+        steps = joins.adds.steps ∙ ap (λ t. t ++ steps.Fork joins.hops ∷ []) (h.steps ∙ ap (λ t. t ++ steps_of h.plan) l.steps ∙ append_assoc l.before (steps_of l.plan) (steps_of h.plan))
+            ∙ append_assoc l.before (steps_of l.plan ++ steps_of h.plan) (steps.Fork joins.hops ∷ []);
+        is = record {
+          made = fork_made string fits w o.depth (length l.pieces) (l.pieces ++ qs) l.pieces qs joins.hops l.plan h.plan (omega (arith, inside, fit))
+              (subst (λ rs. AllBegin false (beyond o.depth rs)) (sym front) (AllBegin-behind o.depth a false l.pieces (omega (arith, inside)) l.is.inside))
+              (subst (λ rs. AllBegin true (beyond o.depth rs)) (sym back) (AllBegin-next o.depth a true qs inside l.upper (subst (λ n. AllShare (take n a) qs) (add-one o.depth) h.is.inside)))
+              merged joins.rising (sym front) (sym back) (subst (λ n. IsMade string fits w n l.pieces l.plan) (sym (add-one o.depth)) l.is.made) h.is.made;
+          inside = AllShare-append (take o.depth a) l.pieces qs (AllShare-front (take o.depth a) (false ∷ []) l.pieces l.is.inside) (AllShare-less o.depth (o.depth + 1) a qs (omega arith) h.is.inside);
+        };
+        whole = joins.adds.whole;
+      }
+
+  -- ---- the lower halves
+
+  pub fewer : (d e : ℕ) (os : List Lower) (a : List Bool) (ps : List (List Bool × ℕ)) (xs : List (Step B)) → AreLowers string fits w os a d ps xs → IsInside e os → AreLowers string fits w os a e ps xs
+  fewer d e [] a ps xs h i = h
+  fewer d e (o ∷ os) a ps xs h i = (i, h.1, h.2)
+
+  -- the innermost one, and the others
+  pub opened : (a : List Bool) (d e : ℕ) (ps : List (List Bool × ℕ)) (all front : List Lower) (o : Lower) (s : Steps B) (h : ArePlanned string fits w a d e ps all s) → all ≡ front ++ o ∷ []
+      → (o.depth < e) × (l : IsLower string fits w a o h.others h.before) × AreLowers string fits w (reverse front) a o.depth l.others l.before
+  opened a d e ps all front o s h i = subst (λ us. AreLowers string fits w us a e h.others h.before) (ap reverse i ∙ reverse-append front (o ∷ [])) h.lower
+
+  -- those of one string are those of another with the same first bits
+  pub of_other : (d n : ℕ) (os : List Lower) (a z : List Bool) (ps : List (List Bool × ℕ)) (xs : List (Step B)) → d ≤ n → take n a ≡ take n z → AreLowers string fits w os a d ps xs → AreLowers string fits w os z d ps xs
+  of_other d n [] a z ps xs l e h = h
+  of_other d n (o ∷ os) a z ps xs l e h =
+      let t = take_agrees o.depth n a z (omega (arith, l, h.0)) e in (
+        h.0,
+        record {
+          plan = h.1.plan;
+          pieces = h.1.pieces;
+          others = h.1.others;
+          before = h.1.before;
+          all = h.1.all;
+          steps = h.1.steps;
+          is = subst (λ u. IsPlanOf string fits w (suc o.depth) (u ++ false ∷ []) h.1.pieces h.1.plan) t h.1.is;
+          upper = sym (bit_agrees o.depth n a z (omega (arith, l, h.0)) e) ∙ h.1.upper;
+          at = h.1.at;
+        },
+        of_other o.depth n os a z h.1.others h.1.before (omega (arith, l, h.0)) e h.2,
+      )
+
+  -- none is that of a block whose upper half has not the string
+  pub not_here : (n : ℕ) (os : List Lower) (a : List Bool) (ps : List (List Bool × ℕ)) (xs : List (Step B)) → slice_index_or a n false ≡ false → AreLowers string fits w os a (n + 1) ps xs → AreLowers string fits w os a n ps xs
+  not_here n [] a ps xs e h = h
+  not_here n (o ∷ os) a ps xs e h = (lt_of_ne (λ i. let z = sym (ap (λ m. slice_index_or a m false) i ∙ e) ∙ h.1.upper in cc), h.1, h.2)
+    where
+      lt_of_ne : (o.depth ≡ n → ⊥) → o.depth < n
+      lt_of_ne f = omega (arith, f, h.0)
+
+  -- a plan has steps
+  pub some_step : (a : List Bool) (d : ℕ) (ps : List (List Bool × ℕ)) (xs : List (Step B)) (s : Steps B) → Plans string fits w a d ps xs s → 0 < length (steps_in s)
+  some_step a d ps xs s h = omega (arith, ap length h.steps ∙ length-append xs (steps_of h.plan), ap length (top_last h.plan), length-append (below h.plan) (top h.plan ∷ []))
+
+  -- the one that the last piece lies in, where the next one lies in the upper half
+  pub turned : (a z : List Bool) (n at : ℕ) (os : List Lower) (ps : List (List Bool × ℕ)) (s : Steps B) → Parts a z n → suc at ≡ length (steps_in s) → ArePlanned string fits w a (n + 1) (n + 1) ps os s
+      → AreLowers string fits w (reverse (os ++ record { depth = n; at = at } ∷ [])) z (length z) ps (steps_in s)
+  turned a z n at os ps s p i h = subst (λ us. AreLowers string fits w us z (length z) ps (steps_in s)) (sym (reverse-append os (record { depth = n; at = at } ∷ []))) (
+    p.other,
+    record {
+      plan = h.plans.plan;
+      pieces = h.pieces;
+      others = h.others;
+      before = h.before;
+      all = h.all;
+      steps = h.plans.steps;
+      is = subst (λ u. IsPlanOf string fits w (suc n) u h.pieces h.plans.plan) p.next (subst (λ m. IsPlanOf string fits w m (take m a) h.pieces h.plans.plan) (add-one n) h.plans.is);
+      upper = p.high;
+      at = i;
+    },
+    of_other n n (reverse os) a z h.others h.before (omega arith) p.same (not_here n (reverse os) a h.others h.before p.low h.lower),
+  )
+
+  -- ---- a piece is added
+
+  -- all addresses of its block have its hop
+  piece_plan : (z : List Bool) (hop : ℕ) → IsPlan (w - length z) (hop_at (beyond (length z) ((z, hop) ∷ []))) (trees.Leaf (Some hop))
+  piece_plan z hop x l = rw (drop_of_length-le z {i = length z} (omega arith)) refl
+
+  pub piece_planned : (z : List Bool) (hop : ℕ) (xs : List (Step B)) (new : Steps B) → steps_in new ≡ xs ++ steps.Leaf (Some hop) ∷ [] → AreWhole new → Plans string fits w z (length z) ((z, hop) ∷ []) xs new
+  piece_planned z hop xs new e whole = record {
+    plan = plans.Leaf (Some hop);
+    steps = e;
+    is = record {
+      made = record { plans = piece_plan z hop; rising = (tt, tt); fit = tt };
+      inside = (take_begins (length z) z, tt);
+    };
+    whole = whole;
+  }
+
+  -- before the first piece
+  pub nothing_yet : (os : List Lower) (z : List Bool) (d : ℕ) (ps : List (List Bool × ℕ)) (s : Steps B) → ps ≡ [] → os ≡ [] → steps_in s ≡ [] → AreLowers string fits w (reverse os) z d ps (steps_in s)
+  nothing_yet os z d ps s e f g = subst (λ us. AreLowers string fits w (reverse us) z d ps (steps_in s)) (sym f) (e, g)
+
+  -- what has come, by the last piece
+  pub some_planned : (p : Planner B) (a : List Bool) (ps : List (List Bool × ℕ)) → p.last ≡ Some a → HasPlanned string fits w p ps → EndAt string fits w a ps p.lowers.items p.steps
+  some_planned p a ps e h = subst (λ o. MatchOption o ((ps ≡ []) × (p.lowers.items ≡ []) × (steps_in p.steps ≡ []) × AreWhole p.steps) (λ b. EndAt string fits w b ps p.lowers.items p.steps)) e h
+
+  pub none_planned : (p : Planner B) (ps : List (List Bool × ℕ)) → p.last ≡ None → HasPlanned string fits w p ps → (ps ≡ []) × (p.lowers.items ≡ []) × (steps_in p.steps ≡ []) × AreWhole p.steps
+  none_planned p ps e h = subst (λ o. MatchOption o ((ps ≡ []) × (p.lowers.items ≡ []) × (steps_in p.steps ≡ []) × AreWhole p.steps) (λ b. EndAt string fits w b ps p.lowers.items p.steps)) e h
+
+  pub ends_before : (a z : List Bool) (k : ℕ) (ps : List (List Bool × ℕ)) (os : List Lower) (s : Steps B) → EndAt string fits w a ps os s → AreDisjoint (ps ++ (z, k) ∷ []) → before a z ≡ true
+  ends_before a z k ps os s h d = last_before h.others (a, h.hop) (z, k) (ascending_from _ (subst (λ qs. AreDisjoint (qs ++ (z, k) ∷ [])) h.last d))
+
+  -- ---- the plan of all addresses
+
+  pub record IsWhole (ps : List (List Bool × ℕ)) (s : Steps B) : Type 0 where
+    pub plan : Plan B
+    pub plans : IsPlan w (hop_at ps) (tree_of string 0 plan)
+    pub ends : Ends string fits w 0 [] plan s
+
+  pub whole_plan : (a : List Bool) (ps : List (List Bool × ℕ)) (os : List Lower) (s : Steps B) → ArePlanned string fits w a 0 0 ps os s → IsWhole ps s
+  whole_plan a ps os s h = go (reverse os) h.lower
+    where
+      go : (us : List Lower) → AreLowers string fits w us a 0 h.others h.before → IsWhole ps s
+      go (o ∷ us) l = absurd (omega (arith, l.0))
+      go [] l =
+          let all : h.pieces ≡ ps = sym (h.all ∙ ap (λ t. t ++ h.pieces) l.0) in
+          let z : w - 0 ≡ w = omega arith in
+          let made = subst (λ qs. IsPlan (w - 0) (hop_at qs) (tree_of string 0 h.plans.plan)) (map-id h.pieces ∙ all) h.plans.is.made.plans in
+          record {
+            plan = h.plans.plan;
+            plans = subst (λ n. IsPlan n (hop_at ps) (tree_of string 0 h.plans.plan)) z made;
+            ends = record { steps = h.plans.steps ∙ ap (λ t. t ++ steps_of h.plans.plan) l.1; whole = h.plans.whole; room = fits_plan (w - 0) (hop_at ps) (tree_of string 0 h.plans.plan) made; fit = h.plans.is.made.fit };
+          }
+
+  -- its routes are those that it stores, and no others
+  pub whole_routes : (q : List Bool) (p : Plan B) (old new : List (B × Option ℕ)) (before after : Steps B) → q ≡ [] → old ≡ [] → Stores string q None [] p old new before after → strings string new ≡ routes_of (tree_of string 0 p) None
+  whole_routes q p old new before after e f h =
+      h.routes ∙ ap₂ (λ u t. within u (routes_of (tree_of string (length u) p) None) ++ strings string t) e f ∙ append-nil (within [] (routes_of (tree_of string 0 p) None)) ∙ within-whole (routes_of (tree_of string 0 p) None)

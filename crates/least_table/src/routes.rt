@@ -1,0 +1,87 @@
+//! The routes of a least table.
+ghost use Rattle.std.specs.Prelude.{◌≡◌, ◌≤◌, ◌++◌, ◌∷◌, [], None, cond, length, OnOk};
+ghost use Rattle.std.specs.Iterator.{YieldsFirst};
+ghost use Rattle.least_table.specs.HopSets.{same_hop};
+ghost use Rattle.least_table.specs.InnerSteps.{AreNetworks};
+ghost use Rattle.least_table.specs.Pieces.{strings};
+
+use crate::stack::Stack;
+use prefix_trie::{Prefix, prefix_of};
+use std::alloc::{AllocError, Global};
+use std::marker::Model;
+use trie_core::Path;
+
+/// The routes of a table, ascending, each with its hop; `None` is `drop`. They are made from the last to the first, and given from the
+/// first to the last, when the memory of those that were given is given back.
+///
+/// Contracts see those that are left.
+#[derive(Drop)]
+pub struct Routes<P> {
+    stack: Stack<(P, Option<u32>), 16>,
+}
+
+impl<P> Model for Routes<P> {
+    ghost use Rattle.std.specs.Prelude.{ℕ, List, Option, reverse};
+
+    ghost Value = { List (P × Option ℕ) };
+
+    ghost view = { λ a. reverse a.stack };
+}
+
+impl<P: Copy> Routes<P> {
+    /// No routes. It takes no memory.
+    pub(crate) fn new(alloc: Global) -> Routes<P>
+        ensures { result ≡ [] }
+    {
+        Routes {
+            stack: Stack::new(alloc),
+        }
+    }
+
+    /// The first of those that are left.
+    pub fn next(&mut self) -> Option<(P, Option<u32>)>
+        ensures { YieldsFirst (λ rs. rs) self.old result self.new }
+    {
+        self.stack.pop()
+    }
+}
+
+impl<P: Prefix + Copy> Routes<P> {
+    /// Adds a route of the block at `path` before the others.
+    pub(crate) fn add(&mut self, path: &Path, hop: Option<u32>) -> Result<(), AllocError>
+        requires { length path.now ≤ P.R.width }
+        ensures routes { OnOk result (strings P.bits self.new ≡ (path.now, hop) ∷ strings P.bits self.old) }
+        ensures networks { OnOk result (AreNetworks P.fits P.of_bits P.bits self.old → AreNetworks P.fits P.of_bits P.bits self.new) }
+    {
+        self.stack.push((prefix_of(path), hop))
+    }
+
+    /// The same, if the block needs a route.
+    pub(crate) fn add_own(
+        &mut self,
+        path: &Path,
+        hop: Option<u32>,
+        is_new: bool,
+    ) -> Result<(), AllocError>
+        requires { length path.now ≤ P.R.width }
+        ensures routes { OnOk result (strings P.bits self.new ≡ cond is_new ((path.now, hop) ∷ []) [] ++ strings P.bits self.old) }
+        ensures networks { OnOk result (AreNetworks P.fits P.of_bits P.bits self.old → AreNetworks P.fits P.of_bits P.bits self.new) }
+    {
+        if is_new {
+            self.add(path, hop)?;
+        }
+        Ok(())
+    }
+
+    /// Adds a route with `drop` of the block at `path` before the others, if a hop is handed down to it.
+    pub(crate) fn add_gap(&mut self, path: &Path, handed: Option<u32>) -> Result<(), AllocError>
+        requires { length path.now ≤ P.R.width }
+        ensures routes { OnOk result (strings P.bits self.new ≡ cond (same_hop handed None) [] ((path.now, None) ∷ []) ++ strings P.bits self.old) }
+        ensures networks { OnOk result (AreNetworks P.fits P.of_bits P.bits self.old → AreNetworks P.fits P.of_bits P.bits self.new) }
+    {
+        match handed {
+            Some(_) => self.add(path, None),
+            None => Ok(()),
+        }
+    }
+}
