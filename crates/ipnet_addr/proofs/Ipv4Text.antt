@@ -111,16 +111,34 @@ no_dot (d ∷ ds) rest [] more all stop other digits e =
 no_dot (d ∷ ds) rest (c ∷ es) more all stop other digits e =
     no_dot ds rest es more all.1 stop other digits.1 (ap (λ t. drop 1 t) e)
 
--- hex digits that no dot follows are no IPv4 address
-pub read_ipv4_none : (ds rest : List ℕ) → AllDigits 16 ds → NoDigit 16 rest → get_or rest 0 0 ≢ 46 → read_ipv4 (ds ++ rest) ≡ None
-read_ipv4_none ds rest all stop other = go (read_ipv4 (ds ++ rest)) refl
+-- a text that doesn't begin with an octet and a dot begins with no IPv4 address
+read_ipv4_unled : (text : List ℕ) → ((a more : List ℕ) (n : ℕ) → text ≡ a ++ 46 ∷ more → IsShort 10 3 255 a n → ⊥) → read_ipv4 text ≡ None
+read_ipv4_unled text led = go (read_ipv4 text) refl
   where
-    go : (r : _) → read_ipv4 (ds ++ rest) ≡ r → read_ipv4 (ds ++ rest) ≡ None
+    go : (r : _) → read_ipv4 text ≡ r → read_ipv4 text ≡ None
     go None e = e
     go (Some p) e =
         let (front, split, h) = read_ipv4_sound _ p.0 p.1 e in
         let shown = split ∙ ap (λ t. t ++ p.1) h.spelled ∙ dotted h.a_text h.b_text h.c_text h.d_text p.1 in
-        absurd (no_dot ds rest _ _ all stop other h.is_a.number.0.1 shown)
+        absurd (led h.a_text _ h.a shown h.is_a)
+
+-- hex digits that no dot follows are no IPv4 address
+pub read_ipv4_none : (ds rest : List ℕ) → AllDigits 16 ds → NoDigit 16 rest → get_or rest 0 0 ≢ 46 → read_ipv4 (ds ++ rest) ≡ None
+read_ipv4_none ds rest all stop other =
+    read_ipv4_unled (ds ++ rest) λ a more n shown is_a. no_dot ds rest a more all stop other is_a.number.0.1 shown
+
+-- a dot behind one to three bytes is at one of these places
+dot_at : (text a more : List ℕ) → text ≡ a ++ 46 ∷ more → 0 < length a → length a ≤ 3 → get_or text 1 0 ≢ 46 → get_or text 2 0 ≢ 46 → get_or text 3 0 ≢ 46 → ⊥
+dot_at text [] more e some few one two three = absurd (omega arith)
+dot_at text (x ∷ []) more e some few one two three = one (ap (λ t. get_or t 1 0) e)
+dot_at text (x ∷ y ∷ []) more e some few one two three = two (ap (λ t. get_or t 2 0) e)
+dot_at text (x ∷ y ∷ z ∷ []) more e some few one two three = three (ap (λ t. get_or t 3 0) e)
+dot_at text (x ∷ y ∷ z ∷ w ∷ a) more e some few one two three = absurd (omega arith)
+
+-- nor are bytes with no dot at one of them
+pub read_ipv4_undotted : (text : List ℕ) → get_or text 1 0 ≢ 46 → get_or text 2 0 ≢ 46 → get_or text 3 0 ≢ 46 → read_ipv4 text ≡ None
+read_ipv4_undotted text one two three =
+    read_ipv4_unled text λ a more n shown is_a. dot_at text a more shown (omega (arith, is_a.number.0.0)) is_a.short one two three
 
 -- a decimal is a short number
 pub decimal_short : (digits max n : ℕ) → n ≤ max → n < 10 ^ digits → 0 < digits → n < 2 ^ 64 → IsShort 10 digits max (decimal n) n

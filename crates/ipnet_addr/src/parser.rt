@@ -1,6 +1,6 @@
 //! Readers of the parts of a text. Each reads at the front of a slice, and answers the value and the rest.
 //! For the crates above; not part of the promise.
-ghost use Rattle.std.specs.Prelude.{◌≡◌, ◌<◌, ◌≤◌, true, length, take, drop, IfSome, option_copied};
+ghost use Rattle.std.specs.Prelude.{◌≡◌, ◌<◌, ◌≤◌, true, false, length, take, drop, None, IfSome, option_copied};
 ghost use Rattle.std.specs.Net.Addr.{ipv4_octets, ipv6_segments, segments_of};
 ghost use Rattle.std.specs.Net.Reader as Std;
 ghost use Rattle.ipnet_addr.specs.AddressReader as Reader;
@@ -62,9 +62,20 @@ fn read_octet(s: &[u8]) -> Option<(u8, &[u8])>
     Some((value as u8, rest))
 }
 
-/// An IPv4 address: four octets with dots between them, leading zeros allowed.
+// Whether a dot stands where one may end the first octet of an IPv4 address. Of fewer than four bytes it tells nothing.
+fn may_be_dotted(s: &[u8]) -> bool
+    ensures { result ≡ false → Reader.read_ipv4 s.now ≡ None }
+{
+    match s {
+        [_, b, c, d, ..] => (*b == b'.') | (*c == b'.') | (*d == b'.'),
+        _ => true,
+    }
+}
+
+// Four octets with dots between them.
+#[inline(never)]
 #[tactic(auto, unfolding(crate::specs::AddressReader::read_ipv4))]
-pub fn read_ipv4(s: &[u8]) -> Option<(Ipv4Addr, &[u8])>
+fn read_octets(s: &[u8]) -> Option<(Ipv4Addr, &[u8])>
     ensures { Std.read_view ipv4_octets result ≡ Reader.read_ipv4 s.now }
 {
     let (a, s) = read_octet(s)?;
@@ -72,6 +83,18 @@ pub fn read_ipv4(s: &[u8]) -> Option<(Ipv4Addr, &[u8])>
     let (c, s) = read_octet(read_byte(s, b'.')?)?;
     let (d, s) = read_octet(read_byte(s, b'.')?)?;
     Some((Ipv4Addr::new(a, b, c, d), s))
+}
+
+/// An IPv4 address: four octets with dots between them, leading zeros allowed.
+#[inline]
+pub fn read_ipv4(s: &[u8]) -> Option<(Ipv4Addr, &[u8])>
+    ensures { Std.read_view ipv4_octets result ≡ Reader.read_ipv4 s.now }
+{
+    if may_be_dotted(s) {
+        read_octets(s)
+    } else {
+        None
+    }
 }
 
 fn read_group(s: &[u8]) -> Option<(u16, &[u8])>
