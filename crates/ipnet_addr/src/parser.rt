@@ -1,6 +1,7 @@
 //! Readers of the parts of a text. Each reads at the front of a slice, and answers the value and the rest.
 //! For the crates above; not part of the promise.
-ghost use Rattle.std.specs.Prelude.{◌≡◌, ◌<◌, ◌≤◌, true, false, length, take, drop, None, IfSome, option_copied};
+ghost use Rattle.std.specs.Prelude.{◌≡◌, ◌<◌, ◌≤◌, true, false, length, take, drop, None, IfSome, SomeIff, option_copied};
+ghost use Rattle.std.specs.Char.{digit_value};
 ghost use Rattle.std.specs.Net.Addr.{ipv4_octets, ipv6_segments, segments_of};
 ghost use Rattle.std.specs.Net.Reader as Std;
 ghost use Rattle.ipnet_addr.specs.AddressReader as Reader;
@@ -17,6 +18,34 @@ pub fn read_byte(s: &[u8], byte: u8) -> Option<&[u8]>
     }
 }
 
+// For each byte the hex digit that it writes, and 16 where it writes none.
+static HEX_DIGITS: [u8; 256] = [
+    16, 16, 16, 16, 16, 16, 16, 16, 16, 16, 16, 16, 16, 16, 16, 16, 16, 16, 16, 16, 16, 16, 16, 16,
+    16, 16, 16, 16, 16, 16, 16, 16, 16, 16, 16, 16, 16, 16, 16, 16, 16, 16, 16, 16, 16, 16, 16, 16,
+    0, 1, 2, 3, 4, 5, 6, 7, 8, 9, 16, 16, 16, 16, 16, 16, 16, 10, 11, 12, 13, 14, 15, 16, 16, 16,
+    16, 16, 16, 16, 16, 16, 16, 16, 16, 16, 16, 16, 16, 16, 16, 16, 16, 16, 16, 16, 16, 16, 16, 10,
+    11, 12, 13, 14, 15, 16, 16, 16, 16, 16, 16, 16, 16, 16, 16, 16, 16, 16, 16, 16, 16, 16, 16, 16,
+    16, 16, 16, 16, 16, 16, 16, 16, 16, 16, 16, 16, 16, 16, 16, 16, 16, 16, 16, 16, 16, 16, 16, 16,
+    16, 16, 16, 16, 16, 16, 16, 16, 16, 16, 16, 16, 16, 16, 16, 16, 16, 16, 16, 16, 16, 16, 16, 16,
+    16, 16, 16, 16, 16, 16, 16, 16, 16, 16, 16, 16, 16, 16, 16, 16, 16, 16, 16, 16, 16, 16, 16, 16,
+    16, 16, 16, 16, 16, 16, 16, 16, 16, 16, 16, 16, 16, 16, 16, 16, 16, 16, 16, 16, 16, 16, 16, 16,
+    16, 16, 16, 16, 16, 16, 16, 16, 16, 16, 16, 16, 16, 16, 16, 16, 16, 16, 16, 16, 16, 16, 16, 16,
+    16, 16, 16, 16, 16, 16, 16, 16, 16, 16, 16, 16, 16, 16,
+];
+
+// The digit that a byte writes, if it writes one below `radix`.
+fn to_digit(b: u8, radix: u32) -> Option<u32>
+    requires { radix ≤ 16 }
+    ensures { SomeIff result (digit_value b < radix) (digit_value b) }
+{
+    let digit = if radix == 10 {
+        b.wrapping_sub(b'0') as u32
+    } else {
+        HEX_DIGITS[b as usize] as u32
+    };
+    if digit < radix { Some(digit) } else { None }
+}
+
 // The value of the digits at the front and how many they are, if there is one and the value is at most `max`.
 fn read_number(s: &[u8], radix: u32, max: u32) -> Option<(u32, usize)>
     requires low { 2 ≤ radix }
@@ -27,7 +56,7 @@ fn read_number(s: &[u8], radix: u32, max: u32) -> Option<(u32, usize)>
     let mut value = 0u32;
     let mut len = 0;
     for b in s {
-        let Some(digit) = char::from(*b).to_digit(radix) else {
+        let Some(digit) = to_digit(*b, radix) else {
             break;
         };
         let next = value as u64 * radix as u64 + digit as u64;
