@@ -18,7 +18,8 @@ pub fn read_byte(s: &[u8], byte: u8) -> Option<&[u8]>
     }
 }
 
-// For each byte the hex digit that it writes, and 16 where it writes none.
+// For each byte the hex digit that it writes, and 16 where it writes none. A table, since no processor foresees which digits are
+// letters.
 static HEX_DIGITS: [u8; 256] = [
     16, 16, 16, 16, 16, 16, 16, 16, 16, 16, 16, 16, 16, 16, 16, 16, 16, 16, 16, 16, 16, 16, 16, 16,
     16, 16, 16, 16, 16, 16, 16, 16, 16, 16, 16, 16, 16, 16, 16, 16, 16, 16, 16, 16, 16, 16, 16, 16,
@@ -101,7 +102,7 @@ fn may_be_dotted(s: &[u8]) -> bool
     }
 }
 
-// Four octets with dots between them.
+// Four octets with dots between them. On its own, so that `read_ipv4` is small where it is inlined.
 #[inline(never)]
 #[tactic(auto, unfolding(crate::specs::AddressReader::read_ipv4))]
 fn read_octets(s: &[u8]) -> Option<(Ipv4Addr, &[u8])>
