@@ -23,12 +23,16 @@ and_one false false f = refl
 meets_one : (k : Option ℕ) (hops : List (Option ℕ)) → meets (k ∷ []) hops ≡ holds hops k
 meets_one k hops = or-false (holds hops k)
 
-merged_left : (k : Option ℕ) (hops : List (Option ℕ)) → AreMerged (k ∷ []) hops (cond (holds hops k) (k ∷ []) (k ∷ hops))
+pub merged_left : (k : Option ℕ) (hops : List (Option ℕ)) → AreMerged (k ∷ []) hops (cond (holds hops k) (k ∷ []) (k ∷ hops))
 merged_left k hops j = go (holds hops k) refl
   where
     go : (c : Bool) → holds hops k ≡ c → holds (cond c (k ∷ []) (k ∷ hops)) j ≡ cond (meets (k ∷ []) hops) (holds (k ∷ []) j && holds hops j) (holds (k ∷ []) j || holds hops j)
     go true e = rw (meets_one k hops, e) (and_one (holds hops j) (same_hop j k) (λ f. ap (holds hops) (same_hop-true j k f) ∙ e))
     go false e = rw (meets_one k hops, e) (ap (λ u. u || holds hops j) (sym (or-false (same_hop j k))))
+
+-- the one hop is in the other list
+pub one_merged : (k : Option ℕ) (hops : List (Option ℕ)) → holds hops k ≡ true → AreMerged (k ∷ []) hops (k ∷ [])
+one_merged k hops e = subst (λ c. AreMerged (k ∷ []) hops (cond c (k ∷ []) (k ∷ hops))) e (merged_left k hops)
 
 -- whether two lists meet does not depend on their order
 meets_swap : (as' bs : List (Option ℕ)) → meets as' bs ≡ meets bs as'

@@ -1,5 +1,5 @@
 -- What the steps of a plan store, as the routes of its tree.
-use Rattle.std.proofs.Common.{◌≡◌, ℕ, suc, ◌≤◌, Bool, true, false, cond, List, [], ◌∷◌, ◌++◌, length, drop, Option, refl, sym, ap, ap₂, ◌∙◌, arith, append-nil, length-append, length-drop}
+use Rattle.std.proofs.Common.{◌≡◌, ℕ, Bool, true, false, cond, List, [], ◌∷◌, ◌++◌, Option, refl, sym, ap, ap₂, ◌∙◌, append-nil}
 use Rattle.std.proofs.Math.Bool.{or-false}
 use Rattle.std.proofs.lemmas.Bool.{cond_both}
 use Rattle.least_table.specs.HopSets.{holds, same_hop}
@@ -7,12 +7,6 @@ use Rattle.least_table.specs.Trees.{inside, within}
 use Rattle.least_table.specs.InnerSteps.{passed}
 use Rattle.least_table.proofs.Sets.{same_hop-true}
 use Rattle.least_table.proofs.Stores.{within-halves, within_within}
-
-pub half_length : (b : List Bool) (c : Bool) → length (b ++ c ∷ []) ≡ suc (length b)
-half_length b c = length-append b (c ∷ []) ∙ omega arith
-
-pub inner_length : (b s : List Bool) → length b ≤ length s → length (b ++ drop (length b) s) ≡ length s
-inner_length b s l = length-append b (drop (length b) s) ∙ omega (arith, length-drop (length b) s, l)
 
 -- ---- the routes of a block and of those in it
 

@@ -5,7 +5,7 @@ pub mod Stacks
 pub mod Chains
 pub mod Risings
 pub mod Stores
-pub mod Growths
+pub mod Widths
 pub mod GrownStores
 pub mod Tops
 pub mod Takes
@@ -18,3 +18,4 @@ pub mod Disjoint
 pub mod PathBits
 pub mod BlockSets
 pub mod Packed
+pub mod Joins

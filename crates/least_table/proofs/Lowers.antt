@@ -1,27 +1,27 @@
 -- Lower halves that wait for their upper ones.
-use Rattle.std.proofs.Common.{◌≡◌, ℕ, zero, suc, ◌+◌, ◌-◌, ◌≤◌, ◌<◌, Bool, true, false, List, [], ◌∷◌, ◌++◌, length, take, drop, reverse, slice_index_or, Option, Some, None, refl, sym, ap, ap₂, ◌∙◌, subst, arith, append_assoc, append-nil, add-one, drop_of_length-le, length-append, MatchOption}
+use Rattle.std.proofs.Common.{◌≡◌, ℕ, zero, suc, ◌+◌, ◌-◌, ◌≤◌, ◌<◌, Bool, true, false, List, [], ◌∷◌, ◌++◌, length, take, drop, reverse, slice_index_or, Option, Some, None, refl, sym, ap, ap₂, ◌∙◌, subst, arith, append-nil, add-one, drop_of_length-le, length-append, MatchOption}
 use Rattle.std.proofs.lemmas.List.{drop-append-le, length-take-le, map-id, reverse-append, take-append-le, take_all}
 use Rattle.ipnet_blocks.specs.BitStrings.{begins}
 use Rattle.ipnet_blocks.proofs.BitStrings.{take_begins}
-use Rattle.least_table.specs.HopSets.{AreMerged}
-use Rattle.least_table.specs.InnerPacked.{Joins, AreWhole, best_at, steps_in}
+use Rattle.least_table.specs.InnerPacked.{AreWhole, steps_in}
 use Rattle.least_table.specs.InnerPieces.{AllBegin, AllShare, IsAscending, before, beyond, shared}
 use Rattle.least_table.specs.InnerPlanners.{Plans, EndAt, HasPlanned, IsLower, AreLowers, ArePlanned, IsInside}
 use Rattle.least_table.specs.Pieces.{AreDisjoint, hop_at, strings}
-use Rattle.least_table.specs.InnerPlans.{Ends, Plan, IsMade, IsPlanOf, Stores, steps_of, top, tree_of}
+use Rattle.least_table.specs.InnerPlans.{Ends, EndsIn, Fits, IsHeld, IsPlanOf, OfHalves, Plan, Stores, steps_of, top, tree_of}
 use Rattle.least_table.specs.InnerPlans as plans
-use Rattle.least_table.specs.InnerSteps.{Step, step_best}
+use Rattle.least_table.specs.InnerSteps.{Step}
 use Rattle.least_table.specs.InnerSteps as steps
+use Rattle.least_table.specs.declared.plan.Planned.{Planned}
 use Rattle.least_table.specs.declared.plan.Steps.{Steps}
 use Rattle.least_table.specs.declared.planner.Lower.{Lower}
 use Rattle.least_table.specs.declared.planner.Planner.{Planner}
 use Rattle.least_table.specs.Trees.{IsPlan, routes_of, within}
 use Rattle.least_table.specs.Trees as trees
-use Rattle.least_table.proofs.Builds.{fits_plan, fork_made}
+use Rattle.least_table.proofs.Builds.{fits_plan, halves_made}
 use Rattle.least_table.proofs.Disjoint.{ascending_from}
-use Rattle.least_table.proofs.Gathers.{AllBegin-next, AllShare-less, begins_drop, best_last}
+use Rattle.least_table.proofs.Gathers.{AllBegin-next, AllShare-less, begins_drop}
 use Rattle.least_table.proofs.Stores.{within-whole}
-use Rattle.least_table.proofs.Tops.{read_top, top_last, below}
+use Rattle.least_table.proofs.Tops.{top_last, below}
 
 -- ---- strings
 
@@ -90,57 +90,42 @@ pub last_before : (ps : List (List Bool × ℕ)) (p q : List Bool × ℕ) → Is
 last_before [] p q h = h.0.0
 last_before (x ∷ ps) p q h = last_before ps p q h.1
 
-module _ {B : Type 0} (string : B → List Bool) (fits : B → Bool) (w : ℕ) where
+module _ (w : ℕ) where
   -- ---- a lower half is joined with the upper one
 
-  module _ (a : List Bool) (o : Lower) (ps qs : List (List Bool × ℕ)) (xs : List (Step B)) (mid : Steps B) (l : IsLower string fits w a o ps xs) (h : Plans string fits w a (o.depth + 1) qs xs mid) where
-    pub lower_place : o.at < length (steps_in mid)
-    lower_place = omega (arith, l.at, ap length h.steps ∙ length-append xs (steps_of h.plan), ap length (top_last h.plan), length-append (below h.plan) (top h.plan ∷ []))
-
-    pub lower_best : best_at mid o.at ≡ step_best (top l.plan)
-    lower_best = let i : o.at ≡ suc o.at - 1 = omega arith in ap (best_at mid) i ∙ read_top l.plan l.before xs (steps_of h.plan) (steps_in mid) l.steps h.steps (suc o.at) l.at
-
-    pub upper_best : best_at mid (length (steps_in mid) - 1) ≡ step_best (top h.plan)
-    upper_best = best_last string fits w a (o.depth + 1) qs xs mid h
-
-    module _ (new : Steps B) (inside : o.depth < length a) (fit : length a ≤ w) (joins : Joins mid new (best_at mid o.at) (best_at mid (length (steps_in mid) - 1))) where
+  pub joined : (a : List Bool) (o : Lower) (ps qs : List (List Bool × ℕ)) (xs : List Step) (mid new : Steps) (l : IsLower w a o ps xs) (h : Plans w a (o.depth + 1) qs xs mid) → o.depth < length a → length a ≤ w
+      → (r : Plan) → OfHalves l.plan h.plan r → Ends l.before r new → Plans w a o.depth (l.pieces ++ qs) l.before new
+  joined a o ps qs xs mid new l h inside fit r of_halves ends = record {
+    plan = r;
+    ends = ends;
+    is = record {
+      plans = halves_made w o.depth (length l.pieces) (l.pieces ++ qs) l.pieces qs l.plan h.plan r (omega (arith, inside, fit))
+          (subst (λ rs. AllBegin false (beyond o.depth rs)) (sym front) (AllBegin-behind o.depth a false l.pieces (omega (arith, inside)) l.is.inside))
+          (subst (λ rs. AllBegin true (beyond o.depth rs)) (sym back) (AllBegin-next o.depth a true qs inside l.upper (subst (λ n. AllShare (take n a) qs) (add-one o.depth) h.is.inside)))
+          of_halves (sym front) (sym back) l.is.plans (subst (λ n. IsPlan (w - n) (hop_at (beyond n qs)) (tree_of h.plan)) (add-one o.depth) h.is.plans);
+      inside = AllShare-append (take o.depth a) l.pieces qs (AllShare-front (take o.depth a) (false ∷ []) l.pieces l.is.inside) (AllShare-less o.depth (o.depth + 1) a qs (omega arith) h.is.inside);
+    };
+  }
+    where
       front : take (length l.pieces) (l.pieces ++ qs) ≡ l.pieces
       front = take-append-le (length l.pieces) l.pieces qs (omega arith) ∙ take_all (length l.pieces) l.pieces (omega arith)
 
       back : drop (length l.pieces) (l.pieces ++ qs) ≡ qs
       back = drop-append-le (length l.pieces) l.pieces qs (omega arith) ∙ ap (λ t. t ++ qs) (drop_of_length-le l.pieces {i = length l.pieces} (omega arith))
 
-      merged : AreMerged (step_best (top l.plan)) (step_best (top h.plan)) joins.hops
-      merged = subst (λ ks. AreMerged ks (step_best (top h.plan)) joins.hops) lower_best (subst (λ ks. AreMerged (best_at mid o.at) ks joins.hops) upper_best joins.merged)
-
-      pub joined : Plans string fits w a o.depth (l.pieces ++ qs) l.before new
-      joined = record {
-        plan = plans.Fork joins.hops l.plan h.plan;
-        steps = joins.adds.steps ∙ ap (λ t. t ++ steps.Fork joins.hops ∷ []) (h.steps ∙ ap (λ t. t ++ steps_of h.plan) l.steps ∙ append_assoc l.before (steps_of l.plan) (steps_of h.plan))
-            ∙ append_assoc l.before (steps_of l.plan ++ steps_of h.plan) (steps.Fork joins.hops ∷ []);
-        is = record {
-          made = fork_made string fits w o.depth (length l.pieces) (l.pieces ++ qs) l.pieces qs joins.hops l.plan h.plan (omega (arith, inside, fit))
-              (subst (λ rs. AllBegin false (beyond o.depth rs)) (sym front) (AllBegin-behind o.depth a false l.pieces (omega (arith, inside)) l.is.inside))
-              (subst (λ rs. AllBegin true (beyond o.depth rs)) (sym back) (AllBegin-next o.depth a true qs inside l.upper (subst (λ n. AllShare (take n a) qs) (add-one o.depth) h.is.inside)))
-              merged joins.rising (sym front) (sym back) (subst (λ n. IsMade string fits w n l.pieces l.plan) (sym (add-one o.depth)) l.is.made) h.is.made;
-          inside = AllShare-append (take o.depth a) l.pieces qs (AllShare-front (take o.depth a) (false ∷ []) l.pieces l.is.inside) (AllShare-less o.depth (o.depth + 1) a qs (omega arith) h.is.inside);
-        };
-        whole = joins.adds.whole;
-      }
-
   -- ---- the lower halves
 
-  pub fewer : (d e : ℕ) (os : List Lower) (a : List Bool) (ps : List (List Bool × ℕ)) (xs : List (Step B)) → AreLowers string fits w os a d ps xs → IsInside e os → AreLowers string fits w os a e ps xs
+  pub fewer : (d e : ℕ) (os : List Lower) (a : List Bool) (ps : List (List Bool × ℕ)) (xs : List Step) → AreLowers w os a d ps xs → IsInside e os → AreLowers w os a e ps xs
   fewer d e [] a ps xs h i = h
   fewer d e (o ∷ os) a ps xs h i = (i, h.1, h.2)
 
   -- the innermost one, and the others
-  pub opened : (a : List Bool) (d e : ℕ) (ps : List (List Bool × ℕ)) (all front : List Lower) (o : Lower) (s : Steps B) (h : ArePlanned string fits w a d e ps all s) → all ≡ front ++ o ∷ []
-      → (o.depth < e) × (l : IsLower string fits w a o h.others h.before) × AreLowers string fits w (reverse front) a o.depth l.others l.before
-  opened a d e ps all front o s h i = subst (λ us. AreLowers string fits w us a e h.others h.before) (ap reverse i ∙ reverse-append front (o ∷ [])) h.lower
+  pub opened : (a : List Bool) (d e : ℕ) (ps : List (List Bool × ℕ)) (all front : List Lower) (o : Lower) (s : Steps) (h : ArePlanned w a d e ps all s) → all ≡ front ++ o ∷ []
+      → (o.depth < e) × (l : IsLower w a o h.others h.before) × AreLowers w (reverse front) a o.depth l.others l.before
+  opened a d e ps all front o s h i = subst (λ us. AreLowers w us a e h.others h.before) (ap reverse i ∙ reverse-append front (o ∷ [])) h.lower
 
   -- those of one string are those of another with the same first bits
-  pub of_other : (d n : ℕ) (os : List Lower) (a z : List Bool) (ps : List (List Bool × ℕ)) (xs : List (Step B)) → d ≤ n → take n a ≡ take n z → AreLowers string fits w os a d ps xs → AreLowers string fits w os z d ps xs
+  pub of_other : (d n : ℕ) (os : List Lower) (a z : List Bool) (ps : List (List Bool × ℕ)) (xs : List Step) → d ≤ n → take n a ≡ take n z → AreLowers w os a d ps xs → AreLowers w os z d ps xs
   of_other d n [] a z ps xs l e h = h
   of_other d n (o ∷ os) a z ps xs l e h =
       let t = take_agrees o.depth n a z (omega (arith, l, h.0)) e in (
@@ -151,16 +136,16 @@ module _ {B : Type 0} (string : B → List Bool) (fits : B → Bool) (w : ℕ) w
           others = h.1.others;
           before = h.1.before;
           all = h.1.all;
-          steps = h.1.steps;
-          is = subst (λ u. IsPlanOf string fits w (suc o.depth) (u ++ false ∷ []) h.1.pieces h.1.plan) t h.1.is;
+          held = h.1.held;
+          rising = h.1.rising;
+          is = subst (λ u. IsPlanOf w (suc o.depth) (u ++ false ∷ []) h.1.pieces h.1.plan) t h.1.is;
           upper = sym (bit_agrees o.depth n a z (omega (arith, l, h.0)) e) ∙ h.1.upper;
-          at = h.1.at;
         },
         of_other o.depth n os a z h.1.others h.1.before (omega (arith, l, h.0)) e h.2,
       )
 
   -- none is that of a block whose upper half has not the string
-  pub not_here : (n : ℕ) (os : List Lower) (a : List Bool) (ps : List (List Bool × ℕ)) (xs : List (Step B)) → slice_index_or a n false ≡ false → AreLowers string fits w os a (n + 1) ps xs → AreLowers string fits w os a n ps xs
+  pub not_here : (n : ℕ) (os : List Lower) (a : List Bool) (ps : List (List Bool × ℕ)) (xs : List Step) → slice_index_or a n false ≡ false → AreLowers w os a (n + 1) ps xs → AreLowers w os a n ps xs
   not_here n [] a ps xs e h = h
   not_here n (o ∷ os) a ps xs e h = (lt_of_ne (λ i. let z = sym (ap (λ m. slice_index_or a m false) i ∙ e) ∙ h.1.upper in cc), h.1, h.2)
     where
@@ -168,13 +153,13 @@ module _ {B : Type 0} (string : B → List Bool) (fits : B → Bool) (w : ℕ) w
       lt_of_ne f = omega (arith, f, h.0)
 
   -- a plan has steps
-  pub some_step : (a : List Bool) (d : ℕ) (ps : List (List Bool × ℕ)) (xs : List (Step B)) (s : Steps B) → Plans string fits w a d ps xs s → 0 < length (steps_in s)
-  some_step a d ps xs s h = omega (arith, ap length h.steps ∙ length-append xs (steps_of h.plan), ap length (top_last h.plan), length-append (below h.plan) (top h.plan ∷ []))
+  pub some_step : (xs : List Step) (p : Plan) (s : Steps) → Ends xs p s → 0 < length (steps_in s)
+  some_step xs p s h = omega (arith, ap length h.steps ∙ length-append xs (steps_of p), ap length (top_last p), length-append (below p) (top p ∷ []))
 
   -- the one that the last piece lies in, where the next one lies in the upper half
-  pub turned : (a z : List Bool) (n at : ℕ) (os : List Lower) (ps : List (List Bool × ℕ)) (s : Steps B) → Parts a z n → suc at ≡ length (steps_in s) → ArePlanned string fits w a (n + 1) (n + 1) ps os s
-      → AreLowers string fits w (reverse (os ++ record { depth = n; at = at } ∷ [])) z (length z) ps (steps_in s)
-  turned a z n at os ps s p i h = subst (λ us. AreLowers string fits w us z (length z) ps (steps_in s)) (sym (reverse-append os (record { depth = n; at = at } ∷ []))) (
+  pub turned : (a z : List Bool) (n : ℕ) (held : Planned) (os : List Lower) (ps : List (List Bool × ℕ)) (s t : Steps) → Parts a z n → (h : ArePlanned w a (n + 1) (n + 1) ps os s) → IsHeld held h.plans.plan h.before (steps_in t)
+      → AreLowers w (reverse (os ++ record { depth = n; planned = held } ∷ [])) z (length z) ps (steps_in t)
+  turned a z n held os ps s t p h i = subst (λ us. AreLowers w us z (length z) ps (steps_in t)) (sym (reverse-append os (record { depth = n; planned = held } ∷ []))) (
     p.other,
     record {
       plan = h.plans.plan;
@@ -182,10 +167,10 @@ module _ {B : Type 0} (string : B → List Bool) (fits : B → Bool) (w : ℕ) w
       others = h.others;
       before = h.before;
       all = h.all;
-      steps = h.plans.steps;
-      is = subst (λ u. IsPlanOf string fits w (suc n) u h.pieces h.plans.plan) p.next (subst (λ m. IsPlanOf string fits w m (take m a) h.pieces h.plans.plan) (add-one n) h.plans.is);
+      held = i;
+      rising = h.plans.ends.rising;
+      is = subst (λ u. IsPlanOf w (suc n) u h.pieces h.plans.plan) p.next (subst (λ m. IsPlanOf w m (take m a) h.pieces h.plans.plan) (add-one n) h.plans.is);
       upper = p.high;
-      at = i;
     },
     of_other n n (reverse os) a z h.others h.before (omega arith) p.same (not_here n (reverse os) a h.others h.before p.low h.lower),
   )
@@ -196,54 +181,54 @@ module _ {B : Type 0} (string : B → List Bool) (fits : B → Bool) (w : ℕ) w
   piece_plan : (z : List Bool) (hop : ℕ) → IsPlan (w - length z) (hop_at (beyond (length z) ((z, hop) ∷ []))) (trees.Leaf (Some hop))
   piece_plan z hop x l = rw (drop_of_length-le z {i = length z} (omega arith)) refl
 
-  pub piece_planned : (z : List Bool) (hop : ℕ) (xs : List (Step B)) (new : Steps B) → steps_in new ≡ xs ++ steps.Leaf (Some hop) ∷ [] → AreWhole new → Plans string fits w z (length z) ((z, hop) ∷ []) xs new
+  pub piece_planned : (z : List Bool) (hop : ℕ) (xs : List Step) (new : Steps) → steps_in new ≡ xs ++ steps.Leaf (Some hop) ∷ [] → AreWhole new → Plans w z (length z) ((z, hop) ∷ []) xs new
   piece_planned z hop xs new e whole = record {
     plan = plans.Leaf (Some hop);
-    steps = e;
-    is = record {
-      made = record { plans = piece_plan z hop; rising = (tt, tt); fit = tt };
-      inside = (take_begins (length z) z, tt);
-    };
-    whole = whole;
+    ends = record { steps = e; whole = whole; rising = (tt, tt) };
+    is = record { plans = piece_plan z hop; inside = (take_begins (length z) z, tt) };
   }
 
   -- before the first piece
-  pub nothing_yet : (os : List Lower) (z : List Bool) (d : ℕ) (ps : List (List Bool × ℕ)) (s : Steps B) → ps ≡ [] → os ≡ [] → steps_in s ≡ [] → AreLowers string fits w (reverse os) z d ps (steps_in s)
-  nothing_yet os z d ps s e f g = subst (λ us. AreLowers string fits w (reverse us) z d ps (steps_in s)) (sym f) (e, g)
+  pub nothing_yet : (os : List Lower) (z : List Bool) (d : ℕ) (ps : List (List Bool × ℕ)) (s : Steps) → ps ≡ [] → os ≡ [] → steps_in s ≡ [] → AreLowers w (reverse os) z d ps (steps_in s)
+  nothing_yet os z d ps s e f g = subst (λ us. AreLowers w (reverse us) z d ps (steps_in s)) (sym f) (e, g)
 
   -- what has come, by the last piece
-  pub some_planned : (p : Planner B) (a : List Bool) (ps : List (List Bool × ℕ)) → p.last ≡ Some a → HasPlanned string fits w p ps → EndAt string fits w a ps p.lowers.items p.steps
-  some_planned p a ps e h = subst (λ o. MatchOption o ((ps ≡ []) × (p.lowers.items ≡ []) × (steps_in p.steps ≡ []) × AreWhole p.steps) (λ b. EndAt string fits w b ps p.lowers.items p.steps)) e h
+  pub some_planned : {B : Type 0} (p : Planner B) (a : List Bool) (ps : List (List Bool × ℕ)) → p.last ≡ Some a → HasPlanned w p ps → EndAt w a ps p.lowers.items p.steps
+  some_planned p a ps e h = subst (λ o. MatchOption o ((ps ≡ []) × (p.lowers.items ≡ []) × (steps_in p.steps ≡ []) × AreWhole p.steps) (λ b. EndAt w b ps p.lowers.items p.steps)) e h
 
-  pub none_planned : (p : Planner B) (ps : List (List Bool × ℕ)) → p.last ≡ None → HasPlanned string fits w p ps → (ps ≡ []) × (p.lowers.items ≡ []) × (steps_in p.steps ≡ []) × AreWhole p.steps
-  none_planned p ps e h = subst (λ o. MatchOption o ((ps ≡ []) × (p.lowers.items ≡ []) × (steps_in p.steps ≡ []) × AreWhole p.steps) (λ b. EndAt string fits w b ps p.lowers.items p.steps)) e h
+  pub none_planned : {B : Type 0} (p : Planner B) (ps : List (List Bool × ℕ)) → p.last ≡ None → HasPlanned w p ps → (ps ≡ []) × (p.lowers.items ≡ []) × (steps_in p.steps ≡ []) × AreWhole p.steps
+  none_planned p ps e h = subst (λ o. MatchOption o ((ps ≡ []) × (p.lowers.items ≡ []) × (steps_in p.steps ≡ []) × AreWhole p.steps) (λ b. EndAt w b ps p.lowers.items p.steps)) e h
 
-  pub ends_before : (a z : List Bool) (k : ℕ) (ps : List (List Bool × ℕ)) (os : List Lower) (s : Steps B) → EndAt string fits w a ps os s → AreDisjoint (ps ++ (z, k) ∷ []) → before a z ≡ true
+  pub ends_before : (a z : List Bool) (k : ℕ) (ps : List (List Bool × ℕ)) (os : List Lower) (s : Steps) → EndAt w a ps os s → AreDisjoint (ps ++ (z, k) ∷ []) → before a z ≡ true
   ends_before a z k ps os s h d = last_before h.others (a, h.hop) (z, k) (ascending_from _ (subst (λ qs. AreDisjoint (qs ++ (z, k) ∷ [])) h.last d))
 
   -- ---- the plan of all addresses
 
-  pub record IsWhole (ps : List (List Bool × ℕ)) (s : Steps B) : Type 0 where
-    pub plan : Plan B
-    pub plans : IsPlan w (hop_at ps) (tree_of string 0 plan)
-    pub ends : Ends string fits w 0 [] plan s
+  pub record IsWhole (ps : List (List Bool × ℕ)) (s : Steps) : Type 0 where
+    pub plan : Plan
+    pub plans : IsPlan w (hop_at ps) (tree_of plan)
+    pub ends : EndsIn w [] plan s
 
-  pub whole_plan : (a : List Bool) (ps : List (List Bool × ℕ)) (os : List Lower) (s : Steps B) → ArePlanned string fits w a 0 0 ps os s → IsWhole ps s
+  pub whole_plan : (a : List Bool) (ps : List (List Bool × ℕ)) (os : List Lower) (s : Steps) → ArePlanned w a 0 0 ps os s → IsWhole ps s
   whole_plan a ps os s h = go (reverse os) h.lower
     where
-      go : (us : List Lower) → AreLowers string fits w us a 0 h.others h.before → IsWhole ps s
+      go : (us : List Lower) → AreLowers w us a 0 h.others h.before → IsWhole ps s
       go (o ∷ us) l = absurd (omega (arith, l.0))
       go [] l =
           let all : h.pieces ≡ ps = sym (h.all ∙ ap (λ t. t ++ h.pieces) l.0) in
           let z : w - 0 ≡ w = omega arith in
-          let made = subst (λ qs. IsPlan (w - 0) (hop_at qs) (tree_of string 0 h.plans.plan)) (map-id h.pieces ∙ all) h.plans.is.made.plans in
+          let made = subst (λ qs. IsPlan (w - 0) (hop_at qs) (tree_of h.plans.plan)) (map-id h.pieces ∙ all) h.plans.is.plans in
           record {
             plan = h.plans.plan;
-            plans = subst (λ n. IsPlan n (hop_at ps) (tree_of string 0 h.plans.plan)) z made;
-            ends = record { steps = h.plans.steps ∙ ap (λ t. t ++ steps_of h.plans.plan) l.1; whole = h.plans.whole; room = fits_plan (w - 0) (hop_at ps) (tree_of string 0 h.plans.plan) made; fit = h.plans.is.made.fit };
+            plans = subst (λ n. IsPlan n (hop_at ps) (tree_of h.plans.plan)) z made;
+            ends = record { steps = h.plans.ends.steps ∙ ap (λ t. t ++ steps_of h.plans.plan) l.1; whole = h.plans.ends.whole; room = subst (λ n. Fits n (tree_of h.plans.plan)) z (fits_plan (w - 0) (hop_at ps) (tree_of h.plans.plan) made) };
           }
 
-  -- its routes are those that it stores, and no others
-  pub whole_routes : (q : List Bool) (p : Plan B) (old new : List (B × Option ℕ)) (before after : Steps B) → q ≡ [] → old ≡ [] → Stores string q None [] p old new before after → strings string new ≡ routes_of (tree_of string 0 p) None
-  whole_routes q p old new before after e f h =
-      h.routes ∙ ap₂ (λ u t. within u (routes_of (tree_of string (length u) p) None) ++ strings string t) e f ∙ append-nil (within [] (routes_of (tree_of string 0 p) None)) ∙ within-whole (routes_of (tree_of string 0 p) None)
+-- its routes are those that it stores, and no others
+pub whole_routes : {B : Type 0} (string : B → List Bool) (q : List Bool) (p : Plan) (old new : List (B × Option ℕ)) (before after : Steps) → q ≡ [] → old ≡ [] → Stores string q None [] p old new before after → strings string new ≡ routes_of (tree_of p) None
+whole_routes string q p old new before after e f h =
+    h.routes ∙ ap₂ (λ u t. within u (routes_of (tree_of p) None) ++ strings string t) e f ∙ append-nil (within [] (routes_of (tree_of p) None)) ∙ within-whole (routes_of (tree_of p) None)
+
+-- a block without bits has them all free
+pub from_top : (w : ℕ) (q : List Bool) (xs : List Step) (p : Plan) (s : Steps) → q ≡ [] → EndsIn w xs p s → EndsIn (w - length q) xs p s
+from_top w q xs p s e h = let n : w ≡ w - length q = omega (arith, ap length e) in subst (λ m. EndsIn m xs p s) n h

@@ -1,21 +1,23 @@
 -- The bits of a path, one by one.
-use Rattle.std.proofs.Common.{◌≡◌, ℕ, zero, suc, ◌+◌, ◌-◌, ◌*◌, ◌/◌, ◌%◌, ◌==◌, ◌^◌, ◌<◌, ◌≤◌, Bool, true, false, List, [], ◌∷◌, ◌++◌, length, take, drop, slice_index_or, sym, ap, ap₂, ◌∙◌, subst, arith, cond, inl, inr, nat_lt}
+use Rattle.std.proofs.Common.{◌≡◌, ℕ, zero, suc, ◌+◌, ◌-◌, ◌*◌, ◌/◌, ◌%◌, ◌==◌, ◌^◌, ◌<◌, ◌≤◌, Bool, true, false, List, [], ◌∷◌, ◌++◌, length, take, drop, slice_index_or, refl, sym, ap, ap₂, ◌∙◌, subst, arith, cond, inl, inr, nat_lt}
 use Rattle.std.proofs.lemmas.Bool.{ltb-true, ltb-false, cases_Bool}
 use Rattle.std.proofs.lemmas.Nat.{shr-shr}
-use Rattle.std.proofs.lemmas.List.{get_or_append_left, get_or-drop, get_or_push, length-drop, take_more as take_next}
+use Rattle.std.proofs.lemmas.List.{get_or_append_left, get_or_push}
 use Rattle.ipnet_blocks.specs.Blocks.{digits}
 use Rattle.ipnet_blocks.proofs.Strings.{length-digits}
 use Rattle.trie_core.specs.Prefixes.{prefix_bits}
 use Rattle.std.specs.Int.Bits.{bit_xor}
 use Rattle.std.specs.Int.Count.{count_leading_zeros, leading_unique}
 use Rattle.std.proofs.lemmas.Nat.{xor_block, xor_lt}
+use Rattle.std.proofs.Math.Pow.{pow-lt}
+use Rattle.trie_core.proofs.Longer.{digits-append}
 use Rattle.trie_core.specs.Bits.{number_from}
 use Rattle.trie_core.specs.Prefixes.{IsMasked}
 use Rattle.trie_core.proofs.Masked.{masked_number}
 use Rattle.trie_core.proofs.Numbers.{number_bound}
 use Rattle.least_table.specs.InnerPieces.{before, shared}
 
-bit_of_digits : (n q i : ℕ) → i < n → slice_index_or (digits n q) i false ≡ (q / 2 ^ (n - 1 - i) % 2 == 1)
+pub bit_of_digits : (n q i : ℕ) → i < n → slice_index_or (digits n q) i false ≡ (q / 2 ^ (n - 1 - i) % 2 == 1)
 bit_of_digits zero q i l = absurd (omega (arith, l))
 bit_of_digits (suc n) q i l = elim (cases_Bool (nat_lt i n)) [
   | inl e ↦
@@ -73,11 +75,17 @@ parted r q s t e l m f a g b =
     let x : bit_xor r q ≡ bit_xor (number_from 128 s) (number_from 128 t) = ap₂ bit_xor (number_of_path r s l f a) (number_of_path q t m g b) in
     sym (leading_unique 128 (bit_xor r q) (shared s t) (suc p.0) p.1 (omega (arith, p.3, x)) (omega (arith, p.2, x)))
 
--- ---- the bits of the one after those of the other
+-- ---- one bit more at the front of a number's
 
-pub take_more : (s : List Bool) (d i : ℕ) → d ≤ i → i < length s → take (i - d) (drop d s) ++ slice_index_or s i false ∷ [] ≡ take (suc i - d) (drop d s)
-take_more s d i l m =
-    let e : (i - d) + 1 ≡ suc i - d = omega arith in
-    let f : d + (i - d) ≡ i = omega arith in
-    ap (λ x. take (i - d) (drop d s) ++ x ∷ []) (sym (get_or-drop d s (i - d) false ∙ ap (λ j. slice_index_or s j false) f))
-    ∙ sym (take_next (drop d s) (i - d) false (omega (arith, l, m, length-drop d s))) ∙ ap (λ n. take n (drop d s)) e
+pub one_above : (n q : ℕ) (b : Bool) → n < 16 → q < 2 ^ n → digits (n + 1) (cond b 1 0 * 2 ^ n % 65536 + q) ≡ b ∷ digits n q
+one_above n q b l m =
+    let e : n + 1 ≡ 1 + n = omega arith in
+    ap₂ digits e (ap (λ x. x + q) (small b)) ∙ digits-append 1 n (cond b 1 0) q m ∙ ap (λ ds. ds ++ digits n q) (one b)
+  where
+    one : (c : Bool) → digits 1 (cond c 1 0) ≡ c ∷ []
+    one true = refl
+    one false = refl
+
+    small : (c : Bool) → cond c 1 0 * 2 ^ n % 65536 ≡ cond c 1 0 * 2 ^ n
+    small true = let p : 2 ^ n < 2 ^ 16 = pow-lt {i = n} {j = 16} l in omega (arith, p)
+    small false = omega arith

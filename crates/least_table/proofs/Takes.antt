@@ -1,5 +1,5 @@
 -- The steps of the plan of a block are taken: those of its halves, or of the smaller block, stand before its own.
-use Rattle.std.proofs.Common.{◌≡◌, ℕ, suc, ◌-◌, ◌≤◌, ◌<◌, Bool, true, false, cond, not, List, [], ◌∷◌, ◌++◌, length, drop, reverse, Option, None, refl, sym, ap, ap₂, ◌∙◌, subst, arith, append_assoc, append-nil, length-append, length-drop, map, IsTrue}
+use Rattle.std.proofs.Common.{◌≡◌, ℕ, suc, ◌+◌, ◌<◌, Bool, true, false, cond, not, List, [], ◌∷◌, ◌++◌, length, reverse, Option, refl, sym, ap, ap₂, ◌∙◌, subst, arith, append_assoc, append-nil, length-append, map}
 use Rattle.std.proofs.lemmas.List.{reverse-append, reverse-reverse}
 use Rattle.least_table.specs.HopSets.{holds, same_hop, first_of}
 use Rattle.least_table.specs.Pieces.{strings}
@@ -7,12 +7,12 @@ use Rattle.least_table.specs.Trees.{inside, within, routes_of}
 use Rattle.least_table.specs.Trees as trees
 use Rattle.least_table.specs.InnerPacked.{AreWhole, IsKept, step_of, steps_in}
 use Rattle.least_table.specs.InnerSteps.{Step, passed, step_best}
-use Rattle.least_table.specs.InnerPlans.{Plan, Leaf, Fork, Half, Skip, Ends, Stores, Fits, steps_of, top, tree_of, AllFit}
+use Rattle.least_table.specs.InnerPlans.{Plan, Leaf, Pair, Fork, Half, Skip, EndsIn, Stores, Fits, steps_of, top, tree_of}
 use Rattle.least_table.specs.InnerShapes.{shape_of}
 use Rattle.least_table.specs.declared.plan.Packed.{Packed}
 use Rattle.least_table.specs.declared.plan.Shape.TheVariants as shapes
 use Rattle.least_table.specs.declared.plan.Steps.{Steps}
-use Rattle.least_table.proofs.GrownStores.{half_length, inner_length, leaf_stored, fork_stored, skip_stored, one_holds, one_passed}
+use Rattle.least_table.proofs.GrownStores.{leaf_stored, fork_stored, skip_stored, one_holds, one_passed}
 use Rattle.least_table.proofs.Packed.{popped, kept_popped}
 use Rattle.least_table.proofs.Tops.{below, top_last}
 
@@ -29,166 +29,182 @@ pub own_route : (c : Bool) (b : List Bool) (s f : Option ℕ) → cond {A = List
 own_route true b s f = refl
 own_route false b s f = refl
 
-module _ {B : Type 0} (string : B → List Bool) (fits : B → Bool) (w : ℕ) where
-  abbrev Tree : ℕ → Plan B → trees.Tree
-  Tree = tree_of string
+-- what a plan is whose last step has a shape
+pub record Paired (j k : Option ℕ) (n : ℕ) (xs : List Step) (p : Plan) (x : Step) (left : Steps) : Type 0 where
+  pub hops : List (Option ℕ)
+  pub room : ℕ
+  pub is : p ≡ Pair j k hops
+  pub best : step_best x ≡ hops
+  pub deep : n ≡ suc room
+  pub steps : steps_in left ≡ xs
 
-  pub ends_at : (n d : ℕ) (xs : List (Step B)) (p : Plan B) (s : Steps B) → n ≡ d → Ends string fits w d xs p s → Ends string fits w n xs p s
-  ends_at n d xs p s e h = subst (λ m. Ends string fits w m xs p s) (sym e) h
+pub record Forked (n : ℕ) (xs : List Step) (p : Plan) (x : Step) (left : Steps) : Type 0 where
+  pub hops : List (Option ℕ)
+  pub low : Plan
+  pub high : Plan
+  pub room : ℕ
+  pub is : p ≡ Fork hops low high
+  pub best : step_best x ≡ hops
+  pub deep : n ≡ suc room
+  pub above : EndsIn room (xs ++ steps_of low) high left
+  pub below_room : Fits room (tree_of low)
 
-  -- what a plan is whose last step has a shape
-  pub record Forked (d : ℕ) (xs : List (Step B)) (p : Plan B) (x : Step B) (left : Steps B) : Type 0 where
-    pub hops : List (Option ℕ)
-    pub low : Plan B
-    pub high : Plan B
-    pub is : p ≡ Fork hops low high
-    pub best : step_best x ≡ hops
-    pub deep : d < w
-    pub above : Ends string fits w (suc d) (xs ++ steps_of low) high left
-    pub below_room : Fits (w - suc d) (Tree (suc d) low)
-    pub below_fit : AllFit fits low
+pub record Halved (upper : Bool) (k : Option ℕ) (n : ℕ) (xs : List Step) (p : Plan) (x : Step) (left : Steps) : Type 0 where
+  pub hops : List (Option ℕ)
+  pub inner : Plan
+  pub room : ℕ
+  pub is : p ≡ Half upper k hops inner
+  pub best : step_best x ≡ hops
+  pub deep : n ≡ suc room
+  pub ends : EndsIn room xs inner left
 
-  pub record Halved (upper : Bool) (d : ℕ) (xs : List (Step B)) (p : Plan B) (x : Step B) (left : Steps B) : Type 0 where
-    pub hops : List (Option ℕ)
-    pub inner : Plan B
-    pub is : p ≡ Half upper hops inner
-    pub best : step_best x ≡ hops
-    pub deep : d < w
-    pub ends : Ends string fits w (suc d) xs inner left
+pub record Skipped (ds : List Bool) (n : ℕ) (xs : List Step) (p : Plan) (x : Step) (left : Steps) : Type 0 where
+  pub hop : Option ℕ
+  pub inner : Plan
+  pub room : ℕ
+  pub is : p ≡ Skip hop ds inner
+  pub best : step_best x ≡ hop ∷ []
+  pub deep : n ≡ length ds + room
+  pub some : 0 < length ds
+  pub ends : EndsIn room xs inner left
 
-  pub record Skipped (b : B) (d : ℕ) (xs : List (Step B)) (p : Plan B) (x : Step B) (left : Steps B) : Type 0 where
-    pub hop : Option ℕ
-    pub inner : Plan B
-    pub is : p ≡ Skip hop b inner
-    pub best : step_best x ≡ hop ∷ []
-    pub deep : d < length (string b)
-    pub within_width : length (string b) ≤ w
-    pub fit : IsTrue (fits b)
-    pub ends : Ends string fits w (length (string b)) xs inner left
+pub ends_at : (n m : ℕ) (xs : List Step) (p : Plan) (s : Steps) → n ≡ m → EndsIn m xs p s → EndsIn n xs p s
+ends_at n m xs p s e h = subst (λ i. EndsIn i xs p s) (sym e) h
 
-  module _ (d : ℕ) (xs : List (Step B)) (old left : Steps B) (x : Step B) (popped : steps_in old ≡ steps_in left ++ x ∷ []) (whole : AreWhole left) where
-    taken : (p : Plan B) → Ends string fits w d xs p old → (steps_in left ≡ xs ++ below p) × (x ≡ top p)
-    taken p ends = same_ends (steps_in left) (xs ++ below p) x (top p) (sym popped ∙ ends.steps ∙ ap (λ t. xs ++ t) (top_last p) ∙ sym (append_assoc xs (below p) (top p ∷ [])))
+-- the last step is that of the block
+pub last_taken : (xs : List Step) (old left : Steps) (x : Step) (p : Plan) → steps_in old ≡ steps_in left ++ x ∷ [] → steps_in old ≡ xs ++ steps_of p → (steps_in left ≡ xs ++ below p) × (x ≡ top p)
+last_taken xs old left x p e f = same_ends (steps_in left) (xs ++ below p) x (top p) (sym e ∙ f ∙ ap (λ t. xs ++ t) (top_last p) ∙ sym (append_assoc xs (below p) (top p ∷ [])))
 
-    pub leaf : (p : Plan B) → Ends string fits w d xs p old → shape_of x ≡ shapes.Leaf → (k : Option ℕ) × (p ≡ Leaf k) × (step_best x ≡ k ∷ []) × (steps_in left ≡ xs)
-    leaf (Leaf k) ends e = let t = taken (Leaf k) ends in (k, refl, ap step_best t.1, t.0 ∙ append-nil xs)
-    leaf (Fork hops l r) ends e = let t = (taken (Fork hops l r) ends).1 in let z = sym (ap shape_of t) ∙ e in cc
-    leaf (Half false hops q) ends e = let t = (taken (Half false hops q) ends).1 in let z = sym (ap shape_of t) ∙ e in cc
-    leaf (Half true hops q) ends e = let t = (taken (Half true hops q) ends).1 in let z = sym (ap shape_of t) ∙ e in cc
-    leaf (Skip k b q) ends e = let t = (taken (Skip k b q) ends).1 in let z = sym (ap shape_of t) ∙ e in cc
+module _ (n : ℕ) (xs : List Step) (old left : Steps) (x : Step) (popped : steps_in old ≡ steps_in left ++ x ∷ []) (whole : AreWhole left) where
+  taken : (p : Plan) → EndsIn n xs p old → (steps_in left ≡ xs ++ below p) × (x ≡ top p)
+  taken p ends = last_taken xs old left x p popped ends.steps
 
-    pub fork : (p : Plan B) → Ends string fits w d xs p old → shape_of x ≡ shapes.Fork → Forked d xs p x left
-    fork (Fork hops l r) ends e =
-        let t = taken (Fork hops l r) ends in
-        let deep : d < w = omega (arith, ends.room.1) in
-        let v : ends.room.0 ≡ w - suc d = omega (arith, ends.room.1) in
-        record {
-          hops = hops;
-          low = l;
-          high = r;
-          is = refl;
-          best = ap step_best t.1;
-          deep = deep;
-          above = record { steps = t.0 ∙ sym (append_assoc xs (steps_of l) (steps_of r)); whole = whole; room = subst (λ n. Fits n (Tree (suc d) r)) v ends.room.3; fit = ends.fit.1 };
-          below_room = subst (λ n. Fits n (Tree (suc d) l)) v ends.room.2;
-          below_fit = ends.fit.0;
-        }
-    fork (Leaf k) ends e = let t = (taken (Leaf k) ends).1 in let z = sym (ap shape_of t) ∙ e in cc
-    fork (Half false hops q) ends e = let t = (taken (Half false hops q) ends).1 in let z = sym (ap shape_of t) ∙ e in cc
-    fork (Half true hops q) ends e = let t = (taken (Half true hops q) ends).1 in let z = sym (ap shape_of t) ∙ e in cc
-    fork (Skip k b q) ends e = let t = (taken (Skip k b q) ends).1 in let z = sym (ap shape_of t) ∙ e in cc
+  pub leaf : (p : Plan) → EndsIn n xs p old → shape_of x ≡ shapes.Leaf → (k : Option ℕ) × (p ≡ Leaf k) × (step_best x ≡ k ∷ []) × (steps_in left ≡ xs)
+  leaf (Leaf k) ends e = let t = taken (Leaf k) ends in (k, refl, ap step_best t.1, t.0 ∙ append-nil xs)
+  leaf (Pair i j hops) ends e = let t = (taken (Pair i j hops) ends).1 in let z = sym (ap shape_of t) ∙ e in cc
+  leaf (Fork hops l r) ends e = let t = (taken (Fork hops l r) ends).1 in let z = sym (ap shape_of t) ∙ e in cc
+  leaf (Half false j hops q) ends e = let t = (taken (Half false j hops q) ends).1 in let z = sym (ap shape_of t) ∙ e in cc
+  leaf (Half true j hops q) ends e = let t = (taken (Half true j hops q) ends).1 in let z = sym (ap shape_of t) ∙ e in cc
+  leaf (Skip j es q) ends e = let t = (taken (Skip j es q) ends).1 in let z = sym (ap shape_of t) ∙ e in cc
 
-    pub lower : (p : Plan B) → Ends string fits w d xs p old → shape_of x ≡ shapes.Lower → Halved false d xs p x left
-    lower (Half false hops q) ends e =
-        let t = taken (Half false hops q) ends in
-        let v : ends.room.0 ≡ w - suc d = omega (arith, ends.room.1) in
-        record { hops = hops; inner = q; is = refl; best = ap step_best t.1; deep = omega (arith, ends.room.1); ends = record { steps = t.0; whole = whole; room = subst (λ n. Fits n (Tree (suc d) q)) v ends.room.2; fit = ends.fit } }
-    lower (Leaf k) ends e = let t = (taken (Leaf k) ends).1 in let z = sym (ap shape_of t) ∙ e in cc
-    lower (Fork hops l r) ends e = let t = (taken (Fork hops l r) ends).1 in let z = sym (ap shape_of t) ∙ e in cc
-    lower (Half true hops q) ends e = let t = (taken (Half true hops q) ends).1 in let z = sym (ap shape_of t) ∙ e in cc
-    lower (Skip k b q) ends e = let t = (taken (Skip k b q) ends).1 in let z = sym (ap shape_of t) ∙ e in cc
+  pub pair : (j k : Option ℕ) (p : Plan) → EndsIn n xs p old → shape_of x ≡ shapes.Pair j k → Paired j k n xs p x left
+  pair j k (Pair i l hops) ends e =
+      let t = taken (Pair i l hops) ends in
+      let z = sym (ap shape_of t.1) ∙ e in
+      let first : i ≡ j = cc in
+      let second : l ≡ k = cc in
+      record { hops = hops; room = ends.room.0; is = ap₂ (λ u v. Pair u v hops) first second; best = ap step_best t.1; deep = ends.room.1; steps = t.0 ∙ append-nil xs }
+  pair j k (Leaf i) ends e = let t = (taken (Leaf i) ends).1 in let z = sym (ap shape_of t) ∙ e in cc
+  pair j k (Fork hops l r) ends e = let t = (taken (Fork hops l r) ends).1 in let z = sym (ap shape_of t) ∙ e in cc
+  pair j k (Half false i hops q) ends e = let t = (taken (Half false i hops q) ends).1 in let z = sym (ap shape_of t) ∙ e in cc
+  pair j k (Half true i hops q) ends e = let t = (taken (Half true i hops q) ends).1 in let z = sym (ap shape_of t) ∙ e in cc
+  pair j k (Skip i es q) ends e = let t = (taken (Skip i es q) ends).1 in let z = sym (ap shape_of t) ∙ e in cc
 
-    pub upper : (p : Plan B) → Ends string fits w d xs p old → shape_of x ≡ shapes.Upper → Halved true d xs p x left
-    upper (Half true hops q) ends e =
-        let t = taken (Half true hops q) ends in
-        let v : ends.room.0 ≡ w - suc d = omega (arith, ends.room.1) in
-        record { hops = hops; inner = q; is = refl; best = ap step_best t.1; deep = omega (arith, ends.room.1); ends = record { steps = t.0; whole = whole; room = subst (λ n. Fits n (Tree (suc d) q)) v ends.room.3; fit = ends.fit } }
-    upper (Leaf k) ends e = let t = (taken (Leaf k) ends).1 in let z = sym (ap shape_of t) ∙ e in cc
-    upper (Fork hops l r) ends e = let t = (taken (Fork hops l r) ends).1 in let z = sym (ap shape_of t) ∙ e in cc
-    upper (Half false hops q) ends e = let t = (taken (Half false hops q) ends).1 in let z = sym (ap shape_of t) ∙ e in cc
-    upper (Skip k b q) ends e = let t = (taken (Skip k b q) ends).1 in let z = sym (ap shape_of t) ∙ e in cc
+  pub fork : (p : Plan) → EndsIn n xs p old → shape_of x ≡ shapes.Fork → Forked n xs p x left
+  fork (Fork hops l r) ends e =
+      let t = taken (Fork hops l r) ends in
+      record {
+        hops = hops;
+        low = l;
+        high = r;
+        room = ends.room.0;
+        is = refl;
+        best = ap step_best t.1;
+        deep = ends.room.1;
+        above = record { steps = t.0 ∙ sym (append_assoc xs (steps_of l) (steps_of r)); whole = whole; room = ends.room.3 };
+        below_room = ends.room.2;
+      }
+  fork (Leaf k) ends e = let t = (taken (Leaf k) ends).1 in let z = sym (ap shape_of t) ∙ e in cc
+  fork (Pair i j hops) ends e = let t = (taken (Pair i j hops) ends).1 in let z = sym (ap shape_of t) ∙ e in cc
+  fork (Half false j hops q) ends e = let t = (taken (Half false j hops q) ends).1 in let z = sym (ap shape_of t) ∙ e in cc
+  fork (Half true j hops q) ends e = let t = (taken (Half true j hops q) ends).1 in let z = sym (ap shape_of t) ∙ e in cc
+  fork (Skip j es q) ends e = let t = (taken (Skip j es q) ends).1 in let z = sym (ap shape_of t) ∙ e in cc
 
-    pub skip : (b : B) (p : Plan B) → Ends string fits w d xs p old → shape_of x ≡ shapes.Skip b → d ≤ w → Skipped b d xs p x left
-    skip b (Skip k c q) ends e i =
-        let t = taken (Skip k c q) ends in
-        let z = sym (ap shape_of t.1) ∙ e in
-        let same : c ≡ b = cc in
-        let deep : d < length (string c) = omega (arith, ends.room.2, length-drop d (string c)) in
-        let v : ends.room.0 ≡ w - length (string c) = omega (arith, ends.room.1, length-drop d (string c), deep, i) in
-        subst (λ a. Skipped a d xs (Skip k c q) x left) same record {
-          hop = k;
-          inner = q;
-          is = refl;
-          best = ap step_best t.1;
-          deep = deep;
-          within_width = omega (arith, ends.room.1, length-drop d (string c), deep, i);
-          fit = ends.fit.0;
-          ends = record { steps = t.0; whole = whole; room = subst (λ n. Fits n (Tree (length (string c)) q)) v ends.room.3; fit = ends.fit.1 };
-        }
-    skip b (Leaf k) ends e i = let t = (taken (Leaf k) ends).1 in let z = sym (ap shape_of t) ∙ e in cc
-    skip b (Fork hops l r) ends e i = let t = (taken (Fork hops l r) ends).1 in let z = sym (ap shape_of t) ∙ e in cc
-    skip b (Half false hops q) ends e i = let t = (taken (Half false hops q) ends).1 in let z = sym (ap shape_of t) ∙ e in cc
-    skip b (Half true hops q) ends e i = let t = (taken (Half true hops q) ends).1 in let z = sym (ap shape_of t) ∙ e in cc
+  pub lower : (k : Option ℕ) (p : Plan) → EndsIn n xs p old → shape_of x ≡ shapes.Lower k → Halved false k n xs p x left
+  lower k (Half false i hops q) ends e =
+      let t = taken (Half false i hops q) ends in
+      let z = sym (ap shape_of t.1) ∙ e in
+      let same : i ≡ k = cc in
+      record { hops = hops; inner = q; room = ends.room.0; is = ap (λ u. Half false u hops q) same; best = ap step_best t.1; deep = ends.room.1; ends = record { steps = t.0; whole = whole; room = ends.room.2 } }
+  lower k (Leaf i) ends e = let t = (taken (Leaf i) ends).1 in let z = sym (ap shape_of t) ∙ e in cc
+  lower k (Pair i j hops) ends e = let t = (taken (Pair i j hops) ends).1 in let z = sym (ap shape_of t) ∙ e in cc
+  lower k (Fork hops l r) ends e = let t = (taken (Fork hops l r) ends).1 in let z = sym (ap shape_of t) ∙ e in cc
+  lower k (Half true j hops q) ends e = let t = (taken (Half true j hops q) ends).1 in let z = sym (ap shape_of t) ∙ e in cc
+  lower k (Skip j es q) ends e = let t = (taken (Skip j es q) ends).1 in let z = sym (ap shape_of t) ∙ e in cc
+
+  pub upper : (k : Option ℕ) (p : Plan) → EndsIn n xs p old → shape_of x ≡ shapes.Upper k → Halved true k n xs p x left
+  upper k (Half true i hops q) ends e =
+      let t = taken (Half true i hops q) ends in
+      let z = sym (ap shape_of t.1) ∙ e in
+      let same : i ≡ k = cc in
+      record { hops = hops; inner = q; room = ends.room.0; is = ap (λ u. Half true u hops q) same; best = ap step_best t.1; deep = ends.room.1; ends = record { steps = t.0; whole = whole; room = ends.room.3 } }
+  upper k (Leaf i) ends e = let t = (taken (Leaf i) ends).1 in let z = sym (ap shape_of t) ∙ e in cc
+  upper k (Pair i j hops) ends e = let t = (taken (Pair i j hops) ends).1 in let z = sym (ap shape_of t) ∙ e in cc
+  upper k (Fork hops l r) ends e = let t = (taken (Fork hops l r) ends).1 in let z = sym (ap shape_of t) ∙ e in cc
+  upper k (Half false j hops q) ends e = let t = (taken (Half false j hops q) ends).1 in let z = sym (ap shape_of t) ∙ e in cc
+  upper k (Skip j es q) ends e = let t = (taken (Skip j es q) ends).1 in let z = sym (ap shape_of t) ∙ e in cc
+
+  pub skip : (ds : List Bool) (p : Plan) → EndsIn n xs p old → shape_of x ≡ shapes.Skip ds → Skipped ds n xs p x left
+  skip ds (Skip k es q) ends e =
+      let t = taken (Skip k es q) ends in
+      let z = sym (ap shape_of t.1) ∙ e in
+      let same : es ≡ ds = cc in
+      record { hop = k; inner = q; room = ends.room.0; is = ap (λ u. Skip k u q) same; best = ap step_best t.1; deep = ends.room.1 ∙ ap (λ u. length u + ends.room.0) same; some = subst (λ u. 0 < length u) same ends.room.2; ends = record { steps = t.0; whole = whole; room = ends.room.3 } }
+  skip ds (Leaf k) ends e = let t = (taken (Leaf k) ends).1 in let z = sym (ap shape_of t) ∙ e in cc
+  skip ds (Pair i j hops) ends e = let t = (taken (Pair i j hops) ends).1 in let z = sym (ap shape_of t) ∙ e in cc
+  skip ds (Fork hops l r) ends e = let t = (taken (Fork hops l r) ends).1 in let z = sym (ap shape_of t) ∙ e in cc
+  skip ds (Half false j hops q) ends e = let t = (taken (Half false j hops q) ends).1 in let z = sym (ap shape_of t) ∙ e in cc
+  skip ds (Half true j hops q) ends e = let t = (taken (Half true j hops q) ends).1 in let z = sym (ap shape_of t) ∙ e in cc
 
 -- the steps but for the last, which is taken off
-abbrev pub left_of : {B : Type 0} → Steps B → List Packed → Steps B
-left_of old rest = record { steps = rest; sets = old.sets; inner = old.inner }
+abbrev pub left_of : Steps → List Packed → Steps
+left_of old rest = record { steps = rest; sets = old.sets }
 
 -- what the plan is by the step that is taken off
-module _ {B : Type 0} (string : B → List Bool) (fits : B → Bool) (w d : ℕ) (old : Steps B) (rest : List Packed) (y : Packed) (e : old.steps ≡ rest ++ y ∷ []) (xs : List (Step B)) (p : Plan B) (ends : Ends string fits w d xs p old) where
-  abbrev pub step : Step B
-  step = step_of old.sets old.inner y
+module _ (n : ℕ) (old : Steps) (rest : List Packed) (y : Packed) (e : old.steps ≡ rest ++ y ∷ []) (xs : List Step) (p : Plan) (ends : EndsIn n xs p old) where
+  abbrev pub step : Step
+  step = step_of old.sets y
 
   left_whole : AreWhole (left_of old rest)
   left_whole = (kept_popped old rest y e ends.whole).0
 
-  pub step_kept : IsKept old.sets (length old.inner) y
+  pub step_kept : IsKept old.sets y
   step_kept = (kept_popped old rest y e ends.whole).1
 
   pub leaf_of : shape_of step ≡ shapes.Leaf → (k : Option ℕ) × (p ≡ Leaf k) × (step_best step ≡ k ∷ []) × (steps_in (left_of old rest) ≡ xs) × AreWhole (left_of old rest)
-  leaf_of s = let h = leaf string fits w d xs old (left_of old rest) step (popped old rest y e) left_whole p ends s in (h.0, h.1, h.2, h.3, left_whole)
+  leaf_of s = let h = leaf n xs old (left_of old rest) step (popped old rest y e) left_whole p ends s in (h.0, h.1, h.2, h.3, left_whole)
 
-  pub fork_of : shape_of step ≡ shapes.Fork → Forked string fits w d xs p step (left_of old rest)
-  fork_of = fork string fits w d xs old (left_of old rest) step (popped old rest y e) left_whole p ends
+  pub pair_of : (j k : Option ℕ) → shape_of step ≡ shapes.Pair j k → Paired j k n xs p step (left_of old rest) × AreWhole (left_of old rest)
+  pair_of j k s = (pair n xs old (left_of old rest) step (popped old rest y e) left_whole j k p ends s, left_whole)
 
-  pub lower_of : shape_of step ≡ shapes.Lower → Halved string fits w false d xs p step (left_of old rest)
-  lower_of = lower string fits w d xs old (left_of old rest) step (popped old rest y e) left_whole p ends
+  pub fork_of : shape_of step ≡ shapes.Fork → Forked n xs p step (left_of old rest)
+  fork_of = fork n xs old (left_of old rest) step (popped old rest y e) left_whole p ends
 
-  pub upper_of : shape_of step ≡ shapes.Upper → Halved string fits w true d xs p step (left_of old rest)
-  upper_of = upper string fits w d xs old (left_of old rest) step (popped old rest y e) left_whole p ends
+  pub lower_of : (k : Option ℕ) → shape_of step ≡ shapes.Lower k → Halved false k n xs p step (left_of old rest)
+  lower_of k = lower n xs old (left_of old rest) step (popped old rest y e) left_whole k p ends
 
-  pub skip_of : (b : B) → shape_of step ≡ shapes.Skip b → d ≤ w → Skipped string fits w b d xs p step (left_of old rest)
-  skip_of b = skip string fits w d xs old (left_of old rest) step (popped old rest y e) left_whole b p ends
+  pub upper_of : (k : Option ℕ) → shape_of step ≡ shapes.Upper k → Halved true k n xs p step (left_of old rest)
+  upper_of k = upper n xs old (left_of old rest) step (popped old rest y e) left_whole k p ends
+
+  pub skip_of : (ds : List Bool) → shape_of step ≡ shapes.Skip ds → Skipped ds n xs p step (left_of old rest)
+  skip_of ds = skip n xs old (left_of old rest) step (popped old rest y e) left_whole ds p ends
 
 -- a plan has steps
-pub never_empty : {B : Type 0} (string : B → List Bool) (fits : B → Bool) (w d : ℕ) (xs : List (Step B)) (p : Plan B) (s : Steps B) → Ends string fits w d xs p s → s.steps ≡ [] → ⊥
-never_empty string fits w d xs p s ends e =
-    omega (arith, ap length (sym ends.steps ∙ ap (map (step_of s.sets s.inner)) e), length-append xs (steps_of p), ap length (top_last p), length-append (below p) (top p ∷ []))
+pub never_empty : (xs : List Step) (p : Plan) (s : Steps) → steps_in s ≡ xs ++ steps_of p → s.steps ≡ [] → ⊥
+never_empty xs p s ends e = omega (arith, ap length (sym ends ∙ ap (map (step_of s.sets)) e), length-append xs (steps_of p), ap length (top_last p), length-append (below p) (top p ∷ []))
 
 -- the plan of the lower half, once the steps of the upper one are taken
-pub low_ends : {B : Type 0} (string : B → List Bool) (fits : B → Bool) (w d : ℕ) (xs : List (Step B)) (p : Plan B) (x : Step B) (left mid : Steps B) (f : Forked string fits w d xs p x left) → steps_in mid ≡ xs ++ steps_of f.low → AreWhole mid
-    → Ends string fits w (suc d) xs f.low mid
-low_ends string fits w d xs p x left mid f e h = record { steps = e; whole = h; room = f.below_room; fit = f.below_fit }
+pub low_ends : (n : ℕ) (xs : List Step) (p : Plan) (x : Step) (left mid : Steps) (f : Forked n xs p x left) → steps_in mid ≡ xs ++ steps_of f.low → AreWhole mid → EndsIn f.room xs f.low mid
+low_ends n xs p x left mid f e h = record { steps = e; whole = h; room = f.below_room }
 
 -- ---- the routes that are stored
 
--- the routes of a half, where its string is told
-at_half : {B : Type 0} (string : B → List Bool) (b q : List Bool) (c : Bool) (p : Plan B) (k : Option ℕ) → q ≡ b ++ c ∷ []
-    → within q (routes_of (tree_of string (length q) p) k) ≡ within (b ++ c ∷ []) (routes_of (tree_of string (suc (length b)) p) k)
-at_half string b q c p k e = ap (λ u. within u (routes_of (tree_of string (length u) p) k)) e ∙ ap (λ n. within (b ++ c ∷ []) (routes_of (tree_of string n p) k)) (half_length b c)
+-- those of a half, where its string is told
+at_half : (q u : List Bool) (p : Plan) (k : Option ℕ) → q ≡ u → within q (routes_of (tree_of p) k) ≡ within u (routes_of (tree_of p) k)
+at_half q u p k e = ap (λ t. within t (routes_of (tree_of p) k)) e
 
-gap_half : (b q : List Bool) (c : Bool) (k : Option ℕ) → q ≡ b ++ c ∷ [] → cond {A = List (List Bool × Option ℕ)} (same_hop k None) [] ((q, None) ∷ []) ≡ within (b ++ c ∷ []) (routes_of (trees.Leaf None) k)
-gap_half b q c k e = ap (λ u. cond {A = List (List Bool × Option ℕ)} (same_hop k None) [] ((u, None) ∷ [])) e ∙ leaf_stored (same_hop k None) (b ++ c ∷ []) None
+other_half : (q u : List Bool) (j k : Option ℕ) → q ≡ u → cond {A = List (List Bool × Option ℕ)} (same_hop k j) [] ((q, j) ∷ []) ≡ within u (routes_of (trees.Leaf j) k)
+other_half q u j k e = ap (λ t. cond {A = List (List Bool × Option ℕ)} (same_hop k j) [] ((t, j) ∷ [])) e ∙ leaf_stored (same_hop k j) u j
 
 together : {X : Type 0} (as' bs cs ds : List X) → as' ++ (bs ++ (cs ++ ds)) ≡ (as' ++ (bs ++ cs)) ++ ds
 together as' bs cs ds = ap (λ t. as' ++ t) (sym (append_assoc bs cs ds)) ∙ sym (append_assoc as' (bs ++ cs) ds)
@@ -206,7 +222,7 @@ module _ (b : List Bool) (s k : Option ℕ) (is_new : Bool) (hops : List (Option
       route : List (List Bool × Option ℕ)
       route = cond (holds hops s) [] ((b, first_of hops) ∷ [])
 
-  module _ {B : Type 0} (string : B → List Bool) (fits : B → Bool) (w : ℕ) (xs : List (Step B)) (p : Plan B) (x : Step B) (left mid after old : Steps B) (r0 r1 r2 r3 : List (B × Option ℕ)) (same : step_best x ≡ hops)
+  module _ {B : Type 0} (string : B → List Bool) (n : ℕ) (xs : List Step) (p : Plan) (x : Step) (left mid after old : Steps) (r0 r1 r2 r3 : List (B × Option ℕ)) (same : step_best x ≡ hops)
       (last : strings string r3 ≡ cond is_new ((b, k) ∷ []) [] ++ strings string r2) where
     pub leaf_stores : (h : Option ℕ) → p ≡ Leaf h → hops ≡ h ∷ [] → steps_in left ≡ xs → AreWhole left → r2 ≡ r0 → Stores string b s xs p r0 r3 old left
     leaf_stores h is one steps whole none = record {
@@ -214,56 +230,66 @@ module _ (b : List Bool) (s k : Option ℕ) (is_new : Bool) (hops : List (Option
       whole = whole;
       routes = own (strings string r2) (strings string r3) last
           ∙ ap₂ (λ t u. t ++ u) (ap (λ ks. cond {A = List (List Bool × Option ℕ)} (holds ks s) [] ((b, first_of ks) ∷ [])) one ∙ ap (λ c. cond {A = List (List Bool × Option ℕ)} c [] ((b, h) ∷ [])) (one_holds h s) ∙ leaf_stored (same_hop s h) b h) (ap (strings string) none)
-          ∙ ap (λ q. within b (routes_of (tree_of string (length b) q) s) ++ strings string r0) (sym is);
+          ∙ ap (λ q. within b (routes_of (tree_of q) s) ++ strings string r0) (sym is);
     }
 
-    pub fork_stores : (d : Forked string fits w (length b) xs p x left) → (q1 q0 : List Bool) → q1 ≡ b ++ true ∷ [] → q0 ≡ b ++ false ∷ []
+    pub pair_stores : (i j : Option ℕ) (d : Paired i j n xs p x left) → AreWhole left → (q1 q0 : List Bool) → q1 ≡ b ++ true ∷ [] → q0 ≡ b ++ false ∷ []
+        → strings string r1 ≡ cond (same_hop k j) [] ((q1, j) ∷ []) ++ strings string r0 → strings string r2 ≡ cond (same_hop k i) [] ((q0, i) ∷ []) ++ strings string r1 → Stores string b s xs p r0 r3 old left
+    pair_stores i j d whole q1 q0 g h above lower = record {
+      steps = d.steps;
+      whole = whole;
+      routes = fork_routes (routes_of (trees.Leaf i)) (routes_of (trees.Leaf j)) (strings string r0) (strings string r1) (strings string r2) (strings string r3)
+          (above ∙ ap (λ t. t ++ strings string r0) (other_half q1 (b ++ true ∷ []) j k g)) (lower ∙ ap (λ t. t ++ strings string r1) (other_half q0 (b ++ false ∷ []) i k h)) last
+          ∙ ap (λ ks. within b (routes_of (trees.Fork ks (trees.Leaf i) (trees.Leaf j)) s) ++ strings string r0) (sym same ∙ d.best)
+          ∙ ap (λ q. within b (routes_of (tree_of q) s) ++ strings string r0) (sym d.is);
+    }
+
+    pub fork_stores : (d : Forked n xs p x left) → (q1 q0 : List Bool) → q1 ≡ b ++ true ∷ [] → q0 ≡ b ++ false ∷ []
         → Stores string q1 k (xs ++ steps_of d.low) d.high r0 r1 left mid → Stores string q0 k xs d.low r1 r2 mid after → Stores string b s xs p r0 r3 old after
     fork_stores d q1 q0 g h above lower = record {
       steps = lower.steps;
       whole = lower.whole;
-      routes = fork_routes (λ j. routes_of (tree_of string (suc (length b)) d.low) j) (λ j. routes_of (tree_of string (suc (length b)) d.high) j) (strings string r0) (strings string r1) (strings string r2) (strings string r3)
-          (above.routes ∙ ap (λ t. t ++ strings string r0) (at_half string b q1 true d.high k g)) (lower.routes ∙ ap (λ t. t ++ strings string r1) (at_half string b q0 false d.low k h)) last
-          ∙ ap (λ ks. within b (routes_of (trees.Fork ks (tree_of string (suc (length b)) d.low) (tree_of string (suc (length b)) d.high)) s) ++ strings string r0) (sym same ∙ d.best)
-          ∙ ap (λ q. within b (routes_of (tree_of string (length b) q) s) ++ strings string r0) (sym d.is);
+      routes = fork_routes (λ j. routes_of (tree_of d.low) j) (λ j. routes_of (tree_of d.high) j) (strings string r0) (strings string r1) (strings string r2) (strings string r3)
+          (above.routes ∙ ap (λ t. t ++ strings string r0) (at_half q1 (b ++ true ∷ []) d.high k g)) (lower.routes ∙ ap (λ t. t ++ strings string r1) (at_half q0 (b ++ false ∷ []) d.low k h)) last
+          ∙ ap (λ ks. within b (routes_of (trees.Fork ks (tree_of d.low) (tree_of d.high)) s) ++ strings string r0) (sym same ∙ d.best)
+          ∙ ap (λ q. within b (routes_of (tree_of q) s) ++ strings string r0) (sym d.is);
     }
 
-    pub lower_stores : (d : Halved string fits w false (length b) xs p x left) → (q1 q0 : List Bool) → q1 ≡ b ++ true ∷ [] → q0 ≡ b ++ false ∷ []
-        → strings string r1 ≡ cond (same_hop k None) [] ((q1, None) ∷ []) ++ strings string r0 → Stores string q0 k xs d.inner r1 r2 left after → Stores string b s xs p r0 r3 old after
-    lower_stores d q1 q0 g h gap inner = record {
+    pub lower_stores : (j : Option ℕ) (d : Halved false j n xs p x left) → (q1 q0 : List Bool) → q1 ≡ b ++ true ∷ [] → q0 ≡ b ++ false ∷ []
+        → strings string r1 ≡ cond (same_hop k j) [] ((q1, j) ∷ []) ++ strings string r0 → Stores string q0 k xs d.inner r1 r2 left after → Stores string b s xs p r0 r3 old after
+    lower_stores j d q1 q0 g h other inner = record {
       steps = inner.steps;
       whole = inner.whole;
-      routes = fork_routes (λ j. routes_of (tree_of string (suc (length b)) d.inner) j) (routes_of (trees.Leaf None)) (strings string r0) (strings string r1) (strings string r2) (strings string r3)
-          (gap ∙ ap (λ t. t ++ strings string r0) (gap_half b q1 true k g)) (inner.routes ∙ ap (λ t. t ++ strings string r1) (at_half string b q0 false d.inner k h)) last
-          ∙ ap (λ ks. within b (routes_of (trees.Fork ks (tree_of string (suc (length b)) d.inner) (trees.Leaf None)) s) ++ strings string r0) (sym same ∙ d.best)
-          ∙ ap (λ q. within b (routes_of (tree_of string (length b) q) s) ++ strings string r0) (sym d.is);
+      routes = fork_routes (λ i. routes_of (tree_of d.inner) i) (routes_of (trees.Leaf j)) (strings string r0) (strings string r1) (strings string r2) (strings string r3)
+          (other ∙ ap (λ t. t ++ strings string r0) (other_half q1 (b ++ true ∷ []) j k g)) (inner.routes ∙ ap (λ t. t ++ strings string r1) (at_half q0 (b ++ false ∷ []) d.inner k h)) last
+          ∙ ap (λ ks. within b (routes_of (trees.Fork ks (tree_of d.inner) (trees.Leaf j)) s) ++ strings string r0) (sym same ∙ d.best)
+          ∙ ap (λ q. within b (routes_of (tree_of q) s) ++ strings string r0) (sym d.is);
     }
 
-    pub upper_stores : (d : Halved string fits w true (length b) xs p x left) → (q1 q0 : List Bool) → q1 ≡ b ++ true ∷ [] → q0 ≡ b ++ false ∷ []
-        → Stores string q1 k xs d.inner r0 r1 left after → strings string r2 ≡ cond (same_hop k None) [] ((q0, None) ∷ []) ++ strings string r1 → Stores string b s xs p r0 r3 old after
-    upper_stores d q1 q0 g h inner gap = record {
+    pub upper_stores : (j : Option ℕ) (d : Halved true j n xs p x left) → (q1 q0 : List Bool) → q1 ≡ b ++ true ∷ [] → q0 ≡ b ++ false ∷ []
+        → Stores string q1 k xs d.inner r0 r1 left after → strings string r2 ≡ cond (same_hop k j) [] ((q0, j) ∷ []) ++ strings string r1 → Stores string b s xs p r0 r3 old after
+    upper_stores j d q1 q0 g h inner other = record {
       steps = inner.steps;
       whole = inner.whole;
-      routes = fork_routes (routes_of (trees.Leaf None)) (λ j. routes_of (tree_of string (suc (length b)) d.inner) j) (strings string r0) (strings string r1) (strings string r2) (strings string r3)
-          (inner.routes ∙ ap (λ t. t ++ strings string r0) (at_half string b q1 true d.inner k g)) (gap ∙ ap (λ t. t ++ strings string r1) (gap_half b q0 false k h)) last
-          ∙ ap (λ ks. within b (routes_of (trees.Fork ks (trees.Leaf None) (tree_of string (suc (length b)) d.inner)) s) ++ strings string r0) (sym same ∙ d.best)
-          ∙ ap (λ q. within b (routes_of (tree_of string (length b) q) s) ++ strings string r0) (sym d.is);
+      routes = fork_routes (routes_of (trees.Leaf j)) (λ i. routes_of (tree_of d.inner) i) (strings string r0) (strings string r1) (strings string r2) (strings string r3)
+          (inner.routes ∙ ap (λ t. t ++ strings string r0) (at_half q1 (b ++ true ∷ []) d.inner k g)) (other ∙ ap (λ t. t ++ strings string r1) (other_half q0 (b ++ false ∷ []) j k h)) last
+          ∙ ap (λ ks. within b (routes_of (trees.Fork ks (trees.Leaf j) (tree_of d.inner)) s) ++ strings string r0) (sym same ∙ d.best)
+          ∙ ap (λ q. within b (routes_of (tree_of q) s) ++ strings string r0) (sym d.is);
     }
 
-    pub skip_stores : (y : B) (d : Skipped string fits w y (length b) xs p x left) → (q : List Bool) → q ≡ b ++ drop (length b) (string y) → hops ≡ d.hop ∷ []
-        → Stores string q k xs d.inner r0 r2 left after → Stores string b s xs p r0 r3 old after
-    skip_stores y d q g one inner = record {
+    pub skip_stores : (ds : List Bool) (d : Skipped ds n xs p x left) → (q : List Bool) → q ≡ b ++ ds → hops ≡ d.hop ∷ [] → Stores string q k xs d.inner r0 r2 left after → Stores string b s xs p r0 r3 old after
+    skip_stores ds d q g one inner = record {
       steps = inner.steps;
       whole = inner.whole;
       routes = own (strings string r2) (strings string r3) last
           ∙ ap₂ (λ t u. t ++ u) (ap (λ ks. cond {A = List (List Bool × Option ℕ)} (holds ks s) [] ((b, first_of ks) ∷ [])) one ∙ ap (λ c. cond {A = List (List Bool × Option ℕ)} c [] ((b, d.hop) ∷ [])) (one_holds d.hop s)) (inner.routes ∙ ap (λ t. t ++ strings string r0) there)
-          ∙ sym (append_assoc (cond (same_hop s d.hop) [] ((b, d.hop) ∷ [])) (within (b ++ drop (length b) (string y)) (routes_of (tree_of string (length (string y)) d.inner) d.hop)) (strings string r0))
-          ∙ ap (λ t. t ++ strings string r0) (skip_stored (same_hop s d.hop) b (drop (length b) (string y)) (routes_of (tree_of string (length (string y)) d.inner) d.hop) d.hop)
-          ∙ ap (λ q. within b (routes_of (tree_of string (length b) q) s) ++ strings string r0) (sym d.is);
+          ∙ sym (append_assoc (cond (same_hop s d.hop) [] ((b, d.hop) ∷ [])) (within (b ++ ds) (routes_of (tree_of d.inner) d.hop)) (strings string r0))
+          ∙ ap (λ t. t ++ strings string r0) (skip_stored (same_hop s d.hop) b ds (routes_of (tree_of d.inner) d.hop) d.hop)
+          ∙ ap (λ q. within b (routes_of (tree_of q) s) ++ strings string r0) (sym d.is);
     }
       where
         hop_is : k ≡ d.hop
         hop_is = e ∙ ap (λ ks. passed ks s) one ∙ one_passed d.hop s
 
-        there : within q (routes_of (tree_of string (length q) d.inner) k) ≡ within (b ++ drop (length b) (string y)) (routes_of (tree_of string (length (string y)) d.inner) d.hop)
-        there = ap₂ (λ u j. within u (routes_of (tree_of string (length u) d.inner) j)) g hop_is ∙ ap (λ n. within (b ++ drop (length b) (string y)) (routes_of (tree_of string n d.inner) d.hop)) (inner_length b (string y) (omega (arith, d.deep)))
+        there : within q (routes_of (tree_of d.inner) k) ≡ within (b ++ ds) (routes_of (tree_of d.inner) d.hop)
+        there = ap₂ (λ u j. within u (routes_of (tree_of d.inner) j)) g hop_is

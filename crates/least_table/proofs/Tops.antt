@@ -1,24 +1,26 @@
 -- Where the steps of a plan stand among others.
 use Rattle.std.proofs.Common.{◌≡◌, ℕ, ◌+◌, ◌-◌, List, [], ◌∷◌, ◌++◌, length, slice_index_or, None, refl, sym, ap, ap₂, ◌∙◌, arith, append_assoc, length-append}
 use Rattle.std.proofs.Math.Seq.{get_or-append_seam}
-use Rattle.least_table.specs.InnerPlans.{Plan, Leaf, Fork, Half, Skip, top, steps_of}
+use Rattle.least_table.specs.InnerPlans.{Plan, Leaf, Pair, Fork, Half, Skip, top, steps_of}
 use Rattle.least_table.specs.InnerSteps.{Step, step_best}
 use Rattle.least_table.specs.InnerSteps as steps
 
 -- all steps but that of the block itself
-abbrev pub below : {B : Type 0} → Plan B → List (Step B)
+abbrev pub below : Plan → List Step
 below (Leaf k) = []
+below (Pair j k hops) = []
 below (Fork hops l r) = steps_of l ++ steps_of r
-below (Half upper hops t) = steps_of t
-below (Skip k b t) = steps_of t
+below (Half upper k hops t) = steps_of t
+below (Skip k ds t) = steps_of t
 
-pub top_last : {B : Type 0} (p : Plan B) → steps_of p ≡ below p ++ top p ∷ []
+pub top_last : (p : Plan) → steps_of p ≡ below p ++ top p ∷ []
 top_last (Leaf k) = refl
+top_last (Pair j k hops) = refl
 top_last (Fork hops l r) = refl
-top_last (Half upper hops t) = refl
-top_last (Skip k b t) = refl
+top_last (Half upper k hops t) = refl
+top_last (Skip k ds t) = refl
 
-module _ {B : Type 0} (p : Plan B) (old new rest all : List (Step B)) (e : new ≡ old ++ steps_of p) (f : all ≡ new ++ rest) where
+module _ (p : Plan) (old new rest all : List Step) (e : new ≡ old ++ steps_of p) (f : all ≡ new ++ rest) where
   parts : new ≡ (old ++ below p) ++ top p ∷ []
   parts = e ∙ ap (λ t. old ++ t) (top_last p) ∙ sym (append_assoc old (below p) (top p ∷ []))
 
@@ -26,7 +28,7 @@ module _ {B : Type 0} (p : Plan B) (old new rest all : List (Step B)) (e : new �
   length_of_new = ap length parts ∙ length-append (old ++ below p) (top p ∷ [])
 
   -- the last of the new steps is that of the block
-  pub top_at : (d : Step B) → slice_index_or all (length new - 1) d ≡ top p
+  pub top_at : (d : Step) → slice_index_or all (length new - 1) d ≡ top p
   top_at d =
       let n : length new - 1 ≡ length (old ++ below p) = omega (arith, length_of_new) in
       ap₂ (λ xs i. slice_index_or xs i d) (f ∙ ap (λ t. t ++ rest) parts ∙ append_assoc (old ++ below p) (top p ∷ []) rest) n ∙ get_or-append_seam (old ++ below p) (top p) rest d

@@ -1,83 +1,77 @@
--- The steps of a plan as they are kept: eight bytes each, and the sets and blocks that all share.
-use Rattle.std.specs.Prelude.{◌≡◌, ℕ, ◌<◌, Bool, true, false, List, [], ◌∷◌, ◌++◌, length, map, slice_get, slice_index_or, Option, Some, None, ⊤}
-use Rattle.least_table.specs.HopSets.{AreMerged}
-use Rattle.least_table.specs.InnerRising.{IsRising}
+-- The steps of a plan as they are kept: eight bytes each, and the sets that all share.
+use Rattle.std.specs.Prelude.{◌≡◌, ℕ, ◌<◌, ◌≤◌, ◌^◌, ◌⊎◌, Bool, true, false, List, [], ◌∷◌, ◌++◌, drop, length, map, slice_index_or, Option, Some, None, ⊤}
+use Rattle.ipnet_blocks.specs.Blocks.{digits}
+use Rattle.least_table.specs.HopSets.{first_of}
+use Rattle.least_table.specs.InnerHops.{second_of}
 use Rattle.least_table.specs.InnerSets.{HasSet, set_at}
 use Rattle.least_table.specs.InnerSteps.{Step, step_best}
 use Rattle.least_table.specs.InnerSteps as steps
 use Rattle.least_table.specs.declared.plan.Packed.{Packed}
-use Rattle.least_table.specs.declared.plan.Packed.TheVariants.{Leaf, One, Nowhere, Either, Several, LowerNowhere, LowerEither, LowerSeveral, UpperNowhere, UpperEither, UpperSeveral, Skip}
+use Rattle.least_table.specs.declared.plan.Packed.TheVariants.{Leaf, Rising, Falling, One, Nowhere, Either, Several, LowerEither, LowerSeveral, UpperEither, UpperSeveral, Skip, Around}
 use Rattle.least_table.specs.declared.plan.Steps.{Steps}
 use Rattle.least_table.specs.declared.plan.Best.{Best}
 use Rattle.least_table.specs.declared.plan.Best.TheVariants as bests
 
--- no hop outside the smaller block
-abbrev pub around : {B : Type 0} → Option B → Step B
-around None = steps.Leaf None
-around (Some b) = steps.Skip None b
-
 -- the step that is kept so
-abbrev pub step_of : {B : Type 0} → List (List (Option ℕ)) → List B → Packed → Step B
-step_of sets inner (Leaf k) = steps.Leaf (Some k)
-step_of sets inner (One k) = steps.Fork (Some k ∷ [])
-step_of sets inner Nowhere = steps.Fork (None ∷ [])
-step_of sets inner (Either k) = steps.Fork (None ∷ Some k ∷ [])
-step_of sets inner (Several at) = steps.Fork (set_at sets at)
-step_of sets inner LowerNowhere = steps.Half false (None ∷ [])
-step_of sets inner (LowerEither k) = steps.Half false (None ∷ Some k ∷ [])
-step_of sets inner (LowerSeveral at) = steps.Half false (set_at sets at)
-step_of sets inner UpperNowhere = steps.Half true (None ∷ [])
-step_of sets inner (UpperEither k) = steps.Half true (None ∷ Some k ∷ [])
-step_of sets inner (UpperSeveral at) = steps.Half true (set_at sets at)
-step_of sets inner (Skip at) = around (slice_get inner at)
+abbrev pub step_of : List (List (Option ℕ)) → Packed → Step
+step_of sets (Leaf k) = steps.Leaf (Some k)
+step_of sets (Rising at) = steps.Pair (first_of (set_at sets at)) (second_of (set_at sets at)) (set_at sets at)
+step_of sets (Falling at) = steps.Pair (second_of (set_at sets at)) (first_of (set_at sets at)) (set_at sets at)
+step_of sets (One k) = steps.Fork (Some k ∷ [])
+step_of sets Nowhere = steps.Fork (None ∷ [])
+step_of sets (Either k) = steps.Fork (None ∷ Some k ∷ [])
+step_of sets (Several at) = steps.Fork (set_at sets at)
+step_of sets (LowerEither k) = steps.Half false None (None ∷ Some k ∷ [])
+step_of sets (LowerSeveral at) = steps.Half false (first_of (set_at sets at)) (drop 1 (set_at sets at))
+step_of sets (UpperEither k) = steps.Half true None (None ∷ Some k ∷ [])
+step_of sets (UpperSeveral at) = steps.Half true (first_of (set_at sets at)) (drop 1 (set_at sets at))
+step_of sets (Skip n x) = steps.Skip None (digits n x)
+step_of sets (Around n x k) = steps.Skip (Some k) (digits n x)
 
--- what the step names stands in the lists
-abbrev pub IsKept : List (List (Option ℕ)) → ℕ → Packed → Type 0
-IsKept sets n (Leaf k) = ⊤
-IsKept sets n (One k) = ⊤
-IsKept sets n Nowhere = ⊤
-IsKept sets n (Either k) = ⊤
-IsKept sets n (Several at) = HasSet sets at
-IsKept sets n LowerNowhere = ⊤
-IsKept sets n (LowerEither k) = ⊤
-IsKept sets n (LowerSeveral at) = HasSet sets at
-IsKept sets n UpperNowhere = ⊤
-IsKept sets n (UpperEither k) = ⊤
-IsKept sets n (UpperSeveral at) = HasSet sets at
-IsKept sets n (Skip at) = at < n
+-- what the step names stands in the list of sets, and its bits are no more than its levels
+abbrev pub IsKept : List (List (Option ℕ)) → Packed → Type 0
+IsKept sets (Leaf k) = ⊤
+IsKept sets (Rising at) = HasSet sets at
+IsKept sets (Falling at) = HasSet sets at
+IsKept sets (One k) = ⊤
+IsKept sets Nowhere = ⊤
+IsKept sets (Either k) = ⊤
+IsKept sets (Several at) = HasSet sets at
+IsKept sets (LowerEither k) = ⊤
+IsKept sets (LowerSeveral at) = HasSet sets at
+IsKept sets (UpperEither k) = ⊤
+IsKept sets (UpperSeveral at) = HasSet sets at
+IsKept sets (Skip n x) = (n ≤ 16) × (x < 2 ^ n)
+IsKept sets (Around n x k) = (n ≤ 16) × (x < 2 ^ n)
 
-abbrev pub AreKept : List (List (Option ℕ)) → ℕ → List Packed → Type 0
-AreKept sets n [] = ⊤
-AreKept sets n (x ∷ xs) = IsKept sets n x × AreKept sets n xs
+abbrev pub AreKept : List (List (Option ℕ)) → List Packed → Type 0
+AreKept sets [] = ⊤
+AreKept sets (x ∷ xs) = IsKept sets x × AreKept sets xs
 
-abbrev pub AreWhole : {B : Type 0} → Steps B → Type 0
-AreWhole s = AreKept s.sets (length s.inner) s.steps
+abbrev pub AreWhole : Steps → Type 0
+AreWhole s = AreKept s.sets s.steps
 
-abbrev pub steps_in : {B : Type 0} → Steps B → List (Step B)
-steps_in s = map (step_of s.sets s.inner) s.steps
+abbrev pub steps_in : Steps → List Step
+steps_in s = map (step_of s.sets) s.steps
 
 -- the hops that the block of the step at a place is best handed
-abbrev pub best_at : {B : Type 0} → Steps B → ℕ → List (Option ℕ)
+abbrev pub best_at : Steps → ℕ → List (Option ℕ)
 best_at s at = step_best (slice_index_or (steps_in s) at (steps.Leaf None))
 
+-- this step is kept so, whatever sets there are
+abbrev pub IsAlways : Packed → Step → Type 0
+IsAlways p x = (sets : List (List (Option ℕ))) → (step_of sets p ≡ x) × IsKept sets p
+
+-- the step of a block of which one half, the upper one where the test holds, has the step x, while the other has this hop; x leads to a
+-- smaller block, or to one half, past others with this hop
+abbrev pub IsWider : Bool → Option ℕ → Step → Packed → Type 0
+IsWider upper k x p = ((ds : List Bool) × (x ≡ steps.Skip k ds) × IsAlways p (steps.Skip k (upper ∷ ds)))
+    ⊎ ((half : Bool) × (hops : List (Option ℕ)) × (x ≡ steps.Half half k hops) × IsAlways p (steps.Skip k (upper ∷ half ∷ [])))
+
 -- these steps are appended
-pub record Grows {B : Type 0} (old new : Steps B) (xs : List (Step B)) : Type 0 where
+pub record Grows (old new : Steps) (xs : List Step) : Type 0 where
   pub steps : steps_in new ≡ steps_in old ++ xs
   pub whole : AreWhole new
-
--- the step of a block that is cut into halves is appended; what the halves are best handed is merged
-pub record Joins {B : Type 0} (old new : Steps B) (low high : List (Option ℕ)) : Type 0 where
-  pub hops : List (Option ℕ)
-  pub merged : AreMerged low high hops
-  pub rising : IsRising hops
-  pub adds : Grows old new (steps.Fork hops ∷ [])
-
--- the step of a block is appended of which only one half has hops, those that are given
-pub record Widens {B : Type 0} (old new : Steps B) (upper : Bool) (inner : List (Option ℕ)) : Type 0 where
-  pub hops : List (Option ℕ)
-  pub merged : AreMerged (None ∷ []) inner hops
-  pub rising : IsRising hops
-  pub adds : Grows old new (steps.Half upper hops ∷ [])
 
 -- the hops of a set
 abbrev pub hops_in : Best → List (Option ℕ)

@@ -1,49 +1,49 @@
 -- What the steps of a planner are: plans of lower halves, and behind them that of the block of the last piece.
 use Rattle.std.specs.Prelude.{◌≡◌, ℕ, suc, ◌<◌, ◌≤◌, Bool, true, false, List, [], ◌∷◌, ◌++◌, length, take, reverse, slice_index_or, MatchOption, ⊤}
 use Rattle.least_table.specs.InnerPacked.{AreWhole, steps_in}
-use Rattle.least_table.specs.InnerPlans.{Plan, IsPlanOf, steps_of}
-use Rattle.least_table.specs.InnerSteps.{Step}
+use Rattle.least_table.specs.InnerPlans.{Plan, Ends, IsHeld, IsPlanOf, top}
+use Rattle.least_table.specs.InnerRising.{IsRising}
+use Rattle.least_table.specs.InnerSteps.{Step, step_best}
 use Rattle.least_table.specs.declared.plan.Steps.{Steps}
 use Rattle.least_table.specs.declared.planner.Lower.{Lower}
 use Rattle.least_table.specs.declared.planner.Planner.{Planner}
 
-module _ {B : Type 0} (string : B → List Bool) (fits : B → Bool) (w : ℕ) where
+module _ (w : ℕ) where
   -- behind the steps xs stand those of a plan of the block of the first d bits of a for these pieces
-  pub record Plans (a : List Bool) (d : ℕ) (ps : List (List Bool × ℕ)) (xs : List (Step B)) (s : Steps B) : Type 0 where
-    pub plan : Plan B
-    pub steps : steps_in s ≡ xs ++ steps_of plan
-    pub is : IsPlanOf string fits w d (take d a) ps plan
-    pub whole : AreWhole s
+  pub record Plans (a : List Bool) (d : ℕ) (ps : List (List Bool × ℕ)) (xs : List Step) (s : Steps) : Type 0 where
+    pub plan : Plan
+    pub ends : Ends xs plan s
+    pub is : IsPlanOf w d (take d a) ps plan
 
-  -- the last of the steps are those of a plan of a lower half, whose upper half has the block a; that of the half has the place
-  pub record IsLower (a : List Bool) (o : Lower) (ps : List (List Bool × ℕ)) (xs : List (Step B)) : Type 0 where
-    pub plan : Plan B
+  -- the last of the steps are those of a plan of a lower half, whose upper half has the block a, where they aren't held elsewhere
+  pub record IsLower (a : List Bool) (o : Lower) (ps : List (List Bool × ℕ)) (xs : List Step) : Type 0 where
+    pub plan : Plan
     pub pieces : List (List Bool × ℕ)
     pub others : List (List Bool × ℕ)
-    pub before : List (Step B)
+    pub before : List Step
     pub all : ps ≡ others ++ pieces
-    pub steps : xs ≡ before ++ steps_of plan
-    pub is : IsPlanOf string fits w (suc o.depth) (take o.depth a ++ false ∷ []) pieces plan
+    pub held : IsHeld o.planned plan before xs
+    pub rising : IsRising (step_best (top plan))
+    pub is : IsPlanOf w (suc o.depth) (take o.depth a ++ false ∷ []) pieces plan
     pub upper : slice_index_or a o.depth false ≡ true
-    pub at : suc o.at ≡ length xs
 
   -- the pieces and the steps of lower halves, the innermost first, of blocks of fewer than d bits
-  abbrev pub AreLowers : List Lower → List Bool → ℕ → List (List Bool × ℕ) → List (Step B) → Type 0
+  abbrev pub AreLowers : List Lower → List Bool → ℕ → List (List Bool × ℕ) → List Step → Type 0
   AreLowers [] a d ps xs = (ps ≡ []) × (xs ≡ [])
   AreLowers (o ∷ os) a d ps xs = (o.depth < d) × (l : IsLower a o ps xs) × AreLowers os a o.depth l.others l.before
 
   -- the pieces are planned, up to the block of the first d bits of a, in which the last of them lie; the blocks of the lower halves have
   -- fewer than e bits
-  pub record ArePlanned (a : List Bool) (d e : ℕ) (ps : List (List Bool × ℕ)) (lowers : List Lower) (s : Steps B) : Type 0 where
+  pub record ArePlanned (a : List Bool) (d e : ℕ) (ps : List (List Bool × ℕ)) (lowers : List Lower) (s : Steps) : Type 0 where
     pub others : List (List Bool × ℕ)
     pub pieces : List (List Bool × ℕ)
-    pub before : List (Step B)
+    pub before : List Step
     pub all : ps ≡ others ++ pieces
     pub lower : AreLowers (reverse lowers) a e others before
     pub plans : Plans a d pieces before s
 
   -- the pieces that have come, of which the last is the block a
-  pub record EndAt (a : List Bool) (ps : List (List Bool × ℕ)) (lowers : List Lower) (s : Steps B) : Type 0 where
+  pub record EndAt (a : List Bool) (ps : List (List Bool × ℕ)) (lowers : List Lower) (s : Steps) : Type 0 where
     pub others : List (List Bool × ℕ)
     pub hop : ℕ
     pub last : ps ≡ others ++ (a, hop) ∷ []
@@ -51,7 +51,7 @@ module _ {B : Type 0} (string : B → List Bool) (fits : B → Bool) (w : ℕ) w
     pub planned : ArePlanned a (length a) (length a) ps lowers s
 
   -- the pieces that have come
-  abbrev pub HasPlanned : Planner B → List (List Bool × ℕ) → Type 0
+  abbrev pub HasPlanned : {B : Type 0} → Planner B → List (List Bool × ℕ) → Type 0
   HasPlanned p ps = MatchOption p.last ((ps ≡ []) × (p.lowers.items ≡ []) × (steps_in p.steps ≡ []) × AreWhole p.steps) (λ a. EndAt a ps p.lowers.items p.steps)
 
 -- the innermost block has fewer than d bits

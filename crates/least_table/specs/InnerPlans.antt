@@ -1,6 +1,7 @@
 -- What the steps of a plan are as a tree.
-use Rattle.std.specs.Prelude.{◌≡◌, ℕ, suc, ◌+◌, ◌-◌, ◌<◌, Bool, true, false, List, [], ◌∷◌, ◌++◌, length, take, drop, Option, None, IsTrue, ⊤}
+use Rattle.std.specs.Prelude.{◌≡◌, ℕ, suc, ◌+◌, ◌-◌, ◌<◌, Bool, true, false, List, [], ◌∷◌, ◌++◌, length, Option, Some, ⊤}
 use Rattle.least_table.specs.Pieces.{hop_at, strings}
+use Rattle.least_table.specs.Tables.{half_of}
 use Rattle.least_table.specs.InnerPieces.{AllShare, beyond}
 use Rattle.least_table.specs.InnerPacked.{AreWhole, steps_in}
 use Rattle.least_table.specs.InnerRising.{IsRising}
@@ -8,51 +9,46 @@ use Rattle.least_table.specs.InnerSteps.{Step, step_best}
 use Rattle.least_table.specs.InnerSteps as steps
 use Rattle.least_table.specs.Trees.{Tree, IsPlan, routes_of, within}
 use Rattle.least_table.specs.Trees as trees
+use Rattle.least_table.specs.declared.plan.Planned.{Planned}
+use Rattle.least_table.specs.declared.plan.Planned.TheVariants as planned
 use Rattle.least_table.specs.declared.plan.Steps.{Steps}
 
 -- what the steps of a block and of the smaller ones in it are together
-pub data Plan (B : Type 0) : Type 0 where
-  Leaf : Option ℕ → Plan B
-  Fork : List (Option ℕ) → Plan B → Plan B → Plan B
-  Half : Bool → List (Option ℕ) → Plan B → Plan B
-  Skip : Option ℕ → B → Plan B → Plan B
+pub data Plan : Type 0 where
+  Leaf : Option ℕ → Plan
+  Pair : Option ℕ → Option ℕ → List (Option ℕ) → Plan
+  Fork : List (Option ℕ) → Plan → Plan → Plan
+  Half : Bool → Option ℕ → List (Option ℕ) → Plan → Plan
+  Skip : Option ℕ → List Bool → Plan → Plan
 
 -- the step of the block itself
-abbrev pub top : {B : Type 0} → Plan B → Step B
+abbrev pub top : Plan → Step
 top (Leaf k) = steps.Leaf k
+top (Pair j k hops) = steps.Pair j k hops
 top (Fork hops l r) = steps.Fork hops
-top (Half upper hops t) = steps.Half upper hops
-top (Skip k b t) = steps.Skip k b
+top (Half upper k hops t) = steps.Half upper k hops
+top (Skip k ds t) = steps.Skip k ds
 
--- all steps: those of the lower half, of the upper one, and that of the block
-abbrev pub steps_of : {B : Type 0} → Plan B → List (Step B)
+-- all steps: those of the lower half, of the upper one, and that of the block; a half with one hop beside another has none
+abbrev pub steps_of : Plan → List Step
 steps_of (Leaf k) = steps.Leaf k ∷ []
+steps_of (Pair j k hops) = steps.Pair j k hops ∷ []
 steps_of (Fork hops l r) = (steps_of l ++ steps_of r) ++ steps.Fork hops ∷ []
-steps_of (Half upper hops t) = steps_of t ++ steps.Half upper hops ∷ []
-steps_of (Skip k b t) = steps_of t ++ steps.Skip k b ∷ []
+steps_of (Half upper k hops t) = steps_of t ++ steps.Half upper k hops ∷ []
+steps_of (Skip k ds t) = steps_of t ++ steps.Skip k ds ∷ []
 
--- a block with hops in one half only, as one with both
-abbrev pub one_half : Bool → List (Option ℕ) → Tree → Tree
-one_half false hops t = trees.Fork hops t (trees.Leaf None)
-one_half true hops t = trees.Fork hops (trees.Leaf None) t
+-- a block with a plan of one half, whose other half has one hop
+abbrev pub one_half : Bool → Option ℕ → List (Option ℕ) → Tree → Tree
+one_half false k hops t = trees.Fork hops t (trees.Leaf k)
+one_half true k hops t = trees.Fork hops (trees.Leaf k) t
 
--- the tree of a plan at depth d: a skip goes on to the depth of its inner block
-abbrev pub tree_of : {B : Type 0} → (B → List Bool) → ℕ → Plan B → Tree
-tree_of string d (Leaf k) = trees.Leaf k
-tree_of string d (Fork hops l r) = trees.Fork hops (tree_of string (suc d) l) (tree_of string (suc d) r)
-tree_of string d (Half upper hops t) = one_half upper hops (tree_of string (suc d) t)
-tree_of string d (Skip k b t) = trees.Skip k (drop d (string b)) (tree_of string (length (string b)) t)
-
--- the bits between two depths
-abbrev pub between : ℕ → ℕ → List Bool → List Bool
-between d c s = take (c - d) (drop d s)
-
--- the inner blocks of the plan fit
-abbrev pub AllFit : {B : Type 0} → (B → Bool) → Plan B → Type 0
-AllFit fits (Leaf k) = ⊤
-AllFit fits (Fork hops l r) = AllFit fits l × AllFit fits r
-AllFit fits (Half upper hops t) = AllFit fits t
-AllFit fits (Skip k b t) = IsTrue (fits b) × AllFit fits t
+-- the tree of a plan
+abbrev pub tree_of : Plan → Tree
+tree_of (Leaf k) = trees.Leaf k
+tree_of (Pair j k hops) = trees.Fork hops (trees.Leaf j) (trees.Leaf k)
+tree_of (Fork hops l r) = trees.Fork hops (tree_of l) (tree_of r)
+tree_of (Half upper k hops t) = one_half upper k hops (tree_of t)
+tree_of (Skip k ds t) = trees.Skip k ds (tree_of t)
 
 -- the tree cuts no block of w bits into more
 abbrev pub Fits : ℕ → Tree → Type 0
@@ -60,26 +56,39 @@ Fits w (trees.Leaf k) = ⊤
 Fits w (trees.Fork hops l r) = (v : ℕ) × (w ≡ suc v) × Fits v l × Fits v r
 Fits w (trees.Skip k ds t) = (v : ℕ) × (w ≡ length ds + v) × (0 < length ds) × Fits v t
 
--- p is a plan of a block of d bits for the pieces in it
-pub record IsMade {B : Type 0} (string : B → List Bool) (fits : B → Bool) (w d : ℕ) (ps : List (List Bool × ℕ)) (p : Plan B) : Type 0 where
-  pub plans : IsPlan (w - d) (hop_at (beyond d ps)) (tree_of string d p)
-  pub rising : IsRising (step_best (top p))
-  pub fit : AllFit fits p
+-- r is a plan of each block whose halves have the plans p and q
+abbrev pub OfHalves : Plan → Plan → Plan → Type 0
+OfHalves p q r = (v : ℕ) (h : List Bool → Option ℕ) → IsPlan v (half_of false h) (tree_of p) → IsPlan v (half_of true h) (tree_of q) → IsPlan (suc v) h (tree_of r)
+
+-- r is a plan of each block of which one half, the upper one where the test holds, has the plan p, and the other this hop
+abbrev pub OfHalf : Bool → Option ℕ → Plan → Plan → Type 0
+OfHalf false k p r = OfHalves p (Leaf k) r
+OfHalf true k p r = OfHalves (Leaf k) p r
 
 -- p is a plan of the block b, of d bits, for these pieces, which lie in it
-pub record IsPlanOf {B : Type 0} (string : B → List Bool) (fits : B → Bool) (w d : ℕ) (b : List Bool) (ps : List (List Bool × ℕ)) (p : Plan B) : Type 0 where
-  pub made : IsMade string fits w d ps p
+pub record IsPlanOf (w d : ℕ) (b : List Bool) (ps : List (List Bool × ℕ)) (p : Plan) : Type 0 where
+  pub plans : IsPlan (w - d) (hop_at (beyond d ps)) (tree_of p)
   pub inside : AllShare b ps
 
--- the steps are xs and then those of the plan p of a block of d bits
-pub record Ends {B : Type 0} (string : B → List Bool) (fits : B → Bool) (w d : ℕ) (xs : List (Step B)) (p : Plan B) (s : Steps B) : Type 0 where
+-- the steps are xs and then those of the plan p
+pub record Ends (xs : List Step) (p : Plan) (s : Steps) : Type 0 where
   pub steps : steps_in s ≡ xs ++ steps_of p
   pub whole : AreWhole s
-  pub room : Fits (w - d) (tree_of string d p)
-  pub fit : AllFit fits p
+  pub rising : IsRising (step_best (top p))
+
+-- the steps are xs and then those of the plan p of a block with n free bits
+pub record EndsIn (n : ℕ) (xs : List Step) (p : Plan) (s : Steps) : Type 0 where
+  pub steps : steps_in s ≡ xs ++ steps_of p
+  pub whole : AreWhole s
+  pub room : Fits n (tree_of p)
+
+-- the steps are xs, but for those of the plan p of a lower half, which is held: by its place where they stand behind xs
+abbrev pub IsHeld : Planned → Plan → List Step → List Step → Type 0
+IsHeld (planned.Leaf k) p xs ys = (p ≡ Leaf (Some k)) × (ys ≡ xs)
+IsHeld (planned.At at) p xs ys = (ys ≡ xs ++ steps_of p) × (suc at ≡ length ys)
 
 -- the steps of the plan p of the block b are taken off, and its routes where s is handed down stand before the others
-pub record Stores {B : Type 0} (string : B → List Bool) (b : List Bool) (s : Option ℕ) (xs : List (Step B)) (p : Plan B) (old new : List (B × Option ℕ)) (before after : Steps B) : Type 0 where
+pub record Stores {B : Type 0} (string : B → List Bool) (b : List Bool) (s : Option ℕ) (xs : List Step) (p : Plan) (old new : List (B × Option ℕ)) (before after : Steps) : Type 0 where
   pub steps : steps_in after ≡ xs
   pub whole : AreWhole after
-  pub routes : strings string new ≡ within b (routes_of (tree_of string (length b) p) s) ++ strings string old
+  pub routes : strings string new ≡ within b (routes_of (tree_of p) s) ++ strings string old

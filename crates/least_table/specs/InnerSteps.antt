@@ -2,21 +2,23 @@
 use Rattle.std.specs.Prelude.{◌≡◌, ℕ, ◌<◌, ◌^◌, Bool, cond, List, [], ◌∷◌, Option, All, IfSome, IsTrue}
 use Rattle.least_table.specs.HopSets.{holds, first_of}
 
--- a block whose addresses all have one hop; a block cut into halves, the lower first, and what it is best handed; a block of which only
--- the addresses of one half have hops, the upper one where the test holds; and a block whose addresses have this hop but for those of a
--- smaller block
-pub data Step (B : Type 0) : Type 0 where
-  Leaf : Option ℕ → Step B
-  Fork : List (Option ℕ) → Step B
-  Half : Bool → List (Option ℕ) → Step B
-  Skip : Option ℕ → B → Step B
+-- a block whose addresses all have one hop; one whose halves have one hop each, and what it is best handed; a block cut into halves, the
+-- lower first, and what it is best handed; one of which only one half is cut further, the upper one where the test holds, while the other
+-- has one hop; and a block whose addresses have this hop but for those of a smaller block, which these bits lead to
+pub data Step : Type 0 where
+  Leaf : Option ℕ → Step
+  Pair : Option ℕ → Option ℕ → List (Option ℕ) → Step
+  Fork : List (Option ℕ) → Step
+  Half : Bool → Option ℕ → List (Option ℕ) → Step
+  Skip : Option ℕ → List Bool → Step
 
 -- the hops that the block is best handed
-abbrev pub step_best : {B : Type 0} → Step B → List (Option ℕ)
+abbrev pub step_best : Step → List (Option ℕ)
 step_best (Leaf k) = k ∷ []
+step_best (Pair j k hops) = hops
 step_best (Fork hops) = hops
-step_best (Half upper hops) = hops
-step_best (Skip k b) = k ∷ []
+step_best (Half upper k hops) = hops
+step_best (Skip k ds) = k ∷ []
 
 -- the hop that is handed down: s where that is one of the best, else the first of these
 abbrev pub passed : List (Option ℕ) → Option ℕ → Option ℕ

@@ -1,5 +1,5 @@
 //! Single bits of paths.
-ghost use Rattle.std.specs.Prelude.{◌≡◌, ◌+◌, ◌<◌, ◌≤◌, ◌++◌, false, true, length, drop, slice_index_or};
+ghost use Rattle.std.specs.Prelude.{◌≡◌, ◌<◌, ◌≤◌, false, true, length, slice_index_or};
 ghost use Rattle.least_table.specs.InnerPieces.{before, shared};
 
 use trie_core::Path;
@@ -21,17 +21,4 @@ pub(crate) fn common(path: &Path, other: &Path) -> u8
     ensures { result ≡ shared path.now other.now }
 {
     (path.to_bits() ^ other.to_bits()).leading_zeros() as u8
-}
-
-/// The path, and then the bits of the other after as many.
-pub(crate) fn onto(path: &Path, other: &Path) -> Path
-    requires short { length path.now ≤ 128 }
-    requires other_short { length other.now ≤ 128 }
-    ensures { result ≡ path.now ++ drop (length path.now) other.now }
-{
-    let mut longer = Path::new(path.to_bits(), path.len());
-    for index in path.len()..other.len() {
-        longer = longer.extended(bit(other, index));
-    }
-    longer
 }

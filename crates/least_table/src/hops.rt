@@ -1,7 +1,7 @@
 //! Sets of hops: lists that rise, no hop first and then by number.
-ghost use Rattle.std.specs.Prelude.{◌≡◌, ◌∷◌, [], IfOk};
+ghost use Rattle.std.specs.Prelude.{◌≡◌, ◌∷◌, [], drop, IfOk};
 ghost use Rattle.least_table.specs.HopSets.{same_hop, holds, first_of, AreMerged};
-ghost use Rattle.least_table.specs.InnerHops.{members};
+ghost use Rattle.least_table.specs.InnerHops.{members, second_of};
 ghost use Rattle.least_table.specs.InnerRising.{is_less, IsRising, AreCommon, AreAll};
 
 use std::alloc::{AllocError, Global};
@@ -60,6 +60,26 @@ pub(crate) fn first(hops: &[Option<u32>]) -> Option<u32>
     match hops {
         [hop, ..] => *hop,
         [] => None,
+    }
+}
+
+/// The second of the hops; none where there are fewer.
+pub(crate) fn second(hops: &[Option<u32>]) -> Option<u32>
+    ensures { result ≡ second_of hops.now }
+{
+    match hops {
+        [_, hop, ..] => *hop,
+        _ => None,
+    }
+}
+
+/// The hops but for the first.
+pub(crate) fn others(hops: &[Option<u32>]) -> &[Option<u32>]
+    ensures { result.now ≡ drop 1 hops.now }
+{
+    match hops {
+        [_, others @ ..] => others,
+        [] => hops,
     }
 }
 
@@ -153,7 +173,22 @@ fn pair(a: Option<u32>, b: Option<u32>) -> Hops
     }
 }
 
-/// The common hops, or those of either where they have none in common.
+/// The common hops, or those of either where they have none in common: by both lists.
+fn merge_lists(alloc: Global, low: &[Option<u32>], high: &[Option<u32>]) -> Result<Hops, AllocError>
+    requires low_rises { IsRising low.now }
+    requires high_rises { IsRising high.now }
+    ensures merged { IfOk result (λ hops. AreMerged low.now high.now (members hops)) }
+    ensures rising { IfOk result (λ hops. IsRising (members hops)) }
+{
+    let shared = common(alloc, low, high)?;
+    if !shared.is_empty() {
+        return Ok(Hops::new(shared));
+    }
+    Ok(Hops::new(all(alloc, low, high)?))
+}
+
+/// The common hops, or those of either where they have none in common. A list of one hop, as most are, asks for no memory where the
+/// other has it, or is of one hop too.
 pub(crate) fn merge(
     alloc: Global,
     low: &[Option<u32>],
@@ -164,12 +199,10 @@ pub(crate) fn merge(
     ensures merged { IfOk result (λ hops. AreMerged low.now high.now (members hops)) }
     ensures rising { IfOk result (λ hops. IsRising (members hops)) }
 {
-    if let ([a], [b]) = (low, high) {
-        return Ok(pair(*a, *b));
+    match (low, high) {
+        ([a], [b]) => Ok(pair(*a, *b)),
+        ([a], _) if is_among(high, *a) => Ok(Hops::One(*a)),
+        (_, [b]) if is_among(low, *b) => Ok(Hops::One(*b)),
+        _ => merge_lists(alloc, low, high),
     }
-    let shared = common(alloc, low, high)?;
-    if !shared.is_empty() {
-        return Ok(Hops::new(shared));
-    }
-    Ok(Hops::new(all(alloc, low, high)?))
 }

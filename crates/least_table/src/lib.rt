@@ -9,6 +9,7 @@ mod plan;
 mod planner;
 mod routes;
 mod stack;
+mod turns;
 
 pub use planner::Planner;
 pub use routes::Routes;

@@ -1,21 +1,23 @@
 //! Plans: which hops each block is best handed, as steps that are taken in turn.
-ghost use Rattle.std.specs.Prelude.{◌≡◌, ◌+◌, ◌-◌, ◌<◌, ◌≤◌, ◌++◌, ◌∷◌, [], List, ℕ, None, Some, Bool, cond, false, length, IfOk, IsTrue, OnOk, not, true};
+ghost use Rattle.std.specs.Prelude.{◌≡◌, ◌-◌, ◌<◌, ◌≤◌, ◌++◌, ◌∷◌, [], List, ℕ, None, Option, Some, Bool, drop, false, length, take, IfOk, IfSome, MatchOption, OnOk, not, true};
 ghost use Rattle.least_table.specs.HopSets.{AreMerged, first_of, holds};
-ghost use Rattle.least_table.specs.InnerPacked.{AreWhole, Grows, IsKept, Joins, Widens, best_at, hops_in, step_of, steps_in};
+ghost use Rattle.least_table.specs.InnerPacked.{AreWhole, Grows, IsAlways, IsKept, IsWider, best_at, hops_in, step_of, steps_in};
 ghost use Rattle.least_table.specs.InnerHops.{members};
-ghost use Rattle.least_table.specs.InnerRising.{IsRising};
-ghost use Rattle.least_table.specs.InnerSteps.{AreNetworks, passed, step_best};
-ghost use Rattle.least_table.specs.InnerSteps.{Leaf, Fork, Half, Skip, Step};
 ghost use Rattle.least_table.specs.InnerPlanners.{Plans};
-ghost use Rattle.least_table.specs.InnerPlans.{Ends, Plan, Stores};
+ghost use Rattle.least_table.specs.InnerPlans as plans;
+ghost use Rattle.least_table.specs.InnerPlans.{Ends, EndsIn, IsHeld, OfHalf, OfHalves, Plan, Stores, steps_of, top};
+ghost use Rattle.least_table.specs.InnerRising.{IsRising};
 ghost use Rattle.least_table.specs.InnerShapes.{shape_of};
+ghost use Rattle.least_table.specs.declared.plan.Planned.TheVariants as planned;
+ghost use Rattle.least_table.specs.InnerSteps.{Leaf, Fork, Half, Skip, Step, AreNetworks, passed, step_best};
 
-use crate::bits::{bit, onto};
-use crate::hops::{Hops, first, is_among, merge};
+use crate::bits::bit;
+use crate::hops::{Hops, first, is_among, merge, others, second};
 use crate::kept_sets::KeptSets;
 use crate::routes::Routes;
 use crate::stack::Stack;
-use prefix_trie::{Prefix, path_of, prefix_of};
+use crate::turns::Turns;
+use prefix_trie::{Key, Prefix};
 use std::alloc::{AllocError, Global};
 use std::slice;
 use trie_core::Path;
@@ -26,6 +28,10 @@ use trie_core::Path;
 enum Packed {
     /// All its addresses have this hop.
     Leaf(u32),
+    /// Its halves have one hop each, those of the set of this number, the lower one the first. It is best handed either.
+    Rising(u32),
+    /// The same, the lower one the second.
+    Falling(u32),
     /// It is cut into halves, the lower first, and is best handed this hop.
     One(u32),
     /// It is cut into halves, the lower first, and is best handed none.
@@ -34,35 +40,35 @@ enum Packed {
     Either(u32),
     /// It is cut into halves, the lower first, and is best handed the hops of the set of this number.
     Several(u32),
-    /// Only addresses of its lower half have hops, and it is best handed none.
-    LowerNowhere,
     /// Only addresses of its lower half have hops, and it is best handed none or this hop.
     LowerEither(u32),
-    /// Only addresses of its lower half have hops, and it is best handed the hops of the set of this number.
+    /// Its upper half has one hop, the first of the set of this number, and it is best handed the others.
     LowerSeveral(u32),
-    /// Only addresses of its upper half have hops, and it is best handed none.
-    UpperNowhere,
     /// Only addresses of its upper half have hops, and it is best handed none or this hop.
     UpperEither(u32),
-    /// Only addresses of its upper half have hops, and it is best handed the hops of the set of this number.
+    /// Its lower half has one hop, the first of the set of this number, and it is best handed the others.
     UpperSeveral(u32),
-    /// None of its addresses has a hop, but for those of the smaller block that stands here.
-    Skip(u32),
+    /// None of its addresses has a hop, but for those of a smaller block, so many levels below by the bits of a number.
+    Skip(u8, u16),
+    /// Its addresses have this hop, but for those of a smaller block, so many levels below by the bits of a number.
+    Around(u8, u16, u32),
 }
 
 /// How a step cuts its block.
 #[derive(Drop)]
-enum Shape<P> {
+enum Shape {
     /// Not at all.
     Leaf,
+    /// Into halves with one hop each.
+    Pair(Option<u32>, Option<u32>),
     /// Into halves, the lower first.
     Fork,
-    /// Into a lower half and one without hops.
-    Lower,
-    /// Into an upper half and one without hops.
-    Upper,
-    /// Into this smaller block and what is around it, without hops.
-    Skip(P),
+    /// Into a lower half, and an upper one with one hop.
+    Lower(Option<u32>),
+    /// Into an upper half, and a lower one with one hop.
+    Upper(Option<u32>),
+    /// Into a smaller block, which this way leads to, and what is around it, with one hop.
+    Skip(Turns),
 }
 
 /// The hops that a block is best handed, rising.
@@ -89,31 +95,63 @@ impl<'a> Best<'a> {
     }
 }
 
-/// The steps of a plan.
-#[derive(Drop)]
-pub(crate) struct Steps<P: Copy> {
-    steps: Stack<Packed, 48>,
-    /// The sets of several hops.
-    sets: KeptSets,
-    /// The smaller blocks of steps that skip levels.
-    inner: Stack<P, 12>,
+/// Where the plan of a lower half is.
+#[derive(Clone, Copy)]
+pub(crate) enum Planned {
+    /// It has no step: all addresses of the half have this hop.
+    Leaf(u32),
+    /// The place of its last step.
+    At(usize),
 }
 
-impl<P: Prefix + Copy> Steps<P> {
+/// The step of a block whose addresses have this hop, but for those of a smaller one, which this way leads to.
+fn skip(turns: Turns, hop: Option<u32>) -> Packed
+    ensures { IsAlways result (Skip hop turns) }
+{
+    match hop {
+        Some(hop) => Packed::Around(turns.levels, turns.bits, hop),
+        None => Packed::Skip(turns.levels, turns.bits),
+    }
+}
+
+/// The step of a block of which one half has this step, and the other this hop, where the step leads to a smaller block past others
+/// with this hop.
+fn wider(step: Packed, is_upper: bool, hop: Option<u32>) -> Option<Packed>
+    requires { (sets : List (List (Option ℕ))) × IsKept sets step }
+    ensures { IfSome result (λ wide. (sets : List (List (Option ℕ))) → IsWider is_upper hop (step_of sets step) wide) }
+{
+    let inner = match (step, hop) {
+        (Packed::Skip(levels, bits), None) => Turns::of(levels, bits),
+        (Packed::Around(levels, bits, own), Some(hop)) if own == hop => Turns::of(levels, bits),
+        (Packed::LowerEither(_), None) => Turns::one(false),
+        (Packed::UpperEither(_), None) => Turns::one(true),
+        _ => return None,
+    };
+    Some(skip(inner.from_above(is_upper)?, hop))
+}
+
+/// The steps of a plan.
+#[derive(Drop)]
+pub(crate) struct Steps {
+    steps: Stack<Packed, 512>,
+    /// The sets of several hops.
+    sets: KeptSets,
+}
+
+impl Steps {
     /// No steps.
-    pub(crate) fn new(alloc: Global) -> Steps<P>
+    pub(crate) fn new(alloc: Global) -> Steps
         ensures steps { steps_in result ≡ [] }
         ensures whole { AreWhole result }
     {
         Steps {
             steps: Stack::new(alloc),
             sets: KeptSets::new(alloc),
-            inner: Stack::new(alloc),
         }
     }
 
     /// How many there are.
-    pub(crate) fn len(&self) -> usize
+    fn len(&self) -> usize
         ensures { result ≡ length (steps_in self.now) }
     {
         self.steps.len()
@@ -122,8 +160,8 @@ impl<P: Prefix + Copy> Steps<P> {
     /// Appends a step.
     fn push(&mut self, step: Packed) -> Result<(), AllocError>
         requires whole { AreWhole self.old }
-        requires kept { IsKept self.old.sets (length self.old.inner) step }
-        ensures { OnOk result (Grows self.old self.new (step_of self.old.sets self.old.inner step ∷ [])) }
+        requires kept { IsKept self.old.sets step }
+        ensures { OnOk result (Grows self.old self.new (step_of self.old.sets step ∷ [])) }
     {
         self.steps.push(step)
     }
@@ -136,16 +174,33 @@ impl<P: Prefix + Copy> Steps<P> {
         self.push(Packed::Leaf(hop))
     }
 
-    /// Appends the step of a block whose addresses have no hop, but for those of a smaller one.
-    pub(crate) fn push_skip(&mut self, inner: P) -> Result<(), AllocError>
+    /// Takes the last step off, if all addresses of its block have one hop.
+    fn pop_leaf(&mut self) -> Option<u32>
         requires { AreWhole self.old }
-        ensures { OnOk result (Grows self.old self.new (Skip None inner ∷ [])) }
+        ensures { MatchOption result (self.new ≡ self.old) (λ hop. (steps_in self.old ≡ steps_in self.new ++ Leaf (Some hop) ∷ []) × AreWhole self.new) }
     {
-        let Ok(at) = u32::try_from(self.inner.len()) else {
-            return Err(AllocError);
+        let hop = match self.steps.last() {
+            Some(Packed::Leaf(hop)) => *hop,
+            _ => return None,
         };
-        self.inner.push(inner)?;
-        self.steps.push(Packed::Skip(at))
+        self.steps.pop();
+        Some(hop)
+    }
+
+    /// Appends the step of a block whose halves have these hops.
+    fn push_pair(&mut self, low: u32, high: u32) -> Result<(), AllocError>
+        requires { AreWhole self.old }
+        ensures { OnOk result ((r : Plan) × OfHalves (plans.Leaf (Some low)) (plans.Leaf (Some high)) r × IsRising (step_best (top r)) × Grows self.old self.new (steps_of r)) }
+    {
+        if low < high {
+            let at = self.sets.push(&[Some(low), Some(high)])?;
+            self.steps.push(Packed::Rising(at))
+        } else if high < low {
+            let at = self.sets.push(&[Some(high), Some(low)])?;
+            self.steps.push(Packed::Falling(at))
+        } else {
+            self.push_leaf(low)
+        }
     }
 
     /// Appends the step of a block that is cut into halves, and is best handed the hops of this set.
@@ -170,51 +225,63 @@ impl<P: Prefix + Copy> Steps<P> {
         }
     }
 
-    /// Appends the step of a block that has hops in its lower half alone, and is best handed these.
-    fn push_lower(&mut self, hops: &[Option<u32>]) -> Result<(), AllocError>
+    /// Appends the step of a block of which one half has the last step, and the other one this hop, the first of these; it is best
+    /// handed the others.
+    fn push_beside(&mut self, is_upper: bool, set: &[Option<u32>]) -> Result<(), AllocError>
         requires { AreWhole self.old }
-        ensures { OnOk result (Grows self.old self.new (Half false hops.now ∷ [])) }
+        ensures { OnOk result (Grows self.old self.new (Half is_upper (first_of set.now) (drop 1 set.now) ∷ [])) }
     {
-        match hops {
-            [None] => self.push(Packed::LowerNowhere),
-            [None, Some(hop)] => self.push(Packed::LowerEither(*hop)),
-            _ => {
-                let at = self.sets.push(hops)?;
-                self.steps.push(Packed::LowerSeveral(at))
-            }
+        let at = self.sets.push(set)?;
+        if is_upper {
+            self.steps.push(Packed::UpperSeveral(at))
+        } else {
+            self.steps.push(Packed::LowerSeveral(at))
         }
     }
 
-    /// Appends the step of a block that has hops in its upper half alone, and is best handed these.
-    fn push_upper(&mut self, hops: &[Option<u32>]) -> Result<(), AllocError>
+    /// Appends the step of a block of which one half, the upper one or the lower one, has the last step, and the other this hop, and
+    /// which is best handed these hops.
+    fn push_half(
+        &mut self,
+        alloc: Global,
+        is_upper: bool,
+        hop: Option<u32>,
+        hops: &[Option<u32>],
+    ) -> Result<(), AllocError>
         requires { AreWhole self.old }
-        ensures { OnOk result (Grows self.old self.new (Half true hops.now ∷ [])) }
+        ensures { OnOk result (Grows self.old self.new (Half is_upper hop hops.now ∷ [])) }
     {
-        match hops {
-            [None] => self.push(Packed::UpperNowhere),
-            [None, Some(hop)] => self.push(Packed::UpperEither(*hop)),
-            _ => {
-                let at = self.sets.push(hops)?;
-                self.steps.push(Packed::UpperSeveral(at))
-            }
+        if let (None, [None, Some(other)]) = (hop, hops) {
+            return if is_upper {
+                self.push(Packed::UpperEither(*other))
+            } else {
+                self.push(Packed::LowerEither(*other))
+            };
         }
+        let mut set = Vec::with_capacity(alloc, hops.len())?;
+        set.push(hop)?;
+        set.extend_from_slice(hops)?;
+        self.push_beside(is_upper, &set)
     }
 
     /// The hops that the block of a step is best handed.
     fn best(&self, step: Packed) -> Best<'_>
-        requires { IsKept self.now.sets (length self.now.inner) step }
-        ensures { hops_in result ≡ step_best (step_of self.now.sets self.now.inner step) }
+        requires { IsKept self.now.sets step }
+        ensures { hops_in result ≡ step_best (step_of self.now.sets step) }
     {
         match step {
-            Packed::Leaf(hop) | Packed::One(hop) => Best::One(Some(hop)),
-            Packed::Nowhere | Packed::LowerNowhere | Packed::UpperNowhere | Packed::Skip(_) => {
-                Best::One(None)
+            Packed::Leaf(hop) | Packed::One(hop) | Packed::Around(_, _, hop) => {
+                Best::One(Some(hop))
             }
+            Packed::Nowhere | Packed::Skip(_, _) => Best::One(None),
             Packed::Either(hop) | Packed::LowerEither(hop) | Packed::UpperEither(hop) => {
                 Best::Two([None, Some(hop)])
             }
-            Packed::Several(at) | Packed::LowerSeveral(at) | Packed::UpperSeveral(at) => {
+            Packed::Several(at) | Packed::Rising(at) | Packed::Falling(at) => {
                 Best::Several(self.sets.get(at))
+            }
+            Packed::LowerSeveral(at) | Packed::UpperSeveral(at) => {
+                Best::Several(others(self.sets.get(at)))
             }
         }
     }
@@ -234,93 +301,118 @@ impl<P: Prefix + Copy> Steps<P> {
         merge(alloc, below.as_slice(), above.as_slice())
     }
 
-    /// The hops that a block is best handed of which one half has the step at this place, and the other no hop.
-    fn merged_with_none(&self, alloc: Global, at: usize) -> Result<Hops, AllocError>
-        requires whole { AreWhole self.now }
-        requires within { at < length (steps_in self.now) }
-        requires rises { IsRising (best_at self.now at) }
-        ensures merged { IfOk result (λ hops. AreMerged (None ∷ []) (best_at self.now at) (members hops)) }
-        ensures rising { IfOk result (λ hops. IsRising (members hops)) }
-    {
-        let best = self.best(*self.steps.get(at));
-        merge(alloc, &[None], best.as_slice())
-    }
-
-    /// Appends the step of a block whose lower half has the step at this place, and its upper half the last step.
-    pub(crate) fn join(&mut self, alloc: Global, low: usize) -> Result<(), AllocError>
-        requires whole { AreWhole self.old }
-        requires low { low < length (steps_in self.old) }
-        requires low_rises { IsRising (best_at self.old low) }
-        requires high_rises { IsRising (best_at self.old (length (steps_in self.old) - 1)) }
-        ensures { OnOk result (Joins self.old self.new (best_at self.old low) (best_at self.old (length (steps_in self.old) - 1))) }
+    /// Makes of the plans of both halves of a block, of which the lower one's last step has this place, and the upper one's is the last,
+    /// one of the block.
+    fn fork(&mut self, alloc: Global, low: usize) -> Result<(), AllocError>
+        requires { (xs : List Step) × (ys : List Step) × (p : Plan) × (q : Plan) × IsHeld (planned.At low) p xs ys × IsRising (step_best (top p)) × Ends ys q self.old }
+        ensures { OnOk result ((xs : List Step) (ys : List Step) (p : Plan) (q : Plan) → IsHeld (planned.At low) p xs ys → IsRising (step_best (top p)) → Ends ys q self.old → (r : Plan) × OfHalves p q r × Ends xs r self.new) }
     {
         let high = self.len() - 1;
         let hops = self.merged(alloc, low, high)?;
         self.push_fork(hops.as_slice())
     }
 
-    /// Appends the step of a block of which one half, the upper one or the lower one, has the last step, and the other no hop.
-    fn push_half(&mut self, alloc: Global, is_upper: bool) -> Result<(), AllocError>
-        requires whole { AreWhole self.old }
-        requires some { 0 < length (steps_in self.old) }
-        requires rises { IsRising (best_at self.old (length (steps_in self.old) - 1)) }
-        ensures { OnOk result (Widens self.old self.new is_upper (best_at self.old (length (steps_in self.old) - 1))) }
+    /// Makes of the plan of one half of a block, the upper one or the lower one, one of the block, whose other half has this hop.
+    fn widen(&mut self, alloc: Global, is_upper: bool, hop: Option<u32>) -> Result<(), AllocError>
+        requires { (xs : List Step) × (p : Plan) × Ends xs p self.old }
+        ensures { OnOk result ((xs : List Step) (p : Plan) → Ends xs p self.old → (r : Plan) × OfHalf is_upper hop p r × Ends xs r self.new) }
     {
-        let last = self.len() - 1;
-        let hops = self.merged_with_none(alloc, last)?;
-        if is_upper {
-            self.push_upper(hops.as_slice())
-        } else {
-            self.push_lower(hops.as_slice())
+        let Some(last) = self.steps.last() else {
+            return Ok(());
+        };
+        let last = *last;
+        if let Some(step) = wider(last, is_upper, hop) {
+            self.steps.pop();
+            return self.push(step);
         }
+        let best = self.best(last);
+        if is_among(best.as_slice(), hop) {
+            return self.push(skip(Turns::one(is_upper), hop));
+        }
+        let hops = merge(alloc, &[hop], best.as_slice())?;
+        self.push_half(alloc, is_upper, hop, hops.as_slice())
     }
 
     /// Makes of the plan of the block of the first `from` bits of a path, which the last steps are, one of the block of its first `to`
     /// bits, of which no other address has a hop.
-    pub(crate) fn widen(
+    pub(crate) fn ascend(
         &mut self,
         alloc: Global,
         path: &Path,
         from: u8,
         to: u8,
     ) -> Result<(), AllocError>
-        requires width { length path.now ≤ P.R.width }
-        requires short { P.R.width ≤ 128 }
+        requires short { length path.now ≤ 128 }
         requires inside { from ≤ length path.now }
         requires order { to ≤ from }
-        requires plans { (ps : List (List Bool × ℕ)) × (xs : List (Step P)) × Plans P.bits P.fits P.R.width path.now from ps xs self.old }
-        ensures { OnOk result ((ps : List (List Bool × ℕ)) (xs : List (Step P)) → Plans P.bits P.fits P.R.width path.now from ps xs self.old → Plans P.bits P.fits P.R.width path.now to ps xs self.new) }
+        requires plans { (w : ℕ) × (length path.now ≤ w) × (ps : List (List Bool × ℕ)) × (xs : List Step) × Plans w path.now from ps xs self.old }
+        ensures { OnOk result ((w : ℕ) (ps : List (List Bool × ℕ)) (xs : List Step) → length path.now ≤ w → Plans w path.now from ps xs self.old → Plans w path.now to ps xs self.new) }
     {
-        if from == to {
-            return Ok(());
+        let mut at = from;
+        while at > to {
+            at -= 1;
+            self.widen(alloc, bit(path, at), None)?;
         }
-        if from - to == 1 {
-            return self.push_half(alloc, bit(path, to));
+        Ok(())
+    }
+
+    /// Where the plan is that the last steps are, which is taken off if all addresses of its block have one hop.
+    pub(crate) fn hold(&mut self) -> Planned
+        requires { (xs : List Step) × (p : Plan) × Ends xs p self.old }
+        ensures { (xs : List Step) (p : Plan) → Ends xs p self.old → IsHeld result p xs (steps_in self.new) × AreWhole self.new }
+    {
+        match self.pop_leaf() {
+            Some(hop) => Planned::Leaf(hop),
+            None => Planned::At(self.len() - 1),
         }
-        self.push_skip(prefix_of(&Path::new(path.to_bits(), from)))
+    }
+
+    /// Makes of the plans of both halves of a block one of the block. The last steps are that of the upper half.
+    pub(crate) fn join(&mut self, alloc: Global, low: Planned) -> Result<(), AllocError>
+        requires { (xs : List Step) × (ys : List Step) × (p : Plan) × (q : Plan) × IsHeld low p xs ys × IsRising (step_best (top p)) × Ends ys q self.old }
+        ensures { OnOk result ((xs : List Step) (ys : List Step) (p : Plan) (q : Plan) → IsHeld low p xs ys → IsRising (step_best (top p)) → Ends ys q self.old → (r : Plan) × OfHalves p q r × Ends xs r self.new) }
+    {
+        match (low, self.pop_leaf()) {
+            (Planned::Leaf(low), Some(high)) => self.push_pair(low, high),
+            (Planned::Leaf(low), None) => self.widen(alloc, true, Some(low)),
+            (Planned::At(_), Some(high)) => self.widen(alloc, false, Some(high)),
+            (Planned::At(low), None) => self.fork(alloc, low),
+        }
     }
 
     /// How a step cuts its block.
-    fn shape(&self, step: Packed) -> Shape<P>
-        requires { IsKept self.now.sets (length self.now.inner) step }
-        ensures { result ≡ shape_of (step_of self.now.sets self.now.inner step) }
+    fn shape(&self, step: Packed) -> Shape
+        requires { IsKept self.now.sets step }
+        ensures { result ≡ shape_of (step_of self.now.sets step) }
     {
         match step {
             Packed::Leaf(_) => Shape::Leaf,
+            Packed::Rising(at) => {
+                let hops = self.sets.get(at);
+                Shape::Pair(first(hops), second(hops))
+            }
+            Packed::Falling(at) => {
+                let hops = self.sets.get(at);
+                Shape::Pair(second(hops), first(hops))
+            }
             Packed::One(_) | Packed::Nowhere | Packed::Either(_) | Packed::Several(_) => {
                 Shape::Fork
             }
-            Packed::LowerNowhere | Packed::LowerEither(_) | Packed::LowerSeveral(_) => Shape::Lower,
-            Packed::UpperNowhere | Packed::UpperEither(_) | Packed::UpperSeveral(_) => Shape::Upper,
-            Packed::Skip(at) => Shape::Skip(*self.inner.get(at as usize)),
+            Packed::LowerEither(_) => Shape::Lower(None),
+            Packed::LowerSeveral(at) => Shape::Lower(first(self.sets.get(at))),
+            Packed::UpperEither(_) => Shape::Upper(None),
+            Packed::UpperSeveral(at) => Shape::Upper(first(self.sets.get(at))),
+            Packed::Skip(levels, bits) | Packed::Around(levels, bits, _) => {
+                Shape::Skip(Turns::of(levels, bits))
+            }
         }
     }
 
     /// The hop that a block hands down by its step, where `handed` is handed down to it, and whether it needs a route for that.
     fn choice(&self, step: Packed, handed: Option<u32>) -> (Option<u32>, bool)
-        requires { IsKept self.now.sets (length self.now.inner) step }
-        ensures hop { result.0 ≡ passed (step_best (step_of self.now.sets self.now.inner step)) handed }
-        ensures route { result.1 ≡ not (holds (step_best (step_of self.now.sets self.now.inner step)) handed) }
+        requires { IsKept self.now.sets step }
+        ensures hop { result.0 ≡ passed (step_best (step_of self.now.sets step)) handed }
+        ensures route { result.1 ≡ not (holds (step_best (step_of self.now.sets step)) handed) }
     {
         let best = self.best(step);
         if is_among(best.as_slice(), handed) {
@@ -332,7 +424,7 @@ impl<P: Prefix + Copy> Steps<P> {
 
     /// Takes off the steps of the plan of the block at `path`, where `handed` is handed down to it, and adds its routes before the
     /// others.
-    pub(crate) fn take(
+    pub(crate) fn take<P: Prefix + Copy>(
         &mut self,
         path: &Path,
         handed: Option<u32>,
@@ -340,8 +432,8 @@ impl<P: Prefix + Copy> Steps<P> {
     ) -> Result<(), AllocError>
         requires short { P.R.width ≤ 128 }
         requires inside { length path.now ≤ P.R.width }
-        requires plan { (xs : List (Step P)) × (p : Plan P) × Ends P.bits P.fits P.R.width (length path.now) xs p self.old }
-        ensures stores { OnOk result ((xs : List (Step P)) (p : Plan P) → Ends P.bits P.fits P.R.width (length path.now) xs p self.old → Stores P.bits path.now handed xs p routes.old routes.new self.old self.new) }
+        requires plan { (xs : List Step) × (p : Plan) × EndsIn (P.R.width - length path.now) xs p self.old }
+        ensures stores { OnOk result ((xs : List Step) (p : Plan) → EndsIn (P.R.width - length path.now) xs p self.old → Stores P.bits path.now handed xs p routes.old routes.new self.old self.new) }
         ensures networks { OnOk result (AreNetworks P.fits P.of_bits P.bits routes.old → AreNetworks P.fits P.of_bits P.bits routes.new) }
     {
         let Some(step) = self.steps.pop() else {
@@ -350,23 +442,28 @@ impl<P: Prefix + Copy> Steps<P> {
         let (hop, is_new) = self.choice(step, handed);
         match self.shape(step) {
             Shape::Leaf => routes.add_own(path, hop, is_new),
+            Shape::Pair(low, high) => {
+                routes.add_other(&path.extended(true), high, hop)?;
+                routes.add_other(&path.extended(false), low, hop)?;
+                routes.add_own(path, hop, is_new)
+            }
             Shape::Fork => {
                 self.take(&path.extended(true), hop, routes)?;
                 self.take(&path.extended(false), hop, routes)?;
                 routes.add_own(path, hop, is_new)
             }
-            Shape::Lower => {
-                routes.add_gap(&path.extended(true), hop)?;
+            Shape::Lower(other) => {
+                routes.add_other(&path.extended(true), other, hop)?;
                 self.take(&path.extended(false), hop, routes)?;
                 routes.add_own(path, hop, is_new)
             }
-            Shape::Upper => {
+            Shape::Upper(other) => {
                 self.take(&path.extended(true), hop, routes)?;
-                routes.add_gap(&path.extended(false), hop)?;
+                routes.add_other(&path.extended(false), other, hop)?;
                 routes.add_own(path, hop, is_new)
             }
-            Shape::Skip(inner) => {
-                self.take(&onto(path, &path_of(&inner)), hop, routes)?;
+            Shape::Skip(turns) => {
+                self.take(&turns.onward(path), hop, routes)?;
                 routes.add_own(path, hop, is_new)
             }
         }

@@ -10,10 +10,11 @@ ghost use Rattle.least_table.specs.InnerSteps.{AreNetworks};
 ghost use Rattle.least_table.specs.InnerPlanners.{AreLowers, ArePlanned, HasPlanned, IsInside};
 
 use crate::bits::common;
-use crate::plan::Steps;
+use crate::plan::{Planned, Steps};
 use crate::routes::Routes;
 use prefix_trie::{Key, Prefix, path_of};
 use std::alloc::{AllocError, Global};
+use std::marker::PhantomData;
 use trie_core::Path;
 
 /// A lower half with pieces, whose upper half has some too, and is not planned yet.
@@ -21,8 +22,8 @@ use trie_core::Path;
 struct Lower {
     /// How many bits the block has that is cut into these halves.
     depth: u8,
-    /// The place of the step of the lower half.
-    at: usize,
+    /// Where its lower half's plan is.
+    planned: Planned,
 }
 
 /// The innermost of the lower halves, taken off, if its block has at least so many bits.
@@ -39,20 +40,22 @@ fn innermost(lowers: &mut Vec<Lower>, depth: u8) -> Option<Lower>
 /// plan takes eight bytes, and there are some two for each piece.
 #[derive(Drop)]
 pub struct Planner<P: Copy> {
-    steps: Steps<P>,
+    steps: Steps,
     lowers: Vec<Lower>,
     last: Option<Path>,
+    blocks: PhantomData<P>,
 }
 
 impl<P: Prefix + Copy> Planner<P> {
     /// No pieces. It takes no memory.
     pub fn new(alloc: Global) -> Planner<P>
-        ensures { HasPlanned P.bits P.fits P.R.width result [] }
+        ensures { HasPlanned P.R.width result [] }
     {
         Planner {
             steps: Steps::new(alloc),
             lowers: Vec::new(alloc),
             last: None,
+            blocks: PhantomData,
         }
     }
 
@@ -61,17 +64,17 @@ impl<P: Prefix + Copy> Planner<P> {
         requires width { length path.now ≤ P.R.width }
         requires short { P.R.width ≤ 128 }
         requires inside { depth ≤ length path.now }
-        requires planned { (ps : List (List Bool × ℕ)) × ArePlanned P.bits P.fits P.R.width path.now (length path.now) (length path.now) ps self.old.lowers.items self.old.steps }
-        ensures { OnOk result ((ps : List (List Bool × ℕ)) → ArePlanned P.bits P.fits P.R.width path.now (length path.now) (length path.now) ps self.old.lowers.items self.old.steps → ArePlanned P.bits P.fits P.R.width path.now depth depth ps self.new.lowers.items self.new.steps) }
+        requires planned { (ps : List (List Bool × ℕ)) × ArePlanned P.R.width path.now (length path.now) (length path.now) ps self.old.lowers.items self.old.steps }
+        ensures { OnOk result ((ps : List (List Bool × ℕ)) → ArePlanned P.R.width path.now (length path.now) (length path.now) ps self.old.lowers.items self.old.steps → ArePlanned P.R.width path.now depth depth ps self.new.lowers.items self.new.steps) }
     {
         let alloc = *self.lowers.allocator();
         let mut from = path.len();
         while let Some(lower) = innermost(&mut self.lowers, depth) {
-            self.steps.widen(alloc, path, from, lower.depth + 1)?;
-            self.steps.join(alloc, lower.at)?;
+            self.steps.ascend(alloc, path, from, lower.depth + 1)?;
+            self.steps.join(alloc, lower.planned)?;
             from = lower.depth;
         }
-        self.steps.widen(alloc, path, from, depth)
+        self.steps.ascend(alloc, path, from, depth)
     }
 
     /// Plans the lower half that the last piece lies in, where the next one lies in the upper half beside it.
@@ -80,21 +83,21 @@ impl<P: Prefix + Copy> Planner<P> {
         requires other_width { length path.now ≤ P.R.width }
         requires short { P.R.width ≤ 128 }
         requires before { before last.now path.now ≡ true }
-        requires planned { (ps : List (List Bool × ℕ)) × ArePlanned P.bits P.fits P.R.width last.now (length last.now) (length last.now) ps self.old.lowers.items self.old.steps }
-        ensures { OnOk result ((ps : List (List Bool × ℕ)) → ArePlanned P.bits P.fits P.R.width last.now (length last.now) (length last.now) ps self.old.lowers.items self.old.steps → AreLowers P.bits P.fits P.R.width (reverse self.new.lowers.items) path.now (length path.now) ps (steps_in self.new.steps) × AreWhole self.new.steps) }
+        requires planned { (ps : List (List Bool × ℕ)) × ArePlanned P.R.width last.now (length last.now) (length last.now) ps self.old.lowers.items self.old.steps }
+        ensures { OnOk result ((ps : List (List Bool × ℕ)) → ArePlanned P.R.width last.now (length last.now) (length last.now) ps self.old.lowers.items self.old.steps → AreLowers P.R.width (reverse self.new.lowers.items) path.now (length path.now) ps (steps_in self.new.steps) × AreWhole self.new.steps) }
     {
         let depth = common(last, path);
         self.close(last, depth + 1)?;
-        let at = self.steps.len() - 1;
-        self.lowers.push(Lower { depth, at })?;
+        let planned = self.steps.hold();
+        self.lowers.push(Lower { depth, planned })?;
         Ok(())
     }
 
     /// Makes ready for a piece at `path`, behind all others.
     fn begin(&mut self, path: &Path) -> Result<(), AllocError>
         requires width { length path.now ≤ P.R.width }
-        requires after { (ps : List (List Bool × ℕ)) × (hop : ℕ) × HasPlanned P.bits P.fits P.R.width self.old ps × AreDisjoint (ps ++ (path.now, hop) ∷ []) }
-        ensures { OnOk result ((ps : List (List Bool × ℕ)) (hop : ℕ) → HasPlanned P.bits P.fits P.R.width self.old ps → AreDisjoint (ps ++ (path.now, hop) ∷ []) → AreLowers P.bits P.fits P.R.width (reverse self.new.lowers.items) path.now (length path.now) ps (steps_in self.new.steps) × AreWhole self.new.steps) }
+        requires after { (ps : List (List Bool × ℕ)) × (hop : ℕ) × HasPlanned P.R.width self.old ps × AreDisjoint (ps ++ (path.now, hop) ∷ []) }
+        ensures { OnOk result ((ps : List (List Bool × ℕ)) (hop : ℕ) → HasPlanned P.R.width self.old ps → AreDisjoint (ps ++ (path.now, hop) ∷ []) → AreLowers P.R.width (reverse self.new.lowers.items) path.now (length path.now) ps (steps_in self.new.steps) × AreWhole self.new.steps) }
     {
         let _width = <P::R as Key>::width();
         match self.last.take() {
@@ -109,8 +112,8 @@ impl<P: Prefix + Copy> Planner<P> {
     /// Where there is no memory; then the plan is lost.
     pub fn push(&mut self, block: &P, hop: u32) -> Result<(), AllocError>
         requires fits { IsTrue (P.fits block.now) }
-        requires after { (ps : List (List Bool × ℕ)) × HasPlanned P.bits P.fits P.R.width self.old ps × AreDisjoint (ps ++ (P.bits block.now, hop) ∷ []) }
-        ensures { OnOk result ((ps : List (List Bool × ℕ)) → HasPlanned P.bits P.fits P.R.width self.old ps → AreDisjoint (ps ++ (P.bits block.now, hop) ∷ []) → HasPlanned P.bits P.fits P.R.width self.new (ps ++ (P.bits block.now, hop) ∷ [])) }
+        requires after { (ps : List (List Bool × ℕ)) × HasPlanned P.R.width self.old ps × AreDisjoint (ps ++ (P.bits block.now, hop) ∷ []) }
+        ensures { OnOk result ((ps : List (List Bool × ℕ)) → HasPlanned P.R.width self.old ps → AreDisjoint (ps ++ (P.bits block.now, hop) ∷ []) → HasPlanned P.R.width self.new (ps ++ (P.bits block.now, hop) ∷ [])) }
     {
         let path = path_of(block);
         self.begin(&path)?;
@@ -122,10 +125,10 @@ impl<P: Prefix + Copy> Planner<P> {
     /// The routes of a least table, where this was the path of the last piece.
     fn routes(&mut self, last: &Path) -> Result<Routes<P>, AllocError>
         requires width { length last.now ≤ P.R.width }
-        requires planned { (ps : List (List Bool × ℕ)) × ArePlanned P.bits P.fits P.R.width last.now (length last.now) (length last.now) ps self.old.lowers.items self.old.steps }
+        requires planned { (ps : List (List Bool × ℕ)) × ArePlanned P.R.width last.now (length last.now) (length last.now) ps self.old.lowers.items self.old.steps }
         ensures networks { IfOk result (λ table. AreNetworks P.fits P.of_bits P.bits table) }
         ensures ordered { IfOk result (λ table. AllPairs (λ r s. bits_cmp r.0 s.0 ≡ Less) (strings P.bits table)) }
-        ensures least { IfOk result (λ table. (ps : List (List Bool × ℕ)) → ArePlanned P.bits P.fits P.R.width last.now (length last.now) (length last.now) ps self.old.lowers.items self.old.steps → IsLeast P.R.width (hop_at ps) (strings P.bits table)) }
+        ensures least { IfOk result (λ table. (ps : List (List Bool × ℕ)) → ArePlanned P.R.width last.now (length last.now) (length last.now) ps self.old.lowers.items self.old.steps → IsLeast P.R.width (hop_at ps) (strings P.bits table)) }
     {
         let _width = <P::R as Key>::width();
         self.close(last, 0)?;
@@ -140,10 +143,10 @@ impl<P: Prefix + Copy> Planner<P> {
     /// # Errors
     /// Where there is no memory.
     pub fn into_routes(self) -> Result<Routes<P>, AllocError>
-        requires { (ps : List (List Bool × ℕ)) × HasPlanned P.bits P.fits P.R.width self ps }
+        requires { (ps : List (List Bool × ℕ)) × HasPlanned P.R.width self ps }
         ensures networks { IfOk result (λ table. AreNetworks P.fits P.of_bits P.bits table) }
         ensures ordered { IfOk result (λ table. AllPairs (λ r s. bits_cmp r.0 s.0 ≡ Less) (strings P.bits table)) }
-        ensures least { IfOk result (λ table. (ps : List (List Bool × ℕ)) → HasPlanned P.bits P.fits P.R.width self ps → IsLeast P.R.width (hop_at ps) (strings P.bits table)) }
+        ensures least { IfOk result (λ table. (ps : List (List Bool × ℕ)) → HasPlanned P.R.width self ps → IsLeast P.R.width (hop_at ps) (strings P.bits table)) }
     {
         let mut left = self;
         match left.last.take() {

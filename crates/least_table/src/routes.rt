@@ -1,10 +1,11 @@
 //! The routes of a least table.
-ghost use Rattle.std.specs.Prelude.{◌≡◌, ◌≤◌, ◌++◌, ◌∷◌, [], None, cond, length, OnOk};
+ghost use Rattle.std.specs.Prelude.{◌≡◌, ◌≤◌, ◌++◌, ◌∷◌, [], cond, length, OnOk};
 ghost use Rattle.std.specs.Iterator.{YieldsFirst};
 ghost use Rattle.least_table.specs.HopSets.{same_hop};
 ghost use Rattle.least_table.specs.InnerSteps.{AreNetworks};
 ghost use Rattle.least_table.specs.Pieces.{strings};
 
+use crate::hops::is_same;
 use crate::stack::Stack;
 use prefix_trie::{Prefix, prefix_of};
 use std::alloc::{AllocError, Global};
@@ -73,15 +74,20 @@ impl<P: Prefix + Copy> Routes<P> {
         Ok(())
     }
 
-    /// Adds a route with `drop` of the block at `path` before the others, if a hop is handed down to it.
-    pub(crate) fn add_gap(&mut self, path: &Path, handed: Option<u32>) -> Result<(), AllocError>
+    /// Adds a route of the block at `path` before the others, if its hop isn't that which is handed down to it.
+    pub(crate) fn add_other(
+        &mut self,
+        path: &Path,
+        hop: Option<u32>,
+        handed: Option<u32>,
+    ) -> Result<(), AllocError>
         requires { length path.now ≤ P.R.width }
-        ensures routes { OnOk result (strings P.bits self.new ≡ cond (same_hop handed None) [] ((path.now, None) ∷ []) ++ strings P.bits self.old) }
+        ensures routes { OnOk result (strings P.bits self.new ≡ cond (same_hop handed hop) [] ((path.now, hop) ∷ []) ++ strings P.bits self.old) }
         ensures networks { OnOk result (AreNetworks P.fits P.of_bits P.bits self.old → AreNetworks P.fits P.of_bits P.bits self.new) }
     {
-        match handed {
-            Some(_) => self.add(path, None),
-            None => Ok(()),
+        if is_same(handed, hop) {
+            return Ok(());
         }
+        self.add(path, hop)
     }
 }

@@ -1,5 +1,5 @@
 //! Stacks that grow in blocks.
-ghost use Rattle.std.specs.Prelude.{◌≡◌, ◌<◌, ◌++◌, ◌∷◌, [], MatchOption, OnOk, length, slice_index_or};
+ghost use Rattle.std.specs.Prelude.{◌≡◌, ◌<◌, ◌++◌, ◌∷◌, [], List, MatchOption, OnOk, length, slice_index_or};
 ghost use Rattle.least_table.specs.InnerStacks.{IsSize};
 
 use std::alloc::{AllocError, Global};
@@ -61,6 +61,17 @@ impl<X, const SIZE: usize> Stack<X, SIZE> {
         } else {
             &self.last[at % SIZE]
         }
+    }
+
+    /// The last item, where there is one. It takes no memory.
+    pub fn last(&self) -> Option<&X>
+        ensures { MatchOption result (self.now ≡ []) (λ x. (xs : List X) × (self.now ≡ xs ++ x.now ∷ [])) }
+    {
+        let len = self.len();
+        if len == 0 {
+            return None;
+        }
+        Some(self.get(len - 1))
     }
 }
 

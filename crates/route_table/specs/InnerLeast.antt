@@ -36,7 +36,7 @@ pieces_of f ps = map (λ p. (bit_string p.block, p.number)) (filter (λ p. same_
 
 -- the pieces that a plan of one family has taken
 abbrev pub IsPlanned : Family → Planner Network → List (List Bool × ℕ) → Type 0
-IsPlanned f = HasPlanned (λ n. bit_string (block_of f n)) (λ n. true) (width f)
+IsPlanned f = HasPlanned (width f)
 
 -- disjoint pieces with the hops of a family's addresses
 pub record ArePieces (f : Family) (h : Address → Option ℕ) (ps : List (List Bool × ℕ)) : Type 0 where

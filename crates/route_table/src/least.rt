@@ -93,8 +93,8 @@ impl Iterator for LeastRoutes {
 
 /// The routes of a least table of one family that has the hops of the pieces that were planned.
 fn fewest<P: OfFamily>(plan: Planner<P>) -> Result<Routes<P>, AllocError>
-    requires { (ps : List (List Bool × ℕ)) × HasPlanned P.bits P.fits P.R.width plan ps }
-    ensures { IfOk result (λ table. (ps : List (List Bool × ℕ)) → HasPlanned P.bits P.fits P.R.width plan ps → AreLeast P.family ps (items_of P.family P.parts table)) }
+    requires { (ps : List (List Bool × ℕ)) × HasPlanned P.R.width plan ps }
+    ensures { IfOk result (λ table. (ps : List (List Bool × ℕ)) → HasPlanned P.R.width plan ps → AreLeast P.family ps (items_of P.family P.parts table)) }
 {
     plan.into_routes()
 }

@@ -7,21 +7,21 @@ use Rattle.least_table.proofs.Packed.{kept_read, best_read}
 use Rattle.least_table.proofs.plan.Steps.merged.Goals as goal
 
 pub best-below-requires : goal.best-below-requires
-best-below-requires g c = kept_read c.args.self.now c.args.low c.get.result.now c.requires.low c.get.ensures c.requires.whole
+best-below-requires c = kept_read c.args.self.now c.args.low c.get.result.now c.requires.low c.get.ensures c.requires.whole
 
 pub best-above-requires : goal.best-above-requires
-best-above-requires g c = kept_read c.args.self.now c.args.high c.get-2.result.now c.requires.high c.get-2.ensures c.requires.whole
+best-above-requires c = kept_read c.args.self.now c.args.high c.get-2.result.now c.requires.high c.get-2.ensures c.requires.whole
 
 pub merge-requires-clause-low_rises : goal.merge-requires-clause-low_rises
-merge-requires-clause-low_rises g c =
+merge-requires-clause-low_rises c =
     subst (λ ks. IsRising ks) (sym (best_read c.args.self.now c.args.low c.get.result.now c.requires.low c.get.ensures c.as_slice.result.now (c.as_slice.ensures ∙ c.best-below.ensures))) c.requires.low_rises
 
 pub merge-requires-clause-high_rises : goal.merge-requires-clause-high_rises
-merge-requires-clause-high_rises g c =
+merge-requires-clause-high_rises c =
     subst (λ ks. IsRising ks) (sym (best_read c.args.self.now c.args.high c.get-2.result.now c.requires.high c.get-2.ensures c.as_slice-2.result.now (c.as_slice-2.ensures ∙ c.best-above.ensures))) c.requires.high_rises
 
 pub returns-clause-merged : goal.returns-clause-merged
-returns-clause-merged g c =
+returns-clause-merged c =
     let low = best_read c.args.self.now c.args.low c.get.result.now c.requires.low c.get.ensures c.as_slice.result.now (c.as_slice.ensures ∙ c.best-below.ensures) in
     let high = best_read c.args.self.now c.args.high c.get-2.result.now c.requires.high c.get-2.ensures c.as_slice-2.result.now (c.as_slice-2.ensures ∙ c.best-above.ensures) in
     subst (λ ks. IfOk c.merge.result (λ hops. AreMerged ks (best_at c.args.self.now c.args.high) (members hops))) low

@@ -4,4 +4,4 @@ use Rattle.least_table.proofs.Stores.{if_ok_map}
 use Rattle.least_table.proofs.plan.Steps.push.Goals as goal
 
 pub returns : goal.returns
-returns g c = if_ok_map c.push.result (λ _ added. grown_by c.args.self.now _ c.args.step added refl refl c.requires.whole c.requires.kept) c.push.ensures
+returns c = if_ok_map c.push.result (λ _ added. grown_by c.args.self.now _ c.args.step added refl c.requires.whole c.requires.kept) c.push.ensures

@@ -1,4 +1,4 @@
-use Rattle.std.proofs.Common.{[], ap, append-nil, sym}
+use Rattle.std.proofs.Common.{ap}
 use Rattle.least_table.specs.InnerSteps.{Fork}
 use Rattle.least_table.specs.declared.plan.Packed.TheVariants as packed
 use Rattle.least_table.proofs.Packed.{grown}
@@ -6,6 +6,5 @@ use Rattle.least_table.proofs.Stores.{if_ok_map}
 use Rattle.least_table.proofs.plan.Steps.push_several.Goals as goal
 
 pub returns : goal.returns
-returns g c = if_ok_map c.push-2.result
-    (λ _ added. grown c.args.self.now _ (packed.Several c.in_ok-at.at) (Fork c.args.hops.now) [] added c.in_ok-at.ensures.kept (sym (append-nil c.args.self.now.inner)) c.requires
-    c.in_ok-at.ensures.here.0 (ap (λ ks. Fork ks) c.in_ok-at.ensures.here.1)) c.push-2.ensures
+returns c = if_ok_map c.push-2.result
+    (λ _ added. grown c.args.self.now _ (packed.Several c.in_ok-at.at) (Fork c.args.hops.now) added c.in_ok-at.ensures.kept c.requires c.in_ok-at.ensures.here.0 (ap (λ ks. Fork ks) c.in_ok-at.ensures.here.1)) c.push-2.ensures

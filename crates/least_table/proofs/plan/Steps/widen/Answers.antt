@@ -1,26 +1,59 @@
-use Rattle.std.proofs.Common.{arith, ◌∙◌, ap, subst, length}
-use Rattle.std.proofs.lemmas.List.{length-take-le}
-use Rattle.least_table.specs.InnerPlanners.{Plans}
-use Rattle.least_table.proofs.Gathers.{first_bits, widened_half, widened_skip}
+use Rattle.std.proofs.Common.{◌≡◌, ◌∙◌, ◌-◌, ◌++◌, ◌∷◌, [], Bool, List, Option, ap, length, subst, sym, true, ℕ}
+use Rattle.least_table.specs.HopSets.{AreMerged, holds}
+use Rattle.least_table.specs.InnerHops.{members}
+use Rattle.least_table.specs.InnerPacked.{Grows, step_of}
+use Rattle.least_table.specs.InnerPlans.{top}
+use Rattle.least_table.specs.InnerRising.{IsRising}
+use Rattle.least_table.specs.InnerSteps.{Half, Skip, step_best}
+use Rattle.least_table.proofs.Joins.{last_step, left_whole, single_ends, beside_ends, pop_last, wider_ends, wider_kept}
 use Rattle.least_table.proofs.Stores.{if_ok_map}
 use Rattle.least_table.proofs.plan.Steps.widen.Goals as goal
 
-pub returns-then-from-to : goal.returns-then-from-to
-returns-then-from-to g c = λ ps xs h. subst (λ n. Plans g.P.Prefix.bits g.P.Prefix.fits g.P.R.Key.width c.args.path.now n ps xs c.args.self.now) c.if-from-to.true h
+pub wider-requires : goal.wider-requires
+wider-requires c = let e = c.in-Some.ensures in (c.args.self.now.sets, (left_whole c.args.self.now e.0 c.in-Some.last.now e.1 c.requires.2.whole).1)
 
-pub returns-then-from-to-eq1 : goal.returns-then-from-to-eq1
-returns-then-from-to-eq1 g c = if_ok_map c.push_half.result
-    (λ _ widens ps xs h. widened_half g.P.Prefix.bits g.P.Prefix.fits g.P.R.Key.width c.args.path.now c.args.to ps xs c.args.self.now c.push_half.new.self c.requires.width c.args.from c.bit.result
-    (omega (arith, c.if-from-to-eq1.true, c.requires.order)) c.requires.inside c.bit.ensures h widens) c.push_half.ensures
+pub push-requires-clause-whole : goal.push-requires-clause-whole
+push-requires-clause-whole c =
+    let e = c.in-Some.ensures in
+    (left_whole c.args.self.now c.pop.new.self c.in-Some.last.now (pop_last c.args.self.now.steps e.0 c.pop.new.self c.in-Some.last.now c.pop.result e.1 c.pop.ensures) c.requires.2.whole).0
 
-pub prefix_of-requires : goal.prefix_of-requires
-prefix_of-requires g c =
-    let is = c.new.ensures ∙ first_bits c.to_bits.result c.args.from c.args.path.now c.to_bits.ensures.bits c.requires.inside (omega (arith, c.requires.width, c.requires.short)) in
-    omega (arith, ap length is ∙ length-take-le c.args.from c.args.path.now c.requires.inside, c.requires.inside, c.requires.width)
+pub push-requires-clause-kept : goal.push-requires-clause-kept
+push-requires-clause-kept c = wider_kept c.args.is_upper c.args.hop (step_of c.args.self.now.sets c.in-Some.last.now) c.in-Some-wider.step c.args.self.now.sets (c.in-Some-wider.ensures c.args.self.now.sets)
+
+pub returns-in-Some-wider : goal.returns-in-Some-wider
+returns-in-Some-wider c =
+    let e = c.in-Some.ensures in
+    if_ok_map c.push.result
+    (λ _ grows xs p ends. wider_ends c.args.is_upper c.args.hop xs p c.args.self.now c.push.new.self ends c.pop.new.self c.in-Some.last.now c.in-Some-wider.step
+    (pop_last c.args.self.now.steps e.0 c.pop.new.self c.in-Some.last.now c.pop.result e.1 c.pop.ensures) grows (c.in-Some-wider.ensures c.args.self.now.sets)) c.push.ensures
+
+pub best-best-requires : goal.best-best-requires
+best-best-requires c = let e = c.in-Some.ensures in (left_whole c.args.self.now e.0 c.in-Some.last.now e.1 c.requires.2.whole).1
+
+pub push-requires-then-is_among-clause-kept : goal.push-requires-then-is_among-clause-kept
+push-requires-then-is_among-clause-kept c = (c.skip.ensures c.args.self.now.sets).1
+
+pub returns-then-is_among : goal.returns-then-is_among
+returns-then-is_among c =
+    let e = c.in-Some.ensures in
+    if_ok_map c.push-then-is_among.result
+    (λ _ grows xs p ends.
+    let s = last_step xs p c.args.self.now ends e.0 c.in-Some.last.now e.1 in
+    single_ends c.args.is_upper c.args.hop xs p c.args.self.now c.push-then-is_among.new.self ends
+    (ap (λ ks. holds ks c.args.hop) (sym (c.as_slice.ensures ∙ c.best-best.ensures ∙ ap step_best s)) ∙ sym c.is_among.ensures ∙ c.if-is_among.true)
+    (subst (λ z. Grows c.args.self.now c.push-then-is_among.new.self (z ∷ [])) ((c.skip.ensures c.args.self.now.sets).0 ∙ ap (λ us. Skip c.args.hop us) c.one.ensures) grows)) c.push-then-is_among.ensures
+
+pub merge-requires-clause-high_rises : goal.merge-requires-clause-high_rises
+merge-requires-clause-high_rises c =
+    let e = c.in-Some.ensures in
+    subst IsRising (sym (c.as_slice-2.ensures ∙ c.best-best.ensures ∙ ap step_best (last_step c.requires.0 c.requires.1 c.args.self.now c.requires.2 e.0 c.in-Some.last.now e.1))) c.requires.2.rising
 
 pub returns : goal.returns
-returns g c = if_ok_map c.push_skip.result
-    (λ _ grows ps xs h.
-    let is = c.new.ensures ∙ first_bits c.to_bits.result c.args.from c.args.path.now c.to_bits.ensures.bits c.requires.inside (omega (arith, c.requires.width, c.requires.short)) in
-    widened_skip g.P.Prefix.bits g.P.Prefix.fits g.P.R.Key.width c.args.path.now c.args.to ps xs c.args.self.now c.push_skip.new.self c.requires.width c.args.from c.prefix_of.result
-    (omega (arith, c.if-from-to-eq1.false, c.if-from-to.false, c.requires.order)) c.requires.inside (c.prefix_of.ensures.bits ∙ is) c.prefix_of.ensures.fits h grows) c.push_skip.ensures
+returns c =
+    let e = c.in-Some.ensures in
+    if_ok_map c.push_half.result
+    (λ _ grows xs p ends.
+    let s = last_step xs p c.args.self.now ends e.0 c.in-Some.last.now e.1 in
+    beside_ends c.args.is_upper c.args.hop xs p c.args.self.now c.push_half.new.self ends (members c.in_ok-hops.hops)
+    (subst (λ ks. AreMerged (c.args.hop ∷ []) ks (members c.in_ok-hops.hops)) (c.as_slice-2.ensures ∙ c.best-best.ensures ∙ ap step_best s) c.in_ok-hops.ensures.merged) c.in_ok-hops.ensures.rising
+    (subst (λ ks. Grows c.args.self.now c.push_half.new.self (Half c.args.is_upper c.args.hop ks ∷ [])) c.as_slice-3.ensures grows)) c.push_half.ensures

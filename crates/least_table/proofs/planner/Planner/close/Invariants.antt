@@ -6,8 +6,8 @@ abbrev pub invariant-loop-lower : goal.invariant-loop-lower
 invariant-loop-lower g l = record {
   deep : l.depth ≤ l.from;
   inside : l.from ≤ length l.path;
-  planned : (ps : List (List Bool × ℕ)) → ArePlanned g.P.Prefix.bits g.P.Prefix.fits g.P.R.Key.width l.path (length l.path) (length l.path) ps l.fn.self.lowers.items l.fn.self.steps
-      → ArePlanned g.P.Prefix.bits g.P.Prefix.fits g.P.R.Key.width l.path l.from l.from ps l.self.lowers.items l.self.steps;
+  planned : (ps : List (List Bool × ℕ)) → ArePlanned g.P.R.Key.width l.path (length l.path) (length l.path) ps l.fn.self.lowers.items l.fn.self.steps
+      → ArePlanned g.P.R.Key.width l.path l.from l.from ps l.self.lowers.items l.self.steps;
 }
 
 abbrev pub decreases-loop-lower : goal.decreases-loop-lower

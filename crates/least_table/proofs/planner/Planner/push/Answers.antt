@@ -15,7 +15,7 @@ pub returns : goal.returns
 returns g c = λ ps h d.
     let z = c.path_of-path.result in
     let b = c.in_ok-begin.ensures ps c.args.hop h (subst (λ u. AreDisjoint (ps ++ (u, c.args.hop) ∷ [])) (sym c.path_of-path.ensures.value) d) in
-    subst (λ u. EndAt g.P.Prefix.bits g.P.Prefix.fits g.P.R.Key.width z (ps ++ (u, c.args.hop) ∷ []) c.begin.new.self.lowers.items c.push_leaf.new.self) c.path_of-path.ensures.value record {
+    subst (λ u. EndAt g.P.R.Key.width z (ps ++ (u, c.args.hop) ∷ []) c.begin.new.self.lowers.items c.push_leaf.new.self) c.path_of-path.ensures.value record {
       others = ps;
       hop = c.args.hop;
       last = refl;
@@ -26,6 +26,6 @@ returns g c = λ ps h d.
         before = steps_in c.begin.new.self.steps;
         all = refl;
         lower = b.0;
-        plans = piece_planned g.P.Prefix.bits g.P.Prefix.fits g.P.R.Key.width z c.args.hop (steps_in c.begin.new.self.steps) c.push_leaf.new.self c.in_ok-push_leaf.ensures.steps c.in_ok-push_leaf.ensures.whole;
+        plans = piece_planned g.P.R.Key.width z c.args.hop (steps_in c.begin.new.self.steps) c.push_leaf.new.self c.in_ok-push_leaf.ensures.steps c.in_ok-push_leaf.ensures.whole;
       };
     }

@@ -1,7 +1,7 @@
 use Rattle.std.proofs.Common.{arith, ◌≡◌, ◌∙◌, sym, vec_len}
 use Rattle.std.proofs.lemmas.Bool.{eqb-true, eqb-false}
 use Rattle.least_table.proofs.Risings.{common_merged, all_merged}
-use Rattle.least_table.proofs.hops.merge.Goals as goal
+use Rattle.least_table.proofs.hops.merge_lists.Goals as goal
 
 pub returns-then-not-is_empty-clause-merged : goal.returns-then-not-is_empty-clause-merged
 returns-then-not-is_empty-clause-merged c = rw c.new.ensures (common_merged c.args.low.now c.args.high.now c.in_ok-shared.shared.items c.in_ok-shared.ensures

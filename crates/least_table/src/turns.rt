@@ -1,0 +1,83 @@
+//! The way from a block to a smaller one.
+ghost use Rattle.std.specs.Prelude.{◌≡◌, ◌+◌, ◌<◌, ◌≤◌, ◌^◌, ◌++◌, ◌∷◌, [], IfSome, false, length, slice_index_or};
+ghost use Rattle.ipnet_blocks.specs.Blocks.{digits};
+
+use std::marker::Model;
+use trie_core::Path;
+
+/// The most levels.
+const MOST: u8 = 16;
+
+/// Into which halves the way goes, level by level, over at most sixteen levels: the bits of a number, set for an upper half.
+///
+/// Contracts see the bits.
+#[derive(Drop)]
+pub(crate) struct Turns {
+    pub(crate) levels: u8,
+    pub(crate) bits: u16,
+}
+
+impl Model for Turns {
+    ghost use Rattle.std.specs.Prelude.{Bool, List, ◌<◌, ◌≤◌, ◌^◌};
+    ghost use Rattle.ipnet_blocks.specs.Blocks.{digits};
+
+    ghost Value = { List Bool };
+
+    ghost view = { λ t. digits t.levels t.bits };
+
+    ghost invariant = { λ t. (t.levels ≤ 16) × (t.bits < 2 ^ t.levels) };
+}
+
+impl Turns {
+    /// These bits of a number.
+    pub(crate) fn of(levels: u8, bits: u16) -> Turns
+        requires most { levels ≤ 16 }
+        requires fits { bits < 2 ^ levels }
+        ensures { result ≡ digits levels bits }
+    {
+        Turns { levels, bits }
+    }
+
+    /// The way to one half.
+    pub(crate) fn one(is_upper: bool) -> Turns
+        ensures { result ≡ is_upper ∷ [] }
+    {
+        Turns {
+            levels: 1,
+            bits: u16::from(is_upper),
+        }
+    }
+
+    /// The way from one level further out, where there is room for it.
+    pub(crate) fn from_above(&self, is_upper: bool) -> Option<Turns>
+        ensures { IfSome result (λ turns. turns ≡ is_upper ∷ self.now) }
+    {
+        if self.levels >= MOST {
+            return None;
+        }
+        Some(Turns {
+            levels: self.levels + 1,
+            bits: (u16::from(is_upper) << self.levels) + self.bits,
+        })
+    }
+
+    /// Whether the way goes into the upper half at a level.
+    fn turn(&self, level: u8) -> bool
+        requires { level < length self.now }
+        ensures { result ≡ slice_index_or self.now level false }
+    {
+        self.bits >> (self.levels - 1 - level) & 1 == 1
+    }
+
+    /// The path of the smaller block, from that of the larger one.
+    pub(crate) fn onward(&self, path: &Path) -> Path
+        requires { length path.now + length self.now ≤ 128 }
+        ensures { result ≡ path.now ++ self.now }
+    {
+        let mut longer = Path::new(path.to_bits(), path.len());
+        for level in 0..self.levels {
+            longer = longer.extended(self.turn(level));
+        }
+        longer
+    }
+}
