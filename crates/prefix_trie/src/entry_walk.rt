@@ -39,6 +39,7 @@ impl<'a, T> EntryWalk<T> for Walk<'a, T> {
 
     ghost value = { λ v. v.now };
 
+    #[inline(always)]
     fn next_entry(&mut self) -> Option<(Path, &'a T)> {
         self.next()
     }

@@ -170,6 +170,7 @@ impl<'a, T> Frame<T> for LentFrame<'a, T> {
         LentFrame::open(node, values, children)
     }
 
+    #[inline(always)]
     fn next(&mut self, way: &Path) -> Next<&'a T, LentFrame<'a, T>> {
         let Some(node) = self.node else {
             return Next::Nothing;
