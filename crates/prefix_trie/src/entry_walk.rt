@@ -64,6 +64,7 @@ impl<T: Drop> EntryWalk<T> for OwnedWalk<T> {
 
     ghost value = { λ v. v };
 
+    #[inline(never)]
     fn next_entry(&mut self) -> Option<(Path, T)> {
         self.next()
     }
