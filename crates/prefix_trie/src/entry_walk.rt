@@ -39,6 +39,7 @@ impl<'a, T> EntryWalk<T> for Walk<'a, T> {
 
     ghost value = { λ v. v.now };
 
+    #[inline(always)]
     fn next_entry(&mut self) -> Option<(Path, &'a T)> {
         self.next()
     }
@@ -63,6 +64,7 @@ impl<T: Drop> EntryWalk<T> for OwnedWalk<T> {
 
     ghost value = { λ v. v };
 
+    #[inline(never)]
     fn next_entry(&mut self) -> Option<(Path, T)> {
         self.next()
     }

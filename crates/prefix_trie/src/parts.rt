@@ -62,6 +62,7 @@ impl<P: Prefix, T, W: EntryWalk<T>, S: Part<P, T, W>> Iterator for Parts<P, T, W
 
     ghost remaining = { item_count (λ it. it) };
 
+    #[inline(always)]
     fn next(&mut self) -> Option<S::Item> {
         match self.walk.next_entry() {
             None => None,

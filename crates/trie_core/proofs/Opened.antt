@@ -289,3 +289,14 @@ module _ {X : Type 0} where
       ∙ where_told _ _ es (record { short = λ r s. from_short inclusive q r h s; long = λ r s. from_long inclusive q r h s })
       (λ i l. has_from place i l ∙ ap (λ p. not (nat_lt i p)) a)
       (λ i l. has_from child i l ∙ ap (λ p. not (nat_lt i p)) b)
+
+  -- the value at the first place is the only thing
+  pub only_open : {vb : ℕ} {vs : List X} {cb : ℕ} {cs : List (Seen X)} {m : Seen X} (trail : List Bool) (place at : ℕ) (value : X) → IsSeen vb vs cb cs m → length trail + 5 * m.levels ≤ 130 → KeysWithin 128 (under trail (entries m.entries))
+      → IsFirstPlace (bit_and (2 ^ 32 - 1) vb) place → bit_and (2 ^ 32 - 1 - 2 ^ place) vb ≡ 0 → bit_and (2 ^ 32 - 1) cb ≡ 0 → at ≡ count_ones (vb % 2 ^ place) → value ≡ get_or vs at value
+      → (length trail + length (place_string place) ≤ 128) × (under trail (entries m.entries) ≡ (trail ++ place_string place, value) ∷ [])
+  only_open {m = m} trail place at value s l k f g h a r =
+      let all = all_open (entries m.entries) in
+      let t : IsOpened m trail (2 ^ 32 - 1) (2 ^ 32 - 1) = record { levels = l; keys = subst (λ es. KeysWithin 128 (under trail es)) (sym all) k } in
+      let n = value_open (2 ^ 32 - 1) (2 ^ 32 - 1) place at value (Some place) None s t f h refl refl a r in
+      let z = nothing_open (2 ^ 32 - 1 - 2 ^ place) (2 ^ 32 - 1) None s g h refl in
+      (n.within, ap (under trail) (sym all) ∙ n.rest ∙ ap (λ es. (trail ++ place_string place, value) ∷ under trail es) z)

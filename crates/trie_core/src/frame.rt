@@ -93,7 +93,7 @@ pub trait FrameStack<T>: Drop {
 }
 
 /// Takes out what stands first in the last of these frames, where the way leads to its node.
-#[inline]
+#[inline(always)]
 pub(crate) fn next_of_last<T, F: Frame<T>>(
     frames: &mut [F],
     way: &Path,

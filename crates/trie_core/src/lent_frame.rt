@@ -1,11 +1,12 @@
 //! What a walk has left of a node that is lent.
-ghost use Rattle.std.specs.Prelude.{◌≡◌, ◌+◌, ◌-◌, ◌*◌, ◌<◌, ◌≤◌, ◌^◌, List, Bool, length, take, MatchOption, ⊤};
+ghost use Rattle.std.specs.Prelude.{◌≡◌, ◌+◌, ◌-◌, ◌*◌, ◌<◌, ◌≤◌, ◌^◌, List, Bool, [], ◌∷◌, length, take, MatchOption, ⊤};
 ghost use Rattle.std.specs.FinMap.{entries};
 ghost use Rattle.std.specs.FinMap.Entries.{where_key};
 ghost use Rattle.trie_core.specs.Bits.{is_from};
 ghost use Rattle.ipnet_blocks.specs.BitStrings.{bits_cmp};
 ghost use Rattle.trie_core.specs.InnerPlaces.{place_of, child_of, IsFirstPlace};
-ghost use Rattle.trie_core.specs.InnerWalks.{is_past};
+ghost use Rattle.trie_core.specs.InnerNodes.{under};
+ghost use Rattle.trie_core.specs.InnerWalks.{KeysWithin, is_past};
 ghost use Rattle.trie_core.specs.InnerFrames.{is_open, place_first, open_weight};
 
 use crate::frame::{Frame, FrameStack, LentStack, Next, next_of_last};
@@ -97,6 +98,23 @@ fn value_first(value: Option<u8>, child: Option<u8>) -> bool
     }
 }
 
+/// The entry of the node at the way, where it has no other and no nodes below.
+#[inline]
+fn only<'a, T>(node: &'a Node<T>, way: &Path) -> Option<(Path, &'a T)>
+    requires levels { length way.now + 5 * node.now.levels ≤ 130 }
+    requires keys { KeysWithin 128 (under way.now (entries node.now.entries)) }
+    ensures { MatchOption result ⊤ (λ r. under way.now (entries node.now.entries) ≡ (r.0, r.1.now) ∷ []) }
+{
+    let place = first_in(u32::MAX & node.value_bits)?;
+    let others = u32::MAX - bit(place);
+    if others & node.value_bits != 0 || u32::MAX & node.child_bits != 0 {
+        return None;
+    }
+    let value = &node.values[taken_below(node.value_bits, place)];
+    let key = way.with(first_child(place), place_length(place));
+    Some((key, value))
+}
+
 impl<'a, T> LentFrame<'a, T> {
     /// What stands in a node at some places.
     #[inline]
@@ -170,6 +188,7 @@ impl<'a, T> Frame<T> for LentFrame<'a, T> {
         LentFrame::open(node, values, children)
     }
 
+    #[inline(always)]
     fn next(&mut self, way: &Path) -> Next<&'a T, LentFrame<'a, T>> {
         let Some(node) = self.node else {
             return Next::Nothing;
@@ -192,10 +211,11 @@ impl<'a, T> Frame<T> for LentFrame<'a, T> {
         // Read so that its levels are known to be one or more.
         let _levels = below.child_bits;
         self.children -= bit(place);
-        Next::Below(
-            LentFrame::open(below, u32::MAX, u32::MAX),
-            way.with(place, 5),
-        )
+        let way = way.with(place, 5);
+        if let Some((key, value)) = only(below, &way) {
+            return Next::Entry(key, value);
+        }
+        Next::Below(LentFrame::open(below, u32::MAX, u32::MAX), way)
     }
 }
 
@@ -209,7 +229,7 @@ impl<'a, T> FrameStack<T> for ArrayVec<LentFrame<'a, T>, 26> {
         ArrayVec::new()
     }
 
-    #[inline]
+    #[inline(always)]
     fn next(&mut self, way: &Path) -> Option<Next<&'a T, LentFrame<'a, T>>> {
         next_of_last(self.as_mut_slice(), way)
     }

@@ -265,6 +265,7 @@ impl<T: Drop> FrameStack<T> for ArrayVec<OwnedFrame<T>, 26> {
         ArrayVec::new()
     }
 
+    #[inline(always)]
     fn next(&mut self, way: &Path) -> Option<Next<T, OwnedFrame<T>>> {
         next_of_last(self.as_mut_slice(), way)
     }

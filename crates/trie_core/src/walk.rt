@@ -124,6 +124,7 @@ impl<T, S: FrameStack<T>> FrameWalk<T, S> {
     }
 
     /// Takes one entry off the last frame, or opens a node, or takes off an empty frame.
+    #[inline(always)]
     fn step(&mut self) -> Step<<S::Frame as Frame<T>>::Given>
         ensures { Stepped S.Frame.value self.old result self.new }
     {
@@ -198,6 +199,7 @@ impl<T, S: FrameStack<T>> Iterator for FrameWalk<T, S> {
 
     ghost remaining = { item_count (λ w. w.0) };
 
+    #[inline(always)]
     fn next(&mut self) -> Option<(Path, <S::Frame as Frame<T>>::Given)> {
         'step: loop {
             match self.step() {
