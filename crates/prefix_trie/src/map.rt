@@ -285,8 +285,10 @@ impl<P: Prefix + Drop, T: Drop> PrefixMap<P, T> {
         ensures full { IfErr result (λ e. e.0 ≡ Full → no_room self.old) }
         ensures value_returned { IfErr result (λ e. e.1 ≡ value) }
     {
-        let (old, _) = self.insert_seen(prefix, value)?;
-        Ok(old)
+        match self.insert_is_leaf(prefix, value) {
+            Ok((old, _)) => Ok(old),
+            Err(refused) => Err(refused),
+        }
     }
 
     /// Stores the value as `insert` does, and answers with the old value whether no key but the prefix itself lies inside
@@ -294,7 +296,7 @@ impl<P: Prefix + Drop, T: Drop> PrefixMap<P, T> {
     ///
     /// # Errors
     /// As of `insert`.
-    pub fn insert_seen(
+    pub fn insert_is_leaf(
         &mut self,
         prefix: P,
         value: T,

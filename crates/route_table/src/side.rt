@@ -88,7 +88,7 @@ impl<P: OfFamily, const CAPACITY: usize> Side<P, CAPACITY> {
     {
         let networks = &mut self.networks;
         let choices = Choices::one(hop, pref);
-        match networks.insert_seen(net, choices) {
+        match networks.insert_is_leaf(net, choices) {
             Ok((_, is_leaf)) => Ok(is_leaf),
             Err((refused, _)) => Err(refused),
         }
