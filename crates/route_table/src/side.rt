@@ -88,10 +88,11 @@ impl<P: OfFamily, const CAPACITY: usize> Side<P, CAPACITY> {
     {
         let networks = &mut self.networks;
         let choices = Choices::one(hop, pref);
-        match networks.insert_is_leaf(net, choices) {
-            Ok((_, is_leaf)) => Ok(is_leaf),
-            Err((refused, _)) => Err(refused),
-        }
+        let (_, is_leaf) = match networks.insert_is_leaf(net, choices) {
+            Ok(done) => done,
+            Err((refused, _)) => return Err(refused),
+        };
+        Ok(is_leaf)
     }
 
     /// Takes out every network inside this one, itself included.
