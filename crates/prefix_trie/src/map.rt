@@ -296,11 +296,7 @@ impl<P: Prefix + Drop, T: Drop> PrefixMap<P, T> {
     ///
     /// # Errors
     /// As of `insert`.
-    pub fn insert_is_leaf(
-        &mut self,
-        prefix: P,
-        value: T,
-    ) -> Result<(Option<T>, bool), (Refused, T)>
+    pub fn insert_is_leaf(&mut self, prefix: P, value: T) -> Result<(Option<T>, bool), (Refused, T)>
         requires { IsTrue (P.fits prefix) }
         ensures old { IfOk result (λ r. r.0 ≡ map.get self.old.entries (P.bits prefix)) }
         ensures leaf { IfOk result (λ r. IsTrue r.1 ↔ (NothingInside self.new.entries (P.bits prefix) × NothingInside self.new.spares (P.bits prefix))) }
