@@ -285,17 +285,41 @@ impl<P: Prefix + Drop, T: Drop> PrefixMap<P, T> {
         ensures full { IfErr result (λ e. e.0 ≡ Full → no_room self.old) }
         ensures value_returned { IfErr result (λ e. e.1 ≡ value) }
     {
+        match self.insert_is_leaf(prefix, value) {
+            Ok((old, _)) => Ok(old),
+            Err(refused) => Err(refused),
+        }
+    }
+
+    /// Stores the value as `insert` does, and answers with the old value whether no key but the prefix itself lies inside
+    /// it, as `is_leaf` does, and without its search.
+    ///
+    /// # Errors
+    /// As of `insert`.
+    pub fn insert_is_leaf(&mut self, prefix: P, value: T) -> Result<(Option<T>, bool), (Refused, T)>
+        requires { IsTrue (P.fits prefix) }
+        ensures old { IfOk result (λ r. r.0 ≡ map.get self.old.entries (P.bits prefix)) }
+        ensures leaf { IfOk result (λ r. IsTrue r.1 ↔ (NothingInside self.new.entries (P.bits prefix) × NothingInside self.new.spares (P.bits prefix))) }
+        ensures map { OnOk result (self.new.entries ≡ map.insert self.old.entries (P.bits prefix) value) }
+        ensures spares { OnOk result (self.new.spares ≡ off_way self.old.spares (P.bits prefix)) }
+        ensures kept { OnOk result (IsSome (map.get self.old.entries (P.bits prefix)) → self.new.spares ≡ self.old.spares) }
+        ensures tidy { OnOk result (self.old.spares ≡ map.empty → self.new.spares ≡ map.empty) }
+        ensures unchanged { OnErr result (self.new ≡ self.old) }
+        ensures absent { OnErr result (map.get self.old.entries (P.bits prefix) ≡ None) }
+        ensures full { IfErr result (λ e. e.0 ≡ Full → no_room self.old) }
+        ensures value_returned { IfErr result (λ e. e.1 ≡ value) }
+    {
         let may_grow = self.len < usize::MAX;
         match self
             .root
             .insert(path_of(&prefix), value, may_grow, usize::MAX - self.nodes)
         {
-            Ok((old, made)) => {
+            Ok((old, made, is_leaf)) => {
                 self.nodes += made;
                 if old.is_none() {
                     self.len += 1;
                 }
-                Ok(old)
+                Ok((old, is_leaf))
             }
             Err(value) => Err((Refused::Memory, value)),
         }

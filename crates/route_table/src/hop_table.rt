@@ -65,7 +65,8 @@ impl HopTable {
         ensures unchanged { OnErr result (self.new ≡ self.old) }
         ensures absent { OnErr result (choices_at self.old (block net) ≡ []) }
     {
-        self.store(cleared(&net), hop, DEFAULT_PREFERENCE)
+        let _is_leaf = self.store(cleared(&net), hop, DEFAULT_PREFERENCE)?;
+        Ok(())
     }
 
     /// The routes inside the network, ascending.

@@ -44,8 +44,8 @@ impl<const CAPACITY: usize> Table<CAPACITY> {
         ensures absent { OnErr result (choices_at self.old (block net) ≡ []) }
     {
         let net = cleared(&net);
-        self.store(net, hop, DEFAULT_PREFERENCE)?;
-        if !self.has_none_inside(&net) {
+        let is_leaf = self.store(net, hop, DEFAULT_PREFERENCE)?;
+        if !is_leaf {
             let (lower, upper) = halves(&net);
             self.remove_inside(&lower);
             self.remove_inside(&upper);

@@ -72,14 +72,15 @@ impl<P: OfFamily, const CAPACITY: usize> Side<P, CAPACITY> {
         })
     }
 
-    /// Stores one route at the network, in the place of all that it has.
+    /// Stores one route at the network, in the place of all that it has. Answers whether no network lies strictly inside it.
     ///
     /// # Errors
     /// `Memory` where there is none for a network that is not stored. The side is as it was.
-    pub(crate) fn store(&mut self, net: P, hop: Hop, pref: u16) -> Result<(), Refused>
+    pub(crate) fn store(&mut self, net: P, hop: Hop, pref: u16) -> Result<bool, Refused>
         requires { IsBlock (block_of P.family (P.parts net)) }
         ensures hop { IsHop hop }
         ensures networks { OnOk result (self.new ≡ with_choices self.old (block_of P.family (P.parts net)) (record { hop = hop; pref = pref } ∷ [])) }
+        ensures leaf { IfOk result (λ leaf. IsTrue leaf ↔ IsLeaf self.new (block_of P.family (P.parts net))) }
         ensures side { IsSide P.family self.new }
         ensures memory { IfErr result (λ e. e ≡ Memory) }
         ensures unchanged { OnErr result (self.new ≡ self.old) }
@@ -87,10 +88,11 @@ impl<P: OfFamily, const CAPACITY: usize> Side<P, CAPACITY> {
     {
         let networks = &mut self.networks;
         let choices = Choices::one(hop, pref);
-        if let Err((refused, _)) = networks.insert(net, choices) {
-            return Err(refused);
-        }
-        Ok(())
+        let (_, is_leaf) = match networks.insert_is_leaf(net, choices) {
+            Ok(done) => done,
+            Err((refused, _)) => return Err(refused),
+        };
+        Ok(is_leaf)
     }
 
     /// Takes out every network inside this one, itself included.
@@ -165,7 +167,7 @@ impl<P: OfFamily> Side<P, 8> {
             return Ok((before, after));
         }
         match self.store(net, hop, pref) {
-            Ok(()) => Ok((before, hop.number())),
+            Ok(_) => Ok((before, hop.number())),
             Err(refused) => Err(AddRefused::Store(refused)),
         }
     }

@@ -321,11 +321,13 @@ impl<const CAPACITY: usize> Table<CAPACITY> {
         self.alloc
     }
 
-    /// Stores one route at the network, in the place of all that it has.
-    pub(crate) fn store(&mut self, net: IpNet, hop: Hop, pref: u16) -> Result<(), Refused>
+    /// Stores one route at the network, in the place of all that it has. Answers whether no stored network lies strictly
+    /// inside it.
+    pub(crate) fn store(&mut self, net: IpNet, hop: Hop, pref: u16) -> Result<bool, Refused>
         requires { IsBlock (block net) }
         ensures hop { IsHop hop }
         ensures networks { OnOk result (self.new ≡ with_choices self.old (block net) (record { hop = hop; pref = pref } ∷ [])) }
+        ensures leaf { IfOk result (λ leaf. IsTrue leaf ↔ IsLeaf self.new (block net)) }
         ensures tables { IsStoredTable self.old × IsStoredTable self.new }
         ensures memory { IfErr result (λ e. e ≡ Memory) }
         ensures unchanged { OnErr result (self.new ≡ self.old) }

@@ -1,9 +1,9 @@
 -- A value that is stored in a child, or in a new one, is stored in the node.
 use Rattle.std.proofs.Common.{◌≡◌, ℕ, ◌+◌, ◌/◌, ◌^◌, ◌<◌, ◌≤◌, ◌∙◌, Bool, false, List, length, drop, get_or, set, refl, sym, ap, arith}
-use Rattle.std.specs.Prelude.{Option, Some, None, nat_lt, count_ones, IsTrue}
+use Rattle.std.specs.Prelude.{Option, Some, None, nat_lt, count_ones, IsTrue, ◌↔◌}
 use Rattle.std.specs.Option.{IsSome}
 use Rattle.std.specs.Ordering.{nat_cmp}
-use Rattle.std.specs.FinMap.{get, insert, put, empty}
+use Rattle.std.specs.FinMap.{get, insert, put, find, empty}
 use Rattle.std.proofs.lemmas.Bool.Decides.{nat_tests}
 use Rattle.std.proofs.lemmas.List.{set-get_or}
 use Rattle.trie_core.specs.InnerPlaces.{child_of, at_places, IsUnset}
@@ -12,10 +12,14 @@ use Rattle.trie_core.specs.InnerExchanges.{IsExchanged}
 use Rattle.trie_core.specs.Ways.{off_way}
 use Rattle.trie_core.proofs.Maps.{get_none}
 use Rattle.trie_core.proofs.Taken.{IsTaken}
-use Rattle.trie_core.proofs.Seen.{IsSeen, viewed}
-use Rattle.trie_core.proofs.Changes.{was, set_put, set_count, set_height, was_lower, absent, hung, depth_rest, new_nodes}
+use Rattle.trie_core.proofs.Seen.{IsSeen, viewed, seen, is_child}
+use Rattle.trie_core.proofs.Changes.{was, set_put, set_slots, set_count, set_height, was_lower, absent, hung, depth_rest, new_nodes}
 use Rattle.trie_core.proofs.Marks.{no_spares}
 use Rattle.trie_core.proofs.Ways.{off_none, below_off, hung_off}
+use Rattle.trie_core.proofs.Leaves.{IsLeaf, leaf_below}
+use Rattle.trie_core.specs.InnerNodes.{HasSlots}
+use Rattle.std.proofs.lemmas.Cmp.{nat_cmp_total}
+use Rattle.std.specs.FinMap.Entries.{find-put}
 
 pub not_short : {b : Bool} (q : List Bool) → b ≡ nat_lt (length q) 5 → b ≡ false → 5 ≤ length q
 not_short q e f = let g : nat_lt (length q) 5 ≡ false = sym e ∙ f in grind (arith, nat_tests)
@@ -67,3 +71,20 @@ module _ {X : Type 0} where
         within = fit;
         grows = λ _. grow;
       }
+
+  -- ---- whether nothing stands inside
+
+  found_put : (n : ℕ) (d : Seen X) (es : List (ℕ × Seen X)) → find nat_cmp n (put nat_cmp n d es) ≡ Some d
+  found_put n d es = let e = find-put nat_cmp nat_cmp_total n n d es in grind (arith, nat_tests)
+
+  -- it is told of the child d on the way, and holds of the node
+  leaf_of : {vb db : ℕ} {vs : List X} {ds : List (Seen X)} {b : Bool} {r : List Bool} (es : List (ℕ × Seen X)) (q : List Bool) (d : Seen X) → HasSlots vb vs db ds → 5 ≤ length q → at_places 32 0 db ds ≡ put nat_cmp (child_of q) d es → r ≡ drop 5 q → IsTrue b ↔ IsLeaf d r → IsTrue b ↔ IsLeaf (viewed vb vs db ds) q
+  leaf_of es q d s l w f t =
+      let u = leaf_below (is_child q d (seen s refl) l (ap (find nat_cmp (child_of q)) w ∙ found_put (child_of q) d es)) f in
+      (λ h. u.0 (t.0 h), λ h. t.1 (u.1 h))
+
+  pub leaf_in : {vb at : ℕ} {vs : List X} {cb : ℕ} {cs : List (Seen X)} {m : Seen X} {b : Bool} {r : List Bool} (q : List Bool) (d : Seen X) → IsSeen vb vs cb cs m → 5 ≤ length q → IsTaken (child_of q) at cb cs → r ≡ drop 5 q → IsTrue b ↔ IsLeaf d r → IsTrue b ↔ IsLeaf (viewed vb vs cb (set cs at d)) q
+  leaf_in {cb = cb} {cs = cs} q d s l t f u = leaf_of (at_places 32 0 cb cs) q d (set_slots q d s t) l (t.written d) f u
+
+  pub leaf_new : {vb n db : ℕ} {vs : List X} {ds : List (Seen X)} {b : Bool} {r : List Bool} (es : List (ℕ × Seen X)) (q : List Bool) (d : Seen X) → HasSlots vb vs db ds → 5 ≤ length q → n ≡ child_of q → at_places 32 0 db ds ≡ put nat_cmp n d es → r ≡ drop 5 q → IsTrue b ↔ IsLeaf d r → IsTrue b ↔ IsLeaf (viewed vb vs db ds) q
+  leaf_new es q d h l k w f u = leaf_of es q d h l (w ∙ ap (λ i. put nat_cmp i d es) k) f u

@@ -261,7 +261,8 @@ impl<T> Node<T> {
 }
 
 impl<T: Drop> Node<T> {
-    /// Stores the value, and answers the old one and the number of nodes made.
+    /// Stores the value, and answers the old one, the number of nodes made, and whether nothing stands strictly inside the
+    /// path, as `is_leaf` does.
     ///
     /// A new entry is taken in only where there `may` be one more, and with at most `room` new nodes. The memory
     /// for a new node is requested before the node is made, and the nodes below it are made before it is hung in.
@@ -275,12 +276,13 @@ impl<T: Drop> Node<T> {
         value: T,
         may_grow: bool,
         room: usize,
-    ) -> Result<(Option<T>, usize), T>
+    ) -> Result<(Option<T>, usize, bool), T>
         ensures old { IfOk result (λ r. r.0 ≡ map.get self.old.entries path) }
         ensures map { OnOk result (self.new.entries ≡ map.insert self.old.entries path value) }
         ensures spares { OnOk result (self.new.spares ≡ off_way self.old.spares path) }
         ensures count { IfOk result (λ r. all_nodes self.new ≡ all_nodes self.old + r.1) }
         ensures levels { OnOk result (self.new.levels ≤ max self.old.levels (length path / 5 + 1)) }
+        ensures leaf { IfOk result (λ r. IsTrue r.2 ↔ (NothingInside self.new.entries path × NothingInside self.new.spares path)) }
         ensures within { IfOk result (λ r. r.1 ≤ room) }
         ensures grows { IfOk result (λ r. r.0 ≡ None → IsTrue may_grow) }
         ensures unchanged { OnErr result (self.new ≡ self.old) }
@@ -288,8 +290,9 @@ impl<T: Drop> Node<T> {
         ensures value_returned { IfErr result (λ v. v ≡ value) }
     {
         let mut held = Some(value);
-        match self.exchange(path, &mut held, may_grow, room) {
-            Some(made) => Ok((held, made)),
+        let mut is_leaf = false;
+        match self.exchange(path, &mut held, &mut is_leaf, may_grow, room) {
+            Some(made) => Ok((held, made, is_leaf)),
             None => match held {
                 Some(value) => Err(value),
                 None => unreachable!(),
@@ -297,30 +300,32 @@ impl<T: Drop> Node<T> {
         }
     }
 
-    /// Stores the value that is held, and holds the one that stood there, if any. Answers the number of nodes made; where
-    /// there is no room, none, and all stays as it was.
+    /// Stores the value that is held, and holds the one that stood there, if any. Answers the number of nodes made, and tells
+    /// whether nothing stands strictly inside the path; where there is no room, none, and all stays as it was.
     ///
     /// The value is not handed from node to node, so that a step down costs little.
     fn exchange(
         &mut self,
         path: Path,
         held: &mut Option<T>,
+        is_leaf: &mut bool,
         may_grow: bool,
         room: usize,
     ) -> Option<usize>
         requires { IsSome held.old }
         ensures stored { IfSome result (λ made. IsExchanged path held.old may_grow room self.old made held.new self.new) }
+        ensures leaf { IfSome result (λ made. IsTrue is_leaf.new ↔ (NothingInside self.new.entries path × NothingInside self.new.spares path)) }
         ensures unchanged { IfNone result (self.new ≡ self.old) }
         ensures absent { IfNone result (map.get self.old.entries path ≡ None) }
         ensures held { IfNone result (held.new ≡ held.old) }
     {
         if path.is_short() {
-            return self.exchange_here(path, held, may_grow);
+            return self.exchange_here(path, held, is_leaf, may_grow);
         }
         let number = path.five();
         if let Some(at) = slot(self.child_bits, number) {
             let child = &mut self.children[at];
-            return child.exchange(path.rest(), held, may_grow, room);
+            return child.exchange(path.rest(), held, is_leaf, may_grow, room);
         }
         // Nodes are large, and most have few children.
         let more = if self.children.len() < 4 { 1 } else { 2 };
@@ -328,7 +333,7 @@ impl<T: Drop> Node<T> {
             return None;
         }
         let mut child = Node::new(self.children.allocator());
-        let made = child.exchange(path.rest(), held, true, room - 1)?;
+        let made = child.exchange(path.rest(), held, is_leaf, true, room - 1)?;
         let Ok(_) = put_at(
             &mut self.child_bits,
             &mut self.children,
@@ -343,10 +348,17 @@ impl<T: Drop> Node<T> {
 
     /// The same at a string of fewer than five bits.
     #[inline(never)]
-    fn exchange_here(&mut self, path: Path, held: &mut Option<T>, may_grow: bool) -> Option<usize>
+    fn exchange_here(
+        &mut self,
+        path: Path,
+        held: &mut Option<T>,
+        is_leaf: &mut bool,
+        may_grow: bool,
+    ) -> Option<usize>
         requires short { length path < 5 }
         requires held { IsSome held.old }
         ensures stored { IfSome result (λ made. IsExchanged path held.old may_grow 0 self.old made held.new self.new) }
+        ensures leaf { IfSome result (λ made. IsTrue is_leaf.new ↔ (NothingInside self.new.entries path × NothingInside self.new.spares path)) }
         ensures unchanged { IfNone result (self.new ≡ self.old) }
         ensures absent { IfNone result (map.get self.old.entries path ≡ None) }
         ensures held { IfNone result (held.new ≡ held.old) }
@@ -363,6 +375,7 @@ impl<T: Drop> Node<T> {
         ) {
             Ok(old) => {
                 *held = old;
+                *is_leaf = self.is_leaf_here(&path);
                 Some(0)
             }
             Err(value) => {

@@ -71,6 +71,19 @@ pub(crate) fn reserve_some<X>(items: &mut ShortVec<X>, more: usize) -> Result<()
     items.reserve_exact(more)
 }
 
+/// How many more things a list gets room for, by its length and the size of a thing: one, since most lists stay short, and there
+/// are many of them. Of things of eight bytes it is three and then two at a time, which take as much memory: an allocator
+/// mostly hands out sixteen bytes at a time, and keeps eight for itself.
+#[inline]
+fn room_for(len: usize, size: usize) -> usize
+    ensures { 0 < result }
+{
+    if size != 8 {
+        return 1;
+    }
+    if len == 0 { 3 } else { 2 }
+}
+
 /// Stores the thing at the place, and answers what stood there.
 ///
 /// A free place is taken only where there may be one more, and needs memory; at a taken one it needs none.
@@ -102,8 +115,8 @@ pub(crate) fn put_at<X>(
             Ok(Some(mem::replace(item, thing)))
         }
         None => {
-            // Most lists stay short, and there are many of them.
-            if !may_grow || reserve_some(items, 1).is_err() {
+            let more = room_for(items.len(), mem::size_of_val(&thing));
+            if !may_grow || reserve_some(items, more).is_err() {
                 return Err(thing);
             }
             match items.insert(taken_below(word, place), thing) {

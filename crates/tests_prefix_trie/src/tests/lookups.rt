@@ -45,9 +45,11 @@ fn node_calls(rt: HostRuntime) {
     let short = Path::new(0x0a << 120, 8);
     let long = Path::new(0x0a01 << 112, 16);
     let inserted = node.insert(short.clone().expect(&rt, "a path"), 1, true, 9);
-    is_equal(&rt, inserted.expect(&rt, "memory"), (None, 1));
+    is_equal(&rt, inserted.expect(&rt, "memory"), (None, 1, true));
     let inserted = node.insert(long.clone().expect(&rt, "a path"), 2, true, 9);
-    is_equal(&rt, inserted.expect(&rt, "memory"), (None, 2));
+    is_equal(&rt, inserted.expect(&rt, "memory"), (None, 2, true));
+    let inserted = node.insert(short.clone().expect(&rt, "a path"), 1, true, 9);
+    is_equal(&rt, inserted.expect(&rt, "memory"), (Some(1), 0, false));
     is_found(&rt, node.longest(long.extended(true)), (16, 2));
     is_found(
         &rt,

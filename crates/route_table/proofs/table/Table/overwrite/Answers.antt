@@ -25,27 +25,27 @@ over T U net hop is table ok in_range x a =
     ∙ ap (λ M. hop_at M x) (routes_overwritten T (block net) (record { hop = hop; pref = default_preference }))
     ∙ over_hops _ (routes_are_table _ table) (route_of net hop default_preference) ok in_range x a
 
-pub returns-in_err-store-clause-absent : goal.returns-in_err-store-clause-absent
-returns-in_err-store-clause-absent g c = always c.from_residual.result (ap (choices_at c.args.self.now) (sym c.cleared-net.ensures.block) ∙ c.in_err-store.ensures.absent)
+pub returns-in_err-is_leaf-clause-absent : goal.returns-in_err-is_leaf-clause-absent
+returns-in_err-is_leaf-clause-absent g c = always c.from_residual.result (ap (choices_at c.args.self.now) (sym c.cleared-net.ensures.block) ∙ c.in_err-is_leaf.ensures.absent)
 
 pub halves-requires : goal.halves-requires
-halves-requires g c = omega (arith, room_inside _ c.in_ok-store.ensures.tables.1 (block c.cleared-net.result) c.cleared-net.ensures.is_block _ c.has_none_inside.ensures c.if-not-has_none_inside.true)
+halves-requires g c = omega (arith, room_inside _ c.in_ok-is_leaf.ensures.tables.1 (block c.cleared-net.result) c.cleared-net.ensures.is_block _ c.in_ok-is_leaf.ensures.leaf c.if-not-is_leaf.true)
 
-pub returns-then-not-has_none_inside-clause-networks : goal.returns-then-not-has_none_inside-clause-networks
-returns-then-not-has_none_inside-clause-networks g c =
+pub returns-then-not-is_leaf-clause-networks : goal.returns-then-not-is_leaf-clause-networks
+returns-then-not-is_leaf-clause-networks g c =
     let new : Stored = record { block = block c.cleared-net.result; choices = record { hop = c.args.hop; pref = default_preference } ∷ [] } in
-    halves_overwritten Stored.block c.args.self.now (networks_placed c.args.self.now c.in_ok-store.ensures.tables.0) new c.cleared-net.ensures.is_block (room_inside _ c.in_ok-store.ensures.tables.1 (block c.cleared-net.result) c.cleared-net.ensures.is_block _ c.has_none_inside.ensures c.if-not-has_none_inside.true)
-    c.halves.result.0 c.halves.result.1 c.halves.ensures.lower c.halves.ensures.upper _ _ _ c.in_ok-store.ensures.networks c.remove_inside.ensures.networks c.remove_inside-then-not-has_none_inside.ensures.networks
+    halves_overwritten Stored.block c.args.self.now (networks_placed c.args.self.now c.in_ok-is_leaf.ensures.tables.0) new c.cleared-net.ensures.is_block (room_inside _ c.in_ok-is_leaf.ensures.tables.1 (block c.cleared-net.result) c.cleared-net.ensures.is_block _ c.in_ok-is_leaf.ensures.leaf c.if-not-is_leaf.true)
+    c.halves.result.0 c.halves.result.1 c.halves.ensures.lower c.halves.ensures.upper _ _ _ c.in_ok-is_leaf.ensures.networks c.remove_inside.ensures.networks c.remove_inside-then-not-is_leaf.ensures.networks
     ∙ ap (λ (b : Block). overwritten_by c.args.self.now b (record { hop = c.args.hop; pref = default_preference })) c.cleared-net.ensures.block
 
-pub returns-then-not-has_none_inside-clause-hops : goal.returns-then-not-has_none_inside-clause-hops
-returns-then-not-has_none_inside-clause-hops g c = over _ _ _ _ (returns-then-not-has_none_inside-clause-networks g c) c.in_ok-store.ensures.tables.0 (subst IsBlock c.cleared-net.ensures.block c.cleared-net.ensures.is_block) c.in_ok-store.ensures.hop
+pub returns-then-not-is_leaf-clause-hops : goal.returns-then-not-is_leaf-clause-hops
+returns-then-not-is_leaf-clause-hops g c = over _ _ _ _ (returns-then-not-is_leaf-clause-networks g c) c.in_ok-is_leaf.ensures.tables.0 (subst IsBlock c.cleared-net.ensures.block c.cleared-net.ensures.is_block) c.in_ok-is_leaf.ensures.hop
 
-pub returns-else-not-has_none_inside-clause-networks : goal.returns-else-not-has_none_inside-clause-networks
-returns-else-not-has_none_inside-clause-networks g c =
+pub returns-else-not-is_leaf-clause-networks : goal.returns-else-not-is_leaf-clause-networks
+returns-else-not-is_leaf-clause-networks g c =
     let new : Stored = record { block = block c.cleared-net.result; choices = record { hop = c.args.hop; pref = default_preference } ∷ [] } in
-    leaf_overwritten c.args.self.now c.in_ok-store.ensures.tables.0 new c.cleared-net.ensures.is_block _ c.in_ok-store.ensures.networks (c.has_none_inside.ensures.0 c.if-not-has_none_inside.false)
+    leaf_overwritten c.args.self.now c.in_ok-is_leaf.ensures.tables.0 new c.cleared-net.ensures.is_block _ c.in_ok-is_leaf.ensures.networks (c.in_ok-is_leaf.ensures.leaf.0 c.if-not-is_leaf.false)
     ∙ ap (λ (b : Block). overwritten_by c.args.self.now b (record { hop = c.args.hop; pref = default_preference })) c.cleared-net.ensures.block
 
-pub returns-else-not-has_none_inside-clause-hops : goal.returns-else-not-has_none_inside-clause-hops
-returns-else-not-has_none_inside-clause-hops g c = over _ _ _ _ (returns-else-not-has_none_inside-clause-networks g c) c.in_ok-store.ensures.tables.0 (subst IsBlock c.cleared-net.ensures.block c.cleared-net.ensures.is_block) c.in_ok-store.ensures.hop
+pub returns-else-not-is_leaf-clause-hops : goal.returns-else-not-is_leaf-clause-hops
+returns-else-not-is_leaf-clause-hops g c = over _ _ _ _ (returns-else-not-is_leaf-clause-networks g c) c.in_ok-is_leaf.ensures.tables.0 (subst IsBlock c.cleared-net.ensures.block c.cleared-net.ensures.is_block) c.in_ok-is_leaf.ensures.hop

@@ -3,7 +3,7 @@ use Rattle.std.specs.Prelude.{Option, Some, None, IfNone}
 use Rattle.std.specs.FinMap.{get}
 use Rattle.trie_core.proofs.Seen.{seen, viewed}
 use Rattle.trie_core.proofs.Changes.{way, was, set_slots, absent, child_slots}
-use Rattle.trie_core.proofs.Exchanges.{not_short, in_room, same_below, exchanged_below, exchanged_new}
+use Rattle.trie_core.proofs.Exchanges.{not_short, in_room, same_below, exchanged_below, exchanged_new, leaf_in, leaf_new}
 use Rattle.trie_core.proofs.node.Node.+exchange.Goals as goal
 use Rattle.std.proofs.lemmas.Option.{IfSome_then}
 use Rattle.short_vec.specs.Lists.{short_items, short_counted}
@@ -71,3 +71,14 @@ returns-clause-stored g t c =
 
 pub invariant_of-self-2 : goal.invariant_of-self-2
 invariant_of-self-2 g t c = child_slots c.self.invariant c.in-Ok.ensures.counted (c.in-Ok.ensures.below 32 c.five-number.ensures.below c.self.invariant.children_below)
+
+-- ---- whether nothing stands inside
+
+pub returns-in-Some-clause-leaf : goal.returns-in-Some-clause-leaf
+returns-in-Some-clause-leaf g t c =
+    let s = seen c.self.invariant c.self.view_is in
+    IfSome_then c.exchange.result c.exchange.ensures.leaf (λ n x. leaf_in c.args.path c.exchange.new.self s (not_short c.args.path c.is_short.ensures c.if-is_short.false) (way c.args.path s c.five-number.ensures.value c.in-Some.ensures) c.rest.ensures x)
+
+pub returns-clause-leaf : goal.returns-clause-leaf
+returns-clause-leaf g t c =
+    leaf_new _ c.args.path c.exchange-2.new.self (invariant_of-self-2 g t c) (not_short c.args.path c.is_short.ensures c.if-is_short.false) c.five-number.ensures.value c.in-Ok.ensures.items c.rest-2.ensures c.in_ok-made.ensures.leaf

@@ -7,34 +7,29 @@ use Rattle.trie_core.specs.InnerPlaces.{at_places}
 use Rattle.trie_core.proofs.Seen.{seen, value_at}
 use Rattle.trie_core.proofs.Changes.{value_slots, value_put_map, value_count}
 use Rattle.trie_core.proofs.Ways.{short_off}
-use Rattle.trie_core.proofs.node.Node.exchange_here.Goals.{in-Ok, in-Err}
 use Rattle.trie_core.proofs.node.Node.exchange_here.Goals as goal
 
 pub invariant_of-self : goal.invariant_of-self
 invariant_of-self g c = value_slots (seen c.self.invariant c.self.view_is) c.put_at.ensures.counted (c.put_at.ensures.below 31 c.place.ensures.below c.self.invariant.values_below)
 
-pub returns-clause-stored : goal.returns-clause-stored
-returns-clause-stored g c =
+pub returns-in-Ok-clause-stored : goal.returns-in-Ok-clause-stored
+returns-in-Ok-clause-stored g c =
     let s = seen c.self.invariant c.self.view_is in
+    let v = value_slots s c.put_at.ensures.counted (c.put_at.ensures.below 31 c.place.ensures.below c.self.invariant.values_below) in
     let stood = ap (λ n. find nat_cmp n (at_places 32 0 c.self.inside.value_bits (short_items c.self.inside.values))) c.place.ensures.value ∙ value_at c.args.path s c.requires.short in
-    elim c.match-put_at.branch [
-      | in-Ok w ↦ rw (w.result-is, w.held-is) (record {
-        old = w.in-Ok.ensures.old ∙ stood;
-        map = λ v i.
-            let e : Some c.in-Some.value ≡ Some v = sym c.in-Some.is ∙ c.take.ensures.value ∙ i in
-            let f : c.in-Some.value ≡ v = cc in
-            value_put_map c.args.path c.in-Some.value s (invariant_of-self g c) c.requires.short c.place.ensures.value w.in-Ok.ensures.items ∙ ap (insert c.args.self.now.entries c.args.path) f;
-        spares = s.spare ∙ short_off c.args.path s c.requires.short;
-        count = omega (arith, value_count s (invariant_of-self g c));
-        levels = omega (arith, s.height);
-        within = omega arith;
-        grows = λ e. w.in-Ok.ensures.grows (w.in-Ok.ensures.old ∙ stood ∙ e);
-      })
-      | in-Err w ↦ rw w.result-is tt
-    ]
+    record {
+      old = c.in-Ok.ensures.old ∙ stood;
+      map = λ u i.
+          let e : Some c.in-Some.value ≡ Some u = sym c.in-Some.is ∙ c.take.ensures.value ∙ i in
+          let f : c.in-Some.value ≡ u = cc in
+          value_put_map c.args.path c.in-Some.value s v c.requires.short c.place.ensures.value c.in-Ok.ensures.items ∙ ap (insert c.args.self.now.entries c.args.path) f;
+      spares = s.spare ∙ short_off c.args.path s c.requires.short;
+      count = omega (arith, value_count s v);
+      levels = omega (arith, s.height);
+      within = omega arith;
+      grows = λ e. c.in-Ok.ensures.grows (c.in-Ok.ensures.old ∙ stood ∙ e);
+    }
 
-pub returns-clause-absent : goal.returns-clause-absent
-returns-clause-absent g c = elim c.match-put_at.branch [
-  | in-Ok w ↦ rw w.result-is tt
-  | in-Err w ↦ rw w.result-is (sym (value_at c.args.path (seen c.self.invariant c.self.view_is) c.requires.short) ∙ ap (λ n. find nat_cmp n (at_places 32 0 c.self.inside.value_bits (short_items c.self.inside.values))) (sym c.place.ensures.value) ∙ w.in-Err.ensures.absent)
-]
+pub returns-in-Err-clause-absent : goal.returns-in-Err-clause-absent
+returns-in-Err-clause-absent g c =
+    sym (value_at c.args.path (seen c.self.invariant c.self.view_is) c.requires.short) ∙ ap (λ n. find nat_cmp n (at_places 32 0 c.self.inside.value_bits (short_items c.self.inside.values))) (sym c.place.ensures.value) ∙ c.in-Err.ensures.absent

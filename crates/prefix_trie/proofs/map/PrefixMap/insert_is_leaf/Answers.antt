@@ -1,12 +1,14 @@
-use Rattle.std.proofs.Common.{◌∙◌, ap, false, true, not, arith}
+use Rattle.std.proofs.Common.{◌∙◌, sym, ap, subst, false, true, not, List, Bool, IsTrue, ◌↔◌, arith}
+use Rattle.trie_core.specs.Inside.{NothingInside}
+use Rattle.prefix_trie.specs.Seen.{SeenMap}
 use Rattle.std.specs.Prelude.{is_some}
 use Rattle.std.specs.Option.{IsSome}
 use Rattle.std.specs.FinMap.{get, len}
 use Rattle.prefix_trie.proofs.Entries.{one_more, keys_insert}
 use Rattle.prefix_trie.proofs.Spares.{idle_off, off_stored}
 use Rattle.trie_core.proofs.Ways.{off_none}
-use Rattle.prefix_trie.proofs.map.PrefixMap.insert.Goals.{then-is_none, else-is_none}
-use Rattle.prefix_trie.proofs.map.PrefixMap.insert.Goals as goal
+use Rattle.prefix_trie.proofs.map.PrefixMap.insert_is_leaf.Goals.{then-is_none, else-is_none}
+use Rattle.prefix_trie.proofs.map.PrefixMap.insert_is_leaf.Goals as goal
 
 pub invariant_of-self : goal.invariant_of-self
 invariant_of-self g c =
@@ -43,4 +45,12 @@ returns-in-Ok-clause-kept g c = λ h.
     elim c.if-is_none.branch [
       | then-is_none w ↦ ap (λ m. m.spares) w.self-is ∙ e
       | else-is_none w ↦ ap (λ m. m.spares) w.self-is ∙ e
+    ]
+
+pub returns-in-Ok-clause-leaf : goal.returns-in-Ok-clause-leaf
+returns-in-Ok-clause-leaf g c =
+    let e = subst (λ (q : List Bool). IsTrue c.in-Ok.is_leaf ↔ (NothingInside c.insert.new.self.entries q × NothingInside c.insert.new.self.spares q)) c.path_of.ensures.value c.in-Ok.ensures.leaf in
+    elim c.if-is_none.branch [
+      | then-is_none w ↦ subst (λ (m : SeenMap _). IsTrue c.in-Ok.is_leaf ↔ (NothingInside m.entries (g.P.Prefix.bits c.args.prefix) × NothingInside m.spares (g.P.Prefix.bits c.args.prefix))) (sym w.self-is) e
+      | else-is_none w ↦ subst (λ (m : SeenMap _). IsTrue c.in-Ok.is_leaf ↔ (NothingInside m.entries (g.P.Prefix.bits c.args.prefix) × NothingInside m.spares (g.P.Prefix.bits c.args.prefix))) (sym w.self-is) e
     ]
