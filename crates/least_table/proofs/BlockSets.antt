@@ -36,27 +36,27 @@ module _ (sets : List (List (Option ℕ))) (i : ℕ) (within : i < length sets) 
   abbrev longer : List (Option ℕ)
   longer = slice_index_or sets i [] ++ more
 
-  there : (at : ℕ) → at / 64 ≡ i → block_of (slice_set sets i longer) at ≡ longer
+  there : (at : ℕ) → at / 512 ≡ i → block_of (slice_set sets i longer) at ≡ longer
   there at e = ap (λ k. slice_index_or (slice_set sets i longer) k []) e ∙ get_or-set_same sets i longer [] within
 
   keeps_longer : KeepsSets sets (slice_set sets i longer)
-  keeps_longer at h = ⊎_elim same other (cases_eq (at / 64) i)
+  keeps_longer at h = ⊎_elim same other (cases_eq (at / 512) i)
     where
       place : ℕ
-      place = at % 64
+      place = at % 512
 
-      same : at / 64 ≡ i → HasSet (slice_set sets i longer) at × (set_at (slice_set sets i longer) at ≡ set_at sets at)
+      same : at / 512 ≡ i → HasSet (slice_set sets i longer) at × (set_at (slice_set sets i longer) at ≡ set_at sets at)
       same e =
           let was : block_of sets at ≡ slice_index_or sets i [] = ap (λ k. slice_index_or sets k []) e in
-          let stood : Stands (slice_index_or sets i []) (at % 64) = subst (λ b. Stands b (at % 64)) was h in (
-            subst (λ b. Stands b (at % 64)) (sym (there at e)) (stands_front (slice_index_or sets i []) more (at % 64) stood),
-            ap (λ b. set_in b (at % 64)) (there at e) ∙ set_front (slice_index_or sets i []) more (at % 64) stood ∙ sym (ap (λ b. set_in b (at % 64)) was),
+          let stood : Stands (slice_index_or sets i []) (at % 512) = subst (λ b. Stands b (at % 512)) was h in (
+            subst (λ b. Stands b (at % 512)) (sym (there at e)) (stands_front (slice_index_or sets i []) more (at % 512) stood),
+            ap (λ b. set_in b (at % 512)) (there at e) ∙ set_front (slice_index_or sets i []) more (at % 512) stood ∙ sym (ap (λ b. set_in b (at % 512)) was),
           )
 
-      other : (at / 64 ≡ i → ⊥) → HasSet (slice_set sets i longer) at × (set_at (slice_set sets i longer) at ≡ set_at sets at)
+      other : (at / 512 ≡ i → ⊥) → HasSet (slice_set sets i longer) at × (set_at (slice_set sets i longer) at ≡ set_at sets at)
       other n =
-          let is : block_of (slice_set sets i longer) at ≡ block_of sets at = get_or-set_other sets i (at / 64) longer [] n in
-          (subst (λ b. Stands b (at % 64)) (sym is) h, ap (λ b. set_in b (at % 64)) is)
+          let is : block_of (slice_set sets i longer) at ≡ block_of sets at = get_or-set_other sets i (at / 512) longer [] n in
+          (subst (λ b. Stands b (at % 512)) (sym is) h, ap (λ b. set_in b (at % 512)) is)
 
 -- a set is added at the end of a block
 module _ (blocks : List (Vec (Option ℕ) Global)) (i : ℕ) (block new : Vec (Option ℕ) Global) (hops : List (Option ℕ)) (n : ℕ)
@@ -76,10 +76,10 @@ module _ (blocks : List (Vec (Option ℕ) Global)) (i : ℕ) (block new : Vec (O
   pub keeps_appended : KeepsSets (all blocks) (all (slice_set blocks i new))
   keeps_appended = subst (KeepsSets (all blocks)) (sym changed) (keeps_longer (all blocks) i inside (Some n ∷ hops))
 
-  pub has_appended : (at : ℕ) → at / 64 ≡ i → at % 64 ≡ length block.items → n ≡ length hops → HasSet (all (slice_set blocks i new)) at × (set_at (all (slice_set blocks i new)) at ≡ hops)
+  pub has_appended : (at : ℕ) → at / 512 ≡ i → at % 512 ≡ length block.items → n ≡ length hops → HasSet (all (slice_set blocks i new)) at × (set_at (all (slice_set blocks i new)) at ≡ hops)
   has_appended at e p size =
       let b : block_of (all (slice_set blocks i new)) at ≡ block.items ++ Some n ∷ hops =
       ap (λ bs. block_of bs at) changed ∙ there (all blocks) i inside (Some n ∷ hops) at e ∙ ap (λ b. b ++ Some n ∷ hops) was in (
-        subst (λ c. Stands c (at % 64)) (sym b) (subst (Stands (block.items ++ Some n ∷ hops)) (sym p) (stands_here block.items hops n size)),
-        ap (λ c. set_in c (at % 64)) b ∙ ap (set_in (block.items ++ Some n ∷ hops)) p ∙ set_here block.items hops n size,
+        subst (λ c. Stands c (at % 512)) (sym b) (subst (Stands (block.items ++ Some n ∷ hops)) (sym p) (stands_here block.items hops n size)),
+        ap (λ c. set_in c (at % 512)) b ∙ ap (set_in (block.items ++ Some n ∷ hops)) p ∙ set_here block.items hops n size,
       )

@@ -1,8 +1,8 @@
 -- Plans at the end of the steps: made wider, and joined.
-use Rattle.std.proofs.Common.{◌≡◌, ℕ, suc, ◌-◌, ◌<◌, Bool, true, false, List, [], ◌∷◌, ◌++◌, length, map, MatchOption, Option, None, Some, cond, inl, inr, refl, sym, ap, ◌∙◌, subst, arith, append_assoc, append-nil, length-append}
+use Rattle.std.proofs.Common.{◌≡◌, ℕ, suc, ◌-◌, ◌<◌, Bool, true, false, List, [], ◌∷◌, ◌++◌, length, MatchOption, Option, None, Some, cond, inl, inr, sym, ap, ◌∙◌, subst, arith, append_assoc, append-nil, length-append}
 use Rattle.std.proofs.lemmas.Bool.{lt-ltb, ne_eqb}
 use Rattle.least_table.specs.HopSets.{same_hop, holds, AreMerged}
-use Rattle.least_table.specs.InnerPacked.{AreKept, AreWhole, Grows, IsKept, IsWider, best_at, step_of, steps_in}
+use Rattle.least_table.specs.InnerPacked.{AreWhole, Grows, IsKept, IsWider, best_at, step_of, steps_in}
 use Rattle.least_table.specs.InnerPlans.{Ends, IsHeld, OfHalf, OfHalves, Plan, Leaf, Pair, Fork, Half, Skip, steps_of, top}
 use Rattle.least_table.specs.InnerRising.{IsRising}
 use Rattle.least_table.specs.InnerSteps.{Step, step_best}

@@ -1,5 +1,5 @@
 -- Plans of blocks, by those of their halves.
-use Rattle.std.proofs.Common.{◌≡◌, ℕ, suc, ◌+◌, inl, inr, Bool, true, false, List, [], ◌∷◌, length, Option, refl, arith}
+use Rattle.std.proofs.Common.{◌≡◌, ℕ, ◌+◌, inl, inr, Bool, true, false, List, [], ◌∷◌, length, Option, refl, arith}
 use Rattle.ipnet_blocks.specs.BitStrings.{begins}
 use Rattle.least_table.specs.HopSets.{holds, AreMerged}
 use Rattle.least_table.specs.InnerPlans.{Plan, Leaf, Pair, Fork, Half, Skip, OfHalf, OfHalves, top, tree_of}

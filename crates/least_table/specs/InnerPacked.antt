@@ -1,5 +1,5 @@
 -- The steps of a plan as they are kept: eight bytes each, and the sets that all share.
-use Rattle.std.specs.Prelude.{◌≡◌, ℕ, ◌<◌, ◌≤◌, ◌^◌, ◌⊎◌, Bool, true, false, List, [], ◌∷◌, ◌++◌, drop, length, map, slice_index_or, Option, Some, None, ⊤}
+use Rattle.std.specs.Prelude.{◌≡◌, ℕ, ◌<◌, ◌≤◌, ◌^◌, ◌⊎◌, Bool, true, false, List, [], ◌∷◌, ◌++◌, drop, map, slice_index_or, Option, Some, None, ⊤}
 use Rattle.ipnet_blocks.specs.Blocks.{digits}
 use Rattle.least_table.specs.HopSets.{first_of}
 use Rattle.least_table.specs.InnerHops.{second_of}

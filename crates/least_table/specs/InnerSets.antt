@@ -15,15 +15,15 @@ set_in block place = take (size_in block place) (drop (suc place) block)
 
 -- the block of a set
 abbrev pub block_of : List (List (Option ℕ)) → ℕ → List (Option ℕ)
-block_of sets at = slice_index_or sets (at / 64) []
+block_of sets at = slice_index_or sets (at / 512) []
 
 -- a set stands whole where the number says
 abbrev pub HasSet : List (List (Option ℕ)) → ℕ → Type 0
-HasSet sets at = suc (at % 64) + size_in (block_of sets at) (at % 64) ≤ length (block_of sets at)
+HasSet sets at = suc (at % 512) + size_in (block_of sets at) (at % 512) ≤ length (block_of sets at)
 
 -- its hops
 abbrev pub set_at : List (List (Option ℕ)) → ℕ → List (Option ℕ)
-set_at sets at = set_in (block_of sets at) (at % 64)
+set_at sets at = set_in (block_of sets at) (at % 512)
 
 -- each set has its number still
 abbrev pub KeepsSets : List (List (Option ℕ)) → List (List (Option ℕ)) → Type 0

@@ -7,10 +7,9 @@ use std::cmp::max;
 use std::marker::Model;
 
 /// How many words a block has at least room for; a set begins at one of the first so many.
-const SIZE: usize = 64;
+const SIZE: usize = 512;
 
-/// Sets of hops one after the other in blocks, each behind the number of its hops. Blocks go where smaller things were, and no set is
-/// copied as their number grows. A set has a number of 32 bits: its block's, and its place there.
+/// Sets of hops one after the other in blocks, each behind the number of its hops. No set is copied as their number grows. A set has a number of 32 bits: its block's, and its place there.
 ///
 /// Contracts see the list of the blocks.
 #[derive(Drop)]
@@ -28,11 +27,11 @@ impl Model for KeptSets {
 
 /// The number of the set at a place of a block.
 fn number(block: usize, place: usize) -> Result<u32, AllocError>
-    requires { place < 64 }
-    ensures block { IfOk result (λ at. at / 64 ≡ block) }
-    ensures place { IfOk result (λ at. at % 64 ≡ place) }
+    requires { place < 512 }
+    ensures block { IfOk result (λ at. at / 512 ≡ block) }
+    ensures place { IfOk result (λ at. at % 512 ≡ place) }
 {
-    if block >= 1 << 26 {
+    if block >= 1 << 23 {
         return Err(AllocError);
     }
     Ok((block * SIZE + place) as u32)
@@ -71,7 +70,7 @@ impl KeptSets {
 
     /// Whether the last block has room for a set of so many hops.
     fn has_room(&self, count: usize) -> bool
-        ensures { IsTrue result → (0 < length self.now) × (length (slice_index_or self.now (length self.now - 1) []) < 64) }
+        ensures { IsTrue result → (0 < length self.now) × (length (slice_index_or self.now (length self.now - 1) []) < 512) }
     {
         match self.blocks.last() {
             Some(block) => block.len() < SIZE && count < SIZE - block.len(),
@@ -99,7 +98,7 @@ impl KeptSets {
     /// Adds a set in the last block, and answers its number.
     fn append(&mut self, hops: &[Option<u32>]) -> Result<u32, AllocError>
         requires some { 0 < length self.old }
-        requires room { length (slice_index_or self.old (length self.old - 1) []) < 64 }
+        requires room { length (slice_index_or self.old (length self.old - 1) []) < 512 }
         ensures kept { OnOk result (KeepsSets self.old self.new) }
         ensures here { IfOk result (λ at. HasSet self.new at × (set_at self.new at ≡ hops.now)) }
     {

@@ -37,7 +37,7 @@ fn innermost(lowers: &mut Vec<Lower>, depth: u8) -> Option<Lower>
 }
 
 /// The plan of pieces that come ascending: blocks with a hop each, of which none lies in another. No piece is kept itself: a step of the
-/// plan takes eight bytes, and there are some two for each piece.
+/// plan takes eight bytes, and there are some one to two for each piece.
 #[derive(Drop)]
 pub struct Planner<P: Copy> {
     steps: Steps,

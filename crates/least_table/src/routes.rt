@@ -18,7 +18,7 @@ use trie_core::Path;
 /// Contracts see those that are left.
 #[derive(Drop)]
 pub struct Routes<P> {
-    stack: Stack<(P, Option<u32>), 16>,
+    stack: Stack<(P, Option<u32>), 128>,
 }
 
 impl<P> Model for Routes<P> {

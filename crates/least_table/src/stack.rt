@@ -9,8 +9,8 @@ use std::mem;
 /// The most blocks but the last one, so that the items can be counted.
 const MOST: usize = 1 << 32;
 
-/// A list that is added to and taken from at its end, in blocks of `SIZE` items, one to 1,024. So it grows without a copy, and blocks
-/// of a few hundred bytes go where smaller things were.
+/// A list that is added to and taken from at its end, in blocks of `SIZE` items, one to 1,024. So no item is copied as it grows, and
+/// memory goes back block by block as items are taken.
 ///
 /// Contracts see the list.
 #[derive(Drop)]

@@ -1,4 +1,4 @@
-use Rattle.std.proofs.Common.{rules, arith, ◌≡◌, ◌∙◌, ◌+◌, ◌-◌, ◌++◌, ◌∷◌, [], Bool, List, true, false, suc, length, sym, ap, refl, length-append}
+use Rattle.std.proofs.Common.{rules, arith, ◌≡◌, ◌∙◌, ◌-◌, ◌++◌, ◌∷◌, [], Bool, List, true, false, suc, length, sym, ap, refl, length-append}
 use Rattle.least_table.specs.InnerPacked.{step_of}
 use Rattle.least_table.specs.InnerPlans.{steps_of}
 use Rattle.least_table.proofs.Stores.{if_ok_map}

@@ -1,13 +1,9 @@
-use Rattle.std.proofs.Common.{◌≡◌, ◌∙◌, ◌-◌, ◌∷◌, [], arith, ap, length, length-append, subst, sym}
+use Rattle.std.proofs.Common.{◌-◌, ◌∷◌, [], subst}
 use Rattle.least_table.specs.HopSets.{AreMerged}
 use Rattle.least_table.specs.InnerHops.{members}
-use Rattle.least_table.specs.InnerPacked.{Grows, best_at, steps_in}
-use Rattle.least_table.specs.InnerPlans.{steps_of}
-use Rattle.least_table.specs.InnerRising.{IsRising}
+use Rattle.least_table.specs.InnerPacked.{Grows, best_at}
 use Rattle.least_table.specs.InnerSteps.{Fork}
-use Rattle.least_table.proofs.Gathers.{best_last}
-use Rattle.least_table.proofs.Joins.{fork_ends, low_best}
-use Rattle.least_table.proofs.Lowers.{some_step}
+use Rattle.least_table.proofs.Joins.{fork_ends}
 use Rattle.least_table.proofs.Stores.{if_ok_map}
 use Rattle.least_table.proofs.plan.Steps.fork.Goals as goal
 

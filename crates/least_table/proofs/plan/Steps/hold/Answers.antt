@@ -1,6 +1,4 @@
-use Rattle.std.proofs.Common.{arith}
 use Rattle.least_table.proofs.Joins.{leaf_last}
-use Rattle.least_table.proofs.Lowers.{some_step}
 use Rattle.least_table.proofs.plan.Steps.hold.Goals as goal
 
 pub returns-in-Some : goal.returns-in-Some

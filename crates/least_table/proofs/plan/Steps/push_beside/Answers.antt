@@ -1,6 +1,5 @@
-use Rattle.std.proofs.Common.{◌∙◌, [], ◌∷◌, ap, drop, false, subst, sym, true}
+use Rattle.std.proofs.Common.{◌∙◌, ap, drop, false, sym, true}
 use Rattle.least_table.specs.HopSets.{first_of}
-use Rattle.least_table.specs.InnerPacked.{Grows}
 use Rattle.least_table.specs.InnerSteps.{Half}
 use Rattle.least_table.specs.declared.plan.Packed.TheVariants as packed
 use Rattle.least_table.proofs.Packed.{grown}

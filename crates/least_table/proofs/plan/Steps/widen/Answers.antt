@@ -1,8 +1,7 @@
-use Rattle.std.proofs.Common.{◌≡◌, ◌∙◌, ◌-◌, ◌++◌, ◌∷◌, [], Bool, List, Option, ap, length, subst, sym, true, ℕ}
+use Rattle.std.proofs.Common.{◌∙◌, ◌∷◌, [], ap, subst, sym}
 use Rattle.least_table.specs.HopSets.{AreMerged, holds}
 use Rattle.least_table.specs.InnerHops.{members}
 use Rattle.least_table.specs.InnerPacked.{Grows, step_of}
-use Rattle.least_table.specs.InnerPlans.{top}
 use Rattle.least_table.specs.InnerRising.{IsRising}
 use Rattle.least_table.specs.InnerSteps.{Half, Skip, step_best}
 use Rattle.least_table.proofs.Joins.{last_step, left_whole, single_ends, beside_ends, pop_last, wider_ends, wider_kept}

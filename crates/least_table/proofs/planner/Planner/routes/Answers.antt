@@ -1,14 +1,14 @@
-use Rattle.std.proofs.Common.{arith, ◌≡◌, ◌-◌, [], AllPairs, None, ap, length, subst, sym}
+use Rattle.std.proofs.Common.{arith, ◌≡◌, [], AllPairs, None, subst, sym}
 use Rattle.std.specs.declared.cmp.Ordering.TheVariants.{Less}
 use Rattle.ipnet_blocks.specs.BitStrings.{bits_cmp}
 use Rattle.least_table.specs.Pieces.{hop_at}
-use Rattle.least_table.specs.InnerPlans.{EndsIn, tree_of}
+use Rattle.least_table.specs.InnerPlans.{tree_of}
 use Rattle.least_table.specs.InnerSteps.{AreNetworks}
 use Rattle.least_table.specs.Tables.{IsLeast}
 use Rattle.least_table.specs.Trees.{routes_of}
 use Rattle.least_table.proofs.Builds.{fits_plan}
 use Rattle.least_table.proofs.Chains.{trees_are_least}
-use Rattle.least_table.proofs.Lowers.{IsWhole, from_top, whole_plan, whole_routes}
+use Rattle.least_table.proofs.Lowers.{from_top, whole_plan, whole_routes}
 use Rattle.least_table.proofs.Orders.{IsInOrder-routes, in_pairs}
 use Rattle.least_table.proofs.planner.Planner.routes.Goals as goal
 

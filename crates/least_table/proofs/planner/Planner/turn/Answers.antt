@@ -1,4 +1,4 @@
-use Rattle.std.proofs.Common.{arith, ◌+◌, length, reverse, subst, sym}
+use Rattle.std.proofs.Common.{arith, length, reverse, subst, sym}
 use Rattle.std.proofs.Math.Facts.{Fits-of_lt}
 use Rattle.least_table.specs.InnerPacked.{steps_in}
 use Rattle.least_table.specs.InnerPlanners.{AreLowers}

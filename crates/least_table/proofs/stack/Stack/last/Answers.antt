@@ -1,4 +1,4 @@
-use Rattle.std.proofs.Common.{◌≡◌, ◌∙◌, ◌+◌, ◌-◌, ◌++◌, ◌∷◌, [], arith, ap, length, sym, take}
+use Rattle.std.proofs.Common.{◌∙◌, ◌+◌, ◌-◌, ◌++◌, ◌∷◌, [], arith, ap, sym, take}
 use Rattle.std.proofs.lemmas.List.{take_all, take_more}
 use Rattle.least_table.proofs.stack.Stack.last.Goals as goal
 

@@ -1,4 +1,4 @@
-use Rattle.std.proofs.Common.{◌≡◌, ◌+◌, ◌*◌, ◌%◌, ◌^◌, ◌∷◌, ◌∙◌, arith, ap}
+use Rattle.std.proofs.Common.{◌+◌, ◌*◌, ◌%◌, ◌^◌, ◌∷◌, ◌∙◌, arith, ap}
 use Rattle.ipnet_blocks.specs.Blocks.{digits}
 use Rattle.trie_core.proofs.Longer.{as_number}
 use Rattle.least_table.proofs.PathBits.{one_above}

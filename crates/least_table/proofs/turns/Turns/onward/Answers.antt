@@ -1,4 +1,4 @@
-use Rattle.std.proofs.Common.{◌≡◌, ◌∙◌, ◌++◌, ◌∷◌, [], ◌≤◌, ◌<◌, arith, ap, append_assoc, false, length, length-append, slice_index_or, sym, take}
+use Rattle.std.proofs.Common.{◌∙◌, ◌++◌, ◌∷◌, [], ◌≤◌, ◌<◌, arith, ap, append_assoc, false, length, length-append, sym, take}
 use Rattle.std.proofs.lemmas.List.{length-take-le, take_all, take_more}
 use Rattle.trie_core.proofs.Aligned.{path_length}
 use Rattle.least_table.proofs.turns.Turns.onward.Goals as goal

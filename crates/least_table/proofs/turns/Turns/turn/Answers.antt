@@ -1,4 +1,4 @@
-use Rattle.std.proofs.Common.{◌-◌, ◌==◌, ◌∙◌, arith, ap, false, length, slice_index_or, sym}
+use Rattle.std.proofs.Common.{◌-◌, ◌==◌, ◌∙◌, arith, ap, false, slice_index_or, sym}
 use Rattle.std.proofs.lemmas.Nat.Bits.{shr_and_one}
 use Rattle.trie_core.proofs.Aligned.{path_length}
 use Rattle.least_table.proofs.PathBits.{bit_of_digits}
