@@ -1,5 +1,5 @@
 //! Plans: which hops each block is best handed, as steps that are taken in turn.
-ghost use Rattle.std.specs.Prelude.{◌≡◌, ◌-◌, ◌<◌, ◌≤◌, ◌++◌, ◌∷◌, [], List, ℕ, None, Option, Some, Bool, drop, false, length, take, IfOk, IfSome, MatchOption, OnOk, not, true};
+ghost use Rattle.std.specs.Prelude.{◌≡◌, ◌-◌, ◌<◌, ◌≤◌, ◌++◌, ◌∷◌, [], List, ℕ, None, Option, Some, Bool, drop, length, IfOk, IfSome, MatchOption, OnOk, not, true};
 ghost use Rattle.least_table.specs.HopSets.{AreMerged, first_of, holds};
 ghost use Rattle.least_table.specs.InnerPacked.{AreWhole, Grows, IsAlways, IsKept, IsWider, best_at, hops_in, step_of, steps_in};
 ghost use Rattle.least_table.specs.InnerHops.{members};
