@@ -30,15 +30,11 @@ impl<N: Number> Model for Range<N> {
 }
 
 impl<N: Number> Range<N> {
-    /// The addresses from the first to the last, with this hop.
-    pub(crate) fn of_ends(first: N::Addr, last: N::Addr, hop: u32) -> Range<N>
-        ensures { result ≡ record { first = N.addr_number first; last = N.addr_number last; hop = hop } }
+    /// The addresses from the number of the first to that of the last, with this hop.
+    pub(crate) fn of_ends(first: N, last: N, hop: u32) -> Range<N>
+        ensures { result ≡ record { first = N.number first; last = N.number last; hop = hop } }
     {
-        Range {
-            first: N::of_addr(first),
-            last: N::of_addr(last),
-            hop,
-        }
+        Range { first, last, hop }
     }
 
     /// The number of its first address.

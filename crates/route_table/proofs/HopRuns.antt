@@ -15,9 +15,6 @@ use Rattle.ipnet_blocks.proofs.Cuts.{Between, cut_is_exact, has_of_span, span_of
 use Rattle.ipnet_blocks.proofs.Maximals.{maximal_is_union}
 use Rattle.route_laws.specs.Flats.{Piece}
 use Rattle.route_table.specs.Items.{BeginsWithRun, run_family, run_first, run_hop, run_last}
-use Rattle.std.specs.Net.Addr.{ipv4_bits, ipv6_bits}
-use Rattle.std.specs.declared.net.ipv4_addr.Ipv4Addr.{Ipv4Addr}
-use Rattle.std.specs.declared.net.ipv6_addr.Ipv6Addr.{Ipv6Addr}
 use Rattle.ipnet.specs.IpSubnets.{ip_limits}
 use Rattle.route_laws.specs.Flats.{flat_of}
 use Rattle.ipnet.specs.IpNets.{block}
@@ -98,7 +95,7 @@ module _ (f : Family) (s : Span) (some : s.first ≤ s.last) (top : s.last < 2 ^
 -- ---- the next run of both families
 
 module _ (w : BothRuns) (a : AreBoth w) (v : Runs Network ℕ) (r : Run) where
-  pub run_of_ipv4 : (first last : Ipv4Addr) → IsFirstRun (hops_left w.v4) r (hops_left v) × (r.span.last ≤ w.v4.end) → ipv4_bits first ≡ r.span.first → ipv4_bits last ≡ r.span.last
+  pub run_of_ipv4 : (first last : ℕ) → IsFirstRun (hops_left w.v4) r (hops_left v) × (r.span.last ≤ w.v4.end) → first ≡ r.span.first → last ≡ r.span.last
       → BeginsWithRun (flat_of (hops_of w)) (V4 first last r.number) (flat_of (hops_of (record { v4 = v; v6 = w.v6 })))
   run_of_ipv4 first last is e z =
       let q = a.ipv4 in
@@ -107,7 +104,7 @@ module _ (w : BothRuns) (a : AreBoth w) (v : Runs Network ℕ) (r : Run) where
       run_of_span Ipv4 r.span some (omega arith) (V4 first last r.number) _ _ refl e z
       (next_ipv4 w a v r (ip_limits Ipv4 (limits_of r.span)) is refl).0
 
-  pub run_of_ipv6 : (first last : Ipv6Addr) (u : Runs Network ℕ) → ((x : ℕ) → hops_left w.v4 x ≡ None) × ((x : ℕ) → hops_left u x ≡ None) → IsFirstRun (hops_left w.v6) r (hops_left v) × (r.span.last ≤ w.v6.end) → ipv6_bits first ≡ r.span.first → ipv6_bits last ≡ r.span.last
+  pub run_of_ipv6 : (first last : ℕ) (u : Runs Network ℕ) → ((x : ℕ) → hops_left w.v4 x ≡ None) × ((x : ℕ) → hops_left u x ≡ None) → IsFirstRun (hops_left w.v6) r (hops_left v) × (r.span.last ≤ w.v6.end) → first ≡ r.span.first → last ≡ r.span.last
       → BeginsWithRun (flat_of (hops_of w)) (V6 first last r.number) (flat_of (hops_of (record { v4 = u; v6 = v })))
   run_of_ipv6 first last u none is e z =
       let q = a.ipv6 in

@@ -195,6 +195,42 @@ module _ (stack : List Reach) (r : Reach) (cs : List Reach) (at end : ℕ) (p : 
     kept = λ x u. cond-true (nat_le r.first x) _ None (le-leb _ _ (omega arith)) ∙ sym (cond-true (nat_le at x) _ None (le-leb _ _ (omega arith)));
   }
 
+  -- where it has the number around it, the others paint the same without it
+  passed_over : (x : ℕ) → r.number ≡ number → at ≤ x → topmost None (stack ++ r ∷ cs) x ≡ topmost None (stack ++ cs) x
+  passed_over x same from =
+      topmost_append None stack (r ∷ cs) x
+      ∙ ap (λ k. topmost k cs x) (⊎_elim
+      (λ l. cond-false (nat_le r.first x && nat_le x r.last) r.number (topmost None stack x) (lies_before r.first r.last x l))
+      (λ m. ⊎_elim
+      (λ l. cond-false (nat_le r.first x && nat_le x r.last) r.number (topmost None stack x) (lies_after r.first r.last x l))
+      (λ u. cond-true (nat_le r.first x && nat_le x r.last) r.number (topmost None stack x) (lies r.first r.last x m u) ∙ same ∙ sym (around u))
+      (cases_lt r.last x))
+      (cases_lt x r.first))
+      ∙ sym (topmost_append None stack cs x)
+    where
+      around : x ≤ r.last → topmost None stack x ≡ number
+      around u =
+          topmost_open end None stack x (λ s i. (let b = (open_at stack (r ∷ cs) at end p s i).begun in omega arith, let n = (inside s i).0 in omega arith))
+          ∙ (λ i. (sym inner i).1)
+
+  pub passed_are : ArePlaced stack cs at end
+  passed_are =
+      let f = follows stack (r ∷ cs) at end p in
+      record {
+        order = p.order;
+        opened = p.opened;
+        nested = p.nested;
+        coming' = All-from_In (IsComing at end) cs (λ s i. comes stack (r ∷ cs) at end p s (inr i));
+        follow = pairs_from_Rising IsApartOrInside (stack ++ cs) (rising_append IsApartOrInside stack cs (rising_front IsApartOrInside stack (r ∷ cs) f) (rising_back IsApartOrInside stack (r ∷ cs) f).1
+            (λ x y i j. rising_cross IsApartOrInside stack (r ∷ cs) f x y i (inr j)));
+      }
+
+  pub passed_here : r.number ≡ number → (x : ℕ) → before x ≡ from_on false at (topmost None (stack ++ cs)) x
+  passed_here same x = ⊎_elim
+      (λ m. cond-false (nat_le at x) _ None (lt-leb _ _ m) ∙ sym (cond-false (nat_le at x) _ None (lt-leb _ _ m)))
+      (λ m. ap (λ o. cond (nat_le at x) o None) (passed_over x same m))
+      (cases_lt x at)
+
 -- the innermost route closes
 module _ (os : List Reach) (t : Reach) (cs : List Reach) (at end : ℕ) (p : ArePlaced (os ++ t ∷ []) cs at end) (far : (r : Reach) → In r cs → t.last < r.first) where
   pub closed_are : t.last < end → ArePlaced os cs (t.last + 1) end

@@ -1,8 +1,8 @@
 -- Least tables of one family, as lists of bit strings.
-use Rattle.std.specs.Prelude.{◌≡◌, ℕ, Bool, true, List, All, Option, filter, length, map}
+use Rattle.std.specs.Prelude.{◌≡◌, ℕ, Bool, List, All, Option, filter, length, map}
 use Rattle.ipnet_addr.specs.Addresses.{Family, Ipv4, Ipv6, Address, width, same_family}
 use Rattle.ipnet_blocks.specs.Blocks.{bit_string}
-use Rattle.ipnet_blocks.specs.Networks.{Network, IsTruncated, block_of}
+use Rattle.ipnet_blocks.specs.Networks.{Network, IsTruncated}
 use Rattle.ipnet.specs.IpNets.{family, parts, net_in}
 use Rattle.ipnet.specs.declared.ip_net.IpNet.{IpNet}
 use Rattle.least_table.specs.InnerPlanners.{HasPlanned}

@@ -1,6 +1,5 @@
 -- What iterators over a table give.
 use Rattle.std.specs.Prelude.{◌≡◌, ◌≤◌, ◌↔◌, ℕ, Any, List, [], ◌∷◌, ◌++◌, Option, MatchOption, map}
-use Rattle.std.specs.Net.Addr.{ipv4_bits, ipv6_bits}
 use Rattle.ipnet_addr.specs.Addresses.{Address, Family, Ipv4, Ipv6}
 use Rattle.ipnet_blocks.specs.Blocks.{Block, HasAddress}
 use Rattle.ipnet.specs.IpNets.{block, network_at}
@@ -30,13 +29,13 @@ run_family (V6 a b k) = Ipv6
 
 -- the number of its first address
 abbrev pub run_first : HopRun → ℕ
-run_first (V4 a b k) = ipv4_bits a
-run_first (V6 a b k) = ipv6_bits a
+run_first (V4 a b k) = a
+run_first (V6 a b k) = a
 
 -- the number of its last address
 abbrev pub run_last : HopRun → ℕ
-run_last (V4 a b k) = ipv4_bits b
-run_last (V6 a b k) = ipv6_bits b
+run_last (V4 a b k) = b
+run_last (V6 a b k) = b
 
 -- its hop
 abbrev pub run_hop : HopRun → ℕ

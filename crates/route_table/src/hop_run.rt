@@ -5,16 +5,16 @@ ghost use Rattle.route_laws.specs.Flats.{Piece, flat_of};
 ghost use Rattle.route_table.specs.InnerFlattening.{AreBoth, hops_of};
 ghost use Rattle.route_table.specs.Items.{BeginsWithRun, GivesHopRun};
 
+use crate::family::OfFamily;
 use crate::flat::{BothRuns, Flat};
 use ipnet::IpNet;
-use ipnet_addr::bits::{ipv4_of, ipv6_of};
-use std::net::{Ipv4Addr, Ipv6Addr};
 
-/// Addresses of one family in a row that have one hop: the first, the last, and the number of the hop.
+/// Addresses of one family in a row that have one hop: the numbers of the first and of the last, as `to_bits` of an address
+/// gives them, and the number of the hop.
 #[derive(Clone, Copy, Debug, PartialEq, Eq)]
 pub enum HopRun {
-    V4(Ipv4Addr, Ipv4Addr, u32),
-    V6(Ipv6Addr, Ipv6Addr, u32),
+    V4(u32, u32, u32),
+    V6(u128, u128, u32),
 }
 
 impl HopRun {
@@ -23,8 +23,8 @@ impl HopRun {
         ensures { (left : List Piece) → BeginsWithRun (record { block = block net.now; number = number } ∷ left) result left }
     {
         match net {
-            IpNet::V4(net) => HopRun::V4(net.network(), net.broadcast(), number),
-            IpNet::V6(net) => HopRun::V6(net.network(), net.broadcast(), number),
+            IpNet::V4(net) => HopRun::V4(net.first_key(), net.last_key(), number),
+            IpNet::V6(net) => HopRun::V6(net.first_key(), net.last_key(), number),
         }
     }
 }
@@ -38,16 +38,12 @@ impl<'a> BothRuns<'a> {
     {
         if let Some(run) = self.v4.next() {
             let span = run.span();
-            return Some(HopRun::V4(
-                ipv4_of(span.first as u32),
-                ipv4_of(span.last as u32),
-                run.number(),
-            ));
+            return Some(HopRun::V4(span.first as u32, span.last as u32, run.number()));
         }
         match self.v6.next() {
             Some(run) => {
                 let span = run.span();
-                Some(HopRun::V6(ipv6_of(span.first), ipv6_of(span.last), run.number()))
+                Some(HopRun::V6(span.first, span.last, run.number()))
             }
             None => None,
         }

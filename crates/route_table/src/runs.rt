@@ -19,8 +19,8 @@ use std::marker::Model;
 struct Reach<N: Key> {
     first: Place<N>,
     last: Place<N>,
-    len: u8,
     number: Option<u32>,
+    len: u8,
 }
 
 impl<N: Key> Model for Reach<N> {
@@ -277,7 +277,8 @@ impl<'a, P: OfFamily> Runs<'a, P> {
         }
     }
 
-    /// Goes up to the next route, which begins before the innermost open one ends, or opens it where it begins.
+    /// Passes over the next route, which begins before the innermost open one ends, where it has the hop number around it,
+    /// and so changes none; else goes up to it, or opens it where it begins.
     #[inline]
     fn begin(&mut self, reach: Reach<P::R>, number: Option<u32>) -> Step<P::R>
         requires runs { AreRuns self.old }
@@ -289,6 +290,10 @@ impl<'a, P: OfFamily> Runs<'a, P> {
         ensures end { self.new.end ≡ self.old.end }
         ensures step { StepsRun self.old result self.new }
     {
+        if reach.number == number {
+            self.advance();
+            return Step::Passed;
+        }
         let start = self.at;
         let first = reach.first;
         if start.number() < first.number() {

@@ -30,8 +30,8 @@ fn run_of(rt: &impl Abort, text: &str) -> HopRun {
     let last = address(rt, words.next().expect(rt, "a last address"));
     let hop = words.next().expect(rt, "a hop").parse().expect(rt, "a hop");
     match (first, last) {
-        (IpAddr::V4(first), IpAddr::V4(last)) => HopRun::V4(first, last, hop),
-        (IpAddr::V6(first), IpAddr::V6(last)) => HopRun::V6(first, last, hop),
+        (IpAddr::V4(first), IpAddr::V4(last)) => HopRun::V4(first.to_bits(), last.to_bits(), hop),
+        (IpAddr::V6(first), IpAddr::V6(last)) => HopRun::V6(first.to_bits(), last.to_bits(), hop),
         _ => rt.abort(),
     }
 }

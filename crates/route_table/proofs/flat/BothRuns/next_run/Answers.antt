@@ -1,4 +1,4 @@
-use Rattle.std.proofs.Common.{◌∙◌, ap, subst}
+use Rattle.std.proofs.Common.{ap, subst}
 use Rattle.ipnet_blocks.specs.declared.aggregate.Span.{Span}
 use Rattle.route_table.specs.InnerRunning.{GivesRun}
 use Rattle.route_table.proofs.Flattenings.{no_hops}
@@ -7,16 +7,16 @@ use Rattle.route_table.proofs.flat.BothRuns.next_run.Goals as goal
 
 pub returns-in-Some-clause-run : goal.returns-in-Some-clause-run
 returns-in-Some-clause-run c =
-    let first = c.ipv4_of.ensures ∙ ap (λ (s : Span). s.first) c.span-span.ensures.value in
-    let last = c.ipv4_of-in-Some.ensures ∙ ap (λ (s : Span). s.last) c.span-span.ensures.value in
-    rw c.number.ensures (run_of_ipv4 c.args.self.now c.requires c.next.new.self c.in-Some.run' c.ipv4_of.result c.ipv4_of-in-Some.result c.in-Some.ensures.run first last)
+    let first = ap (λ (s : Span). s.first) c.span-span.ensures.value in
+    let last = ap (λ (s : Span). s.last) c.span-span.ensures.value in
+    rw c.number.ensures (run_of_ipv4 c.args.self.now c.requires c.next.new.self c.in-Some.run' _ _ c.in-Some.ensures.run first last)
 
 pub returns-in-Some-next-clause-run : goal.returns-in-Some-next-clause-run
 returns-in-Some-next-clause-run c =
-    let first = c.ipv6_of.ensures ∙ ap (λ (s : Span). s.first) c.span-span-in-Some-next.ensures.value in
-    let last = c.ipv6_of-in-Some-next.ensures ∙ ap (λ (s : Span). s.last) c.span-span-in-Some-next.ensures.value in
+    let first = ap (λ (s : Span). s.first) c.span-span-in-Some-next.ensures.value in
+    let last = ap (λ (s : Span). s.last) c.span-span-in-Some-next.ensures.value in
     let none = subst (λ o. GivesRun c.args.self.now.v4 o c.next.new.self) c.in_default.is c.next.ensures.run in
-    rw c.number-in-Some-next.ensures (run_of_ipv6 c.args.self.now c.requires c.next-2.new.self c.in-Some-next.run' c.ipv6_of.result c.ipv6_of-in-Some-next.result c.next.new.self none c.in-Some-next.ensures.run first last)
+    rw c.number-in-Some-next.ensures (run_of_ipv6 c.args.self.now c.requires c.next-2.new.self c.in-Some-next.run' _ _ c.next.new.self none c.in-Some-next.ensures.run first last)
 
 pub returns-in-None-clause-run : goal.returns-in-None-clause-run
 returns-in-None-clause-run c =

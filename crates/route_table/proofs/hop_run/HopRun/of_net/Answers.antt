@@ -6,7 +6,7 @@ use Rattle.route_table.proofs.HopRuns.{run_of_block}
 use Rattle.route_table.proofs.hop_run.HopRun.of_net.Goals as goal
 
 pub returns-in-V4 : goal.returns-in-V4
-returns-in-V4 c = rw c.in-V4.is (λ left. run_of_block (block (net.V4 c.in-V4.net)) (V4 c.network.result c.broadcast.result c.args.number) left refl c.network.ensures c.broadcast.ensures)
+returns-in-V4 c = rw c.in-V4.is (λ left. run_of_block (block (net.V4 c.in-V4.net)) (V4 c.first_key.result c.last_key.result c.args.number) left refl c.first_key.ensures c.last_key.ensures)
 
 pub returns-in-V6 : goal.returns-in-V6
-returns-in-V6 c = rw c.in-V6.is (λ left. run_of_block (block (net.V6 c.in-V6.net)) (V6 c.network-in-V6.result c.broadcast-in-V6.result c.args.number) left refl c.network-in-V6.ensures c.broadcast-in-V6.ensures)
+returns-in-V6 c = rw c.in-V6.is (λ left. run_of_block (block (net.V6 c.in-V6.net)) (V6 c.first_key-in-V6.result c.last_key-in-V6.result c.args.number) left refl c.first_key-in-V6.ensures c.last_key-in-V6.ensures)
