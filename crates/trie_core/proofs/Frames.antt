@@ -1,29 +1,30 @@
 -- What is left of a node: what stands first in it, and what a search leaves of it.
-use Rattle.std.proofs.Common.{◌≡◌, ℕ, ◌+◌, ◌-◌, ◌*◌, ◌/◌, ◌^◌, leb, ◌<◌, ◌≤◌, Bool, true, false, cond, not, ◌&&◌, List, [], ◌∷◌, ◌++◌, length, drop, refl, sym, ap, subst, ◌∙◌, arith, inl, inr}
-use Rattle.std.specs.Prelude.{Option, Some, None, max, nat_lt}
+use Rattle.std.proofs.Common.{◌≡◌, ℕ, ◌+◌, ◌-◌, ◌*◌, ◌/◌, ◌^◌, leb, ◌<◌, ◌≤◌, Bool, true, false, cond, not, ◌&&◌, List, [], ◌∷◌, ◌++◌, length, take, drop, refl, sym, ap, subst, ◌∙◌, arith, inl, inr}
+use Rattle.std.specs.Prelude.{Option, None, MatchOption, is_some, max, nat_lt, ⊤}
 use Rattle.std.specs.declared.cmp.Ordering.{Ordering}
 use Rattle.std.specs.declared.cmp.Ordering.TheVariants.{Equal}
 use Rattle.std.specs.Ordering.{nat_cmp}
 use Rattle.std.proofs.lemmas.Bool.Decides.{nat_tests}
 use Rattle.std.specs.FinMap.{find, entries, get, get-entries, entries_sorted}
 use Rattle.std.specs.FinMap.Entries.{where_key, find-where_key, is_sorted-where_key, same_entries}
-use Rattle.std.proofs.lemmas.List.{append_assoc}
+use Rattle.std.proofs.lemmas.List.{append_assoc, take_at, take-take}
 use Rattle.std.proofs.Math.ListN.{length-append}
 use Rattle.ipnet_addr.proofs.Basics.{T-parts}
+use Rattle.trie_core.specs.Bits.{is_from}
 use Rattle.ipnet_blocks.specs.BitStrings.{bits_cmp, begins}
-use Rattle.trie_core.specs.InnerPlaces.{place_of, child_of, place_string, child_string, AllBelow, named, placed, value_list, child_list, first_place_of}
+use Rattle.trie_core.specs.InnerPlaces.{place_of, child_of, place_string, child_string, AllBelow, named, placed, value_list, child_list, first_place_of, place_first}
 use Rattle.ipnet_blocks.specs.Blocks.{digits}
 use Rattle.trie_core.specs.Prefixes.{prefix_bits}
 use Rattle.trie_core.specs.Nodes.{Seen, BitMap}
 use Rattle.trie_core.specs.InnerNodes.{under, node_height, IsNode}
 use Rattle.trie_core.specs.InnerCount.{all_nodes, total}
-use Rattle.trie_core.specs.InnerWalks.{first_value, KeysWithin, levels_of, nodes_of, part_map, AreInOrder, AreParts, Left}
-use Rattle.trie_core.proofs.Strings.{bits_total, bits_same}
+use Rattle.trie_core.specs.InnerWalks.{first_value, is_past, KeysWithin, levels_of, nodes_of, part_map, AreInOrder, AreParts, Left}
+use Rattle.trie_core.proofs.Strings.{bits_total, bits_same, front}
 use Rattle.trie_core.proofs.Maps.{child_get, get_none, get-short, get-long}
 use Rattle.trie_core.proofs.Order.{walk_value, walk_child, walk_none, starts_after, values_after}
 use Rattle.trie_core.proofs.Count.{things, under-append}
-use Rattle.trie_core.proofs.Numbers.{place_string-place_of, child_string-child_of, place_bound, number_bound, child_of-string, length-child_string, place_strings}
-use Rattle.trie_core.proofs.PlaceTables.{inside_short, inside_long, value_before}
+use Rattle.trie_core.proofs.Numbers.{place_string-place_of, child_string-child_of, place_bound, number_bound, child_of-string, length-child_string, number-take, place_strings}
+use Rattle.trie_core.proofs.PlaceTables.{inside_short, inside_long, past_short, past_long, from_short, from_long, value_before}
 use Rattle.trie_core.proofs.Named.{IsNaming, named_find, named_sorted, places_named, children_named, values_short, children_long, values_below, at_below, child_things}
 use Rattle.trie_core.proofs.Edits.{at_sorted}
 use Rattle.trie_core.proofs.Seen.{IsSeen}
@@ -36,6 +37,11 @@ under-under bs cs (e ∷ es) = λ i. (sym (append_assoc bs cs e.0) i, e.1) ∷ u
 pub under_none : {X : Type 0} (es : List (List Bool × X)) → under [] es ≡ es
 under_none [] = refl
 under_none (e ∷ es) = ap (λ ws. (e.0, e.1) ∷ ws) (under_none es)
+
+-- nothing stands where there is no first place
+pub none_first : {Y : Type 0} {ys : List (ℕ × Y)} {p : Option ℕ} → p ≡ first_place_of ys → is_some p ≡ false → ys ≡ []
+none_first {ys = []} e n = refl
+none_first {ys = y ∷ ys} e n = let z : is_some (first_place_of (y ∷ ys)) ≡ false = ap is_some (sym e) ∙ n in cc
 
 module _ {X : Type 0} where
   pub keys_split : (n : ℕ) (es fs : List (List Bool × X)) → KeysWithin n (es ++ fs) → KeysWithin n es × KeysWithin n fs
@@ -268,16 +274,69 @@ module _ {X : Type 0} where
       subst (λ (x : List (ℕ × X) × List (ℕ × Seen X)). IsPart (begins q) m x.0 x.1) (λ i. (sym v i, sym d i))
       (part_left f g a (inside_told q h))
 
+  -- ---- the keys after those that begin with five bits, and those from a short string on
+
+  pub past_part : {m : Seen X} {vs ws : List (ℕ × X)} {cs ds : List (ℕ × Seen X)} (q : List Bool) {place five : ℕ}
+      → AreParts m vs cs → 5 ≤ length q → place ≡ place_of (take 4 q) + 1 → five ≡ child_of q
+      → ws ≡ where_key nat_cmp (λ k. not (nat_lt k place)) vs → ds ≡ where_key nat_cmp (λ k. not (nat_lt k (five + 1))) cs → IsPart (is_past (take 5 q)) m ws ds
+  past_part {m} {vs} {cs = cs} q a h ep ec w d =
+      let b = take 5 q in
+      let five : length b ≡ 5 = (front q h).0 in
+      let f : ℕ → Bool = λ k. not (nat_lt k (place_of (take 4 b) + 1)) in
+      let g : ℕ → Bool = λ k. not (nat_lt k (child_of b + 1)) in
+      let v = w ∙ (λ i. where_key nat_cmp (λ k. not (nat_lt k ((ep ∙ ap (λ s. place_of s + 1) (sym (take-take 4 5 q (omega arith)))) i))) vs) in
+      let c = d ∙ (λ i. where_key nat_cmp (λ k. not (nat_lt k ((ec ∙ sym (number-take 5 q)) i + 1))) cs) in
+      subst (λ (x : List (ℕ × X) × List (ℕ × Seen X)). IsPart (is_past b) m x.0 x.1) (λ i. (sym v i, sym c i))
+      (part_left f g a (record { short = λ r s. past_short b r five s; long = λ r s. past_long b r five s }))
+
+  pub onwards_part : {m : Seen X} {vs ws : List (ℕ × X)} {cs ds : List (ℕ × Seen X)} (q : List Bool) (inclusive : Bool) {place five : ℕ}
+      → AreParts m vs cs → length q < 5 → place ≡ cond inclusive (place_of q) (place_of q + 1) → five ≡ child_of q
+      → ws ≡ where_key nat_cmp (λ k. not (nat_lt k place)) vs → ds ≡ where_key nat_cmp (λ k. not (nat_lt k five)) cs → IsPart (is_from q inclusive) m ws ds
+  onwards_part {m} {vs} {cs = cs} q inclusive a h ep ec w d =
+      let f : ℕ → Bool = λ k. not (nat_lt k (cond inclusive (place_of q) (place_of q + 1))) in
+      let g : ℕ → Bool = λ k. not (nat_lt k (child_of q)) in
+      let v = w ∙ (λ i. where_key nat_cmp (λ k. not (nat_lt k (ep i))) vs) in
+      let c = d ∙ (λ i. where_key nat_cmp (λ k. not (nat_lt k (ec i))) cs) in
+      subst (λ (x : List (ℕ × X) × List (ℕ × Seen X)). IsPart (is_from q inclusive) m x.0 x.1) (λ i. (sym v i, sym c i))
+      (part_left f g a (record { short = λ r s. from_short inclusive q r h s; long = λ r s. from_long inclusive q r h s }))
+
   -- ---- which comes first
 
-  pub value_is_first : {Y : Type 0} (vs : List (ℕ × X)) (cs : List (ℕ × Y)) {place child first : ℕ} → AllBelow 31 vs → AllBelow 32 cs → Some place ≡ first_place_of vs → Some child ≡ first_place_of cs → first ≡ child_of (place_string place) → leb first child ≡ first_value (named place_string vs) (named child_string cs)
-  value_is_first [] cs b d p q e = cc
-  value_is_first (v ∷ vs) [] b d p q e = cc
-  value_is_first (v ∷ vs) (c ∷ cs) {place} {child} {first} b d p q e =
-      let x : place ≡ v.0 = cc in
-      let y : child ≡ c.0 = cc in
-      let z : child_of (child_string c.0) ≡ c.0 = child_of-string c.0 d.0 in
-      (λ i. leb ((e ∙ ap (λ n. child_of (place_string n)) x) i) ((y ∙ sym z) i)) ∙ value_before (place_string v.0) (child_string c.0) (place_strings v.0 b.0).short (length-child_string c.0)
+  value_is_first : {Y : Type 0} (v : ℕ × X) (c : ℕ × Y) → v.0 < 31 → c.0 < 32 → leb (child_of (place_string v.0)) c.0 ≡ first_value (named place_string (v ∷ [])) (named child_string (c ∷ []))
+  value_is_first v c l h =
+      let z : child_of (child_string c.0) ≡ c.0 = child_of-string c.0 h in
+      ap (leb (child_of (place_string v.0))) (sym z) ∙ value_before (place_string v.0) (child_string c.0) (place_strings v.0 l).short (length-child_string c.0)
+
+  first_by_places : {Y : Type 0} (vs : List (ℕ × X)) (cs : List (ℕ × Y)) → AllBelow 31 vs → AllBelow 32 cs → first_value (named place_string vs) (named child_string cs) ≡ place_first (first_place_of vs) (first_place_of cs)
+  first_by_places [] cs b d = refl
+  first_by_places (v ∷ vs) [] b d = refl
+  first_by_places (v ∷ vs) (c ∷ cs) b d = sym (value_is_first v c b.0 d.0)
+
+  pub first_told : {vs : List (ℕ × X)} {cs : List (ℕ × Seen X)} {p q : Option ℕ} {b : Bool} → AreInOrder vs cs → p ≡ first_place_of vs → q ≡ first_place_of cs → b ≡ place_first p q → first_value (named place_string vs) (named child_string cs) ≡ b
+  first_told {vs} {cs} o e f h = first_by_places vs cs o.values_below o.children_below ∙ (λ i. place_first (sym e i) (sym f i)) ∙ sym h
+
+  pub place_within : (vs : List (ℕ × X)) {p : Option ℕ} → AllBelow 31 vs → p ≡ first_place_of vs → MatchOption p ⊤ (λ n. n < 31)
+  place_within [] b e = subst (λ o. MatchOption o ⊤ (λ n. n < 31)) (sym e) tt
+  place_within (v ∷ vs) b e = subst (λ o. MatchOption o ⊤ (λ n. n < 31)) (sym e) b.0
+
+  -- the only value of a node without children
+  pub record IsOnly (vs : List (ℕ × X)) (cs : List (ℕ × Seen X)) (trail : List Bool) (place : ℕ) (value : X) : Type 0 where
+    pub within : length trail + length (place_string place) ≤ 128
+    pub rest : part_rest vs cs trail ≡ (trail ++ place_string place, value) ∷ []
+
+  pub only_value : {vs : List (ℕ × X)} {cs : List (ℕ × Seen X)} {trail : List Bool} {place : ℕ} {value : X} → IsFrame vs cs trail → vs ≡ (place, value) ∷ [] → cs ≡ [] → IsOnly vs cs trail place value
+  only_value {vs} {cs} {trail} {place} {value} f e n =
+      let first : first_value (named place_string vs) (named child_string cs) ≡ true = λ i. first_value (named place_string (e i)) (named child_string (n i)) in
+      let none : first_value {X = X} (named place_string []) (named child_string cs) ≡ false = refl in
+      let v = value_next f e first in
+      record { within = v.within; rest = v.rest ∙ ap (λ es. (trail ++ place_string place, value) ∷ es) (nothing_next [] trail n none) }
+
+-- five bits further down
+pub below_way : (way : List Bool) (place : ℕ) {below : List Bool} → below ≡ way ++ child_string place → (take (length below - 5) below ≡ way) × (length below ≡ length way + 5)
+below_way way place {below} e =
+    let l : length below ≡ length way + 5 = omega (arith, ap length e, length-append way (child_string place), length-child_string place) in
+    let n : length below - 5 ≡ length way = omega (arith, l) in
+    ((λ i. take (n i) (e i)) ∙ take_at way (child_string place) (length way) refl, l)
 
 pub child_bits : (child : ℕ) → prefix_bits 5 child 5 ≡ child_string child
 unfolding child_string

@@ -7,7 +7,7 @@ use Rattle.std.specs.FinMap.{find, get, get-empty, len, len-empty, empty, same_m
 use Rattle.std.proofs.lemmas.Bool.Decides.{nat_tests}
 use Rattle.std.proofs.lemmas.List.{append_assoc, drop_all, take_all, take-append-drop, append-nil}
 use Rattle.std.proofs.lemmas.Nat.{and_le_l}
-use Rattle.std.proofs.lemmas.Nat.Bits.{bit_at_and, bit_at-lt, bit_at-zero, bit_at_mask_inside}
+use Rattle.std.proofs.lemmas.Nat.Bits.{bit_at_and, bit_at-lt, bit_at-zero, bit_at_mask_above, bit_at_mask_below, bit_at_mask_inside}
 use Rattle.ipnet_blocks.specs.BitStrings.{bits_cmp, begins}
 use Rattle.ipnet_blocks.proofs.BitStrings.{begins_on, begun_rest}
 use Rattle.trie_core.specs.InnerPlaces.{place_from, place_of, child_of, place_string, child_string, at_places}
@@ -23,7 +23,6 @@ use Rattle.trie_core.proofs.Marks.{marked_get, marked-root, root_if, set-short}
 use Rattle.trie_core.proofs.Taken.{taken, missing}
 use Rattle.trie_core.proofs.Seen.{IsSeen, value_at, below_at, spare_at, is_child}
 use Rattle.trie_core.proofs.Searches.{below_31, last_place, both_set}
-use Rattle.trie_core.proofs.Opened.{has_between}
 use Rattle.std.proofs.lemmas.Bool.{cases_lt}
 
 -- ---- what goes on from a string
@@ -61,6 +60,10 @@ no_bit a h f = elim (cases_lt 0 a) [
   | inl e ↦ let t = last_place a e h in absurd (f _ t.within t.taken)
   | inr e ↦ omega arith
 ]
+
+-- between two places
+has_between : (from end i : ℕ) → eqb (bit_at (2 ^ end - 2 ^ from) i) 1 ≡ (not (nat_lt i from) && nat_lt i end)
+has_between from end i = grind (arith, nat_tests, bit_at_mask_below from end i, bit_at_mask_inside from end i, bit_at_mask_above from end i)
 
 -- a bit between two places
 between : (from end i : ℕ) → bit_at (2 ^ end - 2 ^ from) i ≡ 1 → (from ≤ i) × (i < end)

@@ -21,7 +21,6 @@ pub mod Kept
 pub mod Tidying
 pub mod Splits
 pub mod Frames
-pub mod Opened
 pub mod Walks
 pub mod Tops
 pub mod Trails

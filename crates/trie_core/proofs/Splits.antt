@@ -143,6 +143,14 @@ module _ {X : Type 0} where
         first = at_lowest 32 0 p bits x xs f.within f.taken f.under ∙ ap (λ j. (j, x) ∷ placed (bits - 2 ^ p) xs) z;
       }
 
+  pub placed_none : (bits : ℕ) (xs : List X) → length xs ≡ 0 → placed bits xs ≡ []
+  unfolding placed
+  placed_none bits xs e = ap (at_places 32 0 bits) (nil_from_length xs e) ∙ at_none 32 0 bits
+
+  -- a thing that is alone
+  pub alone : (p bits : ℕ) (x : X) (xs : List X) → IsFirstPlace bits p → count_ones bits ≡ length (x ∷ xs) → length xs ≡ 0 → placed bits (x ∷ xs) ≡ (p, x) ∷ []
+  alone p bits x xs f e z = (lowest p bits x xs f e).first ∙ ap (λ ys. (p, x) ∷ ys) (placed_none (bits - 2 ^ p) xs z)
+
   pub first_is : (p bits : ℕ) (xs : List X) → IsFirstPlace bits p → count_ones bits ≡ length xs → 0 < bits → first_place_of (placed bits xs) ≡ Some p
   first_is p bits [] f e h = absurd (omega (arith, h, (no_bits bits 0 e).1 refl))
   first_is p bits (x ∷ xs) f e h = ap first_place_of (lowest p bits x xs f e).first
@@ -150,7 +158,3 @@ module _ {X : Type 0} where
   pub none_is : (bits : ℕ) (xs : List X) → bits ≡ 0 → count_ones bits ≡ length xs → first_place_of (placed bits xs) ≡ None
   unfolding placed
   none_is bits xs z e = ap (λ ys. first_place_of (placed bits ys)) (nil_from_length xs (sym e ∙ ap count_ones z ∙ ones_bit 0 (omega arith)))
-
-  pub placed_none : (bits : ℕ) (xs : List X) → length xs ≡ 0 → placed bits xs ≡ []
-  unfolding placed
-  placed_none bits xs e = ap (at_places 32 0 bits) (nil_from_length xs e) ∙ at_none 32 0 bits

@@ -1,5 +1,5 @@
 -- The places of a node: their numbers, and the things at those that a bitmap names.
-use Rattle.std.specs.Prelude.{◌≡◌, ℕ, zero, suc, ◌+◌, ◌-◌, ◌/◌, ◌%◌, ◌^◌, ◌<◌, Bool, true, false, cond, eqb, nat_lt, if◌then◌else◌, not, List, [], ◌∷◌, length, count_ones, Option, Some, None}
+use Rattle.std.specs.Prelude.{◌≡◌, ℕ, zero, suc, leb, ◌+◌, ◌-◌, ◌/◌, ◌%◌, ◌^◌, ◌<◌, Bool, true, false, cond, eqb, nat_lt, if◌then◌else◌, not, List, [], ◌∷◌, length, count_ones, Option, Some, None}
 use Rattle.std.specs.Ordering.{nat_cmp, eq_by_cmp}
 use Rattle.std.specs.FinMap.Entries.{where_key}
 use Rattle.std.specs.Int.{bit_at}
@@ -58,6 +58,12 @@ AllBelow w (e ∷ es) = (e.0 < w) × AllBelow w es
 abbrev pub first_place_of : {X : Type 0} → List (ℕ × X) → Option ℕ
 first_place_of [] = None
 first_place_of (e ∷ es) = Some e.0
+
+-- whether the value at the first place comes next, and not what is below the first child
+abbrev pub place_first : Option ℕ → Option ℕ → Bool
+place_first None c = false
+place_first (Some p) None = true
+place_first (Some p) (Some c) = leb (child_of (place_string p)) c
 
 -- the list without the number n
 abbrev pub without : {X : Type 0} → ℕ → List (ℕ × X) → List (ℕ × X)

@@ -15,7 +15,6 @@ pub mod InnerLending
 pub mod InnerExchanges
 pub mod InnerRemovals
 pub mod InnerWalks
-pub mod InnerFrames
 pub mod InnerTrails
 pub mod InnerSteps
 pub mod InnerCovers

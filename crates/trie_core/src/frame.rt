@@ -1,5 +1,5 @@
 //! What a walk has left of one node, and stacks of that, whether nodes are lent or owned.
-ghost use Rattle.std.specs.Prelude.{◌≡◌, ◌+◌, ◌*◌, ◌<◌, ◌≤◌, List, [], ◌∷◌, ◌++◌, MatchOption, length};
+ghost use Rattle.std.specs.Prelude.{◌≡◌, ◌+◌, ◌*◌, ◌<◌, ◌≤◌, List, [], ◌∷◌, ◌++◌, MatchOption, length, ⊤};
 ghost use Rattle.std.specs.FinMap.{entries};
 ghost use Rattle.std.specs.FinMap.Entries.{where_key};
 ghost use Rattle.ipnet_blocks.specs.BitStrings.{bits_cmp, begins};
@@ -7,9 +7,11 @@ ghost use Rattle.trie_core.specs.Nodes.{Seen};
 ghost use Rattle.trie_core.specs.InnerNodes.{under};
 ghost use Rattle.trie_core.specs.InnerSearch.{IsChild, HasNoChild};
 ghost use Rattle.trie_core.specs.InnerWalks.{KeysWithin, Left};
+ghost use Rattle.trie_core.specs.InnerPlaces.{place_first};
 ghost use Rattle.trie_core.specs.InnerSteps.{GivesNext, LastCanGive, LastGives};
 
 use crate::path::Path;
+use crate::tables::first_child;
 
 /// What stands first in a frame: an entry, or a node below, with the way to it.
 pub enum Next<G, F> {
@@ -90,6 +92,19 @@ pub trait FrameStack<T>: Drop {
     fn push(&mut self, frame: Self::Frame)
         requires { length (frames self.old) < 26 }
         ensures { frames self.new ≡ frames self.old ++ Self.Frame.left frame ∷ [] };
+}
+
+/// Whether the value at its first place comes next, and not what is below the first child.
+#[inline]
+pub(crate) fn value_first(value: Option<u8>, child: Option<u8>) -> bool
+    requires { MatchOption value ⊤ (λ p. p < 31) }
+    ensures { result ≡ place_first value child }
+{
+    match (value, child) {
+        (None, _) => false,
+        (Some(_), None) => true,
+        (Some(value), Some(child)) => first_child(value) <= child,
+    }
 }
 
 /// Takes out what stands first in the last of these frames, where the way leads to its node.

@@ -1,43 +1,156 @@
 //! What a walk has left of a node that is lent.
-ghost use Rattle.std.specs.Prelude.{◌≡◌, ◌+◌, ◌-◌, ◌*◌, ◌<◌, ◌≤◌, ◌^◌, List, Bool, [], ◌∷◌, length, take, MatchOption, ⊤};
+ghost use Rattle.std.specs.Prelude.{◌≡◌, ◌+◌, ◌*◌, ◌<◌, ◌≤◌, List, Bool, [], ◌∷◌, count_ones, length, take, not, nat_lt, MatchOption, ⊤};
+ghost use Rattle.std.specs.Ordering.{nat_cmp};
 ghost use Rattle.std.specs.FinMap.{entries};
 ghost use Rattle.std.specs.FinMap.Entries.{where_key};
-ghost use Rattle.trie_core.specs.Bits.{is_from};
 ghost use Rattle.ipnet_blocks.specs.BitStrings.{bits_cmp};
-ghost use Rattle.trie_core.specs.InnerPlaces.{place_of, child_of, IsFirstPlace};
+ghost use Rattle.trie_core.specs.Bits.{is_from};
+ghost use Rattle.trie_core.specs.InnerPlaces.{place_of, child_of, placed, first_place_of};
 ghost use Rattle.trie_core.specs.InnerNodes.{under};
-ghost use Rattle.trie_core.specs.InnerWalks.{KeysWithin, is_past};
-ghost use Rattle.trie_core.specs.InnerFrames.{is_open, place_first, open_weight};
+ghost use Rattle.trie_core.specs.InnerWalks.{AreParts, KeysWithin, is_past};
 
-use crate::frame::{Frame, FrameStack, LentStack, Next, next_of_last};
+use crate::frame::{Frame, FrameStack, LentStack, Next, next_of_last, value_first};
 use crate::node::Node;
 use crate::path::Path;
-use crate::slots::{first_place, taken_below};
-use crate::tables::{bit, first_child, place_length, places_between};
+use crate::slots::{first_place, low_bits};
+use crate::tables::{bit, first_child, place_length};
 use arrayvec::ArrayVec;
 use std::alloc::AllocError;
 use std::marker::Model;
 
-/// What stands in a node at the places that are open: a word of them for its values, and one for its children.
+/// Things that are left at places below 32, lent: a word says which places are taken, and the things come in their order.
+#[derive(Drop)]
+struct LentPlaces<'a, X> {
+    taken: u32,
+    items: &'a [X],
+}
+
+impl<'a, X> Model for LentPlaces<'a, X> {
+    ghost use Rattle.std.specs.Prelude.{List, ℕ, ◌≡◌, length, count_ones};
+    ghost use Rattle.trie_core.specs.InnerPlaces.{placed};
+
+    ghost Value = { List (ℕ × X) };
+
+    ghost view = { λ a. placed a.taken a.items.now };
+
+    ghost invariant = { λ a. count_ones a.taken ≡ length a.items.now };
+}
+
+impl<'a, X> Clone for LentPlaces<'a, X> {
+    ghost is_clone = { λ p r. r ≡ p };
+
+    ghost is_infallible = { λ _. ⊤ };
+
+    fn clone(&self) -> Result<LentPlaces<'a, X>, AllocError> {
+        Ok(LentPlaces {
+            taken: self.taken,
+            items: self.items,
+        })
+    }
+}
+
+impl<'a, X> Default for LentPlaces<'a, X> {
+    ghost is_default = { λ p. p ≡ [] };
+
+    fn default() -> LentPlaces<'a, X> {
+        LentPlaces {
+            taken: 0,
+            items: &[],
+        }
+    }
+}
+
+impl<'a, X> LentPlaces<'a, X> {
+    /// The things of a list at the places of a word.
+    #[inline]
+    fn new(taken: u32, items: &'a [X]) -> LentPlaces<'a, X>
+        requires { count_ones taken ≡ length items.now }
+        ensures { result ≡ placed taken items.now }
+    {
+        LentPlaces { taken, items }
+    }
+
+    /// The first place.
+    #[inline]
+    fn first_place(&self) -> Option<u8>
+        ensures { result ≡ first_place_of self.now }
+    {
+        if self.taken == 0 {
+            return None;
+        }
+        Some(first_place(self.taken))
+    }
+
+    /// The only thing, with its place.
+    #[inline]
+    fn only(&self) -> Option<(u8, &'a X)>
+        ensures { MatchOption result ⊤ (λ p. self.now ≡ (p.0, p.1.now) ∷ []) }
+    {
+        let (only, others) = self.items.split_first()?;
+        if others.len() > 0 {
+            return None;
+        }
+        Some((first_place(self.taken), only))
+    }
+
+    /// Takes out the first thing, with its place.
+    #[inline]
+    fn next(&mut self) -> Option<(u8, &'a X)>
+        ensures { MatchOption result ((self.old ≡ []) × (self.new ≡ [])) (λ p. self.old ≡ (p.0, p.1.now) ∷ self.new) }
+    {
+        let Some((first, rest)) = self.items.split_first() else {
+            return None;
+        };
+        let place = first_place(self.taken);
+        self.taken -= bit(place);
+        self.items = rest;
+        Some((place, first))
+    }
+
+    /// Those at this place or after it.
+    fn from(self, place: u8) -> LentPlaces<'a, X>
+        requires { place ≤ 32 }
+        ensures { result ≡ where_key nat_cmp (λ k. not (nat_lt k place)) self.entry }
+    {
+        let passed = low_bits(self.taken, place);
+        LentPlaces {
+            taken: self.taken - passed,
+            items: self.items.split_at(passed.count_ones() as usize).1,
+        }
+    }
+
+    /// Those at places below this one.
+    fn before(self, place: u8) -> LentPlaces<'a, X>
+        requires { place ≤ 32 }
+        ensures { result ≡ where_key nat_cmp (λ k. nat_lt k place) self.entry }
+    {
+        let taken = low_bits(self.taken, place);
+        LentPlaces {
+            taken,
+            items: self.items.split_at(taken.count_ones() as usize).0,
+        }
+    }
+}
+
+/// What is left of one node.
 #[derive(Drop)]
 pub struct LentFrame<'a, T> {
-    node: Option<&'a Node<T>>,
-    values: u32,
-    children: u32,
+    values: LentPlaces<'a, T>,
+    children: LentPlaces<'a, Node<T>>,
 }
 
 impl<'a, T> Model for LentFrame<'a, T> {
-    ghost use Rattle.std.specs.Prelude.{◌<◌, MatchOption, ⊤};
-    ghost use Rattle.trie_core.specs.InnerWalks.{Left, left_code};
-    ghost use Rattle.trie_core.specs.InnerFrames.{frame_rest, frame_levels, frame_weight};
+    ghost use Rattle.std.specs.Prelude.{◌+◌, ◌*◌};
+    ghost use Rattle.std.specs.FinMap.{entries};
+    ghost use Rattle.trie_core.specs.InnerWalks.{part_map, levels_of, nodes_of, AreInOrder, Left, left_code};
 
     ghost Value = { Left T };
 
     ghost coded = { left_code T.code };
 
-    ghost view = { λ a. (frame_rest a.node a.values a.children, frame_levels a.node, frame_weight a.node a.children) };
+    ghost view = { λ a. (entries (part_map a.values a.children), levels_of a.children + 1, 2 * nodes_of a.children) };
 
-    ghost invariant = { λ a. MatchOption a.node ⊤ (λ m. 0 < m.now.levels) };
+    ghost invariant = { λ a. AreInOrder a.values a.children };
 }
 
 impl<'a, T> Clone for LentFrame<'a, T> {
@@ -47,9 +160,8 @@ impl<'a, T> Clone for LentFrame<'a, T> {
 
     fn clone(&self) -> Result<LentFrame<'a, T>, AllocError> {
         Ok(LentFrame {
-            node: self.node,
-            values: self.values,
-            children: self.children,
+            values: self.values.clone()?,
+            children: self.children.clone()?,
         })
     }
 }
@@ -58,11 +170,21 @@ impl<'a, T> Clone for LentFrame<'a, T> {
 impl<'a, T> Default for LentFrame<'a, T> {
     fn default() -> LentFrame<'a, T> {
         LentFrame {
-            node: None,
-            values: 0,
-            children: 0,
+            values: LentPlaces::default(),
+            children: LentPlaces::default(),
         }
     }
+}
+
+/// The values and the children of a node.
+#[inline]
+fn parts<'a, T>(node: &'a Node<T>) -> (LentPlaces<'a, T>, LentPlaces<'a, Node<T>>)
+    ensures { AreParts node.now result.0 result.1 }
+{
+    (
+        LentPlaces::new(node.value_bits, node.values.as_slice()),
+        LentPlaces::new(node.child_bits, node.children.as_slice()),
+    )
 }
 
 /// The first place after those of the beginnings of five bits.
@@ -74,63 +196,20 @@ fn after_beginnings(five: u8) -> u8
     four + 5 - four.count_ones() as u8
 }
 
-/// The first place that is taken.
-#[inline]
-fn first_in(taken: u32) -> Option<u8>
-    ensures { MatchOption result (taken ≡ 0) (IsFirstPlace taken) }
-{
-    if taken == 0 {
-        return None;
-    }
-    Some(first_place(taken))
-}
-
-/// Whether the value at its first place comes next, and not what is below the first child.
-#[inline]
-fn value_first(value: Option<u8>, child: Option<u8>) -> bool
-    requires { MatchOption value ⊤ (λ p. p < 31) }
-    ensures { result ≡ place_first value child }
-{
-    match (value, child) {
-        (None, _) => false,
-        (Some(_), None) => true,
-        (Some(value), Some(child)) => first_child(value) <= child,
-    }
-}
-
-/// The entry of the node at the way, where it has no other and no nodes below.
-#[inline]
-fn only<'a, T>(node: &'a Node<T>, way: &Path) -> Option<(Path, &'a T)>
-    requires levels { length way.now + 5 * node.now.levels ≤ 130 }
-    requires keys { KeysWithin 128 (under way.now (entries node.now.entries)) }
-    ensures { MatchOption result ⊤ (λ r. under way.now (entries node.now.entries) ≡ (r.0, r.1.now) ∷ []) }
-{
-    let place = first_in(u32::MAX & node.value_bits)?;
-    let others = u32::MAX - bit(place);
-    if others & node.value_bits != 0 || u32::MAX & node.child_bits != 0 {
-        return None;
-    }
-    let value = &node.values[taken_below(node.value_bits, place)];
-    let key = way.with(first_child(place), place_length(place));
-    Some((key, value))
-}
-
 impl<'a, T> LentFrame<'a, T> {
-    /// What stands in a node at some places.
+    /// The entry that is left of the node at the way, where there is no other and no node below.
     #[inline]
-    fn open(node: &'a Node<T>, values: u32, children: u32) -> LentFrame<'a, T>
-        ensures rest { result.0 ≡ where_key bits_cmp (is_open values children) (entries node.now.entries) }
-        ensures levels { result.1 ≡ node.now.levels }
-        ensures positive { 0 < result.1 }
-        ensures weight { result.2 ≡ open_weight node.now children }
+    fn only(&self, way: &Path) -> Option<(Path, &'a T)>
+        requires levels { length way.now + 5 * self.now.1 ≤ 130 }
+        requires keys { KeysWithin 128 (under way.now self.now.0) }
+        ensures { MatchOption result ⊤ (λ r. under way.now self.now.0 ≡ (r.0, r.1.now) ∷ []) }
     {
-        // Read so that its levels are known to be one or more.
-        let _levels = node.child_bits;
-        LentFrame {
-            node: Some(node),
-            values,
-            children,
+        if self.children.first_place().is_some() {
+            return None;
         }
+        let (place, value) = self.values.only()?;
+        let key = way.with(first_child(place), place_length(place));
+        Some((key, value))
     }
 
     /// Of a node the keys that come after all that begin with the first five bits of a path.
@@ -140,10 +219,12 @@ impl<'a, T> LentFrame<'a, T> {
         ensures levels { result.1 ≤ node.now.levels }
         ensures positive { 0 < result.1 }
     {
+        let (values, children) = parts(node);
         let five = path.five();
-        let values = places_between(after_beginnings(five), 32);
-        let children = places_between(five + 1, 32);
-        LentFrame::open(node, values, children)
+        LentFrame {
+            values: values.from(after_beginnings(five)),
+            children: children.from(five + 1),
+        }
     }
 
     /// Of a node the keys from a string of fewer than five bits on: those that come after it, and itself where asked.
@@ -153,10 +234,12 @@ impl<'a, T> LentFrame<'a, T> {
         ensures levels { result.1 ≤ node.now.levels }
         ensures positive { 0 < result.1 }
     {
+        let (values, children) = parts(node);
         let place = path.place();
-        let values = places_between(if inclusive { place } else { place + 1 }, 32);
-        let children = places_between(path.five(), 32);
-        LentFrame::open(node, values, children)
+        LentFrame {
+            values: values.from(if inclusive { place } else { place + 1 }),
+            children: children.from(path.five()),
+        }
     }
 }
 
@@ -178,44 +261,37 @@ impl<'a, T> Frame<T> for LentFrame<'a, T> {
 
     #[inline]
     fn whole(node: &'a Node<T>) -> LentFrame<'a, T> {
-        LentFrame::open(node, u32::MAX, u32::MAX)
+        let (values, children) = parts(node);
+        LentFrame { values, children }
     }
 
     fn inside(node: &'a Node<T>, path: &Path) -> LentFrame<'a, T> {
+        let (values, children) = parts(node);
         let (len, place, child) = (path.len(), path.place(), path.five());
-        let values = places_between(place, place + (31 >> len));
-        let children = places_between(child, child + (32 >> len));
-        LentFrame::open(node, values, children)
+        LentFrame {
+            values: values.from(place).before(place + (31 >> len)),
+            children: children.from(child).before(child + (32 >> len)),
+        }
     }
 
     #[inline(always)]
     fn next(&mut self, way: &Path) -> Next<&'a T, LentFrame<'a, T>> {
-        let Some(node) = self.node else {
-            return Next::Nothing;
-        };
-        let value_place = first_in(self.values & node.value_bits);
-        let child_place = first_in(self.children & node.child_bits);
-        if value_first(value_place, child_place) {
-            let Some(place) = value_place else {
+        if value_first(self.values.first_place(), self.children.first_place()) {
+            let Some((place, value)) = self.values.next() else {
                 unreachable!()
             };
-            let value = &node.values[taken_below(node.value_bits, place)];
-            self.values -= bit(place);
             let key = way.with(first_child(place), place_length(place));
             return Next::Entry(key, value);
         }
-        let Some(place) = child_place else {
+        let Some((child, node)) = self.children.next() else {
             return Next::Nothing;
         };
-        let below = &node.children[taken_below(node.child_bits, place)];
-        // Read so that its levels are known to be one or more.
-        let _levels = below.child_bits;
-        self.children -= bit(place);
-        let way = way.with(place, 5);
-        if let Some((key, value)) = only(below, &way) {
+        let (values, children) = parts(node);
+        let (below, way) = (LentFrame { values, children }, way.with(child, 5));
+        if let Some((key, value)) = below.only(&way) {
             return Next::Entry(key, value);
         }
-        Next::Below(LentFrame::open(below, u32::MAX, u32::MAX), way)
+        Next::Below(below, way)
     }
 }
 

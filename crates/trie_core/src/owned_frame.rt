@@ -3,11 +3,11 @@ ghost use Rattle.std.specs.Prelude.{◌≡◌, ◌<◌, ◌≤◌, [], ◌∷◌
 ghost use Rattle.std.specs.Ordering.{nat_cmp};
 ghost use Rattle.std.specs.FinMap.Entries.{where_key};
 ghost use Rattle.short_vec.specs.Lists.{short_items};
-ghost use Rattle.trie_core.specs.InnerPlaces.{place_string, child_string, placed, first_place_of, named, AllBelow};
+ghost use Rattle.trie_core.specs.InnerPlaces.{placed, first_place_of};
 ghost use Rattle.trie_core.specs.InnerHeld.{held};
-ghost use Rattle.trie_core.specs.InnerWalks.{first_value, AreParts};
+ghost use Rattle.trie_core.specs.InnerWalks.{AreParts};
 
-use crate::frame::{Frame, FrameStack, Next, next_of_last};
+use crate::frame::{Frame, FrameStack, Next, next_of_last, value_first};
 use crate::node::Node;
 use crate::path::Path;
 use crate::slots::{first_place, low_bits, slot};
@@ -188,21 +188,6 @@ fn parts<T>(node: Node<T>) -> (Places<T>, Places<Node<T>>)
     )
 }
 
-/// Whether the next entry is the first value, and not in the first child.
-fn value_first<X, Y>(values: &Places<X>, children: &Places<Y>) -> bool
-    requires values { AllBelow 31 values.now }
-    requires children { AllBelow 32 children.now }
-    ensures { result ≡ first_value (named place_string values.now) (named child_string children.now) }
-{
-    let Some(place) = values.first_place() else {
-        return false;
-    };
-    let Some(child) = children.first_place() else {
-        return true;
-    };
-    first_child(place) <= child
-}
-
 impl<T: Drop> Frame<T> for OwnedFrame<T> {
     type Node = Node<T>;
 
@@ -241,7 +226,7 @@ impl<T: Drop> Frame<T> for OwnedFrame<T> {
     }
 
     fn next(&mut self, way: &Path) -> Next<T, OwnedFrame<T>> {
-        if value_first(&self.values, &self.children) {
+        if value_first(self.values.first_place(), self.children.first_place()) {
             let Some((place, value)) = self.values.next() else {
                 unreachable!()
             };

@@ -34,10 +34,7 @@ impl Clone for Path {
 
     /// The same string. It takes no memory.
     fn clone(&self) -> Result<Path, AllocError> {
-        Ok(Path {
-            bits: self.bits,
-            len: self.len,
-        })
+        Ok(self.copied())
     }
 }
 
@@ -55,6 +52,17 @@ impl Path {
         Path {
             bits: bits >> free << free,
             len,
+        }
+    }
+
+    /// The same string, part by part: whole, it may be stored in pieces, for which the next load of it waits.
+    #[inline]
+    pub(crate) fn copied(&self) -> Path
+        ensures { result ≡ self.now }
+    {
+        Path {
+            bits: self.bits,
+            len: self.len,
         }
     }
 

@@ -133,7 +133,7 @@ impl<T, S: FrameStack<T>> FrameWalk<T, S> {
             Some(Next::Entry(key, value)) => Step::Entry(key, value),
             Some(Next::Below(below, way)) => {
                 self.stack.push(below);
-                self.trail = way;
+                self.trail = way.copied();
                 Step::Moved
             }
             Some(Next::Nothing) => {

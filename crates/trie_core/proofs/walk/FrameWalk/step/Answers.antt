@@ -27,14 +27,17 @@ pub invariant_of-self-in-Some-Below : goal.invariant_of-self-in-Some-Below
 invariant_of-self-in-Some-Below g c =
     let l = given c.in-Some-Below.ensures c.in-Some-Below.field-0-is in
     let n = l.next in
-    (below_left _ _ _ (g.S.Frame.Frame.left c.in-Some-Below.below) c.self.invariant l.was l.levels n.3 l.is n.1 n.2 n.5 n.6 c.push.ensures n.0 n.4).0
+    subst (IsWalk (g.S.FrameStack.frames c.push.new.self)) (sym c.copied-self-inside.ensures) (below_left _ _ _ (g.S.Frame.Frame.left c.in-Some-Below.below) c.self.invariant l.was l.levels n.3 l.is n.1 n.2 n.5 n.6 c.push.ensures n.0 n.4).0
 
 pub returns-in-Some-Below : goal.returns-in-Some-Below
 returns-in-Some-Below g c =
     let l = given c.in-Some-Below.ensures c.in-Some-Below.field-0-is in
     let n = l.next in
     let b = below_left _ _ _ (g.S.Frame.Frame.left c.in-Some-Below.below) c.self.invariant l.was l.levels n.3 l.is n.1 n.2 n.5 n.6 c.push.ensures n.0 n.4 in
-    (ap (λ s. s.0) (sym c.self.view_is) ∙ b.1, omega (arith, ap (λ s. s.1) c.self.view_is, b.2))
+    let fs = g.S.FrameStack.frames c.push.new.self in (
+      ap (λ s. s.0) (sym c.self.view_is) ∙ b.1 ∙ ap (λ way. walk_rest (along way fs)) (sym c.copied-self-inside.ensures),
+      omega (arith, ap (λ s. s.1) c.self.view_is, b.2, ap (λ way. walk_weight (along way fs)) c.copied-self-inside.ensures),
+    )
 
 pub above-self-inside-requires : goal.above-self-inside-requires
 above-self-inside-requires g c = let p = last_frame c.self.invariant (given c.in-Some-Nothing.ensures c.in-Some-Nothing.field-0-is).was in omega (arith, p.reach)

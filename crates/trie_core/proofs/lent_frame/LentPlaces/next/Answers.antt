@@ -1,0 +1,21 @@
+use Rattle.std.proofs.Common.{◌∙◌, ◌∷◌, ◌-◌, ap, sym, length, count_ones}
+use Rattle.trie_core.specs.InnerPlaces.{placed}
+use Rattle.trie_core.proofs.Splits.{lowest, placed_none}
+use Rattle.trie_core.proofs.lent_frame.LentPlaces.next.Goals as goal
+
+pub returns-in_default : goal.returns-in_default
+returns-in_default g c =
+    let z = placed_none c.self.inside.taken c.self.inside.items.now c.in_default.ensures.cases in
+    (sym c.self.view_is ∙ z, sym c.self.view_is ∙ z)
+
+pub invariant_of-self : goal.invariant_of-self
+invariant_of-self g c =
+    let k = c.self.invariant ∙ ap length c.in-Some.ensures.cases.0 in
+    let f = lowest c.first_place-place.result c.self.inside.taken c.in-Some.first.now c.in-Some.rest.now c.first_place-place.ensures k in
+    ap (λ b. count_ones (c.self.inside.taken - b)) c.bit.ensures ∙ f.ones
+
+pub returns : goal.returns
+returns g c =
+    let k = c.self.invariant ∙ ap length c.in-Some.ensures.cases.0 in
+    let f = lowest c.first_place-place.result c.self.inside.taken c.in-Some.first.now c.in-Some.rest.now c.first_place-place.ensures k in
+    sym c.self.view_is ∙ ap (placed c.self.inside.taken) c.in-Some.ensures.cases.0 ∙ f.first ∙ ap (λ b. (c.first_place-place.result, c.in-Some.first.now) ∷ placed (c.self.inside.taken - b) c.in-Some.rest.now) (sym c.bit.ensures)
