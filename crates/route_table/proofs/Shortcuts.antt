@@ -1,14 +1,14 @@
 -- A route that no route lies inside is opened and closed at once, and one with the hop number around it is passed over.
-use Rattle.std.proofs.Common.{◌≡◌, ◌+◌, ◌-◌, ◌<◌, ◌≤◌, Bool, true, false, cond, nat_lt, List, [], ◌∷◌, ◌++◌, length, take, map, Option, Some, None, refl, sym, ap, ◌∙◌, subst, arith}
+use Rattle.std.proofs.Common.{◌≡◌, ◌+◌, ◌-◌, ◌<◌, ◌≤◌, Bool, true, false, cond, nat_lt, [], ◌∷◌, ◌++◌, length, take, map, Option, Some, None, refl, sym, ap, ◌∙◌, subst, arith}
 use Rattle.std.specs.Prelude.{MatchOption}
 use Rattle.std.proofs.lemmas.Bool.Decides.{nat_tests}
 use Rattle.route_table.specs.InnerReaches.{Reach, Run}
 use Rattle.route_table.specs.declared.runs.Runs.{Runs}
 use Rattle.route_table.specs.declared.runs.Step.TheVariants as step
-use Rattle.route_table.specs.InnerRunning.{reach_of, topmost, coming, innermost, over, from_on, changes_left, ArePlaced, AreRuns, StepsRun, IsPast, joined, step_of}
+use Rattle.route_table.specs.InnerRunning.{reach_of, topmost, coming, innermost, over, from_on, changes_left, AreRuns, StepsRun, IsPast, joined, step_of}
 use Rattle.route_table.proofs.Openings.{popped, inner_pushed, passed_are, passed_here}
 use Rattle.route_table.proofs.PaintedRuns.{EndsBefore}
-use Rattle.route_table.proofs.Turns.{begins_from, begun_here, changes_as, ends_from_hand, gap_few, hand_from, hops_are, passed_then, placed_as}
+use Rattle.route_table.proofs.Turns.{begins_from, begun_here, changes_as, ends_from_hand, gap_few, hand_from, hops_are, now_comes, passed_then, placed, placed_as}
 use Rattle.route_table.proofs.Closings.{close_later}
 
 module _ {P R : Type 0} (w v : Runs P R) (a : AreRuns w) (going : w.done ≡ false) (r : Reach) (next : w.next ≡ Some r) (by : r.first ≤ (innermost (w.end, None) w.stack.items).0) (here : w.at ≡ r.first)
@@ -19,7 +19,7 @@ module _ {P R : Type 0} (w v : Runs P R) (a : AreRuns w) (going : w.done ≡ fal
   u = record w { at = r.first; stack = record { items = w.stack.items ++ r ∷ [] }; next = v.next; rest = v.rest }
 
   opened : AreRuns u × StepsRun w step.Passed u
-  opened = begun_here w u a going r next (innermost (w.end, None) w.stack.items).1 refl by refl refl refl refl left here refl
+  opened = begun_here w a r next u going (innermost (w.end, None) w.stack.items).1 refl by refl refl refl refl left here refl
 
   past : IsPast u r.last v
   past =
@@ -35,35 +35,28 @@ module _ {P R : Type 0} (w v : Runs P R) (a : AreRuns w) (going : w.done ≡ fal
 
 module _ {P R : Type 0} (w v : Runs P R) (a : AreRuns w) (going : w.done ≡ false) (r : Reach) (next : w.next ≡ Some r) (by : r.first ≤ (innermost (w.end, None) w.stack.items).0) (same : r.number ≡ (innermost (w.end, None) w.stack.items).1)
     (at : v.at ≡ w.at) (end : v.end ≡ w.end) (still : v.done ≡ w.done) (run : v.run ≡ w.run) (stays : v.stack.items ≡ w.stack.items) (left : coming v.next v.rest ≡ map reach_of w.rest) where
-  abbrev cs : List Reach
-  cs = map reach_of w.rest
-
-  now_comes : coming w.next w.rest ≡ r ∷ cs
-  now_comes = ap (λ o. coming o w.rest) next
-
-  placed : ArePlaced w.stack.items (r ∷ cs) w.at w.end
-  placed = subst (λ rs. ArePlaced w.stack.items rs w.at w.end) now_comes a.placed
-
   place_of : (u : Runs P R) → u.done ≡ false → cond u.done (u.end + 1) u.at ≡ u.at
   place_of u going = ap (λ d. cond d (u.end + 1) u.at) going
 
   fewer : changes_left v < changes_left w
   fewer =
-      let p = changes_as w false w.stack.items (r ∷ cs) going refl now_comes in
+      let cs = map reach_of w.rest in
+      let p = changes_as w false w.stack.items (r ∷ cs) going refl (now_comes w a r next) in
       let q = changes_as v false w.stack.items cs (still ∙ going) stays left in
       let g = gap_few v.at v.next in
       omega (arith, p, q, g)
 
   pub passed_over : AreRuns v × StepsRun w step.Passed v
   passed_over =
-      let hops_before = hops_are w false w.at w.stack.items (r ∷ cs) going refl refl now_comes in
+      let cs = map reach_of w.rest in
+      let hops_before = hops_are w false w.at w.stack.items (r ∷ cs) going refl refl (now_comes w a r next) in
       let hops_then = hops_are v false w.at w.stack.items cs (still ∙ going) at stays left in (
         record {
-          placed = placed_as v w.at w.end w.stack.items cs at end stays left (passed_are w.stack.items r cs w.at w.end placed _ _ refl by);
+          placed = placed_as v w.at w.end w.stack.items cs at end stays left (passed_are w.stack.items r cs w.at w.end (placed w a r next) _ _ refl by);
           hand = hand_from v.run v.done v.at v.end w.at (place_of v (still ∙ going) ∙ at) (subst (λ (o : Option Run). EndsBefore o w.at) (sym run) (ends_from_hand w.run w.done w.at w.end w.at (place_of w going) a.hand));
         },
         (
-          λ x. ap (λ h. h x) hops_before ∙ ap (λ o. over w.run o x) (passed_here w.stack.items r cs w.at w.end placed _ _ refl by same x)
+          λ x. ap (λ h. h x) hops_before ∙ ap (λ o. over w.run o x) (passed_here w.stack.items r cs w.at w.end (placed w a r next) _ _ refl by same x)
               ∙ ap (λ o. over o (from_on false w.at (topmost None (w.stack.items ++ cs)) x) x) (sym run) ∙ ap (λ h. h x) (sym hops_then),
           fewer,
         ),

@@ -72,92 +72,88 @@ gap_few at (Some r) = go (nat_lt at r.first)
     go true = omega arith
     go false = omega arith
 
--- ---- the next route opens
+-- ---- the next route
 
--- there is room for it
-pub begin_room : {P R : Type 0} (w : Runs P R) → AreRuns w → (r : Reach) → w.next ≡ Some r → (number : Option ℕ) → number ≡ (innermost (w.end, None) w.stack.items).1 → r.first ≤ (innermost (w.end, None) w.stack.items).0 → length w.stack.items < 129
-begin_room w a r next number is by =
-    room w.stack.items r (map reach_of w.rest) w.at w.end (subst (λ rs. ArePlaced w.stack.items rs w.at w.end) (ap (λ o. coming o w.rest) next) a.placed) (innermost (w.end, None) w.stack.items).0 number
-    (λ i. ((innermost (w.end, None) w.stack.items).0, is i)) by
-
--- it begins at the place or after it, and has a number
-pub begins_from : {P R : Type 0} (w : Runs P R) → AreRuns w → (r : Reach) → w.next ≡ Some r → (w.at ≤ r.first) × (r.first ≤ r.last)
-begins_from w a r next =
-    let c = comes w.stack.items (r ∷ map reach_of w.rest) w.at w.end (subst (λ rs. ArePlaced w.stack.items rs w.at w.end) (ap (λ o. coming o w.rest) next) a.placed) r (inl refl) in
-    (c.later, c.some)
-
-module _ {P R : Type 0} (w v : Runs P R) (a : AreRuns w) (going : w.done ≡ false) (r : Reach) (next : w.next ≡ Some r) (number : Option ℕ) (is : number ≡ (innermost (w.end, None) w.stack.items).1) (by : r.first ≤ (innermost (w.end, None) w.stack.items).0)
-    (end : v.end ≡ w.end) (at : v.at ≡ r.first) (still : v.done ≡ w.done) where
+module _ {P R : Type 0} (w : Runs P R) (a : AreRuns w) (r : Reach) (next : w.next ≡ Some r) where
   abbrev cs : List Reach
   cs = map reach_of w.rest
 
-  now_comes : coming w.next w.rest ≡ r ∷ cs
+  pub now_comes : coming w.next w.rest ≡ r ∷ cs
   now_comes = ap (λ o. coming o w.rest) next
 
-  placed : ArePlaced w.stack.items (r ∷ cs) w.at w.end
+  pub placed : ArePlaced w.stack.items (r ∷ cs) w.at w.end
   placed = subst (λ rs. ArePlaced w.stack.items rs w.at w.end) now_comes a.placed
 
-  inner : ((innermost (w.end, None) w.stack.items).0, number) ≡ innermost (w.end, None) w.stack.items
-  inner i = ((innermost (w.end, None) w.stack.items).0, is i)
+  -- there is room for it
+  pub begin_room : (number : Option ℕ) → number ≡ (innermost (w.end, None) w.stack.items).1 → r.first ≤ (innermost (w.end, None) w.stack.items).0 → length w.stack.items < 129
+  begin_room number is by = room w.stack.items r cs w.at w.end placed (innermost (w.end, None) w.stack.items).0 number (λ i. ((innermost (w.end, None) w.stack.items).0, is i)) by
 
-  hops_before : hops_left w ≡ (λ x. over w.run (from_on false w.at (topmost None (w.stack.items ++ r ∷ cs)) x) x)
-  hops_before = hops_are w false w.at w.stack.items (r ∷ cs) going refl refl now_comes
+  -- it begins at the place or after it, and has a number
+  pub begins_from : (w.at ≤ r.first) × (r.first ≤ r.last)
+  begins_from = let c = comes w.stack.items (r ∷ cs) w.at w.end placed r (inl refl) in (c.later, c.some)
 
-  place_before : cond w.done (w.end + 1) w.at ≡ w.at
-  place_before = ap (λ d. cond d (w.end + 1) w.at) going
+  module _ (v : Runs P R) (going : w.done ≡ false) (number : Option ℕ) (is : number ≡ (innermost (w.end, None) w.stack.items).1) (by : r.first ≤ (innermost (w.end, None) w.stack.items).0) (end : v.end ≡ w.end) (at : v.at ≡ r.first) (still : v.done ≡ w.done) where
+    inner : ((innermost (w.end, None) w.stack.items).0, number) ≡ innermost (w.end, None) w.stack.items
+    inner i = ((innermost (w.end, None) w.stack.items).0, is i)
 
-  place_then : cond v.done (v.end + 1) v.at ≡ r.first
-  place_then = ap (λ d. cond d (v.end + 1) v.at) (still ∙ going) ∙ at
+    hops_before : hops_left w ≡ (λ x. over w.run (from_on false w.at (topmost None (w.stack.items ++ r ∷ cs)) x) x)
+    hops_before = hops_are w false w.at w.stack.items (r ∷ cs) going refl refl now_comes
 
-  -- the numbers before it are passed
-  module _ (stays : v.stack.items ≡ w.stack.items) (same : v.next ≡ w.next) (rest : v.rest ≡ w.rest) (later : w.at < r.first) where
-    then_comes : coming v.next v.rest ≡ r ∷ cs
-    then_comes = (λ i. coming (same i) (rest i)) ∙ now_comes
+    place_before : cond w.done (w.end + 1) w.at ≡ w.at
+    place_before = ap (λ d. cond d (w.end + 1) w.at) going
 
-    fewer_between : changes_left v < changes_left w
-    fewer_between =
-        let p = changes_as w false w.stack.items (r ∷ cs) going refl now_comes in
-        let q = changes_as v false w.stack.items (r ∷ cs) (still ∙ going) stays then_comes in
-        let l : nat_lt w.at r.first ≡ true = grind (arith, nat_tests, later) in
-        let g : gap w.at w.next ≡ 1 = ap (gap w.at) next ∙ ap (λ b. cond b 1 0) l in
-        let n : nat_lt r.first r.first ≡ false = grind (arith, nat_tests) in
-        let h : gap v.at v.next ≡ 0 = (λ i. gap (at i) ((same ∙ next) i)) ∙ ap (λ b. cond b 1 0) n in
-        omega (arith, p, q, g, h)
+    place_then : cond v.done (v.end + 1) v.at ≡ r.first
+    place_then = ap (λ d. cond d (v.end + 1) v.at) (still ∙ going) ∙ at
 
-    pub approaches : v.run ≡ (joined w.run (record { first = w.at; last = r.first - 1 }) number).1 → AreRuns v × StepsRun w (step_of (joined w.run (record { first = w.at; last = r.first - 1 }) number).0) v
-    approaches run =
-        let c = comes w.stack.items (r ∷ cs) w.at w.end placed r (inl refl) in
-        let some = c.some in
-        let fits = c.fits in
-        let s : Span = record { first = w.at; last = r.first - 1 } in
-        let e : r.first ≡ r.first - 1 + 1 = omega arith in
-        let hops_then = hops_are v false r.first w.stack.items (r ∷ cs) (still ∙ going) at stays then_comes in
-        let t = turned w v s number _ _ (approached w.stack.items r cs w.at w.end placed _ number inner by later) hops_before hops_then a.hand place_before (place_then ∙ e) run (omega arith) fewer_between in
-        (record { placed = placed_as v r.first w.end w.stack.items (r ∷ cs) at end stays then_comes (approached_are w.stack.items r cs w.at w.end placed _ number inner by); hand = t.0 }, t.1)
+    -- the numbers before it are passed
+    module _ (stays : v.stack.items ≡ w.stack.items) (same : v.next ≡ w.next) (rest : v.rest ≡ w.rest) (later : w.at < r.first) where
+      then_comes : coming v.next v.rest ≡ r ∷ cs
+      then_comes = (λ i. coming (same i) (rest i)) ∙ now_comes
 
-  -- it opens
-  module _ (pushed : v.stack.items ≡ w.stack.items ++ r ∷ []) (left : coming v.next v.rest ≡ cs) where
-    placed_then : ArePlaced v.stack.items (coming v.next v.rest) v.at v.end
-    placed_then = placed_as v r.first w.end (w.stack.items ++ r ∷ []) cs at end pushed left (opened_are w.stack.items r cs w.at w.end placed _ number inner by)
+      fewer_between : changes_left v < changes_left w
+      fewer_between =
+          let p = changes_as w false w.stack.items (r ∷ cs) going refl now_comes in
+          let q = changes_as v false w.stack.items (r ∷ cs) (still ∙ going) stays then_comes in
+          let l : nat_lt w.at r.first ≡ true = grind (arith, nat_tests, later) in
+          let g : gap w.at w.next ≡ 1 = ap (gap w.at) next ∙ ap (λ b. cond b 1 0) l in
+          let n : nat_lt r.first r.first ≡ false = grind (arith, nat_tests) in
+          let h : gap v.at v.next ≡ 0 = (λ i. gap (at i) ((same ∙ next) i)) ∙ ap (λ b. cond b 1 0) n in
+          omega (arith, p, q, g, h)
 
-    hops_then : hops_left v ≡ (λ x. over v.run (from_on false r.first (topmost None ((w.stack.items ++ r ∷ []) ++ cs)) x) x)
-    hops_then = hops_are v false r.first (w.stack.items ++ r ∷ []) cs (still ∙ going) at pushed left
+      pub approaches : v.run ≡ (joined w.run (record { first = w.at; last = r.first - 1 }) number).1 → AreRuns v × StepsRun w (step_of (joined w.run (record { first = w.at; last = r.first - 1 }) number).0) v
+      approaches run =
+          let c = comes w.stack.items (r ∷ cs) w.at w.end placed r (inl refl) in
+          let some = c.some in
+          let fits = c.fits in
+          let s : Span = record { first = w.at; last = r.first - 1 } in
+          let e : r.first ≡ r.first - 1 + 1 = omega arith in
+          let hops_then = hops_are v false r.first w.stack.items (r ∷ cs) (still ∙ going) at stays then_comes in
+          let t = turned w v s number _ _ (approached w.stack.items r cs w.at w.end placed _ number inner by later) hops_before hops_then a.hand place_before (place_then ∙ e) run (omega arith) fewer_between in
+          (record { placed = placed_as v r.first w.end w.stack.items (r ∷ cs) at end stays then_comes (approached_are w.stack.items r cs w.at w.end placed _ number inner by); hand = t.0 }, t.1)
 
-    fewer : changes_left v < changes_left w
-    fewer =
-        let p = changes_as w false w.stack.items (r ∷ cs) going refl now_comes in
-        let q = changes_as v false (w.stack.items ++ r ∷ []) cs (still ∙ going) pushed left in
-        let g = gap_few v.at v.next in
-        omega (arith, p, q, g, length-append w.stack.items (r ∷ []))
+    -- it opens
+    module _ (pushed : v.stack.items ≡ w.stack.items ++ r ∷ []) (left : coming v.next v.rest ≡ cs) where
+      placed_then : ArePlaced v.stack.items (coming v.next v.rest) v.at v.end
+      placed_then = placed_as v r.first w.end (w.stack.items ++ r ∷ []) cs at end pushed left (opened_are w.stack.items r cs w.at w.end placed _ number inner by)
 
-    pub begun_here : w.at ≡ r.first → v.run ≡ w.run → AreRuns v × StepsRun w step.Passed v
-    begun_here e run = (
-      record { placed = placed_then; hand = hand_from v.run v.done v.at v.end r.first place_then (subst (λ (o : Option Run). EndsBefore o r.first) (sym run) (ends_from_hand w.run w.done w.at w.end r.first (place_before ∙ e) a.hand)) },
-      (
-        λ x. ap (λ h. h x) hops_before ∙ ap (λ o. over w.run o x) (opened_here w.stack.items r cs w.at w.end placed _ number inner by e x) ∙ ap (λ o. over o (from_on false r.first (topmost None ((w.stack.items ++ r ∷ []) ++ cs)) x) x) (sym run) ∙ ap (λ h. h x) (sym hops_then),
-        fewer,
-      ),
-    )
+      hops_then : hops_left v ≡ (λ x. over v.run (from_on false r.first (topmost None ((w.stack.items ++ r ∷ []) ++ cs)) x) x)
+      hops_then = hops_are v false r.first (w.stack.items ++ r ∷ []) cs (still ∙ going) at pushed left
+
+      fewer : changes_left v < changes_left w
+      fewer =
+          let p = changes_as w false w.stack.items (r ∷ cs) going refl now_comes in
+          let q = changes_as v false (w.stack.items ++ r ∷ []) cs (still ∙ going) pushed left in
+          let g = gap_few v.at v.next in
+          omega (arith, p, q, g, length-append w.stack.items (r ∷ []))
+
+      pub begun_here : w.at ≡ r.first → v.run ≡ w.run → AreRuns v × StepsRun w step.Passed v
+      begun_here e run = (
+        record { placed = placed_then; hand = hand_from v.run v.done v.at v.end r.first place_then (subst (λ (o : Option Run). EndsBefore o r.first) (sym run) (ends_from_hand w.run w.done w.at w.end r.first (place_before ∙ e) a.hand)) },
+        (
+          λ x. ap (λ h. h x) hops_before ∙ ap (λ o. over w.run o x) (opened_here w.stack.items r cs w.at w.end placed _ number inner by e x) ∙ ap (λ o. over o (from_on false r.first (topmost None ((w.stack.items ++ r ∷ []) ++ cs)) x) x) (sym run) ∙ ap (λ h. h x) (sym hops_then),
+          fewer,
+        ),
+      )
 
 -- ---- the family is done
 

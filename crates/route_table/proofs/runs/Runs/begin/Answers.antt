@@ -16,7 +16,7 @@ returns-then-number-clause-runs g c =
     let later : w.at < c.args.reach.first = omega (arith, c.number.ensures.value, c.number-2.ensures.value, first, c.if-number.true) in
     let last : c.of-last.result ≡ c.args.reach.first - 1 = c.of-last.ensures ∙ ap (λ n. n - 1) (c.number-then-number.ensures.value ∙ first) in
     let run = c.join.ensures.run ∙ ap (λ n. (joined w.run (record { first = w.at; last = n }) c.args.number).1) last in
-    (approaches w v c.requires.runs c.requires.going c.args.reach c.requires.next c.args.number c.requires.number c.requires.inside refl first refl refl refl refl later run).0
+    (approaches w c.requires.runs c.args.reach c.requires.next v c.requires.going c.args.number c.requires.number c.requires.inside refl first refl refl refl refl later run).0
 
 pub returns-then-number-clause-step : goal.returns-then-number-clause-step
 returns-then-number-clause-step g c =
@@ -27,7 +27,7 @@ returns-then-number-clause-step g c =
     let last : c.of-last.result ≡ c.args.reach.first - 1 = c.of-last.ensures ∙ ap (λ n. n - 1) (c.number-then-number.ensures.value ∙ first) in
     let run = c.join.ensures.run ∙ ap (λ n. (joined w.run (record { first = w.at; last = n }) c.args.number).1) last in
     subst (λ s. StepsRun w s v) (sym (c.join.ensures.step ∙ ap (λ n. step_of (joined w.run (record { first = w.at; last = n }) c.args.number).0) last))
-    (approaches w v c.requires.runs c.requires.going c.args.reach c.requires.next c.args.number c.requires.number c.requires.inside refl first refl refl refl refl later run).1
+    (approaches w c.requires.runs c.args.reach c.requires.next v c.requires.going c.args.number c.requires.number c.requires.inside refl first refl refl refl refl later run).1
 
 pub open-requires : goal.open-requires
 open-requires g c =

@@ -42,7 +42,7 @@ returns-clause-runs g c =
     let v : Runs g.row.P.Denot g.row.P-R.Denot = record c.advance.new.self { stack = c.push.new.self } in
     let number = (innermost (w.end, None) w.stack.items).1 in
     let pushed = c.push.ensures.items ∙ ap (λ (r : Reach). c.advance.new.self.stack.items ++ r ∷ []) c.reach.view_is ∙ ap (λ s. s.items ++ c.args.reach ∷ []) c.advance.ensures.stack in
-    (begun_here w v c.requires.runs c.requires.going c.args.reach c.requires.next number refl c.requires.inside c.advance.ensures.end (c.advance.ensures.at ∙ c.requires.here) c.advance.ensures.done pushed c.advance.ensures.next c.requires.here c.advance.ensures.run).0
+    (begun_here w c.requires.runs c.args.reach c.requires.next v c.requires.going number refl c.requires.inside c.advance.ensures.end (c.advance.ensures.at ∙ c.requires.here) c.advance.ensures.done pushed c.advance.ensures.next c.requires.here c.advance.ensures.run).0
 
 pub returns-clause-step : goal.returns-clause-step
 returns-clause-step g c =
@@ -50,4 +50,4 @@ returns-clause-step g c =
     let v : Runs g.row.P.Denot g.row.P-R.Denot = record c.advance.new.self { stack = c.push.new.self } in
     let number = (innermost (w.end, None) w.stack.items).1 in
     let pushed = c.push.ensures.items ∙ ap (λ (r : Reach). c.advance.new.self.stack.items ++ r ∷ []) c.reach.view_is ∙ ap (λ s. s.items ++ c.args.reach ∷ []) c.advance.ensures.stack in
-    (begun_here w v c.requires.runs c.requires.going c.args.reach c.requires.next number refl c.requires.inside c.advance.ensures.end (c.advance.ensures.at ∙ c.requires.here) c.advance.ensures.done pushed c.advance.ensures.next c.requires.here c.advance.ensures.run).1
+    (begun_here w c.requires.runs c.args.reach c.requires.next v c.requires.going number refl c.requires.inside c.advance.ensures.end (c.advance.ensures.at ∙ c.requires.here) c.advance.ensures.done pushed c.advance.ensures.next c.requires.here c.advance.ensures.run).1
