@@ -48,12 +48,13 @@ pub record IsNoneIn (rs : List HopRange) (start place : ℕ) : Type 0 where
   pub below : BeginsBelow rs start place
   pub from : BeginsFrom rs (start + 2 ^ 107) place
 
--- such words for the chunks of 2000::/3; where a word is zero, no range begins in its chunk, and the place tells how many begin before it
+-- such words for the first chunks of 2000::/3, before whose end all ranges begin; where a word is zero, no range begins in its chunk,
+-- and the place tells how many begin before it
 pub record AreBlockCounts (rs : List HopRange) (words places counts : List ℕ) : Type 0 where
-  pub all_words : length words ≡ 262144
-  pub all_places : length places ≡ 262144
-  pub counted : (t : ℕ) → t < 262144 → AreCountsOf rs ((262144 + t) * 2 ^ 107) counts (slice_index places t) (slice_index words t)
-  pub empty : (t : ℕ) → t < 262144 → slice_index words t ≡ 0 → IsNoneIn rs ((262144 + t) * 2 ^ 107) (slice_index places t)
+  pub all : BeginsBelow rs ((262144 + length words) * 2 ^ 107) (length rs)
+  pub places' : length places ≡ length words
+  pub counted : (t : ℕ) → t < length words → AreCountsOf rs ((262144 + t) * 2 ^ 107) counts (slice_index places t) (slice_index words t)
+  pub empty : (t : ℕ) → t < length words → slice_index words t ≡ 0 → IsNoneIn rs ((262144 + t) * 2 ^ 107) (slice_index places t)
 
 -- a range of whole blocks of 256 numbers, at most 256 of them
 pub record IsShort4 (r : HopRange) : Type 0 where

@@ -2,17 +2,16 @@
 ghost use Rattle.std.specs.Prelude.{ℕ, ◌≡◌, ◌+◌, ◌*◌, ◌^◌, ◌<◌, ◌≤◌, IfOk, OnOk, length, slice_index};
 ghost use Rattle.hop_index.specs.InnerRanges.{AreBlockCounts, AreCountsOf, AreRanges, BeginsBelow, BeginsFrom};
 
-use crate::ranges::CHUNKS;
 use crate::shorts6::Short6;
 use std::alloc::{AllocError, Global};
 
-/// The first chunk that has a count.
+/// The first chunk of 2000::/3.
 const FIRST: usize = 262_144;
 
 /// The blocks in which ranges begin.
 #[derive(Drop)]
 pub(crate) struct Blocks {
-    /// For each chunk that has a count, a bit for each of its 64 blocks in which a range begins.
+    /// For each chunk of 2000::/3 up to the last in which a range begins, a bit for each of its 64 blocks in which one begins.
     pub(crate) words: Vec<u64>,
     /// For each of these chunks, the place of its first count below; where no range begins in it, how many begin before it.
     pub(crate) places: Vec<u32>,
@@ -69,7 +68,19 @@ fn begin_inside(ranges: &[Short6])
     }
 }
 
-/// The blocks of the chunks.
+/// How many chunks of 2000::/3 there are up to the last in which a range begins.
+fn chunks_of(ranges: &[Short6]) -> usize
+    requires { AreRanges ranges.now }
+    ensures all { BeginsBelow ranges.now ((262144 + result) * 2 ^ 107) (length ranges.now) }
+    ensures few { result ≤ 262144 }
+{
+    match ranges.last() {
+        Some(range) => (range.first() >> 27) as usize - FIRST + 1,
+        None => 0,
+    }
+}
+
+/// The blocks in which the ranges begin.
 pub(crate) fn blocks_of(alloc: Global, ranges: &[Short6]) -> Result<Blocks, AllocError>
     requires { AreRanges ranges.now }
     ensures { IfOk result (λ blocks. AreBlockCounts ranges.now blocks.words.items blocks.places.items blocks.counts.items) }
@@ -77,12 +88,13 @@ pub(crate) fn blocks_of(alloc: Global, ranges: &[Short6]) -> Result<Blocks, Allo
     let Ok(end) = u32::try_from(ranges.len()) else {
         return Err(AllocError);
     };
-    let mut words = Vec::with_capacity(alloc, CHUNKS)?;
-    let mut places = Vec::with_capacity(alloc, CHUNKS)?;
+    let chunks = chunks_of(ranges);
+    let mut words = Vec::with_capacity(alloc, chunks)?;
+    let mut places = Vec::with_capacity(alloc, chunks)?;
     let mut counts = Vec::new(alloc);
     let mut count = 0;
     begin_inside(ranges);
-    for chunk in 0..CHUNKS {
+    for chunk in 0..chunks {
         let Ok(place) = u32::try_from(counts.len()) else {
             return Err(AllocError);
         };
@@ -113,8 +125,11 @@ pub(crate) fn of_block(
     ensures high { BeginsFrom ranges.now (number + 1) result.1 }
 {
     let chunk = (number >> 107) as usize;
-    if chunk < FIRST || chunk - FIRST >= CHUNKS {
+    if chunk < FIRST {
         return (0, ranges.len());
+    }
+    if chunk - FIRST >= words.len() {
+        return (ranges.len(), ranges.len());
     }
     let word = words[chunk - FIRST];
     let place = places[chunk - FIRST] as usize;

@@ -3,10 +3,13 @@ ghost use Rattle.std.specs.Prelude.{ℕ, ◌≡◌, ◌+◌, ◌*◌, ◌^◌, �
 ghost use Rattle.hop_index.specs.Ranges.{hop_in};
 ghost use Rattle.hop_index.specs.InnerRanges.{AreMarks, AreMarksOf, AreRanges, BeginsBelow, BeginsFrom};
 
-use crate::ranges::{CHUNKS, Range, begun, hop_after};
+use crate::ranges::{Range, begun, hop_after};
 use crate::shorts4::{Short4, short_hop};
 use std::alloc::{AllocError, Global};
 use std::marker::Model;
+
+/// How many chunks there are.
+const CHUNKS: usize = 262_144;
 
 /// A bit for each of the 64 blocks of 256 numbers of a chunk: whether one of the ranges begins there; and how many of the ranges
 /// begin before the chunk's end, where `low` of them begin before its start.

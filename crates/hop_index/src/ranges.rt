@@ -8,9 +8,6 @@ use ipnet_addr::number::Number;
 use std::alloc::{AllocError, Global};
 use std::marker::Model;
 
-/// How many chunks have a count.
-pub(crate) const CHUNKS: usize = 262_144;
-
 /// Addresses in a row with one hop.
 ///
 /// Contracts see the numbers of the first and the last of them, and the hop.

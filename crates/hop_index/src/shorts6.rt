@@ -44,6 +44,7 @@ impl Short6 {
     pub(crate) fn first(&self) -> u64
         ensures value { self.now.first ≡ result * 2 ^ 80 }
         ensures global { 2 ^ 45 ≤ result }
+        ensures below { result < 2 ^ 46 }
     {
         (1 << 45) + (key_of(self.high, self.low) >> 19)
     }

@@ -2,7 +2,7 @@
 use crate::tests::hop_tables::overwrite;
 use crate::tests::steps::Step::{Index, IndexBefore};
 use crate::tests::steps::{Script, carry_out};
-use crate::tests::tables::{net, put, row_is};
+use crate::tests::tables::{net, put, row_is, table};
 use hop_index::HopIndex;
 use ipnet::IpAddr;
 use route_table::{Hop, HopTable, RouteTable, Routes};
@@ -114,6 +114,15 @@ fn index_is(rt: &impl Abort, alloc: Global, table: &RouteTable) {
     hops_are(rt, &index);
 }
 
+/// An index of a table of these routes has these hops.
+fn index_of_has(rt: &impl Abort, alloc: Global, routes: &str, hops: &[(&str, Option<u32>)]) {
+    let table = table(rt, alloc, routes);
+    let index = HopIndex::of_table(alloc, &table).expect(rt, "an index");
+    for (text, hop) in hops {
+        row_is(rt, text, index.hop(address(rt, text)), *hop);
+    }
+}
+
 /// Stores these routes.
 fn overwrite_all(rt: &impl Abort, table: &mut HopTable, routes: Routes<'_>) {
     for (net, hop, _) in routes {
@@ -154,4 +163,31 @@ static INDEXES: [Script; 2] = [
 #[test]
 fn indexes(rt: HostRuntime) {
     carry_out(&rt, rt.alloc(), &INDEXES);
+}
+
+/// What an index of 2001:db8::/32 alone has, before its chunk, there and after it.
+static OF_ONE: [(&str, Option<u32>); 8] = [
+    ("::1", None),
+    ("2001:db7:ffff:ffff:ffff:ffff:ffff:ffff", None),
+    ("2001:db8::", Some(8)),
+    ("2001:db8:ffff:ffff:ffff:ffff:ffff:ffff", Some(8)),
+    ("2001:db9::", None),
+    ("2001:1000::", None),
+    ("3fff::1", None),
+    ("ffff::", None),
+];
+
+/// What an index of the last /32 of 2000::/3 alone has.
+static OF_THE_LAST: [(&str, Option<u32>); 5] = [
+    ("2001:db8::", None),
+    ("3fff:fffe:ffff:ffff:ffff:ffff:ffff:ffff", None),
+    ("3fff:ffff::", Some(14)),
+    ("3fff:ffff:ffff:ffff:ffff:ffff:ffff:ffff", Some(14)),
+    ("4000::", None),
+];
+
+#[test]
+fn indexes_of_one_network(rt: HostRuntime) {
+    index_of_has(&rt, rt.alloc(), "2001:db8::/32 8", &OF_ONE);
+    index_of_has(&rt, rt.alloc(), "3fff:ffff::/32 14", &OF_THE_LAST);
 }
