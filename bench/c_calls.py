@@ -30,6 +30,9 @@ crate's map the same network. What a side has not is `-`.{missing}"""
 RATIOS = """How many times as fast the index is as the other ways, of one address in a call; the last column is of 64. Below 1 it is slower.
 Aimed at are {aims}. {met}"""
 
+MADE = """Tables of one family each give these indexes in {made:.0f} ms together, {ratio:.3f} of the {lead:.2f} s in which `routes lead` loads the
+feed, its output to a file. Aimed at is a tenth, which is {met}."""
+
 
 def networks_of(feed, family, folder):
     """The networks of a family; and in files, these with their hops, and alone."""
@@ -52,6 +55,19 @@ def timed(bench, program, sides, feed, family):
     if bench.given.map_peer:
         found["crate"] = lambda: calls.of_crate([*bench.pin, bench.given.map_peer], family, alone, asked)
     return len(networks), calls.timed(f"IP{family}", bench.runs, found)
+
+
+def led(bench, feed):
+    """The seconds in which the leader loads the feed."""
+    leader = {"lead": lambda: measure.once([*bench.pin, bench.programs["ours"], "lead"], feed, bench.folder / "led")}
+    return measure.least(measure.in_turns(bench.runs, leader)["lead"]).seconds
+
+
+def made(parts, lead):
+    """What making the indexes takes, beside the leader's time."""
+    seconds = sum(count * least["routes", "index_open", None] for count, least in parts.values()) / 1e9
+    ratio = seconds / lead
+    return MADE.format(made=1000 * seconds, ratio=ratio, lead=lead, met="met" if ratio <= 0.1 else "missed")
 
 
 def changes(parts):
@@ -111,11 +127,13 @@ def measured(bench):
         return
     with measure.Others() as others:
         parts = {family: timed(bench, program, sides, feed, family) for family in ("v4", "v6")}
+        lead = led(bench, feed)
     seen = {key for _, least in parts.values() for key in least}
     text = TEXT.format(asked=f"{bench.asked:,}", version=version(), missing=calls.missing(SIDES, seen))
     yield "From C", [
         page.filled(text),
         page.table(["networks", "call", *SIDES.values()], changes(parts)),
+        page.filled(made(parts, lead)),
         page.table(["addresses", "look-up", *SIDES.values()], look_ups(parts)),
         page.filled(RATIOS.format(aims=aims(), met=met(parts))),
         page.table(["addresses", *(title for *_, title in WAYS)], ratios(parts)),
