@@ -20,7 +20,8 @@ pub(crate) fn holds(rt: &impl Abort, fact: bool) {
 
 /// The network has this text.
 pub(crate) fn is_text(rt: &impl Abort, key: Ipv4Net, text: &str) {
-    assert_eq!(rt; key.to_text().as_slice(), text.as_bytes());
+    let found = key.to_text();
+    is_equal(rt, found.as_slice(), text.as_bytes());
 }
 
 /// An IPv4 network.

@@ -108,11 +108,22 @@ fn entry_is<P: Prefix + Copy + PartialEq + Debug, S: Spells<P>>(
     found: Option<(P, &u32)>,
     wanted: &Option<(S, u32)>,
 ) {
-    let entry = match wanted {
-        Some((spelled, stored)) => Some((spelled.prefix().expect(rt, at.0), stored)),
-        None => None,
-    };
-    step_is(rt, at, found, entry);
+    match wanted {
+        Some((spelled, stored)) => spelled_is(rt, at, found, spelled, stored),
+        None => step_is(rt, at, found, None),
+    }
+}
+
+/// The entry is of the prefix that is spelled so, with this value.
+fn spelled_is<P: Prefix + Copy + PartialEq + Debug, S: Spells<P>>(
+    rt: &impl Abort,
+    at: (&str, usize),
+    found: Option<(P, &u32)>,
+    spelled: &S,
+    stored: &u32,
+) {
+    let key = spelled.prefix().expect(rt, at.0);
+    step_is(rt, at, found, Some((key, stored)));
 }
 
 /// The length and the value of a match are these, or there is none.
