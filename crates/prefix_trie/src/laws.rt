@@ -1,7 +1,7 @@
 //! Laws of the bit strings of networks, of matches, and of the refusals: public functions without a body, whose contracts are
 //! the laws.
 ghost use Rattle.std.specs.Prelude.{◌≡◌, ◌↔◌, IsTrue};
-ghost use Rattle.prefix_trie.specs.Laws.{BegunAreInside, GovernedMatch, WalksAscend};
+ghost use Rattle.prefix_trie.specs.Laws.{BegunAreInside, GovernedMatch, StringsAscend, WalksAscend};
 ghost use Rattle.prefix_trie.specs.declared.refused.Refused.{Refused as AnyRefused};
 
 use crate::refused::Refused;
@@ -12,6 +12,12 @@ use crate::refused::Refused;
 pub fn networks()
     ensures inside { BegunAreInside }
     ensures order { WalksAscend }
+{}
+
+/// A walk meets prefixes of one width by their masked keys, as `Prefix::mask` gives them, and then by length. So it does for
+/// `(R, u8)` of each key type: (0, 8) comes before (0, 9), and that before (1 << 31, 1) of 32 bits.
+pub fn walks()
+    ensures order { StringsAscend }
 {}
 
 /// A prefix governs what it contains and no longer stored key does. The longest match of what it governs is its own: where

@@ -20,7 +20,7 @@ pub enum RunError {
     #[error("write fault")]
     Write,
     /// The input has a line that is no reply line; of an installer, none of its lines, or a `have` line after a `sync`.
-    #[error("unexpected line")]
+    #[error("not a reply line")]
     Line,
 }
 
