@@ -12,7 +12,7 @@ use std::alloc::Global;
 /// The hop of an address by an index of the table: the one that the table has for it.
 ///
 /// # Errors
-/// `Memory` where there is none for the index.
+/// `Memory` if there is none for the index.
 pub fn looked_up(alloc: Global, table: &RouteTable, addr: IpAddr) -> Result<Option<u32>, Refused>
     ensures { IfOk result (λ hop. hop ≡ hop_at (routes_of table.now) (address_of addr)) }
 {

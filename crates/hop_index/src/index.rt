@@ -67,7 +67,7 @@ impl HopIndex {
     /// The hops of a table; `drop` and no route are both none.
     ///
     /// # Errors
-    /// `Memory` where there is none for it.
+    /// `Memory` if there is none for it.
     ///
     /// # Examples
     /// Where 10.0.0.0/8 has the hop 1 and 10.0.0.0/9 the hop 2, and `address` reads a text:
@@ -88,7 +88,7 @@ impl HopIndex {
     /// The hops of a table with one route a network; `drop` and no route are both none.
     ///
     /// # Errors
-    /// `Memory` where there is none for it.
+    /// `Memory` if there is none for it.
     pub fn of_hops(alloc: Global, table: &HopTable) -> Result<HopIndex, Refused>
         ensures hops { IfOk result (λ i. (x : Address) → IsAddress x → hop_of i x ≡ hop_at (routes_of table.now) x) }
         ensures memory { IfErr result (λ e. e ≡ Memory) }
@@ -100,7 +100,7 @@ impl HopIndex {
     /// The hops of the blocks of a flat list, such as `flat` of a table gives; all other addresses have none.
     ///
     /// # Errors
-    /// `Memory` where there is none for it.
+    /// `Memory` if there is none for it.
     pub fn from_flat(alloc: Global, flat: Flat<'_>) -> Result<HopIndex, Refused>
         requires { (h : Address → Option ℕ) × IsFlat h flat }
         ensures hops { IfOk result (λ i. (h : Address → Option ℕ) → IsFlat h flat.entry → (x : Address) → IsAddress x → hop_of i x ≡ h x) }
@@ -121,7 +121,7 @@ impl HopIndex {
         })
     }
 
-    /// The hop of an address. It takes no memory.
+    /// The hop of an address. Does not allocate.
     #[inline(always)]
     pub fn hop(&self, addr: IpAddr) -> Option<u32>
         ensures hop { result ≡ hop_of self.now (address_of addr) }
@@ -133,7 +133,7 @@ impl HopIndex {
         }
     }
 
-    /// The hops of as many addresses, in their order. It takes no memory.
+    /// The hops of as many addresses, in their order. Does not allocate.
     pub fn hops(&self, addrs: &[IpAddr], hops: &mut [Option<u32>])
         requires { length hops.old ≡ length addrs.now }
         ensures { hops.new ≡ map (λ addr. hop_of self.now (address_of addr)) addrs.now }

@@ -96,7 +96,7 @@ impl Ranges4 {
     /// The look-up table of the ranges.
     ///
     /// # Errors
-    /// `AllocError` where there is no memory for it.
+    /// `AllocError` if an allocation fails.
     pub(crate) fn new(
         alloc: Global,
         shorts: Vec<Short4>,

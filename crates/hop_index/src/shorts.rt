@@ -25,7 +25,7 @@ pub(crate) trait ShortRange<N: Number> {
         ensures { range result ≡ whole.now };
 }
 
-/// Adds a range to the short ones, or where there is no room for it to the others.
+/// Adds a range to the short ones, or if there is no room for it to the others.
 #[inline]
 pub(crate) fn add_range<N: Number, S: ShortRange<N> + Drop>(
     shorts: &mut Vec<S>,

@@ -160,7 +160,7 @@ impl Ranges6 {
     /// The look-up table of the ranges.
     ///
     /// # Errors
-    /// `AllocError` where there is no memory for it.
+    /// `AllocError` if an allocation fails.
     pub(crate) fn new(
         alloc: Global,
         shorts: Vec<Short6>,

@@ -38,7 +38,7 @@ impl<N: Number> Net<N> {
     /// The fewest networks with the addresses of these, ascending, each without host bits; takes time n log n.
     ///
     /// # Errors
-    /// `AllocError` where memory is refused.
+    /// `AllocError` if an allocation fails.
     pub fn aggregate(alloc: Global, networks: &Vec<Net<N>>) -> Result<Vec<Net<N>>, AllocError>
         ensures { IfOk result (λ v. AreAggregated N.family networks.now.items v.items) }
     {
@@ -50,7 +50,7 @@ impl IpNet {
     /// The fewest networks with the addresses of these, ascending, IPv4 first, each without host bits; takes time n log n.
     ///
     /// # Errors
-    /// `AllocError` where memory is refused.
+    /// `AllocError` if an allocation fails.
     pub fn aggregate(alloc: Global, networks: &Vec<IpNet>) -> Result<Vec<IpNet>, AllocError>
         ensures blocks { IfOk result (λ v. IsAggregated (map block networks.now.items) (map block v.items)) }
         ensures truncated { IfOk result (λ v. All (λ n. IsTruncated (family n) (parts n)) v.items) }

@@ -23,7 +23,7 @@ impl IpNet {
     /// The network of this address and prefix length; host bits are kept.
     ///
     /// # Errors
-    /// `PrefixLenError` exactly where `prefix_len` is above the width of the address, 32 or 128.
+    /// `PrefixLenError` exactly if `prefix_len` is above the width of the address, 32 or 128.
     pub fn new(addr: IpAddr, prefix_len: u8) -> Result<IpNet, PrefixLenError>
         ensures variant { IsOk result ↔ (prefix_len ≤ width (address_of addr).family) }
         ensures parts { IfOk result (λ n. n ≡ net_in (address_of addr).family (record { number = (address_of addr).number; len = prefix_len })) }
@@ -49,7 +49,7 @@ impl IpNet {
     /// mask may differ, as in the Rust crate ipnet 2.12.2.
     ///
     /// # Errors
-    /// `PrefixLenError` exactly where the mask isn't ones followed by zeros, or has more ones than the address has bits.
+    /// `PrefixLenError` exactly if the mask isn't ones followed by zeros, or has more ones than the address has bits.
     pub fn with_netmask(addr: IpAddr, netmask: IpAddr) -> Result<IpNet, PrefixLenError>
         ensures { MatchResult result
             (λ n. (family n ≡ (address_of addr).family) × ((parts n).number ≡ (address_of addr).number) × IsMask (address_of netmask) (parts n).len)

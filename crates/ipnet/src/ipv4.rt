@@ -41,7 +41,7 @@ impl Contains<&Ipv4Addr> for Ipv4Net {
 }
 
 impl Ipv4Net {
-    /// Appends the text of `to_text`. There must be room for the longest, of 43 bytes, as for either family. Takes no memory.
+    /// Appends the text of `to_text`. There must be room for the longest, of 43 bytes, as for either family. Does not allocate.
     pub fn push_text<const CAPACITY: usize>(&self, out: &mut ArrayVec<u8, CAPACITY>)
         requires { array_vec_len out.old + 43 ≤ CAPACITY }
         ensures text { out.new.items ≡ out.old.items ++ ipv4_net_text self.now }
@@ -75,10 +75,10 @@ impl Ipv4Net {
         [a, b, c, d, self.prefix_len()]
     }
 
-    /// The network of these bytes, the inverse of `to_bytes`. Takes no memory.
+    /// The network of these bytes, the inverse of `to_bytes`. Does not allocate.
     ///
     /// # Errors
-    /// `AddrParseError` exactly where they are no network's: another number of bytes than five, or a
+    /// `AddrParseError` exactly if they are no network's: another number of bytes than five, or a
     /// length above 32.
     pub fn from_bytes(bytes: &[u8]) -> Result<Ipv4Net, AddrParseError>
         ensures { Parses HoldsIpv4 bytes.now result }

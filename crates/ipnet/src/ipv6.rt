@@ -41,7 +41,7 @@ impl Contains<&Ipv6Addr> for Ipv6Net {
 }
 
 impl Ipv6Net {
-    /// Appends the text of `to_text`. There must be room for the longest, of 43 bytes. Takes no memory.
+    /// Appends the text of `to_text`. There must be room for the longest, of 43 bytes. Does not allocate.
     pub fn push_text<const CAPACITY: usize>(&self, out: &mut ArrayVec<u8, CAPACITY>)
         requires { array_vec_len out.old + 43 ≤ CAPACITY }
         ensures text { out.new.items ≡ out.old.items ++ ipv6_net_text self.now }
@@ -71,10 +71,10 @@ impl Ipv6Net {
         bytes
     }
 
-    /// The network of these bytes, the inverse of `to_bytes`. Takes no memory.
+    /// The network of these bytes, the inverse of `to_bytes`. Does not allocate.
     ///
     /// # Errors
-    /// `AddrParseError` exactly where they are no network's: another number of bytes than seventeen, or
+    /// `AddrParseError` exactly if they are no network's: another number of bytes than seventeen, or
     /// a length above 128.
     pub fn from_bytes(bytes: &[u8]) -> Result<Ipv6Net, AddrParseError>
         ensures { Parses HoldsIpv6 bytes.now result }

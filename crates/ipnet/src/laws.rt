@@ -1,4 +1,5 @@
-//! Laws of networks and their texts, and those of addresses, blocks and maximal blocks: public functions without a body, whose contracts are the laws.
+//! Laws of networks and their texts, and those of addresses, blocks and maximal blocks: public functions without a body, whose contracts
+//! are the laws.
 
 ghost use Rattle.std.specs.Prelude.{◌≡◌, ◌≢◌, ◌≤◌, ◌⊎◌, ◌↔◌, ◌++◌, ℕ, IsTrue, List, All, MatchOption, length, pos};
 ghost use Rattle.std.specs.Hash as fed;

@@ -56,7 +56,7 @@ impl<N: Number> Net<N> {
     /// The network of this address and prefix length; host bits are kept.
     ///
     /// # Errors
-    /// `PrefixLenError` exactly where `prefix_len` is above the width of the family, 32 or 128.
+    /// `PrefixLenError` exactly if `prefix_len` is above the width of the family, 32 or 128.
     pub fn new(addr: N::Addr, prefix_len: u8) -> Result<Net<N>, PrefixLenError>
         ensures variant { IsOk result ↔ (prefix_len ≤ width N.family) }
         ensures parts { IfOk result (λ n. n ≡ record { number = N.addr_number addr; len = prefix_len }) }
@@ -83,7 +83,7 @@ impl<N: Number> Net<N> {
     /// The network of this address whose prefix length is the number of ones of the mask; host bits are kept.
     ///
     /// # Errors
-    /// `PrefixLenError` exactly where the mask isn't ones followed by zeros.
+    /// `PrefixLenError` exactly if the mask isn't ones followed by zeros.
     pub fn with_netmask(addr: N::Addr, netmask: N::Addr) -> Result<Net<N>, PrefixLenError>
         ensures { MatchResult result
             (λ n. (n.number ≡ N.addr_number addr) × IsMask (record { family = N.family; number = N.addr_number netmask }) n.len)

@@ -9,7 +9,7 @@ use crate::text::AddrParseError;
 use arrayvec::ArrayVec;
 
 impl IpNet {
-    /// A byte for its family, 0 (IPv4) or 1 (IPv6), and then the bytes of the network. Takes no memory.
+    /// A byte for its family, 0 (IPv4) or 1 (IPv6), and then the bytes of the network. Does not allocate.
     pub fn to_bytes(&self) -> ArrayVec<u8, 18>
         ensures bytes { result.items ≡ net_bytes self.now }
         ensures holds { Holds result.items self.now }
@@ -28,10 +28,10 @@ impl IpNet {
         bytes
     }
 
-    /// The network of these bytes, the inverse of `to_bytes`. Takes no memory.
+    /// The network of these bytes, the inverse of `to_bytes`. Does not allocate.
     ///
     /// # Errors
-    /// `AddrParseError` exactly where they are no network's: another first byte than 0 and 1, another
+    /// `AddrParseError` exactly if they are no network's: another first byte than 0 and 1, another
     /// number of bytes, or a length above the width.
     pub fn from_bytes(bytes: &[u8]) -> Result<IpNet, AddrParseError>
         ensures { Parses Holds bytes.now result }

@@ -61,7 +61,7 @@ impl<N: Number> Clone for Subnets<N> {
 }
 
 impl<N: Number> Subnets<N> {
-    /// The blocks of length at least `min_prefix_len`, at most the width of the family, from `start` to `end`; none where `start`
+    /// The blocks of length at least `min_prefix_len`, at most the width of the family, from `start` to `end`; none if `start`
     /// is above `end`.
     pub fn new(start: N::Addr, end: N::Addr, min_prefix_len: u8) -> Subnets<N>
         requires { min_prefix_len ≤ width N.family }
@@ -149,7 +149,7 @@ impl<N: Number> Net<N> {
     /// The networks of this prefix length inside it, ascending.
     ///
     /// # Errors
-    /// `PrefixLenError` exactly where the length is below its own or above the width of the family.
+    /// `PrefixLenError` exactly if the length is below its own or above the width of the family.
     pub fn subnets(&self, new_prefix_len: u8) -> Result<Subnets<N>, PrefixLenError>
         ensures variant { IsOk result ↔ ((self.now.len ≤ new_prefix_len) × (new_prefix_len ≤ width N.family)) }
         ensures limits { IfOk result (λ s. s ≡ record { start = first (block_of N.family self.now); end = last (block_of N.family self.now); shortest = new_prefix_len }) }
@@ -178,7 +178,7 @@ impl IpNet {
     /// The networks of this prefix length inside it, ascending.
     ///
     /// # Errors
-    /// `PrefixLenError` exactly where the length is below its own or above the width of its family.
+    /// `PrefixLenError` exactly if the length is below its own or above the width of its family.
     pub fn subnets(&self, new_prefix_len: u8) -> Result<IpSubnets, PrefixLenError>
         ensures variant { IsOk result ↔ (((parts self.now).len ≤ new_prefix_len) × (new_prefix_len ≤ width (family self.now))) }
         ensures limits { IfOk result (λ s. s ≡ ip_limits (family self.now) (record { start = first (block self.now); end = last (block self.now); shortest = new_prefix_len })) }

@@ -39,13 +39,13 @@ pub trait Written: Number {
     /// The network that these bytes spell.
     ///
     /// # Errors
-    /// `AddrParseError` exactly where they spell none.
+    /// `AddrParseError` exactly if they spell none.
     fn parse_ascii(bytes: &[u8]) -> Result<Net<Self>, AddrParseError>
         ensures { Parses reads bytes.now result };
 }
 
 impl<N: Written> Net<N> {
-    /// The text that `Display` writes, at most 18 bytes of an IPv4 network, 43 of an IPv6 one. Takes no memory.
+    /// The text that `Display` writes, at most 18 bytes of an IPv4 network, 43 of an IPv6 one. Does not allocate.
     pub fn to_text(&self) -> ArrayVec<u8, 43>
         ensures text { result.items ≡ N.text self.now }
         ensures reads { N.reads result.items self.now }
@@ -54,10 +54,10 @@ impl<N: Written> Net<N> {
         <N as Written>::to_text(self)
     }
 
-    /// The network that these bytes spell, as `from_str` reads it. Takes no memory.
+    /// The network that these bytes spell, as `from_str` reads it. Does not allocate.
     ///
     /// # Errors
-    /// `AddrParseError` exactly where they spell none.
+    /// `AddrParseError` exactly if they spell none.
     pub fn parse_ascii(text: &[u8]) -> Result<Net<N>, AddrParseError>
         ensures { Parses N.reads text.now result }
     {
@@ -101,7 +101,7 @@ impl<N: Written> fmt::Debug for Net<N> {
 }
 
 impl IpNet {
-    /// The text that `Display` writes, at most 43 bytes. Takes no memory.
+    /// The text that `Display` writes, at most 43 bytes. Does not allocate.
     pub fn to_text(&self) -> ArrayVec<u8, 43>
         ensures text { result.items ≡ net_text self.now }
         ensures reads { Reads result.items self.now }
@@ -112,7 +112,7 @@ impl IpNet {
         out
     }
 
-    /// Appends the text of `to_text`. There must be room for the longest, of 43 bytes. Takes no memory.
+    /// Appends the text of `to_text`. There must be room for the longest, of 43 bytes. Does not allocate.
     pub fn push_text<const CAPACITY: usize>(&self, out: &mut ArrayVec<u8, CAPACITY>)
         requires { array_vec_len out.old + 43 ≤ CAPACITY }
         ensures text { out.new.items ≡ out.old.items ++ net_text self.now }
@@ -125,10 +125,10 @@ impl IpNet {
         }
     }
 
-    /// The network that these bytes spell, as `from_str` reads it. Takes no memory.
+    /// The network that these bytes spell, as `from_str` reads it. Does not allocate.
     ///
     /// # Errors
-    /// `AddrParseError` exactly where they spell none.
+    /// `AddrParseError` exactly if they spell none.
     pub fn parse_ascii(text: &[u8]) -> Result<IpNet, AddrParseError>
         ensures { Parses Reads text.now result }
     {

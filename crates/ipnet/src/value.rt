@@ -18,7 +18,7 @@ impl<N: Written> Net<N> {
     /// The string value of its text.
     ///
     /// # Errors
-    /// `AllocError` where there is no memory for the string.
+    /// `AllocError` if an allocation fails.
     pub fn to_value(&self, alloc: Global) -> Result<Value, AllocError>
         ensures { IfOk result (λ v. view v ≡ string (N.text self.now)) }
     {
@@ -28,7 +28,7 @@ impl<N: Written> Net<N> {
     /// The network that a string value spells.
     ///
     /// # Errors
-    /// `AddrParseError` exactly where the value is no string, or one that spells no network.
+    /// `AddrParseError` exactly if the value is no string, or one that spells no network.
     pub fn from_value(value: &Value) -> Result<Net<N>, AddrParseError>
         ensures { MatchResult result (IsStringOf N.reads (view value.now)) (λ _. (n : Network) → IsStringOf N.reads (view value.now) n → ⊥) }
     {
@@ -43,7 +43,7 @@ impl IpNet {
     /// The string value of its text.
     ///
     /// # Errors
-    /// `AllocError` where there is no memory for the string.
+    /// `AllocError` if an allocation fails.
     pub fn to_value(&self, alloc: Global) -> Result<Value, AllocError>
         ensures { IfOk result (λ v. view v ≡ string (net_text self.now)) }
     {
@@ -56,7 +56,7 @@ impl IpNet {
     /// The network that a string value spells.
     ///
     /// # Errors
-    /// `AddrParseError` exactly where the value is no string, or one that spells no network.
+    /// `AddrParseError` exactly if the value is no string, or one that spells no network.
     pub fn from_value(value: &Value) -> Result<IpNet, AddrParseError>
         ensures { MatchResult result (IsStringOf Reads (view value.now)) (λ _. (n : AnyNet) → IsStringOf Reads (view value.now) n → ⊥) }
     {

@@ -66,7 +66,7 @@ pub trait OfFamily: Copy {
     /// Appends the largest blocks of the span, ascending.
     ///
     /// # Errors
-    /// `AllocError` where memory is refused; which of the blocks are appended then is open.
+    /// `AllocError` if an allocation fails; which of the blocks are appended then is open.
     fn push_blocks(blocks: &mut Vec<Self>, span: &Span) -> Result<(), AllocError>
         requires some { HasNumber span.now }
         requires fits { span.now.last < 2 ^ width family }
@@ -101,7 +101,7 @@ fn blocks_of<N: OfFamily>(alloc: Global, spans: &Vec<Span>) -> Result<Vec<N>, Al
 /// The fewest networks with the addresses of these, ascending, each without host bits; takes time n log n.
 ///
 /// # Errors
-/// `AllocError` where memory is refused.
+/// `AllocError` if an allocation fails.
 pub fn aggregated<N: OfFamily>(alloc: Global, networks: &Vec<N>) -> Result<Vec<N>, AllocError>
     ensures { IfOk result (λ v. AreAggregated N.family (map N.parts networks.now.items) (map N.parts v.items)) }
 {

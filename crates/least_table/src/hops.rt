@@ -7,7 +7,7 @@ ghost use Rattle.least_table.specs.InnerRising.{is_less, IsRising, AreCommon, Ar
 use std::alloc::{AllocError, Global};
 use std::slice;
 
-/// A set of hops. One or two hops take no memory but their own.
+/// A set of hops. One or two hops do not allocate but their own.
 #[derive(Drop)]
 pub(crate) enum Hops {
     /// The set of one hop.
@@ -53,7 +53,7 @@ pub(crate) fn is_same(a: Option<u32>, b: Option<u32>) -> bool
     }
 }
 
-/// The first of the hops; none where there is none.
+/// The first of the hops; none if there is none.
 pub(crate) fn first(hops: &[Option<u32>]) -> Option<u32>
     ensures { result ≡ first_of hops.now }
 {
@@ -63,7 +63,7 @@ pub(crate) fn first(hops: &[Option<u32>]) -> Option<u32>
     }
 }
 
-/// The second of the hops; none where there are fewer.
+/// The second of the hops; none if there are fewer.
 pub(crate) fn second(hops: &[Option<u32>]) -> Option<u32>
     ensures { result ≡ second_of hops.now }
 {

@@ -9,7 +9,8 @@ use std::marker::Model;
 /// How many words a block has at least room for; a set begins at one of the first so many.
 const SIZE: usize = 512;
 
-/// Sets of hops one after the other in blocks, each behind the number of its hops. No set is copied as their number grows. A set has a number of 32 bits: its block's, and its place there.
+/// Sets of hops one after the other in blocks, each behind the number of its hops. No set is copied as their number grows. A set has a
+/// number of 32 bits: its block's, and its place there.
 ///
 /// Contracts see the list of the blocks.
 #[derive(Drop)]

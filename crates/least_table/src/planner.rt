@@ -47,7 +47,7 @@ pub struct Planner<P: Copy> {
 }
 
 impl<P: Prefix + Copy> Planner<P> {
-    /// No pieces. It takes no memory.
+    /// No pieces. Does not allocate.
     pub fn new(alloc: Global) -> Planner<P>
         ensures { HasPlanned P.R.width result [] }
     {

@@ -30,7 +30,7 @@ impl<P> Model for Routes<P> {
 }
 
 impl<P: Copy> Routes<P> {
-    /// No routes. It takes no memory.
+    /// No routes. Does not allocate.
     pub(crate) fn new(alloc: Global) -> Routes<P>
         ensures { result ≡ [] }
     {

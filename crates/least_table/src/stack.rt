@@ -31,7 +31,7 @@ impl<X, const SIZE: usize> Model for Stack<X, SIZE> {
 }
 
 impl<X, const SIZE: usize> Stack<X, SIZE> {
-    /// No items. It takes no memory.
+    /// No items. Does not allocate.
     pub fn new(alloc: Global) -> Stack<X, SIZE>
         requires { IsSize SIZE }
         ensures { result ≡ [] }
@@ -49,7 +49,7 @@ impl<X, const SIZE: usize> Stack<X, SIZE> {
         self.full.len() * SIZE + self.last.len()
     }
 
-    /// The item at a place. It takes no memory.
+    /// The item at a place. Does not allocate.
     pub fn get(&self, at: usize) -> &X
         requires { at < length self.now }
         ensures { result.now ≡ slice_index_or self.now at result.now }
@@ -63,7 +63,7 @@ impl<X, const SIZE: usize> Stack<X, SIZE> {
         }
     }
 
-    /// The last item, where there is one. It takes no memory.
+    /// The last item, where there is one. Does not allocate.
     pub fn last(&self) -> Option<&X>
         ensures { MatchOption result (self.now ≡ []) (λ x. (xs : List X) × (self.now ≡ xs ++ x.now ∷ [])) }
     {

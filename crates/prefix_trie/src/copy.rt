@@ -16,7 +16,7 @@ impl<P: Prefix, T: Clone> PrefixMap<P, T> {
     /// An equal map with as many nodes, its values clones of these, which have to equal them.
     ///
     /// # Errors
-    /// `Memory` where there is none for all of it, or a value's clone has none. Nothing is left of it then.
+    /// `Memory` if there is none for all of it, or a value's clone has none. Nothing is left of it then.
     pub fn try_clone(&self, alloc: Global) -> Result<PrefixMap<P, T>, Refused>
         requires { (x y : T) → T.is_clone x y → y ≡ x }
         ensures same { IfOk result (λ m. m ≡ self.now) }
@@ -39,7 +39,7 @@ impl<P: Prefix + Drop, T: Drop> PrefixMap<P, T> {
     /// is tidy.
     ///
     /// # Errors
-    /// `Memory` where there is none for an entry, as of `insert`. Then there is no map.
+    /// `Memory` if there is none for an entry, as of `insert`. Then there is no map.
     pub fn try_from_iter<U: IntoIterator<Item = (P, T)>>(
         alloc: Global,
         items: U,

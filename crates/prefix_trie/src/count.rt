@@ -33,7 +33,7 @@ fn without(left: u128, free: u8) -> Option<u128>
 
 impl<P: Prefix + Drop, T> PrefixMap<P, T> {
     /// How many addresses the keys cover, each counted once: an address is a prefix of as many bits as there are.
-    /// `None` where all are covered, since that number is too great by one. It takes no memory.
+    /// `None` if all are covered, since that number is too great by one. Does not allocate.
     pub fn address_count(&self) -> Option<P::R>
         ensures { MatchOption result (covered_count P.R.width self.now.entries ≡ 2 ^ P.R.width) (λ n. (P.R.number n ≡ covered_count P.R.width self.now.entries) × (covered_count P.R.width self.now.entries < 2 ^ P.R.width)) }
     {

@@ -1,4 +1,4 @@
-//! The entries whose keys contain a prefix. They take no memory.
+//! The entries whose keys contain a prefix. They do not allocate.
 ghost use Rattle.std.specs.Prelude.{◌≡◌, map, IsTrue};
 ghost use Rattle.std.specs.FinMap.{entries};
 ghost use Rattle.std.specs.FinMap.Entries.{where_key};

@@ -46,7 +46,7 @@ pub enum Entry<'a, P: Prefix, T> {
 impl<P: Prefix, T> PrefixMap<P, T> {
     ghost use Rattle.prefix_trie.specs.Entry.{entry_map_ref, entry_map, entry_key, MatchEntry};
 
-    /// The entry of a prefix, to read, store or change in place. It only looks, and takes no memory.
+    /// The entry of a prefix, to read, store or change in place. It only looks, and does not allocate.
     pub fn entry(&mut self, prefix: P) -> Entry<'_, P, T>
     where
         P: Drop,
@@ -98,7 +98,7 @@ impl<'a, P: Prefix, T> OccupiedEntry<'a, P, T> {
         self.map.value_mut(&path)
     }
 
-    /// Stores the value, and answers the one that stood there. It takes no memory and is never refused.
+    /// Stores the value, and answers the one that stood there. Does not allocate and is never refused.
     pub fn insert(&mut self, value: T) -> T
         ensures old { entry_value (Occupied self.old) ≡ Some result }
         ensures written { IsWritten (Occupied self.old) value (Occupied self.new) }
@@ -118,7 +118,7 @@ impl<'a, P: Prefix, T> OccupiedEntry<'a, P, T> {
         lender.value_mut(&path)
     }
 
-    /// Takes the entry out, and answers its value. Every node stays. It takes no memory.
+    /// Takes the entry out, and answers its value. Every node stays. Does not allocate.
     pub fn remove(self) -> T
     where
         P: Drop,
@@ -281,7 +281,7 @@ impl<'a, P: Prefix, T> Entry<'a, P, T> {
         }
     }
 
-    /// Stores the value, and answers the one that stood there. On a stored key it takes no memory and is never refused.
+    /// Stores the value, and answers the one that stood there. On a stored key it does not allocate and is never refused.
     /// The entry stays the one of its key.
     ///
     /// # Errors

@@ -1,4 +1,4 @@
-//! Walks that own the entries of a map. They take no memory, and drop with them what they have not given.
+//! Walks that own the entries of a map. They do not allocate, and drop with them what they have not given.
 ghost use Rattle.std.specs.Prelude.{◌≡◌, ◌≤◌, map, IsTrue};
 ghost use Rattle.std.specs.FinMap.{entries, keys, values};
 ghost use Rattle.std.specs.FinMap.Entries.{where_key};

@@ -1,4 +1,4 @@
-//! Walks along the entries of a map. They take no memory.
+//! Walks along the entries of a map. They do not allocate.
 ghost use Rattle.std.specs.Prelude.{◌≡◌, ◌≤◌, IsTrue};
 ghost use Rattle.std.specs.FinMap.{entries, keys, values};
 ghost use Rattle.std.specs.FinMap.Entries.{where_key};

@@ -1,4 +1,4 @@
-//! Iterators that lend the values of a map, one at a time. They take no memory.
+//! Iterators that lend the values of a map, one at a time. They do not allocate.
 ghost use Rattle.std.specs.Prelude.{◌≡◌, ◌≤◌, length, false, true, [], ◌&&◌, IfSome, Some, MatchOption, option_map, IsTrue};
 ghost use Rattle.std.specs.Borrow.{sem};
 ghost use Rattle.std.specs.Option.{IsSome, option_copied_mut};

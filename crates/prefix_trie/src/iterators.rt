@@ -1,4 +1,4 @@
-//! Iterators over the entries of a map from prefixes to values, in the order of a walk. They take no memory.
+//! Iterators over the entries of a map from prefixes to values, in the order of a walk. They do not allocate.
 //!
 //! A prefix comes before the longer ones inside it, and the bit 0 before 1. The keys that iterators give have zeros
 //! after the bits that count. What iterators that own their entries have not given is dropped with them.

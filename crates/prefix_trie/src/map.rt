@@ -28,7 +28,7 @@ use trie_core::{Node, Path};
 ///
 /// As in the Rust crate prefix-trie 0.10.1 a key is stored by its bits alone: the keys that are handed out have
 /// zeros after them. A map that has no node without use is tidy; every call but `remove_keep_tree` and
-/// `OccupiedEntry::remove` keeps it so. It is `Send` or `Sync` where its keys and values are.
+/// `OccupiedEntry::remove` keeps it so. It is `Send` or `Sync` if its keys and values are.
 #[derive(Drop)]
 pub struct PrefixMap<P: Prefix, T> {
     pub(crate) root: Node<T>,
@@ -51,7 +51,7 @@ impl<P: Prefix, T> Model for PrefixMap<P, T> {
 }
 
 impl<P: Prefix, T> PrefixMap<P, T> {
-    /// The empty map. It takes no memory.
+    /// The empty map. Does not allocate.
     ///
     /// # Errors
     /// None: the `Result` is for the maps that need memory at once.
@@ -261,11 +261,11 @@ impl<P: Prefix, T> PrefixMap<P, T> {
 }
 
 impl<P: Prefix + Drop, T: Drop> PrefixMap<P, T> {
-    /// Stores the value at the key, and answers the value that stood there. On a stored key it takes no memory and
+    /// Stores the value at the key, and answers the value that stood there. On a stored key it does not allocate and
     /// is never refused.
     ///
     /// # Errors
-    /// `Memory` where there is none for the key, or one more entry or node could not be counted. The map is as it
+    /// `Memory` if there is none for the key, or one more entry or node could not be counted. The map is as it
     /// was, and the value comes back.
     ///
     /// # Examples
@@ -326,7 +326,7 @@ impl<P: Prefix + Drop, T: Drop> PrefixMap<P, T> {
     }
 
     /// Takes the entry out and answers its value. Then the last node on the way to the key goes, and each above it,
-    /// while it has neither value nor child and is not the root; also where the key is not stored. It takes no memory.
+    /// while it has neither value nor child and is not the root; even if the key is not stored. Does not allocate.
     ///
     /// # Examples
     /// ```rust
@@ -349,7 +349,7 @@ impl<P: Prefix + Drop, T: Drop> PrefixMap<P, T> {
         value
     }
 
-    /// Takes the entry out and answers its value; every node stays. It takes no memory.
+    /// Takes the entry out and answers its value; every node stays. Does not allocate.
     pub fn remove_keep_tree(&mut self, prefix: &P) -> Option<T>
         requires { IsTrue (P.fits prefix.now) }
         ensures value { result ≡ map.get self.old.entries (P.bits prefix.now) }

@@ -76,7 +76,7 @@ impl<P: Prefix, T, W: BorrowedWalk<T>, S: Part<P, T, W>> Clone for Parts<P, T, W
 
     ghost is_infallible = { λ _. ⊤ };
 
-    /// A second iterator over what is left. It takes no memory.
+    /// A second iterator over what is left. Does not allocate.
     fn clone(&self) -> Result<Parts<P, T, W, S>, AllocError> {
         Ok(Parts {
             walk: self.walk.clone()?,

@@ -9,7 +9,7 @@ use crate::map::PrefixMap;
 use crate::prefix::{Prefix, path_of};
 
 impl<P: Prefix + Drop, T: Drop> PrefixMap<P, T> {
-    /// Takes out every entry, and leaves the root alone. It takes no memory.
+    /// Takes out every entry, and leaves the root alone. Does not allocate.
     pub fn clear(&mut self)
         ensures map { self.new.entries ≡ map.empty }
         ensures tidy { self.new.spares ≡ map.empty }
@@ -21,7 +21,7 @@ impl<P: Prefix + Drop, T: Drop> PrefixMap<P, T> {
 
     /// Takes out every entry whose key the prefix contains, which itself counts. Then the last node on the way to the
     /// prefix goes, and each above it, while it has neither value nor child and is not the root. A prefix of length 0
-    /// clears the map. It takes no memory.
+    /// clears the map. Does not allocate.
     pub fn remove_children(&mut self, prefix: &P)
         requires { IsTrue (P.fits prefix.now) }
         ensures map { self.new.entries ≡ outside self.old.entries (P.bits prefix.now) }

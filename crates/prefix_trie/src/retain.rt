@@ -10,7 +10,7 @@ use trie_core::Path;
 
 impl<P: Prefix + Drop, T: Drop> PrefixMap<P, T> {
     /// Asks `f` of each entry once, in the order of a walk, and keeps those of which it says `true`. `f` need take no
-    /// other entries. The map is tidy then, also where it was not before. It takes no memory.
+    /// other entries. The map is tidy then, even if it was not before. Does not allocate.
     pub fn retain<F: FnMut(&P, &T) -> bool>(&mut self, f: F)
         requires { CallableInTurn (AnswersAt F.FnMut P.fits P.bits P.of_bits) (TakesAt F.FnMut P.fits P.bits P.of_bits) f (entries self.old.entries) }
         ensures kept { IsFiltered (AnswersAt F.FnMut P.fits P.bits P.of_bits) f (entries self.old.entries) (entries self.new.entries) }

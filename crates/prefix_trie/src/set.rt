@@ -32,7 +32,7 @@ use std::marker::Model;
 ///
 /// It is the map from its members to nothing, and what is said of a map is said of it: the members that are handed
 /// out have zeros after the bits that count, and every call but `remove_keep_tree` keeps a tidy set tidy. It is `Send`
-/// or `Sync` where its members are.
+/// or `Sync` if its members are.
 #[derive(Drop)]
 pub struct PrefixSet<P: Prefix> {
     members: PrefixMap<P, ()>,
@@ -50,7 +50,7 @@ impl<P: Prefix> Model for PrefixSet<P> {
 }
 
 impl<P: Prefix> PrefixSet<P> {
-    /// The empty set. It takes no memory.
+    /// The empty set. Does not allocate.
     ///
     /// # Errors
     /// None, as of `PrefixMap::new`.
@@ -92,7 +92,7 @@ impl<P: Prefix> PrefixSet<P> {
         self.members.node_count()
     }
 
-    /// How many addresses the members cover, each counted once; `None` where all are covered. It takes no memory.
+    /// How many addresses the members cover, each counted once; `None` if all are covered. Does not allocate.
     pub fn address_count(&self) -> Option<P::R>
     where
         P: Drop,
@@ -104,7 +104,7 @@ impl<P: Prefix> PrefixSet<P> {
     /// An equal set with as many nodes.
     ///
     /// # Errors
-    /// `Memory` where there is none for all of it. Nothing is left of it then.
+    /// `Memory` if there is none for all of it. Nothing is left of it then.
     pub fn try_clone(&self, alloc: Global) -> Result<PrefixSet<P>, Refused>
         ensures same { IfOk result (λ s. s ≡ self.now) }
         ensures memory { IfErr result (λ e. e ≡ Memory) }
@@ -219,7 +219,7 @@ impl<P: Prefix + Drop> PrefixSet<P> {
     /// The set of these prefixes. It is tidy.
     ///
     /// # Errors
-    /// `Memory` where there is none for a prefix. Then there is no set.
+    /// `Memory` if there is none for a prefix. Then there is no set.
     pub fn try_from_iter<U: IntoIterator<Item = P>>(
         alloc: Global,
         items: U,
@@ -237,7 +237,7 @@ impl<P: Prefix + Drop> PrefixSet<P> {
         Ok(made)
     }
 
-    /// Takes the prefix in, and answers whether it is new. For a member it takes no memory and is never refused.
+    /// Takes the prefix in, and answers whether it is new. For a member it does not allocate and is never refused.
     ///
     /// # Errors
     /// `Memory` as `PrefixMap::insert`, and the set is as it was.
@@ -283,7 +283,7 @@ impl<P: Prefix + Drop> PrefixSet<P> {
         self.members.remove(prefix).is_some()
     }
 
-    /// Takes the prefix out, and answers whether it was a member; every node stays. It takes no memory.
+    /// Takes the prefix out, and answers whether it was a member; every node stays. Does not allocate.
     pub fn remove_keep_tree(&mut self, prefix: &P) -> bool
         requires { IsTrue (P.fits prefix.now) }
         ensures member { result ≡ fin.contains_key self.old.entries (P.bits prefix.now) }
@@ -294,7 +294,7 @@ impl<P: Prefix + Drop> PrefixSet<P> {
         self.members.remove_keep_tree(prefix).is_some()
     }
 
-    /// Takes out every member. It takes no memory.
+    /// Takes out every member. Does not allocate.
     pub fn clear(&mut self)
         ensures set { self.new.entries ≡ fin.empty }
         ensures tidy { self.new.spares ≡ fin.empty }
@@ -303,7 +303,7 @@ impl<P: Prefix + Drop> PrefixSet<P> {
     }
 
     /// Takes out every member that the prefix contains, which itself counts. Nodes go as by
-    /// `PrefixMap::remove_children`. It takes no memory.
+    /// `PrefixMap::remove_children`. Does not allocate.
     pub fn remove_children(&mut self, prefix: &P)
         requires { IsTrue (P.fits prefix.now) }
         ensures set { self.new.entries ≡ outside self.old.entries (P.bits prefix.now) }
@@ -316,7 +316,7 @@ impl<P: Prefix + Drop> PrefixSet<P> {
     }
 
     /// Asks `f` of each member once, in the order of a walk, and keeps those of which it says `true`. `f` need take no
-    /// others. The set is tidy then, also where it was not before. It takes no memory.
+    /// others. The set is tidy then, even if it was not before. Does not allocate.
     pub fn retain<F: FnMut(&P) -> bool>(&mut self, f: F)
         requires { CallableInTurn (AnswersAtMember F.FnMut P.fits P.bits P.of_bits) (TakesMember F.FnMut P.fits P.bits P.of_bits) f (fin.keys self.old.entries) }
         ensures kept { IsFiltered (AnswersAtMember F.FnMut P.fits P.bits P.of_bits) f (fin.keys self.old.entries) (fin.keys self.new.entries) }

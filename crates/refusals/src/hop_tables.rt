@@ -8,7 +8,7 @@ use ipnet::IpNet;
 use route_table::{Hop, HopTable, Refused};
 use std::alloc::Global;
 
-/// The calls of such tables, and those that take no memory.
+/// The calls of such tables, and those that do not allocate.
 #[derive(Clone, Copy)]
 pub enum HopTableCall {
     Install,

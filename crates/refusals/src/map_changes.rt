@@ -1,4 +1,4 @@
-//! Changes of maps of networks that take no memory.
+//! Changes of maps of networks that do not allocate.
 use crate::fault::Fault;
 use crate::maps::Map;
 use crate::nets::network;

@@ -1,4 +1,4 @@
-//! Look-ups and walks of maps of networks, which take no memory.
+//! Look-ups and walks of maps of networks, which do not allocate.
 use crate::fault::Fault;
 use crate::maps::Map;
 use crate::nets::network;

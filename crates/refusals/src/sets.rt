@@ -131,7 +131,7 @@ fn map_from_iter(rt: &HostRuntime) -> Result<(), Fault> {
     Ok(())
 }
 
-/// The calls that take no memory.
+/// The calls that do not allocate.
 fn free(rt: &HostRuntime, set: &mut Set, call: SetCall) -> Result<(), Fault> {
     let (member, outer) = (network("10.1.2.4/30")?, network("10.0.0.0/9")?);
     let other = network("192.168.0.0/24")?;

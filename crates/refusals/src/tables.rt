@@ -100,7 +100,7 @@ fn list(rt: &HostRuntime, table: &RouteTable, call: TableCall) {
     }
 }
 
-/// The calls that take no memory.
+/// The calls that do not allocate.
 fn free(rt: &HostRuntime, table: &mut RouteTable, call: TableCall) -> Result<(), Fault> {
     let net = network("10.1.2.4/30")?;
     begin(rt);

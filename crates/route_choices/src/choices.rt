@@ -79,7 +79,7 @@ impl Choices<8> {
     /// Stores the hop with the preference, in the place of any of the same hop.
     ///
     /// # Errors
-    /// `TooMany` exactly where eight other hops are stored. Then nothing changed.
+    /// `TooMany` exactly if eight other hops are stored. Then nothing changed.
     pub fn add(&mut self, hop: Hop, pref: u16) -> Result<(), TooMany>
         ensures choices { OnOk result (self.new ≡ choices_with self.old (record { hop = hop; pref = pref })) }
         ensures room { OnOk result (is_one_too_many self.old hop ≡ false) }
@@ -157,7 +157,7 @@ impl<const CAPACITY: usize> Choices<CAPACITY> {
     }
 }
 
-/// Hops with their preferences, best first. It takes no memory.
+/// Hops with their preferences, best first. Does not allocate.
 #[derive(Drop)]
 pub struct All<'a> {
     left: &'a [Slot],

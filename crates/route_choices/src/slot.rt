@@ -12,7 +12,7 @@ pub const DEFAULT_PREFERENCE: u16 = 100;
 
 /// A place for a hop with its preference. It has the eight bytes of a number, a preference and two flags.
 ///
-/// Contracts see the choice, or none where the place is free.
+/// Contracts see the choice, or none if the place is free.
 #[derive(Drop)]
 pub(crate) struct Slot {
     number: u32,

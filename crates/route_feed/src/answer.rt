@@ -24,7 +24,7 @@ use std::io::Write;
 /// A line over 80 bytes is answered `bad`.
 ///
 /// # Errors
-/// `Write` alone: at an error of `write` or `flush`, or where `write` takes nothing. Then a beginning of the reply was
+/// `Write` alone: at an error of `write` or `flush`, or if `write` takes nothing. Then a beginning of the reply was
 /// written, and the table is the one after the line.
 pub fn lead_line<W: Write>(
     table: &mut RouteTable,
@@ -40,7 +40,7 @@ pub fn lead_line<W: Write>(
 /// Answers the line of these bytes; without them, one that is too long.
 ///
 /// # Errors
-/// `Write` alone: at an error of `write` or `flush`, or where `write` takes nothing. Then a beginning of the reply was written.
+/// `Write` alone: at an error of `write` or `flush`, or if `write` takes nothing. Then a beginning of the reply was written.
 pub fn answer<W: Write>(
     table: &mut RouteTable,
     text: Option<&[u8]>,
@@ -61,7 +61,7 @@ pub fn answer<W: Write>(
 /// Answers what stands after the last line end.
 ///
 /// # Errors
-/// `Write` alone: at an error of `write` or `flush`, or where `write` takes nothing. Then a beginning of the reply was written.
+/// `Write` alone: at an error of `write` or `flush`, or if `write` takes nothing. Then a beginning of the reply was written.
 pub fn answer_rest<W: Write>(rest: Rest, writer: &mut Counted<W>) -> Result<(), RunError>
     requires { CanCount writer.old }
     ensures closes { Closes W.contents (replies_to_rest rest) writer.old writer.new result (reply_to_rest rest) }

@@ -143,7 +143,7 @@ impl Follower {
         Some(self.pieces())
     }
 
-    /// The hop of an address, none where it has none. It takes no memory.
+    /// The hop of an address, none if it has none. Does not allocate.
     ///
     /// After a want of memory at `ok` only some of the changes of that reply may have been carried out; so who asks then looks at
     /// `failed` first.
@@ -158,7 +158,7 @@ impl Follower {
     /// networks without host bits. None after a fault. Which of several such tables is open.
     ///
     /// # Errors
-    /// `Memory` where there is none for the list, or on the way to it. The next call may have some: the follower has not failed.
+    /// `Memory` if there is none for the list, or on the way to it. The next call may have some: the follower has not failed.
     pub fn least(&self) -> Result<Option<Vec<(IpNet, Hop)>>, RunError>
         ensures works { IfOk result (λ found. IfNone found (self.now.failed ≡ true)) }
         ensures failed { self.now.failed ≡ true → result ≡ Ok None }
@@ -191,8 +191,8 @@ impl Follower {
     /// Takes a line, without its line end.
     ///
     /// # Errors
-    /// `Failed` exactly after a fault; then nothing changes. `NotALine` exactly where the text spells no reply line.
-    /// `Memory` where a change can't be kept or carried out: at a line that tells a change, and at `ok` where some wait.
+    /// `Failed` exactly after a fault; then nothing changes. `NotALine` exactly if the text spells no reply line.
+    /// `Memory` if a change can't be kept or carried out: at a line that tells a change, and at `ok` where some wait.
     /// Each is a fault.
     pub fn line(&mut self, text: &[u8]) -> Result<(), FollowError>
         ensures ok { OnOk result ((line : Reply) × (reply_of text.now ≡ Some line) × TakesLine self.old self.new line) }

@@ -24,7 +24,7 @@ pub fn followed()
     ensures table { ToldIsTable }
 {}
 
-/// Two tables print the same bytes for `flat` exactly where each address has the same hop in both.
+/// Two tables print the same bytes for `flat` exactly if each address has the same hop in both.
 #[tactic(auto, using(crate::proofs::SameBytes::same_bytes))]
 pub fn same_flat_bytes()
     ensures { SameFlatBytes }

@@ -34,8 +34,8 @@ use std::io::{Read, Write};
 ///
 /// # Errors
 /// `Memory` before anything is read or written; `Read` at an error of `read`, after the replies to the
-/// whole lines before it, or where 2^62 calls of `read` didn't reach the end; `Write` at an error of
-/// `write` or `flush`, or where `write` takes nothing: then a beginning of the output was written, and
+/// whole lines before it, or if 2^62 calls of `read` didn't reach the end; `Write` at an error of
+/// `write` or `flush`, or if `write` takes nothing: then a beginning of the output was written, and
 /// each reply before the last one in it was flushed. Never `Line`.
 pub fn lead<R: Read, W: Write>(
     alloc: Global,
@@ -98,9 +98,9 @@ fn follow_all<R: Read, W: Write>(
 /// its bytes.
 ///
 /// # Errors
-/// At each but `Write` nothing is written. `Line` where a line is no reply line; `Memory` before anything is read, or at
-/// a reply line that tells a change, or commits one; `Read` at an error of `read`, or where 2^62 calls of `read` didn't
-/// reach the end; `Write`, once all is read, at an error of `write` or `flush`, or where `write` takes nothing: then a
+/// At each but `Write` nothing is written. `Line` if a line is no reply line; `Memory` before anything is read, or at
+/// a reply line that tells a change, or commits one; `Read` at an error of `read`, or if 2^62 calls of `read` didn't
+/// reach the end; `Write`, once all is read, at an error of `write` or `flush`, or if `write` takes nothing: then a
 /// beginning of the flat list was written.
 pub fn follow<R: Read, W: Write>(
     alloc: Global,
@@ -144,9 +144,9 @@ pub fn follow_then<R: Read, W: Write>(
 /// reader or a writer that doesn't tell its bytes, as a file, is used alike, and nothing is claimed of its bytes.
 ///
 /// # Errors
-/// At each but `Write` nothing is written. `Line` where a line is no reply line; `Memory` before anything is read, at a reply
-/// line that tells a change, or commits one, or once all is read; `Read` at an error of `read`, or where 2^62 calls of `read`
-/// didn't reach the end; `Write`, once all is read, at an error of `write` or `flush`, or where `write` takes nothing: then a
+/// At each but `Write` nothing is written. `Line` if a line is no reply line; `Memory` before anything is read, at a reply
+/// line that tells a change, or commits one, or once all is read; `Read` at an error of `read`, or if 2^62 calls of `read`
+/// didn't reach the end; `Write`, once all is read, at an error of `write` or `flush`, or if `write` takes nothing: then a
 /// beginning of the lines was written.
 pub fn shorten<R: Read, W: Write>(
     alloc: Global,
@@ -178,10 +178,10 @@ pub fn shorten<R: Read, W: Write>(
 ///
 /// # Errors
 /// At each a beginning of the output was written: all of what the lines before the fault give, flushed; at `Memory` and `Write`
-/// perhaps a beginning of the batch of the next line, not flushed. `Line` where a line is none of those lines, or is a `have` line
+/// perhaps a beginning of the batch of the next line, not flushed. `Line` if a line is none of those lines, or is a `have` line
 /// after a `sync`; `Memory` before anything is read, or at a `have` or `sync` line, or at a reply line that tells a change, or commits
-/// one; `Read` at an error of `read`, or where 2^62 calls of `read` didn't reach the end; `Write` at an error of `write` or `flush`,
-/// or where `write` takes nothing.
+/// one; `Read` at an error of `read`, or if 2^62 calls of `read` didn't reach the end; `Write` at an error of `write` or `flush`,
+/// or if `write` takes nothing.
 pub fn install<R: Read, W: Write>(
     alloc: Global,
     reader: &mut Counted<R>,

@@ -47,7 +47,7 @@ fn flush<W: Write>(writer: &mut Counted<W>) -> Result<(), RunError>
 /// Writes the line that closes a reply, and flushes.
 ///
 /// # Errors
-/// `Write` alone: at an error of `write` or `flush`, or where `write` takes nothing. Then a beginning of the line was written.
+/// `Write` alone: at an error of `write` or `flush`, or if `write` takes nothing. Then a beginning of the line was written.
 pub fn close<W: Write>(writer: &mut Counted<W>, closing: Closing) -> Result<(), RunError>
     requires { CanCount writer.old }
     ensures { Closes W.contents 1 writer.old writer.new result (reply_line (Reply.Close closing)) }
@@ -59,7 +59,7 @@ pub fn close<W: Write>(writer: &mut Counted<W>, closing: Closing) -> Result<(), 
 /// Writes a reply: its lines, and `ok`, and flushes.
 ///
 /// # Errors
-/// `Write` alone: at an error of `write` or `flush`, or where `write` takes nothing. Then a beginning of the reply was written.
+/// `Write` alone: at an error of `write` or `flush`, or if `write` takes nothing. Then a beginning of the reply was written.
 pub fn reply<W: Write, B: Body>(writer: &mut Counted<W>, mut body: B) -> Result<(), RunError>
     requires counts { CanCount writer.old }
     requires body { B.can_give body }
@@ -76,7 +76,7 @@ pub fn reply<W: Write, B: Body>(writer: &mut Counted<W>, mut body: B) -> Result<
 /// Writes the lines that add the routes, and flushes.
 ///
 /// # Errors
-/// `Write` alone: at an error of `write` or `flush`, or where `write` takes nothing. Then a beginning of the lines was written.
+/// `Write` alone: at an error of `write` or `flush`, or if `write` takes nothing. Then a beginning of the lines was written.
 pub fn write_routes<W: Write>(writer: &mut Counted<W>, routes: LeastRoutes) -> Result<(), RunError>
     requires counts { CanCount writer.old }
     requires networks { AreTruncated routes }
@@ -98,7 +98,7 @@ pub fn write_routes<W: Write>(writer: &mut Counted<W>, routes: LeastRoutes) -> R
 /// Writes a line for each operation.
 ///
 /// # Errors
-/// `Write` alone: at an error of `write`, or where it takes nothing. Then a beginning of the lines was written.
+/// `Write` alone: at an error of `write`, or if it takes nothing. Then a beginning of the lines was written.
 pub fn write_operations<W: Write, O: Operations>(
     writer: &mut Counted<W>,
     mut operations: O,

@@ -37,10 +37,10 @@ pub enum Command {
 
 impl Command {
     /// The command that the text of a line spells, without its line end: words in lower case with exactly one space
-    /// between each two, and nothing before or after them; decimal numbers without leading zeros. Takes no memory.
+    /// between each two, and nothing before or after them; decimal numbers without leading zeros. Does not allocate.
     ///
     /// # Errors
-    /// `NotALine` exactly where it spells none.
+    /// `NotALine` exactly if it spells none.
     pub fn read(line: &[u8]) -> Result<Command, NotALine>
         ensures { Parses IsCommand line.now result }
     {

@@ -16,7 +16,7 @@ pub enum Line {
 }
 
 impl Line {
-    /// Its bytes; none where it is too long.
+    /// Its bytes; none if it is too long.
     pub fn text(&self) -> Option<&[u8]>
         ensures { as_line result ≡ self.now }
     {
@@ -74,7 +74,7 @@ impl LineCutter {
         }
     }
 
-    /// Takes the next byte, and answers the line that it ends, if it ends one. Takes no memory.
+    /// Takes the next byte, and answers the line that it ends, if it ends one. Does not allocate.
     pub fn feed(&mut self, byte: u8) -> Option<Line>
         ensures line { result ≡ fed_answer self.old byte }
         ensures kept { self.new ≡ fed self.old byte }

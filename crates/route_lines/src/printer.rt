@@ -18,7 +18,7 @@ use route_table::{DEFAULT_PREFERENCE, Hop};
 
 impl Command {
     /// The one text of the command, with its line end, in which a preference of 100 is left out; it reads as this command.
-    /// Its network, if it has one, must have no host bits, and its limit must be 1 to 1000. Takes no memory.
+    /// Its network, if it has one, must have no host bits, and its limit must be 1 to 1000. Does not allocate.
     pub fn print(&self) -> ArrayVec<u8, 80>
         requires { IsPrintableCommand self.now }
         ensures { IsPrinted IsCommand command_text 65 self.now result.items }
@@ -66,7 +66,7 @@ impl Command {
 
 impl Reply {
     /// The one text of the line, with its line end; it reads as this line. Its network, if it has one, must have no
-    /// host bits. Takes no memory.
+    /// host bits. Does not allocate.
     pub fn print(&self) -> ArrayVec<u8, 67>
         requires { IsPrintable self.now }
         ensures { IsPrinted IsReply reply_text 67 self.now result.items }
@@ -118,7 +118,7 @@ impl Reply {
 
 impl Update {
     /// The one text of the line, with its line end; it reads as this line. Its network, if it has one, must have no
-    /// host bits. Takes no memory.
+    /// host bits. Does not allocate.
     pub fn print(&self) -> ArrayVec<u8, 67>
         requires { IsPrintableUpdate self.now }
         ensures { IsPrinted IsUpdate update_text 63 self.now result.items }

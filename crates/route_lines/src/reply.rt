@@ -98,10 +98,10 @@ impl Closing {
 }
 
 impl Reply {
-    /// The reply line that the text spells, without its line end. Host bits of its network are cleared. Takes no memory.
+    /// The reply line that the text spells, without its line end. Host bits of its network are cleared. Does not allocate.
     ///
     /// # Errors
-    /// `NotALine` exactly where it spells none.
+    /// `NotALine` exactly if it spells none.
     pub fn read(line: &[u8]) -> Result<Reply, NotALine>
         ensures { Parses IsReply line.now result }
     {

@@ -20,10 +20,10 @@ pub enum Update {
 }
 
 impl Update {
-    /// The line that the text spells, without its line end. Host bits of its network are cleared. Takes no memory.
+    /// The line that the text spells, without its line end. Host bits of its network are cleared. Does not allocate.
     ///
     /// # Errors
-    /// `NotALine` exactly where it spells none.
+    /// `NotALine` exactly if it spells none.
     pub fn read(line: &[u8]) -> Result<Update, NotALine>
         ensures { Parses IsUpdate line.now result }
     {

@@ -110,7 +110,7 @@ impl<'a> Removes<'a> {
     }
 }
 
-/// The operations between two tables that are left. It takes no memory.
+/// The operations between two tables that are left. Does not allocate.
 #[derive(Drop)]
 pub struct Between<'a> {
     installs: Installs<'a>,
@@ -149,7 +149,7 @@ impl HopTable {
     /// The operations that make the table of the list of this one: first the routes of the list that this one doesn't
     /// have are installed, the last of them first, then the networks that the list doesn't have are removed, ascending.
     /// No others are fewer, and on the way each address turns at most once, from its hop here to its hop there
-    /// (`laws::between`). It takes no memory.
+    /// (`laws::between`). Does not allocate.
     ///
     /// The list is ascending, its networks are without host bits, and none stands in it twice, as `least` gives it.
     ///

@@ -77,7 +77,7 @@ impl<'a> BothRuns<'a> {
 }
 
 /// The blocks of one hop that lie in no larger one, as networks without host bits, each with the number of its hop,
-/// ascending. It takes no memory.
+/// ascending. Does not allocate.
 #[derive(Drop)]
 pub struct Flat<'a> {
     pub(crate) pieces: Pieces,
@@ -131,7 +131,7 @@ impl<'a> Iterator for Flat<'a> {
 impl RouteTable {
     /// The maximal blocks of the addresses of each hop number, each with that number, ascending, IPv4 before IPv6. No
     /// list of blocks of one hop that covers all addresses with a hop is shorter, and in each family there are at most
-    /// one and the sum of the lengths of the stored networks. It takes no memory.
+    /// one and the sum of the lengths of the stored networks. Does not allocate.
     ///
     /// # Examples
     /// Where 10.0.0.0/8 has the hop 1, and `half`, 10.0.0.0/9, the hop 2:

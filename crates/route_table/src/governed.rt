@@ -162,7 +162,7 @@ impl<'a> Gaps<'a> {
     }
 }
 
-/// The maximal blocks of what a network governs, ascending, as networks without host bits. It takes no memory.
+/// The maximal blocks of what a network governs, ascending, as networks without host bits. Does not allocate.
 #[derive(Drop)]
 pub struct Governed<'a> {
     gaps: Gaps<'a>,

@@ -38,7 +38,7 @@ impl HopTable {
     /// The table of these routes, an ascending list with each network once, as `least` gives it.
     ///
     /// # Errors
-    /// `Memory` where there is none for the table.
+    /// `Memory` if there is none for the table.
     pub fn from_routes(alloc: Global, list: &[(IpNet, Hop)]) -> Result<HopTable, Refused>
         requires { IsTable (routes_for list.now) }
         ensures routes { IfOk result (λ t. routes_of t ≡ routes_for list.now) }
@@ -56,7 +56,7 @@ impl HopTable {
     /// network stay.
     ///
     /// # Errors
-    /// `Memory` where there is none for a network that is not stored. The table is as it was. A stored network is
+    /// `Memory` if there is none for a network that is not stored. The table is as it was. A stored network is
     /// never refused.
     pub fn install(&mut self, net: IpNet, hop: Hop) -> Result<(), Refused>
         ensures routes { OnOk result (routes_of self.new ≡ with_route (routes_of self.old) (route_of net hop default_preference)) }
@@ -80,7 +80,7 @@ impl HopTable {
         }
     }
 
-    /// The flat list of its hops, as `RouteTable::flat` gives it. It takes no memory.
+    /// The flat list of its hops, as `RouteTable::flat` gives it. Does not allocate.
     pub fn flat(&self) -> Flat<'_>
         ensures { IsFlatOf (routes_of self.now) result }
     {

@@ -145,7 +145,7 @@ impl RouteTable {
     /// nested ones and `drop` included; ascending, as networks without host bits. Which of several such tables is open.
     ///
     /// # Errors
-    /// `Memory` where there is none for the list, or on the way to it.
+    /// `Memory` if there is none for the list, or on the way to it.
     ///
     /// # Examples
     /// Where `quarter`, 10.0.0.0/10, has the hop 2, and the rest of `whole`, 10.0.0.0/8, the hop 1, by two routes:
@@ -169,7 +169,7 @@ impl HopTable {
     /// as `RouteTable::least` gives them.
     ///
     /// # Errors
-    /// `Memory` where there is none for the list, or on the way to it.
+    /// `Memory` if there is none for the list, or on the way to it.
     pub fn least(&self) -> Result<Vec<(IpNet, Hop)>, Refused>
         ensures least { IfOk result (λ routes. IsLeast (hop_at (routes_of self.now)) (routes_for routes.items)) }
         ensures truncated { IfOk result (λ routes. All (λ r. IsTruncated (family r.0) (parts r.0)) routes.items) }
@@ -183,7 +183,7 @@ impl HopTable {
     /// as `least` gives them. The table's own memory is given back on the way.
     ///
     /// # Errors
-    /// `Memory` where there is none for the routes, or on the way to them.
+    /// `Memory` if there is none for the routes, or on the way to them.
     pub fn into_least(self) -> Result<LeastRoutes, Refused>
         ensures least { IfOk result (λ routes. IsLeast (hop_at (routes_of self)) (routes_for routes)) }
         ensures truncated { IfOk result (λ routes. All (λ r. IsTruncated (family r.0) (parts r.0)) routes) }

@@ -33,7 +33,7 @@ impl<const CAPACITY: usize> Table<CAPACITY> {
     /// preference 100: all addresses of the network have the new hop then, and all others the hop that they had.
     ///
     /// # Errors
-    /// `Memory` where there is none for a network that is not stored. The table is as it was. A stored network is
+    /// `Memory` if there is none for a network that is not stored. The table is as it was. A stored network is
     /// never refused.
     pub fn overwrite(&mut self, net: IpNet, hop: Hop) -> Result<(), Refused>
         ensures networks { OnOk result (self.new ≡ overwritten_by self.old (block net) (record { hop = hop; pref = default_preference })) }

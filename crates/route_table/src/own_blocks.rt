@@ -33,7 +33,7 @@ impl RouteTable {
     /// `flat` makes them: from what the networks with this hop govern.
     ///
     /// # Errors
-    /// `Memory` where there is none for the list.
+    /// `Memory` if there is none for the list.
     pub fn own(&self, number: u32) -> Result<Vec<IpNet>, Refused>
         ensures maximal { IfOk result (λ v. IsMaximal (λ x. hop_at (routes_of self.now) x ≡ Some number) (map block v.items)) }
         ensures shortest { IfOk result (λ v. IsShortest (λ x. hop_at (routes_of self.now) x ≡ Some number) (map block v.items)) }

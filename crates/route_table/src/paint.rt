@@ -19,10 +19,10 @@ use route_choices::Hop;
 
 impl HopTable {
     /// Gives all addresses of the network this hop, and leaves all others the hop that they have, as `overwrite` does; but
-    /// stores no route where the routes outside give the addresses this hop already. Then it takes no memory.
+    /// stores no route where the routes outside give the addresses this hop already. Then it does not allocate.
     ///
     /// # Errors
-    /// `Memory` where there is none for a network that is not stored. The table is as it was. A stored network is
+    /// `Memory` if there is none for a network that is not stored. The table is as it was. A stored network is
     /// never refused.
     pub fn paint(&mut self, net: IpNet, hop: Hop) -> Result<(), Refused>
         ensures routes { OnOk result (routes_of self.new ≡ painted (routes_of self.old) (route_of net hop default_preference)) }

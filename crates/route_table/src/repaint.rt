@@ -54,7 +54,7 @@ impl<'a> Inside<'a> {
     }
 }
 
-/// The operations of a change that are left. It takes no memory.
+/// The operations of a change that are left. Does not allocate.
 #[derive(Drop)]
 pub struct Repaint<'a> {
     install: Option<(IpNet, Hop)>,

@@ -17,7 +17,7 @@ pub(crate) enum Source<'a> {
 }
 
 /// The routes that are left, ascending: the network of each, without host bits, its best hop, and the preference
-/// of that one. It takes no memory.
+/// of that one. Does not allocate.
 #[derive(Drop)]
 pub struct Routes<'a> {
     source: Source<'a>,

@@ -75,7 +75,7 @@ impl<P: OfFamily, const CAPACITY: usize> Side<P, CAPACITY> {
     /// Stores one route at the network, in the place of all that it has. Answers whether no network lies strictly inside it.
     ///
     /// # Errors
-    /// `Memory` where there is none for a network that is not stored. The side is as it was.
+    /// `Memory` if there is none for a network that is not stored. The side is as it was.
     pub(crate) fn store(&mut self, net: P, hop: Hop, pref: u16) -> Result<bool, Refused>
         requires { IsBlock (block_of P.family (P.parts net)) }
         ensures hop { IsHop hop }
@@ -144,7 +144,7 @@ impl<P: OfFamily> Side<P, 8> {
     /// at the longest match before and after.
     ///
     /// # Errors
-    /// `TooMany` exactly where eight other hops are stored at the network. `Store` where there is no memory for a network
+    /// `TooMany` exactly if eight other hops are stored at the network. `Store` if there is no memory for a network
     /// that is not stored. The side is as it was.
     pub(crate) fn add(
         &mut self,

@@ -14,7 +14,7 @@ use prefix_trie::map::{Cover, IntoIter, Iter};
 use route_choices::{Choices, Hop};
 use std::marker::Model;
 
-/// The entries of one side's trie that are left of a walk, or of the way to a network; `Hops` and `Owned` where a
+/// The entries of one side's trie that are left of a walk, or of the way to a network; `Hops` and `Owned` if a
 /// network has room for one route. A walk that owns its entries is a large thing, which few tables are walked by.
 #[derive(Drop)]
 pub(crate) enum Entries<'a, P: Prefix> {

@@ -87,7 +87,7 @@ impl RouteTable {
     /// differ, and else none.
     ///
     /// # Errors
-    /// `TooMany` exactly where eight other hops are stored at the network. `Store` where there is no memory for a network
+    /// `TooMany` exactly if eight other hops are stored at the network. `Store` if there is no memory for a network
     /// that is not stored. The table is as it was. No route of a stored network takes memory.
     ///
     /// # Examples
@@ -118,7 +118,7 @@ impl RouteTable {
 
     /// Takes the route of this hop out of the network, where there is one, and the network with its last route. Answers
     /// the hop that the addresses which the network governs had, and the one that they have: the numbers at the longest
-    /// match of the network before and after. It takes no memory.
+    /// match of the network before and after. Does not allocate.
     ///
     /// # Examples
     /// Where 10.0.0.0/8 has the hop 1 and `half`, 10.0.0.0/9, the hop 2:
@@ -136,7 +136,7 @@ impl RouteTable {
         self.remove_choice(&cleared(net), hop)
     }
 
-    /// The routes of exactly this network, best first: each hop with its preference. It takes no memory.
+    /// The routes of exactly this network, best first: each hop with its preference. Does not allocate.
     pub fn all(&self, net: &IpNet) -> route_choices::All<'_>
         ensures { result ≡ choices_at self.now (block net.now) }
     {
@@ -157,7 +157,7 @@ impl RouteTable {
         (self.longest(&net), self.visits(&net))
     }
 
-    /// The best routes of the networks inside this one, itself included, ascending. It takes no memory.
+    /// The best routes of the networks inside this one, itself included, ascending. Does not allocate.
     ///
     /// # Examples
     /// Where `wide`, 10.0.0.0/8, has the hop 1 and `half`, 10.0.0.0/9, the hop 2, and `all` is 0.0.0.0/0:
@@ -176,7 +176,7 @@ impl RouteTable {
 
     /// The maximal blocks of the addresses that the network governs, ascending: its addresses that lie in no stored
     /// network strictly inside it. No list of blocks with these addresses is shorter. There are at most one, and for each
-    /// stored network strictly inside it, the difference of the two lengths less one. It takes no memory.
+    /// stored network strictly inside it, the difference of the two lengths less one. Does not allocate.
     pub fn governed(&self, net: &IpNet) -> Governed<'_>
         ensures maximal { IsMaximal (GovernedBy (routes_of self.now) (block net.now)) result }
         ensures shortest { IsShortest (GovernedBy (routes_of self.now) (block net.now)) result }
@@ -187,7 +187,7 @@ impl RouteTable {
     }
 
     /// Whether no stored network lies strictly inside this one, which may be stored or not: then the network itself is
-    /// the one maximal block of what it governs. It takes no memory.
+    /// the one maximal block of what it governs. Does not allocate.
     pub fn is_leaf(&self, net: &IpNet) -> bool
         ensures leaf { IsTrue result ↔ IsLeaf self.now (block net.now) }
         ensures governed { IsTrue result → IsMaximal (GovernedBy (routes_of self.now) (block net.now)) (block net.now ∷ []) }

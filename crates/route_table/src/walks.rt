@@ -14,14 +14,14 @@ use crate::table::{RouteTable, cleared};
 use ipnet::{IpNet, Ipv4Net, Ipv6Net};
 
 impl RouteTable {
-    /// How many networks are stored: of IPv4 and of IPv6. It takes no memory.
+    /// How many networks are stored: of IPv4 and of IPv6. Does not allocate.
     pub fn count(&self) -> (usize, usize)
         ensures { result ≡ (count_of Ipv4 (routes_of self.now), count_of Ipv6 (routes_of self.now)) }
     {
         (self.v4.count(), self.v6.count())
     }
 
-    /// The routes that contain the network, its own included, the shortest first. It takes no memory.
+    /// The routes that contain the network, its own included, the shortest first. Does not allocate.
     pub fn cover(&self, net: &IpNet) -> Routes<'_>
         ensures { result ≡ covering (routes_of self.now) (block net.now) }
     {
@@ -32,7 +32,7 @@ impl RouteTable {
     }
 
     /// The routes of the network's family from the network on, ascending: its own, those inside it and those after
-    /// it. The network needs no route. It takes no memory.
+    /// it. The network needs no route. Does not allocate.
     pub fn from(&self, net: &IpNet) -> Routes<'_>
         ensures { AreRoutes (routes_of self.now) (routes_from (routes_of self.now) (block net.now)) result }
     {
@@ -43,7 +43,7 @@ impl RouteTable {
     }
 
     /// The routes of the network's family that come after it, ascending; the longer ones inside it are among them.
-    /// The network needs no route. It takes no memory.
+    /// The network needs no route. Does not allocate.
     pub fn after(&self, net: &IpNet) -> Routes<'_>
         ensures { AreRoutes (routes_of self.now) (routes_after (routes_of self.now) (block net.now)) result }
     {

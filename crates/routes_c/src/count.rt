@@ -9,9 +9,9 @@ use crate::handle::Handle;
 use crate::session::Session;
 use std::alloc::Global;
 
-/// How many networks of each family are stored. It takes no memory.
+/// How many networks of each family are stored. Does not allocate.
 ///
-/// 0, and the two numbers; 3 where the handle is closed, and then they are as they were.
+/// 0, and the two numbers; 3 if the handle is closed, and then they are as they were.
 #[unsafe(no_mangle)]
 pub extern "C" fn routes_count(
     alloc: Global,

@@ -14,7 +14,7 @@ use std::alloc::Global;
 /// Takes a line of a leader's replies, given without its line end. A change waits for the line that closes its reply, and is carried
 /// out at `ok`.
 ///
-/// 0; 2 where there is no memory for a change; 3 where the handle is closed; 7 where the text is no reply line; 8 after a fault, where it
+/// 0; 2 if an allocation fails for a change; 3 if the handle is closed; 7 if the text is no reply line; 8 after a fault, where it
 /// takes no more lines. 2 and 7 are faults.
 #[unsafe(no_mangle)]
 pub extern "C" fn routes_follower_line(alloc: Global, follower: &mut Handle, line: &[u8]) -> u32
@@ -26,7 +26,7 @@ pub extern "C" fn routes_follower_line(alloc: Global, follower: &mut Handle, lin
 
 /// Makes the flat list of the hops. `routes_follower_piece_at` reads it.
 ///
-/// 0; 2 where there is no memory; 3 where the handle is closed; 8 after a fault. At 2 and 8 the list is as it was.
+/// 0; 2 if an allocation fails; 3 if the handle is closed; 8 after a fault. At 2 and 8 the list is as it was.
 #[unsafe(no_mangle)]
 pub extern "C" fn routes_follower_flat(alloc: Global, follower: &mut Handle) -> u32
     requires { IsHandle follower.old }
@@ -39,7 +39,7 @@ pub extern "C" fn routes_follower_flat(alloc: Global, follower: &mut Handle) -> 
 
 /// The piece at an index of the list that was made last.
 ///
-/// 0, and the piece; 1 past its end, where `piece` is as it was; 3 where the handle is closed.
+/// 0, and the piece; 1 past its end, where `piece` is as it was; 3 if the handle is closed.
 #[unsafe(no_mangle)]
 pub extern "C" fn routes_follower_piece_at(
     alloc: Global,
@@ -65,9 +65,9 @@ fn get(alloc: Global, follower: &mut Handle, addr: IpAddr, hop: &mut u32) -> u32
     })
 }
 
-/// The hop of an IPv4 address. It takes no memory.
+/// The hop of an IPv4 address. Does not allocate.
 ///
-/// 0, and the hop; 1 where the address has none; 3 where the handle is closed; 8 after a fault. At all but 0 `hop` is as it was.
+/// 0, and the hop; 1 if the address has none; 3 if the handle is closed; 8 after a fault. At all but 0 `hop` is as it was.
 #[unsafe(no_mangle)]
 pub extern "C" fn routes_follower_get4(
     alloc: Global,
@@ -81,9 +81,9 @@ pub extern "C" fn routes_follower_get4(
     get(alloc, follower, ip4(addr), hop)
 }
 
-/// The hop of an IPv6 address, as `routes_follower_get4` tells that of IPv4. It takes no memory.
+/// The hop of an IPv6 address, as `routes_follower_get4` tells that of IPv4. Does not allocate.
 ///
-/// 0, and the hop; 1 where the address has none; 3 where the handle is closed; 8 after a fault. At all but 0 `hop` is as it was.
+/// 0, and the hop; 1 if the address has none; 3 if the handle is closed; 8 after a fault. At all but 0 `hop` is as it was.
 #[unsafe(no_mangle)]
 pub extern "C" fn routes_follower_get6(
     alloc: Global,
@@ -101,7 +101,7 @@ pub extern "C" fn routes_follower_get6(
 /// Lists the routes of a table with the same hop at every address and the fewest routes of all tables that have it, ascending, with the
 /// preference 100. Which of several such tables is open. `routes_follower_route_at` and `routes_follower_read` read the list.
 ///
-/// 0; 2 where there is no memory; 3 where the handle is closed; 8 after a fault. At 2 and 8 the list is as it was.
+/// 0; 2 if an allocation fails; 3 if the handle is closed; 8 after a fault. At 2 and 8 the list is as it was.
 #[unsafe(no_mangle)]
 pub extern "C" fn routes_follower_least(alloc: Global, follower: &mut Handle) -> u32
     requires { IsHandle follower.old }
@@ -114,7 +114,7 @@ pub extern "C" fn routes_follower_least(alloc: Global, follower: &mut Handle) ->
 
 /// The route at an index of the list of routes that was made last.
 ///
-/// 0, and the route; 1 past its end, where `route` is as it was; 3 where the handle is closed.
+/// 0, and the route; 1 past its end, where `route` is as it was; 3 if the handle is closed.
 #[unsafe(no_mangle)]
 pub extern "C" fn routes_follower_route_at(
     alloc: Global,

@@ -41,7 +41,7 @@ impl Handle {
         self.is_open = true;
     }
 
-    /// Opens a closed handle: 0; 2 where there is no memory for a box, and then it stays closed.
+    /// Opens a closed handle: 0; 2 if an allocation fails for a box, and then it stays closed.
     pub(crate) fn open(&mut self, alloc: Global, content: Content) -> u32
         requires closed { IsClosed self.old }
         requires handle { IsHandle self.old }

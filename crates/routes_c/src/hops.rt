@@ -88,9 +88,9 @@ fn tell_hop<A, T: Hops<A>>(told: &T, addr: A, hop: &mut u64) -> u32
 }
 
 /// The hops of the longest matches of many IPv4 addresses, each as one number: 2^32 is `drop`, and 2^33 no match. As many are
-/// answered as there are addresses and room; what is left of `hops` stays. It takes no memory.
+/// answered as there are addresses and room; what is left of `hops` stays. Does not allocate.
 ///
-/// 0; 3 where the handle is closed, and then `hops` is as it was.
+/// 0; 3 if the handle is closed, and then `hops` is as it was.
 #[unsafe(no_mangle)]
 pub extern "C" fn routes_get4_many(
     alloc: Global,
@@ -106,9 +106,9 @@ pub extern "C" fn routes_get4_many(
     })
 }
 
-/// The hops of the longest matches of many IPv6 addresses, as `routes_get4_many` answers them. It takes no memory.
+/// The hops of the longest matches of many IPv6 addresses, as `routes_get4_many` answers them. Does not allocate.
 ///
-/// 0; 3 where the handle is closed, and then `hops` is as it was.
+/// 0; 3 if the handle is closed, and then `hops` is as it was.
 #[unsafe(no_mangle)]
 pub extern "C" fn routes_get6_many(
     alloc: Global,
@@ -124,9 +124,9 @@ pub extern "C" fn routes_get6_many(
     })
 }
 
-/// The hop of an IPv4 address; 2^32 where it has none. It takes no memory.
+/// The hop of an IPv4 address; 2^32 where it has none. Does not allocate.
 ///
-/// 0; 3 where the handle is closed, and then `hop` is as it was.
+/// 0; 3 if the handle is closed, and then `hop` is as it was.
 #[unsafe(no_mangle)]
 pub extern "C" fn routes_index_hop4(
     alloc: Global,
@@ -142,9 +142,9 @@ pub extern "C" fn routes_index_hop4(
     })
 }
 
-/// The hop of an IPv6 address; 2^32 where it has none. It takes no memory.
+/// The hop of an IPv6 address; 2^32 where it has none. Does not allocate.
 ///
-/// 0; 3 where the handle is closed, and then `hop` is as it was.
+/// 0; 3 if the handle is closed, and then `hop` is as it was.
 #[unsafe(no_mangle)]
 pub extern "C" fn routes_index_hop6(
     alloc: Global,
@@ -162,9 +162,9 @@ pub extern "C" fn routes_index_hop6(
 }
 
 /// The hops of many IPv4 addresses, as `routes_index_hop4` tells them. As many are answered as there are addresses and room; what is
-/// left of `hops` stays. It takes no memory.
+/// left of `hops` stays. Does not allocate.
 ///
-/// 0; 3 where the handle is closed, and then `hops` is as it was.
+/// 0; 3 if the handle is closed, and then `hops` is as it was.
 #[unsafe(no_mangle)]
 pub extern "C" fn routes_index_hop4_many(
     alloc: Global,
@@ -180,9 +180,9 @@ pub extern "C" fn routes_index_hop4_many(
     })
 }
 
-/// The hops of many IPv6 addresses, as `routes_index_hop4_many` tells those of IPv4. It takes no memory.
+/// The hops of many IPv6 addresses, as `routes_index_hop4_many` tells those of IPv4. Does not allocate.
 ///
-/// 0; 3 where the handle is closed, and then `hops` is as it was.
+/// 0; 3 if the handle is closed, and then `hops` is as it was.
 #[unsafe(no_mangle)]
 pub extern "C" fn routes_index_hop6_many(
     alloc: Global,

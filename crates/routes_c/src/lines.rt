@@ -10,7 +10,7 @@ use std::alloc::Global;
 
 /// Answers a command line, given without its line end, and keeps the reply, which `routes_reply` reads.
 ///
-/// 0; 2 where there is no memory for the reply: the table is the one after the line, and a beginning of the reply is kept; 3 where
+/// 0; 2 if an allocation fails for the reply: the table is the one after the line, and a beginning of the reply is kept; 3 where
 /// the handle is closed. Where there is no memory for what the command asks, the answer is 0 and the reply `refused`.
 #[unsafe(no_mangle)]
 pub extern "C" fn routes_line(alloc: Global, handle: &mut Handle, line: &[u8]) -> u32

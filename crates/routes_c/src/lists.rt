@@ -20,7 +20,7 @@ use std::alloc::Global;
 /// Makes the flat list: the shortest list of blocks of one hop, ascending, which covers all addresses that have a hop.
 /// `routes_piece_at` reads it.
 ///
-/// 0; 2 where there is no memory, and then the list is as it was; 3 where the handle is closed.
+/// 0; 2 if an allocation fails, and then the list is as it was; 3 if the handle is closed.
 #[unsafe(no_mangle)]
 pub extern "C" fn routes_flat(alloc: Global, handle: &mut Handle) -> u32
     requires { IsHandle handle.old }
@@ -31,7 +31,7 @@ pub extern "C" fn routes_flat(alloc: Global, handle: &mut Handle) -> u32
 
 /// The piece at an index of the list that was made last.
 ///
-/// 0, and the piece; 1 past its end, where `piece` is as it was; 3 where the handle is closed.
+/// 0, and the piece; 1 past its end, where `piece` is as it was; 3 if the handle is closed.
 #[unsafe(no_mangle)]
 pub extern "C" fn routes_piece_at(
     alloc: Global,
@@ -55,10 +55,10 @@ fn list(alloc: Global, handle: &mut Handle, asked: Asked) -> u32
     handle.on(alloc, 3, |session: &mut Session| session.list(alloc, asked))
 }
 
-/// Lists the best routes of the stored networks inside this one, itself included, ascending. `routes_route_at` and `routes_read` read the list.
-/// Bits of the address past the length are ignored.
+/// Lists the best routes of the stored networks inside this one, itself included, ascending. `routes_route_at` and `routes_read` read the
+/// list. Bits of the address past the length are ignored.
 ///
-/// 0; 2 where there is no memory, and then the list is as it was; 3 where the handle is closed; 6 where the length is over 32.
+/// 0; 2 if an allocation fails, and then the list is as it was; 3 if the handle is closed; 6 if the length is over 32.
 #[unsafe(no_mangle)]
 pub extern "C" fn routes_list4(alloc: Global, handle: &mut Handle, addr: u32, len: u8) -> u32
     requires { IsHandle handle.old }
@@ -72,7 +72,7 @@ pub extern "C" fn routes_list4(alloc: Global, handle: &mut Handle, addr: u32, le
 
 /// Lists routes of IPv6, as `routes_list4` does of IPv4.
 ///
-/// 0; 2 where there is no memory, and then the list is as it was; 3 where the handle is closed; 6 where the length is over 128.
+/// 0; 2 if an allocation fails, and then the list is as it was; 3 if the handle is closed; 6 if the length is over 128.
 #[unsafe(no_mangle)]
 pub extern "C" fn routes_list6(
     alloc: Global,
@@ -92,7 +92,7 @@ pub extern "C" fn routes_list6(
 
 /// Lists the best routes of the stored networks that contain this one, itself included, the shortest first.
 ///
-/// 0; 2 where there is no memory, and then the list is as it was; 3 where the handle is closed; 6 where the length is over 32.
+/// 0; 2 if an allocation fails, and then the list is as it was; 3 if the handle is closed; 6 if the length is over 32.
 #[unsafe(no_mangle)]
 pub extern "C" fn routes_cover4(alloc: Global, handle: &mut Handle, addr: u32, len: u8) -> u32
     requires { IsHandle handle.old }
@@ -106,7 +106,7 @@ pub extern "C" fn routes_cover4(alloc: Global, handle: &mut Handle, addr: u32, l
 
 /// Lists routes of IPv6, as `routes_cover4` does of IPv4.
 ///
-/// 0; 2 where there is no memory, and then the list is as it was; 3 where the handle is closed; 6 where the length is over 128.
+/// 0; 2 if an allocation fails, and then the list is as it was; 3 if the handle is closed; 6 if the length is over 128.
 #[unsafe(no_mangle)]
 pub extern "C" fn routes_cover6(
     alloc: Global,
@@ -126,7 +126,7 @@ pub extern "C" fn routes_cover6(
 
 /// Lists a page: the best routes of the family's stored networks from this one on, ascending, `limit` of them at most.
 ///
-/// 0; 2 where there is no memory, and then the list is as it was; 3 where the handle is closed; 6 where the length is over 32.
+/// 0; 2 if an allocation fails, and then the list is as it was; 3 if the handle is closed; 6 if the length is over 32.
 #[unsafe(no_mangle)]
 pub extern "C" fn routes_from4(
     alloc: Global,
@@ -146,7 +146,7 @@ pub extern "C" fn routes_from4(
 
 /// Lists routes of IPv6, as `routes_from4` does of IPv4.
 ///
-/// 0; 2 where there is no memory, and then the list is as it was; 3 where the handle is closed; 6 where the length is over 128.
+/// 0; 2 if an allocation fails, and then the list is as it was; 3 if the handle is closed; 6 if the length is over 128.
 #[unsafe(no_mangle)]
 pub extern "C" fn routes_from6(
     alloc: Global,
@@ -167,7 +167,7 @@ pub extern "C" fn routes_from6(
 
 /// Lists a page: the best routes of the family's stored networks that come after this one, ascending, `limit` of them at most.
 ///
-/// 0; 2 where there is no memory, and then the list is as it was; 3 where the handle is closed; 6 where the length is over 32.
+/// 0; 2 if an allocation fails, and then the list is as it was; 3 if the handle is closed; 6 if the length is over 32.
 #[unsafe(no_mangle)]
 pub extern "C" fn routes_after4(
     alloc: Global,
@@ -187,7 +187,7 @@ pub extern "C" fn routes_after4(
 
 /// Lists routes of IPv6, as `routes_after4` does of IPv4.
 ///
-/// 0; 2 where there is no memory, and then the list is as it was; 3 where the handle is closed; 6 where the length is over 128.
+/// 0; 2 if an allocation fails, and then the list is as it was; 3 if the handle is closed; 6 if the length is over 128.
 #[unsafe(no_mangle)]
 pub extern "C" fn routes_after6(
     alloc: Global,
@@ -208,7 +208,7 @@ pub extern "C" fn routes_after6(
 
 /// Lists all routes of exactly this network, best first.
 ///
-/// 0; 2 where there is no memory, and then the list is as it was; 3 where the handle is closed; 6 where the length is over 32.
+/// 0; 2 if an allocation fails, and then the list is as it was; 3 if the handle is closed; 6 if the length is over 32.
 #[unsafe(no_mangle)]
 pub extern "C" fn routes_all4(alloc: Global, handle: &mut Handle, addr: u32, len: u8) -> u32
     requires { IsHandle handle.old }
@@ -222,7 +222,7 @@ pub extern "C" fn routes_all4(alloc: Global, handle: &mut Handle, addr: u32, len
 
 /// Lists routes of IPv6, as `routes_all4` does of IPv4.
 ///
-/// 0; 2 where there is no memory, and then the list is as it was; 3 where the handle is closed; 6 where the length is over 128.
+/// 0; 2 if an allocation fails, and then the list is as it was; 3 if the handle is closed; 6 if the length is over 128.
 #[unsafe(no_mangle)]
 pub extern "C" fn routes_all6(
     alloc: Global,
@@ -244,7 +244,7 @@ pub extern "C" fn routes_all6(
 /// inside it, ascending, each with the hop that they have: that of the longest match of the network, `drop` where there is none.
 /// After a change of the network these are the addresses whose hop changed, where the change tells of one.
 ///
-/// 0; 2 where there is no memory, and then the list is as it was; 3 where the handle is closed; 6 where the length is over 32.
+/// 0; 2 if an allocation fails, and then the list is as it was; 3 if the handle is closed; 6 if the length is over 32.
 #[unsafe(no_mangle)]
 pub extern "C" fn routes_governed4(alloc: Global, handle: &mut Handle, addr: u32, len: u8) -> u32
     requires { IsHandle handle.old }
@@ -258,7 +258,7 @@ pub extern "C" fn routes_governed4(alloc: Global, handle: &mut Handle, addr: u32
 
 /// Lists routes of IPv6, as `routes_governed4` does of IPv4.
 ///
-/// 0; 2 where there is no memory, and then the list is as it was; 3 where the handle is closed; 6 where the length is over 128.
+/// 0; 2 if an allocation fails, and then the list is as it was; 3 if the handle is closed; 6 if the length is over 128.
 #[unsafe(no_mangle)]
 pub extern "C" fn routes_governed6(
     alloc: Global,
@@ -278,7 +278,7 @@ pub extern "C" fn routes_governed6(
 
 /// Lists the blocks that `routes_flat` gives this hop number, ascending.
 ///
-/// 0; 2 where there is no memory, and then the list is as it was; 3 where the handle is closed.
+/// 0; 2 if an allocation fails, and then the list is as it was; 3 if the handle is closed.
 #[unsafe(no_mangle)]
 pub extern "C" fn routes_own(alloc: Global, handle: &mut Handle, number: u32) -> u32
     requires { IsHandle handle.old }
@@ -289,7 +289,7 @@ pub extern "C" fn routes_own(alloc: Global, handle: &mut Handle, number: u32) ->
 
 /// Lists the routes of a least table: one with the same hop at every address, and the fewest routes of all that have it.
 ///
-/// 0; 2 where there is no memory, and then the list is as it was; 3 where the handle is closed.
+/// 0; 2 if an allocation fails, and then the list is as it was; 3 if the handle is closed.
 #[unsafe(no_mangle)]
 pub extern "C" fn routes_least(alloc: Global, handle: &mut Handle) -> u32
     requires { IsHandle handle.old }
@@ -300,7 +300,7 @@ pub extern "C" fn routes_least(alloc: Global, handle: &mut Handle) -> u32
 
 /// The route at an index of the list of routes that was made last.
 ///
-/// 0, and the route; 1 past its end, where `route` is as it was; 3 where the handle is closed.
+/// 0, and the route; 1 past its end, where `route` is as it was; 3 if the handle is closed.
 #[unsafe(no_mangle)]
 pub extern "C" fn routes_route_at(
     alloc: Global,

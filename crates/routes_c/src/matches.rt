@@ -24,7 +24,7 @@ fn get(alloc: Global, handle: &mut Handle, net: &IpNet, route: &mut Route) -> u3
 
 /// The longest match of an IPv4 address.
 ///
-/// 0, and the route; 1 where no network contains the address; 3 where the handle is closed. At 1 and 3 `route` is as it was.
+/// 0, and the route; 1 if no network contains the address; 3 if the handle is closed. At 1 and 3 `route` is as it was.
 #[unsafe(no_mangle)]
 pub extern "C" fn routes_get4(
     alloc: Global,
@@ -43,7 +43,7 @@ pub extern "C" fn routes_get4(
 
 /// The longest match of an IPv6 address.
 ///
-/// 0, and the route; 1 where no network contains the address; 3 where the handle is closed. At 1 and 3 `route` is as it was.
+/// 0, and the route; 1 if no network contains the address; 3 if the handle is closed. At 1 and 3 `route` is as it was.
 #[unsafe(no_mangle)]
 pub extern "C" fn routes_get6(
     alloc: Global,

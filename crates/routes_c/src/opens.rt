@@ -15,7 +15,7 @@ use std::alloc::Global;
 
 /// Opens a closed handle, on a table without networks.
 ///
-/// 0; 2 where there is no memory; 4 where it is open already. At 2 and 4 it is as it was.
+/// 0; 2 if an allocation fails; 4 if it is open already. At 2 and 4 it is as it was.
 #[unsafe(no_mangle)]
 pub extern "C" fn routes_open(alloc: Global, handle: &mut Handle) -> u32
     requires { IsHandle handle.old }
@@ -43,7 +43,7 @@ pub extern "C" fn routes_close(alloc: Global, handle: &mut Handle)
 
 /// Opens a closed handle, on a follower that has taken no line: no address has a hop.
 ///
-/// 0; 2 where there is no memory; 4 where it is open already. At 2 and 4 it is as it was.
+/// 0; 2 if an allocation fails; 4 if it is open already. At 2 and 4 it is as it was.
 #[unsafe(no_mangle)]
 pub extern "C" fn routes_follower_open(alloc: Global, follower: &mut Handle) -> u32
     requires { IsHandle follower.old }
@@ -71,7 +71,7 @@ pub extern "C" fn routes_follower_close(alloc: Global, follower: &mut Handle)
 
 /// Opens a closed handle, on the hops that an open table has now: a copy, which no later change of the table reaches.
 ///
-/// 0; 2 where there is no memory; 3 where the table is closed; 4 where the handle is open already. At all but 0 it is as it was.
+/// 0; 2 if an allocation fails; 3 if the table is closed; 4 if the handle is open already. At all but 0 it is as it was.
 #[unsafe(no_mangle)]
 pub extern "C" fn routes_index_open(alloc: Global, index: &mut Handle, table: &mut Handle) -> u32
     requires index { IsHandle index.old }
@@ -91,7 +91,7 @@ pub extern "C" fn routes_index_open(alloc: Global, index: &mut Handle, table: &m
 
 /// Opens a closed handle of an index, on the hops that an open follower has now: a copy, which no later line reaches.
 ///
-/// 0; 2 where there is no memory; 3 where the follower is closed; 4 where the index is open already; 8 after a fault of the follower. At
+/// 0; 2 if an allocation fails; 3 if the follower is closed; 4 if the index is open already; 8 after a fault of the follower. At
 /// all but 0 the index is as it was.
 #[unsafe(no_mangle)]
 pub extern "C" fn routes_follower_index(

@@ -11,7 +11,7 @@ use std::alloc::{AllocError, AllocFailed, Global};
 const MOST: usize = 0xffff_ffff;
 
 impl<T> ShortVec<T> {
-    /// The empty list. It takes no memory.
+    /// The empty list. Does not allocate.
     #[inline]
     pub fn new(alloc: Global) -> ShortVec<T>
         ensures items { result.items ≡ [] }

@@ -22,7 +22,7 @@ impl<T: Clone> Node<T> {
     /// A node with clones of the values, and with as many nodes below.
     ///
     /// # Errors
-    /// `AllocError` where there is no memory for all of it. Nothing is left of it then.
+    /// `AllocError` if there is no memory for all of it. Nothing is left of it then.
     pub fn try_clone(&self, alloc: Global) -> Result<Node<T>, AllocError>
         requires { (x y : T) → T.is_clone x y → y ≡ x }
         ensures { IfOk result (λ n. n ≡ self.now) }

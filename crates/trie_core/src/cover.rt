@@ -1,4 +1,4 @@
-//! The entries whose keys begin a path. They take no memory.
+//! The entries whose keys begin a path. They do not allocate.
 ghost use Rattle.std.specs.Prelude.{◌≡◌, ◌≤◌, [], length, MatchOption, ⊤};
 ghost use Rattle.std.specs.FinMap.{entries};
 ghost use Rattle.std.specs.FinMap.Entries.{where_key};
@@ -97,7 +97,7 @@ impl<'a, T> Clone for Cover<'a, T> {
 
     ghost is_infallible = { λ _. ⊤ };
 
-    /// A second walk from here on. It takes no memory.
+    /// A second walk from here on. Does not allocate.
     fn clone(&self) -> Result<Cover<'a, T>, AllocError> {
         Ok(Cover {
             node: self.node,

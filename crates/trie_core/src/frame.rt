@@ -124,7 +124,7 @@ pub(crate) fn next_of_last<T, F: Frame<T>>(
 
 /// A stack of frames of nodes that are lent, of which there can be a second one.
 pub trait LentStack<T>: FrameStack<T> {
-    /// A second stack of the same frames. It takes no memory.
+    /// A second stack of the same frames. Does not allocate.
     fn copied(&self) -> Self
         ensures { Self.frames result ≡ Self.frames self.now };
 }

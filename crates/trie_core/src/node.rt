@@ -269,7 +269,7 @@ impl<T: Drop> Node<T> {
     ///
     /// # Errors
     /// The value, and the node is as it was: never where one stands at the path; always where none does and there may not
-    /// be one more entry; else for want of memory, or where more than `room` nodes would be made.
+    /// be one more entry; else because memory ran out, or if more than `room` nodes would be made.
     pub fn insert(
         &mut self,
         path: Path,
@@ -385,7 +385,7 @@ impl<T: Drop> Node<T> {
         }
     }
 
-    /// Takes the entry out, and with it the nodes below this one on its path that are left bare, also where there was
+    /// Takes the entry out, and with it the nodes below this one on its path that are left bare, even if there was
     /// no entry.
     ///
     /// Answers the value and how many nodes went.

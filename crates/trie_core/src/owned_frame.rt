@@ -1,4 +1,4 @@
-//! What a walk that owns its entries has left of a node. It takes no memory, and drops with it what it has not given.
+//! What a walk that owns its entries has left of a node. Does not allocate, and drops with it what it has not given.
 ghost use Rattle.std.specs.Prelude.{◌≡◌, ◌<◌, ◌≤◌, [], ◌∷◌, count_ones, length, take, drop, not, nat_lt, MatchOption};
 ghost use Rattle.std.specs.Ordering.{nat_cmp};
 ghost use Rattle.std.specs.FinMap.Entries.{where_key};

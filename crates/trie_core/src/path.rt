@@ -32,7 +32,7 @@ impl Clone for Path {
 
     ghost is_infallible = { λ _. ⊤ };
 
-    /// The same string. It takes no memory.
+    /// The same string. Does not allocate.
     fn clone(&self) -> Result<Path, AllocError> {
         Ok(self.copied())
     }

@@ -1,4 +1,4 @@
-//! Walks over the entries of a node in order. They take no memory.
+//! Walks over the entries of a node in order. They do not allocate.
 ghost use Rattle.std.specs.Prelude.{◌≡◌, ◌+◌, ◌-◌, ◌*◌, ◌<◌, ◌≤◌, [], length, take, ⊤};
 ghost use Rattle.std.specs.FinMap.{entries};
 ghost use Rattle.std.specs.FinMap.Entries.{where_key};
@@ -176,7 +176,7 @@ impl<T, S: LentStack<T>> Clone for FrameWalk<T, S> {
 
     ghost is_infallible = { λ _. ⊤ };
 
-    /// A second walk from here on. It takes no memory.
+    /// A second walk from here on. Does not allocate.
     fn clone(&self) -> Result<FrameWalk<T, S>, AllocError> {
         let trail = self.trail.clone()?;
         Ok(FrameWalk::over(self.stack.copied(), trail))
