@@ -1,5 +1,5 @@
-//! Conversions from numbers to addresses, and operations on the last bits of a number: clear, set, drop.
-//! For the crates above; not part of the promise.
+//! Conversions from numbers to addresses, and operations on the last bits of a number: clear, set, drop. For the crates above; not part of
+//! the promise.
 ghost use Rattle.std.specs.Prelude.{◌≡◌, ℕ, ◌+◌, ◌-◌, ◌*◌, ◌/◌, ◌^◌, ◌<◌, ◌≤◌};
 ghost use Rattle.std.specs.Net.Addr.{ipv4_bits, ipv6_bits};
 

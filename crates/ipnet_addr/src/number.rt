@@ -1,5 +1,4 @@
-//! The numbers of addresses: 32 bits for IPv4, 128 bits for IPv6.
-//! For the crates above; not part of the promise.
+//! The numbers of addresses: 32 bits for IPv4, 128 bits for IPv6. For the crates above; not part of the promise.
 ghost use Rattle.std.specs.Prelude.{◌≡◌, ℕ, refl};
 ghost use Rattle.std.specs.Net.Addr.{ipv4_bits, ipv6_bits};
 ghost use Rattle.ipnet_addr.specs.Addresses.{Family, Ipv4, Ipv6, width};

@@ -155,8 +155,8 @@ fn halves(ip: Ipv4Addr) -> [u16; 2]
     [a as u16 * 256 + b as u16, c as u16 * 256 + d as u16]
 }
 
-// Reads units with `:` between them into the front of `units`; an IPv4 address may take the place of the last two.
-// Returns the number of units read, whether an IPv4 address ended them, and the rest of the text.
+// Reads units with `:` between them into the front of `units`; an IPv4 address may take the place of the last two. Returns the number of
+// units read, whether an IPv4 address ended them, and the rest of the text.
 fn read_units<'a>(text: &'a [u8], units: &mut [u16]) -> (usize, bool, &'a [u8])
     ensures value { Reader.read_units (length units.old) true text.now
         ≡ (take result.0 units.new, result.1, result.2.now) }

@@ -1,5 +1,5 @@
-//! Printers of the parts of a text. Each appends to a buffer, which must have room for the text.
-//! For the crates above; not part of the promise.
+//! Printers of the parts of a text. Each appends to a buffer, which must have room for the text. For the crates above; not part of the
+//! promise.
 ghost use Rattle.std.specs.Prelude.{◌≡◌, ◌+◌, ◌-◌, ◌*◌, ◌<◌, ◌≤◌, ◌++◌, length, decimal};
 ghost use Rattle.std.specs.Char.{digit_char};
 ghost use Rattle.std.specs.Net.Addr.{ipv4_octets, ipv6_segments, IsIpv4Addr, IsIpv6Addr};

@@ -1,6 +1,5 @@
-//! The fewest blocks that cover the same addresses as some networks of one family. Networks become spans of numbers, which are
-//! sorted, joined and cut into blocks.
-//! For the crates above; not part of the promise.
+//! The fewest blocks that cover the same addresses as some networks of one family. Networks become spans of numbers, which are sorted,
+//! joined and cut into blocks. For the crates above; not part of the promise.
 ghost use Rattle.std.specs.Prelude.{◌≡◌, ◌^◌, ◌<◌, ◌++◌, map, All, IfOk, OnOk};
 ghost use Rattle.std.specs.List.Sorted.{IsPermutation, IsNonDecreasingBy};
 ghost use Rattle.std.specs.List.{flat_map};

@@ -1,5 +1,4 @@
-//! Inclusion of blocks, decided on the numbers of their networks.
-//! For the crates above; not part of the promise.
+//! Inclusion of blocks, decided on the numbers of their networks. For the crates above; not part of the promise.
 ghost use Rattle.std.specs.Prelude.{◌≡◌, ◌-◌, ◌/◌, ◌^◌, ◌<◌, ◌≤◌, ◌↔◌, IsTrue};
 ghost use Rattle.ipnet_addr.specs.Addresses.{Family, width};
 ghost use Rattle.ipnet_blocks.specs.Blocks.{IsInside};

@@ -1,5 +1,4 @@
-//! The largest block at the start of a range of numbers, and the rest of the range.
-//! For the crates above; not part of the promise.
+//! The largest block at the start of a range of numbers, and the rest of the range. For the crates above; not part of the promise.
 ghost use Rattle.std.specs.Prelude.{◌≡◌, ◌-◌, ◌^◌, ◌<◌, ◌≤◌};
 ghost use Rattle.ipnet_blocks.specs.Cuts.{most_free, first_free, after_first};
 

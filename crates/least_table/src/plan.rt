@@ -115,8 +115,8 @@ fn skip(turns: Turns, hop: Option<u32>) -> Packed
     }
 }
 
-/// The step of the parent of a block that has this step and leads to a smaller block past addresses with this hop. The other half of
-/// the parent has the same hop. `None` if one step can't have so many levels.
+/// The step of the parent of a block with this step, if all addresses of both that are outside the same smaller block have this hop.
+/// `None` if that isn't so, or if the step would skip too many levels.
 fn wider(step: Packed, is_upper: bool, hop: Option<u32>) -> Option<Packed>
     requires { (sets : List (List (Option ℕ))) × IsKept sets step }
     ensures { IfSome result (λ wide. (sets : List (List (Option ℕ))) → IsWider is_upper hop (step_of sets step) wide) }
@@ -240,8 +240,7 @@ impl Steps {
         }
     }
 
-    /// Appends the step of a block. The last step is that of the upper half if `is_upper`, else of the lower half. The other half has
-    /// this
+    /// Appends the step of a block. The last step is that of the upper half if `is_upper`, else of the lower half. The other half has this
     /// hop. The hops of the list are best.
     fn push_half(
         &mut self,

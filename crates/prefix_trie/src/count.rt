@@ -33,8 +33,7 @@ fn without(left: u128, free: u8) -> Option<u128>
 
 impl<P: Prefix + Drop, T> PrefixMap<P, T> {
     /// Returns the number of addresses that the keys cover, each counted once. An address is a prefix of full length. Returns `None` if
-    /// the
-    /// keys cover all addresses, since their number doesn't fit. Does not allocate.
+    /// the keys cover all addresses, since their number doesn't fit. Does not allocate.
     pub fn address_count(&self) -> Option<P::R>
         ensures { MatchOption result (covered_count P.R.width self.now.entries ≡ 2 ^ P.R.width) (λ n. (P.R.number n ≡ covered_count P.R.width self.now.entries) × (covered_count P.R.width self.now.entries < 2 ^ P.R.width)) }
     {

@@ -50,8 +50,7 @@ impl<P: Prefix, T> PrefixMap<P, T> {
     }
 
     /// Returns the longest key that contains the prefix, possibly the prefix itself, and a mutable reference to its value. The contracts
-    /// of
-    /// `match_mut` and `get_lpm_value_mut` say what a write through this reference changes.
+    /// of `match_mut` and `get_lpm_value_mut` say what a write through this reference changes.
     pub fn get_lpm_mut(&mut self, prefix: &P) -> Option<(P, &mut T)>
         requires { IsTrue (P.fits prefix.now) }
         ensures { MatchOption result (NoBeginning self.old.entries (P.bits prefix.now)) (λ r. IsLongestKey P.fits P.bits P.of_bits self.old.entries (P.bits prefix.now) r.0 r.1.now) }

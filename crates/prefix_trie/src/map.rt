@@ -96,8 +96,7 @@ impl<P: Prefix, T> PrefixMap<P, T> {
     }
 
     /// Returns the number of nodes, the root included. A tidy map has the root, and one node for each distinct prefix of a key whose
-    /// length
-    /// is positive and divisible by five. Any other map has spare nodes too.
+    /// length is positive and divisible by five. Any other map has spare nodes too.
     pub fn node_count(&self) -> usize
         ensures all { result ≡ nodes self.now.entries + map.len self.now.spares }
         ensures idle { AreIdle self.now.entries self.now.spares }
@@ -163,8 +162,7 @@ impl<P: Prefix, T> PrefixMap<P, T> {
     }
 
     /// Returns the length of the longest key that contains the prefix, possibly the prefix itself, and its value. The key is the prefix
-    /// cut
-    /// to this length; it isn't constructed.
+    /// cut to this length; it isn't constructed.
     pub fn longest_match(&self, prefix: &P) -> Option<(u8, &T)>
         requires { IsTrue (P.fits prefix.now) }
         ensures { MatchOption result (NoBeginning self.now.entries (P.bits prefix.now)) (λ r. IsLongest self.now.entries (P.bits prefix.now) r.0 r.1.now) }
@@ -213,8 +211,7 @@ impl<P: Prefix, T> PrefixMap<P, T> {
         self.root.shortest(path_of(prefix)).is_some()
     }
 
-    /// Returns whether no other key is inside the prefix, and no spare node. The prefix need not be stored. Takes one search, and does
-    /// not
+    /// Returns whether no other key is inside the prefix, and no spare node. The prefix need not be stored. Takes one search, and does not
     /// allocate.
     pub fn is_leaf(&self, prefix: &P) -> bool
         requires { IsTrue (P.fits prefix.now) }
@@ -224,8 +221,7 @@ impl<P: Prefix, T> PrefixMap<P, T> {
         self.root.is_leaf(path_of(prefix))
     }
 
-    /// Returns the result of `get_lpm`, and the number of nodes visited: the root, and each node on the path of the prefix. Each such
-    /// node
+    /// Returns the result of `get_lpm`, and the number of nodes visited: the root, and each node on the path of the prefix. Each such node
     /// belongs to a prefix of the path whose length is positive and divisible by five. In a tidy map this is also a prefix of a key.
     pub fn get_lpm_visits(&self, prefix: &P) -> (Option<(P, &T)>, u32)
         requires { IsTrue (P.fits prefix.now) }
@@ -328,8 +324,7 @@ impl<P: Prefix + Drop, T: Drop> PrefixMap<P, T> {
     }
 
     /// Removes the entry, and returns its value. Then the last node on the path of the key, and each node above it, is removed while it
-    /// has
-    /// neither values nor children and isn't the root. This happens even if the key isn't stored. Does not allocate.
+    /// has neither values nor children and isn't the root. This happens even if the key isn't stored. Does not allocate.
     ///
     /// # Examples
     /// ```rust

@@ -21,8 +21,7 @@ impl<P: Prefix + Drop, T: Drop> PrefixMap<P, T> {
 
     /// Removes every entry whose key the prefix contains, its own entry included. Then the last node on the path of the prefix, and each
     /// node above it, is removed while it has neither values nor children and isn't the root. A prefix of length 0 clears the map. Does
-    /// not
-    /// allocate.
+    /// not allocate.
     pub fn remove_children(&mut self, prefix: &P)
         requires { IsTrue (P.fits prefix.now) }
         ensures map { self.new.entries ≡ outside self.old.entries (P.bits prefix.now) }

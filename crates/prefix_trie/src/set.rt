@@ -188,8 +188,7 @@ impl<P: Prefix> PrefixSet<P> {
         self.members.keys()
     }
 
-    /// Returns the members that come after the prefix in the order of a walk. Members inside the prefix come after it. If `inclusive`,
-    /// the
+    /// Returns the members that come after the prefix in the order of a walk. Members inside the prefix come after it. If `inclusive`, the
     /// prefix itself is the first if it is a member.
     pub fn iter_from(&self, prefix: &P, inclusive: bool) -> Iter<'_, P>
         requires { IsTrue (P.fits prefix.now) }
@@ -315,8 +314,7 @@ impl<P: Prefix + Drop> PrefixSet<P> {
     }
 
     /// Calls `f` on each member once, in the order of a walk, and keeps the members for which `f` returns `true`. `f` need not accept
-    /// other
-    /// prefixes. Afterwards the set is tidy, even if it wasn't before. Does not allocate.
+    /// other prefixes. Afterwards the set is tidy, even if it wasn't before. Does not allocate.
     pub fn retain<F: FnMut(&P) -> bool>(&mut self, f: F)
         requires { CallableInTurn (AnswersAtMember F.FnMut P.fits P.bits P.of_bits) (TakesMember F.FnMut P.fits P.bits P.of_bits) f (fin.keys self.old.entries) }
         ensures kept { IsFiltered (AnswersAtMember F.FnMut P.fits P.bits P.of_bits) f (fin.keys self.old.entries) (fin.keys self.new.entries) }

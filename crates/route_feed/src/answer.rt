@@ -24,8 +24,8 @@ use std::io::Write;
 /// A line over 80 bytes is answered `bad`.
 ///
 /// # Errors
-/// `Write` alone: at an error of `write` or `flush`, or if `write` takes nothing. Then a beginning of the reply was
-/// written, and the table is the one after the line.
+/// `Write` alone: at an error of `write` or `flush`, or if `write` takes nothing. Then a beginning of the reply was written, and the table
+/// is the one after the line.
 pub fn lead_line<W: Write>(
     table: &mut RouteTable,
     line: &[u8],

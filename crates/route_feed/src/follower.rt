@@ -191,9 +191,8 @@ impl Follower {
     /// Takes a line, without its line end.
     ///
     /// # Errors
-    /// `Failed` exactly after a fault; then nothing changes. `NotALine` exactly if the text spells no reply line.
-    /// `Memory` if a change can't be kept or carried out: at a line that tells a change, and at `ok` where some wait.
-    /// Each is a fault.
+    /// `Failed` exactly after a fault; then nothing changes. `NotALine` exactly if the text spells no reply line. `Memory` if a change
+    /// can't be kept or carried out: at a line that tells a change, and at `ok` where some wait. Each is a fault.
     pub fn line(&mut self, text: &[u8]) -> Result<(), FollowError>
         ensures ok { OnOk result ((line : Reply) × (reply_of text.now ≡ Some line) × TakesLine self.old self.new line) }
         ensures works { OnOk result ((self.old.failed ≡ false) × (self.new.failed ≡ false)) }

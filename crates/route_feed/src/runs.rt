@@ -33,10 +33,9 @@ use std::io::{Read, Write};
 /// The writer is flushed after each reply, before the next one is begun.
 ///
 /// # Errors
-/// `Memory` before anything is read or written; `Read` at an error of `read`, after the replies to the
-/// whole lines before it, or if 2^62 calls of `read` didn't reach the end; `Write` at an error of
-/// `write` or `flush`, or if `write` takes nothing: then a beginning of the output was written, and
-/// each reply before the last one in it was flushed. Never `Line`.
+/// `Memory` before anything is read or written; `Read` at an error of `read`, after the replies to the whole lines before it, or if 2^62
+/// calls of `read` didn't reach the end; `Write` at an error of `write` or `flush`, or if `write` takes nothing: then a beginning of the
+/// output was written, and each reply before the last one in it was flushed. Never `Line`.
 pub fn lead<R: Read, W: Write>(
     alloc: Global,
     reader: &mut Counted<R>,
@@ -98,10 +97,9 @@ fn follow_all<R: Read, W: Write>(
 /// its bytes.
 ///
 /// # Errors
-/// At each but `Write` nothing is written. `Line` if a line is no reply line; `Memory` before anything is read, or at
-/// a reply line that tells a change, or commits one; `Read` at an error of `read`, or if 2^62 calls of `read` didn't
-/// reach the end; `Write`, once all is read, at an error of `write` or `flush`, or if `write` takes nothing: then a
-/// beginning of the flat list was written.
+/// At each but `Write` nothing is written. `Line` if a line is no reply line; `Memory` before anything is read, or at a reply line that
+/// tells a change, or commits one; `Read` at an error of `read`, or if 2^62 calls of `read` didn't reach the end; `Write`, once all is
+/// read, at an error of `write` or `flush`, or if `write` takes nothing: then a beginning of the flat list was written.
 pub fn follow<R: Read, W: Write>(
     alloc: Global,
     reader: &mut Counted<R>,
@@ -144,10 +142,9 @@ pub fn follow_then<R: Read, W: Write>(
 /// reader or a writer that doesn't tell its bytes, as a file, is used alike, and nothing is claimed of its bytes.
 ///
 /// # Errors
-/// At each but `Write` nothing is written. `Line` if a line is no reply line; `Memory` before anything is read, at a reply
-/// line that tells a change, or commits one, or once all is read; `Read` at an error of `read`, or if 2^62 calls of `read`
-/// didn't reach the end; `Write`, once all is read, at an error of `write` or `flush`, or if `write` takes nothing: then a
-/// beginning of the lines was written.
+/// At each but `Write` nothing is written. `Line` if a line is no reply line; `Memory` before anything is read, at a reply line that tells
+/// a change, or commits one, or once all is read; `Read` at an error of `read`, or if 2^62 calls of `read` didn't reach the end; `Write`,
+/// once all is read, at an error of `write` or `flush`, or if `write` takes nothing: then a beginning of the lines was written.
 pub fn shorten<R: Read, W: Write>(
     alloc: Global,
     reader: &mut Counted<R>,

@@ -94,8 +94,8 @@ fn take_piece<W: Write, S: Sink<W>>(
 /// Reads to the end, and hands the sink each line. Answers what stands after the last line end.
 ///
 /// # Errors
-/// `Read` at an error of `read`, or if 2^62 calls of `read` didn't reach the end: then the sink has taken each whole line
-/// that was read. Else the sink's own, at the first line that it didn't take.
+/// `Read` at an error of `read`, or if 2^62 calls of `read` didn't reach the end: then the sink has taken each whole line that was read.
+/// Else the sink's own, at the first line that it didn't take.
 pub fn run<R: Read, W: Write, S: Sink<W>>(
     sink: &mut S,
     buf: &mut [u8],

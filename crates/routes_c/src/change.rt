@@ -43,8 +43,8 @@ fn del(alloc: Global, handle: &mut Handle, net: &IpNet, hop: u64, change: &mut C
 /// Adds a route of an IPv4 network, or gives the route of this hop that it has the new preference. Bits of the address past the
 /// length are ignored; a hop from 2^32 on is `drop`.
 ///
-/// 0, and the change; 2 if an allocation fails; 3 if the handle is closed; 5 if eight other hops are stored at the network;
-/// 6 if the length is over 32. At all but 0 nothing is changed, `change` neither.
+/// 0, and the change; 2 if an allocation fails; 3 if the handle is closed; 5 if eight other hops are stored at the network; 6 if the
+/// length is over 32. At all but 0 nothing is changed, `change` neither.
 #[unsafe(no_mangle)]
 pub extern "C" fn routes_add4(
     alloc: Global,
@@ -66,8 +66,8 @@ pub extern "C" fn routes_add4(
 
 /// Adds a route of an IPv6 network, as `routes_add4` does.
 ///
-/// 0, and the change; 2 if an allocation fails; 3 if the handle is closed; 5 if eight other hops are stored at the network;
-/// 6 if the length is over 128. At all but 0 nothing is changed, `change` neither.
+/// 0, and the change; 2 if an allocation fails; 3 if the handle is closed; 5 if eight other hops are stored at the network; 6 if the
+/// length is over 128. At all but 0 nothing is changed, `change` neither.
 #[unsafe(no_mangle)]
 pub extern "C" fn routes_add6(
     alloc: Global,

@@ -263,12 +263,10 @@ impl<T: Drop> Node<T> {
     /// Stores the value. Returns the old value, the number of new nodes, and whether the path is a leaf, as `is_leaf` returns it.
     ///
     /// A new entry is stored only if `may_grow` allows one more entry, and with at most `room` new nodes. Memory for a new node is
-    /// allocated
-    /// before the node is made. The nodes below a new node are made before it is linked.
+    /// allocated before the node is made. The nodes below a new node are made before it is linked.
     ///
     /// # Errors
-    /// `Err` returns the value, and the node is unchanged. It never happens if the path has a value. Otherwise it happens if `may_grow`
-    /// is
+    /// `Err` returns the value, and the node is unchanged. It never happens if the path has a value. Otherwise it happens if `may_grow` is
     /// false, if more than `room` new nodes are needed, or if an allocation fails.
     pub fn insert(
         &mut self,

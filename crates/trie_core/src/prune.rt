@@ -62,8 +62,8 @@ impl<T: Drop> Node<T> {
         }
     }
 
-    /// Removes all entries of the node inside a string of at most five bits, with the nodes below.
-    /// Returns the number of entries and the number of nodes removed.
+    /// Removes all entries of the node inside a string of at most five bits, with the nodes below. Returns the number of entries and the
+    /// number of nodes removed.
     fn take_inside(&mut self, path: &Path) -> (usize, usize)
         requires short { length path.now ≤ 5 }
         requires entries { map.len self.old.entries < 2 ^ 64 }
@@ -94,8 +94,7 @@ impl<T: Drop> Node<T> {
     }
 
     /// Removes all entries whose keys begin with the path, the path itself included. Then removes the nodes on the path that are left
-    /// empty,
-    /// but not this node. Returns the number of entries and the number of nodes removed.
+    /// empty, but not this node. Returns the number of entries and the number of nodes removed.
     pub fn remove_children(&mut self, path: &Path) -> (usize, usize)
         requires entries { map.len self.old.entries < 2 ^ 64 }
         requires nodes { all_nodes self.old < 2 ^ 64 }
