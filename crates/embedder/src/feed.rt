@@ -59,7 +59,7 @@ pub fn installed(alloc: Global, log: &[u8]) -> Result<Vec<u8>, RunError>
     Ok(writer.into_inner())
 }
 
-/// A whole session, byte for byte; the `add` may be refused because memory ran out.
+/// A whole session, byte for byte; the `add` may be refused for want of memory.
 ///
 /// # Errors
 /// Those of `lead`; this contract says nothing of them.
