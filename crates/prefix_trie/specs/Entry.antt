@@ -29,7 +29,7 @@ module _ {P X R : Type 0} {g : prefix.Ghosts P R} {k : key.Ghosts R} where
   entry_key (Vacant e) = e.key
   entry_key (Occupied o) = o.key
 
-  -- the value that the key has
+  -- the value of the key
   abbrev pub entry_value : Entry P X R g k → Option X
   entry_value e = get (entry_map e).entries (g.bits (entry_key e))
 

@@ -12,7 +12,7 @@ fives_from i (suc n) q = (take (5 * i + 5) q, tt) ∷ fives_from (suc i) n q
 abbrev pub fives : List Bool → List (List Bool × Unit {0})
 fives q = fives_from 0 (length q / 5) q
 
--- how many of these strings are in the set
+-- the number of these strings that are in the set
 abbrev pub found_in : BitSet → List (List Bool × Unit {0}) → ℕ
 found_in b [] = 0
 found_in b (e ∷ es) = cond (is_some (get b e.0)) 1 0 + found_in b es
@@ -34,8 +34,7 @@ module _ {X : Type 0} where
   abbrev pub visit_count : BitMap X → List Bool → ℕ
   visit_count m q = found_in (begun m) (fives q) + 1
 
-  -- whether there is a node at this string, below the root: either it is a prefix of a key and of positive length divisible by five, or a
-  -- spare node is there
+  -- whether there is a node at this string, below the root: a prefix of a key, of positive length divisible by five, or a spare node
   abbrev pub stands : BitMap X → BitSet → List Bool → Bool
   stands m b k = is_some (get (begun m) k) || is_some (get b k)
 

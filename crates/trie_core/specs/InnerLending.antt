@@ -9,6 +9,6 @@ use Rattle.trie_core.specs.contracts.node.Node.{the_row}
 abbrev pub node_with : {X : Type 0} → Seen X → List Bool → X → Seen X
 node_with s q w = record s { entries = insert s.entries q w }
 
--- the node behind s ends with the last value behind r at q
+-- the node behind s ends with the last value written through r at q
 abbrev pub node_lends : (T : RattleType) → MutBor (Seen T.Denot) → List Bool → MutBor T.Denot → Fml
 node_lends T s q r = Lends (the_row T) T s r (node_with s.now q)

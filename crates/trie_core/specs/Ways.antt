@@ -18,7 +18,7 @@ pub record IsIdle {X : Type 0} (m : BitMap X) (s : List Bool) : Type 0 where
 abbrev pub AreIdle : {X : Type 0} → BitMap X → BitSet → Type 0
 AreIdle m b = (s : List Bool) → is_some (get b s) ≡ true → IsIdle m s
 
--- a string of b that begins with s is off the way to q, and not lost
+-- a string of b that begins with s is off the path of q and not lost
 abbrev pub LeadsOff : (List Bool → Bool) → BitSet → List Bool → List Bool → Type 0
 LeadsOff lost b q s = (k : List Bool) × (is_some (get b (s ++ k)) ≡ true) × (begins (s ++ k) q ≡ false) × (lost (s ++ k) ≡ false)
 
