@@ -27,7 +27,8 @@ pub record Follows (s t : FollowerSession) (text : List ℕ) (code : ℕ) : Type
   pub fault : code ≢ 0 → t.follower.failed ≡ true
   pub kept : t.kept ≡ s.kept
 
--- the hop of an address: 8 after a fault; else 0 and the number, or 1 if the address has no hop. At 1 and 8 the number is unchanged
+-- the hop of an address: 8 after a fault; without one 0 and the number of the hop, or 1 if the address has no hop. At 1 and 8 the
+-- number is unchanged
 abbrev pub TellsHop : Bool → Option ℕ → ℕ → ℕ → ℕ → Type 0
 TellsHop true hop code old new = (code ≡ 8) × (new ≡ old)
 TellsHop false None code old new = (code ≡ 1) × (new ≡ old)
