@@ -60,7 +60,7 @@ class Edit:
         return {it.rpartition("::")[2] for it in self.functions}
 
     def strays(self, folder):
-        """The error of this edit: it can't be applied, or changes more than the bodies of the functions that it names. None if it has none."""
+        """The error of this edit: it can't be applied, or changes more than the bodies that it names. None if it has none."""
         texts = self.put({}, folder)
         if texts is None:
             return "it cannot be applied: each 'old:' text stands once in its file, or behind an 'after:' text that does"
@@ -115,8 +115,8 @@ OWN_FILES = ("Answers.antt", "Invariants.antt", "Proof.antt")
 
 
 def cut(text, wrong, kept):
-    """The wrong text with all bodies cut off, except those that differ from the right text and those of the kept names. Also the names of the
-    functions whose bodies were cut off."""
+    """The wrong text with all bodies cut off, except those that differ from the right text and those of the kept names; and the names of
+    the functions whose bodies were cut off."""
     pairs = zip(bodies_of(text), bodies_of(wrong))
     off = [it for (_, start, end), it in pairs if it[0] not in kept and text[start:end] == wrong[it[1] : it[2]]]
     return CUT_OFF.join(around(wrong, off)), {name for name, _, _ in off}

@@ -20,9 +20,9 @@ NAMES = re.compile(r"has no field|is not in scope|has no `|was not admitted|that
 
 
 def verdict(said):
-    """The functions that a check tells of, which of them failed by themselves, the files with errors that are none of theirs, and those
-    that failed for the want of a name alone, as far as their own lines tell. A function fails by itself where a goal of its own is open,
-    or its own proof files are refused."""
+    """The functions in the output of a check, those that failed by themselves, the files with other errors, and the functions that failed
+    only because a name is missing, as far as their own lines show. A function fails by itself if it leaves a goal open, or if its own
+    proof files are refused."""
     lines = said.rstrip().split("\n")
     last = next((it for it in reversed(lines) if it.startswith(("logic=", "holes=", "only=", "rattle: "))), "")
     if not last.startswith(("logic=proved", "logic=not-proved", "only=")):
