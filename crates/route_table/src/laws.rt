@@ -1,4 +1,4 @@
-//! Laws of tables, and those of hops and refusals: public functions without a body, whose contracts are the laws.
+//! Theorems about tables, hops and refusals: public functions without a body, whose contracts are the theorems.
 ghost use Rattle.std.specs.Prelude.{◌≡◌, ◌↔◌, IsTrue};
 ghost use Rattle.route_table.specs.declared.between.Operation.{Operation as AnyOperation};
 ghost use Rattle.route_table.specs.declared.hop_run.HopRun.{HopRun as AnyRun};
@@ -14,7 +14,7 @@ pub use route_laws::laws::{
     kept, matches, networks, one_route, overwrites, pages, runs,
 };
 
-/// `==` holds of one refusal alone; a clone of a refusal is the same one, and cloning never fails.
+/// `==` holds exactly for equal refusals. A clone of a refusal equals it, and cloning never fails.
 pub fn add_refusals()
     ensures equality { (a b : AnyRefused) → IsTrue (⟦<AddRefused as PartialEq>⟧.eq a b) ↔ (a ≡ b) }
     ensures clones { (a b : AnyRefused) → ⟦<AddRefused as Clone>⟧.is_clone a b → b ≡ a }

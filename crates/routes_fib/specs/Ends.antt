@@ -1,4 +1,4 @@
--- Which line a run ends at.
+-- The line at which a run ends.
 use Rattle.std.specs.Prelude.{◌≡◌, ℕ, List, [], ◌∷◌, ◌++◌, Option, Some}
 use Rattle.std.specs.Io.KnownBytes.{IsAtEnd}
 use Rattle.route_lines.specs.Bytes.{lines}
@@ -10,11 +10,11 @@ use Rattle.route_feed.specs.Installing.{AreNotes, IsUnfit, MayWant, Noted, after
 use Rattle.route_feed.specs.Installs.{Meets}
 
 module _ {R : Type 0} (remaining : R → Option (List ℕ)) where
-  -- the reader gave some bytes; the lines before one of them are notes, and this one can't be taken as one
+  -- the reader returned some bytes; the lines before one of them are notes, and this line can't be accepted as one
   abbrev pub MeetsUnfitLine : Counted R → Counted R → Type 0
   MeetsUnfitLine from to = (m : Meets remaining from to) × IsUnfit (after_notes begin m.notes) (note_of m.piece)
 
-  -- the reader gave some bytes; the lines before one of them are notes, and so is this one, which may want memory
+  -- the reader returned some bytes; the lines before one of them are notes, and so is this line, which may need memory
   abbrev pub MeetsWantingLine : Counted R → Counted R → Type 0
   MeetsWantingLine from to = (m : Meets remaining from to) × (note : Note) × (note_of m.piece ≡ Some note) × MayWant (after_notes begin m.notes) note
 

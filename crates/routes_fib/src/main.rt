@@ -1,4 +1,5 @@
-//! The program `routes_fib`: a leader's reply lines from standard input, and operations on a forwarding table to standard output.
+//! The program `routes_fib`: reads a leader's reply lines from standard input, and writes operations on a forwarding table to standard
+//! output.
 #![tactic(auto)]
 
 ghost use Rattle.std.specs.Prelude.{◌≡◌, ◌↔◌, ◌⊎◌, [], drop, IfErr, IfOk, IfSome, IsErrOf, IsOk};
@@ -18,13 +19,13 @@ use std::io::{BufWriter, Read, Write};
 use std::process::ExitCode;
 use thiserror::Error;
 
-/// Why the program ends with a status above 0. Each prints its line on standard error.
+/// Why the program ends with a status above 0. Each fault prints its line on standard error.
 #[derive(Clone, Copy, Debug, PartialEq, Eq, Error)]
 enum Fault {
-    /// The arguments can't be had.
+    /// The arguments can't be read.
     #[error("routes_fib: no memory")]
     Arguments,
-    /// There is an argument.
+    /// There is an argument; the program takes none.
     #[error("usage: routes_fib")]
     Usage,
     /// A line is none of its grammar, or a `have` line after a `sync`.
@@ -64,7 +65,7 @@ impl Fault {
     }
 }
 
-// Sees that there are no arguments.
+// Checks that there are no arguments.
 fn see_arguments<R: Env + Alloc>(rt: &R) -> Result<(), Fault>
     ensures { IfErr result (λ e. (e ≡ Fault.Arguments) ⊎ (e ≡ Fault.Usage)) }
 {
@@ -74,7 +75,7 @@ fn see_arguments<R: Env + Alloc>(rt: &R) -> Result<(), Fault>
     }
 }
 
-// Sees that after the program's name stands nothing.
+// Checks that nothing follows the program's name.
 fn see_none<A: Allocator>(mut args: Args<A>) -> Result<(), Fault>
     ensures none { IsOk result ↔ (drop 1 (into_iter_items args) ≡ []) }
     ensures usage { IfErr result (λ e. e ≡ Fault.Usage) }
@@ -86,8 +87,8 @@ fn see_none<A: Allocator>(mut args: Args<A>) -> Result<(), Fault>
     }
 }
 
-// Keeps a table installed, from the input to the output, and hands the output back. Each batch is written out before another line is
-// taken. What a failed write left unwritten is let go.
+// Keeps a table installed, from the input to the output, and returns the output. Each batch is written out before the next line is read.
+// If a write fails, the bytes that are left are dropped.
 fn install_by<R: Read, W: Write + Drop>(
     alloc: Global,
     reader: &mut Counted<R>,

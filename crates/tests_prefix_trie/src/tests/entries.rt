@@ -40,7 +40,7 @@ const STORING: [(&str, Storing, u32); 6] = [
     ("default of a vacant entry", Storing::Default, 0),
 ];
 
-/// What a storing call answered: the value where it was stored, none where memory was refused and the value came back.
+/// What a storing call answered: the value where it was stored, none if memory was refused and the value came back.
 fn answered(rt: &impl Abort, outcome: Result<&mut u32, (Refused, u32)>, value: u32) -> Option<u32> {
     match outcome {
         Ok(stored) => Some(*stored),
@@ -51,7 +51,7 @@ fn answered(rt: &impl Abort, outcome: Result<&mut u32, (Refused, u32)>, value: u
     }
 }
 
-/// The value that the call stored for this network, or none where memory was refused.
+/// The value that the call stored for this network, or none if memory was refused.
 fn stored_by(
     rt: &impl Abort,
     map: &mut PrefixMap<Ipv4Net, u32>,
@@ -143,7 +143,7 @@ fn insert_may_be_refused(rt: HostRuntime) {
     is_refused_or_stored(&rt, "insert", &map, ("1.2.3.0/32", stored, 7));
 }
 
-/// Calls of entries, of 10.0.0.0/8 where no other network is named.
+/// Calls of entries, of 10.0.0.0/8 if no other network is named.
 enum Call {
     /// The key of a vacant entry of 10.1.2.3/16 has its host bits; it is stored with 7.
     VacantKey,

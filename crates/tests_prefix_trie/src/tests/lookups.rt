@@ -11,7 +11,7 @@ fn stores_yet(rt: &impl Abort, map: &mut PrefixMap<(u32, u8), u32>) {
     is_equal(rt, map.insert((0x0102_0300, 32), 6).is_ok(), true);
 }
 
-/// Stores a key of 32 bits, at once or where a request for memory was refused.
+/// Stores a key of 32 bits, at once or if a request for memory was refused.
 fn stores_at_last(rt: &impl Abort, map: &mut PrefixMap<(u32, u8), u32>) {
     match map.insert((0x0102_0300, 32), 5) {
         Ok(old) => is_equal(rt, old, None),

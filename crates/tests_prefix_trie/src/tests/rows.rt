@@ -187,7 +187,7 @@ fn stores_yet(rt: &impl Abort, set: &mut PrefixSet<(u32, u8)>) {
     is_equal(rt, set.insert((0x0102_0300, 32)), Ok(true));
 }
 
-/// Stores a member of 32 bits, at once or where a request for memory was refused.
+/// Stores a member of 32 bits, at once or if a request for memory was refused.
 fn stores_at_last(rt: &impl Abort, set: &mut PrefixSet<(u32, u8)>) {
     match set.insert((0x0102_0300, 32)) {
         Ok(is_new) => holds(rt, is_new),

@@ -18,7 +18,7 @@ pub(crate) trait Spells<P: Prefix> {
         ensures { IfSome result (λ p. IsTrue (P.fits p)) };
 }
 
-/// A key, and how many of its bits count: none where these are too many.
+/// A key, and how many of its bits count: none if these are too many.
 impl<K: Key> Spells<(K, u8)> for (K, u8) {
     fn prefix(&self) -> Option<(K, u8)>
         ensures { IfSome result (λ p. IsTrue (nat_le p.1 K.width)) }

@@ -3,7 +3,7 @@ use crate::tests::rows::row_is;
 use route_lines::{Line, LineCutter, Rest, line_text};
 use std::process::Abort;
 
-/// Pieces, and how long the line is that the last byte of each ends; none where it ends none, 1000 for one that is too long.
+/// Pieces, and how long the line is that the last byte of each ends; none if it ends none, 1000 for one that is too long.
 const PIECES: [(&str, Option<usize>); 5] = [
     ("ok\r\n", Some(3)),
     ("\n", Some(0)),

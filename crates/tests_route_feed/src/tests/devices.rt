@@ -278,7 +278,7 @@ fn a_write_fails(rt: HostRuntime) {
     }
 }
 
-/// Runs; the read that fails, 0 where none does, and how many reads there are; how it ends, and all that is written then.
+/// Runs; the read that fails, 0 if none does, and how many reads there are; how it ends, and all that is written then.
 const READS: [(Mode, &str, (usize, usize), Result<(), RunError>, &str); 8] = [
     // The reader fails amid the second line: the first is answered.
     (
