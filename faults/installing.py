@@ -1,4 +1,4 @@
-"""What an installer has to write for its input, worked out from docs/ROUTES.md alone. Several tables may be least, so its output is
+"""What an installer has to write for its input, worked out from docs/ROUTES_FIB.md alone. Several tables may be least, so its output is
 looked at batch by batch: whichever table a batch of a `sync` makes, it has to be one of these, and made in the order that is told."""
 from model import change, fewest, hop, network, painted, written
 
