@@ -15,17 +15,17 @@ BLOCKS = 256
 # batch, how many replies were large, and what the installer and a follower took.
 Changed = namedtuple("Changed", "begun batches large kept follow")
 
-TEXT = """`routes_fib` reads the leader's output, and `routes follow` the same lines. *Kept* has `sync` first, so each change is a batch of its
-own. *At once* has `sync` last, as at a start, so one batch installs the least table. The operations make a table with the leader's hops
+TEXT = """`routes_fib` reads the leader's output, and `routes follow` the same lines. *Kept* has `sync` first, so each change is a batch of
+its own. *At once* has `sync` last, as at a start, so one batch installs the least table. The operations make a table with the leader's hops
 each time."""
 
-CHANGED = """If all networks of the real feed are installed as announced, a first `sync` takes {installs:,} installs and {removes:,} removes. If
-its least table of {least:,} routes is installed, {commands:,} later commands (`bench/feeds.py over`: networks are withdrawn, announced
-again, and get another hop) give {batches:,} batches with {operations:,} operations. 999 of 1,000 batches have at most {usual:,}
-operations, and the largest has {largest:,}. {large} of the replies had more than {blocks} blocks and led to a least table at once. After
-them {before:,} routes are installed; a second `sync`, of {last:,} operations, leaves {after:,}. For the feed, these commands and both
-`sync`, `routes_fib` took {kept.seconds:.2f} s and {kept_mb:.1f} MB; `routes follow` took {follow.seconds:.2f} s and {follow_mb:.1f} MB for
-the same replies."""
+CHANGED = """If all networks of the real feed are installed as announced, a first `sync` takes {installs:,} installs and {removes:,}
+removes. In another run its least table of {least:,} routes is installed, and {commands:,} commands follow (`bench/feeds.py over`): networks
+are withdrawn, announced again, and get another hop. They give {batches:,} batches with {operations:,} operations. All but one in a thousand
+batches have at most {usual:,} operations, and the largest has {largest:,}. {large} of the replies had more than {blocks} blocks and led to
+a least table at once. After them {before:,} routes are installed; a second `sync`, of {last:,} operations, leaves {after:,}. For the feed,
+these commands and both `sync`, `routes_fib` took {kept.seconds:.2f} s and {kept_mb:.1f} MB; `routes follow` took {follow.seconds:.2f} s and
+{follow_mb:.1f} MB for the same replies."""
 
 
 def replayed(path):

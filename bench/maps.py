@@ -13,11 +13,11 @@ SIDES = {"ours": "`PrefixMap`", "crate": "the crate's", "rib": "`rte_rib`", "fib
 ROWS = (("add", None, "insert"), ("match", "even", "longest match, even"), ("match", "Zipf", "longest match, Zipf"),
         ("walk", None, "walk"), ("del", None, "remove"))
 
-TEXT = """`PrefixMap` in a program of its own over `prefix_trie`. A run stores the networks, looks up {asked} addresses of each mix, walks all
-networks, and removes them in another order. Beside it are the map of the Rust crate `prefix-trie` 0.10.1, called from Rust; DPDK's
-tables, of which `rte_fib` finds a hop and no network; and py-radix, called from Python, whose loop and parsing are part of its times.
-Figures are nanoseconds of CPU time for one network or address. All sides stored as many networks and found the same in each lookup. The
-last column is the crate's time over ours: above 1 we are faster.{missing}"""
+TEXT = """`PrefixMap` in a program of its own over `prefix_trie`. A run stores the networks, looks up {asked} addresses of each mix, walks
+all networks, and removes them in another order. Beside it is the map of the Rust crate `prefix-trie` 0.10.1, called from Rust. `rte_rib`
+and `rte_fib` are DPDK's tables; the second finds a hop and no network. py-radix is called from Python, whose loop and parsing are part of
+its times. Figures are nanoseconds of CPU time for one network or address. All sides stored as many networks and found the same in each
+lookup. The last column is the crate's time over ours: above 1 we are faster.{missing}"""
 
 
 def lists(family, count):
