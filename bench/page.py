@@ -66,8 +66,8 @@ class Results:
     """The tables of bench/RESULTS.md: of each part its rows, by their first cells, and the cells of a row by the heads."""
 
     def __init__(self, path=ROOT / "bench/RESULTS.md"):
-        self.tables = {}
-        for title, text in parts_of(path).items():
+        self.tables, self.parts = {}, parts_of(path)
+        for title, text in self.parts.items():
             for found in re.findall(r"(?:^\|.*\n)+", text, re.M):
                 head, _, *rows = [[cell.strip() for cell in line.strip("|").split("|")] for line in found.splitlines()]
                 self.tables.setdefault(title, []).append([dict(zip(head, row)) for row in rows])
@@ -121,9 +121,11 @@ def networks_of(results, feed):
 
 
 def installer(results):
-    """The installer, on each of its feeds."""
+    """The installer, on each of its feeds; and the paragraph on the changes of the real feed, if it was there."""
     rows = [[row[head] for head in ("feed", "batches", "operations", "kept s", "follow s", "at once s")] for row in results.rows(TITLES[3])]
-    yield "installer", table(["feed", "batches", "operations", "CPU s", "`follow` of the same log", "one batch: CPU s"], rows)
+    changed = re.search(r"^If all networks.*?\n(?=\n)", results.parts.get(TITLES[3], ""), re.M | re.S)
+    head = ["feed", "batches", "operations", "CPU s", "`follow` of the same log", "one batch: CPU s"]
+    yield "installer", table(head, rows) + (f"\n{changed[0]}" if changed else "")
 
 
 def lookups(results):
