@@ -164,6 +164,8 @@ def maps(results):
 def headline(results):
     """README's line."""
     row = results.row(TITLES[0], REAL)
+    if isinstance(row, Missing):
+        raise SystemExit("bench: bench/RESULTS.md has no row of the real feed for README.md's line")
     rate, megabytes = int(row["commands/s"].replace(",", "")), float(row["lead MB"])
     return (f"On a real feed of {networks_of(results, REAL)} networks, `routes lead` replies to {round(rate, -3):,.0f} commands a second on one "
             f"core, in {megabytes:.0f} MB.\n")
