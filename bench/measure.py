@@ -1,5 +1,4 @@
-"""Runs programs, takes their times, and tells what else the machine did meanwhile. Every part of docs/PERFORMANCE.md is measured by
-this."""
+"""Runs programs, takes their times, and tells what else the machine did meanwhile. Every part of bench/RESULTS.md is measured by this."""
 import datetime
 import os
 import shutil
@@ -92,11 +91,10 @@ class Others:
 
     def told(self, runs):
         """The last lines of a part: where and when it was measured, and what else ran."""
-        text = f"Measured on {datetime.date.today():%-d %B %Y} on {machine()}: the least of {runs} runs. Other work took {self.work:.2f} "
-        text += f"of the {os.cpu_count()} processors meanwhile, and the host kept back {self.stolen:.2f} of them."
+        text = f"Measured on {datetime.date.today():%-d %B %Y} on {machine()}: the least of {runs} runs. Meanwhile other work took "
+        text += f"{self.work:.2f} of the {os.cpu_count()} processors, and the host withheld {self.stolen:.2f}."
         if self.work + self.stolen > 0.1:
-            text += " That is more than a tenth of a processor: the times are those of a busy machine, and the ratios tell more, since the"
-            text += " programs took turns."
+            text += " That is more than a tenth of a processor, so rely on the ratios: the programs took turns."
         return text
 
 
