@@ -1,4 +1,4 @@
-"""The part on the calls of the C library on a real feed, timed by c/bench.c, beside DPDK's and those of the Rust crate's map."""
+"""The part on the calls of the C library on a real feed, timed by c/bench.c, compared with those of DPDK and of the Rust crate's map."""
 import shutil
 import subprocess
 import sys
@@ -11,11 +11,11 @@ import page
 SIDES = {"routes": "C library", "crate": "the crate's map", "rib": "`rte_rib`", "fib": "`rte_fib`"}
 CHANGES = {"add": "add", "del": "del", "index_open": "make the index"}
 LOOK_UPS = {"match": "longest match", "match_many": "longest match, 64", "index": "index", "index_many": "index, 64"}
-# The ways that stand beside the index, and of which of its calls.
+# The ways that the index is compared with, and the calls that are compared.
 WAYS = (("routes", "match", "index", "over the table"), ("crate", "match", "index", "over the crate's map"),
         ("rib", "match", "index", "over `rte_rib`"), ("fib", "index", "index", "over `rte_fib`"),
         ("fib", "index_many", "index_many", "64, over `rte_fib`"))
-# How many times as fast as them the index is meant to be.
+# The goal: how many times as fast as them the index should be.
 AIMED = {"v4": {"routes": 5, "crate": 3}, "v6": {"routes": 2, "crate": 1.5}}
 
 TEXT = """The calls of the C library (docs/C.md) on the real feed, by `c/bench.c`: each network of a family is added, in the feed's order,
@@ -35,7 +35,7 @@ feed, its output to a file. Aimed at is a tenth, which is {met}."""
 
 
 def networks_of(feed, family, folder):
-    """The networks of a family; and in files, these with their hops, and alone."""
+    """The networks of a family, and two files of them: with their hops, and without."""
     with open(feed, encoding="ascii") as file:
         lines = [line[4:] for line in file if line.startswith("add ") and (":" in line) == (family == "v6")]
     networks = [line.split()[0] for line in lines]
@@ -46,7 +46,7 @@ def networks_of(feed, family, folder):
 
 
 def timed(bench, program, sides, feed, family):
-    """How many networks the family has, and the least times."""
+    """The number of networks of the family, and the least times."""
     networks, routes, alone = networks_of(feed, family, bench.folder)
     asked = calls.asked(bench.folder, family, networks, bench.asked)
     found = {}
@@ -58,13 +58,13 @@ def timed(bench, program, sides, feed, family):
 
 
 def led(bench, feed):
-    """The seconds in which the leader loads the feed."""
+    """The seconds that the leader needs to load the feed."""
     leader = {"lead": lambda: measure.once([*bench.pin, bench.programs["ours"], "lead"], feed, bench.folder / "led")}
     return measure.least(measure.in_turns(bench.runs, leader)["lead"]).seconds
 
 
 def made(parts, lead):
-    """What making the indexes takes, beside the leader's time."""
+    """The time for making the indexes, compared with the leader's time."""
     seconds = sum(count * least["routes", "index_open", None] for count, least in parts.values()) / 1e9
     ratio = seconds / lead
     return MADE.format(made=1000 * seconds, ratio=ratio, lead=lead, met="met" if ratio <= 0.1 else "missed")
@@ -78,7 +78,7 @@ def changes(parts):
 
 
 def look_ups(parts):
-    """A row for each family, mix and look-up. A fib stands beside the index."""
+    """A row for each family, mix and lookup. A fib is compared with the index."""
     for family, (_, least) in parts.items():
         for mix in feeds.MIXES:
             for call, title in LOOK_UPS.items():
@@ -94,7 +94,7 @@ def ratios(parts):
 
 
 def met(parts):
-    """How many of the aims were met, and which were not, of those that were measured."""
+    """The number of measured goals that were met, and the goals that were not."""
     titles = {side: title for side, way, _, title in WAYS if way == "match"}
     count, missed = 0, []
     for family, (_, least) in parts.items():
@@ -108,19 +108,19 @@ def met(parts):
 
 
 def aims():
-    """What is aimed at, in words."""
+    """The goals, in words."""
     titles = {side: title for side, way, _, title in WAYS if way == "match"}
     return ", ".join(f"{aim} {titles[side]} for IP{family}" for family, of in AIMED.items() for side, aim in of.items())
 
 
 def version():
-    """That of DPDK, where it is here."""
+    """The version of DPDK, if it is installed."""
     told = subprocess.run(["pkg-config", "--modversion", "libdpdk"], capture_output=True, text=True) if shutil.which("pkg-config") else None
     return f", {told.stdout.strip()}" if told and told.returncode == 0 else ""
 
 
 def measured(bench):
-    """The part, measured; none without the real feed or a C compiler."""
+    """Measures the part, or returns None without the real feed or a C compiler."""
     feed, (program, sides) = bench.real(), calls.build(bench.root, bench.folder, bench.library())
     if not feed or not program:
         print("bench: the calls from C are left out, which need the real feed and a C compiler", file=sys.stderr)

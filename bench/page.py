@@ -1,4 +1,4 @@
-"""docs/PERFORMANCE.md: what stands above its parts, and how a part is put into it. A part that isn't run keeps its last text."""
+"""docs/PERFORMANCE.md: the text above its parts, and how a part is put into it. A part that isn't run keeps its text."""
 import re
 import textwrap
 
@@ -26,18 +26,18 @@ def filled(text):
 
 
 def table(head, rows):
-    """Lines of a table."""
+    """The lines of a table."""
     lines = ["| " + " | ".join(head) + " |", "|---" * len(head) + "|"]
     return "\n".join(lines + ["| " + " | ".join(row) + " |" for row in rows]) + "\n"
 
 
 def part(title, blocks):
-    """A part as it stands on the page."""
+    """A part as text of the page."""
     return f"## {title}\n\n" + "\n".join(blocks)
 
 
 def put(path, title, blocks):
-    """Puts a part in place of the one with its title; the head is written anew, and the other parts stay."""
+    """Replaces the part with the same title. Writes the head again, and leaves the other parts unchanged."""
     parts = re.split(r"^## (.*)\n", path.read_text(encoding="utf-8") if path.exists() else "", flags=re.MULTILINE)[1:]
     known = {name: f"## {name}\n{text.rstrip()}\n" for name, text in zip(parts[::2], parts[1::2])}
     if title not in TITLES:
@@ -47,7 +47,7 @@ def put(path, title, blocks):
 
 
 def headline(readme, networks, rate, megabytes):
-    """The README's line on speed says what the real feed took."""
+    """Updates the README's line on speed, from the results for the real feed."""
     told = "On a real feed of {} networks it answers {} commands a second on one core, with {} MB"
     line = told.format(f"{networks:,}", f"{round(rate, -3):,.0f}", f"{megabytes:.0f}")
     text, found = re.subn(told.format(r"[\d,]+", r"[\d,]+", r"\d+"), line, readme.read_text())

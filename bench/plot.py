@@ -6,7 +6,7 @@ COLORS = ("#1b6ca8", "#d1495b", "#66a182", "#8d6a9f")
 
 
 def plot(series):
-    """Lines of a name and points each, number of networks and nanoseconds a line. The axis of the number is logarithmic."""
+    """Lines with a name and points (number of networks, nanoseconds per line). The axis of the number is logarithmic."""
     most = max(y for _, marks in series for _, y in marks) * 1.1
     sizes = sorted({x for _, marks in series for x, _ in marks})
     low, high = math.log10(sizes[0]), math.log10(sizes[-1])
@@ -29,7 +29,7 @@ def plot(series):
 
 
 def axes(at, sizes, most):
-    """Both axes with their marks."""
+    """Both axes with their ticks."""
     step = 10 ** math.floor(math.log10(most / 2))
     for mark in range(int(most / step) + 1):
         _, y = at(sizes[0], mark * step)
