@@ -15,17 +15,17 @@ BLOCKS = 256
 # the number of large replies, and the time and memory of the installer and of a follower.
 Changed = namedtuple("Changed", "begun batches large kept follow")
 
-TEXT = """`routes_fib` over the leader's output, beside `routes follow` on the same lines. Where `sync` stands first, each change is carried
-out and written by itself; where it stands last, as at a start, the least table is installed at once. What was written makes a table with
-the leader's hops each time."""
+TEXT = """`routes_fib` reads the leader's output, and `routes follow` the same lines. *Kept* has `sync` first, so each change is a batch of
+its own. *At once* has `sync` last, as at a start, so one batch installs the least table. The operations make a table with the leader's hops
+each time."""
 
-CHANGED = """Where all networks of the real feed are installed as it has them, a first `sync` takes {installs:,} installs and {removes:,}
-removes. Where its least table of {least:,} routes is installed, {commands:,} commands that follow it (`bench/feeds.py over`: networks are
-withdrawn, announced again, and get another hop) give {batches:,} batches with {operations:,} operations: 999 of 1,000 have at most
-{usual:,}, and the largest has {largest:,}. {large} of the replies had more than {blocks} blocks and led to a least table at once. After
-them {before:,} routes are installed; a second `sync`, of {last:,} operations, leaves {after:,}. `routes_fib` took {kept.seconds:.2f} s and
-{kept_mb:.1f} MB for the feed, these commands and both `sync`; `routes follow` of the same replies {follow.seconds:.2f} s and
-{follow_mb:.1f} MB."""
+CHANGED = """If all networks of the real feed are installed as announced, a first `sync` takes {installs:,} installs and {removes:,}
+removes. In another run its least table of {least:,} routes is installed, and {commands:,} commands follow (`bench/feeds.py over`): networks
+are withdrawn, announced again, and get another hop. They give {batches:,} batches with {operations:,} operations. All but one in a thousand
+batches have at most {usual:,} operations, and the largest has {largest:,}. {large} of the replies had more than {blocks} blocks and led to
+a least table at once. After them {before:,} routes are installed; a second `sync`, of {last:,} operations, leaves {after:,}. For the feed,
+these commands and both `sync`, `routes_fib` took {kept.seconds:.2f} s and {kept_mb:.1f} MB; `routes follow` took {follow.seconds:.2f} s and
+{follow_mb:.1f} MB for the same replies."""
 
 
 def replayed(path):
@@ -155,13 +155,13 @@ def changes_told(commands, changed):
 def measured(bench):
     """Measures the part; without the real feed, only on synthetic feeds."""
     bench.installer()
-    feeds = {"real, both families": bench.real()} if bench.real() else {}
+    feeds = {page.REAL: bench.real()} if bench.real() else {}
     for family in ("v4", "v6"):
         for count in bench.counts(100_000):
             feeds[f"churn, IP{family}, {count:,}"] = bench.made("churn", family, count)
     with measure.Others() as others:
         rows = [of_feed(bench, title, feed) for title, feed in feeds.items()]
         found = changed(bench, bench.real(), CHANGES // bench.part) if bench.real() else None
-    head = ["feed", "follow s", "kept s", "lines/s", "MB", "batches", "operations", "at once s", "MB", "operations"]
+    head = ["feed", "follow s", "kept s", "lines/s", "kept MB", "batches", "operations", "at once s", "at once MB", "at once operations"]
     told = [page.filled(changes_told(CHANGES // bench.part, found))] if found else []
     yield "The installer", [page.filled(TEXT), page.table(head, rows), *told, page.filled(others.told(bench.runs))]

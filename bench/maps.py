@@ -13,12 +13,11 @@ SIDES = {"ours": "`PrefixMap`", "crate": "the crate's", "rib": "`rte_rib`", "fib
 ROWS = (("add", None, "insert"), ("match", "even", "longest match, even"), ("match", "Zipf", "longest match, Zipf"),
         ("walk", None, "walk"), ("del", None, "remove"))
 
-TEXT = """`PrefixMap` alone, in a program of its own over `prefix_trie`: so many networks are stored, {asked} addresses of each mix are
-looked up, all networks are walked, and all are taken out in another order. Beside it the map of the Rust crate `prefix-trie` 0.10.1,
-called from Rust; DPDK's tables, as in "From C", of which `rte_fib` finds a hop and no network; and py-radix, called from Python, whose
-loop and reading of texts is a part of its times. Each run is a process; a figure is in nanoseconds of its processor's time for one
-network or one address, as each reads it from the clock of its own process between the calls. Those with figures stored as many
-networks, and found the same in each look-up. The last column is the crate's time over ours: above 1 we are faster.{missing}"""
+TEXT = """`PrefixMap` in a program of its own over `prefix_trie`. A run stores the networks, looks up {asked} addresses of each mix, walks
+all networks, and removes them in another order. Beside it is the map of the Rust crate `prefix-trie` 0.10.1, called from Rust. `rte_rib`
+and `rte_fib` are DPDK's tables; the second finds a hop and no network. py-radix is called from Python, whose loop and parsing are part of
+its times. Figures are nanoseconds of CPU time for one network or address. All sides stored as many networks and found the same in each
+lookup. The last column is the crate's time over ours: above 1 we are faster.{missing}"""
 
 
 def lists(family, count):

@@ -1,5 +1,4 @@
-"""Runs programs, takes their times, and reports the other load of the machine. All parts of docs/PERFORMANCE.md are measured with
-this."""
+"""Runs programs, takes their times, and tells what else the machine did meanwhile. Every part of bench/RESULTS.md is measured by this."""
 import datetime
 import os
 import shutil
@@ -91,12 +90,11 @@ class Others:
         self.work, self.stolen = max(busy - own, 0) / elapsed, stolen / elapsed
 
     def told(self, runs):
-        """The last lines of a part: the machine, the date, and the other load."""
-        text = f"Measured on {datetime.date.today():%-d %B %Y} on {machine()}: the least of {runs} runs. Other work took {self.work:.2f} "
-        text += f"of the {os.cpu_count()} processors meanwhile, and the host kept back {self.stolen:.2f} of them."
+        """The last lines of a part: where and when it was measured, and what else ran."""
+        text = f"Measured on {datetime.date.today():%-d %B %Y} on {machine()}: the least of {runs} runs. Meanwhile other work took "
+        text += f"{self.work:.2f} of the {os.cpu_count()} processors, and the host withheld {self.stolen:.2f}."
         if self.work + self.stolen > 0.1:
-            text += " That is more than a tenth of a processor: the times are those of a busy machine, and the ratios tell more, since the"
-            text += " programs took turns."
+            text += " That is more than a tenth of a processor, so rely on the ratios: the programs took turns."
         return text
 
 

@@ -1,5 +1,5 @@
-"""Checks the output of an installer against its input, by the rules of docs/ROUTES.md alone. There may be several least tables, so the
-output is checked batch by batch. The batch of a `sync` must make one of the least tables, in the prescribed order."""
+"""What an installer has to write for its input, worked out from docs/ROUTES_FIB.md alone. Several tables may be least, so its output is
+looked at batch by batch: whichever table a batch of a `sync` makes, it has to be one of these, and made in the order that is told."""
 from model import change, fewest, hop, network, painted, written
 
 MOST = 256

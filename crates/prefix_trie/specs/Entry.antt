@@ -1,6 +1,6 @@
 -- The words for the contracts of an entry. They apply to its two variants too, as in `entry_value (Occupied o)`.
 pub use Rattle.prefix_trie.specs.declared.entry.Entry.TheVariants.{Occupied, Vacant}
-use Rattle.std.specs.Prelude.{◌≡◌, List, Bool, Option, Some, Result, is_some, MatchOption, OnErr, IsOk, []}
+use Rattle.std.specs.Prelude.{◌≡◌, List, Bool, true, false, Option, Some, Result, is_some, MatchOption, OnErr, IsOk, []}
 use Rattle.std.specs.Borrow.{Fml, RattleType, MutBor, follows, follows_so, name_if_ok}
 use Rattle.std.specs.FinMap.{get, insert}
 use Rattle.std.proofs.Common.{ap}
@@ -37,6 +37,11 @@ module _ {P X R : Type 0} {g : prefix.Ghosts P R} {k : key.Ghosts R} where
   abbrev pub MatchEntry : Entry P X R g k → Type 0 → Type 0 → Type 0
   MatchEntry (Vacant e) A B = B
   MatchEntry (Occupied o) A B = A
+
+  -- whether the entry is occupied
+  abbrev pub is_occupied : Entry P X R g k → Bool
+  is_occupied (Vacant e) = false
+  is_occupied (Occupied o) = true
 
   -- o after w is written as its value
   abbrev pub with_entry_value : OccupiedEntry P X R g k → X → OccupiedEntry P X R g k

@@ -1,11 +1,12 @@
 -- The theorems about the bit strings of networks, and about matches in a map, as statements.
-use Rattle.std.specs.Prelude.{◌≡◌, ◌<◌, ◌↔◌, ℕ, IsTrue, Bool, List, None, length}
+use Rattle.std.specs.Prelude.{◌≡◌, ◌<◌, ◌≤◌, ◌↔◌, ◌⊎◌, ℕ, IsTrue, Bool, List, None, length}
 use Rattle.std.specs.FinMap.{get}
 use Rattle.std.specs.declared.cmp.Ordering.TheVariants.{Less}
 use Rattle.ipnet_addr.specs.Addresses.{Family}
 use Rattle.ipnet_blocks.specs.BitStrings.{begins, bits_cmp}
 use Rattle.ipnet_blocks.specs.Blocks.{IsInside, IsBefore, bit_string}
 use Rattle.ipnet_blocks.specs.Networks.{Network, IsNetwork, block_of}
+use Rattle.trie_core.specs.Bits.{number_from}
 use Rattle.trie_core.specs.Nodes.{BitMap}
 use Rattle.trie_core.specs.Search.{IsLongest, NoBeginning}
 
@@ -18,6 +19,14 @@ BegunAreInside = (f : Family) (m n : Network) → IsNetwork f m → IsNetwork f 
 abbrev pub WalksAscend : Type 0
 WalksAscend = (f : Family) (m n : Network) → IsNetwork f m → IsNetwork f n →
     (bits_cmp (bit_string (block_of f m)) (bit_string (block_of f n)) ≡ Less) ↔ IsBefore (block_of f m) (block_of f n)
+
+-- of two keys of w bits, the key with the first bits s has the lesser masked key; or both masked keys are equal, and s is shorter
+abbrev pub IsSooner : ℕ → List Bool → List Bool → Type 0
+IsSooner w s t = (number_from w s < number_from w t) ⊎ ((number_from w s ≡ number_from w t) × (length s < length t))
+
+-- a walk reaches the prefix with the bits s before the prefix with the bits t exactly if s has the lesser masked key, or the same and fewer bits
+abbrev pub StringsAscend : Type 0
+StringsAscend = (w : ℕ) (s t : List Bool) → length s ≤ w → length t ≤ w → (bits_cmp s t ≡ Less) ↔ IsSooner w s t
 
 -- s begins with q, and with no longer key of m: network s is inside q, and inside no stored network strictly inside q
 pub record IsGoverned {X : Type 0} (m : BitMap X) (q s : List Bool) : Type 0 where

@@ -176,6 +176,7 @@ impl<'a, P: Prefix, T> VacantEntry<'a, P, T> {
         ensures value { IfOk result (λ x. x.now ≡ value) }
         ensures full { IfErr result (λ e. e.0 ≡ Full → no_room (entry_map (Vacant self.entry))) }
         ensures value_returned { IfErr result (λ e. e.1 ≡ value) }
+        ensures absent { OnErr result (entry_value (Vacant self.entry) ≡ None) }
     {
         let path = path_of(&self.key);
         let map = self.map;
@@ -218,6 +219,7 @@ impl<'a, P: Prefix, T> VacantEntry<'a, P, T> {
         ensures value { IfOk result (λ x. F.post f x.now) }
         ensures full { IfErr result (λ e. e.0 ≡ Full → no_room (entry_map (Vacant self.entry))) }
         ensures value_returned { IfErr result (λ e. F.post f e.1) }
+        ensures absent { OnErr result (entry_value (Vacant self.entry) ≡ None) }
     {
         self.insert(f())
     }
@@ -234,6 +236,7 @@ impl<'a, P: Prefix, T> VacantEntry<'a, P, T> {
         ensures value { IfOk result (λ x. T.is_default x.now) }
         ensures full { IfErr result (λ e. e.0 ≡ Full → no_room (entry_map (Vacant self.entry))) }
         ensures value_returned { IfErr result (λ e. T.is_default e.1) }
+        ensures absent { OnErr result (entry_value (Vacant self.entry) ≡ None) }
     {
         self.insert(T::default())
     }
@@ -241,7 +244,7 @@ impl<'a, P: Prefix, T> VacantEntry<'a, P, T> {
 
 impl<'a, P: Prefix, T> Entry<'a, P, T> {
     ghost use Rattle.prefix_trie.specs.Seen.{with_value};
-    ghost use Rattle.prefix_trie.specs.Entry.{entry_map_ref, entry_map, entry_key, entry_value, entry_lends_ok, IsStored};
+    ghost use Rattle.prefix_trie.specs.Entry.{entry_map_ref, entry_map, entry_key, entry_value, entry_lends_ok, is_occupied, IsStored};
 
     /// Returns the key. If it is stored, its bits after the prefix are zero; else it is the prefix that `entry` was called with.
     pub fn key(&self) -> &P
@@ -309,6 +312,7 @@ impl<'a, P: Prefix, T> Entry<'a, P, T> {
         requires { (p : MutBor T) → entry_value self ≡ Some p.now → F.pre f p }
         ensures same_map { (entry_map_ref result).ghost_name ≡ (entry_map_ref self.entry).ghost_name }
         ensures same_key { entry_key result ≡ entry_key self.entry }
+        ensures same_kind { is_occupied result ≡ is_occupied self.entry }
         ensures update { ModifiesValue F.FnOnce f (entry_value self.entry) (entry_value result) }
         ensures rest { MatchOption (entry_value result) (entry_map result ≡ entry_map self.entry) (λ w. entry_map result ≡ with_value (entry_map self.entry) (P.bits (entry_key self.entry)) w) }
     {

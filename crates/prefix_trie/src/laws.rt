@@ -1,7 +1,7 @@
 //! Theorems about the bit strings of networks, about matches, and about refusals: public functions without a body, whose contracts
 //! are the theorems.
 ghost use Rattle.std.specs.Prelude.{◌≡◌, ◌↔◌, IsTrue};
-ghost use Rattle.prefix_trie.specs.Laws.{BegunAreInside, GovernedMatch, WalksAscend};
+ghost use Rattle.prefix_trie.specs.Laws.{BegunAreInside, GovernedMatch, StringsAscend, WalksAscend};
 ghost use Rattle.prefix_trie.specs.declared.refused.Refused.{Refused as AnyRefused};
 
 use crate::refused::Refused;
@@ -12,6 +12,12 @@ use crate::refused::Refused;
 pub fn networks()
     ensures inside { BegunAreInside }
     ensures order { WalksAscend }
+{}
+
+/// A walk visits the prefixes of one width by their masked keys, which `Prefix::mask` returns, and then by length. For example, in a
+/// map of `(u32, u8)` the key (0, 8) comes before (0, 9), and (0, 9) before (1 << 31, 1).
+pub fn walks()
+    ensures order { StringsAscend }
 {}
 
 /// A prefix governs what it contains and no longer stored key contains. All that a prefix governs has the same longest match as the

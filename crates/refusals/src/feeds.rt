@@ -3,7 +3,7 @@ use crate::fault::{Fault, made};
 use crate::show::{answer, begin, bytes, end, ended, ended_with, line, lines, part};
 use ipnet::{IpAddr, Ipv4Addr};
 use route_feed::{Counted, Follower, follow, install, lead, shorten};
-use route_lines::{Command, Line, LineCutter, Reply};
+use route_lines::{Command, Line, LineCutter, Reply, Update};
 use std::io::Stdin;
 
 /// The most bytes of output that are kept.
@@ -22,6 +22,7 @@ pub enum FeedCall {
     Least,
     Hop,
     Cut,
+    Print,
 }
 
 pub fn run(rt: &HostRuntime, call: FeedCall) -> Result<(), Fault> {
@@ -32,6 +33,10 @@ pub fn run(rt: &HostRuntime, call: FeedCall) -> Result<(), Fault> {
         }
         FeedCall::Cut => {
             cut(rt);
+            Ok(())
+        }
+        FeedCall::Print => {
+            print(rt);
             Ok(())
         }
         _ => run_over(rt, call),
@@ -145,6 +150,7 @@ fn hops(rt: &HostRuntime, follower: &mut Follower) -> Result<(), Fault> {
         let addr = IpAddr::V4(Ipv4Addr::new(first, 1, 2, 3));
         line(rt, &follower.hop(addr));
     }
+    show_flat(rt, follower);
     end(rt);
     Ok(())
 }
@@ -180,4 +186,34 @@ fn cut(rt: &HostRuntime) {
 fn read(rt: &HostRuntime, text: &[u8]) {
     let (is_command, is_reply) = (Command::read(text).is_ok(), Reply::read(text).is_ok());
     line(rt, &(text.len(), is_command, is_reply));
+}
+
+/// Lines of each kind, as they are printed.
+fn print(rt: &HostRuntime) {
+    begin(rt);
+    print_command(rt, b"from 2001:db8::/32 1000");
+    print_command(rt, b"add 10.0.0.0/8 1 7");
+    print_reply(rt, b"route 10.0.0.0/8 drop 100");
+    print_reply(rt, b"count 1 18446744073709551615");
+    print_update(rt, b"install ::ffff:10.0.0.0/104 1");
+    print_update(rt, b"remove 10.0.0.0/8");
+    end(rt);
+}
+
+fn print_command(rt: &HostRuntime, text: &[u8]) {
+    if let Ok(command) = Command::read(text) {
+        bytes(rt, command.print().as_slice());
+    }
+}
+
+fn print_reply(rt: &HostRuntime, text: &[u8]) {
+    if let Ok(reply) = Reply::read(text) {
+        bytes(rt, reply.print().as_slice());
+    }
+}
+
+fn print_update(rt: &HostRuntime, text: &[u8]) {
+    if let Ok(update) = Update::read(text) {
+        bytes(rt, update.print().as_slice());
+    }
 }

@@ -41,7 +41,7 @@ fn look_up(rt: &HostRuntime, map: &Map, nets: &[Ipv4Net; 2]) {
         look_up_exact(rt, map, net);
         look_up_cover(rt, map, net);
     }
-    line(rt, &(map.len(), map.is_empty()));
+    line(rt, &(map.len(), map.node_count(), map.is_empty()));
     line(rt, &(map.address_count(), map == map));
 }
 

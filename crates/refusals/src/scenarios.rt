@@ -27,7 +27,7 @@ pub enum Call {
 }
 
 /// The names and their calls.
-static SCENARIOS: [(&str, Call); 86] = [
+static SCENARIOS: [(&str, Call); 87] = [
     ("aggregate-ipv4", Net(NetCall::AggregateIpv4)),
     ("aggregate-ipv6", Net(NetCall::AggregateIpv6)),
     ("aggregate-mixed", Net(NetCall::AggregateMixed)),
@@ -117,6 +117,7 @@ static SCENARIOS: [(&str, Call); 86] = [
     ("least-of-follower", Feed(FeedCall::Least)),
     ("free-follower-hop", Feed(FeedCall::Hop)),
     ("free-lines", Feed(FeedCall::Cut)),
+    ("free-lines-print", Feed(FeedCall::Print)),
 ];
 
 /// All scenarios, in this order.

@@ -156,6 +156,7 @@ fn look_up(rt: &HostRuntime, set: &Set, nets: &[Ipv4Net; 2]) {
         look_up_one(rt, set, net);
     }
     line(rt, &(set.address_count(), set == set));
+    line(rt, &set.node_count());
 }
 
 fn look_up_one(rt: &HostRuntime, set: &Set, net: &Ipv4Net) {
@@ -169,6 +170,7 @@ fn walk(rt: &HostRuntime, set: &Set, net: &Ipv4Net) -> Result<(), Fault> {
     lines(rt, "", set.into_iter());
     lines(rt, "", set.children(net));
     lines(rt, "", set.iter_from(net, true));
+    lines(rt, "", set.iter_from(net, false));
     lines(rt, "", set.cover(net));
     copy_first(rt, &set.iter())
 }

@@ -112,6 +112,7 @@ fn free(rt: &HostRuntime, table: &mut RouteTable, call: TableCall) -> Result<(),
         TableCall::Pages => pages(rt, table)?,
         _ => lines(rt, "", table.flat()),
     }
+    line(rt, &table.node_counts());
     end(rt);
     Ok(())
 }

@@ -1,5 +1,5 @@
 -- The state of a follower, and the effect of a reply line on it.
-use Rattle.std.specs.Prelude.{◌≡◌, ℕ, Bool, List, if◌then◌else◌, Option, Some, None}
+use Rattle.std.specs.Prelude.{◌≡◌, ℕ, Bool, List, if◌then◌else◌, Option, Some, None, take}
 use Rattle.ipnet_addr.specs.Addresses.{Address, IsAddress}
 use Rattle.route_lines.specs.declared.reply.Closing.{Closing}
 use Rattle.route_lines.specs.declared.reply.Reply.{Reply}
@@ -22,3 +22,14 @@ hop_after s None x = hop_at (routes_of s.table) x
 pub record TakesLine (old new : State) (line : Reply) : Type 0 where
   pub hops : (x : Address) → IsAddress x → hop_at (routes_of new.table) x ≡ hop_after old (closes line) x
   pub pending : new.pending ≡ pending_after old.pending (closes line) (change_of line)
+
+-- each address has its hop after some first ones of these changes
+pub record HasFirst (old : List Stored) (changes : List Change) (new : List Stored) : Type 0 where
+  pub carried : ℕ
+  pub hops : (x : Address) → IsAddress x → hop_at (routes_of new) x ≡ painted_over (hop_at (routes_of old) x) (take carried changes) x
+
+-- there was no memory for the line: the pending changes stay, and the table too unless the line is `ok`, where it may have some first ones of them
+pub record LacksMemory (old new : State) (line : Reply) : Type 0 where
+  pub pending : new.pending ≡ old.pending
+  pub first : HasFirst old.table old.pending new.table
+  pub kept : closes line ≡ None → new.table ≡ old.table

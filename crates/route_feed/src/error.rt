@@ -20,7 +20,7 @@ pub enum RunError {
     #[error("write fault")]
     Write,
     /// A line of the input isn't a reply line. For an installer: isn't one of its lines, or is a `have` line after a `sync`.
-    #[error("unexpected line")]
+    #[error("not a reply line")]
     Line,
 }
 

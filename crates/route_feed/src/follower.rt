@@ -11,7 +11,7 @@ ghost use Rattle.route_laws.specs.Networks.{routes_of};
 ghost use Rattle.route_laws.specs.Tables.{hop_at};
 ghost use Rattle.route_feed.specs.declared.error.RunError.TheVariants as run;
 ghost use Rattle.route_feed.specs.declared.follower.FollowError.TheVariants as follow;
-ghost use Rattle.route_feed.specs.Following.{State, TakesLine};
+ghost use Rattle.route_feed.specs.Following.{HasFirst, LacksMemory, State, TakesLine};
 ghost use Rattle.route_feed.specs.Streams.{painted_over, WantsMemory};
 ghost use Rattle.route_feed.specs.InnerWaiting.{changes_of, waiting_change};
 
@@ -100,6 +100,7 @@ fn carry_out(table: &mut HopTable, changes: &[Waiting]) -> Result<(), FollowErro
     ensures hops { OnOk result ((x : Address) → IsAddress x → hop_at (routes_of table.new) x ≡ painted_over (hop_at (routes_of table.old) x) (changes_of changes.now) x) }
     ensures memory { IfErr result (λ e. e ≡ FollowError.Memory) }
     ensures some { OnErr result (0 < length changes.now) }
+    ensures first { OnErr result (HasFirst table.old (changes_of changes.now) table.new) }
 {
     for change in changes {
         table.overwrite(change.net, change.hop)?;
@@ -190,8 +191,9 @@ impl Follower {
     ///
     /// # Errors
     /// - `Failed` exactly after a fault; then nothing changes.
-    /// - `NotALine` exactly if the text isn't a reply line.
-    /// - `Memory` if an allocation fails: at a line with a change, or at an `ok` with pending changes.
+    /// - `NotALine` exactly if the text isn't a reply line. The table and the pending changes stay.
+    /// - `Memory` if an allocation fails: at a line with a change, or at an `ok` with pending changes. The pending changes stay. So does
+    ///   the table at a line with a change; at `ok` the first few of the pending changes may be applied.
     ///
     /// Both `NotALine` and `Memory` are faults.
     pub fn line(&mut self, text: &[u8]) -> Result<(), FollowError>
@@ -200,6 +202,8 @@ impl Follower {
         ensures not_a_line { IsErrOf result FollowError.NotALine → (self.old.failed ≡ false) × (reply_of text.now ≡ None) }
         ensures memory { IsErrOf result FollowError.Memory → (self.old.failed ≡ false) × (line : Reply) × (reply_of text.now ≡ Some line) × WantsMemory self.old.pending line }
         ensures failed { IsErrOf result FollowError.Failed → (self.old.failed ≡ true) × (self.new ≡ self.old) }
+        ensures stays { IsErrOf result FollowError.NotALine → (self.new.table ≡ self.old.table) × (self.new.pending ≡ self.old.pending) }
+        ensures lacks { IsErrOf result FollowError.Memory → (line : Reply) × (reply_of text.now ≡ Some line) × LacksMemory self.old self.new line }
         ensures fault { OnErr result (self.new.failed ≡ true) }
     {
         if self.failed {
@@ -216,6 +220,8 @@ impl Follower {
         ensures ok { OnOk result ((line : Reply) × (reply_of text.now ≡ Some line) × TakesLine self.old self.new line) }
         ensures not_a_line { IsErrOf result FollowError.NotALine → reply_of text.now ≡ None }
         ensures memory { IsErrOf result FollowError.Memory → (line : Reply) × (reply_of text.now ≡ Some line) × WantsMemory self.old.pending line }
+        ensures stays { IsErrOf result FollowError.NotALine → (self.new.table ≡ self.old.table) × (self.new.pending ≡ self.old.pending) }
+        ensures lacks { IsErrOf result FollowError.Memory → (line : Reply) × (reply_of text.now ≡ Some line) × LacksMemory self.old self.new line }
         ensures never { IsErrOf result FollowError.Failed → ⊥ }
         ensures failed { self.new.failed ≡ self.old.failed }
     {
@@ -229,6 +235,7 @@ impl Follower {
         ensures ok { OnOk result (TakesLine self.old self.new line) }
         ensures memory { IfErr result (λ e. e ≡ FollowError.Memory) }
         ensures wanted { OnErr result (WantsMemory self.old.pending line) }
+        ensures lacks { OnErr result (LacksMemory self.old self.new line) }
         ensures failed { self.new.failed ≡ self.old.failed }
     {
         match line {
@@ -247,6 +254,7 @@ impl Follower {
     fn keep(&mut self, net: IpNet, hop: Hop) -> Result<(), FollowError>
         ensures table { self.new.table ≡ self.old.table }
         ensures pending { OnOk result (self.new.pending ≡ self.old.pending ++ waiting_change (record { net = net; hop = hop }) ∷ []) }
+        ensures stays { OnErr result (self.new.pending ≡ self.old.pending) }
         ensures memory { IfErr result (λ e. e ≡ FollowError.Memory) }
         ensures failed { self.new.failed ≡ self.old.failed }
     {
@@ -258,6 +266,8 @@ impl Follower {
     fn commit(&mut self) -> Result<(), FollowError>
         ensures hops { OnOk result ((x : Address) → IsAddress x → hop_at (routes_of self.new.table) x ≡ painted_over (hop_at (routes_of self.old.table) x) self.old.pending x) }
         ensures pending { OnOk result (self.new.pending ≡ []) }
+        ensures first { OnErr result (HasFirst self.old.table self.old.pending self.new.table) }
+        ensures stays { OnErr result (self.new.pending ≡ self.old.pending) }
         ensures memory { IfErr result (λ e. e ≡ FollowError.Memory) }
         ensures some { OnErr result (0 < length self.old.pending) }
         ensures failed { self.new.failed ≡ self.old.failed }

@@ -65,7 +65,7 @@ pub fn reply<W: Write, B: Body>(writer: &mut Counted<W>, mut body: B) -> Result<
     requires body { B.can_give body }
     ensures { Closes W.contents 1 writer.old writer.new result (printed (B.lines body ++ Reply.Close Closing.Done ∷ [])) }
 {
-    let mut text = ArrayVec::new();
+    let mut text = ArrayVec::<u8, 67>::new();
     while let Some(line) = body.next_line() {
         line.print_to(&mut text);
         write_piece(writer, text.as_slice())?;

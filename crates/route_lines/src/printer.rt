@@ -67,7 +67,7 @@ impl Command {
 impl Reply {
     /// Returns the text of the line, with its line end; it reads as this line. The network, if there is one, must have no host bits. Does
     /// not allocate.
-    pub fn print(&self) -> ArrayVec<u8, 67>
+    pub fn print(&self) -> ArrayVec<u8, 80>
         requires { IsPrintable self.now }
         ensures { IsPrinted IsReply reply_text 67 self.now result.items }
     {
@@ -76,9 +76,10 @@ impl Reply {
         out
     }
 
-    /// Replaces the contents of `out` with the result of `print`.
-    pub fn print_to(&self, out: &mut ArrayVec<u8, 67>)
-        requires { IsPrintable self.now }
+    /// Replaces the contents of `out`, which has room for 67 bytes, with the result of `print`.
+    pub fn print_to<const N: usize>(&self, out: &mut ArrayVec<u8, N>)
+        requires printable { IsPrintable self.now }
+        requires room { 67 ≤ N }
         ensures { IsPrinted IsReply reply_text 67 self.now out.new.items }
     {
         self.print_words(out);
@@ -86,7 +87,8 @@ impl Reply {
     }
 
     #[inline]
-    fn print_words(&self, out: &mut ArrayVec<u8, 67>)
+    fn print_words<const N: usize>(&self, out: &mut ArrayVec<u8, N>)
+        requires { 66 ≤ N }
         ensures { AreWords reply_text ReplyWords 66 self.now out.new.items }
     {
         out.clear();

@@ -1,9 +1,11 @@
 -- The output of each mode for its input.
-use Rattle.std.specs.Prelude.{ℕ, Bool, List, Option, Result}
-use Rattle.std.specs.Io.KnownBytes.{Appends}
+use Rattle.std.specs.Prelude.{◌≡◌, ◌⊎◌, ⊤, ℕ, Bool, List, Option, Result}
+use Rattle.std.specs.Io.KnownBytes.{Appends, IsAtEnd}
+use Rattle.route_lines.specs.Bytes.{lines}
 use Rattle.route_feed.specs.declared.counted.Counted.{Counted}
 use Rattle.route_feed.specs.declared.error.RunError.{RunError}
-use Rattle.route_feed.specs.Follows.{FollowEnds, followed}
+use Rattle.route_feed.specs.Devices.{HasRead, HasReadAll}
+use Rattle.route_feed.specs.Follows.{AreReplies, FollowEnds, MeetsWant, followed}
 use Rattle.route_feed.specs.Leads.{LeadEnds}
 use Rattle.route_feed.specs.Output.{output}
 use Rattle.route_feed.specs.Shortens.{AppendsLeast, ShortenEnds}
@@ -21,3 +23,16 @@ abbrev pub Ends : {R W : Type 0} → (R → Option (List ℕ)) → (W → Option
 Ends remaining contents Lead from to old new result = LeadEnds remaining contents from to old new result
 Ends remaining contents Follow from to old new result = FollowEnds remaining contents from to old new result
 Ends remaining contents Least from to old new result = ShortenEnds remaining contents from to old new result
+
+-- where a run in this mode may lack memory: a leader before it reads; the others too at a line that may want it, and `least` once all is read
+abbrev pub MayLackMemory : {R : Type 0} → (R → Option (List ℕ)) → Mode → Counted R → Counted R → Type 0
+MayLackMemory remaining Lead from to = to ≡ from
+MayLackMemory remaining Follow from to = (to ≡ from) ⊎ HasRead remaining (λ bytes. MeetsWant (lines bytes)) from to
+MayLackMemory remaining Least from to =
+    (to ≡ from) ⊎ HasRead remaining (λ bytes. MeetsWant (lines bytes)) from to ⊎ (HasRead remaining (λ bytes. AreReplies (lines bytes)) from to × IsAtEnd (remaining to.device))
+
+-- where a run in this mode may meet a fault of its output: a leader at any reply, the others once all is read and each line is a reply line
+abbrev pub MayFailToWrite : {R : Type 0} → (R → Option (List ℕ)) → Mode → Counted R → Counted R → Type 0
+MayFailToWrite remaining Lead from to = ⊤
+MayFailToWrite remaining Follow from to = HasReadAll remaining (λ bytes. AreReplies (lines bytes)) from to
+MayFailToWrite remaining Least from to = HasReadAll remaining (λ bytes. AreReplies (lines bytes)) from to

@@ -9,7 +9,7 @@ ghost use Rattle.route_feed.specs.Follows.{MeetsAnother};
 ghost use Rattle.route_feed.specs.Status.{status_of};
 ghost use Rattle.route_feed.specs.declared.error.RunError.{RunError as AnyRunError};
 ghost use Rattle.routes.specs.Asked.{AnyMode, word_of};
-ghost use Rattle.routes.specs.Runs.{Ends, Writes};
+ghost use Rattle.routes.specs.Runs.{Ends, MayFailToWrite, MayLackMemory, Writes};
 
 use route_feed::{
     AtEnd, Counted, Input, Output, REPLY, RunError, follow_then, lead_then, let_go, shorten,
@@ -130,6 +130,8 @@ fn run_mode<R: Read, W: Write + Drop>(
     requires { CanRead reader.old }
     ensures known { IfOk result (λ w. IfSome (R.remaining reader.old.device) (λ bytes. Writes mode bytes (W.contents output) (W.contents w))) }
     ensures read { IsErrOf result RunError.Read → ReadFault reader.old reader.new }
+    ensures memory { IsErrOf result RunError.Memory → MayLackMemory R.remaining mode reader.old reader.new }
+    ensures write { IsErrOf result RunError.Write → MayFailToWrite R.remaining mode reader.old reader.new }
     ensures line { IsErrOf result RunError.Line → ((mode ≡ Mode.Follow) ⊎ (mode ≡ Mode.Least)) × MeetsAnother R.remaining reader.old reader.new }
     ensures read_well { (IsErrOf result RunError.Read → ⊥) → reader.new.faults ≡ reader.old.faults }
 {

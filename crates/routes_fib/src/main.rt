@@ -9,7 +9,7 @@ ghost use Rattle.route_feed.specs.Installs.{AppendsInstalled};
 ghost use Rattle.route_feed.specs.Status.{status_of};
 ghost use Rattle.route_feed.specs.declared.error.RunError.{RunError as AnyRunError};
 ghost use Rattle.route_lines.specs.Bytes.{lines};
-ghost use Rattle.routes_fib.specs.Ends.{MeetsUnfitLine, MeetsWantingLine};
+ghost use Rattle.routes_fib.specs.Ends.{MeetsNote, MeetsUnfitLine, MeetsWantingLine, ReadsNotes};
 
 use route_feed::{Counted, REPLY, RunError, install, let_go, write_out};
 use std::alloc::{Allocator, Global};
@@ -28,9 +28,24 @@ enum Fault {
     /// There is an argument; the program takes none.
     #[error("usage: routes_fib")]
     Usage,
-    /// The run ended early.
+    /// A line is none of its grammar, or a `have` line after a `sync`.
+    #[error("routes_fib: unexpected line")]
+    Line,
+    /// The run ended early for another reason.
     #[error("routes_fib: {0}")]
     Run(RunError),
+}
+
+/// The fault of a run that ended early so. Its lines are more than reply lines, so it has a text of its own for a line.
+impl From<RunError> for Fault {
+    ghost from_gives = { λ e f. (e ≡ RunError.Line → f ≡ Fault.Line) × ((e ≡ RunError.Line → ⊥) → f ≡ Fault.Run e) };
+
+    fn from(error: RunError) -> Fault {
+        match error {
+            RunError::Line => Fault::Line,
+            _ => Fault::Run(error),
+        }
+    }
 }
 
 impl Fault {
@@ -38,11 +53,13 @@ impl Fault {
     fn status(&self) -> u8
         ensures arguments { self.now ≡ Fault.Arguments → result ≡ 1 }
         ensures usage { self.now ≡ Fault.Usage → result ≡ 2 }
+        ensures line { self.now ≡ Fault.Line → result ≡ 5 }
         ensures run { (error : AnyRunError) → self.now ≡ Fault.Run error → result ≡ status_of error }
     {
         match self {
             Fault::Arguments => 1,
             Fault::Usage => 2,
+            Fault::Line => RunError::Line.status(),
             Fault::Run(error) => error.status(),
         }
     }
@@ -82,6 +99,7 @@ fn install_by<R: Read, W: Write + Drop>(
     ensures read { IsErrOf result RunError.Read → ReadFault reader.old reader.new }
     ensures line { IsErrOf result RunError.Line → MeetsUnfitLine R.remaining reader.old reader.new }
     ensures memory { IsErrOf result RunError.Memory → (reader.new ≡ reader.old) ⊎ MeetsWantingLine R.remaining reader.old reader.new }
+    ensures write { IsErrOf result RunError.Write → MeetsNote R.remaining reader.old reader.new ⊎ ReadsNotes R.remaining reader.old reader.new }
     ensures read_well { (IsErrOf result RunError.Read → ⊥) → reader.new.faults ≡ reader.old.faults }
 {
     let Ok(buffered) = BufWriter::with_capacity(alloc, REPLY, output) else {
@@ -102,7 +120,7 @@ fn run(rt: &HostRuntime) -> Result<(), Fault> {
     let mut reader = Counted::new(rt.stdin());
     match install_by(rt.alloc(), &mut reader, rt.stdout()) {
         Ok(_output) => Ok(()),
-        Err(error) => Err(Fault::Run(error)),
+        Err(error) => Err(Fault::from(error)),
     }
 }
 

@@ -57,10 +57,11 @@ fn asks_in_order(rt: HostRuntime) {
     let mut map = plain_map_of(&rt, rt.alloc(), &stored);
     let mut asked = 0u32;
     map.retain(|key, value| {
-        asked = asked.wrapping_mul(100).wrapping_add(u32::from(key.1));
+        // (the second byte of the address, and the length)
+        asked = asked.wrapping_mul(1000).wrapping_add((key.0 >> 16 & 0xff) * 100 + u32::from(key.1));
         *value != 2
     });
-    is_equal(&rt, asked, 81616);
+    is_equal(&rt, asked, 8_016_116);
     is_equal(&rt, kept_values(&mut map), 13);
     is_equal(&rt, (map.len(), map.node_count()), (2, 4));
 }

@@ -312,7 +312,7 @@ fn errors(rt: HostRuntime) {
     prints(&rt, rt.alloc(), RunError::Memory, "no memory");
     prints(&rt, rt.alloc(), RunError::Read, "read fault");
     prints(&rt, rt.alloc(), RunError::Write, "write fault");
-    prints(&rt, rt.alloc(), RunError::Line, "unexpected line");
+    prints(&rt, rt.alloc(), RunError::Line, "not a reply line");
     prints(&rt, rt.alloc(), FollowError::Memory, "no memory");
     prints(&rt, rt.alloc(), FollowError::NotALine, "not a reply line");
     prints(&rt, rt.alloc(), FollowError::Failed, "failed before");
