@@ -1,4 +1,4 @@
-"""The part on the calls of the C library on a real feed, timed by c/bench.c, beside DPDK's and those of the Rust crate's map."""
+"""The part on the calls of the C library on a real feed, timed by c/bench.c, compared with those of DPDK and of the Rust crate's map."""
 import shutil
 import subprocess
 import sys
@@ -11,7 +11,7 @@ import page
 SIDES = {"routes": "C library", "crate": "the crate's map", "rib": "`rte_rib`", "fib": "`rte_fib`"}
 CHANGES = {"add": "add", "del": "del", "index_open": "make the index"}
 LOOK_UPS = {"match": "longest match", "match_many": "longest match, 64", "index": "index", "index_many": "index, 64"}
-# The ways that stand beside the index, and of which of its calls.
+# The ways that the index is compared with, and the calls that are compared.
 WAYS = (("routes", "match", "index", "over the table"), ("crate", "match", "index", "over the crate's map"),
         ("rib", "match", "index", "over `rte_rib`"), ("fib", "index", "index", "over `rte_fib`"),
         ("fib", "index_many", "index_many", "64, over `rte_fib`"))
@@ -32,7 +32,7 @@ the feed beside them, its output to a file."""
 
 
 def networks_of(feed, family, folder):
-    """The networks of a family; and in files, these with their hops, and alone."""
+    """The networks of a family, and two files of them: with their hops, and without."""
     with open(feed, encoding="ascii") as file:
         lines = [line[4:] for line in file if line.startswith("add ") and (":" in line) == (family == "v6")]
     networks = [line.split()[0] for line in lines]
@@ -43,7 +43,7 @@ def networks_of(feed, family, folder):
 
 
 def timed(bench, program, sides, feed, family):
-    """How many networks the family has, and the least times."""
+    """The number of networks of the family, and the least times."""
     networks, routes, alone = networks_of(feed, family, bench.folder)
     asked = calls.asked(bench.folder, family, networks, bench.asked)
     found = {}
@@ -55,13 +55,13 @@ def timed(bench, program, sides, feed, family):
 
 
 def led(bench, feed):
-    """The seconds in which the leader loads the feed."""
+    """The seconds that the leader needs to load the feed."""
     leader = {"lead": lambda: measure.once([*bench.pin, bench.programs["ours"], "lead"], feed, bench.folder / "led")}
     return measure.least(measure.in_turns(bench.runs, leader)["lead"]).seconds
 
 
 def made(parts, lead):
-    """What making the indexes takes, beside the leader's time."""
+    """The time for making the indexes, compared with the leader's time."""
     seconds = sum(count * least["routes", "index_open", None] for count, least in parts.values()) / 1e9
     return MADE.format(made=1000 * seconds, ratio=seconds / lead, lead=lead)
 
@@ -74,7 +74,7 @@ def changes(parts):
 
 
 def look_ups(parts):
-    """A row for each family, mix and look-up. A fib stands beside the index."""
+    """A row for each family, mix and lookup. A fib is compared with the index."""
     for family, (_, least) in parts.items():
         for mix in feeds.MIXES:
             for call, title in LOOK_UPS.items():
@@ -90,13 +90,13 @@ def ratios(parts):
 
 
 def version():
-    """That of DPDK, where it is here."""
+    """The version of DPDK, if it is installed."""
     told = subprocess.run(["pkg-config", "--modversion", "libdpdk"], capture_output=True, text=True) if shutil.which("pkg-config") else None
     return f", {told.stdout.strip()}" if told and told.returncode == 0 else ""
 
 
 def measured(bench):
-    """The part, measured; none without the real feed or a C compiler."""
+    """Measures the part, or returns None without the real feed or a C compiler."""
     feed, (program, sides) = bench.real(), calls.build(bench.root, bench.folder, bench.library())
     if not feed or not program:
         print("bench: the calls from C are left out, which need the real feed and a C compiler", file=sys.stderr)

@@ -37,13 +37,13 @@ def filled(text):
 
 
 def table(head, rows):
-    """Lines of a table."""
+    """The lines of a table."""
     lines = ["| " + " | ".join(head) + " |", "|---" * len(head) + "|"]
     return "\n".join(lines + ["| " + " | ".join(row) + " |" for row in rows]) + "\n"
 
 
 def part(title, blocks):
-    """A part as it stands on the page."""
+    """A part as text of the page."""
     return f"## {title}\n\n" + "\n".join(blocks)
 
 

@@ -1,4 +1,4 @@
-"""The parts on the program: its modes over feeds, beside another program with these modes."""
+"""The parts on the program: its modes on feeds, compared with another program with the same modes."""
 import os
 import subprocess
 import tempfile
@@ -31,7 +31,7 @@ buffer is full, as ours does while more lines are here. Very short runs get no r
 
 
 def sizes(path):
-    """Lines and bytes of a file."""
+    """The number of lines and of bytes of a file."""
     lines = total = 0
     with open(path, "rb") as file:
         while piece := file.read(1 << 20):
@@ -41,20 +41,20 @@ def sizes(path):
 
 
 def drops(path):
-    """How many lines give a network no hop."""
+    """The number of lines that give a network no hop."""
     with open(path, "rb") as file:
         return sum(line.endswith(b" drop\n") for line in file)
 
 
 def accepted(title, led):
-    """Every line of the feed was a command, and there was memory for it."""
+    """Checks that each line of the feed was a command, and that memory didn't run out."""
     found = subprocess.run(["grep", "-nxE", "-m", "1", "bad|refused", led], capture_output=True, text=True)
     if found.returncode != 1:
         measure.fail(f"{title}: line {found.stdout.strip() or found.stderr.strip()} of the leader's output")
 
 
 def check(led, followed):
-    """The follower's output is the leader's last reply."""
+    """Checks that the follower's output is the leader's last reply."""
     length = os.path.getsize(followed)
     with open(led, "rb") as left, open(followed, "rb") as right:
         left.seek(-length, os.SEEK_END)
@@ -64,7 +64,7 @@ def check(led, followed):
 
 
 def rebuilt(program, table, followed):
-    """A leader that is given this table has the same flat list."""
+    """Checks that a leader that is given this table has the same flat list."""
     with tempfile.NamedTemporaryFile() as given, tempfile.NamedTemporaryFile() as led:
         given.write(table + b"flat\n")
         given.flush()
@@ -73,14 +73,14 @@ def rebuilt(program, table, followed):
 
 
 def in_mode(bench, mode, programs, source):
-    """What each program took in this mode, {program: Measure}, and its output."""
+    """The cost of each program in this mode, {program: Measure}, and its output."""
     paths = {name: bench.folder / f"{mode}-{name}" for name in programs}
     sides = {name: lambda name=name: measure.once([*bench.pin, programs[name], mode], source, paths[name]) for name in programs}
     return {name: measure.least(seen) for name, seen in measure.in_turns(bench.runs, sides).items()}, paths
 
 
 def of_feed(bench, title, feed, programs):
-    """The programs over a feed. The leader whose replies are together runs in that mode alone."""
+    """Runs the programs on a feed. The leader that buffers its replies runs only in this mode."""
     lead, led = in_mode(bench, "lead", programs, feed)
     accepted(title, led["ours"])
     whole = {name: program for name, program in programs.items() if name != "unflushed"}
@@ -122,17 +122,17 @@ def shortest(row):
 
 
 def is_told(*measures):
-    """Runs that are over at once tell nothing."""
+    """Whether a run is long enough for a ratio."""
     return min(one.seconds for one in measures) >= 0.05
 
 
 def spread(rows):
-    """How many times as long as the fastest the slowest run of one program on one feed was."""
+    """The greatest ratio of the slowest to the fastest run of one program on one feed."""
     return max((one.spread for row in rows for mode in row.modes.values() for one in mode.values() if is_told(one)), default=1)
 
 
 def ratios(row):
-    """Their time over ours, and our memory over theirs."""
+    """Their time divided by ours, and our memory divided by theirs."""
     lead, follow, least = row.modes.values()
     for mode, name in ((lead, "peer"), (lead, "unflushed"), (follow, "peer"), (least, "peer")):
         told = name in mode and is_told(mode[name], mode["ours"])
@@ -152,14 +152,14 @@ def rows_of(bench, programs, real):
 
 
 def networks_of(feed):
-    """How many networks of each family a feed adds."""
+    """The number of networks of each family that a feed adds."""
     adds = [line for line in Path(feed).read_bytes().splitlines() if line.startswith(b"add ")]
     v6 = sum(b":" in line for line in adds)
     return {"v4": len(adds) - v6, "v6": v6}
 
 
 def measured(bench):
-    """The parts, measured; that beside another program where it is here."""
+    """Measures the parts; the comparison with another program only if it is installed."""
     programs, real = bench.programs, bench.real()
     with measure.Others() as others:
         rows = list(rows_of(bench, programs, real))

@@ -1,4 +1,4 @@
-//! Several routes a network: which is the best, and what they take.
+//! Several routes per network: the best one, and the size of the list.
 use crate::tests::tables::row_is;
 use route_choices::{Choices, TooMany};
 use route_table::{AddRefused, Hop, Refused};
@@ -20,7 +20,7 @@ fn the_next_takes_over(rt: HostRuntime) {
     assert_eq!(rt; choices.add(Hop::Drop, 200), Err(TooMany));
 }
 
-/// A choice takes eight bytes, and nothing else does.
+/// A list takes eight bytes per choice, and nothing more.
 #[test]
 fn bytes_of_choices(rt: HostRuntime) {
     row_is(&rt, "eight", std::mem::size_of::<Choices<8>>(), 64);
