@@ -60,10 +60,13 @@ class Edit:
         return {it.rpartition("::")[2] for it in self.functions}
 
     def strays(self, folder):
-        """What is amiss with this edit: that it cannot be made, or changes anything but the bodies of the functions that it names."""
+        """What is amiss with this edit: that it cannot be made, or, unless it is apart, changes anything but the bodies of the functions
+        that it names."""
         texts = self.put({}, folder)
         if texts is None:
             return "it cannot be applied: each 'old:' text stands once in its file, or behind an 'after:' text that does"
+        if self.is_apart:
+            return None
         changed = set()
         for path, wrong in texts.items():
             text = (folder / path).read_text()
