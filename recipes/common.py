@@ -1,5 +1,6 @@
-"""What the recipes have in common. The program is the one that the environment names as ROUTES, else the tree's ./routes."""
+"""What the recipes have in common. A program is the one that the environment names, else the tree's, else the one in PATH."""
 import contextlib
+import fcntl
 import ipaddress
 import itertools
 import os
@@ -15,7 +16,16 @@ import time
 from pathlib import Path
 
 HERE = Path(__file__).resolve().parent
-PROGRAM = os.environ.get("ROUTES", str(HERE.parent / "routes"))
+
+
+def program(variable, name, path):
+    path = HERE.parent / path
+    return os.environ.get(variable) or (str(path) if path.is_file() else name)
+
+
+PROGRAM = program("ROUTES", "routes", "routes")
+INSTALLER = program("ROUTES_FIB", "routes_fib", "routes_fib")
+FIB_KERNEL = program("FIB_KERNEL", "fib_kernel", "netlink/out/fib_kernel")
 NAME = Path(sys.argv[0]).name
 NETWORK = re.compile(r"[0-9a-f:.]+/[0-9]+")
 ANY = re.compile("[^\r]*")
@@ -45,13 +55,24 @@ def run(main):
         fault(f"{error.filename}: {error.strerror}" if error.filename else error)
 
 
+@contextlib.contextmanager
+def naming(path):
+    """A fault of a write, as on a full disk, names the file."""
+    try:
+        yield
+    except OSError as error:
+        raise OSError(error.errno, error.strerror, path) from error
+
+
 def text(lines):
     return "".join(f"{line}\n" for line in lines)
 
 
 def put(lines):
     """Writes all lines, once there can be no fault any more."""
-    sys.stdout.write(text(lines))
+    with naming("standard output"):
+        sys.stdout.write(text(lines))
+        sys.stdout.flush()
 
 
 def pass_over(text):
@@ -237,11 +258,24 @@ def replies_of(file):
 
 
 
-class Numbers:
-    """A file of lines `NUMBER NAME`, kept from run to run: a name keeps its number, a new one has the next."""
+def locked(path):
+    """The file, open. Until it is closed, other runs wait here. Another file may have taken its place meanwhile."""
+    while True:
+        file = open(path, "a")
+        fcntl.flock(file, fcntl.LOCK_EX)
+        with contextlib.suppress(FileNotFoundError):
+            if os.path.samestat(os.fstat(file.fileno()), os.stat(path)):
+                return file
+        file.close()
 
-    def __init__(self, path):
+
+class Numbers:
+    """A file of lines `NUMBER NAME`, kept from run to run: a name keeps its number, a new one has the next. A run that adds names
+    locks the file from the first look to `keep`, so that two runs never give two names one number."""
+
+    def __init__(self, path, adds=False):
         self.path, self.of_name, seen = path, {}, set()
+        self.lock = locked(path) if adds else None
         for at, line in enumerate(lines_of(path) if os.path.exists(path) and os.path.getsize(path) else [], 1):
             number, _, name = line.rstrip("\n").partition(" ")
             if not is_number(number) or not name.strip() or name in self.of_name or number in seen:
@@ -261,9 +295,15 @@ class Numbers:
 
     def keep(self):
         """The new file takes the old one's place in one step."""
-        with open(f"{self.path}.new", "w") as file:
-            file.writelines(f"{number} {name}\n" for name, number in self.of_name.items())
-        os.replace(f"{self.path}.new", self.path)
+        new = f"{self.path}.new"
+        try:
+            with naming(new), open(new, "w") as file:
+                file.writelines(f"{number} {name}\n" for name, number in self.of_name.items())
+        except OSError:
+            Path(new).unlink(missing_ok=True)
+            raise
+        os.replace(new, self.path)
+        self.lock.close()
 
 
 def differing(old, new):
