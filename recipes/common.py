@@ -145,6 +145,17 @@ def refused(*command, given="", **where):
     return done.stderr.strip()
 
 
+def full_disk(folder, command, given):
+    """The one line in which a command says that there is no room for a file. It works in a file system of 32 kB."""
+    if subprocess.run(["unshare", "-rm", "true"], capture_output=True).returncode:
+        return print("passed over: a full disk, since no mount namespace can be made")
+    os.makedirs(folder, exist_ok=True)
+    said = refused("unshare", "-rm", "sh", "-c", f'mount -t tmpfs -o size=32k none "{folder}" && cd "{folder}" && {command}', given=given)
+    if ": No space left on device" not in said or "Errno" in said:
+        fault(f"{command}: {said}")
+    return print("refused:", said)
+
+
 def timed(work, *given, **more):
     """What it gives, and the seconds of the processor that it and its tools took, the kernel's for them included."""
     start = sum(os.times()[:4])
@@ -258,24 +269,23 @@ def replies_of(file):
 
 
 
+@contextlib.contextmanager
 def locked(path):
-    """The file, open. Until it is closed, other runs wait here. Another file may have taken its place meanwhile."""
-    while True:
-        file = open(path, "a")
-        fcntl.flock(file, fcntl.LOCK_EX)
-        with contextlib.suppress(FileNotFoundError):
-            if os.path.samestat(os.fstat(file.fileno()), os.stat(path)):
-                return file
-        file.close()
+    """Until the end no other run has the file. Another file may have taken its place while this one waited."""
+    is_ours = False
+    while not is_ours:
+        with open(path, "a") as file:
+            fcntl.flock(file, fcntl.LOCK_EX)
+            is_ours = os.path.exists(path) and os.path.samestat(os.fstat(file.fileno()), os.stat(path))
+            if is_ours:
+                yield
 
 
 class Numbers:
-    """A file of lines `NUMBER NAME`, kept from run to run: a name keeps its number, a new one has the next. A run that adds names
-    locks the file from the first look to `keep`, so that two runs never give two names one number."""
+    """A file of lines `NUMBER NAME`, kept from run to run: a name keeps its number, a new one has the next."""
 
-    def __init__(self, path, adds=False):
+    def __init__(self, path):
         self.path, self.of_name, seen = path, {}, set()
-        self.lock = locked(path) if adds else None
         for at, line in enumerate(lines_of(path) if os.path.exists(path) and os.path.getsize(path) else [], 1):
             number, _, name = line.rstrip("\n").partition(" ")
             if not is_number(number) or not name.strip() or name in self.of_name or number in seen:
@@ -293,7 +303,16 @@ class Numbers:
     def names(self):
         return {str(number): name for name, number in self.of_name.items()}
 
-    def keep(self):
+    def keep(self, lines):
+        """These lines `add NET NUMBER ..`, once the file has their names. If another run has added names since this one read the file,
+        they keep their numbers, and new names of this run get others."""
+        with locked(self.path):
+            now = Numbers(self.path)
+            moved = {str(number): str(now[name]) for name, number in self.of_name.items() if now[name] != number}
+            now.write()
+        return [renumbered(line, moved) for line in lines] if moved else lines
+
+    def write(self):
         """The new file takes the old one's place in one step."""
         new = f"{self.path}.new"
         try:
@@ -303,7 +322,11 @@ class Numbers:
             Path(new).unlink(missing_ok=True)
             raise
         os.replace(new, self.path)
-        self.lock.close()
+
+
+def renumbered(line, moved):
+    add, network, hop, *rest = line.split(" ")
+    return " ".join([add, network, moved.get(hop, hop), *rest])
 
 
 def differing(old, new):

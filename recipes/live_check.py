@@ -821,11 +821,11 @@ def by_netlink(own, hops, batches):
     return 1e6 * (used.ru_utime + used.ru_stime) / sum(map(len, batches)), most
 
 
-def by_ip(own, batches):
+def by_ip(own, _, batches):
     """The same by an `ip -batch -` for each batch. Its memory is at least that of this program."""
     before = resource.getrusage(resource.RUSAGE_CHILDREN)
     for batch in batches:
-        lines = (f"route del {words[1]}" if words[0] == "remove" else f"route replace {words[1]} via fe80::{words[2]} dev lan"
+        lines = (f"route del {words[1]}" if words[0] == "remove" else f"route replace {words[1]} via inet6 fe80::{words[2]} dev lan"
                  for words in map(str.split, batch))
         tool("ip", "-n", own, "-batch", "-", given=text(f"{line} proto 77 table 77" for line in lines))
     after = resource.getrusage(resource.RUSAGE_CHILDREN)
@@ -836,26 +836,21 @@ def check_measures(folder):
     """the processor's time for an operation, and the memory"""
     hops = f"{folder}/few"
     Path(hops).write_text(text(f"{hop} via fe80::{hop} dev lan" for hop in HOPS))
-    print("| | operations | us, fib_kernel | kB | us, ip | kB |\n|---|---|---|---|---|---|")
+    print("| | us, fib_kernel | kB | us, ip | kB |\n|---|---|---|---|---|")
     with namespace() as own:
-        for six in (False, True):
-            nets = drawn_networks(six, 100000)
-            installs, removes = [f"install {net} {DRAWN.choice(HOPS)}" for net in nets], [f"remove {net}" for net in nets]
-            for title, operations in (("installs", installs), ("removes", removes)):
-                singles = [[operation] for operation in operations[:10000]]
-                one, kilobytes = by_netlink(own, hops, singles)
-                other, more = by_ip(own, singles[:500])
-                row(f"IPv{6 if six else 4}, single {title}", len(singles), one, kilobytes, other, more)
-                one, kilobytes = by_netlink(own, hops, [operations])
-                by_netlink(own, hops, [removes if title == "installs" else installs])
-                other, more = by_ip(own, [operations])
-                row(f"IPv{6 if six else 4}, {title} in one batch", len(operations), one, kilobytes, other, more)
-
-
-def row(title, count, one, kilobytes, other, more):
-    print(f"| {title} | {count:,} | {one:.1f} | {kilobytes:,} | {other:,.1f} | {more:,} |", flush=True)
-    if one > MOST_TIME or kilobytes > MOST_MEMORY:
-        fault(f"more than {MOST_TIME} us or {MOST_MEMORY} kB")
+        for family in (4, 6):
+            nets, figures = drawn_networks(family == 6, 100000), {}
+            lists = {"installs": [f"install {net} {DRAWN.choice(HOPS)}" for net in nets], "removes": [f"remove {net}" for net in nets]}
+            for by, count in ((by_netlink, 10000), (by_ip, 500)):
+                for title, operations in lists.items():
+                    figures[by, f"single {title}"] = by(own, hops, [[operation] for operation in operations[:count]])
+                for title, operations in lists.items():
+                    figures[by, f"{title} in one batch"] = by(own, hops, [operations])
+            for (_, title), (one, kilobytes) in list(figures.items())[:4]:
+                other, more = figures[by_ip, title]
+                print(f"| IPv{family}, {title} | {one:.1f} | {kilobytes:,} | {other:,.1f} | {'' if 'single' in title else f'{more:,}'} |")
+                if one > MOST_TIME or kilobytes > MOST_MEMORY:
+                    fault(f"more than {MOST_TIME} us or {MOST_MEMORY} kB")
 
 
 def check_memory(folder):
