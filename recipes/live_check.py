@@ -879,6 +879,7 @@ def check_memory(folder):
 
 def check():
     needs("ip", "iproute2")
+    needs(FIB_KERNEL, "libmnl-dev, after which `make -C netlink` builds it,")
     needs("birdc", "bird2")
     with tempfile.TemporaryDirectory() as folder:
         hops = f"{folder}/hops"
