@@ -6,6 +6,7 @@ import os
 import random
 import re
 import resource
+import shutil
 import signal
 import socket
 import struct
@@ -530,7 +531,7 @@ EAST = STATIC.format("east", 200, "198.51.100.0/24 via 192.0.2.1")
 def page_of(folder, own, control):
     page = Page(f"{folder}/page", ip=f'{{}} -n {own} "$@"', birdc=f'{{}} -s "{control}" "$@"',
                 fib_kernel=" ".join([*inside(own), FIB_KERNEL, '"$@"']))
-    os.symlink(INSTALLER, f"{page.folder}/bin/routes_fib")
+    os.symlink(shutil.which(INSTALLER), f"{page.folder}/bin/routes_fib")
     before = os.environ.get("FIB_KERNEL")
     os.environ["FIB_KERNEL"] = f"{page.folder}/bin/fib_kernel"
     try:
