@@ -1,4 +1,4 @@
-"""The part on the calls of the C library on a real feed, timed by c/bench.c, beside DPDK's and those of the Rust crate's map."""
+"""The part on the calls of the C library on a real feed, timed by c/bench.c, compared with those of DPDK and of the Rust crate's map."""
 import shutil
 import subprocess
 import sys
@@ -11,31 +11,28 @@ import page
 SIDES = {"routes": "C library", "crate": "the crate's map", "rib": "`rte_rib`", "fib": "`rte_fib`"}
 CHANGES = {"add": "add", "del": "del", "index_open": "make the index"}
 LOOK_UPS = {"match": "longest match", "match_many": "longest match, 64", "index": "index", "index_many": "index, 64"}
-# The ways that stand beside the index, and of which of its calls.
+# The ways that the index is compared with, and the calls that are compared.
 WAYS = (("routes", "match", "index", "over the table"), ("crate", "match", "index", "over the crate's map"),
         ("rib", "match", "index", "over `rte_rib`"), ("fib", "index", "index", "over `rte_fib`"),
         ("fib", "index_many", "index_many", "64, over `rte_fib`"))
-# How many times as fast as them the index is meant to be.
-AIMED = {"v4": {"routes": 5, "crate": 3}, "v6": {"routes": 2, "crate": 1.5}}
 
-TEXT = """The calls of the C library (docs/C.md) on the real feed, by `c/bench.c`: each network of a family is added, in the feed's order,
-{asked} addresses of each mix are looked up, and each network is taken out, in another order. Look-ups are of one address in a call, or of
-64. Each run is a process; a figure is in nanoseconds of its processor's time for one network or one address, as each reads it from the
-clock of its own process between the calls. The crate's map keeps one number a network, and is called from Rust; a table keeps up to eight
-routes, and its `add` and `del` tell the hop before and after. `rte_rib` and `rte_fib` are DPDK's{version}, for IPv6 `rte_rib6` and
-`rte_fib6`, without huge pages; the fib is DIR24_8, for IPv6 TRIE, with four bytes a hop. Like an index it tells hops alone; unlike an
-index it takes changes, which its `add` and `del` are. Those with figures stored as many networks and told the same hop for each address, the
-crate's map the same network. What a side has not is `-`.{missing}"""
+TEXT = """The calls of the C library (docs/C.md) on the real feed, by `c/bench.c`. Each network of a family is added, in the feed's order.
+{asked} addresses of each mix are looked up, one in a call or 64. Then each network is removed, in another order. Figures are nanoseconds
+of CPU time for one network or address. The crate's map has one number a network, and is called from Rust. Our table has up to eight
+routes, and its `add` and `del` return the hop before and after. `rte_rib` and `rte_fib` are DPDK's{version}, for IPv6 `rte_rib6` and
+`rte_fib6`, without huge pages. The fib is DIR24_8, for IPv6 TRIE, with four bytes a hop. Like an index it finds hops alone; unlike an
+index it takes changes. All sides stored as many networks and found the same hop for each address, the crate's map the same network. A
+side without a call has `-`.{missing}"""
 
-RATIOS = """How many times as fast the index is as the other ways, of one address in a call; the last column is of 64. Below 1 it is slower.
-Aimed at are {aims}. {met}"""
+RATIOS = """How many times as fast the index is as the other ways, for one address in a call; in the last column for 64. Below 1 it is
+slower."""
 
-MADE = """Tables of one family each give these indexes in {made:.0f} ms together, {ratio:.3f} of the {lead:.2f} s in which `routes lead` loads the
-feed, its output to a file. Aimed at is a tenth, which is {met}."""
+MADE = """Tables of one family each give these indexes in {made:.0f} ms together, {ratio:.3f} of the {lead:.2f} s in which `routes lead` loads
+the feed beside them, its output to a file."""
 
 
 def networks_of(feed, family, folder):
-    """The networks of a family; and in files, these with their hops, and alone."""
+    """The networks of a family, and two files of them: with their hops, and without."""
     with open(feed, encoding="ascii") as file:
         lines = [line[4:] for line in file if line.startswith("add ") and (":" in line) == (family == "v6")]
     networks = [line.split()[0] for line in lines]
@@ -46,7 +43,7 @@ def networks_of(feed, family, folder):
 
 
 def timed(bench, program, sides, feed, family):
-    """How many networks the family has, and the least times."""
+    """The number of networks of the family, and the least times."""
     networks, routes, alone = networks_of(feed, family, bench.folder)
     asked = calls.asked(bench.folder, family, networks, bench.asked)
     found = {}
@@ -58,16 +55,15 @@ def timed(bench, program, sides, feed, family):
 
 
 def led(bench, feed):
-    """The seconds in which the leader loads the feed."""
+    """The seconds that the leader needs to load the feed."""
     leader = {"lead": lambda: measure.once([*bench.pin, bench.programs["ours"], "lead"], feed, bench.folder / "led")}
     return measure.least(measure.in_turns(bench.runs, leader)["lead"]).seconds
 
 
 def made(parts, lead):
-    """What making the indexes takes, beside the leader's time."""
+    """The time for making the indexes, compared with the leader's time."""
     seconds = sum(count * least["routes", "index_open", None] for count, least in parts.values()) / 1e9
-    ratio = seconds / lead
-    return MADE.format(made=1000 * seconds, ratio=ratio, lead=lead, met="met" if ratio <= 0.1 else "missed")
+    return MADE.format(made=1000 * seconds, ratio=seconds / lead, lead=lead)
 
 
 def changes(parts):
@@ -78,7 +74,7 @@ def changes(parts):
 
 
 def look_ups(parts):
-    """A row for each family, mix and look-up. A fib stands beside the index."""
+    """A row for each family, mix and lookup. A fib is compared with the index."""
     for family, (_, least) in parts.items():
         for mix in feeds.MIXES:
             for call, title in LOOK_UPS.items():
@@ -93,34 +89,14 @@ def ratios(parts):
             yield [f"IP{family}, {mix}", *cells]
 
 
-def met(parts):
-    """How many of the aims were met, and which were not, of those that were measured."""
-    titles = {side: title for side, way, _, title in WAYS if way == "match"}
-    count, missed = 0, []
-    for family, (_, least) in parts.items():
-        for mix in feeds.MIXES:
-            for side, aim in AIMED[family].items():
-                taken = least.get((side, "match", mix))
-                count += taken is not None
-                if taken is not None and taken < aim * least["routes", "index", mix]:
-                    missed.append(f"IP{family}, {mix}, {titles[side]}")
-    return f"Of these {count}, {count - len(missed)} are met." + (f" Missed: {'; '.join(missed)}." if missed else "")
-
-
-def aims():
-    """What is aimed at, in words."""
-    titles = {side: title for side, way, _, title in WAYS if way == "match"}
-    return ", ".join(f"{aim} {titles[side]} for IP{family}" for family, of in AIMED.items() for side, aim in of.items())
-
-
 def version():
-    """That of DPDK, where it is here."""
+    """The version of DPDK, if it is installed."""
     told = subprocess.run(["pkg-config", "--modversion", "libdpdk"], capture_output=True, text=True) if shutil.which("pkg-config") else None
     return f", {told.stdout.strip()}" if told and told.returncode == 0 else ""
 
 
 def measured(bench):
-    """The part, measured; none without the real feed or a C compiler."""
+    """Measures the part, or returns None without the real feed or a C compiler."""
     feed, (program, sides) = bench.real(), calls.build(bench.root, bench.folder, bench.library())
     if not feed or not program:
         print("bench: the calls from C are left out, which need the real feed and a C compiler", file=sys.stderr)
@@ -135,7 +111,7 @@ def measured(bench):
         page.table(["networks", "call", *SIDES.values()], changes(parts)),
         page.filled(made(parts, lead)),
         page.table(["addresses", "look-up", *SIDES.values()], look_ups(parts)),
-        page.filled(RATIOS.format(aims=aims(), met=met(parts))),
+        page.filled(RATIOS),
         page.table(["addresses", *(title for *_, title in WAYS)], ratios(parts)),
         page.filled(others.told(bench.runs)),
     ]

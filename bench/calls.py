@@ -1,4 +1,4 @@
-"""Programs that time calls, each side in a process of its own: how they are built, what they print, and whether all tell the same."""
+"""Programs that time calls, each side in its own process: building them, reading their output, and comparing their results."""
 import os
 import shutil
 import subprocess
@@ -7,13 +7,13 @@ from collections import namedtuple
 import feeds
 from measure import fail, in_turns, run
 
-# Nanoseconds for one call, {(call, mix): ns}, without a mix for changes and walks; and what came of the calls, as pairs of a name and a
-# number.
+# Nanoseconds for one call, {(call, mix): ns}, without a mix for changes and walks; and the results of the calls, as pairs of a name and
+# a number.
 Calls = namedtuple("Calls", "times results")
 
 
 def build(root, folder, library=None):
-    """The program of c/bench.c, and the sides that it has: the library in this folder, if any, and DPDK where its package is here."""
+    """The program of c/bench.c, and its sides: the library in this folder, if any, and DPDK, if its package is installed."""
     compiler = os.environ.get("CC", "cc")
     told = None
     if shutil.which("pkg-config"):
@@ -28,7 +28,7 @@ def build(root, folder, library=None):
 
 
 def of_lines(lines):
-    """What a program prints in lines `CALL FILE NANOSECONDS RESULT`, of which c/bench.c says more."""
+    """Reads the output of a program: lines `CALL FILE NANOSECONDS RESULT`, as described in c/bench.c."""
     calls = Calls({}, [])
     for call, file, taken, result in map(str.split, lines):
         mix = feeds.MIXES[int(file) - 1] if int(file) else None
@@ -40,7 +40,7 @@ def of_lines(lines):
 
 
 def of_crate(peer, family, stored, asked):
-    """The same of the crate's map, by one round of the peer's program `micro` for each file of addresses."""
+    """The same for the crate's map, from one round of the peer's program `micro` for each file of addresses."""
     calls = Calls({}, [])
     for mix, path in zip(feeds.MIXES, asked):
         rows = {row[0]: row for row in (line.split(",") for line in run([*peer, family, stored, path, 1]))}
@@ -51,12 +51,12 @@ def of_crate(peer, family, stored, asked):
 
 
 def named(call, mix):
-    """Under which name all sides have to tell the same."""
+    """The name under which all sides must have the same result."""
     return f"{call}, {mix} addresses" if mix else call
 
 
 def agreed(title, seen):
-    """All sides tell the same under one name."""
+    """Checks that all sides have the same result under each name."""
     first = {}
     for side, runs in seen.items():
         for name, result in (pair for calls in runs for pair in calls.results):
@@ -66,7 +66,7 @@ def agreed(title, seen):
 
 
 def timed(title, runs, sides):
-    """The least nanoseconds of the runs, {(side, call, mix): ns}; the sides take turns, and agree."""
+    """The least nanoseconds of the runs, {(side, call, mix): ns}. The sides run in turns, and must agree."""
     seen = in_turns(runs, sides)
     agreed(title, seen)
     least = {}
@@ -85,16 +85,16 @@ def asked(folder, family, networks, count):
 
 
 def nanoseconds(taken):
-    """A cell of a table: a side that isn't here, or hasn't the call, has `-`."""
+    """A cell of a table: `-` if the side isn't installed or doesn't have the call."""
     return "-" if taken is None else f"{taken:.0f}"
 
 
 def times_as_fast(theirs, ours):
-    """A cell for how many times as long they take."""
+    """A cell with the ratio of their times."""
     return "-" if theirs is None or ours is None else f"{theirs / ours:.2f}"
 
 
 def missing(sides, least):
-    """A sentence on the sides that aren't here."""
+    """A sentence on the sides that aren't installed."""
     names = [name for side, name in sides.items() if not any(side == known for known, _, _ in least)]
     return f" Not at hand, and so without figures: {', '.join(names)}." if names else ""

@@ -7,12 +7,12 @@ usage: feeds.py load|churn|walks v4|v6 COUNT [SEED]
     load    COUNT adds of distinct networks, then flat
     churn   COUNT adds, then COUNT lines: adds of new networks, adds of routes to stored ones, dels, gets; then flat
     walks   COUNT adds, then COUNT / 10 lines: list, cover, from, after and count; then flat
-    over    COUNT changes of the networks that FEED adds, each with one hop: some are withdrawn, some announced again, with any hop of
-            FEED, and some get another hop, by an `add` and a `del`
+    over    COUNT changes of the networks that FEED adds, each with one hop: some are withdrawn, some are announced again, with any hop
+            of FEED, and some get another hop, by an `add` and a `del`
 
-The lengths lie as in a table of the public internet: most are /24 (IPv4) or /48 (IPv6), and they lie inside
-allocations, some of which are announced themselves. Hops are few, and some are far more frequent than others. A route that is
-added to a stored network has one of three preferences; no network is given a ninth hop."""
+The lengths are distributed as in a table of the public internet. Most networks are /24 (IPv4) or /48 (IPv6) and inside allocations, some
+of which are announced themselves. There are few hops, and some are far more frequent than others. A route that is added to a
+stored network has one of three preferences. No network gets a ninth hop."""
 import ipaddress
 import math
 import random
@@ -65,7 +65,7 @@ class Networks:
 
 
 class Feed:
-    """A feed, and the networks that a leader of it holds, with their hops."""
+    """A feed, and the networks that its leader stores, with their hops."""
 
     def __init__(self, family, count, seed):
         self.draw = random.Random(f"{family} {count} {seed}")
@@ -164,8 +164,8 @@ def over(path, count, seed):
 
 
 def addresses(networks, mix, count):
-    """Addresses to look up, each drawn evenly from a network. For `even` that network is drawn evenly too; for `Zipf` by its place in a
-    random order, the first r times as often as the one at place r."""
+    """Addresses to look up, each drawn uniformly from a network. For `even`, the network is drawn uniformly too. For `Zipf`, it is drawn by
+    its rank in a random order: the first network r times as often as the network of rank r."""
     draw = random.Random(f"{mix} {len(networks)}")
     networks = draw.sample(networks, len(networks))
     for _ in range(count):

@@ -1,4 +1,4 @@
-"""The part on the installer: `routes_fib` over the leader's output, as it begins and as it keeps a table."""
+"""The part on the installer: `routes_fib` on the leader's output, at its start and while it keeps a table in sync."""
 import subprocess
 import sys
 from collections import namedtuple
@@ -8,29 +8,29 @@ import page
 import program
 
 CHANGES = 162_000
-# Replies of more blocks lead the installer to a least table at once.
+# For a reply with more blocks, the installer installs a least table.
 BLOCKS = 256
 
-# What the changes of a table took: how many operations of either kind the first `sync` had, (operations, routes after them) of each
-# batch, how many replies were large, and what the installer and a follower took.
+# The results for the changes of a table: the operations of each kind at the first `sync`, (operations, routes after them) for each batch,
+# the number of large replies, and the time and memory of the installer and of a follower.
 Changed = namedtuple("Changed", "begun batches large kept follow")
 
-TEXT = """`routes_fib` over the leader's output, beside `routes follow` on the same lines. Where `sync` stands first, each change is carried
-out and written by itself; where it stands last, as at a start, the least table is installed at once. What was written makes a table with
-the leader's hops each time."""
+TEXT = """`routes_fib` reads the leader's output, and `routes follow` the same lines. *Kept* has `sync` first, so each change is a batch of
+its own. *At once* has `sync` last, as at a start, so one batch installs the least table. The operations make a table with the leader's hops
+each time."""
 
-CHANGED = """Where all networks of the real feed are installed as it has them, a first `sync` takes {installs:,} installs and {removes:,}
-removes. Where its least table of {least:,} routes is installed, {commands:,} commands that follow it (`bench/feeds.py over`: networks are
-withdrawn, announced again, and get another hop) give {batches:,} batches with {operations:,} operations: 999 of 1,000 have at most
-{usual:,}, and the largest has {largest:,}. {large} of the replies had more than {blocks} blocks and led to a least table at once. After
-them {before:,} routes are installed; a second `sync`, of {last:,} operations, leaves {after:,}. `routes_fib` took {kept.seconds:.2f} s and
-{kept_mb:.1f} MB for the feed, these commands and both `sync`; `routes follow` of the same replies {follow.seconds:.2f} s and
-{follow_mb:.1f} MB."""
+CHANGED = """If all networks of the real feed are installed as announced, a first `sync` takes {installs:,} installs and {removes:,}
+removes. In another run its least table of {least:,} routes is installed, and {commands:,} commands follow (`bench/feeds.py over`): networks
+are withdrawn, announced again, and get another hop. They give {batches:,} batches with {operations:,} operations. All but one in a thousand
+batches have at most {usual:,} operations, and the largest has {largest:,}. {large} of the replies had more than {blocks} blocks and led to
+a least table at once. After them {before:,} routes are installed; a second `sync`, of {last:,} operations, leaves {after:,}. For the feed,
+these commands and both `sync`, `routes_fib` took {kept.seconds:.2f} s and {kept_mb:.1f} MB; `routes follow` took {follow.seconds:.2f} s and
+{follow_mb:.1f} MB for the same replies."""
 
 
 def replayed(path):
-    """The `add` lines of the table that an installer's operations make, and for each batch how many of these there are, and how many
-    routes are installed after it."""
+    """The `add` lines of the table that an installer's operations make, and for each batch the number of operations and of routes that are
+    installed after it."""
     table, operations, batches = {}, 0, []
     with open(path, "rb") as file:
         for line in file:
@@ -47,14 +47,14 @@ def replayed(path):
 
 
 def words(path):
-    """How many operations of either kind an installer wrote."""
+    """The number of operations of each kind that an installer wrote."""
     with open(path, "rb") as file:
         found = [line[:1] for line in file]
     return found.count(b"i"), found.count(b"r")
 
 
 def large(log):
-    """How many replies change more than so many blocks."""
+    """The number of replies that change more than the limit."""
     found = blocks = 0
     for line in log.splitlines():
         blocks += line.startswith((b"set ", b"unset "))
@@ -65,8 +65,8 @@ def large(log):
 
 
 def beside(bench, led, sessions):
-    """What a follower of the leader's output took, and an installer of each session, whose table has the follower's hops; and the
-    batches of each."""
+    """The time and memory of a follower of the leader's output, and of an installer of each session, whose table has the follower's hops;
+    and the batches of each session."""
     ours, installer, followed = bench.programs["ours"], bench.installer(), bench.folder / "followed"
     sides = {"follow": lambda: measure.once([*bench.pin, ours, "follow"], led, followed)}
     given, done = ({name: bench.folder / f"{kind}-{name}" for name in sessions} for kind in ("session", "done"))
@@ -105,8 +105,8 @@ def of_feed(bench, title, feed):
 
 
 def changed(bench, feed, count):
-    """An installer of a feed, a `sync`, so many changes after that, and another `sync`; and a first `sync` where all networks of the
-    feed are installed."""
+    """An installer of a feed, a `sync`, a number of changes, and another `sync`; and a first `sync` when all networks of the feed are
+    installed."""
     commands, led = bench.folder / "commands", bench.folder / "led"
     adds = [line for line in feed.read_bytes().splitlines(keepends=True) if line.startswith(b"add ")]
     making = [sys.executable, bench.root / "bench/feeds.py", "over", feed, str(count)]
@@ -153,15 +153,15 @@ def changes_told(commands, changed):
 
 
 def measured(bench):
-    """The part, measured; without the real feed on made ones alone."""
+    """Measures the part; without the real feed, only on synthetic feeds."""
     bench.installer()
-    feeds = {"real, both families": bench.real()} if bench.real() else {}
+    feeds = {page.REAL: bench.real()} if bench.real() else {}
     for family in ("v4", "v6"):
         for count in bench.counts(100_000):
             feeds[f"churn, IP{family}, {count:,}"] = bench.made("churn", family, count)
     with measure.Others() as others:
         rows = [of_feed(bench, title, feed) for title, feed in feeds.items()]
         found = changed(bench, bench.real(), CHANGES // bench.part) if bench.real() else None
-    head = ["feed", "follow s", "kept s", "lines/s", "MB", "batches", "operations", "at once s", "MB", "operations"]
+    head = ["feed", "follow s", "kept s", "lines/s", "kept MB", "batches", "operations", "at once s", "at once MB", "at once operations"]
     told = [page.filled(changes_told(CHANGES // bench.part, found))] if found else []
     yield "The installer", [page.filled(TEXT), page.table(head, rows), *told, page.filled(others.told(bench.runs))]

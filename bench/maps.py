@@ -1,4 +1,4 @@
-"""The part on the calls of a map of prefixes: ours in a program of its own (bench/map_calls.rattle), beside other maps."""
+"""The part on the calls of a map of prefixes: ours, in its own program (bench/map_calls.rattle), compared with other maps."""
 import random
 import subprocess
 import sys
@@ -13,12 +13,11 @@ SIDES = {"ours": "`PrefixMap`", "crate": "the crate's", "rib": "`rte_rib`", "fib
 ROWS = (("add", None, "insert"), ("match", "even", "longest match, even"), ("match", "Zipf", "longest match, Zipf"),
         ("walk", None, "walk"), ("del", None, "remove"))
 
-TEXT = """`PrefixMap` alone, in a program of its own over `prefix_trie`: so many networks are stored, {asked} addresses of each mix are
-looked up, all networks are walked, and all are taken out in another order. Beside it the map of the Rust crate `prefix-trie` 0.10.1,
-called from Rust; DPDK's tables, as in "From C", of which `rte_fib` finds a hop and no network; and py-radix, called from Python, whose
-loop and reading of texts is a part of its times. Each run is a process; a figure is in nanoseconds of its processor's time for one
-network or one address, as each reads it from the clock of its own process between the calls. Those with figures stored as many
-networks, and found the same in each look-up. The last column is the crate's time over ours: above 1 we are faster.{missing}"""
+TEXT = """`PrefixMap` in a program of its own over `prefix_trie`. A run stores the networks, looks up {asked} addresses of each mix, walks
+all networks, and removes them in another order. Beside it is the map of the Rust crate `prefix-trie` 0.10.1, called from Rust. `rte_rib`
+and `rte_fib` are DPDK's tables; the second finds a hop and no network. py-radix is called from Python, whose loop and parsing are part of
+its times. Figures are nanoseconds of CPU time for one network or address. All sides stored as many networks and found the same in each
+lookup. The last column is the crate's time over ours: above 1 we are faster.{missing}"""
 
 
 def lists(family, count):
@@ -31,7 +30,7 @@ def lists(family, count):
 
 
 def shuffled(stored):
-    """The networks, and the same in an order that isn't that of storing: c/bench.c and the crate's program take this one too."""
+    """The networks, and the same in another order, which c/bench.c and the crate's program use too."""
     step = 7_368_787 % len(stored)
     while gcd(step, len(stored)) != 1:
         step += 1
@@ -39,14 +38,14 @@ def shuffled(stored):
 
 
 def ours(program, pin, family, given):
-    """The map's calls, of which the program prints the nanoseconds of all networks or addresses, and of how many."""
+    """The map's calls. The program prints the nanoseconds for all networks or addresses together, and their number."""
     with open(given, encoding="ascii") as file:
         lines = [line.split() for line in measure.run([*pin, program, family], stdin=file)]
     return calls.of_lines(f"{call} {mix} {int(taken) / int(count)} {result}" for call, mix, count, taken, result in lines)
 
 
 def python_with_radix():
-    """This Python, or the system's, where py-radix is one of its modules."""
+    """This Python or the system's, whichever has the module py-radix."""
     for python in (sys.executable, "/usr/bin/python3"):
         if subprocess.run([python, "-c", "import radix"], capture_output=True).returncode == 0:
             return python
@@ -54,7 +53,7 @@ def python_with_radix():
 
 
 def sides_of(bench, programs, family, count):
-    """For each side that is here, a call that runs it."""
+    """For each installed side, a function that runs it."""
     stored, taken = lists(family, count)
     asked = calls.asked(bench.folder, family, stored, bench.asked)
     given, alone, routes = (bench.folder / name for name in ("given", "stored", "routes"))
@@ -84,7 +83,7 @@ def rows(family, count, least):
 
 
 def measured(bench):
-    """The part, measured."""
+    """Measures the part."""
     programs = bench.map_calls(), calls.build(bench.root, bench.folder), bench.given.map_peer, python_with_radix()
     body, seen = [], {}
     with measure.Others() as others:

@@ -1,5 +1,4 @@
-"""Runs programs, takes their times, and tells what else the machine did meanwhile. Every part of docs/PERFORMANCE.md is measured by
-this."""
+"""Runs programs, takes their times, and tells what else the machine did meanwhile. Every part of bench/RESULTS.md is measured by this."""
 import datetime
 import os
 import shutil
@@ -9,8 +8,8 @@ import tempfile
 import time
 from collections import namedtuple
 
-# What a program took in a run, or in the least of some: seconds of the processor, the greatest resident memory, and how many times as
-# long the slowest run was.
+# The cost of a run of a program, or of the best of several: CPU seconds, peak resident memory, and the ratio of the slowest run's time to
+# the fastest's.
 Measure = namedtuple("Measure", "seconds kilobytes spread", defaults=(1,))
 
 TICKS = os.sysconf("SC_CLK_TCK")
@@ -22,7 +21,7 @@ def fail(text):
 
 
 def run(command, **more):
-    """The lines that a command prints. It may not fail."""
+    """The lines that a command prints. The command must not fail."""
     told = subprocess.run(list(map(str, command)), capture_output=True, text=True, **more)
     if told.returncode != 0:
         fail(f"{' '.join(map(str, command))}: {(told.stderr or told.stdout).strip()}")
@@ -30,8 +29,8 @@ def run(command, **more):
 
 
 def once(command, source, sink):
-    """One run from file to file. The seconds are user and system time, as `wait4` tells them of the process; the memory is told by
-    `time`, since a child of this program would begin with this program's."""
+    """One run from file to file. The seconds are user and system time, from `wait4`. The memory is from `time`, since a child of this
+    program would start with the memory of this program."""
     with open(source, "rb") as given, open(sink, "wb") as taken, tempfile.NamedTemporaryFile("r") as told:
         command = ["/usr/bin/time", "-o", told.name, "-f", "%M", *map(str, command)]
         process = subprocess.Popen(command, stdin=given, stdout=taken)
@@ -43,7 +42,7 @@ def once(command, source, sink):
 
 
 def in_turns(runs, sides):
-    """What each side gives in each of so many rounds; in a round the sides take turns."""
+    """The results of each side in each round; in a round, the sides run in turns."""
     seen = {name: [] for name in sides}
     for _ in range(runs):
         for name, side in sides.items():
@@ -58,7 +57,7 @@ def least(seen):
 
 
 def built(root, folder, name, uses):
-    """The program bench/NAME.rattle, proved and built over a copy of the crates that it stands on, since it is none of them."""
+    """The program bench/NAME.rattle, proved and built on a copy of the crates that it depends on, since it isn't one of the crates."""
     lines = [line for line in (root / "crates.txt").read_text().splitlines() if not line.startswith("#")]
     names = [line.split(":")[0] for line in lines]
     under = 1 + max(names.index(use) for use in uses)
@@ -72,15 +71,15 @@ def built(root, folder, name, uses):
 
 
 def spent():
-    """Seconds: by the clock, of all processors at work, of those that the host kept back, and of this program with its children."""
+    """Seconds: wall time, busy time of all processors, time that the host took away (steal), CPU time of this program and its children."""
     with open("/proc/stat", encoding="ascii") as file:
         user, nice, system, _, _, irq, softirq, stolen = map(int, file.readline().split()[1:9])
     return time.monotonic(), (user + nice + system + irq + softirq) / TICKS, stolen / TICKS, sum(os.times()[:4])
 
 
 class Others:
-    """What other work takes of the machine as long as a `with` lasts, in processors: all their time at work (/proc/stat), but for that
-    of this program and its children; and what the host keeps back for others (steal)."""
+    """The load of other programs during a `with`, in processors: the busy time of all processors (/proc/stat), without that of this program
+    and its children; and the time that the host took away (steal)."""
 
     def __enter__(self):
         self.begun = spent()
@@ -92,16 +91,15 @@ class Others:
 
     def told(self, runs):
         """The last lines of a part: where and when it was measured, and what else ran."""
-        text = f"Measured on {datetime.date.today():%-d %B %Y} on {machine()}: the least of {runs} runs. Other work took {self.work:.2f} "
-        text += f"of the {os.cpu_count()} processors meanwhile, and the host kept back {self.stolen:.2f} of them."
+        text = f"Measured on {datetime.date.today():%-d %B %Y} on {machine()}: the least of {runs} runs. Meanwhile other work took "
+        text += f"{self.work:.2f} of the {os.cpu_count()} processors, and the host withheld {self.stolen:.2f}."
         if self.work + self.stolen > 0.1:
-            text += " That is more than a tenth of a processor: the times are those of a busy machine, and the ratios tell more, since the"
-            text += " programs took turns."
+            text += " That is more than a tenth of a processor, so rely on the ratios: the programs took turns."
         return text
 
 
 def machine():
-    """The processor, how many there are, and the kit."""
+    """The model and number of processors, and the kit."""
     with open("/proc/cpuinfo", encoding="utf-8") as file:
         model = next((line.split(":")[1].strip() for line in file if line.startswith("model name")), "an unknown processor")
     kit = subprocess.run(["rt", "version"], capture_output=True, text=True).stdout.splitlines() if shutil.which("rt") else []

@@ -1,43 +1,31 @@
-"""The plot of docs/PERFORMANCE.md, as SVG."""
-import math
+"""The pictures of docs/PERFORMANCE.md, as SVG: bars on a white ground, so that they can be read on a dark page too."""
+from html import escape
 
-WIDTH, HEIGHT, LEFT, RIGHT, BOTTOM, TOP = 720, 400, 70, 150, 50, 20
-COLORS = ("#1b6ca8", "#d1495b", "#66a182", "#8d6a9f")
+WIDTH, LABELS, LONGEST, BAR = 720, 240, 400, 18
+OURS, ALSO_OURS, THEIRS = "#1b6ca8", "#7fb2d8", "#9aa5ad"
 
 
-def plot(series):
-    """Lines of a name and points each, number of networks and nanoseconds a line. The axis of the number is logarithmic."""
-    most = max(y for _, marks in series for _, y in marks) * 1.1
-    sizes = sorted({x for _, marks in series for x, _ in marks})
-    low, high = math.log10(sizes[0]), math.log10(sizes[-1])
-
-    def at(x, y):
-        across = (math.log10(x) - low) / max(high - low, 1e-9)
-        return LEFT + across * (WIDTH - LEFT - RIGHT), HEIGHT - BOTTOM - y / most * (HEIGHT - BOTTOM - TOP)
-
-    parts = [
-        f'<svg xmlns="http://www.w3.org/2000/svg" width="{WIDTH}" height="{HEIGHT}" font-family="sans-serif" font-size="13">',
-        f'<rect width="{WIDTH}" height="{HEIGHT}" fill="white"/>',
-        *axes(at, sizes, most),
+def bars(title, groups, legend=()):
+    """Groups of bars, each a name, a cell of a table, and a color. A cell `-` has no bar. The legend names colors."""
+    most = max((float(cell.replace(",", "")) for group in groups for _, cell, _ in group if cell != "-"), default=1)
+    y, parts = 40, []
+    for at, (name, color) in enumerate(legend):
+        parts.append(f'<rect x="{WIDTH - 130}" y="{14 + 20 * at}" width="12" height="12" fill="{color}"/>')
+        parts.append(f'<text x="{WIDTH - 112}" y="{24 + 20 * at}">{escape(name)}</text>')
+    for group in groups:
+        for name, cell, color in group:
+            if cell != "-":
+                wide = max(LONGEST * float(cell.replace(",", "")) / most, 1)
+                parts.append(f'<text x="{LABELS - 8}" y="{y + 13}" text-anchor="end">{escape(name)}</text>')
+                parts.append(f'<rect x="{LABELS}" y="{y}" width="{wide:.1f}" height="{BAR - 2}" fill="{color}"/>')
+                parts.append(f'<text x="{LABELS + wide + 6:.1f}" y="{y + 13}">{escape(cell)}</text>')
+                y += BAR
+        y += 8
+    head = [
+        f'<svg xmlns="http://www.w3.org/2000/svg" viewBox="0 0 {WIDTH} {y + 4}" width="{WIDTH}" height="{y + 4}" role="img" '
+        'font-family="DejaVu Sans, Verdana, sans-serif" font-size="12">',
+        f"<title>{escape(title)}</title>",
+        f'<rect width="{WIDTH}" height="{y + 4}" rx="6" fill="white"/>',
+        f'<text x="16" y="24" font-size="13" font-weight="bold">{escape(title)}</text>',
     ]
-    for (name, marks), color in zip(series, COLORS):
-        path = " ".join(f"{x:.1f},{y:.1f}" for x, y in (at(*mark) for mark in marks))
-        parts.append(f'<polyline points="{path}" fill="none" stroke="{color}" stroke-width="2"/>')
-        x, y = at(*marks[-1])
-        parts.append(f'<text x="{x + 8:.1f}" y="{y + 4:.1f}" fill="{color}">{name}</text>')
-    return "\n".join(parts) + "\n</svg>\n"
-
-
-def axes(at, sizes, most):
-    """Both axes with their marks."""
-    step = 10 ** math.floor(math.log10(most / 2))
-    for mark in range(int(most / step) + 1):
-        _, y = at(sizes[0], mark * step)
-        yield f'<line x1="{LEFT}" x2="{WIDTH - RIGHT}" y1="{y:.1f}" y2="{y:.1f}" stroke="#ddd"/>'
-        yield f'<text x="{LEFT - 8}" y="{y + 4:.1f}" text-anchor="end">{mark * step:,.0f}</text>'
-    for size in sizes:
-        x, y = at(size, 0)
-        yield f'<text x="{x:.1f}" y="{y + 20:.1f}" text-anchor="middle">{size:,}</text>'
-    yield f'<text x="{(WIDTH - 80) / 2}" y="{HEIGHT - 8}" text-anchor="middle">networks in the table</text>'
-    turned = f'transform="rotate(-90 16 {HEIGHT / 2})"'
-    yield f'<text x="16" y="{HEIGHT / 2}" text-anchor="middle" {turned}>nanoseconds for each line read</text>'
+    return "\n".join([*head, *parts]) + "\n</svg>\n"

@@ -1,4 +1,4 @@
-"""The parts on the program: its modes over feeds, beside another program with these modes."""
+"""The parts on the program: its modes on feeds, compared with another program with the same modes."""
 import os
 import subprocess
 import tempfile
@@ -7,34 +7,31 @@ from pathlib import Path
 
 import measure
 import page
-import plot
 
 MODES = ("lead", "follow", "least")
-GROWTH = (10_000, 30_000, 100_000, 300_000, 1_000_000)
-SHOWN = (100_000, 1_000_000)
+COUNTS = (100_000, 1_000_000)
 
 # A feed: its lines and bytes, those of the leader's output, {mode: {program: Measure}}, and the lengths of the lists.
 Row = namedtuple("Row", "title given answered modes counts")
 Counts = namedtuple("Counts", "flat least drops")
 
-TIMES = """Each feed is given to `routes lead`, whose output goes to a file and then to `routes follow` and `routes least`; theirs goes to
-files too. Each feed ends with `flat`, and the follower's output was compared with the leader's answer to it, and so was what a leader of
-the least table answers. No line of a feed was answered `bad` or `refused`. Commands and MB a second are of the leader (bytes read and
-written), lines a second of the follower.{real}"""
+TIMES = """`routes lead` reads each feed, and `routes follow` and `routes least` read its output; all output goes to files. Each feed ends
+with `flat`. The follower's output is the same as the leader's reply to it, and so is the flat list of a leader of the least table. No line
+was answered `bad` or `refused`. MB/s counts the bytes that the leader reads and writes.{real}"""
 REAL = " The real feed has {v4:,} networks of IPv4 and {v6:,} of IPv6."
 
-LEAST = """How many blocks the flat list has, and how many routes the least table with the same hops, of which some are `drop`. The
-time is that of `routes least`, which reads the leader's output first."""
+LEAST = """The blocks of the flat list, and the routes of the least table with the same hops, some of them `drop`. The time of `routes
+least` includes the reading of the leader's output."""
 
-BESIDE = """A plain program with the same modes over the Rust crate `prefix-trie` 0.10.1, whose leader keeps a network's routes in an array
-of eight too; its outputs were compared with ours, and its least tables in length. Speed and memory as ours over its: above 1 we are
-faster, and use more. It writes each reply by itself; the second column is over one that writes as its buffer fills, which ours does while
-more lines are here. Of runs that are over at once no ratio is told: they have `-`. Of the others the slowest of one program on one feed
-took up to {spread:.2f} times as long as its fastest, by what else the machine did: so far off may a ratio of single runs be."""
+BESIDE = """The peer is a plain Rust program with the same modes over the crate `prefix-trie` 0.10.1. Its leader has a network's routes in
+an array of eight too. Its outputs are the same as ours, its least tables of the same length. Speed is its time over ours (above 1 we
+are faster), memory ours over its (above 1 we use more). The peer writes each reply by itself; in the second column it writes when its
+buffer is full, as ours does while more lines are here. Very short runs get no ratio (`-`). Single runs are noisy: the slowest took up to
+{spread:.2f} times the fastest of the same program on the same feed."""
 
 
 def sizes(path):
-    """Lines and bytes of a file."""
+    """The number of lines and of bytes of a file."""
     lines = total = 0
     with open(path, "rb") as file:
         while piece := file.read(1 << 20):
@@ -44,20 +41,20 @@ def sizes(path):
 
 
 def drops(path):
-    """How many lines give a network no hop."""
+    """The number of lines that give a network no hop."""
     with open(path, "rb") as file:
         return sum(line.endswith(b" drop\n") for line in file)
 
 
 def accepted(title, led):
-    """Every line of the feed was a command, and there was memory for it."""
+    """Checks that each line of the feed was a command, and that memory didn't run out."""
     found = subprocess.run(["grep", "-nxE", "-m", "1", "bad|refused", led], capture_output=True, text=True)
     if found.returncode != 1:
         measure.fail(f"{title}: line {found.stdout.strip() or found.stderr.strip()} of the leader's output")
 
 
 def check(led, followed):
-    """The follower's output is the leader's last reply."""
+    """Checks that the follower's output is the leader's last reply."""
     length = os.path.getsize(followed)
     with open(led, "rb") as left, open(followed, "rb") as right:
         left.seek(-length, os.SEEK_END)
@@ -67,7 +64,7 @@ def check(led, followed):
 
 
 def rebuilt(program, table, followed):
-    """A leader that is given this table has the same flat list."""
+    """Checks that a leader that is given this table has the same flat list."""
     with tempfile.NamedTemporaryFile() as given, tempfile.NamedTemporaryFile() as led:
         given.write(table + b"flat\n")
         given.flush()
@@ -76,14 +73,14 @@ def rebuilt(program, table, followed):
 
 
 def in_mode(bench, mode, programs, source):
-    """What each program took in this mode, {program: Measure}, and its output."""
+    """The cost of each program in this mode, {program: Measure}, and its output."""
     paths = {name: bench.folder / f"{mode}-{name}" for name in programs}
     sides = {name: lambda name=name: measure.once([*bench.pin, programs[name], mode], source, paths[name]) for name in programs}
     return {name: measure.least(seen) for name, seen in measure.in_turns(bench.runs, sides).items()}, paths
 
 
 def of_feed(bench, title, feed, programs):
-    """The programs over a feed. The leader whose replies are together runs in that mode alone."""
+    """Runs the programs on a feed. The leader that buffers its replies runs only in this mode."""
     lead, led = in_mode(bench, "lead", programs, feed)
     accepted(title, led["ours"])
     whole = {name: program for name, program in programs.items() if name != "unflushed"}
@@ -125,17 +122,17 @@ def shortest(row):
 
 
 def is_told(*measures):
-    """Runs that are over at once tell nothing."""
+    """Whether a run is long enough for a ratio."""
     return min(one.seconds for one in measures) >= 0.05
 
 
 def spread(rows):
-    """How many times as long as the fastest the slowest run of one program on one feed was."""
+    """The greatest ratio of the slowest to the fastest run of one program on one feed."""
     return max((one.spread for row in rows for mode in row.modes.values() for one in mode.values() if is_told(one)), default=1)
 
 
 def ratios(row):
-    """Their time over ours, and our memory over theirs."""
+    """Their time divided by ours, and our memory divided by theirs."""
     lead, follow, least = row.modes.values()
     for mode, name in ((lead, "peer"), (lead, "unflushed"), (follow, "peer"), (least, "peer")):
         told = name in mode and is_told(mode[name], mode["ours"])
@@ -145,56 +142,34 @@ def ratios(row):
 
 
 def rows_of(bench, programs, real):
-    """A row for each feed of the tables, and {family: [(count, row)]} for the plot, in which there are more loads."""
-    rows, growth = [], {"v4": [], "v6": []}
+    """A row for each feed of the tables."""
     if real:
-        rows.append(of_feed(bench, "real, both families", real, programs))
-    for kind in ("churn", "walks"):
-        for family in growth:
-            for count in bench.counts(*SHOWN[:1]):
-                rows.append(of_feed(bench, f"{kind}, IP{family}, {count:,}", bench.made(kind, family, count), programs))
-    for family, grown in growth.items():
-        for count in bench.counts(*GROWTH):
-            shown = count in bench.counts(*SHOWN)
-            feed = bench.made("load", family, count)
-            row = of_feed(bench, f"load, IP{family}, {count:,}", feed, programs if shown else {"ours": programs["ours"]})
-            grown.append((count, row))
-            rows += [row] if shown else []
-    return rows, growth
-
-
-def points(growth):
-    """For each mode and family the number of networks and the nanoseconds for each line read."""
-    for mode in ("lead", "follow"):
-        for family, rows in growth.items():
-            lines = [(count, row.given[0] if mode == "lead" else row.answered[0], row.modes[mode]["ours"].seconds) for count, row in rows]
-            yield f"{mode}, IP{family}", [(count, seconds / lines * 1e9) for count, lines, seconds in lines]
+        yield of_feed(bench, page.REAL, real, programs)
+    for kind, counts in (("churn", COUNTS[:1]), ("walks", COUNTS[:1]), ("load", COUNTS)):
+        for family in ("v4", "v6"):
+            for count in bench.counts(*counts):
+                yield of_feed(bench, f"{kind}, IP{family}, {count:,}", bench.made(kind, family, count), programs)
 
 
 def networks_of(feed):
-    """How many networks of each family a feed adds."""
+    """The number of networks of each family that a feed adds."""
     adds = [line for line in Path(feed).read_bytes().splitlines() if line.startswith(b"add ")]
     v6 = sum(b":" in line for line in adds)
     return {"v4": len(adds) - v6, "v6": v6}
 
 
 def measured(bench):
-    """The parts, measured; that beside another program where it is here."""
+    """Measures the parts; the comparison with another program only if it is installed."""
     programs, real = bench.programs, bench.real()
     with measure.Others() as others:
-        rows, growth = rows_of(bench, programs, real)
+        rows = list(rows_of(bench, programs, real))
     told = page.filled(others.told(bench.runs))
-    bench.plotted(plot.plot(list(points(growth))))
     text = page.filled(TIMES.format(real=REAL.format(**networks_of(real)) if real else ""))
-    head = ["feed", "lines in", "lines out", "lead s", "commands/s", "MB/s", "MB", "follow s", "lines/s", "MB"]
-    picture = "![Time for each line read, by loads of networks in growing number](performance.svg)\n"
-    yield "Times and memory", [text, page.table(head, map(times, rows)), picture, told]
-    head = ["feed", "flat blocks", "routes", "of them `drop`", "least s", "MB"]
+    head = ["feed", "lines in", "lines out", "lead s", "commands/s", "lead MB/s", "lead MB", "follow s", "lines/s", "follow MB"]
+    yield "Times and memory", [text, page.table(head, map(times, rows)), told]
+    head = ["feed", "flat blocks", "routes", "of them `drop`", "least s", "least MB"]
     yield "Least tables", [page.filled(LEAST), page.table(head, map(shortest, rows)), told]
     if "peer" in programs:
         head = ["feed", "lead", "lead, replies together", "follow", "least", "memory of lead", "memory of follow", "memory of least"]
         text = page.filled(BESIDE.format(spread=spread(rows)))
         yield "Beside a Rust program", [text, page.table(head, ([row.title, *ratios(row)] for row in rows)), told]
-    if real:
-        lead = rows[0].modes["lead"]["ours"]
-        bench.headline(rows[0].given[0] - 1, rows[0].given[0] / lead.seconds, lead.kilobytes / 1024)

@@ -1,4 +1,4 @@
-"""Times the calls of py-radix over networks and addresses from files, in the form of c/bench.c.
+"""Times the calls of py-radix on networks and addresses from files. Prints the lines of c/bench.c.
 
 usage: radix_calls.py NETWORKS ADDRESSES .."""
 import sys

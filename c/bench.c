@@ -1,13 +1,13 @@
-/* Times calls of the library, where it isn't compiled with -DNO_LIBRARY, and of DPDK where it is with -DDPDK, over networks and addresses
- * from files: bench/calls.py builds it, bench/c_calls.py and bench/maps.py run it.
+/* Times calls of the library, unless compiled with -DNO_LIBRARY, and of DPDK, if compiled with -DDPDK, on networks and addresses from
+ * files. bench/calls.py builds this program; bench/c_calls.py and bench/maps.py run it.
  *
  * usage: bench routes|rib|fib v4|v6 NETWORKS ADDRESSES ..
  *
- * NETWORKS has lines `NET HOP`, each network once, ADDRESSES lines `ADDRESS/LEN`, each address in one of the networks. Each call is made
- * for each line of its file, the dels in another order than the adds, and a line `CALL FILE NANOSECONDS RESULT` says how long one took,
- * of the processor's time: FILE counts the files of addresses from 1, and is 0 for changes. RESULT is one number for all hops that a
- * look-up told, or how many networks are stored after a change. A line `matched FILE 0 SUM` at the end sums, over the addresses, the
- * line number of the matched network, from 0, and its length. */
+ * NETWORKS has lines `NET HOP`, each network once. ADDRESSES has lines `ADDRESS/LEN`, each address in one of the networks. Each call is
+ * made for each line of its file; the dels are in another order than the adds. A line `CALL FILE NANOSECONDS RESULT` gives the CPU time of
+ * one call. FILE counts the files of addresses from 1, and is 0 for changes. RESULT is a checksum of all hops that the lookups returned,
+ * or the number of networks stored after the changes. At the end a line `matched FILE 0 SUM` gives the sum, over the addresses, of
+ * the matched network's line number, from 0, and its length. */
 #ifndef _GNU_SOURCE
 #define _GNU_SOURCE
 #endif
@@ -37,7 +37,7 @@ struct lines {
     size_t count, room;
     struct line *at;
 };
-/* The addresses of a file as each library takes them, and the hops that it tells. */
+/* The addresses of a file in the form of each library, and the hops that it returns. */
 struct asked {
     size_t count;
     uint32_t *v4;
@@ -116,7 +116,7 @@ static struct asked asked_of(const char *path) {
 
 static size_t divisor(size_t a, size_t b) { return b ? divisor(b, a % b) : a; }
 
-/* The same lines in an order that isn't that of the file. */
+/* The same lines in another order than that of the file. */
 static struct lines shuffled(const struct lines *lines) {
     struct lines other = {lines->count, lines->count, taken(lines->count, sizeof *lines->at)};
     size_t step = 7368787 % lines->count;
@@ -136,7 +136,7 @@ static void changed(const char *call, change *made, const struct lines *lines, s
     told(call, 0, spent, lines->count, stored());
 }
 
-/* One number for all hops in their order. */
+/* A checksum of all hops in their order. */
 static uint64_t digest(const struct asked *asked) {
     uint64_t all = 14695981039346656037u;
     for (size_t i = 0; i < asked->count; i++) all = (all ^ asked->hops[i]) * 1099511628211u;
@@ -151,7 +151,7 @@ static void looked_up(const char *call, int file, look_up *all, struct asked *as
     told(call, file, spent, asked->count, digest(asked));
 }
 
-/* How many addresses the next call of many takes. */
+/* The number of addresses that the next call for many takes. */
 static size_t part(const struct asked *asked, size_t from) { return asked->count - from < MANY ? asked->count - from : MANY; }
 
 #ifndef NO_LIBRARY
@@ -221,7 +221,7 @@ static void hop6_many(struct asked *a) {
     for (size_t i = 0; i < a->count; i += MANY) routes_index_hop6_many(&indexed, a->v6 + i, part(a, i), a->hops + i, part(a, i));
 }
 
-/* A table whose hops are the line numbers shows which network is matched. */
+/* A table whose hops are line numbers shows which network is matched. */
 static void matched(const struct lines *lines, const struct asked *asked, int file) {
     uint64_t sum = 0;
     routes_route r;
@@ -261,7 +261,7 @@ static void routes(const struct lines *lines, struct asked *asked, int files) {
 #endif
 
 #ifdef DPDK
-/* DPDK's tables, in memory that isn't of huge pages. */
+/* DPDK's tables, in memory without huge pages. */
 
 #define NO_HOP 0x7fffffff
 

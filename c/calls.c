@@ -1,4 +1,4 @@
-/* Every call, over random turns, against a table that is kept as a plain list of routes. */
+/* Tests every call, over random steps, against a table that is a plain list of routes. */
 #include "routes.h"
 #include <stddef.h>
 #include <stdio.h>
@@ -76,7 +76,7 @@ static uint32_t del(routes_table *t, const struct kept *k, number addr, routes_c
                           : routes_del6(t, (uint64_t)(addr >> 64), (uint64_t)addr, (uint8_t)k->len, k->hop, c);
 }
 
-/* A look-up answers as the model; at no match the route stays. */
+/* A lookup returns the route of the model; without a match the route is unchanged. */
 static void looked_up(routes_table *t, int family, number addr) {
     const struct kept *k = match(family, addr, 128);
     routes_route r, mark;
@@ -90,7 +90,7 @@ static void looked_up(routes_table *t, int family, number addr) {
         CHECK(r.family == family && r.len == k->len && joined(r.high, r.low) == k->addr && r.hop == k->hop && r.pref == k->pref);
 }
 
-/* Many look-ups at once answer as one by one, as far as there are addresses and room; the rest of the room stays. */
+/* A lookup of many addresses returns the hops of single lookups, as far as there are addresses and room; the rest is unchanged. */
 static void looked_up_at_once(routes_table *t) {
     uint32_t addrs4[MANY];
     routes_addr6 addrs6[MANY];
@@ -142,7 +142,7 @@ static void has_hops(routes_index *index) {
     }
 }
 
-/* An index is a copy: a change of the table does not reach it. A closed one answers nothing. */
+/* An index is a snapshot: a change of the table does not reach it. A closed index returns nothing. */
 static void copied(routes_table *t) {
     static routes_index index = ROUTES_INDEX;
     routes_table shut = ROUTES_TABLE;
@@ -165,7 +165,7 @@ static void copied(routes_table *t) {
     routes_index_close(&index);
 }
 
-/* The networks of each family are counted. */
+/* The count of networks of each family is right. */
 static void counted(routes_table *t) {
     size_t ipv4 = 77, ipv6 = 77, wanted[2] = {0, 0};
     for (size_t i = 0; i < count; i++) {
@@ -176,7 +176,7 @@ static void counted(routes_table *t) {
     CHECK(routes_count(t, &ipv4, &ipv6) == ROUTES_OK && ipv4 == wanted[0] && ipv6 == wanted[1]);
 }
 
-/* One route in or out, and what changed. */
+/* Adds or removes one route, and checks the change. */
 static void changed(routes_table *t) {
     int family = drawn() & 1 ? 4 : 6;
     number addr = family == 4 ? drawn() & 0x0303ffff : joined((drawn() & 3) << 61 | (drawn() & 0xffff), drawn() & 0xf00000000000000f);
@@ -210,7 +210,7 @@ static void changed(routes_table *t) {
     looked_up(t, k.family, addr ^ ((number)(drawn() & 0xff) << (width(k.family) - 20)));
 }
 
-/* The blocks of the flat list ascend, and have the hops of the model; the list of another time stays until it is made again. */
+/* The blocks of the flat list ascend, and have the hops of the model. The list is unchanged until it is made again. */
 static void listed(routes_table *t) {
     routes_piece p, last = {0, 0, 0, 0, 0};
     size_t pieces = 0;
@@ -234,7 +234,7 @@ static void listed(routes_table *t) {
     }
 }
 
-/* Ascending, and the routes of a network best first. */
+/* The order: ascending networks, and the routes of a network best first. */
 static int order(const void *left, const void *right) {
     const struct kept *a = left, *b = right;
     if (a->family != b->family) return a->family - b->family;
@@ -269,7 +269,7 @@ static uint32_t list6(routes_table *t, int kind, uint64_t high, uint64_t low, ui
     }
 }
 
-/* The list is made for the network, whose host bits do not count. */
+/* Makes the list for the network; host bits are ignored. */
 static void made(routes_table *t, int kind, const struct kept *n, size_t limit) {
     number host = width(n->family) - n->len ? drawn() & 1 : 0, addr = n->addr | host;
     CHECK((n->family == 4 ? list4(t, kind, (uint32_t)addr, (uint8_t)n->len, limit)
@@ -280,7 +280,7 @@ static int is_shown(const routes_route *r, const struct kept *k) {
     return r->family == k->family && r->len == k->len && joined(r->high, r->low) == k->addr && r->hop == k->hop && r->pref == k->pref;
 }
 
-/* The list has just these routes, read one by one and in parts. */
+/* The list has exactly these routes, read one by one and in parts. */
 static void has(routes_table *t, const struct kept *wanted, size_t length) {
     routes_route r, mark, part[8];
     size_t from = 0, got;
@@ -293,7 +293,7 @@ static void has(routes_table *t, const struct kept *wanted, size_t length) {
     CHECK(got == 0 && from == length && memcmp(&part[7], &mark, sizeof mark) == 0);
 }
 
-/* Whether the stored network is of the list of this kind. */
+/* Whether the stored network belongs to the list of this kind. */
 static int is_listed(int kind, const struct kept *k, const struct kept *n) {
     int later = k->addr != n->addr ? k->addr > n->addr : k->len >= n->len;
     if (k->family != n->family) return 0;
@@ -302,11 +302,11 @@ static int is_listed(int kind, const struct kept *k, const struct kept *n) {
     return kind == FROM ? later : later && !is_of(k, n);
 }
 
-/* how many addresses a block has; 0 for all of IPv6 */
+/* the number of addresses of a block; 0 for all of IPv6 */
 static number size_of(int family, int len) { return width(family) - len == 128 ? 0 : (number)1 << (width(family) - len); }
 
-/* What the network governs: ascending blocks inside it that no stored network strictly inside it meets, as many addresses as are
- * left, and no two blocks that are the halves of one. */
+/* The governed addresses of the network. The blocks ascend inside it and overlap no stored network strictly inside it. They have as many
+ * addresses as are left, and no two blocks are the halves of one. */
 static void governed(routes_table *t, const struct kept *sorted, const struct kept *n) {
     const struct kept *found = match(n->family, n->addr, n->len);
     number left = size_of(n->family, n->len), end = n->addr;
@@ -345,7 +345,7 @@ static void owned(routes_table *t, uint32_t hop) {
     CHECK(routes_route_at(t, at, &r) == ROUTES_MISSING);
 }
 
-/* The least table has no more routes than there are networks, and the same hops, of which some are looked at. */
+/* The least table has no more routes than there are networks, and the same hops; some of them are checked. */
 static void shortest(routes_table *t, size_t networks) {
     static routes_route least[MOST];
     CHECK(routes_least(t) == ROUTES_OK);
@@ -422,7 +422,7 @@ static uint32_t told(routes_follower *f, int family, number addr, uint32_t *hop)
     return family == 4 ? routes_follower_get4(f, (uint32_t)addr, hop) : routes_follower_get6(f, (uint64_t)(addr >> 64), (uint64_t)addr, hop);
 }
 
-/* The follower tells the hop that the model has, at some addresses; at none the number stays. */
+/* At some addresses, the follower returns the hop of the model; without a hop the number is unchanged. */
 static void tells_hops(routes_follower *f) {
     for (int i = 0; i < 500; i++) {
         const struct kept *k = count ? &kept[drawn() % count] : NULL;
@@ -434,7 +434,7 @@ static void tells_hops(routes_follower *f) {
     }
 }
 
-/* Its least table is as long as the table's, and has the hops of the model; the list is read one by one and in parts. */
+/* The follower's least table is as long as the table's, and has the hops of the model. The list is read one by one and in parts. */
 static void tells_least(routes_table *t, routes_follower *f) {
     static routes_route whole[MOST], part[MOST];
     routes_route r;
@@ -453,7 +453,7 @@ static void tells_least(routes_table *t, routes_follower *f) {
     }
 }
 
-/* After a fault it tells and makes nothing, and what it made before can be read; a closed one has nothing. */
+/* After a fault the follower returns no hops and makes no lists; earlier lists can be read. A closed follower has none. */
 static void tells_nothing(routes_follower *f, uint32_t code) {
     routes_route r, mark;
     uint32_t hop = 77;
@@ -467,7 +467,7 @@ static void tells_nothing(routes_follower *f, uint32_t code) {
         CHECK(routes_follower_route_at(f, 0, &r) == ROUTES_OK && routes_follower_read(f, 0, &mark, 1) == 1 && memcmp(&r, &mark, sizeof r) == 0);
 }
 
-/* A follower that has the lines of the flat list as its changes has the hops of the table; a change waits for `ok`. */
+/* A follower whose changes are the lines of the flat list has the hops of the table. A change is pending until `ok`. */
 static void followed(routes_table *t) {
     routes_follower f = ROUTES_FOLLOWER;
     routes_index index = ROUTES_INDEX;
@@ -512,7 +512,7 @@ static void followed(routes_table *t) {
     routes_follower_close(&f);
 }
 
-/* What is no open table answers each call so, and changes nothing. */
+/* A handle that is not an open table makes each call fail in this way, and is unchanged. */
 static void answers_closed(routes_table *t) {
     routes_route r, no_route;
     routes_change c = {77, 78};
@@ -548,7 +548,7 @@ static void closed(routes_table *t) {
     CHECK(t->at == NULL && !t->is_open);
 }
 
-/* A follower in the place of a table; it has what it had. */
+/* A follower passed as a table; it is unchanged. */
 static void of_another_kind(void) {
     routes_follower f = ROUTES_FOLLOWER;
     uint32_t hop = 77;

@@ -1,4 +1,4 @@
-/* `routes lead` by the library: lines from standard input, replies to standard output. A rest without a line end is `bad`. */
+/* `routes lead` with the library: lines from standard input, replies to standard output. A rest without a line end is `bad`. */
 #include "routes.h"
 #include <stdio.h>
 #include <stdlib.h>

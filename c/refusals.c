@@ -1,5 +1,5 @@
-/* Each request for memory is refused in turn, alone: nothing crashes or leaks, the answer says so, and the table is as it was.
- * Link with -Wl,--wrap=malloc,--wrap=realloc. An argument is the greatest number of requests that is tried. */
+/* Makes each allocation fail, one at a time: nothing crashes or leaks, the call returns the error, and the table is unchanged.
+ * Link with -Wl,--wrap=malloc,--wrap=realloc. The argument limits the number of allocations that are tried. */
 #include "routes.h"
 #include <stdio.h>
 #include <stdlib.h>
@@ -24,7 +24,7 @@ void *__wrap_realloc(void *block, size_t size) { return is_refused() ? NULL : __
 static uint32_t addr_of(uint32_t i) { return i * 2654435761u; }
 static uint8_t len_of(uint32_t i) { return (uint8_t)(8 + i % 25); }
 
-/* An `add`, again where there was no memory: the first left the table and the change as they were. */
+/* An `add`, repeated if an allocation failed: the first call left the table and the change unchanged. */
 static void added(routes_table *t, uint32_t i) {
     routes_route before = {0}, after = {0}, now = {0};
     routes_change c = {77, 78};
@@ -39,7 +39,7 @@ static void added(routes_table *t, uint32_t i) {
     WANT(code == ROUTES_OK && routes_get4(t, addr_of(i), &now) == ROUTES_OK && now.hop == i);
 }
 
-/* A list and a reply: where there is no memory the list is as it was, and the reply a beginning. */
+/* A list and a reply: if an allocation fails, the list is unchanged, and the reply is a beginning. */
 static void told(routes_table *t) {
     routes_piece p = {0, 0, 0, 0, 0};
     static const uint8_t line[] = "list 0.0.0.0/0";
@@ -63,7 +63,7 @@ static void told(routes_table *t) {
     WANT(some <= all && memcmp(cut, whole, some) == 0 && (code == ROUTES_NO_MEMORY || some == all));
 }
 
-/* Lists of routes: where there is no memory the list is as it was, and the next try makes it. */
+/* Lists of routes: if an allocation fails, the list is unchanged, and the next try makes it. */
 static void listed(routes_table *t) {
     for (int kind = 0; kind < 8; kind++) {
         routes_route before = {0, 0, 0, 0, 0, 0}, after = before;
@@ -85,7 +85,7 @@ static void listed(routes_table *t) {
     }
 }
 
-/* An index: where there is no memory it stays closed, and the next try opens it. Its look-ups ask for none. */
+/* An index: if an allocation fails, it stays closed, and the next try opens it. Its lookups do not allocate. */
 static void indexed(routes_table *t) {
     routes_index index = ROUTES_INDEX;
     uint32_t code = routes_index_open(&index, t);
@@ -107,7 +107,7 @@ static void indexed(routes_table *t) {
 
 static uint32_t follow(routes_follower *f, const char *line) { return routes_follower_line(f, (const uint8_t *)line, strlen(line)); }
 
-/* The lines of two changes; the first that is not taken is answered so, and is the last that is. */
+/* The lines of two changes. The first line that fails returns the error, and is the last line. */
 static uint32_t followed(routes_follower *f) {
     static const char *lines[] = {"set 10.0.0.0/8 1", "set 10.0.0.0/16 2", "ok", "unset 10.0.0.0/12", "ok"};
     uint32_t code = ROUTES_OK;
@@ -115,7 +115,7 @@ static uint32_t followed(routes_follower *f) {
     return code;
 }
 
-/* A follower's list of routes: where there is no memory it is as it was, and the next try makes it. Look-ups ask for none. */
+/* A follower's list of routes: if an allocation fails, it is unchanged, and the next try makes it. Lookups do not allocate. */
 static void least_of(routes_follower *f) {
     routes_route r = {0, 0, 0, 0, 0, 0};
     uint32_t hop = 77;
@@ -130,7 +130,7 @@ static void least_of(routes_follower *f) {
     WANT(r.hop == ROUTES_DROP && r.low == 0x0a000000 && r.len == 12 && routes_follower_read(f, 2, &r, 1) == 0);
 }
 
-/* A follower: a line without memory is a fault; a list and an index are tried again. */
+/* A follower: a line whose allocation fails is a fault; a list and an index are tried again. */
 static void told_of(void) {
     routes_follower f = ROUTES_FOLLOWER;
     routes_index index = ROUTES_INDEX;
@@ -160,7 +160,7 @@ static void told_of(void) {
     routes_follower_close(&f);
 }
 
-/* All of it with one request refused; how many there were. */
+/* Runs all of it with one allocation failing, and returns the number of allocations. */
 static long tried(long request) {
     routes_table t = ROUTES_TABLE;
     routes_change c;
@@ -180,7 +180,7 @@ static long tried(long request) {
     told_of();
     long all = asked;
     for (uint32_t i = 0; i < NETWORKS; i++) WANT(routes_del4(&t, addr_of(i), len_of(i), i, &c) == ROUTES_OK);
-    WANT(asked == all); /* a `del` asks for no memory */
+    WANT(asked == all); /* a `del` does not allocate */
     routes_close(&t);
     return all;
 }

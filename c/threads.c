@@ -1,5 +1,5 @@
-/* Handles that go from thread to thread between calls: a table, a follower and an index of them are opened, changed, asked and closed,
- * each time by another thread, while other threads have others. */
+/* Handles that move from thread to thread between calls. A table, a follower and an index of them are opened, changed, queried and closed,
+ * each time by another thread, while other threads use other handles. */
 #include "routes.h"
 #include <pthread.h>
 #include <stdio.h>
@@ -12,7 +12,7 @@
 #define THREADS 4
 #define SETS 12
 
-/* What goes from thread to thread. */
+/* A set of handles, which moves from thread to thread. */
 struct set {
     routes_table table;
     routes_follower follower;
@@ -43,7 +43,7 @@ static void changed(struct set *s) {
     if (s->step > 0) WANT(routes_get4(&s->table, addr - 1, &r) == ROUTES_OK && r.hop == s->step - 1);
 }
 
-/* The same of the follower, which keeps the change of one step and carries it out in the next. */
+/* The same for the follower: the change of one step is pending until the next step. */
 static void told(struct set *s) {
     char line[64];
     uint32_t hop = 77, addr = addr_of(s, s->step);
@@ -54,7 +54,7 @@ static void told(struct set *s) {
     if (s->step > 0) WANT(routes_follower_get4(&s->follower, addr - 1, &hop) == ROUTES_OK && hop == s->step - 1);
 }
 
-/* An index is opened at one step, of the table or of the follower, and asked and closed at the next. */
+/* An index of the table or the follower is opened at one step, and queried and closed at the next. */
 static void indexed(struct set *s) {
     uint64_t hop = 77;
     if (!s->index.is_open) {
@@ -81,7 +81,7 @@ static void listed(struct set *s) {
     WANT(routes_follower_route_at(&s->follower, 0, &r) == ROUTES_OK && routes_follower_read(&s->follower, 0, &r, 1) == 1);
 }
 
-/* One step of a set; whether there are more. */
+/* Makes one step of a set; returns whether there are more. */
 static int stepped(struct set *s) {
     size_t ipv4 = 0, ipv6 = 7;
     if (s->step == 0) WANT(routes_open(&s->table) == ROUTES_OK && routes_follower_open(&s->follower) == ROUTES_OK);
@@ -97,7 +97,7 @@ static int stepped(struct set *s) {
     return 0;
 }
 
-/* Takes a set that waits for this thread; none once all are done. */
+/* Takes a set that is waiting for this thread; returns none when all are done. */
 static struct set *taken(int thread) {
     pthread_mutex_lock(&lock);
     while (!waiting[thread] && left > 0) pthread_cond_wait(&more, &lock);

@@ -1,13 +1,13 @@
-/* Makes chosen calls of the C library fail. faults/run builds it and puts it before the C library of the program (LD_PRELOAD).
+/* Makes chosen calls of the C library fail. faults/run builds it and loads it before the program's C library (LD_PRELOAD).
 
-   FAULT  KIND:N, KIND:N:HOW or memory:N+   the N-th call of that kind fails, or the N-th and each after it
+   FAULT  KIND:N, KIND:N:HOW or memory:N+   the N-th call of that kind fails, or the N-th and all later ones
           KIND  memory (malloc and realloc), read (of descriptor 0) or write (of descriptor 1)
-          HOW   the name of an error, or `nothing` for a write that takes nothing
-   FROM   if set, only requests for memory after the first read of descriptor 0 are counted, and can fail
-   MARKS  if set, only those between a write to descriptor 1 that begins with `-- begin` and one that begins with `-- end`
-   MOST   each read and write moves at most so many bytes
-   COUNTS a descriptor: at the end a line says how often each kind was called, how often a call failed, and how many reads and
-          writes came after the first one that failed */
+          HOW   the name of an error, or `nothing` for a write that writes nothing
+   FROM   if set, only allocations after the first read of descriptor 0 are counted and can fail
+   MARKS  if set, only allocations between a write to descriptor 1 that begins with `-- begin` and one that begins with `-- end`
+   MOST   each read and write moves at most this many bytes
+   COUNTS a descriptor: at the end it gets a line with the number of calls of each kind, of failed calls, and of reads and writes
+          after the first failed one */
 #include <errno.h>
 #include <stdio.h>
 #include <stdlib.h>
@@ -26,9 +26,9 @@ static long met, after;
 static enum kind chosen = KINDS;
 static long number, most;
 static int onwards, error, device_failed;
-static int counted = 1; /* whether requests for memory are counted yet */
+static int counted = 1; /* whether allocations are counted yet */
 static int counts = -1;
-static int marks; /* whether marks say which requests are counted */
+static int marks; /* whether marks decide which allocations are counted */
 
 static int error_named(const char *name) {
     if (strcmp(name, "EIO") == 0) return EIO;
@@ -55,7 +55,7 @@ __attribute__((constructor)) static void begin(void) {
             chosen = kind;
         }
     }
-    memset(calls, 0, sizeof calls); /* what came before main doesn't count */
+    memset(calls, 0, sizeof calls); /* calls before main don't count */
 }
 
 __attribute__((destructor)) static void finish(void) {
@@ -65,7 +65,7 @@ __attribute__((destructor)) static void finish(void) {
     syscall(SYS_write, counts, line, (size_t)length);
 }
 
-/* Whether this call is to fail. */
+/* Whether this call fails. */
 static int fails(enum kind kind) {
     if (kind == MEMORY && !counted) return 0;
     long call = ++calls[kind];

@@ -1,4 +1,4 @@
-"""Runs a program with a fault: faults.c, built and put before the C library. It needs a C compiler."""
+"""Runs a program with a fault, by faults.c, which is built and loaded before the C library. It needs a C compiler."""
 import os
 import subprocess
 import tempfile
@@ -23,7 +23,7 @@ class Run(NamedTuple):
 
 
 class Harness:
-    """Counts the runs, those that met a fault, and what went wrong."""
+    """Counts the runs, those that met a fault, and those that went wrong."""
 
     def __init__(self, library):
         self.library = library
@@ -32,7 +32,7 @@ class Harness:
         self.lock = threading.Lock()
 
     def run(self, command, given=b"", fault=None, most=None, first_read=False, marks=False):
-        """Runs the command on these bytes, with this fault; requests for memory may count from the first read on, or between
+        """Runs the command on these bytes, with this fault. Allocations are counted from the start, from the first read, or between
         the marks of its output."""
         out, into = os.pipe()
         names = {"LD_PRELOAD": self.library, "COUNTS": str(into)}
@@ -44,7 +44,7 @@ class Harness:
             names["FROM"] = "read"
         if marks:
             names["MARKS"] = "output"
-        # from a file, since how much a read of a pipe gives depends on when it comes
+        # from a file, since the size of a read from a pipe depends on timing
         with tempfile.TemporaryFile() as source:
             source.write(given)
             source.seek(0)
@@ -62,7 +62,7 @@ class Harness:
             self.wrong.append(" ".join(map(str, what)))
 
     def verdict(self, line):
-        """Prints what went wrong and the line, and gives the exit status."""
+        """Prints the errors and the line, and returns the exit status."""
         for wrong in self.wrong[:20]:
             print(wrong)
         print(f"{line}, {len(self.wrong)} wrong")

@@ -1,4 +1,4 @@
-"""What an installer has to write for its input, worked out from docs/ROUTES.md alone. Several tables may be least, so its output is
+"""What an installer has to write for its input, worked out from docs/ROUTES_FIB.md alone. Several tables may be least, so its output is
 looked at batch by batch: whichever table a batch of a `sync` makes, it has to be one of these, and made in the order that is told."""
 from model import change, fewest, hop, network, painted, written
 
@@ -7,7 +7,7 @@ WIDTHS = (32, 128)
 
 
 def order(net):
-    """Ascending by the first address, and the shorter one first."""
+    """The order of networks: by first address, then shorter ones first."""
     width, first, last = net
     return width, first, -last
 
@@ -30,26 +30,26 @@ def removes(net):
 
 
 def between(old, new):
-    """The operations that make the table `new` of the table `old`."""
+    """The operations that turn the table `old` into the table `new`."""
     changed = [net for net in new if net not in old or old[net] != new[net]]
     return [installs(net, new[net]) for net in sorted(changed, key=order, reverse=True)] + \
         [removes(net) for net in sorted(old, key=order) if net not in new]
 
 
 def handed(table, net):
-    """The hop that the routes outside hand down."""
+    """The hop that the block inherits from the routes outside."""
     outside = [other for other in table if other != net and inside(net, other)]
     return table[min(outside, key=lambda other: other[2] - other[1])] if outside else None
 
 
 def changed(table, net, to):
-    """The table where a block has another hop."""
+    """The table after a block gets another hop."""
     new = {other: held for other, held in table.items() if not inside(other, net)}
     return new if handed(new, net) == to else {**new, net: to}
 
 
 def after(table, batch):
-    """The table after these operations; ValueError where one is none, or removes what isn't there."""
+    """The table after these operations. ValueError if one is not an operation, or removes a route that isn't there."""
     table = dict(table)
     for line in batch:
         match line.split(b" "):
@@ -63,15 +63,15 @@ def after(table, batch):
 
 
 def is_least(table, told):
-    """Whether it has the hops that these changes tell, and no table with them fewer routes."""
+    """Whether the table has the hops after these changes, and no table with these hops has fewer routes."""
     routes = sorted(table.items(), key=lambda route: route[0][1] - route[0][2])
     return all(painted(routes, width) == painted(told, width) and sum(net[0] == width for net in table) == fewest(told, width)
                for width in WIDTHS)
 
 
 def note(line):
-    """What a line of the input is: `sync`, a route that is installed, a reply line that changes nothing, or a change; ValueError
-    where it is none."""
+    """The meaning of an input line: `sync`, an installed route, a reply line without a change, or a change. ValueError if it is none of
+    these."""
     if len(line) > 80:
         raise ValueError
     match line.split(b" "):
@@ -84,13 +84,13 @@ def note(line):
 
 
 class Installed:
-    """What is installed, what a leader has told, and which batches have come."""
+    """The installed table, the leader's hops, and the batches so far."""
 
     def __init__(self, batches):
         self.table, self.told, self.waiting, self.kept, self.batches = {}, [], [], False, batches
 
     def least(self):
-        """The next batch makes a least table, and is that between both."""
+        """The next batch makes a least table, and has the operations between both tables."""
         batch = self.batches.pop(0)
         new = after(self.table, batch)
         if batch != between(self.table, new) or not is_least(new, self.told):
@@ -98,7 +98,7 @@ class Installed:
         self.table = new
 
     def each(self):
-        """The next batch carries out what waits, one change after another."""
+        """The next batch carries out the pending changes, one by one."""
         wanted = []
         for net, to in self.waiting:
             new = changed(self.table, net, to)
@@ -130,7 +130,7 @@ class Installed:
 
 
 def notes(stream):
-    """The notes of a stream up to a line that is none, or a `have` after a `sync`; the bytes of these lines; whether there is one."""
+    """The notes of a stream before its first invalid line (no note, or a `have` after a `sync`), their bytes, and whether there is one."""
     found, count, is_kept = [], 0, False
     for line in stream.split(b"\n")[:-1]:
         try:
@@ -146,7 +146,7 @@ def notes(stream):
 
 
 def is_installed(found, output):
-    """Whether an installer may write this for these notes, with memory."""
+    """Whether an installer that never runs out of memory may write this for these notes."""
     lines = output.split(b"\n")
     batches = [[]]
     for line in lines[:-1]:

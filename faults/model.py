@@ -1,5 +1,5 @@
-"""What comes of a stream of reply lines, worked out from docs/ROUTES.md alone: its committed changes, their flat list, and the
-fewest routes with their hops."""
+"""A model of reply streams, by the rules of docs/ROUTES.md alone: the committed changes, their flat list, and the fewest routes
+with their hops."""
 import re
 
 
@@ -18,7 +18,7 @@ def ipv4_address(text):
 
 
 def units(text, is_last):
-    """The units of a part of an IPv6 address; the last two of it all may be an IPv4 address."""
+    """The units of a part of an IPv6 address; an IPv4 address may take the place of the last two."""
     if text == b"":
         return []
     found = text.split(b":")
@@ -63,7 +63,7 @@ def hop(text):
 
 
 def change(line):
-    """The change that a reply line tells, if it tells one; the line has to be a reply line."""
+    """The change of a reply line, if it has one. The line must be a reply line."""
     if len(line) > 80:
         raise ValueError
     match line.split(b" "):
@@ -89,7 +89,7 @@ def change(line):
 
 
 def committed(stream):
-    """The changes of the replies that end in `ok`."""
+    """The changes of the replies that end with `ok`."""
     changes, waiting = [], []
     for line in stream.split(b"\n")[:-1]:
         told = change(line)
@@ -104,7 +104,7 @@ def committed(stream):
 
 
 def painted(changes, width):
-    """Ascending pieces of addresses, each with its hop, neighbours with other hops."""
+    """Ascending spans of addresses, each with its hop; adjacent spans have different hops."""
     edges = sorted({0, 1 << width} | {edge for (w, first, last), _ in changes if w == width for edge in (first, last + 1)})
     pieces = []
     for start, end in zip(edges, edges[1:]):
@@ -134,7 +134,7 @@ def written(width, first, length):
 
 
 def flat(changes):
-    """The flat list: of each piece the largest blocks, from its start on."""
+    """The flat list: the largest blocks of each span, from its start on."""
     lines = []
     for width in (32, 128):
         for start, end, to in painted(changes, width):
@@ -148,13 +148,13 @@ def flat(changes):
 
 
 def fewest(changes, width):
-    """How many routes a table of one family has at least that gives these hops, by the halves of each block: under what the
-    routes outside hand down it needs no route of its own, or one, of any hop or none."""
+    """The least number of routes of a table of one family with these hops, computed from the halves of each block. For each
+    inherited hop, a block needs no route of its own, or one, with any hop or none."""
     pieces = painted(changes, width)
     hops = {None} | {to for _, _, to in pieces}
 
     def needs(start, size, inside):
-        """Of the block from this start on, and for each hop that is handed down; the pieces are those that meet it."""
+        """The same for the block from this start on, for each inherited hop; the spans are those that overlap the block."""
         covered = inside[0][2] if inside else None
         if not inside or (inside[0][0] <= start and start + size <= inside[0][1]):
             return {hop: int(hop != covered) for hop in hops}
@@ -169,7 +169,7 @@ def fewest(changes, width):
 
 
 def expected(stream):
-    """The flat list and the fewest routes of the committed changes; nothing where a line is none."""
+    """The flat list and the fewest routes of the committed changes, or None if a line is not a reply line."""
     try:
         changes = committed(stream)
     except ValueError:

@@ -1,4 +1,4 @@
-"""What the recipes have in common. A program is the one that the environment names, else the tree's, else the one in PATH."""
+"""The common part of the recipes. A program is the one that the environment names, else the tree's, else the one in PATH."""
 import contextlib
 import fcntl
 import ipaddress
@@ -43,7 +43,7 @@ def fault(text):
 
 
 def run(main):
-    """A recipe. A file that can't be had is named too, and wrong arguments get the usage."""
+    """Runs a recipe. For a file that can't be opened it prints the name, and for wrong arguments the usage."""
     signal.signal(signal.SIGTERM, lambda *_: fault("ended by a signal"))
     usage = sys.modules["__main__"].__doc__
     try:
@@ -69,7 +69,7 @@ def text(lines):
 
 
 def put(lines):
-    """Writes all lines, once there can be no fault any more."""
+    """Writes all lines; to be called when no more faults are possible."""
     with naming("standard output"):
         sys.stdout.write(text(lines))
         sys.stdout.flush()
@@ -87,7 +87,7 @@ def needs(command, package):
 
 @contextlib.contextmanager
 def namespace(*lines):
-    """A network namespace with a device `lan` that no cable leaves, and more lines for `ip`; it goes in the end."""
+    """A network namespace with a dummy device `lan`, set up by more lines for `ip`. It is deleted in the end."""
     needs("ip", "iproute2")
     name = f"recipe-{os.getpid()}"
     made = subprocess.run(["ip", "netns", "add", name], capture_output=True, text=True)
@@ -104,7 +104,7 @@ def namespace(*lines):
 
 @contextlib.contextmanager
 def bird(folder, configuration, *before):
-    """BIRD with this configuration, after the words `before`. Its one socket is the control socket, whose name is given."""
+    """Runs BIRD with this configuration, after the command prefix `before`. Its only socket, the control socket, is returned."""
     needs("bird", "bird2")
     Path(folder, "bird.conf").write_text(configuration)
     control = f"{folder}/control"
@@ -125,7 +125,7 @@ def settled(control):
 
 
 def tool(*command, given=None, **where):
-    """The output of a tool, which may not fail."""
+    """The output of a tool, which must not fail."""
     done = subprocess.run(command, input=given, capture_output=True, text=True, **where)
     if done.returncode != 0:
         fault(f"{' '.join(command)}: status {done.returncode}: {(done.stderr or done.stdout).strip()}")
@@ -138,7 +138,7 @@ def routes(mode, given):
 
 
 def refused(*command, given="", **where):
-    """The one line in which a command says why it doesn't take this."""
+    """The one line with which a command rejects this input."""
     done = subprocess.run(command, input=given, capture_output=True, text=True, **where)
     if done.returncode != 1 or len(done.stderr.splitlines()) != 1 or done.stdout:
         fault(f"{' '.join(command)} took what it mustn't, or said more than a line: {done.stderr}")
@@ -157,7 +157,7 @@ def full_disk(folder, command, given):
 
 
 def timed(work, *given, **more):
-    """What it gives, and the seconds of the processor that it and its tools took, the kernel's for them included."""
+    """The result of a call, and the CPU seconds that it and its tools took, including system time."""
     start = sum(os.times()[:4])
     found = work(*given, **more)
     return found, sum(os.times()[:4]) - start
@@ -175,8 +175,8 @@ def shown(page):
 
 
 class Page:
-    """The recipe's page, block by block, in a folder of its own. A command is run as it stands there, by a shell that fails where
-    a part of a pipe does; beside it are `recipes`, `examples`, `routes`, and tools that are told where to work: `{}` is the real one."""
+    """The recipe's page, block by block, in a folder of its own. A command is run unchanged, by a shell that fails if a part of a pipe
+    fails. The folder has `recipes`, `examples`, `routes`, and wrappers of tools; in a wrapper, `{}` is the real tool."""
 
     def __init__(self, folder, blocks=None, **tools):
         self.folder, self.blocks = folder, shown(HERE / f"{NAME}.md") if blocks is None else blocks
@@ -189,7 +189,7 @@ class Page:
             Path(folder, "bin", name).chmod(0o755)
 
     def text(self, path=None):
-        """The next block, which is written to a file where that is named."""
+        """The next block, which is written to a file if one is named."""
         block = self.blocks.pop(0)
         if path:
             Path(self.folder, path).write_text(block)
@@ -200,15 +200,15 @@ class Page:
         return {"cwd": self.folder, "env": os.environ | {"PATH": path, "ROUTES": f"{self.folder}/bin/routes"}}
 
     def run(self, command=None):
-        """The output of the next block, or of this command, which may take five minutes."""
+        """The output of the next block, or of this command. It may take five minutes."""
         return tool("timeout", "300", "bash", "-euo", "pipefail", "-c", command or self.text(), **self.where())
 
     def refuses(self, command, given=""):
-        """This command says in one line why it doesn't take what it is given, and writes nothing."""
+        """Checks that this command rejects its input with one line, and writes nothing."""
         print("refused:", refused("bash", "-c", command, given=given, **self.where()))
 
     def gives(self, output):
-        """The next block is this output."""
+        """Checks that the next block is this output."""
         same("the page", output, self.text())
 
     def end(self):
@@ -216,8 +216,8 @@ class Page:
 
 
 def pieces(file, title, form=ANY):
-    """The text of a file, in pieces of about a megabyte; each is of whole lines of this form. What failed before, so that the
-    file is empty or cut off, must not be taken for a table."""
+    """The text of a file, in pieces of about a megabyte, each with complete lines of this form. An empty or truncated file is rejected: it
+    comes from an earlier failure, and is not a table."""
     before, file = 0, getattr(file, "buffer", file)
     while text := (file.read(PIECE) + file.readline()).decode(errors="backslashreplace"):
         held = form.match(text).end()
@@ -246,13 +246,13 @@ def wrong_line(title, before, text, held):
 
 
 def lines_of(path, title=None, form=ANY):
-    """All lines of a file, or of what has been opened, each of this form."""
+    """All lines of a file, or of an open file, each of this form."""
     with open(path, "rb") if isinstance(path, str) else path as file:
         return list(stream(file, title or path, form))
 
 
 def taken(replies, commands=None):
-    """These replies of a leader, as lines, where it took each command. What is named is the first that it didn't take."""
+    """These replies of a leader, as lines, if it accepted each command. Otherwise the first command that it didn't accept is named."""
     if answers := [replies.index(word) for word in ("bad", "refused") if word in replies]:
         at = min(answers)
         number = sum(line in CLOSING for line in replies[:at + 1])
@@ -264,7 +264,7 @@ def taken(replies, commands=None):
 
 
 def replies_of(file):
-    """The whole output of a leader, as lines; each command has to be taken."""
+    """The whole output of a leader, as lines. It must have accepted each command."""
     return taken(lines_of(file, "the leader's output", REPLIES))
 
 
@@ -282,7 +282,7 @@ def locked(path):
 
 
 class Numbers:
-    """A file of lines `NUMBER NAME`, kept from run to run: a name keeps its number, a new one has the next."""
+    """A file of lines `NUMBER NAME` for all runs: a name keeps its number, and a new name gets the next number."""
 
     def __init__(self, path):
         self.path, self.of_name, seen = path, {}, set()
@@ -304,8 +304,8 @@ class Numbers:
         return {str(number): name for name, number in self.of_name.items()}
 
     def keep(self, lines):
-        """These lines `add NET NUMBER ..`, once the file has their names. If another run has added names since this one read the file,
-        they keep their numbers, and new names of this run get others."""
+        """Returns these lines `add NET NUMBER ..`, once the file has their names. If another run has added names since this run read
+        the file, they keep their numbers, and new names of this run get other numbers."""
         with locked(self.path):
             now = Numbers(self.path)
             moved = {str(number): str(now[name]) for name, number in self.of_name.items() if now[name] != number}
@@ -313,7 +313,7 @@ class Numbers:
         return [renumbered(line, moved) for line in lines] if moved else lines
 
     def write(self):
-        """The new file takes the old one's place in one step."""
+        """Replaces the old file with the new one in one step."""
         new = f"{self.path}.new"
         try:
             with naming(new), open(new, "w") as file:
@@ -330,7 +330,7 @@ def renumbered(line, moved):
 
 
 def differing(old, new):
-    """The lines of each network that differ between two tables, in the order of text. These are lists of lines `WORD NET ..`."""
+    """The lines that differ between two tables, network by network, in text order. Tables are lists of lines `WORD NET ..`."""
     old, new = (sorted(table) + [""] for table in (old, new))
     if not old[0] or not new[0]:
         raise ValueError("an empty line")
@@ -354,7 +354,7 @@ def start(line):
 
 
 def lines_from(lines, at, key):
-    """The lines that start with the key, of which some may lie before this place, and the place after them."""
+    """The lines that start with the key, some of which may be before this place, and the place after them."""
     first = at
     while first and lines[first - 1].startswith(key):
         first -= 1
@@ -397,7 +397,7 @@ def question(address):
 
 
 def hops_of(commands, addresses):
-    """The hop that `routes lead` answers for each address after these commands, None where it is `drop` or there is no route."""
+    """The hop that `routes lead` returns for each address after these commands, or None for `drop` or no route."""
     commands += "".join(map(question, addresses))
     replies = taken(routes("lead", commands), commands)
     found, hop = [], None

@@ -1,5 +1,5 @@
-# Of FRR's `show ip route json` or `show ipv6 route json`: a line `NET PREF HOP` for each route, for recipes/number. The route that
-# FRR uses is best, then that of the smaller distance.
+# Reads FRR's `show ip route json` or `show ipv6 route json`, and prints a line `NET PREF HOP` for each route, for recipes/number. The
+# route that FRR uses is best, followed by those with smaller distances.
 def gateway($six):
     if .ip == null then "" elif .afi == "ipv6" and ($six | not) then "via inet6 \(.ip) " else "via \(.ip) " end
     + "dev \(.interfaceName)";

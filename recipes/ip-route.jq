@@ -1,4 +1,4 @@
-# Of `ip -j route` or `ip -j -6 route`: a line `NET PREF HOP` for each route, for recipes/number. A smaller metric is better.
+# Reads `ip -j route` or `ip -j -6 route`, and prints a line `NET PREF HOP` for each route, for recipes/number. Smaller metrics are better.
 def net($six):
     if .dst == "default" then (if $six then "::/0" else "0.0.0.0/0" end)
     elif .dst | contains("/") then .dst

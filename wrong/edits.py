@@ -1,10 +1,10 @@
-"""Edits of the wrong bodies, and where the bodies of a text are."""
+"""The edits that make wrong bodies, and the positions of the bodies in a text."""
 import re
 import sys
 
 
 class Edit:
-    """An edit of a crate's files, which stand in a folder of the crate's name."""
+    """An edit of the files of a crate, which are in a folder with the crate's name."""
 
     def __init__(self, file, crate):
         self.file, self.name, self.crate, self.is_apart = file, file.stem, crate, False
@@ -32,7 +32,7 @@ class Edit:
         self.functions, self.files = {*self.refused, *self.proved}, {it[0] for it in self.pairs}
 
     def put(self, texts, folder):
-        """The texts with this edit made in them, or None where it does not fit beside those made before."""
+        """The texts with this edit applied, or None if it can't be applied together with the earlier ones."""
         made = dict(texts)
         for path, after, old, new in self.pairs:
             before, found, text = ("", "", made.get(path) or (folder / path).read_text())
@@ -46,7 +46,7 @@ class Edit:
         return made
 
     def leaves_open(self, texts, goals):
-        """Whether one of these open goals is of a function of that name, in the files that this edit changes."""
+        """Whether one of these open goals belongs to a function that the edit names, in a file that it changes."""
         for path in self.files:
             text, last = texts[path], 0
             for name, _, end in bodies_of(text):
@@ -60,10 +60,13 @@ class Edit:
         return {it.rpartition("::")[2] for it in self.functions}
 
     def strays(self, folder):
-        """What is amiss with this edit: that it cannot be made, or changes anything but the bodies of the functions that it names."""
+        """The error of this edit: it can't be applied, or changes more than the bodies that it names, unless it is apart. None if it has
+        none."""
         texts = self.put({}, folder)
         if texts is None:
             return "it cannot be applied: each 'old:' text stands once in its file, or behind an 'after:' text that does"
+        if self.is_apart:
+            return None
         changed = set()
         for path, wrong in texts.items():
             text = (folder / path).read_text()
@@ -78,7 +81,7 @@ TOKENS = re.compile(r"//[^\n]*|/\*.*?\*/|\"(?:\\.|[^\"\\])*\"|b?'(?:\\.[^']*|[^'
 
 
 def bodies_of(text):
-    """Where the body of each outermost function of this text is: name, start and end."""
+    """The name, start and end of the body of each outermost function in this text."""
     found, name, is_clause, depth, outside, start, at = [], None, False, 0, 0, None, 0
     for token in TOKENS.findall(text):
         if token == "{" and name and depth == outside and start is None and not is_clause:
@@ -108,23 +111,23 @@ def around(text, bodies):
     return [text[end:start] for end, start in zip(ends, starts)]
 
 
-# A body that the prover refuses at once: it claims that it is never reached, and no proof of that is tried.
+# A body that the prover refuses at once: it claims that it is never reached, and the prover doesn't try to prove that.
 CUT_OFF = "{ #[tactic(none)] unreachable!(); }"
 # The proof files of a function.
 OWN_FILES = ("Answers.antt", "Invariants.antt", "Proof.antt")
 
 
 def cut(text, wrong, kept):
-    """The wrong text, each body cut off but those that differ from the text's and those of names that are kept; and the names of those
-    that are cut off."""
+    """The wrong text with all bodies cut off, except those that differ from the right text and those of the kept names; and the names of
+    the functions whose bodies were cut off."""
     pairs = zip(bodies_of(text), bodies_of(wrong))
     off = [it for (_, start, end), it in pairs if it[0] not in kept and text[start:end] == wrong[it[1] : it[2]]]
     return CUT_OFF.join(around(wrong, off)), {name for name, _, _ in off}
 
 
 def cut_off(crate, texts, place, named, kept):
-    """The texts of this crate, whose files stand below this place, with all bodies cut off but those that these texts change and those
-    of names that are kept. The proof files of what is cut off are taken away: all but those of the named functions."""
+    """The texts of this crate, whose files are below `place`, with all bodies cut off, except those that these texts change and those of
+    the kept names. The proof files of the cut-off functions are deleted, except those of the named functions."""
     made, off = {}, set()
     for file in (place / crate / "src").rglob("*.rt"):
         path, text = str(file.relative_to(place)), file.read_text()
@@ -139,13 +142,13 @@ def cut_off(crate, texts, place, named, kept):
     return made
 
 
-# A text, and the names and bodies of its functions.
+# A text, with the names and bodies of its functions.
 PARTED = [
     ("fn a(b: [u8; 2]) -> u8 where B: C\n    requires { b }\n    ensures c { d } { 1 }", [("a", "{ 1 }")]),
     ("impl A { ghost b = { c }; fn d(self) { |e| requires { f } { g } } fn h(); } // fn i() {", [("d", "{ |e| requires { f } { g } }")]),
     ("fn a() { '{'; \"}\" } fn b<'a>(c: &'a C) {}", [("a", "{ '{'; \"}\" }"), ("b", "{}")]),
 ]
-# A text, a wrong one, a name that is kept, and what is left.
+# A text, a wrong text, a kept name, and the expected result.
 CUT = [
     ("fn a() {} fn b() { 2 } fn c() {}", "fn a() {} fn b() { 4 } fn c() {}", "c", f"fn a() {CUT_OFF} fn b() {{ 4 }} fn c() {{}}"),
     ("const A: u8 = 1; fn a() { A }", "const A: u8 = 2; fn a() { A }", "", f"const A: u8 = 2; fn a() {CUT_OFF}"),
@@ -153,7 +156,7 @@ CUT = [
 
 
 def parts_wrongly():
-    """What `bodies_of` and `cut` say otherwise than they must."""
+    """The cases in which `bodies_of` and `cut` return a wrong result."""
     for text, want in PARTED:
         found = [(name, text[start:end]) for name, start, end in bodies_of(text)]
         if found != want:

@@ -1,28 +1,28 @@
-"""What a check says of a crate's functions."""
+"""Reads the output of a check: its verdict on the functions of a crate."""
 import re
 
 
 class NotUnderstood(Exception):
-    """What a check said is no verdict that this file knows."""
+    """The output of a check isn't a verdict of a known form."""
 
 
-# Why a function has no proof, in the checker's words.
+# The reasons why a function has no proof, in the checker's words.
 REASONS = [re.compile(it) for it in (
     r"expected (?:\w+|`\S+`) in \w+/proofs/\S+",
     r"(`search` did not prove .+)",
     r"it calls `.+, which (?:is|are) not proved",
     r"it passes the blocks? `.+, which (?:is|are) not proved",
-    # (of a body that a round cuts off)
+    # (for a body that a round cuts off)
     r"`#\[tactic\(none\)\]` leaves `.+",
 )]
-# An error that a proof file has since the edit took away a name.
+# An error of a proof file that uses a name which the edit removed.
 NAMES = re.compile(r"has no field|is not in scope|has no `|was not admitted|that can be named from here|was rejected, was not checked")
 
 
 def verdict(said):
-    """The functions that a check tells of, which of them failed by themselves, the files with errors that are none of theirs, and those
-    that failed for the want of a name alone, as far as their own lines tell. A function fails by itself where a goal of its own is open,
-    or its own proof files are refused."""
+    """The functions in the output of a check, those that failed by themselves, the files with other errors, and the functions that failed
+    only because a name is missing, as far as their own lines show. A function fails by itself if it leaves a goal open, or if its own
+    proof files are refused."""
     lines = said.rstrip().split("\n")
     last = next((it for it in reversed(lines) if it.startswith(("logic=", "holes=", "only=", "rattle: "))), "")
     if not last.startswith(("logic=proved", "logic=not-proved", "only=")):
@@ -30,7 +30,7 @@ def verdict(said):
     errors = {}
     for it in re.finditer(r"^(\w+/(?:src|specs|proofs)/\S+?):\d+:\d+: error\b(.*)$", said, re.M):
         errors.setdefault(it[1], []).append(it[2])
-    # (a check of several processes tells of an error while it runs, and once more in the end; a note is no error, whatever it quotes)
+    # (a check with several processes prints an error while it runs, and again in the end; a note isn't an error, whatever it quotes)
     odd = re.search(r"^(?!\w+/(?:src|specs|proofs)/|so far: |note: ).*\berror(?:\[|: ).*$", said, re.M)
     if odd:
         raise NotUnderstood(odd[0][:160])
@@ -58,7 +58,7 @@ def verdict(said):
 
 
 def opened(said):
-    """Where in the source a check left a goal open: files and lines."""
+    """The positions of the goals that a check left open: files and lines."""
     return {(it[1], int(it[2])) for it in re.finditer(r"^note: (\w+/src/\S+?):(\d+):\d+: it is not proved that ", said, re.M)}
 
 
@@ -66,8 +66,8 @@ PROVED = ()
 
 
 def reasons(name, state):
-    """Why this function has no proof; PROVED where it has one."""
-    # (the second is a closure's line)
+    """The reason why this function has no proof, or PROVED if it has one."""
+    # (the second line is that of a closure)
     if state in ("proved", "proved where its callers give what it asks"):
         return PROVED
     head, *why = state.removeprefix("no proof: ").split("; ")
@@ -82,14 +82,14 @@ def reasons(name, state):
 
 
 def proof_files(name):
-    """The proof files of this function. (Those of a function in a cycle of calls stand in a folder whose name begins with +.)"""
+    """The proof files of this function. (For a function in a cycle of calls they are in a folder whose name begins with +.)"""
     crate, *above, own = name.split("::")
     return re.escape("/".join([crate, "proofs", *above, ""])) + r"\+?" + re.escape(own) + r"/\w+\.antt"
 
 
 A = "fn c::a: proved\n"
 S = "fn c::a: no proof: expected answers in c/proofs/a/Answers.antt; `search` did not prove `returns`"
-# Outputs, made up, with the functions that fell and the files with stray errors; None: no verdict that is known.
+# Made-up outputs, with the functions that failed and the files with other errors; None means an unknown form.
 READ = [
     (A + "logic=proved functions=1", [], []),
     (A + "only=1 proved=1", [], []),
@@ -119,7 +119,7 @@ READ = [
 
 
 def reads_wrongly():
-    """What `verdict` reads otherwise than it must."""
+    """The made-up outputs that `verdict` misreads."""
     for said, *want in READ:
         try:
             _, fell, strays, _ = verdict(said)

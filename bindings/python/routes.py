@@ -18,8 +18,8 @@ flat 10.64.0.0/10 1
 flat 10.128.0.0/9 1
 ok
 
-The library is libroutes.so in the folder that the environment names as ROUTES_LIB, else the one that
-the system finds.
+The library is libroutes.so in the folder that the environment variable ROUTES_LIB names. Without it, the
+system's search path is used.
 """
 
 from __future__ import annotations
@@ -38,7 +38,7 @@ DROP: Final = "drop"
 """The hop of a null route: its addresses have no hop."""
 
 PREFERENCE: Final = 100
-"""The preference that `routes lead` gives where none is named."""
+"""The preference that `routes lead` gives a route without one."""
 
 Address = Union[ipaddress.IPv4Address, ipaddress.IPv6Address]
 Net = Union[ipaddress.IPv4Network, ipaddress.IPv6Network]
@@ -68,7 +68,7 @@ class Piece(NamedTuple):
 
 
 class Count(NamedTuple):
-    """How many networks of each family are stored."""
+    """The number of stored networks of each family."""
 
     ipv4: int
     ipv6: int
@@ -83,9 +83,9 @@ class Failed(Exception):
 
 
 class _Handle:
-    """What the library opens and closes, and the thread that may call it."""
+    """A handle of the library, and the thread that may use it."""
 
-    _name = ""  # what the names of the library's calls begin with
+    _name = ""  # the prefix of the names of the library's calls
     _raw: ctypes.Structure
 
     def __init__(self) -> None:
@@ -98,18 +98,18 @@ class _Handle:
         self.close()
 
     def close(self) -> None:
-        """Gives the memory back. What is closed stays closed."""
+        """Frees the memory. A closed object stays closed."""
         self._own()
         self._close()
 
     def __del__(self) -> None:
-        self._close()  # whichever thread does this is the last that has it
+        self._close()  # the thread that runs this is the last one with a reference
 
     def _close(self) -> None:
         getattr(_library, f"routes_{self._name}close")(self._raw)
 
     def _own(self) -> ctypes.Structure:
-        """The handle of the library, for its thread."""
+        """The handle, if this is its thread."""
         if threading.get_ident() != self._thread:
             raise RuntimeError(f"this {type(self).__name__} stays on the thread that made it")
         return self._raw
@@ -121,7 +121,7 @@ class _Handle:
         return _is_found(getattr(_library, f"routes_{self._name}{name}{addr.version}")(self._own(), *halves, *rest))
 
     def _pieces(self) -> list[Piece]:
-        """The flat list, made and read."""
+        """Makes the flat list, and reads it."""
         _is_found(getattr(_library, f"routes_{self._name}flat")(self._own()))
         pieces: list[Piece] = []
         piece = _Piece()
@@ -138,7 +138,7 @@ class _Handle:
         return routes
 
     def _least(self) -> list[Route]:
-        """A least table, made and read."""
+        """Makes a least table, and reads it."""
         _is_found(getattr(_library, f"routes_{self._name}least")(self._own()))
         return self._read()
 
@@ -149,12 +149,11 @@ _H = TypeVar("_H", bound=_Handle)
 class Table(_Handle):
     """A route table: a context manager, which closes it.
 
-    A network has up to eight routes, each by another hop, a number below 2**32 or DROP. Its best route is that of the greatest
-    preference, and among equals that of the smallest number, with DROP the last. Host bits of networks are ignored.
+    A network has up to eight routes, each with another hop: a number below 2**32, or DROP. The best route has the greatest
+    preference, and among equals the smallest number; DROP is last. Host bits of networks are ignored.
 
-    Where another call than `line` raises, the table is as it was. MemoryError says that there was no memory, ValueError that an
-    argument is out of range or that the table is closed, and RuntimeError that the call came from another thread than the one that
-    made the table.
+    If a call other than `line` raises an exception, the table is unchanged. MemoryError: an allocation failed. ValueError: an argument
+    is out of range, or the table is closed. RuntimeError: the call came from another thread than the one that made the table.
     """
 
     def __init__(self) -> None:
@@ -163,84 +162,83 @@ class Table(_Handle):
         _is_found(_library.routes_open(self._raw))
 
     def get(self, addr: Address | str) -> Route | None:
-        """The best route of the longest stored network that contains the address."""
+        """Returns the best route of the longest stored network that contains the address, or None if there is none."""
         route = _Route()
         if self._call("get", _address(addr), route):
             return _route(route)
         return None
 
     def hops(self, addrs: Iterable[Address | str | bytes]) -> list[Hop | None]:
-        """The hop of the route that `get` finds for each address, None where it finds none: in two calls of the library at most.
+        """Returns the hop of the route that `get` finds for each address, or None if it finds none.
 
-        An address may also be its 4 or 16 bytes, as `socket.inet_pton` gives them, which is the fastest.
+        It calls the library at most twice. An address may also be its 4 or 16 bytes, as `socket.inet_pton` returns them; that is fastest.
         """
         return [None if hop == _NO_MATCH else _hop(hop) for hop in _many("routes_get{}_many", self._own(), addrs)]
 
     def count(self) -> Count:
-        """How many networks of each family are stored."""
+        """Returns the number of stored networks of each family."""
         ipv4, ipv6 = c_size_t(), c_size_t()
         _is_found(_library.routes_count(self._own(), ipv4, ipv6))
         return Count(ipv4.value, ipv6.value)
 
     def add(self, net: Net | str, hop: Hop, preference: int = PREFERENCE) -> Change:
-        """Adds a route, or gives the network's route by this hop another preference.
+        """Adds a route. If the network has this hop already, its preference changes.
 
-        Raises Full where the network has routes by eight other hops.
+        Raises Full if the network has routes by eight other hops.
         """
         if not 0 <= preference < 1 << 16:
             raise ValueError(f"{preference!r} is no preference")
         return self._change("add", net, hop, preference)
 
     def remove(self, net: Net | str, hop: Hop) -> Change:
-        """Takes the network's route by this hop out. Raises KeyError where there is none."""
+        """Removes the network's route by this hop. Raises KeyError if there is none."""
         return self._change("del", net, hop)
 
     def flat(self) -> list[Piece]:
-        """The fewest blocks with one hop each that hold all addresses with a hop, in ascending order."""
+        """Returns the fewest one-hop blocks that cover all addresses with a hop, in ascending order."""
         return self._pieces()
 
     def inside(self, net: Net | str) -> list[Route]:
-        """The best routes of the stored networks inside this one, itself included, in ascending order."""
+        """Returns the best routes of the stored networks inside this one, itself included, in ascending order."""
         return self._list("list", net)
 
     def cover(self, net: Net | str) -> list[Route]:
-        """The best routes of the stored networks that contain this one, itself included, the shortest first."""
+        """Returns the best routes of the stored networks that contain this one, itself included, shortest first."""
         return self._list("cover", net)
 
     def page_from(self, net: Net | str, limit: int) -> list[Route]:
-        """The best routes of the family's stored networks from this one on, in ascending order, `limit` of them at most."""
+        """Returns at most `limit` best routes of the family's stored networks from this one on, in ascending order."""
         return self._list("from", net, _limit(limit))
 
     def page_after(self, net: Net | str, limit: int) -> list[Route]:
-        """The same of those that come after this network, which need not be stored: the page after one that ends with it."""
+        """Returns the same for the networks after this one, which need not be stored: the page after one that ends with it."""
         return self._list("after", net, _limit(limit))
 
     def all(self, net: Net | str) -> list[Route]:
-        """All routes of exactly this network, the best first."""
+        """Returns all routes of exactly this network, best first."""
         return self._list("all", net)
 
     def governed(self, net: Net | str) -> list[Route]:
-        """The maximal blocks of the addresses that the network governs, each with the hop that they have, DROP for none.
+        """Returns the maximal blocks of the addresses that the network governs, each with their hop, or DROP for none.
 
-        It governs those of its addresses that lie in no stored network strictly inside it. After a change of the network they are
-        the addresses whose hop changed, where the change tells two hops.
+        A network governs those of its addresses that no stored network strictly inside it contains. If a change of the network
+        returned two different hops, these are the addresses whose hop changed.
         """
         return self._list("governed", net)
 
     def own(self, hop: int) -> list[Route]:
-        """The blocks that `flat` gives this hop, in ascending order."""
+        """Returns the blocks of `flat` with this hop, in ascending order."""
         _is_found(_library.routes_own(self._own(), _number_of(hop)))
         return self._read()
 
     def least(self) -> list[Route]:
-        """The routes of a table with the same hop at each address, and no such table has fewer."""
+        """Returns the routes of a smallest table with the same hop at each address."""
         return self._least()
 
     def line(self, line: str | bytes) -> str:
-        """The reply of `routes lead` to a line of its input, which is given without its line end.
+        """Returns the reply of `routes lead` to a line of its input, given without its line end.
 
-        MemoryError says that there was no memory for the whole reply. The line has been answered all the same, and the table is the
-        one after it.
+        Raises MemoryError if an allocation for the reply fails. The line was carried out even so, and the table is the one after it.
         """
         line = line.encode() if isinstance(line, str) else line
         _is_found(_library.routes_line(self._own(), line, len(line)))
@@ -266,10 +264,10 @@ class Table(_Handle):
 
 
 class Index(_Handle):
-    """The hop of each address, as a table or a follower had it when the index was made: a copy, which no later change or line reaches.
+    """The hop of each address, as a table or a follower had it when the index was made: a snapshot, which later changes don't reach.
 
-    It is a context manager, which closes it, and faster than the table. Calls raise as those of a table do, and of a follower that
-    failed none is made.
+    It is a context manager, which closes it, and its lookups are faster than the table's. Calls raise the exceptions of a table. No
+    index can be made of a follower that failed.
     """
 
     _name = "index_"
@@ -281,20 +279,21 @@ class Index(_Handle):
         _is_found(opens(self._raw, source._own()))
 
     def hop(self, addr: Address | str) -> int | None:
-        """The hop of the address, None where it had no route, or a null route."""
+        """Returns the hop of the address, or None if it had no route or a null route."""
         return self.hops([addr])[0]
 
     def hops(self, addrs: Iterable[Address | str | bytes]) -> list[int | None]:
-        """The hops of the addresses, which may be bytes, too, as those of a table's `hops`: in two calls of the library at most."""
+        """Returns the hops of the addresses, which may be bytes as in a table's `hops`. It calls the library at most twice."""
         return list(map(_number, _many("routes_index_hop{}_many", self._own(), addrs)))
 
 
 class Follower(_Handle):
-    """The hops that the reply lines of a leader tell, `routes lead` or the `line` of a table: a context manager, which closes it.
+    """The hops that the reply lines of a leader report: a context manager, which closes it. A leader is `routes lead` or `Table.line`.
 
-    `set` and `unset` lines wait; `ok` carries those that wait out, in order, and `none`, `bad` and `refused` drop them. All other lines
-    of a reply change nothing. After a fault, which is a text that is no reply line or a want of memory at a line, every call but `close`
-    raises Failed; a new follower begins anew. Else calls raise as those of a table do.
+    `set` and `unset` lines are pending until their reply is closed. `ok` commits them in order, and `none`, `bad` and `refused` drop
+    them. All other reply lines change nothing. A text that is not a reply line is a fault, and so is a line for which an allocation
+    fails. After a fault every call but `close` raises Failed, and a new follower has to start over. Other calls raise the exceptions of
+    a table.
 
     >>> with Table() as leader, Follower() as follower:
     ...     for line in leader.line("add 10.0.0.0/8 1").splitlines():
@@ -311,24 +310,24 @@ class Follower(_Handle):
         _is_found(_library.routes_follower_open(self._raw))
 
     def line(self, line: str | bytes) -> None:
-        """Takes a line of a reply, which is given without its line end.
+        """Reads a line of a reply, given without its line end.
 
-        Raises ValueError where it is no reply line, and MemoryError where there is no memory for a change: both are faults.
+        Raises ValueError if it is not a reply line, and MemoryError if an allocation for a change fails: both are faults.
         """
         line = line.encode() if isinstance(line, str) else line
         _is_found(_library.routes_follower_line(self._own(), line, len(line)))
 
     def hop(self, addr: Address | str) -> int | None:
-        """The hop of the address, None where it has none."""
+        """Returns the hop of the address, or None if it has none."""
         hop = c_uint32()
         return hop.value if self._call("get", _address(addr), hop) else None
 
     def flat(self) -> list[Piece]:
-        """The fewest blocks with one hop each that hold all addresses with a hop, in ascending order."""
+        """Returns the fewest one-hop blocks that cover all addresses with a hop, in ascending order."""
         return self._pieces()
 
     def least(self) -> list[Route]:
-        """The routes of a table with the same hop at each address, and no such table has fewer."""
+        """Returns the routes of a smallest table with the same hop at each address."""
         return self._least()
 
 
@@ -365,7 +364,7 @@ class _Piece(ctypes.Structure):
 
 
 def _load() -> ctypes.PyDLL:
-    """The library with the signatures of its header. A PyDLL keeps Python's lock, so that no two calls run at once."""
+    """Loads the library, with the signatures of its header. A PyDLL holds Python's lock, so no two calls run at once."""
     folder = os.environ.get("ROUTES_LIB")
     library = ctypes.PyDLL(os.path.join(folder, "libroutes.so") if folder else "libroutes.so.1")
     table, route, change, piece = POINTER(_Table), POINTER(_Route), POINTER(_Change), POINTER(_Piece)
@@ -419,7 +418,7 @@ _library = _load()
 
 
 def _is_found(answer: int) -> bool:
-    """Whether that which was asked for is there. Other answers raise."""
+    """Returns whether the value was found. Other results raise an exception."""
     if answer in (0, 1):
         return answer == 0
     if answer == 2:
@@ -436,7 +435,7 @@ def _is_found(answer: int) -> bool:
 
 
 def _many(name: str, raw: _Table | _Index, addrs: Iterable[Address | str | bytes]) -> list[int]:
-    """What the library answers of many addresses, as one number each, by one call for each family that is among them."""
+    """Looks up many addresses, with one call for each family among them. Each result is one number."""
     packed = list(map(_packed, addrs))
     answers = [0] * len(packed)
     for version, size, type_, letter in ((4, 4, c_uint32, "I"), (6, 16, _Addr6, "Q")):
@@ -452,14 +451,14 @@ def _many(name: str, raw: _Table | _Index, addrs: Iterable[Address | str | bytes
 
 
 def _packed(addr: Address | str | bytes) -> bytes:
-    """The bytes of the address, in network order."""
+    """Returns the bytes of the address, in network order."""
     if isinstance(addr, bytes) and len(addr) in (4, 16):
         return addr
     return _address(addr).packed
 
 
 def _address(addr: Address | str | bytes) -> Address:
-    """The address; `ip_address` would print one that is one already, and read it again."""
+    """Returns the address. (`ip_address` would print an address object, and parse it again.)"""
     return addr if isinstance(addr, (ipaddress.IPv4Address, ipaddress.IPv6Address)) else ipaddress.ip_address(addr)
 
 

@@ -1,4 +1,4 @@
-"""Tests of routes.py: sessions of the manual, and random turns beside a plain model."""
+"""Tests of routes.py: the sessions of the manual, and random steps compared with a plain model."""
 
 import doctest
 import ipaddress
@@ -11,12 +11,12 @@ import routes
 from routes import DROP, PREFERENCE, Change, Count, Failed, Follower, Full, Index, Piece, Route, Table
 
 EXAMPLES = Path(__file__).resolve().parents[2] / "examples"
-# The random turns change these two networks, of 16 addresses each, and networks inside them.
+# The random steps change these two networks, of 16 addresses each, and networks inside them.
 ROOTS = [ipaddress.ip_network("10.0.0.240/28"), ipaddress.ip_network("2001:db8:0:ffff::/124")]
 
 
 def order(hop):
-    """Of routes with one preference the least is best."""
+    """Among equal preferences the least hop is best."""
     return 1 << 32 if hop == DROP else hop
 
 
@@ -107,7 +107,7 @@ class Model:
 
 
 def outcome(call, *arguments):
-    """What a call answers, or the type of what it raises."""
+    """Returns the result of a call, or the type of the exception that it raises."""
     try:
         return call(*arguments)
     except (Full, KeyError) as error:
@@ -140,7 +140,7 @@ class Turns(unittest.TestCase):
         self.assertTrue({Full, KeyError} < set(outcomes))
 
     def compare(self, draw, table, model):
-        """The lists, the look-ups of many addresses and an index say what the model says."""
+        """The lists, the lookups of many addresses and an index agree with the model."""
         net = draw.choice(list(draw.choice(ROOTS).subnets(draw.randrange(5))))
         limit = draw.randrange(6)
         for name in ("inside", "cover", "all", "governed"):
@@ -176,7 +176,7 @@ class Turns(unittest.TestCase):
                 table.hops([bytes(5)])
 
     def test_a_long_list(self):
-        """It is longer than what is copied at once."""
+        """It is longer than the part that is copied at once."""
         with Table() as table:
             for part in range(3000):
                 table.add(f"10.{part // 256}.{part % 256}.0/24", part)
@@ -206,7 +206,7 @@ class Lines(unittest.TestCase):
                 self.assertEqual(table.line(line), "bad\n", line[:10])
 
     def test_a_long_reply(self):
-        """It is longer than what is copied at once."""
+        """It is longer than the part that is copied at once."""
         with Table() as table:
             for part in range(256):
                 table.add(f"10.{part}.0.0/16", 7)
@@ -318,7 +318,7 @@ class Rules(unittest.TestCase):
                     other.submit(call).result()
 
     def test_another_thread_may_be_the_last(self):
-        """Then it gives the memory back, as whoever has a table last does."""
+        """Then it frees the memory, as the last thread with a table does."""
         tables = [Table() for _ in range(3)]
         with ThreadPoolExecutor(1) as other:
             other.submit(tables.clear).result()

@@ -1,15 +1,15 @@
 use std::error;
 use std::fmt;
 
-/// Why a table or a follower did not do what it was asked.
+/// Why a call of a table or a follower failed.
 #[derive(Clone, Copy, Debug, PartialEq, Eq)]
 #[non_exhaustive]
 pub enum Error {
-    /// There was no memory.
+    /// An allocation failed.
     NoMemory,
     /// The network has routes by eight other hops.
     Full,
-    /// The text is no reply line of `routes lead`.
+    /// The text is not a reply line of `routes lead`.
     NotALine,
     /// The follower had a fault before.
     Failed,
@@ -28,7 +28,7 @@ impl fmt::Display for Error {
 
 impl error::Error for Error {}
 
-/// A text is no network, such as `10.0.0.0/8` or `2001:db8::/32`.
+/// A text is not a network, such as `10.0.0.0/8` or `2001:db8::/32`.
 #[derive(Clone, Copy, Debug, PartialEq, Eq)]
 pub struct ParseNetError;
 

@@ -5,12 +5,13 @@ use std::cell::UnsafeCell;
 use std::fmt;
 use std::net::IpAddr;
 
-/// The hops that the reply lines of a leader tell, `routes lead` or [`Table::line`].
+/// The hops that the reply lines of a leader report. The leader is `routes lead` or
+/// [`Table::line`].
 ///
-/// `set` and `unset` lines wait; `ok` carries those that wait out, in order, and `none`, `bad` and
-/// `refused` drop them. All other lines of a reply change nothing. After a fault, which is a text that
-/// is no reply line or a want of memory at a line, every call answers `Failed`: a new follower has to
-/// begin anew.
+/// `set` and `unset` lines are pending until their reply is closed. `ok` commits them in order,
+/// and `none`, `bad` and `refused` drop them. All other reply lines change nothing. A text that
+/// is not a reply line is a fault, and so is a line for which an allocation fails. After a fault
+/// every call returns `Failed`, and a new follower has to start over.
 ///
 /// ```
 /// use routes::{Error, Follower, Table};
@@ -30,15 +31,15 @@ use std::net::IpAddr;
 ///
 /// [`Table::line`]: crate::Table::line
 pub struct Follower {
-    /// As that of a table.
+    /// As in a table.
     raw: Box<UnsafeCell<raw::Follower>>,
 }
 
-// SAFETY: as of a table.
+// SAFETY: as for a table.
 unsafe impl Send for Follower {}
 
 impl Follower {
-    /// A follower that has taken no line: no address has a hop.
+    /// Makes a follower that has read no line: no address has a hop.
     ///
     /// # Errors
     /// `NoMemory`.
@@ -50,18 +51,18 @@ impl Follower {
         Ok(follower)
     }
 
-    /// Takes a line of a reply, which is given without its line end.
+    /// Reads a line of a reply, given without its line end.
     ///
     /// # Errors
-    /// `NotALine` where the text is no reply line, and `NoMemory` where there is none for a change, to
-    /// keep it or to carry it out: both are faults. `Failed` after a fault.
+    /// `NotALine` if the text is not a reply line, and `NoMemory` if a change can't be kept or
+    /// committed: both are faults. `Failed` after a fault.
     pub fn line(&mut self, line: impl AsRef<[u8]>) -> Result<(), Error> {
         let line = line.as_ref();
         // SAFETY: the follower is as `raw` says, and `line` is a slice.
         check(unsafe { raw::routes_follower_line(self.raw.get_mut(), line.as_ptr(), line.len()) })
     }
 
-    /// The hop of the address; `None` where it has none.
+    /// Returns the hop of the address, or `None` if it has none.
     ///
     /// # Errors
     /// `Failed` after a fault.
@@ -83,7 +84,7 @@ impl Follower {
         }
     }
 
-    /// The fewest blocks with one hop each that hold all addresses with a hop, in ascending order.
+    /// Returns the fewest one-hop blocks that cover all addresses with a hop, in ascending order.
     ///
     /// # Errors
     /// `NoMemory`, and `Failed` after a fault.
@@ -96,7 +97,7 @@ impl Follower {
         }))
     }
 
-    /// The routes of a table with the same hop at each address, and no such table has fewer.
+    /// Returns the routes of a smallest table with the same hop at each address.
     ///
     /// # Errors
     /// `NoMemory`, and `Failed` after a fault.
@@ -109,7 +110,8 @@ impl Follower {
         }))
     }
 
-    /// The hops that the follower has now: a copy, which no later line reaches.
+    /// Makes an index of the hops that the follower has now: a snapshot, which later lines don't
+    /// change.
     ///
     /// # Errors
     /// `NoMemory`, and `Failed` after a fault.

@@ -5,20 +5,20 @@ use std::cell::UnsafeCell;
 use std::fmt;
 use std::net::IpAddr;
 
-/// The hop of each address, as a table had it when the index was made: a copy, which no later change
-/// of the table reaches. Its look-ups are faster than the table's.
+/// The hop of each address, as a table had it when the index was made. An index is a snapshot:
+/// later changes don't reach it. Its lookups are faster than the table's.
 ///
 /// An index is `Send` and not `Sync`, as a table is.
 pub struct Index {
-    /// As that of a table.
+    /// As in a table.
     raw: Box<UnsafeCell<raw::Index>>,
 }
 
-// SAFETY: as of a table.
+// SAFETY: as for a table.
 unsafe impl Send for Index {}
 
 impl Index {
-    /// The hops that the table has now.
+    /// Makes an index of the hops that the table has now.
     ///
     /// # Errors
     /// `NoMemory`.
@@ -27,7 +27,7 @@ impl Index {
         Index::opened(|index| unsafe { raw::routes_index_open(index, table.raw.get()) })
     }
 
-    /// What a call makes of a closed index.
+    /// Opens an index with a call of the library on a closed one.
     pub(crate) fn opened(open: impl FnOnce(*mut raw::Index) -> u32) -> Result<Index, Error> {
         let raw = Box::new(UnsafeCell::new(raw::Index::CLOSED));
         let index = Index { raw };
@@ -35,7 +35,7 @@ impl Index {
         Ok(index)
     }
 
-    /// The hop of the address; `None` where it had no route, or a null route.
+    /// Returns the hop of the address, or `None` if it had no route or a null route.
     pub fn hop(&self, addr: impl Into<IpAddr>) -> Option<u32> {
         let mut hop = 0;
         // SAFETY: the index is as `raw` says, and `hop` is ours.
@@ -52,7 +52,7 @@ impl Index {
         number(hop)
     }
 
-    /// The hops of the addresses. The library is called twice.
+    /// Returns the hops of the addresses, with two calls of the library.
     pub fn hops(&self, addrs: &[IpAddr]) -> Vec<Option<u32>> {
         let index = self.raw.get();
         // SAFETY: the index is as `raw` says, and the slices are ours.

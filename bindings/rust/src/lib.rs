@@ -1,8 +1,8 @@
-//! Route tables for IPv4 and IPv6: the longest match of an address, the hop that a change changed,
-//! and the shortest list of blocks with one hop each.
+//! Route tables for IPv4 and IPv6: the longest match of an address, the hops that a change
+//! changes, and the shortest list of one-hop blocks.
 //!
-//! This is a safe wrapper of the C library `routes`. What the library answers is proved for every
-//! caller that keeps the rules of its header; the types of this crate keep them.
+//! This is a safe wrapper of the C library `routes`. The results of the library are proved for
+//! every caller that keeps the rules of its header, and the types of this crate keep them.
 //!
 //! ```
 //! use routes::{Change, Hop, Table, PREFERENCE};

@@ -13,7 +13,7 @@ pub fn pieces(mut piece_at: impl FnMut(usize, &mut raw::Piece) -> u32) -> Vec<Pi
     (0..).map_while(piece).collect()
 }
 
-/// The routes of a list, copied part by part.
+/// The routes of a list, copied in parts.
 pub fn routes(mut read: impl FnMut(usize, &mut [raw::Route]) -> usize) -> Vec<Route> {
     let mut routes = Vec::new();
     let mut part = [raw::Route::default(); 256];

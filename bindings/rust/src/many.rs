@@ -3,7 +3,7 @@ use crate::table::halves;
 use crate::Error;
 use std::net::IpAddr;
 
-/// What the library answers of many addresses, each as one number: by one call for each family.
+/// Looks up many addresses, with one call for each family. Each result is one number.
 pub fn answers(
     addrs: &[IpAddr],
     ask4: impl FnOnce(&[u32], &mut [u64]) -> Result<(), Error>,

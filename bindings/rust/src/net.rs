@@ -13,8 +13,8 @@ pub struct Net {
 }
 
 impl Net {
-    /// The network of this length that contains the address, whose host bits are ignored; `None`
-    /// where the length is over 32 for IPv4, or over 128 for IPv6.
+    /// The network of this length that contains the address, whose host bits are ignored. `None`
+    /// if the length is above 32 for IPv4, or above 128 for IPv6.
     pub fn new(addr: impl Into<IpAddr>, len: u8) -> Option<Net> {
         let addr = match addr.into() {
             IpAddr::V4(addr) => {
@@ -31,17 +31,17 @@ impl Net {
         Some(Net { addr, len })
     }
 
-    /// The first address.
+    /// Returns the first address.
     pub fn addr(&self) -> IpAddr {
         self.addr
     }
 
-    /// The prefix length: 0 to 32 for IPv4, 0 to 128 for IPv6.
+    /// Returns the prefix length: 0 to 32 for IPv4, 0 to 128 for IPv6.
     pub fn prefix_len(&self) -> u8 {
         self.len
     }
 
-    /// Whether the address is of this network.
+    /// Returns whether the network contains the address.
     pub fn contains(&self, addr: impl Into<IpAddr>) -> bool {
         Net::new(addr, self.len) == Some(*self)
     }

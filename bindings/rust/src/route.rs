@@ -1,13 +1,14 @@
 use crate::Net;
 use std::fmt;
 
-/// The preference that `routes lead` gives where none is named.
+/// The preference that `routes lead` gives a route without one.
 pub const PREFERENCE: u16 = 100;
 
-/// Where a route leads. Of routes with one preference the smallest hop is best, and `Drop` the last.
+/// The next hop of a route. Among equal preferences the smallest number is best, and `Drop` is
+/// last.
 #[derive(Clone, Copy, Debug, PartialEq, Eq, PartialOrd, Ord, Hash)]
 pub enum Hop {
-    /// A number of the caller's own.
+    /// A number that the caller chooses.
     Number(u32),
     /// A null route: its addresses have no hop.
     Drop,
@@ -27,9 +28,9 @@ impl fmt::Display for Hop {
 pub struct Route {
     /// The network.
     pub net: Net,
-    /// Where it leads.
+    /// The next hop.
     pub hop: Hop,
-    /// Its preference: the greater, the better.
+    /// The preference: the greater, the better.
     pub preference: u16,
 }
 
@@ -39,17 +40,17 @@ impl fmt::Display for Route {
     }
 }
 
-/// What a change changed: the hop of the addresses that the network governs, which are those that
-/// lie in no longer stored network. `None` is no hop: no route, or a null route.
+/// The hop before and after a change, for the addresses of the network that no longer stored
+/// network contains. `None` is no hop: no route, or a null route.
 #[derive(Clone, Copy, Debug, PartialEq, Eq, Hash)]
 pub struct Change {
     /// The hop before.
     pub before: Option<u32>,
-    /// The hop now.
+    /// The hop after.
     pub after: Option<u32>,
 }
 
-/// How many networks of each family are stored.
+/// The number of stored networks of each family.
 #[derive(Clone, Copy, Debug, PartialEq, Eq, Hash)]
 pub struct Count {
     /// Of IPv4.

@@ -7,29 +7,30 @@ use std::net::{IpAddr, Ipv4Addr, Ipv6Addr};
 
 /// A route table for IPv4 and IPv6.
 ///
-/// A network has up to eight routes, each by another hop. Its best route is that of the greatest
-/// preference, and among equals that of the smallest hop. The hop of an address is that of the best
-/// route of the longest stored network that contains it.
+/// A network has up to eight routes, each with another hop. The best route has the greatest
+/// preference, and among equals the smallest hop. The hop of an address is that of the best route
+/// of the longest stored network that contains the address.
 ///
-/// A table may go to another thread: it is `Send`. It is not `Sync`, since each call, a look-up too,
-/// has the table for itself:
+/// A table is `Send`, so it may move to another thread. It is not `Sync`, since each call,
+/// lookups included, needs the table for itself:
 ///
 /// ```compile_fail,E0277
 /// fn shared<T: Sync>() {}
 /// shared::<routes::Table>();
 /// ```
 pub struct Table {
-    /// Open until it is dropped, and boxed, since an open table may not move. The cell keeps `Table`
-    /// from being shared by threads, so that no call is made while another runs.
+    /// Open until it is dropped, and boxed, since an open table may not move. The cell keeps
+    /// threads from sharing a `Table`, so that no two calls overlap.
     pub(crate) raw: Box<UnsafeCell<raw::Table>>,
 }
 
-// SAFETY: the library lets any thread make a call after the one before has returned, if it is told
-// so; who has a table that another thread had was given it by that one.
+// SAFETY: the library lets any thread make a call after the previous call has returned and the
+// threads have synchronized. A thread that has a table from another thread was given it by that
+// thread.
 unsafe impl Send for Table {}
 
 impl Table {
-    /// A table without routes.
+    /// Makes a table without routes.
     ///
     /// # Errors
     /// `NoMemory`.
@@ -41,7 +42,7 @@ impl Table {
         Ok(table)
     }
 
-    /// The best route of the longest stored network that contains the address.
+    /// Returns the best route of the longest stored network that contains the address.
     pub fn get(&self, addr: impl Into<IpAddr>) -> Option<Route> {
         let addr = addr.into();
         let mut route = raw::Route::default();
@@ -58,9 +59,10 @@ impl Table {
         found(code).then(|| route.into())
     }
 
-    /// The hop of the route that `get` finds for each address; `None` where it finds none.
+    /// Returns the hop of the route that `get` finds for each address, or `None` if it finds
+    /// none.
     ///
-    /// The library is called twice at most.
+    /// It calls the library at most twice.
     pub fn hops(&self, addrs: &[IpAddr]) -> Vec<Option<Hop>> {
         let table = self.raw.get();
         // SAFETY: the table is as `raw` says, and the slices are ours.
@@ -91,7 +93,7 @@ impl Table {
         hops.into_iter().map(shown).collect()
     }
 
-    /// How many networks of each family are stored.
+    /// Returns the number of stored networks of each family.
     pub fn count(&self) -> Count {
         let (mut ipv4, mut ipv6) = (0, 0);
         // SAFETY: the table is as `raw` says, and the numbers are ours.
@@ -99,11 +101,11 @@ impl Table {
         Count { ipv4, ipv6 }
     }
 
-    /// Adds a route, or gives the network's route by this hop another preference.
+    /// Adds a route. If the network has this hop already, its preference changes.
     ///
     /// # Errors
-    /// `Full` where the network has routes by eight other hops, and `NoMemory`. The table is then as
-    /// it was.
+    /// `Full` if the network has routes by eight other hops, and `NoMemory`. The table is then
+    /// unchanged.
     pub fn add(&mut self, net: Net, hop: Hop, preference: u16) -> Result<Change, Error> {
         let (len, hop) = (net.prefix_len(), raw_hop(hop));
         let mut change = raw::Change::default();
@@ -123,7 +125,7 @@ impl Table {
         Ok(change.into())
     }
 
-    /// Takes the network's route by this hop out; `None` where there is none.
+    /// Removes the network's route by this hop. Returns `None` if there is none.
     pub fn del(&mut self, net: Net, hop: Hop) -> Option<Change> {
         let (len, hop) = (net.prefix_len(), raw_hop(hop));
         let mut change = raw::Change::default();
@@ -141,7 +143,7 @@ impl Table {
         found(code).then(|| change.into())
     }
 
-    /// The fewest blocks with one hop each that hold all addresses with a hop, in ascending order.
+    /// Returns the fewest one-hop blocks that cover all addresses with a hop, in ascending order.
     ///
     /// # Errors
     /// `NoMemory`.
@@ -154,16 +156,17 @@ impl Table {
         }))
     }
 
-    /// The best routes of the stored networks inside this one, itself included, in ascending order.
+    /// Returns the best routes of the stored networks inside this one, itself included, in
+    /// ascending order.
     ///
     /// # Errors
-    /// `NoMemory`, as of all that list routes.
+    /// `NoMemory`, as in all calls that list routes.
     pub fn list(&self, net: Net) -> Result<Vec<Route>, Error> {
         self.listed(net, raw::routes_list4, raw::routes_list6)
     }
 
-    /// The best routes of the stored networks that contain this one, itself included, the shortest
-    /// first.
+    /// Returns the best routes of the stored networks that contain this one, itself included,
+    /// shortest first.
     ///
     /// # Errors
     /// `NoMemory`.
@@ -171,7 +174,7 @@ impl Table {
         self.listed(net, raw::routes_cover4, raw::routes_cover6)
     }
 
-    /// All routes of exactly this network, the best first.
+    /// Returns all routes of exactly this network, best first.
     ///
     /// # Errors
     /// `NoMemory`.
@@ -179,12 +182,12 @@ impl Table {
         self.listed(net, raw::routes_all4, raw::routes_all6)
     }
 
-    /// The maximal blocks of the addresses that the network governs, each with the hop that they
-    /// have, `Drop` for none.
+    /// Returns the maximal blocks of the addresses that the network governs, each with their hop,
+    /// or `Drop` for none.
     ///
-    /// It governs those of its addresses that lie in no stored network strictly inside it. After a
-    /// change of the network they are the addresses whose hop changed, where the change tells two
-    /// hops.
+    /// A network governs those of its addresses that no stored network strictly inside it
+    /// contains. If a change of the network returned two different hops, these are the addresses
+    /// whose hop changed.
     ///
     /// # Errors
     /// `NoMemory`.
@@ -192,8 +195,8 @@ impl Table {
         self.listed(net, raw::routes_governed4, raw::routes_governed6)
     }
 
-    /// The best routes of the family's stored networks from this one on, in ascending order, `limit`
-    /// of them at most.
+    /// Returns at most `limit` best routes of the family's stored networks from this one on, in
+    /// ascending order.
     ///
     /// # Errors
     /// `NoMemory`.
@@ -201,8 +204,8 @@ impl Table {
         self.page(net, limit, raw::routes_from4, raw::routes_from6)
     }
 
-    /// The same of those that come after this network, which need not be stored: the page after one
-    /// that ends with it.
+    /// Returns at most `limit` best routes of the family's stored networks after this one, which
+    /// need not be stored. With the last network of a page it returns the next page.
     ///
     /// # Errors
     /// `NoMemory`.
@@ -210,7 +213,7 @@ impl Table {
         self.page(net, limit, raw::routes_after4, raw::routes_after6)
     }
 
-    /// The blocks that `flat` gives this hop, in ascending order.
+    /// Returns the blocks of `flat` with this hop, in ascending order.
     ///
     /// # Errors
     /// `NoMemory`.
@@ -220,7 +223,7 @@ impl Table {
         Ok(self.read())
     }
 
-    /// The routes of a table with the same hop at each address, and no such table has fewer.
+    /// Returns the routes of a smallest table with the same hop at each address.
     ///
     /// # Errors
     /// `NoMemory`.
@@ -274,12 +277,12 @@ impl Table {
         })
     }
 
-    /// The reply of `routes lead` to a line of its input, which is given without its line end. Each
-    /// line of the reply has its own.
+    /// Returns the reply of `routes lead` to a line of its input, given without its line end.
+    /// Each line of the reply has its line end.
     ///
     /// # Errors
-    /// `NoMemory` where there is none for the whole reply. The line has been answered all the same,
-    /// and the table is the one after it.
+    /// `NoMemory` if an allocation for the reply fails. The line was carried out even so, and the
+    /// table is the one after it.
     pub fn line(&mut self, line: impl AsRef<[u8]>) -> Result<String, Error> {
         let line = line.as_ref();
         // SAFETY: the table is as `raw` says, and `line` is a slice.
@@ -337,7 +340,7 @@ impl From<raw::Change> for Change {
     }
 }
 
-/// What an answer says of what is open, and of a network whose length is right.
+/// Converts the result of a call on an open handle, and on a network with a valid length.
 pub(crate) fn check(code: u32) -> Result<(), Error> {
     match code {
         raw::OK => Ok(()),
@@ -349,7 +352,7 @@ pub(crate) fn check(code: u32) -> Result<(), Error> {
     }
 }
 
-/// Whether that which was asked for is there.
+/// Whether the value was found.
 pub(crate) fn found(code: u32) -> bool {
     match code {
         raw::OK => true,
@@ -382,7 +385,7 @@ fn hop(hop: u64) -> Hop {
     number(hop).map_or(Hop::Drop, Hop::Number)
 }
 
-/// The number of a hop, if it is one.
+/// The number of a hop, or `None` for no hop.
 pub(crate) fn number(hop: u64) -> Option<u32> {
     hop.try_into().ok()
 }

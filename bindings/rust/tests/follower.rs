@@ -1,4 +1,4 @@
-//! A follower: the lines of a table's replies in, the hops that they tell out.
+//! A follower: it reads the lines of a table's replies, and returns the hops that they report.
 
 use routes::{Error, Follower, Hop, Index, Net, Route, Table, PREFERENCE};
 use std::net::IpAddr;
@@ -22,7 +22,8 @@ const ADDRS: [&str; 6] = [
     "2001:db8::1",
 ];
 
-/// Gives a table each line, and a follower each line of the replies; `see` sees both after each reply.
+/// Gives each line to a table, and each line of the replies to a follower. `see` sees both after
+/// each reply.
 fn followed(see: impl Fn(&Table, &Follower)) {
     let (mut table, mut follower) = (Table::new().unwrap(), Follower::new().unwrap());
     see(&table, &follower);
@@ -60,7 +61,7 @@ fn a_least_table() {
     });
 }
 
-/// A change has no effect before `ok`, and none where its reply ends otherwise.
+/// A change has no effect before `ok`, and none if its reply ends otherwise.
 #[test]
 fn what_waits() {
     let mut follower = Follower::new().unwrap();
@@ -90,7 +91,7 @@ fn a_fault_is_for_good() {
     assert_eq!(follower.index().map(drop), Err(Error::Failed));
 }
 
-/// A list that is longer than what is copied at once.
+/// A list that is longer than the part that is copied at once.
 #[test]
 fn a_long_list() {
     let mut follower = Follower::new().unwrap();

@@ -34,7 +34,7 @@ fn a_line_of_any_bytes() {
     assert_eq!(table.line("count").as_deref(), Ok("count 0 0\nok\n"));
 }
 
-/// A reply that is longer than what is copied at once.
+/// A reply that is longer than the part that is copied at once.
 #[test]
 fn a_long_reply() {
     let mut table = Table::new().unwrap();

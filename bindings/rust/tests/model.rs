@@ -1,10 +1,10 @@
-//! Random turns of a table, each compared with a plain model: a map of networks to their routes.
+//! Random steps of a table, each compared with a plain model: a map of networks to their routes.
 
 use routes::{Change, Count, Error, Hop, Index, Net, Piece, Route, Table, PREFERENCE};
 use std::collections::BTreeMap;
 use std::net::{IpAddr, Ipv4Addr, Ipv6Addr};
 
-/// The turns change these two networks, of 16 addresses each, and networks inside them.
+/// The steps change these two networks, of 16 addresses each, and networks inside them.
 const ROOTS: [(IpAddr, u8); 2] = [
     (IpAddr::V4(Ipv4Addr::new(10, 0, 0, 240)), 28),
     (
@@ -107,8 +107,8 @@ impl Model {
         routes.into_iter().map(route).collect()
     }
 
-    /// The blocks of a block of a root that no network strictly inside `net` meets, with the hop of
-    /// the match of `net`.
+    /// The blocks of a block of a root that contain no network strictly inside `net`, with the
+    /// hop of the match of `net`.
     fn governed(&self, net: Net, root: (IpAddr, u8), index: u32, size: u32) -> Vec<Route> {
         let block = self::net(root, index, size);
         let mut inner = self
@@ -157,7 +157,7 @@ fn is_inside(inner: Net, outer: Net) -> bool {
     outer.prefix_len() <= inner.prefix_len() && outer.contains(inner.addr())
 }
 
-/// A route of the preference that lists of blocks have.
+/// A route with the preference that lists of blocks have.
 fn route_of(net: Net, hop: Hop) -> Route {
     Route {
         net,
@@ -166,7 +166,7 @@ fn route_of(net: Net, hop: Hop) -> Route {
     }
 }
 
-/// The lists, the look-ups of many addresses and an index say what the model says.
+/// The lists, the lookups of many addresses, and an index agree with the model.
 fn compare(random: &mut Random, table: &Table, model: &Model) {
     let root = ROOTS[random.below(2) as usize];
     let size = 1 << random.below(5);
@@ -307,7 +307,7 @@ fn an_index_is_a_copy() {
     assert_eq!(index.hop(addr), Some(1));
 }
 
-/// A list that is longer than what is copied at once.
+/// A list that is longer than the part that is copied at once.
 #[test]
 fn a_long_list() {
     let mut table = Table::new().unwrap();

@@ -1,4 +1,4 @@
-//! Networks, read and shown.
+//! Networks, read and printed.
 
 use routes::{Net, ParseNetError};
 use std::net::{Ipv4Addr, Ipv6Addr};

@@ -1,4 +1,5 @@
-//! Tables, indexes and followers go from thread to thread: made on one, used on others, dropped on another.
+//! Tables, indexes and followers move between threads: they are made on one, used on others, and
+//! dropped on another.
 
 use routes::{Follower, Hop, Index, Net, Table, PREFERENCE};
 use std::net::Ipv4Addr;
@@ -15,7 +16,7 @@ fn addr(step: u32) -> Ipv4Addr {
     Ipv4Addr::from(0x0a00_0000 | step)
 }
 
-/// One step more: its address gets a hop, and that of the step before has one.
+/// One more step: its address gets a hop, and the address of the step before has one.
 fn stepped((mut table, mut follower, index, step): Moved) -> Moved {
     let net = Net::new(addr(step), 32).unwrap();
     table.add(net, Hop::Number(step), PREFERENCE).unwrap();
@@ -33,7 +34,8 @@ fn stepped((mut table, mut follower, index, step): Moved) -> Moved {
     (table, follower, Some(index), step + 1)
 }
 
-/// Takes what comes, one step each, and hands it on; at the last step it is dropped here.
+/// Receives values, makes one step with each, and passes it on. At the last step it is dropped
+/// here.
 fn work(from: Receiver<Moved>, to: Sender<Moved>) {
     for moved in from {
         let moved = stepped(moved);
@@ -54,7 +56,7 @@ fn from_thread_to_thread() {
     second.join().unwrap();
 }
 
-/// Behind a lock a table is shared.
+/// A lock makes a table shareable.
 #[test]
 fn behind_a_lock() {
     let table = Arc::new(Mutex::new(Table::new().unwrap()));

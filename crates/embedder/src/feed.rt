@@ -21,7 +21,7 @@ use route_feed::{Counted, RunError, follow, install, lead};
 use route_table::laws::one_route;
 use std::alloc::Global;
 
-/// What a leader answers, cut anywhere, and what a follower of that prints: the flat list of the leader's table there.
+/// Returns the output of a leader, and the output of a follower of a beginning of it: the flat list of the leader's table there.
 ///
 /// # Errors
 /// Those of `lead` and of `follow`; this contract says nothing of them.
@@ -41,9 +41,9 @@ pub fn mirrored(alloc: Global, input: &[u8], cut: usize) -> Result<(Vec<u8>, Vec
     Ok((told, out.into_inner()))
 }
 
-/// What an installer writes of a log. Where the reply lines of the log are those in a beginning of a leader's output, and there is
-/// a `sync`, whoever carries out what is written, on the routes that the `have` lines tell, has each address at the hop of the
-/// leader's table there.
+/// Returns the output of an installer for a log. Suppose that the log has a `sync`, and that its reply lines are those of a beginning of
+/// a leader's output. Carry out the installer's output on the routes of the `have` lines. Then each address has the hop of the leader's
+/// table there.
 ///
 /// # Errors
 /// Those of `install`; this contract says nothing of them.

@@ -9,10 +9,10 @@ use ipnet::IpAddr;
 use route_table::RouteTable;
 use std::alloc::Global;
 
-/// The hop of an address by an index of the table: the one that the table has for it.
+/// Returns the hop of an address in an index of the table, which is its hop in the table.
 ///
 /// # Errors
-/// `Memory` where there is none for the index.
+/// `Memory` if an allocation for the index fails.
 pub fn looked_up(alloc: Global, table: &RouteTable, addr: IpAddr) -> Result<Option<u32>, Refused>
     ensures { IfOk result (λ hop. hop ≡ hop_at (routes_of table.now) (address_of addr)) }
 {

@@ -1,5 +1,5 @@
-//! What a program that embeds the crates has of their public contracts alone: a few short callers, each with a contract that follows
-//! from those of its calls.
+//! Short callers of the crates' public calls. The contract of each follows from the contracts of its calls alone, so a program that
+//! embeds the crates can prove the same.
 #![tactic(auto)]
 
 pub mod feed;

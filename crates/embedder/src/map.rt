@@ -1,4 +1,4 @@
-//! Maps of prefixes: keys of one's own, any keys, networks.
+//! Maps of prefixes, with a key type of its own, with any key type, and with networks.
 ghost use Rattle.std.specs.Prelude.{◌≡◌, ◌<◌, ◌≤◌, ◌-◌, ◌/◌, Some, None, IfOk, OnOk, IsTrue, nat_le, length, filter};
 ghost use Rattle.std.specs.FinMap.{entries, keys, get, insert};
 ghost use Rattle.std.specs.List.{All};
@@ -41,7 +41,7 @@ impl Prefix for Region {
     }
 }
 
-/// The longest match of a region after it was stored: itself, with zeros after the bits that count, and its value.
+/// Stores a region and returns its longest match then: the region with zeros after its bits, and its value.
 ///
 /// # Errors
 /// Those of `PrefixMap::insert`; this contract says nothing of them.
@@ -60,7 +60,7 @@ pub fn matched(
     }
 }
 
-/// Stores a new region, and takes it out again: the map has what it had.
+/// Stores a new region and removes it again: the map has the same entries as before.
 ///
 /// # Errors
 /// Those of `PrefixMap::insert`; this contract says nothing of them.
@@ -90,21 +90,21 @@ pub fn copied<P: Prefix + Drop>(
     Ok(())
 }
 
-/// Keeps the regions that leave at least `free` bits: a region that the closure is shown has at most sixteen.
+/// Keeps the regions that leave at least `free` bits. The closure relies on regions having at most sixteen bits.
 pub fn roomy(map: &mut PrefixMap<Region, u32>, free: u8)
     ensures { entries map.new.entries ≡ filter (λ e. nat_le free (16 - length e.0)) (entries map.old.entries) }
 {
     map.retain(|region, _| 16 - region.len >= free);
 }
 
-/// The same of a set.
+/// `roomy` for a set.
 pub fn roomy_members(set: &mut PrefixSet<Region>, free: u8)
     ensures { keys set.new.entries ≡ filter (λ s. nat_le free (16 - length s)) (keys set.old.entries) }
 {
     set.retain(|region| 16 - region.len >= free);
 }
 
-/// Keeps the entries of which `whole` has at least three parts: a closure may be one that takes the stored entries alone.
+/// Keeps the entries whose value is at most a third of `whole`. The closure works only for values above 0, as the stored ones are.
 pub fn in_parts(map: &mut PrefixMap<Region, u32>, whole: u32)
     requires { All (λ e. 0 < e.1) (entries map.old.entries) }
     ensures { entries map.new.entries ≡ filter (λ e. nat_le 3 (whole / e.1)) (entries map.old.entries) }
@@ -112,7 +112,7 @@ pub fn in_parts(map: &mut PrefixMap<Region, u32>, whole: u32)
     map.retain(|_, value| whole / *value >= 3);
 }
 
-/// Stores a network. No condition is asked of it.
+/// Stores a network. It has no precondition.
 ///
 /// # Errors
 /// Those of `PrefixMap::insert`; this contract says nothing of them.

@@ -12,8 +12,8 @@ use ipnet::IpNet;
 use route_table::laws::{best_routes, fewest, flat, held};
 use route_table::{AddRefused, DEFAULT_PREFERENCE, Hop, RouteTable};
 
-/// What `get` answers after an accepted `add`: the best route of the network then, where it contains the asked network
-/// and no longer one does, and else what it answered before.
+/// Returns the result of `get` after an accepted `add`. If the new network contains the asked network, it is the longer of two routes:
+/// the new network's best one, and the result of `get` before. Else it is the result of `get` before.
 ///
 /// # Errors
 /// Those of `RouteTable::add`; this contract says nothing of them.
@@ -35,7 +35,7 @@ pub fn routed(
     Ok(table.get(asked))
 }
 
-/// Adds each block of a table's flat list to an empty table: every address has the same hop there.
+/// Adds each block of a table's flat list to an empty table. Each address then has the same hop in both.
 ///
 /// # Errors
 /// Those of `RouteTable::add`; this contract says nothing of them.

@@ -1,4 +1,4 @@
--- The hops that an index has.
+-- The hops in an index.
 use Rattle.std.specs.Prelude.{ℕ, List, Option}
 use Rattle.ipnet_addr.specs.Addresses.{Address, Family, Ipv4, Ipv6}
 use Rattle.hop_index.specs.Ranges.{HopRange, hop_in}
@@ -8,11 +8,11 @@ pub record Index : Type 0 where
   pub v4 : List HopRange
   pub v6 : List HopRange
 
--- those of a family
+-- the ranges of a family
 abbrev pub ranges_of : Family → Index → List HopRange
 ranges_of Ipv4 i = i.v4
 ranges_of Ipv6 i = i.v6
 
--- the hop of an address: that of the range that has it; none where there is none
+-- the hop of the range that contains the address, or none if no range does
 abbrev pub hop_of : Index → Address → Option ℕ
 hop_of i x = hop_in (ranges_of x.family i) x.number

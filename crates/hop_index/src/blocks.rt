@@ -1,4 +1,4 @@
-//! IPv6: in which blocks of 27 bits ranges begin, and how many begin before these.
+//! IPv6: the blocks of 27 bits in which ranges begin, and the number of ranges that begin before each of them.
 ghost use Rattle.std.specs.Prelude.{ℕ, ◌≡◌, ◌+◌, ◌*◌, ◌^◌, ◌<◌, ◌≤◌, IfOk, OnOk, length, slice_index};
 ghost use Rattle.hop_index.specs.InnerRanges.{AreBlockCounts, AreCountsOf, AreRanges, BeginsBelow, BeginsFrom};
 
@@ -11,16 +11,19 @@ const FIRST: usize = 262_144;
 /// The blocks in which ranges begin.
 #[derive(Drop)]
 pub(crate) struct Blocks {
-    /// For each chunk of 2000::/3 up to the last in which a range begins, a bit for each of its 64 blocks in which one begins.
+    /// For each chunk of 2000::/3, up to the last chunk in which a range begins: a bit for each of its 64 blocks, set if one begins
+    /// there.
     pub(crate) words: Vec<u64>,
-    /// For each of these chunks, the place of its first count below; where no range begins in it, how many begin before it.
+    /// For each of these chunks, the index of its first count. If no range begins in the chunk, the number of ranges that begin before
+    /// it.
     pub(crate) places: Vec<u32>,
-    /// For each of these chunks in which a range begins, how many begin before it, and before the end of each such block.
+    /// For each of these chunks in which a range begins: the number of ranges that begin before it, and before the end of each such
+    /// block.
     pub(crate) counts: Vec<u32>,
 }
 
-/// Appends the counts of a chunk in which a range begins, and gives the chunk's bits, and how many of the ranges begin before its
-/// end, where `low` of them begin before its start.
+/// Appends the counts of a chunk if a range begins in it. Returns the chunk's bits, and the number of ranges that begin before its end.
+/// `low` of the ranges begin before its start.
 #[inline]
 fn count_blocks(
     counts: &mut Vec<u32>,
@@ -63,12 +66,12 @@ fn begin_inside(ranges: &[Short6])
     ensures { BeginsFrom ranges.now (2 ^ 125) 0 }
 {
     if ranges.len() > 0 {
-        // Read so that it is known where the first begins.
+        // This read tells the prover that the first range begins in 2000::/3.
         let _first = ranges[0].first();
     }
 }
 
-/// How many chunks of 2000::/3 there are up to the last in which a range begins.
+/// The number of chunks of 2000::/3 up to the last chunk in which a range begins.
 fn chunks_of(ranges: &[Short6]) -> usize
     requires { AreRanges ranges.now }
     ensures all { BeginsBelow ranges.now ((262144 + result) * 2 ^ 107) (length ranges.now) }
@@ -80,7 +83,7 @@ fn chunks_of(ranges: &[Short6]) -> usize
     }
 }
 
-/// The blocks in which the ranges begin.
+/// Compiles the blocks in which the ranges begin.
 pub(crate) fn blocks_of(alloc: Global, ranges: &[Short6]) -> Result<Blocks, AllocError>
     requires { AreRanges ranges.now }
     ensures { IfOk result (λ blocks. AreBlockCounts ranges.now blocks.words.items blocks.places.items blocks.counts.items) }
@@ -111,7 +114,7 @@ pub(crate) fn blocks_of(alloc: Global, ranges: &[Short6]) -> Result<Blocks, Allo
     })
 }
 
-/// Two counts of the ranges, between which is how many begin at or below the number: those of its block.
+/// A lower and an upper bound for the number of ranges that begin at or below the number: the counts at both ends of its block.
 #[inline]
 pub(crate) fn of_block(
     ranges: &[Short6],

@@ -1,4 +1,4 @@
-//! The hops of the addresses of both families.
+//! The index of the hops of the addresses of both families.
 ghost use Rattle.std.specs.Prelude.{◌≡◌, ℕ, IfErr, IfOk, Option, length, map};
 ghost use Rattle.ipnet_addr.specs.Addresses.{Address, IsAddress, Ipv4, Ipv6, address_of};
 ghost use Rattle.route_laws.specs.Flats.{IsFlat};
@@ -20,7 +20,7 @@ use route_table::{Flat, HopRun, HopTable, RouteTable};
 use std::alloc::{AllocError, Global};
 use std::marker::Model;
 
-/// The ranges of the addresses of one hop that stand in a row: the short ones of IPv4 and the others, and so for IPv6.
+/// Splits the runs of a flat list: the short ranges and the other ranges of IPv4, then those of IPv6.
 fn ranges(
     alloc: Global,
     mut flat: Flat<'_>,
@@ -46,7 +46,7 @@ fn ranges(
     Ok((shorts4, others4, shorts6, others6))
 }
 
-/// The hop of each address, as a table had it when the index was made: a copy, which no later change of the table reaches.
+/// The hop of each address, as a table had it when the index was made. The index is a snapshot: later changes don't reach it.
 ///
 /// Contracts see it by `hop_of`, the hop of each address.
 #[derive(Drop)]
@@ -64,13 +64,13 @@ impl Model for HopIndex {
 }
 
 impl HopIndex {
-    /// The hops of a table; `drop` and no route are both none.
+    /// Compiles an index of the hops of a table. `drop` and no route are both `None`.
     ///
     /// # Errors
-    /// `Memory` where there is none for it.
+    /// `Memory` if an allocation fails.
     ///
     /// # Examples
-    /// Where 10.0.0.0/8 has the hop 1 and 10.0.0.0/9 the hop 2, and `address` reads a text:
+    /// If 10.0.0.0/8 has the hop 1 and 10.0.0.0/9 the hop 2, and `address` parses a text:
     ///
     /// ```rust
     /// let index = HopIndex::of_table(rt.alloc(), &table).expect(&rt, "an index");
@@ -85,10 +85,10 @@ impl HopIndex {
         HopIndex::from_flat(alloc, flat)
     }
 
-    /// The hops of a table with one route a network; `drop` and no route are both none.
+    /// Compiles an index of the hops of a table with one route for each network. `drop` and no route are both `None`.
     ///
     /// # Errors
-    /// `Memory` where there is none for it.
+    /// `Memory` if an allocation fails.
     pub fn of_hops(alloc: Global, table: &HopTable) -> Result<HopIndex, Refused>
         ensures hops { IfOk result (λ i. (x : Address) → IsAddress x → hop_of i x ≡ hop_at (routes_of table.now) x) }
         ensures memory { IfErr result (λ e. e ≡ Memory) }
@@ -97,10 +97,10 @@ impl HopIndex {
         HopIndex::from_flat(alloc, flat)
     }
 
-    /// The hops of the blocks of a flat list, such as `flat` of a table gives; all other addresses have none.
+    /// Compiles an index of the hops of a flat list, such as the result of `RouteTable::flat`. All other addresses have no hop.
     ///
     /// # Errors
-    /// `Memory` where there is none for it.
+    /// `Memory` if an allocation fails.
     pub fn from_flat(alloc: Global, flat: Flat<'_>) -> Result<HopIndex, Refused>
         requires { (h : Address → Option ℕ) × IsFlat h flat }
         ensures hops { IfOk result (λ i. (h : Address → Option ℕ) → IsFlat h flat.entry → (x : Address) → IsAddress x → hop_of i x ≡ h x) }
@@ -109,7 +109,7 @@ impl HopIndex {
         Ok(HopIndex::compiled(alloc, flat)?)
     }
 
-    /// The same, with the allocator's own refusal.
+    /// `from_flat`, with the allocator's own error.
     fn compiled(alloc: Global, flat: Flat<'_>) -> Result<HopIndex, AllocError>
         requires { (h : Address → Option ℕ) × IsFlat h flat }
         ensures { IfOk result (λ i. (h : Address → Option ℕ) → IsFlat h flat.entry → (x : Address) → IsAddress x → hop_of i x ≡ h x) }
@@ -121,7 +121,7 @@ impl HopIndex {
         })
     }
 
-    /// The hop of an address. It takes no memory.
+    /// Returns the hop of an address. Does not allocate.
     #[inline(always)]
     pub fn hop(&self, addr: IpAddr) -> Option<u32>
         ensures hop { result ≡ hop_of self.now (address_of addr) }
@@ -133,7 +133,7 @@ impl HopIndex {
         }
     }
 
-    /// The hops of as many addresses, in their order. It takes no memory.
+    /// Stores the hops of the addresses in `hops`, in the same order; both slices must have the same length. Does not allocate.
     pub fn hops(&self, addrs: &[IpAddr], hops: &mut [Option<u32>])
         requires { length hops.old ≡ length addrs.now }
         ensures { hops.new ≡ map (λ addr. hop_of self.now (address_of addr)) addrs.now }

@@ -1,4 +1,4 @@
-//! A look-up table of the hops of addresses, compiled from a route table.
+//! A lookup table of the hops of addresses, compiled from a route table.
 #![tactic(auto)]
 
 pub use index::HopIndex;

@@ -1,4 +1,4 @@
-//! IPv4: ranges, the short ones found by the blocks of 256 addresses with which one begins.
+//! IPv4: the ranges, of which the short ones are found by the blocks of 256 addresses that they begin with.
 ghost use Rattle.std.specs.Prelude.{ℕ, ◌≡◌, ◌+◌, ◌*◌, ◌^◌, ◌<◌, ◌≤◌, ◌++◌, IfOk, length};
 ghost use Rattle.hop_index.specs.Ranges.{hop_in};
 ghost use Rattle.hop_index.specs.InnerRanges.{AreMarks, AreMarksOf, AreRanges, BeginsBelow, BeginsFrom};
@@ -8,11 +8,11 @@ use crate::shorts4::{Short4, short_hop};
 use std::alloc::{AllocError, Global};
 use std::marker::Model;
 
-/// How many chunks there are.
+/// The number of chunks.
 const CHUNKS: usize = 262_144;
 
-/// A bit for each of the 64 blocks of 256 numbers of a chunk: whether one of the ranges begins there; and how many of the ranges
-/// begin before the chunk's end, where `low` of them begin before its start.
+/// A bit for each of the 64 blocks of 256 numbers in a chunk, set if one of the ranges begins there; and the number of ranges that
+/// begin before the chunk's end. `low` of the ranges begin before its start.
 #[inline]
 fn marks_of(ranges: &[Short4], start: u32, low: u32, end: u32) -> (u64, u32)
     requires ranges { AreRanges ranges.now }
@@ -36,7 +36,7 @@ fn marks_of(ranges: &[Short4], start: u32, low: u32, end: u32) -> (u64, u32)
     (marks, place)
 }
 
-/// How many of the ranges begin at or below the number: those before its chunk, and one for each mark up to its block.
+/// The number of ranges that begin at or below the number: those before its chunk, and one for each mark up to its block.
 #[inline]
 fn begun_by_marks(ranges: &[Short4], starts: &[u32], marks: &[u64], number: u32) -> usize
     requires { AreMarks ranges.now starts.now marks.now }
@@ -48,7 +48,7 @@ fn begun_by_marks(ranges: &[Short4], starts: &[u32], marks: &[u64], number: u32)
     starts[chunk] as usize + (marks[chunk] << later).count_ones() as usize
 }
 
-/// How many ranges begin before each chunk, and before the end of the last one; and the marks of each chunk.
+/// The number of ranges that begin before each chunk and before the end of the last chunk, and the marks of each chunk.
 fn all_marks(alloc: Global, ranges: &[Short4]) -> Result<(Vec<u32>, Vec<u64>), AllocError>
     requires { AreRanges ranges.now }
     ensures { IfOk result (λ r. AreMarks ranges.now r.0.items r.1.items) }
@@ -68,8 +68,8 @@ fn all_marks(alloc: Global, ranges: &[Short4]) -> Result<(Vec<u32>, Vec<u64>), A
     Ok((starts, marks))
 }
 
-/// Ascending ranges of IPv4: those that have room in 8 bytes, found by how many begin before each chunk of numbers with the same
-/// first 18 bits and by the marks of each chunk; and the others.
+/// Ascending ranges of IPv4. Those that fit 8 bytes are found by the number of ranges that begin before each chunk, and by the marks
+/// of the chunk. A chunk has the numbers with the same first 18 bits. The other ranges have a list of their own.
 ///
 /// Contracts see a list of all the ranges.
 #[derive(Drop)]
@@ -93,10 +93,10 @@ impl Model for Ranges4 {
 }
 
 impl Ranges4 {
-    /// The look-up table of the ranges.
+    /// Compiles the lookup table of the ranges.
     ///
     /// # Errors
-    /// `AllocError` where there is no memory for it.
+    /// `AllocError` if an allocation fails.
     pub(crate) fn new(
         alloc: Global,
         shorts: Vec<Short4>,
@@ -115,7 +115,7 @@ impl Ranges4 {
         })
     }
 
-    /// The hop of the range that has the number.
+    /// The hop of the range that contains the number.
     pub(crate) fn hop(&self, number: u32) -> Option<u32>
         ensures { result ≡ hop_in self.now number }
     {

@@ -1,4 +1,4 @@
-//! Ascending ranges of addresses of one family, each with a hop, found by their first bits.
+//! Ascending ranges of addresses of one family, each with a hop.
 ghost use Rattle.std.specs.Prelude.{ℕ, ◌≡◌, ◌+◌, ◌*◌, ◌^◌, ◌<◌, ◌≤◌, IfOk, map};
 ghost use Rattle.ipnet_addr.specs.Addresses.{width};
 ghost use Rattle.hop_index.specs.Ranges.{HopRange, hop_in};
@@ -8,9 +8,9 @@ use ipnet_addr::number::Number;
 use std::alloc::{AllocError, Global};
 use std::marker::Model;
 
-/// Addresses in a row with one hop.
+/// Adjacent addresses with one hop.
 ///
-/// Contracts see the numbers of the first and the last of them, and the hop.
+/// Contracts see the numbers of the first and the last address, and the hop.
 #[derive(Drop)]
 pub(crate) struct Range<N: Number> {
     first: N,
@@ -27,14 +27,14 @@ impl<N: Number> Model for Range<N> {
 }
 
 impl<N: Number> Range<N> {
-    /// The addresses from the number of the first to that of the last, with this hop.
+    /// Makes the range from the number of the first address to that of the last, with this hop.
     pub(crate) fn of_ends(first: N, last: N, hop: u32) -> Range<N>
         ensures { result ≡ record { first = N.number first; last = N.number last; hop = hop } }
     {
         Range { first, last, hop }
     }
 
-    /// The number of its first address.
+    /// The number of the first address.
     pub(crate) fn first(&self) -> u128
         ensures value { result ≡ self.now.first }
         ensures within { result < 2 ^ width N.family }
@@ -42,14 +42,14 @@ impl<N: Number> Range<N> {
         self.first.to_bits()
     }
 
-    /// The number of its last address.
+    /// The number of the last address.
     pub(crate) fn last(&self) -> u128
         ensures { result ≡ self.now.last }
     {
         self.last.to_bits()
     }
 
-    /// Its hop.
+    /// The hop.
     pub(crate) fn hop(&self) -> u32
         ensures { result ≡ self.now.hop }
     {
@@ -57,7 +57,7 @@ impl<N: Number> Range<N> {
     }
 }
 
-/// How many of the ranges begin at or below the number: at least `low`, and at most `high`.
+/// The number of ranges that begin at or below the number, which is at least `low` and at most `high`.
 pub(crate) fn begun<N: Number>(
     ranges: &[Range<N>],
     mut low: usize,
@@ -81,7 +81,7 @@ pub(crate) fn begun<N: Number>(
     low
 }
 
-/// The hop of the number, where so many of the ranges begin at or below it: the last of these has it or none.
+/// The hop of the number; `count` ranges begin at or below it, and only the last of them can contain it.
 #[inline]
 pub(crate) fn hop_after<N: Number>(ranges: &[Range<N>], count: usize, number: N) -> Option<u32>
     requires ranges { AreRanges ranges.now }

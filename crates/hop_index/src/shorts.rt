@@ -1,4 +1,4 @@
-//! Ranges that take less memory than their ends do, and the few others.
+//! Ranges in less memory than their two ends take, and the few ranges that don't fit.
 ghost use Rattle.std.specs.Prelude.{◌≡◌, ◌↔◌, IsTrue, OnOk, map};
 ghost use Rattle.hop_index.specs.Ranges.{HopRange};
 ghost use Rattle.hop_index.specs.InnerRanges.{HaveOneMore};
@@ -7,25 +7,25 @@ use crate::ranges::Range;
 use ipnet_addr::number::Number;
 use std::alloc::AllocError;
 
-/// Addresses in a row with one hop, in less memory than their first and their last take.
+/// Adjacent addresses with one hop, in less memory than the first and the last number take.
 pub(crate) trait ShortRange<N: Number> {
-    /// The numbers of its addresses, and its hop.
+    /// The numbers of the addresses, and the hop.
     ghost range: { Self → HopRange };
 
-    /// Whether there is room for a range.
+    /// Whether a range fits.
     ghost has_room: { HopRange → Type 0 };
 
-    /// Whether there is room for a range.
+    /// Returns whether a range fits.
     fn has_room(whole: &Range<N>) -> bool
         ensures { IsTrue result ↔ has_room whole.now };
 
-    /// The same range.
+    /// Makes the same range.
     fn of_range(whole: &Range<N>) -> Self
         requires { has_room whole.now }
         ensures { range result ≡ whole.now };
 }
 
-/// Adds a range to the short ones, or where there is no room for it to the others.
+/// Adds a range to the short ranges, or to the others if it doesn't fit.
 #[inline]
 pub(crate) fn add_range<N: Number, S: ShortRange<N> + Drop>(
     shorts: &mut Vec<S>,

@@ -7,10 +7,10 @@ use crate::ranges::Range;
 use crate::shorts::ShortRange;
 use std::marker::Model;
 
-/// Addresses in a row with one hop, which are at most 256 of the blocks of 256 addresses: the first of these in 24 bits, and in
-/// 8 bits how many follow it.
+/// Adjacent addresses with one hop: at most 256 blocks of 256 addresses. The number of the first block takes 24 bits, and 8 bits
+/// count the blocks that follow.
 ///
-/// Contracts see the numbers of the first and the last of the addresses, and the hop.
+/// Contracts see the numbers of the first and the last address, and the hop.
 #[derive(Drop)]
 pub(crate) struct Short4 {
     key: u32,
@@ -27,7 +27,7 @@ impl Model for Short4 {
 }
 
 impl Short4 {
-    /// The block of its first address.
+    /// The number of the first block.
     #[inline]
     pub(crate) fn first(&self) -> u32
         ensures { self.now.first ≡ result * 256 }
@@ -35,7 +35,7 @@ impl Short4 {
         self.key >> 8
     }
 
-    /// The block of its last address.
+    /// The number of the last block.
     #[inline]
     fn last(&self) -> u32
         ensures { self.now.last ≡ result * 256 + 255 }
@@ -43,7 +43,7 @@ impl Short4 {
         (self.key >> 8) + self.key % 256
     }
 
-    /// Its hop.
+    /// The hop.
     #[inline]
     fn hop(&self) -> u32
         ensures { result ≡ self.now.hop }
@@ -52,7 +52,7 @@ impl Short4 {
     }
 }
 
-/// The ranges that begin and end with a block, and have at most 256 of them.
+/// Ranges of at most 256 whole blocks fit.
 impl ShortRange<u32> for Short4 {
     ghost range = { λ r. r };
 
@@ -72,7 +72,7 @@ impl ShortRange<u32> for Short4 {
     }
 }
 
-/// The hop of the number, where so many of the ranges begin at or below it: the last of these has it or none.
+/// The hop of the number; `count` ranges begin at or below it, and only the last of them can contain it.
 #[inline]
 pub(crate) fn short_hop(ranges: &[Short4], count: usize, number: u32) -> Option<u32>
     requires ranges { AreRanges ranges.now }

@@ -1,4 +1,4 @@
-//! IPv6: ranges in 12 bytes each, and the few others.
+//! IPv6: ranges in 12 bytes each, and the few ranges that don't fit.
 ghost use Rattle.std.specs.Prelude.{ℕ, ◌≡◌, ◌+◌, ◌-◌, ◌*◌, ◌^◌, ◌<◌, ◌≤◌, ◌++◌, IfOk};
 ghost use Rattle.hop_index.specs.Ranges.{HopRange, hop_in};
 ghost use Rattle.hop_index.specs.InnerRanges.{AreRanges, BeginsBelow, BeginsFrom, IsShort6};
@@ -9,10 +9,10 @@ use crate::shorts::ShortRange;
 use std::alloc::{AllocError, Global};
 use std::marker::Model;
 
-/// Addresses in a row with one hop, which are at most 2^19 of the networks of 48 bits inside 2000::/3: the first of these
-/// in 45 bits, and in 19 bits how many follow it.
+/// Adjacent addresses with one hop: at most 2^19 networks of 48 bits inside 2000::/3. The number of the first network takes 45 bits,
+/// and 19 bits count the networks that follow.
 ///
-/// Contracts see the numbers of the first and the last of the addresses, and the hop.
+/// Contracts see the numbers of the first and the last address, and the hop.
 #[derive(Drop)]
 pub(crate) struct Short6 {
     low: u32,
@@ -39,7 +39,7 @@ fn key_of(high: u32, low: u32) -> u64
 }
 
 impl Short6 {
-    /// The first 48 bits of its first address.
+    /// The first 48 bits of the first address.
     #[inline]
     pub(crate) fn first(&self) -> u64
         ensures value { self.now.first ≡ result * 2 ^ 80 }
@@ -49,7 +49,7 @@ impl Short6 {
         (1 << 45) + (key_of(self.high, self.low) >> 19)
     }
 
-    /// The first 48 bits of its last address.
+    /// The first 48 bits of the last address.
     #[inline]
     fn last(&self) -> u64
         ensures { self.now.last ≡ result * 2 ^ 80 + (2 ^ 80 - 1) }
@@ -58,7 +58,7 @@ impl Short6 {
         (1 << 45) + (key >> 19) + key % (1 << 19)
     }
 
-    /// Its hop.
+    /// The hop.
     #[inline]
     fn hop(&self) -> u32
         ensures { result ≡ self.now.hop }
@@ -67,7 +67,7 @@ impl Short6 {
     }
 }
 
-/// The ranges of whole networks of 48 bits inside 2000::/3, with at most 2^19 of them.
+/// Ranges of at most 2^19 whole networks of 48 bits inside 2000::/3 fit.
 impl ShortRange<u128> for Short6 {
     ghost range = { λ r. r };
 
@@ -94,7 +94,7 @@ impl ShortRange<u128> for Short6 {
     }
 }
 
-/// How many of the ranges begin at or below the number: at least `low`, and at most `high`.
+/// The number of ranges that begin at or below the number, which is at least `low` and at most `high`.
 fn shorts_begun(ranges: &[Short6], mut low: usize, mut high: usize, number: u128) -> usize
     requires ranges { AreRanges ranges.now }
     requires low { BeginsBelow ranges.now (number + 1) low }
@@ -114,7 +114,7 @@ fn shorts_begun(ranges: &[Short6], mut low: usize, mut high: usize, number: u128
     low
 }
 
-/// The hop of the number, where so many of the ranges begin at or below it: the last of these has it or none.
+/// The hop of the number; `count` ranges begin at or below it, and only the last of them can contain it.
 #[inline]
 fn short_hop(ranges: &[Short6], count: usize, number: u128) -> Option<u32>
     requires ranges { AreRanges ranges.now }
@@ -133,8 +133,8 @@ fn short_hop(ranges: &[Short6], count: usize, number: u128) -> Option<u32>
     }
 }
 
-/// Ascending ranges of IPv6: those that have room in 12 bytes, found by how many begin before each chunk of numbers with
-/// the same first 21 bits and by the blocks in which one begins; and the others.
+/// Ascending ranges of IPv6. Those that fit 12 bytes are found by the number of ranges that begin before each chunk, and by the
+/// blocks in which a range begins. A chunk has the numbers with the same first 21 bits. The other ranges have a list of their own.
 ///
 /// Contracts see a list of all the ranges.
 #[derive(Drop)]
@@ -157,10 +157,10 @@ impl Model for Ranges6 {
 }
 
 impl Ranges6 {
-    /// The look-up table of the ranges.
+    /// Compiles the lookup table of the ranges.
     ///
     /// # Errors
-    /// `AllocError` where there is no memory for it.
+    /// `AllocError` if an allocation fails.
     pub(crate) fn new(
         alloc: Global,
         shorts: Vec<Short6>,
@@ -178,7 +178,7 @@ impl Ranges6 {
         })
     }
 
-    /// The hop of the range that has the number.
+    /// The hop of the range that contains the number.
     pub(crate) fn hop(&self, number: u128) -> Option<u32>
         ensures { result ≡ hop_in self.now number }
     {

@@ -12,7 +12,7 @@ use Rattle.ipnet.specs.declared.ip_net.IpNet.TheVariants.{V4, V6}
 abbrev pub ipv4_net_bytes : Network → List ℕ
 ipv4_net_bytes n = to_be_bytes w32 n.number ++ n.len ∷ []
 
--- the same with sixteen octets
+-- the sixteen octets of the number, the most significant first, and then the length
 abbrev pub ipv6_net_bytes : Network → List ℕ
 ipv6_net_bytes n = to_be_bytes w128 n.number ++ n.len ∷ []
 
@@ -25,15 +25,15 @@ net_bytes (V6 n) = 1 ∷ ipv6_net_bytes n
 abbrev pub HoldsIpv4 : List ℕ → Network → Type 0
 HoldsIpv4 bytes n = (bytes ≡ ipv4_net_bytes n) × IsNetwork Ipv4 n
 
--- the same of an IPv6 network
+-- the bytes are those of this IPv6 network
 abbrev pub HoldsIpv6 : List ℕ → Network → Type 0
 HoldsIpv6 bytes n = (bytes ≡ ipv6_net_bytes n) × IsNetwork Ipv6 n
 
--- the same of a network of either family
+-- the bytes are those of this network of either family
 abbrev pub Holds : List ℕ → IpNet → Type 0
 Holds bytes n = (bytes ≡ net_bytes n) × IsNetwork (family n) (parts n)
 
--- the value is a string that spells the network; `Reads` says what a text spells
+-- the value is a string that spells the network, as `Reads` relates texts and networks
 pub record IsStringOf {N : Type 0} (Reads : List ℕ → N → Type 0) (value : Data) (n : N) : Type 0 where
   pub text : List ℕ
   pub is : value ≡ string text

@@ -11,7 +11,7 @@ abbrev pub family : IpNet → Family
 family (V4 n) = Ipv4
 family (V6 n) = Ipv6
 
--- the number of its address, host bits too, and its length
+-- the number of the network's address, with its host bits, and its length
 abbrev pub parts : IpNet → Network
 parts (V4 n) = n
 parts (V6 n) = n
@@ -25,7 +25,7 @@ abbrev pub net_in : Family → Network → IpNet
 net_in Ipv4 n = V4 n
 net_in Ipv6 n = V6 n
 
--- IPv4 before IPv6, then by the number of the address, then by length
+-- ordered by family, IPv4 first, then by address, then by length
 abbrev pub IsNetBefore : IpNet → IpNet → Type 0
 IsNetBefore m n = (rank (family m) < rank (family n)) ⊎ ((rank (family m) ≡ rank (family n)) × IsNetworkBefore (parts m) (parts n))
 

@@ -1,16 +1,16 @@
--- What the reader of a network computes. That it reads the grammar is the law `network_texts`.
+-- The functions that the network reader computes. The theorem `network_texts` says that they read the grammar.
 use Rattle.std.specs.Prelude.{ℕ, List, Option, Some, None, ◌==◌, length, if◌then◌else◌, option_and_then}
 use Rattle.std.specs.Int.Digits.{number_from_digits}
 use Rattle.std.specs.Net.Reader.{Read, read_byte}
 use Rattle.ipnet_addr.specs.AddressReader.{read_short, read_ipv4, read_ipv6}
 use Rattle.ipnet_blocks.specs.Networks.{Network}
 
--- goes on by f with the value, where there is one
+-- applies f to the value, if there is one
 infixl 10 ◌>>=◌
 abbrev ◌>>=◌ : {A B : Type 0} → Option A → (A → Option B) → Option B
 o >>= f = option_and_then f o
 
--- an address, a slash and a length, and nothing after it
+-- an address, a slash and a length, to the end of the text
 unfoldable pub read_network : Read (List ℕ) → ℕ → ℕ → Option (List ℕ × ℕ)
 read_network address digits max = do
   parts ← address
@@ -18,7 +18,7 @@ read_network address digits max = do
   len ← read_short 10 digits max after_slash
   if length len.1 == 0 then Some (parts.0, len.0) else None
 
--- the network whose address has these parts as digits in this base
+-- the network whose address has these digits in this base
 abbrev pub network_of : ℕ → Option (List ℕ × ℕ) → Option Network
 network_of base read = do
   parts ← read

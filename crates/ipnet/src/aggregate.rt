@@ -1,4 +1,4 @@
-//! The fewest networks with the addresses of some others.
+//! The fewest networks that cover the same addresses as some others.
 ghost use Rattle.std.specs.Prelude.{◌≡◌, ◌++◌, map, All, IfOk, OnOk};
 ghost use Rattle.ipnet_blocks.specs.Aggregated.{AreAggregated, IsAggregated};
 ghost use Rattle.ipnet_blocks.specs.Networks.{IsTruncated};
@@ -35,10 +35,10 @@ impl<N: Number> OfFamily for Net<N> {
 }
 
 impl<N: Number> Net<N> {
-    /// The fewest networks with the addresses of these, ascending, each without host bits; takes time n log n.
+    /// Returns the fewest networks that cover the same addresses, in ascending order and without host bits. Takes time n log n.
     ///
     /// # Errors
-    /// `AllocError` where memory is refused.
+    /// `AllocError` if an allocation fails.
     pub fn aggregate(alloc: Global, networks: &Vec<Net<N>>) -> Result<Vec<Net<N>>, AllocError>
         ensures { IfOk result (λ v. AreAggregated N.family networks.now.items v.items) }
     {
@@ -47,10 +47,10 @@ impl<N: Number> Net<N> {
 }
 
 impl IpNet {
-    /// The fewest networks with the addresses of these, ascending, IPv4 first, each without host bits; takes time n log n.
+    /// Returns the fewest networks that cover the same addresses, in ascending order, IPv4 first, without host bits. Takes time n log n.
     ///
     /// # Errors
-    /// `AllocError` where memory is refused.
+    /// `AllocError` if an allocation fails.
     pub fn aggregate(alloc: Global, networks: &Vec<IpNet>) -> Result<Vec<IpNet>, AllocError>
         ensures blocks { IfOk result (λ v. IsAggregated (map block networks.now.items) (map block v.items)) }
         ensures truncated { IfOk result (λ v. All (λ n. IsTruncated (family n) (parts n)) v.items) }
@@ -65,7 +65,7 @@ impl IpNet {
     }
 }
 
-/// The networks of each family.
+/// Splits the networks by family.
 fn by_family(
     alloc: Global,
     networks: &Vec<IpNet>,

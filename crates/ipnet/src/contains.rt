@@ -10,16 +10,16 @@ use ipnet_addr::number::Number;
 use ipnet_blocks::contains::is_inside;
 use std::net::IpAddr;
 
-/// Whether a network holds all addresses of another value, a network or an address.
+/// Whether a network contains all addresses of another network, or one address.
 pub trait Contains<T> {
     ghost contained: { Self → T → Type 0 };
 
-    /// Whether each address of `other` is one of `self`.
+    /// Returns whether each address of `other` is an address of `self`.
     fn contains(&self, other: T) -> bool
         ensures { IsTrue result ↔ contained self.now other };
 }
 
-/// Each address of `other` is one of `self`.
+/// Each address of `other` is an address of `self`.
 impl<N: Number> Contains<&Net<N>> for Net<N> {
     ghost contained = { λ n m. IsInside (block_of N.family m.now) (block_of N.family n) };
 
@@ -35,7 +35,7 @@ impl<N: Number> Contains<&Net<N>> for Net<N> {
 }
 
 impl<N: Number> Net<N> {
-    // Whether the address is one of the network's.
+    // Whether the network contains the address.
     pub(crate) fn holds(&self, addr: N::Addr) -> bool
         ensures { IsTrue result ↔ HasAddress (block_of N.family self.now) (record { family = N.family; number = N.addr_number addr }) }
     {
@@ -44,7 +44,7 @@ impl<N: Number> Net<N> {
     }
 }
 
-/// Each address of `other` is one of `self`; false between families.
+/// Each address of `other` is an address of `self`; false if the families differ.
 impl Contains<&IpNet> for IpNet {
     ghost use Rattle.ipnet_blocks.specs.Blocks.{IsInside};
     ghost use Rattle.ipnet.specs.IpNets.{block};
@@ -61,7 +61,7 @@ impl Contains<&IpNet> for IpNet {
     }
 }
 
-/// The address is one of `self`; false between families.
+/// The network contains the address; false if the families differ.
 impl Contains<&IpAddr> for IpNet {
     ghost use Rattle.ipnet_addr.specs.Addresses.{address_of};
     ghost use Rattle.ipnet_blocks.specs.Blocks.{HasAddress};
@@ -79,7 +79,7 @@ impl Contains<&IpAddr> for IpNet {
 }
 
 impl<N: Number> Net<N> {
-    /// Whether each address of `other`, a network or an address, is one of the network's.
+    /// Returns whether the network contains `other`, a network or an address.
     pub fn contains<T>(&self, other: T) -> bool
     where
         Net<N>: Contains<T>,
@@ -90,7 +90,7 @@ impl<N: Number> Net<N> {
 }
 
 impl IpNet {
-    /// Whether each address of `other`, a network or an address, is one of the network's; false between families.
+    /// Returns whether the network contains `other`, a network or an address; false if the families differ.
     pub fn contains<T>(&self, other: T) -> bool
     where
         IpNet: Contains<T>,

@@ -10,7 +10,7 @@ use crate::networks::{Ipv4Net, Ipv6Net};
 use ipnet_addr::mask::{PrefixLenError, ip_mask_to_prefix};
 use std::net::{IpAddr, Ipv4Addr, Ipv6Addr};
 
-/// A network of either family. IPv4 networks come before IPv6 ones.
+/// A network of either family. IPv4 networks are ordered before IPv6 networks.
 #[derive(Clone, Copy, PartialEq, Eq, PartialOrd, Ord, Hash)]
 pub enum IpNet {
     /// An IPv4 network.
@@ -20,10 +20,10 @@ pub enum IpNet {
 }
 
 impl IpNet {
-    /// The network of this address and prefix length; host bits are kept.
+    /// Makes the network of this address and prefix length; host bits are kept.
     ///
     /// # Errors
-    /// `PrefixLenError` exactly where `prefix_len` is above the width of the address, 32 or 128.
+    /// `PrefixLenError` exactly if `prefix_len` is above the width of the address, 32 or 128.
     pub fn new(addr: IpAddr, prefix_len: u8) -> Result<IpNet, PrefixLenError>
         ensures variant { IsOk result ↔ (prefix_len ≤ width (address_of addr).family) }
         ensures parts { IfOk result (λ n. n ≡ net_in (address_of addr).family (record { number = (address_of addr).number; len = prefix_len })) }
@@ -34,7 +34,7 @@ impl IpNet {
         }
     }
 
-    /// The network of this address and prefix length, at most the width of the address; host bits are kept.
+    /// Makes the network of this address and prefix length, which must be at most the width of the address; host bits are kept.
     pub fn new_assert(addr: IpAddr, prefix_len: u8) -> IpNet
         requires { prefix_len ≤ width (address_of addr).family }
         ensures { result ≡ net_in (address_of addr).family (record { number = (address_of addr).number; len = prefix_len }) }
@@ -45,11 +45,11 @@ impl IpNet {
         }
     }
 
-    /// The network of this address whose prefix length is the number of ones of the mask; host bits are kept. The families of address and
-    /// mask may differ, as in the Rust crate ipnet 2.12.2.
+    /// Makes the network of this address; its prefix length is the number of ones of the mask, and host bits are kept. The mask may be
+    /// of the other family, as in the Rust crate ipnet 2.12.2.
     ///
     /// # Errors
-    /// `PrefixLenError` exactly where the mask isn't ones followed by zeros, or has more ones than the address has bits.
+    /// `PrefixLenError` exactly if the mask isn't ones followed by zeros, or has more ones than the address has bits.
     pub fn with_netmask(addr: IpAddr, netmask: IpAddr) -> Result<IpNet, PrefixLenError>
         ensures { MatchResult result
             (λ n. (family n ≡ (address_of addr).family) × ((parts n).number ≡ (address_of addr).number) × IsMask (address_of netmask) (parts n).len)
@@ -61,7 +61,7 @@ impl IpNet {
         }
     }
 
-    /// Its address, host bits too.
+    /// Returns the address of the network, with its host bits.
     pub fn addr(&self) -> IpAddr
         ensures family { (address_of result).family ≡ family self.now }
         ensures number { (address_of result).number ≡ (parts self.now).number }
@@ -72,7 +72,7 @@ impl IpNet {
         }
     }
 
-    /// Its prefix length, 0 to the width of its family.
+    /// Returns the prefix length, from 0 to the width of the family.
     pub fn prefix_len(&self) -> u8
         ensures value { result ≡ (parts self.now).len }
         ensures within { result ≤ width (family self.now) }
@@ -83,7 +83,7 @@ impl IpNet {
         }
     }
 
-    /// The greatest prefix length of its family, 32 or 128.
+    /// Returns the greatest prefix length of the family, 32 or 128.
     pub fn max_prefix_len(&self) -> u8
         ensures { result ≡ width (family self.now) }
     {
@@ -93,7 +93,7 @@ impl IpNet {
         }
     }
 
-    /// The mask of its prefix length: so many ones, and then zeros.
+    /// Returns the netmask: a one for each bit of the prefix, then zeros.
     pub fn netmask(&self) -> IpAddr
         ensures family { (address_of result).family ≡ family self.now }
         ensures mask { IsMask (address_of result) (parts self.now).len }
@@ -104,7 +104,7 @@ impl IpNet {
         }
     }
 
-    /// The complement of the mask: zeros, and then a one for each host bit.
+    /// Returns the complement of the netmask: zeros, then a one for each host bit.
     pub fn hostmask(&self) -> IpAddr
         ensures family { (address_of result).family ≡ family self.now }
         ensures number { (address_of result).number ≡ 2 ^ (width (family self.now) - (parts self.now).len) - 1 }
@@ -115,7 +115,7 @@ impl IpNet {
         }
     }
 
-    /// Its least address.
+    /// Returns the least address of the network.
     pub fn network(&self) -> IpAddr
         ensures family { (address_of result).family ≡ family self.now }
         ensures number { (address_of result).number ≡ first (block self.now) }
@@ -126,7 +126,7 @@ impl IpNet {
         }
     }
 
-    /// Its greatest address.
+    /// Returns the greatest address of the network.
     pub fn broadcast(&self) -> IpAddr
         ensures family { (address_of result).family ≡ family self.now }
         ensures number { (address_of result).number ≡ last (block self.now) }
@@ -137,7 +137,7 @@ impl IpNet {
         }
     }
 
-    /// The network with the same addresses and no host bits.
+    /// Returns the network without its host bits; it has the same addresses.
     pub fn trunc(&self) -> IpNet
         ensures value { result ≡ net_in (family self.now) (net_of (block self.now)) }
         ensures network { IsNetwork (family self.now) (parts self.now) }
@@ -148,7 +148,7 @@ impl IpNet {
         }
     }
 
-    /// The network one bit shorter that holds it, without host bits; None exactly at length 0.
+    /// Returns the containing network that is one bit shorter, without host bits, or `None` exactly if the length is 0.
     pub fn supernet(&self) -> Option<IpNet>
         ensures { MatchOption result ((parts self.now).len ≡ 0) (λ n. (0 < (parts self.now).len) × (n ≡ net_in (family self.now) (net_of (parent (block self.now))))) }
     {
@@ -158,7 +158,7 @@ impl IpNet {
         }
     }
 
-    /// Whether both are of one family and of one length, above 0, and the supernet of one holds the other.
+    /// Returns whether the networks have the same family, the same length above 0, and the same supernet.
     pub fn is_sibling(&self, other: &IpNet) -> bool
         ensures { IsTrue result ↔ AreSiblings (block self.now) (block other.now) }
     {
@@ -171,7 +171,7 @@ impl IpNet {
     }
 }
 
-/// All of IPv4, `0.0.0.0/0`.
+/// The default is all of IPv4, `0.0.0.0/0`.
 impl Default for IpNet {
     ghost use Rattle.std.specs.Prelude.{◌≡◌};
     ghost use Rattle.ipnet_addr.specs.Addresses.{Ipv4};
@@ -200,7 +200,7 @@ impl From<IpAddr> for IpNet {
     }
 }
 
-/// The same network.
+/// The same network, as one of either family.
 impl From<Ipv4Net> for IpNet {
     ghost use Rattle.std.specs.Prelude.{◌≡◌};
     ghost use Rattle.ipnet_addr.specs.Addresses.{Ipv4};
@@ -213,7 +213,7 @@ impl From<Ipv4Net> for IpNet {
     }
 }
 
-/// The same network.
+/// The same network, as one of either family.
 impl From<Ipv6Net> for IpNet {
     ghost use Rattle.std.specs.Prelude.{◌≡◌};
     ghost use Rattle.ipnet_addr.specs.Addresses.{Ipv6};

@@ -1,4 +1,4 @@
-//! What is written of IPv4 networks alone: texts, bytes, hosts, and what is said of an address.
+//! The parts that only IPv4 networks have: texts, bytes, hosts and conversions.
 ghost use Rattle.std.specs.Prelude.{◌≡◌, ◌≤◌, ◌+◌, ◌++◌, IfSome, option_map};
 ghost use Rattle.std.specs.Net.Addr.{ipv4_bits, ipv4_octets};
 ghost use Rattle.std.specs.Net.Grammar.{Parses};
@@ -31,7 +31,7 @@ impl From<Ipv4Addr> for Ipv4Net {
     }
 }
 
-/// The address is one of `self`.
+/// `self` contains the address.
 impl Contains<&Ipv4Addr> for Ipv4Net {
     ghost contained = { λ n a. HasAddress (block_of Ipv4 n) (ipv4_address a.now) };
 
@@ -41,7 +41,7 @@ impl Contains<&Ipv4Addr> for Ipv4Net {
 }
 
 impl Ipv4Net {
-    /// Appends the text of `to_text`. There must be room for the longest, of 43 bytes, as for either family. Takes no memory.
+    /// Appends the text of `to_text`. There must be room for 43 bytes, the longest text of either family. Does not allocate.
     pub fn push_text<const CAPACITY: usize>(&self, out: &mut ArrayVec<u8, CAPACITY>)
         requires { array_vec_len out.old + 43 ≤ CAPACITY }
         ensures text { out.new.items ≡ out.old.items ++ ipv4_net_text self.now }
@@ -53,7 +53,7 @@ impl Ipv4Net {
         push_decimal(out, self.prefix_len());
     }
 
-    /// The addresses of its hosts: below length 31 all but `network` and `broadcast`, else all.
+    /// Returns the addresses of the hosts: all but `network` and `broadcast` if the length is below 31, and else all.
     pub fn hosts(&self) -> Ipv4AddrRange
         ensures { result ≡ host_ends (block_of Ipv4 self.now) }
     {
@@ -66,7 +66,7 @@ impl Ipv4Net {
         }
     }
 
-    /// The four octets of its address, host bits too, and then the length.
+    /// Returns the four octets of the address, with its host bits, and then the length.
     pub fn to_bytes(&self) -> [u8; 5]
         ensures bytes { result ≡ ipv4_net_bytes self.now }
         ensures holds { HoldsIpv4 result self.now }
@@ -75,11 +75,10 @@ impl Ipv4Net {
         [a, b, c, d, self.prefix_len()]
     }
 
-    /// The network of these bytes, the inverse of `to_bytes`. Takes no memory.
+    /// Reads the network that `to_bytes` made these bytes of. Does not allocate.
     ///
     /// # Errors
-    /// `AddrParseError` exactly where they are no network's: another number of bytes than five, or a
-    /// length above 32.
+    /// `AddrParseError` exactly if no network has these bytes: they aren't five bytes, or the length is above 32.
     pub fn from_bytes(bytes: &[u8]) -> Result<Ipv4Net, AddrParseError>
         ensures { Parses HoldsIpv4 bytes.now result }
     {
@@ -94,7 +93,7 @@ impl Ipv4Net {
     }
 }
 
-/// Four decimal octets, a slash and the length.
+/// The text of an IPv4 network is four decimal octets, a slash and the length.
 impl Written for u32 {
     ghost text = { ipv4_net_text };
 
@@ -116,7 +115,7 @@ impl Written for u32 {
     }
 }
 
-/// An IPv4 address, a slash and a length, and nothing before or after them.
+/// Reads an IPv4 address, a slash and a length, with nothing before or after.
 #[tactic(auto, unfolding(crate::specs::NetworkReader::read_network))]
 fn read_ipv4_network(s: &[u8]) -> Option<(Ipv4Addr, u8)>
     ensures value { option_map (λ n. (ipv4_octets n.0, n.1)) result ≡ read_network (read_ipv4 s.now) 2 32 }

@@ -1,4 +1,4 @@
-//! What is written of IPv6 networks alone: texts, bytes, hosts, and what is said of an address.
+//! The parts that only IPv6 networks have: texts, bytes, hosts and conversions.
 ghost use Rattle.std.specs.Prelude.{◌≡◌, ◌≤◌, ◌+◌, ◌++◌, IfSome, option_map};
 ghost use Rattle.std.specs.Net.Addr.{ipv6_bits, ipv6_segments};
 ghost use Rattle.std.specs.Net.Grammar.{Parses};
@@ -31,7 +31,7 @@ impl From<Ipv6Addr> for Ipv6Net {
     }
 }
 
-/// The address is one of `self`.
+/// `self` contains the address.
 impl Contains<&Ipv6Addr> for Ipv6Net {
     ghost contained = { λ n a. HasAddress (block_of Ipv6 n) (ipv6_address a.now) };
 
@@ -41,7 +41,7 @@ impl Contains<&Ipv6Addr> for Ipv6Net {
 }
 
 impl Ipv6Net {
-    /// Appends the text of `to_text`. There must be room for the longest, of 43 bytes. Takes no memory.
+    /// Appends the text of `to_text`. There must be room for 43 bytes, the longest text. Does not allocate.
     pub fn push_text<const CAPACITY: usize>(&self, out: &mut ArrayVec<u8, CAPACITY>)
         requires { array_vec_len out.old + 43 ≤ CAPACITY }
         ensures text { out.new.items ≡ out.old.items ++ ipv6_net_text self.now }
@@ -53,14 +53,14 @@ impl Ipv6Net {
         push_decimal(out, self.prefix_len());
     }
 
-    /// The addresses of its hosts: all of its addresses.
+    /// Returns the addresses of the hosts: all addresses of the network.
     pub fn hosts(&self) -> Ipv6AddrRange
         ensures { result ≡ host_ends (block_of Ipv6 self.now) }
     {
         Ipv6AddrRange::new(self.network(), self.broadcast())
     }
 
-    /// The sixteen octets of its address, host bits too, and then the length.
+    /// Returns the sixteen octets of the address, with its host bits, and then the length.
     pub fn to_bytes(&self) -> [u8; 17]
         ensures bytes { result ≡ ipv6_net_bytes self.now }
         ensures holds { HoldsIpv6 result self.now }
@@ -71,11 +71,10 @@ impl Ipv6Net {
         bytes
     }
 
-    /// The network of these bytes, the inverse of `to_bytes`. Takes no memory.
+    /// Reads the network that `to_bytes` made these bytes of. Does not allocate.
     ///
     /// # Errors
-    /// `AddrParseError` exactly where they are no network's: another number of bytes than seventeen, or
-    /// a length above 128.
+    /// `AddrParseError` exactly if no network has these bytes: they aren't seventeen bytes, or the length is above 128.
     pub fn from_bytes(bytes: &[u8]) -> Result<Ipv6Net, AddrParseError>
         ensures { Parses HoldsIpv6 bytes.now result }
     {
@@ -91,7 +90,7 @@ impl Ipv6Net {
     }
 }
 
-/// An address as RFC 5952 writes it, a slash and the length.
+/// The text of an IPv6 network is an address as RFC 5952 writes it, a slash and the length.
 impl Written for u128 {
     ghost text = { ipv6_net_text };
 
@@ -113,7 +112,7 @@ impl Written for u128 {
     }
 }
 
-/// An IPv6 address, a slash and a length, and nothing before or after them.
+/// Reads an IPv6 address, a slash and a length, with nothing before or after.
 #[tactic(auto, unfolding(crate::specs::NetworkReader::read_network))]
 fn read_ipv6_network(s: &[u8]) -> Option<(Ipv6Addr, u8)>
     ensures value { option_map (λ n. (ipv6_segments n.0, n.1)) result ≡ read_network (read_ipv6 s.now) 3 128 }

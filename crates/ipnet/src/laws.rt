@@ -1,4 +1,5 @@
-//! Laws of networks and their texts, and those of addresses, blocks and maximal blocks: public functions without a body, whose contracts are the laws.
+//! Theorems about networks and their texts, and those about addresses, blocks and maximal blocks: public functions without a body,
+//! whose contracts are the theorems.
 
 ghost use Rattle.std.specs.Prelude.{◌≡◌, ◌≢◌, ◌≤◌, ◌⊎◌, ◌↔◌, ◌++◌, ℕ, IsTrue, List, All, MatchOption, length, pos};
 ghost use Rattle.std.specs.Hash as fed;
@@ -32,14 +33,14 @@ pub use ipnet_blocks::laws::{
 };
 use std::hash::Hash;
 
-/// Networks are ordered by family, number and length.
+/// Networks are ordered by family, then number, then length.
 pub fn network_order()
     ensures v4 { (m n : Network) → MatchOrdering (⟦<Ipv4Net as Ord>⟧.cmp m n) (IsNetworkBefore m n) (m ≡ n) (IsNetworkBefore n m) }
     ensures v6 { (m n : Network) → MatchOrdering (⟦<Ipv6Net as Ord>⟧.cmp m n) (IsNetworkBefore m n) (m ≡ n) (IsNetworkBefore n m) }
     ensures either { (m n : AnyNet) → MatchOrdering (⟦<IpNet as Ord>⟧.cmp m n) (IsNetBefore m n) (m ≡ n) (IsNetBefore n m) }
 {}
 
-/// `==` holds of one network alone, and equal networks hash alike.
+/// `==` holds exactly for equal networks, and equal networks have the same hash.
 pub fn network_equality()
     ensures v4 { (m n : Network) → IsTrue (⟦<Ipv4Net as PartialEq>⟧.eq m n) ↔ (m ≡ n) }
     ensures v6 { (m n : Network) → IsTrue (⟦<Ipv6Net as PartialEq>⟧.eq m n) ↔ (m ≡ n) }
@@ -59,7 +60,7 @@ pub fn network_clones()
     ensures made_either { (n : AnyNet) → ⟦<IpNet as Clone>⟧.is_infallible n }
 {}
 
-/// A network feeds a hasher its number and its length, one of either family the family first.
+/// A network feeds a hasher its number and then its length. A network of either family feeds its family before them.
 pub fn network_hashes()
     ensures v4 { (n : Network) → ⟦<Ipv4Net as Hash>⟧.hash_input n ≡ fed.u32 n.number ++ fed.u8 n.len }
     ensures v6 { (n : Network) → ⟦<Ipv6Net as Hash>⟧.hash_input n ≡ fed.u128 n.number ++ fed.u8 n.len }
@@ -67,18 +68,18 @@ pub fn network_hashes()
     ensures either_v6 { (n : Network) → ⟦<IpNet as Hash>⟧.hash_input (IpNet.V6 n) ≡ fed.isize (pos 1) ++ ⟦<Ipv6Net as Hash>⟧.hash_input n }
 {}
 
-/// The block of a network is a block, and networks without host bits are ordered as their blocks.
+/// The block of a network is valid. Networks without host bits are ordered as their blocks are.
 pub fn network_blocks()
     ensures blocks { BlockIsBlock }
     ensures ordered { OrderIsOfBlocks }
 {}
 
-/// `aggregate` of its own answer is that answer.
+/// `aggregate` doesn't change a list that it returned.
 pub fn aggregated_again()
     ensures { StaysAggregated }
 {}
 
-/// No text spells two networks; none is a network of both families. The functions find the one that a text spells.
+/// A text spells at most one network, of one family. The functions of the specifications find the network that a text spells.
 pub fn network_texts()
     ensures v4 { (text : List ℕ) (m n : Network) → ReadsIpv4 text m → ReadsIpv4 text n → m ≡ n }
     ensures v6 { (text : List ℕ) (m n : Network) → ReadsIpv6 text m → ReadsIpv6 text n → m ≡ n }
@@ -89,22 +90,22 @@ pub fn network_texts()
     ensures found { (text : List ℕ) → MatchOption (ip_net_of text) ((n : AnyNet) → Reads text n → ⊥) (Reads text) }
 {}
 
-/// No text of a network has a space or a line end, and none has more than 51 bytes.
+/// No text of a network contains a space or a line end, or has more than 51 bytes.
 pub fn network_bytes()
     ensures no_space { (text : List ℕ) (n : AnyNet) → Reads text n → All (λ c. c ≢ 32) text }
     ensures no_line_end { (text : List ℕ) (n : AnyNet) → Reads text n → All (λ c. c ≢ 10) text }
     ensures short { (text : List ℕ) (n : AnyNet) → Reads text n → length text ≤ 51 }
 {}
 
-/// No bytes are those of two networks, so that `from_bytes` reads what `to_bytes` gave.
+/// No two networks have the same bytes, so `from_bytes` returns the network that `to_bytes` was called on.
 pub fn byte_forms()
     ensures v4 { (bytes : List ℕ) (m n : Network) → HoldsIpv4 bytes m → HoldsIpv4 bytes n → m ≡ n }
     ensures v6 { (bytes : List ℕ) (m n : Network) → HoldsIpv6 bytes m → HoldsIpv6 bytes n → m ≡ n }
     ensures either { (bytes : List ℕ) (m n : AnyNet) → Holds bytes m → Holds bytes n → m ≡ n }
 {}
 
-/// No value spells two networks, and the string of a network's text spells it, so that `from_value`
-/// reads what `to_value` gave.
+/// A JSON value spells at most one network. The string of a network's text spells this network, so `from_value` returns the network
+/// that `to_value` was called on.
 pub fn json_values()
     ensures v4 { (value : Data) (m n : Network) → IsStringOf ReadsIpv4 value m → IsStringOf ReadsIpv4 value n → m ≡ n }
     ensures v6 { (value : Data) (m n : Network) → IsStringOf ReadsIpv6 value m → IsStringOf ReadsIpv6 value n → m ≡ n }
@@ -114,21 +115,21 @@ pub fn json_values()
     ensures back_either { (n : AnyNet) → IsNetwork (family n) (parts n) → IsStringOf Reads (string (net_text n)) n }
 {}
 
-/// Subnet iterators are ordered by family, start, end and least length.
+/// Subnet iterators are ordered by family, then start, then end, then least length.
 pub fn subnets_order()
     ensures v4 { (a b : Limits) → MatchOrdering (⟦<Ipv4Subnets as Ord>⟧.cmp a b) (IsLimitsBefore a b) (a ≡ b) (IsLimitsBefore b a) }
     ensures v6 { (a b : Limits) → MatchOrdering (⟦<Ipv6Subnets as Ord>⟧.cmp a b) (IsLimitsBefore a b) (a ≡ b) (IsLimitsBefore b a) }
     ensures either { (a b : AnySubnets) → MatchOrdering (⟦<IpSubnets as Ord>⟧.cmp a b) (IsSubnetsBefore a b) (a ≡ b) (IsSubnetsBefore b a) }
 {}
 
-/// `==` holds of one subnet iterator alone.
+/// `==` holds exactly for equal subnet iterators.
 pub fn subnets_equality()
     ensures v4 { (a b : Limits) → IsTrue (⟦<Ipv4Subnets as PartialEq>⟧.eq a b) ↔ (a ≡ b) }
     ensures v6 { (a b : Limits) → IsTrue (⟦<Ipv6Subnets as PartialEq>⟧.eq a b) ↔ (a ≡ b) }
     ensures either { (a b : AnySubnets) → IsTrue (⟦<IpSubnets as PartialEq>⟧.eq a b) ↔ (a ≡ b) }
 {}
 
-/// A clone of a subnet iterator is the same one, and cloning never fails.
+/// A clone of a subnet iterator equals it, and cloning never fails.
 pub fn subnets_clones()
     ensures v4 { (a b : Limits) → ⟦<Ipv4Subnets as Clone>⟧.is_clone a b → b ≡ a }
     ensures v6 { (a b : Limits) → ⟦<Ipv6Subnets as Clone>⟧.is_clone a b → b ≡ a }
@@ -138,7 +139,7 @@ pub fn subnets_clones()
     ensures made_either { (a : AnySubnets) → ⟦<IpSubnets as Clone>⟧.is_infallible a }
 {}
 
-/// A subnet iterator feeds a hasher its start, its end and its least length, one of either family the family first.
+/// A subnet iterator feeds a hasher its start, its end and its least length. An iterator of either family feeds its family before them.
 pub fn subnets_hashes()
     ensures v4 { (l : Limits) → ⟦<Ipv4Subnets as Hash>⟧.hash_input l ≡ fed.u32 l.start ++ (fed.u32 l.end ++ fed.u8 l.shortest) }
     ensures v6 { (l : Limits) → ⟦<Ipv6Subnets as Hash>⟧.hash_input l ≡ fed.u128 l.start ++ (fed.u128 l.end ++ fed.u8 l.shortest) }
@@ -146,7 +147,7 @@ pub fn subnets_hashes()
     ensures either_v6 { (l : Limits) → ⟦<IpSubnets as Hash>⟧.hash_input (IpSubnets.V6 l) ≡ fed.isize (pos 1) ++ ⟦<Ipv6Subnets as Hash>⟧.hash_input l }
 {}
 
-/// `==` holds of one error of a text alone; a clone of an error is the same, and cloning never fails.
+/// `==` holds exactly for equal parse errors. A clone of such an error equals it, and cloning never fails.
 pub fn addr_parse_errors()
     ensures equality { (a b : AnyError) → IsTrue (⟦<AddrParseError as PartialEq>⟧.eq a b) ↔ (a ≡ b) }
     ensures clones { (a b : AnyError) → ⟦<AddrParseError as Clone>⟧.is_clone a b → b ≡ a }

@@ -1,4 +1,4 @@
-//! Networks of IP addresses: sets of addresses by a common beginning, as text and as values.
+//! IP networks: sets of addresses with a common prefix, as text and as values.
 #![tactic(auto)]
 
 pub use contains::Contains;

@@ -1,4 +1,4 @@
-//! Networks of one family: an address, host bits kept, and a prefix length.
+//! Networks of one family: an address with its host bits, and a prefix length.
 ghost use Rattle.std.specs.Prelude.{◌≡◌, ℕ, ◌-◌, ◌^◌, ◌<◌, ◌≤◌, ◌↔◌, ⊤, IsTrue, IsOk, IfOk, MatchOption, MatchResult};
 ghost use Rattle.ipnet_addr.specs.Addresses.{width};
 ghost use Rattle.ipnet_addr.specs.Masks.{IsMask};
@@ -12,10 +12,10 @@ use ipnet_addr::number::Number;
 use std::alloc::AllocError;
 use std::marker::Model;
 
-/// A network of one family: an address, host bits kept, and a prefix length of at most the width of the family.
+/// A network of one family: an address with its host bits, and a prefix length of at most the width of the family.
 ///
-/// Contracts see it as the number of its address and its length. Its addresses are those that begin
-/// with the first `prefix_len` bits of its own. Ordered by address, then by length.
+/// Contracts see a network as the number of its address and its length. Its addresses are those that begin with the first `prefix_len`
+/// bits of its own address. Networks are ordered by address, then by length.
 #[derive(Copy, PartialEq, Eq, PartialOrd, Ord, Hash)]
 pub struct Net<N: Number> {
     number: N,
@@ -53,10 +53,10 @@ impl<N: Number> Clone for Net<N> {
 }
 
 impl<N: Number> Net<N> {
-    /// The network of this address and prefix length; host bits are kept.
+    /// Makes the network of this address and prefix length; host bits are kept.
     ///
     /// # Errors
-    /// `PrefixLenError` exactly where `prefix_len` is above the width of the family, 32 or 128.
+    /// `PrefixLenError` exactly if `prefix_len` is above the width of the family, 32 or 128.
     pub fn new(addr: N::Addr, prefix_len: u8) -> Result<Net<N>, PrefixLenError>
         ensures variant { IsOk result ↔ (prefix_len ≤ width N.family) }
         ensures parts { IfOk result (λ n. n ≡ record { number = N.addr_number addr; len = prefix_len }) }
@@ -67,7 +67,7 @@ impl<N: Number> Net<N> {
         Ok(Net::new_assert(addr, prefix_len))
     }
 
-    /// The network of this address and prefix length, at most the width of the family; host bits are kept.
+    /// Makes the network of this address and prefix length, which must be at most the width of the family; host bits are kept.
     pub fn new_assert(addr: N::Addr, prefix_len: u8) -> Net<N>
         requires { prefix_len ≤ width N.family }
         ensures { result ≡ record { number = N.addr_number addr; len = prefix_len } }
@@ -80,10 +80,10 @@ impl<N: Number> Net<N> {
         }
     }
 
-    /// The network of this address whose prefix length is the number of ones of the mask; host bits are kept.
+    /// Makes the network of this address; its prefix length is the number of ones of the mask, and host bits are kept.
     ///
     /// # Errors
-    /// `PrefixLenError` exactly where the mask isn't ones followed by zeros.
+    /// `PrefixLenError` exactly if the mask isn't ones followed by zeros.
     pub fn with_netmask(addr: N::Addr, netmask: N::Addr) -> Result<Net<N>, PrefixLenError>
         ensures { MatchResult result
             (λ n. (n.number ≡ N.addr_number addr) × IsMask (record { family = N.family; number = N.addr_number netmask }) n.len)
@@ -92,7 +92,7 @@ impl<N: Number> Net<N> {
         Ok(Net::new_assert(addr, mask_to_prefix::<N>(netmask)?))
     }
 
-    /// Its address, host bits too.
+    /// Returns the address of the network, with its host bits.
     pub fn addr(&self) -> N::Addr
         ensures value { N.addr_number result ≡ self.now.number }
         ensures within { self.now.number < 2 ^ width N.family }
@@ -100,7 +100,7 @@ impl<N: Number> Net<N> {
         self.number.to_addr()
     }
 
-    // The number of its address.
+    // The number of the network's address.
     pub(crate) fn number(&self) -> u128
         ensures value { result ≡ self.now.number }
         ensures within { result < 2 ^ width N.family }
@@ -108,7 +108,7 @@ impl<N: Number> Net<N> {
         self.number.to_bits()
     }
 
-    /// Its prefix length, 0 to the width of the family.
+    /// Returns the prefix length, from 0 to the width of the family.
     pub fn prefix_len(&self) -> u8
         ensures value { result ≡ self.now.len }
         ensures within { result ≤ width N.family }
@@ -116,42 +116,42 @@ impl<N: Number> Net<N> {
         self.len
     }
 
-    /// The greatest prefix length of its family, 32 or 128.
+    /// Returns the greatest prefix length of the family, 32 or 128.
     pub fn max_prefix_len(&self) -> u8
         ensures { result ≡ width N.family }
     {
         N::width()
     }
 
-    /// The mask of its prefix length: so many ones, and then zeros.
+    /// Returns the netmask: a one for each bit of the prefix, then zeros.
     pub fn netmask(&self) -> N::Addr
         ensures { IsMask (record { family = N.family; number = N.addr_number result }) self.now.len }
     {
         N::from_bits(mask_number(N::width(), self.len)).to_addr()
     }
 
-    /// The complement of the mask: zeros, and then a one for each host bit.
+    /// Returns the complement of the netmask: zeros, then a one for each host bit.
     pub fn hostmask(&self) -> N::Addr
         ensures { N.addr_number result ≡ 2 ^ (width N.family - self.now.len) - 1 }
     {
         N::from_bits(ones(N::width() - self.len)).to_addr()
     }
 
-    /// Its least address.
+    /// Returns the least address of the network.
     pub fn network(&self) -> N::Addr
         ensures { N.addr_number result ≡ first (block_of N.family self.now) }
     {
         self.trunc().number.to_addr()
     }
 
-    /// Its greatest address.
+    /// Returns the greatest address of the network.
     pub fn broadcast(&self) -> N::Addr
         ensures { N.addr_number result ≡ last (block_of N.family self.now) }
     {
         N::from_bits(filled(self.number.to_bits(), N::width() - self.len)).to_addr()
     }
 
-    /// The network with the same addresses and no host bits.
+    /// Returns the network without its host bits; it has the same addresses.
     pub fn trunc(&self) -> Net<N>
         ensures value { result ≡ net_of (block_of N.family self.now) }
         ensures network { IsNetwork N.family self.now }
@@ -162,7 +162,7 @@ impl<N: Number> Net<N> {
         }
     }
 
-    /// The network one bit shorter that holds it, without host bits; None exactly at length 0.
+    /// Returns the containing network that is one bit shorter, without host bits, or `None` exactly if the length is 0.
     pub fn supernet(&self) -> Option<Net<N>>
         ensures { MatchOption result (self.now.len ≡ 0) (λ n. (0 < self.now.len) × (n ≡ net_of (parent (block_of N.family self.now)))) }
     {
@@ -176,7 +176,7 @@ impl<N: Number> Net<N> {
         })
     }
 
-    /// Whether both have one length, above 0, and the supernet of one holds the other.
+    /// Returns whether the networks have the same length above 0 and the same supernet.
     pub fn is_sibling(&self, other: &Net<N>) -> bool
         ensures { IsTrue result ↔ AreSiblings (block_of N.family self.now) (block_of N.family other.now) }
     {
@@ -187,7 +187,7 @@ impl<N: Number> Net<N> {
     }
 }
 
-/// The whole family, `0.0.0.0/0` or `::/0`.
+/// The default is the whole family, `0.0.0.0/0` or `::/0`.
 impl<N: Number> Default for Net<N> {
     ghost is_default = { λ n. n ≡ record { number = 0; len = 0 } };
 

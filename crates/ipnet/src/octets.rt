@@ -1,4 +1,4 @@
-//! Networks of either family as bytes: one for the family, the octets of the address, and then the length.
+//! Networks of either family as bytes: one byte for the family, the octets of the address, then the length.
 ghost use Rattle.std.specs.Prelude.{◌≡◌};
 ghost use Rattle.std.specs.Net.Grammar.{Parses};
 ghost use Rattle.ipnet.specs.Forms.{net_bytes, Holds};
@@ -9,7 +9,7 @@ use crate::text::AddrParseError;
 use arrayvec::ArrayVec;
 
 impl IpNet {
-    /// A byte for its family, 0 (IPv4) or 1 (IPv6), and then the bytes of the network. Takes no memory.
+    /// Returns a byte for the family, 0 (IPv4) or 1 (IPv6), and then the bytes of the network. Does not allocate.
     pub fn to_bytes(&self) -> ArrayVec<u8, 18>
         ensures bytes { result.items ≡ net_bytes self.now }
         ensures holds { Holds result.items self.now }
@@ -28,11 +28,11 @@ impl IpNet {
         bytes
     }
 
-    /// The network of these bytes, the inverse of `to_bytes`. Takes no memory.
+    /// Reads the network that `to_bytes` made these bytes of. Does not allocate.
     ///
     /// # Errors
-    /// `AddrParseError` exactly where they are no network's: another first byte than 0 and 1, another
-    /// number of bytes, or a length above the width.
+    /// `AddrParseError` exactly if no network has these bytes: the first byte isn't 0 or 1, there are too few or too many bytes, or the
+    /// length is above the width of the family.
     pub fn from_bytes(bytes: &[u8]) -> Result<IpNet, AddrParseError>
         ensures { Parses Holds bytes.now result }
     {

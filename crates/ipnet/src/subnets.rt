@@ -1,4 +1,4 @@
-//! Subnet iterators: the largest blocks between two addresses, one after another.
+//! Subnet iterators: the largest blocks between two addresses, in order.
 ghost use Rattle.std.specs.Prelude.{◌≡◌, ◌≤◌, ◌↔◌, ⊤, IsOk, IfOk};
 ghost use Rattle.std.specs.Iterator.{YieldsFirst, item_count};
 ghost use Rattle.ipnet_addr.specs.Addresses.{width};
@@ -20,9 +20,9 @@ use ipnet_blocks::cut::first_cut;
 use std::alloc::AllocError;
 use std::marker::Model;
 
-/// The blocks of length at least a minimum between two addresses of one family that lie in no larger such block, ascending.
+/// The blocks between two addresses of one family whose length is at least a minimum and that no larger such block contains, ascending.
 ///
-/// Contracts see it as the numbers of the two addresses and the minimum. Ordered by start, end and minimum.
+/// Contracts see an iterator as the numbers of its start and end, and the minimum. Iterators are ordered by start, end and minimum.
 #[derive(Copy, Debug, PartialEq, Eq, PartialOrd, Ord, Hash)]
 pub struct Subnets<N: Number> {
     start: N,
@@ -61,8 +61,8 @@ impl<N: Number> Clone for Subnets<N> {
 }
 
 impl<N: Number> Subnets<N> {
-    /// The blocks of length at least `min_prefix_len`, at most the width of the family, from `start` to `end`; none where `start`
-    /// is above `end`.
+    /// The blocks from `start` to `end` of length at least `min_prefix_len`, which must be at most the width of the family. There are
+    /// none if `start` is above `end`.
     pub fn new(start: N::Addr, end: N::Addr, min_prefix_len: u8) -> Subnets<N>
         requires { min_prefix_len ≤ width N.family }
         ensures limits { result ≡ record { start = N.addr_number start; end = N.addr_number end; shortest = min_prefix_len } }
@@ -80,8 +80,8 @@ impl<N: Number> Subnets<N> {
     }
 }
 
-/// After each block the stored start is the address after it. After the block of the greatest address it is that address,
-/// and the end is 0; after a block of the last address alone the end is 0 too.
+/// After each block the iterator starts at the next address. If the block ends at the greatest address of the family, the start is this
+/// address and the end is 0. The end is also 0 after a block of only the last address.
 impl<N: Number> Iterator for Subnets<N> {
     type Item = Net<N>;
 
@@ -103,7 +103,7 @@ impl<N: Number> Iterator for Subnets<N> {
     }
 }
 
-/// A subnet iterator of either family. Ordered by family, IPv4 first, then as its family's.
+/// A subnet iterator of either family. Iterators are ordered by family, IPv4 first, then as those of the family.
 #[derive(Clone, Copy, Debug, PartialEq, Eq, PartialOrd, Ord, Hash)]
 pub enum IpSubnets {
     V4(Ipv4Subnets),
@@ -146,10 +146,10 @@ impl Iterator for IpSubnets {
 }
 
 impl<N: Number> Net<N> {
-    /// The networks of this prefix length inside it, ascending.
+    /// Returns the networks of this prefix length inside the network, in ascending order.
     ///
     /// # Errors
-    /// `PrefixLenError` exactly where the length is below its own or above the width of the family.
+    /// `PrefixLenError` exactly if `new_prefix_len` is below the network's own length or above the width of the family.
     pub fn subnets(&self, new_prefix_len: u8) -> Result<Subnets<N>, PrefixLenError>
         ensures variant { IsOk result ↔ ((self.now.len ≤ new_prefix_len) × (new_prefix_len ≤ width N.family)) }
         ensures limits { IfOk result (λ s. s ≡ record { start = first (block_of N.family self.now); end = last (block_of N.family self.now); shortest = new_prefix_len }) }
@@ -164,7 +164,7 @@ impl<N: Number> Net<N> {
 }
 
 impl IpNet {
-    /// The addresses of its hosts: of IPv4 below length 31 all but `network` and `broadcast`, else all.
+    /// Returns the addresses of the hosts: all but `network` and `broadcast` for IPv4 below length 31, and else all.
     pub fn hosts(&self) -> IpAddrRange
         ensures family { family_of result ≡ family self.now }
         ensures ends { ends_of result ≡ host_ends (block self.now) }
@@ -175,10 +175,10 @@ impl IpNet {
         }
     }
 
-    /// The networks of this prefix length inside it, ascending.
+    /// Returns the networks of this prefix length inside the network, in ascending order.
     ///
     /// # Errors
-    /// `PrefixLenError` exactly where the length is below its own or above the width of its family.
+    /// `PrefixLenError` exactly if `new_prefix_len` is below the network's own length or above the width of its family.
     pub fn subnets(&self, new_prefix_len: u8) -> Result<IpSubnets, PrefixLenError>
         ensures variant { IsOk result ↔ (((parts self.now).len ≤ new_prefix_len) × (new_prefix_len ≤ width (family self.now))) }
         ensures limits { IfOk result (λ s. s ≡ ip_limits (family self.now) (record { start = first (block self.now); end = last (block self.now); shortest = new_prefix_len })) }

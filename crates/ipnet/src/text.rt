@@ -1,4 +1,4 @@
-//! Networks as text: read by the grammar, printed in one way.
+//! Networks as text. Reading follows the grammar of the Rust crate ipnet 2.12.2; each network is printed in one way.
 ghost use Rattle.std.specs.Prelude.{◌≡◌, ℕ, ◌≤◌, ◌+◌, ◌++◌, List, Some, length};
 ghost use Rattle.std.specs.Fmt.{DisplaysOnOk, DisplaysStyledOnOk};
 ghost use Rattle.std.specs.Net.Grammar.{Parses};
@@ -19,33 +19,33 @@ use thiserror::Error;
 #[error("invalid IP address syntax")]
 pub struct AddrParseError(pub(crate) ());
 
-/// How the networks of a family are written.
+/// How networks of a family are read and printed.
 pub trait Written: Number {
-    /// The one printed text of a network.
+    /// The printed text of a network.
     ghost text: { Network → List ℕ };
 
-    /// The text spells this network, host bits too.
+    /// Whether the text spells this network, with its host bits.
     ghost reads: { List ℕ → Network → Type 0 };
 
-    /// How many bytes a printed text has at most.
+    /// The most bytes that a printed text has.
     ghost longest: { ℕ };
 
-    /// The printed text.
+    /// Returns the printed text.
     fn to_text(net: &Net<Self>) -> ArrayVec<u8, 43>
         ensures text { result.items ≡ text net.now }
         ensures reads { reads result.items net.now }
         ensures len { length result.items ≤ longest };
 
-    /// The network that these bytes spell.
+    /// Reads the network that these bytes spell.
     ///
     /// # Errors
-    /// `AddrParseError` exactly where they spell none.
+    /// `AddrParseError` exactly if these bytes spell no network.
     fn parse_ascii(bytes: &[u8]) -> Result<Net<Self>, AddrParseError>
         ensures { Parses reads bytes.now result };
 }
 
 impl<N: Written> Net<N> {
-    /// The text that `Display` writes, at most 18 bytes of an IPv4 network, 43 of an IPv6 one. Takes no memory.
+    /// Returns the text that `Display` writes, at most 18 bytes for IPv4 and 43 for IPv6. Does not allocate.
     pub fn to_text(&self) -> ArrayVec<u8, 43>
         ensures text { result.items ≡ N.text self.now }
         ensures reads { N.reads result.items self.now }
@@ -54,10 +54,10 @@ impl<N: Written> Net<N> {
         <N as Written>::to_text(self)
     }
 
-    /// The network that these bytes spell, as `from_str` reads it. Takes no memory.
+    /// Reads the network that these bytes spell, as `from_str` does. Does not allocate.
     ///
     /// # Errors
-    /// `AddrParseError` exactly where they spell none.
+    /// `AddrParseError` exactly if these bytes spell no network.
     pub fn parse_ascii(text: &[u8]) -> Result<Net<N>, AddrParseError>
         ensures { Parses N.reads text.now result }
     {
@@ -75,8 +75,8 @@ impl<N: Written> FromStr for Net<N> {
     }
 }
 
-/// The address, a slash and the length; an IPv4 address as four decimal octets, an IPv6 one as RFC 5952 writes it. Width, fill
-/// and sign of the formatter are ignored.
+/// Writes the address, a slash and the length. An IPv4 address is four decimal octets, and an IPv6 address is written as in RFC 5952.
+/// The formatter's width, fill and sign are ignored.
 impl<N: Written> fmt::Display for Net<N> {
     ghost output = { λ n. Some (N.text n) };
 
@@ -88,7 +88,7 @@ impl<N: Written> fmt::Display for Net<N> {
     }
 }
 
-/// The text of `Display`.
+/// Writes the text of `Display`.
 impl<N: Written> fmt::Debug for Net<N> {
     ghost debug_output = { λ n. Some (N.text n) };
 
@@ -101,7 +101,7 @@ impl<N: Written> fmt::Debug for Net<N> {
 }
 
 impl IpNet {
-    /// The text that `Display` writes, at most 43 bytes. Takes no memory.
+    /// Returns the text that `Display` writes, at most 43 bytes. Does not allocate.
     pub fn to_text(&self) -> ArrayVec<u8, 43>
         ensures text { result.items ≡ net_text self.now }
         ensures reads { Reads result.items self.now }
@@ -112,7 +112,7 @@ impl IpNet {
         out
     }
 
-    /// Appends the text of `to_text`. There must be room for the longest, of 43 bytes. Takes no memory.
+    /// Appends the text of `to_text`. There must be room for 43 bytes, the longest text. Does not allocate.
     pub fn push_text<const CAPACITY: usize>(&self, out: &mut ArrayVec<u8, CAPACITY>)
         requires { array_vec_len out.old + 43 ≤ CAPACITY }
         ensures text { out.new.items ≡ out.old.items ++ net_text self.now }
@@ -125,10 +125,10 @@ impl IpNet {
         }
     }
 
-    /// The network that these bytes spell, as `from_str` reads it. Takes no memory.
+    /// Reads the network that these bytes spell, as `from_str` does. Does not allocate.
     ///
     /// # Errors
-    /// `AddrParseError` exactly where they spell none.
+    /// `AddrParseError` exactly if these bytes spell no network.
     pub fn parse_ascii(text: &[u8]) -> Result<IpNet, AddrParseError>
         ensures { Parses Reads text.now result }
     {
@@ -152,7 +152,7 @@ impl FromStr for IpNet {
     }
 }
 
-/// The text of the network in its family.
+/// Writes the text of the network in its family.
 impl fmt::Display for IpNet {
     ghost output = { λ n. Some (net_text n) };
 
@@ -164,7 +164,7 @@ impl fmt::Display for IpNet {
     }
 }
 
-/// The text of `Display`.
+/// Writes the text of `Display`.
 impl fmt::Debug for IpNet {
     ghost debug_output = { λ n. Some (net_text n) };
 

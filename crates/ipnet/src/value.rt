@@ -1,4 +1,4 @@
-//! Networks as JSON values: one string with the printed text.
+//! Networks as JSON values: a string with the printed text.
 ghost use Rattle.std.specs.Prelude.{◌≡◌, IfOk, MatchResult};
 ghost use Rattle.serde_json.specs.Data.{string};
 ghost use Rattle.serde_json.specs.View.{view};
@@ -15,20 +15,20 @@ use std::alloc::{AllocError, Global};
 use std::str::FromStr;
 
 impl<N: Written> Net<N> {
-    /// The string value of its text.
+    /// Returns the network's text as a JSON string.
     ///
     /// # Errors
-    /// `AllocError` where there is no memory for the string.
+    /// `AllocError` if an allocation fails.
     pub fn to_value(&self, alloc: Global) -> Result<Value, AllocError>
         ensures { IfOk result (λ v. view v ≡ string (N.text self.now)) }
     {
         Ok(Value::String(format!(in alloc; "{self}")?))
     }
 
-    /// The network that a string value spells.
+    /// Reads the network that a JSON string spells.
     ///
     /// # Errors
-    /// `AddrParseError` exactly where the value is no string, or one that spells no network.
+    /// `AddrParseError` exactly if the value isn't a string that spells a network.
     pub fn from_value(value: &Value) -> Result<Net<N>, AddrParseError>
         ensures { MatchResult result (IsStringOf N.reads (view value.now)) (λ _. (n : Network) → IsStringOf N.reads (view value.now) n → ⊥) }
     {
@@ -40,10 +40,10 @@ impl<N: Written> Net<N> {
 }
 
 impl IpNet {
-    /// The string value of its text.
+    /// Returns the network's text as a JSON string.
     ///
     /// # Errors
-    /// `AllocError` where there is no memory for the string.
+    /// `AllocError` if an allocation fails.
     pub fn to_value(&self, alloc: Global) -> Result<Value, AllocError>
         ensures { IfOk result (λ v. view v ≡ string (net_text self.now)) }
     {
@@ -53,10 +53,10 @@ impl IpNet {
         }
     }
 
-    /// The network that a string value spells.
+    /// Reads the network that a JSON string spells.
     ///
     /// # Errors
-    /// `AddrParseError` exactly where the value is no string, or one that spells no network.
+    /// `AddrParseError` exactly if the value isn't a string that spells a network.
     pub fn from_value(value: &Value) -> Result<IpNet, AddrParseError>
         ensures { MatchResult result (IsStringOf Reads (view value.now)) (λ _. (n : AnyNet) → IsStringOf Reads (view value.now) n → ⊥) }
     {

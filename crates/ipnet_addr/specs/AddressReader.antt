@@ -1,14 +1,14 @@
--- What the functions of the reader compute. That they read the grammar is the law `address_texts`.
+-- The functions that the address reader computes. The theorem `address_texts` says that they read the grammar.
 use Rattle.std.specs.Prelude.{ℕ, zero, suc, ◌-◌, Bool, true, false, List, [], ◌∷◌, ◌++◌, length, drop, replicate, Option, Some, None, ◌==◌, nat_lt, if◌then◌else◌, option_and_then}
 use Rattle.std.specs.Net.Addr.{segments_of}
 use Rattle.std.specs.Net.Reader.{Read, read_byte, read_number, read_separator, map_or, Segments, after, dot, colon}
 
--- goes on by f with the value, where there is one
+-- applies f to the value, if there is one
 infixl 10 ◌>>=◌
 abbrev ◌>>=◌ : {A B : Type 0} → Option A → (A → Option B) → Option B
 o >>= f = option_and_then f o
 
--- a number of at most so many digits
+-- a number of at most `digits` digits
 unfoldable pub read_short : ℕ → ℕ → ℕ → List ℕ → Read ℕ
 read_short radix digits max text = do
   n ← read_number radix max text
@@ -34,11 +34,11 @@ read_ipv4 text = do
 abbrev pub read_group : List ℕ → Read ℕ
 read_group text = read_short 16 4 0xffff text
 
--- an IPv4 address at the end of an IPv6 address, where it fits
+-- an IPv4 address at the end of an IPv6 address, if it fits
 abbrev pub read_ipv4_if : Bool → List ℕ → Read (List ℕ)
 read_ipv4_if fits text = if fits then read_ipv4 text else None
 
--- at most this many units, whether they end in an IPv4 address, and the text after them
+-- at most this many units, whether an IPv4 address ends them, and the text after them
 unfoldable pub read_units : ℕ → Bool → List ℕ → Segments
 read_units zero first text = ([], false, text)
 read_units (suc room) first text =
@@ -48,7 +48,7 @@ read_units (suc room) first text =
     (read_units room false u.1))
     λ ip. (segments_of ip.0, true, ip.1)
 
--- what follows a head of fewer than eight units
+-- the text after a head of fewer than eight units
 abbrev pub read_tail : List ℕ → List ℕ → Read (List ℕ)
 read_tail head text = do
   one ← read_byte colon text

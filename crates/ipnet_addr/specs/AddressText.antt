@@ -1,9 +1,9 @@
--- The texts that spell an address, each beside what it spells: whole texts, by cases.
+-- The texts that spell an address, with the address: relations on whole texts, by cases.
 use Rattle.std.specs.Prelude.{◌≡◌, ℕ, ◌+◌, ◌-◌, ◌≤◌, ◌⊎◌, Bool, true, false, List, [], ◌∷◌, ◌++◌, length, replicate, codes, IsTrue}
 use Rattle.std.specs.Net.Addr.{segments_of}
 use Rattle.std.specs.Net.Grammar.{IsNumber}
 
--- at least one and at most `digits` digits of this radix, leading zeros allowed, that write n, which is at most `max`
+-- one to `digits` digits of this radix, leading zeros allowed, whose value n is at most `max`
 pub record IsShort (radix digits max : ℕ) (text : List ℕ) (n : ℕ) : Type 0 where
   pub number : IsNumber radix text n
   pub short : length text ≤ digits

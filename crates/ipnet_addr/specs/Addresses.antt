@@ -15,7 +15,7 @@ abbrev pub width : Family → ℕ
 width Ipv4 = 32
 width Ipv6 = 128
 
--- the place of a family in the order: IPv4 before IPv6
+-- the rank of a family in the order: IPv4 before IPv6
 abbrev pub rank : Family → ℕ
 rank Ipv4 = 0
 rank Ipv6 = 1
@@ -24,12 +24,12 @@ rank Ipv6 = 1
 abbrev pub same_family : Family → Family → Bool
 same_family f g = rank f == rank g
 
--- an address is a family and a number, its octets read as one number with the most significant first
+-- an address is a family and a number: its octets read as one number, the most significant first
 pub record Address : Type 0 where
   pub family : Family
   pub number : ℕ
 
--- the number is one of the family's
+-- the number is in the range of the family
 abbrev pub IsAddress : Address → Type 0
 IsAddress x = x.number < 2 ^ width x.family
 

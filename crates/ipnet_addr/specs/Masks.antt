@@ -2,7 +2,7 @@
 use Rattle.std.specs.Prelude.{◌≡◌, ℕ, ◌-◌, ◌*◌, ◌^◌, ◌≤◌}
 use Rattle.ipnet_addr.specs.Addresses.{Address, width}
 
--- `len` ones and then zeros, so many bits in all
+-- `len` ones followed by zeros, `bits` bits in all
 abbrev pub mask_bits : ℕ → ℕ → ℕ
 mask_bits bits len = (2 ^ len - 1) * 2 ^ (bits - len)
 

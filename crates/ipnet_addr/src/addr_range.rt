@@ -1,4 +1,4 @@
-//! Ranges of addresses of one family, from both ends.
+//! Ranges of addresses of one family, as iterators from both ends.
 ghost use Rattle.std.specs.Prelude.{◌≡◌, ◌+◌, ◌<◌, ◌^◌, ⊤, length, slice_get, reverse, IfSome, option_map};
 ghost use Rattle.std.specs.Iterator.{YieldsFirstBy, YieldsLastBy, item_count, UpTo};
 ghost use Rattle.std.specs.Iterator.SizeHint.{IsExactHint, IsWithinCount};
@@ -9,9 +9,9 @@ use crate::ranges::{count_numbers, hint_numbers, nth_back_number, nth_number};
 use std::alloc::AllocError;
 use std::marker::Model;
 
-/// The addresses from one to another; none where the first is above the last.
+/// The addresses from `start` to `end`, both included; an empty range if `start` is above `end`.
 ///
-/// Contracts see it as the numbers of its two ends. Ordered by its start, then by its end.
+/// Contracts see a range as the numbers of its two ends. Ranges are ordered by start, then by end.
 #[derive(Copy, Debug, PartialEq, Eq, PartialOrd, Ord, Hash)]
 pub struct AddrRange<N: Number> {
     start: N,
@@ -49,7 +49,7 @@ impl<N: Number> Clone for AddrRange<N> {
 }
 
 impl<N: Number> AddrRange<N> {
-    /// The addresses from `start` to `end`, none where `start` is above `end`.
+    /// The addresses from `start` to `end`, both included; an empty range if `start` is above `end`.
     pub fn new(start: N::Addr, end: N::Addr) -> AddrRange<N>
         ensures { result ≡ record { start = N.addr_number start; end = N.addr_number end } }
     {
@@ -59,7 +59,7 @@ impl<N: Number> AddrRange<N> {
         AddrRange { start, end }
     }
 
-    /// The address that n + 1 calls of `next` answer last; it leaves what they leave. In constant time.
+    /// Returns the address that the last of n + 1 calls of `next` returns, and leaves the range as these calls do. In constant time.
     pub fn nth(&mut self, n: usize) -> Option<N::Addr>
         ensures answer { option_map N.addr_number result ≡ slice_get (numbers self.old) n }
         ensures ends { self.new ≡ times (n + 1) after_front self.old }
@@ -70,7 +70,7 @@ impl<N: Number> AddrRange<N> {
         Some(N::from_bits(step.answer?).to_addr())
     }
 
-    /// The address that n + 1 calls of `next_back` answer last; it leaves what they leave. In constant time.
+    /// Returns the address that the last of n + 1 calls of `next_back` returns, and leaves the range as these calls do. In constant time.
     pub fn nth_back(&mut self, n: usize) -> Option<N::Addr>
         ensures answer { option_map N.addr_number result ≡ slice_get (reverse (numbers self.old)) n }
         ensures ends { self.new ≡ times (n + 1) after_back self.old }
@@ -81,14 +81,14 @@ impl<N: Number> AddrRange<N> {
         Some(N::from_bits(step.answer?).to_addr())
     }
 
-    /// The last address, `None` where there is none. In constant time.
+    /// Returns the last address, or `None` if the range is empty. In constant time.
     pub fn last(mut self) -> Option<N::Addr>
         ensures { option_map N.addr_number result ≡ slice_get (reverse (numbers self)) 0 }
     {
         self.nth_back(0)
     }
 
-    /// The least address, `None` where there is none. In constant time.
+    /// Returns the least address, or `None` if the range is empty. In constant time.
     #[tactic(auto, using(crate::proofs::RangeCalls::least_is))]
     pub fn min(mut self) -> Option<N::Addr>
         ensures { IsMinimum (numbers self) (option_map N.addr_number result) }
@@ -96,7 +96,7 @@ impl<N: Number> AddrRange<N> {
         self.nth(0)
     }
 
-    /// The greatest address, `None` where there is none. In constant time.
+    /// Returns the greatest address, or `None` if the range is empty. In constant time.
     #[tactic(auto, using(crate::proofs::RangeCalls::greatest_is))]
     pub fn max(self) -> Option<N::Addr>
         ensures { IsMaximum (numbers self) (option_map N.addr_number result) }
@@ -106,7 +106,7 @@ impl<N: Number> AddrRange<N> {
 }
 
 impl AddrRange<u32> {
-    /// How many addresses there are, at most 2^32. In constant time.
+    /// Returns the number of addresses, at most 2^32. In constant time.
     pub fn count(self) -> usize
         ensures { result ≡ length (numbers self) }
     {
@@ -115,7 +115,7 @@ impl AddrRange<u32> {
 }
 
 impl AddrRange<u128> {
-    /// How many addresses there are. In constant time.
+    /// Returns the number of addresses, which must be below 2^64. In constant time.
     pub fn count(self) -> usize
         requires { length (numbers self) < 2 ^ 64 }
         ensures { result ≡ length (numbers self) }

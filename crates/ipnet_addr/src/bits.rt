@@ -1,5 +1,5 @@
-//! Addresses of numbers, and the last bits of a number: cleared, set, taken away.
-//! For the crates above; not part of the promise.
+//! Conversions from numbers to addresses, and operations on the last bits of a number: clear, set, drop. For the crates above; not part of
+//! the promise.
 ghost use Rattle.std.specs.Prelude.{◌≡◌, ℕ, ◌+◌, ◌-◌, ◌*◌, ◌/◌, ◌^◌, ◌<◌, ◌≤◌};
 ghost use Rattle.std.specs.Net.Addr.{ipv4_bits, ipv6_bits};
 
@@ -21,7 +21,7 @@ pub fn ipv6_of(number: u128) -> Ipv6Addr
     Ipv6Addr::from_bits(number)
 }
 
-/// The number of `count` ones; `count` is at most 128.
+/// The number of `count` one bits; `count` is at most 128.
 pub fn ones(count: u8) -> u128
     requires { count ≤ 128 }
     ensures { result ≡ 2 ^ count - 1 }
@@ -33,7 +33,7 @@ pub fn ones(count: u8) -> u128
     }
 }
 
-/// The number without its last `free` bits, at most 128.
+/// The number without its last `free` bits; `free` is at most 128.
 pub fn quotient(number: u128, free: u8) -> u128
     requires { free ≤ 128 }
     ensures { result ≡ number / 2 ^ free }
@@ -41,7 +41,7 @@ pub fn quotient(number: u128, free: u8) -> u128
     if free == 128 { 0 } else { number >> free }
 }
 
-/// The number with its last `free` bits, at most 128, cleared.
+/// The number with its last `free` bits cleared; `free` is at most 128.
 pub fn cleared(number: u128, free: u8) -> u128
     requires { free ≤ 128 }
     ensures value { result ≡ number / 2 ^ free * 2 ^ free }
@@ -54,7 +54,7 @@ pub fn cleared(number: u128, free: u8) -> u128
     }
 }
 
-/// The number with its last `free` bits, at most 128, set.
+/// The number with its last `free` bits set; `free` is at most 128.
 pub fn filled(number: u128, free: u8) -> u128
     requires { free ≤ 128 }
     ensures value { result ≡ number / 2 ^ free * 2 ^ free + (2 ^ free - 1) }
@@ -63,7 +63,7 @@ pub fn filled(number: u128, free: u8) -> u128
     cleared(number, free) + ones(free)
 }
 
-/// How many bits the number has, leading zeros apart; 0 has none.
+/// The number of bits of the number without leading zeros; 0 for the number 0.
 pub(crate) fn bit_len(number: u128) -> u8
     ensures below { number < 2 ^ result }
     ensures shortest { 0 < result → 2 ^ (result - 1) ≤ number }

@@ -1,4 +1,4 @@
-//! Ranges of addresses of either family, from both ends.
+//! Ranges of addresses of either family, as iterators from both ends.
 ghost use Rattle.std.specs.Prelude.{◌≡◌, ◌+◌, ◌<◌, ◌^◌, length, slice_get, reverse, IfSome, option_map};
 ghost use Rattle.std.specs.Iterator.{YieldsFirstBy, YieldsLastBy, item_count, UpTo};
 ghost use Rattle.std.specs.Iterator.SizeHint.{IsExactHint, IsWithinCount};
@@ -9,7 +9,7 @@ ghost use Rattle.ipnet_addr.specs.Ranges.{numbers, after_front, after_back, time
 use crate::addr_range::{Ipv4AddrRange, Ipv6AddrRange};
 use std::net::IpAddr;
 
-/// A range of either family. Ordered by family, IPv4 first, then by its ends.
+/// A range of either family. Ranges are ordered by family, IPv4 first, then by start and end.
 #[derive(Clone, Copy, Debug, PartialEq, Eq, PartialOrd, Ord, Hash)]
 pub enum IpAddrRange {
     V4(Ipv4AddrRange),
@@ -37,7 +37,7 @@ impl From<Ipv6AddrRange> for IpAddrRange {
 }
 
 impl IpAddrRange {
-    /// The address that n + 1 calls of `next` answer last; it leaves what they leave. In constant time.
+    /// Returns the address that the last of n + 1 calls of `next` returns, and leaves the range as these calls do. In constant time.
     pub fn nth(&mut self, n: usize) -> Option<IpAddr>
         ensures answer { option_map address_of result ≡ slice_get (addresses self.old) n }
         ensures ends { self.new ≡ with_ends (times (n + 1) after_front) self.old }
@@ -48,7 +48,7 @@ impl IpAddrRange {
         }
     }
 
-    /// The address that n + 1 calls of `next_back` answer last; it leaves what they leave. In constant time.
+    /// Returns the address that the last of n + 1 calls of `next_back` returns, and leaves the range as these calls do. In constant time.
     pub fn nth_back(&mut self, n: usize) -> Option<IpAddr>
         ensures answer { option_map address_of result ≡ slice_get (reverse (addresses self.old)) n }
         ensures ends { self.new ≡ with_ends (times (n + 1) after_back) self.old }
@@ -59,7 +59,7 @@ impl IpAddrRange {
         }
     }
 
-    /// How many addresses there are. In constant time.
+    /// Returns the number of addresses, which must be below 2^64. In constant time.
     pub fn count(self) -> usize
         requires { length (addresses self) < 2 ^ 64 }
         ensures { result ≡ length (addresses self) }
@@ -70,14 +70,14 @@ impl IpAddrRange {
         }
     }
 
-    /// The last address, `None` where there is none. In constant time.
+    /// Returns the last address, or `None` if the range is empty. In constant time.
     pub fn last(mut self) -> Option<IpAddr>
         ensures { option_map address_of result ≡ slice_get (reverse (addresses self)) 0 }
     {
         self.nth_back(0)
     }
 
-    /// The least address, `None` where there is none. In constant time.
+    /// Returns the least address, or `None` if the range is empty. In constant time.
     pub fn min(self) -> Option<IpAddr>
         ensures least { IsMinimum (numbers (ends_of self)) (option_map (λ a. (address_of a).number) result) }
         ensures family { IfSome result (λ a. (address_of a).family ≡ family_of self) }
@@ -88,7 +88,7 @@ impl IpAddrRange {
         }
     }
 
-    /// The greatest address, `None` where there is none. In constant time.
+    /// Returns the greatest address, or `None` if the range is empty. In constant time.
     pub fn max(self) -> Option<IpAddr>
         ensures greatest { IsMaximum (numbers (ends_of self)) (option_map (λ a. (address_of a).number) result) }
         ensures family { IfSome result (λ a. (address_of a).family ≡ family_of self) }

@@ -1,12 +1,12 @@
-//! Arithmetic of addresses by their numbers, as in the Rust crate ipnet 2.12.2. Nothing wraps: a result past the greatest
-//! or the least number is that number.
+//! Saturating arithmetic of addresses, by their numbers, as in the Rust crate ipnet 2.12.2. A result above the greatest number
+//! becomes the greatest number, and a result below 0 becomes 0.
 ghost use Rattle.std.specs.Prelude.{◌≡◌, ℕ, ◌+◌, ◌-◌, ◌^◌, min, bit_and, bit_or};
 ghost use Rattle.std.specs.Net.Addr.{ipv4_bits, ipv6_bits};
 
 use crate::bits::{ipv4_of, ipv6_of};
 use std::net::{Ipv4Addr, Ipv6Addr};
 
-/// Steps to the neighbours of an address, and to the addresses 1 and 0.
+/// The next and the previous address, and replacement by the addresses 0 and 1.
 pub trait IpStep {
     /// The number of an address.
     ghost number: { Self → ℕ };
@@ -14,21 +14,21 @@ pub trait IpStep {
     /// The greatest number of an address.
     ghost greatest: { ℕ };
 
-    /// Sets the address to that of the number 1, and answers the old one.
+    /// Sets the address to number 1, and returns the old address.
     fn replace_one(&mut self) -> Self
         ensures old { result ≡ self.old }
         ensures one { number self.new ≡ 1 };
 
-    /// Sets the address to that of the number 0, and answers the old one.
+    /// Sets the address to number 0, and returns the old address.
     fn replace_zero(&mut self) -> Self
         ensures old { result ≡ self.old }
         ensures zero { number self.new ≡ 0 };
 
-    /// The next address, or the greatest at its end.
+    /// Returns the next address; the greatest address stays.
     fn add_one(&self) -> Self
         ensures { number result ≡ min (number self.now + 1) greatest };
 
-    /// The address before it, or 0 at 0.
+    /// Returns the previous address; the address 0 stays.
     fn sub_one(&self) -> Self
         ensures { number result ≡ number self.now - 1 };
 }
@@ -85,50 +85,51 @@ impl IpStep for Ipv6Addr {
     }
 }
 
-/// The sum with a number, at most the greatest address.
+/// The sum of an address and a number, at most the greatest address.
 pub trait IpAdd<RHS> {
     type Output;
 
-    /// Whether this is the sum.
+    /// Whether the third is the sum of the first two.
     ghost added: { Self → RHS → Self.Output → Type 0 };
 
-    /// The sum, or the greatest address where it is past that.
+    /// False only if the text doesn't begin with an IPv4 address: it has at least four bytes, and none of the second to the fourth is a
+    /// dot.
     fn saturating_add(self, rhs: RHS) -> Self::Output
         ensures { added self rhs result };
 }
 
-/// The difference to a number or an address, at least 0.
+/// The difference of an address and a number, or of two addresses, at least 0.
 pub trait IpSub<RHS> {
     type Output;
 
-    /// Whether this is the difference.
+    /// Whether the third is the difference of the first two.
     ghost subtracted: { Self → RHS → Self.Output → Type 0 };
 
-    /// The difference, or 0 where it is below that.
+    /// Returns the difference, or 0 if it is negative.
     fn saturating_sub(self, rhs: RHS) -> Self::Output
         ensures { subtracted self rhs result };
 }
 
-/// The bits that both have.
+/// The bitwise AND of an address and a number, or of two addresses.
 pub trait IpBitAnd<RHS> {
     type Output;
 
-    /// Whether these are the bits.
+    /// Whether the third is the AND of the first two.
     ghost common: { Self → RHS → Self.Output → Type 0 };
 
-    /// The address of the bits that both have.
+    /// Returns the address whose bits are set in both.
     fn bitand(self, rhs: RHS) -> Self::Output
         ensures { common self rhs result };
 }
 
-/// The bits that one of both has.
+/// The bitwise OR of an address and a number, or of two addresses.
 pub trait IpBitOr<RHS> {
     type Output;
 
-    /// Whether these are the bits.
+    /// Whether the third is the OR of the first two.
     ghost either: { Self → RHS → Self.Output → Type 0 };
 
-    /// The address of the bits that one of both has.
+    /// Returns the address whose bits are set in at least one of the two.
     fn bitor(self, rhs: RHS) -> Self::Output
         ensures { either self rhs result };
 }

@@ -1,37 +1,37 @@
-//! The numbers that prefixes are made of.
+//! The unsigned numbers that prefixes are made of.
 ghost use Rattle.std.specs.Prelude.{◌≡◌, ℕ, ◌-◌, ◌*◌, ◌/◌, ◌%◌, ◌<◌, ◌≤◌, ◌^◌, refl};
 
 /// An unsigned number of 8, 16, 32, 64 or 128 bits.
 pub trait Key: Copy + Drop {
-    /// How many bits it has.
+    /// The number of bits.
     ghost width: { ℕ };
 
-    /// The number itself, below two to the width.
+    /// The value of a key, below two to the width.
     ghost number: { Self → ℕ };
 
-    /// The key of a number.
+    /// The key of a value.
     ghost of_number: { ℕ → Self };
 
-    /// A number stands for one key.
+    /// Two keys with the same value are the same key.
     ghost named: { (x : Self) → of_number (number x) ≡ x };
 
-    /// How many bits a key has.
+    /// Returns the number of bits of a key.
     fn width() -> u8
         ensures value { result ≡ width }
         ensures positive { 0 < result }
         ensures within { result ≤ 128 };
 
-    /// The key as a number.
+    /// Returns the value of the key.
     fn to_bits(self) -> u128
         ensures value { result ≡ number self }
         ensures below { result < 2 ^ width };
 
-    /// The key that a number is.
+    /// Returns the key of this value.
     fn from_bits(bits: u128) -> Self
         requires { bits < 2 ^ width }
         ensures { result ≡ of_number bits };
 
-    /// The key whose first `len` bits are set.
+    /// Returns the key whose first `len` bits are set, and no others.
     #[inline]
     fn mask(len: u8) -> Self
         requires { len ≤ width }
@@ -44,7 +44,7 @@ pub trait Key: Copy + Drop {
         Self::from_bits(whole - (whole >> len))
     }
 
-    /// The key with its bits moved up by `count`: the first ones fall off, and zeros follow.
+    /// Returns the key shifted left by `count`: its first `count` bits are dropped, and zeros fill the end.
     #[inline]
     fn shifted_left(self, count: u8) -> Self
         requires { count ≤ width }
@@ -58,7 +58,7 @@ pub trait Key: Copy + Drop {
         Self::from_bits(bits << free << count >> free)
     }
 
-    /// The key with its bits moved down by `count`: the last ones fall off, and zeros come before.
+    /// Returns the key shifted right by `count`: its last `count` bits are dropped, and zeros fill the front.
     #[inline]
     fn shifted_right(self, count: u8) -> Self
         requires { count ≤ width }
@@ -71,7 +71,7 @@ pub trait Key: Copy + Drop {
         Self::from_bits(bits >> count)
     }
 
-    /// A key has its number.
+    /// Each value below two to the width is the value of its key.
     ghost numbered: { (n : ℕ) → n < 2 ^ width → number (of_number n) ≡ n };
 }
 

@@ -1,4 +1,4 @@
-//! Laws of addresses, their texts and their ranges: public functions without a body, whose contracts are the laws.
+//! Theorems about addresses, their texts and their ranges: public functions without a body, whose contracts are the theorems.
 ghost use Rattle.std.specs.Prelude.{◌≡◌, ◌↔◌, ◌++◌, ℕ, IsTrue, pos};
 ghost use Rattle.std.specs.Hash as fed;
 ghost use Rattle.std.specs.Int.Digits.{number_from_digits};
@@ -19,20 +19,20 @@ use crate::ip_range::IpAddrRange;
 use crate::mask::PrefixLenError;
 use std::hash::Hash;
 
-/// The number of an address is the one that its octets, or its units of 16 bits, write, the most significant first.
+/// The number of an address is read from its octets, or from its units of 16 bits, the most significant first.
 pub fn address_number()
     ensures v4 { (a : Ipv4Addr) → IsIpv4Addr a → ipv4_bits a ≡ number_from_digits 256 (ipv4_octets a) }
     ensures v6 { (a : Ipv6Addr) → IsIpv6Addr a → ipv6_bits a ≡ number_from_digits 65536 (ipv6_segments a) }
 {}
 
-/// No two addresses of a family have one number.
+/// Two addresses of a family with the same number are the same address.
 pub fn same_number()
     ensures v4 { (a b : Ipv4Addr) → IsIpv4Addr a → IsIpv4Addr b → ipv4_bits a ≡ ipv4_bits b → a ≡ b }
     ensures v6 { (a b : Ipv6Addr) → IsIpv6Addr a → IsIpv6Addr b → ipv6_bits a ≡ ipv6_bits b → a ≡ b }
 {}
 
-/// What is read of a text spells what is read, and a whole text is read exactly where it spells something: short numbers,
-/// IPv4 addresses and IPv6 addresses.
+/// If a reader returns a value, the text that it read spells this value. A whole text is read exactly if it spells a value: a short
+/// number, an IPv4 address or an IPv6 address.
 pub fn address_texts()
     ensures short { ShortIsRead }
     ensures v4 { Ipv4IsRead }
@@ -44,26 +44,26 @@ pub fn mask_length()
     ensures { (m : Address) (a b : ℕ) → IsMask m a → IsMask m b → a ≡ b }
 {}
 
-/// Whatever calls of `next`, `next_back`, `nth` and `nth_back` follow one another on a range, they give no address twice.
+/// No sequence of calls of `next`, `next_back`, `nth` and `nth_back` on a range returns an address twice.
 #[tactic(auto, using(crate::proofs::EachOnce::gives_each_once))]
 pub fn range_calls()
     ensures { GivesEachOnce }
 {}
 
-/// After a call of a range that answers nothing, every call answers nothing.
+/// After one call of a range returned `None`, every later call returns `None`.
 #[tactic(auto, using(crate::proofs::AfterNone::stays_empty))]
 pub fn range_stays_empty()
     ensures { StaysEmpty }
 {}
 
-/// Ranges are ordered by family, start and end.
+/// Ranges are ordered by family, then start, then end.
 pub fn range_order()
     ensures v4 { (a b : Ends) → MatchOrdering (⟦<Ipv4AddrRange as Ord>⟧.cmp a b) (IsEndsBefore a b) (a ≡ b) (IsEndsBefore b a) }
     ensures v6 { (a b : Ends) → MatchOrdering (⟦<Ipv6AddrRange as Ord>⟧.cmp a b) (IsEndsBefore a b) (a ≡ b) (IsEndsBefore b a) }
     ensures either { (a b : AnyRange) → MatchOrdering (⟦<IpAddrRange as Ord>⟧.cmp a b) (IsRangeBefore a b) (a ≡ b) (IsRangeBefore b a) }
 {}
 
-/// `==` holds of one range alone.
+/// `==` holds exactly for equal ranges.
 pub fn range_equality()
     ensures v4 { (a b : Ends) → IsTrue (⟦<Ipv4AddrRange as PartialEq>⟧.eq a b) ↔ (a ≡ b) }
     ensures v6 { (a b : Ends) → IsTrue (⟦<Ipv6AddrRange as PartialEq>⟧.eq a b) ↔ (a ≡ b) }
@@ -80,7 +80,7 @@ pub fn range_clones()
     ensures made_either { (a : AnyRange) → ⟦<IpAddrRange as Clone>⟧.is_infallible a }
 {}
 
-/// A range feeds a hasher its start and its end, one of either family the family first.
+/// A range feeds a hasher its start and then its end. A range of either family feeds its family before them.
 pub fn range_hashes()
     ensures v4 { (e : Ends) → ⟦<Ipv4AddrRange as Hash>⟧.hash_input e ≡ fed.u32 e.start ++ fed.u32 e.end }
     ensures v6 { (e : Ends) → ⟦<Ipv6AddrRange as Hash>⟧.hash_input e ≡ fed.u128 e.start ++ fed.u128 e.end }
@@ -88,7 +88,7 @@ pub fn range_hashes()
     ensures either_v6 { (e : Ends) → ⟦<IpAddrRange as Hash>⟧.hash_input (IpAddrRange.V6 e) ≡ fed.isize (pos 1) ++ ⟦<Ipv6AddrRange as Hash>⟧.hash_input e }
 {}
 
-/// `==` holds of one error of a length alone; a clone of an error is the same, and cloning never fails.
+/// `==` holds exactly for equal length errors. A clone of such an error equals it, and cloning never fails.
 pub fn prefix_len_errors()
     ensures equality { (a b : AnyError) → IsTrue (⟦<PrefixLenError as PartialEq>⟧.eq a b) ↔ (a ≡ b) }
     ensures clones { (a b : AnyError) → ⟦<PrefixLenError as Clone>⟧.is_clone a b → b ≡ a }

@@ -1,4 +1,4 @@
-//! Network masks: ones and then zeros.
+//! Network masks: ones followed by zeros.
 ghost use Rattle.std.specs.Prelude.{◌≡◌, ◌≢◌, ℕ, ◌^◌, ◌<◌, ◌≤◌, MatchOption, MatchResult};
 ghost use Rattle.ipnet_addr.specs.Addresses.{ipv4_address, ipv6_address, address_of};
 ghost use Rattle.ipnet_addr.specs.Masks.{mask_bits, IsMask};
@@ -13,7 +13,7 @@ use thiserror::Error;
 #[error("invalid IP prefix length")]
 pub struct PrefixLenError;
 
-/// The number that is `len` ones and then zeros, `width` bits in all.
+/// The number whose first `len` of `width` bits are ones, and whose other bits are zeros.
 pub fn mask_number(width: u8, len: u8) -> u128
     requires in_width { len ≤ width }
     requires bits { width ≤ 128 }
@@ -23,7 +23,7 @@ pub fn mask_number(width: u8, len: u8) -> u128
     ones(width) - ones(width - len)
 }
 
-// The number of ones of a mask of `width` bits.
+// The number of ones of a mask of `width` bits, or `None` if `mask` isn't ones followed by zeros.
 fn mask_len(width: u8, mask: u128) -> Option<u8>
     requires bits { width ≤ 128 }
     requires within { mask < 2 ^ width }
@@ -38,40 +38,40 @@ fn mask_len(width: u8, mask: u128) -> Option<u8>
     }
 }
 
-/// The number of ones of a mask of the family of `N`.
+/// Returns the number of ones of a mask of the family of `N`.
 ///
 /// # Errors
-/// `PrefixLenError` exactly where the mask isn't ones followed by zeros.
+/// `PrefixLenError` exactly if `mask` isn't ones followed by zeros.
 pub fn mask_to_prefix<N: Number>(mask: N::Addr) -> Result<u8, PrefixLenError>
     ensures { MatchResult result (IsMask (record { family = N.family; number = N.addr_number mask })) (λ _. (len : ℕ) → IsMask (record { family = N.family; number = N.addr_number mask }) len → ⊥) }
 {
     mask_len(N::width(), N::of_addr(mask).to_bits()).ok_or(PrefixLenError)
 }
 
-/// The number of ones of an IPv4 mask.
+/// Returns the number of ones of an IPv4 mask.
 ///
 /// # Errors
-/// `PrefixLenError` exactly where the mask isn't ones followed by zeros.
+/// `PrefixLenError` exactly if `mask` isn't ones followed by zeros.
 pub fn ipv4_mask_to_prefix(mask: Ipv4Addr) -> Result<u8, PrefixLenError>
     ensures { MatchResult result (IsMask (ipv4_address mask)) (λ _. (len : ℕ) → IsMask (ipv4_address mask) len → ⊥) }
 {
     mask_to_prefix::<u32>(mask)
 }
 
-/// The number of ones of an IPv6 mask.
+/// Returns the number of ones of an IPv6 mask.
 ///
 /// # Errors
-/// `PrefixLenError` exactly where the mask isn't ones followed by zeros.
+/// `PrefixLenError` exactly if `mask` isn't ones followed by zeros.
 pub fn ipv6_mask_to_prefix(mask: Ipv6Addr) -> Result<u8, PrefixLenError>
     ensures { MatchResult result (IsMask (ipv6_address mask)) (λ _. (len : ℕ) → IsMask (ipv6_address mask) len → ⊥) }
 {
     mask_to_prefix::<u128>(mask)
 }
 
-/// The number of ones of a mask of either family.
+/// Returns the number of ones of a mask of either family.
 ///
 /// # Errors
-/// `PrefixLenError` exactly where the mask isn't ones followed by zeros.
+/// `PrefixLenError` exactly if `mask` isn't ones followed by zeros.
 pub fn ip_mask_to_prefix(mask: IpAddr) -> Result<u8, PrefixLenError>
     ensures { MatchResult result (IsMask (address_of mask)) (λ _. (len : ℕ) → IsMask (address_of mask) len → ⊥) }
 {

@@ -1,5 +1,4 @@
-//! The numbers of addresses: of 32 bits for IPv4, of 128 for IPv6.
-//! For the crates above; not part of the promise.
+//! The numbers of addresses: 32 bits for IPv4, 128 bits for IPv6. For the crates above; not part of the promise.
 ghost use Rattle.std.specs.Prelude.{◌≡◌, ℕ, refl};
 ghost use Rattle.std.specs.Net.Addr.{ipv4_bits, ipv6_bits};
 ghost use Rattle.ipnet_addr.specs.Addresses.{Family, Ipv4, Ipv6, width};
@@ -10,7 +9,7 @@ use std::net::{Ipv4Addr, Ipv6Addr};
 
 /// A key that is the number of an address of one family.
 ///
-/// What stands for either family is written over its number, and a family is a type: `u32` or `u128`.
+/// Code for both families is generic over this number: the type `u32` means IPv4, and `u128` means IPv6.
 pub trait Number: Key {
     /// The addresses of the family.
     type Addr: Copy;
@@ -21,11 +20,11 @@ pub trait Number: Key {
     /// The number of an address.
     ghost addr_number: { Self.Addr → ℕ };
 
-    /// The number of an address.
+    /// Returns the number of an address.
     fn of_addr(addr: Self::Addr) -> Self
         ensures { Self.number result ≡ addr_number addr };
 
-    /// The address of a number.
+    /// Returns the address of a number.
     fn to_addr(self) -> Self::Addr
         ensures { addr_number result ≡ Self.number self };
 

@@ -1,4 +1,4 @@
-//! Readers of the parts of a text. Each reads at the front of a slice, and answers the value and the rest.
+//! Readers of the parts of a text. Each reads from the start of a slice, and returns the value and the rest of the slice, or `None`.
 //! For the crates above; not part of the promise.
 ghost use Rattle.std.specs.Prelude.{◌≡◌, ◌<◌, ◌≤◌, true, false, length, take, drop, None, IfSome, SomeIff, option_copied};
 ghost use Rattle.std.specs.Char.{digit_value};
@@ -8,7 +8,7 @@ ghost use Rattle.ipnet_addr.specs.AddressReader as Reader;
 
 use std::net::{Ipv4Addr, Ipv6Addr};
 
-/// The text after this byte, where it begins with it.
+/// Returns the text after this byte, or `None` if the text doesn't begin with the byte.
 pub fn read_byte(s: &[u8], byte: u8) -> Option<&[u8]>
     ensures { option_copied result ≡ Std.read_byte byte s.now }
 {
@@ -18,8 +18,8 @@ pub fn read_byte(s: &[u8], byte: u8) -> Option<&[u8]>
     }
 }
 
-// For each byte the hex digit that it writes, and 16 where it writes none. A table, since no processor foresees which digits are
-// letters.
+// The value of each byte as a hex digit, or 16 if the byte isn't one. This is a table because a processor can't predict a branch on
+// whether a digit is a letter.
 static HEX_DIGITS: [u8; 256] = [
     16, 16, 16, 16, 16, 16, 16, 16, 16, 16, 16, 16, 16, 16, 16, 16, 16, 16, 16, 16, 16, 16, 16, 16,
     16, 16, 16, 16, 16, 16, 16, 16, 16, 16, 16, 16, 16, 16, 16, 16, 16, 16, 16, 16, 16, 16, 16, 16,
@@ -34,7 +34,7 @@ static HEX_DIGITS: [u8; 256] = [
     16, 16, 16, 16, 16, 16, 16, 16, 16, 16, 16, 16, 16, 16,
 ];
 
-// The digit that a byte writes, if it writes one below `radix`.
+// The value of the byte as a digit, or `None` if this value isn't below `radix`.
 fn to_digit(b: u8, radix: u32) -> Option<u32>
     requires { radix ≤ 16 }
     ensures { SomeIff result (digit_value b < radix) (digit_value b) }
@@ -47,7 +47,7 @@ fn to_digit(b: u8, radix: u32) -> Option<u32>
     if digit < radix { Some(digit) } else { None }
 }
 
-// The value of the digits at the front and how many they are, if there is one and the value is at most `max`.
+// Reads the digits at the front. Returns their value and how many they are, or `None` if there are none or the value is above `max`.
 fn read_number(s: &[u8], radix: u32, max: u32) -> Option<(u32, usize)>
     requires low { 2 ≤ radix }
     requires high { radix ≤ 16 }
@@ -70,7 +70,7 @@ fn read_number(s: &[u8], radix: u32, max: u32) -> Option<(u32, usize)>
     if len == 0 { None } else { Some((value, len)) }
 }
 
-/// A number of at most `digits` digits and of value at most `max`; leading zeros are allowed.
+/// Reads a number of at most `digits` digits whose value is at most `max`; leading zeros are allowed.
 #[tactic(auto, unfolding(crate::specs::AddressReader::read_short))]
 pub fn read_short(s: &[u8], radix: u32, digits: usize, max: u32) -> Option<(u32, &[u8])>
     requires low { 2 ≤ radix }
@@ -92,7 +92,7 @@ fn read_octet(s: &[u8]) -> Option<(u8, &[u8])>
     Some((value as u8, rest))
 }
 
-// Whether a dot stands where one may end the first octet of an IPv4 address. Of fewer than four bytes it tells nothing.
+// False only if the text doesn't begin with an IPv4 address: it has at least four bytes, and none of the second to the fourth is a dot.
 fn may_be_dotted(s: &[u8]) -> bool
     ensures { result ≡ false → Reader.read_ipv4 s.now ≡ None }
 {
@@ -102,7 +102,7 @@ fn may_be_dotted(s: &[u8]) -> bool
     }
 }
 
-// Four octets with dots between them. On its own, so that `read_ipv4` is small where it is inlined.
+// Reads four octets with dots between them. A function of its own, so that little code is inlined with `read_ipv4`.
 #[inline(never)]
 #[tactic(auto, unfolding(crate::specs::AddressReader::read_ipv4))]
 fn read_octets(s: &[u8]) -> Option<(Ipv4Addr, &[u8])>
@@ -115,7 +115,7 @@ fn read_octets(s: &[u8]) -> Option<(Ipv4Addr, &[u8])>
     Some((Ipv4Addr::new(a, b, c, d), s))
 }
 
-/// An IPv4 address: four octets with dots between them, leading zeros allowed.
+/// Reads an IPv4 address: four octets with dots between them, leading zeros allowed.
 #[inline]
 pub fn read_ipv4(s: &[u8]) -> Option<(Ipv4Addr, &[u8])>
     ensures { Std.read_view ipv4_octets result ≡ Reader.read_ipv4 s.now }
@@ -134,7 +134,7 @@ fn read_group(s: &[u8]) -> Option<(u16, &[u8])>
     Some((value as u16, rest))
 }
 
-// The colon before each group but the first.
+// Reads the colon that precedes each group but the first.
 fn read_separator(s: &[u8], first: bool) -> Option<&[u8]>
     ensures { option_copied result ≡ Std.read_separator first s.now }
 {
@@ -147,7 +147,7 @@ fn read_ipv4_if(s: &[u8], fits: bool) -> Option<(Ipv4Addr, &[u8])>
     if fits { read_ipv4(s) } else { None }
 }
 
-// The address as the last two units of an IPv6 address.
+// The two halves of the address, as the last two units of an IPv6 address.
 fn halves(ip: Ipv4Addr) -> [u16; 2]
     ensures { result ≡ segments_of (ipv4_octets ip) }
 {
@@ -155,8 +155,8 @@ fn halves(ip: Ipv4Addr) -> [u16; 2]
     [a as u16 * 256 + b as u16, c as u16 * 256 + d as u16]
 }
 
-// Fills the front of `units` from units with `:` between them, of which the last two may be an IPv4 address.
-// Gives how many it filled, whether it ended in an IPv4 address, and the rest.
+// Reads units with `:` between them into the front of `units`; an IPv4 address may take the place of the last two. Returns the number of
+// units read, whether an IPv4 address ended them, and the rest of the text.
 fn read_units<'a>(text: &'a [u8], units: &mut [u16]) -> (usize, bool, &'a [u8])
     ensures value { Reader.read_units (length units.old) true text.now
         ≡ (take result.0 units.new, result.1, result.2.now) }
@@ -184,8 +184,8 @@ fn read_units<'a>(text: &'a [u8], units: &mut [u16]) -> (usize, bool, &'a [u8])
     (room, false, s)
 }
 
-/// An IPv6 address: eight units with colons between them, or some with `::` in the place of those that are zero; the last two
-/// may be a dotted IPv4 address (RFC 4291, section 2.2, where `::` may stand for no unit, as in the Rust crate ipnet 2.12.2).
+/// Reads an IPv6 address: eight units with colons between them. `::` may replace a run of zero units, and a dotted IPv4 address may
+/// replace the last two units (RFC 4291, section 2.2). As in the Rust crate ipnet 2.12.2, `::` may also replace no unit.
 pub fn read_ipv6(s: &[u8]) -> Option<(Ipv6Addr, &[u8])>
     ensures { Std.read_view ipv6_segments result ≡ Reader.read_ipv6 s.now }
 {

@@ -1,5 +1,5 @@
-//! Printers of the parts of a text. Each appends to a buffer that has room.
-//! For the crates above; not part of the promise.
+//! Printers of the parts of a text. Each appends to a buffer, which must have room for the text. For the crates above; not part of the
+//! promise.
 ghost use Rattle.std.specs.Prelude.{◌≡◌, ◌+◌, ◌-◌, ◌*◌, ◌<◌, ◌≤◌, ◌++◌, length, decimal};
 ghost use Rattle.std.specs.Char.{digit_char};
 ghost use Rattle.std.specs.Net.Addr.{ipv4_octets, ipv6_segments, IsIpv4Addr, IsIpv6Addr};
@@ -9,7 +9,7 @@ ghost use Rattle.arrayvec.specs.ArrayVec.{array_vec_len};
 use arrayvec::ArrayVec;
 use std::net::{Ipv4Addr, Ipv6Addr};
 
-/// A number in decimal, without leading zeros.
+/// Appends a number in decimal, without leading zeros.
 pub fn push_decimal<const N: usize>(out: &mut ArrayVec<u8, N>, n: u8)
     requires { array_vec_len out.old + 3 ≤ N }
     ensures bytes { out.new.items ≡ out.old.items ++ decimal n }
@@ -25,7 +25,7 @@ pub fn push_decimal<const N: usize>(out: &mut ArrayVec<u8, N>, n: u8)
     out.push(b'0' + n % 10);
 }
 
-/// An IPv4 address: four decimal octets with dots between them.
+/// Appends an IPv4 address: four decimal octets with dots between them.
 pub fn push_ipv4<const N: usize>(out: &mut ArrayVec<u8, N>, addr: Ipv4Addr)
     requires { array_vec_len out.old + 15 ≤ N }
     ensures bytes { out.new.items ≡ out.old.items ++ Text.ipv4_text (ipv4_octets addr) }
@@ -42,7 +42,7 @@ pub fn push_ipv4<const N: usize>(out: &mut ArrayVec<u8, N>, addr: Ipv4Addr)
     push_decimal(out, d);
 }
 
-// Bytes that there is room for.
+// Appends bytes; the caller has checked the room.
 fn push_all<const N: usize>(out: &mut ArrayVec<u8, N>, bytes: &[u8])
     requires { array_vec_len out.old + length bytes.now ≤ N }
     ensures bytes { out.new.items ≡ out.old.items ++ bytes.now }
@@ -74,7 +74,7 @@ fn leading_zero_digits(n: u16) -> usize
     }
 }
 
-// A unit in lower-case hex, without leading zeros.
+// Appends a unit in lower-case hex, without leading zeros.
 #[tactic(auto, unfolding(std::specs::Net::Text::hex))]
 fn push_hex<const N: usize>(out: &mut ArrayVec<u8, N>, n: u16)
     requires { array_vec_len out.old + 4 ≤ N }
@@ -91,7 +91,7 @@ fn push_hex<const N: usize>(out: &mut ArrayVec<u8, N>, n: u16)
     push_all(out, &digits[zeros..]);
 }
 
-// Units with `:` between them.
+// Appends units with `:` between them.
 fn push_groups<const N: usize>(out: &mut ArrayVec<u8, N>, units: &[u16])
     requires { array_vec_len out.old + (5 * length units.now - 1) ≤ N }
     ensures bytes { out.new.items ≡ out.old.items ++ Text.groups_text units.now }
@@ -106,7 +106,7 @@ fn push_groups<const N: usize>(out: &mut ArrayVec<u8, N>, units: &[u16])
     }
 }
 
-// The start and the length of the longest run of zeros, the first one of that length.
+// The start and the length of the longest run of zeros, or of the first one if several are longest.
 fn longest_zero_run(units: &[u16]) -> (usize, usize)
     ensures value { result ≡ Text.longest_zero_run units.now }
     ensures within { result.0 + result.1 ≤ length units.now }
@@ -124,7 +124,7 @@ fn longest_zero_run(units: &[u16]) -> (usize, usize)
     (start, len)
 }
 
-// Units with `::` for the first longest run of two zeros or more.
+// Appends units with `::` in place of the first longest run of two or more zeros.
 #[tactic(auto, unfolding(std::specs::Net::Text::hex_groups_text))]
 fn push_units<const N: usize>(out: &mut ArrayVec<u8, N>, units: [u16; 8])
     requires { array_vec_len out.old + 39 ≤ N }
@@ -142,8 +142,8 @@ fn push_units<const N: usize>(out: &mut ArrayVec<u8, N>, units: [u16; 8])
     }
 }
 
-/// An IPv6 address as RFC 5952 writes it: lower-case groups without leading zeros, `::` for the first longest run of two zeros
-/// or more, and `::ffff:` with a dotted IPv4 address for an IPv4-mapped one.
+/// Appends an IPv6 address as RFC 5952 writes it: lower-case groups without leading zeros. `::` replaces the first longest run of
+/// two or more zeros. An IPv4-mapped address is `::ffff:` and a dotted IPv4 address.
 pub fn push_ipv6<const N: usize>(out: &mut ArrayVec<u8, N>, addr: Ipv6Addr)
     requires { array_vec_len out.old + 39 ≤ N }
     ensures bytes { out.new.items ≡ out.old.items ++ Text.ipv6_text (ipv6_segments addr) }

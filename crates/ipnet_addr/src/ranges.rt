@@ -1,4 +1,4 @@
-//! Ranges of addresses, from both ends, and what the calls of a range of either family do to its numbers.
+//! Ranges of addresses, as iterators from both ends, and the arithmetic on numbers that both families share.
 ghost use Rattle.std.specs.Prelude.{◌≡◌, ◌+◌, ◌<◌, ◌≤◌, ◌^◌, max, length, slice_get, reverse, IfSome};
 ghost use Rattle.std.specs.Iterator.SizeHint.{IsExactHint};
 ghost use Rattle.ipnet_addr.specs.Ranges.{numbers, after_front, after_back, times};
@@ -6,7 +6,7 @@ ghost use Rattle.ipnet_addr.specs.Ranges.{numbers, after_front, after_back, time
 pub use crate::addr_range::{AddrRange, Ipv4AddrRange, Ipv6AddrRange};
 pub use crate::ip_range::IpAddrRange;
 
-/// What a call answers, and the ends that it leaves.
+/// The result of a call, and the ends of the range after it.
 #[derive(Clone, Copy)]
 pub(crate) struct Step {
     pub(crate) answer: Option<u128>,
@@ -74,7 +74,7 @@ pub(crate) fn nth_back_number(start: u128, end: u128, n: u128) -> Step
     }
 }
 
-/// How many numbers the range has.
+/// The number of numbers in the range.
 pub(crate) fn count_numbers(start: u128, end: u128) -> usize
     requires { length (numbers (record { start = start; end = end })) < 2 ^ 64 }
     ensures { result ≡ length (numbers (record { start = start; end = end })) }
@@ -86,7 +86,7 @@ pub(crate) fn count_numbers(start: u128, end: u128) -> usize
     }
 }
 
-/// How many numbers the range has, as `size_hint` says it.
+/// The number of numbers in the range, as `size_hint` returns it.
 pub(crate) fn hint_numbers(start: u128, end: u128) -> (usize, Option<usize>)
     ensures { IsExactHint result (length (numbers (record { start = start; end = end }))) }
 {

@@ -1,14 +1,14 @@
--- Bit strings: their order, and which begins which.
+-- Bit strings: their order, and prefixes of them.
 use Rattle.std.specs.Prelude.{Bool, true, false, cond, not, ◌&&◌, List, [], ◌∷◌}
 use Rattle.std.specs.declared.cmp.Ordering.{Ordering}
 use Rattle.std.specs.Ordering.{bool_cmp}
 use Rattle.std.specs.Cmp.Lexicographic.{slice_cmp}
 
--- a beginning comes before what it begins, and 0 before 1
+-- a prefix comes before the longer string, and 0 before 1
 abbrev pub bits_cmp : List Bool → List Bool → Ordering
 bits_cmp = slice_cmp bool_cmp
 
--- the one string begins the other
+-- the first string is a prefix of the second
 abbrev pub begins : List Bool → List Bool → Bool
 begins [] q = true
 begins (x ∷ xs) [] = false

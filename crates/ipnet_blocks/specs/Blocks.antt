@@ -8,20 +8,20 @@ pub record Block : Type 0 where
   pub len : ℕ
   pub quotient : ℕ
 
--- its length is within the width of the family, and its quotient has no more bits than the length
+-- the length is at most the width of the family, and the quotient has at most as many bits as the length
 pub record IsBlock (b : Block) : Type 0 where
   pub in_width : b.len ≤ width b.family
   pub in_range : b.quotient < 2 ^ b.len
 
--- how many bits of an address the block leaves free
+-- the number of bits of an address that the block leaves free
 abbrev pub free_bits : Block → ℕ
 free_bits b = width b.family - b.len
 
--- the address is one of the block's
+-- the address is in the block
 abbrev pub HasAddress : Block → Address → Type 0
 HasAddress b x = (x.family ≡ b.family) × (x.number / 2 ^ free_bits b ≡ b.quotient)
 
--- each address of a is one of b
+-- each address of a is in b
 abbrev pub IsInside : Block → Block → Type 0
 IsInside a b = (x : Address) → HasAddress a x → HasAddress b x
 
@@ -29,15 +29,15 @@ IsInside a b = (x : Address) → HasAddress a x → HasAddress b x
 abbrev pub IsLarger : Block → Block → Type 0
 IsLarger b a = IsInside a b × (IsInside b a → ⊥)
 
--- the test of `IsInside` by numbers
+-- the test of `IsInside`, on numbers
 abbrev pub is_inside : Block → Block → Bool
 is_inside a b = same_family a.family b.family && nat_le b.len a.len && (a.quotient / 2 ^ (a.len - b.len) == b.quotient)
 
--- the least number of an address of the block
+-- the least number of an address in the block
 abbrev pub first : Block → ℕ
 first b = b.quotient * 2 ^ free_bits b
 
--- the greatest number of an address of the block
+-- the greatest number of an address in the block
 abbrev pub last : Block → ℕ
 last b = first b + (2 ^ free_bits b - 1)
 
@@ -45,21 +45,21 @@ last b = first b + (2 ^ free_bits b - 1)
 abbrev pub host : Address → Block
 host x = record { family = x.family; len = width x.family; quotient = x.number }
 
--- one bit shorter, at a block of positive length
+-- the block one bit shorter, for a block of positive length
 abbrev pub parent : Block → Block
 parent b = record { family = b.family; len = b.len - 1; quotient = b.quotient / 2 }
 
--- IPv4 before IPv6, then by the least address, then by length
+-- ordered by family, IPv4 first, then by least address, then by length
 abbrev pub IsBefore : Block → Block → Type 0
 IsBefore a b = (rank a.family < rank b.family)
     ⊎ ((rank a.family ≡ rank b.family) × (first a < first b))
     ⊎ ((rank a.family ≡ rank b.family) × (first a ≡ first b) × (a.len < b.len))
 
--- each block comes before all that stand after it
+-- each block comes before all later blocks of the list
 abbrev pub IsAscending : List Block → Type 0
 IsAscending bs = AllPairs IsBefore bs
 
--- the p binary digits of q, the highest first
+-- the p binary digits of q, most significant first
 abbrev pub digits : ℕ → ℕ → List Bool
 digits zero q = []
 digits (suc p) q = digits p (q / 2) ++ (q % 2 == 1) ∷ []
@@ -72,11 +72,11 @@ bit_string b = digits b.len b.quotient
 abbrev pub family_block : Family → Block
 family_block f = record { family = f; len = 0; quotient = 0 }
 
--- the half of a block with the lesser addresses; the block is no host block
+-- the half of a block with the lower addresses; the block must have more than one address
 abbrev pub left : Block → Block
 left b = record { family = b.family; len = b.len + 1; quotient = 2 * b.quotient }
 
--- its other half, with the greater addresses
+-- the half with the higher addresses
 abbrev pub right : Block → Block
 right b = record { family = b.family; len = b.len + 1; quotient = 2 * b.quotient + 1 }
 
@@ -93,10 +93,10 @@ abbrev pub is_before : Block → Block → Bool
 is_before a b = nat_lt (rank a.family) (rank b.family)
     || ((rank a.family == rank b.family) && (nat_lt (first a) (first b) || ((first a == first b) && nat_lt a.len b.len)))
 
--- the test that two blocks are one
+-- the test that two blocks are the same
 abbrev pub same_block : Block → Block → Bool
 same_block a b = same_family a.family b.family && (a.len == b.len) && (a.quotient == b.quotient)
 
--- two blocks of one length, and not the longest: the parent of the one holds the other
+-- two blocks of the same positive length with the same parent
 abbrev pub AreSiblings : Block → Block → Type 0
 AreSiblings a b = (0 < a.len) × (a.len ≡ b.len) × IsInside b (parent a)

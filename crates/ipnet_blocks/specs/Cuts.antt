@@ -1,4 +1,4 @@
--- The blocks that a subnet iterator gives, one after another, and what it stores.
+-- The blocks that a subnet iterator returns, and its state.
 use Rattle.std.specs.Prelude.{ℕ, zero, suc, ◌+◌, ◌-◌, ◌/◌, ◌%◌, ◌^◌, ◌<◌, ◌≤◌, ◌&&◌, nat_le, nat_lt, ◌==◌, if◌then◌else◌, ◌↔◌, List, [], ◌∷◌, map, Contains, ◌≡◌}
 use Rattle.ipnet_addr.specs.Addresses.{Family, width}
 use Rattle.ipnet_blocks.specs.Blocks.{Block, IsBlock, IsInside, IsAscending}
@@ -10,26 +10,26 @@ pub record Limits : Type 0 where
   pub end : ℕ
   pub shortest : ℕ
 
--- they are limits in this family
+-- they are valid limits in this family
 pub record AreLimits (family : Family) (l : Limits) : Type 0 where
   pub start_in_range : l.start < 2 ^ width family
   pub end_in_range : l.end < 2 ^ width family
   pub in_width : l.shortest ≤ width family
 
--- the most free bits, at most k, of a block that begins at start and ends at most at end
+-- the number of free bits of the largest block from start to at most end, at most k
 unfoldable pub most_free : ℕ → ℕ → ℕ → ℕ
 most_free zero start end = zero
 most_free (suc k) start end = if start % 2 ^ suc k == 0 && nat_le (start + 2 ^ suc k) (end + 1) then suc k else most_free k start end
 
--- the same of the first block of these limits, where an address has w bits
+-- the same for the first block of these limits; an address has w bits
 abbrev pub first_free : ℕ → Limits → ℕ
 first_free w l = most_free (w - l.shortest) l.start l.end
 
--- the block that begins at start and leaves so many bits free
+-- the block that begins at start and leaves `free` bits free
 abbrev pub block_from : Family → ℕ → ℕ → Block
 block_from f start free = record { family = f; len = width f - free; quotient = start / 2 ^ free }
 
--- the blocks of `IsCut` from these limits on, at most n
+-- the blocks of `IsCut` from these limits on, at most n of them
 unfoldable pub cut_within : ℕ → Family → Limits → List Block
 cut_within zero f l = []
 cut_within (suc n) f l = if nat_le l.start l.end then (block_from f l.start (first_free (width f) l) ∷ cut_within n f (record l { start = l.start + 2 ^ first_free (width f) l })) else []
@@ -38,12 +38,12 @@ cut_within (suc n) f l = if nat_le l.start l.end then (block_from f l.start (fir
 abbrev pub cut : Family → Limits → List Block
 cut f l = cut_within (l.end + 1 - l.start) f l
 
--- the same as networks without host bits
+-- the blocks as networks without host bits
 abbrev pub subnets : Family → Limits → List Network
 subnets f l = map net_of (cut f l)
 
--- The limits after the first block, where an address has w bits. The start is the address after the block; after the block
--- that ends at the greatest address it is that address, and the end is 0; after a block at the end the end is 0 too.
+-- The limits after the first block; an address has w bits. The start is the address after the block. If the block ends at the greatest
+-- address, the start is this address and the end is 0. The end is also 0 after a block that is only the end.
 unfoldable pub after_first : ℕ → Limits → Limits
 after_first w l =
     let next = l.start + 2 ^ first_free w l in

@@ -1,5 +1,5 @@
-//! The fewest blocks with the addresses of some networks of one family: spans of numbers, sorted, joined and cut.
-//! For the crates above; not part of the promise.
+//! The fewest blocks that cover the same addresses as some networks of one family. Networks become spans of numbers, which are sorted,
+//! joined and cut into blocks. For the crates above; not part of the promise.
 ghost use Rattle.std.specs.Prelude.{◌≡◌, ◌^◌, ◌<◌, ◌++◌, map, All, IfOk, OnOk};
 ghost use Rattle.std.specs.List.Sorted.{IsPermutation, IsNonDecreasingBy};
 ghost use Rattle.std.specs.List.{flat_map};
@@ -11,14 +11,14 @@ ghost use Rattle.ipnet_blocks.specs.InnerSpans.{HasNumber, AreJoined, span_of, l
 
 use std::alloc::{AllocError, Global};
 
-/// The numbers from `first` to `last`.
+/// The numbers from `first` to `last`, both included.
 #[derive(Clone, Copy)]
 pub struct Span {
     pub first: u128,
     pub last: u128,
 }
 
-/// The spans by their first numbers.
+/// The spans, sorted by their first numbers.
 fn sorted(mut spans: Vec<Span>) -> Vec<Span>
     ensures permutation { IsPermutation spans.items result.items }
     ensures order { IsNonDecreasingBy (λ s. s.first) result.items }
@@ -27,7 +27,7 @@ fn sorted(mut spans: Vec<Span>) -> Vec<Span>
     spans
 }
 
-/// The spans, those that overlap or touch as one, ascending.
+/// Joins spans that overlap or touch; returns the joined spans in ascending order.
 fn joined(alloc: Global, spans: Vec<Span>) -> Result<Vec<Span>, AllocError>
     requires { All HasNumber spans.items }
     ensures { IfOk result (λ v. AreJoined spans.items v.items) }
@@ -50,30 +50,30 @@ fn joined(alloc: Global, spans: Vec<Span>) -> Result<Vec<Span>, AllocError>
     Ok(joined)
 }
 
-/// What `aggregated` needs of the networks of one family.
+/// What `aggregated` needs from a network type of one family.
 pub trait OfFamily: Copy {
-    /// Their family.
+    /// The family of the networks.
     ghost family: { Family };
 
-    /// The number of the address of a network, and its length.
+    /// The number of a network's address, and its length.
     ghost parts: { Self → Network };
 
-    /// The numbers of its addresses.
+    /// Returns the numbers of the network's addresses.
     fn span(&self) -> Span
         ensures span { result ≡ span_of family (parts self.now) }
         ensures fits { result.last < 2 ^ width family };
 
-    /// Appends the largest blocks of the span, ascending.
+    /// Appends the largest blocks of the span, in ascending order.
     ///
     /// # Errors
-    /// `AllocError` where memory is refused; which of the blocks are appended then is open.
+    /// `AllocError` if an allocation fails. `blocks` may then hold some of the new blocks.
     fn push_blocks(blocks: &mut Vec<Self>, span: &Span) -> Result<(), AllocError>
         requires some { HasNumber span.now }
         requires fits { span.now.last < 2 ^ width family }
         ensures { OnOk result (map parts blocks.new.items ≡ map parts blocks.old.items ++ subnets family (limits_of span.now)) };
 }
 
-/// The numbers of each network's addresses.
+/// The spans of the networks, in the order of the networks.
 fn spans_of<N: OfFamily>(alloc: Global, networks: &Vec<N>) -> Result<Vec<Span>, AllocError>
     ensures spans { IfOk result (λ v. v.items ≡ map (λ n. span_of N.family (N.parts n)) networks.now.items) }
     ensures fit { IfOk result (λ v. All (λ s. s.last < 2 ^ width N.family) v.items) }
@@ -85,7 +85,7 @@ fn spans_of<N: OfFamily>(alloc: Global, networks: &Vec<N>) -> Result<Vec<Span>, 
     Ok(spans)
 }
 
-/// The largest blocks of each span, one span after another.
+/// The largest blocks of each span, span by span.
 fn blocks_of<N: OfFamily>(alloc: Global, spans: &Vec<Span>) -> Result<Vec<N>, AllocError>
     requires some { All HasNumber spans.now.items }
     requires fit { All (λ s. s.last < 2 ^ width N.family) spans.now.items }
@@ -98,10 +98,10 @@ fn blocks_of<N: OfFamily>(alloc: Global, spans: &Vec<Span>) -> Result<Vec<N>, Al
     Ok(blocks)
 }
 
-/// The fewest networks with the addresses of these, ascending, each without host bits; takes time n log n.
+/// Returns the fewest networks that cover the same addresses, in ascending order and without host bits. Takes time n log n.
 ///
 /// # Errors
-/// `AllocError` where memory is refused.
+/// `AllocError` if an allocation fails.
 pub fn aggregated<N: OfFamily>(alloc: Global, networks: &Vec<N>) -> Result<Vec<N>, AllocError>
     ensures { IfOk result (λ v. AreAggregated N.family (map N.parts networks.now.items) (map N.parts v.items)) }
 {

@@ -1,5 +1,4 @@
-//! Inclusion of blocks, by the numbers of their networks.
-//! For the crates above; not part of the promise.
+//! Inclusion of blocks, decided on the numbers of their networks. For the crates above; not part of the promise.
 ghost use Rattle.std.specs.Prelude.{◌≡◌, ◌-◌, ◌/◌, ◌^◌, ◌<◌, ◌≤◌, ◌↔◌, IsTrue};
 ghost use Rattle.ipnet_addr.specs.Addresses.{Family, width};
 ghost use Rattle.ipnet_blocks.specs.Blocks.{IsInside};
@@ -7,8 +6,8 @@ ghost use Rattle.ipnet_blocks.specs.Networks.{block_of};
 
 use ipnet_addr::bits::quotient;
 
-/// Whether the block of the network of this address number and length is inside that of the other, where an address has
-/// `bits` bits: it is no shorter, and begins with the same bits.
+/// Whether the block of `number` and `len` is inside the block of `other` and `other_len`: it is no shorter, and begins with the same
+/// bits. An address has `bits` bits.
 pub fn is_inside(bits: u8, number: u128, len: u8, other: u128, other_len: u8) -> bool
     requires narrow { bits ≤ 128 }
     requires fits { (number < 2 ^ bits) × (other < 2 ^ bits) }

@@ -1,11 +1,10 @@
-//! The largest block at the beginning of a range of numbers, and the range after it.
-//! For the crates above; not part of the promise.
+//! The largest block at the start of a range of numbers, and the rest of the range. For the crates above; not part of the promise.
 ghost use Rattle.std.specs.Prelude.{◌≡◌, ◌-◌, ◌^◌, ◌<◌, ◌≤◌};
 ghost use Rattle.ipnet_blocks.specs.Cuts.{most_free, first_free, after_first};
 
 use ipnet_addr::bits::ones;
 
-/// The most free bits, at most `most`, of a block that begins at `start` and ends at most at `end`.
+/// The number of free bits of the largest block that begins at `start` and ends no later than `end`, at most `most`.
 fn free_bits(start: u128, end: u128, most: u8) -> u8
     requires order { start ≤ end }
     requires in_width { most ≤ 128 }
@@ -19,7 +18,7 @@ fn free_bits(start: u128, end: u128, most: u8) -> u8
     start.trailing_zeros().min(by_room).min(most as u32) as u8
 }
 
-/// The length of a block, and the ends of the range after it.
+/// The length of a block, and the ends of the range that is left after it.
 #[derive(Clone, Copy)]
 pub struct Cut {
     pub len: u8,
@@ -27,7 +26,7 @@ pub struct Cut {
     pub end: u128,
 }
 
-/// The first block of the limits, where an address has `width` bits.
+/// Cuts off the first block of a range; an address has `width` bits, and the block's length is at least `shortest`.
 pub fn first_cut(width: u8, start: u128, end: u128, shortest: u8) -> Cut
     requires order { start ≤ end }
     requires end_fits { end < 2 ^ width }

@@ -1,4 +1,4 @@
-//! Blocks of addresses and sets of them, as numbers: the layer of `ipnet` below its types.
+//! Blocks of addresses and sets of blocks, as numbers: the layer below the types of `ipnet`.
 #![tactic(auto)]
 
 pub mod aggregate;

@@ -8,7 +8,7 @@ members (One k) = k ∷ []
 members (Two ks) = ks
 members (Many ks) = ks.items
 
--- the second of the hops; none where there are fewer
+-- the second of the hops, or none if there are fewer than two
 abbrev pub second_of : List (Option ℕ) → Option ℕ
 second_of [] = None
 second_of (j ∷ []) = None

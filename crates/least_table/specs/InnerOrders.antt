@@ -1,4 +1,4 @@
--- The order of routes: by their least address, and then by length.
+-- The order of routes: by least address, and then by length.
 use Rattle.std.specs.Prelude.{◌≡◌, ℕ, Bool, List, [], ◌∷◌, Option, ⊤}
 use Rattle.std.specs.declared.cmp.Ordering.TheVariants.{Less}
 use Rattle.ipnet_blocks.specs.BitStrings.{bits_cmp}

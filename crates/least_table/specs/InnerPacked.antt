@@ -1,4 +1,4 @@
--- The steps of a plan as they are kept: eight bytes each, and the sets that all share.
+-- The steps of a plan as they are stored: eight bytes each, and the sets that all steps share.
 use Rattle.std.specs.Prelude.{◌≡◌, ℕ, ◌<◌, ◌≤◌, ◌^◌, ◌⊎◌, Bool, true, false, List, [], ◌∷◌, ◌++◌, drop, map, slice_index_or, Option, Some, None, ⊤}
 use Rattle.ipnet_blocks.specs.Blocks.{digits}
 use Rattle.least_table.specs.HopSets.{first_of}
@@ -12,7 +12,7 @@ use Rattle.least_table.specs.declared.plan.Steps.{Steps}
 use Rattle.least_table.specs.declared.plan.Best.{Best}
 use Rattle.least_table.specs.declared.plan.Best.TheVariants as bests
 
--- the step that is kept so
+-- the step that is stored in this way
 abbrev pub step_of : List (List (Option ℕ)) → Packed → Step
 step_of sets (Leaf k) = steps.Leaf (Some k)
 step_of sets (Rising at) = steps.Pair (first_of (set_at sets at)) (second_of (set_at sets at)) (set_at sets at)
@@ -28,7 +28,7 @@ step_of sets (UpperSeveral at) = steps.Half true (first_of (set_at sets at)) (dr
 step_of sets (Skip n x) = steps.Skip None (digits n x)
 step_of sets (Around n x k) = steps.Skip (Some k) (digits n x)
 
--- what the step names stands in the list of sets, and its bits are no more than its levels
+-- the set that the step refers to is in the list of sets, and its bits are no more than its levels
 abbrev pub IsKept : List (List (Option ℕ)) → Packed → Type 0
 IsKept sets (Leaf k) = ⊤
 IsKept sets (Rising at) = HasSet sets at
@@ -54,21 +54,21 @@ AreWhole s = AreKept s.sets s.steps
 abbrev pub steps_in : Steps → List Step
 steps_in s = map (step_of s.sets) s.steps
 
--- the hops that the block of the step at a place is best handed
+-- the best inherited hops of the block of the step at an index
 abbrev pub best_at : Steps → ℕ → List (Option ℕ)
 best_at s at = step_best (slice_index_or (steps_in s) at (steps.Leaf None))
 
--- this step is kept so, whatever sets there are
+-- this step is stored in this way, whatever the sets are
 abbrev pub IsAlways : Packed → Step → Type 0
 IsAlways p x = (sets : List (List (Option ℕ))) → (step_of sets p ≡ x) × IsKept sets p
 
--- the step of a block of which one half, the upper one where the test holds, has the step x, while the other has this hop; x leads to a
--- smaller block, or to one half, past others with this hop
+-- the step of a block of which one half (the upper one if the test is true) has the step x, and the other half has this hop; x leads to a
+-- smaller block, or to one half, past other addresses with this hop
 abbrev pub IsWider : Bool → Option ℕ → Step → Packed → Type 0
 IsWider upper k x p = ((ds : List Bool) × (x ≡ steps.Skip k ds) × IsAlways p (steps.Skip k (upper ∷ ds)))
     ⊎ ((half : Bool) × (hops : List (Option ℕ)) × (x ≡ steps.Half half k hops) × IsAlways p (steps.Skip k (upper ∷ half ∷ [])))
 
--- these steps are appended
+-- these steps were appended
 pub record Grows (old new : Steps) (xs : List Step) : Type 0 where
   pub steps : steps_in new ≡ steps_in old ++ xs
   pub whole : AreWhole new

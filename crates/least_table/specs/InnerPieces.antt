@@ -1,8 +1,8 @@
--- Pieces by the bits after a depth, and how they ascend.
+-- Pieces without their first bits, and their order.
 use Rattle.std.specs.Prelude.{◌≡◌, ℕ, suc, Bool, true, false, List, [], ◌∷◌, map, drop, ⊤}
 use Rattle.ipnet_blocks.specs.BitStrings.{begins}
 
--- all addresses of a come before all addresses of b: where the strings part, a has a 0 and b has a 1
+-- all addresses of a come before all addresses of b: at the first bit that differs, a has 0 and b has 1
 abbrev pub before : List Bool → List Bool → Bool
 before [] b = false
 before (x ∷ a) [] = false
@@ -16,12 +16,12 @@ abbrev pub BeforeAll : List Bool → List (List Bool × ℕ) → Type 0
 BeforeAll a [] = ⊤
 BeforeAll a (p ∷ ps) = (before a p.0 ≡ true) × BeforeAll a ps
 
--- the pieces are disjoint and ascend
+-- the pieces are disjoint and ascending
 abbrev pub IsAscending : List (List Bool × ℕ) → Type 0
 IsAscending [] = ⊤
 IsAscending (p ∷ ps) = BeforeAll p.0 ps × IsAscending ps
 
--- the pieces, their first n bits left out
+-- the pieces without their first n bits
 abbrev pub beyond : ℕ → List (List Bool × ℕ) → List (List Bool × ℕ)
 beyond n ps = map (λ p. (drop n p.0, p.1)) ps
 
@@ -35,7 +35,7 @@ abbrev pub AllShare : List Bool → List (List Bool × ℕ) → Type 0
 AllShare ds [] = ⊤
 AllShare ds (p ∷ ps) = (begins ds p.0 ≡ true) × AllShare ds ps
 
--- how many bits two strings have in common before they part
+-- the number of bits that two strings have in common at their start
 abbrev pub shared : List Bool → List Bool → ℕ
 shared [] t = 0
 shared (x ∷ s) [] = 0

@@ -1,4 +1,4 @@
--- What the steps of a planner are: plans of lower halves, and behind them that of the block of the last piece.
+-- The steps of a planner: plans of lower halves, and after them the plan of the block of the last piece.
 use Rattle.std.specs.Prelude.{◌≡◌, ℕ, suc, ◌<◌, ◌≤◌, Bool, true, false, List, [], ◌∷◌, ◌++◌, length, take, reverse, slice_index_or, MatchOption, ⊤}
 use Rattle.least_table.specs.InnerPacked.{AreWhole, steps_in}
 use Rattle.least_table.specs.InnerPlans.{Plan, Ends, IsHeld, IsPlanOf, top}
@@ -9,13 +9,13 @@ use Rattle.least_table.specs.declared.planner.Lower.{Lower}
 use Rattle.least_table.specs.declared.planner.Planner.{Planner}
 
 module _ (w : ℕ) where
-  -- behind the steps xs stand those of a plan of the block of the first d bits of a for these pieces
+  -- after the steps xs come those of a plan for these pieces, of the block of the first d bits of a
   pub record Plans (a : List Bool) (d : ℕ) (ps : List (List Bool × ℕ)) (xs : List Step) (s : Steps) : Type 0 where
     pub plan : Plan
     pub ends : Ends xs plan s
     pub is : IsPlanOf w d (take d a) ps plan
 
-  -- the last of the steps are those of a plan of a lower half, whose upper half has the block a, where they aren't held elsewhere
+  -- the last steps, unless they are held elsewhere, are a plan of a lower half; the upper half beside it contains the block a
   pub record IsLower (a : List Bool) (o : Lower) (ps : List (List Bool × ℕ)) (xs : List Step) : Type 0 where
     pub plan : Plan
     pub pieces : List (List Bool × ℕ)
@@ -27,13 +27,13 @@ module _ (w : ℕ) where
     pub is : IsPlanOf w (suc o.depth) (take o.depth a ++ false ∷ []) pieces plan
     pub upper : slice_index_or a o.depth false ≡ true
 
-  -- the pieces and the steps of lower halves, the innermost first, of blocks of fewer than d bits
+  -- the pieces and the steps of lower halves, the innermost first; their blocks have fewer than d bits
   abbrev pub AreLowers : List Lower → List Bool → ℕ → List (List Bool × ℕ) → List Step → Type 0
   AreLowers [] a d ps xs = (ps ≡ []) × (xs ≡ [])
   AreLowers (o ∷ os) a d ps xs = (o.depth < d) × (l : IsLower a o ps xs) × AreLowers os a o.depth l.others l.before
 
-  -- the pieces are planned, up to the block of the first d bits of a, in which the last of them lie; the blocks of the lower halves have
-  -- fewer than e bits
+  -- the pieces are planned, up to the block of the first d bits of a, which contains the last of them; the blocks of the lower halves
+  -- have fewer than e bits
   pub record ArePlanned (a : List Bool) (d e : ℕ) (ps : List (List Bool × ℕ)) (lowers : List Lower) (s : Steps) : Type 0 where
     pub others : List (List Bool × ℕ)
     pub pieces : List (List Bool × ℕ)
@@ -42,7 +42,7 @@ module _ (w : ℕ) where
     pub lower : AreLowers (reverse lowers) a e others before
     pub plans : Plans a d pieces before s
 
-  -- the pieces that have come, of which the last is the block a
+  -- the pieces so far; the last one is the block a
   pub record EndAt (a : List Bool) (ps : List (List Bool × ℕ)) (lowers : List Lower) (s : Steps) : Type 0 where
     pub others : List (List Bool × ℕ)
     pub hop : ℕ
@@ -50,7 +50,7 @@ module _ (w : ℕ) where
     pub inside : length a ≤ w
     pub planned : ArePlanned a (length a) (length a) ps lowers s
 
-  -- the pieces that have come
+  -- the pieces so far
   abbrev pub HasPlanned : {B : Type 0} → Planner B → List (List Bool × ℕ) → Type 0
   HasPlanned p ps = MatchOption p.last ((ps ≡ []) × (p.lowers.items ≡ []) × (steps_in p.steps ≡ []) × AreWhole p.steps) (λ a. EndAt a ps p.lowers.items p.steps)
 

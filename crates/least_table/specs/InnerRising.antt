@@ -1,4 +1,4 @@
--- Lists of hops in rising order: no hop first, and then by number.
+-- Ascending lists of hops: no hop first, and then numbers.
 use Rattle.std.specs.Prelude.{◌≡◌, ℕ, Bool, true, false, ◌&&◌, ◌||◌, nat_lt, List, [], ◌∷◌, ◌++◌, Option, Some, None, ⊤}
 use Rattle.least_table.specs.HopSets.{holds}
 
@@ -16,17 +16,17 @@ abbrev pub IsRising : List (Option ℕ) → Type 0
 IsRising [] = ⊤
 IsRising (x ∷ xs) = IsLessAll x xs × IsRising xs
 
--- cs rises and has the hops that both lists have
+-- cs ascends and has the hops in both lists
 pub record AreCommon (as' bs cs : List (Option ℕ)) : Type 0 where
   pub rising : IsRising cs
   pub same : (k : Option ℕ) → holds cs k ≡ (holds as' k && holds bs k)
 
--- cs rises and has the hops that either list has
+-- cs ascends and has the hops in at least one of the lists
 pub record AreAll (as' bs cs : List (Option ℕ)) : Type 0 where
   pub rising : IsRising cs
   pub same : (k : Option ℕ) → holds cs k ≡ (holds as' k || holds bs k)
 
--- with `out` done and as' and bs left
+-- `out` is done, and as' and bs are left
 pub record CommonLeft (low high out as' bs : List (Option ℕ)) : Type 0 where
   pub low_rises : IsRising (out ++ as')
   pub high_rises : IsRising (out ++ bs)

@@ -1,7 +1,7 @@
--- Sets of hops in blocks, each behind the number of its hops, and the number that names one: its block's, and its place there.
+-- Sets of hops in blocks, each after the number of its hops. A set is identified by the number of its block and its place there.
 use Rattle.std.specs.Prelude.{◌≡◌, ℕ, suc, ◌+◌, ◌/◌, ◌%◌, ◌≤◌, List, [], length, take, drop, slice_index_or, Option, Some, None}
 
--- how many hops the set has that begins at a place of a block
+-- the number of hops of the set at a place of a block
 abbrev pub size_of : Option ℕ → ℕ
 size_of None = 0
 size_of (Some n) = n
@@ -9,7 +9,7 @@ size_of (Some n) = n
 abbrev pub size_in : List (Option ℕ) → ℕ → ℕ
 size_in block place = size_of (slice_index_or block place None)
 
--- its hops
+-- the hops of the set
 abbrev pub set_in : List (Option ℕ) → ℕ → List (Option ℕ)
 set_in block place = take (size_in block place) (drop (suc place) block)
 
@@ -17,14 +17,14 @@ set_in block place = take (size_in block place) (drop (suc place) block)
 abbrev pub block_of : List (List (Option ℕ)) → ℕ → List (Option ℕ)
 block_of sets at = slice_index_or sets (at / 512) []
 
--- a set stands whole where the number says
+-- there is a complete set with this identifier
 abbrev pub HasSet : List (List (Option ℕ)) → ℕ → Type 0
 HasSet sets at = suc (at % 512) + size_in (block_of sets at) (at % 512) ≤ length (block_of sets at)
 
--- its hops
+-- the hops of the set with this identifier
 abbrev pub set_at : List (List (Option ℕ)) → ℕ → List (Option ℕ)
 set_at sets at = set_in (block_of sets at) (at % 512)
 
--- each set has its number still
+-- each old set is unchanged and has the same identifier
 abbrev pub KeepsSets : List (List (Option ℕ)) → List (List (Option ℕ)) → Type 0
 KeepsSets old new = (at : ℕ) → HasSet old at → HasSet new at × (set_at new at ≡ set_at old at)

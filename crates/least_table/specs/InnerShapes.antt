@@ -1,4 +1,4 @@
--- How steps cut their blocks.
+-- The ways in which steps cut their blocks.
 use Rattle.std.specs.Prelude.{false, true}
 use Rattle.least_table.specs.InnerSteps.{Step}
 use Rattle.least_table.specs.InnerSteps as steps

@@ -5,14 +5,14 @@ use Rattle.std.specs.declared.alloc.Global.{Global}
 use Rattle.std.specs.declared.vec.Vec.{Vec}
 
 module _ {X : Type 0} where
-  -- the items of the blocks, one block after the other
+  -- the items of the blocks, block by block
   abbrev pub joined : List (Vec X Global) → List X
   joined = flat_map (λ b. b.items)
 
-  -- each block has as many items as a block has
+  -- each block has exactly `size` items
   abbrev pub AreFull : ℕ → List (Vec X Global) → Type 0
   AreFull size blocks = All (λ b. length b.items ≡ size) blocks
 
--- how many items a block may have
+-- the number of items that a block may have
 abbrev pub IsSize : ℕ → Type 0
 IsSize size = (0 < size) × (size ≤ 1024)

@@ -3,15 +3,15 @@ use Rattle.std.specs.Prelude.{◌≡◌, ℕ, Bool, false, cond, List, [], ◌�
 use Rattle.std.specs.declared.cmp.Ordering.TheVariants.{Less}
 use Rattle.ipnet_blocks.specs.BitStrings.{bits_cmp, begins}
 
--- each comes before every later one and doesn't hold it
+-- each piece comes before every later one and doesn't contain it
 abbrev pub AreDisjoint : List (List Bool × ℕ) → Type 0
 AreDisjoint = AllPairs (λ p q. (bits_cmp p.0 q.0 ≡ Less) × (begins p.0 q.0 ≡ false))
 
--- the hop of the piece that holds x; none where no piece does
+-- the hop of the piece that contains x, or none if no piece does
 abbrev pub hop_at : List (List Bool × ℕ) → List Bool → Option ℕ
 hop_at [] x = None
 hop_at (p ∷ ps) x = cond (begins p.0 x) (Some p.1) (hop_at ps x)
 
--- prefixes by their bits
+-- the prefixes as bit strings
 abbrev pub strings : {P K : Type 0} → (P → List Bool) → List (P × K) → List (List Bool × K)
 strings bits ps = map (λ p. (bits p.0, p.1)) ps

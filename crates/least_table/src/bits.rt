@@ -4,7 +4,7 @@ ghost use Rattle.least_table.specs.InnerPieces.{before, shared};
 
 use trie_core::Path;
 
-/// One of the bits.
+/// The bit at an index.
 pub(crate) fn bit(path: &Path, index: u8) -> bool
     requires inside { index < length path.now }
     requires short { length path.now ≤ 128 }
@@ -13,7 +13,7 @@ pub(crate) fn bit(path: &Path, index: u8) -> bool
     path.to_bits() >> (127 - index) & 1 == 1
 }
 
-/// How many bits two strings have in common, of which the first comes before the other and does not begin it.
+/// The number of bits that two strings have in common. The first string must come before the other and not be a prefix of it.
 pub(crate) fn common(path: &Path, other: &Path) -> u8
     requires before { before path.now other.now ≡ true }
     requires short { length path.now ≤ 128 }

@@ -1,4 +1,4 @@
-//! Sets of hops: lists that rise, no hop first and then by number.
+//! Sets of hops, as ascending lists: no hop first, and then numbers.
 ghost use Rattle.std.specs.Prelude.{◌≡◌, ◌∷◌, [], drop, IfOk};
 ghost use Rattle.least_table.specs.HopSets.{same_hop, holds, first_of, AreMerged};
 ghost use Rattle.least_table.specs.InnerHops.{members, second_of};
@@ -7,19 +7,19 @@ ghost use Rattle.least_table.specs.InnerRising.{is_less, IsRising, AreCommon, Ar
 use std::alloc::{AllocError, Global};
 use std::slice;
 
-/// A set of hops. One or two hops take no memory but their own.
+/// A set of hops. A set of one or two hops needs no allocation.
 #[derive(Drop)]
 pub(crate) enum Hops {
     /// The set of one hop.
     One(Option<u32>),
-    /// The set of two.
+    /// The set of two hops, ascending.
     Two([Option<u32>; 2]),
-    /// The set of these.
+    /// The set of these hops, ascending.
     Many(Vec<Option<u32>>),
 }
 
 impl Hops {
-    /// The set of these hops.
+    /// Makes the set of these hops, which must ascend.
     pub(crate) fn new(hops: Vec<Option<u32>>) -> Hops
         ensures { members result ≡ hops.items }
     {
@@ -30,7 +30,7 @@ impl Hops {
         }
     }
 
-    /// The hops, rising.
+    /// Returns the hops, ascending.
     pub(crate) fn as_slice(&self) -> &[Option<u32>]
         ensures { result.now ≡ members self.now }
     {
@@ -42,7 +42,7 @@ impl Hops {
     }
 }
 
-/// Whether two hops are one.
+/// Whether two hops are the same.
 pub(crate) fn is_same(a: Option<u32>, b: Option<u32>) -> bool
     ensures { result ≡ same_hop a b }
 {
@@ -53,7 +53,7 @@ pub(crate) fn is_same(a: Option<u32>, b: Option<u32>) -> bool
     }
 }
 
-/// The first of the hops; none where there is none.
+/// The first of the hops, or none if the list is empty.
 pub(crate) fn first(hops: &[Option<u32>]) -> Option<u32>
     ensures { result ≡ first_of hops.now }
 {
@@ -63,7 +63,7 @@ pub(crate) fn first(hops: &[Option<u32>]) -> Option<u32>
     }
 }
 
-/// The second of the hops; none where there are fewer.
+/// The second of the hops, or none if there are fewer than two.
 pub(crate) fn second(hops: &[Option<u32>]) -> Option<u32>
     ensures { result ≡ second_of hops.now }
 {
@@ -73,7 +73,7 @@ pub(crate) fn second(hops: &[Option<u32>]) -> Option<u32>
     }
 }
 
-/// The hops but for the first.
+/// The hops without the first.
 pub(crate) fn others(hops: &[Option<u32>]) -> &[Option<u32>]
     ensures { result.now ≡ drop 1 hops.now }
 {
@@ -83,14 +83,14 @@ pub(crate) fn others(hops: &[Option<u32>]) -> &[Option<u32>]
     }
 }
 
-/// Whether the hop is one of them.
+/// Whether the list contains the hop.
 pub(crate) fn is_among(hops: &[Option<u32>], hop: Option<u32>) -> bool
     ensures { result ≡ holds hops.now hop }
 {
     hops.iter().any(|other| is_same(hop, *other))
 }
 
-/// Whether the one hop stands before the other.
+/// Whether the first hop is ordered before the second.
 fn is_less(a: Option<u32>, b: Option<u32>) -> bool
     ensures { result ≡ is_less a b }
 {
@@ -101,7 +101,7 @@ fn is_less(a: Option<u32>, b: Option<u32>) -> bool
     }
 }
 
-/// The hops that both lists have.
+/// The hops in both lists.
 fn common(
     alloc: Global,
     low: &[Option<u32>],
@@ -128,7 +128,7 @@ fn common(
     Ok(out)
 }
 
-/// The hops that either list has.
+/// The hops in at least one of the lists.
 fn all(
     alloc: Global,
     low: &[Option<u32>],
@@ -159,7 +159,7 @@ fn all(
     Ok(out)
 }
 
-/// The one hop that both are, or both.
+/// The set of two hops, which may be the same.
 fn pair(a: Option<u32>, b: Option<u32>) -> Hops
     ensures merged { AreMerged (a ∷ []) (b ∷ []) (members result) }
     ensures rising { IsRising (members result) }
@@ -173,7 +173,7 @@ fn pair(a: Option<u32>, b: Option<u32>) -> Hops
     }
 }
 
-/// The common hops, or those of either where they have none in common: by both lists.
+/// `merge` of any two lists.
 fn merge_lists(alloc: Global, low: &[Option<u32>], high: &[Option<u32>]) -> Result<Hops, AllocError>
     requires low_rises { IsRising low.now }
     requires high_rises { IsRising high.now }
@@ -187,8 +187,8 @@ fn merge_lists(alloc: Global, low: &[Option<u32>], high: &[Option<u32>]) -> Resu
     Ok(Hops::new(all(alloc, low, high)?))
 }
 
-/// The common hops, or those of either where they have none in common. A list of one hop, as most are, asks for no memory where the
-/// other has it, or is of one hop too.
+/// The hops in both lists, or all hops of both lists if they have none in common. Most lists have one hop: then it does not allocate if
+/// the other list contains this hop, or has one hop too.
 pub(crate) fn merge(
     alloc: Global,
     low: &[Option<u32>],

@@ -1,4 +1,4 @@
-//! Sets of hops, kept one after the other.
+//! A store of sets of hops.
 ghost use Rattle.std.specs.Prelude.{◌≡◌, ◌/◌, ◌%◌, ◌+◌, ◌-◌, ◌<◌, ◌≤◌, [], IfOk, IsTrue, OnOk, length, slice_index_or};
 ghost use Rattle.least_table.specs.InnerSets.{HasSet, KeepsSets, set_at, set_in, size_in};
 
@@ -6,10 +6,11 @@ use std::alloc::{AllocError, Global};
 use std::cmp::max;
 use std::marker::Model;
 
-/// How many words a block has at least room for; a set begins at one of the first so many.
+/// Each block has room for at least this many words, and each set begins at one of the first `SIZE` words of a block.
 const SIZE: usize = 512;
 
-/// Sets of hops one after the other in blocks, each behind the number of its hops. No set is copied as their number grows. A set has a number of 32 bits: its block's, and its place there.
+/// A store of sets, one after another in blocks. Before each set is the number of its hops. Sets aren't moved when the store grows. A set
+/// is identified by 32 bits: the number of its block, and its place in the block.
 ///
 /// Contracts see the list of the blocks.
 #[derive(Drop)]
@@ -25,7 +26,7 @@ impl Model for KeptSets {
     ghost view = { λ a. map (λ b. b.items) a.blocks.items };
 }
 
-/// The number of the set at a place of a block.
+/// The identifier of the set at a place of a block.
 fn number(block: usize, place: usize) -> Result<u32, AllocError>
     requires { place < 512 }
     ensures block { IfOk result (λ at. at / 512 ≡ block) }
@@ -50,7 +51,7 @@ fn set(block: &[Option<u32>], place: usize) -> &[Option<u32>]
 }
 
 impl KeptSets {
-    /// No sets.
+    /// Makes an empty store.
     pub(crate) fn new(alloc: Global) -> KeptSets
         ensures { result ≡ [] }
     {
@@ -59,7 +60,7 @@ impl KeptSets {
         }
     }
 
-    /// The set of a number.
+    /// Returns the set with this identifier.
     pub(crate) fn get(&self, at: u32) -> &[Option<u32>]
         requires { HasSet self.now at }
         ensures { result.now ≡ set_at self.now at }
@@ -68,7 +69,7 @@ impl KeptSets {
         set(&self.blocks[at / SIZE], at % SIZE)
     }
 
-    /// Whether the last block has room for a set of so many hops.
+    /// Whether the last block has room for a set of `count` hops.
     fn has_room(&self, count: usize) -> bool
         ensures { IsTrue result → (0 < length self.now) × (length (slice_index_or self.now (length self.now - 1) []) < 512) }
     {
@@ -78,7 +79,7 @@ impl KeptSets {
         }
     }
 
-    /// Adds a set in a block of its own, and answers its number.
+    /// Adds a set in a new block, and returns its identifier.
     fn begin(&mut self, hops: &[Option<u32>]) -> Result<u32, AllocError>
         ensures kept { OnOk result (KeepsSets self.old self.new) }
         ensures here { IfOk result (λ at. HasSet self.new at × (set_at self.new at ≡ hops.now)) }
@@ -95,7 +96,7 @@ impl KeptSets {
         Ok(at)
     }
 
-    /// Adds a set in the last block, and answers its number.
+    /// Adds a set to the last block, and returns its identifier.
     fn append(&mut self, hops: &[Option<u32>]) -> Result<u32, AllocError>
         requires some { 0 < length self.old }
         requires room { length (slice_index_or self.old (length self.old - 1) []) < 512 }
@@ -113,7 +114,7 @@ impl KeptSets {
         Ok(at)
     }
 
-    /// Adds a set, and answers its number.
+    /// Adds a set, and returns its identifier.
     pub(crate) fn push(&mut self, hops: &[Option<u32>]) -> Result<u32, AllocError>
         ensures kept { OnOk result (KeepsSets self.old self.new) }
         ensures here { IfOk result (λ at. HasSet self.new at × (set_at self.new at ≡ hops.now)) }

@@ -1,4 +1,4 @@
-//! Least tables: the fewest routes, nested ones and `drop` included, that give each address its hop.
+//! Least tables: the fewest routes, nested routes and `drop` included, that give each address its hop.
 #![tactic(auto)]
 
 mod bits;

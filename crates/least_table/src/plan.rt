@@ -1,4 +1,4 @@
-//! Plans: which hops each block is best handed, as steps that are taken in turn.
+//! Plans: the best inherited hops of each block, as a sequence of steps.
 ghost use Rattle.std.specs.Prelude.{◌≡◌, ◌-◌, ◌<◌, ◌≤◌, ◌++◌, ◌∷◌, [], List, ℕ, None, Option, Some, Bool, drop, length, IfOk, IfSome, MatchOption, OnOk, not, true};
 ghost use Rattle.least_table.specs.HopSets.{AreMerged, first_of, holds};
 ghost use Rattle.least_table.specs.InnerPacked.{AreWhole, Grows, IsAlways, IsKept, IsWider, best_at, hops_in, step_of, steps_in};
@@ -22,68 +22,69 @@ use std::alloc::{AllocError, Global};
 use std::slice;
 use trie_core::Path;
 
-/// What a plan does with a block, in eight bytes. The step of a block stands behind those of the smaller blocks that it is cut
-/// into.
+/// The plan of a block, in eight bytes: its best inherited hops, and how it is cut into smaller blocks. A block inherits the hop that
+/// the routes outside give its addresses, and needs the fewest routes under its best inherited hops. The step of a block comes after
+/// the steps of the smaller blocks that it is cut into.
 #[derive(Clone, Copy)]
 enum Packed {
-    /// All its addresses have this hop.
+    /// All addresses of the block have this hop.
     Leaf(u32),
-    /// Its halves have one hop each, those of the set of this number, the lower one the first. It is best handed either.
+    /// Each half has one hop. The set with this identifier has both hops, and that of the lower half is the first. Both are best.
     Rising(u32),
-    /// The same, the lower one the second.
+    /// As `Rising`, but the hop of the lower half is the second of the set.
     Falling(u32),
-    /// It is cut into halves, the lower first, and is best handed this hop.
+    /// The block is cut into halves, the lower half first. This hop is best.
     One(u32),
-    /// It is cut into halves, the lower first, and is best handed none.
+    /// The block is cut into halves, the lower half first. No hop is best.
     Nowhere,
-    /// It is cut into halves, the lower first, and is best handed none or this hop.
+    /// The block is cut into halves, the lower half first. Both no hop and this hop are best.
     Either(u32),
-    /// It is cut into halves, the lower first, and is best handed the hops of the set of this number.
+    /// The block is cut into halves, the lower half first. The hops of the set with this identifier are best.
     Several(u32),
-    /// Only addresses of its lower half have hops, and it is best handed none or this hop.
+    /// Only addresses of the lower half have hops. Both no hop and this hop are best.
     LowerEither(u32),
-    /// Its upper half has one hop, the first of the set of this number, and it is best handed the others.
+    /// The upper half has one hop, the first of the set with this identifier. The other hops of the set are best.
     LowerSeveral(u32),
-    /// Only addresses of its upper half have hops, and it is best handed none or this hop.
+    /// Only addresses of the upper half have hops. Both no hop and this hop are best.
     UpperEither(u32),
-    /// Its lower half has one hop, the first of the set of this number, and it is best handed the others.
+    /// The lower half has one hop, the first of the set with this identifier. The other hops of the set are best.
     UpperSeveral(u32),
-    /// None of its addresses has a hop, but for those of a smaller block, so many levels below by the bits of a number.
+    /// Only addresses of a smaller block have hops. It is this many levels below, on the path of these bits.
     Skip(u8, u16),
-    /// Its addresses have this hop, but for those of a smaller block, so many levels below by the bits of a number.
+    /// All addresses outside a smaller block have this hop. The smaller block is this many levels below, on the path of these bits.
     Around(u8, u16, u32),
 }
 
 /// How a step cuts its block.
 #[derive(Drop)]
 enum Shape {
-    /// Not at all.
+    /// It doesn't cut the block.
     Leaf,
     /// Into halves with one hop each.
     Pair(Option<u32>, Option<u32>),
     /// Into halves, the lower first.
     Fork,
-    /// Into a lower half, and an upper one with one hop.
+    /// Into a lower half, and an upper half with one hop.
     Lower(Option<u32>),
-    /// Into an upper half, and a lower one with one hop.
+    /// Into an upper half, and a lower half with one hop.
     Upper(Option<u32>),
-    /// Into a smaller block, which this way leads to, and what is around it, with one hop.
+    /// Into the smaller block on this path, and the addresses around it, which have one hop.
     Skip(Turns),
 }
 
-/// The hops that a block is best handed, rising.
+/// The best inherited hops of a block, ascending.
 #[derive(Drop)]
 enum Best<'a> {
-    /// This one.
+    /// One hop.
     One(Option<u32>),
-    /// These two.
+    /// Two hops.
     Two([Option<u32>; 2]),
-    /// These.
+    /// Any number of hops.
     Several(&'a [Option<u32>]),
 }
 
 impl<'a> Best<'a> {
-    /// The hops, rising.
+    /// Returns the hops, ascending.
     fn as_slice(&self) -> &[Option<u32>]
         ensures { result.now ≡ hops_in self.now }
     {
@@ -95,16 +96,16 @@ impl<'a> Best<'a> {
     }
 }
 
-/// Where the plan of a lower half is.
+/// The plan of a lower half.
 #[derive(Clone, Copy)]
 pub(crate) enum Planned {
-    /// It has no step: all addresses of the half have this hop.
+    /// All addresses of the half have this hop, and its plan has no step.
     Leaf(u32),
-    /// The place of its last step.
+    /// The index of the plan's last step.
     At(usize),
 }
 
-/// The step of a block whose addresses have this hop, but for those of a smaller one, which this way leads to.
+/// The step of a block in which all addresses outside the smaller block on this path have one hop.
 fn skip(turns: Turns, hop: Option<u32>) -> Packed
     ensures { IsAlways result (Skip hop turns) }
 {
@@ -114,8 +115,8 @@ fn skip(turns: Turns, hop: Option<u32>) -> Packed
     }
 }
 
-/// The step of a block of which one half has this step, and the other this hop, where the step leads to a smaller block past others
-/// with this hop.
+/// The step of the parent of a block with this step, if all addresses of both that are outside the same smaller block have this hop.
+/// `None` if that isn't so, or if the step would skip too many levels.
 fn wider(step: Packed, is_upper: bool, hop: Option<u32>) -> Option<Packed>
     requires { (sets : List (List (Option ℕ))) × IsKept sets step }
     ensures { IfSome result (λ wide. (sets : List (List (Option ℕ))) → IsWider is_upper hop (step_of sets step) wide) }
@@ -139,7 +140,7 @@ pub(crate) struct Steps {
 }
 
 impl Steps {
-    /// No steps.
+    /// Makes a plan without steps.
     pub(crate) fn new(alloc: Global) -> Steps
         ensures steps { steps_in result ≡ [] }
         ensures whole { AreWhole result }
@@ -150,7 +151,7 @@ impl Steps {
         }
     }
 
-    /// How many there are.
+    /// The number of steps.
     fn len(&self) -> usize
         ensures { result ≡ length (steps_in self.now) }
     {
@@ -174,7 +175,7 @@ impl Steps {
         self.push(Packed::Leaf(hop))
     }
 
-    /// Takes the last step off, if all addresses of its block have one hop.
+    /// Removes the last step, and returns its hop, if all addresses of its block have one hop.
     fn pop_leaf(&mut self) -> Option<u32>
         requires { AreWhole self.old }
         ensures { MatchOption result (self.new ≡ self.old) (λ hop. (steps_in self.old ≡ steps_in self.new ++ Leaf (Some hop) ∷ []) × AreWhole self.new) }
@@ -203,7 +204,7 @@ impl Steps {
         }
     }
 
-    /// Appends the step of a block that is cut into halves, and is best handed the hops of this set.
+    /// Appends the step of a block that is cut into halves; the hops of this set are best.
     fn push_several(&mut self, hops: &[Option<u32>]) -> Result<(), AllocError>
         requires { AreWhole self.old }
         ensures { OnOk result (Grows self.old self.new (Fork hops.now ∷ [])) }
@@ -212,7 +213,7 @@ impl Steps {
         self.steps.push(Packed::Several(at))
     }
 
-    /// Appends the step of a block that is cut into halves, and is best handed these hops.
+    /// Appends the step of a block that is cut into halves; these hops are best.
     fn push_fork(&mut self, hops: &[Option<u32>]) -> Result<(), AllocError>
         requires { AreWhole self.old }
         ensures { OnOk result (Grows self.old self.new (Fork hops.now ∷ [])) }
@@ -225,8 +226,8 @@ impl Steps {
         }
     }
 
-    /// Appends the step of a block of which one half has the last step, and the other one this hop, the first of these; it is best
-    /// handed the others.
+    /// Appends the step of a block. The last step is that of one half, and the first hop of the set is that of the other half. The other
+    /// hops of the set are best.
     fn push_beside(&mut self, is_upper: bool, set: &[Option<u32>]) -> Result<(), AllocError>
         requires { AreWhole self.old }
         ensures { OnOk result (Grows self.old self.new (Half is_upper (first_of set.now) (drop 1 set.now) ∷ [])) }
@@ -239,8 +240,8 @@ impl Steps {
         }
     }
 
-    /// Appends the step of a block of which one half, the upper one or the lower one, has the last step, and the other this hop, and
-    /// which is best handed these hops.
+    /// Appends the step of a block. The last step is that of the upper half if `is_upper`, else of the lower half. The other half has this
+    /// hop. The hops of the list are best.
     fn push_half(
         &mut self,
         alloc: Global,
@@ -264,7 +265,7 @@ impl Steps {
         self.push_beside(is_upper, &set)
     }
 
-    /// The hops that the block of a step is best handed.
+    /// The best inherited hops of the block of a step.
     fn best(&self, step: Packed) -> Best<'_>
         requires { IsKept self.now.sets step }
         ensures { hops_in result ≡ step_best (step_of self.now.sets step) }
@@ -286,7 +287,7 @@ impl Steps {
         }
     }
 
-    /// The hops that a block is best handed whose halves have the steps at these places.
+    /// The best inherited hops of a block whose halves have the steps at these indices.
     fn merged(&self, alloc: Global, low: usize, high: usize) -> Result<Hops, AllocError>
         requires whole { AreWhole self.now }
         requires low { low < length (steps_in self.now) }
@@ -301,8 +302,8 @@ impl Steps {
         merge(alloc, below.as_slice(), above.as_slice())
     }
 
-    /// Makes of the plans of both halves of a block, of which the lower one's last step has this place, and the upper one's is the last,
-    /// one of the block.
+    /// Combines the plans of both halves of a block into one plan. The last step of the lower half's plan is at index `low`, and that of
+    /// the upper half's plan is the last step.
     fn fork(&mut self, alloc: Global, low: usize) -> Result<(), AllocError>
         requires { (xs : List Step) × (ys : List Step) × (p : Plan) × (q : Plan) × IsHeld (planned.At low) p xs ys × IsRising (step_best (top p)) × Ends ys q self.old }
         ensures { OnOk result ((xs : List Step) (ys : List Step) (p : Plan) (q : Plan) → IsHeld (planned.At low) p xs ys → IsRising (step_best (top p)) → Ends ys q self.old → (r : Plan) × OfHalves p q r × Ends xs r self.new) }
@@ -312,7 +313,7 @@ impl Steps {
         self.push_fork(hops.as_slice())
     }
 
-    /// Makes of the plan of one half of a block, the upper one or the lower one, one of the block, whose other half has this hop.
+    /// Makes the plan of one half of a block, the upper half if `is_upper`, the plan of the block. Its other half has this hop.
     fn widen(&mut self, alloc: Global, is_upper: bool, hop: Option<u32>) -> Result<(), AllocError>
         requires { (xs : List Step) × (p : Plan) × Ends xs p self.old }
         ensures { OnOk result ((xs : List Step) (p : Plan) → Ends xs p self.old → (r : Plan) × OfHalf is_upper hop p r × Ends xs r self.new) }
@@ -333,8 +334,8 @@ impl Steps {
         self.push_half(alloc, is_upper, hop, hops.as_slice())
     }
 
-    /// Makes of the plan of the block of the first `from` bits of a path, which the last steps are, one of the block of its first `to`
-    /// bits, of which no other address has a hop.
+    /// Makes the plan of the block of the first `from` bits of a path, which is the last one, the plan of the block of its first `to`
+    /// bits. No other address of this block has a hop.
     pub(crate) fn ascend(
         &mut self,
         alloc: Global,
@@ -356,7 +357,7 @@ impl Steps {
         Ok(())
     }
 
-    /// Where the plan is that the last steps are, which is taken off if all addresses of its block have one hop.
+    /// Returns the last plan. If all addresses of its block have one hop, its step is removed.
     pub(crate) fn hold(&mut self) -> Planned
         requires { (xs : List Step) × (p : Plan) × Ends xs p self.old }
         ensures { (xs : List Step) (p : Plan) → Ends xs p self.old → IsHeld result p xs (steps_in self.new) × AreWhole self.new }
@@ -367,7 +368,7 @@ impl Steps {
         }
     }
 
-    /// Makes of the plans of both halves of a block one of the block. The last steps are that of the upper half.
+    /// Combines the plans of both halves of a block into one plan. That of the upper half is the last one.
     pub(crate) fn join(&mut self, alloc: Global, low: Planned) -> Result<(), AllocError>
         requires { (xs : List Step) × (ys : List Step) × (p : Plan) × (q : Plan) × IsHeld low p xs ys × IsRising (step_best (top p)) × Ends ys q self.old }
         ensures { OnOk result ((xs : List Step) (ys : List Step) (p : Plan) (q : Plan) → IsHeld low p xs ys → IsRising (step_best (top p)) → Ends ys q self.old → (r : Plan) × OfHalves p q r × Ends xs r self.new) }
@@ -408,7 +409,7 @@ impl Steps {
         }
     }
 
-    /// The hop that a block hands down by its step, where `handed` is handed down to it, and whether it needs a route for that.
+    /// The hop that a block passes on to its parts if it inherits `handed`, and whether it needs a route for that.
     fn choice(&self, step: Packed, handed: Option<u32>) -> (Option<u32>, bool)
         requires { IsKept self.now.sets step }
         ensures hop { result.0 ≡ passed (step_best (step_of self.now.sets step)) handed }
@@ -422,8 +423,7 @@ impl Steps {
         }
     }
 
-    /// Takes off the steps of the plan of the block at `path`, where `handed` is handed down to it, and adds its routes before the
-    /// others.
+    /// Removes the steps of the plan of the block at `path`, which inherits `handed`, and adds its routes before the others.
     pub(crate) fn take<P: Prefix + Copy>(
         &mut self,
         path: &Path,

@@ -1,4 +1,4 @@
-//! The plan of pieces that come one after another.
+//! The plan of a sequence of pieces.
 ghost use Rattle.std.specs.Prelude.{◌≡◌, ◌<◌, ◌≤◌, ◌++◌, ◌∷◌, [], ℕ, AllPairs, Bool, IfOk, IsTrue, List, MatchOption, OnOk, length, reverse, true};
 ghost use Rattle.std.specs.declared.cmp.Ordering.TheVariants.{Less};
 ghost use Rattle.ipnet_blocks.specs.BitStrings.{bits_cmp};
@@ -17,16 +17,16 @@ use std::alloc::{AllocError, Global};
 use std::marker::PhantomData;
 use trie_core::Path;
 
-/// A lower half with pieces, whose upper half has some too, and is not planned yet.
+/// A planned lower half. The upper half beside it has pieces too, and isn't planned yet.
 #[derive(Clone, Copy)]
 struct Lower {
-    /// How many bits the block has that is cut into these halves.
+    /// The length of the block that has these halves.
     depth: u8,
-    /// Where its lower half's plan is.
+    /// The plan of the lower half.
     planned: Planned,
 }
 
-/// The innermost of the lower halves, taken off, if its block has at least so many bits.
+/// Removes and returns the innermost lower half, if its block has at least `depth` bits.
 fn innermost(lowers: &mut Vec<Lower>, depth: u8) -> Option<Lower>
     ensures { MatchOption result ((lowers.new ≡ lowers.old) × IsInside depth (reverse lowers.old.items)) (λ o. (depth ≤ o.depth) × (lowers.old.items ≡ lowers.new.items ++ o ∷ [])) }
 {
@@ -36,8 +36,8 @@ fn innermost(lowers: &mut Vec<Lower>, depth: u8) -> Option<Lower>
     }
 }
 
-/// The plan of pieces that come ascending: blocks with a hop each, of which none lies in another. No piece is kept itself: a step of the
-/// plan takes eight bytes, and there are some one to two for each piece.
+/// The plan of pieces, which are blocks with a hop each. They come in ascending order, and no block is inside another. The pieces
+/// aren't stored: a step of the plan takes eight bytes, and there are one to two steps for each piece.
 #[derive(Drop)]
 pub struct Planner<P: Copy> {
     steps: Steps,
@@ -47,7 +47,7 @@ pub struct Planner<P: Copy> {
 }
 
 impl<P: Prefix + Copy> Planner<P> {
-    /// No pieces. It takes no memory.
+    /// Makes a plan without pieces. Does not allocate.
     pub fn new(alloc: Global) -> Planner<P>
         ensures { HasPlanned P.R.width result [] }
     {
@@ -59,7 +59,7 @@ impl<P: Prefix + Copy> Planner<P> {
         }
     }
 
-    /// Plans the block of the first `depth` bits of the path of the last piece: no other piece comes that lies in it.
+    /// Plans the block of the first `depth` bits of the path of the last piece; no more pieces are inside it.
     fn close(&mut self, path: &Path, depth: u8) -> Result<(), AllocError>
         requires width { length path.now ≤ P.R.width }
         requires short { P.R.width ≤ 128 }
@@ -77,7 +77,7 @@ impl<P: Prefix + Copy> Planner<P> {
         self.steps.ascend(alloc, path, from, depth)
     }
 
-    /// Plans the lower half that the last piece lies in, where the next one lies in the upper half beside it.
+    /// Plans the lower half that contains the last piece; the next piece is in the upper half beside it.
     fn turn(&mut self, last: &Path, path: &Path) -> Result<(), AllocError>
         requires width { length last.now ≤ P.R.width }
         requires other_width { length path.now ≤ P.R.width }
@@ -93,7 +93,7 @@ impl<P: Prefix + Copy> Planner<P> {
         Ok(())
     }
 
-    /// Makes ready for a piece at `path`, behind all others.
+    /// Prepares for a piece at `path`, which comes after all others.
     fn begin(&mut self, path: &Path) -> Result<(), AllocError>
         requires width { length path.now ≤ P.R.width }
         requires after { (ps : List (List Bool × ℕ)) × (hop : ℕ) × HasPlanned P.R.width self.old ps × AreDisjoint (ps ++ (path.now, hop) ∷ []) }
@@ -106,10 +106,10 @@ impl<P: Prefix + Copy> Planner<P> {
         }
     }
 
-    /// Adds a piece: a block, behind all others, with its hop.
+    /// Adds a piece: a block after all others, with its hop.
     ///
     /// # Errors
-    /// Where there is no memory; then the plan is lost.
+    /// `AllocError` if an allocation fails; the plan is then unusable.
     pub fn push(&mut self, block: &P, hop: u32) -> Result<(), AllocError>
         requires fits { IsTrue (P.fits block.now) }
         requires after { (ps : List (List Bool × ℕ)) × HasPlanned P.R.width self.old ps × AreDisjoint (ps ++ (P.bits block.now, hop) ∷ []) }
@@ -122,7 +122,7 @@ impl<P: Prefix + Copy> Planner<P> {
         Ok(())
     }
 
-    /// The routes of a least table, where this was the path of the last piece.
+    /// The routes of a least table; `last` is the path of the last piece.
     fn routes(&mut self, last: &Path) -> Result<Routes<P>, AllocError>
         requires width { length last.now ≤ P.R.width }
         requires planned { (ps : List (List Bool × ℕ)) × ArePlanned P.R.width last.now (length last.now) (length last.now) ps self.old.lowers.items self.old.steps }
@@ -137,11 +137,11 @@ impl<P: Prefix + Copy> Planner<P> {
         Ok(routes)
     }
 
-    /// The routes of a table with the hops of the pieces and the fewest members of all such tables, ascending. `None` is `drop`. The
-    /// memory of the plan is given back as the routes take theirs.
+    /// Returns the routes, ascending, of a table in which each address has the hop of its piece. No such table has fewer routes. `None`
+    /// is `drop`. The memory of the plan is freed while the routes are made.
     ///
     /// # Errors
-    /// Where there is no memory.
+    /// `AllocError` if an allocation fails.
     pub fn into_routes(self) -> Result<Routes<P>, AllocError>
         requires { (ps : List (List Bool × ℕ)) × HasPlanned P.R.width self ps }
         ensures networks { IfOk result (λ table. AreNetworks P.fits P.of_bits P.bits table) }

@@ -12,10 +12,10 @@ use std::alloc::{AllocError, Global};
 use std::marker::Model;
 use trie_core::Path;
 
-/// The routes of a table, ascending, each with its hop; `None` is `drop`. They are made from the last to the first, and given from the
-/// first to the last, when the memory of those that were given is given back.
+/// The routes of a table, ascending, each with its hop; `None` is `drop`. They are made from the last to the first. `next` returns them
+/// from the first to the last, and frees the memory of those that it returned.
 ///
-/// Contracts see those that are left.
+/// Contracts see the routes that are left.
 #[derive(Drop)]
 pub struct Routes<P> {
     stack: Stack<(P, Option<u32>), 128>,
@@ -30,7 +30,7 @@ impl<P> Model for Routes<P> {
 }
 
 impl<P: Copy> Routes<P> {
-    /// No routes. It takes no memory.
+    /// Makes an empty list of routes. Does not allocate.
     pub(crate) fn new(alloc: Global) -> Routes<P>
         ensures { result ≡ [] }
     {
@@ -39,7 +39,7 @@ impl<P: Copy> Routes<P> {
         }
     }
 
-    /// The first of those that are left.
+    /// Removes and returns the first route that is left.
     pub fn next(&mut self) -> Option<(P, Option<u32>)>
         ensures { YieldsFirst (λ rs. rs) self.old result self.new }
     {
@@ -57,7 +57,7 @@ impl<P: Prefix + Copy> Routes<P> {
         self.stack.push((prefix_of(path), hop))
     }
 
-    /// The same, if the block needs a route.
+    /// Adds a route of the block at `path` before the others, if `is_new`.
     pub(crate) fn add_own(
         &mut self,
         path: &Path,
@@ -74,7 +74,7 @@ impl<P: Prefix + Copy> Routes<P> {
         Ok(())
     }
 
-    /// Adds a route of the block at `path` before the others, if its hop isn't that which is handed down to it.
+    /// Adds a route of the block at `path` before the others, if its hop differs from the inherited one.
     pub(crate) fn add_other(
         &mut self,
         path: &Path,

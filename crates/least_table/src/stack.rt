@@ -6,13 +6,13 @@ use std::alloc::{AllocError, Global};
 use std::marker::Model;
 use std::mem;
 
-/// The most blocks but the last one, so that the items can be counted.
+/// The most full blocks; up to this number, the number of items fits a `usize`.
 const MOST: usize = 1 << 32;
 
-/// A list that is added to and taken from at its end, in blocks of `SIZE` items, one to 1,024. So no item is copied as it grows, and
-/// memory goes back block by block as items are taken.
+/// A stack of items in blocks of `SIZE` items, 1 to 1,024. Items aren't moved when it grows, and memory is freed block by block
+/// as items are removed.
 ///
-/// Contracts see the list.
+/// Contracts see the list of the items.
 #[derive(Drop)]
 pub struct Stack<X, const SIZE: usize> {
     full: Vec<Vec<X>>,
@@ -31,7 +31,7 @@ impl<X, const SIZE: usize> Model for Stack<X, SIZE> {
 }
 
 impl<X, const SIZE: usize> Stack<X, SIZE> {
-    /// No items. It takes no memory.
+    /// Makes an empty stack. Does not allocate.
     pub fn new(alloc: Global) -> Stack<X, SIZE>
         requires { IsSize SIZE }
         ensures { result ≡ [] }
@@ -42,14 +42,14 @@ impl<X, const SIZE: usize> Stack<X, SIZE> {
         }
     }
 
-    /// How many there are.
+    /// Returns the number of items.
     pub fn len(&self) -> usize
         ensures { result ≡ length self.now }
     {
         self.full.len() * SIZE + self.last.len()
     }
 
-    /// The item at a place. It takes no memory.
+    /// Returns the item at an index. Does not allocate.
     pub fn get(&self, at: usize) -> &X
         requires { at < length self.now }
         ensures { result.now ≡ slice_index_or self.now at result.now }
@@ -63,7 +63,7 @@ impl<X, const SIZE: usize> Stack<X, SIZE> {
         }
     }
 
-    /// The last item, where there is one. It takes no memory.
+    /// Returns the last item, if there is one. Does not allocate.
     pub fn last(&self) -> Option<&X>
         ensures { MatchOption result (self.now ≡ []) (λ x. (xs : List X) × (self.now ≡ xs ++ x.now ∷ [])) }
     {
@@ -79,7 +79,7 @@ impl<X: Drop, const SIZE: usize> Stack<X, SIZE> {
     /// Adds an item at the end.
     ///
     /// # Errors
-    /// Where there is no memory; then the list may be as it was, or not. The item is dropped.
+    /// `AllocError` if an allocation fails. The item is dropped.
     pub fn push(&mut self, item: X) -> Result<(), AllocError>
         ensures { OnOk result (self.new ≡ self.old ++ item ∷ []) }
     {
@@ -95,7 +95,7 @@ impl<X: Drop, const SIZE: usize> Stack<X, SIZE> {
         Ok(())
     }
 
-    /// Takes the last item off, where there is one.
+    /// Removes and returns the last item, if there is one.
     pub fn pop(&mut self) -> Option<X>
         ensures { MatchOption result ((self.old ≡ []) × (self.new ≡ [])) (λ x. self.old ≡ self.new ++ x ∷ []) }
     {

@@ -1,4 +1,4 @@
-//! The way from a block to a smaller one.
+//! The path from a block to a smaller block inside it.
 ghost use Rattle.std.specs.Prelude.{◌≡◌, ◌+◌, ◌<◌, ◌≤◌, ◌^◌, ◌++◌, ◌∷◌, [], IfSome, false, length, slice_index_or};
 ghost use Rattle.ipnet_blocks.specs.Blocks.{digits};
 
@@ -8,7 +8,7 @@ use trie_core::Path;
 /// The most levels.
 const MOST: u8 = 16;
 
-/// Into which halves the way goes, level by level, over at most sixteen levels: the bits of a number, set for an upper half.
+/// The half that the path enters at each of at most sixteen levels: a bit that is set means the upper half.
 ///
 /// Contracts see the bits.
 #[derive(Drop)]
@@ -29,7 +29,7 @@ impl Model for Turns {
 }
 
 impl Turns {
-    /// These bits of a number.
+    /// Makes the path of the last `levels` bits of a number.
     pub(crate) fn of(levels: u8, bits: u16) -> Turns
         requires most { levels ≤ 16 }
         requires fits { bits < 2 ^ levels }
@@ -38,7 +38,7 @@ impl Turns {
         Turns { levels, bits }
     }
 
-    /// The way to one half.
+    /// Makes the path to one half.
     pub(crate) fn one(is_upper: bool) -> Turns
         ensures { result ≡ is_upper ∷ [] }
     {
@@ -48,7 +48,7 @@ impl Turns {
         }
     }
 
-    /// The way from one level further out, where there is room for it.
+    /// The same path from one level further up, or `None` if it would have too many levels.
     pub(crate) fn from_above(&self, is_upper: bool) -> Option<Turns>
         ensures { IfSome result (λ turns. turns ≡ is_upper ∷ self.now) }
     {
@@ -61,7 +61,7 @@ impl Turns {
         })
     }
 
-    /// Whether the way goes into the upper half at a level.
+    /// Whether the path enters the upper half at a level.
     fn turn(&self, level: u8) -> bool
         requires { level < length self.now }
         ensures { result ≡ slice_index_or self.now level false }
@@ -69,7 +69,7 @@ impl Turns {
         self.bits >> (self.levels - 1 - level) & 1 == 1
     }
 
-    /// The path of the smaller block, from that of the larger one.
+    /// The path of the smaller block, given the path of the larger one.
     pub(crate) fn onward(&self, path: &Path) -> Path
         requires { length path.now + length self.now ≤ 128 }
         ensures { result ≡ path.now ++ self.now }

@@ -6,6 +6,7 @@ pub mod Written
 pub mod Covered
 pub mod Same
 pub mod Lent
+pub mod Ascending
 pub mod Asked
 pub mod Within
 pub mod Spares

@@ -1,4 +1,4 @@
--- Equality of maps is one where that of values is, and that of sets is one.
+-- Equality of maps is an equivalence if that of values is; equality of sets always is.
 use Rattle.std.specs.Prelude.{Bool, refl}
 use Rattle.std.specs.Cmp.{IsPartialEquivalence, IsEquivalence, on_per, and_per, on_equiv, and_equiv, partial_equiv_from_equiv, eq_by_cmp_equiv}
 use Rattle.std.specs.Cmp.Lexicographic.{lists_per, lists_equiv}

@@ -1,15 +1,15 @@
--- What a map keeps of its root.
+-- The invariant of a map's root.
 use Rattle.std.specs.Prelude.{ℕ, ◌≤◌, ◌≡◌, List, Bool, length, is_some, true}
 use Rattle.std.specs.FinMap as map
 use Rattle.trie_core.specs.Nodes.{BitMap, Seen}
 use Rattle.trie_core.specs.InnerCount.{all_nodes}
 use Rattle.trie_core.specs.Ways.{AreIdle}
 
--- no key is longer than n
+-- no key is longer than n bits
 abbrev pub KeysUpTo : {X : Type 0} → ℕ → BitMap X → Type 0
 KeysUpTo n m = (q : List Bool) → is_some (map.get m q) ≡ true → length q ≤ n
 
--- the map has counted the entries and the nodes, and its keys have at most w bits
+-- `len` and `nodes` are the numbers of entries and nodes, and the keys have at most w bits
 pub record IsRoot {X : Type 0} (w len nodes : ℕ) (s : Seen X) : Type 0 where
   pub entries_counted : len ≡ map.len s.entries
   pub nodes_counted : nodes ≡ all_nodes s

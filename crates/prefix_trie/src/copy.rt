@@ -1,4 +1,4 @@
-//! Maps made of another map, and of entries in any order.
+//! Copies of a map, and maps made from entries in any order.
 ghost use Rattle.std.specs.Prelude.{◌≡◌, List, IfOk, IfErr, IsTrue};
 ghost use Rattle.std.specs.Iterator.{Drains, HoldsAlong, IsFinite};
 ghost use Rattle.std.specs.List.{All};
@@ -13,10 +13,10 @@ use std::alloc::Global;
 use std::marker::PhantomData;
 
 impl<P: Prefix, T: Clone> PrefixMap<P, T> {
-    /// An equal map with as many nodes, its values clones of these, which have to equal them.
+    /// Returns an equal map with as many nodes. Its values are clones, and a clone must equal the original.
     ///
     /// # Errors
-    /// `Memory` where there is none for all of it, or a value's clone has none. Nothing is left of it then.
+    /// `Memory` if an allocation fails, also one of a value's `clone`. All that was copied is dropped.
     pub fn try_clone(&self, alloc: Global) -> Result<PrefixMap<P, T>, Refused>
         requires { (x y : T) → T.is_clone x y → y ≡ x }
         ensures same { IfOk result (λ m. m ≡ self.now) }
@@ -35,11 +35,10 @@ impl<P: Prefix, T: Clone> PrefixMap<P, T> {
 }
 
 impl<P: Prefix + Drop, T: Drop> PrefixMap<P, T> {
-    /// The map of these entries, stored in their order: of several values for one key the last one stays. The map
-    /// is tidy.
+    /// Makes the map of these entries, inserted in order: if a key occurs several times, its last value stays. The map is tidy.
     ///
     /// # Errors
-    /// `Memory` where there is none for an entry, as of `insert`. Then there is no map.
+    /// `Memory` if an entry can't be inserted, as in `insert`. All that was stored is dropped.
     pub fn try_from_iter<U: IntoIterator<Item = (P, T)>>(
         alloc: Global,
         items: U,

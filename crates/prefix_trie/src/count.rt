@@ -1,4 +1,4 @@
-//! How many addresses a map covers.
+//! The number of addresses that a map covers.
 ghost use Rattle.std.specs.Prelude.{◌≡◌, ◌+◌, ◌<◌, ◌≤◌, ◌^◌, false, IfSome, MatchOption, IsTrue};
 ghost use Rattle.ipnet_blocks.specs.BitStrings.{begins};
 ghost use Rattle.prefix_trie.specs.Covered.{covered_count};
@@ -8,7 +8,7 @@ use crate::prefix::{Prefix, prefix_of};
 use ipnet_addr::key::Key;
 use trie_core::Walk;
 
-/// Whether a prefix lies inside the last one, if there is one.
+/// Whether a prefix is inside the last one, if there is a last one.
 fn is_inside<P: Prefix>(last: &Option<P>, prefix: &P) -> bool
     requires fits { IsTrue (P.fits prefix.now) }
     requires last_fits { IfSome last.now (λ b. IsTrue (P.fits b)) }
@@ -20,7 +20,7 @@ fn is_inside<P: Prefix>(last: &Option<P>, prefix: &P) -> bool
     }
 }
 
-/// The number less two to the number of free bits, where it is not below that.
+/// `left` minus 2^`free`, or `None` if that is negative.
 fn without(left: u128, free: u8) -> Option<u128>
     requires { free ≤ 128 }
     ensures { MatchOption result (left < 2 ^ free) (λ rest. rest + 2 ^ free ≡ left) }
@@ -32,8 +32,8 @@ fn without(left: u128, free: u8) -> Option<u128>
 }
 
 impl<P: Prefix + Drop, T> PrefixMap<P, T> {
-    /// How many addresses the keys cover, each counted once: an address is a prefix of as many bits as there are.
-    /// `None` where all are covered, since that number is too great by one. It takes no memory.
+    /// Returns the number of addresses that the keys cover, each counted once. An address is a prefix of full length. Returns `None` if
+    /// the keys cover all addresses, since their number doesn't fit. Does not allocate.
     pub fn address_count(&self) -> Option<P::R>
         ensures { MatchOption result (covered_count P.R.width self.now.entries ≡ 2 ^ P.R.width) (λ n. (P.R.number n ≡ covered_count P.R.width self.now.entries) × (covered_count P.R.width self.now.entries < 2 ^ P.R.width)) }
     {

@@ -1,4 +1,4 @@
-//! The entries whose keys contain a prefix. They take no memory.
+//! The entries whose keys contain a prefix. They do not allocate.
 ghost use Rattle.std.specs.Prelude.{◌≡◌, map, IsTrue};
 ghost use Rattle.std.specs.FinMap.{entries};
 ghost use Rattle.std.specs.FinMap.Entries.{where_key};
@@ -10,7 +10,7 @@ use crate::prefix::{Prefix, path_of};
 use trie_core::Cover as Way;
 
 impl<P: Prefix, T> PrefixMap<P, T> {
-    /// The entries whose keys contain the prefix, its own included, the shortest key first.
+    /// Returns the entries whose keys contain the prefix, its own entry included, shortest key first.
     #[tactic(auto, using(crate::proofs::KeyLengths::keys_where))]
     pub fn cover(&self, prefix: &P) -> Cover<'_, P, T>
         requires { IsTrue (P.fits prefix.now) }
@@ -19,7 +19,7 @@ impl<P: Prefix, T> PrefixMap<P, T> {
         Cover::new(Way::new(self.walked(), path_of(prefix)))
     }
 
-    /// The keys that contain the prefix, itself included, the shortest first.
+    /// Returns the keys that contain the prefix, the prefix itself included, shortest first.
     pub fn cover_keys(&self, prefix: &P) -> CoverKeys<'_, P, T>
         requires { IsTrue (P.fits prefix.now) }
         ensures { result ≡ map (λ e. e.0) (where_key bits_cmp (λ k. begins k (P.bits prefix.now)) (entries self.now.entries)) }
@@ -27,7 +27,7 @@ impl<P: Prefix, T> PrefixMap<P, T> {
         CoverKeys::of_entries(self.cover(prefix))
     }
 
-    /// The values of the keys that contain the prefix, itself included, that of the shortest first.
+    /// Returns the values of the keys that contain the prefix, the prefix itself included, shortest key first.
     pub fn cover_values(&self, prefix: &P) -> CoverValues<'_, P, T>
         requires { IsTrue (P.fits prefix.now) }
         ensures { result ≡ map (λ e. e.1) (where_key bits_cmp (λ k. begins k (P.bits prefix.now)) (entries self.now.entries)) }

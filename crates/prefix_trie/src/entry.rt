@@ -1,4 +1,4 @@
-//! The entry of a prefix, which the map has or lacks.
+//! Entries: access to the value of one key, stored or not.
 ghost use Rattle.std.specs.Prelude.{◌≡◌, ◌+◌, Some, None, IfOk, IfErr, OnErr, OnOk, is_some, MatchOption, unwrap_or, IsTrue};
 ghost use Rattle.std.specs.Borrow.{MutBor, sem};
 ghost use Rattle.std.specs.Map.Calls.{ModifiesValue};
@@ -15,7 +15,7 @@ use crate::refused::Refused;
 use ipnet_addr::key::Key;
 use std::mem::replace;
 
-/// A key that the map has, with its value. Its key has zeros after the bits that count.
+/// The entry of a stored key. The bits of its key after the prefix are zero.
 #[derive(Drop)]
 pub struct OccupiedEntry<'a, P: Prefix, T> {
     map: &'a mut PrefixMap<P, T>,
@@ -24,7 +24,7 @@ pub struct OccupiedEntry<'a, P: Prefix, T> {
     ghost stored: { IsSome (get map.now.entries (P.bits key)) },
 }
 
-/// A key that the map lacked, as it was asked for. Only `Entry::insert` may have stored it since.
+/// The entry of a key that isn't stored. It holds the prefix that `entry` was called with. Only `Entry::insert` may store it.
 #[derive(Drop)]
 pub struct VacantEntry<'a, P: Prefix, T> {
     map: &'a mut PrefixMap<P, T>,
@@ -34,19 +34,19 @@ pub struct VacantEntry<'a, P: Prefix, T> {
     ghost found: { is_some (get map.now.entries (P.bits key)) ≡ is_stored },
 }
 
-/// The entry of a key, which the map has or lacks.
+/// The entry of a key, stored or not.
 #[derive(Drop)]
 pub enum Entry<'a, P: Prefix, T> {
-    /// The map lacks the key.
+    /// The key isn't stored.
     Vacant(VacantEntry<'a, P, T>),
-    /// The map has the key.
+    /// The key is stored.
     Occupied(OccupiedEntry<'a, P, T>),
 }
 
 impl<P: Prefix, T> PrefixMap<P, T> {
     ghost use Rattle.prefix_trie.specs.Entry.{entry_map_ref, entry_map, entry_key, MatchEntry};
 
-    /// The entry of a prefix, to read, store or change in place. It only looks, and takes no memory.
+    /// Returns the entry of a prefix, to read, store or change its value. Changes nothing, and does not allocate.
     pub fn entry(&mut self, prefix: P) -> Entry<'_, P, T>
     where
         P: Drop,
@@ -73,7 +73,7 @@ impl<P: Prefix, T> PrefixMap<P, T> {
 impl<'a, P: Prefix, T> OccupiedEntry<'a, P, T> {
     ghost use Rattle.prefix_trie.specs.Entry.{Occupied, entry_map, entry_key, entry_value, IsWritten, with_entry_value, entry_lends, occupied_lends};
 
-    /// The key, with zeros after the bits that count.
+    /// Returns the key; its bits after the prefix are zero.
     pub fn key(&self) -> &P
         ensures key { result.now ≡ entry_key (Occupied self.now) }
         ensures fits { IsTrue (P.fits result.now) }
@@ -81,14 +81,14 @@ impl<'a, P: Prefix, T> OccupiedEntry<'a, P, T> {
         &self.key
     }
 
-    /// The value.
+    /// Returns the value.
     pub fn get(&self) -> &T
         ensures { entry_value (Occupied self.now) ≡ Some result.now }
     {
         self.map.get(&self.key).unwrap()
     }
 
-    /// The value, lent to be written.
+    /// Returns a mutable reference to the value.
     pub fn get_mut(&mut self) -> &mut T
         ensures* writes_back { sem 𝓛 (occupied_lends P.row T.row P.R.row self.entry result) }
         ensures value { entry_value (Occupied self.old) ≡ Some result.now }
@@ -98,7 +98,7 @@ impl<'a, P: Prefix, T> OccupiedEntry<'a, P, T> {
         self.map.value_mut(&path)
     }
 
-    /// Stores the value, and answers the one that stood there. It takes no memory and is never refused.
+    /// Stores the value, and returns the old value. Does not allocate and never fails.
     pub fn insert(&mut self, value: T) -> T
         ensures old { entry_value (Occupied self.old) ≡ Some result }
         ensures written { IsWritten (Occupied self.old) value (Occupied self.new) }
@@ -106,7 +106,7 @@ impl<'a, P: Prefix, T> OccupiedEntry<'a, P, T> {
         replace(self.get_mut(), value)
     }
 
-    /// The value, lent to be written for as long as the map is lent.
+    /// Returns a mutable reference to the value that lives as long as the borrow of the map.
     pub fn into_mut(self) -> &'a mut T
     where
         P: Drop,
@@ -118,7 +118,7 @@ impl<'a, P: Prefix, T> OccupiedEntry<'a, P, T> {
         lender.value_mut(&path)
     }
 
-    /// Takes the entry out, and answers its value. Every node stays. It takes no memory.
+    /// Removes the entry, and returns its value. All nodes are kept. Does not allocate.
     pub fn remove(self) -> T
     where
         P: Drop,
@@ -136,7 +136,7 @@ impl<'a, P: Prefix, T> OccupiedEntry<'a, P, T> {
 impl<'a, P: Prefix, T> VacantEntry<'a, P, T> {
     ghost use Rattle.prefix_trie.specs.Entry.{Vacant, entry_map, entry_key, entry_value, entry_lends_ok, IsStored};
 
-    /// The key, as it was asked for.
+    /// Returns the prefix that `entry` was called with.
     pub fn key(&self) -> &P
         ensures key { result.now ≡ entry_key (Vacant self.now) }
         ensures fits { IsTrue (P.fits result.now) }
@@ -144,7 +144,7 @@ impl<'a, P: Prefix, T> VacantEntry<'a, P, T> {
         &self.key
     }
 
-    /// Stores the value, and answers the one that stood there. The entry stays the one of its key.
+    /// Stores the value, and returns the old value. The entry keeps its key.
     fn store(&mut self, value: T) -> Result<Option<T>, (Refused, T)>
     where
         P: Drop,
@@ -164,10 +164,10 @@ impl<'a, P: Prefix, T> VacantEntry<'a, P, T> {
         Ok(old)
     }
 
-    /// Stores the value, and lends it.
+    /// Stores the value, and returns a mutable reference to it.
     ///
     /// # Errors
-    /// `Memory` as `PrefixMap::insert`. The map is as it was, and the value comes back.
+    /// `Memory` as in `PrefixMap::insert`. The map is unchanged, and the value is returned.
     pub fn insert(self, value: T) -> Result<&'a mut T, (Refused, T)>
     where
         P: Drop,
@@ -176,6 +176,7 @@ impl<'a, P: Prefix, T> VacantEntry<'a, P, T> {
         ensures value { IfOk result (λ x. x.now ≡ value) }
         ensures full { IfErr result (λ e. e.0 ≡ Full → no_room (entry_map (Vacant self.entry))) }
         ensures value_returned { IfErr result (λ e. e.1 ≡ value) }
+        ensures absent { OnErr result (entry_value (Vacant self.entry) ≡ None) }
     {
         let path = path_of(&self.key);
         let map = self.map;
@@ -185,7 +186,7 @@ impl<'a, P: Prefix, T> VacantEntry<'a, P, T> {
         }
     }
 
-    /// Lends the value that was stored since, or stores what `f` gives.
+    /// Returns a mutable reference to the value that was stored since, or stores the result of `f`.
     fn or_insert_with<F: FnOnce() -> T>(self, f: F) -> Result<&'a mut T, (Refused, T)>
     where
         P: Drop,
@@ -205,10 +206,10 @@ impl<'a, P: Prefix, T> VacantEntry<'a, P, T> {
         Ok(map.value_mut(&path))
     }
 
-    /// Stores what `f` gives, and lends it. `f` is called once.
+    /// Stores the result of `f`, and returns a mutable reference to it. `f` is called once.
     ///
     /// # Errors
-    /// `Memory` as `PrefixMap::insert`. The map is as it was, and the value comes back.
+    /// `Memory` as in `PrefixMap::insert`. The map is unchanged, and the value is returned.
     pub fn insert_with<F: FnOnce() -> T>(self, f: F) -> Result<&'a mut T, (Refused, T)>
     where
         P: Drop,
@@ -218,14 +219,15 @@ impl<'a, P: Prefix, T> VacantEntry<'a, P, T> {
         ensures value { IfOk result (λ x. F.post f x.now) }
         ensures full { IfErr result (λ e. e.0 ≡ Full → no_room (entry_map (Vacant self.entry))) }
         ensures value_returned { IfErr result (λ e. F.post f e.1) }
+        ensures absent { OnErr result (entry_value (Vacant self.entry) ≡ None) }
     {
         self.insert(f())
     }
 
-    /// Stores the default value, and lends it.
+    /// Stores the default value, and returns a mutable reference to it.
     ///
     /// # Errors
-    /// `Memory` as `PrefixMap::insert`. The map is as it was, and the value comes back.
+    /// `Memory` as in `PrefixMap::insert`. The map is unchanged, and the value is returned.
     pub fn default(self) -> Result<&'a mut T, (Refused, T)>
     where
         P: Drop,
@@ -234,6 +236,7 @@ impl<'a, P: Prefix, T> VacantEntry<'a, P, T> {
         ensures value { IfOk result (λ x. T.is_default x.now) }
         ensures full { IfErr result (λ e. e.0 ≡ Full → no_room (entry_map (Vacant self.entry))) }
         ensures value_returned { IfErr result (λ e. T.is_default e.1) }
+        ensures absent { OnErr result (entry_value (Vacant self.entry) ≡ None) }
     {
         self.insert(T::default())
     }
@@ -241,9 +244,9 @@ impl<'a, P: Prefix, T> VacantEntry<'a, P, T> {
 
 impl<'a, P: Prefix, T> Entry<'a, P, T> {
     ghost use Rattle.prefix_trie.specs.Seen.{with_value};
-    ghost use Rattle.prefix_trie.specs.Entry.{entry_map_ref, entry_map, entry_key, entry_value, entry_lends_ok, IsStored};
+    ghost use Rattle.prefix_trie.specs.Entry.{entry_map_ref, entry_map, entry_key, entry_value, entry_lends_ok, is_occupied, IsStored};
 
-    /// The key: with zeros after the bits that count where the map had it, and as it was asked for where it had not.
+    /// Returns the key. If it is stored, its bits after the prefix are zero; else it is the prefix that `entry` was called with.
     pub fn key(&self) -> &P
         ensures key { result.now ≡ entry_key self.now }
         ensures fits { IsTrue (P.fits result.now) }
@@ -254,7 +257,7 @@ impl<'a, P: Prefix, T> Entry<'a, P, T> {
         }
     }
 
-    /// The value, where the key is stored.
+    /// Returns the value if the key is stored.
     pub fn get(&self) -> Option<&T>
         ensures { option_copied result ≡ entry_value self.now }
     {
@@ -264,7 +267,7 @@ impl<'a, P: Prefix, T> Entry<'a, P, T> {
         }
     }
 
-    /// The value lent to be written, where the key is stored.
+    /// Returns a mutable reference to the value if the key is stored.
     pub fn get_mut(&mut self) -> Option<&mut T>
         ensures { option_copied_mut result ≡ entry_value self.old }
     {
@@ -281,11 +284,10 @@ impl<'a, P: Prefix, T> Entry<'a, P, T> {
         }
     }
 
-    /// Stores the value, and answers the one that stood there. On a stored key it takes no memory and is never refused.
-    /// The entry stays the one of its key.
+    /// Stores the value, and returns the old value. If the key is stored, it does not allocate and never fails. The entry keeps its key.
     ///
     /// # Errors
-    /// As `PrefixMap::insert`. The map is as it was, and the value comes back.
+    /// As in `PrefixMap::insert`. The map is unchanged, and the value is returned.
     pub fn insert(&mut self, value: T) -> Result<Option<T>, (Refused, T)>
     where
         P: Drop,
@@ -305,11 +307,12 @@ impl<'a, P: Prefix, T> Entry<'a, P, T> {
         }
     }
 
-    /// Calls `f` on the value, where the key is stored.
+    /// Calls `f` on the value if the key is stored.
     pub fn and_modify<F: FnOnce(&mut T)>(self, f: F) -> Entry<'a, P, T>
         requires { (p : MutBor T) → entry_value self ≡ Some p.now → F.pre f p }
         ensures same_map { (entry_map_ref result).ghost_name ≡ (entry_map_ref self.entry).ghost_name }
         ensures same_key { entry_key result ≡ entry_key self.entry }
+        ensures same_kind { is_occupied result ≡ is_occupied self.entry }
         ensures update { ModifiesValue F.FnOnce f (entry_value self.entry) (entry_value result) }
         ensures rest { MatchOption (entry_value result) (entry_map result ≡ entry_map self.entry) (λ w. entry_map result ≡ with_value (entry_map self.entry) (P.bits (entry_key self.entry)) w) }
     {
@@ -329,10 +332,10 @@ impl<'a, P: Prefix, T> Entry<'a, P, T> {
         }
     }
 
-    /// The value lent to be written, after storing this one where there is none.
+    /// Returns a mutable reference to the value; if there is none, stores `value` first.
     ///
     /// # Errors
-    /// Where the key is not stored, as `VacantEntry::insert`.
+    /// If the key isn't stored, as in `VacantEntry::insert`.
     pub fn or_insert(self, value: T) -> Result<&'a mut T, (Refused, T)>
     where
         P: Drop,
@@ -349,10 +352,10 @@ impl<'a, P: Prefix, T> Entry<'a, P, T> {
         }
     }
 
-    /// The value lent to be written, after storing what `f` gives where there is none. `f` is called once, and only then.
+    /// Returns a mutable reference to the value; if there is none, stores the result of `f` first. `f` is called once, and only then.
     ///
     /// # Errors
-    /// Where the key is not stored, as `VacantEntry::insert`.
+    /// If the key isn't stored, as in `VacantEntry::insert`.
     pub fn or_insert_with<F: FnOnce() -> T>(self, f: F) -> Result<&'a mut T, (Refused, T)>
     where
         P: Drop,
@@ -370,10 +373,10 @@ impl<'a, P: Prefix, T> Entry<'a, P, T> {
         }
     }
 
-    /// The value lent to be written, after storing the default one where there is none.
+    /// Returns a mutable reference to the value; if there is none, stores the default value first.
     ///
     /// # Errors
-    /// Where the key is not stored, as `VacantEntry::insert`.
+    /// If the key isn't stored, as in `VacantEntry::insert`.
     pub fn or_default(self) -> Result<&'a mut T, (Refused, T)>
     where
         P: Drop,

@@ -1,34 +1,34 @@
-//! Walks over entries, whichever way they go, and whether they lend the values or own them.
+//! The walks over entries that iterators are made of: in any direction, with borrowed or owned values.
 ghost use Rattle.std.specs.Prelude.{◌≡◌, List, [], Bool, refl};
 ghost use Rattle.prefix_trie.specs.Iterators.{GivesFirst};
 
 use trie_core::{Cover, OwnedWalk, Path, Walk};
 
-/// A walk over entries with values of type `T`, of which it gives each as `Given`: lent, or owned.
+/// A walk over entries with values of type `T`, which it returns as `Given`: borrowed or owned.
 pub trait EntryWalk<T>: Drop {
-    /// A value as it is given.
+    /// A value as the walk returns it.
     type Given: Drop;
 
     /// The entries that are left.
     ghost left: { Self → List (List Bool × T) };
 
-    /// What contracts see of a given value.
+    /// The returned value as contracts see it.
     ghost value: { Self.Given → T };
 
-    /// The next entry.
+    /// Returns the next entry.
     fn next_entry(&mut self) -> Option<(Path, Self::Given)>
         ensures { GivesFirst value (left self.old) result (left self.new) };
 }
 
-/// A walk that lends: it can be cloned, and its default has nothing left.
+/// A walk over borrowed values. It can be cloned, and its default is empty.
 pub trait BorrowedWalk<T>: EntryWalk<T> + Clone + Default {
-    /// A clone has the same left.
+    /// A clone has the same entries left.
     ghost same: { (w r : Self) → Self.is_clone w r → Self.left r ≡ Self.left w };
 
-    /// A clone is never refused.
+    /// Cloning never fails.
     ghost always: { (w : Self) → Self.is_infallible w };
 
-    /// The default has nothing left.
+    /// The default has no entries left.
     ghost none: { (w : Self) → Self.is_default w → Self.left w ≡ [] };
 }
 

@@ -19,7 +19,7 @@ pub(crate) fn is_same(path: &Path, other: &Path) -> bool
     path.len() == other.len() && path.to_bits() == other.to_bits()
 }
 
-/// Whether the entries that are left of two walks are the same.
+/// Whether two walks have the same entries left.
 fn is_same_walk<T: PartialEq>(walk: Walk<'_, T>, other: Walk<'_, T>) -> bool
     requires within { KeysWithin 128 walk.0 }
     ensures { result ≡ pointwise (same_entry T.eq) walk.entry.0 other.entry.0 }
@@ -37,7 +37,7 @@ fn is_same_walk<T: PartialEq>(walk: Walk<'_, T>, other: Walk<'_, T>) -> bool
     other.next().is_none()
 }
 
-/// Two maps are equal where they have the same keys, each with equal values; how many nodes they have says nothing.
+/// Two maps are equal if they have the same keys with equal values. The number of nodes makes no difference.
 impl<P: Prefix, T: PartialEq> PartialEq for PrefixMap<P, T> {
     ghost eq = { same_maps T.eq };
 

@@ -1,4 +1,4 @@
-//! Walks that own the entries of a map. They take no memory, and drop with them what they have not given.
+//! Iterators that own the entries of a map. They do not allocate, and drop the entries that they haven't returned.
 ghost use Rattle.std.specs.Prelude.{◌≡◌, ◌≤◌, map, IsTrue};
 ghost use Rattle.std.specs.FinMap.{entries, keys, values};
 ghost use Rattle.std.specs.FinMap.Entries.{where_key};
@@ -18,14 +18,14 @@ impl<P: Prefix, T: Drop> IntoIterator for PrefixMap<P, T> {
 
     ghost into_iter_gives = { λ m r. r ≡ entries m.entries };
 
-    /// All entries, owned.
+    /// Returns all entries, owned.
     fn into_iter(self) -> IntoIter<P, T> {
         IntoIter::new(OwnedWalk::new(self.into_root()))
     }
 }
 
 impl<P: Prefix, T: Drop> PrefixMap<P, T> {
-    /// The node that walks start at, owned.
+    /// Returns the root node, where walks start, owned.
     fn into_root(self) -> Node<T>
         ensures map { result.entries ≡ self.entries }
         ensures levels { result.levels ≤ 26 }
@@ -36,7 +36,7 @@ impl<P: Prefix, T: Drop> PrefixMap<P, T> {
         self.root
     }
 
-    /// The entries whose keys the prefix contains, itself included, owned. The other entries are dropped.
+    /// Returns the entries whose keys the prefix contains, its own entry included, owned. The other entries are dropped.
     #[tactic(auto, using(crate::proofs::KeyLengths::keys_where))]
     pub fn into_children(self, prefix: &P) -> IntoIter<P, T>
         requires { IsTrue (P.fits prefix.now) }
@@ -45,14 +45,14 @@ impl<P: Prefix, T: Drop> PrefixMap<P, T> {
         IntoIter::new(OwnedWalk::inside(self.into_root(), path_of(prefix)))
     }
 
-    /// All keys, in the order of a walk. The values are dropped.
+    /// Returns all keys, in the order of a walk. The values are dropped.
     pub fn into_keys(self) -> IntoKeys<P, T>
         ensures { result ≡ keys self.entries }
     {
         IntoKeys::of_entries(self.into_iter())
     }
 
-    /// All values, owned, in the order of their keys.
+    /// Returns all values, owned, in the order of their keys.
     pub fn into_values(self) -> IntoValues<P, T>
         ensures { result ≡ values self.entries }
     {

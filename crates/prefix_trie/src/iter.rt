@@ -1,4 +1,4 @@
-//! Walks along the entries of a map. They take no memory.
+//! Iterators over the entries of a map. They do not allocate.
 ghost use Rattle.std.specs.Prelude.{◌≡◌, ◌≤◌, IsTrue};
 ghost use Rattle.std.specs.FinMap.{entries, keys, values};
 ghost use Rattle.std.specs.FinMap.Entries.{where_key};
@@ -25,7 +25,7 @@ impl<'a, P: Prefix, T> IntoIterator for &'a PrefixMap<P, T> {
 }
 
 impl<P: Prefix, T> PrefixMap<P, T> {
-    /// The node that walks start at.
+    /// The root node, where walks start.
     pub(crate) fn walked(&self) -> &Node<T>
         ensures map { result.now.entries ≡ self.now.entries }
         ensures levels { result.now.levels ≤ 26 }
@@ -36,10 +36,10 @@ impl<P: Prefix, T> PrefixMap<P, T> {
         &self.root
     }
 
-    /// All entries.
+    /// Returns all entries, in the order of a walk.
     ///
     /// # Examples
-    /// In a map of `inner`, 10.1.0.0/16, at 2, and then of `wide`, 10.0.0.0/8, at 1:
+    /// In a map with the value 2 at `inner`, 10.1.0.0/16, and the value 1 at `wide`, 10.0.0.0/8:
     ///
     /// ```rust
     /// let mut entries = map.iter();
@@ -61,7 +61,7 @@ impl<P: Prefix, T> PrefixMap<P, T> {
         Iter::new(Walk::new(self.walked()))
     }
 
-    /// The entries whose keys the prefix contains, itself included.
+    /// Returns the entries whose keys the prefix contains, its own entry included.
     #[tactic(auto, using(crate::proofs::KeyLengths::keys_where))]
     pub fn children(&self, prefix: &P) -> Iter<'_, P, T>
         requires { IsTrue (P.fits prefix.now) }
@@ -70,8 +70,8 @@ impl<P: Prefix, T> PrefixMap<P, T> {
         Iter::new(Walk::inside(self.walked(), path_of(prefix)))
     }
 
-    /// The entries from a prefix on, in the order of a walk: those whose keys come after it, among them the longer
-    /// ones inside it, and where `inclusive` says so its own.
+    /// Returns the entries whose keys come after the prefix in the order of a walk. Keys inside the prefix come after it. If `inclusive`,
+    /// the prefix's own entry is the first.
     #[tactic(auto, using(crate::proofs::KeyLengths::keys_where))]
     pub fn iter_from(&self, prefix: &P, inclusive: bool) -> Iter<'_, P, T>
         requires { IsTrue (P.fits prefix.now) }
@@ -80,14 +80,14 @@ impl<P: Prefix, T> PrefixMap<P, T> {
         Iter::new(Walk::onwards(self.walked(), path_of(prefix), inclusive))
     }
 
-    /// All keys.
+    /// Returns all keys.
     pub fn keys(&self) -> Keys<'_, P, T>
         ensures { result ≡ keys self.now.entries }
     {
         Keys::of_entries(self.iter())
     }
 
-    /// All values, in the order of their keys.
+    /// Returns all values, in the order of their keys.
     pub fn values(&self) -> Values<'_, P, T>
         ensures { result ≡ values self.now.entries }
     {

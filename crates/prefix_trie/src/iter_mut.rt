@@ -1,4 +1,4 @@
-//! Iterators that lend the values of a map, one at a time. They take no memory.
+//! Iterators that return mutable references to the values of a map, one at a time. They do not allocate.
 ghost use Rattle.std.specs.Prelude.{◌≡◌, ◌≤◌, length, false, true, [], ◌&&◌, IfSome, Some, MatchOption, option_map, IsTrue};
 ghost use Rattle.std.specs.Borrow.{sem};
 ghost use Rattle.std.specs.Option.{IsSome, option_copied_mut};
@@ -14,7 +14,7 @@ use crate::map::PrefixMap;
 use crate::prefix::{Prefix, path_of, prefix_of};
 use trie_core::{Path, Walk};
 
-/// Whether a path begins a key.
+/// Whether a path is a prefix of a key.
 fn is_begun(path: &Path, key: &Path) -> bool
     requires within { length path.now ≤ 128 }
     requires key_within { length key.now ≤ 128 }
@@ -23,7 +23,7 @@ fn is_begun(path: &Path, key: &Path) -> bool
     path.len() <= key.len() && is_same(path, &Path::new(key.to_bits(), path.len()))
 }
 
-/// The entries that are left to be lent: what `iter_mut`, `iter_from_mut` and `children_mut` give. All lie inside one
+/// An iterator over mutable references to values, made by `iter_mut`, `iter_from_mut` and `children_mut`. All its keys are inside one
 /// bit string.
 #[derive(Drop)]
 pub struct IterMut<'a, P: Prefix, T> {
@@ -35,13 +35,13 @@ pub struct IterMut<'a, P: Prefix, T> {
     ghost stored: { IfSome next (λ q. (length q ≤ 128) × (length q ≤ P.R.width) × IsSome (get map.now.entries q)) } by { Prim.hlevel props },
 }
 
-/// What `values_mut` gives: an `IterMut` lends values, and tells their keys where asked.
+/// The result of `values_mut`: an `IterMut`, which also returns the keys on request.
 pub type ValuesMut<'a, P, T> = IterMut<'a, P, T>;
 
 impl<P: Prefix, T> PrefixMap<P, T> {
     ghost use Rattle.prefix_trie.specs.IterMut.{lent_map_ref, lent_map, lent_inside, next_bits};
 
-    /// The first key from a path on.
+    /// The first key that comes after a path, or the path itself if `inclusive` and stored.
     pub(crate) fn key_from(&self, path: Path, inclusive: bool) -> Option<Path>
         requires { length path ≤ 128 }
         ensures key { result ≡ first_key (where_key bits_cmp (is_from path inclusive) (entries self.now.entries)) }
@@ -53,7 +53,7 @@ impl<P: Prefix, T> PrefixMap<P, T> {
         }
     }
 
-    /// The first key from a path on, where it lies inside a string that begins the path.
+    /// The first key as in `key_from`, if it is inside a string that is a prefix of the path.
     fn key_within(&self, path: Path, inclusive: bool, inside: &Path) -> Option<Path>
         requires within { length path ≤ 128 }
         requires whole { length inside.now ≤ 128 }
@@ -72,7 +72,7 @@ impl<P: Prefix, T> PrefixMap<P, T> {
         }
     }
 
-    /// Lends the values in turn, in the order of their keys.
+    /// Returns mutable references to the values, one at a time, in the order of their keys.
     pub fn iter_mut(&mut self) -> IterMut<'_, P, T>
         ensures same_map { (lent_map_ref result).ghost_name ≡ self.entry.ghost_name }
         ensures unchanged { lent_map result ≡ self.old }
@@ -88,7 +88,7 @@ impl<P: Prefix, T> PrefixMap<P, T> {
         }
     }
 
-    /// Lends the values in turn, in the order of their keys.
+    /// Returns mutable references to the values, one at a time, in the order of their keys.
     pub fn values_mut(&mut self) -> ValuesMut<'_, P, T>
         ensures same_map { (lent_map_ref result).ghost_name ≡ self.entry.ghost_name }
         ensures unchanged { lent_map result ≡ self.old }
@@ -98,7 +98,7 @@ impl<P: Prefix, T> PrefixMap<P, T> {
         self.iter_mut()
     }
 
-    /// Lends in turn the values of the keys that come after a prefix, and its own first where `inclusive` says so.
+    /// Returns mutable references to the values of the keys after a prefix, one at a time; its own value first if `inclusive`.
     pub fn iter_from_mut(&mut self, prefix: &P, inclusive: bool) -> IterMut<'_, P, T>
         requires { IsTrue (P.fits prefix.now) }
         ensures same_map { (lent_map_ref result).ghost_name ≡ self.entry.ghost_name }
@@ -115,7 +115,7 @@ impl<P: Prefix, T> PrefixMap<P, T> {
         }
     }
 
-    /// Lends in turn the values of the keys that a prefix contains, itself included.
+    /// Returns mutable references to the values of the keys that a prefix contains, itself included, one at a time.
     pub fn children_mut(&mut self, prefix: &P) -> IterMut<'_, P, T>
         requires { IsTrue (P.fits prefix.now) }
         ensures same_map { (lent_map_ref result).ghost_name ≡ self.entry.ghost_name }
@@ -136,7 +136,7 @@ impl<P: Prefix, T> PrefixMap<P, T> {
 impl<'a, P: Prefix, T> IterMut<'a, P, T> {
     ghost use Rattle.prefix_trie.specs.IterMut.{iter_lends, next_bits, next_value};
 
-    /// The key whose value comes next, with zeros after the bits that count.
+    /// Returns the key of the next value; its bits after the prefix are zero.
     pub fn key(&self) -> Option<P>
         ensures key { result ≡ option_map P.of_bits (next_bits self.now) }
         ensures bits { IfSome result (λ k. next_bits self.now ≡ Some (P.bits k)) }
@@ -148,7 +148,7 @@ impl<'a, P: Prefix, T> IterMut<'a, P, T> {
         }
     }
 
-    /// Lends the next value; what is left there is the value of its key afterwards.
+    /// Returns a mutable reference to the next value.
     pub fn next(&mut self) -> Option<&mut T>
         ensures* writes_back { sem 𝓛 (iter_lends P.row T.row P.R.row self.entry result) }
         ensures value { option_copied_mut result ≡ next_value self.old }

@@ -1,27 +1,33 @@
-//! Laws of the bit strings of networks, of matches, and of the refusals: public functions without a body, whose contracts are
-//! the laws.
+//! Theorems about the bit strings of networks, about matches, and about refusals: public functions without a body, whose contracts
+//! are the theorems.
 ghost use Rattle.std.specs.Prelude.{◌≡◌, ◌↔◌, IsTrue};
-ghost use Rattle.prefix_trie.specs.Laws.{BegunAreInside, GovernedMatch, WalksAscend};
+ghost use Rattle.prefix_trie.specs.Laws.{BegunAreInside, GovernedMatch, StringsAscend, WalksAscend};
 ghost use Rattle.prefix_trie.specs.declared.refused.Refused.{Refused as AnyRefused};
 
 use crate::refused::Refused;
 
-/// The string of a network begins those of the networks inside it, and a walk meets networks by their first address and then
-/// by length. So the children of a key are the stored networks inside it, its cover those that contain it, and all walks
-/// ascend.
+/// A network is inside another exactly if its bit string begins with the other's. A walk visits networks by first address, then by
+/// length. So the children of a key are the stored networks inside it, its cover is the stored networks that contain it, and all
+/// walks ascend.
 pub fn networks()
     ensures inside { BegunAreInside }
     ensures order { WalksAscend }
 {}
 
-/// A prefix governs what it contains and no longer stored key does. The longest match of what it governs is its own: where
-/// 10.0.0.0/8 and 10.1.0.0/16 are stored, 10.2.0.0/16 governs 10.2.0.1, and the match of both is 10.0.0.0/8; but 10.0.0.0/8
-/// does not govern 10.1.0.1, whose match is 10.1.0.0/16.
+/// A walk visits the prefixes of one width by their masked keys, which `Prefix::mask` returns, and then by length. For example, in a
+/// map of `(u32, u8)` the key (0, 8) comes before (0, 9), and (0, 9) before (1 << 31, 1).
+pub fn walks()
+    ensures order { StringsAscend }
+{}
+
+/// A prefix governs what it contains and no longer stored key contains. All that a prefix governs has the same longest match as the
+/// prefix. For example, store 10.0.0.0/8 and 10.1.0.0/16. Then 10.2.0.0/16 governs 10.2.0.1, and both match 10.0.0.0/8. But
+/// 10.0.0.0/8 does not govern 10.1.0.1, which matches 10.1.0.0/16.
 pub fn matches<T>()
     ensures governed { GovernedMatch T }
 {}
 
-/// `==` holds of one refusal alone; a clone of a refusal is the same one, and cloning never fails.
+/// `==` holds exactly for equal refusals. A clone of a refusal equals it, and cloning never fails.
 pub fn refusals()
     ensures equality { (a b : AnyRefused) → IsTrue (⟦<Refused as PartialEq>⟧.eq a b) ↔ (a ≡ b) }
     ensures clones { (a b : AnyRefused) → ⟦<Refused as Clone>⟧.is_clone a b → b ≡ a }

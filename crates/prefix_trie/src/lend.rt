@@ -1,4 +1,4 @@
-//! The value of the longest match, lent to be written.
+//! Mutable access to the value of the longest match.
 ghost use Rattle.std.specs.Prelude.{◌≡◌, ◌≤◌, ℕ, Some, length, take, MatchOption, IsTrue};
 ghost use Rattle.std.specs.Borrow.{sem};
 ghost use Rattle.std.specs.Option.{IsSome};
@@ -12,7 +12,7 @@ use crate::prefix::{Prefix, path_of, truncated};
 use ipnet_addr::key::Key;
 use trie_core::Path;
 
-/// The way to the first `len` bits of a prefix.
+/// The path of the first `len` bits of a prefix.
 fn first_bits<P: Prefix>(prefix: &P, len: u8) -> Path
     requires fits { IsTrue (P.fits prefix.now) }
     requires within { len ≤ length (P.bits prefix.now) }
@@ -23,7 +23,7 @@ fn first_bits<P: Prefix>(prefix: &P, len: u8) -> Path
 }
 
 impl<P: Prefix, T> PrefixMap<P, T> {
-    /// How long the longest key is that contains the asked prefix.
+    /// The length of the longest key that contains the prefix.
     fn lpm_len(&self, prefix: &P) -> Option<u8>
         requires { IsTrue (P.fits prefix.now) }
         ensures { MatchOption result (NoBeginning self.now.entries (P.bits prefix.now)) (λ n. (v : T) × IsLongest self.now.entries (P.bits prefix.now) n v) }
@@ -34,8 +34,7 @@ impl<P: Prefix, T> PrefixMap<P, T> {
         }
     }
 
-    /// The key of the first `len` bits of a prefix, which is stored, and its value, lent to be written: what is left
-    /// there is the key's value afterwards.
+    /// Returns the key of the first `len` bits of a prefix, which must be stored, and a mutable reference to its value.
     pub fn match_mut(&mut self, prefix: &P, len: u8) -> (P, &mut T)
         requires fits { IsTrue (P.fits prefix.now) }
         requires within { len ≤ length (P.bits prefix.now) }
@@ -50,8 +49,8 @@ impl<P: Prefix, T> PrefixMap<P, T> {
         (truncated(prefix, len), self.value_mut(&path))
     }
 
-    /// The longest key that contains the asked prefix, which itself counts, and its value, lent to be written. What
-    /// is written back is told by `match_mut`, which lends it, and by `get_lpm_value_mut`.
+    /// Returns the longest key that contains the prefix, possibly the prefix itself, and a mutable reference to its value. The contracts
+    /// of `match_mut` and `get_lpm_value_mut` say what a write through this reference changes.
     pub fn get_lpm_mut(&mut self, prefix: &P) -> Option<(P, &mut T)>
         requires { IsTrue (P.fits prefix.now) }
         ensures { MatchOption result (NoBeginning self.old.entries (P.bits prefix.now)) (λ r. IsLongestKey P.fits P.bits P.of_bits self.old.entries (P.bits prefix.now) r.0 r.1.now) }
@@ -62,8 +61,7 @@ impl<P: Prefix, T> PrefixMap<P, T> {
         }
     }
 
-    /// The value of the longest key that contains the asked prefix, lent to be written: what is left there is the
-    /// value of that key afterwards.
+    /// Returns a mutable reference to the value of the longest key that contains the prefix.
     pub fn get_lpm_value_mut(&mut self, prefix: &P) -> Option<&mut T>
         requires { IsTrue (P.fits prefix.now) }
         ensures* writes_back { sem 𝓛 (lends_longest P.row T.row P.R.row ⟦<P as Prefix>⟧ ⟦<P::R as Key>⟧ self.entry (P.bits prefix.now) result) }

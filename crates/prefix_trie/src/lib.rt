@@ -1,7 +1,6 @@
-//! Maps and sets of prefixes, searched by the longest or the shortest prefix that contains an asked one.
+//! Maps and sets of prefixes, searched for the longest or the shortest prefix that contains a given one.
 //!
-//! As the Rust crate prefix-trie 0.10.1, without its views, aggregation and joint maps. The set is the map with nothing at
-//! each key.
+//! A port of the Rust crate prefix-trie 0.10.1, without its views, aggregation and joint maps. The set is a map whose values are `()`.
 #![tactic(auto)]
 
 mod copy;

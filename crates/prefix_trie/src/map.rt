@@ -24,11 +24,11 @@ use std::alloc::Global;
 use std::marker::{Model, PhantomData};
 use trie_core::{Node, Path};
 
-/// A map from prefixes to values: two prefixes are one key where the same bits count.
+/// A map from prefixes to values. Two prefixes are the same key if their first `prefix_len` bits are equal.
 ///
-/// As in the Rust crate prefix-trie 0.10.1 a key is stored by its bits alone: the keys that are handed out have
-/// zeros after them. A map that has no node without use is tidy; every call but `remove_keep_tree` and
-/// `OccupiedEntry::remove` keeps it so. It is `Send` or `Sync` where its keys and values are.
+/// As in the Rust crate prefix-trie 0.10.1, only these bits of a key are stored: returned keys have zeros after them. A map is tidy if it
+/// has no spare nodes, that is, nodes that lead to no entry. Every call but `remove_keep_tree` and `OccupiedEntry::remove` keeps a tidy
+/// map tidy. A map is `Send` or `Sync` if its keys and values are.
 #[derive(Drop)]
 pub struct PrefixMap<P: Prefix, T> {
     pub(crate) root: Node<T>,
@@ -51,10 +51,10 @@ impl<P: Prefix, T> Model for PrefixMap<P, T> {
 }
 
 impl<P: Prefix, T> PrefixMap<P, T> {
-    /// The empty map. It takes no memory.
+    /// Makes the empty map. Does not allocate.
     ///
     /// # Errors
-    /// None: the `Result` is for the maps that need memory at once.
+    /// None. The `Result` leaves room for an implementation that allocates here.
     ///
     /// # Examples
     /// ```rust
@@ -68,7 +68,7 @@ impl<P: Prefix, T> PrefixMap<P, T> {
         Ok(PrefixMap::empty(alloc))
     }
 
-    /// The empty map.
+    /// Makes the empty map.
     pub(crate) fn empty(alloc: Global) -> PrefixMap<P, T>
         ensures map { result.entries ≡ map.empty }
         ensures tidy { result.spares ≡ map.empty }
@@ -81,22 +81,22 @@ impl<P: Prefix, T> PrefixMap<P, T> {
         }
     }
 
-    /// The number of entries.
+    /// Returns the number of entries.
     pub fn len(&self) -> usize
         ensures { result ≡ map.len self.now.entries }
     {
         self.len
     }
 
-    /// Whether it has no entry.
+    /// Returns whether the map has no entry.
     pub fn is_empty(&self) -> bool
         ensures { IsTrue result ↔ (self.now.entries ≡ map.empty) }
     {
         self.len == 0
     }
 
-    /// The number of nodes, the root included: of a tidy map one, and one for each distinct bit string of positive
-    /// length divisible by five that begins a key; of another map the spare nodes too.
+    /// Returns the number of nodes, the root included. A tidy map has the root, and one node for each distinct prefix of a key whose
+    /// length is positive and divisible by five. Any other map has spare nodes too.
     pub fn node_count(&self) -> usize
         ensures all { result ≡ nodes self.now.entries + map.len self.now.spares }
         ensures idle { AreIdle self.now.entries self.now.spares }
@@ -105,10 +105,10 @@ impl<P: Prefix, T> PrefixMap<P, T> {
         self.nodes
     }
 
-    /// The value at this very key.
+    /// Returns the value at exactly this key.
     ///
     /// # Examples
-    /// In a map of 10.0.0.0/8 and of `inner`, 10.1.0.0/16, at 2, where `host` is 10.1.2.3/32:
+    /// In a map with 10.0.0.0/8 and with the value 2 at `inner`, 10.1.0.0/16; `host` is 10.1.2.3/32:
     ///
     /// ```rust
     /// assert_eq!(rt; map.get(&inner), Some(&2));
@@ -121,7 +121,7 @@ impl<P: Prefix, T> PrefixMap<P, T> {
         self.root.get(path_of(prefix))
     }
 
-    /// Whether this very key is stored.
+    /// Returns whether exactly this key is stored.
     pub fn contains_key(&self, prefix: &P) -> bool
         requires { IsTrue (P.fits prefix.now) }
         ensures { IsTrue result ↔ IsSome (map.get self.now.entries (P.bits prefix.now)) }
@@ -129,7 +129,7 @@ impl<P: Prefix, T> PrefixMap<P, T> {
         self.get(prefix).is_some()
     }
 
-    /// The key, with zeros after the bits that count, and its value.
+    /// Returns the key, with zeros after the bits of the prefix, and its value.
     pub fn get_key_value(&self, prefix: &P) -> Option<(P, &T)>
         requires { IsTrue (P.fits prefix.now) }
         ensures value { option_map (λ r. r.1.now) result ≡ map.get self.now.entries (P.bits prefix.now) }
@@ -143,10 +143,10 @@ impl<P: Prefix, T> PrefixMap<P, T> {
         }
     }
 
-    /// The longest key that contains the asked prefix, which itself counts, and its value.
+    /// Returns the longest key that contains the prefix, possibly the prefix itself, and its value.
     ///
     /// # Examples
-    /// In a map of 10.0.0.0/8 and of `inner`, 10.1.0.0/16, at 2, where `host` is 10.1.2.3/32:
+    /// In a map with 10.0.0.0/8 and with the value 2 at `inner`, 10.1.0.0/16; `host` is 10.1.2.3/32:
     ///
     /// ```rust
     /// assert_eq!(rt; map.get_lpm(&host), Some((inner, &2)));
@@ -161,8 +161,8 @@ impl<P: Prefix, T> PrefixMap<P, T> {
         }
     }
 
-    /// How many bits the longest key has that contains the asked prefix, which itself counts, and its value. The key is
-    /// not made: it is the first so many bits of the prefix.
+    /// Returns the length of the longest key that contains the prefix, possibly the prefix itself, and its value. The key is the prefix
+    /// cut to this length; it isn't constructed.
     pub fn longest_match(&self, prefix: &P) -> Option<(u8, &T)>
         requires { IsTrue (P.fits prefix.now) }
         ensures { MatchOption result (NoBeginning self.now.entries (P.bits prefix.now)) (λ r. IsLongest self.now.entries (P.bits prefix.now) r.0 r.1.now) }
@@ -170,7 +170,7 @@ impl<P: Prefix, T> PrefixMap<P, T> {
         self.root.longest(path_of(prefix))
     }
 
-    /// The longest key that contains the asked prefix.
+    /// Returns the longest key that contains the prefix.
     pub fn get_lpm_prefix(&self, prefix: &P) -> Option<P>
         requires { IsTrue (P.fits prefix.now) }
         ensures { MatchOption result (NoBeginning self.now.entries (P.bits prefix.now)) (λ k. (v : T) × IsLongestKey P.fits P.bits P.of_bits self.now.entries (P.bits prefix.now) k v) }
@@ -181,7 +181,7 @@ impl<P: Prefix, T> PrefixMap<P, T> {
         }
     }
 
-    /// The shortest key that contains the asked prefix, which itself counts, and its value.
+    /// Returns the shortest key that contains the prefix, possibly the prefix itself, and its value.
     pub fn get_spm(&self, prefix: &P) -> Option<(P, &T)>
         requires { IsTrue (P.fits prefix.now) }
         ensures { MatchOption result (NoBeginning self.now.entries (P.bits prefix.now)) (λ r. IsShortestKey P.fits P.bits P.of_bits self.now.entries (P.bits prefix.now) r.0 r.1.now) }
@@ -192,7 +192,7 @@ impl<P: Prefix, T> PrefixMap<P, T> {
         }
     }
 
-    /// The shortest key that contains the asked prefix.
+    /// Returns the shortest key that contains the prefix.
     pub fn get_spm_prefix(&self, prefix: &P) -> Option<P>
         requires { IsTrue (P.fits prefix.now) }
         ensures { MatchOption result (NoBeginning self.now.entries (P.bits prefix.now)) (λ k. (v : T) × IsShortestKey P.fits P.bits P.of_bits self.now.entries (P.bits prefix.now) k v) }
@@ -203,7 +203,7 @@ impl<P: Prefix, T> PrefixMap<P, T> {
         }
     }
 
-    /// Whether a key contains the asked prefix.
+    /// Returns whether a key contains the prefix.
     pub fn is_covered(&self, prefix: &P) -> bool
         requires { IsTrue (P.fits prefix.now) }
         ensures { IsTrue result ↔ (NoBeginning self.now.entries (P.bits prefix.now) → ⊥) }
@@ -211,8 +211,8 @@ impl<P: Prefix, T> PrefixMap<P, T> {
         self.root.shortest(path_of(prefix)).is_some()
     }
 
-    /// Whether no key but the prefix itself lies inside it, stored or not, and no spare node. It is one search, and takes
-    /// no memory.
+    /// Returns whether no other key is inside the prefix, and no spare node. The prefix need not be stored. Takes one search, and does not
+    /// allocate.
     pub fn is_leaf(&self, prefix: &P) -> bool
         requires { IsTrue (P.fits prefix.now) }
         ensures all { IsTrue result ↔ (NothingInside self.now.entries (P.bits prefix.now) × NothingInside self.now.spares (P.bits prefix.now)) }
@@ -221,8 +221,8 @@ impl<P: Prefix, T> PrefixMap<P, T> {
         self.root.is_leaf(path_of(prefix))
     }
 
-    /// What `get_lpm` answers, and how many nodes the search visited: one, and one for each beginning of the asked
-    /// prefix of positive length divisible by five at which a node stands. In a tidy map these begin a key too.
+    /// Returns the result of `get_lpm`, and the number of nodes visited: the root, and each node on the path of the prefix. Each such node
+    /// belongs to a prefix of the path whose length is positive and divisible by five. In a tidy map this is also a prefix of a key.
     pub fn get_lpm_visits(&self, prefix: &P) -> (Option<(P, &T)>, u32)
         requires { IsTrue (P.fits prefix.now) }
         ensures found { MatchOption result.0 (NoBeginning self.now.entries (P.bits prefix.now)) (λ r. IsLongestKey P.fits P.bits P.of_bits self.now.entries (P.bits prefix.now) r.0 r.1.now) }
@@ -236,7 +236,7 @@ impl<P: Prefix, T> PrefixMap<P, T> {
         )
     }
 
-    /// The value at this very key, lent to be written: what is left there is the key's value afterwards.
+    /// Returns a mutable reference to the value at exactly this key.
     pub fn get_mut(&mut self, prefix: &P) -> Option<&mut T>
         requires { IsTrue (P.fits prefix.now) }
         ensures* writes_back { sem 𝓛 (lends_get P.row T.row P.R.row ⟦<P as Prefix>⟧ ⟦<P::R as Key>⟧ self.entry (P.bits prefix.now) result) }
@@ -249,7 +249,7 @@ impl<P: Prefix, T> PrefixMap<P, T> {
         Some(self.value_mut(&path))
     }
 
-    /// The value at a stored key, lent to be written.
+    /// Returns a mutable reference to the value at a stored key.
     pub(crate) fn value_mut(&mut self, path: &Path) -> &mut T
         requires within { length path.now ≤ 128 }
         requires stored { IsSome (map.get self.old.entries path.now) }
@@ -261,12 +261,10 @@ impl<P: Prefix, T> PrefixMap<P, T> {
 }
 
 impl<P: Prefix + Drop, T: Drop> PrefixMap<P, T> {
-    /// Stores the value at the key, and answers the value that stood there. On a stored key it takes no memory and
-    /// is never refused.
+    /// Stores the value at the key, and returns the old value. If the key is stored, it does not allocate and never fails.
     ///
     /// # Errors
-    /// `Memory` where there is none for the key, or one more entry or node could not be counted. The map is as it
-    /// was, and the value comes back.
+    /// `Memory` if an allocation fails, or if one more entry or node can't be counted. The map is unchanged, and the value is returned.
     ///
     /// # Examples
     /// ```rust
@@ -291,11 +289,11 @@ impl<P: Prefix + Drop, T: Drop> PrefixMap<P, T> {
         }
     }
 
-    /// Stores the value as `insert` does, and answers with the old value whether no key but the prefix itself lies inside
-    /// it, as `is_leaf` does, and without its search.
+    /// Stores the value as `insert` does. Returns the old value, and whether no other key is inside the prefix, as `is_leaf` returns it,
+    /// but without its search.
     ///
     /// # Errors
-    /// As of `insert`.
+    /// As in `insert`.
     pub fn insert_is_leaf(&mut self, prefix: P, value: T) -> Result<(Option<T>, bool), (Refused, T)>
         requires { IsTrue (P.fits prefix) }
         ensures old { IfOk result (λ r. r.0 ≡ map.get self.old.entries (P.bits prefix)) }
@@ -325,8 +323,8 @@ impl<P: Prefix + Drop, T: Drop> PrefixMap<P, T> {
         }
     }
 
-    /// Takes the entry out and answers its value. Then the last node on the way to the key goes, and each above it,
-    /// while it has neither value nor child and is not the root; also where the key is not stored. It takes no memory.
+    /// Removes the entry, and returns its value. Then the last node on the path of the key, and each node above it, is removed while it
+    /// has neither values nor children and isn't the root. This happens even if the key isn't stored. Does not allocate.
     ///
     /// # Examples
     /// ```rust
@@ -349,7 +347,7 @@ impl<P: Prefix + Drop, T: Drop> PrefixMap<P, T> {
         value
     }
 
-    /// Takes the entry out and answers its value; every node stays. It takes no memory.
+    /// Removes the entry, and returns its value. All nodes are kept. Does not allocate.
     pub fn remove_keep_tree(&mut self, prefix: &P) -> Option<T>
         requires { IsTrue (P.fits prefix.now) }
         ensures value { result ≡ map.get self.old.entries (P.bits prefix.now) }

@@ -1,4 +1,4 @@
-//! What iterators give of an entry: its key, its value, or both.
+//! The part of an entry that an iterator returns: its key, its value, or both.
 ghost use Rattle.std.specs.Prelude.{◌≡◌, ◌≤◌, [], ◌∷◌, map, length, List, Bool, refl};
 ghost use Rattle.std.proofs.lemmas.List.{length-map};
 ghost use Rattle.prefix_trie.specs.Iterators.{IsFirstEntry, IsFirstKey};
@@ -9,25 +9,25 @@ use trie_core::Path;
 
 /// A part of an entry: its key, its value, or both.
 pub trait Part<P: Prefix, T, W: EntryWalk<T>> {
-    /// What is given of an entry.
+    /// The item returned for an entry.
     type Item;
 
-    /// What contracts see of an entry.
+    /// An item as contracts see it.
     type Seen;
 
-    /// What contracts see of this part of entries.
+    /// The items of these entries as contracts see them.
     ghost seen: { List (List Bool × T) → List Self.Seen };
 
-    /// The item is this part of the first entry.
+    /// Whether the item is that of the first entry.
     ghost is_first: { List Self.Seen → Self.Item → List Self.Seen → Type 0 };
 
-    /// Of no entries nothing is seen.
+    /// No entries have no items.
     ghost none: { Self.seen [] ≡ [] };
 
-    /// Of each entry one thing is seen.
+    /// There are as many items as entries.
     ghost counted: { (es : List (List Bool × T)) → length (Self.seen es) ≡ length es };
 
-    /// This part of an entry.
+    /// Returns the item of an entry.
     fn of_entry(path: Path, value: W::Given) -> Self::Item
         requires { length path ≤ P.R.width }
         ensures { (left : List (List Bool × T)) → is_first (seen ((path, W.value value) ∷ left)) result (seen left) };

@@ -1,4 +1,4 @@
-//! The iterator over a part of the entries that a walk has left.
+//! The iterator over a part of each entry that a walk has left.
 ghost use Rattle.std.specs.Prelude.{◌≡◌, [], ⊤};
 ghost use Rattle.std.specs.Iterator.{item_count};
 ghost use Rattle.trie_core.specs.InnerWalks.{KeysWithin};
@@ -10,7 +10,7 @@ use crate::prefix::Prefix;
 use std::alloc::AllocError;
 use std::marker::{Model, PhantomData};
 
-/// A part of the entries that a walk has left: `S` says which.
+/// The entries that a walk has left; `S` selects the part that is returned.
 #[derive(Drop)]
 pub struct Parts<P: Prefix, T, W: EntryWalk<T>, S: Part<P, T, W>> {
     walk: W,
@@ -34,7 +34,7 @@ impl<P: Prefix, T, W: EntryWalk<T>, S: Part<P, T, W>> Model for Parts<P, T, W, S
 }
 
 impl<P: Prefix, T, W: EntryWalk<T>, S: Part<P, T, W>> Parts<P, T, W, S> {
-    /// Those that a walk has left.
+    /// Makes the iterator over the rest of a walk.
     pub(crate) fn new(walk: W) -> Parts<P, T, W, S>
         requires { KeysWithin P.R.width (W.left walk) }
         ensures { result ≡ S.seen (W.left walk) }
@@ -47,7 +47,7 @@ impl<P: Prefix, T, W: EntryWalk<T>, S: Part<P, T, W>> Parts<P, T, W, S> {
         }
     }
 
-    /// Those of the entries that an iterator has left.
+    /// Makes the iterator over the rest of another iterator.
     pub(crate) fn of_entries(entries: Parts<P, T, W, Pair>) -> Parts<P, T, W, S>
         ensures { result ≡ S.seen entries }
     {
@@ -76,7 +76,7 @@ impl<P: Prefix, T, W: BorrowedWalk<T>, S: Part<P, T, W>> Clone for Parts<P, T, W
 
     ghost is_infallible = { λ _. ⊤ };
 
-    /// A second iterator over what is left. It takes no memory.
+    /// A copy of the iterator from its current position. Does not allocate.
     fn clone(&self) -> Result<Parts<P, T, W, S>, AllocError> {
         Ok(Parts {
             walk: self.walk.clone()?,
@@ -90,7 +90,7 @@ impl<P: Prefix, T, W: BorrowedWalk<T>, S: Part<P, T, W>> Clone for Parts<P, T, W
 impl<P: Prefix, T, W: BorrowedWalk<T>, S: Part<P, T, W>> Default for Parts<P, T, W, S> {
     ghost is_default = { λ it. it ≡ [] };
 
-    /// Nothing.
+    /// The default is an iterator without items.
     fn default() -> Parts<P, T, W, S> {
         Parts {
             walk: W::default(),

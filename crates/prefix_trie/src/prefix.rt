@@ -1,4 +1,4 @@
-//! Prefixes, as the strings of their bits.
+//! Prefixes, seen as bit strings.
 ghost use Rattle.std.specs.Prelude.{◌≡◌, ℕ, ◌<◌, ◌≤◌, ◌^◌, ◌/◌, ◌-◌, List, Bool, true, nat_le, length, take, IsTrue, ◌↔◌};
 ghost use Rattle.ipnet_blocks.specs.Blocks.{bit_string};
 ghost use Rattle.ipnet_blocks.specs.Networks.{block_of};
@@ -11,44 +11,44 @@ use ipnet_addr::key::Key;
 use ipnet_addr::number::Number;
 use trie_core::Path;
 
-/// A key and how many of its first bits count, as in the Rust crate prefix-trie 0.10.1.
+/// A key and a length, as in the Rust crate prefix-trie 0.10.1: the first `prefix_len` bits of the key are the prefix.
 pub trait Prefix {
     type R: Key;
 
-    /// The bits that count, highest first.
+    /// The bits of the prefix, most significant first.
     ghost bits: { Self → List Bool };
 
-    /// The prefix of these bits that has zeros after them.
+    /// The prefix with these bits and with zeros after them.
     ghost of_bits: { List Bool → Self };
 
-    /// Whether no more bits count than a key has.
+    /// Whether the length is at most the number of bits of a key.
     ghost fits: { Self → Bool };
 
-    /// The key, whose first bits count.
+    /// Returns the key.
     fn repr(&self) -> Self::R
         requires { IsTrue (fits self.now) }
         ensures { prefix_bits Self.R.width (Self.R.number result) (length (bits self.now)) ≡ bits self.now };
 
-    /// How many bits count.
+    /// Returns the length of the prefix, in bits.
     fn prefix_len(&self) -> u8
         ensures value { result ≡ length (bits self.now) }
         ensures within { IsTrue (fits self.now) → result ≤ Self.R.width };
 
-    /// The prefix of the first `len` bits of a key.
+    /// Makes the prefix of the first `len` bits of a key.
     fn from_repr_len(repr: Self::R, len: u8) -> Self
         requires { len ≤ Self.R.width }
         ensures fits { IsTrue (fits result) }
         ensures bits { bits result ≡ prefix_bits Self.R.width (Self.R.number repr) len }
         ensures masked { IsMasked Self.R.width (Self.R.number repr) len → result ≡ of_bits (prefix_bits Self.R.width (Self.R.number repr) len) };
 
-    /// How many bits a key has.
+    /// Returns the number of bits of a key.
     fn num_bits() -> u32
         ensures { result ≡ Self.R.width }
     {
         <Self::R as Key>::width() as u32
     }
 
-    /// The key with zeros after the bits that count.
+    /// Returns the key with zeros after the bits of the prefix.
     fn mask(&self) -> Self::R
         requires { IsTrue (fits self.now) }
         ensures number { Self.R.number result ≡ number_from Self.R.width (bits self.now) }
@@ -56,7 +56,7 @@ pub trait Prefix {
         masked_key(self.repr(), self.prefix_len())
     }
 
-    /// Whether its bits begin the other's.
+    /// Returns whether the other's bits begin with the bits of `self`.
     fn contains(&self, other: &Self) -> bool
         requires fits { IsTrue (fits self.now) }
         requires other_fits { IsTrue (fits other.now) }
@@ -68,7 +68,7 @@ pub trait Prefix {
     }
 }
 
-/// A key with zeros after its first `len` bits.
+/// Returns a key with zeros after its first `len` bits.
 #[inline]
 fn masked_key<R: Key>(key: R, len: u8) -> R
     requires { len ≤ R.width }
@@ -83,7 +83,7 @@ fn masked_key<R: Key>(key: R, len: u8) -> R
     R::from_bits(key.to_bits() >> free << free)
 }
 
-/// The prefix of the first `len` bits, with zeros after them.
+/// Returns the prefix of the first `len` bits, with zeros after them.
 #[inline]
 pub fn truncated<P: Prefix>(prefix: &P, len: u8) -> P
     requires fits { IsTrue (P.fits prefix.now) }
@@ -96,7 +96,7 @@ pub fn truncated<P: Prefix>(prefix: &P, len: u8) -> P
     P::from_repr_len(masked_key(prefix.repr(), len), len)
 }
 
-/// The way to a prefix.
+/// Returns the path of a prefix.
 #[inline]
 pub fn path_of<P: Prefix>(prefix: &P) -> Path
     requires { IsTrue (P.fits prefix.now) }
@@ -111,7 +111,7 @@ pub fn path_of<P: Prefix>(prefix: &P) -> Path
     )
 }
 
-/// The prefix of the bits of a path, with zeros after them.
+/// Returns the prefix of the bits of a path, with zeros after them.
 #[inline]
 pub fn prefix_of<P: Prefix>(path: &Path) -> P
     requires { length path.now ≤ P.R.width }
@@ -132,7 +132,7 @@ impl<R: Key> Prefix for (R, u8) {
 
     ghost fits = { λ p. nat_le p.1 R.width };
 
-    /// The key as it was given, with the bits that don't count.
+    /// Returns the key as it was given, with the bits after the prefix.
     #[inline]
     fn repr(&self) -> R
         ensures bits { prefix_bits R.width (R.number result) (length (prefix_bits R.width (R.number self.now.0) self.now.1)) ≡ prefix_bits R.width (R.number self.now.0) self.now.1 }
@@ -146,7 +146,7 @@ impl<R: Key> Prefix for (R, u8) {
         self.1
     }
 
-    /// The prefix with this very key.
+    /// Makes the prefix with exactly this key.
     #[inline]
     fn from_repr_len(repr: R, len: u8) -> (R, u8)
         requires { len ≤ R.width }
@@ -168,7 +168,7 @@ impl<N: Number> Prefix for Net<N> {
 
     ghost fits = { λ _. true };
 
-    /// Its address, host bits too.
+    /// Returns the address of the network, with its host bits.
     #[inline]
     fn repr(&self) -> N
         ensures bits { prefix_bits N.width (N.number result) (length (bit_string (block_of N.family self.now))) ≡ bit_string (block_of N.family self.now) }
@@ -182,7 +182,7 @@ impl<N: Number> Prefix for Net<N> {
         Net::prefix_len(self)
     }
 
-    /// The network of this address, host bits too.
+    /// Makes the network of this address, with its host bits.
     #[inline]
     fn from_repr_len(repr: N, len: u8) -> Net<N>
         requires { len ≤ N.width }

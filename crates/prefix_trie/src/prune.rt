@@ -1,4 +1,4 @@
-//! Many entries at once, taken out of a map.
+//! Removal of many entries of a map at once.
 ghost use Rattle.std.specs.Prelude.{◌≡◌, ◌+◌, ◌≤◌, length, IsTrue};
 ghost use Rattle.std.specs.FinMap as map;
 ghost use Rattle.trie_core.specs.Count.{nodes};
@@ -9,7 +9,7 @@ use crate::map::PrefixMap;
 use crate::prefix::{Prefix, path_of};
 
 impl<P: Prefix + Drop, T: Drop> PrefixMap<P, T> {
-    /// Takes out every entry, and leaves the root alone. It takes no memory.
+    /// Removes all entries, and all nodes but the root. Does not allocate.
     pub fn clear(&mut self)
         ensures map { self.new.entries ≡ map.empty }
         ensures tidy { self.new.spares ≡ map.empty }
@@ -19,9 +19,9 @@ impl<P: Prefix + Drop, T: Drop> PrefixMap<P, T> {
         self.nodes = 1;
     }
 
-    /// Takes out every entry whose key the prefix contains, which itself counts. Then the last node on the way to the
-    /// prefix goes, and each above it, while it has neither value nor child and is not the root. A prefix of length 0
-    /// clears the map. It takes no memory.
+    /// Removes every entry whose key the prefix contains, its own entry included. Then the last node on the path of the prefix, and each
+    /// node above it, is removed while it has neither values nor children and isn't the root. A prefix of length 0 clears the map. Does
+    /// not allocate.
     pub fn remove_children(&mut self, prefix: &P)
         requires { IsTrue (P.fits prefix.now) }
         ensures map { self.new.entries ≡ outside self.old.entries (P.bits prefix.now) }

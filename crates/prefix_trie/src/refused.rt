@@ -1,22 +1,22 @@
-//! Why a call that stores is refused.
+//! The error of calls that store.
 ghost use Rattle.std.specs.Prelude.{◌≡◌};
 ghost use Rattle.prefix_trie.specs.declared.refused.Refused.TheVariants.{Memory};
 
 use std::alloc::AllocError;
 use thiserror::Error;
 
-/// Why a call that stores is refused.
+/// Why a value could not be stored.
 #[derive(Clone, Copy, Debug, Drop, PartialEq, Eq, Error)]
 pub enum Refused {
-    /// There is no memory for it, or the map has as many entries or nodes as can be counted.
+    /// An allocation failed, or no more entries or nodes can be counted.
     #[error("out of memory")]
     Memory,
-    /// The map is full. No call answers this, since a map is never full here.
+    /// The map is full. No call returns this error, since a map is never full here.
     #[error("the map is full")]
     Full,
 }
 
-/// A request for memory was refused.
+/// An allocation failed.
 impl From<AllocError> for Refused {
     ghost from_gives = { λ _ e. e ≡ Memory };
 

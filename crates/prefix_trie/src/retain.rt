@@ -1,4 +1,4 @@
-//! The entries that a closure keeps.
+//! Removal of the entries that a closure rejects.
 ghost use Rattle.std.specs.Prelude.{◌≡◌};
 ghost use Rattle.std.specs.List.Retain.{IsFiltered};
 ghost use Rattle.std.specs.FinMap.{empty, entries};
@@ -9,8 +9,8 @@ use crate::prefix::{Prefix, prefix_of};
 use trie_core::Path;
 
 impl<P: Prefix + Drop, T: Drop> PrefixMap<P, T> {
-    /// Asks `f` of each entry once, in the order of a walk, and keeps those of which it says `true`. `f` need take no
-    /// other entries. The map is tidy then, also where it was not before. It takes no memory.
+    /// Calls `f` on each entry once, in the order of a walk, and keeps the entries for which `f` returns `true`. `f` need not accept other
+    /// entries. Afterwards the map is tidy, even if it wasn't before. Does not allocate.
     pub fn retain<F: FnMut(&P, &T) -> bool>(&mut self, f: F)
         requires { CallableInTurn (AnswersAt F.FnMut P.fits P.bits P.of_bits) (TakesAt F.FnMut P.fits P.bits P.of_bits) f (entries self.old.entries) }
         ensures kept { IsFiltered (AnswersAt F.FnMut P.fits P.bits P.of_bits) f (entries self.old.entries) (entries self.new.entries) }
@@ -20,7 +20,7 @@ impl<P: Prefix + Drop, T: Drop> PrefixMap<P, T> {
         self.nodes -= self.root.take_spares();
     }
 
-    /// Takes out the entries of which `f` says `false`, and leaves every node.
+    /// Removes the entries for which `f` returns `false`, and keeps every node.
     fn take_refused<F: FnMut(&P, &T) -> bool>(&mut self, f: F)
         requires { CallableInTurn (AnswersAt F.FnMut P.fits P.bits P.of_bits) (TakesAt F.FnMut P.fits P.bits P.of_bits) f (entries self.old.entries) }
         ensures { IsFiltered (AnswersAt F.FnMut P.fits P.bits P.of_bits) f (entries self.old.entries) (entries self.new.entries) }

@@ -28,11 +28,10 @@ use crate::refused::Refused;
 use std::alloc::Global;
 use std::marker::Model;
 
-/// A set of prefixes: two prefixes are one member where the same bits count.
+/// A set of prefixes. Two prefixes are the same member if their first `prefix_len` bits are equal.
 ///
-/// It is the map from its members to nothing, and what is said of a map is said of it: the members that are handed
-/// out have zeros after the bits that count, and every call but `remove_keep_tree` keeps a tidy set tidy. It is `Send`
-/// or `Sync` where its members are.
+/// A set is a map from its members to `()`, and behaves like one: returned members have zeros after the bits of the prefix, and every
+/// call but `remove_keep_tree` keeps a tidy set tidy. A set is `Send` or `Sync` if its members are.
 #[derive(Drop)]
 pub struct PrefixSet<P: Prefix> {
     members: PrefixMap<P, ()>,
@@ -50,10 +49,10 @@ impl<P: Prefix> Model for PrefixSet<P> {
 }
 
 impl<P: Prefix> PrefixSet<P> {
-    /// The empty set. It takes no memory.
+    /// Makes the empty set. Does not allocate.
     ///
     /// # Errors
-    /// None, as of `PrefixMap::new`.
+    /// None, as in `PrefixMap::new`.
     ///
     /// # Examples
     /// ```rust
@@ -69,21 +68,21 @@ impl<P: Prefix> PrefixSet<P> {
         })
     }
 
-    /// The number of members.
+    /// Returns the number of members.
     pub fn len(&self) -> usize
         ensures { result ≡ fin.len self.now.entries }
     {
         self.members.len()
     }
 
-    /// Whether it has no member.
+    /// Returns whether the set has no member.
     pub fn is_empty(&self) -> bool
         ensures { IsTrue result ↔ (self.now.entries ≡ fin.empty) }
     {
         self.members.is_empty()
     }
 
-    /// The number of nodes, as `PrefixMap::node_count`.
+    /// Returns the number of nodes, as `PrefixMap::node_count` does.
     pub fn node_count(&self) -> usize
         ensures all { result ≡ nodes self.now.entries + fin.len self.now.spares }
         ensures idle { AreIdle self.now.entries self.now.spares }
@@ -92,7 +91,7 @@ impl<P: Prefix> PrefixSet<P> {
         self.members.node_count()
     }
 
-    /// How many addresses the members cover, each counted once; `None` where all are covered. It takes no memory.
+    /// Returns the number of addresses that the members cover, each counted once, or `None` if all are covered. Does not allocate.
     pub fn address_count(&self) -> Option<P::R>
     where
         P: Drop,
@@ -101,10 +100,10 @@ impl<P: Prefix> PrefixSet<P> {
         self.members.address_count()
     }
 
-    /// An equal set with as many nodes.
+    /// Returns an equal set with as many nodes.
     ///
     /// # Errors
-    /// `Memory` where there is none for all of it. Nothing is left of it then.
+    /// `Memory` if an allocation fails. All that was copied is dropped.
     pub fn try_clone(&self, alloc: Global) -> Result<PrefixSet<P>, Refused>
         ensures same { IfOk result (λ s. s ≡ self.now) }
         ensures memory { IfErr result (λ e. e ≡ Memory) }
@@ -114,7 +113,7 @@ impl<P: Prefix> PrefixSet<P> {
         })
     }
 
-    /// Whether this very prefix is a member.
+    /// Returns whether exactly this prefix is a member.
     pub fn contains(&self, prefix: &P) -> bool
         requires { IsTrue (P.fits prefix.now) }
         ensures { result ≡ fin.contains_key self.now.entries (P.bits prefix.now) }
@@ -122,10 +121,10 @@ impl<P: Prefix> PrefixSet<P> {
         self.members.contains_key(prefix)
     }
 
-    /// The member that this very prefix is, with zeros after the bits that count.
+    /// Returns the member that equals this prefix, with zeros after the bits of the prefix.
     ///
     /// # Examples
-    /// Where 10.1.0.0/16 is `inner`, a member:
+    /// In a set with the member `inner`, 10.1.0.0/16:
     ///
     /// ```rust
     /// assert_eq!(rt; set.get(&(0x0a01_0203, 16)), Some(inner));
@@ -140,7 +139,7 @@ impl<P: Prefix> PrefixSet<P> {
         }
     }
 
-    /// The longest member that contains the asked prefix, which itself counts.
+    /// Returns the longest member that contains the prefix, possibly the prefix itself.
     ///
     /// # Examples
     /// In a set of `inner`, 10.1.0.0/16, and `wide`, 10.0.0.0/8:
@@ -156,7 +155,7 @@ impl<P: Prefix> PrefixSet<P> {
         self.members.get_lpm_prefix(prefix)
     }
 
-    /// The shortest member that contains the asked prefix, which itself counts.
+    /// Returns the shortest member that contains the prefix, possibly the prefix itself.
     pub fn get_spm(&self, prefix: &P) -> Option<P>
         requires { IsTrue (P.fits prefix.now) }
         ensures { MatchOption result (NoBeginning self.now.entries (P.bits prefix.now)) (λ k. IsShortestKey P.fits P.bits P.of_bits self.now.entries (P.bits prefix.now) k tt) }
@@ -164,7 +163,7 @@ impl<P: Prefix> PrefixSet<P> {
         self.members.get_spm_prefix(prefix)
     }
 
-    /// Whether a member contains the asked prefix.
+    /// Returns whether a member contains the prefix.
     pub fn is_covered(&self, prefix: &P) -> bool
         requires { IsTrue (P.fits prefix.now) }
         ensures { IsTrue result ↔ (NoBeginning self.now.entries (P.bits prefix.now) → ⊥) }
@@ -172,7 +171,7 @@ impl<P: Prefix> PrefixSet<P> {
         self.members.is_covered(prefix)
     }
 
-    /// All members, in the order of a walk.
+    /// Returns all members, in the order of a walk.
     ///
     /// # Examples
     /// In a set of `inner`, 10.1.0.0/16, and `wide`, 10.0.0.0/8:
@@ -189,8 +188,8 @@ impl<P: Prefix> PrefixSet<P> {
         self.members.keys()
     }
 
-    /// The members from a prefix on, in the order of a walk: those that come after it, among them the longer ones
-    /// inside it, and where `inclusive` says so itself.
+    /// Returns the members that come after the prefix in the order of a walk. Members inside the prefix come after it. If `inclusive`, the
+    /// prefix itself is the first if it is a member.
     pub fn iter_from(&self, prefix: &P, inclusive: bool) -> Iter<'_, P>
         requires { IsTrue (P.fits prefix.now) }
         ensures { result ≡ map (λ e. e.0) (where_key bits_cmp (is_from (P.bits prefix.now) inclusive) (fin.entries self.now.entries)) }
@@ -198,7 +197,7 @@ impl<P: Prefix> PrefixSet<P> {
         Iter::of_entries(self.members.iter_from(prefix, inclusive))
     }
 
-    /// The members that the prefix contains, itself included.
+    /// Returns the members that the prefix contains, itself included.
     pub fn children(&self, prefix: &P) -> Iter<'_, P>
         requires { IsTrue (P.fits prefix.now) }
         ensures { result ≡ map (λ e. e.0) (where_key bits_cmp (begins (P.bits prefix.now)) (fin.entries self.now.entries)) }
@@ -206,7 +205,7 @@ impl<P: Prefix> PrefixSet<P> {
         Iter::of_entries(self.members.children(prefix))
     }
 
-    /// The members that contain the prefix, itself included, the shortest first.
+    /// Returns the members that contain the prefix, itself included, shortest first.
     pub fn cover(&self, prefix: &P) -> CoverKeys<'_, P, ()>
         requires { IsTrue (P.fits prefix.now) }
         ensures { result ≡ map (λ e. e.0) (where_key bits_cmp (λ k. begins k (P.bits prefix.now)) (fin.entries self.now.entries)) }
@@ -216,10 +215,10 @@ impl<P: Prefix> PrefixSet<P> {
 }
 
 impl<P: Prefix + Drop> PrefixSet<P> {
-    /// The set of these prefixes. It is tidy.
+    /// Makes the set of these prefixes. It is tidy.
     ///
     /// # Errors
-    /// `Memory` where there is none for a prefix. Then there is no set.
+    /// `Memory` if a prefix can't be inserted, as in `insert`. All that was stored is dropped.
     pub fn try_from_iter<U: IntoIterator<Item = P>>(
         alloc: Global,
         items: U,
@@ -237,10 +236,10 @@ impl<P: Prefix + Drop> PrefixSet<P> {
         Ok(made)
     }
 
-    /// Takes the prefix in, and answers whether it is new. For a member it takes no memory and is never refused.
+    /// Inserts the prefix, and returns whether it is new. If it is a member, it does not allocate and never fails.
     ///
     /// # Errors
-    /// `Memory` as `PrefixMap::insert`, and the set is as it was.
+    /// `Memory` as in `PrefixMap::insert`. The set is unchanged.
     ///
     /// # Examples
     /// ```rust
@@ -264,8 +263,7 @@ impl<P: Prefix + Drop> PrefixSet<P> {
         }
     }
 
-    /// Takes the prefix out, and answers whether it was a member. Nodes go as by `PrefixMap::remove`. It takes no
-    /// memory.
+    /// Removes the prefix, and returns whether it was a member. Nodes are removed as in `PrefixMap::remove`. Does not allocate.
     ///
     /// # Examples
     /// ```rust
@@ -283,7 +281,7 @@ impl<P: Prefix + Drop> PrefixSet<P> {
         self.members.remove(prefix).is_some()
     }
 
-    /// Takes the prefix out, and answers whether it was a member; every node stays. It takes no memory.
+    /// Removes the prefix, and returns whether it was a member. All nodes are kept. Does not allocate.
     pub fn remove_keep_tree(&mut self, prefix: &P) -> bool
         requires { IsTrue (P.fits prefix.now) }
         ensures member { result ≡ fin.contains_key self.old.entries (P.bits prefix.now) }
@@ -294,7 +292,7 @@ impl<P: Prefix + Drop> PrefixSet<P> {
         self.members.remove_keep_tree(prefix).is_some()
     }
 
-    /// Takes out every member. It takes no memory.
+    /// Removes all members. Does not allocate.
     pub fn clear(&mut self)
         ensures set { self.new.entries ≡ fin.empty }
         ensures tidy { self.new.spares ≡ fin.empty }
@@ -302,8 +300,8 @@ impl<P: Prefix + Drop> PrefixSet<P> {
         self.members.clear();
     }
 
-    /// Takes out every member that the prefix contains, which itself counts. Nodes go as by
-    /// `PrefixMap::remove_children`. It takes no memory.
+    /// Removes every member that the prefix contains, itself included. Nodes are removed as in `PrefixMap::remove_children`. Does not
+    /// allocate.
     pub fn remove_children(&mut self, prefix: &P)
         requires { IsTrue (P.fits prefix.now) }
         ensures set { self.new.entries ≡ outside self.old.entries (P.bits prefix.now) }
@@ -315,8 +313,8 @@ impl<P: Prefix + Drop> PrefixSet<P> {
         self.members.remove_children(prefix);
     }
 
-    /// Asks `f` of each member once, in the order of a walk, and keeps those of which it says `true`. `f` need take no
-    /// others. The set is tidy then, also where it was not before. It takes no memory.
+    /// Calls `f` on each member once, in the order of a walk, and keeps the members for which `f` returns `true`. `f` need not accept
+    /// other prefixes. Afterwards the set is tidy, even if it wasn't before. Does not allocate.
     pub fn retain<F: FnMut(&P) -> bool>(&mut self, f: F)
         requires { CallableInTurn (AnswersAtMember F.FnMut P.fits P.bits P.of_bits) (TakesMember F.FnMut P.fits P.bits P.of_bits) f (fin.keys self.old.entries) }
         ensures kept { IsFiltered (AnswersAtMember F.FnMut P.fits P.bits P.of_bits) f (fin.keys self.old.entries) (fin.keys self.new.entries) }
@@ -331,7 +329,7 @@ impl<P: Prefix + Drop> PrefixSet<P> {
     }
 }
 
-/// Two sets are equal where they have the same members; how many nodes they have says nothing.
+/// Two sets are equal if they have the same members. The number of nodes makes no difference.
 impl<P: Prefix> PartialEq for PrefixSet<P> {
     ghost eq = { same_sets };
 
@@ -346,7 +344,7 @@ impl<P: Prefix> Eq for PrefixSet<P> {
     ghost laws = { same_sets-equivalence };
 }
 
-/// The members that are left: what `iter`, `iter_from` and `children` give.
+/// The iterator of `iter`, `iter_from` and `children`.
 pub type Iter<'a, P> = Keys<'a, P, ()>;
 
 impl<'a, P: Prefix> IntoIterator for &'a PrefixSet<P> {
@@ -361,7 +359,7 @@ impl<'a, P: Prefix> IntoIterator for &'a PrefixSet<P> {
     }
 }
 
-/// The members that are left, owned: what `into_iter` gives.
+/// The iterator of `into_iter`: owned members.
 pub type IntoIter<P> = IntoKeys<P, ()>;
 
 impl<P: Prefix> IntoIterator for PrefixSet<P> {
@@ -371,7 +369,7 @@ impl<P: Prefix> IntoIterator for PrefixSet<P> {
 
     ghost into_iter_gives = { λ s r. r ≡ fin.keys s.entries };
 
-    /// All members, owned.
+    /// Returns all members, owned.
     fn into_iter(self) -> IntoIter<P> {
         self.members.into_keys()
     }

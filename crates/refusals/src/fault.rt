@@ -7,12 +7,12 @@ pub enum Fault {
     /// There is no such scenario.
     #[error("no such scenario")]
     Usage,
-    /// Its values could not be made.
+    /// The values of the scenario could not be made.
     #[error("the values can't be made")]
     Values,
 }
 
-/// A value of a scenario, or that it could not be made, whatever the reason.
+/// Returns a value of a scenario, or that it could not be made, for whatever reason.
 pub fn made<T, E: Drop>(outcome: Result<T, E>) -> Result<T, Fault> {
     match outcome {
         Ok(value) => Ok(value),

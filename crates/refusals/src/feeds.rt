@@ -1,13 +1,12 @@
-//! Leaders, followers, least tables and installers, and the lines of a feed. What is led, followed, shortened or installed is
-//! standard input.
+//! Leaders, followers, least tables and installers, and the lines of a feed. Their input is standard input.
 use crate::fault::{Fault, made};
 use crate::show::{answer, begin, bytes, end, ended, ended_with, line, lines, part};
 use ipnet::{IpAddr, Ipv4Addr};
 use route_feed::{Counted, Follower, follow, install, lead, shorten};
-use route_lines::{Command, Line, LineCutter, Reply};
+use route_lines::{Command, Line, LineCutter, Reply, Update};
 use std::io::Stdin;
 
-/// How many bytes of output are kept.
+/// The most bytes of output that are kept.
 const OUTPUT: usize = 1 << 16;
 
 /// The calls of feeds.
@@ -23,6 +22,7 @@ pub enum FeedCall {
     Least,
     Hop,
     Cut,
+    Print,
 }
 
 pub fn run(rt: &HostRuntime, call: FeedCall) -> Result<(), Fault> {
@@ -35,11 +35,15 @@ pub fn run(rt: &HostRuntime, call: FeedCall) -> Result<(), Fault> {
             cut(rt);
             Ok(())
         }
+        FeedCall::Print => {
+            print(rt);
+            Ok(())
+        }
         _ => run_over(rt, call),
     }
 }
 
-/// A run over standard input, whose output is kept in memory that is there before.
+/// A run over standard input. Its output goes to memory that was allocated before.
 fn run_over(rt: &HostRuntime, call: FeedCall) -> Result<(), Fault> {
     let mut reader = Counted::new(rt.stdin());
     let mut writer = Counted::new(made(Vec::with_capacity(rt.alloc(), OUTPUT))?);
@@ -62,7 +66,7 @@ fn show_reads(rt: &HostRuntime, reader: &Counted<Stdin>) {
     part(rt, &" reads\n");
 }
 
-/// A follower that is given nothing to keep, and its flat list.
+/// A follower without changes, and its flat list.
 fn make(rt: &HostRuntime) -> Result<(), Fault> {
     begin(rt);
     let mut follower = made(Follower::new(rt.alloc()))?;
@@ -71,7 +75,7 @@ fn make(rt: &HostRuntime) -> Result<(), Fault> {
     Ok(())
 }
 
-/// Owns the follower of the calls that need one.
+/// Makes the follower for the calls that need one.
 fn run_follower(rt: &HostRuntime, call: FeedCall) -> Result<(), Fault> {
     let mut follower = made(Follower::new(rt.alloc()))?;
     call_follower(rt, &mut follower, call)
@@ -86,7 +90,7 @@ fn call_follower(rt: &HostRuntime, follower: &mut Follower, call: FeedCall) -> R
     }
 }
 
-/// Changes that are carried out but for the last two, which wait for their closing line.
+/// Changes that are committed, except for the last two, which are pending.
 const COMMITTED: [&str; 4] = [
     "set 10.0.0.0/8 1",
     "ok",
@@ -94,7 +98,7 @@ const COMMITTED: [&str; 4] = [
     "set 2001:db8::/32 2",
 ];
 
-/// Three changes that are carried out, the last of them inside the first.
+/// Three committed changes, the last of them inside the first.
 const TOLD: [&str; 4] = [
     "set 10.0.0.0/8 1",
     "set 2001:db8::/32 2",
@@ -102,7 +106,7 @@ const TOLD: [&str; 4] = [
     "ok",
 ];
 
-/// The follower takes these lines.
+/// Feeds these lines to the follower.
 fn tell(follower: &mut Follower, lines: &[&'static str]) -> Result<(), Fault> {
     for line in lines {
         made(follower.line(line.as_bytes()))?;
@@ -110,7 +114,7 @@ fn tell(follower: &mut Follower, lines: &[&'static str]) -> Result<(), Fault> {
     Ok(())
 }
 
-/// The last line: a change that a follower has to keep, or that at which it carries changes out.
+/// The last line: a change that the follower has to keep, or an `ok` that commits.
 fn follow_last(
     rt: &HostRuntime,
     follower: &mut Follower,
@@ -124,7 +128,7 @@ fn follow_last(
     Ok(())
 }
 
-/// A least table of a follower's hops, which stay.
+/// A least table of a follower's hops, which are unchanged.
 fn least(rt: &HostRuntime, follower: &mut Follower) -> Result<(), Fault> {
     tell(follower, &TOLD)?;
     show_flat(rt, follower);
@@ -138,7 +142,7 @@ fn least(rt: &HostRuntime, follower: &mut Follower) -> Result<(), Fault> {
     Ok(())
 }
 
-/// The hops of addresses that a follower was told, and of one that it wasn't.
+/// The hops of addresses with a reported hop, and of one without.
 fn hops(rt: &HostRuntime, follower: &mut Follower) -> Result<(), Fault> {
     tell(follower, &TOLD)?;
     begin(rt);
@@ -146,11 +150,12 @@ fn hops(rt: &HostRuntime, follower: &mut Follower) -> Result<(), Fault> {
         let addr = IpAddr::V4(Ipv4Addr::new(first, 1, 2, 3));
         line(rt, &follower.hop(addr));
     }
+    show_flat(rt, follower);
     end(rt);
     Ok(())
 }
 
-/// What the next line is answered, and the flat list.
+/// The result of the next line, and the flat list.
 fn show_then(rt: &HostRuntime, follower: &mut Follower) {
     part(rt, &"then ");
     line(rt, &follower.line(b"ok"));
@@ -164,7 +169,7 @@ fn show_flat(rt: &HostRuntime, follower: &Follower) {
     }
 }
 
-/// Bytes cut into lines, which are read.
+/// Bytes split into lines, which are read.
 fn cut(rt: &HostRuntime) {
     let mut cutter = LineCutter::new();
     begin(rt);
@@ -177,8 +182,38 @@ fn cut(rt: &HostRuntime) {
     end(rt);
 }
 
-/// How long the line is, and whether it is a command, and one of a reply.
+/// The length of the line, whether it is a command, and whether it is a reply line.
 fn read(rt: &HostRuntime, text: &[u8]) {
     let (is_command, is_reply) = (Command::read(text).is_ok(), Reply::read(text).is_ok());
     line(rt, &(text.len(), is_command, is_reply));
+}
+
+/// Lines of each kind, as they are printed.
+fn print(rt: &HostRuntime) {
+    begin(rt);
+    print_command(rt, b"from 2001:db8::/32 1000");
+    print_command(rt, b"add 10.0.0.0/8 1 7");
+    print_reply(rt, b"route 10.0.0.0/8 drop 100");
+    print_reply(rt, b"count 1 18446744073709551615");
+    print_update(rt, b"install ::ffff:10.0.0.0/104 1");
+    print_update(rt, b"remove 10.0.0.0/8");
+    end(rt);
+}
+
+fn print_command(rt: &HostRuntime, text: &[u8]) {
+    if let Ok(command) = Command::read(text) {
+        bytes(rt, command.print().as_slice());
+    }
+}
+
+fn print_reply(rt: &HostRuntime, text: &[u8]) {
+    if let Ok(reply) = Reply::read(text) {
+        bytes(rt, reply.print().as_slice());
+    }
+}
+
+fn print_update(rt: &HostRuntime, text: &[u8]) {
+    if let Ok(update) = Update::read(text) {
+        bytes(rt, update.print().as_slice());
+    }
 }

@@ -1,4 +1,4 @@
-//! The calls of tables with one route a network.
+//! The calls of tables with one route for each network.
 use crate::fault::{Fault, made};
 use crate::nets::network;
 use crate::show::{begin, end, ended, ended_list, line, lines};
@@ -8,7 +8,7 @@ use ipnet::IpNet;
 use route_table::{Hop, HopTable, Refused};
 use std::alloc::Global;
 
-/// The calls of such tables, and those that take no memory.
+/// The calls of such tables that allocate, and those that do not.
 #[derive(Clone, Copy)]
 pub enum HopTableCall {
     Install,
@@ -18,7 +18,7 @@ pub enum HopTableCall {
     Free,
 }
 
-/// The routes of a route table, one of each network.
+/// The routes of a route table, one for each network.
 impl Subject for HopTable {
     type Call = HopTableCall;
 
@@ -57,7 +57,7 @@ impl Subject for HopTable {
     }
 }
 
-/// Another table, of the routes of a least one.
+/// Another table, made of the routes of a least table.
 fn from_routes(rt: &HostRuntime, table: &HopTable) -> Result<(), Fault> {
     let Ok(list) = table.least() else {
         return Err(Fault::Values);
@@ -67,14 +67,14 @@ fn from_routes(rt: &HostRuntime, table: &HopTable) -> Result<(), Fault> {
     Ok(())
 }
 
-/// The flat list of a table that a call made.
+/// Shows the flat list of a table that a call made.
 fn answer_table(rt: &HostRuntime, outcome: Result<HopTable, Refused>) {
     if let Some(table) = ended(rt, outcome) {
         lines(rt, "answer ", table.flat());
     }
 }
 
-/// What stores nothing new, then the operations to a least table, and those of a change of a network with another inside.
+/// Calls that store nothing new, then the operations to a least table, and those of a change of a network with another inside.
 fn free(rt: &HostRuntime, table: &mut HopTable) -> Result<(), Fault> {
     let (stored, handed) = (network("10.1.2.4/30")?, network("10.1.2.0/24")?);
     let Ok(list) = table.least() else {
@@ -88,7 +88,7 @@ fn free(rt: &HostRuntime, table: &mut HopTable) -> Result<(), Fault> {
     Ok(())
 }
 
-/// A stored network, twice, and one that the routes outside give the hop already; and a look-up.
+/// Changes that store nothing: two of a stored network, and one of a network that inherits its hop. Then a lookup.
 fn change_nothing(rt: &HostRuntime, table: &mut HopTable, stored: IpNet, handed: IpNet) {
     line(rt, &table.install(stored, Hop::Number(8)));
     line(rt, &table.paint(stored, Hop::Number(7)));

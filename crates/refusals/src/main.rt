@@ -1,7 +1,7 @@
-//! The program `refusals`: a scenario for each call of the crates that takes memory, and for those that take none. A scenario
-//! makes its values, shows them, writes a mark, makes the call, writes another mark, and says what was answered and what the
-//! values are then. So a harness can refuse each request for memory between the marks (faults/crates). The argument names the
-//! scenario; without one, the names of all are written.
+//! The program `refusals`: a scenario for each call of the crates that allocates, and for those that do not. A scenario makes its values,
+//! shows them, writes a mark, makes the call, and writes another mark. Then it shows the result of the call and the values. So a harness
+//! can let each allocation between the marks fail (faults/crates). The argument names the scenario; without an argument the program lists
+//! all names.
 #![tactic(auto)]
 
 mod fault;

@@ -1,4 +1,4 @@
-//! Changes of maps of networks that take no memory.
+//! Changes of maps of networks that do not allocate.
 use crate::fault::Fault;
 use crate::maps::Map;
 use crate::nets::network;
@@ -6,7 +6,7 @@ use crate::show::{begin, end, line};
 use ipnet::Ipv4Net;
 use prefix_trie::map::Entry;
 
-/// The calls that change.
+/// The calls that change a map.
 #[derive(Clone, Copy)]
 pub enum MapChange {
     InsertStored,
@@ -21,7 +21,7 @@ pub enum MapChange {
     Retain,
 }
 
-/// The networks that the calls take.
+/// The networks that the calls use.
 #[derive(Clone, Copy)]
 struct Networks {
     stored: Ipv4Net,
@@ -56,7 +56,7 @@ fn change(rt: &HostRuntime, map: &mut Map, nets: &Networks, call: MapChange) {
     }
 }
 
-/// The entries of a stored network and of one that isn't, looked at and written.
+/// The entries of a stored network and of another, read and written.
 fn modify(rt: &HostRuntime, map: &mut Map, nets: &Networks) {
     and_modify(rt, map, nets.stored);
     look_at(rt, map, nets.absent);
@@ -75,7 +75,7 @@ fn look_at(rt: &HostRuntime, map: &mut Map, net: Ipv4Net) {
     line(rt, &(*entry.key(), entry.get().copied()));
 }
 
-/// Writes by the entry of a stored network, and by what it turns into.
+/// Writes through the entry of a stored network, and through the reference that it becomes.
 fn occupied(rt: &HostRuntime, map: &mut Map, net: Ipv4Net) {
     if let Entry::Occupied(mut entry) = map.entry(net) {
         let (key, old) = (*entry.key(), entry.insert(7));

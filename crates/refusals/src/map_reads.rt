@@ -1,4 +1,4 @@
-//! Look-ups and walks of maps of networks, which take no memory.
+//! Lookups and walks of maps of networks, which do not allocate.
 use crate::fault::Fault;
 use crate::maps::Map;
 use crate::nets::network;
@@ -6,7 +6,7 @@ use crate::show::{begin, copy_first, end, line, lines};
 use ipnet::Ipv4Net;
 use prefix_trie::map::IterMut;
 
-/// The calls that read.
+/// The calls that read a map.
 #[derive(Clone, Copy)]
 pub enum MapRead {
     LookUps,
@@ -35,13 +35,13 @@ pub fn run(rt: &HostRuntime, map: &mut Map, call: MapRead) -> Result<(), Fault> 
     Ok(())
 }
 
-/// Each look-up of these networks, and what is told of the whole map, which equals itself.
+/// Each lookup of these networks, and the calls about the whole map, which equals itself.
 fn look_up(rt: &HostRuntime, map: &Map, nets: &[Ipv4Net; 2]) {
     for net in nets {
         look_up_exact(rt, map, net);
         look_up_cover(rt, map, net);
     }
-    line(rt, &(map.len(), map.is_empty()));
+    line(rt, &(map.len(), map.node_count(), map.is_empty()));
     line(rt, &(map.address_count(), map == map));
 }
 
@@ -50,7 +50,7 @@ fn look_up_exact(rt: &HostRuntime, map: &Map, net: &Ipv4Net) {
     line(rt, &map.get_key_value(net));
 }
 
-/// The look-ups of what contains the network.
+/// The lookups of the networks that contain this one.
 fn look_up_cover(rt: &HostRuntime, map: &Map, net: &Ipv4Net) {
     line(rt, &(map.get_lpm(net), map.get_lpm_prefix(net)));
     line(rt, &(map.get_spm(net), map.get_spm_prefix(net)));
@@ -58,7 +58,7 @@ fn look_up_cover(rt: &HostRuntime, map: &Map, net: &Ipv4Net) {
     line(rt, &(map.longest_match(net), map.is_leaf(net)));
 }
 
-/// Values that are lent and written.
+/// Values, written through mutable references.
 fn lend(rt: &HostRuntime, map: &mut Map, net: &Ipv4Net) -> Result<(), Fault> {
     let (exact, other) = (network("10.1.0.0/16")?, network("10.64.0.0/10")?);
     lend_exact(map, &exact);
@@ -89,7 +89,7 @@ fn lend_longest_value(rt: &HostRuntime, map: &mut Map, net: &Ipv4Net) {
     }
 }
 
-/// The value at the first bits that the longest match is of.
+/// The value at the longest match.
 fn lend_match(rt: &HostRuntime, map: &mut Map, net: &Ipv4Net) {
     if let Some((len, _)) = map.longest_match(net) {
         let (key, value) = map.match_mut(net, len);
@@ -111,14 +111,14 @@ fn walk(rt: &HostRuntime, map: &Map) {
     lines(rt, "", map.values());
 }
 
-/// The entries inside a network, and from it on, with it and without.
+/// The entries inside a network, and those from it on, with the network itself and without.
 fn walk_in_part(rt: &HostRuntime, map: &Map, net: &Ipv4Net) {
     lines(rt, "inside ", map.children(net));
     lines(rt, "from ", map.iter_from(net, true));
     lines(rt, "after ", map.iter_from(net, false));
 }
 
-/// The values of all entries, then of those inside a network, from it on, and all again, lent and written.
+/// Mutable references to the values of all entries, of those inside a network, of those from it on, and of all again.
 fn walk_lent(rt: &HostRuntime, map: &mut Map, net: &Ipv4Net) {
     let count = map.len();
     lend_left(rt, &mut map.iter_mut(), count, 10);
@@ -135,7 +135,7 @@ fn lend_left(rt: &HostRuntime, values: &mut IterMut<'_, Ipv4Net, u32>, count: us
     }
 }
 
-/// Writes the value, and adds to it.
+/// Shows the value, and adds to it.
 fn add(rt: &HostRuntime, value: &mut u32, more: u32) {
     line(rt, value);
     *value = value.wrapping_add(more);
@@ -148,7 +148,7 @@ fn cover(rt: &HostRuntime, map: &Map, net: &Ipv4Net) {
     lines(rt, "", map.cover_values(net));
 }
 
-/// What a copy of each walk gives first, and one that has nothing left.
+/// The first item of a copy of each walk, and an empty walk.
 fn copy_walks(rt: &HostRuntime, map: &Map, net: &Ipv4Net) -> Result<(), Fault> {
     copy_first(rt, &map.iter())?;
     copy_first(rt, &map.keys())?;

@@ -21,7 +21,7 @@ pub enum MapStore {
     VacantDefault,
 }
 
-/// What a call answers that hands back the value if it is refused.
+/// The result of a call that returns the value if it fails.
 type Stored = Result<(), (Refused, u32)>;
 
 pub fn run(rt: &HostRuntime, map: &mut Map, call: MapStore) -> Result<(), Fault> {
@@ -37,7 +37,7 @@ pub fn run(rt: &HostRuntime, map: &mut Map, call: MapStore) -> Result<(), Fault>
     Ok(())
 }
 
-/// The network that the call stores: one for which two nodes are made, or six.
+/// The network that the call stores: it needs two new nodes, or six.
 fn text_of(call: MapStore) -> &'static str {
     match call {
         MapStore::InsertSixNodes => "1.2.3.0/32",
@@ -63,13 +63,13 @@ fn stored(map: &mut Map, net: Ipv4Net, call: MapStore) -> Stored {
     }
 }
 
-/// What was stored before is left aside.
+/// Ignores the old value.
 fn replaced(outcome: Result<Option<u32>, (Refused, u32)>) -> Stored {
     outcome?;
     Ok(())
 }
 
-/// The value that is lent is left aside.
+/// Ignores the reference.
 fn lent(outcome: Result<&mut u32, (Refused, u32)>) -> Stored {
     outcome?;
     Ok(())

@@ -1,4 +1,4 @@
-//! Maps of networks, and what owns their entries.
+//! Maps of networks, and iterators that own their entries.
 use crate::fault::{Fault, made};
 use crate::map_changes::MapChange;
 use crate::map_reads::MapRead;
@@ -24,7 +24,7 @@ pub enum MapCall {
     Change(MapChange),
 }
 
-/// The calls that take a map: its entries, keys and values, owned. Nothing is left to be shown.
+/// The calls that consume a map: its entries, keys and values, owned. There is no map to show afterwards.
 #[derive(Clone, Copy)]
 pub enum MapGift {
     Entries,
@@ -41,7 +41,7 @@ pub fn run(rt: &HostRuntime, call: MapCall) -> Result<(), Fault> {
     }
 }
 
-/// What is stored at first; the last one is taken out again.
+/// The entries stored first; the last one is removed again.
 const ENTRIES: [(&str, u32); 6] = [
     ("10.0.0.0/8", 1),
     ("10.1.0.0/16", 2),

@@ -54,7 +54,7 @@ pub fn run(rt: &HostRuntime, call: NetCall) -> Result<(), Fault> {
     }
 }
 
-/// The network of the text.
+/// Reads the network of the text.
 pub fn network<T: FromStr<Err = AddrParseError>>(text: &str) -> Result<T, Fault> {
     made(T::from_str(text))
 }
@@ -70,7 +70,7 @@ fn add_networks<T: FromStr<Err = AddrParseError> + Drop>(
     Ok(())
 }
 
-/// The networks of these texts, and then of those.
+/// The networks of the first texts, then those of the others.
 pub fn networks<T: FromStr<Err = AddrParseError> + Drop>(
     alloc: Global,
     texts: &[&'static str],
@@ -82,7 +82,7 @@ pub fn networks<T: FromStr<Err = AddrParseError> + Drop>(
     Ok(nets)
 }
 
-/// The calls of networks that take memory, which each kind of network has as its own.
+/// The calls of networks that allocate, for each kind of network.
 trait NetKind: FromStr<Err = AddrParseError> + Debug + Drop {
     fn aggregated(alloc: Global, nets: &Vec<Self>) -> Result<Vec<Self>, AllocError>;
 
@@ -119,7 +119,7 @@ impl NetKind for IpNet {
     }
 }
 
-/// The fewest networks with the addresses of those of these texts, which stay.
+/// The aggregation of the networks of these texts, which are unchanged.
 fn aggregate<T: NetKind>(
     rt: &HostRuntime,
     texts: &[&'static str],
@@ -133,7 +133,7 @@ fn aggregate<T: NetKind>(
     Ok(())
 }
 
-/// The value of the network of the text, which stays.
+/// The value of the network of the text, which is unchanged.
 fn to_value<T: NetKind>(rt: &HostRuntime, text: &str) -> Result<(), Fault> {
     let net: T = network(text)?;
     line(rt, &net);
@@ -145,7 +145,7 @@ fn to_value<T: NetKind>(rt: &HostRuntime, text: &str) -> Result<(), Fault> {
     Ok(())
 }
 
-/// Networks read of texts, of bytes and of values.
+/// Networks read from texts, from bytes and from values.
 fn read(rt: &HostRuntime) -> Result<(), Fault> {
     let ipv4 = made(network::<IpNet>("10.1.2.3/8")?.to_value(rt.alloc()))?;
     let ipv6 = made(network::<IpNet>("2001:db8::1/32")?.to_value(rt.alloc()))?;
@@ -170,14 +170,14 @@ fn read_bytes(rt: &HostRuntime) {
     line(rt, &IpNet::from_bytes(&[0, 10, 1, 2, 3, 8]));
 }
 
-/// A value, as each family reads it and as both do.
+/// A value, read as each family and as either.
 fn read_value(rt: &HostRuntime, value: &Value) {
     line(rt, &Ipv4Net::from_value(value));
     line(rt, &Ipv6Net::from_value(value));
     line(rt, &IpNet::from_value(value));
 }
 
-/// A text of IPv4, as each family reads it.
+/// A text of IPv4, read as each family and as either.
 fn read_ipv4(rt: &HostRuntime, text: &str) {
     line(rt, &Ipv4Net::from_str(text));
     line(rt, &Ipv4Net::parse_ascii(text.as_bytes()));
@@ -185,13 +185,13 @@ fn read_ipv4(rt: &HostRuntime, text: &str) {
     line(rt, &IpNet::from_str(text));
 }
 
-/// A text of IPv6, as its family reads it and as both do.
+/// A text of IPv6, read as IPv6 and as either family.
 fn read_ipv6(rt: &HostRuntime, text: &str) {
     line(rt, &Ipv6Net::from_str(text));
     line(rt, &IpNet::parse_ascii(text.as_bytes()));
 }
 
-/// Networks printed, as texts and as bytes.
+/// Networks printed as texts and as bytes.
 fn print(rt: &HostRuntime) -> Result<(), Fault> {
     let nets = networks(rt.alloc(), &IPV6, &IPV4)?;
     begin(rt);
@@ -232,7 +232,7 @@ fn walk(rt: &HostRuntime) -> Result<(), Fault> {
     Ok(())
 }
 
-/// The hosts, and the last and the first of them once more.
+/// The hosts, and once more the last and the first of them.
 fn walk_hosts<T: Debug + Drop, I: DoubleEndedIterator<Item = T>>(
     rt: &HostRuntime,
     hosts: I,

@@ -1,4 +1,4 @@
-//! The scenarios by their names.
+//! The scenarios, by name.
 use crate::fault::Fault;
 use crate::feeds::FeedCall;
 use crate::hop_tables::HopTableCall;
@@ -15,7 +15,7 @@ use crate::subject::run_over;
 use crate::tables::TableCall;
 use crate::{feeds, maps, nets, sets, tables};
 
-/// What a scenario calls.
+/// The call of a scenario.
 #[derive(Clone, Copy)]
 pub enum Call {
     Net(NetCall),
@@ -26,8 +26,8 @@ pub enum Call {
     Feed(FeedCall),
 }
 
-/// The names, and what each stands for.
-static SCENARIOS: [(&str, Call); 86] = [
+/// The names and their calls.
+static SCENARIOS: [(&str, Call); 87] = [
     ("aggregate-ipv4", Net(NetCall::AggregateIpv4)),
     ("aggregate-ipv6", Net(NetCall::AggregateIpv6)),
     ("aggregate-mixed", Net(NetCall::AggregateMixed)),
@@ -117,6 +117,7 @@ static SCENARIOS: [(&str, Call); 86] = [
     ("least-of-follower", Feed(FeedCall::Least)),
     ("free-follower-hop", Feed(FeedCall::Hop)),
     ("free-lines", Feed(FeedCall::Cut)),
+    ("free-lines-print", Feed(FeedCall::Print)),
 ];
 
 /// All scenarios, in this order.

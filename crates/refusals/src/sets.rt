@@ -1,4 +1,4 @@
-//! Sets of networks, and a map that is made of entries.
+//! Sets of networks, and a map made from entries.
 use crate::fault::{Fault, made};
 use crate::maps::Map;
 use crate::nets::{network, networks};
@@ -85,7 +85,7 @@ impl Subject for Set {
     }
 }
 
-/// A network that isn't a member: two nodes are made for it, or six.
+/// Inserts a network that isn't a member; it needs two new nodes, or six.
 fn insert(rt: &HostRuntime, set: &mut Set, text: &str) -> Result<(), Fault> {
     let net = network(text)?;
     begin(rt);
@@ -95,7 +95,7 @@ fn insert(rt: &HostRuntime, set: &mut Set, text: &str) -> Result<(), Fault> {
     Ok(())
 }
 
-/// What a call answered that makes a set.
+/// Shows the result of a call that makes a set.
 fn answered(rt: &HostRuntime, outcome: Result<Set, Refused>, word: &'static str) {
     if let Some(set) = ended(rt, outcome) {
         answer(rt, &word);
@@ -131,7 +131,7 @@ fn map_from_iter(rt: &HostRuntime) -> Result<(), Fault> {
     Ok(())
 }
 
-/// The calls that take no memory.
+/// The calls that do not allocate.
 fn free(rt: &HostRuntime, set: &mut Set, call: SetCall) -> Result<(), Fault> {
     let (member, outer) = (network("10.1.2.4/30")?, network("10.0.0.0/9")?);
     let other = network("192.168.0.0/24")?;
@@ -140,7 +140,7 @@ fn free(rt: &HostRuntime, set: &mut Set, call: SetCall) -> Result<(), Fault> {
         SetCall::LookUps => look_up(rt, set, &[member, outer]),
         SetCall::Walks => walk(rt, set, &outer)?,
         SetCall::InsertStored => line(rt, &set.insert(member)),
-        // One is taken out, its nodes too, and then another, whose nodes stay.
+        // Removes one member with its nodes, and then another whose nodes are kept.
         SetCall::Remove => line(rt, &(set.remove(&member), set.remove_keep_tree(&other))),
         SetCall::RemoveChildren => set.remove_children(&outer),
         SetCall::Clear => set.clear(),
@@ -150,12 +150,13 @@ fn free(rt: &HostRuntime, set: &mut Set, call: SetCall) -> Result<(), Fault> {
     Ok(())
 }
 
-/// Each look-up of these networks, and what is told of the whole set, which equals itself.
+/// Each lookup of these networks, and the calls about the whole set, which equals itself.
 fn look_up(rt: &HostRuntime, set: &Set, nets: &[Ipv4Net; 2]) {
     for net in nets {
         look_up_one(rt, set, net);
     }
     line(rt, &(set.address_count(), set == set));
+    line(rt, &set.node_count());
 }
 
 fn look_up_one(rt: &HostRuntime, set: &Set, net: &Ipv4Net) {
@@ -164,16 +165,17 @@ fn look_up_one(rt: &HostRuntime, set: &Set, net: &Ipv4Net) {
     line(rt, &(set.is_covered(net), set.is_empty()));
 }
 
-/// All members, those inside a network and from it on, those that contain one, and copies.
+/// All members, those inside a network, those from it on, those that contain it, and copies.
 fn walk(rt: &HostRuntime, set: &Set, net: &Ipv4Net) -> Result<(), Fault> {
     lines(rt, "", set.into_iter());
     lines(rt, "", set.children(net));
     lines(rt, "", set.iter_from(net, true));
+    lines(rt, "", set.iter_from(net, false));
     lines(rt, "", set.cover(net));
     copy_first(rt, &set.iter())
 }
 
-/// The members of a set that is given away: nothing is left to be shown.
+/// The members of a consumed set; there is no set to show afterwards.
 fn give(rt: &HostRuntime) -> Result<(), Fault> {
     let set: Set = filled(rt)?;
     begin(rt);

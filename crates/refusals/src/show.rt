@@ -1,13 +1,13 @@
-//! What a scenario writes: the two marks, what the call answered, and lines of values. What can't be written, a mark too, is left
-//! out, and whoever reads the output sees that it lacks: so nothing here answers anything. A line of several values is written in
-//! parts, of one value each.
+//! The output of a scenario: the two marks, the result of the call, and lines of values. Output that can't be written is skipped, also a
+//! mark; the reader of the output notices that it is missing. So no function here returns an error. A line of several values is written
+//! in parts of one value each.
 ghost use Rattle.std.specs.Iterator.{IsFinite};
 
 use crate::fault::Fault;
 use std::fmt::{Debug, Display};
 use std::io::Write;
 
-/// The mark before the call. It is one call of the system, as the other is.
+/// The mark before the call. Each mark is one system call.
 pub fn begin(rt: &HostRuntime) {
     bytes(rt, b"-- begin\n");
 }
@@ -17,12 +17,12 @@ pub fn end(rt: &HostRuntime) {
     bytes(rt, b"-- end\n");
 }
 
-/// Bytes as they are.
+/// Writes bytes unchanged.
 pub fn bytes(rt: &HostRuntime, bytes: &[u8]) {
     let _ = rt.stdout().write_all(bytes);
 }
 
-/// The mark after the call, and what it made; else it is said that it was refused.
+/// The mark after the call, and the value that the call made; if it failed, its error.
 pub fn ended<T, E: Debug + Drop>(rt: &HostRuntime, outcome: Result<T, E>) -> Option<T> {
     end(rt);
     match outcome {
@@ -34,7 +34,7 @@ pub fn ended<T, E: Debug + Drop>(rt: &HostRuntime, outcome: Result<T, E>) -> Opt
     }
 }
 
-/// The mark after a call that makes nothing: this word stands for its answer where it isn't refused.
+/// The mark after a call that makes no value; this word is shown if the call succeeds.
 pub fn ended_with<T: Drop, E: Debug + Drop>(
     rt: &HostRuntime,
     outcome: Result<T, E>,
@@ -45,47 +45,47 @@ pub fn ended_with<T: Drop, E: Debug + Drop>(
     }
 }
 
-/// The mark after a call that gives a list, and each item where it isn't refused.
+/// The mark after a call that returns a list, and each item if the call succeeds.
 pub fn ended_list<T: Debug + Drop, E: Debug + Drop>(rt: &HostRuntime, outcome: Result<Vec<T>, E>) {
     if let Some(items) = ended(rt, outcome) {
         lines(rt, "answer ", items.iter());
     }
 }
 
-/// The value that is to be stored, which a refused call hands back.
+/// The value to store, which a failed call returns.
 pub fn given(rt: &HostRuntime, value: u32) {
     part(rt, &"given ");
     line(rt, &value);
 }
 
-/// That the call was refused, and the value that it handed back.
+/// Shows that the call failed, and the value that it returned.
 pub fn handed_back<E: Debug>(rt: &HostRuntime, error: &E, value: u32) {
     let _ = print!(rt; "answer {error:?} ");
     line(rt, &value);
 }
 
-/// That the call was refused.
+/// Shows that the call failed.
 pub fn refused<E: Debug>(rt: &HostRuntime, error: &E) {
     part(rt, &"answer ");
     line(rt, error);
 }
 
-/// One line of what the call answered.
+/// A line of the call's result.
 pub fn answer<T: Display>(rt: &HostRuntime, line: &T) {
     let _ = println!(rt; "answer {line}");
 }
 
-/// A part of a line, which another part or a line ends.
+/// A part of a line, followed by another part or the line's end.
 pub fn part<T: Display>(rt: &HostRuntime, value: &T) {
     let _ = print!(rt; "{value}");
 }
 
-/// A line, or its end.
+/// A line, or the end of a line.
 pub fn line<T: Debug>(rt: &HostRuntime, value: &T) {
     let _ = println!(rt; "{value:?}");
 }
 
-/// Each item in a line of its own, after a word.
+/// Each item on a line of its own, after a word.
 pub fn lines<T: Debug + Drop, I: Iterator<Item = T>>(rt: &HostRuntime, word: &'static str, items: I)
     requires { (it : I) → I.can_next it × IsFinite (I.remaining it) }
 {
@@ -95,14 +95,14 @@ pub fn lines<T: Debug + Drop, I: Iterator<Item = T>>(rt: &HostRuntime, word: &'s
     }
 }
 
-/// Two numbers, or pairs of them: this word stands after the first, and after the other that it counts nodes.
+/// Two numbers, or two pairs of numbers. The word follows the first; after the second it is said that it counts nodes.
 pub fn counts<T: Debug>(rt: &HostRuntime, first: &T, word: &'static str, nodes: &T) {
     let _ = print!(rt; "{first:?}");
     part(rt, &word);
     let _ = println!(rt; "{nodes:?} nodes");
 }
 
-/// What a copy of an iterator gives first, and one that has nothing left.
+/// The first item of a copy of an iterator, and an empty iterator.
 pub fn copy_first<T: Debug + Drop, I: Iterator<Item = T> + Clone + Default>(
     rt: &HostRuntime,
     items: &I,

@@ -1,27 +1,27 @@
-//! What the scenarios of maps, of sets and of tables have in common.
+//! The common part of the scenarios of maps, sets and tables.
 use crate::fault::Fault;
 use crate::show::{begin, end};
 use std::alloc::Global;
 
-/// What scenarios are about: it is filled, and shown before the call and after it.
+/// The value that scenarios use: it is filled, and shown before and after the call.
 pub trait Subject: Sized + Drop {
     /// The calls of its scenarios.
     type Call: Copy;
 
-    /// An empty one.
+    /// Makes an empty value.
     fn empty(alloc: Global) -> Result<Self, Fault>;
 
-    /// Puts values into it, which is empty.
+    /// Fills the empty value.
     fn fill(&mut self) -> Result<(), Fault>;
 
-    /// Writes all that it has.
+    /// Shows all of its contents.
     fn show(&self, rt: &HostRuntime);
 
-    /// Makes the call between the marks, and says what it answered.
+    /// Makes the call between the marks, and shows its result.
     fn call(&mut self, rt: &HostRuntime, call: Self::Call) -> Result<(), Fault>;
 }
 
-/// The call that makes an empty one.
+/// The call that makes an empty value.
 pub fn make<S: Subject>(rt: &HostRuntime) -> Result<(), Fault> {
     begin(rt);
     let subject = S::empty(rt.alloc())?;
@@ -30,7 +30,7 @@ pub fn make<S: Subject>(rt: &HostRuntime) -> Result<(), Fault> {
     Ok(())
 }
 
-/// One that is filled, and shown.
+/// Makes a value, fills it and shows it.
 pub fn filled<S: Subject>(rt: &HostRuntime) -> Result<S, Fault> {
     let mut subject = S::empty(rt.alloc())?;
     subject.fill()?;
@@ -38,7 +38,7 @@ pub fn filled<S: Subject>(rt: &HostRuntime) -> Result<S, Fault> {
     Ok(subject)
 }
 
-/// The call of one that is filled.
+/// The call on a filled value.
 pub fn run_over<S: Subject>(rt: &HostRuntime, call: S::Call) -> Result<(), Fault> {
     let mut subject: S = filled(rt)?;
     subject.call(rt, call)?;

@@ -37,7 +37,7 @@ pub fn run(rt: &HostRuntime, call: TableCall) -> Result<(), Fault> {
     }
 }
 
-/// Networks of both families, some inside others, and one of them with three routes, the best one last.
+/// Networks of both families, some inside others. One network has three routes, the best one last.
 pub const ROUTES: [(&str, Hop, u16); 8] = [
     ("10.0.0.0/8", Hop::Drop, 10),
     ("10.0.0.0/8", Hop::Number(2), 50),
@@ -63,7 +63,7 @@ impl Subject for RouteTable {
         Ok(())
     }
 
-    /// All routes, and the numbers of networks and of nodes.
+    /// All routes, and the numbers of networks and nodes.
     fn show(&self, rt: &HostRuntime) {
         for all in [IpNet::default(), IpNet::from(Ipv6Net::default())] {
             show_inside(rt, self, &all);
@@ -91,7 +91,7 @@ impl Subject for RouteTable {
     }
 }
 
-/// The calls that give a list.
+/// The calls that return a list.
 fn list(rt: &HostRuntime, table: &RouteTable, call: TableCall) {
     begin(rt);
     match call {
@@ -100,7 +100,7 @@ fn list(rt: &HostRuntime, table: &RouteTable, call: TableCall) {
     }
 }
 
-/// The calls that take no memory.
+/// The calls that do not allocate.
 fn free(rt: &HostRuntime, table: &mut RouteTable, call: TableCall) -> Result<(), Fault> {
     let net = network("10.1.2.4/30")?;
     begin(rt);
@@ -112,6 +112,7 @@ fn free(rt: &HostRuntime, table: &mut RouteTable, call: TableCall) -> Result<(),
         TableCall::Pages => pages(rt, table)?,
         _ => lines(rt, "", table.flat()),
     }
+    line(rt, &table.node_counts());
     end(rt);
     Ok(())
 }
@@ -129,7 +130,7 @@ fn show_inside(rt: &HostRuntime, table: &RouteTable, all: &IpNet) {
     }
 }
 
-/// A network that isn't stored is added.
+/// Adds a network that isn't stored.
 fn add(rt: &HostRuntime, table: &mut RouteTable, text: &str) -> Result<(), Fault> {
     let net = network(text)?;
     begin(rt);
@@ -143,7 +144,7 @@ fn add(rt: &HostRuntime, table: &mut RouteTable, text: &str) -> Result<(), Fault
     Ok(())
 }
 
-/// A change at a network that isn't stored.
+/// A change of a network that isn't stored.
 pub fn change<T, F: FnOnce(&mut T, IpNet) -> Result<(), Refused>>(
     rt: &HostRuntime,
     table: &mut T,
@@ -157,7 +158,7 @@ pub fn change<T, F: FnOnce(&mut T, IpNet) -> Result<(), Refused>>(
     Ok(())
 }
 
-/// Puts the best routes of IPv4 into an empty table, and writes the mark.
+/// Stores the best routes of IPv4 in an empty table, and writes the mark.
 fn begin_with(rt: &HostRuntime, table: &mut HopTable, routes: &RouteTable) -> Result<(), Fault> {
     for (net, hop, _) in routes.list(&IpNet::default()) {
         store(table, net, hop)?;
@@ -170,7 +171,7 @@ fn store(table: &mut HopTable, net: IpNet, hop: Hop) -> Result<(), Fault> {
     made(table.overwrite(net, hop))
 }
 
-/// A least table of one with one route a network, which is gone then.
+/// A least table of a table with one route for each network, which is consumed.
 fn into_least(rt: &HostRuntime, routes: &RouteTable) -> Result<(), Fault> {
     let mut table = made(HopTable::new(rt.alloc()))?;
     begin_with(rt, &mut table, routes)?;
@@ -188,7 +189,7 @@ fn add_routes(rt: &HostRuntime, table: &mut RouteTable, net: &IpNet) {
     line(rt, &table.add(*net, Hop::Number(3), 200));
 }
 
-/// Routes that are taken out: the best one, the last one, and one that isn't there.
+/// Routes to remove: a best route, a last route, and one that isn't there.
 const GONE: [(&str, Hop); 4] = [
     ("10.0.0.0/8", Hop::Number(1)),
     ("10.1.2.4/30", Hop::Number(3)),
@@ -203,7 +204,7 @@ fn del_all(rt: &HostRuntime, table: &mut RouteTable) -> Result<(), Fault> {
     Ok(())
 }
 
-/// Look-ups, and what networks govern.
+/// Lookups, and the blocks that networks govern.
 fn look_up(rt: &HostRuntime, table: &RouteTable, net: &IpNet) -> Result<(), Fault> {
     line(rt, &(table.get(net), table.get_visits(net)));
     show_network(rt, table, net);
@@ -232,7 +233,7 @@ fn index(rt: &HostRuntime, table: &RouteTable) -> Result<(), Fault> {
     }
 }
 
-/// An index of a table of one route a network.
+/// An index of a table with one route for each network.
 fn index_of_hops(rt: &HostRuntime, routes: &RouteTable) -> Result<(), Fault> {
     let mut table = made(HopTable::new(rt.alloc()))?;
     begin_with(rt, &mut table, routes)?;
@@ -242,7 +243,7 @@ fn index_of_hops(rt: &HostRuntime, routes: &RouteTable) -> Result<(), Fault> {
     }
 }
 
-/// What is looked up in indexes.
+/// The addresses that are looked up in indexes.
 const ADDRESSES: [&str; 4] = ["10.1.2.4", "10.64.0.1", "2001:db8::1", "2001:db8:8000::"];
 
 fn answer_hops(rt: &HostRuntime, index: &HopIndex) -> Result<(), Fault> {
@@ -262,7 +263,7 @@ fn addresses() -> Result<[IpAddr; 4], Fault> {
     Ok(addrs)
 }
 
-/// Look-ups in an index, one by one and together.
+/// Lookups in an index, one by one and together.
 fn hops(rt: &HostRuntime, table: &RouteTable) -> Result<(), Fault> {
     let addrs = addresses()?;
     let index = made(HopIndex::of_table(rt.alloc(), table))?;

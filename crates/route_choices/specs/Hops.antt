@@ -1,4 +1,4 @@
--- Where addresses go: the numbers of hops.
+-- Next hops and their numbers.
 use Rattle.std.specs.Prelude.{ℕ, ◌<◌, ◌^◌, Option, Some, None}
 use Rattle.route_choices.specs.declared.hop.Hop.{Hop}
 use Rattle.route_choices.specs.declared.hop.Hop.TheVariants.{Number, Drop}
@@ -13,7 +13,7 @@ abbrev pub number_of : Hop → Option ℕ
 number_of (Number k) = Some k
 number_of Drop = None
 
--- the hop of a number; `drop` where there is none
+-- the hop of a number, or `drop` for none
 abbrev pub hop_from : Option ℕ → Hop
 hop_from (Some k) = Number k
 hop_from None = Drop

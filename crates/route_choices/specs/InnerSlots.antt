@@ -1,37 +1,37 @@
--- Choices as they are stored: each in a place, those behind the last free.
+-- Choices as they are stored: one in each slot, and free slots after the last choice.
 use Rattle.std.specs.Prelude.{ℕ, zero, suc, Bool, true, false, List, [], ◌∷◌, Option, Some, None}
 use Rattle.route_choices.specs.Choices.{Choice, beats, same_hop}
 use Rattle.route_choices.specs.declared.hop.Hop.{Hop}
 use Rattle.route_choices.specs.declared.hop.Hop.TheVariants.{Number, Drop}
 
--- what a place has: a flag tells that it is free, and one that the hop is `drop`
+-- the content of a slot: one flag says that the slot is free, the other that the hop is `drop`
 abbrev pub slot_in : Bool → Bool → ℕ → ℕ → Option Choice
 slot_in true d k p = None
 slot_in false true k p = Some (record { hop = Drop; pref = p })
 slot_in false false k p = Some (record { hop = Number k; pref = p })
 
--- the choice that is given as a pair
+-- the choice given by a pair
 abbrev pub given : Option (Hop × ℕ) → Option Choice
 given None = None
 given (Some c) = Some (record { hop = c.0; pref = c.1 })
 
--- the test that a place is free or has this hop
+-- the test that a slot is free or has this hop
 abbrev pub ends_at : Hop → Option Choice → Bool
 ends_at h None = true
 ends_at h (Some d) = same_hop d.hop h
 
--- the test that a place is free or has a worse choice
+-- the test that a slot is free or has a worse choice
 abbrev pub ends_before : Choice → Option Choice → Bool
 ends_before c None = true
 ends_before c (Some d) = beats c d
 
--- the choices of some places, up to the first that is free
+-- the choices of the slots up to the first free one
 abbrev pub filled : List (Option Choice) → List Choice
 filled [] = []
 filled (None ∷ xs) = []
 filled (Some c ∷ xs) = c ∷ filled xs
 
--- n places with these choices, the others free
+-- n slots with these choices; the other slots are free
 abbrev pub padded : ℕ → List Choice → List (Option Choice)
 padded zero cs = []
 padded (suc n) [] = None ∷ padded n []

@@ -12,8 +12,8 @@ use crate::slot::Slot;
 use crate::too_many::TooMany;
 use std::marker::Model;
 
-/// At most eight hops with their preferences, best first, no hop twice, and room for `CAPACITY` of them, eight bytes each. They take no
-/// memory.
+/// At most eight hops with their preferences, best first, each hop once. There is room for `CAPACITY` choices of eight bytes each. They
+/// do not allocate.
 ///
 /// Contracts see the list of the choices.
 #[derive(Drop)]
@@ -33,7 +33,7 @@ impl<const CAPACITY: usize> Model for Choices<CAPACITY> {
     ghost invariant = { λ c. (c.slots ≡ padded CAPACITY (filled c.slots)) × AreChoices (filled c.slots) };
 }
 
-/// The first place that has the hop or is free, or how many there are.
+/// The first slot that has the hop or is free, or the number of slots if there is none.
 fn place(slots: &[Slot], hop: Hop) -> usize
     ensures { result ≡ position_or_len (ends_at hop) slots.now }
 {
@@ -45,7 +45,7 @@ fn place(slots: &[Slot], hop: Hop) -> usize
     slots.len()
 }
 
-/// The first place that has a worse choice or is free, or how many there are.
+/// The first slot that has a worse choice or is free, or the number of slots if there is none.
 fn first_beaten(slots: &[Slot], choice: (Hop, u16)) -> usize
     ensures { result ≡ position_or_len (ends_before (record { hop = choice.0; pref = choice.1 })) slots.now }
 {
@@ -57,7 +57,7 @@ fn first_beaten(slots: &[Slot], choice: (Hop, u16)) -> usize
     slots.len()
 }
 
-/// Puts a choice at a place. What stood there, and each choice after it, goes to the next place, and the last place is lost.
+/// Inserts a choice at a slot. The later choices move to the next slot, and that of the last slot is lost.
 fn put(slots: &mut [Slot], at: usize, slot: Slot)
     requires { at < length slots.old }
     ensures { slots.new ≡ take at slots.old ++ slot ∷ take (length slots.old - (at + 1)) (drop at slots.old) }
@@ -66,7 +66,7 @@ fn put(slots: &mut [Slot], at: usize, slot: Slot)
     slots[at] = slot;
 }
 
-/// Frees a place. Each choice after it goes to the place before.
+/// Frees a slot. The later choices move to the slot before.
 fn take_out(slots: &mut [Slot], at: usize)
     requires { at < length slots.old }
     ensures { slots.new ≡ take at slots.old ++ drop (at + 1) slots.old ++ None ∷ [] }
@@ -76,10 +76,10 @@ fn take_out(slots: &mut [Slot], at: usize)
 }
 
 impl Choices<8> {
-    /// Stores the hop with the preference, in the place of any of the same hop.
+    /// Stores the hop with the preference. If the hop is stored already, its preference changes.
     ///
     /// # Errors
-    /// `TooMany` exactly where eight other hops are stored. Then nothing changed.
+    /// `TooMany` exactly if eight other hops are stored. Then nothing changes.
     pub fn add(&mut self, hop: Hop, pref: u16) -> Result<(), TooMany>
         ensures choices { OnOk result (self.new ≡ choices_with self.old (record { hop = hop; pref = pref })) }
         ensures room { OnOk result (is_one_too_many self.old hop ≡ false) }
@@ -99,7 +99,7 @@ impl Choices<8> {
 }
 
 impl<const CAPACITY: usize> Choices<CAPACITY> {
-    /// One choice.
+    /// Makes a list of one choice.
     pub fn one(hop: Hop, pref: u16) -> Choices<CAPACITY>
         requires { 0 < CAPACITY }
         ensures choices { result ≡ record { hop = hop; pref = pref } ∷ [] }
@@ -111,7 +111,7 @@ impl<const CAPACITY: usize> Choices<CAPACITY> {
         Choices { slots }
     }
 
-    /// Takes the hop out, if it is stored.
+    /// Removes the hop, and returns whether it was stored.
     pub fn remove(&mut self, hop: Hop) -> bool
         ensures held { result ≡ holds_hop self.old hop }
         ensures choices { self.new ≡ choices_without self.old hop }
@@ -128,28 +128,28 @@ impl<const CAPACITY: usize> Choices<CAPACITY> {
         true
     }
 
-    /// The best: the one that no other beats. Where there is none, which no stored network has, `drop` and 0.
+    /// Returns the best choice, or `drop` with preference 0 if there is none. A stored network always has a choice.
     pub fn best(&self) -> (Hop, u16)
         ensures { result ≡ (best_hop self.now, best_preference self.now) }
     {
         self.all().best()
     }
 
-    /// Whether there are none.
+    /// Returns whether there are no choices.
     pub fn is_empty(&self) -> bool
         ensures { result ≡ has_none self.now }
     {
         self.slots.first().is_none_or(|first| first.get().is_none())
     }
 
-    /// All of them, best first.
+    /// Returns all choices, best first.
     pub fn all(&self) -> All<'_>
         ensures { result ≡ self.now }
     {
         All { left: &self.slots }
     }
 
-    /// They are choices, so that the laws can be cited of them.
+    /// The contract says that these are valid choices, as the theorems about choices require.
     pub fn are_choices(&self)
         ensures { AreChoices self.now }
     {
@@ -157,7 +157,7 @@ impl<const CAPACITY: usize> Choices<CAPACITY> {
     }
 }
 
-/// Hops with their preferences, best first. It takes no memory.
+/// Hops with their preferences, best first. Does not allocate.
 #[derive(Drop)]
 pub struct All<'a> {
     left: &'a [Slot],
@@ -174,14 +174,14 @@ impl<'a> Model for All<'a> {
 }
 
 impl<'a> All<'a> {
-    /// No choices: those of a network that is not stored.
+    /// Makes an iterator without choices, as for a network that isn't stored.
     pub fn none() -> All<'a>
         ensures { result ≡ [] }
     {
         All { left: &[] }
     }
 
-    /// The first of those that are left. Where there is none, `drop` and 0.
+    /// Returns the first choice that is left, or `drop` with preference 0 if there is none.
     pub fn best(&self) -> (Hop, u16)
         ensures { result ≡ (best_hop self.now, best_preference self.now) }
     {

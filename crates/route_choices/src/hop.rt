@@ -1,19 +1,19 @@
-//! Where addresses go.
+//! Next hops.
 ghost use Rattle.std.specs.Prelude.{◌≡◌};
 ghost use Rattle.route_choices.specs.Hops.{IsHop, number_of};
 
-/// Where a network's addresses go: to a numbered hop, or nowhere.
+/// The next hop of a network's addresses: a number, or `drop`.
 #[derive(Clone, Copy, PartialEq, Eq, Debug, Default)]
 pub enum Hop {
     /// The number of the hop.
     Number(u32),
-    /// The addresses are dropped: they have no hop, and no shorter route gives them one.
+    /// The addresses are dropped: they have no hop, not even that of a shorter route.
     #[default]
     Drop,
 }
 
 impl Hop {
-    /// Its number; none for `Drop`.
+    /// Returns the number of the hop, or `None` for `Drop`.
     pub fn number(self) -> Option<u32>
         ensures number { result ≡ number_of self }
         ensures in_range { IsHop self }

@@ -1,4 +1,4 @@
-//! Laws of choices: public functions without a body, whose contracts are the laws.
+//! Theorems about choices: public functions without a body, whose contracts are the theorems.
 ghost use Rattle.std.specs.Prelude.{◌≡◌, ◌↔◌, IsTrue};
 ghost use Rattle.route_choices.specs.Laws.{BestIsUnbeaten, ChoicesWith, ChoicesWithout, OneBeats, SameChoices, StayChoices};
 ghost use Rattle.route_choices.specs.declared.hop.Hop.{Hop as AnyHop};
@@ -8,8 +8,8 @@ ghost use Rattle.route_choices.specs.declared.too_many.TooMany.{TooMany as AnyRe
 use crate::hop::Hop;
 use crate::too_many::TooMany;
 
-/// The choices of one network: the first is the one that no other beats; with a choice, those of other hops and it;
-/// without a hop, those of other hops; and they stay in order, at most eight, no hop twice.
+/// The choices of one network. No other choice beats the first one. `with_one`: adding a choice replaces the one with the same hop.
+/// `without_one`: removing a hop leaves the others. Both keep the order, at most eight choices, and each hop once.
 pub fn choices()
     ensures best { BestIsUnbeaten }
     ensures one { OneBeats }
@@ -19,7 +19,7 @@ pub fn choices()
     ensures same { SameChoices }
 {}
 
-/// `==` holds of one hop alone; a clone of a hop is the same one, and cloning never fails; the default hop is `Drop`.
+/// `==` holds exactly for equal hops. A clone of a hop equals it, and cloning never fails. The default hop is `Drop`.
 pub fn hops()
     ensures equality { (a b : AnyHop) → IsTrue (⟦<Hop as PartialEq>⟧.eq a b) ↔ (a ≡ b) }
     ensures clones { (a b : AnyHop) → ⟦<Hop as Clone>⟧.is_clone a b → b ≡ a }
@@ -27,7 +27,7 @@ pub fn hops()
     ensures default { (a : AnyHop) → ⟦<Hop as Default>⟧.is_default a → a ≡ DropHop }
 {}
 
-/// `==` holds of one refusal alone; a clone of a refusal is the same one, and cloning never fails.
+/// `==` holds exactly for equal errors. A clone of such an error equals it, and cloning never fails.
 pub fn too_many()
     ensures equality { (a b : AnyRefusal) → IsTrue (⟦<TooMany as PartialEq>⟧.eq a b) ↔ (a ≡ b) }
     ensures clones { (a b : AnyRefusal) → ⟦<TooMany as Clone>⟧.is_clone a b → b ≡ a }

@@ -1,4 +1,4 @@
-//! A place for a choice.
+//! A slot for a choice.
 ghost use Rattle.std.specs.Prelude.{◌≡◌, None, Some};
 ghost use Rattle.route_choices.specs.Hops.{IsHop};
 ghost use Rattle.route_choices.specs.Choices.{beats, hop_before, same_hop};
@@ -7,12 +7,12 @@ ghost use Rattle.route_choices.specs.InnerSlots.{ends_at, ends_before, given};
 use crate::hop::Hop;
 use std::marker::Model;
 
-/// The preference of a route that is given none.
+/// The preference of a route that is given without one.
 pub const DEFAULT_PREFERENCE: u16 = 100;
 
-/// A place for a hop with its preference. It has the eight bytes of a number, a preference and two flags.
+/// A slot for a hop with its preference, in eight bytes: a number, a preference and two flags.
 ///
-/// Contracts see the choice, or none where the place is free.
+/// Contracts see the choice, or `None` if the slot is free.
 #[derive(Drop)]
 pub(crate) struct Slot {
     number: u32,
@@ -36,7 +36,7 @@ impl Default for Slot {
 
     ghost is_default = { λ s. s ≡ None };
 
-    /// A free place.
+    /// The default slot is free.
     fn default() -> Slot {
         Slot {
             number: 0,
@@ -59,7 +59,7 @@ fn is_same(a: Hop, b: Hop) -> bool
     }
 }
 
-/// Whether the hop comes first among equal preferences.
+/// Whether the first hop precedes the second if their preferences are equal.
 fn is_before(a: Hop, b: Hop) -> bool
     ensures { result ≡ hop_before a b }
 {
@@ -70,7 +70,7 @@ fn is_before(a: Hop, b: Hop) -> bool
     }
 }
 
-/// Whether the first of two choices is the better one.
+/// Whether the first choice is better than the second.
 fn is_better(one: (Hop, u16), other: (Hop, u16)) -> bool
     ensures { result ≡ beats (record { hop = one.0; pref = one.1 }) (record { hop = other.0; pref = other.1 }) }
 {
@@ -94,7 +94,7 @@ impl Slot {
         }
     }
 
-    /// The choice, if there is one.
+    /// Returns the choice, if there is one.
     pub(crate) fn get(&self) -> Option<(Hop, u16)>
         ensures { self.now ≡ given result }
     {
@@ -107,7 +107,7 @@ impl Slot {
         }
     }
 
-    /// Whether it has the hop, or is free.
+    /// Whether the slot has the hop, or is free.
     pub(crate) fn ends_at(&self, hop: Hop) -> bool
         ensures { result ≡ ends_at hop self.now }
     {
@@ -117,7 +117,7 @@ impl Slot {
         }
     }
 
-    /// Whether it has a choice that is worse than this one, or is free.
+    /// Whether the slot has a choice that is worse than this one, or is free.
     pub(crate) fn ends_before(&self, choice: (Hop, u16)) -> bool
         ensures { result ≡ ends_before (record { hop = choice.0; pref = choice.1 }) self.now }
     {

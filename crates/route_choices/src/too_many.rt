@@ -1,7 +1,7 @@
-//! Why a hop is refused.
+//! The error of a hop that there is no room for.
 use thiserror::Error;
 
-/// Eight other hops are stored.
+/// The network has eight other hops already.
 #[derive(Clone, Copy, Debug, PartialEq, Eq, Error)]
 #[error("eight other hops are stored")]
 pub struct TooMany;

@@ -1,4 +1,4 @@
--- The lines that make a table of routes.
+-- The command lines that make a table of routes.
 use Rattle.std.specs.Prelude.{ℕ, List, ◌++◌, codes}
 use Rattle.std.specs.List.{flat_map}
 use Rattle.ipnet.specs.IpNets.{network_at}

@@ -1,4 +1,4 @@
--- What devices give and take: bytes that are read, and texts of replies that are written and flushed.
+-- The input and the output of devices: bytes that were read, and texts of replies that were written and flushed.
 use Rattle.std.specs.Prelude.{◌≡◌, ℕ, List, ◌++◌, Option, Result, Ok, Err}
 use Rattle.std.specs.Io.KnownBytes.{Appends, Consumes, IsAtEnd}
 use Rattle.route_feed.specs.declared.counted.Counted.{Counted}
@@ -6,30 +6,30 @@ use Rattle.route_feed.specs.declared.error.RunError.{RunError}
 use Rattle.route_feed.specs.declared.error.RunError.TheVariants.{Write}
 use Rattle.route_feed.specs.Counted.{FailedLast, Flushed, FlushedAll}
 
--- the reader gave some bytes, of which P holds
+-- the reader returned some bytes, and P holds of them
 pub record HasRead {R : Type 0} (remaining : R → Option (List ℕ)) (P : List ℕ → Type 0) (from to : Counted R) : Type 0 where
   pub bytes : List ℕ
   pub read : Consumes (remaining from.device) (remaining to.device) bytes
   pub holds : P bytes
 
--- it gave all, P holds of it, and no read failed
+-- the reader returned all its bytes, P holds of them, and no read failed
 abbrev pub HasReadAll : {R : Type 0} → (R → Option (List ℕ)) → (List ℕ → Type 0) → Counted R → Counted R → Type 0
 HasReadAll remaining P from to = HasRead remaining P from to × IsAtEnd (remaining to.device) × (to.faults ≡ from.faults)
 
 module _ {W : Type 0} (contents : W → Option (List ℕ)) where
-  -- the text of so many replies was written, each was flushed, and nothing failed
+  -- the text of `times` replies was written, each reply was flushed, and nothing failed
   pub record Closed (times : ℕ) (old new : Counted W) (text : List ℕ) : Type 0 where
     pub appended : Appends (contents old.device) (contents new.device) text
     pub faults : new.faults ≡ old.faults
     pub flushed : Flushed times old new
 
-  -- the text was written, all that waited was flushed, and nothing failed
+  -- the text was written, all unflushed bytes were flushed, and nothing failed
   pub record Delivered (old new : Counted W) (text : List ℕ) : Type 0 where
     pub appended : Appends (contents old.device) (contents new.device) text
     pub faults : new.faults ≡ old.faults
     pub flushed : FlushedAll text old new
 
-  -- a beginning of the text was written, nothing of it was flushed, and then the writer failed, in its last call
+  -- a beginning of the text was written, and none of it was flushed; then the writer failed, in its last call
   pub record Torn (old new : Counted W) (text : List ℕ) : Type 0 where
     pub front : List ℕ
     pub back : List ℕ
@@ -38,7 +38,7 @@ module _ {W : Type 0} (contents : W → Option (List ℕ)) where
     pub failed : FailedLast old new
     pub flushes : new.flushes ≡ old.flushes
 
-  -- the text of so many replies, one or none, was written, and flushed; or, at `Write`, a beginning of it
+  -- the text of `times` replies, one or none, was written and flushed; or, at `Write`, a beginning of it was written
   abbrev pub Closes : {T : Type 0} → ℕ → Counted W → Counted W → Result T RunError → List ℕ → Type 0
   Closes times old new (Ok x) text = Closed times old new text
   Closes times old new (Err e) text = (e ≡ Write) × Torn old new text

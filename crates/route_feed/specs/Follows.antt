@@ -1,4 +1,4 @@
--- What `follow` does to its devices, by how it ends.
+-- The effect of `follow` on its devices, by its result.
 use Rattle.std.specs.Prelude.{◌≡◌, ℕ, List, [], ◌∷◌, ◌++◌, ◌⊎◌, Option, Some, Result, Ok, Err, IsSome, All, map}
 use Rattle.std.specs.List.{filter_map}
 use Rattle.route_lines.specs.Bytes.{lines}
@@ -16,11 +16,11 @@ use Rattle.route_feed.specs.Replies.{printed}
 use Rattle.route_feed.specs.Steps.{flat_line}
 use Rattle.route_feed.specs.Streams.{committed, painted, pending_over, replies_in, WantsMemory}
 
--- every piece is a reply line
+-- each piece is a reply line
 abbrev pub AreReplies : List (List ℕ) → Type 0
 AreReplies pieces = All (λ piece. IsSome (reply_of piece)) pieces
 
--- the pieces before one of them are reply lines, and this one is one that may want memory
+-- the pieces before one of them are reply lines, and this one is a reply line that may need memory
 pub record MeetsWant (pieces : List (List ℕ)) : Type 0 where
   pub before : List (List ℕ)
   pub piece : List ℕ
@@ -31,18 +31,18 @@ pub record MeetsWant (pieces : List (List ℕ)) : Type 0 where
   pub is_reply : reply_of piece ≡ Some reply
   pub wants : WantsMemory (pending_over [] (filter_map reply_of before)) reply
 
--- the flat list of the hops that the committed changes paint, printed, and `ok`
+-- the printed flat list of the hops after the committed changes, and `ok`
 abbrev pub followed : List ℕ → List ℕ
 followed bytes = printed (map flat_line (flat_of (painted (committed (replies_in bytes)))) ++ Close Done ∷ [])
 
--- the reader gave some bytes, and one of their lines is no reply line
+-- the reader returned some bytes, and one of their lines isn't a reply line
 abbrev pub MeetsAnother : {R : Type 0} → (R → Option (List ℕ)) → Counted R → Counted R → Type 0
 MeetsAnother remaining from to = HasRead remaining (λ bytes. ¬ AreReplies (lines bytes)) from to
 
 module _ {R W : Type 0} (remaining : R → Option (List ℕ)) (contents : W → Option (List ℕ)) where
-  -- at `Ok` all was read, each line is a reply line, the flat list was written and flushed, and nothing failed; at `Read` each so far is
-  -- one, and the reader failed, in its last call; at `Line` one is none; at `Write` all was read, a beginning of the list was written, and
-  -- the writer failed, in its last call; at `Memory` nothing was read, or a line may want it. At all but `Ok` and `Write` nothing was written
+  -- `Ok`: all was read, each line is a reply line, the flat list was written and flushed, and nothing failed. `Read`: each line so far is
+  -- one, and the reader failed, in its last call. `Line`: one isn't. `Write`: all was read, a beginning of the list was written, and the
+  -- writer failed, in its last call. `Memory`: nothing was read, or a line may need it. Only `Ok` and `Write` write anything.
   abbrev pub FollowEnds : Counted R → Counted R → Counted W → Counted W → Result Unit RunError → Type 0
   FollowEnds from to old new (Ok done) = HasReadAll remaining (λ bytes. AreReplies (lines bytes) × Closed contents 1 old new (followed bytes)) from to
   FollowEnds from to old new (Err Why.Read) = HasRead remaining (λ bytes. AreReplies (lines bytes)) from to × ReadFault from to × (new ≡ old)

@@ -1,4 +1,4 @@
--- What a follower does with the lines of its input.
+-- The effect of an input line on a follower.
 use Rattle.std.specs.Prelude.{◌≡◌, ℕ, List, [], ◌++◌, if◌then◌else◌, All, Option, None, Some, IsSome, Result, Ok, Err}
 use Rattle.ipnet_addr.specs.Addresses.{Address}
 use Rattle.route_lines.specs.declared.cutter.Line.{Line}
@@ -11,7 +11,7 @@ use Rattle.route_feed.specs.InnerLines.{reply_in}
 use Rattle.route_feed.specs.Following.{State, TakesLine}
 use Rattle.route_feed.specs.Streams.{committed, ends_well, painted_over, WantsMemory}
 
--- a line was followed, or why it was not
+-- a line was followed, or the reason why it was not
 abbrev pub FollowsLine : State → Line → Result Unit RunError → State → Type 0
 FollowsLine a line (Ok done) b = (reply : Reply) × (reply_in line ≡ Some reply) × TakesLine a b reply
 FollowsLine a line (Err Why.Line) b = reply_in line ≡ None
@@ -23,6 +23,6 @@ FollowsLine a line (Err Why.Write) b = ⊥
 abbrev pub AllReplies : List Line → Type 0
 AllReplies ls = All (λ l. IsSome (reply_in l)) ls
 
--- the hop of an address once these reply lines have come
+-- the hop of an address after these reply lines
 abbrev pub hop_once : State → List Reply → Address → Option ℕ
 hop_once s ls x = painted_over (hop_at (routes_of s.table) x) ((if ends_well ls then s.pending else []) ++ committed ls) x

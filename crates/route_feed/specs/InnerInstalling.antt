@@ -1,4 +1,4 @@
--- What an installer does with the lines of its input.
+-- The effect of an input line on an installer.
 use Rattle.std.specs.Prelude.{◌≡◌, ℕ, true, false, not, List, [], ◌∷◌, ◌++◌, map, Option, Some, is_some, unwrap_or, MatchOption, Result, Ok, Err}
 use Rattle.route_lines.specs.declared.cutter.Line.{Line}
 use Rattle.route_lines.specs.declared.note.Note.{Note}
@@ -19,36 +19,36 @@ use Rattle.route_feed.specs.InnerReplies.{Written}
 use Rattle.route_feed.specs.Installing.{Installing, IsUnfit, MayWant, Noted, after_note, batches, event_of, noted_bytes, operation_line, printed_updates}
 use Rattle.route_feed.specs.Devices.{Closed, Torn}
 
--- the tables of an installer: before the first `sync` another one is installed
+-- the tables of an installer: before the first `sync`, the installed table is another one
 abbrev pub tables_of : List Stored → Option (List Stored) → Installer
 tables_of table before = record { table = routes_of table; installed = routes_of (unwrap_or before table); kept = not (is_some before) }
 
--- waiting changes as routes
+-- pending changes as routes
 abbrev pub route_waiting : Waiting → Route
 route_waiting w = route_of w.net w.hop default_preference
 
 abbrev pub routes_waiting : List Waiting → List Route
 routes_waiting ws = map route_waiting ws
 
--- the lines of operations, and then `ok`
+-- the lines of operations, and the lines of a batch, which ends with `ok`
 abbrev pub operation_bytes : List Operation → List ℕ
 operation_bytes os = printed_updates (map operation_line os)
 
 abbrev pub batch_bytes : List Operation → List ℕ
 batch_bytes os = printed_updates (map operation_line os ++ U.Done ∷ [])
 
--- no route is told as installed once the table is kept, and a least table is one of the hops after its changes
+-- no route counts as installed already once the table is kept in sync, and a least table has the hops after its changes
 abbrev pub IsFit : Installer → Event → Type 0
 IsFit s (Have r) = s.kept ≡ false
 IsFit s (Told rs) = Unit {0}
 IsFit s (Sync rs N) = AreChanges rs → IsLeast (hop_at (painted_all s.table rs)) N
 
--- the same of each of some events in turn
+-- each of the events is fit in its turn
 abbrev pub AllFit : Installer → List Event → Type 0
 AllFit s [] = Unit {0}
 AllFit s (e ∷ es) = IsFit s e × AllFit (after_event s e) es
 
--- a route that is told as installed
+-- a route counts as installed already
 abbrev pub Has : Installing → Route → Result Unit RunError → Installing → Type 0
 Has a r (Ok done) b = (a.tables.kept ≡ false) × (b ≡ record { tables = after_event a.tables (Have r); pending = a.pending })
 Has a r (Err Why.Line) b = a.tables.kept ≡ true
@@ -57,14 +57,14 @@ Has a r (Err Why.Read) b = ⊥
 Has a r (Err Why.Write) b = ⊥
 
 module _ {W : Type 0} (contents : W → Option (List ℕ)) where
-  -- a beginning of the text was written, and nothing of it was flushed
+  -- a beginning of the text was written, and none of it was flushed
   pub record Begun (old new : Counted W) (text : List ℕ) : Type 0 where
     pub front : List ℕ
     pub back : List ℕ
     pub is_front : text ≡ front ++ back
     pub written : Written contents old new front
 
-  -- the operations of changes were written, and the table is the one after them
+  -- the operations of the changes were written, and the table is the one after these changes
   abbrev pub WritesChanges : List Route → List Route → Counted W → Result Unit RunError → List Route → Counted W → Type 0
   WritesChanges M rs old (Ok done) N new = (N ≡ painted_all M rs) × Written contents old new (operation_bytes (batch M rs))
   WritesChanges M rs old (Err Why.Memory) N new = Begun old new (operation_bytes (batch M rs))
@@ -72,7 +72,7 @@ module _ {W : Type 0} (contents : W → Option (List ℕ)) where
   WritesChanges M rs old (Err Why.Read) N new = ⊥
   WritesChanges M rs old (Err Why.Line) N new = ⊥
 
-  -- and then `ok`
+  -- the same, with `ok` at the end, and flushed
   abbrev pub GivesChanges : List Route → List Route → Counted W → Result Unit RunError → List Route → Counted W → Type 0
   GivesChanges M rs old (Ok done) N new = (N ≡ painted_all M rs) × Closed contents 1 old new (batch_bytes (batch M rs))
   GivesChanges M rs old (Err Why.Memory) N new = Begun old new (batch_bytes (batch M rs))
@@ -80,7 +80,7 @@ module _ {W : Type 0} (contents : W → Option (List ℕ)) where
   GivesChanges M rs old (Err Why.Read) N new = ⊥
   GivesChanges M rs old (Err Why.Line) N new = ⊥
 
-  -- a table was installed in the place of another, which is one too, and is kept
+  -- a table was installed in place of another table, and is kept in sync
   abbrev pub Replaces : Installing → List Route → Counted W → Result Unit RunError → Installing → Counted W → Type 0
   Replaces a N old (Ok done) b new =
       (b ≡ record { tables = record { table = N; installed = N; kept = true }; pending = a.pending }) × IsTable a.tables.installed × Closed contents 1 old new (batch_bytes (between a.tables.installed N))
@@ -89,13 +89,13 @@ module _ {W : Type 0} (contents : W → Option (List ℕ)) where
   Replaces a N old (Err Why.Read) b new = ⊥
   Replaces a N old (Err Why.Line) b new = ⊥
 
-  -- a note was taken
+  -- a note was processed
   pub record Takes (a b : Installing) (n : Noted) (old new : Counted W) : Type 0 where
     pub fit : AllFit a.tables (event_of a n.note n.least)
     pub next : b ≡ after_note a n
     pub closed : Closed contents (batches a.tables (event_of a n.note n.least)) old new (noted_bytes a n)
 
-  -- a beginning of what is written at a note was written, whichever least table it had got
+  -- a beginning of the output for a note was written, the same for every least table
   pub record Wants (a : Installing) (note : Note) (old new : Counted W) : Type 0 where
     pub may_want : MayWant a note
     pub begun : List ℕ
@@ -108,7 +108,7 @@ module _ {W : Type 0} (contents : W → Option (List ℕ)) where
     pub fit : AllFit a.tables (event_of a n.note n.least)
     pub torn : Torn contents old new (noted_bytes a n)
 
-  -- a note was taken, or why it was not
+  -- a note was processed, or the reason why it was not
   abbrev pub TakesNote : Installing → Note → Counted W → Result Unit RunError → Installing → Counted W → Type 0
   TakesNote a note old (Ok done) b new = (N : List Route) × Takes a b (record { note = note; least = N }) old new
   TakesNote a note old (Err Why.Line) b new = IsUnfit a (Some note) × (new ≡ old)
@@ -116,10 +116,10 @@ module _ {W : Type 0} (contents : W → Option (List ℕ)) where
   TakesNote a note old (Err Why.Write) b new = (N : List Route) × Fails a (record { note = note; least = N }) old new
   TakesNote a note old (Err Why.Read) b new = ⊥
 
-  -- a line that spells no note
+  -- a line that doesn't spell a note
   abbrev pub TakesNone : Counted W → Result Unit RunError → Counted W → Type 0
   TakesNone old result new = (result ≡ Err Why.Line) × (new ≡ old)
 
-  -- the same of a line
+  -- the same for a line
   abbrev pub TakesNoteLine : Installing → Line → Counted W → Result Unit RunError → Installing → Counted W → Type 0
   TakesNoteLine a line old result b new = MatchOption (note_in line) (TakesNone old result new) (λ note. TakesNote a note old result b new)

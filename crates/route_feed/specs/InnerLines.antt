@@ -1,4 +1,4 @@
--- Lines: what they spell, with their line ends, and those that add routes.
+-- Lines: the values that they spell, their line ends, and the lines that add routes.
 use Rattle.std.specs.Prelude.{ℕ, List, ◌++◌, All, Option, None, codes}
 use Rattle.ipnet.specs.IpNets.{family, network_at, parts}
 use Rattle.ipnet.specs.declared.ip_net.IpNet.{IpNet}
@@ -17,12 +17,12 @@ use Rattle.route_lines.specs.declared.note.Note.{Note}
 use Rattle.route_lines.specs.declared.reply.Reply.{Reply}
 use Rattle.route_lines.specs.declared.update.Update.{Update}
 
--- what its text spells by this reader: nothing where it is too long
+-- the value that the line's text spells for this reader, or none if the line is too long
 abbrev pub spelled_in : {A : Type 0} → (List ℕ → Option A) → Line → Option A
 spelled_in read (Text text) = read text.items
 spelled_in read TooLong = None
 
--- its command, its reply line and its note
+-- the command, the reply line and the note of a line
 abbrev pub command_in : Line → Option Command
 command_in line = spelled_in command_of line
 
@@ -42,7 +42,7 @@ command_line command = command_text command ++ codes "\n"
 abbrev pub update_line : Update → List ℕ
 update_line update = update_text update ++ codes "\n"
 
--- the command that adds the hop of a route to its network, with the default preference
+-- the command that adds a route to its network with the default preference
 abbrev pub add_command : Route → Command
 add_command r = Add (network_at r.block) r.hop default_preference
 

@@ -1,4 +1,4 @@
--- A follower that is handed an input to its end.
+-- A follower that reads an input to its end.
 use Rattle.std.specs.Prelude.{◌≡◌, ℕ, List, ◌⊎◌, Option, Result, Ok, Err}
 use Rattle.std.specs.Io.KnownBytes.{Consumes, IsAtEnd}
 use Rattle.ipnet_addr.specs.Addresses.{Address, IsAddress}
@@ -15,7 +15,7 @@ use Rattle.route_feed.specs.Follows.{AreReplies, MeetsAnother, MeetsWant}
 use Rattle.route_feed.specs.Streams.{committed, painted, replies_in}
 
 module _ {R : Type 0} (remaining : R → Option (List ℕ)) where
-  -- all was read, each line is a reply line, and the follower has the hops that the committed changes paint
+  -- all was read, each line is a reply line, and the follower has the hops after the committed changes
   pub record Reached (from to : Counted R) (follower : State) : Type 0 where
     pub bytes : List ℕ
     pub read : Consumes (remaining from.device) (remaining to.device) bytes
@@ -24,7 +24,7 @@ module _ {R : Type 0} (remaining : R → Option (List ℕ)) where
     pub at_end : IsAtEnd (remaining to.device)
     pub faults : to.faults ≡ from.faults
 
-  -- why the end was not reached
+  -- the reason why the end was not reached
   abbrev pub Stops : Counted R → Counted R → RunError → Type 0
   Stops from to Why.Read = HasRead remaining (λ bytes. AreReplies (lines bytes)) from to × ReadFault from to
   Stops from to Why.Line = MeetsAnother remaining from to × (to.faults ≡ from.faults)

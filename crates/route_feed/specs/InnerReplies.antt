@@ -1,4 +1,4 @@
--- How replies are written.
+-- The writing of replies.
 use Rattle.std.specs.Prelude.{◌≡◌, ℕ, Bool, ◌||◌, List, [], ◌∷◌, ◌++◌, map, Option, Some, is_some, slice_get, Result, Ok, Err, MatchOption}
 use Rattle.std.specs.Io.KnownBytes.{Appends}
 use Rattle.ipnet.specs.IpNets.{network_at}
@@ -25,27 +25,27 @@ use Rattle.route_feed.specs.Steps.{change_line}
 abbrev pub choice_line : Block → Choice → Reply
 choice_line b c = Route (network_at b) c.hop (Some c.pref)
 
--- the line of a block of the hop that was asked for
+-- the line of a block of the hop that the command names
 abbrev pub own_line : Block → Reply
 own_line b = Own (network_at b)
 
--- the test that a text has a byte
+-- the test that a text isn't empty
 abbrev pub has_bytes : List ℕ → Bool
 has_bytes text = is_some (slice_get text 0)
 
--- the first line was given, and it can be printed; or none was left
+-- the first line was returned, and it can be printed, or none was left
 abbrev pub GivesLine : List Reply → Option Reply → List Reply → Type 0
 GivesLine lines line left = MatchOption line ((lines ≡ []) × (left ≡ [])) (λ l. (lines ≡ l ∷ left) × IsPrintable l)
 
 module _ {W : Type 0} (contents : W → Option (List ℕ)) where
-  -- the text was written, and waits to be flushed
+  -- the text was written, and isn't flushed yet
   pub record Written (old new : Counted W) (text : List ℕ) : Type 0 where
     pub appended : Appends (contents old.device) (contents new.device) text
     pub faults : new.faults ≡ old.faults
     pub flushes : new.flushes ≡ old.flushes
     pub waits : new.waiting ≡ (has_bytes text || old.waiting)
 
-  -- the text was written, or a beginning of it and then the writer failed
+  -- the text was written; or a beginning of it was, and then the writer failed
   abbrev pub Writes : {T : Type 0} → Counted W → Counted W → Result T RunError → List ℕ → Type 0
   Writes old new (Ok x) text = Written old new text
   Writes old new (Err e) text = (e ≡ Write) × Torn contents old new text
@@ -55,12 +55,12 @@ module _ {W : Type 0} (contents : W → Option (List ℕ)) where
   Delivers old new (Ok x) text = Delivered contents old new text
   Delivers old new (Err e) text = (e ≡ Write) × Torn contents old new text
 
-  -- a line for each block that a network governs was written, with the hop that it has now, and `ok`, and flushed; or a beginning
+  -- a line for each block that a network governs, with its new hop, and `ok` were written and flushed; or a beginning was written
   abbrev pub TellsGoverned : List Stored → Block → Option ℕ → Counted W → Counted W → Result Unit RunError → Type 0
   TellsGoverned M b now old new result =
       (blocks : List Block) × IsMaximal (Governed (routes_of M) b) blocks × Closes contents 1 old new result (printed (map (change_line now) blocks ++ Close Done ∷ []))
 
--- how many replies there are to what stands after the last line end, and their text
+-- the number of replies to the bytes after the last line end, and their text
 abbrev pub replies_to_rest : Rest → ℕ
 replies_to_rest Empty = 0
 replies_to_rest Held = 1

@@ -1,4 +1,4 @@
--- What a run does with the lines of its input.
+-- The effect of a run on the lines of its input.
 use Rattle.std.specs.Prelude.{◌≡◌, ℕ, ◌⊎◌, List, [], ◌∷◌, Option, Result, Ok, Err, IsErr}
 use Rattle.std.specs.Io.KnownBytes.{Consumes, IsAtEnd}
 use Rattle.route_lines.specs.Bytes.{rest}
@@ -10,9 +10,9 @@ use Rattle.route_feed.specs.declared.error.RunError.{RunError}
 use Rattle.route_feed.specs.declared.error.RunError.TheVariants.{Read}
 use Rattle.route_feed.specs.Counted.{ReadFault}
 
--- `takes` says what it is to take a line, by the result
+-- `takes` is the effect of receiving a line, by the result
 module _ {S W : Type 0} (takes : S → Line → Counted W → Result Unit RunError → S → Counted W → Type 0) where
-  -- the lines were taken, one after another; or those before one of them, and that one was not
+  -- all lines were received, in order; or those before one of them, and this one was not
   abbrev pub TakesAll : S → List Line → Counted W → Result Unit RunError → S → Counted W → Type 0
   TakesAll a [] old result b new = (result ≡ Ok tt) × (b ≡ a) × (new ≡ old)
   TakesAll a (l ∷ ls) old result c new =
@@ -20,7 +20,7 @@ module _ {S W : Type 0} (takes : S → Line → Counted W → Result Unit RunErr
       ⊎ (IsErr result × takes a l old result c new)
 
   module _ {R : Type 0} (remaining : R → Option (List ℕ)) where
-    -- how a run over these bytes ends: at the end of the input, by a fault of the reader, or by a line that was not taken
+    -- the end of a run over these bytes: at the end of the input, at a fault of the reader, or at a line that was not accepted
     abbrev pub Ends : List ℕ → S → Counted R → Counted W → Result Rest RunError → S → Counted R → Counted W → Type 0
     Ends bytes a from old (Ok left) b to new =
         TakesAll a (lines_in bytes) old (Ok tt) b new × (left ≡ rest_of (rest bytes)) × IsAtEnd (remaining to.device) × (to.faults ≡ from.faults)
@@ -28,7 +28,7 @@ module _ {S W : Type 0} (takes : S → Line → Counted W → Result Unit RunErr
         (TakesAll a (lines_in bytes) old (Ok tt) b new × (e ≡ Read) × ReadFault from to)
         ⊎ (TakesAll a (lines_in bytes) old (Err e) b new × (to.faults ≡ from.faults))
 
-    -- the reader gave some bytes, and the run over them ended so
+    -- the reader returned some bytes, and the run over them ended in this way
     pub record Runs (a : S) (from : Counted R) (old : Counted W) (result : Result Rest RunError) (b : S) (to : Counted R) (new : Counted W) : Type 0 where
       pub bytes : List ℕ
       pub read : Consumes (remaining from.device) (remaining to.device) bytes

@@ -1,4 +1,4 @@
--- The changes that a follower keeps.
+-- The pending changes of a follower.
 use Rattle.std.specs.Prelude.{List, map}
 use Rattle.ipnet.specs.IpNets.{block}
 use Rattle.route_choices.specs.Hops.{number_of}

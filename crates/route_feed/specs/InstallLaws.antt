@@ -1,4 +1,4 @@
--- What stands installed that is kept by the lines of a leader.
+-- The table that an installer keeps installed, given the lines of a leader.
 use Rattle.std.specs.Prelude.{◌≡◌, ◌⊎◌, ◌<◌, ◌^◌, ℕ, Bool, All, IsSome, true, false, List, [], ◌∷◌, ◌++◌, Any, Option, Some, None, Contains, filter, length, map, not, suc, take}
 use Rattle.std.specs.List.{filter_map}
 use Rattle.ipnet.specs.declared.ip_net.IpNet.{IpNet}
@@ -35,48 +35,48 @@ reply_in (Notes.Reply line) = Some line
 abbrev pub replies_of : List Noted → List Reply
 replies_of ns = filter_map (λ n. reply_in n.note) ns
 
--- these reply lines are the first of those that a leader writes which is given these bytes
+-- these reply lines are the first that a leader writes for these bytes
 abbrev pub AreFirst : List ℕ → List Bool → List Reply → Type 0
 AreFirst bytes refusals ls = (later : List Reply) × (replies_in (output bytes refusals) ≡ ls ++ later)
 
--- the leader's table after so many of its commands
+-- the leader's table after `count` of its commands
 abbrev pub table_at : List ℕ → List Bool → ℕ → List Stored
 table_at bytes refusals count = table_after [] (take count (whole_commands bytes ++ at_end (rest bytes))) refusals
 
--- after as many as these lines end replies
+-- the leader's table after as many commands as there are closing lines among these lines
 abbrev pub table_by : List ℕ → List Bool → List Reply → List Stored
 table_by bytes refusals ls = table_at bytes refusals (closings ls)
 
--- the operations that are given at a note, after others
+-- the operations that are written at a note, after other notes
 abbrev pub operations_at : List Noted → Noted → List Operation
 operations_at ns n = given (after_notes begin ns).tables (event_of (after_notes begin ns) n.note n.least)
 
--- the table of the routes that notes tell as installed, after all operations that are given at them
+-- the table of the routes that the notes list as installed, after all operations that are written at the notes
 abbrev pub installed_by : List Noted → List Route
 installed_by ns = after_all (haves (events begin ns)) (given start (events begin ns))
 
--- a `sync` stands among them
+-- there is a `sync` among the notes
 abbrev pub HasSync : List Noted → Type 0
 HasSync ns = Any (λ n. n.note ≡ Notes.Sync) ns
 
--- no route is told as installed
+-- the note doesn't list a route as installed
 abbrev pub IsNoHave : Note → Type 0
 IsNoHave note = (net : IpNet) (hop : Hop) → note ≡ Notes.Have net hop → ⊥
 
--- ---- of the notes of a leader's replies, with other notes anywhere between them
+-- ---- notes of a leader's replies, with other notes anywhere between them
 
--- once there was a `sync` it has each address at the hop of the leader's table after as many commands as replies end there
+-- after a `sync`, each address has the hop of the leader's table after as many commands as there are complete replies
 abbrev pub InstalledAgrees : Type 0
 InstalledAgrees = (bytes : List ℕ) (refusals : List Bool) (ns : List Noted) → AreFirst bytes refusals (replies_of ns)
     → MayAllCome start (events begin ns) → HasSync ns
     → (x : Address) → IsAddress x → hop_at (installed_by ns) x ≡ hop_at (routes_of (table_by bytes refusals (replies_of ns))) x
 
--- at each note each address turns at most once
+-- at each note, each address changes its hop at most once
 abbrev pub InstalledIsHitless : Type 0
 InstalledIsHitless = (bytes : List ℕ) (refusals : List Bool) (ns later : List Noted) (n : Noted) → AreFirst bytes refusals (replies_of (ns ++ n ∷ later))
     → MayAllCome start (events begin (ns ++ n ∷ later)) → IsHitless (installed_by ns) (operations_at ns n)
 
--- So after a `sync` it has at each moment one of two hops: that of the leader's table before the reply, or that after it.
+-- So after a `sync`, each address has at each moment its hop in the leader's table before the reply, or that after it.
 abbrev pub InstalledAtAllTimes : Type 0
 InstalledAtAllTimes = (bytes : List ℕ) (refusals : List Bool) (ns later : List Noted) (n : Noted) → AreFirst bytes refusals (replies_of (ns ++ n ∷ later))
     → MayAllCome start (events begin (ns ++ n ∷ later)) → HasSync ns
@@ -84,31 +84,31 @@ InstalledAtAllTimes = (bytes : List ℕ) (refusals : List Bool) (ns later : List
     → (hop_at (after_all (installed_by ns) (take i (operations_at ns n))) x ≡ hop_at (routes_of (table_by bytes refusals (replies_of ns))) x)
     ⊎ (hop_at (after_all (installed_by ns) (take i (operations_at ns n))) x ≡ hop_at (routes_of (table_by bytes refusals (replies_of (ns ++ n ∷ [])))) x)
 
--- so where the lines of a log are such notes, and its reply lines are those in a beginning of the leader's output
+-- if the lines of a log are such notes, and its reply lines are those of a beginning of the leader's output
 abbrev pub LogsAreFirst : Type 0
 LogsAreFirst = (bytes : List ℕ) (refusals : List Bool) (front back log : List ℕ) (ns : List Noted) → output bytes refusals ≡ front ++ back
     → AreNotes (lines log) ns → replies_in log ≡ replies_in front → AreFirst bytes refusals (replies_of ns)
 
--- ---- of all notes
+-- ---- any notes
 
--- the operations that are given at a note make of what was installed what is installed then
+-- the operations at a note turn the table installed before it into the table installed after it
 abbrev pub OperationsReach : Type 0
 OperationsReach = (ns : List Noted) (n : Noted) → MayAllCome start (events begin (ns ++ n ∷ [])) → IsNoHave n.note
     → after_all (installed_by ns) (operations_at ns n) ≡ installed_by (ns ++ n ∷ [])
 
--- right after a `sync` it is a least table of the hops that the reply lines commit
+-- right after a `sync`, the installed table is a least table of the committed hops
 abbrev pub SyncsAreLeast : Type 0
 SyncsAreLeast = (ns : List Noted) (least : List Route) → MayAllCome start (events begin (ns ++ record { note = Notes.Sync; least = least } ∷ []))
     → IsLeast (painted (committed (replies_of ns))) (installed_by (ns ++ record { note = Notes.Sync; least = least } ∷ []))
 
--- and so it is after an `ok` where more than 256 changes wait
+-- the same after an `ok` with more than 256 pending changes
 abbrev pub LargeRepliesAreLeast : Type 0
 LargeRepliesAreLeast = (ns : List Noted) (least : List Route) → MayAllCome start (events begin (ns ++ record { note = Notes.Reply (Close Done); least = least } ∷ []))
     → HasSync ns → 256 < length (pending_over [] (replies_of ns))
     → IsLeast (painted (committed (replies_of (ns ++ record { note = Notes.Reply (Close Done); least = least } ∷ []))))
     (installed_by (ns ++ record { note = Notes.Reply (Close Done); least = least } ∷ []))
 
--- ---- of the lines that are written
+-- ---- the lines of the output
 
 -- whether a line is an operation
 abbrev pub is_operation : Update → Bool
@@ -116,31 +116,31 @@ is_operation (U.Install net hop) = true
 is_operation (U.Remove net) = true
 is_operation U.Done = false
 
--- how many of the lines are `ok`
+-- the number of `ok` lines
 abbrev pub oks : List Update → ℕ
 oks us = length (filter (λ u. not (is_operation u)) us)
 
--- the update lines that stand whole in the bytes
+-- the complete update lines in the bytes
 abbrev pub updates_in : List ℕ → List Update
 updates_in bytes = filter_map update_of (lines bytes)
 
--- a table after lines are carried out, one after another
+-- a table after the lines were carried out, in order
 abbrev pub carried_out : List Route → List Update → List Route
 carried_out M [] = M
 carried_out M (U.Install net hop ∷ us) = carried_out (with_route M (route_of net hop default_preference)) us
 carried_out M (U.Remove net ∷ us) = carried_out (without_block M (block net)) us
 carried_out M (U.Done ∷ us) = carried_out M us
 
--- the lines are those of the operations that are given, and `ok`
+-- the lines are those of the operations, and `ok`
 abbrev pub OutputIsGiven : Type 0
 OutputIsGiven = (ns : List Noted) → filter is_operation (update_lines start (events begin ns)) ≡ map operation_line (given start (events begin ns))
 
--- they are read again as they were written
+-- the lines are read back as they were written
 abbrev pub OutputReadsBack : Type 0
 OutputReadsBack = (ns : List Noted) → MayAllCome start (events begin ns) → updates_in (installed_bytes ns) ≡ update_lines start (events begin ns)
 
--- Whoever carries out the lines that stand whole in any beginning of the output, on the table of the routes that notes tell as
--- installed, has at each address the hop of that table after as many of the operations.
+-- Carry out the complete lines of any beginning of the output, on the table of the routes that the notes list as installed. Each address
+-- then has its hop in this table after as many of the operations.
 abbrev pub BeginningsAreCarriedOut : Type 0
 BeginningsAreCarriedOut = (ns : List Noted) (front back : List ℕ) → MayAllCome start (events begin ns) → installed_bytes ns ≡ front ++ back → (x : Address)
     → hop_at (carried_out (haves (events begin ns)) (updates_in front)) x
@@ -148,21 +148,21 @@ BeginningsAreCarriedOut = (ns : List Noted) (front back : List ℕ) → MayAllCo
 
 -- ---- from bytes to bytes
 
--- each line of a leader is a note, where the input of that leader has fewer than 2^64 bytes, as every input has
+-- each line of a leader is a note, if the input of the leader has fewer than 2^64 bytes, as every input has
 abbrev pub BeginningsAreNotes : Type 0
 BeginningsAreNotes = (bytes front back : List ℕ) (refusals : List Bool) → length bytes < 2 ^ 64 → output bytes refusals ≡ front ++ back → All (λ piece. IsSome (note_of piece)) (lines front)
 
--- Whoever carries out the output of an installer that is given such a log has at each address the hop of the leader's table after
--- as many commands as replies end there.
+-- After the installer's output for such a log is carried out, each address has the hop of the leader's table after as many commands as
+-- there are complete replies in the log.
 abbrev pub OutputAgrees : Type 0
 OutputAgrees = (bytes : List ℕ) (refusals : List Bool) (front back log : List ℕ) (ns : List Noted) → output bytes refusals ≡ front ++ back
     → AreNotes (lines log) ns → replies_in log ≡ replies_in front → HasSync ns
     → (x : Address) → IsAddress x
     → hop_at (carried_out (haves (events begin ns)) (updates_in (installed_bytes ns))) x ≡ hop_at (routes_of (table_told bytes refusals front)) x
 
--- And so at all times from the first `ok` on: whoever carries out the lines that stand whole in a beginning of this output, cut at any
--- byte, has each address at one of two hops: that of the leader's table after so many commands, or after one more. The notes whose
--- replies these commands ended had given as many batches as lines there are `ok`.
+-- The same holds at all times from the first `ok` on. Carry out the complete lines of a beginning of this output, cut at any byte. Each
+-- address then has its hop in the leader's table after some number of commands, or after one more. The notes whose replies end these
+-- commands had as many batches as there are `ok` lines in the beginning.
 abbrev pub CutsAgree : Type 0
 CutsAgree = (bytes : List ℕ) (refusals : List Bool) (front back log : List ℕ) (ns : List Noted) (written missing : List ℕ) → output bytes refusals ≡ front ++ back
     → AreNotes (lines log) ns → replies_in log ≡ replies_in front → installed_bytes ns ≡ written ++ missing → Contains (updates_in written) U.Done

@@ -1,4 +1,4 @@
--- Notes as events on a table that is kept installed, and what an installer writes of them.
+-- Notes as events on a table that is kept installed, and the output of an installer for them.
 use Rattle.std.specs.Prelude.{◌≡◌, ℕ, suc, nat_lt, length, Bool, true, false, ◌&&◌, List, [], ◌∷◌, ◌++◌, if◌then◌else◌, Option, Some, None, map}
 use Rattle.std.specs.List.{flat_map}
 use Rattle.std.specs.Option.{option_map_or}
@@ -21,55 +21,55 @@ use Rattle.route_feed.specs.Streams.{Change, change_of, closes, is_done, pending
 abbrev pub route_to : Change → Route
 route_to c = record { block = c.block; hop = hop_from c.number; pref = default_preference }
 
--- a table that is kept installed, and the changes that wait for a closing line
+-- a table that is kept installed, and the pending changes
 pub record Installing : Type 0 where
   pub tables : Installer
   pub pending : List Change
 
--- nothing is installed, and nothing waits
+-- nothing is installed, and no changes are pending
 abbrev pub begin : Installing
 begin = record { tables = start; pending = [] }
 
--- Changes that are committed are an event, if there are any. Where they are more than 256, and the table is kept, it becomes at
--- once a least one of the hops after them, which is N.
+-- Committed changes are one event, if there are any. If there are more than 256 and the table is kept in sync, a least table of the hops
+-- after them is installed, which is N.
 abbrev pub committing : Bool → List Change → List Route → List Event
 committing kept [] N = []
 committing kept (c ∷ cs) N =
     (if kept && nat_lt 256 (length (c ∷ cs)) then Sync (map route_to (c ∷ cs)) N else Told (map route_to (c ∷ cs))) ∷ []
 
--- the event of a note, or none; N is the table that is installed where a least one is asked for
+-- the event of a note, or none; N is the least table that is installed if the event asks for one
 abbrev pub event_of : Installing → Note → List Route → List Event
 event_of s (Notes.Have net hop) N = Have (route_of net hop default_preference) ∷ []
 event_of s Notes.Sync N = Sync [] N ∷ []
 event_of s (Notes.Reply line) N = if option_map_or is_done (closes line) false then committing s.tables.kept s.pending N else []
 
--- the changes that wait after a note
+-- the pending changes after a note
 abbrev pub pending_past : List Change → Note → List Change
 pending_past changes (Notes.Have net hop) = changes
 pending_past changes Notes.Sync = changes
 pending_past changes (Notes.Reply line) = pending_after changes (closes line) (change_of line)
 
--- a note, and the table that is installed where it asks for a least one
+-- a note, and the least table that is installed if the note asks for one
 pub record Noted : Type 0 where
   pub note : Note
   pub least : List Route
 
--- after a note
+-- the state after a note
 abbrev pub after_note : Installing → Noted → Installing
 after_note s n = record { tables = after_events s.tables (event_of s n.note n.least); pending = pending_past s.pending n.note }
 
--- after all of them
+-- the state after all notes
 abbrev pub after_notes : Installing → List Noted → Installing
 after_notes s [] = s
 after_notes s (n ∷ ns) = after_notes (after_note s n) ns
 
--- their events
+-- the events of the notes
 abbrev pub events : Installing → List Noted → List Event
 events s [] = []
 events s (n ∷ ns) = event_of s n.note n.least ++ events (after_note s n) ns
 
--- Each piece spells the note that stands at its place; no route is told as installed once the table is kept; and each table that
--- is installed where a least one is asked for is a least one of the hops that hold then.
+-- Each piece spells the note at its index. No route counts as installed already once the table is kept in sync. Each table that is
+-- installed as a least one is a least table of the hops at that time.
 pub record AreNotes (pieces : List (List ℕ)) (ns : List Noted) : Type 0 where
   pub spelled : map note_of pieces ≡ map (λ n. Some n.note) ns
   pub may : MayAllCome start (events begin ns)
@@ -79,44 +79,44 @@ abbrev pub operation_line : Operation → Update
 operation_line (Install r) = U.Install (network_at r.block) r.hop
 operation_line (Remove b) = U.Remove (network_at b)
 
--- what is written at an event: once the table is kept, its operations, and `ok`
+-- the output at an event: if the table is kept in sync after it, its operations and `ok`
 abbrev pub event_lines : Installer → Event → List Update
 event_lines s e = if (after_event s e).kept then map operation_line (gives s e) ++ U.Done ∷ [] else []
 
--- what is written at these events
+-- the output at these events
 abbrev pub update_lines : Installer → List Event → List Update
 update_lines s [] = []
 update_lines s (e ∷ es) = event_lines s e ++ update_lines (after_event s e) es
 
--- at how many of them something is written
+-- the number of these events that have output
 abbrev pub batches : Installer → List Event → ℕ
 batches s [] = 0
 batches s (e ∷ es) = if (after_event s e).kept then suc (batches (after_event s e) es) else batches (after_event s e) es
 
--- these lines, printed one after another
+-- these lines, printed in order
 abbrev pub printed_updates : List Update → List ℕ
 printed_updates us = flat_map (λ u. update_text u ++ codes "\n") us
 
--- what is written at a note
+-- the output at a note
 abbrev pub noted_bytes : Installing → Noted → List ℕ
 noted_bytes s n = printed_updates (update_lines s.tables (event_of s n.note n.least))
 
--- the output of an installer that is given these notes
+-- the output of an installer for these notes
 abbrev pub installed_bytes : List Noted → List ℕ
 installed_bytes ns = printed_updates (update_lines start (events begin ns))
 
--- how many batches that is
+-- the number of batches in the output
 abbrev pub batches_given : List Noted → ℕ
 batches_given ns = batches start (events begin ns)
 
--- what can't be taken as a note: what spells none, and once the table is kept a route that is told as installed
+-- a line that can't be accepted: it spells no note, or is a `have` once the table is kept in sync
 abbrev pub IsUnfit : Installing → Option Note → Type 0
 IsUnfit s None = Unit {0}
 IsUnfit s (Some (Notes.Have net hop)) = s.tables.kept ≡ true
 IsUnfit s (Some Notes.Sync) = ⊥
 IsUnfit s (Some (Notes.Reply line)) = ⊥
 
--- the note may want memory: a route that is installed, a `sync`, a change, which is kept, or `ok` where some wait
+-- the note may need memory: a `have`, a `sync`, a change, or an `ok` with pending changes
 abbrev pub MayWant : Installing → Note → Type 0
 MayWant s (Notes.Have net hop) = s.tables.kept ≡ false
 MayWant s Notes.Sync = Unit {0}

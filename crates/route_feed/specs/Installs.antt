@@ -1,4 +1,4 @@
--- What `install` does to its devices, by how it ends.
+-- The effect of `install` on its devices, by its result.
 use Rattle.std.specs.Prelude.{◌≡◌, ℕ, ◌⊎◌, List, [], ◌∷◌, ◌++◌, Option, Some, Result, Ok, Err}
 use Rattle.std.specs.Io.KnownBytes.{Appends, Consumes, IsAtEnd}
 use Rattle.route_lines.specs.Bytes.{lines}
@@ -21,13 +21,13 @@ module _ {W : Type 0} (contents : W → Option (List ℕ)) where
     pub written : Appends (contents old.device) (contents new.device) (installed_bytes notes)
     pub flushed : Flushed (batches_given notes) old new
 
-  -- and then this text, which is not flushed
+  -- and then this text was written, but not flushed
   pub record GivesThen (notes : List Noted) (begun : List ℕ) (old new : Counted W) : Type 0 where
     pub written : Appends (contents old.device) (contents new.device) (installed_bytes notes ++ begun)
     pub flushes : new.flushes ≡ more_by (batches_given notes) old.flushes
 
 module _ {R : Type 0} (remaining : R → Option (List ℕ)) where
-  -- the reader gave some bytes, and the lines before one of them are notes
+  -- the reader returned some bytes, and the lines before one of them are notes
   pub record Meets (from to : Counted R) : Type 0 where
     pub bytes : List ℕ
     pub notes : List Noted
@@ -39,7 +39,7 @@ module _ {R : Type 0} (remaining : R → Option (List ℕ)) where
     pub are : AreNotes before notes
 
 module _ {R W : Type 0} (remaining : R → Option (List ℕ)) (contents : W → Option (List ℕ)) where
-  -- the reader gave some bytes, each of their lines is a note, and the output of the notes was written, and flushed
+  -- the reader returned some bytes, each of their lines is a note, and the output of the notes was written and flushed
   pub record Installs (from to : Counted R) (old new : Counted W) : Type 0 where
     pub bytes : List ℕ
     pub notes : List Noted
@@ -47,14 +47,14 @@ module _ {R W : Type 0} (remaining : R → Option (List ℕ)) (contents : W → 
     pub are : AreNotes (lines bytes) notes
     pub gives : Gives contents notes old new
 
-  -- this line can't be taken as a note; the output of those before it was written, and flushed
+  -- this line can't be accepted; the output of the lines before it was written and flushed
   pub record MeetsUnfit (from to : Counted R) (old new : Counted W) : Type 0 where
     pub meets : Meets remaining from to
     pub unfit : IsUnfit (after_notes begin meets.notes) (note_of meets.piece)
     pub gives : Gives contents meets.notes old new
 
-  -- this line is a note that may want memory; the output of those before it was written, and flushed, and then a beginning of
-  -- its own, whichever least table it had got
+  -- this line is a note that may need memory. The output of the notes before it was written and flushed, and then a beginning of its own
+  -- output was written, the same for every least table
   pub record MeetsWanting (from to : Counted R) (old new : Counted W) : Type 0 where
     pub meets : Meets remaining from to
     pub note : Note
@@ -65,7 +65,7 @@ module _ {R W : Type 0} (remaining : R → Option (List ℕ)) (contents : W → 
     pub is_front : (N : List Route) → noted_bytes (after_notes begin meets.notes) (record { note = note; least = N }) ≡ begun ++ missing N
     pub gives : GivesThen contents meets.notes begun old new
 
-  -- this line is a note too; the output of those before it was written, and flushed, and then a beginning of its own
+  -- this line is a note too; the output of the notes before it was written and flushed, and a beginning of its own was written
   pub record MeetsFault (from to : Counted R) (old new : Counted W) : Type 0 where
     pub meets : Meets remaining from to
     pub last : Noted
@@ -75,11 +75,11 @@ module _ {R W : Type 0} (remaining : R → Option (List ℕ)) (contents : W → 
     pub is_front : noted_bytes (after_notes begin meets.notes) last ≡ begun ++ missing
     pub gives : GivesThen contents meets.notes begun old new
 
-  -- At `Ok` all was read, each line is a note, their output was written and flushed after each batch, and nothing failed; at `Read`
-  -- the same of what was read till then, and only the reader failed, in its last call; at `Line` one of the lines can't be taken as
-  -- a note, and the output of those before it was written and flushed; at `Memory` nothing was done, or a note came that may want
-  -- memory; at `Write` the writer failed, in its last call, at a note. At these two a beginning of the output of this note was
-  -- written as well, and not flushed.
+  -- `Ok`: all was read, each line is a note, the output of the notes was written and flushed after each batch, and nothing failed.
+  -- `Read`: the same for the lines read so far, and only the reader failed, in its last call. `Line`: one of the lines can't be accepted,
+  -- and the output of those before it was written and flushed. `Memory`: nothing was done, or a note came that may need memory. `Write`:
+  -- the writer failed at a note, in its last call. At the last two, a beginning of the output of this note was written too, but it was
+  -- not flushed.
   abbrev pub InstallEnds : Counted R → Counted R → Counted W → Counted W → Result Unit RunError → Type 0
   InstallEnds from to old new (Ok done) = Installs from to old new × IsAtEnd (remaining to.device) × (to.faults ≡ from.faults) × (new.faults ≡ old.faults)
   InstallEnds from to old new (Err Why.Read) = Installs from to old new × ReadFault from to × (new.faults ≡ old.faults)

@@ -1,4 +1,4 @@
--- What a follower knows that has read any beginning of what a leader wrote.
+-- The knowledge of a follower that has read any beginning of a leader's output.
 use Rattle.std.specs.Prelude.{◌≡◌, ◌↔◌, ◌<◌, ◌^◌, ℕ, Bool, List, [], ◌∷◌, ◌++◌, Option, None, map, take, length}
 use Rattle.ipnet_addr.specs.Addresses.{Address, IsAddress}
 use Rattle.route_lines.specs.Bytes.{lines, rest}
@@ -18,11 +18,11 @@ use Rattle.route_feed.specs.Shortens.{IsLeastFor}
 use Rattle.route_feed.specs.Output.{table_after, whole_commands, at_end, output}
 use Rattle.route_feed.specs.Streams.{closings, committed, painted, replies_in}
 
--- the table after as many of the commands in the bytes as replies stand whole in this beginning of the output
+-- the leader's table after as many of its commands as there are complete replies in this beginning of the output
 abbrev pub table_told : List ℕ → List Bool → List ℕ → List Stored
 table_told bytes refusals front = table_after [] (take (closings (replies_in front)) (whole_commands bytes ++ at_end (rest bytes))) refusals
 
--- a follower of any beginning of the output has each address at the hop that it has in that table
+-- a follower of any beginning of the output has the same hop for each address as this table
 abbrev pub BeginningsAgree : Type 0
 BeginningsAgree = (bytes front back : List ℕ) (refusals : List Bool) → output bytes refusals ≡ front ++ back
     → (x : Address) → IsAddress x → painted (committed (replies_in front)) x ≡ hop_at (routes_of (table_told bytes refusals front)) x
@@ -32,40 +32,40 @@ abbrev pub FlatListsAgree : Type 0
 FlatListsAgree = (bytes front back : List ℕ) (refusals : List Bool) → output bytes refusals ≡ front ++ back
     → flat_of (painted (committed (replies_in front))) ≡ flat_of (hop_at (routes_of (table_told bytes refusals front)))
 
--- each line of the input is answered by a reply that ends in one closing line, and so is its rest
+-- each line of the input, and the rest if there is one, has a reply that ends with one closing line
 abbrev pub AllAreAnswered : Type 0
 AllAreAnswered = (bytes : List ℕ) (refusals : List Bool) → closings (replies_in (output bytes refusals)) ≡ length (whole_commands bytes ++ at_end (rest bytes))
 
--- what `flat` prints of a table
+-- the output of `flat` for a table
 abbrev pub flat_bytes : List Route → List ℕ
 flat_bytes M = printed (map flat_line (flat_of (hop_at M)) ++ Close Done ∷ [])
 
--- what a follower of the whole output prints is the flat list of the leader's last table
+-- a follower of the whole output prints the flat list of the leader's last table
 abbrev pub OutputIsFollowed : Type 0
 OutputIsFollowed = (bytes : List ℕ) (refusals : List Bool)
     → followed (output bytes refusals) ≡ flat_bytes (routes_of (table_after [] (whole_commands bytes ++ at_end (rest bytes)) refusals))
 
--- two tables print the same bytes exactly where all their hops are the same
+-- two tables print the same bytes exactly if all their hops are the same
 abbrev pub SameFlatBytes : Type 0
 SameFlatBytes = (M N : List Route) → IsTable M → IsTable N → (flat_bytes M ≡ flat_bytes N) ↔ ((x : Address) → IsAddress x → hop_at M x ≡ hop_at N x)
 
--- each line of a beginning of the output is a reply line, where the input has fewer than 2^64 bytes, as every input has
+-- each line of a beginning of the output is a reply line, if the input has fewer than 2^64 bytes, as every input has
 abbrev pub BeginningsAreReplies : Type 0
 BeginningsAreReplies = (bytes front back : List ℕ) (refusals : List Bool) → length bytes < 2 ^ 64 → output bytes refusals ≡ front ++ back → AreReplies (lines front)
 
--- the table of a leader that has memory and is given these bytes
+-- the table of a leader that is given these bytes and never runs out of memory
 abbrev pub table_given : List ℕ → List Stored
 table_given bytes = table_after [] (whole_commands bytes ++ at_end (rest bytes)) []
 
--- a network whose one route has the hop of this one, with the default preference
+-- a network with one route, with the hop of this route and the default preference
 abbrev pub alone : Route → Stored
 alone r = record { block = r.block; choices = record { hop = r.hop; pref = default_preference } ∷ [] }
 
--- a leader that is given the lines that add the routes of a table has these networks, with these hops, and no others
+-- a leader that is given the lines of a table's routes has these networks with these hops, and no others
 abbrev pub LinesRebuild : Type 0
 LinesRebuild = (N : List Route) → IsTable N → table_given (add_lines N) ≡ map alone N
 
--- so a leader that is given the lines that add the routes of a table has its hops
+-- so a leader that is given the lines of a table's routes has the same hops
 abbrev pub LinesKeepHops : Type 0
 LinesKeepHops = (h : Address → Option ℕ) (N : List Route) → HasHops h N → HasHops h (routes_of (table_given (add_lines N)))
 
@@ -73,20 +73,20 @@ LinesKeepHops = (h : Address → Option ℕ) (N : List Route) → HasHops h N �
 abbrev pub LinesStayLeast : Type 0
 LinesStayLeast = (h : Address → Option ℕ) (N : List Route) → IsLeast h N → IsLeast h (routes_of (table_given (add_lines N)))
 
--- a leader that is given the lines of a least table of a beginning of the output of another has the hops that this one had there
+-- a leader that is given the lines of a least table for a beginning of another leader's output has the hops that this one had there
 abbrev pub ShortenedAgree : Type 0
 ShortenedAgree = (bytes front back : List ℕ) (refusals : List Bool) (N : List Route) → output bytes refusals ≡ front ++ back → IsLeastFor front N
     → (x : Address) → IsAddress x → hop_at (routes_of (table_given (add_lines N))) x ≡ hop_at (routes_of (table_told bytes refusals front)) x
 
--- a leader that is given the line `add NET HOP` for each line of a follower's flat list has each address at that hop too
+-- a leader that is given the line `add NET HOP` for each line of a follower's flat list has the follower's hops
 abbrev pub RestartedAgree : Type 0
 RestartedAgree = (bytes front back : List ℕ) (refusals : List Bool) → output bytes refusals ≡ front ++ back
     → (x : Address) → IsAddress x → hop_at (routes_of (table_given (add_lines (map route_for (flat_of (painted (committed (replies_in front)))))))) x ≡ hop_at (routes_of (table_told bytes refusals front)) x
 
--- the tables of a leader are tables of networks
+-- the tables of a leader are valid tables of networks
 abbrev pub ToldIsTable : Type 0
 ToldIsTable = (bytes front : List ℕ) (refusals : List Bool) → IsStoredTable (table_told bytes refusals front)
 
--- where no address has a hop, there are no lines
+-- if no address has a hop, there are no lines
 abbrev pub NoHopsNoLines : Type 0
 NoHopsNoLines = (bytes : List ℕ) (N : List Route) → ((x : Address) → IsAddress x → painted (committed (replies_in bytes)) x ≡ None) → IsLeastFor bytes N → add_lines N ≡ []

@@ -1,4 +1,4 @@
--- What `lead` does to its devices, by how it ends.
+-- The effect of `lead` on its devices, by its result.
 use Rattle.std.specs.Prelude.{◌≡◌, ℕ, suc, ◌<◌, Bool, List, [], ◌++◌, length, take, Option, Result, Ok, Err}
 use Rattle.std.specs.Io.KnownBytes.{Appends}
 use Rattle.route_lines.specs.Bytes.{rest}
@@ -14,12 +14,12 @@ use Rattle.route_feed.specs.Replies.{printed}
 use Rattle.route_feed.specs.Streams.{closings, replies_in}
 
 module _ {W : Type 0} (contents : W → Option (List ℕ)) where
-  -- this text was written, and flushed as often as a line of it closes a reply, each time after more bytes, and last after the whole
+  -- this text was written, and flushed as often as it has closing lines, each time after more bytes, and at last after all of it
   abbrev pub Outputs : List ℕ → Counted W → Counted W → Type 0
   Outputs text old new = Closed contents (closings (replies_in text)) old new text
 
-  -- the replies to some of these commands were written, after each of which the writer was flushed, and then a beginning of the
-  -- next reply, or all of it, after which it was not, since it failed, in its last call
+  -- the replies to some of these commands were written, and the writer was flushed after each of them. Then a beginning of the next
+  -- reply, or all of it, was written but not flushed, since the writer failed, in its last call
   pub record Stopped (M : List Stored) (commands : List (Option Command)) (refusals : List Bool) (old new : Counted W) : Type 0 where
     pub front : List ℕ
     pub back : List ℕ
@@ -35,10 +35,10 @@ module _ {W : Type 0} (contents : W → Option (List ℕ)) where
     pub failed : FailedLast old new
 
 module _ {R W : Type 0} (remaining : R → Option (List ℕ)) (contents : W → Option (List ℕ)) where
-  -- at `Ok` all was read, the whole output was written and flushed, and nothing failed; at `Read` the replies to the whole lines were
-  -- written and flushed, and only the reader failed, in its last call; at `Write` a beginning of the output was written, each reply
-  -- before the last one of it was flushed, and only the writer failed, in its last call; at `Memory` nothing was done; never `Line`.
-  -- Any call of a writer may fail: so no flush comes before the end of its reply, or after the first byte of the next one
+  -- `Ok`: all was read, the whole output was written and flushed, and nothing failed. `Read`: the replies to the complete lines were
+  -- written and flushed, and only the reader failed, in its last call. `Write`: a beginning of the output was written, each reply before
+  -- its last one was flushed, and only the writer failed, in its last call. `Memory`: nothing was done. Never `Line`. Any call of a
+  -- writer may fail, so each flush comes after the end of its reply and before the first byte of the next
   abbrev pub LeadEnds : Counted R → Counted R → Counted W → Counted W → Result Unit RunError → Type 0
   LeadEnds from to old new (Ok done) = HasReadAll remaining (λ bytes. (refusals : List Bool) × Outputs contents (output bytes refusals) old new) from to
   LeadEnds from to old new (Err Why.Read) = HasRead remaining (λ bytes. (refusals : List Bool) × Outputs contents (lines_output bytes refusals) old new) from to × ReadFault from to

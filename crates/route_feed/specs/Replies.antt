@@ -4,6 +4,6 @@ use Rattle.std.specs.List.{flat_map}
 use Rattle.route_lines.specs.Texts.{reply_text}
 use Rattle.route_lines.specs.declared.reply.Reply.{Reply}
 
--- reply lines, printed one after another, each with its line end
+-- reply lines, printed in order, each with its line end
 abbrev pub printed : List Reply → List ℕ
 printed replies = flat_map (λ reply. reply_text reply ++ codes "\n") replies

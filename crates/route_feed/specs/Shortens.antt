@@ -1,4 +1,4 @@
--- What `shorten` does to its devices, by how it ends.
+-- The effect of `shorten` on its devices, by its result.
 use Rattle.std.specs.Prelude.{◌≡◌, ℕ, List, ◌⊎◌, Option, Result, Ok, Err}
 use Rattle.std.specs.Io.KnownBytes.{Appends, IsAtEnd}
 use Rattle.route_lines.specs.Bytes.{lines}
@@ -13,7 +13,7 @@ use Rattle.route_feed.specs.Counted.{ReadFault}
 use Rattle.route_feed.specs.Follows.{AreReplies, MeetsAnother, MeetsWant}
 use Rattle.route_feed.specs.Streams.{committed, painted, replies_in}
 
--- a table with the hops that the committed changes paint, and the fewest routes of all such tables
+-- a smallest table with the hops after the committed changes
 abbrev pub IsLeastFor : List ℕ → List Route → Type 0
 IsLeastFor bytes routes = IsLeast (painted (committed (replies_in bytes))) routes
 
@@ -22,8 +22,8 @@ abbrev pub AppendsLeast : List ℕ → Option (List ℕ) → Option (List ℕ) �
 AppendsLeast bytes old new = (routes : List Route) × IsLeastFor bytes routes × Appends old new (add_lines routes)
 
 module _ {R W : Type 0} (remaining : R → Option (List ℕ)) (contents : W → Option (List ℕ)) where
-  -- as `FollowEnds`, but that the lines of such a table are written, and that it may end in `Memory` too where all was read and
-  -- each line is a reply line
+  -- As `FollowEnds`, but the lines of such a table are written. It may also end with `Memory` after all was read, when each line is a
+  -- reply line
   abbrev pub ShortenEnds : Counted R → Counted R → Counted W → Counted W → Result Unit RunError → Type 0
   ShortenEnds from to old new (Ok done) = HasReadAll remaining (λ bytes. AreReplies (lines bytes) × ((routes : List Route) × IsLeastFor bytes routes × Delivered contents old new (add_lines routes))) from to
   ShortenEnds from to old new (Err Why.Read) = HasRead remaining (λ bytes. AreReplies (lines bytes)) from to × ReadFault from to × (new ≡ old)

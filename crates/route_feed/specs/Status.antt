@@ -3,7 +3,7 @@ use Rattle.std.specs.Prelude.{ℕ}
 use Rattle.route_feed.specs.declared.error.RunError.{RunError}
 use Rattle.route_feed.specs.declared.error.RunError.TheVariants as Why
 
--- the status of a program whose run ended early so
+-- the status of a program whose run ended with this error
 abbrev pub status_of : RunError → ℕ
 status_of Why.Memory = 1
 status_of Why.Read = 3

@@ -1,4 +1,4 @@
--- What a leader answers to each command, and the table that it has then.
+-- The reply of a leader to each command, and its table after the command.
 use Rattle.std.specs.Prelude.{◌&&◌, ◌==◌, ℕ, Bool, true, false, List, [], ◌∷◌, ◌++◌, if◌then◌else◌, Option, Some, None, map, take, filter}
 use Rattle.std.specs.Option.{option_map_or}
 use Rattle.ipnet_addr.specs.Addresses.{Ipv4, Ipv6}
@@ -19,7 +19,7 @@ use Rattle.route_laws.specs.Onwards.{count_of, routes_from, routes_after}
 use Rattle.route_laws.specs.Tables as table
 use Rattle.route_laws.specs.Tables.{hop_at, match_of, covering, routes_inside}
 
--- a reply: its lines, the one that closes it, and the table after it
+-- a reply: its lines, its closing line, and the table after it
 pub record Answer : Type 0 where
   pub body : List Reply
   pub closing : Closing
@@ -29,24 +29,24 @@ pub record Answer : Type 0 where
 abbrev pub answer_lines : Answer → List Reply
 answer_lines t = t.body ++ Close t.closing ∷ []
 
--- a reply of its closing line alone; the table stays
+-- a reply of only a closing line; the table is unchanged
 abbrev pub closed : List Stored → Closing → Answer
 closed M closing = record { body = []; closing = closing; next = M }
 
--- a reply of these lines and `ok`; the table stays
+-- a reply of these lines and `ok`; the table is unchanged
 abbrev pub told : List Stored → List Reply → Answer
 told M lines = record { body = lines; closing = Done; next = M }
 
--- the line that says which hop a block has now
+-- the line with the new hop of a block
 abbrev pub change_line : Option ℕ → Block → Reply
 change_line (Some number) b = Set (network_at b) number
 change_line None b = Unset (network_at b)
 
--- the lines of a change: the maximal blocks of the addresses whose hop differs, each with its hop in the new table
+-- the lines of a change: the maximal blocks of the addresses whose hop changes, each with its new hop
 unfoldable pub change_lines : List table.Route → List table.Route → List Reply
 change_lines M N = map (λ b. change_line (hop_at N (first_of b)) b) (maximal_of (changed M N))
 
--- the reply to a change of the table: the lines of the change and `ok`; the new table is kept
+-- the reply to a change of the table: the lines of the change and `ok`, and the new table
 abbrev pub changed_to : List Stored → List Stored → Answer
 changed_to M N = record { body = change_lines (routes_of M) (routes_of N); closing = Done; next = N }
 
@@ -58,18 +58,18 @@ route_line r = Route (network_at r.block) r.hop (Some r.pref)
 abbrev pub flat_line : Piece → Reply
 flat_line p = Flat (network_at p.block) p.number
 
--- whether a command may be refused for want of memory at its turn: an `add` of a network that isn't stored, and an `own`
+-- whether a command may be refused because memory ran out: an `add` of a network that isn't stored, or an `own`
 abbrev pub may_refuse : List Stored → Option Command → Bool
 may_refuse M (Some (C.Add net hop pref)) = has_none (choices_at M (block net))
 may_refuse M (Some (C.Own number)) = true
 may_refuse M command = false
 
--- whether a command is an `add` of one hop too many: eight other hops are stored at its network
+-- whether a command is an `add` of one hop too many: its network has eight other hops
 abbrev pub is_too_many : List Stored → Option Command → Bool
 is_too_many M (Some (C.Add net hop pref)) = is_one_too_many (choices_at M (block net)) hop
 is_too_many M command = false
 
--- the answer where nothing is refused
+-- the reply if nothing is refused
 abbrev pub accepted : List Stored → Option Command → Answer
 accepted M (Some (C.Add net hop pref)) = changed_to M (with_choice M (block net) (record { hop = hop; pref = pref }))
 accepted M (Some (C.Del net hop)) = if holds_hop (choices_at M (block net)) hop then changed_to M (without_choice M (block net) hop) else closed M Missing
@@ -84,7 +84,7 @@ accepted M (Some C.Count) = told M (Count (count_of Ipv4 (routes_of M)) (count_o
 accepted M (Some C.Flat) = told M (map flat_line (flat_of (hop_at (routes_of M))))
 accepted M None = closed M Bad
 
--- one line answered; an `add` of one hop too many is refused always, and takes no value of the refusals, since its network is stored
+-- the reply to one line; an `add` of one hop too many is always refused, and uses up no refusal, since its network is stored
 abbrev pub step : List Stored → Option Command → Bool → Answer
 step M command refused =
     if is_too_many M command then closed M Refused

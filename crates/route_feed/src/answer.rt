@@ -1,4 +1,4 @@
-//! One line answered: one that a run reads, or that a caller reads itself.
+//! The reply to one line, which a run or a caller has read.
 ghost use Rattle.std.specs.Prelude.{◌≡◌, ◌≢◌, [], ◌∷◌, IsErr, Some};
 ghost use Rattle.ipnet.specs.IpNets.{block};
 ghost use Rattle.route_feed.specs.Counted.{CanCount};
@@ -19,13 +19,13 @@ use route_lines::{Closing, Command, Reply, Rest, line_text};
 use route_table::{Hop, RouteTable};
 use std::io::Write;
 
-/// Answers one line, given without its line end, as `lead` does: by the same reply lines to the writer, which is flushed after them.
+/// Replies to one line, given without its line end, as `lead` does: writes the same reply lines, and flushes the writer.
 ///
-/// A line over 80 bytes is answered `bad`.
+/// The reply to a line of more than 80 bytes is `bad`.
 ///
 /// # Errors
-/// `Write` alone: at an error of `write` or `flush`, or where `write` takes nothing. Then a beginning of the reply was
-/// written, and the table is the one after the line.
+/// Only `Write`: if `write` or `flush` fails, or if `write` writes nothing. Then only a beginning of the reply was written, and the table
+/// is the one after the line.
 pub fn lead_line<W: Write>(
     table: &mut RouteTable,
     line: &[u8],
@@ -37,10 +37,10 @@ pub fn lead_line<W: Write>(
     answer(table, line_text(line), writer)
 }
 
-/// Answers the line of these bytes; without them, one that is too long.
+/// Replies to the line of these bytes; `None` is a line that is too long.
 ///
 /// # Errors
-/// `Write` alone: at an error of `write` or `flush`, or where `write` takes nothing. Then a beginning of the reply was written.
+/// Only `Write`: if `write` or `flush` fails, or if `write` writes nothing. Then only a beginning of the reply was written.
 pub fn answer<W: Write>(
     table: &mut RouteTable,
     text: Option<&[u8]>,
@@ -58,10 +58,10 @@ pub fn answer<W: Write>(
     answer_command(table, command, writer)
 }
 
-/// Answers what stands after the last line end.
+/// Replies to the bytes after the last line end, if there are any.
 ///
 /// # Errors
-/// `Write` alone: at an error of `write` or `flush`, or where `write` takes nothing. Then a beginning of the reply was written.
+/// Only `Write`: if `write` or `flush` fails, or if `write` writes nothing. Then only a beginning of the reply was written.
 pub fn answer_rest<W: Write>(rest: Rest, writer: &mut Counted<W>) -> Result<(), RunError>
     requires { CanCount writer.old }
     ensures closes { Closes W.contents (replies_to_rest rest) writer.old writer.new result (reply_to_rest rest) }
@@ -159,8 +159,8 @@ fn answer_all<W: Write>(
     reply(writer, lines)
 }
 
-// A walk is up to fourteen kilobytes on the stack, which a function clears when it is entered. So each command that walks the
-// table is answered in a function of its own, and the others pay nothing for it.
+// A walk takes up to fourteen kilobytes of the stack, which a function clears on entry. Each command that walks the table has a function
+// of its own, so that the other commands don't pay for this.
 
 #[inline(never)]
 fn answer_cover<W: Write>(
@@ -248,8 +248,8 @@ fn answer_count<W: Write>(table: &RouteTable, writer: &mut Counted<W>) -> Result
     reply(writer, Some(line))
 }
 
-/// Replies to a change of the network: with a line for each block that it governs, where its hop differs. Of a network
-/// with no other inside that is its own line alone, and nothing is walked.
+/// Replies to a change of the network with a line for each block whose hop changed: the blocks that the network governs, or none. If the
+/// network contains no other, this is one line, and no walk is needed.
 fn tell_change<W: Write>(
     table: &RouteTable,
     net: &IpNet,

@@ -1,18 +1,18 @@
-//! What becomes of the memory of a run at its end.
+//! How a run releases its memory at the end.
 
 use std::mem::ManuallyDrop;
 
-/// What becomes of the memory of a table at the end of a run.
+/// How the memory of a table is released at the end of a run.
 #[derive(Clone, Copy, Debug)]
 pub enum AtEnd {
-    /// It is given back, list by list.
+    /// It is freed, list by list.
     Free,
-    /// It is leaked, so that the system takes it as a whole: for a process that ends next.
+    /// It is leaked, for a process that exits next: the system then reclaims it as a whole.
     Leak,
 }
 
 impl AtEnd {
-    /// Drops the value, or forgets it.
+    /// Drops the value, or leaks it.
     pub(crate) fn give_up<T: Drop>(self, value: T) {
         match self {
             AtEnd::Free => drop(value),

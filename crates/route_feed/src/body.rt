@@ -1,4 +1,4 @@
-//! What is written, one after another: the lines of a reply, and operations.
+//! The parts of the output: the lines of a reply, and operations.
 ghost use Rattle.std.specs.Prelude.{◌≡◌, ⊤, List, map, take, All, IfSome};
 ghost use Rattle.std.specs.Option.{option_to_list};
 ghost use Rattle.ipnet.specs.IpNets.{block, family, network_at, parts};
@@ -14,22 +14,22 @@ use ipnet::IpNet;
 use route_lines::Reply;
 use route_table::{All, Between, Flat, Governed, Operation, Repaint, Routes};
 
-/// The lines of a reply, but for the one that closes it, handed out one after another.
+/// An iterator over the lines of a reply, without its closing line.
 pub trait Body: Drop {
     /// The lines that are left.
     ghost lines: { Self → List Reply };
 
-    /// Whether they can be printed.
+    /// Whether the lines can be printed.
     ghost can_give: { Self → Type 0 };
 
-    /// The next line.
+    /// Returns the next line.
     fn next_line(&mut self) -> Option<Reply>
         requires { can_give self.old }
         ensures line { GivesLine (lines self.old) result (lines self.new) }
         ensures others { can_give self.new };
 }
 
-/// One line, or none.
+/// At most one line.
 impl Body for Option<Reply> {
     ghost lines = { option_to_list };
 
@@ -53,7 +53,7 @@ impl Body for Routes<'_> {
     }
 }
 
-/// The lines of the first routes, at most `limit`.
+/// The lines of the first routes, at most `limit` of them.
 #[derive(Drop)]
 pub struct PageLines<'a> {
     pub routes: Routes<'a>,
@@ -93,7 +93,7 @@ impl Body for ChoiceLines<'_> {
     }
 }
 
-/// The lines of the networks of a hop, which have no host bits.
+/// The lines of networks that have a hop; they have no host bits.
 impl Body for &[IpNet] {
     ghost lines = { λ nets. map (λ n. own_line (block n)) nets.now };
 
@@ -106,7 +106,7 @@ impl Body for &[IpNet] {
     }
 }
 
-/// The line of a block of a change, which has no host bits, with the hop that it has now.
+/// The line of a changed block, which has no host bits, with its new hop.
 pub fn change_line(net: IpNet, hop: Option<u32>) -> Reply
     ensures value { net ≡ network_at (block net) → result ≡ change_line hop (block net) }
     ensures printable { net ≡ network_at (block net) → IsPrintable result }
@@ -117,7 +117,7 @@ pub fn change_line(net: IpNet, hop: Option<u32>) -> Reply
     }
 }
 
-/// The lines of the blocks of a change, and the hop that they have now.
+/// The lines of the changed blocks, and their new hop.
 #[derive(Drop)]
 pub struct ChangeLines<'a> {
     pub blocks: Governed<'a>,
@@ -147,17 +147,17 @@ impl Body for Flat<'_> {
     }
 }
 
-/// Operations on an installed table, handed out one after another.
+/// An iterator over operations on an installed table.
 pub trait Operations: Drop {
-    /// Those that are left.
+    /// The operations that are left.
     ghost left: { Self → List Operation };
 
-    /// The next one.
+    /// Returns the next operation.
     fn next_operation(&mut self) -> Option<Operation>
         ensures { GivesOperation (left self.old) result (left self.new) };
 }
 
-/// Those between two tables.
+/// The operations between two tables.
 impl Operations for Between<'_> {
     ghost left = { λ operations. operations };
 
@@ -166,7 +166,7 @@ impl Operations for Between<'_> {
     }
 }
 
-/// Those of one change.
+/// The operations of one change.
 impl Operations for Repaint<'_> {
     ghost left = { λ operations. operations };
 

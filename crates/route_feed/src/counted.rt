@@ -1,4 +1,4 @@
-//! A device that counts its reads and its faults.
+//! A device that counts its reads, its faults and its flushes.
 ghost use Rattle.std.specs.Prelude.{◌≡◌, ℕ, ◌<◌, ◌&&◌, ◌||◌, false, not, List, length, is_err, OnErr};
 ghost use Rattle.std.specs.Io.{ReadsAtMost, WritesAtMost};
 ghost use Rattle.std.specs.Io.KnownBytes.{Keeps, ReadConsumes, WriteAppends};
@@ -7,9 +7,9 @@ ghost use Rattle.route_feed.specs.Counted.{one_more, more_if, took_none, took_so
 use std::io;
 use std::io::{Read, Write};
 
-/// A reader or a writer, with the number of its `read` calls, of its faults and of the times that bytes were flushed.
+/// A reader or a writer that counts its `read` calls, its faults, and the flushes that followed written bytes.
 ///
-/// It passes `read`, `write` and `flush` on. What the device tells of its bytes, it tells.
+/// It passes on `read`, `write` and `flush`. Its contracts say as much about its bytes as those of the device.
 #[derive(Drop)]
 pub struct Counted<D> {
     device: D,
@@ -21,7 +21,7 @@ pub struct Counted<D> {
 }
 
 impl<D> Counted<D> {
-    /// The device, with no read, no fault and no flush counted.
+    /// Wraps the device; nothing is counted yet.
     pub fn new(device: D) -> Counted<D>
         ensures device { result.device ≡ device }
         ensures reads { result.reads ≡ 0 }
@@ -40,7 +40,7 @@ impl<D> Counted<D> {
         }
     }
 
-    /// The device alone.
+    /// Returns the device.
     pub fn into_inner(self) -> D
         ensures { result ≡ self.device }
     {
@@ -55,43 +55,43 @@ impl<D> Counted<D> {
         device
     }
 
-    /// How often `read` was called, staying at the greatest `u64`.
+    /// Returns the number of calls of `read`. It stays at the greatest `u64`.
     pub fn reads(&self) -> u64
         ensures { result ≡ self.now.reads }
     {
         self.reads
     }
 
-    /// How many faults there were, staying at the greatest `u64`: each error of `read`, `write` and
-    /// `flush`, and each `write` that took nothing of a nonempty piece.
+    /// Returns the number of faults: errors of `read`, `write` and `flush`, and calls of `write` that wrote none of a nonempty piece. It
+    /// stays at the greatest `u64`.
     pub fn faults(&self) -> u64
         ensures { result ≡ self.now.faults }
     {
         self.faults
     }
 
-    /// Whether the last call was a fault.
+    /// Returns whether the last call was a fault.
     pub fn failing(&self) -> bool
         ensures { result ≡ self.now.failing }
     {
         self.failing
     }
 
-    /// Whether bytes were taken that no `flush` has followed.
+    /// Returns whether bytes were written since the last successful `flush`.
     pub fn waiting(&self) -> bool
         ensures { result ≡ self.now.waiting }
     {
         self.waiting
     }
 
-    /// How often a `flush` followed bytes that were taken, staying at the greatest `u64`.
+    /// Returns the number of flushes that followed written bytes. It stays at the greatest `u64`.
     pub fn flushes(&self) -> u64
         ensures { result ≡ self.now.flushes }
     {
         self.flushes
     }
 
-    /// Counts a call, which may have been a fault.
+    /// Counts a call, which may be a fault.
     fn count(&mut self, fault: bool)
         ensures device { self.new.device ≡ self.old.device }
         ensures reads { self.new.reads ≡ self.old.reads }

@@ -7,25 +7,25 @@ use route_table::Refused;
 use std::alloc::{AllocError, AllocFailed};
 use thiserror::Error;
 
-/// Why a run ended before it had answered all of its input.
+/// Why a run ended before it had processed all of its input.
 #[derive(Clone, Copy, Debug, PartialEq, Eq, Error)]
 pub enum RunError {
-    /// No memory was found for the start.
+    /// An allocation at the start failed.
     #[error("no memory")]
     Memory,
-    /// A `read` failed, or the last of the reads that a run makes did not reach the end.
+    /// A `read` failed, or the most reads that a run makes didn't reach the end.
     #[error("read fault")]
     Read,
-    /// A `write` or a `flush` failed, or a `write` took nothing.
+    /// A `write` or a `flush` failed, or a `write` wrote nothing.
     #[error("write fault")]
     Write,
-    /// The input has a line that is no reply line; of an installer, none of its lines, or a `have` line after a `sync`.
-    #[error("unexpected line")]
+    /// A line of the input isn't a reply line. For an installer: isn't one of its lines, or is a `have` line after a `sync`.
+    #[error("not a reply line")]
     Line,
 }
 
 impl RunError {
-    /// The exit status of a program whose run ended so.
+    /// Returns the exit status of a program whose run ended with this error.
     pub fn status(&self) -> u8
         ensures { result ≡ status_of self.now }
     {
@@ -38,7 +38,7 @@ impl RunError {
     }
 }
 
-/// A request for memory was refused.
+/// An allocation failed.
 impl From<AllocError> for RunError {
     ghost from_gives = { λ _ e. e ≡ Memory };
 
@@ -47,7 +47,7 @@ impl From<AllocError> for RunError {
     }
 }
 
-/// A request for memory was refused.
+/// An allocation failed.
 impl<T: Drop> From<AllocFailed<T>> for RunError {
     ghost from_gives = { λ _ e. e ≡ Memory };
 
@@ -56,7 +56,7 @@ impl<T: Drop> From<AllocFailed<T>> for RunError {
     }
 }
 
-/// A table found no memory: no table is ever full.
+/// An allocation of a table failed; a table is never full.
 impl From<Refused> for RunError {
     ghost from_gives = { λ _ e. e ≡ Memory };
 

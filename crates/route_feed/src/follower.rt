@@ -1,4 +1,4 @@
-//! A follower: what a leader's reply lines say of the hops.
+//! A follower: the hops that a leader's reply lines report.
 ghost use Rattle.std.specs.Prelude.{◌≡◌, ◌<◌, ◌++◌, ◌∷◌, [], true, false, length, Some, None, All, IfErr, IfNone, IfOk, IfSome, IsErrOf, IsOk, Ok, OnErr, OnOk};
 ghost use Rattle.ipnet_addr.specs.Addresses.{Address, IsAddress, address_of};
 ghost use Rattle.ipnet.specs.IpNets.{family, parts};
@@ -11,7 +11,7 @@ ghost use Rattle.route_laws.specs.Networks.{routes_of};
 ghost use Rattle.route_laws.specs.Tables.{hop_at};
 ghost use Rattle.route_feed.specs.declared.error.RunError.TheVariants as run;
 ghost use Rattle.route_feed.specs.declared.follower.FollowError.TheVariants as follow;
-ghost use Rattle.route_feed.specs.Following.{State, TakesLine};
+ghost use Rattle.route_feed.specs.Following.{HasFirst, LacksMemory, State, TakesLine};
 ghost use Rattle.route_feed.specs.Streams.{painted_over, WantsMemory};
 ghost use Rattle.route_feed.specs.InnerWaiting.{changes_of, waiting_change};
 
@@ -23,13 +23,13 @@ use std::alloc::{AllocFailed, Global};
 use std::marker::Model;
 use thiserror::Error;
 
-/// Why a line was not followed.
+/// Why a line was not accepted.
 #[derive(Clone, Copy, Debug, PartialEq, Eq, Error)]
 pub enum FollowError {
-    /// No memory was found to keep a change, or to carry it out.
+    /// An allocation failed, for keeping a change or for committing it.
     #[error("no memory")]
     Memory,
-    /// The text is no reply line.
+    /// The text isn't a reply line.
     #[error("not a reply line")]
     NotALine,
     /// There was a fault before.
@@ -37,7 +37,7 @@ pub enum FollowError {
     Failed,
 }
 
-/// A request for memory was refused.
+/// An allocation failed.
 impl<T: Drop> From<AllocFailed<T>> for FollowError {
     ghost from_gives = { λ _ e. e ≡ follow.Memory };
 
@@ -46,7 +46,7 @@ impl<T: Drop> From<AllocFailed<T>> for FollowError {
     }
 }
 
-/// A table found no memory: no table is ever full.
+/// An allocation of a table failed; a table is never full.
 impl From<Refused> for FollowError {
     ghost from_gives = { λ _ e. e ≡ follow.Memory };
 
@@ -55,7 +55,7 @@ impl From<Refused> for FollowError {
     }
 }
 
-/// How a run ends whose follower doesn't take a line.
+/// The error of a run whose follower doesn't accept a line.
 impl From<FollowError> for RunError {
     ghost from_gives = { λ a e. (a ≡ follow.Memory → e ≡ run.Memory) × ((a ≡ follow.Memory → ⊥) → e ≡ run.Line) };
 
@@ -68,17 +68,17 @@ impl From<FollowError> for RunError {
     }
 }
 
-/// A change that waits for the line that closes its reply.
+/// A pending change: its reply isn't closed yet.
 #[derive(Clone, Copy)]
 pub(crate) struct Waiting {
     pub net: IpNet,
     pub hop: Hop,
 }
 
-/// The hops that the reply lines of a leader tell, in a table of its own.
+/// The hops that the reply lines of a leader report, in a table of its own.
 ///
-/// `set` and `unset` lines wait; `ok` carries those that wait out, in order, and `none`, `bad` and `refused` drop them.
-/// All other lines change nothing. After a fault it takes no more lines.
+/// `set` and `unset` lines are pending until their reply is closed. `ok` commits them in order, and `none`, `bad` and `refused` drop
+/// them. All other lines change nothing. After a fault, a follower accepts no more lines.
 #[derive(Drop)]
 pub struct Follower {
     table: HopTable,
@@ -95,11 +95,12 @@ impl Model for Follower {
     ghost view = { λ f. record { table = f.table; pending = changes_of f.waiting.items; failed = f.failed } };
 }
 
-/// Carries the changes out, in order.
+/// Commits the changes, in order.
 fn carry_out(table: &mut HopTable, changes: &[Waiting]) -> Result<(), FollowError>
     ensures hops { OnOk result ((x : Address) → IsAddress x → hop_at (routes_of table.new) x ≡ painted_over (hop_at (routes_of table.old) x) (changes_of changes.now) x) }
     ensures memory { IfErr result (λ e. e ≡ FollowError.Memory) }
     ensures some { OnErr result (0 < length changes.now) }
+    ensures first { OnErr result (HasFirst table.old (changes_of changes.now) table.new) }
 {
     for change in changes {
         table.overwrite(change.net, change.hop)?;
@@ -108,10 +109,10 @@ fn carry_out(table: &mut HopTable, changes: &[Waiting]) -> Result<(), FollowErro
 }
 
 impl Follower {
-    /// A follower that has taken no line: no address has a hop.
+    /// Makes a follower that has read no line: no address has a hop.
     ///
     /// # Errors
-    /// None: the `Result` is for a table that needs memory at once.
+    /// None. The `Result` leaves room for an implementation that allocates here.
     pub fn new(alloc: Global) -> Result<Follower, RunError>
         ensures ok { IsOk result }
         ensures state { IfOk result (λ f. f ≡ record { table = []; pending = []; failed = false }) }
@@ -124,14 +125,14 @@ impl Follower {
         })
     }
 
-    /// Whether there was a fault.
+    /// Returns whether there was a fault.
     pub fn failed(&self) -> bool
         ensures { result ≡ self.now.failed }
     {
         self.failed
     }
 
-    /// The flat list of the hops; none after a fault.
+    /// Returns the flat list of the hops, or `None` after a fault.
     pub fn flat(&self) -> Option<Flat<'_>>
         ensures works { IfNone result (self.now.failed ≡ true) }
         ensures failed { self.now.failed ≡ true → result ≡ None }
@@ -143,10 +144,9 @@ impl Follower {
         Some(self.pieces())
     }
 
-    /// The hop of an address, none where it has none. It takes no memory.
+    /// Returns the hop of an address, or `None` if it has none. Does not allocate.
     ///
-    /// After a want of memory at `ok` only some of the changes of that reply may have been carried out; so who asks then looks at
-    /// `failed` first.
+    /// If memory ran out at an `ok`, only some changes of this reply may be committed. Check `failed` first if you need all of them.
     pub fn hop(&self, addr: IpAddr) -> Option<u32>
         ensures { result ≡ hop_at (routes_of self.now.table) (address_of addr) }
     {
@@ -154,11 +154,10 @@ impl Follower {
         hop.number()
     }
 
-    /// The routes of a table with these hops and the fewest routes of all such tables, nested ones and `drop` included; ascending, as
-    /// networks without host bits. None after a fault. Which of several such tables is open.
+    /// Returns the routes of a smallest table with these hops, as `RouteTable::least` does, or `None` after a fault.
     ///
     /// # Errors
-    /// `Memory` where there is none for the list, or on the way to it. The next call may have some: the follower has not failed.
+    /// `Memory` if an allocation fails. This is no fault of the follower, and a later call may succeed.
     pub fn least(&self) -> Result<Option<Vec<(IpNet, Hop)>>, RunError>
         ensures works { IfOk result (λ found. IfNone found (self.now.failed ≡ true)) }
         ensures failed { self.now.failed ≡ true → result ≡ Ok None }
@@ -179,7 +178,7 @@ impl Follower {
         self.table.flat()
     }
 
-    /// The routes of a table with these hops and the fewest routes of all such tables.
+    /// The routes of a smallest table with these hops.
     pub(crate) fn into_least(self) -> Result<LeastRoutes, RunError>
         ensures least { IfOk result (λ routes. IsLeast (hop_at (routes_of self.table)) (routes_for routes)) }
         ensures truncated { IfOk result (λ routes. All (λ r. IsTruncated (family r.0) (parts r.0)) routes) }
@@ -188,18 +187,23 @@ impl Follower {
         Ok(self.table.into_least()?)
     }
 
-    /// Takes a line, without its line end.
+    /// Reads a line, without its line end.
     ///
     /// # Errors
-    /// `Failed` exactly after a fault; then nothing changes. `NotALine` exactly where the text spells no reply line.
-    /// `Memory` where a change can't be kept or carried out: at a line that tells a change, and at `ok` where some wait.
-    /// Each is a fault.
+    /// - `Failed` exactly after a fault; then nothing changes.
+    /// - `NotALine` exactly if the text isn't a reply line. The table and the pending changes stay.
+    /// - `Memory` if an allocation fails: at a line with a change, or at an `ok` with pending changes. The pending changes stay. So does
+    ///   the table at a line with a change; at `ok` the first few of the pending changes may be applied.
+    ///
+    /// Both `NotALine` and `Memory` are faults.
     pub fn line(&mut self, text: &[u8]) -> Result<(), FollowError>
         ensures ok { OnOk result ((line : Reply) × (reply_of text.now ≡ Some line) × TakesLine self.old self.new line) }
         ensures works { OnOk result ((self.old.failed ≡ false) × (self.new.failed ≡ false)) }
         ensures not_a_line { IsErrOf result FollowError.NotALine → (self.old.failed ≡ false) × (reply_of text.now ≡ None) }
         ensures memory { IsErrOf result FollowError.Memory → (self.old.failed ≡ false) × (line : Reply) × (reply_of text.now ≡ Some line) × WantsMemory self.old.pending line }
         ensures failed { IsErrOf result FollowError.Failed → (self.old.failed ≡ true) × (self.new ≡ self.old) }
+        ensures stays { IsErrOf result FollowError.NotALine → (self.new.table ≡ self.old.table) × (self.new.pending ≡ self.old.pending) }
+        ensures lacks { IsErrOf result FollowError.Memory → (line : Reply) × (reply_of text.now ≡ Some line) × LacksMemory self.old self.new line }
         ensures fault { OnErr result (self.new.failed ≡ true) }
     {
         if self.failed {
@@ -216,6 +220,8 @@ impl Follower {
         ensures ok { OnOk result ((line : Reply) × (reply_of text.now ≡ Some line) × TakesLine self.old self.new line) }
         ensures not_a_line { IsErrOf result FollowError.NotALine → reply_of text.now ≡ None }
         ensures memory { IsErrOf result FollowError.Memory → (line : Reply) × (reply_of text.now ≡ Some line) × WantsMemory self.old.pending line }
+        ensures stays { IsErrOf result FollowError.NotALine → (self.new.table ≡ self.old.table) × (self.new.pending ≡ self.old.pending) }
+        ensures lacks { IsErrOf result FollowError.Memory → (line : Reply) × (reply_of text.now ≡ Some line) × LacksMemory self.old self.new line }
         ensures never { IsErrOf result FollowError.Failed → ⊥ }
         ensures failed { self.new.failed ≡ self.old.failed }
     {
@@ -229,6 +235,7 @@ impl Follower {
         ensures ok { OnOk result (TakesLine self.old self.new line) }
         ensures memory { IfErr result (λ e. e ≡ FollowError.Memory) }
         ensures wanted { OnErr result (WantsMemory self.old.pending line) }
+        ensures lacks { OnErr result (LacksMemory self.old self.new line) }
         ensures failed { self.new.failed ≡ self.old.failed }
     {
         match line {
@@ -247,6 +254,7 @@ impl Follower {
     fn keep(&mut self, net: IpNet, hop: Hop) -> Result<(), FollowError>
         ensures table { self.new.table ≡ self.old.table }
         ensures pending { OnOk result (self.new.pending ≡ self.old.pending ++ waiting_change (record { net = net; hop = hop }) ∷ []) }
+        ensures stays { OnErr result (self.new.pending ≡ self.old.pending) }
         ensures memory { IfErr result (λ e. e ≡ FollowError.Memory) }
         ensures failed { self.new.failed ≡ self.old.failed }
     {
@@ -254,10 +262,12 @@ impl Follower {
         Ok(())
     }
 
-    /// Carries out what waits.
+    /// Commits the pending changes.
     fn commit(&mut self) -> Result<(), FollowError>
         ensures hops { OnOk result ((x : Address) → IsAddress x → hop_at (routes_of self.new.table) x ≡ painted_over (hop_at (routes_of self.old.table) x) self.old.pending x) }
         ensures pending { OnOk result (self.new.pending ≡ []) }
+        ensures first { OnErr result (HasFirst self.old.table self.old.pending self.new.table) }
+        ensures stays { OnErr result (self.new.pending ≡ self.old.pending) }
         ensures memory { IfErr result (λ e. e ≡ FollowError.Memory) }
         ensures some { OnErr result (0 < length self.old.pending) }
         ensures failed { self.new.failed ≡ self.old.failed }

@@ -1,4 +1,4 @@
-//! The input, which tells whether more lines are here.
+//! The input, which knows whether more lines are available.
 ghost use Rattle.std.specs.Io.{ReadsAtMost};
 ghost use Rattle.std.specs.Io.KnownBytes.{ReadConsumes, prepend_known};
 ghost use Rattle.std.specs.Prelude.{◌≡◌, ◌<◌, ◌≤◌, ◌+◌, [], drop, is_err, length};
@@ -10,12 +10,12 @@ use std::cell::Cell;
 use std::io;
 use std::io::Read;
 
-/// How many bytes are kept at most for the next read.
+/// The most bytes that are kept for the next read.
 const KEPT: usize = 1 << 16;
 
-/// A reader that hands out the whole lines of a piece but for the last, and this last one, with what stands after it, at
-/// the next read. `more` tells whether what is kept so ends a line: then the next read does not wait for the device. A fault of
-/// the device is handed on, and the device is read once at most.
+/// A reader that returns all lines of a piece but the last, and returns this last line, with the bytes after it, at the next read. If the
+/// kept bytes end a line, `more` is set, and the next read does not wait for the device. Errors of the device are passed on, and each
+/// call reads the device at most once.
 #[derive(Drop)]
 pub struct Input<'a, R> {
     device: Counted<R>,
@@ -25,7 +25,7 @@ pub struct Input<'a, R> {
 }
 
 impl<'a, R> Input<'a, R> {
-    /// The input from a device, of which nothing is kept.
+    /// Makes the input of a device; no bytes are kept yet.
     pub fn new(device: R, more: &'a Cell<bool>) -> Input<'a, R>
         ensures device { result.device.device ≡ device }
         ensures kept { drop result.start result.kept.items ≡ [] }
@@ -38,14 +38,14 @@ impl<'a, R> Input<'a, R> {
         }
     }
 
-    /// What is kept and not yet handed out.
+    /// The kept bytes that haven't been returned.
     fn left(&self) -> &[u8]
         ensures { result.now ≡ drop self.now.start self.now.kept.items }
     {
         self.kept.get(self.start..).unwrap_or(&[])
     }
 
-    /// Keeps the last line of the bytes, where other lines stand before it. Answers how many bytes are not kept.
+    /// Keeps the last line of the bytes, if other lines precede it. Returns the number of bytes that are not kept.
     fn keep(&mut self, bytes: &[u8]) -> usize
         ensures within { result ≤ length bytes.now }
         ensures some { 0 < length bytes.now → 0 < result }
@@ -88,7 +88,7 @@ impl<'a, R: Read> Read for Input<'a, R> {
     }
 }
 
-/// How many of the bytes stand before their last line, or all where no other line stands before it.
+/// The number of bytes before the last line, or of all bytes if no other line precedes it.
 fn handed_out(bytes: &[u8]) -> usize
     ensures within { result ≤ length bytes.now }
     ensures some { 0 < length bytes.now → 0 < result }

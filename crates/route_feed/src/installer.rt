@@ -1,4 +1,4 @@
-//! An installer: a table that is kept installed while a leader's reply lines and others come.
+//! An installer: keeps an installed table in sync with a leader's reply lines.
 ghost use Rattle.std.specs.Prelude.{◌≡◌, ◌≤◌, ◌<◌, ◌++◌, ◌∷◌, [], IfErr, IfOk, IsOk, OnErr, OnOk, length, map, false, true};
 ghost use Rattle.route_choices.specs.Choices.{default_preference};
 ghost use Rattle.route_laws.specs.Batches.{AreChanges, painted, painted_all};
@@ -27,16 +27,16 @@ use std::alloc::Global;
 use std::io::Write;
 use std::marker::Model;
 
-/// The most changes of a reply that are carried out one after another. More of them lead to a least table at once.
+/// The most changes of a reply that are carried out one by one. For more changes, a least table is installed.
 const MOST_CHANGES: usize = 256;
 
-/// The hops that a leader's reply lines tell, as a table, and what is installed elsewhere. From the first `sync` on they
-/// are one table.
+/// The hops that a leader's reply lines report, as a table, and the table that is installed elsewhere. From the first `sync` on both are
+/// the same table.
 #[derive(Drop)]
 pub(crate) struct Installer {
     alloc: Global,
     table: HopTable,
-    /// What is installed before the first `sync`.
+    /// The installed table before the first `sync`.
     before: Option<HopTable>,
     waiting: Vec<Waiting>,
 }
@@ -51,7 +51,7 @@ impl Model for Installer {
     ghost view = { λ i. record { tables = tables_of i.table i.before; pending = changes_of i.waiting.items } };
 }
 
-/// Carries a change out.
+/// Carries out a change.
 fn paint(table: &mut HopTable, change: &Waiting) -> Result<(), RunError>
     ensures routes { OnOk result (routes_of table.new ≡ painted (routes_of table.old) (route_waiting change.now)) }
     ensures memory { IfErr result (λ e. e ≡ RunError.Memory) }
@@ -60,7 +60,7 @@ fn paint(table: &mut HopTable, change: &Waiting) -> Result<(), RunError>
     Ok(())
 }
 
-/// Carries the changes out, in order.
+/// Carries out the changes, in order.
 fn paint_all(table: &mut HopTable, changes: &[Waiting]) -> Result<(), RunError>
     ensures routes { OnOk result (routes_of table.new ≡ painted_all (routes_of table.old) (routes_waiting changes.now)) }
     ensures memory { IfErr result (λ e. e ≡ RunError.Memory) }
@@ -88,7 +88,7 @@ fn write_changes<W: Write>(
     Ok(())
 }
 
-/// Gives the batch of the changes.
+/// Writes the batch of the changes.
 fn give_changes<W: Write>(
     table: &mut HopTable,
     changes: &[Waiting],
@@ -101,7 +101,7 @@ fn give_changes<W: Write>(
     close(writer, Closing::Done)
 }
 
-/// Gives the batch of the operations.
+/// Writes the batch of the operations.
 fn give_batch<W: Write, O: Operations>(
     writer: &mut Counted<W>,
     operations: O,
@@ -113,7 +113,7 @@ fn give_batch<W: Write, O: Operations>(
     close(writer, Closing::Done)
 }
 
-/// A least table.
+/// A least table with the hops of the table.
 fn least(table: &HopTable) -> Result<Vec<(IpNet, Hop)>, RunError>
     ensures least { IfOk result (λ list. IsLeast (hop_at (routes_of table.now)) (routes_for list.items)) }
     ensures truncated { IfOk result (λ list. AreTruncated list.items) }
@@ -122,7 +122,7 @@ fn least(table: &HopTable) -> Result<Vec<(IpNet, Hop)>, RunError>
     Ok(table.least()?)
 }
 
-/// The table of a list, as `least` gives it.
+/// The table of a list such as the result of `least`.
 fn table_of(alloc: Global, list: &[(IpNet, Hop)]) -> Result<HopTable, RunError>
     requires { IsTable (routes_for list.now) }
     ensures routes { IfOk result (λ table. routes_of table ≡ routes_for list.now) }
@@ -131,7 +131,7 @@ fn table_of(alloc: Global, list: &[(IpNet, Hop)]) -> Result<HopTable, RunError>
     Ok(HopTable::from_routes(alloc, list)?)
 }
 
-/// A least table of the hops after the changes, where those of the table are as they are.
+/// A least table of the hops of the table after the changes.
 fn least_after(
     alloc: Global,
     table: &HopTable,
@@ -149,10 +149,10 @@ fn least_after(
 }
 
 impl Installer {
-    /// Nothing is installed, no address has a hop.
+    /// Makes an installer: nothing is installed, and no address has a hop.
     ///
     /// # Errors
-    /// None: the `Result` is for a table that needs memory at once.
+    /// None. The `Result` leaves room for an implementation that allocates here.
     pub(crate) fn new(alloc: Global) -> Result<Installer, RunError>
         ensures state { IfOk result (λ i. i ≡ begin) }
         ensures memory { IfErr result (λ e. e ≡ RunError.Memory) }
@@ -165,7 +165,7 @@ impl Installer {
         })
     }
 
-    /// What is installed.
+    /// The installed table.
     fn installed(&self) -> &HopTable
         ensures { routes_of result.now ≡ self.now.tables.installed }
     {
@@ -175,7 +175,7 @@ impl Installer {
         }
     }
 
-    /// Takes a note.
+    /// Processes a line.
     pub(crate) fn take_note<W: Write>(
         &mut self,
         note: Note,
@@ -191,7 +191,7 @@ impl Installer {
         }
     }
 
-    /// Takes a route that is installed already.
+    /// Records a route that is installed already.
     fn have(&mut self, net: IpNet, hop: Hop) -> Result<(), RunError>
         ensures { Has self.old (route_of net hop default_preference) result self.new }
     {
@@ -202,7 +202,7 @@ impl Installer {
         Ok(())
     }
 
-    /// Gives the operations that make the table of the list of what is installed, and keeps that one from now on.
+    /// Writes the operations that turn the installed table into the table of the list, which is the installed table from now on.
     fn replace<W: Write>(
         &mut self,
         list: &[(IpNet, Hop)],
@@ -219,7 +219,7 @@ impl Installer {
         Ok(())
     }
 
-    /// Keeps this table installed.
+    /// Makes this table the installed one.
     fn keep_table(&mut self, table: HopTable)
         ensures tables { self.new.tables ≡ record { table = routes_of table; installed = routes_of table; kept = true } }
         ensures pending { self.new.pending ≡ self.old.pending }
@@ -228,7 +228,7 @@ impl Installer {
         self.before = None;
     }
 
-    /// Brings what is installed to a least table of the hops that hold.
+    /// Turns the installed table into a least table of the committed hops.
     fn sync<W: Write>(&mut self, writer: &mut Counted<W>) -> Result<(), RunError>
         requires { CanCount writer.old }
         ensures { TakesNote W.contents self.old Note.Sync writer.old result self.new writer.new }
@@ -237,7 +237,7 @@ impl Installer {
         self.replace(list.as_slice(), writer)
     }
 
-    /// Takes a reply line.
+    /// Processes a reply line.
     fn reply<W: Write>(&mut self, line: Reply, writer: &mut Counted<W>) -> Result<(), RunError>
         requires { CanCount writer.old }
         ensures { TakesNote W.contents self.old (Note.Reply line) writer.old result self.new writer.new }
@@ -264,7 +264,7 @@ impl Installer {
         Ok(())
     }
 
-    /// Carries out what waits.
+    /// Commits the pending changes.
     fn commit<W: Write>(&mut self, writer: &mut Counted<W>) -> Result<(), RunError>
         requires { CanCount writer.old }
         ensures { TakesNote W.contents self.old (Note.Reply (Reply.Close Closing.Done)) writer.old result self.new writer.new }
@@ -280,7 +280,7 @@ impl Installer {
         }
     }
 
-    /// Carries out what waits where the installed table is not kept.
+    /// Commits the pending changes before the first `sync`: nothing is written.
     fn commit_unseen(&mut self) -> Result<(), RunError>
         requires { self.old.tables.kept ≡ false }
         ensures table { OnOk result (self.new.tables ≡ record { table = painted_all self.old.tables.table (map route_to self.old.pending); installed = self.old.tables.installed; kept = false }) }
@@ -293,7 +293,7 @@ impl Installer {
         Ok(())
     }
 
-    /// Carries out what waits, one change after another.
+    /// Commits the pending changes, and carries them out one by one.
     fn commit_each<W: Write>(&mut self, writer: &mut Counted<W>) -> Result<(), RunError>
         requires counts { CanCount writer.old }
         requires kept { self.old.tables.kept ≡ true }
@@ -306,7 +306,7 @@ impl Installer {
         Ok(())
     }
 
-    /// Carries out what waits by a least table.
+    /// Commits the pending changes by installing a least table.
     fn commit_least<W: Write>(&mut self, writer: &mut Counted<W>) -> Result<(), RunError>
         requires counts { CanCount writer.old }
         requires kept { self.old.tables.kept ≡ true }

@@ -1,4 +1,4 @@
-//! Laws of reply streams: public functions without a body, whose contracts are the laws.
+//! Theorems about reply streams: public functions without a body, whose contracts are the theorems.
 ghost use Rattle.std.specs.Prelude.{◌≡◌, ◌↔◌, IsTrue};
 ghost use Rattle.route_feed.specs.declared.error.RunError.{RunError as AnyRunError};
 ghost use Rattle.route_feed.specs.declared.follower.FollowError.{FollowError as AnyFollowError};
@@ -8,12 +8,15 @@ ghost use Rattle.route_feed.specs.Laws.{AllAreAnswered, BeginningsAgree, Beginni
 use crate::error::RunError;
 use crate::follower::FollowError;
 
-/// Whoever reads any beginning of the output of a leader, cut at any byte, and takes the changes of the replies that end
-/// there in `ok`, has each address at the hop that it has in the leader's table after as many commands as replies end
-/// there; and so the flat list of that table. Each line of the beginning is a reply line, so that a follower of it never
-/// answers `Line`. The whole output has a closing line for each line of the input, and a follower of it prints the flat
-/// list of the leader's last table. Another leader with memory that is given a line `add NET HOP` for each line of a follower's
-/// flat list has these hops too. The tables of a leader are tables of networks with their routes.
+/// Take any beginning of a leader's output, cut at any byte, and make the changes of the replies in it that end with `ok`.
+///
+/// - `hops`: each address has the hop of the leader's table after as many commands as the beginning has complete replies.
+/// - `flat`: so the flat list is that of the leader's table, too.
+/// - `replies`: each line of the beginning is a reply line, so a follower never fails with `Line`.
+/// - `answered`: the whole output has a closing line for each line of the input.
+/// - `whole`: a follower of the whole output prints the flat list of the leader's last table.
+/// - `restarted`: a leader that is given `add NET HOP` for each line of a follower's flat list has these hops, if memory doesn't run out.
+/// - `table`: the tables of a leader are tables of networks with their routes.
 pub fn followed()
     ensures hops { BeginningsAgree }
     ensures flat { FlatListsAgree }
@@ -24,16 +27,19 @@ pub fn followed()
     ensures table { ToldIsTable }
 {}
 
-/// Two tables print the same bytes for `flat` exactly where each address has the same hop in both.
+/// Two tables print the same bytes for `flat` exactly if each address has the same hop in both.
 #[tactic(auto, using(crate::proofs::SameBytes::same_bytes))]
 pub fn same_flat_bytes()
     ensures { SameFlatBytes }
 {}
 
-/// A leader with memory that is given the lines of a least table for any beginning of the output of another leader, as
-/// `shorten` writes them, has at every address the hop that this one had there. Its networks are those of the lines, with one
-/// route each. Where no address has a hop, there are no lines. The lines of any table make a table with the same hops, and
-/// those of a least table, as `RouteTable::least` gives one, a least table.
+/// Take any beginning of a leader's output, and the lines of a least table that `shorten` writes for it.
+///
+/// - `rebuild`: a leader that is given the lines of a table has these networks and no others, with one route each.
+/// - `hops`: so it has, at every address, the hop that the first leader had, if memory doesn't run out.
+/// - `nothing`: if no address has a hop, there are no lines.
+/// - `kept`: the lines of any table make a table with the same hops.
+/// - `least`: the lines of a least table, such as the result of `RouteTable::least`, make a least table.
 pub fn shortened()
     ensures rebuild { LinesRebuild }
     ensures hops { ShortenedAgree }
@@ -42,12 +48,16 @@ pub fn shortened()
     ensures least { LinesStayLeast }
 {}
 
-/// What stands installed where an installer reads the replies of a leader, with `have` and `sync` lines anywhere between
-/// them: the routes that the `have` lines tell, after all operations that are given. From the first `sync` on it has each
-/// address at the hop of the leader's table after as many commands as replies end among the lines. The operations that are given at
-/// a line make of what stood installed before it what stands installed after it, and each address turns at most once; so at
-/// each moment it has its hop of before the reply or that of after it. Right after a `sync`, and after a reply of more than
-/// 256 changes, no table with the hops that were told has fewer routes.
+/// The table that is installed by an installer. It reads the replies of a leader, with `have` and `sync` lines anywhere between them. The
+/// installed table consists of the routes of the `have` lines, changed by all operations that were written.
+///
+/// - `hops`: from the first `sync` on, each address has the hop of the leader's table after as many commands as complete replies were
+///   read.
+/// - `hitless`: the operations of one line change the hop of each address at most once.
+/// - `times`: so at each moment each address has its hop before the reply or its hop after the reply.
+/// - `reaches`: the operations of a line turn the table installed before it into the table installed after it.
+/// - `least`: after a `sync`, no table with the same hops has fewer routes.
+/// - `large`: after a reply with more than 256 changes, no table with the same hops has fewer routes.
 pub fn installed()
     ensures hops { InstalledAgrees }
     ensures hitless { InstalledIsHitless }
@@ -57,12 +67,20 @@ pub fn installed()
     ensures large { LargeRepliesAreLeast }
 {}
 
-/// What an installer writes: the lines of these operations, and `ok` after those of each batch; they are read again as they
-/// were written. Each line of a leader is one that an installer reads. Where a log has the reply lines of any beginning of a
-/// leader's output, and a `sync`, whoever carries out the lines that the installer writes of it has each address at the hop of the
-/// leader's table after as many commands as replies end there. Of a beginning of them, cut at any byte after the first `ok`,
-/// each address has the hop of the leader's table before one of its commands, or after this one: one before which as many
-/// batches were given as lines there are `ok`.
+/// The output of an installer.
+///
+/// - `lines`: it consists of the lines of the operations, and an `ok` after those of each batch.
+/// - `read`: the lines are read back as they were written.
+/// - `notes`: each line of a leader's output is a line that an installer reads.
+/// - `logs`: the reply lines of a log of a leader's output are the first that the leader writes.
+/// - `operations`: carrying out the lines of any beginning of the output has the effect of as many operations.
+///
+/// Take a log with a `sync` and the reply lines of any beginning of a leader's output, and the installer's output for this log.
+///
+/// - `hops`: after all its operations, each address has the hop of the leader's table after as many commands as complete replies were
+///   read.
+/// - `times`: cut the output at any byte after its first `ok`. After the operations that are left, each address has the hop of the
+///   leader's table before or after one command. Before this command, as many batches were written as `ok` lines are left.
 pub fn carried_out()
     ensures lines { OutputIsGiven }
     ensures read { OutputReadsBack }
@@ -73,7 +91,7 @@ pub fn carried_out()
     ensures times { CutsAgree }
 {}
 
-/// `==` holds of one error alone; a clone of an error is the same, and cloning never fails.
+/// `==` holds exactly for equal errors. A clone of an error equals it, and cloning never fails.
 pub fn errors()
     ensures runs { (a b : AnyRunError) → IsTrue (⟦<RunError as PartialEq>⟧.eq a b) ↔ (a ≡ b) }
     ensures followers { (a b : AnyFollowError) → IsTrue (⟦<FollowError as PartialEq>⟧.eq a b) ↔ (a ≡ b) }

@@ -1,4 +1,4 @@
-//! A leader that keeps a route table, followers of its replies, and what a program has that runs one.
+//! A leader that keeps a route table, followers of its replies, and the parts of a program that runs one.
 #![tactic(auto)]
 
 pub use answer::lead_line;

@@ -1,4 +1,4 @@
-//! The output, whose flush waits while more lines are here, and what becomes of it in the end.
+//! The output, which delays flushes while more lines are available, and its end.
 ghost use Rattle.std.specs.Io.{WritesAtMost};
 ghost use Rattle.std.specs.Io.Buffered.{writer_contents};
 ghost use Rattle.std.specs.Io.KnownBytes.{Keeps, WriteAppends};
@@ -11,11 +11,10 @@ use std::cell::Cell;
 use std::io;
 use std::io::{BufWriter, Write};
 
-/// How many bytes of a reply are put together before they are written.
+/// The most bytes of a reply that are gathered before they are written.
 pub const REPLY: usize = 1 << 16;
 
-/// A writer that is flushed only where no more lines are here to be answered: `more` says whether there are. A fault of the device
-/// is handed on.
+/// A writer that is flushed only if no more lines are available, as `more` says. Errors of the device are passed on.
 #[derive(Drop)]
 pub struct Output<'a, W: Drop> {
     device: Counted<W>,
@@ -23,7 +22,7 @@ pub struct Output<'a, W: Drop> {
 }
 
 impl<'a, W: Drop> Output<'a, W> {
-    /// The output to a device.
+    /// Makes the output of a device.
     pub fn new(device: W, more: &'a Cell<bool>) -> Output<'a, W>
         ensures { result.device.device ≡ device }
     {
@@ -33,7 +32,7 @@ impl<'a, W: Drop> Output<'a, W> {
         }
     }
 
-    /// The writer itself.
+    /// Returns the writer.
     pub fn into_inner(self) -> W
         ensures { result ≡ self.entry.device.device }
     {
@@ -64,7 +63,7 @@ impl<'a, W: Write + Drop> Write for Output<'a, W> {
     }
 }
 
-/// The output, with all that was gathered for it.
+/// Writes out the gathered bytes, and returns the output.
 pub fn write_out<W: Write + Drop>(buffered: BufWriter<W>) -> Result<W, RunError>
     ensures written { IfOk result (λ w. Keeps (writer_contents W.contents buffered) (W.contents w)) }
     ensures fault { IfErr result (λ e. e ≡ RunError.Write) }
@@ -78,7 +77,7 @@ pub fn write_out<W: Write + Drop>(buffered: BufWriter<W>) -> Result<W, RunError>
     }
 }
 
-/// Drops a writer, and what it has gathered unwritten.
+/// Drops a writer; the bytes that it has gathered are not written.
 pub fn let_go<W: Write + Drop>(buffered: BufWriter<W>) {
     let (_output, _unwritten) = buffered.into_parts();
 }

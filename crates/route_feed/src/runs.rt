@@ -1,4 +1,4 @@
-//! The runs: an input is read to its end, and what it makes is written.
+//! The runs: each reads an input to its end, and writes the output of its lines.
 ghost use Rattle.std.specs.Prelude.{List, Bool, OnOk, IfSome};
 ghost use Rattle.std.specs.Io.KnownBytes.{Appends};
 ghost use Rattle.route_feed.specs.Counted.{CanRead, CanRun};
@@ -22,21 +22,23 @@ use route_table::RouteTable;
 use std::alloc::Global;
 use std::io::{Read, Write};
 
-/// Answers each line that the reader gives, until its end, by reply lines to the writer.
+/// Reads command lines until the end of the input, and writes the reply of each.
 ///
-/// The lines keep and ask a route table; any other line, one over 80 bytes, and a rest without a line end
-/// are answered `bad`. An accepted `add` or `del` is answered by the fewest blocks whose addresses are just
-/// those whose hop changed, each with its hop now, and `ok`; an `add` of a ninth hop of a network is always
-/// answered `refused`, and changes nothing. What is written is
-/// a function of the bytes read and of the refusals met, whatever pieces the bytes came in; a reader or
-/// a writer that doesn't tell its bytes, as a file, is used alike, and nothing is claimed of its bytes.
-/// The writer is flushed after each reply, before the next one is begun.
+/// Commands change or query a route table. The reply to any other line is `bad`, also to a line of more than 80 bytes, and to bytes after
+/// the last line end. The reply to an `add` or a `del` is the fewest blocks that cover just the addresses whose hop changed, each with
+/// its new hop, and `ok`. The reply to an `add` of a ninth hop of a network is always `refused`, and nothing changes.
+///
+/// The output depends only on the bytes read and on which allocations failed, not on how the bytes were split into reads. If the reader's
+/// or the writer's type doesn't specify its bytes, as that of a file, the run does the same, but nothing is proved about these bytes. The
+/// writer is flushed after each reply, before the next reply begins.
 ///
 /// # Errors
-/// `Memory` before anything is read or written; `Read` at an error of `read`, after the replies to the
-/// whole lines before it, or where 2^62 calls of `read` didn't reach the end; `Write` at an error of
-/// `write` or `flush`, or where `write` takes nothing: then a beginning of the output was written, and
-/// each reply before the last one in it was flushed. Never `Line`.
+/// - `Memory` before anything is read or written.
+/// - `Read` if `read` fails, or if 2^62 calls of `read` don't reach the end. The replies to all complete lines were written.
+/// - `Write` if `write` or `flush` fails, or if `write` writes nothing. Only a beginning of the output was written, and each reply before
+///   the last one in it was flushed.
+///
+/// It never fails with `Line`.
 pub fn lead<R: Read, W: Write>(
     alloc: Global,
     reader: &mut Counted<R>,
@@ -50,11 +52,11 @@ pub fn lead<R: Read, W: Write>(
     lead_then(alloc, reader, writer, AtEnd::Free)
 }
 
-/// Runs as `lead` does, and gives the memory of the table back at the end, or leaks it. To give it back list by list, as `lead`
-/// does, takes up to an eighth of a run.
+/// Runs as `lead` does. At the end it frees the memory of the table, or leaks it. Freeing it list by list, as `lead` does, takes up to an
+/// eighth of the time of a run.
 ///
 /// # Errors
-/// As `lead`.
+/// As in `lead`.
 pub fn lead_then<R: Read, W: Write>(
     alloc: Global,
     reader: &mut Counted<R>,
@@ -74,7 +76,7 @@ pub fn lead_then<R: Read, W: Write>(
     result
 }
 
-/// Follows the reply lines that the reader gives, until its end.
+/// Follows the reply lines of the reader, until its end.
 fn follow_all<R: Read, W: Write>(
     alloc: Global,
     reader: &mut Counted<R>,
@@ -89,19 +91,19 @@ fn follow_all<R: Read, W: Write>(
     Ok(follower)
 }
 
-/// Follows the reply lines that the reader gives, until its end, and then writes the flat list of the hops that they
-/// tell, and `ok`.
+/// Reads reply lines until the end of the input. Then it writes the flat list of the hops that they report, and `ok`.
 ///
-/// A rest without a line end is passed over. What is written is the printed flat list of the hops that the committed
-/// changes paint: those `set` and `unset` lines after which the first closing line is `ok`, the last whose block has
-/// the address. A reader or a writer that doesn't tell its bytes, as a file, is used alike, and nothing is claimed of
-/// its bytes.
+/// Bytes after the last line end are ignored. The hop of an address is that of the last committed change whose block contains it. A `set`
+/// or `unset` line is committed if the next closing line is `ok`. If the reader's or the writer's type doesn't specify its bytes, as that
+/// of a file, the run does the same, but nothing is proved about these bytes.
 ///
 /// # Errors
-/// At each but `Write` nothing is written. `Line` where a line is no reply line; `Memory` before anything is read, or at
-/// a reply line that tells a change, or commits one; `Read` at an error of `read`, or where 2^62 calls of `read` didn't
-/// reach the end; `Write`, once all is read, at an error of `write` or `flush`, or where `write` takes nothing: then a
-/// beginning of the flat list was written.
+/// Nothing is written, unless the error is `Write`.
+///
+/// - `Line` if a line isn't a reply line.
+/// - `Memory` before anything is read, or at a reply line with a change, or at one that commits changes.
+/// - `Read` if `read` fails, or if 2^62 calls of `read` don't reach the end.
+/// - `Write` if `write` or `flush` fails, or if `write` writes nothing. All input was read, and a beginning of the flat list was written.
 pub fn follow<R: Read, W: Write>(
     alloc: Global,
     reader: &mut Counted<R>,
@@ -115,10 +117,10 @@ pub fn follow<R: Read, W: Write>(
     follow_then(alloc, reader, writer, AtEnd::Free)
 }
 
-/// Runs as `follow` does, and gives the memory of the table back at the end, or leaks it.
+/// Runs as `follow` does. At the end it frees the memory of the table, or leaks it.
 ///
 /// # Errors
-/// As `follow`.
+/// As in `follow`.
 pub fn follow_then<R: Read, W: Write>(
     alloc: Global,
     reader: &mut Counted<R>,
@@ -136,18 +138,21 @@ pub fn follow_then<R: Read, W: Write>(
     result
 }
 
-/// Follows the reply lines that the reader gives, until its end, and then writes a line `add NET HOP` for each route of a
-/// table with the hops that they tell and the fewest routes of all such tables, nested ones and `drop` included, ascending.
+/// Reads reply lines until the end of the input. Then it writes a line `add NET HOP` for each route of a smallest table with the hops
+/// that they report. The routes are ascending, may be nested, and `drop` counts as one.
 ///
-/// So a leader that is given what is written has these hops. Which of several such tables it is, is open; where no address has
-/// a hop, nothing is written. A rest without a line end is passed over. The writer is flushed once, after the last line. A
-/// reader or a writer that doesn't tell its bytes, as a file, is used alike, and nothing is claimed of its bytes.
+/// A leader that is given these lines has the same hops. If there are several smallest tables, any of them may be written. If no address
+/// has a hop, nothing is written. Bytes after the last line end are ignored. The writer is flushed once, after the last line. If the
+/// reader's or the writer's type doesn't specify its bytes, as that of a file, the run does the same, but nothing is proved about these
+/// bytes.
 ///
 /// # Errors
-/// At each but `Write` nothing is written. `Line` where a line is no reply line; `Memory` before anything is read, at a reply
-/// line that tells a change, or commits one, or once all is read; `Read` at an error of `read`, or where 2^62 calls of `read`
-/// didn't reach the end; `Write`, once all is read, at an error of `write` or `flush`, or where `write` takes nothing: then a
-/// beginning of the lines was written.
+/// Nothing is written, unless the error is `Write`.
+///
+/// - `Line` if a line isn't a reply line.
+/// - `Memory` before anything is read, at a reply line with a change, at one that commits changes, or after all is read.
+/// - `Read` if `read` fails, or if 2^62 calls of `read` don't reach the end.
+/// - `Write` if `write` or `flush` fails, or if `write` writes nothing. All input was read, and a beginning of the lines was written.
 pub fn shorten<R: Read, W: Write>(
     alloc: Global,
     reader: &mut Counted<R>,
@@ -163,25 +168,29 @@ pub fn shorten<R: Read, W: Write>(
     write_routes(writer, routes)
 }
 
-/// Keeps a table that is installed elsewhere at the hops that the reader's lines tell, by operations that it writes.
+/// Keeps a table that is installed elsewhere in sync with the hops that the input lines report, by the operations that it writes.
 ///
-/// `have` lines say what is installed at the start, reply lines of a leader which hops hold. From the first `sync` on the
-/// installed table is kept: at that line it is brought to a table with the hops that hold and the fewest routes of all such
-/// tables, and so it is at each later `sync`; at each `ok` the changes that waited for it are carried out, each by the fewest
-/// operations, or, if they are more than 256, by bringing it to such a table. The operations of one line are a batch, and each
-/// batch ends in `ok`, after which the writer is flushed; it may be an `ok` alone. An `ok` of the input for which no change waited
-/// gives no batch, and before the first `sync` nothing is written. While a batch is carried out, an address turns at most once, if
-/// the changes of a reply have no address in common, as those of a leader have none (`laws::installed`).
+/// `have` lines list the routes that are installed at the start, and the reply lines of a leader report the hops. At the first `sync`,
+/// and at each later one, the installed table is turned into a smallest table with the committed hops. After the first `sync`, each `ok`
+/// of the input commits the pending changes. Up to 256 changes are carried out one by one, each by the fewest operations. More changes
+/// are carried out by installing a smallest table.
 ///
-/// A rest without a line end is passed over. A reader or a writer that doesn't tell its bytes, as a file, is used alike, and
-/// nothing is claimed of its bytes.
+/// The operations of one line are a batch, which may be empty. Each batch ends with `ok`, and then the writer is flushed. An `ok` of the
+/// input without pending changes gives no batch, and before the first `sync` nothing is written. While a batch is carried out, each
+/// address changes its hop at most once, if no two changes of the reply have a common address (`laws::installed`). Those of a leader have
+/// none.
+///
+/// Bytes after the last line end are ignored. If the reader's or the writer's type doesn't specify its bytes, as that of a file, the run
+/// does the same, but nothing is proved about these bytes.
 ///
 /// # Errors
-/// At each a beginning of the output was written: all of what the lines before the fault give, flushed; at `Memory` and `Write`
-/// perhaps a beginning of the batch of the next line, not flushed. `Line` where a line is none of those lines, or is a `have` line
-/// after a `sync`; `Memory` before anything is read, or at a `have` or `sync` line, or at a reply line that tells a change, or commits
-/// one; `Read` at an error of `read`, or where 2^62 calls of `read` didn't reach the end; `Write` at an error of `write` or `flush`,
-/// or where `write` takes nothing.
+/// The batches of all lines before the error were written and flushed. At `Memory` and `Write`, a beginning of the next batch may be
+/// written too, but not flushed.
+///
+/// - `Line` if a line is none of these, or is a `have` line after a `sync`.
+/// - `Memory` before anything is read, or at a `have` line, a `sync`, a reply line with a change, or one that commits changes.
+/// - `Read` if `read` fails, or if 2^62 calls of `read` don't reach the end.
+/// - `Write` if `write` or `flush` fails, or if `write` writes nothing.
 pub fn install<R: Read, W: Write>(
     alloc: Global,
     reader: &mut Counted<R>,

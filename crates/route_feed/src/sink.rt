@@ -1,4 +1,4 @@
-//! What takes the lines of an input, and the run that hands them on.
+//! The receivers of input lines, and the run that reads the input for them.
 ghost use Rattle.std.specs.Prelude.{◌≡◌, ◌≢◌, ◌<◌, [], ◌∷◌, ◌++◌, length, All, OnOk, Result};
 ghost use Rattle.route_feed.specs.Counted.{CanRead};
 ghost use Rattle.route_feed.specs.InnerRun.{Runs, TakesAll};
@@ -13,21 +13,21 @@ use memchr::memchr;
 use route_lines::{LineCutter, Rest, line_text};
 use std::io::{Read, Write};
 
-/// How often a run reads.
+/// The most reads of a run.
 const MOST_READS: u64 = 1 << 62;
 
-/// How many bytes are asked for at a time.
+/// The number of bytes that one read asks for.
 pub const PIECE: usize = 1 << 16;
 
-/// What takes the lines of an input, one after another, and may write meanwhile.
+/// A receiver of the lines of an input, one by one, which may write while it receives.
 pub trait Sink<W: Write> {
-    /// Whether it takes a line now.
+    /// Whether it can receive a line now.
     ghost can_take: { Self → Counted W → Type 0 };
 
-    /// What taking a line does, by the result.
+    /// The effect of receiving a line, with its result.
     ghost takes: { Self → Line → Counted W → Result Unit RunError → Self → Counted W → Type 0 };
 
-    /// Takes the line of these bytes; without them, one that is too long.
+    /// Receives the line of these bytes; `None` is a line that is too long.
     ///
     /// # Errors
     /// Those that `takes` allows.
@@ -37,7 +37,7 @@ pub trait Sink<W: Write> {
         ensures others { OnOk result (can_take self.new writer.new) };
 }
 
-/// Keeps bytes without a line end.
+/// Feeds bytes without a line end to the cutter.
 fn hold(cutter: &mut LineCutter, bytes: &[u8])
     requires { All (λ c. c ≢ 10) bytes.now }
     ensures kept { cutter.new ≡ fed_all cutter.old bytes.now }
@@ -47,7 +47,7 @@ fn hold(cutter: &mut LineCutter, bytes: &[u8])
     }
 }
 
-/// Hands the sink the line that ends after these bytes: in place, unless the cutter has its beginning.
+/// Passes to the sink the line that ends after these bytes, without a copy unless the cutter holds its beginning.
 fn take_line<W: Write, S: Sink<W>>(
     sink: &mut S,
     cutter: &mut LineCutter,
@@ -70,7 +70,7 @@ fn take_line<W: Write, S: Sink<W>>(
     }
 }
 
-/// Hands the sink each line that the bytes end.
+/// Passes to the sink each line that ends within the bytes.
 fn take_piece<W: Write, S: Sink<W>>(
     sink: &mut S,
     cutter: &mut LineCutter,
@@ -91,11 +91,11 @@ fn take_piece<W: Write, S: Sink<W>>(
     Ok(())
 }
 
-/// Reads to the end, and hands the sink each line. Answers what stands after the last line end.
+/// Reads to the end, and passes each line to the sink. Returns whether there are bytes after the last line end.
 ///
 /// # Errors
-/// `Read` at an error of `read`, or where 2^62 calls of `read` didn't reach the end: then the sink has taken each whole line
-/// that was read. Else the sink's own, at the first line that it didn't take.
+/// - `Read` if `read` fails, or if 2^62 calls of `read` don't reach the end. The sink has received each complete line that was read.
+/// - Any error of the sink, at the first line that it didn't accept.
 pub fn run<R: Read, W: Write, S: Sink<W>>(
     sink: &mut S,
     buf: &mut [u8],

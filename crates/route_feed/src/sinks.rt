@@ -1,4 +1,4 @@
-//! The three that take the lines of an input: a table that is led, a follower and an installer.
+//! The three receivers of input lines: a leader's table, a follower and an installer.
 ghost use Rattle.std.specs.Prelude.{◌≡◌, false};
 ghost use Rattle.route_feed.specs.Counted.{CanCount};
 ghost use Rattle.route_feed.specs.InnerFollowing.{FollowsLine};
@@ -16,7 +16,7 @@ use route_lines::Note;
 use route_table::RouteTable;
 use std::io::Write;
 
-/// A leader's table answers each line.
+/// A leader's table replies to each line.
 impl<W: Write> Sink<W> for RouteTable {
     ghost can_take = { λ table writer. CanCount writer };
 
@@ -27,7 +27,7 @@ impl<W: Write> Sink<W> for RouteTable {
     }
 }
 
-/// A follower takes each line, and writes nothing meanwhile.
+/// A follower reads each line, and writes nothing meanwhile.
 impl<W: Write> Sink<W> for Follower {
     ghost can_take = { λ follower writer. follower.failed ≡ false };
 
@@ -42,7 +42,7 @@ impl<W: Write> Sink<W> for Follower {
     }
 }
 
-/// An installer takes each line, and gives batches meanwhile.
+/// An installer reads each line, and writes batches meanwhile.
 impl<W: Write> Sink<W> for Installer {
     ghost can_take = { λ installer writer. CanCount writer };
 

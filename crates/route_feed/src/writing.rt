@@ -1,4 +1,4 @@
-//! Replies, routes and operations, written.
+//! Writing replies, routes and operations.
 ghost use Rattle.std.specs.Prelude.{◌++◌, ◌∷◌, []};
 ghost use Rattle.route_laws.specs.LeastTables.{routes_for};
 ghost use Rattle.route_feed.specs.AddLines.{add_lines};
@@ -17,7 +17,7 @@ use route_lines::{Closing, Command, Reply, Update};
 use route_table::{DEFAULT_PREFERENCE, LeastRoutes};
 use std::io::Write;
 
-/// Writes all of the piece, or a beginning of it.
+/// Writes the piece; if it fails, only a beginning of the piece.
 pub fn write_piece<W: Write>(writer: &mut Counted<W>, piece: &[u8]) -> Result<(), RunError>
     requires { CanCount writer.old }
     ensures { Writes W.contents writer.old writer.new result piece.now }
@@ -47,7 +47,7 @@ fn flush<W: Write>(writer: &mut Counted<W>) -> Result<(), RunError>
 /// Writes the line that closes a reply, and flushes.
 ///
 /// # Errors
-/// `Write` alone: at an error of `write` or `flush`, or where `write` takes nothing. Then a beginning of the line was written.
+/// Only `Write`: if `write` or `flush` fails, or if `write` writes nothing. Then only a beginning of the line was written.
 pub fn close<W: Write>(writer: &mut Counted<W>, closing: Closing) -> Result<(), RunError>
     requires { CanCount writer.old }
     ensures { Closes W.contents 1 writer.old writer.new result (reply_line (Reply.Close closing)) }
@@ -56,16 +56,16 @@ pub fn close<W: Write>(writer: &mut Counted<W>, closing: Closing) -> Result<(), 
     flush(writer)
 }
 
-/// Writes a reply: its lines, and `ok`, and flushes.
+/// Writes a reply, its lines and `ok`, and flushes.
 ///
 /// # Errors
-/// `Write` alone: at an error of `write` or `flush`, or where `write` takes nothing. Then a beginning of the reply was written.
+/// Only `Write`: if `write` or `flush` fails, or if `write` writes nothing. Then only a beginning of the reply was written.
 pub fn reply<W: Write, B: Body>(writer: &mut Counted<W>, mut body: B) -> Result<(), RunError>
     requires counts { CanCount writer.old }
     requires body { B.can_give body }
     ensures { Closes W.contents 1 writer.old writer.new result (printed (B.lines body ++ Reply.Close Closing.Done ∷ [])) }
 {
-    let mut text = ArrayVec::new();
+    let mut text = ArrayVec::<u8, 67>::new();
     while let Some(line) = body.next_line() {
         line.print_to(&mut text);
         write_piece(writer, text.as_slice())?;
@@ -76,7 +76,7 @@ pub fn reply<W: Write, B: Body>(writer: &mut Counted<W>, mut body: B) -> Result<
 /// Writes the lines that add the routes, and flushes.
 ///
 /// # Errors
-/// `Write` alone: at an error of `write` or `flush`, or where `write` takes nothing. Then a beginning of the lines was written.
+/// Only `Write`: if `write` or `flush` fails, or if `write` writes nothing. Then only a beginning of the lines was written.
 pub fn write_routes<W: Write>(writer: &mut Counted<W>, routes: LeastRoutes) -> Result<(), RunError>
     requires counts { CanCount writer.old }
     requires networks { AreTruncated routes }
@@ -98,7 +98,7 @@ pub fn write_routes<W: Write>(writer: &mut Counted<W>, routes: LeastRoutes) -> R
 /// Writes a line for each operation.
 ///
 /// # Errors
-/// `Write` alone: at an error of `write`, or where it takes nothing. Then a beginning of the lines was written.
+/// Only `Write`: if `write` fails or writes nothing. Then only a beginning of the lines was written.
 pub fn write_operations<W: Write, O: Operations>(
     writer: &mut Counted<W>,
     mut operations: O,

@@ -1,4 +1,4 @@
--- The operations of changes, each of which gives all addresses of one block one hop.
+-- The operations of changes; each change gives all addresses of a block one hop.
 use Rattle.std.specs.Prelude.{ℕ, if◌then◌else◌, not, ◌&&◌, List, [], ◌∷◌, ◌++◌, All, AllPairs, Option, filter, map}
 use Rattle.ipnet_addr.specs.Addresses.{Address}
 use Rattle.ipnet_blocks.specs.Blocks.{Block, IsBlock, HasAddress, has_address, is_inside, same_block}
@@ -10,27 +10,27 @@ use Rattle.route_laws.specs.Operations.{Operation, between}
 use Rattle.route_laws.specs.Overwritten.{overwritten, without_inside}
 use Rattle.route_laws.specs.Tables.{Route, match_of, match_number}
 
--- The table after all addresses of the block of r got its hop: no route is inside that block but r, and not r either where
--- the routes outside hand down its hop.
+-- The table after all addresses of the block of r got its hop. No route is inside that block but r, and r isn't either if the block
+-- inherits the hop from the routes outside.
 abbrev pub painted : List Route → Route → List Route
 painted M r = if same_number (match_number (match_of (without_inside M r.block) r.block)) (number_of r.hop) then without_inside M r.block else overwritten M r
 
--- after one change and the next
+-- the table after several changes
 abbrev pub painted_all : List Route → List Route → List Route
 painted_all M [] = M
 painted_all M (r ∷ rs) = painted_all (painted M r) rs
 
--- the operations of one change and the next
+-- the operations of several changes, one change after another
 abbrev pub batch : List Route → List Route → List Operation
 batch M [] = []
 batch M (r ∷ rs) = between M (painted M r) ++ batch (painted M r) rs
 
--- changes of blocks, to hops
+-- changes of blocks, each with its hop
 pub record AreChanges (rs : List Route) : Type 0 where
   pub blocks : All (λ r. IsBlock r.block) rs
   pub hops : All (λ r. IsHop r.hop) rs
 
--- no two of them have an address in common
+-- no two of them have a common address
 abbrev pub AreApart : List Route → Type 0
 AreApart rs = AllPairs (λ r s. (x : Address) → HasAddress r.block x → HasAddress s.block x → ⊥) rs
 
@@ -38,11 +38,11 @@ AreApart rs = AllPairs (λ r s. (x : Address) → HasAddress r.block x → HasAd
 abbrev pub strictly_inside : List Route → Block → List Route
 strictly_inside M n = filter (λ s. is_inside s.block n && not (same_block s.block n)) M
 
--- the hop of the last change whose block has the address; `now` where none has it
+-- the hop of the last change whose block contains the address, or `now` if none does
 abbrev pub hop_over : Option ℕ → List Route → Address → Option ℕ
 hop_over now [] x = now
 hop_over now (r ∷ rs) x = hop_over (if has_address r.block x then number_of r.hop else now) rs x
 
--- blocks whose addresses all get one hop, as a reply tells them
+-- blocks whose addresses all get one hop, as in a leader's reply
 abbrev pub changes_to : Hop → List Block → List Route
 changes_to hop bs = map (λ b. record { block = b; hop = hop; pref = default_preference }) bs

@@ -1,11 +1,11 @@
--- How many blocks routes can leave.
+-- Bounds on numbers of blocks.
 use Rattle.std.specs.Prelude.{ℕ, ◌-◌, ◌&&◌, nat_lt, if◌then◌else◌, List, filter, sum_by}
 use Rattle.ipnet_addr.specs.Addresses.{Family, same_family}
 use Rattle.ipnet_blocks.specs.Blocks.{Block, is_inside}
 use Rattle.route_laws.specs.Flats.{Piece}
 use Rattle.route_laws.specs.Tables.{Route}
 
--- what a stored block m strictly inside n adds to the number of blocks that n governs, at most
+-- the most blocks that a stored block m strictly inside n adds to those that n governs
 abbrev pub excess : Block → Block → ℕ
 excess n m = if is_inside m n && nat_lt n.len m.len then m.len - n.len - 1 else 0
 

@@ -1,4 +1,4 @@
--- What a change of a table changes, and a table made by changes.
+-- The addresses that a change of a table changes, and tables made by changes.
 use Rattle.std.specs.Prelude.{◌==◌, ℕ, Bool, true, false, not, List, [], ◌∷◌, Option, Some, None}
 use Rattle.ipnet_addr.specs.Addresses.{Address}
 use Rattle.route_choices.specs.Choices.{default_preference}

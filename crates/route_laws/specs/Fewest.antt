@@ -7,51 +7,51 @@ use Rattle.route_choices.specs.Hops.{number_of}
 use Rattle.route_laws.specs.LeastTables.{HasHops, IsLeast}
 use Rattle.route_laws.specs.Tables.{Route, IsTable, hop_at, match_of}
 
--- the hop of a match; s where there is none
+-- the hop of a match, or s if there is none
 abbrev pub handed : Option ℕ → Option Route → Option ℕ
 handed s None = s
 handed s (Some r) = number_of r.hop
 
--- the hop of an address where the routes outside hand down s, a number or none
+-- the hop of an address if the block inherits s, a number or none, from the routes outside
 abbrev pub hop_under : Option ℕ → List Route → Address → Option ℕ
 hop_under s N x = handed s (match_of N (host x))
 
--- N is a table inside b that gives each address of b the hop that h gives, where the routes outside hand down s
+-- N is a table inside b in which each address of b has the hop that h gives, if b inherits s
 pub record GivesInside (h : Address → Option ℕ) (b : Block) (s : Option ℕ) (N : List Route) : Type 0 where
   pub table : IsTable N
   pub inside : All (λ r. IsInside r.block b) N
   pub same : (x : Address) → HasAddress b x → hop_under s N x ≡ h x
 
--- n is the least length of such a table
+-- n is the least number of routes of such a table
 pub record IsFewest (h : Address → Option ℕ) (b : Block) (s : Option ℕ) (n : ℕ) : Type 0 where
   pub reached : (N : List Route) × GivesInside h b s N × (length N ≡ n)
   pub least : (L : List Route) → GivesInside h b s L → n ≤ length L
 
--- the hops are numbers that a route can have
+-- the hops are valid numbers of hops
 abbrev pub AreHops : (Address → Option ℕ) → Type 0
 AreHops h = (x : Address) → IsAddress x → IfSome (h x) (λ k. k < 2 ^ 32)
 
--- as the hops of a table are
+-- the hops of a table are
 abbrev pub HopsOfTable : Type 0
 HopsOfTable = (M : List Route) → IsTable M → AreHops (hop_at M)
 
--- and those that some table gives
+-- the hops of any hop function that some table gives are
 abbrev pub GivenHops : Type 0
 GivenHops = (h : Address → Option ℕ) (N : List Route) → HasHops h N → AreHops h
 
--- the block of one address needs no route where the hop of that address is handed down, and else one
+-- the block of one address needs no route if it inherits the hop of the address, and else one
 abbrev pub FewestOfHost : Type 0
 FewestOfHost = (h : Address → Option ℕ) → AreHops h → (b : Block) → IsBlock b → b.len ≡ width b.family → (s : Option ℕ) (n : ℕ) →
     IsFewest h b s n ↔ (((h (first_of b) ≡ s) × (n ≡ 0)) ⊎ ((h (first_of b) ≢ s) × (n ≡ 1)))
 
--- Another block needs the lesser of what its halves need under s, and of one route more than what they need under one
--- and the same hop, or under none.
+-- Any other block needs the lesser of two numbers: the routes that its halves need under s, and one more than the routes that they need
+-- under one hop, the same for both, or under none.
 abbrev pub FewestByHalves : Type 0
 FewestByHalves = (h : Address → Option ℕ) → AreHops h → (b : Block) → IsBlock b → b.len < width b.family → (f g : Option ℕ → ℕ) →
     ((k : Option ℕ) → IsFewest h (left b) k (f k)) → ((k : Option ℕ) → IsFewest h (right b) k (g k)) →
     (s : Option ℕ) (n : ℕ) → IsFewest h b s n ↔ IsLesser f g s n
 
--- a least table has the fewest routes of all IPv4 addresses and those of all IPv6 addresses, where nothing is handed down
+-- a least table has the fewest routes of all IPv4 addresses and those of all IPv6 addresses, which inherit nothing
 abbrev pub LeastIsFewest : Type 0
 LeastIsFewest = (h : Address → Option ℕ) (N : List Route) (n m : ℕ) → IsLeast h N →
     IsFewest h (family_block Ipv4) None n → IsFewest h (family_block Ipv6) None m → length N ≡ n + m

@@ -1,4 +1,4 @@
--- The laws of operations between tables, as statements.
+-- The theorems about operations between tables, as statements.
 use Rattle.std.specs.Prelude.{◌≡◌, ◌<◌, ◌≤◌, ◌+◌, true, if◌then◌else◌, ℕ, List, ◌++◌, ◌∷◌, [], None, length, take}
 use Rattle.ipnet_addr.specs.Addresses.{Address, IsAddress}
 use Rattle.ipnet_blocks.specs.Blocks.{Block, IsBlock, has_address, parent}
@@ -12,83 +12,83 @@ use Rattle.route_laws.specs.Overwritten.{without_inside}
 use Rattle.route_laws.specs.Runs.{Event, Sync, IsApart, IsMade, MayAllCome, after_events, given, gives, haves, start, told}
 use Rattle.route_laws.specs.Tables.{Route, Changed, IsTable, hop_at, match_of}
 
--- the operations between two tables make the second of the first
+-- the operations between two tables turn the first into the second
 abbrev pub BetweenReaches : Type 0
 BetweenReaches = (M N : List Route) → IsTable M → IsTable N → after_all M (between M N) ≡ N
 
--- on the way each address turns at most once, from its hop in the first to its hop in the second
+-- on the way each address changes its hop at most once, from its hop in the first table to that in the second
 abbrev pub BetweenIsHitless : Type 0
 BetweenIsHitless = (M N : List Route) → IsTable M → IsTable N → IsHitless M (between M N)
 
--- no other operations, of any blocks, make the second of the first and are fewer
+-- no shorter sequence of operations, on any blocks, turns the first into the second
 abbrev pub BetweenIsFewest : Type 0
 BetweenIsFewest = (M N : List Route) → IsTable M → IsTable N → IsFewestOperations M N (between M N)
 
 -- ---- changes of blocks
 
--- a change leaves a table
+-- a change of a table makes a table
 abbrev pub PaintedIsTable : Type 0
 PaintedIsTable = (M : List Route) (r : Route) → IsTable M → IsBlock r.block → IsHop r.hop → IsTable (painted M r)
 
--- the addresses of the block have the hop of r, and all others the hop that they had
+-- the addresses of the block have the hop of r, and all others keep their hop
 abbrev pub HopsOfPainted : Type 0
 HopsOfPainted = (M : List Route) (r : Route) → IsTable M → IsBlock r.block → IsHop r.hop → (x : Address) → IsAddress x →
     hop_at (painted M r) x ≡ (if has_address r.block x then number_of r.hop else hop_at M x)
 
--- the operations of changes make the table after them
+-- the operations of changes make the table after these changes
 abbrev pub BatchReaches : Type 0
 BatchReaches = (M rs : List Route) → IsTable M → AreChanges rs → after_all M (batch M rs) ≡ painted_all M rs
 
--- of changes without a common address each address turns at most once
+-- if no two changes have a common address, each address changes its hop at most once
 abbrev pub BatchIsHitless : Type 0
 BatchIsHitless = (M rs : List Route) → IsTable M → AreChanges rs → AreApart rs → IsHitless M (batch M rs)
 
--- a change takes at most one operation, and one for each route strictly inside its block
+-- a change needs at most one operation, and one for each route strictly inside its block
 abbrev pub FewOperations : Type 0
 FewOperations = (M : List Route) (r : Route) → IsTable M → IsBlock r.block → IsHop r.hop → length (between M (painted M r)) ≤ 1 + length (strictly_inside M r.block)
 
--- each address has the hop of the last change whose block has it, and the hop that it had where none has it
+-- each address has the hop of the last change whose block contains it, or its old hop if none does
 abbrev pub HopsOfBatch : Type 0
 HopsOfBatch = (M rs : List Route) → IsTable M → AreChanges rs → (x : Address) → IsAddress x → hop_at (painted_all M rs) x ≡ hop_over (hop_at M x) rs x
 
--- the maximal blocks of the addresses whose hop differs in two tables, with one hop, are such changes
+-- the maximal blocks of the addresses whose hop differs in two tables, with one hop, are valid changes without common addresses
 abbrev pub ToldAreChanges : Type 0
 ToldAreChanges = (M N : List Route) (bs : List Block) (hop : Hop) → IsMaximal (Changed M N) bs → IsHop hop → AreChanges (changes_to hop bs) × AreApart (changes_to hop bs)
 
--- what the routes outside a block hand down is the match of its parent
+-- a block inherits the match of its parent from the routes outside
 abbrev pub HandedByParent : Type 0
 HandedByParent = (M : List Route) (b : Block) → IsTable M → IsBlock b → 0 < b.len → match_of (without_inside M b) b ≡ match_of M (parent b)
 
--- to all addresses of a family nothing is handed down
+-- the block of a whole family inherits nothing
 abbrev pub HandedByNone : Type 0
 HandedByNone = (M : List Route) (b : Block) → IsTable M → IsBlock b → b.len ≡ 0 → match_of (without_inside M b) b ≡ None
 
 -- ---- event by event
 
--- the operations make of what was installed what is installed then; a route that is installed already takes none
+-- the operations of an event turn the table installed before it into the table installed after it; a `Have` has no operations
 abbrev pub GivesWhatItSays : Type 0
 GivesWhatItSays = (es : List Event) (e : Event) → MayAllCome start (es ++ e ∷ []) → IsMade (after_events start es) e
 
--- and each address turns at most once in those of one event
+-- each address changes its hop at most once in the operations of one event
 abbrev pub GivesHitless : Type 0
 GivesHitless = (es : List Event) (e : Event) → MayAllCome start (es ++ e ∷ []) → IsApart e →
     IsHitless (after_events start es).installed (gives (after_events start es) e)
 
--- once it is kept, the installed table has at each address the hop that was told
+-- once the installed table is kept in sync, each address has the reported hop in it
 abbrev pub KeepsHops : Type 0
 KeepsHops = (es : List Event) → MayAllCome start es → (after_events start es).kept ≡ true →
     (x : Address) → IsAddress x → hop_at (after_events start es).installed x ≡ told None es x
 
--- the operations of all events make of what was installed before them what is installed after them
+-- the operations of all events turn the table installed before them into the table installed after them
 abbrev pub GivenReaches : Type 0
 GivenReaches = (es : List Event) → MayAllCome start es → after_all (haves es) (given start es) ≡ (after_events start es).installed
 
--- after a `Sync` it is a least table of the hops that were told, its own changes included
+-- after a `Sync` the installed table is a least table of the reported hops, including its own changes
 abbrev pub SyncIsLeast : Type 0
 SyncIsLeast = (es : List Event) (rs N : List Route) → MayAllCome start (es ++ Sync rs N ∷ []) →
     IsLeast (told None (es ++ Sync rs N ∷ [])) (after_events start (es ++ Sync rs N ∷ [])).installed
 
--- a later `Sync` without changes turns no address at any moment
+-- a later `Sync` without changes changes no hop at any moment
 abbrev pub SyncIsUnseen : Type 0
 SyncIsUnseen = (es : List Event) (N : List Route) → MayAllCome start (es ++ Sync [] N ∷ []) → (after_events start es).kept ≡ true →
     (x : Address) → IsAddress x → (i : ℕ) →

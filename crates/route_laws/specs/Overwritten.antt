@@ -7,6 +7,6 @@ use Rattle.route_laws.specs.Tables.{Route, with_route}
 abbrev pub without_inside : List Route → Block → List Route
 without_inside M n = filter (λ s. not (is_inside s.block n)) M
 
--- the table with the route in the place of all those inside its block
+-- the table with the route in place of all routes inside its block
 abbrev pub overwritten : List Route → Route → List Route
 overwritten M r = with_route (without_inside M r.block) r

@@ -9,17 +9,17 @@ abbrev pub last_of : Route → List Route → Route
 last_of r [] = r
 last_of r (s ∷ rs) = last_of s rs
 
--- a page and those after it, each of what comes after the last route of the one before, up to one without a route;
--- and no more than `most` of them
+-- A page and those after it, up to the first page without routes, and at most `most` pages. Each page has the routes that come after the
+-- last route of the page before.
 abbrev pub pages_up_to : ℕ → List Route → ℕ → List Route → List (List Route)
 pages_up_to most M limit [] = []
 pages_up_to zero M limit (r ∷ rs) = []
 pages_up_to (suc most) M limit (r ∷ rs) = (r ∷ rs) ∷ pages_up_to most M limit (take limit (routes_after M (last_of r rs).block))
 
--- the first page is of the routes from n on, and each has at most `limit` routes
+-- the first page has the routes from n on, at most `limit` of them
 abbrev pub first_page : List Route → Block → ℕ → List Route
 first_page M n limit = take limit (routes_from M n)
 
--- the first page, and those after it until none is left
+-- the first page, and all later pages with routes
 abbrev pub pages : List Route → Block → ℕ → List (List Route)
 pages M n limit = pages_up_to (length M) M limit (first_page M n limit)

@@ -1,4 +1,4 @@
--- A table that is kept installed while changes are told, event by event.
+-- A table that is kept installed while changes are reported, event by event.
 use Rattle.std.specs.Prelude.{◌≡◌, ℕ, Bool, true, false, if◌then◌else◌, List, [], ◌∷◌, ◌++◌, Option}
 use Rattle.ipnet_addr.specs.Addresses.{Address}
 use Rattle.ipnet_blocks.specs.Blocks.{IsBlock}
@@ -8,80 +8,80 @@ use Rattle.route_laws.specs.LeastTables.{IsLeast}
 use Rattle.route_laws.specs.Operations.{Operation, after_all, between}
 use Rattle.route_laws.specs.Tables.{Route, hop_at, with_route}
 
--- A route is installed already; changes are told; or changes are told, none perhaps, and the installed table is to be this
--- least table of the hops after them.
+-- A route is installed already; or changes are reported; or changes, perhaps none, are reported, and this least table of the hops after
+-- them is to be installed.
 pub data Event : Type 0 where
   Have : Route → Event
   Told : List Route → Event
   Sync : List Route → List Route → Event
 
--- a table with the hops that hold, what is installed, and whether the installed table is kept to those hops
+-- a table with the committed hops, the installed table, and whether the installed table is kept in sync with these hops
 pub record Installer : Type 0 where
   pub table : List Route
   pub installed : List Route
   pub kept : Bool
 
--- nothing is installed, no address has a hop
+-- nothing is installed, and no address has a hop
 abbrev pub start : Installer
 start = record { table = []; installed = []; kept = false }
 
--- after an event; from the first `Sync` on the installed table is kept
+-- the state after an event; from the first `Sync` on, the installed table is kept in sync
 abbrev pub after_event : Installer → Event → Installer
 after_event s (Have r) = record { table = s.table; installed = with_route s.installed r; kept = s.kept }
 after_event s (Told rs) = record { table = painted_all s.table rs; installed = if s.kept then painted_all s.table rs else s.installed; kept = s.kept }
 after_event s (Sync rs N) = record { table = N; installed = N; kept = true }
 
--- after all of them
+-- the state after all events
 abbrev pub after_events : Installer → List Event → Installer
 after_events s [] = s
 after_events s (e ∷ es) = after_events (after_event s e) es
 
--- the operations that are given at an event
+-- the operations of an event
 abbrev pub gives : Installer → Event → List Operation
 gives s (Have r) = []
 gives s (Told rs) = if s.kept then batch s.installed rs else []
 gives s (Sync rs N) = between s.installed N
 
--- those of all events, one event after the other
+-- the operations of all events, event by event
 abbrev pub given : Installer → List Event → List Operation
 given s [] = []
 given s (e ∷ es) = gives s e ++ given (after_event s e) es
 
--- what is installed with each route that is installed already
+-- the installed table with the routes that the events say are installed already
 abbrev pub with_haves : List Route → List Event → List Route
 with_haves M [] = M
 with_haves M (Have r ∷ es) = with_haves (with_route M r) es
 with_haves M (Told rs ∷ es) = with_haves M es
 with_haves M (Sync rs N ∷ es) = with_haves M es
 
--- what was installed before all events
+-- the table installed before all events
 abbrev pub haves : List Event → List Route
 haves es = with_haves [] es
 
--- they make of what was installed what is installed then; a route that is installed already takes none
+-- the operations turn the installed table into the one after the event; a `Have` has no operations
 abbrev pub IsMade : Installer → Event → Type 0
 IsMade s (Have r) = gives s (Have r) ≡ []
 IsMade s (Told rs) = after_all s.installed (gives s (Told rs)) ≡ Installer.installed (after_event s (Told rs))
 IsMade s (Sync rs N) = after_all s.installed (gives s (Sync rs N)) ≡ N
 
--- the changes that are told together have no address in common; those of a `Sync` may have some
+-- no two changes that are reported together have a common address, except those of a `Sync`
 abbrev pub IsApart : Event → Type 0
 IsApart (Have r) = Unit {0}
 IsApart (Told rs) = AreApart rs
 IsApart (Sync rs N) = Unit {0}
 
--- what may come: no `Have` once the table is kept, and at each `Sync` a least table of the hops after its changes
+-- the events that may come: no `Have` after the first `Sync`, and a `Sync` only with a least table of the hops after its changes
 abbrev pub MayCome : Installer → Event → Type 0
 MayCome s (Have r) = (s.kept ≡ false) × IsBlock r.block × IsHop r.hop
 MayCome s (Told rs) = AreChanges rs
 MayCome s (Sync rs N) = AreChanges rs × IsLeast (hop_at (painted_all s.table rs)) N
 
--- the same of each of some events in turn
+-- each of the events may come in its turn
 abbrev pub MayAllCome : Installer → List Event → Type 0
 MayAllCome s [] = Unit {0}
 MayAllCome s (e ∷ es) = MayCome s e × MayAllCome (after_event s e) es
 
--- the hop of an address by the changes that were told; `now` where none has it
+-- the hop of an address after the reported changes, or `now` if none contains it
 abbrev pub told : Option ℕ → List Event → Address → Option ℕ
 told now [] x = now
 told now (Have r ∷ es) x = told now es x

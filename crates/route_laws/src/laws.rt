@@ -1,19 +1,19 @@
-//! Laws of tables: public functions without a body, whose contracts are the laws.
+//! Theorems about tables: public functions without a body, whose contracts are the theorems.
 ghost use Rattle.route_laws.specs.Fewest.{FewestByHalves, FewestOfHost, GivenHops, HopsOfTable, LeastIsFewest};
 ghost use Rattle.route_laws.specs.Laws.{AllThenDel, BlocksOfChoices, ChangedByChoices, ChoicesAfter, ChoicesHaveOneHop, MatchOfChoices, NetworkRestored, NoneIsFree, OthersAreFree, RoutesAreTable, RoutesOfAdd, RoutesOfDel, RoutesOfOverwrite, SameTables, StaysStored, MatchIsLongest, GovernedMatch, GovernedBound, StaysTable, ChangedIsMaximal, AddedHaveOneHop, LeftHaveOneHop, ChangedByAdd, ChangedByDel, BlocksOfAdd, BlocksOfDel, GovernedAfter, AddThenDel, OtherFamilyAfterAdd, OtherFamilyAfterDel, FlatIsShortest, ShortestIsFlat, FlatIsAdmissible, SameFlat, SearchIsFlat, OwnIsMaximal, FlatIsBounded, FlatIsTable, FlatReadded, FlatRebuilds, ReaddedAreNew, OverwriteIsTable, HopsOfOverwrite, PagesAreRoutes, PagesEnd, MembersAfterAdd, MembersAfterDel, MatchAfterAdd, MatchAfterDel, ChangedIsShortest, ShortestIsChanged, MaximalIsChanged, EmptyIsFlat, OneRouteIsChanged, OneRouteHops, OneRouteIsFlat};
 
 pub use crate::operations::{batches, between, runs};
 pub use route_choices::laws::choices;
 
-/// The match is the longest member that contains the block; the match of an address in what a block
-/// governs is the match of the block; and what it governs has few maximal blocks.
+/// The match of a block is the longest stored network that contains it. Each address that a block governs has the same match as the
+/// block. The number of maximal blocks of these addresses is bounded.
 pub fn matches()
     ensures longest { MatchIsLongest }
     ensures governed { GovernedMatch }
     ensures bound { GovernedBound }
 {}
 
-/// What a table holds after a change, and what the longest match of a block is then.
+/// The routes of a table after a change, and the longest match of a block after it.
 pub fn held()
     ensures members_after_add { MembersAfterAdd }
     ensures members_after_del { MembersAfterDel }
@@ -21,8 +21,8 @@ pub fn held()
     ensures match_after_del { MatchAfterDel }
 {}
 
-/// A change leaves a table; it changes the hops of a set of addresses whose maximal blocks a search
-/// finds, the one shortest list of blocks with these addresses, and all of them have one hop then.
+/// A change of a table makes a table. The maximal blocks of the addresses whose hop changes are found by a search. They are the only
+/// shortest ascending list of blocks that covers just these addresses. All these addresses have one hop after the change.
 pub fn changes()
     ensures table { StaysTable }
     ensures maximal { ChangedIsMaximal }
@@ -33,8 +33,9 @@ pub fn changes()
     ensures left { LeftHaveOneHop }
 {}
 
-/// A change of one network changes the hops of what the network governs where its old and its new hop differ, and else
-/// none; so the maximal blocks of a change are those of what the network governs, before or after an `add`, or none.
+/// A change of one network changes the hop of the addresses that the network governs, if the old and the new hop of the network
+/// differ, and of no others. So the maximal blocks of the change are those of the governed addresses, or none. An `add` doesn't
+/// change which addresses its network governs.
 pub fn changed()
     ensures add { ChangedByAdd }
     ensures del { ChangedByDel }
@@ -43,33 +44,35 @@ pub fn changed()
     ensures governed { GovernedAfter }
 {}
 
-/// A `del` next after an `add` of a network that was not stored restores the table; a change in one family leaves the
-/// routes and the hops of the other.
+/// A `del` right after an `add` of a new network restores the table. A change in one family doesn't change the routes or the
+/// hops of the other.
 pub fn kept()
     ensures restored { AddThenDel }
     ensures other_after_add { OtherFamilyAfterAdd }
     ensures other_after_del { OtherFamilyAfterDel }
 {}
 
-/// An `overwrite` leaves a table. All addresses of its network have the new hop then, and all others the hop that they
-/// had.
+/// An `overwrite` of a table makes a table. All addresses of its network have the new hop then, and all others keep their hop.
 pub fn overwrites()
     ensures table { OverwriteIsTable }
     ensures hops { HopsOfOverwrite }
 {}
 
-/// The routes of a family from a network on, page by page: first by `from`, and then by `after` the last network that
-/// was given, until a page has no route. For every limit of at least one the pages are those routes, each once.
+/// The routes of a family from a network on, page by page. The first page begins with `from`, each other one comes `after` the last
+/// network of the page before, and the first empty page is the end. For every limit of at least one, the pages have all these
+/// routes, each once.
 pub fn pages()
     ensures routes { PagesAreRoutes }
     ensures end { PagesEnd }
 {}
 
-/// A hop function has one flat list: no list of one-hop blocks that covers all hops is shorter, and an
-/// ascending one as short is that list; equal hops have equal flat lists; its blocks of one number are
-/// the maximal blocks of the addresses with that hop. In each family it has at most one block and the lengths of the
-/// stored networks. Its pieces are a table of routes with its hops; and an empty table given each of its lines by an `add` has
-/// these routes, the same hops and the same flat list: no `add` of them is of a network that is stored already.
+/// A hop function has exactly one flat list. No list of one-hop blocks that covers the same addresses is shorter, and no other
+/// ascending list is as short. Two hop functions are equal exactly if their flat lists are. The blocks of one number are the
+/// maximal blocks of the addresses with this hop. In each family, a flat list has at most one block more than the lengths of the stored
+/// networks together.
+///
+/// The blocks of a flat list, taken as routes, are a table with these hops. An empty table that is given an `add` of each line has these
+/// routes, these hops and this flat list. Each `add` is of a network that isn't stored yet.
 pub fn flat()
     ensures shortest { FlatIsShortest }
     ensures only { ShortestIsFlat }
@@ -84,8 +87,8 @@ pub fn flat()
     ensures new { ReaddedAreNew }
 {}
 
-/// The flat list of the empty table; and of a table of one route with a number what an `add` to the empty table changes,
-/// the hops, and the flat list.
+/// The flat list of the empty table is empty. For a table of one route with a number: the addresses that an `add` of it to the empty
+/// table changes, their hops, and the flat list.
 pub fn one_route()
     ensures empty { EmptyIsFlat }
     ensures changed { OneRouteIsChanged }
@@ -93,8 +96,9 @@ pub fn one_route()
     ensures flat { OneRouteIsFlat }
 {}
 
-/// The best routes of a table are a table of routes; after an `add` it has the best of the new choices, after a `del`
-/// the best of those that are left, or not the network where none is; after an `overwrite` one in the place of those inside.
+/// The best routes of a table are a table of routes. After an `add`, it has the best of the network's new choices. After a `del`, it has
+/// the best of the choices that are left, or no route of the network if none is left. After an `overwrite`, one route replaces
+/// those inside.
 pub fn best_routes()
     ensures table { RoutesAreTable }
     ensures add { RoutesOfAdd }
@@ -104,8 +108,8 @@ pub fn best_routes()
     ensures matches { MatchOfChoices }
 {}
 
-/// A change leaves a table and the choices of every other network; tables with equal choices are equal; a `del` next
-/// after an `add` of a new network restores the table; a `del` of each of its choices takes the network out.
+/// A change of a table makes a table, with the same choices of every other network. Tables with equal choices are equal. A `del` right
+/// after an `add` of a new network restores the table. A `del` of each choice of a network removes the network.
 pub fn networks()
     ensures stays { StaysStored }
     ensures after { ChoicesAfter }
@@ -115,17 +119,17 @@ pub fn networks()
     ensures emptied { AllThenDel }
 {}
 
-/// What a change of the choices of one network changes.
+/// The addresses that a change of one network's choices changes, their maximal blocks, and their new hop.
 pub fn changed_networks()
     ensures changed { ChangedByChoices }
     ensures blocks { BlocksOfChoices }
     ensures one_hop { ChoicesHaveOneHop }
 {}
 
-/// The fewest routes inside a block by which each of its addresses has a given hop, where the routes outside hand down a
-/// hop or none: for the block of one address; and for any other by what its halves need. A least table has as many as all
-/// IPv4 addresses and all IPv6 addresses need where nothing is handed down. The hops of a table are numbers that a route can
-/// have, as `host` and `halves` ask of them, and so are the hops that some table gives.
+/// The fewest routes inside a block that give each of its addresses a given hop, if the block inherits a hop or none from the routes
+/// outside. For a block of one address, the hop decides. For any other block, it follows from what the halves need. A least table has as
+/// many routes as all IPv4 addresses and all IPv6 addresses need if they inherit nothing. The hops of a table are valid hop
+/// numbers, as `host` and `halves` require, and so are the hops that some table gives.
 pub fn fewest()
     ensures host { FewestOfHost }
     ensures halves { FewestByHalves }

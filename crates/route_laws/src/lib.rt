@@ -1,4 +1,4 @@
-//! What a table of routes is, its matches, hops, changes, flat lists and least tables, and their laws.
+//! The definition of a table of routes, its matches, hops, changes, flat lists and least tables, and theorems about them.
 #![tactic(auto)]
 
 pub mod laws;

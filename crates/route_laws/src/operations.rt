@@ -1,16 +1,16 @@
-//! Laws of the operations between two tables.
+//! Theorems about the operations that turn one table into another.
 ghost use Rattle.route_laws.specs.OperationLaws.{BatchIsHitless, BatchReaches, BetweenIsFewest, BetweenIsHitless, BetweenReaches, FewOperations, GivenReaches, GivesHitless, GivesWhatItSays, HandedByNone, HandedByParent, HopsOfBatch, HopsOfPainted, KeepsHops, PaintedIsTable, SyncIsLeast, SyncIsUnseen, ToldAreChanges};
 
-/// The operations between two tables make the one of the other. On the way each address turns at most once, from its hop
-/// in the one to its hop in the other; and no other operations that make it are fewer.
+/// The operations between two tables turn the first into the second. On the way each address changes its hop at most once, from its
+/// hop in the first table to that in the second. No shorter sequence of operations makes the second table.
 pub fn between()
     ensures reaches { BetweenReaches }
     ensures hitless { BetweenIsHitless }
     ensures fewest { BetweenIsFewest }
 {}
 
-/// The operations of changes, one change after the other. Each gives all addresses of its block its hop, and leaves the
-/// others; of changes without a common address, as a leader tells them, each address turns at most once.
+/// The operations of a sequence of changes. A change gives all addresses of its block its hop, and changes no other address. If no two
+/// changes have a common address, as those of a leader's reply, each address changes its hop at most once.
 pub fn batches()
     ensures table { PaintedIsTable }
     ensures hops { HopsOfPainted }
@@ -23,11 +23,13 @@ pub fn batches()
     ensures told { ToldAreChanges }
 {}
 
-/// Routes that are installed already, changes that are told, and least tables to be installed, of the hops after the
-/// changes that are told with them; in any order but that nothing else is installed after the first least table. The
-/// operations that are given make of what was installed what is installed then, those of one event and those of all, and
-/// each address turns at most once in those of one event. From the first least table on each address has the hop that was
-/// told; a later least table without changes turns no address.
+/// A table that is kept installed, event by event. An event is a route that is installed already, a group of changes, or a group of
+/// changes with a least table to install for the hops after them. They may come in any order, but no route counts as installed already
+/// after the first least table.
+///
+/// The operations of an event turn the table installed before it into the table installed after it, and so do those of all events.
+/// Each address changes its hop at most once during an event. From the first least table on, each address has the hop that was
+/// last reported. A later least table without changes changes no address at any moment.
 pub fn runs()
     ensures operations { GivesWhatItSays }
     ensures reaches { GivenReaches }

@@ -1,4 +1,4 @@
--- The one printed text of a command.
+-- The printed text of a command.
 use Rattle.std.specs.Prelude.{◌≡◌, ℕ, ◌≤◌, ◌==◌, if◌then◌else◌, List, [], ◌++◌, codes, decimal, ⊤}
 use Rattle.ipnet.specs.IpNetText.{net_text}
 use Rattle.ipnet.specs.IpNets.{block, network_at}
@@ -7,7 +7,7 @@ use Rattle.route_lines.specs.declared.command.Command.{Command}
 use Rattle.route_lines.specs.declared.command.Command.TheVariants as C
 use Rattle.route_choices.specs.Choices.{default_preference}
 
--- what stands after the hop: nothing where the preference is that of a hop alone
+-- the text after the hop: a space and the preference, or nothing if it is the default preference
 abbrev pub preference_text : ℕ → List ℕ
 preference_text pref = if pref == default_preference then [] else codes " " ++ decimal pref
 
@@ -25,7 +25,7 @@ command_text (C.Own number) = codes "own " ++ decimal number
 command_text C.Count = codes "count"
 command_text C.Flat = codes "flat"
 
--- its network, if it has one, has no host bits, and its limit is one that a line can ask for
+-- the network, if there is one, has no host bits, and the limit is one that a line can have
 abbrev pub IsPrintableCommand : Command → Type 0
 IsPrintableCommand (C.Add net hop pref) = net ≡ network_at (block net)
 IsPrintableCommand (C.Del net hop) = net ≡ network_at (block net)

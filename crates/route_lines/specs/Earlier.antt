@@ -1,4 +1,4 @@
--- The reply lines of leaders that had no preferences, by cases on whole texts.
+-- The reply lines of leaders without preferences, by cases on whole texts.
 use Rattle.std.specs.Prelude.{◌≡◌, ℕ, List, codes, Some, None}
 use Rattle.route_lines.specs.Phrase.{Then, After}
 use Rattle.route_lines.specs.Words.{IsNet, IsNumber, IsCount, IsHop}
@@ -6,7 +6,7 @@ use Rattle.route_lines.specs.Texts.{closing_text}
 use Rattle.route_lines.specs.declared.reply.Reply.{Reply}
 use Rattle.route_lines.specs.declared.reply.Reply.TheVariants as R
 
--- a reply line of such a leader, as one that a reader has today: a route had a network and a hop
+-- a reply line of such a leader, as a reply line of today: a route had a network and a hop
 abbrev pub IsEarlierReply : List ℕ → Reply → Type 0
 IsEarlierReply text (R.Set net number) = After (codes "set ") (Then IsNet IsNumber) text (net, number)
 IsEarlierReply text (R.Unset net) = After (codes "unset ") IsNet text net

@@ -1,4 +1,4 @@
--- Words have no space. Proofs stand here since the ghost member `free` of a word may cite specs/ alone.
+-- Words contain no space. The proofs are here because the ghost member `free` of a word may cite only specs/.
 use Rattle.std.proofs.Common.{◌≢◌, ℕ, ◌<◌, ◌^◌, List, [], ◌∷◌, All, decimal, codes, arith}
 use Rattle.std.proofs.lemmas.List.Elements.{All-nil, All-cons}
 use Rattle.std.proofs.lemmas.Fmt.{decimal_is_IsNumeral}

@@ -1,4 +1,4 @@
--- What is printed of a line, before its line end.
+-- The printed text of a line, before its line end.
 use Rattle.std.specs.Prelude.{◌≡◌, ℕ, ◌≤◌, List, length, ⊤, IfSome}
 use Rattle.ipnet.specs.IpNetText.{net_text, Reads}
 use Rattle.route_lines.specs.Texts.{hop_text}
@@ -10,7 +10,7 @@ use Rattle.route_lines.specs.declared.reply.Reply.TheVariants as R
 use Rattle.route_lines.specs.declared.update.Update.{Update}
 use Rattle.route_lines.specs.declared.update.Update.TheVariants as U
 
--- the text of a value, in at most so many bytes, whose words read as what they stand for
+-- the text of a value, in at most `limit` bytes; its words read as the parts of the value
 pub record AreWords {A : Type 0} (text_of : A → List ℕ) (Words : A → Type 0) (limit : ℕ) (x : A) (out : List ℕ) : Type 0 where
   pub text : out ≡ text_of x
   pub words : Words x
@@ -40,7 +40,7 @@ ReplyWords (R.Own net) = Reads (net_text net) net
 ReplyWords (R.Count v4 v6) = (v4 ≤ 0xffffffffffffffff) × (v6 ≤ 0xffffffffffffffff)
 ReplyWords (R.Close closing) = ⊤
 
--- the words of a line that an installer writes
+-- the words of a line of an installer's output
 abbrev pub UpdateWords : Update → Type 0
 UpdateWords (U.Install net hop) = Reads (net_text net) net × IsHop (hop_text hop) hop
 UpdateWords (U.Remove net) = Reads (net_text net) net

@@ -1,4 +1,4 @@
--- What a line cutter stands for.
+-- A line cutter as contracts see it.
 use Rattle.std.specs.Prelude.{ℕ, Bool, List}
 
 -- the first 80 of the bytes since the last line end, and whether there were more

@@ -19,24 +19,24 @@ use Rattle.route_lines.specs.declared.note.Note.TheVariants as N
 use Rattle.route_lines.specs.declared.update.Update.{Update}
 use Rattle.route_lines.specs.declared.update.Update.TheVariants as U
 
--- what stands before and after the first space
+-- the texts before and after the first space
 abbrev pub split : List ℕ → Option (List ℕ × List ℕ)
 split [] = None
 split (c ∷ cs) = if c == 32 then Some ([], cs) else option_map (λ p. (c ∷ p.0, p.1)) (split cs)
 
--- the network without host bits
+-- the network that the text spells, without its host bits
 abbrev pub net_of_text : List ℕ → Option IpNet
 net_of_text s = option_map (λ n. network_at (block n)) (ip_net_of s)
 
--- the number from low to high
+-- the number from low to high that the text spells
 abbrev pub number_of_text : ℕ → ℕ → List ℕ → Option ℕ
 number_of_text low high s = if bytes_eq s (decimal (digits_value 10 s)) && nat_le low (digits_value 10 s) && nat_le (digits_value 10 s) high then Some (digits_value 10 s) else None
 
--- the hop: `drop`, or a number below 2^32
+-- the hop that the text spells: `drop`, or a number below 2^32
 abbrev pub hop_of_text : List ℕ → Option Hop
 hop_of_text s = if bytes_eq s (codes "drop") then Some Drop else option_map Number (number_of_text 0 0xffffffff s)
 
--- the value of this text alone
+-- the value of exactly this text
 abbrev pub of_word : {A : Type 0} → List ℕ → A → List ℕ → Option A
 of_word word x s = if bytes_eq s word then Some x else None
 
@@ -44,7 +44,7 @@ of_word word x s = if bytes_eq s word then Some x else None
 abbrev pub of_both : {A B : Type 0} → (List ℕ → Option A) → (List ℕ → Option B) → List ℕ → Option (A × B)
 of_both f g s = option_and_then (λ p. option_and_then (λ a. option_map (λ b. (a, b)) (g p.1)) (f p.0)) (split s)
 
--- the value after a prefix
+-- the value of the text after a prefix
 abbrev pub after_prefix : {A : Type 0} → List ℕ → (List ℕ → Option A) → List ℕ → Option A
 after_prefix prefix f s = if bytes_eq (take (length prefix) s) prefix then f (drop (length prefix) s) else None
 
@@ -53,15 +53,15 @@ abbrev pub or_else : {A : Type 0} → Option A → Option A → Option A
 or_else (Some a) o = Some a
 or_else None o = o
 
--- a hop and a preference, or else a hop alone
+-- a hop and a preference, or else only a hop
 abbrev pub optional_of_text : List ℕ → Option (Hop × Option ℕ)
 optional_of_text s = or_else (option_map (λ x. (x.0, Some x.1)) (of_both hop_of_text (number_of_text 0 0xffff) s)) (option_map (λ hop. (hop, None)) (hop_of_text s))
 
--- a hop alone has the default preference
+-- the same; without a preference it is the default preference
 abbrev pub preferred_of_text : List ℕ → Option (Hop × ℕ)
 preferred_of_text s = option_map (λ x. (x.0, unwrap_or x.1 default_preference)) (optional_of_text s)
 
--- the command
+-- the command that the text spells
 unfoldable pub command_of : List ℕ → Option Command
 command_of s =
     or_else (option_map (λ x. C.Add x.0 x.1.0 x.1.1) (after_prefix (codes "add ") (of_both net_of_text preferred_of_text) s))
@@ -76,11 +76,11 @@ command_of s =
     (or_else (of_word (codes "count") C.Count s)
     (of_word (codes "flat") C.Flat s))))))))))
 
--- the line that closes a reply
+-- the closing line that the text spells
 abbrev pub closing_of_text : List ℕ → Option Closing
 closing_of_text s = or_else (of_word (codes "ok") Done s) (or_else (of_word (codes "none") Missing s) (or_else (of_word (codes "bad") Bad s) (of_word (codes "refused") Refused s)))
 
--- the reply line
+-- the reply line that the text spells
 unfoldable pub reply_of : List ℕ → Option Reply
 reply_of s =
     or_else (option_map (λ x. R.Set x.0 x.1) (after_prefix (codes "set ") (of_both net_of_text (number_of_text 0 0xffffffff)) s))
@@ -91,14 +91,14 @@ reply_of s =
     (or_else (option_map (λ x. R.Count x.0 x.1) (after_prefix (codes "count ") (of_both (number_of_text 0 0xffffffffffffffff) (number_of_text 0 0xffffffffffffffff)) s))
     (option_map R.Close (closing_of_text s)))))))
 
--- the line that an installer reads
+-- the line of an installer's input that the text spells
 unfoldable pub note_of : List ℕ → Option Note
 note_of s =
     or_else (option_map (λ x. N.Have x.0 x.1) (after_prefix (codes "have ") (of_both net_of_text hop_of_text) s))
     (or_else (of_word (codes "sync") N.Sync s)
     (option_map N.Reply (reply_of s)))
 
--- the line that an installer writes
+-- the line of an installer's output that the text spells
 unfoldable pub update_of : List ℕ → Option Update
 update_of s =
     or_else (option_map (λ x. U.Install x.0 x.1) (after_prefix (codes "install ") (of_both net_of_text hop_of_text) s))

@@ -1,4 +1,4 @@
--- The texts of commands, of reply lines, and of what an installer reads and writes, by cases on whole texts.
+-- The texts of commands, of reply lines, and of an installer's input and output lines, by cases on whole texts.
 use Rattle.std.specs.Prelude.{◌≡◌, ℕ, List, ◌++◌, codes, decimal, ⊤, Some, None}
 use Rattle.ipnet.specs.IpNetText.{net_text}
 use Rattle.ipnet.specs.IpNets.{block, network_at}
@@ -19,7 +19,7 @@ use Rattle.route_lines.specs.declared.update.Update.TheVariants as U
 use Rattle.route_table.specs.declared.between.Operation.{Operation}
 use Rattle.route_table.specs.declared.between.Operation.TheVariants as O
 
--- a command
+-- the text spells a command
 abbrev pub IsCommand : List ℕ → Command → Type 0
 IsCommand text (C.Add net hop pref) = After (codes "add ") (Then IsNet IsPreferred) text (net, (hop, pref))
 IsCommand text (C.Del net hop) = After (codes "del ") (Then IsNet IsHop) text (net, hop)
@@ -40,7 +40,7 @@ closing_text Missing = codes "none"
 closing_text Bad = codes "bad"
 closing_text Refused = codes "refused"
 
--- a reply line
+-- the text spells a reply line
 abbrev pub IsReply : List ℕ → Reply → Type 0
 IsReply text (R.Set net number) = After (codes "set ") (Then IsNet IsNumber) text (net, number)
 IsReply text (R.Unset net) = After (codes "unset ") IsNet text net
@@ -50,19 +50,19 @@ IsReply text (R.Own net) = After (codes "own ") IsNet text net
 IsReply text (R.Count v4 v6) = After (codes "count ") (Then IsCount IsCount) text (v4, v6)
 IsReply text (R.Close closing) = text ≡ closing_text closing
 
--- a line that an installer reads
+-- the text spells a line of an installer's input
 abbrev pub IsNote : List ℕ → Note → Type 0
 IsNote text (N.Have net hop) = After (codes "have ") (Then IsNet IsHop) text (net, hop)
 IsNote text N.Sync = text ≡ codes "sync"
 IsNote text (N.Reply reply) = IsReply text reply
 
--- a line that an installer writes
+-- the text spells a line of an installer's output
 abbrev pub IsUpdate : List ℕ → Update → Type 0
 IsUpdate text (U.Install net hop) = After (codes "install ") (Then IsNet IsHop) text (net, hop)
 IsUpdate text (U.Remove net) = After (codes "remove ") IsNet text net
 IsUpdate text U.Done = text ≡ codes "ok"
 
--- the line that tells an operation
+-- the line of an operation
 abbrev pub update_for : Operation → Update
 update_for (O.Install net hop) = U.Install net hop
 update_for (O.Remove net) = U.Remove net
@@ -83,7 +83,7 @@ reply_text (R.Own net) = codes "own " ++ net_text net
 reply_text (R.Count v4 v6) = codes "count " ++ decimal v4 ++ codes " " ++ decimal v6
 reply_text (R.Close closing) = closing_text closing
 
--- its network, if it has one, has no host bits
+-- the network, if there is one, has no host bits
 abbrev pub IsPrintable : Reply → Type 0
 IsPrintable (R.Set net number) = net ≡ network_at (block net)
 IsPrintable (R.Unset net) = net ≡ network_at (block net)
@@ -93,13 +93,13 @@ IsPrintable (R.Own net) = net ≡ network_at (block net)
 IsPrintable (R.Count v4 v6) = ⊤
 IsPrintable (R.Close closing) = ⊤
 
--- the printed text of a line that an installer writes
+-- the printed text of a line of an installer's output
 abbrev pub update_text : Update → List ℕ
 update_text (U.Install net hop) = codes "install " ++ net_text net ++ codes " " ++ hop_text hop
 update_text (U.Remove net) = codes "remove " ++ net_text net
 update_text U.Done = codes "ok"
 
--- its network, if it has one, has no host bits
+-- the network, if there is one, has no host bits
 abbrev pub IsPrintableUpdate : Update → Type 0
 IsPrintableUpdate (U.Install net hop) = net ≡ network_at (block net)
 IsPrintableUpdate (U.Remove net) = net ≡ network_at (block net)

@@ -1,4 +1,4 @@
--- The words after the first one of a line.
+-- The words after the first word of a line.
 use Rattle.std.specs.Prelude.{◌≡◌, ℕ, List, codes, Option, MatchOption, unwrap_or}
 use Rattle.ipnet.specs.IpNetText.{Reads}
 use Rattle.ipnet.specs.IpNets.{block, network_at}
@@ -8,7 +8,7 @@ use Rattle.route_choices.specs.Choices.{default_preference}
 use Rattle.route_choices.specs.declared.hop.Hop.{Hop}
 use Rattle.route_choices.specs.declared.hop.Hop.TheVariants.{Number, Drop}
 
--- a network, its host bits cleared
+-- a network, with its host bits cleared
 abbrev pub IsNet : List ℕ → IpNet → Type 0
 IsNet text net = (whole : IpNet) × Reads text whole × (net ≡ network_at (block whole))
 
@@ -16,7 +16,7 @@ IsNet text net = (whole : IpNet) × Reads text whole × (net ≡ network_at (blo
 abbrev pub IsNumber : List ℕ → ℕ → Type 0
 IsNumber = IsDecimal 0 0xffffffff
 
--- the number of lines that are asked for
+-- a number of lines that a command may ask for
 abbrev pub IsLimit : List ℕ → ℕ → Type 0
 IsLimit = IsDecimal 1 1000
 
@@ -33,10 +33,10 @@ IsHop text Drop = text ≡ codes "drop"
 abbrev pub IsPreference : List ℕ → ℕ → Type 0
 IsPreference = IsDecimal 0 0xffff
 
--- a hop and a preference with one space between them, or a hop alone
+-- a hop and a preference with one space between them, or only a hop
 abbrev pub IsOptional : List ℕ → Hop × Option ℕ → Type 0
 IsOptional text x = MatchOption x.1 (IsHop text x.0) (λ pref. Then IsHop IsPreference text (x.0, pref))
 
--- the same, where a hop alone has the default preference
+-- the same; without a preference it is the default preference
 abbrev pub IsPreferred : List ℕ → Hop × ℕ → Type 0
 IsPreferred text x = (given : Option ℕ) × IsOptional text (x.0, given) × (x.1 ≡ unwrap_or given default_preference)

@@ -7,44 +7,44 @@ use crate::phrase::{Limit, Number, Optional, read_after};
 use ipnet::IpNet;
 use route_table::{DEFAULT_PREFERENCE, Hop};
 
-/// One line of the input. Its network has no host bits.
+/// A command: one line of the input. Its network has no host bits.
 #[derive(Clone, Copy, PartialEq, Eq)]
 pub enum Command {
-    /// `add NET HOP PREF`: the network has a route to the hop, a number or `drop`, with this preference, 0 to 65535. In
-    /// `add NET HOP` it is 100.
+    /// `add NET HOP PREF`: adds a route to the hop, a number or `drop`, with this preference, 0 to 65535. In `add NET HOP` the
+    /// preference is 100.
     Add { net: IpNet, hop: Hop, pref: u16 },
-    /// `del NET HOP`: take the network's route to the hop out.
+    /// `del NET HOP`: removes the network's route to the hop.
     Del { net: IpNet, hop: Hop },
-    /// `get NET`: the longest stored network that contains it.
+    /// `get NET`: the longest stored network that contains NET.
     Get { net: IpNet },
-    /// `cover NET`: the stored networks that contain it.
+    /// `cover NET`: the stored networks that contain NET.
     Cover { net: IpNet },
-    /// `list NET`: the stored networks inside it.
+    /// `list NET`: the stored networks inside NET.
     List { net: IpNet },
     /// `all NET`: the routes of exactly this network, best first.
     All { net: IpNet },
-    /// `from NET N`: at most N stored networks of its family, 1 to 1000, that don't come before it.
+    /// `from NET N`: the first N stored networks of NET's family from NET on; N is 1 to 1000.
     PageFrom { net: IpNet, limit: u16 },
-    /// `after NET N`: the same of those that come after it.
+    /// `after NET N`: the first N stored networks of NET's family after NET; N is 1 to 1000.
     PageAfter { net: IpNet, limit: u16 },
     /// `own NUMBER`: the blocks of the flat list with this hop.
     Own { number: u32 },
-    /// `count`: how many networks are stored.
+    /// `count`: the number of stored networks.
     Count,
     /// `flat`: the flat list.
     Flat,
 }
 
 impl Command {
-    /// The command that the text of a line spells, without its line end: words in lower case with exactly one space
-    /// between each two, and nothing before or after them; decimal numbers without leading zeros. Takes no memory.
+    /// Reads a command from the text of a line, without its line end. Words are in lower case and separated by exactly one space. There is
+    /// no space before or after them, and decimal numbers have no leading zeros. Does not allocate.
     ///
     /// # Errors
-    /// `NotALine` exactly where it spells none.
+    /// `NotALine` exactly if the text isn't a command.
     pub fn read(line: &[u8]) -> Result<Command, NotALine>
         ensures { Parses IsCommand line.now result }
     {
-        // (a pair taken apart by a pattern is copied once more)
+        // (a pair that is destructured by a pattern is copied once more)
         if let Some(route) = read_after::<(IpNet, Optional)>(line, b"add ") {
             return Ok(Command::Add {
                 net: route.0,

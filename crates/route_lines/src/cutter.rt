@@ -1,4 +1,4 @@
-//! Bytes cut into lines.
+//! Splitting bytes into lines.
 ghost use Rattle.std.specs.Prelude.{◌≡◌, ◌↔◌, [], IsTrue};
 ghost use Rattle.route_lines.specs.Lines.{as_line, line_of};
 
@@ -6,17 +6,17 @@ use arrayvec::ArrayVec;
 use std::marker::Model;
 use std::mem;
 
-/// A line without its line end: its bytes, at most 80, or that it has more.
+/// A line without its line end: its bytes if there are at most 80, or `TooLong`.
 #[derive(Drop)]
 pub enum Line {
     /// The bytes before the line end.
     Text(ArrayVec<u8, 80>),
-    /// More than 80 bytes stood before the line end.
+    /// There are more than 80 bytes before the line end.
     TooLong,
 }
 
 impl Line {
-    /// Its bytes; none where it is too long.
+    /// Returns the bytes, or `None` if the line is too long.
     pub fn text(&self) -> Option<&[u8]>
         ensures { as_line result ≡ self.now }
     {
@@ -27,26 +27,26 @@ impl Line {
     }
 }
 
-/// The bytes of a line in place, as `Line::text` gives them, where these stand before its line end.
+/// Returns the line that these bytes before a line end are, as `Line::text` does: `None` if there are more than 80 bytes.
 pub fn line_text(piece: &[u8]) -> Option<&[u8]>
     ensures { as_line result ≡ line_of piece.now }
 {
     if piece.len() > 80 { None } else { Some(piece) }
 }
 
-/// What stands after the last line end.
+/// The bytes after the last line end.
 #[derive(Clone, Copy, Debug, PartialEq, Eq)]
 pub enum Rest {
-    /// No byte.
+    /// There are none.
     Empty,
-    /// At least one byte.
+    /// There is at least one.
     Held,
 }
 
-/// Cuts a stream of bytes into lines, byte by byte, however the bytes were read.
+/// Splits a stream of bytes into lines, byte by byte. The lines don't depend on how the bytes were read.
 ///
-/// A line ends at byte 0x0A, and is answered there and never before; a carriage return is an ordinary
-/// byte. Contracts see the first 80 of the bytes since the last line end, and whether there were more.
+/// A line ends at byte 0x0A, and is returned at this byte, never before. A carriage return is an ordinary byte. Contracts see the first
+/// 80 of the bytes since the last line end, and whether there were more.
 #[derive(Drop)]
 pub struct LineCutter {
     held: ArrayVec<u8, 80>,
@@ -64,7 +64,7 @@ impl Model for LineCutter {
 impl LineCutter {
     ghost use Rattle.route_lines.specs.Lines.{kept_of, fed_answer, fed, rest_in};
 
-    /// A cutter that has been fed nothing.
+    /// Makes a cutter that has read nothing.
     pub fn new() -> LineCutter
         ensures { result ≡ kept_of [] }
     {
@@ -74,7 +74,7 @@ impl LineCutter {
         }
     }
 
-    /// Takes the next byte, and answers the line that it ends, if it ends one. Takes no memory.
+    /// Takes the next byte, and returns the line that this byte ends, if it is a line end. Does not allocate.
     pub fn feed(&mut self, byte: u8) -> Option<Line>
         ensures line { result ≡ fed_answer self.old byte }
         ensures kept { self.new ≡ fed self.old byte }
@@ -96,14 +96,14 @@ impl LineCutter {
         None
     }
 
-    /// Whether no byte stands after the last line end, as in a new cutter.
+    /// Returns whether there is no byte after the last line end, as in a new cutter.
     pub fn is_new(&self) -> bool
         ensures { IsTrue result ↔ (self.now ≡ kept_of []) }
     {
         self.held.is_empty() && !self.more
     }
 
-    /// Whether a byte stands after the last line end.
+    /// Returns whether there are bytes after the last line end.
     pub fn rest(&self) -> Rest
         ensures { result ≡ rest_in self.now }
     {

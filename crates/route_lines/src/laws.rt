@@ -1,4 +1,4 @@
-//! Laws of lines: public functions without a body, whose contracts are the laws.
+//! Theorems about lines: public functions without a body, whose contracts are the theorems.
 ghost use Rattle.std.specs.Prelude.{◌≡◌, ◌↔◌, ℕ, List, [], ◌∷◌, ◌++◌, Some};
 ghost use Rattle.std.specs.List.{flat_map};
 ghost use Rattle.route_lines.specs.Bytes.{lines, rest};
@@ -26,51 +26,51 @@ use crate::note::Note;
 use crate::reply::{Closing, Reply};
 use crate::update::Update;
 
-/// Over any bytes fed to a new cutter, its answers are, in order, `Text` of each piece of at most 80
-/// bytes and `TooLong` for each longer one, and `rest` tells whether anything stands after the last
-/// line end; so they are a function of the bytes, however these were cut into reads.
+/// A new cutter that is fed any bytes returns their lines in order: `Text` for each line of at most 80 bytes, and `TooLong` for any
+/// other. `rest` returns whether there are bytes after the last line end. So the results depend only on the bytes, not on how they were
+/// split into reads.
 pub fn cutting()
     ensures answers { (bytes : List ℕ) → answers (kept_of []) bytes ≡ lines_in bytes }
     ensures kept { (bytes : List ℕ) → fed_all (kept_of []) bytes ≡ kept_of (rest bytes) }
     ensures rest { (bytes : List ℕ) → rest_in (fed_all (kept_of []) bytes) ≡ rest_of (rest bytes) }
 {}
 
-/// The pieces, each with its line end, and then the rest are the bytes.
+/// All lines, each with its line end, followed by the rest, are the bytes.
 #[tactic(auto, using(crate::proofs::Cutting::pieces_make))]
 pub fn pieces_make_bytes()
     ensures { (bytes : List ℕ) → bytes ≡ flat_map (λ piece. piece ++ 10 ∷ []) (lines bytes) ++ rest bytes }
 {}
 
-/// No text spells two commands, none has more than 72 bytes, and none has a line end. What is read can be printed. A
-/// function finds the one that a text spells.
+/// A text spells at most one command, and then has at most 72 bytes and no line end. Each command that can be read can be printed. The
+/// function `command_of` finds the command that a text spells.
 pub fn commands()
     ensures grammar { IsGrammar IsCommand 72 }
     ensures printable { (text : List ℕ) (a : Command) → IsCommand text a → IsPrintableCommand a }
     ensures found { Finds IsCommand command_of }
 {}
 
-/// The printed text of a command that some text spells reads as this command, and no other command has it.
+/// If a text spells a command, the printed text of this command spells it too, and spells no other.
 pub fn printed_commands()
     ensures { IsTextOf IsCommand command_text }
 {}
 
-/// No text spells two reply lines, none has more than 74 bytes, and none has a line end. What is read can be printed.
-/// A function finds the one that a text spells.
+/// A text spells at most one reply line, and then has at most 74 bytes and no line end. Each reply line that can be read can be printed.
+/// The function `reply_of` finds the reply line that a text spells.
 pub fn replies()
     ensures grammar { IsGrammar IsReply 74 }
     ensures printable { (text : List ℕ) (a : Reply) → IsReply text a → IsPrintable a }
     ensures found { Finds IsReply reply_of }
 {}
 
-/// Each reply line of a leader that had no preferences is still one, with the same network and hop; a `route` has no
+/// Each reply line of a leader without preferences is a reply line, with the same network and hop. A `route` line then has no
 /// preference.
 pub fn earlier()
     ensures { (text : List ℕ) (a : Reply) → IsEarlierReply text a → IsReply text a }
 {}
 
-/// No text spells two of the lines that an installer reads, none has more than 74 bytes, and none has a line end. The
-/// network of a `have` has no host bits. A function finds the one that a text spells; it finds a reply line exactly
-/// where a reader of reply lines does, and the same one.
+/// A text spells at most one line of an installer's input, and then has at most 74 bytes and no line end. The network of a `have` has no
+/// host bits. The function `note_of` finds the line that a text spells, and finds a reply line exactly if `reply_of` finds the
+/// same one.
 pub fn notes()
     ensures grammar { IsGrammar IsNote 74 }
     ensures cut { (text : List ℕ) (net : IpNet) (hop : Hop) → IsNote text (Notes.Have net hop) → net ≡ network_at (block net) }
@@ -79,9 +79,9 @@ pub fn notes()
     ensures apart { (text : List ℕ) (a : Note) (r : Reply) → IsNote text a → IsReply text r → a ≡ Notes.Reply r }
 {}
 
-/// No text spells two of the lines that an installer writes, none has more than 70 bytes, and none has a line end. What
-/// is read can be printed, and so can an operation just where its network has no host bits. A function finds the one
-/// that a text spells.
+/// A text spells at most one line of an installer's output, and then has at most 70 bytes and no line end. Each such line that can be
+/// read can be printed. An operation can be printed exactly if its network has no host bits. The function `update_of` finds the
+/// line that a text spells.
 pub fn updates()
     ensures grammar { IsGrammar IsUpdate 70 }
     ensures printable { (text : List ℕ) (a : Update) → IsUpdate text a → IsPrintableUpdate a }
@@ -89,13 +89,13 @@ pub fn updates()
     ensures found { Finds IsUpdate update_of }
 {}
 
-/// The printed text of a line that an installer writes, and that some text spells, reads as this line, and no other has it.
+/// If a text spells a line of an installer's output, the printed text of this line spells it too, and spells no other.
 pub fn printed_updates()
     ensures { IsTextOf IsUpdate update_text }
 {}
 
-/// `==` holds of one command alone, and so of one reply line, note, update, closing, rest and error; a clone is the same, and
-/// cloning never fails.
+/// `==` holds exactly for equal commands, and likewise for reply lines, notes, updates, closings, rests and errors. A clone equals the
+/// original, and cloning never fails.
 pub fn equality()
     ensures commands { IsPlain ⟦<Command as PartialEq>⟧.eq ⟦<Command as Clone>⟧.is_clone ⟦<Command as Clone>⟧.is_infallible }
     ensures replies { IsPlain ⟦<Reply as PartialEq>⟧.eq ⟦<Reply as Clone>⟧.is_clone ⟦<Reply as Clone>⟧.is_infallible }

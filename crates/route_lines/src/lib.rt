@@ -1,4 +1,4 @@
-//! The lines of a route feed, however the bytes come: commands, replies, and the cutter of lines.
+//! The lines of a route feed: commands, replies, and the cutter that splits bytes into lines.
 #![tactic(auto)]
 
 pub use command::Command;
@@ -8,7 +8,7 @@ pub use reply::{Closing, Reply};
 use thiserror::Error;
 pub use update::Update;
 
-/// The text is no line of the grammar.
+/// The text isn't a line of the grammar.
 #[derive(Clone, Copy, Debug, PartialEq, Eq, Error)]
 #[error("not a line of the grammar")]
 pub struct NotALine;

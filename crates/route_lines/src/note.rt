@@ -1,4 +1,4 @@
-//! The lines that an installer reads.
+//! The lines of an installer's input.
 ghost use Rattle.std.specs.Net.Grammar.{Parses};
 ghost use Rattle.route_lines.specs.Texts.{IsNote};
 
@@ -8,26 +8,26 @@ use crate::reply::Reply;
 use ipnet::IpNet;
 use route_table::Hop;
 
-/// One line of what an installer reads: of a table that is installed already, or of a leader.
+/// A line of an installer's input: about a table that is installed already, or from a leader.
 #[derive(Clone, Copy, PartialEq, Eq)]
 pub enum Note {
     /// `have NET HOP`: this route is installed already.
     Have { net: IpNet, hop: Hop },
-    /// `sync`: from here on the installed table has the hops that are told, these to begin with.
+    /// `sync`: from here on, the installed table is kept in sync with the reported hops, first with those reported so far.
     Sync,
     /// A reply line of a leader.
     Reply(Reply),
 }
 
 impl Note {
-    /// The line that the text spells, without its line end. Host bits of its network are cleared. Takes no memory.
+    /// Reads a line from its text, without its line end. Host bits of its network are cleared. Does not allocate.
     ///
     /// # Errors
-    /// `NotALine` exactly where it spells none.
+    /// `NotALine` exactly if the text isn't such a line.
     pub fn read(line: &[u8]) -> Result<Note, NotALine>
         ensures { Parses IsNote line.now result }
     {
-        // Most are reply lines: their first byte or their length tells them from these two.
+        // Most lines are reply lines; their first byte or their length tells them apart from `have` and `sync`.
         if let Some((net, hop)) = read_after::<(IpNet, Hop)>(line, b"have ") {
             return Ok(Note::Have { net, hop });
         }

@@ -1,4 +1,4 @@
-//! What stands after the first word of a line: a word, or words with a space between each two.
+//! The text after the first word of a line: one word, or several words with a space between them.
 ghost use Rattle.std.specs.Prelude.{◌≡◌, ◌≢◌, ℕ, ◌<◌, ◌≤◌, List, ◌∷◌, ◌++◌, IfSome, IfNone};
 ghost use Rattle.route_lines.specs.Phrase.{IsUnspaced, IsDecimal, Then, After};
 ghost use Rattle.route_lines.specs.InnerPhrase.{Gives, IsFree};
@@ -11,7 +11,7 @@ use ipnet::{IpNet, Ipv4Net, Ipv6Net};
 use route_table::Hop;
 use std::marker::Model;
 
-// A text that is read as a whole.
+// Text that is read as a whole.
 pub(crate) trait Phrase: Copy {
     ghost spells: { List ℕ → Self → Type 0 };
 
@@ -19,7 +19,7 @@ pub(crate) trait Phrase: Copy {
         ensures { Gives spells s.now result };
 }
 
-// One without spaces.
+// Text without spaces.
 pub(crate) trait Word: Phrase {
     ghost free: { IsFree Self.spells };
 }
@@ -28,7 +28,7 @@ impl Phrase for IpNet {
     ghost spells = { IsNet };
 
     fn read(s: &[u8]) -> Option<IpNet> {
-        // an IPv6 network mostly has its first colon there
+        // the first colon of an IPv6 network is mostly here
         if s.get(4) == Some(&b':') {
             if let Ok(net) = Ipv6Net::parse_ascii(s) {
                 return Some(IpNet::V6(net.trunc()));
@@ -48,7 +48,7 @@ impl Word for IpNet {
     ghost free = { Free.net };
 }
 
-// The number from `low` to `high` whose decimal text this is, without leading zeros.
+// The number that this decimal text without leading zeros spells, if it is from `low` to `high`.
 fn read_decimal(s: &[u8], low: u64, high: u64) -> Option<u64>
     ensures { Gives (IsDecimal low high) s.now result }
 {
@@ -130,7 +130,7 @@ impl Word for Hop {
     ghost free = { Free.hop };
 }
 
-// What stands before and after the first space.
+// The texts before and after the first space.
 fn split_word(s: &[u8]) -> Option<(&[u8], &[u8])>
     ensures some { IfSome result (λ p. (s.now ≡ p.0.now ++ 32 ∷ p.1.now) × IsUnspaced p.0.now) }
     ensures none { IfNone result (IsUnspaced s.now) }
@@ -161,7 +161,7 @@ impl<A: Word, B: Phrase> Phrase for (A, B) {
     }
 }
 
-// A hop and a preference, or a hop alone.
+// A hop and a preference, or only a hop.
 #[derive(Clone, Copy)]
 pub(crate) struct Optional {
     pub(crate) hop: Hop,
@@ -196,7 +196,7 @@ impl Phrase for Optional {
     }
 }
 
-// What stands after the prefix.
+// The text after the prefix, or `None` if `s` doesn't begin with it.
 fn after<'a>(s: &'a [u8], prefix: &[u8]) -> Option<&'a [u8]>
     ensures some { IfSome result (λ rest. s.now ≡ prefix.now ++ rest.now) }
     ensures none { IfNone result ((rest : List ℕ) → s.now ≢ prefix.now ++ rest) }
@@ -214,8 +214,8 @@ fn after<'a>(s: &'a [u8], prefix: &[u8]) -> Option<&'a [u8]>
     Some(rest)
 }
 
-// The phrase after the prefix. (Two readers of lines call it for one type. Were it not inlined, nor the reader of two words, it would
-// hand the pair on through memory: five percent of what a follower takes.)
+// The phrase after the prefix. (Two readers of lines call it for one type. If it and the reader of two words weren't inlined, they
+// would pass the pair through memory, which costs five percent of a follower's time.)
 #[inline(always)]
 pub(crate) fn read_after<P: Phrase>(line: &[u8], prefix: &[u8]) -> Option<P>
     ensures { Gives (After prefix.now P.spells) line.now result }

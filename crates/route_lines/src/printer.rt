@@ -1,4 +1,4 @@
-//! The one text of each line. Each `push_` function appends a word, for which there must be room.
+//! The printed text of each line. Each `push_` function appends a word, for which there must be room.
 ghost use Rattle.std.specs.Prelude.{◌≡◌, ◌+◌, ◌≤◌, ◌++◌, length, codes};
 ghost use Rattle.arrayvec.specs.ArrayVec.{array_vec_len};
 ghost use Rattle.ipnet.specs.IpNetText.{net_text, Reads};
@@ -17,8 +17,8 @@ use itoa::{Buffer, Integer};
 use route_table::{DEFAULT_PREFERENCE, Hop};
 
 impl Command {
-    /// The one text of the command, with its line end, in which a preference of 100 is left out; it reads as this command.
-    /// Its network, if it has one, must have no host bits, and its limit must be 1 to 1000. Takes no memory.
+    /// Returns the text of the command, with its line end. A preference of 100 is omitted. The text reads as this command. The network, if
+    /// there is one, must have no host bits, and the limit must be 1 to 1000. Does not allocate.
     pub fn print(&self) -> ArrayVec<u8, 80>
         requires { IsPrintableCommand self.now }
         ensures { IsPrinted IsCommand command_text 65 self.now result.items }
@@ -28,7 +28,7 @@ impl Command {
         out
     }
 
-    /// Writes what `print` gives in the place of what `out` holds.
+    /// Replaces the contents of `out` with the result of `print`.
     pub fn print_to(&self, out: &mut ArrayVec<u8, 80>)
         requires { IsPrintableCommand self.now }
         ensures { IsPrinted IsCommand command_text 65 self.now out.new.items }
@@ -65,9 +65,9 @@ impl Command {
 }
 
 impl Reply {
-    /// The one text of the line, with its line end; it reads as this line. Its network, if it has one, must have no
-    /// host bits. Takes no memory.
-    pub fn print(&self) -> ArrayVec<u8, 67>
+    /// Returns the text of the line, with its line end; it reads as this line. The network, if there is one, must have no host bits. Does
+    /// not allocate.
+    pub fn print(&self) -> ArrayVec<u8, 80>
         requires { IsPrintable self.now }
         ensures { IsPrinted IsReply reply_text 67 self.now result.items }
     {
@@ -76,9 +76,10 @@ impl Reply {
         out
     }
 
-    /// Writes what `print` gives in the place of what `out` holds.
-    pub fn print_to(&self, out: &mut ArrayVec<u8, 67>)
-        requires { IsPrintable self.now }
+    /// Replaces the contents of `out`, which has room for 67 bytes, with the result of `print`.
+    pub fn print_to<const N: usize>(&self, out: &mut ArrayVec<u8, N>)
+        requires printable { IsPrintable self.now }
+        requires room { 67 ≤ N }
         ensures { IsPrinted IsReply reply_text 67 self.now out.new.items }
     {
         self.print_words(out);
@@ -86,7 +87,8 @@ impl Reply {
     }
 
     #[inline]
-    fn print_words(&self, out: &mut ArrayVec<u8, 67>)
+    fn print_words<const N: usize>(&self, out: &mut ArrayVec<u8, N>)
+        requires { 66 ≤ N }
         ensures { AreWords reply_text ReplyWords 66 self.now out.new.items }
     {
         out.clear();
@@ -117,8 +119,8 @@ impl Reply {
 }
 
 impl Update {
-    /// The one text of the line, with its line end; it reads as this line. Its network, if it has one, must have no
-    /// host bits. Takes no memory.
+    /// Returns the text of the line, with its line end; it reads as this line. The network, if there is one, must have no host bits. Does
+    /// not allocate.
     pub fn print(&self) -> ArrayVec<u8, 67>
         requires { IsPrintableUpdate self.now }
         ensures { IsPrinted IsUpdate update_text 63 self.now result.items }
@@ -128,7 +130,7 @@ impl Update {
         out
     }
 
-    /// Writes what `print` gives in the place of what `out` holds.
+    /// Replaces the contents of `out` with the result of `print`.
     pub fn print_to(&self, out: &mut ArrayVec<u8, 67>)
         requires { IsPrintableUpdate self.now }
         ensures { IsPrinted IsUpdate update_text 63 self.now out.new.items }
@@ -158,7 +160,7 @@ fn push_all<const N: usize>(out: &mut ArrayVec<u8, N>, bytes: &[u8])
     let _ = out.try_extend_from_slice(bytes);
 }
 
-// A word that ends with a space, and a network.
+// Appends a word that ends with a space, and a network.
 fn push_net_after<const N: usize>(out: &mut ArrayVec<u8, N>, word: &[u8], net: &IpNet)
     requires { array_vec_len out.old + length word.now + 43 ≤ N }
     ensures bytes { out.new.items ≡ out.old.items ++ word.now ++ net_text net.now }
@@ -169,7 +171,7 @@ fn push_net_after<const N: usize>(out: &mut ArrayVec<u8, N>, word: &[u8], net: &
     net.push_text(out);
 }
 
-// The same, and a number.
+// Appends a word that ends with a space, a network, a space and a number.
 fn push_numbered<I: Integer, const N: usize>(
     out: &mut ArrayVec<u8, N>,
     word: &[u8],
@@ -186,7 +188,7 @@ fn push_numbered<I: Integer, const N: usize>(
     push_number(out, number);
 }
 
-// The same, and a hop.
+// Appends a word that ends with a space, a network, a space and a hop.
 fn push_route<const N: usize>(out: &mut ArrayVec<u8, N>, word: &[u8], net: &IpNet, hop: Hop)
     requires { array_vec_len out.old + length word.now + 54 ≤ N }
     ensures bytes { out.new.items ≡ out.old.items ++ word.now ++ net_text net.now ++ codes " " ++ hop_text hop }
@@ -202,7 +204,7 @@ fn push_route<const N: usize>(out: &mut ArrayVec<u8, N>, word: &[u8], net: &IpNe
     }
 }
 
-// A number in decimal.
+// Appends a number in decimal.
 fn push_number<I: Integer, const N: usize>(out: &mut ArrayVec<u8, N>, n: I)
     requires { array_vec_len out.old + I.MAX_STR_LEN ≤ N }
     ensures bytes { out.new.items ≡ out.old.items ++ I.text n }
@@ -212,7 +214,7 @@ fn push_number<I: Integer, const N: usize>(out: &mut ArrayVec<u8, N>, n: I)
     push_all(out, buffer.format(n).as_bytes());
 }
 
-// What stands after a hop: a space and the preference, unless it is that of a hop alone.
+// Appends a space and the preference, unless it is the default preference.
 fn push_preference<const N: usize>(out: &mut ArrayVec<u8, N>, pref: u16)
     requires { array_vec_len out.old + 6 ≤ N }
     ensures bytes { out.new.items ≡ out.old.items ++ preference_text pref }

@@ -9,20 +9,20 @@ use crate::phrase::{Count, Number, Optional, read_after};
 use ipnet::IpNet;
 use route_table::Hop;
 
-/// One line of a reply.
+/// A line of a reply.
 #[derive(Clone, Copy, PartialEq, Eq)]
 pub enum Reply {
-    /// `set NET NUMBER`: the block's addresses go to this hop from now on.
+    /// `set NET NUMBER`: the addresses of the block have this hop from now on.
     Set {
         net: IpNet,
         number: u32,
     },
-    /// `unset NET`: the block's addresses have no hop from now on.
+    /// `unset NET`: the addresses of the block have no hop from now on.
     Unset {
         net: IpNet,
     },
-    /// `route NET HOP PREF`: a route of a stored network, its hop and its preference. In `route NET HOP`, which leaders
-    /// wrote when routes had no preferences, there is none.
+    /// `route NET HOP PREF`: a route of a stored network. In `route NET HOP`, which leaders wrote when routes had no preferences,
+    /// there is no preference.
     Route {
         net: IpNet,
         hop: Hop,
@@ -33,11 +33,11 @@ pub enum Reply {
         net: IpNet,
         number: u32,
     },
-    /// `own NET`: a block of the hop that was asked for.
+    /// `own NET`: a block of the hop that the command names.
     Own {
         net: IpNet,
     },
-    /// `count V4 V6`: how many networks of each family are stored.
+    /// `count V4 V6`: the number of stored networks of each family.
     Count {
         v4: u64,
         v6: u64,
@@ -51,11 +51,11 @@ pub enum Reply {
 pub enum Closing {
     /// `ok`: the command was carried out.
     Done,
-    /// `none`: there is no such network.
+    /// `none`: there is no such network or route.
     Missing,
-    /// `bad`: the line is no command.
+    /// `bad`: the line isn't a command.
     Bad,
-    /// `refused`: there was no memory for it, and nothing has changed.
+    /// `refused`: the network has eight other hops already, or memory ran out; nothing has changed.
     Refused,
 }
 
@@ -83,7 +83,7 @@ impl Closing {
         None
     }
 
-    /// The one text of the line, with its line end: what `Reply::print` gives of it.
+    /// Returns the text of the line, with its line end, as `Reply::print` does.
     pub fn line(self) -> &'static [u8]
         ensures text { result.now ≡ closing_text self ++ codes "\n" }
         ensures len { length result.now ≤ 8 }
@@ -98,10 +98,10 @@ impl Closing {
 }
 
 impl Reply {
-    /// The reply line that the text spells, without its line end. Host bits of its network are cleared. Takes no memory.
+    /// Reads a reply line from its text, without its line end. Host bits of its network are cleared. Does not allocate.
     ///
     /// # Errors
-    /// `NotALine` exactly where it spells none.
+    /// `NotALine` exactly if the text isn't a reply line.
     pub fn read(line: &[u8]) -> Result<Reply, NotALine>
         ensures { Parses IsReply line.now result }
     {

@@ -1,4 +1,4 @@
-//! The lines that an installer writes.
+//! The lines of an installer's output.
 ghost use Rattle.std.specs.Prelude.{◌≡◌};
 ghost use Rattle.std.specs.Net.Grammar.{Parses};
 ghost use Rattle.route_lines.specs.Texts.{IsUpdate, update_for};
@@ -8,22 +8,22 @@ use crate::phrase::read_after;
 use ipnet::IpNet;
 use route_table::{Hop, Operation};
 
-/// One line of what an installer writes: an operation on the installed table, or the end of a batch.
+/// A line of an installer's output: an operation on the installed table, or the end of a batch.
 #[derive(Clone, Copy, PartialEq, Eq)]
 pub enum Update {
-    /// `install NET HOP`: the route is added, in the place of any other of its network.
+    /// `install NET HOP`: adds the route, and replaces the network's old route if it has one.
     Install { net: IpNet, hop: Hop },
-    /// `remove NET`: the route of the network is taken out.
+    /// `remove NET`: removes the route of the network.
     Remove { net: IpNet },
     /// `ok`: the batch is complete.
     Done,
 }
 
 impl Update {
-    /// The line that the text spells, without its line end. Host bits of its network are cleared. Takes no memory.
+    /// Reads a line from its text, without its line end. Host bits of its network are cleared. Does not allocate.
     ///
     /// # Errors
-    /// `NotALine` exactly where it spells none.
+    /// `NotALine` exactly if the text isn't such a line.
     pub fn read(line: &[u8]) -> Result<Update, NotALine>
         ensures { Parses IsUpdate line.now result }
     {
@@ -40,7 +40,7 @@ impl Update {
     }
 }
 
-/// The line that tells the operation.
+/// The line of an operation.
 impl From<Operation> for Update {
     ghost from_gives = { λ operation update. update ≡ update_for operation };
 

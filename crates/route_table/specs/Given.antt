@@ -1,4 +1,4 @@
--- What several calls of a table give alike.
+-- Results that several calls of a table have in common.
 use Rattle.std.specs.Prelude.{◌≡◌, ◌+◌, ◌≤◌, List, [], ◌++◌, length, All, Result, IfOk, IsOk}
 use Rattle.ipnet_addr.specs.Addresses.{Family, Ipv4, Ipv6}
 use Rattle.ipnet_blocks.specs.Blocks.{Block}
@@ -12,13 +12,13 @@ use Rattle.route_laws.specs.Networks.{Stored, IsStoredTable}
 use Rattle.route_laws.specs.Operations.{Operation, between}
 use Rattle.route_laws.specs.Tables.{Route, IsTable, hop_at, route_of}
 
--- a table without networks was made
+-- the result is a table without networks
 pub record IsEmptied {E : Type 0} (result : Result (List Stored) E) : Type 0 where
   pub networks : IfOk result (λ t. t ≡ [])
   pub table : IfOk result IsStoredTable
   pub ok : IsOk result
 
--- these are the wanted ones of the routes of a table
+-- these are the wanted routes of a table
 pub record AreRoutes (M wanted rs : List Route) : Type 0 where
   pub routes : rs ≡ wanted
   pub table : IsTable M
@@ -30,13 +30,13 @@ pub record AreFamilies (M v4 v6 : List Route) : Type 0 where
   pub ipv4 : All (λ r. r.block.family ≡ Ipv4) v4
   pub ipv6 : All (λ r. r.block.family ≡ Ipv6) v6
 
--- the flat list of a table: none is shorter, and in each family it has at most one block and the lengths of the networks
+-- the flat list of a table: none is shorter, and in each family it has at most one block more than the lengths of the networks
 pub record IsFlatOf (M : List Route) (ps : List Piece) : Type 0 where
   pub flat : IsFlat (hop_at M) ps
   pub shortest : (bs : List Block) → IsAdmissible (hop_at M) bs → length ps ≤ length bs
   pub bound : (f : Family) → length (pieces_in f ps) ≤ 1 + lengths_in f M
   pub table : IsTable M
 
--- the operations that give all addresses of the network the hop
+-- the operations that give all addresses of the network this hop
 abbrev pub repainted : List Route → IpNet → Hop → List Operation
 repainted M net hop = between M (painted M (route_of net hop default_preference))

@@ -1,4 +1,4 @@
--- The families that the code names.
+-- The address families of the code.
 use Rattle.ipnet_addr.specs.Addresses.{Family, Ipv4, Ipv6}
 use Rattle.route_table.specs.declared.address_family.AddressFamily.{AddressFamily}
 use Rattle.route_table.specs.declared.address_family.AddressFamily.TheVariants.{V4, V6}

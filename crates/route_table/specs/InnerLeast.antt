@@ -16,34 +16,34 @@ use Rattle.route_laws.specs.Flats.{Piece}
 use Rattle.route_laws.specs.LeastTables.{IsLeast, routes_for}
 use Rattle.route_laws.specs.Tables.{Route, IsTable}
 
--- a route by the bits that its addresses begin with
+-- a route as the bits of its block, and its hop
 abbrev pub entry_of : Route → List Bool × Option ℕ
 entry_of r = (bit_string r.block, number_of r.hop)
 
 abbrev pub entries_of : List Route → List (List Bool × Option ℕ)
 entries_of N = map entry_of N
 
--- the address of a family whose bits are given, and its hop
+-- the address of a family with these bits, and its hop
 abbrev pub address_at : Family → List Bool → Address
 address_at f s = record { family = f; number = number_from (width f) s }
 
 abbrev pub hops_of : Family → (Address → Option ℕ) → List Bool → Option ℕ
 hops_of f h s = h (address_at f s)
 
--- the pieces of one family, by their bits
+-- the pieces of one family, as bit strings
 abbrev pub pieces_of : Family → List Piece → List (List Bool × ℕ)
 pieces_of f ps = map (λ p. (bit_string p.block, p.number)) (filter (λ p. same_family p.block.family f) ps)
 
--- the pieces that a plan of one family has taken
+-- the pieces that were added to a plan of one family
 abbrev pub IsPlanned : Family → Planner Network → List (List Bool × ℕ) → Type 0
 IsPlanned f = HasPlanned (width f)
 
--- disjoint pieces with the hops of a family's addresses
+-- disjoint pieces that have the hops of a family's addresses
 pub record ArePieces (f : Family) (h : Address → Option ℕ) (ps : List (List Bool × ℕ)) : Type 0 where
   pub disjoint : AreDisjoint ps
   pub same : (s : List Bool) → length s ≡ width f → hop_at ps s ≡ hops_of f h s
 
--- networks of one family as those of either, each with its hop
+-- networks of one family as networks of either family, each with its hop
 abbrev pub items_of : Family → {P : Type 0} → (P → Network) → List (P × Option ℕ) → List (IpNet × Hop)
 items_of f parts_in table = map (λ r. (net_in f (parts_in r.0), hop_from r.1)) table
 
@@ -54,7 +54,7 @@ pub record AreLeast (f : Family) (ps : List (List Bool × ℕ)) (rs : List (IpNe
   pub truncated : All (λ r. IsTruncated (family r.0) (parts r.0)) rs
   pub least : bits.IsLeast (width f) (hop_at ps) (entries_of (routes_for rs))
 
--- routes of both families that are a least table for any hops that the pieces of both have
+-- routes of both families that are a least table for the hops of the pieces of both
 pub record AreLeastOf (ps qs : List (List Bool × ℕ)) (rs : List (IpNet × Hop)) : Type 0 where
   pub least : (h : Address → Option ℕ) → ArePieces Ipv4 h ps → ArePieces Ipv6 h qs → IsLeast h (routes_for rs)
   pub truncated : All (λ r. IsTruncated (family r.0) (parts r.0)) rs

@@ -1,15 +1,15 @@
--- What a route of one family reaches, and the runs of one hop number, as numbers.
+-- The addresses of a route of one family, and the runs of one hop number, as numbers.
 use Rattle.std.specs.Prelude.{ℕ, Option}
 use Rattle.ipnet_blocks.specs.declared.aggregate.Span.{Span}
 
--- the numbers of a route's addresses, its length, and the number of its hop
+-- the span of a route's addresses, its length, and the number of its hop
 pub record Reach : Type 0 where
   pub first : ℕ
   pub last : ℕ
   pub len : ℕ
   pub number : Option ℕ
 
--- the numbers of a span have one hop number
+-- a span whose addresses have one hop number
 pub record Run : Type 0 where
   pub span : Span
   pub number : ℕ

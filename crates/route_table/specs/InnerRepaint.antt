@@ -1,4 +1,4 @@
--- What is left of the operations of a change.
+-- The remaining operations of a change.
 use Rattle.std.specs.Prelude.{◌≡◌, Bool, false, List, [], ◌∷◌, ◌++◌, Option, None, Some, MatchOption}
 use Rattle.ipnet_blocks.specs.Blocks.{Block, same_block}
 use Rattle.ipnet.specs.IpNets.{block, network_at}
@@ -24,19 +24,19 @@ abbrev pub is_kept : Option IpNet → Block → Bool
 is_kept None b = false
 is_kept (Some n) b = same_block b (block n)
 
--- the operations to remove that are left
+-- the removals that are left
 abbrev pub inside_left : Inside → List Operation
 inside_left a = removes (but_for a.stays a.routes)
 
--- all that are left
+-- all operations that are left
 abbrev pub repaint_left : Option (IpNet × Hop) → Inside → List Operation
 repaint_left install inside = installs (to_install install) ++ inside_left inside
 
--- a network without host bits, if there is one
+-- a network without host bits, or none
 abbrev pub IsPlain : Option IpNet → Type 0
 IsPlain o = MatchOption o (Unit {0}) (λ n. n ≡ network_at (block n))
 
--- the networks of both are without host bits
+-- both networks have no host bits
 pub record ArePlain (install : Option (IpNet × Hop)) (inside : Inside) : Type 0 where
   pub installed : MatchOption install (Unit {0}) (λ p. p.0 ≡ network_at (block p.0))
   pub stays : IsPlain inside.stays

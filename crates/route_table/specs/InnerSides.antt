@@ -1,4 +1,4 @@
--- One side of a table, and as it is stored: a finite map from the bit strings of one family to the choices of networks.
+-- One side of a table, and how it is stored: a finite map from the bit strings of one family to the choices of networks.
 use Rattle.std.specs.Prelude.{◌≡◌, ◌≤◌, Bool, List, [], Some, length, map, All}
 use Rattle.std.specs.FinMap.{get, entries}
 use Rattle.ipnet_addr.specs.Addresses.{Family, width}
@@ -14,7 +14,7 @@ pub record IsSide (f : Family) (T : List Stored) : Type 0 where
   pub table : IsStoredTable T
   pub family : All (λ s. s.block.family ≡ f) T
 
--- the block of a family whose bit string is given
+-- the block of a family with this bit string
 abbrev pub block_at : Family → List Bool → Block
 block_at f s = record { family = f; len = length s; quotient = number_from (length s) s }
 

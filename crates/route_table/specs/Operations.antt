@@ -1,4 +1,4 @@
--- The operations between two tables, as they are given.
+-- The operations between two tables, as calls return them.
 use Rattle.std.specs.Prelude.{◌≡◌, List, [], ◌∷◌, Option, MatchOption}
 use Rattle.ipnet.specs.IpNets.{block, network_at}
 use Rattle.ipnet.specs.declared.ip_net.IpNet.{IpNet}
@@ -8,16 +8,16 @@ use Rattle.route_laws.specs.Tables.{route_of}
 use Rattle.route_table.specs.declared.between.Operation as Given
 use Rattle.route_table.specs.declared.between.Operation.TheVariants as One
 
--- a route that is installed has the default preference
+-- an operation, where an installed route has the default preference
 abbrev pub operation_of : Given.Operation → Operation
 operation_of (One.Install net hop) = Install (route_of net hop default_preference)
 operation_of (One.Remove net) = Remove (block net)
 
--- its network
+-- the network of an operation
 abbrev pub network_of : Given.Operation → IpNet
 network_of (One.Install net hop) = net
 network_of (One.Remove net) = net
 
--- the first operation was given, its network without host bits; or none was left
+-- the first operation was returned, its network without host bits, or none was left
 abbrev pub GivesOperation : List Operation → Option Given.Operation → List Operation → Type 0
 GivesOperation os item left = MatchOption item ((os ≡ []) × (left ≡ [])) (λ o. (os ≡ operation_of o ∷ left) × (network_of o ≡ network_at (block (network_of o))))

@@ -7,6 +7,6 @@ use Rattle.trie_core.specs.Nodes.{BitMap}
 use Rattle.route_choices.specs.Choices.{Choice}
 use Rattle.route_laws.specs.Networks.{Stored}
 
--- the networks of a family, each with its choices at its bit string
+-- the networks of a family: each one's choices at its bit string
 unfoldable pub map_of : Family → List Stored → BitMap (List Choice)
 map_of f T = from_entries (map (λ s. (bit_string s.block, s.choices)) (filter (λ s. same_family s.block.family f) T))

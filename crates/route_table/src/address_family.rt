@@ -1,11 +1,11 @@
-//! The families of addresses.
+//! Address families.
 ghost use Rattle.std.specs.Prelude.{◌≡◌};
 ghost use Rattle.ipnet.specs.IpNets.{family};
 ghost use Rattle.route_table.specs.InnerFamilies.{family_of};
 
 use ipnet::IpNet;
 
-/// A family of addresses.
+/// An address family.
 #[derive(Clone, Copy)]
 pub(crate) enum AddressFamily {
     V4,

@@ -1,4 +1,4 @@
-//! The operations between two tables.
+//! The operations that turn one table into another.
 ghost use Rattle.std.specs.Prelude.{◌≡◌, ◌++◌, All};
 ghost use Rattle.std.specs.Iterator.{item_count};
 ghost use Rattle.ipnet_blocks.specs.Blocks.{Block, IsBefore, IsBlock};
@@ -21,16 +21,16 @@ use route_choices::{DEFAULT_PREFERENCE, Hop};
 use std::cmp::Ordering;
 use std::marker::Model;
 
-/// An operation on a table that is installed elsewhere.
+/// An operation on a table that is installed elsewhere, such as a kernel's.
 #[derive(Clone, Copy, Debug, PartialEq, Eq)]
 pub enum Operation {
-    /// A route is added, in the place of any other of its network.
+    /// Adds a route, and replaces the network's old route if it has one.
     Install { net: IpNet, hop: Hop },
-    /// The route of a network is taken out.
+    /// Removes the route of a network.
     Remove { net: IpNet },
 }
 
-/// The routes to install that are left: the last of the list first, without those that the table has.
+/// The routes that are left to install: the last of the list first, without those that the table has.
 #[derive(Drop)]
 pub(crate) struct Installs<'a> {
     table: &'a HopTable,
@@ -38,7 +38,7 @@ pub(crate) struct Installs<'a> {
 }
 
 impl<'a> Installs<'a> {
-    /// The next route to install.
+    /// Returns the next route to install.
     fn next(&mut self) -> Option<(IpNet, Hop)>
         requires { AreComing self.old.coming.now }
         ensures coming { AreComing self.new.coming.now }
@@ -54,7 +54,7 @@ impl<'a> Installs<'a> {
     }
 }
 
-/// The networks to remove that are left: those of the routes, ascending, without those of the list.
+/// The networks that are left to remove: those of the table, ascending, without those of the list.
 #[derive(Drop)]
 pub(crate) struct Removes<'a> {
     coming: &'a [(IpNet, Hop)],
@@ -63,7 +63,7 @@ pub(crate) struct Removes<'a> {
 }
 
 impl<'a> Removes<'a> {
-    /// The next route.
+    /// Returns the next route of the table.
     fn route(&mut self) -> Option<(IpNet, Hop, u16)>
         ensures coming { self.new.coming ≡ self.old.coming }
         ensures gives { GivesRoute (routes_left self.old) result (routes_left self.new) }
@@ -74,7 +74,7 @@ impl<'a> Removes<'a> {
         }
     }
 
-    /// Whether the list has the network. What comes before it is passed over.
+    /// Whether the list has the network. Drops all networks of the list that come before it.
     fn passes_to(&mut self, net: &IpNet) -> bool
         requires coming { AreComing self.old.coming.now }
         requires truncated { net.now ≡ network_at (block net.now) }
@@ -95,7 +95,7 @@ impl<'a> Removes<'a> {
         false
     }
 
-    /// The next network to remove.
+    /// Returns the next network to remove.
     fn next(&mut self) -> Option<IpNet>
         requires { AreRemoves self.old }
         ensures removes { AreRemoves self.new }
@@ -110,7 +110,7 @@ impl<'a> Removes<'a> {
     }
 }
 
-/// The operations between two tables that are left. It takes no memory.
+/// An iterator over the operations between two tables. Does not allocate.
 #[derive(Drop)]
 pub struct Between<'a> {
     installs: Installs<'a>,
@@ -146,15 +146,15 @@ impl<'a> Iterator for Between<'a> {
 }
 
 impl HopTable {
-    /// The operations that make the table of the list of this one: first the routes of the list that this one doesn't
-    /// have are installed, the last of them first, then the networks that the list doesn't have are removed, ascending.
-    /// No others are fewer, and on the way each address turns at most once, from its hop here to its hop there
-    /// (`laws::between`). It takes no memory.
+    /// Returns the operations that turn this table into the table of the list. First they install the routes of the list that this table
+    /// lacks, from the last to the first. Then they remove the networks that the list lacks, in ascending order. No shorter sequence of
+    /// operations does it. On the way each address changes its hop at most once, from its hop here to its hop there
+    /// (`laws::between`). Does not allocate.
     ///
-    /// The list is ascending, its networks are without host bits, and none stands in it twice, as `least` gives it.
+    /// The list is ascending, has each network once, and its networks have no host bits, as in the result of `least`.
     ///
-    /// Where this one has the hop 1 at 10.0.0.0/8 and the hop 2 at 10.0.0.0/9, and the list the hop 2 at 10.0.0.0/8 and the
-    /// hop 1 at 10.64.0.0/10, they install 10.64.0.0/10, install 10.0.0.0/8 and remove 10.0.0.0/9.
+    /// For example, this table has the hop 1 at 10.0.0.0/8 and the hop 2 at 10.0.0.0/9. The list has the hop 2 at 10.0.0.0/8 and the hop 1
+    /// at 10.64.0.0/10. The operations install 10.64.0.0/10, install 10.0.0.0/8 and remove 10.0.0.0/9.
     pub fn between<'a>(&'a self, list: &'a [(IpNet, Hop)]) -> Between<'a>
         requires table { IsTable (routes_for list.now) }
         requires truncated { All (λ r. IsTruncated (family r.0) (parts r.0)) list.now }
@@ -175,7 +175,7 @@ impl HopTable {
         }
     }
 
-    /// Whether the table has just this route, with the default preference.
+    /// Whether the table has exactly this route, with the default preference.
     pub(crate) fn holds(&self, net: &IpNet, hop: Hop) -> bool
         requires block { IsBlock (block net.now) }
         requires truncated { net.now ≡ network_at (block net.now) }

@@ -9,22 +9,22 @@ ghost use Rattle.trie_core.specs.Bits.{number_from};
 use ipnet::{IpNet, Ipv4Net, Ipv6Net};
 use prefix_trie::Prefix;
 
-/// The networks of one family, as the keys of a trie.
+/// The networks of one family, as keys of a trie.
 pub(crate) trait OfFamily: Prefix + Copy + Drop {
     ghost family: { Family };
 
-    /// The number of its address, and its length.
+    /// The number of a network's address, and its length.
     ghost parts: { Self → Network };
 
-    /// The same network among those of either family.
+    /// Returns the same network as one of either family.
     fn ip_net(self) -> IpNet
         ensures { result ≡ net_in family (parts self) };
 
-    /// The number of its least address.
+    /// Returns the number of the network's least address.
     fn first_key(self) -> Self::R
         ensures { Self.R.number result ≡ first (block_of family (parts self)) };
 
-    /// The number of its greatest address.
+    /// Returns the number of the network's greatest address.
     fn last_key(self) -> Self::R
         ensures { Self.R.number result ≡ last (block_of family (parts self)) };
 

@@ -1,4 +1,4 @@
-//! The flat list of a table: the shortest list of blocks of one hop.
+//! The flat list of a table: the shortest list of one-hop blocks that covers all addresses with a hop.
 ghost use Rattle.std.specs.Prelude.{◌≡◌, ◌+◌, ◌++◌, [], List};
 ghost use Rattle.std.specs.Iterator.{item_count};
 ghost use Rattle.route_laws.specs.Flats.{IsFlat};
@@ -16,7 +16,7 @@ use crate::table::RouteTable;
 use ipnet::{IpNet, IpSubnets, Ipv4Net, Ipv6Net};
 use std::marker::Model;
 
-/// The blocks that are left of a run, and its number.
+/// The blocks that are left of a run, and the number of their hop.
 #[derive(Drop)]
 pub(crate) struct Pieces {
     blocks: IpSubnets,
@@ -24,7 +24,7 @@ pub(crate) struct Pieces {
 }
 
 impl Pieces {
-    /// No blocks.
+    /// An empty run.
     fn none() -> Pieces
         ensures { pieces_of result ≡ [] }
     {
@@ -34,7 +34,7 @@ impl Pieces {
         }
     }
 
-    /// The first block, with the number.
+    /// Removes and returns the first block, with the number.
     pub(crate) fn next(&mut self) -> Option<(IpNet, u32)>
         ensures { GivesPiece (pieces_of self.old) result (pieces_of self.new) }
     {
@@ -54,7 +54,7 @@ pub(crate) struct BothRuns<'a> {
 }
 
 impl<'a> BothRuns<'a> {
-    /// The blocks of the next run.
+    /// Returns the blocks of the next run.
     fn next(&mut self) -> Option<Pieces>
         requires { AreBoth self.old }
         ensures both { AreBoth self.new }
@@ -76,8 +76,8 @@ impl<'a> BothRuns<'a> {
     }
 }
 
-/// The blocks of one hop that lie in no larger one, as networks without host bits, each with the number of its hop,
-/// ascending. It takes no memory.
+/// The maximal blocks of the addresses of each hop, as networks without host bits, each with its hop number, ascending. Does not
+/// allocate.
 #[derive(Drop)]
 pub struct Flat<'a> {
     pub(crate) pieces: Pieces,
@@ -97,7 +97,7 @@ impl<'a> Model for Flat<'a> {
 }
 
 impl<'a> Flat<'a> {
-    /// The flat list of a table: of its IPv4 routes and of its IPv6 routes, each ascending.
+    /// The flat list of a table with these IPv4 and IPv6 routes, each ascending.
     pub(crate) fn new(v4: SideRoutes<'a, Ipv4Net>, v6: SideRoutes<'a, Ipv6Net>) -> Flat<'a>
         requires { AreFamilies (v4 ++ v6) v4 v6 }
         ensures { IsFlat (hop_at (v4.entry ++ v6.entry)) result }
@@ -129,12 +129,12 @@ impl<'a> Iterator for Flat<'a> {
 }
 
 impl RouteTable {
-    /// The maximal blocks of the addresses of each hop number, each with that number, ascending, IPv4 before IPv6. No
-    /// list of blocks of one hop that covers all addresses with a hop is shorter, and in each family there are at most
-    /// one and the sum of the lengths of the stored networks. It takes no memory.
+    /// Returns the maximal blocks of the addresses of each hop, each with its hop number, ascending, IPv4 before IPv6. No list of
+    /// one-hop blocks that covers all addresses with a hop is shorter. In each family, there is at most one block more than the sum of
+    /// the lengths of the stored networks. Does not allocate.
     ///
     /// # Examples
-    /// Where 10.0.0.0/8 has the hop 1, and `half`, 10.0.0.0/9, the hop 2:
+    /// If 10.0.0.0/8 has the hop 1, and `half`, 10.0.0.0/9, the hop 2:
     ///
     /// ```rust
     /// let mut flat = table.flat();

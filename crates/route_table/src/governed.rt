@@ -1,4 +1,4 @@
-//! The addresses that a network governs: those of it that lie in no stored network strictly inside it.
+//! The addresses that a network governs: those that no longer stored network inside it contains.
 ghost use Rattle.std.specs.Prelude.{◌≡◌, ℕ, ◌<◌, ◌≤◌, ◌^◌, ◌++◌, All, [], true};
 ghost use Rattle.std.specs.Iterator.{item_count};
 ghost use Rattle.ipnet_addr.specs.Addresses.{width};
@@ -60,14 +60,14 @@ pub(crate) fn blocks(family: AddressFamily, span: Span) -> IpSubnets
     }
 }
 
-/// No blocks.
+/// An iterator without blocks.
 pub(crate) fn no_blocks() -> IpSubnets
     ensures { ip_cut result ≡ [] }
 {
     IpSubnets::V4(Ipv4Subnets::new(ipv4_of(1), ipv4_of(0), 0))
 }
 
-/// The gaps between the routes strictly inside a network, from one of its addresses on.
+/// The gaps between the routes strictly inside a network, from the address `at` on.
 #[derive(Drop)]
 pub(crate) struct Gaps<'a> {
     net: IpNet,
@@ -77,7 +77,7 @@ pub(crate) struct Gaps<'a> {
     inside: Routes<'a>,
 }
 
-/// What the next route makes of the gaps.
+/// The effect of the next route on the gaps.
 enum Step {
     Gap(Span),
     Passed,
@@ -85,7 +85,7 @@ enum Step {
 }
 
 impl<'a> Gaps<'a> {
-    /// Goes past a route.
+    /// Moves past a route that ends at `last`.
     fn pass(&mut self, last: u128)
         ensures net { self.new.net ≡ self.old.net }
         ensures end { self.new.end ≡ self.old.end }
@@ -99,7 +99,7 @@ impl<'a> Gaps<'a> {
         }
     }
 
-    /// Ends the gaps.
+    /// Marks the gaps as done.
     fn finish(&mut self)
         ensures net { self.new.net ≡ self.old.net }
         ensures end { self.new.end ≡ self.old.end }
@@ -110,7 +110,7 @@ impl<'a> Gaps<'a> {
         self.done = true;
     }
 
-    /// Looks at the next route.
+    /// Handles the next route.
     fn step(&mut self) -> Step
         requires { AreGaps self.old }
         ensures gaps { AreGaps self.new }
@@ -144,7 +144,7 @@ impl<'a> Gaps<'a> {
         }
     }
 
-    /// The next gap.
+    /// Returns the next gap.
     fn next(&mut self) -> Option<Span>
         requires { AreGaps self.old }
         ensures gaps { AreGaps self.new }
@@ -162,7 +162,7 @@ impl<'a> Gaps<'a> {
     }
 }
 
-/// The maximal blocks of what a network governs, ascending, as networks without host bits. It takes no memory.
+/// The maximal blocks of the addresses that a network governs, ascending, as networks without host bits. Does not allocate.
 #[derive(Drop)]
 pub struct Governed<'a> {
     gaps: Gaps<'a>,
@@ -182,7 +182,7 @@ impl<'a> Model for Governed<'a> {
 }
 
 impl<'a> Governed<'a> {
-    /// What the network governs, by the routes that lie inside it. Those of a table that lie elsewhere don't count.
+    /// Makes the list of a network, given all routes inside it.
     pub fn new(net: IpNet, inside: Routes<'a>) -> Governed<'a>
         requires block { IsBlock (block net) }
         requires table { IsTable inside }

@@ -1,4 +1,4 @@
-//! The addresses of one hop that stand in a row, without the blocks that they are cut into.
+//! Runs: adjacent addresses of one hop, not cut into blocks.
 ghost use Rattle.std.specs.Prelude.{◌∷◌, List};
 ghost use Rattle.ipnet.specs.IpNets.{block};
 ghost use Rattle.route_laws.specs.Flats.{Piece, flat_of};
@@ -9,8 +9,8 @@ use crate::family::OfFamily;
 use crate::flat::{BothRuns, Flat};
 use ipnet::IpNet;
 
-/// Addresses of one family in a row that have one hop: the numbers of the first and of the last, as `to_bits` of an address
-/// gives them, and the number of the hop.
+/// Adjacent addresses of one family that have one hop: the number of the first and of the last address, as `to_bits` of an address
+/// returns it, and the number of the hop.
 #[derive(Clone, Copy, Debug, PartialEq, Eq)]
 pub enum HopRun {
     V4(u32, u32, u32),
@@ -18,7 +18,7 @@ pub enum HopRun {
 }
 
 impl HopRun {
-    /// The addresses of a network.
+    /// The run of a network's addresses.
     fn of_net(net: &IpNet, number: u32) -> HopRun
         ensures { (left : List Piece) → BeginsWithRun (record { block = block net.now; number = number } ∷ left) result left }
     {
@@ -30,7 +30,7 @@ impl HopRun {
 }
 
 impl<'a> BothRuns<'a> {
-    /// The next run, with its addresses.
+    /// Returns the addresses of the next run.
     fn next_run(&mut self) -> Option<HopRun>
         requires { AreBoth self.old }
         ensures both { AreBoth self.new }
@@ -51,8 +51,8 @@ impl<'a> BothRuns<'a> {
 }
 
 impl<'a> Flat<'a> {
-    /// Goes past the blocks that come next, have one hop and stand in a row, and gives their addresses as one run, where
-    /// `next` gives block by block. Of a run that `next` has given a block of, the others come block by block.
+    /// Returns the addresses of the next blocks that are adjacent and have one hop, as one run, and skips these blocks. If `next` has
+    /// returned a block of the run before, the rest of this run is returned block by block.
     pub fn next_run(&mut self) -> Option<HopRun>
         ensures { GivesHopRun self.old result self.new }
     {

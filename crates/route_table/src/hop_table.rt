@@ -1,4 +1,4 @@
-//! A table with one route a network.
+//! A table with one route for each network.
 ghost use Rattle.std.specs.Prelude.{◌≡◌, [], IfErr, IfOk, OnErr, OnOk};
 ghost use Rattle.ipnet_blocks.specs.Blocks.{IsBlock};
 ghost use Rattle.ipnet.specs.IpNets.{block};
@@ -17,28 +17,28 @@ use prefix_trie::Refused;
 use route_choices::{DEFAULT_PREFERENCE, Hop};
 use std::alloc::{AllocError, Global};
 
-/// A hop for each of some networks of both families, as a follower keeps them. A network takes less than a quarter of
-/// the memory that it takes in a `RouteTable`, which has room for eight routes of it.
+/// A table with one hop for each stored network, of both families. A network takes less than a quarter of the memory that it takes in a
+/// `RouteTable`, which has room for eight routes.
 ///
-/// Contracts see the list that they see of a `RouteTable`; each network has one route. Only `from_routes`, `least`,
-/// `into_least`, and `install`, `overwrite` and `paint` of a network that is not stored, take memory. It is `Send` and `Sync`.
+/// Contracts see the same list as for a `RouteTable`; each network has one route. Only `from_routes`, `least` and `into_least` allocate,
+/// and `install`, `overwrite` and `paint` of a network that isn't stored. A table is `Send` and `Sync`.
 pub type HopTable = Table<1>;
 
 impl HopTable {
-    /// The table without networks.
+    /// Makes a table without networks.
     ///
     /// # Errors
-    /// None: the `Result` is for the tables that need memory at once.
+    /// None. The `Result` leaves room for an implementation that allocates here.
     pub fn new(alloc: Global) -> Result<HopTable, Refused>
         ensures { IsEmptied result }
     {
         Table::empty(alloc)
     }
 
-    /// The table of these routes, an ascending list with each network once, as `least` gives it.
+    /// Makes the table of these routes, an ascending list that has each network once, such as the result of `least`.
     ///
     /// # Errors
-    /// `Memory` where there is none for the table.
+    /// `Memory` if an allocation fails.
     pub fn from_routes(alloc: Global, list: &[(IpNet, Hop)]) -> Result<HopTable, Refused>
         requires { IsTable (routes_for list.now) }
         ensures routes { IfOk result (λ t. routes_of t ≡ routes_for list.now) }
@@ -52,12 +52,10 @@ impl HopTable {
         Ok(table)
     }
 
-    /// Stores this route, with preference 100, in the place of the one that the network has. The routes inside the
-    /// network stay.
+    /// Stores the network's route, with preference 100, and replaces its old route. The routes inside the network are unchanged.
     ///
     /// # Errors
-    /// `Memory` where there is none for a network that is not stored. The table is as it was. A stored network is
-    /// never refused.
+    /// `Memory` if the network isn't stored and an allocation fails. The table is unchanged. For a stored network it never fails.
     pub fn install(&mut self, net: IpNet, hop: Hop) -> Result<(), Refused>
         ensures routes { OnOk result (routes_of self.new ≡ with_route (routes_of self.old) (route_of net hop default_preference)) }
         ensures tables { IsStoredTable self.old × IsStoredTable self.new }
@@ -80,7 +78,7 @@ impl HopTable {
         }
     }
 
-    /// The flat list of its hops, as `RouteTable::flat` gives it. It takes no memory.
+    /// Returns the flat list of the table's hops, as `RouteTable::flat` does. Does not allocate.
     pub fn flat(&self) -> Flat<'_>
         ensures { IsFlatOf (routes_of self.now) result }
     {
@@ -88,10 +86,10 @@ impl HopTable {
         Flat::new(v4, v6)
     }
 
-    /// The flat list of its hops. The memory of each part of the table is given back once it is walked.
+    /// Returns the flat list of the table's hops. The memory of each part of the table is freed after the walk over it.
     ///
     /// # Errors
-    /// Where there is no memory for the walk.
+    /// `AllocError` if an allocation for the walk fails.
     pub(crate) fn into_flat<'a>(self) -> Result<Flat<'a>, AllocError>
         ensures { IfOk result (λ flat. IsFlatOf (routes_of self) flat) }
     {

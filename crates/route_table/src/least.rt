@@ -1,4 +1,4 @@
-//! The least table with the hops of a table.
+//! The least table: the fewest routes with the hops of a table.
 ghost use Rattle.std.specs.Prelude.{◌≡◌, ◌++◌, ℕ, All, Bool, IfErr, IfOk, List, Option};
 ghost use Rattle.std.specs.Iterator.{YieldsFirst, item_count};
 ghost use Rattle.ipnet_addr.specs.Addresses.{Address, Ipv4, Ipv6};
@@ -24,7 +24,7 @@ use route_choices::Hop;
 use std::alloc::{AllocError, Global};
 use std::marker::Model;
 
-/// The hop of a number, or nowhere.
+/// The hop of a number, or `drop` for none.
 fn hop_of(number: Option<u32>) -> Hop
     ensures value { result ≡ hop_from number }
     ensures in_range { IsHop result }
@@ -35,8 +35,8 @@ fn hop_of(number: Option<u32>) -> Hop
     }
 }
 
-/// The routes that are left of a least table, ascending: the network of each, without host bits, and its hop. A list of
-/// such pairs takes 64 bytes for each route; here one of IPv4 takes 16, and one of IPv6 48.
+/// An iterator over the routes of a least table, ascending: each network, without host bits, and its hop. An IPv4 route takes 16 bytes
+/// here and an IPv6 route 48, while in a list of such pairs a route takes 64.
 #[derive(Drop)]
 pub struct LeastRoutes {
     v4: Routes<Ipv4Net>,
@@ -63,7 +63,7 @@ impl LeastRoutes {
         LeastRoutes { v4, v6 }
     }
 
-    /// The same as a list.
+    /// The routes as a list.
     fn list(self, alloc: Global) -> Result<Vec<(IpNet, Hop)>, AllocError>
         ensures { IfOk result (λ routes. routes.items ≡ self) }
     {
@@ -91,7 +91,7 @@ impl Iterator for LeastRoutes {
     }
 }
 
-/// The routes of a least table of one family that has the hops of the pieces that were planned.
+/// The routes of a least table of one family with the hops of the planned pieces.
 fn fewest<P: OfFamily>(plan: Planner<P>) -> Result<Routes<P>, AllocError>
     requires { (ps : List (List Bool × ℕ)) × HasPlanned P.R.width plan ps }
     ensures { IfOk result (λ table. (ps : List (List Bool × ℕ)) → HasPlanned P.R.width plan ps → AreLeast P.family ps (items_of P.family P.parts table)) }
@@ -99,7 +99,7 @@ fn fewest<P: OfFamily>(plan: Planner<P>) -> Result<Routes<P>, AllocError>
     plan.into_routes()
 }
 
-/// Plans of the flat list, by family.
+/// The plans of a flat list, one for each family.
 fn plans(alloc: Global, flat: Flat<'_>) -> Result<(Planner<Ipv4Net>, Planner<Ipv6Net>), AllocError>
     requires { (h : Address → Option ℕ) × IsFlat h flat }
     ensures ipv4 { IfOk result (λ p. IsPlanned Ipv4 p.0 (pieces_of Ipv4 flat.entry)) }
@@ -129,7 +129,7 @@ fn least_routes(alloc: Global, flat: Flat<'_>) -> Result<LeastRoutes, Refused>
     Ok(LeastRoutes::new(ipv4, ipv6))
 }
 
-/// The same as a list.
+/// The routes of a least table with the hops of this flat list, as a list.
 fn least_of(alloc: Global, flat: Flat<'_>) -> Result<Vec<(IpNet, Hop)>, Refused>
     requires { (h : Address → Option ℕ) × IsFlat h flat }
     ensures least { IfOk result (λ routes. (h : Address → Option ℕ) → IsFlat h flat.entry → IsLeast h (routes_for routes.items)) }
@@ -141,14 +141,15 @@ fn least_of(alloc: Global, flat: Flat<'_>) -> Result<Vec<(IpNet, Hop)>, Refused>
 }
 
 impl RouteTable {
-    /// The routes of a table with the same hop at every address and the fewest routes of all tables that have it,
-    /// nested ones and `drop` included; ascending, as networks without host bits. Which of several such tables is open.
+    /// Returns the routes of a smallest equivalent table: each address has the same hop, and no such table has fewer routes. The routes
+    /// may be nested, and `drop` counts as one. They are ascending, and their networks have no host bits. If there are several smallest
+    /// tables, any of them may be returned.
     ///
     /// # Errors
-    /// `Memory` where there is none for the list, or on the way to it.
+    /// `Memory` if an allocation fails, for the list or for the computation.
     ///
     /// # Examples
-    /// Where `quarter`, 10.0.0.0/10, has the hop 2, and the rest of `whole`, 10.0.0.0/8, the hop 1, by two routes:
+    /// If `quarter`, 10.0.0.0/10, has the hop 2, and two routes give the rest of `whole`, 10.0.0.0/8, the hop 1:
     ///
     /// ```rust
     /// let least = table.least().expect(&rt, "a least table");
@@ -165,11 +166,10 @@ impl RouteTable {
 }
 
 impl HopTable {
-    /// The routes of a table with the same hop at every address and the fewest routes of all tables that have it,
-    /// as `RouteTable::least` gives them.
+    /// Returns the routes of a smallest equivalent table, as `RouteTable::least` does.
     ///
     /// # Errors
-    /// `Memory` where there is none for the list, or on the way to it.
+    /// `Memory` if an allocation fails, for the list or for the computation.
     pub fn least(&self) -> Result<Vec<(IpNet, Hop)>, Refused>
         ensures least { IfOk result (λ routes. IsLeast (hop_at (routes_of self.now)) (routes_for routes.items)) }
         ensures truncated { IfOk result (λ routes. All (λ r. IsTruncated (family r.0) (parts r.0)) routes.items) }
@@ -179,11 +179,10 @@ impl HopTable {
         least_of(self.alloc(), flat)
     }
 
-    /// The routes of a table with the same hop at every address and the fewest routes of all tables that have it,
-    /// as `least` gives them. The table's own memory is given back on the way.
+    /// Returns the routes of a smallest equivalent table, as `least` does. The memory of this table is freed on the way.
     ///
     /// # Errors
-    /// `Memory` where there is none for the routes, or on the way to them.
+    /// `Memory` if an allocation fails, for the routes or for the computation.
     pub fn into_least(self) -> Result<LeastRoutes, Refused>
         ensures least { IfOk result (λ routes. IsLeast (hop_at (routes_of self)) (routes_for routes)) }
         ensures truncated { IfOk result (λ routes. All (λ r. IsTruncated (family r.0) (parts r.0)) routes) }

@@ -1,4 +1,4 @@
-//! Route tables: a hop for each of some networks, the longest match, and which addresses a change concerns.
+//! Route tables: networks with their routes, the longest match, and the addresses whose hop an update changes.
 #![tactic(auto)]
 
 pub use between::{Between, Operation};

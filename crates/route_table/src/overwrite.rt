@@ -1,4 +1,4 @@
-//! One route in the place of all those inside its network.
+//! Replacing all routes inside a network with one route.
 ghost use Rattle.std.specs.Prelude.{◌≡◌, ◌<◌, [], OnErr, OnOk, IfErr, if◌then◌else◌};
 ghost use Rattle.ipnet_addr.specs.Addresses.{Address, IsAddress, width};
 ghost use Rattle.ipnet_blocks.specs.Blocks.{IsBlock, has_address, left, right};
@@ -14,8 +14,7 @@ use ipnet::IpNet;
 use prefix_trie::Refused;
 use route_choices::{DEFAULT_PREFERENCE, Hop};
 
-/// The networks one bit longer than a network that has more than one address: its lower and its upper half. The
-/// upper one has host bits.
+/// The lower and the upper half of a network with more than one address: the networks one bit longer. The upper half has host bits.
 fn halves(net: &IpNet) -> (IpNet, IpNet)
     requires { (parts net.now).len < width (family net.now) }
     ensures lower { block result.0 ≡ left (block net.now) }
@@ -29,12 +28,11 @@ fn halves(net: &IpNet) -> (IpNet, IpNet)
 }
 
 impl<const CAPACITY: usize> Table<CAPACITY> {
-    /// Removes every network inside this one, its own routes included, and stores one route there, of this hop and of
-    /// preference 100: all addresses of the network have the new hop then, and all others the hop that they had.
+    /// Removes every network inside this one, its own routes included, and stores one route for it, with this hop and preference 100. All
+    /// addresses of the network then have the new hop, and all others keep their hop.
     ///
     /// # Errors
-    /// `Memory` where there is none for a network that is not stored. The table is as it was. A stored network is
-    /// never refused.
+    /// `Memory` if the network isn't stored and an allocation fails. The table is unchanged. For a stored network it never fails.
     pub fn overwrite(&mut self, net: IpNet, hop: Hop) -> Result<(), Refused>
         ensures networks { OnOk result (self.new ≡ overwritten_by self.old (block net) (record { hop = hop; pref = default_preference })) }
         ensures tables { IsStoredTable self.old × IsStoredTable self.new }
@@ -53,7 +51,7 @@ impl<const CAPACITY: usize> Table<CAPACITY> {
         Ok(())
     }
 
-    /// Takes out every network inside this one, itself included.
+    /// Removes every network inside this one, itself included.
     pub(crate) fn remove_inside(&mut self, net: &IpNet)
         requires { IsBlock (block net.now) }
         ensures networks { self.new ≡ networks_outside self.old (block net.now) }

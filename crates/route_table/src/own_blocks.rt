@@ -1,4 +1,4 @@
-//! The blocks of one hop number, made from what the routes of that number govern.
+//! The blocks of one hop, computed from the networks that have it.
 ghost use Rattle.std.specs.Prelude.{◌≡◌, ◌==◌, ◌++◌, ◌⊎◌, map, filter, All, IfOk, IfErr, OnOk, Some};
 ghost use Rattle.ipnet.specs.IpNets.{block, family, parts};
 ghost use Rattle.ipnet_blocks.specs.Maximal.{IsMaximal, IsShortest};
@@ -17,7 +17,7 @@ use prefix_trie::Refused;
 use route_choices::Hop;
 use std::alloc::AllocError;
 
-/// Appends the blocks.
+/// Appends the blocks to the list.
 fn push_blocks(networks: &mut Vec<IpNet>, blocks: Governed<'_>) -> Result<(), AllocError>
     ensures { OnOk result (map block networks.new.items ≡ map block networks.old.items ++ blocks.entry) }
 {
@@ -28,12 +28,12 @@ fn push_blocks(networks: &mut Vec<IpNet>, blocks: Governed<'_>) -> Result<(), Al
 }
 
 impl RouteTable {
-    /// The blocks that `flat` gives this number, ascending: the maximal blocks of the addresses with this hop, as
-    /// networks without host bits; no list of blocks with these addresses is shorter. They are made another way than
-    /// `flat` makes them: from what the networks with this hop govern.
+    /// Returns the maximal blocks of the addresses with this hop, ascending, as networks without host bits. No list of blocks with these
+    /// addresses is shorter. They are the blocks of `flat` with this number. But they are computed from the addresses that the networks
+    /// with this hop govern.
     ///
     /// # Errors
-    /// `Memory` where there is none for the list.
+    /// `Memory` if an allocation for the list fails.
     pub fn own(&self, number: u32) -> Result<Vec<IpNet>, Refused>
         ensures maximal { IfOk result (λ v. IsMaximal (λ x. hop_at (routes_of self.now) x ≡ Some number) (map block v.items)) }
         ensures shortest { IfOk result (λ v. IsShortest (λ x. hop_at (routes_of self.now) x ≡ Some number) (map block v.items)) }
@@ -44,7 +44,7 @@ impl RouteTable {
         Ok(self.owned(number)?)
     }
 
-    /// The same, with the allocator's own refusal.
+    /// `own`, with the allocator's own error.
     fn owned(&self, number: u32) -> Result<Vec<IpNet>, AllocError>
         ensures maximal { IfOk result (λ v. IsMaximal (λ x. hop_at (routes_of self.now) x ≡ Some number) (map block v.items)) }
         ensures shortest { IfOk result (λ v. IsShortest (λ x. hop_at (routes_of self.now) x ≡ Some number) (map block v.items)) }
@@ -58,7 +58,7 @@ impl RouteTable {
         IpNet::aggregate(self.alloc(), &networks)
     }
 
-    /// Appends the blocks that those of the routes govern which have this number.
+    /// Appends the blocks that the routes with this number govern.
     fn push_owned(
         &self,
         networks: &mut Vec<IpNet>,
@@ -74,7 +74,7 @@ impl RouteTable {
         Ok(())
     }
 
-    /// Appends the blocks that the network governs, where the hop is this number.
+    /// Appends the blocks that the network governs, if its hop is this number.
     fn push_route(
         &self,
         networks: &mut Vec<IpNet>,

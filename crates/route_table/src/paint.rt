@@ -1,4 +1,4 @@
-//! All addresses of a network get one hop.
+//! Giving all addresses of a network one hop.
 ghost use Rattle.std.specs.Prelude.{◌≡◌, [], IfErr, OnErr, OnOk, if◌then◌else◌};
 ghost use Rattle.ipnet_addr.specs.Addresses.{Address, IsAddress};
 ghost use Rattle.ipnet_blocks.specs.Blocks.{IsBlock, has_address};
@@ -18,12 +18,11 @@ use prefix_trie::Refused;
 use route_choices::Hop;
 
 impl HopTable {
-    /// Gives all addresses of the network this hop, and leaves all others the hop that they have, as `overwrite` does; but
-    /// stores no route where the routes outside give the addresses this hop already. Then it takes no memory.
+    /// Gives all addresses of the network this hop, as `overwrite` does; all others keep their hop. If the routes outside already give the
+    /// addresses this hop, no route is stored, and it does not allocate.
     ///
     /// # Errors
-    /// `Memory` where there is none for a network that is not stored. The table is as it was. A stored network is
-    /// never refused.
+    /// `Memory` if the network isn't stored and an allocation fails. The table is unchanged. For a stored network it never fails.
     pub fn paint(&mut self, net: IpNet, hop: Hop) -> Result<(), Refused>
         ensures routes { OnOk result (routes_of self.new ≡ painted (routes_of self.old) (route_of net hop default_preference)) }
         ensures tables { IsStoredTable self.old × IsStoredTable self.new }
@@ -40,7 +39,7 @@ impl HopTable {
         self.overwrite(net, hop)
     }
 
-    /// The number of the hop that the routes outside the network give its addresses.
+    /// The number of the hop that the network's addresses inherit from the routes outside it.
     pub(crate) fn handed(&self, net: &IpNet) -> Option<u32>
         requires { IsBlock (block net.now) }
         ensures { IsTable (routes_of self.now) → result ≡ match_number (match_of (without_inside (routes_of self.now) (block net.now)) (block net.now)) }

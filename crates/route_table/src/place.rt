@@ -1,4 +1,4 @@
-//! Numbers of addresses, each in the size of its family.
+//! Numbers of addresses, in the size of the family.
 ghost use Rattle.std.specs.Prelude.{◌≡◌, ◌-◌, ◌<◌, ◌^◌, ⊤};
 
 use ipnet_addr::key::Key;
@@ -35,7 +35,7 @@ impl<N: Key> Clone for Place<N> {
     }
 }
 
-/// The least number.
+/// The default is the least number.
 impl<N: Key> Default for Place<N> {
     ghost is_default = { λ n. n ≡ 0 };
 
@@ -53,7 +53,7 @@ impl<N: Key> Place<N> {
         Place { key }
     }
 
-    /// This number.
+    /// Makes the place of this number.
     #[inline]
     pub(crate) fn of(number: u128) -> Place<N>
         requires { number < 2 ^ N.width }
@@ -73,7 +73,7 @@ impl<N: Key> Place<N> {
         }
     }
 
-    /// The number itself.
+    /// The number.
     #[inline]
     pub(crate) fn number(&self) -> u128
         ensures value { result ≡ self.now }

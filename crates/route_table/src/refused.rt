@@ -1,14 +1,14 @@
-//! Why a route is refused.
+//! The error of `add`.
 use prefix_trie::Refused;
 use thiserror::Error;
 
-/// Why a route is refused.
+/// Why a route could not be stored.
 #[derive(Clone, Copy, Debug, PartialEq, Eq, Error)]
 pub enum AddRefused {
-    /// The network is not stored, and there is no memory for it.
+    /// The network isn't stored, and an allocation for it failed.
     #[error("{0}")]
     Store(Refused),
-    /// Eight other hops are stored at the network.
+    /// The network has eight other hops already.
     #[error("eight other hops are stored at the network")]
     TooMany,
 }

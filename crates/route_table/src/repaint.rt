@@ -18,7 +18,7 @@ use ipnet::laws::network_equality;
 use route_choices::Hop;
 use std::marker::Model;
 
-/// The networks to remove that are left: those of the routes, ascending, without the one that stays.
+/// The networks that are left to remove: those of the routes, ascending, without the one that stays.
 #[derive(Drop)]
 pub(crate) struct Inside<'a> {
     routes: Routes<'a>,
@@ -39,7 +39,7 @@ impl<'a> Inside<'a> {
         }
     }
 
-    /// The next network to remove.
+    /// Returns the next network to remove.
     fn next(&mut self) -> Option<IpNet>
         requires { IsPlain self.old.stays }
         ensures stays { self.new.stays ≡ self.old.stays }
@@ -54,7 +54,7 @@ impl<'a> Inside<'a> {
     }
 }
 
-/// The operations of a change that are left. It takes no memory.
+/// An iterator over the operations of a change. Does not allocate.
 #[derive(Drop)]
 pub struct Repaint<'a> {
     install: Option<(IpNet, Hop)>,
@@ -90,14 +90,13 @@ impl<'a> Iterator for Repaint<'a> {
 }
 
 impl HopTable {
-    /// The operations of `paint`, for the same table that is installed elsewhere: first the network is installed with
-    /// the hop, unless the routes outside give its addresses this hop, or it has it already; then the stored networks
-    /// inside are removed, ascending, and where the routes outside give the hop, the network itself with them. No others
-    /// that make the painted table are fewer, and on the way each address turns at most once (`laws::between`). It takes
-    /// no memory.
+    /// Returns the operations that do to an installed copy of this table what `paint` does to this table. First the network is installed
+    /// with the hop, unless it has it already or inherits it from the routes outside. Then the stored networks inside are removed,
+    /// ascending. If the network inherits the hop, it is removed with them. No shorter sequence makes the painted table, and on the way
+    /// each address changes its hop at most once (`laws::between`). Does not allocate.
     ///
-    /// Where 10.0.0.0/8 has the hop 1, 10.0.0.0/9 the hop 2 and 10.0.0.0/10 the hop 3, those for 10.0.0.0/9 and the hop 1
-    /// remove 10.0.0.0/9 and 10.0.0.0/10; for the hop 4 they install 10.0.0.0/9 and remove 10.0.0.0/10.
+    /// For example, 10.0.0.0/8 has the hop 1, 10.0.0.0/9 the hop 2 and 10.0.0.0/10 the hop 3. The operations for 10.0.0.0/9 and the hop 1
+    /// remove 10.0.0.0/9 and 10.0.0.0/10. Those for the hop 4 install 10.0.0.0/9 and remove 10.0.0.0/10.
     pub fn repaint(&self, net: IpNet, hop: Hop) -> Repaint<'_>
         ensures operations { result ≡ repainted (routes_of self.now) net hop }
         ensures table { IsTable (routes_of self.now) }

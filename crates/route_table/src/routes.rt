@@ -9,15 +9,15 @@ use ipnet::{IpNet, Ipv4Net, Ipv6Net};
 use route_choices::Hop;
 use std::marker::Model;
 
-/// The routes of either side that are left.
+/// The routes that are left, of one side.
 #[derive(Drop)]
 pub(crate) enum Source<'a> {
     V4(SideRoutes<'a, Ipv4Net>),
     V6(SideRoutes<'a, Ipv6Net>),
 }
 
-/// The routes that are left, ascending: the network of each, without host bits, its best hop, and the preference
-/// of that one. It takes no memory.
+/// An iterator over routes, ascending: each network, without host bits, its best hop, and the preference of this hop. Does not
+/// allocate.
 #[derive(Drop)]
 pub struct Routes<'a> {
     source: Source<'a>,
@@ -34,7 +34,7 @@ impl<'a> Model for Routes<'a> {
 }
 
 impl<'a> Routes<'a> {
-    /// Those of IPv4.
+    /// An iterator over IPv4 routes.
     pub(crate) fn v4(routes: SideRoutes<'a, Ipv4Net>) -> Routes<'a>
         ensures { result ≡ routes.entry }
     {
@@ -43,7 +43,7 @@ impl<'a> Routes<'a> {
         }
     }
 
-    /// Those of IPv6.
+    /// An iterator over IPv6 routes.
     pub(crate) fn v6(routes: SideRoutes<'a, Ipv6Net>) -> Routes<'a>
         ensures { result ≡ routes.entry }
     {

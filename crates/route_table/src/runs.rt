@@ -1,4 +1,4 @@
-//! The runs of one hop number among the addresses of a family.
+//! The runs of a family: spans of addresses with one hop number.
 ghost use Rattle.std.specs.Prelude.{◌≡◌, ℕ, ◌+◌, ◌<◌, ◌≤◌, ◌^◌, ◌++◌, [], ◌∷◌, MatchOption, All, None, Some, map, false, true, ⊤};
 ghost use Rattle.ipnet_addr.specs.Addresses.{width};
 ghost use Rattle.ipnet_blocks.specs.Blocks.{last, family_block};
@@ -14,7 +14,7 @@ use ipnet_blocks::aggregate::Span;
 use std::alloc::AllocError;
 use std::marker::Model;
 
-/// The numbers of a route's addresses, its length, and the number of its hop.
+/// The span of a route's addresses, its length, and the number of its hop.
 #[derive(Copy)]
 struct Reach<N: Key> {
     first: Place<N>,
@@ -43,7 +43,7 @@ impl<N: Key> Clone for Reach<N> {
     }
 }
 
-/// What no route reaches.
+/// The default stands in for a free place of the stack.
 impl<N: Key> Default for Reach<N> {
     ghost is_default = { λ _. ⊤ };
 
@@ -57,7 +57,7 @@ impl<N: Key> Default for Reach<N> {
     }
 }
 
-/// The numbers of a span have one hop number.
+/// A span whose addresses have one hop number.
 #[derive(Copy)]
 pub(crate) struct Run<N: Key> {
     first: Place<N>,
@@ -86,7 +86,7 @@ impl<N: Key> Clone for Run<N> {
 }
 
 impl<N: Key> Run<N> {
-    /// Its first and its last number.
+    /// The first and the last number.
     #[inline]
     pub(crate) fn span(&self) -> Span
         ensures value { result ≡ self.now.span }
@@ -99,7 +99,7 @@ impl<N: Key> Run<N> {
         }
     }
 
-    /// The run that goes on up to this number.
+    /// The run extended to end at this number.
     #[inline]
     fn up_to(&self, last: Place<N>) -> Run<N>
         ensures { result ≡ record { span = record { first = self.now.span.first; last = last }; number = self.now.number } }
@@ -111,7 +111,7 @@ impl<N: Key> Run<N> {
         }
     }
 
-    /// Its hop number.
+    /// The hop number.
     #[inline]
     pub(crate) fn number(&self) -> u32
         ensures { result ≡ self.now.number }
@@ -120,7 +120,7 @@ impl<N: Key> Run<N> {
     }
 }
 
-/// The next of the routes.
+/// Takes the next route.
 #[inline]
 fn next_reach<P: OfFamily>(routes: &mut SideRoutes<'_, P>) -> Option<Reach<P::R>>
     ensures { coming result routes.new ≡ map reach_of routes.old }
@@ -134,8 +134,8 @@ fn next_reach<P: OfFamily>(routes: &mut SideRoutes<'_, P>) -> Option<Reach<P::R>
     })
 }
 
-/// A walk over the routes of one family: the routes open at a place, those that come, and the run of one number that
-/// ends just before the place.
+/// A walk over the routes of one family. It holds the routes that are open at a place, the routes that follow, and the run that ends
+/// just before the place.
 #[derive(Drop)]
 pub(crate) struct Runs<'a, P: OfFamily> {
     at: Place<P::R>,
@@ -147,14 +147,14 @@ pub(crate) struct Runs<'a, P: OfFamily> {
     rest: SideRoutes<'a, P>,
 }
 
-/// What the next change makes of the runs.
+/// The effect of a step on the runs.
 enum Step<N: Key> {
     Run(Run<N>),
     Passed,
     Done,
 }
 
-/// The numbers of a span, which the run at hand ends just before, have this number: goes on with the run, or ends it.
+/// Adds a span with this hop number. The span begins right after the current run; it extends the run or ends it.
 #[inline]
 fn join<N: Key>(
     run: &mut Option<Run<N>>,
@@ -183,7 +183,7 @@ fn join<N: Key>(
     }
 }
 
-/// The numbers of a span, which a run ends just before, have this number: goes on with the run, or ends it.
+/// Adds a span with this hop number, which begins right after the run `before`; it extends the run or ends it.
 #[inline]
 fn follow<N: Key>(
     run: &mut Option<Run<N>>,
@@ -208,7 +208,7 @@ fn follow<N: Key>(
     }
 }
 
-/// The step that ends a run, if there was one.
+/// The step that returns a run, if one ended.
 #[inline]
 fn step_of<N: Key>(ended: Option<Run<N>>) -> Step<N>
     ensures { result ≡ step_of ended }
@@ -220,7 +220,7 @@ fn step_of<N: Key>(ended: Option<Run<N>>) -> Step<N>
 }
 
 impl<'a, P: OfFamily> Runs<'a, P> {
-    /// The runs of the routes of a family.
+    /// Makes the walk over the routes of a family.
     pub(crate) fn new(rest: SideRoutes<'a, P>) -> Runs<'a, P>
         requires routes { IsTable rest }
         requires family { All (λ r. r.block.family ≡ P.family) rest }
@@ -241,7 +241,7 @@ impl<'a, P: OfFamily> Runs<'a, P> {
         runs
     }
 
-    /// Takes the next of the routes, in its place.
+    /// Takes the next route from the iterator.
     fn advance(&mut self)
         ensures at { self.new.at ≡ self.old.at }
         ensures end { self.new.end ≡ self.old.end }
@@ -253,7 +253,7 @@ impl<'a, P: OfFamily> Runs<'a, P> {
         self.next = next_reach(&mut self.rest);
     }
 
-    /// The last number of the innermost open route, or of the family, and its hop number.
+    /// The last number of the innermost open route, or of the family if none is open, and its hop number.
     #[inline]
     fn innermost(&self) -> (Place<P::R>, Option<u32>)
         ensures { result ≡ innermost (self.now.end, None) self.now.stack.items }
@@ -264,7 +264,7 @@ impl<'a, P: OfFamily> Runs<'a, P> {
         }
     }
 
-    /// The next route, if it begins up to this number.
+    /// The next route, if it begins at this number or before.
     #[inline]
     fn next_up_to(&self, last: Place<P::R>) -> Option<Reach<P::R>>
         ensures { MatchOption result (MatchOption self.now.next ⊤ (λ r. last < r.first)) (λ r. (self.now.next ≡ Some r) × (r.first ≤ last)) }
@@ -277,8 +277,8 @@ impl<'a, P: OfFamily> Runs<'a, P> {
         }
     }
 
-    /// Passes over the next route, which begins before the innermost open one ends, where it has the hop number around it,
-    /// and so changes none; else goes up to it, or opens it where it begins.
+    /// Handles the next route, which begins before the innermost open route ends. If it has the hop number around it, it changes nothing
+    /// and is skipped. Else the walk advances to its start, or opens it if it is there.
     #[inline]
     fn begin(&mut self, reach: Reach<P::R>, number: Option<u32>) -> Step<P::R>
         requires runs { AreRuns self.old }
@@ -304,7 +304,7 @@ impl<'a, P: OfFamily> Runs<'a, P> {
         self.open(reach)
     }
 
-    /// Opens the next route, which begins at the place. One that no route lies inside is closed at once.
+    /// Opens the next route, which begins at the place. If it contains no other route, it is closed at once.
     #[inline]
     fn open(&mut self, reach: Reach<P::R>) -> Step<P::R>
         requires runs { AreRuns self.old }
@@ -321,7 +321,7 @@ impl<'a, P: OfFamily> Runs<'a, P> {
             self.at = after;
             return join(&mut self.run, reach.first, reach.last, reach.number);
         }
-        // Part by part: whole, it would be copied together with what was written in other sizes just before, and wait for that.
+        // Copied field by field. A copy of the whole would load bytes that were just written in other sizes, and wait for the writes.
         self.stack.push(Reach {
             first: reach.first,
             last: reach.last,
@@ -331,7 +331,7 @@ impl<'a, P: OfFamily> Runs<'a, P> {
         Step::Passed
     }
 
-    /// The number after this one, if the next route does not begin up to it, and the family does not end with it.
+    /// The number after this one, if the next route begins later than `last` and the family doesn't end there.
     #[inline]
     fn before_next(&self, last: Place<P::R>) -> Option<Place<P::R>>
         ensures { MatchOption result ⊤ (λ n. (n ≡ last + 1) × (last < self.now.end) × MatchOption self.now.next ⊤ (λ r. last < r.first)) }
@@ -345,7 +345,7 @@ impl<'a, P: OfFamily> Runs<'a, P> {
         }
     }
 
-    /// Goes past the last number of the innermost open route, or of the family.
+    /// Moves past the end of the innermost open route, or of the family.
     #[inline]
     fn pass(&mut self, last: Place<P::R>)
         ensures end { self.new.end ≡ self.old.end }
@@ -381,7 +381,7 @@ impl<'a, P: OfFamily> Runs<'a, P> {
         join(&mut self.run, start, last, number)
     }
 
-    /// Gives the run at hand, once the whole family is done.
+    /// Returns the last run, when the whole family is done.
     fn finish(&mut self) -> Step<P::R>
         requires runs { AreRuns self.old }
         requires done { self.old.done ≡ true }
@@ -397,7 +397,7 @@ impl<'a, P: OfFamily> Runs<'a, P> {
         }
     }
 
-    /// Makes the next change.
+    /// Makes one step.
     #[inline]
     fn step(&mut self) -> Step<P::R>
         requires { AreRuns self.old }
@@ -415,7 +415,7 @@ impl<'a, P: OfFamily> Runs<'a, P> {
         }
     }
 
-    /// The next run.
+    /// Returns the next run.
     pub(crate) fn next(&mut self) -> Option<Run<P::R>>
         requires { AreRuns self.old }
         ensures runs { AreRuns self.new }

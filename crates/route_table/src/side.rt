@@ -23,7 +23,7 @@ use route_choices::{All, Choices, Hop, TooMany};
 use std::alloc::{AllocError, Global};
 use std::marker::Model;
 
-/// The hops of a change before and after it, where there was one.
+/// The hop numbers before and after a change, if there was a change.
 fn change(
     changed: bool,
     before: Option<u32>,
@@ -35,9 +35,9 @@ fn change(
     if changed { Some((before, after)) } else { None }
 }
 
-/// Some networks of one family with their routes, ascending, with room for so many routes of each.
+/// Networks of one family with their routes, ascending, with room for `CAPACITY` routes of each.
 ///
-/// The calls ask for networks whose bits name a block: the host bits of an argument are cleared above.
+/// The networks in arguments must be blocks: callers clear the host bits.
 #[derive(Drop)]
 pub(crate) struct Side<P: OfFamily, const CAPACITY: usize> {
     networks: PrefixMap<P, Choices<CAPACITY>>,
@@ -57,10 +57,10 @@ impl<P: OfFamily, const CAPACITY: usize> Model for Side<P, CAPACITY> {
 }
 
 impl<P: OfFamily, const CAPACITY: usize> Side<P, CAPACITY> {
-    /// No networks.
+    /// Makes a side without networks.
     ///
     /// # Errors
-    /// None, as of `PrefixMap::new`.
+    /// None, as in `PrefixMap::new`.
     pub(crate) fn new(alloc: Global) -> Result<Side<P, CAPACITY>, Refused>
         requires some { 0 < CAPACITY }
         requires few { CAPACITY ≤ 8 }
@@ -72,10 +72,10 @@ impl<P: OfFamily, const CAPACITY: usize> Side<P, CAPACITY> {
         })
     }
 
-    /// Stores one route at the network, in the place of all that it has. Answers whether no network lies strictly inside it.
+    /// Stores one route at the network, in place of all its routes. Returns whether no network is strictly inside it.
     ///
     /// # Errors
-    /// `Memory` where there is none for a network that is not stored. The side is as it was.
+    /// `Memory` if the network isn't stored and an allocation fails. The side is unchanged.
     pub(crate) fn store(&mut self, net: P, hop: Hop, pref: u16) -> Result<bool, Refused>
         requires { IsBlock (block_of P.family (P.parts net)) }
         ensures hop { IsHop hop }
@@ -95,7 +95,7 @@ impl<P: OfFamily, const CAPACITY: usize> Side<P, CAPACITY> {
         Ok(is_leaf)
     }
 
-    /// Takes out every network inside this one, itself included.
+    /// Removes every network inside this one, itself included.
     pub(crate) fn remove_inside(&mut self, net: P)
         requires { IsBlock (block_of P.family (P.parts net)) }
         ensures networks { self.new ≡ networks_outside self.old (block_of P.family (P.parts net)) }
@@ -104,7 +104,7 @@ impl<P: OfFamily, const CAPACITY: usize> Side<P, CAPACITY> {
         self.networks.remove_children(&net);
     }
 
-    /// Whether no network lies strictly inside this one.
+    /// Whether no network is strictly inside this one.
     pub(crate) fn is_leaf(&self, net: P) -> bool
         requires { IsBlock (block_of P.family (P.parts net)) }
         ensures { IsTrue result ↔ IsLeaf self.now (block_of P.family (P.parts net)) }
@@ -140,12 +140,12 @@ impl<P: OfFamily> Side<P, 8> {
         }
     }
 
-    /// Adds a route to the network, or gives the one of this hop the new preference. Answers the numbers of the best hop
-    /// at the longest match before and after.
+    /// Adds a route to the network. If the network has this hop, its preference changes. Returns the numbers of the best hop at the
+    /// longest match before and after.
     ///
     /// # Errors
-    /// `TooMany` exactly where eight other hops are stored at the network. `Store` where there is no memory for a network
-    /// that is not stored. The side is as it was.
+    /// `TooMany` exactly if the network has eight other hops. `Store` if the network isn't stored and an allocation fails. The side is
+    /// unchanged.
     pub(crate) fn add(
         &mut self,
         net: P,
@@ -172,7 +172,7 @@ impl<P: OfFamily> Side<P, 8> {
         }
     }
 
-    /// Adds the route to a stored network, in place, and answers the number of its best hop then.
+    /// Adds the route to a stored network, and returns the number of its best hop after that.
     fn add_stored(&mut self, net: P, hop: Hop, pref: u16) -> Result<Option<u32>, AddRefused>
         requires block { IsBlock (block_of P.family (P.parts net)) }
         requires stored { choices_at self.old (block_of P.family (P.parts net)) ≢ [] }
@@ -191,8 +191,8 @@ impl<P: OfFamily> Side<P, 8> {
         Ok(best.number())
     }
 
-    /// Takes the route of this hop out of the network, where there is one, and the network with its last route. Answers
-    /// the numbers of the best hop at the longest match before and after.
+    /// Removes the route of this hop from the network, if it has one, and removes the network with its last route. Returns the numbers of
+    /// the best hop at the longest match before and after.
     pub(crate) fn remove(&mut self, net: P, hop: Hop) -> Option<(Option<u32>, Option<u32>)>
         requires { IsBlock (block_of P.family (P.parts net)) }
         ensures held { is_some result ≡ holds_hop (choices_at self.old (block_of P.family (P.parts net))) hop }
@@ -216,7 +216,7 @@ impl<P: OfFamily> Side<P, 8> {
         change(held, before, best.number())
     }
 
-    /// The routes of this very network, best first.
+    /// The routes of exactly this network, best first.
     pub(crate) fn all(&self, net: P) -> All<'_>
         requires { IsBlock (block_of P.family (P.parts net)) }
         ensures { result ≡ choices_at self.now (block_of P.family (P.parts net)) }
@@ -227,7 +227,7 @@ impl<P: OfFamily> Side<P, 8> {
         }
     }
 
-    /// How many nodes of the trie the search for the longest match visits.
+    /// The number of trie nodes that the search for the longest match visits.
     pub(crate) fn visits(&self, net: P) -> u32
         requires { IsBlock (block_of P.family (P.parts net)) }
         ensures visits { result ≡ visit_count (map_of P.family self.now) (bit_string (block_of P.family (P.parts net))) }
@@ -236,14 +236,14 @@ impl<P: OfFamily> Side<P, 8> {
         self.networks.get_lpm_visits(&net).1
     }
 
-    /// How many networks there are.
+    /// The number of networks.
     pub(crate) fn count(&self) -> usize
         ensures { result ≡ count_of P.family (routes_of self.now) }
     {
         self.networks.len()
     }
 
-    /// How many nodes the trie has.
+    /// The number of nodes of the trie.
     pub(crate) fn node_count(&self) -> usize
         ensures { result ≡ nodes (map_of P.family self.now) }
     {
@@ -273,7 +273,7 @@ impl<P: OfFamily> Side<P, 8> {
         SideRoutes::new(Entries::Cover(self.networks.cover(&net)))
     }
 
-    /// The best routes of the networks that come after this one; where `inclusive`, of those that do not come before it.
+    /// The best routes of the networks that come after this one, and of the network itself if `inclusive`.
     pub(crate) fn onwards(&self, net: P, inclusive: bool) -> SideRoutes<'_, P>
         requires { IsBlock (block_of P.family (P.parts net)) }
         ensures { result ≡ (if inclusive then routes_from (routes_of self.now) (block_of P.family (P.parts net)) else routes_after (routes_of self.now) (block_of P.family (P.parts net))) }
@@ -298,10 +298,10 @@ impl<P: OfFamily> Side<P, 1> {
         SideRoutes::new(Entries::Hops(self.networks.children(&net)))
     }
 
-    /// The routes of all networks. The memory of each part of the trie is given back once it is walked.
+    /// The routes of all networks. The memory of each part of the trie is freed after the walk over it.
     ///
     /// # Errors
-    /// Where there is no memory for the walk.
+    /// `AllocError` if an allocation for the walk fails.
     pub(crate) fn into_routes<'a>(self, alloc: Global) -> Result<SideRoutes<'a, P>, AllocError>
         ensures { IfOk result (λ r. r ≡ routes_of self) }
     {

@@ -14,8 +14,8 @@ use prefix_trie::map::{Cover, IntoIter, Iter};
 use route_choices::{Choices, Hop};
 use std::marker::Model;
 
-/// The entries of one side's trie that are left of a walk, or of the way to a network; `Hops` and `Owned` where a
-/// network has room for one route. A walk that owns its entries is a large thing, which few tables are walked by.
+/// The entries of one side's trie that a walk has left. `Cover` walks along the path to a network. `Hops` and `Owned` are for tables
+/// with one route for each network. An owned walk is boxed, because it is large and few tables need one.
 #[derive(Drop)]
 pub(crate) enum Entries<'a, P: Prefix> {
     Walk(Iter<'a, P, Choices<8>>),
@@ -33,7 +33,7 @@ fn best<P, const CAPACITY: usize>(net: P, choices: &Choices<CAPACITY>) -> (P, Ho
 }
 
 impl<'a, P: Prefix> Entries<'a, P> {
-    /// The network of the next entry, and its best route.
+    /// Returns the network of the next entry, and its best route.
     fn next(&mut self) -> Option<(P, Hop, u16)>
         ensures { GivesBest P.fits P.bits P.of_bits (entries_left self.old) result (entries_left self.new) }
     {
@@ -86,7 +86,7 @@ impl<'a, P: OfFamily> SideRoutes<'a, P> {
         SideRoutes { entries }
     }
 
-    /// The next route, its network as one of the family.
+    /// Returns the next route, its network as one of the family.
     #[inline]
     pub(crate) fn next_net(&mut self) -> Option<(P, Hop, u16)>
         ensures { GivesNet P.family P.parts self.old result self.new }

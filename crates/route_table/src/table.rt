@@ -26,16 +26,16 @@ use route_choices::Hop;
 use std::alloc::Global;
 use std::marker::Model;
 
-/// Routes for some networks of both families: one to eight for each, a hop and a preference, at most one for each hop.
-/// The best has the greatest preference; among equal ones the smaller number comes first, and `drop` after every number.
-/// A network's addresses go where its best route goes.
+/// Networks of both families with one to eight routes each. A route is a hop with a preference, and a network has each hop at most
+/// once. The best route has the greatest preference. Among equal preferences the smaller hop number is better, and `drop` is the
+/// worst. The best route is the one in use.
 ///
-/// Contracts see it as the ascending list of its stored networks, each with its routes, best first; what they say of
-/// matches and hops, they say of the list of the best routes. Host bits of an argument are ignored everywhere. Only
-/// `own`, `least`, and `add` and `overwrite` of a network that is not stored, take memory. It is `Send` and `Sync`.
+/// Contracts see a table as the ascending list of its stored networks, each with its routes, best first. Matches and hops are those of
+/// the best routes. Host bits of an argument are ignored everywhere. Only `own` and `least` allocate, and `add` and `overwrite` of a
+/// network that isn't stored. A table is `Send` and `Sync`.
 pub type RouteTable = Table<8>;
 
-/// A table of networks of both families with room for so many routes of each: `RouteTable` for eight, `HopTable` for one.
+/// A table of networks of both families with room for `CAPACITY` routes of each: `RouteTable` has eight, `HopTable` one.
 #[derive(Drop)]
 pub struct Table<const CAPACITY: usize> {
     pub(crate) v4: Side<Ipv4Net, CAPACITY>,
@@ -56,7 +56,7 @@ impl<const CAPACITY: usize> Model for Table<CAPACITY> {
     ghost invariant = { λ a. IsSide Ipv4 a.v4 × IsSide Ipv6 a.v6 };
 }
 
-/// The network without host bits. Each public call clears them here, once; those below it ask for a block.
+/// The network without host bits. Each public call clears them once, with this function; the functions below require a block.
 pub(crate) fn cleared(net: &IpNet) -> IpNet
     ensures value { result ≡ network_at (block net.now) }
     ensures block { block result ≡ block net.now }
@@ -66,10 +66,10 @@ pub(crate) fn cleared(net: &IpNet) -> IpNet
 }
 
 impl RouteTable {
-    /// The table without networks.
+    /// Makes a table without networks.
     ///
     /// # Errors
-    /// None: the `Result` is for the tables that need memory at once.
+    /// None. The `Result` leaves room for an implementation that allocates here.
     ///
     /// # Examples
     /// ```rust
@@ -81,17 +81,16 @@ impl RouteTable {
         Table::empty(alloc)
     }
 
-    /// Adds a route to the network, or gives the route of this hop that it has the new preference. Answers the hop that
-    /// the addresses which the network governs had, and the one that they have: the numbers at the longest match of the
-    /// network before and after. The addresses whose hop changed are those that the network governs where the two
-    /// differ, and else none.
+    /// Adds a route to the network. If the network has this hop already, its preference changes. Returns the old and the new hop number
+    /// of the addresses that the network governs: those at its longest match before and after. If the two differ, exactly these
+    /// addresses changed their hop, and `governed` lists them; else no address did.
     ///
     /// # Errors
-    /// `TooMany` exactly where eight other hops are stored at the network. `Store` where there is no memory for a network
-    /// that is not stored. The table is as it was. No route of a stored network takes memory.
+    /// `TooMany` exactly if the network has eight other hops. `Store` if the network isn't stored and an allocation fails. The table is
+    /// unchanged. An `add` to a stored network does not allocate.
     ///
     /// # Examples
-    /// Of `wide`, 10.0.0.0/8, and its first half to an empty table:
+    /// With `wide`, 10.0.0.0/8, and its first half, in an empty table:
     ///
     /// ```rust
     /// assert_eq!(rt; table.add(wide, Hop::Number(1), 100), Ok((None, Some(1))));
@@ -116,12 +115,11 @@ impl RouteTable {
         self.add_choice(cleared(&net), hop, pref)
     }
 
-    /// Takes the route of this hop out of the network, where there is one, and the network with its last route. Answers
-    /// the hop that the addresses which the network governs had, and the one that they have: the numbers at the longest
-    /// match of the network before and after. It takes no memory.
+    /// Removes the route of this hop from the network, if it has one, and removes the network with its last route. Returns the old and the
+    /// new hop number of the addresses that the network governs, as `add` does. Does not allocate.
     ///
     /// # Examples
-    /// Where 10.0.0.0/8 has the hop 1 and `half`, 10.0.0.0/9, the hop 2:
+    /// If 10.0.0.0/8 has the hop 1 and `half`, 10.0.0.0/9, the hop 2:
     ///
     /// ```rust
     /// assert_eq!(rt; table.del(&half, Hop::Number(2)), Some((Some(2), Some(1))));
@@ -136,7 +134,7 @@ impl RouteTable {
         self.remove_choice(&cleared(net), hop)
     }
 
-    /// The routes of exactly this network, best first: each hop with its preference. It takes no memory.
+    /// Returns the routes of exactly this network, best first: each hop with its preference. Does not allocate.
     pub fn all(&self, net: &IpNet) -> route_choices::All<'_>
         ensures { result ≡ choices_at self.now (block net.now) }
     {
@@ -146,8 +144,8 @@ impl RouteTable {
         }
     }
 
-    /// What `get` answers, and how many nodes of the family's trie the search visited: one, and one for each bit
-    /// string of positive length divisible by five that begins both the asked network and a stored one.
+    /// Returns the result of `get`, and the number of trie nodes that the search visited. They are the root, and one for each bit string
+    /// of positive length divisible by five that is a prefix of both the network and a stored one.
     pub fn get_visits(&self, net: &IpNet) -> (Option<(IpNet, Hop, u16)>, u32)
         ensures found { result.0 ≡ option_map item_of (match_of (routes_of self.now) (block net.now)) }
         ensures visits { result.1 ≡ visit_count (map_of (family net.now) self.now) (bit_string (block net.now)) }
@@ -157,10 +155,10 @@ impl RouteTable {
         (self.longest(&net), self.visits(&net))
     }
 
-    /// The best routes of the networks inside this one, itself included, ascending. It takes no memory.
+    /// Returns the best routes of the networks inside this one, itself included, ascending. Does not allocate.
     ///
     /// # Examples
-    /// Where `wide`, 10.0.0.0/8, has the hop 1 and `half`, 10.0.0.0/9, the hop 2, and `all` is 0.0.0.0/0:
+    /// If `wide`, 10.0.0.0/8, has the hop 1 and `half`, 10.0.0.0/9, the hop 2, and `all` is 0.0.0.0/0:
     ///
     /// ```rust
     /// let mut routes = table.list(&all);
@@ -174,9 +172,9 @@ impl RouteTable {
         self.inside(&cleared(net))
     }
 
-    /// The maximal blocks of the addresses that the network governs, ascending: its addresses that lie in no stored
-    /// network strictly inside it. No list of blocks with these addresses is shorter. There are at most one, and for each
-    /// stored network strictly inside it, the difference of the two lengths less one. It takes no memory.
+    /// Returns the maximal blocks, ascending, of the addresses that the network governs: those that no longer stored network inside it
+    /// contains. No list of blocks with these addresses is shorter. Their number is at most 1 and, for each stored network strictly
+    /// inside, the difference of the two lengths less 1. Does not allocate.
     pub fn governed(&self, net: &IpNet) -> Governed<'_>
         ensures maximal { IsMaximal (GovernedBy (routes_of self.now) (block net.now)) result }
         ensures shortest { IsShortest (GovernedBy (routes_of self.now) (block net.now)) result }
@@ -186,8 +184,8 @@ impl RouteTable {
         self.governs(&cleared(net))
     }
 
-    /// Whether no stored network lies strictly inside this one, which may be stored or not: then the network itself is
-    /// the one maximal block of what it governs. It takes no memory.
+    /// Returns whether no stored network is strictly inside this one, which need not be stored. If so, the network governs all its
+    /// addresses. Does not allocate.
     pub fn is_leaf(&self, net: &IpNet) -> bool
         ensures leaf { IsTrue result ↔ IsLeaf self.now (block net.now) }
         ensures governed { IsTrue result → IsMaximal (GovernedBy (routes_of self.now) (block net.now)) (block net.now ∷ []) }
@@ -195,8 +193,8 @@ impl RouteTable {
         self.has_none_inside(&cleared(net))
     }
 
-    /// How many nodes the tries of the two families have: one, and one for each distinct bit string of positive
-    /// length divisible by five that begins a stored network of the family.
+    /// Returns the number of trie nodes of each family: the root, and one for each distinct bit string of positive length divisible by
+    /// five that is a prefix of a stored network.
     pub fn node_counts(&self) -> (usize, usize)
         ensures { result ≡ (nodes (map_of Ipv4 self.now), nodes (map_of Ipv6 self.now)) }
     {
@@ -225,7 +223,7 @@ impl RouteTable {
         }
     }
 
-    /// Takes the route of this hop out of the network, where there is one.
+    /// Removes the route of this hop from the network, if it has one.
     fn remove_choice(&mut self, net: &IpNet, hop: Hop) -> Option<(Option<u32>, Option<u32>)>
         requires { IsBlock (block net.now) }
         ensures held { is_some result ≡ holds_hop (choices_at self.old (block net.now)) hop }
@@ -240,7 +238,7 @@ impl RouteTable {
         }
     }
 
-    /// How many nodes the search for the longest match visits.
+    /// The number of nodes that the search for the longest match visits.
     fn visits(&self, net: &IpNet) -> u32
         requires { IsBlock (block net.now) }
         ensures visits { result ≡ visit_count (map_of (block net.now).family self.now) (bit_string (block net.now)) }
@@ -275,11 +273,11 @@ impl RouteTable {
 }
 
 impl<const CAPACITY: usize> Table<CAPACITY> {
-    /// The longest match: of the stored networks that contain this one, itself included, the longest, with its best hop
-    /// and the preference of that one.
+    /// Returns the longest match: the longest stored network that contains this one, possibly itself, with its best hop and the
+    /// preference of this hop.
     ///
     /// # Examples
-    /// Where 10.0.0.0/8 has the hop 1 and `half`, 10.0.0.0/9, the hop 2:
+    /// If 10.0.0.0/8 has the hop 1 and `half`, 10.0.0.0/9, the hop 2:
     ///
     /// ```rust
     /// assert_eq!(rt; table.get(&host), Some((half, Hop::Number(2), 100)));
@@ -303,7 +301,7 @@ impl<const CAPACITY: usize> Table<CAPACITY> {
         }
     }
 
-    /// The table without networks.
+    /// Makes a table without networks.
     pub(crate) fn empty(alloc: Global) -> Result<Table<CAPACITY>, Refused>
         requires some { 0 < CAPACITY }
         requires few { CAPACITY ≤ 8 }
@@ -316,13 +314,12 @@ impl<const CAPACITY: usize> Table<CAPACITY> {
         })
     }
 
-    /// Where its memory is from.
+    /// The allocator of the table.
     pub(crate) fn alloc(&self) -> Global {
         self.alloc
     }
 
-    /// Stores one route at the network, in the place of all that it has. Answers whether no stored network lies strictly
-    /// inside it.
+    /// Stores one route at the network, in place of all its routes. Returns whether no stored network is strictly inside it.
     pub(crate) fn store(&mut self, net: IpNet, hop: Hop, pref: u16) -> Result<bool, Refused>
         requires { IsBlock (block net) }
         ensures hop { IsHop hop }
@@ -339,7 +336,7 @@ impl<const CAPACITY: usize> Table<CAPACITY> {
         }
     }
 
-    /// Whether no stored network lies strictly inside the network.
+    /// Whether no stored network is strictly inside the network.
     pub(crate) fn has_none_inside(&self, net: &IpNet) -> bool
         requires { IsBlock (block net.now) }
         ensures { IsTrue result ↔ IsLeaf self.now (block net.now) }

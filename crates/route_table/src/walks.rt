@@ -1,4 +1,4 @@
-//! How many networks are stored, and the walks along their best routes.
+//! The number of stored networks, and walks over their best routes.
 ghost use Rattle.std.specs.Prelude.{◌≡◌};
 ghost use Rattle.ipnet_addr.specs.Addresses.{Ipv4, Ipv6};
 ghost use Rattle.ipnet.specs.IpNets.{block};
@@ -14,14 +14,14 @@ use crate::table::{RouteTable, cleared};
 use ipnet::{IpNet, Ipv4Net, Ipv6Net};
 
 impl RouteTable {
-    /// How many networks are stored: of IPv4 and of IPv6. It takes no memory.
+    /// Returns the number of stored networks of IPv4 and of IPv6. Does not allocate.
     pub fn count(&self) -> (usize, usize)
         ensures { result ≡ (count_of Ipv4 (routes_of self.now), count_of Ipv6 (routes_of self.now)) }
     {
         (self.v4.count(), self.v6.count())
     }
 
-    /// The routes that contain the network, its own included, the shortest first. It takes no memory.
+    /// Returns the routes of the networks that contain this one, itself included, shortest first. Does not allocate.
     pub fn cover(&self, net: &IpNet) -> Routes<'_>
         ensures { result ≡ covering (routes_of self.now) (block net.now) }
     {
@@ -31,8 +31,8 @@ impl RouteTable {
         }
     }
 
-    /// The routes of the network's family from the network on, ascending: its own, those inside it and those after
-    /// it. The network needs no route. It takes no memory.
+    /// Returns the routes of the network's family from the network on, ascending: its own, those inside it, and all later ones. The
+    /// network need not be stored. Does not allocate.
     pub fn from(&self, net: &IpNet) -> Routes<'_>
         ensures { AreRoutes (routes_of self.now) (routes_from (routes_of self.now) (block net.now)) result }
     {
@@ -42,8 +42,8 @@ impl RouteTable {
         }
     }
 
-    /// The routes of the network's family that come after it, ascending; the longer ones inside it are among them.
-    /// The network needs no route. It takes no memory.
+    /// Returns the routes of the network's family after the network, ascending; networks inside it come after it. The network need not be
+    /// stored. Does not allocate.
     pub fn after(&self, net: &IpNet) -> Routes<'_>
         ensures { AreRoutes (routes_of self.now) (routes_after (routes_of self.now) (block net.now)) result }
     {
@@ -53,7 +53,7 @@ impl RouteTable {
         }
     }
 
-    /// The routes of either family, ascending.
+    /// The routes of IPv4 and of IPv6, ascending.
     pub(crate) fn families(&self) -> (Routes<'_>, Routes<'_>)
         ensures { AreFamilies (routes_of self.now) result.0 result.1 }
     {
@@ -61,7 +61,7 @@ impl RouteTable {
         (Routes::v4(v4), Routes::v6(v6))
     }
 
-    /// The routes of either family, ascending, by the network type of each.
+    /// The routes of IPv4 and of IPv6, ascending, with the network type of the family.
     pub(crate) fn sides(&self) -> (SideRoutes<'_, Ipv4Net>, SideRoutes<'_, Ipv6Net>)
         ensures { AreFamilies (routes_of self.now) result.0 result.1 }
     {
@@ -70,7 +70,7 @@ impl RouteTable {
 }
 
 impl HopTable {
-    /// The routes of either family, ascending.
+    /// The routes of IPv4 and of IPv6, ascending.
     pub(crate) fn families(&self) -> (Routes<'_>, Routes<'_>)
         ensures { AreFamilies (routes_of self.now) result.0 result.1 }
     {
@@ -78,7 +78,7 @@ impl HopTable {
         (Routes::v4(v4), Routes::v6(v6))
     }
 
-    /// The routes of either family, ascending, by the network type of each.
+    /// The routes of IPv4 and of IPv6, ascending, with the network type of the family.
     pub(crate) fn sides(&self) -> (SideRoutes<'_, Ipv4Net>, SideRoutes<'_, Ipv6Net>)
         ensures { AreFamilies (routes_of self.now) result.0 result.1 }
     {

@@ -1,4 +1,4 @@
--- Which word asks for which mode.
+-- The words that name the modes.
 use Rattle.std.specs.Prelude.{ℕ, List, codes}
 use Rattle.routes.specs.declared.Mode.{Mode}
 use Rattle.routes.specs.declared.Mode.TheVariants.{Lead, Follow, Least}
@@ -6,7 +6,7 @@ use Rattle.routes.specs.declared.Mode.TheVariants.{Lead, Follow, Least}
 abbrev pub AnyMode : Type 0
 AnyMode = Mode
 
--- the word that asks for a mode
+-- the word that names a mode
 abbrev pub word_of : Mode → List ℕ
 word_of Lead = codes "lead"
 word_of Follow = codes "follow"

@@ -1,23 +1,38 @@
--- What the modes make of their input.
-use Rattle.std.specs.Prelude.{ℕ, Bool, List, Option, Result}
-use Rattle.std.specs.Io.KnownBytes.{Appends}
+-- The output of each mode for its input.
+use Rattle.std.specs.Prelude.{◌≡◌, ◌⊎◌, ⊤, ℕ, Bool, List, Option, Result}
+use Rattle.std.specs.Io.KnownBytes.{Appends, IsAtEnd}
+use Rattle.route_lines.specs.Bytes.{lines}
 use Rattle.route_feed.specs.declared.counted.Counted.{Counted}
 use Rattle.route_feed.specs.declared.error.RunError.{RunError}
-use Rattle.route_feed.specs.Follows.{FollowEnds, followed}
+use Rattle.route_feed.specs.Devices.{HasRead, HasReadAll}
+use Rattle.route_feed.specs.Follows.{AreReplies, FollowEnds, MeetsWant, followed}
 use Rattle.route_feed.specs.Leads.{LeadEnds}
 use Rattle.route_feed.specs.Output.{output}
 use Rattle.route_feed.specs.Shortens.{AppendsLeast, ShortenEnds}
 use Rattle.routes.specs.declared.Mode.{Mode}
 use Rattle.routes.specs.declared.Mode.TheVariants.{Lead, Follow, Least}
 
--- the output of a leader, or of a follower, or the lines of a least table were written
+-- the output of a leader or of a follower was written, or the lines of a least table
 abbrev pub Writes : Mode → List ℕ → Option (List ℕ) → Option (List ℕ) → Type 0
 Writes Lead bytes old new = (refusals : List Bool) × Appends old new (output bytes refusals)
 Writes Follow bytes old new = Appends old new (followed bytes)
 Writes Least bytes old new = AppendsLeast bytes old new
 
--- what a run does to its devices, by how it ends: what `lead`, `follow` or `shorten` does
+-- the effect of a run on its devices, by its result: that of `lead`, `follow` or `shorten`
 abbrev pub Ends : {R W : Type 0} → (R → Option (List ℕ)) → (W → Option (List ℕ)) → Mode → Counted R → Counted R → Counted W → Counted W → Result Unit RunError → Type 0
 Ends remaining contents Lead from to old new result = LeadEnds remaining contents from to old new result
 Ends remaining contents Follow from to old new result = FollowEnds remaining contents from to old new result
 Ends remaining contents Least from to old new result = ShortenEnds remaining contents from to old new result
+
+-- where a run in this mode may lack memory: a leader before it reads; the others too at a line that may want it, and `least` once all is read
+abbrev pub MayLackMemory : {R : Type 0} → (R → Option (List ℕ)) → Mode → Counted R → Counted R → Type 0
+MayLackMemory remaining Lead from to = to ≡ from
+MayLackMemory remaining Follow from to = (to ≡ from) ⊎ HasRead remaining (λ bytes. MeetsWant (lines bytes)) from to
+MayLackMemory remaining Least from to =
+    (to ≡ from) ⊎ HasRead remaining (λ bytes. MeetsWant (lines bytes)) from to ⊎ (HasRead remaining (λ bytes. AreReplies (lines bytes)) from to × IsAtEnd (remaining to.device))
+
+-- where a run in this mode may meet a fault of its output: a leader at any reply, the others once all is read and each line is a reply line
+abbrev pub MayFailToWrite : {R : Type 0} → (R → Option (List ℕ)) → Mode → Counted R → Counted R → Type 0
+MayFailToWrite remaining Lead from to = ⊤
+MayFailToWrite remaining Follow from to = HasReadAll remaining (λ bytes. AreReplies (lines bytes)) from to
+MayFailToWrite remaining Least from to = HasReadAll remaining (λ bytes. AreReplies (lines bytes)) from to

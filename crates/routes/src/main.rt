@@ -1,4 +1,4 @@
-//! The program `routes`: a route table by lines from standard input, and replies to standard output.
+//! The program `routes`: reads the lines of a route table from standard input, and writes the replies to standard output.
 #![tactic(auto)]
 
 ghost use Rattle.std.specs.Prelude.{◌≡◌, ◌↔◌, ◌⊎◌, [], ◌∷◌, drop, map, IfErr, IfOk, IfSome, IsErrOf, Ok, OnOk, Some};
@@ -9,7 +9,7 @@ ghost use Rattle.route_feed.specs.Follows.{MeetsAnother};
 ghost use Rattle.route_feed.specs.Status.{status_of};
 ghost use Rattle.route_feed.specs.declared.error.RunError.{RunError as AnyRunError};
 ghost use Rattle.routes.specs.Asked.{AnyMode, word_of};
-ghost use Rattle.routes.specs.Runs.{Ends, Writes};
+ghost use Rattle.routes.specs.Runs.{Ends, MayFailToWrite, MayLackMemory, Writes};
 
 use route_feed::{
     AtEnd, Counted, Input, Output, REPLY, RunError, follow_then, lead_then, let_go, shorten,
@@ -23,21 +23,21 @@ use std::io::{BufWriter, Read, Write};
 use std::process::ExitCode;
 use thiserror::Error;
 
-/// What the program does.
+/// The mode of the program.
 #[derive(Clone, Copy, PartialEq, Eq)]
 enum Mode {
-    /// Answers command lines.
+    /// Carries out command lines.
     Lead,
     /// Follows the reply lines of a leader.
     Follow,
-    /// Writes the commands of a least table for them.
+    /// Follows them, and writes the commands of a least table.
     Least,
 }
 
-/// Why the program ends with a status above 0. Each prints its line on standard error.
+/// Why the program ends with a status above 0. Each fault prints its line on standard error.
 #[derive(Clone, Copy, Debug, PartialEq, Eq, Error)]
 enum Fault {
-    /// The arguments can't be had.
+    /// The arguments can't be read.
     #[error("routes: no memory")]
     Arguments,
     /// The arguments aren't exactly one mode.
@@ -63,7 +63,7 @@ impl Fault {
     }
 }
 
-// The mode that the arguments ask for.
+// The mode that the arguments name.
 fn asked_mode<R: Env + Alloc>(rt: &R) -> Result<Mode, Fault>
     ensures { IfErr result (λ e. (e ≡ Fault.Arguments) ⊎ (e ≡ Fault.Usage)) }
 {
@@ -73,7 +73,7 @@ fn asked_mode<R: Env + Alloc>(rt: &R) -> Result<Mode, Fault>
     }
 }
 
-// The mode that this word asks for.
+// The mode with this name.
 fn named(word: &str) -> Option<Mode>
     ensures { (mode : AnyMode) → (result ≡ Some mode) ↔ (word.now ≡ word_of mode) }
 {
@@ -85,7 +85,7 @@ fn named(word: &str) -> Option<Mode>
     }
 }
 
-// The mode that these arguments ask for: after the program's name stands exactly one word, that of the mode.
+// The mode that these arguments name: exactly one word must follow the program's name.
 fn mode_of<A: Allocator>(mut args: Args<A>) -> Result<Mode, Fault>
     ensures asks { (mode : AnyMode) → (result ≡ Ok mode) ↔ (drop 1 (map string_bytes (into_iter_items args)) ≡ word_of mode ∷ []) }
     ensures usage { IfErr result (λ e. e ≡ Fault.Usage) }
@@ -100,7 +100,7 @@ fn mode_of<A: Allocator>(mut args: Args<A>) -> Result<Mode, Fault>
     }
 }
 
-// Leads, follows or shortens. The program ends next, so a table's memory is left to the system.
+// Leads, follows or compresses. The program exits next, so the system frees the memory of the table.
 fn run_as<R: Read, W: Write>(
     mode: Mode,
     alloc: Global,
@@ -118,8 +118,8 @@ fn run_as<R: Read, W: Write>(
     }
 }
 
-// Runs in this mode from the input to the output, and hands the output back. A reply is written out once no more lines are
-// here. What a failed write left unwritten is let go. A leader meets no lines that are none.
+// Runs in this mode from the input to the output, and returns the output. A reply is written out when no more lines are available. If a
+// write fails, the bytes that are left are dropped. A leader never meets a line that it can't reply to.
 fn run_mode<R: Read, W: Write + Drop>(
     mode: Mode,
     alloc: Global,
@@ -130,6 +130,8 @@ fn run_mode<R: Read, W: Write + Drop>(
     requires { CanRead reader.old }
     ensures known { IfOk result (λ w. IfSome (R.remaining reader.old.device) (λ bytes. Writes mode bytes (W.contents output) (W.contents w))) }
     ensures read { IsErrOf result RunError.Read → ReadFault reader.old reader.new }
+    ensures memory { IsErrOf result RunError.Memory → MayLackMemory R.remaining mode reader.old reader.new }
+    ensures write { IsErrOf result RunError.Write → MayFailToWrite R.remaining mode reader.old reader.new }
     ensures line { IsErrOf result RunError.Line → ((mode ≡ Mode.Follow) ⊎ (mode ≡ Mode.Least)) × MeetsAnother R.remaining reader.old reader.new }
     ensures read_well { (IsErrOf result RunError.Read → ⊥) → reader.new.faults ≡ reader.old.faults }
 {

@@ -1,12 +1,12 @@
--- What `routes_line` does.
+-- The effect of `routes_line`.
 use Rattle.std.specs.Prelude.{◌≡◌, ◌⊎◌, ℕ, Bool, List, [], ◌++◌}
 use Rattle.route_feed.specs.Replies.{printed}
 use Rattle.route_feed.specs.Steps.{step, answer_lines}
 use Rattle.route_lines.specs.Spelled.{command_of}
 use Rattle.routes_c.specs.declared.session.Session.{Session}
 
--- the line is one step of a leader, where its command may be refused for want of memory: at 0 the printed reply is kept, at 2 a
--- beginning of it. The table is the one after the step, and the lists stay
+-- the line is one step of a leader, whose command may be refused because memory ran out. At 0 the printed reply is stored, at 2 only a
+-- beginning of it. The table is the one after the step, and the lists are unchanged
 pub record Answered (s t : Session) (line : List ℕ) (code : ℕ) : Type 0 where
   pub refused : Bool
   pub cut : List ℕ

@@ -1,4 +1,4 @@
--- What a handle may have.
+-- The contents that a handle may have.
 use Rattle.std.specs.Prelude.{Option, None, Some}
 use Rattle.std.specs.Borrow.{Fml, LendsIf, MutBor, RattleType}
 use Rattle.routes_c.specs.contracts.content.Content.{the_row}
@@ -8,24 +8,24 @@ use Rattle.routes_c.specs.declared.follower_session.FollowerSession.{FollowerSes
 use Rattle.routes_c.specs.declared.index_session.IndexSession.{IndexSession}
 use Rattle.routes_c.specs.declared.session.Session.{Session}
 
--- the table that it is, if it is one
+-- the table, if the content is one
 abbrev pub table_in : Content → Option Session
 table_in (Table s) = Some s
 table_in (Index i) = None
 table_in (Follower f) = None
 
--- the index that it is
+-- the index, if the content is one
 abbrev pub index_in : Content → Option IndexSession
 index_in (Table s) = None
 index_in (Index i) = Some i
 index_in (Follower f) = None
 
--- the follower that it is
+-- the follower, if the content is one
 abbrev pub follower_in : Content → Option FollowerSession
 follower_in (Table s) = None
 follower_in (Index i) = None
 follower_in (Follower f) = Some f
 
--- what is of one kind is lent, and else none
+-- the content is lent if it is of this kind, and else it is unchanged
 abbrev pub LendsPart : (T : RattleType) → (T.Denot → Content) → MutBor Content → Option (MutBor T.Denot) → Fml
 LendsPart T whole s r = LendsIf the_row T s r whole s.now

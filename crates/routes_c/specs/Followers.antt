@@ -1,4 +1,4 @@
--- What the calls on a follower do.
+-- The effects of the calls on a follower.
 use Rattle.std.specs.Prelude.{◌≡◌, ◌≢◌, ◌⊎◌, ℕ, Bool, true, false, List, Option, None, Some}
 use Rattle.ipnet_addr.specs.Addresses.{Address}
 use Rattle.route_feed.specs.Following.{TakesLine}
@@ -15,8 +15,8 @@ use Rattle.routes_c.specs.declared.follower_session.FollowerSession.{FollowerSes
 use Rattle.routes_c.specs.declared.handle.Handle.{Handle}
 use Rattle.routes_c.specs.declared.kept.Kept.{Kept}
 
--- a line: 0 where it is taken; 7 where it is no reply line; 2 where there is no memory for a change, to keep it or to carry it out; 8 where
--- there was a fault before, and only then. 2 and 7 are faults. The lists stay
+-- a line: 0 if it was read; 7 if it isn't a reply line; 2 if an allocation fails for keeping or committing a change; 8 exactly if there
+-- was a fault before. 2 and 7 are faults. The lists are unchanged
 pub record Follows (s t : FollowerSession) (text : List ℕ) (code : ℕ) : Type 0 where
   pub answers : (code ≡ 0) ⊎ ((code ≡ 2) ⊎ ((code ≡ 7) ⊎ (code ≡ 8)))
   pub taken : code ≡ 0 → (line : Reply) × (reply_of text ≡ Some line) × TakesLine s.follower t.follower line
@@ -27,18 +27,18 @@ pub record Follows (s t : FollowerSession) (text : List ℕ) (code : ℕ) : Type
   pub fault : code ≢ 0 → t.follower.failed ≡ true
   pub kept : t.kept ≡ s.kept
 
--- the hop of an address, by whether there was a fault: 8 after one; else 0 and the number, or 1 where the address has none. At 1 and 8 the
--- number is as it was
+-- the hop of an address: 8 after a fault; without one 0 and the number of the hop, or 1 if the address has no hop. At 1 and 8 the
+-- number is unchanged
 abbrev pub TellsHop : Bool → Option ℕ → ℕ → ℕ → ℕ → Type 0
 TellsHop true hop code old new = (code ≡ 8) × (new ≡ old)
 TellsHop false None code old new = (code ≡ 1) × (new ≡ old)
 TellsHop false (Some k) code old new = (code ≡ 0) × (new ≡ k)
 
--- a call that tells the hop of an address; 3 where there is no follower, and then the number is as it was
+-- a call that looks up the hop of an address; 3 if there is no follower, and then the number is unchanged
 abbrev pub TellsHopAt : Handle → Handle → Address → ℕ → ℕ → ℕ → Type 0
 TellsHopAt old new x code was now = Reads follower_of old new ((code ≡ 3) × (now ≡ was)) (λ s. TellsHop s.follower.failed (hop_at (routes_of s.follower.table) x) code was now)
 
--- a list of the hops: 0 where it is made, 2 where there is no memory, and 8 just after a fault. All else stays
+-- a list of the hops: 0 if it was made, 2 if an allocation fails, and 8 exactly after a fault. All else is unchanged
 pub record FollowerMakes (s t : FollowerSession) (list : Kept → Kept → ℕ → Type 0) (code : ℕ) : Type 0 where
   pub answers : (code ≡ 0) ⊎ ((code ≡ 2) ⊎ (code ≡ 8))
   pub made : list s.kept t.kept code

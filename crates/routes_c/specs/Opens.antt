@@ -1,4 +1,4 @@
--- What the calls that open a handle do.
+-- The effects of the calls that open a handle.
 use Rattle.std.specs.Prelude.{◌≡◌, ◌⊎◌, ℕ, [], true, false, List, Option, None, Some, MatchOption}
 use Rattle.ipnet_addr.specs.Addresses.{Address, IsAddress}
 use Rattle.hop_index.specs.Indexes.{Index, hop_of}
@@ -10,7 +10,7 @@ use Rattle.routes_c.specs.declared.follower_session.FollowerSession.{FollowerSes
 use Rattle.routes_c.specs.declared.kept.Kept.{Kept}
 use Rattle.routes_c.specs.declared.session.Session.{Session}
 
--- an open handle stays as it was, with 4; a closed one has new content of this property, with 0, or stays closed, with a number of this one
+-- an open handle is unchanged, with 4; a closed one gets content of this property, with 0, or stays closed, with another number
 abbrev pub Opens : Option Content → Option Content → (ℕ → Type 0) → (Content → Type 0) → ℕ → Type 0
 Opens (Some c) after refused opened code = (code ≡ 4) × (after ≡ Some c)
 Opens None None refused opened code = refused code
@@ -25,7 +25,7 @@ pub record IsEmpty (k : Kept) : Type 0 where
 abbrev pub IsNewTable : Content → Type 0
 IsNewTable c = MatchOption (table_in c) ⊥ (λ s. (s.table ≡ []) × (s.reply.items ≡ []) × IsEmpty s.kept)
 
--- a follower that has taken no line
+-- a follower that has read no line
 abbrev pub IsNewFollower : Content → Type 0
 IsNewFollower c = MatchOption (follower_in c) ⊥ (λ s. (s.follower ≡ record { table = []; pending = []; failed = false }) × IsEmpty s.kept)
 
@@ -37,16 +37,16 @@ HasHopsOf T i = (x : Address) → IsAddress x → hop_of i x ≡ hop_at (routes_
 abbrev pub IsIndexOf : List Stored → Content → Type 0
 IsIndexOf T c = MatchOption (index_in c) ⊥ (λ i. HasHopsOf T i.index)
 
--- an index of a table: 3 where there is no table, 2 where there is no memory
+-- an index of a table: 3 if there is no table, 2 if an allocation fails
 abbrev pub OpensIndex : Option Content → Option Content → Option Session → ℕ → Type 0
 OpensIndex before after None code = Opens before after (λ k. k ≡ 3) (λ c. ⊥) code
 OpensIndex before after (Some s) code = Opens before after (λ k. k ≡ 2) (IsIndexOf s.table) code
 
--- the number of a refused index: 8 just after a fault, else 2
+-- the number for an index that could not be made: 8 exactly after a fault, else 2
 abbrev pub IsNoIndex : FollowerSession → ℕ → Type 0
 IsNoIndex s code = ((code ≡ 8) × (s.follower.failed ≡ true)) ⊎ ((code ≡ 2) × (s.follower.failed ≡ false))
 
--- an index of a follower: 3 where there is no follower
+-- an index of a follower: 3 if there is no follower
 abbrev pub OpensIndexOf : Option Content → Option Content → Option FollowerSession → ℕ → Type 0
 OpensIndexOf before after None code = Opens before after (λ k. k ≡ 3) (λ c. ⊥) code
 OpensIndexOf before after (Some s) code = Opens before after (IsNoIndex s) (λ c. (s.follower.failed ≡ false) × IsIndexOf s.follower.table c) code

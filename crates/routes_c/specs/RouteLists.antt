@@ -1,4 +1,4 @@
--- Lists of routes of a table, as C has them.
+-- Lists of routes of a table, in the layout of C.
 use Rattle.std.specs.Prelude.{◌≡◌, ◌==◌, ℕ, List, Option, None, Some, filter, map, take}
 use Rattle.ipnet.specs.IpNets.{block, network_at}
 use Rattle.ipnet_blocks.specs.Blocks.{Block}
@@ -16,11 +16,11 @@ use Rattle.routes_c.specs.declared.asked.Asked.{Asked}
 use Rattle.routes_c.specs.declared.asked.Asked.TheVariants as ask
 use Rattle.routes_c.specs.declared.shown.Route.{Route}
 
--- a route as C has it
+-- a route in the layout of C
 abbrev pub route_shown : TableRoute → Route
 route_shown r = shown (network_at r.block) r.hop r.pref
 
--- these are routes of which the property holds, in their order
+-- these are routes that have the property, in order
 abbrev pub Shown : (List TableRoute → Type 0) → List Route → Type 0
 Shown P items = (rs : List TableRoute) × P rs × (items ≡ map route_shown rs)
 
@@ -28,7 +28,7 @@ Shown P items = (rs : List TableRoute) × P rs × (items ≡ map route_shown rs)
 abbrev pub all_routes : List Stored → Block → List TableRoute
 all_routes T b = map (λ c. record { block = b; hop = c.hop; pref = c.pref }) (choices_at T b)
 
--- a route of the default preference
+-- a route with the default preference
 abbrev pub default_route : Hop → Block → TableRoute
 default_route k b = record { block = b; hop = k; pref = default_preference }
 
@@ -36,7 +36,7 @@ default_route k b = record { block = b; hop = k; pref = default_preference }
 abbrev pub own_routes : List TableRoute → ℕ → List TableRoute
 own_routes M k = map (default_route (Number k)) (blocks_of (filter (λ p. p.number == k) (flat_of (hop_at M))))
 
--- the hop of a match; `drop` where there is none
+-- the hop of a match, or `drop` if there is none
 abbrev pub hop_or_drop : Option TableRoute → Hop
 hop_or_drop None = Drop
 hop_or_drop (Some r) = r.hop
@@ -45,7 +45,7 @@ hop_or_drop (Some r) = r.hop
 abbrev pub AreGoverned : List TableRoute → Block → List TableRoute → Type 0
 AreGoverned M n rs = (bs : List Block) × IsMaximal (Governed M n) bs × (rs ≡ map (default_route (hop_or_drop (match_of M n))) bs)
 
--- what is asked for
+-- the routes that the call asks for
 abbrev pub AreAsked : Asked → List Stored → List TableRoute → Type 0
 AreAsked (ask.Inside n) T rs = rs ≡ routes_inside (routes_of T) (block n)
 AreAsked (ask.Cover n) T rs = rs ≡ covering (routes_of T) (block n)

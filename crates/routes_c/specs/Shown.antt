@@ -1,4 +1,4 @@
--- Networks, hops and routes as C has them.
+-- Networks, hops and routes in the layout of C.
 use Rattle.std.specs.Prelude.{ℕ, ◌/◌, ◌%◌, ◌^◌, nat_lt, if◌then◌else◌, List, Option, Some, None}
 use Rattle.std.specs.Option.{option_map}
 use Rattle.ipnet.specs.IpNets.{network_at}
@@ -22,26 +22,26 @@ abbrev pub hop_shown : Hop → ℕ
 hop_shown (Number k) = k
 hop_shown Drop = 2 ^ 32
 
--- the number of the addresses' hop, or 2^32 where they have none
+-- the number of a hop, or 2^32 for none
 abbrev pub number_shown : Option ℕ → ℕ
 number_shown None = 2 ^ 32
 number_shown (Some k) = k
 
--- the hop of what a query answers, as one number: 2^32 for `drop`, and 2^33 where there is none
+-- the hop of a lookup's result as one number: 2^32 for `drop`, and 2^33 for no match
 abbrev pub match_shown : Option (IpNet × Hop × ℕ) → ℕ
 match_shown None = 2 ^ 33
 match_shown (Some f) = hop_shown f.1
 
--- the route: the address of an IPv6 network in two halves
+-- the route in the layout of C: the address of an IPv6 network in two halves
 abbrev pub shown : IpNet → Hop → ℕ → Route
 shown (V4 n) k p = record { high = 0; low = n.number; hop = hop_shown k; pref = p; family = 4; len = n.len }
 shown (V6 n) k p = record { high = n.number / 2 ^ 64; low = n.number % 2 ^ 64; hop = hop_shown k; pref = p; family = 6; len = n.len }
 
--- what a query answers, as C has it
+-- the result of a lookup in the layout of C
 abbrev pub found_shown : IpNet × Hop × ℕ → Route
 found_shown f = shown f.0 f.1 f.2
 
--- the longest match of a block in a table, as C has it
+-- the longest match of a block in a table, in the layout of C
 abbrev pub found_at : List Stored → Block → Option Route
 found_at T b = option_map found_shown (option_map item_of (match_of (routes_of T) b))
 

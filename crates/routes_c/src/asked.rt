@@ -1,4 +1,4 @@
-//! Lists of routes of a table, as C has them.
+//! Lists of routes of a table, in the layout of C.
 ghost use Rattle.std.specs.Prelude.{◌≡◌, IfOk, map, take};
 ghost use Rattle.ipnet.specs.IpNets.{block};
 ghost use Rattle.route_laws.specs.LeastTables.{IsLeast, routes_for};
@@ -11,28 +11,28 @@ use ipnet::IpNet;
 use route_table::{All, DEFAULT_PREFERENCE, Governed, Hop, RouteTable, Routes};
 use std::alloc::{AllocError, Global};
 
-/// What a list of routes is asked for.
+/// The list of routes that a call asks for.
 #[derive(Clone, Copy)]
 pub enum Asked {
-    /// The routes inside a network.
+    /// The routes of the networks inside a network.
     Inside(IpNet),
-    /// The routes whose networks contain this one.
+    /// The routes of the networks that contain a network.
     Cover(IpNet),
-    /// So many routes from a network on.
+    /// At most this many routes, from a network on.
     From(IpNet, usize),
-    /// So many routes after a network.
+    /// At most this many routes after a network.
     After(IpNet, usize),
     /// All routes of a network.
     All(IpNet),
-    /// What a network governs.
+    /// The blocks that a network governs.
     Governed(IpNet),
     /// The blocks of a hop number.
     Own(u32),
-    /// A least table.
+    /// The routes of a least table.
     Least,
 }
 
-/// The routes.
+/// The list of the routes.
 fn routes(alloc: Global, routes: Routes<'_>) -> Result<Vec<Route>, AllocError>
     ensures { IfOk result (λ v. v.items ≡ map route_shown routes.entry) }
 {
@@ -43,7 +43,7 @@ fn routes(alloc: Global, routes: Routes<'_>) -> Result<Vec<Route>, AllocError>
     Ok(list)
 }
 
-/// So many of the routes.
+/// The list of the first `limit` routes.
 fn page(alloc: Global, mut routes: Routes<'_>, limit: usize) -> Result<Vec<Route>, AllocError>
     ensures { IfOk result (λ v. v.items ≡ map route_shown (take limit routes.entry)) }
 {
@@ -57,7 +57,7 @@ fn page(alloc: Global, mut routes: Routes<'_>, limit: usize) -> Result<Vec<Route
     Ok(list)
 }
 
-/// The routes of one network.
+/// The list of the routes of one network.
 fn choices(alloc: Global, net: &IpNet, choices: All<'_>) -> Result<Vec<Route>, AllocError>
     ensures { IfOk result (λ v. v.items ≡ map route_shown (map (λ c. record { block = block net.now; hop = c.hop; pref = c.pref }) choices.entry)) }
 {
@@ -68,7 +68,7 @@ fn choices(alloc: Global, net: &IpNet, choices: All<'_>) -> Result<Vec<Route>, A
     Ok(list)
 }
 
-/// The blocks, all with this hop.
+/// The list of the blocks, all with this hop.
 fn blocks(alloc: Global, blocks: Governed<'_>, hop: Hop) -> Result<Vec<Route>, AllocError>
     ensures { IfOk result (λ v. v.items ≡ map route_shown (map (default_route hop) blocks.entry)) }
 {
@@ -79,7 +79,7 @@ fn blocks(alloc: Global, blocks: Governed<'_>, hop: Hop) -> Result<Vec<Route>, A
     Ok(list)
 }
 
-/// The networks, all with this hop.
+/// The list of the networks, all with this hop.
 fn networks(alloc: Global, networks: &[IpNet], hop: Hop) -> Result<Vec<Route>, AllocError>
     ensures { IfOk result (λ v. v.items ≡ map route_shown (map (default_route hop) (map block networks.now))) }
 {
@@ -90,7 +90,7 @@ fn networks(alloc: Global, networks: &[IpNet], hop: Hop) -> Result<Vec<Route>, A
     Ok(list)
 }
 
-/// The networks, each with its hop.
+/// The list of the networks, each with its hop.
 pub(crate) fn items(alloc: Global, items: &[(IpNet, Hop)]) -> Result<Vec<Route>, AllocError>
     ensures { IfOk result (λ v. v.items ≡ map route_shown (routes_for items.now)) }
 {
@@ -101,7 +101,7 @@ pub(crate) fn items(alloc: Global, items: &[(IpNet, Hop)]) -> Result<Vec<Route>,
     Ok(list)
 }
 
-/// What the network governs.
+/// The list of the blocks that the network governs.
 fn governed(alloc: Global, table: &RouteTable, net: &IpNet) -> Result<Vec<Route>, AllocError>
     ensures { IfOk result (λ v. Shown (AreGoverned (routes_of table.now) (block net.now)) v.items) }
 {
@@ -112,7 +112,7 @@ fn governed(alloc: Global, table: &RouteTable, net: &IpNet) -> Result<Vec<Route>
     blocks(alloc, table.governed(net), hop)
 }
 
-/// The blocks of the hop number.
+/// The list of the blocks of the hop number.
 fn own(alloc: Global, table: &RouteTable, number: u32) -> Result<Vec<Route>, AllocError>
     ensures { IfOk result (λ v. v.items ≡ map route_shown (own_routes (routes_of table.now) number)) }
 {
@@ -122,7 +122,7 @@ fn own(alloc: Global, table: &RouteTable, number: u32) -> Result<Vec<Route>, All
     }
 }
 
-/// A least table.
+/// The list of the routes of a least table.
 fn least(alloc: Global, table: &RouteTable) -> Result<Vec<Route>, AllocError>
     ensures { IfOk result (λ v. Shown (IsLeast (hop_at (routes_of table.now))) v.items) }
 {
@@ -133,7 +133,7 @@ fn least(alloc: Global, table: &RouteTable) -> Result<Vec<Route>, AllocError>
 }
 
 impl Asked {
-    /// The list that is asked for.
+    /// The list that the call asks for.
     pub(crate) fn list(self, alloc: Global, table: &RouteTable) -> Result<Vec<Route>, AllocError>
         ensures { IfOk result (λ v. Shown (AreAsked self table.now) v.items) }
     {

@@ -30,7 +30,7 @@ fn add(
     })
 }
 
-/// Takes a route of the network out.
+/// Removes a route of the network.
 fn del(alloc: Global, handle: &mut Handle, net: &IpNet, hop: u64, change: &mut Change) -> u32
     requires { IsHandle handle.old }
     ensures { Changes handle.old handle.new (λ T U. Removes T U (block net.now) (given_hop hop)) result change.old change.new }
@@ -40,11 +40,11 @@ fn del(alloc: Global, handle: &mut Handle, net: &IpNet, hop: u64, change: &mut C
     })
 }
 
-/// Adds a route of an IPv4 network, or gives the route of this hop that it has the new preference. Bits of the address past the
-/// length are ignored; a hop from 2^32 on is `drop`.
+/// Adds a route of an IPv4 network. If the network has this hop already, its preference changes. Bits of the address past the length are
+/// ignored, and a hop from 2^32 on is `drop`.
 ///
-/// 0, and the change; 2 where there is no memory; 3 where the handle is closed; 5 where eight other hops are stored at the network;
-/// 6 where the length is over 32. At all but 0 nothing is changed, `change` neither.
+/// Returns 0 and sets `change`. Fails with 2 if an allocation fails, 3 if the handle is closed, 5 if the network has eight other hops,
+/// and 6 if the length is above 32. Then nothing changes.
 #[unsafe(no_mangle)]
 pub extern "C" fn routes_add4(
     alloc: Global,
@@ -66,8 +66,8 @@ pub extern "C" fn routes_add4(
 
 /// Adds a route of an IPv6 network, as `routes_add4` does.
 ///
-/// 0, and the change; 2 where there is no memory; 3 where the handle is closed; 5 where eight other hops are stored at the network;
-/// 6 where the length is over 128. At all but 0 nothing is changed, `change` neither.
+/// Returns 0 and sets `change`. Fails with 2 if an allocation fails, 3 if the handle is closed, 5 if the network has eight other hops,
+/// and 6 if the length is above 128. Then nothing changes.
 #[unsafe(no_mangle)]
 pub extern "C" fn routes_add6(
     alloc: Global,
@@ -88,10 +88,10 @@ pub extern "C" fn routes_add6(
     }
 }
 
-/// Takes the route of this hop out of an IPv4 network, and the network with its last route.
+/// Removes the route of this hop from an IPv4 network, and removes the network with its last route. Does not allocate.
 ///
-/// 0, and the change; 1 where the network has no such hop; 3 where the handle is closed; 6 where the length is over 32. At all but 0
-/// nothing is changed, `change` neither. It takes no memory.
+/// Returns 0 and sets `change`. Fails with 1 if the network has no such hop, 3 if the handle is closed, and 6 if the length is above 32.
+/// Then nothing changes.
 #[unsafe(no_mangle)]
 pub extern "C" fn routes_del4(
     alloc: Global,
@@ -110,10 +110,10 @@ pub extern "C" fn routes_del4(
     }
 }
 
-/// Takes the route of this hop out of an IPv6 network, as `routes_del4` does.
+/// Removes the route of this hop from an IPv6 network, as `routes_del4` does. Does not allocate.
 ///
-/// 0, and the change; 1 where the network has no such hop; 3 where the handle is closed; 6 where the length is over 128. At all but 0
-/// nothing is changed, `change` neither. It takes no memory.
+/// Returns 0 and sets `change`. Fails with 1 if the network has no such hop, 3 if the handle is closed, and 6 if the length is above 128.
+/// Then nothing changes.
 #[unsafe(no_mangle)]
 pub extern "C" fn routes_del6(
     alloc: Global,

@@ -1,4 +1,4 @@
-//! What an open handle has.
+//! The content of an open handle.
 ghost use Rattle.std.specs.Prelude.{◌≡◌, Option, None, Some, MatchOption, refl};
 ghost use Rattle.std.specs.Borrow.{sem};
 ghost use Rattle.routes_c.specs.Contents.{LendsPart, follower_in, index_in, table_in};
@@ -9,7 +9,7 @@ use crate::follower_session::FollowerSession;
 use crate::index_session::IndexSession;
 use crate::session::Session;
 
-/// What an open handle has, in a box.
+/// The content of an open handle; the handle has it in a box.
 #[derive(Drop)]
 pub enum Content {
     /// A table.
@@ -22,13 +22,13 @@ pub enum Content {
 
 /// A kind of content.
 pub(crate) trait Kind {
-    /// What a content is of this kind.
+    /// The content as one of this kind, or `None` if it is of another kind.
     ghost part: { Content → Option Self };
 
-    /// The content that this is.
+    /// The content that is made of one of this kind.
     ghost whole: { Self → Content };
 
-    /// What there is of this kind.
+    /// Returns the content if it is of this kind.
     fn of(content: &mut Content) -> Option<&mut Self>
         ensures* lends { sem 𝓛 (LendsPart Self.row whole content.entry result) }
         ensures value { MatchOption result (part content.old ≡ None) (λ r. part content.old ≡ Some r.now) };

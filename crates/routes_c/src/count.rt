@@ -1,4 +1,4 @@
-//! How many networks are stored.
+//! The number of stored networks.
 ghost use Rattle.std.specs.Prelude.{◌≡◌};
 ghost use Rattle.ipnet_addr.specs.Addresses.{Ipv4, Ipv6};
 ghost use Rattle.route_laws.specs.Networks.{routes_of};
@@ -9,9 +9,9 @@ use crate::handle::Handle;
 use crate::session::Session;
 use std::alloc::Global;
 
-/// How many networks of each family are stored. It takes no memory.
+/// Sets `ipv4` and `ipv6` to the number of stored networks of each family. Does not allocate.
 ///
-/// 0, and the two numbers; 3 where the handle is closed, and then they are as they were.
+/// Returns 0. Fails with 3 if the handle is closed; then both numbers are unchanged.
 #[unsafe(no_mangle)]
 pub extern "C" fn routes_count(
     alloc: Global,

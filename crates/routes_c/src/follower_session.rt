@@ -1,4 +1,4 @@
-//! What an open handle of a follower has.
+//! The content of an open handle of a follower.
 ghost use Rattle.std.specs.Prelude.{◌≡◌, IfErr, IfOk, false};
 ghost use Rattle.ipnet_addr.specs.Addresses.{address_of};
 ghost use Rattle.route_laws.specs.LeastTables.{IsLeast};
@@ -23,7 +23,7 @@ pub struct FollowerSession {
     pub(crate) kept: Kept,
 }
 
-/// The routes of a least table of the hops, if the follower has not failed.
+/// The routes of a least table of the hops.
 fn least_of(alloc: Global, follower: &Follower) -> Result<Vec<Route>, AllocError>
     ensures { IfOk result (λ v. Shown (IsLeast (hop_at (routes_of follower.now.table))) v.items) }
 {
@@ -34,7 +34,7 @@ fn least_of(alloc: Global, follower: &Follower) -> Result<Vec<Route>, AllocError
 }
 
 impl FollowerSession {
-    /// A follower, without a list.
+    /// Makes the content for a follower, without lists.
     pub(crate) fn new(alloc: Global, follower: Follower) -> FollowerSession
         ensures follower { result.follower ≡ follower }
         ensures kept { IsEmpty result.kept }
@@ -45,7 +45,7 @@ impl FollowerSession {
         }
     }
 
-    /// Takes a line.
+    /// Reads a line.
     pub(crate) fn line(&mut self, line: &[u8]) -> u32
         ensures { Follows self.old self.new line.now result }
     {
@@ -57,7 +57,7 @@ impl FollowerSession {
         }
     }
 
-    /// The hop of an address.
+    /// Looks up the hop of an address.
     pub(crate) fn get(&self, addr: IpAddr, hop: &mut u32) -> u32
         ensures { TellsHop self.now.follower.failed (hop_at (routes_of self.now.follower.table) (address_of addr)) result hop.old hop.new }
     {
@@ -83,7 +83,7 @@ impl FollowerSession {
         self.kept.flat(alloc, flat)
     }
 
-    /// Makes the list of routes: a least table.
+    /// Makes the list of routes of a least table.
     pub(crate) fn least(&mut self, alloc: Global) -> u32
         ensures { FollowerLists self.old self.new result }
     {
@@ -97,7 +97,7 @@ impl FollowerSession {
         0
     }
 
-    /// The hops, in an index.
+    /// Compiles an index of the hops.
     pub(crate) fn index(&self, alloc: Global) -> Result<HopIndex, u32>
         ensures works { IfOk result (λ _. self.now.follower.failed ≡ false) }
         ensures hops { IfOk result (λ i. HasHopsOf self.now.follower.table i) }

@@ -1,4 +1,4 @@
-//! A follower: a leader's reply lines in, the hops that they tell out.
+//! A follower: reads a leader's reply lines, and returns the hops that they report.
 ghost use Rattle.std.specs.Prelude.{◌≡◌, ◌+◌, ◌*◌, ◌^◌, slice_get};
 ghost use Rattle.ipnet_addr.specs.Addresses.{Ipv4, Ipv6, address_of};
 ghost use Rattle.routes_c.specs.Followers.{FollowerFlattens, FollowerLists, Follows, TellsHopAt};
@@ -11,11 +11,10 @@ use crate::shown::{Piece, Route, ip4, ip6};
 use ipnet::IpAddr;
 use std::alloc::Global;
 
-/// Takes a line of a leader's replies, given without its line end. A change waits for the line that closes its reply, and is carried
-/// out at `ok`.
+/// Reads a line of a leader's reply, given without its line end. A change is pending until its reply is closed, and `ok` commits it.
 ///
-/// 0; 2 where there is no memory for a change; 3 where the handle is closed; 7 where the text is no reply line; 8 after a fault, where it
-/// takes no more lines. 2 and 7 are faults.
+/// Returns 0. Fails with 2 if an allocation for a change fails, 3 if the handle is closed, and 7 if the text isn't a reply line. After a
+/// failure with 2 or 7, which are faults, each later call fails with 8.
 #[unsafe(no_mangle)]
 pub extern "C" fn routes_follower_line(alloc: Global, follower: &mut Handle, line: &[u8]) -> u32
     requires { IsHandle follower.old }
@@ -24,9 +23,9 @@ pub extern "C" fn routes_follower_line(alloc: Global, follower: &mut Handle, lin
     follower.on(alloc, 3, |session: &mut FollowerSession| session.line(line))
 }
 
-/// Makes the flat list of the hops. `routes_follower_piece_at` reads it.
+/// Makes the flat list of the hops, which `routes_follower_piece_at` reads.
 ///
-/// 0; 2 where there is no memory; 3 where the handle is closed; 8 after a fault. At 2 and 8 the list is as it was.
+/// Returns 0. Fails with 2 if an allocation fails, 3 if the handle is closed, and 8 after a fault. Then the list is unchanged.
 #[unsafe(no_mangle)]
 pub extern "C" fn routes_follower_flat(alloc: Global, follower: &mut Handle) -> u32
     requires { IsHandle follower.old }
@@ -37,9 +36,9 @@ pub extern "C" fn routes_follower_flat(alloc: Global, follower: &mut Handle) -> 
     })
 }
 
-/// The piece at an index of the list that was made last.
+/// Reads the piece at an index of the list that was made last.
 ///
-/// 0, and the piece; 1 past its end, where `piece` is as it was; 3 where the handle is closed.
+/// Returns 0 and sets `piece`. Fails with 1 past the end of the list, and 3 if the handle is closed. Then `piece` is unchanged.
 #[unsafe(no_mangle)]
 pub extern "C" fn routes_follower_piece_at(
     alloc: Global,
@@ -55,7 +54,7 @@ pub extern "C" fn routes_follower_piece_at(
     })
 }
 
-/// The hop of an address.
+/// Looks up the hop of an address.
 fn get(alloc: Global, follower: &mut Handle, addr: IpAddr, hop: &mut u32) -> u32
     requires { IsHandle follower.old }
     ensures { TellsHopAt follower.old follower.new (address_of addr) result hop.old hop.new }
@@ -65,9 +64,10 @@ fn get(alloc: Global, follower: &mut Handle, addr: IpAddr, hop: &mut u32) -> u32
     })
 }
 
-/// The hop of an IPv4 address. It takes no memory.
+/// Looks up the hop of an IPv4 address. Does not allocate.
 ///
-/// 0, and the hop; 1 where the address has none; 3 where the handle is closed; 8 after a fault. At all but 0 `hop` is as it was.
+/// Returns 0 and sets `hop`. Fails with 1 if the address has no hop, 3 if the handle is closed, and 8 after a fault. Then `hop` is
+/// unchanged.
 #[unsafe(no_mangle)]
 pub extern "C" fn routes_follower_get4(
     alloc: Global,
@@ -81,9 +81,10 @@ pub extern "C" fn routes_follower_get4(
     get(alloc, follower, ip4(addr), hop)
 }
 
-/// The hop of an IPv6 address, as `routes_follower_get4` tells that of IPv4. It takes no memory.
+/// Looks up the hop of an IPv6 address, as `routes_follower_get4` does. Does not allocate.
 ///
-/// 0, and the hop; 1 where the address has none; 3 where the handle is closed; 8 after a fault. At all but 0 `hop` is as it was.
+/// Returns 0 and sets `hop`. Fails with 1 if the address has no hop, 3 if the handle is closed, and 8 after a fault. Then `hop` is
+/// unchanged.
 #[unsafe(no_mangle)]
 pub extern "C" fn routes_follower_get6(
     alloc: Global,
@@ -98,10 +99,10 @@ pub extern "C" fn routes_follower_get6(
     get(alloc, follower, ip6(high, low), hop)
 }
 
-/// Lists the routes of a table with the same hop at every address and the fewest routes of all tables that have it, ascending, with the
-/// preference 100. Which of several such tables is open. `routes_follower_route_at` and `routes_follower_read` read the list.
+/// Lists the routes of a smallest table with the same hops, ascending, with preference 100. If there are several, it is any of them.
+/// `routes_follower_route_at` and `routes_follower_read` read the list.
 ///
-/// 0; 2 where there is no memory; 3 where the handle is closed; 8 after a fault. At 2 and 8 the list is as it was.
+/// Returns 0. Fails with 2 if an allocation fails, 3 if the handle is closed, and 8 after a fault. Then the list is unchanged.
 #[unsafe(no_mangle)]
 pub extern "C" fn routes_follower_least(alloc: Global, follower: &mut Handle) -> u32
     requires { IsHandle follower.old }
@@ -112,9 +113,9 @@ pub extern "C" fn routes_follower_least(alloc: Global, follower: &mut Handle) ->
     })
 }
 
-/// The route at an index of the list of routes that was made last.
+/// Reads the route at an index of the list of routes that was made last.
 ///
-/// 0, and the route; 1 past its end, where `route` is as it was; 3 where the handle is closed.
+/// Returns 0 and sets `route`. Fails with 1 past the end of the list, and 3 if the handle is closed. Then `route` is unchanged.
 #[unsafe(no_mangle)]
 pub extern "C" fn routes_follower_route_at(
     alloc: Global,
@@ -130,8 +131,8 @@ pub extern "C" fn routes_follower_route_at(
     })
 }
 
-/// Copies the list of routes that was made last from an index on, as far as there is room, and answers how many routes it copied. A
-/// closed handle has an empty one.
+/// Copies the list of routes that was made last, from an index on, as far as there is room. Returns the number of routes copied. A closed
+/// handle has an empty list.
 #[unsafe(no_mangle)]
 pub extern "C" fn routes_follower_read(
     alloc: Global,

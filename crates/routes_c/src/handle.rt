@@ -1,4 +1,4 @@
-//! A handle, and calls on what it has.
+//! Handles, and calls on their content.
 ghost use Rattle.std.specs.Prelude.{◌≡◌, None, Some, IfNone, IfSome, MatchOption, true, false};
 ghost use Rattle.std.specs.Fn.{FnOnceReturnsAtMut};
 ghost use Rattle.routes_c.specs.Handles.{GoesOn, IsClosed, IsHandle, content_of, of_kind};
@@ -9,7 +9,7 @@ use crate::held::Held;
 use std::alloc::Global;
 use std::mem::replace;
 
-/// A table, an index or a follower, open or closed. Zeroed memory is a closed one.
+/// A handle of a table, an index or a follower, open or closed. A handle of zero bytes is closed.
 #[repr(C)]
 pub struct Handle {
     pub held: Held,
@@ -17,7 +17,7 @@ pub struct Handle {
 }
 
 impl Handle {
-    /// Takes what an open handle has, and leaves it closed.
+    /// Takes the content out of the handle, and leaves it closed.
     pub(crate) fn take(&mut self, alloc: Global) -> Option<Box<Content>>
         requires { IsHandle self.old }
         ensures handle { IsHandle self.new }
@@ -32,7 +32,7 @@ impl Handle {
         Some(replace(&mut self.held, Held::none(alloc)).into_box())
     }
 
-    /// Gives it back.
+    /// Puts the content back into the handle.
     fn put(&mut self, content: Box<Content>)
         ensures handle { IsHandle self.new }
         ensures open { content_of self.new ≡ Some content.value }
@@ -41,7 +41,7 @@ impl Handle {
         self.is_open = true;
     }
 
-    /// Opens a closed handle: 0; 2 where there is no memory for a box, and then it stays closed.
+    /// Opens a closed handle. Returns 0, or 2 if the allocation of a box fails; then it stays closed.
     pub(crate) fn open(&mut self, alloc: Global, content: Content) -> u32
         requires closed { IsClosed self.old }
         requires handle { IsHandle self.old }
@@ -55,7 +55,7 @@ impl Handle {
         0
     }
 
-    /// Makes this call on what the handle has of the kind, if anything.
+    /// Calls `call` on the content of the handle. Returns `closed` if the handle is closed or its content is of another kind.
     pub(crate) fn on<K: Kind, R: Drop, F: FnOnce(&mut K) -> R>(
         &mut self,
         alloc: Global,
@@ -78,7 +78,7 @@ impl Handle {
         answer
     }
 
-    /// Makes this call on it, which also writes what it tells.
+    /// `on`, for a call that also sets `told`.
     pub(crate) fn on_with<K: Kind, T, R: Drop, F: FnOnce(&mut K, &mut T) -> R>(
         &mut self,
         alloc: Global,
@@ -102,7 +102,7 @@ impl Handle {
         answer
     }
 
-    /// Makes this call on it, which also writes as much as there is room for.
+    /// `on`, for a call that also fills `out`.
     pub(crate) fn on_slice<K: Kind, T, R: Drop, F: FnOnce(&mut K, &mut [T]) -> R>(
         &mut self,
         alloc: Global,

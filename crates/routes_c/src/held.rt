@@ -1,4 +1,4 @@
-//! What an open handle has, behind a pointer that C may keep.
+//! The content of an open handle, behind a pointer that C may keep.
 ghost use Rattle.std.specs.Prelude.{◌≡◌, Option, Some, None, is_some, true};
 ghost use Rattle.std.specs.Global.{Global};
 ghost use Rattle.routes_c.specs.Held.{held_owns, held_coded};
@@ -10,9 +10,9 @@ use std::alloc::Global;
 use std::marker::Model;
 use std::ptr::null_mut;
 
-/// What an open handle has, or nothing. C has one pointer of it, which is null where there is nothing.
+/// The content of an open handle, or none. C sees one pointer, which is null if there is no content.
 ///
-/// The cast hides its type from C. The ghost field has the content, and the struct owns its box.
+/// The cast hides the content's type from C. The ghost field has the content, and the struct owns its box.
 #[repr(C)]
 #[derive(Drop)]
 pub struct Held {
@@ -26,7 +26,7 @@ impl Model for Held {
 }
 
 impl Held {
-    /// Nothing.
+    /// No content.
     pub(crate) fn none(alloc: Global) -> Held
         ensures { result.content ≡ None }
     {
@@ -36,7 +36,7 @@ impl Held {
         }
     }
 
-    /// What is in this box.
+    /// The content of this box.
     pub(crate) fn of(content: Box<Content>) -> Held
         ensures { result.content ≡ Some content.value }
     {
@@ -53,7 +53,7 @@ impl Held {
         }
     }
 
-    /// It, in its box.
+    /// Returns the content in its box.
     pub(crate) fn into_box(self) -> Box<Content>
         requires { is_some self.content ≡ true }
         ensures { self.content ≡ Some result.value }

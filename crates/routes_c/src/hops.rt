@@ -1,4 +1,4 @@
-//! Hops of addresses as numbers, of a table and of an index: one, or many in one call.
+//! Hops of addresses as numbers, for a table and for an index: one, or many in one call.
 ghost use Rattle.std.specs.Prelude.{◌≡◌, ℕ, Some, length, map};
 ghost use Rattle.routes_c.specs.Handles.{Finds, IsHandle, index_of, session_of};
 ghost use Rattle.routes_c.specs.Many.{Answers, Fills, hop4_at, hop6_at, index_hop4, index_hop6};
@@ -11,11 +11,11 @@ use hop_index::HopIndex;
 use route_table::RouteTable;
 use std::alloc::Global;
 
-/// What tells the hop of an address as one number.
+/// A table or an index, which returns the hop of an address as one number.
 pub(crate) trait Hops<A> {
     ghost number: { Self → A → ℕ };
 
-    /// The hop of this address.
+    /// Returns the hop of this address as one number.
     fn hop_number(&self, addr: A) -> u64
         ensures { result ≡ number self.now addr };
 }
@@ -58,7 +58,7 @@ impl Hops<Addr6> for HopIndex {
     }
 }
 
-/// The hops of as many addresses.
+/// Looks up the hops of the addresses; both slices have the same length.
 fn fill_all<A: Copy, T: Hops<A>>(told: &T, addrs: &[A], hops: &mut [u64])
     requires { length hops.old ≡ length addrs.now }
     ensures { hops.new ≡ map (T.number told.now) addrs.now }
@@ -68,7 +68,7 @@ fn fill_all<A: Copy, T: Hops<A>>(told: &T, addrs: &[A], hops: &mut [u64])
     }
 }
 
-/// The hops of as many addresses as there is room for.
+/// Looks up the hops of as many addresses as there is room for.
 fn fill<A: Copy, T: Hops<A>>(told: &T, addrs: &[A], hops: &mut [u64]) -> u32
     ensures answers { result ≡ 0 }
     ensures hops { Fills (T.number told.now) addrs.now hops.old hops.new }
@@ -78,7 +78,7 @@ fn fill<A: Copy, T: Hops<A>>(told: &T, addrs: &[A], hops: &mut [u64]) -> u32
     0
 }
 
-/// The hop of one address.
+/// Looks up the hop of one address.
 fn tell_hop<A, T: Hops<A>>(told: &T, addr: A, hop: &mut u64) -> u32
     ensures answers { result ≡ 0 }
     ensures hop { hop.new ≡ T.number told.now addr }
@@ -87,10 +87,10 @@ fn tell_hop<A, T: Hops<A>>(told: &T, addr: A, hop: &mut u64) -> u32
     0
 }
 
-/// The hops of the longest matches of many IPv4 addresses, each as one number: 2^32 is `drop`, and 2^33 no match. As many are
-/// answered as there are addresses and room; what is left of `hops` stays. It takes no memory.
+/// Looks up the longest matches of many IPv4 addresses, and stores their hops in `hops`: 2^32 for `drop`, and 2^33 for no match. It stops
+/// at the end of the shorter slice, and leaves the rest of `hops` unchanged. Does not allocate.
 ///
-/// 0; 3 where the handle is closed, and then `hops` is as it was.
+/// Returns 0. Fails with 3 if the handle is closed; then `hops` is unchanged.
 #[unsafe(no_mangle)]
 pub extern "C" fn routes_get4_many(
     alloc: Global,
@@ -106,9 +106,9 @@ pub extern "C" fn routes_get4_many(
     })
 }
 
-/// The hops of the longest matches of many IPv6 addresses, as `routes_get4_many` answers them. It takes no memory.
+/// Looks up the longest matches of many IPv6 addresses, as `routes_get4_many` does. Does not allocate.
 ///
-/// 0; 3 where the handle is closed, and then `hops` is as it was.
+/// Returns 0. Fails with 3 if the handle is closed; then `hops` is unchanged.
 #[unsafe(no_mangle)]
 pub extern "C" fn routes_get6_many(
     alloc: Global,
@@ -124,9 +124,9 @@ pub extern "C" fn routes_get6_many(
     })
 }
 
-/// The hop of an IPv4 address; 2^32 where it has none. It takes no memory.
+/// Looks up the hop of an IPv4 address; 2^32 means that it has none. Does not allocate.
 ///
-/// 0; 3 where the handle is closed, and then `hop` is as it was.
+/// Returns 0 and sets `hop`. Fails with 3 if the handle is closed; then `hop` is unchanged.
 #[unsafe(no_mangle)]
 pub extern "C" fn routes_index_hop4(
     alloc: Global,
@@ -142,9 +142,9 @@ pub extern "C" fn routes_index_hop4(
     })
 }
 
-/// The hop of an IPv6 address; 2^32 where it has none. It takes no memory.
+/// Looks up the hop of an IPv6 address; 2^32 means that it has none. Does not allocate.
 ///
-/// 0; 3 where the handle is closed, and then `hop` is as it was.
+/// Returns 0 and sets `hop`. Fails with 3 if the handle is closed; then `hop` is unchanged.
 #[unsafe(no_mangle)]
 pub extern "C" fn routes_index_hop6(
     alloc: Global,
@@ -161,10 +161,10 @@ pub extern "C" fn routes_index_hop6(
     })
 }
 
-/// The hops of many IPv4 addresses, as `routes_index_hop4` tells them. As many are answered as there are addresses and room; what is
-/// left of `hops` stays. It takes no memory.
+/// Looks up the hops of many IPv4 addresses, as `routes_index_hop4` does, and stores them in `hops`. It stops at the end of the shorter
+/// slice, and leaves the rest of `hops` unchanged. Does not allocate.
 ///
-/// 0; 3 where the handle is closed, and then `hops` is as it was.
+/// Returns 0. Fails with 3 if the handle is closed; then `hops` is unchanged.
 #[unsafe(no_mangle)]
 pub extern "C" fn routes_index_hop4_many(
     alloc: Global,
@@ -180,9 +180,9 @@ pub extern "C" fn routes_index_hop4_many(
     })
 }
 
-/// The hops of many IPv6 addresses, as `routes_index_hop4_many` tells those of IPv4. It takes no memory.
+/// Looks up the hops of many IPv6 addresses, as `routes_index_hop4_many` does for IPv4. Does not allocate.
 ///
-/// 0; 3 where the handle is closed, and then `hops` is as it was.
+/// Returns 0. Fails with 3 if the handle is closed; then `hops` is unchanged.
 #[unsafe(no_mangle)]
 pub extern "C" fn routes_index_hop6_many(
     alloc: Global,

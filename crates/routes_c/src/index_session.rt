@@ -1,4 +1,4 @@
-//! What an open handle of an index has.
+//! The content of an open handle of an index.
 
 use hop_index::HopIndex;
 

@@ -1,4 +1,4 @@
-//! The lists that were made last, for C to read.
+//! The lists that were made last, which C reads.
 ghost use Rattle.std.specs.Prelude.{◌≡◌, ◌⊎◌, IfOk, map, slice_get};
 ghost use Rattle.routes_c.specs.Handles.{Copied, Told};
 ghost use Rattle.routes_c.specs.Lists.{MakesPieces};
@@ -16,7 +16,7 @@ pub struct Kept {
     pub(crate) routes: Vec<Route>,
 }
 
-/// The pieces as C has them.
+/// The pieces in the layout of C.
 fn shown_pieces(alloc: Global, flat: Flat<'_>) -> Result<Vec<Piece>, AllocError>
     ensures { IfOk result (λ v. v.items ≡ map piece_shown flat.entry) }
 {
@@ -27,7 +27,7 @@ fn shown_pieces(alloc: Global, flat: Flat<'_>) -> Result<Vec<Piece>, AllocError>
     Ok(list)
 }
 
-/// What stands at an index.
+/// Reads the item at an index.
 pub(crate) fn tell_at<T: Copy>(items: &[T], index: usize, told: &mut T) -> u32
     ensures { Told (slice_get items.now index) result told.old told.new }
 {
@@ -40,7 +40,7 @@ pub(crate) fn tell_at<T: Copy>(items: &[T], index: usize, told: &mut T) -> u32
     }
 }
 
-/// Copies what stands from a place on, as far as there is room.
+/// Copies the items from an index on, as far as there is room.
 pub(crate) fn copy_from<T: Copy>(items: &[T], from: usize, out: &mut [T]) -> usize
     ensures { Copied items.now from result out.old out.new }
 {
@@ -51,7 +51,7 @@ pub(crate) fn copy_from<T: Copy>(items: &[T], from: usize, out: &mut [T]) -> usi
 }
 
 impl Kept {
-    /// No lists yet.
+    /// Makes two empty lists.
     pub(crate) fn new(alloc: Global) -> Kept
         ensures { IsEmpty result }
     {
@@ -61,7 +61,7 @@ impl Kept {
         }
     }
 
-    /// Keeps the pieces of a flat list.
+    /// Stores the pieces of a flat list.
     pub(crate) fn flat(&mut self, alloc: Global, flat: Flat<'_>) -> u32
         ensures answers { (result ≡ 0) ⊎ (result ≡ 2) }
         ensures list { MakesPieces self.old self.new flat.entry result }

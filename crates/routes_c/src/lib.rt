@@ -1,8 +1,8 @@
-//! Route tables for C: a table, an index or a follower behind a handle that the caller owns, and its calls, on numbers and buffers.
+//! Route tables for C: a table, an index or a follower behind a handle that the caller owns. Its calls take numbers and buffers.
 //!
-//! A handle that has something of another kind than a call is for is answered as a closed one is, and keeps it.
+//! A handle that is open as another kind counts as closed, and keeps its content.
 //!
-//! include/routes.h has the C declarations. Nothing checks a C caller: it owes each `requires`, and what the types say.
+//! include/routes.h has the C declarations. Nothing checks a C caller: the caller must ensure each `requires` and what the types demand.
 #![tactic(auto)]
 
 pub mod asked;

@@ -1,4 +1,4 @@
-//! The line machine: a command line in, the bytes of its reply out.
+//! Command lines: each call takes a line, and stores the bytes of its reply.
 ghost use Rattle.std.specs.Prelude.{◌≡◌};
 ghost use Rattle.routes_c.specs.Answered.{Answered};
 ghost use Rattle.routes_c.specs.Handles.{Copies, GoesOn, IsHandle, session_of};
@@ -8,10 +8,10 @@ use crate::kept::copy_from;
 use crate::session::Session;
 use std::alloc::Global;
 
-/// Answers a command line, given without its line end, and keeps the reply, which `routes_reply` reads.
+/// Carries out a command line, given without its line end, and stores the reply, which `routes_reply` reads.
 ///
-/// 0; 2 where there is no memory for the reply: the table is the one after the line, and a beginning of the reply is kept; 3 where
-/// the handle is closed. Where there is no memory for what the command asks, the answer is 0 and the reply `refused`.
+/// Returns 0. Fails with 2 if an allocation for the reply fails, and 3 if the handle is closed. At 2, the table is the one after the
+/// line, and a beginning of the reply is stored. If an allocation for the command itself fails, it returns 0, and the reply is `refused`.
 #[unsafe(no_mangle)]
 pub extern "C" fn routes_line(alloc: Global, handle: &mut Handle, line: &[u8]) -> u32
     requires { IsHandle handle.old }
@@ -20,8 +20,8 @@ pub extern "C" fn routes_line(alloc: Global, handle: &mut Handle, line: &[u8]) -
     handle.on(alloc, 3, |session: &mut Session| session.line(alloc, line))
 }
 
-/// Copies the kept reply from a place on, as far as there is room, and answers how many bytes it copied. A closed handle has an
-/// empty one.
+/// Copies the stored reply, from a place on, as far as there is room. Returns the number of bytes copied. A closed handle has an empty
+/// reply.
 #[unsafe(no_mangle)]
 pub extern "C" fn routes_reply(
     alloc: Global,

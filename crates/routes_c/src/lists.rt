@@ -1,4 +1,4 @@
-//! Lists of pieces and of routes: made in the handle, and read from it by index, or copied from a place on.
+//! Lists of pieces and of routes: they are made in the handle, and read by index or copied.
 ghost use Rattle.std.specs.Prelude.{◌≡◌, ◌+◌, ◌*◌, ◌^◌, slice_get, take};
 ghost use Rattle.ipnet_addr.specs.Addresses.{Ipv4, Ipv6};
 ghost use Rattle.ipnet_blocks.specs.Networks.{block_of};
@@ -17,10 +17,9 @@ use crate::session::Session;
 use crate::shown::{Piece, Route, net4, net6};
 use std::alloc::Global;
 
-/// Makes the flat list: the shortest list of blocks of one hop, ascending, which covers all addresses that have a hop.
-/// `routes_piece_at` reads it.
+/// Makes the flat list: the shortest ascending list of one-hop blocks that covers all addresses with a hop. `routes_piece_at` reads it.
 ///
-/// 0; 2 where there is no memory, and then the list is as it was; 3 where the handle is closed.
+/// Returns 0. Fails with 2 if an allocation fails, and 3 if the handle is closed. Then the list is unchanged.
 #[unsafe(no_mangle)]
 pub extern "C" fn routes_flat(alloc: Global, handle: &mut Handle) -> u32
     requires { IsHandle handle.old }
@@ -29,9 +28,9 @@ pub extern "C" fn routes_flat(alloc: Global, handle: &mut Handle) -> u32
     handle.on(alloc, 3, |session: &mut Session| session.flat(alloc))
 }
 
-/// The piece at an index of the list that was made last.
+/// Reads the piece at an index of the list that was made last.
 ///
-/// 0, and the piece; 1 past its end, where `piece` is as it was; 3 where the handle is closed.
+/// Returns 0 and sets `piece`. Fails with 1 past the end of the list, and 3 if the handle is closed. Then `piece` is unchanged.
 #[unsafe(no_mangle)]
 pub extern "C" fn routes_piece_at(
     alloc: Global,
@@ -55,10 +54,11 @@ fn list(alloc: Global, handle: &mut Handle, asked: Asked) -> u32
     handle.on(alloc, 3, |session: &mut Session| session.list(alloc, asked))
 }
 
-/// Lists the best routes of the stored networks inside this one, itself included, ascending. `routes_route_at` and `routes_read` read the list.
-/// Bits of the address past the length are ignored.
+/// Lists the best routes of the stored networks inside this one, itself included, ascending. `routes_route_at` and `routes_read` read the
+/// list. Bits of the address past the length are ignored.
 ///
-/// 0; 2 where there is no memory, and then the list is as it was; 3 where the handle is closed; 6 where the length is over 32.
+/// Returns 0. Fails with 2 if an allocation fails, 3 if the handle is closed, and 6 if the length is above 32. Then the list is
+/// unchanged.
 #[unsafe(no_mangle)]
 pub extern "C" fn routes_list4(alloc: Global, handle: &mut Handle, addr: u32, len: u8) -> u32
     requires { IsHandle handle.old }
@@ -70,9 +70,10 @@ pub extern "C" fn routes_list4(alloc: Global, handle: &mut Handle, addr: u32, le
     }
 }
 
-/// Lists routes of IPv6, as `routes_list4` does of IPv4.
+/// Lists routes of IPv6, as `routes_list4` does for IPv4.
 ///
-/// 0; 2 where there is no memory, and then the list is as it was; 3 where the handle is closed; 6 where the length is over 128.
+/// Returns 0. Fails with 2 if an allocation fails, 3 if the handle is closed, and 6 if the length is above 128. Then the list is
+/// unchanged.
 #[unsafe(no_mangle)]
 pub extern "C" fn routes_list6(
     alloc: Global,
@@ -90,9 +91,10 @@ pub extern "C" fn routes_list6(
     }
 }
 
-/// Lists the best routes of the stored networks that contain this one, itself included, the shortest first.
+/// Lists the best routes of the stored networks that contain this one, itself included, shortest first.
 ///
-/// 0; 2 where there is no memory, and then the list is as it was; 3 where the handle is closed; 6 where the length is over 32.
+/// Returns 0. Fails with 2 if an allocation fails, 3 if the handle is closed, and 6 if the length is above 32. Then the list is
+/// unchanged.
 #[unsafe(no_mangle)]
 pub extern "C" fn routes_cover4(alloc: Global, handle: &mut Handle, addr: u32, len: u8) -> u32
     requires { IsHandle handle.old }
@@ -104,9 +106,10 @@ pub extern "C" fn routes_cover4(alloc: Global, handle: &mut Handle, addr: u32, l
     }
 }
 
-/// Lists routes of IPv6, as `routes_cover4` does of IPv4.
+/// Lists routes of IPv6, as `routes_cover4` does for IPv4.
 ///
-/// 0; 2 where there is no memory, and then the list is as it was; 3 where the handle is closed; 6 where the length is over 128.
+/// Returns 0. Fails with 2 if an allocation fails, 3 if the handle is closed, and 6 if the length is above 128. Then the list is
+/// unchanged.
 #[unsafe(no_mangle)]
 pub extern "C" fn routes_cover6(
     alloc: Global,
@@ -124,9 +127,10 @@ pub extern "C" fn routes_cover6(
     }
 }
 
-/// Lists a page: the best routes of the family's stored networks from this one on, ascending, `limit` of them at most.
+/// Lists a page: at most `limit` best routes of the family's stored networks from this one on, ascending.
 ///
-/// 0; 2 where there is no memory, and then the list is as it was; 3 where the handle is closed; 6 where the length is over 32.
+/// Returns 0. Fails with 2 if an allocation fails, 3 if the handle is closed, and 6 if the length is above 32. Then the list is
+/// unchanged.
 #[unsafe(no_mangle)]
 pub extern "C" fn routes_from4(
     alloc: Global,
@@ -144,9 +148,10 @@ pub extern "C" fn routes_from4(
     }
 }
 
-/// Lists routes of IPv6, as `routes_from4` does of IPv4.
+/// Lists routes of IPv6, as `routes_from4` does for IPv4.
 ///
-/// 0; 2 where there is no memory, and then the list is as it was; 3 where the handle is closed; 6 where the length is over 128.
+/// Returns 0. Fails with 2 if an allocation fails, 3 if the handle is closed, and 6 if the length is above 128. Then the list is
+/// unchanged.
 #[unsafe(no_mangle)]
 pub extern "C" fn routes_from6(
     alloc: Global,
@@ -165,9 +170,10 @@ pub extern "C" fn routes_from6(
     }
 }
 
-/// Lists a page: the best routes of the family's stored networks that come after this one, ascending, `limit` of them at most.
+/// Lists a page: at most `limit` best routes of the family's stored networks after this one, ascending.
 ///
-/// 0; 2 where there is no memory, and then the list is as it was; 3 where the handle is closed; 6 where the length is over 32.
+/// Returns 0. Fails with 2 if an allocation fails, 3 if the handle is closed, and 6 if the length is above 32. Then the list is
+/// unchanged.
 #[unsafe(no_mangle)]
 pub extern "C" fn routes_after4(
     alloc: Global,
@@ -185,9 +191,10 @@ pub extern "C" fn routes_after4(
     }
 }
 
-/// Lists routes of IPv6, as `routes_after4` does of IPv4.
+/// Lists routes of IPv6, as `routes_after4` does for IPv4.
 ///
-/// 0; 2 where there is no memory, and then the list is as it was; 3 where the handle is closed; 6 where the length is over 128.
+/// Returns 0. Fails with 2 if an allocation fails, 3 if the handle is closed, and 6 if the length is above 128. Then the list is
+/// unchanged.
 #[unsafe(no_mangle)]
 pub extern "C" fn routes_after6(
     alloc: Global,
@@ -208,7 +215,8 @@ pub extern "C" fn routes_after6(
 
 /// Lists all routes of exactly this network, best first.
 ///
-/// 0; 2 where there is no memory, and then the list is as it was; 3 where the handle is closed; 6 where the length is over 32.
+/// Returns 0. Fails with 2 if an allocation fails, 3 if the handle is closed, and 6 if the length is above 32. Then the list is
+/// unchanged.
 #[unsafe(no_mangle)]
 pub extern "C" fn routes_all4(alloc: Global, handle: &mut Handle, addr: u32, len: u8) -> u32
     requires { IsHandle handle.old }
@@ -220,9 +228,10 @@ pub extern "C" fn routes_all4(alloc: Global, handle: &mut Handle, addr: u32, len
     }
 }
 
-/// Lists routes of IPv6, as `routes_all4` does of IPv4.
+/// Lists routes of IPv6, as `routes_all4` does for IPv4.
 ///
-/// 0; 2 where there is no memory, and then the list is as it was; 3 where the handle is closed; 6 where the length is over 128.
+/// Returns 0. Fails with 2 if an allocation fails, 3 if the handle is closed, and 6 if the length is above 128. Then the list is
+/// unchanged.
 #[unsafe(no_mangle)]
 pub extern "C" fn routes_all6(
     alloc: Global,
@@ -240,11 +249,12 @@ pub extern "C" fn routes_all6(
     }
 }
 
-/// Lists the maximal blocks of the addresses that the network governs, which are those of it that lie in no stored network strictly
-/// inside it, ascending, each with the hop that they have: that of the longest match of the network, `drop` where there is none.
-/// After a change of the network these are the addresses whose hop changed, where the change tells of one.
+/// Lists the maximal blocks of the addresses that the network governs: those that no longer stored network inside it contains. The blocks
+/// ascend, each with the hop of the network's longest match, or `drop` if it has no match. If a change of the network returned two
+/// different hops, these are the addresses whose hop changed.
 ///
-/// 0; 2 where there is no memory, and then the list is as it was; 3 where the handle is closed; 6 where the length is over 32.
+/// Returns 0. Fails with 2 if an allocation fails, 3 if the handle is closed, and 6 if the length is above 32. Then the list is
+/// unchanged.
 #[unsafe(no_mangle)]
 pub extern "C" fn routes_governed4(alloc: Global, handle: &mut Handle, addr: u32, len: u8) -> u32
     requires { IsHandle handle.old }
@@ -256,9 +266,10 @@ pub extern "C" fn routes_governed4(alloc: Global, handle: &mut Handle, addr: u32
     }
 }
 
-/// Lists routes of IPv6, as `routes_governed4` does of IPv4.
+/// Lists routes of IPv6, as `routes_governed4` does for IPv4.
 ///
-/// 0; 2 where there is no memory, and then the list is as it was; 3 where the handle is closed; 6 where the length is over 128.
+/// Returns 0. Fails with 2 if an allocation fails, 3 if the handle is closed, and 6 if the length is above 128. Then the list is
+/// unchanged.
 #[unsafe(no_mangle)]
 pub extern "C" fn routes_governed6(
     alloc: Global,
@@ -276,9 +287,9 @@ pub extern "C" fn routes_governed6(
     }
 }
 
-/// Lists the blocks that `routes_flat` gives this hop number, ascending.
+/// Lists the blocks of `routes_flat` with this hop number, ascending.
 ///
-/// 0; 2 where there is no memory, and then the list is as it was; 3 where the handle is closed.
+/// Returns 0. Fails with 2 if an allocation fails, and 3 if the handle is closed. Then the list is unchanged.
 #[unsafe(no_mangle)]
 pub extern "C" fn routes_own(alloc: Global, handle: &mut Handle, number: u32) -> u32
     requires { IsHandle handle.old }
@@ -287,9 +298,9 @@ pub extern "C" fn routes_own(alloc: Global, handle: &mut Handle, number: u32) ->
     list(alloc, handle, Asked::Own(number))
 }
 
-/// Lists the routes of a least table: one with the same hop at every address, and the fewest routes of all that have it.
+/// Lists the routes of a least table: each address has the same hop, and no such table has fewer routes.
 ///
-/// 0; 2 where there is no memory, and then the list is as it was; 3 where the handle is closed.
+/// Returns 0. Fails with 2 if an allocation fails, and 3 if the handle is closed. Then the list is unchanged.
 #[unsafe(no_mangle)]
 pub extern "C" fn routes_least(alloc: Global, handle: &mut Handle) -> u32
     requires { IsHandle handle.old }
@@ -298,9 +309,9 @@ pub extern "C" fn routes_least(alloc: Global, handle: &mut Handle) -> u32
     list(alloc, handle, Asked::Least)
 }
 
-/// The route at an index of the list of routes that was made last.
+/// Reads the route at an index of the list of routes that was made last.
 ///
-/// 0, and the route; 1 past its end, where `route` is as it was; 3 where the handle is closed.
+/// Returns 0 and sets `route`. Fails with 1 past the end of the list, and 3 if the handle is closed. Then `route` is unchanged.
 #[unsafe(no_mangle)]
 pub extern "C" fn routes_route_at(
     alloc: Global,
@@ -316,8 +327,8 @@ pub extern "C" fn routes_route_at(
     })
 }
 
-/// Copies the list of routes that was made last from an index on, as far as there is room, and answers how many routes it copied. A
-/// closed handle has an empty one.
+/// Copies the list of routes that was made last, from an index on, as far as there is room. Returns the number of routes copied. A closed
+/// handle has an empty list.
 #[unsafe(no_mangle)]
 pub extern "C" fn routes_read(
     alloc: Global,

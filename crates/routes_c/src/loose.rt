@@ -1,4 +1,4 @@
-//! A box, taken apart.
+//! A box in its parts.
 ghost use Rattle.std.specs.Prelude.{◌≡◌};
 ghost use Rattle.std.specs.Box.Ownership.{box_owns};
 ghost use Rattle.std_heap.specs.contracts.GlobalAllocator.TheImpl.{ghosts};
@@ -6,7 +6,7 @@ ghost use Rattle.std_heap.specs.contracts.GlobalAllocator.TheImpl.{ghosts};
 use std::alloc::Global;
 use std::marker::Model;
 
-/// The pointer of a box and its allocator. It owns the value and its block, as the box does.
+/// The pointer of a box and its allocator. It owns the value and its memory, as the box does.
 pub(crate) struct Loose<T> {
     pub(crate) at: *mut T,
     pub(crate) alloc: Global,

@@ -1,4 +1,4 @@
-//! Look-ups.
+//! Lookups.
 ghost use Rattle.std.specs.Prelude.{◌+◌, ◌*◌, ◌^◌};
 ghost use Rattle.ipnet.specs.IpNets.{block};
 ghost use Rattle.ipnet_addr.specs.Addresses.{Ipv4, Ipv6};
@@ -12,7 +12,7 @@ use crate::shown::{Route, net4, net6};
 use ipnet::IpNet;
 use std::alloc::Global;
 
-/// The longest match of a network.
+/// Looks up the longest match of a network.
 fn get(alloc: Global, handle: &mut Handle, net: &IpNet, route: &mut Route) -> u32
     requires { IsHandle handle.old }
     ensures { Finds session_of handle.old handle.new (λ s. found_at s.table (block net.now)) result route.old route.new }
@@ -22,9 +22,10 @@ fn get(alloc: Global, handle: &mut Handle, net: &IpNet, route: &mut Route) -> u3
     })
 }
 
-/// The longest match of an IPv4 address.
+/// Looks up the longest match of an IPv4 address.
 ///
-/// 0, and the route; 1 where no network contains the address; 3 where the handle is closed. At 1 and 3 `route` is as it was.
+/// Returns 0 and sets `route`. Fails with 1 if no stored network contains the address, and 3 if the handle is closed. Then `route` is
+/// unchanged.
 #[unsafe(no_mangle)]
 pub extern "C" fn routes_get4(
     alloc: Global,
@@ -41,9 +42,10 @@ pub extern "C" fn routes_get4(
     }
 }
 
-/// The longest match of an IPv6 address.
+/// Looks up the longest match of an IPv6 address.
 ///
-/// 0, and the route; 1 where no network contains the address; 3 where the handle is closed. At 1 and 3 `route` is as it was.
+/// Returns 0 and sets `route`. Fails with 1 if no stored network contains the address, and 3 if the handle is closed. Then `route` is
+/// unchanged.
 #[unsafe(no_mangle)]
 pub extern "C" fn routes_get6(
     alloc: Global,

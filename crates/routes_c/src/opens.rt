@@ -1,4 +1,4 @@
-//! Handles opened and closed.
+//! Opening and closing handles.
 ghost use Rattle.std.specs.Prelude.{◌≡◌, Err, ⊤};
 ghost use Rattle.routes_c.specs.Handles.{IsClosed, IsHandle, Reads, content_of, follower_of, session_of};
 ghost use Rattle.routes_c.specs.Opens.{IsNewFollower, IsNewTable, Opens, OpensIndex, OpensIndexOf};
@@ -13,9 +13,9 @@ use route_feed::Follower;
 use route_table::RouteTable;
 use std::alloc::Global;
 
-/// Opens a closed handle, on a table without networks.
+/// Opens a closed handle as a table without networks.
 ///
-/// 0; 2 where there is no memory; 4 where it is open already. At 2 and 4 it is as it was.
+/// Returns 0. Fails with 2 if an allocation fails, and 4 if the handle is open. Then it is unchanged.
 #[unsafe(no_mangle)]
 pub extern "C" fn routes_open(alloc: Global, handle: &mut Handle) -> u32
     requires { IsHandle handle.old }
@@ -31,7 +31,7 @@ pub extern "C" fn routes_open(alloc: Global, handle: &mut Handle) -> u32
     handle.open(alloc, Content::Table(Session::new(alloc, table)))
 }
 
-/// Closes a handle, and gives its memory back. A closed one stays closed.
+/// Closes a handle, and frees its memory. A closed handle stays closed.
 #[unsafe(no_mangle)]
 pub extern "C" fn routes_close(alloc: Global, handle: &mut Handle)
     requires { IsHandle handle.old }
@@ -41,9 +41,9 @@ pub extern "C" fn routes_close(alloc: Global, handle: &mut Handle)
     drop(handle.take(alloc));
 }
 
-/// Opens a closed handle, on a follower that has taken no line: no address has a hop.
+/// Opens a closed handle as a follower that has read no line: no address has a hop.
 ///
-/// 0; 2 where there is no memory; 4 where it is open already. At 2 and 4 it is as it was.
+/// Returns 0. Fails with 2 if an allocation fails, and 4 if the handle is open. Then it is unchanged.
 #[unsafe(no_mangle)]
 pub extern "C" fn routes_follower_open(alloc: Global, follower: &mut Handle) -> u32
     requires { IsHandle follower.old }
@@ -69,9 +69,9 @@ pub extern "C" fn routes_follower_close(alloc: Global, follower: &mut Handle)
     drop(follower.take(alloc));
 }
 
-/// Opens a closed handle, on the hops that an open table has now: a copy, which no later change of the table reaches.
+/// Opens a closed handle as an index of the hops that an open table has now. It is a snapshot: later changes don't reach it.
 ///
-/// 0; 2 where there is no memory; 3 where the table is closed; 4 where the handle is open already. At all but 0 it is as it was.
+/// Returns 0. Fails with 2 if an allocation fails, 3 if the table is closed, and 4 if the handle is open. Then it is unchanged.
 #[unsafe(no_mangle)]
 pub extern "C" fn routes_index_open(alloc: Global, index: &mut Handle, table: &mut Handle) -> u32
     requires index { IsHandle index.old }
@@ -89,10 +89,10 @@ pub extern "C" fn routes_index_open(alloc: Global, index: &mut Handle, table: &m
     }
 }
 
-/// Opens a closed handle of an index, on the hops that an open follower has now: a copy, which no later line reaches.
+/// Opens a closed handle as an index of the hops that an open follower has now. It is a snapshot: later lines don't reach it.
 ///
-/// 0; 2 where there is no memory; 3 where the follower is closed; 4 where the index is open already; 8 after a fault of the follower. At
-/// all but 0 the index is as it was.
+/// Returns 0. Fails with 2 if an allocation fails, 3 if the follower is closed, 4 if the index is open, and 8 after a fault of the
+/// follower. Then the index is unchanged.
 #[unsafe(no_mangle)]
 pub extern "C" fn routes_follower_index(
     alloc: Global,

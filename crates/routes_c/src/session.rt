@@ -1,4 +1,4 @@
-//! What an open handle has.
+//! The content of an open handle of a table.
 ghost use Rattle.std.specs.Prelude.{◌≡◌, [], IfErr, IfOk};
 ghost use Rattle.ipnet.specs.IpNets.{block};
 ghost use Rattle.routes_c.specs.Answered.{Answered};
@@ -27,7 +27,7 @@ pub struct Session {
 }
 
 impl Session {
-    /// A table, without a reply or a list.
+    /// Makes the content for a table, without a reply or a list.
     pub(crate) fn new(alloc: Global, table: RouteTable) -> Session
         ensures table { result.table ≡ table }
         ensures reply { result.reply.items ≡ [] }
@@ -40,7 +40,7 @@ impl Session {
         }
     }
 
-    /// The longest match.
+    /// Looks up the longest match.
     pub(crate) fn get(&self, net: &IpNet, route: &mut Route) -> u32
         ensures { Told (found_at self.now.table (block net.now)) result route.old route.new }
     {
@@ -62,7 +62,7 @@ impl Session {
         }
     }
 
-    /// Takes a route out.
+    /// Removes a route.
     pub(crate) fn del(&mut self, net: &IpNet, hop: Hop, change: &mut Change) -> u32
         ensures removes { Removes self.old.table self.new.table (block net.now) hop result change.old change.new }
         ensures lists { KeepsLists self.old self.new }
@@ -76,7 +76,7 @@ impl Session {
         }
     }
 
-    /// Answers a line, and keeps the reply.
+    /// Carries out a line, and stores the reply.
     pub(crate) fn line(&mut self, alloc: Global, line: &[u8]) -> u32
         ensures { Answered self.old self.new line.now result }
     {
@@ -107,7 +107,7 @@ impl Session {
         0
     }
 
-    /// The hops, in an index.
+    /// Compiles an index of the hops.
     pub(crate) fn index(&self, alloc: Global) -> Result<HopIndex, u32>
         ensures hops { IfOk result (HasHopsOf self.now.table) }
         ensures memory { IfErr result (λ e. e ≡ 2) }

@@ -1,4 +1,4 @@
-//! Networks, hops and routes as C has them.
+//! Networks, hops and routes in the layout of C.
 ghost use Rattle.std.specs.Prelude.{◌≡◌, ◌+◌, ◌*◌, ◌^◌, ◌≤◌, ◌↔◌, IsSome, IfSome};
 ghost use Rattle.std.specs.Option.{option_map};
 ghost use Rattle.ipnet_addr.specs.Addresses.{Ipv4, Ipv6, address_of};
@@ -25,7 +25,7 @@ pub struct Route {
     pub len: u8,
 }
 
-/// What a change changed: the hop of the addresses that the network governs, before and after; 2^32 is none.
+/// The hop of the addresses that a changed network governs, before and after the change; 2^32 is none.
 #[repr(C)]
 #[derive(Drop)]
 pub struct Change {
@@ -58,7 +58,7 @@ const HALF: u128 = 18_446_744_073_709_551_616;
 /// The number for `drop`, and for no hop.
 const NONE: u64 = 4_294_967_296;
 
-/// The number for no match, where many are looked up.
+/// The number that means no match in a lookup of many addresses.
 const NO_MATCH: u64 = 8_589_934_592;
 
 /// The IPv4 address of a number.
@@ -75,7 +75,7 @@ pub(crate) fn ip6(high: u64, low: u64) -> IpAddr
     IpAddr::V6(ipv6_of(high as u128 * HALF + low as u128))
 }
 
-/// The IPv4 network of an address, if the length is one.
+/// The IPv4 network of an address, if the length is valid.
 pub(crate) fn net4(addr: u32, len: u8) -> Option<IpNet>
     ensures fits { IsSome result ↔ (len ≤ 32) }
     ensures net { IfSome result (λ n. n ≡ V4 (record { number = addr; len = len })) }
@@ -86,7 +86,7 @@ pub(crate) fn net4(addr: u32, len: u8) -> Option<IpNet>
     }
 }
 
-/// The IPv6 network of an address, if the length is one.
+/// The IPv6 network of an address, if the length is valid.
 pub(crate) fn net6(high: u64, low: u64, len: u8) -> Option<IpNet>
     ensures fits { IsSome result ↔ (len ≤ 128) }
     ensures net { IfSome result (λ n. n ≡ V6 (record { number = high * 2 ^ 64 + low; len = len })) }
@@ -128,7 +128,7 @@ pub(crate) fn shown_number(hop: Option<u32>) -> u64
     }
 }
 
-/// A change as C has it.
+/// A change in the layout of C.
 pub(crate) fn shown_change(before: Option<u32>, after: Option<u32>) -> Change
     ensures before { result.before ≡ number_shown before }
     ensures after { result.after ≡ number_shown after }
@@ -139,7 +139,7 @@ pub(crate) fn shown_change(before: Option<u32>, after: Option<u32>) -> Change
     }
 }
 
-/// A route as C has it.
+/// A route in the layout of C.
 fn shown_route(net: IpNet, hop: Hop, pref: u16) -> Route
     ensures { result ≡ shown net hop pref }
 {
@@ -167,14 +167,14 @@ fn shown_route(net: IpNet, hop: Hop, pref: u16) -> Route
     }
 }
 
-/// A route of a network as C has it; host bits do not count.
+/// A route of a network in the layout of C; host bits are ignored.
 pub(crate) fn shown_at(net: &IpNet, hop: Hop, pref: u16) -> Route
     ensures { result ≡ route_shown (route_of net.now hop pref) }
 {
     shown_route(net.trunc(), hop, pref)
 }
 
-/// What `get` answers, as C has it.
+/// The result of `get` in the layout of C.
 pub(crate) fn show(found: Option<(IpNet, Hop, u16)>, route: &mut Route) -> u32
     ensures { Told (option_map found_shown found) result route.old route.new }
 {
@@ -187,7 +187,7 @@ pub(crate) fn show(found: Option<(IpNet, Hop, u16)>, route: &mut Route) -> u32
     }
 }
 
-/// The hop that `get` answers, as one number.
+/// The hop of the result of `get`, as one number.
 pub(crate) fn shown_match(found: Option<(IpNet, Hop, u16)>) -> u64
     ensures { result ≡ match_shown found }
 {
@@ -197,7 +197,7 @@ pub(crate) fn shown_match(found: Option<(IpNet, Hop, u16)>) -> u64
     }
 }
 
-/// A piece of a flat list as C has it.
+/// A piece of a flat list in the layout of C.
 pub(crate) fn shown_piece(net: IpNet, number: u32) -> Piece
     requires { net ≡ network_at (block net) }
     ensures { result ≡ piece_shown (record { block = block net; number = number }) }

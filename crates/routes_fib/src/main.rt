@@ -1,4 +1,5 @@
-//! The program `routes_fib`: a leader's reply lines from standard input, and operations on a forwarding table to standard output.
+//! The program `routes_fib`: reads a leader's reply lines from standard input, and writes operations on a forwarding table to standard
+//! output.
 #![tactic(auto)]
 
 ghost use Rattle.std.specs.Prelude.{◌≡◌, ◌↔◌, ◌⊎◌, [], drop, IfErr, IfOk, IfSome, IsErrOf, IsOk};
@@ -8,7 +9,9 @@ ghost use Rattle.route_feed.specs.Installs.{AppendsInstalled};
 ghost use Rattle.route_feed.specs.Status.{status_of};
 ghost use Rattle.route_feed.specs.declared.error.RunError.{RunError as AnyRunError};
 ghost use Rattle.route_lines.specs.Bytes.{lines};
-ghost use Rattle.routes_fib.specs.Ends.{MeetsUnfitLine, MeetsWantingLine};
+ghost use Rattle.route_feed.specs.declared.error.RunError.TheVariants as ended;
+ghost use Rattle.routes_fib.specs.declared.Fault.TheVariants as fault;
+ghost use Rattle.routes_fib.specs.Ends.{MeetsNote, MeetsUnfitLine, MeetsWantingLine, ReadsNotes};
 
 use route_feed::{Counted, REPLY, RunError, install, let_go, write_out};
 use std::alloc::{Allocator, Global};
@@ -18,18 +21,33 @@ use std::io::{BufWriter, Read, Write};
 use std::process::ExitCode;
 use thiserror::Error;
 
-/// Why the program ends with a status above 0. Each prints its line on standard error.
+/// Why the program ends with a status above 0. Each fault prints its line on standard error.
 #[derive(Clone, Copy, Debug, PartialEq, Eq, Error)]
 enum Fault {
-    /// The arguments can't be had.
+    /// The arguments can't be read.
     #[error("routes_fib: no memory")]
     Arguments,
-    /// There is an argument.
+    /// There is an argument; the program takes none.
     #[error("usage: routes_fib")]
     Usage,
-    /// The run ended early.
+    /// A line is outside the grammar, or is a `have` line after a `sync`.
+    #[error("routes_fib: unexpected line")]
+    Line,
+    /// The run ended early for another reason.
     #[error("routes_fib: {0}")]
     Run(RunError),
+}
+
+/// The fault of a run that ended early for this reason. An installer reads more than reply lines, so its text for a line is its own.
+impl From<RunError> for Fault {
+    ghost from_gives = { λ e f. (e ≡ ended.Line → f ≡ fault.Line) × ((e ≡ ended.Line → ⊥) → f ≡ fault.Run e) };
+
+    fn from(error: RunError) -> Fault {
+        match error {
+            RunError::Line => Fault::Line,
+            _ => Fault::Run(error),
+        }
+    }
 }
 
 impl Fault {
@@ -37,17 +55,19 @@ impl Fault {
     fn status(&self) -> u8
         ensures arguments { self.now ≡ Fault.Arguments → result ≡ 1 }
         ensures usage { self.now ≡ Fault.Usage → result ≡ 2 }
+        ensures line { self.now ≡ Fault.Line → result ≡ 5 }
         ensures run { (error : AnyRunError) → self.now ≡ Fault.Run error → result ≡ status_of error }
     {
         match self {
             Fault::Arguments => 1,
             Fault::Usage => 2,
+            Fault::Line => RunError::Line.status(),
             Fault::Run(error) => error.status(),
         }
     }
 }
 
-// Sees that there are no arguments.
+// Checks that there are no arguments.
 fn see_arguments<R: Env + Alloc>(rt: &R) -> Result<(), Fault>
     ensures { IfErr result (λ e. (e ≡ Fault.Arguments) ⊎ (e ≡ Fault.Usage)) }
 {
@@ -57,7 +77,7 @@ fn see_arguments<R: Env + Alloc>(rt: &R) -> Result<(), Fault>
     }
 }
 
-// Sees that after the program's name stands nothing.
+// Checks that nothing follows the program's name.
 fn see_none<A: Allocator>(mut args: Args<A>) -> Result<(), Fault>
     ensures none { IsOk result ↔ (drop 1 (into_iter_items args) ≡ []) }
     ensures usage { IfErr result (λ e. e ≡ Fault.Usage) }
@@ -69,8 +89,8 @@ fn see_none<A: Allocator>(mut args: Args<A>) -> Result<(), Fault>
     }
 }
 
-// Keeps a table installed, from the input to the output, and hands the output back. Each batch is written out before another line is
-// taken. What a failed write left unwritten is let go.
+// Keeps a table installed, from the input to the output, and returns the output. Each batch is written out before the next line is read.
+// If a write fails, the bytes that are left are dropped.
 fn install_by<R: Read, W: Write + Drop>(
     alloc: Global,
     reader: &mut Counted<R>,
@@ -81,6 +101,7 @@ fn install_by<R: Read, W: Write + Drop>(
     ensures read { IsErrOf result RunError.Read → ReadFault reader.old reader.new }
     ensures line { IsErrOf result RunError.Line → MeetsUnfitLine R.remaining reader.old reader.new }
     ensures memory { IsErrOf result RunError.Memory → (reader.new ≡ reader.old) ⊎ MeetsWantingLine R.remaining reader.old reader.new }
+    ensures write { IsErrOf result RunError.Write → MeetsNote R.remaining reader.old reader.new ⊎ ReadsNotes R.remaining reader.old reader.new }
     ensures read_well { (IsErrOf result RunError.Read → ⊥) → reader.new.faults ≡ reader.old.faults }
 {
     let Ok(buffered) = BufWriter::with_capacity(alloc, REPLY, output) else {
@@ -101,7 +122,7 @@ fn run(rt: &HostRuntime) -> Result<(), Fault> {
     let mut reader = Counted::new(rt.stdin());
     match install_by(rt.alloc(), &mut reader, rt.stdout()) {
         Ok(_output) => Ok(()),
-        Err(error) => Err(Fault::Run(error)),
+        Err(error) => Err(Fault::from(error)),
     }
 }
 

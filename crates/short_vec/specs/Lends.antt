@@ -1,4 +1,4 @@
--- What a `ShortVec` ends as, where a `&mut` to one of its items is returned.
+-- The value of a `ShortVec` after a `&mut` to one of its items was returned.
 use Rattle.std.specs.Prelude.{ℕ, slice_set}
 use Rattle.std.specs.Borrow.{Lends, RattleType, MutBor, Fml}
 use mathlib.Core.Path.{sym, ◌∙◌}
@@ -13,6 +13,6 @@ module _ {X : Type 0} where
 
 -- v is a `&mut ShortVec<T>` that was used up to make r
 module _ (T : RattleType) (v : MutBor (ShortVec T.Denot)) where
-  -- once the borrow r ends, the item at that index is the last that was written through r
+  -- once the borrow r ends, the item at this index is the last value written through r
   abbrev pub short_follows_item : ℕ → MutBor T.Denot → Fml
   short_follows_item at r = Lends (the_row T) T v r (short_with_item v.now at)

@@ -1,4 +1,4 @@
--- Words on a `ShortVec`.
+-- Abbreviations for `ShortVec`.
 use Rattle.std.specs.Prelude.{◌≡◌, ℕ, List, length}
 use Rattle.std.specs.declared.alloc.Global.{Global}
 use Rattle.short_vec.specs.declared.short_vec.ShortVec.{ShortVec}
@@ -20,6 +20,6 @@ module _ {X : Type 0} where
   abbrev pub short_allocator : ShortVec X → Global
   short_allocator v = v.alloc
 
-  -- the length is that of the items
+  -- the length is the number of items
   pub short_counted : (v : ShortVec X) → short_len v ≡ length (short_items v)
   short_counted v = v.ok.0

@@ -1,4 +1,4 @@
-//! What is read and lent of a list.
+//! Calls that read a list or lend its items.
 ghost use Rattle.std.specs.Prelude.{◌≡◌, ◌<◌, length, slice_index_or};
 ghost use Rattle.std.specs.Borrow.{sem};
 ghost use Rattle.short_vec.specs.Lists.{short_len, short_capacity, short_allocator};
@@ -10,7 +10,7 @@ use std::ops::{Index, IndexMut};
 use std::slice::from_raw_parts;
 
 impl<T> ShortVec<T> {
-    /// How many items the list has.
+    /// Returns the number of items.
     pub fn len(&self) -> usize
         ensures value { result ≡ short_len self.now }
         ensures items { result ≡ length self.now.items }
@@ -18,14 +18,14 @@ impl<T> ShortVec<T> {
         self.len as usize
     }
 
-    /// How many items it has room for.
+    /// Returns the number of items that there is room for.
     pub fn capacity(&self) -> usize
         ensures { result ≡ short_capacity self.now }
     {
         self.cap as usize
     }
 
-    /// Where its memory comes from.
+    /// Returns the allocator of the list's memory.
     pub fn allocator(&self) -> Global
         ensures { result ≡ short_allocator self.now }
     {
@@ -38,7 +38,7 @@ impl<T> ShortVec<T> {
         &self.alloc
     }
 
-    /// Its items.
+    /// Returns the items.
     pub fn as_slice(&self) -> &[T]
         ensures value { result.now ≡ self.now.items }
         ensures len { length result.now ≡ short_len self.now }

@@ -1,4 +1,4 @@
-//! What a `ShortVec` can do, as its `Vec` does it.
+//! The calls that change a `ShortVec`; each does what the call of `Vec` does.
 ghost use Rattle.std.specs.Prelude.{◌≡◌, ◌+◌, ◌<◌, ◌≤◌, ◌^◌, [], ◌∷◌, ◌++◌, is_ok, max, if◌then◌else◌, IfOk, IfErr, IsOk, IsTrue, OnOk, OnErr, insert, remove, slice_index_or};
 ghost use Rattle.std_alloc.specs.Vec.{vec_len, vec_capacity};
 ghost use Rattle.short_vec.specs.Lists.{short_len, short_capacity};
@@ -7,11 +7,11 @@ use crate::short_vec::ShortVec;
 use core::mem::replace_with;
 use std::alloc::{AllocError, AllocFailed, Global};
 
-/// The most items that a list may have room for.
+/// The greatest capacity of a list.
 const MOST: usize = 0xffff_ffff;
 
 impl<T> ShortVec<T> {
-    /// The empty list. It takes no memory.
+    /// The empty list. Does not allocate.
     #[inline]
     pub fn new(alloc: Global) -> ShortVec<T>
         ensures items { result.items ≡ [] }
@@ -21,7 +21,10 @@ impl<T> ShortVec<T> {
         ShortVec::from_vec(Vec::new(alloc))
     }
 
-    /// The empty list with room for `capacity` items.
+    /// Makes an empty list with room for exactly `capacity` items.
+    ///
+    /// # Errors
+    /// `AllocError` if the allocation fails; it never fails for capacity 0.
     pub fn with_capacity(alloc: Global, capacity: usize) -> Result<ShortVec<T>, AllocError>
         ensures items { IfOk result (λ v. v.items ≡ []) }
         ensures len { IfOk result (λ v. short_len v ≡ 0) }
@@ -38,17 +41,20 @@ impl<T> ShortVec<T> {
     }
 
     /// Makes room for `additional` more items, and no more than that.
+    ///
+    /// # Errors
+    /// `AllocError` if the allocation fails; the list is unchanged.
     pub fn reserve_exact(&mut self, additional: usize) -> Result<(), AllocError>
-        // The items stay, whatever the result.
+        // The items stay the same, whatever the result.
         ensures items { self.new.items ≡ self.old.items }
         ensures len { short_len self.new ≡ short_len self.old }
 
-        // Success leaves just the room that was asked for, where there was less. The capacity never shrinks.
+        // On success there is room for exactly the requested items, or more if there was more before. The capacity never shrinks.
         ensures ok { OnOk result (short_len self.new + additional ≤ short_capacity self.new) }
         ensures capacity { short_capacity self.old ≤ short_capacity self.new }
         ensures capacity_exact { OnOk result (short_capacity self.new ≡ max (short_capacity self.old) (short_len self.old + additional)) }
 
-        // It fails only where that room was missing, and then the capacity stays.
+        // It fails only if there was too little room, and then the capacity is unchanged.
         ensures succeeds { short_len self.old + additional ≤ short_capacity self.old → IsOk result }
         ensures full { OnErr result (short_capacity self.old < short_len self.old + additional) }
         ensures err { OnErr result (short_capacity self.new ≡ short_capacity self.old) }
@@ -74,16 +80,19 @@ impl<T> ShortVec<T> {
         (ShortVec::from_vec(list), done)
     }
 
-    /// Inserts `element` at `index`, and moves the later items up. It hands `element` back where there is no memory.
+    /// Inserts `element` at `index`, and moves the later items up.
+    ///
+    /// # Errors
+    /// `AllocFailed` with `element` if the list is full and an allocation fails; the items are unchanged.
     pub fn insert(&mut self, index: usize, element: T) -> Result<(), AllocFailed<T>>
         requires { index ≤ short_len self.old }
 
-        // On success `element` stands at `index`. On failure the items stay and it comes back.
+        // On success `element` is the item at `index`. On failure the items are unchanged and `element` is returned.
         ensures items { self.new.items ≡ (if is_ok result then insert self.old.items index element else self.old.items) }
         ensures len { short_len self.new ≡ (if is_ok result then short_len self.old + 1 else short_len self.old) }
         ensures value_returned { IfErr result (λ failed. failed.value ≡ element) }
 
-        // With room it succeeds and the capacity stays. Only a full list can fail.
+        // If there is room, it succeeds and the capacity is unchanged. Only a full list can fail.
         ensures capacity { short_capacity self.old ≤ short_capacity self.new }
         ensures succeeds { short_len self.old < short_capacity self.old → IsOk result }
         ensures had_room { short_len self.old < short_capacity self.old → short_capacity self.new ≡ short_capacity self.old }
@@ -114,14 +123,17 @@ impl<T> ShortVec<T> {
         (ShortVec::from_vec(list), done)
     }
 
-    /// Appends `element`. It hands `element` back where there is no memory.
+    /// Appends `element`.
+    ///
+    /// # Errors
+    /// `AllocFailed` with `element` if the list is full and an allocation fails; the items are unchanged.
     pub fn push(&mut self, element: T) -> Result<(), AllocFailed<T>>
-        // On success `element` is the last item. On failure the items stay and it comes back.
+        // On success `element` is the last item. On failure the items are unchanged and `element` is returned.
         ensures items { self.new.items ≡ (if is_ok result then self.old.items ++ element ∷ [] else self.old.items) }
         ensures len { short_len self.new ≡ (if is_ok result then short_len self.old + 1 else short_len self.old) }
         ensures value_returned { IfErr result (λ failed. failed.value ≡ element) }
 
-        // With room it succeeds and the capacity stays. Only a full list can fail.
+        // If there is room, it succeeds and the capacity is unchanged. Only a full list can fail.
         ensures capacity { short_capacity self.old ≤ short_capacity self.new }
         ensures succeeds { short_len self.old < short_capacity self.old → IsOk result }
         ensures had_room { short_len self.old < short_capacity self.old → short_capacity self.new ≡ short_capacity self.old }
@@ -150,7 +162,7 @@ impl<T> ShortVec<T> {
         (ShortVec::from_vec(list), Ok(()))
     }
 
-    /// Takes out the item at `index`, and moves the later items down.
+    /// Removes and returns the item at `index`, and moves the later items down.
     pub fn remove(&mut self, index: usize) -> T
         requires { index < short_len self.old }
         ensures value { result ≡ slice_index_or self.old.items index result }
@@ -174,7 +186,7 @@ impl<T> ShortVec<T> {
     }
 }
 
-/// Makes room in a full list for a third more items, and for 4 more at the least. It answers whether it could.
+/// Makes room in a full list for a third more items, at least 4. Returns whether the allocation succeeded.
 fn make_room<T>(list: &mut Vec<T>) -> bool
     requires { vec_capacity list.old < 2 ^ 32 }
     ensures items { list.new.items ≡ list.old.items }

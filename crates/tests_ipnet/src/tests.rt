@@ -1,4 +1,4 @@
-//! The tests, by what they call.
+//! The tests, one file for each group of calls.
 mod addresses;
 mod compare;
 mod cuts;

@@ -1,4 +1,4 @@
-//! The tests, by what they call.
+//! The tests, one file for each group of calls.
 mod entries;
 mod first_map_calls;
 mod first_set_calls;

@@ -1,4 +1,4 @@
-//! The tests, by what they call.
+//! The tests, one file for each group of calls.
 mod choices;
 mod first_calls;
 mod flat_lists;

@@ -1,4 +1,4 @@
--- What is left of the entries whose keys begin a string.
+-- The rest of a walk over the entries whose keys are prefixes of a string.
 use Rattle.std.specs.Prelude.{ℕ, ◌+◌, ◌%◌, ◌<◌, ◌≤◌, ◌≡◌, length, nat_lt, Bool, true, not, ◌&&◌, List, [], Option, Some, None}
 use Rattle.std.specs.Borrow.{Bor}
 use Rattle.std.specs.FinMap.{entries, get}
@@ -8,16 +8,16 @@ use Rattle.trie_core.specs.InnerPlaces.{place_of, place_string}
 use Rattle.trie_core.specs.Nodes.{BitMap, Seen}
 use Rattle.trie_core.specs.InnerNodes.{under}
 
--- a beginning of q that has five bits or more, or a place from n on
+-- k is a prefix of q that has five bits or more, or whose place is n or later
 abbrev pub is_left : List Bool → ℕ → List Bool → Bool
 is_left q n k = begins k q && not (nat_lt (length k) 5 && nat_lt (place_of k) n)
 
 module _ {X : Type 0} where
-  -- at the places from n on no beginning of q is a key
+  -- at the places from n on, no prefix of q is a key
   abbrev pub NoneFrom : BitMap X → List Bool → ℕ → Type 0
   NoneFrom m q n = (s : List Bool) → length s < 5 → begins s q ≡ true → n ≤ place_of s → get m s ≡ None
 
-  -- of the beginnings of q at the places from n on the first that is a key stands at p, with the value v
+  -- of the prefixes of q at the places from n on, the first that is a key is at p, with the value v
   pub record IsFirstFrom (m : BitMap X) (q : List Bool) (n p : ℕ) (v : X) : Type 0 where
     pub from : n ≤ p
     pub below : p < 31
@@ -25,7 +25,7 @@ module _ {X : Type 0} where
     pub found : get m (place_string p) ≡ Some v
     pub first : (s : List Bool) → length s < 5 → begins s q ≡ true → n ≤ place_of s → place_of s < p → get m s ≡ None
 
-  -- the entries of the node at the trail whose keys begin q there, from place n on
+  -- the entries of the node at the trail whose keys are prefixes of q there, from place n on
   abbrev pub cover_rest : Option (Bor (Seen X)) → List Bool → ℕ → List Bool → List (List Bool × X)
   cover_rest None q n trail = []
   cover_rest (Some m) q n trail = under trail (where_key bits_cmp (is_left q n) (entries m.now.entries))
@@ -34,7 +34,7 @@ module _ {X : Type 0} where
   cover_weight None q = 0
   cover_weight (Some m) q = length q + 1
 
--- where a node may stand on the way
+-- the positions that the walk may have
 pub record IsCover (q : List Bool) (n : ℕ) (trail : List Bool) : Type 0 where
   pub within : length trail + length q ≤ 128
   pub fives : length trail % 5 ≡ 0

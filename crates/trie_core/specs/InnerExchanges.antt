@@ -1,4 +1,4 @@
--- What becomes of a node, as a value is stored that is held.
+-- The change of a node when a held value is stored.
 use Rattle.std.specs.Prelude.{◌≡◌, ℕ, ◌+◌, ◌/◌, ◌≤◌, List, Bool, Option, None, length, max, IsTrue}
 use Rattle.std.specs.Option.{ForSome}
 use Rattle.std.specs.FinMap.{get, insert}
@@ -6,7 +6,7 @@ use Rattle.trie_core.specs.Nodes.{Seen}
 use Rattle.trie_core.specs.InnerCount.{all_nodes}
 use Rattle.trie_core.specs.Ways.{off_way}
 
--- n is m with the held value at q, and with so many nodes more; what stood there is out. A new key needs leave to grow
+-- n is m with the held value at q and with `made` more nodes; `out` is the old value. A new key needs `may_grow`
 pub record IsExchanged {X : Type 0} (q : List Bool) (held : Option X) (may_grow : Bool) (room : ℕ) (m : Seen X) (made : ℕ) (out : Option X) (n : Seen X) : Type 0 where
   pub old : out ≡ get m.entries q
   pub map : ForSome held (λ v. n.entries ≡ insert m.entries q v)

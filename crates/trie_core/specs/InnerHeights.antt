@@ -1,4 +1,4 @@
--- The levels below a node, which fall from each node to its children.
+-- The number of levels below a node, which is less for each child.
 use Rattle.std.proofs.Common.{◌+◌, ◌≤◌, List, [], ◌∷◌, arith}
 use denote.Param.Weighed.{most}
 use Rattle.trie_core.specs.Nodes.{Seen}

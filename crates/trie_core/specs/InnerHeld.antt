@@ -1,4 +1,4 @@
--- The things that an owned list still holds.
+-- The items that an owned list still has.
 use Rattle.std.specs.Prelude.{List, [], Option, Some, None}
 use Rattle.std.specs.declared.vec.IntoIter.{IntoIter}
 use Rattle.std.specs.Vec.Iter.{into_iter_items}

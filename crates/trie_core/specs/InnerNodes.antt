@@ -1,10 +1,10 @@
--- A node by its lists: the values at strings of fewer than five bits, and the children at five.
+-- A node as two lists: the values at strings of fewer than five bits, and the children at five bits.
 use Rattle.std.specs.Prelude.{ℕ, ◌<◌, ◌≤◌, ◌≡◌, ◌^◌, length, max, Bool, true, T, List, [], ◌∷◌, ◌++◌, Option, Some, None, is_some, count_ones}
 use Rattle.std.specs.FinMap.{get, is_sorted, entries, from_entries, empty}
 use Rattle.ipnet_blocks.specs.BitStrings.{bits_cmp}
 use Rattle.trie_core.specs.Nodes.{BitMap, BitSet, Seen}
 
--- the entries with the bits in front of each key
+-- the entries with these bits in front of each key
 abbrev pub under : {X : Type 0} → List Bool → List (List Bool × X) → List (List Bool × X)
 under bs [] = []
 under bs (e ∷ es) = (bs ++ e.0, e.1) ∷ under bs es
@@ -14,7 +14,7 @@ abbrev pub child_entries : {X : Type 0} → List (List Bool × Seen X) → List 
 child_entries [] = []
 child_entries (c ∷ cs) = under c.0 (entries c.1.entries) ++ child_entries cs
 
--- the map of a node: its values, and what its children hold
+-- the map of a node: its values, and the entries of its children
 unfoldable pub node_map : {X : Type 0} → List (List Bool × X) → List (List Bool × Seen X) → BitMap X
 node_map vs cs = from_entries (vs ++ child_entries cs)
 
@@ -28,14 +28,14 @@ abbrev pub AreLong : {X : Type 0} → List (List Bool × X) → Type 0
 AreLong [] = Unit {0}
 AreLong (e ∷ es) = (length e.0 ≡ 5) × AreLong es
 
--- both lists rise, the values at strings of fewer than five bits and the children at five
+-- both lists ascend; the values are at strings of fewer than five bits, and the children at five bits
 pub record IsNode {X : Type 0} (vs : List (List Bool × X)) (cs : List (List Bool × Seen X)) : Type 0 where
   pub values_rise : T (is_sorted bits_cmp vs)
   pub values_short : AreShort vs
   pub children_rise : T (is_sorted bits_cmp cs)
   pub children_long : AreLong cs
 
--- the words of a node name its values and its children
+-- the words of a node mark as many places as it has values and children
 pub record HasSlots {X Y : Type 0} (value_bits : ℕ) (values : List X) (child_bits : ℕ) (children : List Y) : Type 0 where
   pub values_counted : count_ones value_bits ≡ length values
   pub values_below : value_bits < 2 ^ 31
@@ -47,7 +47,7 @@ abbrev pub node_height : {X : Type 0} → List (Seen X) → ℕ
 node_height [] = 0
 node_height (c ∷ cs) = max c.levels (node_height cs)
 
--- the map of the child that may be there
+-- the map of the child, or the empty map if there is none
 abbrev pub child_map : {X : Type 0} → Option (Seen X) → BitMap X
 child_map None = empty
 child_map (Some m) = m.entries

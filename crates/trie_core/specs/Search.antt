@@ -1,19 +1,19 @@
--- What searches find.
+-- The results of searches.
 use Rattle.std.specs.Prelude.{ℕ, ◌<◌, ◌≤◌, ◌≡◌, length, take, Bool, List, Some, None}
 use Rattle.std.specs.FinMap.{get}
 use Rattle.trie_core.specs.Nodes.{BitMap}
 
--- no beginning of q, q itself included, is a key
+-- no prefix of q, q itself included, is a key
 abbrev pub NoBeginning : {X : Type 0} → BitMap X → List Bool → Type 0
 NoBeginning m q = (k : ℕ) → k ≤ length q → get m (take k q) ≡ None
 
--- of the beginnings of q that are keys, q itself included, the longest has n bits and the value v
+-- the longest prefix of q that is a key, q itself included, has n bits and the value v
 pub record IsLongest {X : Type 0} (m : BitMap X) (q : List Bool) (n : ℕ) (v : X) : Type 0 where
   pub within : n ≤ length q
   pub found : get m (take n q) ≡ Some v
   pub longest : (k : ℕ) → n < k → k ≤ length q → get m (take k q) ≡ None
 
--- of the beginnings of q that are keys, q itself included, the shortest has n bits and the value v
+-- the shortest prefix of q that is a key, q itself included, has n bits and the value v
 pub record IsShortest {X : Type 0} (m : BitMap X) (q : List Bool) (n : ℕ) (v : X) : Type 0 where
   pub within : n ≤ length q
   pub found : get m (take n q) ≡ Some v

@@ -1,4 +1,4 @@
-//! A second node with the same entries.
+//! Copies of a node with the same entries.
 ghost use Rattle.std.specs.Prelude.{◌≡◌, IfOk};
 ghost use Rattle.short_vec.specs.Lists.{short_items};
 
@@ -6,7 +6,7 @@ use crate::node::Node;
 use short_vec::ShortVec;
 use std::alloc::{AllocError, Global};
 
-/// Clones of the items, in their order.
+/// Clones of the items, in the same order.
 fn cloned<X: Clone>(alloc: Global, items: &[X]) -> Result<ShortVec<X>, AllocError>
     requires { (x y : X) → X.is_clone x y → y ≡ x }
     ensures { IfOk result (λ v. short_items v ≡ items.now) }
@@ -19,10 +19,10 @@ fn cloned<X: Clone>(alloc: Global, items: &[X]) -> Result<ShortVec<X>, AllocErro
 }
 
 impl<T: Clone> Node<T> {
-    /// A node with clones of the values, and with as many nodes below.
+    /// A copy of the node, with clones of the values and as many nodes below.
     ///
     /// # Errors
-    /// `AllocError` where there is no memory for all of it. Nothing is left of it then.
+    /// `AllocError` if an allocation fails; all that was copied is dropped.
     pub fn try_clone(&self, alloc: Global) -> Result<Node<T>, AllocError>
         requires { (x y : T) → T.is_clone x y → y ≡ x }
         ensures { IfOk result (λ n. n ≡ self.now) }

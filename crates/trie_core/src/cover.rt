@@ -1,4 +1,4 @@
-//! The entries whose keys begin a path. They take no memory.
+//! Walks over the entries whose keys are prefixes of a path. They do not allocate.
 ghost use Rattle.std.specs.Prelude.{◌≡◌, ◌≤◌, [], length, MatchOption, ⊤};
 ghost use Rattle.std.specs.FinMap.{entries};
 ghost use Rattle.std.specs.FinMap.Entries.{where_key};
@@ -15,8 +15,8 @@ use crate::walk::Step;
 use std::alloc::AllocError;
 use std::marker::Model;
 
-/// The entries that are left of those whose keys begin a path, by rising length: in the node that stands at the
-/// trail those from a place on, and those below it on what is left of the path.
+/// The rest of a walk over the entries whose keys are prefixes of a path, shortest key first. `trail` is the way to `node`. The walk
+/// still has the entries of `node` from `place` on, and the entries below it on the rest of the path.
 #[derive(Drop)]
 pub struct Cover<'a, T> {
     node: Option<&'a Node<T>>,
@@ -39,7 +39,7 @@ impl<'a, T> Model for Cover<'a, T> {
     ghost invariant = { λ a. IsCover a.path a.place a.trail };
 }
 
-/// The first place, from this one on, at which a beginning of the path is a key of the node, and its value.
+/// The first place, from this one on, whose string is both a key of the node and a prefix of the path, with its value.
 fn beginning_from<'a, T>(node: &'a Node<T>, path: &Path, place: u8) -> Option<(u8, &'a T)>
     requires { place ≤ 31 }
     ensures { MatchOption result (NoneFrom node.now.entries path.now place) (λ r. IsFirstFrom node.now.entries path.now place r.0 r.1.now) }
@@ -55,7 +55,7 @@ fn beginning_from<'a, T>(node: &'a Node<T>, path: &Path, place: u8) -> Option<(u
 }
 
 impl<'a, T> Cover<'a, T> {
-    /// The entries of a node whose keys begin a path, itself included.
+    /// Walks over the entries of a node whose keys are prefixes of a path, the path itself included.
     pub fn new(node: &'a Node<T>, path: Path) -> Cover<'a, T>
         requires { length path ≤ 128 }
         ensures { result.0 ≡ where_key bits_cmp (λ k. begins k path) (entries node.now.entries) }
@@ -68,7 +68,7 @@ impl<'a, T> Cover<'a, T> {
         }
     }
 
-    /// Gives the next entry of the node, or goes on to the node below.
+    /// Returns the next entry of the node, or moves to the node below.
     fn step(&mut self) -> Step<&'a T>
         ensures { Stepped (λ v. v.now) self.old result self.new }
     {
@@ -97,7 +97,7 @@ impl<'a, T> Clone for Cover<'a, T> {
 
     ghost is_infallible = { λ _. ⊤ };
 
-    /// A second walk from here on. It takes no memory.
+    /// A copy of the walk from its current position. Does not allocate.
     fn clone(&self) -> Result<Cover<'a, T>, AllocError> {
         Ok(Cover {
             node: self.node,

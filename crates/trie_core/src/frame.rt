@@ -1,4 +1,4 @@
-//! What a walk has left of one node, and stacks of that, whether nodes are lent or owned.
+//! Frames and stacks of frames: the rest of one node in a walk, and the rest of the walk. The nodes are borrowed or owned.
 ghost use Rattle.std.specs.Prelude.{◌≡◌, ◌+◌, ◌*◌, ◌<◌, ◌≤◌, List, [], ◌∷◌, ◌++◌, MatchOption, length, ⊤};
 ghost use Rattle.std.specs.FinMap.{entries};
 ghost use Rattle.std.specs.FinMap.Entries.{where_key};
@@ -13,52 +13,52 @@ ghost use Rattle.trie_core.specs.InnerSteps.{GivesNext, LastCanGive, LastGives};
 use crate::path::Path;
 use crate::tables::first_child;
 
-/// What stands first in a frame: an entry, or a node below, with the way to it.
+/// The first part of a frame: an entry, or a node below with its path.
 pub enum Next<G, F> {
     /// A key and its value.
     Entry(Path, G),
-    /// All of the node below, and the way to it.
+    /// The whole node below, and its path.
     Below(F, Path),
-    /// There is nothing left.
+    /// The frame is empty.
     Nothing,
 }
 
-/// What a walk has left of one node with values of type `T`, lent or owned.
+/// The rest of one node in a walk; its values of type `T` are borrowed or owned.
 pub trait Frame<T>: Drop {
-    /// A node as a walk is given it: lent, or owned.
+    /// A node as the walk receives it: borrowed or owned.
     type Node: Drop;
 
-    /// A value as a walk gives it: lent, or owned.
+    /// A value as the walk returns it: borrowed or owned.
     type Given: Drop;
 
-    /// What contracts see of a node.
+    /// The node as contracts see it.
     ghost seen: { Self.Node → Seen T };
 
-    /// What contracts see of a given value.
+    /// The returned value as contracts see it.
     ghost value: { Self.Given → T };
 
-    /// What is left.
+    /// The rest of the node.
     ghost left: { Self → Left T };
 
-    /// The node below the first five bits.
+    /// Returns the child at the first five bits of the path.
     fn child(node: Self::Node, path: &Path) -> Option<Self::Node>
         requires { 5 ≤ length path.now }
         ensures { MatchOption result (HasNoChild path.now (seen node)) (λ c. IsChild path.now (seen node) (seen c)) };
 
-    /// All of a node.
+    /// Makes a frame of the whole node.
     fn whole(node: Self::Node) -> Self
         ensures rest { (left result).0 ≡ entries (seen node).entries }
         ensures levels { (left result).1 ≡ (seen node).levels }
         ensures positive { 0 < (left result).1 };
 
-    /// Of a node the keys that begin with a string of fewer than five bits.
+    /// Makes a frame of the keys of the node that begin with a string of fewer than five bits.
     fn inside(node: Self::Node, path: &Path) -> Self
         requires short { length path.now < 5 }
         ensures rest { (left result).0 ≡ where_key bits_cmp (begins path.now) (entries (seen node).entries) }
         ensures levels { (left result).1 ≤ (seen node).levels }
         ensures positive { 0 < (left result).1 };
 
-    /// Takes out what stands first, in the node at the way.
+    /// Takes the first part out of the frame of the node at `way`.
     fn next(&mut self, way: &Path) -> Next<Self::Given, Self>
         requires levels { length way.now + 5 * (left self.old).1 ≤ 130 }
         requires keys { KeysWithin 128 (under way.now (left self.old).0) }
@@ -68,33 +68,33 @@ pub trait Frame<T>: Drop {
 
 /// A stack of at most 26 frames.
 ///
-/// It is a type of its own for each kind of frame: that an array of frames has a size is known of a known frame alone.
+/// Each kind of frame has its own stack type, because only a concrete frame type gives an array of frames a known size.
 pub trait FrameStack<T>: Drop {
     type Frame: Frame<T>;
 
-    /// What is left of each frame, the last one last.
+    /// The rest of each frame; the top frame is last.
     ghost frames: { Self → List (Left T) };
 
-    /// A stack without frames.
+    /// Makes a stack without frames.
     fn empty() -> Self
         ensures { frames result ≡ [] };
 
-    /// Takes out what stands first in the last frame, where the way leads to its node.
+    /// Takes the first part out of the top frame; `way` leads to the node of this frame.
     fn next(&mut self, way: &Path) -> Option<Next<<Self::Frame as Frame<T>>::Given, Self::Frame>>
         requires { LastCanGive (λ f. f) way.now (frames self.old) }
         ensures { MatchOption result ((frames self.old ≡ []) × (frames self.new ≡ [])) (λ n. LastGives Self.Frame.value Self.Frame.left (λ f. f) way.now (frames self.old) n (frames self.new)) };
 
-    /// Takes off the last frame.
+    /// Removes and returns the top frame.
     fn pop(&mut self) -> Option<Self::Frame>
         ensures { MatchOption result ((frames self.old ≡ []) × (frames self.new ≡ [])) (λ f. frames self.old ≡ frames self.new ++ Self.Frame.left f ∷ []) };
 
-    /// Puts a frame on top.
+    /// Pushes a frame.
     fn push(&mut self, frame: Self::Frame)
         requires { length (frames self.old) < 26 }
         ensures { frames self.new ≡ frames self.old ++ Self.Frame.left frame ∷ [] };
 }
 
-/// Whether the value at its first place comes next, and not what is below the first child.
+/// Whether the first value precedes the first child in the order of a walk.
 #[inline]
 pub(crate) fn value_first(value: Option<u8>, child: Option<u8>) -> bool
     requires { MatchOption value ⊤ (λ p. p < 31) }
@@ -107,7 +107,7 @@ pub(crate) fn value_first(value: Option<u8>, child: Option<u8>) -> bool
     }
 }
 
-/// Takes out what stands first in the last of these frames, where the way leads to its node.
+/// Takes the first part out of the last of these frames; `way` leads to the node of this frame.
 #[inline(always)]
 pub(crate) fn next_of_last<T, F: Frame<T>>(
     frames: &mut [F],
@@ -122,9 +122,9 @@ pub(crate) fn next_of_last<T, F: Frame<T>>(
     Some(last.next(way))
 }
 
-/// A stack of frames of nodes that are lent, of which there can be a second one.
+/// A stack of frames of borrowed nodes, which can be copied.
 pub trait LentStack<T>: FrameStack<T> {
-    /// A second stack of the same frames. It takes no memory.
+    /// Returns a copy of the stack. Does not allocate.
     fn copied(&self) -> Self
         ensures { Self.frames result ≡ Self.frames self.now };
 }

@@ -1,4 +1,4 @@
-//! The value at a key, lent to be written.
+//! Mutable access to the value at a key.
 ghost use Rattle.std.specs.Prelude.{◌≡◌, ℕ, ◌+◌, ◌*◌, ◌<◌, ◌≤◌, length, Some};
 ghost use Rattle.std.specs.Borrow.{sem};
 ghost use Rattle.std.specs.Option.{IsSome};
@@ -10,7 +10,8 @@ use crate::path::Path;
 use crate::slots::slot;
 use std::marker::PhantomData;
 
-/// A way down a node with as many steps as the type says. What a recursion or a loop lends is not proved; a type for each depth is.
+/// A search for a value that goes down as many levels as the type says. The checker doesn't prove a loan made by a recursion or a loop,
+/// but it proves one type for each depth.
 pub(crate) trait Descent {
     ghost levels: { ℕ };
 
@@ -21,7 +22,7 @@ pub(crate) trait Descent {
         ensures value { map.get node.old.entries path.now ≡ Some result.now };
 }
 
-/// The node itself.
+/// The value is in the node itself.
 pub(crate) struct Here {}
 
 impl Descent for Here {
@@ -32,7 +33,7 @@ impl Descent for Here {
     }
 }
 
-/// One step more.
+/// The value is one level further down than `D` searches.
 pub(crate) struct Below<D: Descent> {
     way: PhantomData<D>,
 }
@@ -54,11 +55,11 @@ impl<D: Descent> Descent for Below<D> {
 
 type Five<D> = Below<Below<Below<Below<Below<D>>>>>;
 
-/// 25 steps, for 128 bits.
+/// 25 levels, enough for 128 bits.
 type Whole = Five<Five<Five<Five<Five<Here>>>>>;
 
 impl<T> Node<T> {
-    /// Lends the value at a key that it has; what is written there is the value of that key from then on.
+    /// Returns a mutable reference to the value at a stored key.
     pub fn value_mut(&mut self, path: &Path) -> &mut T
         requires within { length path.now ≤ 128 }
         requires stored { IsSome (map.get self.old.entries path.now) }
@@ -68,7 +69,7 @@ impl<T> Node<T> {
         Whole::value_mut(self, path)
     }
 
-    /// The value at a stored key of fewer than five bits.
+    /// Returns a mutable reference to the value at a stored key of fewer than five bits.
     fn value_here(&mut self, path: &Path) -> &mut T
         requires short { length path.now < 5 }
         requires stored { IsSome (map.get self.old.entries path.now) }

@@ -1,4 +1,4 @@
-//! What a walk has left of a node that is lent.
+//! Frames of borrowed nodes.
 ghost use Rattle.std.specs.Prelude.{◌≡◌, ◌+◌, ◌*◌, ◌<◌, ◌≤◌, List, Bool, [], ◌∷◌, count_ones, length, take, not, nat_lt, MatchOption, ⊤};
 ghost use Rattle.std.specs.Ordering.{nat_cmp};
 ghost use Rattle.std.specs.FinMap.{entries};
@@ -18,7 +18,8 @@ use arrayvec::ArrayVec;
 use std::alloc::AllocError;
 use std::marker::Model;
 
-/// Things that are left at places below 32, lent: a word says which places are taken, and the things come in their order.
+/// Borrowed items that are left, each at a place below 32. The bits of a word mark the places, and the items are in the order of
+/// their places.
 #[derive(Drop)]
 struct LentPlaces<'a, X> {
     taken: u32,
@@ -61,7 +62,7 @@ impl<'a, X> Default for LentPlaces<'a, X> {
 }
 
 impl<'a, X> LentPlaces<'a, X> {
-    /// The things of a list at the places of a word.
+    /// The items of a list at the places that a word marks.
     #[inline]
     fn new(taken: u32, items: &'a [X]) -> LentPlaces<'a, X>
         requires { count_ones taken ≡ length items.now }
@@ -81,7 +82,7 @@ impl<'a, X> LentPlaces<'a, X> {
         Some(first_place(self.taken))
     }
 
-    /// The only thing, with its place.
+    /// The item and its place, if there is only one.
     #[inline]
     fn only(&self) -> Option<(u8, &'a X)>
         ensures { MatchOption result ⊤ (λ p. self.now ≡ (p.0, p.1.now) ∷ []) }
@@ -93,7 +94,7 @@ impl<'a, X> LentPlaces<'a, X> {
         Some((first_place(self.taken), only))
     }
 
-    /// Takes out the first thing, with its place.
+    /// Takes out the first item, with its place.
     #[inline]
     fn next(&mut self) -> Option<(u8, &'a X)>
         ensures { MatchOption result ((self.old ≡ []) × (self.new ≡ [])) (λ p. self.old ≡ (p.0, p.1.now) ∷ self.new) }
@@ -107,7 +108,7 @@ impl<'a, X> LentPlaces<'a, X> {
         Some((place, first))
     }
 
-    /// Those at this place or after it.
+    /// The items at this place and after it.
     fn from(self, place: u8) -> LentPlaces<'a, X>
         requires { place ≤ 32 }
         ensures { result ≡ where_key nat_cmp (λ k. not (nat_lt k place)) self.entry }
@@ -119,7 +120,7 @@ impl<'a, X> LentPlaces<'a, X> {
         }
     }
 
-    /// Those at places below this one.
+    /// The items at places below this one.
     fn before(self, place: u8) -> LentPlaces<'a, X>
         requires { place ≤ 32 }
         ensures { result ≡ where_key nat_cmp (λ k. nat_lt k place) self.entry }
@@ -132,7 +133,7 @@ impl<'a, X> LentPlaces<'a, X> {
     }
 }
 
-/// What is left of one node.
+/// The rest of one borrowed node.
 #[derive(Drop)]
 pub struct LentFrame<'a, T> {
     values: LentPlaces<'a, T>,
@@ -166,7 +167,7 @@ impl<'a, T> Clone for LentFrame<'a, T> {
     }
 }
 
-/// A frame of nothing.
+/// The default frame is empty.
 impl<'a, T> Default for LentFrame<'a, T> {
     fn default() -> LentFrame<'a, T> {
         LentFrame {
@@ -176,7 +177,7 @@ impl<'a, T> Default for LentFrame<'a, T> {
     }
 }
 
-/// The values and the children of a node.
+/// The values and the children of a node, with their places.
 #[inline]
 fn parts<'a, T>(node: &'a Node<T>) -> (LentPlaces<'a, T>, LentPlaces<'a, Node<T>>)
     ensures { AreParts node.now result.0 result.1 }
@@ -187,7 +188,7 @@ fn parts<'a, T>(node: &'a Node<T>) -> (LentPlaces<'a, T>, LentPlaces<'a, Node<T>
     )
 }
 
-/// The first place after those of the beginnings of five bits.
+/// The first place after those of the prefixes of five bits.
 fn after_beginnings(five: u8) -> u8
     requires { five < 32 }
     ensures { (q : List Bool) → 5 ≤ length q → child_of q ≡ five → result ≡ place_of (take 4 q) + 1 }
@@ -197,7 +198,7 @@ fn after_beginnings(five: u8) -> u8
 }
 
 impl<'a, T> LentFrame<'a, T> {
-    /// The entry that is left of the node at the way, where there is no other and no node below.
+    /// The only entry that is left of the node at `way`, or `None` if there are several entries or nodes below.
     #[inline]
     fn only(&self, way: &Path) -> Option<(Path, &'a T)>
         requires levels { length way.now + 5 * self.now.1 ≤ 130 }
@@ -212,7 +213,7 @@ impl<'a, T> LentFrame<'a, T> {
         Some((key, value))
     }
 
-    /// Of a node the keys that come after all that begin with the first five bits of a path.
+    /// The keys of a node that come after all keys that begin with the first five bits of a path.
     pub(crate) fn past(node: &'a Node<T>, path: &Path) -> LentFrame<'a, T>
         requires long { 5 ≤ length path.now }
         ensures rest { result.0 ≡ where_key bits_cmp (is_past (take 5 path.now)) (entries node.now.entries) }
@@ -227,7 +228,7 @@ impl<'a, T> LentFrame<'a, T> {
         }
     }
 
-    /// Of a node the keys from a string of fewer than five bits on: those that come after it, and itself where asked.
+    /// The keys of a node that come after a string of fewer than five bits; the string itself too if `inclusive`.
     pub(crate) fn onwards(node: &'a Node<T>, path: &Path, inclusive: bool) -> LentFrame<'a, T>
         requires short { length path.now < 5 }
         ensures rest { result.0 ≡ where_key bits_cmp (is_from path.now inclusive) (entries node.now.entries) }

@@ -1,4 +1,4 @@
-//! Nodes of a trie over bit strings, and the strings as paths down the nodes.
+//! The nodes of a trie over bit strings, and the bit strings as paths through the nodes.
 #![tactic(auto)]
 
 mod copy;

@@ -1,4 +1,4 @@
-//! A node of the trie: five levels of bits, with the values at strings of fewer than five bits and the children at five.
+//! A node of the trie covers five levels of bits. It has the values at strings of fewer than five bits and the children at five bits.
 ghost use Rattle.std.specs.Prelude.{◌≡◌, ◌+◌, ◌*◌, ◌/◌, ◌<◌, ◌≤◌, ◌^◌, length, None, Some, IfOk, IfErr, IfNone, IfSome, OnErr, OnOk, IsTrue, ◌↔◌, MatchOption, max, count_ones};
 ghost use Rattle.std.specs.Option.{IsSome, option_copied};
 ghost use Rattle.std.specs.FinMap as map;
@@ -20,7 +20,7 @@ use short_vec::ShortVec;
 use std::alloc::Global;
 use std::marker::Model;
 
-/// A finite map from bit strings to values, and the bit strings at which spare nodes stand, which lead to no entry.
+/// A finite map from bit strings to values, and the bit strings of the spare nodes, the nodes that lead to no entry.
 #[derive(Drop)]
 pub struct Node<T> {
     pub(crate) children: ShortVec<Node<T>>,
@@ -52,8 +52,8 @@ impl<T> Model for Node<T> {
     ghost size_decreases = { λ a h. Prim.omega (arith, most_le-node_height (short_items a.children)) };
 }
 
-/// What is found at a depth, and else the best so far. The best has its length as a word, which is kept from level to
-/// level faster than a byte.
+/// The match found at a depth, or else the best match so far. Its length is a word, because a word is faster than a byte from level
+/// to level.
 #[inline]
 fn deeper<'a, T>(
     best: Option<(usize, &'a T)>,
@@ -69,7 +69,7 @@ fn deeper<'a, T>(
     }
 }
 
-/// The same with its length as a byte.
+/// The same match with its length as a byte.
 #[inline]
 fn in_byte<'a, T>(best: Option<(usize, &'a T)>) -> Option<(u8, &'a T)>
     requires { MatchOption best (Unit {0}) (λ r. r.0 < 256) }
@@ -82,7 +82,7 @@ fn in_byte<'a, T>(best: Option<(usize, &'a T)>) -> Option<(u8, &'a T)>
 }
 
 impl<T> Node<T> {
-    /// The node of the empty map.
+    /// Makes the node of the empty map.
     pub fn new(alloc: Global) -> Node<T>
         ensures map { result.entries ≡ map.empty }
         ensures spares { result.spares ≡ map.empty }
@@ -96,7 +96,7 @@ impl<T> Node<T> {
         }
     }
 
-    /// The value at a string of fewer than five bits.
+    /// Returns the value at a string of fewer than five bits.
     #[inline]
     fn value(&self, path: &Path) -> Option<&T>
         requires { length path.now < 5 }
@@ -105,7 +105,7 @@ impl<T> Node<T> {
         get_at(self.value_bits, self.values.as_slice(), path.place())
     }
 
-    /// The node below the first five bits.
+    /// Returns the child at the first five bits of the path.
     #[inline]
     pub(crate) fn child(&self, path: &Path) -> Option<&Node<T>>
         requires { 5 ≤ length path.now }
@@ -114,7 +114,7 @@ impl<T> Node<T> {
         get_at(self.child_bits, self.children.as_slice(), path.five())
     }
 
-    /// The value at the path.
+    /// Returns the value at the path.
     pub fn get(&self, path: Path) -> Option<&T>
         ensures { option_copied result ≡ map.get self.now.entries path }
     {
@@ -130,7 +130,7 @@ impl<T> Node<T> {
         node.value(&path)
     }
 
-    /// The longest beginning of the path of fewer than five bits that is a key.
+    /// Returns the longest key of fewer than five bits that is a prefix of the path, with its value.
     #[inline]
     fn longest_here(&self, path: &Path) -> Option<(u8, &T)>
         ensures { MatchOption result (NoneBelow self.now.entries path.now 5) (λ r. IsLongestBelow self.now.entries path.now 5 r.0 r.1.now) }
@@ -144,7 +144,7 @@ impl<T> Node<T> {
         Some((place_length(place), &self.values[at]))
     }
 
-    /// The shortest beginning of the path of fewer than five bits that is a key.
+    /// Returns the shortest key of fewer than five bits that is a prefix of the path, with its value.
     #[inline]
     fn shortest_here(&self, path: &Path) -> Option<(u8, &T)>
         ensures { MatchOption result (NoneBelow self.now.entries path.now 5) (λ r. (r.0 < 5) × IsShortest self.now.entries path.now r.0 r.1.now) }
@@ -158,7 +158,7 @@ impl<T> Node<T> {
         Some((place_length(place), &self.values[at]))
     }
 
-    /// The longest beginning of the path that is a key, the path itself included.
+    /// Returns the length of the longest key that is a prefix of the path or the path itself, with its value.
     pub fn longest(&self, path: Path) -> Option<(u8, &T)>
         requires { length path ≤ 128 }
         ensures { MatchOption result (NoBeginning self.now.entries path) (λ r. IsLongest self.now.entries path r.0 r.1.now) }
@@ -179,7 +179,7 @@ impl<T> Node<T> {
         in_byte(deeper(best, depth, node.longest_here(&path)))
     }
 
-    /// The shortest beginning of the path that is a key, the path itself included.
+    /// Returns the length of the shortest key that is a prefix of the path or the path itself, with its value.
     pub fn shortest(&self, path: Path) -> Option<(u8, &T)>
         requires { length path ≤ 128 }
         ensures { MatchOption result (NoBeginning self.now.entries path) (λ r. IsShortest self.now.entries path r.0 r.1.now) }
@@ -201,7 +201,7 @@ impl<T> Node<T> {
         in_byte(deeper(None, depth, node.shortest_here(&path)))
     }
 
-    /// How many nodes a search for the path enters.
+    /// Returns the number of nodes that a search for the path enters.
     pub fn visits(&self, path: Path) -> u8
         requires { length path ≤ 128 }
         ensures bound { result ≤ length path / 5 + 1 }
@@ -222,7 +222,7 @@ impl<T> Node<T> {
         visits
     }
 
-    /// Whether nothing stands strictly inside a path of fewer than five bits.
+    /// Whether no key and no spare node is strictly inside a path of fewer than five bits.
     #[inline]
     fn is_leaf_here(&self, path: &Path) -> bool
         requires { length path.now < 5 }
@@ -234,8 +234,7 @@ impl<T> Node<T> {
         self.value_bits & values == 0 && self.child_bits & children == 0
     }
 
-    /// Whether nothing stands strictly inside the path: no key but itself begins with it, and no spare node stands
-    /// below it.
+    /// Returns whether no key and no spare node is strictly inside the path: no longer key begins with it, and no spare node is below it.
     pub fn is_leaf(&self, path: Path) -> bool
         ensures { IsTrue result ↔ (NothingInside self.now.entries path × NothingInside self.now.spares path) }
     {
@@ -251,7 +250,7 @@ impl<T> Node<T> {
         node.is_leaf_here(&path)
     }
 
-    /// Whether it has neither values nor children.
+    /// Returns whether the node has neither values nor children.
     pub fn is_bare(&self) -> bool
         ensures bare { IsTrue result ↔ ((self.now.entries ≡ map.empty) × (spare_count self.now ≡ 0)) }
         ensures count { IsTrue result → all_nodes self.now ≡ 1 }
@@ -261,15 +260,14 @@ impl<T> Node<T> {
 }
 
 impl<T: Drop> Node<T> {
-    /// Stores the value, and answers the old one, the number of nodes made, and whether nothing stands strictly inside the
-    /// path, as `is_leaf` does.
+    /// Stores the value. Returns the old value, the number of new nodes, and whether the path is a leaf, as `is_leaf` returns it.
     ///
-    /// A new entry is taken in only where there `may` be one more, and with at most `room` new nodes. The memory
-    /// for a new node is requested before the node is made, and the nodes below it are made before it is hung in.
+    /// A new entry is stored only if `may_grow` allows one more entry, and with at most `room` new nodes. Memory for a new node is
+    /// allocated before the node is made. The nodes below a new node are made before it is linked.
     ///
     /// # Errors
-    /// The value, and the node is as it was: never where one stands at the path; always where none does and there may not
-    /// be one more entry; else for want of memory, or where more than `room` nodes would be made.
+    /// `Err` returns the value, and the node is unchanged. It never happens if the path has a value. Otherwise it happens if `may_grow` is
+    /// false, if more than `room` new nodes are needed, or if an allocation fails.
     pub fn insert(
         &mut self,
         path: Path,
@@ -300,10 +298,10 @@ impl<T: Drop> Node<T> {
         }
     }
 
-    /// Stores the value that is held, and holds the one that stood there, if any. Answers the number of nodes made, and tells
-    /// whether nothing stands strictly inside the path; where there is no room, none, and all stays as it was.
+    /// Exchanges the value in `held` with the value at the path, if there is one. Returns the number of new nodes, or `None` if the value
+    /// can't be stored; then nothing changes. Sets `is_leaf` as `insert` returns it.
     ///
-    /// The value is not handed from node to node, so that a step down costs little.
+    /// The value stays in `held` on the way down, so each level passes a pointer instead of moving the value.
     fn exchange(
         &mut self,
         path: Path,
@@ -327,7 +325,7 @@ impl<T: Drop> Node<T> {
             let child = &mut self.children[at];
             return child.exchange(path.rest(), held, is_leaf, may_grow, room);
         }
-        // Nodes are large, and most have few children.
+        // Nodes are large, and most nodes have few children.
         let more = if self.children.len() < 4 { 1 } else { 2 };
         if !may_grow || room == 0 || reserve_some(&mut self.children, more).is_err() {
             return None;
@@ -346,7 +344,7 @@ impl<T: Drop> Node<T> {
         Some(made + 1)
     }
 
-    /// The same at a string of fewer than five bits.
+    /// `exchange` at a string of fewer than five bits.
     #[inline(never)]
     fn exchange_here(
         &mut self,
@@ -385,10 +383,9 @@ impl<T: Drop> Node<T> {
         }
     }
 
-    /// Takes the entry out, and with it the nodes below this one on its path that are left bare, also where there was
-    /// no entry.
+    /// Removes the entry, and then the nodes below this one on the path that are left empty, even if there was no entry.
     ///
-    /// Answers the value and how many nodes went.
+    /// Returns the value and the number of nodes removed.
     pub fn remove(&mut self, path: Path) -> (Option<T>, u8)
         requires { length path ≤ 128 }
         ensures value { result.0 ≡ map.get self.old.entries path }
@@ -403,7 +400,7 @@ impl<T: Drop> Node<T> {
         (held, gone)
     }
 
-    /// The same: the value is held then, where nothing was.
+    /// `remove`, but the value is returned in `held`, which must be `None` before.
     fn withdraw(&mut self, path: Path, held: &mut Option<T>) -> u8
         requires path { length path ≤ 128 }
         requires held { held.old ≡ None }
@@ -435,7 +432,7 @@ impl<T: Drop> Node<T> {
         }
     }
 
-    /// The same at a string of fewer than five bits.
+    /// `withdraw` at a string of fewer than five bits.
     #[inline(never)]
     fn withdraw_here(&mut self, path: Path, held: &mut Option<T>)
         requires { length path < 5 }
@@ -448,7 +445,7 @@ impl<T: Drop> Node<T> {
         *held = take_at(&mut self.value_bits, &mut self.values, path.place());
     }
 
-    /// Takes the entry out, and leaves every node.
+    /// Removes the entry, and keeps every node.
     pub fn remove_keep_tree(&mut self, path: Path) -> Option<T>
         ensures value { result ≡ map.get self.old.entries path }
         ensures map { self.new.entries ≡ map.remove self.old.entries path }

@@ -1,4 +1,4 @@
-//! What a walk that owns its entries has left of a node. It takes no memory, and drops with it what it has not given.
+//! Frames of owned nodes. They do not allocate, and drop the entries that the walk hasn't returned.
 ghost use Rattle.std.specs.Prelude.{◌≡◌, ◌<◌, ◌≤◌, [], ◌∷◌, count_ones, length, take, drop, not, nat_lt, MatchOption};
 ghost use Rattle.std.specs.Ordering.{nat_cmp};
 ghost use Rattle.std.specs.FinMap.Entries.{where_key};
@@ -17,7 +17,7 @@ use short_vec::ShortVec;
 use std::marker::Model;
 use std::vec::IntoIter;
 
-/// Things that are left at places below 32: a word says which places are taken, and the things come in their order.
+/// Items that are left, each at a place below 32. The bits of a word mark the places, and the items are in the order of their places.
 #[derive(Drop)]
 struct Places<X> {
     taken: u32,
@@ -48,7 +48,7 @@ impl<X> Default for Places<X> {
 }
 
 impl<X> Places<X> {
-    /// The things of a list at the places of a word.
+    /// The items of a list at the places that a word marks.
     fn new(taken: u32, items: ShortVec<X>) -> Places<X>
         requires { count_ones taken ≡ length (short_items items) }
         ensures { result ≡ placed taken (short_items items) }
@@ -71,7 +71,7 @@ impl<X> Places<X> {
 }
 
 impl<X: Drop> Places<X> {
-    /// Takes out the first thing, with its place.
+    /// Takes out the first item, with its place.
     fn next(&mut self) -> Option<(u8, X)>
         ensures { MatchOption result ((self.old ≡ []) × (self.new ≡ [])) (λ p. self.old ≡ p ∷ self.new) }
     {
@@ -87,7 +87,7 @@ impl<X: Drop> Places<X> {
     }
 }
 
-/// The things without the first of them.
+/// The items without the first `count` items.
 fn without_first<X: Drop>(items: Option<IntoIter<X>>, count: u32) -> Option<IntoIter<X>>
     requires { count ≤ length (held items) }
     ensures { held result ≡ drop count (held items) }
@@ -101,7 +101,7 @@ fn without_first<X: Drop>(items: Option<IntoIter<X>>, count: u32) -> Option<Into
     Some(items)
 }
 
-/// The first of the things.
+/// The first `count` items.
 fn first_of<X: Drop>(items: Option<IntoIter<X>>, count: u32) -> Option<IntoIter<X>>
     requires { count ≤ length (held items) }
     ensures { held result ≡ take count (held items) }
@@ -116,7 +116,7 @@ fn first_of<X: Drop>(items: Option<IntoIter<X>>, count: u32) -> Option<IntoIter<
 }
 
 impl<X: Drop> Places<X> {
-    /// Those at this place or after it. The others are dropped.
+    /// The items at this place and after it. The others are dropped.
     fn from(self, place: u8) -> Places<X>
         requires { place ≤ 32 }
         ensures { result ≡ where_key nat_cmp (λ k. not (nat_lt k place)) self }
@@ -128,7 +128,7 @@ impl<X: Drop> Places<X> {
         }
     }
 
-    /// Those at places below this one. The others are dropped.
+    /// The items at places below this one. The others are dropped.
     fn before(self, place: u8) -> Places<X>
         requires { place ≤ 32 }
         ensures { result ≡ where_key nat_cmp (λ k. nat_lt k place) self }
@@ -141,7 +141,7 @@ impl<X: Drop> Places<X> {
     }
 }
 
-/// What is left of one node.
+/// The rest of one owned node.
 #[derive(Drop)]
 pub struct OwnedFrame<T> {
     values: Places<T>,
@@ -162,7 +162,7 @@ impl<T> Model for OwnedFrame<T> {
     ghost invariant = { λ a. AreInOrder a.values a.children };
 }
 
-/// A frame of nothing.
+/// The default frame is empty.
 impl<T> Default for OwnedFrame<T> {
     fn default() -> OwnedFrame<T> {
         OwnedFrame {
@@ -172,7 +172,7 @@ impl<T> Default for OwnedFrame<T> {
     }
 }
 
-/// The values and the children of a node.
+/// The values and the children of a node, with their places.
 fn parts<T>(node: Node<T>) -> (Places<T>, Places<Node<T>>)
     ensures { AreParts node result.0 result.1 }
 {
@@ -199,7 +199,7 @@ impl<T: Drop> Frame<T> for OwnedFrame<T> {
 
     ghost left = { λ f. f };
 
-    /// The rest of the node is dropped.
+    /// Drops the rest of the node.
     fn child(node: Node<T>, path: &Path) -> Option<Node<T>> {
         match slot(node.child_bits, path.five()) {
             None => None,
@@ -215,7 +215,7 @@ impl<T: Drop> Frame<T> for OwnedFrame<T> {
         OwnedFrame { values, children }
     }
 
-    /// The others are dropped.
+    /// Drops the other entries.
     fn inside(node: Node<T>, path: &Path) -> OwnedFrame<T> {
         let (values, children) = parts(node);
         let (len, place, child) = (path.len(), path.place(), path.five());

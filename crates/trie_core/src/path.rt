@@ -1,4 +1,4 @@
-//! A bit string of at most 128 bits, taken apart from its front.
+//! A bit string of at most 128 bits, which is read from its front.
 ghost use Rattle.std.specs.Prelude.{◌≡◌, ◌+◌, ◌-◌, ◌/◌, ◌^◌, ◌<◌, ◌≤◌, ◌++◌, length, drop, nat_lt, [], ◌∷◌, ⊤};
 ghost use Rattle.ipnet_blocks.specs.Blocks.{digits};
 ghost use Rattle.trie_core.specs.InnerPlaces.{place_of, child_of, IsBeginMask};
@@ -8,7 +8,7 @@ use crate::tables::{beginnings, bit};
 use std::alloc::AllocError;
 use std::marker::Model;
 
-/// A bit string: the first `len` of the 128 bits, which are zero after them.
+/// A bit string: the first `len` of the 128 bits; the bits after them are zero.
 #[derive(Drop)]
 pub struct Path {
     bits: u128,
@@ -32,14 +32,14 @@ impl Clone for Path {
 
     ghost is_infallible = { λ _. ⊤ };
 
-    /// The same string. It takes no memory.
+    /// Returns the same string. Does not allocate.
     fn clone(&self) -> Result<Path, AllocError> {
         Ok(self.copied())
     }
 }
 
 impl Path {
-    /// The first `len` of 128 bits.
+    /// Makes the string of the first `len` of 128 bits.
     #[inline]
     pub fn new(bits: u128, len: u8) -> Path
         requires { len ≤ 128 }
@@ -55,7 +55,8 @@ impl Path {
         }
     }
 
-    /// The same string, part by part: whole, it may be stored in pieces, for which the next load of it waits.
+    /// Returns the same string, copied field by field. If it is copied as a whole, the compiler may store it in pieces, and the next load
+    /// then waits for these stores.
     #[inline]
     pub(crate) fn copied(&self) -> Path
         ensures { result ≡ self.now }
@@ -66,7 +67,7 @@ impl Path {
         }
     }
 
-    /// How many bits it has.
+    /// Returns the number of bits.
     #[inline]
     pub fn len(&self) -> u8
         ensures { result ≡ length self.now }
@@ -74,7 +75,7 @@ impl Path {
         self.len
     }
 
-    /// Whether it ends inside a node.
+    /// Returns whether the string ends inside the first node, that is, has fewer than five bits.
     #[inline]
     pub fn is_short(&self) -> bool
         ensures { result ≡ nat_lt (length self.now) 5 }
@@ -82,7 +83,7 @@ impl Path {
         self.len < 5
     }
 
-    /// How many nodes below the first it goes through.
+    /// Returns the number of nodes below the first node that the string leads through.
     #[inline]
     pub fn depth(&self) -> u8
         ensures { result ≡ length self.now / 5 }
@@ -90,7 +91,7 @@ impl Path {
         self.len / 5
     }
 
-    /// The number that the first five bits form, with zeros after them where there are fewer.
+    /// Returns the number of the first five bits; a shorter string is padded with zeros.
     #[inline]
     pub fn five(&self) -> u8
         ensures value { result ≡ child_of self.now }
@@ -99,7 +100,7 @@ impl Path {
         (self.bits >> 123) as u8
     }
 
-    /// The place of a short path.
+    /// Returns the place of a string of fewer than five bits.
     #[inline]
     pub fn place(&self) -> u8
         requires { length self.now < 5 }
@@ -110,7 +111,7 @@ impl Path {
         five + self.len - five.count_ones() as u8
     }
 
-    /// The places of its beginnings of fewer than five bits.
+    /// Returns the places of the prefixes of fewer than five bits.
     #[inline]
     pub fn beginnings(&self) -> u32
         ensures { IsBeginMask self.now result }
@@ -122,7 +123,7 @@ impl Path {
         all
     }
 
-    /// The string, and then the first `len` of five bits, which are zero after them.
+    /// Returns the string followed by the first `len` of five bits; the bits after them must be zero.
     #[inline]
     pub fn with(&self, five: u8, len: u8) -> Path
         requires five { IsMasked 5 five len }
@@ -137,7 +138,7 @@ impl Path {
         }
     }
 
-    /// The string at the top of 128 bits, with zeros after it.
+    /// Returns the string as the first of 128 bits, padded with zeros.
     #[inline]
     pub fn to_bits(&self) -> u128
         ensures bits { prefix_bits 128 result (length self.now) ≡ self.now }
@@ -146,7 +147,7 @@ impl Path {
         self.bits
     }
 
-    /// What follows the first five bits.
+    /// Returns the string without its first five bits.
     #[inline]
     pub fn rest(&self) -> Path
         requires { 5 ≤ length self.now }
@@ -158,7 +159,7 @@ impl Path {
         }
     }
 
-    /// The string with one bit more at its end.
+    /// Returns the string with one bit appended.
     #[inline]
     pub fn extended(&self, bit: bool) -> Path
         requires { length self.now < 128 }

@@ -1,4 +1,4 @@
-//! Many entries at once, taken out.
+//! Removal of all entries inside a path.
 ghost use Rattle.std.specs.Prelude.{◌≡◌, ◌+◌, ◌<◌, ◌≤◌, ◌^◌, length, cond};
 ghost use Rattle.std.specs.FinMap as map;
 ghost use Rattle.trie_core.specs.InnerCount.{all_nodes};
@@ -13,7 +13,7 @@ use crate::slots::{slot, take_at};
 use crate::tables::bit;
 
 impl<T> Node<T> {
-    /// How many entries and how many nodes it has.
+    /// The number of entries and the number of nodes.
     pub(crate) fn counts(&self) -> (usize, usize)
         requires entries { map.len self.now.entries < 2 ^ 64 }
         requires nodes { all_nodes self.now < 2 ^ 64 }
@@ -32,7 +32,7 @@ impl<T> Node<T> {
 }
 
 impl<T: Drop> Node<T> {
-    /// Takes out everything.
+    /// Removes all entries and all nodes below.
     pub fn clear(&mut self)
         ensures map { self.new.entries ≡ map.empty }
         ensures spares { self.new.spares ≡ map.empty }
@@ -42,7 +42,7 @@ impl<T: Drop> Node<T> {
         *self = Node::new(alloc);
     }
 
-    /// Takes out the child below five bits. Answers how many entries and how many nodes went with it.
+    /// Removes the child at five bits. Returns the number of entries and the number of nodes removed.
     fn take_child(&mut self, path: &Path) -> (usize, usize)
         requires five { length path.now ≡ 5 }
         requires entries { map.len self.old.entries < 2 ^ 64 }
@@ -62,8 +62,8 @@ impl<T: Drop> Node<T> {
         }
     }
 
-    /// Takes out all entries of the node that lie inside a string of at most five bits, with the nodes below it.
-    /// Answers how many entries and how many nodes went.
+    /// Removes all entries of the node inside a string of at most five bits, with the nodes below. Returns the number of entries and the
+    /// number of nodes removed.
     fn take_inside(&mut self, path: &Path) -> (usize, usize)
         requires short { length path.now ≤ 5 }
         requires entries { map.len self.old.entries < 2 ^ 64 }
@@ -81,7 +81,7 @@ impl<T: Drop> Node<T> {
         (here + left + right, left_nodes + right_nodes)
     }
 
-    /// Takes out the value at a string of fewer than five bits. Answers whether there was one.
+    /// Removes the value at a string of fewer than five bits. Returns whether there was one.
     fn take_value(&mut self, path: &Path) -> bool
         requires { length path.now < 5 }
         ensures map { self.new.entries ≡ map.remove self.old.entries path.now }
@@ -93,8 +93,8 @@ impl<T: Drop> Node<T> {
         take_at(&mut self.value_bits, &mut self.values, path.place()).is_some()
     }
 
-    /// Takes out all entries whose keys the path begins, itself included, and then the nodes on its path that are
-    /// left bare, up to this one. Answers how many entries and how many nodes went.
+    /// Removes all entries whose keys begin with the path, the path itself included. Then removes the nodes on the path that are left
+    /// empty, but not this node. Returns the number of entries and the number of nodes removed.
     pub fn remove_children(&mut self, path: &Path) -> (usize, usize)
         requires entries { map.len self.old.entries < 2 ^ 64 }
         requires nodes { all_nodes self.old < 2 ^ 64 }
@@ -107,7 +107,7 @@ impl<T: Drop> Node<T> {
         self.remove_inside(path)
     }
 
-    /// The same.
+    /// The recursion of `remove_children`.
     fn remove_inside(&mut self, path: &Path) -> (usize, usize)
         requires entries { map.len self.old.entries < 2 ^ 64 }
         requires nodes { all_nodes self.old < 2 ^ 64 }

@@ -1,4 +1,4 @@
-//! Things numbered below 32: a word says which numbers are taken, and a list has the things in the order of their numbers.
+//! Items at places below 32: the bits of a word mark the taken places, and a list has the items in the order of their places.
 ghost use Rattle.std.specs.Prelude.{ℕ, IsOk, ◌≡◌, ◌<◌, ◌≤◌, ◌%◌, ◌^◌, None, length, count_ones, IfOk, IfErr, OnErr, OnOk, IsTrue, MatchOption};
 ghost use Rattle.std.specs.Option.{option_copied};
 ghost use Rattle.std.specs.Ordering.{nat_cmp};
@@ -11,7 +11,7 @@ use short_vec::ShortVec;
 use std::alloc::{AllocError, AllocFailed};
 use std::mem;
 
-/// The lowest bits of a word.
+/// The lowest `count` bits of a word.
 #[inline]
 pub(crate) fn low_bits(word: u32, count: u8) -> u32
     requires { count ≤ 32 }
@@ -23,7 +23,7 @@ pub(crate) fn low_bits(word: u32, count: u8) -> u32
     word % bit(count)
 }
 
-/// How many places below this one are taken.
+/// The number of taken places below this one.
 #[inline]
 pub(crate) fn taken_below(taken: u32, place: u8) -> usize
     requires { place < 32 }
@@ -32,7 +32,7 @@ pub(crate) fn taken_below(taken: u32, place: u8) -> usize
     (taken % bit(place)).count_ones() as usize
 }
 
-/// Where the thing at a taken place stands in the list.
+/// The index in the list of the item at a taken place.
 #[inline]
 pub(crate) fn slot(taken: u32, place: u8) -> Option<usize>
     requires { place < 32 }
@@ -44,7 +44,7 @@ pub(crate) fn slot(taken: u32, place: u8) -> Option<usize>
     Some(taken_below(taken, place))
 }
 
-/// What stands at the place.
+/// The item at the place.
 #[inline]
 pub(crate) fn get_at<X>(taken: u32, items: &[X], place: u8) -> Option<&X>
     requires below { place < 32 }
@@ -57,7 +57,7 @@ pub(crate) fn get_at<X>(taken: u32, items: &[X], place: u8) -> Option<&X>
     }
 }
 
-/// Makes room for one thing more: where there is none, for so many.
+/// Makes sure that there is room for one more item: a full list gets room for `more` items.
 #[inline]
 pub(crate) fn reserve_some<X>(items: &mut ShortVec<X>, more: usize) -> Result<(), AllocError>
     requires { 0 < more }
@@ -71,9 +71,9 @@ pub(crate) fn reserve_some<X>(items: &mut ShortVec<X>, more: usize) -> Result<()
     items.reserve_exact(more)
 }
 
-/// How many more things a list gets room for, by its length and the size of a thing: one, since most lists stay short, and there
-/// are many of them. Of things of eight bytes it is three and then two at a time, which take as much memory: an allocator
-/// mostly hands out sixteen bytes at a time, and keeps eight for itself.
+/// The number of items to make room for in a full list, by its length and the size of an item. It is one for most items, since there
+/// are very many lists and most stay short. For items of eight bytes it is three at first and then two, which costs no more memory: an
+/// allocator usually rounds up to sixteen bytes and uses eight for itself.
 #[inline]
 fn room_for(len: usize, size: usize) -> usize
     ensures { 0 < result }
@@ -84,9 +84,9 @@ fn room_for(len: usize, size: usize) -> usize
     if len == 0 { 3 } else { 2 }
 }
 
-/// Stores the thing at the place, and answers what stood there.
+/// Stores the item at the place, and returns the old item.
 ///
-/// A free place is taken only where there may be one more, and needs memory; at a taken one it needs none.
+/// A free place is taken only if `may_grow` is true, and may need an allocation. A taken place needs none.
 #[inline(never)]
 pub(crate) fn put_at<X>(
     taken: &mut u32,
@@ -130,7 +130,7 @@ pub(crate) fn put_at<X>(
     }
 }
 
-/// Takes out what stands at the place.
+/// Removes and returns the item at the place.
 pub(crate) fn take_at<X>(taken: &mut u32, items: &mut ShortVec<X>, place: u8) -> Option<X>
     requires below { place < 32 }
     requires counted { count_ones taken.old ≡ length (short_items items.old) }
@@ -146,7 +146,7 @@ pub(crate) fn take_at<X>(taken: &mut u32, items: &mut ShortVec<X>, place: u8) ->
     Some(thing)
 }
 
-/// The greatest place that is taken.
+/// The greatest taken place.
 #[inline]
 pub(crate) fn last_place(taken: u32) -> u8
     requires { 0 < taken }
@@ -155,7 +155,7 @@ pub(crate) fn last_place(taken: u32) -> u8
     31 - taken.leading_zeros() as u8
 }
 
-/// The least place that is taken.
+/// The least taken place.
 #[inline]
 pub(crate) fn first_place(taken: u32) -> u8
     requires { 0 < taken }

@@ -1,4 +1,4 @@
-//! Nodes without use, taken out.
+//! Removal of nodes that lead to no entry.
 ghost use Rattle.std.specs.Prelude.{◌≡◌, ◌+◌, ◌<◌, ◌≤◌, ◌^◌};
 ghost use Rattle.std.specs.FinMap as map;
 ghost use Rattle.trie_core.specs.InnerCount.{all_nodes};
@@ -8,7 +8,7 @@ use crate::slots::slot;
 use crate::tables::bit;
 
 impl<T: Drop> Node<T> {
-    /// Takes out every spare node below, the lowest first, and leaves the entries. Answers how many nodes went.
+    /// Removes every spare node below this one, the lowest first, and keeps the entries. Returns the number of nodes removed.
     pub fn take_spares(&mut self) -> usize
         requires { all_nodes self.old < 2 ^ 64 }
         ensures map { self.new.entries ≡ self.old.entries }

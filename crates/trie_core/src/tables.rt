@@ -1,29 +1,29 @@
-//! The places of a node: which begin a string, how long the string at a place is, and the bit of a place.
+//! Tables of the places in a node: the prefixes of a string, the length of the string at a place, and the bit of a place.
 ghost use Rattle.std.specs.Prelude.{◌≡◌, ◌<◌, ◌≤◌, ◌^◌, ◌+◌, ◌-◌, ◌%◌, List, Bool, length};
 ghost use Rattle.trie_core.specs.InnerPlaces.{place_of, child_of, place_string, IsBeginMask};
 ghost use Rattle.trie_core.specs.Prefixes.{prefix_bits, IsMasked};
 
-/// For each five bits the places of their beginnings of fewer than five bits.
+/// For each five bits, the places of their prefixes of fewer than five bits.
 const BEGINNINGS: [u32; 32] = [
     31, 31, 47, 47, 199, 199, 327, 327, 3587, 3587, 5635, 5635, 25091, 25091, 41475, 41475, 983041,
     983041, 1507329, 1507329, 6488065, 6488065, 10682369, 10682369, 117506049, 117506049,
     184614913, 184614913, 822149121, 822149121, 1359020033, 1359020033,
 ];
 
-/// For each place the length of its string.
+/// For each place, the length of its string.
 const LENGTHS: [u8; 31] = [
     0, 1, 2, 3, 4, 4, 3, 4, 4, 2, 3, 4, 4, 3, 4, 4, 1, 2, 3, 4, 4, 3, 4, 4, 2, 3, 4, 4, 3, 4, 4,
 ];
 
-/// For each place the number that its string forms, with zeros after it up to five bits.
+/// For each place, the number of its string when padded with zeros to five bits.
 const NUMBERS: [u8; 31] = [
     0, 0, 0, 0, 0, 2, 4, 4, 6, 8, 8, 8, 10, 12, 12, 14, 16, 16, 16, 16, 18, 20, 20, 22, 24, 24, 24,
     26, 28, 28, 30,
 ];
 
-/// The places of the strings that begin a path whose first five bits, with zeros after them, form the number.
+/// The places of the prefixes of a path, given the number of its first five bits, padded with zeros.
 ///
-/// Where the path is shorter than five bits these are the ones up to its own place.
+/// If the path is shorter than five bits, only the places up to its own are its prefixes.
 #[inline]
 pub(crate) fn beginnings(five: u8) -> u32
     requires { five < 32 }
@@ -33,7 +33,7 @@ pub(crate) fn beginnings(five: u8) -> u32
     BEGINNINGS[five as usize]
 }
 
-/// How many bits the string at a place has.
+/// The number of bits of the string at a place.
 #[inline]
 pub(crate) fn place_length(place: u8) -> u8
     requires { place < 31 }
@@ -52,7 +52,7 @@ pub(crate) fn bit(place: u8) -> u32
     1u32 << place
 }
 
-/// The word of the places from one on, and before another.
+/// The word that marks the places from `from` on and below `end`.
 #[inline]
 pub(crate) fn places_between(from: u8, end: u8) -> u32
     requires ordered { from ≤ end }
@@ -62,7 +62,7 @@ pub(crate) fn places_between(from: u8, end: u8) -> u32
     ((1u64 << end) - (1u64 << from)) as u32
 }
 
-/// The number that the string at a place forms, with zeros after it: that of the first child below the place.
+/// The number of the string at a place when padded with zeros: the number of the first child below the place.
 #[inline]
 pub(crate) fn first_child(place: u8) -> u8
     requires { place < 31 }

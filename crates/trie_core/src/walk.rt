@@ -1,4 +1,4 @@
-//! Walks over the entries of a node in order. They take no memory.
+//! Walks over the entries of a node in order. They do not allocate.
 ghost use Rattle.std.specs.Prelude.{◌≡◌, ◌+◌, ◌-◌, ◌*◌, ◌<◌, ◌≤◌, [], length, take, ⊤};
 ghost use Rattle.std.specs.FinMap.{entries};
 ghost use Rattle.std.specs.FinMap.Entries.{where_key};
@@ -19,10 +19,10 @@ use arrayvec::ArrayVec;
 use std::alloc::AllocError;
 use std::marker::{Model, PhantomData};
 
-/// The entries that are left of a walk: those of the frames on the stack, the last frame first. The trail is the way to
-/// the node of the last frame, and each frame stands five bits below the one before it.
+/// The rest of a walk: the entries of the frames on the stack, the top frame first. The trail is the path to the node of the top
+/// frame, and the path of each frame is five bits longer than that of the frame below it on the stack.
 ///
-/// A node has at most 25 levels of nodes below it, and a walk has one frame open at each level.
+/// There are at most 25 levels of nodes below a node, and a walk has one open frame for each level.
 #[derive(Drop)]
 pub struct FrameWalk<T, S: FrameStack<T>> {
     stack: S,
@@ -30,10 +30,10 @@ pub struct FrameWalk<T, S: FrameStack<T>> {
     values: PhantomData<T>,
 }
 
-/// The entries that are left, with values that are lent.
+/// The rest of a walk over borrowed values.
 pub type Walk<'a, T> = FrameWalk<T, ArrayVec<LentFrame<'a, T>, 26>>;
 
-/// The entries that are left, owned. What it has not given is dropped with it.
+/// The rest of a walk over owned values. Entries that it hasn't returned are dropped with it.
 pub type OwnedWalk<T> = FrameWalk<T, ArrayVec<OwnedFrame<T>, 26>>;
 
 impl<T, S: FrameStack<T>> Model for FrameWalk<T, S> {
@@ -51,14 +51,14 @@ impl<T, S: FrameStack<T>> Model for FrameWalk<T, S> {
     ghost invariant = { λ a. IsWalk (S.frames a.stack) a.trail };
 }
 
-/// What one step of a walk came to.
+/// The result of one step of a walk.
 pub(crate) enum Step<G> {
     Entry(Path, G),
     Moved,
     Done,
 }
 
-/// The way without its last five bits.
+/// The path without its last five bits.
 #[inline]
 fn above(way: &Path) -> Path
     requires { length way.now ≤ 128 }
@@ -68,7 +68,7 @@ fn above(way: &Path) -> Path
 }
 
 impl<T, S: FrameStack<T>> FrameWalk<T, S> {
-    /// A walk over the frames of a stack, where the trail leads to the last.
+    /// Makes a walk over the frames of a stack; the trail leads to the node of the top frame.
     fn over(stack: S, trail: Path) -> FrameWalk<T, S>
         requires { IsWalk (S.frames stack) trail }
         ensures { result ≡ (walk_rest (along trail (S.frames stack)), walk_weight (along trail (S.frames stack))) }
@@ -80,7 +80,7 @@ impl<T, S: FrameStack<T>> FrameWalk<T, S> {
         }
     }
 
-    /// A walk that starts with one frame, of the node at the trail.
+    /// Makes a walk that starts with one frame, of the node at the trail.
     fn start(frame: S::Frame, trail: Path) -> FrameWalk<T, S>
         requires positive { 0 < (S.Frame.left frame).1 }
         requires levels { (S.Frame.left frame).1 ≤ 26 }
@@ -93,7 +93,7 @@ impl<T, S: FrameStack<T>> FrameWalk<T, S> {
         FrameWalk::over(stack, trail)
     }
 
-    /// The entries of a node.
+    /// Makes a walk over the entries of a node.
     pub fn new(node: <S::Frame as Frame<T>>::Node) -> FrameWalk<T, S>
         requires levels { (S.Frame.seen node).levels ≤ 26 }
         requires keys { KeysWithin 128 (entries (S.Frame.seen node).entries) }
@@ -102,7 +102,7 @@ impl<T, S: FrameStack<T>> FrameWalk<T, S> {
         FrameWalk::start(S::Frame::whole(node), Path::new(0, 0))
     }
 
-    /// The entries whose keys begin with a path, itself included. Where it owns the others, it drops them.
+    /// Makes a walk over the entries whose keys begin with a path, the path itself included. Other owned entries are dropped.
     pub fn inside(node: <S::Frame as Frame<T>>::Node, path: Path) -> FrameWalk<T, S>
         requires within { length path ≤ 128 }
         requires levels { (S.Frame.seen node).levels ≤ 26 }
@@ -123,7 +123,7 @@ impl<T, S: FrameStack<T>> FrameWalk<T, S> {
         FrameWalk::start(S::Frame::inside(node, &path), trail)
     }
 
-    /// Takes one entry off the last frame, or opens a node, or takes off an empty frame.
+    /// Takes one entry from the top frame, or opens a node, or pops an empty frame.
     #[inline(always)]
     fn step(&mut self) -> Step<<S::Frame as Frame<T>>::Given>
         ensures { Stepped S.Frame.value self.old result self.new }
@@ -146,7 +146,7 @@ impl<T, S: FrameStack<T>> FrameWalk<T, S> {
 }
 
 impl<'a, T> FrameWalk<T, ArrayVec<LentFrame<'a, T>, 26>> {
-    /// The entries from a path on, in the order of a walk: those whose keys come after it, and its own where asked.
+    /// Makes a walk over the entries whose keys come after a path, in order; the entry of the path itself too if `inclusive`.
     pub fn onwards(node: &'a Node<T>, path: Path, inclusive: bool) -> Walk<'a, T>
         requires within { length path ≤ 128 }
         requires levels { node.now.levels ≤ 26 }
@@ -176,14 +176,14 @@ impl<T, S: LentStack<T>> Clone for FrameWalk<T, S> {
 
     ghost is_infallible = { λ _. ⊤ };
 
-    /// A second walk from here on. It takes no memory.
+    /// A copy of the walk from its current position. Does not allocate.
     fn clone(&self) -> Result<FrameWalk<T, S>, AllocError> {
         let trail = self.trail.clone()?;
         Ok(FrameWalk::over(self.stack.copied(), trail))
     }
 }
 
-/// A walk over nothing.
+/// The default walk is empty.
 impl<T, S: FrameStack<T>> Default for FrameWalk<T, S> {
     ghost is_default = { λ w. w.0 ≡ [] };
 

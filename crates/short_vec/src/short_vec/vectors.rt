@@ -1,4 +1,4 @@
-//! A `ShortVec` made into a `Vec`, and made of one: what a `Vec` can do is done there.
+//! Conversions between `ShortVec` and `Vec`: the calls of `ShortVec` are done on a `Vec`.
 ghost use Rattle.std.specs.Prelude.{◌≡◌, ◌<◌, ◌^◌};
 ghost use Rattle.std_alloc.specs.Vec.{vec_len, vec_capacity};
 ghost use Rattle.short_vec.specs.Lists.{short_len, short_capacity};
@@ -7,7 +7,7 @@ use super::ShortVec;
 use std::alloc::Global;
 use std::ptr::null;
 
-/// The words of a `Vec`, in its order.
+/// The words of a `Vec`, in the order of its fields.
 #[derive(Clone, Copy)]
 struct Words {
     ptr: *const u8,
@@ -17,7 +17,7 @@ struct Words {
 }
 
 impl<T> ShortVec<T> {
-    /// The same list as a `Vec`, in the same memory.
+    /// Returns the same list as a `Vec`, in the same memory.
     #[inline]
     pub fn into_vec(self) -> Vec<T>
         ensures items { result.items ≡ self.items }
@@ -41,7 +41,7 @@ impl<T> ShortVec<T> {
         unsafe { place.read() }
     }
 
-    /// The same list as a `ShortVec`, in the same memory.
+    /// Returns the same list as a `ShortVec`, in the same memory.
     #[inline]
     pub fn from_vec(list: Vec<T>) -> ShortVec<T>
         requires { vec_capacity list < 2 ^ 32 }

@@ -1,4 +1,4 @@
-//! Each call once on values from outside.
+//! Each call once, with an expected value written out.
 ghost use Rattle.std.specs.Prelude.{◌≤◌};
 
 use crate::tests::compare::{is_equal, row_is};
@@ -79,7 +79,7 @@ fn ipv6_sums_and_bits(rt: HostRuntime) {
     is_equal(&rt, IpBitOr::<Ipv6Addr>::bitor(v6(3), v6(4)), v6(7));
 }
 
-/// IPv4 masks, and the lengths that they tell.
+/// IPv4 masks, and their prefix lengths.
 pub(crate) const IPV4_MASKS: [(&str, Option<u8>); 8] = [
     ("0.0.0.0", Some(0)),
     ("128.0.0.0", Some(1)),
@@ -91,7 +91,7 @@ pub(crate) const IPV4_MASKS: [(&str, Option<u8>); 8] = [
     ("127.0.0.0", None),
 ];
 
-/// The same of IPv6: none of the bits, all but the last, all, all but the first, and the last.
+/// IPv6 masks, and their prefix lengths: no bit is set; all but the last; all; all but the first; and only the last.
 const IPV6_MASKS: [(&str, Option<u8>); 5] = [
     ("::", Some(0)),
     ("ffff:ffff:ffff:ffff:ffff:ffff:ffff:fffe", Some(127)),
@@ -100,7 +100,7 @@ const IPV6_MASKS: [(&str, Option<u8>); 5] = [
     ("::1", None),
 ];
 
-/// The length that the mask tells, by the call of its family.
+/// The prefix length of the mask, by the function for its family.
 fn length_in_family(mask: IpAddr) -> Option<u8> {
     match mask {
         IpAddr::V4(mask) => ipv4_mask_to_prefix(mask).ok(),
@@ -108,7 +108,7 @@ fn length_in_family(mask: IpAddr) -> Option<u8> {
     }
 }
 
-/// The masks tell these lengths, by the call of their family and by that of both.
+/// Checks the lengths of the masks, by the function for each family and by the one for both.
 fn masks_tell(rt: &impl Abort, masks: &[(&str, Option<u8>)]) {
     for (text, len) in masks {
         let mask = IpAddr::from_str(text).expect(rt, text);
@@ -132,7 +132,7 @@ fn range(rt: HostRuntime) {
     assert_eq!(rt; left.max(), Some(Ipv4Addr::new(10, 0, 0, 3)));
 }
 
-/// A mask, and a key moved up and down.
+/// A mask of this length, and the key shifted left and right by as many bits.
 fn moved<K: Key>(key: K, count: u8) -> (u128, u128, u128)
     requires { count ≤ K.width }
 {

@@ -1,4 +1,4 @@
-//! Ranges, subnet iterators and `aggregate` on values from outside.
+//! Ranges, subnet iterators and `aggregate`, with expected values written out.
 use crate::tests::compare::{any, is_equal, row_is, v4, v6};
 use ipnet::{
     AddrParseError, IpAddr, IpAddrRange, IpNet, IpSubnets, Ipv4Addr, Ipv4AddrRange, Ipv4Net,
@@ -95,7 +95,7 @@ fn ranges_of_either_family(rt: HostRuntime) {
     is_equal(&rt, from.size_hint(), (6, Some(6)));
 }
 
-/// The blocks that are left, and no other.
+/// Checks that just these blocks are left.
 fn cuts_are(rt: &impl Abort, left: Ipv4Subnets, texts: &[&str]) {
     let mut blocks = left;
     for text in texts {
@@ -104,7 +104,7 @@ fn cuts_are(rt: &impl Abort, left: Ipv4Subnets, texts: &[&str]) {
     is_equal(rt, blocks.next(), None);
 }
 
-/// The blocks of either family that are left, and no other.
+/// The same check for either family.
 fn cuts_of_either_are(rt: &impl Abort, left: IpSubnets, texts: &[&str]) {
     let mut blocks = left;
     for text in texts {
@@ -113,10 +113,10 @@ fn cuts_of_either_are(rt: &impl Abort, left: IpSubnets, texts: &[&str]) {
     is_equal(rt, blocks.next(), None);
 }
 
-/// The greatest address of IPv6, as a network.
+/// The greatest IPv6 address, as a network.
 const LAST: &str = "ffff:ffff:ffff:ffff:ffff:ffff:ffff:ffff/128";
 
-/// What is cut: by the last octets of its first and last address, into blocks of at least this length.
+/// Ranges, by the last octets of the first and the last address and the minimum prefix length; and the blocks of each.
 const CUTS: [((u8, u8, u8), &[&str]); 2] = [
     (
         (0, 239, 0),
@@ -151,7 +151,7 @@ fn cuts_of_either_family(rt: HostRuntime) {
     cuts_of_either_are(&rt, last, &[LAST]);
 }
 
-/// The next block has this length.
+/// Checks the prefix length of the next block.
 fn next_has_length(rt: &impl Abort, blocks: &mut Ipv4Subnets, len: u8) {
     let block = blocks.next().expect(rt, "too few blocks");
     is_equal(rt, block.prefix_len(), len);
@@ -175,7 +175,7 @@ fn greatest_block(rt: HostRuntime) {
     is_equal(&rt, all.next(), None);
 }
 
-/// Networks, and the last octets of the first and the last of their hosts.
+/// Networks, and the last octets of their first and last host.
 const HOSTS: [(&str, u8, u8); 4] = [
     ("10.0.0.0/30", 1, 2),
     ("10.0.0.0/31", 0, 1),
@@ -216,7 +216,7 @@ fn subnets_of_other_lengths(rt: HostRuntime) {
     cuts_of_either_are(&rt, one, &["10.0.0.0/8"]);
 }
 
-/// The networks that the words of a text spell.
+/// The networks of a text, separated by spaces.
 fn networks<T: FromStr<Err = AddrParseError> + Drop>(
     rt: &impl Abort,
     alloc: Global,
@@ -247,7 +247,7 @@ const AGGREGATES: [(&str, &str); 6] = [
     ("::1/128 ::/128 0.0.0.0/32", "0.0.0.0/32 ::/127"),
 ];
 
-/// The maximal blocks of the given networks are those wanted, in order.
+/// Checks the maximal blocks of the given networks, in order.
 fn aggregate_is<
     T: FromStr<Err = AddrParseError> + PartialEq + Debug + Drop,
     F: Fn(Global, &Vec<T>) -> Result<Vec<T>, AllocError>,
@@ -266,7 +266,7 @@ fn aggregates(rt: HostRuntime) {
     }
 }
 
-/// The halves of 10.0.0.0/24, one with host bits.
+/// The halves of 10.0.0.0/24, one of them with host bits.
 const HALVES: &str = "10.0.0.5/25 10.0.0.128/25";
 
 #[test]

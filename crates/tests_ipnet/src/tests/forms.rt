@@ -1,4 +1,4 @@
-//! Networks as bytes and as JSON values, on rows from outside.
+//! Networks as bytes and as JSON values, with expected values written out.
 use crate::tests::compare::{any, is_equal, row_is, v4, v6};
 use ipnet::{IpNet, Ipv4Net, Ipv6Net};
 use serde_json::{Value, json};
@@ -16,7 +16,7 @@ fn bytes_of_one_family(rt: HostRuntime) {
     is_equal(&rt, &Ipv6Net::from_bytes(&net.to_bytes()), &Ok(net));
 }
 
-/// Networks that come back from their bytes.
+/// Networks that can be read back from their bytes.
 const COME_BACK: [&str; 3] = ["2001:db8::1/64", "::ffff:10.0.0.0/104", "10.0.0.0/8"];
 
 #[test]
@@ -52,13 +52,13 @@ fn refused_bytes(rt: HostRuntime) {
     is_equal(&rt, IpNet::from_bytes(&[]).is_err(), true);
 }
 
-/// The value is a string, this one, and spells this network, of either family.
+/// Checks that the value is this string, and that it spells this network.
 fn is_value(rt: &impl Abort, value: &Value, text: &str, net: IpNet) {
     row_is(rt, text, value.as_str(), Some(text));
     row_is(rt, text, &IpNet::from_value(value), &Ok(net));
 }
 
-/// The value of an IPv4 network spells it, and no IPv6 network.
+/// Checks that the value of an IPv4 network spells that network, and no IPv6 network.
 fn ipv4_value_is(rt: &impl Abort, alloc: Global, given: &str, text: &str) {
     let net = v4(rt, given);
     let value = net.to_value(alloc).expect(rt, "memory");
@@ -67,7 +67,7 @@ fn ipv4_value_is(rt: &impl Abort, alloc: Global, given: &str, text: &str) {
     row_is(rt, text, Ipv6Net::from_value(&value).is_err(), true);
 }
 
-/// The value of an IPv6 network spells it.
+/// Checks that the value of an IPv6 network spells that network.
 fn ipv6_value_is(rt: &impl Abort, alloc: Global, given: &str, text: &str) {
     let net = v6(rt, given);
     let value = net.to_value(alloc).expect(rt, "memory");
@@ -75,7 +75,7 @@ fn ipv6_value_is(rt: &impl Abort, alloc: Global, given: &str, text: &str) {
     row_is(rt, text, &Ipv6Net::from_value(&value), &Ok(net));
 }
 
-/// The value of a network of either family spells it.
+/// Checks that the value of a network of either family spells that network.
 fn value_is(rt: &impl Abort, alloc: Global, given: &str, text: &str) {
     let net = any(rt, given);
     let value = net.to_value(alloc).expect(rt, "memory");
@@ -89,7 +89,7 @@ fn values(rt: HostRuntime) {
     value_is(&rt, rt.alloc(), "2001:DB8::1/32", "2001:db8::1/32");
 }
 
-/// The value spells no IPv4 network.
+/// Checks that the value spells no IPv4 network.
 fn is_no_ipv4(rt: &impl Abort, value: &Value) {
     is_equal(rt, Ipv4Net::from_value(value).is_err(), true);
 }

@@ -1,4 +1,4 @@
-//! What no contract says: texts of errors, and each call once on values from outside.
+//! Texts of errors, which no contract states, and each call once with an expected value written out.
 use crate::tests::addresses::IPV4_MASKS;
 use crate::tests::compare::{any, is_equal, row_is, v4, v6};
 use ipnet::{Contains, IpAddr, IpNet, Ipv4Addr, Ipv4Net, Ipv6Addr, Ipv6Net, PrefixLenError};
@@ -7,7 +7,7 @@ use std::fmt::{Debug, Display, Write};
 use std::process::Abort;
 use std::str::FromStr;
 
-/// Texts of networks, and how these are printed.
+/// Texts of networks, and the texts that are printed for them.
 const PRINTED: [(&str, &str); 13] = [
     ("010.001.000.255/08", "10.1.0.255/8"),
     ("0.0.0.0/0", "0.0.0.0/0"),
@@ -35,7 +35,7 @@ fn texts(rt: HostRuntime) {
     }
 }
 
-/// Texts that spell no network.
+/// Texts that are no networks.
 const REFUSED: [&str; 20] = [
     "10.0.0.0",
     "10.0.0.256/8",
@@ -68,13 +68,13 @@ fn refused_texts(rt: HostRuntime) {
     is_equal(&rt, Ipv6Net::from_str("0.0.0.0/0").is_err(), true);
 }
 
-/// The value is displayed so.
+/// Checks the displayed text of the value.
 fn shows<T: Display>(rt: &impl Abort, alloc: Global, value: &T, text: &str) {
     let shown = format!(in alloc; "{value}").expect(rt, "memory");
     row_is(rt, text, shown.as_str(), text);
 }
 
-/// The network is displayed so, where more bytes are asked too, and for debugging.
+/// Checks the displayed text of the network, also with a greater width, and its text for debugging.
 fn shows_always<T: Display + Debug>(rt: &impl Abort, alloc: Global, net: &T, text: &str) {
     shows(rt, alloc, net, text);
     let padded = format!(in alloc; "{net:>20}").expect(rt, "memory");
@@ -83,7 +83,7 @@ fn shows_always<T: Display + Debug>(rt: &impl Abort, alloc: Global, net: &T, tex
     row_is(rt, text, debugged.as_str(), text);
 }
 
-/// The one text of the greatest IPv6 address has 43 bytes.
+/// The longest text that is printed for an IPv6 network: 43 bytes.
 const LONGEST: &str = "ffff:ffff:ffff:ffff:ffff:ffff:ffff:ffff/128";
 
 #[test]
@@ -134,7 +134,7 @@ fn ipv4_parts(rt: HostRuntime) {
     is_equal(&rt, net.broadcast(), Ipv4Addr::new(10, 1, 255, 255));
 }
 
-/// The IPv6 address is that of the text.
+/// Checks the IPv6 address.
 fn is_addr6(rt: &impl Abort, addr: Ipv6Addr, text: &str) {
     row_is(rt, text, Ipv6Net::from(addr), v6(rt, text));
 }
@@ -156,14 +156,14 @@ fn ipv6_parts(rt: HostRuntime) {
     is_equal(&rt, Ipv6Net::default().broadcast(), greatest);
 }
 
-/// The network is made of its address and its length.
+/// Checks that the network can be made from its address and its length.
 fn is_made_of_parts(rt: &impl Abort, net: IpNet) {
     let made = IpNet::new(net.addr(), net.prefix_len());
     is_equal(rt, made.expect(rt, "a network"), net);
     is_equal(rt, IpNet::new_assert(net.addr(), net.prefix_len()), net);
 }
 
-/// The address of either family is that of the text.
+/// Checks the address of either family.
 fn is_either_addr(rt: &impl Abort, addr: IpAddr, text: &str) {
     row_is(rt, text, IpNet::from(addr), any(rt, text));
 }
@@ -181,7 +181,7 @@ fn parts_of_either_family(rt: HostRuntime) {
     is_either_addr(&rt, net.network(), "2001:db8::/128");
 }
 
-/// The length of the network, where there is one.
+/// The prefix length of the network, if there is one.
 fn length(net: Option<Ipv4Net>) -> Option<u8> {
     match net {
         Some(net) => Some(net.prefix_len()),
@@ -189,7 +189,7 @@ fn length(net: Option<Ipv4Net>) -> Option<u8> {
     }
 }
 
-/// The same of either family.
+/// The same for either family.
 fn length_of_either(net: Option<IpNet>) -> Option<u8> {
     match net {
         Some(net) => Some(net.prefix_len()),
@@ -197,7 +197,7 @@ fn length_of_either(net: Option<IpNet>) -> Option<u8> {
     }
 }
 
-/// IPv4 masks, for a network of IPv4 and of either family.
+/// IPv4 masks, for an IPv4 network and for a network of either family.
 #[test]
 fn ipv4_masks(rt: HostRuntime) {
     for (text, len) in IPV4_MASKS {
@@ -209,7 +209,7 @@ fn ipv4_masks(rt: HostRuntime) {
     }
 }
 
-/// IPv6 masks, as the addresses of networks, and their lengths for an IPv4 network.
+/// IPv6 masks, written as networks, and the lengths they give for an IPv4 network.
 const IPV6_MASKS: [(&str, Option<u8>); 5] = [
     ("::/0", Some(0)),
     ("ffff:fffe::/0", Some(31)),
@@ -255,7 +255,7 @@ fn neighbours_of_either_family(rt: HostRuntime) {
     is_equal(&rt, any(&rt, "8000::1/1").trunc(), half);
 }
 
-/// Networks, others, and whether the first contain those.
+/// Pairs of networks, and whether the first one contains the second one.
 const INCLUSIONS: [(&str, &str, bool); 5] = [
     ("10.9.9.9/8", "10.1.0.0/16", true),
     ("10.1.0.0/16", "10.9.9.9/8", false),

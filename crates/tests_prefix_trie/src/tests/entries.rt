@@ -1,4 +1,4 @@
-//! Rows on entries: what is stored, a call of an entry, and what the map has then.
+//! Rows for entries: the stored networks, a call of an entry, and the map after it.
 use crate::tests::entries::Call::{
     Defaulted, Lent, Matched, NoEntry, NoMatch, Occupied, OrInserted, Removed, Stored, StoredTwice,
     VacantKey, VeryKey, Written, WrittenAfter,
@@ -10,12 +10,12 @@ use prefix_trie::{PrefixMap, Refused};
 use std::alloc::Global;
 use std::process::Abort;
 
-/// A storing call lends what it stored.
+/// Checks the stored value that the call lends.
 fn lent_is(rt: &impl Abort, outcome: Result<&mut u32, (Refused, u32)>, wanted: u32) {
     is_equal(rt, *outcome.expect(rt, "memory"), wanted);
 }
 
-/// A storing call answers what was stored before.
+/// Checks the old value that the call returns.
 fn had_is(rt: &impl Abort, outcome: Result<Option<u32>, (Refused, u32)>, wanted: Option<u32>) {
     is_equal(rt, outcome.expect(rt, "memory"), wanted);
 }
@@ -30,7 +30,7 @@ enum Storing {
     Default,
 }
 
-/// The calls that store into a vacant entry, and the values that they are given.
+/// The calls that store into a vacant entry, with the value each one stores.
 const STORING: [(&str, Storing, u32); 6] = [
     ("or_insert", Storing::OrInsert, 1),
     ("or_insert_with", Storing::OrInsertWith, 2),
@@ -40,7 +40,7 @@ const STORING: [(&str, Storing, u32); 6] = [
     ("default of a vacant entry", Storing::Default, 0),
 ];
 
-/// What a storing call answered: the value where it was stored, none where memory was refused and the value came back.
+/// The outcome of a storing call: the stored value, or none if memory was refused and the value was returned.
 fn answered(rt: &impl Abort, outcome: Result<&mut u32, (Refused, u32)>, value: u32) -> Option<u32> {
     match outcome {
         Ok(stored) => Some(*stored),
@@ -51,7 +51,7 @@ fn answered(rt: &impl Abort, outcome: Result<&mut u32, (Refused, u32)>, value: u
     }
 }
 
-/// The value that the call stored for this network, or none where memory was refused.
+/// Calls and returns the value stored for this network, or none if memory was refused.
 fn stored_by(
     rt: &impl Abort,
     map: &mut PrefixMap<Ipv4Net, u32>,
@@ -68,7 +68,7 @@ fn stored_by(
     }
 }
 
-/// The same of a call of a vacant entry.
+/// The same for a call of a vacant entry.
 fn stored_into_vacant(
     rt: &impl Abort,
     map: &mut PrefixMap<Ipv4Net, u32>,
@@ -86,7 +86,7 @@ fn stored_into_vacant(
     }
 }
 
-/// The map is empty and has its root alone, or it has this network with this value, and so many nodes.
+/// Checks that the map has its root alone, or this network with this value and this number of nodes.
 fn is_refused_or_stored(
     rt: &impl Abort,
     row: &str,
@@ -100,7 +100,7 @@ fn is_refused_or_stored(
     step_is(rt, (row, 1), map.node_count(), nodes);
 }
 
-/// The call stores 10.0.0.0/8, given with host bits, into an empty map.
+/// Checks that the call stores 10.0.0.0/8, given with host bits, into an empty map.
 fn is_stored(rt: &impl Abort, alloc: Global, row: &str, call: &Storing, value: u32) {
     let mut map = map_of(rt, alloc, &[]);
     let stored = stored_by(rt, &mut map, "10.1.2.3/8", call, value);
@@ -115,8 +115,8 @@ fn stored_into_an_empty_map(rt: HostRuntime) {
     }
 }
 
-/// The call stores 1.2.3.0/32, below five more nodes, or each request for memory may be refused: the map is as it was, and the
-/// value comes back.
+/// Stores 1.2.3.0/32, which needs six more nodes. Each request for memory may be refused; then the map is unchanged and the value is
+/// returned.
 fn may_be_refused(rt: &impl Abort, alloc: Global, row: &str, call: &Storing, value: u32) {
     let mut map = map_of(rt, alloc, &[]);
     let stored = stored_by(rt, &mut map, "1.2.3.0/32", call, value);
@@ -143,38 +143,38 @@ fn insert_may_be_refused(rt: HostRuntime) {
     is_refused_or_stored(&rt, "insert", &map, ("1.2.3.0/32", stored, 7));
 }
 
-/// Calls of entries, of 10.0.0.0/8 where no other network is named.
+/// Calls of entries. The network is 10.0.0.0/8 unless another one is named.
 enum Call {
-    /// The key of a vacant entry of 10.1.2.3/16 has its host bits; it is stored with 7.
+    /// The key of a vacant entry for 10.1.2.3/16 has its host bits. The value 7 is stored.
     VacantKey,
-    /// The key of a vacant entry, by itself, has its host bits; it is stored with the default.
+    /// The key of a `VacantEntry` has its host bits. The default value is stored.
     Defaulted,
-    /// The key of the stored 10.1.2.3/16 has no host bits.
+    /// The key of an occupied entry for 10.1.2.3/16 has no host bits.
     VeryKey,
-    /// What `or_insert` stores is lent, and written.
+    /// `or_insert` lends the value that it stored, and the value is then written.
     Lent,
-    /// `or_insert` and `and_modify` of what is stored.
+    /// `or_insert` and `and_modify` of a stored value.
     OrInserted,
     /// `get_mut` lends the value.
     Written,
-    /// Each call of an occupied entry but `remove`.
+    /// Each call of an occupied entry except `remove`.
     Occupied,
-    /// An occupied entry is taken out.
+    /// `remove` of an occupied entry.
     Removed,
     /// `insert`, twice.
     Stored,
-    /// `insert` into one entry twice.
+    /// `insert` into one entry, twice.
     StoredTwice,
     /// A value is written after it was stored.
     WrittenAfter,
-    /// No match of 11.0.0.0/8 is lent, no entry of 10.2.3.0/24.
+    /// No match of 11.0.0.0/8 is lent, and no value for 10.2.3.0/24.
     NoMatch,
     NoEntry,
-    /// The match of 10.2.3.4/32 is lent, and written.
+    /// `get_lpm_mut` lends the match of 10.2.3.4/32, and it is written.
     Matched,
 }
 
-/// The vacant entry of a key, and the occupied one.
+/// The key of a vacant entry, or of an occupied one.
 fn keys(rt: &impl Abort, map: &mut PrefixMap<Ipv4Net, u32>, call: &Call) {
     let entry = map.entry(net(rt, "10.1.2.3/16"));
     match call {
@@ -190,7 +190,7 @@ fn keys(rt: &impl Abort, map: &mut PrefixMap<Ipv4Net, u32>, call: &Call) {
     }
 }
 
-/// The key of a vacant entry.
+/// The key of a `VacantEntry`.
 fn defaulted(rt: &impl Abort, map: &mut PrefixMap<Ipv4Net, u32>) {
     let Entry::Vacant(entry) = map.entry(net(rt, "10.1.2.3/8")) else {
         panic!(rt; "occupied")
@@ -199,7 +199,7 @@ fn defaulted(rt: &impl Abort, map: &mut PrefixMap<Ipv4Net, u32>) {
     lent_is(rt, entry.default(), 0);
 }
 
-/// Each call of an occupied entry but `remove`.
+/// Each call of an occupied entry except `remove`.
 fn occupied(rt: &impl Abort, map: &mut PrefixMap<Ipv4Net, u32>) {
     let Entry::Occupied(mut entry) = map.entry(net(rt, "10.9.9.9/8")) else {
         panic!(rt; "vacant")
@@ -211,7 +211,7 @@ fn occupied(rt: &impl Abort, map: &mut PrefixMap<Ipv4Net, u32>) {
     *entry.into_mut() = 11;
 }
 
-/// An occupied entry is taken out.
+/// `remove` of an occupied entry.
 fn removed(rt: &impl Abort, map: &mut PrefixMap<Ipv4Net, u32>) {
     let Entry::Occupied(entry) = map.entry(net(rt, "10.9.9.9/8")) else {
         panic!(rt; "vacant")
@@ -219,7 +219,7 @@ fn removed(rt: &impl Abort, map: &mut PrefixMap<Ipv4Net, u32>) {
     is_equal(rt, entry.remove(), 11);
 }
 
-/// `or_insert` and `and_modify` of what is stored.
+/// `or_insert` and `and_modify` of a stored value.
 fn or_inserted(rt: &impl Abort, map: &mut PrefixMap<Ipv4Net, u32>) {
     lent_is(rt, map.entry(net(rt, "10.0.0.0/8")).or_insert(9), 5);
     let entry = map.entry(net(rt, "10.0.0.0/8"));
@@ -227,7 +227,7 @@ fn or_inserted(rt: &impl Abort, map: &mut PrefixMap<Ipv4Net, u32>) {
     is_equal(rt, entry.get().copied(), Some(6));
 }
 
-/// `insert` into one entry twice.
+/// `insert` into one entry, twice.
 fn stored_twice(rt: &impl Abort, map: &mut PrefixMap<Ipv4Net, u32>) {
     let mut entry = map.entry(net(rt, "10.9.9.9/8"));
     had_is(rt, entry.insert(3), None);
@@ -246,7 +246,7 @@ fn written_after(rt: &impl Abort, map: &mut PrefixMap<Ipv4Net, u32>) {
     lent_is(rt, entry.or_default(), 6);
 }
 
-/// The match of 10.2.3.4/32 is lent, and written.
+/// `get_lpm_mut` lends the match of 10.2.3.4/32, and it is written.
 fn matched(rt: &impl Abort, map: &mut PrefixMap<Ipv4Net, u32>) {
     let found = map.get_lpm_mut(&net(rt, "10.2.3.4/32"));
     let (key, value) = found.expect(rt, "a match");
@@ -254,7 +254,7 @@ fn matched(rt: &impl Abort, map: &mut PrefixMap<Ipv4Net, u32>) {
     *value = 7;
 }
 
-/// Makes the call, which answers as it has to.
+/// Makes the call and checks its result.
 fn calls(rt: &impl Abort, map: &mut PrefixMap<Ipv4Net, u32>, call: &Call) {
     let ten = net(rt, "10.0.0.0/8");
     match call {
@@ -284,14 +284,14 @@ fn calls(rt: &impl Abort, map: &mut PrefixMap<Ipv4Net, u32>, call: &Call) {
     }
 }
 
-/// Entries, by their texts.
+/// Entries: the text of a network, and its value.
 type Entries = &'static [(&'static str, u32)];
 
-/// A call, what is stored before and after it, and how many nodes there are then. Where a third network is stored before, its
-/// entry is taken out, and its nodes are kept.
+/// A row: its name, the call, the entries before and after it, and the number of nodes after it. If three entries are stored before, the
+/// third one is removed first and its nodes are kept.
 type Row = (&'static str, Call, Entries, Entries, usize);
 
-/// The calls.
+/// The rows.
 const CALLS: [Row; 15] = [
     ("a vacant key", VacantKey, &[], &[("10.1.0.0/16", 7)], 4),
     (
@@ -340,16 +340,16 @@ const CALLS: [Row; 15] = [
     ("get_mut of one of two", Written, &BEFORE, &WRITTEN, 6),
 ];
 
-/// What is stored before some of the calls.
+/// The entries before some of the calls.
 const BEFORE: [(&str, u32); 3] = [("10.0.0.0/8", 1), ("10.1.0.0/16", 2), ("10.2.3.0/24", 3)];
 
-/// What is left of that where nothing is written.
+/// The remaining entries if nothing is written.
 const UNWRITTEN: [(&str, u32); 2] = [("10.0.0.0/8", 1), ("10.1.0.0/16", 2)];
 
-/// What is left where the first value is.
+/// The remaining entries if the first value is written.
 const WRITTEN: [(&str, u32); 2] = [("10.0.0.0/8", 7), ("10.1.0.0/16", 2)];
 
-/// The map has these entries and no other, in this order.
+/// Checks that the map has just these entries, in this order.
 fn has_in_order(
     rt: &impl Abort,
     row: &str,
@@ -367,7 +367,7 @@ fn has_in_order(
     step_is(rt, (row, 1), left.next().is_none(), true);
 }
 
-/// The same, and it has so many nodes.
+/// Checks the entries, their number and the number of nodes.
 fn is_whole(
     rt: &impl Abort,
     row: &str,
@@ -381,7 +381,7 @@ fn is_whole(
     step_is(rt, (row, 1), map.node_count(), nodes);
 }
 
-/// The call answers as it has to, and the map has what it has to have after it.
+/// Checks the call, and the map after it.
 fn call_is(
     rt: &impl Abort,
     map: &mut PrefixMap<Ipv4Net, u32>,
@@ -399,7 +399,7 @@ fn call_is(
     is_whole(rt, row, map, after, nodes);
 }
 
-/// The same of each call, with a map of its own.
+/// Checks each row with a map of its own.
 fn all_are(rt: &impl Abort, alloc: Global, rows: &[Row]) {
     for (row, call, before, after, nodes) in rows.iter() {
         let mut map = map_of(rt, alloc, before);

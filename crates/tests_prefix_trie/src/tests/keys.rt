@@ -1,11 +1,11 @@
-//! Each generic function at concrete types, called through its bound.
+//! Each generic function with concrete types, called through its trait bound.
 ghost use Rattle.std.specs.Prelude.{◌≤◌, length, IsTrue};
 
 use crate::tests::maps::{is_equal, net, wide_net};
 use prefix_trie::{Key, Prefix, path_of, truncated};
 use trie_core::Path;
 
-/// The width, the key with zeros after the bits that count, and whether the other prefix is contained.
+/// The width, the key with zeros after its prefix bits, and whether it contains the other prefix.
 fn parts<P: Prefix>(prefix: &P, other: &P) -> (u32, u128, bool)
     requires fits { IsTrue (P.fits prefix.now) }
     requires other_fits { IsTrue (P.fits other.now) }
@@ -17,7 +17,7 @@ fn parts<P: Prefix>(prefix: &P, other: &P) -> (u32, u128, bool)
     )
 }
 
-/// The key and the length of a beginning.
+/// The key and the length of the prefix cut to `len` bits.
 fn beginning<P: Prefix + Drop>(prefix: &P, len: u8) -> (u128, u8)
     requires fits { IsTrue (P.fits prefix.now) }
     requires within { len ≤ length (P.bits prefix.now) }
@@ -75,7 +75,7 @@ fn beginnings(rt: HostRuntime) {
     assert_eq!(rt; wide_net(&rt, "8000::1/1").mask(), 1 << 127);
 }
 
-/// Nineteen in five bits, then 011: the place of 011 stands after those of the empty string, 0, 00 to 0011, 01 to 0101.
+/// The bits are 10011, which is 19, and then 011. The place of 011 is after those of the empty string, 0, 00 to 0011, and 01 to 0101.
 #[test]
 fn paths(rt: HostRuntime) {
     let path: Path = path_of(&(0x9b_u8, 8));

@@ -1,17 +1,17 @@
-//! A search below a map, and a map whose requests for memory may be refused.
+//! A search in a node, and a map whose requests for memory may be refused.
 use crate::tests::maps::is_equal;
 use prefix_trie::{PrefixMap, Refused};
 use std::process::Abort;
 use trie_core::{Node, Path};
 
-/// The map has nothing, and stores after all.
+/// Checks that the map is empty. A second attempt must succeed.
 fn stores_yet(rt: &impl Abort, map: &mut PrefixMap<(u32, u8), u32>) {
     is_equal(rt, map.len(), 0);
     is_equal(rt, map.node_count(), 1);
     is_equal(rt, map.insert((0x0102_0300, 32), 6).is_ok(), true);
 }
 
-/// Stores a key of 32 bits, at once or where a request for memory was refused.
+/// Stores a key of 32 bits. If memory is refused at first, the second attempt must succeed.
 fn stores_at_last(rt: &impl Abort, map: &mut PrefixMap<(u32, u8), u32>) {
     match map.insert((0x0102_0300, 32), 5) {
         Ok(old) => is_equal(rt, old, None),
@@ -23,7 +23,7 @@ fn stores_at_last(rt: &impl Abort, map: &mut PrefixMap<(u32, u8), u32>) {
     }
 }
 
-/// Six nodes are made for a key of 32 bits: each request for memory may be refused.
+/// A key of 32 bits needs six new nodes. Each request for memory may be refused.
 #[test]
 fn refused(rt: HostRuntime) {
     let mut map: PrefixMap<(u32, u8), u32> = PrefixMap::new(rt.alloc()).expect(&rt, "a map");
@@ -32,7 +32,7 @@ fn refused(rt: HostRuntime) {
     is_equal(&rt, map.len(), 1);
 }
 
-/// The length and the value that were found.
+/// Checks the length and the value of a match.
 fn is_found(rt: &impl Abort, found: Option<(u8, &u32)>, wanted: (u8, u32)) {
     let (length, value) = found.expect(rt, "a value");
     is_equal(rt, (length, *value), wanted);

@@ -1,4 +1,4 @@
-//! Maps that the tests ask, and what they compare.
+//! Maps for the tests, and comparisons.
 ghost use Rattle.std.specs.Iterator.{IsFinite};
 
 use ipnet::{Ipv4Net, Ipv6Net};
@@ -8,28 +8,28 @@ use std::fmt::Debug;
 use std::process::Abort;
 use std::str::FromStr;
 
-/// The answer is the one that is wanted. A call of it is proved in a tenth of the time of an `assert_eq!`.
+/// Checks that `found` is `wanted`. A proof about a call of this function takes a tenth of the time of a proof about `assert_eq!`.
 pub(crate) fn is_equal<T: Copy + PartialEq + Debug>(rt: &impl Abort, found: T, wanted: T) {
     assert_eq!(rt; found, wanted);
 }
 
-/// The fact holds.
+/// Checks that the fact is true.
 pub(crate) fn holds(rt: &impl Abort, fact: bool) {
     assert!(rt; fact);
 }
 
-/// The network has this text.
+/// Checks the text of the network.
 pub(crate) fn is_text(rt: &impl Abort, key: Ipv4Net, text: &str) {
     let found = key.to_text();
     is_equal(rt, found.as_slice(), text.as_bytes());
 }
 
-/// An IPv4 network.
+/// The IPv4 network of the text.
 pub(crate) fn net(rt: &impl Abort, text: &str) -> Ipv4Net {
     Ipv4Net::from_str(text).expect(rt, "a network")
 }
 
-/// An IPv6 network.
+/// The IPv6 network of the text.
 pub(crate) fn wide_net(rt: &impl Abort, text: &str) -> Ipv6Net {
     Ipv6Net::from_str(text).expect(rt, "a network")
 }
@@ -61,12 +61,12 @@ pub(crate) fn plain_map_of(
     map
 }
 
-/// A network was found, and this is its text.
+/// Checks that a network was found, and checks its text.
 pub(crate) fn is_key(rt: &impl Abort, found: Option<Ipv4Net>, text: &str) {
     is_text(rt, found.expect(rt, "a key"), text);
 }
 
-/// The values of entries, one after another, as the digits of a number.
+/// The values of entries in order, as the digits of a number.
 pub(crate) fn digits<'a, K: Drop, I: Iterator<Item = (K, &'a u32)>>(entries: I) -> u32
     requires { I.can_next entries × IsFinite (I.remaining entries) }
 {
@@ -77,7 +77,7 @@ pub(crate) fn digits<'a, K: Drop, I: Iterator<Item = (K, &'a u32)>>(entries: I) 
     digits
 }
 
-/// The same of values alone.
+/// The same for values without their keys.
 pub(crate) fn value_digits<'a, I: Iterator<Item = &'a u32>>(values: I) -> u32
     requires { I.can_next values × IsFinite (I.remaining values) }
 {
@@ -88,7 +88,7 @@ pub(crate) fn value_digits<'a, I: Iterator<Item = &'a u32>>(values: I) -> u32
     digits
 }
 
-/// What a step of a script answers is what is wanted; else the script is told, and how many steps came before.
+/// Checks that `found` is `wanted`. If not, the message contains the name of the script and the number of steps before this one.
 pub(crate) fn step_is<T: Copy + PartialEq + Debug>(
     rt: &impl Abort,
     at: (&str, usize),

@@ -1,4 +1,4 @@
-//! Rows on maps and sets, with values from outside.
+//! Rows for maps and sets, with expected values written out.
 ghost use Rattle.std.specs.Prelude.{IsTrue, nat_le};
 ghost use Rattle.std.specs.Iterator.{IsFinite};
 ghost use Rattle.std.specs.List.{All};
@@ -33,7 +33,7 @@ fn set_of<const N: usize>(
     PrefixSet::try_from_iter(alloc, Vec::from_array(alloc, members).expect(rt, "members"))
 }
 
-/// A set that these members were put into, one after another.
+/// A set of these members, inserted in this order.
 pub(crate) fn set_with(
     rt: &impl Abort,
     alloc: Global,
@@ -53,13 +53,13 @@ fn three(rt: &impl Abort, alloc: Global) -> PrefixSet<(u32, u8)> {
     set_with(rt, alloc, &members)
 }
 
-/// The set has so many members and nodes.
+/// Checks the number of members and of nodes.
 fn counts(rt: &impl Abort, set: &PrefixSet<(u32, u8)>, members: usize, nodes: usize) {
     is_equal(rt, set.len(), members);
     is_equal(rt, set.node_count(), nodes);
 }
 
-/// The map has these entries.
+/// Checks that the map has these entries.
 fn has(rt: &impl Abort, map: &PrefixMap<(u32, u8), u32>, entries: &[((u32, u8), u32)]) {
     for (key, value) in entries.iter() {
         assert!(rt; key.1 <= 32);
@@ -81,7 +81,7 @@ fn made_of_members(rt: HostRuntime) {
     holds(&rt, set.contains(&(0x0a00_0000, 8)));
 }
 
-/// The walk that is left once a member was taken, by a copy of it.
+/// Takes one member from a walk, and checks the rest by a copy of the walk.
 fn rest_is(rt: &impl Abort, set: &PrefixSet<(u32, u8)>, wanted: u32) {
     let mut members = set.iter();
     holds(rt, members.next().is_some());
@@ -103,7 +103,7 @@ fn addresses_of_halves(rt: HostRuntime) {
     is_equal(&rt, halves.address_count(), None);
 }
 
-/// 10.0.0.0/8 with 3, which was stored twice, and 10.1.0.0/16 with 2.
+/// 10.0.0.0/8 with 3, stored twice, and 10.1.0.0/16 with 2.
 fn two_entries(rt: &impl Abort, alloc: Global) -> PrefixMap<(u32, u8), u32> {
     let entries = [
         ((0x0a00_0000, 8), 1),
@@ -128,7 +128,7 @@ fn made_of_entries(rt: HostRuntime) {
     is_equal(&rt, map.node_count(), 4);
 }
 
-/// The copy is equal to the map as long as both have the same entries, whatever nodes are spare.
+/// The copy equals the map while both have the same entries. Spare nodes make no difference.
 fn compares(
     rt: &impl Abort,
     map: &mut PrefixMap<(u32, u8), u32>,
@@ -162,14 +162,14 @@ fn sets_copied(rt: HostRuntime) {
     is_copy(&rt, &set, &copy);
 }
 
-/// The copy of the set, which has members, is equal to it, and has its nodes.
+/// Checks that the copy equals the set and has as many nodes. The set must not be empty.
 fn is_copy(rt: &impl Abort, set: &PrefixSet<(u32, u8)>, copy: &PrefixSet<(u32, u8)>) {
     holds(rt, *copy == *set);
     is_equal(rt, copy.node_count(), set.node_count());
     holds(rt, set.iter().next().is_some());
 }
 
-/// The refusal is printed so.
+/// Checks the text of the refusal.
 fn is_printed(rt: &impl Abort, alloc: Global, refused: Refused, wanted: &str) {
     let text = format!(in alloc; "{refused}").expect(rt, "memory");
     is_equal(rt, text.as_str(), wanted);
@@ -181,13 +181,13 @@ fn errors(rt: HostRuntime) {
     is_printed(&rt, rt.alloc(), Refused::Full, "the map is full");
 }
 
-/// The set has nothing, and stores after all.
+/// Checks that the set is empty. A second attempt must succeed.
 fn stores_yet(rt: &impl Abort, set: &mut PrefixSet<(u32, u8)>) {
     counts(rt, set, 0, 1);
     is_equal(rt, set.insert((0x0102_0300, 32)), Ok(true));
 }
 
-/// Stores a member of 32 bits, at once or where a request for memory was refused.
+/// Inserts a member of 32 bits. If memory is refused at first, the second attempt must succeed.
 fn stores_at_last(rt: &impl Abort, set: &mut PrefixSet<(u32, u8)>) {
     match set.insert((0x0102_0300, 32)) {
         Ok(is_new) => holds(rt, is_new),
@@ -198,7 +198,7 @@ fn stores_at_last(rt: &impl Abort, set: &mut PrefixSet<(u32, u8)>) {
     }
 }
 
-/// The set is copied, or memory is refused.
+/// Copies the set. Memory may be refused.
 fn is_copied_or_refused(rt: &impl Abort, alloc: Global, set: &PrefixSet<(u32, u8)>) {
     match set.try_clone(alloc) {
         Ok(copy) => holds(rt, copy == *set),
@@ -206,7 +206,7 @@ fn is_copied_or_refused(rt: &impl Abort, alloc: Global, set: &PrefixSet<(u32, u8
     }
 }
 
-/// Each request for memory may be refused: the set is as it was.
+/// Each request for memory may be refused. The set is then unchanged.
 #[test]
 fn refused(rt: HostRuntime) {
     let mut set: PrefixSet<(u32, u8)> = PrefixSet::new(rt.alloc()).expect(&rt, "a set");
@@ -216,7 +216,7 @@ fn refused(rt: HostRuntime) {
     is_equal(&rt, set.node_count(), 7);
 }
 
-/// A value that counts how many of its kind were dropped.
+/// A value that counts how many values of its type were dropped.
 struct Counted<'a> {
     drops: &'a Cell<u32>,
 }
@@ -250,7 +250,7 @@ fn dropped_with_the_map(rt: HostRuntime) {
     is_equal(&rt, drops.get(), 3);
 }
 
-/// The value of the next entry, which has this key; or no entry is left.
+/// The value of the next entry, whose key must be `wanted`. With none wanted, no entry may be left.
 fn next_value<'a>(
     rt: &impl Abort,
     entries: &mut IntoIter<(u32, u8), Counted<'a>>,
@@ -268,7 +268,7 @@ fn next_value<'a>(
     }
 }
 
-/// The entries that are left are dropped.
+/// Drops the remaining entries.
 fn drop_left(entries: IntoIter<(u32, u8), Counted<'_>>) {
     drop(entries);
 }
@@ -298,7 +298,7 @@ fn dropped_outside(rt: HostRuntime) {
     is_equal(&rt, drops.get(), 3);
 }
 
-/// The values that are left, one after another, as digits.
+/// The remaining values in order, as digits.
 fn value_digits<I: Iterator<Item = u32>>(values: I) -> u32
     requires { I.can_next values × IsFinite (I.remaining values) }
 {
@@ -309,7 +309,7 @@ fn value_digits<I: Iterator<Item = u32>>(values: I) -> u32
     digits
 }
 
-/// Four entries, their values in the order of a walk.
+/// Four entries. Their values show the order of a walk.
 fn four_entries(rt: &impl Abort, alloc: Global) -> PrefixMap<(u32, u8), u32> {
     let entries = [
         ((0x0a01_0100, 24), 3),
@@ -333,7 +333,7 @@ fn owned_keys(rt: HostRuntime) {
     is_equal(&rt, digits(copy.into_keys()), 10110);
 }
 
-/// The values of the entries that are left, one after another, as digits.
+/// The values of the remaining entries in order, as digits.
 fn entry_digits<I: Iterator<Item = ((u32, u8), u32)>>(entries: I) -> u32
     requires { I.can_next entries × IsFinite (I.remaining entries) }
 {
@@ -355,7 +355,7 @@ fn owned_members(rt: HostRuntime) {
     is_equal(&rt, digits(three(&rt, rt.alloc()).into_iter()), 1019);
 }
 
-/// The next value is lent, and written.
+/// Checks the value that is lent, and writes it.
 fn write_next(rt: &impl Abort, lent: Option<&mut u32>, had: u32, written: u32) {
     let value = lent.expect(rt, "a value");
     is_equal(rt, *value, had);
@@ -365,14 +365,14 @@ fn write_next(rt: &impl Abort, lent: Option<&mut u32>, had: u32, written: u32) {
 /// 10.0.0.0/8 with 1, and 10.1.0.0/16 with 2.
 const TWO: [((u32, u8), u32); 2] = [((0x0a00_0000, 8), 1), ((0x0a01_0000, 16), 2)];
 
-/// The same, and 11.0.0.0/8 with 3.
+/// The entries of `TWO`, and 11.0.0.0/8 with 3.
 const THREE: [((u32, u8), u32); 3] = [
     ((0x0a01_0000, 16), 2),
     ((0x0a00_0000, 8), 1),
     ((0x0b00_0000, 8), 3),
 ];
 
-/// The longest match is lent, and its value.
+/// Checks the longest match and its value, which are lent, and writes the value.
 fn lends_the_longest(rt: &impl Abort, map: &mut PrefixMap<(u32, u8), u32>) {
     let (key, value) = map.get_lpm_mut(&(0x0a01_0203, 32)).expect(rt, "a match");
     is_equal(rt, key, (0x0a01_0000, 16));
@@ -389,7 +389,7 @@ fn lent_at_the_longest(rt: HostRuntime) {
     lends_the_longest(&rt, &mut map);
 }
 
-/// The next values are lent in turn, and written: with the key of each, what it had, and what it has then.
+/// Checks the next values in turn, and writes them. Each row has the key, the old value and the new value.
 fn lends(
     rt: &impl Abort,
     entries: &mut IterMut<'_, (u32, u8), u32>,
@@ -401,7 +401,7 @@ fn lends(
     }
 }
 
-/// These values are lent, and no other.
+/// The same check. No further value may be left.
 fn lends_all(
     rt: &impl Abort,
     entries: &mut IterMut<'_, (u32, u8), u32>,
@@ -424,7 +424,7 @@ fn lent_in_turn(rt: HostRuntime) {
     lent_is(&rt, map.iter_from_mut(&second, true).next(), 22);
 }
 
-/// Four entries, of which two lie inside 10.1.0.0/16.
+/// Four entries, two of them inside 10.1.0.0/16.
 const TWO_INSIDE: [((u32, u8), u32); 4] = [
     ((0x0a01_0000, 16), 2),
     ((0x0a00_0000, 8), 1),
@@ -445,7 +445,7 @@ fn lent_inside(rt: HostRuntime) {
     lent_is(&rt, map.children_mut(&(0, 0)).next(), 1);
 }
 
-/// This value is lent.
+/// Checks the value that is lent.
 fn lent_is(rt: &impl Abort, lent: Option<&mut u32>, wanted: u32) {
     is_equal(rt, *lent.expect(rt, "a value"), wanted);
 }
@@ -463,7 +463,7 @@ fn kept_members(rt: HostRuntime) {
     is_equal(&rt, set.node_count(), 4);
 }
 
-/// The map has eight nodes, and is copied, or memory is refused.
+/// Checks that the map has eight nodes, and copies it. Memory may be refused.
 fn is_whole_or_refused(rt: &impl Abort, alloc: Global, map: &PrefixMap<(u32, u8), u32>) {
     is_equal(rt, map.node_count(), 8);
     match map.try_clone(alloc) {
@@ -473,7 +473,7 @@ fn is_whole_or_refused(rt: &impl Abort, alloc: Global, map: &PrefixMap<(u32, u8)
     is_equal(rt, map.len(), 2);
 }
 
-/// Each request for memory may be refused: then there is no map, and no copy.
+/// Each request for memory may be refused. Then there is no map, or no copy.
 #[test]
 fn refused_whole(rt: HostRuntime) {
     let entries = [((0x0102_0300, 32), 1), ((0x0a00_0000, 8), 2)];

@@ -1,4 +1,4 @@
-//! Scripts of maps, with values from outside.
+//! Scripts of maps, with expected values written out.
 use crate::tests::steps::Call::*;
 use crate::tests::steps::Step::{Addresses, At, Clear, Counts, Retain, Walk};
 use crate::tests::steps::{Script, all_go};

@@ -1,4 +1,4 @@
-//! Scripts of calls of a set, and what these answer.
+//! Scripts of calls of a set, with their answers.
 ghost use Rattle.std.specs.Iterator.{IsFinite};
 ghost use Rattle.std.specs.Prelude.{IsTrue, nat_le};
 
@@ -11,10 +11,10 @@ use prefix_trie::PrefixSet;
 use std::alloc::Global;
 use std::process::Abort;
 
-/// A member: a key of 32 bits, and how many of them count.
+/// A member: a key of 32 bits, and the length of the prefix.
 type Member = (u32, u8);
 
-/// A call with a member, and what it answers.
+/// A call with a member, and its answer.
 pub(crate) enum Call {
     /// `insert`: whether the member is new.
     Insert(bool),
@@ -42,13 +42,13 @@ pub(crate) enum Call {
     Cover(u32),
 }
 
-/// A call of a set, and what it answers.
+/// A call of a set, and its answer.
 pub(crate) enum Step {
     /// A call with this member.
     At(Member, Call),
     /// `clear`.
     Clear,
-    /// `retain` of every member.
+    /// `retain` that keeps every member.
     RetainAll,
     /// `len` and `node_count`; and `is_empty`.
     Counts(usize, usize),
@@ -58,7 +58,7 @@ pub(crate) enum Step {
     Walk(u32),
 }
 
-/// The second bytes of the members that are left, one after another, as digits after a 1.
+/// The second bytes of the remaining members in order, as digits after a 1.
 pub(crate) fn digits<I: Iterator<Item = (u32, u8)>>(members: I) -> u32
     requires { I.can_next members × IsFinite (I.remaining members) }
 {
@@ -69,7 +69,7 @@ pub(crate) fn digits<I: Iterator<Item = (u32, u8)>>(members: I) -> u32
     digits
 }
 
-/// A call that changes the set at a member answers so, or another does.
+/// Checks a call that changes the set at a member, or one of the calls below.
 fn change(
     rt: &impl Abort,
     at: (&str, usize),
@@ -88,7 +88,7 @@ fn change(
     }
 }
 
-/// A call that asks for a member answers so.
+/// Checks a call that asks for a member.
 fn ask(rt: &impl Abort, at: (&str, usize), set: &PrefixSet<Member>, member: &Member, call: &Call)
     requires { IsTrue (nat_le member.now.1 32) }
 {
@@ -107,7 +107,7 @@ fn ask(rt: &impl Abort, at: (&str, usize), set: &PrefixSet<Member>, member: &Mem
     }
 }
 
-/// A call of the whole set answers so, or one with a member does.
+/// Checks a call of the whole set, or a call with a member.
 fn take(rt: &impl Abort, at: (&str, usize), set: &mut PrefixSet<Member>, step: &Step) {
     match step {
         At(member, call) => change(rt, at, set, member.prefix().expect(rt, at.0), call),
@@ -117,7 +117,7 @@ fn take(rt: &impl Abort, at: (&str, usize), set: &mut PrefixSet<Member>, step: &
     }
 }
 
-/// A call that counts all members or walks over them answers so.
+/// Checks a call that counts all members or walks over them.
 fn ask_of_all(rt: &impl Abort, at: (&str, usize), set: &PrefixSet<Member>, step: &Step) {
     match step {
         Counts(members, nodes) => {
@@ -133,7 +133,7 @@ fn ask_of_all(rt: &impl Abort, at: (&str, usize), set: &PrefixSet<Member>, step:
     }
 }
 
-/// The calls of a script answer so, one after another, of a set of these members, which were stored in this order.
+/// Checks the calls of a script in order, on a set of these members, which were stored in this order.
 fn goes(rt: &impl Abort, alloc: Global, row: &str, stored: &[Member], steps: &[Step]) {
     let mut set = set_with(rt, alloc, stored);
     for (at, each) in steps.iter().enumerate() {
@@ -141,14 +141,14 @@ fn goes(rt: &impl Abort, alloc: Global, row: &str, stored: &[Member], steps: &[S
     }
 }
 
-/// Each script goes so.
+/// Checks each script.
 fn all_go(rt: &impl Abort, alloc: Global, scripts: &[(&str, &[Member], &[Step])]) {
     for (row, stored, steps) in scripts.iter() {
         goes(rt, alloc, row, stored, steps);
     }
 }
 
-/// Scripts, with values from outside.
+/// Scripts, with expected values written out.
 const SCRIPTS: [(&str, &[Member], &[Step]); 8] = [
     (
         "stored and taken out once",

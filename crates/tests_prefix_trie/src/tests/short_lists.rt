@@ -1,9 +1,9 @@
-//! Lists of boxes, in which an item that is lost or freed twice would show.
+//! Lists of boxes. A lost item, or one freed twice, would show.
 use short_vec::ShortVec;
 use std::alloc::Global;
 use std::process::Abort;
 
-/// The list of these numbers, each in a box of its own.
+/// The list of the numbers from 0, each one in its own box.
 fn boxes(alloc: Global, rt: &impl Abort, count: u32) -> ShortVec<Box<u32>> {
     let mut list = ShortVec::new(alloc);
     for number in 0..count {
@@ -54,7 +54,7 @@ fn becomes_a_vec_and_back(rt: HostRuntime) {
     assert!(rt; list.len() == 5 && *list[0] == 4 && *list[4] == 0);
 }
 
-/// A tree, whose nodes have their children in such lists.
+/// A tree. Each node has its children in such a list.
 #[derive(Drop)]
 struct Tree {
     value: u32,
@@ -62,7 +62,7 @@ struct Tree {
 }
 
 impl Tree {
-    /// How many levels it has below its root.
+    /// The number of levels below the root.
     fn depth(&self) -> usize {
         let mut most = 0;
         for child in self.children.as_slice() {
@@ -75,7 +75,7 @@ impl Tree {
     }
 }
 
-/// A value that may be handed to another thread, and shared with one.
+/// Accepts only a value that can be sent to another thread and shared with one.
 fn crosses<X: Send + Sync + Drop>(value: X) -> X {
     value
 }

@@ -1,4 +1,4 @@
-//! Scripts of calls of a map, and what these answer.
+//! Scripts of calls of a map, with their answers.
 ghost use Rattle.std.specs.Prelude.{IfSome, IsTrue, nat_le};
 
 use crate::tests::maps::{digits, step_is, value_digits};
@@ -11,14 +11,14 @@ use std::fmt::Debug;
 use std::process::Abort;
 use std::str::FromStr;
 
-/// How a script has a prefix of type `P`.
+/// A prefix of type `P`, as a script writes it.
 pub(crate) trait Spells<P: Prefix> {
-    /// The prefix, where there is one.
+    /// The prefix, if it is valid.
     fn prefix(&self) -> Option<P>
         ensures { IfSome result (λ p. IsTrue (P.fits p)) };
 }
 
-/// A key, and how many of its bits count: none where these are too many.
+/// A key and a length. There is no prefix if the length is greater than the width of the key.
 impl<K: Key> Spells<(K, u8)> for (K, u8) {
     fn prefix(&self) -> Option<(K, u8)>
         ensures { IfSome result (λ p. IsTrue (nat_le p.1 K.width)) }
@@ -43,7 +43,7 @@ impl Spells<Ipv6Net> for &'static str {
     }
 }
 
-/// A call with a prefix, and what it answers.
+/// A call with a prefix, and its answer.
 pub(crate) enum Call<S> {
     /// `insert`: the value that was stored.
     Insert(u32, Option<u32>),
@@ -53,7 +53,7 @@ pub(crate) enum Call<S> {
     KeepTree(Option<u32>),
     /// `remove_children`.
     RemoveChildren,
-    /// `get_mut`, by which this value is written.
+    /// `get_mut`, and a write of this value.
     Write(u32),
     /// `get`: the value.
     Get(Option<u32>),
@@ -67,7 +67,7 @@ pub(crate) enum Call<S> {
     LongestKey(S),
     /// `longest_match`: its length, and its value.
     Length(Option<(u8, u32)>),
-    /// `get_lpm_visits`: the longest match, its value, and how many nodes are visited.
+    /// `get_lpm_visits`: the longest match, its value, and the number of visited nodes.
     Visits(Option<(S, u32)>, u32),
     /// `get_spm`: the shortest match, and its value.
     Shortest(Option<(S, u32)>),
@@ -85,13 +85,13 @@ pub(crate) enum Call<S> {
     Cover(u32),
 }
 
-/// A call of a map, and what it answers.
+/// A call of a map, and its answer.
 pub(crate) enum Step<S> {
     /// A call with this prefix.
     At(S, Call<S>),
     /// `clear`.
     Clear,
-    /// `retain` of every entry, or of none.
+    /// `retain` that keeps every entry, or none.
     Retain(bool),
     /// `len` and `node_count`; and `is_empty`.
     Counts(usize, usize),
@@ -101,7 +101,7 @@ pub(crate) enum Step<S> {
     Walk(u32),
 }
 
-/// The entry of a map is this one, or there is none.
+/// Checks that the entry is this one, or that there is none.
 fn entry_is<P: Prefix + Copy + PartialEq + Debug, S: Spells<P>>(
     rt: &impl Abort,
     at: (&str, usize),
@@ -114,7 +114,7 @@ fn entry_is<P: Prefix + Copy + PartialEq + Debug, S: Spells<P>>(
     }
 }
 
-/// The entry is of the prefix that is spelled so, with this value.
+/// Checks the prefix and the value of the entry.
 fn spelled_is<P: Prefix + Copy + PartialEq + Debug, S: Spells<P>>(
     rt: &impl Abort,
     at: (&str, usize),
@@ -126,7 +126,7 @@ fn spelled_is<P: Prefix + Copy + PartialEq + Debug, S: Spells<P>>(
     step_is(rt, at, found, Some((key, stored)));
 }
 
-/// The length and the value of a match are these, or there is none.
+/// Checks the length and the value of a match, or that there is none.
 fn length_is(
     rt: &impl Abort,
     at: (&str, usize),
@@ -140,7 +140,7 @@ fn length_is(
     step_is(rt, at, found, wanted);
 }
 
-/// A call that changes the map at a prefix answers so, or another does.
+/// Checks a call that changes the map at a prefix, or one of the calls below.
 fn change<P: Prefix + Copy + Drop + PartialEq + Debug, S: Spells<P>>(
     rt: &impl Abort,
     at: (&str, usize),
@@ -160,7 +160,7 @@ fn change<P: Prefix + Copy + Drop + PartialEq + Debug, S: Spells<P>>(
     }
 }
 
-/// A call that asks for entries answers so.
+/// Checks a call that asks for entries.
 fn ask<P: Prefix + Copy + Drop + PartialEq + Debug, S: Spells<P>>(
     rt: &impl Abort,
     at: (&str, usize),
@@ -198,7 +198,7 @@ fn ask<P: Prefix + Copy + Drop + PartialEq + Debug, S: Spells<P>>(
     }
 }
 
-/// A call of the whole map answers so, or one with a prefix does.
+/// Checks a call of the whole map, or a call with a prefix.
 fn take<P: Prefix + Copy + Drop + PartialEq + Debug, S: Spells<P>>(
     rt: &impl Abort,
     at: (&str, usize),
@@ -213,7 +213,7 @@ fn take<P: Prefix + Copy + Drop + PartialEq + Debug, S: Spells<P>>(
     }
 }
 
-/// A call that counts all entries or walks over them answers so.
+/// Checks a call that counts all entries or walks over them.
 fn ask_of_all<P: Prefix + Drop, S>(
     rt: &impl Abort,
     at: (&str, usize),
@@ -234,7 +234,7 @@ fn ask_of_all<P: Prefix + Drop, S>(
     }
 }
 
-/// The map has so many addresses.
+/// Checks the number of addresses.
 fn addresses_are<P: Prefix + Drop>(
     rt: &impl Abort,
     at: (&str, usize),
@@ -248,10 +248,10 @@ fn addresses_are<P: Prefix + Drop>(
     step_is(rt, at, count, wanted);
 }
 
-/// A script: its name, what is stored at first, in this order, and the calls.
+/// A script: its name, the entries stored at the start, in this order, and the calls.
 pub(crate) type Script<S> = (&'static str, &'static [(S, u32)], &'static [Step<S>]);
 
-/// The calls of a script answer so, one after another, of a map of these entries, which were stored in this order.
+/// Checks the calls of a script in order, on a map of these entries, which were stored in this order.
 fn goes<P: Prefix + Copy + Drop + PartialEq + Debug, S: Spells<P>>(
     rt: &impl Abort,
     alloc: Global,
@@ -269,7 +269,7 @@ fn goes<P: Prefix + Copy + Drop + PartialEq + Debug, S: Spells<P>>(
     }
 }
 
-/// Each script goes so.
+/// Checks each script.
 pub(crate) fn all_go<P: Prefix + Copy + Drop + PartialEq + Debug, S: Spells<P>>(
     rt: &impl Abort,
     alloc: Global,

@@ -1,11 +1,11 @@
-//! Walks that are no step of a script.
+//! Walks that no script contains.
 use crate::tests::maps::{digits, is_equal, is_key, map_of, net, plain_map_of};
 use ipnet::Ipv4Net;
 use prefix_trie::PrefixMap;
 use std::alloc::Global;
 use std::process::Abort;
 
-/// Three networks, one inside the other.
+/// Three nested networks.
 fn three_networks(rt: &impl Abort, alloc: Global) -> PrefixMap<Ipv4Net, u32> {
     let stored = [("10.1.1.0/24", 3), ("10.0.0.0/8", 1), ("10.1.0.0/16", 2)];
     map_of(rt, alloc, &stored)
@@ -22,7 +22,7 @@ fn first_keys(rt: HostRuntime) {
     is_key(&rt, map.keys().next(), "10.0.0.0/8");
 }
 
-/// The walk that is left, and a copy of it, give these values.
+/// Takes one entry from a walk, and checks the rest by a copy and by the walk itself.
 fn is_walked_twice(rt: &impl Abort, map: &PrefixMap<Ipv4Net, u32>, wanted: u32) {
     let mut entries = map.into_iter();
     is_equal(rt, entries.next().is_some(), true);
@@ -37,7 +37,7 @@ fn walked_twice(rt: HostRuntime) {
     is_walked_twice(&rt, &map, 2);
 }
 
-/// Keeps each entry, and answers the values that it was asked of, one after another as digits.
+/// Keeps each entry. Returns the values in the order in which `retain` asks for them, as digits.
 fn kept_values(map: &mut PrefixMap<(u32, u8), u32>) -> u32 {
     let mut asked = 0u32;
     map.retain(|_, value| {
@@ -57,10 +57,11 @@ fn asks_in_order(rt: HostRuntime) {
     let mut map = plain_map_of(&rt, rt.alloc(), &stored);
     let mut asked = 0u32;
     map.retain(|key, value| {
-        asked = asked.wrapping_mul(100).wrapping_add(u32::from(key.1));
+        // (the second byte of the address, and the length)
+        asked = asked.wrapping_mul(1000).wrapping_add((key.0 >> 16 & 0xff) * 100 + u32::from(key.1));
         *value != 2
     });
-    is_equal(&rt, asked, 81616);
+    is_equal(&rt, asked, 8_016_116);
     is_equal(&rt, kept_values(&mut map), 13);
     is_equal(&rt, (map.len(), map.node_count()), (2, 4));
 }

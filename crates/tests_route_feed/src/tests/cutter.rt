@@ -1,9 +1,9 @@
-//! The cutter on bytes from outside, fed one by one; lines in place.
+//! The cutter fed byte by byte, and lines read in place.
 use crate::tests::rows::row_is;
 use route_lines::{Line, LineCutter, Rest, line_text};
 use std::process::Abort;
 
-/// Pieces, and how long the line is that the last byte of each ends; none where it ends none, 1000 for one that is too long.
+/// Pieces, and the length of the line that the last byte of each piece ends: none if it ends no line, 1000 if the line is too long.
 const PIECES: [(&str, Option<usize>); 5] = [
     ("ok\r\n", Some(3)),
     ("\n", Some(0)),
@@ -18,14 +18,14 @@ const PIECES: [(&str, Option<usize>); 5] = [
     ("fl", None),
 ];
 
-/// No byte ends a line.
+/// Feeds these bytes. None of them may end a line.
 fn feeds(rt: &impl Abort, cutter: &mut LineCutter, bytes: &[u8]) {
     for byte in bytes {
         row_is(rt, bytes.len(), cutter.feed(*byte).is_some(), false);
     }
 }
 
-/// The last byte alone ends a line, of this length.
+/// Feeds the piece. Only the last byte may end a line, and the line has the length `wanted`.
 fn cuts(rt: &impl Abort, cutter: &mut LineCutter, piece: &str, wanted: Option<usize>) {
     let (last, others) = piece.as_bytes().split_last().expect(rt, "a byte");
     feeds(rt, cutter, others);
@@ -47,7 +47,7 @@ fn pieces(rt: HostRuntime) {
     row_is(&rt, "at the end", cutter.rest(), Rest::Held);
 }
 
-/// The line of these bytes is the same in place.
+/// Checks that `line_text` gives the same line as the cutter.
 fn is_in_place(rt: &impl Abort, cutter: &mut LineCutter, piece: &[u8]) {
     let row = piece.len();
     feeds(rt, cutter, piece);

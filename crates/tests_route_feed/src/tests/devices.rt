@@ -1,4 +1,4 @@
-//! Runs over devices that give and take a few bytes a call, and with a fault at each call in turn.
+//! Runs over devices that transfer a few bytes per call, with a fault at each call in turn.
 use crate::tests::runs::Mode;
 use crate::tests::scripted::{End, FLUSHED, Fault, Script, ends, flushes_in};
 use crate::tests::streams::READ_TO_THE_END;
@@ -6,11 +6,11 @@ use route_feed::RunError;
 use std::alloc::Global;
 use std::process::Abort;
 
-/// The lines that close a reply.
+/// The closing lines of a reply.
 const CLOSING: [&str; 4] = ["ok\n", "none\n", "bad\n", "refused\n"];
 
-/// The calls of a writer of one byte a call: each byte, and `|` for a `flush`. It is flushed after each line that closes a reply,
-/// and by `shorten`, whose lines are commands, once at the end.
+/// The calls of a writer that takes one byte per call: each byte, and `|` for a `flush`. A leader, a follower and an installer flush
+/// after each closing line. `shorten` prints commands and flushes once, at the end.
 fn calls_of(rt: &impl Abort, alloc: Global, mode: Mode, wanted: &str) -> String {
     let mut calls = String::new(alloc);
     for line in wanted.split_inclusive('\n') {
@@ -25,12 +25,12 @@ fn calls_of(rt: &impl Abort, alloc: Global, mode: Mode, wanted: &str) -> String 
     calls
 }
 
-/// So many of the calls, from the first.
+/// The first `count` calls.
 fn first_calls<'a>(rt: &impl Abort, calls: &'a str, count: usize) -> &'a str {
     calls.get(..count).expect(rt, "so many calls")
 }
 
-/// How many of these calls there are until so many of them are a `flush`.
+/// The number of calls up to and including the `flush` of this number.
 fn calls_until(calls: &str, flushes: u64) -> usize {
     let mut left = flushes;
     let mut count = 0usize;
@@ -45,7 +45,7 @@ fn calls_until(calls: &str, flushes: u64) -> usize {
     count
 }
 
-/// Whether the line is answered: by a leader each, by an installer, in what is tried here, each `ok` and `sync`.
+/// Whether the run answers the line. A leader answers each line; an installer, in these trials, each `ok` and each `sync`.
 fn is_answered(mode: Mode, line: &str) -> bool {
     match mode {
         Mode::Lead => line.ends_with('\n'),
@@ -54,7 +54,7 @@ fn is_answered(mode: Mode, line: &str) -> bool {
     }
 }
 
-/// How many of the lines that end in the first bytes are answered.
+/// The number of answered lines that end in the first `came` bytes.
 fn answered(mode: Mode, input: &str, came: usize) -> u64 {
     let mut count = 0u64;
     let mut end = 0usize;
@@ -67,7 +67,7 @@ fn answered(mode: Mode, input: &str, came: usize) -> u64 {
     count
 }
 
-/// How many reads of one byte come before the call of the writer after these: as long as no more lines are answered.
+/// The number of one-byte reads before the call of the writer that follows `done`. The run reads on until one more line must be answered.
 fn reads_for(mode: Mode, input: &str, done: &str) -> usize {
     let replies = flushes_in(done.as_bytes());
     let mut reads = 0usize;
@@ -79,13 +79,13 @@ fn reads_for(mode: Mode, input: &str, done: &str) -> usize {
     reads
 }
 
-/// The run takes and gives one byte a call.
+/// Checks the run with one byte per call.
 fn goes_by_bytes(rt: &impl Abort, alloc: Global, run: (Mode, &str), calls: &str) {
     let end = End(Ok(()), run.1.len().wrapping_add(1), calls);
     ends(rt, alloc, run, Script::Pieces(1, 1), end);
 }
 
-/// The first piece has each length in turn, and the others have this one, and the last one the rest.
+/// Checks the run with each length of the first piece. Further pieces have `others` bytes, and the last one has the rest.
 fn goes_in_pieces(rt: &impl Abort, alloc: Global, run: (Mode, &str), calls: &str, others: usize) {
     for first in 1..=run.1.len() {
         let left = run.1.len().wrapping_sub(first);
@@ -95,8 +95,8 @@ fn goes_in_pieces(rt: &impl Abort, alloc: Global, run: (Mode, &str), calls: &str
     }
 }
 
-/// Each read fails in turn, with an error or interrupted: a leader and an installer have answered the whole lines before it, the
-/// others have written nothing, and no call is made after it.
+/// Lets each read fail in turn, with an error or as interrupted. A leader and an installer have then answered each whole line before it;
+/// the other runs have written nothing. No further call is made.
 fn reads_fail(rt: &impl Abort, alloc: Global, run: (Mode, &str), calls: &str) {
     for came in 0..=run.1.len() {
         let reads = came.wrapping_add(1);
@@ -108,9 +108,9 @@ fn reads_fail(rt: &impl Abort, alloc: Global, run: (Mode, &str), calls: &str) {
     }
 }
 
-/// Each write and each flush fails in turn, with an error or interrupted, or the write takes nothing: the bytes before it are held,
-/// no call of the writer comes after it, and a leader or an installer has read no further than to the line that it answers, the
-/// others to the end.
+/// Lets each `write` and each `flush` fail in turn: with an error, as interrupted, or with nothing taken. The writer holds the bytes from
+/// before, and isn't called again. A leader or an installer has read no further than the line that it answers. The other runs have read
+/// to the end.
 fn writes_fail(rt: &impl Abort, alloc: Global, run: (Mode, &str), calls: &str) {
     for served in 0..calls.len() {
         let done = first_calls(rt, calls, served);
@@ -122,20 +122,20 @@ fn writes_fail(rt: &impl Abort, alloc: Global, run: (Mode, &str), calls: &str) {
     }
 }
 
-/// How devices serve a trial in turn.
+/// How the devices of a trial serve.
 #[derive(Clone, Copy)]
 enum Way {
-    /// One byte a call.
+    /// One byte per call.
     Bytes,
-    /// A first piece of each length, and others of this one.
+    /// A first piece of each length in turn, and further pieces of this one.
     Pieces(usize),
-    /// Each read fails.
+    /// Each read fails in turn.
     Reads,
-    /// Each write and each flush fails.
+    /// Each `write` and each `flush` fails in turn.
     Writes,
 }
 
-/// The run goes in this way.
+/// Checks the run in this way.
 fn goes(rt: &impl Abort, alloc: Global, way: Way, run: (Mode, &str), wanted: &str) {
     let owned = calls_of(rt, alloc, run.0, wanted);
     let calls = owned.as_str();
@@ -147,7 +147,7 @@ fn goes(rt: &impl Abort, alloc: Global, way: Way, run: (Mode, &str), wanted: &st
     }
 }
 
-/// All these runs go in this way.
+/// Checks all these runs in this way.
 fn all_go(rt: &impl Abort, alloc: Global, way: Way, tables: &[(Mode, &[(&str, &str)])]) {
     for (mode, rows) in tables {
         for (input, wanted) in *rows {
@@ -161,8 +161,8 @@ fn one_byte_a_call(rt: HostRuntime) {
     all_go(&rt, rt.alloc(), Way::Bytes, &READ_TO_THE_END);
 }
 
-/// What is cut, and fails at each call: each line of a reply and each closing line stands in it, and a least table with `drop`
-/// in both families, and one without a route.
+/// Inputs that are cut, and that fail, at each call. They contain each reply line and each closing line. The least tables have a `drop`
+/// in both families, and one table has no route.
 const TRIED: [(Mode, &[(&str, &str)]); 4] = [
     (
         Mode::Lead,
@@ -203,7 +203,7 @@ const TRIED: [(Mode, &[(&str, &str)]); 4] = [
     ),
 ];
 
-// A piece of each length comes first, and then the others in one.
+// The first piece has each length in turn, and the second one has the rest.
 #[test]
 fn cut_after_each_byte(rt: HostRuntime) {
     all_go(&rt, rt.alloc(), Way::Pieces(usize::MAX), &TRIED);
@@ -219,11 +219,11 @@ fn each_write_fails(rt: HostRuntime) {
     all_go(&rt, rt.alloc(), Way::Writes, &TRIED);
 }
 
-/// An empty line, one of 81 bytes, and a rest.
+/// An empty line, a line of 81 bytes, and a last line without its line end.
 const BAD: &str =
     "\n123456789012345678901234567890123456789012345678901234567890123456789012345678901\nflat";
 
-// They are `bad` under every cut.
+// Each line is answered `bad`, however the bytes are cut.
 #[test]
 fn three_bad_lines_under_every_cut(rt: HostRuntime) {
     for others in [1, 40, BAD.len()] {
@@ -235,17 +235,16 @@ fn three_bad_lines_under_every_cut(rt: HostRuntime) {
 /// One change.
 const SET: &str = "set 10.0.0.0/8 1\nok\n";
 
-/// The second line is none.
+/// The second line is no reply line.
 const SETT: &str = "set 10.0.0.0/8 1\nsett 1\n";
 
 /// Lines of 80 and of 81 bytes.
 const LONG: &str =
     "12345678901234567890123456789012345678901234567890123456789012345678901234567890\n123456789012345678901234567890123456789012345678901234567890123456789012345678901\n";
 
-/// Runs; how many bytes a write takes at most, and the call of the writer that fails; and all that is written then.
+/// Runs: the input; the most bytes that a `write` takes, and the writer's call that fails; and the whole output.
 const WRITES: [(Mode, &str, (usize, usize), &str); 10] = [
-    // Each flush fails that comes after a closing line, or at the end: the line is held with its line end, and nothing more is
-    // written. The first of these is the first row of them.
+    // A `flush` fails after each kind of closing line, or at the end. The writer holds the line with its line end, and nothing after it.
     (Mode::Lead, "add 10.0.0.0/8 1\nflat\n", (80, 3), SET),
     (Mode::Lead, "del 10.0.0.0/8 1\nflat\n", (80, 2), "none\n"),
     (Mode::Lead, "\nflat\n", (80, 2), "bad\n"),
@@ -263,7 +262,7 @@ const WRITES: [(Mode, &str, (usize, usize), &str); 10] = [
         "add 10.0.0.0/8 1\nadd ::/0 2\n",
     ),
     (Mode::Shorten, "ok\n", (80, 1), ""),
-    // The writer takes five bytes, and fails: it holds them.
+    // The writer takes five bytes, fails, and holds these five.
     (Mode::Lead, "add 10.0.0.0/8 1\n", (1, 6), "set 1"),
     (Mode::Follow, SET, (1, 6), "flat "),
     (Mode::Shorten, SET, (1, 6), "add 1"),
@@ -278,9 +277,9 @@ fn a_write_fails(rt: HostRuntime) {
     }
 }
 
-/// Runs; the read that fails, 0 where none does, and how many reads there are; how it ends, and all that is written then.
+/// Runs: the input; the read that fails, or 0 if none does, and the number of reads; the result; and the whole output.
 const READS: [(Mode, &str, (usize, usize), Result<(), RunError>, &str); 8] = [
-    // The reader fails amid the second line: the first is answered.
+    // The reader fails inside the second line. The first line is answered.
     (
         Mode::Lead,
         "add 10.0.0.0/8 1\nfl",
@@ -288,13 +287,13 @@ const READS: [(Mode, &str, (usize, usize), Result<(), RunError>, &str); 8] = [
         Err(RunError::Read),
         "set 10.0.0.0/8 1\nok\n|",
     ),
-    // A line that is none, whose line end came before the read that fails, is `Line`; where its line end didn't come, it is no
-    // line yet. Nothing is written then.
+    // A wrong line ends the run with `Line` if its line end came before the read that fails. Otherwise the run ends with `Read`. Nothing
+    // is written.
     (Mode::Follow, SETT, (25, 24), Err(RunError::Line), ""),
     (Mode::Follow, SETT, (24, 24), Err(RunError::Read), ""),
     (Mode::Shorten, SETT, (25, 24), Err(RunError::Line), ""),
     (Mode::Shorten, SETT, (24, 24), Err(RunError::Read), ""),
-    // A leader answers lines of 80 and of 81 bytes both `bad`; the others read no further than the first of them.
+    // A leader answers `bad` to a line of 80 bytes and to one of 81. The others stop at the first one.
     (Mode::Lead, LONG, (0, 164), Ok(()), "bad\n|bad\n|"),
     (Mode::Follow, LONG, (0, 81), Err(RunError::Line), ""),
     (Mode::Shorten, LONG, (0, 81), Err(RunError::Line), ""),

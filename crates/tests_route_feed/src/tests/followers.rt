@@ -1,4 +1,4 @@
-//! A follower line by line: the hops of addresses, and a least table of them.
+//! A follower line by line: the hops of addresses, and its least table.
 use crate::tests::rows::{net, row_is};
 use ipnet::{IpAddr, IpNet};
 use route_feed::Follower;
@@ -7,26 +7,26 @@ use std::alloc::Global;
 use std::process::Abort;
 use std::str::FromStr;
 
-/// A reply with a network inside another, and a change of the same network after it; it is not closed.
+/// An open reply: a network, the same network again, one inside it, and one of IPv6. No closing line follows.
 const OPEN: &str = "set 10.0.0.0/8 7\nset 10.0.0.0/8 1\nset 10.64.0.0/10 2\nset 2001:db8::/32 3\n";
 
-/// The same, closed; then a reply that takes a part back.
+/// The same reply with its closing line, then a reply that removes a part of it.
 const CLOSED: &str =
     "set 10.0.0.0/8 7\nset 10.0.0.0/8 1\nset 10.64.0.0/10 2\nset 2001:db8::/32 3\nok\nflat 10.0.0.0/8 9\nunset 10.128.0.0/9\nok\n";
 
-/// A line that is none.
+/// A line that is no reply line.
 const FOREIGN: &str = "none of them";
 
-/// The same, and that line.
+/// `CLOSED`, and then that line.
 const FAILED: &str =
     "set 10.0.0.0/8 7\nset 10.0.0.0/8 1\nset 10.64.0.0/10 2\nset 2001:db8::/32 3\nok\nflat 10.0.0.0/8 9\nunset 10.128.0.0/9\nok\nnone of them\n";
 
-/// Lines, the hops of addresses then, and the least table.
+/// Lines; the hops of addresses after them; and the least table.
 const FOLLOWED: [(&str, &[(&str, Option<u32>)], Option<&[(&str, Hop)]>); 4] = [
     ("", &[("10.0.0.0", None), ("::", None)], Some(&[])),
-    // What waits has no hop yet.
+    // Changes without their closing line give no hop yet.
     (OPEN, &[("10.0.0.0", None)], Some(&[])),
-    // Hops are those of changes that were carried out, the last one for each address.
+    // Only changes that `ok` closes give hops, and the last one for an address counts.
     (
         CLOSED,
         &[
@@ -44,11 +44,11 @@ const FOLLOWED: [(&str, &[(&str, Option<u32>)], Option<&[(&str, Hop)]>); 4] = [
             ("2001:db8::/32", Hop::Number(3)),
         ]),
     ),
-    // After a fault there is no least table, and the hops are those of before.
+    // After a fault there is no least table, and the hops are the ones from before the fault.
     (FAILED, &[("10.0.0.0", Some(1))], None),
 ];
 
-/// The follower takes these lines, up to one that is none.
+/// Feeds these lines. The follower must accept each line except `FOREIGN`.
 fn takes(rt: &impl Abort, follower: &mut Follower, lines: &str) {
     for line in lines.split_terminator('\n') {
         row_is(

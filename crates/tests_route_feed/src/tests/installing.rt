@@ -1,4 +1,4 @@
-//! An installer of very many changes, and a line for a table.
+//! An installer with hundreds of changes, and single lines for a table.
 use crate::tests::rows::{row_is, text_is};
 use crate::tests::runs::{Mode, gives};
 use route_feed::{Counted, lead_line};
@@ -6,7 +6,7 @@ use route_table::RouteTable;
 use std::alloc::Global;
 use std::process::Abort;
 
-/// A line, a line of the word for each of so many addresses, 10.0.0.0 and on, and `ok`.
+/// The line `first`; `count` lines of `word` for the addresses from 10.0.0.0 on, each with the hop 1; and `ok`.
 fn lines(rt: &impl Abort, alloc: Global, first: &str, word: &str, count: u16) -> String {
     let mut text = String::new(alloc);
     text.push_str(first).expect(rt, "memory");
@@ -18,7 +18,7 @@ fn lines(rt: &impl Abort, alloc: Global, first: &str, word: &str, count: u16) ->
     text
 }
 
-/// 256 changes are carried out one after another.
+/// Up to 256 changes are carried out one by one.
 #[test]
 fn many_changes(rt: HostRuntime) {
     let input = lines(&rt, rt.alloc(), "sync\n", "set", 256);
@@ -32,7 +32,7 @@ fn many_changes(rt: HostRuntime) {
     );
 }
 
-/// More lead to a least table at once.
+/// More than 256 changes lead to a least table at once.
 #[test]
 fn very_many_changes(rt: HostRuntime) {
     let input = lines(&rt, rt.alloc(), "sync\n", "set", 257);
@@ -46,7 +46,7 @@ fn very_many_changes(rt: HostRuntime) {
     );
 }
 
-/// Lines, and what a table answers that keeps them; the last is of 81 bytes.
+/// Lines, and the answers of one table that keeps the changes. The last line has 81 bytes.
 const ANSWERS: [(&str, &str); 4] = [
     ("add 10.0.0.0/8 1", "set 10.0.0.0/8 1\nok\n"),
     ("get 10.1.0.0/16", "route 10.0.0.0/8 1 100\nok\n"),
@@ -57,7 +57,7 @@ const ANSWERS: [(&str, &str); 4] = [
     ),
 ];
 
-/// The table answers the line so, and flushes once.
+/// Checks the answer to the line, with one `flush`.
 fn answers(rt: &impl Abort, alloc: Global, table: &mut RouteTable, line: &str, wanted: &str) {
     let mut writer = Counted::new(Vec::new(alloc));
     row_is(
@@ -71,7 +71,7 @@ fn answers(rt: &impl Abort, alloc: Global, table: &mut RouteTable, line: &str, w
     text_is(rt, line, writer.into_inner().as_slice(), wanted);
 }
 
-/// A line is answered as `lead` answers it, and the table keeps it.
+/// `lead_line` answers a line as `lead` does, and the table keeps the change.
 #[test]
 fn a_line(rt: HostRuntime) {
     let mut table = RouteTable::new(rt.alloc()).expect(&rt, "a table");

@@ -13,7 +13,7 @@ use std::alloc::Global;
 use std::io::{Read, Write};
 use std::process::Abort;
 
-/// Which run.
+/// The run to test.
 #[derive(Clone, Copy, Debug)]
 pub(crate) enum Mode {
     Lead,
@@ -24,7 +24,7 @@ pub(crate) enum Mode {
     Install,
 }
 
-/// How the run over these devices ends, and what was counted of them.
+/// Runs over these devices. Returns the result and the two counted devices.
 pub(crate) fn run<R: Read, W: Write>(
     alloc: Global,
     mode: Mode,
@@ -43,7 +43,7 @@ pub(crate) fn run<R: Read, W: Write>(
     (ended, reader, writer)
 }
 
-/// The run over this text writes this, and ends so.
+/// Checks the output and the result of the run over this text.
 pub(crate) fn gives(
     rt: &impl Abort,
     alloc: Global,
@@ -56,7 +56,7 @@ pub(crate) fn gives(
     text_is(rt, row, writer.into_inner().as_slice(), wanted);
 }
 
-/// A run over memory: what a caller whose bytes are known has of `lead`.
+/// `lead` over memory. A caller can prove the clause from the contract of `lead`, if the input is known.
 pub(crate) fn led(alloc: Global, input: &[u8]) -> Result<Vec<u8>, RunError>
     ensures { IfOk result (λ out. (refusals : List Bool) × (out.items ≡ output input.now refusals)) }
 {
@@ -66,7 +66,7 @@ pub(crate) fn led(alloc: Global, input: &[u8]) -> Result<Vec<u8>, RunError>
     Ok(writer.into_inner())
 }
 
-/// The same of `follow`.
+/// `follow` over memory.
 pub(crate) fn followed(alloc: Global, input: &[u8]) -> Result<Vec<u8>, RunError> {
     let mut reader = Counted::new(input);
     let mut writer = Counted::new(Vec::new(alloc));
@@ -74,7 +74,7 @@ pub(crate) fn followed(alloc: Global, input: &[u8]) -> Result<Vec<u8>, RunError>
     Ok(writer.into_inner())
 }
 
-/// The same of `shorten`.
+/// `shorten` over memory, with the clause that a caller can prove.
 pub(crate) fn shortened(alloc: Global, input: &[u8]) -> Result<Vec<u8>, RunError>
     ensures { IfOk result (λ out. (routes : List Route) × IsLeastFor input.now routes × (out.items ≡ add_lines routes)) }
 {

@@ -1,6 +1,6 @@
-//! A reader and a writer by a script: a few bytes a call, and a fault at a call.
+//! A scripted reader and a scripted writer: they transfer a few bytes per call, and one chosen call fails.
 //!
-//! A scripted device counts its own calls, and would serve those after a fault.
+//! Each device counts its own calls, and would serve further calls after the one that fails.
 use crate::tests::rows::{row_is, text_is};
 use crate::tests::runs::{Mode, run};
 use route_feed::{Counted, RunError};
@@ -9,14 +9,14 @@ use std::io;
 use std::io::{Read, Write};
 use std::process::Abort;
 
-/// What a call answers that fails.
+/// How a call fails.
 #[derive(Clone, Copy)]
 pub(crate) enum Fault {
-    /// An error.
+    /// With the error `BrokenPipe`.
     Broken,
-    /// An interrupted call.
+    /// With the error `Interrupted`.
     Interrupted,
-    /// That nothing was taken; of a `flush`, an error.
+    /// `write` returns 0; `flush` returns the error `WriteZero`.
     Nothing,
 }
 
@@ -29,18 +29,19 @@ fn error(fault: Fault) -> io::Error {
     }
 }
 
-/// How the devices serve: one byte a call where nothing else is told, and no fault.
+/// How the devices serve. Unless the variant says otherwise, a call transfers one byte and no call fails.
 #[derive(Clone, Copy)]
 pub(crate) enum Script {
-    /// The first read gives at most so many bytes, and each other so many.
+    /// The first read gives at most the first number of bytes, and each further read at most the second.
     Pieces(usize, usize),
-    /// The read of this number fails; none does at 0.
+    /// The read of this number fails. With 0, none fails.
     Read(usize, Fault),
-    /// The call of the writer of this number fails, of `write` and `flush` together; a `write` takes at most so many bytes.
+    /// The writer's call of this number fails; calls of `write` and `flush` are counted together. The second number is the most bytes
+    /// that one `write` takes.
     Write(usize, usize, Fault),
 }
 
-/// Gives its bytes.
+/// A reader of these bytes.
 #[derive(Drop)]
 struct Given<'a> {
     left: &'a [u8],
@@ -65,10 +66,10 @@ impl Read for Given<'_> {
     }
 }
 
-/// What stands for a `flush` among bytes, and in no line.
+/// The mark for a `flush` among the written bytes. No line contains it.
 pub(crate) const FLUSHED: char = '|';
 
-/// Takes bytes.
+/// A writer that keeps the bytes it takes.
 #[derive(Drop)]
 struct Held {
     /// Each byte that was taken, and `|` for each `flush`, in order.
@@ -78,7 +79,7 @@ struct Held {
 }
 
 impl Held {
-    /// Counts a call, and tells whether it fails, and how.
+    /// Counts a call, and returns the fault if this call must fail.
     fn fault(&mut self) -> Option<Fault> {
         self.calls = self.calls.wrapping_add(1);
         match self.script {
@@ -113,7 +114,7 @@ impl Write for Held {
     }
 }
 
-/// How often a `flush` followed a byte.
+/// The number of `flush` calls that directly follow a byte.
 pub(crate) fn flushes_in(done: &[u8]) -> u64 {
     let mut count = 0u64;
     let mut waiting = false;
@@ -126,11 +127,11 @@ pub(crate) fn flushes_in(done: &[u8]) -> u64 {
     count
 }
 
-/// How a run ends, how often the reader was called, and what was written, with `|` for each `flush`.
+/// How a run ends: its result, the number of reads, and the output with `|` for each `flush`.
 #[derive(Clone, Copy)]
 pub(crate) struct End<'a>(pub Result<(), RunError>, pub usize, pub &'a str);
 
-/// What was counted of the faults is what the end says, and nothing is left to be flushed but at a fault.
+/// Checks the faults that `Counted` saw against the result of the run. Unless the writer failed, no byte may be left without a `flush`.
 fn faults_are<R, W>(
     rt: &impl Abort,
     row: (Mode, &str),
@@ -150,14 +151,14 @@ fn faults_are<R, W>(
     row_is(rt, row, writer.waiting() && !writer.failing(), false);
 }
 
-/// The reader was called so often, and `Counted` has counted it.
+/// Checks the number of reads: by the reader's own count and by `Counted`.
 fn reads_are(rt: &impl Abort, row: (Mode, &str), reader: Counted<Given<'_>>, wanted: usize) {
     let counted = reader.reads();
     row_is(rt, row, reader.into_inner().calls, wanted);
     row_is(rt, row, counted, wanted as u64);
 }
 
-/// The writer was called so often and holds this, and `Counted` has counted the flushes.
+/// Checks the number of calls of the writer, the bytes it holds, and the flushes that `Counted` counted.
 fn holds(rt: &impl Abort, row: (Mode, &str), writer: Counted<Held>, calls: usize, done: &str) {
     let flushes = writer.flushes();
     let held = writer.into_inner();
@@ -166,7 +167,8 @@ fn holds(rt: &impl Abort, row: (Mode, &str), writer: Counted<Held>, calls: usize
     text_is(rt, row, held.done.as_slice(), done);
 }
 
-/// The run over devices that serve so ends so. The writer is called until the call that fails, or once for each byte and `flush`.
+/// Checks how the run ends over devices with this script. The writer is called until a call fails, or once for each byte and each
+/// `flush`.
 pub(crate) fn ends(
     rt: &impl Abort,
     alloc: Global,

@@ -1,4 +1,4 @@
-//! What is read and what is written, as rows from outside.
+//! Rows of inputs and outputs of the runs, written out.
 use crate::tests::rows::{prints, row_is, text_is};
 use crate::tests::runs::{Mode, followed, gives, led, shortened};
 use route_feed::{FollowError, Follower, RunError};
@@ -7,7 +7,7 @@ use std::process::Abort;
 use std::str::from_utf8;
 use std::test::Fail;
 
-/// What a leader reads, and all that it writes.
+/// Inputs of a leader, and its whole output.
 const LED: [(&str, &str); 25] = [
     ("", ""),
     (
@@ -108,7 +108,7 @@ const LED: [(&str, &str); 25] = [
     ),
 ];
 
-/// The same of a follower.
+/// The same for a follower.
 const FOLLOWED: [(&str, &str); 15] = [
     ("", "ok\n"),
     (
@@ -160,7 +160,7 @@ const FOLLOWED: [(&str, &str); 15] = [
     ),
 ];
 
-/// The same of `shorten`: no other table has so few routes in any of these.
+/// The same for `shorten`. In each row, no table with fewer routes has the same flat list.
 const SHORTENED: [(&str, &str); 6] = [
     ("", ""),
     (
@@ -185,28 +185,29 @@ const SHORTENED: [(&str, &str); 6] = [
     ),
 ];
 
-/// The same of an installer.
+/// The same for an installer.
 const INSTALLED: [(&str, &str); 14] = [
     ("", ""),
-    // Nothing is written before the first `sync`, and a rest is passed over.
+    // Nothing is written before the first `sync`. A last line without its line end is ignored.
     ("have 10.0.0.0/8 1\nset 10.0.0.0/8 2\nok\nsync", ""),
     ("sync\nsync\nok\n", "ok\nok\n"),
-    // From what is installed to a least table, then change by change, then to a least table again.
+    // The first `sync` leads from the installed routes to a least table. Then each change is carried out, and the next `sync` leads to a
+    // least table again.
     (
         "have 10.0.0.0/8 1\nhave 10.0.0.0/9 1\nset 10.0.0.0/8 1\nok\nsync\nset 192.0.2.0/24 2\nok\nok\nsync\n",
         "remove 10.0.0.0/9\nok\ninstall 192.0.2.0/24 2\nok\nok\n",
     ),
-    // The last `have` of a network holds, and the inner route is installed before the outer.
+    // The last `have` of a network counts. The inner route is installed before the outer one.
     (
         "have 10.0.0.0/8 1\nhave 10.1.2.3/8 2\nset 10.0.0.0/8 1\nset 10.1.0.0/16 3\nok\nsync\n",
         "install 10.1.0.0/16 3\ninstall 10.0.0.0/8 1\nok\n",
     ),
-    // The networks inside a change are removed.
+    // Routes to networks inside a change are removed.
     (
         "set 10.0.0.0/8 1\nset 10.1.0.0/16 3\nok\nsync\nset 10.0.0.0/8 1\nok\nunset 10.0.0.0/9\nok\n",
         "install 10.1.0.0/16 3\ninstall 10.0.0.0/8 1\nok\nremove 10.1.0.0/16\nok\ninstall 10.0.0.0/9 drop\nok\n",
     ),
-    // Where nothing is left outside, a hop that is taken is a removal; where it is there already, nothing is.
+    // If no outer route is left, a hop is taken away by `remove`. A change to a hop that is already in effect writes nothing.
     (
         "sync\nset 2001:db8::/32 7\nok\nset 2001:db8:1::/48 7\nok\nunset 2001:db8::/32\nok\n",
         "ok\ninstall 2001:db8::/32 7\nok\nok\nremove 2001:db8::/32\nok\n",
@@ -216,11 +217,11 @@ const INSTALLED: [(&str, &str); 14] = [
         "sync\nset 10.0.0.0/8 1\nset 192.0.2.0/24 2\nok\n",
         "ok\ninstall 10.0.0.0/8 1\ninstall 192.0.2.0/24 2\nok\n",
     ),
-    // Changes of another closing line are dropped.
+    // Changes are dropped if their closing line is not `ok`.
     ("sync\nset 10.0.0.0/8 1\nbad\nok\n", "ok\n"),
     ("sync\nset 10.0.0.0/8 1\nnone\nok\n", "ok\n"),
     ("sync\nset 10.0.0.0/8 1\nrefused\nok\n", "ok\n"),
-    // Those that wait at a `sync` go on waiting.
+    // A `sync` doesn't drop changes that still lack their closing line.
     (
         "sync\nset 10.0.0.0/8 1\nsync\nok\n",
         "ok\nok\ninstall 10.0.0.0/8 1\nok\n",
@@ -230,14 +231,14 @@ const INSTALLED: [(&str, &str); 14] = [
         "sync\nroute 10.0.0.0/8 1 100\nflat 10.0.0.0/8 1\nown 10.0.0.0/8\ncount 1 0\nok\n",
         "ok\n",
     ),
-    // After a batch that was cut, what is installed is told again.
+    // After an interrupted batch, the installed routes are given again by `have` lines.
     (
         "have 10.1.0.0/16 3\nset 10.0.0.0/8 1\nset 10.1.0.0/16 3\nok\nsync\n",
         "install 10.0.0.0/8 1\nok\n",
     ),
 ];
 
-/// All of these, where a process ends next too.
+/// All these rows. A leader and a follower also run with `AtEnd::Leak`.
 pub(crate) const READ_TO_THE_END: [(Mode, &[(&str, &str)]); 6] = [
     (Mode::Lead, &LED),
     (Mode::LeadLeaking, &LED),
@@ -247,7 +248,7 @@ pub(crate) const READ_TO_THE_END: [(Mode, &[(&str, &str)]); 6] = [
     (Mode::Install, &INSTALLED),
 ];
 
-/// What an installer reads that has a line that is none, or that comes too late, and what is written of the lines before it.
+/// Inputs of an installer with a line that is wrong or comes too late, and the output for the lines before it.
 const STOPPED: [(&str, &str); 6] = [
     ("sync\nhave 10.0.0.0/8 1\nsync\n", "ok\n"),
     (
@@ -263,7 +264,7 @@ const STOPPED: [(&str, &str); 6] = [
     ),
 ];
 
-/// Streams with a line that is no reply line: nothing is printed of them.
+/// Inputs with a line that is no reply line. Nothing is printed.
 const FOREIGN: [(&str, &str); 8] = [
     ("set 10.0.0.0/8 1\nok\nsett 1\n", ""),
     ("set 10.0.0.0/8 drop\nok\n", ""),
@@ -275,14 +276,14 @@ const FOREIGN: [(&str, &str); 8] = [
     ("ok\r\n", ""),
 ];
 
-/// All of these.
+/// All these rows.
 const ENDED_EARLY: [(Mode, &[(&str, &str)]); 3] = [
     (Mode::Install, &STOPPED),
     (Mode::Follow, &FOREIGN),
     (Mode::Shorten, &FOREIGN),
 ];
 
-/// The runs over these texts write these, and end so.
+/// Checks the output and the result of each row.
 fn all_give(
     rt: &impl Abort,
     alloc: Global,
@@ -311,13 +312,13 @@ fn errors(rt: HostRuntime) {
     prints(&rt, rt.alloc(), RunError::Memory, "no memory");
     prints(&rt, rt.alloc(), RunError::Read, "read fault");
     prints(&rt, rt.alloc(), RunError::Write, "write fault");
-    prints(&rt, rt.alloc(), RunError::Line, "unexpected line");
+    prints(&rt, rt.alloc(), RunError::Line, "not a reply line");
     prints(&rt, rt.alloc(), FollowError::Memory, "no memory");
     prints(&rt, rt.alloc(), FollowError::NotALine, "not a reply line");
     prints(&rt, rt.alloc(), FollowError::Failed, "failed before");
 }
 
-/// How many lines end in the bytes.
+/// The number of line ends in the bytes.
 fn line_count(bytes: &[u8]) -> usize {
     let mut count = 0usize;
     for byte in bytes {
@@ -328,7 +329,7 @@ fn line_count(bytes: &[u8]) -> usize {
     count
 }
 
-/// Streams, and how many routes the least table has.
+/// Inputs, and the number of routes of the least table.
 const LEAST: [(&str, usize); 5] = [
     ("", 0),
     ("set 10.0.0.0/8 1\nok\nset 10.0.0.0/9 2\no", 1),
@@ -346,7 +347,7 @@ const LEAST: [(&str, usize); 5] = [
     ),
 ];
 
-/// A leader that is given the least table, `given`, tells at `flat` what a follower of the stream does.
+/// A leader that reads the commands in `given` must answer `flat` with the output that a follower of `input` prints.
 fn is_flat_of(rt: &impl Abort, alloc: Global, given: &mut Vec<u8>, input: &str) {
     given.extend_from_slice(b"flat\n").expect(rt, "memory");
     let told = led(alloc, given.as_slice()).expect(rt, input);
@@ -377,11 +378,11 @@ fn failed_follower(rt: HostRuntime) -> Result<(), Fail> {
     Ok(())
 }
 
-/// Two runs of commands, one after the other.
+/// Commands: two parts, each with `flat` at its end.
 const COMMANDS: &[u8] =
     b"add 10.0.0.0/8 1\nadd 10.0.0.0/9 2\nadd 10.64.0.0/10 1\nflat\nown 1\nget 10.1.2.3/32\nadd 10.0.0.0/8 3 200\ndel 10.0.0.0/9 2\nflat\n";
 
-/// Where the replies end that change a hop, and the flat list that holds then.
+/// Numbers of bytes of the output after which a hop changes, and the flat list from there on.
 const HELD: [(usize, &str); 6] = [
     (0, "ok\n"),
     (20, "flat 10.0.0.0/8 1\nok\n"),
@@ -400,7 +401,7 @@ const HELD: [(usize, &str); 6] = [
     ),
 ];
 
-/// The flat list that holds once so many bytes of the output have come.
+/// The flat list after the first `end` bytes of the output.
 fn held_at(end: usize) -> &'static str {
     let mut held: &'static str = "ok\n";
     for (from, flat) in &HELD {
@@ -411,14 +412,14 @@ fn held_at(end: usize) -> &'static str {
     held
 }
 
-/// The beginning of what the leader answers is followed to the flat list that held then.
+/// Checks that a follower of the first bytes of the leader's output prints the flat list that holds after them.
 fn is_held(rt: &impl Abort, alloc: Global, beginning: &[u8]) {
     let out = followed(alloc, beginning).expect(rt, "a run");
     let row = from_utf8(beginning).unwrap_or("");
     text_is(rt, row, out.as_slice(), held_at(beginning.len()));
 }
 
-/// Each beginning, and the whole of it too.
+/// Each beginning of the output, and the whole output.
 #[test]
 fn beginnings(rt: HostRuntime) {
     let told = led(rt.alloc(), COMMANDS).expect(&rt, "a run");
@@ -428,7 +429,7 @@ fn beginnings(rt: HostRuntime) {
     }
 }
 
-/// The greatest number of blocks of a change, one of each length, and how many lines are answered.
+/// Changes with the greatest number of blocks, one for each length; and the number of lines of the output.
 const LONGEST: [(&str, usize); 2] = [
     (
         "add 0.0.0.0/0 1\nadd 255.255.255.255/32 2\ndel 0.0.0.0/0 1\n",

@@ -1,10 +1,10 @@
-//! Texts as rows: what is read, and what is printed again.
+//! Rows of texts: each is read, and the value is printed again.
 use crate::tests::rows::{net, prints, row_is, text_is};
 use route_lines::{Closing, Command, NotALine, Note, Reply, Update};
 use route_table::{Hop, Operation};
 use std::process::Abort;
 
-/// The text spells a reply line, which is printed so; or none, where nothing is expected.
+/// Checks that the text is a reply line that is printed as `expected`. If `expected` is empty, the text is no reply line.
 fn printed(rt: &impl Abort, text: &str, expected: &str) {
     match Reply::read(text.as_bytes()) {
         Ok(reply) => text_is(rt, text, reply.print().as_slice(), expected),
@@ -12,7 +12,7 @@ fn printed(rt: &impl Abort, text: &str, expected: &str) {
     }
 }
 
-/// The same of a command.
+/// The same check for a command.
 fn printed_command(rt: &impl Abort, text: &str, expected: &str) {
     match Command::read(text.as_bytes()) {
         Ok(command) => text_is(rt, text, command.print().as_slice(), expected),
@@ -20,7 +20,7 @@ fn printed_command(rt: &impl Abort, text: &str, expected: &str) {
     }
 }
 
-/// The same of a line that an installer writes.
+/// The same check for a line that an installer writes.
 fn printed_update(rt: &impl Abort, text: &str, expected: &str) {
     match Update::read(text.as_bytes()) {
         Ok(update) => text_is(rt, text, update.print().as_slice(), expected),
@@ -75,10 +75,10 @@ fn replies(rt: HostRuntime) {
     }
 }
 
-/// The longest command that is read, of 72 bytes.
+/// The longest command that is read: 72 bytes.
 const LONGEST: &str = "add ::ffff:ffff:ffff:ffff:ffff:ffff:255.255.255.255/128 4294967295 65535";
 
-/// The longest that is printed, of 65.
+/// The longest command that is printed: 65 bytes.
 const LONGEST_PRINTED: &str = "add ffff:ffff:ffff:ffff:ffff:ffff:ffff:ffff/128 4294967295 65535\n";
 
 const COMMANDS: [(&str, &str); 42] = [
@@ -133,11 +133,11 @@ fn commands(rt: HostRuntime) {
     }
 }
 
-/// The longest line that an installer writes and reads, of 70 bytes.
+/// The longest line of an installer that is read: 70 bytes.
 const LONGEST_UPDATE: &str =
     "install ::ffff:ffff:ffff:ffff:ffff:ffff:255.255.255.255/128 4294967295";
 
-/// The longest that is printed, of 63.
+/// The longest line of an installer that is printed: 63 bytes.
 const LONGEST_PRINTED_UPDATE: &str =
     "install ffff:ffff:ffff:ffff:ffff:ffff:ffff:ffff/128 4294967295\n";
 
@@ -201,7 +201,7 @@ fn lengths(rt: HostRuntime) {
     }
 }
 
-/// Texts that tell an installer that the network has this hop.
+/// `have` lines, with the network and the hop that each one gives.
 const HAVES: [(&str, &str, Hop); 5] = [
     ("have 10.0.0.0/8 7", "10.0.0.0/8", Hop::Number(7)),
     ("have 10.1.2.3/08 0", "10.0.0.0/8", Hop::Number(0)),
@@ -233,7 +233,7 @@ fn haves(rt: HostRuntime) {
     }
 }
 
-/// What no reader of an installer takes.
+/// Lines that an installer refuses.
 const NO_NOTES: [&str; 31] = [
     "have 10.0.0.0/8 4294967296",
     "have 10.0.0.0/8 07",
@@ -275,7 +275,7 @@ fn no_notes(rt: HostRuntime) {
     }
 }
 
-/// Reply lines, which an installer reads as a reader of reply lines does.
+/// Reply lines. An installer reads them in the same way as a reader of reply lines.
 const NOTES: [&str; 11] = [
     "set 10.1.2.3/8 5",
     "unset FFFF::1/16",
@@ -304,7 +304,7 @@ fn notes(rt: HostRuntime) {
     }
 }
 
-/// The text tells the operation.
+/// Checks that the text spells this operation.
 fn is_operation(rt: &impl Abort, text: &str, operation: Operation) {
     let update = Update::read(text.as_bytes()).expect(rt, text);
     row_is(rt, text, update == Update::from(operation), true);
@@ -344,7 +344,7 @@ fn values(rt: HostRuntime) {
     );
 }
 
-/// The preference of an `add`.
+/// Checks the preference of an `add`.
 fn preference_is(rt: &impl Abort, text: &str, wanted: u16) {
     let read = Command::read(text.as_bytes());
     let Ok(Command::Add { pref, .. }) = read else {

@@ -1,7 +1,9 @@
-//! Several routes a network: which is the best, and what they take.
+//! Several routes per network: the best one, and the size of the list.
 use crate::tests::tables::row_is;
 use route_choices::{Choices, TooMany};
-use route_table::Hop;
+use route_table::{AddRefused, Hop, Refused};
+use std::alloc::Global;
+use std::fmt::Display;
 use std::process::Abort;
 
 #[test]
@@ -18,10 +20,24 @@ fn the_next_takes_over(rt: HostRuntime) {
     assert_eq!(rt; choices.add(Hop::Drop, 200), Err(TooMany));
 }
 
-/// A choice takes eight bytes, and nothing else does.
+/// A list takes eight bytes per choice, and nothing more.
 #[test]
 fn bytes_of_choices(rt: HostRuntime) {
     row_is(&rt, "eight", std::mem::size_of::<Choices<8>>(), 64);
     row_is(&rt, "one", std::mem::size_of::<Choices<1>>(), 8);
     row_is(&rt, "default", Hop::default(), Hop::Drop);
+}
+
+/// The value prints so.
+fn prints<T: Copy + Display>(rt: &impl Abort, alloc: Global, value: T, wanted: &'static str) {
+    let text = format!(in alloc; "{value}").expect(rt, "memory");
+    row_is(rt, wanted, text.as_str(), wanted);
+}
+
+#[test]
+fn texts_of_refusals(rt: HostRuntime) {
+    prints(&rt, rt.alloc(), TooMany, "eight other hops are stored");
+    let full = "eight other hops are stored at the network";
+    prints(&rt, rt.alloc(), AddRefused::TooMany, full);
+    prints(&rt, rt.alloc(), AddRefused::Store(Refused::Memory), "out of memory");
 }

@@ -1,4 +1,4 @@
-//! Flat lists, with values from outside.
+//! Flat lists, with expected values written out.
 use crate::tests::indexes::address;
 use crate::tests::steps::Step::{Ends, Flat, Own, OwnCount, Runs};
 use crate::tests::steps::{Script, carry_out};
@@ -7,7 +7,7 @@ use ipnet::{IpAddr, IpNet};
 use route_table::{Hop, HopRun, RouteTable};
 use std::process::Abort;
 
-/// These pieces come next.
+/// Checks the next pieces.
 fn pieces_come(rt: &impl Abort, flat: &mut route_table::Flat<'_>, pieces: &str) {
     for words in pieces.split_terminator(',') {
         let (net, hop) = route(rt, words.trim());
@@ -16,14 +16,14 @@ fn pieces_come(rt: &impl Abort, flat: &mut route_table::Flat<'_>, pieces: &str) 
     }
 }
 
-/// The flat list has these pieces.
+/// Checks the pieces of the flat list.
 pub(crate) fn flat_is(rt: &impl Abort, flat: route_table::Flat<'_>, pieces: &str) {
     let mut flat = flat;
     pieces_come(rt, &mut flat, pieces);
     row_is(rt, pieces, flat.next(), None);
 }
 
-/// The run of a text, of its first address, its last one and its hop.
+/// The run that the text spells: its first address, its last address and its hop.
 fn run_of(rt: &impl Abort, text: &str) -> HopRun {
     let mut words = text.split_whitespace();
     let first = address(rt, words.next().expect(rt, "a first address"));
@@ -36,7 +36,7 @@ fn run_of(rt: &impl Abort, text: &str) -> HopRun {
     }
 }
 
-/// The flat list has these pieces, and then these runs.
+/// Checks the first pieces of the flat list, and then the runs of the rest.
 pub(crate) fn runs_are(rt: &impl Abort, table: &RouteTable, pieces: &str, runs: &str) {
     let mut flat = table.flat();
     pieces_come(rt, &mut flat, pieces);
@@ -46,12 +46,12 @@ pub(crate) fn runs_are(rt: &impl Abort, table: &RouteTable, pieces: &str, runs: 
     row_is(rt, runs, flat.next_run(), None);
 }
 
-/// The piece is this network, by the hop 2.
+/// Checks that the piece is this network with the hop 2.
 fn end_is(rt: &impl Abort, piece: &IpNet, hop: u32, wanted: &str) {
     row_is(rt, wanted, (*piece, hop), (net(rt, wanted), 2));
 }
 
-/// How many pieces there are, with the first and the last, both by the hop 2.
+/// Checks the number of pieces, and the first and the last one, both with the hop 2.
 pub(crate) fn ends_are(rt: &impl Abort, table: &RouteTable, first: &str, last: &str, count: u32) {
     let mut pieces = 0u32;
     for (piece, hop) in table.flat() {
@@ -66,7 +66,7 @@ pub(crate) fn ends_are(rt: &impl Abort, table: &RouteTable, first: &str, last: &
     row_is(rt, last, pieces, count);
 }
 
-/// These are the blocks.
+/// Checks the blocks.
 fn blocks_are(rt: &impl Abort, own: &[IpNet], blocks: &[&str]) {
     row_is(rt, "own blocks", own.len(), blocks.len());
     let mut left = own.iter();
@@ -75,13 +75,13 @@ fn blocks_are(rt: &impl Abort, own: &[IpNet], blocks: &[&str]) {
     }
 }
 
-/// The blocks of the number.
+/// Checks the blocks of the number.
 pub(crate) fn own_is(rt: &impl Abort, table: &RouteTable, number: u32, blocks: &[&str]) {
     let own = table.own(number).expect(rt, "memory");
     blocks_are(rt, own.as_slice(), blocks);
 }
 
-/// How many pieces of the flat list have the number.
+/// The number of pieces of the flat list with this hop.
 fn pieces_with(table: &RouteTable, number: u32) -> usize {
     let mut pieces = 0usize;
     for (_, hop) in table.flat() {
@@ -92,13 +92,13 @@ fn pieces_with(table: &RouteTable, number: u32) -> usize {
     pieces
 }
 
-/// The number has as many blocks of its own as there are pieces with it in the flat list.
+/// Checks that the number has as many blocks as there are pieces with it in the flat list.
 pub(crate) fn own_is_counted(rt: &impl Abort, table: &RouteTable, number: u32) {
     let own = table.own(number).expect(rt, "memory");
     row_is(rt, "as many pieces", own.len(), pieces_with(table, number));
 }
 
-/// Routes, and the flat list of a table of them, its ends, and the blocks of one hop.
+/// Routes; and the flat list of a table of them, its ends, its runs, or the blocks of one hop.
 static FLAT: [Script; 12] = [
     (
         "nested routes",

@@ -1,4 +1,4 @@
-//! Tables of one hop a network: their changes, and the operations between two of them.
+//! Tables with one hop per network: their changes, and the operations between two of them.
 use crate::tests::flat_lists::flat_is;
 use crate::tests::tables::{net, route, routes_are, row_is};
 use ipnet::IpNet;
@@ -14,28 +14,28 @@ enum Change {
     Install,
 }
 
-/// Calls of such a table, and what they answer.
+/// A call of such a table, with its answer.
 enum Step {
-    /// A change by each of these routes in turn.
+    /// A change with each of these routes in turn.
     Change(Change, &'static str),
-    /// `get`: networks, and their longest matches with their hops.
+    /// `get`: networks, and the longest match of each with its hop.
     Get(&'static [(&'static str, &'static str)]),
     /// `flat`: the pieces.
     Flat(&'static str),
-    /// `repaint`: changes, and the operations of each.
+    /// `repaint`: changes, and the operations for each.
     Repaint(&'static [(&'static str, &'static str)]),
-    /// `between`: the operations that make a table that is painted so of this one.
+    /// `between`: the operations that turn this table into a table painted with these routes.
     Between(&'static str, &'static str),
-    /// `from_routes`: a copy by the routes of the least table.
+    /// `from_routes`: a table made of the least routes.
     FromRoutes,
 }
 
-/// The route is the only one inside its network then.
+/// Replaces all routes inside the network by this one.
 pub(crate) fn overwrite(rt: &impl Abort, table: &mut HopTable, net: IpNet, hop: Hop) {
     table.overwrite(net, hop).expect(rt, "memory");
 }
 
-/// The route of these words is painted, installed, or put in the place of others.
+/// Makes a change with the route that the words spell.
 fn change_at(rt: &impl Abort, table: &mut HopTable, call: Change, words: &str) {
     let (net, hop) = route(rt, words.trim());
     match call {
@@ -45,14 +45,14 @@ fn change_at(rt: &impl Abort, table: &mut HopTable, call: Change, words: &str) {
     }
 }
 
-/// So are the routes of a text.
+/// Makes a change with each route of the text.
 fn changes(rt: &impl Abort, table: &mut HopTable, call: Change, text: &str) {
     for words in text.split_terminator(',') {
         change_at(rt, table, call, words);
     }
 }
 
-/// The operation of a text: a network and a hop, which are installed, or a network, which is removed.
+/// The operation that the text spells: with a hop, the network is installed; without one, it is removed.
 fn operation(rt: &impl Abort, text: &str) -> Operation {
     if text.contains(' ') {
         let (net, hop) = route(rt, text);
@@ -61,7 +61,7 @@ fn operation(rt: &impl Abort, text: &str) -> Operation {
     Operation::Remove { net: net(rt, text) }
 }
 
-/// The operations that are left.
+/// Checks the remaining operations.
 fn operations_are<I: Iterator<Item = Operation>>(rt: &impl Abort, left: I, wanted: &str)
     requires { (it : I) → I.can_next it }
 {
@@ -72,7 +72,7 @@ fn operations_are<I: Iterator<Item = Operation>>(rt: &impl Abort, left: I, wante
     row_is(rt, wanted, left.next(), None);
 }
 
-/// The operations that make a table that is painted so of this one.
+/// Checks the operations that turn this table into a table painted with the routes of the text.
 fn between(rt: &impl Abort, alloc: Global, old: &HopTable, text: &str, wanted: &str) {
     let mut new = HopTable::new(alloc).expect(rt, "a table");
     changes(rt, &mut new, Change::Paint, text);
@@ -80,7 +80,7 @@ fn between(rt: &impl Abort, alloc: Global, old: &HopTable, text: &str, wanted: &
     operations_are(rt, old.between(list.as_slice()), wanted);
 }
 
-/// The operations of each change.
+/// Checks the operations for each change.
 fn repaint(rt: &impl Abort, table: &HopTable, rows: &[(&str, &str)]) {
     for (change, wanted) in rows {
         let (net, hop) = route(rt, change);
@@ -88,14 +88,14 @@ fn repaint(rt: &impl Abort, table: &HopTable, rows: &[(&str, &str)]) {
     }
 }
 
-/// A table of the routes of the least one has just these.
+/// Checks that a table made of the least routes has just these routes.
 fn is_rebuilt(rt: &impl Abort, alloc: Global, table: &HopTable) {
     let list = table.least().expect(rt, "memory");
     let copy = HopTable::from_routes(alloc, list.as_slice()).expect(rt, "memory");
     operations_are(rt, copy.between(list.as_slice()), "");
 }
 
-/// The table has these longest matches.
+/// Checks these longest matches.
 fn matches_are(rt: &impl Abort, table: &HopTable, rows: &[(&str, &str)]) {
     for (text, wanted) in rows {
         let (net_wanted, hop) = route(rt, wanted);
@@ -104,7 +104,7 @@ fn matches_are(rt: &impl Abort, table: &HopTable, rows: &[(&str, &str)]) {
     }
 }
 
-/// The calls of a step answer so.
+/// Checks the answer of the step.
 fn go(rt: &impl Abort, alloc: Global, table: &mut HopTable, step: &Step) {
     match step {
         Step::Change(call, text) => changes(rt, table, *call, text),
@@ -116,7 +116,7 @@ fn go(rt: &impl Abort, alloc: Global, table: &mut HopTable, step: &Step) {
     }
 }
 
-/// The steps go so, one after another, of an empty table, and this is the least table then.
+/// Checks the steps in order, from an empty table, and the least table after them.
 fn goes(rt: &impl Abort, alloc: Global, row: &str, steps: &[Step], least: &str) {
     let mut table = HopTable::new(alloc).expect(rt, "a table");
     for step in steps {
@@ -129,26 +129,26 @@ fn goes(rt: &impl Abort, alloc: Global, row: &str, steps: &[Step], least: &str) 
     routes_are(rt, row, list.as_slice(), least);
 }
 
-/// Networks of both families, one inside another.
+/// Nested networks of both families.
 const NESTED: &str =
     "10.0.0.0/8 1, 10.0.0.0/9 2, 10.0.0.0/16 1, 2001:db8::/32 1, 2001:db8::/33 2, 2001:db8:4000::/34 drop";
 
-/// The least table of these.
+/// Their least table.
 const NESTED_LEAST: &str =
     "10.0.0.0/8 1, 10.0.0.0/9 2, 10.0.0.0/16 1, 2001:db8::/34 2, 2001:db8:8000::/33 1";
 
-/// Changes, and the operations of each: the network that is installed, where one is, and those that are removed then.
+/// Changes, and the operations for each: an `install` if one is needed, and then the `remove`s.
 const REPAINTS: [(&str, &str); 13] = [
-    // handed down by the route outside: of a stored network, of one that isn't, and where there is no route
+    // the hop is the inherited one: at a stored network, at a network that isn't stored, and without an outer route
     ("10.0.0.0/9 1", "10.0.0.0/9, 10.0.0.0/16"),
     ("10.128.0.0/9 1", ""),
     ("11.0.0.0/8 drop", ""),
     ("2001:db8::/33 1", "2001:db8::/33, 2001:db8:4000::/34"),
-    // held already
+    // the hop is already in effect
     ("10.0.0.0/9 2", "10.0.0.0/16"),
     ("10.0.0.0/16 1", ""),
     ("2001:db8:4000::/34 drop", ""),
-    // another hop of a stored network, one of them `drop`, and one with host bits
+    // another hop for a stored network; two are `drop`, and one has host bits
     ("10.0.0.0/9 3", "10.0.0.0/9 3, 10.0.0.0/16"),
     (
         "2001:db8::/32 drop",
@@ -158,7 +158,7 @@ const REPAINTS: [(&str, &str); 13] = [
         "2001:db8::1/33 drop",
         "2001:db8::/33 drop, 2001:db8:4000::/34",
     ),
-    // of a network that isn't stored, between others, and outside all
+    // a network that isn't stored: between others, and outside all of them
     ("10.0.0.0/12 4", "10.0.0.0/12 4, 10.0.0.0/16"),
     (
         "0.0.0.0/0 5",
@@ -170,7 +170,7 @@ const REPAINTS: [(&str, &str); 13] = [
     ),
 ];
 
-/// Networks, and their longest matches then, with their hops.
+/// Networks, and their longest matches after the script, with their hops.
 const MATCHES: [(&str, &str); 6] = [
     ("10.1.0.0/16", "10.0.0.0/12 4"),
     ("10.0.0.0/16", "10.0.0.0/16 1"),

@@ -1,4 +1,4 @@
-//! Indexes of tables: each address has the hop that the table has for it.
+//! Indexes of tables: an index gives each address the hop that the table gives it.
 use crate::tests::hop_tables::overwrite;
 use crate::tests::steps::Step::{Index, IndexBefore};
 use crate::tests::steps::{Script, carry_out};
@@ -10,9 +10,9 @@ use std::alloc::Global;
 use std::process::Abort;
 use std::str::FromStr;
 
-/// Routes that meet, nest and leave gaps, at both ends of both families, of 2000::/3, and of a chunk of the index; some begin in
-/// blocks of their own, some in one block of 256 addresses, or in one /64; some of IPv6 are
-/// too long for 12 bytes, or end inside a /48.
+/// Routes that touch, nest and leave gaps. They lie at both ends of both families, of 2000::/3, and of a chunk of the index. Some begin
+/// in blocks of their own; some share one block of 256 addresses, or one /64. Some IPv6 routes are too long for an entry of 12 bytes, or
+/// end inside a /48.
 const ROUTES: &str = "0.0.0.0/30 1, 0.0.64.0/18 2, 0.0.128.0/32 2, 10.0.0.0/8 4, 10.1.0.0/16 drop, \
      10.1.2.0/24 4294967295, 10.1.2.3/32 0, 20.0.1.0/24 16, 20.0.3.0/24 17, 20.0.5.128/25 18, \
      255.255.255.254/31 5, 255.255.255.255/32 6, ::/128 7, 1fff:ff00::/24 12, 2000::/20 13, \
@@ -21,7 +21,7 @@ const ROUTES: &str = "0.0.0.0/30 1, 0.0.64.0/18 2, 0.0.128.0/32 2, 10.0.0.0/8 4,
      2a10:0:0:8000::/49 25, 3fff:f000::/20 14, 4000::/16 15, ffff:ffff:ffff:ffff:ffff:ffff:ffff:fffe/127 10, \
      ffff:ffff:ffff:ffff:ffff:ffff:ffff:ffff/128 11";
 
-/// Addresses with the hops that the routes give them, worked out by hand.
+/// Addresses, and their hops by these routes, worked out by hand.
 static HOPS: [(&str, Option<u32>); 59] = [
     ("0.0.0.0", Some(1)),
     ("0.0.0.3", Some(1)),
@@ -88,7 +88,7 @@ pub(crate) fn address(rt: &impl Abort, text: &str) -> IpAddr {
     IpAddr::from_str(text).expect(rt, text)
 }
 
-/// The addresses of the rows.
+/// The addresses of `HOPS`.
 fn addresses(rt: &impl Abort) -> [IpAddr; 59] {
     let mut addrs = [address(rt, "::"); 59];
     for (place, (text, _)) in HOPS.iter().enumerate() {
@@ -97,7 +97,7 @@ fn addresses(rt: &impl Abort) -> [IpAddr; 59] {
     addrs
 }
 
-/// Each address has its hop, asked for alone and with the others.
+/// Checks the hop of each address, in a single look-up and in one look-up of all addresses.
 fn hops_are(rt: &impl Abort, index: &HopIndex) {
     let mut hops = [None; 59];
     index.hops(&addresses(rt), &mut hops);
@@ -108,13 +108,13 @@ fn hops_are(rt: &impl Abort, index: &HopIndex) {
     }
 }
 
-/// An index of the table has the hops of the routes.
+/// Checks an index of the table.
 fn index_is(rt: &impl Abort, alloc: Global, table: &RouteTable) {
     let index = HopIndex::of_table(alloc, table).expect(rt, "an index");
     hops_are(rt, &index);
 }
 
-/// An index of a table of these routes has these hops.
+/// Checks the hops by an index of a table of these routes.
 fn index_of_has(rt: &impl Abort, alloc: Global, routes: &str, hops: &[(&str, Option<u32>)]) {
     let table = table(rt, alloc, routes);
     let index = HopIndex::of_table(alloc, &table).expect(rt, "an index");
@@ -123,14 +123,14 @@ fn index_of_has(rt: &impl Abort, alloc: Global, routes: &str, hops: &[(&str, Opt
     }
 }
 
-/// Stores these routes.
+/// Stores these routes with `overwrite`, in order.
 fn overwrite_all(rt: &impl Abort, table: &mut HopTable, routes: Routes<'_>) {
     for (net, hop, _) in routes {
         overwrite(rt, table, net, hop);
     }
 }
 
-/// The best routes of a table.
+/// A hop table of the best routes of a route table.
 fn best(rt: &impl Abort, alloc: Global, routes: &RouteTable) -> HopTable {
     let mut table = HopTable::new(alloc).expect(rt, "a table");
     overwrite_all(rt, &mut table, routes.list(&net(rt, "0.0.0.0/0")));
@@ -138,7 +138,7 @@ fn best(rt: &impl Abort, alloc: Global, routes: &RouteTable) -> HopTable {
     table
 }
 
-/// Indexes of the table, and of one of its best routes, have the hops of the routes.
+/// Checks an index of the table, and an index of the hop table of its best routes.
 pub(crate) fn indexes_are(rt: &impl Abort, alloc: Global, table: &RouteTable) {
     index_is(rt, alloc, table);
     let best = best(rt, alloc, table);
@@ -146,7 +146,7 @@ pub(crate) fn indexes_are(rt: &impl Abort, alloc: Global, table: &RouteTable) {
     hops_are(rt, &index);
 }
 
-/// An index of a table of no routes has no hop, also once the table has a route.
+/// An index of a table without routes has no hop, and still has none after a route is added to the table.
 pub(crate) fn stays_empty(rt: &impl Abort, alloc: Global, table: &mut RouteTable, text: &str) {
     let index = HopIndex::of_table(alloc, table).expect(rt, "an index");
     put(rt, table, text, Hop::Number(1));
@@ -154,7 +154,7 @@ pub(crate) fn stays_empty(rt: &impl Abort, alloc: Global, table: &mut RouteTable
     row_is(rt, "::1", index.hop(address(rt, "::1")), None);
 }
 
-/// Tables, and what indexes of them have.
+/// Tables, and checks of indexes of them.
 static INDEXES: [Script; 2] = [
     ("of a table and of hops", ROUTES, &[Index]),
     ("of no routes and a copy", "", &[IndexBefore("0.0.0.0/0")]),
@@ -165,7 +165,7 @@ fn indexes(rt: HostRuntime) {
     carry_out(&rt, rt.alloc(), &INDEXES);
 }
 
-/// What an index of 2001:db8::/32 alone has, before its chunk, there and after it.
+/// Hops by an index of 2001:db8::/32 alone: before its chunk, in it, and after it.
 static OF_ONE: [(&str, Option<u32>); 8] = [
     ("::1", None),
     ("2001:db7:ffff:ffff:ffff:ffff:ffff:ffff", None),
@@ -177,7 +177,7 @@ static OF_ONE: [(&str, Option<u32>); 8] = [
     ("ffff::", None),
 ];
 
-/// What an index of the last /32 of 2000::/3 alone has.
+/// Hops by an index of the last /32 of 2000::/3 alone.
 static OF_THE_LAST: [(&str, Option<u32>); 5] = [
     ("2001:db8::", None),
     ("3fff:fffe:ffff:ffff:ffff:ffff:ffff:ffff", None),

@@ -1,4 +1,4 @@
-//! Least tables, with values from outside.
+//! Least tables, with expected values written out.
 use crate::tests::steps::Step::{BuiltBack, Least};
 use crate::tests::steps::{Script, carry_out};
 use crate::tests::tables::{routes_are, row_is, table};
@@ -8,13 +8,13 @@ use std::alloc::Global;
 use std::net::Ipv4Addr;
 use std::process::Abort;
 
-/// The least table has these routes.
+/// Checks the routes of the least table.
 pub(crate) fn least_is(rt: &impl Abort, row: &str, table: &RouteTable, wanted: &str) {
     let least = table.least().expect(rt, "memory");
     routes_are(rt, row, least.as_slice(), wanted);
 }
 
-/// How many blocks the flat list has, which is that of the other table too.
+/// Checks that both tables have the same flat list. Returns its length.
 fn same_flat(rt: &impl Abort, table: &RouteTable, other: &RouteTable) -> usize {
     let mut count = 0usize;
     let mut pieces = other.flat();
@@ -35,7 +35,8 @@ fn built(rt: &impl Abort, alloc: Global, routes: &[(IpNet, Hop)]) -> RouteTable 
     table
 }
 
-/// A table that is built of the least routes has the same flat list, with no more routes than the table and than this list.
+/// Checks that a table of the least routes has the same flat list as `table`. There must be `wanted` least routes, and no more than the
+/// table has networks or the flat list has blocks.
 pub(crate) fn is_built_back(
     rt: &impl Abort,
     alloc: Global,
@@ -52,7 +53,7 @@ pub(crate) fn is_built_back(
     row_is(rt, row, least.len() <= count, true);
 }
 
-/// The least table has so many routes, or memory is refused.
+/// Checks the number of least routes. `Refused::Memory` is accepted too.
 pub(crate) fn least_count_is(rt: &impl Abort, table: &RouteTable, wanted: usize) {
     match table.least() {
         Ok(least) => row_is(rt, "routes", least.len(), wanted),
@@ -60,7 +61,7 @@ pub(crate) fn least_count_is(rt: &impl Abort, table: &RouteTable, wanted: usize)
     }
 }
 
-/// Routes, and the least table of one of them; and tables of both families, and how many routes the least ones have.
+/// Tables of both families, and the routes of their least tables or the number of these routes.
 static LEAST: [Script; 14] = [
     (
         "a route inside another",
@@ -81,7 +82,7 @@ static LEAST: [Script; 14] = [
          ffff:ffff:ffff:ffff:ffff:ffff:ffff:ffff/128 drop",
         )],
     ),
-    // The greatest address of both families has its own hop, in a table with a route of the others around it.
+    // In both families the greatest address has its own hop, in a table where another route surrounds it.
     (
         "the greatest addresses",
         "255.255.255.252/31 5, 255.255.255.254/32 5, 255.255.255.255/32 9, \
@@ -92,14 +93,14 @@ static LEAST: [Script; 14] = [
          ffff:ffff:ffff:ffff:ffff:ffff:ffff:ffff/128 9",
         )],
     ),
-    // A route with `drop` stays where a number is handed down to it, and only there.
+    // A `drop` route is kept if the address would inherit a number without it, and only then.
     (
         "drop under a number",
         "0.0.0.0/0 1, 10.0.0.0/8 drop, 10.1.0.0/16 1, 10.2.0.0/16 drop, ::/1 drop, 8000::/1 2",
         &[Least("0.0.0.0/0 1, 10.0.0.0/8 drop, 10.1.0.0/16 1, 8000::/1 2")],
     ),
     ("nothing in an empty table", "", &[Least("")]),
-    // Halves without hops, of one level and of several, beside a half with one hop and one with two.
+    // Halves without hops, of one level and of several, beside a half with one hop and a half with two.
     (
         "halves without hops",
         "0.0.0.0/2 1, 96.0.0.0/3 1, 144.0.0.0/4 2, 224.0.0.0/5 3, 232.0.0.0/5 4",
@@ -149,8 +150,8 @@ fn least(rt: HostRuntime) {
     carry_out(&rt, rt.alloc(), &LEAST);
 }
 
-/// Hosts in a row, each with a hop of its own, so that each hop needs one route: more steps, hops of sets, and routes than a block of
-/// them has.
+/// Consecutive hosts, each with its own hop, so that each hop needs one route. The steps, the hops of sets and the routes each fill more
+/// than one block of memory.
 #[test]
 fn more_than_a_block(rt: HostRuntime) {
     let mut table = HopTable::new(rt.alloc()).expect(&rt, "a table");

@@ -1,4 +1,4 @@
-//! Least tables of known hops, of prefixes that are no networks.
+//! Least tables of pieces with known hops, whose prefixes are no networks.
 use crate::tests::tables::row_is;
 use least_table::Planner;
 use std::test::Fail;

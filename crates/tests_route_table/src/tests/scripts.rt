@@ -1,4 +1,4 @@
-//! Scripts of route tables, with values from outside. In walks, hops tell the routes apart.
+//! Scripts of route tables, with expected values written out. In walks, each route has its own hop, so the hops show the order.
 use crate::tests::steps::Step::{
     Add, After, All, Count, Cover, Del, From, Get, Governs, GovernsCount, IsLeaf, Least,
     LeastCount, List, Misses, Nodes, Overwrite, OverwriteAgain, Put, PutAgain, Visits,
@@ -23,7 +23,7 @@ const EIGHT: Hop = Hop::Number(8);
 
 const NINE: Hop = Hop::Number(9);
 
-/// Changes, and what is governed, inside, and found then.
+/// Changes; and the governed blocks, the routes inside a network, and the matches after them.
 static CHANGES: [Script; 8] = [
     (
         "leaves of an empty table",
@@ -114,7 +114,7 @@ static CHANGES: [Script; 8] = [
     ),
 ];
 
-/// Several routes a network: which is the best, and what is refused.
+/// Several routes per network: the best one, and refused additions.
 static CHOICES: [Script; 3] = [
     (
         "the next best takes over",
@@ -174,7 +174,7 @@ static CHOICES: [Script; 3] = [
     ),
 ];
 
-/// Walks, and one route in the place of all those inside its network.
+/// Walks, and routes that replace all routes inside their network.
 static WALKS: [Script; 2] = [
     (
         "walks keep to a family",
@@ -225,7 +225,7 @@ fn scripts(rt: HostRuntime) {
     carry_out(&rt, rt.alloc(), &WALKS);
 }
 
-/// Each request for memory may be refused, and the next attempt succeeds.
+/// Each request for memory may be refused. The next attempt succeeds.
 static REFUSED: [Script; 2] = [
     (
         "a least table",

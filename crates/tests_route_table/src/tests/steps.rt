@@ -1,4 +1,4 @@
-//! Scripts of calls of a route table, and what these answer.
+//! Scripts of calls of a route table, with their answers.
 use crate::tests::flat_lists::{ends_are, flat_is, own_is, own_is_counted, runs_are};
 use crate::tests::indexes::{indexes_are, stays_empty};
 use crate::tests::least_tables::{is_built_back, least_count_is, least_is};
@@ -11,79 +11,79 @@ use std::process::Abort;
 /// The numbers at the longest match of a network, before a change and after it.
 pub(crate) type Numbers = (Option<u32>, Option<u32>);
 
-/// A call of a table, and what it answers.
+/// A call of a table, with its answer.
 pub(crate) enum Step {
-    /// `add`, with the default preference: it succeeds.
+    /// `add` with the default preference. It succeeds.
     Put(&'static str, Hop),
-    /// `add`, with this preference.
+    /// `add` with this preference.
     Add(&'static str, Hop, u16, Result<Numbers, AddRefused>),
     /// `del`.
     Del(&'static str, Hop, Option<Numbers>),
     /// `overwrite`.
     Overwrite(&'static str, Hop),
-    /// `add`, with the default preference: it succeeds, or does where memory was refused before.
+    /// `add` with the default preference. It succeeds, at the latest on the second attempt.
     PutAgain(&'static str, Hop),
-    /// `overwrite`: the same, of an empty table.
+    /// `overwrite` on an empty table. It succeeds, at the latest on the second attempt.
     OverwriteAgain(&'static str, Hop),
-    /// `get`: the longest match, which has the default preference.
+    /// `get`: the longest match, with the default preference.
     Get(&'static str, &'static str, Hop),
-    /// `get`: there is no match.
+    /// `get`: no match.
     Misses(&'static str),
-    /// `get_visits`: the longest match, and how many nodes are visited.
+    /// `get_visits`: the longest match, and the number of visited nodes.
     Visits(&'static str, &'static str, Hop, u32),
     /// `is_leaf`.
     IsLeaf(&'static str, bool),
     /// `governed`: the blocks.
     Governs(&'static str, &'static [&'static str]),
-    /// `governed`: how many blocks there are.
+    /// `governed`: the number of blocks.
     GovernsCount(&'static str, u32),
-    /// `list`: the networks of the routes, all by the hop 1 with the default preference.
+    /// `list`: the networks of the routes, each with the hop 1 and the default preference.
     List(&'static str, &'static [&'static str]),
     /// `all`: the routes of one network, the best one first.
     All(&'static str, &'static [(Hop, u16)]),
-    /// `count`: how many networks of each family are stored.
+    /// `count`: the number of stored networks of each family.
     Count(usize, usize),
     /// `node_counts`.
     Nodes(usize, usize),
     /// `from`: the hops of the routes, as digits.
     From(&'static str, u32),
-    /// `after`: the same.
+    /// `after`: the hops of the routes, as digits.
     After(&'static str, u32),
-    /// `cover`: the same.
+    /// `cover`: the hops of the routes, as digits.
     Cover(&'static str, u32),
     /// `flat`: the pieces.
     Flat(&'static str),
-    /// `next` and then `next_run` of `flat`: so many pieces first, and each run as its first address, its last one and its hop.
+    /// `flat`: pieces from `next`, and then runs from `next_run`. A run is its first address, its last address and its hop.
     Runs(&'static str, &'static str),
-    /// `flat`: the first and the last piece, both by the hop 2, and how many there are.
+    /// `flat`: the first and the last piece, both with the hop 2, and the number of pieces.
     Ends(&'static str, &'static str, u32),
     /// `own`: the blocks of this number.
     Own(u32, &'static [&'static str]),
-    /// `own`: as many blocks of this number as there are in the flat list.
+    /// `own`: as many blocks of this number as pieces of the flat list with it.
     OwnCount(u32),
     /// `least`: the routes.
     Least(&'static str),
-    /// `least`: how many routes there are, or memory is refused.
+    /// `least`: the number of routes. Memory may be refused.
     LeastCount(usize),
-    /// `least`: how many routes there are, of which a table with the same flat list is built.
+    /// `least`: the number of routes. A table made of them has the same flat list.
     BuiltBack(usize),
-    /// `HopIndex::of_table` and `HopIndex::of_hops`: the hops of the routes that indexes are made of.
+    /// `HopIndex::of_table` and `HopIndex::of_hops`: the hops of the routes in `indexes.rt`.
     Index,
-    /// `HopIndex::of_table`: no hop, while a route of this network is put into the table.
+    /// `HopIndex::of_table` before a route to this network is added: no hop.
     IndexBefore(&'static str),
 }
 
-/// A script: its name, the routes that are stored at first, and the calls.
+/// A script: its name, the routes at the start, and the calls.
 pub(crate) type Script = (&'static str, &'static str, &'static [Step]);
 
-/// The second attempt to add a route succeeds, where a request for memory is refused in the first.
+/// Adds a route. If memory is refused at first, the second attempt must succeed.
 fn put_again(rt: &impl Abort, table: &mut RouteTable, net: &IpNet, hop: Hop) {
     if table.add(*net, hop, 100).is_err() {
         table.add(*net, hop, 100).expect(rt, "a route");
     }
 }
 
-/// After a refusal the table is empty still, and the next attempt succeeds.
+/// Overwrites. If memory is refused at first, the table must still be empty, and the second attempt must succeed.
 fn overwrite_again(rt: &impl Abort, table: &mut RouteTable, net: &IpNet, hop: Hop) {
     let Err(refused) = table.overwrite(*net, hop) else {
         return;
@@ -94,7 +94,7 @@ fn overwrite_again(rt: &impl Abort, table: &mut RouteTable, net: &IpNet, hop: Ho
     row_is(rt, "again", table.overwrite(*net, hop), Ok(()));
 }
 
-/// A call that changes the table answers so, or another does.
+/// Checks a call that changes the table, or one of the calls below.
 fn change(rt: &impl Abort, alloc: Global, at: (&str, usize), table: &mut RouteTable, step: &Step) {
     match step {
         Step::Put(text, hop) => put(rt, table, text, *hop),
@@ -117,7 +117,7 @@ fn change(rt: &impl Abort, alloc: Global, at: (&str, usize), table: &mut RouteTa
     }
 }
 
-/// A call that asks for a route or a number answers so, or another does.
+/// Checks a call that returns a route, a number or hops, or one of the calls below.
 fn ask(rt: &impl Abort, at: (&str, usize), table: &RouteTable, step: &Step) {
     match step {
         Step::Get(text, found, hop) => {
@@ -145,7 +145,7 @@ fn ask(rt: &impl Abort, at: (&str, usize), table: &RouteTable, step: &Step) {
     }
 }
 
-/// A call that lists answers so.
+/// Checks a call that lists a part of the table, or one of the calls below.
 fn list(rt: &impl Abort, at: (&str, usize), table: &RouteTable, step: &Step) {
     match step {
         Step::Governs(text, blocks) => governs(rt, at, table, &net(rt, text), blocks),
@@ -158,7 +158,7 @@ fn list(rt: &impl Abort, at: (&str, usize), table: &RouteTable, step: &Step) {
     }
 }
 
-/// A call that lists the whole table answers so.
+/// Checks a call that lists the whole table.
 fn list_all(rt: &impl Abort, row: &str, table: &RouteTable, step: &Step) {
     match step {
         Step::Flat(pieces) => flat_is(rt, table.flat(), pieces),
@@ -172,7 +172,7 @@ fn list_all(rt: &impl Abort, row: &str, table: &RouteTable, step: &Step) {
     }
 }
 
-/// The network governs these blocks.
+/// Checks the blocks that the network governs.
 fn governs(rt: &impl Abort, at: (&str, usize), table: &RouteTable, asked: &IpNet, blocks: &[&str]) {
     let mut governed = table.governed(asked);
     for block in blocks {
@@ -181,7 +181,7 @@ fn governs(rt: &impl Abort, at: (&str, usize), table: &RouteTable, asked: &IpNet
     step_is(rt, at, governed.next(), None);
 }
 
-/// How many blocks the network governs.
+/// The number of blocks that the network governs.
 fn governed_count(table: &RouteTable, asked: &IpNet) -> u32 {
     let mut count = 0u32;
     for _ in table.governed(asked) {
@@ -190,7 +190,7 @@ fn governed_count(table: &RouteTable, asked: &IpNet) -> u32 {
     count
 }
 
-/// The routes of this network and those inside it, all by the hop 1.
+/// Checks the routes of the network and of those inside it, each with the hop 1.
 fn list_is(rt: &impl Abort, at: (&str, usize), table: &RouteTable, asked: &IpNet, texts: &[&str]) {
     let mut routes = table.list(asked);
     for text in texts {
@@ -204,7 +204,7 @@ fn list_is(rt: &impl Abort, at: (&str, usize), table: &RouteTable, asked: &IpNet
     step_is(rt, at, routes.next(), None);
 }
 
-/// The routes of the network are these.
+/// Checks the routes of the network.
 fn all_are(
     rt: &impl Abort,
     at: (&str, usize),
@@ -219,7 +219,7 @@ fn all_are(
     step_is(rt, at, all.next(), None);
 }
 
-/// The hops of the routes in order, as the digits of a number; a `Drop` is 0.
+/// The hops of the routes in order, as the digits of a number. `Drop` is 0.
 fn hops(routes: Routes<'_>) -> u32 {
     let mut digits = 0u32;
     for (_, hop, _) in routes {
@@ -232,7 +232,7 @@ fn hops(routes: Routes<'_>) -> u32 {
     digits
 }
 
-/// The calls of a script answer so, one after another, of a table of these routes.
+/// Checks the calls of a script in order, on a table of these routes.
 fn goes(rt: &impl Abort, alloc: Global, row: &str, stored: &str, steps: &[Step]) {
     let mut table = table(rt, alloc, stored);
     for (at, step) in steps.iter().enumerate() {
@@ -240,7 +240,7 @@ fn goes(rt: &impl Abort, alloc: Global, row: &str, stored: &str, steps: &[Step])
     }
 }
 
-/// Each script goes so.
+/// Checks each script.
 pub(crate) fn carry_out(rt: &impl Abort, alloc: Global, scripts: &[Script]) {
     for (row, stored, steps) in scripts {
         goes(rt, alloc, row, stored, steps);

@@ -1,4 +1,4 @@
-//! How the tests compare, and the tables that they ask.
+//! Comparisons for the tests, and the tables they use.
 use ipnet::IpNet;
 use route_table::{Hop, RouteTable};
 use std::alloc::Global;
@@ -6,13 +6,13 @@ use std::fmt::Debug;
 use std::process::Abort;
 use std::str::FromStr;
 
-/// What is found in a row of a table is what is wanted; else the row is told. A call of it is proved in a tenth of the time of an
-/// `assert_eq!`.
+/// Checks that `found` is `wanted`. If not, the message contains the row. A proof about a call of this function takes a tenth of the time
+/// of a proof about `assert_eq!`.
 pub(crate) fn row_is<T: Copy + PartialEq + Debug>(rt: &impl Abort, row: &str, found: T, wanted: T) {
     assert_eq!(rt; (row, found), (row, wanted));
 }
 
-/// The same of a step of a script; where it fails, how many steps came before is told before both values.
+/// The same check for a step of a script. The message also contains the number of steps before it.
 pub(crate) fn step_is<T: Copy + PartialEq + Debug>(
     rt: &impl Abort,
     at: (&str, usize),
@@ -26,7 +26,7 @@ pub(crate) fn net(rt: &impl Abort, text: &str) -> IpNet {
     IpNet::from_str(text).expect(rt, text)
 }
 
-/// The hop of a word: a number, or `drop`.
+/// The hop that a word spells: a number, or `drop`.
 fn hop_of(rt: &impl Abort, word: &str) -> Hop {
     if word == "drop" {
         return Hop::Drop;
@@ -34,13 +34,13 @@ fn hop_of(rt: &impl Abort, word: &str) -> Hop {
     Hop::Number(u32::from_str(word).expect(rt, word))
 }
 
-/// The route of two words, a network and a hop.
+/// The route that two words spell: a network and a hop.
 pub(crate) fn route(rt: &impl Abort, words: &str) -> (IpNet, Hop) {
     let (network, word) = words.split_once(' ').expect(rt, words);
     (net(rt, network), hop_of(rt, word))
 }
 
-/// These are the routes of the text, in this order.
+/// Checks that these are the routes of the text, in this order.
 pub(crate) fn routes_are(rt: &impl Abort, row: &str, found: &[(IpNet, Hop)], text: &str) {
     let mut left = found.iter();
     for words in text.split_terminator(',') {
@@ -50,7 +50,7 @@ pub(crate) fn routes_are(rt: &impl Abort, row: &str, found: &[(IpNet, Hop)], tex
     row_is(rt, row, left.next().copied(), None);
 }
 
-/// A table of the routes of a text, added in order with the default preference.
+/// A table of the routes of the text, added in order with the default preference.
 pub(crate) fn table(rt: &impl Abort, alloc: Global, text: &str) -> RouteTable {
     let mut table = RouteTable::new(alloc).expect(rt, "a table");
     for words in text.split_terminator(',') {
@@ -60,7 +60,7 @@ pub(crate) fn table(rt: &impl Abort, alloc: Global, text: &str) -> RouteTable {
     table
 }
 
-/// A route with the default preference is added.
+/// Adds a route with the default preference.
 pub(crate) fn put(rt: &impl Abort, table: &mut RouteTable, text: &str, hop: Hop) {
     let _ = table.add(net(rt, text), hop, 100).expect(rt, text);
 }

@@ -15,5 +15,6 @@ returns-in-Ok g c =
         value = value_after c.args.self.map.now.entries _ _ c.path_of-path.result c.args.value e f _ c.value_mut.ensures.value;
         full = tt;
         value_returned = tt;
+        absent = tt;
       },
     )

@@ -5,4 +5,4 @@ use Rattle.route_lines.proofs.Replies.{replies}
 use Rattle.route_lines.proofs.reply.Reply.print_to.Goals as goal
 
 pub returns : goal.returns
-returns c = printed reply_text _ _ replies (prints _ c.requires c.print_words.ensures.words) (search rules) (search rules)
+returns g c = printed reply_text _ _ replies (prints _ c.requires.printable c.print_words.ensures.words) (search rules) (search rules)

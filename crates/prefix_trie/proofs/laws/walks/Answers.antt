@@ -1,0 +1,5 @@
+use Rattle.prefix_trie.proofs.Ascending.{strings_ascend}
+use Rattle.prefix_trie.proofs.laws.walks.Goals as goal
+
+pub returns : goal.returns
+returns c = record { order = strings_ascend }
