@@ -1,4 +1,4 @@
-"""The common part of the recipes. An environment variable may name a program; the default is the tree's, or else the one in PATH."""
+"""The common part of the recipes. A program is the one that the environment names, else the tree's, else the one in PATH."""
 import contextlib
 import fcntl
 import ipaddress
@@ -313,8 +313,8 @@ class Numbers:
         return {str(number): name for name, number in self.of_name.items()}
 
     def keep(self, lines):
-        """These lines `add NET NUMBER ..`, once the file has their names. If another run has added names since this one read the file,
-        they keep their numbers, and new names of this run get others."""
+        """Returns these lines `add NET NUMBER ..`, once the file has their names. If another run has added names since this run read
+        the file, they keep their numbers, and new names of this run get other numbers."""
         with locked(self.path):
             now = Numbers(self.path)
             moved = {str(number): str(now[name]) for name, number in self.of_name.items() if now[name] != number}
@@ -322,7 +322,7 @@ class Numbers:
         return [renumbered(line, moved) for line in lines] if moved else lines
 
     def write(self):
-        """The new file takes the old one's place in one step."""
+        """Replaces the old file with the new one in one step."""
         new = f"{self.path}.new"
         try:
             with naming(new), open(new, "w") as file:
