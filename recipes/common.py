@@ -42,13 +42,22 @@ def fault(text):
     sys.exit(f"{NAME}: {text}")
 
 
+def installed_usage(usage):
+    """The usage with the names that `./install recipes` gives, if the recipe runs under such a name."""
+    if not NAME.startswith("jolmidda-"):
+        return usage
+    return re.sub(r"recipes/([a-z-]+)(?![\w.-])", r"jolmidda-\1", usage).replace(" recipes/", f" {HERE}/")
+
+
 def run(main):
     """Runs a recipe. For a file that can't be opened it prints the name, and for wrong arguments the usage."""
     signal.signal(signal.SIGTERM, lambda *_: fault("ended by a signal"))
-    usage = sys.modules["__main__"].__doc__
+    usage = installed_usage(sys.modules["__main__"].__doc__)
     try:
         if sys.argv[1:] in (["--help"], ["-h"]):
             print(usage)
+        elif sys.argv[1:2] == ["check"] and not (HERE.parent / "examples").exists():
+            fault("the check needs the repository of Jolmidda")
         elif main(*sys.argv[1:]) is False:
             sys.exit(usage)
     except OSError as error:
