@@ -1,5 +1,6 @@
-"""The common part of the recipes. The environment variable ROUTES names the program; the default is the tree's ./routes."""
+"""The common part of the recipes. A program is the one that the environment names, else the tree's, else the one in PATH."""
 import contextlib
+import fcntl
 import ipaddress
 import itertools
 import os
@@ -15,7 +16,16 @@ import time
 from pathlib import Path
 
 HERE = Path(__file__).resolve().parent
-PROGRAM = os.environ.get("ROUTES", str(HERE.parent / "routes"))
+
+
+def program(variable, name, path):
+    path = HERE.parent / path
+    return os.environ.get(variable) or (str(path) if path.is_file() else name)
+
+
+PROGRAM = program("ROUTES", "routes", "routes")
+INSTALLER = program("ROUTES_FIB", "routes_fib", "routes_fib")
+FIB_KERNEL = program("FIB_KERNEL", "fib_kernel", "netlink/out/fib_kernel")
 NAME = Path(sys.argv[0]).name
 NETWORK = re.compile(r"[0-9a-f:.]+/[0-9]+")
 ANY = re.compile("[^\r]*")
@@ -45,13 +55,24 @@ def run(main):
         fault(f"{error.filename}: {error.strerror}" if error.filename else error)
 
 
+@contextlib.contextmanager
+def naming(path):
+    """A fault of a write, as on a full disk, names the file."""
+    try:
+        yield
+    except OSError as error:
+        raise OSError(error.errno, error.strerror, path) from error
+
+
 def text(lines):
     return "".join(f"{line}\n" for line in lines)
 
 
 def put(lines):
     """Writes all lines; to be called when no more faults are possible."""
-    sys.stdout.write(text(lines))
+    with naming("standard output"):
+        sys.stdout.write(text(lines))
+        sys.stdout.flush()
 
 
 def pass_over(text):
@@ -122,6 +143,17 @@ def refused(*command, given="", **where):
     if done.returncode != 1 or len(done.stderr.splitlines()) != 1 or done.stdout:
         fault(f"{' '.join(command)} took what it mustn't, or said more than a line: {done.stderr}")
     return done.stderr.strip()
+
+
+def full_disk(folder, command, given):
+    """The one line in which a command says that there is no room for a file. It works in a file system of 32 kB."""
+    if subprocess.run(["unshare", "-rm", "true"], capture_output=True).returncode:
+        return print("passed over: a full disk, since no mount namespace can be made")
+    os.makedirs(folder, exist_ok=True)
+    said = refused("unshare", "-rm", "sh", "-c", f'mount -t tmpfs -o size=32k none "{folder}" && cd "{folder}" && {command}', given=given)
+    if ": No space left on device" not in said or "Errno" in said:
+        fault(f"{command}: {said}")
+    return print("refused:", said)
 
 
 def timed(work, *given, **more):
@@ -237,6 +269,18 @@ def replies_of(file):
 
 
 
+@contextlib.contextmanager
+def locked(path):
+    """Until the end no other run has the file. Another file may have taken its place while this one waited."""
+    is_ours = False
+    while not is_ours:
+        with open(path, "a") as file:
+            fcntl.flock(file, fcntl.LOCK_EX)
+            is_ours = os.path.exists(path) and os.path.samestat(os.fstat(file.fileno()), os.stat(path))
+            if is_ours:
+                yield
+
+
 class Numbers:
     """A file of lines `NUMBER NAME` for all runs: a name keeps its number, and a new name gets the next number."""
 
@@ -259,11 +303,30 @@ class Numbers:
     def names(self):
         return {str(number): name for name, number in self.of_name.items()}
 
-    def keep(self):
-        """Replaces the old file with the new one in one step."""
-        with open(f"{self.path}.new", "w") as file:
-            file.writelines(f"{number} {name}\n" for name, number in self.of_name.items())
-        os.replace(f"{self.path}.new", self.path)
+    def keep(self, lines):
+        """These lines `add NET NUMBER ..`, once the file has their names. If another run has added names since this one read the file,
+        they keep their numbers, and new names of this run get others."""
+        with locked(self.path):
+            now = Numbers(self.path)
+            moved = {str(number): str(now[name]) for name, number in self.of_name.items() if now[name] != number}
+            now.write()
+        return [renumbered(line, moved) for line in lines] if moved else lines
+
+    def write(self):
+        """The new file takes the old one's place in one step."""
+        new = f"{self.path}.new"
+        try:
+            with naming(new), open(new, "w") as file:
+                file.writelines(f"{number} {name}\n" for name, number in self.of_name.items())
+        except OSError:
+            Path(new).unlink(missing_ok=True)
+            raise
+        os.replace(new, self.path)
+
+
+def renumbered(line, moved):
+    add, network, hop, *rest = line.split(" ")
+    return " ".join([add, network, moved.get(hop, hop), *rest])
 
 
 def differing(old, new):

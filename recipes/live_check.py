@@ -1,0 +1,896 @@
+"""Drives a kernel in network namespaces by routes_fib and fib_kernel, and asks it between single operations. `recipes/live check` runs this."""
+import contextlib
+import ctypes
+import ipaddress
+import os
+import random
+import re
+import resource
+import signal
+import socket
+import struct
+import subprocess
+import sys
+import tempfile
+import threading
+import time
+from collections import Counter
+from pathlib import Path
+
+from common import FIB_KERNEL, INSTALLER, PROGRAM, Page, any_addresses, bird, fault, namespace, needs, refused, same, text, tool
+
+
+def inside(own):
+    """The words that run a command in this namespace."""
+    return ["nsenter", f"--net=/run/netns/{own}"]
+
+
+class Kernel:
+    """The table 77 of a namespace, by `fib_kernel`, which carries out one operation after another."""
+
+    def __init__(self, own, hops):
+        self.own, self.hops = own, hops
+        self.process = subprocess.Popen([*inside(own), FIB_KERNEL, "load", hops, "77"], stdin=subprocess.PIPE, stdout=subprocess.PIPE,
+                                        text=True)
+
+    def have(self):
+        *have, end = tool(*inside(self.own), FIB_KERNEL, "list", self.hops, "77").splitlines()
+        same("the end of a list", end, "ok")
+        return have
+
+    def carry_out(self, batch):
+        """Once its `ok` has come back."""
+        self.process.stdin.write(text([*batch, "ok"]))
+        self.process.stdin.flush()
+        same("the end of a batch", self.process.stdout.readline(), "ok\n")
+
+    def close(self):
+        self.process.stdin.close()
+        same("the status of fib_kernel", self.process.wait(), 0)
+        self.process.stdout.close()
+
+
+def batches(file):
+    """The batches of an installer, each once its `ok` has come."""
+    batch = []
+    for line in file:
+        if line == "ok\n":
+            yield batch
+            batch = []
+        else:
+            batch.append(line[:-1])
+
+
+class Asked:
+    """The kernel of a namespace, asked by rtnetlink: the hop that it takes for an address, None where it drops or has no route."""
+
+    def __init__(self, own):
+        self.socket, self.count = socket_in(own), 0
+
+    def ask(self, addresses):
+        """The hops of these packed addresses."""
+        found = []
+        for at in range(0, len(addresses), 64):
+            part = addresses[at:at + 64]
+            for address in part:
+                self.socket.send(question(address))
+            found += [answer(self.socket.recv(8192)) for _ in part]
+        self.count += len(addresses)
+        return found
+
+
+def socket_in(own):
+    """A socket of this namespace. The thread is in its own one again then."""
+    library = ctypes.CDLL(None, use_errno=True)
+    with open("/proc/thread-self/ns/net") as home, open(f"/run/netns/{own}") as there:
+        same("setns", library.setns(there.fileno(), 0), 0)
+        made = socket.socket(socket.AF_NETLINK, socket.SOCK_RAW, socket.NETLINK_ROUTE)
+        same("setns", library.setns(home.fileno(), 0), 0)
+    made.bind((0, 0))
+    return made
+
+
+def question(address):
+    """RTM_GETROUTE with the address that a packet goes to."""
+    family, bits = (socket.AF_INET, 32) if len(address) == 4 else (socket.AF_INET6, 128)
+    asked = struct.pack("=8BI", family, bits, 0, 0, 0, 0, 0, 0, 0) + struct.pack("=HH", 4 + len(address), 1) + address
+    return struct.pack("=IHHII", 16 + len(asked), 26, 1, 1, 0) + asked
+
+
+def answer(told):
+    """The last byte of the gateway is the number of the hop here. An error, RTN_BLACKHOLE and the like are None."""
+    length, kind = struct.unpack_from("=IH", told)
+    if kind == 2 or told[23] != 1:
+        return None
+    at = 28
+    while at + 4 <= length:
+        size, name = struct.unpack_from("=HH", told, at)
+        if name in (5, 18):  # RTA_GATEWAY, RTA_VIA
+            return told[at + size - 1]
+        at += size + 3 & ~3
+    return None
+
+
+def packed(address):
+    return ipaddress.ip_address(address).packed
+
+
+def edges(networks):
+    """The first and the last address of each network, and the addresses beside it."""
+    found = set()
+    for network in map(ipaddress.ip_network, networks):
+        first, last = int(network.network_address), int(network.broadcast_address)
+        size = network.max_prefixlen // 8
+        found |= {at.to_bytes(size, "big") for at in (first - 1, first, last, last + 1) if 0 <= at < 1 << 8 * size}
+    return found
+
+
+def usable(address):
+    """The kernel has rules of its own on 0/8, 127/8, 224/3, ::/8 and ff00::/8."""
+    return address[0] not in (0, 127) and address[0] >> 5 != 7
+
+
+class Leader:
+    """A leader, command by command."""
+
+    def __init__(self):
+        self.process = subprocess.Popen([PROGRAM, "lead"], stdin=subprocess.PIPE, stdout=subprocess.PIPE, text=True)
+
+    def give(self, command):
+        self.process.stdin.write(command + "\n")
+        self.process.stdin.flush()
+
+    def reply(self):
+        lines = []
+        while not lines or lines[-1] not in ("ok", "none", "bad", "refused"):
+            lines.append(self.process.stdout.readline()[:-1])
+        return lines
+
+    def hops(self, addresses):
+        """What `get` answers for these packed addresses."""
+        found = []
+        for at in range(0, len(addresses), 64):
+            part = addresses[at:at + 64]
+            for address in part:
+                self.give(f"get {ipaddress.ip_address(address)}/{8 * len(address)}")
+            for reply in (self.reply() for _ in part):
+                hop = reply[0].split()[2] if reply[0].startswith("route ") else "drop"
+                found.append(None if hop == "drop" else int(hop))
+        return found
+
+    def close(self):
+        self.process.stdin.close()
+        self.process.wait()
+
+
+class Installer:
+    """An installer, line by line."""
+
+    def __init__(self, lines):
+        self.process = subprocess.Popen([INSTALLER], stdin=subprocess.PIPE, stdout=subprocess.PIPE, text=True)
+        self.give(*lines)
+
+    def give(self, *lines):
+        self.process.stdin.write(text(lines))
+        self.process.stdin.flush()
+
+    def batch(self):
+        return next(batches(self.process.stdout), None)
+
+    def close(self):
+        self.process.stdin.close()
+        same("operations without an end", [self.process.stdout.read(), self.process.wait()], ["", 0])
+
+
+class Session:
+    """A leader, an installer and a kernel, which is asked after each single operation."""
+
+    def __init__(self, own, hops, points):
+        self.kernel, self.asked = Kernel(own, hops), Asked(own)
+        self.leader, self.log, self.points = Leader(), [], points
+        self.counts, self.installer, self.told = Counter(), None, set()
+
+    def start(self):
+        self.have = self.kernel.have()
+        self.installer = Installer([*self.have, *self.log])
+        return self.sync()
+
+    def sync(self):
+        self.installer.give("sync")
+        return self.installer.batch()
+
+    def change(self, command):
+        """The batch of a command, None where its reply changes nothing."""
+        self.leader.give(command)
+        reply = self.leader.reply()
+        self.log += reply
+        if self.installer:
+            self.installer.give(*reply)
+            if reply[-1] == "ok" and len(reply) > 1:
+                return self.installer.batch()
+        return None
+
+    def carry_out(self, batch, most=None):
+        """One operation at a time. How many addresses turned; none may turn twice, and in the end all have the leader's hops."""
+        networks = [operation.split()[1] for operation in batch]
+        points = list(self.points | {point for point in edges(networks) if usable(point)})
+        first = last = self.asked.ask(points)
+        turns = [0] * len(points)
+        for operation in batch[:most]:
+            self.kernel.carry_out([operation])
+            now = self.asked.ask(points)
+            turns = [count + (a != b) for count, a, b in zip(turns, last, now)]
+            last = now
+        self.counts.update(batches=1, operations=len(batch[:most]), turned=turns.count(1), twice=sum(count > 1 for count in turns))
+        hops = self.leader.hops(points)
+        if most is None:
+            self.counts["wrong"] += sum(a != b for a, b in zip(last, hops))
+            return turns.count(1)
+        return sum(a not in (b, c) for a, b, c in zip(last, first, hops))
+
+    def stop(self):
+        self.installer.close()
+        self.installer = None
+
+    def close(self):
+        self.leader.close()
+        self.kernel.close()
+
+
+DRAWN = random.Random(1)
+HOPS = (1, 2, 3, 4)
+MOST_TIME, MOST_MEMORY = 40, 4096  # us of the processor for an operation, on a busy machine, and kB
+
+
+def networks(count):
+    """Nested ones of both families, many with first or last addresses in common."""
+    found = []
+    for at in range(count):
+        if at % 2:
+            length = DRAWN.choice((8, 9, 10, 12, 14, 16, 16, 18, 20, 22, 24, 24, 28, 32))
+            number, size = 20 << 24 | DRAWN.getrandbits(24) & 0xFF7FFF, 4
+        else:
+            length = DRAWN.choice((16, 20, 24, 28, 32, 32, 36, 40, 44, 48, 48, 56, 64, 128))
+            number, size = 0x2A00 << 112 | DRAWN.getrandbits(112) & ~((1 << 60) - 1 << 40), 16
+        found.append(str(ipaddress.ip_network((number.to_bytes(size, "big"), length), strict=False)))
+    return sorted(set(found))
+
+
+class Changes:
+    """Random commands on these networks, which know what is stored."""
+
+    def __init__(self, nets):
+        self.nets, self.held = nets, {}
+
+    def __next__(self):
+        while True:
+            net = DRAWN.choice(self.nets)
+            of_net = self.held.setdefault(net, set())
+            hop = DRAWN.choice((*HOPS, *HOPS, "drop"))
+            if hop in of_net and DRAWN.random() < 0.7:
+                of_net.remove(hop)
+                return f"del {net} {hop}"
+            if len(of_net) < 3:
+                of_net.add(hop)
+                return f"add {net} {hop} {DRAWN.choice((50, 100, 200))}"
+
+
+def table_of(have):
+    return {line.split()[1]: line.split()[2] for line in have}
+
+
+def installed(table, batch):
+    """A table after these operations."""
+    for operation in batch:
+        word, network, *hop = operation.split()
+        if word == "install":
+            table[network] = hop[0]
+        else:
+            del table[network]
+    return table
+
+
+RULES = [f"-{family} {what}" for family in (4, 6) for what in (
+    "rule add lookup 77", "route replace blackhole default metric 4294967295 table 77")]
+
+
+def check_single(own, hops):
+    """Changes, restarts and a sync, one operation at a time."""
+    nets = networks(120)
+    points = {point for point in edges(nets) | set(map(packed, any_addresses(40))) if usable(point)}
+    session, changes = Session(own, hops, points), Changes(nets)
+    for _ in range(150):
+        session.change(next(changes))
+    old = [f"install {net} {DRAWN.choice((*HOPS, 'drop'))}" for net in DRAWN.sample(nets, len(nets) // 2)]
+    session.kernel.carry_out(old)
+    first = session.start()
+    table = installed(table_of(session.have), first)
+    turned = session.carry_out(first)
+    same("the kernel's list", table_of(session.kernel.have()), table)
+    print(f"{len(session.have)} routes were installed; the first `sync` took {len(first)} operations, {turned:,} addresses turned")
+    seen = 0
+    for at in range(1, 241):
+        batch = session.change(next(changes))
+        if batch is not None:
+            installed(table, batch)
+            session.carry_out(batch)
+        if at % 80 == 0:
+            again = session.sync()
+            installed(table, again)
+            seen += session.carry_out(again)
+            same("the kernel's list", table_of(session.kernel.have()), table)
+    same("addresses that a later `sync` turned", seen, 0)
+    part_of_a_reply(session, changes, table)
+    many_blocks(session, table)
+    told(session, "changes, four more times `sync`, one amid a reply, and replies of more than 256 blocks")
+    return session, changes, nets
+
+
+def many_blocks(session, table):
+    """Routes around many networks come and go. So many blocks change that a least table takes the place of what is installed."""
+    inner = [f"21.{DRAWN.randrange(256)}.{DRAWN.randrange(256)}.0/24" for _ in range(40)]
+    inner += [f"2b00:{DRAWN.randrange(1 << 16):x}:{DRAWN.randrange(1 << 16):x}::/48" for _ in range(20)]
+    around = ("add 21.0.0.0/8 3", "add 2b00::/16 3", "del 21.0.0.0/8 3", "del 2b00::/16 3")
+    for command in (*(f"add {net} 1" for net in inner), *around):
+        before = len(session.log)
+        batch = session.change(command)
+        if batch is not None:
+            session.carry_out(batch)
+            same("the kernel's list", table_of(session.kernel.have()), installed(table, batch))
+        session.counts["most"] = max(session.counts["most"], len(session.log) - before - 1)
+    if session.counts["most"] <= 256:
+        fault("no reply has so many blocks")
+
+
+def part_of_a_reply(session, changes, table):
+    """A `sync` amid a reply: its changes wait until it is closed."""
+    while True:
+        session.leader.give(next(changes))
+        reply = session.leader.reply()
+        session.log += reply
+        if len(reply) > 2 and reply[-1] == "ok":
+            break
+        session.installer.give(*reply)
+        if len(reply) == 2:
+            batch = session.installer.batch()
+            installed(table, batch)
+            session.carry_out(batch)
+    before = session.asked.ask(list(session.points))
+    session.installer.give(*reply[:-2])
+    batch = session.sync()
+    installed(table, batch)
+    session.kernel.carry_out(batch)
+    same("hops amid a reply", session.asked.ask(list(session.points)), before)
+    session.installer.give(*reply[-2:])
+    batch = session.installer.batch()
+    session.carry_out(batch)
+    same("the kernel's list", table_of(session.kernel.have()), installed(table, batch))
+
+
+def told(session, what):
+    counts = session.counts
+    print(f"{what}: {counts['operations']:,} operations in {counts['batches']:,} batches, one at a time; {session.asked.count:,} "
+          f"answers of the kernel, {counts['turned']:,} addresses turned once in a batch, {counts['twice']} more often, "
+          f"{counts['wrong']} had another hop than `get` in the end")
+    same("addresses that turned twice, and that were wrong", [counts["twice"], counts["wrong"]], [0, 0])
+
+
+def check_restarts(session, changes):
+    """A batch is cut off, and a link goes down, which takes routes out of the kernel and tells of none."""
+    kernel, ip = session.kernel, ("ip", "-n", session.kernel.own)
+    session.stop()
+    for _ in range(150):
+        session.change(next(changes))
+    batch = session.start()
+    odd = session.carry_out(batch, len(batch) * 2 // 5)
+    session.stop()
+    again = session.start()
+    session.carry_out(again)
+    same("a hop that is neither the old one nor the new one", odd, 0)
+    print(f"cut off after {len(batch) * 2 // 5} of {len(batch)} operations; the restart took {len(again)}")
+    session.stop()
+    before = len(kernel.have())
+    tool(*ip, "link", "set", "lan", "down")
+    down = len(kernel.have())
+    tool(*ip, "link", "set", "lan", "up")
+    up = session.start()
+    session.carry_out(up)
+    print(f"a link went down, and of {before} routes {down} stayed; once it was up again the restart took {len(up)} operations")
+    told(session, "with both restarts")
+    session.stop()
+
+
+class Watch(threading.Thread):
+    """Asks these addresses over and over, and keeps the hops of each in order."""
+
+    def __init__(self, own, points):
+        super().__init__(daemon=True)
+        self.asked, self.points, self.ended = Asked(own), points, threading.Event()
+        self.seen, self.rounds = [[] for _ in points], 0
+
+    def run(self):
+        is_last = False
+        while not is_last:
+            is_last = self.ended.is_set()
+            for seen, hop in zip(self.seen, self.asked.ask(self.points)):
+                if not seen or seen[-1] != hop:
+                    seen.append(hop)
+            self.rounds += 1
+
+    def end(self):
+        self.ended.set()
+        self.join()
+
+
+def is_part(part, whole):
+    """Whether these are some of the others, in their order."""
+    rest = iter(whole)
+    return all(one in rest for one in part)
+
+
+@contextlib.contextmanager
+def kept(own, hops, log, folder):
+    """`keep`, in the background, once its first `sync` is carried out. Its lines on standard error are printed in the end."""
+    said = Path(folder, "said")
+    with open(said, "w") as file:
+        process = subprocess.Popen([*inside(own), sys.argv[0], "keep", hops, "77", log], stderr=file)
+        try:
+            wait_for("the first sync", lambda: "first `sync`" in said.read_text())
+            yield process
+        finally:
+            process.terminate()
+            process.wait()
+    for line in said.read_text().splitlines():
+        if "first `sync`" not in line and not line.endswith("ended by a signal"):
+            print(f"said: {line}")
+
+
+def wait_for(what, holds):
+    for _ in range(300):
+        if holds():
+            return
+        time.sleep(0.1)
+    fault(f"waited for {what}")
+
+
+def check_kept(own, hops, nets, folder):
+    """The whole chain at full speed, the kernel asked meanwhile; a restart, a link that goes down, and `sync` on demand."""
+    log, changes = f"{folder}/log", Changes(nets)
+    Path(log).write_text("")
+    points = [point for point in edges(nets) if usable(point)][:300]
+    leader, file = Leader(), open(log, "a")
+    states = [[None] for _ in points]
+
+    def change():
+        leader.give(next(changes))
+        file.write(text(leader.reply()))
+        file.flush()
+        for state, hop in zip(states, leader.hops(points)):
+            if state[-1] != hop:
+                state.append(hop)
+
+    asked = Asked(own)
+    with kept(own, hops, log, folder) as process:
+        wait_for("an empty table", lambda: asked.ask(points) == [None] * len(points))
+        watch = Watch(own, points)
+        watch.start()
+        for at in range(300):
+            change()
+            if at % 100 == 99:
+                process.send_signal(signal.SIGHUP)
+        wait_for("the leader's hops", lambda: asked.ask(points) == leader.hops(points))
+        watch.end()
+        wrong = [found for found in zip(watch.seen, states) if not is_part(*found)]
+        same("hops that the leader did not tell in this order", wrong[:3], [])
+        print(f"`keep` carried 300 commands out; meanwhile {len(points)} addresses were asked {watch.rounds} times each, and had "
+              f"{sum(map(len, watch.seen)):,} hops one after another, of the {sum(map(len, states)):,} that the leader told, in its order")
+        tool("ip", "-n", own, "link", "set", "lan", "down")
+        change()
+        tool("ip", "-n", own, "link", "set", "lan", "up")
+        wait_for("the leader's hops after a link went down", lambda: asked.ask(points) == leader.hops(points))
+        process.kill()
+        for _ in range(50):
+            change()
+    with kept(own, hops, log, folder):
+        wait_for("the leader's hops after a kill", lambda: asked.ask(points) == leader.hops(points))
+    print("after a link went down and up, and after `keep` was killed and begun again, the kernel had the leader's hops")
+    file.close()
+    leader.close()
+
+
+@contextlib.contextmanager
+def background(page):
+    """The next block of the page, whose processes go on until the end."""
+    command = ["bash", "-euo", "pipefail", "-c", page.text()]
+    shell = subprocess.Popen(command, start_new_session=True, stdout=subprocess.DEVNULL, stderr=subprocess.DEVNULL, **page.where())
+    try:
+        yield shell
+    finally:
+        os.killpg(shell.pid, signal.SIGTERM)
+        shell.wait()
+
+
+def show(page):
+    return "".join(f"{line.strip()}\n" for line in page.run("ip route show table 77").splitlines())
+
+
+def shows(page, wanted=None):
+    """The kernel's table is the next block, or this, soon."""
+    wanted = wanted or page.text()
+    wait_for(f"the table {wanted}, and there is {show(page)}", lambda: show(page) == wanted)
+
+
+START = 'log "/dev/null" all;\nrouter id 192.0.2.254;\nprotocol device { }\n'
+STATIC = "protocol static {} {{ ipv4 {{ preference {}; }}; route {}; }}\n"
+WEST = STATIC.format("west", 100, "198.51.100.0/24 via 192.0.2.2")
+EAST = STATIC.format("east", 200, "198.51.100.0/24 via 192.0.2.1")
+
+
+@contextlib.contextmanager
+def page_of(folder, own, control):
+    page = Page(f"{folder}/page", ip=f'{{}} -n {own} "$@"', birdc=f'{{}} -s "{control}" "$@"',
+                fib_kernel=" ".join([*inside(own), FIB_KERNEL, '"$@"']))
+    os.symlink(INSTALLER, f"{page.folder}/bin/routes_fib")
+    before = os.environ.get("FIB_KERNEL")
+    os.environ["FIB_KERNEL"] = f"{page.folder}/bin/fib_kernel"
+    try:
+        yield page
+    finally:
+        del os.environ["FIB_KERNEL"]
+        os.environ |= {"FIB_KERNEL": before} if before else {}
+
+
+def check_page(folder):
+    """The page's example, its two sources of commands, and a leader's restart."""
+    lines = ("address add 192.0.2.254/24 dev lan", "address add 2001:db8:5::254/64 dev lan nodad",
+             "route add default via 192.0.2.1", "route add default via 2001:db8:5::1")
+    with namespace(*lines) as own, bird(folder, START + WEST + EAST, *inside(own)) as control, page_of(folder, own, control) as page:
+        page.text("hops")
+        page.text("commands")
+        with background(page), contextlib.ExitStack() as others:
+            wait_for("the log", lambda: page.run("cat log").count("ok\n") == 3)
+            others.enter_context(background(page))
+            shows(page)
+            check_rules(page)
+            page.run()
+            shows(page)
+            page.gives(page.run())
+            check_bird(folder, page, control)
+            check_monitor(page)
+            restart = others.enter_context(background(page))
+            check_restart(page, restart)
+        page.end()
+
+
+def check_restart(page, restart):
+    """The log has the whole history again, and the kernel the same table; then one more command."""
+    same("the status of the restart", restart.wait(), 0)
+    page.run("echo 'add 10.192.0.0/10 1 200' >> commands")
+    wait_for("the command after a restart", lambda: "10.192.0.0/10 via 192.0.2.1" in show(page))
+
+
+def way_out(page, address, *how):
+    done = subprocess.run(["bash", "-c", f"ip route get {address} {' '.join(how)}"], capture_output=True, text=True, **page.where())
+    words = done.stdout.split()
+    return done.stderr.strip() or " ".join(words[words.index("dev") - 2 * ("via" in words):words.index("dev") + 2])
+
+
+def check_rules(page):
+    """Connected networks stay reachable when the page's rules come, and the leader's routes are used."""
+    page.run()
+    for address, expected in (("192.0.2.7", "dev lan"), ("2001:db8:5::7", "dev lan"), ("10.64.0.1", "via 192.0.2.1 dev lan"),
+                              ("10.1.0.1", "via 192.0.2.2 dev lan")):
+        found = way_out(page, address)
+        if not found.endswith(expected):
+            fault(f"{address}: {found}, and not {expected}")
+    same("an address without a hop", "Invalid argument" in way_out(page, "198.51.100.1"), True)
+    page.run("ip rule del pref 101; ip rule add pref 101 iif lan lookup 77")
+    same("the machine's own packets", way_out(page, "198.51.100.1"), "via 192.0.2.1 dev lan")
+    same("forwarded packets", "Invalid argument" in way_out(page, "198.51.100.1", "from 192.0.2.7 iif lan"), True)
+
+
+def check_bird(folder, page, control):
+    """A route of BIRD's comes, and the next takes over."""
+    before, of_bird = show(page), "198.51.100.0/24 via 192.0.2.{} dev lan proto 77\n"
+    with background(page):
+        shows(page, before + of_bird.format(1))
+        Path(folder, "bird.conf").write_text(START + WEST)
+        tool("birdc", "-s", control, "configure")
+        shows(page, before + of_bird.format(2))
+
+
+def check_monitor(page):
+    """Routes of the table `main` come and change; a connected one is the first."""
+    needs("jq", "jq")
+    before, of_bird = show(page).split("198", 1)
+    before += "192.0.2.0/24 dev lan proto 77 scope link\n198" + of_bird
+    other = "203.0.113.0/24 via 192.0.2.{} dev lan proto 77\n"
+    page.run("ip route add 203.0.113.0/24 via 192.0.2.1 dev lan")
+    with background(page):
+        shows(page, before + other.format(1))
+        page.run("ip route replace 203.0.113.0/24 via 192.0.2.2 dev lan")
+        shows(page, before + other.format(2))
+    print("the page: commands from a file, from BIRD and from the kernel's table `main`")
+
+
+LAN = ("address add 192.0.2.254/24 dev lan", "rule add pref 100 lookup main suppress_prefixlength 0", "rule add pref 101 lookup 77")
+
+
+def put_log(log, *changes):
+    """Adds a reply with these changes to a log."""
+    with open(log, "a") as file:
+        file.write(text([*changes, "ok"]))
+
+
+class Small:
+    """A namespace, in which `keep` follows a log."""
+
+    def __init__(self, own, folder, keep):
+        self.own, self.log, self.hops, self.keep, self.asked = own, f"{folder}/log", f"{folder}/hops", keep, Asked(own)
+        self.said = Path(folder, "said")
+
+    def ip(self, line):
+        tool("ip", "-n", self.own, *line.split())
+
+    def hops_of(self, *addresses):
+        return self.asked.ask([packed(address) for address in addresses])
+
+    def wait(self, **hops):
+        """Until 10.N.0.1 has this hop for each word _N. 0 is none."""
+        addresses = [f"10.{name[1:]}.0.1" for name in hops]
+        wait_for(f"{hops}, and there is {self.hops_of(*addresses)}", lambda: [hop or 0 for hop in self.hops_of(*addresses)] == [*hops.values()])
+
+
+@contextlib.contextmanager
+def small(folder, *lines, log=(), hops=("1 via 192.0.2.1 dev lan", "2 via 192.0.2.2 dev lan", "3 via 203.0.113.3 dev lan")):
+    """These lines for `ip`, these changes in the log."""
+    with namespace(*LAN, *lines) as own, tempfile.TemporaryDirectory(dir=folder) as place:
+        Path(place, "hops").write_text(text(hops))
+        put_log(f"{place}/log", *log)
+        with kept(own, f"{place}/hops", f"{place}/log", place) as process:
+            yield Small(own, place, process)
+
+
+def check_refused(folder):
+    """a next hop that the kernel refuses stops no other route, and is used once it is reachable, though no event and no line comes"""
+    good = {f"_{at}": 2 for at in range(1, 11)}
+    with small(folder, log=("set 10.200.0.0/16 3", *(f"set 10.{name[1:]}.0.0/16 2" for name in good))) as chain:
+        chain.wait(_200=0, **good)
+        line = "install 10.200.0.0/16 3 (via 203.0.113.3 dev lan): Nexthop has invalid gateway: Network is unreachable (ENETUNREACH)"
+        same("the refused install", line in chain.said.read_text(), True)
+        chain.ip("route add 203.0.113.3 dev lan")
+        chain.wait(_200=3)
+        put_log(chain.log, "set 10.201.0.0/16 9", "set 10.202.0.0/16 1")
+        chain.wait(_201=0, _202=1)
+        with open(chain.hops, "a") as file:
+            file.write("9 via 192.0.2.9 dev lan\n")
+        chain.wait(_201=9)
+
+
+def check_silent(folder):
+    """after the end of one of its programs `keep` begins again, though the log is silent; after a kill of `keep` none is left"""
+    with small(folder, log=("set 10.1.0.0/16 1",)) as chain:
+        for at in range(3):
+            chain.wait(_1=1)
+            before = children(chain.keep.pid)
+            os.kill(before[at], signal.SIGKILL)
+            wait_for("three other programs", lambda: len(set(children(chain.keep.pid)) - set(before)) == 3)
+        chain.wait(_1=1)
+        left = children(chain.keep.pid)
+        chain.keep.kill()
+        wait_for("the end of the programs", lambda: not any(map(is_running, left)))
+
+
+def children(pid):
+    return [int(child) for child in Path(f"/proc/{pid}/task/{pid}/children").read_text().split()]
+
+
+def is_running(pid):
+    with contextlib.suppress(FileNotFoundError, ProcessLookupError):
+        return Path(f"/proc/{pid}/stat").read_text().rpartition(")")[2].split()[0] != "Z"
+    return False
+
+
+def check_events(folder):
+    """each event after which the kernel has lost routes without notice, or another program has changed the table"""
+    nexthop = "nexthop replace id 2 via 192.0.2.2 dev lan"
+    with small(folder, nexthop, hops=("1 via 192.0.2.1 dev lan", "2 nhid 2"), log=("set 10.1.0.0/16 1", "set 10.2.0.0/16 2")) as chain:
+        for lines in (("address del 192.0.2.254/24 dev lan", "address add 192.0.2.254/24 dev lan"),
+                      ("nexthop del id 2", nexthop), ("link set lan down", "link set lan up", nexthop),
+                      ("link set far down", "link set far up", nexthop), ("route del 10.1.0.0/16 table 77",),
+                      ("route replace 10.1.0.0/16 via 192.0.2.2 dev lan table 77 proto 77",)):
+            chain.wait(_1=1, _2=2)
+            for line in lines:
+                chain.ip(line)
+            time.sleep(0.2)
+            chain.wait(_1=1, _2=2)
+
+
+def check_shorter(folder):
+    """a leader's restart under a running `keep`: the log is emptied, or another file takes its name; only what differs turns"""
+    log = [f"set 10.{at}.0.0/16 {1 + at % 2}" for at in range(50)]
+    addresses = [f"10.{at}.0.1" for at in range(50)]
+    with small(folder, log=log) as chain:
+        wait_for("all routes", lambda: None not in chain.hops_of(*addresses))
+        for is_new in (False, True):
+            watch = Watch(chain.own, list(map(packed, addresses)))
+            watch.start()
+            wait_for("a round", lambda: watch.rounds)
+            if is_new:
+                os.rename(chain.log, f"{chain.log}.old")
+            Path(chain.log).write_text("")
+            for at in range(0, 49 - is_new, 7):
+                put_log(chain.log, *log[at:min(at + 7, 49 - is_new)])
+                time.sleep(0.1)
+            expected = [1 + at % 2 if at < 49 - is_new else None for at in range(50)]
+            wait_for("the new table", lambda: chain.hops_of(*addresses) == expected)
+            watch.end()
+            same("addresses that turned", [len(seen) > 1 for seen in watch.seen], [at == 49 - is_new for at in range(50)])
+
+
+def check_families(folder):
+    """a family without the table, or that is switched off, does not stop the other one"""
+    with small(folder, "route replace blackhole default metric 4294967295 table 77", log=("set 10.1.0.0/16 1",)) as chain:
+        chain.wait(_1=1)
+        tool(*inside(chain.own), "sysctl", "-q", "-w", "net.ipv6.conf.all.disable_ipv6=1")
+        put_log(chain.log, "set 10.2.0.0/16 1")
+        chain.wait(_2=1)
+
+
+def check_permission(folder):
+    """without the permission `keep` ends at once, though there is nothing to change"""
+    Path(folder, "none").write_text("")
+    with namespace() as own:
+        words = ["setpriv", "--bounding-set", "-all", "--inh-caps", "-all", sys.argv[0], "keep", f"{folder}/none", "77", f"{folder}/none"]
+        done = subprocess.run([*inside(own), *words], capture_output=True, text=True, timeout=10)
+        same("`keep` without the permission", [done.returncode, "CAP_NET_ADMIN" in done.stderr], [1, True])
+
+
+WRONG_HOPS = ("1 192.0.2.1", "1 via 192.0.2.1", "1 via 192.0.2.300 dev lan", "1 dev lan src 192.0.2.1", "1", "", "x dev lan",
+              "4294967295 dev lan", "1 dev lan\r", "1 dev lan\n1 dev far", "1 nexthop dev lan nexthop weight 2")
+WRONG_LINES = ("", "set 10.0.0.0/8 1", "install 10.0.0.0/8", "install 10.0.0.0/33 1", "install 10.0.0.0 1", "remove 10.0.0.0/8 1",
+               "install 10.0.0.0/8 4294967296", "install 10.0.0.0/8 1 2", "install 10.0.0/8 drop", "x" * 70000)
+
+
+def check_lines(folder):
+    """wrong lines, a signal and the end of the parent end fib_kernel as its manual page says"""
+    hops = Path(folder, "wrong")
+    with namespace(*LAN) as own:
+        command = [*inside(own), FIB_KERNEL]
+        for line in WRONG_HOPS:
+            hops.write_text(f"{line}\n")
+            print("refused:", refused(*command, "list", str(hops), "77").replace(folder, "folder"))
+        hops.write_text("1 via 192.0.2.1 dev lan\n")
+        for line in WRONG_LINES:
+            print("refused:", refused(*command, "load", str(hops), "77", given=f"{line}\n")[:100])
+        print("refused:", refused(*command, "list", f"{folder}/nosuch", "77").replace(folder, "folder"))
+        print("refused:", refused(*command, "load", str(hops), "1000"))
+        same("the usage", tool(FIB_KERNEL, "--help").startswith("usage: fib_kernel"), True)
+        same("no arguments", subprocess.run([FIB_KERNEL], capture_output=True).returncode, 2)
+        same("a batch that is cut off", tool(*command, "load", str(hops), "77", given="install 10.1.0.0/16 1\nremove 10.1."), "")
+        same("its route", tool(*command, "list", str(hops), "77"), "have 10.1.0.0/16 1\nok\n")
+        check_ends(own, [*command, "watch", str(hops), "77"])
+
+
+def check_ends(own, command):
+    """A signal, and the end of the parent."""
+    for number in (signal.SIGTERM, signal.SIGINT):
+        process = subprocess.Popen(command, stdin=subprocess.PIPE, stdout=subprocess.PIPE, text=True)
+        same("the list", [process.stdout.readline(), process.stdout.readline()], ["have 10.1.0.0/16 1\n", "ok\n"])
+        process.send_signal(number)
+        same("the status after a signal", process.wait(5), 0)
+    given = ["sh", "-c", 'exec 3<&0; "$@" <&3 & echo $!; wait', "sh", *command]
+    shell = subprocess.Popen(given, stdin=subprocess.PIPE, stdout=subprocess.PIPE, text=True)
+    lines = [shell.stdout.readline() for _ in range(3)]
+    same("a list", "ok\n" in lines, True)
+    pid = int(next(line for line in lines if line.strip().isdigit()))
+    shell.kill()
+    shell.wait()
+    wait_for("the end of fib_kernel after its parent", lambda: not is_running(pid))
+
+
+def drawn_networks(six, count):
+    """Different networks, most of them of a /24 or a /48."""
+    found = {}
+    while len(found) < count:
+        length = DRAWN.choice((32, 40, 44, 48, 48, 48, 64) if six else (16, 19, 20, 21, 22, 23, 24, 24, 24, 24, 24))
+        size, first = (128, 2 << 124) if six else (32, 1 << 29)
+        number = (first | DRAWN.getrandbits(size - 3)) >> size - length << size - length
+        found[str((ipaddress.IPv6Network if six else ipaddress.IPv4Network)((number, length)))] = None
+    return list(found)
+
+
+def peak(pid):
+    """The most memory that a process has had, in kB."""
+    return int(re.search(r"VmHWM:\s+(\d+)", Path(f"/proc/{pid}/status").read_text())[1])
+
+
+def by_netlink(own, hops, batches):
+    """Each batch is given once the `ok` of the batch before has come: microseconds of the processor for an operation, and kB."""
+    process = subprocess.Popen([*inside(own), FIB_KERNEL, "load", hops, "77"], stdin=subprocess.PIPE, stdout=subprocess.PIPE)
+    for batch in batches:
+        process.stdin.write(text([*batch, "ok"]).encode())
+        process.stdin.flush()
+        same("the end of a batch", process.stdout.readline(), b"ok\n")
+    most = peak(process.pid)
+    process.stdin.close()
+    _, status, used = os.wait4(process.pid, 0)
+    process.returncode = status
+    same("the status of fib_kernel", status, 0)
+    process.stdout.close()
+    return 1e6 * (used.ru_utime + used.ru_stime) / sum(map(len, batches)), most
+
+
+def by_ip(own, _, batches):
+    """The same by an `ip -batch -` for each batch. Its memory is at least that of this program."""
+    before = resource.getrusage(resource.RUSAGE_CHILDREN)
+    for batch in batches:
+        lines = (f"route del {words[1]}" if words[0] == "remove" else f"route replace {words[1]} via inet6 fe80::{words[2]} dev lan"
+                 for words in map(str.split, batch))
+        tool("ip", "-n", own, "-batch", "-", given=text(f"{line} proto 77 table 77" for line in lines))
+    after = resource.getrusage(resource.RUSAGE_CHILDREN)
+    return 1e6 * (after.ru_utime - before.ru_utime + after.ru_stime - before.ru_stime) / sum(map(len, batches)), after.ru_maxrss
+
+
+def check_measures(folder):
+    """the processor's time for an operation, and the memory"""
+    hops = f"{folder}/few"
+    Path(hops).write_text(text(f"{hop} via fe80::{hop} dev lan" for hop in HOPS))
+    print("| | us, fib_kernel | kB | us, ip | kB |\n|---|---|---|---|---|")
+    with namespace() as own:
+        for family in (4, 6):
+            nets, figures = drawn_networks(family == 6, 100000), {}
+            lists = {"installs": [f"install {net} {DRAWN.choice(HOPS)}" for net in nets], "removes": [f"remove {net}" for net in nets]}
+            for by, count in ((by_netlink, 10000), (by_ip, 500)):
+                for title, operations in lists.items():
+                    figures[by, f"single {title}"] = by(own, hops, [[operation] for operation in operations[:count]])
+                for title, operations in lists.items():
+                    figures[by, f"{title} in one batch"] = by(own, hops, [operations])
+            for (_, title), (one, kilobytes) in list(figures.items())[:4]:
+                other, more = figures[by_ip, title]
+                print(f"| IPv{family}, {title} | {one:.1f} | {kilobytes:,} | {other:,.1f} | {'' if 'single' in title else f'{more:,}'} |")
+                if one > MOST_TIME or kilobytes > MOST_MEMORY:
+                    fault(f"more than {MOST_TIME} us or {MOST_MEMORY} kB")
+
+
+def check_memory(folder):
+    """next hops of all kinds, and more refused installs than the list has room for"""
+    hops = f"{folder}/many"
+    lines = ["1 via 203.0.113.1 dev lan", "2 via inet6 fe80::2 dev lan onlink", "3 dev lan",
+             "4 nexthop via 192.0.2.4 dev lan weight 3 nexthop via inet6 fe80::4 dev lan"]
+    Path(hops).write_text(text(lines))
+    nets = drawn_networks(False, 60000)
+    with namespace(*LAN) as own:
+        command = [*inside(own), FIB_KERNEL]
+        process = subprocess.Popen([*command, "load", hops, "77"], stdin=subprocess.PIPE, stdout=subprocess.PIPE, stderr=subprocess.PIPE)
+        said = threading.Thread(target=process.stderr.read, daemon=True)
+        said.start()
+        given = [f"install {net} {1 + at % 4}" for at, net in enumerate(nets)]
+        process.stdin.write(text([*given, "ok"]).encode())
+        process.stdin.flush()
+        same("the end of a batch", process.stdout.readline(), b"ok\n")
+        expected = {f"have {net} {'drop' if at % 4 == 0 else 1 + at % 4}" for at, net in enumerate(nets)}
+        found = tool(*command, "list", hops, "77").splitlines()
+        same("the list", [len(found), set(found) - {"ok"} == expected], [len(nets) + 1, True])
+        tool("ip", "-n", own, "route", "add", "203.0.113.1", "dev", "lan")
+        same("the status once more installs are taken than the list has", process.wait(30), 3)
+        print(f"{len(nets):,} installs, of which {len(nets) // 4:,} were refused: status 3 once the kernel takes them")
+
+
+def check():
+    needs("ip", "iproute2")
+    needs(FIB_KERNEL, "libmnl-dev, after which `make -C netlink` builds it,")
+    needs("birdc", "bird2")
+    with tempfile.TemporaryDirectory() as folder:
+        hops = f"{folder}/hops"
+        check_page(folder)
+        for one in (check_lines, check_refused, check_silent, check_events, check_shorter, check_families, check_permission, check_memory,
+                    check_measures):
+            one(folder)
+            print(f"seen: {one.__doc__}")
+        Path(hops).write_text(text(f"{hop} via fe80::{hop} dev lan" for hop in HOPS))
+        with namespace(*RULES) as own:
+            session, changes, nets = check_single(own, hops)
+            check_restarts(session, changes)
+            session.close()
+            check_kept(own, hops, nets, folder)
