@@ -54,7 +54,8 @@ static void take_link(const struct nlmsghdr *head)
     const struct ifinfomsg *link = mnl_nlmsg_get_payload(head);
     const struct nlattr *name = attribute(head, sizeof *link, IFLA_IFNAME);
     const char *text = name ? mnl_attr_get_str(name) : "?";
-    if (uses_device(link->ifi_index, text))
+    bool is_wireless = attribute(head, sizeof *link, IFLA_WIRELESS);       /* a scan, as a rule */
+    if (!is_wireless && uses_device(link->ifi_index, text))
         begin_again("the link %s changed", text);
 }
 
@@ -75,7 +76,7 @@ static void take_route(const struct nlmsghdr *head)
 {
     const struct nlattr *table = attribute(head, sizeof(struct rtmsg), RTA_TABLE);
     if (!table || mnl_attr_get_u32(table) == our_table)
-        begin_again("another program changed the table %u", our_table);
+        begin_again("the table %u was changed from outside", our_table);
 }
 
 static void take_event(const struct nlmsghdr *head)

@@ -191,9 +191,19 @@ static int print_route(const struct nlmsghdr *head, void *unused)
     return MNL_CB_OK;
 }
 
+/* The end of a list begins with the number of an error, 0 for none. libmnl alone would not look at it. */
+static int end_list(const struct nlmsghdr *head, void *unused)
+{
+    int error = *(const int *)mnl_nlmsg_get_payload(head);
+    (void)unused;
+    errno = -error;
+    return error < 0 ? MNL_CB_ERROR : MNL_CB_STOP;
+}
+
 /* A machine without IPv6 has no routes of IPv6, and a table that does not exist has none. */
 static void list_family(uint8_t family)
 {
+    static mnl_cb_t ends[] = {[NLMSG_ERROR] = end_list, [NLMSG_DONE] = end_list};
     static char buffer[1 << 16];
     struct nlmsghdr *head = mnl_nlmsg_put_header(buffer);
     int size, probe = socket(family, SOCK_DGRAM | SOCK_CLOEXEC, 0);
@@ -205,7 +215,7 @@ static void list_family(uint8_t family)
         fault("netlink: %m");
     do
         size = mnl_socket_recvfrom(kernel, buffer, sizeof buffer);
-    while (size > 0 && (size = mnl_cb_run(buffer, size, sequence, mnl_socket_get_portid(kernel), print_route, NULL)) > 0);
+    while (size > 0 && (size = mnl_cb_run2(buffer, size, sequence, mnl_socket_get_portid(kernel), print_route, NULL, ends, NLMSG_DONE + 1)) > 0);
     if (size < 0 && errno == EINTR)
         begin_again("the table changed while it was listed");
     if (size < 0 && errno != ENOENT)

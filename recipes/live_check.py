@@ -511,7 +511,7 @@ def background(page):
 
 
 def show(page):
-    return "".join(f"{line.strip()}\n" for line in page.run("ip route show table 77").splitlines())
+    return "".join(f"{line.strip()}\n" for line in page.run("ip route show table 77 2>/dev/null || true").splitlines())
 
 
 def shows(page, wanted=None):
@@ -548,10 +548,10 @@ def check_page(folder):
         page.text("hops")
         page.text("commands")
         with background(page), contextlib.ExitStack() as others:
-            wait_for("the log", lambda: page.run("cat log").count("ok\n") == 3)
+            wait_for("the log", lambda: page.run("cat log 2>/dev/null || true").count("ok\n") == 3)
             others.enter_context(background(page))
             shows(page)
-            check_rules(page)
+            check_rules(page, own)
             page.run()
             shows(page)
             page.gives(page.run())
@@ -566,7 +566,7 @@ def check_restart(page, restart):
     """The log has the whole history again, and the kernel the same table; then one more command."""
     same("the status of the restart", restart.wait(), 0)
     page.run("echo 'add 10.192.0.0/10 1 200' >> commands")
-    wait_for("the command after a restart", lambda: "10.192.0.0/10 via 192.0.2.1" in show(page))
+    wait_for("the command after a restart", lambda: way_out(page, "10.192.0.1").endswith("via 192.0.2.1 dev lan"))
 
 
 def way_out(page, address, *how):
@@ -575,8 +575,9 @@ def way_out(page, address, *how):
     return done.stderr.strip() or " ".join(words[words.index("dev") - 2 * ("via" in words):words.index("dev") + 2])
 
 
-def check_rules(page):
+def check_rules(page, own):
     """Connected networks stay reachable when the page's rules come, and the leader's routes are used."""
+    tool(*inside(own), "sysctl", "-q", "-w", "net.ipv4.ip_forward=1")
     page.run()
     for address, expected in (("192.0.2.7", "dev lan"), ("2001:db8:5::7", "dev lan"), ("10.64.0.1", "via 192.0.2.1 dev lan"),
                               ("10.1.0.1", "via 192.0.2.2 dev lan")):
@@ -587,6 +588,7 @@ def check_rules(page):
     page.run("ip rule del pref 101; ip rule add pref 101 iif lan lookup 77")
     same("the machine's own packets", way_out(page, "198.51.100.1"), "via 192.0.2.1 dev lan")
     same("forwarded packets", "Invalid argument" in way_out(page, "198.51.100.1", "from 192.0.2.7 iif lan"), True)
+    page.run("ip route del default; ip -6 route del default; ip rule del pref 101; ip rule add pref 101 lookup 77")
 
 
 def check_bird(folder, page, control):
@@ -769,6 +771,9 @@ def check_lines(folder):
         same("no arguments", subprocess.run([FIB_KERNEL], capture_output=True).returncode, 2)
         same("a batch that is cut off", tool(*command, "load", str(hops), "77", given="install 10.1.0.0/16 1\nremove 10.1."), "")
         same("its route", tool(*command, "list", str(hops), "77"), "have 10.1.0.0/16 1\nok\n")
+        done = subprocess.run([*command, "load", str(hops), "77"], input="install 10.2.0.0/16 2\nok\n", capture_output=True, text=True)
+        same("an install that is refused to the end", [done.returncode, done.stdout, "not have this hop" in done.stderr], [1, "ok\n", True])
+        tool(*command, "load", str(hops), "77", given="remove 10.2.0.0/16\nremove 10.2.0.0/16\nok\n")
         check_ends(own, [*command, "watch", str(hops), "77"])
 
 
@@ -787,6 +792,29 @@ def check_ends(own, command):
     shell.kill()
     shell.wait()
     wait_for("the end of fib_kernel after its parent", lambda: not is_running(pid))
+
+
+def check_own(folder):
+    """changes of its own are no event; a foreign one after 20,000 of its own is; a link that was made again has another index"""
+    hops, again = f"{folder}/own", "link add lan type veth peer name far"
+    Path(hops).write_text("1 dev lan\n")
+    with namespace(*LAN) as own:
+        command = [*inside(own), FIB_KERNEL, "watch", hops, "77"]
+        process = subprocess.Popen(command, stdin=subprocess.PIPE, stdout=subprocess.PIPE, stderr=subprocess.PIPE, text=True)
+        process.stdin.write(text([f"install 10.{at >> 8}.{at & 255}.0/24 1" for at in range(20000)] + ["ok"]))
+        process.stdin.flush()
+        same("the list and a batch", [process.stdout.readline(), process.stdout.readline()], ["ok\n", "ok\n"])
+        time.sleep(0.2)
+        same("the program after its own changes", process.poll(), None)
+        tool("ip", "-n", own, "route", "del", "10.0.7.0/24", "table", "77")
+        same("the end after a foreign change", [process.wait(5), process.stderr.read()],
+             [3, "fib_kernel: the table 77 was changed from outside\n"])
+        kernel = Kernel(own, hops)
+        for line in ("link del lan", again, "link set far up", "link set lan up"):
+            tool("ip", "-n", own, *line.split())
+        kernel.carry_out(["install 10.1.0.0/16 1"])
+        same("the list", kernel.have(), ["have 10.1.0.0/16 1"])
+        kernel.close()
 
 
 def drawn_networks(six, count):
@@ -884,8 +912,8 @@ def check():
     with tempfile.TemporaryDirectory() as folder:
         hops = f"{folder}/hops"
         check_page(folder)
-        for one in (check_lines, check_refused, check_silent, check_events, check_shorter, check_families, check_permission, check_memory,
-                    check_measures):
+        for one in (check_lines, check_refused, check_silent, check_events, check_shorter, check_families, check_permission, check_own,
+                    check_memory, check_measures):
             one(folder)
             print(f"seen: {one.__doc__}")
         Path(hops).write_text(text(f"{hop} via fe80::{hop} dev lan" for hop in HOPS))
