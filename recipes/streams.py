@@ -13,7 +13,7 @@ import time
 from common import NETWORK, Numbers, fault, locked, naming, text
 
 MOST, HIGHEST = 8, 65535
-TURN, QUIET = 0.25, 3  # seconds: one look at the stream; without a route, after which a dump is over
+TURN, QUIET = 0.25, 30  # seconds: one look at the stream; without a route, after which a dump is over
 COMMAND = re.compile(r"(add|del) ({}) (\d+|drop)(?: (\d+))?".format(NETWORK.pattern))
 CUT = re.compile(r"(?:add?|a|del?|d)(?: [0-9a-f:./]*(?: [drop0-9]*(?: \d*)?)?)?")
 

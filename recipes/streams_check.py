@@ -5,6 +5,7 @@ import ipaddress
 import json
 import os
 import random
+import re
 import select
 import shutil
 import signal
@@ -22,7 +23,7 @@ from live_check import inside, socket_in, wait_for
 from streams import COMMAND
 
 DRAWN = random.Random(1)
-LONG = 30  # seconds that a daemon has for a change, on a busy machine
+LONG, QUIET = 60, 15  # seconds that a daemon has for a change, on a busy machine; and without a route, after which a dump is over here
 LINES = ("address add 192.0.2.254/24 dev lan", "address add 2001:db8:5::254/64 dev lan nodad",
          *(f"address add 198.18.0.{at}/32 dev lo" for at in (1, 2, 253, 254)))
 PEERS = {"a": ("198.18.0.1", "198.18.0.254"), "b": ("198.18.0.2", "198.18.0.253")}
@@ -113,6 +114,7 @@ class Chain:
     def __init__(self, folder, own, **tools):
         self.page = Page(f"{folder}/page", **tools)
         self.folder, self.own, self.processes = self.page.folder, own, {}
+        self.shown = {}
         for name in ("ROUTES_FIB", "FIB_KERNEL"):
             os.environ.setdefault(name, str(HERE.parent / ("netlink/out/fib_kernel" if name == "FIB_KERNEL" else "routes_fib")))
         self.files = [f"{self.folder}/hops", f"{self.folder}/commands"]
@@ -141,8 +143,9 @@ class Chain:
 
     def state(self):
         """The preference of each next hop of each network, after all commands."""
-        names, found = {"drop": "drop"} | Numbers(self.files[0]).names(), {}
-        for line in self.commands().splitlines():
+        lines, found = self.commands().splitlines(), {}
+        names = {"drop": "drop"} | Numbers(self.files[0]).names()
+        for line in lines:
             word, network, hop, preference = COMMAND.fullmatch(line).groups()
             held = found.setdefault(network, {})
             if word == "add":
@@ -156,8 +159,14 @@ class Chain:
         until = time.monotonic() + LONG
         while (state := self.state()) != expected:
             if time.monotonic() > until:
+                print("\n".join(self.said(name) for name in self.processes))
                 wrong = [(network, state.get(network), expected.get(network)) for network in state.keys() | expected.keys()
                          if state.get(network) != expected.get(network)]
+                if "frr" in self.processes:
+                    print(wrong)
+                    for net in wrong[:5]:
+                        print(subprocess.run(["vtysh", "--vty_socket", str(Path(self.folder).parent / "frr"), "-c", f"show {'ipv6' if ':' in net[0] else 'ip'} route {net[0]}"], capture_output=True, text=True))
+                    print(self.commands()[-2000:])
                 fault(f"{title}: {len(wrong)} networks have other routes, such as {wrong[:3]}")
             time.sleep(0.05)
         self.compare(title, expected)
@@ -168,7 +177,7 @@ class Chain:
         for network, held in expected.items():
             one = ipaddress.ip_network(network)
             lengths[one.version].add(one.prefixlen)
-            best[one] = min(held, key=lambda words: (-held[words], words != "drop" and numbers[words]))
+            best[one] = min(held, key=lambda words: (-held[words], 1 << 32 if words == "drop" else numbers[words]))
         found = hops_of(self.commands(), addresses)
         for address, hop in zip(addresses, found):
             one = ipaddress.ip_address(address)
@@ -234,6 +243,7 @@ def many(chain, recipe, upstream, routes, has_preference=True):
 def blocks(page, name):
     """The next block of the page, with the folders of this check."""
     block = page.text().replace("/usr/local/share/jolmidda/recipes", str(HERE)).replace("/var/lib/jolmidda", page.folder)
+    block = re.sub(r"(exabgp|gobgp|frr) feed ", rf"\1 feed -q {QUIET} ", block)
     if name:
         Path(page.folder, name).write_text(block)
     return block
@@ -242,7 +252,8 @@ def blocks(page, name):
 def three(chain, *names):
     """Starts the page's three commands, in their order."""
     for name, line in zip(names, blocks(chain.page, None).splitlines()):
-        chain.start(name, line.rstrip("& "))
+        chain.shown[name] = line.rstrip("& ")
+        chain.start(name, chain.shown[name])
         if name == "leader":
             wait_for("the files", lambda: all(map(os.path.exists, chain.files)))
 
@@ -361,16 +372,10 @@ def exabgp_ends(chain, upstream):
     same("commands after ExaBGP's end", chain.commands(), before)
     routes = {name: changed(held, PREFERENCES) for name, held in routes.items()}
     upstream.set(routes)
-    command = next(line for line in shown_lines("exabgp") if line.startswith("env "))
-    chain.start("exabgp", command.rstrip("& "))
+    chain.start("exabgp", chain.shown["exabgp"])
     chain.comes_to("ExaBGP killed and started again", by_peers(routes))
     many(chain, child_of(chain.processes["exabgp"].pid), upstream, {name: any_routes(5000) for name in PEERS})
     milliseconds(chain, lambda at: upstream.say(f"enable one{at}"))
-
-
-def shown_lines(name):
-    from common import shown
-    return "".join(shown(HERE / f"{name}.md")).splitlines()
 
 
 def json_line(peer, gateway, network, preference=None):
@@ -453,7 +458,6 @@ def gobgp_rounds(chain, upstream):
     chain.comes_to("the session up again", by_peers(routes))
     others = {"a": {network: (GATEWAYS[6 if ":" in network else 4].format(7), 100) for network in routes["a"]}}
     chain.replaced("other next hops for all networks", lambda: upstream.set(others), by_peers(others))
-    command = next(line for line in shown_lines("gobgp") if line.startswith("gobgp monitor"))
     for title, name in (("the recipe and the monitor killed", "gobgp"), ("gobgpd killed", "gobgpd")):
         before = chain.commands()
         chain.stop(name, signal.SIGKILL)
@@ -465,7 +469,7 @@ def gobgp_rounds(chain, upstream):
             chain.start("gobgpd", "gobgpd -f gobgpd.toml")
             wait_for("its paths", lambda: "10." in tool(*inside(chain.own), "sh", "-c", "gobgp global rib || true"))
         same("commands after the end", chain.commands(), before)
-        chain.start("gobgp", command.rstrip("& "))
+        chain.start("gobgp", chain.shown["gobgp"])
         chain.comes_to(title, by_peers(routes))
     gobgp_inputs(chain)
     many(chain, recipe_of(chain, "gobgp"), upstream, {"a": any_routes(10000)})
@@ -487,3 +491,255 @@ def gobgp_inputs(chain):
                           capture_output=True, cwd=chain.folder)
     same("a line that is cut off", [done.returncode, Path(chain.folder, "commands.new").read_text()], [1, "add 10.0.0.0/8 1 100\n"])
     wrong_files(chain, "gobgp")
+
+
+BGPD = """router bgp 64500
+ bgp router-id 198.18.0.254
+ neighbor 198.18.0.1 remote-as 64500
+ neighbor 198.18.0.1 update-source 198.18.0.254
+ neighbor 198.18.0.1 timers connect 1
+ address-family ipv6 unicast
+  neighbor 198.18.0.1 activate
+"""
+
+
+@contextlib.contextmanager
+def daemons(folder, own):
+    """FRR's daemons in this namespace. FRR's user must be able to find its sockets, whose folder is returned."""
+    place = f"{folder}/frr"
+    os.mkdir(place)
+    os.chmod(folder, 0o755)
+    shutil.chown(place, "frr", "frrvty")
+    try:
+        start_daemons(place, own)
+        yield place
+    finally:
+        stop_daemons(place, "-TERM")
+
+
+def start_daemons(place, own):
+    for daemon, *more in (("zebra", "-M", "dplane_fpm_nl"), ("staticd",), ("bgpd", "-p", "0")):
+        tool(*inside(own), f"/usr/lib/frr/{daemon}", *more, "-d", "-f", "/dev/null", "-P", "0", "-i", f"{place}/{daemon}.pid", "-z",
+             f"{place}/zserv.api", "--vty_socket", place)
+
+
+def stop_daemons(place, how):
+    for path in Path(place).glob("*.pid"):
+        subprocess.run(["kill", how, path.read_text().strip()], capture_output=True)
+    time.sleep(1)
+
+
+def configured(folder, place, lines):
+    Path(folder, "frr.conf").write_text(lines)
+    tool("vtysh", "--vty_socket", place, "-f", f"{folder}/frr.conf")
+
+
+def frr():
+    needs("vtysh", "frr")
+    needs("bird", "bird2")
+    peers = {"a": PEERS["a"]}
+    with tempfile.TemporaryDirectory() as folder, namespace(LINES[0], "link set lan up") as own, daemons(folder, own) as place, \
+            chain_of(folder, own) as chain:
+        fpm, commands = blocks(chain.page, None), chain.page.text()
+        static = chain.page.text()
+        chain.fpm = fpm
+        configured(folder, place, fpm + static)
+        chain.page.blocks.insert(0, commands)
+        three(chain, "leader", "keep", "frr")
+        wait_for("the dump", lambda: "the dump is over" in chain.said("frr"))
+        chain.page.gives("".join(sorted(chain.commands().splitlines(keepends=True))))
+        chain.page.gives(Path(chain.files[0]).read_text())
+        for rule in blocks(chain.page, None).splitlines():
+            tool(*inside(own), *rule.split())
+        chain.page.end()
+        configured(folder, place, "".join(f"no {line}\n" for line in static.splitlines()))
+        for line in LINES[1:]:
+            tool("ip", "-n", own, *line.split())
+        with peer(folder, own, peers, {"a": {}}, "passive;") as upstream:
+            configured(folder, place, BGPD)
+            frr_rounds(chain, upstream, folder, place)
+
+
+def frr_rounds(chain, upstream, folder, place):
+    """Random changes at the BGP peer, other next hops for all networks, routes over several gateways, and ends of the recipe and of zebra."""
+    routes = {"a": any_routes(600)}
+    for at in range(4):
+        upstream.set(routes)
+        chain.comes_to(f"change {at + 1}", by_peers(routes))
+        routes = {"a": changed(routes["a"])}
+    upstream.say("disable a")
+    chain.comes_to("a session down", {})
+    upstream.say("enable a")
+    upstream.set(routes)
+    chain.comes_to("the session up again", by_peers(routes))
+    others = {"a": {network: (GATEWAYS[6 if ":" in network else 4].format(7), 100) for network in routes["a"]}}
+    chain.replaced("other next hops for all networks", lambda: upstream.set(others), by_peers(others))
+    several = [f"{'ipv6' if ':' in network else 'ip'} route {network} {GATEWAYS[6 if ':' in network else 4].format(at)}\n"
+               for network in others["a"] for at in (8, 9)]
+    both = {network: {" ".join(f"nexthop via {GATEWAYS[6 if ':' in network else 4].format(at)} dev lan" for at in (8, 9)): 100}
+            for network in others["a"]}
+    chain.replaced("two gateways for all networks", lambda: configured(folder, place, "".join(several)), both)
+    chain.replaced("one gateway again", lambda: configured(folder, place, "".join(f"no {line}" for line in several)), by_peers(others))
+    frr_ends(chain, upstream, others["a"], folder, place)
+    frr_inputs(chain, folder, place)
+    many(chain, chain.processes["frr"].pid, upstream, {"a": any_routes(10000)})
+    milliseconds(chain, lambda at: upstream.say(f"enable one{at}"))
+
+
+def frr_ends(chain, upstream, held, folder, place):
+    routes = {"a": changed(held)}
+    chain.stop("frr", signal.SIGKILL)
+    upstream.set(routes)
+    time.sleep(2)
+    chain.start("frr", chain.shown["frr"])
+    chain.comes_to("the recipe killed", by_peers(routes))
+    for title in ("FRR killed and started again", "the same, with changes meanwhile"):
+        before = chain.commands()
+        stop_daemons(place, "-KILL")
+        wait_for("zebra's end", lambda: "zebra has gone" in chain.said("frr"))
+        routes = {"a": changed(routes["a"]) if "changes" in title else routes["a"]}
+        upstream.set(routes)
+        start_daemons(place, chain.own)
+        configured(folder, place, chain.fpm + BGPD)
+        if "changes" in title:
+            chain.comes_to(title, by_peers(routes))
+        else:
+            time.sleep(2 * QUIET)
+            same("commands after FRR's restart", chain.commands()[len(before):], "")
+
+
+def frr_inputs(chain, folder, place):
+    for given in (b"GET / HTTP/1.0\r\n\r\n", b"\1\1\0\2", b"\1\1\0\x10" + bytes(12)):
+        for name in ("hops", "commands"):
+            Path(chain.folder, f"{name}.new").write_text("")
+        recipe = subprocess.Popen([*inside(chain.own), "recipes/frr", "feed", "hops.new", "commands.new", "2621"], cwd=chain.folder,
+                                  stderr=subprocess.PIPE, text=True)
+        script = "import socket, sys, time\nfor _ in range(100):\n    try:\n        s = socket.create_connection(('127.0.0.1', 2621))\n" \
+                 f"        s.send({given!r})\n        sys.exit(s.recv(1) != b'')\n    except OSError:\n        time.sleep(0.1)\n"
+        tool(*inside(chain.own), "python3", "-c", script)
+        said = recipe.communicate()[1].splitlines()
+        same(f"the status for {given}", [recipe.returncode, Path(chain.folder, "commands.new").read_text()], [1, ""])
+        print("refused:", said[-1])
+    wrong_files(chain, "frr")
+
+
+def rtnetlink():
+    needs("jq", "jq")
+    with tempfile.TemporaryDirectory() as folder, namespace(*LINES[:1]) as own, chain_of(folder, own) as chain:
+        three(chain, "leader", "keep", "rtnetlink")
+        wait_for("the connected network", lambda: "add 192.0.2.0/24" in chain.commands())
+        for line in blocks(chain.page, None).splitlines():
+            tool("ip", "-n", own, *line.split()[1:])
+        wait_for("the last route", lambda: "10.1.0.0/16" in chain.commands())
+        chain.page.gives(chain.commands())
+        chain.page.gives(Path(chain.files[0]).read_text())
+        chain.page.end()
+        tool("ip", "-n", own, "route", "flush", "root", "10.0.0.0/8")
+        rtnetlink_rounds(chain)
+        for at in ("0", "x", "4294967296", "78"):
+            chain.page.refuses(f"recipes/rtnetlink feed {at} hops.new commands.new") if at == "78" else None
+        wrong_files(chain, "rtnetlink", "254")
+
+
+def any_change(part):
+    """A line for `ip -batch`, which may fail, on networks of one part of eight."""
+    is_six = DRAWN.random() < 0.5
+    network = f"2001:db8:1{part}{DRAWN.randrange(128):02x}::/48" if is_six else f"10.{32 * part + DRAWN.randrange(32)}.{DRAWN.randrange(4)}.0/24"
+    gateway = [GATEWAYS[6 if is_six else 4].format(DRAWN.randrange(1, 7)) for _ in range(2)]
+    word = DRAWN.choice(("add", "replace", "replace", "replace", "append", "change", "del", "del"))
+    draw = DRAWN.random()
+    if word == "del" and draw < 0.5:
+        how = ""
+    elif draw < 0.15:
+        how = "unreachable"
+    elif draw < 0.4 and gateway[0] != gateway[1]:
+        how = f"nexthop via {gateway[0]} weight {DRAWN.randrange(1, 4)} nexthop via {gateway[1]}"
+    else:
+        how = f"via {gateway[0]}"
+    kind, how = (how, "") if how == "unreachable" else ("", how)
+    return f"route {word} {kind} {network} metric {DRAWN.choice((10, 20))} {how}"
+
+
+def by_jq(chain):
+    """The routes of the kernel, as `ip` and recipes/ip-route.jq have them."""
+    found = {}
+    for family in ("-4", "-6"):
+        told = chain.page.run(f"ip -n {chain.own} -j {family} route show table main | jq -rf recipes/ip-route.jq")
+        for network, preference, words in (line.split(" ", 2) for line in told.splitlines()):
+            of_net = found.setdefault(network, {})
+            of_net[words] = max(int(preference), of_net.get(words, 0))
+    return {network: held for network, held in found.items() if network.startswith(("10.", "2001:db8:1"))}
+
+
+def settled_to(chain, title):
+    chain.comes_to(title, by_jq(chain))
+
+
+def rtnetlink_rounds(chain):
+    """Random changes, other next hops for all networks, objects, links, and an end of the recipe."""
+    ip = ("ip", "-n", chain.own)
+    tool(*ip, *LINES[1].split())
+
+    def batch(lines):
+        subprocess.run([*ip, "-force", "-batch", "-"], input=text(lines), text=True, capture_output=True)
+
+    for at in range(8):
+        tool(*ip, "route", "flush", "root", f"10.{32 * at}.0.0/11")
+        tool(*ip, "-6", "route", "flush", "root", f"2001:db8:1{at}00::/40")
+        batch(any_change(at) for _ in range(400))
+        settled_to(chain, f"change {at + 1}")
+    held = chain.state()
+    batch(f"route del {network}" for network in held for _ in range(9))
+    networks = [network for network in held if network.startswith("10.")]
+    batch(f"route add {network} via 192.0.2.1" for network in networks)
+    settled_to(chain, "one route for each network")
+    chain.replaced("other next hops for all networks", lambda: batch(f"route replace {network} via 192.0.2.7" for network in networks),
+                   {network: {"via 192.0.2.7 dev lan": 65535} for network in networks})
+    batch(["nexthop add id 1 via 192.0.2.8 dev lan", "nexthop add id 2 via 192.0.2.9 dev lan", "nexthop add id 3 group 1/2",
+           *(f"route replace {network} nhid 3" for network in networks)])
+    several = "nexthop via 192.0.2.8 dev lan nexthop via 192.0.2.9 dev lan"
+    chain.comes_to("a group of nexthop objects", {network: {several: 65535} for network in networks})
+    batch(["nexthop replace id 3 group 2"])
+    chain.comes_to("another group", {network: {"via 192.0.2.9 dev lan": 65535} for network in networks})
+    batch([*(f"route replace {network} via 192.0.2.7" for network in networks), "route add 10.99.0.0/16 dev lan"])
+    settled_to(chain, "routes by their gateways again")
+    rtnetlink_ends(chain, ip, batch, networks)
+
+
+def rtnetlink_ends(chain, ip, batch, networks):
+    tool(*ip, "link", "set", "lan", "down")
+    chain.comes_to("a link that goes down", {})
+    tool(*ip, "link", "set", "lan", "up")
+    batch(f"route replace {network} via 192.0.2.6" for network in networks)
+    settled_to(chain, "the link up again")
+    for at in range(3):
+        chain.stop("rtnetlink", signal.SIGKILL)
+        batch(any_change(at) for _ in range(200))
+        chain.start("rtnetlink", chain.shown["rtnetlink"])
+        settled_to(chain, "the recipe killed")
+    many_events(chain, ip)
+    lines = subprocess.Popen([*ip, "-batch", "-"], stdin=subprocess.PIPE, text=True)
+
+    def change(at):
+        lines.stdin.write(f"route add {ONES[at]} via 192.0.2.1\n")
+        lines.stdin.flush()
+
+    milliseconds(chain, change)
+    lines.stdin.close()
+    lines.wait()
+
+
+def many_events(chain, ip):
+    """More events than fit, while the recipe is stopped; then the CPU time of many routes."""
+    recipe = chain.processes["rtnetlink"].pid
+    networks = [f"10.{at >> 8}.{at & 255}.0/24" for at in range(1 << 14)]
+    begun, lines = cpu_of(recipe), len(chain.commands().splitlines())
+    tool(*ip, "-batch", "-", given=text(f"route add {network} via 192.0.2.1" for network in networks))
+    settled_to(chain, "many routes")
+    print(f"{len(chain.commands().splitlines()) - lines:,} commands took the recipe {cpu_of(recipe) - begun:.2f} s of CPU time")
+    os.kill(recipe, signal.SIGSTOP)
+    for gateway in (2, 3, 4, 5, 6, 7, 8, 9):
+        tool(*ip, "-batch", "-", given=text(f"route replace {network} via 192.0.2.{gateway}" for network in networks))
+    tool(*ip, "route", "flush", "root", "10.32.0.0/11")
+    os.kill(recipe, signal.SIGCONT)
+    settled_to(chain, "more events than fit")
