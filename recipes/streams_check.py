@@ -28,6 +28,7 @@ LINES = ("address add 192.0.2.254/24 dev lan", "address add 2001:db8:5::254/64 d
          *(f"address add 198.18.0.{at}/32 dev lo" for at in (1, 2, 253, 254)))
 PEERS = {"a": ("198.18.0.1", "198.18.0.254"), "b": ("198.18.0.2", "198.18.0.253")}
 ONES = [f"10.200.{at}.0/24" for at in range(100)]
+DRAWN_FROM = ("10.", "11.", "2001:db8:1")
 GATEWAYS = {4: "192.0.2.{}", 6: "2001:db8:5::{}"}
 START = 'log "/dev/null" all;\nrouter id 198.18.0.1;\nprotocol device { }\n'
 ONE = "protocol static one{} {{ disabled; ipv4 {{ table a4; }}; route {} via 192.0.2.1; }}\n"
@@ -152,7 +153,7 @@ class Chain:
                 held[names[hop]] = int(preference)
             else:
                 del held[names[hop]]
-        return {network: held for network, held in found.items() if held and network.startswith(("10.", "2001:db8:1"))}
+        return {network: held for network, held in found.items() if held and network.startswith(DRAWN_FROM)}
 
     def comes_to(self, title, expected):
         """The file of commands gives each network these next hops, soon, and the leader then answers so for addresses."""
@@ -668,7 +669,7 @@ def by_jq(chain):
         for network, preference, words in (line.split(" ", 2) for line in told.splitlines()):
             of_net = found.setdefault(network, {})
             of_net[words] = max(int(preference), of_net.get(words, 0))
-    return {network: held for network, held in found.items() if network.startswith(("10.", "2001:db8:1"))}
+    return {network: held for network, held in found.items() if network.startswith(DRAWN_FROM)}
 
 
 def settled_to(chain, title):
@@ -732,7 +733,7 @@ def rtnetlink_ends(chain, ip, batch, networks):
 def many_events(chain, ip):
     """More events than fit, while the recipe is stopped; then the CPU time of many routes."""
     recipe = chain.processes["rtnetlink"].pid
-    networks = [f"10.{at >> 8}.{at & 255}.0/24" for at in range(1 << 14)]
+    networks = [f"11.{at >> 8}.{at & 255}.0/24" for at in range(1 << 14)]
     begun, lines = cpu_of(recipe), len(chain.commands().splitlines())
     tool(*ip, "-batch", "-", given=text(f"route add {network} via 192.0.2.1" for network in networks))
     settled_to(chain, "many routes")
@@ -740,6 +741,6 @@ def many_events(chain, ip):
     os.kill(recipe, signal.SIGSTOP)
     for gateway in (2, 3, 4, 5, 6, 7, 8, 9):
         tool(*ip, "-batch", "-", given=text(f"route replace {network} via 192.0.2.{gateway}" for network in networks))
-    tool(*ip, "route", "flush", "root", "10.32.0.0/11")
+    tool(*ip, "route", "flush", "root", "11.32.0.0/11")
     os.kill(recipe, signal.SIGCONT)
     settled_to(chain, "more events than fit")
