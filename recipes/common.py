@@ -42,13 +42,22 @@ def fault(text):
     sys.exit(f"{NAME}: {text}")
 
 
+def installed_usage(usage):
+    """The usage with the names that `./install recipes` gives, if the recipe runs under such a name."""
+    if not NAME.startswith("jolmidda-"):
+        return usage
+    return re.sub(r"recipes/([a-z-]+)(?![\w.-])", r"jolmidda-\1", usage).replace(" recipes/", f" {HERE}/")
+
+
 def run(main):
     """Runs a recipe. For a file that can't be opened it prints the name, and for wrong arguments the usage."""
     signal.signal(signal.SIGTERM, lambda *_: fault("ended by a signal"))
-    usage = sys.modules["__main__"].__doc__
+    usage = installed_usage(sys.modules["__main__"].__doc__)
     try:
         if sys.argv[1:] in (["--help"], ["-h"]):
             print(usage)
+        elif sys.argv[1:2] == ["check"] and not (HERE.parent / "examples").exists():
+            fault("the check needs the repository of Jolmidda")
         elif main(*sys.argv[1:]) is False:
             sys.exit(usage)
     except OSError as error:
@@ -304,8 +313,8 @@ class Numbers:
         return {str(number): name for name, number in self.of_name.items()}
 
     def keep(self, lines):
-        """These lines `add NET NUMBER ..`, once the file has their names. If another run has added names since this one read the file,
-        they keep their numbers, and new names of this run get others."""
+        """Returns these lines `add NET NUMBER ..`, once the file has their names. If another run has added names since this run read
+        the file, they keep their numbers, and new names of this run get other numbers."""
         with locked(self.path):
             now = Numbers(self.path)
             moved = {str(number): str(now[name]) for name, number in self.of_name.items() if now[name] != number}
@@ -313,7 +322,7 @@ class Numbers:
         return [renumbered(line, moved) for line in lines] if moved else lines
 
     def write(self):
-        """The new file takes the old one's place in one step."""
+        """Replaces the old file with the new one in one step."""
         new = f"{self.path}.new"
         try:
             with naming(new), open(new, "w") as file:

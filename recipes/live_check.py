@@ -1,4 +1,4 @@
-"""Drives a kernel in network namespaces by routes_fib and fib_kernel, and asks it between single operations. `recipes/live check` runs this."""
+"""Drives a kernel in network namespaces by routes_fib and fib_kernel, and asks it between single operations: `recipes/live check`."""
 import contextlib
 import ctypes
 import ipaddress
@@ -6,6 +6,7 @@ import os
 import random
 import re
 import resource
+import shutil
 import signal
 import socket
 import struct
@@ -530,7 +531,7 @@ EAST = STATIC.format("east", 200, "198.51.100.0/24 via 192.0.2.1")
 def page_of(folder, own, control):
     page = Page(f"{folder}/page", ip=f'{{}} -n {own} "$@"', birdc=f'{{}} -s "{control}" "$@"',
                 fib_kernel=" ".join([*inside(own), FIB_KERNEL, '"$@"']))
-    os.symlink(INSTALLER, f"{page.folder}/bin/routes_fib")
+    os.symlink(shutil.which(INSTALLER), f"{page.folder}/bin/routes_fib")
     before = os.environ.get("FIB_KERNEL")
     os.environ["FIB_KERNEL"] = f"{page.folder}/bin/fib_kernel"
     try:
@@ -640,7 +641,7 @@ class Small:
     def wait(self, **hops):
         """Until 10.N.0.1 has this hop for each word _N. 0 is none."""
         addresses = [f"10.{name[1:]}.0.1" for name in hops]
-        wait_for(f"{hops}, and there is {self.hops_of(*addresses)}", lambda: [hop or 0 for hop in self.hops_of(*addresses)] == [*hops.values()])
+        wait_for(f"{hops}", lambda: [hop or 0 for hop in self.hops_of(*addresses)] == [*hops.values()])
 
 
 @contextlib.contextmanager

@@ -60,10 +60,13 @@ class Edit:
         return {it.rpartition("::")[2] for it in self.functions}
 
     def strays(self, folder):
-        """The error of this edit: it can't be applied, or changes more than the bodies that it names. None if it has none."""
+        """The error of this edit: it can't be applied, or changes more than the bodies that it names, unless it is apart. None if it has
+        none."""
         texts = self.put({}, folder)
         if texts is None:
             return "it cannot be applied: each 'old:' text stands once in its file, or behind an 'after:' text that does"
+        if self.is_apart:
+            return None
         changed = set()
         for path, wrong in texts.items():
             text = (folder / path).read_text()

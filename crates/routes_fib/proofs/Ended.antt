@@ -1,6 +1,6 @@
 -- Which line a run ended at.
 use Rattle.std.proofs.Common.{◌≡◌, ℕ, List, inl, inr}
-use Rattle.std.specs.Prelude.{◌⊎◌, Option, Ok, Err, IsErrOf}
+use Rattle.std.specs.Prelude.{◌⊎◌, Option, Err, IsErrOf}
 use Rattle.route_feed.specs.declared.counted.Counted.{Counted}
 use Rattle.route_feed.specs.declared.error.RunError.{RunError}
 use Rattle.route_feed.specs.declared.error.RunError.TheVariants.{Memory, Read, Write, Line}
@@ -28,7 +28,3 @@ at_note remaining contents from to old new Write ends is = let m = ends.0 in inl
 at_note remaining contents from to old new Memory ends is = absurd (cc)
 at_note remaining contents from to old new Read ends is = absurd (cc)
 at_note remaining contents from to old new Line ends is = absurd (cc)
-
-pub at_end : {R W : Type 0} (remaining : R → Option (List ℕ)) (contents : W → Option (List ℕ)) (from to : Counted R) (old new : Counted W)
-    → InstallEnds remaining contents from to old new (Ok tt) → MeetsNote remaining from to ⊎ ReadsNotes remaining from to
-at_end remaining contents from to old new ends = let m = ends.0 in inr (record { bytes = m.bytes; read = m.read; holds = (m.notes, m.are) }, ends.1)

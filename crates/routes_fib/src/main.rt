@@ -9,6 +9,8 @@ ghost use Rattle.route_feed.specs.Installs.{AppendsInstalled};
 ghost use Rattle.route_feed.specs.Status.{status_of};
 ghost use Rattle.route_feed.specs.declared.error.RunError.{RunError as AnyRunError};
 ghost use Rattle.route_lines.specs.Bytes.{lines};
+ghost use Rattle.route_feed.specs.declared.error.RunError.TheVariants as ended;
+ghost use Rattle.routes_fib.specs.declared.Fault.TheVariants as fault;
 ghost use Rattle.routes_fib.specs.Ends.{MeetsNote, MeetsUnfitLine, MeetsWantingLine, ReadsNotes};
 
 use route_feed::{Counted, REPLY, RunError, install, let_go, write_out};
@@ -28,7 +30,7 @@ enum Fault {
     /// There is an argument; the program takes none.
     #[error("usage: routes_fib")]
     Usage,
-    /// A line is none of its grammar, or a `have` line after a `sync`.
+    /// A line is outside the grammar, or is a `have` line after a `sync`.
     #[error("routes_fib: unexpected line")]
     Line,
     /// The run ended early for another reason.
@@ -36,9 +38,9 @@ enum Fault {
     Run(RunError),
 }
 
-/// The fault of a run that ended early so. Its lines are more than reply lines, so it has a text of its own for a line.
+/// The fault of a run that ended early for this reason. An installer reads more than reply lines, so its text for a line is its own.
 impl From<RunError> for Fault {
-    ghost from_gives = { λ e f. (e ≡ RunError.Line → f ≡ Fault.Line) × ((e ≡ RunError.Line → ⊥) → f ≡ Fault.Run e) };
+    ghost from_gives = { λ e f. (e ≡ ended.Line → f ≡ fault.Line) × ((e ≡ ended.Line → ⊥) → f ≡ fault.Run e) };
 
     fn from(error: RunError) -> Fault {
         match error {

@@ -5,7 +5,7 @@ use crate::tests::entries::Call::{
 };
 use crate::tests::maps::{is_equal, is_text, map_of, net, step_is};
 use ipnet::Ipv4Net;
-use prefix_trie::map::Entry;
+use prefix_trie::map::{Entry, VacantEntry};
 use prefix_trie::{PrefixMap, Refused};
 use std::alloc::Global;
 use std::process::Abort;
@@ -31,7 +31,7 @@ enum Storing {
 }
 
 /// The calls that store into a vacant entry, with the value each one stores.
-const STORING: [(&str, Storing, u32); 6] = [
+static STORING: [(&str, Storing, u32); 6] = [
     ("or_insert", Storing::OrInsert, 1),
     ("or_insert_with", Storing::OrInsertWith, 2),
     ("or_default", Storing::OrDefault, 0),
@@ -40,18 +40,17 @@ const STORING: [(&str, Storing, u32); 6] = [
     ("default of a vacant entry", Storing::Default, 0),
 ];
 
-/// The outcome of a storing call: the stored value, or none if memory was refused and the value was returned.
-fn answered(rt: &impl Abort, outcome: Result<&mut u32, (Refused, u32)>, value: u32) -> Option<u32> {
+/// The outcome of a storing call, with a copy of the value that it lends.
+type Outcome = Result<u32, (Refused, u32)>;
+
+fn outcome_of(outcome: Result<&mut u32, (Refused, u32)>) -> Outcome {
     match outcome {
-        Ok(stored) => Some(*stored),
-        Err(refused) => {
-            is_equal(rt, refused, (Refused::Memory, value));
-            None
-        }
+        Ok(stored) => Ok(*stored),
+        Err(refused) => Err(refused),
     }
 }
 
-/// Calls and returns the value stored for this network, or none if memory was refused.
+/// Calls and returns the value stored for this network, or none if memory was refused and the value was returned.
 fn stored_by(
     rt: &impl Abort,
     map: &mut PrefixMap<Ipv4Net, u32>,
@@ -59,30 +58,50 @@ fn stored_by(
     call: &Storing,
     value: u32,
 ) -> Option<u32> {
-    let key = net(rt, text);
-    match call {
-        Storing::OrInsert => answered(rt, map.entry(key).or_insert(value), value),
-        Storing::OrInsertWith => answered(rt, map.entry(key).or_insert_with(|| value), value),
-        Storing::OrDefault => answered(rt, map.entry(key).or_default(), value),
-        into_vacant => stored_into_vacant(rt, map, key, into_vacant, value),
+    let outcome = store(rt, map, net(rt, text), call, value);
+    if let Err(refused) = outcome {
+        is_equal(rt, refused, (Refused::Memory, value));
     }
+    outcome.ok()
 }
 
-/// The same for a call of a vacant entry.
-fn stored_into_vacant(
+/// The outcome of the call.
+fn store(
     rt: &impl Abort,
     map: &mut PrefixMap<Ipv4Net, u32>,
     key: Ipv4Net,
     call: &Storing,
     value: u32,
-) -> Option<u32> {
-    let Entry::Vacant(vacant) = map.entry(key) else {
-        panic!(rt; "occupied")
-    };
+) -> Outcome {
     match call {
-        Storing::Insert => answered(rt, vacant.insert(value), value),
-        Storing::InsertWith => answered(rt, vacant.insert_with(|| value), value),
-        _ => answered(rt, vacant.default(), value),
+        Storing::OrInsert => outcome_of(map.entry(key).or_insert(value)),
+        Storing::OrInsertWith => outcome_of(map.entry(key).or_insert_with(|| value)),
+        Storing::OrDefault => outcome_of(map.entry(key).or_default()),
+        into_vacant => store_into_vacant(rt, map, key, into_vacant, value),
+    }
+}
+
+/// The vacant entry.
+fn vacant<'a>(rt: &impl Abort, entry: Entry<'a, Ipv4Net, u32>) -> VacantEntry<'a, Ipv4Net, u32> {
+    match entry {
+        Entry::Vacant(vacant) => vacant,
+        Entry::Occupied(_) => panic!(rt; "occupied"),
+    }
+}
+
+/// The outcome of a call of a vacant entry.
+fn store_into_vacant(
+    rt: &impl Abort,
+    map: &mut PrefixMap<Ipv4Net, u32>,
+    key: Ipv4Net,
+    call: &Storing,
+    value: u32,
+) -> Outcome {
+    let vacant = vacant(rt, map.entry(key));
+    match call {
+        Storing::Insert => outcome_of(vacant.insert(value)),
+        Storing::InsertWith => outcome_of(vacant.insert_with(|| value)),
+        _ => outcome_of(vacant.default()),
     }
 }
 
@@ -192,9 +211,7 @@ fn keys(rt: &impl Abort, map: &mut PrefixMap<Ipv4Net, u32>, call: &Call) {
 
 /// The key of a `VacantEntry`.
 fn defaulted(rt: &impl Abort, map: &mut PrefixMap<Ipv4Net, u32>) {
-    let Entry::Vacant(entry) = map.entry(net(rt, "10.1.2.3/8")) else {
-        panic!(rt; "occupied")
-    };
+    let entry = vacant(rt, map.entry(net(rt, "10.1.2.3/8")));
     is_text(rt, *entry.key(), "10.1.2.3/8");
     lent_is(rt, entry.default(), 0);
 }
@@ -292,7 +309,7 @@ type Entries = &'static [(&'static str, u32)];
 type Row = (&'static str, Call, Entries, Entries, usize);
 
 /// The rows.
-const CALLS: [Row; 15] = [
+static CALLS: [Row; 15] = [
     ("a vacant key", VacantKey, &[], &[("10.1.0.0/16", 7)], 4),
     (
         "a stored key",

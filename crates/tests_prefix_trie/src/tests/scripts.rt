@@ -5,7 +5,7 @@ use crate::tests::steps::{Script, all_go};
 use ipnet::{Ipv4Net, Ipv6Net};
 
 /// Scripts over IPv4 networks.
-const IPV4: [Script<&'static str>; 9] = [
+static IPV4: [Script<&'static str>; 9] = [
     (
         "four hosts",
         &[
@@ -154,7 +154,7 @@ fn of_ipv4(rt: HostRuntime) {
 const LAST: &str = "ffff:ffff:ffff:ffff:ffff:ffff:ffff:ffff/128";
 
 /// Scripts over IPv6 networks.
-const IPV6: [Script<&'static str>; 2] = [
+static IPV6: [Script<&'static str>; 2] = [
     (
         "two networks",
         &[("2001:db8::5/32", 1), ("2001:db8:1::/48", 2)],
@@ -189,7 +189,7 @@ fn of_ipv6(rt: HostRuntime) {
 }
 
 /// Scripts over keys of 8 bits.
-const OF_8_BITS: [Script<(u8, u8)>; 2] = [
+static OF_8_BITS: [Script<(u8, u8)>; 2] = [
     (
         "two hosts",
         &[((0xfe, 8), 1), ((0xff, 8), 2)],
@@ -207,14 +207,14 @@ const OF_8_BITS: [Script<(u8, u8)>; 2] = [
 ];
 
 /// Scripts over keys of 16 bits.
-const OF_16_BITS: [Script<(u16, u8)>; 1] = [(
+static OF_16_BITS: [Script<(u16, u8)>; 1] = [(
     "longest",
     &[((0xabcd, 12), 1)],
     &[At((0xabcf, 16), Longest(Some(((0xabc0, 12), 1))))],
 )];
 
 /// Scripts over keys of 64 bits.
-const OF_64_BITS: [Script<(u64, u8)>; 1] = [(
+static OF_64_BITS: [Script<(u64, u8)>; 1] = [(
     "longest",
     &[((0xabcd_ef01_2345_6789, 63), 1)],
     &[
@@ -234,7 +234,7 @@ fn of_8_to_64_bits(rt: HostRuntime) {
 }
 
 /// Scripts over keys of 128 bits.
-const OF_128_BITS: [Script<(u128, u8)>; 4] = [
+static OF_128_BITS: [Script<(u128, u8)>; 4] = [
     (
         "spare nodes are visited, and pruned",
         &[((1, 128), 5)],
@@ -277,7 +277,7 @@ fn of_128_bits(rt: HostRuntime) {
 }
 
 /// Scripts over keys of 32 bits.
-const OF_32_BITS: [Script<(u32, u8)>; 7] = [
+static OF_32_BITS: [Script<(u32, u8)>; 7] = [
     (
         "inside a prefix",
         &[((0, 11), 1)],

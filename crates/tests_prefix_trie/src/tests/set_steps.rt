@@ -98,12 +98,21 @@ fn ask(rt: &impl Abort, at: (&str, usize), set: &PrefixSet<Member>, member: &Mem
         Longest(wanted) => step_is(rt, at, set.get_lpm(member), *wanted),
         Shortest(wanted) => step_is(rt, at, set.get_spm(member), *wanted),
         IsCovered(wanted) => step_is(rt, at, set.is_covered(member), *wanted),
-        From(inclusive, wanted) => {
-            step_is(rt, at, digits(set.iter_from(member, *inclusive)), *wanted);
+        From(_, wanted) | Children(wanted) | Cover(wanted) => {
+            step_is(rt, at, walked(set, member, call), *wanted);
         }
-        Children(wanted) => step_is(rt, at, digits(set.children(member)), *wanted),
-        Cover(wanted) => step_is(rt, at, digits(set.cover(member)), *wanted),
         _ => (),
+    }
+}
+
+/// The members that a call walks over, as digits.
+fn walked(set: &PrefixSet<Member>, member: &Member, call: &Call) -> u32
+    requires { IsTrue (nat_le member.now.1 32) }
+{
+    match call {
+        From(inclusive, _) => digits(set.iter_from(member, *inclusive)),
+        Children(_) => digits(set.children(member)),
+        _ => digits(set.cover(member)),
     }
 }
 
@@ -149,7 +158,7 @@ fn all_go(rt: &impl Abort, alloc: Global, scripts: &[(&str, &[Member], &[Step])]
 }
 
 /// Scripts, with expected values written out.
-const SCRIPTS: [(&str, &[Member], &[Step]); 8] = [
+static SCRIPTS: [(&str, &[Member], &[Step]); 8] = [
     (
         "stored and taken out once",
         &[(0x0a00_0000, 8)],

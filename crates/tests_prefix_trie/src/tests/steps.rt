@@ -122,8 +122,12 @@ fn spelled_is<P: Prefix + Copy + PartialEq + Debug, S: Spells<P>>(
     spelled: &S,
     stored: &u32,
 ) {
-    let key = spelled.prefix().expect(rt, at.0);
-    step_is(rt, at, found, Some((key, stored)));
+    let wanted = match spelled.prefix() {
+        Some(key) => Some((key, stored)),
+        None => None,
+    };
+    step_is(rt, at, wanted.is_some(), true);
+    step_is(rt, at, found, wanted);
 }
 
 /// Checks the length and the value of a match, or that there is none.

@@ -58,7 +58,9 @@ fn asks_in_order(rt: HostRuntime) {
     let mut asked = 0u32;
     map.retain(|key, value| {
         // (the second byte of the address, and the length)
-        asked = asked.wrapping_mul(1000).wrapping_add((key.0 >> 16 & 0xff) * 100 + u32::from(key.1));
+        asked = asked
+            .wrapping_mul(1000)
+            .wrapping_add((key.0 >> 16 & 0xff) * 100 + u32::from(key.1));
         *value != 2
     });
     is_equal(&rt, asked, 8_016_116);
