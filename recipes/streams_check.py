@@ -719,6 +719,8 @@ def rtnetlink_ends(chain, ip, batch, networks):
         chain.start("rtnetlink", chain.shown["rtnetlink"])
         settled_to(chain, "the recipe killed")
     many_events(chain, ip)
+    tool(*ip, "route", "flush", "root", "10.192.0.0/11")
+    settled_to(chain, "some networks gone")
     lines = subprocess.Popen([*ip, "-batch", "-"], stdin=subprocess.PIPE, text=True)
 
     def change(at):
