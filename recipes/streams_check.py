@@ -23,7 +23,8 @@ from live_check import inside, socket_in, wait_for
 from streams import COMMAND
 
 DRAWN = random.Random(1)
-LONG, QUIET = 60, 15  # seconds that a daemon has for a change, on a busy machine; and without a route, after which a dump is over here
+LONG = 90  # seconds that a daemon has for a change, on a busy machine
+QUIET = {"exabgp": 10, "gobgp": 5, "frr": 30}  # seconds without a route, after which a dump is over here
 LINES = ("address add 192.0.2.254/24 dev lan", "address add 2001:db8:5::254/64 dev lan nodad",
          *(f"address add 198.18.0.{at}/32 dev lo" for at in (1, 2, 253, 254)))
 PEERS = {"a": ("198.18.0.1", "198.18.0.254"), "b": ("198.18.0.2", "198.18.0.253")}
@@ -133,6 +134,7 @@ class Chain:
     def stop(self, name, how=signal.SIGTERM):
         process = self.processes.pop(name)
         os.killpg(process.pid, how)
+        os.killpg(process.pid, signal.SIGCONT)
         process.wait()
 
     def close(self):
@@ -160,14 +162,8 @@ class Chain:
         until = time.monotonic() + LONG
         while (state := self.state()) != expected:
             if time.monotonic() > until:
-                print("\n".join(self.said(name) for name in self.processes))
                 wrong = [(network, state.get(network), expected.get(network)) for network in state.keys() | expected.keys()
                          if state.get(network) != expected.get(network)]
-                if "frr" in self.processes:
-                    print(wrong)
-                    for net in wrong[:5]:
-                        print(subprocess.run(["vtysh", "--vty_socket", str(Path(self.folder).parent / "frr"), "-c", f"show {'ipv6' if ':' in net[0] else 'ip'} route {net[0]}"], capture_output=True, text=True))
-                    print(self.commands()[-2000:])
                 fault(f"{title}: {len(wrong)} networks have other routes, such as {wrong[:3]}")
             time.sleep(0.05)
         self.compare(title, expected)
@@ -244,7 +240,7 @@ def many(chain, recipe, upstream, routes, has_preference=True):
 def blocks(page, name):
     """The next block of the page, with the folders of this check."""
     block = page.text().replace("/usr/local/share/jolmidda/recipes", str(HERE)).replace("/var/lib/jolmidda", page.folder)
-    block = re.sub(r"(exabgp|gobgp|frr) feed ", rf"\1 feed -q {QUIET} ", block)
+    block = re.sub(r"(exabgp|gobgp|frr) feed ", lambda found: f"{found[0]}-q {QUIET[found[1]]} ", block)
     if name:
         Path(page.folder, name).write_text(block)
     return block
@@ -263,12 +259,14 @@ def milliseconds(chain, change):
     """The time from each of a hundred changes to the event of the kernel for table 77: median, 99th, and the most."""
     events, found = socket_in(chain.own), []
     events.setsockopt(270, 1, 7)  # SOL_NETLINK, NETLINK_ADD_MEMBERSHIP, RTNLGRP_IPV4_ROUTE
+    while select.select([events], [], [], 3)[0]:
+        events.recv(1 << 17)
     for at, network in enumerate(ONES):
         begun, came = time.monotonic(), None
         change(at)
         while came is None:
             if not select.select([events], [], [], LONG)[0]:
-                fault(f"{network} did not come to table 77")
+                fault(f"{network} did not come to table 77: {chain.said('keep')}")
             for kind, _, _, body in netlink.messages(events.recv(1 << 17)):
                 route = netlink.route(body) if kind == netlink.NEWROUTE else None
                 if route and (route.network, route.table) == (network, 77):
@@ -605,7 +603,7 @@ def frr_ends(chain, upstream, held, folder, place):
         if "changes" in title:
             chain.comes_to(title, by_peers(routes))
         else:
-            time.sleep(2 * QUIET)
+            time.sleep(1.5 * QUIET["frr"])
             same("commands after FRR's restart", chain.commands()[len(before):], "")
 
 
