@@ -9,4 +9,4 @@ _jolmidda() {
         mapfile -t COMPREPLY < <(compgen -f -- "$word")
     fi
 }
-complete -o filenames -F _jolmidda routes fib_kernel jolmidda-{access-lists,bird,kernel,live,map,mirror,mrt,number,regions,service,sets}
+complete -o filenames -F _jolmidda routes fib_kernel jolmidda-{access-lists,bird,exabgp,frr,gobgp,kernel,live,map,mirror,mrt,number,redis,regions,rtnetlink,service,sets}

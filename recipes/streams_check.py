@@ -1,0 +1,746 @@
+"""Runs the recipes that read a stream with their daemons, in network namespaces: `recipes/exabgp check` and so on. BIRD is the peer, and gets
+its commands by its control socket. After each change the file of commands must come to the expected routes."""
+import contextlib
+import ipaddress
+import json
+import os
+import random
+import re
+import select
+import shutil
+import signal
+import socket
+import struct
+import subprocess
+import sys
+import tempfile
+import time
+from pathlib import Path
+
+import netlink
+from common import HERE, Numbers, Page, any_addresses, bird, ends, fault, hops_of, namespace, needs, refused, same, text, tool
+from live_check import inside, socket_in, wait_for
+from streams import COMMAND
+
+DRAWN = random.Random(1)
+LONG = 90  # seconds that a daemon has for a change, on a busy machine
+QUIET = {"exabgp": 10, "gobgp": 5, "frr": 30}  # seconds without a route, after which a dump is over here
+LINES = ("address add 192.0.2.254/24 dev lan", "address add 2001:db8:5::254/64 dev lan nodad",
+         *(f"address add 198.18.0.{at}/32 dev lo" for at in (1, 2, 253, 254)))
+PEERS = {"a": ("198.18.0.1", "198.18.0.254"), "b": ("198.18.0.2", "198.18.0.253")}
+ONES = [f"10.200.{at}.0/24" for at in range(100)]
+DRAWN_FROM = ("10.", "11.", "2001:db8:1")
+GATEWAYS = {4: "192.0.2.{}", 6: "2001:db8:5::{}"}
+START = 'log "/dev/null" all;\nrouter id 198.18.0.1;\nprotocol device { }\n'
+ONE = "protocol static one{} {{ disabled; ipv4 {{ table a4; }}; route {} via 192.0.2.1; }}\n"
+BGP = """protocol bgp {0} {{
+  local {1} as 64500; neighbor {2} as 64500; multihop 2; {3}
+  ipv4 {{ table {0}4; import none; export all; next hop keep; }};
+  ipv6 {{ table {0}6; import none; export all; next hop keep; }};
+}}
+"""
+
+
+class Bird:
+    """BIRD's peers, each with the routes of its own tables: gateway and local preference of a network."""
+
+    def __init__(self, folder, control, peers, more):
+        self.path, self.peers, self.more = Path(folder, "bird.conf"), peers, more
+        self.socket = socket.socket(socket.AF_UNIX)
+        self.socket.connect(control)
+        self.reply()
+
+    def reply(self):
+        told = b""
+        while not told.endswith(b"\n") or not told.splitlines()[-1][:5].replace(b" ", b"").isdigit():
+            told += self.socket.recv(1 << 16)
+        return told
+
+    def say(self, command):
+        self.socket.send(f"{command}\n".encode())
+        told = self.reply()
+        if told[:1] in b"89":
+            fault(f"BIRD: {command}: {told.decode()}")
+
+    def set(self, routes):
+        self.path.write_text(configuration(self.peers, self.more, routes))
+        self.say("configure")
+
+
+def configuration(peers, more, routes):
+    lines = [START, *(f"ipv4 table {name}4;\nipv6 table {name}6;\n" for name in peers)]
+    for name, held in routes.items():
+        for family in (4, 6):
+            lines.append(f"protocol static s{name}{family} {{ ipv{family} {{ table {name}{family}; }};\n")
+            lines += (f"  route {network} blackhole {{ bgp_next_hop = {gateway}; bgp_local_pref = {preference}; }};\n"
+                      for network, (gateway, preference) in held.items() if (":" in network) == (family == 6))
+            lines.append("}\n")
+    lines += (ONE.format(at, network) for at, network in enumerate(ONES))
+    lines += (BGP.format(name, *addresses, more) for name, addresses in peers.items())
+    return "".join(lines)
+
+
+@contextlib.contextmanager
+def peer(folder, own, peers, routes, more="connect delay time 1;"):
+    with bird(folder, configuration(peers, more, routes), *inside(own)) as control:
+        yield Bird(folder, control, peers, more)
+
+
+def any_network():
+    if DRAWN.random() < 0.5:
+        return f"10.{DRAWN.randrange(16)}.{DRAWN.randrange(256)}.0/24" if DRAWN.random() < 0.8 else f"10.{DRAWN.randrange(16)}.0.0/16"
+    return f"2001:db8:{DRAWN.randrange(256, 272):x}:{DRAWN.randrange(1, 256):x}::/64"
+
+
+def any_route(network, preferences):
+    return GATEWAYS[6 if ":" in network else 4].format(DRAWN.randrange(1, 7)), DRAWN.choice(preferences)
+
+
+def any_routes(count, preferences=(100,)):
+    return {network: any_route(network, preferences) for network in (any_network() for _ in range(count))}
+
+
+def changed(held, preferences=(100,)):
+    """A third of the routes goes, a third has another next hop or preference, and some are new."""
+    found = {}
+    for network, route in held.items():
+        draw = DRAWN.random()
+        if draw > 0.33:
+            found[network] = route if draw > 0.66 else any_route(network, preferences)
+    return found | any_routes(len(held) // 3, preferences)
+
+
+class Chain:
+    """The page's commands, its two files, and the processes in the background."""
+
+    def __init__(self, folder, own, **tools):
+        self.page = Page(f"{folder}/page", **tools)
+        self.folder, self.own, self.processes = self.page.folder, own, {}
+        self.shown = {}
+        for name in ("ROUTES_FIB", "FIB_KERNEL"):
+            os.environ.setdefault(name, str(HERE.parent / ("netlink/out/fib_kernel" if name == "FIB_KERNEL" else "routes_fib")))
+        self.files = [f"{self.folder}/hops", f"{self.folder}/commands"]
+
+    def start(self, name, command):
+        """Runs a command in the namespace until the end."""
+        where, said = self.page.where(), open(f"{self.folder}/{name}.said", "a")
+        self.processes[name] = subprocess.Popen([*inside(self.own), "bash", "-c", f"exec {command}" if "|" not in command else command],
+                                                start_new_session=True, stdout=said, stderr=said, **where)
+        said.close()
+
+    def said(self, name):
+        return Path(f"{self.folder}/{name}.said").read_text()
+
+    def stop(self, name, how=signal.SIGTERM):
+        process = self.processes.pop(name)
+        os.killpg(process.pid, how)
+        os.killpg(process.pid, signal.SIGCONT)
+        process.wait()
+
+    def close(self):
+        for name in list(self.processes):
+            self.stop(name)
+
+    def commands(self):
+        return Path(self.files[1]).read_text()
+
+    def state(self):
+        """The preference of each next hop of each network, after all commands."""
+        lines, found = self.commands().splitlines(), {}
+        names = {"drop": "drop"} | Numbers(self.files[0]).names()
+        for line in lines:
+            word, network, hop, preference = COMMAND.fullmatch(line).groups()
+            held = found.setdefault(network, {})
+            if word == "add":
+                held[names[hop]] = int(preference)
+            else:
+                del held[names[hop]]
+        return {network: held for network, held in found.items() if held and network.startswith(DRAWN_FROM)}
+
+    def comes_to(self, title, expected):
+        """The file of commands gives each network these next hops, soon, and the leader then answers so for addresses."""
+        until = time.monotonic() + LONG
+        while (state := self.state()) != expected:
+            if time.monotonic() > until:
+                wrong = [(network, state.get(network), expected.get(network)) for network in state.keys() | expected.keys()
+                         if state.get(network) != expected.get(network)]
+                fault(f"{title}: {len(wrong)} networks have other routes, such as {wrong[:3]}")
+            time.sleep(0.05)
+        self.compare(title, expected)
+
+    def compare(self, title, expected):
+        numbers, addresses = Numbers(self.files[0]), ends(expected) + any_addresses(200)
+        best, lengths = {}, {4: set(), 6: set()}
+        for network, held in expected.items():
+            one = ipaddress.ip_network(network)
+            lengths[one.version].add(one.prefixlen)
+            best[one] = min(held, key=lambda words: (-held[words], 1 << 32 if words == "drop" else numbers[words]))
+        found = hops_of(self.commands(), addresses)
+        for address, hop in zip(addresses, found):
+            one = ipaddress.ip_address(address)
+            nets = (ipaddress.ip_network((int(one) >> (one.max_prefixlen - length) << (one.max_prefixlen - length), length))
+                    for length in sorted(lengths[one.version], reverse=True))
+            words = next((best[net] for net in nets if net in best), None)
+            if any(one in net for net in OTHERS):
+                continue
+            same(f"{title}: the next hop of {address}", hop, None if words in (None, "drop") else str(numbers[words]))
+        print(f"{title}: {len(expected):,} networks have the expected routes; the leader answers {len(addresses):,} addresses so")
+
+    def replaced(self, title, act, expected):
+        """All networks get another route, and none is without a route for a moment."""
+        before = len(self.commands().splitlines())
+        act()
+        self.comes_to(title, expected)
+        lines = self.commands().splitlines()
+        replies = tool(self.page.folder + "/bin/routes", "lead", given=text(lines)).splitlines()
+        closed, tail = 0, []
+        for line in replies:
+            tail += [line] if closed >= before else []
+            closed += line in ("ok", "none", "bad", "refused")
+        counts = [sum(line.startswith(word) for line in tail) for word in ("set ", "unset ")]
+        print(f"{title}: the leader's replies have {counts[0]:,} `set` and {counts[1]} `unset`")
+        if not counts[0] or counts[1]:
+            fault(f"{title}: a network was without a route")
+
+
+OTHERS = [ipaddress.ip_network(net) for net in ("192.0.2.0/24", "198.18.0.0/24", "2001:db8:5::/64", "127.0.0.0/8")]
+
+
+def by_peers(routes, has_preference=True):
+    """The expected next hops of each network, by the routes of all peers, with the local preferences or their order."""
+    found = {}
+    for held in routes.values():
+        for network, (gateway, preference) in held.items():
+            words, of_net = f"via {gateway} dev lan", found.setdefault(network, {})
+            of_net[words] = max(preference if has_preference else 100, of_net.get(words, 0))
+    for of_net in found.values():
+        if max(of_net.values()) > 65535:
+            order = sorted(set(of_net.values()), reverse=True)
+            of_net.update({words: 65535 - order.index(worth) for words, worth in of_net.items()})
+    return found
+
+
+def child_of(pid):
+    return int(tool("pgrep", "-P", str(pid)).split()[0])
+
+
+def cpu_of(pid):
+    """The CPU seconds that a process has taken."""
+    return sum(map(int, Path(f"/proc/{pid}/stat").read_text().rpartition(") ")[2].split()[11:13])) / os.sysconf("SC_CLK_TCK")
+
+
+def many(chain, recipe, upstream, routes, has_preference=True):
+    """The CPU time that many routes take."""
+    begun, lines = cpu_of(recipe), len(chain.commands().splitlines())
+    upstream.set(routes)
+    chain.comes_to("many routes", by_peers(routes, has_preference))
+    print(f"{len(chain.commands().splitlines()) - lines:,} commands took the recipe {cpu_of(recipe) - begun:.2f} s of CPU time")
+
+
+def blocks(page, name):
+    """The next block of the page, with the folders of this check."""
+    block = page.text().replace("/usr/local/share/jolmidda/recipes", str(HERE)).replace("/var/lib/jolmidda", page.folder)
+    block = re.sub(r"(exabgp|gobgp|frr) feed ", lambda found: f"{found[0]}-q {QUIET[found[1]]} ", block)
+    if name:
+        Path(page.folder, name).write_text(block)
+    return block
+
+
+def three(chain, *names):
+    """Starts the page's three commands, in their order."""
+    for name, line in zip(names, blocks(chain.page, None).splitlines()):
+        chain.shown[name] = line.rstrip("& ")
+        chain.start(name, chain.shown[name])
+        if name == "leader":
+            wait_for("the files", lambda: all(map(os.path.exists, chain.files)))
+
+
+def milliseconds(chain, change):
+    """The time from each of a hundred changes to the event of the kernel for table 77: median, 99th, and the most."""
+    events, found = socket_in(chain.own), []
+    events.setsockopt(270, 1, 7)  # SOL_NETLINK, NETLINK_ADD_MEMBERSHIP, RTNLGRP_IPV4_ROUTE
+    while select.select([events], [], [], 3)[0]:
+        events.recv(1 << 17)
+    for at, network in enumerate(ONES):
+        begun, came = time.monotonic(), None
+        change(at)
+        while came is None:
+            if not select.select([events], [], [], LONG)[0]:
+                fault(f"{network} did not come to table 77: {chain.said('keep')}")
+            for kind, _, _, body in netlink.messages(events.recv(1 << 17)):
+                route = netlink.route(body) if kind == netlink.NEWROUTE else None
+                if route and (route.network, route.table) == (network, 77):
+                    came = time.monotonic()
+        found.append((came - begun) * 1000)
+    events.close()
+    found.sort()
+    with open("/proc/loadavg") as file:
+        load = file.read().split()[0]
+    print(f"from an update at the peer to the kernel, {len(found)} times: median {found[49]:.1f} ms, 99th {found[98]:.1f} ms, "
+          f"most {found[99]:.1f} ms; load {load} on {os.cpu_count()} processors")
+
+
+@contextlib.contextmanager
+def chain_of(folder, own, **tools):
+    chain = Chain(folder, own, **tools)
+    try:
+        yield chain
+    finally:
+        chain.close()
+
+
+def wrong_files(chain, recipe, *before):
+    """Files that the recipe refuses."""
+    folder = chain.folder
+    for name, contents in (("hops", "1\n"), ("hops", "1 a\n1 b\n"), ("commands", "1 via 192.0.2.1 dev lan\n"), ("commands", "add 10.0.0.0/8\n\n")):
+        for one in ("hops", "commands"):
+            Path(folder, f"{one}.wrong").write_text(contents if one == name else "")
+        chain.page.refuses(f"recipes/{recipe} feed {' '.join(before)} hops.wrong commands.wrong < /dev/null > /dev/null")
+    chain.page.refuses(f"recipes/{recipe} feed {' '.join(before)} hops.wrong nosuch/commands < /dev/null > /dev/null")
+    chain.page.refuses(f"recipes/{recipe} feed {' '.join(before)} hops commands < /dev/null > /dev/null")
+    for words in ("", "feed", "feed a", "feed -q 0 a b", "feed a b c d", "check more"):
+        done = subprocess.run(f"{HERE}/{recipe} {words}", shell=True, capture_output=True, text=True)
+        same(f"{recipe} {words}", [done.returncode, "usage:" in done.stderr], [1, True])
+    same(f"{recipe} --help", "usage:" in tool(f"{HERE}/{recipe}", "--help"), True)
+
+
+def exabgp():
+    needs("exabgp", "exabgp")
+    needs("bird", "bird2")
+    first = {"a": {"10.0.0.0/8": ("192.0.2.1", 200)}, "b": {"10.0.0.0/8": ("192.0.2.2", 100)}}
+    with tempfile.TemporaryDirectory() as folder, namespace(*LINES) as own, peer(folder, own, PEERS, {"a": {}, "b": {}}) as upstream, \
+            chain_of(folder, own) as chain:
+        check_ninth(chain)
+        blocks(chain.page, "exabgp.conf")
+        three(chain, "leader", "keep", "exabgp")
+        for name in first:
+            upstream.set({"a": {}, "b": {}} | {one: first[one] for one in first if one <= name})
+            wait_for(f"the route of {name}", lambda: name in "a" * (" 1 200\n" in chain.commands()) + "b" * (" 2 100\n" in chain.commands()))
+        chain.page.gives(chain.commands())
+        chain.page.gives(Path(chain.files[0]).read_text())
+        upstream.say("disable a")
+        wait_for("the route that goes", lambda: "del" in chain.commands())
+        chain.page.gives(chain.commands().splitlines(keepends=True)[-1])
+        chain.page.end()
+        upstream.say("enable a")
+        exabgp_rounds(chain, upstream)
+        exabgp_ends(chain, upstream)
+        exabgp_inputs(chain)
+
+
+PREFERENCES = (100, 100, 200, 300, 65535, 65536, 4294967295)
+
+
+def exabgp_rounds(chain, upstream):
+    """Random changes of both peers, a session that goes down, other routes for all networks, and a next hop that can't be reached at first."""
+    routes = {name: any_routes(300, PREFERENCES) for name in PEERS}
+    for at in range(4):
+        upstream.set(routes)
+        chain.comes_to(f"change {at + 1}", by_peers(routes))
+        routes = {name: changed(held, PREFERENCES) for name, held in routes.items()}
+    upstream.set(routes)
+    upstream.say("disable b")
+    chain.comes_to("a session down", by_peers({"a": routes["a"]}))
+    upstream.say("enable b")
+    chain.comes_to("the session up again", by_peers(routes))
+    others = {name: {network: (GATEWAYS[6 if ":" in network else 4].format(7 + (name == "b")), 400) for network in held}
+              for name, held in routes.items()}
+    chain.replaced("other next hops for all networks", lambda: upstream.set(others), by_peers(others))
+    far = {name: held | {"10.99.0.0/16": ("203.0.113.9", 100)} if name == "a" else held for name, held in others.items()}
+    upstream.set(far)
+    wait_for("the next hop that can't be reached", lambda: "no route to its next hop 203.0.113.9" in chain.said("exabgp"))
+    chain.comes_to("a next hop that can't be reached", by_peers(others))
+    tool("ip", "-n", chain.own, "route", "add", "203.0.113.0/24", "via", "192.0.2.77")
+    chain.comes_to("the same, when it can", by_peers(others) | {"10.99.0.0/16": {"via 192.0.2.77 dev lan": 100}})
+    chain.routes = others
+
+
+def exabgp_ends(chain, upstream):
+    """The recipe is killed, and ExaBGP with it; what changes meanwhile is in the commands afterwards."""
+    routes = chain.routes
+    for at in range(3):
+        routes = {name: changed(held, PREFERENCES) for name, held in routes.items()}
+        recipe = child_of(chain.processes["exabgp"].pid)
+        os.kill(recipe, signal.SIGSTOP)
+        upstream.set(routes)
+        time.sleep(1)
+        os.kill(recipe, signal.SIGKILL)
+        chain.comes_to("the recipe killed with updates that it had not read", by_peers(routes))
+    before = chain.commands()
+    chain.stop("exabgp", signal.SIGKILL)
+    same("commands after ExaBGP's end", chain.commands(), before)
+    routes = {name: changed(held, PREFERENCES) for name, held in routes.items()}
+    upstream.set(routes)
+    chain.start("exabgp", chain.shown["exabgp"])
+    chain.comes_to("ExaBGP killed and started again", by_peers(routes))
+    many(chain, child_of(chain.processes["exabgp"].pid), upstream, {name: any_routes(5000) for name in PEERS})
+    milliseconds(chain, lambda at: upstream.say(f"enable one{at}"))
+
+
+def json_line(peer, gateway, network, preference=None):
+    """An update as ExaBGP writes it; a withdrawal if there is no gateway."""
+    told = {"attribute": {"local-preference": preference}, "announce": {"ipv4 unicast": {gateway: [{"nlri": network}]}}} if gateway else \
+        {"withdraw": {"ipv4 unicast": [{"nlri": network}]}}
+    return json.dumps({"type": "update", "neighbor": {"address": {"peer": peer}, "message": {"update": told}}})
+
+
+def check_ninth(chain):
+    """More peers than a network may have routes, by lines."""
+    lines = [json_line(f"198.18.1.{at}", f"192.0.2.{at}", "10.0.0.0/8", 100 + at) for at in range(1, 11)]
+    lines += [json_line(f"198.18.1.{at}", None, "10.0.0.0/8") for at in (10, 5, 9)]
+    tool(*inside(chain.own), "recipes/exabgp", "feed", "hops", "commands", given=text(lines), cwd=chain.folder)
+    expected = {f"via 192.0.2.{at} dev lan": 100 + at for at in (1, 2, 3, 4, 6, 7, 8)}
+    same("ten next hops, of which three go", chain.state(), {"10.0.0.0/8": expected})
+    most = max(len(chain_state(chain.commands().splitlines()[:at])) for at in range(len(chain.commands().splitlines())))
+    same("the most routes of the network", most, 8)
+    for path in chain.files:
+        os.unlink(path)
+
+
+def chain_state(lines):
+    found = set()
+    for line in lines:
+        word, _, hop, _ = COMMAND.fullmatch(line).groups()
+        (found.add if word == "add" else found.discard)(hop)
+    return found
+
+
+def exabgp_inputs(chain):
+    for name in ("hops", "commands"):
+        Path(chain.folder, f"{name}.new").write_text("")
+    for line in ("x", "{}", "[]", '{"type": "update", "neighbor": {"message": {"update": {"announce": {"ipv4 unicast": 1}}}}}'):
+        chain.page.refuses("recipes/exabgp feed hops.new commands.new > /dev/null", f"{line}\n")
+    cut_off(chain, "recipes/exabgp feed hops.new commands.new > /dev/null")
+    wrong_files(chain, "exabgp")
+
+
+def cut_off(chain, command):
+    """A last line without its end gets it, and the next start passes it over."""
+    path = Path(chain.folder, "commands.new")
+    path.write_text("add 10.0.0.0/8 1 100\nadd 10.1.0.0/1")
+    for _ in range(2):
+        chain.page.run(f"{command} < /dev/null")
+    same("a line that was cut off", path.read_text(), "add 10.0.0.0/8 1 100\nadd 10.1.0.0/1\n")
+
+
+def gobgp():
+    needs("gobgpd", "gobgpd")
+    needs("bird", "bird2")
+    peers = {"a": PEERS["a"]}
+    with tempfile.TemporaryDirectory() as folder, namespace(*LINES) as own, chain_of(folder, own) as chain, \
+            peer(folder, own, peers, {"a": {}}, "passive;") as upstream:
+        blocks(chain.page, "gobgpd.toml")
+        chain.start("gobgpd", "gobgpd -f gobgpd.toml")
+        wait_for("gobgpd", lambda: subprocess.run([*inside(own), "gobgp", "neighbor"], capture_output=True).returncode == 0)
+        three(chain, "leader", "keep", "gobgp")
+        for gateway in ("192.0.2.1", "192.0.2.2"):
+            upstream.set({"a": {"10.0.0.0/8": (gateway, 100)}})
+            wait_for(gateway, lambda: f"via {gateway} " in Path(chain.files[0]).read_text())
+        wait_for("the route that goes", lambda: "del" in chain.commands())
+        chain.page.gives(chain.commands())
+        chain.page.gives(Path(chain.files[0]).read_text())
+        chain.page.end()
+        gobgp_rounds(chain, upstream)
+
+
+def gobgp_rounds(chain, upstream):
+    """Random changes, a session that goes down, other next hops for all networks, and ends of the monitor and of gobgpd."""
+    routes = {"a": any_routes(600)}
+    for at in range(4):
+        upstream.set(routes)
+        chain.comes_to(f"change {at + 1}", by_peers(routes))
+        routes = {"a": changed(routes["a"])}
+    upstream.say("disable a")
+    chain.comes_to("a session down", {})
+    upstream.say("enable a")
+    upstream.set(routes)
+    chain.comes_to("the session up again", by_peers(routes))
+    others = {"a": {network: (GATEWAYS[6 if ":" in network else 4].format(7), 100) for network in routes["a"]}}
+    chain.replaced("other next hops for all networks", lambda: upstream.set(others), by_peers(others))
+    for title, name in (("the recipe and the monitor killed", "gobgp"), ("gobgpd killed", "gobgpd")):
+        before = chain.commands()
+        chain.stop(name, signal.SIGKILL)
+        routes = {"a": changed(others["a"])}
+        upstream.set(routes)
+        if name == "gobgpd":
+            wait_for("the end of the recipe", lambda: "the routes stay" in chain.said("gobgp"))
+            same("the recipe's status", chain.processes["gobgp"].wait(), 1)
+            chain.start("gobgpd", "gobgpd -f gobgpd.toml")
+            wait_for("its paths", lambda: "10." in tool(*inside(chain.own), "sh", "-c", "gobgp global rib || true"))
+        same("commands after the end", chain.commands(), before)
+        chain.start("gobgp", chain.shown["gobgp"])
+        chain.comes_to(title, by_peers(routes))
+    gobgp_inputs(chain)
+    many(chain, recipe_of(chain, "gobgp"), upstream, {"a": any_routes(10000)})
+    milliseconds(chain, lambda at: upstream.say(f"enable one{at}"))
+
+
+def recipe_of(chain, name):
+    """The process of the recipe in a pipe."""
+    return int(tool("pgrep", "-g", str(chain.processes[name].pid), "-f", f"recipes/{name} feed").split()[-1])
+
+
+def gobgp_inputs(chain):
+    for name in ("hops", "commands"):
+        Path(chain.folder, f"{name}.new").write_text("")
+    path = '{"nlri":{"prefix":"10.0.0.0/8"},"attrs":[{"type":3,"nexthop":"192.0.2.1"}]}'
+    for given in ("", "x\n", "{}\n", "[1]\n", '[{"nlri":{"prefix":"10.0.0.0/8"},"attrs":[]}]\n'):
+        chain.page.refuses("recipes/gobgp feed hops.new commands.new", given)
+    done = subprocess.run([*inside(chain.own), "recipes/gobgp", "feed", "hops.new", "commands.new"], input=f"[{path}]\n[", text=True,
+                          capture_output=True, cwd=chain.folder)
+    same("a line that is cut off", [done.returncode, Path(chain.folder, "commands.new").read_text()], [1, "add 10.0.0.0/8 1 100\n"])
+    wrong_files(chain, "gobgp")
+
+
+BGPD = """router bgp 64500
+ bgp router-id 198.18.0.254
+ neighbor 198.18.0.1 remote-as 64500
+ neighbor 198.18.0.1 update-source 198.18.0.254
+ neighbor 198.18.0.1 timers connect 1
+ address-family ipv6 unicast
+  neighbor 198.18.0.1 activate
+"""
+
+
+@contextlib.contextmanager
+def daemons(folder, own):
+    """FRR's daemons in this namespace. FRR's user must be able to find its sockets, whose folder is returned."""
+    place = f"{folder}/frr"
+    os.mkdir(place)
+    os.chmod(folder, 0o755)
+    shutil.chown(place, "frr", "frrvty")
+    try:
+        start_daemons(place, own)
+        yield place
+    finally:
+        stop_daemons(place, "-TERM")
+
+
+def start_daemons(place, own):
+    for daemon, *more in (("zebra", "-M", "dplane_fpm_nl"), ("staticd",), ("bgpd", "-p", "0")):
+        tool(*inside(own), f"/usr/lib/frr/{daemon}", *more, "-d", "-f", "/dev/null", "-P", "0", "-i", f"{place}/{daemon}.pid", "-z",
+             f"{place}/zserv.api", "--vty_socket", place)
+
+
+def stop_daemons(place, how):
+    for path in Path(place).glob("*.pid"):
+        subprocess.run(["kill", how, path.read_text().strip()], capture_output=True)
+    time.sleep(1)
+
+
+def configured(folder, place, lines):
+    Path(folder, "frr.conf").write_text(lines)
+    tool("vtysh", "--vty_socket", place, "-f", f"{folder}/frr.conf")
+
+
+def frr():
+    needs("vtysh", "frr")
+    needs("bird", "bird2")
+    peers = {"a": PEERS["a"]}
+    with tempfile.TemporaryDirectory() as folder, namespace(LINES[0], "link set lan up") as own, daemons(folder, own) as place, \
+            chain_of(folder, own) as chain:
+        fpm, commands = blocks(chain.page, None), chain.page.text()
+        static = chain.page.text()
+        chain.fpm = fpm
+        configured(folder, place, fpm + static)
+        chain.page.blocks.insert(0, commands)
+        three(chain, "leader", "keep", "frr")
+        wait_for("the dump", lambda: "the dump is over" in chain.said("frr"))
+        chain.page.gives("".join(sorted(chain.commands().splitlines(keepends=True))))
+        chain.page.gives(Path(chain.files[0]).read_text())
+        for rule in blocks(chain.page, None).splitlines():
+            tool(*inside(own), *rule.split())
+        chain.page.end()
+        configured(folder, place, "".join(f"no {line}\n" for line in static.splitlines()))
+        for line in LINES[1:]:
+            tool("ip", "-n", own, *line.split())
+        with peer(folder, own, peers, {"a": {}}, "passive;") as upstream:
+            configured(folder, place, BGPD)
+            frr_rounds(chain, upstream, folder, place)
+
+
+def frr_rounds(chain, upstream, folder, place):
+    """Random changes at the BGP peer, other next hops for all networks, routes over several gateways, and ends of the recipe and of zebra."""
+    routes = {"a": any_routes(600)}
+    for at in range(4):
+        upstream.set(routes)
+        chain.comes_to(f"change {at + 1}", by_peers(routes))
+        routes = {"a": changed(routes["a"])}
+    upstream.say("disable a")
+    chain.comes_to("a session down", {})
+    upstream.say("enable a")
+    upstream.set(routes)
+    chain.comes_to("the session up again", by_peers(routes))
+    others = {"a": {network: (GATEWAYS[6 if ":" in network else 4].format(7), 100) for network in routes["a"]}}
+    chain.replaced("other next hops for all networks", lambda: upstream.set(others), by_peers(others))
+    several = [f"{'ipv6' if ':' in network else 'ip'} route {network} {GATEWAYS[6 if ':' in network else 4].format(at)}\n"
+               for network in others["a"] for at in (8, 9)]
+    both = {network: {" ".join(f"nexthop via {GATEWAYS[6 if ':' in network else 4].format(at)} dev lan" for at in (8, 9)): 100}
+            for network in others["a"]}
+    chain.replaced("two gateways for all networks", lambda: configured(folder, place, "".join(several)), both)
+    chain.replaced("one gateway again", lambda: configured(folder, place, "".join(f"no {line}" for line in several)), by_peers(others))
+    frr_ends(chain, upstream, others["a"], folder, place)
+    frr_inputs(chain, folder, place)
+    many(chain, chain.processes["frr"].pid, upstream, {"a": any_routes(10000)})
+    milliseconds(chain, lambda at: upstream.say(f"enable one{at}"))
+
+
+def frr_ends(chain, upstream, held, folder, place):
+    routes = {"a": changed(held)}
+    chain.stop("frr", signal.SIGKILL)
+    upstream.set(routes)
+    time.sleep(2)
+    chain.start("frr", chain.shown["frr"])
+    chain.comes_to("the recipe killed", by_peers(routes))
+    for title in ("FRR killed and started again", "the same, with changes meanwhile"):
+        before = chain.commands()
+        stop_daemons(place, "-KILL")
+        wait_for("zebra's end", lambda: "zebra has gone" in chain.said("frr"))
+        routes = {"a": changed(routes["a"]) if "changes" in title else routes["a"]}
+        upstream.set(routes)
+        start_daemons(place, chain.own)
+        configured(folder, place, chain.fpm + BGPD)
+        if "changes" in title:
+            chain.comes_to(title, by_peers(routes))
+        else:
+            time.sleep(1.5 * QUIET["frr"])
+            same("commands after FRR's restart", chain.commands()[len(before):], "")
+
+
+def frr_inputs(chain, folder, place):
+    for given in (b"GET / HTTP/1.0\r\n\r\n", b"\1\1\0\2", b"\1\1\0\x10" + bytes(12)):
+        for name in ("hops", "commands"):
+            Path(chain.folder, f"{name}.new").write_text("")
+        recipe = subprocess.Popen([*inside(chain.own), "recipes/frr", "feed", "hops.new", "commands.new", "2621"], cwd=chain.folder,
+                                  stderr=subprocess.PIPE, text=True)
+        script = "import socket, sys, time\nfor _ in range(100):\n    try:\n        s = socket.create_connection(('127.0.0.1', 2621))\n" \
+                 f"        s.send({given!r})\n        sys.exit(s.recv(1) != b'')\n    except OSError:\n        time.sleep(0.1)\n"
+        tool(*inside(chain.own), "python3", "-c", script)
+        said = recipe.communicate()[1].splitlines()
+        same(f"the status for {given}", [recipe.returncode, Path(chain.folder, "commands.new").read_text()], [1, ""])
+        print("refused:", said[-1])
+    wrong_files(chain, "frr")
+
+
+def rtnetlink():
+    needs("jq", "jq")
+    with tempfile.TemporaryDirectory() as folder, namespace(*LINES[:1]) as own, chain_of(folder, own) as chain:
+        three(chain, "leader", "keep", "rtnetlink")
+        wait_for("the connected network", lambda: "add 192.0.2.0/24" in chain.commands())
+        for line in blocks(chain.page, None).splitlines():
+            tool("ip", "-n", own, *line.split()[1:])
+        wait_for("the last route", lambda: "10.1.0.0/16" in chain.commands())
+        chain.page.gives(chain.commands())
+        chain.page.gives(Path(chain.files[0]).read_text())
+        chain.page.end()
+        tool("ip", "-n", own, "route", "flush", "root", "10.0.0.0/8")
+        rtnetlink_rounds(chain)
+        for at in ("0", "x", "4294967296", "78"):
+            chain.page.refuses(f"recipes/rtnetlink feed {at} hops.new commands.new") if at == "78" else None
+        wrong_files(chain, "rtnetlink", "254")
+
+
+def any_change(part):
+    """A line for `ip -batch`, which may fail, on networks of one part of eight."""
+    is_six = DRAWN.random() < 0.5
+    network = f"2001:db8:1{part}{DRAWN.randrange(128):02x}::/48" if is_six else f"10.{32 * part + DRAWN.randrange(32)}.{DRAWN.randrange(4)}.0/24"
+    gateway = [GATEWAYS[6 if is_six else 4].format(DRAWN.randrange(1, 7)) for _ in range(2)]
+    word = DRAWN.choice(("add", "replace", "replace", "replace", "append", "change", "del", "del"))
+    draw = DRAWN.random()
+    if word == "del" and draw < 0.5:
+        how = ""
+    elif draw < 0.15:
+        how = "unreachable"
+    elif draw < 0.4 and gateway[0] != gateway[1]:
+        how = f"nexthop via {gateway[0]} weight {DRAWN.randrange(1, 4)} nexthop via {gateway[1]}"
+    else:
+        how = f"via {gateway[0]}"
+    kind, how = (how, "") if how == "unreachable" else ("", how)
+    return f"route {word} {kind} {network} metric {DRAWN.choice((10, 20))} {how}"
+
+
+def by_jq(chain):
+    """The routes of the kernel, as `ip` and recipes/ip-route.jq have them."""
+    found = {}
+    for family in ("-4", "-6"):
+        told = chain.page.run(f"ip -n {chain.own} -j {family} route show table main | jq -rf recipes/ip-route.jq")
+        for network, preference, words in (line.split(" ", 2) for line in told.splitlines()):
+            of_net = found.setdefault(network, {})
+            of_net[words] = max(int(preference), of_net.get(words, 0))
+    return {network: held for network, held in found.items() if network.startswith(DRAWN_FROM)}
+
+
+def settled_to(chain, title):
+    chain.comes_to(title, by_jq(chain))
+
+
+def rtnetlink_rounds(chain):
+    """Random changes, other next hops for all networks, objects, links, and an end of the recipe."""
+    ip = ("ip", "-n", chain.own)
+    tool(*ip, *LINES[1].split())
+
+    def batch(lines):
+        subprocess.run([*ip, "-force", "-batch", "-"], input=text(lines), text=True, capture_output=True)
+
+    for at in range(8):
+        tool(*ip, "route", "flush", "root", f"10.{32 * at}.0.0/11")
+        tool(*ip, "-6", "route", "flush", "root", f"2001:db8:1{at}00::/40")
+        batch(any_change(at) for _ in range(400))
+        settled_to(chain, f"change {at + 1}")
+    held = chain.state()
+    batch(f"route del {network}" for network in held for _ in range(9))
+    networks = [network for network in held if network.startswith("10.")]
+    batch(f"route add {network} via 192.0.2.1" for network in networks)
+    settled_to(chain, "one route for each network")
+    chain.replaced("other next hops for all networks", lambda: batch(f"route replace {network} via 192.0.2.7" for network in networks),
+                   {network: {"via 192.0.2.7 dev lan": 65535} for network in networks})
+    batch(["nexthop add id 1 via 192.0.2.8 dev lan", "nexthop add id 2 via 192.0.2.9 dev lan", "nexthop add id 3 group 1/2",
+           *(f"route replace {network} nhid 3" for network in networks)])
+    several = "nexthop via 192.0.2.8 dev lan nexthop via 192.0.2.9 dev lan"
+    chain.comes_to("a group of nexthop objects", {network: {several: 65535} for network in networks})
+    batch(["nexthop replace id 3 group 2"])
+    chain.comes_to("another group", {network: {"via 192.0.2.9 dev lan": 65535} for network in networks})
+    batch([*(f"route replace {network} via 192.0.2.7" for network in networks), "route add 10.99.0.0/16 dev lan"])
+    settled_to(chain, "routes by their gateways again")
+    rtnetlink_ends(chain, ip, batch, networks)
+
+
+def rtnetlink_ends(chain, ip, batch, networks):
+    tool(*ip, "link", "set", "lan", "down")
+    chain.comes_to("a link that goes down", {})
+    tool(*ip, "link", "set", "lan", "up")
+    batch(f"route replace {network} via 192.0.2.6" for network in networks)
+    settled_to(chain, "the link up again")
+    for at in range(3):
+        chain.stop("rtnetlink", signal.SIGKILL)
+        batch(any_change(at) for _ in range(200))
+        chain.start("rtnetlink", chain.shown["rtnetlink"])
+        settled_to(chain, "the recipe killed")
+    many_events(chain, ip)
+    tool(*ip, "route", "flush", "root", "10.192.0.0/11")
+    settled_to(chain, "some networks gone")
+    lines = subprocess.Popen([*ip, "-batch", "-"], stdin=subprocess.PIPE, text=True)
+
+    def change(at):
+        lines.stdin.write(f"route add {ONES[at]} via 192.0.2.1\n")
+        lines.stdin.flush()
+
+    milliseconds(chain, change)
+    lines.stdin.close()
+    lines.wait()
+
+
+def many_events(chain, ip):
+    """More events than fit, while the recipe is stopped; then the CPU time of many routes."""
+    recipe = chain.processes["rtnetlink"].pid
+    networks = [f"11.{at >> 8}.{at & 255}.0/24" for at in range(1 << 14)]
+    begun, lines = cpu_of(recipe), len(chain.commands().splitlines())
+    tool(*ip, "-batch", "-", given=text(f"route add {network} via 192.0.2.1" for network in networks))
+    settled_to(chain, "many routes")
+    print(f"{len(chain.commands().splitlines()) - lines:,} commands took the recipe {cpu_of(recipe) - begun:.2f} s of CPU time")
+    os.kill(recipe, signal.SIGSTOP)
+    for gateway in (2, 3, 4, 5, 6, 7, 8, 9):
+        tool(*ip, "-batch", "-", given=text(f"route replace {network} via 192.0.2.{gateway}" for network in networks))
+    tool(*ip, "route", "flush", "root", "11.32.0.0/11")
+    os.kill(recipe, signal.SIGCONT)
+    settled_to(chain, "more events than fit")
