@@ -1,4 +1,4 @@
-"""Drives a kernel in network namespaces by routes_fib and fib_kernel, and asks it between single operations. `recipes/live check` runs this."""
+"""Drives a kernel in network namespaces by routes_fib and fib_kernel, and asks it between single operations: `recipes/live check`."""
 import contextlib
 import ctypes
 import ipaddress
@@ -641,7 +641,7 @@ class Small:
     def wait(self, **hops):
         """Until 10.N.0.1 has this hop for each word _N. 0 is none."""
         addresses = [f"10.{name[1:]}.0.1" for name in hops]
-        wait_for(f"{hops}, and there is {self.hops_of(*addresses)}", lambda: [hop or 0 for hop in self.hops_of(*addresses)] == [*hops.values()])
+        wait_for(f"{hops}", lambda: [hop or 0 for hop in self.hops_of(*addresses)] == [*hops.values()])
 
 
 @contextlib.contextmanager
