@@ -1,4 +1,5 @@
 """The check of recipes/service: the daemons by the commands of their units, in a network namespace and a small file system."""
+import contextlib
 import errno
 import os
 import random
@@ -121,9 +122,8 @@ def await_leader(folder, what, seconds=120):
         time.sleep(0.5)
 
 
-def check_kills(folder, run, seconds):
+def check_kills(folder, daemons, seconds):
     draw, killed = random.Random(1), Counter()
-    daemons = {unit: Daemon(unit, folder, run) for unit in UNITS}
     source = Source(f"{folder}/commands", random.Random(2))
     end = time.monotonic() + seconds
     while time.monotonic() < end:
@@ -132,7 +132,6 @@ def check_kills(folder, run, seconds):
     source.end()
     await_leader(folder, f"{sum(killed.values())} kills in {seconds} s")
     print(f"killed: {dict(killed)}; starts: {({unit: daemon.starts for unit, daemon in daemons.items()})}")
-    return daemons
 
 
 def check_full(folder):
@@ -170,12 +169,11 @@ def check_status(folder, run, daemons):
     same("rejected commands", rows['jolmidda_rejected_total{part="lead"}'], "1")
 
 
-def check_other_commands(folder, daemons):
+def check_other_commands(folder, run, daemons):
     """Shorter and other commands: a new log takes the old one's place, and the kernel follows."""
     daemons["lead"].end()
     Path(folder, "commands").write_text("add 10.0.0.0/8 1\nadd 10.0.0.0/9 2\n")
-    daemons["lead"] = Daemon("lead", folder, Path(daemons["lead"].said.name).parent.as_posix())
-    daemons["keep"] = Daemon("keep", folder, Path(daemons["lead"].said.name).parent.as_posix())
+    daemons |= {unit: Daemon(unit, folder, run) for unit in ("lead", "keep")}
     await_leader(folder, "other commands")
 
 
@@ -192,6 +190,17 @@ def check_units(folder):
     return print("systemd-analyze verify accepts the units")
 
 
+@contextlib.contextmanager
+def small_disk():
+    """A folder with a file system of its own."""
+    with tempfile.TemporaryDirectory() as folder:
+        tool("mount", "-t", "tmpfs", "-o", "size=6m", "none", folder)
+        try:
+            yield folder
+        finally:
+            tool("umount", "-l", folder)
+
+
 def check(seconds="60"):
     needs("ip", "iproute2")
     if not is_number(seconds):
@@ -199,9 +208,8 @@ def check(seconds="60"):
     if os.geteuid():
         pass_over("a network namespace needs root")
     if ALONE not in os.environ:
-        os.execvpe("unshare", ["unshare", "-mn", sys.argv[0], "check", seconds], os.environ | {ALONE: "1"})
-    with tempfile.TemporaryDirectory() as run, tempfile.TemporaryDirectory() as folder:
-        tool("mount", "-t", "tmpfs", "-o", "size=6m", "none", folder)
+        os.execvpe("unshare", ["unshare", "-mnpf", "--kill-child", "--mount-proc", sys.argv[0], "check", seconds], os.environ | {ALONE: "1"})
+    with tempfile.TemporaryDirectory() as run, small_disk() as folder:
         for line in ("link set lo up", "link add lan type veth peer name far", "link set far up", "link set lan up",
                      "address add 192.0.2.254/24 dev lan"):
             tool("ip", *line.split())
@@ -209,12 +217,12 @@ def check(seconds="60"):
         check_units(run)
         print("refused:", refused(sys.argv[0], "status", run))
         print("refused:", refused(sys.argv[0], "lead", "/none", run))
-        daemons = check_kills(folder, run, int(seconds))
+        daemons = {unit: Daemon(unit, folder, run) for unit in UNITS}
         try:
+            check_kills(folder, daemons, int(seconds))
             check_full(folder)
             check_status(folder, run, daemons)
-            check_other_commands(folder, daemons)
+            check_other_commands(folder, run, daemons)
         finally:
             for daemon in daemons.values():
                 daemon.end()
-            tool("umount", folder)
