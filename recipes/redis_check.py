@@ -24,8 +24,8 @@ class Machines:
     def start(self, name, command=None):
         self.commands.setdefault(name, command)
         with open(f"{self.folder}/{name}.said", "a") as said:
-            self.running[name] = subprocess.Popen([*inside(self.own), "bash", "-c", f"exec {self.commands[name]}"], stdout=said, stderr=said,
-                                                  **self.page.where())
+            command = [*inside(self.own), "bash", "-c", f"exec {self.commands[name]}"]
+            self.running[name] = subprocess.Popen(command, stdout=said, stderr=said, **self.page.where())
 
     def stop(self, name):
         process = self.running.pop(name)
