@@ -24,9 +24,9 @@ def messages(data):
     """The type, flags, number and body of each message."""
     at = 0
     while at < len(data):
-        length, kind, flags, number, _ = HEADER.unpack_from(data, at)
+        length, kind, flags, number, _ = HEADER.unpack_from(data[at:at + HEADER.size].ljust(HEADER.size, b"\0"))
         if length < HEADER.size or at + length > len(data):
-            raise ValueError(f"a message of {length} bytes")
+            raise ValueError(f"a message of {length} bytes, of which {len(data) - at} came")
         yield kind, flags, number, data[at + HEADER.size:at + length]
         at += length + 3 & ~3
 

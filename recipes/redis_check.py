@@ -24,8 +24,8 @@ class Machines:
     def start(self, name, command=None):
         self.commands.setdefault(name, command)
         with open(f"{self.folder}/{name}.said", "a") as said:
-            self.running[name] = subprocess.Popen([*inside(self.own), "bash", "-c", f"exec {self.commands[name]}"], stdout=said, stderr=said,
-                                                  **self.page.where())
+            command = [*inside(self.own), "bash", "-c", f"exec {self.commands[name]}"]
+            self.running[name] = subprocess.Popen(command, stdout=said, stderr=said, **self.page.where())
 
     def stop(self, name):
         process = self.running.pop(name)
@@ -131,6 +131,14 @@ def check_wrong(machines, page):
     for words in (f"send {url} routes other", f"receive {url} routes other", f"send {url} routes short", f"send {url} routes nosuch",
                   "send nonsense routes log", f"receive {url} routes nosuch/copy"):
         page.refuses(f"{inner} recipes/redis {words}")
+    for name, new in (("cut", "truncate -s 10 log.{0}"), ("replaced", "cp log.{0} log.new; mv log.new log.{0}"), ("begun", "echo ok > log.{0}")):
+        Path(page.folder, f"log.{name}").write_text("set 10.0.0.0/8 9\nok\n" * 100)
+        machines.start(name, f"recipes/redis send {url} {name} log.{name}")
+        asked = [*inside(machines.own), "redis-cli", "-h", "192.0.2.254", "-a", "secret", "--no-auth-warning", "xlen", name]
+        wait_for("the sender", lambda: tool(*asked) == "1\n")
+        tool("sh", "-c", new.format(name), cwd=page.folder)
+        same(f"the status for {new}", machines.running.pop(name).wait(), 1)
+        print("refused:", Path(page.folder, f"{name}.said").read_text().splitlines()[-1])
     same("the other log", Path(page.folder, "other").read_bytes(), before)
 
 
@@ -152,8 +160,8 @@ def measure(machines):
     found.sort()
     with open("/proc/loadavg") as file:
         load = file.read().split()[0]
-    print(f"from a line of the log to the copy, {len(found)} times: median {found[49]:.1f} ms, 99th {found[98]:.1f} ms, most {found[99]:.1f} "
-          f"ms; load {load} on {os.cpu_count()} processors")
+    print(f"from a line of the log to the copy, {len(found)} times: median {found[49]:.1f} ms, 99th {found[98]:.1f} ms, "
+          f"most {found[99]:.1f} ms; load {load} on {os.cpu_count()} processors")
 
 
 def check():

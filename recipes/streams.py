@@ -1,5 +1,5 @@
-"""The common part of the recipes that read a daemon's stream: the routes of each network by their sources, and the commands that a leader
-gets for each change. The file of commands is the only state: a recipe that starts reads from it which routes the leader has."""
+"""The common part of the recipes that read a daemon's stream: the routes of each network by their sources, and the commands that a
+leader gets for each change. The file of commands is the only state: a recipe that starts reads from it which routes the leader has."""
 import contextlib
 import fcntl
 import json
@@ -23,8 +23,8 @@ def say(words):
 
 
 def wanted(routes):
-    """The preference of each hop: that of its best route. Only eight hops have room. If one is above 65535, the best hop has 65535, the next
-    65534, and so on."""
+    """The preference of each hop: that of its best route. Only eight hops have room. If one is above 65535, the best hop has 65535, the
+    next 65534, and so on."""
     worths = {}
     for hop, worth, _ in routes.values():
         worths[hop] = max(worth, worths.get(hop, worth))
@@ -70,8 +70,8 @@ def way(address, is_six):
 
 
 class Table:
-    """The routes of each network, by source: hop, worth, and the number of the dump in which the route last came. Routes that were read from
-    the file of commands have the number 0, and this source, or their hop if none is given."""
+    """The routes of each network, by source: hop, worth, and the number of the dump in which the route last came. Routes that were read
+    from the file of commands have the number 0, and this source, or their hop if none is given."""
 
     def __init__(self, hops, commands, source=None):
         self.hops, self.commands, self.lines, self.routes = Hops(hops), commands, [], {}
@@ -185,7 +185,8 @@ class Table:
                     self.reach(network, source, key[0], worth)
 
     def pieces(self, file, quiet=QUIET, turn=lambda: TURN):
-        """The pieces of a stream as they come, until it ends. After each one the commands are written. A dump is over after quiet seconds."""
+        """The pieces of a stream as they come, until it ends. After each one the commands are written. A dump is over after quiet
+        seconds."""
         piece = b"-"
         while piece:
             seconds = turn()

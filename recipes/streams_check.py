@@ -1,5 +1,5 @@
-"""Runs the recipes that read a stream with their daemons, in network namespaces: `recipes/exabgp check` and so on. BIRD is the peer, and gets
-its commands by its control socket. After each change the file of commands must come to the expected routes."""
+"""Runs the recipes that read a stream with their daemons, in network namespaces: `recipes/exabgp check` and so on. BIRD is the peer, and
+gets its commands by its control socket. After each change the file of commands must come to the expected routes."""
 import contextlib
 import ipaddress
 import json
@@ -289,10 +289,13 @@ def chain_of(folder, own, **tools):
         chain.close()
 
 
+WRONG_FILES = (("hops", "1\n"), ("hops", "1 a\n1 b\n"), ("commands", "1 via 192.0.2.1 dev lan\n"), ("commands", "add 10.0.0.0/8\n\n"))
+
+
 def wrong_files(chain, recipe, *before):
     """Files that the recipe refuses."""
     folder = chain.folder
-    for name, contents in (("hops", "1\n"), ("hops", "1 a\n1 b\n"), ("commands", "1 via 192.0.2.1 dev lan\n"), ("commands", "add 10.0.0.0/8\n\n")):
+    for name, contents in WRONG_FILES:
         for one in ("hops", "commands"):
             Path(folder, f"{one}.wrong").write_text(contents if one == name else "")
         chain.page.refuses(f"recipes/{recipe} feed {' '.join(before)} hops.wrong commands.wrong < /dev/null > /dev/null")
@@ -315,7 +318,7 @@ def exabgp():
         three(chain, "leader", "keep", "exabgp")
         for name in first:
             upstream.set({"a": {}, "b": {}} | {one: first[one] for one in first if one <= name})
-            wait_for(f"the route of {name}", lambda: name in "a" * (" 1 200\n" in chain.commands()) + "b" * (" 2 100\n" in chain.commands()))
+            wait_for(f"the route of {name}", lambda: {"a": " 1 200\n", "b": " 2 100\n"}[name] in chain.commands())
         chain.page.gives(chain.commands())
         chain.page.gives(Path(chain.files[0]).read_text())
         upstream.say("disable a")
@@ -332,7 +335,8 @@ PREFERENCES = (100, 100, 200, 300, 65535, 65536, 4294967295)
 
 
 def exabgp_rounds(chain, upstream):
-    """Random changes of both peers, a session that goes down, other routes for all networks, and a next hop that can't be reached at first."""
+    """Random changes of both peers, a session that goes down, other routes for all networks, and a next hop that can't be reached at
+    first."""
     routes = {name: any_routes(300, PREFERENCES) for name in PEERS}
     for at in range(4):
         upstream.set(routes)
@@ -560,7 +564,8 @@ def frr():
 
 
 def frr_rounds(chain, upstream, folder, place):
-    """Random changes at the BGP peer, other next hops for all networks, routes over several gateways, and ends of the recipe and of zebra."""
+    """Random changes at the BGP peer, other next hops for all networks, routes over several gateways, and ends of the recipe and of
+    zebra."""
     routes = {"a": any_routes(600)}
     for at in range(4):
         upstream.set(routes)
@@ -605,6 +610,7 @@ def frr_ends(chain, upstream, held, folder, place):
         else:
             time.sleep(1.5 * QUIET["frr"])
             same("commands after FRR's restart", chain.commands()[len(before):], "")
+            print(f"{title}: no command came")
 
 
 def frr_inputs(chain, folder, place):
@@ -643,7 +649,9 @@ def rtnetlink():
 def any_change(part):
     """A line for `ip -batch`, which may fail, on networks of one part of eight."""
     is_six = DRAWN.random() < 0.5
-    network = f"2001:db8:1{part}{DRAWN.randrange(128):02x}::/48" if is_six else f"10.{32 * part + DRAWN.randrange(32)}.{DRAWN.randrange(4)}.0/24"
+    network = f"10.{32 * part + DRAWN.randrange(32)}.{DRAWN.randrange(4)}.0/24"
+    if is_six:
+        network = f"2001:db8:1{part}{DRAWN.randrange(128):02x}::/48"
     gateway = [GATEWAYS[6 if is_six else 4].format(DRAWN.randrange(1, 7)) for _ in range(2)]
     word = DRAWN.choice(("add", "replace", "replace", "replace", "append", "change", "del", "del"))
     draw = DRAWN.random()
