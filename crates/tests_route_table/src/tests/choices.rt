@@ -39,5 +39,10 @@ fn texts_of_refusals(rt: HostRuntime) {
     prints(&rt, rt.alloc(), TooMany, "eight other hops are stored");
     let full = "eight other hops are stored at the network";
     prints(&rt, rt.alloc(), AddRefused::TooMany, full);
-    prints(&rt, rt.alloc(), AddRefused::Store(Refused::Memory), "out of memory");
+    prints(
+        &rt,
+        rt.alloc(),
+        AddRefused::Store(Refused::Memory),
+        "out of memory",
+    );
 }
