@@ -2,9 +2,10 @@
 use crate::tests::indexes::address;
 use crate::tests::steps::Step::{Ends, Flat, Own, OwnCount, Runs};
 use crate::tests::steps::{Script, carry_out};
-use crate::tests::tables::{net, route, row_is};
+use crate::tests::tables::{net, pieces, route, row_is, step_is};
 use ipnet::{IpAddr, IpNet};
 use route_table::{Hop, HopRun, RouteTable};
+use std::alloc::Global;
 use std::process::Abort;
 
 /// Checks the next pieces.
@@ -16,11 +17,21 @@ fn pieces_come(rt: &impl Abort, flat: &mut route_table::Flat<'_>, pieces: &str) 
     }
 }
 
-/// Checks the pieces of the flat list.
-pub(crate) fn flat_is(rt: &impl Abort, flat: route_table::Flat<'_>, pieces: &str) {
-    let mut flat = flat;
-    pieces_come(rt, &mut flat, pieces);
-    row_is(rt, pieces, flat.next(), None);
+/// These are the pieces.
+fn pieces_are(rt: &impl Abort, found: &[(IpNet, u32)], text: &str) {
+    let mut left = found.iter();
+    for words in text.split_terminator(',') {
+        let (net, hop) = route(rt, words.trim());
+        let found = left.next().expect(rt, words);
+        row_is(rt, words, (found.0, Hop::Number(found.1)), (net, hop));
+    }
+    row_is(rt, text, left.next(), None);
+}
+
+/// The flat list has these pieces.
+pub(crate) fn flat_is(rt: &impl Abort, alloc: Global, flat: route_table::Flat<'_>, text: &str) {
+    let found = pieces(rt, alloc, flat);
+    pieces_are(rt, found.as_slice(), text);
 }
 
 /// The run that the text spells: its first address, its last address and its hop.
@@ -46,56 +57,62 @@ pub(crate) fn runs_are(rt: &impl Abort, table: &RouteTable, pieces: &str, runs: 
     row_is(rt, runs, flat.next_run(), None);
 }
 
-/// Checks that the piece is this network with the hop 2.
-fn end_is(rt: &impl Abort, piece: &IpNet, hop: u32, wanted: &str) {
-    row_is(rt, wanted, (*piece, hop), (net(rt, wanted), 2));
+/// The piece is this network, by the hop 2.
+fn end_is(rt: &impl Abort, piece: Option<&(IpNet, u32)>, wanted: &str) {
+    row_is(rt, wanted, piece.copied(), Some((net(rt, wanted), 2)));
 }
 
-/// Checks the number of pieces, and the first and the last one, both with the hop 2.
-pub(crate) fn ends_are(rt: &impl Abort, table: &RouteTable, first: &str, last: &str, count: u32) {
-    let mut pieces = 0u32;
-    for (piece, hop) in table.flat() {
-        pieces = pieces.wrapping_add(1);
-        if pieces == 1 {
-            end_is(rt, &piece, hop, first);
-        }
-        if pieces == count {
-            end_is(rt, &piece, hop, last);
-        }
-    }
-    row_is(rt, last, pieces, count);
+/// How many pieces there are, with the first and the last, both by the hop 2.
+pub(crate) fn ends_are(
+    rt: &impl Abort,
+    found: &[(IpNet, u32)],
+    first: &str,
+    last: &str,
+    count: usize,
+) {
+    end_is(rt, found.first(), first);
+    end_is(rt, found.last(), last);
+    row_is(rt, last, found.len(), count);
 }
 
-/// Checks the blocks.
-fn blocks_are(rt: &impl Abort, own: &[IpNet], blocks: &[&str]) {
-    row_is(rt, "own blocks", own.len(), blocks.len());
-    let mut left = own.iter();
+/// These are the blocks.
+pub(crate) fn blocks_are(rt: &impl Abort, at: (&str, usize), found: &[IpNet], blocks: &[&str]) {
+    let mut left = found.iter();
     for text in blocks {
-        row_is(rt, text, left.next().copied(), Some(net(rt, text)));
+        step_is(rt, at, left.next().copied(), Some(net(rt, text)));
     }
+    step_is(rt, at, left.next(), None);
 }
 
-/// Checks the blocks of the number.
-pub(crate) fn own_is(rt: &impl Abort, table: &RouteTable, number: u32, blocks: &[&str]) {
+/// The blocks of the number.
+pub(crate) fn own_is(
+    rt: &impl Abort,
+    at: (&str, usize),
+    table: &RouteTable,
+    number: u32,
+    blocks: &[&str],
+) {
     let own = table.own(number).expect(rt, "memory");
-    blocks_are(rt, own.as_slice(), blocks);
+    blocks_are(rt, at, own.as_slice(), blocks);
 }
 
-/// The number of pieces of the flat list with this hop.
-fn pieces_with(table: &RouteTable, number: u32) -> usize {
-    let mut pieces = 0usize;
-    for (_, hop) in table.flat() {
-        if hop == number {
-            pieces = pieces.wrapping_add(1);
+/// How many of the pieces have the number.
+fn pieces_with(found: &[(IpNet, u32)], number: u32) -> usize {
+    let mut count = 0usize;
+    for (_, hop) in found {
+        if *hop == number {
+            count = count.wrapping_add(1);
         }
     }
-    pieces
+    count
 }
 
-/// Checks that the number has as many blocks as there are pieces with it in the flat list.
-pub(crate) fn own_is_counted(rt: &impl Abort, table: &RouteTable, number: u32) {
-    let own = table.own(number).expect(rt, "memory");
-    row_is(rt, "as many pieces", own.len(), pieces_with(table, number));
+/// The number has as many blocks of its own as there are pieces with it in the flat list.
+pub(crate) fn own_is_counted(rt: &impl Abort, alloc: Global, table: &RouteTable, number: u32) {
+    let own = table.own(number).expect(rt, "memory").len();
+    let found = pieces(rt, alloc, table.flat());
+    let count = pieces_with(found.as_slice(), number);
+    row_is(rt, "as many pieces", own, count);
 }
 
 /// Routes; and the flat list of a table of them, its ends, its runs, or the blocks of one hop.

@@ -1,6 +1,6 @@
 //! Tables with one hop per network: their changes, and the operations between two of them.
 use crate::tests::flat_lists::flat_is;
-use crate::tests::tables::{net, route, routes_are, row_is};
+use crate::tests::tables::{hop_table, net, route, routes_are, row_is};
 use ipnet::IpNet;
 use route_table::{Hop, HopTable, Operation};
 use std::alloc::Global;
@@ -74,7 +74,7 @@ fn operations_are<I: Iterator<Item = Operation>>(rt: &impl Abort, left: I, wante
 
 /// Checks the operations that turn this table into a table painted with the routes of the text.
 fn between(rt: &impl Abort, alloc: Global, old: &HopTable, text: &str, wanted: &str) {
-    let mut new = HopTable::new(alloc).expect(rt, "a table");
+    let mut new = hop_table(rt, alloc);
     changes(rt, &mut new, Change::Paint, text);
     let list = new.least().expect(rt, "memory");
     operations_are(rt, old.between(list.as_slice()), wanted);
@@ -109,7 +109,7 @@ fn go(rt: &impl Abort, alloc: Global, table: &mut HopTable, step: &Step) {
     match step {
         Step::Change(call, text) => changes(rt, table, *call, text),
         Step::Get(rows) => matches_are(rt, table, rows),
-        Step::Flat(pieces) => flat_is(rt, table.flat(), pieces),
+        Step::Flat(pieces) => flat_is(rt, alloc, table.flat(), pieces),
         Step::Repaint(rows) => repaint(rt, table, rows),
         Step::Between(text, wanted) => between(rt, alloc, table, text, wanted),
         Step::FromRoutes => is_rebuilt(rt, alloc, table),
@@ -118,7 +118,7 @@ fn go(rt: &impl Abort, alloc: Global, table: &mut HopTable, step: &Step) {
 
 /// Checks the steps in order, from an empty table, and the least table after them.
 fn goes(rt: &impl Abort, alloc: Global, row: &str, steps: &[Step], least: &str) {
-    let mut table = HopTable::new(alloc).expect(rt, "a table");
+    let mut table = hop_table(rt, alloc);
     for step in steps {
         go(rt, alloc, &mut table, step);
     }

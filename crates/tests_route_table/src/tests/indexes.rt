@@ -2,10 +2,10 @@
 use crate::tests::hop_tables::overwrite;
 use crate::tests::steps::Step::{Index, IndexBefore};
 use crate::tests::steps::{Script, carry_out};
-use crate::tests::tables::{net, put, row_is, table};
+use crate::tests::tables::{hop_table, listed, net, put, row_is, table};
 use hop_index::HopIndex;
-use ipnet::IpAddr;
-use route_table::{Hop, HopTable, RouteTable, Routes};
+use ipnet::{IpAddr, IpNet};
+use route_table::{Hop, HopTable, RouteTable};
 use std::alloc::Global;
 use std::process::Abort;
 use std::str::FromStr;
@@ -108,39 +108,39 @@ fn hops_are(rt: &impl Abort, index: &HopIndex) {
     }
 }
 
-/// Checks an index of the table.
-fn index_is(rt: &impl Abort, alloc: Global, table: &RouteTable) {
-    let index = HopIndex::of_table(alloc, table).expect(rt, "an index");
-    hops_are(rt, &index);
+/// An index of the table.
+fn index_of(rt: &impl Abort, alloc: Global, table: &RouteTable) -> HopIndex {
+    HopIndex::of_table(alloc, table).expect(rt, "an index")
 }
 
 /// Checks the hops by an index of a table of these routes.
 fn index_of_has(rt: &impl Abort, alloc: Global, routes: &str, hops: &[(&str, Option<u32>)]) {
-    let table = table(rt, alloc, routes);
-    let index = HopIndex::of_table(alloc, &table).expect(rt, "an index");
+    let index = index_of(rt, alloc, &table(rt, alloc, routes));
     for (text, hop) in hops {
         row_is(rt, text, index.hop(address(rt, text)), *hop);
     }
 }
 
-/// Stores these routes with `overwrite`, in order.
-fn overwrite_all(rt: &impl Abort, table: &mut HopTable, routes: Routes<'_>) {
+/// Stores these routes.
+fn overwrite_all(rt: &impl Abort, table: &mut HopTable, routes: &[(IpNet, Hop, u16)]) {
     for (net, hop, _) in routes {
-        overwrite(rt, table, net, hop);
+        overwrite(rt, table, *net, *hop);
     }
 }
 
 /// A hop table of the best routes of a route table.
 fn best(rt: &impl Abort, alloc: Global, routes: &RouteTable) -> HopTable {
-    let mut table = HopTable::new(alloc).expect(rt, "a table");
-    overwrite_all(rt, &mut table, routes.list(&net(rt, "0.0.0.0/0")));
-    overwrite_all(rt, &mut table, routes.list(&net(rt, "::/0")));
+    let mut table = hop_table(rt, alloc);
+    for all in ["0.0.0.0/0", "::/0"] {
+        let found = listed(rt, alloc, routes.list(&net(rt, all)));
+        overwrite_all(rt, &mut table, found.as_slice());
+    }
     table
 }
 
 /// Checks an index of the table, and an index of the hop table of its best routes.
 pub(crate) fn indexes_are(rt: &impl Abort, alloc: Global, table: &RouteTable) {
-    index_is(rt, alloc, table);
+    hops_are(rt, &index_of(rt, alloc, table));
     let best = best(rt, alloc, table);
     let index = HopIndex::of_hops(alloc, &best).expect(rt, "an index");
     hops_are(rt, &index);
@@ -148,7 +148,7 @@ pub(crate) fn indexes_are(rt: &impl Abort, alloc: Global, table: &RouteTable) {
 
 /// An index of a table without routes has no hop, and still has none after a route is added to the table.
 pub(crate) fn stays_empty(rt: &impl Abort, alloc: Global, table: &mut RouteTable, text: &str) {
-    let index = HopIndex::of_table(alloc, table).expect(rt, "an index");
+    let index = index_of(rt, alloc, table);
     put(rt, table, text, Hop::Number(1));
     row_is(rt, "10.0.0.1", index.hop(address(rt, "10.0.0.1")), None);
     row_is(rt, "::1", index.hop(address(rt, "::1")), None);

@@ -1,9 +1,9 @@
 //! Least tables, with expected values written out.
 use crate::tests::steps::Step::{BuiltBack, Least};
 use crate::tests::steps::{Script, carry_out};
-use crate::tests::tables::{routes_are, row_is, table};
+use crate::tests::tables::{add, hop_table, pieces, routes_are, row_is, table};
 use ipnet::{IpAddr, IpNet};
-use route_table::{Hop, HopTable, Refused, RouteTable};
+use route_table::{Hop, Refused, RouteTable};
 use std::alloc::Global;
 use std::net::Ipv4Addr;
 use std::process::Abort;
@@ -14,23 +14,19 @@ pub(crate) fn least_is(rt: &impl Abort, row: &str, table: &RouteTable, wanted: &
     routes_are(rt, row, least.as_slice(), wanted);
 }
 
-/// Checks that both tables have the same flat list. Returns its length.
-fn same_flat(rt: &impl Abort, table: &RouteTable, other: &RouteTable) -> usize {
-    let mut count = 0usize;
-    let mut pieces = other.flat();
-    for piece in table.flat() {
-        row_is(rt, "a piece", pieces.next(), Some(piece));
-        count = count.wrapping_add(1);
-    }
-    row_is(rt, "the end", pieces.next(), None);
-    count
+/// How many blocks the flat list has, which is that of the other table too.
+fn same_flat(rt: &impl Abort, alloc: Global, table: &RouteTable, other: &RouteTable) -> usize {
+    let found = pieces(rt, alloc, table.flat());
+    let others = pieces(rt, alloc, other.flat());
+    row_is(rt, "the pieces", others.as_slice(), found.as_slice());
+    found.len()
 }
 
 /// A table of these routes.
 fn built(rt: &impl Abort, alloc: Global, routes: &[(IpNet, Hop)]) -> RouteTable {
     let mut table = table(rt, alloc, "");
     for (net, hop) in routes {
-        table.add(*net, *hop, 100).expect(rt, "a route");
+        add(rt, &mut table, *net, *hop, "a route");
     }
     table
 }
@@ -49,7 +45,7 @@ pub(crate) fn is_built_back(
     let (v4, v6) = table.count();
     row_is(rt, row, least.len() <= v4.wrapping_add(v6), true);
     let other = built(rt, alloc, least.as_slice());
-    let count = same_flat(rt, table, &other);
+    let count = same_flat(rt, alloc, table, &other);
     row_is(rt, row, least.len() <= count, true);
 }
 
@@ -154,7 +150,7 @@ fn least(rt: HostRuntime) {
 /// than one block of memory.
 #[test]
 fn more_than_a_block(rt: HostRuntime) {
-    let mut table = HopTable::new(rt.alloc()).expect(&rt, "a table");
+    let mut table = hop_table(&rt, rt.alloc());
     for number in 0..5000 {
         let host = IpNet::from(IpAddr::V4(Ipv4Addr::from_bits(number)));
         table

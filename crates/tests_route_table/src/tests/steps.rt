@@ -1,8 +1,8 @@
-//! Scripts of calls of a route table, with their answers.
-use crate::tests::flat_lists::{ends_are, flat_is, own_is, own_is_counted, runs_are};
+//! Scripts of calls of a route table, and what these answer.
+use crate::tests::flat_lists::{blocks_are, ends_are, flat_is, own_is, own_is_counted, runs_are};
 use crate::tests::indexes::{indexes_are, stays_empty};
 use crate::tests::least_tables::{is_built_back, least_count_is, least_is};
-use crate::tests::tables::{net, put, row_is, step_is, table};
+use crate::tests::tables::{add, listed, net, pieces, put, row_is, step_is, table};
 use ipnet::IpNet;
 use route_table::{AddRefused, Hop, Refused, RouteTable, Routes};
 use std::alloc::Global;
@@ -35,9 +35,9 @@ pub(crate) enum Step {
     IsLeaf(&'static str, bool),
     /// `governed`: the blocks.
     Governs(&'static str, &'static [&'static str]),
-    /// `governed`: the number of blocks.
-    GovernsCount(&'static str, u32),
-    /// `list`: the networks of the routes, each with the hop 1 and the default preference.
+    /// `governed`: how many blocks there are.
+    GovernsCount(&'static str, usize),
+    /// `list`: the networks of the routes, all by the hop 1 with the default preference.
     List(&'static str, &'static [&'static str]),
     /// `all`: the routes of one network, the best one first.
     All(&'static str, &'static [(Hop, u16)]),
@@ -55,8 +55,8 @@ pub(crate) enum Step {
     Flat(&'static str),
     /// `flat`: pieces from `next`, and then runs from `next_run`. A run is its first address, its last address and its hop.
     Runs(&'static str, &'static str),
-    /// `flat`: the first and the last piece, both with the hop 2, and the number of pieces.
-    Ends(&'static str, &'static str, u32),
+    /// `flat`: the first and the last piece, both by the hop 2, and how many there are.
+    Ends(&'static str, &'static str, usize),
     /// `own`: the blocks of this number.
     Own(u32, &'static [&'static str]),
     /// `own`: as many blocks of this number as pieces of the flat list with it.
@@ -79,7 +79,7 @@ pub(crate) type Script = (&'static str, &'static str, &'static [Step]);
 /// Adds a route. If memory is refused at first, the second attempt must succeed.
 fn put_again(rt: &impl Abort, table: &mut RouteTable, net: &IpNet, hop: Hop) {
     if table.add(*net, hop, 100).is_err() {
-        table.add(*net, hop, 100).expect(rt, "a route");
+        add(rt, table, *net, hop, "a route");
     }
 }
 
@@ -113,12 +113,12 @@ fn change(rt: &impl Abort, alloc: Global, at: (&str, usize), table: &mut RouteTa
         Step::IndexBefore(text) => stays_empty(rt, alloc, table, text),
         Step::Index => indexes_are(rt, alloc, table),
         Step::BuiltBack(wanted) => is_built_back(rt, alloc, at.0, table, *wanted),
-        asked => ask(rt, at, table, asked),
+        asked => ask(rt, alloc, at, table, asked),
     }
 }
 
-/// Checks a call that returns a route, a number or hops, or one of the calls below.
-fn ask(rt: &impl Abort, at: (&str, usize), table: &RouteTable, step: &Step) {
+/// A call that asks for a route or a number answers so, or another does.
+fn ask(rt: &impl Abort, alloc: Global, at: (&str, usize), table: &RouteTable, step: &Step) {
     match step {
         Step::Get(text, found, hop) => {
             let wanted = Some((net(rt, found), *hop, 100));
@@ -132,76 +132,63 @@ fn ask(rt: &impl Abort, at: (&str, usize), table: &RouteTable, step: &Step) {
         Step::IsLeaf(text, wanted) => step_is(rt, at, table.is_leaf(&net(rt, text)), *wanted),
         Step::Count(v4, v6) => step_is(rt, at, table.count(), (*v4, *v6)),
         Step::Nodes(v4, v6) => step_is(rt, at, table.node_counts(), (*v4, *v6)),
-        Step::From(text, wanted) => {
-            step_is(rt, at, hops(table.from(&net(rt, text))), *wanted);
-        }
-        Step::After(text, wanted) => {
-            step_is(rt, at, hops(table.after(&net(rt, text))), *wanted);
-        }
-        Step::Cover(text, wanted) => {
-            step_is(rt, at, hops(table.cover(&net(rt, text))), *wanted);
-        }
-        other => list(rt, at, table, other),
+        other => list(rt, alloc, at, table, other),
     }
 }
 
-/// Checks a call that lists a part of the table, or one of the calls below.
-fn list(rt: &impl Abort, at: (&str, usize), table: &RouteTable, step: &Step) {
+/// A call that lists answers so.
+fn list(rt: &impl Abort, alloc: Global, at: (&str, usize), table: &RouteTable, step: &Step) {
     match step {
-        Step::Governs(text, blocks) => governs(rt, at, table, &net(rt, text), blocks),
+        Step::From(text, wanted) => hops_are(rt, alloc, at, table.from(&net(rt, text)), *wanted),
+        Step::After(text, wanted) => hops_are(rt, alloc, at, table.after(&net(rt, text)), *wanted),
+        Step::Cover(text, wanted) => hops_are(rt, alloc, at, table.cover(&net(rt, text)), *wanted),
+        Step::Governs(text, blocks) => {
+            let found = governed(rt, alloc, table, &net(rt, text));
+            blocks_are(rt, at, found.as_slice(), blocks);
+        }
         Step::GovernsCount(text, wanted) => {
-            step_is(rt, at, governed_count(table, &net(rt, text)), *wanted);
+            let count = governed(rt, alloc, table, &net(rt, text)).len();
+            step_is(rt, at, count, *wanted);
         }
-        Step::List(text, networks) => list_is(rt, at, table, &net(rt, text), networks),
+        Step::List(text, networks) => {
+            let found = listed(rt, alloc, table.list(&net(rt, text)));
+            list_is(rt, at, found.as_slice(), networks);
+        }
         Step::All(text, routes) => all_are(rt, at, table, &net(rt, text), routes),
-        other => list_all(rt, at.0, table, other),
+        other => list_all(rt, alloc, at, table, other),
     }
 }
 
-/// Checks a call that lists the whole table.
-fn list_all(rt: &impl Abort, row: &str, table: &RouteTable, step: &Step) {
+/// A call that lists the whole table answers so.
+fn list_all(rt: &impl Abort, alloc: Global, at: (&str, usize), table: &RouteTable, step: &Step) {
     match step {
-        Step::Flat(pieces) => flat_is(rt, table.flat(), pieces),
+        Step::Flat(text) => flat_is(rt, alloc, table.flat(), text),
         Step::Runs(pieces, runs) => runs_are(rt, table, pieces, runs),
-        Step::Ends(first, last, count) => ends_are(rt, table, first, last, *count),
-        Step::Own(number, blocks) => own_is(rt, table, *number, blocks),
-        Step::OwnCount(number) => own_is_counted(rt, table, *number),
-        Step::Least(wanted) => least_is(rt, row, table, wanted),
+        Step::Ends(first, last, count) => {
+            let found = pieces(rt, alloc, table.flat());
+            ends_are(rt, found.as_slice(), first, last, *count);
+        }
+        Step::Own(number, blocks) => own_is(rt, at, table, *number, blocks),
+        Step::OwnCount(number) => own_is_counted(rt, alloc, table, *number),
+        Step::Least(wanted) => least_is(rt, at.0, table, wanted),
         Step::LeastCount(wanted) => least_count_is(rt, table, *wanted),
         _ => (),
     }
 }
 
-/// Checks the blocks that the network governs.
-fn governs(rt: &impl Abort, at: (&str, usize), table: &RouteTable, asked: &IpNet, blocks: &[&str]) {
-    let mut governed = table.governed(asked);
-    for block in blocks {
-        step_is(rt, at, governed.next(), Some(net(rt, block)));
-    }
-    step_is(rt, at, governed.next(), None);
+/// The blocks that the network governs.
+fn governed(rt: &impl Abort, alloc: Global, table: &RouteTable, asked: &IpNet) -> Vec<IpNet> {
+    table.governed(asked).collect(alloc).expect(rt, "memory")
 }
 
-/// The number of blocks that the network governs.
-fn governed_count(table: &RouteTable, asked: &IpNet) -> u32 {
-    let mut count = 0u32;
-    for _ in table.governed(asked) {
-        count = count.wrapping_add(1);
-    }
-    count
-}
-
-/// Checks the routes of the network and of those inside it, each with the hop 1.
-fn list_is(rt: &impl Abort, at: (&str, usize), table: &RouteTable, asked: &IpNet, texts: &[&str]) {
-    let mut routes = table.list(asked);
+/// These are the routes, all by the hop 1.
+fn list_is(rt: &impl Abort, at: (&str, usize), found: &[(IpNet, Hop, u16)], texts: &[&str]) {
+    let mut left = found.iter();
     for text in texts {
-        step_is(
-            rt,
-            at,
-            routes.next(),
-            Some((net(rt, text), Hop::Number(1), 100)),
-        );
+        let wanted = (net(rt, text), Hop::Number(1), 100);
+        step_is(rt, at, left.next().copied(), Some(wanted));
     }
-    step_is(rt, at, routes.next(), None);
+    step_is(rt, at, left.next(), None);
 }
 
 /// Checks the routes of the network.
@@ -219,20 +206,24 @@ fn all_are(
     step_is(rt, at, all.next(), None);
 }
 
-/// The hops of the routes in order, as the digits of a number. `Drop` is 0.
-fn hops(routes: Routes<'_>) -> u32 {
+/// The hops of the routes in order, as the digits of a number; a `Drop` is 0.
+fn hops(routes: &[(IpNet, Hop, u16)]) -> u32 {
     let mut digits = 0u32;
     for (_, hop, _) in routes {
-        let digit = match hop {
-            Hop::Number(number) => number,
-            Hop::Drop => 0,
-        };
-        digits = digits.wrapping_mul(10).wrapping_add(digit);
+        digits = digits
+            .wrapping_mul(10)
+            .wrapping_add(hop.number().unwrap_or(0));
     }
     digits
 }
 
-/// Checks the calls of a script in order, on a table of these routes.
+/// The hops of a walk are these digits.
+fn hops_are(rt: &impl Abort, alloc: Global, at: (&str, usize), routes: Routes<'_>, wanted: u32) {
+    let found = listed(rt, alloc, routes);
+    step_is(rt, at, hops(found.as_slice()), wanted);
+}
+
+/// The calls of a script answer so, one after another, of a table of these routes.
 fn goes(rt: &impl Abort, alloc: Global, row: &str, stored: &str, steps: &[Step]) {
     let mut table = table(rt, alloc, stored);
     for (at, step) in steps.iter().enumerate() {

@@ -1,6 +1,6 @@
 //! Comparisons for the tests, and the tables they use.
 use ipnet::IpNet;
-use route_table::{Hop, RouteTable};
+use route_table::{Flat, Hop, HopTable, RouteTable, Routes};
 use std::alloc::Global;
 use std::fmt::Debug;
 use std::process::Abort;
@@ -50,17 +50,37 @@ pub(crate) fn routes_are(rt: &impl Abort, row: &str, found: &[(IpNet, Hop)], tex
     row_is(rt, row, left.next().copied(), None);
 }
 
-/// A table of the routes of the text, added in order with the default preference.
+/// The routes that a walk gives. Each walk is gathered by one function, since a loop over it takes long to prove.
+pub(crate) fn listed(rt: &impl Abort, alloc: Global, routes: Routes<'_>) -> Vec<(IpNet, Hop, u16)> {
+    routes.collect(alloc).expect(rt, "memory")
+}
+
+/// The pieces of a flat list.
+pub(crate) fn pieces(rt: &impl Abort, alloc: Global, flat: Flat<'_>) -> Vec<(IpNet, u32)> {
+    flat.collect(alloc).expect(rt, "memory")
+}
+
+/// A table of the routes of a text, added in order with the default preference.
 pub(crate) fn table(rt: &impl Abort, alloc: Global, text: &str) -> RouteTable {
     let mut table = RouteTable::new(alloc).expect(rt, "a table");
     for words in text.split_terminator(',') {
         let (net, hop) = route(rt, words.trim());
-        let _ = table.add(net, hop, 100).expect(rt, words);
+        add(rt, &mut table, net, hop, words);
     }
     table
 }
 
-/// Adds a route with the default preference.
+/// A route with the default preference is added.
+pub(crate) fn add(rt: &impl Abort, table: &mut RouteTable, net: IpNet, hop: Hop, row: &str) {
+    row_is(rt, row, table.add(net, hop, 100).err(), None);
+}
+
+/// The same of the network of a text.
 pub(crate) fn put(rt: &impl Abort, table: &mut RouteTable, text: &str, hop: Hop) {
-    let _ = table.add(net(rt, text), hop, 100).expect(rt, text);
+    add(rt, table, net(rt, text), hop, text);
+}
+
+/// A table of one hop a network, which is empty.
+pub(crate) fn hop_table(rt: &impl Abort, alloc: Global) -> HopTable {
+    HopTable::new(alloc).expect(rt, "a table")
 }
