@@ -9,4 +9,6 @@ _jolmidda() {
         mapfile -t COMPREPLY < <(compgen -f -- "$word")
     fi
 }
-complete -o filenames -F _jolmidda routes fib_kernel jolmidda-{access-lists,bird,exabgp,frr,gobgp,kernel,live,map,mirror,mrt,number,redis,regions,rtnetlink,service,sets}
+mapfile -t _jolmidda_recipes < <(compgen -c jolmidda-)
+complete -o filenames -F _jolmidda routes fib_kernel "${_jolmidda_recipes[@]}"
+unset _jolmidda_recipes
