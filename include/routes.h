@@ -35,14 +35,16 @@ extern "C" {
 /* The results of the calls that can fail. */
 enum routes_answer {
     ROUTES_OK = 0,
-    ROUTES_MISSING = 1,   /* no network contains the address, or it has no hop; the network has no such hop; or the index is past the end */
-    ROUTES_NO_MEMORY = 2, /* malloc or realloc failed */
-    ROUTES_CLOSED = 3,    /* the table, the index or the follower is not open, or it is open as another of these three kinds */
-    ROUTES_OPEN = 4,      /* it is open already, as any of the three kinds */
-    ROUTES_FULL = 5,      /* the network has routes by eight other hops, which is the most */
-    ROUTES_TOO_LONG = 6,  /* the length is above 32 for IPv4, or above 128 for IPv6 */
+    ROUTES_MISSING = 1,    /* no network contains the address, or it has no hop; the network has no such hop; or
+                            * the index is past the end of the list */
+    ROUTES_NO_MEMORY = 2,  /* malloc or realloc failed */
+    ROUTES_CLOSED = 3,     /* the table, the index or the follower is not open, or it is open as another of these
+                            * three kinds */
+    ROUTES_OPEN = 4,       /* it is open already, as any of the three kinds */
+    ROUTES_FULL = 5,       /* the network has routes by eight other hops, which is the most */
+    ROUTES_TOO_LONG = 6,   /* the length is above 32 for IPv4, or above 128 for IPv6 */
     ROUTES_NOT_A_LINE = 7, /* the text is not a reply line of `routes lead` */
-    ROUTES_FAILED = 8     /* the follower had a fault before */
+    ROUTES_FAILED = 8      /* the follower had a fault before */
 };
 
 /* As the hop of a route: a null route, which discards packets. In a change and in an index: the addresses have no hop. */
